@@ -1,0 +1,35 @@
+-- Build: a raster becomes its list. Refusals 1, 2, 3, 9.
+use Prim.Native.Nat.{ℕ}
+use mathlib.Core.List.{List, [], _∷_}
+use lib.ListN.{length}
+use lib.Dec.{ltb}
+use Rattle.definitions.specs.List.{listOfRaster, keysOf, valuesOf}
+use Rattle.definitions.specs.Read.{room}
+use Rattle.definitions.specs.Buffer.{over}
+use Rattle.definitions.specs.Refusal.{_gives_, first, accepted, badSettings, badLength, badPixel}
+use Rattle.definitions.specs.declared.Counted.{Counted}
+
+unfoldable pub buildRefusal : ℕ → ℕ → List ℕ → List ℕ → List ℕ → ℕ
+buildRefusal m s raster keys bits =
+    first
+    (badSettings m s gives 1
+    ∷ badLength m raster gives 2
+    ∷ badPixel s raster gives 3
+    ∷ ltb (room keys bits) (length (listOfRaster m raster)) gives 9
+    ∷ [])
+
+-- the count is the number of records
+unfoldable pub build : ℕ → ℕ → List ℕ → List ℕ → List ℕ → Counted
+build m s raster keys bits =
+    record {
+      refusal = buildRefusal m s raster keys bits;
+      count = accepted (buildRefusal m s raster keys bits) (length (listOfRaster m raster)) 0;
+    }
+
+unfoldable pub buildKeys : ℕ → ℕ → List ℕ → List ℕ → List ℕ → List ℕ
+buildKeys m s raster keys bits =
+    accepted (buildRefusal m s raster keys bits) (over (keysOf (listOfRaster m raster)) keys) keys
+
+unfoldable pub buildBits : ℕ → ℕ → List ℕ → List ℕ → List ℕ → List ℕ
+buildBits m s raster keys bits =
+    accepted (buildRefusal m s raster keys bits) (over (valuesOf (listOfRaster m raster)) bits) bits

@@ -1,0 +1,21 @@
+-- Raster from list. Refusals 1, 4, 2.
+use Prim.Native.Nat.{ℕ, _^_}
+use mathlib.Core.List.{List, [], _∷_}
+use Rattle.definitions.specs.Read.{recordsOf, pictureOf}
+use Rattle.definitions.specs.Window.{featuresOfRows}
+use Rattle.definitions.specs.Refusal.{_gives_, first, accepted, badSettings, badLength, noList}
+use Rattle.definitions.specs.declared.Done.{Done}
+
+unfoldable pub rasterRefusal : ℕ → ℕ → List ℕ → List ℕ → ℕ → List ℕ → ℕ
+rasterRefusal m s keys bits n pixels =
+    first (badSettings m s gives 1 ∷ noList m s keys bits n gives 4 ∷ badLength m pixels gives 2 ∷ [])
+
+unfoldable pub raster : ℕ → ℕ → List ℕ → List ℕ → ℕ → List ℕ → Done
+raster m s keys bits n pixels = record { refusal = rasterRefusal m s keys bits n pixels }
+
+-- row after row, the features of the picture that the list shows
+unfoldable pub rasterPixels : ℕ → ℕ → List ℕ → List ℕ → ℕ → List ℕ → List ℕ
+rasterPixels m s keys bits n pixels =
+    accepted (rasterRefusal m s keys bits n pixels)
+    (featuresOfRows (pictureOf m (recordsOf keys bits n)) 0 0 (2 ^ m) (2 ^ m))
+    pixels

@@ -1,0 +1,19 @@
+-- Report: which features occur in a window? Refusals 1, 4, 6.
+use Prim.Native.Nat.{ℕ}
+use mathlib.Core.List.{List, [], _∷_}
+use Rattle.definitions.specs.Read.{recordsOf, pictureOf}
+use Rattle.definitions.specs.Window.{badWindow, reportIn}
+use Rattle.definitions.specs.Refusal.{_gives_, first, accepted, badSettings, noList}
+use Rattle.definitions.specs.declared.Window.{Window}
+use Rattle.definitions.specs.declared.Reported.{Reported}
+
+unfoldable pub reportRefusal : ℕ → ℕ → List ℕ → List ℕ → ℕ → Window → ℕ
+reportRefusal m s keys bits n w =
+    first (badSettings m s gives 1 ∷ noList m s keys bits n gives 4 ∷ badWindow m w gives 6 ∷ [])
+
+unfoldable pub report : ℕ → ℕ → List ℕ → List ℕ → ℕ → Window → Reported
+report m s keys bits n w =
+    record {
+      refusal = reportRefusal m s keys bits n w;
+      bits = accepted (reportRefusal m s keys bits n w) (reportIn (pictureOf m (recordsOf keys bits n)) w) 0;
+    }

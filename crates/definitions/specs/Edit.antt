@@ -1,0 +1,20 @@
+-- What an edit makes of a picture and of its list (document 01, "Paint, take back, empty"). Rests on List and Read.
+use Prim.Native.Nat.{ℕ}
+use mathlib.Core.Bool.{Bool, cond}
+use mathlib.Core.List.{List}
+use Rattle.keys.specs.Key.{heightOf}
+use Rattle.keys.specs.Block.{rowOf, columnOf, inBlock}
+use Rattle.definitions.specs.Picture.{Picture}
+use Rattle.definitions.specs.List.{Record, listOf}
+
+-- q inside the block with key κ, p outside it
+unfoldable pub put : ℕ → ℕ → Picture → Picture → Picture
+put m κ q p row column = cond (inBlock m κ row column) (q row column) (p row column)
+
+-- every pixel of the block gets feature f
+unfoldable pub paintIn : ℕ → ℕ → ℕ → Picture → Picture
+paintIn m κ f p = put m κ (λ row column. f) p
+
+-- the content of a block: its node and all below, or one record with its own key where it lies inside a leaf
+unfoldable pub contentOf : ℕ → Picture → ℕ → List Record
+contentOf m p κ = listOf p (heightOf m κ) (rowOf m κ) (columnOf m κ) κ

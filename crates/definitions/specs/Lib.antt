@@ -1,0 +1,13 @@
+pub mod Picture
+pub mod Bits
+pub mod List
+pub mod Read
+pub mod Buffer
+pub mod Refusal
+pub mod Standing
+pub mod Window
+pub mod Edit
+pub mod Log
+pub mod Rules
+pub mod File
+pub mod Calls

@@ -1,0 +1,33 @@
+-- A picture is a feature for each row and column; a raster is one, row after row (document 01, "Raster and settings"). Assumes nothing.
+use Prim.Native.Nat.{ℕ, zero, suc, _+_, _*_, _^_}
+use mathlib.Core.Bool.{Bool, _&&_}
+use mathlib.Core.List.{List}
+use lib.ListN.{getD}
+use lib.Dec.{ltb, eqb}
+
+-- the feature at a row and a column
+abbrev pub Picture : Type 0
+Picture = ℕ → ℕ → ℕ
+
+-- a raster of side 2 ^ m: row after row, row 0 at the top, column 0 at the left
+abbrev pub pictureOfRaster : ℕ → List ℕ → Picture
+pictureOfRaster m raster row column = getD raster (row * 2 ^ m + column) 0
+
+abbrev pub allFour : Bool → Bool → Bool → Bool → Bool
+allFour nw ne sw se = nw && ne && (sw && se)
+
+-- every pixel of the block of height k whose first row and column are given passes the test
+unfoldable pub everyPixel : (ℕ → ℕ → Bool) → ℕ → ℕ → ℕ → Bool
+everyPixel test zero row column = test row column
+everyPixel test (suc k) row column =
+    allFour (everyPixel test k row column)
+    (everyPixel test k row (column + 2 ^ k))
+    (everyPixel test k (row + 2 ^ k) column)
+    (everyPixel test k (row + 2 ^ k) (column + 2 ^ k))
+
+-- the block has one feature: that of its first pixel
+unfoldable pub oneFeature : Picture → ℕ → ℕ → ℕ → Bool
+oneFeature p k row column = everyPixel (λ r c. eqb (p r c) (p row column)) k row column
+
+unfoldable pub featuresBelow : ℕ → Picture → ℕ → ℕ → ℕ → Bool
+featuresBelow s p k row column = everyPixel (λ r c. ltb (p r c) s) k row column

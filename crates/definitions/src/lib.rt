@@ -1,0 +1,75 @@
+// The types in which the calls of document 01 are asked and answered. What they mean stands in specs/, and what is proved of that in proofs/.
+
+// A window of the raster. Height and width are at least 1.
+pub struct Window {
+    pub row: u32,
+    pub column: u32,
+    pub height: u32,
+    pub width: u32,
+}
+
+// A rule: the feature is forbidden in the window.
+pub struct Rule {
+    pub id: u32,
+    pub row: u32,
+    pub column: u32,
+    pub height: u32,
+    pub width: u32,
+    pub feature: u32,
+}
+
+// Where a block stands: it is listed at a place, or lies inside the leaf at a place.
+pub enum Standing {
+    Listed(usize),
+    Inside(usize),
+}
+
+// The answers. `refusal` is 0 or document 01's number; on a refusal every other number is 0, save the places needed with 12.
+pub struct Done {
+    pub refusal: u64,
+}
+
+pub struct Counted {
+    pub refusal: u64,
+    pub count: u64,
+}
+
+pub struct Stands {
+    pub refusal: u64,
+    pub kind: u64,
+    pub place: u64,
+}
+
+pub struct Span {
+    pub start: u64,
+    pub length: u64,
+}
+
+pub struct Exists {
+    pub refusal: u64,
+    pub yes: u64,
+}
+
+pub struct Reported {
+    pub refusal: u64,
+    pub bits: u64,
+}
+
+pub struct Edited {
+    pub refusal: u64,
+    pub n: u64,
+    pub used: u64,
+}
+
+pub struct Found {
+    pub refusal: u64,
+    pub live: u64,
+    pub hidden: u64,
+}
+
+pub struct Loaded {
+    pub refusal: u64,
+    pub m: u64,
+    pub s: u64,
+    pub n: u64,
+}

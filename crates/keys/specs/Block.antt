@@ -1,0 +1,55 @@
+-- The square that a key stands for, the key of a pixel, and when a block is another's ancestor. Document 01, section "Keys": row 0 is at the top,
+-- digits 3 and 4 go south, 2 and 4 go east. Rests on Key.
+use Prim.Native.Nat.{ℕ, zero, suc, _+_, _-_, _*_, _/_, _%_, _^_}
+use mathlib.Core.Bool.{Bool, true, false, cond, _&&_, _||_}
+use lib.Dec.{leb, ltb, eqb}
+use Rattle.keys.specs.Key.{heightOf}
+
+abbrev pub isSouth : ℕ → Bool
+isSouth digit = leb 3 digit
+
+abbrev pub isEast : ℕ → Bool
+isEast digit = eqb digit 2 || eqb digit 4
+
+-- the first row of a block: each southern digit adds the side of a quadrant there
+unfoldable pub rowOf : ℕ → ℕ → ℕ
+rowOf zero κ = 0
+rowOf (suc k) κ = cond (isSouth (κ / 5 ^ k)) (2 ^ k) 0 + rowOf k (κ % 5 ^ k)
+
+-- the first column, by the eastern digits
+unfoldable pub columnOf : ℕ → ℕ → ℕ
+columnOf zero κ = 0
+columnOf (suc k) κ = cond (isEast (κ / 5 ^ k)) (2 ^ k) 0 + columnOf k (κ % 5 ^ k)
+
+unfoldable pub sideOf : ℕ → ℕ → ℕ
+sideOf m κ = 2 ^ heightOf m κ
+
+-- the pixel lies in the block
+unfoldable pub inBlock : ℕ → ℕ → ℕ → ℕ → Bool
+inBlock m κ row column =
+    leb (rowOf m κ) row
+    && ltb row (rowOf m κ + sideOf m κ)
+    && (leb (columnOf m κ) column && ltb column (columnOf m κ + sideOf m κ))
+
+-- the key of the pixel at a row and a column of a square of side 2 ^ k: the quadrant's digit, and then the key inside the quadrant
+unfoldable pub pixelKey : ℕ → ℕ → ℕ → ℕ
+pixelKey zero row column = 0
+pixelKey (suc k) row column =
+    cond (ltb row (2 ^ k))
+    (cond (ltb column (2 ^ k)) (1 * 5 ^ k + pixelKey k row column) (2 * 5 ^ k + pixelKey k row (column - 2 ^ k)))
+    (cond (ltb column (2 ^ k)) (3 * 5 ^ k + pixelKey k (row - 2 ^ k) column) (4 * 5 ^ k + pixelKey k (row - 2 ^ k) (column - 2 ^ k)))
+
+-- every row and column of b is one of a
+unfoldable pub contains : ℕ → ℕ → ℕ → Bool
+contains m a b =
+    leb (rowOf m a) (rowOf m b)
+    && leb (rowOf m b + sideOf m b) (rowOf m a + sideOf m a)
+    && (leb (columnOf m a) (columnOf m b) && leb (columnOf m b + sideOf m b) (columnOf m a + sideOf m a))
+
+-- a is a different, larger block that contains b
+unfoldable pub isAncestor : ℕ → ℕ → ℕ → Bool
+isAncestor m a b = ltb (sideOf m b) (sideOf m a) && contains m a b
+
+-- the keys of a block and of all below it, as an interval
+unfoldable pub inInterval : ℕ → ℕ → ℕ → Bool
+inInterval m κ x = leb κ x && ltb x (κ + 5 ^ heightOf m κ)

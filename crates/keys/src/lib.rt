@@ -1,0 +1,4 @@
+// Keys of blocks.
+pub fn nothing(x: u32) -> u32 {
+    x
+}
