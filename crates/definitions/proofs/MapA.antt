@@ -1,39 +1,224 @@
--- Map A of document 01 and Figure 1 of document 000: one table of what the definitions compute and what the documents say, under one claim.
--- Proved by computation.
+-- Map A of document 01, rows A1 to A12, and Figure 1 of document 000: what the definitions compute, held against what the documents say, as
+-- one table under one claim. Proved by computation.
 use Prim.Native.Nat.{ℕ, _+_, _*_}
 use mathlib.Core.Path.{_≡_, refl}
-use mathlib.Core.Bool.{Bool, true, false, cond}
 use mathlib.Core.List.{List, [], _∷_, _++_, map}
-use lib.ListN.{length, take, replicate}
-use Rattle.keys.specs.Key
-use Rattle.keys.specs.Block
-use Rattle.definitions.specs.Picture.{pictureOfRaster}
-use Rattle.definitions.specs.Picture
-use Rattle.definitions.specs.Bits
-use Rattle.definitions.specs.List.{listOfRaster, keysOf, valuesOf}
-use Rattle.definitions.specs.List as list
-use Rattle.definitions.specs.Read
-use Rattle.definitions.specs.Refusal
-use Rattle.definitions.specs.Window.{existIn, reportIn, selectIn}
-use Rattle.definitions.specs.Window
-use Rattle.definitions.specs.Edit
-use Rattle.definitions.specs.Log
-use Rattle.definitions.specs.Calls.Paint.{paint, paintKeys, paintBits, paintLogKeys, paintLogValues, paintRefusal}
-use Rattle.definitions.specs.Calls.Paint
-use Rattle.definitions.specs.Calls.TakeBack.{takeBack, takeBackKeys, takeBackBits}
-use Rattle.definitions.specs.Calls.TakeBack
+use lib.ListN.{replicate}
+use Rattle.keys.specs.Key.{validKey, digitsOf, digitsThenZeros, onlyZeros, levelOf, digitsBeforeZero, heightOf}
+use Rattle.keys.specs.Block.{rowOf, columnOf, sideOf, inBlock, pixelKey}
+use Rattle.definitions.specs.Picture.{everyPixel, oneFeature, featuresBelow}
+use Rattle.definitions.specs.Bits.{bitsOf, unionOfFour, twosIn, featureOf}
+use Rattle.definitions.specs.List.{Record, listOfRaster, keysOf, valuesOf, listOf}
+use Rattle.definitions.specs.Read.{paired, valueAt, pictureOf, sameRecords, isListOfBlock, isList}
+use Rattle.definitions.specs.Refusal.{first, badSettings, badLength, badPixel}
+use Rattle.definitions.specs.Window.{isWindow, inWindow, featuresOfRow, featuresOfRows, featuresIn, occurs, unionOf, existIn, reportIn, isGiven, selectFrom, selectIn}
+use Rattle.definitions.specs.Edit.{put, paintIn, contentOf}
+use Rattle.definitions.specs.Log.{closed, entryOf, lastRecord, lastKey, lastCount, beforeLast, lastContent, isContent, lastIsEntry, dividesIn, isSound, noLog}
+use Rattle.definitions.specs.Calls.Exist.{existRefusal, exist}
+use Rattle.definitions.specs.Calls.Report.{reportRefusal, report}
+use Rattle.definitions.specs.Calls.Select.{selected, selectRefusal, select, selectAnswer}
+use Rattle.definitions.specs.Calls.Paint.{painted, gained, paintRefusal, paint, paintKeys, paintBits, paintLogKeys, paintLogValues}
+use Rattle.definitions.specs.Calls.TakeBack.{restored, takeBackRefusal, usedBefore, takeBack, takeBackKeys, takeBackBits, takeBackLogKeys, takeBackLogValues}
 use Rattle.definitions.specs.declared.Window.{Window}
+use Rattle.definitions.specs.declared.Exists.{Exists}
+use Rattle.definitions.specs.declared.Reported.{Reported}
+use Rattle.definitions.specs.declared.Counted.{Counted}
+use Rattle.definitions.specs.declared.Edited.{Edited}
 
--- a key by its digits, a bitstring by its slots with slot 0 leftmost
-key2 : ℕ → ℕ → ℕ
-key2 a b = a * 5 + b
+-- A row: what the definitions compute, and what the document says, both as lists of numbers.
+record Row : Type 0 where
+  computed : List ℕ
+  said : List ℕ
 
-slots3 : ℕ → ℕ → ℕ → ℕ
-slots3 a b c = a + b * 2 + c * 4
+abbrev row : List ℕ → List ℕ → Row
+row computed said = record { computed = computed; said = said }
 
-mapA : List ℕ
+-- a key by its digits, and a bitstring by its slots with slot 0 leftmost
+abbrev keyAfter : ℕ → List ℕ → ℕ
+keyAfter x [] = x
+keyAfter x (d ∷ ds) = keyAfter (x * 5 + d) ds
+
+abbrev key : List ℕ → ℕ
+key digits = keyAfter 0 digits
+
+abbrev slots : List ℕ → ℕ
+slots [] = 0
+slots (b ∷ bs) = b + 2 * slots bs
+
+abbrev window : ℕ → ℕ → ℕ → ℕ → Window
+window row column height width = record { row = row; column = column; height = height; width = width }
+
+-- a list as key, bitstring, key, bitstring ..
+abbrev shown : List Record → List ℕ
+shown [] = []
+shown (x ∷ l) = x .key ∷ x .value ∷ shown l
+
+abbrev of-exist : Exists → List ℕ
+of-exist r = r .refusal ∷ r .yes ∷ []
+
+abbrev of-report : Reported → List ℕ
+of-report r = r .refusal ∷ r .bits ∷ []
+
+abbrev of-counted : Counted → List ℕ
+of-counted r = r .refusal ∷ r .count ∷ []
+
+abbrev of-edited : Edited → List ℕ
+of-edited r = r .refusal ∷ r .n ∷ r .used ∷ []
+
+-- m = 2, s = 3, rows 0011, 0012, 2200, 2200
+abbrev mapA : List ℕ
 mapA = 0 ∷ 0 ∷ 1 ∷ 1 ∷ 0 ∷ 0 ∷ 1 ∷ 2 ∷ 2 ∷ 2 ∷ 0 ∷ 0 ∷ 2 ∷ 2 ∷ 0 ∷ 0 ∷ []
 
-row1 : keysOf (listOfRaster 2 mapA) ≡ 0 ∷ 5 ∷ 10 ∷ 11 ∷ 12 ∷ 13 ∷ 14 ∷ 15 ∷ 20 ∷ []
-unfolding mapA list.listOf Picture.oneFeature Picture.everyPixel Bits.bitsOf Bits.unionOfFour
-row1 = refl
+-- its list as document 01 has it, in two slices with so many places to spare
+abbrev keysA : ℕ → List ℕ
+keysA spare =
+    key (0 ∷ 0 ∷ [])
+    ∷ key (1 ∷ 0 ∷ [])
+    ∷ key (2 ∷ 0 ∷ [])
+    ∷ key (2 ∷ 1 ∷ [])
+    ∷ key (2 ∷ 2 ∷ [])
+    ∷ key (2 ∷ 3 ∷ [])
+    ∷ key (2 ∷ 4 ∷ [])
+    ∷ key (3 ∷ 0 ∷ [])
+    ∷ key (4 ∷ 0 ∷ [])
+    ∷ replicate spare 99
+
+abbrev bitsA : ℕ → List ℕ
+bitsA spare =
+    slots (1 ∷ 1 ∷ 1 ∷ [])
+    ∷ slots (1 ∷ 0 ∷ 0 ∷ [])
+    ∷ slots (0 ∷ 1 ∷ 1 ∷ [])
+    ∷ slots (0 ∷ 1 ∷ 0 ∷ [])
+    ∷ slots (0 ∷ 1 ∷ 0 ∷ [])
+    ∷ slots (0 ∷ 1 ∷ 0 ∷ [])
+    ∷ slots (0 ∷ 0 ∷ 1 ∷ [])
+    ∷ slots (0 ∷ 0 ∷ 1 ∷ [])
+    ∷ slots (1 ∷ 0 ∷ 0 ∷ [])
+    ∷ replicate spare 99
+
+-- an unwritten slice
+abbrev unwritten : ℕ → List ℕ
+unwritten places = replicate places 77
+
+-- m = 3: the leaves of section 2.2 of document 000 as a raster
+abbrev figure1 : List ℕ
+figure1 =
+    (0 ∷ 2 ∷ 2 ∷ 2 ∷ 0 ∷ 0 ∷ 0 ∷ 0 ∷ [])
+    ++ ((0 ∷ 0 ∷ 2 ∷ 2 ∷ 0 ∷ 0 ∷ 0 ∷ 0 ∷ [])
+    ++ ((3 ∷ 3 ∷ 1 ∷ 0 ∷ 0 ∷ 0 ∷ 0 ∷ 0 ∷ [])
+    ++ ((3 ∷ 3 ∷ 0 ∷ 1 ∷ 0 ∷ 0 ∷ 0 ∷ 0 ∷ [])
+    ++ ((3 ∷ 3 ∷ 3 ∷ 3 ∷ 1 ∷ 1 ∷ 0 ∷ 0 ∷ [])
+    ++ ((3 ∷ 3 ∷ 3 ∷ 3 ∷ 1 ∷ 1 ∷ 0 ∷ 0 ∷ [])
+    ++ ((3 ∷ 3 ∷ 3 ∷ 3 ∷ 0 ∷ 0 ∷ 0 ∷ 0 ∷ []) ++ (3 ∷ 3 ∷ 3 ∷ 3 ∷ 0 ∷ 0 ∷ 0 ∷ 0 ∷ [])))))))
+
+-- a record of Figure 1: three digits and four slots
+abbrev node3 : ℕ → ℕ → ℕ → ℕ → ℕ → ℕ → ℕ → List ℕ → List ℕ
+node3 a b c s₀ s₁ s₂ s₃ rest = key (a ∷ b ∷ c ∷ []) ∷ slots (s₀ ∷ s₁ ∷ s₂ ∷ s₃ ∷ []) ∷ rest
+
+-- the list of section 2.3 of document 000
+abbrev listOfFigure1 : List ℕ
+listOfFigure1 =
+    node3 0 0 0 1 1 1 1
+    (node3 1 0 0 1 1 1 1
+    (node3 1 1 0 1 0 1 0
+    (node3 1 1 1 1 0 0 0
+    (node3 1 1 2 0 0 1 0
+    (node3 1 1 3 1 0 0 0
+    (node3 1 1 4 1 0 0 0
+    (node3 1 2 0 0 0 1 0
+    (node3 1 3 0 0 0 0 1
+    (node3 1 4 0 1 1 0 0
+    (node3 1 4 1 0 1 0 0
+    (node3 1 4 2 1 0 0 0
+    (node3 1 4 3 1 0 0 0
+    (node3 1 4 4 0 1 0 0
+    (node3 2 0 0 1 0 0 0
+    (node3 3 0 0 0 0 0 1
+    (node3 4 0 0 1 1 0 0
+    (node3 4 1 0 0 1 0 0
+    (node3 4 2 0 1 0 0 0
+    (node3 4 3 0 1 0 0 0
+    (node3 4 4 0 1 0 0 0 []))))))))))))))))))))
+
+-- A9's paint, whose buffers A10 takes back
+abbrev paintedKeys : List ℕ
+paintedKeys = paintKeys 2 3 (keysA 1) (bitsA 1) 9 (unwritten 3) (unwritten 3) 0 (key (2 ∷ 4 ∷ [])) 1
+
+abbrev paintedBits : List ℕ
+paintedBits = paintBits 2 3 (keysA 1) (bitsA 1) 9 (unwritten 3) (unwritten 3) 0 (key (2 ∷ 4 ∷ [])) 1
+
+abbrev paintedLogKeys : List ℕ
+paintedLogKeys = paintLogKeys 2 3 (keysA 1) (bitsA 1) 9 (unwritten 3) (unwritten 3) 0 (key (2 ∷ 4 ∷ [])) 1
+
+abbrev paintedLogValues : List ℕ
+paintedLogValues = paintLogValues 2 3 (keysA 1) (bitsA 1) 9 (unwritten 3) (unwritten 3) 0 (key (2 ∷ 4 ∷ [])) 1
+
+table : List Row
+table =
+    -- A1
+    row (keysOf (listOfRaster 2 mapA)) (keysA 0)
+    ∷ row (valuesOf (listOfRaster 2 mapA)) (bitsA 0)
+    -- A2
+    ∷ row (shown (listOfRaster 0 (0 ∷ []))) (0 ∷ 1 ∷ [])
+    -- A3: select 1 in row 0, column 1, height 2, width 3
+    ∷ row (of-counted (select 2 3 (keysA 0) (bitsA 0) 9 (window 0 1 2 3) 1 (unwritten 4))) (0 ∷ 3 ∷ [])
+    ∷ row (selectAnswer 2 3 (keysA 0) (bitsA 0) 9 (window 0 1 2 3) 1 (unwritten 4))
+    (key (2 ∷ 1 ∷ []) ∷ key (2 ∷ 2 ∷ []) ∷ key (2 ∷ 3 ∷ []) ∷ 77 ∷ [])
+    -- A4
+    ∷ row (of-report (report 2 3 (keysA 0) (bitsA 0) 9 (window 0 1 2 3))) (0 ∷ slots (1 ∷ 1 ∷ 1 ∷ []) ∷ [])
+    -- A5: select 0 in row 2, column 1, height 2, width 3
+    ∷ row (selectAnswer 2 3 (keysA 0) (bitsA 0) 9 (window 2 1 2 3) 0 (unwritten 1)) (key (4 ∷ 0 ∷ []) ∷ [])
+    -- A6: select 2 there, cut from leaf 30
+    ∷ row (selectAnswer 2 3 (keysA 0) (bitsA 0) 9 (window 2 1 2 3) 2 (unwritten 2)) (key (3 ∷ 2 ∷ []) ∷ key (3 ∷ 4 ∷ []) ∷ [])
+    -- A7: exist 1 there
+    ∷ row (of-exist (exist 2 3 (keysA 0) (bitsA 0) 9 (window 2 1 2 3) 1)) (0 ∷ 0 ∷ [])
+    -- A8: exist 1 in the window of pixel (0,0)
+    ∷ row (of-exist (exist 2 3 (keysA 0) (bitsA 0) 9 (window 0 0 1 1) 1)) (0 ∷ 0 ∷ [])
+    -- A9: paint 24 with 1. Four places are given up, the spare one stays
+    ∷ row (of-edited (paint 2 3 (keysA 1) (bitsA 1) 9 (unwritten 3) (unwritten 3) 0 (key (2 ∷ 4 ∷ [])) 1)) (0 ∷ 5 ∷ 2 ∷ [])
+    ∷ row paintedKeys
+    (key (0 ∷ 0 ∷ []) ∷ key (1 ∷ 0 ∷ []) ∷ key (2 ∷ 0 ∷ []) ∷ key (3 ∷ 0 ∷ []) ∷ key (4 ∷ 0 ∷ []) ∷ 0 ∷ 0 ∷ 0 ∷ 0 ∷ 99 ∷ [])
+    ∷ row paintedBits
+    (slots (1 ∷ 1 ∷ 1 ∷ [])
+    ∷ slots (1 ∷ 0 ∷ 0 ∷ [])
+    ∷ slots (0 ∷ 1 ∷ 0 ∷ [])
+    ∷ slots (0 ∷ 0 ∷ 1 ∷ [])
+    ∷ slots (1 ∷ 0 ∷ 0 ∷ [])
+    ∷ 0
+    ∷ 0
+    ∷ 0
+    ∷ 0
+    ∷ 99
+    ∷ [])
+    ∷ row paintedLogKeys (key (2 ∷ 4 ∷ []) ∷ key (2 ∷ 4 ∷ []) ∷ 77 ∷ [])
+    ∷ row paintedLogValues (slots (0 ∷ 0 ∷ 1 ∷ []) ∷ 1 ∷ 77 ∷ [])
+    -- A10: taking it back gives A1, and zeroes the entry
+    ∷ row (of-edited (takeBack 2 3 paintedKeys paintedBits 5 paintedLogKeys paintedLogValues 2)) (0 ∷ 9 ∷ 0 ∷ [])
+    ∷ row (takeBackKeys 2 3 paintedKeys paintedBits 5 paintedLogKeys paintedLogValues 2) (keysA 1)
+    ∷ row (takeBackBits 2 3 paintedKeys paintedBits 5 paintedLogKeys paintedLogValues 2) (bitsA 1)
+    ∷ row (takeBackLogKeys 2 3 paintedKeys paintedBits 5 paintedLogKeys paintedLogValues 2) (0 ∷ 0 ∷ 77 ∷ [])
+    ∷ row (takeBackLogValues 2 3 paintedKeys paintedBits 5 paintedLogKeys paintedLogValues 2) (0 ∷ 0 ∷ 77 ∷ [])
+    -- A11: paint 33 with 0, in room 12 and in room 13
+    ∷ row (of-edited (paint 2 3 (keysA 3) (bitsA 3) 9 (unwritten 2) (unwritten 2) 0 (key (3 ∷ 3 ∷ [])) 0)) (9 ∷ 0 ∷ 0 ∷ [])
+    ∷ row (of-edited (paint 2 3 (keysA 4) (bitsA 4) 9 (unwritten 2) (unwritten 2) 0 (key (3 ∷ 3 ∷ [])) 0)) (0 ∷ 13 ∷ 2 ∷ [])
+    -- A12: paint 20 with 2, with 6 and with 5 free in the log
+    ∷ row (of-edited (paint 2 3 (keysA 0) (bitsA 0) 9 (unwritten 6) (unwritten 6) 0 (key (2 ∷ 0 ∷ [])) 2)) (0 ∷ 5 ∷ 6 ∷ [])
+    ∷ row (of-edited (paint 2 3 (keysA 0) (bitsA 0) 9 (unwritten 5) (unwritten 5) 0 (key (2 ∷ 0 ∷ [])) 2)) (10 ∷ 0 ∷ 0 ∷ [])
+    -- Figure 1 of document 000
+    ∷ row (shown (listOfRaster 3 figure1)) listOfFigure1
+    ∷ []
+
+-- every row's two sides are the same
+claim : map (λ r. r .computed) table ≡ map (λ r. r .said) table
+unfolding
+    table validKey digitsOf digitsThenZeros onlyZeros levelOf digitsBeforeZero heightOf rowOf columnOf sideOf inBlock pixelKey
+    everyPixel oneFeature featuresBelow bitsOf unionOfFour twosIn featureOf listOf
+    paired valueAt pictureOf sameRecords isListOfBlock isList
+    first badSettings badLength badPixel
+    isWindow inWindow featuresOfRow featuresOfRows featuresIn occurs unionOf existIn reportIn isGiven selectFrom selectIn
+    put paintIn contentOf
+    closed entryOf lastRecord lastKey lastCount beforeLast lastContent isContent lastIsEntry dividesIn isSound noLog
+    existRefusal exist reportRefusal report selected selectRefusal select selectAnswer
+    painted gained paintRefusal paint paintKeys paintBits paintLogKeys paintLogValues
+    restored takeBackRefusal usedBefore takeBack takeBackKeys takeBackBits takeBackLogKeys takeBackLogValues
+claim = refl
