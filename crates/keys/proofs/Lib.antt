@@ -1,2 +1,12 @@
 pub mod Cases
+pub mod Powers
 pub mod Under
+pub mod Interval
+pub mod Parent
+pub mod Digits
+pub mod Descent
+pub mod Valid
+pub mod Pixel
+pub mod InBlock
+pub mod Ancestor
+pub mod ParentKey

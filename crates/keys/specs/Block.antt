@@ -31,6 +31,14 @@ inBlock m κ row column =
     && ltb row (rowOf m κ + sideOf m κ)
     && (leb (columnOf m κ) column && ltb column (columnOf m κ + sideOf m κ))
 
+-- the digit of the quadrant that a row and a column lie in, in a square whose quadrants have the given side
+abbrev pub quadrantDigit : ℕ → ℕ → ℕ → ℕ
+quadrantDigit side row column = cond (ltb row side) (cond (ltb column side) 1 2) (cond (ltb column side) 3 4)
+
+-- a row or a column, counted inside its quadrant
+abbrev pub inQuadrant : ℕ → ℕ → ℕ
+inQuadrant side x = cond (ltb x side) x (x - side)
+
 -- the key of the pixel at a row and a column of a square of side 2 ^ k: the quadrant's digit, and then the key inside the quadrant
 unfoldable pub pixelKey : ℕ → ℕ → ℕ → ℕ
 pixelKey zero row column = 0

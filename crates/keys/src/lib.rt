@@ -1,4 +1,171 @@
-// Keys of blocks.
-pub fn nothing(x: u32) -> u32 {
-    x
+// Keys of blocks (document 01, "Keys"): the key type's constants, child and parent, level, validity, the block of a key, the key of a pixel,
+// and ancestors. Only crates above this one call these functions; what they require is shown there.
+ghost use mathlib.Core.Path.{_≡_};
+ghost use mathlib.Core.Bool.{true};
+ghost use Prim.Native.Nat.{_≤_, _<_, _^_};
+ghost use Rattle.keys.specs.Key.{rootKey, validKey, levelOf, heightOf, childKey, parentKey};
+ghost use Rattle.keys.specs.Block.{rowOf, columnOf, sideOf, pixelKey, isAncestor};
+
+pub mod power;
+pub mod quadrant;
+
+// A block's number: m digits in base 5.
+pub struct Key {
+    pub number: u32,
+}
+
+// The square of a block: its first row and column, and its side.
+pub struct Block {
+    pub row: u32,
+    pub column: u32,
+    pub side: u32,
+}
+
+impl Key {
+    pub const ROOT: u32 = 0;
+
+    pub const DEEPEST_LEVEL: u32 = 10;
+
+    pub const SLOT_LIMIT: u32 = 16;
+
+    pub fn root() -> Key
+        ensures { λ r. ⌜ r .number ≡ rootKey ⌝ }
+    {
+        Key { number: Key::ROOT }
+    }
+
+    // The child that has the given height: digit 1 NW, 2 NE, 3 SW, 4 SE.
+    pub fn child(self, height: u32, digit: u32) -> Key
+        requires { ⌜ (self .number < 5 ^ 10) × (height ≤ 10) × (digit ≤ 4) ⌝ }
+        ensures { λ r. ⌜ r .number ≡ childKey (self .number) height digit ⌝ }
+    {
+        let number = self.number;
+        let step = power::power_of_five(height);
+        Key {
+            number: number + digit * step,
+        }
+    }
+
+    // How many digits stand before the first zero, found digit by digit from the left.
+    pub fn level(self, m: u32) -> u32
+        requires { ⌜ m ≤ 10 ⌝ }
+        ensures { λ r. ⌜ r ≡ levelOf m (self .number) ⌝ }
+    {
+        let mut rest = self.number;
+        let mut step = power::power_of_five(m);
+        let mut level = 0;
+        while level < m {
+            step = step / 5;
+            if rest < step {
+                return level;
+            }
+            rest = rest % step;
+            level += 1;
+        }
+        level
+    }
+
+    // The number of levels below the block.
+    pub fn height(self, m: u32) -> u32
+        requires { ⌜ m ≤ 10 ⌝ }
+        ensures { λ r. ⌜ r ≡ heightOf m (self .number) ⌝ }
+    {
+        let level = self.level(m);
+        if m < level { 0 } else { m - level }
+    }
+
+    // The block that this one is a quadrant of; the root's is the root.
+    pub fn parent(self, m: u32) -> Key
+        requires { ⌜ m ≤ 10 ⌝ }
+        ensures { λ r. ⌜ r .number ≡ parentKey m (self .number) ⌝ }
+    {
+        let number = self.number;
+        let step = power::power_of_five(self.height(m) + 1);
+        Key {
+            number: number / step * step,
+        }
+    }
+
+    // Some digits from 1 to 4 and then zeros.
+    pub fn is_valid(self, m: u32) -> bool
+        requires { ⌜ m ≤ 10 ⌝ }
+        ensures { λ r. ⌜ r ≡ validKey m (self .number) ⌝ }
+    {
+        let mut rest = self.number;
+        let mut step = power::power_of_five(m);
+        if step <= rest {
+            return false;
+        }
+        let mut i = 0;
+        while i < m {
+            step = step / 5;
+            if rest < step {
+                return rest == 0;
+            }
+            rest = rest % step;
+            i += 1;
+        }
+        true
+    }
+
+    // The square that the key stands for.
+    pub fn block(self, m: u32) -> Block
+        requires { ⌜ m ≤ 10 ⌝ }
+        ensures { λ r. ⌜ (r .row ≡ rowOf m (self .number)) × (r .column ≡ columnOf m (self .number)) × (r .side ≡ sideOf m (self .number)) ⌝ }
+    {
+        let whole = power::power_of_two(self.height(m));
+        let mut rest = self.number;
+        let mut step = power::power_of_five(m);
+        let mut side = power::power_of_two(m);
+        let mut row = 0;
+        let mut column = 0;
+        let mut i = 0;
+        while i < m {
+            step = step / 5;
+            side = side / 2;
+            let digit = rest / step;
+            row += quadrant::southward(digit, side);
+            column += quadrant::eastward(digit, side);
+            rest = rest % step;
+            i += 1;
+        }
+        Block {
+            row,
+            column,
+            side: whole,
+        }
+    }
+
+    // The key of a pixel: at each level the digit of its quadrant.
+    pub fn of_pixel(m: u32, row: u32, column: u32) -> Key
+        requires { ⌜ m ≤ 10 ⌝ }
+        ensures { λ r. ⌜ r .number ≡ pixelKey m row column ⌝ }
+    {
+        let mut r = row;
+        let mut c = column;
+        let mut side = power::power_of_two(m);
+        let mut step = power::power_of_five(m);
+        let mut number = 0;
+        let mut i = 0;
+        while i < m {
+            side = side / 2;
+            step = step / 5;
+            number += quadrant::digit(r, c, side) * step;
+            r = quadrant::within(r, side);
+            c = quadrant::within(c, side);
+            i += 1;
+        }
+        Key { number }
+    }
+
+    // A different, larger block that contains the other.
+    pub fn is_ancestor_of(self, other: Key, m: u32) -> bool
+        requires { ⌜ (m ≤ 10) × (validKey m (self .number) ≡ true) × (validKey m (other .number) ≡ true) ⌝ }
+        ensures { λ r. ⌜ r ≡ isAncestor m (self .number) (other .number) ⌝ }
+    {
+        let a = self.number;
+        let b = other.number;
+        let step = power::power_of_five(self.height(m));
+        a < b && b < a + step
+    }
 }

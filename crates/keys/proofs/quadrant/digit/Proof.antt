@@ -1,0 +1,19 @@
+-- `quadrant::digit` meets its contract: the tests that led to each answer are those of the definition.
+use borrow.Author.Tests.{lt-ltb, le-ltb}
+use Rattle.keys.proofs.quadrant.digit.Statement.{statement}
+use Rattle.keys.proofs.quadrant.digit.Tie as tie
+
+returns : tie.Need-returns
+returns c = simp (lt-ltb _ _ (c .before .if1 .taken), lt-ltb _ _ (c .if2 .taken))
+
+returns-2 : tie.Need-returns-2
+returns-2 c = simp (lt-ltb _ _ (c .before .if1 .taken), le-ltb _ _ (c .if2 .left))
+
+returns-3 : tie.Need-returns-3
+returns-3 c = simp (le-ltb _ _ (c .before .if1 .left), lt-ltb _ _ (c .if3 .taken))
+
+returns-4 : tie.Need-returns-4
+returns-4 c = simp (le-ltb _ _ (c .before .if1 .left), le-ltb _ _ (c .if3 .left))
+
+pub digit-spec : {M : Type 1} → statement M
+digit-spec = tie.close (tie.spec returns returns-2 returns-3 returns-4)

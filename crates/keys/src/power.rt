@@ -1,0 +1,23 @@
+// The powers that keys and sides are made of, each hidden behind one function so that a caller sees the power alone.
+ghost use mathlib.Core.Path.{_≡_};
+ghost use Prim.Native.Nat.{_≤_, _^_};
+
+pub fn power_of_five(height: u32) -> u32
+    requires { ⌜ height ≤ 11 ⌝ }
+    ensures { λ r. ⌜ r ≡ 5 ^ height ⌝ }
+{
+    let mut power = 1;
+    let mut i = 0;
+    while i < height {
+        power = power * 5;
+        i += 1;
+    }
+    power
+}
+
+pub fn power_of_two(height: u32) -> u32
+    requires { ⌜ height ≤ 31 ⌝ }
+    ensures { λ r. ⌜ r ≡ 2 ^ height ⌝ }
+{
+    1u32 << height
+}
