@@ -1,1 +1,13 @@
 pub mod MapA
+pub mod Within
+pub mod Pixels
+pub mod Features
+pub mod Slots
+pub mod FeatureOf
+pub mod BitsOf
+pub mod Ascending
+pub mod ListOf
+pub mod Listed
+pub mod PixelBound
+pub mod ValueAt
+pub mod ReadBack
