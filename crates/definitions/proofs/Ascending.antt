@@ -1,7 +1,7 @@
 -- Records whose keys ascend strictly between two bounds: the type, with laws to widen the bounds, to join two such lists and to find where the
 -- key of a record lies. Rests on nothing.
 use Prim.Native.Nat.{ℕ, suc, _+_, _*_, _≤_, _<_}
-use mathlib.Core.Path.{_≡_, refl, ap}
+use mathlib.Core.Path.{_≡_, sym, _∙_, ap}
 use mathlib.Core.List.{List, [], _∷_, _++_, List·Memᴰ, List·Memᴰ·head, List·Memᴰ·tail}
 use native.Mathlib.Nat.{le-refl}
 use native.Mathlib.Omega.{arith}
@@ -12,6 +12,7 @@ pub data Ascending : ℕ → ℕ → List Record → Type 0 where
   none : {lo hi : ℕ} → lo ≤ hi → Ascending lo hi []
   next : {lo hi : ℕ} {e : Record} {l : List Record} → lo ≤ e .key → Ascending (suc (e .key)) hi l → Ascending lo hi (e ∷ l)
 
+-- the lower bound is at most the upper
 pub ascending-bounds : {lo hi : ℕ} {l : List Record} → Ascending lo hi l → lo ≤ hi
 ascending-bounds (none h) = h
 ascending-bounds (next h a) = let j = ascending-bounds a in omega arith
@@ -21,7 +22,7 @@ pub widen : {lo hi lo′ hi′ : ℕ} {l : List Record} → lo′ ≤ lo → hi 
 widen {lo′ = lo′} {hi′ = hi′} u v (none h) = none {lo = lo′} {hi = hi′} (omega arith)
 widen {lo′ = lo′} u v (next {e = e} h a) = next {lo = lo′} {e = e} (omega arith) (widen (le-refl _) v a)
 
--- one record
+-- one record between the bounds
 pub ascending-one : {lo hi κ v : ℕ} → lo ≤ κ → κ < hi → Ascending lo hi (recordOf κ v ∷ [])
 ascending-one u v = next u (none v)
 
@@ -44,11 +45,19 @@ ascending-four κ q pos one two three four =
     (ascending-append (widen {lo′ = κ + 3 * q} {hi′ = κ + 4 * q} (omega arith) (omega arith) three)
     (widen {lo′ = κ + 4 * q} {hi′ = κ + q * 5} (omega arith) (omega arith) four)))
 
--- the key of each record lies between the bounds
+-- the key of each record is at least the lower bound
 pub key-from : {lo hi : ℕ} {l : List Record} {x : Record} → Ascending lo hi l → List·Memᴰ x l → lo ≤ x .key
 key-from (next {e = e} h a) (List·Memᴰ·head i) = let j = ap (λ y. y .key) i in omega arith
 key-from (next h a) (List·Memᴰ·tail m) = let j = key-from a m in omega arith
 
+-- and below the upper
 pub key-below : {lo hi : ℕ} {l : List Record} {x : Record} → Ascending lo hi l → List·Memᴰ x l → x .key < hi
 key-below (next {e = e} h a) (List·Memᴰ·head i) = let j = ap (λ y. y .key) i in let b = ascending-bounds a in omega arith
 key-below (next h a) (List·Memᴰ·tail m) = key-below a m
+
+-- no two records have the same key
+pub same-key : {lo hi : ℕ} {l : List Record} {x y : Record} → Ascending lo hi l → List·Memᴰ x l → List·Memᴰ y l → x .key ≡ y .key → x ≡ y
+same-key (next h a) (List·Memᴰ·head i) (List·Memᴰ·head j) e = i ∙ sym j
+same-key (next h a) (List·Memᴰ·head i) (List·Memᴰ·tail n) e = let b = key-from a n in let k = ap (λ z. z .key) i in absurd (omega arith)
+same-key (next h a) (List·Memᴰ·tail m) (List·Memᴰ·head j) e = let b = key-from a m in let k = ap (λ z. z .key) j in absurd (omega arith)
+same-key (next h a) (List·Memᴰ·tail m) (List·Memᴰ·tail n) e = same-key a m n e

@@ -1,27 +1,27 @@
 -- The bitstring of a block: slot i is set exactly when feature i occurs in the block (document 01, "The list"). So it depends only on the
--- block's pixels, and it is a power of two exactly when the block has one feature. Rests on Slots, Features and FeatureOf.
+-- block's pixels, and it is a power of two exactly when the block has one feature. Rests on Slots and Features.
 use Prim.Native.Nat.{ℕ, zero, suc, _+_, _^_, _<_}
 use mathlib.Core.Path.{_≡_, refl, sym, _∙_, ap, ap₂}
-use mathlib.Core.Bool.{Bool, true, false}
+use mathlib.Core.Bool.{true, false}
 use mathlib.Core.Logic.{_↔_}
 use native.Mathlib.Omega.{arith}
-use lib.Dec.{eqb}
 use lib.Pow.{pow-lt, pow-mono}
 use borrow.Author.Tests.{eqb-true, eq-eqb}
 use Rattle.keys.proofs.Cases.{decide, split, same-test}
 use Rattle.definitions.specs.Picture.{Picture, oneFeature, featuresBelow}
 use Rattle.definitions.specs.Bits.{hasSlot, unionOfFour, bitsOf}
-use Rattle.definitions.proofs.Within.{Within, Every, Somewhere, first-within, pixel-row, pixel-column, within-cases, some-nw, some-ne, some-sw, some-se, every-nw, every-ne, every-sw, every-se}
+use Rattle.definitions.proofs.Within.{Within, within-cases, first-within, pixel-row, pixel-column}
+use Rattle.definitions.proofs.Within.{Every, every-nw, every-ne, every-sw, every-se, Somewhere, some-nw, some-ne, some-sw, some-se}
 use Rattle.definitions.proofs.Pixels.{Agree, agree-nw, agree-ne, agree-sw, agree-se}
 use Rattle.definitions.proofs.Features.{one-to, one-from, several-to, below-to, below-from}
 use Rattle.definitions.proofs.Slots.{slot-power, slot-cases, slot-nw, slot-ne, slot-sw, slot-se, slot-le, bits-equal, four-lt, same-four}
-use Rattle.definitions.proofs.FeatureOf.{power-inj}
 
--- the bits of one pixel, and of four quadrants
+-- the bits of one pixel are its feature's slot
 pub bits-zero : (p : Picture) (r c : ℕ) → bitsOf p zero r c ≡ 2 ^ p r c
 unfolding bitsOf
 bits-zero p r c = refl
 
+-- the bits of a larger block are the union of its quadrants'
 pub bits-suc : (p : Picture) (k r c : ℕ) → bitsOf p (suc k) r c
     ≡ unionOfFour (bitsOf p k r c) (bitsOf p k r (c + 2 ^ k)) (bitsOf p k (r + 2 ^ k) c) (bitsOf p k (r + 2 ^ k) (c + 2 ^ k))
 unfolding bitsOf
@@ -84,17 +84,20 @@ bits-one p k r c e = bits-equal _ _
     slot-power (p r c) i ∙ eq-eqb _ _ (sym (one-to p k r c e (x .row) (x .column) (x .within)) ∙ x .holds))
     (λ h. ap (hasSlot (bitsOf p k r c)) (sym (eqb-true _ _ (sym (slot-power (p r c) i) ∙ h))) ∙ bits-from p k r c r c (first-within k r c)))
 
--- a block whose bits are a power of two has that one feature
+-- a block whose bits are 2 ^ f has feature f everywhere
 pub power-every : (p : Picture) (f k r c : ℕ) → bitsOf p k r c ≡ 2 ^ f → Every (λ r′ c′. p r′ c′ ≡ f) k r c
-power-every p f k r c e r′ c′ w = sym (eqb-true _ _ (sym (slot-power f (p r′ c′)) ∙ ap (λ x. hasSlot x (p r′ c′)) (sym e) ∙ bits-from p k r c r′ c′ w))
+power-every p f k r c e r′ c′ w =
+    sym (eqb-true _ _ (sym (slot-power f (p r′ c′)) ∙ ap (λ x. hasSlot x (p r′ c′)) (sym e) ∙ bits-from p k r c r′ c′ w))
 
+-- so it has one feature
 pub power-one : (p : Picture) (f k r c : ℕ) → bitsOf p k r c ≡ 2 ^ f → oneFeature p k r c ≡ true
 power-one p f k r c e = one-from p f k r c (power-every p f k r c e)
 
+-- which is f
 pub power-feature : (p : Picture) (f k r c : ℕ) → bitsOf p k r c ≡ 2 ^ f → f ≡ p r c
 power-feature p f k r c e = sym (power-every p f k r c e r c (first-within k r c))
 
--- a block of several features has two different slots set
+-- two different slots are set
 pub record TwoSlots (bits : ℕ) : Type 0 where
   pub first : ℕ
   pub second : ℕ
@@ -102,6 +105,7 @@ pub record TwoSlots (bits : ℕ) : Type 0 where
   pub has-first : hasSlot bits first ≡ true
   pub has-second : hasSlot bits second ≡ true
 
+-- in a block of several features two different features occur
 pub bits-several : (p : Picture) (k r c : ℕ) → oneFeature p k r c ≡ false → TwoSlots (bitsOf p k r c)
 bits-several p k r c e =
     let x = several-to p k r c e in
@@ -115,20 +119,29 @@ bits-several p k r c e =
 
 -- a power of two has no two different slots
 pub power-not-two : (f : ℕ) → TwoSlots (2 ^ f) → ⊥
-power-not-two f t = t .differ (sym (eqb-true _ _ (sym (slot-power f (t .first)) ∙ t .has-first)) ∙ eqb-true _ _ (sym (slot-power f (t .second)) ∙ t .has-second))
+power-not-two f t =
+    let one : f ≡ t .first = eqb-true _ _ (sym (slot-power f (t .first)) ∙ t .has-first) in
+    let two : f ≡ t .second = eqb-true _ _ (sym (slot-power f (t .second)) ∙ t .has-second) in
+    t .differ (sym one ∙ two)
 
 -- a block with two different slots set has several features
 pub two-several : (p : Picture) (k r c : ℕ) → TwoSlots (bitsOf p k r c) → oneFeature p k r c ≡ false
 two-several p k r c t = decide (oneFeature p k r c) (λ e. absurd (power-not-two (p r c) (rw (bits-one p k r c e) at t))) (λ e. e)
 
--- bits of features below s are below 2 ^ s, and conversely
+-- bits of features below s are below 2 ^ s
 pub bits-below : (s : ℕ) (p : Picture) (k r c : ℕ) → featuresBelow s p k r c ≡ true → bitsOf p k r c < 2 ^ s
 bits-below s p k r c e = go k r c (below-to s p k r c e)
   where
     go : (k r c : ℕ) → Every (λ r′ c′. p r′ c′ < s) k r c → bitsOf p k r c < 2 ^ s
     go zero r c h = rw (bits-zero p r c) (pow-lt (h r c (first-within zero r c)))
-    go (suc k) r c h = rw (bits-suc p k r c) (four-lt s _ _ _ _ (go k r c (every-nw h)) (go k r (c + 2 ^ k) (every-ne h)) (go k (r + 2 ^ k) c (every-sw h)) (go k (r + 2 ^ k) (c + 2 ^ k) (every-se h)))
+    go (suc k) r c h =
+        rw (bits-suc p k r c)
+        (four-lt s _ _ _ _ (go k r c (every-nw h))
+        (go k r (c + 2 ^ k) (every-ne h))
+        (go k (r + 2 ^ k) c (every-sw h))
+        (go k (r + 2 ^ k) (c + 2 ^ k) (every-se h)))
 
+-- features of bits below 2 ^ s are below s
 pub below-bits : (s : ℕ) (p : Picture) (k r c : ℕ) → bitsOf p k r c < 2 ^ s → featuresBelow s p k r c ≡ true
 below-bits s p k r c h = below-from s p k r c
     (λ r′ c′ w. split (p r′ c′) s (λ l. l)

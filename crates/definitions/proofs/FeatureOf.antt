@@ -1,18 +1,19 @@
 -- The feature of a leaf's bitstring: of 2 ^ f it is f, so different features have different bitstrings. Rests on nothing.
-use Prim.Native.Nat.{ℕ, zero, suc, _+_, _*_, _/_, _%_, _^_, _≤_, _<_}
+use Prim.Native.Nat.{ℕ, zero, suc, _/_, _%_, _^_, _<_}
 use mathlib.Core.Path.{_≡_, refl, sym, _∙_, ap}
-use mathlib.Core.Bool.{Bool, true, false}
+use mathlib.Core.Bool.{false}
 use native.Mathlib.Nat.{pow-suc}
 use native.Mathlib.Omega.{arith}
 use lib.Dec.{eqb}
 use borrow.Author.Tests.{eq-eqb, ne-eqb}
 use Rattle.definitions.specs.Bits.{twosIn, featureOf}
 
--- an odd number is divided by 2 no more, an even one once more
+-- 2 does not divide an odd number
 pub twos-odd : (fuel bits : ℕ) → bits % 2 ≡ 1 → twosIn (suc fuel) bits ≡ 0
 unfolding twosIn
 twos-odd fuel bits e = rw (eq-eqb (bits % 2) 1 e, twosIn)
 
+-- 2 divides an even number once more than its half
 pub twos-even : (fuel bits : ℕ) → bits % 2 ≡ 0 → twosIn (suc fuel) bits ≡ suc (twosIn fuel (bits / 2))
 unfolding twosIn
 twos-even fuel bits e = let h : eqb (bits % 2) 1 ≡ false = ne-eqb (bits % 2) 1 (omega arith) in rw (h, twosIn)

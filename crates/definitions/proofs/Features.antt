@@ -1,7 +1,8 @@
 -- What "one feature" and "features below s" say of a block's pixels (document 01, "The list" and refusal 3). Rests on Pixels.
-use Prim.Native.Nat.{ℕ, zero, suc, _+_, _^_, _<_}
-use mathlib.Core.Path.{_≡_, refl, sym, _∙_, ap, ap₂}
-use mathlib.Core.Bool.{Bool, true, false, true≢false}
+use Prim.Native.Nat.{ℕ, zero, _<_}
+use mathlib.Core.Path.{_≡_, sym, _∙_, ap, ap₂}
+use mathlib.Core.Bool.{true, false, true≢false}
+use mathlib.Core.Logic.{_↔_}
 use lib.Dec.{ltb, eqb}
 use borrow.Author.Tests.{ltb-true, lt-ltb, eqb-true, eq-eqb, eqb-false}
 use Rattle.keys.proofs.Cases.{decide}
@@ -21,6 +22,10 @@ unfolding oneFeature
 one-from p f k r c h =
     every-from (λ a b. eqb (p a b) (p r c)) k r c (λ r′ c′ w. eq-eqb _ _ (h r′ c′ w ∙ sym (h r c (first-within k r c))))
 
+-- a block has one feature exactly when all its pixels have the first pixel's
+pub one-means : (p : Picture) (k r c : ℕ) → (oneFeature p k r c ≡ true) ↔ Every (λ r′ c′. p r′ c′ ≡ p r c) k r c
+one-means p k r c = (one-to p k r c, one-from p (p r c) k r c)
+
 -- in a block of several features some pixel has another than the first
 pub several-to : (p : Picture) (k r c : ℕ) → oneFeature p k r c ≡ false → Somewhere (λ r′ c′. p r′ c′ ≡ p r c → ⊥) k r c
 unfolding oneFeature
@@ -29,7 +34,8 @@ several-to p k r c e =
     record { row = x .row; column = x .column; within = x .within; holds = eqb-false _ _ (x .holds) }
 
 -- a block in which two pixels differ has several features
-pub several-from : (p : Picture) {k r c r₁ c₁ r₂ c₂ : ℕ} → Within k r c r₁ c₁ → Within k r c r₂ c₂ → (p r₁ c₁ ≡ p r₂ c₂ → ⊥) → oneFeature p k r c ≡ false
+pub several-from : (p : Picture) {k r c r₁ c₁ r₂ c₂ : ℕ} → Within k r c r₁ c₁ → Within k r c r₂ c₂ → (p r₁ c₁ ≡ p r₂ c₂ → ⊥)
+    → oneFeature p k r c ≡ false
 several-from p {k} {r} {c} {r₁} {c₁} {r₂} {c₂} v w h =
     decide (oneFeature p k r c) (λ e. absurd (h (one-to p k r c e r₁ c₁ v ∙ sym (one-to p k r c e r₂ c₂ w)))) (λ e. e)
 
@@ -37,12 +43,14 @@ several-from p {k} {r} {c} {r₁} {c₁} {r₂} {c₂} v w h =
 pub one-pixel : (p : Picture) (r c : ℕ) → oneFeature p zero r c ≡ true
 one-pixel p r c = one-from p (p r c) zero r c (λ r′ c′ w. ap₂ p (pixel-row w) (pixel-column w))
 
--- a block under one of one feature has that one feature
-pub one-under : (p : Picture) {k r c κ k′ r′ c′ κ′ : ℕ} → Under k r c κ k′ r′ c′ κ′ → oneFeature p k r c ≡ true → oneFeature p k′ r′ c′ ≡ true
+-- a block under one of one feature has one feature
+pub one-under : (p : Picture) {k r c κ k′ r′ c′ κ′ : ℕ} → Under k r c κ k′ r′ c′ κ′ → oneFeature p k r c ≡ true
+    → oneFeature p k′ r′ c′ ≡ true
 one-under p {k} {r} {c} {k′ = k′} {r′ = r′} {c′ = c′} u e = one-from p (p r c) k′ r′ c′ (λ a b w. one-to p k r c e a b (under-within u w))
 
 -- what contains a block of several features has several
-pub several-above : (p : Picture) {k r c κ k′ r′ c′ κ′ : ℕ} → Under k r c κ k′ r′ c′ κ′ → oneFeature p k′ r′ c′ ≡ false → oneFeature p k r c ≡ false
+pub several-above : (p : Picture) {k r c κ k′ r′ c′ κ′ : ℕ} → Under k r c κ k′ r′ c′ κ′ → oneFeature p k′ r′ c′ ≡ false
+    → oneFeature p k r c ≡ false
 several-above p {k} {r} {c} u e = decide (oneFeature p k r c) (λ h. absurd (true≢false (sym (one-under p u h) ∙ e))) (λ h. h)
 
 -- pictures that agree on a block have one feature there together
@@ -50,17 +58,23 @@ pub one-agree : (p q : Picture) (k r c : ℕ) → Agree p q k r c → oneFeature
 unfolding oneFeature
 one-agree p q k r c h = every-same _ _ k r c (λ r′ c′ w. ap₂ eqb (h r′ c′ w) (h r c (first-within k r c)))
 
--- features below s, pixel by pixel
+-- where the features are below s, every pixel's is
 pub below-to : (s : ℕ) (p : Picture) (k r c : ℕ) → featuresBelow s p k r c ≡ true → Every (λ r′ c′. p r′ c′ < s) k r c
 unfolding featuresBelow
 below-to s p k r c e r′ c′ w = ltb-true _ _ (every-to (λ a b. ltb (p a b) s) k r c e r′ c′ w)
 
+-- where every pixel's feature is below s, the features are
 pub below-from : (s : ℕ) (p : Picture) (k r c : ℕ) → Every (λ r′ c′. p r′ c′ < s) k r c → featuresBelow s p k r c ≡ true
 unfolding featuresBelow
 below-from s p k r c h = every-from (λ a b. ltb (p a b) s) k r c (λ r′ c′ w. lt-ltb _ _ (h r′ c′ w))
 
+-- the features of a block are below s exactly when every pixel's is
+pub below-means : (s : ℕ) (p : Picture) (k r c : ℕ) → (featuresBelow s p k r c ≡ true) ↔ Every (λ r′ c′. p r′ c′ < s) k r c
+below-means s p k r c = (below-to s p k r c, below-from s p k r c)
+
 -- the features of a block under another are below s when the other's are
-pub below-under : (s : ℕ) (p : Picture) {k r c κ k′ r′ c′ κ′ : ℕ} → Under k r c κ k′ r′ c′ κ′ → featuresBelow s p k r c ≡ true → featuresBelow s p k′ r′ c′ ≡ true
+pub below-under : (s : ℕ) (p : Picture) {k r c κ k′ r′ c′ κ′ : ℕ} → Under k r c κ k′ r′ c′ κ′ → featuresBelow s p k r c ≡ true
+    → featuresBelow s p k′ r′ c′ ≡ true
 below-under s p {k} {r} {c} {k′ = k′} {r′ = r′} {c′ = c′} u e = below-from s p k′ r′ c′ (λ a b w. below-to s p k r c e a b (under-within u w))
 
 -- pictures that agree on a block have features below s there together

@@ -8,6 +8,7 @@ pub mod BitsOf
 pub mod Ascending
 pub mod ListOf
 pub mod Listed
-pub mod PixelBound
 pub mod ValueAt
 pub mod ReadBack
+pub mod RasterOf
+pub mod IsList

@@ -1,8 +1,8 @@
 -- The list of a block: its equations, its keys ascend and lie in the block's interval, it depends only on the block's pixels, and its length
 -- (document 01, "The list"). Rests on Ascending, Features and BitsOf.
 use Prim.Native.Nat.{ℕ, zero, suc, _+_, _*_, _^_, _≤_, _<_}
-use mathlib.Core.Path.{_≡_, refl, sym, _∙_, ap}
-use mathlib.Core.Bool.{Bool, true, false, cond}
+use mathlib.Core.Path.{_≡_, sym, _∙_, ap}
+use mathlib.Core.Bool.{true, false}
 use mathlib.Core.List.{List, [], _∷_, _++_}
 use native.Mathlib.Nat.{le-refl, pow-suc, one-le-pow}
 use native.Mathlib.Omega.{arith}
@@ -14,19 +14,22 @@ use Rattle.definitions.specs.Bits.{bitsOf}
 use Rattle.definitions.specs.List.{Record, recordOf, listOf}
 use Rattle.definitions.proofs.Within.{first-within}
 use Rattle.definitions.proofs.Pixels.{Agree, agree-nw, agree-ne, agree-sw, agree-se}
-use Rattle.definitions.proofs.Features.{one-agree, one-pixel}
+use Rattle.definitions.proofs.Features.{one-agree}
 use Rattle.definitions.proofs.BitsOf.{bits-zero, bits-agree, bits-one}
 use Rattle.definitions.proofs.Ascending.{Ascending, next, ascending-one, ascending-four}
 
--- a pixel has one record, a block of one feature too, and a block of several has its own record and then those of its quadrants
+-- a pixel has one record
 pub list-zero : (p : Picture) (r c κ : ℕ) → listOf p zero r c κ ≡ recordOf κ (2 ^ p r c) ∷ []
 unfolding listOf
 list-zero p r c κ = ap (λ b. recordOf κ b ∷ []) (bits-zero p r c)
 
-pub list-leaf : (p : Picture) (k r c κ : ℕ) → oneFeature p (suc k) r c ≡ true → listOf p (suc k) r c κ ≡ recordOf κ (bitsOf p (suc k) r c) ∷ []
+-- a block of one feature has one record
+pub list-leaf : (p : Picture) (k r c κ : ℕ) → oneFeature p (suc k) r c ≡ true
+    → listOf p (suc k) r c κ ≡ recordOf κ (bitsOf p (suc k) r c) ∷ []
 unfolding listOf
 list-leaf p k r c κ e = rw e
 
+-- a block of several features has its own record and then those of its quadrants
 pub list-node : (p : Picture) (k r c κ : ℕ) → oneFeature p (suc k) r c ≡ false
     → listOf p (suc k) r c κ ≡ recordOf κ (bitsOf p (suc k) r c)
     ∷ (listOf p k r c (childKey κ k 1)
@@ -60,7 +63,8 @@ list-ascends p (suc k) r c κ =
     (list-ascends p k (r + 2 ^ k) c (childKey κ k 3))
     (list-ascends p k (r + 2 ^ k) (c + 2 ^ k) (childKey κ k 4)))))
 
-same-node : {x x′ : Record} {a b c d a′ b′ c′ d′ : List Record} → x ≡ x′ → a ≡ a′ → b ≡ b′ → c ≡ c′ → d ≡ d′ → x ∷ (a ++ (b ++ (c ++ d))) ≡ x′ ∷ (a′ ++ (b′ ++ (c′ ++ d′)))
+same-node : {x x′ : Record} {a b c d a′ b′ c′ d′ : List Record} → x ≡ x′ → a ≡ a′ → b ≡ b′ → c ≡ c′ → d ≡ d′
+    → x ∷ (a ++ (b ++ (c ++ d))) ≡ x′ ∷ (a′ ++ (b′ ++ (c′ ++ d′)))
 same-node e f g h i = cc
 
 -- pictures that agree on a block have the same list there

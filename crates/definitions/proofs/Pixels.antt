@@ -1,33 +1,33 @@
--- What the scans of a block's pixels say: a test at every pixel, pictures that agree on a block, one feature, features below s (document 01,
--- "The list" and refusal 3). Rests on Within.
-use Prim.Native.Nat.{ℕ, zero, suc, _+_, _^_, _<_}
-use mathlib.Core.Path.{_≡_, refl, sym, _∙_, ap, ap₂}
+-- What a scan of a block's pixels says: it passes exactly when every pixel does. Pictures that agree on a block are equal at all its pixels.
+-- Rests on Within.
+use Prim.Native.Nat.{ℕ, zero, suc, _+_, _^_}
+use mathlib.Core.Path.{_≡_, refl, sym, _∙_, ap₂}
 use mathlib.Core.Bool.{Bool, true, false, _&&_}
-use native.Mathlib.Omega.{arith}
-use lib.Dec.{ltb, eqb}
-use borrow.Author.Tests.{ltb-true, lt-ltb, eqb-true, eq-eqb, eqb-false}
 use Rattle.keys.proofs.Cases.{decide, and-left, and-right, and-both, same-test}
 use Rattle.keys.proofs.Under.{Under}
-use Rattle.definitions.specs.Picture.{Picture, allFour, everyPixel, oneFeature, featuresBelow}
-use Rattle.definitions.proofs.Within.{Within, Every, first-within, pixel-row, pixel-column, Somewhere, some-nw, some-ne, some-sw, some-se, every-nw, every-ne, every-sw, every-se, every-join, under-within}
+use Rattle.definitions.specs.Picture.{Picture, allFour, everyPixel}
+use Rattle.definitions.proofs.Within.{Every, first-within, pixel-row, pixel-column, every-nw, every-ne, every-sw, every-se, every-join, under-within}
+use Rattle.definitions.proofs.Within.{Somewhere, some-nw, some-ne, some-sw, some-se}
 
--- a scan of one pixel, and of four quadrants
+-- a scan of one pixel is the test there
 pub every-zero : (test : ℕ → ℕ → Bool) (r c : ℕ) → everyPixel test zero r c ≡ test r c
 unfolding everyPixel
 every-zero test r c = refl
 
+-- a scan of a larger block is that of its four quadrants
 pub every-suc : (test : ℕ → ℕ → Bool) (k r c : ℕ) → everyPixel test (suc k) r c
     ≡ allFour (everyPixel test k r c) (everyPixel test k r (c + 2 ^ k)) (everyPixel test k (r + 2 ^ k) c) (everyPixel test k (r + 2 ^ k) (c + 2 ^ k))
 unfolding everyPixel
 every-suc test k r c = refl
 
--- four tests hold together exactly when each holds
+-- four tests hold
 pub record Four (a b c d : Bool) : Type 0 where
   pub nw : a ≡ true
   pub ne : b ≡ true
   pub sw : c ≡ true
   pub se : d ≡ true
 
+-- four tests hold together exactly when each holds
 pub four-to : (a b c d : Bool) → allFour a b c d ≡ true → Four a b c d
 four-to a b c d e = record {
   nw = and-left a b (and-left (a && b) (c && d) e);
@@ -36,9 +36,11 @@ four-to a b c d e = record {
   se = and-right c d (and-right (a && b) (c && d) e);
 }
 
+-- the same from right to left
 pub four-from : (a b c d : Bool) → Four a b c d → allFour a b c d ≡ true
 four-from a b c d f = and-both (a && b) (c && d) (and-both a b (f .nw) (f .ne)) (and-both c d (f .sw) (f .se))
 
+-- where they do not hold together, one of them fails
 pub four-fails {ℓ} : {C : Type ℓ} (a b c d : Bool) → allFour a b c d ≡ false
     → (a ≡ false → C)
     → (b ≡ false → C)
@@ -86,7 +88,8 @@ every-fails test (suc k) r c e =
     (λ h. some-se (every-fails test k (r + 2 ^ k) (c + 2 ^ k) h))
 
 -- a scan depends only on the tests at the block's pixels
-pub every-same : (test test′ : ℕ → ℕ → Bool) (k r c : ℕ) → Every (λ r′ c′. test r′ c′ ≡ test′ r′ c′) k r c → everyPixel test k r c ≡ everyPixel test′ k r c
+pub every-same : (test test′ : ℕ → ℕ → Bool) (k r c : ℕ) → Every (λ r′ c′. test r′ c′ ≡ test′ r′ c′) k r c
+    → everyPixel test k r c ≡ everyPixel test′ k r c
 every-same test test′ k r c h =
     same-test _ _
     (λ e. every-from test′ k r c (λ r′ c′ w. sym (h r′ c′ w) ∙ every-to test k r c e r′ c′ w))
@@ -96,12 +99,15 @@ every-same test test′ k r c h =
 abbrev pub Agree : Picture → Picture → ℕ → ℕ → ℕ → Type 0
 Agree p q k r c = Every (λ r′ c′. p r′ c′ ≡ q r′ c′) k r c
 
+-- a picture agrees with itself
 pub agree-refl : (p : Picture) (k r c : ℕ) → Agree p p k r c
 agree-refl p k r c r′ c′ w = refl
 
+-- agreement may be read either way round
 pub agree-sym : {p q : Picture} {k r c : ℕ} → Agree p q k r c → Agree q p k r c
 agree-sym h r′ c′ w = sym (h r′ c′ w)
 
+-- pictures that agree with a third agree
 pub agree-trans : {p q s : Picture} {k r c : ℕ} → Agree p q k r c → Agree q s k r c → Agree p s k r c
 agree-trans h j r′ c′ w = h r′ c′ w ∙ j r′ c′ w
 

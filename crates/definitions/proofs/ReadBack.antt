@@ -1,8 +1,7 @@
 -- Reading a list gives its picture back: at a pixel's key the last record at or before it is that of the leaf around the pixel. So different
 -- pictures have different lists. Rests on ListOf, ValueAt and PixelBound.
-use Prim.Native.Nat.{ℕ, zero, suc, _+_, _-_, _*_, _^_, _≤_, _<_}
+use Prim.Native.Nat.{ℕ, zero, suc, _+_, _-_, _^_, _<_}
 use mathlib.Core.Path.{_≡_, refl, sym, _∙_, ap, ap₂}
-use mathlib.Core.Bool.{Bool, true, false}
 use mathlib.Core.List.{List, [], _∷_, _++_}
 use native.Mathlib.Nat.{pow-suc, zero-add}
 use native.Mathlib.Omega.{arith}
@@ -19,7 +18,7 @@ use Rattle.definitions.proofs.Features.{one-to}
 use Rattle.definitions.proofs.FeatureOf.{feature-of-power, power-inj}
 use Rattle.definitions.proofs.ListOf.{list-zero, list-one, list-node, list-ascends}
 use Rattle.definitions.proofs.ValueAt.{Reads, Silent, value-above, silent-append, reads-left, reads-right, reads-tail, reads-one}
-use Rattle.definitions.proofs.PixelBound.{pixel-zero, pixel-nw, pixel-ne, pixel-sw, pixel-se, pixel-bound}
+use Rattle.keys.proofs.Pixel.{pixel-nw, pixel-ne, pixel-sw, pixel-se, pixelKey-lt}
 
 reads-as : (x y : ℕ) {x′ y′ : ℕ} (l : List Record) → x ≡ x′ → y′ ≡ y → Reads x′ l y′ → Reads x l y
 reads-as x y l e f h v = ap (λ z. valueAt z v l) e ∙ h v ∙ f
@@ -46,7 +45,8 @@ silent-before : (p : Picture) (k r c κ x : ℕ) → x < κ → Silent x (listOf
 silent-before p k r c κ x h v = value-above x v h (list-ascends p k r c κ)
 
 -- at the key of a pixel of the block the list gives the pixel's feature
-pub read-block : (p : Picture) (k r c κ r′ c′ : ℕ) → r′ < 2 ^ k → c′ < 2 ^ k → Reads (κ + pixelKey k r′ c′) (listOf p k r c κ) (2 ^ p (r + r′) (c + c′))
+pub read-block : (p : Picture) (k r c κ r′ c′ : ℕ) → r′ < 2 ^ k → c′ < 2 ^ k
+    → Reads (κ + pixelKey k r′ c′) (listOf p k r c κ) (2 ^ p (r + r′) (c + c′))
 read-block p zero r c κ r′ c′ h j =
     rw (list-zero p r c κ)
     (reads-as (κ + pixelKey zero r′ c′) (2 ^ p (r + r′) (c + c′)) (recordOf κ (2 ^ p r c) ∷ []) refl
@@ -70,14 +70,14 @@ read-block p (suc k) r c κ r′ c′ h j =
     (split r′ (2 ^ k)
     (λ n. split c′ (2 ^ k)
     (λ w. let e = pixel-nw k r′ c′ n w in
-    let b = pixel-bound k r′ c′ in
+    let b = pixelKey-lt k r′ c′ in
     node-nw x y own list-nw list-ne list-sw list-se
     (reads-as x y list-nw (omega arith) refl (read-block p k r c (childKey κ k 1) r′ c′ n w))
     (silent-before p k r (c + 2 ^ k) (childKey κ k 2) x (omega arith))
     (silent-before p k (r + 2 ^ k) c (childKey κ k 3) x (omega arith))
     (silent-before p k (r + 2 ^ k) (c + 2 ^ k) (childKey κ k 4) x (omega arith)))
     (λ w. let e = pixel-ne k r′ c′ n w in
-    let b = pixel-bound k r′ (c′ - 2 ^ k) in
+    let b = pixelKey-lt k r′ (c′ - 2 ^ k) in
     let f : c + 2 ^ k + (c′ - 2 ^ k) ≡ c + c′ = omega arith in
     node-ne x y own list-nw list-ne list-sw list-se
     (reads-as x y list-ne (omega arith) (rw f) (read-block p k r (c + 2 ^ k) (childKey κ k 2) r′ (c′ - 2 ^ k) n (omega arith)))
@@ -85,7 +85,7 @@ read-block p (suc k) r c κ r′ c′ h j =
     (silent-before p k (r + 2 ^ k) (c + 2 ^ k) (childKey κ k 4) x (omega arith))))
     (λ s. split c′ (2 ^ k)
     (λ w. let e = pixel-sw k r′ c′ s w in
-    let b = pixel-bound k (r′ - 2 ^ k) c′ in
+    let b = pixelKey-lt k (r′ - 2 ^ k) c′ in
     let f : r + 2 ^ k + (r′ - 2 ^ k) ≡ r + r′ = omega arith in
     node-sw x y own list-nw list-ne list-sw list-se
     (reads-as x y list-sw (omega arith) (rw f) (read-block p k (r + 2 ^ k) c (childKey κ k 3) (r′ - 2 ^ k) c′ (omega arith) w))

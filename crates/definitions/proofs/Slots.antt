@@ -1,21 +1,22 @@
--- Slots of bitstrings: those of a union, of a power of two and of a number below one; numbers with the same slots are equal. Rests on nothing.
+-- Slots of bitstrings: those of a union and of a power of two; numbers with the same slots are equal. Rests on nothing.
 use Prim.Native.Nat.{ℕ, zero, suc, _+_, _*_, _/_, _%_, _^_, max, _≤_, _<_}
 use mathlib.Core.Path.{_≡_, refl, sym, _∙_, ap, ap₂}
-use mathlib.Core.Bool.{Bool, true, false, _||_, true≢false, false≢true}
-use native.Mathlib.Nat.{pow-suc, div-one, div-eq-of-lt, le-div-iff-mul-le, zero-div}
+use mathlib.Core.Bool.{Bool, true, false, _||_, false≢true}
+use native.Mathlib.Nat.{pow-suc, div-one, div-eq-of-lt, zero-div}
 use native.Mathlib.Omega.{arith}
 use lib.Arith.{bin-ind}
 use lib.Bits.{bitOr, or-step, or-shr, or-lt, or-self}
 use lib.Dec.{eqb, eqb·zero-suc, eqb·suc-zero, eqb·suc-suc}
-use lib.Pow.{pow-pos, pow-lt, pow-mono, shr-shr}
+use lib.Pow.{shr-shr}
 use borrow.Author.Tests.{eqb-true, eq-eqb, ne-eqb, eqb-false}
 use Rattle.keys.proofs.Cases.{decide, split, or-left, or-right}
 use Rattle.definitions.specs.Bits.{hasSlot, unionOfFour}
 
--- the first slot is the last binary digit, and the next ones are those of the half
+-- the first slot is the last binary digit
 pub slot-zero : (b : ℕ) → hasSlot b zero ≡ eqb (b % 2) 1
 slot-zero b = ap (λ x. eqb (x % 2) 1) (div-one b)
 
+-- the next slots are those of the half
 pub slot-suc : (b i : ℕ) → hasSlot b (suc i) ≡ hasSlot (b / 2) i
 slot-suc b i = ap (λ x. eqb (x % 2) 1) (ap (λ x. b / 2 ^ x) (omega arith) ∙ sym (shr-shr b 1 i))
 
@@ -58,7 +59,8 @@ same-first a b h = sym (slot-zero a) ∙ h zero ∙ slot-zero b
 
 -- a number without slots is zero
 pub no-slots : (b : ℕ) → ((i : ℕ) → hasSlot 0 i ≡ hasSlot b i) → 0 ≡ b
-no-slots = bin-ind (λ b. ((i : ℕ) → hasSlot 0 i ≡ hasSlot b i) → 0 ≡ b) (λ h. refl) (λ b below h. same-digit 0 b (same-first 0 b h) (below (same-rest 0 b h)))
+no-slots = bin-ind (λ b. ((i : ℕ) → hasSlot 0 i ≡ hasSlot b i) → 0 ≡ b) (λ h. refl)
+    (λ b below h. same-digit 0 b (same-first 0 b h) (below (same-rest 0 b h)))
 
 -- numbers with the same slots are equal
 pub bits-equal : (a b : ℕ) → ((i : ℕ) → hasSlot a i ≡ hasSlot b i) → a ≡ b
@@ -69,11 +71,11 @@ bits-equal = bin-ind (λ a. (b : ℕ) → ((i : ℕ) → hasSlot a i ≡ hasSlot
 pub slot-le : (b i : ℕ) → hasSlot b i ≡ true → 2 ^ i ≤ b
 slot-le b i e = split b (2 ^ i) (λ h. absurd (false≢true (sym (ap (λ x. eqb (x % 2) 1) (div-eq-of-lt h)) ∙ e))) (λ h. h)
 
--- the order of unions does not matter
 either-assoc : (a b c : Bool) → a || b || c ≡ a || (b || c)
 either-assoc true b c = refl
 either-assoc false b c = refl
 
+-- unions may be grouped either way
 pub or-assoc : (a b c : ℕ) → bitOr (bitOr a b) c ≡ bitOr a (bitOr b c)
 or-assoc a b c = bits-equal _ _
     (λ i. slot-union (bitOr a b) c i ∙ ap (λ x. x || hasSlot c i) (slot-union a b i)
@@ -85,12 +87,18 @@ pub slot-four : (a b c d i : ℕ) → hasSlot (unionOfFour a b c d) i ≡ hasSlo
 unfolding unionOfFour
 slot-four a b c d i = slot-union (bitOr a b) (bitOr c d) i ∙ ap₂ _||_ (slot-union a b i) (slot-union c d i)
 
-one-of-four {ℓ} : {C : Type ℓ} (a b c d : Bool) → a || b || (c || d) ≡ true → (a ≡ true → C) → (b ≡ true → C) → (c ≡ true → C) → (d ≡ true → C) → C
+one-of-four {ℓ} : {C : Type ℓ} (a b c d : Bool) → a || b || (c || d) ≡ true
+    → (a ≡ true → C)
+    → (b ≡ true → C)
+    → (c ≡ true → C)
+    → (d ≡ true → C)
+    → C
 one-of-four true b c d e in-a in-b in-c in-d = in-a refl
 one-of-four false true c d e in-a in-b in-c in-d = in-b refl
 one-of-four false false true d e in-a in-b in-c in-d = in-c refl
 one-of-four false false false d e in-a in-b in-c in-d = in-d e
 
+-- where a slot of the union of four comes from
 pub slot-cases {ℓ} : {C : Type ℓ} (a b c d i : ℕ) → hasSlot (unionOfFour a b c d) i ≡ true
     → (hasSlot a i ≡ true → C)
     → (hasSlot b i ≡ true → C)
@@ -99,6 +107,7 @@ pub slot-cases {ℓ} : {C : Type ℓ} (a b c d i : ℕ) → hasSlot (unionOfFour
     → C
 slot-cases a b c d i e = one-of-four (hasSlot a i) (hasSlot b i) (hasSlot c i) (hasSlot d i) (sym (slot-four a b c d i) ∙ e)
 
+-- a slot of the first, of the second, of the third, of the fourth is one of the union
 pub slot-nw : (a b c d i : ℕ) → hasSlot a i ≡ true → hasSlot (unionOfFour a b c d) i ≡ true
 slot-nw a b c d i h = slot-four a b c d i ∙ or-left (hasSlot a i || hasSlot b i) _ (or-left (hasSlot a i) _ h)
 
@@ -121,5 +130,6 @@ pub four-self : (a : ℕ) → unionOfFour a a a a ≡ a
 unfolding unionOfFour
 four-self a = ap₂ bitOr (or-self a) (or-self a) ∙ or-self a
 
+-- unions of equal parts are equal
 pub same-four : {a b c d a′ b′ c′ d′ : ℕ} → a ≡ a′ → b ≡ b′ → c ≡ c′ → d ≡ d′ → unionOfFour a b c d ≡ unionOfFour a′ b′ c′ d′
 same-four e f g h = cc

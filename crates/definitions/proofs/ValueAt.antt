@@ -1,6 +1,6 @@
 -- The value of the last record at or before a key: over two lists joined, where every key is above, and at a single record. Rests on Ascending.
-use Prim.Native.Nat.{ℕ, suc, _+_, _≤_, _<_}
-use mathlib.Core.Path.{_≡_, refl, sym, _∙_, ap}
+use Prim.Native.Nat.{ℕ, _≤_, _<_}
+use mathlib.Core.Path.{_≡_, refl, _∙_}
 use mathlib.Core.Bool.{cond}
 use mathlib.Core.List.{List, [], _∷_, _++_}
 use native.Mathlib.Omega.{arith}
@@ -10,15 +10,17 @@ use Rattle.definitions.specs.List.{Record, recordOf}
 use Rattle.definitions.specs.Read.{valueAt}
 use Rattle.definitions.proofs.Ascending.{Ascending, none, next}
 
--- a record at or before the key replaces what was found before it, and one after it does not
+-- a record at or before the key replaces what was found before it
 pub value-at : (x v : ℕ) (e : Record) (l : List Record) → e .key ≤ x → valueAt x v (e ∷ l) ≡ valueAt x (e .value) l
 unfolding valueAt
 value-at x v e l h = rw (le-leb (e .key) x h)
 
+-- a record after the key does not
 pub value-after : (x v : ℕ) (e : Record) (l : List Record) → x < e .key → valueAt x v (e ∷ l) ≡ valueAt x v l
 unfolding valueAt
 value-after x v e l h = rw (lt-leb (e .key) x h)
 
+-- no record
 pub value-none : (x v : ℕ) → valueAt x v [] ≡ v
 unfolding valueAt
 value-none x v = refl
@@ -42,16 +44,19 @@ Reads x l y = (v : ℕ) → valueAt x v l ≡ y
 abbrev pub Silent : ℕ → List Record → Type 0
 Silent x l = (v : ℕ) → valueAt x v l ≡ v
 
+-- two lists with nothing have nothing together
 pub silent-append : (x : ℕ) (l l′ : List Record) → Silent x l → Silent x l′ → Silent x (l ++ l′)
 silent-append x l l′ a b v = value-append x v l l′ ∙ b (valueAt x v l) ∙ a v
 
--- a list read before one that has nothing, or after any
+-- what a list gives it gives before one that has nothing
 pub reads-left : (x y : ℕ) (l l′ : List Record) → Reads x l y → Silent x l′ → Reads x (l ++ l′) y
 reads-left x y l l′ a b v = value-append x v l l′ ∙ b (valueAt x v l) ∙ a v
 
+-- what a list gives it gives after any other
 pub reads-right : (x y : ℕ) (l l′ : List Record) → Reads x l′ y → Reads x (l ++ l′) y
 reads-right x y l l′ a v = value-append x v l l′ ∙ a (valueAt x v l)
 
+-- and after any record
 pub reads-tail : (x y : ℕ) (e : Record) (l : List Record) → Reads x l y → Reads x (e ∷ l) y
 unfolding valueAt
 reads-tail x y e l a v = a (cond (leb (e .key) x) (e .value) v)

@@ -1,4 +1,4 @@
--- The pixels of a block: those whose row and column lie in its square. A pixel of a block lies in exactly one quadrant, and what holds at
+-- The pixels of a block: those whose row and column lie in its square. A pixel of a block lies in one of its quadrants, and what holds at
 -- every pixel of the four quadrants holds at every pixel of the block. Rests on nothing.
 use Prim.Native.Nat.{ℕ, zero, suc, _+_, _^_, _≤_, _<_}
 use mathlib.Core.Path.{_≡_}
@@ -23,14 +23,15 @@ Every P k r c = (r′ c′ : ℕ) → Within k r c r′ c′ → P r′ c′
 pub first-within : (k r c : ℕ) → Within k r c r c
 first-within k r c = let h = pow-pos k in omega arith
 
--- a block of height 0 has one pixel
+-- a block of height 0 has one pixel: its row is the block's
 pub pixel-row : {r c r′ c′ : ℕ} → Within zero r c r′ c′ → r′ ≡ r
 pixel-row w = omega arith
 
+-- and its column is the block's
 pub pixel-column : {r c r′ c′ : ℕ} → Within zero r c r′ c′ → c′ ≡ c
 pixel-column w = omega arith
 
--- a pixel at an offset below the side
+-- a pixel at offsets below the side is in the block
 pub at-offset : {k r c a b : ℕ} → a < 2 ^ k → b < 2 ^ k → Within k r c (r + a) (c + b)
 at-offset {k} {r} {c} {a} {b} h j = omega arith
 
