@@ -12,3 +12,17 @@ pub mod ValueAt
 pub mod ReadBack
 pub mod RasterOf
 pub mod IsList
+pub mod GivenPixels
+pub mod FourLists
+pub mod AscendingKeys
+pub mod SelectMeans
+pub mod SelectAscends
+pub mod SelectAgree
+pub mod WindowScan
+pub mod LastEntry
+pub mod SoundLog
+pub mod Waivers
+pub mod FileBytes
+pub mod FileOf
+pub mod FileBack
+pub mod First

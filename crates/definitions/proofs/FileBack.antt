@@ -1,0 +1,90 @@
+-- Writing what was read from a file gives its bytes back: one list has one file (document 01, "The file"). Rests on FileBytes.
+use Prim.Native.Nat.{ℕ, zero, suc, _+_, _*_, _^_, _≤_, _<_}
+use mathlib.Core.Path.{_≡_, refl, sym, ap, ap₂, _∙_}
+use mathlib.Core.Bool.{true, false}
+use mathlib.Core.List.{List, [], _∷_, _++_, append-assoc}
+use native.Mathlib.Nat.{pow-le-pow-right}
+use native.Mathlib.Omega.{arith}
+use lib.ListN.{length, take, drop, length-take, length-drop, take-append-drop}
+use lib.Seq.{length-take-le, drop-drop}
+use lib.Dec.{eqb, lit<}
+use borrow.Author.Tests.{ltb-false, eqb-true, not-false}
+use Rattle.keys.proofs.Cases.{and-left, and-right}
+use Rattle.definitions.specs.File.{bytesOf, numberAt, headOf, bytesOfRecords, fileOf, readRecords, recordsInFile, sameBytes, wrongMark, mark}
+use Rattle.definitions.specs.File.{mIn, sIn, nIn, versionIn, tooShort, wrongVersion, wrongLength}
+use Rattle.definitions.proofs.FileBytes.{Bytes, bytes-take, bytes-drop, bytes-of-number, number-below}
+
+-- bytes that the test finds the same are the same
+pub same-bytes : (xs ys : List ℕ) → sameBytes xs ys ≡ true → xs ≡ ys
+unfolding sameBytes
+same-bytes [] [] e = refl
+same-bytes [] (y ∷ ys) e = cc
+same-bytes (x ∷ xs) [] e = cc
+same-bytes (x ∷ xs) (y ∷ ys) e =
+    ap₂ (λ a b. a ∷ b) (eqb-true x y (and-left (eqb x y) (sameBytes xs ys) e)) (same-bytes xs ys (and-right (eqb x y) (sameBytes xs ys) e))
+
+-- the number read at a place, written again, is what stands there
+pub number-back : (place width : ℕ) {file : List ℕ} → Bytes file → place + width ≤ length file → bytesOf width (numberAt place width file) ≡ take width (drop place file)
+unfolding numberAt
+number-back place width {file} h room =
+    let e = length-drop place file in
+    let there : length (take width (drop place file)) ≡ width = length-take-le width (drop place file) (omega arith) in
+    rw there at (bytes-of-number (bytes-take width (bytes-drop place h)))
+
+-- the number written again, and then what comes after it, is all from its place on
+pub number-then : (place width next : ℕ) {file : List ℕ} → place + width ≡ next → Bytes file → next ≤ length file
+    → bytesOf width (numberAt place width file) ++ drop next file ≡ drop place file
+number-then place width next {file} e h room =
+    ap₂ (λ xs ys. xs ++ ys) (number-back place width h (omega arith)) (ap (λ n. drop n file) (sym e) ∙ sym (drop-drop width place file))
+    ∙ take-append-drop width (drop place file)
+
+-- a number read in so many bytes is below 256 to their number
+pub number-at-below : (place width : ℕ) {file : List ℕ} → Bytes file → numberAt place width file < 256 ^ width
+unfolding numberAt
+number-at-below place width {file} h =
+    let e = length-take width (drop place file) in
+    let most : 256 ^ length (take width (drop place file)) ≤ 256 ^ width = pow-le-pow-right (lit< tt) (omega arith) in
+    let below = number-below (bytes-take width (bytes-drop place h)) in
+    omega arith
+
+-- as many records are read as asked for
+pub length-read : (n : ℕ) (bs : List ℕ) → length (readRecords n bs) ≡ n
+unfolding readRecords
+length-read zero bs = refl
+length-read (suc n) bs = ap suc (length-read n (drop 6 bs))
+
+-- records read from bytes that hold just them, written again, are the bytes
+pub records-back : (n : ℕ) (bs : List ℕ) → Bytes bs → length bs ≡ 6 * n → bytesOfRecords (readRecords n bs) ≡ bs
+unfolding readRecords bytesOfRecords
+records-back zero [] h e = refl
+records-back zero (b ∷ bs) h e = absurd (omega arith)
+records-back (suc n) bs h e =
+    let d = length-drop 6 bs in
+    ap (λ rest. bytesOf 4 (numberAt 0 4 bs) ++ (bytesOf 2 (numberAt 4 2 bs) ++ rest)) (records-back n (drop 6 bs) (bytes-drop 6 h) (omega arith))
+    ∙ ap (λ rest. bytesOf 4 (numberAt 0 4 bs) ++ rest) (number-then 4 2 6 refl h (omega arith))
+    ∙ number-then 0 4 4 refl h (omega arith)
+
+five-parts : {A : Type 0} (a b c d e f : List A) → (a ++ (b ++ (c ++ (d ++ e)))) ++ f ≡ a ++ (b ++ (c ++ (d ++ (e ++ f))))
+five-parts a b c d e f = simp append-assoc
+
+-- of a file that load accepts as one: what is read from it, written again, is the file
+pub file-back : (file : List ℕ) → Bytes file → tooShort file ≡ false → wrongMark file ≡ false → wrongVersion file ≡ false → wrongLength file ≡ false
+    → fileOf (mIn file) (sIn file) (recordsInFile file) ≡ file
+unfolding fileOf headOf wrongMark recordsInFile
+file-back file h long marked versioned exact =
+    let room : 11 ≤ length file = ltb-false (length file) 11 long in
+    let all : length file ≡ 11 + 6 * nIn file = eqb-true _ _ (not-false _ exact) in
+    let after = length-drop 11 file in
+    let records : bytesOfRecords (readRecords (nIn file) (drop 11 file)) ≡ drop 11 file
+    = records-back (nIn file) (drop 11 file) (bytes-drop 11 h) (omega arith) in
+    let version-is : versionIn file ≡ 1 = eqb-true _ _ (not-false _ versioned) in
+    let mark-is : take 3 file ≡ mark = same-bytes (take 3 file) mark (not-false _ marked) in
+    five-parts mark (bytesOf 2 1) (bytesOf 1 (mIn file)) (bytesOf 1 (sIn file)) (bytesOf 4 (length (readRecords (nIn file) (drop 11 file))))
+    (bytesOfRecords (readRecords (nIn file) (drop 11 file)))
+    ∙ ap (λ rest. mark ++ (bytesOf 2 1 ++ (bytesOf 1 (mIn file) ++ (bytesOf 1 (sIn file) ++ rest))))
+    (ap₂ (λ n rest. bytesOf 4 n ++ rest) (length-read (nIn file) (drop 11 file)) records ∙ number-then 7 4 11 refl h room)
+    ∙ ap (λ rest. mark ++ (bytesOf 2 1 ++ (bytesOf 1 (mIn file) ++ rest))) (number-then 6 1 7 refl h (omega arith))
+    ∙ ap (λ rest. mark ++ (bytesOf 2 1 ++ rest)) (number-then 5 1 6 refl h (omega arith))
+    ∙ ap (λ rest. mark ++ rest) (ap (λ x. bytesOf 2 x ++ drop 5 file) (sym version-is) ∙ number-then 3 2 5 refl h (omega arith))
+    ∙ ap (λ begin. begin ++ drop 3 file) (sym mark-is)
+    ∙ take-append-drop 3 file
