@@ -1,4 +1,6 @@
-pub mod MapA
+mod Vectors
+mod MapA
+mod Orders
 pub mod Within
 pub mod Pixels
 pub mod Features

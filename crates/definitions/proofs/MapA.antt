@@ -1,14 +1,13 @@
 -- Map A of document 01, rows A1 to A12, and Figure 1 of document 000: what the definitions compute, held against what the documents say, as
 -- one table under one claim. Proved by computation.
-use Prim.Native.Nat.{ℕ, _+_, _*_}
-use mathlib.Core.Path.{_≡_, refl}
-use mathlib.Core.List.{List, [], _∷_, _++_, map}
-use lib.ListN.{replicate}
+use Prim.Native.Nat.{ℕ}
+use mathlib.Core.Path.{refl}
+use mathlib.Core.List.{List, [], _∷_, _++_}
 use Rattle.keys.specs.Key.{validKey, digitsOf, digitsThenZeros, onlyZeros, levelOf, digitsBeforeZero, heightOf}
 use Rattle.keys.specs.Block.{rowOf, columnOf, sideOf, inBlock, pixelKey}
 use Rattle.definitions.specs.Picture.{everyPixel, oneFeature, featuresBelow}
 use Rattle.definitions.specs.Bits.{bitsOf, unionOfFour, twosIn, featureOf}
-use Rattle.definitions.specs.List.{Record, listOfRaster, keysOf, valuesOf, listOf}
+use Rattle.definitions.specs.List.{listOfRaster, keysOf, valuesOf, listOf}
 use Rattle.definitions.specs.Read.{paired, valueAt, pictureOf, sameRecords, isListOfBlock, isList}
 use Rattle.definitions.specs.Refusal.{first, badSettings, badLength, badPixel}
 use Rattle.definitions.specs.Window.{isWindow, inWindow, featuresOfRow, featuresOfRows, featuresIn, occurs, unionOf, existIn, reportIn, isGiven, selectFrom, selectIn}
@@ -19,86 +18,7 @@ use Rattle.definitions.specs.Calls.Report.{reportRefusal, report}
 use Rattle.definitions.specs.Calls.Select.{selected, selectRefusal, select, selectAnswer}
 use Rattle.definitions.specs.Calls.Paint.{painted, gained, paintRefusal, paint, paintKeys, paintBits, paintLogKeys, paintLogValues}
 use Rattle.definitions.specs.Calls.TakeBack.{restored, takeBackRefusal, usedBefore, takeBack, takeBackKeys, takeBackBits, takeBackLogKeys, takeBackLogValues}
-use Rattle.definitions.specs.declared.Window.{Window}
-use Rattle.definitions.specs.declared.Exists.{Exists}
-use Rattle.definitions.specs.declared.Reported.{Reported}
-use Rattle.definitions.specs.declared.Counted.{Counted}
-use Rattle.definitions.specs.declared.Edited.{Edited}
-
--- A row: what the definitions compute, and what the document says, both as lists of numbers.
-record Row : Type 0 where
-  computed : List ℕ
-  said : List ℕ
-
-abbrev row : List ℕ → List ℕ → Row
-row computed said = record { computed = computed; said = said }
-
--- a key by its digits, and a bitstring by its slots with slot 0 leftmost
-abbrev keyAfter : ℕ → List ℕ → ℕ
-keyAfter x [] = x
-keyAfter x (d ∷ ds) = keyAfter (x * 5 + d) ds
-
-abbrev key : List ℕ → ℕ
-key digits = keyAfter 0 digits
-
-abbrev slots : List ℕ → ℕ
-slots [] = 0
-slots (b ∷ bs) = b + 2 * slots bs
-
-abbrev window : ℕ → ℕ → ℕ → ℕ → Window
-window row column height width = record { row = row; column = column; height = height; width = width }
-
--- a list as key, bitstring, key, bitstring ..
-abbrev shown : List Record → List ℕ
-shown [] = []
-shown (x ∷ l) = x .key ∷ x .value ∷ shown l
-
-abbrev of-exist : Exists → List ℕ
-of-exist r = r .refusal ∷ r .yes ∷ []
-
-abbrev of-report : Reported → List ℕ
-of-report r = r .refusal ∷ r .bits ∷ []
-
-abbrev of-counted : Counted → List ℕ
-of-counted r = r .refusal ∷ r .count ∷ []
-
-abbrev of-edited : Edited → List ℕ
-of-edited r = r .refusal ∷ r .n ∷ r .used ∷ []
-
--- m = 2, s = 3, rows 0011, 0012, 2200, 2200
-abbrev mapA : List ℕ
-mapA = 0 ∷ 0 ∷ 1 ∷ 1 ∷ 0 ∷ 0 ∷ 1 ∷ 2 ∷ 2 ∷ 2 ∷ 0 ∷ 0 ∷ 2 ∷ 2 ∷ 0 ∷ 0 ∷ []
-
--- its list as document 01 has it, in two slices with so many places to spare
-abbrev keysA : ℕ → List ℕ
-keysA spare =
-    key (0 ∷ 0 ∷ [])
-    ∷ key (1 ∷ 0 ∷ [])
-    ∷ key (2 ∷ 0 ∷ [])
-    ∷ key (2 ∷ 1 ∷ [])
-    ∷ key (2 ∷ 2 ∷ [])
-    ∷ key (2 ∷ 3 ∷ [])
-    ∷ key (2 ∷ 4 ∷ [])
-    ∷ key (3 ∷ 0 ∷ [])
-    ∷ key (4 ∷ 0 ∷ [])
-    ∷ replicate spare 99
-
-abbrev bitsA : ℕ → List ℕ
-bitsA spare =
-    slots (1 ∷ 1 ∷ 1 ∷ [])
-    ∷ slots (1 ∷ 0 ∷ 0 ∷ [])
-    ∷ slots (0 ∷ 1 ∷ 1 ∷ [])
-    ∷ slots (0 ∷ 1 ∷ 0 ∷ [])
-    ∷ slots (0 ∷ 1 ∷ 0 ∷ [])
-    ∷ slots (0 ∷ 1 ∷ 0 ∷ [])
-    ∷ slots (0 ∷ 0 ∷ 1 ∷ [])
-    ∷ slots (0 ∷ 0 ∷ 1 ∷ [])
-    ∷ slots (1 ∷ 0 ∷ 0 ∷ [])
-    ∷ replicate spare 99
-
--- an unwritten slice
-abbrev unwritten : ℕ → List ℕ
-unwritten places = replicate places 77
+use Rattle.definitions.proofs.Vectors.{Row, row, Holds, key, slots, window, shown, of-exist, of-report, of-counted, of-edited, mapA, keysA, bitsA, unwritten}
 
 -- m = 3: the leaves of section 2.2 of document 000 as a raster
 abbrev figure1 : List ℕ
@@ -208,8 +128,7 @@ table =
     ∷ row (shown (listOfRaster 3 figure1)) listOfFigure1
     ∷ []
 
--- every row's two sides are the same
-claim : map (λ r. r .computed) table ≡ map (λ r. r .said) table
+claim : Holds table
 unfolding
     table validKey digitsOf digitsThenZeros onlyZeros levelOf digitsBeforeZero heightOf rowOf columnOf sideOf inBlock pixelKey
     everyPixel oneFeature featuresBelow bitsOf unionOfFour twosIn featureOf listOf
