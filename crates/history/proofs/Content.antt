@@ -1,0 +1,96 @@
+-- What paint and take back make of a list that shows a picture: the list of the painted picture and the entry of the former one; and a logged
+-- content put back gives the former picture's list. Rests on Drawn and the laws of reading a list.
+use Prim.Native.Nat.{ℕ}
+use mathlib.Core.Path.{_≡_, ap, ap₂, _∙_}
+use mathlib.Core.Bool.{true}
+use mathlib.Core.List.{List, _++_}
+use native.Mathlib.Omega.{arith}
+use Rattle.keys.specs.Key.{rootKey, validKey, heightOf}
+use Rattle.keys.specs.Block.{rowOf, columnOf, inBlock}
+use Rattle.keys.proofs.Cases.{decide}
+use Rattle.keys.proofs.Under.{Block}
+use Rattle.keys.proofs.Valid.{valid-block}
+use Rattle.keys.proofs.Pixel.{pixel-in-block}
+use Rattle.keys.proofs.InBlock.{inBlock-iff}
+use Rattle.definitions.specs.Picture.{Picture, featuresBelow}
+use Rattle.definitions.specs.List.{Record, listOfPicture}
+use Rattle.definitions.specs.Read.{pictureOf}
+use Rattle.definitions.specs.Edit.{put, paintIn, contentOf}
+use Rattle.definitions.specs.Log.{closed, entryOf, isContent, beforeLast}
+use Rattle.definitions.specs.Calls.Paint.{painted, gained}
+use Rattle.definitions.specs.Calls.TakeBack.{restored}
+use Rattle.definitions.proofs.Pixels.{Agree, agree-under}
+use Rattle.definitions.proofs.Features.{below-under}
+use Rattle.definitions.proofs.ListOf.{list-agree}
+use Rattle.definitions.proofs.ReadBack.{KeysFrom, root-keys, block-back}
+use Rattle.definitions.proofs.IsList.{list-passes}
+use Rattle.definitions.proofs.LastEntry.{last-key, before-last, last-content}
+use Rattle.history.proofs.Drawn.{put-inside, put-outside, paint-outside, paint-agree}
+
+-- the picture that a picture's list shows agrees with it on the map
+pub map-back : (m : ℕ) (p : Picture) → Agree (pictureOf m (listOfPicture m p)) p m 0 0
+map-back m p = block-back m p m 0 0 rootKey (root-keys m)
+
+-- the pixels of a block have their keys from its key on
+block-keys : {m k r c κ : ℕ} → Block m k r c κ → KeysFrom m k r c κ
+block-keys b r′ c′ low narrow = pixel-in-block r′ c′ b low narrow
+
+-- pictures that agree on the map have the same content in a block
+pub content-agree : (m κ : ℕ) (p q : Picture) → validKey m κ ≡ true → Agree p q m 0 0 → contentOf m p κ ≡ contentOf m q κ
+unfolding contentOf
+content-agree m κ p q valid h = list-agree p q (heightOf m κ) (rowOf m κ) (columnOf m κ) κ (agree-under (valid-block m κ valid) h)
+
+-- and the same entry
+pub entry-agree : (m κ : ℕ) (p q : Picture) → validKey m κ ≡ true → Agree p q m 0 0 → entryOf m p κ ≡ entryOf m q κ
+unfolding entryOf
+entry-agree m κ p q valid h = ap (λ l. closed κ l) (content-agree m κ p q valid h)
+
+-- the content of a legal picture passes
+pub content-passes : (m s κ : ℕ) (p : Picture) → validKey m κ ≡ true → featuresBelow s p m 0 0 ≡ true → isContent m s κ (contentOf m p κ) ≡ true
+unfolding contentOf isContent
+content-passes m s κ p valid below =
+    let b = valid-block m κ valid in
+    list-passes m s p (heightOf m κ) (rowOf m κ) (columnOf m κ) κ (block-keys b) (below-under s p b below)
+
+-- the content of a block shows the picture there
+content-back : (m κ : ℕ) (p : Picture) → validKey m κ ≡ true → Agree (pictureOf m (contentOf m p κ)) p (heightOf m κ) (rowOf m κ) (columnOf m κ)
+unfolding contentOf
+content-back m κ p valid = block-back m p (heightOf m κ) (rowOf m κ) (columnOf m κ) κ (block-keys (valid-block m κ valid))
+
+-- the list after a paint is that of the painted picture
+pub painted-list : (m κ f : ℕ) (p : Picture) → painted m (listOfPicture m p) κ f ≡ listOfPicture m (paintIn m κ f p)
+unfolding painted
+painted-list m κ f p =
+    list-agree (paintIn m κ f (pictureOf m (listOfPicture m p))) (paintIn m κ f p) m 0 0 rootKey
+    (paint-agree m κ f (pictureOf m (listOfPicture m p)) p m 0 0 (map-back m p))
+
+-- the entry that the log gains is that of the former picture
+pub gained-entry : (m κ : ℕ) (p : Picture) → validKey m κ ≡ true → gained m (listOfPicture m p) κ ≡ entryOf m p κ
+unfolding gained
+gained-entry m κ p valid = entry-agree m κ (pictureOf m (listOfPicture m p)) p valid (map-back m p)
+
+-- the former content, put into its block after the paint, gives the former picture
+pub put-back : (m κ f : ℕ) (p : Picture) → validKey m κ ≡ true
+    → Agree (put m κ (pictureOf m (contentOf m p κ)) (pictureOf m (listOfPicture m (paintIn m κ f p)))) p m 0 0
+put-back m κ f p valid r c w =
+    let content : Picture = pictureOf m (contentOf m p κ) in
+    let map : Picture = pictureOf m (listOfPicture m (paintIn m κ f p)) in
+    decide (inBlock m κ r c)
+    (λ i.
+    let square = inBlock-iff r c (valid-block m κ valid) .0 i in
+    put-inside m κ content map r c i ∙ content-back m κ p valid r c (omega arith))
+    (λ o. put-outside m κ content map r c o ∙ map-back m (paintIn m κ f p) r c w ∙ paint-outside m κ f p r c o)
+
+-- so the list is the former one
+pub restored-list : (m κ f : ℕ) (p : Picture) (log : List Record) → validKey m κ ≡ true
+    → restored m (listOfPicture m (paintIn m κ f p)) (log ++ entryOf m p κ) ≡ listOfPicture m p
+unfolding restored entryOf
+restored-list m κ f p log valid =
+    let map : Picture = pictureOf m (listOfPicture m (paintIn m κ f p)) in
+    ap₂ (λ x l. listOfPicture m (put m x (pictureOf m l) map)) (last-key log κ (contentOf m p κ)) (last-content log κ (contentOf m p κ))
+    ∙ list-agree (put m κ (pictureOf m (contentOf m p κ)) map) p m 0 0 rootKey (put-back m κ f p valid)
+
+-- and the log is what stood before the entry
+pub without-entry : (m κ : ℕ) (p : Picture) (log : List Record) → beforeLast (log ++ entryOf m p κ) ≡ log
+unfolding entryOf
+without-entry m κ p log = before-last log κ (contentOf m p κ)

@@ -1,0 +1,66 @@
+-- Pictures under paints: the paints one after the other, what a paint does at a pixel, and that it keeps agreement and features below s.
+-- Rests on the laws of pictures.
+use Prim.Native.Nat.{ℕ, _<_}
+use mathlib.Core.Path.{_≡_, refl, ap, sym, _∙_}
+use mathlib.Core.Bool.{true, false, cond}
+use mathlib.Core.List.{List, [], _∷_, _++_}
+use Rattle.keys.specs.Block.{inBlock}
+use Rattle.keys.proofs.Cases.{decide}
+use Rattle.definitions.specs.Picture.{Picture, featuresBelow}
+use Rattle.definitions.specs.Edit.{put, paintIn}
+use Rattle.definitions.proofs.Pixels.{Agree}
+use Rattle.definitions.proofs.Features.{below-to, below-from}
+use Rattle.history.specs.History.{Paint, drawn}
+
+-- no paint leaves the picture
+pub drawn-none : (m : ℕ) (p : Picture) → drawn m p [] ≡ p
+unfolding drawn
+drawn-none m p = refl
+
+-- the latest paint comes last
+pub drawn-latest : (m : ℕ) (p : Picture) (x : Paint) (xs : List Paint) → drawn m p (x ∷ xs) ≡ paintIn m (x .key) (x .feature) (drawn m p xs)
+unfolding drawn
+drawn-latest m p x xs = refl
+
+-- later paints are applied to what the earlier ones made
+pub drawn-append : (m : ℕ) (p : Picture) (xs ys : List Paint) → drawn m p (xs ++ ys) ≡ drawn m (drawn m p ys) xs
+drawn-append m p [] ys = sym (drawn-none m (drawn m p ys))
+drawn-append m p (x ∷ xs) ys =
+    drawn-latest m p x (xs ++ ys)
+    ∙ ap (λ q. paintIn m (x .key) (x .feature) q) (drawn-append m p xs ys)
+    ∙ sym (drawn-latest m (drawn m p ys) x xs)
+
+-- inside the block it is what was put there
+pub put-inside : (m κ : ℕ) (q p : Picture) (r c : ℕ) → inBlock m κ r c ≡ true → put m κ q p r c ≡ q r c
+unfolding put
+put-inside m κ q p r c e = ap (λ test. cond test (q r c) (p r c)) e
+
+-- outside it is what was there
+pub put-outside : (m κ : ℕ) (q p : Picture) (r c : ℕ) → inBlock m κ r c ≡ false → put m κ q p r c ≡ p r c
+unfolding put
+put-outside m κ q p r c e = ap (λ test. cond test (q r c) (p r c)) e
+
+-- a painted pixel of the block has the feature
+pub paint-inside : (m κ f : ℕ) (p : Picture) (r c : ℕ) → inBlock m κ r c ≡ true → paintIn m κ f p r c ≡ f
+unfolding paintIn
+paint-inside m κ f p r c e = put-inside m κ (λ row column. f) p r c e
+
+-- every other pixel stays
+pub paint-outside : (m κ f : ℕ) (p : Picture) (r c : ℕ) → inBlock m κ r c ≡ false → paintIn m κ f p r c ≡ p r c
+unfolding paintIn
+paint-outside m κ f p r c e = put-outside m κ (λ row column. f) p r c e
+
+-- pictures that agree agree after the same paint
+pub paint-agree : (m κ f : ℕ) (p q : Picture) (k r c : ℕ) → Agree p q k r c → Agree (paintIn m κ f p) (paintIn m κ f q) k r c
+paint-agree m κ f p q k r c h a b w =
+    decide (inBlock m κ a b)
+    (λ e. paint-inside m κ f p a b e ∙ sym (paint-inside m κ f q a b e))
+    (λ e. paint-outside m κ f p a b e ∙ h a b w ∙ sym (paint-outside m κ f q a b e))
+
+-- a paint with a feature below s leaves features below s
+pub paint-below : (m s κ f : ℕ) (p : Picture) (k r c : ℕ) → f < s → featuresBelow s p k r c ≡ true → featuresBelow s (paintIn m κ f p) k r c ≡ true
+paint-below m s κ f p k r c h e =
+    below-from s (paintIn m κ f p) k r c
+    (λ a b w. decide (inBlock m κ a b)
+    (λ i. rw (paint-inside m κ f p a b i) h)
+    (λ o. rw (paint-outside m κ f p a b o) (below-to s p k r c e a b w)))

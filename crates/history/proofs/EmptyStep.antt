@@ -1,0 +1,29 @@
+-- An emptying in a history: the held paints become fixed, the picture stays, and the invariant is kept. Rests on Invariant.
+use Prim.Native.Nat.{ℕ}
+use mathlib.Core.Path.{_≡_, sym, subst}
+use mathlib.Core.List.{List, _++_}
+use Rattle.definitions.specs.Picture.{Picture}
+use Rattle.definitions.specs.Read.{room}
+use Rattle.history.specs.History.{Buffers, Kept, emptying, drawn, after, answer, keep}
+use Rattle.history.proofs.Drawn.{drawn-none, drawn-append}
+use Rattle.history.proofs.Past.{Legal, log-none, start, past-legal}
+use Rattle.history.proofs.Slices.{list-longest}
+use Rattle.history.proofs.LogSlices.{log-emptied}
+use Rattle.history.proofs.Invariant.{now, Invariant, Keeps}
+
+-- the picture that can no longer be taken back is then the picture now
+pub ground-emptied : (m : ℕ) (p : Picture) (k : Kept) → drawn m p (k .held ++ k .fixed) ≡ now m p k
+ground-emptied m p k = drawn-append m p (k .held) (k .fixed)
+
+-- emptying keeps the invariant
+pub empty-keeps : {m s : ℕ} {p : Picture} {keys bits logKeys logValues : List ℕ} {b : Buffers} {k : Kept} {inList inLog : ℕ}
+    → Invariant m s p keys bits logKeys logValues b k inList inLog
+    → Keeps m s p keys bits logKeys logValues b k inList inLog emptying
+unfolding after answer keep
+empty-keeps {m} {s} {p} {keys} {bits} {b = b} {k = k} {inList = inList} h = record {
+  settings = h .settings;
+  list =
+      rw (drawn-none m (drawn m p (k .held ++ k .fixed)), ground-emptied m p k, ← list-longest (h .list)) (h .list);
+  log = rw (log-none m (drawn m p (k .held ++ k .fixed))) (log-emptied (h .log));
+  past = start (subst (λ q. Legal m s (room keys bits) q) (sym (ground-emptied m p k)) (past-legal (h .past)));
+}

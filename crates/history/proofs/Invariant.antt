@@ -1,0 +1,81 @@
+-- What holds after each call of a history: the list is that of the first picture with the paints applied, the log is that of the held paints, and
+-- every picture of the past is legal. So the list and the log pass their checks, and a refused call keeps all this. Rests on Past and the slices.
+use Prim.Native.Nat.{ℕ, max}
+use mathlib.Core.Path.{_≡_, ap, _∙_}
+use mathlib.Core.Bool.{true, false, not}
+use mathlib.Core.List.{List}
+use lib.Dec.{leb}
+use borrow.Author.Tests.{le-leb}
+use Rattle.keys.specs.Key.{rootKey}
+use Rattle.keys.proofs.Cases.{and-both}
+use Rattle.definitions.specs.Picture.{Picture}
+use Rattle.definitions.specs.List.{listOfPicture}
+use Rattle.definitions.specs.Read.{room, recordsOf, isListOfBlock, isList}
+use Rattle.definitions.specs.Log.{isSound, noLog}
+use Rattle.definitions.specs.Refusal.{badSettings}
+use Rattle.definitions.proofs.ReadBack.{root-keys}
+use Rattle.definitions.proofs.IsList.{list-passes}
+use Rattle.history.specs.History.{Buffers, Kept, Call, drawn, logOf, after, answer, keep}
+use Rattle.history.proofs.Shown.{shown-records, shown-room}
+use Rattle.history.proofs.Slices.{HoldsList, list-shown, list-longest}
+use Rattle.history.proofs.LogSlices.{HoldsLog, log-longest}
+use Rattle.history.proofs.Past.{Past, past-legal, past-sound}
+
+-- the picture that can no longer be taken back
+abbrev pub ground : ℕ → Picture → Kept → Picture
+ground m p k = drawn m p (k .fixed)
+
+-- the picture now
+abbrev pub now : ℕ → Picture → Kept → Picture
+now m p k = drawn m (ground m p k) (k .held)
+
+-- build was lent keys and bits for the picture p, and the log logKeys and logValues; the buffers are b, the paints k, and the list and the log had
+-- at most so many records
+pub record Invariant (m s : ℕ) (p : Picture) (keys bits logKeys logValues : List ℕ) (b : Buffers) (k : Kept) (inList inLog : ℕ) : Type 0 where
+  pub settings : badSettings m s ≡ false
+  pub list : HoldsList (listOfPicture m (now m p k)) inList keys bits (b .keys) (b .bits) (b .n)
+  pub log : HoldsLog (logOf m (ground m p k) (k .held)) inLog logKeys logValues (b .logKeys) (b .logValues) (b .used)
+  pub past : Past m s (room keys bits) (ground m p k) (k .held)
+
+module _ {m s : ℕ} {p : Picture} {keys bits logKeys logValues : List ℕ} {b : Buffers} {k : Kept} {inList inLog : ℕ}
+    (h : Invariant m s p keys bits logKeys logValues b k inList inLog) where
+  -- the first n records are the list of the picture now
+  pub now-records : recordsOf (b .keys) (b .bits) (b .n) ≡ listOfPicture m (now m p k)
+  now-records = shown-records (list-shown (h .list))
+
+  -- the used records are the log of the held paints
+  pub now-log : recordsOf (b .logKeys) (b .logValues) (b .used) ≡ logOf m (ground m p k) (k .held)
+  now-log = shown-records (h .log .shown)
+
+  -- they are a list: refusal 4 does not come
+  pub now-is-list : isList m s (b .keys) (b .bits) (b .n) ≡ true
+  unfolding isList
+  now-is-list =
+      and-both (leb (b .n) (room (b .keys) (b .bits))) (isListOfBlock m s m 0 0 rootKey (recordsOf (b .keys) (b .bits) (b .n)))
+      (le-leb _ _ (shown-room (list-shown (h .list))))
+      (ap (λ l. isListOfBlock m s m 0 0 rootKey l) now-records
+      ∙ list-passes m s (now m p k) m 0 0 rootKey (root-keys m) (past-legal (h .past) .below))
+
+  -- they are a sound log: refusal 5 does not come
+  pub now-is-log : noLog m s (b .logKeys) (b .logValues) (b .used) ≡ false
+  unfolding noLog
+  now-is-log =
+      ap not
+      (and-both (leb (b .used) (room (b .logKeys) (b .logValues))) (isSound m s (recordsOf (b .logKeys) (b .logValues) (b .used)))
+      (le-leb _ _ (shown-room (h .log .shown)))
+      (ap (λ l. isSound m s l) now-log ∙ past-sound (h .past)))
+
+-- the call c keeps the invariant
+abbrev pub Keeps : ℕ → ℕ → Picture → List ℕ → List ℕ → List ℕ → List ℕ → Buffers → Kept → ℕ → ℕ → Call → Type 0
+Keeps m s p keys bits logKeys logValues b k inList inLog c =
+    Invariant m s p keys bits logKeys logValues (after m s b c) (keep c (answer m s b c) k)
+    (max inList (after m s b c .n)) (max inLog (after m s b c .used))
+
+-- a call that leaves buffers and paints as they are keeps it
+pub same-keeps : {m s : ℕ} {p : Picture} {keys bits logKeys logValues : List ℕ} {b : Buffers} {k : Kept} {inList inLog : ℕ} (c : Call)
+    → after m s b c ≡ b
+    → keep c (answer m s b c) k ≡ k
+    → Invariant m s p keys bits logKeys logValues b k inList inLog
+    → Keeps m s p keys bits logKeys logValues b k inList inLog c
+same-keeps {m} {s} {p} {keys} {bits} {logKeys} {logValues} {b} {k} {inList} {inLog} c e f h =
+    rw (e, f, ← list-longest (h .list), ← log-longest (h .log)) h

@@ -1,0 +1,16 @@
+pub mod Buffers
+pub mod Shown
+pub mod Drawn
+pub mod Content
+pub mod Past
+pub mod Slices
+pub mod LogSlices
+pub mod Invariant
+pub mod PaintStep
+pub mod PaintAnswer
+pub mod TakeBackStep
+pub mod EmptyStep
+pub mod BuildStep
+pub mod Theorem
+pub mod Cancels
+pub mod MapAHistory

@@ -1,0 +1,71 @@
+-- A history of Map A, by computation: its answers, the paints kept, the raster left and the buffers. Document 01's A9 and A10 are among its steps.
+use Prim.Native.Nat.{ℕ}
+use mathlib.Core.Path.{_≡_, refl}
+use mathlib.Core.List.{List, [], _∷_, _++_}
+use lib.ListN.{replicate}
+use Rattle.keys.specs.Key.{validKey, digitsOf, digitsThenZeros, onlyZeros, levelOf, digitsBeforeZero, heightOf}
+use Rattle.keys.specs.Block.{rowOf, columnOf, sideOf, inBlock, pixelKey}
+use Rattle.definitions.specs.Picture.{everyPixel, oneFeature, featuresBelow}
+use Rattle.definitions.specs.Bits.{bitsOf, unionOfFour, twosIn, featureOf}
+use Rattle.definitions.specs.List.{listOf}
+use Rattle.definitions.specs.Read.{paired, valueAt, pictureOf, sameRecords, isListOfBlock, isList}
+use Rattle.definitions.specs.Refusal.{first, badSettings, badLength, badPixel}
+use Rattle.definitions.specs.Window.{featuresOfRow, featuresOfRows}
+use Rattle.definitions.specs.Edit.{put, paintIn, contentOf}
+use Rattle.definitions.specs.Log.{closed, entryOf, lastRecord, lastKey, lastCount, beforeLast, lastContent, isContent, lastIsEntry, dividesIn, isSound, noLog}
+use Rattle.definitions.specs.Calls.Build.{buildRefusal, build, buildKeys, buildBits}
+use Rattle.definitions.specs.Calls.Paint.{painted, gained, paintRefusal, paint, paintKeys, paintBits, paintLogKeys, paintLogValues}
+use Rattle.definitions.specs.Calls.TakeBack.{restored, takeBackRefusal, usedBefore, takeBack, takeBackKeys, takeBackBits, takeBackLogKeys, takeBackLogValues}
+use Rattle.history.specs.History.{Call, painting, takingBack, emptying, Buffers, nothing, withoutLatest, built, answer, after, run, keep, kept, drawn, pictureLeft, rasterLeft}
+
+-- the answers of a run of calls
+unfoldable answers : ℕ → ℕ → Buffers → List Call → List ℕ
+answers m s b [] = []
+answers m s b (c ∷ cs) = answer m s b c ∷ answers m s (after m s b c) cs
+
+-- m = 2, s = 3, rows 0011, 0012, 2200, 2200
+abbrev mapA : List ℕ
+mapA = 0 ∷ 0 ∷ 1 ∷ 1 ∷ 0 ∷ 0 ∷ 1 ∷ 2 ∷ 2 ∷ 2 ∷ 0 ∷ 0 ∷ 2 ∷ 2 ∷ 0 ∷ 0 ∷ []
+
+-- built in 12 places of the list, with 7 of the log
+abbrev start : Buffers
+start = built 2 3 mapA (replicate 12 99) (replicate 12 98) (replicate 7 97) (replicate 7 96)
+
+-- each call with what comes of it
+abbrev calls : List Call
+calls =
+    painting 14 1  -- 24 with 1, A9: the list shrinks to 5, the log gains 2
+    ∷ painting 4 1  -- 8: not valid
+    ∷ takingBack  -- A10
+    ∷ takingBack  -- 11
+    ∷ painting 18 0  -- 33 with 0, A11: 13 records in room 12, 9
+    ∷ painting 10 2  -- 20 with 2, A12: the log gains 6
+    ∷ painting 14 1  -- 8 records in a log of room 7, 10
+    ∷ emptying
+    ∷ takingBack  -- 11
+    ∷ []
+
+-- what the history gives, the list being that of the raster, then zeroes up to 9 places, and then what was lent
+record Gives : Type 0 where
+  answered : answers 2 3 start calls ≡ 0 ∷ 8 ∷ 0 ∷ 11 ∷ 9 ∷ 0 ∷ 10 ∷ 0 ∷ 11 ∷ []
+  paints : kept 2 3 start nothing calls ≡ record { held = []; fixed = record { key = 10; feature = 2 } ∷ [] }
+  raster : rasterLeft 2 mapA (kept 2 3 start nothing calls) ≡ 0 ∷ 0 ∷ 2 ∷ 2 ∷ 0 ∷ 0 ∷ 2 ∷ 2 ∷ 2 ∷ 2 ∷ 0 ∷ 0 ∷ 2 ∷ 2 ∷ 0 ∷ 0 ∷ []
+  buffers : run 2 3 start calls
+      ≡ record {
+        keys = 0 ∷ 5 ∷ 10 ∷ 15 ∷ 20 ∷ (replicate 4 0 ++ replicate 3 99);
+        bits = 5 ∷ 1 ∷ 4 ∷ 4 ∷ 1 ∷ (replicate 4 0 ++ replicate 3 98);
+        n = 5;
+        logKeys = 10 ∷ 11 ∷ 12 ∷ 13 ∷ 14 ∷ 10 ∷ 97 ∷ [];
+        logValues = 6 ∷ 2 ∷ 2 ∷ 2 ∷ 4 ∷ 5 ∷ 96 ∷ [];
+        used = 0;
+      }
+
+gives : Gives
+unfolding answers answer after run kept keep withoutLatest built drawn pictureLeft rasterLeft
+    validKey digitsOf digitsThenZeros onlyZeros levelOf digitsBeforeZero heightOf rowOf columnOf sideOf inBlock pixelKey
+    everyPixel oneFeature featuresBelow bitsOf unionOfFour twosIn featureOf listOf
+    paired valueAt pictureOf sameRecords isListOfBlock isList first badSettings badLength badPixel featuresOfRow featuresOfRows put paintIn contentOf
+    closed entryOf lastRecord lastKey lastCount beforeLast lastContent isContent lastIsEntry dividesIn isSound noLog
+    buildRefusal build buildKeys buildBits painted gained paintRefusal paint paintKeys paintBits paintLogKeys paintLogValues
+    restored takeBackRefusal usedBefore takeBack takeBackKeys takeBackBits takeBackLogKeys takeBackLogValues
+gives = record { answered = refl; paints = refl; raster = refl; buffers = refl }

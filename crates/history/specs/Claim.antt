@@ -1,0 +1,76 @@
+-- What demand 3 claims of the buffers that a history leaves: they hold what a fresh build of the raster left gives, and taking back is refused
+-- exactly when no paint is held. Rests on History.
+use Prim.Native.Nat.{ℕ, _+_}
+use mathlib.Core.Path.{_≡_}
+use mathlib.Core.Bool.{true, false}
+use mathlib.Core.List.{List, [], _∷_}
+use lib.ListN.{length, drop}
+use lib.Dec.{ltb}
+use Rattle.definitions.specs.Picture.{Picture, pictureOfRaster}
+use Rattle.definitions.specs.List.{listOfPicture, listOfRaster, keysOf, valuesOf}
+use Rattle.definitions.specs.Read.{room, recordsOf, isList}
+use Rattle.definitions.specs.Buffer.{replaced}
+use Rattle.definitions.specs.Edit.{paintIn}
+use Rattle.definitions.specs.Log.{entryOf, noLog}
+use Rattle.definitions.specs.Refusal.{_gives_, first, badKey, badFeature}
+use Rattle.definitions.specs.Calls.Build.{build, buildRefusal, buildKeys, buildBits}
+use Rattle.history.specs.History.{Call, painting, takingBack, Buffers, Paint, Kept, answer, built, run, longestList, longestLog, kept, nothing, drawn, logOf, pictureLeft, rasterLeft}
+
+-- 11 where no paint is held, and else 0
+unfoldable pub backAnswer : List Paint → ℕ
+backAnswer [] = 11
+backAnswer (x ∷ xs) = 0
+
+-- a paint is refused by its own key and feature, by the log's room for the entry, or by the list's room for the list of the painted picture, in
+-- this order; roomOfList and roomOfLog are places, used is the log's count
+unfoldable pub paintAnswer : ℕ → ℕ → Picture → ℕ → ℕ → ℕ → ℕ → ℕ → ℕ
+paintAnswer m s p roomOfList roomOfLog used κ f =
+    first
+    (badKey m κ gives 8
+    ∷ badFeature s f gives 7
+    ∷ ltb roomOfLog (used + length (entryOf m p κ)) gives 10
+    ∷ ltb roomOfList (length (listOfPicture m (paintIn m κ f p))) gives 9
+    ∷ [])
+
+-- build was lent keys and bits, and the log logKeys and logValues; the history left b, keeps the paints k, and had at most so many records in the
+-- list and in the log
+pub record AsBuilt (m s : ℕ) (raster keys bits logKeys logValues : List ℕ) (b : Buffers) (k : Kept) (inList inLog : ℕ) : Type 0 where
+  -- the first n records are the list of the picture left
+  pub picture : recordsOf (b .keys) (b .bits) (b .n) ≡ listOfPicture m (pictureLeft m raster k)
+  -- and of the raster left
+  pub list : recordsOf (b .keys) (b .bits) (b .n) ≡ listOfRaster m (rasterLeft m raster k)
+  -- a fresh build of that raster into the same slices is accepted
+  pub fresh : buildRefusal m s (rasterLeft m raster k) keys bits ≡ 0
+  -- it gives the same count
+  pub fresh-count : b .n ≡ build m s (rasterLeft m raster k) keys bits .count
+  -- and the same records
+  pub fresh-records : recordsOf (b .keys) (b .bits) (b .n)
+      ≡ recordsOf (buildKeys m s (rasterLeft m raster k) keys bits)
+      (buildBits m s (rasterLeft m raster k) keys bits)
+      (build m s (rasterLeft m raster k) keys bits .count)
+  -- the whole slices: past the list zeroes as far as a list of the history ever went, and then what was lent to build
+  pub all-keys : b .keys ≡ replaced inList (keysOf (listOfRaster m (rasterLeft m raster k))) keys
+  pub all-bits : b .bits ≡ replaced inList (valuesOf (listOfRaster m (rasterLeft m raster k))) bits
+  -- refusals 4 and 5 do not come
+  pub is-list : isList m s (b .keys) (b .bits) (b .n) ≡ true
+  pub is-log : noLog m s (b .logKeys) (b .logValues) (b .used) ≡ false
+  -- the log has the entries of the held paints, each of the picture that the paint found, and no others
+  pub log : recordsOf (b .logKeys) (b .logValues) (b .used) ≡ logOf m (drawn m (pictureOfRaster m raster) (k .fixed)) (k .held)
+  -- taking back is refused, with 11, exactly when no paint is held
+  pub back : answer m s b takingBack ≡ backAnswer (k .held)
+  -- paint is refused only by key, feature or room
+  pub paints : (κ f : ℕ) → answer m s b (painting κ f) ≡ paintAnswer m s (pictureLeft m raster k) (room keys bits) (room logKeys logValues) (b .used) κ f
+  -- the slices keep their lengths
+  pub keys-length : length (b .keys) ≡ length keys
+  pub bits-length : length (b .bits) ≡ length bits
+  pub logKeys-length : length (b .logKeys) ≡ length logKeys
+  pub logValues-length : length (b .logValues) ≡ length logValues
+  -- the log's places stay that no log of the history reached
+  pub past-logKeys : drop inLog (b .logKeys) ≡ drop inLog logKeys
+  pub past-logValues : drop inLog (b .logValues) ≡ drop inLog logValues
+
+-- demand 3
+abbrev pub History : ℕ → ℕ → List ℕ → List ℕ → List ℕ → List ℕ → List ℕ → List Call → Type 0
+History m s raster keys bits logKeys logValues calls =
+    let start = built m s raster keys bits logKeys logValues in
+    AsBuilt m s raster keys bits logKeys logValues (run m s start calls) (kept m s start nothing calls) (longestList m s start calls) (longestLog m s start calls)

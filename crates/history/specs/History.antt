@@ -1,0 +1,135 @@
+-- Histories: any run of paints, takings back and log emptyings on the lent buffers, refused calls included, by the definitions that the promises
+-- of build, paint, take back and empty cite. Beside it, without a look at the buffers: the paints still in the log, and the raster that is left.
+use Prim.Native.Nat.{ℕ, _^_, max}
+use mathlib.Core.List.{List, [], _∷_, _++_}
+use Rattle.definitions.specs.Picture.{Picture, pictureOfRaster}
+use Rattle.definitions.specs.Window.{featuresOfRows}
+use Rattle.definitions.specs.List.{Record}
+use Rattle.definitions.specs.Edit.{paintIn}
+use Rattle.definitions.specs.Log.{entryOf}
+use Rattle.definitions.specs.Refusal.{accepted}
+use Rattle.definitions.specs.Calls.Build.{build, buildKeys, buildBits}
+use Rattle.definitions.specs.Calls.Paint.{paint, paintKeys, paintBits, paintLogKeys, paintLogValues}
+use Rattle.definitions.specs.Calls.TakeBack.{takeBack, takeBackKeys, takeBackBits, takeBackLogKeys, takeBackLogValues}
+use Rattle.definitions.specs.Calls.Empty.{emptied}
+
+-- a call of a history; key and feature are any numbers
+pub data Call : Type 0 where
+  painting : (κ f : ℕ) → Call
+  takingBack : Call
+  emptying : Call
+
+-- the lent buffers and the caller's two counts
+pub record Buffers : Type 0 where
+  pub keys : List ℕ
+  pub bits : List ℕ
+  pub n : ℕ
+  pub logKeys : List ℕ
+  pub logValues : List ℕ
+  pub used : ℕ
+
+-- after build, with an empty log in any two slices
+unfoldable pub built : ℕ → ℕ → List ℕ → List ℕ → List ℕ → List ℕ → List ℕ → Buffers
+built m s raster keys bits logKeys logValues =
+    record {
+      keys = buildKeys m s raster keys bits;
+      bits = buildBits m s raster keys bits;
+      n = build m s raster keys bits .count;
+      logKeys = logKeys;
+      logValues = logValues;
+      used = emptied;
+    }
+
+-- the refusal number that a call gives; 0 where it is accepted
+unfoldable pub answer : ℕ → ℕ → Buffers → Call → ℕ
+answer m s b (painting κ f) = paint m s (b .keys) (b .bits) (b .n) (b .logKeys) (b .logValues) (b .used) κ f .refusal
+answer m s b takingBack = takeBack m s (b .keys) (b .bits) (b .n) (b .logKeys) (b .logValues) (b .used) .refusal
+answer m s b emptying = 0
+
+-- the buffers after a call: the caller takes the counts of an accepted call's result, and keeps his own where it is refused
+unfoldable pub after : ℕ → ℕ → Buffers → Call → Buffers
+after m s b (painting κ f) =
+    let result = paint m s (b .keys) (b .bits) (b .n) (b .logKeys) (b .logValues) (b .used) κ f in
+    record {
+      keys = paintKeys m s (b .keys) (b .bits) (b .n) (b .logKeys) (b .logValues) (b .used) κ f;
+      bits = paintBits m s (b .keys) (b .bits) (b .n) (b .logKeys) (b .logValues) (b .used) κ f;
+      n = accepted (result .refusal) (result .n) (b .n);
+      logKeys = paintLogKeys m s (b .keys) (b .bits) (b .n) (b .logKeys) (b .logValues) (b .used) κ f;
+      logValues = paintLogValues m s (b .keys) (b .bits) (b .n) (b .logKeys) (b .logValues) (b .used) κ f;
+      used = accepted (result .refusal) (result .used) (b .used);
+    }
+after m s b takingBack =
+    let result = takeBack m s (b .keys) (b .bits) (b .n) (b .logKeys) (b .logValues) (b .used) in
+    record {
+      keys = takeBackKeys m s (b .keys) (b .bits) (b .n) (b .logKeys) (b .logValues) (b .used);
+      bits = takeBackBits m s (b .keys) (b .bits) (b .n) (b .logKeys) (b .logValues) (b .used);
+      n = accepted (result .refusal) (result .n) (b .n);
+      logKeys = takeBackLogKeys m s (b .keys) (b .bits) (b .n) (b .logKeys) (b .logValues) (b .used);
+      logValues = takeBackLogValues m s (b .keys) (b .bits) (b .n) (b .logKeys) (b .logValues) (b .used);
+      used = accepted (result .refusal) (result .used) (b .used);
+    }
+after m s b emptying =
+    record { keys = b .keys; bits = b .bits; n = b .n; logKeys = b .logKeys; logValues = b .logValues; used = emptied }
+
+-- the buffers after a run of calls, the first call first
+unfoldable pub run : ℕ → ℕ → Buffers → List Call → Buffers
+run m s b [] = b
+run m s b (c ∷ cs) = run m s (after m s b c) cs
+
+-- the largest number of records that the list has in a run
+unfoldable pub longestList : ℕ → ℕ → Buffers → List Call → ℕ
+longestList m s b [] = b .n
+longestList m s b (c ∷ cs) = max (b .n) (longestList m s (after m s b c) cs)
+
+-- the largest number of records that the log has in a run
+unfoldable pub longestLog : ℕ → ℕ → Buffers → List Call → ℕ
+longestLog m s b [] = b .used
+longestLog m s b (c ∷ cs) = max (b .used) (longestLog m s (after m s b c) cs)
+
+-- a paint of a block
+pub record Paint : Type 0 where
+  pub key : ℕ
+  pub feature : ℕ
+
+-- the paints that can still be taken back, and those that no longer can; the latest first in both
+pub record Kept : Type 0 where
+  pub held : List Paint
+  pub fixed : List Paint
+
+abbrev pub nothing : Kept
+nothing = record { held = []; fixed = [] }
+
+unfoldable pub withoutLatest : List Paint → List Paint
+withoutLatest [] = []
+withoutLatest (x ∷ xs) = xs
+
+-- what a call with this answer makes of the paints: an accepted paint is held, an accepted taking back cancels the latest paint held, emptying
+-- makes all of them fixed, and a refused call changes nothing
+unfoldable pub keep : Call → ℕ → Kept → Kept
+keep (painting κ f) refusal k =
+    accepted refusal (record { held = record { key = κ; feature = f } ∷ k .held; fixed = k .fixed }) k
+keep takingBack refusal k = accepted refusal (record { held = withoutLatest (k .held); fixed = k .fixed }) k
+keep emptying refusal k = record { held = []; fixed = k .held ++ k .fixed }
+
+-- the paints after a run of calls
+unfoldable pub kept : ℕ → ℕ → Buffers → Kept → List Call → Kept
+kept m s b k [] = k
+kept m s b k (c ∷ cs) = kept m s (after m s b c) (keep c (answer m s b c) k) cs
+
+-- paints, the latest first, applied to a picture one after the other
+unfoldable pub drawn : ℕ → Picture → List Paint → Picture
+drawn m p [] = p
+drawn m p (x ∷ xs) = paintIn m (x .key) (x .feature) (drawn m p xs)
+
+-- the log of the paints, the latest first, on a picture: each has the entry of its block in the picture that it found
+unfoldable pub logOf : ℕ → Picture → List Paint → List Record
+logOf m p [] = []
+logOf m p (x ∷ xs) = logOf m p xs ++ entryOf m (drawn m p xs) (x .key)
+
+-- the first raster with the paints applied that were not taken back
+unfoldable pub pictureLeft : ℕ → List ℕ → Kept → Picture
+pictureLeft m raster k = drawn m (pictureOfRaster m raster) (k .held ++ k .fixed)
+
+-- the same as a raster, row after row
+unfoldable pub rasterLeft : ℕ → List ℕ → Kept → List ℕ
+rasterLeft m raster k = featuresOfRows (pictureLeft m raster k) 0 0 (2 ^ m) (2 ^ m)
