@@ -1,2 +1,3 @@
 // The list of a raster: settings and list checked, the list built, the raster given back, and where a block stands in the list.
+pub mod check;
 pub mod settings;

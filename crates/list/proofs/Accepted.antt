@@ -1,0 +1,181 @@
+-- What an accepted list gives a caller: it is the list of the picture that it shows, its records are there, its keys ascend in the map's interval,
+-- and its bits are below 2 ^ s. And the list of a picture is accepted. Rests on Places.
+use Prim.Native.Nat.{ℕ, zero, suc, _+_, _*_, _^_, _≤_, _<_}
+use mathlib.Core.Path.{_≡_, refl, sym, _∙_, ap, subst}
+use mathlib.Core.Bool.{true}
+use mathlib.Core.List.{List, [], _∷_, List·Memᴰ, List·Memᴰ·head, List·Memᴰ·tail}
+use native.Mathlib.Nat.{zero-add}
+use native.Mathlib.Omega.{arith}
+use lib.Dec.{leb}
+use lib.ListN.{length, getD, take}
+use lib.Seq.{length-take-le, getD-take}
+use borrow.Author.Tests.{leb-true, le-leb}
+use Rattle.keys.specs.Key.{rootKey, heightOf}
+use Rattle.keys.specs.Block.{rowOf, columnOf}
+use Rattle.keys.proofs.Cases.{and-left, and-right, and-both}
+use Rattle.definitions.specs.Picture.{Picture, featuresBelow}
+use Rattle.definitions.specs.List.{Record, keysOf, valuesOf, listOf, listOfPicture}
+use Rattle.definitions.specs.Read.{room, recordsOf, pictureOf, sameRecords, isListOfBlock, isList}
+use Rattle.definitions.specs.Log.{isContent}
+use Rattle.definitions.proofs.Features.{below-under}
+use Rattle.definitions.proofs.BitsOf.{bits-below}
+use Rattle.definitions.proofs.Ascending.{Ascending, none, next, ascending-bounds}
+use Rattle.definitions.proofs.ListOf.{list-first, list-ascends, list-some, list-most}
+use Rattle.definitions.proofs.Listed.{listed-under, listed-to}
+use Rattle.definitions.proofs.ReadBack.{root-keys}
+use Rattle.definitions.proofs.IsList.{same-to, list-passes}
+use Rattle.list.proofs.Places.{paired-length, paired-keys, paired-values}
+
+-- the first n records of slices that have them
+module _ (K B : List ℕ) (n : ℕ) (in-keys : n ≤ length K) (in-bits : n ≤ length B) where
+  sizes : length (take n K) ≡ length (take n B)
+  sizes = length-take-le n K in-keys ∙ sym (length-take-le n B in-bits)
+
+  pub records-length : length (recordsOf K B n) ≡ n
+  records-length = paired-length (take n K) (take n B) sizes ∙ length-take-le n K in-keys
+
+  pub records-keys : keysOf (recordsOf K B n) ≡ take n K
+  records-keys = paired-keys (take n K) (take n B) sizes
+
+  pub records-values : valuesOf (recordsOf K B n) ≡ take n B
+  records-values = paired-values (take n K) (take n B) sizes
+
+  -- the key and the value at a place
+  pub key-at : (i : ℕ) → i < n → getD (keysOf (recordsOf K B n)) i 0 ≡ getD K i 0
+  key-at i h = ap (λ l. getD l i 0) records-keys ∙ getD-take n K i 0 h
+
+  pub value-at : (i : ℕ) → i < n → getD (valuesOf (recordsOf K B n)) i 0 ≡ getD B i 0
+  value-at i h = ap (λ l. getD l i 0) records-values ∙ getD-take n B i 0 h
+
+-- the records l are the list of the block of height k at row r and column c with key κ, as they show it
+pub record BlockList (m s k r c κ : ℕ) (l : List Record) : Type 0 where
+  pub is : l ≡ listOf (pictureOf m l) k r c κ
+  pub below : featuresBelow s (pictureOf m l) k r c ≡ true
+  pub some : 1 ≤ length l
+  pub few : 3 * length l < 4 ^ suc k
+  pub ascends : Ascending κ (κ + 5 ^ k) l
+
+pub block-list : (m s k r c κ : ℕ) (l : List Record) → isListOfBlock m s k r c κ l ≡ true → BlockList m s k r c κ l
+unfolding isListOfBlock
+block-list m s k r c κ l e =
+    let p = pictureOf m l in
+    let is : l ≡ listOf p k r c κ = same-to l (listOf p k r c κ) (and-left (sameRecords l (listOf p k r c κ)) (featuresBelow s p k r c) e) in
+    record {
+      is = is;
+      below = and-right (sameRecords l (listOf p k r c κ)) (featuresBelow s p k r c) e;
+      some = let h = list-some p k r c κ in let z = ap length is in omega arith;
+      few = let h = list-most p k r c κ in let z = ap length is in omega arith;
+      ascends = subst (Ascending κ (κ + 5 ^ k)) (sym is) (list-ascends p k r c κ);
+    }
+
+-- the content of a log's entry
+pub content-list : (m s κ : ℕ) (l : List Record) → isContent m s κ l ≡ true → BlockList m s (heightOf m κ) (rowOf m κ) (columnOf m κ) κ l
+unfolding isContent
+content-list m s κ l e = block-list m s (heightOf m κ) (rowOf m κ) (columnOf m κ) κ l e
+
+-- keys that ascend lie between the bounds, and are smaller at a smaller place
+pub key-from : {lo hi : ℕ} {l : List Record} (i : ℕ) → Ascending lo hi l → i < length l → lo ≤ getD (keysOf l) i 0
+key-from i (none h) v = absurd (omega arith)
+key-from zero (next h a) v = h
+key-from (suc i) (next {e = e} h a) v = let z = key-from i a (omega arith) in omega arith
+
+pub key-below : {lo hi : ℕ} {l : List Record} (i : ℕ) → Ascending lo hi l → i < length l → getD (keysOf l) i 0 < hi
+key-below i (none h) v = absurd (omega arith)
+key-below zero (next {e = e} h a) v = let z = ascending-bounds a in omega arith
+key-below (suc i) (next h a) v = key-below i a (omega arith)
+
+pub keys-ascend : {lo hi : ℕ} {l : List Record} (i j : ℕ) → Ascending lo hi l → i < j → j < length l → getD (keysOf l) i 0 < getD (keysOf l) j 0
+keys-ascend i j (none h) u v = absurd (omega arith)
+keys-ascend zero zero (next h a) u v = absurd (omega arith)
+keys-ascend zero (suc j) (next h a) u v = key-from j a (omega arith)
+keys-ascend (suc i) zero (next h a) u v = absurd (omega arith)
+keys-ascend (suc i) (suc j) (next h a) u v = keys-ascend i j a (omega arith) (omega arith)
+
+-- what holds of every record's value holds at each place
+value-where : (P : ℕ → Type 0) (l : List Record) (i : ℕ) → ((x : Record) → List·Memᴰ x l → P (x .value)) → i < length l → P (getD (valuesOf l) i 0)
+value-where P [] i h v = absurd (omega arith)
+value-where P (x ∷ l) zero h v = h x (List·Memᴰ·head refl)
+value-where P (x ∷ l) (suc i) h v = value-where P l i (λ y m. h y (List·Memᴰ·tail m)) (omega arith)
+
+-- the bits of a list's records are below 2 ^ s
+pub value-small : (s : ℕ) (p : Picture) (k r c κ i : ℕ) → featuresBelow s p k r c ≡ true → i < length (listOf p k r c κ)
+    → getD (valuesOf (listOf p k r c κ)) i 0 < 2 ^ s
+value-small s p k r c κ i below h = value-where (λ v. v < 2 ^ s) (listOf p k r c κ) i
+    (λ x m.
+    let of = listed-to p k r c κ x m in
+    let small = bits-below s p (of .height) (of .row) (of .column) (below-under s p (listed-under (of .listed)) below) in
+    let is = ap (λ y. y .value) (of .is) in
+    omega arith)
+    h
+
+-- the first n records are a list at m and s
+pub record Accepted (m s : ℕ) (K B : List ℕ) (n : ℕ) : Type 0 where
+  pub in-keys : n ≤ length K
+  pub in-bits : n ≤ length B
+  pub some : 1 ≤ n
+  pub few : 3 * n < 4 ^ suc m
+  pub is : recordsOf K B n ≡ listOfPicture m (pictureOf m (recordsOf K B n))
+  pub below : featuresBelow s (pictureOf m (recordsOf K B n)) m 0 0 ≡ true
+  pub ascends : Ascending 0 (5 ^ m) (recordsOf K B n)
+
+pub accepted : (m s : ℕ) (K B : List ℕ) (n : ℕ) → isList m s K B n ≡ true → Accepted m s K B n
+unfolding isList
+accepted m s K B n e =
+    let l = recordsOf K B n in
+    let fits = leb-true n (room K B) (and-left (leb n (room K B)) (isListOfBlock m s m 0 0 rootKey l) e) in
+    let b = block-list m s m 0 0 rootKey l (and-right (leb n (room K B)) (isListOfBlock m s m 0 0 rootKey l) e) in
+    let size = records-length K B n (omega arith) (omega arith) in
+    record {
+      in-keys = omega arith;
+      in-bits = omega arith;
+      some = let h = b .some in omega arith;
+      few = let h = b .few in omega arith;
+      is = b .is;
+      below = b .below;
+      ascends = rw (zero-add (5 ^ m)) at (b .ascends);
+    }
+
+-- the list of a picture with features below s is accepted
+pub list-accepted : (m s : ℕ) (p : Picture) (K B : List ℕ) (n : ℕ) → n ≤ length K → n ≤ length B → featuresBelow s p m 0 0 ≡ true
+    → recordsOf K B n ≡ listOfPicture m p
+    → isList m s K B n ≡ true
+unfolding isList
+list-accepted m s p K B n in-keys in-bits below is =
+    and-both (leb n (room K B)) (isListOfBlock m s m 0 0 rootKey (recordsOf K B n)) (le-leb n (room K B) (omega arith))
+    (ap (isListOfBlock m s m 0 0 rootKey) is ∙ list-passes m s p m 0 0 rootKey (root-keys m) below)
+
+-- of an accepted list, place by place
+module _ {m s : ℕ} {K B : List ℕ} {n : ℕ} (a : Accepted m s K B n) where
+  -- a smaller place has a smaller key
+  pub accepted-ascend : (i j : ℕ) → i < j → j < n → getD K i 0 < getD K j 0
+  accepted-ascend i j u v =
+      let size = records-length K B n (a .in-keys) (a .in-bits) in
+      let at-i = key-at K B n (a .in-keys) (a .in-bits) i (omega arith) in
+      let at-j = key-at K B n (a .in-keys) (a .in-bits) j v in
+      let h = keys-ascend i j (a .ascends) u (omega arith) in
+      omega arith
+
+  -- the keys are numbers of m digits
+  pub accepted-keys : (i : ℕ) → i < n → getD K i 0 < 5 ^ m
+  accepted-keys i v =
+      let size = records-length K B n (a .in-keys) (a .in-bits) in
+      let at-i = key-at K B n (a .in-keys) (a .in-bits) i v in
+      let h = key-below i (a .ascends) (omega arith) in
+      omega arith
+
+  -- the bits have slots below s
+  pub accepted-bits : (i : ℕ) → i < n → getD B i 0 < 2 ^ s
+  accepted-bits i v =
+      let p = pictureOf m (recordsOf K B n) in
+      let size = records-length K B n (a .in-keys) (a .in-bits) in
+      let same = ap length (a .is) in
+      let value : getD (valuesOf (listOfPicture m p)) i 0 ≡ getD B i 0 =
+      ap (λ l. getD (valuesOf l) i 0) (sym (a .is)) ∙ value-at K B n (a .in-keys) (a .in-bits) i v in
+      let h = value-small s p m 0 0 rootKey i (a .below) (omega arith) in
+      omega arith
+
+  -- the first record is the root's
+  pub accepted-first : getD K 0 0 ≡ rootKey
+  accepted-first =
+      let first = list-first (pictureOf m (recordsOf K B n)) m 0 0 rootKey in
+      sym (key-at K B n (a .in-keys) (a .in-bits) 0 (omega (arith, a .some))) ∙ ap (λ l. getD (keysOf l) 0 0) (a .is ∙ first .1)

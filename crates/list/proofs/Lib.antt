@@ -1,0 +1,10 @@
+pub mod OneSlot
+pub mod Joined
+pub mod Children
+pub mod Sound
+pub mod Complete
+pub mod Places
+pub mod Accepts
+pub mod Turn
+pub mod Content
+pub mod Accepted

@@ -1,0 +1,189 @@
+-- The loop of the check over a node's children, in plain numbers and lists: what has been passed before each turn, how a turn begins, goes wrong,
+-- goes on, and what the end answers. Rests on Children and Places.
+use Prim.Native.Nat.{ℕ, zero, suc, _+_, _-_, _*_, _/_, _^_, _≤_, _<_}
+use mathlib.Core.Path.{_≡_, refl, sym, _∙_, ap}
+use mathlib.Core.Bool.{true, false, cond}
+use mathlib.Core.List.{List, _∷_}
+use native.Mathlib.Nat.{mul-le-mul-right, mul-div-cancel, pow-suc}
+use native.Mathlib.Omega.{arith}
+use lib.Dec.{eqb, lit<}
+use lib.Bits.{bitOr}
+use lib.ListN.{length, getD, drop}
+use borrow.Author.Tests.{eq-eqb, ne-eqb}
+use Rattle.keys.proofs.Powers.{five-pos}
+use Rattle.definitions.specs.List.{Record, recordOf}
+use Rattle.definitions.specs.Read.{paired}
+use Rattle.list.specs.Check.{oneSlot, Outcome, wrong, left, placeOf, afterOwn, afterChildren, afterNode, stepUnder}
+use Rattle.list.proofs.Children.{own-leaf, own-node, node-zero, node-suc, children-none, children-from, children-short, children-other, children-wrong}
+use Rattle.list.proofs.Places.{paired-length, record-at, records-end, place-of, told}
+
+-- the step under a block tells whether it has children, and then their power of five
+pub step-none : (k step : ℕ) → step ≡ stepUnder k → step ≡ 0 → k ≡ 0
+unfolding stepUnder
+step-none zero step e z = refl
+step-none (suc k) step e z = absurd (let p = five-pos k in omega arith)
+
+pub step-some {ℓ} : (C : ℕ → Type ℓ) (k step : ℕ) → step ≡ stepUnder k → (step ≡ 0 → ⊥) → ((j : ℕ) → step ≡ 5 ^ j → C (suc j)) → C k
+unfolding stepUnder
+step-some C zero step e pos f = absurd (pos e)
+step-some C (suc k) step e pos f = f k e
+
+-- it is a fifth of the block's own power of five
+pub step-fifth : (k : ℕ) → 5 ^ k / 5 ≡ stepUnder k
+unfolding stepUnder
+step-fifth zero = refl
+step-fifth (suc k) = ap (λ x. x / 5) (pow-suc 5 k) ∙ mul-div-cancel (5 ^ k) (lit< tt)
+
+pub step-down : (j step : ℕ) → step ≡ 5 ^ j → step / 5 ≡ stepUnder j
+step-down j step e = ap (λ x. x / 5) e ∙ step-fifth j
+
+-- what the function answers
+abbrev pub Answer : List ℕ → List ℕ → ℕ → ℕ → ℕ → ℕ → ℕ → Type 0
+Answer K B first key own step r = (k : ℕ) → step ≡ stepUnder k → r ≡ placeOf (length K) (afterNode k key own (drop first (paired K B)))
+
+-- before the turn of a digit: the children before it have passed, and the others decide
+pub record Passed (K B : List ℕ) (first key own step next union digit : ℕ) : Type 0 where
+  pub size : length K ≡ length B
+  pub positive : step ≡ 0 → ⊥
+  pub fits : key + 5 * step < 2 ^ 32
+  pub from : 1 ≤ digit
+  pub until : digit ≤ 5
+  pub within : next ≤ length K
+  pub same : (j : ℕ) → step ≡ 5 ^ j
+      → afterNode (suc j) key own (drop first (paired K B)) ≡ afterChildren (afterNode j) key step own (5 - digit) union (drop next (paired K B))
+
+pub pixel : (K B : List ℕ) (first key own step : ℕ) → step ≡ 0 → Answer K B first key own step 0
+unfolding placeOf
+pixel K B first key own step z k e = sym (ap (λ j. placeOf (length K) (afterNode j key own (drop first (paired K B)))) (step-none k step e z) ∙ ap (placeOf (length K)) (node-zero key own (drop first (paired K B))))
+
+pub begins : (K B : List ℕ) (first key own step : ℕ) → (length K ≡ length B) × (first ≤ length K) × (key + 5 * step < 2 ^ 32) → (step ≡ 0 → ⊥)
+    → Passed K B first key own step first 0 1
+begins K B first key own step pre positive = record {
+  size = pre .0;
+  positive = positive;
+  fits = pre .2;
+  from = omega arith;
+  until = omega arith;
+  within = pre .1;
+  same = λ j e. node-suc j key own (drop first (paired K B)) ∙ ap (λ x. afterChildren (afterNode j) key x own 4 0 (drop first (paired K B))) (sym e);
+}
+
+module _ {K B : List ℕ} {first key own step next union digit : ℕ} (p : Passed K B first key own step next union digit) where
+  -- the answer is that of the children which are left
+  pub answer : (r : ℕ)
+      → ((j : ℕ) → step ≡ 5 ^ j → r ≡ placeOf (length K) (afterChildren (afterNode j) key step own (5 - digit) union (drop next (paired K B))))
+      → Answer K B first key own step r
+  answer r h k e =
+      step-some (λ x. r ≡ placeOf (length K) (afterNode x key own (drop first (paired K B)))) k step e (p .positive)
+      (λ j f. h j f ∙ ap (placeOf (length K)) (sym (p .same j f)))
+
+  -- at the end: the union must be the block's own bits
+  module _ (end : 5 ≤ digit) where
+    none-left : (j : ℕ) → afterChildren (afterNode j) key step own (5 - digit) union (drop next (paired K B)) ≡ cond (eqb union own) (left (drop next (paired K B))) wrong
+    none-left j =
+        let z : 5 - digit ≡ 0 = omega arith in
+        ap (λ x. afterChildren (afterNode j) key step own x union (drop next (paired K B))) z ∙ children-none (afterNode j) key step own union (drop next (paired K B))
+
+    pub ends : union ≡ own → Answer K B first key own step next
+    ends e = answer next
+        (λ j f. sym (ap (placeOf (length K)) (none-left j ∙ ap (λ b. cond b (left (drop next (paired K B))) wrong) (eq-eqb union own e))
+        ∙ place-of (paired K B) next (length K) (sym (paired-length K B (p .size))) (p .within)))
+
+    pub differs : (union ≡ own → ⊥) → Answer K B first key own step 0
+    unfolding placeOf
+    differs e = answer 0 (λ j f. sym (ap (placeOf (length K)) (none-left j ∙ ap (λ b. cond b (left (drop next (paired K B))) wrong) (ne-eqb union own e))))
+
+  module _ (turn : digit < 5) where
+    -- a child's key fits, with the interval of keys below it
+    pub child-fits : key + digit * step + step < 2 ^ 32
+    child-fits = let h : digit * step ≤ 4 * step = mul-le-mul-right step (omega arith) in omega (arith, p .fits)
+
+    -- the others are one less
+    rest : (j : ℕ) (l : List Record) → afterChildren (afterNode j) key step own (5 - digit) union l ≡ afterChildren (afterNode j) key step own (suc (4 - digit)) union l
+    rest j l = ap (λ x. afterChildren (afterNode j) key step own x union l) (omega arith)
+
+    -- the answer is 0 where the model says that the records are wrong
+    fails : ((j : ℕ) → step ≡ 5 ^ j → afterChildren (afterNode j) key step own (suc (4 - digit)) union (drop next (paired K B)) ≡ wrong)
+        → Answer K B first key own step 0
+    unfolding placeOf
+    fails h = answer 0 (λ j f. sym (ap (placeOf (length K)) (rest j (drop next (paired K B)) ∙ h j f)))
+
+    -- no record is left
+    pub short : length K ≤ next → Answer K B first key own step 0
+    short h = fails
+        (λ j f. ap (afterChildren (afterNode j) key step own (suc (4 - digit)) union) (records-end K B next (p .size) h)
+        ∙ children-short (afterNode j) key step own (4 - digit) union)
+
+    module _ (there : next < length K) where
+      -- the records from the next one on
+      here : (j : ℕ) (o : Outcome)
+          → afterChildren (afterNode j) key step own (suc (4 - digit)) union (recordOf (getD K next 0) (getD B next 0) ∷ drop (next + 1) (paired K B)) ≡ o
+          → afterChildren (afterNode j) key step own (suc (4 - digit)) union (drop next (paired K B)) ≡ o
+      here j o e = ap (afterChildren (afterNode j) key step own (suc (4 - digit)) union) (record-at K B next (p .size) there) ∙ e
+
+      digit-is : 5 - suc (4 - digit) ≡ digit
+      digit-is = let h = p .from in omega arith
+
+      -- it has another key than the child
+      pub other-key : (getD K next 0 ≡ key + digit * step → ⊥) → Answer K B first key own step 0
+      other-key h = fails
+          (λ j f. here j wrong
+          (children-other (afterNode j) key step own (4 - digit) union (getD B next 0) (drop (next + 1) (paired K B)) (getD K next 0)
+          (λ e. h (e ∙ ap (λ d. key + d * step) digit-is))))
+
+      module _ (child : getD K next 0 ≡ key + digit * step) where
+        child-is : key + digit * step ≡ key + (5 - suc (4 - digit)) * step
+        child-is = ap (λ d. key + d * step) (sym digit-is)
+
+        -- its block is wrong
+        pub wrong-child : oneSlot (getD B next 0) ≡ false
+            → (after : ℕ)
+            → after ≡ 0
+            → Answer K B (next + 1) (key + digit * step) (getD B next 0) (step / 5) after
+            → Answer K B first key own step 0
+        wrong-child node after none h = fails
+            (λ j f.
+            let own-is = own-node (afterNode j) (key + digit * step) (getD B next 0) (drop (next + 1) (paired K B)) node in
+            let t = told j (key + digit * step) (getD B next 0) (paired K B) (next + 1) (length K) (sym (paired-length K B (p .size))) (omega arith) (omega arith) in
+            here j wrong
+            (ap (λ x. afterChildren (afterNode j) key step own (suc (4 - digit)) union (recordOf x (getD B next 0) ∷ drop (next + 1) (paired K B))) child
+            ∙ children-wrong (afterNode j) key step own (4 - digit) union (getD B next 0) (drop (next + 1) (paired K B)) (key + digit * step) child-is
+            (t .refused (ap (placeOf (length K)) own-is ∙ sym (h j (step-down j step f)) ∙ none))))
+
+        -- its block ends before the place `after`, and the next digit's turn comes
+        pub goes : (after : ℕ) → after ≤ length K
+            → ((j : ℕ) → step ≡ 5 ^ j → afterOwn (afterNode j) (key + digit * step) (getD B next 0) (drop (next + 1) (paired K B)) ≡ left (drop after (paired K B)))
+            → Passed K B first key own step after (bitOr union (getD B next 0)) (digit + 1)
+        goes after within h = record {
+          size = p .size;
+          positive = p .positive;
+          fits = p .fits;
+          from = omega arith;
+          until = omega arith;
+          within = within;
+          same = λ j f.
+              p .same j f ∙ rest j (drop next (paired K B))
+              ∙ here j _
+              (ap (λ x. afterChildren (afterNode j) key step own (suc (4 - digit)) union (recordOf x (getD B next 0) ∷ drop (next + 1) (paired K B))) child
+              ∙ children-from (afterNode j) key step own (4 - digit) union (getD B next 0) (drop (next + 1) (paired K B)) (drop after (paired K B)) (key + digit * step) child-is (h j f))
+              ∙ ap (λ x. afterChildren (afterNode j) key step own x (bitOr union (getD B next 0)) (drop after (paired K B))) (omega arith);
+        }
+
+        -- a leaf ends at once
+        pub goes-leaf : oneSlot (getD B next 0) ≡ true → Passed K B first key own step (next + 1) (bitOr union (getD B next 0)) (digit + 1)
+        goes-leaf leaf = goes (next + 1) (omega arith) (λ j f. own-leaf (afterNode j) (key + digit * step) (getD B next 0) (drop (next + 1) (paired K B)) leaf)
+
+        -- a node ends where its children end
+        pub goes-node : oneSlot (getD B next 0) ≡ false
+            → (after : ℕ)
+            → (after ≡ 0 → ⊥)
+            → after ≤ length K
+            → Answer K B (next + 1) (key + digit * step) (getD B next 0) (step / 5) after
+            → Passed K B first key own step after (bitOr union (getD B next 0)) (digit + 1)
+        goes-node node after good within h =
+            goes after within
+            (λ j f.
+            let own-is = own-node (afterNode j) (key + digit * step) (getD B next 0) (drop (next + 1) (paired K B)) node in
+            let t = told j (key + digit * step) (getD B next 0) (paired K B) (next + 1) (length K) (sym (paired-length K B (p .size))) (omega arith) (omega arith) in
+            let place = h j (step-down j step f) ∙ ap (placeOf (length K)) (sym own-is) in
+            t .passed (λ z. good (place ∙ z)) ∙ ap (λ x. left (drop x (paired K B))) (sym place))

@@ -1,0 +1,149 @@
+-- `check::after_node` meets its contract: before each turn the children passed so far are those that the model has passed. It ends because a
+-- call for a child has a fifth of the step.
+use Prim.Native.Nat.{ℕ, _-_, _<_}
+use mathlib.Core.Path.{sym, _∙_}
+use mathlib.Core.Logic.{⊎-elim}
+use native.Mathlib.Omega.{arith}
+use borrow.Author.Tests.{not-true, not-false}
+use borrow.Fn.Kinds.{In}
+use borrow.Fn.PlainCycle.{Measures, is, falls, and}
+use Rattle.list.proofs.Turn.{Passed, pixel, begins, child-fits, ends, differs, short, other-key, wrong-child, goes-leaf, goes-node}
+use Rattle.list.proofs.check.after_node.Reads as own
+use Rattle.list.proofs.check.after_node.Kinds as kinds
+use Rattle.list.proofs.check.+after_node.Lts-after_node as lts
+use Rattle.list.proofs.check.has_one_slot.Reads as has-one-slot
+use Rattle.list.proofs.check.+after_node.{statement}
+use Rattle.list.proofs.check.+after_node.Tie.{close}
+
+abbrev μ : Measures 2 kinds.ps ℕ
+μ κs a = a .1 .1 .1 .1 .1 .0
+
+abbrev given : ℕ → In 2 kinds.ps
+given t = and 2 kinds.ps (is 2 kinds.ps μ t) own.Pre
+
+abbrev below : ℕ → In 2 kinds.ps
+below t = and 2 kinds.ps (falls 2 kinds.ps _<_ μ t) own.Pre
+
+abbrev claims : ℕ → lts.Claims
+claims t = (has-one-slot.Asked, has-one-slot.Learnt, below t, own.Post)
+
+abbrev Inv-loop : lts.InvT-loop
+Inv-loop keys bits first key own step next₀ union₀ digit₀ next union digit = Passed keys bits first key own step next union digit
+
+abbrev μ-loop : lts.MeasureT-loop
+μ-loop keys bits first key own step next₀ union₀ digit₀ next union digit = 5 - digit
+
+returns : (t : ℕ) → lts.Need-returns (claims t) (given t) own.Post Inv-loop μ-loop
+returns t c =
+    let a = c .before .before .before .args in
+    (omega arith, pixel (a .keys .now) (a .bits .now) (a .first) (a .key) (a .own) (a .step) (c .if1 .taken))
+
+loop-holds : (t : ℕ) → lts.Need-loop-holds (claims t) (given t) own.Post Inv-loop μ-loop
+loop-holds t c = begins _ _ _ _ _ _ (c .before .before .before .pre .1) (c .if1 .left)
+
+returns-2 : (t : ℕ) → lts.Need-returns-2 (claims t) (given t) own.Post Inv-loop μ-loop
+returns-2 t c = (omega arith, short (c .before .before .loop .inv) (c .before .loop-test .taken) (omega (arith, c .if2 .taken)))
+
+mul-child : (t : ℕ) → lts.Need-mul-child (claims t) (given t) own.Post Inv-loop μ-loop
+mul-child t c = let h = child-fits (c .before .before .loop .inv) (c .before .loop-test .taken) in omega arith
+
+add-child : (t : ℕ) → lts.Need-add-child (claims t) (given t) own.Post Inv-loop μ-loop
+add-child t c = let h = child-fits (c .before .before .loop .inv) (c .before .loop-test .taken) in omega arith
+
+mul-if3 : (t : ℕ) → lts.Need-mul-if3 (claims t) (given t) own.Post Inv-loop μ-loop
+mul-if3 t c = omega arith
+
+shared-slice-read-if3 : (t : ℕ) → lts.Need-shared-slice-read-if3 (claims t) (given t) own.Post Inv-loop μ-loop
+shared-slice-read-if3 t c = omega arith
+
+returns-3 : (t : ℕ) → lts.Need-returns-3 (claims t) (given t) own.Post Inv-loop μ-loop
+returns-3 t c =
+    let e = c .before .before in
+    (omega arith, other-key (e .before .before .loop .inv) (e .before .loop-test .taken) (e .if2 .left) (c .if3 .taken))
+
+mul-found : (t : ℕ) → lts.Need-mul-found (claims t) (given t) own.Post Inv-loop μ-loop
+mul-found t c = omega arith
+
+shared-slice-read-found : (t : ℕ) → lts.Need-shared-slice-read-found (claims t) (given t) own.Post Inv-loop μ-loop
+shared-slice-read-found t c = omega arith
+
+add-next : (t : ℕ) → lts.Need-add-next (claims t) (given t) own.Post Inv-loop μ-loop
+add-next t c = omega arith
+
+has-one-slot-requires : (t : ℕ) → lts.Need-has-one-slot-requires (claims t) (given t) own.Post Inv-loop μ-loop
+has-one-slot-requires t c κs = tt
+
+after-node-requires : (t : ℕ) → lts.Need-after-node-requires (claims t) (given t) own.Post Inv-loop μ-loop
+after-node-requires t c κs =
+    let e = c .before .before .before .before .before in
+    let i = e .before .before .loop .inv in
+    let h = child-fits i (e .before .loop-test .taken) in
+    let s = e .before .before .before .before .before .before .pre .0 in
+    let z = i .positive in
+    (omega arith, (i .size, omega (arith, e .if2 .left), omega arith))
+
+returns-4 : (t : ℕ) → lts.Need-returns-4 (claims t) (given t) own.Post Inv-loop μ-loop
+returns-4 t c =
+    let f = c .before .before .before .before .before in
+    let e = f .before .before in (
+      omega arith,
+      wrong-child (e .before .before .loop .inv) (e .before .loop-test .taken) (e .if2 .left) (f .if3 .left)
+          (sym (c .before .before .before .has-one-slot .ensures) ∙ not-true _ (c .before .before .if4 .taken))
+          (c .before .after-node .result)
+          (c .if5 .taken)
+          (c .before .after-node .ensures .1),
+    )
+
+add-digit : (t : ℕ) → lts.Need-add-digit (claims t) (given t) own.Post Inv-loop μ-loop
+add-digit t c = omega (arith, c .before .before .before .before .before .before .loop-test .taken)
+
+loop-less : (t : ℕ) → lts.Need-loop-less (claims t) (given t) own.Post Inv-loop μ-loop
+loop-less t c = omega (arith, c .before .before .before .before .before .before .loop-test .taken)
+
+loop-again : (t : ℕ) → lts.Need-loop-again (claims t) (given t) own.Post Inv-loop μ-loop
+loop-again t c =
+    let f = c .before .before .before in
+    let e = f .before .before in
+    let i = e .before .before .loop .inv in
+    ⊎-elim
+    (λ w. rw (w .3)
+    (goes-node i (e .before .loop-test .taken) (e .if2 .left) (f .if3 .left)
+    (sym (c .before .has-one-slot .ensures) ∙ not-true _ (w .0 .taken))
+    (w .1 .result)
+    (w .2 .left)
+    (w .1 .ensures .0)
+    (w .1 .ensures .1)))
+    (λ w. rw (w .1)
+    (goes-leaf i (e .before .loop-test .taken) (e .if2 .left) (f .if3 .left) (sym (c .before .has-one-slot .ensures) ∙ not-false _ (w .0 .left))))
+    (c .if4 .came)
+
+returns-5 : (t : ℕ) → lts.Need-returns-5 (claims t) (given t) own.Post Inv-loop μ-loop
+returns-5 t c =
+    let l = c .before .before .loop in
+    (l .inv .within, ends (l .inv) (c .before .loop-test .left) (c .if6 .taken))
+
+returns-6 : (t : ℕ) → lts.Need-returns-6 (claims t) (given t) own.Post Inv-loop μ-loop
+returns-6 t c = (omega arith, differs (c .before .before .loop .inv) (c .before .loop-test .left) (c .if6 .left))
+
+pub +after-node-spec : {M : Type 1} → statement M
++after-node-spec = close μ λ t.
+    lts.spec (claims t) (given t) own.Post Inv-loop μ-loop
+    (returns t)
+    (loop-holds t)
+    (returns-2 t)
+    (mul-child t)
+    (add-child t)
+    (mul-if3 t)
+    (shared-slice-read-if3 t)
+    (returns-3 t)
+    (mul-found t)
+    (shared-slice-read-found t)
+    (add-next t)
+    (has-one-slot-requires t)
+    (after-node-requires t)
+    (returns-4 t)
+    (add-digit t)
+    (loop-less t)
+    (loop-again t)
+    (returns-5 t)
+    (returns-6 t)

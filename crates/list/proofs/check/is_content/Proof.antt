@@ -1,0 +1,138 @@
+-- `check::is_content` meets its contract: each way out answers what the definition does there.
+use Prim.Native.Nat.{ℕ, _+_, _*_, _/_, _^_, _≤_, _<_}
+use mathlib.Core.Path.{_≡_, sym, _∙_, ap}
+use mathlib.Core.Bool.{true}
+use native.Mathlib.Omega.{arith}
+use borrow.Author.Needs.{needs}
+use Rattle.keys.specs.Key.{validKey, heightOf}
+use Rattle.keys.proofs.Powers.{five-le, height-le}
+use Rattle.keys.proofs.Valid.{valid-below}
+use Rattle.list.specs.Check.{stepUnder}
+use Rattle.list.proofs.Turn.{step-fifth}
+use Rattle.list.proofs.Content.{Stand, keys-length, bits-length, short-keys, short-bits, no-records, other-key, large-bits, one-record, many-records}
+use Rattle.list.proofs.check.is_content.Statement.{statement}
+use Rattle.list.proofs.check.is_content.Tie as tie
+
+-- the step of the block's children, and that keys in the block's interval fit
+step-is : (m κ height power : ℕ) → height ≡ heightOf m κ → power ≡ 5 ^ height → power / 5 ≡ stepUnder (heightOf m κ)
+step-is m κ height power h p = ap (λ x. x / 5) (p ∙ ap (λ k. 5 ^ k) h) ∙ step-fifth (heightOf m κ)
+
+height-fits : (m κ height : ℕ) → m ≤ 10 → height ≡ heightOf m κ → height ≤ 10
+height-fits m κ height top h = let z = height-le m κ in omega arith
+
+keys-fit : (m κ height power : ℕ) → m ≤ 10 → validKey m κ ≡ true → height ≡ heightOf m κ → power ≡ 5 ^ height → κ + 5 * (power / 5) < 4294967296
+keys-fit m κ height power top valid h p =
+    let x = valid-below m κ valid in
+    let y = five-le 10 top in
+    let z = five-le 10 (height-fits m κ height top h) in
+    omega arith
+
+returns : tie.Need-returns
+returns c =
+    let a = c .before .before .before .args in
+    no-records (a .m) (a .s) (a .key) (a .keys .now) (a .bits .now) (a .n) (c .before .before .before .pre .2) (c .if1 .taken)
+
+returns-2 : tie.Need-returns-2
+returns-2 c =
+    let a = c .before .before .before .before .args in
+    short-keys (a .m) (a .s) (a .key) (a .keys .now) (a .bits .now) (a .n) (c .if2 .taken)
+
+returns-3 : tie.Need-returns-3
+returns-3 c =
+    let a = c .before .before .before .before .before .args in
+    short-bits (a .m) (a .s) (a .key) (a .keys .now) (a .bits .now) (a .n) (c .if3 .taken)
+
+-- where the records are there
+there : (e : tie.Else3) → let start = e .before .before .before .before .before in let a = start .args in
+    Stand (a .m) (a .key) (a .keys .now) (a .bits .now) (a .n)
+there e = record {
+  some = e .before .before .if1 .left;
+  in-keys = e .before .if2 .left;
+  in-bits = e .if3 .left;
+  valid = e .before .before .before .before .before .pre .2;
+}
+
+shared-slice-read-if4 : tie.Need-shared-slice-read-if4
+shared-slice-read-if4 c = search needs
+
+returns-4 : tie.Need-returns-4
+returns-4 c = other-key (there (c .before .before)) (c .before .before .before .before .before .before .before .args .s) (c .if4 .taken)
+
+shared-slice-read-own : tie.Need-shared-slice-read-own
+shared-slice-read-own c = search needs
+
+power-of-two-requires : tie.Need-power-of-two-requires
+power-of-two-requires c κs = search needs
+
+returns-5 : tie.Need-returns-5
+returns-5 c =
+    let d = c .before .before .before in
+    large-bits (there (d .before .before)) (d .before .before .before .before .before .before .before .args .s) (d .if4 .left) (omega (arith, c .before .power-of-two .ensures, c .if5 .taken))
+
+has-one-slot-requires : tie.Need-has-one-slot-requires
+has-one-slot-requires c κs = search needs
+
+returns-6 : tie.Need-returns-6
+returns-6 c =
+    let b = c .before .before in
+    let d = b .before .before .before in
+    one-record (there (d .before .before)) (d .before .before .before .before .before .before .before .args .s) (d .if4 .left) (omega (arith, b .before .power-of-two .ensures, b .if5 .left))
+    (sym (c .before .has-one-slot .ensures) ∙ c .if6 .taken)
+
+height-requires : tie.Need-height-requires
+height-requires c κs = search needs
+
+power-of-five-requires : tie.Need-power-of-five-requires
+power-of-five-requires c κs =
+    let start = c .before .before .before .before .before .before .before .before .before .before .before .before .before in
+    let z = height-fits (start .args .m) (start .args .key) (c .height .result) (start .pre .0) (c .height .ensures) in
+    omega arith
+
+slice-aggregate-after-node : tie.Need-slice-aggregate-after-node
+slice-aggregate-after-node c = sym (keys-length (there (c .before .before .before .before .before .before .before .before .before .before)))
+
+slice-aggregate-after-node-2 : tie.Need-slice-aggregate-after-node-2
+slice-aggregate-after-node-2 c = sym (bits-length (there (c .before .before .before .before .before .before .before .before .before .before .before)))
+
+after-node-requires : tie.Need-after-node-requires
+after-node-requires c κs =
+    let st = there (c .before .before .before .before .before .before .before .before .before .before .before) in
+    let start = c .before .before .before .before .before .before .before .before .before .before .before .before .before .before .before .before in
+    let h = keys-length st in
+    let z = st .some in (
+      h ∙ sym (bits-length st),
+      omega arith,
+      keys-fit (start .args .m) (start .args .key) (c .before .before .before .height .result) (c .before .before .power-of-five .result) (start .pre .0) (st .valid) (c .before .before .before .height .ensures) (c .before .before .power-of-five .ensures),
+    )
+
+returns-7 : tie.Need-returns-7
+returns-7 c =
+    let e′ = c .before .before .before .before in
+    let e = e′ .before in
+    let b = e .before .before in
+    let d = b .before .before .before in
+    many-records (there (d .before .before)) (d .before .before .before .before .before .before .before .args .s) (d .if4 .left) (omega (arith, b .before .power-of-two .ensures, b .if5 .left))
+    (c .after-node .result)
+    (sym (e .before .has-one-slot .ensures) ∙ e .if6 .left)
+    (c .after-node .ensures .1 _ (step-is _ _ _ _ (e′ .height .ensures) (c .before .before .before .power-of-five .ensures)))
+
+pub is-content-spec : {M : Type 1} → statement M
+is-content-spec =
+    tie.close
+    (tie.spec
+    returns
+    returns-2
+    returns-3
+    shared-slice-read-if4
+    returns-4
+    shared-slice-read-own
+    power-of-two-requires
+    returns-5
+    has-one-slot-requires
+    returns-6
+    height-requires
+    power-of-five-requires
+    slice-aggregate-after-node
+    slice-aggregate-after-node-2
+    after-node-requires
+    returns-7)

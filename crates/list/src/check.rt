@@ -1,0 +1,98 @@
+// The check of a list (refusal 4): one pass in which the key of each record is known before it is read. That no record has a slot at or above s
+// is asked of the first record alone, since a node's bits are the union of its children's.
+ghost use mathlib.Core.Path.{_≡_};
+ghost use mathlib.Core.Bool.{true, _&&_};
+ghost use Prim.Native.Nat.{ℕ, _+_, _*_, _^_, _≤_, _<_};
+ghost use lib.ListN.{length, drop};
+ghost use lib.Dec.{leb};
+ghost use Rattle.keys.specs.Key.{validKey};
+ghost use Rattle.definitions.specs.Read.{room, paired, recordsOf, isList};
+ghost use Rattle.definitions.specs.Log.{isContent};
+ghost use Rattle.list.specs.Check.{oneSlot, placeOf, afterNode, stepUnder};
+use keys::Key;
+use keys::power;
+
+// Exactly one slot is set: the record is a leaf's.
+pub fn has_one_slot(bits: u32) -> bool
+    ensures { λ r. ⌜ r ≡ oneSlot bits ⌝ }
+{
+    if bits == 0 {
+        return false;
+    }
+    bits & (bits - 1) == 0
+}
+
+// After a node's own record: the place after its last record, or 0 where what follows are not its four children. A leaf among them is passed
+// here, so that only nodes are called for.
+fn after_node(keys: &[u32], bits: &[u32], first: usize, key: u32, own: u32, step: u32) -> usize
+    requires { ⌜ (length (now keys) ≡ length (now bits)) × (first ≤ length (now keys)) × (key + 5 * step < 2 ^ 32) ⌝ }
+    ensures { λ r. ⌜ (r ≤ length (now (keys .entry)))
+        × ((k : ℕ)
+        → step ≡ stepUnder k
+        → r ≡ placeOf (length (now (keys .entry))) (afterNode k key own (drop first (paired (now (keys .entry)) (now (bits .entry)))))) ⌝ }
+{
+    if step == 0 {
+        return 0;
+    }
+    let mut next = first;
+    let mut union = 0;
+    let mut digit = 1;
+    while digit < 5 {
+        if keys.len() <= next {
+            return 0;
+        }
+        let child = key + digit * step;
+        if keys[next] != child {
+            return 0;
+        }
+        let found = bits[next];
+        next += 1;
+        if !has_one_slot(found) {
+            next = after_node(keys, bits, next, child, found, step / 5);
+            if next == 0 {
+                return 0;
+            }
+        }
+        union = union | found;
+        digit += 1;
+    }
+    if union == own { next } else { 0 }
+}
+
+// The first n records are there, and are the list of the block with the given key at m and s.
+pub fn is_content(m: u32, s: u32, keys: &[u32], bits: &[u32], n: usize, key: u32) -> bool
+    requires { ⌜ (m ≤ 10) × (s ≤ 16) × (validKey m key ≡ true) ⌝ }
+    ensures { λ r. ⌜ r ≡ leb n (room (now (keys .entry)) (now (bits .entry)))
+        && isContent m s key (recordsOf (now (keys .entry)) (now (bits .entry)) n) ⌝ }
+{
+    if n == 0 {
+        return false;
+    }
+    if keys.len() < n {
+        return false;
+    }
+    if bits.len() < n {
+        return false;
+    }
+    if keys[0] != key {
+        return false;
+    }
+    let own = bits[0];
+    if power::power_of_two(s) <= own {
+        return false;
+    }
+    if has_one_slot(own) {
+        return n == 1;
+    }
+    let block = Key { number: key };
+    let step = power::power_of_five(block.height(m)) / 5;
+    after_node(&keys[..n], &bits[..n], 1, key, own, step) == n
+}
+
+// The first n records are there, and are a raster's list at m and s.
+pub fn is_list(m: u32, s: u32, keys: &[u32], bits: &[u32], n: usize) -> bool
+    requires { ⌜ (m ≤ 10) × (s ≤ 16) ⌝ }
+    ensures { λ r. ⌜ r ≡ isList m s (now (keys .entry)) (now (bits .entry)) n ⌝ }
+{
+    is_content(m, s, keys, bits, n, Key::ROOT)
+}
