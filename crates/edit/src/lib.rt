@@ -1,0 +1,1 @@
+// Edits of the list: a content put into a block, the log, paint, take back and empty.
