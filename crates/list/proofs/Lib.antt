@@ -8,3 +8,12 @@ pub mod Accepts
 pub mod Turn
 pub mod Content
 pub mod Accepted
+pub mod OneBit
+pub mod RasterTests
+pub mod BuildInside
+pub mod CountBlock
+pub mod WriteBlock
+pub mod WrittenBlock
+pub mod FittingBlock
+pub mod BuildRefusal
+pub mod BuildCall

@@ -1,3 +1,5 @@
 // The list of a raster: settings and list checked, the list built, the raster given back, and where a block stands in the list.
+pub mod build;
 pub mod check;
+pub mod one_bit;
 pub mod settings;
