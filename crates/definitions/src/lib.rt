@@ -9,6 +9,7 @@ pub struct Window {
 }
 
 // A rule: the feature is forbidden in the window.
+#[repr(C)]
 pub struct Rule {
     pub id: u32,
     pub row: u32,
@@ -24,49 +25,58 @@ pub enum Standing {
     Inside(usize),
 }
 
-// The answers. `refusal` is 0 or document 01's number; on a refusal every other number is 0, save the places needed with 12.
+// The answers, laid out as C has them. `refusal` is 0 or document 01's number; on a refusal every other number is 0, save the places needed with 12.
+#[repr(C)]
 pub struct Done {
     pub refusal: u64,
 }
 
+#[repr(C)]
 pub struct Counted {
     pub refusal: u64,
     pub count: u64,
 }
 
+#[repr(C)]
 pub struct Stands {
     pub refusal: u64,
     pub kind: u64,
     pub place: u64,
 }
 
+#[repr(C)]
 pub struct Span {
     pub start: u64,
     pub length: u64,
 }
 
+#[repr(C)]
 pub struct Exists {
     pub refusal: u64,
     pub yes: u64,
 }
 
+#[repr(C)]
 pub struct Reported {
     pub refusal: u64,
     pub bits: u64,
 }
 
+#[repr(C)]
 pub struct Edited {
     pub refusal: u64,
     pub n: u64,
     pub used: u64,
 }
 
+#[repr(C)]
 pub struct Found {
     pub refusal: u64,
     pub live: u64,
     pub hidden: u64,
 }
 
+#[repr(C)]
 pub struct Loaded {
     pub refusal: u64,
     pub m: u64,

@@ -1,0 +1,83 @@
+-- A list at good settings fits its file: each key into 4 bytes, each bitstring into 2, and their number into 4 (document 01, "The file"). Rests on
+-- the laws of lists.
+use Prim.Native.Nat.{ℕ, suc, _^_, _≤_, _<_}
+use mathlib.Core.Path.{_≡_, refl, ap}
+use mathlib.Core.Bool.{Bool, true, false, true≢false, _||_}
+use mathlib.Core.List.{List, List·Memᴰ}
+use native.Mathlib.Nat.{pow-le-pow-right}
+use native.Mathlib.Omega.{arith}
+use lib.ListN.{length}
+use lib.Dec.{lit<, leb, ltb, eqb}
+use borrow.Author.Tests.{ltb-false, leb-true, le-leb}
+use Rattle.keys.specs.Key.{rootKey}
+use Rattle.keys.proofs.Cases.{and-left, and-right, and-both}
+use Rattle.definitions.specs.List.{Record, listOf}
+use Rattle.definitions.specs.Read.{room, recordsOf, isListOfBlock, isList}
+use Rattle.definitions.specs.Refusal.{badSettings}
+use Rattle.definitions.proofs.Ascending.{key-below}
+use Rattle.definitions.proofs.BitsOf.{bits-below}
+use Rattle.definitions.proofs.Features.{below-under}
+use Rattle.definitions.proofs.ListOf.{list-ascends, list-most}
+use Rattle.definitions.proofs.Listed.{listed-to, listed-under}
+use Rattle.definitions.proofs.IsList.{ShowsBlock, block-list-to}
+use Rattle.definitions.proofs.FileOf.{FitsFile, fits-file}
+
+-- the settings that refusal 1 lets pass
+pub record GoodSettings (m s : ℕ) : Type 0 where
+  pub deepest : m ≤ 10
+  pub slots : s ≤ 16
+
+-- neither of two tests holds where their "or" does not
+neither : (a b : Bool) → a || b ≡ false → (a ≡ false) × (b ≡ false)
+neither true b e = absurd (true≢false e)
+neither false b e = (refl, e)
+
+-- where refusal 1 is not given the settings are good
+pub good-settings : (m s : ℕ) → badSettings m s ≡ false → GoodSettings m s
+unfolding badSettings
+good-settings m s e =
+    let deep = neither (ltb 10 m) (eqb s 0 || ltb 16 s) e in
+    record { deepest = ltb-false 10 m (deep .0); slots = ltb-false 16 s (neither (eqb s 0) (ltb 16 s) (deep .1) .1) }
+
+-- a list is the list of its own block, and there is room for it
+pub list-parts : (m s : ℕ) (keys bits : List ℕ) (n : ℕ) → isList m s keys bits n ≡ true
+    → (n ≤ room keys bits) × (isListOfBlock m s m 0 0 rootKey (recordsOf keys bits n) ≡ true)
+unfolding isList
+list-parts m s keys bits n e = (
+  leb-true n (room keys bits) (and-left (leb n (room keys bits)) (isListOfBlock m s m 0 0 rootKey (recordsOf keys bits n)) e),
+  and-right (leb n (room keys bits)) (isListOfBlock m s m 0 0 rootKey (recordsOf keys bits n)) e,
+)
+
+-- and the other way round
+pub list-whole : (m s : ℕ) (keys bits : List ℕ) (n : ℕ) → n ≤ room keys bits → isListOfBlock m s m 0 0 rootKey (recordsOf keys bits n) ≡ true
+    → isList m s keys bits n ≡ true
+unfolding isList
+list-whole m s keys bits n h e =
+    and-both (leb n (room keys bits)) (isListOfBlock m s m 0 0 rootKey (recordsOf keys bits n)) (le-leb n (room keys bits) h) e
+
+module _ (m s : ℕ) (good : GoodSettings m s) (l : List Record) (is : isListOfBlock m s m 0 0 rootKey l ≡ true) where
+  shown : ShowsBlock s m 0 0 rootKey l
+  shown = block-list-to m s m 0 0 rootKey l is
+
+  -- every key is below 5 ^ 10, and every bitstring below 2 ^ 16
+  each : (x : Record) → List·Memᴰ x (listOf (shown .picture) m 0 0 rootKey) → (x .key < 256 ^ 4) × (x .value < 256 ^ 2)
+  each x h =
+      let key = key-below (list-ascends (shown .picture) m 0 0 rootKey) h in
+      let most : 5 ^ m ≤ 5 ^ 10 = pow-le-pow-right (lit< tt) (good .deepest) in
+      let at = listed-to (shown .picture) m 0 0 rootKey x h in
+      let value = bits-below s (shown .picture) (at .height) (at .row) (at .column) (below-under s (shown .picture) (listed-under (at .listed)) (shown .below)) in
+      let wide : 2 ^ s ≤ 2 ^ 16 = pow-le-pow-right (lit< tt) (good .slots) in
+      (omega arith, rw (at .is) (omega arith))
+
+  -- the list's records fit a file
+  pub list-fits : FitsFile l
+  list-fits = rw (shown .is) (fits-file (listOf (shown .picture) m 0 0 rootKey) each)
+
+  -- their number does
+  pub list-short : length l < 256 ^ 4
+  list-short =
+      let most = list-most (shown .picture) m 0 0 rootKey in
+      let level : suc m ≤ 11 = omega (arith, good .deepest) in
+      let deep : 4 ^ suc m ≤ 4 ^ 11 = pow-le-pow-right (lit< tt) level in
+      let e = ap length (shown .is) in
+      omega arith

@@ -1,0 +1,15 @@
+pub mod NumberBytes
+pub mod Marked
+pub mod Stores
+pub mod RecordBytes
+pub mod ReadBytes
+pub mod Fits
+pub mod Accepted
+pub mod SliceRecords
+pub mod RoundTrip
+pub mod FileTurn
+pub mod FileList
+pub mod HeadAnswers
+pub mod StoreAnswers
+pub mod LoadAnswers
+pub mod OneAnswer

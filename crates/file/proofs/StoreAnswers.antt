@@ -1,0 +1,90 @@
+-- The answers of store, one for each way out of the code: its result and what it leaves in the file's buffer. Rests on the laws of tables, Accepted,
+-- Stores and RecordBytes.
+use Prim.Native.Nat.{ℕ, _+_, _*_, _^_, _≤_, _<_}
+use mathlib.Core.Path.{_≡_, refl, sym, ap, _∙_}
+use mathlib.Core.Bool.{true, false, cond, not}
+use mathlib.Core.List.{List, _++_}
+use native.Mathlib.Omega.{arith}
+use lib.ListN.{length}
+use lib.Seq.{sets}
+use lib.Dec.{eqb}
+use borrow.Author.Tests.{lt-ltb}
+use Rattle.definitions.specs.Read.{room, recordsOf, isList}
+use Rattle.definitions.specs.Buffer.{over}
+use Rattle.definitions.specs.File.{headOf, bytesOfRecords, fileOf}
+use Rattle.definitions.specs.Refusal.{accepted, badSettings}
+use Rattle.definitions.specs.Calls.Store.{stored, storeRefusal, store, storeFile}
+use Rattle.definitions.specs.declared.Counted.{Counted}
+use Rattle.definitions.proofs.First.{this, later, holds-first}
+use Rattle.definitions.proofs.FileOf.{length-file}
+use Rattle.list.proofs.Accepted.{records-length}
+use Rattle.file.proofs.Accepted.{store-accepts}
+use Rattle.file.proofs.Fits.{good-settings, list-parts, list-short}
+use Rattle.file.proofs.Stores.{head-then, sets-over}
+
+module _ (m s : ℕ) (keys bits : List ℕ) (n : ℕ) (file : List ℕ) where
+  -- what store promises of its result and of the buffer
+  abbrev pub Stored : Counted → List ℕ → Type 0
+  Stored r whole = (r ≡ store m s keys bits n file) × (whole ≡ storeFile m s keys bits n file)
+
+  -- both by the number that the table gives
+  by-number : (k : ℕ) → storeRefusal m s keys bits n file ≡ k
+      → Stored (record { refusal = k; count = accepted k (length (stored m s keys bits n)) (cond (eqb k 12) (length (stored m s keys bits n)) 0) })
+      (accepted k (over (stored m s keys bits n) file) file)
+  unfolding store storeFile
+  by-number k e =
+      let bytes = length (stored m s keys bits n) in (
+        sym (λ i. record { refusal = e i; count = accepted (e i) bytes (cond (eqb (e i) 12) bytes 0) }),
+        sym (λ i. accepted (e i) (over (stored m s keys bits n) file) file),
+      )
+
+  -- 1
+  pub bad-settings : badSettings m s ≡ true → Stored (record { refusal = 1; count = 0 }) file
+  unfolding storeRefusal
+  bad-settings bad = by-number 1 (holds-first (this bad refl))
+
+  module _ (good : badSettings m s ≡ false) where
+    -- 4
+    pub no-list : isList m s keys bits n ≡ false → Stored (record { refusal = 4; count = 0 }) file
+    unfolding storeRefusal
+    no-list bad = by-number 4 (holds-first (later good (this (ap not bad) refl)))
+
+    module _ (list : isList m s keys bits n ≡ true) where
+      -- there are n records
+      pub roomy : n ≤ room keys bits
+      roomy = list-parts m s keys bits n list .0
+
+      many : length (recordsOf keys bits n) ≡ n
+      many = let h = roomy in records-length keys bits n (omega arith) (omega arith)
+
+      -- their number fits into 32 bits
+      pub few : n < 2 ^ 32
+      few = rw many at (list-short m s (good-settings m s good) (recordsOf keys bits n) (list-parts m s keys bits n list .1))
+
+      -- the bytes needed
+      pub needed : length (stored m s keys bits n) ≡ 11 + 6 * n
+      unfolding stored
+      needed = length-file m s (recordsOf keys bits n) ∙ ap (λ k. 11 + 6 * k) many
+
+      -- 12
+      pub no-room : length file < 11 + 6 * n → Stored (record { refusal = 12; count = 11 + 6 * n }) file
+      unfolding storeRefusal
+      no-room h =
+          let e = needed in
+          let told = by-number 12 (holds-first (later good (later (ap not list) (this (lt-ltb (length file) (length (stored m s keys bits n)) (omega arith)) refl)))) in
+          ((λ i. record { refusal = 12; count = sym needed i }) ∙ told .0, told .1)
+
+      -- the head and then the records, stored one after the other, are the file
+      pub all-stored : (headed whole : List ℕ) → 11 + 6 * n ≤ length file → headed ≡ sets file 0 (headOf m s n)
+          → whole ≡ sets headed 11 (bytesOfRecords (recordsOf keys bits n)) → Stored (record { refusal = 0; count = 11 + 6 * n }) whole
+      unfolding stored fileOf
+      all-stored headed whole h e f =
+          let size = needed in
+          let told = by-number 0 (store-accepts m s keys bits n file (record { settings = good; listed = list; roomy = omega arith })) in
+          let bytes = bytesOfRecords (recordsOf keys bits n) in
+          let written : whole ≡ over (stored m s keys bits n) file
+          = f ∙ ap (λ x. sets x 11 bytes) e
+          ∙ sym (head-then file m s n bytes)
+          ∙ ap (λ k. sets file 0 (headOf m s k ++ bytes)) (sym many)
+          ∙ sets-over (stored m s keys bits n) file (omega arith) in
+          ((λ i. record { refusal = 0; count = sym needed i }) ∙ told .0, written ∙ told .1)

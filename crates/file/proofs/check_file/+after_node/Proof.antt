@@ -1,0 +1,158 @@
+-- `check_file::after_node` meets its contract: before each turn the children passed so far are those that the model has passed. It ends because a
+-- call for a child has a fifth of the step.
+use Prim.Native.Nat.{ℕ, _-_, _<_}
+use mathlib.Core.Path.{sym, _∙_}
+use mathlib.Core.Logic.{⊎-elim}
+use native.Mathlib.Omega.{arith}
+use borrow.Author.Tests.{not-true, not-false}
+use borrow.Fn.Kinds.{In}
+use borrow.Fn.PlainCycle.{Measures, is, falls, and}
+use Rattle.list.proofs.Turn.{child-fits}
+use Rattle.file.proofs.FileTurn.{PassedIn, no-children, begins-in, ends-in, differs-in, short-in, other-key-in, wrong-child-in, leaf-in, node-in}
+use Rattle.file.proofs.check_file.after_node.Reads as own
+use Rattle.file.proofs.check_file.after_node.Kinds as kinds
+use Rattle.file.proofs.check_file.+after_node.Lts-after_node as lts
+use Rattle.file.proofs.bytes.u16_at.Reads as u16-at
+use Rattle.file.proofs.bytes.u32_at.Reads as u32-at
+use Rattle.list.proofs.check.has_one_slot.Reads as has-one-slot
+use Rattle.file.proofs.check_file.+after_node.{statement}
+use Rattle.file.proofs.check_file.+after_node.Tie.{close}
+
+abbrev μ : Measures 1 kinds.ps ℕ
+μ κs a = a .1 .1 .1 .1 .0
+
+abbrev given : ℕ → In 1 kinds.ps
+given t = and 1 kinds.ps (is 1 kinds.ps μ t) own.Pre
+
+abbrev below : ℕ → In 1 kinds.ps
+below t = and 1 kinds.ps (falls 1 kinds.ps _<_ μ t) own.Pre
+
+abbrev claims : ℕ → lts.Claims
+claims t = (u32-at.Asked, u32-at.Learnt, u16-at.Asked, u16-at.Learnt, has-one-slot.Asked, has-one-slot.Learnt, below t, own.Post)
+
+abbrev Inv-loop : lts.InvT-loop
+Inv-loop file first key own step next₀ union₀ digit₀ next union digit = PassedIn file first key own step next union digit
+
+abbrev μ-loop : lts.MeasureT-loop
+μ-loop file first key own step next₀ union₀ digit₀ next union digit = 5 - digit
+
+-- places of the code: a turn in which a record is left, and one in which that record's bits were read
+abbrev There : ℕ → Type 0
+There t = lts.Else2 (claims t) (given t) own.Post Inv-loop μ-loop
+
+abbrev Found : ℕ → Type 0
+Found t = lts.After-u16-at (claims t) (given t) own.Post Inv-loop μ-loop
+
+-- what a turn knows of the record's key and bits, for the laws of the loop
+abbrev there : {t : ℕ} → Found t → There t
+there c = c .before .before .before
+
+returns : (t : ℕ) → lts.Need-returns (claims t) (given t) own.Post Inv-loop μ-loop
+returns t c = let a = c .before .before .args in no-children (a .file .now) (a .first) (a .key) (a .own) (a .step) (c .if1 .taken)
+
+loop-holds : (t : ℕ) → lts.Need-loop-holds (claims t) (given t) own.Post Inv-loop μ-loop
+loop-holds t c = begins-in _ _ _ _ _ (c .before .before .pre .1) (c .if1 .left)
+
+mul-place : (t : ℕ) → lts.Need-mul-place (claims t) (given t) own.Post Inv-loop μ-loop
+mul-place t c = omega arith
+
+add-place : (t : ℕ) → lts.Need-add-place (claims t) (given t) own.Post Inv-loop μ-loop
+add-place t c = omega arith
+
+returns-2 : (t : ℕ) → lts.Need-returns-2 (claims t) (given t) own.Post Inv-loop μ-loop
+returns-2 t c = short-in (c .before .before .loop .inv) (c .before .loop-test .taken) (c .if2 .taken)
+
+mul-child : (t : ℕ) → lts.Need-mul-child (claims t) (given t) own.Post Inv-loop μ-loop
+mul-child t c = let h = child-fits (c .before .before .loop .inv .passed) (c .before .loop-test .taken) in omega arith
+
+add-child : (t : ℕ) → lts.Need-add-child (claims t) (given t) own.Post Inv-loop μ-loop
+add-child t c = let h = child-fits (c .before .before .loop .inv .passed) (c .before .loop-test .taken) in omega arith
+
+u32-at-requires : (t : ℕ) → lts.Need-u32-at-requires (claims t) (given t) own.Post Inv-loop μ-loop
+u32-at-requires t c κs = omega arith
+
+returns-3 : (t : ℕ) → lts.Need-returns-3 (claims t) (given t) own.Post Inv-loop μ-loop
+returns-3 t c =
+    let e = c .before .before in
+    other-key-in (e .before .before .loop .inv) (e .before .loop-test .taken) (e .if2 .left) _ (c .before .u32-at .ensures) (c .if3 .taken)
+
+add-u16-at : (t : ℕ) → lts.Need-add-u16-at (claims t) (given t) own.Post Inv-loop μ-loop
+add-u16-at t c = omega arith
+
+u16-at-requires : (t : ℕ) → lts.Need-u16-at-requires (claims t) (given t) own.Post Inv-loop μ-loop
+u16-at-requires t c κs = omega arith
+
+add-next : (t : ℕ) → lts.Need-add-next (claims t) (given t) own.Post Inv-loop μ-loop
+add-next t c = omega arith
+
+has-one-slot-requires : (t : ℕ) → lts.Need-has-one-slot-requires (claims t) (given t) own.Post Inv-loop μ-loop
+has-one-slot-requires t c κs = tt
+
+after-node-requires : (t : ℕ) → lts.Need-after-node-requires (claims t) (given t) own.Post Inv-loop μ-loop
+after-node-requires t c κs =
+    let e = there (c .before .before) in
+    let l = e .before .before in
+    let h = child-fits (l .loop .inv .passed) (e .before .loop-test .taken) in
+    let s = l .before .before .before in
+    (omega (arith, s .pre .0, l .before .if1 .left, l .loop .inv .passed .positive), (s .pre .1 .0, omega (arith, e .if2 .left), omega arith))
+
+returns-4 : (t : ℕ) → lts.Need-returns-4 (claims t) (given t) own.Post Inv-loop μ-loop
+returns-4 t c =
+    let a = c .before .before .before in
+    let e = there (a .before) in
+    wrong-child-in (e .before .before .loop .inv) (e .before .loop-test .taken) (e .if2 .left) _
+    (a .before .before .before .u32-at .ensures) (a .before .before .if3 .left) _ (a .before .u16-at .ensures)
+    (sym (a .has-one-slot .ensures) ∙ not-true _ (c .before .before .if4 .taken))
+    _ (c .if5 .taken) (c .before .after-node .ensures)
+
+add-digit : (t : ℕ) → lts.Need-add-digit (claims t) (given t) own.Post Inv-loop μ-loop
+add-digit t c = omega (arith, there (c .before .before) .before .loop-test .taken)
+
+loop-less : (t : ℕ) → lts.Need-loop-less (claims t) (given t) own.Post Inv-loop μ-loop
+loop-less t c = omega (arith, there (c .before .before) .before .loop-test .taken)
+
+loop-again : (t : ℕ) → lts.Need-loop-again (claims t) (given t) own.Post Inv-loop μ-loop
+loop-again t c =
+    let a = c .before in
+    let e = there (a .before) in
+    let p = e .before .before .loop .inv in
+    ⊎-elim
+    (λ w. rw (w .3)
+    (node-in p (e .before .loop-test .taken) (e .if2 .left) _
+    (a .before .before .before .u32-at .ensures) (a .before .before .if3 .left) _ (a .before .u16-at .ensures)
+    (sym (a .has-one-slot .ensures) ∙ not-true _ (w .0 .taken)) _ (w .2 .left) (w .1 .ensures)))
+    (λ w. rw (w .1)
+    (leaf-in p (e .before .loop-test .taken) (e .if2 .left) _
+    (a .before .before .before .u32-at .ensures) (a .before .before .if3 .left) _ (a .before .u16-at .ensures)
+    (sym (a .has-one-slot .ensures) ∙ not-false _ (w .0 .left))))
+    (c .if4 .came)
+
+returns-5 : (t : ℕ) → lts.Need-returns-5 (claims t) (given t) own.Post Inv-loop μ-loop
+returns-5 t c = ends-in (c .before .before .loop .inv) (c .before .loop-test .left) (c .if6 .taken)
+
+returns-6 : (t : ℕ) → lts.Need-returns-6 (claims t) (given t) own.Post Inv-loop μ-loop
+returns-6 t c = differs-in (c .before .before .loop .inv) (c .before .loop-test .left) (c .if6 .left)
+
+pub +after-node-spec : {M : Type 1} → statement M
++after-node-spec = close μ λ t.
+    lts.spec (claims t) (given t) own.Post Inv-loop μ-loop
+    (returns t)
+    (loop-holds t)
+    (mul-place t)
+    (add-place t)
+    (returns-2 t)
+    (mul-child t)
+    (add-child t)
+    (u32-at-requires t)
+    (returns-3 t)
+    (add-u16-at t)
+    (u16-at-requires t)
+    (add-next t)
+    (has-one-slot-requires t)
+    (after-node-requires t)
+    (returns-4 t)
+    (add-digit t)
+    (loop-less t)
+    (loop-again t)
+    (returns-5 t)
+    (returns-6 t)

@@ -1,0 +1,62 @@
+-- `head::put` meets its contract: mark, version, m, s and n one after the other are the head.
+use Prim.Native.Nat.{_≤_}
+use mathlib.Core.Path.{_≡_, _∙_}
+use native.Mathlib.Omega.{arith}
+use lib.ListN.{length, length-set}
+use borrow.Author.Needs.{needs}
+use Rattle.file.proofs.Stores.{head-stores}
+use Rattle.file.proofs.head.put.Statement.{statement}
+use Rattle.file.proofs.head.put.Tie as tie
+
+put-requires : tie.Need-put-requires
+put-requires c κs = search needs
+
+put-u16-requires : tie.Need-put-u16-requires
+put-u16-requires c κs = search needs
+
+-- after the version the file is as long as it was
+versioned : (c : tie.After-slice-known3) → length (c .before .before .put-u16 .last .1 .0) ≡ length (c .before .before .before .before .before .before .before .before .before .args .file .now)
+versioned c = c .before .before .put-u16 .kept .1 .0 ∙ c .before .before .before .before .before .before .put .kept .0
+
+long : (c : tie.After-slice-known3) → 11 ≤ length (c .before .before .put-u16 .last .1 .0)
+long c = rw (versioned c) (c .before .before .before .before .before .before .before .before .before .pre)
+
+cast-file : tie.Need-cast-file
+cast-file c = search needs
+
+slice-write-file : tie.Need-slice-write-file
+slice-write-file c = search needs
+
+cast-file-2 : tie.Need-cast-file-2
+cast-file-2 c = search needs
+
+slice-write-file-2 : tie.Need-slice-write-file-2
+slice-write-file-2 c = let h = long c in simp length-set (omega arith)
+
+put-u32-requires : tie.Need-put-u32-requires
+put-u32-requires c κs = simp length-set (long (c .before))
+
+same-length : tie.Need-same-length
+same-length c = c .before .before .put-u32 .kept .1 .0 ∙ simp length-set (versioned (c .before .before .before .before))
+
+returns : tie.Need-returns
+returns c =
+    let b = c .before .before in
+    head-stores _ _ _ _ _ _ _
+    (b .before .before .before .before .before .before .before .before .put .ensures)
+    (b .before .before .before .before .put-u16 .ensures)
+    (b .put-u32 .ensures)
+
+pub put-spec : {M : Type 1} → statement M
+put-spec =
+    tie.close
+    (tie.spec
+    put-requires
+    put-u16-requires
+    cast-file
+    slice-write-file
+    cast-file-2
+    slice-write-file-2
+    put-u32-requires
+    same-length
+    returns)

@@ -1,0 +1,108 @@
+-- `store::store` meets its contract: each way out answers what the definition does there.
+use mathlib.Core.Path.{_≡_, sym, _∙_}
+use mathlib.Core.Bool.{true, false}
+use native.Mathlib.Omega.{arith}
+use borrow.Author.Tests.{not-true, not-false}
+use Rattle.definitions.specs.Read.{isList}
+use Rattle.definitions.specs.Refusal.{badSettings}
+use borrow.Author.Needs.{needs}
+use Rattle.file.proofs.Fits.{good-settings}
+use Rattle.file.proofs.StoreAnswers.{bad-settings, no-list, roomy, few, no-room, all-stored}
+use Rattle.file.proofs.store.store.Statement.{statement}
+use Rattle.file.proofs.store.store.Tie as tie
+
+-- the start, from the test of the settings
+abbrev start : tie.After-are-bad → tie.Start
+start c = c .before .before .before .before
+
+-- the settings are good
+good : (c : tie.Else1) → badSettings (start (c .before) .args .m) (start (c .before) .args .s) ≡ false
+good c = sym (c .before .are-bad .ensures) ∙ c .if1 .left
+
+-- the records are a list
+listed : (c : tie.Else2) → let a = start (c .before .before .before) .args in isList (a .m) (a .s) (a .keys .now) (a .bits .now) (a .n) ≡ true
+listed c = sym (c .before .is-list .ensures) ∙ not-false _ (c .if2 .left)
+
+are-bad-requires : tie.Need-are-bad-requires
+are-bad-requires c κs = search needs
+
+returns : tie.Need-returns
+returns c =
+    let a = start (c .before) .args in
+    bad-settings (a .m) (a .s) (a .keys .now) (a .bits .now) (a .n) (a .file .now) (sym (c .before .are-bad .ensures) ∙ c .if1 .taken)
+
+is-list-requires : tie.Need-is-list-requires
+is-list-requires c κs = let g = good-settings _ _ (good c) in (g .deepest, g .slots)
+
+returns-2 : tie.Need-returns-2
+returns-2 c =
+    let e = c .before .before in
+    let a = start (e .before) .args in
+    no-list (a .m) (a .s) (a .keys .now) (a .bits .now) (a .n) (a .file .now) (good e) (sym (c .before .is-list .ensures) ∙ not-true _ (c .if2 .taken))
+
+mul-needed : tie.Need-mul-needed
+mul-needed c =
+    let s = start (c .before .before .before) in
+    let a = s .args in
+    let h = roomy (a .m) (a .s) (a .keys .now) (a .bits .now) (a .n) (a .file .now) (good (c .before .before)) (listed c) in
+    omega (arith, s .good)
+
+add-needed : tie.Need-add-needed
+add-needed c =
+    let s = start (c .before .before .before) in
+    let a = s .args in
+    let h = roomy (a .m) (a .s) (a .keys .now) (a .bits .now) (a .n) (a .file .now) (good (c .before .before)) (listed c) in
+    omega (arith, s .good)
+
+returns-3 : tie.Need-returns-3
+returns-3 c =
+    let d = c .before in
+    let a = start (d .before .before .before) .args in
+    no-room (a .m) (a .s) (a .keys .now) (a .bits .now) (a .n) (a .file .now) (good (d .before .before)) (listed d) (c .if3 .taken)
+
+cast-put : tie.Need-cast-put
+cast-put c =
+    let d = c .before in
+    let a = start (d .before .before .before) .args in
+    omega (arith, few (a .m) (a .s) (a .keys .now) (a .bits .now) (a .n) (a .file .now) (good (d .before .before)) (listed d))
+
+put-requires : tie.Need-put-requires
+put-requires c κs = search needs
+
+put-requires-2 : tie.Need-put-requires-2
+put-requires-2 c κs =
+    let b = c .before .before .before in
+    let f = b .before .before in
+    let d = f .before in
+    let a = start (d .before .before .before) .args in
+    let h = roomy (a .m) (a .s) (a .keys .now) (a .bits .now) (a .n) (a .file .now) (good (d .before .before)) (listed d) in
+    record { in-keys = omega arith; in-bits = omega arith; in-file = omega (arith, f .if3 .left, b .put .kept) }
+
+same-length : tie.Need-same-length
+same-length c = search needs
+
+returns-4 : tie.Need-returns-4
+returns-4 c =
+    let w = c .before .before in
+    let b = w .before .before .before .before in
+    let f = b .before .before in
+    let d = f .before in
+    let a = start (d .before .before .before) .args in
+    all-stored (a .m) (a .s) (a .keys .now) (a .bits .now) (a .n) (a .file .now) (good (d .before .before)) (listed d) _ _ (f .if3 .left) (b .put .ensures) (w .put2 .ensures)
+
+pub store-spec : {M : Type 1} → statement M
+store-spec =
+    tie.close
+    (tie.spec
+    are-bad-requires
+    returns
+    is-list-requires
+    returns-2
+    mul-needed
+    add-needed
+    returns-3
+    cast-put
+    put-requires
+    put-requires-2
+    same-length
+    returns-4)

@@ -1,0 +1,19 @@
+-- What the inner functions of the crate require: two slices and a file have places for n records, and a file is as long as its n says. Only their
+-- contracts need it.
+use Prim.Native.Nat.{ℕ, _+_, _*_, _≤_}
+use mathlib.Core.Path.{_≡_}
+use mathlib.Core.List.{List}
+use lib.ListN.{length}
+use Rattle.definitions.specs.File.{nIn}
+
+pub record RoomFor (n : ℕ) (keys bits file : List ℕ) : Type 0 where
+  pub in-keys : n ≤ length keys
+  pub in-bits : n ≤ length bits
+  pub in-file : 11 + 6 * n ≤ length file
+
+-- m and s are good settings, and the file's n records end where the file does
+pub record Exact (m s n : ℕ) (file : List ℕ) : Type 0 where
+  pub deepest : m ≤ 10
+  pub slots : s ≤ 16
+  pub many : n ≡ nIn file
+  pub ends : length file ≡ 11 + 6 * n

@@ -1,0 +1,74 @@
+// The check of a file's records (refusal 4), read from the file's bytes: the same pass as over two slices, since nothing lent may be written
+// before all is accepted.
+ghost use mathlib.Core.Path.{_≡_};
+ghost use Prim.Native.Nat.{ℕ, _+_, _*_, _^_, _≤_, _<_};
+ghost use lib.ListN.{length, drop};
+ghost use Rattle.keys.specs.Key.{rootKey};
+ghost use Rattle.definitions.specs.Read.{isListOfBlock};
+ghost use Rattle.definitions.specs.File.{nIn, recordsInFile};
+ghost use Rattle.list.specs.Check.{placeOf, afterNode, stepUnder};
+ghost use Rattle.file.specs.Room.{Exact};
+use crate::bytes;
+use keys::Key;
+use keys::power;
+use list::check;
+
+// After a node's own record: the place after its last record, or 0 where what follows are not its four children. A leaf among them is passed
+// here, so that only nodes are called for.
+fn after_node(file: &[u8], first: usize, key: u32, own: u32, step: u32) -> usize
+    requires { ⌜ (length (now file) ≡ 11 + 6 * nIn (now file)) × (first ≤ nIn (now file)) × (key + 5 * step < 2 ^ 32) ⌝ }
+    ensures { λ r. ⌜ (r ≤ nIn (now (file .entry)))
+        × ((k : ℕ)
+        → step ≡ stepUnder k
+        → r ≡ placeOf (nIn (now (file .entry))) (afterNode k key own (drop first (recordsInFile (now (file .entry)))))) ⌝ }
+{
+    if step == 0 {
+        return 0;
+    }
+    let mut next = first;
+    let mut union = 0;
+    let mut digit = 1;
+    while digit < 5 {
+        let place = 11 + 6 * next;
+        if file.len() <= place {
+            return 0;
+        }
+        let child = key + digit * step;
+        if bytes::u32_at(file, place) != child {
+            return 0;
+        }
+        let found = bytes::u16_at(file, place + 4);
+        next += 1;
+        if !check::has_one_slot(found) {
+            next = after_node(file, next, child, found, step / 5);
+            if next == 0 {
+                return 0;
+            }
+        }
+        union = union | found;
+        digit += 1;
+    }
+    if union == own { next } else { 0 }
+}
+
+// The n records of a file of their length are a raster's list at m and s.
+pub fn holds_list(file: &[u8], m: u32, s: u32, n: usize) -> bool
+    requires { ⌜ Exact m s n (now file) ⌝ }
+    ensures { λ r. ⌜ r ≡ isListOfBlock m s m 0 0 rootKey (recordsInFile (now (file .entry))) ⌝ }
+{
+    if n == 0 {
+        return false;
+    }
+    if bytes::u32_at(file, 11) != Key::ROOT {
+        return false;
+    }
+    let own = bytes::u16_at(file, 15);
+    if power::power_of_two(s) <= own {
+        return false;
+    }
+    if check::has_one_slot(own) {
+        return n == 1;
+    }
+    let step = power::power_of_five(m) / 5;
+    after_node(file, 1, Key::ROOT, own, step) == n
+}

@@ -1,0 +1,32 @@
+// The mark of a file: the fixed byte string HLQ, written by store and compared by load.
+ghost use mathlib.Core.Path.{_≡_};
+ghost use Prim.Native.Nat.{_≤_};
+ghost use lib.ListN.{length};
+ghost use lib.Seq.{sets};
+ghost use Rattle.definitions.specs.File.{mark, wrongMark};
+
+const MARK: [u8; 3] = *b"HLQ";
+
+pub fn put(file: &mut [u8])
+    requires { ⌜ 3 ≤ length (now file) ⌝ }
+    ensures { λ _. ⌜ now (file .exit) ≡ sets (now (file .entry)) 0 mark ⌝ }
+{
+    let mark = MARK;
+    file[0] = mark[0];
+    file[1] = mark[1];
+    file[2] = mark[2];
+}
+
+pub fn is_wrong(file: &[u8]) -> bool
+    requires { ⌜ 3 ≤ length (now file) ⌝ }
+    ensures { λ r. ⌜ r ≡ wrongMark (now (file .entry)) ⌝ }
+{
+    let mark = MARK;
+    if file[0] != mark[0] {
+        return true;
+    }
+    if file[1] != mark[1] {
+        return true;
+    }
+    file[2] != mark[2]
+}

@@ -1,0 +1,40 @@
+// Store: a list becomes the bytes of its file. Refusals 1, 4, 12.
+ghost use mathlib.Core.Path.{_≡_};
+ghost use Rattle.definitions.specs.Calls.Store.{store, storeFile};
+use crate::head;
+use crate::records;
+use definitions::Counted;
+use list::check;
+use list::settings;
+
+// The count is in bytes; with 12 it is the number of bytes needed.
+pub fn store(m: u32, s: u32, keys: &[u32], bits: &[u32], n: usize, file: &mut [u8]) -> Counted
+    ensures { λ r. ⌜ r ≡ store m s (now (keys .entry)) (now (bits .entry)) n (now (file .entry)) ⌝ }
+    ensures { λ _. ⌜ now (file .exit) ≡ storeFile m s (now (keys .entry)) (now (bits .entry)) n (now (file .entry)) ⌝ }
+{
+    if settings::are_bad(m, s) {
+        return Counted {
+            refusal: 1,
+            count: 0,
+        };
+    }
+    if !check::is_list(m, s, keys, bits, n) {
+        return Counted {
+            refusal: 4,
+            count: 0,
+        };
+    }
+    let needed = 11 + 6 * n;
+    if file.len() < needed {
+        return Counted {
+            refusal: 12,
+            count: needed as u64,
+        };
+    }
+    head::put(m, s, n as u32, file);
+    records::put(keys, bits, n, file);
+    Counted {
+        refusal: 0,
+        count: needed as u64,
+    }
+}

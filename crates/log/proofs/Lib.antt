@@ -1,0 +1,4 @@
+pub mod Records
+pub mod Last
+pub mod Entry
+pub mod Sound

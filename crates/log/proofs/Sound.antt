@@ -1,0 +1,96 @@
+-- A log from its end: what stands before the last entry is sound or not, as the log is, and the answers of the check. Rests on Last.
+use Prim.Native.Nat.{ℕ, suc, _+_, _-_, _≤_, _<_}
+use mathlib.Core.Path.{_≡_, refl, sym, ap, _∙_}
+use mathlib.Core.Bool.{Bool, true, false, not, _&&_}
+use mathlib.Core.List.{List}
+use native.Mathlib.Omega.{arith}
+use lib.ListN.{length, length-take}
+use borrow.Author.Tests.{le-leb, lt-leb, not-true, not-false}
+use Rattle.definitions.specs.List.{Record}
+use Rattle.definitions.specs.Read.{room, paired, recordsOf}
+use Rattle.definitions.specs.Log.{lastCount, beforeLast, lastIsEntry, isSound, noLog}
+use Rattle.definitions.proofs.SoundLog.{divides-step, divides-enough, empty-sound, ends-in-entry}
+use Rattle.log.proofs.Records.{records-length}
+use Rattle.log.proofs.Last.{closingCount, last-count-at, before-last-at}
+
+-- a log with records is sound exactly when its last are an entry and those before it are sound
+pub sound-step : (m s : ℕ) (log : List Record) → 0 < length log → isSound m s log ≡ lastIsEntry m s log && isSound m s (beforeLast log)
+unfolding beforeLast
+sound-step m s log some =
+    let shorter : length (beforeLast log) ≤ length log = let e = length-take (length log - (lastCount log + 1)) log in omega arith in
+    sym (divides-enough (suc (length log)) m s log (omega arith))
+    ∙ divides-step (length log) m s log some
+    ∙ ap (λ b. lastIsEntry m s log && b) (divides-enough (length log) m s (beforeLast log) shorter)
+
+-- where the slices are too short
+pub short-keys : (m s : ℕ) (keys values : List ℕ) (used : ℕ) → length keys < used → true ≡ noLog m s keys values used
+unfolding noLog
+short-keys m s keys values used h = let e = lt-leb used (room keys values) (omega arith) in rw e
+
+pub short-values : (m s : ℕ) (keys values : List ℕ) (used : ℕ) → length values < used → true ≡ noLog m s keys values used
+unfolding noLog
+short-values m s keys values used h = let e = lt-leb used (room keys values) (omega arith) in rw e
+
+-- the entries from `end` on have passed
+pub record Passed (m s : ℕ) (keys values : List ℕ) (used end : ℕ) : Type 0 where
+  pub within : end ≤ used
+  pub in-keys : used ≤ length keys
+  pub in-values : used ≤ length values
+  pub same : isSound m s (recordsOf keys values used) ≡ isSound m s (recordsOf keys values end)
+
+-- at first none has
+pub begins : (m s : ℕ) (keys values : List ℕ) (used : ℕ) → used ≤ length keys → used ≤ length values → Passed m s keys values used used
+begins m s keys values used in-keys in-values = record { within = omega arith; in-keys = in-keys; in-values = in-values; same = refl }
+
+-- what the check answers of records that are there
+there : (m s : ℕ) (keys values : List ℕ) (used : ℕ) → used ≤ length keys → used ≤ length values → not (isSound m s (recordsOf keys values used)) ≡ noLog m s keys values used
+unfolding noLog
+there m s keys values used in-keys in-values =
+    ap (λ b. not (b && isSound m s (recordsOf keys values used))) (sym (le-leb used (room keys values) (omega arith)))
+
+module _ {m s : ℕ} {keys values : List ℕ} {used end : ℕ} (p : Passed m s keys values used end) where
+  answer : {b : Bool} → isSound m s (recordsOf keys values end) ≡ b → not b ≡ noLog m s keys values used
+  answer e = sym (ap not (p .same ∙ e)) ∙ there m s keys values used (p .in-keys) (p .in-values)
+
+  -- no record is left
+  pub ends : end ≤ 0 → false ≡ noLog m s keys values used
+  unfolding paired
+  ends h = let none : end ≡ 0 = omega arith in answer (ap (λ n. isSound m s (recordsOf keys values n)) none ∙ empty-sound m s)
+
+  module _ (some : 0 < end) where
+    has : 0 < length (recordsOf keys values end)
+    has = let size = records-length keys values end (omega arith) (omega arith) in omega arith
+
+    -- what the check of the last entry has answered
+    module _ (r : Bool) (told : r ≡ lastIsEntry m s (recordsOf keys values end)) where
+      -- the last records are no entry
+      pub stops : not r ≡ true → true ≡ noLog m s keys values used
+      stops e =
+          answer
+          (sound-step m s (recordsOf keys values end) has
+          ∙ ap (λ b. b && isSound m s (beforeLast (recordsOf keys values end))) (sym told ∙ not-true r e))
+
+      module _ (passes : not r ≡ false) (count : ℕ) (e : count ≡ closingCount values end) where
+        entry : lastIsEntry m s (recordsOf keys values end) ≡ true
+        entry = sym told ∙ not-false r passes
+
+        -- the content is there
+        pub content-there : count ≤ end - 1
+        content-there =
+            let size = records-length keys values end (omega arith) (omega arith) in
+            let c = last-count-at keys values end (omega arith) (omega arith) some in
+            let h = ends-in-entry m s (recordsOf keys values end) entry in
+            omega (arith, h .all-there)
+
+        -- the entry is passed
+        pub turns : Passed m s keys values used (end - 1 - count)
+        turns = record {
+          within = omega arith;
+          in-keys = p .in-keys;
+          in-values = p .in-values;
+          same = p .same
+              ∙ sound-step m s (recordsOf keys values end) has
+              ∙ ap (λ b. b && isSound m s (beforeLast (recordsOf keys values end))) entry
+              ∙ ap (isSound m s) (before-last-at keys values end (omega arith) (omega arith) some)
+              ∙ ap (λ c. isSound m s (recordsOf keys values (end - 1 - c))) (sym e);
+        }

@@ -1,0 +1,58 @@
+// The check of a log (refusal 5), from the end: each closing record says where its entry begins, so no entry is looked for.
+ghost use mathlib.Core.Path.{_≡_};
+ghost use mathlib.Core.Bool.{not};
+ghost use Prim.Native.Nat.{_-_, _≤_, _<_};
+ghost use lib.ListN.{length, getD};
+ghost use Rattle.definitions.specs.Read.{recordsOf};
+ghost use Rattle.definitions.specs.Log.{lastIsEntry, noLog};
+use keys::Key;
+use list::check;
+
+// The number of content records that the last entry claims to have.
+pub fn last_count(values: &[u32], used: usize) -> usize
+    requires { ⌜ (0 < used) × (used ≤ length (now values)) ⌝ }
+    ensures { λ r. ⌜ r ≡ getD (now (values .entry)) (used - 1) 0 ⌝ }
+{
+    values[used - 1] as usize
+}
+
+// The used records end in an entry: all of it is there, its key is valid, and its content is a list of that block.
+fn ends_in_entry(m: u32, s: u32, keys: &[u32], values: &[u32], used: usize) -> bool
+    requires { ⌜ (m ≤ 10) × (s ≤ 16) × (0 < used) × (used ≤ length (now keys)) × (used ≤ length (now values)) ⌝ }
+    ensures { λ r. ⌜ r ≡ lastIsEntry m s (recordsOf (now (keys .entry)) (now (values .entry)) used) ⌝ }
+{
+    let last = used - 1;
+    let count = last_count(values, used);
+    if last < count {
+        return false;
+    }
+    let key = keys[last];
+    let block = Key { number: key };
+    if !block.is_valid(m) {
+        return false;
+    }
+    let start = last - count;
+    check::is_content(m, s, &keys[start..last], &values[start..last], count, key)
+}
+
+// The used records are there, and divide from the end into entries.
+pub fn is_sound(m: u32, s: u32, keys: &[u32], values: &[u32], used: usize) -> bool
+    requires { ⌜ (m ≤ 10) × (s ≤ 16) ⌝ }
+    ensures { λ r. ⌜ not r ≡ noLog m s (now (keys .entry)) (now (values .entry)) used ⌝ }
+{
+    if keys.len() < used {
+        return false;
+    }
+    if values.len() < used {
+        return false;
+    }
+    let mut end = used;
+    while 0 < end {
+        if !ends_in_entry(m, s, keys, values, end) {
+            return false;
+        }
+        let count = last_count(values, end);
+        end = end - 1 - count;
+    }
+    true
+}

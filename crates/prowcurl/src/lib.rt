@@ -1,0 +1,2 @@
+// The C interface: each call of document 01 under its name in prowcurl.h, with the promise of the function that does the work.
+pub mod lists;
