@@ -1,2 +1,3 @@
 // The C interface: each call of document 01 under its name in prowcurl.h, with the promise of the function that does the work.
+pub mod files;
 pub mod lists;

@@ -1,8 +1,15 @@
-// Lists for C: build.
+// Lists for C: build, raster, standing, part.
 ghost use mathlib.Core.Path.{_≡_};
 ghost use Rattle.definitions.specs.Calls.Build.{build as built, buildKeys, buildBits};
+ghost use Rattle.definitions.specs.Calls.Raster.{raster as rasterAnswer, rasterPixels};
+ghost use Rattle.definitions.specs.Calls.Standing.{standing as standingAnswer};
+ghost use Rattle.definitions.specs.Calls.Part.{partSpan};
 use definitions::Counted;
+use definitions::Done;
+use definitions::Span;
+use definitions::Stands;
 use list::build;
+use list::calls;
 
 #[no_mangle]
 pub extern "C" fn hlq_build(
@@ -12,9 +19,45 @@ pub extern "C" fn hlq_build(
     keys: &mut [u32],
     bits: &mut [u32],
 ) -> Counted
-    ensures result { λ r. ⌜ r ≡ built m s (now (raster .entry)) (now (keys .entry)) (now (bits .entry)) ⌝ }
-    ensures keys_after { λ _. ⌜ now (keys .exit) ≡ buildKeys m s (now (raster .entry)) (now (keys .entry)) (now (bits .entry)) ⌝ }
-    ensures bits_after { λ _. ⌜ now (bits .exit) ≡ buildBits m s (now (raster .entry)) (now (keys .entry)) (now (bits .entry)) ⌝ }
+    ensures { λ r. ⌜ r ≡ built m s (now (raster .entry)) (now (keys .entry)) (now (bits .entry)) ⌝ }
+    ensures { λ _. ⌜ now (keys .exit) ≡ buildKeys m s (now (raster .entry)) (now (keys .entry)) (now (bits .entry)) ⌝ }
+    ensures { λ _. ⌜ now (bits .exit) ≡ buildBits m s (now (raster .entry)) (now (keys .entry)) (now (bits .entry)) ⌝ }
 {
     build::build(m, s, raster, keys, bits)
+}
+
+#[no_mangle]
+pub extern "C" fn hlq_raster(
+    m: u32,
+    s: u32,
+    keys: &[u32],
+    bits: &[u32],
+    n: usize,
+    raster: &mut [u8],
+) -> Done
+    ensures { λ r. ⌜ r ≡ rasterAnswer m s (now (keys .entry)) (now (bits .entry)) n (now (raster .entry)) ⌝ }
+    ensures { λ _. ⌜ now (raster .exit) ≡ rasterPixels m s (now (keys .entry)) (now (bits .entry)) n (now (raster .entry)) ⌝ }
+{
+    calls::raster(m, s, keys, bits, n, raster)
+}
+
+#[no_mangle]
+pub extern "C" fn hlq_standing(
+    m: u32,
+    s: u32,
+    keys: &[u32],
+    bits: &[u32],
+    n: usize,
+    key: u32,
+) -> Stands
+    ensures { λ r. ⌜ r ≡ standingAnswer m s (now (keys .entry)) (now (bits .entry)) n key ⌝ }
+{
+    calls::standing(m, s, keys, bits, n, key)
+}
+
+#[no_mangle]
+pub extern "C" fn hlq_part(m: u32, s: u32, keys: &[u32], bits: &[u32], n: usize, key: u32) -> Span
+    ensures { λ r. ⌜ r ≡ partSpan m s (now (keys .entry)) (now (bits .entry)) n key ⌝ }
+{
+    calls::part_span(m, s, keys, bits, n, key)
 }

@@ -1,0 +1,49 @@
+// Where a block stands in a list (document 01, "Where a block stands"): binary searches among the first n keys.
+ghost use mathlib.Core.Path.{_≡_};
+ghost use Prim.Native.Nat.{_+_, _≤_, _^_};
+ghost use lib.ListN.{take};
+ghost use Rattle.list.specs.Sorted.{Ascends, Sorted};
+ghost use Rattle.list.specs.Among.{keysUpTo, keysBelow, standingAmong};
+use definitions::Standing;
+
+// How many of the first n keys are at or before x: the answer lies from low to high, and each turn halves what is left.
+pub fn up_to(keys: &[u32], n: usize, x: u32) -> usize
+    requires { ⌜ Ascends (now keys) n ⌝ }
+    ensures { λ r. ⌜ r ≡ keysUpTo x (take n (now (keys .entry))) ⌝ }
+{
+    let mut low = 0;
+    let mut high = n;
+    while low < high {
+        let middle = low + (high - low) / 2;
+        let key = keys[middle];
+        if x < key {
+            high = middle;
+        } else {
+            low = middle + 1;
+        }
+    }
+    low
+}
+
+// Where a key stands among the first n keys.
+pub fn stand(keys: &[u32], n: usize, key: u32) -> Standing
+    requires { ⌜ Sorted (now keys) n key ⌝ }
+    ensures { λ r. ⌜ r ≡ standingAmong key (take n (now (keys .entry))) ⌝ }
+{
+    let place = up_to(keys, n, key) - 1;
+    let found = keys[place];
+    if found == key {
+        Standing::Listed(place)
+    } else {
+        Standing::Inside(place)
+    }
+}
+
+// How many of the first n keys are below key + step: the place after the last record of the block with that key, whose interval has step keys.
+pub fn end_of(keys: &[u32], n: usize, key: u32, step: u32) -> usize
+    requires { ⌜ Ascends (now keys) n ⌝ }
+    requires { ⌜ (1 ≤ step) × (key + step ≤ 2 ^ 32) ⌝ }
+    ensures { λ r. ⌜ r ≡ keysBelow (key + step) (take n (now (keys .entry))) ⌝ }
+{
+    up_to(keys, n, key + (step - 1))
+}
