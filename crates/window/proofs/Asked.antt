@@ -1,0 +1,61 @@
+-- What asking where a block stands gives on an accepted list, as the code has it: at the place are the block's own bits; a listed block's whole list
+-- stands there; a block inside a leaf has one feature. Rests on the laws of standing.
+use Prim.Native.Nat.{ℕ, _-_, _≤_, _<_}
+use mathlib.Core.Path.{_≡_, sym, _∙_, ap}
+use mathlib.Core.Bool.{true}
+use mathlib.Core.List.{List}
+use native.Mathlib.Omega.{arith}
+use lib.ListN.{getD, take}
+use Rattle.keys.specs.Key.{rootKey}
+use Rattle.keys.proofs.Under.{Block}
+use Rattle.definitions.specs.declared.Standing.{Standing}
+use Rattle.definitions.specs.declared.Standing.the-variants.{Listed, Inside}
+use Rattle.definitions.specs.Picture.{oneFeature}
+use Rattle.definitions.specs.Bits.{bitsOf}
+use Rattle.definitions.specs.List.{listOfPicture}
+use Rattle.definitions.specs.Standing.{placeOf}
+use Rattle.definitions.proofs.Features.{one-under}
+use Rattle.list.specs.Own.{OwnList, shownBy}
+use Rattle.list.specs.Among.{keysUpTo, placeAmong, standingAmong}
+use Rattle.list.proofs.Among.{found-some}
+use Rattle.list.proofs.Lookup.{lookup-listed, lookup-inside, AtPlace}
+use Rattle.list.proofs.Own.{own-sorted, own-place, own-bits, own-found, own-listed, own-inside}
+
+-- the place is one of the list's, and has the block's bits
+pub record Asked (m : ℕ) (keys bits : List ℕ) (n k r c place : ℕ) : Type 0 where
+  pub room : place < n
+  pub value : getD bits place 0 ≡ bitsOf (shownBy m keys bits n) k r c
+
+module _ {m : ℕ} {keys bits : List ℕ} {n : ℕ} (o : OwnList m keys bits n) where
+  -- some key is at or before each
+  pub asked-some : (κ count : ℕ) → count ≡ keysUpTo κ (take n keys) → 1 ≤ count
+  asked-some κ count e = found-some (own-sorted o κ) count e
+
+  -- at the place of the last key at or before a block's are the block's bits
+  pub asked-count : {k r c κ : ℕ} → Block m k r c κ → (count : ℕ) → count ≡ keysUpTo κ (take n keys) → Asked m keys bits n k r c (count - 1)
+  unfolding placeAmong
+  asked-count {κ = κ} b count e =
+      let low = own-place o κ in
+      record { room = omega arith; value = ap (λ x. getD bits (x - 1) 0) e ∙ own-bits o b }
+
+  module _ {k r c κ : ℕ} (b : Block m k r c κ) (stands : Standing) (place : ℕ) (is : stands ≡ standingAmong κ (take n keys)) where
+    -- the record of a listed block is its own
+    pub asked-listed : stands ≡ Listed place → Asked m keys bits n k r c place
+    asked-listed e = let f = own-found o b (Listed place) (sym e ∙ is) in record { room = f .0; value = f .1 }
+
+    -- its whole list stands from there on
+    pub asked-list : stands ≡ Listed place → AtPlace (shownBy m keys bits n) m 0 0 rootKey k r c κ κ
+    asked-list e = lookup-listed (shownBy m keys bits n) b (own-listed o κ place (sym e ∙ is) .0)
+
+    -- and the place is where
+    pub asked-from : stands ≡ Listed place → place ≡ placeOf κ (listOfPicture m (shownBy m keys bits n))
+    asked-from e = sym (own-listed o κ place (sym e ∙ is) .1)
+
+    -- the leaf around a block that is not listed has the block's one bit
+    pub asked-inside : stands ≡ Inside place → Asked m keys bits n k r c place
+    asked-inside e = let f = own-found o b (Inside place) (sym e ∙ is) in record { room = f .0; value = f .1 }
+
+    pub asked-one : stands ≡ Inside place → oneFeature (shownBy m keys bits n) k r c ≡ true
+    asked-one e =
+        let i = lookup-inside (shownBy m keys bits n) b (own-inside o κ place (sym e ∙ is) .0) in
+        one-under (shownBy m keys bits n) (i .holds) (i .one)

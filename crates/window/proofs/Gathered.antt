@@ -1,0 +1,81 @@
+-- Report on the walk: every slot gathered is that of a pixel of the window, and every pixel of the window before the key where the walk stands has
+-- its slot. A largest block adds its own bits. Rests on Steps and the meaning of report.
+use Prim.Native.Nat.{ℕ, _+_, _^_, _<_}
+use mathlib.Core.Path.{_≡_, sym, _∙_, ap}
+use mathlib.Core.Bool.{true, true≢false}
+use mathlib.Core.Logic.{⊎-elim}
+use native.Mathlib.Omega.{arith}
+use lib.Bits.{bitOr}
+use Rattle.keys.specs.Block.{pixelKey}
+use Rattle.keys.proofs.Cases.{split, or-either, or-left, or-right, same-test}
+use Rattle.keys.proofs.Pixel.{pixelKey-lt}
+use Rattle.definitions.specs.Picture.{Picture}
+use Rattle.definitions.specs.Bits.{hasSlot}
+use Rattle.definitions.specs.Window.{isWindow, inWindow, reportIn}
+use Rattle.definitions.specs.declared.Window.{Window}
+use Rattle.definitions.proofs.Slots.{slot-union, slot-of-zero, bits-equal}
+use Rattle.definitions.proofs.BitsOf.{bits-to, bits-from}
+use Rattle.definitions.proofs.WindowScan.{PixelWith, report-exactly}
+use Rattle.window.specs.declared.walk.Spot.{Spot}
+use Rattle.window.specs.Walk.{Stands, isWithin, Clear}
+use Rattle.window.proofs.Lies.{InSpot, within-pixel, window-pixel}
+use Rattle.window.proofs.Steps.{in-spot}
+use Rattle.window.proofs.Seen.{bitsAt}
+
+pub record Gathered (m : ℕ) (p : Picture) (w : Window) (union x : ℕ) : Type 0 where
+  pub only : (i : ℕ) → hasSlot union i ≡ true → PixelWith p w i
+  pub every : (row column : ℕ) → inWindow w row column ≡ true → pixelKey m row column < x → hasSlot union (p row column) ≡ true
+
+module _ (m : ℕ) (p : Picture) (w : Window) where
+  -- nothing before the root
+  pub gathered-none : (x : ℕ) → x ≡ 0 → Gathered m p w 0 x
+  gathered-none x e =
+      record {
+        only = λ i h. absurd (true≢false (sym h ∙ slot-of-zero i));
+        every = λ row column i before. absurd (omega arith);
+      }
+
+  pub gathered-clear : (union x y : ℕ) → Gathered m p w union x → Clear m w x y → Gathered m p w union y
+  gathered-clear union x y g c =
+      record {
+        only = g .only;
+        every = λ row column i before. split (pixelKey m row column) x (g .every row column i) (λ past. absurd (c row column i past before));
+      }
+
+  module _ {s : Spot} (good : isWindow m w ≡ true) (h : Stands m s) (e : isWithin s w ≡ true) where
+    -- a slot of a block within the window belongs to a pixel of the window
+    block-only : (i : ℕ) → hasSlot (bitsAt p h) i ≡ true → PixelWith p w i
+    block-only i has =
+        let x = bits-to p (h .height) (s .row) (s .column) i has in
+        let inner : InSpot s (x .row) (x .column) = let v = x .within in omega (arith, h .side) in
+        record { row = x .row; column = x .column; inside = within-pixel s w (x .row) (x .column) e inner; feature = x .holds }
+
+    block-every : (row column : ℕ) → InSpot s row column → hasSlot (bitsAt p h) (p row column) ≡ true
+    block-every row column i = bits-from p (h .height) (s .row) (s .column) row column (omega (arith, h .side))
+
+    -- a largest block adds its bits
+    pub gathered-block : (union bits : ℕ) → bits ≡ bitsAt p h → Gathered m p w union (s .key) → Gathered m p w (bitOr union bits) (s .key + s .step)
+    gathered-block union bits is g =
+        record {
+          only = λ i has.
+              ⊎-elim (λ (a : hasSlot union i ≡ true). g .only i a) (λ (b : hasSlot bits i ≡ true). block-only i (ap (λ y. hasSlot y i) (sym is) ∙ b))
+              (or-either (hasSlot union i) (hasSlot bits i) (sym (slot-union union bits i) ∙ has));
+          every = λ row column i before.
+              let f = p row column in
+              let q = window-pixel m w row column good i in
+              slot-union union bits f
+              ∙ split (pixelKey m row column) (s .key) (λ low. or-left (hasSlot union f) (hasSlot bits f) (g .every row column i low))
+              (λ past.
+              or-right (hasSlot union f) (hasSlot bits f)
+              (ap (λ y. hasSlot y f) is ∙ block-every row column (in-spot row column h (q .0) (q .1) past before)));
+        }
+
+  -- at the end the union is the report
+  pub gathered-end : (union x : ℕ) → x ≡ 5 ^ m → Gathered m p w union x → union ≡ reportIn p w
+  gathered-end union x end g =
+      bits-equal union (reportIn p w)
+      (λ i. same-test _ _ (λ has. report-exactly p w i .1 (g .only i has))
+      (λ has.
+      let y = report-exactly p w i .0 has in
+      let low = pixelKey-lt m (y .row) (y .column) in
+      ap (hasSlot union) (sym (y .feature)) ∙ g .every (y .row) (y .column) (y .inside) (omega arith)))

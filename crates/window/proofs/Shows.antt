@@ -1,0 +1,61 @@
+-- Whether a block shows a feature, read off the record where it stands: a listed block by the feature's bit, a block inside a leaf by the leaf's
+-- whole bitstring. Rests on Asked and Slot.
+use Prim.Native.Nat.{ℕ, _^_}
+use mathlib.Core.Path.{_≡_, refl, sym, _∙_, ap}
+use mathlib.Core.Bool.{true, false}
+use mathlib.Core.List.{List}
+use lib.Bits.{bitAnd}
+use lib.ListN.{getD, take}
+use borrow.Author.Tests.{eq-eqb, ne-eqb}
+use Rattle.definitions.specs.declared.Standing.{Standing}
+use Rattle.definitions.specs.declared.Standing.the-variants.{Listed, Inside}
+use Rattle.definitions.specs.Bits.{hasSlot}
+use Rattle.definitions.proofs.Slots.{slot-power}
+use Rattle.definitions.proofs.BitsOf.{bits-one}
+use Rattle.list.specs.Own.{OwnList, shownBy}
+use Rattle.list.specs.Among.{standingAmong}
+use Rattle.window.specs.declared.walk.Spot.{Spot}
+use Rattle.window.specs.Walk.{Stands}
+use Rattle.window.proofs.Asked.{Asked, asked-listed, asked-inside, asked-one}
+use Rattle.window.proofs.Slot.{bit-zero, bit-some}
+use Rattle.window.proofs.Seen.{bitsAt}
+
+module _
+    {m : ℕ}
+    {keys bits : List ℕ}
+    {n : ℕ}
+    (o : OwnList m keys bits n)
+    {s : Spot}
+    (h : Stands m s)
+    (f bit : ℕ)
+    (is-bit : bit ≡ 2 ^ f)
+    (stands : Standing)
+    (place : ℕ)
+    (is : stands ≡ standingAmong (s .key) (take n keys))
+  where
+    shared : Asked m keys bits n (h .height) (s .row) (s .column) place → bitAnd (bitsAt (shownBy m keys bits n) h) (2 ^ f) ≡ bitAnd (getD bits place 0) bit
+    shared a = ap (λ x. bitAnd x (2 ^ f)) (sym (a .value)) ∙ ap (bitAnd (getD bits place 0)) (sym is-bit)
+
+    -- a listed block without the bit
+    pub listed-no : stands ≡ Listed place → bitAnd (getD bits place 0) bit ≡ 0 → hasSlot (bitsAt (shownBy m keys bits n) h) f ≡ false
+    listed-no e none = bit-zero _ f (shared (asked-listed o (h .block) stands place is e) ∙ none)
+
+    -- and with it
+    pub listed-yes : stands ≡ Listed place → (bitAnd (getD bits place 0) bit ≡ 0 → ⊥) → hasSlot (bitsAt (shownBy m keys bits n) h) f ≡ true
+    listed-yes e some = bit-some _ f (λ z. some (sym (shared (asked-listed o (h .block) stands place is e)) ∙ z))
+
+    -- a block inside a leaf of another feature
+    pub leaf-no : stands ≡ Inside place → (getD bits place 0 ≡ bit → ⊥) → hasSlot (bitsAt (shownBy m keys bits n) h) f ≡ false
+    leaf-no e other =
+        let a = asked-inside o (h .block) stands place is e in
+        let p = shownBy m keys bits n in
+        let one = bits-one p (h .height) (s .row) (s .column) (asked-one o (h .block) stands place is e) in
+        ap (λ x. hasSlot x f) one
+        ∙ slot-power (p (s .row) (s .column)) f
+        ∙ ne-eqb (p (s .row) (s .column)) f (λ same. other (a .value ∙ one ∙ ap (λ x. 2 ^ x) same ∙ sym is-bit))
+
+    -- and of this one
+    pub leaf-yes : stands ≡ Inside place → getD bits place 0 ≡ bit → hasSlot (bitsAt (shownBy m keys bits n) h) f ≡ true
+    leaf-yes e same =
+        let a = asked-inside o (h .block) stands place is e in
+        ap (λ x. hasSlot x f) (sym (a .value) ∙ same ∙ is-bit) ∙ slot-power f f ∙ eq-eqb f f refl

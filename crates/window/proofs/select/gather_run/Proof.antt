@@ -1,0 +1,172 @@
+-- `select::gather_run` meets its contract: what is counted and written so far, with what the rest of the run gives, is what the whole run gives.
+use Prim.Native.Nat.{ℕ, _+_, _-_, _≤_, _<_}
+use mathlib.Core.Path.{_≡_, refl, sym, ap, ap₂, _∙_}
+use mathlib.Core.Logic.{⊎-elim}
+use mathlib.Core.List.{List, [], _∷_}
+use native.Mathlib.Numerals.{add-one}
+use native.Mathlib.Omega.{arith}
+use lib.ListN.{length, getD, drop}
+use Rattle.definitions.specs.List.{recordOf}
+use Rattle.definitions.specs.Read.{recordsOf}
+use Rattle.window.specs.Gather.{keysUntil, putAt, written, Gave}
+use Rattle.window.proofs.Written.{written-none, written-one, length-put}
+use Rattle.window.proofs.Until.{records-drop, records-end, until-none, until-stop, until-give, until-pass}
+use Rattle.window.proofs.select.gather_run.Statement.{statement}
+use Rattle.window.proofs.select.gather_run.Tie as tie
+
+-- what the run gives from a place on
+abbrev rest : List ℕ → List ℕ → ℕ → ℕ → ℕ → ℕ → List ℕ
+rest keys bits n end bit i = keysUntil end bit (drop i (recordsOf keys bits n))
+
+record Passed (whole : List ℕ) (limit count : ℕ) (answer₀ answer : List ℕ) (given i : ℕ) (left : List ℕ) : Type 0 where
+  counts : given + length left ≡ count + length whole
+  writes : written limit answer given left ≡ written limit answer₀ count whole
+  lengths : length answer ≡ length answer₀
+  bound : given ≤ count + i
+
+abbrev Inv-loop : tie.InvT-loop
+Inv-loop keys bits n first end bit answer₀ limit count given₀ i₀ answer given i =
+    Passed (rest keys bits n end bit first) limit count answer₀ answer given i (rest keys bits n end bit i)
+
+abbrev μ-loop : tie.MeasureT-loop
+μ-loop keys bits n first end bit answer₀ limit count given₀ i₀ answer given i = n - i
+
+begins : (whole : List ℕ) (limit count : ℕ) (answer : List ℕ) (first : ℕ) → Passed whole limit count answer answer count first whole
+begins whole limit count answer first = record { counts = refl; writes = refl; lengths = refl; bound = omega arith }
+
+module _ {whole : List ℕ} {limit count : ℕ} {answer₀ answer : List ℕ} {given i : ℕ} {left : List ℕ} (p : Passed whole limit count answer₀ answer given i left) where
+  -- nothing is left
+  stops : left ≡ [] → Gave whole limit count answer₀ answer given
+  stops e =
+      record {
+        counted = let n = ap length e in omega (arith, p .counts);
+        wrote = sym (written-none limit answer given) ∙ ap (written limit answer given) (sym e) ∙ p .writes;
+      }
+
+  -- a key is given
+  gives : (key : ℕ) (more answer₁ : List ℕ) (given₁ : ℕ)
+      → left ≡ key ∷ more
+      → answer₁ ≡ putAt limit answer given key
+      → given₁ ≡ given + 1
+      → Passed whole limit count answer₀ answer₁ given₁ (i + 1) more
+  gives key more answer₁ given₁ e f g =
+      record {
+        counts = let n = ap length e in omega (arith, p .counts);
+        writes = ap₂ (λ (x : List ℕ) (j : ℕ). written limit x j more) f (g ∙ add-one given)
+            ∙ sym (written-one limit answer given key more)
+            ∙ ap (written limit answer given) (sym e)
+            ∙ p .writes;
+        lengths = ap length f ∙ length-put limit answer given key ∙ p .lengths;
+        bound = omega (arith, p .bound);
+      }
+
+  -- a record is passed
+  skips : (more answer₁ : List ℕ) (given₁ : ℕ) → left ≡ more → answer₁ ≡ answer → given₁ ≡ given → Passed whole limit count answer₀ answer₁ given₁ (i + 1) more
+  skips more answer₁ given₁ e f g =
+      record {
+        counts = let n = ap length e in omega (arith, p .counts);
+        writes = ap₂ (λ (x : List ℕ) (j : ℕ). written limit x j more) f g ∙ ap (written limit answer given) (sym e) ∙ p .writes;
+        lengths = ap length f ∙ p .lengths;
+        bound = omega (arith, p .bound);
+      }
+
+-- the record at a place
+module _ (keys bits : List ℕ) (n end bit i : ℕ) (inside : i < n) (fits : n ≤ length keys) (room : n ≤ length bits) where
+  at-record : rest keys bits n end bit i ≡ keysUntil end bit (recordOf (getD keys i 0) (getD bits i 0) ∷ drop (i + 1) (recordsOf keys bits n))
+  at-record =
+      ap (keysUntil end bit) (records-drop keys bits n i inside fits room)
+      ∙ ap (λ (j : ℕ). keysUntil end bit (recordOf (getD keys i 0) (getD bits i 0) ∷ drop j (recordsOf keys bits n))) (sym (add-one i))
+
+  past-end : end ≤ getD keys i 0 → rest keys bits n end bit i ≡ []
+  past-end h = at-record ∙ until-stop end bit _ _ h
+
+  with-bit : getD keys i 0 < end → getD bits i 0 ≡ bit → rest keys bits n end bit i ≡ getD keys i 0 ∷ rest keys bits n end bit (i + 1)
+  with-bit h e = at-record ∙ until-give end bit _ _ h e
+
+  without-bit : getD keys i 0 < end → (getD bits i 0 ≡ bit → ⊥) → rest keys bits n end bit i ≡ rest keys bits n end bit (i + 1)
+  without-bit h e = at-record ∙ until-pass end bit _ _ h e
+
+-- the entry of the function, from the head of the loop
+abbrev entry : tie.At-loop Inv-loop μ-loop → tie.Start Inv-loop μ-loop
+entry c = c .before .before .before .before
+
+loop-holds : tie.Need-loop-holds Inv-loop μ-loop
+loop-holds c = begins _ _ _ _ _
+
+mul-key : tie.Need-mul-key Inv-loop μ-loop
+mul-key c = omega (arith, c .loop-test .taken, entry (c .before) .pre .0, entry (c .before) .good .0 .1)
+
+shared-slice-read-key : tie.Need-shared-slice-read-key Inv-loop μ-loop
+shared-slice-read-key c = omega (arith, c .before .loop-test .taken, entry (c .before .before) .pre .0)
+
+same-length : tie.Need-same-length Inv-loop μ-loop
+same-length c = c .before .before .before .loop .inv .lengths
+
+returns : tie.Need-returns Inv-loop μ-loop
+returns c =
+    let at = c .before .before .before in
+    let pre = entry at .pre in
+    stops (at .loop .inv) (past-end _ _ _ _ _ _ (c .before .before .loop-test .taken) (pre .0) (pre .1) (c .if1 .taken))
+
+mul-if2 : tie.Need-mul-if2 Inv-loop μ-loop
+mul-if2 c =
+    let at = c .before .before .before in
+    omega (arith, c .before .before .loop-test .taken, entry at .pre .1, entry at .good .1 .0 .1)
+
+shared-slice-read-if2 : tie.Need-shared-slice-read-if2 Inv-loop μ-loop
+shared-slice-read-if2 c = omega (arith, c .before .before .before .loop-test .taken, entry (c .before .before .before .before) .pre .1)
+
+put-requires : tie.Need-put-requires Inv-loop μ-loop
+put-requires c κs =
+    let at = c .before .before .before .before .before .before in
+    omega (arith, entry at .pre .2, at .loop .inv .lengths)
+
+add-given : tie.Need-add-given Inv-loop μ-loop
+add-given c =
+    let at = c .before .before .before .before .before .before .before .before .before in
+    omega (arith, at .loop .inv .bound, entry at .pre .3, entry at .pre .0, entry at .good .0 .1, c .before .before .before .before .before .before .before .before .loop-test .taken)
+
+add-i : tie.Need-add-i Inv-loop μ-loop
+add-i c =
+    let at = c .before .before .before .before .before in
+    omega (arith, c .before .before .before .before .loop-test .taken, entry at .pre .0, entry at .good .0 .0)
+
+loop-less : tie.Need-loop-less Inv-loop μ-loop
+loop-less c = omega (arith, c .before .before .before .before .loop-test .taken)
+
+loop-again : tie.Need-loop-again Inv-loop μ-loop
+loop-again c =
+    let at = c .before .before .before .before .before in
+    let pre = entry at .pre in
+    let inside = c .before .before .before .before .loop-test .taken in
+    let below = c .before .before .if1 .left in
+    ⊎-elim (λ w. gives (at .loop .inv) _ _ _ _ (with-bit _ _ _ _ _ _ inside (pre .0) (pre .1) below (w .0 .taken)) (w .5 ∙ w .2 .ensures) (w .6))
+    (λ w. skips (at .loop .inv) _ _ _ (without-bit _ _ _ _ _ _ inside (pre .0) (pre .1) below (w .0 .left)) (w .1) (w .2))
+    (c .if2 .came)
+
+same-length-2 : tie.Need-same-length-2 Inv-loop μ-loop
+same-length-2 c = c .before .loop .inv .lengths
+
+returns-2 : tie.Need-returns-2 Inv-loop μ-loop
+returns-2 c = stops (c .before .loop .inv) (ap (keysUntil _ _) (records-end _ _ _ _ (c .loop-test .left)) ∙ until-none _ _)
+
+pub gather-run-spec : {M : Type 1} → statement M
+gather-run-spec =
+    tie.close
+    (tie.spec
+    Inv-loop
+    μ-loop
+    loop-holds
+    mul-key
+    shared-slice-read-key
+    same-length
+    returns
+    mul-if2
+    shared-slice-read-if2
+    put-requires
+    add-given
+    add-i
+    loop-less
+    loop-again
+    same-length-2
+    returns-2)

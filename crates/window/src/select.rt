@@ -1,0 +1,122 @@
+// Select: where does a feature occur in a window?
+ghost use mathlib.Core.Path.{_≡_};
+ghost use mathlib.Core.Bool.{true};
+ghost use Prim.Native.Nat.{_+_, _≤_, _<_};
+ghost use lib.ListN.{length, drop};
+ghost use Rattle.definitions.specs.Edit.{contentOf};
+ghost use Rattle.definitions.specs.Read.{recordsOf};
+ghost use Rattle.definitions.specs.Window.{isWindow, selectIn};
+ghost use Rattle.list.specs.Own.{OwnList, shownBy};
+ghost use Rattle.window.specs.Walk.{Stands};
+ghost use Rattle.window.specs.Gather.{keysWith, keysUntil, putAt, Gave};
+use crate::walk;
+use crate::walk::Found;
+use crate::walk::Spot;
+use definitions::Standing;
+use definitions::Window;
+use keys::power;
+use list::standing;
+
+// Writes a key at its place, if that is below the limit: with the limit 0 keys are only counted.
+fn put(answer: &mut [u32], limit: usize, place: usize, key: u32)
+    requires { ⌜ limit ≤ length (now answer) ⌝ }
+    ensures { λ r. ⌜ now (answer .exit) ≡ putAt limit (now (answer .entry)) place key ⌝ }
+{
+    if place < limit {
+        answer[place] = key;
+    }
+}
+
+// Gives the keys of the records from a place on that have exactly the bit, up to the first record whose key is at or past the end.
+fn gather_run(
+    keys: &[u32],
+    bits: &[u32],
+    n: usize,
+    first: usize,
+    end: u32,
+    bit: u32,
+    answer: &mut [u32],
+    limit: usize,
+    count: usize,
+) -> usize
+    requires { ⌜ (n ≤ length (now keys)) × (n ≤ length (now bits)) × (limit ≤ length (now answer)) × (count ≤ 9765625) ⌝ }
+    ensures { λ r. ⌜ Gave (keysUntil end bit (drop first (recordsOf (now (keys .entry)) (now (bits .entry)) n)))
+        limit count (now (answer .entry)) (now (answer .exit)) r ⌝ }
+{
+    let mut given = count;
+    let mut i = first;
+    while i < n {
+        let key = keys[i];
+        if end <= key {
+            return given;
+        }
+        if bits[i] == bit {
+            put(answer, limit, given, key);
+            given += 1;
+        }
+        i += 1;
+    }
+    given
+}
+
+// Gives the leaves of a block that have exactly the bit: those of its records, or the block itself where it lies inside such a leaf.
+fn gather_block(
+    m: u32,
+    keys: &[u32],
+    bits: &[u32],
+    n: usize,
+    block: Spot,
+    bit: u32,
+    answer: &mut [u32],
+    limit: usize,
+    count: usize,
+) -> usize
+    requires { ⌜ (m ≤ 10) × Stands m block × OwnList m (now keys) (now bits) n × (limit ≤ length (now answer)) × (count ≤ 9765625) ⌝ }
+    ensures { λ r. ⌜ Gave (keysWith bit (contentOf m (shownBy m (now (keys .entry)) (now (bits .entry)) n) (block .key)))
+        limit count (now (answer .entry)) (now (answer .exit)) r ⌝ }
+{
+    let key = block.key;
+    let step = block.step;
+    let standing = standing::stand(keys, n, key);
+    let Standing::Listed(place) = standing else {
+        let Standing::Inside(leaf) = standing else {
+            return count;
+        };
+        if bits[leaf] == bit {
+            put(answer, limit, count, key);
+            return count + 1;
+        }
+        return count;
+    };
+    gather_run(keys, bits, n, place, key + step, bit, answer, limit, count)
+}
+
+// Gives the keys that select gives: counts them all, and writes those whose places are below the limit.
+pub fn gather(
+    m: u32,
+    keys: &[u32],
+    bits: &[u32],
+    n: usize,
+    window: Window,
+    feature: u32,
+    answer: &mut [u32],
+    limit: usize,
+) -> usize
+    requires { ⌜ (m ≤ 10) × (isWindow m window ≡ true) × (feature < 16) × OwnList m (now keys) (now bits) n × (limit ≤ length (now answer)) ⌝ }
+    ensures { λ r. ⌜ Gave (selectIn m (shownBy m (now (keys .entry)) (now (bits .entry)) n) window feature)
+        limit 0 (now (answer .entry)) (now (answer .exit)) r ⌝ }
+{
+    let bit = power::power_of_two(feature);
+    let mut count = 0;
+    let mut spot = walk::start(m);
+    loop {
+        let Found::At(block) = walk::find_largest(m, spot, window) else {
+            return count;
+        };
+        count = gather_block(m, keys, bits, n, block, bit, answer, limit, count);
+        let Found::At(next) = walk::after(m, block) else {
+            return count;
+        };
+        spot = next;
+    }
+}
