@@ -4,3 +4,8 @@ pub mod Content
 pub mod Climb
 pub mod Plant
 pub mod Put
+pub mod PlanFields
+pub mod Planting
+pub mod Exchanging
+pub mod Putting
+pub mod EntryLogged
