@@ -11,7 +11,7 @@ use Rattle.definitions.specs.List.{Record, recordOf, keysOf, valuesOf}
 use Rattle.definitions.specs.Read.{room}
 use Rattle.definitions.specs.Buffer.{overAt}
 use Rattle.definitions.specs.Log.{closed}
-use Rattle.list.proofs.Among.{keys-paired, values-paired}
+use Rattle.list.proofs.Places.{paired-keys, paired-values}
 use Rattle.edit.specs.EntryLogged.{run, Logged}
 
 -- a run and one number more, stored behind it
@@ -81,10 +81,10 @@ module _ (keys bits : List ℕ) (place count : ℕ) (fits : place + count ≤ ro
   bits-there = let e = length-drop place bits in length-take-le count (drop place bits) (omega arith)
 
   pub run-keys : keysOf (run keys bits place count) ≡ take count (drop place keys)
-  run-keys = keys-paired _ _ (keys-there ∙ sym bits-there)
+  run-keys = paired-keys _ _ (keys-there ∙ sym bits-there)
 
   pub run-values : valuesOf (run keys bits place count) ≡ take count (drop place bits)
-  run-values = values-paired _ _ (keys-there ∙ sym bits-there)
+  run-values = paired-values _ _ (keys-there ∙ sym bits-there)
 
   pub run-length : length (run keys bits place count) ≡ count
   run-length = sym (length-map (run keys bits place count) (λ x. x .key)) ∙ ap length run-keys ∙ keys-there
