@@ -5,7 +5,10 @@ pub mod Climb
 pub mod Plant
 pub mod Put
 pub mod PlanFields
+pub mod EntryLogged
 pub mod Planting
 pub mod Exchanging
 pub mod Putting
-pub mod EntryLogged
+pub mod EditCallChecks
+pub mod PaintCall
+pub mod TakingBackCall

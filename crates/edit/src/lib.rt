@@ -1,4 +1,5 @@
 // Edits of the list: a content put into a block, the log, paint, take back and empty.
+pub mod editing;
 pub mod entry;
 pub mod exchange;
 pub mod parents;

@@ -1,0 +1,88 @@
+-- The tables of paint and take back begin with the same three rows, which are tested first: what these refuse the whole table refuses, and what
+-- passes them is left to the rest of the table. Rests on the laws of tables.
+use Prim.Native.Nat.{ℕ, _≤_}
+use mathlib.Core.Path.{_≡_, refl, sym, _∙_}
+use mathlib.Core.Bool.{true, false}
+use mathlib.Core.List.{List, [], _∷_, _++_}
+use native.Mathlib.Omega.{arith}
+use borrow.Author.Tests.{not-false}
+use Rattle.definitions.specs.Read.{room, isList}
+use Rattle.definitions.specs.Log.{noLog}
+use Rattle.definitions.specs.Refusal.{Row, _gives_, first, badSettings, noList}
+use Rattle.definitions.proofs.First.{NoneHolds, FirstHolds, this, later, first-later, none-first, first-none, holds-first, first-holds}
+use Rattle.list.specs.Own.{OwnList}
+use Rattle.list.proofs.Own.{own-list}
+use Rattle.list.proofs.Tests.{GoodSettings, good-settings}
+use Rattle.log.proofs.Last.{SoundLog, sound-log}
+use Rattle.edit.specs.EditCallChecks.{firstRefusal}
+
+-- the first row that holds stays the first where more rows follow
+holds-more : {k : ℕ} {rows : List Row} (more : List Row) → FirstHolds k rows → FirstHolds k (rows ++ more)
+holds-more more (this holds number) = this holds number
+holds-more more (later fails h) = later fails (holds-more more h)
+
+-- so what some rows refuse the table that begins with them refuses
+pub early-first : (k : ℕ) (rows more : List Row) → k ≡ first rows → (k ≡ 0 → ⊥) → k ≡ first (rows ++ more)
+early-first k rows more e not-zero = sym (holds-first (holds-more more (first-holds k rows not-zero (sym e))))
+
+-- rows that are passed leave the rest of the table
+pub rest-first : (rows more : List Row) → NoneHolds rows → first more ≡ first (rows ++ more)
+rest-first [] more h = refl
+rest-first (r ∷ rs) more h = rest-first rs more (h .1) ∙ sym (first-later r (rs ++ more) (h .0))
+
+module _ (m s : ℕ) (keys bits : List ℕ) (n : ℕ) (logKeys logValues : List ℕ) (used : ℕ) where
+  -- the rows that both tables begin with
+  abbrev pub firstRows : List Row
+  firstRows = badSettings m s gives 1 ∷ noList m s keys bits n gives 4 ∷ noLog m s logKeys logValues used gives 5 ∷ []
+
+  -- what has passed them
+  pub record FirstPassed : Type 0 where
+    pub settings : badSettings m s ≡ false
+    pub listed : noList m s keys bits n ≡ false
+    pub logged : noLog m s logKeys logValues used ≡ false
+
+  -- 1
+  pub bad-settings : badSettings m s ≡ true → 1 ≡ firstRefusal m s keys bits n logKeys logValues used
+  unfolding firstRefusal
+  bad-settings bad = sym (holds-first (this bad refl))
+
+  -- 4
+  pub no-list : badSettings m s ≡ false → noList m s keys bits n ≡ true → 4 ≡ firstRefusal m s keys bits n logKeys logValues used
+  unfolding firstRefusal
+  no-list good bad = sym (holds-first (later good (this bad refl)))
+
+  -- 5
+  pub no-log : badSettings m s ≡ false → noList m s keys bits n ≡ false → noLog m s logKeys logValues used ≡ true
+      → 5 ≡ firstRefusal m s keys bits n logKeys logValues used
+  unfolding firstRefusal
+  no-log good listed bad = sym (holds-first (later good (later listed (this bad refl))))
+
+  -- none of them
+  pub all-passed : badSettings m s ≡ false → noList m s keys bits n ≡ false → noLog m s logKeys logValues used ≡ false
+      → 0 ≡ firstRefusal m s keys bits n logKeys logValues used
+  unfolding firstRefusal
+  all-passed good listed logged = sym (none-first firstRows (good, (listed, (logged, tt))))
+
+-- what both calls may rely on once the three rows are passed
+module _ {m s : ℕ} {keys bits : List ℕ} {n : ℕ} {logKeys logValues : List ℕ} {used : ℕ} where
+  pub first-passed : (k : ℕ) → k ≡ firstRefusal m s keys bits n logKeys logValues used → k ≡ 0 → FirstPassed m s keys bits n logKeys logValues used
+  unfolding firstRefusal
+  first-passed k e zero =
+      let none = first-none (firstRows m s keys bits n logKeys logValues used) refl (sym e ∙ zero) in
+      record { settings = none .0; listed = none .1 .0; logged = none .1 .1 .0 }
+
+  pub passed-none : FirstPassed m s keys bits n logKeys logValues used → NoneHolds (firstRows m s keys bits n logKeys logValues used)
+  passed-none p = (p .settings, (p .listed, (p .logged, tt)))
+
+  pub passed-settings : FirstPassed m s keys bits n logKeys logValues used → GoodSettings m s
+  passed-settings p = good-settings m s (p .settings)
+
+  pub passed-own : FirstPassed m s keys bits n logKeys logValues used → OwnList m keys bits n
+  passed-own p = own-list m s keys bits n (not-false (isList m s keys bits n) (p .listed))
+
+  pub passed-log : FirstPassed m s keys bits n logKeys logValues used → SoundLog m s logKeys logValues used
+  passed-log p = sound-log m s logKeys logValues used (p .logged)
+
+  -- the records used are there
+  pub passed-used : FirstPassed m s keys bits n logKeys logValues used → used ≤ room logKeys logValues
+  passed-used p = let log = passed-log p in omega (arith, log .in-keys, log .in-values)

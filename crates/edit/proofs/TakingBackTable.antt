@@ -1,0 +1,101 @@
+-- The table of take back, one law for each way out of the code that looks for the refusal, and what a taking back that is not refused may rely on.
+-- Rests on EditCallTables and the laws of the log's last entry.
+use Prim.Native.Nat.{ℕ, _+_, _≤_, _<_}
+use mathlib.Core.Path.{_≡_, refl, sym, ap, ap₂, _∙_}
+use mathlib.Core.Bool.{true, false}
+use mathlib.Core.List.{List, [], _∷_}
+use native.Mathlib.Omega.{arith}
+use lib.ListN.{length}
+use lib.Dec.{ltb, eqb}
+use borrow.Author.Tests.{lt-ltb, le-ltb, ltb-false, eq-eqb, ne-eqb, eqb-false}
+use Rattle.keys.specs.Key.{validKey}
+use Rattle.definitions.specs.Read.{room, recordsOf}
+use Rattle.definitions.specs.Log.{isContent}
+use Rattle.definitions.specs.Refusal.{Row, _gives_, first}
+use Rattle.definitions.specs.Calls.TakeBack.{restored, takeBackRefusal}
+use Rattle.definitions.proofs.First.{this, later, holds-first, none-first, first-none}
+use Rattle.log.proofs.Last.{LastEntry, last-entry}
+use Rattle.edit.specs.EditCallChecks.{firstRefusal}
+use Rattle.edit.specs.TakingBackCall.{Restorable}
+use Rattle.edit.proofs.Checked.{content-checked}
+use Rattle.edit.proofs.EditCallTables.{firstRows, FirstPassed, early-first, rest-first, passed-none, passed-settings, passed-own, passed-log}
+
+-- a list and a log that passed, and an entry: what taking it back asks for
+pub passed-restorable : {m s : ℕ} {keys bits : List ℕ} {n : ℕ} {logKeys logValues : List ℕ} {used : ℕ}
+    → FirstPassed m s keys bits n logKeys logValues used
+    → 0 < used
+    → Restorable m keys bits n logKeys logValues used
+passed-restorable {m} {s} p some =
+    let last = last-entry (passed-log p) some in
+    record {
+      deepest = passed-settings p .deep;
+      own = passed-own p;
+      ended = record {
+        some = some;
+        in-keys = last .in-keys;
+        in-values = last .in-values;
+        some-content = last .some-content;
+        all-there = last .all-there;
+      };
+      valid = ap (validKey m) (last .key) ∙ last .valid;
+      correct = content-checked m s _ _ (ap₂ (isContent m s) (last .key) (last .content) ∙ last .correct);
+    }
+
+module _ (m s : ℕ) (keys bits : List ℕ) (n : ℕ) (logKeys logValues : List ℕ) (used : ℕ) where
+  -- the rows that are take back's own
+  abbrev lastRows : List Row
+  lastRows =
+      eqb used 0 gives 11
+      ∷ ltb (room keys bits) (length (restored m (recordsOf keys bits n) (recordsOf logKeys logValues used))) gives 9
+      ∷ []
+
+  -- 1, 4, 5
+  pub take-early : (k : ℕ) → k ≡ firstRefusal m s keys bits n logKeys logValues used → (k ≡ 0 → ⊥)
+      → k ≡ takeBackRefusal m s keys bits n logKeys logValues used
+  unfolding takeBackRefusal firstRefusal
+  take-early k e not-zero = early-first k (firstRows m s keys bits n logKeys logValues used) lastRows e not-zero
+
+  module _ (p : FirstPassed m s keys bits n logKeys logValues used) where
+    take-rest : first lastRows ≡ takeBackRefusal m s keys bits n logKeys logValues used
+    unfolding takeBackRefusal
+    take-rest = rest-first (firstRows m s keys bits n logKeys logValues used) lastRows (passed-none p)
+
+    -- 11
+    pub no-entry : used ≡ 0 → 11 ≡ takeBackRefusal m s keys bits n logKeys logValues used
+    no-entry none = sym (holds-first (this (eq-eqb used 0 none) refl)) ∙ take-rest
+
+    module _ (some : used ≡ 0 → ⊥) (after : ℕ) (after-is : after ≡ length (restored m (recordsOf keys bits n) (recordsOf logKeys logValues used))) where
+      -- 9
+      pub list-full : room keys bits < after → 9 ≡ takeBackRefusal m s keys bits n logKeys logValues used
+      list-full h =
+          sym (holds-first
+          (later (ne-eqb used 0 some)
+          (this (lt-ltb (room keys bits) (length (restored m (recordsOf keys bits n) (recordsOf logKeys logValues used))) (omega arith)) refl)))
+          ∙ take-rest
+
+      -- none
+      pub room-enough : after ≤ room keys bits → 0 ≡ takeBackRefusal m s keys bits n logKeys logValues used
+      room-enough h =
+          sym (none-first lastRows (
+            ne-eqb used 0 some,
+            (le-ltb (room keys bits) (length (restored m (recordsOf keys bits n) (recordsOf logKeys logValues used))) (omega arith), tt),
+          ))
+          ∙ take-rest
+
+  -- what a taking back that is not refused has passed
+  pub record TakePassed : Type 0 where
+    pub first-rows : FirstPassed m s keys bits n logKeys logValues used
+    pub some : 0 < used
+    pub list-fits : length (restored m (recordsOf keys bits n) (recordsOf logKeys logValues used)) ≤ room keys bits
+
+  pub take-passed : takeBackRefusal m s keys bits n logKeys logValues used ≡ 0 → TakePassed
+  unfolding takeBackRefusal
+  take-passed e =
+      let none = first-none _ refl e in
+      let last = none .1 .1 .1 in
+      let not-zero = eqb-false used 0 (last .0) in
+      record {
+        first-rows = record { settings = none .0; listed = none .1 .0; logged = none .1 .1 .0 };
+        some = omega arith;
+        list-fits = ltb-false _ _ (last .1 .0);
+      }

@@ -1,0 +1,38 @@
+-- What the functions of paint ask and leave: the table's last two rows, what an accepted paint may rely on, and the call's promise. Only contracts
+-- need these. Rests on Paint of the definitions.
+use Prim.Native.Nat.{ℕ, _+_, _≤_, _<_}
+use mathlib.Core.Path.{_≡_}
+use mathlib.Core.Bool.{true}
+use mathlib.Core.List.{List, [], _∷_}
+use lib.ListN.{length}
+use lib.Dec.{ltb}
+use Rattle.keys.specs.Key.{validKey}
+use Rattle.definitions.specs.List.{Record}
+use Rattle.definitions.specs.Read.{room, recordsOf}
+use Rattle.definitions.specs.Refusal.{_gives_, first}
+use Rattle.definitions.specs.Calls.Paint.{painted, gained, paint, paintKeys, paintBits, paintLogKeys, paintLogValues}
+use Rattle.definitions.specs.declared.Edited.{Edited}
+use Rattle.list.specs.Own.{OwnList}
+
+-- 10, 9
+unfoldable pub roomRefusal : ℕ → List Record → List ℕ → List ℕ → List ℕ → List ℕ → ℕ → ℕ → ℕ → ℕ
+roomRefusal m l keys bits logKeys logValues used κ f =
+    first
+    (ltb (room logKeys logValues) (used + length (gained m l κ)) gives 10
+    ∷ ltb (room keys bits) (length (painted m l κ f)) gives 9
+    ∷ [])
+
+-- a block of an accepted list, and a feature that it may get
+pub record Paintable (m : ℕ) (keys bits : List ℕ) (n κ f : ℕ) : Type 0 where
+  pub deepest : m ≤ 10
+  pub valid : validKey m κ ≡ true
+  pub own : OwnList m keys bits n
+  pub feature : f < 16
+
+-- the answer of a paint, and what it leaves in the four lent slices
+pub record Painted (m s : ℕ) (keys bits : List ℕ) (n : ℕ) (logKeys logValues : List ℕ) (used κ f : ℕ) (r : Edited) (keys′ bits′ logKeys′ logValues′ : List ℕ) : Type 0 where
+  pub answer : r ≡ paint m s keys bits n logKeys logValues used κ f
+  pub keys-are : keys′ ≡ paintKeys m s keys bits n logKeys logValues used κ f
+  pub bits-are : bits′ ≡ paintBits m s keys bits n logKeys logValues used κ f
+  pub log-keys-are : logKeys′ ≡ paintLogKeys m s keys bits n logKeys logValues used κ f
+  pub log-values-are : logValues′ ≡ paintLogValues m s keys bits n logKeys logValues used κ f
