@@ -3,14 +3,14 @@
 
 .PHONY: run test lib bench install kit
 
-# The example, a day with a survey, and the listing program on Map A.
+# The listing program on Map A, and the C example of the README.
 run: kit lib
 	rt check listing
 	@echo "== the listing program on Map A"
 	@tests/c/build --run target/bin/listing <crates/listing/stdin
-	@echo "== the example: a survey, its rules and waivers"
-	@tests/c/build target/c/example_survey examples/survey.c
-	@tests/c/build --run target/c/example_survey <examples/survey.txt
+	@echo "== the C example of the README"
+	@tests/c/build target/c/example_readme examples/readme.c
+	@tests/c/build --run target/c/example_readme
 
 # The layout, the proofs, the must-fail edits, the programs and the C tests. The last line is the gate's own.
 test: kit
@@ -24,7 +24,7 @@ lib:
 
 # Library against plain C, in one run.
 bench: lib
-	@tests/c/build target/c/bench bench/bench.c bench/plain.c -- -lm
+	@tests/c/build target/c/bench bench/bench.c bench/plain.c
 	@tests/c/build --run target/c/bench
 
 # Header, archive and a pkg-config file below PREFIX.

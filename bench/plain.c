@@ -1,0 +1,315 @@
+#include "plain.h"
+
+#include <string.h>
+
+static int one_bit(uint32_t b) { return b != 0 && (b & (b - 1)) == 0; }
+
+static uint32_t power(uint32_t base, uint32_t k) {
+    uint32_t p = 1;
+    while (k--) p *= base;
+    return p;
+}
+
+/* ---- build: count, then write what is below each block that is not uniform */
+
+typedef struct { const uint8_t *raster; uint32_t edge; uint32_t *keys, *bits; } job;
+typedef struct { uint32_t bits; size_t count; } tally;
+
+static tally count_block(const job *j, uint32_t row, uint32_t column, uint32_t side) {
+    if (side == 1) return (tally){ 1u << j->raster[(size_t)row * j->edge + column], 1 };
+    uint32_t h = side / 2;
+    tally a = count_block(j, row, column, h), b = count_block(j, row, column + h, h), c = count_block(j, row + h, column, h),
+          d = count_block(j, row + h, column + h, h);
+    uint32_t bits = a.bits | b.bits | c.bits | d.bits;
+    return (tally){ bits, one_bit(bits) ? 1 : 1 + a.count + b.count + c.count + d.count };
+}
+
+static tally write_below(const job *j, uint32_t row, uint32_t column, uint32_t side, uint32_t key, uint32_t step, size_t at) {
+    if (side == 1) return (tally){ 1u << j->raster[(size_t)row * j->edge + column], at + 1 };
+    uint32_t h = side / 2;
+    size_t p1 = at + 1;
+    tally a = write_below(j, row, column, h, key + step, step / 5, p1);
+    tally b = write_below(j, row, column + h, h, key + 2 * step, step / 5, a.count);
+    tally c = write_below(j, row + h, column, h, key + 3 * step, step / 5, b.count);
+    tally d = write_below(j, row + h, column + h, h, key + 4 * step, step / 5, c.count);
+    uint32_t bits = a.bits | b.bits | c.bits | d.bits;
+    if (one_bit(bits)) return (tally){ bits, at + 1 };
+    j->keys[p1] = key + step, j->bits[p1] = a.bits;
+    j->keys[a.count] = key + 2 * step, j->bits[a.count] = b.bits;
+    j->keys[b.count] = key + 3 * step, j->bits[b.count] = c.bits;
+    j->keys[c.count] = key + 4 * step, j->bits[c.count] = d.bits;
+    return (tally){ bits, d.count };
+}
+
+size_t plain_build(uint32_t m, uint32_t s, const uint8_t *raster, uint32_t *keys, uint32_t *bits, size_t room) {
+    size_t pixels = (size_t)1 << 2 * m;
+    for (size_t i = 0; i < pixels; i++) if (raster[i] >= s) return 0;
+    job j = { raster, 1u << m, keys, bits };
+    size_t n = count_block(&j, 0, 0, 1u << m).count;
+    if (n > room) return 0;
+    tally t = write_below(&j, 0, 0, 1u << m, 0, m ? power(5, m - 1) : 0, 0);
+    keys[0] = 0, bits[0] = t.bits;
+    return n;
+}
+
+/* ---- check */
+
+static size_t check_node(const uint32_t *keys, const uint32_t *bits, size_t n, size_t at, uint32_t key, uint32_t step, uint32_t limit) {
+    uint32_t together = 0;
+    size_t next = at + 1;
+    for (uint32_t d = 1; d <= 4; d++) {
+        if (next >= n || keys[next] != key + d * step) return 0;
+        uint32_t b = bits[next];
+        if (one_bit(b)) {
+            if (b >= limit) return 0;
+            next++;
+        } else {
+            if (step == 1) return 0;
+            next = check_node(keys, bits, n, next, key + d * step, step / 5, limit);
+            if (next == 0) return 0;
+        }
+        together |= b;
+    }
+    return together == bits[at] ? next : 0;
+}
+
+int plain_is_list(uint32_t m, uint32_t s, const uint32_t *keys, const uint32_t *bits, size_t n) {
+    if (n == 0 || keys[0] != 0) return 0;
+    if (one_bit(bits[0])) return n == 1 && bits[0] < 1u << s;
+    return m > 0 && check_node(keys, bits, n, 0, 0, power(5, m - 1), 1u << s) == n;
+}
+
+/* ---- raster */
+
+static size_t fill_node(const uint32_t *bits, uint8_t *raster, uint32_t edge, size_t at, uint32_t row, uint32_t column, uint32_t side) {
+    if (one_bit(bits[at])) {
+        for (uint32_t r = row; r < row + side; r++) memset(raster + (size_t)r * edge + column, __builtin_ctz(bits[at]), side);
+        return at + 1;
+    }
+    uint32_t h = side / 2;
+    at = fill_node(bits, raster, edge, at + 1, row, column, h);
+    at = fill_node(bits, raster, edge, at, row, column + h, h);
+    at = fill_node(bits, raster, edge, at, row + h, column, h);
+    return fill_node(bits, raster, edge, at, row + h, column + h, h);
+}
+
+void plain_raster(uint32_t m, const uint32_t *bits, uint8_t *raster) { fill_node(bits, raster, 1u << m, 0, 0, 0, 1u << m); }
+
+/* ---- standing: the last place whose key is at or before */
+
+size_t plain_place(const uint32_t *keys, size_t n, uint32_t key) {
+    size_t low = 0, high = n;
+    while (low < high) {
+        size_t middle = low + (high - low) / 2;
+        if (keys[middle] <= key) low = middle + 1; else high = middle;
+    }
+    return low - 1;
+}
+
+/* ---- the walk */
+
+typedef struct { uint32_t row, column, height, width; } frame;
+typedef struct { uint32_t key, row, column, side, step; } spot;
+
+static int apart(const frame *w, const spot *b) {
+    return b->row + b->side <= w->row || w->row + w->height <= b->row || b->column + b->side <= w->column || w->column + w->width <= b->column;
+}
+
+static int inside(const frame *w, const spot *b) {
+    return w->row <= b->row && b->row + b->side <= w->row + w->height && w->column <= b->column && b->column + b->side <= w->column + w->width;
+}
+
+/* The next block after this one that is not below it; side 0 at the end. */
+static void advance(spot *b, uint32_t edge) {
+    b->key += b->step;
+    while (b->side < edge) {
+        if (!(b->column & b->side)) { b->column += b->side; return; }
+        if (!(b->row & b->side)) { b->column -= b->side, b->row += b->side; return; }
+        b->column -= b->side, b->row -= b->side, b->side *= 2, b->step *= 5;
+    }
+    b->side = 0;
+}
+
+/* The first largest block of the window at or after the spot. */
+static int find_largest(const frame *w, spot *b, uint32_t edge) {
+    while (b->side) {
+        if (inside(w, b)) return 1;
+        if (apart(w, b)) advance(b, edge);
+        else b->side /= 2, b->step /= 5, b->key += b->step;
+    }
+    return 0;
+}
+
+int plain_exist(uint32_t m, const uint32_t *keys, const uint32_t *bits, size_t n, uint32_t row, uint32_t column, uint32_t height, uint32_t width, uint32_t feature) {
+    frame w = { row, column, height, width };
+    spot b = { 0, 0, 0, 1u << m, power(5, m) };
+    for (; find_largest(&w, &b, 1u << m); advance(&b, 1u << m)) if (bits[plain_place(keys, n, b.key)] >> feature & 1) return 1;
+    return 0;
+}
+
+uint32_t plain_report(uint32_t m, const uint32_t *keys, const uint32_t *bits, size_t n, uint32_t row, uint32_t column, uint32_t height, uint32_t width) {
+    frame w = { row, column, height, width };
+    spot b = { 0, 0, 0, 1u << m, power(5, m) };
+    uint32_t found = 0;
+    for (; find_largest(&w, &b, 1u << m); advance(&b, 1u << m)) found |= bits[plain_place(keys, n, b.key)];
+    return found;
+}
+
+size_t plain_select(uint32_t m, const uint32_t *keys, const uint32_t *bits, size_t n, uint32_t row, uint32_t column, uint32_t height, uint32_t width,
+                    uint32_t feature, uint32_t *answer, size_t room) {
+    frame w = { row, column, height, width };
+    size_t count = 0;
+    for (int write = 0; write <= 1; write++) {
+        spot b = { 0, 0, 0, 1u << m, power(5, m) };
+        count = 0;
+        for (; find_largest(&w, &b, 1u << m); advance(&b, 1u << m)) {
+            size_t at = plain_place(keys, n, b.key);
+            if (one_bit(bits[at])) {
+                if (bits[at] == 1u << feature) { if (write) answer[count] = b.key; count++; }
+            } else {
+                uint32_t end = b.key + b.step;
+                for (; at < n && keys[at] < end; at++) if (bits[at] == 1u << feature) { if (write) answer[count] = keys[at]; count++; }
+            }
+        }
+        if (count > room) return count;
+    }
+    return count;
+}
+
+size_t plain_blocks(uint32_t m, uint32_t row, uint32_t column, uint32_t height, uint32_t width) {
+    frame w = { row, column, height, width };
+    spot b = { 0, 0, 0, 1u << m, power(5, m) };
+    size_t count = 0;
+    for (; find_largest(&w, &b, 1u << m); advance(&b, 1u << m)) count++;
+    return count;
+}
+
+uint32_t plain_scan(uint32_t m, const uint8_t *raster, uint32_t row, uint32_t column, uint32_t height, uint32_t width) {
+    uint32_t found = 0;
+    for (uint32_t r = row; r < row + height; r++) for (uint32_t c = column; c < column + width; c++) found |= 1u << raster[((size_t)r << m) + c];
+    return found;
+}
+
+/* ---- edits */
+
+static uint32_t step_of(uint32_t m, uint32_t key) {
+    uint32_t step = power(5, m);
+    while (step > 1 && key % step != 0) step /= 5;
+    return key == 0 ? power(5, m) : step;
+}
+
+static int plain_log_is_sound(uint32_t m, uint32_t s, const uint32_t *log_keys, const uint32_t *log_values, size_t used) {
+    while (used > 0) {
+        size_t count = log_values[used - 1], from = used - 1 - count;
+        uint32_t key = log_keys[used - 1], step = step_of(m, key);
+        if (count == 0 || count >= used || log_keys[from] != key) return 0;
+        if (one_bit(log_values[from])) { if (count != 1) return 0; }
+        else if (step == 1 || check_node(log_keys + from, log_values + from, count, 0, key, step / 5, 1u << s) != count) return 0;
+        used = from;
+    }
+    return 1;
+}
+
+/* The records of a content planted in a leaf of another feature: four a level, down to the block. */
+static size_t plant(uint32_t leaf, uint32_t step, uint32_t leaf_bits, uint32_t key, uint32_t content_bits, uint32_t *keys, uint32_t *bits, size_t at,
+                    const uint32_t *content_keys, const uint32_t *content_values, size_t count) {
+    if (leaf == key) {
+        memcpy(keys + at, content_keys, 4 * count), memcpy(bits + at, content_values, 4 * count);
+        return at + count;
+    }
+    keys[at] = leaf, bits[at++] = leaf_bits | content_bits;
+    step /= 5;
+    for (uint32_t d = 1; d <= 4; d++) {
+        uint32_t child = leaf + d * step;
+        if (child <= key && key < child + step) at = plant(child, step, leaf_bits, key, content_bits, keys, bits, at, content_keys, content_values, count);
+        else keys[at] = child, bits[at++] = leaf_bits;
+    }
+    return at;
+}
+
+static size_t put(uint32_t m, uint32_t *keys, uint32_t *bits, size_t n, uint32_t key, const uint32_t *content_keys, const uint32_t *content_values, size_t count) {
+    size_t at = plain_place(keys, n, key), old, new;
+    uint32_t top = power(5, m), step = step_of(m, key), content = content_values[0], e = key;
+    int planted = keys[at] != key, leaf = count == 1 && one_bit(content);
+    if (planted) {
+        if (leaf && bits[at] == content) return n;
+        e = keys[at], old = 1, new = count;
+        for (uint32_t t = step; t < step_of(m, e); t *= 5) new += 4;
+        step = step_of(m, e);
+    } else {
+        new = count;
+        while (leaf && step < top) {
+            uint32_t parent = e - e % (step * 5);
+            int alike = 1;
+            for (uint32_t d = 1; d <= 4 && alike; d++) {
+                uint32_t sibling = parent + d * step;
+                alike = sibling == e || bits[plain_place(keys, n, sibling)] == content;
+            }
+            if (!alike) break;
+            e = parent, step *= 5;
+        }
+        at = plain_place(keys, n, e);
+        old = e + step >= top ? n - at : plain_place(keys, n, e + step - 1) + 1 - at;
+    }
+    uint32_t leaf_bits = bits[at];
+    memmove(keys + at + new, keys + at + old, 4 * (n - at - old));
+    memmove(bits + at + new, bits + at + old, 4 * (n - at - old));
+    if (planted) plant(e, step, leaf_bits, key, content, keys, bits, at, content_keys, content_values, count);
+    else if (e != key) keys[at] = e, bits[at] = content;
+    else memcpy(keys + at, content_keys, 4 * count), memcpy(bits + at, content_values, 4 * count);
+    size_t now = n - old + new;
+    for (size_t i = now; i < n; i++) keys[i] = bits[i] = 0;
+    for (; step < top; step *= 5) {
+        uint32_t parent = e - e % (step * 5), together = 0;
+        for (uint32_t d = 1; d <= 4; d++) together |= bits[plain_place(keys, now, parent + d * step)];
+        bits[plain_place(keys, now, parent)] = together;
+        e = parent;
+    }
+    return now;
+}
+
+size_t plain_paint(uint32_t m, uint32_t s, uint32_t *keys, uint32_t *bits, size_t n, uint32_t *log_keys, uint32_t *log_values, size_t *used,
+                   uint32_t key, uint32_t feature) {
+    if (!plain_is_list(m, s, keys, bits, n) || !plain_log_is_sound(m, s, log_keys, log_values, *used)) return 0;
+    size_t at = plain_place(keys, n, key), count = 1;
+    uint32_t step = step_of(m, key), leaf = 1u << feature;
+    if (keys[at] == key) {
+        count = (key + step >= power(5, m) ? n : plain_place(keys, n, key + step - 1) + 1) - at;
+        memcpy(log_keys + *used, keys + at, 4 * count), memcpy(log_values + *used, bits + at, 4 * count);
+    } else log_keys[*used] = key, log_values[*used] = bits[at];
+    log_keys[*used + count] = key, log_values[*used + count] = (uint32_t)count;
+    *used += count + 1;
+    return put(m, keys, bits, n, key, &key, &leaf, 1);
+}
+
+size_t plain_take_back(uint32_t m, uint32_t s, uint32_t *keys, uint32_t *bits, size_t n, uint32_t *log_keys, uint32_t *log_values, size_t *used) {
+    if (!plain_is_list(m, s, keys, bits, n) || !plain_log_is_sound(m, s, log_keys, log_values, *used)) return 0;
+    size_t count = log_values[*used - 1], from = *used - 1 - count;
+    n = put(m, keys, bits, n, log_keys[*used - 1], log_keys + from, log_values + from, count);
+    for (size_t i = from; i < *used; i++) log_keys[i] = log_values[i] = 0;
+    *used = from;
+    return n;
+}
+
+/* ---- store, load */
+
+size_t plain_store(uint32_t m, uint32_t s, const uint32_t *keys, const uint32_t *bits, size_t n, uint8_t *file) {
+    uint8_t head[11] = { 'H', 'L', 'Q', 0, 1, (uint8_t)m, (uint8_t)s, (uint8_t)(n >> 24), (uint8_t)(n >> 16), (uint8_t)(n >> 8), (uint8_t)n };
+    memcpy(file, head, 11);
+    for (size_t i = 0; i < n; i++) {
+        uint8_t *at = file + 11 + 6 * i;
+        at[0] = (uint8_t)(keys[i] >> 24), at[1] = (uint8_t)(keys[i] >> 16), at[2] = (uint8_t)(keys[i] >> 8), at[3] = (uint8_t)keys[i];
+        at[4] = (uint8_t)(bits[i] >> 8), at[5] = (uint8_t)bits[i];
+    }
+    return 11 + 6 * n;
+}
+
+size_t plain_load(const uint8_t *file, uint32_t *keys, uint32_t *bits) {
+    size_t n = (size_t)file[7] << 24 | (size_t)file[8] << 16 | (size_t)file[9] << 8 | file[10];
+    for (size_t i = 0; i < n; i++) {
+        const uint8_t *at = file + 11 + 6 * i;
+        keys[i] = (uint32_t)at[0] << 24 | (uint32_t)at[1] << 16 | (uint32_t)at[2] << 8 | at[3];
+        bits[i] = (uint32_t)at[4] << 8 | at[5];
+    }
+    return plain_is_list(file[5], file[6], keys, bits, n) ? n : 0;
+}

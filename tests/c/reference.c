@@ -1,0 +1,415 @@
+/* The second implementation: rasters, and scans of their pixels. Slow and plain on purpose. */
+#include "reference.h"
+
+#include <stdlib.h>
+#include <string.h>
+
+enum { NO_FEATURE = 255 };
+
+/* The most pixels and records that a map can have. */
+static size_t pixels_of(uint32_t m) { return (size_t)1 << 2 * m; }
+static size_t most_of(uint32_t m) { return (4 * pixels_of(m) - 1) / 3; }
+
+/* A list of its own, and a raster. */
+typedef struct { uint32_t *keys, *bits; size_t n; } records;
+
+static records new_records(uint32_t m) {
+    records r = { calloc(most_of(m), sizeof(uint32_t)), calloc(most_of(m), sizeof(uint32_t)), 0 };
+    if (!r.keys || !r.bits) abort();
+    return r;
+}
+
+static void free_records(records *r) { free(r->keys); free(r->bits); }
+
+static size_t shorter(size_t a, size_t b) { return a < b ? a : b; }
+
+uint32_t ref_power(uint32_t base, uint32_t exponent) {
+    uint32_t p = 1;
+    while (exponent--) p *= base;
+    return p;
+}
+
+/* The digits of a key, the highest first; 0 where it has more than m. */
+static int digits_of(uint32_t m, uint32_t key, uint32_t *digits) {
+    for (uint32_t i = m; i > 0; i--) { digits[i - 1] = key % 5; key /= 5; }
+    return key == 0;
+}
+
+int ref_key_is_valid(uint32_t m, uint32_t key) {
+    uint32_t d[10];
+    if (!digits_of(m, key, d)) return 0;
+    uint32_t i = 0;
+    while (i < m && d[i] != 0) i++;
+    while (i < m) if (d[i++] != 0) return 0;
+    return 1;
+}
+
+void ref_block(uint32_t m, uint32_t key, uint32_t *row, uint32_t *column, uint32_t *side) {
+    uint32_t d[10], edge = 1u << m;
+    digits_of(m, key, d);
+    *row = *column = 0;
+    for (uint32_t i = 0; i < m && d[i] != 0; i++) {
+        edge /= 2;
+        if (d[i] == 3 || d[i] == 4) *row += edge;
+        if (d[i] == 2 || d[i] == 4) *column += edge;
+    }
+    *side = edge;
+}
+
+uint32_t ref_pixel_key(uint32_t m, uint32_t row, uint32_t column) {
+    uint32_t key = 0;
+    for (uint32_t i = m; i > 0; i--) key = key * 5 + 1 + 2 * (row >> (i - 1) & 1) + (column >> (i - 1) & 1);
+    return key;
+}
+
+static uint32_t features_in(const uint8_t *raster, uint32_t edge, uint32_t row, uint32_t column, uint32_t height, uint32_t width) {
+    uint32_t bits = 0;
+    for (uint32_t r = row; r < row + height; r++)
+        for (uint32_t c = column; c < column + width; c++) bits |= 1u << raster[(size_t)r * edge + c];
+    return bits;
+}
+
+static int has_one_bit(uint32_t b) {
+    int bits = 0;
+    for (int i = 0; i < 32; i++) bits += b >> i & 1;
+    return bits == 1;
+}
+
+static uint32_t slot_of(uint32_t b) {
+    uint32_t i = 0;
+    while (!(b >> i & 1)) i++;
+    return i;
+}
+
+/* Every block at or below this one that is this one, or whose parent has more than one feature. */
+static void list_block(const uint8_t *raster, uint32_t edge, uint32_t row, uint32_t column, uint32_t side, uint32_t key, uint32_t step, records *out) {
+    uint32_t bits = features_in(raster, edge, row, column, side, side);
+    out->keys[out->n] = key;
+    out->bits[out->n++] = bits;
+    if (has_one_bit(bits)) return;
+    for (uint32_t d = 1; d <= 4; d++)
+        list_block(raster, edge, row + (d > 2 ? side / 2 : 0), column + (d % 2 == 0 ? side / 2 : 0), side / 2, key + d * step, step / 5, out);
+}
+
+static void list_of(uint32_t m, const uint8_t *raster, uint32_t key, records *out) {
+    uint32_t row, column, side, level = 0, d[10];
+    ref_block(m, key, &row, &column, &side);
+    digits_of(m, key, d);
+    while (level < m && d[level] != 0) level++;
+    out->n = 0;
+    list_block(raster, 1u << m, row, column, side, key, level < m ? ref_power(5, m - level - 1) : 0, out);
+}
+
+static int settings_are_bad(uint32_t m, uint32_t s) { return m > 10 || s == 0 || s > 16; }
+
+/* The leaves of the records paint the raster inside the block; they are its list exactly when building it again gives them. */
+static int shows_block(uint32_t m, uint32_t s, uint32_t block, const uint32_t *keys, const uint32_t *bits, size_t n, uint8_t *raster) {
+    uint32_t edge = 1u << m, row, column, side;
+    if (n == 0 || n > most_of(m)) return 0;
+    ref_block(m, block, &row, &column, &side);
+    for (uint32_t r = row; r < row + side; r++) memset(raster + (size_t)r * edge + column, NO_FEATURE, side);
+    for (size_t i = 0; i < n; i++) {
+        uint32_t r0, c0, e;
+        if (!ref_key_is_valid(m, keys[i])) return 0;
+        if (!has_one_bit(bits[i])) continue;
+        if (slot_of(bits[i]) >= s) return 0;
+        ref_block(m, keys[i], &r0, &c0, &e);
+        if (r0 < row || c0 < column || r0 + e > row + side || c0 + e > column + side) return 0;
+        for (uint32_t r = r0; r < r0 + e; r++) memset(raster + (size_t)r * edge + c0, (int)slot_of(bits[i]), e);
+    }
+    for (uint32_t r = row; r < row + side; r++)
+        for (uint32_t c = column; c < column + side; c++) if (raster[(size_t)r * edge + c] == NO_FEATURE) return 0;
+    records again = new_records(m);
+    list_of(m, raster, block, &again);
+    int same = again.n == n && memcmp(again.keys, keys, n * sizeof *keys) == 0 && memcmp(again.bits, bits, n * sizeof *bits) == 0;
+    free_records(&again);
+    return same;
+}
+
+static uint8_t *new_raster(uint32_t m) {
+    uint8_t *r = malloc(pixels_of(m));
+    if (!r) abort();
+    return r;
+}
+
+/* The raster of a list, or null where there is none (refusal 4). */
+static uint8_t *raster_of(uint32_t m, uint32_t s, const uint32_t *keys, size_t keys_len, const uint32_t *bits, size_t bits_len, size_t n) {
+    if (n > shorter(keys_len, bits_len)) return NULL;
+    uint8_t *raster = new_raster(m);
+    if (shows_block(m, s, 0, keys, bits, n, raster)) return raster;
+    free(raster);
+    return NULL;
+}
+
+hlq_counted ref_build(uint32_t m, uint32_t s, const uint8_t *raster, size_t raster_len,
+                      uint32_t *keys, size_t keys_len, uint32_t *bits, size_t bits_len) {
+    if (settings_are_bad(m, s)) return (hlq_counted){ 1, 0 };
+    if (raster_len != pixels_of(m)) return (hlq_counted){ 2, 0 };
+    for (size_t i = 0; i < raster_len; i++) if (raster[i] >= s) return (hlq_counted){ 3, 0 };
+    records l = new_records(m);
+    list_of(m, raster, 0, &l);
+    hlq_counted answer = { 9, 0 };
+    if (l.n <= shorter(keys_len, bits_len)) {
+        memcpy(keys, l.keys, l.n * sizeof *keys);
+        memcpy(bits, l.bits, l.n * sizeof *bits);
+        answer = (hlq_counted){ 0, l.n };
+    }
+    free_records(&l);
+    return answer;
+}
+
+hlq_done ref_raster(uint32_t m, uint32_t s, const uint32_t *keys, size_t keys_len, const uint32_t *bits, size_t bits_len, size_t n,
+                    uint8_t *raster, size_t raster_len) {
+    if (settings_are_bad(m, s)) return (hlq_done){ 1 };
+    uint8_t *shown = raster_of(m, s, keys, keys_len, bits, bits_len, n);
+    if (!shown) return (hlq_done){ 4 };
+    hlq_done answer = { raster_len == pixels_of(m) ? 0 : 2 };
+    if (answer.refusal == 0) memcpy(raster, shown, raster_len);
+    free(shown);
+    return answer;
+}
+
+/* 1, 4 or 8, or 0. */
+static uint64_t standing_refusal(uint32_t m, uint32_t s, const uint32_t *keys, size_t keys_len, const uint32_t *bits, size_t bits_len, size_t n,
+                                 uint32_t key) {
+    if (settings_are_bad(m, s)) return 1;
+    uint8_t *shown = raster_of(m, s, keys, keys_len, bits, bits_len, n);
+    if (!shown) return 4;
+    free(shown);
+    return ref_key_is_valid(m, key) ? 0 : 8;
+}
+
+hlq_stands ref_standing(uint32_t m, uint32_t s, const uint32_t *keys, size_t keys_len, const uint32_t *bits, size_t bits_len, size_t n,
+                        uint32_t key) {
+    uint64_t refusal = standing_refusal(m, s, keys, keys_len, bits, bits_len, n, key);
+    if (refusal) return (hlq_stands){ refusal, 0, 0 };
+    for (size_t i = 0; i < n; i++) if (keys[i] == key) return (hlq_stands){ 0, 1, i };
+    size_t leaf = n;
+    uint32_t row, column, side;
+    ref_block(m, key, &row, &column, &side);
+    for (size_t i = 0; i < n; i++) {
+        uint32_t r, c, e;
+        ref_block(m, keys[i], &r, &c, &e);
+        if (has_one_bit(bits[i]) && r <= row && c <= column && row + side <= r + e && column + side <= c + e) leaf = i;
+    }
+    return (hlq_stands){ 0, 2, leaf };
+}
+
+hlq_span ref_part(uint32_t m, uint32_t s, const uint32_t *keys, size_t keys_len, const uint32_t *bits, size_t bits_len, size_t n,
+                  uint32_t key) {
+    hlq_stands at = ref_standing(m, s, keys, keys_len, bits, bits_len, n, key);
+    if (at.refusal) return (hlq_span){ 0, 0 };
+    if (at.kind == 2) return (hlq_span){ at.place, 1 };
+    uint32_t row, column, side;
+    ref_block(m, key, &row, &column, &side);
+    size_t end = at.place;
+    while (end < n) {
+        uint32_t r, c, e;
+        ref_block(m, keys[end], &r, &c, &e);
+        if (r < row || c < column || r + e > row + side || c + e > column + side) break;
+        end++;
+    }
+    return (hlq_span){ at.place, end - at.place };
+}
+
+static int is_window(uint32_t m, uint32_t row, uint32_t column, uint32_t height, uint32_t width) {
+    uint64_t edge = (uint64_t)1 << m;
+    return height >= 1 && width >= 1 && (uint64_t)row + height <= edge && (uint64_t)column + width <= edge;
+}
+
+hlq_exists ref_exist(uint32_t m, uint32_t s, const uint32_t *keys, size_t keys_len, const uint32_t *bits, size_t bits_len, size_t n,
+                     uint32_t row, uint32_t column, uint32_t height, uint32_t width, uint32_t feature) {
+    if (settings_are_bad(m, s)) return (hlq_exists){ 1, 0 };
+    uint8_t *shown = raster_of(m, s, keys, keys_len, bits, bits_len, n);
+    if (!shown) return (hlq_exists){ 4, 0 };
+    hlq_exists answer = { 0, 0 };
+    if (!is_window(m, row, column, height, width)) answer.refusal = 6;
+    else if (feature >= s) answer.refusal = 7;
+    else answer.yes = features_in(shown, 1u << m, row, column, height, width) >> feature & 1;
+    free(shown);
+    return answer;
+}
+
+hlq_reported ref_report(uint32_t m, uint32_t s, const uint32_t *keys, size_t keys_len, const uint32_t *bits, size_t bits_len, size_t n,
+                        uint32_t row, uint32_t column, uint32_t height, uint32_t width) {
+    if (settings_are_bad(m, s)) return (hlq_reported){ 1, 0 };
+    uint8_t *shown = raster_of(m, s, keys, keys_len, bits, bits_len, n);
+    if (!shown) return (hlq_reported){ 4, 0 };
+    hlq_reported answer = { 0, 0 };
+    if (!is_window(m, row, column, height, width)) answer.refusal = 6;
+    else answer.bits = features_in(shown, 1u << m, row, column, height, width);
+    free(shown);
+    return answer;
+}
+
+typedef struct { const uint8_t *raster; uint32_t edge, row, column, height, width, feature; uint32_t *out; size_t n; } selection;
+
+static int is_given(const selection *w, uint32_t row, uint32_t column, uint32_t side) {
+    if (row < w->row || column < w->column || row + side > w->row + w->height || column + side > w->column + w->width) return 0;
+    return features_in(w->raster, w->edge, row, column, side, side) == 1u << w->feature;
+}
+
+static void select_block(selection *w, uint32_t row, uint32_t column, uint32_t side, uint32_t key, uint32_t step) {
+    if (is_given(w, row, column, side)) { w->out[w->n++] = key; return; }
+    if (side == 1) return;
+    for (uint32_t d = 1; d <= 4; d++)
+        select_block(w, row + (d > 2 ? side / 2 : 0), column + (d % 2 == 0 ? side / 2 : 0), side / 2, key + d * step, step / 5);
+}
+
+static size_t select_keys(uint32_t m, const uint8_t *raster, uint32_t row, uint32_t column, uint32_t height, uint32_t width, uint32_t feature,
+                          uint32_t *out) {
+    selection w = { raster, 1u << m, row, column, height, width, feature, out, 0 };
+    select_block(&w, 0, 0, 1u << m, 0, m ? ref_power(5, m - 1) : 0);
+    return w.n;
+}
+
+hlq_counted ref_select(uint32_t m, uint32_t s, const uint32_t *keys, size_t keys_len, const uint32_t *bits, size_t bits_len, size_t n,
+                       uint32_t row, uint32_t column, uint32_t height, uint32_t width, uint32_t feature,
+                       uint32_t *answer, size_t answer_len) {
+    if (settings_are_bad(m, s)) return (hlq_counted){ 1, 0 };
+    uint8_t *shown = raster_of(m, s, keys, keys_len, bits, bits_len, n);
+    if (!shown) return (hlq_counted){ 4, 0 };
+    hlq_counted result = { 0, 0 };
+    if (!is_window(m, row, column, height, width)) result.refusal = 6;
+    else if (feature >= s) result.refusal = 7;
+    else {
+        uint32_t *found = malloc(sizeof(uint32_t) * pixels_of(m));
+        result.count = select_keys(m, shown, row, column, height, width, feature, found);
+        if (result.count > answer_len) result.refusal = 12;
+        else memcpy(answer, found, result.count * sizeof *answer);
+        free(found);
+    }
+    free(shown);
+    return result;
+}
+
+/* Entries from the end, each content a list of its block. */
+static int log_is_sound(uint32_t m, uint32_t s, const uint32_t *log_keys, const uint32_t *log_values, size_t used) {
+    uint8_t *raster = new_raster(m);
+    int sound = 1;
+    while (sound && used > 0) {
+        uint32_t key = log_keys[used - 1];
+        size_t count = log_values[used - 1];
+        sound = count >= 1 && count + 1 <= used && ref_key_is_valid(m, key)
+            && shows_block(m, s, key, log_keys + (used - 1 - count), log_values + (used - 1 - count), count, raster);
+        if (sound) used -= count + 1;
+    }
+    free(raster);
+    return sound;
+}
+
+/* The list of the raster in place of the first n records; 9 where it does not fit. */
+static uint64_t relist(uint32_t m, const uint8_t *raster, uint32_t *keys, size_t keys_len, uint32_t *bits, size_t bits_len, size_t n, size_t *now) {
+    records l = new_records(m);
+    list_of(m, raster, 0, &l);
+    uint64_t refusal = l.n > shorter(keys_len, bits_len) ? 9 : 0;
+    if (!refusal) {
+        memcpy(keys, l.keys, l.n * sizeof *keys);
+        memcpy(bits, l.bits, l.n * sizeof *bits);
+        for (size_t i = l.n; i < n; i++) keys[i] = bits[i] = 0;
+        *now = l.n;
+    }
+    free_records(&l);
+    return refusal;
+}
+
+hlq_edited ref_paint(uint32_t m, uint32_t s, uint32_t *keys, size_t keys_len, uint32_t *bits, size_t bits_len, size_t n,
+                     uint32_t *log_keys, size_t log_keys_len, uint32_t *log_values, size_t log_values_len, size_t used,
+                     uint32_t key, uint32_t feature) {
+    size_t log_room = shorter(log_keys_len, log_values_len);
+    if (settings_are_bad(m, s)) return (hlq_edited){ 1, 0, 0 };
+    uint8_t *raster = raster_of(m, s, keys, keys_len, bits, bits_len, n);
+    if (!raster) return (hlq_edited){ 4, 0, 0 };
+    hlq_edited answer = { 0, 0, 0 };
+    if (used > log_room || !log_is_sound(m, s, log_keys, log_values, used)) answer.refusal = 5;
+    else if (!ref_key_is_valid(m, key)) answer.refusal = 8;
+    else if (feature >= s) answer.refusal = 7;
+    else {
+        records content = new_records(m);
+        uint32_t row, column, side;
+        size_t now = 0;
+        list_of(m, raster, key, &content);
+        ref_block(m, key, &row, &column, &side);
+        for (uint32_t r = row; r < row + side; r++) memset(raster + ((size_t)r << m) + column, (int)feature, side);
+        if (used + content.n + 1 > log_room) answer.refusal = 10;
+        else answer.refusal = relist(m, raster, keys, keys_len, bits, bits_len, n, &now);
+        if (answer.refusal == 0) {
+            memcpy(log_keys + used, content.keys, content.n * sizeof *log_keys);
+            memcpy(log_values + used, content.bits, content.n * sizeof *log_values);
+            log_keys[used + content.n] = key;
+            log_values[used + content.n] = (uint32_t)content.n;
+            answer = (hlq_edited){ 0, now, used + content.n + 1 };
+        }
+        free_records(&content);
+    }
+    free(raster);
+    return answer;
+}
+
+hlq_edited ref_take_back(uint32_t m, uint32_t s, uint32_t *keys, size_t keys_len, uint32_t *bits, size_t bits_len, size_t n,
+                         uint32_t *log_keys, size_t log_keys_len, uint32_t *log_values, size_t log_values_len, size_t used) {
+    if (settings_are_bad(m, s)) return (hlq_edited){ 1, 0, 0 };
+    uint8_t *raster = raster_of(m, s, keys, keys_len, bits, bits_len, n);
+    if (!raster) return (hlq_edited){ 4, 0, 0 };
+    hlq_edited answer = { 0, 0, 0 };
+    if (used > shorter(log_keys_len, log_values_len) || !log_is_sound(m, s, log_keys, log_values, used)) answer.refusal = 5;
+    else if (used == 0) answer.refusal = 11;
+    else {
+        uint32_t key = log_keys[used - 1];
+        size_t count = log_values[used - 1], start = used - 1 - count, now = 0;
+        shows_block(m, s, key, log_keys + start, log_values + start, count, raster);
+        answer.refusal = relist(m, raster, keys, keys_len, bits, bits_len, n, &now);
+        if (answer.refusal == 0) {
+            for (size_t i = start; i < used; i++) log_keys[i] = log_values[i] = 0;
+            answer = (hlq_edited){ 0, now, start };
+        }
+    }
+    free(raster);
+    return answer;
+}
+
+hlq_counted ref_store(uint32_t m, uint32_t s, const uint32_t *keys, size_t keys_len, const uint32_t *bits, size_t bits_len, size_t n,
+                      uint8_t *file, size_t file_len) {
+    if (settings_are_bad(m, s)) return (hlq_counted){ 1, 0 };
+    uint8_t *raster = raster_of(m, s, keys, keys_len, bits, bits_len, n);
+    if (!raster) return (hlq_counted){ 4, 0 };
+    free(raster);
+    if (file_len < 11 + 6 * n) return (hlq_counted){ 12, 11 + 6 * n };
+    uint8_t head[11] = { 0x48, 0x4C, 0x51, 0, 1, (uint8_t)m, (uint8_t)s, (uint8_t)(n >> 24), (uint8_t)(n >> 16), (uint8_t)(n >> 8), (uint8_t)n };
+    memcpy(file, head, sizeof head);
+    for (size_t i = 0; i < n; i++) {
+        uint8_t *at = file + 11 + 6 * i;
+        for (int b = 0; b < 4; b++) at[b] = (uint8_t)(keys[i] >> (24 - 8 * b));
+        at[4] = (uint8_t)(bits[i] >> 8);
+        at[5] = (uint8_t)bits[i];
+    }
+    return (hlq_counted){ 0, 11 + 6 * n };
+}
+
+hlq_loaded ref_load(const uint8_t *file, size_t file_len, uint32_t *keys, size_t keys_len, uint32_t *bits, size_t bits_len) {
+    if (file_len < 11) return (hlq_loaded){ 15, 0, 0, 0 };
+    if (memcmp(file, "HLQ", 3) != 0) return (hlq_loaded){ 16, 0, 0, 0 };
+    if (file[3] != 0 || file[4] != 1) return (hlq_loaded){ 17, 0, 0, 0 };
+    uint32_t m = file[5], s = file[6];
+    if (settings_are_bad(m, s)) return (hlq_loaded){ 1, 0, 0, 0 };
+    uint64_t n = (uint64_t)file[7] << 24 | (uint64_t)file[8] << 16 | (uint64_t)file[9] << 8 | file[10];
+    if (file_len != 11 + 6 * n) return (hlq_loaded){ 15, 0, 0, 0 };
+    if (n > most_of(m)) return (hlq_loaded){ 4, 0, 0, 0 };
+    records l = new_records(m);
+    for (size_t i = 0; i < n; i++) {
+        const uint8_t *at = file + 11 + 6 * i;
+        l.keys[i] = (uint32_t)at[0] << 24 | (uint32_t)at[1] << 16 | (uint32_t)at[2] << 8 | at[3];
+        l.bits[i] = (uint32_t)at[4] << 8 | at[5];
+    }
+    uint8_t *raster = raster_of(m, s, l.keys, n, l.bits, n, n);
+    hlq_loaded answer = { 4, 0, 0, 0 };
+    if (raster && n > shorter(keys_len, bits_len)) answer.refusal = 9;
+    else if (raster) {
+        memcpy(keys, l.keys, n * sizeof *keys);
+        memcpy(bits, l.bits, n * sizeof *bits);
+        answer = (hlq_loaded){ 0, m, s, n };
+    }
+    free(raster);
+    free_records(&l);
+    return answer;
+}

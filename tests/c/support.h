@@ -1,0 +1,55 @@
+/* What the test programs share: seeded random numbers, rasters of several kinds, lent buffers with guard zones, and the count of every pair of
+ * a call and its refusal that was seen. */
+#ifndef SUPPORT_H
+#define SUPPORT_H
+
+#include "prowcurl.h"
+#include "reference.h"
+
+/* Fewer rounds where each is slow, as under a sanitizer. */
+#ifdef FEWER_ROUNDS
+#define SOME(rounds) ((rounds) / 8 + 1)
+#else
+#define SOME(rounds) (rounds)
+#endif
+
+enum { GUARD = 8, MAX_REFUSAL = 17 };
+
+typedef enum { CALL_BUILD, CALL_RASTER, CALL_STANDING, CALL_PART, CALL_EXIST, CALL_REPORT, CALL_SELECT, CALL_PAINT, CALL_TAKE_BACK,
+               CALL_STORE, CALL_LOAD, CALLS } call;
+
+/* Random numbers: the same on every machine. */
+void seed(uint64_t value);
+uint32_t below(uint32_t n);
+
+/* A buffer as it is lent: len elements of the given size between two guard zones. The library and the reference each get a copy. */
+typedef struct { uint8_t *whole; size_t len, size; } lent;
+
+lent lend(size_t len, size_t size);
+lent copy_of(lent b);
+void *start(lent b);
+void give_back(lent b);
+
+/* Fails the run where two copies differ anywhere, guard zones included. */
+void same_buffers(const char *what, lent library, lent reference);
+
+/* Fails the run where two results differ; counts the call and its refusal. */
+void same_results(call which, uint64_t refusal, const void *library, const void *reference, size_t size);
+
+/* A raster of a kind: 0 one feature, 1 patches, 2 noise, 3 noise in one quadrant, 4 a few odd pixels. */
+void fill_raster(uint8_t *raster, uint32_t m, uint32_t s, uint32_t kind);
+
+/* A list, in buffers of its own. */
+typedef struct { uint32_t m, s; size_t n; uint32_t *keys, *bits; } map;
+
+map random_map(uint32_t m);
+void free_map(map a);
+/* One of many ways to spoil a list (some may leave a list). */
+void damage(map *a);
+uint32_t random_key(uint32_t m);
+
+/* The numbers of comparisons and of pairs seen; fails where a pair of the mask (bit r for refusal r) was not seen for the call. */
+void expect_pairs(call which, uint32_t mask);
+int finish(const char *name);
+
+#endif
