@@ -1,15 +1,31 @@
-/* The example of the README: a list is built, and a block is looked up in it. */
+/* The example of the README: a list is built, a block is looked up in it, a window is asked, and a paint is taken back. */
 #include "prowcurl.h"
 
 #include <stdio.h>
 
+typedef unsigned long long number;
+
 int main(void) {
     static const uint8_t raster[16] = { 0, 0, 1, 1, 0, 0, 1, 2, 2, 2, 0, 0, 2, 2, 0, 0 };
-    uint32_t keys[21], bits[21];
+    uint32_t keys[21], bits[21], answer[16], log_keys[8], log_values[8];
     hlq_counted built = hlq_build(2, 3, raster, 16, keys, 21, bits, 21);
     if (built.refusal) return 1;
-    hlq_stands at = hlq_standing(2, 3, keys, 21, bits, 21, built.count, 1 * 5 + 1); /* block 11 */
-    printf("%llu records; block 11 is %s place %llu\n", (unsigned long long)built.count,
-           at.kind == 1 ? "listed at" : "inside the leaf at", (unsigned long long)at.place);
+    size_t n = built.count, used = 0;
+
+    hlq_stands at = hlq_standing(2, 3, keys, 21, bits, 21, n, 1 * 5 + 1); /* block 11 */
+    printf("%zu records; block 11 is %s place %llu\n", n, at.kind == 1 ? "listed at" : "inside the leaf at", (number)at.place);
+
+    /* the window from row 0, column 1, 2 rows high and 3 columns wide */
+    printf("feature 2 there: %s\n", hlq_exist(2, 3, keys, 21, bits, 21, n, 0, 1, 2, 3, 2).yes ? "yes" : "no");
+    printf("slots there: %llu\n", (number)hlq_report(2, 3, keys, 21, bits, 21, n, 0, 1, 2, 3).bits);
+    hlq_counted found = hlq_select(2, 3, keys, 21, bits, 21, n, 0, 1, 2, 3, 1, answer, 16);
+    printf("feature 1 there:");
+    for (size_t i = 0; i < found.count; i++) printf(" %u%u", answer[i] / 5, answer[i] % 5);
+
+    hlq_edited e = hlq_paint(2, 3, keys, 21, bits, 21, n, log_keys, 8, log_values, 8, used, 2 * 5 + 4, 1); /* block 24 with 1 */
+    if (e.refusal) return 1;
+    printf("\npainted: %llu records\n", (number)e.n);
+    e = hlq_take_back(2, 3, keys, 21, bits, 21, e.n, log_keys, 8, log_values, 8, e.used);
+    printf("taken back: %llu records\n", (number)e.n);
     return 0;
 }
