@@ -12,7 +12,7 @@ run: kit lib
 	@tests/c/build target/c/example_readme examples/readme.c
 	@tests/c/build --run target/c/example_readme
 
-# The layout, the proofs, the must-fail edits, the programs and the C tests. The last line is the gate's own.
+# The layout, the proofs (rt ci), the must-fail edits, the programs and the C tests. The last line is the gate's own.
 test: kit
 	@tests/run
 
