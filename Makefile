@@ -3,14 +3,14 @@
 
 .PHONY: run test lib bench install kit
 
-# The listing program on Map A, and the C example of the README.
+# The listing program on Map A, and the example: a day with a survey.
 run: kit lib
 	rt check listing
 	@echo "== the listing program on Map A"
 	@tests/c/build --run target/bin/listing <crates/listing/stdin
-	@echo "== the C example of the README"
-	@tests/c/build target/c/example_readme examples/readme.c
-	@tests/c/build --run target/c/example_readme
+	@echo "== the example: a survey, its rules and waivers"
+	@tests/c/build target/c/example_survey examples/survey.c
+	@tests/c/build --run target/c/example_survey <examples/survey.txt
 
 # The layout, the proofs (rt ci), the must-fail edits, the programs and the C tests. The last line is the gate's own.
 test: kit

@@ -97,6 +97,22 @@ static void edits(size_t n) {
     if (n != plain_n || used != plain_used || memcmp(keys, other_keys, 4 * n) != 0 || memcmp(bits, other_bits, 4 * n) != 0) printf("THE TWO DIFFER\n");
 }
 
+static void findings(size_t n) {
+    enum { RULES = 1000, WAIVERS = 10000 };
+    static hlq_rule rules[RULES];
+    static uint32_t ids[WAIVERS], waived[WAIVERS], found_ids[1 << 22], found_keys[1 << 22], other_ids[1 << 22], other_found[1 << 22];
+    size_t waivers = 0, hidden = 0;
+    for (uint32_t i = 0; i < RULES; i++) {
+        uint32_t h = 1 + below(40), w = 1 + below(40);
+        rules[i] = (hlq_rule){ 10 * i, below(EDGE - h), below(EDGE - w), h, w, below(S) };
+        size_t count = plain_select(M, keys, bits, n, rules[i].row, rules[i].column, h, w, rules[i].feature, answer, PIXELS);
+        for (size_t j = 0; j < count && waivers < 10 * (i + 1); j += 2) ids[waivers] = rules[i].id, waived[waivers++] = answer[j];
+    }
+    printf("\nfindings at m = %d: %d rules, %zu waivers\n", M, RULES, waivers);
+    COMPARE("findings", 5, sink += hlq_findings(M, S, keys, MOST, bits, MOST, n, rules, RULES, ids, waivers, waived, waivers, found_ids, 1 << 22, found_keys, 1 << 22).live,
+            sink += (uint64_t)plain_is_list(M, S, keys, bits, n) + plain_findings(M, keys, bits, n, rules, RULES, ids, waived, waivers, other_ids, other_found, &hidden));
+}
+
 static void files(size_t n) {
     printf("\nfile at m = %d, n = %zu\n", M, n);
     COMPARE("store", 5, sink += hlq_store(M, S, keys, MOST, bits, MOST, n, file, 11 + 6 * (size_t)MOST).count,
@@ -113,6 +129,7 @@ int main(void) {
     size_t n = hlq_build(M, S, raster, PIXELS, keys, MOST, bits, MOST).count;
     windows(n);
     edits(n);
+    findings(n);
     files(n);
     free(file);
     return 0;

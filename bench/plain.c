@@ -291,7 +291,24 @@ size_t plain_take_back(uint32_t m, uint32_t s, uint32_t *keys, uint32_t *bits, s
     return n;
 }
 
-/* ---- store, load */
+/* ---- findings, store, load */
+
+size_t plain_findings(uint32_t m, const uint32_t *keys, const uint32_t *bits, size_t n, const hlq_rule *rules, size_t rules_len,
+                      const uint32_t *waiver_ids, const uint32_t *waiver_keys, size_t waivers, uint32_t *ids, uint32_t *found, size_t *hidden) {
+    static uint32_t given[1 << 20];
+    size_t live = 0, w = 0;
+    *hidden = 0;
+    for (size_t i = 0; i < rules_len; i++) {
+        const hlq_rule *r = rules + i;
+        size_t count = plain_select(m, keys, bits, n, r->row, r->column, r->height, r->width, r->feature, given, 1 << 20);
+        for (size_t j = 0; j < count; j++) {
+            while (w < waivers && (waiver_ids[w] < r->id || (waiver_ids[w] == r->id && waiver_keys[w] < given[j]))) w++;
+            if (w < waivers && waiver_ids[w] == r->id && waiver_keys[w] == given[j]) (*hidden)++;
+            else ids[live] = r->id, found[live++] = given[j];
+        }
+    }
+    return live;
+}
 
 size_t plain_store(uint32_t m, uint32_t s, const uint32_t *keys, const uint32_t *bits, size_t n, uint8_t *file) {
     uint8_t head[11] = { 'H', 'L', 'Q', 0, 1, (uint8_t)m, (uint8_t)s, (uint8_t)(n >> 24), (uint8_t)(n >> 16), (uint8_t)(n >> 8), (uint8_t)n };

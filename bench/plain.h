@@ -20,6 +20,9 @@ size_t plain_blocks(uint32_t m, uint32_t row, uint32_t column, uint32_t height, 
 size_t plain_paint(uint32_t m, uint32_t s, uint32_t *keys, uint32_t *bits, size_t n, uint32_t *log_keys, uint32_t *log_values, size_t *used,
                    uint32_t key, uint32_t feature);
 size_t plain_take_back(uint32_t m, uint32_t s, uint32_t *keys, uint32_t *bits, size_t n, uint32_t *log_keys, uint32_t *log_values, size_t *used);
+/* Live findings and, through the pointer, the hidden ones; waivers are merged in order. */
+size_t plain_findings(uint32_t m, const uint32_t *keys, const uint32_t *bits, size_t n, const hlq_rule *rules, size_t rules_len,
+                      const uint32_t *waiver_ids, const uint32_t *waiver_keys, size_t waivers, uint32_t *ids, uint32_t *found, size_t *hidden);
 size_t plain_store(uint32_t m, uint32_t s, const uint32_t *keys, const uint32_t *bits, size_t n, uint8_t *file);
 size_t plain_load(const uint8_t *file, uint32_t *keys, uint32_t *bits);
 /* The raster scan that report answers. */

@@ -1,5 +1,5 @@
 /* prowcurl.h: a raster of ground classes as a sorted list of quadtree nodes (the hybrid linear quadtree of Nardelli and Proietti), which
- * answers window queries, takes edits that can be taken back, and is stored in a file.
+ * answers window queries, takes edits that can be taken back, runs rules with waivers, and is stored in a file.
  *
  * CONVENTIONS
  *
@@ -45,6 +45,8 @@ enum {
     HLQ_LOG_ROOM = 10,     /* the log afterwards would exceed its room */
     HLQ_LOG_EMPTY = 11,    /* used is 0: there is no paint to take back */
     HLQ_ANSWER_ROOM = 12,  /* the answer exceeds its room; the places needed are returned */
+    HLQ_RULES = 13,        /* rule ids not strictly ascending, or a rule with a bad window or feature */
+    HLQ_WAIVERS = 14,      /* waivers not strictly ascending, a bad key, or an id that no rule has */
     HLQ_FILE_LENGTH = 15,  /* the file has under 11 bytes, or a wrong length */
     HLQ_FILE_MARK = 16,    /* the file does not begin with HLQ */
     HLQ_FILE_VERSION = 17  /* the file's version is not 1 */
@@ -57,7 +59,9 @@ typedef struct { uint64_t start, length; } hlq_span;          /* length 0 (and s
 typedef struct { uint64_t refusal, yes; } hlq_exists;
 typedef struct { uint64_t refusal, bits; } hlq_reported;
 typedef struct { uint64_t refusal, n, used; } hlq_edited;
+typedef struct { uint64_t refusal, live, hidden; } hlq_found; /* with 12: live = places needed, hidden = 0 */
 typedef struct { uint64_t refusal, m, s, n; } hlq_loaded;
+typedef struct { uint32_t id, row, column, height, width, feature; } hlq_rule;
 
 /* BUILD. The list of a raster is written to places 0 to count - 1 of keys and bits; all other places stay. count is the number of records, at
  * most (4^(m+1) - 1) / 3. Refusals 1, 2, 3, 9. */
@@ -105,6 +109,14 @@ hlq_edited hlq_take_back(uint32_t m, uint32_t s, uint32_t *keys, size_t keys_len
 
 /* EMPTY. The new `used` of an emptied log, 0. Earlier paints can then no longer be taken back. */
 uint64_t hlq_empty(void);
+
+/* FINDINGS. The findings of a rule are the blocks that select gives for its window and feature; a waiver (an id and a key) hides the finding
+ * that has both, and no other. The live findings stand in found_ids and found_keys, by id and then key, in places 0 to live - 1; all other
+ * places stay. There are as many waivers as the shorter of their slices holds. Refusals 1, 4, 13, 14, 12. */
+hlq_found hlq_findings(uint32_t m, uint32_t s, const uint32_t *keys, size_t keys_len, const uint32_t *bits, size_t bits_len, size_t n,
+                       const hlq_rule *rules, size_t rules_len,
+                       const uint32_t *waiver_ids, size_t waiver_ids_len, const uint32_t *waiver_keys, size_t waiver_keys_len,
+                       uint32_t *found_ids, size_t found_ids_len, uint32_t *found_keys, size_t found_keys_len);
 
 /* STORE. The file of the list in bytes 0 to count - 1; all other bytes stay. It has 11 + 6 n bytes. Refusals 1, 4, 12. */
 hlq_counted hlq_store(uint32_t m, uint32_t s, const uint32_t *keys, size_t keys_len, const uint32_t *bits, size_t bits_len, size_t n,

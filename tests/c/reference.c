@@ -368,6 +368,61 @@ hlq_edited ref_take_back(uint32_t m, uint32_t s, uint32_t *keys, size_t keys_len
     return answer;
 }
 
+static int rules_are_bad(uint32_t m, uint32_t s, const hlq_rule *rules, size_t n) {
+    for (size_t i = 0; i < n; i++) {
+        if (i > 0 && rules[i - 1].id >= rules[i].id) return 1;
+        if (!is_window(m, rules[i].row, rules[i].column, rules[i].height, rules[i].width) || rules[i].feature >= s) return 1;
+    }
+    return 0;
+}
+
+static int waivers_are_bad(uint32_t m, const hlq_rule *rules, size_t rules_len, const uint32_t *ids, const uint32_t *keys, size_t n) {
+    for (size_t i = 0; i < n; i++) {
+        int known = 0;
+        if (i > 0 && (ids[i - 1] > ids[i] || (ids[i - 1] == ids[i] && keys[i - 1] >= keys[i]))) return 1;
+        for (size_t j = 0; j < rules_len; j++) known |= rules[j].id == ids[i];
+        if (!known || !ref_key_is_valid(m, keys[i])) return 1;
+    }
+    return 0;
+}
+
+static int is_waived(const uint32_t *ids, const uint32_t *keys, size_t n, uint32_t id, uint32_t key) {
+    for (size_t i = 0; i < n; i++) if (ids[i] == id && keys[i] == key) return 1;
+    return 0;
+}
+
+hlq_found ref_findings(uint32_t m, uint32_t s, const uint32_t *keys, size_t keys_len, const uint32_t *bits, size_t bits_len, size_t n,
+                       const hlq_rule *rules, size_t rules_len,
+                       const uint32_t *waiver_ids, size_t waiver_ids_len, const uint32_t *waiver_keys, size_t waiver_keys_len,
+                       uint32_t *found_ids, size_t found_ids_len, uint32_t *found_keys, size_t found_keys_len) {
+    size_t waivers = shorter(waiver_ids_len, waiver_keys_len), room = shorter(found_ids_len, found_keys_len);
+    if (settings_are_bad(m, s)) return (hlq_found){ 1, 0, 0 };
+    uint8_t *raster = raster_of(m, s, keys, keys_len, bits, bits_len, n);
+    if (!raster) return (hlq_found){ 4, 0, 0 };
+    hlq_found answer = { 0, 0, 0 };
+    if (rules_are_bad(m, s, rules, rules_len)) answer.refusal = 13;
+    else if (waivers_are_bad(m, rules, rules_len, waiver_ids, waiver_keys, waivers)) answer.refusal = 14;
+    else {
+        uint32_t *found = malloc(sizeof(uint32_t) * pixels_of(m));
+        for (int write = 0; write <= 1 && answer.refusal == 0; write++) {
+            answer.live = answer.hidden = 0;
+            for (size_t i = 0; i < rules_len; i++) {
+                const hlq_rule *r = rules + i;
+                size_t count = select_keys(m, raster, r->row, r->column, r->height, r->width, r->feature, found);
+                for (size_t j = 0; j < count; j++) {
+                    if (is_waived(waiver_ids, waiver_keys, waivers, r->id, found[j])) { answer.hidden++; continue; }
+                    if (write) { found_ids[answer.live] = r->id; found_keys[answer.live] = found[j]; }
+                    answer.live++;
+                }
+            }
+            if (answer.live > room) answer = (hlq_found){ 12, answer.live, 0 };
+        }
+        free(found);
+    }
+    free(raster);
+    return answer;
+}
+
 hlq_counted ref_store(uint32_t m, uint32_t s, const uint32_t *keys, size_t keys_len, const uint32_t *bits, size_t bits_len, size_t n,
                       uint8_t *file, size_t file_len) {
     if (settings_are_bad(m, s)) return (hlq_counted){ 1, 0 };

@@ -38,6 +38,10 @@ hlq_edited hlq_take_back(uint32_t m, uint32_t s, uint32_t *keys, size_t keys_len
     return ref_take_back(m, s, keys, keys_len, bits, bits_len, n, log_keys, log_keys_len, log_values, log_values_len, used);
 }
 
+hlq_found hlq_findings(uint32_t m, uint32_t s, const uint32_t *keys, size_t keys_len, const uint32_t *bits, size_t bits_len, size_t n, const hlq_rule *rules, size_t rules_len, const uint32_t *waiver_ids, size_t waiver_ids_len, const uint32_t *waiver_keys, size_t waiver_keys_len, uint32_t *found_ids, size_t found_ids_len, uint32_t *found_keys, size_t found_keys_len) {
+    return ref_findings(m, s, keys, keys_len, bits, bits_len, n, rules, rules_len, waiver_ids, waiver_ids_len, waiver_keys, waiver_keys_len, found_ids, found_ids_len, found_keys, found_keys_len);
+}
+
 hlq_counted hlq_store(uint32_t m, uint32_t s, const uint32_t *keys, size_t keys_len, const uint32_t *bits, size_t bits_len, size_t n, uint8_t *file, size_t file_len) {
     return ref_store(m, s, keys, keys_len, bits, bits_len, n, file, file_len);
 }

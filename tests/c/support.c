@@ -5,7 +5,7 @@
 #include <string.h>
 
 static const char *const names[CALLS] = { "build", "raster", "standing", "part", "exist", "report", "select", "paint", "take_back",
-                                          "store", "load" };
+                                          "findings", "store", "load" };
 static uint64_t state = 1, comparisons, pairs[CALLS][MAX_REFUSAL + 1];
 
 static void fail(const char *what) {

@@ -16,7 +16,7 @@
 enum { GUARD = 8, MAX_REFUSAL = 17 };
 
 typedef enum { CALL_BUILD, CALL_RASTER, CALL_STANDING, CALL_PART, CALL_EXIST, CALL_REPORT, CALL_SELECT, CALL_PAINT, CALL_TAKE_BACK,
-               CALL_STORE, CALL_LOAD, CALLS } call;
+               CALL_FINDINGS, CALL_STORE, CALL_LOAD, CALLS } call;
 
 /* Random numbers: the same on every machine. */
 void seed(uint64_t value);

@@ -1,0 +1,150 @@
+-- A run over good rules with known waivers gathers the findings of all of them: it counts and writes the live ones, and counts the others. Rests on
+-- StepCases, GoodRules and KnownIds.
+use Prim.Native.Nat.{ℕ, _+_, _≤_}
+use mathlib.Core.Path.{_≡_, refl, sym, ap, ap₂, _∙_}
+use mathlib.Core.Bool.{Bool, true, false, cond, not, _&&_, _||_}
+use mathlib.Core.List.{List, [], _∷_, _++_, map}
+use native.Mathlib.Nat.{add-zero}
+use native.Mathlib.Omega.{arith}
+use lib.ListN.{length, length-append, length-map}
+use lib.Dec.{ltb}
+use borrow.Author.Tests.{not-true}
+use Rattle.keys.proofs.Cases.{decide, and-left, and-right}
+use Rattle.definitions.specs.Picture.{Picture}
+use Rattle.definitions.specs.Rules.{Finding, findingsOf, allFindings, waiversOf, liveOf, hiddenCount}
+use Rattle.definitions.specs.declared.Rule.{Rule}
+use Rattle.definitions.proofs.Waivers.{live-none, live-hidden, live-kept}
+use Rattle.window.specs.Gather.{written}
+use Rattle.window.proofs.Written.{written-none, written-append}
+use Rattle.rules.specs.declared.run.State.{State}
+use Rattle.rules.specs.Run.{waiversBelow, Progress, progressOf, counting, picture, isUnknown, gathered, stepOf, runOf}
+use Rattle.rules.proofs.Fold.{run-nil, run-cons}
+use Rattle.rules.proofs.StepCases.{isFaulty, step-good}
+use Rattle.rules.proofs.GoodRules.{goodFrom, good-first, good-rest}
+use Rattle.rules.proofs.KnownIds.{nextAfter, next-nil, next-cons, knownFrom, known-cons}
+
+-- of two runs of findings
+pub live-append : (ws xs ys : List Finding) → liveOf ws (xs ++ ys) ≡ liveOf ws xs ++ liveOf ws ys
+live-append ws [] ys = ap (λ l. l ++ liveOf ws ys) (sym (live-none ws))
+live-append ws (x ∷ xs) ys =
+    decide (Rattle.definitions.specs.Rules.isHidden ws x)
+    (λ e. live-hidden ws x (xs ++ ys) e ∙ live-append ws xs ys ∙ ap (λ l. l ++ liveOf ws ys) (sym (live-hidden ws x xs e)))
+    (λ e. live-kept ws x (xs ++ ys) e ∙ ap (λ l. x ∷ l) (live-append ws xs ys) ∙ ap (λ l. l ++ liveOf ws ys) (sym (live-kept ws x xs e)))
+
+pub hidden-none : (ws : List Finding) → hiddenCount ws [] ≡ 0
+unfolding hiddenCount
+hidden-none ws = refl
+
+pub hidden-append : (ws xs ys : List Finding) → hiddenCount ws (xs ++ ys) ≡ hiddenCount ws xs + hiddenCount ws ys
+unfolding hiddenCount
+hidden-append ws [] ys = omega arith
+hidden-append ws (x ∷ xs) ys = let ih = hidden-append ws xs ys in omega arith
+
+pub findings-nil : (m : ℕ) (p : Picture) → allFindings m p [] ≡ []
+unfolding allFindings
+findings-nil m p = refl
+
+pub findings-cons : (m : ℕ) (p : Picture) (rule : Rule) (rules : List Rule) → allFindings m p (rule ∷ rules) ≡ findingsOf m p rule ++ allFindings m p rules
+unfolding allFindings
+findings-cons m p rule rules = refl
+
+map-append : (f : Finding → ℕ) (xs ys : List Finding) → map f (xs ++ ys) ≡ map f xs ++ map f ys
+map-append f [] ys = refl
+map-append f (x ∷ xs) ys = ap (λ l. f x ∷ l) (map-append f xs ys)
+
+-- two progresses with the same numbers
+same-progress : (st : State) {next next′ passed passed′ live live′ hidden hidden′ : ℕ} {ids ids′ keys keys′ : List ℕ}
+    → next ≡ next′
+    → passed ≡ passed′
+    → live ≡ live′
+    → hidden ≡ hidden′
+    → ids ≡ ids′
+    → keys ≡ keys′
+    → progressOf (counting next passed live hidden st) ids keys ≡ progressOf (counting next′ passed′ live′ hidden′ st) ids′ keys′
+same-progress st a b c d e f = λ i. progressOf (counting (a i) (b i) (c i) (d i) st) (e i) (f i)
+
+module _ (keys bits waiverIds waiverKeys : List ℕ) where
+  abbrev ws : List Finding
+  ws = waiversOf waiverIds waiverKeys
+
+  -- the live findings of the rules, and how many are hidden
+  abbrev liveAll : State → List Rule → List Finding
+  liveAll st rules = liveOf ws (allFindings (st .m) (picture keys bits waiverIds waiverKeys st) rules)
+
+  abbrev hiddenAll : State → List Rule → ℕ
+  hiddenAll st rules = hiddenCount ws (allFindings (st .m) (picture keys bits waiverIds waiverKeys st) rules)
+
+  abbrev pub allGathered : List Rule → Progress → Progress
+  allGathered rules p =
+      progressOf
+      (counting (nextAfter (p .state .next) rules) (waiversBelow (nextAfter (p .state .next) rules) ws)
+      (p .state .live + length (liveAll (p .state) rules))
+      (p .state .hidden + hiddenAll (p .state) rules)
+      (p .state))
+      (written (p .state .limit) (p .ids) (p .state .live) (map (λ x. x .id) (liveAll (p .state) rules)))
+      (written (p .state .limit) (p .keys) (p .state .live) (map (λ x. x .key) (liveAll (p .state) rules)))
+
+  -- no rule
+  none-gathered : (p : Progress) → p .state .passed ≡ waiversBelow (p .state .next) ws → p ≡ allGathered [] p
+  none-gathered p passed =
+      let st = p .state in
+      let none : liveAll st [] ≡ [] = ap (liveOf ws) (findings-nil (st .m) _) ∙ live-none ws in
+      let hid : hiddenAll st [] ≡ 0 = ap (hiddenCount ws) (findings-nil (st .m) _) ∙ hidden-none ws in
+      same-progress st (sym (next-nil (st .next))) (passed ∙ ap (λ x. waiversBelow x ws) (sym (next-nil (st .next))))
+      (let e = ap length none in omega arith)
+      (omega arith)
+      (sym (ap (λ l. written (st .limit) (p .ids) (st .live) (map (λ x. x .id) l)) none ∙ written-none (st .limit) (p .ids) (st .live)))
+      (sym (ap (λ l. written (st .limit) (p .keys) (st .live) (map (λ x. x .key) l)) none ∙ written-none (st .limit) (p .keys) (st .live)))
+
+  -- one rule, and then the others
+  module _ (rule : Rule) (rules : List Rule) (p : Progress) where
+    abbrev st : State
+    st = p .state
+
+    abbrev found : List Finding
+    found = findingsOf (st .m) (picture keys bits waiverIds waiverKeys st) rule
+
+    live-two : liveAll st (rule ∷ rules) ≡ liveOf ws found ++ liveAll st rules
+    live-two = ap (liveOf ws) (findings-cons (st .m) _ rule rules) ∙ live-append ws found _
+
+    hidden-two : hiddenAll st (rule ∷ rules) ≡ hiddenCount ws found + hiddenAll st rules
+    hidden-two = ap (hiddenCount ws) (findings-cons (st .m) _ rule rules) ∙ hidden-append ws found _
+
+    wrote-two : (f : Finding → ℕ) (answer : List ℕ)
+        → written (st .limit) (written (st .limit) answer (st .live) (map f (liveOf ws found))) (st .live + length (liveOf ws found)) (map f (liveAll st rules))
+        ≡ written (st .limit) answer (st .live) (map f (liveAll st (rule ∷ rules)))
+    wrote-two f answer =
+        ap (λ k. written (st .limit) (written (st .limit) answer (st .live) (map f (liveOf ws found))) (st .live + k) (map f (liveAll st rules)))
+        (sym (length-map (liveOf ws found) f))
+        ∙ sym (written-append (st .limit) answer (st .live) (map f (liveOf ws found)) (map f (liveAll st rules)))
+        ∙ ap (written (st .limit) answer (st .live)) (sym (map-append f (liveOf ws found) (liveAll st rules)) ∙ ap (map f) (sym live-two))
+
+    next-gathered : allGathered rules (gathered keys bits waiverIds waiverKeys rule p) ≡ allGathered (rule ∷ rules) p
+    next-gathered =
+        same-progress st (sym (next-cons (st .next) rule rules)) (ap (λ x. waiversBelow x ws) (sym (next-cons (st .next) rule rules)))
+        (let e = ap length live-two in let g = length-append (liveOf ws found) (liveAll st rules) in omega arith)
+        (let e = hidden-two in omega arith)
+        (wrote-two (λ x. x .id) (p .ids))
+        (wrote-two (λ x. x .key) (p .keys))
+
+  neither : (a b : Bool) → a ≡ false → b ≡ false → a || b ≡ false
+  neither a b e f = rw (e, f)
+
+  pub run-gathered : (rules : List Rule) (p : Progress)
+      → p .state .refusal ≡ 0
+      → p .state .faulty ≡ false
+      → p .state .passed ≡ waiversBelow (p .state .next) ws
+      → goodFrom (p .state .m) (p .state .s) (p .state .next) rules ≡ true
+      → knownFrom ws (p .state .next) rules ≡ true
+      → runOf keys bits waiverIds waiverKeys rules p ≡ allGathered rules p
+  run-gathered [] p zero sound passed good known = run-nil keys bits waiverIds waiverKeys p ∙ none-gathered p passed
+  run-gathered (rule ∷ rules) p zero sound passed good known =
+      let st = p .state in
+      let k = sym (known-cons ws (st .next) rule rules) ∙ known in
+      let test = not (ltb (waiversBelow (st .next) ws) (waiversBelow (rule .id) ws)) in
+      let seen : isUnknown keys bits waiverIds waiverKeys rule st ≡ false = not-true (ltb (waiversBelow (st .next) ws) (waiversBelow (rule .id) ws)) (and-left test (knownFrom ws (rule .id + 1) rules) k) in
+      run-cons keys bits waiverIds waiverKeys rule rules p
+      ∙ ap (runOf keys bits waiverIds waiverKeys rules)
+      (step-good keys bits waiverIds waiverKeys rule p zero (good-first (st .m) (st .s) (st .next) rule rules good) (neither (st .faulty) _ sound seen))
+      ∙ run-gathered rules (gathered keys bits waiverIds waiverKeys rule p) zero sound refl (good-rest (st .m) (st .s) (st .next) rule rules good) (and-right test (knownFrom ws (rule .id + 1) rules) k)
+      ∙ next-gathered rule rules p

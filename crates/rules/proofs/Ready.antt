@@ -1,0 +1,107 @@
+-- What a run stands on is kept by every rule: so it holds from the beginning to the end. The counts stay small, since ids ascend and a rule has at most
+-- as many findings as the map has keys. Rests on StepCases.
+use Prim.Native.Nat.{ℕ, _+_, _*_, _^_, _≤_, _<_}
+use mathlib.Core.Path.{_≡_, refl, sym, ap, _∙_, subst}
+use mathlib.Core.Bool.{Bool, true, false, true≢false}
+use mathlib.Core.List.{List, [], _∷_, map}
+use native.Mathlib.Omega.{arith}
+use lib.ListN.{length, length-map}
+use lib.Dec.{leb}
+use borrow.Author.Tests.{leb-true}
+use Rattle.keys.proofs.Cases.{decide, equal, and-left, and-right}
+use Rattle.keys.proofs.Powers.{five-le}
+use Rattle.definitions.specs.Picture.{Picture}
+use Rattle.definitions.specs.Window.{selectIn}
+use Rattle.definitions.specs.Rules.{Finding, findingOf, windowOf, findingsOf, waiversOf, liveOf, hiddenCount, isRule}
+use Rattle.definitions.specs.declared.Rule.{Rule}
+use Rattle.definitions.proofs.SelectAscends.{select-in-ascends}
+use Rattle.definitions.proofs.Waivers.{live-and-hidden}
+use Rattle.window.proofs.Lower.{ascending-length}
+use Rattle.window.proofs.Written.{length-written}
+use Rattle.rules.specs.Run.{Progress, mayCome, picture, findingsAt, gathered, stepOf, runOf, Fine, Ready}
+use Rattle.rules.proofs.Fold.{run-nil, run-cons}
+use Rattle.rules.proofs.StepCases.{isFaulty, step-stopped, step-bad, step-faulty, step-good}
+
+-- a rule has at most as many findings as the map has keys
+pub findings-few : (m : ℕ) (p : Picture) (rule : Rule) → m ≤ 10 → length (findingsOf m p rule) ≤ 9765625
+unfolding findingsOf
+findings-few m p rule low =
+    let a = ascending-length (select-in-ascends m p (windowOf rule) (rule .feature)) in
+    let b = length-map (selectIn m p (windowOf rule) (rule .feature)) (findingOf (rule .id)) in
+    let c = five-le 10 low in
+    omega arith
+
+module _ (keys bits waiverIds waiverKeys : List ℕ) where
+  abbrev Is : Progress → Type 0
+  Is = Ready keys bits waiverIds waiverKeys
+
+  -- the least id that may come is at most the rule's
+  pub next-low : (rule : Rule) (p : Progress) → mayCome rule (p .state) ≡ true → p .state .next ≤ rule .id
+  next-low rule p e = leb-true _ _ (and-left (leb (p .state .next) (rule .id)) (isRule (p .state .m) (p .state .s) rule) e)
+
+  pub rule-good : (rule : Rule) (p : Progress) → mayCome rule (p .state) ≡ true → isRule (p .state .m) (p .state .s) rule ≡ true
+  rule-good rule p e = and-right (leb (p .state .next) (rule .id)) (isRule (p .state .m) (p .state .s) rule) e
+
+  -- gathering keeps it
+  fine-gathered : (rule : Rule) (p : Progress) → p .state .next ≤ rule .id → Fine keys bits waiverIds waiverKeys p
+      → Fine keys bits waiverIds waiverKeys (gathered keys bits waiverIds waiverKeys rule p)
+  fine-gathered rule p low f =
+      let ws = waiversOf waiverIds waiverKeys in
+      let found = findingsAt keys bits waiverIds waiverKeys rule (p .state) in
+      let live = liveOf ws found in
+      let few = findings-few (p .state .m) (picture keys bits waiverIds waiverKeys (p .state)) rule (f .level) in
+      let both = live-and-hidden ws found in
+      let ids = length-written (p .state .limit) (p .ids) (p .state .live) (map (λ x. x .id) live) in
+      let keys′ = length-written (p .state .limit) (p .keys) (p .state .live) (map (λ x. x .key) live) in
+      record {
+        level = f .level;
+        slots = f .slots;
+        list = f .list;
+        limitIds = omega (arith, f .limitIds);
+        limitKeys = omega (arith, f .limitKeys);
+        roomIds = omega (arith, f .roomIds);
+        roomKeys = omega (arith, f .roomKeys);
+        count = f .count;
+        ascend = f .ascend;
+        passed = λ e. refl;
+        small = omega (arith, f .small);
+      }
+
+  -- a rule keeps it
+  pub ready-step : (rule : Rule) (p next : Progress) → next ≡ stepOf keys bits waiverIds waiverKeys rule p → Is p → Is next
+  ready-step rule p next e h =
+      equal (p .state .refusal) 0
+      (λ zero.
+      let f = h .fine zero in
+      decide (mayCome rule (p .state))
+      (λ may.
+      decide (isFaulty keys bits waiverIds waiverKeys rule p)
+      (λ faulty.
+      rw (e ∙ step-faulty keys bits waiverIds waiverKeys rule p zero may faulty)
+      (record {
+        fine = λ still. record {
+          level = f .level;
+          slots = f .slots;
+          list = f .list;
+          limitIds = f .limitIds;
+          limitKeys = f .limitKeys;
+          roomIds = f .roomIds;
+          roomKeys = f .roomKeys;
+          count = f .count;
+          ascend = λ no-fault. absurd (true≢false no-fault);
+          passed = λ no-fault. absurd (true≢false no-fault);
+          small = let low = next-low rule p may in omega (arith, f .small);
+        };
+      }))
+      (λ good.
+      rw (e ∙ step-good keys bits waiverIds waiverKeys rule p zero may good)
+      (record { fine = λ still. fine-gathered rule p (next-low rule p may) f })))
+      (λ bad. rw (e ∙ step-bad keys bits waiverIds waiverKeys rule p zero bad) (record { fine = λ still. absurd (omega arith) })))
+      (λ stopped. rw (e ∙ step-stopped keys bits waiverIds waiverKeys rule p stopped) h)
+
+  -- and so does a run
+  pub ready-run : (rules : List Rule) (p : Progress) → Is p → Is (runOf keys bits waiverIds waiverKeys rules p)
+  ready-run [] p h = rw (run-nil keys bits waiverIds waiverKeys p) h
+  ready-run (rule ∷ rules) p h =
+      rw (run-cons keys bits waiverIds waiverKeys rule rules p)
+      (ready-run rules (stepOf keys bits waiverIds waiverKeys rule p) (ready-step rule p (stepOf keys bits waiverIds waiverKeys rule p) refl h))

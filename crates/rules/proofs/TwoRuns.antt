@@ -1,0 +1,299 @@
+-- Two runs over the rules, the first to count and the second to write, give document 01's findings: each refusal in its order, and otherwise the live
+-- findings with both counts. Rests on AllGathered, RunEnds, Quiet, WritingCases, Beginning and Refusals.
+use Prim.Native.Nat.{ℕ, _+_, _≤_, _<_, min}
+use mathlib.Core.Path.{_≡_, refl, sym, ap, _∙_}
+use mathlib.Core.Bool.{Bool, true, false, not, _&&_}
+use mathlib.Core.List.{List, map}
+use native.Mathlib.Nat.{zero-add}
+use native.Mathlib.Omega.{arith}
+use lib.ListN.{length, length-map}
+use borrow.Author.Tests.{ltb-true}
+use Rattle.keys.proofs.Cases.{decide, split}
+use Rattle.definitions.specs.Read.{room, pictureOf, recordsOf, isList}
+use Rattle.definitions.specs.Buffer.{over}
+use Rattle.definitions.specs.Rules.{Finding, allFindings, waiversOf, liveOf, hiddenCount, badWaivers}
+use Rattle.definitions.specs.Refusal.{badSettings}
+use Rattle.definitions.specs.Calls.Findings.{liveIn, hiddenIn, findingsRefusal, findings, findingsIds, findingsKeys}
+use Rattle.definitions.specs.declared.Rule.{Rule}
+use Rattle.definitions.specs.declared.Found.{Found}
+use Rattle.window.specs.Gather.{written}
+use Rattle.window.proofs.Written.{written-over}
+use Rattle.rules.specs.declared.run.State.{State}
+use Rattle.rules.specs.Run.{waiversBelow, waiversGood, Progress, progressOf, refusing, runOf, beginRefusal, beginOf, writingOf, answerOf}
+use Rattle.rules.proofs.WaiverPlaces.{waivers-length}
+use Rattle.rules.proofs.WritingCases.{writing, writing-stopped, writing-faulty, writing-left, writing-full, writing-begins, answer-done, answer-full, answer-refused}
+use Rattle.rules.proofs.Beginning.{begin-bad, begin-no-list, begin-good, fault-good, below-zero}
+use Rattle.rules.proofs.GoodRules.{goodFrom}
+use Rattle.rules.proofs.KnownIds.{nextAfter, knownFrom, known-all, all-known, AllKnown, FoundKnown}
+use Rattle.rules.proofs.AllGathered.{allGathered, run-gathered}
+use Rattle.rules.proofs.RunEnds.{Faulted, run-bad, run-faulty, run-unknown}
+use Rattle.rules.proofs.Quiet.{run-stopped, quiet-ids, quiet-keys}
+use Rattle.rules.proofs.Refusals.{waivers-fine, waivers-wrong, waivers-unknown, refusal-1, refusal-4, refusal-13, refusal-14, refusal-12, refusal-0, given-refused, given-full, given-done, ids-stay, keys-stay, ids-written, keys-written}
+
+module _ (m s : ℕ) (keys bits : List ℕ) (n : ℕ) (rules : List Rule) (waiverIds waiverKeys ids foundKeys : List ℕ) where
+  abbrev ws : List Finding
+  ws = waiversOf waiverIds waiverKeys
+
+  abbrev run : Progress → Progress
+  run = runOf keys bits waiverIds waiverKeys rules
+
+  abbrev live : List Finding
+  live = liveIn m keys bits n rules waiverIds waiverKeys
+
+  abbrev refusal : ℕ
+  refusal = findingsRefusal m s keys bits n rules waiverIds waiverKeys ids foundKeys
+
+  abbrev start : State
+  start = beginOf m s keys bits n waiverIds waiverKeys (length ids) (length foundKeys)
+
+  abbrev begun : Progress
+  begun = progressOf start ids foundKeys
+
+  -- after the counting run
+  abbrev pub counted : Progress
+  counted = run begun
+
+  abbrev pub second : Progress
+  second = progressOf (writingOf (counted .state)) (counted .ids) (counted .keys)
+
+  -- what the call gives and leaves
+  pub record Promised (p : Progress) : Type 0 where
+    pub answered : answerOf (p .state) ≡ findings m s keys bits n rules waiverIds waiverKeys ids foundKeys
+    pub wroteIds : p .ids ≡ findingsIds m s keys bits n rules waiverIds waiverKeys ids foundKeys
+    pub wroteKeys : p .keys ≡ findingsKeys m s keys bits n rules waiverIds waiverKeys ids foundKeys
+
+  -- the counting run writes nothing
+  ids-quiet : counted .ids ≡ ids
+  unfolding beginOf
+  ids-quiet = quiet-ids keys bits waiverIds waiverKeys rules begun refl
+
+  keys-quiet : counted .keys ≡ foundKeys
+  unfolding beginOf
+  keys-quiet = quiet-keys keys bits waiverIds waiverKeys rules begun refl
+
+  -- the writing run is refused before it begins
+  module _ (c : ℕ) (is : writingOf (counted .state) .refusal ≡ c) (not-zero : c ≡ 0 → ⊥) (said : refusal ≡ c) where
+    stays : run second ≡ second
+    stays = run-stopped keys bits waiverIds waiverKeys rules second (λ e. not-zero (sym is ∙ e))
+
+    not-done : refusal ≡ 0 → ⊥
+    not-done e = not-zero (sym said ∙ e)
+
+    stopped-ids : run second .ids ≡ findingsIds m s keys bits n rules waiverIds waiverKeys ids foundKeys
+    stopped-ids = ap (λ p. p .ids) stays ∙ ids-quiet ∙ sym (ids-stay m s keys bits n rules waiverIds waiverKeys ids foundKeys not-done)
+
+    stopped-keys : run second .keys ≡ findingsKeys m s keys bits n rules waiverIds waiverKeys ids foundKeys
+    stopped-keys = ap (λ p. p .keys) stays ∙ keys-quiet ∙ sym (keys-stay m s keys bits n rules waiverIds waiverKeys ids foundKeys not-done)
+
+    stopped : (c ≡ 12 → ⊥) → Promised (run second)
+    stopped not-full =
+        let st = writingOf (counted .state) in
+        record {
+          answered = ap (λ p. answerOf (p .state)) stays
+              ∙ answer-refused st (λ e. not-zero (sym is ∙ e)) (λ e. not-full (sym is ∙ e))
+              ∙ ap (λ k. record { refusal = k; live = 0; hidden = 0 }) is
+              ∙ sym (given-refused m s keys bits n rules waiverIds waiverKeys ids foundKeys c said not-zero not-full);
+          wroteIds = stopped-ids;
+          wroteKeys = stopped-keys;
+        }
+
+  -- the counting run was refused
+  pub refused-first : (c : ℕ) → counted .state .refusal ≡ c → (c ≡ 0 → ⊥) → (c ≡ 12 → ⊥) → refusal ≡ c → Promised (run second)
+  refused-first c is not-zero not-full said =
+      stopped c (ap (λ st. st .refusal) (writing-stopped (counted .state) (λ e. not-zero (sym is ∙ e))) ∙ is) not-zero said not-full
+
+  -- 1 and 4
+  begin-refused : (c : ℕ) → beginRefusal m s keys bits n ≡ c → (c ≡ 0 → ⊥) → (c ≡ 12 → ⊥) → refusal ≡ c → Promised (run second)
+  unfolding beginOf
+  begin-refused c is not-zero not-full said =
+      refused-first c (ap (λ p. p .state .refusal) (run-stopped keys bits waiverIds waiverKeys rules begun (λ e. not-zero (sym is ∙ e))) ∙ is) not-zero not-full said
+
+  -- 14
+  faulted : Faulted counted → refusal ≡ 14 → Promised (run second)
+  faulted f said =
+      stopped 14 (ap (λ st. st .refusal) (writing-faulty (counted .state) (f .running) (f .fault))) (λ e. omega arith) said (λ e. omega arith)
+
+  module _ (settings : badSettings m s ≡ false) (list : isList m s keys bits n ≡ true) where
+    begins : start .refusal ≡ 0
+    unfolding beginOf
+    begins = begin-good m s keys bits n settings list
+
+    -- 13
+    bad-run : goodFrom m s 0 rules ≡ false → counted .state .refusal ≡ 13
+    unfolding beginOf
+    bad-run bad = run-bad keys bits waiverIds waiverKeys rules begun begins bad
+
+    module _ (good : goodFrom m s 0 rules ≡ true) where
+      wrong-run : waiversGood m ws ≡ false → Faulted counted
+      unfolding beginOf
+      wrong-run wrong =
+          run-faulty keys bits waiverIds waiverKeys rules begun
+          (record { running = begins; fault = sym (fault-good m s keys bits n waiverIds waiverKeys false begins (sym wrong)) }) good
+
+      unknown-run : knownFrom ws 0 rules ≡ false → Faulted counted
+      unfolding beginOf
+      unknown-run unknown = run-unknown keys bits waiverIds waiverKeys rules begun begins good unknown
+
+      module _ (sound : waiversGood m ws ≡ true) (known : knownFrom ws 0 rules ≡ true) where
+        counting-run : counted ≡ allGathered keys bits waiverIds waiverKeys rules begun
+        unfolding beginOf
+        counting-run =
+            run-gathered keys bits waiverIds waiverKeys rules begun begins (sym (fault-good m s keys bits n waiverIds waiverKeys true begins (sym sound)))
+            (below-zero ws)
+            good
+            known
+
+        abbrev last : State
+        last = counted .state
+
+        zero-last : last .refusal ≡ 0
+        unfolding beginOf
+        zero-last = ap (λ p. p .state .refusal) counting-run ∙ begins
+
+        sound-last : last .faulty ≡ false
+        unfolding beginOf
+        sound-last = ap (λ p. p .state .faulty) counting-run ∙ sym (fault-good m s keys bits n waiverIds waiverKeys true begins (sym sound))
+
+        passed-last : last .passed ≡ waiversBelow (nextAfter 0 rules) ws
+        unfolding beginOf
+        passed-last = ap (λ p. p .state .passed) counting-run
+
+        waivers-last : last .waivers ≡ length ws
+        unfolding beginOf
+        waivers-last = ap (λ p. p .state .waivers) counting-run ∙ sym (waivers-length waiverIds waiverKeys)
+
+        room-last : last .room ≡ room ids foundKeys
+        unfolding beginOf
+        room-last = ap (λ p. p .state .room) counting-run
+
+        live-last : last .live ≡ length live
+        unfolding beginOf liveIn
+        live-last = ap (λ p. p .state .live) counting-run ∙ zero-add _
+
+        -- 14: a waiver is left
+        left-over : last .passed < last .waivers → refusal ≡ 14 → Promised (run second)
+        left-over h said =
+            stopped 14 (ap (λ st. st .refusal) (writing-left last zero-last sound-last h)) (λ e. omega arith) said (λ e. omega arith)
+
+        module _ (none : last .waivers ≤ last .passed) where
+          -- 12
+          too-many : last .room < last .live → refusal ≡ 12 → Promised (run second)
+          too-many h said =
+              let full = writing-full last zero-last sound-last none h in
+              let is = ap (λ st. st .refusal) full in
+              let stay = stays 12 is (λ e. omega arith) said in
+              record {
+                answered = ap (λ p. answerOf (p .state)) stay
+                    ∙ answer-full (writingOf last) is
+                    ∙ (λ i. record { refusal = is i; live = (ap (λ st. st .live) full ∙ live-last) i; hidden = 0 })
+                    ∙ sym (given-full m s keys bits n rules waiverIds waiverKeys ids foundKeys said);
+                wroteIds = stopped-ids 12 is (λ e. omega arith) said;
+                wroteKeys = stopped-keys 12 is (λ e. omega arith) said;
+              }
+
+          -- the writing run
+          module _ (fits : last .live ≤ last .room) where
+            -- it starts from the same settings
+            abbrev again : Progress
+            again = progressOf (writing last) ids foundKeys
+
+            second-is : second ≡ again
+            second-is = λ i. progressOf (writing-begins last zero-last sound-last none fits i) (ids-quiet i) (keys-quiet i)
+
+            level-last : last .m ≡ m
+            unfolding beginOf
+            level-last = ap (λ p. p .state .m) counting-run
+
+            slots-last : last .s ≡ s
+            unfolding beginOf
+            slots-last = ap (λ p. p .state .s) counting-run
+
+            records-last : last .n ≡ n
+            unfolding beginOf
+            records-last = ap (λ p. p .state .n) counting-run
+
+            writing-run : run again ≡ allGathered keys bits waiverIds waiverKeys rules again
+            writing-run =
+                run-gathered keys bits waiverIds waiverKeys rules again refl refl
+                (below-zero ws)
+                (rw (level-last, slots-last) good)
+                known
+
+            -- the findings are those of the call
+            all-same : allFindings (last .m) (pictureOf (last .m) (recordsOf keys bits (last .n))) rules ≡ allFindings m (pictureOf m (recordsOf keys bits n)) rules
+            all-same = λ i. allFindings (level-last i) (pictureOf (level-last i) (recordsOf keys bits (records-last i))) rules
+
+            live-same : liveOf ws (allFindings (last .m) (pictureOf (last .m) (recordsOf keys bits (last .n))) rules) ≡ live
+            unfolding liveIn
+            live-same = ap (liveOf ws) all-same
+
+            hidden-same : hiddenCount ws (allFindings (last .m) (pictureOf (last .m) (recordsOf keys bits (last .n))) rules) ≡ hiddenIn m keys bits n rules waiverIds waiverKeys
+            unfolding hiddenIn
+            hidden-same = ap (hiddenCount ws) all-same
+
+            final : run second ≡ allGathered keys bits waiverIds waiverKeys rules again
+            final = ap run second-is ∙ writing-run
+
+            wrote-all : (f : Finding → ℕ) (answer : List ℕ) → room ids foundKeys ≤ length answer
+                → written (last .room) answer 0 (map f (liveOf ws (allFindings (last .m) (pictureOf (last .m) (recordsOf keys bits (last .n))) rules)))
+                ≡ over (map f live) answer
+            wrote-all f answer h =
+                let size = length-map live f in
+                let small = live-last in
+                let wide = room-last in
+                ap (λ l. written (last .room) answer 0 (map f l)) live-same ∙ written-over (last .room) answer (map f live) (omega arith) (omega arith)
+
+            done : refusal ≡ 0 → Promised (run second)
+            done said =
+                record {
+                  answered = ap (λ p. answerOf (p .state)) final
+                      ∙ answer-done (allGathered keys bits waiverIds waiverKeys rules again .state) refl
+                      ∙ (λ i. record { refusal = 0; live = (zero-add _ ∙ ap length live-same) i; hidden = (zero-add _ ∙ hidden-same) i })
+                      ∙ sym (given-done m s keys bits n rules waiverIds waiverKeys ids foundKeys said);
+                  wroteIds = ap (λ p. p .ids) final
+                      ∙ wrote-all (λ x. x .id) ids (omega arith)
+                      ∙ sym (ids-written m s keys bits n rules waiverIds waiverKeys ids foundKeys said);
+                  wroteKeys = ap (λ p. p .keys) final
+                      ∙ wrote-all (λ x. x .key) foundKeys (omega arith)
+                      ∙ sym (keys-written m s keys bits n rules waiverIds waiverKeys ids foundKeys said);
+                }
+
+            fine-table : badWaivers m rules ws ≡ false
+            fine-table =
+                waivers-fine m rules ws sound
+                (known-all m s ws 0 rules good known (let a = passed-last in let b = waivers-last in omega arith))
+
+        -- the rules and the waivers are good
+        gathered-runs : Promised (run second)
+        gathered-runs =
+            split (last .passed) (last .waivers)
+            (λ h. left-over h
+            (refusal-14 m s keys bits n rules waiverIds waiverKeys ids foundKeys settings list good
+            (waivers-unknown m rules ws (λ all. let found = all-known m s ws 0 rules good all in let a = passed-last in let b = waivers-last in let c = found .none in omega arith))))
+            (λ none. split (last .room) (last .live)
+            (λ h. too-many none h
+            (refusal-12 m s keys bits n rules waiverIds waiverKeys ids foundKeys settings list good
+            (waivers-fine m rules ws sound (known-all m s ws 0 rules good known (let a = passed-last in let b = waivers-last in omega arith)))
+            (let a = live-last in let b = room-last in omega arith)))
+            (λ fits. done none fits
+            (refusal-0 m s keys bits n rules waiverIds waiverKeys ids foundKeys settings list good (fine-table none fits)
+            (let a = live-last in let b = room-last in omega arith))))
+
+      good-runs : Promised (run second)
+      good-runs =
+          decide (waiversGood m ws)
+          (λ sound. decide (knownFrom ws 0 rules) (λ known. gathered-runs sound known)
+          (λ unknown. faulted (unknown-run unknown)
+          (refusal-14 m s keys bits n rules waiverIds waiverKeys ids foundKeys settings list good
+          (waivers-unknown m rules ws (λ all. mathlib.Core.Bool.true≢false (sym (all-known m s ws 0 rules good all .known) ∙ unknown))))))
+          (λ wrong. faulted (wrong-run wrong) (refusal-14 m s keys bits n rules waiverIds waiverKeys ids foundKeys settings list good (waivers-wrong m rules ws wrong)))
+
+  -- two runs give what document 01 says
+  pub two-runs : Promised (run second)
+  two-runs =
+      decide (badSettings m s)
+      (λ bad. begin-refused 1 (begin-bad m s keys bits n bad) (λ e. omega arith) (λ e. omega arith) (refusal-1 m s keys bits n rules waiverIds waiverKeys ids foundKeys bad))
+      (λ settings. decide (isList m s keys bits n)
+      (λ list. decide (goodFrom m s 0 rules) (good-runs settings list)
+      (λ wrong. refused-first 13 (bad-run settings list wrong) (λ e. omega arith) (λ e. omega arith) (refusal-13 m s keys bits n rules waiverIds waiverKeys ids foundKeys settings list wrong)))
+      (λ no-list. begin-refused 4 (begin-no-list m s keys bits n settings no-list) (λ e. omega arith) (λ e. omega arith) (refusal-4 m s keys bits n rules waiverIds waiverKeys ids foundKeys settings no-list)))

@@ -1,0 +1,41 @@
+-- The waivers of two slices, place by place. Rests on nothing.
+use Prim.Native.Nat.{ℕ, zero, suc, _+_, _≤_, _<_, min}
+use mathlib.Core.Path.{_≡_, refl, sym, ap, _∙_}
+use mathlib.Core.List.{List, [], _∷_}
+use native.Mathlib.Omega.{arith}
+use lib.ListN.{length, getD, drop}
+use Rattle.definitions.specs.Read.{room}
+use Rattle.definitions.specs.Rules.{Finding, findingOf, waiversOf}
+
+-- the waiver at a place
+abbrev pub waiverAt : List ℕ → List ℕ → ℕ → Finding
+waiverAt ids keys i = findingOf (getD ids i 0) (getD keys i 0)
+
+-- there are as many as the shorter slice holds
+pub waivers-length : (ids keys : List ℕ) → length (waiversOf ids keys) ≡ room ids keys
+unfolding waiversOf
+waivers-length [] keys = let z : 0 ≡ min 0 (length keys) = omega arith in z
+waivers-length (id ∷ ids) [] = let z : 0 ≡ min (suc (length ids)) 0 = omega arith in z
+waivers-length (id ∷ ids) (κ ∷ keys) = let ih = waivers-length ids keys in let z : suc (length (waiversOf ids keys)) ≡ min (suc (length ids)) (suc (length keys)) = omega arith in z
+
+-- the waiver at a place, and those after it
+pub waivers-drop : (ids keys : List ℕ) (i : ℕ) → i < room ids keys → drop i (waiversOf ids keys) ≡ waiverAt ids keys i ∷ drop (suc i) (waiversOf ids keys)
+unfolding waiversOf
+waivers-drop [] keys i h = absurd (omega arith)
+waivers-drop (id ∷ ids) [] i h = absurd (omega arith)
+waivers-drop (id ∷ ids) (κ ∷ keys) zero h = refl
+waivers-drop (id ∷ ids) (κ ∷ keys) (suc i) h = waivers-drop ids keys i (omega arith)
+
+-- past the last there is none
+pub waivers-end : (ids keys : List ℕ) (i : ℕ) → room ids keys ≤ i → drop i (waiversOf ids keys) ≡ []
+unfolding waiversOf
+waivers-end [] keys zero h = refl
+waivers-end [] keys (suc i) h = refl
+waivers-end (id ∷ ids) [] zero h = refl
+waivers-end (id ∷ ids) [] (suc i) h = refl
+waivers-end (id ∷ ids) (κ ∷ keys) zero h = absurd (omega arith)
+waivers-end (id ∷ ids) (κ ∷ keys) (suc i) h = waivers-end ids keys i (omega arith)
+
+-- all of them
+pub waivers-all : (ids keys : List ℕ) → drop 0 (waiversOf ids keys) ≡ waiversOf ids keys
+waivers-all ids keys = refl

@@ -1,0 +1,208 @@
+-- A run over the rules, as the code goes: what a rule does to the state and to the two answer slices, how a run begins, how it begins again to write,
+-- and what it answers. Only contracts need these; that two runs give document 01's findings is proved in proofs/.
+use Prim.Native.Nat.{ℕ, _+_, _*_, _≤_, min}
+use mathlib.Core.Path.{_≡_}
+use mathlib.Core.Bool.{Bool, true, false, cond, not, _&&_, _||_}
+use mathlib.Core.List.{List, [], _∷_, map}
+use lib.ListN.{length}
+use lib.Dec.{leb, ltb, eqb}
+use Rattle.keys.specs.Key.{validKey}
+use Rattle.definitions.specs.Picture.{Picture}
+use Rattle.definitions.specs.Read.{room, recordsOf, pictureOf, isList}
+use Rattle.definitions.specs.Refusal.{badSettings}
+use Rattle.definitions.specs.Rules.{Finding, findingsOf, waiversOf, liveOf, hiddenCount, isRule, findingsAscend}
+use Rattle.definitions.specs.declared.Rule.{Rule}
+use Rattle.definitions.specs.declared.Found.{Found}
+use Rattle.window.specs.Gather.{written}
+use Rattle.rules.specs.declared.run.State.{State}
+
+-- how many waivers have a rule's id below x
+unfoldable pub waiversBelow : ℕ → List Finding → ℕ
+waiversBelow x [] = 0
+waiversBelow x (w ∷ ws) = cond (ltb (w .id) x) 1 0 + waiversBelow x ws
+
+-- every waiver's key is valid
+unfoldable pub keysValid : ℕ → List Finding → Bool
+keysValid m [] = true
+keysValid m (w ∷ ws) = validKey m (w .key) && keysValid m ws
+
+-- the waivers are in order, and their keys are valid
+unfoldable pub waiversGood : ℕ → List Finding → Bool
+waiversGood m waivers = findingsAscend waivers && keysValid m waivers
+
+-- the state, and what the two answer slices hold
+pub record Progress : Type 0 where
+  pub state : State
+  pub ids : List ℕ
+  pub keys : List ℕ
+
+abbrev pub progressOf : State → List ℕ → List ℕ → Progress
+progressOf state ids keys = record { state = state; ids = ids; keys = keys }
+
+-- the run is refused with the number
+abbrev pub refusing : ℕ → State → State
+refusing number st =
+    record {
+      m = st .m;
+      s = st .s;
+      n = st .n;
+      refusal = number;
+      next = st .next;
+      faulty = st .faulty;
+      waivers = st .waivers;
+      passed = st .passed;
+      limit = st .limit;
+      room = st .room;
+      live = st .live;
+      hidden = st .hidden;
+    }
+
+-- a waiver is wrong: from here on only the rules are looked at
+abbrev pub faultyFrom : ℕ → State → State
+faultyFrom next st =
+    record {
+      m = st .m;
+      s = st .s;
+      n = st .n;
+      refusal = st .refusal;
+      next = next;
+      faulty = true;
+      waivers = st .waivers;
+      passed = st .passed;
+      limit = st .limit;
+      room = st .room;
+      live = st .live;
+      hidden = st .hidden;
+    }
+
+-- the rule's findings are counted
+abbrev pub counting : ℕ → ℕ → ℕ → ℕ → State → State
+counting next passed live hidden st =
+    record {
+      m = st .m;
+      s = st .s;
+      n = st .n;
+      refusal = st .refusal;
+      next = next;
+      faulty = st .faulty;
+      waivers = st .waivers;
+      passed = passed;
+      limit = st .limit;
+      room = st .room;
+      live = live;
+      hidden = hidden;
+    }
+
+-- the rule has the least id that may come, or a larger one, and is good
+abbrev pub mayCome : Rule → State → Bool
+mayCome rule st = leb (st .next) (rule .id) && isRule (st .m) (st .s) rule
+
+module _ (keys bits waiverIds waiverKeys : List ℕ) where
+  abbrev waivers : List Finding
+  waivers = waiversOf waiverIds waiverKeys
+
+  abbrev pub picture : State → Picture
+  picture st = pictureOf (st .m) (recordsOf keys bits (st .n))
+
+  -- some waiver's id is past the rules before this one, and before this one's
+  abbrev pub isUnknown : Rule → State → Bool
+  isUnknown rule st = ltb (waiversBelow (st .next) waivers) (waiversBelow (rule .id) waivers)
+
+  abbrev pub findingsAt : Rule → State → List Finding
+  findingsAt rule st = findingsOf (st .m) (picture st) rule
+
+  -- the rule's findings that no waiver hides are counted and written, the others counted
+  abbrev pub gathered : Rule → Progress → Progress
+  gathered rule p =
+      progressOf
+      (counting (rule .id + 1) (waiversBelow (rule .id + 1) waivers)
+      (p .state .live + length (liveOf waivers (findingsAt rule (p .state))))
+      (p .state .hidden + hiddenCount waivers (findingsAt rule (p .state)))
+      (p .state))
+      (written (p .state .limit) (p .ids) (p .state .live) (map (λ x. x .id) (liveOf waivers (findingsAt rule (p .state)))))
+      (written (p .state .limit) (p .keys) (p .state .live) (map (λ x. x .key) (liveOf waivers (findingsAt rule (p .state)))))
+
+  -- one rule
+  unfoldable pub stepOf : Rule → Progress → Progress
+  stepOf rule p =
+      cond (eqb (p .state .refusal) 0)
+      (cond (mayCome rule (p .state))
+      (cond (p .state .faulty || isUnknown rule (p .state))
+      (progressOf (faultyFrom (rule .id + 1) (p .state)) (p .ids) (p .keys))
+      (gathered rule p))
+      (progressOf (refusing 13 (p .state)) (p .ids) (p .keys)))
+      p
+
+  -- all rules
+  unfoldable pub runOf : List Rule → Progress → Progress
+  runOf [] p = p
+  runOf (rule ∷ rules) p = runOf rules (stepOf rule p)
+
+  -- what a run that is not refused stands on
+  pub record Fine (p : Progress) : Type 0 where
+    pub level : p .state .m ≤ 10
+    pub slots : p .state .s ≤ 16
+    pub list : isList (p .state .m) (p .state .s) keys bits (p .state .n) ≡ true
+    pub limitIds : p .state .limit ≤ length (p .ids)
+    pub limitKeys : p .state .limit ≤ length (p .keys)
+    pub roomIds : p .state .room ≤ length (p .ids)
+    pub roomKeys : p .state .room ≤ length (p .keys)
+    pub count : p .state .waivers ≡ room waiverIds waiverKeys
+    pub ascend : p .state .faulty ≡ false → findingsAscend waivers ≡ true
+    pub passed : p .state .faulty ≡ false → p .state .passed ≡ waiversBelow (p .state .next) waivers
+    pub small : p .state .live + p .state .hidden ≤ p .state .next * 9765625
+
+  pub record Ready (p : Progress) : Type 0 where
+    pub fine : p .state .refusal ≡ 0 → Fine p
+
+-- how a run begins: with the refusals 1 and 4 decided, and whether a waiver is wrong by itself
+unfoldable pub beginRefusal : ℕ → ℕ → List ℕ → List ℕ → ℕ → ℕ
+beginRefusal m s keys bits n = cond (badSettings m s) 1 (cond (isList m s keys bits n) 0 4)
+
+unfoldable pub beginOf : ℕ → ℕ → List ℕ → List ℕ → ℕ → List ℕ → List ℕ → ℕ → ℕ → State
+beginOf m s keys bits n waiverIds waiverKeys roomIds roomKeys =
+    record {
+      m = m;
+      s = s;
+      n = n;
+      refusal = beginRefusal m s keys bits n;
+      next = 0;
+      faulty = eqb (beginRefusal m s keys bits n) 0 && not (waiversGood m (waiversOf waiverIds waiverKeys));
+      waivers = room waiverIds waiverKeys;
+      passed = 0;
+      limit = 0;
+      room = min roomIds roomKeys;
+      live = 0;
+      hidden = 0;
+    }
+
+-- the counting run is over: 14 and 12 are decided, and the writing run begins
+unfoldable pub writingOf : State → State
+writingOf st =
+    cond (eqb (st .refusal) 0)
+    (cond (st .faulty || ltb (st .passed) (st .waivers)) (refusing 14 st)
+    (cond (ltb (st .room) (st .live)) (refusing 12 st)
+    (record {
+      m = st .m;
+      s = st .s;
+      n = st .n;
+      refusal = 0;
+      next = 0;
+      faulty = false;
+      waivers = st .waivers;
+      passed = 0;
+      limit = st .room;
+      room = st .room;
+      live = 0;
+      hidden = 0;
+    })))
+    st
+
+-- what the call answers
+unfoldable pub answerOf : State → Found
+answerOf st =
+    record {
+      refusal = st .refusal;
+      live = cond (eqb (st .refusal) 0 || eqb (st .refusal) 12) (st .live) 0;
+      hidden = cond (eqb (st .refusal) 0) (st .hidden) 0;
+    }

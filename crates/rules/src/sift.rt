@@ -1,0 +1,188 @@
+// Sifting: the findings of one rule, in key order, against the keys of the rule's waivers, which ascend too. So one merge decides which are hidden. The
+// walk over the window is that of select; what is given goes into `sift`.
+ghost use mathlib.Core.Path.{_≡_};
+ghost use mathlib.Core.Bool.{true, _&&_};
+ghost use mathlib.Core.List.{[], _∷_};
+ghost use Prim.Native.Nat.{_+_, _≤_, _<_, _^_};
+ghost use lib.ListN.{length, getD, drop};
+ghost use lib.Dec.{ltb, eqb};
+ghost use Rattle.definitions.specs.Edit.{contentOf};
+ghost use Rattle.definitions.specs.Read.{recordsOf};
+ghost use Rattle.definitions.specs.Window.{isWindow, selectIn};
+ghost use Rattle.definitions.specs.Rules.{windowOf};
+ghost use Rattle.list.specs.Own.{OwnList, shownBy};
+ghost use Rattle.list.specs.Sorted.{Ascends};
+ghost use Rattle.window.specs.Walk.{Stands};
+ghost use Rattle.window.specs.Gather.{keysWith, keysUntil, putAt};
+ghost use Rattle.rules.specs.Sift.{Passed, FirstPast, SiftReady, RunReady, Sifted};
+use definitions::Rule;
+use definitions::Standing;
+use definitions::Window;
+use keys::power;
+use list::standing;
+use window::walk;
+use window::walk::Found;
+use window::walk::Spot;
+
+// What is the same for all findings of a rule: the map's resolution and number of records, the rule's id and its feature's bit, and how many findings
+// may be written.
+pub struct Job {
+    pub m: u32,
+    pub n: usize,
+    pub id: u32,
+    pub bit: u32,
+    pub limit: usize,
+}
+
+// How far the rule's waivers are passed, and how many findings were live and hidden.
+pub struct Sifting {
+    pub passed: usize,
+    pub live: usize,
+    pub hidden: usize,
+}
+
+// Writes a number at its place, if that is below the limit: with the limit 0 findings are only counted.
+fn put(answer: &mut [u32], limit: usize, place: usize, number: u32)
+    requires { ⌜ limit ≤ length (now answer) ⌝ }
+    ensures { λ r. ⌜ now (answer .exit) ≡ putAt limit (now (answer .entry)) place number ⌝ }
+{
+    if place < limit {
+        answer[place] = number;
+    }
+}
+
+// The first waiver from a place on whose key is at or past the key.
+fn pass(waived: &[u32], from: usize, key: u32) -> usize
+    requires { ⌜ Passed (now waived) from key ⌝ }
+    ensures { λ r. ⌜ FirstPast (now (waived .entry)) r key ⌝ }
+{
+    let mut place = from;
+    while place < waived.len() {
+        if key <= waived[place] {
+            return place;
+        }
+        place += 1;
+    }
+    place
+}
+
+// The waiver at a place has the key.
+fn stands_at(waived: &[u32], place: usize, key: u32) -> bool
+    ensures { λ r. ⌜ r ≡ ltb place (length (now (waived .entry))) && eqb (getD (now (waived .entry)) place 0) key ⌝ }
+{
+    if place < waived.len() { waived[place] == key } else { false }
+}
+
+// One finding: it is hidden if a waiver has its key, and otherwise written and live.
+fn sift(job: Job, key: u32, waived: &[u32], found_ids: &mut [u32], found_keys: &mut [u32], at: Sifting) -> Sifting
+    requires { ⌜ SiftReady (job .limit) (now waived) at (now «found_ids») (now «found_keys») (2 ^ 62) key ⌝ }
+    ensures { λ r. ⌜ Sifted (job .limit) (job .id) (now (waived .entry)) (key ∷ []) at r
+        (now («found_ids» .entry)) (now («found_ids» .exit)) (now («found_keys» .entry)) (now («found_keys» .exit)) key ⌝ }
+{
+    let limit = job.limit;
+    let id = job.id;
+    let live = at.live;
+    let hidden = at.hidden;
+    let from = at.passed;
+    let passed = pass(waived, from, key);
+    if stands_at(waived, passed, key) {
+        let more = hidden + 1;
+        return Sifting {
+            passed,
+            live,
+            hidden: more,
+        };
+    }
+    put(found_ids, limit, live, id);
+    put(found_keys, limit, live, key);
+    let more = live + 1;
+    Sifting {
+        passed,
+        live: more,
+        hidden,
+    }
+}
+
+// The findings among the records from a place on, up to the first record whose key is at or past the end.
+fn sift_run(job: Job, keys: &[u32], bits: &[u32], first: usize, end: u32, waived: &[u32], found_ids: &mut [u32], found_keys: &mut [u32], at: Sifting) -> Sifting
+    requires { ⌜ Ascends (now keys) (job .n) × (job .n ≤ length (now bits))
+        × RunReady (job .limit) (now waived) at (now «found_ids») (now «found_keys») (2 ^ 60) (now keys) (job .n) first end ⌝ }
+    ensures { λ r. ⌜ Sifted (job .limit) (job .id) (now (waived .entry))
+        (keysUntil end (job .bit) (drop first (recordsOf (now (keys .entry)) (now (bits .entry)) (job .n)))) at r
+        (now («found_ids» .entry)) (now («found_ids» .exit)) (now («found_keys» .entry)) (now («found_keys» .exit)) end ⌝ }
+{
+    let n = job.n;
+    let bit = job.bit;
+    let mut st = at;
+    let mut i = first;
+    while i < n {
+        let key = keys[i];
+        if end <= key {
+            return st;
+        }
+        if bits[i] == bit {
+            st = sift(job, key, waived, found_ids, found_keys, st);
+        }
+        i += 1;
+    }
+    st
+}
+
+// The findings in a block that lies in the rule's window: its leaves with the bit, or the block itself where it lies inside such a leaf.
+fn sift_block(job: Job, keys: &[u32], bits: &[u32], block: Spot, waived: &[u32], found_ids: &mut [u32], found_keys: &mut [u32], at: Sifting) -> Sifting
+    requires { ⌜ (job .m ≤ 10) × Stands (job .m) block × OwnList (job .m) (now keys) (now bits) (job .n)
+        × SiftReady (job .limit) (now waived) at (now «found_ids») (now «found_keys») (2 ^ 60) (block .key) ⌝ }
+    ensures { λ r. ⌜ Sifted (job .limit) (job .id) (now (waived .entry))
+        (keysWith (job .bit) (contentOf (job .m) (shownBy (job .m) (now (keys .entry)) (now (bits .entry)) (job .n)) (block .key))) at r
+        (now («found_ids» .entry)) (now («found_ids» .exit)) (now («found_keys» .entry)) (now («found_keys» .exit)) (block .key + block .step) ⌝ }
+{
+    let n = job.n;
+    let bit = job.bit;
+    let key = block.key;
+    let step = block.step;
+    let standing = standing::stand(keys, n, key);
+    let Standing::Listed(place) = standing else {
+        let Standing::Inside(leaf) = standing else {
+            return at;
+        };
+        if bits[leaf] == bit {
+            return sift(job, key, waived, found_ids, found_keys, at);
+        }
+        return at;
+    };
+    sift_run(job, keys, bits, place, key + step, waived, found_ids, found_keys, at)
+}
+
+// The findings of a rule.
+pub fn sift_rule(rule: Rule, m: u32, n: usize, limit: usize, keys: &[u32], bits: &[u32], waived: &[u32], found_ids: &mut [u32], found_keys: &mut [u32], at: Sifting) -> Sifting
+    requires { ⌜ (m ≤ 10) × (isWindow m (windowOf rule) ≡ true) × (rule .feature < 16) × OwnList m (now keys) (now bits) n
+        × SiftReady limit (now waived) at (now «found_ids») (now «found_keys») (2 ^ 59) 0 ⌝ }
+    ensures { λ r. ⌜ Sifted limit (rule .id) (now (waived .entry)) (selectIn m (shownBy m (now (keys .entry)) (now (bits .entry)) n) (windowOf rule) (rule .feature)) at r
+        (now («found_ids» .entry)) (now («found_ids» .exit)) (now («found_keys» .entry)) (now («found_keys» .exit)) (5 ^ m) ⌝ }
+{
+    let window = Window {
+        row: rule.row,
+        column: rule.column,
+        height: rule.height,
+        width: rule.width,
+    };
+    let job = Job {
+        m,
+        n,
+        id: rule.id,
+        bit: power::power_of_two(rule.feature),
+        limit,
+    };
+    let mut st = at;
+    let mut spot = walk::start(m);
+    loop {
+        let Found::At(block) = walk::find_largest(m, spot, window) else {
+            return st;
+        };
+        st = sift_block(job, keys, bits, block, waived, found_ids, found_keys, st);
+        let Found::At(next) = walk::after(m, block) else {
+            return st;
+        };
+        spot = next;
+    }
+}

@@ -1,0 +1,49 @@
+/* The old program's fault, and why it cannot come back. Waivers were once kept by place in the list: a resurvey merged five records into one, the
+ * waivers slid onto neighbours, and live scrub was hidden. Here a waiver is a rule and a block, and stays on its patch. */
+#include "prowcurl.h"
+
+#include <stdio.h>
+
+enum { M = 2, S = 3, ROOM = 21, LOG = 8 };
+
+static uint32_t keys[ROOM], bits[ROOM], log_keys[LOG], log_values[LOG];
+static size_t n, used;
+
+static const hlq_rule rules[] = { { 7, 0, 0, 4, 4, 2 } }; /* no scrub (2) anywhere */
+static const uint32_t waived_rule[] = { 7 }, waived_block[] = { 3 * 5 };
+
+static uint32_t place_of_old; /* where the old program would have kept the waiver */
+
+static void print_block(uint32_t key) { printf(" %u%u", key / 5, key % 5); }
+
+static void tell(const char *when) {
+    uint32_t ids[ROOM], blocks[ROOM];
+    hlq_found f = hlq_findings(M, S, keys, ROOM, bits, ROOM, n, rules, 1, waived_rule, 1, waived_block, 1, ids, ROOM, blocks, ROOM);
+    printf("%s: %zu records\n  live:", when, n);
+    for (size_t i = 0; i < f.live; i++) print_block(blocks[i]);
+    printf("; hidden: %llu\n  a waiver kept as place %u would be on block", (unsigned long long)f.hidden, place_of_old);
+    print_block(keys[place_of_old]);
+    printf("\n");
+}
+
+static void paint(uint32_t key, uint32_t feature) {
+    hlq_edited e = hlq_paint(M, S, keys, ROOM, bits, ROOM, n, log_keys, LOG, log_values, LOG, used, key, feature);
+    if (e.refusal) printf("refused %llu\n", (unsigned long long)e.refusal);
+    else n = e.n, used = e.used;
+}
+
+int main(void) {
+    static const uint8_t survey[] = { 0, 0, 1, 1,
+                                      0, 0, 1, 2,
+                                      2, 2, 0, 0,
+                                      2, 2, 2, 0 };
+    n = hlq_build(M, S, survey, sizeof survey, keys, ROOM, bits, ROOM).count;
+    place_of_old = (uint32_t)hlq_standing(M, S, keys, ROOM, bits, ROOM, n, waived_block[0]).place;
+    tell("the survey, block 30 waived");
+    paint(2 * 5 + 4, 1);
+    tell("block 24 cleared, and five records become one");
+    hlq_edited e = hlq_take_back(M, S, keys, ROOM, bits, ROOM, n, log_keys, LOG, log_values, LOG, used);
+    n = e.n, used = e.used;
+    tell("that was a mistake, and is taken back");
+    return 0;
+}

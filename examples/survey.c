@@ -1,0 +1,126 @@
+/* A day with a survey, as a crew's program would live it: read the sheet, build the list, ask it, run rules with waivers, paint what was cleared,
+ * take a mistake back, and keep the list in a file. Reads the sheet from standard input: 16 lines of 16 characters. */
+#include "prowcurl.h"
+
+#include <stdio.h>
+#include <string.h>
+
+enum { M = 4, EDGE = 1 << M, PIXELS = EDGE * EDGE, RECORDS = (4 * PIXELS - 1) / 3, LOG = 256, CLASSES = 4 };
+enum { BALLAST, DRAIN, SCRUB, PATH };
+
+static const char signs[CLASSES + 1] = ".~#=";
+static const char *const words[CLASSES] = { "ballast", "drain", "scrub", "path" };
+
+/* The list, and the log of paints that can be taken back. */
+static uint32_t keys[RECORDS], bits[RECORDS], log_keys[LOG], log_values[LOG];
+static size_t n, used;
+
+static int refused(const char *what, uint64_t refusal) {
+    if (refusal) printf("%s: refused %llu\n", what, (unsigned long long)refusal);
+    return refusal != 0;
+}
+
+/* The digits of a key, as on paper. */
+static const char *name_of(uint32_t key) {
+    static char digits[M + 1];
+    for (int i = M - 1; i >= 0; i--) { digits[i] = (char)('0' + key % 5); key /= 5; }
+    digits[M] = 0;
+    return digits;
+}
+
+static int read_sheet(uint8_t *raster) {
+    char line[128];
+    for (int row = 0; row < EDGE; row++) {
+        if (!fgets(line, sizeof line, stdin)) return 0;
+        for (int column = 0; column < EDGE; column++) {
+            const char *sign = line[column] ? strchr(signs, line[column]) : NULL;
+            if (!sign) return 0;
+            raster[row * EDGE + column] = (uint8_t)(sign - signs);
+        }
+    }
+    return 1;
+}
+
+static void print_sheet(void) {
+    uint8_t raster[PIXELS];
+    if (refused("raster", hlq_raster(M, CLASSES, keys, RECORDS, bits, RECORDS, n, raster, PIXELS).refusal)) return;
+    for (int row = 0; row < EDGE; row++) {
+        for (int column = 0; column < EDGE; column++) putchar(signs[raster[row * EDGE + column]]);
+        putchar('\n');
+    }
+}
+
+/* Two sighting windows in which there must be no scrub. */
+static const hlq_rule rules[] = {
+    { 10, 0, 4, 8, 8, SCRUB },
+    { 20, 8, 0, 8, 16, SCRUB },
+};
+enum { RULES = sizeof rules / sizeof *rules, FINDINGS = 64 };
+
+static void print_findings(const uint32_t *waiver_ids, const uint32_t *waiver_keys, size_t waivers) {
+    uint32_t ids[FINDINGS], blocks[FINDINGS];
+    hlq_found f = hlq_findings(M, CLASSES, keys, RECORDS, bits, RECORDS, n, rules, RULES, waiver_ids, waivers, waiver_keys, waivers,
+                               ids, FINDINGS, blocks, FINDINGS);
+    if (refused("findings", f.refusal)) return;
+    printf("%llu live, %llu hidden\n", (unsigned long long)f.live, (unsigned long long)f.hidden);
+    for (size_t i = 0; i < f.live; i++) printf("  rule %u: scrub in block %s\n", ids[i], name_of(blocks[i]));
+}
+
+static int paint(uint32_t key, uint32_t class) {
+    hlq_edited e = hlq_paint(M, CLASSES, keys, RECORDS, bits, RECORDS, n, log_keys, LOG, log_values, LOG, used, key, class);
+    if (refused("paint", e.refusal)) return 0;
+    n = e.n, used = e.used;
+    printf("painted block %s with %s: %zu records\n", name_of(key), words[class], n);
+    return 1;
+}
+
+int main(void) {
+    uint8_t raster[PIXELS], file[11 + 6 * RECORDS];
+    if (!read_sheet(raster)) { printf("no sheet of %d by %d known signs\n", EDGE, EDGE); return 1; }
+    hlq_counted built = hlq_build(M, CLASSES, raster, PIXELS, keys, RECORDS, bits, RECORDS);
+    if (refused("build", built.refusal)) return 1;
+    n = built.count;
+    printf("the sheet has %zu records\n", n);
+    hlq_stands at = hlq_standing(M, CLASSES, keys, RECORDS, bits, RECORDS, n, 0);
+    printf("the whole sheet is %s at place %llu\n", at.kind == 1 ? "listed" : "inside a leaf", (unsigned long long)at.place);
+    hlq_reported seen = hlq_report(M, CLASSES, keys, RECORDS, bits, RECORDS, n, 8, 0, 8, 16);
+    printf("the southern half has:");
+    for (int c = 0; c < CLASSES; c++) if (seen.bits >> c & 1) printf(" %s", words[c]);
+    printf("\n\nfindings, nothing waived: ");
+    uint32_t waiver_ids[1] = { 0 }, waiver_keys[1] = { 0 }, blocks[FINDINGS];
+    print_findings(waiver_ids, waiver_keys, 0);
+
+    /* one accepted patch: the waiver names the rule and the block */
+    hlq_counted picked = hlq_select(M, CLASSES, keys, RECORDS, bits, RECORDS, n, 8, 0, 8, 16, SCRUB, blocks, FINDINGS);
+    if (refused("select", picked.refusal) || picked.count == 0) return 1;
+    waiver_ids[0] = 20, waiver_keys[0] = blocks[0];
+    printf("\nfindings, block %s of rule 20 waived: ", name_of(blocks[0]));
+    print_findings(waiver_ids, waiver_keys, 1);
+
+    /* the crew clears the northern scrub: records go, and the waiver stays on its block */
+    printf("\n");
+    picked = hlq_select(M, CLASSES, keys, RECORDS, bits, RECORDS, n, 0, 0, 8, 16, SCRUB, blocks, FINDINGS);
+    for (size_t i = 0; i < picked.count; i++) if (!paint(blocks[i], BALLAST)) return 1;
+    printf("\nfindings after the clearing: ");
+    print_findings(waiver_ids, waiver_keys, 1);
+
+    /* one block too many: taken back */
+    hlq_edited e = hlq_take_back(M, CLASSES, keys, RECORDS, bits, RECORDS, n, log_keys, LOG, log_values, LOG, used);
+    if (refused("take back", e.refusal)) return 1;
+    n = e.n, used = e.used;
+    printf("\nthe last paint taken back: %zu records\n", n);
+    print_sheet();
+
+    /* into a file and out again */
+    hlq_counted stored = hlq_store(M, CLASSES, keys, RECORDS, bits, RECORDS, n, file, sizeof file);
+    if (refused("store", stored.refusal)) return 1;
+    static uint32_t again_keys[RECORDS], again_bits[RECORDS];
+    hlq_loaded loaded = hlq_load(file, stored.count, again_keys, RECORDS, again_bits, RECORDS);
+    if (refused("load", loaded.refusal)) return 1;
+    printf("\n%llu bytes stored, %llu records loaded, %s\n", (unsigned long long)stored.count, (unsigned long long)loaded.n,
+           memcmp(keys, again_keys, 4 * n) == 0 && memcmp(bits, again_bits, 4 * n) == 0 ? "the same list" : "ANOTHER LIST");
+    used = hlq_empty();
+    e = hlq_take_back(M, CLASSES, keys, RECORDS, bits, RECORDS, n, log_keys, LOG, log_values, LOG, used);
+    printf("the log is emptied; taking back now gives %llu\n", (unsigned long long)e.refusal);
+    return 0;
+}
