@@ -70,11 +70,22 @@ fn pass(waived: &[u32], from: usize, key: u32) -> usize
 fn stands_at(waived: &[u32], place: usize, key: u32) -> bool
     ensures { λ r. ⌜ r ≡ ltb place (length (now (waived .entry))) && eqb (getD (now (waived .entry)) place 0) key ⌝ }
 {
-    if place < waived.len() { waived[place] == key } else { false }
+    if place < waived.len() {
+        waived[place] == key
+    } else {
+        false
+    }
 }
 
 // One finding: it is hidden if a waiver has its key, and otherwise written and live.
-fn sift(job: Job, key: u32, waived: &[u32], found_ids: &mut [u32], found_keys: &mut [u32], at: Sifting) -> Sifting
+fn sift(
+    job: Job,
+    key: u32,
+    waived: &[u32],
+    found_ids: &mut [u32],
+    found_keys: &mut [u32],
+    at: Sifting,
+) -> Sifting
     requires { ⌜ SiftReady (job .limit) (now waived) at (now «found_ids») (now «found_keys») (2 ^ 62) key ⌝ }
     ensures { λ r. ⌜ Sifted (job .limit) (job .id) (now (waived .entry)) (key ∷ []) at r
         (now («found_ids» .entry)) (now («found_ids» .exit)) (now («found_keys» .entry)) (now («found_keys» .exit)) key ⌝ }
@@ -104,7 +115,17 @@ fn sift(job: Job, key: u32, waived: &[u32], found_ids: &mut [u32], found_keys: &
 }
 
 // The findings among the records from a place on, up to the first record whose key is at or past the end.
-fn sift_run(job: Job, keys: &[u32], bits: &[u32], first: usize, end: u32, waived: &[u32], found_ids: &mut [u32], found_keys: &mut [u32], at: Sifting) -> Sifting
+fn sift_run(
+    job: Job,
+    keys: &[u32],
+    bits: &[u32],
+    first: usize,
+    end: u32,
+    waived: &[u32],
+    found_ids: &mut [u32],
+    found_keys: &mut [u32],
+    at: Sifting,
+) -> Sifting
     requires { ⌜ Ascends (now keys) (job .n) × (job .n ≤ length (now bits))
         × RunReady (job .limit) (now waived) at (now «found_ids») (now «found_keys») (2 ^ 60) (now keys) (job .n) first end ⌝ }
     ensures { λ r. ⌜ Sifted (job .limit) (job .id) (now (waived .entry))
@@ -129,7 +150,16 @@ fn sift_run(job: Job, keys: &[u32], bits: &[u32], first: usize, end: u32, waived
 }
 
 // The findings in a block that lies in the rule's window: its leaves with the bit, or the block itself where it lies inside such a leaf.
-fn sift_block(job: Job, keys: &[u32], bits: &[u32], block: Spot, waived: &[u32], found_ids: &mut [u32], found_keys: &mut [u32], at: Sifting) -> Sifting
+fn sift_block(
+    job: Job,
+    keys: &[u32],
+    bits: &[u32],
+    block: Spot,
+    waived: &[u32],
+    found_ids: &mut [u32],
+    found_keys: &mut [u32],
+    at: Sifting,
+) -> Sifting
     requires { ⌜ (job .m ≤ 10) × Stands (job .m) block × OwnList (job .m) (now keys) (now bits) (job .n)
         × SiftReady (job .limit) (now waived) at (now «found_ids») (now «found_keys») (2 ^ 60) (block .key) ⌝ }
     ensures { λ r. ⌜ Sifted (job .limit) (job .id) (now (waived .entry))
@@ -150,11 +180,32 @@ fn sift_block(job: Job, keys: &[u32], bits: &[u32], block: Spot, waived: &[u32],
         }
         return at;
     };
-    sift_run(job, keys, bits, place, key + step, waived, found_ids, found_keys, at)
+    sift_run(
+        job,
+        keys,
+        bits,
+        place,
+        key + step,
+        waived,
+        found_ids,
+        found_keys,
+        at,
+    )
 }
 
 // The findings of a rule.
-pub fn sift_rule(rule: Rule, m: u32, n: usize, limit: usize, keys: &[u32], bits: &[u32], waived: &[u32], found_ids: &mut [u32], found_keys: &mut [u32], at: Sifting) -> Sifting
+pub fn sift_rule(
+    rule: Rule,
+    m: u32,
+    n: usize,
+    limit: usize,
+    keys: &[u32],
+    bits: &[u32],
+    waived: &[u32],
+    found_ids: &mut [u32],
+    found_keys: &mut [u32],
+    at: Sifting,
+) -> Sifting
     requires { ⌜ (m ≤ 10) × (isWindow m (windowOf rule) ≡ true) × (rule .feature < 16) × OwnList m (now keys) (now bits) n
         × SiftReady limit (now waived) at (now «found_ids») (now «found_keys») (2 ^ 59) 0 ⌝ }
     ensures { λ r. ⌜ Sifted limit (rule .id) (now (waived .entry)) (selectIn m (shownBy m (now (keys .entry)) (now (bits .entry)) n) (windowOf rule) (rule .feature)) at r

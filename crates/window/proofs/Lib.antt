@@ -15,6 +15,7 @@ pub mod Content
 pub mod Lower
 pub mod Skip
 pub mod LeafKeys
+pub mod Below
 pub mod Taken
 pub mod Tables
 pub mod Answers

@@ -1,91 +1,21 @@
--- Select on the walk: what is counted and written is what select gives below the key where the walk stands. A gap adds nothing, and a largest block
--- adds its leaves of the feature. Rests on Skip, LeafKeys and Largest.
-use Prim.Native.Nat.{ℕ, _+_, _^_, _≤_, _<_}
-use mathlib.Core.Path.{_≡_, refl, sym, _∙_, ap, ap₂}
-use mathlib.Core.Bool.{true}
-use mathlib.Core.List.{List, [], _++_}
+-- Select on the walk: what is counted and written is what select gives below the key where the walk stands. Rests on Below.
+use Prim.Native.Nat.{ℕ, _+_, _^_, _≤_}
+use mathlib.Core.Path.{_≡_, sym, _∙_, ap, ap₂}
+use mathlib.Core.List.{List}
 use native.Mathlib.Omega.{arith}
 use lib.ListN.{length, length-append}
-use Rattle.keys.specs.Key.{rootKey}
-use Rattle.keys.specs.Block.{pixelKey}
-use Rattle.keys.proofs.Cases.{split}
-use Rattle.keys.proofs.Powers.{five-pos, five-le, two-pos}
-use Rattle.keys.proofs.Interval.{within}
-use Rattle.keys.proofs.Pixel.{inside, pixelKey-lt}
 use Rattle.definitions.specs.Picture.{Picture}
-use Rattle.definitions.specs.Window.{inWindow, isGiven, selectFrom, selectIn}
+use Rattle.definitions.specs.Window.{selectIn}
 use Rattle.definitions.specs.declared.Window.{Window}
 use Rattle.definitions.specs.Edit.{contentOf}
-use Rattle.definitions.proofs.SelectMeans.{given-inside, given-of, Selected, select-in-exactly}
-use Rattle.definitions.proofs.SelectAscends.{select-in-ascends}
 use Rattle.window.specs.declared.walk.Spot.{Spot}
-use Rattle.window.specs.Walk.{isWithin, Clear, Walking, FirstFrom}
+use Rattle.window.specs.Walk.{Clear, FirstFrom}
 use Rattle.window.specs.Gather.{keysWith, written, Gave}
 use Rattle.window.proofs.Written.{written-none, written-append}
-use Rattle.window.proofs.Lower.{lower, lower-all, lower-none, lower-gap, lower-length, ascending-length}
-use Rattle.window.proofs.Largest.{blank, AllInside, within-all, not-broken}
-use Rattle.window.proofs.Skip.{Alone, select-skip}
-use Rattle.window.proofs.LeafKeys.{leaves-selected}
-use Rattle.window.proofs.Content.{content-list}
-
--- a given block lies in the window
-pub given-all : (p : Picture) (w : Window) (f k r c : ℕ) → isGiven p w f k r c ≡ true → AllInside w k r c
-given-all p w f k r c given = given-of blank w 0 k r c (λ row column i. (given-inside p w f k r c given i, refl))
+use Rattle.window.proofs.Lower.{lower}
+use Rattle.window.proofs.Below.{below-block, below-none, below-all, below-rest, below-few}
 
 module _ (m : ℕ) (p : Picture) (w : Window) (f : ℕ) where
-  -- at a largest block no block around it is given
-  pub largest-apart : {s : Spot} (h : Walking m w s) → Alone p w f m 0 0 0 (h .stands .height) (s .row) (s .column) (s .key)
-  largest-apart {s} h k₂ r₂ c₂ κ₂ u v given =
-      let i = within v in
-      let z = five-pos (h .stands .height) in
-      split κ₂ (s .key)
-      (λ before. absurd (not-broken w (h .parting) u (given-all p w f k₂ r₂ c₂ given) before (omega arith)))
-      (λ from. omega arith)
-
-  -- passing a largest block adds its leaves of the feature
-  pub lower-block : {s : Spot} (h : Walking m w s) → isWithin s w ≡ true
-      → lower (s .key + s .step) (selectIn m p w f) ≡ lower (s .key) (selectIn m p w f) ++ keysWith (2 ^ f) (contentOf m p (s .key))
-  unfolding selectIn
-  lower-block {s} h e =
-      let i = h .stands in
-      ap (λ x. lower (s .key + x) (selectFrom p w f m 0 0 rootKey)) (i .step)
-      ∙ select-skip p w f (i .block) (largest-apart h)
-      ∙ ap (λ l. lower (s .key) (selectFrom p w f m 0 0 rootKey) ++ l)
-      (sym (leaves-selected p w f (i .height) (s .row) (s .column) (s .key) (within-all w {s = s} i e)) ∙ ap (keysWith (2 ^ f)) (sym (content-list p i)))
-
-  -- a selected block has a pixel of the window among its keys
-  selected-pixel {ℓ} : {C : Type ℓ} {z : ℕ} (t : Selected p w f m 0 0 0 z)
-      → (inWindow w (t .row) (t .column) ≡ true → z ≤ pixelKey m (t .row) (t .column) → pixelKey m (t .row) (t .column) < z + 5 ^ t .height → C)
-      → C
-  selected-pixel t go =
-      let some = two-pos (t .height) in
-      let i = inside {row = t .row} {column = t .column} (t .under) (omega arith) in
-      go (given-inside p w f (t .height) (t .row) (t .column) {row = t .row} {column = t .column} (t .given) (omega arith)) (i .from) (i .until)
-
-  -- a gap adds nothing
-  pub lower-clear : {x : ℕ} {s : Spot} → FirstFrom m w x s → lower x (selectIn m p w f) ≡ lower (s .key) (selectIn m p w f)
-  lower-clear {x} {s} g =
-      lower-gap x (s .key) (selectIn m p w f) (g .from)
-      (λ z i from before.
-      let t = select-in-exactly p w f m .0 i in
-      selected-pixel t
-      (λ in-window low high. split (pixelKey m (t .row) (t .column)) (s .key)
-      (λ missed. g .clear (t .row) (t .column) in-window (omega arith) missed)
-      (λ past. not-broken w (g .walking .parting) (t .under) (given-all p w f (t .height) (t .row) (t .column) (t .given)) before (omega arith))))
-
-  lower-whole : (x : ℕ) → x ≡ 5 ^ m → lower x (selectIn m p w f) ≡ selectIn m p w f
-  lower-whole x e = lower-all x (select-in-ascends m p w f) (omega arith)
-
-  -- nor does the rest of the map, where nothing is left of the window
-  pub lower-rest : (x : ℕ) → x ≤ 5 ^ m → Clear m w x (5 ^ m) → lower x (selectIn m p w f) ≡ selectIn m p w f
-  lower-rest x low clear =
-      lower-gap x (5 ^ m) (selectIn m p w f) low
-      (λ z i from before.
-      let t = select-in-exactly p w f m .0 i in
-      selected-pixel t
-      (λ in-window over under. clear (t .row) (t .column) in-window (omega arith) (pixelKey-lt m (t .row) (t .column))))
-      ∙ lower-whole (5 ^ m) refl
-
   -- what is counted and written below a key
   pub record Taken (limit : ℕ) (answer₀ answer : List ℕ) (count x : ℕ) : Type 0 where
     pub counted : count ≡ length (lower x (selectIn m p w f))
@@ -93,16 +23,14 @@ module _ (m : ℕ) (p : Picture) (w : Window) (f : ℕ) where
 
   pub taken-none : (limit : ℕ) (answer : List ℕ) (x : ℕ) → x ≡ 0 → Taken limit answer answer 0 x
   taken-none limit answer x e =
-      let none : lower x (selectIn m p w f) ≡ [] = lower-none x (select-in-ascends m p w f) (omega arith) in
+      let none = below-none m p w f x e in
       record { counted = sym (ap length none); wrote = sym (ap (written limit answer 0) none ∙ written-none limit answer 0) }
 
   module _ {limit : ℕ} {answer₀ answer : List ℕ} {count x : ℕ} (t : Taken limit answer₀ answer count x) where
     -- the count is small
     pub taken-small : m ≤ 10 → count ≤ 9765625
     taken-small low =
-        let a = ascending-length (select-in-ascends m p w f) in
-        let b = lower-length x (selectIn m p w f) in
-        let five = five-le 10 low in
+        let few = below-few m p w f x low in
         omega (arith, t .counted)
 
     taken-as : (l : List ℕ) → lower x (selectIn m p w f) ≡ l → Gave l limit 0 answer₀ answer count
@@ -111,10 +39,10 @@ module _ (m : ℕ) (p : Picture) (w : Window) (f : ℕ) where
 
     -- at the end all is taken
     pub taken-end : x ≡ 5 ^ m → Gave (selectIn m p w f) limit 0 answer₀ answer count
-    taken-end e = taken-as (selectIn m p w f) (lower-whole x e)
+    taken-end e = taken-as (selectIn m p w f) (below-all m p w f x e)
 
     pub taken-rest : x ≤ 5 ^ m → Clear m w x (5 ^ m) → Gave (selectIn m p w f) limit 0 answer₀ answer count
-    taken-rest low clear = taken-as (selectIn m p w f) (lower-rest x low clear)
+    taken-rest low clear = taken-as (selectIn m p w f) (below-rest m p w f x low clear)
 
     -- a largest block adds what it gives
     pub taken-block : {s : Spot} (g : FirstFrom m w x s) (answer₁ : List ℕ) (r : ℕ)
@@ -123,8 +51,7 @@ module _ (m : ℕ) (p : Picture) (w : Window) (f : ℕ) where
     taken-block {s} g answer₁ r gave =
         let l = lower x (selectIn m p w f) in
         let more = keysWith (2 ^ f) (contentOf m p (s .key)) in
-        let e : lower (s .key + s .step) (selectIn m p w f) ≡ l ++ more =
-        lower-block (g .walking) (g .within) ∙ ap (λ k. k ++ more) (sym (lower-clear g)) in
+        let e = below-block m p w f g in
         record {
           counted = let n = ap length e in let a = length-append l more in omega (arith, t .counted, gave .counted);
           wrote = gave .wrote

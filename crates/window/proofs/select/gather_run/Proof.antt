@@ -1,22 +1,16 @@
 -- `select::gather_run` meets its contract: what is counted and written so far, with what the rest of the run gives, is what the whole run gives.
-use Prim.Native.Nat.{ℕ, _+_, _-_, _≤_, _<_}
+use Prim.Native.Nat.{ℕ, _+_, _-_, _≤_}
 use mathlib.Core.Path.{_≡_, refl, sym, ap, ap₂, _∙_}
 use mathlib.Core.Logic.{⊎-elim}
 use mathlib.Core.List.{List, [], _∷_}
 use native.Mathlib.Numerals.{add-one}
 use native.Mathlib.Omega.{arith}
-use lib.ListN.{length, getD, drop}
-use Rattle.definitions.specs.List.{recordOf}
-use Rattle.definitions.specs.Read.{recordsOf}
-use Rattle.window.specs.Gather.{keysUntil, putAt, written, Gave}
+use lib.ListN.{length}
+use Rattle.window.specs.Gather.{putAt, written, Gave}
 use Rattle.window.proofs.Written.{written-none, written-one, length-put}
-use Rattle.window.proofs.Until.{records-drop, records-end, until-none, until-stop, until-give, until-pass}
+use Rattle.window.proofs.Until.{rest, past-last, past-end, with-bit, without-bit}
 use Rattle.window.proofs.select.gather_run.Statement.{statement}
 use Rattle.window.proofs.select.gather_run.Tie as tie
-
--- what the run gives from a place on
-abbrev rest : List ℕ → List ℕ → ℕ → ℕ → ℕ → ℕ → List ℕ
-rest keys bits n end bit i = keysUntil end bit (drop i (recordsOf keys bits n))
 
 record Passed (whole : List ℕ) (limit count : ℕ) (answer₀ answer : List ℕ) (given i : ℕ) (left : List ℕ) : Type 0 where
   counts : given + length left ≡ count + length whole
@@ -69,22 +63,6 @@ module _ {whole : List ℕ} {limit count : ℕ} {answer₀ answer : List ℕ} {g
         lengths = ap length f ∙ p .lengths;
         bound = omega (arith, p .bound);
       }
-
--- the record at a place
-module _ (keys bits : List ℕ) (n end bit i : ℕ) (inside : i < n) (fits : n ≤ length keys) (room : n ≤ length bits) where
-  at-record : rest keys bits n end bit i ≡ keysUntil end bit (recordOf (getD keys i 0) (getD bits i 0) ∷ drop (i + 1) (recordsOf keys bits n))
-  at-record =
-      ap (keysUntil end bit) (records-drop keys bits n i inside fits room)
-      ∙ ap (λ (j : ℕ). keysUntil end bit (recordOf (getD keys i 0) (getD bits i 0) ∷ drop j (recordsOf keys bits n))) (sym (add-one i))
-
-  past-end : end ≤ getD keys i 0 → rest keys bits n end bit i ≡ []
-  past-end h = at-record ∙ until-stop end bit _ _ h
-
-  with-bit : getD keys i 0 < end → getD bits i 0 ≡ bit → rest keys bits n end bit i ≡ getD keys i 0 ∷ rest keys bits n end bit (i + 1)
-  with-bit h e = at-record ∙ until-give end bit _ _ h e
-
-  without-bit : getD keys i 0 < end → (getD bits i 0 ≡ bit → ⊥) → rest keys bits n end bit i ≡ rest keys bits n end bit (i + 1)
-  without-bit h e = at-record ∙ until-pass end bit _ _ h e
 
 -- the entry of the function, from the head of the loop
 abbrev entry : tie.At-loop Inv-loop μ-loop → tie.Start Inv-loop μ-loop
@@ -148,7 +126,7 @@ same-length-2 : tie.Need-same-length-2 Inv-loop μ-loop
 same-length-2 c = c .before .loop .inv .lengths
 
 returns-2 : tie.Need-returns-2 Inv-loop μ-loop
-returns-2 c = stops (c .before .loop .inv) (ap (keysUntil _ _) (records-end _ _ _ _ (c .loop-test .left)) ∙ until-none _ _)
+returns-2 c = stops (c .before .loop .inv) (past-last _ _ _ _ _ _ (c .loop-test .left))
 
 pub gather-run-spec : {M : Type 1} → statement M
 gather-run-spec =
