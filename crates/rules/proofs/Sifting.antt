@@ -1,6 +1,6 @@
 -- Sifting given keys against a rule's waivers: none, one, and two runs one after the other. Rests on nothing.
 use Prim.Native.Nat.{ℕ, zero, suc, _+_, _≤_, _<_}
-use mathlib.Core.Path.{_≡_, refl, sym, ap, ap₂, _∙_}
+use mathlib.Core.Path.{_≡_, refl, sym, ap, ap₂, _∙_, subst}
 use mathlib.Core.Bool.{Bool, true, false, cond, _&&_, _||_, true≢false}
 use mathlib.Core.Logic.{⊎-elim}
 use mathlib.Core.List.{List, [], _∷_, _++_, map}
@@ -197,4 +197,29 @@ passed-next waived place x p inside low =
     record {
       within = omega arith;
       below = λ i before. split i place (p .below i) (λ at. let same : place ≡ i = omega arith in let z = ap (λ j. getD waived j 0) same in omega arith);
+    }
+
+-- what was sifted so far, and then one run more
+pub sifted-append : (limit id : ℕ) (waived a b : List ℕ) (at r₁ r₂ : Sifting) (ids ids₁ ids₂ keys keys₁ keys₂ : List ℕ) (x y : ℕ)
+    → Sifted limit id waived a at r₁ ids ids₁ keys keys₁ x
+    → Sifted limit id waived b r₁ r₂ ids₁ ids₂ keys₁ keys₂ y
+    → Sifted limit id waived (a ++ b) at r₂ ids ids₂ keys keys₂ y
+sifted-append limit id waived a b at r₁ r₂ ids ids₁ ids₂ keys keys₁ keys₂ x y f g =
+    record { counted = counted-append limit id waived a b at r₁ r₂ ids ids₁ ids₂ keys keys₁ keys₂ (f .counted) (g .counted); passed = g .passed }
+
+-- nothing was sifted, and the waivers passed stay
+pub sifted-none : (limit id : ℕ) (waived given : List ℕ) (at : Sifting) (ids keys : List ℕ) (x : ℕ) → given ≡ [] → Passed waived (at .passed) x
+    → Sifted limit id waived given at at ids ids keys keys x
+sifted-none limit id waived given at ids keys x e passed = record { counted = counted-none limit id waived given at ids keys e; passed = passed }
+
+-- the same keys by another name, and a larger bound
+pub sifted-as : (limit id : ℕ) (waived a b : List ℕ) (at r : Sifting) (ids ids₁ keys keys₁ : List ℕ) (x y : ℕ)
+    → Sifted limit id waived a at r ids ids₁ keys keys₁ x
+    → a ≡ b
+    → x ≤ y
+    → Sifted limit id waived b at r ids ids₁ keys keys₁ y
+sifted-as limit id waived a b at r ids ids₁ keys keys₁ x y f e h =
+    record {
+      counted = subst (λ (l : List ℕ). Counted limit id waived l at r ids ids₁ keys keys₁) e (f .counted);
+      passed = passed-widen waived (r .passed) y (f .passed) h;
     }
