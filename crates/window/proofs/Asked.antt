@@ -6,20 +6,22 @@ use mathlib.Core.Bool.{true}
 use mathlib.Core.List.{List}
 use native.Mathlib.Omega.{arith}
 use lib.ListN.{getD, take}
+use lib.Seq.{getD-take}
+use borrow.Author.Tests.{eqb-true}
 use Rattle.keys.specs.Key.{rootKey}
 use Rattle.keys.proofs.Under.{Block}
 use Rattle.definitions.specs.declared.Standing.{Standing}
 use Rattle.definitions.specs.declared.Standing.the-variants.{Listed, Inside}
 use Rattle.definitions.specs.Picture.{oneFeature}
 use Rattle.definitions.specs.Bits.{bitsOf}
-use Rattle.definitions.specs.List.{listOfPicture}
-use Rattle.definitions.specs.Standing.{placeOf}
+use Rattle.definitions.specs.List.{keysOf, listOfPicture}
+use Rattle.definitions.specs.Standing.{placeOf, isListed}
 use Rattle.definitions.proofs.Features.{one-under}
 use Rattle.list.specs.Own.{OwnList, shownBy}
 use Rattle.list.specs.Among.{keysUpTo, placeAmong, standingAmong}
 use Rattle.list.proofs.Among.{found-some}
 use Rattle.list.proofs.Lookup.{lookup-listed, lookup-inside, AtPlace}
-use Rattle.list.proofs.Own.{own-sorted, own-place, own-bits, own-found, own-listed, own-inside}
+use Rattle.list.proofs.Own.{own-keys, own-sorted, own-place, own-bits, own-found, own-listed, own-inside}
 
 -- the place is one of the list's, and has the block's bits
 pub record Asked (m : ℕ) (keys bits : List ℕ) (n k r c place : ℕ) : Type 0 where
@@ -50,6 +52,16 @@ module _ {m : ℕ} {keys bits : List ℕ} {n : ℕ} (o : OwnList m keys bits n) 
     -- and the place is where
     pub asked-from : stands ≡ Listed place → place ≡ placeOf κ (listOfPicture m (shownBy m keys bits n))
     asked-from e = sym (own-listed o κ place (sym e ∙ is) .1)
+
+    -- with the block's key
+    pub asked-key : stands ≡ Listed place → getD keys place 0 ≡ κ
+    unfolding isListed
+    asked-key e =
+        let l = own-listed o κ place (sym e ∙ is) in
+        sym (getD-take n keys place 0 (asked-listed e .room))
+        ∙ ap (λ k. getD k place 0) (sym (own-keys o))
+        ∙ ap (λ i. getD (keysOf (listOfPicture m (shownBy m keys bits n))) i 0) (sym (l .1))
+        ∙ eqb-true _ κ (l .0)
 
     -- the leaf around a block that is not listed has the block's one bit
     pub asked-inside : stands ≡ Inside place → Asked m keys bits n k r c place

@@ -1,0 +1,164 @@
+-- `sift::sift_block` meets its contract: a listed block's leaves are sifted by a run along its records, and a block inside a leaf is one itself.
+use Prim.Native.Nat.{ℕ, _+_, _^_, _≤_, _<_}
+use mathlib.Core.Path.{_≡_, refl, sym, ap, _∙_}
+use mathlib.Core.List.{List, [], _∷_}
+use native.Mathlib.Omega.{arith}
+use lib.ListN.{length, getD}
+use borrow.Author.Needs.{needs}
+use Rattle.keys.proofs.Cases.{split}
+use Rattle.keys.proofs.Powers.{five-le}
+use Rattle.definitions.specs.declared.Standing.the-variants.{Inside}
+use Rattle.list.specs.Sorted.{Ascends}
+use Rattle.list.proofs.Own.{own-sorted, own-ascends}
+use Rattle.window.proofs.Steps.{some-keys}
+use Rattle.window.proofs.Asked.{asked-key, asked-inside}
+use Rattle.window.proofs.Content.{listed-keys, leaf-key, leaf-nothing}
+use Rattle.rules.specs.declared.sift.Sifting.{Sifting}
+use Rattle.rules.specs.Sift.{SiftReady, RunReady}
+use Rattle.rules.proofs.Sifting.{passed-widen, sifted-none, sifted-as}
+use Rattle.rules.proofs.sift.sift_block.Statement.{statement}
+use Rattle.rules.proofs.sift.sift_block.Tie as tie
+
+-- from the place of a key on the keys are at or past it
+run-ready : {limit : ℕ} {waived : List ℕ} {at : Sifting} {ids keys : List ℕ} {most key : ℕ} {recordKeys : List ℕ} {n : ℕ} (first end : ℕ)
+    → SiftReady limit waived at ids keys most key
+    → Ascends recordKeys n
+    → getD recordKeys first 0 ≡ key
+    → key ≤ end
+    → RunReady limit waived at ids keys most recordKeys n first end
+run-ready {key = key} {recordKeys} first end s asc e low =
+    record {
+      x = key;
+      ready = s;
+      beforeEnd = low;
+      beforeKeys = λ i from before. split first i
+          (λ after. let h = asc .ascend first i after before in omega arith)
+          (λ at. let same : first ≡ i = omega arith in let f = ap (λ j. getD recordKeys j 0) same in omega arith);
+    }
+
+-- where the block was asked for, from where it is known how it stands
+abbrev asks-leaf : tie.After-known-told3 → tie.After-stand
+asks-leaf c = c .before .before .before .before .before .before
+
+abbrev asks-listed : tie.After-known-told → tie.After-stand
+asks-listed c = c .before .before .before
+
+abbrev entry : tie.After-stand → tie.Start
+entry c = c .before .before .before .before .before .before
+
+stands-inside : (c : tie.After-known-told3) → asks-leaf c .stand .result ≡ Inside (c .before .standing3 .given .0 .0)
+stands-inside c = c .before .before .before .before .standing2 .given .1 ∙ c .before .standing3 .given .1
+
+leaf-place : (c : tie.After-known-told3) → c .before .standing3 .given .0 .0 < length (entry (asks-leaf c) .args .bits .now)
+leaf-place c =
+    let pre = entry (asks-leaf c) .pre in
+    let a = asked-inside (pre .2) (pre .1 .block) _ _ (asks-leaf c .stand .ensures) (stands-inside c) in
+    omega (arith, pre .2 .fits, a .room)
+
+stand-requires : tie.Need-stand-requires
+stand-requires c κs = own-sorted (c .before .before .before .before .before .pre .2) _
+
+enum-known-standing : tie.Need-enum-known-standing
+enum-known-standing c = search needs
+
+enum-known-standing-2 : tie.Need-enum-known-standing-2
+enum-known-standing-2 c = search needs
+
+enum-known-standing-3 : tie.Need-enum-known-standing-3
+enum-known-standing-3 c = search needs
+
+enum-told : tie.Need-enum-told
+enum-told c = search needs
+
+returns : tie.Need-returns
+returns c =
+    let inside = c .before .before .before .standing2 .given .1 in
+    let listed = c .enum-told .given .1 in
+    absurd (let z : _≡_ {A = ℕ} 0 1 = cc in omega arith)
+
+mul-if1 : tie.Need-mul-if1
+mul-if1 c = omega (arith, leaf-place c, entry (asks-leaf c) .good .1 .1 .0 .1)
+
+shared-slice-read-if1 : tie.Need-shared-slice-read-if1
+shared-slice-read-if1 c = leaf-place (c .before)
+
+sift-requires : tie.Need-sift-requires
+sift-requires c κs = search needs
+
+same-length : tie.Need-same-length
+same-length c = search needs
+
+same-length-2 : tie.Need-same-length-2
+same-length-2 c = search needs
+
+returns-2 : tie.Need-returns-2
+returns-2 c =
+    let sifted = c .before .before .before .before in
+    let leaf = sifted .before .before .before .before .before in
+    let pre = entry (asks-leaf leaf) .pre in
+    sifted-as _ _ _ _ _ _ _ _ _ _ _ _ _ (sifted .sift .ensures)
+    (sym (leaf-key (pre .2) (pre .1) _ _ _ (asks-leaf leaf .stand .ensures) (stands-inside leaf) (sifted .before .before .before .if1 .taken)))
+    (omega arith)
+
+returns-3 : tie.Need-returns-3
+returns-3 c =
+    let leaf = c .before .before in
+    let pre = entry (asks-leaf leaf) .pre in
+    sifted-none _ _ _ _ _ _ _ _
+    (leaf-nothing (pre .2) (pre .1) _ _ _ (asks-leaf leaf .stand .ensures) (stands-inside leaf) (c .if1 .left))
+    (passed-widen _ _ _ (pre .3 .passed) (omega arith))
+
+add-sift-run : tie.Need-add-sift-run
+add-sift-run c =
+    let pre = entry (asks-listed c) .pre in
+    let k = some-keys (pre .1) in
+    let five = five-le 10 (pre .0) in
+    omega arith
+
+sift-run-requires : tie.Need-sift-run-requires
+sift-run-requires c κs =
+    let listed = c .before .before in
+    let pre = entry (asks-listed listed) .pre in
+    let own = pre .2 in
+    (own-ascends own, omega (arith, own .fits),
+    run-ready _ _ (pre .3) (own-ascends own)
+    (asked-key own (pre .1 .block) _ _ (asks-listed listed .stand .ensures) (listed .before .standing .given .1))
+    (omega arith))
+
+same-length-3 : tie.Need-same-length-3
+same-length-3 c = search needs
+
+same-length-4 : tie.Need-same-length-4
+same-length-4 c = search needs
+
+returns-4 : tie.Need-returns-4
+returns-4 c =
+    let run = c .before .before .before .before in
+    let listed = run .before .before .before in
+    let pre = entry (asks-listed listed) .pre in
+    sifted-as _ _ _ _ _ _ _ _ _ _ _ _ _ (run .sift-run .ensures)
+    (listed-keys (pre .2) (pre .1) _ _ _ (asks-listed listed .stand .ensures) _ refl (listed .before .standing .given .1))
+    (omega arith)
+
+pub sift-block-spec : {M : Type 1} → statement M
+sift-block-spec =
+    tie.close
+    (tie.spec
+    stand-requires
+    enum-known-standing
+    enum-known-standing-2
+    enum-known-standing-3
+    enum-told
+    returns
+    mul-if1
+    shared-slice-read-if1
+    sift-requires
+    same-length
+    same-length-2
+    returns-2
+    returns-3
+    add-sift-run
+    sift-run-requires
+    same-length-3
+    same-length-4
+    returns-4)
