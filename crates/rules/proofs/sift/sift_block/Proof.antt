@@ -1,7 +1,7 @@
 -- `sift::sift_block` meets its contract: a listed block's leaves are sifted by a run along its records, and a block inside a leaf is one itself.
-use Prim.Native.Nat.{ℕ, _+_, _^_, _≤_, _<_}
+use Prim.Native.Nat.{ℕ, _≤_, _<_}
 use mathlib.Core.Path.{_≡_, refl, sym, ap, _∙_}
-use mathlib.Core.List.{List, [], _∷_}
+use mathlib.Core.List.{List}
 use native.Mathlib.Omega.{arith}
 use lib.ListN.{length, getD}
 use borrow.Author.Needs.{needs}
@@ -119,11 +119,13 @@ sift-run-requires : tie.Need-sift-run-requires
 sift-run-requires c κs =
     let listed = c .before .before in
     let pre = entry (asks-listed listed) .pre in
-    let own = pre .2 in
-    (own-ascends own, omega (arith, own .fits),
-    run-ready _ _ (pre .3) (own-ascends own)
-    (asked-key own (pre .1 .block) _ _ (asks-listed listed .stand .ensures) (listed .before .standing .given .1))
-    (omega arith))
+    let own = pre .2 in (
+      own-ascends own,
+      omega (arith, own .fits),
+      run-ready _ _ (pre .3) (own-ascends own)
+          (asked-key own (pre .1 .block) _ _ (asks-listed listed .stand .ensures) (listed .before .standing .given .1))
+          (omega arith),
+    )
 
 same-length-3 : tie.Need-same-length-3
 same-length-3 c = search needs

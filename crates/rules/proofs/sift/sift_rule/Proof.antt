@@ -1,9 +1,8 @@
 -- `sift::sift_rule` meets its contract: where the walk stands, what was sifted is what select gives below the key. The key rises from turn to turn.
 use Prim.Native.Nat.{ℕ, _+_, _-_, _^_, _≤_}
 use mathlib.Core.Path.{_≡_, sym, ap, _∙_, subst}
-use mathlib.Core.List.{List, [], _++_}
+use mathlib.Core.List.{List, _++_}
 use native.Mathlib.Omega.{arith}
-use lib.ListN.{length}
 use borrow.Author.Needs.{needs}
 use Rattle.definitions.specs.Picture.{Picture}
 use Rattle.definitions.specs.Window.{selectIn}
@@ -130,22 +129,22 @@ enum-told : tie.Need-enum-told Inv-loop μ-loop
 enum-told c = search needs
 
 same-length : tie.Need-same-length Inv-loop μ-loop
-same-length c = 
+same-length c =
     let at = c .before .before .before in
     counted-ids _ _ _ (at .loop .inv .sifted _ (bit-of at) .counted)
 
 same-length-2 : tie.Need-same-length-2 Inv-loop μ-loop
-same-length-2 c = 
+same-length-2 c =
     let at = c .before .before .before in
     counted-keys _ _ _ (at .loop .inv .sifted _ (bit-of at) .counted)
 
 returns : tie.Need-returns Inv-loop μ-loop
-returns c = 
+returns c =
     let at = c .before .before .before in
     ends _ _ _ _ _ _ _ (at .loop .inv) _ (bit-of at) (reached-gone _ _ _ _ (c .before .before .find-largest .ensures) (c .enum-told .given .1))
 
 sift-block-requires : tie.Need-sift-block-requires Inv-loop μ-loop
-sift-block-requires c κs = 
+sift-block-requires c κs =
     let b = c .before .before .before in
     let pre = entry (head b) .pre in
     (pre .0, found b .walking .stands, pre .3, ready _ _ _ _ _ _ _ (head b .loop .inv) (found b) _ (bit-of (head b)) (pre .4) (pre .0))
@@ -160,19 +159,19 @@ enum-told-2 : tie.Need-enum-told-2 Inv-loop μ-loop
 enum-told-2 c = search needs
 
 same-length-3 : tie.Need-same-length-3 Inv-loop μ-loop
-same-length-3 c = 
+same-length-3 c =
     let sifted = c .before .before .before .before .before .before .before in
     let b = block-of sifted in
     counted-ids _ _ _ (added _ _ _ _ _ _ _ (head b .loop .inv) (found b) (sifted .sift-block .ensures) _ (bit-of (head b)) .counted)
 
 same-length-4 : tie.Need-same-length-4 Inv-loop μ-loop
-same-length-4 c = 
+same-length-4 c =
     let sifted = c .before .before .before .before .before .before .before in
     let b = block-of sifted in
     counted-keys _ _ _ (added _ _ _ _ _ _ _ (head b .loop .inv) (found b) (sifted .sift-block .ensures) _ (bit-of (head b)) .counted)
 
 returns-2 : tie.Need-returns-2 Inv-loop μ-loop
-returns-2 c = 
+returns-2 c =
     let sifted = c .before .before .before .before .before .before .before in
     let b = block-of sifted in
     finishes _ _ _ _ _ _ _ (head b .loop .inv) (found b) (sifted .sift-block .ensures) _ (bit-of (head b))
@@ -185,13 +184,13 @@ follows : (c : tie.After-next Inv-loop μ-loop)
 follows c = follows-at _ _ _ _ (c .before .before .after .ensures) (c .next .given .1)
 
 loop-less : tie.Need-loop-less Inv-loop μ-loop
-loop-less c = 
+loop-less c =
     let b = block-of (sifted-of (c .before)) in
     let k = some-keys (found b .walking .stands) in
     rises (head b .loop .inv .walking .stands) _ (omega (arith, follows (c .before) .1, found b .from))
 
 loop-again : tie.Need-loop-again Inv-loop μ-loop
-loop-again c = 
+loop-again c =
     let sifted = sifted-of (c .before) in
     let b = block-of sifted in
     let f = follows (c .before) in

@@ -9,7 +9,7 @@ use lib.ListN.{length, getD, length-append}
 use Rattle.list.specs.Sorted.{Ascends}
 use Rattle.window.proofs.Until.{rest, past-last, past-end, with-bit, without-bit}
 use Rattle.rules.specs.declared.sift.Sifting.{Sifting}
-use Rattle.rules.specs.Sift.{Passed, SiftReady, RunReady, Sifted}
+use Rattle.rules.specs.Sift.{SiftReady, RunReady, Sifted}
 use Rattle.rules.proofs.Sifting.{counted-ids, counted-keys, still-ready, passed-widen, sifted-none, sifted-append, sifted-as}
 use Rattle.rules.proofs.sift.sift_run.Statement.{statement}
 use Rattle.rules.proofs.sift.sift_run.Tie as tie
