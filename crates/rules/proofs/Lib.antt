@@ -3,6 +3,8 @@ pub mod Lent
 pub mod Fold
 pub mod Settings
 pub mod WaiverPlaces
+pub mod WaiverOrder
+pub mod RuleWaivers
 pub mod GoodWaivers
 pub mod StepCases
 pub mod WritingCases
