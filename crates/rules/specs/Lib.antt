@@ -1,2 +1,3 @@
 pub mod Sift
 pub mod Run
+pub mod Step

@@ -1,14 +1,167 @@
-// One rule of a run.
+// One rule of a run: whether it may come, whether a waiver is wrong, and else its findings against its waivers, which stand one after the other.
 ghost use mathlib.Core.Path.{_≡_};
-ghost use Rattle.rules.specs.Run.{progressOf, Ready, stepOf};
+ghost use mathlib.Core.Bool.{_&&_, _||_};
+ghost use Prim.Native.Nat.{_+_, _≤_};
+ghost use lib.ListN.{length, getD};
+ghost use lib.Dec.{ltb};
+ghost use Rattle.rules.specs.Run.{progressOf, faultyFrom, counting, mayCome, gathered, Ready, stepOf};
+ghost use Rattle.rules.specs.Step.{OwnEnd, Gatherable};
+use crate::begin;
 use crate::run::State;
+use crate::sift;
+use crate::sift::Sifting;
 use definitions::Rule;
+use definitions::Window;
+use window::bounds;
 
-pub fn step(rule: Rule, keys: &[u32], bits: &[u32], waiver_ids: &[u32], waiver_keys: &[u32], found_ids: &mut [u32], found_keys: &mut [u32], state: State) -> State
+// The rule's id is not below the least that may come, and the rule is good.
+fn may_come(rule: Rule, state: State) -> bool
+    requires { ⌜ state .m ≤ 10 ⌝ }
+    ensures { λ r. ⌜ r ≡ mayCome rule state ⌝ }
+{
+    let id = rule.id as u64;
+    if id < state.next {
+        return false;
+    }
+    if state.s <= rule.feature {
+        return false;
+    }
+    let window = Window {
+        row: rule.row,
+        column: rule.column,
+        height: rule.height,
+        width: rule.width,
+    };
+    bounds::is_window(state.m, window)
+}
+
+// A waiver is wrong: it was so before, or the first that is not passed has an id that no rule has.
+fn waiver_is_wrong(id: u32, waiver_ids: &[u32], state: State) -> bool
+    requires { ⌜ state .waivers ≤ length (now «waiver_ids») ⌝ }
+    ensures { λ r. ⌜ r ≡ state .faulty || ltb (state .passed) (state .waivers) && ltb (getD (now («waiver_ids» .entry)) (state .passed) 0) id ⌝ }
+{
+    let passed = state.passed;
+    if state.faulty {
+        return true;
+    }
+    if passed < state.waivers {
+        waiver_ids[passed] < id
+    } else {
+        false
+    }
+}
+
+// A waiver is wrong: from here on only the rules are looked at.
+fn faulty_from(state: State, next: u64) -> State
+    ensures { λ r. ⌜ r ≡ faultyFrom next state ⌝ }
+{
+    let mut st = state;
+    st.next = next;
+    st.faulty = true;
+    st
+}
+
+// The rule's findings are counted.
+fn counted(state: State, next: u64, passed: usize, sifted: Sifting) -> State
+    ensures { λ r. ⌜ r ≡ counting next passed (sifted .live) (sifted .hidden) state ⌝ }
+{
+    let mut st = state;
+    st.next = next;
+    st.passed = passed;
+    st.live = sifted.live;
+    st.hidden = sifted.hidden;
+    st
+}
+
+// The first place from a place on whose waiver has a larger id.
+fn own_end(waiver_ids: &[u32], from: usize, count: usize, id: u32) -> usize
+    requires { ⌜ (from ≤ count) × (count ≤ length (now «waiver_ids»)) ⌝ }
+    ensures { λ r. ⌜ OwnEnd (now («waiver_ids» .entry)) from count id r ⌝ }
+{
+    let mut place = from;
+    while place < count {
+        if id < waiver_ids[place] {
+            return place;
+        }
+        place += 1;
+    }
+    place
+}
+
+// The rule's findings that no waiver hides are counted and written, the others counted.
+fn gather(
+    rule: Rule,
+    keys: &[u32],
+    bits: &[u32],
+    waiver_ids: &[u32],
+    waiver_keys: &[u32],
+    found_ids: &mut [u32],
+    found_keys: &mut [u32],
+    state: State,
+) -> State
+    requires { ⌜ Gatherable (now keys) (now bits) (now «waiver_ids») (now «waiver_keys») rule (progressOf state (now «found_ids») (now «found_keys»)) ⌝ }
+    ensures { λ r. ⌜ progressOf r (now («found_ids» .exit)) (now («found_keys» .exit))
+        ≡ gathered (now (keys .entry)) (now (bits .entry)) (now («waiver_ids» .entry)) (now («waiver_keys» .entry)) rule
+        (progressOf state (now («found_ids» .entry)) (now («found_keys» .entry))) ⌝ }
+{
+    let id = rule.id;
+    let next = id as u64 + 1;
+    let passed = state.passed;
+    let end = own_end(waiver_ids, passed, state.waivers, id);
+    let at = Sifting {
+        passed: 0,
+        live: state.live,
+        hidden: state.hidden,
+    };
+    let sifted = sift::sift_rule(
+        rule,
+        state.m,
+        state.n,
+        state.limit,
+        keys,
+        bits,
+        &waiver_keys[passed..end],
+        found_ids,
+        found_keys,
+        at,
+    );
+    counted(state, next, end, sifted)
+}
+
+pub fn step(
+    rule: Rule,
+    keys: &[u32],
+    bits: &[u32],
+    waiver_ids: &[u32],
+    waiver_keys: &[u32],
+    found_ids: &mut [u32],
+    found_keys: &mut [u32],
+    state: State,
+) -> State
     requires { ⌜ Ready (now keys) (now bits) (now «waiver_ids») (now «waiver_keys») (progressOf state (now «found_ids») (now «found_keys»)) ⌝ }
     ensures { λ r. ⌜ progressOf r (now («found_ids» .exit)) (now («found_keys» .exit))
         ≡ stepOf (now (keys .entry)) (now (bits .entry)) (now («waiver_ids» .entry)) (now («waiver_keys» .entry)) rule
         (progressOf state (now («found_ids» .entry)) (now («found_keys» .entry))) ⌝ }
 {
-    state
+    let id = rule.id;
+    if state.refusal != 0 {
+        return state;
+    }
+    if !may_come(rule, state) {
+        return begin::refused(state, 13);
+    }
+    if waiver_is_wrong(id, waiver_ids, state) {
+        let next = id as u64 + 1;
+        return faulty_from(state, next);
+    }
+    gather(
+        rule,
+        keys,
+        bits,
+        waiver_ids,
+        waiver_keys,
+        found_ids,
+        found_keys,
+        state,
+    )
 }

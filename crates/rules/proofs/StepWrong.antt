@@ -1,0 +1,54 @@
+-- A waiver is wrong exactly if the code's test says so; where it does not, the rule's findings can be gathered. Rests on StepWaivers.
+use Prim.Native.Nat.{ℕ}
+use mathlib.Core.Path.{_≡_, refl, ap, _∙_}
+use mathlib.Core.Bool.{Bool, true, false, _&&_, _||_, true≢false}
+use mathlib.Core.List.{List}
+use lib.ListN.{getD}
+use lib.Dec.{ltb}
+use Rattle.keys.proofs.Cases.{decide}
+use Rattle.definitions.specs.Rules.{waiversOf}
+use Rattle.definitions.specs.declared.Rule.{Rule}
+use Rattle.rules.specs.declared.run.State.{State}
+use Rattle.rules.specs.Run.{Progress, waiversBelow, mayCome, isUnknown, Fine}
+use Rattle.rules.specs.Step.{Gatherable}
+use Rattle.rules.proofs.StepCases.{isFaulty}
+use Rattle.rules.proofs.StepWaivers.{smaller-at}
+
+or-decided : (a b c : Bool) → (a ≡ false → b ≡ c) → a || b ≡ a || c
+or-decided true b c h = refl
+or-decided false b c h = h refl
+
+neither-left : (a b : Bool) → a || b ≡ false → a ≡ false
+neither-left true b e = absurd (true≢false e)
+neither-left false b e = refl
+
+neither-right : (a b : Bool) → a || b ≡ false → b ≡ false
+neither-right true b e = absurd (true≢false e)
+neither-right false b e = e
+
+module _ (keys bits waiverIds waiverKeys : List ℕ) (rule : Rule) (p : Progress) (f : Fine keys bits waiverIds waiverKeys p) where
+  abbrev st : State
+  st = p .state
+
+  abbrev unknown : Bool
+  unknown = isUnknown keys bits waiverIds waiverKeys rule st
+
+  abbrev smaller : Bool
+  smaller = ltb (st .passed) (st .waivers) && ltb (getD waiverIds (st .passed) 0) (rule .id)
+
+  smaller-unknown : st .faulty ≡ false → smaller ≡ unknown
+  smaller-unknown e =
+      smaller-at waiverIds waiverKeys (f .ascend e) (st .waivers) (f .count) (st .passed) (rule .id)
+      ∙ ap (λ x. ltb x (waiversBelow (rule .id) (waiversOf waiverIds waiverKeys))) (f .passed e)
+
+  pub wrong-is : st .faulty || smaller ≡ isFaulty keys bits waiverIds waiverKeys rule p
+  wrong-is = or-decided (st .faulty) smaller unknown smaller-unknown
+
+  pub gatherable : mayCome rule st ≡ true → isFaulty keys bits waiverIds waiverKeys rule p ≡ false → Gatherable keys bits waiverIds waiverKeys rule p
+  gatherable may e =
+      record {
+        fine = f;
+        may = may;
+        right = neither-left (st .faulty) unknown e;
+        known = neither-right (st .faulty) unknown e;
+      }
