@@ -7,7 +7,6 @@ pub mod WaiverOrder
 pub mod RuleWaivers
 pub mod GoodWaivers
 pub mod StepTests
-pub mod RuleWaivers
 pub mod StepWaivers
 pub mod StepCases
 pub mod StepWrong
