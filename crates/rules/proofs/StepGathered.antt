@@ -2,7 +2,7 @@
 -- and Ready.
 use Prim.Native.Nat.{ℕ, _+_, _-_, _^_, _≤_, _<_}
 use mathlib.Core.Path.{_≡_, refl, sym, ap, ap₂, _∙_, subst}
-use mathlib.Core.Bool.{true, false}
+use mathlib.Core.Bool.{true}
 use mathlib.Core.List.{List, [], _∷_, map}
 use native.Mathlib.Omega.{arith}
 use lib.ListN.{length, take, drop, length-map}
@@ -84,12 +84,6 @@ module _ (keys bits waiverIds waiverKeys : List ℕ) (rule : Rule) (p : Progress
     -- the part of the waivers' keys that is lent
     abbrev pub lent : List ℕ
     lent = take (end - st .passed) (drop (st .passed) waiverKeys)
-
-    pub end-room : end ≤ length waiverKeys
-    end-room =
-        let within = o .run .within in
-        let all = g .fine .count in
-        omega arith
 
     end-below : end ≡ waiversBelow (rule .id + 1) ws
     end-below =

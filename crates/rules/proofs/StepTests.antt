@@ -1,7 +1,7 @@
 -- Whether a rule may come, and where its waivers end, by the tests that the code makes in turn. Rests on nothing.
 use Prim.Native.Nat.{ℕ, _+_, _≤_, _<_}
 use mathlib.Core.Path.{_≡_, refl, sym, subst}
-use mathlib.Core.Bool.{Bool, true, false, _&&_, _||_}
+use mathlib.Core.Bool.{Bool, true, false, _&&_}
 use mathlib.Core.List.{List}
 use native.Mathlib.Omega.{arith}
 use lib.ListN.{getD}
@@ -13,7 +13,7 @@ use Rattle.definitions.specs.Rules.{windowOf, isRule}
 use Rattle.definitions.specs.declared.Rule.{Rule}
 use Rattle.rules.specs.declared.run.State.{State}
 use Rattle.rules.specs.Run.{mayCome}
-use Rattle.rules.specs.Step.{OwnFrom, OwnEnd}
+use Rattle.rules.specs.Step.{OwnFrom}
 
 -- three tests, in the order of the code
 first-fails : (a b c : Bool) → a ≡ false → false ≡ a && (b && c)

@@ -1,18 +1,18 @@
 -- Where a rule's waivers stand: none is unknown when the first that is not passed has no smaller id, and the last ends the run of those with no larger
 -- id. Rests on RuleWaivers.
-use Prim.Native.Nat.{ℕ, zero, suc, _+_, _-_, _≤_, _<_}
-use mathlib.Core.Path.{_≡_, refl, sym, ap, _∙_, subst}
-use mathlib.Core.Bool.{Bool, true, false, _&&_}
+use Prim.Native.Nat.{ℕ, zero, suc, _+_, _≤_, _<_}
+use mathlib.Core.Path.{_≡_, refl}
+use mathlib.Core.Bool.{true, _&&_}
 use mathlib.Core.List.{List}
 use native.Mathlib.Omega.{arith}
-use lib.ListN.{length, getD}
+use lib.ListN.{getD}
 use lib.Dec.{ltb}
-use borrow.Author.Tests.{lt-ltb, ltb-true, ltb-false}
+use borrow.Author.Tests.{lt-ltb, ltb-true}
 use Rattle.keys.proofs.Cases.{split, and-left, and-right, and-both, same-test}
 use Rattle.definitions.specs.Read.{room}
 use Rattle.definitions.specs.Rules.{waiversOf, findingsAscend}
 use Rattle.rules.specs.Run.{waiversBelow}
-use Rattle.rules.specs.Step.{OwnFrom, OwnEnd}
+use Rattle.rules.specs.Step.{OwnEnd}
 use Rattle.rules.proofs.RuleWaivers.{below-at, at-below, below-room}
 
 module _ (ids keys : List ℕ) (asc : findingsAscend (waiversOf ids keys) ≡ true) (count : ℕ) (all : count ≡ room ids keys) where

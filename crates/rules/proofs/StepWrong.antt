@@ -5,7 +5,6 @@ use mathlib.Core.Bool.{Bool, true, false, _&&_, _||_, true≢false}
 use mathlib.Core.List.{List}
 use lib.ListN.{getD}
 use lib.Dec.{ltb}
-use Rattle.keys.proofs.Cases.{decide}
 use Rattle.definitions.specs.Rules.{waiversOf}
 use Rattle.definitions.specs.declared.Rule.{Rule}
 use Rattle.rules.specs.declared.run.State.{State}
