@@ -24,6 +24,7 @@ pub mod WindowScan
 pub mod LastEntry
 pub mod SoundLog
 pub mod Waivers
+pub mod OldFault
 pub mod FileBytes
 pub mod FileOf
 pub mod FileBack

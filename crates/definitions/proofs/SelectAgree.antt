@@ -1,14 +1,17 @@
--- Select depends on nothing but the pixels of the block: pictures that agree there give the same keys. Rests on GivenPixels.
+-- Select depends on nothing but the pixels of the block: pictures that agree there give the same keys, and so rules the same findings. Rests on
+-- GivenPixels.
 use Prim.Native.Nat.{ℕ, zero, suc, _+_, _^_}
-use mathlib.Core.Path.{_≡_, ap, ap₂}
+use mathlib.Core.Path.{_≡_, refl, ap, ap₂}
 use mathlib.Core.Bool.{cond, _&&_}
-use mathlib.Core.List.{[], _∷_, _++_}
+use mathlib.Core.List.{List, [], _∷_, _++_, map}
 use lib.Dec.{eqb}
-use Rattle.keys.specs.Key.{childKey}
+use Rattle.keys.specs.Key.{rootKey, childKey}
 use Rattle.keys.proofs.Under.{Quadrant, is-nw, is-ne, is-sw, is-se}
 use Rattle.definitions.specs.Picture.{Picture}
-use Rattle.definitions.specs.Window.{inWindow, isGiven, selectFrom}
+use Rattle.definitions.specs.Window.{inWindow, isGiven, selectFrom, selectIn}
+use Rattle.definitions.specs.Rules.{findingOf, windowOf, findingsOf, allFindings}
 use Rattle.definitions.specs.declared.Window.{Window}
+use Rattle.definitions.specs.declared.Rule.{Rule}
 use Rattle.definitions.proofs.GivenPixels.{InSquare, square-of-quadrant, every-same}
 
 -- the pictures have the same feature at each pixel of the square
@@ -35,3 +38,10 @@ module _ (p q : Picture) (w : Window) (f : ℕ) where
       (ap₂ (λ b rest. b ++ rest) (select-agree k r (c + 2 ^ k) (childKey κ k 2) (same-quadrant p q (is-ne {κ = κ}) same))
       (ap₂ (λ c rest. c ++ rest) (select-agree k (r + 2 ^ k) c (childKey κ k 3) (same-quadrant p q (is-sw {κ = κ}) same))
       (select-agree k (r + 2 ^ k) (c + 2 ^ k) (childKey κ k 4) (same-quadrant p q (is-se {κ = κ}) same)))))
+
+-- pictures that agree on the map's pixels have the same findings
+pub findings-agree : (m : ℕ) (p q : Picture) (rules : List Rule) → SamePixels p q m 0 0 → allFindings m p rules ≡ allFindings m q rules
+unfolding allFindings findingsOf selectIn
+findings-agree m p q [] same = refl
+findings-agree m p q (rule ∷ rules) same =
+    ap₂ (λ keys rest. map (findingOf (rule .id)) keys ++ rest) (select-agree p q (windowOf rule) (rule .feature) m 0 0 rootKey same) (findings-agree m p q rules same)

@@ -76,6 +76,12 @@ other-waiver-at ws w vs x other =
     (λ (h : List·Memᴰ x vs). Memᴰ·append-right ws (List·Memᴰ·tail h))
     (List·Memᴰ·append-cases ws m))
 
+-- another waiver may move to any place, and become one of any block but the finding's
+pub other-waiver-moves : (ws vs ws′ vs′ : List Finding) (w w′ x : Finding) → ws ++ vs ≡ ws′ ++ vs′ → (x ≡ w → ⊥) → (x ≡ w′ → ⊥)
+    → isHidden (ws ++ (w ∷ vs)) x ≡ isHidden (ws′ ++ (w′ ∷ vs′)) x
+other-waiver-moves ws vs ws′ vs′ w w′ x same other other′ =
+    other-waiver-at ws w vs x other ∙ ap (λ l. isHidden l x) same ∙ sym (other-waiver-at ws′ w′ vs′ x other′)
+
 -- another waiver in front changes nothing
 pub other-waiver : (w : Finding) (ws : List Finding) (x : Finding) → (x ≡ w → ⊥) → isHidden (w ∷ ws) x ≡ isHidden ws x
 other-waiver w ws x other = other-waiver-at [] w ws x other
@@ -128,6 +134,22 @@ live-every ws (List·Memᴰ·tail {x = y} {xs} m) shown =
 pub live-exactly : (ws xs : List Finding) {x : Finding} → List·Memᴰ x (liveOf ws xs) ↔ (List·Memᴰ x xs × (List·Memᴰ x ws → ⊥))
 live-exactly ws xs {x} =
     (λ m. let h = live-only ws xs m in (h .0, λ waived. shown-not-waived ws x (h .1) waived), λ h. live-every ws (h .0) (not-hidden ws x (h .1)))
+
+-- waivers that hide the finding alike leave it live alike
+pub live-same : (ws vs xs : List Finding) {x : Finding} → isHidden ws x ≡ isHidden vs x → List·Memᴰ x (liveOf ws xs) ↔ List·Memᴰ x (liveOf vs xs)
+live-same ws vs xs e =
+    (λ m. let h = live-only ws xs m in live-every vs (h .0) (sym e ∙ h .1), λ m. let h = live-only vs xs m in live-every ws (h .0) (e ∙ h .1))
+
+-- so a finding is live with another waiver, at any place, exactly when it is without
+pub live-other-at : (ws : List Finding) (w : Finding) (vs xs : List Finding) {x : Finding} → (x ≡ w → ⊥)
+    → List·Memᴰ x (liveOf (ws ++ (w ∷ vs)) xs) ↔ List·Memᴰ x (liveOf (ws ++ vs) xs)
+live-other-at ws w vs xs {x} other = live-same (ws ++ (w ∷ vs)) (ws ++ vs) xs (other-waiver-at ws w vs x other)
+
+-- and exactly when it is with that waiver moved
+pub live-other-moves : (ws vs ws′ vs′ : List Finding) (w w′ : Finding) (xs : List Finding) {x : Finding} → ws ++ vs ≡ ws′ ++ vs′ → (x ≡ w → ⊥) → (x ≡ w′ → ⊥)
+    → List·Memᴰ x (liveOf (ws ++ (w ∷ vs)) xs) ↔ List·Memᴰ x (liveOf (ws′ ++ (w′ ∷ vs′)) xs)
+live-other-moves ws vs ws′ vs′ w w′ xs {x} same other other′ =
+    live-same (ws ++ (w ∷ vs)) (ws′ ++ (w′ ∷ vs′)) xs (other-waiver-moves ws vs ws′ vs′ w w′ x same other other′)
 
 -- each finding is live or counted as hidden
 pub live-and-hidden : (ws xs : List Finding) → length (liveOf ws xs) + hiddenCount ws xs ≡ length xs

@@ -7,6 +7,7 @@ pub mod Slices
 pub mod LogSlices
 pub mod Invariant
 pub mod PaintStep
+pub mod PaintedFindings
 pub mod PaintAnswer
 pub mod TakeBackStep
 pub mod EmptyStep

@@ -34,7 +34,7 @@ abbrev pub entryIn : ℕ → Buffers → ℕ → List Record
 entryIn m b κ = gained m (recordsOf (b .keys) (b .bits) (b .n)) κ
 
 -- the buffers with a list in place of theirs and an entry behind the log
-abbrev withEntry : Buffers → List Record → List Record → Buffers
+abbrev pub withEntry : Buffers → List Record → List Record → Buffers
 withEntry b l entry =
     record {
       keys = replaced (b .n) (keysOf l) (b .keys);
@@ -77,7 +77,7 @@ module _ (m s : ℕ) (b : Buffers) (κ f : ℕ) where
       }
 
   -- an accepted paint writes its list and its entry
-  paint-done : answer m s b (painting κ f) ≡ 0 → after m s b (painting κ f) ≡ withEntry b (listAfter m b κ f) (entryIn m b κ)
+  pub paint-done : answer m s b (painting κ f) ≡ 0 → after m s b (painting κ f) ≡ withEntry b (listAfter m b κ f) (entryIn m b κ)
   unfolding answer after paint paintKeys paintBits paintLogKeys paintLogValues
   paint-done e = rw (eq-eqb _ 0 e)
 

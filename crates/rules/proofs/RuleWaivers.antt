@@ -1,33 +1,22 @@
 -- The waivers of one rule stand together: those below its id are the first ones, and the rule's own follow, with keys that ascend. So a finding of the
 -- rule is hidden exactly where its key is one of them. Rests on WaiverOrder, KnownIds and Sifting.
-use Prim.Native.Nat.{ℕ, zero, suc, _+_, _-_, _≤_, _<_, min}
-use mathlib.Core.Path.{_≡_, refl, sym, ap, _∙_}
-use mathlib.Core.Bool.{Bool, true, false}
+use Prim.Native.Nat.{ℕ, zero, suc, _+_, _-_, _≤_, _<_}
+use mathlib.Core.Path.{_≡_, sym, ap, _∙_}
+use mathlib.Core.Bool.{true}
 use mathlib.Core.List.{List, [], _∷_, map}
 use native.Mathlib.Omega.{arith}
 use lib.ListN.{length, getD, take, drop, length-take, length-drop, length-map}
+use lib.Seq.{getD-take, getD-drop}
 use Rattle.keys.proofs.Cases.{decide, split, same-test}
 use Rattle.definitions.specs.Read.{room}
 use Rattle.definitions.specs.Rules.{Finding, findingOf, waiversOf, isHidden, liveOf, hiddenCount, findingsAscend}
 use Rattle.definitions.proofs.Waivers.{live-hidden, live-kept, live-none, live-and-hidden}
 use Rattle.rules.specs.Run.{waiversBelow}
 use Rattle.rules.specs.Sift.{isWaived, notWaived, Ascend}
-use Rattle.rules.proofs.WaiverPlaces.{waiverAt, waivers-length}
-use Rattle.rules.proofs.WaiverOrder.{Earlier, earlier-at, ascend-rest, HeldAt, held-hidden, hidden-held}
-use Rattle.rules.proofs.KnownIds.{below-in, below-out, below-nil, below-mono, below-all}
+use Rattle.rules.proofs.WaiverPlaces.{waivers-length}
+use Rattle.rules.proofs.WaiverOrder.{earlier-at, ascend-rest, HeldAt, held-hidden, hidden-held}
+use Rattle.rules.proofs.KnownIds.{below-in, below-out, below-nil, below-all}
 use Rattle.rules.proofs.Sifting.{waived-at, StandsAt, at-waived, not-waived-nil, waived-out, waived-in}
-
--- ---- elements of a part of a slice
-at-drop : (l : List ℕ) (k i : ℕ) → getD (drop k l) i 0 ≡ getD l (k + i) 0
-at-drop l zero i = let e : i ≡ 0 + i = omega arith in ap (λ j. getD l j 0) e
-at-drop [] (suc k) i = refl
-at-drop (x ∷ l) (suc k) i = let e : suc (k + i) ≡ suc k + i = omega arith in at-drop l k i ∙ ap (λ j. getD (x ∷ l) j 0) e
-
-at-take : (l : List ℕ) (k i : ℕ) → i < k → getD (take k l) i 0 ≡ getD l i 0
-at-take l zero i h = absurd (omega arith)
-at-take [] (suc k) i h = refl
-at-take (x ∷ l) (suc k) zero h = refl
-at-take (x ∷ l) (suc k) (suc i) h = at-take l k i (omega arith)
 
 -- ---- the waivers below x are the first ones
 below-first : (ids keys : List ℕ) → findingsAscend (waiversOf ids keys) ≡ true → (x i : ℕ) → i < room ids keys → getD ids i 0 < x → i < waiversBelow x (waiversOf ids keys)
@@ -108,7 +97,7 @@ module _ (ids keys : List ℕ) (asc : findingsAscend (waiversOf ids keys) ≡ tr
         omega arith
 
     own-at : (i : ℕ) → i < length own → getD own i 0 ≡ getD keys (first + i) 0
-    own-at i h = let l = own-length in at-take (drop first keys) (end - first) i (omega arith) ∙ at-drop keys first i
+    own-at i h = let l = own-length in getD-take (end - first) (drop first keys) i 0 (omega arith) ∙ getD-drop first keys i 0
 
     pub own-ascend : Ascend own
     own-ascend i j before inside =

@@ -1,0 +1,89 @@
+-- Waivers and paints: a waiver stays with its rule and its block, never with a place in the list, whatever the picture was before; and the call's
+-- answer is exactly the live findings, with counts that make up all. Rests on Waivers.
+use Prim.Native.Nat.{ℕ, _+_}
+use mathlib.Core.Path.{_≡_, refl, ap, ap₂, _∙_}
+use mathlib.Core.Logic.{_↔_}
+use mathlib.Core.List.{List, [], _∷_, _++_, map, List·Memᴰ, List·Memᴰ·head, List·Memᴰ·tail, Memᴰ·append-left, Memᴰ·append-right}
+use lib.ListN.{length, take, length-map}
+use lib.Seq.{take-at}
+use Rattle.definitions.specs.Picture.{Picture}
+use Rattle.definitions.specs.Read.{recordsOf, pictureOf}
+use Rattle.definitions.specs.Buffer.{over}
+use Rattle.definitions.specs.Rules.{Finding, findingsOf, allFindings, waiversOf, liveOf}
+use Rattle.definitions.specs.Calls.Findings.{liveIn, hiddenIn, findingsRefusal, findings, findingsIds, findingsKeys}
+use Rattle.definitions.specs.declared.Rule.{Rule}
+use Rattle.definitions.proofs.First.{accepted-done}
+use Rattle.definitions.proofs.Waivers.{live-exactly, live-and-hidden}
+
+-- a finding of one of the rules is among the findings of all
+pub finding-among : (m : ℕ) (p : Picture) {rules : List Rule} {rule : Rule} {x : Finding} → List·Memᴰ rule rules → List·Memᴰ x (findingsOf m p rule)
+    → List·Memᴰ x (allFindings m p rules)
+unfolding allFindings
+finding-among m p (List·Memᴰ·head {x = first} {xs = rules} e) h =
+    Memᴰ·append-left (allFindings m p rules) (rw e at h)
+finding-among m p (List·Memᴰ·tail {x = first} {xs = rules} i) h = Memᴰ·append-right (findingsOf m p first) (finding-among m p i h)
+
+module _ (m : ℕ) (rules : List Rule) (ws : List Finding) where
+  -- the rules' findings in a picture, and those that no waiver hides
+  abbrev findingsIn : Picture → List Finding
+  findingsIn p = allFindings m p rules
+
+  abbrev live : Picture → List Finding
+  live p = liveOf ws (findingsIn p)
+
+  -- a finding of the picture after a paint is live exactly when no waiver has its rule and its key
+  pub live-after : (q : Picture) {x : Finding} → List·Memᴰ x (findingsIn q) → List·Memᴰ x (live q) ↔ (List·Memᴰ x ws → ⊥)
+  live-after q found = let exactly = live-exactly ws (findingsIn q) in (λ m. exactly .0 m .1, λ free. exactly .1 (found, free))
+
+  -- The fault of the old program cannot happen: p is the picture before a paint and q the one after it. A finding of both is live after the paint
+  -- exactly when it was live before: so its waiver still hides it, and hides no other
+  pub live-as-before : (p q : Picture) {x : Finding} → List·Memᴰ x (findingsIn p) → List·Memᴰ x (findingsIn q) → List·Memᴰ x (live q) ↔ List·Memᴰ x (live p)
+  live-as-before p q before after =
+      let now = live-after q after in
+      let past = live-after p before in
+      (λ m. past .1 (now .0 m), λ m. now .1 (past .0 m))
+
+  -- and a finding that is not waived is live after it, wherever its record now stands in the list
+  pub not-waived-live : (q : Picture) {x : Finding} → List·Memᴰ x (findingsIn q) → (List·Memᴰ x ws → ⊥) → List·Memᴰ x (live q)
+  not-waived-live q found free = live-after q found .1 free
+
+  -- a waived one is not
+  pub waived-not-live : (q : Picture) {x : Finding} → List·Memᴰ x ws → List·Memᴰ x (live q) → ⊥
+  waived-not-live q waived m = live-exactly ws (findingsIn q) .0 m .1 waived
+
+-- ids and keys of findings, read together, are the findings
+found-own : (xs : List Finding) → waiversOf (map (λ x. x .id) xs) (map (λ x. x .key) xs) ≡ xs
+unfolding waiversOf
+found-own [] = refl
+found-own (x ∷ xs) = ap (λ rest. x ∷ rest) (found-own xs)
+
+take-over : (f : Finding → ℕ) (xs : List Finding) (slice : List ℕ) → take (length xs) (over (map f xs) slice) ≡ map f xs
+take-over f xs slice = take-at (map f xs) _ (length xs) (length-map xs f)
+
+module _ (m s : ℕ) (keys bits : List ℕ) (n : ℕ) (rules : List Rule) (waiverIds waiverKeys foundIds foundKeys : List ℕ) where
+  -- what the call leaves in the first places of the two answer slices, as many as it says
+  abbrev pub answered : List Finding
+  answered =
+      waiversOf
+      (take (findings m s keys bits n rules waiverIds waiverKeys foundIds foundKeys .live) (findingsIds m s keys bits n rules waiverIds waiverKeys foundIds foundKeys))
+      (take (findings m s keys bits n rules waiverIds waiverKeys foundIds foundKeys .live) (findingsKeys m s keys bits n rules waiverIds waiverKeys foundIds foundKeys))
+
+  -- an accepted call leaves there the live findings
+  pub answered-live : findingsRefusal m s keys bits n rules waiverIds waiverKeys foundIds foundKeys ≡ 0 → answered ≡ liveIn m keys bits n rules waiverIds waiverKeys
+  unfolding findings findingsIds findingsKeys
+  answered-live done =
+      let xs = liveIn m keys bits n rules waiverIds waiverKeys in
+      let count = accepted-done (length xs) _ done in
+      ap₂ waiversOf
+      (ap₂ take count (accepted-done (over (map (λ x. x .id) xs) foundIds) foundIds done) ∙ take-over (λ x. x .id) xs foundIds)
+      (ap₂ take count (accepted-done (over (map (λ x. x .key) xs) foundKeys) foundKeys done) ∙ take-over (λ x. x .key) xs foundKeys)
+      ∙ found-own xs
+
+  -- and says how many findings there are: the live and the hidden ones together are all
+  pub counts-all : findingsRefusal m s keys bits n rules waiverIds waiverKeys foundIds foundKeys ≡ 0
+      → findings m s keys bits n rules waiverIds waiverKeys foundIds foundKeys .live + findings m s keys bits n rules waiverIds waiverKeys foundIds foundKeys .hidden
+      ≡ length (allFindings m (pictureOf m (recordsOf keys bits n)) rules)
+  unfolding findings liveIn hiddenIn
+  counts-all done =
+      ap₂ (λ a b. a + b) (accepted-done (length (liveIn m keys bits n rules waiverIds waiverKeys)) _ done) (accepted-done (hiddenIn m keys bits n rules waiverIds waiverKeys) 0 done)
+      ∙ live-and-hidden (waiversOf waiverIds waiverKeys) (allFindings m (pictureOf m (recordsOf keys bits n)) rules)

@@ -1,0 +1,80 @@
+-- Findings after an accepted paint: they are those of the painted picture, and one that the paint leaves in place is given afterwards exactly when it was
+-- given before. Rests on PaintStep and on definitions' OldFault.
+use Prim.Native.Nat.{ℕ}
+use mathlib.Core.Path.{_≡_, sym, ap, _∙_}
+use mathlib.Core.Logic.{_↔_}
+use mathlib.Core.List.{List, List·Memᴰ}
+use native.Mathlib.Omega.{arith}
+use Rattle.definitions.specs.Picture.{Picture}
+use Rattle.definitions.specs.List.{Record}
+use Rattle.definitions.specs.Read.{recordsOf, pictureOf}
+use Rattle.definitions.specs.Edit.{paintIn}
+use Rattle.definitions.specs.Rules.{Finding, allFindings, waiversOf, liveOf}
+use Rattle.definitions.specs.Calls.Paint.{painted}
+use Rattle.definitions.specs.Calls.Findings.{liveIn, findingsRefusal}
+use Rattle.definitions.specs.declared.Rule.{Rule}
+use Rattle.definitions.proofs.Pixels.{Agree}
+use Rattle.definitions.proofs.SelectAgree.{findings-agree}
+use Rattle.definitions.proofs.OldFault.{answered, answered-live, live-after, live-as-before}
+use Rattle.history.specs.History.{Buffers, painting, after, answer}
+use Rattle.history.proofs.Shown.{shown-replaced, shown-records}
+use Rattle.history.proofs.Content.{map-back}
+use Rattle.history.proofs.PaintStep.{listAfter, paint-done}
+
+-- the picture that the list in the buffers shows
+abbrev recordsIn : Buffers → List Record
+recordsIn b = recordsOf (b .keys) (b .bits) (b .n)
+
+abbrev pub shows : ℕ → Buffers → Picture
+shows m b = pictureOf m (recordsIn b)
+
+module _ (m s : ℕ) (b : Buffers) (κ f : ℕ) (done : answer m s b (painting κ f) ≡ 0) where
+  -- the list afterwards is that of the painted picture
+  records-after : recordsIn (after m s b (painting κ f)) ≡ listAfter m b κ f
+  records-after = ap recordsIn (paint-done m s b κ f done) ∙ shown-records (shown-replaced (b .n) (listAfter m b κ f) (b .keys) (b .bits))
+
+  painted-back : Agree (pictureOf m (listAfter m b κ f)) (paintIn m κ f (shows m b)) m 0 0
+  unfolding painted
+  painted-back = map-back m (paintIn m κ f (shows m b))
+
+  -- the findings after an accepted paint are those of the painted picture
+  pub painted-findings : (rules : List Rule) → allFindings m (shows m (after m s b (painting κ f))) rules ≡ allFindings m (paintIn m κ f (shows m b)) rules
+  painted-findings rules =
+      ap (λ l. allFindings m (pictureOf m l) rules) records-after
+      ∙ findings-agree m (pictureOf m (listAfter m b κ f)) (paintIn m κ f (shows m b)) rules (λ row column h. painted-back row column (omega arith))
+
+-- the same two slices of waivers are lent to both calls; the answer slices may be any
+module _ (m s : ℕ) (rules : List Rule) (waiverIds waiverKeys : List ℕ) where
+  -- the call of findings is accepted on the list in the buffers
+  abbrev pub Accepted : Buffers → List ℕ → List ℕ → Type 0
+  Accepted b ids keys = findingsRefusal m s (b .keys) (b .bits) (b .n) rules waiverIds waiverKeys ids keys ≡ 0
+
+  -- the findings that it leaves in the answer slices
+  abbrev pub given : Buffers → List ℕ → List ℕ → List Finding
+  given b ids keys = answered m s (b .keys) (b .bits) (b .n) rules waiverIds waiverKeys ids keys
+
+  abbrev waivers : List Finding
+  waivers = waiversOf waiverIds waiverKeys
+
+  -- they are those of the picture that no waiver hides
+  given-live : (b : Buffers) (ids keys : List ℕ) → Accepted b ids keys → given b ids keys ≡ liveOf waivers (allFindings m (shows m b) rules)
+  unfolding liveIn
+  given-live b ids keys done = answered-live m s (b .keys) (b .bits) (b .n) rules waiverIds waiverKeys ids keys done
+
+  module _ (b : Buffers) (κ f : ℕ) (done : answer m s b (painting κ f) ≡ 0) (ids′ keys′ : List ℕ) (done′ : Accepted (after m s b (painting κ f)) ids′ keys′) where
+    -- after an accepted paint those of the painted picture
+    given-painted : given (after m s b (painting κ f)) ids′ keys′ ≡ liveOf waivers (allFindings m (paintIn m κ f (shows m b)) rules)
+    given-painted = given-live (after m s b (painting κ f)) ids′ keys′ done′ ∙ ap (liveOf waivers) (painted-findings m s b κ f done rules)
+
+    -- a finding of the painted picture is given after the paint exactly when no waiver has its rule and its key, wherever its record now stands
+    pub given-after : {x : Finding} → List·Memᴰ x (allFindings m (paintIn m κ f (shows m b)) rules)
+        → List·Memᴰ x (given (after m s b (painting κ f)) ids′ keys′) ↔ (List·Memᴰ x waivers → ⊥)
+    given-after found = rw given-painted (live-after m rules waivers (paintIn m κ f (shows m b)) found)
+
+    -- The fault of the old program cannot happen: a finding that the paint leaves in place is given after it exactly when it was given before. So its
+    -- waiver still hides it, and hides no other
+    pub given-as-before : (ids keys : List ℕ) → Accepted b ids keys
+        → {x : Finding} → List·Memᴰ x (allFindings m (shows m b) rules) → List·Memᴰ x (allFindings m (paintIn m κ f (shows m b)) rules)
+        → List·Memᴰ x (given (after m s b (painting κ f)) ids′ keys′) ↔ List·Memᴰ x (given b ids keys)
+    given-as-before ids keys done₀ before found =
+        rw (given-painted, given-live b ids keys done₀) (live-as-before m rules waivers (shows m b) (paintIn m κ f (shows m b)) before found)
