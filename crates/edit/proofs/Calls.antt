@@ -24,10 +24,10 @@ use Rattle.definitions.proofs.Features.{one-from}
 use Rattle.definitions.proofs.ListOf.{list-agree, list-one}
 use Rattle.definitions.proofs.ReadBack.{block-back, picture-back}
 use Rattle.edit.specs.Content.{contentIn}
-use Rattle.edit.specs.Put.{planOf, lengthAfter, edited}
-use Rattle.edit.proofs.Put.{put-agree, put-back}
+use Rattle.put.specs.Put.{planOf, lengthAfter, edited}
+use Rattle.put.proofs.Put.{put-agree, put-back}
 use Rattle.edit.proofs.Content.{content-in, content-length}
-use Rattle.edit.proofs.Edited.{edited-put, edited-length}
+use Rattle.put.proofs.Edited.{edited-put, edited-length}
 
 -- the list is that of its own picture
 abbrev pub OwnList : ℕ → List Record → Type 0

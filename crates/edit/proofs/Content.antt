@@ -13,12 +13,12 @@ use Rattle.definitions.specs.List.{Record, recordOf, listOf, listOfPicture}
 use Rattle.definitions.specs.Standing.{placeOf, partLength}
 use Rattle.definitions.specs.Edit.{contentOf}
 use Rattle.definitions.proofs.Features.{one-under}
-use Rattle.edit.specs.Family.{bitsAt}
+use Rattle.put.specs.Family.{bitsAt}
 use Rattle.edit.specs.Content.{contentIn}
-use Rattle.edit.proofs.Way.{Way, way-of, under-of}
-use Rattle.edit.proofs.Context.{before, after, Open, spliced, context}
-use Rattle.edit.proofs.Standing.{LeafAround, Stands, listed, inside, stands, place-listed, is-listed, part-listed, not-listed, part-inside, bits-at}
-use Rattle.edit.proofs.Choice.{list-bits}
+use Rattle.put.proofs.Way.{Way, way-of, under-of}
+use Rattle.put.proofs.Context.{before, after, Open, spliced, context}
+use Rattle.put.proofs.Standing.{LeafAround, Stands, listed, inside, stands, place-listed, is-listed, part-listed, not-listed, part-inside, bits-at}
+use Rattle.put.proofs.Choice.{list-bits}
 
 -- the records between two lists
 middle : (a own b l : List Record) (i n : ℕ) → l ≡ a ++ (own ++ b) → i ≡ length a → n ≡ length own → take n (drop i l) ≡ own

@@ -3,7 +3,7 @@ use Prim.Native.Nat.{ℕ}
 use mathlib.Core.Path.{_≡_, subst}
 use mathlib.Core.List.{List}
 use Rattle.definitions.specs.List.{Record}
-use Rattle.edit.specs.Putting.{Replaced}
+use Rattle.put.specs.Putting.{Replaced}
 
 pub replaced-same : {n : ℕ} {l l′ : List Record} {keys bits keys′ bits′ : List ℕ} {r : ℕ} → l ≡ l′ → Replaced n l keys bits keys′ bits′ r
     → Replaced n l′ keys bits keys′ bits′ r

@@ -18,7 +18,7 @@ use Rattle.definitions.specs.Calls.Paint.{gained}
 use Rattle.list.specs.Own.{OwnList}
 use Rattle.list.specs.Among.{keysUpTo, keysBelow}
 use Rattle.edit.proofs.Calls.{gained-length}
-use Rattle.edit.proofs.PlanPlaces.{part-length}
+use Rattle.put.proofs.PlanPlaces.{part-length}
 
 -- at most all keys are below x
 pub below-most : (x : ℕ) (keys : List ℕ) → keysBelow x keys ≤ length keys

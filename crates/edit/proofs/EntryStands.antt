@@ -23,13 +23,13 @@ use Rattle.list.specs.Own.{OwnList, shownBy}
 use Rattle.list.specs.Among.{keysBelow, standingAmong}
 use Rattle.list.proofs.Among.{values-of-records, standing-among}
 use Rattle.list.proofs.Own.{own-length}
-use Rattle.edit.specs.Family.{bitsAt}
+use Rattle.put.specs.Family.{bitsAt}
 use Rattle.edit.specs.Content.{contentIn}
 use Rattle.edit.specs.EntryLogged.{run}
-use Rattle.edit.proofs.Places.{place-lt}
+use Rattle.put.proofs.Places.{place-lt}
 use Rattle.edit.proofs.Calls.{gained-in}
-use Rattle.edit.proofs.PlanTop.{records-length}
-use Rattle.edit.proofs.PlanPlaces.{part-until}
+use Rattle.put.proofs.PlanTop.{records-length}
+use Rattle.put.proofs.PlanPlaces.{part-until}
 use Rattle.edit.proofs.EntryPart.{below-first}
 use Rattle.edit.proofs.EntryRun.{closed-length, run-length}
 

@@ -11,7 +11,7 @@ use Rattle.definitions.specs.Refusal.{accepted}
 use Rattle.definitions.specs.Calls.Paint.{painted, gained, paintRefusal, paint, paintKeys, paintBits, paintLogKeys, paintLogValues}
 use Rattle.definitions.proofs.First.{accepted-left}
 use Rattle.edit.specs.EntryLogged.{Logged}
-use Rattle.edit.specs.Putting.{Replaced}
+use Rattle.put.specs.Putting.{Replaced}
 use Rattle.edit.specs.PaintCall.{Painted}
 
 module _ (m s : ℕ) (keys bits : List ℕ) (n : ℕ) (logKeys logValues : List ℕ) (used κ f : ℕ) where

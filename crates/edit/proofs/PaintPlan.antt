@@ -11,14 +11,14 @@ use Rattle.definitions.specs.List.{recordOf}
 use Rattle.definitions.specs.Read.{recordsOf}
 use Rattle.definitions.specs.Calls.Paint.{painted, gained}
 use Rattle.list.specs.Own.{OwnList}
-use Rattle.edit.specs.Put.{planAt}
-use Rattle.edit.specs.PlanFields.{planIn, topFor}
+use Rattle.put.specs.Put.{planAt}
+use Rattle.put.specs.PlanFields.{planIn, topFor}
 use Rattle.edit.specs.PaintCall.{Paintable}
-use Rattle.edit.specs.declared.plan.Plan as code
-use Rattle.edit.proofs.Ready.{Ready}
+use Rattle.put.specs.declared.plan.Plan as code
+use Rattle.put.proofs.Ready.{Ready}
 use Rattle.edit.proofs.Calls.{gained-length}
-use Rattle.edit.proofs.PlanTop.{records-length}
-use Rattle.edit.proofs.PlanPlaces.{part-until}
+use Rattle.put.proofs.PlanTop.{records-length}
+use Rattle.put.proofs.PlanPlaces.{part-until}
 use Rattle.edit.proofs.PlanCalls.{paint-ready, paint-after}
 use Rattle.edit.proofs.EntryPart.{below-first}
 

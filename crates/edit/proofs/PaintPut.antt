@@ -9,13 +9,13 @@ use Rattle.definitions.specs.List.{Record, recordOf}
 use Rattle.definitions.specs.Read.{room, paired, recordsOf}
 use Rattle.definitions.specs.Edit.{contentOf}
 use Rattle.definitions.specs.Calls.Paint.{painted}
-use Rattle.edit.specs.Put.{planAt, planOf, lengthAfter, edited}
-use Rattle.edit.specs.PlanFields.{planIn, topFor}
-use Rattle.edit.specs.Putting.{Puttable, Replaced}
+use Rattle.put.specs.Put.{planAt, planOf, lengthAfter, edited}
+use Rattle.put.specs.PlanFields.{planIn, topFor}
+use Rattle.put.specs.Putting.{Puttable, Replaced}
 use Rattle.edit.specs.PaintCall.{Paintable}
-use Rattle.edit.specs.declared.plan.Plan as code
+use Rattle.put.specs.declared.plan.Plan as code
 use Rattle.edit.proofs.Calls.{paint-content, edited-painted}
-use Rattle.edit.proofs.PlanTop.{plan-for, records-length, length-for}
+use Rattle.put.proofs.PlanTop.{plan-for, records-length, length-for}
 use Rattle.edit.proofs.PaintPlan.{plan-length}
 use Rattle.edit.proofs.EditCallPut.{replaced-same}
 

@@ -13,12 +13,12 @@ use Rattle.definitions.specs.Log.{lastKey, lastContent}
 use Rattle.definitions.specs.Calls.Paint.{painted}
 use Rattle.definitions.specs.Calls.TakeBack.{restored}
 use Rattle.list.specs.Own.{OwnList}
-use Rattle.edit.specs.Put.{isLeaf, firstBits, planAt, lengthAfter}
-use Rattle.edit.specs.PlanFields.{planIn, topFor}
-use Rattle.edit.specs.declared.plan.Plan as code
-use Rattle.edit.proofs.Ready.{Ready}
+use Rattle.put.specs.Put.{isLeaf, firstBits, planAt, lengthAfter}
+use Rattle.put.specs.PlanFields.{planIn, topFor}
+use Rattle.put.specs.declared.plan.Plan as code
+use Rattle.put.proofs.Ready.{Ready}
 use Rattle.edit.proofs.Calls.{paint-content, painted-length, restored-length}
-use Rattle.edit.proofs.PlanTop.{plan-for, plan-ready, records-length, length-for}
+use Rattle.put.proofs.PlanTop.{plan-for, plan-ready, records-length, length-for}
 
 -- a plan for painting block κ with f: the content is one record, with the bits of f
 module _ {m n : ℕ} {keys bits : List ℕ} (own : OwnList m keys bits n) (κ f : ℕ) (valid : validKey m κ ≡ true) (plan : code.Plan)

@@ -14,7 +14,7 @@ use Rattle.definitions.specs.Calls.TakeBack.{restored, takeBackRefusal, usedBef
 use Rattle.definitions.proofs.First.{accepted-left}
 use Rattle.slices.proofs.Sets.{sets-parts}
 use Rattle.log.proofs.Last.{closingCount}
-use Rattle.edit.specs.Putting.{Replaced}
+use Rattle.put.specs.Putting.{Replaced}
 use Rattle.edit.specs.TakingBackCall.{Ended, Cleared, TakenBack}
 use Rattle.edit.proofs.TakingBackLast.{content-fits, entry-before}
 

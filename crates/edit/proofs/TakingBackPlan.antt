@@ -11,12 +11,12 @@ use Rattle.definitions.specs.Read.{recordsOf}
 use Rattle.definitions.specs.Log.{lastKey, lastContent}
 use Rattle.definitions.specs.Calls.TakeBack.{restored}
 use Rattle.log.proofs.Last.{closingKey, closingCount}
-use Rattle.edit.specs.Put.{isLeaf, firstBits, planAt}
-use Rattle.edit.specs.PlanFields.{planIn, topFor}
+use Rattle.put.specs.Put.{isLeaf, firstBits, planAt}
+use Rattle.put.specs.PlanFields.{planIn, topFor}
 use Rattle.edit.specs.TakingBackCall.{Restorable}
-use Rattle.edit.specs.declared.plan.Plan as code
-use Rattle.edit.proofs.Ready.{Ready}
-use Rattle.edit.proofs.PlanTop.{records-length}
+use Rattle.put.specs.declared.plan.Plan as code
+use Rattle.put.proofs.Ready.{Ready}
+use Rattle.put.proofs.PlanTop.{records-length}
 use Rattle.edit.proofs.PlanCalls.{restore-ready, restore-after}
 use Rattle.edit.proofs.TakingBackLast.{entry-key, entry-count, entry-bits}
 

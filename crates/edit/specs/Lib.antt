@@ -1,14 +1,5 @@
-pub mod Family
-pub mod Renew
 pub mod Content
-pub mod Climb
-pub mod Plant
-pub mod Put
-pub mod PlanFields
 pub mod EntryLogged
-pub mod Planting
-pub mod Exchanging
-pub mod Putting
 pub mod EditCallChecks
 pub mod PaintCall
 pub mod TakingBackCall

@@ -7,17 +7,17 @@ ghost use Rattle.definitions.specs.Calls.Paint.{painted, paintRefusal};
 ghost use Rattle.definitions.specs.Calls.TakeBack.{restored, takeBackRefusal};
 ghost use Rattle.definitions.specs.Calls.Empty.{emptied};
 ghost use Rattle.edit.specs.EditCallChecks.{firstRefusal};
-ghost use Rattle.edit.specs.Putting.{Replaced};
+ghost use Rattle.put.specs.Putting.{Replaced};
 ghost use Rattle.edit.specs.PaintCall.{roomRefusal, Paintable, Painted};
 ghost use Rattle.edit.specs.TakingBackCall.{Ended, Restorable, Cleared, TakenBack};
 use crate::entry;
-use crate::plan;
-use crate::putting;
 use definitions::Edited;
 use keys::Key;
 use keys::power;
 use list::check;
 use list::settings;
+use put::plan;
+use put::putting;
 
 // The refusals that both calls test first: 1, 4, 5.
 fn first_refusal(

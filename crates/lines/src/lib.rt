@@ -1,7 +1,6 @@
 // The lines that the listing program prints (document 01, "The listing program"), written into a lent slice.
 ghost use mathlib.Core.Path.{_≡_};
 ghost use Rattle.lines.specs.Lent.{Lent, Printed};
-use list::build;
 
 mod line;
 mod listing;

@@ -9,14 +9,6 @@ pub mod Turn
 pub mod Content
 pub mod Accepted
 pub mod OneBit
-pub mod RasterTests
-pub mod BuildInside
-pub mod CountBlock
-pub mod WriteBlock
-pub mod WrittenBlock
-pub mod FittingBlock
-pub mod BuildRefusal
-pub mod BuildCall
 pub mod Count
 pub mod Among
 pub mod Counted
@@ -24,11 +16,4 @@ pub mod Placed
 pub mod Lookup
 pub mod PartLength
 pub mod Own
-pub mod Painted
-pub mod Rectangle
-pub mod Quadrants
-pub mod Shown
-pub mod FillTurn
-pub mod Rows
 pub mod Tests
-pub mod Answers

@@ -2,7 +2,7 @@
 -- and raster has passed. A table with known tests gives its number by definitions' law `holds-first`, or 0 by `none-first`.
 use Prim.Native.Nat.{ℕ, _*_, _^_, _≤_}
 use mathlib.Core.Path.{_≡_, refl}
-use mathlib.Core.Bool.{true, false, _||_}
+use mathlib.Core.Bool.{Bool, true, false, _||_, true≢false}
 use mathlib.Core.List.{List}
 use native.Mathlib.Omega.{arith}
 use lib.ListN.{length}
@@ -15,7 +15,10 @@ use Rattle.definitions.specs.Calls.Standing.{standingRefusal}
 use Rattle.definitions.specs.Calls.Raster.{rasterRefusal}
 use Rattle.definitions.proofs.RasterOf.{length-to}
 use Rattle.definitions.proofs.First.{first-none}
-use Rattle.list.proofs.RasterTests.{either-false}
+
+pub either-false : (a b : Bool) → a || b ≡ false → (a ≡ false) × (b ≡ false)
+either-false false b e = (refl, e)
+either-false true b e = absurd (true≢false e)
 
 -- settings that refusal 1 passes
 pub record GoodSettings (m s : ℕ) : Type 0 where

@@ -1,8 +1,5 @@
-// The list of a raster: settings and list checked, the list built, the raster given back, and where a block stands in the list.
-pub mod build;
-pub mod calls;
+// What a list is: its settings, the check of a list, and where a block stands among its records.
 pub mod check;
-pub mod fill;
 pub mod one_bit;
 pub mod settings;
 pub mod standing;

@@ -8,8 +8,7 @@ use definitions::Counted;
 use definitions::Done;
 use definitions::Span;
 use definitions::Stands;
-use list::build;
-use list::calls;
+use read::calls;
 
 #[no_mangle]
 pub extern "C" fn hlq_build(

@@ -1,6 +1,6 @@
 -- `entry::entry_length` meets its contract: the records of the block's part, counted by keys, and the closing one.
 use native.Mathlib.Omega.{arith}
-use Rattle.edit.proofs.FamilyRead.{count-some}
+use Rattle.put.proofs.FamilyRead.{count-some}
 use Rattle.edit.proofs.EntryPart.{below-first, up-to-below, step-until, height-fits, step-own, entry-counted}
 use Prim.Native.Nat.{_+_}
 use lib.ListN.{take}

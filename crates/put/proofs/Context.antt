@@ -1,0 +1,80 @@
+-- The context of a block in a list: before it the records of the blocks around it and the lists of the siblings before, after it the lists of
+-- the siblings after. The list is the block's own between the two, where every block around it has more than one feature. Rests on Siblings.
+use Prim.Native.Nat.{ℕ, suc, _+_, _^_}
+use mathlib.Core.Path.{_≡_, refl, sym, _∙_, ap, ap₂}
+use mathlib.Core.Bool.{false}
+use mathlib.Core.List.{List, [], _∷_, _++_, append-assoc, append-nil}
+use native.Mathlib.Nat.{le-refl}
+use Rattle.keys.proofs.Under.{Quadrant, quadrant-under}
+use Rattle.definitions.specs.Picture.{Picture, oneFeature}
+use Rattle.definitions.specs.Bits.{bitsOf}
+use Rattle.definitions.specs.List.{Record, recordOf, listOf}
+use Rattle.definitions.proofs.Features.{several-above}
+use Rattle.definitions.proofs.Ascending.{Ascending, none, next, ascending-append}
+use Rattle.put.proofs.Way.{Way, there, up, under-of}
+use Rattle.put.proofs.Outside.{Outside, outside-up}
+use Rattle.put.proofs.Siblings.{preceding, following, four-split, node-four, preceding-ascends, following-ascends, following-same}
+
+-- the records before a block: of each block around it its own, and then the lists of the siblings before
+unfoldable pub before : Picture → {K R C Κ k r c κ : ℕ} → Way K R C Κ k r c κ → List Record
+before p there = []
+before p (up {k} {r} {c} {κ} q w) = before p w ++ recordOf κ (bitsOf p (suc k) r c) ∷ preceding p q
+
+-- the records after it: the lists of the siblings after
+unfoldable pub after : Picture → {K R C Κ k r c κ : ℕ} → Way K R C Κ k r c κ → List Record
+after p there = []
+after p (up q w) = following p q ++ after p w
+
+-- the block is the outer one, or its parent has more than one feature; so has then every block around it
+abbrev pub Open : Picture → {K R C Κ k r c κ : ℕ} → Way K R C Κ k r c κ → Type 0
+Open p there = Unit {0}
+Open p (up {k} {r} {c} q w) = oneFeature p (suc k) r c ≡ false
+
+-- a block of several features is listed
+pub open-up : (p : Picture) {K R C Κ k r c κ : ℕ} (w : Way K R C Κ k r c κ) → oneFeature p k r c ≡ false → Open p w
+open-up p there e = tt
+open-up p (up q w) e = several-above p (quadrant-under q) e
+
+-- the list with a block's list in the context of another picture
+unfoldable pub spliced : Picture → {K R C Κ k r c κ : ℕ} → Way K R C Κ k r c κ → List Record → List Record
+spliced p w own = before p w ++ (own ++ after p w)
+
+-- at the outer block there is no context
+pub spliced-there : (p : Picture) (K R C Κ : ℕ) (own : List Record) → (let w : Way K R C Κ K R C Κ = there in spliced p w own) ≡ own
+unfolding spliced before after
+spliced-there p K R C Κ own = append-nil own
+
+regroup : (a s own t b : List Record) (e : Record) → a ++ e ∷ s ++ (own ++ (t ++ b)) ≡ a ++ (e ∷ (s ++ (own ++ t)) ++ b)
+regroup a s own t b e = simp append-assoc
+
+-- a level up: the parent's record, the siblings before, the block's list and the siblings after, in the parent's context
+pub spliced-up : (p : Picture) {K R C Κ k r c κ r′ c′ κ′ : ℕ} (q : Quadrant k r c κ r′ c′ κ′) (w : Way K R C Κ (suc k) r c κ) (own : List Record)
+    → spliced p (up q w) own ≡ spliced p w (recordOf κ (bitsOf p (suc k) r c) ∷ (preceding p q ++ (own ++ following p q)))
+unfolding spliced before after
+spliced-up p q w own = regroup (before p w) (preceding p q) own (following p q) (after p w) _
+
+-- the outer block's list is the block's list in its context
+pub context : (p : Picture) {K R C Κ k r c κ : ℕ} (w : Way K R C Κ k r c κ) → Open p w → listOf p K R C Κ ≡ spliced p w (listOf p k r c κ)
+context p {K} {R} {C} {Κ} there o = sym (spliced-there p K R C Κ _)
+context p (up {k} {r} {c} {κ} q w) o =
+    context p w (open-up p w o)
+    ∙ ap (spliced p w) (node-four p k r c κ o ∙ ap (λ l. recordOf κ (bitsOf p (suc k) r c) ∷ l) (four-split p q))
+    ∙ sym (spliced-up p q w _)
+
+-- the keys before a block lie from the outer block's on and below its own
+pub before-ascends : (p : Picture) {K R C Κ k r c κ : ℕ} (w : Way K R C Κ k r c κ) → Ascending Κ κ (before p w)
+unfolding before
+before-ascends p {Κ = Κ} there = none {lo = Κ} {hi = Κ} (le-refl Κ)
+before-ascends p (up {κ = κ} q w) = ascending-append {mid = κ} (before-ascends p w) (next (le-refl κ) (preceding-ascends p q))
+
+-- the keys after it lie at or above its end and below the outer block's
+pub after-ascends : (p : Picture) {K R C Κ k r c κ : ℕ} (w : Way K R C Κ k r c κ) → Ascending (κ + 5 ^ k) (Κ + 5 ^ K) (after p w)
+unfolding after
+after-ascends p {K = K} {Κ = Κ} there = none {lo = Κ + 5 ^ K} {hi = Κ + 5 ^ K} (le-refl (Κ + 5 ^ K))
+after-ascends p (up {k} {κ = κ} q w) = ascending-append {mid = κ + 5 ^ suc k} (following-ascends p q) (after-ascends p w)
+
+-- two pictures that are equal outside a block have the same lists after it
+pub after-same : (p p′ : Picture) {m k r c κ : ℕ} (w : Way m 0 0 0 k r c κ) → Outside p p′ k r c → after p w ≡ after p′ w
+unfolding after
+after-same p p′ there h = refl
+after-same p p′ (up q w) h = ap₂ _++_ (following-same p p′ (under-of w) q h) (after-same p p′ w (outside-up (quadrant-under q) h))

@@ -1,0 +1,90 @@
+-- What searches among keys in order read: the bits of a block, of a child and of a parent are those of the model, and the places are there.
+-- Only the order of the keys is asked. Rests on Among of the list.
+use Prim.Native.Nat.{ℕ, suc, _+_, _-_, _*_, _/_, _^_, _≤_, _<_}
+use mathlib.Core.Path.{_≡_, sym, _∙_, ap, ap₂}
+use mathlib.Core.Bool.{cond}
+use mathlib.Core.List.{List}
+use native.Mathlib.Nat.{pow-suc, div-mul-le-self}
+use native.Mathlib.Omega.{arith}
+use lib.ListN.{length, getD, take}
+use lib.Seq.{getD-take}
+use lib.Bits.{bitOr}
+use borrow.Author.Tests.{eq-eqb, ne-eqb}
+use Rattle.keys.specs.Key.{childKey}
+use Rattle.definitions.specs.Bits.{unionOfFour}
+use Rattle.definitions.specs.List.{Record}
+use Rattle.definitions.specs.Read.{recordsOf}
+use Rattle.definitions.specs.Standing.{placeOf}
+use Rattle.definitions.proofs.Slots.{same-four}
+use Rattle.list.specs.Sorted.{Sorted}
+use Rattle.list.specs.Among.{keysUpTo, placeAmong}
+use Rattle.list.proofs.Among.{found-some, found-most, values-of-records, place-among}
+use Rattle.put.specs.Family.{around, bitsAt, childBits, parentBits}
+
+-- keys in order that begin with the root's have a place for every key
+pub sorted-from : {keys : List ℕ} {n : ℕ} → Sorted keys n 0 → (x : ℕ) → Sorted keys n x
+sorted-from s x = let first = s .first in record { ascends = s .ascends; some = s .some; first = omega arith }
+
+-- a count of keys gives a place
+module _ (keys bits : List ℕ) (n x : ℕ) (fits : n ≤ length keys) (room : n ≤ length bits) (count : ℕ) (is : count ≡ keysUpTo x (take n keys)) where
+  -- it is the place in the records
+  pub place-read : count - 1 ≡ placeOf x (recordsOf keys bits n)
+  unfolding placeAmong
+  place-read = ap (λ k. k - 1) is ∙ sym (place-among keys bits n (omega arith) x)
+
+  -- the bits there are the block's
+  pub bits-read : count - 1 < n → getD bits (count - 1) 0 ≡ bitsAt x (recordsOf keys bits n)
+  unfolding bitsAt
+  bits-read h =
+      sym (getD-take n bits (count - 1) 0 h)
+      ∙ ap₂ (λ l i. getD l i 0) (sym (values-of-records keys bits n (omega arith))) place-read
+
+-- there is such a place
+module _ {keys : List ℕ} {n x : ℕ} (s : Sorted keys n x) (count : ℕ) (is : count ≡ keysUpTo x (take n keys)) where
+  -- a key at or before x is there
+  pub count-some : 1 ≤ count
+  count-some = found-some s count is
+
+  -- so the place is one of the n
+  pub count-below : count - 1 < n
+  count-below = let h = found-some s count is in let i = found-most s count is in omega arith
+
+-- the bits of a child: those in hand for the block itself
+pub child-own : (l : List Record) (own b x : ℕ) → x ≡ own → b ≡ childBits l own b x
+unfolding childBits
+child-own l own b x e = sym (ap (λ t. cond t b (bitsAt x l)) (eq-eqb x own e))
+
+-- those of the list for the others
+pub child-other : (l : List Record) (own b x : ℕ) → (x ≡ own → ⊥) → bitsAt x l ≡ childBits l own b x
+unfolding childBits
+child-other l own b x e = sym (ap (λ t. cond t b (bitsAt x l)) (ne-eqb x own e))
+
+-- a block around a key, by its step
+module _ (key step h : ℕ) (is : step ≡ 5 ^ h) where
+  -- that of the step's height
+  pub around-own : key / step * step ≡ around h key
+  unfolding around
+  around-own = ap (λ s. key / s * s) is
+
+  -- its parent
+  pub around-parent : key / (step * 5) * (step * 5) ≡ around (suc h) key
+  unfolding around
+  around-parent = ap (λ s. key / s * s) (ap (λ s. s * 5) is ∙ sym (pow-suc 5 h))
+
+  -- the bits of the parent by the four children
+  pub parent-read : (l : List Record) (b nw ne sw se : ℕ)
+      → nw ≡ childBits l (key / step * step) b (key / (step * 5) * (step * 5) + step)
+      → ne ≡ childBits l (key / step * step) b (key / (step * 5) * (step * 5) + 2 * step)
+      → sw ≡ childBits l (key / step * step) b (key / (step * 5) * (step * 5) + 3 * step)
+      → se ≡ childBits l (key / step * step) b (key / (step * 5) * (step * 5) + 4 * step)
+      → bitOr (bitOr nw ne) (bitOr sw se) ≡ parentBits l key b h
+  unfolding parentBits unionOfFour
+  parent-read l b nw ne sw se e₁ e₂ e₃ e₄ =
+      let p = around-parent in
+      let child : (d x : ℕ) → x ≡ childKey (around (suc h) key) h d → childBits l (key / step * step) b x ≡ childBits l (around h key) b (childKey (around (suc h) key) h d) =
+      λ d x e. ap₂ (λ own y. childBits l own b y) around-own e in
+      same-four (e₁ ∙ child 1 _ (omega arith)) (e₂ ∙ child 2 _ (omega arith)) (e₃ ∙ child 3 _ (omega arith)) (e₄ ∙ child 4 _ (omega arith))
+
+-- a block around a key begins at or before it
+pub multiple-le : (key step : ℕ) → key / step * step ≤ key
+multiple-le key step = div-mul-le-self key step

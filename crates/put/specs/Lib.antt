@@ -1,0 +1,9 @@
+pub mod Family
+pub mod Renew
+pub mod Climb
+pub mod Plant
+pub mod Put
+pub mod PlanFields
+pub mod Planting
+pub mod Exchanging
+pub mod Putting

@@ -1,0 +1,78 @@
+-- Putting a content into a block of a list: the plan, the records that are exchanged, and the list afterwards. A model in the code's order:
+-- plan, exchange, renew. Rests on Climb, Plant and Renew.
+use Prim.Native.Nat.{ℕ, _+_, _-_, _*_}
+use mathlib.Core.Bool.{Bool, cond}
+use mathlib.Core.List.{List, [], _∷_, _++_}
+use lib.ListN.{length, getD, take, drop}
+use lib.Bits.{bitOr}
+use lib.Dec.{eqb}
+use Rattle.keys.specs.Key.{heightOf}
+use Rattle.definitions.specs.List.{Record, recordOf, keysOf, valuesOf}
+use Rattle.definitions.specs.Standing.{placeOf, partLength}
+use Rattle.put.specs.Family.{around}
+use Rattle.put.specs.Climb.{climb}
+use Rattle.put.specs.Plant.{front, back}
+use Rattle.put.specs.Renew.{renew}
+
+-- the content is one record: the block gets one feature
+abbrev pub isLeaf : List Record → Bool
+isLeaf content = eqb (length content) 1
+
+-- the bits of the block by its content
+abbrev pub firstBits : List Record → ℕ
+firstBits content = getD (valuesOf content) 0 0
+
+-- the height of the block around κ that is filled: κ's own, or where climbing ends
+unfoldable pub topOf : ℕ → List Record → ℕ → List Record → ℕ
+topOf m l κ content =
+    cond (isLeaf content) (climb l κ (firstBits content) (m - heightOf m κ) (heightOf m κ)) (heightOf m κ)
+
+-- the block of height top is filled; old records from place start on are exchanged; the leaf around it is split so many levels, 0 if it is listed
+pub record Plan : Type 0 where
+  pub top : ℕ
+  pub start : ℕ
+  pub old : ℕ
+  pub levels : ℕ
+
+unfoldable pub planAt : ℕ → List Record → ℕ → ℕ → Plan
+planAt m l κ top =
+    record {
+      top = top;
+      start = placeOf (around top κ) l;
+      old = partLength m (around top κ) l;
+      levels = heightOf m (getD (keysOf l) (placeOf (around top κ) l) 0) - top;
+    }
+
+unfoldable pub planOf : ℕ → List Record → ℕ → List Record → Plan
+planOf m l κ content = planAt m l κ (topOf m l κ content)
+
+-- how many records the list has afterwards
+unfoldable pub lengthAfter : List Record → List Record → Plan → ℕ
+lengthAfter l content plan = length l - plan .old + (4 * plan .levels + length content)
+
+-- what the filled block holds: one record with its own key, or the content as it is
+unfoldable pub filling : ℕ → List Record → ℕ → List Record
+filling κ content top = cond (isLeaf content) (recordOf (around top κ) (firstBits content) ∷ []) content
+
+-- the bits of the record at the place where the exchange starts: of the leaf that is split
+abbrev pub bitsBefore : List Record → Plan → ℕ
+bitsBefore l plan = getD (valuesOf l) (plan .start) 0
+
+-- the records that are put in
+unfoldable pub inserted : List Record → ℕ → List Record → Plan → List Record
+inserted l κ content plan =
+    front κ (bitsBefore l plan) (bitOr (bitsBefore l plan) (firstBits content)) (plan .top) (plan .levels)
+    ++ (filling κ content (plan .top) ++ back κ (bitsBefore l plan) (plan .top) (plan .levels))
+
+-- the list with the records exchanged
+unfoldable pub exchanged : List Record → ℕ → List Record → Plan → List Record
+exchanged l κ content plan = take (plan .start) l ++ (inserted l κ content plan ++ drop (plan .start + plan .old) l)
+
+-- and with the bits renewed of the blocks around those that were exchanged
+unfoldable pub renewed : ℕ → List Record → ℕ → Plan → List Record
+renewed m l κ plan =
+    renew l κ (getD (valuesOf l) (plan .start) 0) (m - (plan .top + plan .levels)) (plan .top + plan .levels)
+
+-- the list after the content is put into the block with key κ
+unfoldable pub edited : ℕ → List Record → ℕ → List Record → List Record
+edited m l κ content = renewed m (exchanged l κ content (planOf m l κ content)) κ (planOf m l κ content)

@@ -1,0 +1,48 @@
+// The bits of a block by the list, and those of a parent by its four children: what a way up from a block to the root asks at each level.
+ghost use mathlib.Core.Path.{_≡_};
+ghost use Prim.Native.Nat.{ℕ, _≤_, _<_, _^_};
+ghost use lib.ListN.{length};
+ghost use Rattle.definitions.specs.Read.{recordsOf};
+ghost use Rattle.list.specs.Sorted.{Sorted};
+ghost use Rattle.put.specs.Family.{bitsAt, childBits, parentBits};
+use list::standing;
+
+// The bits of a block by the list: those of the last record at or before its key.
+pub fn bits_at(keys: &[u32], bits: &[u32], n: usize, x: u32) -> u32
+    requires { ⌜ Sorted (now keys) n x ⌝ }
+    requires { ⌜ n ≤ length (now bits) ⌝ }
+    ensures { λ r. ⌜ r ≡ bitsAt x (recordsOf (now (keys .entry)) (now (bits .entry)) n) ⌝ }
+{
+    let place = standing::up_to(keys, n, x) - 1;
+    bits[place]
+}
+
+// The same for a child of a block, where the child with key own has got the bits b and the list still has the old ones.
+fn child_bits(keys: &[u32], bits: &[u32], n: usize, own: u32, b: u32, x: u32) -> u32
+    requires { ⌜ Sorted (now keys) n 0 ⌝ }
+    requires { ⌜ n ≤ length (now bits) ⌝ }
+    ensures { λ r. ⌜ r ≡ childBits (recordsOf (now (keys .entry)) (now (bits .entry)) n) own b x ⌝ }
+{
+    if x == own {
+        return b;
+    }
+    bits_at(keys, bits, n, x)
+}
+
+// The bits of the block of height h + 1 around key, where the one of height h has got the bits b; step is 5 ^ h. Only the keys must be in order:
+// the bits of the blocks above may still be old.
+pub fn parent_bits(keys: &[u32], bits: &[u32], n: usize, key: u32, b: u32, step: u32) -> u32
+    requires { ⌜ Sorted (now keys) n 0 ⌝ }
+    requires { ⌜ n ≤ length (now bits) ⌝ }
+    requires { ⌜ (key < 5 ^ 10) × (1 ≤ step) × (step ≤ 5 ^ 9) ⌝ }
+    ensures { λ r. ⌜ ((h : ℕ) → step ≡ 5 ^ h → r ≡ parentBits (recordsOf (now (keys .entry)) (now (bits .entry)) n) key b h) ⌝ }
+{
+    let own = key / step * step;
+    let wide = step * 5;
+    let parent = key / wide * wide;
+    let nw = child_bits(keys, bits, n, own, b, parent + step);
+    let ne = child_bits(keys, bits, n, own, b, parent + 2 * step);
+    let sw = child_bits(keys, bits, n, own, b, parent + 3 * step);
+    let se = child_bits(keys, bits, n, own, b, parent + 4 * step);
+    (nw | ne) | (sw | se)
+}

@@ -1,0 +1,99 @@
+// What an edit will do, found before anything is written: refusal 9 is decided on it, so that only the end result counts.
+ghost use mathlib.Core.Path.{_≡_};
+ghost use mathlib.Core.Bool.{true};
+ghost use Prim.Native.Nat.{_+_, _-_, _*_, _≤_, _<_, _^_};
+ghost use lib.ListN.{length};
+ghost use Rattle.keys.specs.Key.{validKey};
+ghost use Rattle.definitions.specs.Read.{recordsOf};
+ghost use Rattle.list.specs.Sorted.{Sorted};
+ghost use Rattle.list.specs.Own.{OwnList};
+ghost use Rattle.put.specs.Climb.{climb as climbed};
+ghost use Rattle.put.specs.Put.{planAt};
+ghost use Rattle.put.specs.PlanFields.{planIn, topFor};
+use crate::parents;
+use keys::Key;
+use keys::power;
+use list::standing;
+
+// The block of height top is filled; old records from place start on are exchanged; the leaf around it is split so many levels, 0 if it is listed.
+pub struct Plan {
+    pub top: u32,
+    pub start: usize,
+    pub old: usize,
+    pub levels: u32,
+}
+
+// The height of the largest block around key that has the bits b of one feature, where the block of height low has got them: up as long as the
+// parent's bits are the same.
+pub fn climb(m: u32, keys: &[u32], bits: &[u32], n: usize, key: u32, b: u32, low: u32) -> u32
+    requires { ⌜ (m ≤ 10) × (low ≤ m) × (key < 5 ^ 10) ⌝ }
+    requires { ⌜ Sorted (now keys) n 0 ⌝ }
+    requires { ⌜ n ≤ length (now bits) ⌝ }
+    ensures { λ r. ⌜ r ≡ climbed (recordsOf (now (keys .entry)) (now (bits .entry)) n) key b (m - low) low ⌝ }
+{
+    let mut height = low;
+    let mut step = power::power_of_five(low);
+    while height < m {
+        let parent = parents::parent_bits(keys, bits, n, key, b, step);
+        if parent != b {
+            return height;
+        }
+        height += 1;
+        step = step * 5;
+    }
+    height
+}
+
+// The height of the block around key that is filled: its own, or where climbing ends for a content of one record.
+fn top_of(m: u32, keys: &[u32], bits: &[u32], n: usize, key: u32, leaf: bool, first: u32) -> u32
+    requires { ⌜ (m ≤ 10) × (key < 5 ^ 10) ⌝ }
+    requires { ⌜ Sorted (now keys) n 0 ⌝ }
+    requires { ⌜ n ≤ length (now bits) ⌝ }
+    ensures { λ r. ⌜ r ≡ topFor m (recordsOf (now (keys .entry)) (now (bits .entry)) n) key leaf first ⌝ }
+{
+    let low = Key { number: key }.height(m);
+    if leaf {
+        return climb(m, keys, bits, n, key, first, low);
+    }
+    low
+}
+
+// The plan for a content of which it is known whether it is one record, and its first bits.
+pub fn plan_of(
+    m: u32,
+    keys: &[u32],
+    bits: &[u32],
+    n: usize,
+    key: u32,
+    leaf: bool,
+    first: u32,
+) -> Plan
+    requires { ⌜ (m ≤ 10) × (validKey m key ≡ true) ⌝ }
+    requires { ⌜ OwnList m (now keys) (now bits) n ⌝ }
+    ensures { λ r. ⌜ planIn r ≡ planAt m (recordsOf (now (keys .entry)) (now (bits .entry)) n) key
+        (topFor m (recordsOf (now (keys .entry)) (now (bits .entry)) n) key leaf first) ⌝ }
+{
+    let top = top_of(m, keys, bits, n, key, leaf, first);
+    let step = power::power_of_five(top);
+    let filled = key / step * step;
+    let start = standing::up_to(keys, n, filled) - 1;
+    let end = standing::end_of(keys, n, filled, step);
+    let number = keys[start];
+    let height = Key { number }.height(m);
+    Plan {
+        top,
+        start,
+        old: end - start,
+        levels: height - top,
+    }
+}
+
+// How many records the list has afterwards, for a content of so many records.
+pub fn length_after(n: usize, count: usize, plan: Plan) -> usize
+    requires { ⌜ (plan .old ≤ n) × (plan .levels ≤ 10) × (n + count < 2 ^ 63) ⌝ }
+    ensures { λ r. ⌜ r ≡ n - plan .old + (4 * plan .levels + count) ⌝ }
+{
+    let old = plan.old;
+    let levels = plan.levels;
+    n - old + (4 * (levels as usize) + count)
+}

@@ -1,0 +1,114 @@
+// The calls that ask an accepted list (document 01): where a block stands, the part of the key slice that holds it, and the raster. They refuse
+// by their tables, and require nothing.
+ghost use mathlib.Core.Path.{_≡_};
+ghost use Rattle.definitions.specs.Calls.Standing.{standingRefusal, standing as standingAnswer};
+ghost use Rattle.definitions.specs.Calls.Part.{part as partAnswer, partSpan};
+ghost use Rattle.definitions.specs.Calls.Raster.{rasterRefusal, raster as rasterAnswer, rasterPixels};
+use crate::fill;
+use definitions::Done;
+use definitions::Span;
+use definitions::Standing;
+use definitions::Stands;
+use keys::Key;
+use keys::power;
+use list::check;
+use list::settings;
+use list::standing as search;
+
+// Refusals 1, 4 and 8, or 0.
+fn standing_refusal(m: u32, s: u32, keys: &[u32], bits: &[u32], n: usize, key: u32) -> u64
+    ensures { λ r. ⌜ r ≡ standingRefusal m s (now (keys .entry)) (now (bits .entry)) n key ⌝ }
+{
+    if settings::are_bad(m, s) {
+        return 1;
+    }
+    if !check::is_list(m, s, keys, bits, n) {
+        return 4;
+    }
+    let block = Key { number: key };
+    if block.is_valid(m) { 0 } else { 8 }
+}
+
+// Where a block stands: kind 1 is listed at the place, kind 2 inside the leaf at the place.
+pub fn standing(m: u32, s: u32, keys: &[u32], bits: &[u32], n: usize, key: u32) -> Stands
+    ensures { λ r. ⌜ r ≡ standingAnswer m s (now (keys .entry)) (now (bits .entry)) n key ⌝ }
+{
+    let refusal = standing_refusal(m, s, keys, bits, n, key);
+    if refusal != 0 {
+        return Stands {
+            refusal,
+            kind: 0,
+            place: 0,
+        };
+    }
+    match search::stand(keys, n, key) {
+        Standing::Listed(place) => Stands {
+            refusal: 0,
+            kind: 1,
+            place: place as u64,
+        },
+        Standing::Inside(place) => Stands {
+            refusal: 0,
+            kind: 2,
+            place: place as u64,
+        },
+    }
+}
+
+// Where the part of the key slice that holds a block starts, and how many places it has.
+pub fn part_span(m: u32, s: u32, keys: &[u32], bits: &[u32], n: usize, key: u32) -> Span
+    ensures { λ r. ⌜ r ≡ partSpan m s (now (keys .entry)) (now (bits .entry)) n key ⌝ }
+{
+    if standing_refusal(m, s, keys, bits, n, key) != 0 {
+        return Span {
+            start: 0,
+            length: 0,
+        };
+    }
+    let block = Key { number: key };
+    let step = power::power_of_five(block.height(m));
+    let start = search::up_to(keys, n, key) - 1;
+    let end = search::end_of(keys, n, key, step);
+    let length = end - start;
+    Span {
+        start: start as u64,
+        length: length as u64,
+    }
+}
+
+// The part of the key slice that holds the block and everything below it, or the one record of the leaf around it; empty where it is refused.
+pub fn part<'a>(m: u32, s: u32, keys: &'a [u32], bits: &[u32], n: usize, key: u32) -> &'a [u32]
+    ensures { λ r. ⌜ now r ≡ partAnswer m s (now (keys .entry)) (now (bits .entry)) n key ⌝ }
+{
+    let span = part_span(m, s, keys, bits, n, key);
+    let start = span.start as usize;
+    let end = start + span.length as usize;
+    &keys[start..end]
+}
+
+// Refusals 1, 4 and 2, or 0.
+fn raster_refusal(m: u32, s: u32, keys: &[u32], bits: &[u32], n: usize, raster: &[u8]) -> u64
+    ensures { λ r. ⌜ r ≡ rasterRefusal m s (now (keys .entry)) (now (bits .entry)) n (now (raster .entry)) ⌝ }
+{
+    if settings::are_bad(m, s) {
+        return 1;
+    }
+    if !check::is_list(m, s, keys, bits, n) {
+        return 4;
+    }
+    let side = power::power_of_two(m) as usize;
+    if raster.len() == side * side { 0 } else { 2 }
+}
+
+// The raster of a list.
+pub fn raster(m: u32, s: u32, keys: &[u32], bits: &[u32], n: usize, raster: &mut [u8]) -> Done
+    ensures { λ r. ⌜ r ≡ rasterAnswer m s (now (keys .entry)) (now (bits .entry)) n (now (raster .entry)) ⌝ }
+    ensures { λ _. ⌜ now (raster .exit) ≡ rasterPixels m s (now (keys .entry)) (now (bits .entry)) n (now (raster .entry)) ⌝ }
+{
+    let refusal = raster_refusal(m, s, keys, bits, n, raster);
+    if refusal != 0 {
+        return Done { refusal };
+    }
+    fill::fill_raster(m, keys, bits, n, raster);
+    Done { refusal: 0 }
+}
