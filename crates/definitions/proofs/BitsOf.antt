@@ -8,9 +8,10 @@ use native.Mathlib.Omega.{arith}
 use lib.Pow.{pow-lt, pow-mono}
 use borrow.Author.Tests.{eqb-true, eq-eqb}
 use Rattle.keys.proofs.Cases.{decide, split, same-test}
+use Rattle.keys.proofs.Pixel.{InSquare}
 use Rattle.definitions.specs.Picture.{Picture, oneFeature, featuresBelow}
 use Rattle.definitions.specs.Bits.{hasSlot, unionOfFour, bitsOf}
-use Rattle.definitions.proofs.Within.{Within, within-cases, first-within, pixel-row, pixel-column}
+use Rattle.definitions.proofs.Within.{within-cases, first-within, pixel-row, pixel-column}
 use Rattle.definitions.proofs.Within.{Every, every-nw, every-ne, every-sw, every-se, Somewhere, some-nw, some-ne, some-sw, some-se}
 use Rattle.definitions.proofs.Pixels.{Agree, agree-nw, agree-ne, agree-sw, agree-se}
 use Rattle.definitions.proofs.Features.{one-to, one-from, several-to, below-to, below-from}
@@ -48,7 +49,7 @@ bits-to p (suc k) r c i e =
     (λ h. some-se (bits-to p k (r + 2 ^ k) (c + 2 ^ k) i h))
 
 -- a feature that occurs has its slot set
-pub bits-from : (p : Picture) (k r c r′ c′ : ℕ) → Within k r c r′ c′ → hasSlot (bitsOf p k r c) (p r′ c′) ≡ true
+pub bits-from : (p : Picture) (k r c r′ c′ : ℕ) → InSquare k r c r′ c′ → hasSlot (bitsOf p k r c) (p r′ c′) ≡ true
 bits-from p zero r c r′ c′ w =
     ap (λ x. hasSlot x (p r′ c′)) (bits-zero p r c)
     ∙ slot-power (p r c) (p r′ c′)

@@ -1,26 +1,20 @@
--- A test that every pixel of a block passes: it passes at each pixel of the square, in each quadrant, and in each block under it. Rests on nothing.
-use Prim.Native.Nat.{ℕ, zero, suc, _+_, _^_, _≤_, _<_}
+-- A test that every pixel of a block passes: it passes at each pixel of the square, in each quadrant, and in each block under it. Rests
+-- on Within.
+use Prim.Native.Nat.{ℕ, zero, suc, _+_, _^_}
 use mathlib.Core.Path.{_≡_, refl, sym, subst₂, _∙_}
 use mathlib.Core.Bool.{Bool, true, _&&_}
-use native.Mathlib.Nat.{two-pow-succ}
-use native.Mathlib.Omega.{arith}
-use Rattle.keys.proofs.Cases.{split, and-left, and-right, and-both, same-test}
+use Rattle.keys.proofs.Cases.{and-left, and-right, and-both, same-test}
 use Rattle.keys.proofs.Under.{Under, here, nw, ne, sw, se, Quadrant, is-nw, is-ne, is-sw, is-se}
+use Rattle.keys.proofs.Pixel.{InSquare}
 use Rattle.definitions.specs.Picture.{everyPixel, allFour}
-
--- the pixel lies in the square of side 2 ^ k that begins at a row and a column
-pub record InSquare (k r c row column : ℕ) : Type 0 where
-  pub from-row : r ≤ row
-  pub to-row : row < r + 2 ^ k
-  pub from-column : c ≤ column
-  pub to-column : column < c + 2 ^ k
+use Rattle.definitions.proofs.Within.{first-within, pixel-row, pixel-column, within-nw, within-ne, within-sw, within-se, within-cases}
 
 -- a pixel of a quadrant is a pixel of the block
 pub square-of-quadrant : {k r c κ r′ c′ κ′ row column : ℕ} → Quadrant k r c κ r′ c′ κ′ → InSquare k r′ c′ row column → InSquare (suc k) r c row column
-square-of-quadrant (is-nw {k}) h = let side = two-pow-succ k in omega arith
-square-of-quadrant (is-ne {k}) h = let side = two-pow-succ k in omega arith
-square-of-quadrant (is-sw {k}) h = let side = two-pow-succ k in omega arith
-square-of-quadrant (is-se {k}) h = let side = two-pow-succ k in omega arith
+square-of-quadrant is-nw h = within-nw h
+square-of-quadrant is-ne h = within-ne h
+square-of-quadrant is-sw h = within-sw h
+square-of-quadrant is-se h = within-se h
 
 -- four tests that hold together
 pub record Four (a b c d : Bool) : Type 0 where
@@ -46,9 +40,7 @@ module _ (test : ℕ → ℕ → Bool) where
 
   every-at-pixel : (r c row column : ℕ) → everyPixel test 0 r c ≡ true → InSquare 0 r c row column → test row column ≡ true
   every-at-pixel r c row column e h =
-      let same-row : r ≡ row = omega arith in
-      let same-column : c ≡ column = omega arith in
-      subst₂ (λ x y. test x y ≡ true) same-row same-column (sym (every-of-pixel r c) ∙ e)
+      subst₂ (λ x y. test x y ≡ true) (sym (pixel-row h)) (sym (pixel-column h)) (sym (every-of-pixel r c) ∙ e)
 
   -- the four quadrants of a block pass
   abbrev pub FourPass : ℕ → ℕ → ℕ → Type 0
@@ -85,21 +77,18 @@ module _ (test : ℕ → ℕ → Bool) where
   every-at zero r c {row} {column} e h = every-at-pixel r c row column e h
   every-at (suc k) r c {row} {column} e h =
       let pass = quadrants-pass k r c e in
-      let side = two-pow-succ k in
-      split row (r + 2 ^ k)
-      (λ north. split column (c + 2 ^ k) (λ west. every-at k _ _ (pass .nw) (omega arith)) (λ east. every-at k _ _ (pass .ne) (omega arith)))
-      (λ south. split column (c + 2 ^ k) (λ west. every-at k _ _ (pass .sw) (omega arith)) (λ east. every-at k _ _ (pass .se) (omega arith)))
+      within-cases h (every-at k _ _ (pass .nw)) (every-at k _ _ (pass .ne)) (every-at k _ _ (pass .sw)) (every-at k _ _ (pass .se))
 
   -- where the test passes at each pixel of the square, the block passes
   pub every-of : (k r c : ℕ) → ((row column : ℕ) → InSquare k r c row column → test row column ≡ true) → everyPixel test k r c ≡ true
-  every-of zero r c each = every-of-pixel r c ∙ each r c (omega arith)
+  every-of zero r c each = every-of-pixel r c ∙ each r c (first-within zero r c)
   every-of (suc k) r c each =
       quadrants-make k r c
       (record {
-        nw = every-of k r c (λ row column h. each row column (square-of-quadrant (is-nw {κ = 0}) h));
-        ne = every-of k r (c + 2 ^ k) (λ row column h. each row column (square-of-quadrant (is-ne {κ = 0}) h));
-        sw = every-of k (r + 2 ^ k) c (λ row column h. each row column (square-of-quadrant (is-sw {κ = 0}) h));
-        se = every-of k (r + 2 ^ k) (c + 2 ^ k) (λ row column h. each row column (square-of-quadrant (is-se {κ = 0}) h));
+        nw = every-of k r c (λ row column h. each row column (within-nw h));
+        ne = every-of k r (c + 2 ^ k) (λ row column h. each row column (within-ne h));
+        sw = every-of k (r + 2 ^ k) c (λ row column h. each row column (within-sw h));
+        se = every-of k (r + 2 ^ k) (c + 2 ^ k) (λ row column h. each row column (within-se h));
       })
 
 -- tests that are the same at each pixel of the square are the same of the block

@@ -12,13 +12,13 @@ use Rattle.definitions.specs.Picture.{Picture, oneFeature}
 use Rattle.definitions.specs.Bits.{bitsOf, featureOf}
 use Rattle.definitions.specs.List.{Record, recordOf, listOf, listOfPicture}
 use Rattle.definitions.specs.Read.{valueAt, pictureOf}
-use Rattle.definitions.proofs.Within.{Within, at-offset}
+use Rattle.definitions.proofs.Within.{at-offset}
 use Rattle.definitions.proofs.Pixels.{Agree}
 use Rattle.definitions.proofs.Features.{one-to}
 use Rattle.definitions.proofs.FeatureOf.{feature-of-power, power-inj}
 use Rattle.definitions.proofs.ListOf.{list-zero, list-one, list-node, list-ascends}
 use Rattle.definitions.proofs.ValueAt.{Reads, Silent, value-above, silent-append, reads-left, reads-right, reads-tail, reads-one}
-use Rattle.keys.proofs.Pixel.{pixel-nw, pixel-ne, pixel-sw, pixel-se, pixelKey-lt}
+use Rattle.keys.proofs.Pixel.{InSquare, pixel-nw, pixel-ne, pixel-sw, pixel-se, pixelKey-lt}
 
 reads-as : (x y : ℕ) {x′ y′ : ℕ} (l : List Record) → x ≡ x′ → y′ ≡ y → Reads x′ l y′ → Reads x l y
 reads-as x y l e f h v = ap (λ z. valueAt z v l) e ∙ h v ∙ f
@@ -97,7 +97,7 @@ read-block p (suc k) r c κ r′ c′ h j =
     (reads-as x y list-se (omega arith) (rw (f, g)) (read-block p k (r + 2 ^ k) (c + 2 ^ k) (childKey κ k 4) (r′ - 2 ^ k) (c′ - 2 ^ k) (omega arith) (omega arith)))))))
 
 -- the same at a pixel given by its row and column in the map
-pub read-pixel : (p : Picture) (k r c κ a b : ℕ) → Within k r c a b → Reads (κ + pixelKey k (a - r) (b - c)) (listOf p k r c κ) (2 ^ p a b)
+pub read-pixel : (p : Picture) (k r c κ a b : ℕ) → InSquare k r c a b → Reads (κ + pixelKey k (a - r) (b - c)) (listOf p k r c κ) (2 ^ p a b)
 read-pixel p k r c κ a b w =
     let f : r + (a - r) ≡ a = omega arith in
     let g : c + (b - c) ≡ b = omega arith in

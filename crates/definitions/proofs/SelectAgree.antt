@@ -7,12 +7,13 @@ use mathlib.Core.List.{List, [], _∷_, _++_, map}
 use lib.Dec.{eqb}
 use Rattle.keys.specs.Key.{rootKey, childKey}
 use Rattle.keys.proofs.Under.{Quadrant, is-nw, is-ne, is-sw, is-se}
+use Rattle.keys.proofs.Pixel.{InSquare}
 use Rattle.definitions.specs.Picture.{Picture}
 use Rattle.definitions.specs.Window.{inWindow, isGiven, selectFrom, selectIn}
 use Rattle.definitions.specs.Rules.{findingOf, windowOf, findingsOf, allFindings}
 use Rattle.definitions.specs.declared.Window.{Window}
 use Rattle.definitions.specs.declared.Rule.{Rule}
-use Rattle.definitions.proofs.GivenPixels.{InSquare, square-of-quadrant, every-same}
+use Rattle.definitions.proofs.GivenPixels.{square-of-quadrant, every-same}
 
 -- the pictures have the same feature at each pixel of the square
 abbrev pub SamePixels : Picture → Picture → ℕ → ℕ → ℕ → Type 0

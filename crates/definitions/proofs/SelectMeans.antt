@@ -9,11 +9,12 @@ use borrow.Author.Tests.{eqb-true, eq-eqb}
 use Rattle.keys.specs.Key.{childKey}
 use Rattle.keys.proofs.Cases.{decide, and-left, and-right, and-both}
 use Rattle.keys.proofs.Under.{Under, here, nw, ne, sw, se, Quadrant, is-nw, is-ne, is-sw, is-se, under-trans, quadrant-under}
+use Rattle.keys.proofs.Pixel.{InSquare}
 use Rattle.definitions.specs.Picture.{Picture}
 use Rattle.definitions.specs.Window.{inWindow, isGiven, selectFrom, selectIn}
 use Rattle.definitions.specs.declared.Window.{Window}
 use Rattle.definitions.proofs.FourLists.{one-of-four, IntoFour, into-four}
-use Rattle.definitions.proofs.GivenPixels.{InSquare, every-under, every-at, every-of}
+use Rattle.definitions.proofs.GivenPixels.{every-under, every-at, every-of}
 
 module _ (p : Picture) (w : Window) (f : ℕ) where
   -- each pixel of a given block lies in the window

@@ -1,61 +1,55 @@
 -- The pixels of a block: those whose row and column lie in its square. A pixel of a block lies in one of its quadrants, and what holds at
--- every pixel of the four quadrants holds at every pixel of the block. Rests on nothing.
-use Prim.Native.Nat.{ℕ, zero, suc, _+_, _^_, _≤_, _<_}
+-- every pixel of the four quadrants holds at every pixel of the block. Rests on the keys' `InSquare`.
+use Prim.Native.Nat.{ℕ, zero, suc, _+_, _^_, _<_}
 use mathlib.Core.Path.{_≡_}
 use native.Mathlib.Nat.{pow-suc}
 use native.Mathlib.Omega.{arith}
 use lib.Pow.{pow-pos}
 use Rattle.keys.proofs.Cases.{split}
 use Rattle.keys.proofs.Under.{Under, here, nw, ne, sw, se}
-
--- the pixel (r′ c′) lies in the block of height k at row r and column c
-pub record Within (k r c r′ c′ : ℕ) : Type 0 where
-  pub top : r ≤ r′
-  pub bottom : r′ < r + 2 ^ k
-  pub left : c ≤ c′
-  pub right : c′ < c + 2 ^ k
+use Rattle.keys.proofs.Pixel.{InSquare}
 
 -- what holds at every pixel of the block
 abbrev pub Every : (ℕ → ℕ → Type 0) → ℕ → ℕ → ℕ → Type 0
-Every P k r c = (r′ c′ : ℕ) → Within k r c r′ c′ → P r′ c′
+Every P k r c = (r′ c′ : ℕ) → InSquare k r c r′ c′ → P r′ c′
 
 -- the first pixel is in the block
-pub first-within : (k r c : ℕ) → Within k r c r c
+pub first-within : (k r c : ℕ) → InSquare k r c r c
 first-within k r c = let h = pow-pos k in omega arith
 
 -- a block of height 0 has one pixel: its row is the block's
-pub pixel-row : {r c r′ c′ : ℕ} → Within zero r c r′ c′ → r′ ≡ r
+pub pixel-row : {r c r′ c′ : ℕ} → InSquare zero r c r′ c′ → r′ ≡ r
 pixel-row w = omega arith
 
 -- and its column is the block's
-pub pixel-column : {r c r′ c′ : ℕ} → Within zero r c r′ c′ → c′ ≡ c
+pub pixel-column : {r c r′ c′ : ℕ} → InSquare zero r c r′ c′ → c′ ≡ c
 pixel-column w = omega arith
 
 -- a pixel at offsets below the side is in the block
-pub at-offset : {k r c a b : ℕ} → a < 2 ^ k → b < 2 ^ k → Within k r c (r + a) (c + b)
+pub at-offset : {k r c a b : ℕ} → a < 2 ^ k → b < 2 ^ k → InSquare k r c (r + a) (c + b)
 at-offset {k} {r} {c} {a} {b} h j = omega arith
 
 -- the pixels of a quadrant are pixels of the block
 module _ {k r c r′ c′ : ℕ} where
-  pub within-nw : Within k r c r′ c′ → Within (suc k) r c r′ c′
+  pub within-nw : InSquare k r c r′ c′ → InSquare (suc k) r c r′ c′
   within-nw w = let e = pow-suc 2 k in omega arith
 
-  pub within-ne : Within k r (c + 2 ^ k) r′ c′ → Within (suc k) r c r′ c′
+  pub within-ne : InSquare k r (c + 2 ^ k) r′ c′ → InSquare (suc k) r c r′ c′
   within-ne w = let e = pow-suc 2 k in omega arith
 
-  pub within-sw : Within k (r + 2 ^ k) c r′ c′ → Within (suc k) r c r′ c′
+  pub within-sw : InSquare k (r + 2 ^ k) c r′ c′ → InSquare (suc k) r c r′ c′
   within-sw w = let e = pow-suc 2 k in omega arith
 
-  pub within-se : Within k (r + 2 ^ k) (c + 2 ^ k) r′ c′ → Within (suc k) r c r′ c′
+  pub within-se : InSquare k (r + 2 ^ k) (c + 2 ^ k) r′ c′ → InSquare (suc k) r c r′ c′
   within-se w = let e = pow-suc 2 k in omega arith
 
 -- a pixel of the block lies in one of the quadrants
 pub within-cases {ℓ} : {C : Type ℓ} {k r c r′ c′ : ℕ}
-    → Within (suc k) r c r′ c′
-    → (Within k r c r′ c′ → C)
-    → (Within k r (c + 2 ^ k) r′ c′ → C)
-    → (Within k (r + 2 ^ k) c r′ c′ → C)
-    → (Within k (r + 2 ^ k) (c + 2 ^ k) r′ c′ → C)
+    → InSquare (suc k) r c r′ c′
+    → (InSquare k r c r′ c′ → C)
+    → (InSquare k r (c + 2 ^ k) r′ c′ → C)
+    → (InSquare k (r + 2 ^ k) c r′ c′ → C)
+    → (InSquare k (r + 2 ^ k) (c + 2 ^ k) r′ c′ → C)
     → C
 within-cases {k} {r} {c} {r′} {c′} w in-nw in-ne in-sw in-se =
     let e = pow-suc 2 k in
@@ -89,7 +83,7 @@ module _ {P : ℕ → ℕ → Type 0} {k r c : ℕ} where
 pub record Somewhere (P : ℕ → ℕ → Type 0) (k r c : ℕ) : Type 0 where
   pub row : ℕ
   pub column : ℕ
-  pub within : Within k r c row column
+  pub within : InSquare k r c row column
   pub holds : P row column
 
 -- a pixel of a quadrant is a pixel of the block
@@ -107,7 +101,7 @@ module _ {P : ℕ → ℕ → Type 0} {k r c : ℕ} where
   some-se x = record { row = x .row; column = x .column; within = within-se (x .within); holds = x .holds }
 
 -- the pixels of a block under another are pixels of the other
-pub under-within : {k r c κ k₁ r₁ c₁ κ₁ r′ c′ : ℕ} → Under k r c κ k₁ r₁ c₁ κ₁ → Within k₁ r₁ c₁ r′ c′ → Within k r c r′ c′
+pub under-within : {k r c κ k₁ r₁ c₁ κ₁ r′ c′ : ℕ} → Under k r c κ k₁ r₁ c₁ κ₁ → InSquare k₁ r₁ c₁ r′ c′ → InSquare k r c r′ c′
 under-within here w = w
 under-within (nw u) w = within-nw (under-within u w)
 under-within (ne u) w = within-ne (under-within u w)

@@ -9,9 +9,10 @@ use Rattle.keys.proofs.Cases.{split}
 use Rattle.keys.proofs.Powers.{two-pos}
 use Rattle.keys.proofs.Under.{Under}
 use Rattle.keys.proofs.Interval.{within, one-block}
+use Rattle.keys.proofs.Pixel.{InSquare}
 use Rattle.definitions.specs.Picture.{Picture, oneFeature}
 use Rattle.definitions.specs.List.{listOf}
-use Rattle.definitions.proofs.Within.{Within, Every, Somewhere, under-within}
+use Rattle.definitions.proofs.Within.{Every, Somewhere, under-within}
 use Rattle.definitions.proofs.Features.{one-to, one-from}
 use Rattle.put.proofs.Way.{Way, under-of}
 use Rattle.put.proofs.Outside.{Outside}
@@ -19,7 +20,7 @@ use Rattle.put.proofs.Context.{Open}
 use Rattle.put.proofs.Standing.{LeafAround, leaf-several}
 
 -- a block has a pixel outside every smaller block under it
-elsewhere : {k r c κ k′ r′ c′ κ′ : ℕ} → Under k r c κ k′ r′ c′ κ′ → k′ < k → Somewhere (λ a b. Within k′ r′ c′ a b → ⊥) k r c
+elsewhere : {k r c κ k′ r′ c′ κ′ : ℕ} → Under k r c κ k′ r′ c′ κ′ → k′ < k → Somewhere (λ a b. InSquare k′ r′ c′ a b → ⊥) k r c
 elsewhere {k} {r} {c} {k′ = k′} {r′} u low =
     let w = within u in
     let e = pow-lt low in
@@ -29,7 +30,7 @@ elsewhere {k} {r} {c} {k′ = k′} {r′} u low =
     (λ h. record { row = r + 2 ^ k - 1; column = c; within = omega arith; holds = λ v. omega arith })
 
 -- a pixel lies in a square or not
-within-or {ℓ} : {C : Type ℓ} (k r c a b : ℕ) → (Within k r c a b → C) → ((Within k r c a b → ⊥) → C) → C
+within-or {ℓ} : {C : Type ℓ} (k r c a b : ℕ) → (InSquare k r c a b → C) → ((InSquare k r c a b → ⊥) → C) → C
 within-or k r c a b inn out =
     split a r (λ h. out (λ w. omega arith))
     (λ top.

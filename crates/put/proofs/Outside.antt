@@ -11,7 +11,7 @@ use Rattle.keys.proofs.Parent.{quadrant-of}
 use Rattle.definitions.specs.Picture.{Picture, oneFeature}
 use Rattle.definitions.specs.Bits.{bitsOf}
 use Rattle.definitions.specs.List.{listOf}
-use Rattle.definitions.proofs.Within.{Within, under-within}
+use Rattle.definitions.proofs.Within.{under-within}
 use Rattle.definitions.proofs.Pixels.{Agree}
 use Rattle.definitions.proofs.Features.{one-agree}
 use Rattle.definitions.proofs.BitsOf.{bits-agree}
@@ -19,7 +19,7 @@ use Rattle.definitions.proofs.ListOf.{list-agree}
 
 -- the pictures are equal at every pixel that does not lie in the block
 abbrev pub Outside : Picture → Picture → ℕ → ℕ → ℕ → Type 0
-Outside p q k r c = (a b : ℕ) → (Within k r c a b → ⊥) → p a b ≡ q a b
+Outside p q k r c = (a b : ℕ) → (InSquare k r c a b → ⊥) → p a b ≡ q a b
 
 -- it does not matter which of the two is named first
 pub outside-sym : {p q : Picture} {k r c : ℕ} → Outside p q k r c → Outside q p k r c
@@ -38,13 +38,10 @@ pub apart-pixels : {m k r c κ k′ r′ c′ κ′ a b : ℕ}
     → Block m k r c κ
     → Block m k′ r′ c′ κ′
     → Apart k κ k′ κ′
-    → Within k r c a b
-    → Within k′ r′ c′ a b
+    → InSquare k r c a b
+    → InSquare k′ r′ c′ a b
     → ⊥
-apart-pixels {k = k} {r} {c} {k′ = k′} {r′} {c′} {a = a} {b} u v d w w′ =
-    let s : InSquare k r c a b = omega arith in
-    let s′ : InSquare k′ r′ c′ a b = omega arith in
-    go d (inside u s) (inside v s′)
+apart-pixels u v d w w′ = go d (inside u w) (inside v w′)
   where
     go : {k κ k′ κ′ x : ℕ} → Apart k κ k′ κ′ → InKeys k κ x → InKeys k′ κ′ x → ⊥
     go (inl h) i j = omega arith

@@ -3,7 +3,6 @@
 use Prim.Native.Nat.{ℕ}
 use mathlib.Core.Path.{_≡_, sym, _∙_}
 use mathlib.Core.Bool.{true, false}
-use native.Mathlib.Omega.{arith}
 use Rattle.keys.specs.Key.{validKey, heightOf}
 use Rattle.keys.specs.Block.{rowOf, columnOf, inBlock}
 use Rattle.keys.proofs.Cases.{decide}
@@ -13,7 +12,6 @@ use Rattle.keys.proofs.Pixel.{InSquare}
 use Rattle.keys.proofs.InBlock.{inBlock-iff}
 use Rattle.definitions.specs.Picture.{Picture}
 use Rattle.definitions.specs.Edit.{put, contentOf}
-use Rattle.definitions.proofs.Within.{Within}
 use Rattle.definitions.proofs.Pixels.{Agree}
 use Rattle.definitions.proofs.ListOf.{list-agree}
 use Rattle.put.proofs.Outside.{Outside}
@@ -30,12 +28,12 @@ put-out m κ q p a b e = rw e
 
 -- inside the block put agrees with the new picture
 pub put-inside : {m k r c κ : ℕ} (q p : Picture) → Block m k r c κ → Agree (put m κ q p) q k r c
-put-inside {m} {k} {r} {c} {κ} q p u a b w = let s : InSquare k r c a b = omega arith in put-in m κ q p a b (inBlock-iff a b u .1 s)
+put-inside {m} {κ = κ} q p u a b w = put-in m κ q p a b (inBlock-iff a b u .1 w)
 
 -- outside the block it is equal to the old one
 pub put-outside : {m k r c κ : ℕ} (q p : Picture) → Block m k r c κ → Outside p (put m κ q p) k r c
-put-outside {m} {k} {r} {c} {κ} q p u a b w =
-    decide (inBlock m κ a b) (λ e. absurd (w (let s = inBlock-iff a b u .0 e in omega arith))) (λ e. sym (put-out m κ q p a b e))
+put-outside {m} {κ = κ} q p u a b w =
+    decide (inBlock m κ a b) (λ e. absurd (w (inBlock-iff a b u .0 e))) (λ e. sym (put-out m κ q p a b e))
 
 -- the content of the block is then the new picture's
 pub put-content : (m κ : ℕ) (q p : Picture) → validKey m κ ≡ true → contentOf m (put m κ q p) κ ≡ contentOf m q κ
@@ -44,7 +42,7 @@ put-content m κ q p valid = list-agree (put m κ q p) q (heightOf m κ) (rowOf 
 
 -- put takes pictures that agree on a block that holds κ's to pictures that agree there; inside κ's block the new ones alone count
 pub put-agree : {k r c : ℕ} (m κ : ℕ) (q q′ p p′ : Picture)
-    → ((a b : ℕ) → Within k r c a b → inBlock m κ a b ≡ true → q a b ≡ q′ a b)
+    → ((a b : ℕ) → InSquare k r c a b → inBlock m κ a b ≡ true → q a b ≡ q′ a b)
     → Agree p p′ k r c
     → Agree (put m κ q p) (put m κ q′ p′) k r c
 put-agree m κ q q′ p p′ new old a b w =

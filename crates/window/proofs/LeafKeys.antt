@@ -4,29 +4,24 @@ use Prim.Native.Nat.{ℕ, zero, suc, _+_, _^_}
 use mathlib.Core.Path.{_≡_, sym, _∙_, ap, ap₂}
 use mathlib.Core.Bool.{true, true≢false}
 use mathlib.Core.List.{List, [], _∷_, _++_}
-use native.Mathlib.Nat.{pow-suc}
-use native.Mathlib.Omega.{arith}
-use lib.Pow.{pow-pos}
 use Rattle.keys.specs.Key.{childKey}
 use Rattle.keys.proofs.Cases.{decide, equal}
 use Rattle.keys.proofs.Under.{Quadrant, is-nw, is-ne, is-sw, is-se, quadrant-under}
+use Rattle.keys.proofs.Pixel.{InSquare}
 use Rattle.definitions.specs.Picture.{Picture, oneFeature}
 use Rattle.definitions.specs.Bits.{bitsOf}
 use Rattle.definitions.specs.List.{Record, recordOf, listOf}
 use Rattle.definitions.specs.Window.{isGiven, selectFrom}
 use Rattle.definitions.specs.declared.Window.{Window}
-use Rattle.definitions.proofs.GivenPixels.{InSquare}
 use Rattle.definitions.proofs.Features.{one-to, one-from, one-pixel}
 use Rattle.definitions.proofs.FeatureOf.{power-inj}
+use Rattle.definitions.proofs.Within.{first-within, within-nw, within-ne, within-sw, within-se}
 use Rattle.definitions.proofs.BitsOf.{power-one}
 use Rattle.definitions.proofs.ListOf.{list-one, list-node}
 use Rattle.definitions.proofs.SelectMeans.{given-inside, given-feature, given-of, given-under, select-given, select-pixel, select-quadrants}
 use Rattle.window.specs.Gather.{keysWith}
 use Rattle.window.proofs.Content.{with-none, with-give, with-pass, with-append}
 use Rattle.window.proofs.Largest.{blank, AllInside}
-
-first-in : (k r c : ℕ) → InSquare k r c r c
-first-in k r c = let h = pow-pos k in omega arith
 
 nothing-four : {a b c d : List ℕ} → a ≡ [] → b ≡ [] → c ≡ [] → d ≡ [] → a ++ (b ++ (c ++ d)) ≡ []
 nothing-four e f g h = ap₂ (λ x y. x ++ y) e (ap₂ (λ x y. x ++ y) f (ap₂ (λ x y. x ++ y) g h))
@@ -43,26 +38,25 @@ module _ (p : Picture) (w : Window) (f : ℕ) where
   -- a block of feature f in the window is given
   one-given : (k r c : ℕ) → AllInside w k r c → oneFeature p k r c ≡ true → p r c ≡ f → isGiven p w f k r c ≡ true
   one-given k r c inside one has =
-      given-of p w f k r c (λ row column i. (given-inside blank w 0 k r c inside i, one-to p k r c one row column (omega arith) ∙ has))
+      given-of p w f k r c (λ row column i. (given-inside blank w 0 k r c inside i, one-to p k r c one row column i ∙ has))
 
   given-one : (k r c : ℕ) → isGiven p w f k r c ≡ true → (oneFeature p k r c ≡ true) × (p r c ≡ f)
   given-one k r c given =
       let each : (row column : ℕ) → InSquare k r c row column → p row column ≡ f = λ row column i. given-feature p w f k r c given i in
-      (one-from p f k r c (λ row column i. each row column (omega arith)), each r c (first-in k r c))
+      (one-from p f k r c each, each r c (first-within k r c))
 
   -- a block of another feature gives nothing
   other-nothing : (k r c κ : ℕ) → ((row column : ℕ) → InSquare k r c row column → p row column ≡ f → ⊥) → selectFrom p w f k r c κ ≡ []
   other-nothing zero r c κ other =
       select-pixel p w f r c κ
-      (decide (isGiven p w f zero r c) (λ given. absurd (other r c (first-in zero r c) (given-one zero r c given .1))) (λ e. e))
+      (decide (isGiven p w f zero r c) (λ given. absurd (other r c (first-within zero r c) (given-one zero r c given .1))) (λ e. e))
   other-nothing (suc k) r c κ other =
-      let two = pow-suc 2 k in
       select-quadrants p w f k r c κ
-      (decide (isGiven p w f (suc k) r c) (λ given. absurd (other r c (first-in (suc k) r c) (given-one (suc k) r c given .1))) (λ e. e))
-      ∙ nothing-four (other-nothing k r c (childKey κ k 1) (λ row column i. other row column (omega arith)))
-      (other-nothing k r (c + 2 ^ k) (childKey κ k 2) (λ row column i. other row column (omega arith)))
-      (other-nothing k (r + 2 ^ k) c (childKey κ k 3) (λ row column i. other row column (omega arith)))
-      (other-nothing k (r + 2 ^ k) (c + 2 ^ k) (childKey κ k 4) (λ row column i. other row column (omega arith)))
+      (decide (isGiven p w f (suc k) r c) (λ given. absurd (other r c (first-within (suc k) r c) (given-one (suc k) r c given .1))) (λ e. e))
+      ∙ nothing-four (other-nothing k r c (childKey κ k 1) (λ row column i. other row column (within-nw i)))
+      (other-nothing k r (c + 2 ^ k) (childKey κ k 2) (λ row column i. other row column (within-ne i)))
+      (other-nothing k (r + 2 ^ k) c (childKey κ k 3) (λ row column i. other row column (within-sw i)))
+      (other-nothing k (r + 2 ^ k) (c + 2 ^ k) (childKey κ k 4) (λ row column i. other row column (within-se i)))
 
   -- a leaf in the window gives itself if it has the feature
   leaf-selected : (k r c κ : ℕ) → AllInside w k r c → oneFeature p k r c ≡ true → keysWith (2 ^ f) (listOf p k r c κ) ≡ selectFrom p w f k r c κ
@@ -76,7 +70,7 @@ module _ (p : Picture) (w : Window) (f : ℕ) where
       (λ other.
       with-pass (2 ^ f) (recordOf κ (2 ^ p r c)) [] (λ same. other (power-inj (p r c) f same))
       ∙ with-none (2 ^ f)
-      ∙ sym (other-nothing k r c κ (λ row column i has. other (sym (one-to p k r c one row column (omega arith)) ∙ has))))
+      ∙ sym (other-nothing k r c κ (λ row column i has. other (sym (one-to p k r c one row column i) ∙ has))))
 
   -- all pixels of a quadrant of a block in the window lie in the window
   inside-quadrant : {k r c κ r′ c′ κ′ : ℕ} → AllInside w (suc k) r c → Quadrant k r c κ r′ c′ κ′ → AllInside w k r′ c′

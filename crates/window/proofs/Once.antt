@@ -11,11 +11,10 @@ use Rattle.keys.proofs.Cases.{decide, split}
 use Rattle.keys.proofs.Powers.{five-pos, five-le}
 use Rattle.keys.proofs.Under.{Under, here, Quadrant, is-nw, is-ne, is-sw, is-se, under-trans, quadrant-under}
 use Rattle.keys.proofs.Interval.{within, apart, nest, one-block}
-use Rattle.keys.proofs.Pixel.{inside}
+use Rattle.keys.proofs.Pixel.{InSquare, inside}
 use Rattle.definitions.specs.Picture.{Picture}
 use Rattle.definitions.specs.Window.{inWindow, isGiven}
 use Rattle.definitions.specs.declared.Window.{Window}
-use Rattle.definitions.proofs.GivenPixels.{InSquare}
 use Rattle.definitions.proofs.SelectMeans.{given-inside, given-feature, given-of, given-under, Largest, is-outer, has-parent, Selected}
 
 -- a block under another that has the same height has the same key

@@ -10,11 +10,10 @@ use Rattle.keys.specs.Block.{pixelKey}
 use Rattle.keys.proofs.Cases.{split}
 use Rattle.keys.proofs.Powers.{two-pos}
 use Rattle.keys.proofs.Interval.{within}
-use Rattle.keys.proofs.Pixel.{inside}
+use Rattle.keys.proofs.Pixel.{InSquare, inside}
 use Rattle.definitions.specs.Window.{inWindow, selectIn}
 use Rattle.definitions.specs.declared.Window.{Window}
 use Rattle.definitions.proofs.AscendingKeys.{AscendingKeys, no-key, key, ascending-widen}
-use Rattle.definitions.proofs.GivenPixels.{InSquare}
 use Rattle.definitions.proofs.SelectMeans.{given-inside, Selected, select-in-exactly}
 use Rattle.definitions.proofs.SelectAscends.{select-unique, select-in-ascends}
 use Rattle.window.specs.declared.walk.Spot.{Spot}

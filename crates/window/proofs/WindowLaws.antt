@@ -8,13 +8,13 @@ use mathlib.Core.List.{List, [], _∷_, List·Memᴰ, List·Memᴰ·head, List·
 use native.Mathlib.Omega.{arith}
 use lib.ListN.{length}
 use Rattle.keys.specs.Block.{inBlock}
-use Rattle.keys.proofs.Powers.{two-pos}
 use Rattle.keys.proofs.InBlock.{inBlock-iff}
+use Rattle.keys.proofs.Pixel.{InSquare}
 use Rattle.definitions.specs.Picture.{Picture}
 use Rattle.definitions.specs.Bits.{hasSlot}
 use Rattle.definitions.specs.Window.{isWindow, inWindow, existIn, reportIn, selectIn}
 use Rattle.definitions.specs.declared.Window.{Window}
-use Rattle.definitions.proofs.GivenPixels.{InSquare}
+use Rattle.definitions.proofs.Within.{first-within}
 use Rattle.definitions.proofs.SelectMeans.{given-inside, given-feature, Selected, select-in-exactly}
 use Rattle.definitions.proofs.WindowScan.{exist-exactly, exist-report}
 use Rattle.window.proofs.Lies.{window-pixel}
@@ -37,7 +37,7 @@ module _ (m : ℕ) (p : Picture) (w : Window) (f : ℕ) where
     pub holds : inBlock m key row column ≡ true
 
   square-of : {x row column : ℕ} (s : Selected p w f m 0 0 0 x) → inBlock m x row column ≡ true → InSquare (s .height) (s .row) (s .column) row column
-  square-of {row = row} {column} s e = let i = inBlock-iff row column (s .under) .0 e in omega arith
+  square-of {row = row} {column} s e = inBlock-iff row column (s .under) .0 e
 
   -- the blocks that select gives are disjoint: two with a pixel in common are one
   pub select-disjoint : {x y : ℕ} (row column : ℕ)
@@ -64,7 +64,7 @@ module _ (m : ℕ) (p : Picture) (w : Window) (f : ℕ) where
       record {
         key = x .key;
         given = select-in-exactly p w f m .1 (x .selected);
-        holds = inBlock-iff row column (x .selected .under) .1 (omega arith);
+        holds = inBlock-iff row column (x .selected .under) .1 (x .holds);
       }
 
   -- together they have exactly the window's pixels of feature f
@@ -85,8 +85,7 @@ module _ (m : ℕ) (p : Picture) (w : Window) (f : ℕ) where
     λ h.
         let x = first-member (selectIn m p w f) h in
         let s = select-in-exactly p w f m .0 (x .1) in
-        let some = two-pos (s .height) in
-        let first : InSquare (s .height) (s .row) (s .column) (s .row) (s .column) = omega arith in
+        let first = first-within (s .height) (s .row) (s .column) in
         exist-exactly p w f .1
         (record {
           row = s .row;
