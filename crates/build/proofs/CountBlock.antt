@@ -1,5 +1,5 @@
 -- Counting a block's records: the count of four quadrants gives the block's, it does not depend on the key, and it is at most 5 ^ height.
--- Rests on OneBit and on the equations of bits and lists.
+-- Rests on the list's OneSlot and on the equations of bits and lists.
 use Prim.Native.Nat.{ℕ, zero, suc, _+_, _^_, _≤_}
 use mathlib.Core.Path.{_≡_, refl, sym, _∙_, ap}
 use mathlib.Core.Bool.{true, false, cond}
@@ -15,9 +15,9 @@ use Rattle.definitions.specs.List.{listOf}
 use Rattle.definitions.proofs.Slots.{same-four}
 use Rattle.definitions.proofs.BitsOf.{bits-zero, bits-suc}
 use Rattle.definitions.proofs.ListOf.{list-zero, list-leaf, length-node}
-use Rattle.list.specs.OneBit.{oneBit}
+use Rattle.list.specs.Check.{oneSlot}
 use Rattle.build.specs.BuildBlocks.{Tallied, Joined}
-use Rattle.list.proofs.OneBit.{one-bit-block}
+use Rattle.list.proofs.OneSlot.{slot-feature}
 
 -- sums of equal numbers are equal
 pub same-sum : {a b c d a′ b′ c′ d′ : ℕ} → a ≡ a′ → b ≡ b′ → c ≡ c′ → d ≡ d′ → suc (a + (b + (c + d))) ≡ suc (a′ + (b′ + (c′ + d′)))
@@ -50,10 +50,10 @@ list-five p (suc k) r c κ =
     omega arith)
 
 -- four quadrants together, by the test of their union
-pub joined-alike : (union under : ℕ) → oneBit union ≡ true → Joined union under union 1
+pub joined-alike : (union under : ℕ) → oneSlot union ≡ true → Joined union under union 1
 joined-alike union under e = record { bits-are = refl; count-is = rw e }
 
-pub joined-apart : (union under : ℕ) → oneBit union ≡ false → Joined union under union (1 + under)
+pub joined-apart : (union under : ℕ) → oneSlot union ≡ false → Joined union under union (1 + under)
 joined-apart union under e = record { bits-are = refl; count-is = rw e }
 
 -- a pixel has one record
@@ -102,8 +102,8 @@ module _ (p : Picture) (k half r c : ℕ) (e : half ≡ 2 ^ k) {b₁ b₂ b₃ b
   tallied-four = record {
     bits-are = j .bits-are ∙ union;
     count-is = j .count-is
-        ∙ ap (λ x. cond (oneBit x) 1 (1 + (n₁ + (n₂ + (n₃ + n₄))))) union
-        ∙ ap (λ x. cond x 1 (1 + (n₁ + (n₂ + (n₃ + n₄))))) (one-bit-block p (suc k) r c)
+        ∙ ap (λ x. cond (oneSlot x) 1 (1 + (n₁ + (n₂ + (n₃ + n₄))))) union
+        ∙ ap (λ x. cond x 1 (1 + (n₁ + (n₂ + (n₃ + n₄))))) (slot-feature p (suc k) r c)
         ∙ count;
   }
 

@@ -15,9 +15,9 @@ use Rattle.definitions.specs.Bits.{unionOfFour}
 use Rattle.definitions.specs.List.{listOf, keysOf, valuesOf}
 use Rattle.definitions.proofs.Features.{several-above}
 use Rattle.definitions.proofs.ListOf.{length-node, list-some}
-use Rattle.list.specs.OneBit.{oneBit}
+use Rattle.list.specs.Check.{oneSlot}
 use Rattle.build.specs.BuildBlocks.{below, Fitting, FourAsked, Written}
-use Rattle.list.proofs.OneBit.{one-bit-block}
+use Rattle.list.proofs.OneSlot.{slot-feature}
 use Rattle.build.proofs.CountBlock.{same-sum, length-key, list-five, four-bits}
 
 -- writing leaves the slices as long as they were
@@ -115,10 +115,10 @@ module _ (p : Picture) (k half step r c key place : ℕ) (e : half ≡ 2 ^ k) (g
             (λ s. let n = node-length s in omega (arith, w₁ .next-is, w₂ .next-is, w₃ .next-is))
 
         module _ {keys₄ bits₄ : List ℕ} {b₄ last : ℕ} (w₄ : Written p k (r + half) (c + half) (key + 4 * step) i₄ keys₃ bits₃ keys₄ bits₄ b₄ last) where
-          apart : oneBit (unionOfFour b₁ b₂ b₃ b₄) ≡ false → oneFeature p (suc k) r c ≡ false
+          apart : oneSlot (unionOfFour b₁ b₂ b₃ b₄) ≡ false → oneFeature p (suc k) r c ≡ false
           apart s =
-              sym (one-bit-block p (suc k) r c)
-              ∙ ap oneBit (sym (four-bits p k half r c e (w₁ .union-is) (w₂ .union-is) (w₃ .union-is) (w₄ .union-is)))
+              sym (slot-feature p (suc k) r c)
+              ∙ ap oneSlot (sym (four-bits p k half r c e (w₁ .union-is) (w₂ .union-is) (w₃ .union-is) (w₄ .union-is)))
               ∙ s
 
           -- the places of the quadrants' own records are in their order, and there are such places where they are written

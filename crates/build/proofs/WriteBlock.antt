@@ -10,7 +10,7 @@ use native.Mathlib.Numerals.{add-one}
 use lib.ListN.{length, set}
 use lib.Seq.{sets, set-comm}
 use Rattle.definitions.specs.Bits.{unionOfFour}
-use Rattle.list.specs.OneBit.{oneBit}
+use Rattle.list.specs.Check.{oneSlot}
 use Rattle.build.specs.BuildBlocks.{fourSet, FourWritten}
 
 -- a store before a run of stores
@@ -62,10 +62,10 @@ module _ (l : List ℕ) (a b c d w x y z : ℕ) (s t u v : List ℕ)
 
 -- the quadrants' own records, by the test of their union
 module _ (key step place nw ne sw se second third fourth last : ℕ) (keys bits : List ℕ) (union : ℕ) (e : union ≡ unionOfFour nw ne sw se) where
-  pub four-alike : oneBit union ≡ true → FourWritten key step place nw ne sw se second third fourth last keys bits keys bits union (place + 1)
+  pub four-alike : oneSlot union ≡ true → FourWritten key step place nw ne sw se second third fourth last keys bits keys bits union (place + 1)
   four-alike t = record { union-is = e; next-is = rw t; keys-are = rw t; bits-are = rw t }
 
-  pub four-apart : oneBit union ≡ false
+  pub four-apart : oneSlot union ≡ false
       → FourWritten key step place nw ne sw se second third fourth last keys bits
       (fourSet keys (place + 1) second third fourth (key + step) (key + 2 * step) (key + 3 * step) (key + 4 * step))
       (fourSet bits (place + 1) second third fourth nw ne sw se)

@@ -16,9 +16,9 @@ use Rattle.definitions.specs.List.{Record, recordOf, listOf}
 use Rattle.definitions.proofs.Features.{one-under}
 use Rattle.definitions.proofs.BitsOf.{bits-zero}
 use Rattle.definitions.proofs.ListOf.{list-zero, list-leaf, list-node, list-one, list-first, length-node}
-use Rattle.list.specs.OneBit.{oneBit}
+use Rattle.list.specs.Check.{oneSlot}
 use Rattle.build.specs.BuildBlocks.{below, fourSet, FourWritten, Written}
-use Rattle.list.proofs.OneBit.{one-bit-block}
+use Rattle.list.proofs.OneSlot.{slot-feature}
 use Rattle.build.proofs.CountBlock.{four-bits}
 use Rattle.build.proofs.WriteBlock.{four-runs}
 
@@ -131,8 +131,8 @@ module _ (p : Picture) (k r c key place : ℕ) {keys bits keys₁ bits₁ keys�
   union : b ≡ bitsOf p (suc k) r c
   union = f .union-is ∙ four-bits p k (2 ^ k) r c refl (w₁ .union-is) (w₂ .union-is) (w₃ .union-is) (w₄ .union-is)
 
-  test : oneBit b ≡ oneFeature p (suc k) r c
-  test = ap oneBit union ∙ one-bit-block p (suc k) r c
+  test : oneSlot b ≡ oneFeature p (suc k) r c
+  test = ap oneSlot union ∙ slot-feature p (suc k) r c
 
   same-keys : oneFeature p (suc k) r c ≡ true → keys₄ ≡ keys
   same-keys one =
@@ -150,7 +150,7 @@ module _ (p : Picture) (k r c key place : ℕ) {keys bits keys₁ bits₁ keys�
 
   alike : oneFeature p (suc k) r c ≡ true → Written p (suc k) r c key place keys bits keys′ bits′ b n
   alike one =
-      let t : oneBit b ≡ true = test ∙ one in
+      let t : oneSlot b ≡ true = test ∙ one in
       let none = below-one p (suc k) r c key one in
       record {
         union-is = union;
@@ -164,7 +164,7 @@ module _ (p : Picture) (k r c key place : ℕ) {keys bits keys₁ bits₁ keys�
 
   apart : oneFeature p (suc k) r c ≡ false → Written p (suc k) r c key place keys bits keys′ bits′ b n
   apart several =
-      let t : oneBit b ≡ false = test ∙ several in
+      let t : oneSlot b ≡ false = test ∙ several in
       record {
         union-is = union;
         next-is = let e = (rw t at (f .next-is)) in

@@ -8,7 +8,7 @@ use lib.ListN.{length, getD, drop, set}
 use lib.Seq.{sets}
 use Rattle.definitions.specs.Picture.{Picture, oneFeature}
 use Rattle.definitions.specs.Bits.{unionOfFour, bitsOf}
-use Rattle.list.specs.OneBit.{oneBit}
+use Rattle.list.specs.Check.{oneSlot}
 use Rattle.definitions.specs.List.{Record, listOf, keysOf, valuesOf}
 
 -- the feature at a row and a column of rows of the given length
@@ -27,7 +27,7 @@ pub record Inside (raster : List ℕ) (side height row column : ℕ) : Type 0 wh
 -- what a block of four quadrants has: one record where they have one feature together, else its own and theirs
 pub record Joined (union under bits count : ℕ) : Type 0 where
   pub bits-are : bits ≡ union
-  pub count-is : count ≡ cond (oneBit union) 1 (1 + under)
+  pub count-is : count ≡ cond (oneSlot union) 1 (1 + under)
 
 -- the bits of a block and the number of its records
 pub record Tallied (p : Picture) (height row column bits count : ℕ) : Type 0 where
@@ -48,8 +48,8 @@ pub record FourAsked (key step place union second third fourth : ℕ) (keys bits
   pub first-second : place + 1 < second
   pub second-third : second < third
   pub third-fourth : third < fourth
-  pub keys-room : oneBit union ≡ false → fourth < length keys
-  pub bits-room : oneBit union ≡ false → fourth < length bits
+  pub keys-room : oneSlot union ≡ false → fourth < length keys
+  pub bits-room : oneSlot union ≡ false → fourth < length bits
 
 -- four numbers written at four places, the last place first
 abbrev pub fourSet : List ℕ → ℕ → ℕ → ℕ → ℕ → ℕ → ℕ → ℕ → ℕ → List ℕ
@@ -58,9 +58,9 @@ fourSet l a b c d w x y z = set (set (set (set l d z) c y) b x) a w
 -- the quadrants' own records stand at their places where the four have several features together; else nothing was written
 pub record FourWritten (key step place nw ne sw se second third fourth last : ℕ) (keys bits keys′ bits′ : List ℕ) (union next : ℕ) : Type 0 where
   pub union-is : union ≡ unionOfFour nw ne sw se
-  pub next-is : next ≡ cond (oneBit union) (place + 1) last
-  pub keys-are : keys′ ≡ cond (oneBit union) keys (fourSet keys (place + 1) second third fourth (key + step) (key + 2 * step) (key + 3 * step) (key + 4 * step))
-  pub bits-are : bits′ ≡ cond (oneBit union) bits (fourSet bits (place + 1) second third fourth nw ne sw se)
+  pub next-is : next ≡ cond (oneSlot union) (place + 1) last
+  pub keys-are : keys′ ≡ cond (oneSlot union) keys (fourSet keys (place + 1) second third fourth (key + step) (key + 2 * step) (key + 3 * step) (key + 4 * step))
+  pub bits-are : bits′ ≡ cond (oneSlot union) bits (fourSet bits (place + 1) second third fourth nw ne sw se)
 
 -- the records below a block: all but its own
 abbrev pub below : Picture → ℕ → ℕ → ℕ → ℕ → List Record

@@ -10,7 +10,7 @@ ghost use Rattle.build.specs.BuildBlocks.{pictureOfRows, Inside, Joined,
 use definitions::Counted;
 use keys::Key;
 use keys::power;
-use list::one_bit;
+use list::check;
 use list::settings;
 
 // The bits of a block, and how many records its list has.
@@ -63,7 +63,7 @@ fn joined(nw: Tally, ne: Tally, sw: Tally, se: Tally) -> Tally
     let north = nw.bits | ne.bits;
     let south = sw.bits | se.bits;
     let bits = north | south;
-    if one_bit::is_one_bit(bits) {
+    if check::has_one_slot(bits) {
         return Tally { bits, count: 1 };
     }
     let southern = sw.count + se.count;
@@ -139,7 +139,7 @@ fn write_four(
     let south = sw.bits | se.bits;
     let union = north | south;
     let first = place + 1;
-    if one_bit::is_one_bit(union) {
+    if check::has_one_slot(union) {
         return Below {
             bits: union,
             next: first,

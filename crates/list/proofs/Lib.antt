@@ -8,7 +8,6 @@ pub mod Accepts
 pub mod Turn
 pub mod Content
 pub mod Accepted
-pub mod OneBit
 pub mod Count
 pub mod Among
 pub mod Counted

@@ -6,12 +6,12 @@ use Rattle.build.proofs.CountBlock.{joined-alike, joined-apart}
 use Rattle.build.proofs.joined.Statement.{statement}
 use Rattle.build.proofs.joined.Tie as tie
 
-is-one-bit-requires : tie.Need-is-one-bit-requires
-is-one-bit-requires c κs = search needs
+has-one-slot-requires : tie.Need-has-one-slot-requires
+has-one-slot-requires c κs = search needs
 
 returns : tie.Need-returns
 unfolding unionOfFour
-returns c = joined-alike _ _ (sym (c .before .is-one-bit .ensures) ∙ c .if1 .taken)
+returns c = joined-alike _ _ (sym (c .before .has-one-slot .ensures) ∙ c .if1 .taken)
 
 add-southern : tie.Need-add-southern
 add-southern c = search needs
@@ -27,7 +27,7 @@ add-t12 c = search needs
 
 returns-2 : tie.Need-returns-2
 unfolding unionOfFour
-returns-2 c = joined-apart _ _ (sym (c .before .before .before .before .before .is-one-bit .ensures) ∙ c .before .before .before .before .if1 .left)
+returns-2 c = joined-apart _ _ (sym (c .before .before .before .before .before .has-one-slot .ensures) ∙ c .before .before .before .before .if1 .left)
 
 pub joined-spec : {M : Type 1} → statement M
-joined-spec = tie.close (tie.spec is-one-bit-requires returns add-southern add-others add-below add-t12 returns-2)
+joined-spec = tie.close (tie.spec has-one-slot-requires returns add-southern add-others add-below add-t12 returns-2)

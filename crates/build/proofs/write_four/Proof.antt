@@ -5,7 +5,7 @@ use mathlib.Core.Bool.{false}
 use native.Mathlib.Omega.{arith}
 use lib.ListN.{length, length-set}
 use Rattle.definitions.specs.Bits.{unionOfFour}
-use Rattle.list.specs.OneBit.{oneBit}
+use Rattle.list.specs.Check.{oneSlot}
 use Rattle.build.proofs.WriteBlock.{four-alike, four-apart}
 use Rattle.build.proofs.write_four.Statement.{statement}
 use Rattle.build.proofs.write_four.Tie as tie
@@ -14,9 +14,9 @@ use Rattle.build.proofs.write_four.Tie as tie
 abbrev start : tie.Else1 → tie.Start
 start c = c .before .before .before .before .before .before .before .before
 
-several : (c : tie.Else1) → oneBit (unionOfFour (start c .args .nw .bits) (start c .args .ne .bits) (start c .args .sw .bits) (start c .args .se .bits)) ≡ false
+several : (c : tie.Else1) → oneSlot (unionOfFour (start c .args .nw .bits) (start c .args .ne .bits) (start c .args .sw .bits) (start c .args .se .bits)) ≡ false
 unfolding unionOfFour
-several c = sym (c .before .is-one-bit .ensures) ∙ c .if1 .left
+several c = sym (c .before .has-one-slot .ensures) ∙ c .if1 .left
 
 keys-last : (c : tie.Else1) → start c .args .sw .next < length (start c .args .keys .now)
 keys-last c = start c .pre .keys-room (several c)
@@ -27,12 +27,12 @@ bits-last c = start c .pre .bits-room (several c)
 add-first : tie.Need-add-first
 add-first c = omega arith
 
-is-one-bit-requires : tie.Need-is-one-bit-requires
-is-one-bit-requires c κs = tt
+has-one-slot-requires : tie.Need-has-one-slot-requires
+has-one-slot-requires c κs = tt
 
 returns : tie.Need-returns
 unfolding unionOfFour
-returns c = four-alike _ _ _ _ _ _ _ _ _ _ _ _ _ _ refl (sym (c .before .is-one-bit .ensures) ∙ c .if1 .taken)
+returns c = four-alike _ _ _ _ _ _ _ _ _ _ _ _ _ _ refl (sym (c .before .has-one-slot .ensures) ∙ c .if1 .taken)
 
 mul-keys : tie.Need-mul-keys
 mul-keys c = omega (arith, start c .pre)
@@ -118,7 +118,7 @@ write-four-spec =
     tie.close
     (tie.spec
     add-first
-    is-one-bit-requires
+    has-one-slot-requires
     returns
     mul-keys
     add-keys
