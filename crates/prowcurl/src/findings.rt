@@ -25,9 +25,37 @@ pub extern "C" fn hlq_findings(
         × (now («found_ids» .exit) ≡ findingsIds m s (now (keys .entry)) (now (bits .entry)) n (now (rules .entry)) (now («waiver_ids» .entry)) (now («waiver_keys» .entry)) (now («found_ids» .entry)) (now («found_keys» .entry)))
         × (now («found_keys» .exit) ≡ findingsKeys m s (now (keys .entry)) (now (bits .entry)) n (now (rules .entry)) (now («waiver_ids» .entry)) (now («waiver_keys» .entry)) (now («found_ids» .entry)) (now («found_keys» .entry))) ⌝ }
 {
-    let counting = begin::begin(m, s, keys, bits, n, waiver_ids, waiver_keys, found_ids.len(), found_keys.len());
-    let counted = run::run(rules, keys, bits, waiver_ids, waiver_keys, found_ids, found_keys, counting);
+    let counting = begin::begin(
+        m,
+        s,
+        keys,
+        bits,
+        n,
+        waiver_ids,
+        waiver_keys,
+        found_ids.len(),
+        found_keys.len(),
+    );
+    let counted = run::run(
+        rules,
+        keys,
+        bits,
+        waiver_ids,
+        waiver_keys,
+        found_ids,
+        found_keys,
+        counting,
+    );
     let writing = begin::begin_writing(counted);
-    let written = run::run(rules, keys, bits, waiver_ids, waiver_keys, found_ids, found_keys, writing);
+    let written = run::run(
+        rules,
+        keys,
+        bits,
+        waiver_ids,
+        waiver_keys,
+        found_ids,
+        found_keys,
+        writing,
+    );
     begin::answer(written)
 }

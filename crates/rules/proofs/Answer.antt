@@ -88,7 +88,7 @@ module _ (m s : ℕ) (keys bits : List ℕ) (n : ℕ) (rules : List Rule) (waive
       × (k′ ≡ findingsKeys m s keys bits n rules waiverIds waiverKeys ids foundKeys)
   findings-law r₁ r₂ r₃ f l l′ k k′ e e₂ e₃ e₄ =
       let second-is : progressOf r₂ l l′ ≡ second m s keys bits n rules waiverIds waiverKeys ids foundKeys =
-          ap (λ r. progressOf r l l′) e₂ ∙ ap (λ p. progressOf (writingOf (p .state)) (p .ids) (p .keys)) e in
+      ap (λ r. progressOf r l l′) e₂ ∙ ap (λ p. progressOf (writingOf (p .state)) (p .ids) (p .keys)) e in
       let last = e₃ ∙ ap run second-is in
       let promised = two-runs m s keys bits n rules waiverIds waiverKeys ids foundKeys in
       (e₄ ∙ ap (λ p. answerOf (p .state)) last ∙ promised .answered, ap (λ p. p .ids) last ∙ promised .wroteIds, ap (λ p. p .keys) last ∙ promised .wroteKeys)

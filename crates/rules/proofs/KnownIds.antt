@@ -173,15 +173,15 @@ all-known m s ws next [] good all =
 all-known m s ws next (rule ∷ rules) good all =
     let rest-good = good-rest m s next rule rules good in
     let gap = gap-below next (rule .id) ws
-        (λ w i from before.
-        ⊎-elim (λ (e : eqb (rule .id) (w .id) ≡ true). let same = eqb-true (rule .id) (w .id) e in omega arith)
-        (λ (e : isRuleId rules (w .id) ≡ true). let low = id-low m s (rule .id + 1) rules (w .id) rest-good e in omega arith)
-        (or-either (eqb (rule .id) (w .id)) (isRuleId rules (w .id)) (all w i from))) in
+    (λ w i from before.
+    ⊎-elim (λ (e : eqb (rule .id) (w .id) ≡ true). let same = eqb-true (rule .id) (w .id) e in omega arith)
+    (λ (e : isRuleId rules (w .id) ≡ true). let low = id-low m s (rule .id + 1) rules (w .id) rest-good e in omega arith)
+    (or-either (eqb (rule .id) (w .id)) (isRuleId rules (w .id)) (all w i from))) in
     let rest = all-known m s ws (rule .id + 1) rules rest-good
-        (λ w i from.
-        ⊎-elim (λ (e : eqb (rule .id) (w .id) ≡ true). let same = eqb-true (rule .id) (w .id) e in absurd (omega arith))
-        (λ (e : isRuleId rules (w .id) ≡ true). e)
-        (or-either (eqb (rule .id) (w .id)) (isRuleId rules (w .id)) (all w i (let low = good-low m s next rule rules good in omega arith)))) in
+    (λ w i from.
+    ⊎-elim (λ (e : eqb (rule .id) (w .id) ≡ true). let same = eqb-true (rule .id) (w .id) e in absurd (omega arith))
+    (λ (e : isRuleId rules (w .id) ≡ true). e)
+    (or-either (eqb (rule .id) (w .id)) (isRuleId rules (w .id)) (all w i (let low = good-low m s next rule rules good in omega arith)))) in
     record {
       known = and-both _ _ (ap not (le-ltb (waiversBelow next ws) (waiversBelow (rule .id) ws) gap)) (rest .known);
       none = let e = ap (λ x. waiversBelow x ws) (next-cons next rule rules) in let h = rest .none in omega arith;

@@ -64,11 +64,25 @@ fn begin_refusal(m: u32, s: u32, keys: &[u32], bits: &[u32], n: usize) -> u64
     if settings::are_bad(m, s) {
         return 1;
     }
-    if check::is_list(m, s, keys, bits, n) { 0 } else { 4 }
+    if check::is_list(m, s, keys, bits, n) {
+        0
+    } else {
+        4
+    }
 }
 
 // The counting run begins.
-pub fn begin(m: u32, s: u32, keys: &[u32], bits: &[u32], n: usize, waiver_ids: &[u32], waiver_keys: &[u32], room_ids: usize, room_keys: usize) -> State
+pub fn begin(
+    m: u32,
+    s: u32,
+    keys: &[u32],
+    bits: &[u32],
+    n: usize,
+    waiver_ids: &[u32],
+    waiver_keys: &[u32],
+    room_ids: usize,
+    room_keys: usize,
+) -> State
     ensures { λ r. ⌜ r ≡ beginOf m s (now (keys .entry)) (now (bits .entry)) n (now («waiver_ids» .entry)) (now («waiver_keys» .entry)) «room_ids» «room_keys» ⌝ }
 {
     let refusal = begin_refusal(m, s, keys, bits, n);

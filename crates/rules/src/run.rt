@@ -23,7 +23,16 @@ pub struct State {
     pub hidden: usize,
 }
 
-pub fn run(rules: &[Rule], keys: &[u32], bits: &[u32], waiver_ids: &[u32], waiver_keys: &[u32], found_ids: &mut [u32], found_keys: &mut [u32], state: State) -> State
+pub fn run(
+    rules: &[Rule],
+    keys: &[u32],
+    bits: &[u32],
+    waiver_ids: &[u32],
+    waiver_keys: &[u32],
+    found_ids: &mut [u32],
+    found_keys: &mut [u32],
+    state: State,
+) -> State
     requires { ⌜ Ready (now keys) (now bits) (now «waiver_ids») (now «waiver_keys») (progressOf state (now «found_ids») (now «found_keys»)) ⌝ }
     ensures { λ r. ⌜ progressOf r (now («found_ids» .exit)) (now («found_keys» .exit))
         ≡ runOf (now (keys .entry)) (now (bits .entry)) (now («waiver_ids» .entry)) (now («waiver_keys» .entry)) (now (rules .entry))
@@ -32,7 +41,16 @@ pub fn run(rules: &[Rule], keys: &[u32], bits: &[u32], waiver_ids: &[u32], waive
     let mut st = state;
     let mut i: usize = 0;
     while i < rules.len() {
-        st = step::step(rules[i], keys, bits, waiver_ids, waiver_keys, found_ids, found_keys, st);
+        st = step::step(
+            rules[i],
+            keys,
+            bits,
+            waiver_ids,
+            waiver_keys,
+            found_ids,
+            found_keys,
+            st,
+        );
         i += 1;
     }
     st

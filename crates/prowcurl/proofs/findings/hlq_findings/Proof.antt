@@ -98,9 +98,28 @@ typed r vs is = LL.owes State.the-type State′.the-laws r (LL.owed State.the-ty
 abbrev stayed : Stays (findings.ended .signature .params) (findings.ended .kept)
 stayed = (
   stay-dropped (plain (λ _. u32)) yes,
-  (stay-dropped (plain (λ _. u32)) yes, (stay-dropped (shrSliceOf (0 ∷ []) tt (plain (λ _. u32))) yes, (stay-dropped (shrSliceOf (1 ∷ []) tt (plain (λ _. u32))) yes, (stay-dropped (plain (λ _. usize)) yes,
-  (stay-dropped (shrSliceOf (2 ∷ []) tt (plain (λ _. Rule.the-row))) yes, (stay-dropped (shrSliceOf (3 ∷ []) tt (plain (λ _. u32))) yes, (stay-dropped (shrSliceOf (4 ∷ []) tt (plain (λ _. u32))) yes,
-  (stay-slice (5 ∷ []) tt (plain (λ _. u32)), (stay-slice (6 ∷ []) tt (plain (λ _. u32)), tt)))))))))
+  (
+    stay-dropped (plain (λ _. u32)) yes,
+    (
+      stay-dropped (shrSliceOf (0 ∷ []) tt (plain (λ _. u32))) yes,
+      (
+        stay-dropped (shrSliceOf (1 ∷ []) tt (plain (λ _. u32))) yes,
+        (
+          stay-dropped (plain (λ _. usize)) yes,
+          (
+            stay-dropped (shrSliceOf (2 ∷ []) tt (plain (λ _. Rule.the-row))) yes,
+            (
+              stay-dropped (shrSliceOf (3 ∷ []) tt (plain (λ _. u32))) yes,
+              (
+                stay-dropped (shrSliceOf (4 ∷ []) tt (plain (λ _. u32))) yes,
+                (stay-slice (5 ∷ []) tt (plain (λ _. u32)), (stay-slice (6 ∷ []) tt (plain (λ _. u32)), tt)),
+              ),
+            ),
+          ),
+        ),
+      ),
+    ),
+  ),
 )
 
 -- the contracts that the proof cites
@@ -314,137 +333,137 @@ module _ {M : Type 1} (𝓤 : URA M) (H : Heap 𝓤) (A : Atoms 𝓤) (W : Given
       -- before the writing run: the state that the counting run left is r₁, and the answer slices hold L and L′
       abbrev Counted : State → State → List ℕ → List ℕ → List (Item 𝓤)
       Counted r₀ r₁ L L′ = ‵ own₀ ∷ ‵ own₁ ∷ ‵ own₂ ∷ ‵ own₃
-        ∷ ‵ own₄ ∷ ‵ (own₅ L) ∷ ‵ (own₆ L′) ∷ ‵ (flft κ₀ q₀)
-        ∷ ‵ (flft κ₁ q₁) ∷ ‵ (flft κ₂ q₂) ∷ ‵ (flft κ₃ q₃) ∷ ‵ (flft κ₄ q₄)
-        ∷ ‵ (flft κ₅ q₅) ∷ ‵ (flft κ₆ q₆) ∷ ‵ (froom Found′.mir l₀ 0) ∷ ‵ (fat fullShare (tyInt w32) l₁ 0 (vint w32 m))
-        ∷ ‵ (fat fullShare (tyInt w32) l₂ 0 (vint w32 s)) ∷ ‵ (fat fullShare (shared 0) l₃ 0 s₀) ∷ ‵ (fat fullShare (shared 1) l₄ 0 s₁) ∷ ‵ (fat fullShare (tyInt w64) l₅ 0 (vint w64 n))
-        ∷ ‵ (fat fullShare rulesTy l₆ 0 s₂) ∷ ‵ (fat fullShare (shared 3) l₇ 0 s₃) ∷ ‵ (fat fullShare (shared 4) l₈ 0 s₄) ∷ ‵ (fat fullShare (mutable 5) l₉ 0 s₅)
-        ∷ ‵ (fat fullShare (mutable 6) l₁₀ 0 s₆) ∷ ‵ (fat fullShare State′.mir l₁₁ 0 (valOf r₀)) ∷ ‵ (fat fullShare State′.mir l₁₂ 0 (valOf r₁)) ∷ ‵ (froom State′.mir l₁₃ 0)
-        ∷ ‵ (froom State′.mir l₁₄ 0) ∷ ‵ (fat fullShare (tyInt w64) l₁₅ 0 (vint w64 n₅)) ∷ ‵ (fat fullShare (tyInt w64) l₁₆ 0 (vint w64 n₆)) ∷ ‵ (fat fullShare (tyRef erased mut (tyInt w32)) l₁₇ 0 (vptr b₅ o₅))
-        ∷ ‵ (fat fullShare (sliceTy (tyRef erased mut (tyInt w32))) l₁₈ 0 s₅) ∷ ‵ (fat fullShare (tyRef erased mut (tyInt w32)) l₁₉ 0 (vptr b₆ o₆)) ∷ ‵ (fat fullShare (sliceTy (tyRef erased mut (tyInt w32))) l₂₀ 0 s₆) ∷ ‵ (froom (tyRef erased mut (tyInt w32)) l₂₁ 0)
-        ∷ ‵ (froom (sliceTy (tyRef erased mut (tyInt w32))) l₂₂ 0) ∷ ‵ (froom (tyRef erased mut (tyInt w32)) l₂₃ 0) ∷ ‵ (froom (sliceTy (tyRef erased mut (tyInt w32))) l₂₄ 0) ∷ ‵ (fdies Found′.mir l₀)
-        ∷ ‵ (fdies (tyInt w32) l₁) ∷ ‵ (fdies (tyInt w32) l₂) ∷ ‵ (fdies (shared 0) l₃) ∷ ‵ (fdies (shared 1) l₄)
-        ∷ ‵ (fdies (tyInt w64) l₅) ∷ ‵ (fdies rulesTy l₆) ∷ ‵ (fdies (shared 3) l₇) ∷ ‵ (fdies (shared 4) l₈)
-        ∷ ‵ (fdies (mutable 5) l₉) ∷ ‵ (fdies (mutable 6) l₁₀) ∷ ‵ (fdies State′.mir l₁₁) ∷ ‵ (fdies State′.mir l₁₂)
-        ∷ ‵ (fdies State′.mir l₁₃) ∷ ‵ (fdies State′.mir l₁₄) ∷ ‵ (fdies (tyInt w64) l₁₅) ∷ ‵ (fdies (tyInt w64) l₁₆)
-        ∷ ‵ (fdies (tyRef erased mut (tyInt w32)) l₁₇) ∷ ‵ (fdies (sliceTy (tyRef erased mut (tyInt w32))) l₁₈) ∷ ‵ (fdies (tyRef erased mut (tyInt w32)) l₁₉) ∷ ‵ (fdies (sliceTy (tyRef erased mut (tyInt w32))) l₂₀)
-        ∷ ‵ (fdies (tyRef erased mut (tyInt w32)) l₂₁) ∷ ‵ (fdies (sliceTy (tyRef erased mut (tyInt w32))) l₂₂) ∷ ‵ (fdies (tyRef erased mut (tyInt w32)) l₂₃) ∷ ‵ (fdies (sliceTy (tyRef erased mut (tyInt w32))) l₂₄) ∷ []
+          ∷ ‵ own₄ ∷ ‵ (own₅ L) ∷ ‵ (own₆ L′) ∷ ‵ (flft κ₀ q₀)
+          ∷ ‵ (flft κ₁ q₁) ∷ ‵ (flft κ₂ q₂) ∷ ‵ (flft κ₃ q₃) ∷ ‵ (flft κ₄ q₄)
+          ∷ ‵ (flft κ₅ q₅) ∷ ‵ (flft κ₆ q₆) ∷ ‵ (froom Found′.mir l₀ 0) ∷ ‵ (fat fullShare (tyInt w32) l₁ 0 (vint w32 m))
+          ∷ ‵ (fat fullShare (tyInt w32) l₂ 0 (vint w32 s)) ∷ ‵ (fat fullShare (shared 0) l₃ 0 s₀) ∷ ‵ (fat fullShare (shared 1) l₄ 0 s₁) ∷ ‵ (fat fullShare (tyInt w64) l₅ 0 (vint w64 n))
+          ∷ ‵ (fat fullShare rulesTy l₆ 0 s₂) ∷ ‵ (fat fullShare (shared 3) l₇ 0 s₃) ∷ ‵ (fat fullShare (shared 4) l₈ 0 s₄) ∷ ‵ (fat fullShare (mutable 5) l₉ 0 s₅)
+          ∷ ‵ (fat fullShare (mutable 6) l₁₀ 0 s₆) ∷ ‵ (fat fullShare State′.mir l₁₁ 0 (valOf r₀)) ∷ ‵ (fat fullShare State′.mir l₁₂ 0 (valOf r₁)) ∷ ‵ (froom State′.mir l₁₃ 0)
+          ∷ ‵ (froom State′.mir l₁₄ 0) ∷ ‵ (fat fullShare (tyInt w64) l₁₅ 0 (vint w64 n₅)) ∷ ‵ (fat fullShare (tyInt w64) l₁₆ 0 (vint w64 n₆)) ∷ ‵ (fat fullShare (tyRef erased mut (tyInt w32)) l₁₇ 0 (vptr b₅ o₅))
+          ∷ ‵ (fat fullShare (sliceTy (tyRef erased mut (tyInt w32))) l₁₈ 0 s₅) ∷ ‵ (fat fullShare (tyRef erased mut (tyInt w32)) l₁₉ 0 (vptr b₆ o₆)) ∷ ‵ (fat fullShare (sliceTy (tyRef erased mut (tyInt w32))) l₂₀ 0 s₆) ∷ ‵ (froom (tyRef erased mut (tyInt w32)) l₂₁ 0)
+          ∷ ‵ (froom (sliceTy (tyRef erased mut (tyInt w32))) l₂₂ 0) ∷ ‵ (froom (tyRef erased mut (tyInt w32)) l₂₃ 0) ∷ ‵ (froom (sliceTy (tyRef erased mut (tyInt w32))) l₂₄ 0) ∷ ‵ (fdies Found′.mir l₀)
+          ∷ ‵ (fdies (tyInt w32) l₁) ∷ ‵ (fdies (tyInt w32) l₂) ∷ ‵ (fdies (shared 0) l₃) ∷ ‵ (fdies (shared 1) l₄)
+          ∷ ‵ (fdies (tyInt w64) l₅) ∷ ‵ (fdies rulesTy l₆) ∷ ‵ (fdies (shared 3) l₇) ∷ ‵ (fdies (shared 4) l₈)
+          ∷ ‵ (fdies (mutable 5) l₉) ∷ ‵ (fdies (mutable 6) l₁₀) ∷ ‵ (fdies State′.mir l₁₁) ∷ ‵ (fdies State′.mir l₁₂)
+          ∷ ‵ (fdies State′.mir l₁₃) ∷ ‵ (fdies State′.mir l₁₄) ∷ ‵ (fdies (tyInt w64) l₁₅) ∷ ‵ (fdies (tyInt w64) l₁₆)
+          ∷ ‵ (fdies (tyRef erased mut (tyInt w32)) l₁₇) ∷ ‵ (fdies (sliceTy (tyRef erased mut (tyInt w32))) l₁₈) ∷ ‵ (fdies (tyRef erased mut (tyInt w32)) l₁₉) ∷ ‵ (fdies (sliceTy (tyRef erased mut (tyInt w32))) l₂₀)
+          ∷ ‵ (fdies (tyRef erased mut (tyInt w32)) l₂₁) ∷ ‵ (fdies (sliceTy (tyRef erased mut (tyInt w32))) l₂₂) ∷ ‵ (fdies (tyRef erased mut (tyInt w32)) l₂₃) ∷ ‵ (fdies (sliceTy (tyRef erased mut (tyInt w32))) l₂₄) ∷ []
 
       writes : (r₁ : State) (L L′ : List ℕ) (r₀ : State) → Is State.the-row r₁ (stateVals r₁) → progressOf r₁ L L′ ≡ runOf K B WI WK (x₂ .now) (progressOf (beginOf m s K B n WI WK n₅ n₆) ids keys) → length L ≡ n₅ → length L′ ≡ n₆
           → Sq W (Counted r₀ r₁ L L′) (runs C Λ En mir.t-9 (atRet En Post))
       writes r₁ L L′ r₀ is₁ e₁ len len′ =
-        nothing ! $ use1 W (raw (Writing 𝓤 H A at-mem run .pre (to-writing r₁))) (asks-writing r₁ is₁) $
-        calls-at ! fm (Writing 𝓤 H A at-mem run) known-writing (to-writing r₁) (and-then ! (load ! (from ! (stop !)) (look ! 27 refl)) (no-more !)) (λ w₀.
-        use1 W (later (some (λ (r : State). (‵ ftrue ⊛ ‵ (State.the-row .own r (w₀ ∷ []))) ⊛ raw (ensured 𝓤 H A writing.ended (writing.clauses 𝓤 H A at-mem run) tt (r₁, tt) tt r)))) (id⊢ 𝓤 _) $ await ! tt $ pick ! (λ r₂.
-        parts ! $ move ! (1 ∷ []) $ use1 W (raw (fact 𝓤 (r₂ ≡ writingOf r₁))) (writing-said r₁ r₂) $ heard ! (r₂ ≡ writingOf r₁) (λ e₂. parts ! $
-        move ! (1 ∷ []) $ facts ! State.the-row (Is State.the-row) (shows 𝓤 H A State.the-row) r₂ (w₀ ∷ []) (λ is₂.
-        land ! (from ! (stop !)) (init ! 28 refl (LL.lawful State.the-type State′.the-laws 𝓤 H A W .typed r₂ (w₀ ∷ []) is₂ .0)) $
-        rewrite ! 28 (λ (v : Val). ‵ (fat fullShare State′.mir l₁₃ 0 v)) (ap only (LL.tells State.the-type State′.the-laws r₂ (w₀ ∷ []) is₂)) refl $ drop ! $
-        assigns ! (addr ! (from ! (fld ! refl (hop ! (look-in ! 23 (sub ! 0 refl (whole !))) (stop !))))) (from ! (stop !)) (init ! 35 refl (tt, tt)) $
-        assigns ! (agg ! (and-then ! (load ! (from ! (stop !)) (look ! 35 refl)) (and-then ! (load ! (from ! (fld ! refl (stop !))) (look-in ! 23 (sub ! 1 refl (whole !)))) (no-more !)))) (from ! (stop !)) (init ! 36 refl (tt, (tt, (record { fits = room₅ .0 }, tt)))) $
-        assigns ! (addr ! (from ! (fld ! refl (hop ! (look-in ! 24 (sub ! 0 refl (whole !))) (stop !))))) (from ! (stop !)) (init ! 37 refl (tt, tt)) $
-        assigns ! (agg ! (and-then ! (load ! (from ! (stop !)) (look ! 37 refl)) (and-then ! (load ! (from ! (fld ! refl (stop !))) (look-in ! 24 (sub ! 1 refl (whole !)))) (no-more !)))) (from ! (stop !)) (init ! 38 refl (tt, (tt, (record { fits = room₆ .0 }, tt)))) $
-        move ! (2 ∷ []) $ use1 W (‵ own₂ ⊛ ‵ own₂) (shr-slice-copy 𝓤 H A W (named 2) κ₂ Rule.the-row .twice x₂ (s₂ ∷ [])) $ parts ! $ move ! (2 ∷ []) $
-        use1 W (‵ own₀ ⊛ ‵ own₀) (shr-slice-copy 𝓤 H A W (named 0) κ₀ u32 .twice x₀ (s₀ ∷ [])) $ parts ! $ move ! (4 ∷ []) $
-        use1 W (‵ own₁ ⊛ ‵ own₁) (shr-slice-copy 𝓤 H A W (named 1) κ₁ u32 .twice x₁ (s₁ ∷ [])) $ parts ! $ move ! (6 ∷ []) $
-        use1 W (‵ own₃ ⊛ ‵ own₃) (shr-slice-copy 𝓤 H A W (named 3) κ₃ u32 .twice x₃ (s₃ ∷ [])) $ parts ! $ move ! (8 ∷ []) $
-        use1 W (‵ own₄ ⊛ ‵ own₄) (shr-slice-copy 𝓤 H A W (named 4) κ₄ u32 .twice x₄ (s₄ ∷ [])) $ parts ! $ lft-new ! tt (λ ν. move ! (11 ∷ 18 ∷ []) $
-        use2 W (later (some (λ (δ : GName). ‵ (lent₅ ν δ L) ⊛ ‵ (kept₅ ν δ L)))) (lend 𝓤 H A W u32 κ₅ (ν ∷ []) q₅ γ₅ b₅ o₅ (named 5) (named 5) n₅ L len) $ await ! tt $ pick ! (λ δ.
-        parts ! $ lft-new ! tt (λ ν′. move ! (14 ∷ 20 ∷ []) $
-        use2 W (later (some (λ (δ′ : GName). ‵ (lent₆ ν′ δ′ L′) ⊛ ‵ (kept₆ ν′ δ′ L′)))) (lend 𝓤 H A W u32 κ₆ (ν′ ∷ []) q₆ γ₆ b₆ o₆ (named 6) (named 6) n₆ L′ len′) $ await ! tt $ pick ! (λ δ′.
-        parts ! $ move ! (18 ∷ 16 ∷ 17 ∷ 19 ∷ 20 ∷ 5 ∷ 2 ∷ 15 ∷ 13 ∷ 11 ∷ 9 ∷ 7 ∷ 3 ∷ 0 ∷ []) $ group ! 14 $
-        use1 W (raw (Run 𝓤 H A at-mem run .pre (to-run r₂ L L′ ν ν′ δ δ′))) (asks-run r₂ L L′ (typed r₂ (w₀ ∷ []) is₂) (writing-ready m s K B n (x₂ .now) WI WK ids keys r₁ r₂ L L′ e₁ e₂) ν ν′ δ δ′) $
-        calls-at ! fm (Run 𝓤 H A at-mem run) known-run (to-run r₂ L L′ ν ν′ δ δ′) (and-then ! (load ! (from ! (stop !)) (look ! 14 refl)) (and-then ! (load ! (from ! (stop !)) (look ! 11 refl)) (and-then ! (load ! (from ! (stop !)) (look ! 12 refl)) (and-then ! (load ! (from ! (stop !)) (look ! 15 refl)) (and-then ! (load ! (from ! (stop !)) (look ! 16 refl)) (and-then ! (load ! (from ! (stop !)) (look ! 30 refl)) (and-then ! (load ! (from ! (stop !)) (look ! 32 refl)) (and-then ! (load ! (from ! (stop !)) (look ! 21 refl)) (no-more !))))))))) (λ w.
-        use1 W (later (some (λ (r : State). (raw (alive 𝓤 H A run′.signature (run-lifetimes ν ν′) (run-shares tt)) ⊛ ‵ (State.the-row .own r (w ∷ []))) ⊛ raw (ensured 𝓤 H A run′.ended (run′.clauses 𝓤 H A at-mem run) (run-lifetimes ν ν′) (run-args r₂ L L′ δ δ′) tt r)))) (id⊢ 𝓤 _) $ await ! tt $ pick ! (λ r.
-        parts ! $ move ! (1 ∷ []) $
-        use1 W (some (λ (zs : Lasts run′.ended (run-lifetimes ν ν′) (run-args r₂ L L′ δ δ′)). ‵ (lasts run′.ended (run-lifetimes ν ν′) (run-args r₂ L L′ δ δ′) zs) ⊛ raw (fact 𝓤 (progressOf r (zs .1 .1 .1 .1 .1 .0) (zs .1 .1 .1 .1 .1 .1 .0) ≡ runOf K B WI WK (x₂ .now) (progressOf r₂ L L′))))) (id⊢ 𝓤 _) $ pick ! (λ zs.
-        parts ! $ move ! (1 ∷ []) $
-        heard ! (progressOf r (zs .1 .1 .1 .1 .1 .0) (zs .1 .1 .1 .1 .1 .1 .0) ≡ runOf K B WI WK (x₂ .now) (progressOf r₂ L L′)) (λ e. fsplit ! $ drop ! $
-        fsplit ! $ drop ! $ fsplit ! $ drop ! $ fsplit ! $ drop ! $ fsplit ! $ drop ! $ fsplit ! $ fsplit ! $ move ! (1 ∷ []) $ feqL ! (λ len-ids.
-        move ! (1 ∷ []) $ fsplit ! $ fsplit ! $ move ! (1 ∷ []) $ feqL ! (λ len-keys. move ! (3 ∷ []) $ parts ! $ move ! (1 ∷ []) $
-        facts ! State.the-row (Is State.the-row) (shows 𝓤 H A State.the-row) r (w ∷ []) (λ is.
-        land ! (from ! (stop !)) (init ! 25 refl (LL.lawful State.the-type State′.the-laws 𝓤 H A W .typed r (w ∷ []) is .0)) $
-        rewrite ! 25 (λ (v : Val). ‵ (fat fullShare State′.mir l₁₄ 0 v)) (ap only (LL.tells State.the-type State′.the-laws r (w ∷ []) is)) refl $
-        use1 W (‵ (flft κ₂ q₂) ⊛ ‵ (flft κ₀ q₀) ⊛ ‵ (flft κ₁ q₁) ⊛ ‵ (flft κ₃ q₃) ⊛ ‵ (flft κ₄ q₄) ⊛ ‵ (flft (ν ∷ []) fullShare) ⊛ ‵ (flft (ν′ ∷ []) fullShare) ⊛ ‵ ftrue) (id⊢ 𝓤 _) $
-        parts ! $ move ! (1 ∷ []) $ parts ! $ move ! (1 ∷ []) $ parts ! $ move ! (1 ∷ []) $ parts ! $ move ! (1 ∷ []) $ parts ! $ move ! (1 ∷ []) $ parts ! $
-        move ! (1 ∷ []) $ parts ! $ move ! (1 ∷ []) $ drop ! $ move ! (1 ∷ []) $ lft-end ! tt $ move ! (0 ∷ 11 ∷ 9 ∷ []) $
-        use3 W (later (‵ (own₅ (zs .1 .1 .1 .1 .1 .0)) ⊛ ‵ (flft κ₅ q₅))) (back 𝓤 H A W u32 κ₅ (ν ∷ []) q₅ γ₅ b₅ o₅ (named 5) (named 5) n₅ δ L (zs .1 .1 .1 .1 .1 .0) room₅ len len-ids) $ await ! tt $
-        parts ! $ move ! (2 ∷ []) $ lft-end ! tt $ move ! (0 ∷ 10 ∷ 8 ∷ []) $
-        use3 W (later (‵ (own₆ (zs .1 .1 .1 .1 .1 .1 .0)) ⊛ ‵ (flft κ₆ q₆))) (back 𝓤 H A W u32 κ₆ (ν′ ∷ []) q₆ γ₆ b₆ o₆ (named 6) (named 6) n₆ δ′ L′ (zs .1 .1 .1 .1 .1 .1 .0) room₆ len′ len-keys) $ await ! tt $
-        parts ! $ nothing ! $ use1 W (raw (Answer 𝓤 H A at-mem run .pre (to-answer r))) (asks-answer r (typed r (w ∷ []) is)) $
-        calls-at ! fm (Answer 𝓤 H A at-mem run) known-answer (to-answer r) (and-then ! (load ! (from ! (stop !)) (look ! 30 refl)) (no-more !)) (λ w₁.
-        use1 W (later (some (λ (f : Found). (‵ ftrue ⊛ ‵ (Found.the-row .own f (w₁ ∷ []))) ⊛ raw (ensured 𝓤 H A answer.ended (answer.clauses 𝓤 H A at-mem run) tt (r, tt) tt f)))) (id⊢ 𝓤 _) $ await ! tt $ pick ! (λ f.
-        parts ! $ move ! (1 ∷ []) $ use1 W (raw (fact 𝓤 (f ≡ answerOf r))) (answer-said r f) $ heard ! (f ≡ answerOf r) (λ e₃. parts ! $ move ! (1 ∷ []) $
-        peeks ! Found.the-row (Is Found.the-row) (shows 𝓤 H A Found.the-row) f (w₁ ∷ []) (λ is₃.
-        land ! (from ! (stop !)) (init ! 17 refl (LL.lawful Found.the-type Found′.the-laws 𝓤 H A W .typed f (w₁ ∷ []) is₃ .0)) $ returns ! (look ! 17 refl) $
-        forget ! 17 refl $ forget ! 18 refl $ forget ! 19 refl $ forget ! 20 refl $ forget ! 21 refl $ forget ! 22 refl $ forget ! 23 refl $
-        forget ! 24 refl $ forget ! 25 refl $ forget ! 26 refl $ forget ! 27 refl $ forget ! 28 refl $ forget ! 29 refl $ forget ! 30 refl $
-        forget ! 31 refl $ forget ! 32 refl $ forget ! 33 refl $ forget ! 34 refl $ forget ! 35 refl $ forget ! 36 refl $ forget ! 37 refl $
-        forget ! 38 refl $ forget ! 39 refl $ forget ! 40 refl $ forget ! 41 refl $ move ! (17 ∷ 42 ∷ []) $ free1 ! $ move ! (17 ∷ 41 ∷ []) $ free1 ! $
-        move ! (17 ∷ 40 ∷ []) $ free1 ! $ move ! (17 ∷ 39 ∷ []) $ free1 ! $ move ! (17 ∷ 38 ∷ []) $ free1 ! $ move ! (17 ∷ 37 ∷ []) $ free1 ! $
-        move ! (17 ∷ 36 ∷ []) $ free1 ! $ move ! (17 ∷ 35 ∷ []) $ free1 ! $ move ! (17 ∷ 34 ∷ []) $ free1 ! $ move ! (17 ∷ 33 ∷ []) $ free1 ! $
-        move ! (17 ∷ 32 ∷ []) $ free1 ! $ move ! (17 ∷ 31 ∷ []) $ free1 ! $ move ! (17 ∷ 30 ∷ []) $ free1 ! $ move ! (17 ∷ 29 ∷ []) $ free1 ! $
-        move ! (17 ∷ 28 ∷ []) $ free1 ! $ move ! (17 ∷ 27 ∷ []) $ free1 ! $ move ! (17 ∷ 26 ∷ []) $ free1 ! $ move ! (17 ∷ 25 ∷ []) $ free1 ! $
-        move ! (17 ∷ 24 ∷ []) $ free1 ! $ move ! (17 ∷ 23 ∷ []) $ free1 ! $ move ! (17 ∷ 22 ∷ []) $ free1 ! $ move ! (17 ∷ 21 ∷ []) $ free1 ! $
-        move ! (17 ∷ 20 ∷ []) $ free1 ! $ move ! (17 ∷ 19 ∷ []) $ free1 ! $ move ! (17 ∷ 18 ∷ []) $ free1 ! $ free0 ! $
-        keep ! (4 ∷ 2 ∷ 9 ∷ 8 ∷ 10 ∷ 7 ∷ 6 ∷ 5 ∷ 3 ∷ 0 ∷ []) $
-        by ! (exits f w₁ (zs .1 .1 .1 .1 .1 .0) (zs .1 .1 .1 .1 .1 .1 .0) (findings-law m s K B n (x₂ .now) WI WK ids keys r₁ r₂ r f L L′ (zs .1 .1 .1 .1 .1 .0) (zs .1 .1 .1 .1 .1 .1 .0) e₁ e₂ e e₃) (len-ids ∙ len) (len-keys ∙ len′)))))))))))))))))))))
+          nothing ! $ use1 W (raw (Writing 𝓤 H A at-mem run .pre (to-writing r₁))) (asks-writing r₁ is₁) $
+          calls-at ! fm (Writing 𝓤 H A at-mem run) known-writing (to-writing r₁) (and-then ! (load ! (from ! (stop !)) (look ! 27 refl)) (no-more !)) (λ w₀.
+          use1 W (later (some (λ (r : State). (‵ ftrue ⊛ ‵ (State.the-row .own r (w₀ ∷ []))) ⊛ raw (ensured 𝓤 H A writing.ended (writing.clauses 𝓤 H A at-mem run) tt (r₁, tt) tt r)))) (id⊢ 𝓤 _) $ await ! tt $ pick ! (λ r₂.
+          parts ! $ move ! (1 ∷ []) $ use1 W (raw (fact 𝓤 (r₂ ≡ writingOf r₁))) (writing-said r₁ r₂) $ heard ! (r₂ ≡ writingOf r₁) (λ e₂. parts ! $
+          move ! (1 ∷ []) $ facts ! State.the-row (Is State.the-row) (shows 𝓤 H A State.the-row) r₂ (w₀ ∷ []) (λ is₂.
+          land ! (from ! (stop !)) (init ! 28 refl (LL.lawful State.the-type State′.the-laws 𝓤 H A W .typed r₂ (w₀ ∷ []) is₂ .0)) $
+          rewrite ! 28 (λ (v : Val). ‵ (fat fullShare State′.mir l₁₃ 0 v)) (ap only (LL.tells State.the-type State′.the-laws r₂ (w₀ ∷ []) is₂)) refl $ drop ! $
+          assigns ! (addr ! (from ! (fld ! refl (hop ! (look-in ! 23 (sub ! 0 refl (whole !))) (stop !))))) (from ! (stop !)) (init ! 35 refl (tt, tt)) $
+          assigns ! (agg ! (and-then ! (load ! (from ! (stop !)) (look ! 35 refl)) (and-then ! (load ! (from ! (fld ! refl (stop !))) (look-in ! 23 (sub ! 1 refl (whole !)))) (no-more !)))) (from ! (stop !)) (init ! 36 refl (tt, (tt, (record { fits = room₅ .0 }, tt)))) $
+          assigns ! (addr ! (from ! (fld ! refl (hop ! (look-in ! 24 (sub ! 0 refl (whole !))) (stop !))))) (from ! (stop !)) (init ! 37 refl (tt, tt)) $
+          assigns ! (agg ! (and-then ! (load ! (from ! (stop !)) (look ! 37 refl)) (and-then ! (load ! (from ! (fld ! refl (stop !))) (look-in ! 24 (sub ! 1 refl (whole !)))) (no-more !)))) (from ! (stop !)) (init ! 38 refl (tt, (tt, (record { fits = room₆ .0 }, tt)))) $
+          move ! (2 ∷ []) $ use1 W (‵ own₂ ⊛ ‵ own₂) (shr-slice-copy 𝓤 H A W (named 2) κ₂ Rule.the-row .twice x₂ (s₂ ∷ [])) $ parts ! $ move ! (2 ∷ []) $
+          use1 W (‵ own₀ ⊛ ‵ own₀) (shr-slice-copy 𝓤 H A W (named 0) κ₀ u32 .twice x₀ (s₀ ∷ [])) $ parts ! $ move ! (4 ∷ []) $
+          use1 W (‵ own₁ ⊛ ‵ own₁) (shr-slice-copy 𝓤 H A W (named 1) κ₁ u32 .twice x₁ (s₁ ∷ [])) $ parts ! $ move ! (6 ∷ []) $
+          use1 W (‵ own₃ ⊛ ‵ own₃) (shr-slice-copy 𝓤 H A W (named 3) κ₃ u32 .twice x₃ (s₃ ∷ [])) $ parts ! $ move ! (8 ∷ []) $
+          use1 W (‵ own₄ ⊛ ‵ own₄) (shr-slice-copy 𝓤 H A W (named 4) κ₄ u32 .twice x₄ (s₄ ∷ [])) $ parts ! $ lft-new ! tt (λ ν. move ! (11 ∷ 18 ∷ []) $
+          use2 W (later (some (λ (δ : GName). ‵ (lent₅ ν δ L) ⊛ ‵ (kept₅ ν δ L)))) (lend 𝓤 H A W u32 κ₅ (ν ∷ []) q₅ γ₅ b₅ o₅ (named 5) (named 5) n₅ L len) $ await ! tt $ pick ! (λ δ.
+          parts ! $ lft-new ! tt (λ ν′. move ! (14 ∷ 20 ∷ []) $
+          use2 W (later (some (λ (δ′ : GName). ‵ (lent₆ ν′ δ′ L′) ⊛ ‵ (kept₆ ν′ δ′ L′)))) (lend 𝓤 H A W u32 κ₆ (ν′ ∷ []) q₆ γ₆ b₆ o₆ (named 6) (named 6) n₆ L′ len′) $ await ! tt $ pick ! (λ δ′.
+          parts ! $ move ! (18 ∷ 16 ∷ 17 ∷ 19 ∷ 20 ∷ 5 ∷ 2 ∷ 15 ∷ 13 ∷ 11 ∷ 9 ∷ 7 ∷ 3 ∷ 0 ∷ []) $ group ! 14 $
+          use1 W (raw (Run 𝓤 H A at-mem run .pre (to-run r₂ L L′ ν ν′ δ δ′))) (asks-run r₂ L L′ (typed r₂ (w₀ ∷ []) is₂) (writing-ready m s K B n (x₂ .now) WI WK ids keys r₁ r₂ L L′ e₁ e₂) ν ν′ δ δ′) $
+          calls-at ! fm (Run 𝓤 H A at-mem run) known-run (to-run r₂ L L′ ν ν′ δ δ′) (and-then ! (load ! (from ! (stop !)) (look ! 14 refl)) (and-then ! (load ! (from ! (stop !)) (look ! 11 refl)) (and-then ! (load ! (from ! (stop !)) (look ! 12 refl)) (and-then ! (load ! (from ! (stop !)) (look ! 15 refl)) (and-then ! (load ! (from ! (stop !)) (look ! 16 refl)) (and-then ! (load ! (from ! (stop !)) (look ! 30 refl)) (and-then ! (load ! (from ! (stop !)) (look ! 32 refl)) (and-then ! (load ! (from ! (stop !)) (look ! 21 refl)) (no-more !))))))))) (λ w.
+          use1 W (later (some (λ (r : State). (raw (alive 𝓤 H A run′.signature (run-lifetimes ν ν′) (run-shares tt)) ⊛ ‵ (State.the-row .own r (w ∷ []))) ⊛ raw (ensured 𝓤 H A run′.ended (run′.clauses 𝓤 H A at-mem run) (run-lifetimes ν ν′) (run-args r₂ L L′ δ δ′) tt r)))) (id⊢ 𝓤 _) $ await ! tt $ pick ! (λ r.
+          parts ! $ move ! (1 ∷ []) $
+          use1 W (some (λ (zs : Lasts run′.ended (run-lifetimes ν ν′) (run-args r₂ L L′ δ δ′)). ‵ (lasts run′.ended (run-lifetimes ν ν′) (run-args r₂ L L′ δ δ′) zs) ⊛ raw (fact 𝓤 (progressOf r (zs .1 .1 .1 .1 .1 .0) (zs .1 .1 .1 .1 .1 .1 .0) ≡ runOf K B WI WK (x₂ .now) (progressOf r₂ L L′))))) (id⊢ 𝓤 _) $ pick ! (λ zs.
+          parts ! $ move ! (1 ∷ []) $
+          heard ! (progressOf r (zs .1 .1 .1 .1 .1 .0) (zs .1 .1 .1 .1 .1 .1 .0) ≡ runOf K B WI WK (x₂ .now) (progressOf r₂ L L′)) (λ e. fsplit ! $ drop ! $
+          fsplit ! $ drop ! $ fsplit ! $ drop ! $ fsplit ! $ drop ! $ fsplit ! $ drop ! $ fsplit ! $ fsplit ! $ move ! (1 ∷ []) $ feqL ! (λ len-ids.
+          move ! (1 ∷ []) $ fsplit ! $ fsplit ! $ move ! (1 ∷ []) $ feqL ! (λ len-keys. move ! (3 ∷ []) $ parts ! $ move ! (1 ∷ []) $
+          facts ! State.the-row (Is State.the-row) (shows 𝓤 H A State.the-row) r (w ∷ []) (λ is.
+          land ! (from ! (stop !)) (init ! 25 refl (LL.lawful State.the-type State′.the-laws 𝓤 H A W .typed r (w ∷ []) is .0)) $
+          rewrite ! 25 (λ (v : Val). ‵ (fat fullShare State′.mir l₁₄ 0 v)) (ap only (LL.tells State.the-type State′.the-laws r (w ∷ []) is)) refl $
+          use1 W (‵ (flft κ₂ q₂) ⊛ ‵ (flft κ₀ q₀) ⊛ ‵ (flft κ₁ q₁) ⊛ ‵ (flft κ₃ q₃) ⊛ ‵ (flft κ₄ q₄) ⊛ ‵ (flft (ν ∷ []) fullShare) ⊛ ‵ (flft (ν′ ∷ []) fullShare) ⊛ ‵ ftrue) (id⊢ 𝓤 _) $
+          parts ! $ move ! (1 ∷ []) $ parts ! $ move ! (1 ∷ []) $ parts ! $ move ! (1 ∷ []) $ parts ! $ move ! (1 ∷ []) $ parts ! $ move ! (1 ∷ []) $ parts ! $
+          move ! (1 ∷ []) $ parts ! $ move ! (1 ∷ []) $ drop ! $ move ! (1 ∷ []) $ lft-end ! tt $ move ! (0 ∷ 11 ∷ 9 ∷ []) $
+          use3 W (later (‵ (own₅ (zs .1 .1 .1 .1 .1 .0)) ⊛ ‵ (flft κ₅ q₅))) (back 𝓤 H A W u32 κ₅ (ν ∷ []) q₅ γ₅ b₅ o₅ (named 5) (named 5) n₅ δ L (zs .1 .1 .1 .1 .1 .0) room₅ len len-ids) $ await ! tt $
+          parts ! $ move ! (2 ∷ []) $ lft-end ! tt $ move ! (0 ∷ 10 ∷ 8 ∷ []) $
+          use3 W (later (‵ (own₆ (zs .1 .1 .1 .1 .1 .1 .0)) ⊛ ‵ (flft κ₆ q₆))) (back 𝓤 H A W u32 κ₆ (ν′ ∷ []) q₆ γ₆ b₆ o₆ (named 6) (named 6) n₆ δ′ L′ (zs .1 .1 .1 .1 .1 .1 .0) room₆ len′ len-keys) $ await ! tt $
+          parts ! $ nothing ! $ use1 W (raw (Answer 𝓤 H A at-mem run .pre (to-answer r))) (asks-answer r (typed r (w ∷ []) is)) $
+          calls-at ! fm (Answer 𝓤 H A at-mem run) known-answer (to-answer r) (and-then ! (load ! (from ! (stop !)) (look ! 30 refl)) (no-more !)) (λ w₁.
+          use1 W (later (some (λ (f : Found). (‵ ftrue ⊛ ‵ (Found.the-row .own f (w₁ ∷ []))) ⊛ raw (ensured 𝓤 H A answer.ended (answer.clauses 𝓤 H A at-mem run) tt (r, tt) tt f)))) (id⊢ 𝓤 _) $ await ! tt $ pick ! (λ f.
+          parts ! $ move ! (1 ∷ []) $ use1 W (raw (fact 𝓤 (f ≡ answerOf r))) (answer-said r f) $ heard ! (f ≡ answerOf r) (λ e₃. parts ! $ move ! (1 ∷ []) $
+          peeks ! Found.the-row (Is Found.the-row) (shows 𝓤 H A Found.the-row) f (w₁ ∷ []) (λ is₃.
+          land ! (from ! (stop !)) (init ! 17 refl (LL.lawful Found.the-type Found′.the-laws 𝓤 H A W .typed f (w₁ ∷ []) is₃ .0)) $ returns ! (look ! 17 refl) $
+          forget ! 17 refl $ forget ! 18 refl $ forget ! 19 refl $ forget ! 20 refl $ forget ! 21 refl $ forget ! 22 refl $ forget ! 23 refl $
+          forget ! 24 refl $ forget ! 25 refl $ forget ! 26 refl $ forget ! 27 refl $ forget ! 28 refl $ forget ! 29 refl $ forget ! 30 refl $
+          forget ! 31 refl $ forget ! 32 refl $ forget ! 33 refl $ forget ! 34 refl $ forget ! 35 refl $ forget ! 36 refl $ forget ! 37 refl $
+          forget ! 38 refl $ forget ! 39 refl $ forget ! 40 refl $ forget ! 41 refl $ move ! (17 ∷ 42 ∷ []) $ free1 ! $ move ! (17 ∷ 41 ∷ []) $ free1 ! $
+          move ! (17 ∷ 40 ∷ []) $ free1 ! $ move ! (17 ∷ 39 ∷ []) $ free1 ! $ move ! (17 ∷ 38 ∷ []) $ free1 ! $ move ! (17 ∷ 37 ∷ []) $ free1 ! $
+          move ! (17 ∷ 36 ∷ []) $ free1 ! $ move ! (17 ∷ 35 ∷ []) $ free1 ! $ move ! (17 ∷ 34 ∷ []) $ free1 ! $ move ! (17 ∷ 33 ∷ []) $ free1 ! $
+          move ! (17 ∷ 32 ∷ []) $ free1 ! $ move ! (17 ∷ 31 ∷ []) $ free1 ! $ move ! (17 ∷ 30 ∷ []) $ free1 ! $ move ! (17 ∷ 29 ∷ []) $ free1 ! $
+          move ! (17 ∷ 28 ∷ []) $ free1 ! $ move ! (17 ∷ 27 ∷ []) $ free1 ! $ move ! (17 ∷ 26 ∷ []) $ free1 ! $ move ! (17 ∷ 25 ∷ []) $ free1 ! $
+          move ! (17 ∷ 24 ∷ []) $ free1 ! $ move ! (17 ∷ 23 ∷ []) $ free1 ! $ move ! (17 ∷ 22 ∷ []) $ free1 ! $ move ! (17 ∷ 21 ∷ []) $ free1 ! $
+          move ! (17 ∷ 20 ∷ []) $ free1 ! $ move ! (17 ∷ 19 ∷ []) $ free1 ! $ move ! (17 ∷ 18 ∷ []) $ free1 ! $ free0 ! $
+          keep ! (4 ∷ 2 ∷ 9 ∷ 8 ∷ 10 ∷ 7 ∷ 6 ∷ 5 ∷ 3 ∷ 0 ∷ []) $
+          by ! (exits f w₁ (zs .1 .1 .1 .1 .1 .0) (zs .1 .1 .1 .1 .1 .1 .0) (findings-law m s K B n (x₂ .now) WI WK ids keys r₁ r₂ r f L L′ (zs .1 .1 .1 .1 .1 .0) (zs .1 .1 .1 .1 .1 .1 .0) e₁ e₂ e e₃) (len-ids ∙ len) (len-keys ∙ len′)))))))))))))))))))))
 
       -- before the counting run: the state that it begins with is r₀
       abbrev Begun : State → List (Item 𝓤)
       Begun r₀ = ‵ own₀ ∷ ‵ own₁ ∷ ‵ own₂ ∷ ‵ own₃
-        ∷ ‵ own₄ ∷ ‵ (own₅ ids) ∷ ‵ (own₆ keys) ∷ ‵ (flft κ₀ q₀)
-        ∷ ‵ (flft κ₁ q₁) ∷ ‵ (flft κ₂ q₂) ∷ ‵ (flft κ₃ q₃) ∷ ‵ (flft κ₄ q₄)
-        ∷ ‵ (flft κ₅ q₅) ∷ ‵ (flft κ₆ q₆) ∷ ‵ (froom Found′.mir l₀ 0) ∷ ‵ (fat fullShare (tyInt w32) l₁ 0 (vint w32 m))
-        ∷ ‵ (fat fullShare (tyInt w32) l₂ 0 (vint w32 s)) ∷ ‵ (fat fullShare (shared 0) l₃ 0 s₀) ∷ ‵ (fat fullShare (shared 1) l₄ 0 s₁) ∷ ‵ (fat fullShare (tyInt w64) l₅ 0 (vint w64 n))
-        ∷ ‵ (fat fullShare rulesTy l₆ 0 s₂) ∷ ‵ (fat fullShare (shared 3) l₇ 0 s₃) ∷ ‵ (fat fullShare (shared 4) l₈ 0 s₄) ∷ ‵ (fat fullShare (mutable 5) l₉ 0 s₅)
-        ∷ ‵ (fat fullShare (mutable 6) l₁₀ 0 s₆) ∷ ‵ (fat fullShare State′.mir l₁₁ 0 (valOf r₀)) ∷ ‵ (froom State′.mir l₁₂ 0) ∷ ‵ (froom State′.mir l₁₃ 0)
-        ∷ ‵ (froom State′.mir l₁₄ 0) ∷ ‵ (fat fullShare (tyInt w64) l₁₅ 0 (vint w64 n₅)) ∷ ‵ (fat fullShare (tyInt w64) l₁₆ 0 (vint w64 n₆)) ∷ ‵ (froom (tyRef erased mut (tyInt w32)) l₁₇ 0)
-        ∷ ‵ (froom (sliceTy (tyRef erased mut (tyInt w32))) l₁₈ 0) ∷ ‵ (froom (tyRef erased mut (tyInt w32)) l₁₉ 0) ∷ ‵ (froom (sliceTy (tyRef erased mut (tyInt w32))) l₂₀ 0) ∷ ‵ (froom (tyRef erased mut (tyInt w32)) l₂₁ 0)
-        ∷ ‵ (froom (sliceTy (tyRef erased mut (tyInt w32))) l₂₂ 0) ∷ ‵ (froom (tyRef erased mut (tyInt w32)) l₂₃ 0) ∷ ‵ (froom (sliceTy (tyRef erased mut (tyInt w32))) l₂₄ 0) ∷ ‵ (fdies Found′.mir l₀)
-        ∷ ‵ (fdies (tyInt w32) l₁) ∷ ‵ (fdies (tyInt w32) l₂) ∷ ‵ (fdies (shared 0) l₃) ∷ ‵ (fdies (shared 1) l₄)
-        ∷ ‵ (fdies (tyInt w64) l₅) ∷ ‵ (fdies rulesTy l₆) ∷ ‵ (fdies (shared 3) l₇) ∷ ‵ (fdies (shared 4) l₈)
-        ∷ ‵ (fdies (mutable 5) l₉) ∷ ‵ (fdies (mutable 6) l₁₀) ∷ ‵ (fdies State′.mir l₁₁) ∷ ‵ (fdies State′.mir l₁₂)
-        ∷ ‵ (fdies State′.mir l₁₃) ∷ ‵ (fdies State′.mir l₁₄) ∷ ‵ (fdies (tyInt w64) l₁₅) ∷ ‵ (fdies (tyInt w64) l₁₆)
-        ∷ ‵ (fdies (tyRef erased mut (tyInt w32)) l₁₇) ∷ ‵ (fdies (sliceTy (tyRef erased mut (tyInt w32))) l₁₈) ∷ ‵ (fdies (tyRef erased mut (tyInt w32)) l₁₉) ∷ ‵ (fdies (sliceTy (tyRef erased mut (tyInt w32))) l₂₀)
-        ∷ ‵ (fdies (tyRef erased mut (tyInt w32)) l₂₁) ∷ ‵ (fdies (sliceTy (tyRef erased mut (tyInt w32))) l₂₂) ∷ ‵ (fdies (tyRef erased mut (tyInt w32)) l₂₃) ∷ ‵ (fdies (sliceTy (tyRef erased mut (tyInt w32))) l₂₄) ∷ []
+          ∷ ‵ own₄ ∷ ‵ (own₅ ids) ∷ ‵ (own₆ keys) ∷ ‵ (flft κ₀ q₀)
+          ∷ ‵ (flft κ₁ q₁) ∷ ‵ (flft κ₂ q₂) ∷ ‵ (flft κ₃ q₃) ∷ ‵ (flft κ₄ q₄)
+          ∷ ‵ (flft κ₅ q₅) ∷ ‵ (flft κ₆ q₆) ∷ ‵ (froom Found′.mir l₀ 0) ∷ ‵ (fat fullShare (tyInt w32) l₁ 0 (vint w32 m))
+          ∷ ‵ (fat fullShare (tyInt w32) l₂ 0 (vint w32 s)) ∷ ‵ (fat fullShare (shared 0) l₃ 0 s₀) ∷ ‵ (fat fullShare (shared 1) l₄ 0 s₁) ∷ ‵ (fat fullShare (tyInt w64) l₅ 0 (vint w64 n))
+          ∷ ‵ (fat fullShare rulesTy l₆ 0 s₂) ∷ ‵ (fat fullShare (shared 3) l₇ 0 s₃) ∷ ‵ (fat fullShare (shared 4) l₈ 0 s₄) ∷ ‵ (fat fullShare (mutable 5) l₉ 0 s₅)
+          ∷ ‵ (fat fullShare (mutable 6) l₁₀ 0 s₆) ∷ ‵ (fat fullShare State′.mir l₁₁ 0 (valOf r₀)) ∷ ‵ (froom State′.mir l₁₂ 0) ∷ ‵ (froom State′.mir l₁₃ 0)
+          ∷ ‵ (froom State′.mir l₁₄ 0) ∷ ‵ (fat fullShare (tyInt w64) l₁₅ 0 (vint w64 n₅)) ∷ ‵ (fat fullShare (tyInt w64) l₁₆ 0 (vint w64 n₆)) ∷ ‵ (froom (tyRef erased mut (tyInt w32)) l₁₇ 0)
+          ∷ ‵ (froom (sliceTy (tyRef erased mut (tyInt w32))) l₁₈ 0) ∷ ‵ (froom (tyRef erased mut (tyInt w32)) l₁₉ 0) ∷ ‵ (froom (sliceTy (tyRef erased mut (tyInt w32))) l₂₀ 0) ∷ ‵ (froom (tyRef erased mut (tyInt w32)) l₂₁ 0)
+          ∷ ‵ (froom (sliceTy (tyRef erased mut (tyInt w32))) l₂₂ 0) ∷ ‵ (froom (tyRef erased mut (tyInt w32)) l₂₃ 0) ∷ ‵ (froom (sliceTy (tyRef erased mut (tyInt w32))) l₂₄ 0) ∷ ‵ (fdies Found′.mir l₀)
+          ∷ ‵ (fdies (tyInt w32) l₁) ∷ ‵ (fdies (tyInt w32) l₂) ∷ ‵ (fdies (shared 0) l₃) ∷ ‵ (fdies (shared 1) l₄)
+          ∷ ‵ (fdies (tyInt w64) l₅) ∷ ‵ (fdies rulesTy l₆) ∷ ‵ (fdies (shared 3) l₇) ∷ ‵ (fdies (shared 4) l₈)
+          ∷ ‵ (fdies (mutable 5) l₉) ∷ ‵ (fdies (mutable 6) l₁₀) ∷ ‵ (fdies State′.mir l₁₁) ∷ ‵ (fdies State′.mir l₁₂)
+          ∷ ‵ (fdies State′.mir l₁₃) ∷ ‵ (fdies State′.mir l₁₄) ∷ ‵ (fdies (tyInt w64) l₁₅) ∷ ‵ (fdies (tyInt w64) l₁₆)
+          ∷ ‵ (fdies (tyRef erased mut (tyInt w32)) l₁₇) ∷ ‵ (fdies (sliceTy (tyRef erased mut (tyInt w32))) l₁₈) ∷ ‵ (fdies (tyRef erased mut (tyInt w32)) l₁₉) ∷ ‵ (fdies (sliceTy (tyRef erased mut (tyInt w32))) l₂₀)
+          ∷ ‵ (fdies (tyRef erased mut (tyInt w32)) l₂₁) ∷ ‵ (fdies (sliceTy (tyRef erased mut (tyInt w32))) l₂₂) ∷ ‵ (fdies (tyRef erased mut (tyInt w32)) l₂₃) ∷ ‵ (fdies (sliceTy (tyRef erased mut (tyInt w32))) l₂₄) ∷ []
 
       counts : (r₀ : State) → Is State.the-row r₀ (stateVals r₀) → r₀ ≡ beginOf m s K B n WI WK n₅ n₆ → Sq W (Begun r₀) (runs C Λ En mir.t-4 (atRet En Post))
       counts r₀ is₀ e₀ =
-        assigns ! (addr ! (from ! (fld ! refl (hop ! (look-in ! 23 (sub ! 0 refl (whole !))) (stop !))))) (from ! (stop !)) (init ! 31 refl (tt, tt)) $
-        assigns ! (agg ! (and-then ! (load ! (from ! (stop !)) (look ! 31 refl)) (and-then ! (load ! (from ! (fld ! refl (stop !))) (look-in ! 23 (sub ! 1 refl (whole !)))) (no-more !)))) (from ! (stop !)) (init ! 32 refl (tt, (tt, (record { fits = room₅ .0 }, tt)))) $
-        assigns ! (addr ! (from ! (fld ! refl (hop ! (look-in ! 24 (sub ! 0 refl (whole !))) (stop !))))) (from ! (stop !)) (init ! 33 refl (tt, tt)) $
-        assigns ! (agg ! (and-then ! (load ! (from ! (stop !)) (look ! 33 refl)) (and-then ! (load ! (from ! (fld ! refl (stop !))) (look-in ! 24 (sub ! 1 refl (whole !)))) (no-more !)))) (from ! (stop !)) (init ! 34 refl (tt, (tt, (record { fits = room₆ .0 }, tt)))) $
-        move ! (2 ∷ []) $ use1 W (‵ own₂ ⊛ ‵ own₂) (shr-slice-copy 𝓤 H A W (named 2) κ₂ Rule.the-row .twice x₂ (s₂ ∷ [])) $ parts ! $ move ! (2 ∷ []) $
-        use1 W (‵ own₀ ⊛ ‵ own₀) (shr-slice-copy 𝓤 H A W (named 0) κ₀ u32 .twice x₀ (s₀ ∷ [])) $ parts ! $ move ! (4 ∷ []) $
-        use1 W (‵ own₁ ⊛ ‵ own₁) (shr-slice-copy 𝓤 H A W (named 1) κ₁ u32 .twice x₁ (s₁ ∷ [])) $ parts ! $ move ! (6 ∷ []) $
-        use1 W (‵ own₃ ⊛ ‵ own₃) (shr-slice-copy 𝓤 H A W (named 3) κ₃ u32 .twice x₃ (s₃ ∷ [])) $ parts ! $ move ! (8 ∷ []) $
-        use1 W (‵ own₄ ⊛ ‵ own₄) (shr-slice-copy 𝓤 H A W (named 4) κ₄ u32 .twice x₄ (s₄ ∷ [])) $ parts ! $ lft-new ! tt (λ ν. move ! (11 ∷ 18 ∷ []) $
-        use2 W (later (some (λ (δ : GName). ‵ (lent₅ ν δ ids) ⊛ ‵ (kept₅ ν δ ids)))) (lend 𝓤 H A W u32 κ₅ (ν ∷ []) q₅ γ₅ b₅ o₅ (named 5) (named 5) n₅ ids refl) $ await ! tt $ pick ! (λ δ.
-        parts ! $ lft-new ! tt (λ ν′. move ! (14 ∷ 20 ∷ []) $
-        use2 W (later (some (λ (δ′ : GName). ‵ (lent₆ ν′ δ′ keys) ⊛ ‵ (kept₆ ν′ δ′ keys)))) (lend 𝓤 H A W u32 κ₆ (ν′ ∷ []) q₆ γ₆ b₆ o₆ (named 6) (named 6) n₆ keys refl) $ await ! tt $ pick ! (λ δ′.
-        parts ! $ move ! (18 ∷ 16 ∷ 17 ∷ 19 ∷ 20 ∷ 5 ∷ 2 ∷ 15 ∷ 13 ∷ 11 ∷ 9 ∷ 7 ∷ 3 ∷ 0 ∷ []) $ group ! 14 $
-        use1 W (raw (Run 𝓤 H A at-mem run .pre (to-run r₀ ids keys ν ν′ δ δ′))) (asks-run r₀ ids keys is₀ (counting-ready m s K B n WI WK ids keys r₀ e₀) ν ν′ δ δ′) $
-        calls-at ! fm (Run 𝓤 H A at-mem run) known-run (to-run r₀ ids keys ν ν′ δ δ′) (and-then ! (load ! (from ! (stop !)) (look ! 14 refl)) (and-then ! (load ! (from ! (stop !)) (look ! 11 refl)) (and-then ! (load ! (from ! (stop !)) (look ! 12 refl)) (and-then ! (load ! (from ! (stop !)) (look ! 15 refl)) (and-then ! (load ! (from ! (stop !)) (look ! 16 refl)) (and-then ! (load ! (from ! (stop !)) (look ! 26 refl)) (and-then ! (load ! (from ! (stop !)) (look ! 28 refl)) (and-then ! (load ! (from ! (stop !)) (look ! 19 refl)) (no-more !))))))))) (λ w.
-        use1 W (later (some (λ (r : State). (raw (alive 𝓤 H A run′.signature (run-lifetimes ν ν′) (run-shares tt)) ⊛ ‵ (State.the-row .own r (w ∷ []))) ⊛ raw (ensured 𝓤 H A run′.ended (run′.clauses 𝓤 H A at-mem run) (run-lifetimes ν ν′) (run-args r₀ ids keys δ δ′) tt r)))) (id⊢ 𝓤 _) $ await ! tt $ pick ! (λ r.
-        parts ! $ move ! (1 ∷ []) $
-        use1 W (some (λ (zs : Lasts run′.ended (run-lifetimes ν ν′) (run-args r₀ ids keys δ δ′)). ‵ (lasts run′.ended (run-lifetimes ν ν′) (run-args r₀ ids keys δ δ′) zs) ⊛ raw (fact 𝓤 (progressOf r (zs .1 .1 .1 .1 .1 .0) (zs .1 .1 .1 .1 .1 .1 .0) ≡ runOf K B WI WK (x₂ .now) (progressOf r₀ ids keys))))) (id⊢ 𝓤 _) $ pick ! (λ zs.
-        parts ! $ move ! (1 ∷ []) $
-        heard ! (progressOf r (zs .1 .1 .1 .1 .1 .0) (zs .1 .1 .1 .1 .1 .1 .0) ≡ runOf K B WI WK (x₂ .now) (progressOf r₀ ids keys)) (λ e. fsplit ! $ drop ! $
-        fsplit ! $ drop ! $ fsplit ! $ drop ! $ fsplit ! $ drop ! $ fsplit ! $ drop ! $ fsplit ! $ fsplit ! $ move ! (1 ∷ []) $ feqL ! (λ len-ids.
-        move ! (1 ∷ []) $ fsplit ! $ fsplit ! $ move ! (1 ∷ []) $ feqL ! (λ len-keys. move ! (3 ∷ []) $ parts ! $ move ! (1 ∷ []) $
-        facts ! State.the-row (Is State.the-row) (shows 𝓤 H A State.the-row) r (w ∷ []) (λ is.
-        land ! (from ! (stop !)) (init ! 23 refl (LL.lawful State.the-type State′.the-laws 𝓤 H A W .typed r (w ∷ []) is .0)) $
-        rewrite ! 23 (λ (v : Val). ‵ (fat fullShare State′.mir l₁₂ 0 v)) (ap only (LL.tells State.the-type State′.the-laws r (w ∷ []) is)) refl $
-        use1 W (‵ (flft κ₂ q₂) ⊛ ‵ (flft κ₀ q₀) ⊛ ‵ (flft κ₁ q₁) ⊛ ‵ (flft κ₃ q₃) ⊛ ‵ (flft κ₄ q₄) ⊛ ‵ (flft (ν ∷ []) fullShare) ⊛ ‵ (flft (ν′ ∷ []) fullShare) ⊛ ‵ ftrue) (id⊢ 𝓤 _) $
-        parts ! $ move ! (1 ∷ []) $ parts ! $ move ! (1 ∷ []) $ parts ! $ move ! (1 ∷ []) $ parts ! $ move ! (1 ∷ []) $ parts ! $ move ! (1 ∷ []) $ parts ! $
-        move ! (1 ∷ []) $ parts ! $ move ! (1 ∷ []) $ drop ! $ move ! (1 ∷ []) $ lft-end ! tt $ move ! (0 ∷ 11 ∷ 9 ∷ []) $
-        use3 W (later (‵ (own₅ (zs .1 .1 .1 .1 .1 .0)) ⊛ ‵ (flft κ₅ q₅))) (back 𝓤 H A W u32 κ₅ (ν ∷ []) q₅ γ₅ b₅ o₅ (named 5) (named 5) n₅ δ ids (zs .1 .1 .1 .1 .1 .0) room₅ refl len-ids) $ await ! tt $
-        parts ! $ move ! (2 ∷ []) $ lft-end ! tt $ move ! (0 ∷ 10 ∷ 8 ∷ []) $
-        use3 W (later (‵ (own₆ (zs .1 .1 .1 .1 .1 .1 .0)) ⊛ ‵ (flft κ₆ q₆))) (back 𝓤 H A W u32 κ₆ (ν′ ∷ []) q₆ γ₆ b₆ o₆ (named 6) (named 6) n₆ δ′ keys (zs .1 .1 .1 .1 .1 .1 .0) room₆ refl len-keys) $ await ! tt $
-        parts ! $
-        keep ! (13 ∷ 12 ∷ 14 ∷ 11 ∷ 10 ∷ 2 ∷ 0 ∷ 7 ∷ 6 ∷ 8 ∷ 5 ∷ 4 ∷ 3 ∷ 1 ∷ 15 ∷ 16 ∷ 17 ∷ 18 ∷ 19 ∷ 20 ∷ 21 ∷ 22 ∷ 23 ∷ 24 ∷ 25 ∷ 26 ∷ 27 ∷ 28 ∷ 29 ∷ 30 ∷ 31 ∷ 32 ∷ 33 ∷ 34 ∷ 35 ∷ 36 ∷ 37 ∷ 38 ∷ 39 ∷ 40 ∷ 41 ∷ 42 ∷ 43 ∷ 44 ∷ 45 ∷ 46 ∷ 47 ∷ 48 ∷ 49 ∷ 50 ∷ 51 ∷ 52 ∷ 53 ∷ 54 ∷ 55 ∷ 56 ∷ 57 ∷ 58 ∷ 59 ∷ 60 ∷ 61 ∷ 62 ∷ 63 ∷ 64 ∷ []) $
-        writes r (zs .1 .1 .1 .1 .1 .0) (zs .1 .1 .1 .1 .1 .1 .0) r₀ (typed r (w ∷ []) is) (counted-law m s K B n (x₂ .now) WI WK ids keys r₀ r (zs .1 .1 .1 .1 .1 .0) (zs .1 .1 .1 .1 .1 .1 .0) e₀ e) len-ids len-keys)))))))))))
+          assigns ! (addr ! (from ! (fld ! refl (hop ! (look-in ! 23 (sub ! 0 refl (whole !))) (stop !))))) (from ! (stop !)) (init ! 31 refl (tt, tt)) $
+          assigns ! (agg ! (and-then ! (load ! (from ! (stop !)) (look ! 31 refl)) (and-then ! (load ! (from ! (fld ! refl (stop !))) (look-in ! 23 (sub ! 1 refl (whole !)))) (no-more !)))) (from ! (stop !)) (init ! 32 refl (tt, (tt, (record { fits = room₅ .0 }, tt)))) $
+          assigns ! (addr ! (from ! (fld ! refl (hop ! (look-in ! 24 (sub ! 0 refl (whole !))) (stop !))))) (from ! (stop !)) (init ! 33 refl (tt, tt)) $
+          assigns ! (agg ! (and-then ! (load ! (from ! (stop !)) (look ! 33 refl)) (and-then ! (load ! (from ! (fld ! refl (stop !))) (look-in ! 24 (sub ! 1 refl (whole !)))) (no-more !)))) (from ! (stop !)) (init ! 34 refl (tt, (tt, (record { fits = room₆ .0 }, tt)))) $
+          move ! (2 ∷ []) $ use1 W (‵ own₂ ⊛ ‵ own₂) (shr-slice-copy 𝓤 H A W (named 2) κ₂ Rule.the-row .twice x₂ (s₂ ∷ [])) $ parts ! $ move ! (2 ∷ []) $
+          use1 W (‵ own₀ ⊛ ‵ own₀) (shr-slice-copy 𝓤 H A W (named 0) κ₀ u32 .twice x₀ (s₀ ∷ [])) $ parts ! $ move ! (4 ∷ []) $
+          use1 W (‵ own₁ ⊛ ‵ own₁) (shr-slice-copy 𝓤 H A W (named 1) κ₁ u32 .twice x₁ (s₁ ∷ [])) $ parts ! $ move ! (6 ∷ []) $
+          use1 W (‵ own₃ ⊛ ‵ own₃) (shr-slice-copy 𝓤 H A W (named 3) κ₃ u32 .twice x₃ (s₃ ∷ [])) $ parts ! $ move ! (8 ∷ []) $
+          use1 W (‵ own₄ ⊛ ‵ own₄) (shr-slice-copy 𝓤 H A W (named 4) κ₄ u32 .twice x₄ (s₄ ∷ [])) $ parts ! $ lft-new ! tt (λ ν. move ! (11 ∷ 18 ∷ []) $
+          use2 W (later (some (λ (δ : GName). ‵ (lent₅ ν δ ids) ⊛ ‵ (kept₅ ν δ ids)))) (lend 𝓤 H A W u32 κ₅ (ν ∷ []) q₅ γ₅ b₅ o₅ (named 5) (named 5) n₅ ids refl) $ await ! tt $ pick ! (λ δ.
+          parts ! $ lft-new ! tt (λ ν′. move ! (14 ∷ 20 ∷ []) $
+          use2 W (later (some (λ (δ′ : GName). ‵ (lent₆ ν′ δ′ keys) ⊛ ‵ (kept₆ ν′ δ′ keys)))) (lend 𝓤 H A W u32 κ₆ (ν′ ∷ []) q₆ γ₆ b₆ o₆ (named 6) (named 6) n₆ keys refl) $ await ! tt $ pick ! (λ δ′.
+          parts ! $ move ! (18 ∷ 16 ∷ 17 ∷ 19 ∷ 20 ∷ 5 ∷ 2 ∷ 15 ∷ 13 ∷ 11 ∷ 9 ∷ 7 ∷ 3 ∷ 0 ∷ []) $ group ! 14 $
+          use1 W (raw (Run 𝓤 H A at-mem run .pre (to-run r₀ ids keys ν ν′ δ δ′))) (asks-run r₀ ids keys is₀ (counting-ready m s K B n WI WK ids keys r₀ e₀) ν ν′ δ δ′) $
+          calls-at ! fm (Run 𝓤 H A at-mem run) known-run (to-run r₀ ids keys ν ν′ δ δ′) (and-then ! (load ! (from ! (stop !)) (look ! 14 refl)) (and-then ! (load ! (from ! (stop !)) (look ! 11 refl)) (and-then ! (load ! (from ! (stop !)) (look ! 12 refl)) (and-then ! (load ! (from ! (stop !)) (look ! 15 refl)) (and-then ! (load ! (from ! (stop !)) (look ! 16 refl)) (and-then ! (load ! (from ! (stop !)) (look ! 26 refl)) (and-then ! (load ! (from ! (stop !)) (look ! 28 refl)) (and-then ! (load ! (from ! (stop !)) (look ! 19 refl)) (no-more !))))))))) (λ w.
+          use1 W (later (some (λ (r : State). (raw (alive 𝓤 H A run′.signature (run-lifetimes ν ν′) (run-shares tt)) ⊛ ‵ (State.the-row .own r (w ∷ []))) ⊛ raw (ensured 𝓤 H A run′.ended (run′.clauses 𝓤 H A at-mem run) (run-lifetimes ν ν′) (run-args r₀ ids keys δ δ′) tt r)))) (id⊢ 𝓤 _) $ await ! tt $ pick ! (λ r.
+          parts ! $ move ! (1 ∷ []) $
+          use1 W (some (λ (zs : Lasts run′.ended (run-lifetimes ν ν′) (run-args r₀ ids keys δ δ′)). ‵ (lasts run′.ended (run-lifetimes ν ν′) (run-args r₀ ids keys δ δ′) zs) ⊛ raw (fact 𝓤 (progressOf r (zs .1 .1 .1 .1 .1 .0) (zs .1 .1 .1 .1 .1 .1 .0) ≡ runOf K B WI WK (x₂ .now) (progressOf r₀ ids keys))))) (id⊢ 𝓤 _) $ pick ! (λ zs.
+          parts ! $ move ! (1 ∷ []) $
+          heard ! (progressOf r (zs .1 .1 .1 .1 .1 .0) (zs .1 .1 .1 .1 .1 .1 .0) ≡ runOf K B WI WK (x₂ .now) (progressOf r₀ ids keys)) (λ e. fsplit ! $ drop ! $
+          fsplit ! $ drop ! $ fsplit ! $ drop ! $ fsplit ! $ drop ! $ fsplit ! $ drop ! $ fsplit ! $ fsplit ! $ move ! (1 ∷ []) $ feqL ! (λ len-ids.
+          move ! (1 ∷ []) $ fsplit ! $ fsplit ! $ move ! (1 ∷ []) $ feqL ! (λ len-keys. move ! (3 ∷ []) $ parts ! $ move ! (1 ∷ []) $
+          facts ! State.the-row (Is State.the-row) (shows 𝓤 H A State.the-row) r (w ∷ []) (λ is.
+          land ! (from ! (stop !)) (init ! 23 refl (LL.lawful State.the-type State′.the-laws 𝓤 H A W .typed r (w ∷ []) is .0)) $
+          rewrite ! 23 (λ (v : Val). ‵ (fat fullShare State′.mir l₁₂ 0 v)) (ap only (LL.tells State.the-type State′.the-laws r (w ∷ []) is)) refl $
+          use1 W (‵ (flft κ₂ q₂) ⊛ ‵ (flft κ₀ q₀) ⊛ ‵ (flft κ₁ q₁) ⊛ ‵ (flft κ₃ q₃) ⊛ ‵ (flft κ₄ q₄) ⊛ ‵ (flft (ν ∷ []) fullShare) ⊛ ‵ (flft (ν′ ∷ []) fullShare) ⊛ ‵ ftrue) (id⊢ 𝓤 _) $
+          parts ! $ move ! (1 ∷ []) $ parts ! $ move ! (1 ∷ []) $ parts ! $ move ! (1 ∷ []) $ parts ! $ move ! (1 ∷ []) $ parts ! $ move ! (1 ∷ []) $ parts ! $
+          move ! (1 ∷ []) $ parts ! $ move ! (1 ∷ []) $ drop ! $ move ! (1 ∷ []) $ lft-end ! tt $ move ! (0 ∷ 11 ∷ 9 ∷ []) $
+          use3 W (later (‵ (own₅ (zs .1 .1 .1 .1 .1 .0)) ⊛ ‵ (flft κ₅ q₅))) (back 𝓤 H A W u32 κ₅ (ν ∷ []) q₅ γ₅ b₅ o₅ (named 5) (named 5) n₅ δ ids (zs .1 .1 .1 .1 .1 .0) room₅ refl len-ids) $ await ! tt $
+          parts ! $ move ! (2 ∷ []) $ lft-end ! tt $ move ! (0 ∷ 10 ∷ 8 ∷ []) $
+          use3 W (later (‵ (own₆ (zs .1 .1 .1 .1 .1 .1 .0)) ⊛ ‵ (flft κ₆ q₆))) (back 𝓤 H A W u32 κ₆ (ν′ ∷ []) q₆ γ₆ b₆ o₆ (named 6) (named 6) n₆ δ′ keys (zs .1 .1 .1 .1 .1 .1 .0) room₆ refl len-keys) $ await ! tt $
+          parts ! $
+          keep ! (13 ∷ 12 ∷ 14 ∷ 11 ∷ 10 ∷ 2 ∷ 0 ∷ 7 ∷ 6 ∷ 8 ∷ 5 ∷ 4 ∷ 3 ∷ 1 ∷ 15 ∷ 16 ∷ 17 ∷ 18 ∷ 19 ∷ 20 ∷ 21 ∷ 22 ∷ 23 ∷ 24 ∷ 25 ∷ 26 ∷ 27 ∷ 28 ∷ 29 ∷ 30 ∷ 31 ∷ 32 ∷ 33 ∷ 34 ∷ 35 ∷ 36 ∷ 37 ∷ 38 ∷ 39 ∷ 40 ∷ 41 ∷ 42 ∷ 43 ∷ 44 ∷ 45 ∷ 46 ∷ 47 ∷ 48 ∷ 49 ∷ 50 ∷ 51 ∷ 52 ∷ 53 ∷ 54 ∷ 55 ∷ 56 ∷ 57 ∷ 58 ∷ 59 ∷ 60 ∷ 61 ∷ 62 ∷ 63 ∷ 64 ∷ []) $
+          writes r (zs .1 .1 .1 .1 .1 .0) (zs .1 .1 .1 .1 .1 .1 .0) r₀ (typed r (w ∷ []) is) (counted-law m s K B n (x₂ .now) WI WK ids keys r₀ r (zs .1 .1 .1 .1 .1 .0) (zs .1 .1 .1 .1 .1 .1 .0) e₀ e) len-ids len-keys)))))))))))
 
     walk : ent 𝓤 (onEntry 𝓤 H A findings.signature (bound .0 .0) (bound .0 .1) a vals) (WpFn 𝓤 H C Λ code.function machine Post)
     walk =
@@ -489,8 +508,22 @@ module _ {M : Type 1} (𝓤 : URA M) (H : Heap 𝓤) (A : Atoms 𝓤) (W : Given
       (λ κs. (uint-vals w32, (uint-vals w32, (slice-vals, (slice-vals, (uint-vals w64, (slice-vals, (slice-vals, (slice-vals, (slice-vals, (slice-vals, tt)))))))))))
       (λ κs. (
         uint-tells w32,
-        (uint-tells w32, (shr-slice-tells (named 0) (κs .0) u32, (shr-slice-tells (named 1) (κs .1 .0) u32, (uint-tells w64, (shr-slice-tells (named 2) (κs .1 .1 .0) Rule.the-row,
-        (shr-slice-tells (named 3) (κs .1 .1 .1 .0) u32, (shr-slice-tells (named 4) (κs .1 .1 .1 .1 .0) u32, (mut-slice-tells (named 5) (κs .1 .1 .1 .1 .1 .0) u32, (mut-slice-tells (named 6) (κs .1 .1 .1 .1 .1 .1 .0) u32, tt))))))))),
+        (
+          uint-tells w32,
+          (
+            shr-slice-tells (named 0) (κs .0) u32,
+            (
+              shr-slice-tells (named 1) (κs .1 .0) u32,
+              (
+                uint-tells w64,
+                (
+                  shr-slice-tells (named 2) (κs .1 .1 .0) Rule.the-row,
+                  (shr-slice-tells (named 3) (κs .1 .1 .1 .0) u32, (shr-slice-tells (named 4) (κs .1 .1 .1 .1 .0) u32, (mut-slice-tells (named 5) (κs .1 .1 .1 .1 .1 .0) u32, (mut-slice-tells (named 6) (κs .1 .1 .1 .1 .1 .1 .0) u32, tt)))),
+                ),
+              ),
+            ),
+          ),
+        ),
       ))
       (λ κs qs bounds a g are. via 𝓤 _ (fst∗ 𝓤 _ (emp 𝓤))
       (walk 𝓤 H A W mem run (κs .0) (κs .1 .0) (κs .1 .1 .0) (κs .1 .1 .1 .0) (κs .1 .1 .1 .1 .0) (κs .1 .1 .1 .1 .1 .0) (κs .1 .1 .1 .1 .1 .1 .0) (qs .0) (qs .1 .0) (qs .1 .1 .0) (qs .1 .1 .1 .0) (qs .1 .1 .1 .1 .0) (qs .1 .1 .1 .1 .1 .0) (qs .1 .1 .1 .1 .1 .1 .0)
@@ -502,8 +535,28 @@ module _ {M : Type 1} (𝓤 : URA M) (H : Heap 𝓤) (A : Atoms 𝓤) (W : Given
   findings-meets : Meets 𝓤 H A findings.signature (WpFn 𝓤 H (𝓣 .C) (𝓣 .Λ) code.function) (findings.spec 𝓤 H A mem run)
   findings-meets = walk-meets 𝓤 H A findings.ended stayed W (
     plain-goes u32 (λ κs x f. refl),
-    (plain-goes u32 (λ κs x f. refl), (shared-goes 0 tt u32, (shared-goes 1 tt u32, (plain-goes usize (λ κs x f. refl), (shared-goes 2 tt Rule.the-row, (shared-goes 3 tt u32, (shared-goes 4 tt u32,
-    (goes-slice 𝓤 H A W 7 5 tt (plain (λ _. u32)), (goes-slice 𝓤 H A W 7 6 tt (plain (λ _. u32)), tt))))))))),
+    (
+      plain-goes u32 (λ κs x f. refl),
+      (
+        shared-goes 0 tt u32,
+        (
+          shared-goes 1 tt u32,
+          (
+            plain-goes usize (λ κs x f. refl),
+            (
+              shared-goes 2 tt Rule.the-row,
+              (
+                shared-goes 3 tt u32,
+                (
+                  shared-goes 4 tt u32,
+                  (goes-slice 𝓤 H A W 7 5 tt (plain (λ _. u32)), (goes-slice 𝓤 H A W 7 6 tt (plain (λ _. u32)), tt)),
+                ),
+              ),
+            ),
+          ),
+        ),
+      ),
+    ),
   ) (findings.clauses 𝓤 H A mem run) (WpFn 𝓤 H (𝓣 .C) (𝓣 .Λ) code.function) (WpFn-mono 𝓤 H (W .laws) 𝓣 code.function) findings-walks
     where
       plain-goes : (R : RattleType) → Silent 𝓤 H A W 7 (plain (λ _. R)) yes → Goes 𝓤 H A W 7 (plain (λ _. R)) yes (stay-dropped (plain (λ _. R)) yes)

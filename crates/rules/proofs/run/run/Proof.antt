@@ -97,8 +97,19 @@ valOf = LL.val State.the-type State′.the-laws
 abbrev stayed : Stays (run′.ended .signature .params) (run′.ended .kept)
 stayed = (
   stay-dropped (shrSliceOf (0 ∷ []) tt (plain (λ _. Rule.the-row))) yes,
-  (stay-dropped (shrSliceOf (1 ∷ []) tt (plain (λ _. u32))) yes, (stay-dropped (shrSliceOf (2 ∷ []) tt (plain (λ _. u32))) yes, (stay-dropped (shrSliceOf (3 ∷ []) tt (plain (λ _. u32))) yes, (stay-dropped (shrSliceOf (4 ∷ []) tt (plain (λ _. u32))) yes,
-  (stay-slice (5 ∷ []) tt (plain (λ _. u32)), (stay-slice (6 ∷ []) tt (plain (λ _. u32)), (stay-dropped (plain (λ _. State.the-row)) yes, tt)))))))
+  (
+    stay-dropped (shrSliceOf (1 ∷ []) tt (plain (λ _. u32))) yes,
+    (
+      stay-dropped (shrSliceOf (2 ∷ []) tt (plain (λ _. u32))) yes,
+      (
+        stay-dropped (shrSliceOf (3 ∷ []) tt (plain (λ _. u32))) yes,
+        (
+          stay-dropped (shrSliceOf (4 ∷ []) tt (plain (λ _. u32))) yes,
+          (stay-slice (5 ∷ []) tt (plain (λ _. u32)), (stay-slice (6 ∷ []) tt (plain (λ _. u32)), (stay-dropped (plain (λ _. State.the-row)) yes, tt))),
+        ),
+      ),
+    ),
+  ),
 )
 
 -- the contract that the proof cites
@@ -324,18 +335,18 @@ module _ {M : Type 1} (𝓤 : URA M) (H : Heap 𝓤) (A : Atoms 𝓤) (W : Given
       -- what holds before each turn
       abbrev Inv : T → List (Item 𝓤)
       Inv t = ‵ sharedRules ∷ ‵ own₁ ∷ ‵ own₂ ∷ ‵ own₃
-        ∷ ‵ own₄ ∷ ‵ (own₅ (t .found .ids)) ∷ ‵ (own₆ (t .found .keys)) ∷ ‵ (flft κ₀ q₀)
-        ∷ ‵ (flft κ₁ q₁) ∷ ‵ (flft κ₂ q₂) ∷ ‵ (flft κ₃ q₃) ∷ ‵ (flft κ₄ q₄)
-        ∷ ‵ (flft κ₅ q₅) ∷ ‵ (flft κ₆ q₆) ∷ ‵ (fat fullShare rulesTy l₁ 0 s₀) ∷ ‵ (fat fullShare (shared 1) l₂ 0 s₁)
-        ∷ ‵ (fat fullShare (shared 2) l₃ 0 s₂) ∷ ‵ (fat fullShare (shared 3) l₄ 0 s₃) ∷ ‵ (fat fullShare (shared 4) l₅ 0 s₄) ∷ ‵ (fat fullShare (mutable 5) l₆ 0 s₅)
-        ∷ ‵ (fat fullShare (mutable 6) l₇ 0 s₆) ∷ ‵ (fat fullShare State′.mir l₈ 0 (valOf state)) ∷ ‵ (fat fullShare State′.mir l₉ 0 (valOf (t .found .state))) ∷ ‵ (fat fullShare (tyInt w64) l₁₀ 0 (vint w64 (t .i)))
-        ∷ ‵ (froom State′.mir l₀ 0) ∷ ‵ (froom (tyInt w64) l₁₁ 0) ∷ ‵ (froom tyBool l₁₂ 0) ∷ ‵ (froom tyPtr l₁₃ 0)
-        ∷ ‵ (froom Rule′.mir l₁₄ 0) ∷ ‵ (froom (tyRef erased mut (tyInt w32)) l₁₅ 0) ∷ ‵ (froom (sliceTy (tyRef erased mut (tyInt w32))) l₁₆ 0) ∷ ‵ (froom (tyRef erased mut (tyInt w32)) l₁₇ 0)
-        ∷ ‵ (froom (sliceTy (tyRef erased mut (tyInt w32))) l₁₈ 0) ∷ ‵ (fdies State′.mir l₀) ∷ ‵ (fdies rulesTy l₁) ∷ ‵ (fdies (shared 1) l₂)
-        ∷ ‵ (fdies (shared 2) l₃) ∷ ‵ (fdies (shared 3) l₄) ∷ ‵ (fdies (shared 4) l₅) ∷ ‵ (fdies (mutable 5) l₆)
-        ∷ ‵ (fdies (mutable 6) l₇) ∷ ‵ (fdies State′.mir l₈) ∷ ‵ (fdies State′.mir l₉) ∷ ‵ (fdies (tyInt w64) l₁₀)
-        ∷ ‵ (fdies (tyInt w64) l₁₁) ∷ ‵ (fdies tyBool l₁₂) ∷ ‵ (fdies tyPtr l₁₃) ∷ ‵ (fdies Rule′.mir l₁₄)
-        ∷ ‵ (fdies (tyRef erased mut (tyInt w32)) l₁₅) ∷ ‵ (fdies (sliceTy (tyRef erased mut (tyInt w32))) l₁₆) ∷ ‵ (fdies (tyRef erased mut (tyInt w32)) l₁₇) ∷ ‵ (fdies (sliceTy (tyRef erased mut (tyInt w32))) l₁₈) ∷ []
+          ∷ ‵ own₄ ∷ ‵ (own₅ (t .found .ids)) ∷ ‵ (own₆ (t .found .keys)) ∷ ‵ (flft κ₀ q₀)
+          ∷ ‵ (flft κ₁ q₁) ∷ ‵ (flft κ₂ q₂) ∷ ‵ (flft κ₃ q₃) ∷ ‵ (flft κ₄ q₄)
+          ∷ ‵ (flft κ₅ q₅) ∷ ‵ (flft κ₆ q₆) ∷ ‵ (fat fullShare rulesTy l₁ 0 s₀) ∷ ‵ (fat fullShare (shared 1) l₂ 0 s₁)
+          ∷ ‵ (fat fullShare (shared 2) l₃ 0 s₂) ∷ ‵ (fat fullShare (shared 3) l₄ 0 s₃) ∷ ‵ (fat fullShare (shared 4) l₅ 0 s₄) ∷ ‵ (fat fullShare (mutable 5) l₆ 0 s₅)
+          ∷ ‵ (fat fullShare (mutable 6) l₇ 0 s₆) ∷ ‵ (fat fullShare State′.mir l₈ 0 (valOf state)) ∷ ‵ (fat fullShare State′.mir l₉ 0 (valOf (t .found .state))) ∷ ‵ (fat fullShare (tyInt w64) l₁₀ 0 (vint w64 (t .i)))
+          ∷ ‵ (froom State′.mir l₀ 0) ∷ ‵ (froom (tyInt w64) l₁₁ 0) ∷ ‵ (froom tyBool l₁₂ 0) ∷ ‵ (froom tyPtr l₁₃ 0)
+          ∷ ‵ (froom Rule′.mir l₁₄ 0) ∷ ‵ (froom (tyRef erased mut (tyInt w32)) l₁₅ 0) ∷ ‵ (froom (sliceTy (tyRef erased mut (tyInt w32))) l₁₆ 0) ∷ ‵ (froom (tyRef erased mut (tyInt w32)) l₁₇ 0)
+          ∷ ‵ (froom (sliceTy (tyRef erased mut (tyInt w32))) l₁₈ 0) ∷ ‵ (fdies State′.mir l₀) ∷ ‵ (fdies rulesTy l₁) ∷ ‵ (fdies (shared 1) l₂)
+          ∷ ‵ (fdies (shared 2) l₃) ∷ ‵ (fdies (shared 3) l₄) ∷ ‵ (fdies (shared 4) l₅) ∷ ‵ (fdies (mutable 5) l₆)
+          ∷ ‵ (fdies (mutable 6) l₇) ∷ ‵ (fdies State′.mir l₈) ∷ ‵ (fdies State′.mir l₉) ∷ ‵ (fdies (tyInt w64) l₁₀)
+          ∷ ‵ (fdies (tyInt w64) l₁₁) ∷ ‵ (fdies tyBool l₁₂) ∷ ‵ (fdies tyPtr l₁₃) ∷ ‵ (fdies Rule′.mir l₁₄)
+          ∷ ‵ (fdies (tyRef erased mut (tyInt w32)) l₁₅) ∷ ‵ (fdies (sliceTy (tyRef erased mut (tyInt w32))) l₁₆) ∷ ‵ (fdies (tyRef erased mut (tyInt w32)) l₁₇) ∷ ‵ (fdies (sliceTy (tyRef erased mut (tyInt w32))) l₁₈) ∷ []
 
       -- when the loop is left, the rest of the body runs
       abbrev Left : Out → SProp 𝓤
@@ -348,78 +359,78 @@ module _ {M : Type 1} (𝓤 : URA M) (H : Heap 𝓤) (A : Atoms 𝓤) (W : Given
       goes-on : (t : T) → t .i < length (rules .now) → Sq W (Inv t) (Turned t)
       unfolding afterTurn
       goes-on t more =
-        assigns ! (of-opd ! (load ! (from ! (fld ! refl (stop !))) (look-in ! 14 (sub ! 1 refl (whole !))))) (from ! (stop !)) (init ! 25 refl (tt, record { fits = room₀ .0 })) $
-        assigns ! (bin ! (load ! (from ! (stop !)) (look ! 23 refl)) (load ! (from ! (stop !)) (look ! 25 refl)) tt) (from ! (stop !)) (init ! 26 refl (tt, tt)) $
-        rewrite ! 26 (λ (z : Bool). ‵ (fat fullShare tyBool l₁₂ 0 (vbool z))) (lt-ltb (t .i) (length (rules .now)) more) refl $
-        stays ! (load ! (from ! (stop !)) (look ! 26 refl)) $
-        assigns ! (bin ! (load ! (from ! (stop !)) (look ! 23 refl)) (lit ! tt) (record { fits = times-fits t more })) (from ! (stop !)) (store ! 25 refl (tt, record { fits = times-fits t more })) $
-        assigns ! (bin ! (load ! (from ! (fld ! refl (stop !))) (look-in ! 14 (sub ! 0 refl (whole !)))) (load ! (from ! (stop !)) (look ! 25 refl)) tt) (from ! (stop !)) (init ! 27 refl (tt, tt)) $
-        rewrite ! 27 (λ (p : ℕ). ‵ (fat fullShare tyPtr l₁₃ 0 (vptr (rules .ptr .0) p))) (sym (place-is 24 (rules .ptr .1) (t .i))) refl $
-        -- the rule is copied out
-        move ! (0 ∷ 7 ∷ []) $
-        looks-slice ! tt Rule.the-row (Is Rule.the-row) (shows 𝓤 H A Rule.the-row) ruleVals ruleTells (LL.copy Rule.the-type Rule′.the-copy 𝓤 H A W) (rules .now) (rules .ptr .0) (rules .ptr .1) (λ share.
-        elem-out ! Rule.the-row (Is Rule.the-row) (shows 𝓤 H A Rule.the-row) ruleVals ruleTells share (rules .now) (t .i) noRule (rules .ptr .0) (rules .ptr .1) more (λ is.
-        assigns ! (of-opd ! (load ! (from ! (hop ! (look ! 30 refl) (stop !))) (look-raw ! 0 refl))) (from ! (stop !)) (init ! 31 refl (LL.lawful Rule.the-type Rule′.the-laws 𝓤 H A W .typed (rule t) (ruleVals (rule t)) is .0)) $
-        elem-back ! Rule.the-row share (rules .now) (t .i) noRule (ruleVals (rule t)) (rules .ptr .0) (rules .ptr .1) more $
-        shuts-slice ! tt Rule.the-row share (rules .now) (rules .ptr .0) (rules .ptr .1) $
-        -- the two answer slices are lent again
-        assigns ! (addr ! (from ! (fld ! refl (hop ! (look-in ! 19 (sub ! 0 refl (whole !))) (stop !))))) (from ! (stop !)) (init ! 29 refl (tt, tt)) $
-        assigns ! (agg ! (and-then ! (load ! (from ! (stop !)) (look ! 29 refl)) (and-then ! (load ! (from ! (fld ! refl (stop !))) (look-in ! 19 (sub ! 1 refl (whole !)))) (no-more !)))) (from ! (stop !)) (init ! 30 refl (tt, (tt, (record { fits = room₅ .0 }, tt)))) $
-        assigns ! (addr ! (from ! (fld ! refl (hop ! (look-in ! 20 (sub ! 0 refl (whole !))) (stop !))))) (from ! (stop !)) (init ! 31 refl (tt, tt)) $
-        assigns ! (agg ! (and-then ! (load ! (from ! (stop !)) (look ! 31 refl)) (and-then ! (load ! (from ! (fld ! refl (stop !))) (look-in ! 20 (sub ! 1 refl (whole !)))) (no-more !)))) (from ! (stop !)) (init ! 32 refl (tt, (tt, (record { fits = room₆ .0 }, tt)))) $
-        move ! (2 ∷ []) $ use1 W (‵ own₁ ⊛ ‵ own₁) (shr-slice-copy 𝓤 H A W (named 1) κ₁ u32 .twice x₁ (s₁ ∷ [])) $ parts ! $ move ! (4 ∷ []) $
-        use1 W (‵ own₂ ⊛ ‵ own₂) (shr-slice-copy 𝓤 H A W (named 2) κ₂ u32 .twice x₂ (s₂ ∷ [])) $ parts ! $ move ! (6 ∷ []) $
-        use1 W (‵ own₃ ⊛ ‵ own₃) (shr-slice-copy 𝓤 H A W (named 3) κ₃ u32 .twice x₃ (s₃ ∷ [])) $ parts ! $ move ! (8 ∷ []) $
-        use1 W (‵ own₄ ⊛ ‵ own₄) (shr-slice-copy 𝓤 H A W (named 4) κ₄ u32 .twice x₄ (s₄ ∷ [])) $ parts ! $ lft-new ! tt (λ ν. move ! (11 ∷ 17 ∷ []) $
-        use2 W (later (some (λ (δ : GName). ‵ (lent₅ ν δ (t .found .ids)) ⊛ ‵ (kept₅ ν δ (t .found .ids))))) (lend 𝓤 H A W u32 κ₅ (ν ∷ []) q₅ γ₅ b₅ o₅ (named 5) (named 4) n₅ (t .found .ids) (t .ids-length)) $ await ! tt $ pick ! (λ δ.
-        parts ! $ lft-new ! tt (λ ν′. move ! (14 ∷ 19 ∷ []) $
-        use2 W (later (some (λ (δ′ : GName). ‵ (lent₆ ν′ δ′ (t .found .keys)) ⊛ ‵ (kept₆ ν′ δ′ (t .found .keys))))) (lend 𝓤 H A W u32 κ₆ (ν′ ∷ []) q₆ γ₆ b₆ o₆ (named 6) (named 5) n₆ (t .found .keys) (t .keys-length)) $ await ! tt $ pick ! (λ δ′.
-        parts ! $
-        -- the step
-        move ! (16 ∷ 17 ∷ 18 ∷ 19 ∷ 5 ∷ 2 ∷ 13 ∷ 11 ∷ 9 ∷ 7 ∷ 3 ∷ 0 ∷ []) $ group ! 12 $
-        use1 W (raw (Step 𝓤 H A at-mem run .pre (to-step t ν ν′ δ δ′))) (asks t is ν ν′ δ δ′) $
-        calls-at ! fm (Step 𝓤 H A at-mem run) known (to-step t ν ν′ δ δ′) (and-then ! (load ! (from ! (stop !)) (look ! 23 refl)) (and-then ! (load ! (from ! (stop !)) (look ! 10 refl)) (and-then ! (load ! (from ! (stop !)) (look ! 11 refl)) (and-then ! (load ! (from ! (stop !)) (look ! 12 refl)) (and-then ! (load ! (from ! (stop !)) (look ! 13 refl)) (and-then ! (load ! (from ! (stop !)) (look ! 25 refl)) (and-then ! (load ! (from ! (stop !)) (look ! 27 refl)) (and-then ! (load ! (from ! (stop !)) (look ! 17 refl)) (no-more !))))))))) (λ w.
-        use1 W (later (some (λ (r : State). (raw (alive 𝓤 H A step.signature (lifetimes ν ν′) (sharesOf tt)) ⊛ ‵ (State.the-row .own r (w ∷ []))) ⊛ raw (ensured 𝓤 H A step.ended (step.clauses 𝓤 H A at-mem run) (lifetimes ν ν′) (passes t δ δ′) tt r)))) (id⊢ 𝓤 _) $ await ! tt $ pick ! (λ r.
-        parts ! $ move ! (1 ∷ []) $
-        use1 W (some (λ (zs : Lasts step.ended (lifetimes ν ν′) (passes t δ δ′)). ‵ (lasts step.ended (lifetimes ν ν′) (passes t δ δ′) zs) ⊛ raw (fact 𝓤 (progressOf r (zs .1 .1 .1 .1 .1 .0) (zs .1 .1 .1 .1 .1 .1 .0) ≡ stepOf K B WI WK (rule t) (t .found))))) (id⊢ 𝓤 _) $ pick ! (λ zs.
-        parts ! $ move ! (1 ∷ []) $ heard ! (progressOf r (zs .1 .1 .1 .1 .1 .0) (zs .1 .1 .1 .1 .1 .1 .0) ≡ stepOf K B WI WK (rule t) (t .found)) (λ e.
-        fsplit ! $ drop ! $ fsplit ! $ drop ! $ fsplit ! $ drop ! $ fsplit ! $ drop ! $ fsplit ! $ drop ! $ fsplit ! $ fsplit ! $ move ! (1 ∷ []) $
-        feqL ! (λ len-ids. move ! (1 ∷ []) $ fsplit ! $ fsplit ! $ move ! (1 ∷ []) $ feqL ! (λ len-keys. move ! (3 ∷ []) $ parts ! $ move ! (1 ∷ []) $
-        facts ! State.the-row (Is State.the-row) (shows 𝓤 H A State.the-row) r (w ∷ []) (λ is-state.
-        land ! (from ! (stop !)) (store ! 20 refl (LL.lawful State.the-type State′.the-laws 𝓤 H A W .typed r (w ∷ []) is-state .0)) $
-        rewrite ! 20 (λ (v : Val). ‵ (fat fullShare State′.mir l₉ 0 v)) (ap only (LL.tells State.the-type State′.the-laws r (w ∷ []) is-state)) refl $
-        use1 W (‵ (flft κ₁ q₁) ⊛ ‵ (flft κ₂ q₂) ⊛ ‵ (flft κ₃ q₃) ⊛ ‵ (flft κ₄ q₄) ⊛ ‵ (flft (ν ∷ []) fullShare) ⊛ ‵ (flft (ν′ ∷ []) fullShare) ⊛ ‵ ftrue) (id⊢ 𝓤 _) $
-        parts ! $ move ! (1 ∷ []) $ parts ! $ move ! (1 ∷ []) $ parts ! $ move ! (1 ∷ []) $ parts ! $ move ! (1 ∷ []) $ parts ! $ move ! (1 ∷ []) $ parts ! $
-        move ! (1 ∷ []) $ drop ! $
-        -- the lifetimes are ended, and the slices come back
-        move ! (1 ∷ []) $ lft-end ! tt $ move ! (0 ∷ 10 ∷ 8 ∷ []) $
-        use3 W (later (‵ (own₅ (zs .1 .1 .1 .1 .1 .0)) ⊛ ‵ (flft κ₅ q₅))) (back 𝓤 H A W u32 κ₅ (ν ∷ []) q₅ γ₅ b₅ o₅ (named 5) (named 4) n₅ δ (t .found .ids) (zs .1 .1 .1 .1 .1 .0) room₅ (t .ids-length) len-ids) $ await ! tt $
-        parts ! $ move ! (2 ∷ []) $ lft-end ! tt $ move ! (0 ∷ 9 ∷ 7 ∷ []) $
-        use3 W (later (‵ (own₆ (zs .1 .1 .1 .1 .1 .1 .0)) ⊛ ‵ (flft κ₆ q₆))) (back 𝓤 H A W u32 κ₆ (ν′ ∷ []) q₆ γ₆ b₆ o₆ (named 6) (named 5) n₆ δ′ (t .found .keys) (zs .1 .1 .1 .1 .1 .1 .0) room₆ (t .keys-length) len-keys) $ await ! tt $
-        parts ! $
-        assigns-last ! (bin ! (load ! (from ! (stop !)) (look ! 24 refl)) (lit ! tt) (record { fits = next-fits t more })) (from ! (stop !)) (store ! 24 refl (tt, record { fits = next-fits t more })) $
-        forget ! 26 refl $ forget ! 27 refl $ forget ! 28 refl $ forget ! 29 refl $ forget ! 30 refl $ forget ! 31 refl $ forget ! 32 refl $
-        forget ! 33 refl $
-        keep ! (14 ∷ 12 ∷ 11 ∷ 10 ∷ 9 ∷ 2 ∷ 0 ∷ 13 ∷ 7 ∷ 6 ∷ 5 ∷ 4 ∷ 3 ∷ 1 ∷ 15 ∷ 16 ∷ 17 ∷ 18 ∷ 19 ∷ 20 ∷ 21 ∷ 22 ∷ 23 ∷ 24 ∷ 25 ∷ 26 ∷ 27 ∷ 28 ∷ 29 ∷ 30 ∷ 31 ∷ 32 ∷ 33 ∷ 34 ∷ 35 ∷ 36 ∷ 37 ∷ 38 ∷ 39 ∷ 40 ∷ 41 ∷ 42 ∷ 43 ∷ 44 ∷ 45 ∷ 46 ∷ 47 ∷ 48 ∷ 49 ∷ 50 ∷ 51 ∷ 52 ∷ []) $
-        again ! Nearer Inv t (after t more r (zs .1 .1 .1 .1 .1 .0) (zs .1 .1 .1 .1 .1 .1 .0) e len-ids len-keys (typed r (w ∷ []) is-state)) (nearer t more r (zs .1 .1 .1 .1 .1 .0) (zs .1 .1 .1 .1 .1 .1 .0) e len-ids len-keys (typed r (w ∷ []) is-state)))))))))))))))
+          assigns ! (of-opd ! (load ! (from ! (fld ! refl (stop !))) (look-in ! 14 (sub ! 1 refl (whole !))))) (from ! (stop !)) (init ! 25 refl (tt, record { fits = room₀ .0 })) $
+          assigns ! (bin ! (load ! (from ! (stop !)) (look ! 23 refl)) (load ! (from ! (stop !)) (look ! 25 refl)) tt) (from ! (stop !)) (init ! 26 refl (tt, tt)) $
+          rewrite ! 26 (λ (z : Bool). ‵ (fat fullShare tyBool l₁₂ 0 (vbool z))) (lt-ltb (t .i) (length (rules .now)) more) refl $
+          stays ! (load ! (from ! (stop !)) (look ! 26 refl)) $
+          assigns ! (bin ! (load ! (from ! (stop !)) (look ! 23 refl)) (lit ! tt) (record { fits = times-fits t more })) (from ! (stop !)) (store ! 25 refl (tt, record { fits = times-fits t more })) $
+          assigns ! (bin ! (load ! (from ! (fld ! refl (stop !))) (look-in ! 14 (sub ! 0 refl (whole !)))) (load ! (from ! (stop !)) (look ! 25 refl)) tt) (from ! (stop !)) (init ! 27 refl (tt, tt)) $
+          rewrite ! 27 (λ (p : ℕ). ‵ (fat fullShare tyPtr l₁₃ 0 (vptr (rules .ptr .0) p))) (sym (place-is 24 (rules .ptr .1) (t .i))) refl $
+          -- the rule is copied out
+          move ! (0 ∷ 7 ∷ []) $
+          looks-slice ! tt Rule.the-row (Is Rule.the-row) (shows 𝓤 H A Rule.the-row) ruleVals ruleTells (LL.copy Rule.the-type Rule′.the-copy 𝓤 H A W) (rules .now) (rules .ptr .0) (rules .ptr .1) (λ share.
+          elem-out ! Rule.the-row (Is Rule.the-row) (shows 𝓤 H A Rule.the-row) ruleVals ruleTells share (rules .now) (t .i) noRule (rules .ptr .0) (rules .ptr .1) more (λ is.
+          assigns ! (of-opd ! (load ! (from ! (hop ! (look ! 30 refl) (stop !))) (look-raw ! 0 refl))) (from ! (stop !)) (init ! 31 refl (LL.lawful Rule.the-type Rule′.the-laws 𝓤 H A W .typed (rule t) (ruleVals (rule t)) is .0)) $
+          elem-back ! Rule.the-row share (rules .now) (t .i) noRule (ruleVals (rule t)) (rules .ptr .0) (rules .ptr .1) more $
+          shuts-slice ! tt Rule.the-row share (rules .now) (rules .ptr .0) (rules .ptr .1) $
+          -- the two answer slices are lent again
+          assigns ! (addr ! (from ! (fld ! refl (hop ! (look-in ! 19 (sub ! 0 refl (whole !))) (stop !))))) (from ! (stop !)) (init ! 29 refl (tt, tt)) $
+          assigns ! (agg ! (and-then ! (load ! (from ! (stop !)) (look ! 29 refl)) (and-then ! (load ! (from ! (fld ! refl (stop !))) (look-in ! 19 (sub ! 1 refl (whole !)))) (no-more !)))) (from ! (stop !)) (init ! 30 refl (tt, (tt, (record { fits = room₅ .0 }, tt)))) $
+          assigns ! (addr ! (from ! (fld ! refl (hop ! (look-in ! 20 (sub ! 0 refl (whole !))) (stop !))))) (from ! (stop !)) (init ! 31 refl (tt, tt)) $
+          assigns ! (agg ! (and-then ! (load ! (from ! (stop !)) (look ! 31 refl)) (and-then ! (load ! (from ! (fld ! refl (stop !))) (look-in ! 20 (sub ! 1 refl (whole !)))) (no-more !)))) (from ! (stop !)) (init ! 32 refl (tt, (tt, (record { fits = room₆ .0 }, tt)))) $
+          move ! (2 ∷ []) $ use1 W (‵ own₁ ⊛ ‵ own₁) (shr-slice-copy 𝓤 H A W (named 1) κ₁ u32 .twice x₁ (s₁ ∷ [])) $ parts ! $ move ! (4 ∷ []) $
+          use1 W (‵ own₂ ⊛ ‵ own₂) (shr-slice-copy 𝓤 H A W (named 2) κ₂ u32 .twice x₂ (s₂ ∷ [])) $ parts ! $ move ! (6 ∷ []) $
+          use1 W (‵ own₃ ⊛ ‵ own₃) (shr-slice-copy 𝓤 H A W (named 3) κ₃ u32 .twice x₃ (s₃ ∷ [])) $ parts ! $ move ! (8 ∷ []) $
+          use1 W (‵ own₄ ⊛ ‵ own₄) (shr-slice-copy 𝓤 H A W (named 4) κ₄ u32 .twice x₄ (s₄ ∷ [])) $ parts ! $ lft-new ! tt (λ ν. move ! (11 ∷ 17 ∷ []) $
+          use2 W (later (some (λ (δ : GName). ‵ (lent₅ ν δ (t .found .ids)) ⊛ ‵ (kept₅ ν δ (t .found .ids))))) (lend 𝓤 H A W u32 κ₅ (ν ∷ []) q₅ γ₅ b₅ o₅ (named 5) (named 4) n₅ (t .found .ids) (t .ids-length)) $ await ! tt $ pick ! (λ δ.
+          parts ! $ lft-new ! tt (λ ν′. move ! (14 ∷ 19 ∷ []) $
+          use2 W (later (some (λ (δ′ : GName). ‵ (lent₆ ν′ δ′ (t .found .keys)) ⊛ ‵ (kept₆ ν′ δ′ (t .found .keys))))) (lend 𝓤 H A W u32 κ₆ (ν′ ∷ []) q₆ γ₆ b₆ o₆ (named 6) (named 5) n₆ (t .found .keys) (t .keys-length)) $ await ! tt $ pick ! (λ δ′.
+          parts ! $
+          -- the step
+          move ! (16 ∷ 17 ∷ 18 ∷ 19 ∷ 5 ∷ 2 ∷ 13 ∷ 11 ∷ 9 ∷ 7 ∷ 3 ∷ 0 ∷ []) $ group ! 12 $
+          use1 W (raw (Step 𝓤 H A at-mem run .pre (to-step t ν ν′ δ δ′))) (asks t is ν ν′ δ δ′) $
+          calls-at ! fm (Step 𝓤 H A at-mem run) known (to-step t ν ν′ δ δ′) (and-then ! (load ! (from ! (stop !)) (look ! 23 refl)) (and-then ! (load ! (from ! (stop !)) (look ! 10 refl)) (and-then ! (load ! (from ! (stop !)) (look ! 11 refl)) (and-then ! (load ! (from ! (stop !)) (look ! 12 refl)) (and-then ! (load ! (from ! (stop !)) (look ! 13 refl)) (and-then ! (load ! (from ! (stop !)) (look ! 25 refl)) (and-then ! (load ! (from ! (stop !)) (look ! 27 refl)) (and-then ! (load ! (from ! (stop !)) (look ! 17 refl)) (no-more !))))))))) (λ w.
+          use1 W (later (some (λ (r : State). (raw (alive 𝓤 H A step.signature (lifetimes ν ν′) (sharesOf tt)) ⊛ ‵ (State.the-row .own r (w ∷ []))) ⊛ raw (ensured 𝓤 H A step.ended (step.clauses 𝓤 H A at-mem run) (lifetimes ν ν′) (passes t δ δ′) tt r)))) (id⊢ 𝓤 _) $ await ! tt $ pick ! (λ r.
+          parts ! $ move ! (1 ∷ []) $
+          use1 W (some (λ (zs : Lasts step.ended (lifetimes ν ν′) (passes t δ δ′)). ‵ (lasts step.ended (lifetimes ν ν′) (passes t δ δ′) zs) ⊛ raw (fact 𝓤 (progressOf r (zs .1 .1 .1 .1 .1 .0) (zs .1 .1 .1 .1 .1 .1 .0) ≡ stepOf K B WI WK (rule t) (t .found))))) (id⊢ 𝓤 _) $ pick ! (λ zs.
+          parts ! $ move ! (1 ∷ []) $ heard ! (progressOf r (zs .1 .1 .1 .1 .1 .0) (zs .1 .1 .1 .1 .1 .1 .0) ≡ stepOf K B WI WK (rule t) (t .found)) (λ e.
+          fsplit ! $ drop ! $ fsplit ! $ drop ! $ fsplit ! $ drop ! $ fsplit ! $ drop ! $ fsplit ! $ drop ! $ fsplit ! $ fsplit ! $ move ! (1 ∷ []) $
+          feqL ! (λ len-ids. move ! (1 ∷ []) $ fsplit ! $ fsplit ! $ move ! (1 ∷ []) $ feqL ! (λ len-keys. move ! (3 ∷ []) $ parts ! $ move ! (1 ∷ []) $
+          facts ! State.the-row (Is State.the-row) (shows 𝓤 H A State.the-row) r (w ∷ []) (λ is-state.
+          land ! (from ! (stop !)) (store ! 20 refl (LL.lawful State.the-type State′.the-laws 𝓤 H A W .typed r (w ∷ []) is-state .0)) $
+          rewrite ! 20 (λ (v : Val). ‵ (fat fullShare State′.mir l₉ 0 v)) (ap only (LL.tells State.the-type State′.the-laws r (w ∷ []) is-state)) refl $
+          use1 W (‵ (flft κ₁ q₁) ⊛ ‵ (flft κ₂ q₂) ⊛ ‵ (flft κ₃ q₃) ⊛ ‵ (flft κ₄ q₄) ⊛ ‵ (flft (ν ∷ []) fullShare) ⊛ ‵ (flft (ν′ ∷ []) fullShare) ⊛ ‵ ftrue) (id⊢ 𝓤 _) $
+          parts ! $ move ! (1 ∷ []) $ parts ! $ move ! (1 ∷ []) $ parts ! $ move ! (1 ∷ []) $ parts ! $ move ! (1 ∷ []) $ parts ! $ move ! (1 ∷ []) $ parts ! $
+          move ! (1 ∷ []) $ drop ! $
+          -- the lifetimes are ended, and the slices come back
+          move ! (1 ∷ []) $ lft-end ! tt $ move ! (0 ∷ 10 ∷ 8 ∷ []) $
+          use3 W (later (‵ (own₅ (zs .1 .1 .1 .1 .1 .0)) ⊛ ‵ (flft κ₅ q₅))) (back 𝓤 H A W u32 κ₅ (ν ∷ []) q₅ γ₅ b₅ o₅ (named 5) (named 4) n₅ δ (t .found .ids) (zs .1 .1 .1 .1 .1 .0) room₅ (t .ids-length) len-ids) $ await ! tt $
+          parts ! $ move ! (2 ∷ []) $ lft-end ! tt $ move ! (0 ∷ 9 ∷ 7 ∷ []) $
+          use3 W (later (‵ (own₆ (zs .1 .1 .1 .1 .1 .1 .0)) ⊛ ‵ (flft κ₆ q₆))) (back 𝓤 H A W u32 κ₆ (ν′ ∷ []) q₆ γ₆ b₆ o₆ (named 6) (named 5) n₆ δ′ (t .found .keys) (zs .1 .1 .1 .1 .1 .1 .0) room₆ (t .keys-length) len-keys) $ await ! tt $
+          parts ! $
+          assigns-last ! (bin ! (load ! (from ! (stop !)) (look ! 24 refl)) (lit ! tt) (record { fits = next-fits t more })) (from ! (stop !)) (store ! 24 refl (tt, record { fits = next-fits t more })) $
+          forget ! 26 refl $ forget ! 27 refl $ forget ! 28 refl $ forget ! 29 refl $ forget ! 30 refl $ forget ! 31 refl $ forget ! 32 refl $
+          forget ! 33 refl $
+          keep ! (14 ∷ 12 ∷ 11 ∷ 10 ∷ 9 ∷ 2 ∷ 0 ∷ 13 ∷ 7 ∷ 6 ∷ 5 ∷ 4 ∷ 3 ∷ 1 ∷ 15 ∷ 16 ∷ 17 ∷ 18 ∷ 19 ∷ 20 ∷ 21 ∷ 22 ∷ 23 ∷ 24 ∷ 25 ∷ 26 ∷ 27 ∷ 28 ∷ 29 ∷ 30 ∷ 31 ∷ 32 ∷ 33 ∷ 34 ∷ 35 ∷ 36 ∷ 37 ∷ 38 ∷ 39 ∷ 40 ∷ 41 ∷ 42 ∷ 43 ∷ 44 ∷ 45 ∷ 46 ∷ 47 ∷ 48 ∷ 49 ∷ 50 ∷ 51 ∷ 52 ∷ []) $
+          again ! Nearer Inv t (after t more r (zs .1 .1 .1 .1 .1 .0) (zs .1 .1 .1 .1 .1 .1 .0) e len-ids len-keys (typed r (w ∷ []) is-state)) (nearer t more r (zs .1 .1 .1 .1 .1 .0) (zs .1 .1 .1 .1 .1 .1 .0) e len-ids len-keys (typed r (w ∷ []) is-state)))))))))))))))
 
       -- the turn that leaves the loop, and the rest of the body
       leaves : (t : T) → length (rules .now) ≤ t .i → Sq W (Inv t) (Turned t)
       unfolding afterTurn
       leaves t over =
-        assigns ! (of-opd ! (load ! (from ! (fld ! refl (stop !))) (look-in ! 14 (sub ! 1 refl (whole !))))) (from ! (stop !)) (init ! 25 refl (tt, record { fits = room₀ .0 })) $
-        assigns ! (bin ! (load ! (from ! (stop !)) (look ! 23 refl)) (load ! (from ! (stop !)) (look ! 25 refl)) tt) (from ! (stop !)) (init ! 26 refl (tt, tt)) $
-        rewrite ! 26 (λ (z : Bool). ‵ (fat fullShare tyBool l₁₂ 0 (vbool z))) (le-ltb (t .i) (length (rules .now)) over) refl $
-        leaves-loop ! (load ! (from ! (stop !)) (look ! 26 refl)) $ exec ! C Λ En mir.t-4 (atRet En Post) $
-        assigns ! (of-opd ! (load ! (from ! (stop !)) (look ! 22 refl))) (from ! (stop !)) (init ! 24 refl (LL.lawful State.the-type State′.the-laws 𝓤 H A W .typed (t .found .state) (stateVals (t .found .state)) (t .fits) .0)) $
-        returns ! (look ! 24 refl) $ forget ! 24 refl $ forget ! 14 refl $ forget ! 15 refl $ forget ! 16 refl $ forget ! 17 refl $ forget ! 18 refl $
-        forget ! 19 refl $ forget ! 20 refl $ forget ! 21 refl $ forget ! 22 refl $ forget ! 23 refl $ forget ! 25 refl $ forget ! 26 refl $
-        move ! (24 ∷ 33 ∷ []) $ free1 ! $ move ! (14 ∷ 32 ∷ []) $ free1 ! $ move ! (14 ∷ 31 ∷ []) $ free1 ! $ move ! (14 ∷ 30 ∷ []) $ free1 ! $
-        move ! (14 ∷ 29 ∷ []) $ free1 ! $ move ! (14 ∷ 28 ∷ []) $ free1 ! $ move ! (14 ∷ 27 ∷ []) $ free1 ! $ move ! (14 ∷ 26 ∷ []) $ free1 ! $
-        move ! (14 ∷ 25 ∷ []) $ free1 ! $ move ! (14 ∷ 24 ∷ []) $ free1 ! $ move ! (14 ∷ 23 ∷ []) $ free1 ! $ move ! (14 ∷ 22 ∷ []) $ free1 ! $
-        move ! (14 ∷ 21 ∷ []) $ free1 ! $ move ! (14 ∷ 20 ∷ []) $ free1 ! $ move ! (14 ∷ 19 ∷ []) $ free1 ! $ move ! (14 ∷ 18 ∷ []) $ free1 ! $
-        move ! (14 ∷ 17 ∷ []) $ free1 ! $ move ! (14 ∷ 16 ∷ []) $ free1 ! $ move ! (14 ∷ 15 ∷ []) $ free1 ! $ free0 ! $
-        keep ! (5 ∷ 6 ∷ 7 ∷ 8 ∷ 9 ∷ 10 ∷ 11 ∷ 12 ∷ 13 ∷ []) $ by ! (exits t over)
+          assigns ! (of-opd ! (load ! (from ! (fld ! refl (stop !))) (look-in ! 14 (sub ! 1 refl (whole !))))) (from ! (stop !)) (init ! 25 refl (tt, record { fits = room₀ .0 })) $
+          assigns ! (bin ! (load ! (from ! (stop !)) (look ! 23 refl)) (load ! (from ! (stop !)) (look ! 25 refl)) tt) (from ! (stop !)) (init ! 26 refl (tt, tt)) $
+          rewrite ! 26 (λ (z : Bool). ‵ (fat fullShare tyBool l₁₂ 0 (vbool z))) (le-ltb (t .i) (length (rules .now)) over) refl $
+          leaves-loop ! (load ! (from ! (stop !)) (look ! 26 refl)) $ exec ! C Λ En mir.t-4 (atRet En Post) $
+          assigns ! (of-opd ! (load ! (from ! (stop !)) (look ! 22 refl))) (from ! (stop !)) (init ! 24 refl (LL.lawful State.the-type State′.the-laws 𝓤 H A W .typed (t .found .state) (stateVals (t .found .state)) (t .fits) .0)) $
+          returns ! (look ! 24 refl) $ forget ! 24 refl $ forget ! 14 refl $ forget ! 15 refl $ forget ! 16 refl $ forget ! 17 refl $ forget ! 18 refl $
+          forget ! 19 refl $ forget ! 20 refl $ forget ! 21 refl $ forget ! 22 refl $ forget ! 23 refl $ forget ! 25 refl $ forget ! 26 refl $
+          move ! (24 ∷ 33 ∷ []) $ free1 ! $ move ! (14 ∷ 32 ∷ []) $ free1 ! $ move ! (14 ∷ 31 ∷ []) $ free1 ! $ move ! (14 ∷ 30 ∷ []) $ free1 ! $
+          move ! (14 ∷ 29 ∷ []) $ free1 ! $ move ! (14 ∷ 28 ∷ []) $ free1 ! $ move ! (14 ∷ 27 ∷ []) $ free1 ! $ move ! (14 ∷ 26 ∷ []) $ free1 ! $
+          move ! (14 ∷ 25 ∷ []) $ free1 ! $ move ! (14 ∷ 24 ∷ []) $ free1 ! $ move ! (14 ∷ 23 ∷ []) $ free1 ! $ move ! (14 ∷ 22 ∷ []) $ free1 ! $
+          move ! (14 ∷ 21 ∷ []) $ free1 ! $ move ! (14 ∷ 20 ∷ []) $ free1 ! $ move ! (14 ∷ 19 ∷ []) $ free1 ! $ move ! (14 ∷ 18 ∷ []) $ free1 ! $
+          move ! (14 ∷ 17 ∷ []) $ free1 ! $ move ! (14 ∷ 16 ∷ []) $ free1 ! $ move ! (14 ∷ 15 ∷ []) $ free1 ! $ free0 ! $
+          keep ! (5 ∷ 6 ∷ 7 ∷ 8 ∷ 9 ∷ 10 ∷ 11 ∷ 12 ∷ 13 ∷ []) $ by ! (exits t over)
 
       turned : (t : T) → Sq W (Inv t) (Turned t)
       turned t = split (t .i) (length (rules .now)) (goes-on t) (leaves t)
@@ -454,8 +465,19 @@ module _ {M : Type 1} (𝓤 : URA M) (H : Heap 𝓤) (A : Atoms 𝓤) (W : Given
       (λ κs. (slice-vals, (slice-vals, (slice-vals, (slice-vals, (slice-vals, (slice-vals, (slice-vals, (stateVals, tt)))))))))
       (λ κs. (
         shr-slice-tells (named 0) (κs .0) Rule.the-row,
-        (shr-slice-tells (named 1) (κs .1 .0) u32, (shr-slice-tells (named 2) (κs .1 .1 .0) u32, (shr-slice-tells (named 3) (κs .1 .1 .1 .0) u32, (shr-slice-tells (named 4) (κs .1 .1 .1 .1 .0) u32,
-        (mut-slice-tells (named 5) (κs .1 .1 .1 .1 .1 .0) u32, (mut-slice-tells (named 6) (κs .1 .1 .1 .1 .1 .1 .0) u32, (LL.tells State.the-type State′.the-laws, tt))))))),
+        (
+          shr-slice-tells (named 1) (κs .1 .0) u32,
+          (
+            shr-slice-tells (named 2) (κs .1 .1 .0) u32,
+            (
+              shr-slice-tells (named 3) (κs .1 .1 .1 .0) u32,
+              (
+                shr-slice-tells (named 4) (κs .1 .1 .1 .1 .0) u32,
+                (mut-slice-tells (named 5) (κs .1 .1 .1 .1 .1 .0) u32, (mut-slice-tells (named 6) (κs .1 .1 .1 .1 .1 .1 .0) u32, (LL.tells State.the-type State′.the-laws, tt))),
+              ),
+            ),
+          ),
+        ),
       ))
       (λ κs qs bounds a g are. needs 𝓤 (Ready (a .1 .0 .now) (a .1 .1 .0 .now) (a .1 .1 .1 .0 .now) (a .1 .1 .1 .1 .0 .now) (progressOf (a .1 .1 .1 .1 .1 .1 .1 .0) (a .1 .1 .1 .1 .1 .0 .now) (a .1 .1 .1 .1 .1 .1 .0 .now))) _ (λ ready.
       walk 𝓤 H A W mem run (κs .0) (κs .1 .0) (κs .1 .1 .0) (κs .1 .1 .1 .0) (κs .1 .1 .1 .1 .0) (κs .1 .1 .1 .1 .1 .0) (κs .1 .1 .1 .1 .1 .1 .0) (qs .0) (qs .1 .0) (qs .1 .1 .0) (qs .1 .1 .1 .0) (qs .1 .1 .1 .1 .0) (qs .1 .1 .1 .1 .1 .0) (qs .1 .1 .1 .1 .1 .1 .0)
