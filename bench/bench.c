@@ -103,14 +103,17 @@ static void findings(size_t n) {
     static uint32_t ids[WAIVERS], waived[WAIVERS], found_ids[1 << 22], found_keys[1 << 22], other_ids[1 << 22], other_found[1 << 22];
     size_t waivers = 0, hidden = 0;
     for (uint32_t i = 0; i < RULES; i++) {
-        uint32_t h = 1 + below(40), w = 1 + below(40);
+        uint32_t h = 20 + below(80), w = 20 + below(80);
         rules[i] = (hlq_rule){ 10 * i, below(EDGE - h), below(EDGE - w), h, w, below(S) };
         size_t count = plain_select(M, keys, bits, n, rules[i].row, rules[i].column, h, w, rules[i].feature, answer, PIXELS);
-        for (size_t j = 0; j < count && waivers < 10 * (i + 1); j += 2) ids[waivers] = rules[i].id, waived[waivers++] = answer[j];
+        for (size_t j = 0; j < count && waivers < 12 * (i + 1) && waivers < WAIVERS; j += 2) ids[waivers] = rules[i].id, waived[waivers++] = answer[j];
     }
     printf("\nfindings at m = %d: %d rules, %zu waivers\n", M, RULES, waivers);
     COMPARE("findings", 5, sink += hlq_findings(M, S, keys, MOST, bits, MOST, n, rules, RULES, ids, waivers, waived, waivers, found_ids, 1 << 22, found_keys, 1 << 22).live,
             sink += (uint64_t)plain_is_list(M, S, keys, bits, n) + plain_findings(M, keys, bits, n, rules, RULES, ids, waived, waivers, other_ids, other_found, &hidden));
+    hlq_found found = hlq_findings(M, S, keys, MOST, bits, MOST, n, rules, RULES, ids, waivers, waived, waivers, found_ids, 1 << 22, found_keys, 1 << 22);
+    if (found.hidden != hidden || memcmp(found_ids, other_ids, 4 * found.live) != 0 || memcmp(found_keys, other_found, 4 * found.live) != 0) printf("THE TWO DIFFER\n");
+    printf("%llu live, %llu hidden\n", (unsigned long long)found.live, (unsigned long long)found.hidden);
 }
 
 static void files(size_t n) {

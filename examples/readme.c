@@ -1,4 +1,5 @@
-/* The example of the README: a list is built, a block is looked up in it, a window is asked, and a paint is taken back. */
+/* The example of the README: a list is built, a block is looked up in it, a window is asked, a rule is run with a waiver, and a paint is
+ * taken back. */
 #include "prowcurl.h"
 
 #include <stdio.h>
@@ -21,6 +22,12 @@ int main(void) {
     hlq_counted found = hlq_select(2, 3, keys, 21, bits, 21, n, 0, 1, 2, 3, 1, answer, 16);
     printf("feature 1 there:");
     for (size_t i = 0; i < found.count; i++) printf(" %u%u", answer[i] / 5, answer[i] % 5);
+
+    static const hlq_rule rules[1] = { { 7, 0, 0, 4, 4, 2 } };                   /* rule 7: no feature 2 in the whole map */
+    static const uint32_t waiver_ids[1] = { 7 }, waiver_keys[1] = { 2 * 5 + 4 }; /* but in block 24 it is accepted */
+    uint32_t ids[16];
+    hlq_found f = hlq_findings(2, 3, keys, 21, bits, 21, n, rules, 1, waiver_ids, 1, waiver_keys, 1, ids, 16, answer, 16);
+    printf("\n%llu live, of rule %u in block %u%u; %llu hidden", (number)f.live, ids[0], answer[0] / 5, answer[0] % 5, (number)f.hidden);
 
     hlq_edited e = hlq_paint(2, 3, keys, 21, bits, 21, n, log_keys, 8, log_values, 8, used, 2 * 5 + 4, 1); /* block 24 with 1 */
     if (e.refusal) return 1;
