@@ -25,6 +25,8 @@ pub mod LastEntry
 pub mod SoundLog
 pub mod Waivers
 pub mod OldFault
+pub mod FindingOrder
+pub mod FindingsAscend
 pub mod FileBytes
 pub mod FileOf
 pub mod FileBack

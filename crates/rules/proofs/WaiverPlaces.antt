@@ -1,6 +1,6 @@
 -- The waivers of two slices, place by place. Rests on nothing.
-use Prim.Native.Nat.{ℕ, zero, suc, _+_, _≤_, _<_, min}
-use mathlib.Core.Path.{_≡_, refl, sym, ap, _∙_}
+use Prim.Native.Nat.{ℕ, zero, suc, _≤_, _<_, min}
+use mathlib.Core.Path.{_≡_, refl}
 use mathlib.Core.List.{List, [], _∷_}
 use native.Mathlib.Omega.{arith}
 use lib.ListN.{length, getD, drop}
@@ -17,6 +17,14 @@ unfolding waiversOf
 waivers-length [] keys = let z : 0 ≡ min 0 (length keys) = omega arith in z
 waivers-length (id ∷ ids) [] = let z : 0 ≡ min (suc (length ids)) 0 = omega arith in z
 waivers-length (id ∷ ids) (κ ∷ keys) = let ih = waivers-length ids keys in let z : suc (length (waiversOf ids keys)) ≡ min (suc (length ids)) (suc (length keys)) = omega arith in z
+
+-- what the list of them has at a place
+pub waivers-at : (ids keys : List ℕ) (i : ℕ) → i < room ids keys → getD (waiversOf ids keys) i (findingOf 0 0) ≡ waiverAt ids keys i
+unfolding waiversOf
+waivers-at [] keys i h = absurd (omega arith)
+waivers-at (id ∷ ids) [] i h = absurd (omega arith)
+waivers-at (id ∷ ids) (κ ∷ keys) zero h = refl
+waivers-at (id ∷ ids) (κ ∷ keys) (suc i) h = waivers-at ids keys i (omega arith)
 
 -- the waiver at a place, and those after it
 pub waivers-drop : (ids keys : List ℕ) (i : ℕ) → i < room ids keys → drop i (waiversOf ids keys) ≡ waiverAt ids keys i ∷ drop (suc i) (waiversOf ids keys)
