@@ -21,5 +21,4 @@ pub mod AllGathered
 pub mod RunEnds
 pub mod Refusals
 pub mod TwoRuns
-pub mod Sifting
 pub mod Answer

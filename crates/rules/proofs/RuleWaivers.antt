@@ -1,5 +1,5 @@
 -- The waivers of one rule stand together: those below its id are the first ones, and the rule's own follow, with keys that ascend. So a finding of the
--- rule is hidden exactly where its key is one of them. Rests on FindingOrder, WaiverOrder, KnownIds and Sifting.
+-- rule is hidden exactly where its key is one of them. Rests on FindingOrder, WaiverOrder, KnownIds and the merge (`sift`).
 use Prim.Native.Nat.{ℕ, zero, suc, _+_, _-_, _≤_, _<_}
 use mathlib.Core.Path.{_≡_, sym, ap, _∙_}
 use mathlib.Core.Bool.{true}
@@ -13,11 +13,11 @@ use Rattle.definitions.specs.Rules.{Finding, findingOf, waiversOf, isHidden, li
 use Rattle.definitions.proofs.FindingOrder.{ascend-rest}
 use Rattle.definitions.proofs.Waivers.{live-hidden, live-kept, live-none, live-and-hidden}
 use Rattle.rules.specs.Run.{waiversBelow}
-use Rattle.rules.specs.Sift.{isWaived, notWaived, Ascend}
+use Rattle.sift.specs.Sift.{isWaived, notWaived, Ascend}
 use Rattle.rules.proofs.WaiverPlaces.{waivers-length}
 use Rattle.rules.proofs.WaiverOrder.{earlier-at, HeldAt, held-hidden, hidden-held}
 use Rattle.rules.proofs.KnownIds.{below-in, below-out, below-nil, below-all}
-use Rattle.rules.proofs.Sifting.{waived-at, StandsAt, at-waived, not-waived-nil, waived-out, waived-in}
+use Rattle.sift.proofs.Merge.{waived-at, StandsAt, at-waived, not-waived-nil, waived-out, waived-in}
 
 -- ---- the waivers below x are the first ones
 below-first : (ids keys : List ℕ) → findingsAscend (waiversOf ids keys) ≡ true → (x i : ℕ) → i < room ids keys → getD ids i 0 < x → i < waiversBelow x (waiversOf ids keys)

@@ -16,8 +16,8 @@ use Rattle.list.specs.Own.{OwnList}
 use Rattle.list.proofs.Own.{own-list}
 use Rattle.window.specs.Gather.{written}
 use Rattle.rules.specs.declared.run.State.{State}
-use Rattle.rules.specs.declared.sift.Sifting.{Sifting}
-use Rattle.rules.specs.Sift.{notWaived, SiftReady, Sifted}
+use Rattle.sift.specs.declared.Sifting.{Sifting}
+use Rattle.sift.specs.Sift.{notWaived, SiftReady, Sifted}
 use Rattle.rules.specs.Run.{Progress, progressOf, waiversBelow, counting, picture, findingsAt, gathered}
 use Rattle.rules.specs.Step.{OwnEnd, Gatherable}
 use Rattle.rules.proofs.KnownIds.{below-mono}

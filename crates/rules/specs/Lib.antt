@@ -1,3 +1,2 @@
-pub mod Sift
 pub mod Run
 pub mod Step

@@ -8,10 +8,9 @@ ghost use Rattle.rules.specs.Run.{progressOf, faultyFrom, counting, mayC
 ghost use Rattle.rules.specs.Step.{OwnEnd, Gatherable};
 use crate::begin;
 use crate::run::State;
-use crate::sift;
-use crate::sift::Sifting;
 use definitions::Rule;
 use definitions::Window;
+use sift::Sifting;
 use window::bounds;
 
 // The rule's id is not below the least that may come, and the rule is good.

@@ -1,11 +1,11 @@
--- `sift::sift` meets its contract: the first waiver at or past the key decides, since the waivers ascend.
+-- `sift` meets its contract: the first waiver at or past the key decides, since the waivers ascend.
 use mathlib.Core.Path.{_≡_, refl, sym, _∙_}
 use mathlib.Core.Bool.{Bool}
 use borrow.Author.Needs.{needs}
-use Rattle.rules.specs.Sift.{isWaived}
-use Rattle.rules.proofs.Sifting.{stands-waived, counted-hidden, counted-live}
-use Rattle.rules.proofs.sift.sift.Statement.{statement}
-use Rattle.rules.proofs.sift.sift.Tie as tie
+use Rattle.sift.specs.Sift.{isWaived}
+use Rattle.sift.proofs.Merge.{stands-waived, counted-hidden, counted-live}
+use Rattle.sift.proofs.sift.Statement.{statement}
+use Rattle.sift.proofs.sift.Tie as tie
 
 -- the entry of the function, from where it is known how the waivers stand
 abbrev entry : tie.After-stands-at → tie.Start

@@ -14,7 +14,7 @@ ghost use Rattle.list.specs.Own.{OwnList, shownBy};
 ghost use Rattle.list.specs.Sorted.{Ascends};
 ghost use Rattle.window.specs.Walk.{Stands};
 ghost use Rattle.window.specs.Gather.{keysWith, keysUntil, putAt};
-ghost use Rattle.rules.specs.Sift.{Passed, FirstPast, SiftReady, RunReady, Sifted};
+ghost use Rattle.sift.specs.Sift.{Passed, FirstPast, SiftReady, RunReady, Sifted};
 use definitions::Rule;
 use definitions::Standing;
 use definitions::Window;

@@ -1,11 +1,11 @@
--- `sift::pass` meets its contract: the waivers that it passes have keys below the key.
+-- `pass` meets its contract: the waivers that it passes have keys below the key.
 use Prim.Native.Nat.{ℕ, _-_, _≤_}
 use native.Mathlib.Omega.{arith}
 use lib.ListN.{length}
-use Rattle.rules.specs.Sift.{Passed}
-use Rattle.rules.proofs.Sifting.{passed-next}
-use Rattle.rules.proofs.sift.pass.Statement.{statement}
-use Rattle.rules.proofs.sift.pass.Tie as tie
+use Rattle.sift.specs.Sift.{Passed}
+use Rattle.sift.proofs.Merge.{passed-next}
+use Rattle.sift.proofs.pass.Statement.{statement}
+use Rattle.sift.proofs.pass.Tie as tie
 
 abbrev Inv-loop : tie.InvT-loop
 Inv-loop waived from key place₀ place = Passed waived place key

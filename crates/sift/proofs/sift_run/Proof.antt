@@ -1,4 +1,4 @@
--- `sift::sift_run` meets its contract: what was sifted so far, with what the rest of the run gives, is what the whole run gives. The waivers passed
+-- `sift_run` meets its contract: what was sifted so far, with what the rest of the run gives, is what the whole run gives. The waivers passed
 -- stay below the keys that are still to come, since these ascend.
 use Prim.Native.Nat.{ℕ, _+_, _-_, _^_, _≤_, _<_}
 use mathlib.Core.Path.{_≡_, refl, sym, ap, _∙_}
@@ -8,11 +8,11 @@ use native.Mathlib.Omega.{arith}
 use lib.ListN.{length, getD, length-append}
 use Rattle.list.specs.Sorted.{Ascends}
 use Rattle.window.proofs.Until.{rest, past-last, past-end, with-bit, without-bit}
-use Rattle.rules.specs.declared.sift.Sifting.{Sifting}
-use Rattle.rules.specs.Sift.{SiftReady, RunReady, Sifted}
-use Rattle.rules.proofs.Sifting.{counted-ids, counted-keys, still-ready, passed-widen, sifted-none, sifted-append, sifted-as}
-use Rattle.rules.proofs.sift.sift_run.Statement.{statement}
-use Rattle.rules.proofs.sift.sift_run.Tie as tie
+use Rattle.sift.specs.declared.Sifting.{Sifting}
+use Rattle.sift.specs.Sift.{SiftReady, RunReady, Sifted}
+use Rattle.sift.proofs.Merge.{counted-ids, counted-keys, still-ready, passed-widen, sifted-none, sifted-append, sifted-as}
+use Rattle.sift.proofs.sift_run.Statement.{statement}
+use Rattle.sift.proofs.sift_run.Tie as tie
 
 -- the whole is what is done and what is left; the waivers passed have keys below x, and x is at or before what is still to come
 record Running (limit id : ℕ) (waived recordKeys : List ℕ) (n end : ℕ) (whole : List ℕ) (at st : Sifting) (ids₀ ids keys₀ keys : List ℕ) (i : ℕ) (left : List ℕ) : Type 0 where

@@ -1,4 +1,4 @@
--- `sift::sift_rule` meets its contract: where the walk stands, what was sifted is what select gives below the key. The key rises from turn to turn.
+-- `sift_rule` meets its contract: where the walk stands, what was sifted is what select gives below the key. The key rises from turn to turn.
 use Prim.Native.Nat.{ℕ, _+_, _-_, _^_, _≤_}
 use mathlib.Core.Path.{_≡_, sym, ap, _∙_, subst}
 use mathlib.Core.List.{List, _++_}
@@ -16,11 +16,11 @@ use Rattle.window.specs.Gather.{keysWith}
 use Rattle.window.proofs.Lower.{lower}
 use Rattle.window.proofs.Below.{below-block, below-none, below-all, below-rest, below-few}
 use Rattle.window.proofs.Steps.{some-keys, follows-at, follows-gone, reached-at, reached-gone, walking-root, walking-after, rises}
-use Rattle.rules.specs.declared.sift.Sifting.{Sifting}
-use Rattle.rules.specs.Sift.{SiftReady, Sifted}
-use Rattle.rules.proofs.Sifting.{counted-ids, counted-keys, still-ready, passed-widen, sifted-none, sifted-append, sifted-as}
-use Rattle.rules.proofs.sift.sift_rule.Statement.{statement}
-use Rattle.rules.proofs.sift.sift_rule.Tie as tie
+use Rattle.sift.specs.declared.Sifting.{Sifting}
+use Rattle.sift.specs.Sift.{SiftReady, Sifted}
+use Rattle.sift.proofs.Merge.{counted-ids, counted-keys, still-ready, passed-widen, sifted-none, sifted-append, sifted-as}
+use Rattle.sift.proofs.sift_rule.Statement.{statement}
+use Rattle.sift.proofs.sift_rule.Tie as tie
 
 -- the loop knows the feature only by its bit
 record Going (m : ℕ) (p : Picture) (w : Window) (limit id bit : ℕ) (waived : List ℕ) (at st : Sifting) (ids₀ ids keys₀ keys : List ℕ) (s : Spot) : Type 0 where

@@ -1,9 +1,9 @@
--- `sift::put` meets its contract: the test that led to the store is that of the definition.
+-- `put` meets its contract: the test that led to the store is that of the definition.
 use mathlib.Core.Path.{sym}
 use borrow.Author.Needs.{needs}
 use Rattle.window.proofs.Written.{put-below, put-past}
-use Rattle.rules.proofs.sift.put.Statement.{statement}
-use Rattle.rules.proofs.sift.put.Tie as tie
+use Rattle.sift.proofs.put.Statement.{statement}
+use Rattle.sift.proofs.put.Tie as tie
 
 mul-answer : tie.Need-mul-answer
 mul-answer c = search needs

@@ -11,8 +11,8 @@ use borrow.Author.Tests.{eqb-true, eq-eqb, ltb-true, lt-ltb}
 use Rattle.keys.proofs.Cases.{decide, split, and-left, and-right, and-both, or-either, or-left, or-right, same-test}
 use Rattle.window.specs.Gather.{putAt, written}
 use Rattle.window.proofs.Written.{written-none, written-one, written-append, length-written}
-use Rattle.rules.specs.declared.sift.Sifting.{Sifting}
-use Rattle.rules.specs.Sift.{isWaived, notWaived, Ascend, Passed, FirstPast, SiftReady, Counted, Sifted}
+use Rattle.sift.specs.declared.Sifting.{Sifting}
+use Rattle.sift.specs.Sift.{isWaived, notWaived, Ascend, Passed, FirstPast, SiftReady, Counted, Sifted}
 
 -- ---- which keys are waived
 pub waived-at : (waived : List ℕ) (key i : ℕ) → i < length waived → getD waived i 0 ≡ key → isWaived waived key ≡ true

@@ -1,8 +1,8 @@
--- `sift::stands_at` meets its contract: past the last waiver there is none.
+-- `stands_at` meets its contract: past the last waiver there is none.
 use borrow.Author.Needs.{needs}
 use borrow.Author.Tests.{lt-ltb, le-ltb}
-use Rattle.rules.proofs.sift.stands_at.Statement.{statement}
-use Rattle.rules.proofs.sift.stands_at.Tie as tie
+use Rattle.sift.proofs.stands_at.Statement.{statement}
+use Rattle.sift.proofs.stands_at.Tie as tie
 
 mul-result : tie.Need-mul-result
 mul-result c = search needs

@@ -7,7 +7,7 @@ use mathlib.Core.List.{List, [], _∷_, map}
 use lib.ListN.{length, getD}
 use lib.Dec.{eqb}
 use Rattle.window.specs.Gather.{written}
-use Rattle.rules.specs.declared.sift.Sifting.{Sifting}
+use Rattle.sift.specs.declared.Sifting.{Sifting}
 
 -- the key is one of the rule's waivers'
 unfoldable pub isWaived : List ℕ → ℕ → Bool

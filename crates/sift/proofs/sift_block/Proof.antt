@@ -1,4 +1,4 @@
--- `sift::sift_block` meets its contract: a listed block's leaves are sifted by a run along its records, and a block inside a leaf is one itself.
+-- `sift_block` meets its contract: a listed block's leaves are sifted by a run along its records, and a block inside a leaf is one itself.
 use Prim.Native.Nat.{ℕ, _≤_, _<_}
 use mathlib.Core.Path.{_≡_, refl, sym, ap, _∙_}
 use mathlib.Core.List.{List}
@@ -13,11 +13,11 @@ use Rattle.list.proofs.Own.{own-sorted, own-ascends}
 use Rattle.window.proofs.Steps.{some-keys}
 use Rattle.window.proofs.Asked.{asked-key, asked-inside}
 use Rattle.window.proofs.Content.{listed-keys, leaf-key, leaf-nothing}
-use Rattle.rules.specs.declared.sift.Sifting.{Sifting}
-use Rattle.rules.specs.Sift.{SiftReady, RunReady}
-use Rattle.rules.proofs.Sifting.{passed-widen, sifted-none, sifted-as}
-use Rattle.rules.proofs.sift.sift_block.Statement.{statement}
-use Rattle.rules.proofs.sift.sift_block.Tie as tie
+use Rattle.sift.specs.declared.Sifting.{Sifting}
+use Rattle.sift.specs.Sift.{SiftReady, RunReady}
+use Rattle.sift.proofs.Merge.{passed-widen, sifted-none, sifted-as}
+use Rattle.sift.proofs.sift_block.Statement.{statement}
+use Rattle.sift.proofs.sift_block.Tie as tie
 
 -- from the place of a key on the keys are at or past it
 run-ready : {limit : ℕ} {waived : List ℕ} {at : Sifting} {ids keys : List ℕ} {most key : ℕ} {recordKeys : List ℕ} {n : ℕ} (first end : ℕ)
