@@ -115,6 +115,9 @@ void damage(map *a) {
 }
 
 void expect_pairs(call which, uint32_t mask) {
+    printf("  %s gave", names[which]);
+    for (uint32_t r = 0; r <= MAX_REFUSAL; r++) if (pairs[which][r]) printf(" %u (%llu times)", r, (unsigned long long)pairs[which][r]);
+    printf("\n");
     for (uint32_t r = 0; r <= MAX_REFUSAL; r++) {
         if ((mask >> r & 1) && pairs[which][r] == 0) { printf("%s never gave %u\n", names[which], r); fail("a refusal that did not occur"); }
         if (!(mask >> r & 1) && pairs[which][r] != 0) { printf("%s gave %u\n", names[which], r); fail("a refusal that document 01 does not list"); }

@@ -48,8 +48,9 @@ void free_map(map a);
 void damage(map *a);
 uint32_t random_key(uint32_t m);
 
-/* The numbers of comparisons and of pairs seen; fails where a pair of the mask (bit r for refusal r) was not seen for the call. */
+/* Prints how often the call gave each refusal; fails where one of the mask (bit r for refusal r) did not occur, or another did. */
 void expect_pairs(call which, uint32_t mask);
+/* Prints the numbers of comparisons and of pairs of a call and its refusal. */
 int finish(const char *name);
 
 #endif

@@ -103,5 +103,6 @@ int main(void) {
     expect_pairs(CALL_BUILD, 1u << 0 | 1u << 1 | 1u << 2 | 1u << 3 | 1u << 9);
     expect_pairs(CALL_RASTER, 1u << 0 | 1u << 1 | 1u << 4 | 1u << 2);
     expect_pairs(CALL_STANDING, 1u << 0 | 1u << 1 | 1u << 4 | 1u << 8);
+    expect_pairs(CALL_PART, 1u << 0 | 1u << 1 | 1u << 4 | 1u << 8);
     return finish("list");
 }
