@@ -31,3 +31,4 @@ pub mod FileBytes
 pub mod FileOf
 pub mod FileBack
 pub mod First
+pub mod Records

@@ -11,7 +11,7 @@ use Rattle.definitions.specs.List.{Record, recordOf, keysOf, valuesOf}
 use Rattle.definitions.specs.Read.{room}
 use Rattle.definitions.specs.Buffer.{overAt}
 use Rattle.definitions.specs.Log.{closed}
-use Rattle.list.proofs.Places.{paired-keys, paired-values}
+use Rattle.definitions.proofs.Records.{paired-keys, paired-values}
 use Rattle.edit.specs.EntryLogged.{run, Logged}
 
 -- a run and one number more, stored behind it

@@ -1,17 +1,17 @@
 -- The entry of a block by its standing: a run of the list's records where it is listed, one record where it lies inside a leaf. Rests on Calls
 -- and PlanPlaces.
-use Prim.Native.Nat.{ℕ, zero, suc, _+_, _-_, _^_, _≤_, _<_}
-use mathlib.Core.Path.{_≡_, refl, sym, _∙_, ap, ap₂}
+use Prim.Native.Nat.{ℕ, _+_, _-_, _^_, _≤_, _<_}
+use mathlib.Core.Path.{_≡_, sym, _∙_, ap, ap₂}
 use mathlib.Core.Bool.{Bool, true, false, cond}
 use mathlib.Core.List.{List, [], _∷_}
 use native.Mathlib.Omega.{arith}
 use lib.ListN.{length, getD, take, drop}
-use lib.Seq.{take-take, getD-take}
+use lib.Seq.{getD-take}
 use Rattle.keys.specs.Key.{validKey, heightOf}
 use Rattle.keys.proofs.Cases.{decide}
 use Rattle.keys.proofs.Powers.{five-le}
 use Rattle.definitions.specs.List.{Record, recordOf}
-use Rattle.definitions.specs.Read.{room, paired, recordsOf}
+use Rattle.definitions.specs.Read.{room, recordsOf}
 use Rattle.definitions.specs.Standing.{placeOf, isListed, standingOf, partLength}
 use Rattle.definitions.specs.declared.Standing.{Standing}
 use Rattle.definitions.specs.declared.Standing.the-variants.{Listed, Inside}
@@ -19,6 +19,7 @@ use Rattle.definitions.specs.Log.{closed}
 use Rattle.definitions.specs.Calls.Paint.{gained}
 use Rattle.definitions.proofs.Ascending.{Ascending, none, next}
 use Rattle.definitions.proofs.ListOf.{list-ascends, list-some}
+use Rattle.definitions.proofs.Records.{records-run}
 use Rattle.list.specs.Own.{OwnList, shownBy}
 use Rattle.list.specs.Among.{keysBelow, standingAmong}
 use Rattle.list.proofs.Among.{values-of-records, standing-among}
@@ -32,39 +33,6 @@ use Rattle.put.proofs.PlanTop.{records-length}
 use Rattle.put.proofs.PlanPlaces.{part-until}
 use Rattle.edit.proofs.EntryPart.{below-first}
 use Rattle.edit.proofs.EntryRun.{closed-length, run-length}
-
--- records taken and dropped are taken and dropped in both slices
-take-paired : (n : ℕ) (keys values : List ℕ) → take n (paired keys values) ≡ paired (take n keys) (take n values)
-unfolding paired
-take-paired zero keys values = refl
-take-paired (suc n) [] values = refl
-take-paired (suc n) (κ ∷ keys) [] = refl
-take-paired (suc n) (κ ∷ keys) (v ∷ values) = ap (λ l. recordOf κ v ∷ l) (take-paired n keys values)
-
-drop-paired : (n : ℕ) (keys values : List ℕ) → drop n (paired keys values) ≡ paired (drop n keys) (drop n values)
-unfolding paired
-drop-paired zero keys values = refl
-drop-paired (suc n) [] values = refl
-drop-paired (suc n) (κ ∷ keys) [] = go (drop n keys)
-  where
-    go : (l : List ℕ) → [] ≡ paired l []
-    go [] = refl
-    go (x ∷ l) = refl
-drop-paired (suc n) (κ ∷ keys) (v ∷ values) = drop-paired n keys values
-
--- a run inside the first n places
-run-within : (n place count : ℕ) (l : List ℕ) → place + count ≤ n → take count (drop place (take n l)) ≡ take count (drop place l)
-run-within n zero count l h = take-take count n l (omega arith)
-run-within zero (suc place) count l h = absurd (omega arith)
-run-within (suc n) (suc place) count [] h = refl
-run-within (suc n) (suc place) count (x ∷ l) h = run-within n place count l (omega arith)
-
--- a run of the first n records
-pub run-of-records : (keys bits : List ℕ) (n place count : ℕ) → place + count ≤ n → take count (drop place (recordsOf keys bits n)) ≡ run keys bits place count
-run-of-records keys bits n place count h =
-    ap (take count) (drop-paired place (take n keys) (take n bits))
-    ∙ take-paired count (drop place (take n keys)) (drop place (take n bits))
-    ∙ ap₂ paired (run-within n place count keys h) (run-within n place count bits h)
 
 -- ascending records are no more than their interval has keys
 ascending-length : {lo hi : ℕ} {l : List Record} → Ascending lo hi l → lo + length l ≤ hi
@@ -158,7 +126,7 @@ module _ {m n : ℕ} {keys bits : List ℕ} (own : OwnList m keys bits n) (key :
       let is : gained m (recordsOf keys bits n) key ≡ closed key (run keys bits place (end - place)) =
       content-by true listed
       ∙ ap₂ (λ c p. closed key (take c (drop p (recordsOf keys bits n)))) count (sym e)
-      ∙ ap (closed key) (run-of-records keys bits n place (end - place) within) in
+      ∙ ap (closed key) (records-run keys bits n place (end - place) within) in
       record {
         entry = sym is;
         there = omega arith;

@@ -1,6 +1,6 @@
 -- The last entry of a log by its places in the two slices, as take back reads it: its key, how many records its content has, their first bits, and
 -- the parts of the slices that hold them. Rests on the laws of the log's last entry.
-use Prim.Native.Nat.{ℕ, _+_, _-_, _≤_}
+use Prim.Native.Nat.{ℕ, _-_, _≤_}
 use mathlib.Core.Path.{_≡_, sym, ap, ap₂, _∙_}
 use mathlib.Core.List.{List}
 use native.Mathlib.Nat.{add-zero}
@@ -11,8 +11,7 @@ use Rattle.definitions.specs.List.{Record, valuesOf}
 use Rattle.definitions.specs.Read.{paired, recordsOf}
 use Rattle.definitions.specs.Log.{lastKey, lastContent}
 use Rattle.definitions.specs.Calls.TakeBack.{usedBefore}
-use Rattle.list.proofs.Places.{paired-length, paired-values}
-use Rattle.log.proofs.Records.{records-length}
+use Rattle.definitions.proofs.Records.{paired-length, paired-values, records-length}
 use Rattle.log.proofs.Last.{closingKey, closingCount, contentStart, contentRun, last-key-at, before-last-at, last-content-at}
 use Rattle.edit.specs.TakingBackCall.{Ended}
 

@@ -9,10 +9,10 @@ use lib.ListN.{length, getD, drop}
 use lib.Bits.{bitOr}
 use Rattle.definitions.specs.File.{numberAt, nIn, recordsInFile}
 use Rattle.definitions.specs.Read.{paired}
+use Rattle.definitions.proofs.Records.{paired-back}
 use Rattle.list.specs.Check.{oneSlot, placeOf, afterNode, stepUnder}
 use Rattle.list.proofs.Turn.{Answer, Passed, pixel, begins, ends, differs, short, other-key, wrong-child, goes-leaf, goes-node}
 use Rattle.file.proofs.ReadBytes.{keysIn, bitsIn, key-read, value-read, keys-many, bits-many}
-use Rattle.file.proofs.SliceRecords.{paired-back}
 
 -- the file's keys and bitstrings
 abbrev pub fileKeys : List ℕ → List ℕ

@@ -10,7 +10,7 @@ use Rattle.definitions.specs.List.{Record, recordOf}
 use Rattle.definitions.specs.Read.{paired, recordsOf}
 use Rattle.definitions.specs.File.{bytesOf, bytesOfRecords}
 use Rattle.definitions.proofs.FileBytes.{length-bytes}
-use Rattle.list.proofs.Accepted.{records-length}
+use Rattle.definitions.proofs.Records.{records-length}
 use Rattle.file.specs.Room.{RoomFor}
 use Rattle.file.proofs.Stores.{sets-append}
 

@@ -18,10 +18,10 @@ use Rattle.definitions.specs.Calls.Load.{loadRefusal, load, loadKeys, loadBits}
 use Rattle.definitions.proofs.FileBytes.{Bytes}
 use Rattle.definitions.proofs.FileOf.{read-m, read-s, read-n, read-records, written-mark, written-version, written-length, written-not-short}
 use Rattle.definitions.proofs.FileBack.{length-read, file-back}
-use Rattle.list.proofs.Accepted.{records-length}
+use Rattle.definitions.proofs.Records.{records-length, records-over}
 use Rattle.file.proofs.Accepted.{StoreAccepted, store-accepted, store-accepts, store-count, store-leaves, LoadAccepted, load-accepted, load-accepts, load-gives, load-leaves}
 use Rattle.file.proofs.Fits.{good-settings, list-parts, list-whole, list-fits, list-short}
-use Rattle.file.proofs.SliceRecords.{records-over, past-over, over-room}
+use Rattle.file.proofs.SliceRecords.{past-over, over-room}
 
 -- as many records are in a file as it says
 in-file : (file : List ℕ) → length (recordsInFile file) ≡ nIn file

@@ -17,7 +17,7 @@ use Rattle.definitions.specs.Calls.Store.{stored, storeRefusal, store, storeFil
 use Rattle.definitions.specs.declared.Counted.{Counted}
 use Rattle.definitions.proofs.First.{this, later, holds-first}
 use Rattle.definitions.proofs.FileOf.{length-file}
-use Rattle.list.proofs.Accepted.{records-length}
+use Rattle.definitions.proofs.Records.{records-length}
 use Rattle.file.proofs.Accepted.{store-accepts}
 use Rattle.file.proofs.Fits.{good-settings, list-parts, list-short}
 use Rattle.file.proofs.Stores.{head-then, sets-over}

@@ -9,6 +9,7 @@ use lib.Seq.{take-at, take-take}
 use Rattle.definitions.specs.List.{Record, keysOf, valuesOf}
 use Rattle.definitions.specs.Read.{room, paired, recordsOf}
 use Rattle.definitions.specs.Buffer.{overAt, replaced}
+use Rattle.definitions.proofs.Records.{paired-back}
 use Rattle.history.proofs.Buffers.{take-over, take-before}
 
 -- the records are the first n of the two slices
@@ -17,15 +18,9 @@ pub record Shown (l : List Record) (n : ℕ) (keys values : List ℕ) : Type 0 w
   pub in-keys : take n keys ≡ keysOf l
   pub in-values : take n values ≡ valuesOf l
 
--- keys and values of records, paired, are the records
-pub paired-own : (l : List Record) → paired (keysOf l) (valuesOf l) ≡ l
-unfolding paired
-paired-own [] = refl
-paired-own (x ∷ l) = ap (λ rest. x ∷ rest) (paired-own l)
-
 -- the first n records are those that are shown
 pub shown-records : {l : List Record} {n : ℕ} {keys values : List ℕ} → Shown l n keys values → recordsOf keys values n ≡ l
-shown-records {l} h = ap₂ paired (h .in-keys) (h .in-values) ∙ paired-own l
+shown-records {l} h = ap₂ paired (h .in-keys) (h .in-values) ∙ paired-back l
 
 -- places that are all there lie within the slice
 within-slice : (f : Record → ℕ) (l : List Record) (n : ℕ) (slice : List ℕ) → n ≡ length l → take n slice ≡ map f l → n ≤ length slice

@@ -1,7 +1,7 @@
 -- The listing program's cases over plain lists: what is printed where the program refuses, where build refuses, and where build accepts.
 -- Rests on Listed, Lengths and Records.
 use Prim.Native.Nat.{ℕ, _-_, _≤_, _<_, min}
-use mathlib.Core.Path.{_≡_, sym, ap, ap₂, _∙_, subst}
+use mathlib.Core.Path.{_≡_, refl, sym, ap, ap₂, _∙_, subst}
 use mathlib.Core.List.{List}
 use native.Mathlib.Omega.{arith}
 use native.Mathlib.Nat.{le-of-eq}
@@ -17,11 +17,12 @@ use Rattle.definitions.specs.Calls.Build.{buildRefusal, build, buildKeys, build
 use Rattle.definitions.specs.declared.Counted.{Counted}
 use Rattle.definitions.proofs.First.{accepted-done, accepted-left}
 use Rattle.definitions.proofs.ListOf.{list-ascends}
+use Rattle.definitions.proofs.Records.{records-over}
 use Rattle.lines.specs.Listing.{largestResolution, recordRoom, mOf, sOf, rasterOf, buildRefuses, listingRefusal, listing, refusalLine, listed, listedKeys, listedBits}
 use Rattle.lines.specs.Put.{Put, Room, Records}
 use Rattle.lines.specs.Lent.{longestListing, Lent, Printed}
 use Rattle.lines.proofs.Going.{put-over, put-length}
-use Rattle.lines.proofs.Records.{records-back, written-key}
+use Rattle.lines.proofs.Records.{written-key}
 use Rattle.lines.proofs.Lengths.{listing-length, refusal-length}
 use Rattle.lines.proofs.Listed.{refused-build, prints-refusal, keys-stay, bits-stay, prints-listing, build-room, build-digit, build-accepted}
 
@@ -149,7 +150,7 @@ module _ {input keys bits out : List ℕ} (lent : Lent keys bits out) {m s : ℕ
       same-list =
           ap₂ (λ k b. recordsOf k b count) keys-list bits-list
           ∙ ap (λ (n : ℕ). recordsOf (over (keysOf list) keys) (over (valuesOf list) bits) n) count-list
-          ∙ records-back list keys bits
+          ∙ records-over list (length list) keys bits refl
 
       -- build accepts: the records are there
       pub records : Records m keys′ bits′ count

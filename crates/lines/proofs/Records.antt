@@ -1,13 +1,13 @@
--- Records in two slices, one after the other: their number, their lines, and what a list that was built leaves there. Rests on ascending keys.
+-- Records in two slices, one after the other: their lines, and the keys that a list that was built leaves there. Rests on ascending keys.
 use Prim.Native.Nat.{ℕ, zero, suc, _+_, _-_, _≤_, _<_}
 use mathlib.Core.Path.{_≡_, refl, sym, ap, ap₂, _∙_}
 use mathlib.Core.List.{List, [], _∷_, _++_}
 use native.Mathlib.Omega.{arith}
 use native.Mathlib.Numerals.{add-one}
-use lib.ListN.{length, take, drop, getD, length-map, List·getD-append}
-use lib.Seq.{drop-cons, take-at, length-take-le}
+use lib.ListN.{length, drop, getD, length-map, List·getD-append}
+use lib.Seq.{drop-cons}
 use Rattle.keys.proofs.Descent.{one-less}
-use Rattle.definitions.specs.List.{Record, recordOf, keysOf, valuesOf}
+use Rattle.definitions.specs.List.{Record, recordOf, keysOf}
 use Rattle.definitions.specs.Read.{paired, recordsOf}
 use Rattle.definitions.specs.Buffer.{over}
 use Rattle.definitions.proofs.Ascending.{Ascending, none, next, ascending-bounds}
@@ -35,30 +35,6 @@ module _ (keys bits : List ℕ) (n i : ℕ) (h : i < n) (k : n ≤ length keys) 
 pub lines-none : (m s : ℕ) (keys bits : List ℕ) → linesOf m s (recordsOf keys bits 0) ≡ []
 unfolding linesOf paired
 lines-none m s keys bits = refl
-
-paired-length : (keys bits : List ℕ) → length keys ≡ length bits → length (paired keys bits) ≡ length keys
-unfolding paired
-paired-length [] bits e = refl
-paired-length (κ ∷ keys) [] e = sym e
-paired-length (κ ∷ keys) (v ∷ bits) e = ap suc (paired-length keys bits (let p : suc (length keys) ≡ suc (length bits) = e in omega arith))
-
--- n records are n
-pub records-length : (keys bits : List ℕ) (n : ℕ) → n ≤ length keys → n ≤ length bits → length (recordsOf keys bits n) ≡ n
-records-length keys bits n k b =
-    let p = length-take-le n keys k in
-    let q = length-take-le n bits b in
-    paired-length (take n keys) (take n bits) (p ∙ sym q) ∙ p
-
-paired-back : (l : List Record) → paired (keysOf l) (valuesOf l) ≡ l
-unfolding paired
-paired-back [] = refl
-paired-back (e ∷ l) = ap (λ r. e ∷ r) (paired-back l)
-
--- the records of a list that was written into two slices are the list
-pub records-back : (l : List Record) (keys bits : List ℕ) → recordsOf (over (keysOf l) keys) (over (valuesOf l) bits) (length l) ≡ l
-records-back l keys bits =
-    ap₂ paired (take-at (keysOf l) _ (length l) (length-map l (λ x. x .key))) (take-at (valuesOf l) _ (length l) (length-map l (λ x. x .value)))
-    ∙ paired-back l
 
 key-small : {lo hi : ℕ} {l : List Record} → Ascending lo hi l → (i : ℕ) → i < length l → getD (keysOf l) i 0 < hi
 key-small (none h) i q = absurd (omega arith)

@@ -7,8 +7,7 @@ use mathlib.Core.List.{List, [], _∷_, List·Memᴰ, List·Memᴰ·head, List·
 use native.Mathlib.Nat.{zero-add}
 use native.Mathlib.Omega.{arith}
 use lib.Dec.{leb}
-use lib.ListN.{length, getD, take}
-use lib.Seq.{length-take-le, getD-take}
+use lib.ListN.{length, getD}
 use borrow.Author.Tests.{leb-true, le-leb}
 use Rattle.keys.specs.Key.{rootKey, heightOf}
 use Rattle.keys.specs.Block.{rowOf, columnOf}
@@ -24,28 +23,7 @@ use Rattle.definitions.proofs.ListOf.{list-first, list-ascends, list-some, list
 use Rattle.definitions.proofs.Listed.{listed-under, listed-to}
 use Rattle.definitions.proofs.ReadBack.{root-keys}
 use Rattle.definitions.proofs.IsList.{same-to, list-passes}
-use Rattle.list.proofs.Places.{paired-length, paired-keys, paired-values}
-
--- the first n records of slices that have them
-module _ (K B : List ℕ) (n : ℕ) (in-keys : n ≤ length K) (in-bits : n ≤ length B) where
-  sizes : length (take n K) ≡ length (take n B)
-  sizes = length-take-le n K in-keys ∙ sym (length-take-le n B in-bits)
-
-  pub records-length : length (recordsOf K B n) ≡ n
-  records-length = paired-length (take n K) (take n B) sizes ∙ length-take-le n K in-keys
-
-  pub records-keys : keysOf (recordsOf K B n) ≡ take n K
-  records-keys = paired-keys (take n K) (take n B) sizes
-
-  pub records-values : valuesOf (recordsOf K B n) ≡ take n B
-  records-values = paired-values (take n K) (take n B) sizes
-
-  -- the key and the value at a place
-  pub key-at : (i : ℕ) → i < n → getD (keysOf (recordsOf K B n)) i 0 ≡ getD K i 0
-  key-at i h = ap (λ l. getD l i 0) records-keys ∙ getD-take n K i 0 h
-
-  pub value-at : (i : ℕ) → i < n → getD (valuesOf (recordsOf K B n)) i 0 ≡ getD B i 0
-  value-at i h = ap (λ l. getD l i 0) records-values ∙ getD-take n B i 0 h
+use Rattle.definitions.proofs.Records.{records-length, key-at, value-at}
 
 -- the records l are the list of the block of height k at row r and column c with key κ, as they show it
 pub record BlockList (m s k r c κ : ℕ) (l : List Record) : Type 0 where

@@ -14,9 +14,9 @@ use Rattle.definitions.specs.declared.Standing.the-variants.{Listed, Inside}
 use Rattle.definitions.specs.List.{Record, keysOf, valuesOf}
 use Rattle.definitions.specs.Read.{room, recordsOf}
 use Rattle.definitions.specs.Standing.{upTo, placeOf, isListed, standingOf, kindOf, placeIn}
+use Rattle.definitions.proofs.Records.{records-keys, records-values}
 use Rattle.list.specs.Sorted.{Sorted}
 use Rattle.list.specs.Among.{keysUpTo, placeAmong, standingAmong}
-use Rattle.list.proofs.Accepted.{records-keys, records-values}
 use Rattle.list.proofs.Count.{up-to-none, up-to-one, up-to-skip}
 
 -- at most all keys are at or before x

@@ -14,10 +14,11 @@ use Rattle.definitions.specs.Standing.{placeOf, isListed, standingOf, placeIn, 
 use Rattle.definitions.specs.declared.Standing.{Standing}
 use Rattle.definitions.specs.declared.Standing.the-variants.{Listed, Inside}
 use Rattle.definitions.proofs.ListOf.{list-ascends, list-first, list-some}
+use Rattle.definitions.proofs.Records.{records-length, key-at, value-at}
 use Rattle.list.specs.Own.{OwnList, shownBy}
 use Rattle.list.specs.Sorted.{Ascends, Sorted}
 use Rattle.list.specs.Among.{keysUpTo, keysBelow, placeAmong, standingAmong}
-use Rattle.list.proofs.Accepted.{accepted, records-length, key-at, value-at, keys-ascend, key-below}
+use Rattle.list.proofs.Accepted.{accepted, keys-ascend, key-below}
 use Rattle.list.proofs.Among.{found-some, found-most, keys-of-records, values-of-records, standing-among, place-among, among-place, standing-listed, standing-inside}
 use Rattle.list.proofs.Lookup.{lookup-value}
 use Rattle.list.proofs.PartLength.{part-some, part-end}

@@ -7,18 +7,12 @@ use native.Mathlib.Numerals.{add-one}
 use native.Mathlib.Omega.{arith}
 use lib.ListN.{length, getD, take, drop, length-append, length-drop, take-append-drop, drop-of-length-le}
 use lib.Seq.{drop-at}
-use Rattle.definitions.specs.List.{Record, recordOf, keysOf, valuesOf}
+use Rattle.definitions.specs.List.{Record, recordOf}
 use Rattle.definitions.specs.Read.{paired}
 use Rattle.definitions.proofs.ListOf.{list-first}
+use Rattle.definitions.proofs.Records.{paired-length}
 use Rattle.list.specs.Check.{Outcome, wrong, left, placeOf, afterOwn, afterNode}
 use Rattle.list.proofs.Sound.{sound}
-
--- slices of one length have as many records
-pub paired-length : (K B : List ℕ) → length K ≡ length B → length (paired K B) ≡ length K
-unfolding paired
-paired-length [] B e = refl
-paired-length (x ∷ K) [] e = absurd (omega arith)
-paired-length (x ∷ K) (y ∷ B) e = ap suc (paired-length K B (omega arith))
 
 records-from : (K B : List ℕ) (i : ℕ) → length K ≡ length B → i < length K → drop i (paired K B) ≡ recordOf (getD K i 0) (getD B i 0) ∷ drop (suc i) (paired K B)
 unfolding paired
@@ -36,20 +30,6 @@ record-at K B i same h =
 -- past the last place there are none
 pub records-end : (K B : List ℕ) (i : ℕ) → length K ≡ length B → length K ≤ i → drop i (paired K B) ≡ []
 records-end K B i same h = let e = paired-length K B same in drop-of-length-le (paired K B) {i = i} (omega arith)
-
--- the keys and the values of the records are those of the slices
-pub paired-keys : (K B : List ℕ) → length K ≡ length B → keysOf (paired K B) ≡ K
-unfolding paired
-paired-keys [] B e = refl
-paired-keys (x ∷ K) [] e = absurd (omega arith)
-paired-keys (x ∷ K) (y ∷ B) e = ap (λ l. x ∷ l) (paired-keys K B (omega arith))
-
-pub paired-values : (K B : List ℕ) → length K ≡ length B → valuesOf (paired K B) ≡ B
-unfolding paired
-paired-values [] [] e = refl
-paired-values [] (y ∷ B) e = absurd (omega arith)
-paired-values (x ∷ K) [] e = absurd (omega arith)
-paired-values (x ∷ K) (y ∷ B) e = ap (λ l. y ∷ l) (paired-values K B (omega arith))
 
 -- a list from a place on is what is left at that place
 pub place-of : (l : List Record) (i n : ℕ) → n ≡ length l → i ≤ n → placeOf n (left (drop i l)) ≡ i

@@ -13,9 +13,10 @@ use borrow.Author.Tests.{eq-eqb, ne-eqb}
 use Rattle.keys.proofs.Powers.{five-pos}
 use Rattle.definitions.specs.List.{Record, recordOf}
 use Rattle.definitions.specs.Read.{paired}
+use Rattle.definitions.proofs.Records.{paired-length}
 use Rattle.list.specs.Check.{oneSlot, Outcome, wrong, left, placeOf, afterOwn, afterChildren, afterNode, stepUnder}
 use Rattle.list.proofs.Children.{own-leaf, own-node, node-zero, node-suc, children-none, children-from, children-short, children-other, children-wrong}
-use Rattle.list.proofs.Places.{paired-length, record-at, records-end, place-of, told}
+use Rattle.list.proofs.Places.{record-at, records-end, place-of, told}
 
 -- the step under a block tells whether it has children, and then their power of five
 pub step-none : (k step : ℕ) → step ≡ stepUnder k → step ≡ 0 → k ≡ 0

@@ -12,7 +12,7 @@ use Rattle.keys.specs.Key.{validKey}
 use Rattle.definitions.specs.List.{Record}
 use Rattle.definitions.specs.Read.{room, paired, recordsOf}
 use Rattle.definitions.specs.Log.{lastKey, lastContent, isContent, lastIsEntry}
-use Rattle.log.proofs.Records.{records-length}
+use Rattle.definitions.proofs.Records.{records-length}
 use Rattle.log.proofs.Last.{closingKey, closingCount, contentRun, last-key-at, last-count-at, last-content-at}
 
 and-false : (a : Bool) → a && false ≡ false

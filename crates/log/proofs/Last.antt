@@ -16,8 +16,7 @@ use Rattle.definitions.specs.Read.{room, paired, recordsOf}
 use Rattle.definitions.specs.Log.{lastRecord, lastKey, lastCount, beforeLast, lastContent, isContent, isSound, noLog}
 use Rattle.definitions.specs.Calls.TakeBack.{usedBefore}
 use Rattle.definitions.proofs.SoundLog.{content-not-empty, sound-ends, sound-before}
-use Rattle.list.proofs.Places.{paired-keys, paired-values}
-use Rattle.log.proofs.Records.{records-length, records-at, records-first, records-run}
+use Rattle.definitions.proofs.Records.{paired-keys, paired-values, records-length, records-at, records-first, records-run}
 
 -- the key of the closing record
 abbrev pub closingKey : List ℕ → ℕ → ℕ
@@ -61,7 +60,7 @@ module _ (keys values : List ℕ) (used : ℕ) (in-keys : used ≤ length keys) 
   unfolding beforeLast
   before-last-at =
       ap (λ n. take n (recordsOf keys values used)) start-at
-      ∙ records-first keys values used in-keys in-values (contentStart values used) (omega arith)
+      ∙ records-first keys values used (contentStart values used) (omega arith)
 
   -- its content stands from there up to the closing record
   pub last-content-at : closingCount values used + 1 ≤ used
@@ -69,7 +68,7 @@ module _ (keys values : List ℕ) (used : ℕ) (in-keys : used ≤ length keys) 
   unfolding lastContent
   last-content-at there =
       ap₂ (λ count n. take count (drop n (recordsOf keys values used))) last-count-at start-at
-      ∙ records-run keys values used in-keys in-values (contentStart values used) (closingCount values used) (omega arith)
+      ∙ records-run keys values used (contentStart values used) (closingCount values used) (omega arith)
 
 -- the content's places in a slice
 run-length : (values : List ℕ) (used : ℕ) (slice : List ℕ) → closingCount values used + 1 ≤ used → used ≤ length slice

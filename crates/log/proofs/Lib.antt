@@ -1,4 +1,3 @@
-pub mod Records
 pub mod Last
 pub mod Entry
 pub mod Sound

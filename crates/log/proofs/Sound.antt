@@ -10,7 +10,7 @@ use Rattle.definitions.specs.List.{Record}
 use Rattle.definitions.specs.Read.{room, paired, recordsOf}
 use Rattle.definitions.specs.Log.{lastCount, beforeLast, lastIsEntry, isSound, noLog}
 use Rattle.definitions.proofs.SoundLog.{divides-step, divides-enough, empty-sound, ends-in-entry}
-use Rattle.log.proofs.Records.{records-length}
+use Rattle.definitions.proofs.Records.{records-length}
 use Rattle.log.proofs.Last.{closingCount, last-count-at, before-last-at}
 
 -- a log with records is sound exactly when its last are an entry and those before it are sound

@@ -4,13 +4,14 @@ use mathlib.Core.Path.{_≡_, refl, sym, _∙_, ap, subst}
 use mathlib.Core.Bool.{cond}
 use mathlib.Core.List.{List, [], _∷_, _++_}
 use native.Mathlib.Omega.{arith}
-use lib.ListN.{length, getD, set, take, length-append, length-map}
-use lib.Seq.{sets, getD-take, length-take-le}
+use lib.ListN.{length, getD, set, take, length-append}
+use lib.Seq.{sets}
 use lib.Bits.{bitOr}
 use borrow.Author.Tests.{eq-eqb, ne-eqb}
 use Rattle.keys.proofs.Cases.{equal}
 use Rattle.definitions.specs.List.{Record, recordOf, keysOf, valuesOf}
 use Rattle.definitions.specs.Read.{room, recordsOf}
+use Rattle.definitions.proofs.Records.{records-length, value-at}
 use Rattle.list.proofs.Among.{keys-of-records, values-of-records}
 use Rattle.put.specs.Family.{around}
 use Rattle.put.specs.Plant.{digitAt, frontAt, backAt, front, back}
@@ -37,36 +38,25 @@ pub filling-length : (κ : ℕ) (content : List Record) (top : ℕ) → length (
 filling-length κ content top =
     equal (length content) 1 (λ e. ap length (filling-one κ content top e) ∙ sym e) (λ e. ap length (filling-more κ content top e))
 
--- records of two slices
-module _ (keys bits : List ℕ) (n : ℕ) (fits : n ≤ room keys bits) where
-  -- there are as many as were asked for
-  pub records-length : length (recordsOf keys bits n) ≡ n
-  records-length =
-      sym (length-map (recordsOf keys bits n) (λ x. x .key)) ∙ ap length (keys-of-records keys bits n fits) ∙ length-take-le n keys (omega arith)
-
-  -- the bits of each stand in the second
-  pub records-bits : (i : ℕ) → i < n → getD (valuesOf (recordsOf keys bits n)) i 0 ≡ getD bits i 0
-  records-bits i h = ap (λ l. getD l i 0) (values-of-records keys bits n fits) ∙ getD-take n bits i 0 h
-
 module _ (κ top at : ℕ) (keys bits contentKeys contentBits : List ℕ) (count : ℕ) (fits : count ≤ room contentKeys contentBits) where
   -- the filling of one record is written
   pub filling-wrote-one : (step : ℕ) → count ≡ 1 → step ≡ 5 ^ top
       → Wrote (filling κ (recordsOf contentKeys contentBits count) top) at keys bits (set keys at (κ / step * step)) (set bits at (getD contentBits 0 0)) (at + count)
   filling-wrote-one step one power =
-      let size = records-length contentKeys contentBits count fits in
+      let size = records-length contentKeys contentBits count (omega arith) (omega arith) in
       let is = filling-one κ (recordsOf contentKeys contentBits count) top (omega arith) in
       let length-is = filling-length κ (recordsOf contentKeys contentBits count) top in
       record {
         end = omega arith;
         in-keys = ap (λ x. set keys at x) (around-own κ step top power) ∙ ap (λ l. sets keys at (keysOf l)) (sym is);
-        in-bits = ap (λ x. set bits at x) (sym (records-bits contentKeys contentBits count fits 0 (omega arith))) ∙ ap (λ l. sets bits at (valuesOf l)) (sym is);
+        in-bits = ap (λ x. set bits at x) (sym (value-at contentKeys contentBits count (omega arith) (omega arith) 0 (omega arith))) ∙ ap (λ l. sets bits at (valuesOf l)) (sym is);
       }
 
   -- and any other
   pub filling-wrote-more : (keys′ bits′ : List ℕ) → (count ≡ 1 → ⊥) → keys′ ≡ sets keys at (take count contentKeys) → bits′ ≡ sets bits at (take count contentBits)
       → Wrote (filling κ (recordsOf contentKeys contentBits count) top) at keys bits keys′ bits′ (at + count)
   filling-wrote-more keys′ bits′ more e f =
-      let size = records-length contentKeys contentBits count fits in
+      let size = records-length contentKeys contentBits count (omega arith) (omega arith) in
       let is = filling-more κ (recordsOf contentKeys contentBits count) top (λ one. more (omega arith)) in
       let length-is = filling-length κ (recordsOf contentKeys contentBits count) top in
       record {

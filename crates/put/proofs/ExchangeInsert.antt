@@ -10,6 +10,7 @@ use lib.Bits.{bitOr}
 use Rattle.definitions.specs.List.{Record, keysOf, valuesOf}
 use Rattle.definitions.specs.Read.{room, recordsOf}
 use Rattle.definitions.specs.Buffer.{over}
+use Rattle.definitions.proofs.Records.{records-length, value-at}
 use Rattle.list.proofs.Among.{keys-of-records, values-of-records}
 use Rattle.put.specs.Plant.{front, back}
 use Rattle.put.specs.Put.{Plan, filling, inserted, exchanged}
@@ -17,7 +18,7 @@ use Rattle.put.specs.Planting.{Wrote, Roomy}
 use Rattle.put.specs.Exchanging.{insertedFor, Fillable, Insertable, Exchangeable, Holds}
 use Rattle.put.proofs.ByKeys.{exchanged-as-keys, exchanged-as-values}
 use Rattle.put.proofs.ExchangeLevel.{wrote-keys, wrote-bits}
-use Rattle.put.proofs.ExchangeFilling.{records-length, records-bits, level-places, inserted-length, inserted-for, inserted-wrote}
+use Rattle.put.proofs.ExchangeFilling.{level-places, inserted-length, inserted-for, inserted-wrote}
 use Rattle.put.proofs.ExchangeSlice.{traded-is}
 
 module _ {keys bits : List ℕ} {κ : ℕ} {plan : Plan} {contentKeys contentBits : List ℕ} {count : ℕ}
@@ -63,7 +64,7 @@ module _ {keys bits : List ℕ} {κ : ℕ} {plan : Plan} {contentKeys contentBit
           let e = w .end in
           let h = t .end in
           inserted-wrote g v κ (recordsOf contentKeys contentBits count) plan (plan .start + (4 * plan .levels + count))
-          (is ∙ ap (bitOr g) (sym (records-bits contentKeys contentBits count (i .content-fits) 0 (i .some))))
+          (is ∙ ap (bitOr g) (sym (value-at contentKeys contentBits count (omega (arith, i .content-fits)) (omega (arith, i .content-fits)) 0 (i .some))))
           w u t (omega arith)
 
 module _ {keys bits : List ℕ} {n κ : ℕ} {plan : Plan} {contentKeys contentBits : List ℕ} {count : ℕ}
@@ -104,9 +105,9 @@ module _ {keys bits : List ℕ} {n κ : ℕ} {plan : Plan} {contentKeys contentB
       let g : ℕ = getD bits (plan .start) 0 in
       let new : List Record = insertedFor g κ content plan in
       let is : new ≡ inserted list κ content plan =
-      inserted-for list κ content plan g (sym (records-bits keys bits n fits (plan .start) (omega arith))) in
+      inserted-for list κ content plan g (sym (value-at keys bits n (omega arith) (omega arith) (plan .start) (omega arith))) in
       let size = inserted-length g κ content plan (i .deep) in
-      let count-is = records-length contentKeys contentBits count (i .content-fits) in
+      let count-is = records-length contentKeys contentBits count (omega (arith, i .content-fits)) (omega (arith, i .content-fits)) in
       let k = length-map new (λ x. x .key) in
       let b = length-map new (λ x. x .value) in
       record {

@@ -1,21 +1,22 @@
 -- What the steps of putting a content need and give: the plan is ready, the exchanged keys are in order, and at the end the slices hold the edited
 -- list, with zeroes in the places given up. Rests on Ready and PuttingSlice.
 use Prim.Native.Nat.{ℕ, zero, suc, _+_, _-_, _*_, _^_, _≤_, _<_}
-use mathlib.Core.Path.{_≡_, refl, sym, _∙_, ap, ap₂, subst}
-use mathlib.Core.List.{List, [], _∷_}
+use mathlib.Core.Path.{_≡_, sym, _∙_, ap, ap₂, subst}
+use mathlib.Core.List.{List}
 use native.Mathlib.Omega.{arith}
-use lib.ListN.{length, getD, take, replicate, length-map, List·getD-append}
-use lib.Seq.{sets, take-at}
+use lib.ListN.{length, getD, replicate, length-map, List·getD-append}
+use lib.Seq.{sets}
 use Rattle.keys.specs.Key.{heightOf}
 use Rattle.keys.proofs.Powers.{five-le}
 use Rattle.keys.proofs.Valid.{valid-below}
 use Rattle.keys.specs.Block.{rowOf, columnOf}
 use Rattle.definitions.specs.List.{Record, keysOf, valuesOf}
-use Rattle.definitions.specs.Read.{paired, room, recordsOf}
+use Rattle.definitions.specs.Read.{room, recordsOf}
 use Rattle.definitions.specs.Edit.{contentOf}
 use Rattle.definitions.specs.Buffer.{over}
 use Rattle.definitions.proofs.Ascending.{Ascending}
 use Rattle.definitions.proofs.ListOf.{list-some}
+use Rattle.definitions.proofs.Records.{records-length, records-over}
 use Rattle.list.specs.Sorted.{Sorted}
 use Rattle.list.specs.Own.{shownBy}
 use Rattle.put.specs.Renew.{renew}
@@ -27,7 +28,6 @@ use Rattle.put.proofs.Bounds.{level, level-digit}
 use Rattle.put.proofs.ByKeys.{AscendingKeys, no-keys, next-key, ascending-to}
 use Rattle.put.proofs.SetBits.{renew-keys, renew-length}
 use Rattle.put.proofs.Ready.{Ready, ready-for}
-use Rattle.put.proofs.ExchangeFilling.{records-length}
 use Rattle.put.proofs.PuttingSlice.{length-over, over-again, over-kept, over-cleared}
 
 -- keys in order, place by place
@@ -42,21 +42,11 @@ key-order (next-key h a) i zero u v = absurd (omega arith)
 key-order (next-key h a) zero (suc j) u v = least-key a j (omega arith)
 key-order (next-key h a) (suc i) (suc j) u v = key-order a i j (omega arith) (omega arith)
 
-paired-own : (l : List Record) → paired (keysOf l) (valuesOf l) ≡ l
-unfolding paired
-paired-own [] = refl
-paired-own (x ∷ l) = ap (λ t. x ∷ t) (paired-own l)
-
 -- slices that hold a list
 module _ {l : List Record} {keys bits keys′ bits′ : List ℕ} (h : Holds l keys bits keys′ bits′) (n : ℕ) (size : length l ≡ n) where
   -- its records are read from them
   pub held-records : recordsOf keys′ bits′ n ≡ l
-  held-records =
-      let k = length-map l (λ x. x .key) in
-      let v = length-map l (λ x. x .value) in
-      ap₂ (λ a b. paired (take n a) (take n b)) (h .keys-are) (h .values-are)
-      ∙ ap₂ paired (take-at (keysOf l) _ n (omega arith)) (take-at (valuesOf l) _ n (omega arith))
-      ∙ paired-own l
+  held-records = ap₂ (λ a b. recordsOf a b n) (h .keys-are) (h .values-are) ∙ records-over l n keys bits size
 
   held-key : (i : ℕ) → i < n → getD keys′ i 0 ≡ getD (keysOf l) i 0
   held-key i below =
@@ -113,10 +103,10 @@ module _ {m : ℕ} {keys bits : List ℕ} {n κ : ℕ} {plan : Plan} {contentKey
       (ready-for m κ (p .picture) (shownBy m keys bits n) listed content (p .valid) (p .own .own) (p .content-is))
 
   list-length : length listed ≡ n
-  list-length = records-length keys bits n (p .own .fits)
+  list-length = let fits = p .own .fits in records-length keys bits n (omega arith) (omega arith)
 
   content-length : length content ≡ count
-  content-length = records-length contentKeys contentBits count (p .content-fits)
+  content-length = let fits = p .content-fits in records-length contentKeys contentBits count (omega arith) (omega arith)
 
   -- a content has records
   pub put-some : 1 ≤ count
