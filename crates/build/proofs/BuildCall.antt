@@ -14,17 +14,18 @@ use Rattle.definitions.specs.Bits.{bitsOf}
 use Rattle.definitions.specs.List.{Record, recordOf, listOf, listOfRaster, keysOf, valuesOf}
 use Rattle.definitions.specs.Buffer.{over}
 use Rattle.definitions.specs.Refusal.{badLength}
+use Rattle.list.proofs.Tests.{good-settings}
 use Rattle.build.specs.BuildBlocks.{pictureOfRows, below, Inside, Fitting, Written}
 use Rattle.build.proofs.RasterTests.{pixels-below}
 use Rattle.build.proofs.WriteBlock.{sets-front}
 use Rattle.build.proofs.WrittenBlock.{own-first}
-use Rattle.build.proofs.BuildRefusal.{Passed, level-low, slots-some, slots-low}
+use Rattle.build.proofs.BuildRefusal.{Passed}
 
 -- the whole raster is a block of it
 pub whole-inside : (m s side : ℕ) (raster : List ℕ) → Passed m s raster → side ≡ 2 ^ m → Inside raster side m 0 0
 unfolding badLength
 whole-inside m s side raster p e =
-    let low = level-low m s (p .settings) in
+    let low = good-settings m s (p .settings) .deep in
     let top = two-le 10 low in
     record {
       deep = low;
@@ -32,7 +33,7 @@ whole-inside m s side raster p e =
       narrow = omega arith;
       rows = omega arith;
       columns = omega arith;
-      features = λ i. let h = pixels-below s raster (slots-some m s (p .settings)) (p .pixels) i in let j = slots-low m s (p .settings) in omega arith;
+      features = λ i. let h = pixels-below s raster (good-settings m s (p .settings) .some) (p .pixels) i in let j = good-settings m s (p .settings) .few in omega arith;
     }
 
 -- the list of the raster, read by rows of the length that the code has
@@ -62,7 +63,7 @@ pub whole-fits : (m s side : ℕ) (raster keys bits : List ℕ) → Passed m s r
     → length (listOf (pictureOfRows side raster) m 0 0 0) ≤ length bits
     → Fitting (pictureOfRows side raster) m 0 0 0 0 keys bits
 whole-fits m s side raster keys bits p e h j = record {
-  key-fits = let u = five-le 10 (level-low m s (p .settings)) in omega arith;
+  key-fits = let u = five-le 10 (good-settings m s (p .settings) .deep) in omega arith;
   place-fits = omega arith;
   keys-room = λ t. omega arith;
   bits-room = λ t. omega arith;

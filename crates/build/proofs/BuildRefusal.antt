@@ -1,20 +1,18 @@
 -- Refusals of build: the table of its tests, what it answers and leaves in each case, and what holds once the first three are passed.
--- Rests on the tests of the list.
+-- Rests on nothing.
 use Prim.Native.Nat.{ℕ, _*_, _^_, _≤_, _<_}
 use mathlib.Core.Path.{_≡_, refl, sym, _∙_, ap}
-use mathlib.Core.Bool.{Bool, true, false, cond, not, _||_}
+use mathlib.Core.Bool.{Bool, true, false, cond, not}
 use mathlib.Core.List.{List, [], _∷_}
 use native.Mathlib.Omega.{arith}
-use lib.Dec.{ltb, eqb}
 use lib.ListN.{length}
-use borrow.Author.Tests.{lt-ltb, le-ltb, ltb-false, eqb-false, eq-eqb, ne-eqb}
+use borrow.Author.Tests.{lt-ltb, le-ltb, eq-eqb, ne-eqb}
 use Rattle.definitions.specs.List.{listOfRaster, keysOf, valuesOf}
 use Rattle.definitions.specs.Read.{room}
 use Rattle.definitions.specs.Buffer.{over}
 use Rattle.definitions.specs.Refusal.{_gives_, first, accepted, badSettings, badLength, badPixel}
 use Rattle.definitions.specs.Calls.Build.{buildRefusal, build, buildKeys, buildBits}
 use Rattle.definitions.specs.declared.Counted.{Counted}
-use Rattle.list.proofs.Tests.{either-false}
 
 -- the tests of settings and raster, which come before the test of room
 abbrev pub early : ℕ → ℕ → List ℕ → ℕ
@@ -146,17 +144,3 @@ module _ (m side : ℕ) (raster : List ℕ) (e : side ≡ 2 ^ m) where
   pub length-good : length raster ≡ side * side → badLength m raster ≡ false
   unfolding badLength
   length-good h = ap not (eq-eqb (length raster) (2 ^ m * 2 ^ m) (h ∙ ap (λ x. x * x) e))
-
--- settings that are not bad
-module _ (m s : ℕ) (e : badSettings m s ≡ false) where
-  pub level-low : m ≤ 10
-  unfolding badSettings
-  level-low = ltb-false 10 m (either-false (ltb 10 m) (eqb s 0 || ltb 16 s) e .0)
-
-  pub slots-some : 0 < s
-  unfolding badSettings
-  slots-some = let h = eqb-false s 0 (either-false (eqb s 0) (ltb 16 s) (either-false (ltb 10 m) (eqb s 0 || ltb 16 s) e .1) .0) in omega arith
-
-  pub slots-low : s ≤ 16
-  unfolding badSettings
-  slots-low = ltb-false 16 s (either-false (eqb s 0) (ltb 16 s) (either-false (ltb 10 m) (eqb s 0 || ltb 16 s) e .1) .1)

@@ -1,5 +1,4 @@
--- Refusals 2 and 3, as the code tests them: what the scan of the pixels has found so far, and what an accepted raster is like.
--- Rests on the tests of the list.
+-- Refusals 2 and 3, as the code tests them: what the scan of the pixels has found so far, and what an accepted raster is like. Rests on nothing.
 use Prim.Native.Nat.{ℕ, zero, suc, _+_, _≤_, _<_}
 use mathlib.Core.Path.{_≡_, refl, sym, _∙_, ap}
 use mathlib.Core.Bool.{Bool, true, false, _||_}
@@ -10,8 +9,8 @@ use lib.Dec.{leb}
 use lib.ListN.{length, getD, drop, drop-of-length-le}
 use lib.Seq.{drop-cons}
 use borrow.Author.Tests.{leb-false, le-leb, lt-leb}
+use Rattle.keys.proofs.Cases.{neither-left, neither-right}
 use Rattle.definitions.specs.Refusal.{badPixel}
-use Rattle.list.proofs.Tests.{either-false}
 
 bad-cons : (s x : ℕ) (xs : List ℕ) → badPixel s (x ∷ xs) ≡ leb s x || badPixel s xs
 unfolding badPixel
@@ -24,8 +23,8 @@ bad-none s = refl
 -- in a raster with no bad pixel every feature is below s; past its end the default is read
 pub pixels-below : (s : ℕ) (raster : List ℕ) → 0 < s → badPixel s raster ≡ false → (i : ℕ) → getD raster i 0 < s
 pixels-below s [] h e i = h
-pixels-below s (x ∷ xs) h e zero = leb-false s x (either-false (leb s x) (badPixel s xs) (sym (bad-cons s x xs) ∙ e) .0)
-pixels-below s (x ∷ xs) h e (suc i) = pixels-below s xs h (either-false (leb s x) (badPixel s xs) (sym (bad-cons s x xs) ∙ e) .1) i
+pixels-below s (x ∷ xs) h e zero = leb-false s x (neither-left (leb s x) (badPixel s xs) (sym (bad-cons s x xs) ∙ e))
+pixels-below s (x ∷ xs) h e (suc i) = pixels-below s xs h (neither-right (leb s x) (badPixel s xs) (sym (bad-cons s x xs) ∙ e)) i
 
 -- after i pixels: a bad one was found, or one is among the others
 pub record Scanned (s : ℕ) (raster : List ℕ) (bad : Bool) (i : ℕ) : Type 0 where

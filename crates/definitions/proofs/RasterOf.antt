@@ -2,7 +2,7 @@
 -- tests of refusals 2 and 3. Rests on Features.
 use Prim.Native.Nat.{ℕ, zero, suc, _+_, _*_, _/_, _%_, _^_, _<_}
 use mathlib.Core.Path.{_≡_, refl, sym, _∙_, ap, ap₂}
-use mathlib.Core.Bool.{Bool, true, false, _||_, true≢false}
+use mathlib.Core.Bool.{true, false}
 use mathlib.Core.List.{List, [], _∷_, _++_}
 use native.Mathlib.Nat.{zero-add, add-zero, suc-mul, zero-mul, div-lt-iff-lt-mul, mod-lt, div-add-mod'}
 use native.Mathlib.Omega.{arith}
@@ -12,6 +12,7 @@ use lib.ListN.{length, getD, length-append, List·getD-append}
 use lib.Pow.{pow-pos}
 use lib.Seq.{getD-append-add}
 use borrow.Author.Tests.{leb-false, lt-leb, eqb-true, eq-eqb, not-false}
+use Rattle.keys.proofs.Cases.{neither-left, neither-right}
 use Rattle.definitions.specs.Picture.{Picture, pictureOfRaster, featuresBelow}
 use Rattle.definitions.specs.Window.{featuresOfRow, featuresOfRows}
 use Rattle.definitions.specs.Refusal.{badLength, badPixel}
@@ -72,14 +73,6 @@ length-to m raster e = eqb-true _ _ (not-false _ e)
 pub length-from : (m : ℕ) (raster : List ℕ) → length raster ≡ 2 ^ m * 2 ^ m → badLength m raster ≡ false
 unfolding badLength
 length-from m raster e = rw (eq-eqb (length raster) (2 ^ m * 2 ^ m) e)
-
-neither-left : (a b : Bool) → a || b ≡ false → a ≡ false
-neither-left true b e = e
-neither-left false b e = refl
-
-neither-right : (a b : Bool) → a || b ≡ false → b ≡ false
-neither-right true b e = absurd (true≢false e)
-neither-right false b e = e
 
 -- no bad pixel means that each place is below s
 pub pixels-to : (s : ℕ) (raster : List ℕ) (i : ℕ) → badPixel s raster ≡ false → i < length raster → getD raster i 0 < s

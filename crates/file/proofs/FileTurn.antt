@@ -1,5 +1,5 @@
 -- The loop of the check over a node's children, with the records read from a file: each step is that over two slices, where the slices hold the
--- file's keys and bitstrings. Rests on ReadBytes, SliceRecords and the laws of the check.
+-- file's keys and bitstrings. Rests on ReadBytes, the records of two slices and the laws of the check.
 use Prim.Native.Nat.{ℕ, _+_, _*_, _/_, _^_, _≤_, _<_}
 use mathlib.Core.Path.{_≡_, sym, ap, _∙_}
 use mathlib.Core.Bool.{true, false}

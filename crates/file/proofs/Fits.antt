@@ -1,19 +1,18 @@
 -- A list at good settings fits its file: each key into 4 bytes, each bitstring into 2, and their number into 4 (document 01, "The file"). Rests on
 -- the laws of lists.
 use Prim.Native.Nat.{ℕ, suc, _^_, _≤_, _<_}
-use mathlib.Core.Path.{_≡_, refl, ap}
-use mathlib.Core.Bool.{Bool, true, false, true≢false, _||_}
+use mathlib.Core.Path.{_≡_, ap}
+use mathlib.Core.Bool.{true}
 use mathlib.Core.List.{List, List·Memᴰ}
 use native.Mathlib.Nat.{pow-le-pow-right}
 use native.Mathlib.Omega.{arith}
 use lib.ListN.{length}
-use lib.Dec.{lit<, leb, ltb, eqb}
-use borrow.Author.Tests.{ltb-false, leb-true, le-leb}
+use lib.Dec.{lit<, leb}
+use borrow.Author.Tests.{leb-true, le-leb}
 use Rattle.keys.specs.Key.{rootKey}
 use Rattle.keys.proofs.Cases.{and-left, and-right, and-both}
 use Rattle.definitions.specs.List.{Record, listOf}
 use Rattle.definitions.specs.Read.{room, recordsOf, isListOfBlock, isList}
-use Rattle.definitions.specs.Refusal.{badSettings}
 use Rattle.definitions.proofs.Ascending.{key-below}
 use Rattle.definitions.proofs.BitsOf.{bits-below}
 use Rattle.definitions.proofs.Features.{below-under}
@@ -21,23 +20,7 @@ use Rattle.definitions.proofs.ListOf.{list-ascends, list-most}
 use Rattle.definitions.proofs.Listed.{listed-to, listed-under}
 use Rattle.definitions.proofs.IsList.{ShowsBlock, block-list-to}
 use Rattle.definitions.proofs.FileOf.{FitsFile, fits-file}
-
--- the settings that refusal 1 lets pass
-pub record GoodSettings (m s : ℕ) : Type 0 where
-  pub deepest : m ≤ 10
-  pub slots : s ≤ 16
-
--- neither of two tests holds where their "or" does not
-neither : (a b : Bool) → a || b ≡ false → (a ≡ false) × (b ≡ false)
-neither true b e = absurd (true≢false e)
-neither false b e = (refl, e)
-
--- where refusal 1 is not given the settings are good
-pub good-settings : (m s : ℕ) → badSettings m s ≡ false → GoodSettings m s
-unfolding badSettings
-good-settings m s e =
-    let deep = neither (ltb 10 m) (eqb s 0 || ltb 16 s) e in
-    record { deepest = ltb-false 10 m (deep .0); slots = ltb-false 16 s (neither (eqb s 0) (ltb 16 s) (deep .1) .1) }
+use Rattle.list.proofs.Tests.{GoodSettings}
 
 -- a list is the list of its own block, and there is room for it
 pub list-parts : (m s : ℕ) (keys bits : List ℕ) (n : ℕ) → isList m s keys bits n ≡ true
@@ -63,10 +46,10 @@ module _ (m s : ℕ) (good : GoodSettings m s) (l : List Record) (is : isListOfB
   each : (x : Record) → List·Memᴰ x (listOf (shown .picture) m 0 0 rootKey) → (x .key < 256 ^ 4) × (x .value < 256 ^ 2)
   each x h =
       let key = key-below (list-ascends (shown .picture) m 0 0 rootKey) h in
-      let most : 5 ^ m ≤ 5 ^ 10 = pow-le-pow-right (lit< tt) (good .deepest) in
+      let most : 5 ^ m ≤ 5 ^ 10 = pow-le-pow-right (lit< tt) (good .deep) in
       let at = listed-to (shown .picture) m 0 0 rootKey x h in
       let value = bits-below s (shown .picture) (at .height) (at .row) (at .column) (below-under s (shown .picture) (listed-under (at .listed)) (shown .below)) in
-      let wide : 2 ^ s ≤ 2 ^ 16 = pow-le-pow-right (lit< tt) (good .slots) in
+      let wide : 2 ^ s ≤ 2 ^ 16 = pow-le-pow-right (lit< tt) (good .few) in
       (omega arith, rw (at .is) (omega arith))
 
   -- the list's records fit a file
@@ -77,7 +60,7 @@ module _ (m s : ℕ) (good : GoodSettings m s) (l : List Record) (is : isListOfB
   pub list-short : length l < 256 ^ 4
   list-short =
       let most = list-most (shown .picture) m 0 0 rootKey in
-      let level : suc m ≤ 11 = omega (arith, good .deepest) in
+      let level : suc m ≤ 11 = omega (arith, good .deep) in
       let deep : 4 ^ suc m ≤ 4 ^ 11 = pow-le-pow-right (lit< tt) level in
       let e = ap length (shown .is) in
       omega arith

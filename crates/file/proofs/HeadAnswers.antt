@@ -10,9 +10,9 @@ use Rattle.definitions.specs.File.{mIn, sIn, nIn, versionIn, tooShort, wrongMar
 use Rattle.definitions.specs.Refusal.{Row, badSettings}
 use Rattle.definitions.specs.Calls.Load.{loadRefusal}
 use Rattle.definitions.proofs.First.{FirstHolds, this, later, holds-first, first-holds, first-none, none-first}
+use Rattle.list.proofs.Tests.{good-settings}
 use Rattle.file.specs.Room.{Exact}
 use Rattle.file.specs.Head.{headRows, headRefusal}
-use Rattle.file.proofs.Fits.{good-settings}
 
 -- the head's rows
 pub record HeadAccepted (file : List ℕ) : Type 0 where
@@ -97,4 +97,4 @@ head-exact file m s n e m-is s-is n-is =
     let a = head-accepted file (sym e) in
     let good = good-settings m s (ap₂ badSettings m-is s-is ∙ a .settings) in
     let ends : length file ≡ 11 + 6 * nIn file = eqb-true (length file) (11 + 6 * nIn file) (not-false _ (a .exact)) in
-    record { deepest = good .deepest; slots = good .slots; many = n-is; ends = ends ∙ ap (λ k. 11 + 6 * k) (sym n-is) }
+    record { deepest = good .deep; slots = good .few; many = n-is; ends = ends ∙ ap (λ k. 11 + 6 * k) (sym n-is) }

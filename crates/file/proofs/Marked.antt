@@ -1,17 +1,13 @@
 -- The mark is tested byte by byte. Assumes nothing.
 use Prim.Native.Nat.{ℕ, _≤_}
 use mathlib.Core.Path.{_≡_, refl, sym, _∙_}
-use mathlib.Core.Bool.{Bool, true, false, not, _&&_}
+use mathlib.Core.Bool.{true, not, _&&_, and-true}
 use mathlib.Core.List.{List, [], _∷_}
 use native.Mathlib.Omega.{arith}
 use lib.ListN.{length, getD}
 use lib.Dec.{eqb}
 use borrow.Author.Tests.{eq-eqb, ne-eqb}
 use Rattle.definitions.specs.File.{sameBytes, wrongMark}
-
-and-true : (b : Bool) → b && true ≡ b
-and-true true = refl
-and-true false = refl
 
 mark-test : (file : List ℕ) → 3 ≤ length file
     → wrongMark file ≡ not (eqb (getD file 0 0) 0x48 && (eqb (getD file 1 0) 0x4C && (eqb (getD file 2 0) 0x51 && true)))

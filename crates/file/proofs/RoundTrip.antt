@@ -19,8 +19,9 @@ use Rattle.definitions.proofs.FileBytes.{Bytes}
 use Rattle.definitions.proofs.FileOf.{read-m, read-s, read-n, read-records, written-mark, written-version, written-length, written-not-short}
 use Rattle.definitions.proofs.FileBack.{length-read, file-back}
 use Rattle.definitions.proofs.Records.{records-length, records-over}
+use Rattle.list.proofs.Tests.{good-settings}
 use Rattle.file.proofs.Accepted.{StoreAccepted, store-accepted, store-accepts, store-count, store-leaves, LoadAccepted, load-accepted, load-accepts, load-gives, load-leaves}
-use Rattle.file.proofs.Fits.{good-settings, list-parts, list-whole, list-fits, list-short}
+use Rattle.file.proofs.Fits.{list-parts, list-whole, list-fits, list-short}
 use Rattle.file.proofs.SliceRecords.{past-over, over-room}
 
 -- as many records are in a file as it says
@@ -49,8 +50,8 @@ file-accepted m s n l keys bits settings is many roomy =
     let good = good-settings m s settings in
     let file = fileOf m s l in
     let short = list-short m s good l is in
-    let m-is : mIn file ≡ m = read-m m s l (omega (arith, good .deepest)) in
-    let s-is : sIn file ≡ s = read-s m s l (omega (arith, good .slots)) in
+    let m-is : mIn file ≡ m = read-m m s l (omega (arith, good .deep)) in
+    let s-is : sIn file ≡ s = read-s m s l (omega (arith, good .few)) in
     let n-is : nIn file ≡ n = read-n m s l short ∙ many in
     let l-is : recordsInFile file ≡ l = read-records m s l short (list-fits m s good l is) in
     let none : LoadAccepted file keys bits = record {

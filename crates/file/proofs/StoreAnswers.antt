@@ -18,8 +18,9 @@ use Rattle.definitions.specs.declared.Counted.{Counted}
 use Rattle.definitions.proofs.First.{this, later, holds-first}
 use Rattle.definitions.proofs.FileOf.{length-file}
 use Rattle.definitions.proofs.Records.{records-length}
+use Rattle.list.proofs.Tests.{good-settings}
 use Rattle.file.proofs.Accepted.{store-accepts}
-use Rattle.file.proofs.Fits.{good-settings, list-parts, list-short}
+use Rattle.file.proofs.Fits.{list-parts, list-short}
 use Rattle.file.proofs.Stores.{head-then, sets-over}
 
 module _ (m s : ℕ) (keys bits : List ℕ) (n : ℕ) (file : List ℕ) where

@@ -2,7 +2,7 @@
 -- Assumes nothing.
 use Prim.Native.Nat.{ℕ, _<_, _≤_}
 use mathlib.Core.Path.{_≡_, refl, sym}
-use mathlib.Core.Bool.{Bool, true, false, cond, not, _&&_, _||_}
+use mathlib.Core.Bool.{Bool, true, false, _&&_, _||_, true≢false}
 use mathlib.Core.Logic.{_⊎_, inl, inr}
 use lib.Dec.{ltb, eqb}
 use borrow.Author.Tests.{ltb-true, ltb-false, eqb-true, eqb-false}
@@ -45,6 +45,14 @@ or-left false false p = p
 pub or-right : (a b : Bool) → b ≡ true → a || b ≡ true
 or-right true b q = refl
 or-right false b q = q
+
+pub neither-left : (a b : Bool) → a || b ≡ false → a ≡ false
+neither-left true b e = e
+neither-left false b e = refl
+
+pub neither-right : (a b : Bool) → a || b ≡ false → b ≡ false
+neither-right true b e = absurd (true≢false e)
+neither-right false b e = e
 
 -- two tests that hold at the same time are the same
 pub same-test : (a b : Bool) → (a ≡ true → b ≡ true) → (b ≡ true → a ≡ true) → a ≡ b

@@ -1,7 +1,7 @@
 -- The answers of the check of a block's list in two slices, one for each way out of the code. Rests on Accepts and Places.
 use Prim.Native.Nat.{ℕ, _-_, _^_, _≤_, _<_}
-use mathlib.Core.Path.{_≡_, refl, sym, _∙_, ap, ap₂}
-use mathlib.Core.Bool.{Bool, true, false, _&&_}
+use mathlib.Core.Path.{_≡_, sym, _∙_, ap, ap₂}
+use mathlib.Core.Bool.{Bool, true, false, _&&_, and-false}
 use mathlib.Core.List.{List, []}
 use native.Mathlib.Omega.{arith}
 use lib.Dec.{leb, ltb, eqb}
@@ -32,10 +32,6 @@ short-keys m s κ K B n h = let e = lt-leb n (room K B) (omega arith) in rw e
 
 pub short-bits : (m s κ : ℕ) (K B : List ℕ) (n : ℕ) → length B < n → false ≡ Answer m s κ K B n
 short-bits m s κ K B n h = let e = lt-leb n (room K B) (omega arith) in rw e
-
-and-false : (a : Bool) → a && false ≡ false
-and-false true = refl
-and-false false = refl
 
 -- no records are no list
 pub no-records : (m s κ : ℕ) (K B : List ℕ) (n : ℕ) → validKey m κ ≡ true → n ≡ 0 → false ≡ Answer m s κ K B n

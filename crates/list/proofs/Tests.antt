@@ -2,23 +2,20 @@
 -- and raster has passed. A table with known tests gives its number by definitions' law `holds-first`, or 0 by `none-first`.
 use Prim.Native.Nat.{ℕ, _*_, _^_, _≤_}
 use mathlib.Core.Path.{_≡_, refl}
-use mathlib.Core.Bool.{Bool, true, false, _||_, true≢false}
+use mathlib.Core.Bool.{true, false, _||_}
 use mathlib.Core.List.{List}
 use native.Mathlib.Omega.{arith}
 use lib.ListN.{length}
 use lib.Dec.{ltb, eqb}
 use borrow.Author.Tests.{ltb-false, eqb-false, not-false}
 use Rattle.keys.specs.Key.{validKey}
+use Rattle.keys.proofs.Cases.{neither-left, neither-right}
 use Rattle.definitions.specs.Read.{isList}
 use Rattle.definitions.specs.Refusal.{badSettings}
 use Rattle.definitions.specs.Calls.Standing.{standingRefusal}
 use Rattle.definitions.specs.Calls.Raster.{rasterRefusal}
 use Rattle.definitions.proofs.RasterOf.{length-to}
 use Rattle.definitions.proofs.First.{first-none}
-
-pub either-false : (a b : Bool) → a || b ≡ false → (a ≡ false) × (b ≡ false)
-either-false false b e = (refl, e)
-either-false true b e = absurd (true≢false e)
 
 -- settings that refusal 1 passes
 pub record GoodSettings (m s : ℕ) : Type 0 where
@@ -29,13 +26,12 @@ pub record GoodSettings (m s : ℕ) : Type 0 where
 pub good-settings : (m s : ℕ) → badSettings m s ≡ false → GoodSettings m s
 unfolding badSettings
 good-settings m s e =
-    let outer = either-false (ltb 10 m) (eqb s 0 || ltb 16 s) e in
-    let inner = either-false (eqb s 0) (ltb 16 s) (outer .1) in
-    let not-zero = eqb-false s 0 (inner .0) in
+    let slots = neither-right (ltb 10 m) (eqb s 0 || ltb 16 s) e in
+    let not-zero = eqb-false s 0 (neither-left (eqb s 0) (ltb 16 s) slots) in
     record {
-      deep = ltb-false 10 m (outer .0);
+      deep = ltb-false 10 m (neither-left (ltb 10 m) (eqb s 0 || ltb 16 s) e);
       some = omega arith;
-      few = ltb-false 16 s (inner .1);
+      few = ltb-false 16 s (neither-right (eqb s 0) (ltb 16 s) slots);
     }
 
 -- what a call of standing or part that is not refused has passed

@@ -1,7 +1,7 @@
 -- The answers of the check of a last entry, one for each way out of the code. Rests on Last.
 use Prim.Native.Nat.{ℕ, _+_, _-_, _≤_, _<_}
-use mathlib.Core.Path.{_≡_, refl, sym, ap, ap₂, _∙_}
-use mathlib.Core.Bool.{Bool, true, false, _&&_}
+use mathlib.Core.Path.{_≡_, sym, ap, ap₂, _∙_}
+use mathlib.Core.Bool.{Bool, true, false, _&&_, and-false}
 use mathlib.Core.List.{List}
 use native.Mathlib.Omega.{arith}
 use lib.ListN.{length, take, drop, length-take, length-drop}
@@ -14,10 +14,6 @@ use Rattle.definitions.specs.Read.{room, paired, recordsOf}
 use Rattle.definitions.specs.Log.{lastKey, lastContent, isContent, lastIsEntry}
 use Rattle.definitions.proofs.Records.{records-length}
 use Rattle.log.proofs.Last.{closingKey, closingCount, contentRun, last-key-at, last-count-at, last-content-at}
-
-and-false : (a : Bool) → a && false ≡ false
-and-false true = refl
-and-false false = refl
 
 -- the records that are used are there, and there are some
 pub record Used (keys values : List ℕ) (used : ℕ) : Type 0 where

@@ -1,5 +1,5 @@
 -- The last entry of a log by its places in the two slices: its key, its count, where its content starts, and what stands before it; and what a sound
--- log says of these places. Rests on Records.
+-- log says of these places. Rests on the records of two slices.
 use Prim.Native.Nat.{ℕ, zero, suc, _+_, _-_, _≤_, _<_}
 use mathlib.Core.Path.{_≡_, sym, ap, ap₂, _∙_}
 use mathlib.Core.Bool.{Bool, true, false, _&&_}

@@ -1,11 +1,11 @@
 -- How a block lies to a window, in numbers: the tests isWithin and isApart of a spot, and what they say of the window's pixels. Rests on nothing.
 use Prim.Native.Nat.{ℕ, _+_, _^_, _≤_, _<_}
-use mathlib.Core.Path.{_≡_, refl, sym, _∙_}
-use mathlib.Core.Bool.{Bool, true, false, _||_, _&&_, true≢false}
+use mathlib.Core.Path.{_≡_, sym, _∙_}
+use mathlib.Core.Bool.{true, false, _||_, _&&_, true≢false}
 use native.Mathlib.Omega.{arith}
 use lib.Dec.{leb}
 use borrow.Author.Tests.{leb-true, leb-false, le-leb, lt-leb}
-use Rattle.keys.proofs.Cases.{decide, and-left, and-right, and-both}
+use Rattle.keys.proofs.Cases.{decide, and-left, and-right, and-both, neither-left, neither-right}
 use Rattle.keys.proofs.Powers.{two-le}
 use Rattle.keys.proofs.Interval.{within}
 use Rattle.definitions.specs.Window.{isWindow, inWindow}
@@ -47,14 +47,6 @@ pub record Meets (s : Spot) (w : Window) : Type 0 where
   pub window-rows : s .row < w .row + w .height
   pub columns : w .column < s .column + s .side
   pub window-columns : s .column < w .column + w .width
-
-neither-left : (a b : Bool) → a || b ≡ false → a ≡ false
-neither-left true b e = e
-neither-left false b e = refl
-
-neither-right : (a b : Bool) → a || b ≡ false → b ≡ false
-neither-right true b e = absurd (true≢false e)
-neither-right false b e = e
 
 pub not-apart : (s : Spot) (w : Window) → isApart s w ≡ false → Meets s w
 unfolding isApart

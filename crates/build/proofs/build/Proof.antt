@@ -8,9 +8,10 @@ use borrow.Author.Needs.{needs}
 use Rattle.keys.proofs.Powers.{two-le}
 use Rattle.definitions.specs.List.{listOf, listOfRaster}
 use Rattle.definitions.proofs.ListOf.{list-some}
+use Rattle.list.proofs.Tests.{good-settings}
 use Rattle.build.specs.BuildBlocks.{pictureOfRows}
 use Rattle.build.proofs.FittingBlock.{keys-length, bits-length}
-use Rattle.build.proofs.BuildRefusal.{Passed, passed, refusal-early, refusal-nine, refusal-none, refused, done, level-low}
+use Rattle.build.proofs.BuildRefusal.{Passed, passed, refusal-early, refusal-nine, refusal-none, refused, done}
 use Rattle.build.proofs.BuildCall.{whole-inside, whole-fits, whole-keys, whole-bits, rows-list}
 use Rattle.build.proofs.build.Statement.{statement}
 use Rattle.build.proofs.build.Tie as tie
@@ -45,10 +46,10 @@ returns c =
     refused _ _ _ _ _ _ (e ∙ refusal-early _ _ _ _ _ (λ z. c .if1 .taken (e ∙ z))) (c .if1 .taken)
 
 power-of-two-requires : tie.Need-power-of-two-requires
-power-of-two-requires c κs = let h = level-low _ _ (good c .settings) in omega arith
+power-of-two-requires c κs = let h = good-settings _ _ (good c .settings) .deep in omega arith
 
 cast-side : tie.Need-cast-side
-cast-side c = let h = two-le 10 (level-low _ _ (good (c .before) .settings)) in omega (arith, c .power-of-two .ensures)
+cast-side c = let h = two-le 10 (good-settings _ _ (good (c .before) .settings) .deep) in omega (arith, c .power-of-two .ensures)
 
 count-block-requires : tie.Need-count-block-requires
 count-block-requires c κs = whole-inside _ _ _ _ (good (c .before)) (c .power-of-two .ensures)

@@ -6,7 +6,8 @@ use native.Mathlib.Omega.{arith}
 use native.Mathlib.Nat.{mul-le-mul}
 use Rattle.keys.proofs.Powers.{two-le}
 use Rattle.definitions.specs.Refusal.{badSettings}
-use Rattle.build.proofs.BuildRefusal.{early-one, early-two, early-three, early-none, length-bad, length-good, level-low}
+use Rattle.list.proofs.Tests.{good-settings}
+use Rattle.build.proofs.BuildRefusal.{early-one, early-two, early-three, early-none, length-bad, length-good}
 use Rattle.build.proofs.refusal_of.Statement.{statement}
 use Rattle.build.proofs.refusal_of.Tie as tie
 
@@ -21,14 +22,14 @@ returns : tie.Need-returns
 returns c = early-one _ _ _ (sym (c .before .are-bad .ensures) ∙ c .if1 .taken)
 
 power-of-two-requires : tie.Need-power-of-two-requires
-power-of-two-requires c κs = let h = level-low _ _ (good c) in omega arith
+power-of-two-requires c κs = let h = good-settings _ _ (good c) .deep in omega arith
 
 cast-side : tie.Need-cast-side
-cast-side c = let h = two-le 10 (level-low _ _ (good (c .before))) in omega (arith, c .power-of-two .ensures)
+cast-side c = let h = two-le 10 (good-settings _ _ (good (c .before)) .deep) in omega (arith, c .power-of-two .ensures)
 
 mul-pixels : tie.Need-mul-pixels
 mul-pixels c =
-    let h : c .power-of-two .result ≤ 2 ^ 10 = let h = two-le 10 (level-low _ _ (good (c .before))) in omega (arith, c .power-of-two .ensures) in
+    let h : c .power-of-two .result ≤ 2 ^ 10 = let h = two-le 10 (good-settings _ _ (good (c .before)) .deep) in omega (arith, c .power-of-two .ensures) in
     omega (arith, mul-le-mul h h)
 
 returns-2 : tie.Need-returns-2

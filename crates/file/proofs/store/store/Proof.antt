@@ -5,8 +5,8 @@ use native.Mathlib.Omega.{arith}
 use borrow.Author.Tests.{not-true, not-false}
 use Rattle.definitions.specs.Read.{isList}
 use Rattle.definitions.specs.Refusal.{badSettings}
+use Rattle.list.proofs.Tests.{good-settings}
 use borrow.Author.Needs.{needs}
-use Rattle.file.proofs.Fits.{good-settings}
 use Rattle.file.proofs.StoreAnswers.{bad-settings, no-list, roomy, few, no-room, all-stored}
 use Rattle.file.proofs.store.store.Statement.{statement}
 use Rattle.file.proofs.store.store.Tie as tie
@@ -32,7 +32,7 @@ returns c =
     bad-settings (a .m) (a .s) (a .keys .now) (a .bits .now) (a .n) (a .file .now) (sym (c .before .are-bad .ensures) ∙ c .if1 .taken)
 
 is-list-requires : tie.Need-is-list-requires
-is-list-requires c κs = let g = good-settings _ _ (good c) in (g .deepest, g .slots)
+is-list-requires c κs = let g = good-settings _ _ (good c) in (g .deep, g .few)
 
 returns-2 : tie.Need-returns-2
 returns-2 c =

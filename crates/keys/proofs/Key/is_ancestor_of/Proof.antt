@@ -1,11 +1,10 @@
 -- `Key::is_ancestor_of` meets its contract: between valid keys, an ancestor is another block whose interval of keys holds the key.
 use Prim.Native.Nat.{ℕ, _+_, _^_, _≤_, _<_}
-use mathlib.Core.Path.{_≡_, refl, sym, ap, _∙_}
-use mathlib.Core.Bool.{Bool, true, false, not, _&&_}
+use mathlib.Core.Path.{_≡_, sym, ap, _∙_}
+use mathlib.Core.Bool.{true, false, and-true, and-false}
 use native.Mathlib.Omega.{arith}
-use lib.Dec.{ltb, leb, eqb}
-use borrow.Author.Tests.{lt-ltb, le-ltb, le-leb, lt-leb, ne-eqb, eq-eqb}
-use borrow.Author.Needs.{needs}
+use lib.Dec.{ltb}
+use borrow.Author.Tests.{le-ltb, le-leb, lt-leb, ne-eqb, eq-eqb}
 use Rattle.keys.specs.Key.{validKey, heightOf}
 use Rattle.keys.specs.Block.{isAncestor, inInterval}
 use Rattle.keys.proofs.Cases.{split}
@@ -20,19 +19,11 @@ later : (m a b : ℕ) → validKey m a ≡ true → validKey m b ≡ true → a 
 unfolding inInterval
 later m a b va vb h =
     ancestor-interval m a b va vb ∙ simp (le-leb a b (omega arith), ne-eqb a b (omega arith)) (and-true (ltb b (a + 5 ^ heightOf m a)))
-  where
-    and-true : (t : Bool) → t && true ≡ t
-    and-true true = refl
-    and-true false = refl
 
 not-later : (m a b : ℕ) → validKey m a ≡ true → validKey m b ≡ true → b ≤ a → isAncestor m a b ≡ false
 unfolding inInterval
 not-later m a b va vb h =
     ancestor-interval m a b va vb ∙ split b a (λ below. simp (lt-leb a b below)) (λ above. simp (eq-eqb a b (omega arith)) (and-false (inInterval m a b)))
-  where
-    and-false : (t : Bool) → t && false ≡ false
-    and-false true = refl
-    and-false false = refl
 
 height-requires : tie.Need-height-requires
 height-requires c κs = c .pre .0
