@@ -14,7 +14,6 @@ pub mod ValueAt
 pub mod ReadBack
 pub mod RasterOf
 pub mod IsList
-pub mod GivenPixels
 pub mod FourLists
 pub mod AscendingKeys
 pub mod SelectMeans

@@ -87,6 +87,12 @@ every-fails test (suc k) r c e =
     (λ h. some-sw (every-fails test k (r + 2 ^ k) c h))
     (λ h. some-se (every-fails test k (r + 2 ^ k) (c + 2 ^ k) h))
 
+-- where the scan of a block passes, that of every block under it does
+pub every-under : (test : ℕ → ℕ → Bool) {k r c κ k′ r′ c′ κ′ : ℕ} → Under k r c κ k′ r′ c′ κ′
+    → everyPixel test k r c ≡ true
+    → everyPixel test k′ r′ c′ ≡ true
+every-under test u e = every-from test _ _ _ (λ a b w. every-to test _ _ _ e a b (under-within u w))
+
 -- a scan depends only on the tests at the block's pixels
 pub every-same : (test test′ : ℕ → ℕ → Bool) (k r c : ℕ) → Every (λ r′ c′. test r′ c′ ≡ test′ r′ c′) k r c
     → everyPixel test k r c ≡ everyPixel test′ k r c

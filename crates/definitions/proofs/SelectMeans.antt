@@ -1,5 +1,5 @@
 -- Select gives a block exactly when all its pixels lie in the window and have feature f, and it is the outer block (the root) or its parent does
--- not satisfy this (document 01, "Window queries"). Rests on GivenPixels and FourLists.
+-- not satisfy this (document 01, "Window queries"). Rests on Pixels and FourLists.
 use Prim.Native.Nat.{ℕ, zero, suc, _+_, _^_}
 use mathlib.Core.Path.{_≡_, refl, sym, subst, _∙_}
 use mathlib.Core.Logic.{_↔_}
@@ -14,23 +14,23 @@ use Rattle.definitions.specs.Picture.{Picture}
 use Rattle.definitions.specs.Window.{inWindow, isGiven, selectFrom, selectIn}
 use Rattle.definitions.specs.declared.Window.{Window}
 use Rattle.definitions.proofs.FourLists.{one-of-four, IntoFour, into-four}
-use Rattle.definitions.proofs.GivenPixels.{every-under, every-at, every-of}
+use Rattle.definitions.proofs.Pixels.{every-under, every-to, every-from}
 
 module _ (p : Picture) (w : Window) (f : ℕ) where
   -- each pixel of a given block lies in the window
   pub given-inside : (k r c : ℕ) {row column : ℕ} → isGiven p w f k r c ≡ true → InSquare k r c row column → inWindow w row column ≡ true
   unfolding isGiven
-  given-inside k r c e h = and-left _ _ (every-at _ k r c e h)
+  given-inside k r c e h = and-left _ _ (every-to _ k r c e _ _ h)
 
   -- each pixel of a given block has feature f
   pub given-feature : (k r c : ℕ) {row column : ℕ} → isGiven p w f k r c ≡ true → InSquare k r c row column → p row column ≡ f
   unfolding isGiven
-  given-feature k r c {row} {column} e h = eqb-true _ _ (and-right (inWindow w row column) _ (every-at _ k r c e h))
+  given-feature k r c {row} {column} e h = eqb-true _ _ (and-right (inWindow w row column) _ (every-to _ k r c e row column h))
 
   -- a block whose pixels all lie in the window and have feature f is given
   pub given-of : (k r c : ℕ) → ((row column : ℕ) → InSquare k r c row column → (inWindow w row column ≡ true) × (p row column ≡ f)) → isGiven p w f k r c ≡ true
   unfolding isGiven
-  given-of k r c each = every-of _ k r c (λ row column h. let both = each row column h in and-both _ _ (both .0) (eq-eqb _ _ (both .1)))
+  given-of k r c each = every-from _ k r c (λ row column h. let both = each row column h in and-both _ _ (both .0) (eq-eqb _ _ (both .1)))
 
   -- what lies under a given block is given
   pub given-under : {k r c κ k′ r′ c′ κ′ : ℕ} → Under k r c κ k′ r′ c′ κ′ → isGiven p w f k r c ≡ true → isGiven p w f k′ r′ c′ ≡ true

@@ -4,7 +4,6 @@ use Prim.Native.Nat.{ℕ}
 use mathlib.Core.Path.{_≡_, sym, ap, _∙_}
 use mathlib.Core.Logic.{_↔_}
 use mathlib.Core.List.{List, List·Memᴰ}
-use native.Mathlib.Omega.{arith}
 use Rattle.definitions.specs.Picture.{Picture}
 use Rattle.definitions.specs.List.{Record}
 use Rattle.definitions.specs.Read.{recordsOf, pictureOf}
@@ -41,7 +40,7 @@ module _ (m s : ℕ) (b : Buffers) (κ f : ℕ) (done : answer m s b (painting �
   pub painted-findings : (rules : List Rule) → allFindings m (shows m (after m s b (painting κ f))) rules ≡ allFindings m (paintIn m κ f (shows m b)) rules
   painted-findings rules =
       ap (λ l. allFindings m (pictureOf m l) rules) records-after
-      ∙ findings-agree m (pictureOf m (listAfter m b κ f)) (paintIn m κ f (shows m b)) rules (λ row column h. painted-back row column (omega arith))
+      ∙ findings-agree m (pictureOf m (listAfter m b κ f)) (paintIn m κ f (shows m b)) rules painted-back
 
 -- the same two slices of waivers are lent to both calls; the answer slices may be any
 module _ (m s : ℕ) (rules : List Rule) (waiverIds waiverKeys : List ℕ) where
