@@ -2,11 +2,10 @@
 -- BuildRefusal, WriteBlock and WrittenBlock.
 use Prim.Native.Nat.{ℕ, _*_, _^_, _≤_}
 use mathlib.Core.Path.{_≡_, refl, sym, _∙_, ap}
-use mathlib.Core.List.{List, _∷_, _++_, map}
+use mathlib.Core.List.{List, _∷_, map}
 use native.Mathlib.Omega.{arith}
-use native.Mathlib.Nat.{zero-add}
-use lib.ListN.{length, drop, set, length-map}
-use lib.Seq.{sets, sets-eq}
+use lib.ListN.{length, set, length-map}
+use lib.Seq.{sets}
 use borrow.Author.Tests.{eqb-true, not-false}
 use Rattle.keys.proofs.Powers.{two-le, five-le}
 use Rattle.definitions.specs.Picture.{Picture}
@@ -14,6 +13,7 @@ use Rattle.definitions.specs.Bits.{bitsOf}
 use Rattle.definitions.specs.List.{Record, recordOf, listOf, listOfRaster, keysOf, valuesOf}
 use Rattle.definitions.specs.Buffer.{over}
 use Rattle.definitions.specs.Refusal.{badLength}
+use Rattle.definitions.proofs.Buffer.{sets-over}
 use Rattle.list.proofs.Tests.{good-settings}
 use Rattle.build.specs.BuildBlocks.{pictureOfRows, below, Inside, Fitting, Written}
 use Rattle.build.proofs.RasterTests.{pixels-below}
@@ -39,10 +39,6 @@ whole-inside m s side raster p e =
 -- the list of the raster, read by rows of the length that the code has
 pub rows-list : (m side : ℕ) (raster : List ℕ) → side ≡ 2 ^ m → listOf (pictureOfRows side raster) m 0 0 0 ≡ listOfRaster m raster
 rows-list m side raster e = ap (λ x. listOf (pictureOfRows x raster) m 0 0 0) e
-
--- a run of stores from place 0 on
-sets-over : (vs l : List ℕ) → length vs ≤ length l → sets l 0 vs ≡ over vs l
-sets-over vs l h = sets-eq vs l 0 (omega arith) ∙ ap (λ n. vs ++ drop n l) (zero-add (length vs))
 
 -- the records below the root and the root's own at place 0 are the whole list
 module _ (f : Record → ℕ) where

@@ -22,6 +22,10 @@ pub widen : {lo hi lo′ hi′ : ℕ} {l : List Record} → lo′ ≤ lo → hi 
 widen {lo′ = lo′} {hi′ = hi′} u v (none h) = none {lo = lo′} {hi = hi′} (omega arith)
 widen {lo′ = lo′} u v (next {e = e} h a) = next {lo = lo′} {e = e} (omega arith) (widen (le-refl _) v a)
 
+-- without its first record a list ascends above it
+pub ascending-rest : {lo hi : ℕ} {e : Record} {l : List Record} → Ascending lo hi (e ∷ l) → Ascending (suc (e .key)) hi l
+ascending-rest (next h a) = a
+
 -- one record between the bounds
 pub ascending-one : {lo hi κ v : ℕ} → lo ≤ κ → κ < hi → Ascending lo hi (recordOf κ v ∷ [])
 ascending-one u v = next u (none v)

@@ -24,7 +24,8 @@ fits-file (e ∷ l) each =
     let this = each e (List·Memᴰ·head refl) in
     fits (this .0) (this .1) (fits-file l (λ x h. each x (List·Memᴰ·tail h)))
 
-length-records : (l : List Record) → length (bytesOfRecords l) ≡ 6 * length l
+-- each record is six bytes
+pub length-records : (l : List Record) → length (bytesOfRecords l) ≡ 6 * length l
 unfolding bytesOfRecords bytesOf
 length-records [] = refl
 length-records (e ∷ l) = let ih = length-records l in omega arith

@@ -4,7 +4,7 @@ use Prim.Native.Nat.{ℕ}
 use mathlib.Core.Path.{_≡_, refl, sym, ap, _∙_}
 use mathlib.Core.Logic.{_↔_}
 use mathlib.Core.Bool.{Bool, true, false, cond, not, _&&_}
-use mathlib.Core.List.{List, [], _∷_}
+use mathlib.Core.List.{List, [], _∷_, _++_}
 use lib.Dec.{eqb}
 use borrow.Author.Tests.{eqb-false, eq-eqb, ne-eqb, not-true}
 use Rattle.keys.proofs.Cases.{decide, and-left, and-right}
@@ -61,6 +61,11 @@ first-zero rows n = (first-none rows n, none-first rows)
 pub holds-first : {k : ℕ} {rows : List Row} → FirstHolds k rows → first rows ≡ k
 holds-first (this {r} {rs} holds number) = first-this r rs holds ∙ number
 holds-first (later {r} {rs} fails h) = first-later r rs fails ∙ holds-first h
+
+-- the first row that holds stays the first where more rows follow
+pub holds-more : {k : ℕ} {rows : List Row} (more : List Row) → FirstHolds k rows → FirstHolds k (rows ++ more)
+holds-more more (this holds number) = this holds number
+holds-more more (later fails h) = later fails (holds-more more h)
 
 -- a number that is given, and is not 0, is that of the first row that holds
 pub first-holds : (k : ℕ) (rows : List Row) → (k ≡ 0 → ⊥) → first rows ≡ k → FirstHolds k rows

@@ -31,3 +31,5 @@ pub mod FileOf
 pub mod FileBack
 pub mod First
 pub mod Records
+pub mod Buffer
+pub mod Put

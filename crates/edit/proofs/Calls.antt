@@ -1,17 +1,13 @@
 -- What paint and take back make of a list, by pictures and by the model: painting puts a content of one record, taking back puts the content of
--- the log's last entry. Rests on Edited, Content and Put.
+-- the log's last entry. Rests on Edited and Content.
 use Prim.Native.Nat.{ℕ, _+_, _^_}
 use mathlib.Core.Path.{_≡_, refl, sym, _∙_, ap, ap₂}
 use mathlib.Core.Bool.{true}
 use mathlib.Core.List.{List, [], _∷_}
 use native.Mathlib.Omega.{arith}
 use lib.ListN.{length, length-append}
-use Rattle.keys.specs.Key.{rootKey, validKey, heightOf}
+use Rattle.keys.specs.Key.{validKey, heightOf}
 use Rattle.keys.specs.Block.{rowOf, columnOf}
-use Rattle.keys.proofs.Valid.{valid-block}
-use Rattle.keys.proofs.Pixel.{pixel-in-block}
-use Rattle.keys.proofs.InBlock.{inBlock-iff}
-use Rattle.definitions.specs.Picture.{Picture}
 use Rattle.definitions.specs.List.{Record, recordOf, listOfPicture}
 use Rattle.definitions.specs.Read.{pictureOf}
 use Rattle.definitions.specs.Edit.{put, paintIn, contentOf}
@@ -19,13 +15,10 @@ use Rattle.definitions.specs.Log.{closed, closingPlaces, entryOf, lastKey, last
 use Rattle.definitions.specs.Calls.Paint.{painted, gained}
 use Rattle.definitions.specs.Calls.TakeBack.{restored}
 use Rattle.definitions.specs.Standing.{partLength}
-use Rattle.definitions.proofs.Pixels.{Agree}
 use Rattle.definitions.proofs.Features.{one-from}
-use Rattle.definitions.proofs.ListOf.{list-agree, list-one}
-use Rattle.definitions.proofs.ReadBack.{block-back, picture-back}
+use Rattle.definitions.proofs.ListOf.{list-one}
 use Rattle.edit.specs.Content.{contentIn}
 use Rattle.put.specs.Put.{planOf, lengthAfter, edited}
-use Rattle.put.proofs.Put.{put-agree, put-back}
 use Rattle.edit.proofs.Content.{content-in, content-length}
 use Rattle.put.proofs.Edited.{edited-put, edited-length}
 
@@ -87,39 +80,3 @@ module _ (m : ℕ) (l log : List Record) (valid : validKey m (lastKey log) ≡ t
   restored-length =
       ap₂ (λ a b. lengthAfter a b (planOf m a (lastKey log) b)) own last
       ∙ edited-length m (lastKey log) (pictureOf m (lastContent log)) (pictureOf m l) valid
-
--- the picture that a content shows agrees with the one that it was made of, on the block
-pub content-back : (m κ : ℕ) (q : Picture) → validKey m κ ≡ true → Agree (pictureOf m (contentOf m q κ)) q (heightOf m κ) (rowOf m κ) (columnOf m κ)
-unfolding contentOf
-content-back m κ q valid =
-    block-back m q (heightOf m κ) (rowOf m κ) (columnOf m κ) κ (λ a b low narrow. pixel-in-block a b (valid-block m κ valid) low narrow)
-
--- what is put by lists is put by pictures
-pub put-read : (m κ : ℕ) (q p : Picture) → validKey m κ ≡ true
-    → Agree (put m κ (pictureOf m (contentOf m q κ)) (pictureOf m (listOfPicture m p))) (put m κ q p) m 0 0
-put-read m κ q p valid =
-    put-agree m κ (pictureOf m (contentOf m q κ)) q (pictureOf m (listOfPicture m p)) p
-    (λ a b w e. let s = inBlock-iff a b (valid-block m κ valid) .0 e in content-back m κ q valid a b (omega arith))
-    (λ a b w. picture-back m p a b (omega arith) (omega arith))
-
--- taking back, by pictures: the content of q goes into block κ of p
-pub restored-put : (m κ : ℕ) (q p : Picture) (log : List Record) → validKey m κ ≡ true → lastKey log ≡ κ → lastContent log ≡ contentOf m q κ
-    → restored m (listOfPicture m p) log ≡ listOfPicture m (put m κ q p)
-unfolding restored
-restored-put m κ q p log valid key content =
-    ap₂ (λ x l. listOfPicture m (put m x (pictureOf m l) (pictureOf m (listOfPicture m p)))) key content
-    ∙ list-agree _ (put m κ q p) m 0 0 rootKey (put-read m κ q p valid)
-
--- painting, by pictures
-pub painted-by : (m κ f : ℕ) (p : Picture) → painted m (listOfPicture m p) κ f ≡ listOfPicture m (paintIn m κ f p)
-unfolding painted paintIn
-painted-by m κ f p =
-    list-agree _ _ m 0 0 rootKey
-    (put-agree m κ (λ row column. f) (λ row column. f) (pictureOf m (listOfPicture m p)) p (λ a b w e. refl)
-    (λ a b w. picture-back m p a b (omega arith) (omega arith)))
-
--- the former content put back gives the former list
-pub restored-back : (m κ : ℕ) (q p : Picture) (log : List Record) → validKey m κ ≡ true → lastKey log ≡ κ → lastContent log ≡ contentOf m p κ
-    → restored m (listOfPicture m (put m κ q p)) log ≡ listOfPicture m p
-restored-back m κ q p log valid key content =
-    restored-put m κ p (put m κ q p) log valid key content ∙ list-agree (put m κ p (put m κ q p)) p m 0 0 rootKey (λ a b w. put-back m κ q p a b)

@@ -9,19 +9,14 @@ use borrow.Author.Tests.{not-false}
 use Rattle.definitions.specs.Read.{room, isList}
 use Rattle.definitions.specs.Log.{noLog}
 use Rattle.definitions.specs.Refusal.{Row, _gives_, first, badSettings, noList}
-use Rattle.definitions.proofs.First.{NoneHolds, FirstHolds, this, later, first-later, none-first, first-none, holds-first, first-holds}
+use Rattle.definitions.proofs.First.{NoneHolds, this, later, first-later, none-first, first-none, holds-first, first-holds, holds-more}
 use Rattle.list.specs.Own.{OwnList}
 use Rattle.list.proofs.Own.{own-list}
 use Rattle.list.proofs.Tests.{GoodSettings, good-settings}
 use Rattle.log.proofs.Last.{SoundLog, sound-log}
 use Rattle.edit.specs.EditCallChecks.{firstRefusal}
 
--- the first row that holds stays the first where more rows follow
-holds-more : {k : ℕ} {rows : List Row} (more : List Row) → FirstHolds k rows → FirstHolds k (rows ++ more)
-holds-more more (this holds number) = this holds number
-holds-more more (later fails h) = later fails (holds-more more h)
-
--- so what some rows refuse the table that begins with them refuses
+-- what some rows refuse the table that begins with them refuses
 pub early-first : (k : ℕ) (rows more : List Row) → k ≡ first rows → (k ≡ 0 → ⊥) → k ≡ first (rows ++ more)
 early-first k rows more e not-zero = sym (holds-first (holds-more more (first-holds k rows not-zero (sym e))))
 

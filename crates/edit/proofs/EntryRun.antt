@@ -12,6 +12,7 @@ use Rattle.definitions.specs.Read.{room}
 use Rattle.definitions.specs.Buffer.{overAt}
 use Rattle.definitions.specs.Log.{closed}
 use Rattle.definitions.proofs.Records.{paired-keys, paired-values}
+use Rattle.definitions.proofs.LastEntry.{length-closed}
 use Rattle.edit.specs.EntryLogged.{run, Logged}
 
 -- a run and one number more, stored behind it
@@ -36,11 +37,6 @@ pub closed-values : (κ : ℕ) (content : List Record) → valuesOf (closed κ c
 unfolding closed
 closed-values κ content = map-append (λ x. x .value) content (recordOf κ (length content) ∷ [])
 
--- the length
-pub closed-length : (κ : ℕ) (content : List Record) → length (closed κ content) ≡ length content + 1
-unfolding closed
-closed-length κ content = length-append content (recordOf κ (length content) ∷ [])
-
 -- a content of count records and its closing record, stored in both slices
 pub logged : (κ : ℕ) (content : List Record) (used count : ℕ) (keys values keys′ values′ : List ℕ) (next : ℕ)
     → length content ≡ count
@@ -59,7 +55,7 @@ logged κ content used count keys values keys′ values′ next size fits e f g 
           ∙ stored-at values used (valuesOf content) count count (omega arith) (omega arith)
           ∙ ap (λ c. overAt used (valuesOf content ++ (c ∷ [])) values) (sym size)
           ∙ ap (λ new. overAt used new values) (sym (closed-values κ content));
-      used-are = let l = closed-length κ content in omega arith;
+      used-are = let l = length-closed κ content in omega arith;
     }
 
 -- an entry of one record

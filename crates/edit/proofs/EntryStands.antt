@@ -20,6 +20,7 @@ use Rattle.definitions.specs.Calls.Paint.{gained}
 use Rattle.definitions.proofs.Ascending.{Ascending, none, next}
 use Rattle.definitions.proofs.ListOf.{list-ascends, list-some}
 use Rattle.definitions.proofs.Records.{records-run}
+use Rattle.definitions.proofs.LastEntry.{length-closed}
 use Rattle.list.specs.Own.{OwnList, shownBy}
 use Rattle.list.specs.Among.{keysBelow, standingAmong}
 use Rattle.list.proofs.Among.{values-of-records, standing-among}
@@ -32,7 +33,7 @@ use Rattle.edit.proofs.Calls.{gained-in}
 use Rattle.put.proofs.PlanTop.{records-length}
 use Rattle.put.proofs.PlanPlaces.{part-until}
 use Rattle.edit.proofs.EntryPart.{below-first}
-use Rattle.edit.proofs.EntryRun.{closed-length, run-length}
+use Rattle.edit.proofs.EntryRun.{run-length}
 
 -- ascending records are no more than their interval has keys
 ascending-length : {lo hi : ℕ} {l : List Record} → Ascending lo hi l → lo + length l ≤ hi
@@ -131,7 +132,7 @@ module _ {m n : ℕ} {keys bits : List ℕ} (own : OwnList m keys bits n) (key :
         entry = sym is;
         there = omega arith;
         small = omega arith;
-        size = ap length is ∙ closed-length key (run keys bits place (end - place)) ∙ ap (λ c. c + 1) (run-length keys bits place (end - place) (omega arith));
+        size = ap length is ∙ length-closed key (run keys bits place (end - place)) ∙ ap (λ c. c + 1) (run-length keys bits place (end - place) (omega arith));
       }
 
   pub inside-at : (leaf : ℕ) → isListed key (recordsOf keys bits n) ≡ false → leaf ≡ placeOf key (recordsOf keys bits n) → InsideAt m key keys bits n leaf
@@ -145,5 +146,5 @@ module _ {m n : ℕ} {keys bits : List ℕ} (own : OwnList m keys bits n) (key :
       record {
         entry = sym is;
         there = omega arith;
-        size = ap length is ∙ closed-length key (recordOf key (getD bits leaf 0) ∷ []);
+        size = ap length is ∙ length-closed key (recordOf key (getD bits leaf 0) ∷ []);
       }

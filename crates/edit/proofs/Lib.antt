@@ -1,5 +1,4 @@
 pub mod Content
-pub mod Checked
 pub mod Calls
 pub mod EntryRun
 pub mod EntryPart

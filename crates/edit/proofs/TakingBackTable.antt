@@ -1,8 +1,7 @@
 -- The table of take back, one law for each way out of the code that looks for the refusal, and what a taking back that is not refused may rely on.
 -- Rests on EditCallTables and the laws of the log's last entry.
-use Prim.Native.Nat.{ℕ, _+_, _≤_, _<_}
+use Prim.Native.Nat.{ℕ, _≤_, _<_}
 use mathlib.Core.Path.{_≡_, refl, sym, ap, ap₂, _∙_}
-use mathlib.Core.Bool.{true, false}
 use mathlib.Core.List.{List, [], _∷_}
 use native.Mathlib.Omega.{arith}
 use lib.ListN.{length}
@@ -14,10 +13,10 @@ use Rattle.definitions.specs.Log.{isContent}
 use Rattle.definitions.specs.Refusal.{Row, _gives_, first}
 use Rattle.definitions.specs.Calls.TakeBack.{restored, takeBackRefusal}
 use Rattle.definitions.proofs.First.{this, later, holds-first, none-first, first-none}
-use Rattle.log.proofs.Last.{LastEntry, last-entry}
+use Rattle.list.proofs.Accepted.{content-is}
+use Rattle.log.proofs.Last.{last-entry}
 use Rattle.edit.specs.EditCallChecks.{firstRefusal}
 use Rattle.edit.specs.TakingBackCall.{Restorable}
-use Rattle.edit.proofs.Checked.{content-checked}
 use Rattle.edit.proofs.EditCallTables.{firstRows, FirstPassed, early-first, rest-first, passed-none, passed-settings, passed-own, passed-log}
 
 -- a list and a log that passed, and an entry: what taking it back asks for
@@ -38,7 +37,7 @@ passed-restorable {m} {s} p some =
         all-there = last .all-there;
       };
       valid = ap (validKey m) (last .key) ∙ last .valid;
-      correct = content-checked m s _ _ (ap₂ (isContent m s) (last .key) (last .content) ∙ last .correct);
+      correct = content-is m s _ _ (ap₂ (isContent m s) (last .key) (last .content) ∙ last .correct);
     }
 
 module _ (m s : ℕ) (keys bits : List ℕ) (n : ℕ) (logKeys logValues : List ℕ) (used : ℕ) where

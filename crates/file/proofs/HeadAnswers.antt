@@ -3,13 +3,13 @@
 use Prim.Native.Nat.{ℕ, _+_, _*_, _≤_, _<_}
 use mathlib.Core.Path.{_≡_, refl, sym, ap, ap₂, _∙_}
 use mathlib.Core.Bool.{true, false, not}
-use mathlib.Core.List.{List, _++_}
+use mathlib.Core.List.{List}
 use lib.ListN.{length}
 use borrow.Author.Tests.{lt-ltb, le-ltb, ltb-false, eq-eqb, ne-eqb, eqb-true, not-false}
 use Rattle.definitions.specs.File.{mIn, sIn, nIn, versionIn, tooShort, wrongMark, wrongVersion, wrongLength}
-use Rattle.definitions.specs.Refusal.{Row, badSettings}
+use Rattle.definitions.specs.Refusal.{badSettings}
 use Rattle.definitions.specs.Calls.Load.{loadRefusal}
-use Rattle.definitions.proofs.First.{FirstHolds, this, later, holds-first, first-holds, first-none, none-first}
+use Rattle.definitions.proofs.First.{this, later, holds-first, first-holds, first-none, none-first, holds-more}
 use Rattle.list.proofs.Tests.{good-settings}
 use Rattle.file.specs.Room.{Exact}
 use Rattle.file.specs.Head.{headRows, headRefusal}
@@ -36,13 +36,9 @@ head-accepted file e =
     }
 
 -- a refused head refuses the file
-first-more : {k : ℕ} {rows : List Row} (more : List Row) → FirstHolds k rows → FirstHolds k (rows ++ more)
-first-more more (this holds number) = this holds number
-first-more more (later fails h) = later fails (first-more more h)
-
 pub head-refuses : (file keys bits : List ℕ) (k : ℕ) → k ≡ headRefusal file → (k ≡ 0 → ⊥) → loadRefusal file keys bits ≡ k
 unfolding headRefusal loadRefusal
-head-refuses file keys bits k e not-zero = holds-first (first-more _ (first-holds k (headRows file) not-zero (sym e)))
+head-refuses file keys bits k e not-zero = holds-first (holds-more _ (first-holds k (headRows file) not-zero (sym e)))
 
 module _ (file : List ℕ) where
   -- 15: under 11 bytes

@@ -11,6 +11,7 @@ use Rattle.definitions.specs.Read.{paired, recordsOf}
 use Rattle.definitions.specs.File.{bytesOf, bytesOfRecords}
 use Rattle.definitions.proofs.FileBytes.{length-bytes}
 use Rattle.definitions.proofs.Records.{records-length}
+use Rattle.definitions.proofs.FileOf.{length-records}
 use Rattle.file.specs.Room.{RoomFor}
 use Rattle.file.proofs.Stores.{sets-append}
 
@@ -22,12 +23,6 @@ records-more [] bits i h j = absurd (omega arith)
 records-more (κ ∷ keys) [] i h j = absurd (omega arith)
 records-more (κ ∷ keys) (v ∷ bits) zero h j = refl
 records-more (κ ∷ keys) (v ∷ bits) (suc i) h j = ap (λ l. recordOf κ v ∷ l) (records-more keys bits i (omega arith) (omega arith))
-
--- each record is six bytes
-pub length-record-bytes : (l : List Record) → length (bytesOfRecords l) ≡ 6 * length l
-unfolding bytesOfRecords bytesOf
-length-record-bytes [] = refl
-length-record-bytes (e ∷ l) = let ih = length-record-bytes l in omega arith
 
 -- the bytes of records and then of others
 record-bytes-append : (l l′ : List Record) → bytesOfRecords (l ++ l′) ≡ bytesOfRecords l ++ bytesOfRecords l′
@@ -60,7 +55,7 @@ stored keys bits i old file keyed h j e f =
     let key = bytesOf 4 (getD keys i 0) in
     let value = bytesOf 2 (getD bits i 0) in
     let place : 11 + length before ≡ 11 + 6 * i
-    = ap (λ k. 11 + k) (length-record-bytes (recordsOf keys bits i) ∙ ap (λ k. 6 * k) (records-length keys bits i (omega arith) (omega arith))) in
+    = ap (λ k. 11 + k) (length-records (recordsOf keys bits i) ∙ ap (λ k. 6 * k) (records-length keys bits i (omega arith) (omega arith))) in
     let all : bytesOfRecords (recordsOf keys bits (i + 1)) ≡ before ++ (key ++ value)
     = ap (λ k. bytesOfRecords (recordsOf keys bits k)) (add-one i)
     ∙ ap bytesOfRecords (records-more keys bits i h j)

@@ -18,10 +18,11 @@ use Rattle.definitions.specs.declared.Counted.{Counted}
 use Rattle.definitions.proofs.First.{this, later, holds-first}
 use Rattle.definitions.proofs.FileOf.{length-file}
 use Rattle.definitions.proofs.Records.{records-length}
+use Rattle.definitions.proofs.Buffer.{sets-over}
 use Rattle.list.proofs.Tests.{good-settings}
 use Rattle.file.proofs.Accepted.{store-accepts}
 use Rattle.file.proofs.Fits.{list-parts, list-short}
-use Rattle.file.proofs.Stores.{head-then, sets-over}
+use Rattle.file.proofs.Stores.{head-then}
 
 module _ (m s : ℕ) (keys bits : List ℕ) (n : ℕ) (file : List ℕ) where
   -- what store promises of its result and of the buffer

@@ -1,13 +1,12 @@
 -- Runs of stores: two that follow one another are one, and a run from the first place on is the new content over the old. Rests on the laws of
 -- lists.
-use Prim.Native.Nat.{ℕ, suc, _+_, _%_, _≤_}
+use Prim.Native.Nat.{ℕ, suc, _+_, _%_}
 use mathlib.Core.Path.{_≡_, refl, sym, ap, _∙_}
 use mathlib.Core.List.{List, [], _∷_, _++_}
-use native.Mathlib.Nat.{add-zero, zero-add, div-one}
+use native.Mathlib.Nat.{add-zero, div-one}
 use native.Mathlib.Omega.{arith}
-use lib.ListN.{length, drop, set}
-use lib.Seq.{sets, sets-eq}
-use Rattle.definitions.specs.Buffer.{over}
+use lib.ListN.{length, set}
+use lib.Seq.{sets}
 use Rattle.definitions.specs.File.{bytesOf, headOf, mark, version}
 
 -- what is stored from a place on, and then what is stored after it
@@ -16,10 +15,6 @@ sets-append l i [] b = ap (λ k. sets l k b) (sym (add-zero i))
 sets-append l i (x ∷ a) b =
     let next : suc i + length a ≡ i + suc (length a) = omega arith in
     sets-append (set l i x) (suc i) a b ∙ ap (λ k. sets (sets (set l i x) (suc i) a) k b) next
-
--- what is stored from the first place on stands over the old content
-pub sets-over : (new old : List ℕ) → length new ≤ length old → sets old 0 new ≡ over new old
-sets-over new old h = sets-eq new old 0 (omega arith) ∙ ap (λ k. new ++ drop k old) (zero-add (length new))
 
 -- the mark, the version, m, s and n stored one after the other are the head
 pub head-stores : (m s n : ℕ) (old marked versioned whole : List ℕ) → marked ≡ sets old 0 mark → versioned ≡ sets marked 3 (bytesOf 2 version)

@@ -4,7 +4,6 @@ use Prim.Native.Nat.{ℕ}
 use mathlib.Core.Path.{_≡_, ap, ap₂, _∙_}
 use mathlib.Core.Bool.{true}
 use mathlib.Core.List.{List, _++_}
-use native.Mathlib.Omega.{arith}
 use Rattle.keys.specs.Key.{rootKey, validKey, heightOf}
 use Rattle.keys.specs.Block.{rowOf, columnOf, inBlock}
 use Rattle.keys.proofs.Cases.{decide}
@@ -25,7 +24,8 @@ use Rattle.definitions.proofs.ListOf.{list-agree}
 use Rattle.definitions.proofs.ReadBack.{KeysFrom, root-keys, block-back}
 use Rattle.definitions.proofs.IsList.{list-passes}
 use Rattle.definitions.proofs.LastEntry.{last-key, before-last, last-content}
-use Rattle.history.proofs.Drawn.{put-inside, put-outside, paint-outside, paint-agree}
+use Rattle.definitions.proofs.Put.{put-in, put-out}
+use Rattle.history.proofs.Drawn.{paint-outside, paint-agree}
 
 -- the picture that a picture's list shows agrees with it on the map
 pub map-back : (m : ℕ) (p : Picture) → Agree (pictureOf m (listOfPicture m p)) p m 0 0
@@ -78,8 +78,8 @@ put-back m κ f p valid r c w =
     decide (inBlock m κ r c)
     (λ i.
     let square = inBlock-iff r c (valid-block m κ valid) .0 i in
-    put-inside m κ content map r c i ∙ content-back m κ p valid r c (omega arith))
-    (λ o. put-outside m κ content map r c o ∙ map-back m (paintIn m κ f p) r c w ∙ paint-outside m κ f p r c o)
+    put-in m κ content map r c i ∙ content-back m κ p valid r c square)
+    (λ o. put-out m κ content map r c o ∙ map-back m (paintIn m κ f p) r c w ∙ paint-outside m κ f p r c o)
 
 -- so the list is the former one
 pub restored-list : (m κ f : ℕ) (p : Picture) (log : List Record) → validKey m κ ≡ true

@@ -2,14 +2,15 @@
 -- Rests on the laws of pictures.
 use Prim.Native.Nat.{ℕ, _<_}
 use mathlib.Core.Path.{_≡_, refl, ap, sym, _∙_}
-use mathlib.Core.Bool.{true, false, cond}
+use mathlib.Core.Bool.{true, false}
 use mathlib.Core.List.{List, [], _∷_, _++_}
 use Rattle.keys.specs.Block.{inBlock}
 use Rattle.keys.proofs.Cases.{decide}
 use Rattle.definitions.specs.Picture.{Picture, featuresBelow}
-use Rattle.definitions.specs.Edit.{put, paintIn}
+use Rattle.definitions.specs.Edit.{paintIn}
 use Rattle.definitions.proofs.Pixels.{Agree}
 use Rattle.definitions.proofs.Features.{below-to, below-from}
+use Rattle.definitions.proofs.Put.{put-in, put-out}
 use Rattle.history.specs.History.{Paint, drawn}
 
 -- no paint leaves the picture
@@ -30,25 +31,15 @@ drawn-append m p (x ∷ xs) ys =
     ∙ ap (λ q. paintIn m (x .key) (x .feature) q) (drawn-append m p xs ys)
     ∙ sym (drawn-latest m (drawn m p ys) x xs)
 
--- inside the block it is what was put there
-pub put-inside : (m κ : ℕ) (q p : Picture) (r c : ℕ) → inBlock m κ r c ≡ true → put m κ q p r c ≡ q r c
-unfolding put
-put-inside m κ q p r c e = ap (λ test. cond test (q r c) (p r c)) e
-
--- outside it is what was there
-pub put-outside : (m κ : ℕ) (q p : Picture) (r c : ℕ) → inBlock m κ r c ≡ false → put m κ q p r c ≡ p r c
-unfolding put
-put-outside m κ q p r c e = ap (λ test. cond test (q r c) (p r c)) e
-
 -- a painted pixel of the block has the feature
 pub paint-inside : (m κ f : ℕ) (p : Picture) (r c : ℕ) → inBlock m κ r c ≡ true → paintIn m κ f p r c ≡ f
 unfolding paintIn
-paint-inside m κ f p r c e = put-inside m κ (λ row column. f) p r c e
+paint-inside m κ f p r c e = put-in m κ (λ row column. f) p r c e
 
 -- every other pixel stays
 pub paint-outside : (m κ f : ℕ) (p : Picture) (r c : ℕ) → inBlock m κ r c ≡ false → paintIn m κ f p r c ≡ p r c
 unfolding paintIn
-paint-outside m κ f p r c e = put-outside m κ (λ row column. f) p r c e
+paint-outside m κ f p r c e = put-out m κ (λ row column. f) p r c e
 
 -- pictures that agree agree after the same paint
 pub paint-agree : (m κ f : ℕ) (p q : Picture) (k r c : ℕ) → Agree p q k r c → Agree (paintIn m κ f p) (paintIn m κ f q) k r c

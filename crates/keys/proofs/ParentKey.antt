@@ -51,7 +51,7 @@ multiple (sw u) = under-digit 3 (under-height u) (multiple u)
 multiple (se u) = under-digit 4 (under-height u) (multiple u)
 
 -- the quotient by a step, times the step, forgets what lies in the interval
-cleared : (s q y : ℕ) → q * s ≤ y → y < q * s + s → y / s * s ≡ q * s
+pub cleared : (s q y : ℕ) → q * s ≤ y → y < q * s + s → y / s * s ≡ q * s
 cleared s q y from until =
     let e : y ≡ q * s + (y - q * s) = omega arith in
     ap (λ x. x / s * s) e ∙ ap (λ x. x * s) (digits-div q (omega arith))

@@ -1,5 +1,5 @@
 -- Records in two slices, one after the other: their lines, and the keys that a list that was built leaves there. Rests on ascending keys.
-use Prim.Native.Nat.{ℕ, zero, suc, _+_, _-_, _≤_, _<_}
+use Prim.Native.Nat.{ℕ, suc, _+_, _-_, _≤_, _<_}
 use mathlib.Core.Path.{_≡_, refl, sym, ap, ap₂, _∙_}
 use mathlib.Core.List.{List, [], _∷_, _++_}
 use native.Mathlib.Omega.{arith}
@@ -10,7 +10,8 @@ use Rattle.keys.proofs.Descent.{one-less}
 use Rattle.definitions.specs.List.{Record, recordOf, keysOf}
 use Rattle.definitions.specs.Read.{paired, recordsOf}
 use Rattle.definitions.specs.Buffer.{over}
-use Rattle.definitions.proofs.Ascending.{Ascending, none, next, ascending-bounds}
+use Rattle.definitions.proofs.Ascending.{Ascending}
+use Rattle.list.proofs.Accepted.{key-below}
 use Rattle.lines.specs.Listing.{lineOf, linesOf}
 
 module _ (keys bits : List ℕ) (n i : ℕ) (h : i < n) (k : n ≤ length keys) (b : n ≤ length bits) where
@@ -36,14 +37,9 @@ pub lines-none : (m s : ℕ) (keys bits : List ℕ) → linesOf m s (recordsOf k
 unfolding linesOf paired
 lines-none m s keys bits = refl
 
-key-small : {lo hi : ℕ} {l : List Record} → Ascending lo hi l → (i : ℕ) → i < length l → getD (keysOf l) i 0 < hi
-key-small (none h) i q = absurd (omega arith)
-key-small (next h a) zero q = ascending-bounds a
-key-small (next h a) (suc i) q = key-small a i (omega arith)
-
 -- the keys of a list that was written ascend below the bound
 pub written-key : {lo hi : ℕ} {l : List Record} → Ascending lo hi l → (keys : List ℕ) (i : ℕ) → i < length l → getD (over (keysOf l) keys) i 0 < hi
 written-key {l = l} a keys i q =
     let e = List·getD-append (keysOf l) (drop (length (keysOf l)) keys) 0 i (rw (length-map l (λ x. x .key)) q) in
-    let f = key-small a i q in
+    let f = key-below i a q in
     omega arith

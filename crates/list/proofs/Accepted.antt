@@ -16,6 +16,7 @@ use Rattle.definitions.specs.Picture.{Picture, featuresBelow}
 use Rattle.definitions.specs.List.{Record, keysOf, valuesOf, listOf, listOfPicture}
 use Rattle.definitions.specs.Read.{room, recordsOf, pictureOf, sameRecords, isListOfBlock, isList}
 use Rattle.definitions.specs.Log.{isContent}
+use Rattle.definitions.specs.Edit.{contentOf}
 use Rattle.definitions.proofs.Features.{below-under}
 use Rattle.definitions.proofs.BitsOf.{bits-below}
 use Rattle.definitions.proofs.Ascending.{Ascending, none, next, ascending-bounds}
@@ -50,6 +51,11 @@ block-list m s k r c κ l e =
 pub content-list : (m s κ : ℕ) (l : List Record) → isContent m s κ l ≡ true → BlockList m s (heightOf m κ) (rowOf m κ) (columnOf m κ) κ l
 unfolding isContent
 content-list m s κ l e = block-list m s (heightOf m κ) (rowOf m κ) (columnOf m κ) κ l e
+
+-- it is that of the picture that it shows
+pub content-is : (m s κ : ℕ) (l : List Record) → isContent m s κ l ≡ true → l ≡ contentOf m (pictureOf m l) κ
+unfolding contentOf
+content-is m s κ l e = content-list m s κ l e .is
 
 -- keys that ascend lie between the bounds, and are smaller at a smaller place
 pub key-from : {lo hi : ℕ} {l : List Record} (i : ℕ) → Ascending lo hi l → i < length l → lo ≤ getD (keysOf l) i 0

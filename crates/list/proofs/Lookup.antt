@@ -4,7 +4,7 @@ use Prim.Native.Nat.{ℕ, suc, _+_, _^_, _≤_, _<_}
 use mathlib.Core.Path.{_≡_, sym, _∙_, ap, ap₂}
 use mathlib.Core.Bool.{Bool, true, false, true≢false}
 use mathlib.Core.Logic.{_⊎_, inl, inr}
-use mathlib.Core.List.{List, [], _∷_, _++_}
+use mathlib.Core.List.{[], _++_}
 use native.Mathlib.Omega.{arith}
 use lib.ListN.{length, getD, List·getD-map}
 use lib.Seq.{getD-append-seam}
@@ -15,18 +15,15 @@ use Rattle.keys.proofs.Under.{Under}
 use Rattle.keys.proofs.Interval.{Same, key-within}
 use Rattle.definitions.specs.Picture.{Picture, oneFeature}
 use Rattle.definitions.specs.Bits.{bitsOf}
-use Rattle.definitions.specs.List.{Record, recordOf, keysOf, valuesOf, listOf}
+use Rattle.definitions.specs.List.{recordOf, keysOf, valuesOf, listOf}
 use Rattle.definitions.specs.Standing.{upTo, placeOf, isListed}
 use Rattle.definitions.proofs.Within.{first-within, under-within}
 use Rattle.definitions.proofs.Features.{one-to, one-under}
 use Rattle.definitions.proofs.BitsOf.{bits-one}
-use Rattle.definitions.proofs.Ascending.{Ascending, next}
+use Rattle.definitions.proofs.Ascending.{ascending-rest}
 use Rattle.definitions.proofs.ListOf.{list-first, list-one, list-ascends}
 use Rattle.list.proofs.Counted.{counted, up-to-counted, counted-none, counted-yes, counted-append, counted-all, counted-out}
 use Rattle.list.proofs.Placed.{Placed, Around, around}
-
-ascending-tail : {lo hi : ℕ} {e : Record} {l : List Record} → Ascending lo hi (e ∷ l) → Ascending (suc (e .key)) hi l
-ascending-tail (next h a) = a
 
 -- the count over a list in which another is placed
 pub counted-placed : (test : ℕ → Bool) {p : Picture} {k r c κ k′ r′ c′ κ′ : ℕ} (a : Placed p k r c κ k′ r′ c′ κ′)
@@ -41,7 +38,7 @@ first-only p k r c κ =
     up-to-counted κ (listOf p k r c κ)
     ∙ ap (counted (λ x. leb x κ)) (f .1)
     ∙ counted-yes (λ x. leb x κ) (recordOf κ (bitsOf p k r c)) (f .0) (le-leb κ κ (omega arith))
-    ∙ ap suc (counted-out (λ x. leb x κ) (ascending-tail (rw (f .1) at (list-ascends p k r c κ))) (λ x i j. lt-leb x κ i))
+    ∙ ap suc (counted-out (λ x. leb x κ) (ascending-rest (rw (f .1) at (list-ascends p k r c κ))) (λ x i j. lt-leb x κ i))
 
 leaf-only : (p : Picture) (k r c κ x : ℕ) → oneFeature p k r c ≡ true → κ ≤ x → upTo x (listOf p k r c κ) ≡ 1
 leaf-only p k r c κ x one h =

@@ -12,13 +12,10 @@ use Rattle.definitions.specs.Picture.{Picture, oneFeature}
 use Rattle.definitions.specs.Bits.{bitsOf}
 use Rattle.definitions.specs.List.{Record, recordOf, listOf, keysOf}
 use Rattle.definitions.specs.Standing.{upTo, placeOf}
-use Rattle.definitions.proofs.Ascending.{Ascending, next, ascending-append, widen}
+use Rattle.definitions.proofs.Ascending.{Ascending, ascending-append, widen, ascending-rest}
 use Rattle.definitions.proofs.ListOf.{list-first, list-one, list-ascends}
 use Rattle.put.specs.Family.{bitsAt}
 use Rattle.put.proofs.Places.{upTo-append, upTo-all, upTo-none, place-cut, bits-cut, key-cut}
-
-ascending-rest : {lo hi : ℕ} {e : Record} {l : List Record} → Ascending lo hi (e ∷ l) → Ascending (suc (e .key)) hi l
-ascending-rest (next h a) = a
 
 -- a block's list between records whose keys lie below the block's and at or above its end
 module _ (p : Picture) (k r c κ : ℕ) {lo hi : ℕ} {a b : List Record} (low : Ascending lo κ a) (high : Ascending (κ + 5 ^ k) hi b) where

@@ -1,46 +1,22 @@
--- Places and order depend on the keys alone; and the keys and the bits of a list in which records were exchanged. So a loop that sets bits
--- finds its places in the keys that stand there. Rests on nothing.
-use Prim.Native.Nat.{ℕ, zero, suc, _+_, _-_, _≤_}
-use mathlib.Core.Path.{_≡_, refl, sym, _∙_, ap, ap₂}
-use mathlib.Core.Bool.{cond}
+-- Records ascend exactly when their keys do; and the keys and the bits of a list in which records were exchanged. Rests on nothing.
+use Prim.Native.Nat.{ℕ, zero, suc, _+_}
+use mathlib.Core.Path.{_≡_, refl, _∙_, ap, ap₂}
 use mathlib.Core.List.{List, [], _∷_, _++_, map, map-append}
 use lib.ListN.{take, drop}
-use lib.Dec.{leb}
 use Rattle.definitions.specs.List.{Record, keysOf, valuesOf}
-use Rattle.definitions.specs.Standing.{upTo, placeOf}
 use Rattle.definitions.proofs.Ascending.{Ascending, none, next}
+use Rattle.definitions.proofs.AscendingKeys.{AscendingKeys, no-key, key}
 use Rattle.put.specs.Put.{Plan, inserted, exchanged}
-
--- how many of some keys are at or before x
-unfoldable pub keysUpTo : ℕ → List ℕ → ℕ
-keysUpTo x [] = 0
-keysUpTo x (κ ∷ keys) = cond (leb κ x) 1 0 + keysUpTo x keys
-
--- records are counted by their keys
-pub upTo-keys : (x : ℕ) (l : List Record) → upTo x l ≡ keysUpTo x (keysOf l)
-unfolding upTo keysUpTo
-upTo-keys x [] = refl
-upTo-keys x (e ∷ l) = ap (λ n. cond (leb (e .key) x) 1 0 + n) (upTo-keys x l)
-
--- lists with the same keys have the same places
-pub place-keys : (x : ℕ) (l l′ : List Record) → keysOf l ≡ keysOf l′ → placeOf x l ≡ placeOf x l′
-unfolding placeOf
-place-keys x l l′ e = ap (λ n. n - 1) (upTo-keys x l ∙ ap (keysUpTo x) e ∙ sym (upTo-keys x l′))
-
--- keys that ascend
-pub data AscendingKeys : ℕ → ℕ → List ℕ → Type 0 where
-  no-keys : {lo hi : ℕ} → lo ≤ hi → AscendingKeys lo hi []
-  next-key : {lo hi κ : ℕ} {keys : List ℕ} → lo ≤ κ → AscendingKeys (suc κ) hi keys → AscendingKeys lo hi (κ ∷ keys)
 
 -- records ascend exactly when their keys do
 pub ascending-to : {lo hi : ℕ} {l : List Record} → Ascending lo hi l → AscendingKeys lo hi (keysOf l)
-ascending-to (none h) = no-keys h
-ascending-to (next h a) = next-key h (ascending-to a)
+ascending-to (none h) = no-key h
+ascending-to (next h a) = key h (ascending-to a)
 
 -- and back
 pub ascending-from : {lo hi : ℕ} (l : List Record) → AscendingKeys lo hi (keysOf l) → Ascending lo hi l
-ascending-from [] (no-keys h) = none h
-ascending-from (e ∷ l) (next-key h a) = next h (ascending-from l a)
+ascending-from [] (no-key h) = none h
+ascending-from (e ∷ l) (key h a) = next h (ascending-from l a)
 
 -- lists with the same keys ascend together
 pub ascending-keys : {lo hi : ℕ} {l : List Record} (l′ : List Record) → keysOf l ≡ keysOf l′ → Ascending lo hi l → Ascending lo hi l′

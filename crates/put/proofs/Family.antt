@@ -1,18 +1,17 @@
 -- The block of a height around a key, and the bits of a parent: by the bits of one child and what the list has at the others. Rests on the
 -- keys' multiples and on Standing.
-use Prim.Native.Nat.{ℕ, suc, _+_, _-_, _*_, _/_, _^_, _≤_, _<_}
+use Prim.Native.Nat.{ℕ, suc, _^_}
 use mathlib.Core.Path.{_≡_, sym, _∙_, ap, ap₂}
 use mathlib.Core.Bool.{cond}
 use mathlib.Core.List.{List}
 use native.Mathlib.Omega.{arith}
-use lib.Arith.{digits-div}
 use borrow.Author.Tests.{eq-eqb, ne-eqb}
 use Rattle.keys.specs.Key.{childKey}
 use Rattle.keys.proofs.Cases.{equal}
 use Rattle.keys.proofs.Under.{Under, Block, Quadrant, is-nw, is-ne, is-sw, is-se, quadrant-under}
 use Rattle.keys.proofs.Interval.{within, one-block}
 use Rattle.keys.proofs.Parent.{quadrant-of}
-use Rattle.keys.proofs.ParentKey.{multiple}
+use Rattle.keys.proofs.ParentKey.{multiple, cleared}
 use Rattle.keys.proofs.Pixel.{InKeys}
 use Rattle.definitions.specs.Picture.{Picture}
 use Rattle.definitions.specs.Bits.{unionOfFour, bitsOf}
@@ -23,12 +22,6 @@ use Rattle.put.specs.Family.{around, bitsAt, childBits, parentBits}
 use Rattle.put.proofs.Way.{Way, up, under-of}
 use Rattle.put.proofs.Outside.{Outside, agree-sibling}
 use Rattle.put.proofs.Standing.{bits-at}
-
--- the quotient by a step, times the step, forgets what lies below the step
-cleared : (s t x : ℕ) → t * s ≤ x → x < t * s + s → x / s * s ≡ t * s
-cleared s t x from until =
-    let e : x ≡ t * s + (x - t * s) = omega arith in
-    ap (λ y. y / s * s) e ∙ ap (λ y. y * s) (digits-div t (omega arith))
 
 -- the block of its height around a key of its interval is that block
 pub around-is : {m k r c κ x : ℕ} → Block m k r c κ → InKeys k κ x → around k x ≡ κ

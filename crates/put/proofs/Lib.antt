@@ -18,7 +18,6 @@ pub mod Splice
 pub mod SetBits
 pub mod Bounds
 pub mod ByKeys
-pub mod Part
 pub mod Ready
 pub mod Edited
 pub mod Examples

@@ -1,6 +1,6 @@
 -- What the steps of putting a content need and give: the plan is ready, the exchanged keys are in order, and at the end the slices hold the edited
 -- list, with zeroes in the places given up. Rests on Ready and PuttingSlice.
-use Prim.Native.Nat.{ℕ, zero, suc, _+_, _-_, _*_, _^_, _≤_, _<_}
+use Prim.Native.Nat.{ℕ, _+_, _-_, _*_, _^_, _≤_, _<_}
 use mathlib.Core.Path.{_≡_, sym, _∙_, ap, ap₂, subst}
 use mathlib.Core.List.{List}
 use native.Mathlib.Omega.{arith}
@@ -17,6 +17,7 @@ use Rattle.definitions.specs.Buffer.{over}
 use Rattle.definitions.proofs.Ascending.{Ascending}
 use Rattle.definitions.proofs.ListOf.{list-some}
 use Rattle.definitions.proofs.Records.{records-length, records-over}
+use Rattle.definitions.proofs.AscendingKeys.{ascending-places}
 use Rattle.list.specs.Sorted.{Sorted}
 use Rattle.list.specs.Own.{shownBy}
 use Rattle.put.specs.Renew.{renew}
@@ -25,22 +26,10 @@ use Rattle.put.specs.Planting.{Deep}
 use Rattle.put.specs.Exchanging.{Exchangeable, Holds}
 use Rattle.put.specs.Putting.{Puttable, Replaced}
 use Rattle.put.proofs.Bounds.{level, level-digit}
-use Rattle.put.proofs.ByKeys.{AscendingKeys, no-keys, next-key, ascending-to}
+use Rattle.put.proofs.ByKeys.{ascending-to}
 use Rattle.put.proofs.SetBits.{renew-keys, renew-length}
 use Rattle.put.proofs.Ready.{Ready, ready-for}
 use Rattle.put.proofs.PuttingSlice.{length-over, over-again, over-kept, over-cleared}
-
--- keys in order, place by place
-least-key : {lo hi : ℕ} {keys : List ℕ} → AscendingKeys lo hi keys → (j : ℕ) → j < length keys → lo ≤ getD keys j 0
-least-key (no-keys h) j u = absurd (omega arith)
-least-key (next-key h a) zero u = h
-least-key (next-key {κ = κ} h a) (suc j) u = let i = least-key a j (omega arith) in omega arith
-
-key-order : {lo hi : ℕ} {keys : List ℕ} → AscendingKeys lo hi keys → (i j : ℕ) → i < j → j < length keys → getD keys i 0 < getD keys j 0
-key-order (no-keys h) i j u v = absurd (omega arith)
-key-order (next-key h a) i zero u v = absurd (omega arith)
-key-order (next-key h a) zero (suc j) u v = least-key a j (omega arith)
-key-order (next-key h a) (suc i) (suc j) u v = key-order a i j (omega arith) (omega arith)
 
 -- slices that hold a list
 module _ {l : List Record} {keys bits keys′ bits′ : List ℕ} (h : Holds l keys bits keys′ bits′) (n : ℕ) (size : length l ≡ n) where
@@ -79,7 +68,7 @@ module _ {l : List Record} {keys bits keys′ bits′ : List ℕ} (h : Holds l k
           ascend = λ i j u v.
               let x = held-key i (omega arith) in
               let y = held-key j v in
-              let o = key-order (ascending-to a) i j u (omega arith) in
+              let o = ascending-places (ascending-to a) i j u (omega arith) in
               omega arith;
         };
         some = some;

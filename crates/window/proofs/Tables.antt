@@ -3,7 +3,7 @@
 use Prim.Native.Nat.{ℕ, _≤_, _<_}
 use mathlib.Core.Path.{_≡_, refl, sym, _∙_}
 use mathlib.Core.Bool.{Bool, true, not, _&&_}
-use mathlib.Core.List.{List, [], _∷_, _++_}
+use mathlib.Core.List.{List, [], _∷_}
 use lib.ListN.{length}
 use lib.Dec.{eqb}
 use borrow.Author.Tests.{not-true, not-false, le-leb, lt-leb, leb-false, lt-ltb, le-ltb, eqb-false}
@@ -15,13 +15,8 @@ use Rattle.definitions.specs.Calls.Report.{reportRefusal}
 use Rattle.definitions.specs.Calls.Exist.{existRefusal}
 use Rattle.definitions.specs.Calls.Select.{selected, selectRefusal}
 use Rattle.definitions.specs.declared.Window.{Window}
-use Rattle.definitions.proofs.First.{FirstHolds, this, later, none-first, first-none, holds-first, first-holds}
+use Rattle.definitions.proofs.First.{FirstHolds, this, later, none-first, first-none, holds-first, first-holds, holds-more}
 use Rattle.list.proofs.Tests.{GoodSettings, good-settings}
-
--- a row that holds first still does where more rows follow
-more-rows : {k : ℕ} {rows : List Row} (more : List Row) → FirstHolds k rows → FirstHolds k (rows ++ more)
-more-rows more (this holds number) = this holds number
-more-rows more (later fails h) = later fails (more-rows more h)
 
 -- no row has the number x
 abbrev without : ℕ → List Row → Bool
@@ -55,7 +50,7 @@ module _ (m s : ℕ) (keys bits : List ℕ) (n : ℕ) (w : Window) where
     -- a number of report's table is given by exist's
     pub exist-goes-on : (r : ℕ) → r ≡ reportRefusal m s keys bits n w → (r ≡ 0 → ⊥) → r ≡ existRefusal m s keys bits n w f
     unfolding reportRefusal existRefusal
-    exist-goes-on r is h = sym (holds-first (more-rows _ (first-holds r _ h (sym is))))
+    exist-goes-on r is h = sym (holds-first (holds-more _ (first-holds r _ h (sym is))))
 
     -- past it the feature decides
     pub exist-feature : reportRefusal m s keys bits n w ≡ 0 → s ≤ f → 7 ≡ existRefusal m s keys bits n w f
@@ -88,7 +83,7 @@ module _ (m s : ℕ) (keys bits : List ℕ) (n : ℕ) (w : Window) where
       -- a number of exist's table is given by select's, and is not 12
       pub select-goes-on : (r : ℕ) → r ≡ existRefusal m s keys bits n w f → (r ≡ 0 → ⊥) → r ≡ selectRefusal m s keys bits n w f answer
       unfolding existRefusal selectRefusal
-      select-goes-on r is h = sym (holds-first (more-rows _ (first-holds r _ h (sym is))))
+      select-goes-on r is h = sym (holds-first (holds-more _ (first-holds r _ h (sym is))))
 
       pub select-other : (r : ℕ) → r ≡ existRefusal m s keys bits n w f → (r ≡ 0 → ⊥) → r ≡ 12 → ⊥
       unfolding existRefusal
