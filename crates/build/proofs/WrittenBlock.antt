@@ -16,6 +16,7 @@ use Rattle.definitions.specs.List.{Record, recordOf, listOf}
 use Rattle.definitions.proofs.Features.{one-under}
 use Rattle.definitions.proofs.BitsOf.{bits-zero}
 use Rattle.definitions.proofs.ListOf.{list-zero, list-leaf, list-node, list-one, list-first, length-node}
+use Rattle.definitions.proofs.FourLists.{same-lists}
 use Rattle.list.specs.Check.{oneSlot}
 use Rattle.build.specs.BuildBlocks.{below, fourSet, FourWritten, Written}
 use Rattle.list.proofs.OneSlot.{slot-feature}
@@ -49,9 +50,6 @@ module _ (f : Record → ℕ) where
   map-four s t u v =
       map-append f s (t ++ (u ++ v)) ∙ ap (λ l. map f s ++ l) (map-append f t (u ++ v) ∙ ap (λ l. map f t ++ l) (map-append f u v))
 
-  same-append : {a b c d a′ b′ c′ d′ : List ℕ} → a ≡ a′ → b ≡ b′ → c ≡ c′ → d ≡ d′ → a ++ (b ++ (c ++ d)) ≡ a′ ++ (b′ ++ (c′ ++ d′))
-  same-append e₁ e₂ e₃ e₄ = cc
-
   map-node : (p : Picture) (k r c κ : ℕ) → oneFeature p (suc k) r c ≡ false → map f (below p (suc k) r c κ)
       ≡ (f (recordOf (childKey κ k 1) (bitsOf p k r c)) ∷ map f (below p k r c (childKey κ k 1)))
       ++ ((f (recordOf (childKey κ k 2) (bitsOf p k r (c + 2 ^ k))) ∷ map f (below p k r (c + 2 ^ k) (childKey κ k 2)))
@@ -60,7 +58,7 @@ module _ (f : Record → ℕ) where
   map-node p k r c κ e =
       ap (map f) (below-node p k r c κ e)
       ∙ map-four (listOf p k r c (childKey κ k 1)) (listOf p k r (c + 2 ^ k) (childKey κ k 2)) (listOf p k (r + 2 ^ k) c (childKey κ k 3)) (listOf p k (r + 2 ^ k) (c + 2 ^ k) (childKey κ k 4))
-      ∙ same-append (map-own p k r c (childKey κ k 1)) (map-own p k r (c + 2 ^ k) (childKey κ k 2)) (map-own p k (r + 2 ^ k) c (childKey κ k 3)) (map-own p k (r + 2 ^ k) (c + 2 ^ k) (childKey κ k 4))
+      ∙ same-lists (map-own p k r c (childKey κ k 1)) (map-own p k r (c + 2 ^ k) (childKey κ k 2)) (map-own p k (r + 2 ^ k) c (childKey κ k 3)) (map-own p k (r + 2 ^ k) (c + 2 ^ k) (childKey κ k 4))
 
   length-run : (p : Picture) (k r c κ : ℕ) → length (listOf p k r c κ) ≡ suc (length (map f (below p k r c κ)))
   length-run p k r c κ = length-below p k r c κ ∙ ap suc (sym (length-map (below p k r c κ) f))

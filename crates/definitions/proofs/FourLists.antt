@@ -1,8 +1,13 @@
--- Members of four lists, one after the other. Rests on nothing.
+-- Four lists, one after the other: their members, and that equal lists make equal ones. Rests on nothing.
+use mathlib.Core.Path.{_≡_}
 use mathlib.Core.Logic.{⊎-elim}
 use mathlib.Core.List.{List, _++_, List·Memᴰ, List·Memᴰ·append-cases, Memᴰ·append-left, Memᴰ·append-right}
 
 module _ {ℓ} {A : Type ℓ} where
+  -- of equal lists the four together are equal
+  pub same-lists : {a b c d a′ b′ c′ d′ : List A} → a ≡ a′ → b ≡ b′ → c ≡ c′ → d ≡ d′ → a ++ (b ++ (c ++ d)) ≡ a′ ++ (b′ ++ (c′ ++ d′))
+  same-lists e f g h = cc
+
   -- a member of the four is a member of one of them
   pub one-of-four {κ} : {C : Type κ} {x : A} (a b c d : List A)
       → (List·Memᴰ x a → C) → (List·Memᴰ x b → C) → (List·Memᴰ x c → C) → (List·Memᴰ x d → C)

@@ -22,6 +22,11 @@ pub power-down : (b m i x : ℕ) → 0 < b → i < m → x ≡ b ^ (m - i) → x
 power-down b m i x pos h e =
     ap (λ (y : ℕ). y / b) (e ∙ ap (λ (k : ℕ). b ^ k) (one-less m i h) ∙ pow-suc b (m - (i + 1))) ∙ mul-div-cancel (b ^ (m - (i + 1))) pos
 
+-- and is its base times what is left
+pub power-whole : (b m i x : ℕ) → 0 < b → i < m → x ≡ b ^ (m - i) → x ≡ x / b * b
+power-whole b m i x pos h e =
+    e ∙ ap (λ (k : ℕ). b ^ k) (one-less m i h) ∙ pow-suc b (m - (i + 1)) ∙ ap (λ (y : ℕ). y * b) (sym (power-down b m i x pos h e))
+
 -- a quotient is not 0 where the divisor fits
 pub quotient-not-zero : (x d : ℕ) → 0 < d → d ≤ x → x / d ≡ 0 → ⊥
 quotient-not-zero x d pos h e =

@@ -19,15 +19,13 @@ use Rattle.definitions.proofs.Within.{first-within, within-nw, within-ne, withi
 use Rattle.definitions.proofs.BitsOf.{power-one}
 use Rattle.definitions.proofs.ListOf.{list-one, list-node}
 use Rattle.definitions.proofs.SelectMeans.{given-inside, given-feature, given-of, given-under, select-given, select-pixel, select-quadrants}
+use Rattle.definitions.proofs.FourLists.{same-lists}
 use Rattle.window.specs.Gather.{keysWith}
 use Rattle.window.proofs.Content.{with-none, with-give, with-pass, with-append}
 use Rattle.window.proofs.Largest.{blank, AllInside}
 
 nothing-four : {a b c d : List ℕ} → a ≡ [] → b ≡ [] → c ≡ [] → d ≡ [] → a ++ (b ++ (c ++ d)) ≡ []
 nothing-four e f g h = ap₂ (λ x y. x ++ y) e (ap₂ (λ x y. x ++ y) f (ap₂ (λ x y. x ++ y) g h))
-
-same-four : {a b c d a′ b′ c′ d′ : List ℕ} → a ≡ a′ → b ≡ b′ → c ≡ c′ → d ≡ d′ → a ++ (b ++ (c ++ d)) ≡ a′ ++ (b′ ++ (c′ ++ d′))
-same-four e f g h = cc
 
 with-four : (bits : ℕ) (a b c d : List Record) → keysWith bits (a ++ (b ++ (c ++ d))) ≡ keysWith bits a ++ (keysWith bits b ++ (keysWith bits c ++ keysWith bits d))
 with-four bits a b c d =
@@ -86,7 +84,7 @@ module _ (p : Picture) (w : Window) (f : ℕ) where
       ap (keysWith (2 ^ f)) (list-node p k r c κ several)
       ∙ with-pass (2 ^ f) (recordOf κ (bitsOf p (suc k) r c)) _ (λ same. never (power-one p f (suc k) r c same))
       ∙ with-four (2 ^ f) _ _ _ _
-      ∙ same-four (leaves-selected k r c (childKey κ k 1) (inside-quadrant {κ = κ} inside is-nw))
+      ∙ same-lists (leaves-selected k r c (childKey κ k 1) (inside-quadrant {κ = κ} inside is-nw))
       (leaves-selected k r (c + 2 ^ k) (childKey κ k 2) (inside-quadrant {κ = κ} inside is-ne))
       (leaves-selected k (r + 2 ^ k) c (childKey κ k 3) (inside-quadrant {κ = κ} inside is-sw))
       (leaves-selected k (r + 2 ^ k) (c + 2 ^ k) (childKey κ k 4) (inside-quadrant {κ = κ} inside is-se))

@@ -1,15 +1,14 @@
 -- `Key::block` meets its contract: after each turn row and column are what the digits so far give and what the rest still adds.
 use Prim.Native.Nat.{ℕ, suc, _+_, _-_, _*_, _/_, _%_, _^_, _≤_, _<_}
-use mathlib.Core.Path.{_≡_, refl, sym, ap, _∙_}
+use mathlib.Core.Path.{_≡_, sym, ap, _∙_}
 use mathlib.Core.Bool.{Bool, cond}
 use native.Mathlib.Omega.{arith}
-use native.Mathlib.Nat.{zero-add, add-assoc, pow-suc}
+use native.Mathlib.Nat.{zero-add, add-assoc}
 use lib.Dec.{lit<}
-use Rattle.keys.specs.Key.{heightOf}
 use Rattle.keys.specs.Block.{rowOf, columnOf, sideOf, isSouth, isEast}
 use Rattle.keys.proofs.Cases.{decide}
 use Rattle.keys.proofs.Powers.{five-pos, two-le, height-le}
-use Rattle.keys.proofs.Descent.{one-less, power-down, row-goes, column-goes}
+use Rattle.keys.proofs.Descent.{one-less, power-down, row-goes, column-goes, power-whole}
 use Rattle.keys.proofs.Key.block.Statement.{statement}
 use Rattle.keys.proofs.Key.block.Tie as tie
 
@@ -56,8 +55,7 @@ module _ {m whole rest step side row column i : ℕ} (p : Passed m whole rest st
   nonzero = let q = step-down in let z = five-pos (m - (i + 1)) in omega arith
 
   two-sides : side ≡ side / 2 * 2
-  two-sides =
-      p .sides ∙ ap (λ (k : ℕ). 2 ^ k) (one-less m i h) ∙ pow-suc 2 (m - (i + 1)) ∙ ap (λ (x : ℕ). x * 2) (sym side-down)
+  two-sides = power-whole 2 m i side (lit< tt) h (p .sides)
 
   -- what a digit adds leaves room for the next side
   row-room : (x : ℕ) (b : Bool) → x ≡ cond b (side / 2) 0 → row + x + side / 2 ≤ 2 ^ m

@@ -1,14 +1,14 @@
 -- `Key::of_pixel` meets its contract: after each turn the key is the digits found so far and the key that the pixel has inside its quadrant.
-use Prim.Native.Nat.{ℕ, suc, _+_, _-_, _*_, _/_, _%_, _^_, _≤_, _<_}
-use mathlib.Core.Path.{_≡_, refl, sym, ap, _∙_}
+use Prim.Native.Nat.{ℕ, suc, _+_, _-_, _*_, _/_, _^_, _≤_, _<_}
+use mathlib.Core.Path.{_≡_, sym, ap, _∙_}
 use native.Mathlib.Omega.{arith}
-use native.Mathlib.Nat.{zero-add, add-assoc, pow-suc, mul-le-mul, le-refl}
+use native.Mathlib.Nat.{zero-add, add-assoc, mul-le-mul, le-refl}
 use lib.Dec.{lit<}
 use Rattle.keys.specs.Block.{pixelKey, quadrantDigit, inQuadrant}
 use Rattle.keys.proofs.Powers.{five-le}
 use Rattle.keys.proofs.Cases.{split}
 use borrow.Author.Tests.{lt-ltb, le-ltb}
-use Rattle.keys.proofs.Descent.{one-less, power-down, pixel-goes}
+use Rattle.keys.proofs.Descent.{one-less, power-down, pixel-goes, power-whole}
 use Rattle.keys.proofs.Key.of_pixel.Statement.{statement}
 use Rattle.keys.proofs.Key.of_pixel.Tie as tie
 
@@ -51,8 +51,7 @@ module _ {m row column r c side step number i : ℕ} (p : Passed m row column r 
 
   -- a step is five of the next
   five-steps : step ≡ step / 5 * 5
-  five-steps =
-      p .steps ∙ ap (λ (k : ℕ). 5 ^ k) (one-less m i h) ∙ pow-suc 5 (m - (i + 1)) ∙ ap (λ (x : ℕ). x * 5) (sym step-down)
+  five-steps = power-whole 5 m i step (lit< tt) h (p .steps)
 
   room : (digit : ℕ) → digit ≤ 4 → number + digit * (step / 5) + step / 5 ≤ 5 ^ m
   room digit d =

@@ -3,11 +3,11 @@ use Prim.Native.Nat.{ℕ, _+_, _-_, _*_, _/_, _%_, _^_, _≤_, _<_}
 use mathlib.Core.Path.{_≡_, sym, ap, _∙_}
 use mathlib.Core.List.{List, [], _∷_, _++_}
 use native.Mathlib.Omega.{arith}
-use native.Mathlib.Nat.{pow-suc, mod-lt, div-lt-iff-lt-mul}
+use native.Mathlib.Nat.{mod-lt, div-lt-iff-lt-mul}
 use lib.Dec.{lit<}
 use Rattle.keys.specs.Key.{digitsOf}
 use Rattle.keys.proofs.Powers.{five-pos}
-use Rattle.keys.proofs.Descent.{one-less, power-down}
+use Rattle.keys.proofs.Descent.{power-down, power-whole}
 use Rattle.lines.specs.Listing.{characterOf, digitsText}
 use Rattle.lines.specs.Put.{Put, Room}
 use Rattle.lines.proofs.Going.{Going}
@@ -47,8 +47,7 @@ module _ {m key start : ℕ} {old out : List ℕ} {next rest step i : ℕ} (p : 
     nonzero = let q = down in let z = five-pos (m - (i + 1)) in omega arith
 
     whole-step : step ≡ step / 5 * 5
-    whole-step =
-        p .power ∙ ap (λ (k : ℕ). 5 ^ k) (one-less m i h) ∙ pow-suc 5 (m - (i + 1)) ∙ ap (λ (x : ℕ). x * 5) (sym down)
+    whole-step = power-whole 5 m i step (lit< tt) h (p .power)
 
     is-digit : rest / (step / 5) < 5
     is-digit = let e = whole-step in div-lt-iff-lt-mul {x = rest} {y = 5} nonzero .1 (omega (arith, p .small))
