@@ -15,4 +15,3 @@ pub mod PaintPut
 pub mod PaintAnswers
 pub mod TakingBackPut
 pub mod TakingBackAnswers
-pub mod EditCallOneAnswer

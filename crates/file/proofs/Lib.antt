@@ -12,4 +12,3 @@ pub mod FileList
 pub mod HeadAnswers
 pub mod StoreAnswers
 pub mod LoadAnswers
-pub mod OneAnswer

@@ -1,7 +1,179 @@
--- Each promise leaves one result and one final content of each lent buffer, for refused calls as for accepted ones: two answers that meet it are
--- the same. Every promise is a set of equations with what was lent at entry, so one law serves all calls.
-use mathlib.Core.Path.{_≡_, sym, _∙_}
+-- The promise above each C function leaves one result and one final content of each lent buffer, for refused calls as for accepted ones: two answers
+-- to a call that keep it are the same. Rests on nothing but the contracts as they stand in src/, so a contract that leaves more open breaks its law.
+use Prim.Native.Nat.{ℕ}
+use mathlib.Core.Path.{_≡_, refl, sym, _∙_}
+use mathlib.Core.List.{List, [], _∷_, _++_}
+use base.Logic.{emp}
+use contract.Lifetimes.{Lfts}
+use denote.Exit.{Exit, Last, unchanged, leaves}
+use denote.RattleType.{Denots}
+use denote.Signature.{Slot, typesAt}
+use denote.Triple.Entry.{Args, Res}
+use denote.Triple.End.{Kepts, Fins}
+use denote.Triple.Clauses.{Ended, Lasts, AtExit, atExit}
+use borrow.Fn.Claims.{AllOf, all-left, all-right}
+use borrow.Fn.Read.{Read, r-last, all-models, no-know}
+use Rattle.prowcurl.proofs.lists.hlq_build as build
+use Rattle.prowcurl.proofs.lists.hlq_build.Reads as build-reads
+use Rattle.prowcurl.proofs.lists.hlq_raster as raster
+use Rattle.prowcurl.proofs.lists.hlq_raster.Reads as raster-reads
+use Rattle.prowcurl.proofs.lists.hlq_standing as standing
+use Rattle.prowcurl.proofs.lists.hlq_standing.Reads as standing-reads
+use Rattle.prowcurl.proofs.lists.hlq_part as part
+use Rattle.prowcurl.proofs.lists.hlq_part.Reads as part-reads
+use Rattle.prowcurl.proofs.windows.hlq_exist as exist
+use Rattle.prowcurl.proofs.windows.hlq_exist.Reads as exist-reads
+use Rattle.prowcurl.proofs.windows.hlq_report as report
+use Rattle.prowcurl.proofs.windows.hlq_report.Reads as report-reads
+use Rattle.prowcurl.proofs.windows.hlq_select as select
+use Rattle.prowcurl.proofs.windows.hlq_select.Reads as select-reads
+use Rattle.prowcurl.proofs.edits.hlq_paint as paint
+use Rattle.prowcurl.proofs.edits.hlq_paint.Reads as paint-reads
+use Rattle.prowcurl.proofs.edits.hlq_take_back as take-back
+use Rattle.prowcurl.proofs.edits.hlq_take_back.Reads as take-back-reads
+use Rattle.prowcurl.proofs.edits.hlq_empty as empty
+use Rattle.prowcurl.proofs.edits.hlq_empty.Reads as empty-reads
+use Rattle.prowcurl.proofs.files.hlq_store as store
+use Rattle.prowcurl.proofs.files.hlq_store.Reads as store-reads
+use Rattle.prowcurl.proofs.files.hlq_load as load
+use Rattle.prowcurl.proofs.files.hlq_load.Reads as load-reads
+use Rattle.prowcurl.proofs.findings.hlq_findings as findings
 
--- whatever a promise equates with what was lent, two calls that keep it give the same
-pub one {ℓ} : {A : Type ℓ} {promised answer other : A} → answer ≡ promised → other ≡ promised → answer ≡ other
+-- what a contract tells the caller of what was lent, the result, and the parameters at exit: `Learnt`, as Rattle reads it off the `ensures`
+abbrev Promise : Ended → Type 1
+Promise T = (κs : Lfts (T .signature .lifetimes)) → Args (T .signature) κs → Res (T .signature) κs → AtExit T κs → Type 0
+
+-- two answers to one call that keep the promise: the result, and what is left in the lent buffers
+pub record TwoAnswers (T : Ended) (Kept : Promise T) : Type 0 where
+  pub κs : Lfts (T .signature .lifetimes)
+  pub lent : Args (T .signature) κs
+  pub result : Res (T .signature) κs
+  pub result′ : Res (T .signature) κs
+  pub left : Lasts T κs lent
+  pub left′ : Lasts T κs lent
+  pub kept : Kept κs lent result (atExit T κs lent left)
+  pub kept′ : Kept κs lent result′ (atExit T κs lent left′)
+
+-- any two are the same
+unfoldable pub OneAnswer : (T : Ended) → Promise T → Type 0
+OneAnswer T Kept = (x : TwoAnswers T Kept) → (x .result ≡ x .result′) × (x .left ≡ x .left′)
+
+-- that one parameter is left the same: an equation where the call may write it, nothing to show where it only reads it
+abbrev same : {D : Type 0} (e : Exit D) (x : D) → Last e x → Last e x → List (Type 0)
+same unchanged x left left′ = []
+same (leaves L l S s) x left left′ = (left ≡ left′) ∷ []
+
+same-is : {D : Type 0} (e : Exit D) (x : D) (left left′ : Last e x) → AllOf (same e x left left′) → left ≡ left′
+same-is unchanged x left left′ shown = refl
+same-is (leaves L l S s) x left left′ shown = shown
+
+module _ {n : ℕ} (κs : Lfts n) where
+  -- that all parameters are left the same: an equation for each slice that the call may write
+  abbrev all-same : (ss : List (Slot n)) (ks : Kepts ss) (a : Denots (typesAt ss κs)) → Fins κs ss ks a → Fins κs ss ks a → List (Type 0)
+  all-same [] ks a left left′ = []
+  all-same (s ∷ ss) ks a left left′ =
+      same (s .row κs .exit (ks .0)) (a .0) (left .0) (left′ .0) ++ all-same ss (ks .1) (a .1) (left .1) (left′ .1)
+
+  all-same-is : (ss : List (Slot n)) (ks : Kepts ss) (a : Denots (typesAt ss κs)) (left left′ : Fins κs ss ks a) → AllOf (all-same ss ks a left left′)
+      → left ≡ left′
+  all-same-is [] ks a left left′ shown = refl
+  all-same-is (s ∷ ss) ks a left left′ shown =
+      let first : List (Type 0) = same (s .row κs .exit (ks .0)) (a .0) (left .0) (left′ .0) in
+      let rest : List (Type 0) = all-same ss (ks .1) (a .1) (left .1) (left′ .1) in
+      let first-is : left .0 ≡ left′ .0 = same-is (s .row κs .exit (ks .0)) (a .0) (left .0) (left′ .0) (all-left first rest shown) in
+      let rest-is : left .1 ≡ left′ .1 = all-same-is ss (ks .1) (a .1) (left .1) (left′ .1) (all-right first rest shown) in
+      λ i. (first-is i, rest-is i)
+
+-- so it is enough to show an equation for the result and one for each slice that the call may write
+by-equations : {T : Ended} {Kept : Promise T}
+    → ((x : TwoAnswers T Kept) → AllOf ((x .result ≡ x .result′) ∷ all-same (x .κs) (T .signature .params) (T .kept) (x .lent) (x .left) (x .left′)))
+    → OneAnswer T Kept
+unfolding OneAnswer
+by-equations {T} shown x =
+    let first : List (Type 0) = (x .result ≡ x .result′) ∷ [] in
+    let rest : List (Type 0) = all-same (x .κs) (T .signature .params) (T .kept) (x .lent) (x .left) (x .left′) in (
+      all-left first rest (shown x),
+      all-same-is (x .κs) (T .signature .params) (T .kept) (x .lent) (x .left) (x .left′) (all-right first rest (shown x)),
+    )
+
+-- whatever promises equate with what was lent, two answers that keep them give the same: one promise, two, three
+one : {A : Type 0} {a a′ promised : A} → a ≡ promised → a′ ≡ promised → a ≡ a′
 one kept kept′ = kept ∙ sym kept′
+
+two : {A B : Type 0} {a a′ p : A} {b b′ q : B} → (a ≡ p) × (b ≡ q) → (a′ ≡ p) × (b′ ≡ q) → (a ≡ a′) × (b ≡ b′)
+two kept kept′ = (one (kept .0) (kept′ .0), one (kept .1) (kept′ .1))
+
+three : {A B C : Type 0} {a a′ p : A} {b b′ q : B} {c c′ r : C} → (a ≡ p) × ((b ≡ q) × (c ≡ r)) → (a′ ≡ p) × ((b′ ≡ q) × (c′ ≡ r))
+    → (a ≡ a′) × ((b ≡ b′) × (c ≡ c′))
+three kept kept′ = (one (kept .0) (kept′ .0), two (kept .1) (kept′ .1))
+
+-- lists
+pub build-one : OneAnswer build.ended build-reads.Learnt
+build-one = by-equations (λ x. three (x .kept) (x .kept′))
+
+pub raster-one : OneAnswer raster.ended raster-reads.Learnt
+raster-one = by-equations (λ x. two (x .kept) (x .kept′))
+
+pub standing-one : OneAnswer standing.ended standing-reads.Learnt
+standing-one = by-equations (λ x. one (x .kept) (x .kept′))
+
+pub part-one : OneAnswer part.ended part-reads.Learnt
+part-one = by-equations (λ x. one (x .kept) (x .kept′))
+
+-- windows
+pub exist-one : OneAnswer exist.ended exist-reads.Learnt
+exist-one = by-equations (λ x. one (x .kept) (x .kept′))
+
+pub report-one : OneAnswer report.ended report-reads.Learnt
+report-one = by-equations (λ x. one (x .kept) (x .kept′))
+
+pub select-one : OneAnswer select.ended select-reads.Learnt
+select-one = by-equations (λ x. two (x .kept) (x .kept′))
+
+-- edits
+pub paint-one : OneAnswer paint.ended paint-reads.Learnt
+paint-one =
+    by-equations (λ x. (
+      one (x .kept .answer) (x .kept′ .answer),
+      (
+        one (x .kept .keys-are) (x .kept′ .keys-are),
+        (
+          one (x .kept .bits-are) (x .kept′ .bits-are),
+          (one (x .kept .log-keys-are) (x .kept′ .log-keys-are), one (x .kept .log-values-are) (x .kept′ .log-values-are)),
+        ),
+      ),
+    ))
+
+pub take-back-one : OneAnswer take-back.ended take-back-reads.Learnt
+take-back-one =
+    by-equations (λ x. (
+      one (x .kept .answer) (x .kept′ .answer),
+      (
+        one (x .kept .keys-are) (x .kept′ .keys-are),
+        (
+          one (x .kept .bits-are) (x .kept′ .bits-are),
+          (one (x .kept .log-keys-are) (x .kept′ .log-keys-are), one (x .kept .log-values-are) (x .kept′ .log-values-are)),
+        ),
+      ),
+    ))
+
+pub empty-one : OneAnswer empty.ended empty-reads.Learnt
+empty-one = by-equations (λ x. one (x .kept) (x .kept′))
+
+-- files
+pub store-one : OneAnswer store.ended store-reads.Learnt
+store-one = by-equations (λ x. two (x .kept) (x .kept′))
+
+pub load-one : OneAnswer load.ended load-reads.Learnt
+load-one = by-equations (λ x. three (x .kept) (x .kept′))
+
+-- findings: it is proved by hand, so its contract is read here, in the way that Rattle itself reads the others
+abbrev findings-read : (κs : Lfts 7) (lent : Args findings.signature κs) (r : Res findings.signature κs) (s : AtExit findings.ended κs)
+    → Read (λ w. emp (w .𝓤)) no-know (λ w. findings.clauses (w .𝓤) (w .H) (w .𝓖 .A) (w .𝓜 .mem) (w .𝓡 .run) κs lent .ensures tt r s)
+findings-read κs lent r s = all-models _ (λ w. r-last _) (λ w. refl) (λ w. refl) (λ w. refl)
+
+abbrev findings-learnt : Promise findings.ended
+findings-learnt κs lent r s = AllOf (findings-read κs lent r s .tells)
+
+pub findings-one : OneAnswer findings.ended findings-learnt
+findings-one = by-equations (λ x. (one (x .kept .0) (x .kept′ .0), two (x .kept .1, x .kept .2) (x .kept′ .1, x .kept′ .2)))
