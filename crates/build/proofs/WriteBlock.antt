@@ -1,5 +1,5 @@
 -- Writing a block's records into two slices: four runs of stores one after the other are one run, and so the records below four quadrants with
--- the quadrants' own records are the records below the block. Rests on CountBlock, and on the equations of bits and lists.
+-- the quadrants' own records are the records below the block. Rests on the equations of bits and lists.
 use Prim.Native.Nat.{ℕ, suc, _+_, _*_, _<_}
 use mathlib.Core.Path.{_≡_, refl, sym, _∙_, ap}
 use mathlib.Core.Bool.{true, false}

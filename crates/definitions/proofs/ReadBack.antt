@@ -1,5 +1,5 @@
 -- Reading a list gives its picture back: at a pixel's key the last record at or before it is that of the leaf around the pixel. So different
--- pictures have different lists. Rests on ListOf, ValueAt and PixelBound.
+-- pictures have different lists. Rests on ListOf, ValueAt and Within.
 use Prim.Native.Nat.{ℕ, zero, suc, _+_, _-_, _^_, _<_}
 use mathlib.Core.Path.{_≡_, refl, sym, _∙_, ap, ap₂}
 use mathlib.Core.List.{List, [], _∷_, _++_}

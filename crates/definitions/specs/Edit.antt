@@ -1,4 +1,4 @@
--- What an edit makes of a picture and of its list (document 01, "Paint, take back, empty"). Rests on List and Read.
+-- What an edit makes of a picture and of its list (document 01, "Paint, take back, empty"). Rests on List.
 use Prim.Native.Nat.{ℕ}
 use mathlib.Core.Bool.{Bool, cond}
 use mathlib.Core.List.{List}

@@ -1,5 +1,5 @@
--- The answers of the test of a file's head, one for each way out of the code, and how they stand to load's own table. Rests on the laws of tables
--- and Fits.
+-- The answers of the test of a file's head, one for each way out of the code, and how they stand to load's own table. Rests on the laws of
+-- tables.
 use Prim.Native.Nat.{ℕ, _+_, _*_, _≤_, _<_}
 use mathlib.Core.Path.{_≡_, refl, sym, ap, ap₂, _∙_}
 use mathlib.Core.Bool.{true, false, not}

@@ -1,5 +1,5 @@
 -- What the check accepts, as one test of the records: it is refusal 4's own test of a block's list, and it is what the code finds in two slices.
--- Rests on Sound, Complete and Places.
+-- Rests on Sound and Complete.
 use Prim.Native.Nat.{ℕ, _^_}
 use mathlib.Core.Path.{_≡_, refl, sym, _∙_, ap}
 use mathlib.Core.Bool.{Bool, true, false, _&&_, false≢true}

@@ -1,5 +1,5 @@
 -- Standing among keys: what the search finds is the standing among the first n keys, and on the records of two slices that is document 01's
--- standing. Rests on Count and Accepted.
+-- standing. Rests on Count.
 use Prim.Native.Nat.{ℕ, zero, suc, _+_, _-_, _≤_}
 use mathlib.Core.Path.{_≡_, refl, sym, _∙_, ap}
 use mathlib.Core.Bool.{true, false, cond}

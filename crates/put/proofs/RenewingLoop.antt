@@ -1,5 +1,5 @@
 -- The loop that renews the bits of the blocks around a changed one: what is left to do from here gives the same as what was to do at the start.
--- Rests on Renew, SetBits and FamilyRead.
+-- Rests on Renew and FamilyRead.
 use Prim.Native.Nat.{ℕ, zero, suc, _+_, _-_, _*_, _/_, _^_, _≤_, _<_}
 use mathlib.Core.Path.{_≡_, refl, sym, _∙_, ap, ap₂}
 use mathlib.Core.List.{List, [], _∷_, _++_}

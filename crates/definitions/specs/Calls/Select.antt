@@ -1,4 +1,4 @@
--- Select: where does a feature occur in a window? Refusals 1, 4, 6, 7, 12. Rests on Exist for the first four.
+-- Select: where does a feature occur in a window? Refusals 1, 4, 6, 7, 12. Rests on Window.
 use Prim.Native.Nat.{ℕ}
 use mathlib.Core.Bool.{cond}
 use mathlib.Core.List.{List, [], _∷_}
