@@ -1,2 +1,4 @@
 pub mod RoundTrip
 pub mod OneAnswer
+pub mod FindingsCalls
+pub mod FindingsEntryExit

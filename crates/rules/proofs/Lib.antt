@@ -1,5 +1,15 @@
 pub mod Again
 pub mod Lent
+pub mod Locals
+pub mod Chains
+pub mod Slices
+pub mod Calling
+pub mod RunSlices
+pub mod LentAnswers
+pub mod Reborrow
+pub mod StepCall
+pub mod RunTurns
+pub mod RunEntryExit
 pub mod Fold
 pub mod Settings
 pub mod WaiverPlaces
