@@ -94,10 +94,6 @@ power-every p f k r c e r′ c′ w =
 pub power-one : (p : Picture) (f k r c : ℕ) → bitsOf p k r c ≡ 2 ^ f → oneFeature p k r c ≡ true
 power-one p f k r c e = one-from p f k r c (power-every p f k r c e)
 
--- which is f
-pub power-feature : (p : Picture) (f k r c : ℕ) → bitsOf p k r c ≡ 2 ^ f → f ≡ p r c
-power-feature p f k r c e = sym (power-every p f k r c e r c (first-within k r c))
-
 -- two different slots are set
 pub record TwoSlots (bits : ℕ) : Type 0 where
   pub first : ℕ

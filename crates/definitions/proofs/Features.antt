@@ -7,7 +7,6 @@ use lib.Dec.{ltb, eqb}
 use borrow.Author.Tests.{ltb-true, lt-ltb, eqb-true, eq-eqb, eqb-false}
 use Rattle.keys.proofs.Cases.{decide}
 use Rattle.keys.proofs.Under.{Under}
-use Rattle.keys.proofs.Pixel.{InSquare}
 use Rattle.definitions.specs.Picture.{Picture, oneFeature, featuresBelow}
 use Rattle.definitions.proofs.Within.{Every, Somewhere, first-within, pixel-row, pixel-column, under-within}
 use Rattle.definitions.proofs.Pixels.{Agree, every-to, every-from, every-fails, every-same}
@@ -33,12 +32,6 @@ unfolding oneFeature
 several-to p k r c e =
     let x = every-fails (λ a b. eqb (p a b) (p r c)) k r c e in
     record { row = x .row; column = x .column; within = x .within; holds = eqb-false _ _ (x .holds) }
-
--- a block in which two pixels differ has several features
-pub several-from : (p : Picture) {k r c r₁ c₁ r₂ c₂ : ℕ} → InSquare k r c r₁ c₁ → InSquare k r c r₂ c₂ → (p r₁ c₁ ≡ p r₂ c₂ → ⊥)
-    → oneFeature p k r c ≡ false
-several-from p {k} {r} {c} {r₁} {c₁} {r₂} {c₂} v w h =
-    decide (oneFeature p k r c) (λ e. absurd (h (one-to p k r c e r₁ c₁ v ∙ sym (one-to p k r c e r₂ c₂ w)))) (λ e. e)
 
 -- a pixel has one feature
 pub one-pixel : (p : Picture) (r c : ℕ) → oneFeature p zero r c ≡ true

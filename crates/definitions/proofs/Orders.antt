@@ -2,8 +2,7 @@
 -- standing, part, findings and the file answer on Map A. One table under one claim, proved by computation.
 use Prim.Native.Nat.{ℕ}
 use mathlib.Core.Path.{refl}
-use mathlib.Core.List.{List, [], _∷_, _++_}
-use lib.ListN.{replicate}
+use mathlib.Core.List.{List, [], _∷_}
 use Rattle.keys.specs.Key.{validKey, digitsOf, digitsThenZeros, onlyZeros, levelOf, digitsBeforeZero, heightOf}
 use Rattle.keys.specs.Block.{rowOf, columnOf, sideOf, inBlock, inInterval, pixelKey}
 use Rattle.definitions.specs.Picture.{everyPixel, oneFeature, featuresBelow}
@@ -31,10 +30,8 @@ use Rattle.definitions.specs.Calls.Store.{stored, storeRefusal, store, s
 use Rattle.definitions.specs.Calls.Load.{loadRefusal, load, loadKeys, loadBits}
 use Rattle.definitions.specs.declared.Rule.{Rule}
 use Rattle.definitions.specs.declared.Stands.{Stands}
-use Rattle.definitions.specs.declared.Span.{Span}
 use Rattle.definitions.specs.declared.Found.{Found}
-use Rattle.definitions.specs.declared.Loaded.{Loaded}
-use Rattle.definitions.proofs.Vectors.{Row, row, Holds, key, window, of-counted, mapA, keysA, bitsA, unwritten}
+use Rattle.definitions.proofs.Vectors.{Row, row, Holds, key, window, of-counted, keysA, bitsA, unwritten}
 
 -- a map of side 2 with two features, and its list of five records
 abbrev pixels : List ℕ

@@ -105,18 +105,6 @@ every-same test test′ k r c h =
 abbrev pub Agree : Picture → Picture → ℕ → ℕ → ℕ → Type 0
 Agree p q k r c = Every (λ r′ c′. p r′ c′ ≡ q r′ c′) k r c
 
--- a picture agrees with itself
-pub agree-refl : (p : Picture) (k r c : ℕ) → Agree p p k r c
-agree-refl p k r c r′ c′ w = refl
-
--- agreement may be read either way round
-pub agree-sym : {p q : Picture} {k r c : ℕ} → Agree p q k r c → Agree q p k r c
-agree-sym h r′ c′ w = sym (h r′ c′ w)
-
--- pictures that agree with a third agree
-pub agree-trans : {p q s : Picture} {k r c : ℕ} → Agree p q k r c → Agree q s k r c → Agree p s k r c
-agree-trans h j r′ c′ w = h r′ c′ w ∙ j r′ c′ w
-
 -- pictures that agree on a block agree on its quadrants
 module _ {p q : Picture} {k r c : ℕ} where
   pub agree-nw : Agree p q (suc k) r c → Agree p q k r c
@@ -130,14 +118,6 @@ module _ {p q : Picture} {k r c : ℕ} where
 
   pub agree-se : Agree p q (suc k) r c → Agree p q k (r + 2 ^ k) (c + 2 ^ k)
   agree-se h = every-se h
-
-  -- pictures that agree on the quadrants agree on the block
-  pub agree-join : Agree p q k r c
-      → Agree p q k r (c + 2 ^ k)
-      → Agree p q k (r + 2 ^ k) c
-      → Agree p q k (r + 2 ^ k) (c + 2 ^ k)
-      → Agree p q (suc k) r c
-  agree-join in-nw in-ne in-sw in-se = every-join in-nw in-ne in-sw in-se
 
 -- pictures that agree on a block agree on every block under it
 pub agree-under : {p q : Picture} {k r c κ k′ r′ c′ κ′ : ℕ} → Under k r c κ k′ r′ c′ κ′ → Agree p q k r c → Agree p q k′ r′ c′

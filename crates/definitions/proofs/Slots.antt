@@ -5,7 +5,7 @@ use mathlib.Core.Bool.{Bool, true, false, _||_, false≢true}
 use native.Mathlib.Nat.{pow-suc, div-one, div-eq-of-lt, zero-div}
 use native.Mathlib.Omega.{arith}
 use lib.Arith.{bin-ind}
-use lib.Bits.{bitOr, or-step, or-shr, or-lt, or-self}
+use lib.Bits.{bitOr, or-step, or-shr, or-lt}
 use lib.Dec.{eqb, eqb·zero-suc, eqb·suc-zero, eqb·suc-suc}
 use lib.Pow.{shr-shr}
 use borrow.Author.Tests.{eqb-true, eq-eqb, ne-eqb, eqb-false}
@@ -124,11 +124,6 @@ slot-se a b c d i h = slot-four a b c d i ∙ or-right (hasSlot a i || hasSlot b
 pub four-lt : (k a b c d : ℕ) → a < 2 ^ k → b < 2 ^ k → c < 2 ^ k → d < 2 ^ k → unionOfFour a b c d < 2 ^ k
 unfolding unionOfFour
 four-lt k a b c d ha hb hc hd = or-lt k (bitOr a b) (bitOr c d) (or-lt k a b ha hb) (or-lt k c d hc hd)
-
--- the union of four equal numbers is that number
-pub four-self : (a : ℕ) → unionOfFour a a a a ≡ a
-unfolding unionOfFour
-four-self a = ap₂ bitOr (or-self a) (or-self a) ∙ or-self a
 
 -- unions of equal parts are equal
 pub same-four : {a b c d a′ b′ c′ d′ : ℕ} → a ≡ a′ → b ≡ b′ → c ≡ c′ → d ≡ d′ → unionOfFour a b c d ≡ unionOfFour a′ b′ c′ d′

@@ -1,6 +1,6 @@
 -- What an edit makes of a picture and of its list (document 01, "Paint, take back, empty"). Rests on List.
 use Prim.Native.Nat.{ℕ}
-use mathlib.Core.Bool.{Bool, cond}
+use mathlib.Core.Bool.{cond}
 use mathlib.Core.List.{List}
 use Rattle.keys.specs.Key.{heightOf}
 use Rattle.keys.specs.Block.{rowOf, columnOf, inBlock}

@@ -1,6 +1,6 @@
 -- The list of a raster: the HL-quadtree (document 01, "The list"). Rests on Picture and Bits.
 use Prim.Native.Nat.{ℕ, zero, suc, _+_, _^_}
-use mathlib.Core.Bool.{Bool, cond}
+use mathlib.Core.Bool.{cond}
 use mathlib.Core.List.{List, [], _∷_, _++_, map}
 use Rattle.keys.specs.Key.{rootKey, childKey}
 use Rattle.definitions.specs.Picture.{Picture, pictureOfRaster, oneFeature}

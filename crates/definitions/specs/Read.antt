@@ -1,5 +1,5 @@
 -- Reading a list: its records in two slices, the picture that it shows, and when records are a list at all (document 01, refusal 4). Rests on List.
-use Prim.Native.Nat.{ℕ, suc, _+_, min}
+use Prim.Native.Nat.{ℕ, min}
 use mathlib.Core.Bool.{Bool, true, false, cond, _&&_}
 use mathlib.Core.List.{List, [], _∷_}
 use lib.ListN.{length, take}

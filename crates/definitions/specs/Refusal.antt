@@ -1,7 +1,7 @@
 -- Refusals: a call's table of tests in document 01's order; the first that applies is given, and 0 where none does. The tests that several
 -- calls share stand here too, under their numbers. Rests on Read.
-use Prim.Native.Nat.{ℕ, _+_, _*_, _^_}
-use mathlib.Core.Bool.{Bool, true, false, cond, not, _&&_, _||_}
+use Prim.Native.Nat.{ℕ, _*_, _^_}
+use mathlib.Core.Bool.{Bool, false, cond, not, _||_}
 use mathlib.Core.List.{List, [], _∷_}
 use lib.ListN.{length}
 use lib.Dec.{leb, ltb, eqb}

@@ -1,5 +1,5 @@
 -- Where a block stands in a list, and the part of the key slice that holds it (document 01, "Where a block stands"). Rests on List.
-use Prim.Native.Nat.{ℕ, suc, _+_, _-_}
+use Prim.Native.Nat.{ℕ, _+_, _-_}
 use mathlib.Core.Bool.{Bool, cond}
 use mathlib.Core.List.{List, [], _∷_}
 use lib.ListN.{getD, take, drop}

@@ -1,6 +1,6 @@
 -- Windows and the three queries, as scans of the window's pixels (document 01, "Window queries"). Rests on Picture and Bits.
 use Prim.Native.Nat.{ℕ, zero, suc, _+_, _^_}
-use mathlib.Core.Bool.{Bool, true, false, cond, not, _&&_, _||_}
+use mathlib.Core.Bool.{Bool, false, cond, not, _&&_, _||_}
 use mathlib.Core.List.{List, [], _∷_, _++_}
 use lib.Dec.{leb, ltb, eqb}
 use lib.Bits.{bitOr}

@@ -5,9 +5,8 @@ use mathlib.Core.Bool.{true}
 use mathlib.Core.List.{List, [], _∷_}
 use native.Mathlib.Omega.{arith}
 use lib.ListN.{length}
-use Rattle.definitions.specs.List.{Record, recordOf}
+use Rattle.definitions.specs.List.{recordOf}
 use Rattle.definitions.specs.Read.{room, paired, recordsOf}
-use Rattle.definitions.specs.Edit.{contentOf}
 use Rattle.definitions.specs.Calls.Paint.{painted}
 use Rattle.put.specs.Put.{planAt, planOf, lengthAfter, edited}
 use Rattle.put.specs.PlanFields.{planIn, topFor}

@@ -11,10 +11,9 @@ use borrow.Author.Tests.{lt-ltb, le-ltb, ltb-false, le-leb, lt-leb, leb-false, n
 use Rattle.keys.specs.Key.{validKey}
 use Rattle.definitions.specs.List.{Record}
 use Rattle.definitions.specs.Read.{room, recordsOf}
-use Rattle.definitions.specs.Log.{noLog}
-use Rattle.definitions.specs.Refusal.{Row, _gives_, first, badSettings, noList, badKey, badFeature}
+use Rattle.definitions.specs.Refusal.{Row, _gives_, first, badKey, badFeature}
 use Rattle.definitions.specs.Calls.Paint.{painted, gained, paintRefusal}
-use Rattle.definitions.proofs.First.{NoneHolds, this, later, holds-first, none-first, first-none}
+use Rattle.definitions.proofs.First.{this, later, holds-first, none-first, first-none}
 use Rattle.edit.specs.EditCallChecks.{firstRefusal}
 use Rattle.edit.specs.PaintCall.{roomRefusal, Paintable}
 use Rattle.edit.proofs.EditCallTables.{firstRows, FirstPassed, early-first, rest-first, passed-none, passed-settings, passed-own}

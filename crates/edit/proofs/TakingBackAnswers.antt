@@ -1,6 +1,6 @@
 -- The answers of take back: a refusal gives its number alone and leaves what was lent, and an accepted taking back gives what was put and cleared.
 -- Rests on the laws of tables and TakingBackLast.
-use Prim.Native.Nat.{ℕ, _+_, _-_, _≤_}
+use Prim.Native.Nat.{ℕ, _-_, _≤_}
 use mathlib.Core.Path.{_≡_, sym, ap, _∙_}
 use mathlib.Core.List.{List}
 use native.Mathlib.Omega.{arith}
@@ -16,7 +16,7 @@ use Rattle.slices.proofs.Sets.{sets-parts}
 use Rattle.log.proofs.Last.{closingCount}
 use Rattle.put.specs.Putting.{Replaced}
 use Rattle.edit.specs.TakingBackCall.{Ended, Cleared, TakenBack}
-use Rattle.edit.proofs.TakingBackLast.{content-fits, entry-before}
+use Rattle.edit.proofs.TakingBackLast.{entry-before}
 
 -- places that were cleared are overwritten with zeroes
 cleared-at : (l : List ℕ) (from end : ℕ) → from ≤ end → end ≤ length l → sets l from (replicate (end - from) 0) ≡ overAt from (replicate (end - from) 0) l

@@ -9,17 +9,17 @@ use lib.Dec.{eqb}
 use Rattle.definitions.specs.List.{Record}
 use Rattle.definitions.specs.Read.{room, recordsOf, pictureOf}
 use Rattle.definitions.specs.Edit.{contentOf}
-use Rattle.definitions.specs.Log.{lastKey, lastContent}
+use Rattle.definitions.specs.Log.{lastContent}
 use Rattle.definitions.specs.Calls.TakeBack.{restored}
 use Rattle.log.proofs.Last.{closingKey, closingCount}
-use Rattle.put.specs.Put.{isLeaf, firstBits, planAt, planOf, lengthAfter, edited}
+use Rattle.put.specs.Put.{isLeaf, firstBits, planAt, edited}
 use Rattle.put.specs.PlanFields.{planIn, topFor}
 use Rattle.put.specs.Putting.{Puttable, Replaced}
 use Rattle.edit.specs.TakingBackCall.{Restorable}
 use Rattle.put.specs.declared.plan.Plan as code
 use Rattle.edit.proofs.Calls.{edited-restored}
 use Rattle.put.proofs.PlanTop.{plan-for, records-length, length-for}
-use Rattle.edit.proofs.TakingBackLast.{entry-key, entry-count, entry-bits, lent, lent-length, lent-content}
+use Rattle.edit.proofs.TakingBackLast.{entry-key, entry-count, lent, lent-length, lent-content}
 use Rattle.edit.proofs.TakingBackPlan.{key-valid, leaf-is, bits-are, plan-length}
 use Rattle.edit.proofs.EditCallPut.{replaced-same}
 

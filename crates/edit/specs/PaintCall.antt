@@ -8,7 +8,7 @@ use lib.ListN.{length}
 use lib.Dec.{ltb}
 use Rattle.keys.specs.Key.{validKey}
 use Rattle.definitions.specs.List.{Record}
-use Rattle.definitions.specs.Read.{room, recordsOf}
+use Rattle.definitions.specs.Read.{room}
 use Rattle.definitions.specs.Refusal.{_gives_, first}
 use Rattle.definitions.specs.Calls.Paint.{painted, gained, paint, paintKeys, paintBits, paintLogKeys, paintLogValues}
 use Rattle.definitions.specs.declared.Edited.{Edited}

@@ -7,7 +7,7 @@ use native.Mathlib.Nat.{zero-sub}
 use native.Mathlib.Omega.{arith}
 use native.Mathlib.Numerals.{unary-clauses}
 use lib.ListN.{length, take, drop, replicate, length-append, length-take, length-drop, length-replicate, replicate-append-replicate, drop-of-length-le}
-use lib.Seq.{length-take-le, take-at, take-append-seam, drop-drop}
+use lib.Seq.{length-take-le, take-at, drop-drop}
 use Rattle.definitions.specs.Buffer.{over, overAt, replaced}
 
 -- so many places dropped off two lists, one after the other
@@ -22,10 +22,6 @@ pub drop-replicate : (j n x : ℕ) → drop j (replicate n x) ≡ replicate (n -
 drop-replicate zero n x = simp unary-clauses
 drop-replicate (suc j) zero x = rw zero-sub
 drop-replicate (suc j) (suc n) x = simp unary-clauses (drop-replicate j n x)
-
--- what is new stands first
-pub take-replaced : (n : ℕ) (new old : List ℕ) → take (length new) (replaced n new old) ≡ new
-take-replaced n new old = take-append-seam new _
 
 -- a slice keeps its length where both counts lie within it
 pub length-replaced : (n : ℕ) (new old : List ℕ) → n ≤ length old → length new ≤ length old → length (replaced n new old) ≡ length old

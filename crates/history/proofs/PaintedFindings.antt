@@ -1,7 +1,7 @@
 -- Findings after an accepted paint: they are those of the painted picture, and one that the paint leaves in place is given afterwards exactly when it was
 -- given before. Rests on PaintStep and on definitions' OldFault.
 use Prim.Native.Nat.{ℕ}
-use mathlib.Core.Path.{_≡_, sym, ap, _∙_}
+use mathlib.Core.Path.{_≡_, ap, _∙_}
 use mathlib.Core.Logic.{_↔_}
 use mathlib.Core.List.{List, List·Memᴰ}
 use Rattle.definitions.specs.Picture.{Picture}

@@ -1,11 +1,11 @@
 -- Going down from the root a level a turn: after i of m turns the power of the m - i levels that are left, and one level of each definition
 -- that goes by digits. Rests on Powers.
-use Prim.Native.Nat.{ℕ, zero, suc, _+_, _-_, _*_, _/_, _%_, _^_, _≤_, _<_}
+use Prim.Native.Nat.{ℕ, suc, _+_, _-_, _*_, _/_, _%_, _^_, _≤_, _<_}
 use mathlib.Core.Path.{_≡_, refl, sym, ap, _∙_}
-use mathlib.Core.Bool.{Bool, true, false, cond, _&&_}
+use mathlib.Core.Bool.{cond}
 use native.Mathlib.Omega.{arith}
-use native.Mathlib.Nat.{pow-suc, mul-div-cancel, div-eq-of-lt, mod-eq-of-lt, mod-lt, div-lt-iff-lt-mul}
-use lib.Dec.{ltb, eqb, lit<}
+use native.Mathlib.Nat.{pow-suc, mul-div-cancel, div-eq-of-lt, mod-eq-of-lt, div-lt-iff-lt-mul}
+use lib.Dec.{eqb}
 use borrow.Author.Tests.{lt-ltb, le-ltb, eq-eqb, ne-eqb, eqb-true}
 use Rattle.keys.specs.Key.{digitsOf, onlyZeros, digitsThenZeros, digitsBeforeZero}
 use Rattle.keys.specs.Block.{pixelKey, quadrantDigit, inQuadrant, rowOf, columnOf, isSouth, isEast}

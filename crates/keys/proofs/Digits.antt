@@ -60,11 +60,6 @@ module _ (k d : ℕ) {x : ℕ} (below : x < 5 ^ k) where
   unfolding heightOf
   height-digit other = let e : levelOf (suc k) (d * 5 ^ k + x) ≡ suc (levelOf k x) = rw (level-suc, ne-eqb d 0 other) in omega arith
 
-  -- at a zero no level is above, and the height is all levels
-  pub height-none : d ≡ 0 → heightOf (suc k) (d * 5 ^ k + x) ≡ suc k
-  unfolding heightOf
-  height-none none = let e : levelOf (suc k) (d * 5 ^ k + x) ≡ 0 = rw (level-suc, eq-eqb d 0 none) in omega arith
-
   -- all digits are zeros: this one, and those of the rest
   pub only-zeros-suc : onlyZeros (digitsOf (suc k) (d * 5 ^ k + x)) ≡ eqb d 0 && onlyZeros (digitsOf k x)
   unfolding onlyZeros

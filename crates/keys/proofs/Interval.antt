@@ -6,7 +6,7 @@ use native.Mathlib.Omega.{arith}
 use mathlib.Core.Path.{_≡_, refl}
 use Rattle.keys.specs.Key.{childKey}
 use Rattle.keys.proofs.Cases.{split}
-use Rattle.keys.proofs.Powers.{five-pos, two-pos}
+use Rattle.keys.proofs.Powers.{five-pos}
 use Rattle.keys.proofs.Under.{Under, here, nw, ne, sw, se, Quadrant, is-nw, is-ne, is-sw, is-se}
 
 -- the numbers of two blocks are the same
@@ -45,16 +45,6 @@ within (se {k} u) = let w = within u in let e = pow-suc 5 k in let f = pow-suc 2
 -- a block under another is at most as high
 pub under-height : {k r c κ k′ r′ c′ κ′ : ℕ} → Under k r c κ k′ r′ c′ κ′ → k′ ≤ k
 under-height u = within u .height
-
--- its keys are among the other's
-pub under-keys : {k r c κ k′ r′ c′ κ′ : ℕ} → Under k r c κ k′ r′ c′ κ′ → (κ ≤ κ′) × (κ′ + 5 ^ k′ ≤ κ + 5 ^ k)
-under-keys u = (within u .from, within u .until)
-
--- its square lies in the other's
-pub under-square : {k r c κ k′ r′ c′ κ′ : ℕ}
-    → Under k r c κ k′ r′ c′ κ′
-    → (r ≤ r′) × (r′ + 2 ^ k′ ≤ r + 2 ^ k) × (c ≤ c′) × (c′ + 2 ^ k′ ≤ c + 2 ^ k)
-under-square u = let w = within u in (w .top, w .bottom, w .left, w .right)
 
 -- its key is among the other's
 pub key-within : {k r c κ k′ r′ c′ κ′ : ℕ} → Under k r c κ k′ r′ c′ κ′ → (κ ≤ κ′) × (κ′ < κ + 5 ^ k)

@@ -1,9 +1,9 @@
 -- Powers of five and of two: none is 0, and they stay small at the levels that a map has. Assumes nothing.
-use Prim.Native.Nat.{ℕ, suc, _-_, _^_, _≤_, _<_}
+use Prim.Native.Nat.{ℕ, _-_, _^_, _≤_, _<_}
 use native.Mathlib.Omega.{arith}
 use native.Mathlib.Nat.{pow-le-pow-right}
 use lib.Dec.{lit<}
-use Rattle.keys.specs.Key.{heightOf, levelOf}
+use Rattle.keys.specs.Key.{heightOf}
 
 pub five-le : {k : ℕ} (j : ℕ) → k ≤ j → 5 ^ k ≤ 5 ^ j
 five-le j h = pow-le-pow-right (lit< tt) h

@@ -1,6 +1,6 @@
 -- Blocks as the tree has them: a block of height k at a row and a column, with its key, lies at or under another. Laws about blocks are
 -- inductions on this type. Rests on nothing.
-use Prim.Native.Nat.{ℕ, suc, _+_, _*_, _^_}
+use Prim.Native.Nat.{ℕ, suc, _+_, _^_}
 use Rattle.keys.specs.Key.{childKey}
 
 -- the second block (k′ r′ c′ κ′) is the first (k r c κ), or lies at or under one of its quadrants

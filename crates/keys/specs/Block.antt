@@ -1,7 +1,7 @@
 -- The square that a key stands for, the key of a pixel, and when a block is another's ancestor. Document 01, section "Keys": row 0 is at the top,
 -- digits 3 and 4 go south, 2 and 4 go east. Rests on Key.
 use Prim.Native.Nat.{ℕ, zero, suc, _+_, _-_, _*_, _/_, _%_, _^_}
-use mathlib.Core.Bool.{Bool, true, false, cond, _&&_, _||_}
+use mathlib.Core.Bool.{Bool, cond, _&&_, _||_}
 use lib.Dec.{leb, ltb, eqb}
 use Rattle.keys.specs.Key.{heightOf}
 

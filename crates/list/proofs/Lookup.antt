@@ -10,7 +10,6 @@ use lib.ListN.{length, getD, List·getD-map}
 use lib.Seq.{getD-append-seam}
 use lib.Dec.{leb, eqb}
 use borrow.Author.Tests.{le-leb, lt-leb, eq-eqb, ne-eqb}
-use Rattle.keys.proofs.Cases.{decide}
 use Rattle.keys.proofs.Under.{Under}
 use Rattle.keys.proofs.Interval.{Same, key-within}
 use Rattle.definitions.specs.Picture.{Picture, oneFeature}
@@ -155,7 +154,3 @@ lookup-listed p u e = listed-case e (lookup p u)
 -- if it is not, the record at its place is that of a leaf around it
 pub lookup-inside : (p : Picture) {k r c κ k′ r′ c′ κ′ : ℕ} → Under k r c κ k′ r′ c′ κ′ → isListed κ′ (listOf p k r c κ) ≡ false → InLeaf p k r c κ k′ r′ c′ κ′
 lookup-inside p u e = inside-case e (lookup p u)
-
--- a block with several features is listed
-pub several-listed : (p : Picture) {k r c κ k′ r′ c′ κ′ : ℕ} → Under k r c κ k′ r′ c′ κ′ → oneFeature p k′ r′ c′ ≡ false → isListed κ′ (listOf p k r c κ) ≡ true
-several-listed p {k′ = k′} {r′} {c′} {κ′} u several = decide (isListed κ′ _) (λ e. e) (λ e. let i = lookup-inside p u e in absurd (true≢false (sym (one-under p (i .holds) (i .one)) ∙ several)))

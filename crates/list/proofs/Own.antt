@@ -18,7 +18,7 @@ use Rattle.definitions.proofs.Records.{records-length, key-at, value-at}
 use Rattle.list.specs.Own.{OwnList, shownBy}
 use Rattle.list.specs.Sorted.{Ascends, Sorted}
 use Rattle.list.specs.Among.{keysUpTo, keysBelow, placeAmong, standingAmong}
-use Rattle.list.proofs.Accepted.{accepted, keys-ascend, key-below}
+use Rattle.list.proofs.Accepted.{accepted, keys-ascend}
 use Rattle.list.proofs.Among.{found-some, found-most, keys-of-records, values-of-records, standing-among, place-among, among-place, standing-listed, standing-inside}
 use Rattle.list.proofs.Lookup.{lookup-value}
 use Rattle.list.proofs.PartLength.{part-some, part-end}
@@ -58,13 +58,6 @@ module _ {m : ℕ} {keys bits : List ℕ} {n : ℕ} (o : OwnList m keys bits n) 
             let h = keys-ascend i j (list-ascends (shownBy m keys bits n) m 0 0 0) u (omega arith) in
             omega arith;
       }
-
-  pub own-key-below : (i : ℕ) → i < n → getD keys i 0 < 5 ^ m
-  own-key-below i h =
-      let e = own-length in
-      let a = own-key i h in
-      let b = key-below i (list-ascends (shownBy m keys bits n) m 0 0 0) (omega arith) in
-      omega arith
 
   -- the first is the root's, so every key has a place
   pub own-sorted : (key : ℕ) → Sorted keys n key

@@ -1,7 +1,7 @@
 -- Where the list of a block stands in the list of a block around it: all keys before it are below the block's interval, and all after it are past
 -- it. A quadrant of a block with several features stands so, and so does the listed block at or around any block. Rests on the laws of lists.
 use Prim.Native.Nat.{ℕ, suc, _+_, _*_, _^_, _<_}
-use mathlib.Core.Path.{_≡_, refl, sym, _∙_, ap}
+use mathlib.Core.Path.{_≡_, sym, _∙_, ap}
 use mathlib.Core.Bool.{true, false}
 use mathlib.Core.Logic.{_⊎_, inl, inr}
 use mathlib.Core.List.{List, [], _∷_, _++_, append-assoc, append-nil}
@@ -96,9 +96,6 @@ fifths p k r c κ =
     }
 
 -- four lists after a record, parted before and after each of them
-part-ne : (e : Record) (a b c d : List Record) → e ∷ (a ++ (b ++ (c ++ d))) ≡ (e ∷ a) ++ (b ++ (c ++ d))
-part-ne e a b c d = refl
-
 part-sw : (e : Record) (a b c d : List Record) → e ∷ (a ++ (b ++ (c ++ d))) ≡ (e ∷ (a ++ b)) ++ (c ++ d)
 part-sw e a b c d = ap (λ x. e ∷ x) (sym (append-assoc a b (c ++ d)))
 

@@ -14,7 +14,6 @@ use Rattle.keys.proofs.Cases.{and-left, and-right}
 use Rattle.definitions.specs.List.{recordOf, keysOf, valuesOf}
 use Rattle.definitions.specs.Read.{room, paired, recordsOf}
 use Rattle.definitions.specs.Log.{lastRecord, lastKey, lastCount, beforeLast, lastContent, isContent, isSound, noLog}
-use Rattle.definitions.specs.Calls.TakeBack.{usedBefore}
 use Rattle.definitions.proofs.SoundLog.{content-not-empty, sound-ends, sound-before}
 use Rattle.definitions.proofs.Records.{paired-keys, paired-values, records-length, records-at, records-first, records-run}
 
@@ -150,9 +149,3 @@ last-entry {m} {s} {keys} {values} {used} log some =
       length-before = ap length before ∙ records-length keys values (contentStart values used) (omega arith) (omega arith);
       sound-before = sym (ap (isSound m s) before) ∙ sound-before m s (recordsOf keys values used) (log .sound) has;
     }
-
--- a taking back leaves the places before the content
-pub used-before : {m s : ℕ} {keys values : List ℕ} {used : ℕ} (listKeys bits : List ℕ) (n : ℕ) → LastEntry m s keys values used
-    → usedBefore m s listKeys bits n keys values used ≡ contentStart values used
-unfolding usedBefore
-used-before listKeys bits n last = last .length-before

@@ -5,17 +5,15 @@ use mathlib.Core.Path.{_≡_, ap}
 use mathlib.Core.Bool.{true}
 use mathlib.Core.List.{List, [], _∷_, _++_}
 use native.Mathlib.Nat.{le-refl}
-use native.Mathlib.Omega.{arith}
 use lib.ListN.{length, getD}
-use Rattle.keys.proofs.Powers.{five-pos}
 use Rattle.definitions.specs.Picture.{Picture, oneFeature}
 use Rattle.definitions.specs.Bits.{bitsOf}
 use Rattle.definitions.specs.List.{Record, recordOf, listOf, keysOf}
-use Rattle.definitions.specs.Standing.{upTo, placeOf}
+use Rattle.definitions.specs.Standing.{placeOf}
 use Rattle.definitions.proofs.Ascending.{Ascending, ascending-append, widen, ascending-rest}
 use Rattle.definitions.proofs.ListOf.{list-first, list-one, list-ascends}
 use Rattle.put.specs.Family.{bitsAt}
-use Rattle.put.proofs.Places.{upTo-append, upTo-all, upTo-none, place-cut, bits-cut, key-cut}
+use Rattle.put.proofs.Places.{place-cut, bits-cut, key-cut}
 
 -- a block's list between records whose keys lie below the block's and at or above its end
 module _ (p : Picture) (k r c κ : ℕ) {lo hi : ℕ} {a b : List Record} (low : Ascending lo κ a) (high : Ascending (κ + 5 ^ k) hi b) where
@@ -39,17 +37,6 @@ module _ (p : Picture) (k r c κ : ℕ) {lo hi : ℕ} {a b : List Record} (low :
   -- and the block's key
   pub key-own : getD (keysOf (a ++ (listOf p k r c κ ++ b))) (placeOf κ (a ++ (listOf p k r c κ ++ b))) 0 ≡ κ
   key-own = rw (own-first .1) (key-cut (recordOf κ (bitsOf p k r c)) low (le-refl κ) (own-first .2))
-
-  -- its last record is the last before its end
-  pub upTo-end : upTo (κ + 5 ^ k - 1) (a ++ (listOf p k r c κ ++ b)) ≡ length a + length (listOf p k r c κ)
-  upTo-end =
-      let pos = five-pos k in
-      let d = upTo-append (κ + 5 ^ k - 1) a (listOf p k r c κ ++ b) in
-      let e = upTo-append (κ + 5 ^ k - 1) (listOf p k r c κ) b in
-      let f = upTo-all (κ + 5 ^ k - 1) (omega arith) low in
-      let g = upTo-all (κ + 5 ^ k - 1) (omega arith) (list-ascends p k r c κ) in
-      let h = upTo-none (κ + 5 ^ k - 1) (omega arith) high in
-      omega arith
 
   -- a leaf's record is found at every key of its interval
   module _ (one : oneFeature p k r c ≡ true) (x : ℕ) (from : κ ≤ x) (until : x < κ + 5 ^ k) where

@@ -4,12 +4,10 @@ use Prim.Native.Nat.{ℕ, zero, suc, _+_, _^_, _≤_, _<_}
 use mathlib.Core.Path.{_≡_, _∙_, ap, subst}
 use mathlib.Core.Bool.{true}
 use mathlib.Core.List.{List}
-use native.Mathlib.Nat.{div-add-mod', mod-lt}
 use native.Mathlib.Omega.{arith}
 use lib.Dec.{eqb}
 use Rattle.keys.specs.Key.{validKey, heightOf}
 use Rattle.keys.proofs.Cases.{decide, equal}
-use Rattle.keys.proofs.Powers.{five-pos}
 use Rattle.keys.proofs.Under.{quadrant-under}
 use Rattle.keys.proofs.Interval.{within}
 use Rattle.keys.proofs.Pixel.{InKeys}
@@ -24,16 +22,6 @@ use Rattle.put.proofs.Climb.{climb-zero, climb-on, climb-ends}
 use Rattle.put.proofs.Plant.{digit-at}
 use Rattle.put.proofs.Field.{digit-bounds}
 use Rattle.put.proofs.Choice.{own-key}
-
--- the block around a key begins at or before it, and ends after it
-pub around-le : (h κ : ℕ) → around h κ ≤ κ
-unfolding around
-around-le h κ = let e = div-add-mod' κ (5 ^ h) in omega arith
-
--- a key lies before the end of the block around it
-pub around-until : (h κ : ℕ) → κ < around h κ + 5 ^ h
-unfolding around
-around-until h κ = let e = div-add-mod' κ (5 ^ h) in let f = mod-lt κ (five-pos h) in omega arith
 
 -- climbing ends at the height where it began or above it, by at most so many levels
 pub climb-bounds : (l : List Record) (κ b n h : ℕ) → (h ≤ climb l κ b n h) × (climb l κ b n h ≤ n + h)

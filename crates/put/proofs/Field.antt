@@ -7,7 +7,6 @@ use mathlib.Core.List.{List, [], _∷_, _++_, append-assoc, append-nil}
 use native.Mathlib.Omega.{arith}
 use lib.Bits.{bitOr, or-self}
 use lib.ListN.{length, length-append}
-use Rattle.keys.specs.Key.{childKey}
 use Rattle.keys.proofs.Under.{Under, Block, Quadrant, is-nw, is-ne, is-sw, is-se, quadrant-under, under-trans}
 use Rattle.keys.proofs.Pixel.{InKeys}
 use Rattle.definitions.specs.Picture.{Picture, oneFeature}
@@ -24,11 +23,6 @@ use Rattle.put.proofs.Outside.{Outside, outside-up, agree-sibling}
 use Rattle.put.proofs.Context.{Open, open-up}
 use Rattle.put.proofs.Family.{keys-up}
 use Rattle.put.proofs.Plant.{digitIn, digit-at, OthersAre, planted-bits, planted-level}
-
--- one leaf, and one level, more
-pub leaves-suc : (g κ h n d : ℕ) → leaves g κ h (suc n) d ≡ recordOf (childKey κ h d) g ∷ leaves g κ h n (suc d)
-unfolding leaves
-leaves-suc g κ h n d = refl
 
 -- the records before the content, a level more
 pub front-suc : (x g v k n : ℕ) → front x g v k (suc n) ≡ frontAt x g v (k + n) ++ front x g v k n

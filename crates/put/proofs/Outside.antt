@@ -1,29 +1,20 @@
 -- Two pictures that are equal outside a block: they are equal outside every block around it, and on every block that does not meet it, with
 -- the same bits and list there. Rests on the keys' squares and intervals.
 use Prim.Native.Nat.{ℕ, suc, _+_, _^_, _≤_}
-use mathlib.Core.Path.{_≡_, sym}
+use mathlib.Core.Path.{_≡_}
 use mathlib.Core.Logic.{_⊎_, inl, inr}
 use native.Mathlib.Omega.{arith}
 use Rattle.keys.proofs.Under.{Under, Block, Quadrant, quadrant-under}
 use Rattle.keys.proofs.Interval.{within, apart}
 use Rattle.keys.proofs.Pixel.{InSquare, InKeys, inside}
 use Rattle.keys.proofs.Parent.{quadrant-of}
-use Rattle.definitions.specs.Picture.{Picture, oneFeature}
-use Rattle.definitions.specs.Bits.{bitsOf}
-use Rattle.definitions.specs.List.{listOf}
+use Rattle.definitions.specs.Picture.{Picture}
 use Rattle.definitions.proofs.Within.{under-within}
 use Rattle.definitions.proofs.Pixels.{Agree}
-use Rattle.definitions.proofs.Features.{one-agree}
-use Rattle.definitions.proofs.BitsOf.{bits-agree}
-use Rattle.definitions.proofs.ListOf.{list-agree}
 
 -- the pictures are equal at every pixel that does not lie in the block
 abbrev pub Outside : Picture → Picture → ℕ → ℕ → ℕ → Type 0
 Outside p q k r c = (a b : ℕ) → (InSquare k r c a b → ⊥) → p a b ≡ q a b
-
--- it does not matter which of the two is named first
-pub outside-sym : {p q : Picture} {k r c : ℕ} → Outside p q k r c → Outside q p k r c
-outside-sym h a b w = sym (h a b w)
 
 -- what is outside a block is outside every block under it
 pub outside-up : {p q : Picture} {k r c κ k′ r′ c′ κ′ : ℕ} → Under k r c κ k′ r′ c′ κ′ → Outside p q k′ r′ c′ → Outside p q k r c
@@ -78,17 +69,3 @@ pub agree-sibling : {p p′ : Picture} {m k r c κ r₁ c₁ κ₁ r₂ c₂ κ�
     → Outside p p′ k r₁ c₁
     → Agree p p′ k r₂ c₂
 agree-sibling b q q′ other h = agree-apart (quadrant-of b q) (quadrant-of b q′) (quadrants-apart q q′ other) h
-
--- bits and lists of blocks that do not meet the block are the same
-module _ {p q : Picture} {m k r c κ k′ r′ c′ κ′ : ℕ} (u : Block m k r c κ) (v : Block m k′ r′ c′ κ′) (d : Apart k κ k′ κ′) (h : Outside p q k r c) where
-  -- the bits
-  pub bits-apart : bitsOf p k′ r′ c′ ≡ bitsOf q k′ r′ c′
-  bits-apart = bits-agree p q k′ r′ c′ (agree-apart u v d h)
-
-  -- whether it has one feature
-  pub one-apart : oneFeature p k′ r′ c′ ≡ oneFeature q k′ r′ c′
-  one-apart = one-agree p q k′ r′ c′ (agree-apart u v d h)
-
-  -- the list
-  pub list-apart : listOf p k′ r′ c′ κ′ ≡ listOf q k′ r′ c′ κ′
-  list-apart = list-agree p q k′ r′ c′ κ′ (agree-apart u v d h)

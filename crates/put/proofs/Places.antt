@@ -8,13 +8,13 @@ use native.Mathlib.Nat.{zero-add, le-refl}
 use native.Mathlib.Omega.{arith}
 use lib.ListN.{length, getD, set, List·getD-map}
 use lib.Seq.{getD-append-seam, set-append-seam}
-use lib.Dec.{leb, ltb, eqb}
+use lib.Dec.{leb, ltb}
 use borrow.Author.Tests.{le-leb, lt-leb, lt-ltb, le-ltb}
 use Rattle.keys.specs.Key.{heightOf}
 use Rattle.keys.proofs.Cases.{decide}
 use Rattle.keys.specs.Block.{inInterval}
 use Rattle.definitions.specs.List.{Record, recordOf, keysOf, valuesOf}
-use Rattle.definitions.specs.Standing.{upTo, placeOf, isListed, recordsIn}
+use Rattle.definitions.specs.Standing.{upTo, placeOf, recordsIn}
 use Rattle.definitions.proofs.Ascending.{Ascending, none, next, ascending-bounds}
 use Rattle.put.specs.Family.{bitsAt}
 use Rattle.put.specs.Renew.{setBits}
@@ -96,11 +96,6 @@ module _ {lo hi x : ℕ} {a : List Record} (e : Record) {b : List Record} (low :
   -- the key there is e's
   pub key-cut : getD (keysOf (a ++ e ∷ b)) (placeOf x (a ++ e ∷ b)) 0 ≡ e .key
   key-cut = ap (λ i. getD (keysOf (a ++ e ∷ b)) i 0) place-cut ∙ key-seam a e b
-
-  -- x is listed exactly when it is e's key
-  pub listed-cut : isListed x (a ++ e ∷ b) ≡ eqb (e .key) x
-  unfolding isListed
-  listed-cut = ap (λ y. eqb y x) key-cut
 
   -- setting bits there sets e's
   pub set-cut : (v : ℕ) → setBits (a ++ e ∷ b) (placeOf x (a ++ e ∷ b)) v ≡ a ++ recordOf (e .key) v ∷ b

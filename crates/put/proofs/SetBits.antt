@@ -4,7 +4,7 @@ use mathlib.Core.Path.{_≡_, refl, _∙_, ap}
 use mathlib.Core.List.{List, [], _∷_, map}
 use lib.ListN.{length, getD, set, length-set, List·getD-map}
 use lib.Seq.{map-set-same}
-use Rattle.definitions.specs.List.{Record, recordOf, keysOf, valuesOf}
+use Rattle.definitions.specs.List.{Record, recordOf, keysOf}
 use Rattle.definitions.specs.Standing.{placeOf}
 use Rattle.put.specs.Family.{around, parentBits}
 use Rattle.put.specs.Renew.{setBits, renew}
@@ -19,11 +19,6 @@ pub set-keys : (l : List Record) (i b : ℕ) → keysOf (setBits l i b) ≡ keys
 unfolding setBits
 set-keys l i b =
     map-set-same (λ x. x .key) l i (recordOf (getD (keysOf l) i 0) b) (recordOf 0 0) (List·getD-map (λ x. x .key) l i (recordOf 0 0))
-
--- and sets the one number
-pub set-values : (l : List Record) (i b : ℕ) → valuesOf (setBits l i b) ≡ set (valuesOf l) i b
-unfolding setBits
-set-values l i b = map-set (λ x. x .value) l i (recordOf (getD (keysOf l) i 0) b)
 
 -- and leaves the number of records
 pub set-length : (l : List Record) (i b : ℕ) → length (setBits l i b) ≡ length l

@@ -1,10 +1,9 @@
 -- A run over good rules with known waivers gathers the findings of all of them: it counts and writes the live ones, and counts the others. Rests on
 -- StepCases, GoodRules and KnownIds.
-use Prim.Native.Nat.{ℕ, _+_, _≤_}
-use mathlib.Core.Path.{_≡_, refl, sym, ap, ap₂, _∙_}
-use mathlib.Core.Bool.{Bool, true, false, cond, not, _&&_, _||_}
+use Prim.Native.Nat.{ℕ, _+_}
+use mathlib.Core.Path.{_≡_, refl, sym, ap, _∙_}
+use mathlib.Core.Bool.{Bool, true, false, not, _||_}
 use mathlib.Core.List.{List, [], _∷_, _++_, map}
-use native.Mathlib.Nat.{add-zero}
 use native.Mathlib.Omega.{arith}
 use lib.ListN.{length, length-append, length-map}
 use lib.Dec.{ltb}
@@ -17,9 +16,9 @@ use Rattle.definitions.proofs.Waivers.{live-none, live-hidden, live-kept}
 use Rattle.window.specs.Gather.{written}
 use Rattle.window.proofs.Written.{written-none, written-append}
 use Rattle.rules.specs.declared.run.State.{State}
-use Rattle.rules.specs.Run.{waiversBelow, Progress, progressOf, counting, picture, isUnknown, gathered, stepOf, runOf}
+use Rattle.rules.specs.Run.{waiversBelow, Progress, progressOf, counting, picture, isUnknown, gathered, runOf}
 use Rattle.rules.proofs.Fold.{run-nil, run-cons}
-use Rattle.rules.proofs.StepCases.{isFaulty, step-good}
+use Rattle.rules.proofs.StepCases.{step-good}
 use Rattle.rules.proofs.GoodRules.{goodFrom, good-first, good-rest}
 use Rattle.rules.proofs.KnownIds.{nextAfter, next-nil, next-cons, knownFrom, known-cons}
 

@@ -1,9 +1,8 @@
 -- What the calls of `findings` come to, one after the other: each run may begin, and in the end the call gives document 01's findings. Rests on Ready and
 -- TwoRuns.
 use Prim.Native.Nat.{ℕ}
-use mathlib.Core.Path.{_≡_, refl, sym, ap, ap₂, _∙_, subst}
-use mathlib.Core.Bool.{true, false}
-use mathlib.Core.List.{List, [], _∷_}
+use mathlib.Core.Path.{_≡_, refl, ap, _∙_}
+use mathlib.Core.List.{List}
 use native.Mathlib.Omega.{arith}
 use lib.ListN.{length}
 use Rattle.keys.proofs.Cases.{decide, split, equal}
@@ -12,11 +11,11 @@ use Rattle.definitions.specs.Calls.Findings.{findings, findingsIds, findingsKey
 use Rattle.definitions.specs.declared.Rule.{Rule}
 use Rattle.definitions.specs.declared.Found.{Found}
 use Rattle.rules.specs.declared.run.State.{State}
-use Rattle.rules.specs.Run.{Progress, progressOf, Fine, Ready, runOf, beginOf, writingOf, answerOf}
+use Rattle.rules.specs.Run.{Progress, progressOf, Ready, runOf, beginOf, writingOf, answerOf}
 use Rattle.rules.proofs.WritingCases.{writing-stopped, writing-faulty, writing-left, writing-full, writing-begins}
 use Rattle.rules.proofs.Beginning.{below-zero, begin-ready}
 use Rattle.rules.proofs.Ready.{ready-run}
-use Rattle.rules.proofs.TwoRuns.{counted, second, two-runs}
+use Rattle.rules.proofs.TwoRuns.{second, two-runs}
 
 -- the counting run may begin
 pub counting-ready : (m s : ℕ) (keys bits : List ℕ) (n : ℕ) (waiverIds waiverKeys ids foundKeys : List ℕ) (r₀ : State)

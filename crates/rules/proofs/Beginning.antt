@@ -1,18 +1,18 @@
 -- How a run begins: the state, field by field, and what it stands on where neither 1 nor 4 is given. Rests on Settings.
-use Prim.Native.Nat.{ℕ, _+_, _*_, _≤_, min}
+use Prim.Native.Nat.{ℕ, min}
 use mathlib.Core.Path.{_≡_, refl, sym, ap, _∙_}
-use mathlib.Core.Bool.{Bool, true, false, cond, not, _&&_}
+use mathlib.Core.Bool.{Bool, true, false, not, _&&_}
 use mathlib.Core.List.{List, [], _∷_}
 use native.Mathlib.Omega.{arith}
 use lib.ListN.{length}
 use lib.Dec.{eqb}
 use borrow.Author.Tests.{eq-eqb, ne-eqb, le-ltb}
-use Rattle.keys.proofs.Cases.{decide, equal, and-left}
+use Rattle.keys.proofs.Cases.{decide, and-left}
 use Rattle.definitions.specs.Read.{room, isList}
 use Rattle.definitions.specs.Refusal.{badSettings}
 use Rattle.definitions.specs.Rules.{Finding, waiversOf, findingsAscend}
 use Rattle.rules.specs.declared.run.State.{State}
-use Rattle.rules.specs.Run.{keysValid, waiversGood, waiversBelow, progressOf, beginRefusal, beginOf, Fine, Ready}
+use Rattle.rules.specs.Run.{keysValid, waiversGood, waiversBelow, progressOf, beginRefusal, beginOf, Ready}
 use Rattle.rules.proofs.Settings.{good-level, good-slots}
 
 -- no waiver has an id below 0

@@ -1,12 +1,12 @@
 -- Rules whose ids ascend from a least id on, each good: rule by rule what refusal 13 says of all. Rests on nothing.
-use Prim.Native.Nat.{ℕ, suc, _+_, _≤_, _<_}
+use Prim.Native.Nat.{ℕ, _+_, _≤_}
 use mathlib.Core.Path.{_≡_, refl, sym, ap, _∙_}
-use mathlib.Core.Bool.{Bool, true, false, not, _&&_, true≢false}
+use mathlib.Core.Bool.{Bool, true, false, not, _&&_}
 use mathlib.Core.List.{List, [], _∷_}
 use native.Mathlib.Omega.{arith}
 use lib.Dec.{leb, ltb}
 use borrow.Author.Tests.{leb-true, le-leb, ltb-true, lt-ltb}
-use Rattle.keys.proofs.Cases.{decide, and-left, and-right, and-both, same-test}
+use Rattle.keys.proofs.Cases.{and-left, and-right, and-both, same-test}
 use Rattle.definitions.specs.Rules.{isRule, allRules, idsAscend, badRules}
 use Rattle.definitions.specs.declared.Rule.{Rule}
 

@@ -1,10 +1,9 @@
 -- The test of the waivers by themselves, waiver by waiver: the order to the next, and the key. Rests on nothing.
 use Prim.Native.Nat.{ℕ}
-use mathlib.Core.Path.{_≡_, refl, ap₂, _∙_}
+use mathlib.Core.Path.{_≡_, refl, ap₂}
 use mathlib.Core.Bool.{Bool, true, false, _&&_}
 use mathlib.Core.List.{List, [], _∷_}
 use Rattle.keys.specs.Key.{validKey}
-use Rattle.keys.proofs.Cases.{decide}
 use Rattle.definitions.specs.Rules.{Finding, comesBefore, findingsAscend}
 use Rattle.rules.specs.Run.{keysValid, waiversGood}
 

@@ -1,19 +1,18 @@
 -- Every waiver's id is a rule's (refusal 14), as a run finds it: before each rule no waiver is left behind, and after the last none is left. Waivers are
 -- counted by id, so this holds in any order of theirs. Rests on GoodRules.
-use Prim.Native.Nat.{ℕ, zero, suc, _+_, _≤_, _<_}
+use Prim.Native.Nat.{ℕ, suc, _+_, _≤_, _<_}
 use mathlib.Core.Path.{_≡_, refl, sym, ap, _∙_}
-use mathlib.Core.Bool.{Bool, true, false, cond, not, _&&_, _||_, true≢false}
+use mathlib.Core.Bool.{Bool, true, not, _&&_, true≢false}
 use mathlib.Core.Logic.{_⊎_, ⊎-elim}
 use mathlib.Core.List.{List, [], _∷_, List·Memᴰ, List·Memᴰ·head, List·Memᴰ·tail}
 use native.Mathlib.Omega.{arith}
 use lib.ListN.{length}
 use lib.Dec.{ltb, eqb}
-use borrow.Author.Tests.{lt-ltb, le-ltb, ltb-true, ltb-false, eqb-true, eq-eqb, not-true}
-use Rattle.keys.proofs.Cases.{decide, split, and-left, and-right, and-both, or-either, or-left, or-right, same-test}
-use Rattle.keys.specs.Key.{validKey}
-use Rattle.definitions.specs.Rules.{Finding, isRuleId, allWaivers, findingsAscend, badWaivers}
+use borrow.Author.Tests.{lt-ltb, le-ltb, ltb-false, eqb-true, eq-eqb, not-true}
+use Rattle.keys.proofs.Cases.{split, and-left, and-right, and-both, or-either, or-left, or-right}
+use Rattle.definitions.specs.Rules.{Finding, isRuleId}
 use Rattle.definitions.specs.declared.Rule.{Rule}
-use Rattle.rules.specs.Run.{waiversBelow, keysValid, waiversGood}
+use Rattle.rules.specs.Run.{waiversBelow}
 use Rattle.rules.proofs.GoodRules.{goodFrom, good-rest, good-low}
 
 -- ---- how many waivers are below an id

@@ -1,6 +1,6 @@
 -- A `&mut [T]` that is lent again for a call and comes back, where the list may have changed since entry: the machine's count stays the length at
 -- entry. Rests on Again.
-use mathlib.Core.Path.{_≡_, sym, _∙_, subst}
+use mathlib.Core.Path.{_≡_, sym, subst}
 use Prim.Native.Nat.{ℕ}
 use mathlib.Core.List.{List, [], _∷_}
 use lib.ListN.{length}

@@ -1,8 +1,7 @@
 -- A refused run stays as it is; a run that may write nothing leaves the answer slices. Rests on StepCases.
-use Prim.Native.Nat.{ℕ, _+_}
-use mathlib.Core.Path.{_≡_, refl, sym, ap, _∙_}
-use mathlib.Core.Bool.{Bool, true, false}
-use mathlib.Core.List.{List, [], _∷_, map}
+use Prim.Native.Nat.{ℕ}
+use mathlib.Core.Path.{_≡_, refl, ap, _∙_}
+use mathlib.Core.List.{List, [], _∷_}
 use Rattle.keys.proofs.Cases.{decide, equal}
 use Rattle.definitions.specs.declared.Rule.{Rule}
 use Rattle.window.specs.Gather.{written}

@@ -1,8 +1,8 @@
 -- What a run stands on is kept by every rule: so it holds from the beginning to the end. The counts stay small, since ids ascend and a rule has at most
 -- as many findings as the map has keys. Rests on StepCases.
-use Prim.Native.Nat.{ℕ, _+_, _*_, _^_, _≤_, _<_}
-use mathlib.Core.Path.{_≡_, refl, sym, ap, _∙_, subst}
-use mathlib.Core.Bool.{Bool, true, false, true≢false}
+use Prim.Native.Nat.{ℕ, _≤_}
+use mathlib.Core.Path.{_≡_, refl, _∙_}
+use mathlib.Core.Bool.{true, true≢false}
 use mathlib.Core.List.{List, [], _∷_, map}
 use native.Mathlib.Omega.{arith}
 use lib.ListN.{length, length-map}
@@ -12,7 +12,7 @@ use Rattle.keys.proofs.Cases.{decide, equal, and-left, and-right}
 use Rattle.keys.proofs.Powers.{five-le}
 use Rattle.definitions.specs.Picture.{Picture}
 use Rattle.definitions.specs.Window.{selectIn}
-use Rattle.definitions.specs.Rules.{Finding, findingOf, windowOf, findingsOf, waiversOf, liveOf, hiddenCount, isRule}
+use Rattle.definitions.specs.Rules.{findingOf, windowOf, findingsOf, waiversOf, liveOf, isRule}
 use Rattle.definitions.specs.declared.Rule.{Rule}
 use Rattle.definitions.proofs.SelectAscends.{select-in-ascends}
 use Rattle.definitions.proofs.Waivers.{live-and-hidden}

@@ -13,7 +13,7 @@ use Rattle.keys.proofs.Cases.{decide, and-left, and-right, and-both}
 use Rattle.definitions.specs.Read.{room, isList}
 use Rattle.definitions.specs.Buffer.{over}
 use Rattle.definitions.specs.Rules.{Finding, waiversOf, isRuleId, allWaivers, findingsAscend, badRules, badWaivers}
-use Rattle.definitions.specs.Refusal.{Row, _gives_, first, accepted, badSettings, noList}
+use Rattle.definitions.specs.Refusal.{Row, _gives_, first, badSettings, noList}
 use Rattle.definitions.specs.Calls.Findings.{liveIn, hiddenIn, findingsRefusal, findings, findingsIds, findingsKeys}
 use Rattle.definitions.specs.declared.Rule.{Rule}
 use Rattle.definitions.specs.declared.Found.{Found}

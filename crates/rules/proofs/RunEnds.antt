@@ -6,15 +6,14 @@ use mathlib.Core.Bool.{Bool, true, false, not, _&&_, _||_, true≢false}
 use mathlib.Core.List.{List, [], _∷_}
 use native.Mathlib.Omega.{arith}
 use lib.Dec.{ltb}
-use borrow.Author.Tests.{not-true}
-use Rattle.keys.proofs.Cases.{decide, or-left, or-right}
+use Rattle.keys.proofs.Cases.{decide, or-left}
 use Rattle.definitions.specs.Rules.{Finding, waiversOf}
 use Rattle.definitions.specs.declared.Rule.{Rule}
-use Rattle.rules.specs.Run.{waiversBelow, Progress, progressOf, refusing, faultyFrom, mayCome, isUnknown, gathered, stepOf, runOf}
+use Rattle.rules.specs.Run.{waiversBelow, Progress, progressOf, refusing, faultyFrom, mayCome, isUnknown, gathered, runOf}
 use Rattle.rules.proofs.Fold.{run-nil, run-cons}
 use Rattle.rules.proofs.StepCases.{isFaulty, step-bad, step-faulty, step-good}
 use Rattle.rules.proofs.GoodRules.{goodFrom, good-none, good-first, good-rest, not-good}
-use Rattle.rules.proofs.KnownIds.{knownFrom, known-cons}
+use Rattle.rules.proofs.KnownIds.{knownFrom}
 use Rattle.rules.proofs.Quiet.{run-stopped}
 
 -- a run is refused or goes on with a wrong waiver

@@ -1,7 +1,7 @@
 -- What one rule does to a run, case by case: the run is refused already, the rule is bad, a waiver is wrong, or the rule's findings are gathered. Rests
 -- on nothing.
 use Prim.Native.Nat.{ℕ, _+_}
-use mathlib.Core.Path.{_≡_, refl, ap, _∙_}
+use mathlib.Core.Path.{_≡_}
 use mathlib.Core.Bool.{Bool, true, false, cond, _||_}
 use mathlib.Core.List.{List}
 use lib.Dec.{eqb}

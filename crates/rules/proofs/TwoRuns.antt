@@ -1,13 +1,12 @@
 -- Two runs over the rules, the first to count and the second to write, give document 01's findings: each refusal in its order, and otherwise the live
 -- findings with both counts. Rests on AllGathered, RunEnds, Quiet, WritingCases, Beginning and Refusals.
-use Prim.Native.Nat.{ℕ, _+_, _≤_, _<_, min}
+use Prim.Native.Nat.{ℕ, _≤_, _<_}
 use mathlib.Core.Path.{_≡_, refl, sym, ap, _∙_}
-use mathlib.Core.Bool.{Bool, true, false, not, _&&_}
+use mathlib.Core.Bool.{Bool, true, false}
 use mathlib.Core.List.{List, map}
 use native.Mathlib.Nat.{zero-add}
 use native.Mathlib.Omega.{arith}
 use lib.ListN.{length, length-map}
-use borrow.Author.Tests.{ltb-true}
 use Rattle.keys.proofs.Cases.{decide, split}
 use Rattle.definitions.specs.Read.{room, pictureOf, recordsOf, isList}
 use Rattle.definitions.specs.Buffer.{over}
@@ -15,16 +14,15 @@ use Rattle.definitions.specs.Rules.{Finding, allFindings, waiversOf, liveOf, hi
 use Rattle.definitions.specs.Refusal.{badSettings}
 use Rattle.definitions.specs.Calls.Findings.{liveIn, hiddenIn, findingsRefusal, findings, findingsIds, findingsKeys}
 use Rattle.definitions.specs.declared.Rule.{Rule}
-use Rattle.definitions.specs.declared.Found.{Found}
 use Rattle.window.specs.Gather.{written}
 use Rattle.window.proofs.Written.{written-over}
 use Rattle.rules.specs.declared.run.State.{State}
-use Rattle.rules.specs.Run.{waiversBelow, waiversGood, Progress, progressOf, refusing, runOf, beginRefusal, beginOf, writingOf, answerOf}
+use Rattle.rules.specs.Run.{waiversBelow, waiversGood, Progress, progressOf, runOf, beginRefusal, beginOf, writingOf, answerOf}
 use Rattle.rules.proofs.WaiverPlaces.{waivers-length}
 use Rattle.rules.proofs.WritingCases.{writing, writing-stopped, writing-faulty, writing-left, writing-full, writing-begins, answer-done, answer-full, answer-refused}
 use Rattle.rules.proofs.Beginning.{begin-bad, begin-no-list, begin-good, fault-good, below-zero}
 use Rattle.rules.proofs.GoodRules.{goodFrom}
-use Rattle.rules.proofs.KnownIds.{nextAfter, knownFrom, known-all, all-known, AllKnown, FoundKnown}
+use Rattle.rules.proofs.KnownIds.{nextAfter, knownFrom, known-all, all-known}
 use Rattle.rules.proofs.AllGathered.{allGathered, run-gathered}
 use Rattle.rules.proofs.RunEnds.{Faulted, run-bad, run-faulty, run-unknown}
 use Rattle.rules.proofs.Quiet.{run-stopped, quiet-ids, quiet-keys}

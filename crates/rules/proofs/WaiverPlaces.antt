@@ -43,7 +43,3 @@ waivers-end (id ∷ ids) [] zero h = refl
 waivers-end (id ∷ ids) [] (suc i) h = refl
 waivers-end (id ∷ ids) (κ ∷ keys) zero h = absurd (omega arith)
 waivers-end (id ∷ ids) (κ ∷ keys) (suc i) h = waivers-end ids keys i (omega arith)
-
--- all of them
-pub waivers-all : (ids keys : List ℕ) → drop 0 (waiversOf ids keys) ≡ waiversOf ids keys
-waivers-all ids keys = refl

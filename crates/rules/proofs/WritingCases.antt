@@ -1,10 +1,9 @@
 -- How the writing run begins, case by case, and what a run answers. Rests on nothing.
-use Prim.Native.Nat.{ℕ, _≤_, _<_}
-use mathlib.Core.Path.{_≡_, refl, ap, _∙_}
+use Prim.Native.Nat.{_≤_, _<_}
+use mathlib.Core.Path.{_≡_}
 use mathlib.Core.Bool.{Bool, true, false, cond, _||_}
 use lib.Dec.{eqb, ltb}
 use borrow.Author.Tests.{eq-eqb, ne-eqb, lt-ltb, le-ltb}
-use Rattle.definitions.specs.declared.Found.{Found}
 use Rattle.rules.specs.declared.run.State.{State}
 use Rattle.rules.specs.Run.{refusing, writingOf, answerOf}
 

@@ -12,7 +12,7 @@ use Rattle.keys.proofs.Powers.{five-pos}
 use Rattle.keys.proofs.Under.{Block, is-nw}
 use Rattle.keys.proofs.Interval.{Same, same-block, within, apart, one-block, no-key-between}
 use Rattle.keys.proofs.Parent.{quadrant-of}
-use Rattle.keys.proofs.Pixel.{InSquare, inside, back, pixel-block}
+use Rattle.keys.proofs.Pixel.{back, pixel-block}
 use Rattle.definitions.specs.Window.{isWindow}
 use Rattle.definitions.specs.declared.Window.{Window}
 use Rattle.window.specs.declared.walk.Spot.{Spot}
@@ -44,13 +44,6 @@ pub in-spot : {m : ℕ} {s : Spot} (row column : ℕ) → Stands m s → row < 2
 in-spot row column h low narrow from until =
     let i = back row column (h .block) low narrow (record { from = from; until = omega (arith, h .step) }) in
     omega (arith, h .side)
-
-pub key-of-pixel : {m : ℕ} {s : Spot} (row column : ℕ) → Stands m s → InSpot s row column
-    → (s .key ≤ pixelKey m row column) × (pixelKey m row column < s .key + s .step)
-key-of-pixel {m} {s} row column h i =
-    let square : InSquare (h .height) (s .row) (s .column) row column = omega (arith, h .side) in
-    let k = inside (h .block) square in
-    omega (arith, h .step)
 
 -- what is clear up to a key and from it on is clear
 pub clear-join : (m : ℕ) (w : Window) (x y z : ℕ) → Clear m w x y → Clear m w y z → Clear m w x z

@@ -1,5 +1,5 @@
 -- `pass` meets its contract: the waivers that it passes have keys below the key.
-use Prim.Native.Nat.{ℕ, _-_, _≤_}
+use Prim.Native.Nat.{_-_}
 use native.Mathlib.Omega.{arith}
 use lib.ListN.{length}
 use Rattle.sift.specs.Sift.{Passed}

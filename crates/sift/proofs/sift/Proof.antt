@@ -1,6 +1,5 @@
 -- `sift` meets its contract: the first waiver at or past the key decides, since the waivers ascend.
 use mathlib.Core.Path.{_≡_, refl, sym, _∙_}
-use mathlib.Core.Bool.{Bool}
 use borrow.Author.Needs.{needs}
 use Rattle.sift.specs.Sift.{isWaived}
 use Rattle.sift.proofs.Merge.{stands-waived, counted-hidden, counted-live}

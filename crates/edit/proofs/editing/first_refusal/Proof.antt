@@ -1,6 +1,6 @@
 -- `editing::first_refusal` meets its contract: each way out answers what the table says there.
 use mathlib.Core.Path.{_≡_, sym, ap, _∙_}
-use mathlib.Core.Bool.{true, false, not}
+use mathlib.Core.Bool.{false, not}
 use borrow.Author.Needs.{needs}
 use Rattle.definitions.specs.Refusal.{badSettings, noList}
 use Rattle.list.proofs.Tests.{good-settings}

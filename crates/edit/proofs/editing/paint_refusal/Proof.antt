@@ -1,7 +1,6 @@
 -- `editing::paint_refusal` meets its contract: the rows in document 01's order, the first three and the last two by their own functions.
 use mathlib.Core.Path.{_≡_, sym, _∙_}
 use mathlib.Core.Bool.{true}
-use native.Mathlib.Omega.{arith}
 use borrow.Author.Needs.{needs}
 use borrow.Author.Tests.{not-true, not-false}
 use Rattle.keys.specs.Key.{validKey}

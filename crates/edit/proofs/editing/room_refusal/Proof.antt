@@ -1,5 +1,5 @@
 -- `editing::room_refusal` meets its contract: each way out answers what the table's last two rows say there.
-use Prim.Native.Nat.{_+_, _<_, _≤_}
+use Prim.Native.Nat.{_+_, _≤_}
 use mathlib.Core.Path.{_≡_, ap}
 use native.Mathlib.Omega.{arith}
 use lib.ListN.{length}

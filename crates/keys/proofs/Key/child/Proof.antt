@@ -1,5 +1,5 @@
 -- `Key::child` meets its contract: a key below 5 ^ 10 and at most four steps of 5 ^ 10 fit 32 bits.
-use Prim.Native.Nat.{ℕ, _+_, _*_, _^_, _≤_, _<_}
+use Prim.Native.Nat.{ℕ, _+_, _*_, _^_, _≤_}
 use mathlib.Core.Path.{_≡_, ap}
 use native.Mathlib.Omega.{arith}
 use native.Mathlib.Nat.{mul-le-mul}

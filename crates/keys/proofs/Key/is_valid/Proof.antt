@@ -1,10 +1,10 @@
 -- `Key::is_valid` meets its contract: after each turn the key is valid exactly when the rest is, with the digits that are left.
 use Prim.Native.Nat.{ℕ, _+_, _-_, _/_, _%_, _^_, _≤_, _<_}
-use mathlib.Core.Path.{_≡_, refl, sym, ap, _∙_}
-use mathlib.Core.Bool.{Bool, true, false, _&&_}
+use mathlib.Core.Path.{_≡_, sym, ap, _∙_}
+use mathlib.Core.Bool.{Bool, true, false}
 use native.Mathlib.Omega.{arith}
 use native.Mathlib.Nat.{mod-lt}
-use lib.Dec.{lit<, ltb, eqb}
+use lib.Dec.{lit<, eqb}
 use borrow.Author.Tests.{lt-ltb, le-ltb}
 use Rattle.keys.specs.Key.{digitsOf, digitsThenZeros, validKey}
 use Rattle.keys.proofs.Powers.{five-pos}

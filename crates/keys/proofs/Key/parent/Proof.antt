@@ -1,11 +1,11 @@
 -- `Key::parent` meets its contract: the quotient by the parent's step, and back, makes the last digit 0.
-use Prim.Native.Nat.{ℕ, suc, _+_, _*_, _/_, _^_, _≤_, _<_}
-use mathlib.Core.Path.{_≡_, ap, _∙_}
+use Prim.Native.Nat.{ℕ, suc, _+_, _*_, _/_, _^_}
+use mathlib.Core.Path.{ap, _∙_}
 use native.Mathlib.Omega.{arith}
 use native.Mathlib.Nat.{div-mul-le-self}
 use native.Mathlib.Numerals.{add-one}
 use borrow.Author.Needs.{needs}
-use Rattle.keys.specs.Key.{heightOf, parentKey}
+use Rattle.keys.specs.Key.{parentKey}
 use Rattle.keys.proofs.Powers.{five-pos, height-le}
 use Rattle.keys.proofs.Key.parent.Statement.{statement}
 use Rattle.keys.proofs.Key.parent.Tie as tie

@@ -1,6 +1,6 @@
 -- `power_of_five` meets its contract: the power after i turns is 5 ^ i, which fits, since i stays at most 11.
-use Prim.Native.Nat.{ℕ, _+_, _*_, _-_, _^_, _≤_, _<_}
-use mathlib.Core.Path.{_≡_, refl, sym, ap, _∙_, subst}
+use Prim.Native.Nat.{ℕ, _*_, _-_, _^_, _≤_}
+use mathlib.Core.Path.{_≡_, refl, sym, ap, _∙_}
 use native.Mathlib.Omega.{arith}
 use native.Mathlib.Nat.{pow-suc, le-antisymm}
 use native.Mathlib.Numerals.{add-one}

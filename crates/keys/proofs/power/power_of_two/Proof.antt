@@ -1,6 +1,6 @@
 -- `power_of_two` meets its contract: 1 moved left by less than 32 places loses no bit.
-use Prim.Native.Nat.{ℕ, _*_, _^_}
-use mathlib.Core.Path.{_≡_, _∙_}
+use Prim.Native.Nat.{_^_}
+use mathlib.Core.Path.{_∙_}
 use native.Mathlib.Omega.{arith}
 use native.Mathlib.Nat.{one-mul}
 use lib.Pow.{shl-exact}

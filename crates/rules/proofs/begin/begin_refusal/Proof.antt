@@ -1,10 +1,6 @@
 -- `begin::begin_refusal` meets its contract: 1 comes before 4.
-use Prim.Native.Nat.{ℕ, _≤_}
-use mathlib.Core.Path.{_≡_, sym, _∙_}
-use mathlib.Core.Bool.{false}
-use native.Mathlib.Omega.{arith}
+use mathlib.Core.Path.{sym, _∙_}
 use borrow.Author.Needs.{needs}
-use Rattle.definitions.specs.Refusal.{badSettings}
 use Rattle.rules.specs.Run.{beginRefusal}
 use Rattle.rules.proofs.Settings.{good-level, good-slots}
 use Rattle.rules.proofs.begin.begin_refusal.Statement.{statement}
