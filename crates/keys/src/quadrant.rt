@@ -2,7 +2,6 @@
 ghost use mathlib.Core.Path.{_≡_};
 ghost use mathlib.Core.Bool.{cond};
 ghost use Prim.Native.Nat.{_-_};
-ghost use lib.Dec.{ltb};
 ghost use Rattle.keys.specs.Block.{isSouth, isEast, quadrantDigit, inQuadrant};
 
 // What a digit adds to the row.

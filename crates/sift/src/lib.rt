@@ -13,13 +13,14 @@ ghost use Rattle.definitions.specs.Rules.{windowOf};
 ghost use Rattle.list.specs.Own.{OwnList, shownBy};
 ghost use Rattle.list.specs.Sorted.{Ascends};
 ghost use Rattle.window.specs.Walk.{Stands};
-ghost use Rattle.window.specs.Gather.{keysWith, keysUntil, putAt};
+ghost use Rattle.window.specs.Gather.{keysWith, keysUntil};
 ghost use Rattle.sift.specs.Sift.{Passed, FirstPast, SiftReady, RunReady, Sifted};
 use definitions::Rule;
 use definitions::Standing;
 use definitions::Window;
 use keys::power;
 use list::standing;
+use window::select;
 use window::walk;
 use window::walk::Found;
 use window::walk::Spot;
@@ -39,16 +40,6 @@ pub struct Sifting {
     pub passed: usize,
     pub live: usize,
     pub hidden: usize,
-}
-
-// Writes a number at its place, if that is below the limit: with the limit 0 findings are only counted.
-fn put(answer: &mut [u32], limit: usize, place: usize, number: u32)
-    requires { ⌜ limit ≤ length (now answer) ⌝ }
-    ensures { λ r. ⌜ now (answer .exit) ≡ putAt limit (now (answer .entry)) place number ⌝ }
-{
-    if place < limit {
-        answer[place] = number;
-    }
 }
 
 // The first waiver from a place on whose key is at or past the key.
@@ -104,8 +95,8 @@ fn sift(
             hidden: more,
         };
     }
-    put(found_ids, limit, live, id);
-    put(found_keys, limit, live, key);
+    select::put(found_ids, limit, live, id);
+    select::put(found_keys, limit, live, key);
     let more = live + 1;
     Sifting {
         passed,

@@ -17,13 +17,13 @@ use definitions::Window;
 use keys::power;
 use list::standing;
 
-// Writes a key at its place, if that is below the limit: with the limit 0 keys are only counted.
-fn put(answer: &mut [u32], limit: usize, place: usize, key: u32)
+// Writes a number at its place, if that is below the limit: with the limit 0 answers are only counted.
+pub fn put(answer: &mut [u32], limit: usize, place: usize, number: u32)
     requires { ⌜ limit ≤ length (now answer) ⌝ }
-    ensures { λ r. ⌜ now (answer .exit) ≡ putAt limit (now (answer .entry)) place key ⌝ }
+    ensures { λ r. ⌜ now (answer .exit) ≡ putAt limit (now (answer .entry)) place number ⌝ }
 {
     if place < limit {
-        answer[place] = key;
+        answer[place] = number;
     }
 }
 

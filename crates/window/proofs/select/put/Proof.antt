@@ -15,10 +15,10 @@ same-length : tie.Need-same-length
 same-length c = search needs
 
 returns : tie.Need-returns
-returns c = sym (put-below _ (c .before .args .answer .now) _ (c .before .args .key) (c .if1 .taken))
+returns c = sym (put-below _ (c .before .args .answer .now) _ (c .before .args .number) (c .if1 .taken))
 
 returns-2 : tie.Need-returns-2
-returns-2 c = sym (put-past _ (c .before .args .answer .now) _ (c .before .args .key) (c .if1 .left))
+returns-2 c = sym (put-past _ (c .before .args .answer .now) _ (c .before .args .number) (c .if1 .left))
 
 pub put-spec : {M : Type 1} → statement M
 put-spec = tie.close (tie.spec mul-answer slice-write-answer same-length returns returns-2)
