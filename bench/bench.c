@@ -26,36 +26,44 @@ static double now(void) {
     return (double)t.tv_sec * 1e9 + (double)t.tv_nsec;
 }
 
-/* The best of several rounds of each, in turn, so that both see the same machine. */
-#define COMPARE(name, rounds, library, plain) do { \
+/* The best of several rounds of each, in turn, so that both see the same machine. A round repeats its call: one call on a small list takes less
+ * time than reading the clock. */
+#define COMPARE(name, rounds, times, library, plain) do { \
     double best_library = 1e18, best_plain = 1e18; \
     for (int round = 0; round < (rounds); round++) { \
-        double t = now(); library; double u = now(); plain; double v = now(); \
+        double t = now(); for (int again = 0; again < (times); again++) { library; } \
+        double u = now(); for (int again = 0; again < (times); again++) { plain; } \
+        double v = now(); \
         if (u - t < best_library) best_library = u - t; \
         if (v - u < best_plain) best_plain = v - u; \
     } \
-    printf("%-34s %14.0f %14.0f %8.2f\n", name, best_library, best_plain, best_library / best_plain); \
+    printf("%-36s %14.0f %14.0f %8.2f\n", name, best_library / (times), best_plain / (times), best_library / best_plain); \
 } while (0)
 
+/* 0 one feature, 1 patches, 2 noise; the last feature occurs in none. */
 static void fill(int kind) {
     memset(raster, 3, PIXELS);
     if (kind == 1)
         for (int i = 0; i < 300; i++) {
-            uint32_t h = 1 + below(120), w = 1 + below(120), r = below(EDGE - h), c = below(EDGE - w), f = below(S);
+            uint32_t h = 1 + below(120), w = 1 + below(120), r = below(EDGE - h), c = below(EDGE - w), f = below(S - 1);
             for (uint32_t y = r; y < r + h; y++) memset(raster + (size_t)y * EDGE + c, (int)f, w);
         }
-    if (kind == 2) for (size_t i = 0; i < PIXELS; i++) raster[i] = (uint8_t)below(S);
+    if (kind == 2) for (size_t i = 0; i < PIXELS; i++) raster[i] = (uint8_t)below(S - 1);
 }
 
+/* How often a round repeats a call on a list of n records. */
+static int times_for(size_t n) { return n < 1000 ? 1000 : 1; }
+
 static void lists(const char *kind) {
-    char name[64];
     size_t n = hlq_build(M, S, raster, PIXELS, keys, MOST, bits, MOST).count;
     printf("\n%s raster, m = %d, n = %zu records\n", kind, M, n);
-    snprintf(name, sizeof name, "build");
-    COMPARE(name, 5, sink += hlq_build(M, S, raster, PIXELS, keys, MOST, bits, MOST).count, sink += plain_build(M, S, raster, other_keys, other_bits, MOST));
-    COMPARE("standing (the list check)", 5, sink += hlq_standing(M, S, keys, MOST, bits, MOST, n, 1234).place,
+    COMPARE("build", 7, 1, sink += hlq_build(M, S, raster, PIXELS, keys, MOST, bits, MOST).count,
+            sink += plain_build(M, S, raster, other_keys, other_bits, MOST));
+    COMPARE("build into exactly its room", 7, 1, sink += hlq_build(M, S, raster, PIXELS, keys, n, bits, n).count,
+            sink += plain_build(M, S, raster, other_keys, other_bits, n));
+    COMPARE("standing (the list check)", 7, times_for(n), sink += hlq_standing(M, S, keys, MOST, bits, MOST, n, 1234).place,
             sink += (uint64_t)plain_is_list(M, S, keys, bits, n) + plain_place(keys, n, 1234));
-    COMPARE("raster (with the list check)", 5, sink += hlq_raster(M, S, keys, MOST, bits, MOST, n, back, PIXELS).refusal,
+    COMPARE("raster (with the list check)", 7, 1, sink += hlq_raster(M, S, keys, MOST, bits, MOST, n, back, PIXELS).refusal,
             { sink += (uint64_t)plain_is_list(M, S, keys, bits, n); plain_raster(M, bits, back); });
 }
 
@@ -65,22 +73,32 @@ static uint32_t log2_of(uint32_t w) {
     return k;
 }
 
-/* Windows that grow: what exist, report and select cost above the list check, beside the number of largest blocks and Lemma 1's bound. */
-static void windows(size_t n) {
-    printf("\nwindows at m = %d, each call with its check of the list; blocks: largest blocks, bound: 3(2w - log2 w) - 5\n", M);
-    printf("%6s %8s %8s %34s %14s %14s %8s\n", "side", "blocks", "bound", "call", "library ns", "plain C ns", "ratio");
-    for (uint32_t w = 8; w <= 512; w *= 4) {
-        uint32_t row = 301, column = 277;
-        printf("%6u %8zu %8u\n", w, plain_blocks(M, row, column, w, w), 3 * (2 * w - log2_of(w)) - 5);
-        COMPARE("exist (a feature that is not there)", 5, sink += hlq_exist(M, S, keys, MOST, bits, MOST, n, row, column, w, w, S - 1).yes,
-                sink += (uint64_t)plain_is_list(M, S, keys, bits, n) + (uint64_t)plain_exist(M, keys, bits, n, row, column, w, w, S - 1));
-        COMPARE("report", 5, sink += hlq_report(M, S, keys, MOST, bits, MOST, n, row, column, w, w).bits,
-                sink += (uint64_t)plain_is_list(M, S, keys, bits, n) + plain_report(M, keys, bits, n, row, column, w, w));
-        COMPARE("select", 5, sink += hlq_select(M, S, keys, MOST, bits, MOST, n, row, column, w, w, 3, answer, PIXELS).count,
-                sink += (uint64_t)plain_is_list(M, S, keys, bits, n) + plain_select(M, keys, bits, n, row, column, w, w, 3, answer, PIXELS));
-        COMPARE("report against a scan of the raster", 5, sink += hlq_report(M, S, keys, MOST, bits, MOST, n, row, column, w, w).bits,
-                sink += plain_scan(M, raster, row, column, w, w));
-    }
+/* One window: each call beside the blocks that going down list and window together visits. */
+static void window(size_t n, uint32_t row, uint32_t column, uint32_t w, uint32_t there, uint32_t missing) {
+    size_t exist, report, select, none;
+    int times = times_for(n);
+    plain_exist(M, keys, bits, n, row, column, w, w, missing, &exist);
+    plain_report(M, keys, bits, n, row, column, w, w, &report);
+    plain_select(M, keys, bits, n, row, column, w, w, there, answer, PIXELS, &select);
+    plain_select(M, keys, bits, n, row, column, w, w, missing, answer, PIXELS, &none);
+    printf("side %u: %zu largest blocks (bound %u); visited by exist %zu, report %zu, select %zu, select of nothing %zu\n", w,
+           plain_blocks(M, row, column, w, w), 3 * (2 * w - log2_of(w)) - 5, exist, report, select, none);
+    COMPARE("exist (a feature that is not there)", 9, times, sink += hlq_exist(M, S, keys, MOST, bits, MOST, n, row, column, w, w, missing).yes,
+            sink += (uint64_t)plain_is_list(M, S, keys, bits, n) + (uint64_t)plain_exist(M, keys, bits, n, row, column, w, w, missing, &exist));
+    COMPARE("report", 9, times, sink += hlq_report(M, S, keys, MOST, bits, MOST, n, row, column, w, w).bits,
+            sink += (uint64_t)plain_is_list(M, S, keys, bits, n) + plain_report(M, keys, bits, n, row, column, w, w, &report));
+    COMPARE("select", 9, times, sink += hlq_select(M, S, keys, MOST, bits, MOST, n, row, column, w, w, there, answer, PIXELS).count,
+            sink += (uint64_t)plain_is_list(M, S, keys, bits, n) + plain_select(M, keys, bits, n, row, column, w, w, there, answer, PIXELS, &select));
+    COMPARE("select (a feature that is not there)", 9, times, sink += hlq_select(M, S, keys, MOST, bits, MOST, n, row, column, w, w, missing, answer, PIXELS).count,
+            sink += (uint64_t)plain_is_list(M, S, keys, bits, n) + plain_select(M, keys, bits, n, row, column, w, w, missing, answer, PIXELS, &none));
+}
+
+/* Windows that grow, on a uniform map and on a patchy one: what the calls cost above the list check, beside Lemma 1's bound of the largest blocks. */
+static void windows(const char *kind, size_t n, uint32_t missing) {
+    printf("\nwindows at m = %d on the %s raster, n = %zu, each call with its check of the list; bound: 3(2w - log2 w) - 5\n", M, kind, n);
+    for (uint32_t w = 8; w <= 512; w *= 4) window(n, 301, 277, w, 3, missing);
+    COMPARE("report against a scan of the raster", 9, 1, sink += hlq_report(M, S, keys, MOST, bits, MOST, n, 301, 277, 512, 512).bits,
+            sink += plain_scan(M, raster, 301, 277, 512, 512));
 }
 
 static void edits(size_t n) {
@@ -90,9 +108,9 @@ static void edits(size_t n) {
     static uint32_t plain_log_keys[2 * MOST], plain_log_values[2 * MOST];
     printf("\nedits at m = %d, n = %zu, each with its checks of list and log\n", M, n);
     uint32_t feature = 5;
-    COMPARE("paint", 6, { hlq_edited e = hlq_paint(M, S, keys, MOST, bits, MOST, n, log_keys, 2 * MOST, log_values, 2 * MOST, used, key, feature); n = e.n; used = e.used; },
+    COMPARE("paint", 6, 1, { hlq_edited e = hlq_paint(M, S, keys, MOST, bits, MOST, n, log_keys, 2 * MOST, log_values, 2 * MOST, used, key, feature); n = e.n; used = e.used; },
             { plain_n = plain_paint(M, S, other_keys, other_bits, plain_n, plain_log_keys, plain_log_values, &plain_used, key, feature); feature ^= 1; });
-    COMPARE("take back", 6, { hlq_edited e = hlq_take_back(M, S, keys, MOST, bits, MOST, n, log_keys, 2 * MOST, log_values, 2 * MOST, used); n = e.n; used = e.used; },
+    COMPARE("take back", 6, 1, { hlq_edited e = hlq_take_back(M, S, keys, MOST, bits, MOST, n, log_keys, 2 * MOST, log_values, 2 * MOST, used); n = e.n; used = e.used; },
             plain_n = plain_take_back(M, S, other_keys, other_bits, plain_n, plain_log_keys, plain_log_values, &plain_used));
     if (n != plain_n || used != plain_used || memcmp(keys, other_keys, 4 * n) != 0 || memcmp(bits, other_bits, 4 * n) != 0) printf("THE TWO DIFFER\n");
 }
@@ -101,15 +119,15 @@ static void findings(size_t n) {
     enum { RULES = 1000, WAIVERS = 10000 };
     static hlq_rule rules[RULES];
     static uint32_t ids[WAIVERS], waived[WAIVERS], found_ids[1 << 22], found_keys[1 << 22], other_ids[1 << 22], other_found[1 << 22];
-    size_t waivers = 0, hidden = 0;
+    size_t waivers = 0, hidden = 0, visited;
     for (uint32_t i = 0; i < RULES; i++) {
         uint32_t h = 20 + below(80), w = 20 + below(80);
         rules[i] = (hlq_rule){ 10 * i, below(EDGE - h), below(EDGE - w), h, w, below(S) };
-        size_t count = plain_select(M, keys, bits, n, rules[i].row, rules[i].column, h, w, rules[i].feature, answer, PIXELS);
+        size_t count = plain_select(M, keys, bits, n, rules[i].row, rules[i].column, h, w, rules[i].feature, answer, PIXELS, &visited);
         for (size_t j = 0; j < count && waivers < 12 * (i + 1) && waivers < WAIVERS; j += 2) ids[waivers] = rules[i].id, waived[waivers++] = answer[j];
     }
     printf("\nfindings at m = %d: %d rules, %zu waivers\n", M, RULES, waivers);
-    COMPARE("findings", 5, sink += hlq_findings(M, S, keys, MOST, bits, MOST, n, rules, RULES, ids, waivers, waived, waivers, found_ids, 1 << 22, found_keys, 1 << 22).live,
+    COMPARE("findings", 5, 1, sink += hlq_findings(M, S, keys, MOST, bits, MOST, n, rules, RULES, ids, waivers, waived, waivers, found_ids, 1 << 22, found_keys, 1 << 22).live,
             sink += (uint64_t)plain_is_list(M, S, keys, bits, n) + plain_findings(M, keys, bits, n, rules, RULES, ids, waived, waivers, other_ids, other_found, &hidden));
     hlq_found found = hlq_findings(M, S, keys, MOST, bits, MOST, n, rules, RULES, ids, waivers, waived, waivers, found_ids, 1 << 22, found_keys, 1 << 22);
     if (found.hidden != hidden || memcmp(found_ids, other_ids, 4 * found.live) != 0 || memcmp(found_keys, other_found, 4 * found.live) != 0) printf("THE TWO DIFFER\n");
@@ -118,19 +136,24 @@ static void findings(size_t n) {
 
 static void files(size_t n) {
     printf("\nfile at m = %d, n = %zu\n", M, n);
-    COMPARE("store", 5, sink += hlq_store(M, S, keys, MOST, bits, MOST, n, file, 11 + 6 * (size_t)MOST).count,
+    COMPARE("store", 5, 1, sink += hlq_store(M, S, keys, MOST, bits, MOST, n, file, 11 + 6 * (size_t)MOST).count,
             sink += (uint64_t)plain_is_list(M, S, keys, bits, n) + plain_store(M, S, keys, bits, n, file));
-    COMPARE("load", 5, sink += hlq_load(file, 11 + 6 * n, other_keys, MOST, other_bits, MOST).n, sink += plain_load(file, other_keys, other_bits));
+    COMPARE("load", 5, 1, sink += hlq_load(file, 11 + 6 * n, other_keys, MOST, other_bits, MOST).n, sink += plain_load(file, other_keys, other_bits));
 }
 
 int main(void) {
     static const char *const kinds[] = { "uniform", "patchy", "noisy" };
     file = malloc(11 + 6 * (size_t)MOST);
-    printf("%-34s %14s %14s %8s\n", "call", "library ns", "plain C ns", "ratio");
+    if (!file) return 1;
+    printf("%-36s %14s %14s %8s\n", "call", "library ns", "plain C ns", "ratio");
     for (int kind = 0; kind <= 2; kind++) { fill(kind); lists(kinds[kind]); }
-    fill(1);
+    fill(0);
     size_t n = hlq_build(M, S, raster, PIXELS, keys, MOST, bits, MOST).count;
-    windows(n);
+    windows(kinds[0], n, S - 1);
+    findings(n);
+    fill(1);
+    n = hlq_build(M, S, raster, PIXELS, keys, MOST, bits, MOST).count;
+    windows(kinds[1], n, S - 1);
     edits(n);
     findings(n);
     files(n);

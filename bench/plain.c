@@ -10,7 +10,7 @@ static uint32_t power(uint32_t base, uint32_t k) {
     return p;
 }
 
-/* ---- build: count, then write what is below each block that is not uniform */
+/* ---- build: what is below each block that is not uniform, written in one pass; a count comes first only where the room may be too little */
 
 typedef struct { const uint8_t *raster; uint32_t edge; uint32_t *keys, *bits; } job;
 typedef struct { uint32_t bits; size_t count; } tally;
@@ -24,8 +24,20 @@ static tally count_block(const job *j, uint32_t row, uint32_t column, uint32_t s
     return (tally){ bits, one_bit(bits) ? 1 : 1 + a.count + b.count + c.count + d.count };
 }
 
+/* A block of two by two pixels, without a call: most blocks are of this size. */
+static inline tally write_quad(const job *j, uint32_t row, uint32_t column, uint32_t key, size_t at) {
+    const uint8_t *north = j->raster + (size_t)row * j->edge + column, *south = north + j->edge;
+    uint32_t a = 1u << north[0], b = 1u << north[1], c = 1u << south[0], d = 1u << south[1], bits = a | b | c | d;
+    if (one_bit(bits)) return (tally){ bits, at + 1 };
+    uint32_t *keys = j->keys + at, *slots = j->bits + at;
+    keys[1] = key + 1, keys[2] = key + 2, keys[3] = key + 3, keys[4] = key + 4;
+    slots[1] = a, slots[2] = b, slots[3] = c, slots[4] = d;
+    return (tally){ bits, at + 5 };
+}
+
 static tally write_below(const job *j, uint32_t row, uint32_t column, uint32_t side, uint32_t key, uint32_t step, size_t at) {
     if (side == 1) return (tally){ 1u << j->raster[(size_t)row * j->edge + column], at + 1 };
+    if (side == 2) return write_quad(j, row, column, key, at);
     uint32_t h = side / 2;
     size_t p1 = at + 1;
     tally a = write_below(j, row, column, h, key + step, step / 5, p1);
@@ -43,13 +55,14 @@ static tally write_below(const job *j, uint32_t row, uint32_t column, uint32_t s
 
 size_t plain_build(uint32_t m, uint32_t s, const uint8_t *raster, uint32_t *keys, uint32_t *bits, size_t room) {
     size_t pixels = (size_t)1 << 2 * m;
-    for (size_t i = 0; i < pixels; i++) if (raster[i] >= s) return 0;
+    int bad = 0;
+    for (size_t i = 0; i < pixels; i++) bad |= raster[i] >= s;
+    if (bad) return 0;
     job j = { raster, 1u << m, keys, bits };
-    size_t n = count_block(&j, 0, 0, 1u << m).count;
-    if (n > room) return 0;
+    if (room < (4 * pixels - 1) / 3 && count_block(&j, 0, 0, 1u << m).count > room) return 0;
     tally t = write_below(&j, 0, 0, 1u << m, 0, m ? power(5, m - 1) : 0, 0);
     keys[0] = 0, bits[0] = t.bits;
-    return n;
+    return t.count;
 }
 
 /* ---- check */
@@ -106,7 +119,8 @@ size_t plain_place(const uint32_t *keys, size_t n, uint32_t key) {
     return low - 1;
 }
 
-/* ---- the walk */
+/* ---- windows: list and window gone down together. A leaf answers for all of the window that lies in it, a node whose bits add nothing is
+ * passed over, and only else its four quadrants are asked, which stand after it in the list. */
 
 typedef struct { uint32_t row, column, height, width; } frame;
 typedef struct { uint32_t key, row, column, side, step; } spot;
@@ -119,69 +133,128 @@ static int inside(const frame *w, const spot *b) {
     return w->row <= b->row && b->row + b->side <= w->row + w->height && w->column <= b->column && b->column + b->side <= w->column + w->width;
 }
 
-/* The next block after this one that is not below it; side 0 at the end. */
-static void advance(spot *b, uint32_t edge) {
-    b->key += b->step;
-    while (b->side < edge) {
-        if (!(b->column & b->side)) { b->column += b->side; return; }
-        if (!(b->row & b->side)) { b->column -= b->side, b->row += b->side; return; }
-        b->column -= b->side, b->row -= b->side, b->side *= 2, b->step *= 5;
-    }
-    b->side = 0;
+static spot quadrant(const spot *b, uint32_t digit) {
+    uint32_t h = b->side / 2, step = b->step / 5;
+    return (spot){ b->key + digit * step, b->row + (digit > 2 ? h : 0), b->column + (digit % 2 ? 0 : h), h, step };
 }
 
-/* The first largest block of the window at or after the spot. */
-static int find_largest(const frame *w, spot *b, uint32_t edge) {
-    while (b->side) {
-        if (inside(w, b)) return 1;
-        if (apart(w, b)) advance(b, edge);
-        else b->side /= 2, b->step /= 5, b->key += b->step;
+/* The place of a listed key at or after a place: steps that double, then halve. */
+static size_t place_from(const uint32_t *keys, size_t n, size_t at, uint32_t key) {
+    size_t step = 1, high;
+    while (at + step < n && keys[at + step] <= key) at += step, step *= 2;
+    for (high = at + step < n ? at + step : n; high - at > 1;) {
+        size_t middle = at + (high - at) / 2;
+        if (keys[middle] <= key) at = middle; else high = middle;
+    }
+    return at;
+}
+
+typedef struct { const uint32_t *keys, *bits; size_t n; frame w; uint32_t bit; uint32_t *answer; size_t room, count, visited; } question;
+
+/* The block is listed at the place. */
+static int exist_below(question *q, spot b, size_t at) {
+    q->visited++;
+    uint32_t found = q->bits[at];
+    if (!(found & q->bit)) return 0;
+    if (found == q->bit || inside(&q->w, &b)) return 1;
+    for (uint32_t digit = 1; digit <= 4; digit++) {
+        spot c = quadrant(&b, digit);
+        if (apart(&q->w, &c)) continue;
+        at = place_from(q->keys, q->n, at, c.key);
+        if (exist_below(q, c, at)) return 1;
     }
     return 0;
 }
 
-int plain_exist(uint32_t m, const uint32_t *keys, const uint32_t *bits, size_t n, uint32_t row, uint32_t column, uint32_t height, uint32_t width, uint32_t feature) {
-    frame w = { row, column, height, width };
-    spot b = { 0, 0, 0, 1u << m, power(5, m) };
-    for (; find_largest(&w, &b, 1u << m); advance(&b, 1u << m)) if (bits[plain_place(keys, n, b.key)] >> feature & 1) return 1;
-    return 0;
+static uint32_t report_below(question *q, spot b, size_t at, uint32_t seen) {
+    q->visited++;
+    uint32_t found = q->bits[at];
+    if ((seen | found) == seen) return seen;
+    if (one_bit(found) || inside(&q->w, &b)) return seen | found;
+    for (uint32_t digit = 1; digit <= 4; digit++) {
+        spot c = quadrant(&b, digit);
+        if (apart(&q->w, &c)) continue;
+        at = place_from(q->keys, q->n, at, c.key);
+        seen = report_below(q, c, at, seen);
+    }
+    return seen;
 }
 
-uint32_t plain_report(uint32_t m, const uint32_t *keys, const uint32_t *bits, size_t n, uint32_t row, uint32_t column, uint32_t height, uint32_t width) {
-    frame w = { row, column, height, width };
-    spot b = { 0, 0, 0, 1u << m, power(5, m) };
-    uint32_t found = 0;
-    for (; find_largest(&w, &b, 1u << m); advance(&b, 1u << m)) found |= bits[plain_place(keys, n, b.key)];
+static void give(question *q, uint32_t key) {
+    if (q->count < q->room) q->answer[q->count] = key;
+    q->count++;
+}
+
+/* The window's largest blocks in a leaf: the list has no more to say. */
+static void select_in_leaf(question *q, spot b) {
+    q->visited++;
+    if (inside(&q->w, &b)) { give(q, b.key); return; }
+    for (uint32_t digit = 1; digit <= 4; digit++) {
+        spot c = quadrant(&b, digit);
+        if (!apart(&q->w, &c)) select_in_leaf(q, c);
+    }
+}
+
+static void select_below(question *q, spot b, size_t at) {
+    uint32_t found = q->bits[at];
+    if (!(found & q->bit)) { q->visited++; return; }
+    if (found == q->bit) { select_in_leaf(q, b); return; }
+    q->visited++;
+    if (inside(&q->w, &b)) {
+        uint32_t end = b.key + b.step;
+        for (; at < q->n && q->keys[at] < end; at++) if (q->bits[at] == q->bit) give(q, q->keys[at]);
+        return;
+    }
+    for (uint32_t digit = 1; digit <= 4; digit++) {
+        spot c = quadrant(&b, digit);
+        if (apart(&q->w, &c)) continue;
+        at = place_from(q->keys, q->n, at, c.key);
+        select_below(q, c, at);
+    }
+}
+
+int plain_exist(uint32_t m, const uint32_t *keys, const uint32_t *bits, size_t n, uint32_t row, uint32_t column, uint32_t height, uint32_t width,
+                uint32_t feature, size_t *visited) {
+    question q = { keys, bits, n, { row, column, height, width }, 1u << feature, NULL, 0, 0, 0 };
+    int yes = exist_below(&q, (spot){ 0, 0, 0, 1u << m, power(5, m) }, 0);
+    *visited = q.visited;
+    return yes;
+}
+
+uint32_t plain_report(uint32_t m, const uint32_t *keys, const uint32_t *bits, size_t n, uint32_t row, uint32_t column, uint32_t height, uint32_t width,
+                      size_t *visited) {
+    question q = { keys, bits, n, { row, column, height, width }, 0, NULL, 0, 0, 0 };
+    uint32_t found = report_below(&q, (spot){ 0, 0, 0, 1u << m, power(5, m) }, 0, 0);
+    *visited = q.visited;
     return found;
 }
 
+/* Nothing may be written where the answer does not fit: it is counted first unless the room holds every pixel of the window. */
 size_t plain_select(uint32_t m, const uint32_t *keys, const uint32_t *bits, size_t n, uint32_t row, uint32_t column, uint32_t height, uint32_t width,
-                    uint32_t feature, uint32_t *answer, size_t room) {
-    frame w = { row, column, height, width };
-    size_t count = 0;
-    for (int write = 0; write <= 1; write++) {
-        spot b = { 0, 0, 0, 1u << m, power(5, m) };
-        count = 0;
-        for (; find_largest(&w, &b, 1u << m); advance(&b, 1u << m)) {
-            size_t at = plain_place(keys, n, b.key);
-            if (one_bit(bits[at])) {
-                if (bits[at] == 1u << feature) { if (write) answer[count] = b.key; count++; }
-            } else {
-                uint32_t end = b.key + b.step;
-                for (; at < n && keys[at] < end; at++) if (bits[at] == 1u << feature) { if (write) answer[count] = keys[at]; count++; }
-            }
-        }
-        if (count > room) return count;
+                    uint32_t feature, uint32_t *answer, size_t room, size_t *visited) {
+    question q = { keys, bits, n, { row, column, height, width }, 1u << feature, answer, 0, 0, 0 };
+    spot root = { 0, 0, 0, 1u << m, power(5, m) };
+    if (room < (size_t)height * width) {
+        select_below(&q, root, 0);
+        if (q.count > room) return q.count;
     }
+    q.room = room, q.count = 0, q.visited = 0;
+    select_below(&q, root, 0);
+    *visited = q.visited;
+    return q.count;
+}
+
+static size_t blocks_below(const frame *w, spot b) {
+    if (apart(w, &b)) return 0;
+    if (inside(w, &b)) return 1;
+    size_t count = 0;
+    for (uint32_t digit = 1; digit <= 4; digit++) count += blocks_below(w, quadrant(&b, digit));
     return count;
 }
 
 size_t plain_blocks(uint32_t m, uint32_t row, uint32_t column, uint32_t height, uint32_t width) {
     frame w = { row, column, height, width };
-    spot b = { 0, 0, 0, 1u << m, power(5, m) };
-    size_t count = 0;
-    for (; find_largest(&w, &b, 1u << m); advance(&b, 1u << m)) count++;
-    return count;
+    return blocks_below(&w, (spot){ 0, 0, 0, 1u << m, power(5, m) });
 }
 
 uint32_t plain_scan(uint32_t m, const uint8_t *raster, uint32_t row, uint32_t column, uint32_t height, uint32_t width) {
@@ -296,11 +369,11 @@ size_t plain_take_back(uint32_t m, uint32_t s, uint32_t *keys, uint32_t *bits, s
 size_t plain_findings(uint32_t m, const uint32_t *keys, const uint32_t *bits, size_t n, const hlq_rule *rules, size_t rules_len,
                       const uint32_t *waiver_ids, const uint32_t *waiver_keys, size_t waivers, uint32_t *ids, uint32_t *found, size_t *hidden) {
     static uint32_t given[1 << 20];
-    size_t live = 0, w = 0;
+    size_t live = 0, w = 0, visited;
     *hidden = 0;
     for (size_t i = 0; i < rules_len; i++) {
         const hlq_rule *r = rules + i;
-        size_t count = plain_select(m, keys, bits, n, r->row, r->column, r->height, r->width, r->feature, given, 1 << 20);
+        size_t count = plain_select(m, keys, bits, n, r->row, r->column, r->height, r->width, r->feature, given, 1 << 20, &visited);
         for (size_t j = 0; j < count; j++) {
             while (w < waivers && (waiver_ids[w] < r->id || (waiver_ids[w] == r->id && waiver_keys[w] < given[j]))) w++;
             if (w < waivers && waiver_ids[w] == r->id && waiver_keys[w] == given[j]) (*hidden)++;

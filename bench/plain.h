@@ -9,11 +9,13 @@ size_t plain_build(uint32_t m, uint32_t s, const uint8_t *raster, uint32_t *keys
 int plain_is_list(uint32_t m, uint32_t s, const uint32_t *keys, const uint32_t *bits, size_t n);
 void plain_raster(uint32_t m, const uint32_t *bits, uint8_t *raster);
 size_t plain_place(const uint32_t *keys, size_t n, uint32_t key);
-/* The walk over the window's largest blocks: yes, the bits, or the keys that select gives. */
-int plain_exist(uint32_t m, const uint32_t *keys, const uint32_t *bits, size_t n, uint32_t row, uint32_t column, uint32_t height, uint32_t width, uint32_t feature);
-uint32_t plain_report(uint32_t m, const uint32_t *keys, const uint32_t *bits, size_t n, uint32_t row, uint32_t column, uint32_t height, uint32_t width);
+/* List and window gone down together: yes, the bits, or the keys that select gives; and through the pointer the number of blocks visited. */
+int plain_exist(uint32_t m, const uint32_t *keys, const uint32_t *bits, size_t n, uint32_t row, uint32_t column, uint32_t height, uint32_t width,
+                uint32_t feature, size_t *visited);
+uint32_t plain_report(uint32_t m, const uint32_t *keys, const uint32_t *bits, size_t n, uint32_t row, uint32_t column, uint32_t height, uint32_t width,
+                      size_t *visited);
 size_t plain_select(uint32_t m, const uint32_t *keys, const uint32_t *bits, size_t n, uint32_t row, uint32_t column, uint32_t height, uint32_t width,
-                    uint32_t feature, uint32_t *answer, size_t room);
+                    uint32_t feature, uint32_t *answer, size_t room, size_t *visited);
 /* How many largest blocks a window has. */
 size_t plain_blocks(uint32_t m, uint32_t row, uint32_t column, uint32_t height, uint32_t width);
 /* Paint and take back with one memmove of each slice; they give the new n, and the used count through the pointer. */
