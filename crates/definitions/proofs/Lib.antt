@@ -1,6 +1,7 @@
 mod Vectors
 mod MapA
 mod Orders
+mod Corners
 pub mod Within
 pub mod Pixels
 pub mod Features

@@ -1,0 +1,121 @@
+-- Document 01's limits and corner cases: its own examples of keys, the ends of the ranges of m and s, each fault of a log and of a file alone, a paint
+-- that changes no pixel, and findings with nothing to find or no room. One table under one claim, proved by computation.
+use Prim.Native.Nat.{ℕ}
+use mathlib.Core.Path.{refl}
+use mathlib.Core.Bool.{Bool, cond}
+use mathlib.Core.List.{List, [], _∷_, _++_}
+use Rattle.keys.specs.Key.{validKey, digitsOf, digitsThenZeros, onlyZeros, levelOf, digitsBeforeZero, heightOf, rootKey, childKey, parentKey}
+use Rattle.keys.specs.Block.{rowOf, columnOf, sideOf, inBlock, pixelKey, contains, isAncestor}
+use Rattle.definitions.specs.Picture.{everyPixel, oneFeature, featuresBelow}
+use Rattle.definitions.specs.Bits.{bitsOf, unionOfFour, twosIn, featureOf}
+use Rattle.definitions.specs.List.{listOf}
+use Rattle.definitions.specs.Read.{paired, valueAt, pictureOf, sameRecords, isListOfBlock, isList}
+use Rattle.definitions.specs.Refusal.{first, badSettings, badLength, badPixel}
+use Rattle.definitions.specs.Window.{isWindow, inWindow, isGiven, selectFrom, selectIn}
+use Rattle.definitions.specs.Edit.{put, paintIn, contentOf}
+use Rattle.definitions.specs.Log.{closed, entryOf, lastRecord, lastKey, lastCount, beforeLast, lastContent, isContent, lastIsEntry, dividesIn, isSound, noLog}
+use Rattle.definitions.specs.Rules.{findingsOf, allFindings, waiversOf, isHidden, liveOf, hiddenCount, isRule, allRules, idsAscend, badRules, findingsAscend, isRuleId, allWaivers, badWaivers}
+use Rattle.definitions.specs.File.{bytesOf, numberAfter, numberOf, bytesOfRecords, headOf, fileOf, numberAt, readRecords, recordsInFile, sameBytes, wrongMark}
+use Rattle.definitions.specs.Calls.Build.{buildRefusal, build, buildKeys, buildBits}
+use Rattle.definitions.specs.Calls.Paint.{painted, gained, paintRefusal, paint, paintKeys}
+use Rattle.definitions.specs.Calls.Findings.{liveIn, hiddenIn, findingsRefusal, findings}
+use Rattle.definitions.specs.Calls.Load.{loadRefusal}
+use Rattle.definitions.specs.declared.Rule.{Rule}
+use Rattle.definitions.specs.declared.Found.{Found}
+use Rattle.definitions.proofs.Vectors.{Row, row, Holds, key, slots, window, of-counted, of-edited, mapA, keysA, bitsA, unwritten}
+
+-- a yes or no, as 1 or 0
+abbrev truth : Bool → ℕ
+truth b = cond b 1 0
+
+abbrev says : Bool → ℕ → Row
+says computed said = row (truth computed ∷ []) (said ∷ [])
+
+abbrev gives : ℕ → ℕ → Row
+gives computed said = row (computed ∷ []) (said ∷ [])
+
+-- a file of eleven bytes: mark, version, m, s and n
+abbrev head : ℕ → ℕ → ℕ → ℕ → List ℕ → List ℕ
+head high low m s n = 0x48 ∷ 0x4C ∷ 0x51 ∷ high ∷ low ∷ m ∷ s ∷ n
+
+abbrev rule : ℕ → Rule
+rule id = record { id = id; row = 0; column = 0; height = 4; width = 4; feature = 2 }
+
+table : List Row
+table =
+    -- keys: pixel (row 1, column 2) at m = 2 is 13; the largest at m = 10 is 9,765,624; at m = 0 the only one is 0
+    row (pixelKey 2 1 2 ∷ digitsOf 2 13) (13 ∷ 2 ∷ 3 ∷ [])
+    ∷ says (validKey 2 13) 1
+    ∷ says (validKey 10 9765624) 1
+    ∷ says (validKey 10 9765625) 0
+    ∷ says (validKey 0 0) 1
+    ∷ says (validKey 0 1) 0
+    -- a zero before another digit is no key: 03 at m = 2
+    ∷ says (validKey 2 (key (0 ∷ 3 ∷ []))) 0
+    -- the block 20 at m = 2: level 1, two rows and columns from row 0, column 2 on; its parent is the root, its fourth quadrant 24
+    ∷ row (levelOf 2 10 ∷ rowOf 2 10 ∷ columnOf 2 10 ∷ sideOf 2 10 ∷ parentKey 2 10 ∷ childKey 10 0 4 ∷ []) (1 ∷ 0 ∷ 2 ∷ 2 ∷ rootKey ∷ 14 ∷ [])
+    -- no block is its own ancestor; a block that contains another is
+    ∷ says (isAncestor 2 10 10) 0
+    ∷ says (isAncestor 2 10 14) 1
+    ∷ says (isAncestor 2 14 10) 0
+    -- settings: m up to 10, s from 1 to 16
+    ∷ says (badSettings 10 16) 0
+    ∷ says (badSettings 0 1) 0
+    ∷ says (badSettings 11 16) 1
+    ∷ says (badSettings 10 17) 1
+    ∷ says (badSettings 10 0) 1
+    -- build through its whole buffers: nothing is written past the ninth place, and nothing at all where one slice is too short
+    ∷ row (of-counted (build 2 3 mapA (unwritten 11) (unwritten 10))) (0 ∷ 9 ∷ [])
+    ∷ row (buildKeys 2 3 mapA (unwritten 11) (unwritten 10)) (keysA 0 ++ unwritten 2)
+    ∷ row (buildBits 2 3 mapA (unwritten 11) (unwritten 10)) (bitsA 0 ++ unwritten 1)
+    ∷ row (of-counted (build 2 3 mapA (unwritten 11) (unwritten 8))) (9 ∷ 0 ∷ [])
+    ∷ row (buildKeys 2 3 mapA (unwritten 11) (unwritten 8)) (unwritten 11)
+    -- a log: no entry is sound; then one fault at a time
+    ∷ says (noLog 1 2 [] [] 0) 0
+    ∷ says (noLog 1 2 (4 ∷ 4 ∷ []) (1 ∷ 1 ∷ []) 2) 0
+    -- used exceeds the shorter slice
+    ∷ says (noLog 1 2 (4 ∷ 4 ∷ []) (1 ∷ []) 2) 1
+    -- a count of 0, and one larger than the records before it
+    ∷ says (noLog 1 2 (4 ∷ 4 ∷ []) (1 ∷ 0 ∷ []) 2) 1
+    ∷ says (noLog 1 2 (4 ∷ 4 ∷ []) (1 ∷ 2 ∷ []) 2) 1
+    -- a closing key that is not valid
+    ∷ says (noLog 1 2 (5 ∷ 5 ∷ []) (1 ∷ 1 ∷ []) 2) 1
+    -- a content of another block, with a slot of s or more, with no slot, and a node without its children
+    ∷ says (noLog 1 2 (3 ∷ 4 ∷ []) (1 ∷ 1 ∷ []) 2) 1
+    ∷ says (noLog 1 2 (4 ∷ 4 ∷ []) (4 ∷ 1 ∷ []) 2) 1
+    ∷ says (noLog 1 2 (4 ∷ 4 ∷ []) (0 ∷ 1 ∷ []) 2) 1
+    ∷ says (noLog 1 2 (0 ∷ 0 ∷ []) (3 ∷ 1 ∷ []) 2) 1
+    -- a paint that changes no pixel is logged, and the list stays in exact room; with no room in the log it is refused like any other
+    ∷ row (of-edited (paint 2 3 (keysA 0) (bitsA 0) 9 (unwritten 2) (unwritten 2) 0 (key (1 ∷ 1 ∷ [])) 0)) (0 ∷ 9 ∷ 2 ∷ [])
+    ∷ row (paintKeys 2 3 (keysA 0) (bitsA 0) 9 (unwritten 2) (unwritten 2) 0 (key (1 ∷ 1 ∷ [])) 0) (keysA 0)
+    ∷ row (of-edited (paint 2 3 (keysA 0) (bitsA 0) 9 (unwritten 1) (unwritten 2) 0 (key (1 ∷ 1 ∷ [])) 0)) (10 ∷ 0 ∷ 0 ∷ [])
+    -- findings: no rules and no waivers; rules without waivers; with 12 the places of the live ones and hidden 0
+    ∷ row (of-found (findings 2 3 (keysA 0) (bitsA 0) 9 [] [] [] [] [])) (0 ∷ 0 ∷ 0 ∷ [])
+    ∷ row (of-found (findings 2 3 (keysA 0) (bitsA 0) 9 (rule 7 ∷ []) [] [] (unwritten 2) (unwritten 2))) (0 ∷ 2 ∷ 0 ∷ [])
+    ∷ row (of-found (findings 2 3 (keysA 0) (bitsA 0) 9 (rule 7 ∷ rule 8 ∷ []) (7 ∷ []) (key (2 ∷ 4 ∷ []) ∷ []) (unwritten 2) (unwritten 9))) (12 ∷ 3 ∷ 0 ∷ [])
+    -- files of eleven bytes: n = 0 is no list, version 257 is not 1, and n = 2^32 - 1 does not wrap
+    ∷ gives (loadRefusal (head 0 1 0 1 (0 ∷ 0 ∷ 0 ∷ 0 ∷ [])) [] []) 4
+    ∷ gives (loadRefusal (head 1 1 0 1 (0 ∷ 0 ∷ 0 ∷ 0 ∷ [])) [] []) 17
+    ∷ gives (loadRefusal (head 0 1 0 1 (255 ∷ 255 ∷ 255 ∷ 255 ∷ [])) [] []) 15
+    ∷ gives (loadRefusal (head 0 1 11 1 (0 ∷ 0 ∷ 0 ∷ 0 ∷ [])) [] []) 1
+    ∷ []
+  where
+    of-found : Found → List ℕ
+    of-found r = r .refusal ∷ r .live ∷ r .hidden ∷ []
+
+claim : Holds table
+unfolding
+    table
+    validKey digitsOf digitsThenZeros onlyZeros levelOf digitsBeforeZero heightOf parentKey rowOf columnOf sideOf inBlock pixelKey contains isAncestor
+    everyPixel oneFeature featuresBelow bitsOf unionOfFour twosIn featureOf listOf
+    paired valueAt pictureOf sameRecords isListOfBlock isList
+    first badSettings badLength badPixel
+    isWindow inWindow isGiven selectFrom selectIn
+    put paintIn contentOf
+    closed entryOf lastRecord lastKey lastCount beforeLast lastContent isContent lastIsEntry dividesIn isSound noLog
+    findingsOf allFindings waiversOf isHidden liveOf hiddenCount isRule allRules idsAscend badRules findingsAscend isRuleId allWaivers badWaivers
+    bytesOf numberAfter numberOf bytesOfRecords headOf fileOf numberAt readRecords recordsInFile sameBytes wrongMark
+    buildRefusal build buildKeys buildBits
+    painted gained paintRefusal paint paintKeys
+    liveIn hiddenIn findingsRefusal findings loadRefusal
+claim = refl
