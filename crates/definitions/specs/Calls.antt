@@ -3,6 +3,8 @@ pub mod Build
 pub mod Raster
 pub mod Standing
 pub mod Part
+pub mod KeyAt
+pub mod BlockOf
 pub mod Exist
 pub mod Report
 pub mod Select

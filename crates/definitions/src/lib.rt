@@ -45,6 +45,15 @@ pub struct Stands {
 }
 
 #[repr(C)]
+pub struct Block {
+    pub refusal: u64,
+    pub row: u64,
+    pub column: u64,
+    pub side: u64,
+    pub level: u64,
+}
+
+#[repr(C)]
 pub struct Span {
     pub start: u64,
     pub length: u64,

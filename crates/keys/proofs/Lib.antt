@@ -10,3 +10,4 @@ pub mod Pixel
 pub mod InBlock
 pub mod Ancestor
 pub mod ParentKey
+pub mod Around

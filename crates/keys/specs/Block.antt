@@ -47,6 +47,10 @@ pixelKey (suc k) row column =
     (cond (ltb column (2 ^ k)) (1 * 5 ^ k + pixelKey k row column) (2 * 5 ^ k + pixelKey k row (column - 2 ^ k)))
     (cond (ltb column (2 ^ k)) (3 * 5 ^ k + pixelKey k (row - 2 ^ k) column) (4 * 5 ^ k + pixelKey k (row - 2 ^ k) (column - 2 ^ k)))
 
+-- the key of the block of a level around a pixel: the pixel's digits down to that level, and then zeros
+unfoldable pub keyAround : (m level row column : ℕ) → ℕ
+keyAround m level row column = pixelKey m row column / 5 ^ (m - level) * 5 ^ (m - level)
+
 -- every row and column of b is one of a
 unfoldable pub contains : ℕ → ℕ → ℕ → Bool
 contains m a b =

@@ -4,7 +4,7 @@ ghost use mathlib.Core.Path.{_≡_};
 ghost use mathlib.Core.Bool.{true};
 ghost use Prim.Native.Nat.{_≤_, _<_, _^_};
 ghost use Rattle.keys.specs.Key.{rootKey, validKey, levelOf, heightOf, childKey, parentKey};
-ghost use Rattle.keys.specs.Block.{rowOf, columnOf, sideOf, pixelKey, isAncestor};
+ghost use Rattle.keys.specs.Block.{rowOf, columnOf, sideOf, pixelKey, keyAround, isAncestor};
 
 pub mod power;
 pub mod quadrant;
@@ -156,6 +156,19 @@ impl Key {
             i += 1;
         }
         Key { number }
+    }
+
+    // The block of a level around a pixel: the digits below that level become zeros.
+    pub fn around(m: u32, level: u32, row: u32, column: u32) -> Key
+        requires { ⌜ (m ≤ 10) × (level ≤ m) ⌝ }
+        ensures { λ r. ⌜ r .number ≡ keyAround m level row column ⌝ }
+    {
+        let pixel = Key::of_pixel(m, row, column);
+        let number = pixel.number;
+        let step = power::power_of_five(m - level);
+        Key {
+            number: number / step * step,
+        }
     }
 
     // A different, larger block that contains the other.

@@ -13,6 +13,10 @@ use denote.Triple.End.{Kepts, Fins}
 use denote.Triple.Clauses.{Ended, Lasts, AtExit, atExit}
 use borrow.Fn.Claims.{AllOf, all-left, all-right}
 use borrow.Fn.Read.{Read, r-last, all-models, no-know}
+use Rattle.prowcurl.proofs.blocks.hlq_key_at as key-at
+use Rattle.prowcurl.proofs.blocks.hlq_key_at.Reads as key-at-reads
+use Rattle.prowcurl.proofs.blocks.hlq_block_of as block-of
+use Rattle.prowcurl.proofs.blocks.hlq_block_of.Reads as block-of-reads
 use Rattle.prowcurl.proofs.lists.hlq_build as build
 use Rattle.prowcurl.proofs.lists.hlq_build.Reads as build-reads
 use Rattle.prowcurl.proofs.lists.hlq_raster as raster
@@ -106,6 +110,13 @@ two kept kept′ = (one (kept .0) (kept′ .0), one (kept .1) (kept′ .1))
 three : {A B C : Type 0} {a a′ p : A} {b b′ q : B} {c c′ r : C} → (a ≡ p) × ((b ≡ q) × (c ≡ r)) → (a′ ≡ p) × ((b′ ≡ q) × (c′ ≡ r))
     → (a ≡ a′) × ((b ≡ b′) × (c ≡ c′))
 three kept kept′ = (one (kept .0) (kept′ .0), two (kept .1) (kept′ .1))
+
+-- blocks
+pub key-at-one : OneAnswer key-at.ended key-at-reads.Learnt
+key-at-one = by-equations (λ x. one (x .kept) (x .kept′))
+
+pub block-of-one : OneAnswer block-of.ended block-of-reads.Learnt
+block-of-one = by-equations (λ x. one (x .kept) (x .kept′))
 
 -- lists
 pub build-one : OneAnswer build.ended build-reads.Learnt

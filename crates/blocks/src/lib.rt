@@ -1,0 +1,78 @@
+// The two calls that ask no list: the key of the block of a level around a pixel, and the square of a key. They refuse by their tables, and require
+// nothing.
+ghost use mathlib.Core.Path.{_≡_};
+ghost use Rattle.definitions.specs.Calls.KeyAt.{keyAtRefusal, keyAt};
+ghost use Rattle.definitions.specs.Calls.BlockOf.{blockOfRefusal, blockOf};
+use definitions::Block;
+use definitions::Counted;
+use keys::Key;
+use keys::power;
+
+// Refusals 1, 6 and 8, or 0.
+fn key_at_refusal(m: u32, row: u32, column: u32, level: u32) -> u64
+    ensures { λ r. ⌜ r ≡ keyAtRefusal m row column level ⌝ }
+{
+    if Key::DEEPEST_LEVEL < m {
+        return 1;
+    }
+    let side = power::power_of_two(m);
+    if side <= row {
+        return 6;
+    }
+    if side <= column {
+        return 6;
+    }
+    if m < level { 8 } else { 0 }
+}
+
+// The key of the block of a level around a pixel: a walker's tap.
+pub fn key_at(m: u32, row: u32, column: u32, level: u32) -> Counted
+    ensures { λ r. ⌜ r ≡ keyAt m row column level ⌝ }
+{
+    let refusal = key_at_refusal(m, row, column, level);
+    if refusal != 0 {
+        return Counted { refusal, count: 0 };
+    }
+    let block = Key::around(m, level, row, column);
+    Counted {
+        refusal: 0,
+        count: block.number as u64,
+    }
+}
+
+// Refusals 1 and 8, or 0.
+fn block_of_refusal(m: u32, key: u32) -> u64
+    ensures { λ r. ⌜ r ≡ blockOfRefusal m key ⌝ }
+{
+    if Key::DEEPEST_LEVEL < m {
+        return 1;
+    }
+    let block = Key { number: key };
+    if block.is_valid(m) { 0 } else { 8 }
+}
+
+// The square of a key: its first row and column, its side and its level.
+pub fn block_of(m: u32, key: u32) -> Block
+    ensures { λ r. ⌜ r ≡ blockOf m key ⌝ }
+{
+    let refusal = block_of_refusal(m, key);
+    if refusal != 0 {
+        return Block {
+            refusal,
+            row: 0,
+            column: 0,
+            side: 0,
+            level: 0,
+        };
+    }
+    let block = Key { number: key };
+    let square = block.block(m);
+    let level = block.level(m);
+    Block {
+        refusal: 0,
+        row: square.row as u64,
+        column: square.column as u64,
+        side: square.side as u64,
+        level: level as u64,
+    }
+}
