@@ -46,7 +46,10 @@ impl Key {
         }
     }
 
-    // How many digits stand before the first zero, found digit by digit from the left.
+    // How many digits stand before the first zero, read from the left as on paper. The key 24 of Figure 2 of document 000 is the number 14, at m = 2:
+    //     14 / 5 is 2 and 4 is left:  the first digit is 2, so the level is at least 1;
+    //      4 / 1 is 4 and 0 is left:  the second digit is 4, so the level is at least 2;
+    //      no digit is left:          the level is 2. (Of 20, the number 10, the second digit is 0, and the level is 1.)
     pub fn level(self, m: u32) -> u32
         requires { ⌜ m ≤ 10 ⌝ }
         ensures { λ r. ⌜ r ≡ levelOf m (self .number) ⌝ }
@@ -56,7 +59,8 @@ impl Key {
         let mut level = 0;
         while level < m {
             step = step / 5;
-            if rest < step {
+            let digit = rest / step;
+            if digit == 0 {
                 return level;
             }
             rest = rest % step;

@@ -1,10 +1,11 @@
 -- `Key::level` meets its contract: after each turn the level is the digits passed and those that the rest has before its first zero.
-use Prim.Native.Nat.{ℕ, _+_, _-_, _/_, _%_, _^_, _≤_, _<_}
+use Prim.Native.Nat.{ℕ, _+_, _-_, _*_, _/_, _%_, _^_, _≤_, _<_}
 use mathlib.Core.Path.{_≡_, sym, ap, _∙_}
 use native.Mathlib.Omega.{arith}
-use native.Mathlib.Nat.{add-zero, zero-add}
+use native.Mathlib.Nat.{add-zero, zero-add, div-lt-iff-lt-mul, div-eq-of-lt}
 use lib.Dec.{lit<}
 use Rattle.keys.specs.Key.{digitsOf, digitsBeforeZero, levelOf}
+use Rattle.keys.proofs.Cases.{split}
 use Rattle.keys.proofs.Powers.{five-pos}
 use Rattle.keys.proofs.Descent.{one-less, power-down, level-stops, level-goes}
 use Rattle.keys.proofs.Key.level.Statement.{statement}
@@ -41,15 +42,18 @@ module _ {m whole rest step level : ℕ} (p : Passed m whole rest step level) (h
   nonzero : 0 < step / 5
   nonzero = let q = down in let z = five-pos (m - (level + 1)) in omega arith
 
-  stops : rest < step / 5 → level ≡ before m whole
-  stops small =
+  -- the digit is 0 exactly when the rest is below the step
+  stops : rest / (step / 5) ≡ 0 → level ≡ before m whole
+  stops none =
       let q = down in
+      let below : rest < 1 * (step / 5) = div-lt-iff-lt-mul nonzero .0 (omega arith) in
       let z : rest < 5 ^ (m - (level + 1)) = omega arith in
       sym (p .found ∙ ap (λ (k : ℕ). level + before k rest) (one-less m level h) ∙ ap (λ (x : ℕ). level + x) (level-stops _ rest z) ∙ add-zero level)
 
-  goes : step / 5 ≤ rest → Passed m whole (rest % (step / 5)) (step / 5) (level + 1)
-  goes large =
+  goes : (rest / (step / 5) ≡ 0 → ⊥) → Passed m whole (rest % (step / 5)) (step / 5) (level + 1)
+  goes some =
       let q = down in
+      let large : step / 5 ≤ rest = split rest (step / 5) (λ small. absurd (some (div-eq-of-lt small))) (λ h. h) in
       let z : 5 ^ (m - (level + 1)) ≤ rest = omega arith in
       let e = ap (λ (k : ℕ). before k rest) (one-less m level h) ∙ level-goes _ rest z in
       let d : before (m - (level + 1)) (rest % 5 ^ (m - (level + 1))) ≡ before (m - (level + 1)) (rest % (step / 5)) =
@@ -68,6 +72,9 @@ power-of-five-requires c κs = omega (arith, c .pre)
 
 loop-holds : tie.Need-loop-holds Inv-loop μ-loop
 loop-holds c = begins _ _ _ (c .power-of-five .ensures)
+
+div-digit : tie.Need-div-digit Inv-loop μ-loop
+div-digit c = nonzero (c .before .loop .inv) (c .loop-test .taken)
 
 returns : tie.Need-returns Inv-loop μ-loop
 unfolding levelOf
@@ -91,4 +98,4 @@ returns-2 c = ends (c .before .loop .inv) (c .loop-test .left)
 
 pub level-spec : {M : Type 1} → statement M
 level-spec =
-    tie.close (tie.spec Inv-loop μ-loop power-of-five-requires loop-holds returns rem-rest add-level loop-less loop-again returns-2)
+    tie.close (tie.spec Inv-loop μ-loop power-of-five-requires loop-holds div-digit returns rem-rest add-level loop-less loop-again returns-2)
