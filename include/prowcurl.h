@@ -28,6 +28,14 @@
  * The field `refusal` is HLQ_ACCEPTED, or the first reason that applies, in the order that stands
  * at the call. A refused call changes no lent buffer, and every other field of its result is 0,
  * save with HLQ_ANSWER_ROOM, where the field named at the result holds the number of places needed.
+ *
+ * WHAT A CALL NEEDS BESIDE ITS BUFFERS
+ *
+ * Stack: at most HLQ_STACK_BYTES, its arguments included, whatever the map. (Measured with every
+ * call at m = HLQ_DEEPEST_M by tests/c/test_stack.c, and rounded up.)
+ * Threads: calls may run in parallel, as long as none writes a buffer that another one uses. The
+ * archive has no data of its own.
+ * Symbols: the archive wants memset, and nothing else.
  */
 #ifndef PROWCURL_H
 #define PROWCURL_H
@@ -50,6 +58,9 @@ extern "C" {
 
 /* The bytes of the file of a list of n records. */
 #define HLQ_FILE_BYTES(n) (11 + 6 * (size_t)(n))
+
+/* The stack that a call needs at most, in bytes. */
+#define HLQ_STACK_BYTES 8192
 
 /* Where a block stands: the `kind` of hlq_stands. */
 enum {
