@@ -2,7 +2,11 @@
 # the Rattle kit, Debian's packages and git; what else they need they install. CC, CFLAGS and LDFLAGS are heeded, by
 # `make install` PREFIX and DESTDIR too.
 
-.PHONY: lib run test bench install kit clean
+.PHONY: lib run test bench shared install kit clean
+
+# The interface's number is the shared library's version.
+interface := $(shell sed -n 's/^.define HLQ_INTERFACE //p' include/prowcurl.h)
+soname := libprowcurl.so.$(interface)
 
 # target/staticlib/libprowcurl.a and target/include/prowcurl.h
 lib:
@@ -29,13 +33,21 @@ bench: lib
 	@tools/compile-c target/c/bench bench/bench.c bench/plain.c
 	@tools/run-c target/c/bench
 
-# Header, archive and a pkg-config file below PREFIX; DESTDIR stands before it where the files are only gathered.
+# The archive's code as a shared library.
+shared: lib
+	@tools/link-shared target/shared/$(soname)
+
+# Header, archive, shared library and a pkg-config file below PREFIX; DESTDIR stands before it where the files are only
+# gathered.
 PREFIX ?= /usr/local
-install: lib
+install: shared
 	install -d $(DESTDIR)$(PREFIX)/include $(DESTDIR)$(PREFIX)/lib/pkgconfig
 	install -m 644 include/prowcurl.h $(DESTDIR)$(PREFIX)/include/
 	install -m 644 target/staticlib/libprowcurl.a $(DESTDIR)$(PREFIX)/lib/
-	sed 's|@PREFIX@|$(PREFIX)|' prowcurl.pc.in >$(DESTDIR)$(PREFIX)/lib/pkgconfig/prowcurl.pc
+	install -m 755 target/shared/$(soname) $(DESTDIR)$(PREFIX)/lib/
+	ln -sf $(soname) $(DESTDIR)$(PREFIX)/lib/libprowcurl.so
+	sed -e 's|@PREFIX@|$(PREFIX)|' -e 's|@INTERFACE@|$(interface)|' prowcurl.pc.in \
+	    >$(DESTDIR)$(PREFIX)/lib/pkgconfig/prowcurl.pc
 
 # Says when another kit is found than the one that these proofs were made with, and goes on.
 kit:
