@@ -7,7 +7,8 @@
   tests/boundary.py --archive A   the header against the archive: it defines the declared calls and no other hlq_ name,
                                   wants memset alone, and has no data that two calls could share
   tests/boundary.py --shared S    the header against the shared library: it exports the declared calls alone
-  tests/boundary.py --self-test   changes one side or the other in many ways; each change must be found
+  tests/boundary.py --self-test   makes every small change of one side alone: a name, a type, an order, an item more or
+                                  less, in every call, struct, limit and table; each must be found
 
 A slice of Rattle is a pointer and a length in C: x: &[u32] is const uint32_t *x, size_t x_len.
 """
@@ -16,6 +17,7 @@ import re
 import subprocess
 import sys
 from collections import namedtuple
+from functools import lru_cache
 from pathlib import Path
 
 ROOT = Path(__file__).resolve().parent.parent
@@ -23,7 +25,6 @@ HEADER = ROOT / "include" / "prowcurl.h"
 NUMBERS = {"u8": "uint8_t", "u16": "uint16_t", "u32": "uint32_t", "u64": "uint64_t", "usize": "size_t",
            "i8": "int8_t", "i16": "int16_t", "i32": "int32_t", "i64": "int64_t"}
 LIMITS = {"HLQ_DEEPEST_M": "DEEPEST_LEVEL", "HLQ_MOST_SLOTS": "SLOT_LIMIT"}
-WANTED = {"memset"}
 
 # calls: name to (result, [(type, name)]); structs: name to [(type, field)]; limits: name to number;
 # refusals: call to its refusal numbers in order
@@ -156,9 +157,13 @@ def differences(header, sources):
     return found
 
 
+def joined(folder):
+    return "\n".join(path.read_text() for path in sorted(folder.rglob("*.rt")))
+
+
+@lru_cache(maxsize=None)
 def texts():
     crates = ROOT / "crates"
-    joined = lambda folder: "\n".join(path.read_text() for path in sorted(folder.rglob("*.rt")))
     tables = {path.stem: path.read_text() for path in sorted((crates / "definitions/specs/Calls").glob("*.antt"))}
     return {"header": HEADER.read_text(), "prowcurl": joined(crates / "prowcurl/src"),
             "definitions": joined(crates / "definitions/src"), "keys": joined(crates / "keys/src"), "tables": tables}
@@ -183,8 +188,10 @@ def check_sources():
 
 
 def tool(name, *arguments):
-    return subprocess.run([os.environ.get("BINUTILS", "") + name, *arguments], check=True, capture_output=True,
-                          text=True).stdout
+    done = subprocess.run([os.environ.get("BINUTILS", "") + name, *arguments], capture_output=True, text=True)
+    if done.returncode != 0:
+        raise Unreadable(done.stderr.strip())
+    return done.stdout
 
 
 def check_archive(archive):
@@ -196,8 +203,9 @@ def check_archive(archive):
     exported = {name for name in defined if name.startswith("hlq_")}
     found += [f"{name}: declared, and not in the archive" for name in sorted(declared - exported)]
     found += [f"{name}: in the archive, and not declared" for name in sorted(exported - declared)]
-    if wanted - defined != WANTED:
-        found.append(f"the archive wants {sorted(wanted - defined)}, and the header says {sorted(WANTED)}")
+    said = re.search(r"the archive wants (\w+), and nothing else", HEADER.read_text())
+    if not said or wanted - defined != {said.group(1)}:
+        found.append(f"the archive wants {sorted(wanted - defined)}, and the header says another thing")
     for line in tool("size", archive).splitlines()[1:]:
         data, bss = line.split()[1:3]
         if (data, bss) != ("0", "0"):
@@ -217,61 +225,102 @@ def check_shared(library):
     return declared == exported
 
 
-# One change each, on one side alone: where, what stands there, what is put in its place.
-CHANGES = [
-    ("header", "uint32_t key, uint32_t feature", "uint32_t block, uint32_t feature"),
-    ("header", "uint32_t row, uint32_t column", "uint32_t column, uint32_t row"),
-    ("header", "size_t used", "uint64_t used"),
-    ("header", "const uint8_t *file", "uint8_t *file"),
-    ("header", "hlq_done hlq_raster", "hlq_counted hlq_raster"),
-    ("header", "uint64_t refusal, yes;", "uint64_t yes, refusal;"),
-    ("header", "uint64_t refusal, n, used;", "uint64_t refusal, n, used, in_force;"),
-    ("header", "uint32_t id, row", "uint64_t id; uint32_t row"),
-    ("header", "uint64_t hlq_empty(void);", ""),
-    ("header", "uint64_t hlq_empty(void);", "uint64_t hlq_empty(void); uint64_t hlq_full(void);"),
-    ("header", "#define HLQ_DEEPEST_M 10", "#define HLQ_DEEPEST_M 11"),
-    ("header", "HLQ_KEY, HLQ_FEATURE, HLQ_LOG_ROOM", "HLQ_FEATURE, HLQ_KEY, HLQ_LOG_ROOM"),
-    ("header", "HLQ_PIXEL = 3", "HLQ_PIXEL = 4"),
-    ("prowcurl", "waiver_ids: &[u32]", "waived_ids: &[u32]"),
-    ("prowcurl", "key: u32,\n    feature: u32", "feature: u32,\n    key: u32"),
-    ("prowcurl", "n: usize", "n: u32"),
-    ("prowcurl", "raster: &mut [u8]", "raster: &[u8]"),
-    ("prowcurl", "answer: &mut [u32]", "answer: &mut [u64]"),
-    ("prowcurl", "-> Loaded", "-> Found"),
-    ("prowcurl", 'pub extern "C" fn hlq_part', "pub fn hlq_part"),
-    ("prowcurl", 'pub extern "C" fn hlq_store', 'pub extern "C" fn hlq_keep'),
-    ("definitions", "pub live: u64,\n    pub hidden: u64,", "pub hidden: u64,\n    pub live: u64,"),
-    ("definitions", "pub count: u64,", "pub count: u32,"),
-    ("definitions", "pub kind: u64,", "pub kind: u64,\n    pub level: u64,"),
-    ("definitions", "#[repr(C)]\npub struct Span", "pub struct Span"),
-    ("keys", "SLOT_LIMIT: u32 = 16", "SLOT_LIMIT: u32 = 32"),
-    ("tables", "gives 8\n    ∷ badFeature s f gives 7", "gives 7\n    ∷ badFeature s f gives 8"),
-]
-
-
+# The self-test: every small change of one side that can be made by rule, one at a time.
 def self_test():
-    missed = 0
     if compare(texts())[2]:
         print("header and sources differ as they stand")
-        missed += 1
-    for where, old, new in CHANGES:
-        t = texts()
-        if where == "tables":
-            changed = [name for name, table in t["tables"].items() if old in table]
-            for name in changed:
-                t["tables"][name] = t["tables"][name].replace(old, new, 1)
-        else:
-            changed = old in t[where]
-            t[where] = t[where].replace(old, new, 1)
+        return False
+    made, missed = 0, []
+    for where, text in changes(texts()):
+        made += 1
         try:
-            seen = bool(compare(t)[2])
-        except Unreadable:
-            seen = True
-        if not changed or not seen:
-            missed += 1
-            print(f"{where}: '{old}' to '{new}': " + ("not found" if changed else "nothing to change"))
-    print(f"{len(CHANGES)} changes of one side alone, {len(CHANGES) - missed} found")
-    return missed == 0
+            found = compare({**texts(), where: text})[2]
+        except Unreadable as why:
+            found = [why]
+        if not found:
+            missed.append(f"a change of the {where} that is not found: {first_difference(texts()[where], text)}")
+    for line in missed:
+        print(line)
+    print(f"{made} changes of the header alone or of the sources alone, {made - len(missed)} found")
+    return made > 0 and not missed
+
+
+def changes(t):
+    number = r"(u?int\d+_t|size_t|hlq_\w+)"
+    for found in re.finditer(r"^(\w+) (hlq_\w+)\(([^;]*)\);", t["header"], flags=re.M):
+        result, name, parameters = found.groups()
+        replace = lambda by: t["header"][:found.start()] + by + t["header"][found.end():]
+        yield "header", replace("")
+        yield "header", replace(f"int16_t {name}({parameters});")
+        yield "header", replace(f"{result} {name}_renamed({parameters});")
+        items = [] if parameters == "void" else [" ".join(item.split()) for item in parameters.split(",")]
+        for changed in changed_lists(items, "uint32_t more", [
+                lambda item: item + "_renamed",
+                lambda item: re.sub(number, "int16_t", item, count=1),
+                lambda item: item.replace("const ", ""),
+                lambda item: "const " + item if "*" in item and "const " not in item else item]):
+            yield "header", replace(f"{result} {name}({', '.join(changed) or 'void'});")
+    for found in re.finditer(r"typedef struct \{ (.*?) \} (\w+);", t["header"]):
+        replace = lambda by: t["header"][:found.start()] + by + t["header"][found.end():]
+        yield "header", replace("")
+        items = [f"{kind} {field}" for kind, field in read_header(found.group(0)).structs[found.group(2)]]
+        for changed in changed_lists(items, "uint64_t more", [
+                lambda item: item + "_renamed", lambda item: re.sub(number, "int16_t", item, count=1)]):
+            yield "header", replace(f"typedef struct {{ {'; '.join(changed)}; }} {found.group(2)};")
+    for name in LIMITS:
+        yield "header", re.sub(rf"(#define {name} \d+)", r"\g<1>0", t["header"])
+    for found in re.finditer(r"Refusals: (HLQ_[^.]*)in\s+(?:\* )?this", t["header"]):
+        for changed in changed_lists(re.findall(r"HLQ_\w+", found.group(1)), "HLQ_LOG", []):
+            said = ", ".join(changed) + ", "
+            yield "header", t["header"][:found.start(1)] + said + t["header"][found.end(1):]
+    for refusal in sorted(set().union(*read_header(t["header"]).refusals.values())):
+        yield "header", re.sub(rf"(\bHLQ_\w+) = {refusal}\b", r"\1 = 99", t["header"])
+
+    rattle = r"\b[ui](8|16|32|64|size)\b|\[[A-Z]\w+\]"
+    for found in re.finditer(r'pub extern "C" fn (\w+)\((.*?)\) -> (\w+)', t["prowcurl"], flags=re.S):
+        name, parameters, result = found.groups()
+        replace = lambda by: t["prowcurl"][:found.start()] + by + t["prowcurl"][found.end():]
+        yield "prowcurl", replace(f"pub fn {name}({parameters}) -> {result}")
+        yield "prowcurl", replace(f'pub extern "C" fn {name}_renamed({parameters}) -> {result}')
+        yield "prowcurl", replace(f'pub extern "C" fn {name}({parameters}) -> i16')
+        items = [item.strip() for item in parameters.split(",") if item.strip()]
+        for changed in changed_lists(items, "more: u32", [
+                lambda item: item.replace(":", "_renamed:"),
+                lambda item: re.sub(rattle, lambda kind: "[i16]" if "[" in kind.group(0) else "i16", item),
+                lambda item: item.replace("&mut ", "&") if "&mut " in item else item.replace("&", "&mut ")]):
+            yield "prowcurl", replace(f'pub extern "C" fn {name}({", ".join(changed)}) -> {result}')
+    reached = read_header(t["header"]).structs
+    for found in re.finditer(r"#\[repr\(C\)\]\npub struct (\w+) \{(.*?)\}", t["definitions"], flags=re.S):
+        if c_name(found.group(1)) not in reached:
+            continue
+        replace = lambda by: t["definitions"][:found.start()] + by + t["definitions"][found.end():]
+        yield "definitions", replace(found.group(0).replace("#[repr(C)]", ""))
+        items = [item.strip() for item in found.group(2).split(",") if item.strip()]
+        for changed in changed_lists(items, "pub more: u64", [
+                lambda item: item.replace(":", "_renamed:"), lambda item: re.sub(rattle, "i16", item)]):
+            yield "definitions", replace(f"#[repr(C)]\npub struct {found.group(1)} {{ {', '.join(changed)} }}")
+    for constant in LIMITS.values():
+        yield "keys", re.sub(rf"(pub const {constant}: u32 = \d+)", r"\g<1>0", t["keys"])
+    for name, table in t["tables"].items():
+        for row in re.finditer(r"gives (\d+)", table):
+            yield "tables", {**t["tables"], name: table[:row.start()] + "gives 99" + table[row.end():]}
+
+
+# Each item left out, changed in each way, or exchanged with the next, and one item more.
+def changed_lists(items, more, ways):
+    yield items + [more]
+    for i, item in enumerate(items):
+        yield items[:i] + items[i + 1:]
+        for way in ways:
+            if way(item) != item:
+                yield items[:i] + [way(item)] + items[i + 1:]
+        if i + 1 < len(items) and items[i + 1] != item:
+            yield items[:i] + [items[i + 1], item] + items[i + 2:]
+
+
+def first_difference(old, new):
+    lines = lambda text: (text if isinstance(text, str) else "\n".join(text.values())).splitlines()
+    return next((f"'{b.strip()}' for '{a.strip()}'" for a, b in zip(lines(old), lines(new)) if a != b), "at the end")
 
 
 def main(arguments):
