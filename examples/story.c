@@ -1,10 +1,11 @@
-/* The old program's fault, and why it cannot come back. Waivers were once kept by place in the list: a resurvey merged five records into one, the
- * waivers slid onto neighbours, and live scrub was hidden. Here a waiver is a rule and a block, and stays on its patch. */
+/* The old program's fault, and why it cannot come back. Waivers were once kept by place in the list: a resurvey merged
+ * five records into one, the waivers slid onto neighbours, and live scrub was hidden. Here a waiver is a rule and a
+ * block, and stays on its patch. */
 #include "prowcurl.h"
 
 #include <stdio.h>
 
-enum { M = 2, S = 3, ROOM = 21, LOG = 8 };
+enum { M = 2, S = 3, ROOM = HLQ_MOST_RECORDS(M), LOG = 8 };
 
 static uint32_t keys[ROOM], bits[ROOM], log_keys[LOG], log_values[LOG];
 static size_t n, used;
@@ -18,7 +19,8 @@ static void print_block(uint32_t key) { printf(" %u%u", key / 5, key % 5); }
 
 static void tell(const char *when) {
     uint32_t ids[ROOM], blocks[ROOM];
-    hlq_found f = hlq_findings(M, S, keys, ROOM, bits, ROOM, n, rules, 1, waived_rule, 1, waived_block, 1, ids, ROOM, blocks, ROOM);
+    hlq_found f = hlq_findings(M, S, keys, ROOM, bits, ROOM, n, rules, 1, waived_rule, 1, waived_block, 1,
+                               ids, ROOM, blocks, ROOM);
     printf("%s: %zu records\n  live:", when, n);
     for (size_t i = 0; i < f.live; i++) print_block(blocks[i]);
     printf("; hidden: %llu\n  a waiver kept as place %u would be on block", (unsigned long long)f.hidden, place_of_old);
@@ -28,7 +30,7 @@ static void tell(const char *when) {
 
 static void paint(uint32_t key, uint32_t feature) {
     hlq_edited e = hlq_paint(M, S, keys, ROOM, bits, ROOM, n, log_keys, LOG, log_values, LOG, used, key, feature);
-    if (e.refusal) printf("refused %llu\n", (unsigned long long)e.refusal);
+    if (e.refusal) printf("refused: %s\n", hlq_refusal_text(e.refusal));
     else n = e.n, used = e.used;
 }
 

@@ -1,12 +1,17 @@
-/* A day with a survey, as a crew's program would live it: read the sheet, build the list, ask it, run rules with waivers, paint what was cleared,
- * take a mistake back, and keep the list in a file. Reads the sheet from standard input: 16 lines of 16 characters. */
+/* A day with a survey, as a crew's program would live it: read the sheet, build the list, ask it, run rules with
+ * waivers, paint what was cleared, take a mistake back, and keep the list in a file. Reads the sheet from standard
+ * input: 16 lines of 16 characters. */
 #include "prowcurl.h"
 
 #include <stdio.h>
 #include <string.h>
 
-enum { M = 4, EDGE = 1 << M, PIXELS = EDGE * EDGE, RECORDS = (4 * PIXELS - 1) / 3, LOG = 256, CLASSES = 4 };
+enum { M = 4, EDGE = 1 << M, PIXELS = EDGE * EDGE, RECORDS = HLQ_MOST_RECORDS(M), LOG = 256, CLASSES = 4 };
 enum { BALLAST, DRAIN, SCRUB, PATH };
+
+/* A header of another interface, or a sheet too large for it, stops the compiler and not the crew. */
+_Static_assert(HLQ_INTERFACE == 1, "written for interface 1 of the library");
+_Static_assert(M <= HLQ_DEEPEST_M && CLASSES <= HLQ_MOST_SLOTS, "the sheet is within the library's limits");
 
 static const char signs[CLASSES + 1] = ".~#=";
 static const char *const words[CLASSES] = { "ballast", "drain", "scrub", "path" };
@@ -16,8 +21,8 @@ static uint32_t keys[RECORDS], bits[RECORDS], log_keys[LOG], log_values[LOG];
 static size_t n, used;
 
 static int refused(const char *what, uint64_t refusal) {
-    if (refusal) printf("%s: refused %llu\n", what, (unsigned long long)refusal);
-    return refusal != 0;
+    if (refusal) printf("%s: refused, %s\n", what, hlq_refusal_text(refusal));
+    return refusal != HLQ_ACCEPTED;
 }
 
 /* The digits of a key, as on paper. */
@@ -59,15 +64,16 @@ enum { RULES = sizeof rules / sizeof *rules, FINDINGS = 64 };
 
 static void print_findings(const uint32_t *waiver_ids, const uint32_t *waiver_keys, size_t waivers) {
     uint32_t ids[FINDINGS], blocks[FINDINGS];
-    hlq_found f = hlq_findings(M, CLASSES, keys, RECORDS, bits, RECORDS, n, rules, RULES, waiver_ids, waivers, waiver_keys, waivers,
-                               ids, FINDINGS, blocks, FINDINGS);
+    hlq_found f = hlq_findings(M, CLASSES, keys, RECORDS, bits, RECORDS, n, rules, RULES,
+                               waiver_ids, waivers, waiver_keys, waivers, ids, FINDINGS, blocks, FINDINGS);
     if (refused("findings", f.refusal)) return;
     printf("%llu live, %llu hidden\n", (unsigned long long)f.live, (unsigned long long)f.hidden);
     for (size_t i = 0; i < f.live; i++) printf("  rule %u: scrub in block %s\n", ids[i], name_of(blocks[i]));
 }
 
 static int paint(uint32_t key, uint32_t class) {
-    hlq_edited e = hlq_paint(M, CLASSES, keys, RECORDS, bits, RECORDS, n, log_keys, LOG, log_values, LOG, used, key, class);
+    hlq_edited e = hlq_paint(M, CLASSES, keys, RECORDS, bits, RECORDS, n, log_keys, LOG, log_values, LOG, used,
+                             key, class);
     if (refused("paint", e.refusal)) return 0;
     n = e.n, used = e.used;
     printf("painted block %s with %s: %zu records\n", name_of(key), words[class], n);
@@ -75,14 +81,15 @@ static int paint(uint32_t key, uint32_t class) {
 }
 
 int main(void) {
-    uint8_t raster[PIXELS], file[11 + 6 * RECORDS];
+    uint8_t raster[PIXELS], file[HLQ_FILE_BYTES(RECORDS)];
     if (!read_sheet(raster)) { printf("no sheet of %d by %d known signs\n", EDGE, EDGE); return 1; }
     hlq_counted built = hlq_build(M, CLASSES, raster, PIXELS, keys, RECORDS, bits, RECORDS);
     if (refused("build", built.refusal)) return 1;
     n = built.count;
     printf("the sheet has %zu records\n", n);
     hlq_stands at = hlq_standing(M, CLASSES, keys, RECORDS, bits, RECORDS, n, 0);
-    printf("the whole sheet is %s at place %llu\n", at.kind == 1 ? "listed" : "inside a leaf", (unsigned long long)at.place);
+    printf("the whole sheet is %s at place %llu\n", at.kind == HLQ_LISTED ? "listed" : "inside a leaf",
+           (unsigned long long)at.place);
     hlq_reported seen = hlq_report(M, CLASSES, keys, RECORDS, bits, RECORDS, n, 8, 0, 8, 16);
     printf("the southern half has:");
     for (int c = 0; c < CLASSES; c++) if (seen.bits >> c & 1) printf(" %s", words[c]);
@@ -117,10 +124,11 @@ int main(void) {
     static uint32_t again_keys[RECORDS], again_bits[RECORDS];
     hlq_loaded loaded = hlq_load(file, stored.count, again_keys, RECORDS, again_bits, RECORDS);
     if (refused("load", loaded.refusal)) return 1;
-    printf("\n%llu bytes stored, %llu records loaded, %s\n", (unsigned long long)stored.count, (unsigned long long)loaded.n,
-           memcmp(keys, again_keys, 4 * n) == 0 && memcmp(bits, again_bits, 4 * n) == 0 ? "the same list" : "ANOTHER LIST");
+    int same = memcmp(keys, again_keys, 4 * n) == 0 && memcmp(bits, again_bits, 4 * n) == 0;
+    printf("\n%llu bytes stored, %llu records loaded, %s\n", (unsigned long long)stored.count,
+           (unsigned long long)loaded.n, same ? "the same list" : "ANOTHER LIST");
     used = hlq_empty();
     e = hlq_take_back(M, CLASSES, keys, RECORDS, bits, RECORDS, n, log_keys, LOG, log_values, LOG, used);
-    printf("the log is emptied; taking back now gives %llu\n", (unsigned long long)e.refusal);
+    printf("the log is emptied; taking back now gives: %s\n", hlq_refusal_text(e.refusal));
     return 0;
 }

@@ -4,14 +4,18 @@
 #include <stdlib.h>
 #include <string.h>
 
-enum { NO_FEATURE = 255 };
+/* The limits of document 01, written here a second time: the header's names are what is tested. */
+enum { DEEPEST = 10, SLOTS = 16, NO_FEATURE = 255 };
 
 /* The most pixels and records that a map can have. */
 static size_t pixels_of(uint32_t m) { return (size_t)1 << 2 * m; }
 static size_t most_of(uint32_t m) { return (4 * pixels_of(m) - 1) / 3; }
 
 /* A list of its own, and a raster. */
-typedef struct { uint32_t *keys, *bits; size_t n; } records;
+typedef struct {
+    uint32_t *keys, *bits;
+    size_t n;
+} records;
 
 static records new_records(uint32_t m) {
     records r = { calloc(most_of(m), sizeof(uint32_t)), calloc(most_of(m), sizeof(uint32_t)), 0 };
@@ -19,7 +23,10 @@ static records new_records(uint32_t m) {
     return r;
 }
 
-static void free_records(records *r) { free(r->keys); free(r->bits); }
+static void free_records(records *r) {
+    free(r->keys);
+    free(r->bits);
+}
 
 static size_t shorter(size_t a, size_t b) { return a < b ? a : b; }
 
@@ -31,21 +38,25 @@ uint32_t ref_power(uint32_t base, uint32_t exponent) {
 
 /* The digits of a key, the highest first; 0 where it has more than m. */
 static int digits_of(uint32_t m, uint32_t key, uint32_t *digits) {
-    for (uint32_t i = m; i > 0; i--) { digits[i - 1] = key % 5; key /= 5; }
+    for (uint32_t i = m; i > 0; i--) {
+        digits[i - 1] = key % 5;
+        key /= 5;
+    }
     return key == 0;
 }
 
 int ref_key_is_valid(uint32_t m, uint32_t key) {
-    uint32_t d[10];
+    uint32_t d[DEEPEST];
     if (!digits_of(m, key, d)) return 0;
     uint32_t i = 0;
     while (i < m && d[i] != 0) i++;
-    while (i < m) if (d[i++] != 0) return 0;
+    while (i < m)
+        if (d[i++] != 0) return 0;
     return 1;
 }
 
 void ref_block(uint32_t m, uint32_t key, uint32_t *row, uint32_t *column, uint32_t *side) {
-    uint32_t d[10], edge = 1u << m;
+    uint32_t d[DEEPEST], edge = 1u << m;
     digits_of(m, key, d);
     *row = *column = 0;
     for (uint32_t i = 0; i < m && d[i] != 0; i++) {
@@ -62,7 +73,8 @@ uint32_t ref_pixel_key(uint32_t m, uint32_t row, uint32_t column) {
     return key;
 }
 
-static uint32_t features_in(const uint8_t *raster, uint32_t edge, uint32_t row, uint32_t column, uint32_t height, uint32_t width) {
+static uint32_t features_in(const uint8_t *raster, uint32_t edge, uint32_t row, uint32_t column, uint32_t height,
+                            uint32_t width) {
     uint32_t bits = 0;
     for (uint32_t r = row; r < row + height; r++)
         for (uint32_t c = column; c < column + width; c++) bits |= 1u << raster[(size_t)r * edge + c];
@@ -82,17 +94,19 @@ static uint32_t slot_of(uint32_t b) {
 }
 
 /* Every block at or below this one that is this one, or whose parent has more than one feature. */
-static void list_block(const uint8_t *raster, uint32_t edge, uint32_t row, uint32_t column, uint32_t side, uint32_t key, uint32_t step, records *out) {
+static void list_block(const uint8_t *raster, uint32_t edge, uint32_t row, uint32_t column, uint32_t side, uint32_t key,
+                       uint32_t step, records *out) {
     uint32_t bits = features_in(raster, edge, row, column, side, side);
     out->keys[out->n] = key;
     out->bits[out->n++] = bits;
     if (has_one_bit(bits)) return;
     for (uint32_t d = 1; d <= 4; d++)
-        list_block(raster, edge, row + (d > 2 ? side / 2 : 0), column + (d % 2 == 0 ? side / 2 : 0), side / 2, key + d * step, step / 5, out);
+        list_block(raster, edge, row + (d > 2 ? side / 2 : 0), column + (d % 2 == 0 ? side / 2 : 0), side / 2,
+                   key + d * step, step / 5, out);
 }
 
 static void list_of(uint32_t m, const uint8_t *raster, uint32_t key, records *out) {
-    uint32_t row, column, side, level = 0, d[10];
+    uint32_t row, column, side, level = 0, d[DEEPEST];
     ref_block(m, key, &row, &column, &side);
     digits_of(m, key, d);
     while (level < m && d[level] != 0) level++;
@@ -100,10 +114,12 @@ static void list_of(uint32_t m, const uint8_t *raster, uint32_t key, records *ou
     list_block(raster, 1u << m, row, column, side, key, level < m ? ref_power(5, m - level - 1) : 0, out);
 }
 
-static int settings_are_bad(uint32_t m, uint32_t s) { return m > 10 || s == 0 || s > 16; }
+static int settings_are_bad(uint32_t m, uint32_t s) { return m > DEEPEST || s == 0 || s > SLOTS; }
 
-/* The leaves of the records paint the raster inside the block; they are its list exactly when building it again gives them. */
-static int shows_block(uint32_t m, uint32_t s, uint32_t block, const uint32_t *keys, const uint32_t *bits, size_t n, uint8_t *raster) {
+/* The leaves of the records paint the raster inside the block; they are its list exactly when building it again gives
+ * them. */
+static int shows_block(uint32_t m, uint32_t s, uint32_t block, const uint32_t *keys, const uint32_t *bits, size_t n,
+                       uint8_t *raster) {
     uint32_t edge = 1u << m, row, column, side;
     if (n == 0 || n > most_of(m)) return 0;
     ref_block(m, block, &row, &column, &side);
@@ -118,10 +134,12 @@ static int shows_block(uint32_t m, uint32_t s, uint32_t block, const uint32_t *k
         for (uint32_t r = r0; r < r0 + e; r++) memset(raster + (size_t)r * edge + c0, (int)slot_of(bits[i]), e);
     }
     for (uint32_t r = row; r < row + side; r++)
-        for (uint32_t c = column; c < column + side; c++) if (raster[(size_t)r * edge + c] == NO_FEATURE) return 0;
+        for (uint32_t c = column; c < column + side; c++)
+            if (raster[(size_t)r * edge + c] == NO_FEATURE) return 0;
     records again = new_records(m);
     list_of(m, raster, block, &again);
-    int same = again.n == n && memcmp(again.keys, keys, n * sizeof *keys) == 0 && memcmp(again.bits, bits, n * sizeof *bits) == 0;
+    int same = again.n == n && memcmp(again.keys, keys, n * sizeof *keys) == 0 &&
+               memcmp(again.bits, bits, n * sizeof *bits) == 0;
     free_records(&again);
     return same;
 }
@@ -132,8 +150,16 @@ static uint8_t *new_raster(uint32_t m) {
     return r;
 }
 
+/* Room for the keys that a selection can have. */
+static uint32_t *new_selection(uint32_t m) {
+    uint32_t *keys = malloc(sizeof(uint32_t) * pixels_of(m));
+    if (!keys) abort();
+    return keys;
+}
+
 /* The raster of a list, or null where there is none (refusal 4). */
-static uint8_t *raster_of(uint32_t m, uint32_t s, const uint32_t *keys, size_t keys_len, const uint32_t *bits, size_t bits_len, size_t n) {
+static uint8_t *raster_of(uint32_t m, uint32_t s, const uint32_t *keys, size_t keys_len, const uint32_t *bits,
+                          size_t bits_len, size_t n) {
     if (n > shorter(keys_len, bits_len)) return NULL;
     uint8_t *raster = new_raster(m);
     if (shows_block(m, s, 0, keys, bits, n, raster)) return raster;
@@ -141,11 +167,12 @@ static uint8_t *raster_of(uint32_t m, uint32_t s, const uint32_t *keys, size_t k
     return NULL;
 }
 
-hlq_counted ref_build(uint32_t m, uint32_t s, const uint8_t *raster, size_t raster_len,
-                      uint32_t *keys, size_t keys_len, uint32_t *bits, size_t bits_len) {
+hlq_counted ref_build(uint32_t m, uint32_t s, const uint8_t *raster, size_t raster_len, uint32_t *keys, size_t keys_len,
+                      uint32_t *bits, size_t bits_len) {
     if (settings_are_bad(m, s)) return (hlq_counted){ 1, 0 };
     if (raster_len != pixels_of(m)) return (hlq_counted){ 2, 0 };
-    for (size_t i = 0; i < raster_len; i++) if (raster[i] >= s) return (hlq_counted){ 3, 0 };
+    for (size_t i = 0; i < raster_len; i++)
+        if (raster[i] >= s) return (hlq_counted){ 3, 0 };
     records l = new_records(m);
     list_of(m, raster, 0, &l);
     hlq_counted answer = { 9, 0 };
@@ -158,8 +185,8 @@ hlq_counted ref_build(uint32_t m, uint32_t s, const uint8_t *raster, size_t rast
     return answer;
 }
 
-hlq_done ref_raster(uint32_t m, uint32_t s, const uint32_t *keys, size_t keys_len, const uint32_t *bits, size_t bits_len, size_t n,
-                    uint8_t *raster, size_t raster_len) {
+hlq_done ref_raster(uint32_t m, uint32_t s, const uint32_t *keys, size_t keys_len, const uint32_t *bits,
+                    size_t bits_len, size_t n, uint8_t *raster, size_t raster_len) {
     if (settings_are_bad(m, s)) return (hlq_done){ 1 };
     uint8_t *shown = raster_of(m, s, keys, keys_len, bits, bits_len, n);
     if (!shown) return (hlq_done){ 4 };
@@ -170,8 +197,8 @@ hlq_done ref_raster(uint32_t m, uint32_t s, const uint32_t *keys, size_t keys_le
 }
 
 /* 1, 4 or 8, or 0. */
-static uint64_t standing_refusal(uint32_t m, uint32_t s, const uint32_t *keys, size_t keys_len, const uint32_t *bits, size_t bits_len, size_t n,
-                                 uint32_t key) {
+static uint64_t standing_refusal(uint32_t m, uint32_t s, const uint32_t *keys, size_t keys_len, const uint32_t *bits,
+                                 size_t bits_len, size_t n, uint32_t key) {
     if (settings_are_bad(m, s)) return 1;
     uint8_t *shown = raster_of(m, s, keys, keys_len, bits, bits_len, n);
     if (!shown) return 4;
@@ -179,11 +206,12 @@ static uint64_t standing_refusal(uint32_t m, uint32_t s, const uint32_t *keys, s
     return ref_key_is_valid(m, key) ? 0 : 8;
 }
 
-hlq_stands ref_standing(uint32_t m, uint32_t s, const uint32_t *keys, size_t keys_len, const uint32_t *bits, size_t bits_len, size_t n,
-                        uint32_t key) {
+hlq_stands ref_standing(uint32_t m, uint32_t s, const uint32_t *keys, size_t keys_len, const uint32_t *bits,
+                        size_t bits_len, size_t n, uint32_t key) {
     uint64_t refusal = standing_refusal(m, s, keys, keys_len, bits, bits_len, n, key);
     if (refusal) return (hlq_stands){ refusal, 0, 0 };
-    for (size_t i = 0; i < n; i++) if (keys[i] == key) return (hlq_stands){ 0, 1, i };
+    for (size_t i = 0; i < n; i++)
+        if (keys[i] == key) return (hlq_stands){ 0, 1, i };
     size_t leaf = n;
     uint32_t row, column, side;
     ref_block(m, key, &row, &column, &side);
@@ -195,8 +223,8 @@ hlq_stands ref_standing(uint32_t m, uint32_t s, const uint32_t *keys, size_t key
     return (hlq_stands){ 0, 2, leaf };
 }
 
-hlq_span ref_part(uint32_t m, uint32_t s, const uint32_t *keys, size_t keys_len, const uint32_t *bits, size_t bits_len, size_t n,
-                  uint32_t key) {
+hlq_span ref_part(uint32_t m, uint32_t s, const uint32_t *keys, size_t keys_len, const uint32_t *bits, size_t bits_len,
+                  size_t n, uint32_t key) {
     hlq_stands at = ref_standing(m, s, keys, keys_len, bits, bits_len, n, key);
     if (at.refusal) return (hlq_span){ 0, 0 };
     if (at.kind == 2) return (hlq_span){ at.place, 1 };
@@ -217,8 +245,9 @@ static int is_window(uint32_t m, uint32_t row, uint32_t column, uint32_t height,
     return height >= 1 && width >= 1 && (uint64_t)row + height <= edge && (uint64_t)column + width <= edge;
 }
 
-hlq_exists ref_exist(uint32_t m, uint32_t s, const uint32_t *keys, size_t keys_len, const uint32_t *bits, size_t bits_len, size_t n,
-                     uint32_t row, uint32_t column, uint32_t height, uint32_t width, uint32_t feature) {
+hlq_exists ref_exist(uint32_t m, uint32_t s, const uint32_t *keys, size_t keys_len, const uint32_t *bits,
+                     size_t bits_len, size_t n, uint32_t row, uint32_t column, uint32_t height, uint32_t width,
+                     uint32_t feature) {
     if (settings_are_bad(m, s)) return (hlq_exists){ 1, 0 };
     uint8_t *shown = raster_of(m, s, keys, keys_len, bits, bits_len, n);
     if (!shown) return (hlq_exists){ 4, 0 };
@@ -230,8 +259,8 @@ hlq_exists ref_exist(uint32_t m, uint32_t s, const uint32_t *keys, size_t keys_l
     return answer;
 }
 
-hlq_reported ref_report(uint32_t m, uint32_t s, const uint32_t *keys, size_t keys_len, const uint32_t *bits, size_t bits_len, size_t n,
-                        uint32_t row, uint32_t column, uint32_t height, uint32_t width) {
+hlq_reported ref_report(uint32_t m, uint32_t s, const uint32_t *keys, size_t keys_len, const uint32_t *bits,
+                        size_t bits_len, size_t n, uint32_t row, uint32_t column, uint32_t height, uint32_t width) {
     if (settings_are_bad(m, s)) return (hlq_reported){ 1, 0 };
     uint8_t *shown = raster_of(m, s, keys, keys_len, bits, bits_len, n);
     if (!shown) return (hlq_reported){ 4, 0 };
@@ -242,30 +271,40 @@ hlq_reported ref_report(uint32_t m, uint32_t s, const uint32_t *keys, size_t key
     return answer;
 }
 
-typedef struct { const uint8_t *raster; uint32_t edge, row, column, height, width, feature; uint32_t *out; size_t n; } selection;
+typedef struct {
+    const uint8_t *raster;
+    uint32_t edge, row, column, height, width, feature;
+    uint32_t *out;
+    size_t n;
+} selection;
 
 static int is_given(const selection *w, uint32_t row, uint32_t column, uint32_t side) {
-    if (row < w->row || column < w->column || row + side > w->row + w->height || column + side > w->column + w->width) return 0;
+    if (row < w->row || column < w->column || row + side > w->row + w->height || column + side > w->column + w->width)
+        return 0;
     return features_in(w->raster, w->edge, row, column, side, side) == 1u << w->feature;
 }
 
 static void select_block(selection *w, uint32_t row, uint32_t column, uint32_t side, uint32_t key, uint32_t step) {
-    if (is_given(w, row, column, side)) { w->out[w->n++] = key; return; }
+    if (is_given(w, row, column, side)) {
+        w->out[w->n++] = key;
+        return;
+    }
     if (side == 1) return;
     for (uint32_t d = 1; d <= 4; d++)
-        select_block(w, row + (d > 2 ? side / 2 : 0), column + (d % 2 == 0 ? side / 2 : 0), side / 2, key + d * step, step / 5);
+        select_block(w, row + (d > 2 ? side / 2 : 0), column + (d % 2 == 0 ? side / 2 : 0), side / 2, key + d * step,
+                     step / 5);
 }
 
-static size_t select_keys(uint32_t m, const uint8_t *raster, uint32_t row, uint32_t column, uint32_t height, uint32_t width, uint32_t feature,
-                          uint32_t *out) {
+static size_t select_keys(uint32_t m, const uint8_t *raster, uint32_t row, uint32_t column, uint32_t height,
+                          uint32_t width, uint32_t feature, uint32_t *out) {
     selection w = { raster, 1u << m, row, column, height, width, feature, out, 0 };
     select_block(&w, 0, 0, 1u << m, 0, m ? ref_power(5, m - 1) : 0);
     return w.n;
 }
 
-hlq_counted ref_select(uint32_t m, uint32_t s, const uint32_t *keys, size_t keys_len, const uint32_t *bits, size_t bits_len, size_t n,
-                       uint32_t row, uint32_t column, uint32_t height, uint32_t width, uint32_t feature,
-                       uint32_t *answer, size_t answer_len) {
+hlq_counted ref_select(uint32_t m, uint32_t s, const uint32_t *keys, size_t keys_len, const uint32_t *bits,
+                       size_t bits_len, size_t n, uint32_t row, uint32_t column, uint32_t height, uint32_t width,
+                       uint32_t feature, uint32_t *answer, size_t answer_len) {
     if (settings_are_bad(m, s)) return (hlq_counted){ 1, 0 };
     uint8_t *shown = raster_of(m, s, keys, keys_len, bits, bits_len, n);
     if (!shown) return (hlq_counted){ 4, 0 };
@@ -273,7 +312,7 @@ hlq_counted ref_select(uint32_t m, uint32_t s, const uint32_t *keys, size_t keys
     if (!is_window(m, row, column, height, width)) result.refusal = 6;
     else if (feature >= s) result.refusal = 7;
     else {
-        uint32_t *found = malloc(sizeof(uint32_t) * pixels_of(m));
+        uint32_t *found = new_selection(m);
         result.count = select_keys(m, shown, row, column, height, width, feature, found);
         if (result.count > answer_len) result.refusal = 12;
         else memcpy(answer, found, result.count * sizeof *answer);
@@ -290,8 +329,8 @@ static int log_is_sound(uint32_t m, uint32_t s, const uint32_t *log_keys, const 
     while (sound && used > 0) {
         uint32_t key = log_keys[used - 1];
         size_t count = log_values[used - 1];
-        sound = count >= 1 && count + 1 <= used && ref_key_is_valid(m, key)
-            && shows_block(m, s, key, log_keys + (used - 1 - count), log_values + (used - 1 - count), count, raster);
+        sound = count >= 1 && count + 1 <= used && ref_key_is_valid(m, key) &&
+                shows_block(m, s, key, log_keys + (used - 1 - count), log_values + (used - 1 - count), count, raster);
         if (sound) used -= count + 1;
     }
     free(raster);
@@ -299,7 +338,8 @@ static int log_is_sound(uint32_t m, uint32_t s, const uint32_t *log_keys, const 
 }
 
 /* The list of the raster in place of the first n records; 9 where it does not fit. */
-static uint64_t relist(uint32_t m, const uint8_t *raster, uint32_t *keys, size_t keys_len, uint32_t *bits, size_t bits_len, size_t n, size_t *now) {
+static uint64_t relist(uint32_t m, const uint8_t *raster, uint32_t *keys, size_t keys_len, uint32_t *bits,
+                       size_t bits_len, size_t n, size_t *now) {
     records l = new_records(m);
     list_of(m, raster, 0, &l);
     uint64_t refusal = l.n > shorter(keys_len, bits_len) ? 9 : 0;
@@ -346,13 +386,15 @@ hlq_edited ref_paint(uint32_t m, uint32_t s, uint32_t *keys, size_t keys_len, ui
     return answer;
 }
 
-hlq_edited ref_take_back(uint32_t m, uint32_t s, uint32_t *keys, size_t keys_len, uint32_t *bits, size_t bits_len, size_t n,
-                         uint32_t *log_keys, size_t log_keys_len, uint32_t *log_values, size_t log_values_len, size_t used) {
+hlq_edited ref_take_back(uint32_t m, uint32_t s, uint32_t *keys, size_t keys_len, uint32_t *bits, size_t bits_len,
+                         size_t n, uint32_t *log_keys, size_t log_keys_len, uint32_t *log_values, size_t log_values_len,
+                         size_t used) {
     if (settings_are_bad(m, s)) return (hlq_edited){ 1, 0, 0 };
     uint8_t *raster = raster_of(m, s, keys, keys_len, bits, bits_len, n);
     if (!raster) return (hlq_edited){ 4, 0, 0 };
     hlq_edited answer = { 0, 0, 0 };
-    if (used > shorter(log_keys_len, log_values_len) || !log_is_sound(m, s, log_keys, log_values, used)) answer.refusal = 5;
+    if (used > shorter(log_keys_len, log_values_len) || !log_is_sound(m, s, log_keys, log_values, used))
+        answer.refusal = 5;
     else if (used == 0) answer.refusal = 11;
     else {
         uint32_t key = log_keys[used - 1];
@@ -371,12 +413,14 @@ hlq_edited ref_take_back(uint32_t m, uint32_t s, uint32_t *keys, size_t keys_len
 static int rules_are_bad(uint32_t m, uint32_t s, const hlq_rule *rules, size_t n) {
     for (size_t i = 0; i < n; i++) {
         if (i > 0 && rules[i - 1].id >= rules[i].id) return 1;
-        if (!is_window(m, rules[i].row, rules[i].column, rules[i].height, rules[i].width) || rules[i].feature >= s) return 1;
+        if (!is_window(m, rules[i].row, rules[i].column, rules[i].height, rules[i].width) || rules[i].feature >= s)
+            return 1;
     }
     return 0;
 }
 
-static int waivers_are_bad(uint32_t m, const hlq_rule *rules, size_t rules_len, const uint32_t *ids, const uint32_t *keys, size_t n) {
+static int waivers_are_bad(uint32_t m, const hlq_rule *rules, size_t rules_len, const uint32_t *ids,
+                           const uint32_t *keys, size_t n) {
     for (size_t i = 0; i < n; i++) {
         int known = 0;
         if (i > 0 && (ids[i - 1] > ids[i] || (ids[i - 1] == ids[i] && keys[i - 1] >= keys[i]))) return 1;
@@ -387,14 +431,15 @@ static int waivers_are_bad(uint32_t m, const hlq_rule *rules, size_t rules_len, 
 }
 
 static int is_waived(const uint32_t *ids, const uint32_t *keys, size_t n, uint32_t id, uint32_t key) {
-    for (size_t i = 0; i < n; i++) if (ids[i] == id && keys[i] == key) return 1;
+    for (size_t i = 0; i < n; i++)
+        if (ids[i] == id && keys[i] == key) return 1;
     return 0;
 }
 
-hlq_found ref_findings(uint32_t m, uint32_t s, const uint32_t *keys, size_t keys_len, const uint32_t *bits, size_t bits_len, size_t n,
-                       const hlq_rule *rules, size_t rules_len,
-                       const uint32_t *waiver_ids, size_t waiver_ids_len, const uint32_t *waiver_keys, size_t waiver_keys_len,
-                       uint32_t *found_ids, size_t found_ids_len, uint32_t *found_keys, size_t found_keys_len) {
+hlq_found ref_findings(uint32_t m, uint32_t s, const uint32_t *keys, size_t keys_len, const uint32_t *bits,
+                       size_t bits_len, size_t n, const hlq_rule *rules, size_t rules_len, const uint32_t *waiver_ids,
+                       size_t waiver_ids_len, const uint32_t *waiver_keys, size_t waiver_keys_len, uint32_t *found_ids,
+                       size_t found_ids_len, uint32_t *found_keys, size_t found_keys_len) {
     size_t waivers = shorter(waiver_ids_len, waiver_keys_len), room = shorter(found_ids_len, found_keys_len);
     if (settings_are_bad(m, s)) return (hlq_found){ 1, 0, 0 };
     uint8_t *raster = raster_of(m, s, keys, keys_len, bits, bits_len, n);
@@ -403,15 +448,21 @@ hlq_found ref_findings(uint32_t m, uint32_t s, const uint32_t *keys, size_t keys
     if (rules_are_bad(m, s, rules, rules_len)) answer.refusal = 13;
     else if (waivers_are_bad(m, rules, rules_len, waiver_ids, waiver_keys, waivers)) answer.refusal = 14;
     else {
-        uint32_t *found = malloc(sizeof(uint32_t) * pixels_of(m));
+        uint32_t *found = new_selection(m);
         for (int write = 0; write <= 1 && answer.refusal == 0; write++) {
             answer.live = answer.hidden = 0;
             for (size_t i = 0; i < rules_len; i++) {
                 const hlq_rule *r = rules + i;
                 size_t count = select_keys(m, raster, r->row, r->column, r->height, r->width, r->feature, found);
                 for (size_t j = 0; j < count; j++) {
-                    if (is_waived(waiver_ids, waiver_keys, waivers, r->id, found[j])) { answer.hidden++; continue; }
-                    if (write) { found_ids[answer.live] = r->id; found_keys[answer.live] = found[j]; }
+                    if (is_waived(waiver_ids, waiver_keys, waivers, r->id, found[j])) {
+                        answer.hidden++;
+                        continue;
+                    }
+                    if (write) {
+                        found_ids[answer.live] = r->id;
+                        found_keys[answer.live] = found[j];
+                    }
                     answer.live++;
                 }
             }
@@ -423,14 +474,17 @@ hlq_found ref_findings(uint32_t m, uint32_t s, const uint32_t *keys, size_t keys
     return answer;
 }
 
-hlq_counted ref_store(uint32_t m, uint32_t s, const uint32_t *keys, size_t keys_len, const uint32_t *bits, size_t bits_len, size_t n,
-                      uint8_t *file, size_t file_len) {
+hlq_counted ref_store(uint32_t m, uint32_t s, const uint32_t *keys, size_t keys_len, const uint32_t *bits,
+                      size_t bits_len, size_t n, uint8_t *file, size_t file_len) {
     if (settings_are_bad(m, s)) return (hlq_counted){ 1, 0 };
     uint8_t *raster = raster_of(m, s, keys, keys_len, bits, bits_len, n);
     if (!raster) return (hlq_counted){ 4, 0 };
     free(raster);
     if (file_len < 11 + 6 * n) return (hlq_counted){ 12, 11 + 6 * n };
-    uint8_t head[11] = { 0x48, 0x4C, 0x51, 0, 1, (uint8_t)m, (uint8_t)s, (uint8_t)(n >> 24), (uint8_t)(n >> 16), (uint8_t)(n >> 8), (uint8_t)n };
+    uint8_t head[11] = {
+        0x48,      0x4C, 0x51, 0, 1, (uint8_t)m, (uint8_t)s, (uint8_t)(n >> 24), (uint8_t)(n >> 16), (uint8_t)(n >> 8),
+        (uint8_t)n
+    };
     memcpy(file, head, sizeof head);
     for (size_t i = 0; i < n; i++) {
         uint8_t *at = file + 11 + 6 * i;
@@ -441,7 +495,8 @@ hlq_counted ref_store(uint32_t m, uint32_t s, const uint32_t *keys, size_t keys_
     return (hlq_counted){ 0, 11 + 6 * n };
 }
 
-hlq_loaded ref_load(const uint8_t *file, size_t file_len, uint32_t *keys, size_t keys_len, uint32_t *bits, size_t bits_len) {
+hlq_loaded ref_load(const uint8_t *file, size_t file_len, uint32_t *keys, size_t keys_len, uint32_t *bits,
+                    size_t bits_len) {
     if (file_len < 11) return (hlq_loaded){ 15, 0, 0, 0 };
     if (memcmp(file, "HLQ", 3) != 0) return (hlq_loaded){ 16, 0, 0, 0 };
     if (file[3] != 0 || file[4] != 1) return (hlq_loaded){ 17, 0, 0, 0 };

@@ -1,5 +1,5 @@
-/* A second implementation of every call of prowcurl.h, for the tests: it scans rasters pixel by pixel and shares nothing with the library.
- * Each ref_X takes what hlq_X takes, and answers and leaves the buffers as document 01 says. */
+/* A second implementation of every call of prowcurl.h, for the tests: it scans rasters pixel by pixel and shares
+ * nothing with the library. Each ref_X takes what hlq_X takes, and answers and writes as document 01 says. */
 #ifndef REFERENCE_H
 #define REFERENCE_H
 
@@ -11,32 +11,50 @@ uint32_t ref_pixel_key(uint32_t m, uint32_t row, uint32_t column);
 /* The block of a valid key. */
 void ref_block(uint32_t m, uint32_t key, uint32_t *row, uint32_t *column, uint32_t *side);
 
-hlq_counted ref_build(uint32_t m, uint32_t s, const uint8_t *raster, size_t raster_len,
+hlq_counted ref_build(uint32_t m, uint32_t s,
+                      const uint8_t *raster, size_t raster_len,
                       uint32_t *keys, size_t keys_len, uint32_t *bits, size_t bits_len);
-hlq_done ref_raster(uint32_t m, uint32_t s, const uint32_t *keys, size_t keys_len, const uint32_t *bits, size_t bits_len, size_t n,
-                    uint8_t *raster, size_t raster_len);
-hlq_stands ref_standing(uint32_t m, uint32_t s, const uint32_t *keys, size_t keys_len, const uint32_t *bits, size_t bits_len, size_t n,
-                        uint32_t key);
-hlq_span ref_part(uint32_t m, uint32_t s, const uint32_t *keys, size_t keys_len, const uint32_t *bits, size_t bits_len, size_t n,
-                  uint32_t key);
-hlq_exists ref_exist(uint32_t m, uint32_t s, const uint32_t *keys, size_t keys_len, const uint32_t *bits, size_t bits_len, size_t n,
-                     uint32_t row, uint32_t column, uint32_t height, uint32_t width, uint32_t feature);
-hlq_reported ref_report(uint32_t m, uint32_t s, const uint32_t *keys, size_t keys_len, const uint32_t *bits, size_t bits_len, size_t n,
+hlq_done ref_raster(uint32_t m, uint32_t s,
+                    const uint32_t *keys, size_t keys_len, const uint32_t *bits, size_t bits_len,
+                    size_t n, uint8_t *raster, size_t raster_len);
+hlq_stands ref_standing(uint32_t m, uint32_t s,
+                        const uint32_t *keys, size_t keys_len,
+                        const uint32_t *bits, size_t bits_len, size_t n, uint32_t key);
+hlq_span ref_part(uint32_t m, uint32_t s,
+                  const uint32_t *keys, size_t keys_len, const uint32_t *bits, size_t bits_len,
+                  size_t n, uint32_t key);
+hlq_exists ref_exist(uint32_t m, uint32_t s,
+                     const uint32_t *keys, size_t keys_len, const uint32_t *bits, size_t bits_len,
+                     size_t n, uint32_t row, uint32_t column, uint32_t height, uint32_t width,
+                     uint32_t feature);
+hlq_reported ref_report(uint32_t m, uint32_t s,
+                        const uint32_t *keys, size_t keys_len,
+                        const uint32_t *bits, size_t bits_len, size_t n,
                         uint32_t row, uint32_t column, uint32_t height, uint32_t width);
-hlq_counted ref_select(uint32_t m, uint32_t s, const uint32_t *keys, size_t keys_len, const uint32_t *bits, size_t bits_len, size_t n,
-                       uint32_t row, uint32_t column, uint32_t height, uint32_t width, uint32_t feature,
-                       uint32_t *answer, size_t answer_len);
-hlq_edited ref_paint(uint32_t m, uint32_t s, uint32_t *keys, size_t keys_len, uint32_t *bits, size_t bits_len, size_t n,
-                     uint32_t *log_keys, size_t log_keys_len, uint32_t *log_values, size_t log_values_len, size_t used,
+hlq_counted ref_select(uint32_t m, uint32_t s,
+                       const uint32_t *keys, size_t keys_len, const uint32_t *bits, size_t bits_len,
+                       size_t n, uint32_t row, uint32_t column, uint32_t height, uint32_t width,
+                       uint32_t feature, uint32_t *answer, size_t answer_len);
+hlq_edited ref_paint(uint32_t m, uint32_t s,
+                     uint32_t *keys, size_t keys_len, uint32_t *bits, size_t bits_len, size_t n,
+                     uint32_t *log_keys, size_t log_keys_len,
+                     uint32_t *log_values, size_t log_values_len, size_t used,
                      uint32_t key, uint32_t feature);
-hlq_edited ref_take_back(uint32_t m, uint32_t s, uint32_t *keys, size_t keys_len, uint32_t *bits, size_t bits_len, size_t n,
-                         uint32_t *log_keys, size_t log_keys_len, uint32_t *log_values, size_t log_values_len, size_t used);
-hlq_found ref_findings(uint32_t m, uint32_t s, const uint32_t *keys, size_t keys_len, const uint32_t *bits, size_t bits_len, size_t n,
-                       const hlq_rule *rules, size_t rules_len,
-                       const uint32_t *waiver_ids, size_t waiver_ids_len, const uint32_t *waiver_keys, size_t waiver_keys_len,
-                       uint32_t *found_ids, size_t found_ids_len, uint32_t *found_keys, size_t found_keys_len);
-hlq_counted ref_store(uint32_t m, uint32_t s, const uint32_t *keys, size_t keys_len, const uint32_t *bits, size_t bits_len, size_t n,
-                      uint8_t *file, size_t file_len);
-hlq_loaded ref_load(const uint8_t *file, size_t file_len, uint32_t *keys, size_t keys_len, uint32_t *bits, size_t bits_len);
+hlq_edited ref_take_back(uint32_t m, uint32_t s,
+                         uint32_t *keys, size_t keys_len, uint32_t *bits, size_t bits_len, size_t n,
+                         uint32_t *log_keys, size_t log_keys_len,
+                         uint32_t *log_values, size_t log_values_len, size_t used);
+hlq_found ref_findings(uint32_t m, uint32_t s,
+                       const uint32_t *keys, size_t keys_len, const uint32_t *bits, size_t bits_len,
+                       size_t n, const hlq_rule *rules, size_t rules_len,
+                       const uint32_t *waiver_ids, size_t waiver_ids_len,
+                       const uint32_t *waiver_keys, size_t waiver_keys_len,
+                       uint32_t *found_ids, size_t found_ids_len,
+                       uint32_t *found_keys, size_t found_keys_len);
+hlq_counted ref_store(uint32_t m, uint32_t s,
+                      const uint32_t *keys, size_t keys_len, const uint32_t *bits, size_t bits_len,
+                      size_t n, uint8_t *file, size_t file_len);
+hlq_loaded ref_load(const uint8_t *file, size_t file_len,
+                    uint32_t *keys, size_t keys_len, uint32_t *bits, size_t bits_len);
 
 #endif

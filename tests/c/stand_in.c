@@ -1,55 +1,66 @@
-/* A stand-in for the library whose calls are the reference's. With it the C side of the tests runs under the sanitizers on machines that cannot
- * link the x86-64 archive; there it compares the reference with itself. */
+/* A stand-in for the library whose calls are the reference's. With it the C side of the tests runs under the sanitizers
+ * on machines that cannot link the x86-64 archive; there it compares the reference with itself. */
 #include "reference.h"
 
-hlq_counted hlq_build(uint32_t m, uint32_t s, const uint8_t *raster, size_t raster_len, uint32_t *keys, size_t keys_len, uint32_t *bits, size_t bits_len) {
-    return ref_build(m, s, raster, raster_len, keys, keys_len, bits, bits_len);
+/* The slices of a list and of a log, as the calls take them and as they are passed on. */
+#define TAKE_CONST_LIST const uint32_t *keys, size_t keys_len, const uint32_t *bits, size_t bits_len
+#define TAKE_LIST uint32_t *keys, size_t keys_len, uint32_t *bits, size_t bits_len
+#define LIST keys, keys_len, bits, bits_len
+#define TAKE_LOG uint32_t *log_keys, size_t log_keys_len, uint32_t *log_values, size_t log_values_len
+#define LOG log_keys, log_keys_len, log_values, log_values_len
+#define TAKE_WINDOW uint32_t row, uint32_t column, uint32_t height, uint32_t width
+#define WINDOW row, column, height, width
+
+hlq_counted hlq_build(uint32_t m, uint32_t s, const uint8_t *raster, size_t raster_len, TAKE_LIST) {
+    return ref_build(m, s, raster, raster_len, LIST);
 }
 
-hlq_done hlq_raster(uint32_t m, uint32_t s, const uint32_t *keys, size_t keys_len, const uint32_t *bits, size_t bits_len, size_t n, uint8_t *raster, size_t raster_len) {
-    return ref_raster(m, s, keys, keys_len, bits, bits_len, n, raster, raster_len);
+hlq_done hlq_raster(uint32_t m, uint32_t s, TAKE_CONST_LIST, size_t n, uint8_t *raster, size_t raster_len) {
+    return ref_raster(m, s, LIST, n, raster, raster_len);
 }
 
-hlq_stands hlq_standing(uint32_t m, uint32_t s, const uint32_t *keys, size_t keys_len, const uint32_t *bits, size_t bits_len, size_t n, uint32_t key) {
-    return ref_standing(m, s, keys, keys_len, bits, bits_len, n, key);
+hlq_stands hlq_standing(uint32_t m, uint32_t s, TAKE_CONST_LIST, size_t n, uint32_t key) {
+    return ref_standing(m, s, LIST, n, key);
 }
 
-hlq_span hlq_part(uint32_t m, uint32_t s, const uint32_t *keys, size_t keys_len, const uint32_t *bits, size_t bits_len, size_t n, uint32_t key) {
-    return ref_part(m, s, keys, keys_len, bits, bits_len, n, key);
+hlq_span hlq_part(uint32_t m, uint32_t s, TAKE_CONST_LIST, size_t n, uint32_t key) {
+    return ref_part(m, s, LIST, n, key);
 }
 
-hlq_exists hlq_exist(uint32_t m, uint32_t s, const uint32_t *keys, size_t keys_len, const uint32_t *bits, size_t bits_len, size_t n, uint32_t row, uint32_t column, uint32_t height, uint32_t width, uint32_t feature) {
-    return ref_exist(m, s, keys, keys_len, bits, bits_len, n, row, column, height, width, feature);
+hlq_exists hlq_exist(uint32_t m, uint32_t s, TAKE_CONST_LIST, size_t n, TAKE_WINDOW, uint32_t feature) {
+    return ref_exist(m, s, LIST, n, WINDOW, feature);
 }
 
-hlq_reported hlq_report(uint32_t m, uint32_t s, const uint32_t *keys, size_t keys_len, const uint32_t *bits, size_t bits_len, size_t n, uint32_t row, uint32_t column, uint32_t height, uint32_t width) {
-    return ref_report(m, s, keys, keys_len, bits, bits_len, n, row, column, height, width);
+hlq_reported hlq_report(uint32_t m, uint32_t s, TAKE_CONST_LIST, size_t n, TAKE_WINDOW) {
+    return ref_report(m, s, LIST, n, WINDOW);
 }
 
-hlq_counted hlq_select(uint32_t m, uint32_t s, const uint32_t *keys, size_t keys_len, const uint32_t *bits, size_t bits_len, size_t n, uint32_t row, uint32_t column, uint32_t height, uint32_t width, uint32_t feature, uint32_t *answer, size_t answer_len) {
-    return ref_select(m, s, keys, keys_len, bits, bits_len, n, row, column, height, width, feature, answer, answer_len);
+hlq_counted hlq_select(uint32_t m, uint32_t s, TAKE_CONST_LIST, size_t n, TAKE_WINDOW, uint32_t feature,
+                       uint32_t *answer, size_t answer_len) {
+    return ref_select(m, s, LIST, n, WINDOW, feature, answer, answer_len);
 }
 
-hlq_edited hlq_paint(uint32_t m, uint32_t s, uint32_t *keys, size_t keys_len, uint32_t *bits, size_t bits_len, size_t n, uint32_t *log_keys, size_t log_keys_len, uint32_t *log_values, size_t log_values_len, size_t used, uint32_t key, uint32_t feature) {
-    return ref_paint(m, s, keys, keys_len, bits, bits_len, n, log_keys, log_keys_len, log_values, log_values_len, used, key, feature);
+hlq_edited hlq_paint(uint32_t m, uint32_t s, TAKE_LIST, size_t n, TAKE_LOG, size_t used,
+                     uint32_t key, uint32_t feature) {
+    return ref_paint(m, s, LIST, n, LOG, used, key, feature);
 }
 
-hlq_edited hlq_take_back(uint32_t m, uint32_t s, uint32_t *keys, size_t keys_len, uint32_t *bits, size_t bits_len, size_t n, uint32_t *log_keys, size_t log_keys_len, uint32_t *log_values, size_t log_values_len, size_t used) {
-    return ref_take_back(m, s, keys, keys_len, bits, bits_len, n, log_keys, log_keys_len, log_values, log_values_len, used);
+hlq_edited hlq_take_back(uint32_t m, uint32_t s, TAKE_LIST, size_t n, TAKE_LOG, size_t used) {
+    return ref_take_back(m, s, LIST, n, LOG, used);
 }
 
-hlq_found hlq_findings(uint32_t m, uint32_t s, const uint32_t *keys, size_t keys_len, const uint32_t *bits, size_t bits_len, size_t n, const hlq_rule *rules, size_t rules_len, const uint32_t *waiver_ids, size_t waiver_ids_len, const uint32_t *waiver_keys, size_t waiver_keys_len, uint32_t *found_ids, size_t found_ids_len, uint32_t *found_keys, size_t found_keys_len) {
-    return ref_findings(m, s, keys, keys_len, bits, bits_len, n, rules, rules_len, waiver_ids, waiver_ids_len, waiver_keys, waiver_keys_len, found_ids, found_ids_len, found_keys, found_keys_len);
+hlq_found hlq_findings(uint32_t m, uint32_t s, TAKE_CONST_LIST, size_t n, const hlq_rule *rules, size_t rules_len,
+                       const uint32_t *waiver_ids, size_t waiver_ids_len,
+                       const uint32_t *waiver_keys, size_t waiver_keys_len,
+                       uint32_t *found_ids, size_t found_ids_len, uint32_t *found_keys, size_t found_keys_len) {
+    return ref_findings(m, s, LIST, n, rules, rules_len, waiver_ids, waiver_ids_len, waiver_keys, waiver_keys_len,
+                        found_ids, found_ids_len, found_keys, found_keys_len);
 }
 
-hlq_counted hlq_store(uint32_t m, uint32_t s, const uint32_t *keys, size_t keys_len, const uint32_t *bits, size_t bits_len, size_t n, uint8_t *file, size_t file_len) {
-    return ref_store(m, s, keys, keys_len, bits, bits_len, n, file, file_len);
+hlq_counted hlq_store(uint32_t m, uint32_t s, TAKE_CONST_LIST, size_t n, uint8_t *file, size_t file_len) {
+    return ref_store(m, s, LIST, n, file, file_len);
 }
 
-hlq_loaded hlq_load(const uint8_t *file, size_t file_len, uint32_t *keys, size_t keys_len, uint32_t *bits, size_t bits_len) {
-    return ref_load(file, file_len, keys, keys_len, bits, bits_len);
-}
+hlq_loaded hlq_load(const uint8_t *file, size_t file_len, TAKE_LIST) { return ref_load(file, file_len, LIST); }
 
-uint64_t hlq_empty(void) {
-    return 0;
-}
+uint64_t hlq_empty(void) { return 0; }

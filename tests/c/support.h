@@ -1,5 +1,5 @@
-/* What the test programs share: seeded random numbers, rasters of several kinds, lent buffers with guard zones, and the count of every pair of
- * a call and its refusal that was seen. */
+/* What the test programs share: seeded random numbers, rasters of several kinds, lent buffers with guard zones, and the
+ * count of every pair of a call and its refusal that was seen. */
 #ifndef SUPPORT_H
 #define SUPPORT_H
 
@@ -13,17 +13,37 @@
 #define SOME(rounds) (rounds)
 #endif
 
-enum { GUARD = 8, MAX_REFUSAL = 17 };
+enum { GUARD = 8, MAX_REFUSAL = HLQ_FILE_VERSION };
 
-typedef enum { CALL_BUILD, CALL_RASTER, CALL_STANDING, CALL_PART, CALL_EXIST, CALL_REPORT, CALL_SELECT, CALL_PAINT, CALL_TAKE_BACK,
-               CALL_FINDINGS, CALL_STORE, CALL_LOAD, CALLS } call;
+typedef enum {
+    CALL_BUILD,
+    CALL_RASTER,
+    CALL_STANDING,
+    CALL_PART,
+    CALL_EXIST,
+    CALL_REPORT,
+    CALL_SELECT,
+    CALL_PAINT,
+    CALL_TAKE_BACK,
+    CALL_FINDINGS,
+    CALL_STORE,
+    CALL_LOAD,
+    CALLS
+} call;
+
+/* Memory, or the end of the program. */
+void *room_for(size_t bytes);
 
 /* Random numbers: the same on every machine. */
 void seed(uint64_t value);
 uint32_t below(uint32_t n);
 
-/* A buffer as it is lent: len elements of the given size between two guard zones. The library and the reference each get a copy. */
-typedef struct { uint8_t *whole; size_t len, size; } lent;
+/* A buffer as it is lent: len elements of the given size between two guard zones. The library and the reference each
+ * get a copy. */
+typedef struct {
+    uint8_t *whole;
+    size_t len, size;
+} lent;
 
 lent lend(size_t len, size_t size);
 lent copy_of(lent b);
@@ -40,7 +60,11 @@ void same_results(call which, uint64_t refusal, const void *library, const void 
 void fill_raster(uint8_t *raster, uint32_t m, uint32_t s, uint32_t kind);
 
 /* A list, in buffers of its own. */
-typedef struct { uint32_t m, s; size_t n; uint32_t *keys, *bits; } map;
+typedef struct {
+    uint32_t m, s;
+    size_t n;
+    uint32_t *keys, *bits;
+} map;
 
 map random_map(uint32_t m);
 void free_map(map a);
@@ -48,7 +72,8 @@ void free_map(map a);
 void damage(map *a);
 uint32_t random_key(uint32_t m);
 
-/* Prints how often the call gave each refusal; fails where one of the mask (bit r for refusal r) did not occur, or another did. */
+/* Prints how often the call gave each refusal; fails where one of the mask (bit r for refusal r) did not occur, or
+ * another did. */
 void expect_pairs(call which, uint32_t mask);
 /* Prints the numbers of comparisons and of pairs of a call and its refusal. */
 int finish(const char *name);

@@ -1,4 +1,5 @@
-/* Store and load against the reference: files written and read back, cut, lengthened and spoilt byte by byte, tight rooms. */
+/* Store and load against the reference: files written and read back, cut, lengthened and spoilt byte by byte, tight
+ * rooms. */
 #include "support.h"
 
 #include <stdlib.h>
@@ -25,7 +26,7 @@ static void try_load(const uint8_t *file, size_t file_len, size_t keys_len, size
 
 static void round_of(uint32_t m) {
     map a = random_map(m);
-    size_t length = 11 + 6 * a.n;
+    size_t length = HLQ_FILE_BYTES(a.n);
     try_store(a, a.n, length);
     try_store(a, a.n, length + below(9));
     try_store(a, a.n, below((uint32_t)length));
@@ -39,11 +40,12 @@ static void round_of(uint32_t m) {
     try_load(bytes, length, a.n - 1, a.n);
     try_load(bytes, length, a.n, a.n - 1);
     for (uint32_t i = 0; i < 3; i++) try_load(bytes, below((uint32_t)length + 9), a.n, a.n);
-    try_load(bytes, below(11), a.n, a.n);
+    try_load(bytes, below(HLQ_FILE_BYTES(0)), a.n, a.n);
     for (uint32_t i = 0; i < (m < 7 ? 24u : 4u); i++) {
         lent spoilt = copy_of(file);
         uint8_t *at = start(spoilt);
-        for (uint32_t j = 1 + below(2); j > 0; j--) at[below(below(2) ? 11 : (uint32_t)length)] ^= (uint8_t)(1u << below(8));
+        for (uint32_t j = 1 + below(2); j > 0; j--)
+            at[below(below(2) ? HLQ_FILE_BYTES(0) : (uint32_t)length)] ^= (uint8_t)(1u << below(8));
         try_load(at, length, a.n + below(2), a.n - below(2));
         give_back(spoilt);
     }
@@ -54,14 +56,17 @@ static void round_of(uint32_t m) {
     bytes[0] = 'h';
     try_load(bytes, length - 1, 0, 0);
     give_back(file);
-    a.s = 17;
+    a.s = HLQ_MOST_SLOTS + 1;
     try_store(a, a.n - 1, 0);
     free_map(a);
 }
 
 int main(void) {
-    for (uint32_t m = 0; m <= 10; m++)
-        for (uint32_t i = 0; i < SOME(m <= 4 ? 150u : m <= 6 ? 25u : 2u); i++) { seed(8888 + 900 * m + i); round_of(m); }
+    for (uint32_t m = 0; m <= HLQ_DEEPEST_M; m++)
+        for (uint32_t i = 0; i < SOME(m <= 4 ? 150u : m <= 6 ? 25u : 2u); i++) {
+            seed(8888 + 900 * m + i);
+            round_of(m);
+        }
     expect_pairs(CALL_STORE, 1u << 0 | 1u << 1 | 1u << 4 | 1u << 12);
     expect_pairs(CALL_LOAD, 1u << 0 | 1u << 15 | 1u << 16 | 1u << 17 | 1u << 1 | 1u << 4 | 1u << 9);
     return finish("file");

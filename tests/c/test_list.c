@@ -1,11 +1,12 @@
-/* Build, raster, standing and part against the reference: every m, many kinds of raster, unequal slices, tight rooms, damaged lists, several
- * errors in one call. */
+/* Build, raster, standing and part against the reference: every m, many kinds of raster, unequal slices, tight rooms,
+ * damaged lists, several errors in one call. */
 #include "support.h"
 
 #include <stdlib.h>
 #include <string.h>
 
-static void try_build(uint32_t m, uint32_t s, const uint8_t *raster, size_t raster_len, size_t keys_len, size_t bits_len) {
+static void try_build(uint32_t m, uint32_t s, const uint8_t *raster, size_t raster_len, size_t keys_len,
+                      size_t bits_len) {
     lent keys = lend(keys_len, 4), bits = lend(bits_len, 4), ref_keys = copy_of(keys), ref_bits = copy_of(bits);
     hlq_counted a = hlq_build(m, s, raster, raster_len, start(keys), keys_len, start(bits), bits_len);
     hlq_counted b = ref_build(m, s, raster, raster_len, start(ref_keys), keys_len, start(ref_bits), bits_len);
@@ -17,11 +18,11 @@ static void try_build(uint32_t m, uint32_t s, const uint8_t *raster, size_t rast
 
 static void builds(uint32_t m) {
     size_t pixels = (size_t)1 << 2 * m;
-    uint8_t *raster = malloc(pixels + 1);
-    uint32_t s = 1 + below(16);
+    uint8_t *raster = room_for(pixels + 1);
+    uint32_t s = 1 + below(HLQ_MOST_SLOTS);
     fill_raster(raster, m, s, below(5));
     raster[pixels] = 0;
-    size_t most = (4 * pixels - 1) / 3;
+    size_t most = HLQ_MOST_RECORDS(m);
     lent keys = lend(most, 4), bits = lend(most, 4);
     size_t n = ref_build(m, s, raster, pixels, start(keys), most, start(bits), most).count;
     give_back(keys), give_back(bits);
@@ -33,8 +34,8 @@ static void builds(uint32_t m) {
     try_build(m, s, raster, pixels - 1, n, n);
     try_build(m, s, raster, pixels + 1, n, n);
     try_build(m, 0, raster, pixels, n, n);
-    try_build(m, 17 + below(1000), raster, pixels, n, n);
-    try_build(11 + below(40), s, raster, pixels, n, n);
+    try_build(m, HLQ_MOST_SLOTS + 1 + below(1000), raster, pixels, n, n);
+    try_build(HLQ_DEEPEST_M + 1 + below(40), s, raster, pixels, n, n);
     try_build(0xFFFFFFFFu, 0, raster, 0, n, n);
     raster[below((uint32_t)pixels)] = (uint8_t)(s + below(256 - s));
     try_build(m, s, raster, pixels, n, n);
@@ -51,7 +52,8 @@ static void try_list(map a, size_t keys_len, size_t bits_len, size_t n, uint32_t
     memcpy(start(bits), a.bits, 4 * (bits_len < a.n ? bits_len : a.n));
     lent kept_keys = copy_of(keys), kept_bits = copy_of(bits), ref_raster_buffer = copy_of(raster);
     hlq_done a1 = hlq_raster(a.m, a.s, start(keys), keys_len, start(bits), bits_len, n, start(raster), raster_len);
-    hlq_done b1 = ref_raster(a.m, a.s, start(keys), keys_len, start(bits), bits_len, n, start(ref_raster_buffer), raster_len);
+    hlq_done b1 =
+        ref_raster(a.m, a.s, start(keys), keys_len, start(bits), bits_len, n, start(ref_raster_buffer), raster_len);
     same_results(CALL_RASTER, b1.refusal, &a1, &b1, sizeof a1);
     same_buffers("raster", raster, ref_raster_buffer);
     hlq_stands a2 = hlq_standing(a.m, a.s, start(keys), keys_len, start(bits), bits_len, n, key);
@@ -62,7 +64,8 @@ static void try_list(map a, size_t keys_len, size_t bits_len, size_t n, uint32_t
     same_results(CALL_PART, b2.refusal, &a3, &b3, sizeof a3);
     same_buffers("keys, only read", keys, kept_keys);
     same_buffers("bits, only read", bits, kept_bits);
-    give_back(keys), give_back(bits), give_back(raster), give_back(kept_keys), give_back(kept_bits), give_back(ref_raster_buffer);
+    give_back(keys), give_back(bits), give_back(raster), give_back(kept_keys), give_back(kept_bits),
+        give_back(ref_raster_buffer);
 }
 
 static void lists(uint32_t m) {
@@ -80,19 +83,19 @@ static void lists(uint32_t m) {
     try_list(a, a.n, a.n, (size_t)-1, 0, pixels);
     for (uint32_t i = 0; i < 6 && m < 8; i++) {
         map b = a;
-        b.keys = malloc(4 * (a.n + 8)), b.bits = malloc(4 * (a.n + 8));
+        b.keys = room_for(4 * (a.n + 8)), b.bits = room_for(4 * (a.n + 8));
         memcpy(b.keys, a.keys, 4 * a.n), memcpy(b.bits, a.bits, 4 * a.n);
         for (uint32_t j = 1 + below(2); j > 0 && b.n > 0; j--) damage(&b);
         try_list(b, b.n, b.n + below(2), b.n, random_key(b.m), (size_t)1 << 2 * b.m);
         free_map(b);
     }
-    a.s = below(2) ? 0 : 17;
+    a.s = below(2) ? 0 : HLQ_MOST_SLOTS + 1;
     try_list(a, a.n, a.n, a.n, 0xFFFFFFFFu, 0);
     free_map(a);
 }
 
 int main(void) {
-    for (uint32_t m = 0; m <= 10; m++) {
+    for (uint32_t m = 0; m <= HLQ_DEEPEST_M; m++) {
         uint32_t rounds = m <= 4 ? 300 : m <= 6 ? 40 : m <= 8 ? 4 : 1;
         for (uint32_t i = 0; i < SOME(rounds); i++) {
             seed(1000 * m + i);

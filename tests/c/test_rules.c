@@ -1,12 +1,15 @@
-/* Findings against the reference: rules and waivers good and wrong in each way, several errors in one call, tight rooms. */
+/* Findings against the reference: rules and waivers good and wrong in each way, several errors in one call, tight
+ * rooms. */
 #include "support.h"
 
 #include <stdlib.h>
 #include <string.h>
 
-static hlq_found try_findings(map a, size_t n, const hlq_rule *rules, size_t rules_len, const uint32_t *ids, size_t ids_len, const uint32_t *keys,
-                              size_t keys_len, size_t room_ids, size_t room_keys) {
-    lent found_ids = lend(room_ids, 4), found_keys = lend(room_keys, 4), ref_ids = copy_of(found_ids), ref_keys = copy_of(found_keys);
+static hlq_found try_findings(map a, size_t n, const hlq_rule *rules, size_t rules_len, const uint32_t *ids,
+                              size_t ids_len, const uint32_t *keys, size_t keys_len, size_t room_ids,
+                              size_t room_keys) {
+    lent found_ids = lend(room_ids, 4), found_keys = lend(room_keys, 4), ref_ids = copy_of(found_ids),
+         ref_keys = copy_of(found_keys);
     hlq_found x = hlq_findings(a.m, a.s, a.keys, a.n, a.bits, a.n, n, rules, rules_len, ids, ids_len, keys, keys_len,
                                start(found_ids), room_ids, start(found_keys), room_keys);
     hlq_found y = ref_findings(a.m, a.s, a.keys, a.n, a.bits, a.n, n, rules, rules_len, ids, ids_len, keys, keys_len,
@@ -20,7 +23,12 @@ static hlq_found try_findings(map a, size_t n, const hlq_rule *rules, size_t rul
 
 enum { MOST_RULES = 9, MOST_WAIVERS = 60 };
 
-typedef struct { hlq_rule rules[MOST_RULES]; size_t count; uint32_t ids[MOST_WAIVERS], keys[MOST_WAIVERS]; size_t waivers; } questions;
+typedef struct {
+    hlq_rule rules[MOST_RULES];
+    size_t count;
+    uint32_t ids[MOST_WAIVERS], keys[MOST_WAIVERS];
+    size_t waivers;
+} questions;
 
 static questions ask(map a) {
     questions q = { .count = below(MOST_RULES), .waivers = 0 };
@@ -32,9 +40,10 @@ static questions ask(map a) {
     }
     /* waivers: some findings, and some keys at random, ascending */
     for (size_t i = 0; i < q.count; i++) {
-        uint32_t *found = malloc(4 * (size_t)edge * edge + 4);
-        size_t count = ref_select(a.m, a.s, a.keys, a.n, a.bits, a.n, a.n, q.rules[i].row, q.rules[i].column, q.rules[i].height, q.rules[i].width,
-                                  q.rules[i].feature, found, (size_t)edge * edge).count;
+        uint32_t *found = room_for(4 * (size_t)edge * edge);
+        size_t count = ref_select(a.m, a.s, a.keys, a.n, a.bits, a.n, a.n, q.rules[i].row, q.rules[i].column,
+                                  q.rules[i].height, q.rules[i].width, q.rules[i].feature, found, (size_t)edge * edge)
+                           .count;
         uint32_t last = 0;
         for (size_t j = 0; j < count && q.waivers < MOST_WAIVERS - 1; j++)
             if (below(3) == 0) {
@@ -52,15 +61,32 @@ static questions ask(map a) {
 static void spoil(questions *q, map a) {
     size_t i = q->count ? below((uint32_t)q->count) : 0, j = q->waivers ? below((uint32_t)q->waivers) : 0;
     switch (below(9)) {
-    case 0: if (q->count) q->rules[i].height = 0; break;
-    case 1: if (q->count) q->rules[i].column = 0xFFFFFFFFu; break;
-    case 2: if (q->count) q->rules[i].feature = a.s; break;
-    case 3: if (q->count > 1) q->rules[i].id = q->rules[i ? i - 1 : 1].id; break;
-    case 4: if (q->waivers) q->ids[j] += 1; break;
-    case 5: if (q->waivers) q->keys[j] = ref_power(5, a.m); break;
-    case 6: if (q->waivers > 1) q->keys[j] = q->keys[j ? j - 1 : 1], q->ids[j] = q->ids[j ? j - 1 : 1]; break;
-    case 7: if (q->waivers) q->ids[j] = 12345678; break;
-    default: if (q->count) q->count--;
+    case 0:
+        if (q->count) q->rules[i].height = 0;
+        break;
+    case 1:
+        if (q->count) q->rules[i].column = 0xFFFFFFFFu;
+        break;
+    case 2:
+        if (q->count) q->rules[i].feature = a.s;
+        break;
+    case 3:
+        if (q->count > 1) q->rules[i].id = q->rules[i ? i - 1 : 1].id;
+        break;
+    case 4:
+        if (q->waivers) q->ids[j] += 1;
+        break;
+    case 5:
+        if (q->waivers) q->keys[j] = ref_power(5, a.m);
+        break;
+    case 6:
+        if (q->waivers > 1) q->keys[j] = q->keys[j ? j - 1 : 1], q->ids[j] = q->ids[j ? j - 1 : 1];
+        break;
+    case 7:
+        if (q->waivers) q->ids[j] = 12345678;
+        break;
+    default:
+        if (q->count) q->count--;
     }
 }
 
@@ -69,10 +95,12 @@ static void round_of(uint32_t m) {
     questions q = ask(a);
     size_t room = 4 * ((size_t)1 << 2 * m) + 8;
     for (int i = 0; i < 4; i++) {
-        hlq_found all = try_findings(a, a.n, q.rules, q.count, q.ids, q.waivers, q.keys, q.waivers, room, room + below(3));
+        hlq_found all =
+            try_findings(a, a.n, q.rules, q.count, q.ids, q.waivers, q.keys, q.waivers, room, room + below(3));
         if (all.refusal == 0) {
             try_findings(a, a.n, q.rules, q.count, q.ids, q.waivers, q.keys, q.waivers, all.live, all.live);
-            if (all.live) try_findings(a, a.n, q.rules, q.count, q.ids, q.waivers, q.keys, q.waivers, all.live, all.live - 1);
+            if (all.live)
+                try_findings(a, a.n, q.rules, q.count, q.ids, q.waivers, q.keys, q.waivers, all.live, all.live - 1);
         }
         try_findings(a, a.n, q.rules, q.count, q.ids, q.waivers, q.keys, q.waivers, below(6), below(6));
         try_findings(a, a.n, q.rules, q.count, q.ids, q.waivers, q.keys, below((uint32_t)q.waivers + 1), room, room);
@@ -88,7 +116,10 @@ static void round_of(uint32_t m) {
 
 int main(void) {
     for (uint32_t m = 0; m <= 8; m++)
-        for (uint32_t i = 0; i < SOME(m <= 4 ? 150u : m <= 6 ? 20u : 3u); i++) { seed(4321 + 800 * m + i); round_of(m); }
+        for (uint32_t i = 0; i < SOME(m <= 4 ? 150u : m <= 6 ? 20u : 3u); i++) {
+            seed(4321 + 800 * m + i);
+            round_of(m);
+        }
     expect_pairs(CALL_FINDINGS, 1u << 0 | 1u << 1 | 1u << 4 | 1u << 13 | 1u << 14 | 1u << 12);
     return finish("rules");
 }

@@ -1,0 +1,345 @@
+#!/usr/bin/env python3
+"""Holds include/prowcurl.h against what it declares, so that neither can change alone.
+
+  tests/boundary.py               the header against the sources: every call with its result and its parameters (names,
+                                  types, order), every struct with its fields, the limits of m and s, and the order of
+                                  the refusals at each call, which is the table in crates/definitions/specs/Calls
+  tests/boundary.py --archive A   the header against the archive: it defines the declared calls and no other hlq_ name,
+                                  wants memset alone, and has no data that two calls could share
+  tests/boundary.py --shared S    the header against the shared library: it exports the declared calls alone
+  tests/boundary.py --self-test   makes every small change of one side alone: a name, a type, an order, an item more or
+                                  less, in every call, struct, limit and table; each must be found
+
+A slice of Rattle is a pointer and a length in C: x: &[u32] is const uint32_t *x, size_t x_len.
+"""
+import os
+import re
+import subprocess
+import sys
+from collections import namedtuple
+from functools import lru_cache
+from pathlib import Path
+
+ROOT = Path(__file__).resolve().parent.parent
+HEADER = ROOT / "include" / "prowcurl.h"
+NUMBERS = {"u8": "uint8_t", "u16": "uint16_t", "u32": "uint32_t", "u64": "uint64_t", "usize": "size_t",
+           "i8": "int8_t", "i16": "int16_t", "i32": "int32_t", "i64": "int64_t"}
+LIMITS = {"HLQ_DEEPEST_M": "DEEPEST_LEVEL", "HLQ_MOST_SLOTS": "SLOT_LIMIT"}
+
+# calls: name to (result, [(type, name)]); structs: name to [(type, field)]; limits: name to number;
+# refusals: call to its refusal numbers in order
+Side = namedtuple("Side", "calls structs limits refusals")
+
+
+class Unreadable(Exception):
+    pass
+
+
+def read_header(text):
+    refusals = refusals_of_header(text)
+    limits = {name: int(value) for name, value in re.findall(r"#define (\w+) (\d+)\b", text) if name in LIMITS}
+    text = re.sub(r"/\*.*?\*/", " ", text, flags=re.S)
+    text = re.sub(r"^\s*#.*$", "", text, flags=re.M)
+    text = re.sub(r'extern "C" \{', "", text)
+    text = re.sub(r"static inline [^{]*\{.*?^\}", "", text, flags=re.S | re.M)
+    text = re.sub(r"\benum \{.*?\};", "", text, flags=re.S)
+    structs = {}
+    for body, name in re.findall(r"typedef struct \{(.*?)\} (\w+);", text, flags=re.S):
+        fields = []
+        for line in body.split(";"):
+            if line.strip():
+                kind, names = line.split(None, 1)
+                fields += [(kind, field.strip()) for field in names.split(",")]
+        structs[name] = fields
+    text = re.sub(r"typedef struct \{.*?\} \w+;", "", text, flags=re.S)
+    calls = {}
+    for declaration in text.replace("}", "").split(";"):
+        if not declaration.strip():
+            continue
+        found = re.fullmatch(r"\s*(\w+) (\w+)\((.*)\)\s*", declaration, flags=re.S)
+        if not found:
+            raise Unreadable("the header has a declaration that cannot be read: " + " ".join(declaration.split()))
+        result, name, parameters = found.groups()
+        parameters = [] if parameters.strip() == "void" else parameters.split(",")
+        calls[name] = (result, [read_parameter(parameter) for parameter in parameters])
+    return Side(calls, structs, limits, refusals)
+
+
+def read_parameter(text):
+    found = re.fullmatch(r"\s*((?:const )?\w+ \*|\w+ )(\w+)\s*", " ".join(text.split()))
+    if not found:
+        raise Unreadable("the header has a parameter that cannot be read: " + text)
+    return found.group(1).strip(), found.group(2)
+
+
+# The names after "Refusals:" in the comment above each call, as numbers.
+def refusals_of_header(text):
+    numbers = {name: int(value) for name, value in re.findall(r"\b(HLQ_\w+) = (\d+)", text)}
+    refusals = {}
+    for comment, name in re.findall(r"/\*((?:(?!\*/).)*)\*/\s*\w+ (hlq_\w+)\(", text, flags=re.S):
+        if "Refusals:" not in comment:
+            continue
+        said = re.sub(r"\n \*", " ", comment.split("Refusals:")[1])
+        said = re.split(r"in\s+this\s+order", said)[0]
+        try:
+            refusals[name] = [numbers[word] for word in re.findall(r"HLQ_\w+", said)]
+        except KeyError as unknown:
+            raise Unreadable(f"{name}: the header names a refusal that it does not define: {unknown}")
+    return refusals
+
+
+# The sources: of the crate prowcurl its exported functions, of the crate definitions its structs and its tables of
+# refusals, of the crate keys its limits.
+def read_sources(prowcurl, definitions, keys, tables):
+    structs, calls = {}, {}
+    laid_out = r"#\[repr\(C\)\]\s*pub struct (\w+) \{(.*?)\}"
+    for name, body in re.findall(laid_out, without_comments(definitions), flags=re.S):
+        structs[c_name(name)] = [read_field(name, field) for field in body.split(",") if field.strip()]
+    exported = re.findall(r'pub extern "C" fn (\w+)\((.*?)\)(?: -> (\w+))?\s', without_comments(prowcurl), flags=re.S)
+    for name, parameters, result in exported:
+        taken = []
+        for parameter in filter(None, (p.strip() for p in parameters.split(","))):
+            label, kind = parameter.split(": ")
+            taken += c_parameters(label, kind)
+        calls[name] = (c_type(result) if result else "void", taken)
+    reached = {kind.replace("const ", "").rstrip(" *") for result, taken in calls.values()
+               for kind in [result] + [kind for kind, _ in taken]}
+    structs = {name: fields for name, fields in structs.items() if name in reached}
+    constants = dict(re.findall(r"pub const (\w+): u32 = (\d+);", keys))
+    limits = {name: int(constants[source]) for name, source in LIMITS.items()}
+    refusals = {}
+    for name in calls:
+        table = tables.get("".join(word.capitalize() for word in name.split("_")[1:]), "")
+        rows = [int(number) for number in re.findall(r"\bgives (\d+)", re.sub(r"--.*", "", table))]
+        if rows:
+            refusals[name] = rows
+    return Side(calls, structs, limits, refusals)
+
+
+def read_field(struct, text):
+    found = re.fullmatch(r"\s*pub (\w+): (\w+)\s*", text)
+    if not found or found.group(2) not in NUMBERS:
+        raise Unreadable(f"struct {struct} has a field that is no number: {text.strip()}")
+    return NUMBERS[found.group(2)], found.group(1)
+
+
+def without_comments(text):
+    return re.sub(r"//.*", "", text)
+
+
+def c_name(name):
+    return "hlq" + re.sub(r"([A-Z])", lambda capital: "_" + capital.group(1).lower(), name)
+
+
+def c_type(kind):
+    return NUMBERS.get(kind) or c_name(kind)
+
+
+def c_parameters(label, kind):
+    found = re.fullmatch(r"&(mut )?\[(\w+)\]", kind)
+    if not found:
+        return [(c_type(kind), label)]
+    const = "" if found.group(1) else "const "
+    return [(const + c_type(found.group(2)) + " *", label), ("size_t", label + "_len")]
+
+
+def differences(header, sources):
+    found = []
+    for what, said, done in (("call", header.calls, sources.calls), ("struct", header.structs, sources.structs)):
+        found += [f"{what} {name}: in the header alone" for name in said if name not in done]
+        found += [f"{what} {name}: in the sources alone" for name in done if name not in said]
+        found += [f"{what} {name}:\n  header  {said[name]}\n  sources {done[name]}"
+                  for name in said if name in done and said[name] != done[name]]
+    found += [f"limit {name}: header {header.limits.get(name)}, sources {sources.limits[name]}"
+              for name in sources.limits if header.limits.get(name) != sources.limits[name]]
+    found += [f"refusals of {name}: header {header.refusals.get(name)}, definitions {rows}"
+              for name, rows in sources.refusals.items() if header.refusals.get(name) != rows]
+    return found
+
+
+def joined(folder):
+    return "\n".join(path.read_text() for path in sorted(folder.rglob("*.rt")))
+
+
+@lru_cache(maxsize=None)
+def texts():
+    crates = ROOT / "crates"
+    tables = {path.stem: path.read_text() for path in sorted((crates / "definitions/specs/Calls").glob("*.antt"))}
+    return {"header": HEADER.read_text(), "prowcurl": joined(crates / "prowcurl/src"),
+            "definitions": joined(crates / "definitions/src"), "keys": joined(crates / "keys/src"), "tables": tables}
+
+
+def compare(t):
+    header = read_header(t["header"])
+    sources = read_sources(t["prowcurl"], t["definitions"], t["keys"], t["tables"])
+    return header, sources, differences(header, sources)
+
+
+def check_sources():
+    header, sources, found = compare(texts())
+    if not header.calls or not header.structs or not sources.refusals:
+        found.append("no calls, no structs or no tables of refusals were found at all")
+    for line in found:
+        print(line)
+    unlike = sorted(set(sources.calls) - set(sources.refusals))
+    print(f"{len(header.calls)} calls and {len(header.structs)} structs of the header against the sources, and the "
+          f"order of refusals at {len(sources.refusals)} calls (no table: {', '.join(unlike)})")
+    return not found
+
+
+def tool(name, *arguments):
+    done = subprocess.run([os.environ.get("BINUTILS", "") + name, *arguments], capture_output=True, text=True)
+    if done.returncode != 0:
+        raise Unreadable(done.stderr.strip())
+    return done.stdout
+
+
+def check_archive(archive):
+    found = []
+    declared = set(read_header(HEADER.read_text()).calls)
+    defined = {line.split()[-1] for line in tool("nm", "--defined-only", "--extern-only", archive).splitlines()
+               if len(line.split()) == 3}
+    wanted = {line.split()[-1] for line in tool("nm", "--undefined-only", archive).splitlines() if " U " in line}
+    exported = {name for name in defined if name.startswith("hlq_")}
+    found += [f"{name}: declared, and not in the archive" for name in sorted(declared - exported)]
+    found += [f"{name}: in the archive, and not declared" for name in sorted(exported - declared)]
+    said = re.search(r"the archive wants (\w+), and nothing else", HEADER.read_text())
+    if not said or wanted - defined != {said.group(1)}:
+        found.append(f"the archive wants {sorted(wanted - defined)}, and the header says another thing")
+    for line in tool("size", archive).splitlines()[1:]:
+        data, bss = line.split()[1:3]
+        if (data, bss) != ("0", "0"):
+            found.append(f"the archive has data of its own: {line.strip()}")
+    for line in found:
+        print(line)
+    print(f"{len(exported)} calls in the archive; it wants {', '.join(sorted(wanted - defined))}")
+    return not found
+
+
+def check_shared(library):
+    declared = set(read_header(HEADER.read_text()).calls)
+    exported = {line.split()[-1] for line in tool("nm", "--dynamic", "--defined-only", library).splitlines()}
+    for name in sorted(declared ^ exported):
+        print(f"{name}: " + ("declared, and not exported" if name in declared else "exported, and not declared"))
+    print(f"{len(exported)} names exported by the shared library")
+    return declared == exported
+
+
+# The self-test: every small change of one side that can be made by rule, one at a time.
+def self_test():
+    if compare(texts())[2]:
+        print("header and sources differ as they stand")
+        return False
+    made, missed = 0, []
+    for where, text in changes(texts()):
+        made += 1
+        try:
+            found = compare({**texts(), where: text})[2]
+        except Unreadable as why:
+            found = [why]
+        if not found:
+            missed.append(f"a change of the {where} that is not found: {first_difference(texts()[where], text)}")
+    for line in missed:
+        print(line)
+    print(f"{made} changes of the header alone or of the sources alone, {made - len(missed)} found")
+    return made > 0 and not missed
+
+
+def changes(t):
+    number = r"(u?int\d+_t|size_t|hlq_\w+)"
+    for found in re.finditer(r"^(\w+) (hlq_\w+)\(([^;]*)\);", t["header"], flags=re.M):
+        result, name, parameters = found.groups()
+        replace = lambda by: t["header"][:found.start()] + by + t["header"][found.end():]
+        yield "header", replace("")
+        yield "header", replace(f"int16_t {name}({parameters});")
+        yield "header", replace(f"{result} {name}_renamed({parameters});")
+        items = [] if parameters == "void" else [" ".join(item.split()) for item in parameters.split(",")]
+        for changed in changed_lists(items, "uint32_t more", [
+                lambda item: item + "_renamed",
+                lambda item: re.sub(number, "int16_t", item, count=1),
+                lambda item: item.replace("const ", ""),
+                lambda item: "const " + item if "*" in item and "const " not in item else item]):
+            yield "header", replace(f"{result} {name}({', '.join(changed) or 'void'});")
+    for found in re.finditer(r"typedef struct \{ (.*?) \} (\w+);", t["header"]):
+        replace = lambda by: t["header"][:found.start()] + by + t["header"][found.end():]
+        yield "header", replace("")
+        items = [f"{kind} {field}" for kind, field in read_header(found.group(0)).structs[found.group(2)]]
+        for changed in changed_lists(items, "uint64_t more", [
+                lambda item: item + "_renamed", lambda item: re.sub(number, "int16_t", item, count=1)]):
+            yield "header", replace(f"typedef struct {{ {'; '.join(changed)}; }} {found.group(2)};")
+    for name in LIMITS:
+        yield "header", re.sub(rf"(#define {name} \d+)", r"\g<1>0", t["header"])
+    for found in re.finditer(r"Refusals: (HLQ_[^.]*)in\s+(?:\* )?this", t["header"]):
+        for changed in changed_lists(re.findall(r"HLQ_\w+", found.group(1)), "HLQ_LOG", []):
+            said = ", ".join(changed) + ", "
+            yield "header", t["header"][:found.start(1)] + said + t["header"][found.end(1):]
+    for refusal in sorted(set().union(*read_header(t["header"]).refusals.values())):
+        yield "header", re.sub(rf"(\bHLQ_\w+) = {refusal}\b", r"\1 = 99", t["header"])
+
+    rattle = r"\b[ui](8|16|32|64|size)\b|\[[A-Z]\w+\]"
+    for found in re.finditer(r'pub extern "C" fn (\w+)\((.*?)\) -> (\w+)', t["prowcurl"], flags=re.S):
+        name, parameters, result = found.groups()
+        replace = lambda by: t["prowcurl"][:found.start()] + by + t["prowcurl"][found.end():]
+        yield "prowcurl", replace(f"pub fn {name}({parameters}) -> {result}")
+        yield "prowcurl", replace(f'pub extern "C" fn {name}_renamed({parameters}) -> {result}')
+        yield "prowcurl", replace(f'pub extern "C" fn {name}({parameters}) -> i16')
+        items = [item.strip() for item in parameters.split(",") if item.strip()]
+        for changed in changed_lists(items, "more: u32", [
+                lambda item: item.replace(":", "_renamed:"),
+                lambda item: re.sub(rattle, lambda kind: "[i16]" if "[" in kind.group(0) else "i16", item),
+                lambda item: item.replace("&mut ", "&") if "&mut " in item else item.replace("&", "&mut ")]):
+            yield "prowcurl", replace(f'pub extern "C" fn {name}({", ".join(changed)}) -> {result}')
+    reached = read_header(t["header"]).structs
+    for found in re.finditer(r"#\[repr\(C\)\]\npub struct (\w+) \{(.*?)\}", t["definitions"], flags=re.S):
+        if c_name(found.group(1)) not in reached:
+            continue
+        replace = lambda by: t["definitions"][:found.start()] + by + t["definitions"][found.end():]
+        yield "definitions", replace(found.group(0).replace("#[repr(C)]", ""))
+        items = [item.strip() for item in found.group(2).split(",") if item.strip()]
+        for changed in changed_lists(items, "pub more: u64", [
+                lambda item: item.replace(":", "_renamed:"), lambda item: re.sub(rattle, "i16", item)]):
+            yield "definitions", replace(f"#[repr(C)]\npub struct {found.group(1)} {{ {', '.join(changed)} }}")
+    for constant in LIMITS.values():
+        yield "keys", re.sub(rf"(pub const {constant}: u32 = \d+)", r"\g<1>0", t["keys"])
+    for name, table in t["tables"].items():
+        for row in re.finditer(r"gives (\d+)", table):
+            yield "tables", {**t["tables"], name: table[:row.start()] + "gives 99" + table[row.end():]}
+
+
+# Each item left out, changed in each way, or exchanged with the next, and one item more.
+def changed_lists(items, more, ways):
+    yield items + [more]
+    for i, item in enumerate(items):
+        yield items[:i] + items[i + 1:]
+        for way in ways:
+            if way(item) != item:
+                yield items[:i] + [way(item)] + items[i + 1:]
+        if i + 1 < len(items) and items[i + 1] != item:
+            yield items[:i] + [items[i + 1], item] + items[i + 2:]
+
+
+def first_difference(old, new):
+    lines = lambda text: (text if isinstance(text, str) else "\n".join(text.values())).splitlines()
+    return next((f"'{b.strip()}' for '{a.strip()}'" for a, b in zip(lines(old), lines(new)) if a != b), "at the end")
+
+
+def main(arguments):
+    if arguments == []:
+        return check_sources()
+    if arguments == ["--self-test"]:
+        return self_test()
+    if len(arguments) == 2 and arguments[0] == "--archive":
+        return check_archive(arguments[1])
+    if len(arguments) == 2 and arguments[0] == "--shared":
+        return check_shared(arguments[1])
+    print(__doc__)
+    return False
+
+
+if __name__ == "__main__":
+    try:
+        good = main(sys.argv[1:])
+    except Unreadable as why:
+        print(why)
+        good = False
+    sys.exit(0 if good else 1)

@@ -1,0 +1,86 @@
+/* What prowcurl.h says beside its declarations: numbers, macros and words, each against a number of document 01 or
+ * against what the calls do. It is C and C++ alike, and the tests compile it as both. */
+#include "prowcurl.h"
+
+#include <assert.h>
+#include <stdio.h>
+#include <stdlib.h>
+#include <string.h>
+
+static_assert(HLQ_INTERFACE == 1, "the interface's number");
+static_assert(HLQ_DEEPEST_M == 10 && HLQ_MOST_SLOTS == 16, "the limits of document 01");
+static_assert(HLQ_LISTED == 1 && HLQ_INSIDE == 2, "the kinds");
+static_assert(HLQ_ACCEPTED == 0 && HLQ_SETTINGS == 1 && HLQ_RASTER_LENGTH == 2 && HLQ_PIXEL == 3 && HLQ_LIST == 4 &&
+                  HLQ_LOG == 5 && HLQ_WINDOW == 6 && HLQ_FEATURE == 7 && HLQ_KEY == 8 && HLQ_LIST_ROOM == 9 &&
+                  HLQ_LOG_ROOM == 10 && HLQ_LOG_EMPTY == 11 && HLQ_ANSWER_ROOM == 12 && HLQ_RULES == 13 &&
+                  HLQ_WAIVERS == 14 && HLQ_FILE_LENGTH == 15 && HLQ_FILE_MARK == 16 && HLQ_FILE_VERSION == 17,
+              "the refusals of document 01");
+static_assert(HLQ_MOST_RECORDS(0) == 1 && HLQ_MOST_RECORDS(1) == 5 && HLQ_MOST_RECORDS(5) == 1365 &&
+                  HLQ_MOST_RECORDS(HLQ_DEEPEST_M) == 1398101,
+              "the most records");
+static_assert(HLQ_MOST_RECORDS(1 + 1) == 21 && 2 * HLQ_MOST_RECORDS(2) == 42,
+              "an argument or a neighbour may be a sum");
+static_assert(HLQ_FILE_BYTES(0) == 11 && HLQ_FILE_BYTES(9) == 65 && HLQ_FILE_BYTES(1 + 1) == 23 &&
+                  2 * HLQ_FILE_BYTES(0) == 22,
+              "the bytes of a file");
+static_assert(HLQ_FILE_BYTES(0xFFFFFFFFu) == 25769803781u, "no wrapping at 32 bits");
+static_assert(sizeof(hlq_done) == 8 && sizeof(hlq_counted) == 16 && sizeof(hlq_stands) == 24 &&
+                  sizeof(hlq_span) == 16 && sizeof(hlq_exists) == 16 && sizeof(hlq_reported) == 16 &&
+                  sizeof(hlq_edited) == 24 && sizeof(hlq_found) == 24 && sizeof(hlq_loaded) == 32 &&
+                  sizeof(hlq_rule) == 24,
+              "the structs have no gaps");
+
+enum { MOST = HLQ_MOST_RECORDS(HLQ_DEEPEST_M) };
+
+static uint8_t raster[1 << 2 * HLQ_DEEPEST_M], file[HLQ_FILE_BYTES(MOST)];
+static uint32_t keys[MOST], bits[MOST];
+
+static void must(int ok, const char *what) {
+    if (!ok) {
+        printf("FAILED: %s\n", what);
+        exit(1);
+    }
+}
+
+/* A raster in which no two neighbours are equal has the most records, and the file of its list the most bytes. */
+static void macros_meet_calls(uint32_t m) {
+    size_t pixels = (size_t)1 << 2 * m;
+    for (size_t i = 0; i < pixels; i++) raster[i] = (uint8_t)((i ^ i >> m) & 1);
+    size_t most = HLQ_MOST_RECORDS(m);
+    must(hlq_build(m, 2, raster, pixels, keys, most - 1, bits, most).refusal == HLQ_LIST_ROOM, "a place too few");
+    hlq_counted built = hlq_build(m, 2, raster, pixels, keys, most, bits, most);
+    must(built.refusal == HLQ_ACCEPTED && built.count == most, "HLQ_MOST_RECORDS holds the largest list");
+    hlq_counted stored = hlq_store(m, 2, keys, most, bits, most, most, file, HLQ_FILE_BYTES(most) - 1);
+    must(stored.refusal == HLQ_ANSWER_ROOM && stored.count == HLQ_FILE_BYTES(most), "a byte too few");
+    stored = hlq_store(m, 2, keys, most, bits, most, most, file, HLQ_FILE_BYTES(most));
+    must(stored.refusal == HLQ_ACCEPTED && stored.count == HLQ_FILE_BYTES(most), "HLQ_FILE_BYTES holds the file");
+    must(hlq_standing(m, 2, keys, most, bits, most, most, 0).kind == HLQ_LISTED, "the root is listed");
+}
+
+static void limits(void) {
+    memset(raster, 0, sizeof raster);
+    hlq_counted deepest = hlq_build(HLQ_DEEPEST_M, HLQ_MOST_SLOTS, raster, sizeof raster, keys, MOST, bits, MOST);
+    must(deepest.refusal == HLQ_ACCEPTED && deepest.count == 1, "both limits are accepted");
+    must(hlq_standing(HLQ_DEEPEST_M, HLQ_MOST_SLOTS, keys, MOST, bits, MOST, 1, 1).refusal == HLQ_KEY, "no key");
+    must(hlq_standing(1, 1, keys, MOST, bits, MOST, 1, 1).kind == HLQ_INSIDE, "a quarter of a leaf is inside it");
+    must(hlq_build(HLQ_DEEPEST_M + 1, 1, raster, sizeof raster, keys, MOST, bits, MOST).refusal == HLQ_SETTINGS, "m");
+    must(hlq_build(0, HLQ_MOST_SLOTS + 1, raster, 1, keys, MOST, bits, MOST).refusal == HLQ_SETTINGS, "s");
+}
+
+static void words(void) {
+    const char *unknown = hlq_refusal_text(HLQ_FILE_VERSION + 1);
+    must(strcmp(unknown, hlq_refusal_text(UINT64_MAX)) == 0, "one text for every unknown number");
+    for (uint64_t a = 0; a <= HLQ_FILE_VERSION; a++) {
+        must(strlen(hlq_refusal_text(a)) > 0 && strcmp(hlq_refusal_text(a), unknown) != 0, "a text for each refusal");
+        for (uint64_t b = 0; b < a; b++)
+            must(strcmp(hlq_refusal_text(a), hlq_refusal_text(b)) != 0, "a text of its own");
+    }
+}
+
+int main(void) {
+    for (uint32_t m = 0; m <= HLQ_DEEPEST_M; m++) macros_meet_calls(m);
+    limits();
+    words();
+    printf("header: numbers, macros and words are as document 01 and the calls have them\n");
+    return 0;
+}
