@@ -141,11 +141,20 @@ static void files(size_t n) {
     COMPARE("load", 5, 1, sink += hlq_load(file, 11 + 6 * n, other_keys, MOST, other_bits, MOST).n, sink += plain_load(file, other_keys, other_bits));
 }
 
+static void blocks(void) {
+    printf("\nblocks at m = %d\n", M);
+    COMPARE("key at", 9, 1000, sink += hlq_key_at(M, (uint32_t)again, 1023 - (uint32_t)again % 1024, 9).count,
+            sink += plain_key_at(M, (uint32_t)again, 1023 - (uint32_t)again % 1024, 9));
+    COMPARE("block of", 9, 1000, sink += hlq_block_of(M, 2441406 - 5 * (uint32_t)(again % 2)).row,
+            sink += plain_block_of(M, 2441406 - 5 * (uint32_t)(again % 2)).row);
+}
+
 int main(void) {
     static const char *const kinds[] = { "uniform", "patchy", "noisy" };
     file = malloc(11 + 6 * (size_t)MOST);
     if (!file) return 1;
     printf("%-36s %14s %14s %8s\n", "call", "library ns", "plain C ns", "ratio");
+    blocks();
     for (int kind = 0; kind <= 2; kind++) { fill(kind); lists(kinds[kind]); }
     fill(0);
     size_t n = hlq_build(M, S, raster, PIXELS, keys, MOST, bits, MOST).count;

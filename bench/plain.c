@@ -10,6 +10,26 @@ static uint32_t power(uint32_t base, uint32_t k) {
     return p;
 }
 
+/* ---- blocks */
+
+uint32_t plain_key_at(uint32_t m, uint32_t row, uint32_t column, uint32_t level) {
+    uint32_t key = 0;
+    for (uint32_t d = 1; d <= m; d++)
+        key = key * 5 + (d <= level ? 1 + (row >> (m - d) & 1) * 2 + (column >> (m - d) & 1) : 0);
+    return key;
+}
+
+hlq_block plain_block_of(uint32_t m, uint32_t key) {
+    uint32_t step = power(5, m), side = 1u << m, row = 0, column = 0, level = 0;
+    for (; level < m && key != 0; level++) {
+        step /= 5, side /= 2;
+        uint32_t digit = key / step;
+        row += digit > 2 ? side : 0, column += digit % 2 ? 0 : side;
+        key %= step;
+    }
+    return (hlq_block){ 0, row, column, side, level };
+}
+
 /* ---- build: what is below each block that is not uniform, written in one pass; a count comes first only where the room may be too little */
 
 typedef struct { const uint8_t *raster; uint32_t edge; uint32_t *keys, *bits; } job;

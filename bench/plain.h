@@ -5,6 +5,8 @@
 
 #include "prowcurl.h"
 
+uint32_t plain_key_at(uint32_t m, uint32_t row, uint32_t column, uint32_t level);
+hlq_block plain_block_of(uint32_t m, uint32_t key);
 size_t plain_build(uint32_t m, uint32_t s, const uint8_t *raster, uint32_t *keys, uint32_t *bits, size_t room);
 int plain_is_list(uint32_t m, uint32_t s, const uint32_t *keys, const uint32_t *bits, size_t n);
 void plain_raster(uint32_t m, const uint32_t *bits, uint8_t *raster);

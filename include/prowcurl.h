@@ -48,7 +48,7 @@ extern "C" {
 #endif
 
 /* Grows by one whenever a call or a result changes its shape. */
-#define HLQ_INTERFACE 1
+#define HLQ_INTERFACE 2
 
 #define HLQ_DEEPEST_M 10  /* the largest m */
 #define HLQ_MOST_SLOTS 16 /* the largest s */
@@ -118,6 +118,7 @@ static inline const char *hlq_refusal_text(uint64_t refusal) {
 typedef struct { uint64_t refusal; } hlq_done;
 typedef struct { uint64_t refusal, count; } hlq_counted;      /* with HLQ_ANSWER_ROOM: count */
 typedef struct { uint64_t refusal, kind, place; } hlq_stands; /* kind: HLQ_LISTED or HLQ_INSIDE */
+typedef struct { uint64_t refusal, row, column, side, level; } hlq_block;
 typedef struct { uint64_t start, length; } hlq_span;          /* both 0 for an empty part */
 typedef struct { uint64_t refusal, yes; } hlq_exists;
 typedef struct { uint64_t refusal, bits; } hlq_reported;
@@ -125,6 +126,16 @@ typedef struct { uint64_t refusal, n, used; } hlq_edited;
 typedef struct { uint64_t refusal, live, hidden; } hlq_found; /* with HLQ_ANSWER_ROOM: live */
 typedef struct { uint64_t refusal, m, s, n; } hlq_loaded;
 typedef struct { uint32_t id, row, column, height, width, feature; } hlq_rule;
+
+/* KEY AT. The key of the block of this level around a pixel, in count: level m is the pixel itself,
+ * level 0 the whole map.
+ * Refusals: HLQ_SETTINGS (m alone), HLQ_WINDOW (no pixel of the raster), HLQ_KEY (the level is above
+ * m), in this order. */
+hlq_counted hlq_key_at(uint32_t m, uint32_t row, uint32_t column, uint32_t level);
+
+/* BLOCK OF. The first row and column of the block with this key, its side in pixels, and its level.
+ * Refusals: HLQ_SETTINGS (m alone), HLQ_KEY, in this order. */
+hlq_block hlq_block_of(uint32_t m, uint32_t key);
 
 /* BUILD. The list of a raster is written to places 0 to count - 1 of keys and bits; all other
  * places stay. count is the number of records, at most HLQ_MOST_RECORDS(m).

@@ -167,6 +167,33 @@ static uint8_t *raster_of(uint32_t m, uint32_t s, const uint32_t *keys, size_t k
     return NULL;
 }
 
+/* The block of the level that has the pixel is looked for among all of that level's squares, by going down. */
+hlq_counted ref_key_at(uint32_t m, uint32_t row, uint32_t column, uint32_t level) {
+    if (m > DEEPEST) return (hlq_counted){ 1, 0 };
+    if (row >> m || column >> m) return (hlq_counted){ 6, 0 };
+    if (level > m) return (hlq_counted){ 8, 0 };
+    uint32_t key = 0;
+    for (uint32_t d = 1; d <= level; d++)
+        for (uint32_t digit = 1; digit <= 4; digit++) {
+            uint32_t child = key + digit * ref_power(5, m - d), r, c, side;
+            ref_block(m, child, &r, &c, &side);
+            if (r <= row && row < r + side && c <= column && column < c + side) {
+                key = child;
+                break;
+            }
+        }
+    return (hlq_counted){ 0, key };
+}
+
+hlq_block ref_block_of(uint32_t m, uint32_t key) {
+    if (m > DEEPEST) return (hlq_block){ 1, 0, 0, 0, 0 };
+    if (!ref_key_is_valid(m, key)) return (hlq_block){ 8, 0, 0, 0, 0 };
+    uint32_t row, column, side, level = m;
+    ref_block(m, key, &row, &column, &side);
+    while (side >> (m - level + 1)) level--;
+    return (hlq_block){ 0, row, column, side, level };
+}
+
 hlq_counted ref_build(uint32_t m, uint32_t s, const uint8_t *raster, size_t raster_len, uint32_t *keys, size_t keys_len,
                       uint32_t *bits, size_t bits_len) {
     if (settings_are_bad(m, s)) return (hlq_counted){ 1, 0 };

@@ -11,6 +11,12 @@
 #define TAKE_WINDOW uint32_t row, uint32_t column, uint32_t height, uint32_t width
 #define WINDOW row, column, height, width
 
+hlq_counted hlq_key_at(uint32_t m, uint32_t row, uint32_t column, uint32_t level) {
+    return ref_key_at(m, row, column, level);
+}
+
+hlq_block hlq_block_of(uint32_t m, uint32_t key) { return ref_block_of(m, key); }
+
 hlq_counted hlq_build(uint32_t m, uint32_t s, const uint8_t *raster, size_t raster_len, TAKE_LIST) {
     return ref_build(m, s, raster, raster_len, LIST);
 }

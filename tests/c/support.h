@@ -16,6 +16,8 @@
 enum { GUARD = 8, MAX_REFUSAL = HLQ_FILE_VERSION };
 
 typedef enum {
+    CALL_KEY_AT,
+    CALL_BLOCK_OF,
     CALL_BUILD,
     CALL_RASTER,
     CALL_STANDING,

@@ -30,6 +30,8 @@ static const hlq_rule rules[] = { { 1, 0, 0, EDGE, EDGE, 3 },
 static const uint32_t waiver_ids[] = { 1, 2, 9 }, waiver_keys[] = { 0, 0, 0 };
 static uint64_t refusal;
 
+static void call_key_at(void) { refusal = hlq_key_at(M, row, column, M).refusal; }
+static void call_block_of(void) { refusal = hlq_block_of(M, key).refusal; }
 static void call_build(void) {
     hlq_counted built = hlq_build(M, S, raster, PIXELS, keys, MOST, bits, MOST);
     refusal = built.refusal, n = built.count;
@@ -69,8 +71,10 @@ typedef struct {
     size_t deepest;
 } call;
 
-enum { BUILD, RASTER, STANDING, PART, EXIST, REPORT, SELECT, PAINT, TAKE_BACK, EMPTY, FINDINGS, STORE, LOAD, CALLS };
+enum { KEY_AT, BLOCK_OF, BUILD, RASTER, STANDING, PART, EXIST, REPORT, SELECT, PAINT, TAKE_BACK, EMPTY, FINDINGS, STORE,
+       LOAD, CALLS };
 static call calls[CALLS] = {
+    { "key_at", call_key_at, 0 }, { "block_of", call_block_of, 0 },
     { "build", call_build, 0 },   { "raster", call_raster, 0 },     { "standing", call_standing, 0 },
     { "part", call_part, 0 },     { "exist", call_exist, 0 },       { "report", call_report, 0 },
     { "select", call_select, 0 }, { "paint", call_paint, 0 },       { "take_back", call_take_back, 0 },
@@ -130,6 +134,8 @@ static void every_call(uint8_t pattern) {
     measure(LOAD, pattern);
     for (size_t i = 0; i < sizeof blocks / sizeof *blocks; i++) {
         key = blocks[i], feature = (uint32_t)i;
+        measure(KEY_AT, pattern);
+        measure(BLOCK_OF, pattern);
         measure(STANDING, pattern);
         measure(PART, pattern);
         measure(PAINT, pattern);
