@@ -48,7 +48,7 @@ module _ (file : List ℕ) (first key own step r : ℕ) where
 
 -- a pixel has no children
 pub no-children : (file : List ℕ) (first key own step : ℕ) → step ≡ 0 → Answered file first key own step 0
-no-children file first key own step z = answered file first key own step 0 (omega arith) (pixel (fileKeys file) (fileBits file) first key own step z)
+no-children file first key own step z = answered file first key own step 0 (omega arith) (pixel (fileKeys file) (fileBits file) first key own step (omega arith) (λ e. omega arith) (λ e. omega arith))
 
 -- what has been passed before a turn, and the file's length
 pub record PassedIn (file : List ℕ) (first key own step next union digit : ℕ) : Type 0 where
