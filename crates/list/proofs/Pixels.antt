@@ -54,7 +54,7 @@ abbrev pub isPixel : ℕ → ℕ → ℕ → Bool
 isPixel κ k bits = eqb k κ && oneSlot bits
 
 -- four tests, and that the union of four bitstrings is the block's own
-abbrev allPass : Bool → Bool → Bool → Bool → ℕ → ℕ → ℕ → ℕ → ℕ → Bool
+abbrev pub allPass : Bool → Bool → Bool → Bool → ℕ → ℕ → ℕ → ℕ → ℕ → Bool
 allPass nw ne sw se a b c d own = (((nw && ne) && sw) && se) && eqb (bitOr (bitOr (bitOr a b) c) d) own
 
 four-records : (κ own k₁ b₁ k₂ b₂ k₃ b₃ k₄ b₄ : ℕ) (l : List Record) (t : Bool)
@@ -121,7 +121,7 @@ module _ (K B : List ℕ) (first κ own : ℕ) (size : length K ≡ length B) wh
         (from-place (first + 2) (first + 3) (omega arith) (omega arith) _ (from-place (first + 3) (first + 4) (omega arith) (omega arith) _ refl)))
 
     module _ {a b c d : ℕ} {nw ne sw se : Bool} (t : Tested K B first κ a b c d nw ne sw se) where
-      abbrev pub passed : Bool
+      abbrev passed : Bool
       passed = allPass nw ne sw se a b c d own
 
       -- four are left: their tests say whether the block ends after them
@@ -135,8 +135,8 @@ module _ (K B : List ℕ) (first κ own : ℕ) (size : length K ≡ length B) wh
           ∙ place-if (length K) passed (drop (first + 4) (paired K B))
           ∙ ap (λ x. cond passed x 0) (place-of (paired K B) (first + 4) (length K) (sym (paired-length K B size)) (omega arith))
 
-      pub four-right : passed ≡ true → first + 4 ≡ placeOf (length K) (afterNode 1 κ own (drop first (paired K B)))
+      pub four-right : allPass nw ne sw se a b c d own ≡ true → first + 4 ≡ placeOf (length K) (afterNode 1 κ own (drop first (paired K B)))
       four-right e = sym (four-left ∙ ap (λ x. cond x (first + 4) 0) e)
 
-      pub four-wrong : passed ≡ false → 0 ≡ placeOf (length K) (afterNode 1 κ own (drop first (paired K B)))
+      pub four-wrong : allPass nw ne sw se a b c d own ≡ false → 0 ≡ placeOf (length K) (afterNode 1 κ own (drop first (paired K B)))
       four-wrong e = sym (four-left ∙ ap (λ x. cond x (first + 4) 0) e)

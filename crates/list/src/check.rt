@@ -23,7 +23,7 @@ pub fn has_one_slot(bits: u32) -> bool
 }
 
 // A record is the leaf with the given key.
-fn is_leaf(key: u32, bits: u32, leaf: u32) -> bool
+pub fn is_leaf(key: u32, bits: u32, leaf: u32) -> bool
     ensures { λ r. ⌜ r ≡ eqb key leaf && oneSlot bits ⌝ }
 {
     (key == leaf) & has_one_slot(bits)
