@@ -11,7 +11,7 @@ use Rattle.definitions.specs.File.{numberAt, nIn, recordsInFile}
 use Rattle.definitions.specs.Read.{paired}
 use Rattle.definitions.proofs.Records.{paired-back}
 use Rattle.list.specs.Check.{oneSlot, placeOf, afterNode, stepUnder}
-use Rattle.list.proofs.Turn.{Answer, Passed, pixel, begins, ends, differs, short, other-key, wrong-child, goes-leaf, goes-node}
+use Rattle.list.proofs.Turn.{Answer, Passed, at-height, pixel, begins, ends, differs, short, other-key, wrong-child, goes-leaf, goes-node}
 use Rattle.file.proofs.ReadBytes.{keysIn, bitsIn, key-read, value-read, keys-many, bits-many}
 
 -- the file's keys and bitstrings
@@ -39,16 +39,29 @@ pub in-file : (file : List ℕ) → paired (fileKeys file) (fileBits file) ≡ r
 unfolding recordsInFile
 in-file file = paired-back (recordsInFile file)
 
+-- so the model's answer of the two slices is its answer of the file
+pub in-place : (file : List ℕ) (first key own k : ℕ)
+    → placeOf (length (fileKeys file)) (afterNode k key own (drop first (paired (fileKeys file) (fileBits file))))
+    ≡ placeOf (nIn file) (afterNode k key own (drop first (recordsInFile file)))
+in-place file first key own k i = placeOf (many file i) (afterNode k key own (drop first (in-file file i)))
+
 module _ (file : List ℕ) (first key own step r : ℕ) where
   answered : r ≤ nIn file → Answer (fileKeys file) (fileBits file) first key own step r → Answered file first key own step r
-  answered within h = (within, λ k e. h k e ∙ (λ i. placeOf (many file i) (afterNode k key own (drop first (in-file file i)))))
+  answered within h = (within, λ k e. h k e ∙ in-place file first key own k)
 
   answer : Answered file first key own step r → Answer (fileKeys file) (fileBits file) first key own step r
-  answer h k e = h .1 k e ∙ sym (λ i. placeOf (many file i) (afterNode k key own (drop first (in-file file i))))
+  answer h k e = h .1 k e ∙ sym (in-place file first key own k)
+
+  -- an answer at one height is the answer for that height's step
+  pub at-height-in : (k : ℕ) → step ≡ stepUnder k → (r ≤ nIn file) × (r ≡ placeOf (nIn file) (afterNode k key own (drop first (recordsInFile file))))
+      → Answered file first key own step r
+  at-height-in k e h =
+      answered (h .0) (at-height (fileKeys file) (fileBits file) first key own k step r e (h .1 ∙ sym (in-place file first key own k)))
 
 -- a pixel has no children
-pub no-children : (file : List ℕ) (first key own step : ℕ) → step ≡ 0 → Answered file first key own step 0
-no-children file first key own step z = answered file first key own step 0 (omega arith) (pixel (fileKeys file) (fileBits file) first key own step z)
+pub pixel-in : (file : List ℕ) (first key own step : ℕ) → step < 25 → (step ≡ 5 → ⊥) → (step ≡ 1 → ⊥) → Answered file first key own step 0
+pixel-in file first key own step low five one =
+    answered file first key own step 0 (omega arith) (pixel (fileKeys file) (fileBits file) first key own step low five one)
 
 -- what has been passed before a turn, and the file's length
 pub record PassedIn (file : List ℕ) (first key own step next union digit : ℕ) : Type 0 where
@@ -102,6 +115,13 @@ module _ {file : List ℕ} {first key own step next union digit : ℕ} (p : Pass
 
         bits-is : getD (fileBits file) next 0 ≡ found
         bits-is = value-read (nIn file) next file before-end ∙ sym found-is
+
+        -- what a function for one height alone answers of the child's block
+        pub child-in : (k : ℕ) → step / 5 ≡ stepUnder k
+            → (after : ℕ)
+            → (after ≤ nIn file) × (after ≡ placeOf (nIn file) (afterNode k (key + digit * step) found (drop (next + 1) (recordsInFile file))))
+            → Answered file (next + 1) (key + digit * step) found (step / 5) after
+        child-in k e after h = at-height-in file (next + 1) (key + digit * step) found (step / 5) after k e h
 
         -- the child's block is wrong
         pub wrong-child-in : oneSlot found ≡ false → (after : ℕ) → after ≡ 0 → Answered file (next + 1) (key + digit * step) found (step / 5) after

@@ -8,6 +8,7 @@ pub mod Accepted
 pub mod SliceRecords
 pub mod RoundTrip
 pub mod FileTurn
+pub mod FilePixels
 pub mod FileList
 pub mod HeadAnswers
 pub mod StoreAnswers

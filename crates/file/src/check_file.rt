@@ -13,8 +13,82 @@ use keys::Key;
 use keys::power;
 use list::check;
 
+// `after_node` at height 1: four pixels. Heights 1 and 2 have functions of their own, as in the check of two slices.
+fn four_pixels(file: &[u8], first: usize, key: u32, own: u32) -> usize
+    requires { ⌜ (length (now file) ≡ 11 + 6 * nIn (now file)) × (first ≤ nIn (now file)) × (key + 5 < 2 ^ 32) ⌝ }
+    ensures { λ r. ⌜ (r ≤ nIn (now (file .entry)))
+        × (r ≡ placeOf (nIn (now (file .entry))) (afterNode 1 key own (drop first (recordsInFile (now (file .entry)))))) ⌝ }
+{
+    let place = 11 + 6 * first;
+    if file.len() - place < 24 {
+        return 0;
+    }
+    let a = bytes::u16_at(file, place + 4);
+    let b = bytes::u16_at(file, place + 10);
+    let c = bytes::u16_at(file, place + 16);
+    let d = bytes::u16_at(file, place + 22);
+    let nw = check::is_leaf(bytes::u32_at(file, place), a, key + 1);
+    let ne = check::is_leaf(bytes::u32_at(file, place + 6), b, key + 2);
+    let sw = check::is_leaf(bytes::u32_at(file, place + 12), c, key + 3);
+    let se = check::is_leaf(bytes::u32_at(file, place + 18), d, key + 4);
+    if nw & ne & sw & se & ((a | b | c | d) == own) {
+        first + 4
+    } else {
+        0
+    }
+}
+
+// `after_node` at height 2.
+fn after_sixteen(file: &[u8], first: usize, key: u32, own: u32) -> usize
+    requires { ⌜ (length (now file) ≡ 11 + 6 * nIn (now file)) × (first ≤ nIn (now file)) × (key + 25 < 2 ^ 32) ⌝ }
+    ensures { λ r. ⌜ (r ≤ nIn (now (file .entry)))
+        × (r ≡ placeOf (nIn (now (file .entry))) (afterNode 2 key own (drop first (recordsInFile (now (file .entry)))))) ⌝ }
+{
+    let mut next = first;
+    let mut union = 0;
+    let mut quadrant = 1;
+    while quadrant < 5 {
+        let place = 11 + 6 * next;
+        if file.len() <= place {
+            return 0;
+        }
+        let child = key + quadrant * 5;
+        if bytes::u32_at(file, place) != child {
+            return 0;
+        }
+        let found = bytes::u16_at(file, place + 4);
+        next += 1;
+        if !check::has_one_slot(found) {
+            next = four_pixels(file, next, child, found);
+            if next == 0 {
+                return 0;
+            }
+        }
+        union = union | found;
+        quadrant += 1;
+    }
+    if union == own { next } else { 0 }
+}
+
+// `after_node` below height 3. A pixel is no node.
+fn after_low(file: &[u8], first: usize, key: u32, own: u32, step: u32) -> usize
+    requires { ⌜ (length (now file) ≡ 11 + 6 * nIn (now file)) × (first ≤ nIn (now file)) × (step < 25) × (key + 5 * step < 2 ^ 32) ⌝ }
+    ensures { λ r. ⌜ (r ≤ nIn (now (file .entry)))
+        × ((k : ℕ)
+        → step ≡ stepUnder k
+        → r ≡ placeOf (nIn (now (file .entry))) (afterNode k key own (drop first (recordsInFile (now (file .entry)))))) ⌝ }
+{
+    if step == 5 {
+        return after_sixteen(file, first, key, own);
+    }
+    if step == 1 {
+        return four_pixels(file, first, key, own);
+    }
+    0
+}
+
 // After a node's own record: the place after its last record, or 0 where what follows are not its four children. A leaf among them is passed
-// here, so that only nodes are called for.
+// here, so that only nodes are called for, and those of height 2 without recursion.
 fn after_node(file: &[u8], first: usize, key: u32, own: u32, step: u32) -> usize
     requires { ⌜ (length (now file) ≡ 11 + 6 * nIn (now file)) × (first ≤ nIn (now file)) × (key + 5 * step < 2 ^ 32) ⌝ }
     ensures { λ r. ⌜ (r ≤ nIn (now (file .entry)))
@@ -22,9 +96,10 @@ fn after_node(file: &[u8], first: usize, key: u32, own: u32, step: u32) -> usize
         → step ≡ stepUnder k
         → r ≡ placeOf (nIn (now (file .entry))) (afterNode k key own (drop first (recordsInFile (now (file .entry)))))) ⌝ }
 {
-    if step == 0 {
-        return 0;
+    if step < 25 {
+        return after_low(file, first, key, own, step);
     }
+    let lower = step / 5;
     let mut next = first;
     let mut union = 0;
     let mut digit = 1;
@@ -40,7 +115,11 @@ fn after_node(file: &[u8], first: usize, key: u32, own: u32, step: u32) -> usize
         let found = bytes::u16_at(file, place + 4);
         next += 1;
         if !check::has_one_slot(found) {
-            next = after_node(file, next, child, found, step / 5);
+            if lower == 5 {
+                next = after_sixteen(file, next, child, found);
+            } else {
+                next = after_node(file, next, child, found, lower);
+            }
             if next == 0 {
                 return 0;
             }

@@ -5,6 +5,7 @@ pub mod Sound
 pub mod Complete
 pub mod Places
 pub mod Accepts
+pub mod Pixels
 pub mod Turn
 pub mod Content
 pub mod Accepted

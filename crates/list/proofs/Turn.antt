@@ -10,7 +10,8 @@ use lib.Dec.{eqb, lit<}
 use lib.Bits.{bitOr}
 use lib.ListN.{length, getD, drop}
 use borrow.Author.Tests.{eq-eqb, ne-eqb}
-use Rattle.keys.proofs.Powers.{five-pos}
+use Rattle.keys.proofs.Cases.{split}
+use Rattle.keys.proofs.Powers.{five-pos, five-le}
 use Rattle.definitions.specs.List.{Record, recordOf}
 use Rattle.definitions.specs.Read.{paired}
 use Rattle.definitions.proofs.Records.{paired-length}
@@ -18,12 +19,38 @@ use Rattle.list.specs.Check.{oneSlot, Outcome, wrong, left, placeOf, aft
 use Rattle.list.proofs.Children.{own-leaf, own-node, node-zero, node-suc, children-none, children-from, children-short, children-other, children-wrong}
 use Rattle.list.proofs.Places.{record-at, records-end, place-of, told}
 
--- the step under a block tells whether it has children, and then their power of five
-pub step-none : (k step : ℕ) → step ≡ stepUnder k → step ≡ 0 → k ≡ 0
-unfolding stepUnder
-step-none zero step e z = refl
-step-none (suc k) step e z = absurd (let p = five-pos k in omega arith)
+-- the step under a block tells its height
+five-less : (k j : ℕ) → k < j → 5 ^ k ≡ 5 ^ j → ⊥
+five-less k j h e =
+    let a = five-le {k = suc k} j (omega arith) in
+    let b = pow-suc 5 k in
+    let c = five-pos k in
+    omega arith
 
+step-same : (k j : ℕ) → stepUnder k ≡ stepUnder j → k ≡ j
+unfolding stepUnder
+step-same zero zero e = refl
+step-same zero (suc j) e = absurd (let p = five-pos j in omega arith)
+step-same (suc k) zero e = absurd (let p = five-pos k in omega arith)
+step-same (suc k) (suc j) e = split k j (λ h. absurd (five-less k j h e)) (λ h. split j k (λ g. absurd (five-less j k g (sym e))) (λ g. omega arith))
+
+-- 1 is the step under a block of height 1, 5 under one of height 2, and other steps below 25 are a pixel's
+pub step-one : 1 ≡ stepUnder 1
+unfolding stepUnder
+step-one = refl
+
+pub step-five : 5 ≡ stepUnder 2
+unfolding stepUnder
+step-five = refl
+
+step-low : (k step : ℕ) → step ≡ stepUnder k → step < 25 → (step ≡ 5 → ⊥) → (step ≡ 1 → ⊥) → k ≡ 0
+unfolding stepUnder
+step-low zero step e h five one = refl
+step-low (suc zero) step e h five one = absurd (one e)
+step-low (suc (suc zero)) step e h five one = absurd (five e)
+step-low (suc (suc (suc k))) step e h five one = absurd (let p = five-le {k = 2} (suc (suc k)) (omega arith) in omega arith)
+
+-- a step that is not 0 is the power of five of the children
 pub step-some {ℓ} : (C : ℕ → Type ℓ) (k step : ℕ) → step ≡ stepUnder k → (step ≡ 0 → ⊥) → ((j : ℕ) → step ≡ 5 ^ j → C (suc j)) → C k
 unfolding stepUnder
 step-some C zero step e pos f = absurd (pos e)
@@ -42,6 +69,12 @@ step-down j step e = ap (λ x. x / 5) e ∙ step-fifth j
 abbrev pub Answer : List ℕ → List ℕ → ℕ → ℕ → ℕ → ℕ → ℕ → Type 0
 Answer K B first key own step r = (k : ℕ) → step ≡ stepUnder k → r ≡ placeOf (length K) (afterNode k key own (drop first (paired K B)))
 
+-- an answer at one height is the answer for that height's step
+pub at-height : (K B : List ℕ) (first key own k step r : ℕ) → step ≡ stepUnder k
+    → r ≡ placeOf (length K) (afterNode k key own (drop first (paired K B)))
+    → Answer K B first key own step r
+at-height K B first key own k step r e h j f = h ∙ ap (λ x. placeOf (length K) (afterNode x key own (drop first (paired K B)))) (step-same k j (sym e ∙ f))
+
 -- before the turn of a digit: the children before it have passed, and the others decide
 pub record Passed (K B : List ℕ) (first key own step next union digit : ℕ) : Type 0 where
   pub size : length K ≡ length B
@@ -53,9 +86,12 @@ pub record Passed (K B : List ℕ) (first key own step next union digit : ℕ) :
   pub same : (j : ℕ) → step ≡ 5 ^ j
       → afterNode (suc j) key own (drop first (paired K B)) ≡ afterChildren (afterNode j) key step own (5 - digit) union (drop next (paired K B))
 
-pub pixel : (K B : List ℕ) (first key own step : ℕ) → step ≡ 0 → Answer K B first key own step 0
+-- a pixel has no children
+pub pixel : (K B : List ℕ) (first key own step : ℕ) → step < 25 → (step ≡ 5 → ⊥) → (step ≡ 1 → ⊥) → Answer K B first key own step 0
 unfolding placeOf
-pixel K B first key own step z k e = sym (ap (λ j. placeOf (length K) (afterNode j key own (drop first (paired K B)))) (step-none k step e z) ∙ ap (placeOf (length K)) (node-zero key own (drop first (paired K B))))
+pixel K B first key own step low five one k e =
+    sym (ap (λ j. placeOf (length K) (afterNode j key own (drop first (paired K B)))) (step-low k step e low five one)
+    ∙ ap (placeOf (length K)) (node-zero key own (drop first (paired K B))))
 
 pub begins : (K B : List ℕ) (first key own step : ℕ) → (length K ≡ length B) × (first ≤ length K) × (key + 5 * step < 2 ^ 32) → (step ≡ 0 → ⊥)
     → Passed K B first key own step first 0 1
@@ -135,6 +171,13 @@ module _ {K B : List ℕ} {first key own step next union digit : ℕ} (p : Passe
       module _ (child : getD K next 0 ≡ key + digit * step) where
         child-is : key + digit * step ≡ key + (5 - suc (4 - digit)) * step
         child-is = ap (λ d. key + d * step) (sym digit-is)
+
+        -- what a function for one height alone answers of its block
+        pub child-at : (k : ℕ) → step / 5 ≡ stepUnder k
+            → (after : ℕ)
+            → after ≡ placeOf (length K) (afterNode k (key + digit * step) (getD B next 0) (drop (next + 1) (paired K B)))
+            → Answer K B (next + 1) (key + digit * step) (getD B next 0) (step / 5) after
+        child-at k e after h = at-height K B (next + 1) (key + digit * step) (getD B next 0) k (step / 5) after e h
 
         -- its block is wrong
         pub wrong-child : oneSlot (getD B next 0) ≡ false

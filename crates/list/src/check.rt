@@ -4,7 +4,7 @@ ghost use mathlib.Core.Path.{_≡_};
 ghost use mathlib.Core.Bool.{true, _&&_};
 ghost use Prim.Native.Nat.{ℕ, _+_, _*_, _^_, _≤_, _<_};
 ghost use lib.ListN.{length, drop};
-ghost use lib.Dec.{leb};
+ghost use lib.Dec.{leb, eqb};
 ghost use Rattle.keys.specs.Key.{validKey};
 ghost use Rattle.definitions.specs.Read.{room, paired, recordsOf, isList};
 ghost use Rattle.definitions.specs.Log.{isContent};
@@ -22,8 +22,87 @@ pub fn has_one_slot(bits: u32) -> bool
     bits & (bits - 1) == 0
 }
 
+// A record is the leaf with the given key.
+pub fn is_leaf(key: u32, bits: u32, leaf: u32) -> bool
+    ensures { λ r. ⌜ r ≡ eqb key leaf && oneSlot bits ⌝ }
+{
+    (key == leaf) & has_one_slot(bits)
+}
+
+// `after_node` at height 1: four pixels. Nearly all nodes are at heights 1 and 2, so these have functions of their own, without recursion.
+fn four_pixels(keys: &[u32], bits: &[u32], first: usize, key: u32, own: u32) -> usize
+    requires { ⌜ (length (now keys) ≡ length (now bits)) × (first ≤ length (now keys)) × (key + 5 < 2 ^ 32) ⌝ }
+    ensures { λ r. ⌜ (r ≤ length (now (keys .entry)))
+        × (r ≡ placeOf (length (now (keys .entry))) (afterNode 1 key own (drop first (paired (now (keys .entry)) (now (bits .entry)))))) ⌝ }
+{
+    if keys.len() - first < 4 {
+        return 0;
+    }
+    let a = bits[first];
+    let b = bits[first + 1];
+    let c = bits[first + 2];
+    let d = bits[first + 3];
+    let nw = is_leaf(keys[first], a, key + 1);
+    let ne = is_leaf(keys[first + 1], b, key + 2);
+    let sw = is_leaf(keys[first + 2], c, key + 3);
+    let se = is_leaf(keys[first + 3], d, key + 4);
+    if nw & ne & sw & se & ((a | b | c | d) == own) {
+        first + 4
+    } else {
+        0
+    }
+}
+
+// `after_node` at height 2.
+fn after_sixteen(keys: &[u32], bits: &[u32], first: usize, key: u32, own: u32) -> usize
+    requires { ⌜ (length (now keys) ≡ length (now bits)) × (first ≤ length (now keys)) × (key + 25 < 2 ^ 32) ⌝ }
+    ensures { λ r. ⌜ (r ≤ length (now (keys .entry)))
+        × (r ≡ placeOf (length (now (keys .entry))) (afterNode 2 key own (drop first (paired (now (keys .entry)) (now (bits .entry)))))) ⌝ }
+{
+    let mut next = first;
+    let mut union = 0;
+    let mut quadrant = 1;
+    while quadrant < 5 {
+        if keys.len() <= next {
+            return 0;
+        }
+        let child = key + quadrant * 5;
+        if keys[next] != child {
+            return 0;
+        }
+        let found = bits[next];
+        next += 1;
+        if !has_one_slot(found) {
+            next = four_pixels(keys, bits, next, child, found);
+            if next == 0 {
+                return 0;
+            }
+        }
+        union = union | found;
+        quadrant += 1;
+    }
+    if union == own { next } else { 0 }
+}
+
+// `after_node` below height 3. A pixel is no node.
+fn after_low(keys: &[u32], bits: &[u32], first: usize, key: u32, own: u32, step: u32) -> usize
+    requires { ⌜ (length (now keys) ≡ length (now bits)) × (first ≤ length (now keys)) × (step < 25) × (key + 5 * step < 2 ^ 32) ⌝ }
+    ensures { λ r. ⌜ (r ≤ length (now (keys .entry)))
+        × ((k : ℕ)
+        → step ≡ stepUnder k
+        → r ≡ placeOf (length (now (keys .entry))) (afterNode k key own (drop first (paired (now (keys .entry)) (now (bits .entry)))))) ⌝ }
+{
+    if step == 5 {
+        return after_sixteen(keys, bits, first, key, own);
+    }
+    if step == 1 {
+        return four_pixels(keys, bits, first, key, own);
+    }
+    0
+}
+
 // After a node's own record: the place after its last record, or 0 where what follows are not its four children. A leaf among them is passed
-// here, so that only nodes are called for.
+// here, so that only nodes are called for, and those of height 2 without recursion.
 fn after_node(keys: &[u32], bits: &[u32], first: usize, key: u32, own: u32, step: u32) -> usize
     requires { ⌜ (length (now keys) ≡ length (now bits)) × (first ≤ length (now keys)) × (key + 5 * step < 2 ^ 32) ⌝ }
     ensures { λ r. ⌜ (r ≤ length (now (keys .entry)))
@@ -31,9 +110,10 @@ fn after_node(keys: &[u32], bits: &[u32], first: usize, key: u32, own: u32, step
         → step ≡ stepUnder k
         → r ≡ placeOf (length (now (keys .entry))) (afterNode k key own (drop first (paired (now (keys .entry)) (now (bits .entry)))))) ⌝ }
 {
-    if step == 0 {
-        return 0;
+    if step < 25 {
+        return after_low(keys, bits, first, key, own, step);
     }
+    let lower = step / 5;
     let mut next = first;
     let mut union = 0;
     let mut digit = 1;
@@ -48,7 +128,11 @@ fn after_node(keys: &[u32], bits: &[u32], first: usize, key: u32, own: u32, step
         let found = bits[next];
         next += 1;
         if !has_one_slot(found) {
-            next = after_node(keys, bits, next, child, found, step / 5);
+            if lower == 5 {
+                next = after_sixteen(keys, bits, next, child, found);
+            } else {
+                next = after_node(keys, bits, next, child, found, lower);
+            }
             if next == 0 {
                 return 0;
             }

@@ -1,17 +1,19 @@
 -- `check_file::after_node` meets its contract: before each turn the children passed so far are those that the model has passed. It ends because a
 -- call for a child has a fifth of the step.
-use Prim.Native.Nat.{ℕ, _-_, _<_}
+use Prim.Native.Nat.{ℕ, _+_, _-_, _*_, _/_, _<_}
 use mathlib.Core.Path.{sym, _∙_}
 use mathlib.Core.Logic.{⊎-elim}
 use native.Mathlib.Omega.{arith}
 use borrow.Author.Tests.{not-true, not-false}
 use borrow.Fn.Kinds.{In}
 use borrow.Fn.PlainCycle.{Measures, is, falls, and}
-use Rattle.list.proofs.Turn.{child-fits}
-use Rattle.file.proofs.FileTurn.{PassedIn, no-children, begins-in, ends-in, differs-in, short-in, other-key-in, wrong-child-in, leaf-in, node-in}
+use Rattle.list.proofs.Turn.{step-five, child-fits}
+use Rattle.file.proofs.FileTurn.{Answered, PassedIn, begins-in, ends-in, differs-in, short-in, other-key-in, child-in, wrong-child-in, leaf-in, node-in}
 use Rattle.file.proofs.check_file.after_node.Reads as own
 use Rattle.file.proofs.check_file.after_node.Kinds as kinds
 use Rattle.file.proofs.check_file.+after_node.Lts-after_node as lts
+use Rattle.file.proofs.check_file.after_low.Reads as after-low
+use Rattle.file.proofs.check_file.after_sixteen.Reads as after-sixteen
 use Rattle.file.proofs.bytes.u16_at.Reads as u16-at
 use Rattle.file.proofs.bytes.u32_at.Reads as u32-at
 use Rattle.list.proofs.check.has_one_slot.Reads as has-one-slot
@@ -28,30 +30,57 @@ abbrev below : ℕ → In 1 kinds.ps
 below t = and 1 kinds.ps (falls 1 kinds.ps _<_ μ t) own.Pre
 
 abbrev claims : ℕ → lts.Claims
-claims t = (u32-at.Asked, u32-at.Learnt, u16-at.Asked, u16-at.Learnt, has-one-slot.Asked, has-one-slot.Learnt, below t, own.Post)
+claims t = (
+  after-low.Asked,
+  after-low.Learnt,
+  u32-at.Asked,
+  u32-at.Learnt,
+  u16-at.Asked,
+  u16-at.Learnt,
+  has-one-slot.Asked,
+  has-one-slot.Learnt,
+  after-sixteen.Asked,
+  after-sixteen.Learnt,
+  below t,
+  own.Post,
+)
 
 abbrev Inv-loop : lts.InvT-loop
-Inv-loop file first key own step next₀ union₀ digit₀ next union digit = PassedIn file first key own step next union digit
+Inv-loop file first key own step lower next₀ union₀ digit₀ next union digit = PassedIn file first key own step next union digit
 
 abbrev μ-loop : lts.MeasureT-loop
-μ-loop file first key own step next₀ union₀ digit₀ next union digit = 5 - digit
+μ-loop file first key own step lower next₀ union₀ digit₀ next union digit = 5 - digit
 
--- places of the code: a turn in which a record is left, and one in which that record's bits were read
+-- places of the code: a turn in which a record is left, one in which that record's bits were read, one in which it is a node's, and one in which
+-- that node's function was called
 abbrev There : ℕ → Type 0
 There t = lts.Else2 (claims t) (given t) own.Post Inv-loop μ-loop
 
 abbrev Found : ℕ → Type 0
 Found t = lts.After-u16-at (claims t) (given t) own.Post Inv-loop μ-loop
 
--- what a turn knows of the record's key and bits, for the laws of the loop
+abbrev Node : ℕ → Type 0
+Node t = lts.Then4 (claims t) (given t) own.Post Inv-loop μ-loop
+
+abbrev Called : ℕ → Type 0
+Called t = lts.Joined5 (claims t) (given t) own.Post Inv-loop μ-loop
+
 abbrev there : {t : ℕ} → Found t → There t
 there c = c .before .before .before
 
+abbrev found : {t : ℕ} → Node t → Found t
+found c = c .before .before
+
+after-low-requires : (t : ℕ) → lts.Need-after-low-requires (claims t) (given t) own.Post Inv-loop μ-loop
+after-low-requires t c κs =
+    let pre = c .before .before .pre .1 in
+    (pre .0, pre .1, c .if1 .taken, pre .2)
+
 returns : (t : ℕ) → lts.Need-returns (claims t) (given t) own.Post Inv-loop μ-loop
-returns t c = let a = c .before .before .args in no-children (a .file .now) (a .first) (a .key) (a .own) (a .step) (c .if1 .taken)
+returns t c = c .after-low .ensures
 
 loop-holds : (t : ℕ) → lts.Need-loop-holds (claims t) (given t) own.Post Inv-loop μ-loop
-loop-holds t c = begins-in _ _ _ _ _ (c .before .before .pre .1) (c .if1 .left)
+loop-holds t c = begins-in _ _ _ _ _ (c .before .before .pre .1) (λ z. omega (arith, c .if1 .left))
 
 mul-place : (t : ℕ) → lts.Need-mul-place (claims t) (given t) own.Post Inv-loop μ-loop
 mul-place t c = omega arith
@@ -88,13 +117,33 @@ add-next t c = omega arith
 has-one-slot-requires : (t : ℕ) → lts.Need-has-one-slot-requires (claims t) (given t) own.Post Inv-loop μ-loop
 has-one-slot-requires t c κs = tt
 
+after-sixteen-requires : (t : ℕ) → lts.Need-after-sixteen-requires (claims t) (given t) own.Post Inv-loop μ-loop
+after-sixteen-requires t c κs =
+    let e = there (found (c .before)) in
+    let l = e .before .before in
+    let h = child-fits (l .loop .inv .passed) (e .before .loop-test .taken) in
+    (l .loop .inv .exact, omega (arith, e .if2 .left), omega (arith, c .if5 .taken))
+
 after-node-requires : (t : ℕ) → lts.Need-after-node-requires (claims t) (given t) own.Post Inv-loop μ-loop
 after-node-requires t c κs =
-    let e = there (c .before .before) in
+    let e = there (found (c .before)) in
     let l = e .before .before in
     let h = child-fits (l .loop .inv .passed) (e .before .loop-test .taken) in
     let s = l .before .before .before in
     (omega (arith, s .pre .0, l .before .if1 .left, l .loop .inv .passed .positive), (s .pre .1 .0, omega (arith, e .if2 .left), omega arith))
+
+-- what either function answers of a child that is a node
+after-child : {t : ℕ} (c : Called t) → let f = found (c .before) in let l = there f .before .before in let a = l .before .before .before .args in
+    Answered (a .file .now) (l .loop .next + 1) (a .key + l .loop .digit * a .step) (f .u16-at .result) (a .step / 5) (c .if5 .next)
+after-child c =
+    let f = found (c .before) in
+    let e = there f in
+    ⊎-elim
+    (λ w. rw (w .2)
+    (child-in (e .before .before .loop .inv) (e .before .loop-test .taken) (e .if2 .left) _ (f .before .before .u32-at .ensures) (f .before .if3 .left) _ (f .u16-at .ensures)
+    2 (w .0 .taken ∙ step-five) _ (w .1 .ensures)))
+    (λ w. rw (w .2) (w .1 .ensures))
+    (c .if5 .came)
 
 returns-4 : (t : ℕ) → lts.Need-returns-4 (claims t) (given t) own.Post Inv-loop μ-loop
 returns-4 t c =
@@ -103,7 +152,7 @@ returns-4 t c =
     wrong-child-in (e .before .before .loop .inv) (e .before .loop-test .taken) (e .if2 .left) _
     (a .before .before .before .u32-at .ensures) (a .before .before .if3 .left) _ (a .before .u16-at .ensures)
     (sym (a .has-one-slot .ensures) ∙ not-true _ (c .before .before .if4 .taken))
-    _ (c .if5 .taken) (c .before .after-node .ensures)
+    _ (c .if6 .taken) (after-child (c .before))
 
 add-digit : (t : ℕ) → lts.Need-add-digit (claims t) (given t) own.Post Inv-loop μ-loop
 add-digit t c = omega (arith, there (c .before .before) .before .loop-test .taken)
@@ -120,7 +169,7 @@ loop-again t c =
     (λ w. rw (w .3)
     (node-in p (e .before .loop-test .taken) (e .if2 .left) _
     (a .before .before .before .u32-at .ensures) (a .before .before .if3 .left) _ (a .before .u16-at .ensures)
-    (sym (a .has-one-slot .ensures) ∙ not-true _ (w .0 .taken)) _ (w .2 .left) (w .1 .ensures)))
+    (sym (a .has-one-slot .ensures) ∙ not-true _ (w .0 .taken)) _ (w .2 .left) (after-child (record { before = record { before = a; if4 = w .0 }; if5 = w .1 }))))
     (λ w. rw (w .1)
     (leaf-in p (e .before .loop-test .taken) (e .if2 .left) _
     (a .before .before .before .u32-at .ensures) (a .before .before .if3 .left) _ (a .before .u16-at .ensures)
@@ -128,14 +177,15 @@ loop-again t c =
     (c .if4 .came)
 
 returns-5 : (t : ℕ) → lts.Need-returns-5 (claims t) (given t) own.Post Inv-loop μ-loop
-returns-5 t c = ends-in (c .before .before .loop .inv) (c .before .loop-test .left) (c .if6 .taken)
+returns-5 t c = ends-in (c .before .before .loop .inv) (c .before .loop-test .left) (c .if7 .taken)
 
 returns-6 : (t : ℕ) → lts.Need-returns-6 (claims t) (given t) own.Post Inv-loop μ-loop
-returns-6 t c = differs-in (c .before .before .loop .inv) (c .before .loop-test .left) (c .if6 .left)
+returns-6 t c = differs-in (c .before .before .loop .inv) (c .before .loop-test .left) (c .if7 .left)
 
 pub +after-node-spec : {M : Type 1} → statement M
 +after-node-spec = close μ λ t.
     lts.spec (claims t) (given t) own.Post Inv-loop μ-loop
+    (after-low-requires t)
     (returns t)
     (loop-holds t)
     (mul-place t)
@@ -149,6 +199,7 @@ pub +after-node-spec : {M : Type 1} → statement M
     (u16-at-requires t)
     (add-next t)
     (has-one-slot-requires t)
+    (after-sixteen-requires t)
     (after-node-requires t)
     (returns-4 t)
     (add-digit t)

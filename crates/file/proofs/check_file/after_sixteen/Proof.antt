@@ -1,0 +1,148 @@
+-- `check_file::after_sixteen` meets its contract: before each turn the children passed so far are those that the model has passed, at the step 5.
+use Prim.Native.Nat.{ℕ, _+_, _-_, _*_, _≤_}
+use mathlib.Core.Path.{_≡_, sym, _∙_}
+use mathlib.Core.Logic.{⊎-elim}
+use native.Mathlib.Omega.{arith}
+use lib.ListN.{drop}
+use borrow.Author.Tests.{not-true, not-false}
+use Rattle.definitions.specs.File.{nIn, recordsInFile}
+use Rattle.list.specs.Check.{placeOf, afterNode}
+use Rattle.list.proofs.Turn.{step-one, step-five, child-fits}
+use Rattle.file.proofs.FileTurn.{Answered, PassedIn, begins-in, ends-in, differs-in, short-in, other-key-in, child-in, wrong-child-in, leaf-in, node-in}
+use Rattle.file.proofs.check_file.after_sixteen.Statement.{statement}
+use Rattle.file.proofs.check_file.after_sixteen.Tie as tie
+
+abbrev Inv-loop : tie.InvT-loop
+Inv-loop file first key own next₀ union₀ quadrant₀ next union quadrant = PassedIn file first key own 5 next union quadrant
+
+abbrev μ-loop : tie.MeasureT-loop
+μ-loop file first key own next₀ union₀ quadrant₀ next union quadrant = 5 - quadrant
+
+-- places of the code: a turn in which a record is left, and one in which that record's bits were read
+abbrev There : Type 0
+There = tie.Else1 Inv-loop μ-loop
+
+abbrev Found : Type 0
+Found = tie.After-u16-at Inv-loop μ-loop
+
+abbrev there : Found → There
+there c = c .before .before .before
+
+loop-holds : tie.Need-loop-holds Inv-loop μ-loop
+loop-holds c = begins-in _ _ _ _ _ (c .before .pre) (λ z. omega arith)
+
+mul-place : tie.Need-mul-place Inv-loop μ-loop
+mul-place c = omega arith
+
+add-place : tie.Need-add-place Inv-loop μ-loop
+add-place c = omega arith
+
+returns : tie.Need-returns Inv-loop μ-loop
+returns c = let h = short-in (c .before .before .loop .inv) (c .before .loop-test .taken) (c .if1 .taken) in (h .0, h .1 2 step-five)
+
+mul-child : tie.Need-mul-child Inv-loop μ-loop
+mul-child c = let h = child-fits (c .before .before .loop .inv .passed) (c .before .loop-test .taken) in omega arith
+
+add-child : tie.Need-add-child Inv-loop μ-loop
+add-child c = let h = child-fits (c .before .before .loop .inv .passed) (c .before .loop-test .taken) in omega arith
+
+u32-at-requires : tie.Need-u32-at-requires Inv-loop μ-loop
+u32-at-requires c κs = omega arith
+
+returns-2 : tie.Need-returns-2 Inv-loop μ-loop
+returns-2 c =
+    let e = c .before .before in
+    let h = other-key-in (e .before .before .loop .inv) (e .before .loop-test .taken) (e .if1 .left) _ (c .before .u32-at .ensures) (c .if2 .taken) in
+    (h .0, h .1 2 step-five)
+
+add-u16-at : tie.Need-add-u16-at Inv-loop μ-loop
+add-u16-at c = omega arith
+
+u16-at-requires : tie.Need-u16-at-requires Inv-loop μ-loop
+u16-at-requires c κs = omega arith
+
+add-next : tie.Need-add-next Inv-loop μ-loop
+add-next c = omega arith
+
+has-one-slot-requires : tie.Need-has-one-slot-requires Inv-loop μ-loop
+has-one-slot-requires c κs = tt
+
+four-pixels-requires : tie.Need-four-pixels-requires Inv-loop μ-loop
+four-pixels-requires c κs =
+    let e = there (c .before .before) in
+    let l = e .before .before in
+    let h = child-fits (l .loop .inv .passed) (e .before .loop-test .taken) in
+    (l .loop .inv .exact, omega (arith, e .if1 .left), omega arith)
+
+-- what the four pixels' function answers of a child that is a node
+after-child : (c : Found) (r : ℕ) → let e = there c in let l = e .before .before in let a = l .before .before .args in
+    (r ≤ nIn (a .file .now))
+    × (r ≡ placeOf (nIn (a .file .now)) (afterNode 1 (a .key + l .loop .quadrant * 5) (c .u16-at .result) (drop (l .loop .next + 1) (recordsInFile (a .file .now)))))
+    → Answered (a .file .now) (l .loop .next + 1) (a .key + l .loop .quadrant * 5) (c .u16-at .result) 1 r
+after-child c r h =
+    let e = there c in
+    child-in (e .before .before .loop .inv) (e .before .loop-test .taken) (e .if1 .left) _ (c .before .before .u32-at .ensures) (c .before .if2 .left) _ (c .u16-at .ensures) 1 step-one r h
+
+returns-3 : tie.Need-returns-3 Inv-loop μ-loop
+returns-3 c =
+    let a = c .before .before .before in
+    let e = there (a .before) in
+    let h = wrong-child-in (e .before .before .loop .inv) (e .before .loop-test .taken) (e .if1 .left) _
+    (a .before .before .before .u32-at .ensures) (a .before .before .if2 .left) _ (a .before .u16-at .ensures)
+    (sym (a .has-one-slot .ensures) ∙ not-true _ (c .before .before .if3 .taken))
+    _ (c .if4 .taken) (after-child (a .before) _ (c .before .four-pixels .ensures)) in
+    (h .0, h .1 2 step-five)
+
+add-quadrant : tie.Need-add-quadrant Inv-loop μ-loop
+add-quadrant c = omega (arith, there (c .before .before) .before .loop-test .taken)
+
+loop-less : tie.Need-loop-less Inv-loop μ-loop
+loop-less c = omega (arith, there (c .before .before) .before .loop-test .taken)
+
+loop-again : tie.Need-loop-again Inv-loop μ-loop
+loop-again c =
+    let a = c .before in
+    let e = there (a .before) in
+    let p = e .before .before .loop .inv in
+    ⊎-elim
+    (λ w. rw (w .3)
+    (node-in p (e .before .loop-test .taken) (e .if1 .left) _
+    (a .before .before .before .u32-at .ensures) (a .before .before .if2 .left) _ (a .before .u16-at .ensures)
+    (sym (a .has-one-slot .ensures) ∙ not-true _ (w .0 .taken)) _ (w .2 .left) (after-child (a .before) _ (w .1 .ensures))))
+    (λ w. rw (w .1)
+    (leaf-in p (e .before .loop-test .taken) (e .if1 .left) _
+    (a .before .before .before .u32-at .ensures) (a .before .before .if2 .left) _ (a .before .u16-at .ensures)
+    (sym (a .has-one-slot .ensures) ∙ not-false _ (w .0 .left))))
+    (c .if3 .came)
+
+returns-4 : tie.Need-returns-4 Inv-loop μ-loop
+returns-4 c = let h = ends-in (c .before .before .loop .inv) (c .before .loop-test .left) (c .if5 .taken) in (h .0, h .1 2 step-five)
+
+returns-5 : tie.Need-returns-5 Inv-loop μ-loop
+returns-5 c = let h = differs-in (c .before .before .loop .inv) (c .before .loop-test .left) (c .if5 .left) in (h .0, h .1 2 step-five)
+
+pub after-sixteen-spec : {M : Type 1} → statement M
+after-sixteen-spec =
+    tie.close
+    (tie.spec
+    Inv-loop
+    μ-loop
+    loop-holds
+    mul-place
+    add-place
+    returns
+    mul-child
+    add-child
+    u32-at-requires
+    returns-2
+    add-u16-at
+    u16-at-requires
+    add-next
+    has-one-slot-requires
+    four-pixels-requires
+    returns-3
+    add-quadrant
+    loop-less
+    loop-again
+    returns-4
+    returns-5)
