@@ -31,8 +31,8 @@
  *
  * WHAT A CALL NEEDS BESIDE ITS BUFFERS
  *
- * Stack: at most HLQ_STACK_BYTES, its arguments included, whatever the map. (Measured with every
- * call at m = HLQ_DEEPEST_M by tests/c/test_stack.c, and rounded up.)
+ * Stack: at most HLQ_STACK_BYTES, its arguments included. (Measured by tests/c/test_stack.c with
+ * every call at m = HLQ_DEEPEST_M, and rounded up.)
  * Threads: calls may run in parallel, as long as none writes a buffer that another one uses. The
  * archive has no data of its own.
  * Symbols: the archive wants memset, and nothing else.

@@ -13,9 +13,13 @@ static void fail(const char *what) {
     exit(1);
 }
 
+void must(int ok, const char *what) {
+    if (!ok) fail(what);
+}
+
 void *room_for(size_t bytes) {
     void *room = malloc(bytes ? bytes : 1);
-    if (!room) fail("no memory");
+    must(room != NULL, "no memory");
     return room;
 }
 

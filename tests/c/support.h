@@ -33,8 +33,11 @@ typedef enum {
     CALLS
 } call;
 
-/* Memory, or the end of the program. */
+/* Memory, or the end of the run. */
 void *room_for(size_t bytes);
+
+/* Fails the run where something that must hold does not. */
+void must(int ok, const char *what);
 
 /* Random numbers: the same on every machine. */
 void seed(uint64_t value);

@@ -3,7 +3,6 @@
  * logs from another map. */
 #include "support.h"
 
-#include <stdio.h>
 #include <stdlib.h>
 #include <string.h>
 
@@ -65,13 +64,6 @@ static survey new_survey(uint32_t m, uint32_t s, uint8_t *raster, size_t room, s
     hlq_counted c = ref_build(m, s, raster, pixels, start(a.keys), a.keys.len, start(a.bits), a.bits.len);
     a.n = c.count;
     return a;
-}
-
-static void must(int ok, const char *what) {
-    if (!ok) {
-        printf("FAILED: %s\n", what);
-        exit(1);
-    }
 }
 
 /* Demand 3: the rasters of the history as a stack, the bottom of which rises when the log is emptied. */

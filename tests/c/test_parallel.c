@@ -66,13 +66,6 @@ static worker *new_worker(uint64_t start) {
     return w;
 }
 
-static void must(int ok, const char *what) {
-    if (!ok) {
-        printf("FAILED: %s\n", what);
-        exit(1);
-    }
-}
-
 int main(void) {
     static uint8_t raster[PIXELS];
     seed(12);
