@@ -1,5 +1,5 @@
-/* The benchmark: each call of the library against the same work in plain C, on the same input, in one run. Prints nanoseconds a call and the
- * ratio. It is no test: it fails nothing. */
+/* The benchmark: each call of the library against the same work in plain C, on the same input, in one run. Prints
+ * nanoseconds a call and the ratio. It is no test: it fails nothing. */
 #define _POSIX_C_SOURCE 199309L
 #include "plain.h"
 
@@ -8,10 +8,11 @@
 #include <string.h>
 #include <time.h>
 
-enum { M = 10, S = 16, EDGE = 1 << M, PIXELS = EDGE * EDGE, MOST = (4 * PIXELS - 1) / 3 };
+enum { M = 10, S = 16, EDGE = 1 << M, PIXELS = EDGE * EDGE, MOST = HLQ_MOST_RECORDS(M) };
 
 static uint8_t raster[PIXELS], back[PIXELS], *file;
-static uint32_t keys[MOST], bits[MOST], other_keys[MOST], other_bits[MOST], answer[PIXELS], log_keys[2 * MOST], log_values[2 * MOST];
+static uint32_t keys[MOST], bits[MOST], other_keys[MOST], other_bits[MOST], answer[PIXELS], log_keys[2 * MOST],
+    log_values[2 * MOST];
 static volatile uint64_t sink;
 static uint64_t state = 88172645463325252u;
 
@@ -26,19 +27,23 @@ static double now(void) {
     return (double)t.tv_sec * 1e9 + (double)t.tv_nsec;
 }
 
-/* The best of several rounds of each, in turn, so that both see the same machine. A round repeats its call: one call on a small list takes less
- * time than reading the clock. */
-#define COMPARE(name, rounds, times, library, plain) do { \
-    double best_library = 1e18, best_plain = 1e18; \
-    for (int round = 0; round < (rounds); round++) { \
-        double t = now(); for (int again = 0; again < (times); again++) { library; } \
-        double u = now(); for (int again = 0; again < (times); again++) { plain; } \
-        double v = now(); \
-        if (u - t < best_library) best_library = u - t; \
-        if (v - u < best_plain) best_plain = v - u; \
-    } \
-    printf("%-36s %14.0f %14.0f %8.2f\n", name, best_library / (times), best_plain / (times), best_library / best_plain); \
-} while (0)
+/* The best of several rounds of each, in turn, so that both see the same machine. A round repeats its call: one call on
+ * a small list takes less time than reading the clock. */
+#define COMPARE(name, rounds, times, library, plain) \
+    do { \
+        double best_library = 1e18, best_plain = 1e18; \
+        for (int round = 0; round < (rounds); round++) { \
+            double t = now(); \
+            for (int again = 0; again < (times); again++) { library; } \
+            double u = now(); \
+            for (int again = 0; again < (times); again++) { plain; } \
+            double v = now(); \
+            if (u - t < best_library) best_library = u - t; \
+            if (v - u < best_plain) best_plain = v - u; \
+        } \
+        printf("%-36s %14.0f %14.0f %8.2f\n", name, best_library / (times), best_plain / (times), \
+               best_library / best_plain); \
+    } while (0)
 
 /* 0 one feature, 1 patches, 2 noise; the last feature occurs in none. */
 static void fill(int kind) {
@@ -48,7 +53,8 @@ static void fill(int kind) {
             uint32_t h = 1 + below(120), w = 1 + below(120), r = below(EDGE - h), c = below(EDGE - w), f = below(S - 1);
             for (uint32_t y = r; y < r + h; y++) memset(raster + (size_t)y * EDGE + c, (int)f, w);
         }
-    if (kind == 2) for (size_t i = 0; i < PIXELS; i++) raster[i] = (uint8_t)below(S - 1);
+    if (kind == 2)
+        for (size_t i = 0; i < PIXELS; i++) raster[i] = (uint8_t)below(S - 1);
 }
 
 /* How often a round repeats a call on a list of n records. */
@@ -61,10 +67,14 @@ static void lists(const char *kind) {
             sink += plain_build(M, S, raster, other_keys, other_bits, MOST));
     COMPARE("build into exactly its room", 7, 1, sink += hlq_build(M, S, raster, PIXELS, keys, n, bits, n).count,
             sink += plain_build(M, S, raster, other_keys, other_bits, n));
-    COMPARE("standing (the list check)", 7, times_for(n), sink += hlq_standing(M, S, keys, MOST, bits, MOST, n, 1234).place,
+    COMPARE("standing (the list check)", 7, times_for(n),
+            sink += hlq_standing(M, S, keys, MOST, bits, MOST, n, 1234).place,
             sink += (uint64_t)plain_is_list(M, S, keys, bits, n) + plain_place(keys, n, 1234));
-    COMPARE("raster (with the list check)", 7, 1, sink += hlq_raster(M, S, keys, MOST, bits, MOST, n, back, PIXELS).refusal,
-            { sink += (uint64_t)plain_is_list(M, S, keys, bits, n); plain_raster(M, bits, back); });
+    COMPARE("raster (with the list check)", 7, 1,
+            sink += hlq_raster(M, S, keys, MOST, bits, MOST, n, back, PIXELS).refusal, {
+                sink += (uint64_t)plain_is_list(M, S, keys, bits, n);
+                plain_raster(M, bits, back);
+            });
 }
 
 static uint32_t log2_of(uint32_t w) {
@@ -81,64 +91,110 @@ static void window(size_t n, uint32_t row, uint32_t column, uint32_t w, uint32_t
     plain_report(M, keys, bits, n, row, column, w, w, &report);
     plain_select(M, keys, bits, n, row, column, w, w, there, answer, PIXELS, &select);
     plain_select(M, keys, bits, n, row, column, w, w, missing, answer, PIXELS, &none);
-    printf("side %u: %zu largest blocks (bound %u); visited by exist %zu, report %zu, select %zu, select of nothing %zu\n", w,
-           plain_blocks(M, row, column, w, w), 3 * (2 * w - log2_of(w)) - 5, exist, report, select, none);
-    COMPARE("exist (a feature that is not there)", 9, times, sink += hlq_exist(M, S, keys, MOST, bits, MOST, n, row, column, w, w, missing).yes,
-            sink += (uint64_t)plain_is_list(M, S, keys, bits, n) + (uint64_t)plain_exist(M, keys, bits, n, row, column, w, w, missing, &exist));
+    printf(
+        "side %u: %zu largest blocks (bound %u); visited by exist %zu, report %zu, select %zu, select of nothing %zu\n",
+        w, plain_blocks(M, row, column, w, w), 3 * (2 * w - log2_of(w)) - 5, exist, report, select, none);
+    COMPARE("exist (a feature that is not there)", 9, times,
+            sink += hlq_exist(M, S, keys, MOST, bits, MOST, n, row, column, w, w, missing).yes,
+            sink += (uint64_t)plain_is_list(M, S, keys, bits, n) +
+                    (uint64_t)plain_exist(M, keys, bits, n, row, column, w, w, missing, &exist));
     COMPARE("report", 9, times, sink += hlq_report(M, S, keys, MOST, bits, MOST, n, row, column, w, w).bits,
-            sink += (uint64_t)plain_is_list(M, S, keys, bits, n) + plain_report(M, keys, bits, n, row, column, w, w, &report));
-    COMPARE("select", 9, times, sink += hlq_select(M, S, keys, MOST, bits, MOST, n, row, column, w, w, there, answer, PIXELS).count,
-            sink += (uint64_t)plain_is_list(M, S, keys, bits, n) + plain_select(M, keys, bits, n, row, column, w, w, there, answer, PIXELS, &select));
-    COMPARE("select (a feature that is not there)", 9, times, sink += hlq_select(M, S, keys, MOST, bits, MOST, n, row, column, w, w, missing, answer, PIXELS).count,
-            sink += (uint64_t)plain_is_list(M, S, keys, bits, n) + plain_select(M, keys, bits, n, row, column, w, w, missing, answer, PIXELS, &none));
+            sink +=
+            (uint64_t)plain_is_list(M, S, keys, bits, n) + plain_report(M, keys, bits, n, row, column, w, w, &report));
+    COMPARE("select", 9, times,
+            sink += hlq_select(M, S, keys, MOST, bits, MOST, n, row, column, w, w, there, answer, PIXELS).count,
+            sink += (uint64_t)plain_is_list(M, S, keys, bits, n) +
+                    plain_select(M, keys, bits, n, row, column, w, w, there, answer, PIXELS, &select));
+    COMPARE("select (a feature that is not there)", 9, times,
+            sink += hlq_select(M, S, keys, MOST, bits, MOST, n, row, column, w, w, missing, answer, PIXELS).count,
+            sink += (uint64_t)plain_is_list(M, S, keys, bits, n) +
+                    plain_select(M, keys, bits, n, row, column, w, w, missing, answer, PIXELS, &none));
 }
 
-/* Windows that grow, on a uniform map and on a patchy one: what the calls cost above the list check, beside Lemma 1's bound of the largest blocks. */
+/* Windows that grow, on a uniform map and on a patchy one: what the calls cost above the list check, beside Lemma 1's
+ * bound of the largest blocks. */
 static void windows(const char *kind, size_t n, uint32_t missing) {
-    printf("\nwindows at m = %d on the %s raster, n = %zu, each call with its check of the list; bound: 3(2w - log2 w) - 5\n", M, kind, n);
+    printf("\nwindows at m = %d on the %s raster, n = %zu, each call with its check of the list; bound: 3(2w - log2 w) "
+           "- 5\n",
+           M, kind, n);
     for (uint32_t w = 8; w <= 512; w *= 4) window(n, 301, 277, w, 3, missing);
-    COMPARE("report against a scan of the raster", 9, 1, sink += hlq_report(M, S, keys, MOST, bits, MOST, n, 301, 277, 512, 512).bits,
+    COMPARE("report against a scan of the raster", 9, 1,
+            sink += hlq_report(M, S, keys, MOST, bits, MOST, n, 301, 277, 512, 512).bits,
             sink += plain_scan(M, raster, 301, 277, 512, 512));
 }
 
 static void edits(size_t n) {
     size_t used = 0, plain_used = 0, plain_n = n;
-    uint32_t key = 2 * 1953125 + 3 * 390625 + 1 * 78125 + 4 * 15625 + 2 * 3125 + 2 * 625 + 3 * 125; /* 2314223000: 8 by 8 pixels */
+    uint32_t key =
+        2 * 1953125 + 3 * 390625 + 1 * 78125 + 4 * 15625 + 2 * 3125 + 2 * 625 + 3 * 125; /* 2314223000: 8 by 8 pixels */
     memcpy(other_keys, keys, sizeof keys), memcpy(other_bits, bits, sizeof bits);
     static uint32_t plain_log_keys[2 * MOST], plain_log_values[2 * MOST];
     printf("\nedits at m = %d, n = %zu, each with its checks of list and log\n", M, n);
     uint32_t feature = 5;
-    COMPARE("paint", 6, 1, { hlq_edited e = hlq_paint(M, S, keys, MOST, bits, MOST, n, log_keys, 2 * MOST, log_values, 2 * MOST, used, key, feature); n = e.n; used = e.used; },
-            { plain_n = plain_paint(M, S, other_keys, other_bits, plain_n, plain_log_keys, plain_log_values, &plain_used, key, feature); feature ^= 1; });
-    COMPARE("take back", 6, 1, { hlq_edited e = hlq_take_back(M, S, keys, MOST, bits, MOST, n, log_keys, 2 * MOST, log_values, 2 * MOST, used); n = e.n; used = e.used; },
-            plain_n = plain_take_back(M, S, other_keys, other_bits, plain_n, plain_log_keys, plain_log_values, &plain_used));
-    if (n != plain_n || used != plain_used || memcmp(keys, other_keys, 4 * n) != 0 || memcmp(bits, other_bits, 4 * n) != 0) printf("THE TWO DIFFER\n");
+    COMPARE(
+        "paint", 6, 1,
+        {
+            hlq_edited e = hlq_paint(M, S, keys, MOST, bits, MOST, n, log_keys, 2 * MOST, log_values, 2 * MOST, used,
+                                     key, feature);
+            n = e.n;
+            used = e.used;
+        },
+        {
+            plain_n = plain_paint(M, S, other_keys, other_bits, plain_n, plain_log_keys, plain_log_values, &plain_used,
+                                  key, feature);
+            feature ^= 1;
+        });
+    COMPARE(
+        "take back", 6, 1,
+        {
+            hlq_edited e =
+                hlq_take_back(M, S, keys, MOST, bits, MOST, n, log_keys, 2 * MOST, log_values, 2 * MOST, used);
+            n = e.n;
+            used = e.used;
+        },
+        plain_n =
+            plain_take_back(M, S, other_keys, other_bits, plain_n, plain_log_keys, plain_log_values, &plain_used));
+    if (n != plain_n || used != plain_used || memcmp(keys, other_keys, 4 * n) != 0 ||
+        memcmp(bits, other_bits, 4 * n) != 0)
+        printf("THE TWO DIFFER\n");
 }
 
 static void findings(size_t n) {
     enum { RULES = 1000, WAIVERS = 10000 };
     static hlq_rule rules[RULES];
-    static uint32_t ids[WAIVERS], waived[WAIVERS], found_ids[1 << 22], found_keys[1 << 22], other_ids[1 << 22], other_found[1 << 22];
+    static uint32_t ids[WAIVERS], waived[WAIVERS], found_ids[1 << 22], found_keys[1 << 22], other_ids[1 << 22],
+        other_found[1 << 22];
     size_t waivers = 0, hidden = 0, visited;
     for (uint32_t i = 0; i < RULES; i++) {
         uint32_t h = 20 + below(80), w = 20 + below(80);
-        rules[i] = (hlq_rule){ 10 * i, below(EDGE - h), below(EDGE - w), h, w, below(S) };
-        size_t count = plain_select(M, keys, bits, n, rules[i].row, rules[i].column, h, w, rules[i].feature, answer, PIXELS, &visited);
-        for (size_t j = 0; j < count && waivers < 12 * (i + 1) && waivers < WAIVERS; j += 2) ids[waivers] = rules[i].id, waived[waivers++] = answer[j];
+        rules[i] = (hlq_rule) { 10 * i, below(EDGE - h), below(EDGE - w), h, w, below(S) };
+        size_t count = plain_select(M, keys, bits, n, rules[i].row, rules[i].column, h, w, rules[i].feature, answer,
+                                    PIXELS, &visited);
+        for (size_t j = 0; j < count && waivers < 12 * (i + 1) && waivers < WAIVERS; j += 2)
+            ids[waivers] = rules[i].id, waived[waivers++] = answer[j];
     }
     printf("\nfindings at m = %d: %d rules, %zu waivers\n", M, RULES, waivers);
-    COMPARE("findings", 5, 1, sink += hlq_findings(M, S, keys, MOST, bits, MOST, n, rules, RULES, ids, waivers, waived, waivers, found_ids, 1 << 22, found_keys, 1 << 22).live,
-            sink += (uint64_t)plain_is_list(M, S, keys, bits, n) + plain_findings(M, keys, bits, n, rules, RULES, ids, waived, waivers, other_ids, other_found, &hidden));
-    hlq_found found = hlq_findings(M, S, keys, MOST, bits, MOST, n, rules, RULES, ids, waivers, waived, waivers, found_ids, 1 << 22, found_keys, 1 << 22);
-    if (found.hidden != hidden || memcmp(found_ids, other_ids, 4 * found.live) != 0 || memcmp(found_keys, other_found, 4 * found.live) != 0) printf("THE TWO DIFFER\n");
+    COMPARE("findings", 5, 1,
+            sink += hlq_findings(M, S, keys, MOST, bits, MOST, n, rules, RULES, ids, waivers, waived, waivers,
+                                 found_ids, 1 << 22, found_keys, 1 << 22)
+                        .live,
+            sink +=
+            (uint64_t)plain_is_list(M, S, keys, bits, n) +
+            plain_findings(M, keys, bits, n, rules, RULES, ids, waived, waivers, other_ids, other_found, &hidden));
+    hlq_found found = hlq_findings(M, S, keys, MOST, bits, MOST, n, rules, RULES, ids, waivers, waived, waivers,
+                                   found_ids, 1 << 22, found_keys, 1 << 22);
+    if (found.hidden != hidden || memcmp(found_ids, other_ids, 4 * found.live) != 0 ||
+        memcmp(found_keys, other_found, 4 * found.live) != 0)
+        printf("THE TWO DIFFER\n");
     printf("%llu live, %llu hidden\n", (unsigned long long)found.live, (unsigned long long)found.hidden);
 }
 
 static void files(size_t n) {
     printf("\nfile at m = %d, n = %zu\n", M, n);
-    COMPARE("store", 5, 1, sink += hlq_store(M, S, keys, MOST, bits, MOST, n, file, 11 + 6 * (size_t)MOST).count,
+    COMPARE("store", 5, 1, sink += hlq_store(M, S, keys, MOST, bits, MOST, n, file, HLQ_FILE_BYTES(MOST)).count,
             sink += (uint64_t)plain_is_list(M, S, keys, bits, n) + plain_store(M, S, keys, bits, n, file));
-    COMPARE("load", 5, 1, sink += hlq_load(file, 11 + 6 * n, other_keys, MOST, other_bits, MOST).n, sink += plain_load(file, other_keys, other_bits));
+    COMPARE("load", 5, 1, sink += hlq_load(file, HLQ_FILE_BYTES(n), other_keys, MOST, other_bits, MOST).n,
+            sink += plain_load(file, other_keys, other_bits));
 }
 
 static void blocks(void) {
@@ -151,11 +207,14 @@ static void blocks(void) {
 
 int main(void) {
     static const char *const kinds[] = { "uniform", "patchy", "noisy" };
-    file = malloc(11 + 6 * (size_t)MOST);
+    file = malloc(HLQ_FILE_BYTES(MOST));
     if (!file) return 1;
     printf("%-36s %14s %14s %8s\n", "call", "library ns", "plain C ns", "ratio");
     blocks();
-    for (int kind = 0; kind <= 2; kind++) { fill(kind); lists(kinds[kind]); }
+    for (int kind = 0; kind <= 2; kind++) {
+        fill(kind);
+        lists(kinds[kind]);
+    }
     fill(0);
     size_t n = hlq_build(M, S, raster, PIXELS, keys, MOST, bits, MOST).count;
     windows(kinds[0], n, S - 1);

@@ -27,36 +27,45 @@ hlq_block plain_block_of(uint32_t m, uint32_t key) {
         row += digit > 2 ? side : 0, column += digit % 2 ? 0 : side;
         key %= step;
     }
-    return (hlq_block){ 0, row, column, side, level };
+    return (hlq_block) { 0, row, column, side, level };
 }
 
-/* ---- build: what is below each block that is not uniform, written in one pass; a count comes first only where the room may be too little */
+/* ---- build: what is below each block that is not uniform, written in one pass; a count comes first only where the
+ * room may be too little */
 
-typedef struct { const uint8_t *raster; uint32_t edge; uint32_t *keys, *bits; } job;
-typedef struct { uint32_t bits; size_t count; } tally;
+typedef struct {
+    const uint8_t *raster;
+    uint32_t edge;
+    uint32_t *keys, *bits;
+} job;
+typedef struct {
+    uint32_t bits;
+    size_t count;
+} tally;
 
 static tally count_block(const job *j, uint32_t row, uint32_t column, uint32_t side) {
-    if (side == 1) return (tally){ 1u << j->raster[(size_t)row * j->edge + column], 1 };
+    if (side == 1) return (tally) { 1u << j->raster[(size_t)row * j->edge + column], 1 };
     uint32_t h = side / 2;
-    tally a = count_block(j, row, column, h), b = count_block(j, row, column + h, h), c = count_block(j, row + h, column, h),
-          d = count_block(j, row + h, column + h, h);
+    tally a = count_block(j, row, column, h), b = count_block(j, row, column + h, h),
+          c = count_block(j, row + h, column, h), d = count_block(j, row + h, column + h, h);
     uint32_t bits = a.bits | b.bits | c.bits | d.bits;
-    return (tally){ bits, one_bit(bits) ? 1 : 1 + a.count + b.count + c.count + d.count };
+    return (tally) { bits, one_bit(bits) ? 1 : 1 + a.count + b.count + c.count + d.count };
 }
 
 /* A block of two by two pixels, without a call: most blocks are of this size. */
 static inline tally write_quad(const job *j, uint32_t row, uint32_t column, uint32_t key, size_t at) {
     const uint8_t *north = j->raster + (size_t)row * j->edge + column, *south = north + j->edge;
     uint32_t a = 1u << north[0], b = 1u << north[1], c = 1u << south[0], d = 1u << south[1], bits = a | b | c | d;
-    if (one_bit(bits)) return (tally){ bits, at + 1 };
+    if (one_bit(bits)) return (tally) { bits, at + 1 };
     uint32_t *keys = j->keys + at, *slots = j->bits + at;
     keys[1] = key + 1, keys[2] = key + 2, keys[3] = key + 3, keys[4] = key + 4;
     slots[1] = a, slots[2] = b, slots[3] = c, slots[4] = d;
-    return (tally){ bits, at + 5 };
+    return (tally) { bits, at + 5 };
 }
 
-static tally write_below(const job *j, uint32_t row, uint32_t column, uint32_t side, uint32_t key, uint32_t step, size_t at) {
-    if (side == 1) return (tally){ 1u << j->raster[(size_t)row * j->edge + column], at + 1 };
+static tally write_below(const job *j, uint32_t row, uint32_t column, uint32_t side, uint32_t key, uint32_t step,
+                         size_t at) {
+    if (side == 1) return (tally) { 1u << j->raster[(size_t)row * j->edge + column], at + 1 };
     if (side == 2) return write_quad(j, row, column, key, at);
     uint32_t h = side / 2;
     size_t p1 = at + 1;
@@ -65,12 +74,12 @@ static tally write_below(const job *j, uint32_t row, uint32_t column, uint32_t s
     tally c = write_below(j, row + h, column, h, key + 3 * step, step / 5, b.count);
     tally d = write_below(j, row + h, column + h, h, key + 4 * step, step / 5, c.count);
     uint32_t bits = a.bits | b.bits | c.bits | d.bits;
-    if (one_bit(bits)) return (tally){ bits, at + 1 };
+    if (one_bit(bits)) return (tally) { bits, at + 1 };
     j->keys[p1] = key + step, j->bits[p1] = a.bits;
     j->keys[a.count] = key + 2 * step, j->bits[a.count] = b.bits;
     j->keys[b.count] = key + 3 * step, j->bits[b.count] = c.bits;
     j->keys[c.count] = key + 4 * step, j->bits[c.count] = d.bits;
-    return (tally){ bits, d.count };
+    return (tally) { bits, d.count };
 }
 
 size_t plain_build(uint32_t m, uint32_t s, const uint8_t *raster, uint32_t *keys, uint32_t *bits, size_t room) {
@@ -87,7 +96,8 @@ size_t plain_build(uint32_t m, uint32_t s, const uint8_t *raster, uint32_t *keys
 
 /* ---- check */
 
-static size_t check_node(const uint32_t *keys, const uint32_t *bits, size_t n, size_t at, uint32_t key, uint32_t step, uint32_t limit) {
+static size_t check_node(const uint32_t *keys, const uint32_t *bits, size_t n, size_t at, uint32_t key, uint32_t step,
+                         uint32_t limit) {
     uint32_t together = 0;
     size_t next = at + 1;
     for (uint32_t d = 1; d <= 4; d++) {
@@ -114,9 +124,11 @@ int plain_is_list(uint32_t m, uint32_t s, const uint32_t *keys, const uint32_t *
 
 /* ---- raster */
 
-static size_t fill_node(const uint32_t *bits, uint8_t *raster, uint32_t edge, size_t at, uint32_t row, uint32_t column, uint32_t side) {
+static size_t fill_node(const uint32_t *bits, uint8_t *raster, uint32_t edge, size_t at, uint32_t row, uint32_t column,
+                        uint32_t side) {
     if (one_bit(bits[at])) {
-        for (uint32_t r = row; r < row + side; r++) memset(raster + (size_t)r * edge + column, __builtin_ctz(bits[at]), side);
+        for (uint32_t r = row; r < row + side; r++)
+            memset(raster + (size_t)r * edge + column, __builtin_ctz(bits[at]), side);
         return at + 1;
     }
     uint32_t h = side / 2;
@@ -126,7 +138,9 @@ static size_t fill_node(const uint32_t *bits, uint8_t *raster, uint32_t edge, si
     return fill_node(bits, raster, edge, at, row + h, column + h, h);
 }
 
-void plain_raster(uint32_t m, const uint32_t *bits, uint8_t *raster) { fill_node(bits, raster, 1u << m, 0, 0, 0, 1u << m); }
+void plain_raster(uint32_t m, const uint32_t *bits, uint8_t *raster) {
+    fill_node(bits, raster, 1u << m, 0, 0, 0, 1u << m);
+}
 
 /* ---- standing: the last place whose key is at or before */
 
@@ -134,28 +148,37 @@ size_t plain_place(const uint32_t *keys, size_t n, uint32_t key) {
     size_t low = 0, high = n;
     while (low < high) {
         size_t middle = low + (high - low) / 2;
-        if (keys[middle] <= key) low = middle + 1; else high = middle;
+        if (keys[middle] <= key)
+            low = middle + 1;
+        else
+            high = middle;
     }
     return low - 1;
 }
 
-/* ---- windows: list and window gone down together. A leaf answers for all of the window that lies in it, a node whose bits add nothing is
- * passed over, and only else its four quadrants are asked, which stand after it in the list. */
+/* ---- windows: list and window gone down together. A leaf answers for all of the window that lies in it, a node whose
+ * bits add nothing is passed over, and only else its four quadrants are asked, which stand after it in the list. */
 
-typedef struct { uint32_t row, column, height, width; } frame;
-typedef struct { uint32_t key, row, column, side, step; } spot;
+typedef struct {
+    uint32_t row, column, height, width;
+} frame;
+typedef struct {
+    uint32_t key, row, column, side, step;
+} spot;
 
 static int apart(const frame *w, const spot *b) {
-    return b->row + b->side <= w->row || w->row + w->height <= b->row || b->column + b->side <= w->column || w->column + w->width <= b->column;
+    return b->row + b->side <= w->row || w->row + w->height <= b->row || b->column + b->side <= w->column ||
+           w->column + w->width <= b->column;
 }
 
 static int inside(const frame *w, const spot *b) {
-    return w->row <= b->row && b->row + b->side <= w->row + w->height && w->column <= b->column && b->column + b->side <= w->column + w->width;
+    return w->row <= b->row && b->row + b->side <= w->row + w->height && w->column <= b->column &&
+           b->column + b->side <= w->column + w->width;
 }
 
 static spot quadrant(const spot *b, uint32_t digit) {
     uint32_t h = b->side / 2, step = b->step / 5;
-    return (spot){ b->key + digit * step, b->row + (digit > 2 ? h : 0), b->column + (digit % 2 ? 0 : h), h, step };
+    return (spot) { b->key + digit * step, b->row + (digit > 2 ? h : 0), b->column + (digit % 2 ? 0 : h), h, step };
 }
 
 /* The place of a listed key at or after a place: steps that double, then halve. */
@@ -164,12 +187,22 @@ static size_t place_from(const uint32_t *keys, size_t n, size_t at, uint32_t key
     while (at + step < n && keys[at + step] <= key) at += step, step *= 2;
     for (high = at + step < n ? at + step : n; high - at > 1;) {
         size_t middle = at + (high - at) / 2;
-        if (keys[middle] <= key) at = middle; else high = middle;
+        if (keys[middle] <= key)
+            at = middle;
+        else
+            high = middle;
     }
     return at;
 }
 
-typedef struct { const uint32_t *keys, *bits; size_t n; frame w; uint32_t bit; uint32_t *answer; size_t room, count, visited; } question;
+typedef struct {
+    const uint32_t *keys, *bits;
+    size_t n;
+    frame w;
+    uint32_t bit;
+    uint32_t *answer;
+    size_t room, count, visited;
+} question;
 
 /* The block is listed at the place. */
 static int exist_below(question *q, spot b, size_t at) {
@@ -208,7 +241,10 @@ static void give(question *q, uint32_t key) {
 /* The window's largest blocks in a leaf: the list has no more to say. */
 static void select_in_leaf(question *q, spot b) {
     q->visited++;
-    if (inside(&q->w, &b)) { give(q, b.key); return; }
+    if (inside(&q->w, &b)) {
+        give(q, b.key);
+        return;
+    }
     for (uint32_t digit = 1; digit <= 4; digit++) {
         spot c = quadrant(&b, digit);
         if (!apart(&q->w, &c)) select_in_leaf(q, c);
@@ -217,12 +253,19 @@ static void select_in_leaf(question *q, spot b) {
 
 static void select_below(question *q, spot b, size_t at) {
     uint32_t found = q->bits[at];
-    if (!(found & q->bit)) { q->visited++; return; }
-    if (found == q->bit) { select_in_leaf(q, b); return; }
+    if (!(found & q->bit)) {
+        q->visited++;
+        return;
+    }
+    if (found == q->bit) {
+        select_in_leaf(q, b);
+        return;
+    }
     q->visited++;
     if (inside(&q->w, &b)) {
         uint32_t end = b.key + b.step;
-        for (; at < q->n && q->keys[at] < end; at++) if (q->bits[at] == q->bit) give(q, q->keys[at]);
+        for (; at < q->n && q->keys[at] < end; at++)
+            if (q->bits[at] == q->bit) give(q, q->keys[at]);
         return;
     }
     for (uint32_t digit = 1; digit <= 4; digit++) {
@@ -233,25 +276,26 @@ static void select_below(question *q, spot b, size_t at) {
     }
 }
 
-int plain_exist(uint32_t m, const uint32_t *keys, const uint32_t *bits, size_t n, uint32_t row, uint32_t column, uint32_t height, uint32_t width,
-                uint32_t feature, size_t *visited) {
+int plain_exist(uint32_t m, const uint32_t *keys, const uint32_t *bits, size_t n, uint32_t row, uint32_t column,
+                uint32_t height, uint32_t width, uint32_t feature, size_t *visited) {
     question q = { keys, bits, n, { row, column, height, width }, 1u << feature, NULL, 0, 0, 0 };
-    int yes = exist_below(&q, (spot){ 0, 0, 0, 1u << m, power(5, m) }, 0);
+    int yes = exist_below(&q, (spot) { 0, 0, 0, 1u << m, power(5, m) }, 0);
     *visited = q.visited;
     return yes;
 }
 
-uint32_t plain_report(uint32_t m, const uint32_t *keys, const uint32_t *bits, size_t n, uint32_t row, uint32_t column, uint32_t height, uint32_t width,
-                      size_t *visited) {
+uint32_t plain_report(uint32_t m, const uint32_t *keys, const uint32_t *bits, size_t n, uint32_t row, uint32_t column,
+                      uint32_t height, uint32_t width, size_t *visited) {
     question q = { keys, bits, n, { row, column, height, width }, 0, NULL, 0, 0, 0 };
-    uint32_t found = report_below(&q, (spot){ 0, 0, 0, 1u << m, power(5, m) }, 0, 0);
+    uint32_t found = report_below(&q, (spot) { 0, 0, 0, 1u << m, power(5, m) }, 0, 0);
     *visited = q.visited;
     return found;
 }
 
-/* Nothing may be written where the answer does not fit: it is counted first unless the room holds every pixel of the window. */
-size_t plain_select(uint32_t m, const uint32_t *keys, const uint32_t *bits, size_t n, uint32_t row, uint32_t column, uint32_t height, uint32_t width,
-                    uint32_t feature, uint32_t *answer, size_t room, size_t *visited) {
+/* Nothing may be written where the answer does not fit: it is counted first unless the room holds every pixel of the
+ * window. */
+size_t plain_select(uint32_t m, const uint32_t *keys, const uint32_t *bits, size_t n, uint32_t row, uint32_t column,
+                    uint32_t height, uint32_t width, uint32_t feature, uint32_t *answer, size_t room, size_t *visited) {
     question q = { keys, bits, n, { row, column, height, width }, 1u << feature, answer, 0, 0, 0 };
     spot root = { 0, 0, 0, 1u << m, power(5, m) };
     if (room < (size_t)height * width) {
@@ -274,12 +318,13 @@ static size_t blocks_below(const frame *w, spot b) {
 
 size_t plain_blocks(uint32_t m, uint32_t row, uint32_t column, uint32_t height, uint32_t width) {
     frame w = { row, column, height, width };
-    return blocks_below(&w, (spot){ 0, 0, 0, 1u << m, power(5, m) });
+    return blocks_below(&w, (spot) { 0, 0, 0, 1u << m, power(5, m) });
 }
 
 uint32_t plain_scan(uint32_t m, const uint8_t *raster, uint32_t row, uint32_t column, uint32_t height, uint32_t width) {
     uint32_t found = 0;
-    for (uint32_t r = row; r < row + height; r++) for (uint32_t c = column; c < column + width; c++) found |= 1u << raster[((size_t)r << m) + c];
+    for (uint32_t r = row; r < row + height; r++)
+        for (uint32_t c = column; c < column + width; c++) found |= 1u << raster[((size_t)r << m) + c];
     return found;
 }
 
@@ -291,21 +336,26 @@ static uint32_t step_of(uint32_t m, uint32_t key) {
     return key == 0 ? power(5, m) : step;
 }
 
-static int plain_log_is_sound(uint32_t m, uint32_t s, const uint32_t *log_keys, const uint32_t *log_values, size_t used) {
+static int plain_log_is_sound(uint32_t m, uint32_t s, const uint32_t *log_keys, const uint32_t *log_values,
+                              size_t used) {
     while (used > 0) {
         size_t count = log_values[used - 1], from = used - 1 - count;
         uint32_t key = log_keys[used - 1], step = step_of(m, key);
         if (count == 0 || count >= used || log_keys[from] != key) return 0;
-        if (one_bit(log_values[from])) { if (count != 1) return 0; }
-        else if (step == 1 || check_node(log_keys + from, log_values + from, count, 0, key, step / 5, 1u << s) != count) return 0;
+        if (one_bit(log_values[from])) {
+            if (count != 1) return 0;
+        } else if (step == 1 ||
+                   check_node(log_keys + from, log_values + from, count, 0, key, step / 5, 1u << s) != count)
+            return 0;
         used = from;
     }
     return 1;
 }
 
 /* The records of a content planted in a leaf of another feature: four a level, down to the block. */
-static size_t plant(uint32_t leaf, uint32_t step, uint32_t leaf_bits, uint32_t key, uint32_t content_bits, uint32_t *keys, uint32_t *bits, size_t at,
-                    const uint32_t *content_keys, const uint32_t *content_values, size_t count) {
+static size_t plant(uint32_t leaf, uint32_t step, uint32_t leaf_bits, uint32_t key, uint32_t content_bits,
+                    uint32_t *keys, uint32_t *bits, size_t at, const uint32_t *content_keys,
+                    const uint32_t *content_values, size_t count) {
     if (leaf == key) {
         memcpy(keys + at, content_keys, 4 * count), memcpy(bits + at, content_values, 4 * count);
         return at + count;
@@ -314,13 +364,16 @@ static size_t plant(uint32_t leaf, uint32_t step, uint32_t leaf_bits, uint32_t k
     step /= 5;
     for (uint32_t d = 1; d <= 4; d++) {
         uint32_t child = leaf + d * step;
-        if (child <= key && key < child + step) at = plant(child, step, leaf_bits, key, content_bits, keys, bits, at, content_keys, content_values, count);
-        else keys[at] = child, bits[at++] = leaf_bits;
+        if (child <= key && key < child + step)
+            at = plant(child, step, leaf_bits, key, content_bits, keys, bits, at, content_keys, content_values, count);
+        else
+            keys[at] = child, bits[at++] = leaf_bits;
     }
     return at;
 }
 
-static size_t put(uint32_t m, uint32_t *keys, uint32_t *bits, size_t n, uint32_t key, const uint32_t *content_keys, const uint32_t *content_values, size_t count) {
+static size_t put(uint32_t m, uint32_t *keys, uint32_t *bits, size_t n, uint32_t key, const uint32_t *content_keys,
+                  const uint32_t *content_values, size_t count) {
     size_t at = plain_place(keys, n, key), old, new;
     uint32_t top = power(5, m), step = step_of(m, key), content = content_values[0], e = key;
     int planted = keys[at] != key, leaf = count == 1 && one_bit(content);
@@ -347,9 +400,12 @@ static size_t put(uint32_t m, uint32_t *keys, uint32_t *bits, size_t n, uint32_t
     uint32_t leaf_bits = bits[at];
     memmove(keys + at + new, keys + at + old, 4 * (n - at - old));
     memmove(bits + at + new, bits + at + old, 4 * (n - at - old));
-    if (planted) plant(e, step, leaf_bits, key, content, keys, bits, at, content_keys, content_values, count);
-    else if (e != key) keys[at] = e, bits[at] = content;
-    else memcpy(keys + at, content_keys, 4 * count), memcpy(bits + at, content_values, 4 * count);
+    if (planted)
+        plant(e, step, leaf_bits, key, content, keys, bits, at, content_keys, content_values, count);
+    else if (e != key)
+        keys[at] = e, bits[at] = content;
+    else
+        memcpy(keys + at, content_keys, 4 * count), memcpy(bits + at, content_values, 4 * count);
     size_t now = n - old + new;
     for (size_t i = now; i < n; i++) keys[i] = bits[i] = 0;
     for (; step < top; step *= 5) {
@@ -361,21 +417,23 @@ static size_t put(uint32_t m, uint32_t *keys, uint32_t *bits, size_t n, uint32_t
     return now;
 }
 
-size_t plain_paint(uint32_t m, uint32_t s, uint32_t *keys, uint32_t *bits, size_t n, uint32_t *log_keys, uint32_t *log_values, size_t *used,
-                   uint32_t key, uint32_t feature) {
+size_t plain_paint(uint32_t m, uint32_t s, uint32_t *keys, uint32_t *bits, size_t n, uint32_t *log_keys,
+                   uint32_t *log_values, size_t *used, uint32_t key, uint32_t feature) {
     if (!plain_is_list(m, s, keys, bits, n) || !plain_log_is_sound(m, s, log_keys, log_values, *used)) return 0;
     size_t at = plain_place(keys, n, key), count = 1;
     uint32_t step = step_of(m, key), leaf = 1u << feature;
     if (keys[at] == key) {
         count = (key + step >= power(5, m) ? n : plain_place(keys, n, key + step - 1) + 1) - at;
         memcpy(log_keys + *used, keys + at, 4 * count), memcpy(log_values + *used, bits + at, 4 * count);
-    } else log_keys[*used] = key, log_values[*used] = bits[at];
+    } else
+        log_keys[*used] = key, log_values[*used] = bits[at];
     log_keys[*used + count] = key, log_values[*used + count] = (uint32_t)count;
     *used += count + 1;
     return put(m, keys, bits, n, key, &key, &leaf, 1);
 }
 
-size_t plain_take_back(uint32_t m, uint32_t s, uint32_t *keys, uint32_t *bits, size_t n, uint32_t *log_keys, uint32_t *log_values, size_t *used) {
+size_t plain_take_back(uint32_t m, uint32_t s, uint32_t *keys, uint32_t *bits, size_t n, uint32_t *log_keys,
+                       uint32_t *log_values, size_t *used) {
     if (!plain_is_list(m, s, keys, bits, n) || !plain_log_is_sound(m, s, log_keys, log_values, *used)) return 0;
     size_t count = log_values[*used - 1], from = *used - 1 - count;
     n = put(m, keys, bits, n, log_keys[*used - 1], log_keys + from, log_values + from, count);
@@ -386,29 +444,37 @@ size_t plain_take_back(uint32_t m, uint32_t s, uint32_t *keys, uint32_t *bits, s
 
 /* ---- findings, store, load */
 
-size_t plain_findings(uint32_t m, const uint32_t *keys, const uint32_t *bits, size_t n, const hlq_rule *rules, size_t rules_len,
-                      const uint32_t *waiver_ids, const uint32_t *waiver_keys, size_t waivers, uint32_t *ids, uint32_t *found, size_t *hidden) {
+size_t plain_findings(uint32_t m, const uint32_t *keys, const uint32_t *bits, size_t n, const hlq_rule *rules,
+                      size_t rules_len, const uint32_t *waiver_ids, const uint32_t *waiver_keys, size_t waivers,
+                      uint32_t *ids, uint32_t *found, size_t *hidden) {
     static uint32_t given[1 << 20];
     size_t live = 0, w = 0, visited;
     *hidden = 0;
     for (size_t i = 0; i < rules_len; i++) {
         const hlq_rule *r = rules + i;
-        size_t count = plain_select(m, keys, bits, n, r->row, r->column, r->height, r->width, r->feature, given, 1 << 20, &visited);
+        size_t count = plain_select(m, keys, bits, n, r->row, r->column, r->height, r->width, r->feature, given,
+                                    1 << 20, &visited);
         for (size_t j = 0; j < count; j++) {
             while (w < waivers && (waiver_ids[w] < r->id || (waiver_ids[w] == r->id && waiver_keys[w] < given[j]))) w++;
-            if (w < waivers && waiver_ids[w] == r->id && waiver_keys[w] == given[j]) (*hidden)++;
-            else ids[live] = r->id, found[live++] = given[j];
+            if (w < waivers && waiver_ids[w] == r->id && waiver_keys[w] == given[j])
+                (*hidden)++;
+            else
+                ids[live] = r->id, found[live++] = given[j];
         }
     }
     return live;
 }
 
 size_t plain_store(uint32_t m, uint32_t s, const uint32_t *keys, const uint32_t *bits, size_t n, uint8_t *file) {
-    uint8_t head[11] = { 'H', 'L', 'Q', 0, 1, (uint8_t)m, (uint8_t)s, (uint8_t)(n >> 24), (uint8_t)(n >> 16), (uint8_t)(n >> 8), (uint8_t)n };
+    uint8_t head[11] = {
+        'H',       'L', 'Q', 0, 1, (uint8_t)m, (uint8_t)s, (uint8_t)(n >> 24), (uint8_t)(n >> 16), (uint8_t)(n >> 8),
+        (uint8_t)n
+    };
     memcpy(file, head, 11);
     for (size_t i = 0; i < n; i++) {
         uint8_t *at = file + 11 + 6 * i;
-        at[0] = (uint8_t)(keys[i] >> 24), at[1] = (uint8_t)(keys[i] >> 16), at[2] = (uint8_t)(keys[i] >> 8), at[3] = (uint8_t)keys[i];
+        at[0] = (uint8_t)(keys[i] >> 24), at[1] = (uint8_t)(keys[i] >> 16), at[2] = (uint8_t)(keys[i] >> 8),
+        at[3] = (uint8_t)keys[i];
         at[4] = (uint8_t)(bits[i] >> 8), at[5] = (uint8_t)bits[i];
     }
     return 11 + 6 * n;

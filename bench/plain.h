@@ -1,5 +1,5 @@
-/* The same work as the library's calls in plain C, for the benchmark: the algorithms of docs/ARCHITECTURE.md with no proof. Answers are those of
- * the accepted calls; refusals other than the list check are left out. */
+/* The same work as the library's calls in plain C, for the benchmark: the algorithms of docs/ARCHITECTURE.md with no
+ * proof. Answers are those of the accepted calls; refusals other than the list check are left out. */
 #ifndef PLAIN_H
 #define PLAIN_H
 
@@ -11,22 +11,25 @@ size_t plain_build(uint32_t m, uint32_t s, const uint8_t *raster, uint32_t *keys
 int plain_is_list(uint32_t m, uint32_t s, const uint32_t *keys, const uint32_t *bits, size_t n);
 void plain_raster(uint32_t m, const uint32_t *bits, uint8_t *raster);
 size_t plain_place(const uint32_t *keys, size_t n, uint32_t key);
-/* List and window gone down together: yes, the bits, or the keys that select gives; and through the pointer the number of blocks visited. */
-int plain_exist(uint32_t m, const uint32_t *keys, const uint32_t *bits, size_t n, uint32_t row, uint32_t column, uint32_t height, uint32_t width,
-                uint32_t feature, size_t *visited);
-uint32_t plain_report(uint32_t m, const uint32_t *keys, const uint32_t *bits, size_t n, uint32_t row, uint32_t column, uint32_t height, uint32_t width,
-                      size_t *visited);
-size_t plain_select(uint32_t m, const uint32_t *keys, const uint32_t *bits, size_t n, uint32_t row, uint32_t column, uint32_t height, uint32_t width,
-                    uint32_t feature, uint32_t *answer, size_t room, size_t *visited);
+/* List and window gone down together: yes, the bits, or the keys that select gives; and through the pointer the number
+ * of blocks visited. */
+int plain_exist(uint32_t m, const uint32_t *keys, const uint32_t *bits, size_t n, uint32_t row, uint32_t column,
+                uint32_t height, uint32_t width, uint32_t feature, size_t *visited);
+uint32_t plain_report(uint32_t m, const uint32_t *keys, const uint32_t *bits, size_t n, uint32_t row, uint32_t column,
+                      uint32_t height, uint32_t width, size_t *visited);
+size_t plain_select(uint32_t m, const uint32_t *keys, const uint32_t *bits, size_t n, uint32_t row, uint32_t column,
+                    uint32_t height, uint32_t width, uint32_t feature, uint32_t *answer, size_t room, size_t *visited);
 /* How many largest blocks a window has. */
 size_t plain_blocks(uint32_t m, uint32_t row, uint32_t column, uint32_t height, uint32_t width);
 /* Paint and take back with one memmove of each slice; they give the new n, and the used count through the pointer. */
-size_t plain_paint(uint32_t m, uint32_t s, uint32_t *keys, uint32_t *bits, size_t n, uint32_t *log_keys, uint32_t *log_values, size_t *used,
-                   uint32_t key, uint32_t feature);
-size_t plain_take_back(uint32_t m, uint32_t s, uint32_t *keys, uint32_t *bits, size_t n, uint32_t *log_keys, uint32_t *log_values, size_t *used);
+size_t plain_paint(uint32_t m, uint32_t s, uint32_t *keys, uint32_t *bits, size_t n, uint32_t *log_keys,
+                   uint32_t *log_values, size_t *used, uint32_t key, uint32_t feature);
+size_t plain_take_back(uint32_t m, uint32_t s, uint32_t *keys, uint32_t *bits, size_t n, uint32_t *log_keys,
+                       uint32_t *log_values, size_t *used);
 /* Live findings and, through the pointer, the hidden ones; waivers are merged in order. */
-size_t plain_findings(uint32_t m, const uint32_t *keys, const uint32_t *bits, size_t n, const hlq_rule *rules, size_t rules_len,
-                      const uint32_t *waiver_ids, const uint32_t *waiver_keys, size_t waivers, uint32_t *ids, uint32_t *found, size_t *hidden);
+size_t plain_findings(uint32_t m, const uint32_t *keys, const uint32_t *bits, size_t n, const hlq_rule *rules,
+                      size_t rules_len, const uint32_t *waiver_ids, const uint32_t *waiver_keys, size_t waivers,
+                      uint32_t *ids, uint32_t *found, size_t *hidden);
 size_t plain_store(uint32_t m, uint32_t s, const uint32_t *keys, const uint32_t *bits, size_t n, uint8_t *file);
 size_t plain_load(const uint8_t *file, uint32_t *keys, uint32_t *bits);
 /* The raster scan that report answers. */
