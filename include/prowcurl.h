@@ -129,8 +129,8 @@ typedef struct { uint32_t id, row, column, height, width, feature; } hlq_rule;
 
 /* KEY AT. The key of the block of this level around a pixel, in count: level m is the pixel itself,
  * level 0 the whole map.
- * Refusals: HLQ_SETTINGS (m alone), HLQ_WINDOW (no pixel of the raster), HLQ_KEY (the level is above
- * m), in this order. */
+ * Refusals: HLQ_SETTINGS (m alone), HLQ_WINDOW (no pixel of the raster), HLQ_KEY (the level is
+ * above m), in this order. */
 hlq_counted hlq_key_at(uint32_t m, uint32_t row, uint32_t column, uint32_t level);
 
 /* BLOCK OF. The first row and column of the block with this key, its side in pixels, and its level.
