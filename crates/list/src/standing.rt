@@ -2,7 +2,7 @@
 ghost use mathlib.Core.Path.{_≡_};
 ghost use Prim.Native.Nat.{_+_, _≤_, _^_};
 ghost use lib.ListN.{take};
-ghost use Rattle.list.specs.Sorted.{Ascends, Sorted};
+ghost use Rattle.list.specs.Sorted.{Ascends, Sorted, Near};
 ghost use Rattle.list.specs.Among.{keysUpTo, keysBelow, standingAmong};
 use definitions::Standing;
 
@@ -23,6 +23,50 @@ pub fn up_to(keys: &[u32], n: usize, x: u32) -> usize
         }
     }
     low
+}
+
+// A width, or the half of what is left where that is less.
+fn narrowed(width: usize, half: usize) -> usize
+    ensures { λ r. ⌜ r ≤ half ⌝ }
+{
+    if width < half { width } else { half }
+}
+
+// The same count, where the key at a place is known to be at or before x: the search goes on from there in widening steps, and halves what is left once it
+// is past x. So it costs by the logarithm of the distance.
+pub fn up_to_from(keys: &[u32], n: usize, from: usize, x: u32) -> usize
+    requires { ⌜ Ascends (now keys) n × Near (now keys) n from x ⌝ }
+    ensures { λ r. ⌜ r ≡ keysUpTo x (take n (now (keys .entry))) ⌝ }
+{
+    let mut low = from + 1;
+    let mut high = n;
+    let mut width = 0;
+    while low < high {
+        let step = narrowed(width, (high - low) / 2);
+        let middle = low + step;
+        let key = keys[middle];
+        if x < key {
+            high = middle;
+        } else {
+            low = middle + 1;
+            width = step * 2 + 1;
+        }
+    }
+    low
+}
+
+// Where a key stands among the first n keys, looked for from a place on.
+pub fn stand_from(keys: &[u32], n: usize, from: usize, key: u32) -> Standing
+    requires { ⌜ Sorted (now keys) n key × Near (now keys) n from key ⌝ }
+    ensures { λ r. ⌜ r ≡ standingAmong key (take n (now (keys .entry))) ⌝ }
+{
+    let place = up_to_from(keys, n, from, key) - 1;
+    let found = keys[place];
+    if found == key {
+        Standing::Listed(place)
+    } else {
+        Standing::Inside(place)
+    }
 }
 
 // Where a key stands among the first n keys.
