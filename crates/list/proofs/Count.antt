@@ -102,7 +102,9 @@ pub counted-before : {keys : List ℕ} {n : ℕ} → Ascends keys n → (x i : �
 counted-before {keys} {n} a x i h =
     split x (getD keys i 0)
     (λ past.
-    let most = up-to-at-most keys n x i (a .room) (λ j k l. split i j (λ lt. let e = a .ascend i j lt l in omega arith) (λ ge. let e : i ≡ j = omega arith in rw (← e) past)) in
+    let later : (j : ℕ) → i ≤ j → j < n → x < getD keys j 0
+    = λ j k l. split i j (λ lt. let e = a .ascend i j lt l in omega arith) (λ ge. let e : i ≡ j = omega arith in rw (← e) past) in
+    let most = up-to-at-most keys n x i (a .room) later in
     absurd (omega arith))
     (λ before. before)
 
@@ -112,6 +114,8 @@ bracket-from {keys} {n} {from} {x} a h =
     record {
       order = omega (arith, h .room);
       most = omega arith;
-      before = λ i j. split i from (λ lt. let e = a .ascend i from lt (h .room) in omega (arith, h .before)) (λ ge. let e : from ≡ i = omega arith in rw (← e) (h .before));
+      before = λ i j.
+          split i from (λ lt. let e = a .ascend i from lt (h .room) in omega (arith, h .before))
+          (λ ge. let e : from ≡ i = omega arith in rw (← e) (h .before));
       after = λ i j k. absurd (omega arith);
     }

@@ -25,15 +25,15 @@ pub fn up_to(keys: &[u32], n: usize, x: u32) -> usize
     low
 }
 
-// A width, or the half of what is left where that is less.
+// A step of the search below: as wide as the last two, but never past the middle of what is left.
 fn narrowed(width: usize, half: usize) -> usize
     ensures { λ r. ⌜ r ≤ half ⌝ }
 {
     if width < half { width } else { half }
 }
 
-// The same count, where the key at a place is known to be at or before x: the search goes on from there in widening steps, and halves what is left once it
-// is past x. So it costs by the logarithm of the distance.
+// The same count, from a place whose key is known to be at or before x: steps widen while they stay at or before x, and halve once one is past it.
+// So the cost is the logarithm of the distance, not of n: a walk in key order asks for keys that lie close together.
 pub fn up_to_from(keys: &[u32], n: usize, from: usize, x: u32) -> usize
     requires { ⌜ Ascends (now keys) n × Near (now keys) n from x ⌝ }
     ensures { λ r. ⌜ r ≡ keysUpTo x (take n (now (keys .entry))) ⌝ }
@@ -69,18 +69,12 @@ pub fn stand_from(keys: &[u32], n: usize, from: usize, key: u32) -> Standing
     }
 }
 
-// Where a key stands among the first n keys.
+// The same, where no place is known yet.
 pub fn stand(keys: &[u32], n: usize, key: u32) -> Standing
     requires { ⌜ Sorted (now keys) n key ⌝ }
     ensures { λ r. ⌜ r ≡ standingAmong key (take n (now (keys .entry))) ⌝ }
 {
-    let place = up_to(keys, n, key) - 1;
-    let found = keys[place];
-    if found == key {
-        Standing::Listed(place)
-    } else {
-        Standing::Inside(place)
-    }
+    stand_from(keys, n, 0, key)
 }
 
 // How many of the first n keys are below key + step: the place after the last record of the block with that key, whose interval has step keys.

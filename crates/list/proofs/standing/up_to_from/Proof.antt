@@ -1,4 +1,4 @@
--- `standing::up_to_from` meets its contract: the count lies from low to high, and each turn leaves less between.
+-- `standing::up_to_from` meets its contract: the count lies from low, which starts past the known place, to high, and each turn leaves less between.
 use Prim.Native.Nat.{_-_}
 use native.Mathlib.Omega.{arith}
 use borrow.Author.Needs.{needs}
@@ -38,8 +38,8 @@ loop-less c = omega arith
 
 loop-again : tie.Need-loop-again Inv-loop μ-loop
 loop-again c =
-    let l = c .before .before .before .before .loop in
-    bracket-down (c .before .before .before .before .before .before .pre .0) (l .inv) _ (omega arith) (omega (arith, c .before .before .narrowed .ensures)) (c .if1 .taken)
+    let at = c .before .before .before .before in
+    bracket-down (at .before .before .pre .0) (at .loop .inv) _ (omega arith) (omega (arith, c .before .before .narrowed .ensures)) (c .if1 .taken)
 
 add-low-2 : tie.Need-add-low-2 Inv-loop μ-loop
 add-low-2 c = omega arith
@@ -55,8 +55,8 @@ loop-less-2 c = omega arith
 
 loop-again-2 : tie.Need-loop-again-2 Inv-loop μ-loop
 loop-again-2 c =
-    let l = c .before .before .before .before .loop in
-    bracket-up (c .before .before .before .before .before .before .pre .0) (l .inv) _ (omega (arith, c .before .before .narrowed .ensures)) (c .if1 .left)
+    let at = c .before .before .before .before in
+    bracket-up (at .before .before .pre .0) (at .loop .inv) _ (omega (arith, c .before .before .narrowed .ensures)) (c .if1 .left)
 
 returns : tie.Need-returns Inv-loop μ-loop
 returns c = bracket-end (c .before .before .before .pre .0) (c .before .loop .inv) (c .loop-test .left)
