@@ -69,7 +69,9 @@ module _ (m s : ℕ) (keys bits : List ℕ) (n : ℕ) (w : Window) where
           let some : selectRefusal m s keys bits n w f answer ≡ 0 → ⊥ = λ z. h (e ∙ z) in
           record {
             result = counted e
-                (sym (accepted-left _ _ some ∙ ap (λ t. cond t (length (selected m keys bits n w f)) 0) (ne-eqb _ 12 (λ z. select-other m s keys bits n w f answer r is h (e ∙ z)))));
+                (sym
+                (accepted-left _ _ some
+                ∙ ap (λ t. cond t (length (selected m keys bits n w f)) 0) (ne-eqb _ 12 (λ z. select-other m s keys bits n w f answer r is h (e ∙ z)))));
             left = sym (accepted-left _ answer some);
           }
 

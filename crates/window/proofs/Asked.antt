@@ -1,5 +1,5 @@
 -- What asking where a block stands gives on an accepted list, as the code has it: at the place are the block's own bits; a listed block's whole list
--- stands there; a block inside a leaf has one feature. Rests on the laws of standing.
+-- stands there; a block inside a leaf has one feature; and the search for a later key can begin there. Rests on the laws of standing.
 use Prim.Native.Nat.{ℕ, _-_, _≤_, _<_}
 use mathlib.Core.Path.{_≡_, sym, _∙_, ap, subst}
 use mathlib.Core.Bool.{true}
@@ -34,7 +34,7 @@ pub near-later : {keys : List ℕ} {n from x : ℕ} → Near keys n from x → (
 near-later h y later = record { room = h .room; before = omega (arith, h .before) }
 
 module _ {m : ℕ} {keys bits : List ℕ} {n : ℕ} (o : OwnList m keys bits n) where
-  -- the place that was found is one from which the next search can begin
+  -- so does the place that was found
   pub near-count : (κ count : ℕ) → count ≡ keysUpTo κ (take n keys) → Near keys n (count - 1) κ
   unfolding placeAmong
   near-count κ count e = subst (λ (x : ℕ). Near keys n (x - 1) κ) (sym e) (own-near o κ)
@@ -42,7 +42,7 @@ module _ {m : ℕ} {keys bits : List ℕ} {n : ℕ} (o : OwnList m keys bits n) 
   pub near-standing : (κ : ℕ) (stands : Standing) → stands ≡ standingAmong κ (take n keys) → Near keys n (placeIn stands) κ
   near-standing κ stands is = subst (λ (x : ℕ). Near keys n x κ) (sym (ap placeIn is ∙ among-place κ (take n keys))) (own-near o κ)
 
-  -- at the root, from the first record on
+  -- and before any was, the first
   pub near-root : (κ : ℕ) → Near keys n 0 κ
   near-root κ = let s = own-sorted o κ in record { room = omega (arith, s .some); before = s .first }
 

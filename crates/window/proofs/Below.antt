@@ -1,5 +1,6 @@
--- Select on the walk, the keys alone: what select gives below the key where the walk stands. A gap adds nothing, and a largest block adds its leaves
--- of the feature. Rests on Skip, LeafKeys and Largest.
+-- Select on the walk, the keys alone: what select gives below the key where the walk stands. A gap adds nothing, and neither does a block apart from the
+-- window, a block without the feature, or the way into a block that the window cuts; a largest block adds its leaves of the feature. Rests on Skip,
+-- LeafKeys and Largest.
 use Prim.Native.Nat.{ℕ, _+_, _/_, _^_, _≤_, _<_}
 use mathlib.Core.Path.{_≡_, refl, sym, _∙_, ap}
 use mathlib.Core.Bool.{true, false, true≢false}
@@ -13,6 +14,7 @@ use Rattle.keys.proofs.Powers.{five-pos, five-le, two-pos}
 use Rattle.keys.proofs.Interval.{within, nest, one-block}
 use Rattle.keys.proofs.Pixel.{inside, pixelKey-lt}
 use Rattle.definitions.specs.Picture.{Picture}
+use Rattle.definitions.specs.Bits.{hasSlot}
 use Rattle.definitions.specs.Window.{inWindow, isGiven, selectFrom, selectIn}
 use Rattle.definitions.specs.declared.Window.{Window}
 use Rattle.definitions.specs.Edit.{contentOf}
@@ -21,7 +23,6 @@ use Rattle.definitions.proofs.SelectAscends.{select-in-ascends}
 use Rattle.window.specs.declared.walk.Spot.{Spot}
 use Rattle.window.specs.Walk.{Stands, isWithin, isApart, Clear, Walking, FirstFrom}
 use Rattle.window.specs.Gather.{keysWith}
-use Rattle.definitions.specs.Bits.{hasSlot}
 use Rattle.window.proofs.Lies.{InSpot, apart-pixel}
 use Rattle.window.proofs.Steps.{Parent, nothing-between}
 use Rattle.window.proofs.Seen.{bitsAt, no-slot-pixel}
@@ -95,11 +96,13 @@ module _ (m : ℕ) (p : Picture) (w : Window) (f : ℕ) where
   lower-apart {s} h e = lower-barren h (λ row column i j has. apart-pixel s w row column e i j)
 
   -- and one whose bits lack the feature
-  pub lower-lacking : {s : Spot} (h : Stands m s) → hasSlot (bitsAt p h) f ≡ false → lower (s .key) (selectIn m p w f) ≡ lower (s .key + s .step) (selectIn m p w f)
+  pub lower-lacking : {s : Spot} (h : Stands m s) → hasSlot (bitsAt p h) f ≡ false
+      → lower (s .key) (selectIn m p w f) ≡ lower (s .key + s .step) (selectIn m p w f)
   lower-lacking h none = lower-barren h (λ row column i j has. no-slot-pixel p f h row column none i has)
 
   -- and so does the way to the first quadrant of a block that the window cuts
-  pub lower-enter : {s : Spot} (h : Stands m s) → Parent m s → isWithin s w ≡ false → lower (s .key) (selectIn m p w f) ≡ lower (s .key + s .step / 5) (selectIn m p w f)
+  pub lower-enter : {s : Spot} (h : Stands m s) → Parent m s → isWithin s w ≡ false
+      → lower (s .key) (selectIn m p w f) ≡ lower (s .key + s .step / 5) (selectIn m p w f)
   lower-enter {s} h q e =
       lower-gap (s .key) (s .key + s .step / 5) (selectIn m p w f) (omega arith)
       (λ z i from before.
@@ -108,7 +111,8 @@ module _ (m : ℕ) (p : Picture) (w : Window) (f : ℕ) where
       (λ after. nothing-between q (t .under) after before)
       (λ at.
       let same = one-block (h .block) (t .under) (omega arith) in
-      let all : AllInside w (h .height) (s .row) (s .column) = rw (same .heights, same .rows, same .columns) (given-all p w f (t .height) (t .row) (t .column) (t .given)) in
+      let all : AllInside w (h .height) (s .row) (s .column)
+      = rw (same .heights, same .rows, same .columns) (given-all p w f (t .height) (t .row) (t .column) (t .given)) in
       true≢false (sym (all-within w {s = s} h all) ∙ e)))
 
   -- what the walk finds next adds its leaves

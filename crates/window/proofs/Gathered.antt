@@ -1,5 +1,6 @@
 -- Report on the walk: every slot gathered is that of a pixel of the window, and every pixel of the window before the key where the walk stands has
--- its slot. A largest block adds its own bits. Rests on Steps and the meaning of report.
+-- its slot. A block within the window adds its bits, and so does a block of one feature that meets it; a block with nothing new is passed. Rests on Seen
+-- and the meaning of report.
 use Prim.Native.Nat.{ℕ, _+_, _^_, _<_}
 use mathlib.Core.Path.{_≡_, sym, _∙_, ap}
 use mathlib.Core.Bool.{true, false, true≢false}
@@ -45,15 +46,14 @@ module _ (m : ℕ) (p : Picture) (w : Window) where
         every = λ row column i before. split (pixelKey m row column) x (g .every row column i) (λ past. absurd (c row column i past before));
       }
 
-  module _ {s : Spot} (good : isWindow m w ≡ true) (h : Stands m s) (e : isWithin s w ≡ true) where
+  module _ {s : Spot} (good : isWindow m w ≡ true) (h : Stands m s) where
     -- a slot of a block within the window belongs to a pixel of the window
-    block-only : (i : ℕ) → hasSlot (bitsAt p h) i ≡ true → PixelWith p w i
-    block-only i has =
+    block-only : isWithin s w ≡ true → (i : ℕ) → hasSlot (bitsAt p h) i ≡ true → PixelWith p w i
+    block-only e i has =
         let x = bits-to p (h .height) (s .row) (s .column) i has in
         let inner : InSpot s (x .row) (x .column) = let v = x .within in omega (arith, h .side) in
         record { row = x .row; column = x .column; inside = within-pixel s w (x .row) (x .column) e inner; feature = x .holds }
 
-  module _ {s : Spot} (good : isWindow m w ≡ true) (h : Stands m s) where
     block-every : (row column : ℕ) → InSpot s row column → hasSlot (bitsAt p h) (p row column) ≡ true
     block-every row column i = bits-from p (h .height) (s .row) (s .column) row column (omega (arith, h .side))
 
@@ -83,10 +83,12 @@ module _ (m : ℕ) (p : Picture) (w : Window) where
 
     -- a block within the window does
     pub gathered-block : isWithin s w ≡ true → (union bits : ℕ) → bits ≡ bitsAt p h → Gathered m p w union (s .key) → Gathered m p w (bitOr union bits) (s .key + s .step)
-    gathered-block e union bits is g = gathered-add union bits is (block-only good h e) g
+    gathered-block e union bits is g = gathered-add union bits is (block-only e) g
 
     -- and so does a block of one feature that meets it
-    pub gathered-whole : isApart s w ≡ false → (union bits : ℕ) → bits ≡ bitsAt p h → oneSlot bits ≡ true → Gathered m p w union (s .key) → Gathered m p w (bitOr union bits) (s .key + s .step)
+    pub gathered-whole : isApart s w ≡ false → (union bits : ℕ) → bits ≡ bitsAt p h → oneSlot bits ≡ true
+        → Gathered m p w union (s .key)
+        → Gathered m p w (bitOr union bits) (s .key + s .step)
     gathered-whole e union bits is one g =
         let x = meets-pixel w good h e in
         let power = sym is ∙ slot-power bits one in

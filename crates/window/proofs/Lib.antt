@@ -5,6 +5,7 @@ pub mod Once
 pub mod Largest
 pub mod Walked
 pub mod Asked
+pub mod Going
 pub mod Slot
 pub mod Seen
 pub mod Shows

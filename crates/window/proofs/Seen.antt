@@ -1,5 +1,6 @@
 -- Exist on the walk: no pixel of the window with the feature lies before the key where the walk stands. A block that does not show the feature keeps
--- this past its end, and one that shows it within the window settles the answer. Rests on Steps and the meaning of exist.
+-- this past its end. One that shows it within the window settles the answer, and so does one of this feature alone that meets the window. Rests on Steps
+-- and the meaning of exist.
 use Prim.Native.Nat.{ℕ, _+_, _^_, _<_}
 use mathlib.Core.Path.{_≡_, sym, _∙_, ap}
 use mathlib.Core.Bool.{true, false, true≢false}
@@ -25,7 +26,9 @@ abbrev pub bitsAt : Picture → {m : ℕ} {s : Spot} → Stands m s → ℕ
 bitsAt p {s = s} h = bitsOf p (h .height) (s .row) (s .column)
 
 -- a slot of a block's bits that is not set belongs to none of its pixels
-pub no-slot-pixel : (p : Picture) (f : ℕ) {m : ℕ} {s : Spot} (h : Stands m s) (row column : ℕ) → hasSlot (bitsAt p h) f ≡ false → InSpot s row column → p row column ≡ f → ⊥
+pub no-slot-pixel : (p : Picture) (f : ℕ) {m : ℕ} {s : Spot} (h : Stands m s) (row column : ℕ)
+    → hasSlot (bitsAt p h) f ≡ false → InSpot s row column → p row column ≡ f
+    → ⊥
 no-slot-pixel p f {s = s} h row column none i has =
     let e = bits-from p (h .height) (s .row) (s .column) row column (omega (arith, h .side)) in
     true≢false (sym (ap (hasSlot (bitsAt p h)) (sym has) ∙ e) ∙ none)
@@ -40,6 +43,10 @@ module _ (m : ℕ) (p : Picture) (w : Window) (f : ℕ) where
   -- no pixel of the window with the feature has its key below x
   abbrev pub Unseen : ℕ → Type 0
   Unseen x = (row column : ℕ) → inWindow w row column ≡ true → p row column ≡ f → pixelKey m row column < x → ⊥
+
+  -- at the root there is none
+  pub unseen-none : (x : ℕ) → x ≡ 0 → Unseen x
+  unseen-none x e row column i has before = omega arith
 
   pub unseen-clear : (x y : ℕ) → Unseen x → Clear m w x y → Unseen y
   unseen-clear x y u c row column i has before = split (pixelKey m row column) x (u row column i has) (λ past. c row column i past before)

@@ -1,12 +1,12 @@
--- Whether a block shows a feature, read off the record where it stands: a listed block by the feature's bit, a block inside a leaf by the leaf's
--- whole bitstring. Rests on Asked and Slot.
+-- Whether a block shows a feature, or shows it alone, read off the record where it stands: a listed block by the feature's bit, a block inside a leaf by
+-- the leaf's whole bitstring. Rests on Asked and Slot.
 use Prim.Native.Nat.{ℕ, _-_, _^_}
-use mathlib.Core.Path.{_≡_, refl, sym, _∙_, ap}
+use mathlib.Core.Path.{_≡_, sym, _∙_, ap}
 use mathlib.Core.Bool.{true, false}
 use mathlib.Core.List.{List}
 use lib.Bits.{bitAnd}
 use lib.ListN.{getD, take}
-use borrow.Author.Tests.{eq-eqb, ne-eqb}
+use borrow.Author.Tests.{ne-eqb}
 use Rattle.definitions.specs.declared.Standing.{Standing}
 use Rattle.definitions.specs.declared.Standing.the-variants.{Listed, Inside}
 use Rattle.definitions.specs.Bits.{hasSlot}
@@ -54,12 +54,6 @@ module _
         ∙ slot-power (p (s .row) (s .column)) f
         ∙ ne-eqb (p (s .row) (s .column)) f (λ same. other (a .value ∙ one ∙ ap (λ x. 2 ^ x) same ∙ sym is-bit))
 
-    -- and of this one
-    pub leaf-yes : stands ≡ Inside place → getD bits place 0 ≡ bit → hasSlot (bitsAt (shownBy m keys bits n) h) f ≡ true
-    leaf-yes e same =
-        let a = asked-inside o (h .block) stands place is e in
-        ap (λ x. hasSlot x f) (sym (a .value) ∙ same ∙ is-bit) ∙ slot-power f f ∙ eq-eqb f f refl
-
     -- a leaf, listed or around the block: the block has its feature alone
     pub listed-whole : stands ≡ Listed place → getD bits place 0 ≡ bit → bitsAt (shownBy m keys bits n) h ≡ 2 ^ f
     listed-whole e same = sym (asked-listed o (h .block) stands place is e .value) ∙ same ∙ is-bit
@@ -67,7 +61,7 @@ module _
     pub leaf-whole : stands ≡ Inside place → getD bits place 0 ≡ bit → bitsAt (shownBy m keys bits n) h ≡ 2 ^ f
     leaf-whole e same = sym (asked-inside o (h .block) stands place is e .value) ∙ same ∙ is-bit
 
--- the same of a block looked up by the count of the keys at or before its own
+-- a block without the bit, looked up by the count of the keys at or before its own
 pub count-no : {m : ℕ} {keys bits : List ℕ} {n : ℕ} (o : OwnList m keys bits n) {s : Spot} (h : Stands m s) (f bit : ℕ) → bit ≡ 2 ^ f
     → (count : ℕ) → count ≡ keysUpTo (s .key) (take n keys) → bitAnd (getD bits (count - 1) 0) bit ≡ 0
     → hasSlot (bitsAt (shownBy m keys bits n) h) f ≡ false

@@ -12,7 +12,8 @@ use keys::power;
 use list::standing;
 
 // Some pixel of the window has the feature: the walk is left at the first block that shows it. A block that lies in a leaf, or whose bits lack the
-// feature, is settled by its record, however the window cuts it; only a node with the feature and others is entered.
+// feature, is settled by its record, however the window cuts it; only a cut node with the feature and others is entered. Keys rise, so each search begins
+// where the last one ended.
 pub fn exist_in(m: u32, keys: &[u32], bits: &[u32], n: usize, window: Window, feature: u32) -> bool
     requires { ⌜ (m ≤ 10) × (isWindow m window ≡ true) × (feature < 16) × OwnList m (now keys) (now bits) n ⌝ }
     ensures { λ r. ⌜ r ≡ existIn (shownBy m (now (keys .entry)) (now (bits .entry)) n) window feature ⌝ }

@@ -11,8 +11,8 @@ use list::check;
 use list::standing;
 
 // The bitstring of all features in the window. A block's bits are those of the last record at or before its key, whether that is its own or the
-// leaf's around it. A block that meets the window adds them where it has one feature or lies within the window; where they are new and it is cut, it is
-// entered.
+// leaf's around it. They settle the block where none is new, or it has one feature, or it lies within the window; only a cut node that may add a feature
+// is entered. Keys rise, so each search begins where the last one ended.
 pub fn report_in(m: u32, keys: &[u32], bits: &[u32], n: usize, window: Window) -> u32
     requires { ⌜ (m ≤ 10) × (isWindow m window ≡ true) × OwnList m (now keys) (now bits) n ⌝ }
     ensures { λ r. ⌜ r ≡ reportIn (shownBy m (now (keys .entry)) (now (bits .entry)) n) window ⌝ }

@@ -73,7 +73,8 @@ fn gather_block(
     limit: usize,
     count: usize,
 ) -> usize
-    requires { ⌜ (m ≤ 10) × Stands m block × OwnList m (now keys) (now bits) n × Near (now keys) n from (block .key) × (limit ≤ length (now answer)) × (count ≤ 9765625) ⌝ }
+    requires { ⌜ (m ≤ 10) × Stands m block × OwnList m (now keys) (now bits) n × Near (now keys) n from (block .key)
+        × (limit ≤ length (now answer)) × (count ≤ 9765625) ⌝ }
     ensures { λ r. ⌜ Gave (keysWith bit (contentOf m (shownBy m (now (keys .entry)) (now (bits .entry)) n) (block .key)))
         limit count (now (answer .entry)) (now (answer .exit)) r ⌝ }
 {
@@ -93,7 +94,8 @@ fn gather_block(
     gather_run(keys, bits, n, place, key + step, bit, answer, limit, count)
 }
 
-// Gives the keys that select gives: counts them all, and writes those whose places are below the limit.
+// Gives the keys that select gives: counts them all, and writes those whose places are below the limit. A block without the feature is passed, whatever
+// lies below it. A leaf that the window cuts is entered like a node, since what select gives of it are the largest blocks within the window.
 pub fn gather(
     m: u32,
     keys: &[u32],

@@ -22,7 +22,9 @@ entry c = c .before .before .before .before .before
 
 -- past the first four tests nothing is refused yet
 none : (c : tie.Else1)
-    → existRefusal (entry c .args .m) (entry c .args .s) (entry c .args .keys .now) (entry c .args .bits .now) (entry c .args .n) (entry c .args .window) (entry c .args .feature) ≡ 0
+    → existRefusal (entry c .args .m) (entry c .args .s) (entry c .args .keys .now) (entry c .args .bits .now) (entry c .args .n) (entry c .args .window)
+    (entry c .args .feature)
+    ≡ 0
 none c = sym (c .before .feature-refusal .ensures) ∙ c .if1 .left
 
 -- what the walk asks
@@ -59,7 +61,8 @@ returns-2 : tie.Need-returns-2
 returns-2 c =
     let once = c .before .before in
     let fits = once .before .before in
-    let a = select-at-once _ _ _ _ _ _ _ _ (none (fits .before .before)) (omega (arith, fits .if2 .taken, fits .before .pixels-of .ensures)) _ _ (once .gather .ensures) in
+    let passes = none (fits .before .before) in
+    let a = select-at-once _ _ _ _ _ _ _ _ passes (omega (arith, fits .if2 .taken, fits .before .pixels-of .ensures)) _ _ (once .gather .ensures) in
     (a .result, a .left)
 
 -- where the room may not suffice, from where the keys are counted

@@ -5,11 +5,10 @@ use mathlib.Core.List.{List, [], _∷_}
 use native.Mathlib.Omega.{arith}
 use lib.ListN.{length}
 use borrow.Author.Needs.{needs}
-use Rattle.keys.proofs.Powers.{five-le}
 use Rattle.definitions.specs.declared.Standing.the-variants.{Inside}
 use Rattle.list.proofs.Own.{own-sorted}
 use Rattle.window.specs.Gather.{putAt, written, Gave}
-use Rattle.window.proofs.Steps.{some-keys}
+use Rattle.window.proofs.Steps.{few-keys}
 use Rattle.window.proofs.Asked.{asked-inside}
 use Rattle.window.proofs.Written.{written-none, written-one}
 use Rattle.window.proofs.Content.{listed-keys, leaf-key, leaf-nothing}
@@ -17,7 +16,8 @@ use Rattle.window.proofs.select.gather_block.Statement.{statement}
 use Rattle.window.proofs.select.gather_block.Tie as tie
 
 -- one key is given
-gives-one : (given : List ℕ) (limit count : ℕ) (before after : List ℕ) (key : ℕ) → given ≡ key ∷ [] → after ≡ putAt limit before count key → Gave given limit count before after (count + 1)
+gives-one : (given : List ℕ) (limit count : ℕ) (before after : List ℕ) (key : ℕ) → given ≡ key ∷ [] → after ≡ putAt limit before count key
+    → Gave given limit count before after (count + 1)
 gives-one given limit count before after key e f =
     record {
       counted = let n = ap length e in omega arith;
@@ -33,7 +33,8 @@ gives-none given limit count before e =
     }
 
 -- the same keys are given by another name
-gives-same : (given given₁ : List ℕ) (limit count : ℕ) (before after : List ℕ) (r : ℕ) → given ≡ given₁ → Gave given limit count before after r → Gave given₁ limit count before after r
+gives-same : (given given₁ : List ℕ) (limit count : ℕ) (before after : List ℕ) (r : ℕ) → given ≡ given₁ → Gave given limit count before after r
+    → Gave given₁ limit count before after r
 gives-same given given₁ limit count before after r e g = rw (← e) g
 
 -- where the block was asked for, from where it is known how it stands
@@ -104,8 +105,7 @@ returns-3 c =
 add-gather-run : tie.Need-add-gather-run
 add-gather-run c =
     let pre = entry (asks-listed c) .pre in
-    let k = some-keys (pre .1) in
-    let five = five-le 10 (pre .0) in
+    let few = few-keys (pre .0) (pre .1) in
     omega arith
 
 gather-run-requires : tie.Need-gather-run-requires
@@ -118,7 +118,8 @@ returns-4 : tie.Need-returns-4
 returns-4 c =
     let listed = c .before .before .before .before in
     let pre = entry (asks-listed listed) .pre in
-    gives-same _ _ _ _ _ _ _ (listed-keys (pre .2) (pre .1) _ _ _ (asks-listed listed .stand-from .ensures) _ refl (listed .before .standing .given .1)) (c .before .before .gather-run .ensures)
+    let run = listed-keys (pre .2) (pre .1) _ _ _ (asks-listed listed .stand-from .ensures) _ refl (listed .before .standing .given .1) in
+    gives-same _ _ _ _ _ _ _ run (c .before .before .gather-run .ensures)
 
 pub gather-block-spec : {M : Type 1} → statement M
 gather-block-spec =
