@@ -8,7 +8,7 @@ use native.Mathlib.Omega.{arith}
 use Rattle.keys.specs.Key.{childKey}
 use Rattle.keys.specs.Block.{pixelKey}
 use Rattle.keys.proofs.Cases.{split}
-use Rattle.keys.proofs.Powers.{five-pos}
+use Rattle.keys.proofs.Powers.{five-pos, five-le}
 use Rattle.keys.proofs.Under.{Block, is-nw}
 use Rattle.keys.proofs.Interval.{Same, same-block, within, apart, one-block, no-key-between}
 use Rattle.keys.proofs.Parent.{quadrant-of}
@@ -35,6 +35,10 @@ one-side {s = s} {t = t} h i e =
 -- a block has keys, and they are the map's
 pub some-keys : {m : ℕ} {s : Spot} → Stands m s → (0 < s .step) × (s .key + s .step ≤ 5 ^ m)
 some-keys h = let p = five-pos (h .height) in let w = within (h .block) in omega (arith, h .step)
+
+-- so they are few
+pub few-keys : {m : ℕ} {s : Spot} → m ≤ 10 → Stands m s → s .key + s .step ≤ 9765625
+few-keys low h = let k = some-keys h in let five = five-le 10 low in omega arith
 
 -- a pixel lies in a block exactly when its key is among the block's
 pub in-spot : {m : ℕ} {s : Spot} (row column : ℕ) → Stands m s → row < 2 ^ m → column < 2 ^ m
@@ -96,6 +100,10 @@ first-stands {s = s} p =
     let half : s .side / 2 ≡ 2 ^ p .height = omega (arith, p .side) in
     let fifth : s .step / 5 ≡ 5 ^ p .height = omega (arith, p .step) in
     record { height = p .height; block = same-block (quadrant-of (p .block) is-nw) (omega arith); side = half; step = fifth }
+
+-- with fewer keys
+pub first-less : {m : ℕ} {s : Spot} → Stands m s → firstQuadrant s .step < s .step
+first-less h = let k = some-keys h in omega (arith, k .0)
 
 -- its key is the next
 first-key : {m : ℕ} {s : Spot} → (p : Parent m s) → s .key + s .step / 5 ≡ childKey (s .key) (p .height) 1

@@ -1,6 +1,5 @@
-// The walk over the largest blocks of a window, in key order. A block that lies apart from the window is passed over, one that it cuts is entered
-// by its first quadrant, and one within it is a largest block: so the key rises at every turn. The next block's place is read off this one's,
-// without division.
+// The steps of a walk over the blocks that meet a window, in key order: a block is passed with all below it, or entered by its first quadrant, so the
+// key rises at every step. The next block's place is read off this one's, without division.
 ghost use mathlib.Core.Path.{_≡_};
 ghost use mathlib.Core.Bool.{true};
 ghost use Prim.Native.Nat.{_+_, _≤_};
