@@ -17,6 +17,7 @@ pub mod Skip
 pub mod LeafKeys
 pub mod Below
 pub mod Taken
+pub mod Descent
 pub mod Tables
 pub mod Answers
 pub mod WindowLaws
