@@ -19,6 +19,7 @@ pub mod LeafKeys
 pub mod Below
 pub mod Few
 pub mod Taken
+pub mod Descent
 pub mod Tables
 pub mod Answers
 pub mod WindowLaws
