@@ -1,4 +1,4 @@
--- `build::write_pixels` meets its contract: below a pixel there is nothing, and four pixels' own records are all that is below a block of height 1.
+-- `write::write_pixels` meets its contract: below a pixel there is nothing, and four pixels' own records are all that is below a block of height 1.
 use Prim.Native.Nat.{ℕ, _+_, _*_, _^_, _≤_, _<_}
 use mathlib.Core.Path.{_≡_, refl}
 use native.Mathlib.Omega.{arith}
@@ -8,8 +8,8 @@ use Rattle.build.specs.BuildBlocks.{pictureOfRows, Inside, Fitting, Writ
 use Rattle.build.proofs.BuildInside.{inside-pixel, inside-at, height-one}
 use Rattle.build.proofs.FittingBlock.{fitting-at, fits-four}
 use Rattle.build.proofs.WrittenBlock.{written-pixel, written-quadrants}
-use Rattle.build.proofs.write_pixels.Statement.{statement}
-use Rattle.build.proofs.write_pixels.Tie as tie
+use Rattle.build.proofs.write.write_pixels.Statement.{statement}
+use Rattle.build.proofs.write.write_pixels.Tie as tie
 
 abbrev start : tie.Else1 → tie.Start
 start c = c .before .before .before .before

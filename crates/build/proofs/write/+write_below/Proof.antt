@@ -1,4 +1,4 @@
--- `build::write_below` meets its contract: the four quadrants one after the other, and then their own records. The height falls at each call.
+-- `write::write_below` meets its contract: the four quadrants one after the other, and then their own records. The height falls at each call.
 use Prim.Native.Nat.{ℕ, suc, _+_, _-_, _*_, _^_, _≤_, _<_}
 use mathlib.Core.Path.{sym, _∙_}
 use native.Mathlib.Omega.{arith}
@@ -10,15 +10,15 @@ use Rattle.build.specs.BuildBlocks.{pictureOfRows, Inside, Fitting}
 use Rattle.build.proofs.BuildInside.{one-above, half-side, fifth-step, inside-quadrant}
 use Rattle.build.proofs.FittingBlock.{fitting-at, fits-nw, fits-ne, fits-sw, fits-se, fits-four}
 use Rattle.build.proofs.WrittenBlock.{written-at, written-quadrants}
-use Rattle.build.proofs.write_below.Reads as own
-use Rattle.build.proofs.write_below.Kinds as kinds
-use Rattle.build.proofs.+write_below.Lts-write_below as lts
+use Rattle.build.proofs.write.write_below.Reads as own
+use Rattle.build.proofs.write.write_below.Kinds as kinds
+use Rattle.build.proofs.write.+write_below.Lts-write_below as lts
 use Rattle.keys.proofs.power.power_of_five.Reads as power-of-five
 use Rattle.keys.proofs.power.power_of_two.Reads as power-of-two
-use Rattle.build.proofs.write_four.Reads as write-four
-use Rattle.build.proofs.write_pixels.Reads as write-pixels
-use Rattle.build.proofs.+write_below.{statement}
-use Rattle.build.proofs.+write_below.Tie.{close}
+use Rattle.build.proofs.write.write_four.Reads as write-four
+use Rattle.build.proofs.write.write_pixels.Reads as write-pixels
+use Rattle.build.proofs.write.+write_below.{statement}
+use Rattle.build.proofs.write.+write_below.Tie.{close}
 
 -- the measure is the height
 abbrev measure : Measures 3 kinds.ps ℕ

@@ -1,4 +1,4 @@
--- `build::count_block` meets its contract: a block of more than four pixels is its four quadrants' tallies, joined. The height falls at each call.
+-- `count::count_block` meets its contract: a block of more than four pixels is its four quadrants' tallies, joined. The height falls at each call.
 use Prim.Native.Nat.{ℕ, _+_, _-_, _*_, _≤_, _<_}
 use mathlib.Core.Path.{sym}
 use native.Mathlib.Omega.{arith}
@@ -7,14 +7,14 @@ use borrow.Fn.PlainCycle.{Measures, is, falls, and}
 use Rattle.build.specs.BuildBlocks.{Inside}
 use Rattle.build.proofs.BuildInside.{one-above, half-side, inside-quadrant}
 use Rattle.build.proofs.CountBlock.{tallied-four, tallied-small}
-use Rattle.build.proofs.count_block.Reads as own
-use Rattle.build.proofs.count_block.Kinds as kinds
-use Rattle.build.proofs.+count_block.Lts-count_block as lts
+use Rattle.build.proofs.count.count_block.Reads as own
+use Rattle.build.proofs.count.count_block.Kinds as kinds
+use Rattle.build.proofs.count.+count_block.Lts-count_block as lts
 use Rattle.keys.proofs.power.power_of_two.Reads as power-of-two
-use Rattle.build.proofs.count_pixels.Reads as count-pixels
-use Rattle.build.proofs.joined.Reads as joined
-use Rattle.build.proofs.+count_block.{statement}
-use Rattle.build.proofs.+count_block.Tie.{close}
+use Rattle.build.proofs.count.count_pixels.Reads as count-pixels
+use Rattle.build.proofs.count.joined.Reads as joined
+use Rattle.build.proofs.count.+count_block.{statement}
+use Rattle.build.proofs.count.+count_block.Tie.{close}
 
 -- the measure is the height
 abbrev measure : Measures 1 kinds.ps ℕ

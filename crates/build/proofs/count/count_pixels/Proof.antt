@@ -1,12 +1,12 @@
--- `build::count_pixels` meets its contract: a block of height 1 is the four pixels' tallies, joined.
+-- `count::count_pixels` meets its contract: a block of height 1 is the four pixels' tallies, joined.
 use Prim.Native.Nat.{_≤_}
 use mathlib.Core.Path.{_≡_, refl}
 use native.Mathlib.Omega.{arith}
 use Rattle.build.specs.BuildBlocks.{Inside}
 use Rattle.build.proofs.BuildInside.{inside-pixel, inside-at, height-one}
 use Rattle.build.proofs.CountBlock.{tallied-four, tallied-small}
-use Rattle.build.proofs.count_pixels.Statement.{statement}
-use Rattle.build.proofs.count_pixels.Tie as tie
+use Rattle.build.proofs.count.count_pixels.Statement.{statement}
+use Rattle.build.proofs.count.count_pixels.Tie as tie
 
 -- past the test the height is 1
 one : (c : tie.Else1) → c .before .before .args .height ≡ 1

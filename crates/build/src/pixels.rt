@@ -1,0 +1,36 @@
+// The pixels of a raster: whether one of them is refused, and the bits of one.
+ghost use mathlib.Core.Path.{_≡_};
+ghost use Prim.Native.Nat.{_^_};
+ghost use Rattle.definitions.specs.Refusal.{badPixel};
+ghost use Rattle.build.specs.BuildBlocks.{pictureOfRows, Inside};
+use keys::power;
+
+fn wide(x: u8) -> u32
+    ensures { λ r. ⌜ r ≡ x ⌝ }
+{
+    x as u32
+}
+
+// Refusal 3: some pixel is s or more. It reads on after the first one, so that the loop has no way out and works many pixels at a time.
+pub fn has_bad_pixel(s: u32, raster: &[u8]) -> bool
+    ensures { λ r. ⌜ r ≡ badPixel s (now (raster .entry)) ⌝ }
+{
+    let mut bad = false;
+    let mut i = 0;
+    while i < raster.len() {
+        if s <= wide(raster[i]) {
+            bad = true;
+        }
+        i += 1;
+    }
+    bad
+}
+
+// The bits of one pixel.
+pub fn pixel(raster: &[u8], side: usize, row: usize, column: usize) -> u32
+    requires { ⌜ Inside (now raster) side 0 row column ⌝ }
+    ensures { λ r. ⌜ r ≡ 2 ^ pictureOfRows side (now (raster .entry)) row column ⌝ }
+{
+    let place = row * side + column;
+    power::power_of_two(wide(raster[place]))
+}
