@@ -1,7 +1,10 @@
 // Counting the records of a block by its four quadrants, the side halved each time.
 ghost use mathlib.Core.Path.{_≡_};
 ghost use Prim.Native.Nat.{_+_, _^_, _≤_, _<_};
+ghost use lib.ListN.{length};
+ghost use lib.Dec.{leb};
 ghost use Rattle.definitions.specs.Bits.{unionOfFour};
+ghost use Rattle.definitions.specs.List.{listOf};
 ghost use Rattle.build.specs.BuildBlocks.{pictureOfRows, Inside, Joined, Tallied};
 use crate::pixels;
 use keys::power;
@@ -60,7 +63,7 @@ fn count_pixels(raster: &[u8], side: usize, height: u32, row: usize, column: usi
 }
 
 // A block by its four quadrants, the side halved: the height falls at each call.
-pub fn count_block(raster: &[u8], side: usize, height: u32, row: usize, column: usize) -> Tally
+fn count_block(raster: &[u8], side: usize, height: u32, row: usize, column: usize) -> Tally
     requires { ⌜ Inside (now raster) side height row column ⌝ }
     ensures { λ r. ⌜ Tallied (pictureOfRows side (now (raster .entry))) height row column (r .bits) (r .count) ⌝ }
 {
@@ -76,4 +79,17 @@ pub fn count_block(raster: &[u8], side: usize, height: u32, row: usize, column: 
     let sw = count_block(raster, side, lower, down, column);
     let se = count_block(raster, side, lower, down, right);
     joined(nw, ne, sw, se)
+}
+
+// The list of the whole raster fits into the room. It is counted only where the longest list of so many pixels would not fit.
+pub fn has_room(raster: &[u8], side: usize, height: u32, room: usize) -> bool
+    requires { ⌜ Inside (now raster) side height 0 0 × (side ≡ 2 ^ height) ⌝ }
+    ensures { λ r. ⌜ r ≡ leb (length (listOf (pictureOfRows side (now (raster .entry))) height 0 0 0)) room ⌝ }
+{
+    let most = (4 * raster.len() - 1) / 3;
+    if most <= room {
+        return true;
+    }
+    let whole = count_block(raster, side, height, 0, 0);
+    whole.count <= room
 }

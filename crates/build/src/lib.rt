@@ -1,7 +1,8 @@
-// Build: a raster becomes its list (document 01, "The list"). The first pass counts the records, so that too little room is refused before
-// anything is written; the second writes them. Both work a block by its four quadrants, the side halved each time.
+// Build: a raster becomes its list (document 01, "The list"). One pass writes the records. Too little room is refused before anything
+// is written, so the records are counted first where the room could be too little.
 ghost use mathlib.Core.Path.{_≡_};
 ghost use mathlib.Core.List.{[], _∷_};
+ghost use Prim.Native.Nat.{min};
 ghost use Rattle.definitions.specs.Refusal.{_gives_, first, badSettings, badLength, badPixel};
 ghost use Rattle.definitions.specs.Calls.Build.{build as built, buildKeys, buildBits};
 use definitions::Counted;
@@ -31,7 +32,13 @@ fn refusal_of(m: u32, s: u32, raster: &[u8]) -> u64
     0
 }
 
-// The list of a raster, or the first refusal that applies. The count is known before the first write.
+fn smaller(a: usize, b: usize) -> usize
+    ensures { λ r. ⌜ r ≡ min a b ⌝ }
+{
+    if a < b { a } else { b }
+}
+
+// The list of a raster, or the first refusal that applies. That there is room is known before the first write.
 pub fn build(m: u32, s: u32, raster: &[u8], keys: &mut [u32], bits: &mut [u32]) -> Counted
     ensures { λ r. ⌜ r ≡ built m s (now (raster .entry)) (now (keys .entry)) (now (bits .entry)) ⌝ }
     ensures { λ _. ⌜ now (keys .exit) ≡ buildKeys m s (now (raster .entry)) (now (keys .entry)) (now (bits .entry)) ⌝ }
@@ -42,15 +49,8 @@ pub fn build(m: u32, s: u32, raster: &[u8], keys: &mut [u32], bits: &mut [u32]) 
         return Counted { refusal, count: 0 };
     }
     let side = power::power_of_two(m) as usize;
-    let whole = count::count_block(raster, side, m, 0, 0);
-    let n = whole.count;
-    if keys.len() < n {
-        return Counted {
-            refusal: 9,
-            count: 0,
-        };
-    }
-    if bits.len() < n {
+    let room = smaller(keys.len(), bits.len());
+    if !count::has_room(raster, side, m, room) {
         return Counted {
             refusal: 9,
             count: 0,
@@ -59,6 +59,7 @@ pub fn build(m: u32, s: u32, raster: &[u8], keys: &mut [u32], bits: &mut [u32]) 
     let root = write::write_below(raster, side, m, 0, 0, Key::ROOT, 0, keys, bits);
     keys[0] = Key::ROOT;
     bits[0] = root.bits;
+    let n = root.next;
     Counted {
         refusal: 0,
         count: n as u64,
