@@ -52,9 +52,9 @@ inside-pixel b r′ c′ below right = record {
   features = b .features;
 }
 
--- below 2 and not 0
-pub height-one : {h : ℕ} → h < 2 → (h ≡ 0 → ⊥) → h ≡ 1
-height-one l n = omega arith
+-- below 4 and none of 3, 2 and 1
+pub no-other : {h : ℕ} → h < 4 → (h ≡ 3 → ⊥) → (h ≡ 2 → ⊥) → (h ≡ 1 → ⊥) → h ≡ 0
+no-other l three two one = omega arith
 
 -- the same block, its height known
 pub inside-at : {raster : List ℕ} {side h h′ r c : ℕ} → h ≡ h′ → Inside raster side h r c → Inside raster side h′ r c

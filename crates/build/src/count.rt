@@ -45,14 +45,11 @@ fn count_pixel(raster: &[u8], side: usize, row: usize, column: usize) -> Tally
     Tally { bits, count: 1 }
 }
 
-// A block of one pixel or of four, with no further call of itself.
-fn count_pixels(raster: &[u8], side: usize, height: u32, row: usize, column: usize) -> Tally
-    requires { ⌜ Inside (now raster) side height row column × (height < 2) ⌝ }
-    ensures { λ r. ⌜ Tallied (pictureOfRows side (now (raster .entry))) height row column (r .bits) (r .count) ⌝ }
+// A block of 2 by 2 pixels.
+fn count_quad(raster: &[u8], side: usize, row: usize, column: usize) -> Tally
+    requires { ⌜ Inside (now raster) side 1 row column ⌝ }
+    ensures { λ r. ⌜ Tallied (pictureOfRows side (now (raster .entry))) 1 row column (r .bits) (r .count) ⌝ }
 {
-    if height == 0 {
-        return count_pixel(raster, side, row, column);
-    }
     let down = row + 1;
     let right = column + 1;
     let nw = count_pixel(raster, side, row, column);
@@ -62,13 +59,58 @@ fn count_pixels(raster: &[u8], side: usize, height: u32, row: usize, column: usi
     joined(nw, ne, sw, se)
 }
 
+// A block of 4 by 4 pixels.
+fn count_sixteen(raster: &[u8], side: usize, row: usize, column: usize) -> Tally
+    requires { ⌜ Inside (now raster) side 2 row column ⌝ }
+    ensures { λ r. ⌜ Tallied (pictureOfRows side (now (raster .entry))) 2 row column (r .bits) (r .count) ⌝ }
+{
+    let down = row + 2;
+    let right = column + 2;
+    let nw = count_quad(raster, side, row, column);
+    let ne = count_quad(raster, side, row, right);
+    let sw = count_quad(raster, side, down, column);
+    let se = count_quad(raster, side, down, right);
+    joined(nw, ne, sw, se)
+}
+
+// A block of 8 by 8 pixels.
+fn count_eight(raster: &[u8], side: usize, row: usize, column: usize) -> Tally
+    requires { ⌜ Inside (now raster) side 3 row column ⌝ }
+    ensures { λ r. ⌜ Tallied (pictureOfRows side (now (raster .entry))) 3 row column (r .bits) (r .count) ⌝ }
+{
+    let down = row + 4;
+    let right = column + 4;
+    let nw = count_sixteen(raster, side, row, column);
+    let ne = count_sixteen(raster, side, row, right);
+    let sw = count_sixteen(raster, side, down, column);
+    let se = count_sixteen(raster, side, down, right);
+    joined(nw, ne, sw, se)
+}
+
+// A block of at most 8 by 8 pixels, with no call of itself: most of the time is spent here.
+fn count_low(raster: &[u8], side: usize, height: u32, row: usize, column: usize) -> Tally
+    requires { ⌜ Inside (now raster) side height row column × (height < 4) ⌝ }
+    ensures { λ r. ⌜ Tallied (pictureOfRows side (now (raster .entry))) height row column (r .bits) (r .count) ⌝ }
+{
+    if height == 3 {
+        return count_eight(raster, side, row, column);
+    }
+    if height == 2 {
+        return count_sixteen(raster, side, row, column);
+    }
+    if height == 1 {
+        return count_quad(raster, side, row, column);
+    }
+    count_pixel(raster, side, row, column)
+}
+
 // A block by its four quadrants, the side halved: the height falls at each call.
 fn count_block(raster: &[u8], side: usize, height: u32, row: usize, column: usize) -> Tally
     requires { ⌜ Inside (now raster) side height row column ⌝ }
     ensures { λ r. ⌜ Tallied (pictureOfRows side (now (raster .entry))) height row column (r .bits) (r .count) ⌝ }
 {
-    if height < 2 {
-        return count_pixels(raster, side, height, row, column);
+    if height < 4 {
+        return count_low(raster, side, height, row, column);
     }
     let lower = height - 1;
     let half = power::power_of_two(lower) as usize;

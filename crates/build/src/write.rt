@@ -65,8 +65,88 @@ fn write_pixel(raster: &[u8], side: usize, row: usize, column: usize, place: usi
     }
 }
 
-// A block of one pixel or of four, with no further call of itself.
-fn write_pixels(
+// A block of 2 by 2 pixels. Most are alike in a map of larger patches, and then no bits are joined.
+fn write_quad(
+    raster: &[u8],
+    side: usize,
+    row: usize,
+    column: usize,
+    key: u32,
+    place: usize,
+    keys: &mut [u32],
+    bits: &mut [u32],
+) -> Below
+    requires { ⌜ Inside (now raster) side 1 row column × Fitting (pictureOfRows side (now raster)) 1 row column key place (now keys) (now bits) ⌝ }
+    ensures { λ r. ⌜ Written (pictureOfRows side (now (raster .entry))) 1 row column key place (now (keys .entry)) (now (bits .entry)) (now (keys .exit)) (now (bits .exit)) (r .bits) (r .next) ⌝ }
+{
+    if pixels::quad_alike(raster, side, row, column) {
+        return write_pixel(raster, side, row, column, place);
+    }
+    let down = row + 1;
+    let right = column + 1;
+    let nw = write_pixel(raster, side, row, column, place + 1);
+    let ne = write_pixel(raster, side, row, right, place + 2);
+    let sw = write_pixel(raster, side, down, column, place + 3);
+    let se = write_pixel(raster, side, down, right, place + 4);
+    write_four(key, 1, place, nw, ne, sw, se, keys, bits)
+}
+
+// A block of 4 by 4 pixels.
+fn write_sixteen(
+    raster: &[u8],
+    side: usize,
+    row: usize,
+    column: usize,
+    key: u32,
+    place: usize,
+    keys: &mut [u32],
+    bits: &mut [u32],
+) -> Below
+    requires { ⌜ Inside (now raster) side 2 row column × Fitting (pictureOfRows side (now raster)) 2 row column key place (now keys) (now bits) ⌝ }
+    ensures { λ r. ⌜ Written (pictureOfRows side (now (raster .entry))) 2 row column key place (now (keys .entry)) (now (bits .entry)) (now (keys .exit)) (now (bits .exit)) (r .bits) (r .next) ⌝ }
+{
+    let down = row + 2;
+    let right = column + 2;
+    let first = place + 1;
+    let nw = write_quad(raster, side, row, column, key + 5, first, keys, bits);
+    let second = nw.next;
+    let ne = write_quad(raster, side, row, right, key + 10, second, keys, bits);
+    let third = ne.next;
+    let sw = write_quad(raster, side, down, column, key + 15, third, keys, bits);
+    let fourth = sw.next;
+    let se = write_quad(raster, side, down, right, key + 20, fourth, keys, bits);
+    write_four(key, 5, place, nw, ne, sw, se, keys, bits)
+}
+
+// A block of 8 by 8 pixels.
+fn write_eight(
+    raster: &[u8],
+    side: usize,
+    row: usize,
+    column: usize,
+    key: u32,
+    place: usize,
+    keys: &mut [u32],
+    bits: &mut [u32],
+) -> Below
+    requires { ⌜ Inside (now raster) side 3 row column × Fitting (pictureOfRows side (now raster)) 3 row column key place (now keys) (now bits) ⌝ }
+    ensures { λ r. ⌜ Written (pictureOfRows side (now (raster .entry))) 3 row column key place (now (keys .entry)) (now (bits .entry)) (now (keys .exit)) (now (bits .exit)) (r .bits) (r .next) ⌝ }
+{
+    let down = row + 4;
+    let right = column + 4;
+    let first = place + 1;
+    let nw = write_sixteen(raster, side, row, column, key + 25, first, keys, bits);
+    let second = nw.next;
+    let ne = write_sixteen(raster, side, row, right, key + 50, second, keys, bits);
+    let third = ne.next;
+    let sw = write_sixteen(raster, side, down, column, key + 75, third, keys, bits);
+    let fourth = sw.next;
+    let se = write_sixteen(raster, side, down, right, key + 100, fourth, keys, bits);
+    write_four(key, 25, place, nw, ne, sw, se, keys, bits)
+}
+
+// A block of at most 8 by 8 pixels, with no call of itself: most of the time is spent here.
+fn write_low(
     raster: &[u8],
     side: usize,
     height: u32,
@@ -77,19 +157,19 @@ fn write_pixels(
     keys: &mut [u32],
     bits: &mut [u32],
 ) -> Below
-    requires { ⌜ Inside (now raster) side height row column × Fitting (pictureOfRows side (now raster)) height row column key place (now keys) (now bits) × (height < 2) ⌝ }
+    requires { ⌜ Inside (now raster) side height row column × Fitting (pictureOfRows side (now raster)) height row column key place (now keys) (now bits) × (height < 4) ⌝ }
     ensures { λ r. ⌜ Written (pictureOfRows side (now (raster .entry))) height row column key place (now (keys .entry)) (now (bits .entry)) (now (keys .exit)) (now (bits .exit)) (r .bits) (r .next) ⌝ }
 {
-    if height == 0 {
-        return write_pixel(raster, side, row, column, place);
+    if height == 3 {
+        return write_eight(raster, side, row, column, key, place, keys, bits);
     }
-    let down = row + 1;
-    let right = column + 1;
-    let nw = write_pixel(raster, side, row, column, place + 1);
-    let ne = write_pixel(raster, side, row, right, place + 2);
-    let sw = write_pixel(raster, side, down, column, place + 3);
-    let se = write_pixel(raster, side, down, right, place + 4);
-    write_four(key, 1, place, nw, ne, sw, se, keys, bits)
+    if height == 2 {
+        return write_sixteen(raster, side, row, column, key, place, keys, bits);
+    }
+    if height == 1 {
+        return write_quad(raster, side, row, column, key, place, keys, bits);
+    }
+    write_pixel(raster, side, row, column, place)
 }
 
 // Writes the records below a block, and not its own: only its parent knows whether it is listed. Each is written once, at its last place.
@@ -107,8 +187,8 @@ pub fn write_below(
     requires { ⌜ Inside (now raster) side height row column × Fitting (pictureOfRows side (now raster)) height row column key place (now keys) (now bits) ⌝ }
     ensures { λ r. ⌜ Written (pictureOfRows side (now (raster .entry))) height row column key place (now (keys .entry)) (now (bits .entry)) (now (keys .exit)) (now (bits .exit)) (r .bits) (r .next) ⌝ }
 {
-    if height < 2 {
-        return write_pixels(raster, side, height, row, column, key, place, keys, bits);
+    if height < 4 {
+        return write_low(raster, side, height, row, column, key, place, keys, bits);
     }
     let lower = height - 1;
     let half = power::power_of_two(lower) as usize;
