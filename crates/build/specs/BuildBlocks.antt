@@ -1,4 +1,4 @@
--- What the counting and the writing of one block ask and answer, for the contracts of src/build.rt alone. A raster is read here by the length
+-- What the counting and the writing of one block ask and answer, for the contracts of src/ alone. A raster is read here by the length
 -- of its rows, which the code carries; at 2 ^ m that is the picture of document 01's raster.
 use Prim.Native.Nat.{ℕ, _+_, _*_, _^_, _≤_, _<_}
 use mathlib.Core.Path.{_≡_}

@@ -1,11 +1,11 @@
--- `build::has_bad_pixel` meets its contract: after each turn a bad pixel was found, or it is among the pixels that are left.
+-- `pixels::has_bad_pixel` meets its contract: after each turn a bad pixel was found, or it is among the pixels that are left.
 use Prim.Native.Nat.{_-_}
 use mathlib.Core.Logic.{⊎-elim}
 use native.Mathlib.Omega.{arith}
 use lib.ListN.{length}
 use Rattle.build.proofs.RasterTests.{Scanned, scan-begins, scan-bad, scan-good, scan-ends}
-use Rattle.build.proofs.has_bad_pixel.Statement.{statement}
-use Rattle.build.proofs.has_bad_pixel.Tie as tie
+use Rattle.build.proofs.pixels.has_bad_pixel.Statement.{statement}
+use Rattle.build.proofs.pixels.has_bad_pixel.Tie as tie
 
 abbrev Inv-loop : tie.InvT-loop
 Inv-loop s raster bad₀ i₀ bad i = Scanned s raster bad i

@@ -1,4 +1,4 @@
--- `build::write_below` meets its contract: the four quadrants one after the other, and then their own records. The height falls at each call.
+-- `write::write_below` meets its contract: the four quadrants one after the other, and then their own records. The height falls at each call.
 use Prim.Native.Nat.{ℕ, suc, _+_, _-_, _*_, _^_, _≤_, _<_}
 use mathlib.Core.Path.{sym, _∙_}
 use native.Mathlib.Omega.{arith}
@@ -10,15 +10,15 @@ use Rattle.build.specs.BuildBlocks.{pictureOfRows, Inside, Fitting}
 use Rattle.build.proofs.BuildInside.{one-above, half-side, fifth-step, inside-quadrant}
 use Rattle.build.proofs.FittingBlock.{fitting-at, fits-nw, fits-ne, fits-sw, fits-se, fits-four}
 use Rattle.build.proofs.WrittenBlock.{written-at, written-quadrants}
-use Rattle.build.proofs.write_below.Reads as own
-use Rattle.build.proofs.write_below.Kinds as kinds
-use Rattle.build.proofs.+write_below.Lts-write_below as lts
+use Rattle.build.proofs.write.write_below.Reads as own
+use Rattle.build.proofs.write.write_below.Kinds as kinds
+use Rattle.build.proofs.write.+write_below.Lts-write_below as lts
 use Rattle.keys.proofs.power.power_of_five.Reads as power-of-five
 use Rattle.keys.proofs.power.power_of_two.Reads as power-of-two
-use Rattle.build.proofs.write_four.Reads as write-four
-use Rattle.build.proofs.write_pixels.Reads as write-pixels
-use Rattle.build.proofs.+write_below.{statement}
-use Rattle.build.proofs.+write_below.Tie.{close}
+use Rattle.build.proofs.write.write_four.Reads as write-four
+use Rattle.build.proofs.write.write_low.Reads as write-low
+use Rattle.build.proofs.write.+write_below.{statement}
+use Rattle.build.proofs.write.+write_below.Tie.{close}
 
 -- the measure is the height
 abbrev measure : Measures 3 kinds.ps ℕ
@@ -31,7 +31,7 @@ abbrev below : ℕ → In 3 kinds.ps
 below t = and 3 kinds.ps (falls 3 kinds.ps _<_ measure t) own.Pre
 
 abbrev claims : ℕ → lts.Claims
-claims t = (write-pixels.Asked, write-pixels.Learnt, power-of-two.Asked, power-of-two.Learnt, power-of-five.Asked, power-of-five.Learnt, below t, own.Post, write-four.Asked, write-four.Learnt)
+claims t = (write-low.Asked, write-low.Learnt, power-of-two.Asked, power-of-two.Learnt, power-of-five.Asked, power-of-five.Learnt, below t, own.Post, write-four.Asked, write-four.Learnt)
 
 -- once half a side and the step are known: the block has quadrants, and what a call for one of them asks
 abbrev Powers : ℕ → Type 0
@@ -96,19 +96,19 @@ module _ (t : ℕ) (c : Powers t) where
   falling : start t c .args .height - 1 < t
   falling = let p = positive in omega (arith, start t c .pre .0)
 
-write-pixels-requires : (t : ℕ) → lts.Need-write-pixels-requires (claims t) (given t) own.Post
-write-pixels-requires t c κs =
+write-low-requires : (t : ℕ) → lts.Need-write-low-requires (claims t) (given t) own.Post
+write-low-requires t c κs =
     let s = c .before .before .before .before .before .before in
     (s .pre .1 .0, s .pre .1 .1, c .before .before .if1 .taken)
 
 same-length : (t : ℕ) → lts.Need-same-length (claims t) (given t) own.Post
-same-length t c = c .before .before .before .before .write-pixels .kept .1 .1 .1 .1 .1 .1 .1 .0
+same-length t c = c .before .before .before .before .write-low .kept .1 .1 .1 .1 .1 .1 .1 .0
 
 same-length-2 : (t : ℕ) → lts.Need-same-length-2 (claims t) (given t) own.Post
-same-length-2 t c = c .before .before .before .before .write-pixels .kept .1 .1 .1 .1 .1 .1 .1 .1 .0
+same-length-2 t c = c .before .before .before .before .write-low .kept .1 .1 .1 .1 .1 .1 .1 .1 .0
 
 returns : (t : ℕ) → lts.Need-returns (claims t) (given t) own.Post
-returns t c = c .before .before .before .before .write-pixels .ensures
+returns t c = c .before .before .before .before .write-low .ensures
 
 sub-lower : (t : ℕ) → lts.Need-sub-lower (claims t) (given t) own.Post
 sub-lower t c = let h = c .if1 .left in omega arith
@@ -249,7 +249,7 @@ pub +write-below-spec : {M : Type 1} → statement M
     λ t. lts.spec (claims t)
     (given t)
     own.Post
-    (write-pixels-requires t)
+    (write-low-requires t)
     (same-length t)
     (same-length-2 t)
     (returns t)

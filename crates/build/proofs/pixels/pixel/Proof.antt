@@ -1,10 +1,10 @@
--- `build::pixel` meets its contract: the place is one of the raster's, and its feature is below 16.
+-- `pixels::pixel` meets its contract: the place is one of the raster's, and its feature is below 16.
 use Prim.Native.Nat.{_+_, _*_, _^_}
 use mathlib.Core.Path.{ap, _∙_}
 use native.Mathlib.Omega.{arith}
 use Rattle.build.proofs.BuildInside.{inside-place}
-use Rattle.build.proofs.pixel.Statement.{statement}
-use Rattle.build.proofs.pixel.Tie as tie
+use Rattle.build.proofs.pixels.pixel.Statement.{statement}
+use Rattle.build.proofs.pixels.pixel.Tie as tie
 
 mul-place : tie.Need-mul-place
 mul-place c = let h = inside-place (c .before .pre) in omega (arith, c .before .good)

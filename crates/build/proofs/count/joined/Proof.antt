@@ -1,10 +1,10 @@
--- `build::joined` meets its contract: the union in the definition's order, and the count by the same test.
+-- `count::joined` meets its contract: the union in the definition's order, and the count by the same test.
 use mathlib.Core.Path.{sym, _∙_}
 use borrow.Author.Needs.{needs}
 use Rattle.definitions.specs.Bits.{unionOfFour}
 use Rattle.build.proofs.CountBlock.{joined-alike, joined-apart}
-use Rattle.build.proofs.joined.Statement.{statement}
-use Rattle.build.proofs.joined.Tie as tie
+use Rattle.build.proofs.count.joined.Statement.{statement}
+use Rattle.build.proofs.count.joined.Tie as tie
 
 has-one-slot-requires : tie.Need-has-one-slot-requires
 has-one-slot-requires c κs = search needs

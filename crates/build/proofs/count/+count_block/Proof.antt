@@ -1,4 +1,4 @@
--- `build::count_block` meets its contract: a block of more than four pixels is its four quadrants' tallies, joined. The height falls at each call.
+-- `count::count_block` meets its contract: a block of more than 8 by 8 pixels is its four quadrants' tallies, joined. The height falls at each call.
 use Prim.Native.Nat.{ℕ, _+_, _-_, _*_, _≤_, _<_}
 use mathlib.Core.Path.{sym}
 use native.Mathlib.Omega.{arith}
@@ -7,14 +7,14 @@ use borrow.Fn.PlainCycle.{Measures, is, falls, and}
 use Rattle.build.specs.BuildBlocks.{Inside}
 use Rattle.build.proofs.BuildInside.{one-above, half-side, inside-quadrant}
 use Rattle.build.proofs.CountBlock.{tallied-four, tallied-small}
-use Rattle.build.proofs.count_block.Reads as own
-use Rattle.build.proofs.count_block.Kinds as kinds
-use Rattle.build.proofs.+count_block.Lts-count_block as lts
+use Rattle.build.proofs.count.count_block.Reads as own
+use Rattle.build.proofs.count.count_block.Kinds as kinds
+use Rattle.build.proofs.count.+count_block.Lts-count_block as lts
 use Rattle.keys.proofs.power.power_of_two.Reads as power-of-two
-use Rattle.build.proofs.count_pixels.Reads as count-pixels
-use Rattle.build.proofs.joined.Reads as joined
-use Rattle.build.proofs.+count_block.{statement}
-use Rattle.build.proofs.+count_block.Tie.{close}
+use Rattle.build.proofs.count.count_low.Reads as count-low
+use Rattle.build.proofs.count.joined.Reads as joined
+use Rattle.build.proofs.count.+count_block.{statement}
+use Rattle.build.proofs.count.+count_block.Tie.{close}
 
 -- the measure is the height
 abbrev measure : Measures 1 kinds.ps ℕ
@@ -27,7 +27,7 @@ abbrev below : ℕ → In 1 kinds.ps
 below t = and 1 kinds.ps (falls 1 kinds.ps _<_ measure t) own.Pre
 
 abbrev claims : ℕ → lts.Claims
-claims t = (count-pixels.Asked, count-pixels.Learnt, power-of-two.Asked, power-of-two.Learnt, below t, own.Post, joined.Asked, joined.Learnt)
+claims t = (count-low.Asked, count-low.Learnt, power-of-two.Asked, power-of-two.Learnt, below t, own.Post, joined.Asked, joined.Learnt)
 
 -- once the half is known: what a call for a quadrant asks
 module _ (t : ℕ) (c : lts.After-power-of-two (claims t) (given t) own.Post) where
@@ -54,11 +54,11 @@ module _ (t : ℕ) (c : lts.After-power-of-two (claims t) (given t) own.Post) wh
       let p = positive in
       (omega (arith, c .before .before .before .pre .0), inside-quadrant (c .before .before .before .pre .1) p r′ c′ (omega arith) (omega arith))
 
-count-pixels-requires : (t : ℕ) → lts.Need-count-pixels-requires (claims t) (given t) own.Post
-count-pixels-requires t c κs = (c .before .before .pre .1, c .if1 .taken)
+count-low-requires : (t : ℕ) → lts.Need-count-low-requires (claims t) (given t) own.Post
+count-low-requires t c κs = (c .before .before .pre .1, c .if1 .taken)
 
 returns : (t : ℕ) → lts.Need-returns (claims t) (given t) own.Post
-returns t c = c .count-pixels .ensures
+returns t c = c .count-low .ensures
 
 sub-lower : (t : ℕ) → lts.Need-sub-lower (claims t) (given t) own.Post
 sub-lower t c = omega arith
@@ -113,7 +113,7 @@ pub +count-block-spec : {M : Type 1} → statement M
     λ t. lts.spec (claims t)
     (given t)
     own.Post
-    (count-pixels-requires t)
+    (count-low-requires t)
     (returns t)
     (sub-lower t)
     (power-of-two-requires t)

@@ -1,7 +1,7 @@
--- `build::count_pixel` meets its contract: the bits are those of one feature, and there is one record.
+-- `count::count_pixel` meets its contract: the bits are those of one feature, and there is one record.
 use Rattle.build.proofs.CountBlock.{tallied-pixel}
-use Rattle.build.proofs.count_pixel.Statement.{statement}
-use Rattle.build.proofs.count_pixel.Tie as tie
+use Rattle.build.proofs.count.count_pixel.Statement.{statement}
+use Rattle.build.proofs.count.count_pixel.Tie as tie
 
 pixel-requires : tie.Need-pixel-requires
 pixel-requires c κs = c .before .pre

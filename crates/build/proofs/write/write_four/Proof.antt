@@ -1,4 +1,4 @@
--- `build::write_four` meets its contract: the four places are in their order and the last is in both slices, so all are.
+-- `write::write_four` meets its contract: the four places are in their order and the last is in both slices, so all are.
 use Prim.Native.Nat.{_<_}
 use mathlib.Core.Path.{_≡_, refl, sym, _∙_}
 use mathlib.Core.Bool.{false}
@@ -7,8 +7,8 @@ use lib.ListN.{length, length-set}
 use Rattle.definitions.specs.Bits.{unionOfFour}
 use Rattle.list.specs.Check.{oneSlot}
 use Rattle.build.proofs.WriteBlock.{four-alike, four-apart}
-use Rattle.build.proofs.write_four.Statement.{statement}
-use Rattle.build.proofs.write_four.Tie as tie
+use Rattle.build.proofs.write.write_four.Statement.{statement}
+use Rattle.build.proofs.write.write_four.Tie as tie
 
 -- where the test fails the last place is in both slices
 abbrev start : tie.Else1 → tie.Start
