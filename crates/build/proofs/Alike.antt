@@ -5,14 +5,14 @@ use mathlib.Core.Path.{_≡_, refl, sym, ap, ap₂, _∙_}
 use mathlib.Core.Bool.{true, _&&_}
 use mathlib.Core.List.{List}
 use native.Mathlib.Omega.{arith}
-use native.Mathlib.Nat.{add-mul}
+use native.Mathlib.Nat.{add-mul, add-zero}
 use lib.Dec.{eqb}
 use lib.ListN.{length, getD}
 use borrow.Author.Tests.{eqb-true}
 use Rattle.keys.proofs.Cases.{and-left, and-right}
 use Rattle.definitions.specs.Picture.{oneFeature}
 use Rattle.definitions.proofs.Features.{one-from}
-use Rattle.build.specs.BuildBlocks.{pictureOfRows, Inside}
+use Rattle.build.specs.BuildBlocks.{pictureOfRows, wordAt, Inside}
 use Rattle.build.proofs.BuildInside.{inside-place, inside-pixel}
 
 -- the place of a pixel that lies some rows and columns further
@@ -32,11 +32,45 @@ below-two P p₀ p₁ zero h = p₀
 below-two P p₀ p₁ (suc zero) h = p₁
 below-two P p₀ p₁ (suc (suc a)) h = absurd (omega arith)
 
+below-four : (P : ℕ → Type 0) → P 0 → P 1 → P 2 → P 3 → (a : ℕ) → a < 4 → P a
+below-four P p₀ p₁ p₂ p₃ zero h = p₀
+below-four P p₀ p₁ p₂ p₃ (suc zero) h = p₁
+below-four P p₀ p₁ p₂ p₃ (suc (suc zero)) h = p₂
+below-four P p₀ p₁ p₂ p₃ (suc (suc (suc zero))) h = p₃
+below-four P p₀ p₁ p₂ p₃ (suc (suc (suc (suc a)))) h = absurd (omega arith)
+
 -- a number equals three others
 three-equal : (a b c d : ℕ) → eqb a b && eqb a c && eqb a d ≡ true → (a ≡ b) × (a ≡ c) × (a ≡ d)
 three-equal a b c d t =
     let u = and-left (eqb a b && eqb a c) (eqb a d) t in
     (eqb-true a b (and-left (eqb a b) (eqb a c) u), eqb-true a c (and-right (eqb a b) (eqb a c) u), eqb-true a d (and-right (eqb a b && eqb a c) (eqb a d) t))
+
+-- four numbers equal another
+pub four-equal : (a b c d f : ℕ) → eqb a f && eqb b f && eqb c f && eqb d f ≡ true → (a ≡ f) × (b ≡ f) × (c ≡ f) × (d ≡ f)
+four-equal a b c d f t =
+    let u = and-left (eqb a f && eqb b f && eqb c f) (eqb d f) t in
+    let v = and-left (eqb a f && eqb b f) (eqb c f) u in (
+      eqb-true a f (and-left (eqb a f) (eqb b f) v),
+      eqb-true b f (and-right (eqb a f) (eqb b f) v),
+      eqb-true c f (and-right (eqb a f && eqb b f) (eqb c f) u),
+      eqb-true d f (and-right (eqb a f && eqb b f && eqb c f) (eqb d f) t),
+    )
+
+-- equal numbers have equal digits
+digit : (a f x y : ℕ) → a < 256 → f < 256 → a + 256 * x ≡ f + 256 * y → (a ≡ f) × (x ≡ y)
+digit a f x y ha hf e = let h : x ≡ y = omega arith in (omega arith, h)
+
+-- a word whose digits are all f
+module _ (raster : List ℕ) (features : (i : ℕ) → getD raster i 0 < 16) (f : ℕ) (small : f < 16) (i : ℕ) (w : wordAt raster i ≡ f * 16843009) where
+  row-alike : (b : ℕ) → b < 4 → getD raster (i + b) 0 ≡ f
+  row-alike =
+      let h₀ = features i in
+      let h₁ = features (i + 1) in
+      let h₂ = features (i + 2) in
+      let u = digit (getD raster i 0) f (getD raster (i + 1) 0 + 256 * (getD raster (i + 2) 0 + 256 * getD raster (i + 3) 0)) (f + 256 * (f + 256 * f)) (omega arith) (omega arith) (omega arith) in
+      let v = digit (getD raster (i + 1) 0) f (getD raster (i + 2) 0 + 256 * getD raster (i + 3) 0) (f + 256 * f) (omega arith) (omega arith) (u .1) in
+      let x = digit (getD raster (i + 2) 0) f (getD raster (i + 3) 0) f (omega arith) (omega arith) (v .1) in
+      below-four (λ b. getD raster (i + b) 0 ≡ f) (ap (λ n. getD raster n 0) (add-zero i) ∙ u .0) (v .0) (x .0) (x .1)
 
 module _ (side : ℕ) (raster : List ℕ) (row column : ℕ) where
   -- a block of any height
@@ -73,3 +107,21 @@ module _ (side : ℕ) (raster : List ℕ) (row column : ℕ) where
         (same-at _ (row * side + column + side + 1) (omega arith) (h .2))
         b right)
         a down)
+
+  -- a block of 4 by 4 whose rows are the same word
+  pub sixteen-one : ((i : ℕ) → getD raster i 0 < 16) → (f : ℕ) → f < 16
+      → wordAt raster (row * side + column) ≡ f * 16843009
+      → wordAt raster (row * side + column + side) ≡ f * 16843009
+      → wordAt raster (row * side + column + side + side) ≡ f * 16843009
+      → wordAt raster (row * side + column + side + side + side) ≡ f * 16843009
+      → oneFeature (pictureOfRows side raster) 2 row column ≡ true
+  sixteen-one features f small w₀ w₁ w₂ w₃ =
+      block-alike 2 f
+      (λ a b down right.
+      below-four (λ a. getD raster (row * side + column + a * side + b) 0 ≡ f)
+      (ap (λ n. getD raster n 0) (omega arith) ∙ row-alike raster features f small (row * side + column) w₀ b right)
+      (ap (λ n. getD raster n 0) (omega arith) ∙ row-alike raster features f small (row * side + column + side) w₁ b right)
+      (ap (λ n. getD raster n 0) (omega arith) ∙ row-alike raster features f small (row * side + column + side + side) w₂ b right)
+      (ap (λ n. getD raster n 0) (omega arith) ∙ row-alike raster features f small (row * side + column + side + side + side) w₃ b right)
+      a
+      down)

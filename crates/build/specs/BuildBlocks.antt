@@ -15,6 +15,10 @@ use Rattle.definitions.specs.List.{Record, listOf, keysOf, valuesOf}
 abbrev pub pictureOfRows : ℕ → List ℕ → Picture
 pictureOfRows side raster row column = getD raster (row * side + column) 0
 
+-- four pixels from a place on, as the digits of one number
+abbrev pub wordAt : List ℕ → ℕ → ℕ
+wordAt raster i = getD raster i 0 + 256 * getD raster (i + 1) 0 + 65536 * getD raster (i + 2) 0 + 16777216 * getD raster (i + 3) 0
+
 -- the block lies in a square raster whose features are those of 16 slots
 pub record Inside (raster : List ℕ) (side height row column : ℕ) : Type 0 where
   pub deep : height ≤ 10

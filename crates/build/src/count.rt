@@ -64,6 +64,9 @@ fn count_sixteen(raster: &[u8], side: usize, row: usize, column: usize) -> Tally
     requires { ⌜ Inside (now raster) side 2 row column ⌝ }
     ensures { λ r. ⌜ Tallied (pictureOfRows side (now (raster .entry))) 2 row column (r .bits) (r .count) ⌝ }
 {
+    if pixels::sixteen_alike(raster, side, row, column) {
+        return count_pixel(raster, side, row, column);
+    }
     let down = row + 2;
     let right = column + 2;
     let nw = count_quad(raster, side, row, column);

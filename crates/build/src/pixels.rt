@@ -1,10 +1,11 @@
 // The pixels of a raster: whether one of them is refused, the bits of one, and whether those of a small block are alike.
 ghost use mathlib.Core.Path.{_≡_};
 ghost use mathlib.Core.Bool.{true};
-ghost use Prim.Native.Nat.{_^_};
+ghost use Prim.Native.Nat.{_+_, _^_, _<_};
+ghost use lib.ListN.{length};
 ghost use Rattle.definitions.specs.Picture.{oneFeature};
 ghost use Rattle.definitions.specs.Refusal.{badPixel};
-ghost use Rattle.build.specs.BuildBlocks.{pictureOfRows, Inside};
+ghost use Rattle.build.specs.BuildBlocks.{pictureOfRows, wordAt, Inside};
 use keys::power;
 
 fn wide(x: u8) -> u32
@@ -49,4 +50,33 @@ pub fn quad_alike(raster: &[u8], side: usize, row: usize, column: usize) -> bool
     let c = raster[south];
     let d = raster[south + 1];
     (a == b) & (a == c) & (a == d)
+}
+
+// Four bytes from a place on, as the digits of one number. Bytes side by side put together so are one read.
+fn word(raster: &[u8], at: usize) -> u32
+    requires { ⌜ at + 3 < length (now raster) ⌝ }
+    ensures { λ r. ⌜ r ≡ wordAt (now (raster .entry)) at ⌝ }
+{
+    let a = wide(raster[at]);
+    let b = wide(raster[at + 1]);
+    let c = wide(raster[at + 2]);
+    let d = wide(raster[at + 3]);
+    a + 256 * b + 65536 * c + 16777216 * d
+}
+
+// The pixels of a block of 4 by 4 are alike: each row is the number whose four digits are the first pixel.
+pub fn sixteen_alike(raster: &[u8], side: usize, row: usize, column: usize) -> bool
+    requires { ⌜ Inside (now raster) side 2 row column ⌝ }
+    ensures { λ r. ⌜ (r ≡ true → oneFeature (pictureOfRows side (now (raster .entry))) 2 row column ≡ true) ⌝ }
+{
+    let first = row * side + column;
+    let second = first + side;
+    let third = second + side;
+    let fourth = third + side;
+    let all = wide(raster[first]) * 16843009;
+    let a = word(raster, first);
+    let b = word(raster, second);
+    let c = word(raster, third);
+    let d = word(raster, fourth);
+    (a == all) & (b == all) & (c == all) & (d == all)
 }

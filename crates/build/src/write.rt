@@ -105,6 +105,9 @@ fn write_sixteen(
     requires { ⌜ Inside (now raster) side 2 row column × Fitting (pictureOfRows side (now raster)) 2 row column key place (now keys) (now bits) ⌝ }
     ensures { λ r. ⌜ Written (pictureOfRows side (now (raster .entry))) 2 row column key place (now (keys .entry)) (now (bits .entry)) (now (keys .exit)) (now (bits .exit)) (r .bits) (r .next) ⌝ }
 {
+    if pixels::sixteen_alike(raster, side, row, column) {
+        return write_pixel(raster, side, row, column, place);
+    }
     let down = row + 2;
     let right = column + 2;
     let first = place + 1;

@@ -1,11 +1,21 @@
--- `count::count_sixteen` meets its contract: the tallies of its four blocks of 2 by 2, joined.
+-- `count::count_sixteen` meets its contract: one record where the pixels are alike, and else the tallies of its four blocks of 2 by 2, joined.
 use Prim.Native.Nat.{_≤_}
 use mathlib.Core.Path.{refl}
 use native.Mathlib.Omega.{arith}
 use borrow.Author.Needs.{needs}
-use Rattle.build.proofs.CountBlock.{tallied-four, tallied-small}
+use Rattle.build.proofs.BuildInside.{inside-pixel}
+use Rattle.build.proofs.CountBlock.{tallied-one, tallied-four, tallied-small}
 use Rattle.build.proofs.count.count_sixteen.Statement.{statement}
 use Rattle.build.proofs.count.count_sixteen.Tie as tie
+
+sixteen-alike-requires : tie.Need-sixteen-alike-requires
+sixteen-alike-requires c κs = c .before .pre
+
+count-pixel-requires : tie.Need-count-pixel-requires
+count-pixel-requires c κs = inside-pixel (c .before .before .before .pre) _ _ (omega arith) (omega arith)
+
+alike-returns : tie.Need-returns
+alike-returns c = tallied-one 2 (c .before .before .sixteen-alike .ensures (c .before .if1 .taken)) (c .count-pixel .ensures)
 
 add-down : tie.Need-add-down
 add-down c = search needs
@@ -34,7 +44,7 @@ joined-requires c κs =
       tallied-small (c .count-quad4 .ensures) h,
     )
 
-returns : tie.Need-returns
+returns : tie.Need-returns-2
 returns c =
     tallied-four _ 1 2 _ _ refl
     (c .before .before .before .before .count-quad .ensures)
@@ -44,4 +54,4 @@ returns c =
     (c .joined .ensures)
 
 pub count-sixteen-spec : {M : Type 1} → statement M
-count-sixteen-spec = tie.close (tie.spec add-down add-right nw-requires ne-requires sw-requires se-requires joined-requires returns)
+count-sixteen-spec = tie.close (tie.spec sixteen-alike-requires count-pixel-requires alike-returns add-down add-right nw-requires ne-requires sw-requires se-requires joined-requires returns)

@@ -1,19 +1,20 @@
--- `write::write_sixteen` meets its contract: its four blocks of 2 by 2 one after the other, and then their own records.
+-- `write::write_sixteen` meets its contract: nothing where the pixels are alike, and else its four blocks of 2 by 2 one after the
+-- other, and then their own records.
 use Prim.Native.Nat.{ℕ, _+_, _≤_}
 use mathlib.Core.Path.{refl, _∙_}
 use native.Mathlib.Omega.{arith}
 use Rattle.build.specs.BuildBlocks.{Inside}
-use Rattle.build.proofs.BuildInside.{inside-quadrant}
+use Rattle.build.proofs.BuildInside.{inside-pixel, inside-quadrant}
 use Rattle.build.proofs.FittingBlock.{fits-nw, fits-ne, fits-sw, fits-se, fits-four}
-use Rattle.build.proofs.WrittenBlock.{written-quadrants}
+use Rattle.build.proofs.WrittenBlock.{written-one, written-quadrants}
 use Rattle.build.proofs.write.write_sixteen.Statement.{statement}
 use Rattle.build.proofs.write.write_sixteen.Tie as tie
 
-abbrev start : tie.After-slice-known2 → tie.Start
-start c = c .before .before .before
+abbrev start : tie.Else1 → tie.Start
+start c = c .before .before .before .before .before
 
 -- once one, two, three and all quadrants are written: the way back from there
-abbrev from-once : tie.After-slice-known4 → tie.After-slice-known2
+abbrev from-once : tie.After-slice-known4 → tie.Else1
 from-once c = c .before .before .before .before .before .before .before
 
 abbrev from-twice : tie.After-slice-known6 → tie.After-slice-known4
@@ -27,6 +28,18 @@ from-all c = c .before .before .before .before .before .before .before
 
 quadrant : (s : tie.Start) (r′ c′ : ℕ) → r′ ≤ s .args .row + 2 → c′ ≤ s .args .column + 2 → Inside (s .args .raster .now) (s .args .side) 1 r′ c′
 quadrant s r′ c′ down right = inside-quadrant (s .pre .0) (omega arith) r′ c′ down right
+
+sixteen-alike-requires : tie.Need-sixteen-alike-requires
+sixteen-alike-requires c κs = c .before .before .before .pre .0
+
+write-pixel-requires : tie.Need-write-pixel-requires
+write-pixel-requires c κs =
+    let s = c .before .before .before .before .before in
+    (inside-pixel (s .pre .0) _ _ (omega arith) (omega arith), let f = s .pre .1 in omega (arith, f .key-fits, f .place-fits))
+
+alike-returns : tie.Need-returns
+alike-returns c =
+    written-one _ 2 _ _ _ _ _ _ _ _ (c .before .before .sixteen-alike .ensures (c .before .if1 .taken)) (c .write-pixel .ensures .0) (c .write-pixel .ensures .1)
 
 add-down : tie.Need-add-down
 add-down c = let s = start c in omega (arith, s .pre .0)
@@ -107,7 +120,7 @@ same-length-2 c =
     ∙ b .before .before .before .before .write-quad2 .kept .1 .1 .1 .1 .1 .1 .1 .0
     ∙ a .before .before .before .before .write-quad .kept .1 .1 .1 .1 .1 .1 .1 .0
 
-returns : tie.Need-returns
+returns : tie.Need-returns-2
 returns c =
     let h = c .before .before .before .before .before .before .before in
     let g = from-all h in
@@ -118,4 +131,4 @@ returns c =
 pub write-sixteen-spec : {M : Type 1} → statement M
 write-sixteen-spec =
     tie.close
-    (tie.spec add-down add-right add-first nw-key nw-requires ne-key ne-requires sw-key sw-requires se-key se-requires write-four-requires same-length same-length-2 returns)
+    (tie.spec sixteen-alike-requires write-pixel-requires alike-returns add-down add-right add-first nw-key nw-requires ne-key ne-requires sw-key sw-requires se-key se-requires write-four-requires same-length same-length-2 returns)
