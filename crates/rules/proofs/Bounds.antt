@@ -1,6 +1,6 @@
 -- The run that bounds goes as a run that counts: it refuses the same and finds the same waivers wrong, and its number is not below the number of live
 -- findings. Rests on StepCases and on the law that select gives at most as many keys as the window has pixels.
-use Prim.Native.Nat.{ℕ, _+_, _*_, _≤_}
+use Prim.Native.Nat.{ℕ, _+_, _≤_}
 use mathlib.Core.Path.{_≡_, refl, _∙_}
 use mathlib.Core.Bool.{true}
 use mathlib.Core.List.{List, [], _∷_}
@@ -14,12 +14,12 @@ use Rattle.definitions.specs.declared.Rule.{Rule}
 use Rattle.definitions.proofs.Waivers.{live-and-hidden}
 use Rattle.window.proofs.Few.{select-few}
 use Rattle.rules.specs.declared.run.State.{State}
-use Rattle.rules.specs.Run.{Progress, progressOf, refusing, faultyFrom, bounding, restarting, mayCome, picture, findingsAt, gathered, stepOf, runOf}
+use Rattle.rules.specs.Run.{Progress, progressOf, refusing, faultyFrom, bounding, restarting, pixelsOf, mayCome, picture, findingsAt, gathered, stepOf, runOf}
 use Rattle.rules.proofs.Fold.{run-nil, run-cons}
 use Rattle.rules.proofs.StepCases.{isFaulty, step-stopped, step-bad, step-faulty, step-good, step-gathers, served-bounds, walks-on}
 
 -- a rule has at most as many findings as its window has pixels
-findings-bounded : (m : ℕ) (p : Picture) (rule : Rule) → length (findingsOf m p rule) ≤ rule .height * rule .width
+findings-bounded : (m : ℕ) (p : Picture) (rule : Rule) → length (findingsOf m p rule) ≤ pixelsOf rule
 unfolding findingsOf
 findings-bounded m p rule =
     let few = select-few p (windowOf rule) (rule .feature) m in
@@ -51,7 +51,7 @@ module _ (keys bits waiverIds waiverKeys : List ℕ) where
     not-full : (p .state .refusal ≡ 12 → ⊥) → q .state .refusal ≡ 12 → ⊥
 
   -- the live findings of one rule are not more than the window's pixels
-  few-live : (rule : Rule) (st : State) → length (liveOf (waiversOf waiverIds waiverKeys) (findingsAt keys bits waiverIds waiverKeys rule st)) ≤ rule .height * rule .width
+  few-live : (rule : Rule) (st : State) → length (liveOf (waiversOf waiverIds waiverKeys) (findingsAt keys bits waiverIds waiverKeys rule st)) ≤ pixelsOf rule
   few-live rule st =
       let found = findingsAt keys bits waiverIds waiverKeys rule st in
       let few = findings-bounded (st .m) (picture keys bits waiverIds waiverKeys st) rule in
@@ -98,7 +98,7 @@ module _ (keys bits waiverIds waiverKeys : List ℕ) where
       (run-bounded rules q live ids foundKeys walks low))
       (λ good.
       let q = gathered keys bits waiverIds waiverKeys rule p in
-      let more = live + rule .height * rule .width in
+      let more = live + pixelsOf rule in
       next rule rules p other q more ids foundKeys (step-gathers keys bits waiverIds waiverKeys rule p zero walks may good)
       (step-good keys bits waiverIds waiverKeys rule other zero (λ e. omega arith) may good ∙ served-bounds keys bits waiverIds waiverKeys rule other refl)
       (record { walks = walks; restarts = refl; faults = λ e. e; not-full = λ h. h })

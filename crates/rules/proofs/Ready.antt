@@ -20,7 +20,7 @@ use Rattle.definitions.proofs.Waivers.{live-and-hidden}
 use Rattle.window.proofs.Lies.{accepted}
 use Rattle.window.proofs.Lower.{ascending-length}
 use Rattle.window.proofs.Written.{length-written}
-use Rattle.rules.specs.Run.{Progress, mayCome, picture, findingsAt, gathered, bounded, stepOf, runOf, Fine, Ready}
+use Rattle.rules.specs.Run.{Progress, pixelsOf, mayCome, picture, findingsAt, gathered, bounded, stepOf, runOf, Fine, Ready}
 use Rattle.rules.proofs.Fold.{run-nil, run-cons}
 use Rattle.rules.proofs.StepCases.{isFaulty, step-stopped, step-rests, step-bad, step-faulty, step-good, served-bounds, served-gathers}
 
@@ -90,7 +90,7 @@ module _ (keys bits waiverIds waiverKeys : List ℕ) where
       → Fine keys bits waiverIds waiverKeys (bounded keys bits waiverIds waiverKeys rule p)
   fine-bounded rule p low good f =
       let small = rule-small (p .state .m) (p .state .s) rule (f .level) good in
-      let few : rule .height * rule .width ≤ 1024 * 1024 = mul-le-mul (small .0) (small .1) in
+      let few : pixelsOf rule ≤ 1024 * 1024 = mul-le-mul (small .0) (small .1) in
       record {
         level = f .level;
         slots = f .slots;

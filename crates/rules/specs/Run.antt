@@ -157,6 +157,10 @@ restarting limit st =
 abbrev pub mayCome : Rule → State → Bool
 mayCome rule st = leb (st .next) (rule .id) && isRule (st .m) (st .s) rule
 
+-- how many pixels the rule's window has
+abbrev pub pixelsOf : Rule → ℕ
+pixelsOf rule = rule .height * rule .width
+
 module _ (keys bits waiverIds waiverKeys : List ℕ) where
   abbrev waivers : List Finding
   waivers = waiversOf waiverIds waiverKeys
@@ -186,7 +190,7 @@ module _ (keys bits waiverIds waiverKeys : List ℕ) where
   abbrev pub bounded : Rule → Progress → Progress
   bounded rule p =
       progressOf
-      (counting (rule .id + 1) (waiversBelow (rule .id + 1) waivers) (p .state .live + rule .height * rule .width) (p .state .hidden) (p .state))
+      (counting (rule .id + 1) (waiversBelow (rule .id + 1) waivers) (p .state .live + pixelsOf rule) (p .state .hidden) (p .state))
       (p .ids)
       (p .keys)
 

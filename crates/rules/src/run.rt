@@ -5,15 +5,16 @@ ghost use Rattle.rules.specs.Run.{progressOf, Ready, runOf};
 use crate::step;
 use definitions::Rule;
 
-// What a run does with a rule's findings: it bounds their number by the window's pixels, or walks the window to count and write them, or passes over all
-// rules.
+// A run that only bounds the number of a rule's findings, by the pixels of its window.
 pub const BOUNDING: u32 = 0;
 
+// A run that walks the windows, and counts the findings and writes them up to its limit.
 pub const WALKING: u32 = 1;
 
+// A run that passes over all rules.
 pub const RESTING: u32 = 2;
 
-// Where a run over the rules stands: the settings and the number of records; what it does; the refusal, or 0; the least id that the next rule may have;
+// Where a run over the rules stands: the settings and the number of records; which of the three runs it is; the refusal, or 0; the least id that the next rule may have;
 // whether a waiver is wrong; how many waivers there are and how many are passed; how many findings may be written, and how many have room; and how many
 // were live and hidden. A run that bounds has in `live` a number that the live findings do not exceed.
 pub struct State {

@@ -1,7 +1,7 @@
 // One rule of a run: whether it may come, whether a waiver is wrong, and else its findings against its waivers, which stand one after the other.
 ghost use mathlib.Core.Path.{_≡_};
 ghost use mathlib.Core.Bool.{_&&_, _||_};
-ghost use Prim.Native.Nat.{_+_, _*_, _^_, _≤_};
+ghost use Prim.Native.Nat.{_+_, _^_, _≤_};
 ghost use lib.ListN.{length, getD};
 ghost use lib.Dec.{ltb};
 ghost use Rattle.rules.specs.Run.{progressOf, faultyFrom, counting, mayCome, served, Ready, stepOf};

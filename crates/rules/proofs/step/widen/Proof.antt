@@ -3,10 +3,11 @@ use Prim.Native.Nat.{_*_, _≤_}
 use native.Mathlib.Nat.{mul-le-mul}
 use native.Mathlib.Omega.{arith}
 use borrow.Author.Needs.{needs}
+use Rattle.rules.specs.Run.{pixelsOf}
 use Rattle.rules.proofs.step.widen.Statement.{statement}
 use Rattle.rules.proofs.step.widen.Tie as tie
 
-few : (s : tie.Start) → s .args .rule .height * s .args .rule .width ≤ 1024 * 1024
+few : (s : tie.Start) → pixelsOf (s .args .rule) ≤ 1024 * 1024
 few s = mul-le-mul (s .pre .0) (s .pre .1)
 
 mul-pixels : tie.Need-mul-pixels
