@@ -1,3 +1,6 @@
 // Edits of the list: the entry that is logged, paint, take back and empty.
-pub mod editing;
+pub mod checks;
+pub mod empty;
 pub mod entry;
+pub mod paint;
+pub mod take_back;

@@ -1,12 +1,12 @@
--- `editing::first_refusal` meets its contract: each way out answers what the table says there.
+-- `checks::first_refusal` meets its contract: each way out answers what the table says there.
 use mathlib.Core.Path.{_≡_, sym, ap, _∙_}
 use mathlib.Core.Bool.{false, not}
 use borrow.Author.Needs.{needs}
 use Rattle.definitions.specs.Refusal.{badSettings, noList}
 use Rattle.list.proofs.Tests.{good-settings}
 use Rattle.edit.proofs.EditCallTables.{bad-settings, no-list, no-log, all-passed}
-use Rattle.edit.proofs.editing.first_refusal.Statement.{statement}
-use Rattle.edit.proofs.editing.first_refusal.Tie as tie
+use Rattle.edit.proofs.checks.first_refusal.Statement.{statement}
+use Rattle.edit.proofs.checks.first_refusal.Tie as tie
 
 -- the start, from the test of the settings
 abbrev start : tie.After-are-bad → tie.Start

@@ -1,11 +1,11 @@
--- `editing::paint` meets its contract: a refusal leaves all as it is; else the entry is logged while the list still has the former content, and then the block is filled.
+-- `paint::paint` meets its contract: a refusal leaves all as it is; else the entry is logged while the list still has the former content, and then the block is filled.
 use mathlib.Core.Path.{_≡_, sym, _∙_}
 use Rattle.definitions.specs.Calls.Paint.{paintRefusal}
 use Rattle.edit.proofs.PaintTable.{PaintPassed, paint-passed, paint-paintable}
 use Rattle.edit.proofs.PaintAnswers.{paint-refused, paint-done}
 use borrow.Author.Needs.{needs}
-use Rattle.edit.proofs.editing.paint.Statement.{statement}
-use Rattle.edit.proofs.editing.paint.Tie as tie
+use Rattle.edit.proofs.paint.paint.Statement.{statement}
+use Rattle.edit.proofs.paint.paint.Tie as tie
 
 -- the start, from the refusal
 abbrev start : tie.After-paint-refusal → tie.Start

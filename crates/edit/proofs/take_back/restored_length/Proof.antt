@@ -1,10 +1,10 @@
--- `editing::restored_length` meets its contract: the plan says how long the list becomes.
+-- `take_back::restored_length` meets its contract: the plan says how long the list becomes.
 use native.Mathlib.Omega.{arith}
 use borrow.Author.Needs.{needs}
 use Rattle.edit.proofs.TakingBackLast.{content-fits}
 use Rattle.edit.proofs.TakingBackPlan.{key-valid, plan-old, plan-levels, plan-length}
-use Rattle.edit.proofs.editing.restored_length.Statement.{statement}
-use Rattle.edit.proofs.editing.restored_length.Tie as tie
+use Rattle.edit.proofs.take_back.restored_length.Statement.{statement}
+use Rattle.edit.proofs.take_back.restored_length.Tie as tie
 
 sub-last : tie.Need-sub-last
 sub-last c = search needs

@@ -1,8 +1,8 @@
--- `editing::fill` meets its contract: the content is one record with the bits of the feature.
+-- `paint::fill` meets its contract: the content is one record with the bits of the feature.
 use Rattle.edit.proofs.PaintPut.{paint-puttable, paint-replaced}
 use borrow.Author.Needs.{needs}
-use Rattle.edit.proofs.editing.fill.Statement.{statement}
-use Rattle.edit.proofs.editing.fill.Tie as tie
+use Rattle.edit.proofs.paint.fill.Statement.{statement}
+use Rattle.edit.proofs.paint.fill.Tie as tie
 
 power-of-two-requires : tie.Need-power-of-two-requires
 power-of-two-requires c κs = search needs

@@ -1,9 +1,9 @@
--- `editing::put_back` meets its contract: the content of the last entry is lent as parts of the log's slices.
+-- `take_back::put_back` meets its contract: the content of the last entry is lent as parts of the log's slices.
 use Rattle.edit.proofs.TakingBackPlan.{key-valid}
 use Rattle.edit.proofs.TakingBackPut.{restore-puttable, restore-replaced}
 use borrow.Author.Needs.{needs}
-use Rattle.edit.proofs.editing.put_back.Statement.{statement}
-use Rattle.edit.proofs.editing.put_back.Tie as tie
+use Rattle.edit.proofs.take_back.put_back.Statement.{statement}
+use Rattle.edit.proofs.take_back.put_back.Tie as tie
 
 sub-last : tie.Need-sub-last
 sub-last c = search needs

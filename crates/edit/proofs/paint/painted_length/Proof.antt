@@ -1,9 +1,9 @@
--- `editing::painted_length` meets its contract: the plan says how long the list becomes.
+-- `paint::painted_length` meets its contract: the plan says how long the list becomes.
 use native.Mathlib.Omega.{arith}
 use borrow.Author.Needs.{needs}
 use Rattle.edit.proofs.PaintPlan.{plan-old, plan-levels, plan-length}
-use Rattle.edit.proofs.editing.painted_length.Statement.{statement}
-use Rattle.edit.proofs.editing.painted_length.Tie as tie
+use Rattle.edit.proofs.paint.painted_length.Statement.{statement}
+use Rattle.edit.proofs.paint.painted_length.Tie as tie
 
 power-of-two-requires : tie.Need-power-of-two-requires
 power-of-two-requires c κs = search needs

@@ -1,11 +1,11 @@
--- `editing::take_back_refusal` meets its contract: the rows in document 01's order, the first three by their own function.
+-- `take_back::take_back_refusal` meets its contract: the rows in document 01's order, the first three by their own function.
 use Prim.Native.Nat.{_<_}
 use native.Mathlib.Omega.{arith}
 use borrow.Author.Needs.{needs}
 use Rattle.edit.proofs.EditCallTables.{FirstPassed, first-passed}
 use Rattle.edit.proofs.TakingBackTable.{passed-restorable, take-early, no-entry, list-full, room-enough}
-use Rattle.edit.proofs.editing.take_back_refusal.Statement.{statement}
-use Rattle.edit.proofs.editing.take_back_refusal.Tie as tie
+use Rattle.edit.proofs.take_back.take_back_refusal.Statement.{statement}
+use Rattle.edit.proofs.take_back.take_back_refusal.Tie as tie
 
 -- the start, from the first refusal
 abbrev start : tie.After-first-refusal → tie.Start

@@ -1,4 +1,4 @@
--- `editing::room_refusal` meets its contract: each way out answers what the table's last two rows say there.
+-- `paint::room_refusal` meets its contract: each way out answers what the table's last two rows say there.
 use Prim.Native.Nat.{_+_, _≤_}
 use mathlib.Core.Path.{_≡_, ap}
 use native.Mathlib.Omega.{arith}
@@ -9,8 +9,8 @@ use Rattle.definitions.specs.Calls.Paint.{gained}
 use Rattle.list.proofs.Own.{own-sorted}
 use Rattle.edit.proofs.PaintPlan.{gained-most}
 use Rattle.edit.proofs.PaintTable.{log-full, list-full, room-enough}
-use Rattle.edit.proofs.editing.room_refusal.Statement.{statement}
-use Rattle.edit.proofs.editing.room_refusal.Tie as tie
+use Rattle.edit.proofs.paint.room_refusal.Statement.{statement}
+use Rattle.edit.proofs.paint.room_refusal.Tie as tie
 
 -- the start, from the entry's length
 abbrev start : tie.After-entry-length → tie.Start

@@ -1,8 +1,8 @@
--- `editing::clear_entry` meets its contract: both slices are cleared from the content's start up to the closing record.
+-- `take_back::clear_entry` meets its contract: both slices are cleared from the content's start up to the closing record.
 use Rattle.edit.proofs.TakingBackAnswers.{entry-cleared}
 use borrow.Author.Needs.{needs}
-use Rattle.edit.proofs.editing.clear_entry.Statement.{statement}
-use Rattle.edit.proofs.editing.clear_entry.Tie as tie
+use Rattle.edit.proofs.take_back.clear_entry.Statement.{statement}
+use Rattle.edit.proofs.take_back.clear_entry.Tie as tie
 
 last-count-requires : tie.Need-last-count-requires
 last-count-requires c κs = search needs

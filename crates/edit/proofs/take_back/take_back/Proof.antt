@@ -1,12 +1,12 @@
--- `editing::take_back` meets its contract: a refusal leaves all as it is; else the content goes back while the log still has it, and then its places are cleared.
+-- `take_back::take_back` meets its contract: a refusal leaves all as it is; else the content goes back while the log still has it, and then its places are cleared.
 use mathlib.Core.Path.{_≡_, sym, _∙_}
 use Rattle.definitions.specs.Calls.TakeBack.{takeBackRefusal}
 use Rattle.edit.specs.TakingBackCall.{Restorable}
 use Rattle.edit.proofs.TakingBackTable.{TakePassed, take-passed, passed-restorable}
 use Rattle.edit.proofs.TakingBackAnswers.{take-refused, take-done}
 use borrow.Author.Needs.{needs}
-use Rattle.edit.proofs.editing.take_back.Statement.{statement}
-use Rattle.edit.proofs.editing.take_back.Tie as tie
+use Rattle.edit.proofs.take_back.take_back.Statement.{statement}
+use Rattle.edit.proofs.take_back.take_back.Tie as tie
 
 -- the start, from the refusal
 abbrev start : tie.After-take-back-refusal → tie.Start

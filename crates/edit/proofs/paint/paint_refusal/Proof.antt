@@ -1,4 +1,4 @@
--- `editing::paint_refusal` meets its contract: the rows in document 01's order, the first three and the last two by their own functions.
+-- `paint::paint_refusal` meets its contract: the rows in document 01's order, the first three and the last two by their own functions.
 use mathlib.Core.Path.{_≡_, sym, _∙_}
 use mathlib.Core.Bool.{true}
 use borrow.Author.Needs.{needs}
@@ -6,8 +6,8 @@ use borrow.Author.Tests.{not-true, not-false}
 use Rattle.keys.specs.Key.{validKey}
 use Rattle.edit.proofs.EditCallTables.{FirstPassed, first-passed, passed-settings, passed-used}
 use Rattle.edit.proofs.PaintTable.{paint-early, bad-key, bad-feature, room-decides, passed-paintable}
-use Rattle.edit.proofs.editing.paint_refusal.Statement.{statement}
-use Rattle.edit.proofs.editing.paint_refusal.Tie as tie
+use Rattle.edit.proofs.paint.paint_refusal.Statement.{statement}
+use Rattle.edit.proofs.paint.paint_refusal.Tie as tie
 
 -- the start, from the first refusal
 abbrev start : tie.After-first-refusal → tie.Start
