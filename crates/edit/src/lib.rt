@@ -1,6 +1,6 @@
-// Edits of the list: the entry that is logged, paint, take back and empty.
-pub mod checks;
+// Edits of the list: what is logged, paint, take back and empty.
+pub mod decision;
 pub mod empty;
-pub mod entry;
+pub mod logging;
 pub mod paint;
 pub mod take_back;

@@ -1,30 +1,26 @@
-// Paint (document 01). Its refusal is found before anything is written, and 10 and 9 are decided on the end result.
+// Paint (document 01). It is decided before anything is written, 10 and 9 on the end result.
 ghost use mathlib.Core.Path.{_≡_};
 ghost use Prim.Native.Nat.{_≤_};
 ghost use lib.ListN.{length};
 ghost use Rattle.definitions.specs.Read.{room, recordsOf};
 ghost use Rattle.definitions.specs.Calls.Paint.{painted, paintRefusal};
 ghost use Rattle.put.specs.Putting.{Replaced};
-ghost use Rattle.edit.specs.PaintCall.{roomRefusal, Paintable, Painted};
-use crate::checks;
-use crate::entry;
+ghost use Rattle.edit.specs.EditCallChecks.{decided};
+ghost use Rattle.edit.specs.PaintCall.{roomRefusal, Paintable, newEntry, paintPlan, Painted};
+use crate::decision;
+use crate::decision::Decision;
+use crate::logging;
 use definitions::Edited;
 use keys::Key;
 use keys::power;
+use log::entry;
+use log::entry::Entry;
 use put::plan;
+use put::plan::Plan;
 use put::putting;
 
-// How long the list becomes when the block gets the feature.
-fn painted_length(m: u32, keys: &[u32], bits: &[u32], n: usize, key: u32, feature: u32) -> usize
-    requires { ⌜ Paintable m (now keys) (now bits) n key feature ⌝ }
-    ensures { λ r. ⌜ r ≡ length (painted m (recordsOf (now (keys .entry)) (now (bits .entry)) n) key feature) ⌝ }
-{
-    let found = plan::plan_of(m, keys, bits, n, key, true, power::power_of_two(feature));
-    plan::length_after(n, 1, found)
-}
-
 // 10 and 9: the log has room for the entry, and the list for what it becomes.
-fn room_refusal(
+fn decide_room(
     m: u32,
     keys: &[u32],
     bits: &[u32],
@@ -34,30 +30,39 @@ fn room_refusal(
     used: usize,
     key: u32,
     feature: u32,
-) -> u64
+) -> Decision
     requires { ⌜ (Paintable m (now keys) (now bits) n key feature) × (used ≤ room (now «log_keys») (now «log_values»)) ⌝ }
-    ensures { λ r. ⌜ r ≡ roomRefusal m (recordsOf (now (keys .entry)) (now (bits .entry)) n) (now (keys .entry)) (now (bits .entry))
-        (now («log_keys» .entry)) (now («log_values» .entry)) used key feature ⌝ }
+    ensures { λ r. ⌜ r ≡ decided (roomRefusal m (recordsOf (now (keys .entry)) (now (bits .entry)) n) (now (keys .entry)) (now (bits .entry))
+        (now («log_keys» .entry)) (now («log_values» .entry)) used key feature)
+        (newEntry m (recordsOf (now (keys .entry)) (now (bits .entry)) n) used key)
+        (paintPlan m (recordsOf (now (keys .entry)) (now (bits .entry)) n) key feature) ⌝ }
 {
-    let logged = used + entry::entry_length(m, keys, n, key);
+    let count = logging::content_length(m, keys, n, key);
+    let logged = used + entry::places(count);
     if log_keys.len() < logged {
-        return 10;
+        return Decision::Refused(10);
     }
     if log_values.len() < logged {
-        return 10;
+        return Decision::Refused(10);
     }
-    let after = painted_length(m, keys, bits, n, key, feature);
+    let found = plan::plan_of(m, keys, bits, n, key, true, power::power_of_two(feature));
+    let after = plan::length_after(n, 1, found);
     if keys.len() < after {
-        return 9;
+        return Decision::Refused(9);
     }
     if bits.len() < after {
-        return 9;
+        return Decision::Refused(9);
     }
-    0
+    let new = Entry {
+        key,
+        start: used,
+        count,
+    };
+    Decision::Granted(new, found)
 }
 
-// The first refusal of a paint that applies, or 0.
-fn paint_refusal(
+// The first refusal of a paint that applies, or the entry that it logs and its plan.
+fn decide(
     m: u32,
     s: u32,
     keys: &[u32],
@@ -68,34 +73,44 @@ fn paint_refusal(
     used: usize,
     key: u32,
     feature: u32,
-) -> u64
-    ensures { λ r. ⌜ r ≡ paintRefusal m s (now (keys .entry)) (now (bits .entry)) n (now («log_keys» .entry)) (now («log_values» .entry)) used key feature ⌝ }
+) -> Decision
+    ensures { λ r. ⌜ r ≡ decided
+        (paintRefusal m s (now (keys .entry)) (now (bits .entry)) n (now («log_keys» .entry)) (now («log_values» .entry)) used key feature)
+        (newEntry m (recordsOf (now (keys .entry)) (now (bits .entry)) n) used key)
+        (paintPlan m (recordsOf (now (keys .entry)) (now (bits .entry)) n) key feature) ⌝ }
 {
-    let early = checks::first_refusal(m, s, keys, bits, n, log_keys, log_values, used);
+    let early = decision::first_refusal(m, s, keys, bits, n, log_keys, log_values, used);
     if early != 0 {
-        return early;
+        return Decision::Refused(early);
     }
     let block = Key { number: key };
     if !block.is_valid(m) {
-        return 8;
+        return Decision::Refused(8);
     }
     if s <= feature {
-        return 7;
+        return Decision::Refused(7);
     }
-    room_refusal(m, keys, bits, n, log_keys, log_values, used, key, feature)
+    decide_room(m, keys, bits, n, log_keys, log_values, used, key, feature)
 }
 
 // The block gets the feature: a content of one record is put into it. Gives the number of records afterwards.
-fn fill(m: u32, keys: &mut [u32], bits: &mut [u32], n: usize, key: u32, feature: u32) -> usize
+fn fill(
+    m: u32,
+    keys: &mut [u32],
+    bits: &mut [u32],
+    n: usize,
+    key: u32,
+    feature: u32,
+    found: Plan,
+) -> usize
     requires { ⌜ Paintable m (now keys) (now bits) n key feature ⌝ }
+    requires { ⌜ found ≡ paintPlan m (recordsOf (now keys) (now bits) n) key feature ⌝ }
     requires { ⌜ length (painted m (recordsOf (now keys) (now bits) n) key feature) ≤ room (now keys) (now bits) ⌝ }
     ensures { λ r. ⌜ Replaced n (painted m (recordsOf (now (keys .entry)) (now (bits .entry)) n) key feature)
         (now (keys .entry)) (now (bits .entry)) (now (keys .exit)) (now (bits .exit)) r ⌝ }
 {
-    let first = power::power_of_two(feature);
-    let found = plan::plan_of(m, keys, bits, n, key, true, first);
     let content_keys = [key];
-    let content_bits = [first];
+    let content_bits = [power::power_of_two(feature)];
     putting::put(
         m,
         keys,
@@ -125,7 +140,7 @@ pub fn paint(
     ensures { λ r. ⌜ Painted m s (now (keys .entry)) (now (bits .entry)) n (now («log_keys» .entry)) (now («log_values» .entry)) used key feature
         r (now (keys .exit)) (now (bits .exit)) (now («log_keys» .exit)) (now («log_values» .exit)) ⌝ }
 {
-    let refusal = paint_refusal(
+    let decision = decide(
         m,
         s,
         keys,
@@ -137,18 +152,22 @@ pub fn paint(
         key,
         feature,
     );
-    if refusal != 0 {
-        return Edited {
-            refusal,
-            n: 0,
-            used: 0,
-        };
-    }
-    let logged = entry::write_entry(m, keys, bits, n, key, log_keys, log_values, used);
-    let after = fill(m, keys, bits, n, key, feature);
-    Edited {
-        refusal: 0,
-        n: after as u64,
-        used: logged as u64,
+    match decision {
+        Decision::Refused(refusal) => {
+            return Edited {
+                refusal,
+                n: 0,
+                used: 0,
+            };
+        }
+        Decision::Granted(new, found) => {
+            let logged = logging::log_content(m, keys, bits, n, new, log_keys, log_values);
+            let after = fill(m, keys, bits, n, key, feature, found);
+            return Edited {
+                refusal: 0,
+                n: after as u64,
+                used: logged as u64,
+            };
+        }
     }
 }
