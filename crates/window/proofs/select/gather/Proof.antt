@@ -29,7 +29,8 @@ use Rattle.window.proofs.Taken.{Taken, taken-none, taken-small, taken-l
 use Rattle.window.proofs.select.gather.Statement.{statement}
 use Rattle.window.proofs.select.gather.Tie as tie
 
--- from the head of the turn, where the key is x, to the key y nothing was added
+-- from the head of the turn, where the key is x, to the key y nothing was added (the inner loop's invariant knows the answer of the turn's start, not of
+-- the call's)
 record Still (m : ℕ) (p : Picture) (w : Window) (f : ℕ) (answer₀ answer : List ℕ) (count₀ count x y : ℕ) : Type 0 where
   answers : answer ≡ answer₀
   counts : count ≡ count₀
