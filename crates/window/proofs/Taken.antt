@@ -9,11 +9,11 @@ use Rattle.definitions.specs.Window.{selectIn}
 use Rattle.definitions.specs.declared.Window.{Window}
 use Rattle.definitions.specs.Edit.{contentOf}
 use Rattle.window.specs.declared.walk.Spot.{Spot}
-use Rattle.window.specs.Walk.{Clear, FirstFrom}
+use Rattle.window.specs.Walk.{FirstFrom}
 use Rattle.window.specs.Gather.{keysWith, written, Gave}
 use Rattle.window.proofs.Written.{written-none, written-append}
 use Rattle.window.proofs.Lower.{lower}
-use Rattle.window.proofs.Below.{below-block, below-none, below-all, below-rest, below-few}
+use Rattle.window.proofs.Below.{below-block, below-none, below-all, below-few}
 
 module _ (m : ℕ) (p : Picture) (w : Window) (f : ℕ) where
   -- what is counted and written below a key
@@ -40,9 +40,6 @@ module _ (m : ℕ) (p : Picture) (w : Window) (f : ℕ) where
     -- at the end all is taken
     pub taken-end : x ≡ 5 ^ m → Gave (selectIn m p w f) limit 0 answer₀ answer count
     taken-end e = taken-as (selectIn m p w f) (below-all m p w f x e)
-
-    pub taken-rest : x ≤ 5 ^ m → Clear m w x (5 ^ m) → Gave (selectIn m p w f) limit 0 answer₀ answer count
-    taken-rest low clear = taken-as (selectIn m p w f) (below-rest m p w f x low clear)
 
     -- what adds nothing is passed
     pub taken-pass : (y : ℕ) → lower x (selectIn m p w f) ≡ lower y (selectIn m p w f) → Taken limit answer₀ answer count y
