@@ -12,7 +12,7 @@ use Rattle.keys.specs.Block.{pixelKey}
 use Rattle.keys.proofs.Cases.{split}
 use Rattle.keys.proofs.Powers.{five-pos, five-le, two-pos}
 use Rattle.keys.proofs.Interval.{within, nest, one-block}
-use Rattle.keys.proofs.Pixel.{inside, pixelKey-lt}
+use Rattle.keys.proofs.Pixel.{inside}
 use Rattle.definitions.specs.Picture.{Picture}
 use Rattle.definitions.specs.Bits.{hasSlot}
 use Rattle.definitions.specs.Window.{inWindow, isGiven, selectFrom, selectIn}
@@ -21,7 +21,7 @@ use Rattle.definitions.specs.Edit.{contentOf}
 use Rattle.definitions.proofs.SelectMeans.{given-inside, given-feature, given-of, Selected, select-in-exactly}
 use Rattle.definitions.proofs.SelectAscends.{select-in-ascends}
 use Rattle.window.specs.declared.walk.Spot.{Spot}
-use Rattle.window.specs.Walk.{Stands, isWithin, isApart, Clear, Walking, FirstFrom}
+use Rattle.window.specs.Walk.{Stands, isWithin, isApart, Walking, FirstFrom}
 use Rattle.window.specs.Gather.{keysWith}
 use Rattle.window.proofs.Lies.{InSpot, apart-pixel}
 use Rattle.window.proofs.Steps.{Parent, nothing-between}
@@ -128,16 +128,6 @@ module _ (m : ℕ) (p : Picture) (w : Window) (f : ℕ) where
   -- at the end of the map all is
   pub below-all : (x : ℕ) → x ≡ 5 ^ m → lower x (selectIn m p w f) ≡ selectIn m p w f
   below-all x e = lower-all x (select-in-ascends m p w f) (omega arith)
-
-  -- and also where nothing is left of the window
-  pub below-rest : (x : ℕ) → x ≤ 5 ^ m → Clear m w x (5 ^ m) → lower x (selectIn m p w f) ≡ selectIn m p w f
-  below-rest x low clear =
-      lower-gap x (5 ^ m) (selectIn m p w f) low
-      (λ z i from before.
-      let t = select-in-exactly p w f m .0 i in
-      selected-pixel t
-      (λ in-window over under. clear (t .row) (t .column) in-window (omega arith) (pixelKey-lt m (t .row) (t .column))))
-      ∙ below-all (5 ^ m) refl
 
   -- there are few keys
   pub below-few : (x : ℕ) → m ≤ 10 → length (lower x (selectIn m p w f)) ≤ 9765625

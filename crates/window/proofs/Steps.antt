@@ -18,7 +18,7 @@ use Rattle.definitions.specs.declared.Window.{Window}
 use Rattle.window.specs.declared.walk.Spot.{Spot}
 use Rattle.window.specs.declared.walk.Found.{Found}
 use Rattle.window.specs.declared.walk.Found.the-variants.{At, Gone}
-use Rattle.window.specs.Walk.{Stands, Follows, isWithin, isApart, firstQuadrant, Clear, Parting, Walking, FirstFrom, Reached}
+use Rattle.window.specs.Walk.{Stands, Follows, isWithin, isApart, firstQuadrant, Clear, Parting, Walking}
 use Rattle.window.proofs.Lies.{within-inside, not-within, not-apart, InSpot, apart-pixel, window-pixel}
 
 -- two spots with one key have the same numbers
@@ -48,10 +48,6 @@ pub in-spot : {m : ℕ} {s : Spot} (row column : ℕ) → Stands m s → row < 2
 in-spot row column h low narrow from until =
     let i = back row column (h .block) low narrow (record { from = from; until = omega (arith, h .step) }) in
     omega (arith, h .side)
-
--- what is clear up to a key and from it on is clear
-pub clear-join : (m : ℕ) (w : Window) (x y z : ℕ) → Clear m w x y → Clear m w y z → Clear m w x z
-clear-join m w x y z a b row column i from until = split (pixelKey m row column) y (a row column i from) (λ past. b row column i past until)
 
 -- nothing is clear by itself
 pub clear-none : (m : ℕ) (w : Window) (x : ℕ) → Clear m w x x
@@ -145,13 +141,6 @@ follows-gone m x r h e = subst (λ y. Follows m x y) e h
 -- after a block fewer keys are left
 pub rises : {m : ℕ} {s : Spot} → Stands m s → (x : ℕ) → s .key < x → 5 ^ m - x < 5 ^ m - s .key
 rises h x after = let k = some-keys h in omega arith
-
--- what is reached is the first largest block, or the end
-pub reached-at : (m : ℕ) (w : Window) (x : ℕ) (r : Found) (t : Spot) → Reached m w x r → r ≡ At t → FirstFrom m w x t
-reached-at m w x r t h e = subst (λ y. Reached m w x y) e h
-
-pub reached-gone : (m : ℕ) (w : Window) (x : ℕ) (r : Found) → Reached m w x r → r ≡ Gone → Clear m w x (5 ^ m)
-reached-gone m w x r h e = subst (λ y. Reached m w x y) e h
 
 -- the walk begins at the root
 pub walking-root : (m : ℕ) (w : Window) (s : Spot) → Stands m s → s .key ≡ 0 → Walking m w s
