@@ -32,6 +32,7 @@ below-two P p₀ p₁ zero h = p₀
 below-two P p₀ p₁ (suc zero) h = p₁
 below-two P p₀ p₁ (suc (suc a)) h = absurd (omega arith)
 
+-- and so below 4
 below-four : (P : ℕ → Type 0) → P 0 → P 1 → P 2 → P 3 → (a : ℕ) → a < 4 → P a
 below-four P p₀ p₁ p₂ p₃ zero h = p₀
 below-four P p₀ p₁ p₂ p₃ (suc zero) h = p₁

@@ -59,7 +59,7 @@ fn count_quad(raster: &[u8], side: usize, row: usize, column: usize) -> Tally
     joined(nw, ne, sw, se)
 }
 
-// A block of 4 by 4 pixels.
+// A block of 4 by 4 pixels: one record where they are alike.
 fn count_sixteen(raster: &[u8], side: usize, row: usize, column: usize) -> Tally
     requires { ⌜ Inside (now raster) side 2 row column ⌝ }
     ensures { λ r. ⌜ Tallied (pictureOfRows side (now (raster .entry))) 2 row column (r .bits) (r .count) ⌝ }
@@ -90,7 +90,7 @@ fn count_eight(raster: &[u8], side: usize, row: usize, column: usize) -> Tally
     joined(nw, ne, sw, se)
 }
 
-// A block of at most 8 by 8 pixels, with no call of itself: most of the time is spent here.
+// A block of at most 8 by 8 pixels, with no call of itself: for so few pixels a recursive call costs more than the work.
 fn count_low(raster: &[u8], side: usize, height: u32, row: usize, column: usize) -> Tally
     requires { ⌜ Inside (now raster) side height row column × (height < 4) ⌝ }
     ensures { λ r. ⌜ Tallied (pictureOfRows side (now (raster .entry))) height row column (r .bits) (r .count) ⌝ }

@@ -38,7 +38,7 @@ pub fn pixel(raster: &[u8], side: usize, row: usize, column: usize) -> u32
     power::power_of_two(wide(raster[place]))
 }
 
-// The pixels of a block of 2 by 2 are alike.
+// The pixels of a block of 2 by 2 are alike. Nothing is promised of a no: such a block is worked in full, which is right for every block.
 pub fn quad_alike(raster: &[u8], side: usize, row: usize, column: usize) -> bool
     requires { ⌜ Inside (now raster) side 1 row column ⌝ }
     ensures { λ r. ⌜ (r ≡ true → oneFeature (pictureOfRows side (now (raster .entry))) 1 row column ≡ true) ⌝ }
@@ -52,7 +52,7 @@ pub fn quad_alike(raster: &[u8], side: usize, row: usize, column: usize) -> bool
     (a == b) & (a == c) & (a == d)
 }
 
-// Four bytes from a place on, as the digits of one number. Bytes side by side put together so are one read.
+// Four bytes from a place on, as the digits of one number to the base 256: compiled, that is one read.
 fn word(raster: &[u8], at: usize) -> u32
     requires { ⌜ at + 3 < length (now raster) ⌝ }
     ensures { λ r. ⌜ r ≡ wordAt (now (raster .entry)) at ⌝ }
@@ -64,7 +64,7 @@ fn word(raster: &[u8], at: usize) -> u32
     a + 256 * b + 65536 * c + 16777216 * d
 }
 
-// The pixels of a block of 4 by 4 are alike: each row is the number whose four digits are the first pixel.
+// The pixels of a block of 4 by 4 are alike: each row is the first pixel times the number of four digits 1. Nothing is promised of a no.
 pub fn sixteen_alike(raster: &[u8], side: usize, row: usize, column: usize) -> bool
     requires { ⌜ Inside (now raster) side 2 row column ⌝ }
     ensures { λ r. ⌜ (r ≡ true → oneFeature (pictureOfRows side (now (raster .entry))) 2 row column ≡ true) ⌝ }

@@ -65,7 +65,7 @@ fn write_pixel(raster: &[u8], side: usize, row: usize, column: usize, place: usi
     }
 }
 
-// A block of 2 by 2 pixels. Most are alike in a map of larger patches, and then no bits are joined.
+// A block of 2 by 2 pixels: nothing is below it where they are alike.
 fn write_quad(
     raster: &[u8],
     side: usize,
@@ -91,7 +91,7 @@ fn write_quad(
     write_four(key, 1, place, nw, ne, sw, se, keys, bits)
 }
 
-// A block of 4 by 4 pixels.
+// A block of 4 by 4 pixels: nothing is below it where they are alike.
 fn write_sixteen(
     raster: &[u8],
     side: usize,
@@ -148,7 +148,7 @@ fn write_eight(
     write_four(key, 25, place, nw, ne, sw, se, keys, bits)
 }
 
-// A block of at most 8 by 8 pixels, with no call of itself: most of the time is spent here.
+// A block of at most 8 by 8 pixels, with no call of itself: for so few pixels a recursive call costs more than the work.
 fn write_low(
     raster: &[u8],
     side: usize,
