@@ -35,7 +35,7 @@
  * every call at m = HLQ_DEEPEST_M, and rounded up.)
  * Threads: calls may run in parallel, as long as none writes a buffer that another one uses. The
  * archive has no data of its own.
- * Symbols: the archive wants memset, and nothing else.
+ * Symbols: the archive wants memcpy and memset, and nothing else.
  */
 #ifndef PROWCURL_H
 #define PROWCURL_H

@@ -5,7 +5,7 @@
                                   types, order), every struct with its fields, the limits of m and s, and the order of
                                   the refusals at each call, which is the table in crates/definitions/specs/Calls
   tests/boundary.py --archive A   the header against the archive: it defines the declared calls and no other hlq_ name,
-                                  wants memset alone, and has no data that two calls could share
+                                  wants the symbols that the header names, and has no data that two calls could share
   tests/boundary.py --shared S    the header against the shared library: it exports the declared calls alone
   tests/boundary.py --self-test   makes every small change of one side alone: a name, a type, an order, an item more or
                                   less, in every call, struct, limit and table; each must be found
@@ -203,8 +203,8 @@ def check_archive(archive):
     exported = {name for name in defined if name.startswith("hlq_")}
     found += [f"{name}: declared, and not in the archive" for name in sorted(declared - exported)]
     found += [f"{name}: in the archive, and not declared" for name in sorted(exported - declared)]
-    said = re.search(r"the archive wants (\w+), and nothing else", HEADER.read_text())
-    if not said or wanted - defined != {said.group(1)}:
+    said = re.search(r"the archive wants (\w+(?: and \w+)*), and nothing else", HEADER.read_text())
+    if not said or wanted - defined != set(said.group(1).split(" and ")):
         found.append(f"the archive wants {sorted(wanted - defined)}, and the header says another thing")
     for line in tool("size", archive).splitlines()[1:]:
         data, bss = line.split()[1:3]
