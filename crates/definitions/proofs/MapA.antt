@@ -118,8 +118,10 @@ table =
     ∷ row (takeBackBits 2 3 paintedKeys paintedBits 5 paintedLogKeys paintedLogValues 2) (bitsA 1)
     ∷ row (takeBackLogKeys 2 3 paintedKeys paintedBits 5 paintedLogKeys paintedLogValues 2) (0 ∷ 0 ∷ 77 ∷ [])
     ∷ row (takeBackLogValues 2 3 paintedKeys paintedBits 5 paintedLogKeys paintedLogValues 2) (0 ∷ 0 ∷ 77 ∷ [])
-    -- A11: paint 33 with 0, in room 12 and in room 13
+    -- A11: paint 33 with 0, in room 12, where all stays as it was, and in room 13
     ∷ row (of-edited (paint 2 3 (keysA 3) (bitsA 3) 9 (unwritten 2) (unwritten 2) 0 (key (3 ∷ 3 ∷ [])) 0)) (9 ∷ 0 ∷ 0 ∷ [])
+    ∷ row (paintBits 2 3 (keysA 3) (bitsA 3) 9 (unwritten 2) (unwritten 2) 0 (key (3 ∷ 3 ∷ [])) 0) (bitsA 3)
+    ∷ row (paintLogKeys 2 3 (keysA 3) (bitsA 3) 9 (unwritten 2) (unwritten 2) 0 (key (3 ∷ 3 ∷ [])) 0) (unwritten 2)
     ∷ row (of-edited (paint 2 3 (keysA 4) (bitsA 4) 9 (unwritten 2) (unwritten 2) 0 (key (3 ∷ 3 ∷ [])) 0)) (0 ∷ 13 ∷ 2 ∷ [])
     -- A12: paint 20 with 2, with 6 and with 5 free in the log
     ∷ row (of-edited (paint 2 3 (keysA 0) (bitsA 0) 9 (unwritten 6) (unwritten 6) 0 (key (2 ∷ 0 ∷ [])) 2)) (0 ∷ 5 ∷ 6 ∷ [])

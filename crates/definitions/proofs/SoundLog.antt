@@ -152,9 +152,3 @@ sound-parts m s log sound some = sym (divides-step (length log) m s log some) �
 -- a sound log with records ends in an entry
 pub sound-ends : (m s : ℕ) (log : List Record) → isSound m s log ≡ true → 0 < length log → EndsInEntry m s log
 sound-ends m s log sound some = ends-in-entry m s log (and-left (lastIsEntry m s log) _ (sound-parts m s log sound some))
-
--- what stands before the last entry of a sound log is sound
-pub sound-before : (m s : ℕ) (log : List Record) → isSound m s log ≡ true → 0 < length log → isSound m s (beforeLast log) ≡ true
-sound-before m s log sound some =
-    sound-exactly m s (beforeLast log) .1
-    (divides-entries (length log) m s (beforeLast log) (and-right (lastIsEntry m s log) _ (sound-parts m s log sound some)))

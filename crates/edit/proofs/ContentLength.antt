@@ -20,7 +20,7 @@ use Rattle.definitions.specs.Calls.Paint.{gained}
 use Rattle.list.specs.Own.{OwnList}
 use Rattle.list.specs.Among.{keysUpTo, keysBelow, placeAmong}
 use Rattle.edit.specs.Content.{partAmong}
-use Rattle.edit.proofs.Calls.{gained-length}
+use Rattle.edit.proofs.Gained.{gained-length}
 use Rattle.put.proofs.PlanPlaces.{part-until, part-length}
 
 -- at most all keys are below x

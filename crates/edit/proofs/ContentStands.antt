@@ -1,5 +1,5 @@
 -- What is logged of a block by its standing: a run of the list's records where it is listed, one record where it lies inside a leaf. Rests on
--- Calls and ContentLength.
+-- Gained and ContentLength.
 use Prim.Native.Nat.{ℕ, _+_, _^_, _≤_, _<_}
 use mathlib.Core.Path.{_≡_, sym, _∙_, ap, ap₂, subst}
 use mathlib.Core.Bool.{Bool, true, false, cond}
@@ -29,7 +29,7 @@ use Rattle.log.specs.declared.entry.Entry.{Entry}
 use Rattle.log.specs.Entries.{run, Loggable, Logged}
 use Rattle.edit.specs.PaintCall.{Fresh}
 use Rattle.put.proofs.Places.{place-lt}
-use Rattle.edit.proofs.Calls.{gained-in}
+use Rattle.edit.proofs.Gained.{gained-in}
 use Rattle.put.proofs.PlanTop.{records-length}
 use Rattle.edit.proofs.ContentLength.{part-there, gained-size}
 

@@ -1,5 +1,5 @@
 pub mod Content
-pub mod Calls
+pub mod Gained
 pub mod ContentLength
 pub mod ContentStands
 pub mod EditCallTables

@@ -25,13 +25,7 @@ refused-left m s b (painting κ f) h = paint-left m s b κ f h
 refused-left m s b takingBack h = back-left m s b h
 refused-left m s b emptying h = absurd (h (empty-answer m s b))
 
--- a run that goes on begins where the first part ended
-pub run-append : (m s : ℕ) (b : Buffers) (calls more : List Call) → run m s b (calls ++ more) ≡ run m s (run m s b calls) more
-unfolding run
-run-append m s b [] more = refl
-run-append m s b (c ∷ calls) more = run-append m s (after m s b c) calls more
-
--- and so do the paints
+-- the paints of a run that goes on begin where the first part ended
 pub kept-append : (m s : ℕ) (b : Buffers) (k : Kept) (calls more : List Call)
     → kept m s b k (calls ++ more) ≡ kept m s (run m s b calls) (kept m s b k calls) more
 unfolding run kept

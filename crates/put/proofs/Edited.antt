@@ -18,8 +18,7 @@ use Rattle.definitions.proofs.Ascending.{Ascending, widen}
 use Rattle.put.specs.Renew.{renew}
 use Rattle.put.specs.Put.{planOf, lengthAfter, exchanged, renewed, edited}
 use Rattle.put.specs.declared.plan.Plan.{Plan}
-use Rattle.put.proofs.Way.{Way, way-of, steps-height}
-use Rattle.put.proofs.Outside.{Outside}
+use Rattle.put.proofs.Way.{way-of, steps-height}
 use Rattle.put.proofs.Put.{put-outside, put-content}
 use Rattle.put.proofs.Context.{before, after, spliced, context}
 use Rattle.put.proofs.Places.{value-seam}
@@ -121,12 +120,6 @@ module _ (p p′ : Picture) {m κ : ℕ} {content : List Record} {plan : Plan} (
   -- and the levels lead up to the root at most
   pub plan-levels : plan .top + plan .levels ≤ m
   plan-levels = let e = steps-height (s .way) in let f = s .height-is in omega arith
-
--- the model gives the list of the new picture, where the content is the new picture's at the block outside which the pictures are equal
-pub edited-is : (p p′ : Picture) {m k r c κ : ℕ} → Way m 0 0 0 k r c κ → Outside p p′ k r c
-    → edited m (listOf p m 0 0 0) κ (listOf p′ k r c κ) ≡ listOf p′ m 0 0 0
-unfolding edited
-edited-is p p′ w out = renewed-is p p′ (site p p′ w out)
 
 -- for put: the site of a picture's content in a block of another picture
 module _ (m κ : ℕ) (q p : Picture) (valid : validKey m κ ≡ true) where

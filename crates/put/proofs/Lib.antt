@@ -14,7 +14,6 @@ pub mod Field
 pub mod Inside
 pub mod Choice
 pub mod Site
-pub mod Splice
 pub mod SetBits
 pub mod Bounds
 pub mod ByKeys

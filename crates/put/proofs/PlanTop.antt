@@ -1,25 +1,21 @@
--- The plan that the code finds is the model's for every content of which it was told the truth; so what Ready says of the plan holds of the
--- code's, and the length afterwards is the model's. Rests on Ready.
+-- The plan that the code finds is the model's for every content of which it was told the truth, and so is the length afterwards. Rests on Bounds.
 use Prim.Native.Nat.{ℕ, _+_, _-_, _*_, _≤_}
-use mathlib.Core.Path.{_≡_, sym, _∙_, ap, ap₂, subst}
+use mathlib.Core.Path.{_≡_, sym, _∙_, ap, ap₂}
 use mathlib.Core.Bool.{Bool, true, false, cond}
 use mathlib.Core.List.{List}
 use native.Mathlib.Omega.{arith}
 use lib.ListN.{length}
-use Rattle.keys.specs.Key.{validKey, heightOf}
+use Rattle.keys.specs.Key.{heightOf}
 use Rattle.keys.proofs.Cases.{decide}
 use Rattle.keys.proofs.Powers.{height-le}
-use Rattle.definitions.specs.Picture.{Picture}
 use Rattle.definitions.specs.List.{Record}
 use Rattle.definitions.specs.Read.{recordsOf}
-use Rattle.definitions.specs.Edit.{contentOf}
-use Rattle.list.specs.Own.{OwnList, shownBy}
+use Rattle.list.specs.Own.{OwnList}
 use Rattle.list.proofs.Own.{own-length}
 use Rattle.put.specs.Climb.{climb}
 use Rattle.put.specs.Put.{isLeaf, firstBits, topOf, topFor, planAt, planOf, lengthAfter}
 use Rattle.put.specs.declared.plan.Plan.{Plan}
 use Rattle.put.proofs.Bounds.{climb-bounds}
-use Rattle.put.proofs.Ready.{Ready, ready-for}
 
 -- for a content of one record climbing decides
 pub top-leaf : (m : ℕ) (l : List Record) (κ b : ℕ) (leaf : Bool) → leaf ≡ true → climb l κ b (m - heightOf m κ) (heightOf m κ) ≡ topFor m l κ leaf b
@@ -51,19 +47,6 @@ pub plan-for : (m : ℕ) (l : List Record) (κ : ℕ) (content : List Record) (l
     → planAt m l κ (topFor m l κ leaf b) ≡ planOf m l κ content
 unfolding planOf topOf
 plan-for m l κ content leaf b e f = ap₂ (λ t x. planAt m l κ (topFor m l κ t x)) (sym e) (sym f)
-
--- so the code's plan is ready for every content of the block
-pub plan-ready : {m n κ : ℕ} {keys bits : List ℕ} (q : Picture) (content : List Record) (leaf : Bool) (b : ℕ) (plan : Plan)
-    → OwnList m keys bits n
-    → validKey m κ ≡ true
-    → content ≡ contentOf m q κ
-    → isLeaf content ≡ leaf
-    → firstBits content ≡ b
-    → plan ≡ planAt m (recordsOf keys bits n) κ (topFor m (recordsOf keys bits n) κ leaf b)
-    → Ready m κ (recordsOf keys bits n) content plan
-plan-ready {m} {n} {κ} {keys} {bits} q content leaf b plan own valid is e f found =
-    subst (Ready m κ (recordsOf keys bits n) content) (sym (found ∙ plan-for m (recordsOf keys bits n) κ content leaf b e f))
-    (ready-for m κ q (shownBy m keys bits n) (recordsOf keys bits n) content valid (own .own) is)
 
 -- an accepted list has as many records as it says
 pub records-length : {m n : ℕ} {keys bits : List ℕ} → OwnList m keys bits n → length (recordsOf keys bits n) ≡ n

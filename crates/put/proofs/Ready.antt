@@ -1,7 +1,7 @@
 -- What code that follows a plan may rely on, said of the list, the content and the plan alone: the places are there, the lengths are known, and
 -- the keys ascend while bits are renewed. Rests on Edited and Bounds.
-use Prim.Native.Nat.{ℕ, _+_, _-_, _*_, _^_, _≤_}
-use mathlib.Core.Path.{_≡_, refl, sym, _∙_, ap, subst₂}
+use Prim.Native.Nat.{ℕ, _+_, _-_, _^_, _≤_}
+use mathlib.Core.Path.{_≡_, refl, sym, _∙_, subst₂}
 use mathlib.Core.Bool.{true}
 use mathlib.Core.List.{List}
 use native.Mathlib.Omega.{arith}
@@ -13,7 +13,7 @@ use Rattle.definitions.specs.List.{Record, listOfPicture, keysOf}
 use Rattle.definitions.specs.Edit.{put, contentOf}
 use Rattle.definitions.proofs.Ascending.{Ascending}
 use Rattle.definitions.proofs.ListOf.{list-some}
-use Rattle.put.specs.Put.{isLeaf, firstBits, topFor, topOf, planAt, planOf, lengthAfter, inserted, exchanged}
+use Rattle.put.specs.Put.{isLeaf, firstBits, topFor, topOf, planAt, planOf, lengthAfter, exchanged}
 use Rattle.put.specs.declared.plan.Plan.{Plan}
 use Rattle.put.proofs.Bounds.{climb-bounds}
 use Rattle.put.proofs.Edited.{put-site, exchanged-ascends, exchanged-first, exchanged-length, length-is, plan-fits, plan-levels}
@@ -23,7 +23,6 @@ pub record Ready (m κ : ℕ) (l content : List Record) (plan : Plan) : Type 0 w
   pub high : plan .top + plan .levels ≤ m
   pub some : 1 ≤ plan .old
   pub fits : plan .start + plan .old ≤ length l
-  pub in-length : length (inserted l κ content plan) ≡ 4 * plan .levels + length content
   pub out-length : length (exchanged l κ content plan) ≡ lengthAfter l content plan
   pub ascends : Ascending 0 (5 ^ m) (exchanged l κ content plan)
   pub first : getD (keysOf (exchanged l κ content plan)) 0 0 ≡ 0
@@ -54,7 +53,6 @@ ready m κ q p valid =
       high = plan-levels p (put m κ q p) s;
       some = omega arith;
       fits = plan-fits p (put m κ q p) s;
-      in-length = ap length (s .new-is) ∙ s .new-length;
       out-length = exchanged-length p (put m κ q p) s ∙ sym (length-is p (put m κ q p) s);
       ascends = exchanged-ascends p (put m κ q p) s;
       first = exchanged-first p (put m κ q p) s;
