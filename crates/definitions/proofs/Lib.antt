@@ -20,6 +20,8 @@ pub mod SelectMeans
 pub mod SelectAscends
 pub mod SelectAgree
 pub mod WindowScan
+pub mod PixelSums
+pub mod CountOf
 pub mod LastEntry
 pub mod SoundLog
 pub mod Waivers
