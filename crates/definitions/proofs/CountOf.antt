@@ -1,19 +1,20 @@
 -- How many pixels have a feature: a block's count is the sum over its four quadrants, it depends only on the block's pixels, and a block of one
 -- feature has all its pixels of that one and none of another. Rests on PixelSums.
-use Prim.Native.Nat.{ℕ, zero, suc, _+_, _*_, _^_}
+use Prim.Native.Nat.{ℕ, zero, suc, _+_, _*_, _^_, _≤_}
 use mathlib.Core.Path.{_≡_, refl, sym, _∙_, ap, ap₂}
 use mathlib.Core.Bool.{true, cond}
 use mathlib.Core.List.{List, [], _∷_, _++_}
-use native.Mathlib.Nat.{mul-one, mul-zero, zero-add}
+use native.Mathlib.Nat.{mul-one, mul-zero, zero-add, pow-suc}
 use native.Mathlib.Omega.{arith}
 use lib.Dec.{eqb}
 use borrow.Author.Tests.{eq-eqb, ne-eqb}
+use Rattle.keys.proofs.Cases.{decide}
 use Rattle.definitions.specs.Picture.{Picture, oneFeature}
 use Rattle.definitions.specs.Window.{featuresOfRow, featuresOfRows}
 use Rattle.definitions.specs.Area.{countOf, pixelsWith}
 use Rattle.definitions.proofs.Pixels.{Agree}
 use Rattle.definitions.proofs.Features.{one-to}
-use Rattle.definitions.proofs.PixelSums.{sumRow, sumRows, sumPixels, sum-suc, sum-block, sum-same, sum-constant}
+use Rattle.definitions.proofs.PixelSums.{sumRow, sumRows, sumPixels, sum-zero, sum-suc, sum-block, sum-same, sum-constant}
 
 -- 1 at a pixel that has the feature, 0 at another
 abbrev pub oneAt : Picture → ℕ → ℕ → ℕ → ℕ
@@ -79,3 +80,18 @@ module _ (p : Picture) (k r c : ℕ) (one : oneFeature p k r c ≡ true) where
       pixels-sum p f k r c
       ∙ sum-constant (oneAt p f) 0 k r c (λ a b w. ap (λ x. cond x 1 0) (ne-eqb _ _ (λ e. other (sym e ∙ one-to p k r c one a b w))))
       ∙ mul-zero (4 ^ k)
+
+one-most : (p : Picture) (f r c : ℕ) → oneAt p f r c ≤ 1
+one-most p f r c = decide (eqb (p r c) f) (λ e. rw e (omega arith)) (λ e. rw e (omega arith))
+
+-- no feature has more pixels than the block
+pub pixels-most : (p : Picture) (k r c f : ℕ) → pixelsWith p k r c f ≤ 4 ^ k
+pixels-most p zero r c f = let e = pixels-sum p f zero r c in let g = sum-zero (oneAt p f) r c in let h = one-most p f r c in omega arith
+pixels-most p (suc k) r c f =
+    let e = pixels-quadrants p f k r c in
+    let g = pow-suc 4 k in
+    let nw = pixels-most p k r c f in
+    let ne = pixels-most p k r (c + 2 ^ k) f in
+    let sw = pixels-most p k (r + 2 ^ k) c f in
+    let se = pixels-most p k (r + 2 ^ k) (c + 2 ^ k) f in
+    omega arith

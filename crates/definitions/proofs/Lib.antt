@@ -22,6 +22,8 @@ pub mod SelectAgree
 pub mod WindowScan
 pub mod PixelSums
 pub mod CountOf
+pub mod AreaOf
+pub mod AreasAddUp
 pub mod LastEntry
 pub mod SoundLog
 pub mod Waivers
