@@ -24,6 +24,7 @@ pub mod PixelSums
 pub mod CountOf
 pub mod AreaOf
 pub mod AreasAddUp
+pub mod SummaryOf
 pub mod LastEntry
 pub mod SoundLog
 pub mod Waivers

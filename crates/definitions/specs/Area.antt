@@ -1,6 +1,6 @@
 -- Areas and the summary (document 02, item 1): how many pixels of a window or of a block have a feature, each counted by a scan of the pixels, and
 -- the counts of all blocks of one level in key order. Rests on Window.
-use Prim.Native.Nat.{ℕ, zero, suc, _+_, _-_, _*_, _^_, min}
+use Prim.Native.Nat.{ℕ, zero, suc, _+_, _-_, _*_, _/_, _%_, _^_, min}
 use mathlib.Core.Bool.{Bool, true, false, cond, not, _&&_}
 use mathlib.Core.List.{List, [], _∷_, _++_}
 use lib.ListN.{length}
@@ -50,6 +50,15 @@ summaryBelow s p k (suc d) row column =
 -- the summary of a picture of side 2 ^ m
 unfoldable pub summaryOf : ℕ → ℕ → Picture → List ℕ
 summaryOf m s p = summaryBelow s p (summaryHeight m) (summaryLevel m) 0 0
+
+-- the key of block number b, counted in key order from 0, among the blocks of height k that are d levels below the block whose key is 0
+unfoldable pub keyBelow : ℕ → ℕ → ℕ → ℕ
+keyBelow k zero b = 0
+keyBelow k (suc d) b = (b / 4 ^ d + 1) * 5 ^ (k + d) + keyBelow k d (b % 4 ^ d)
+
+-- the key of block number b of the summary
+unfoldable pub blockKey : ℕ → ℕ → ℕ
+blockKey m b = keyBelow (summaryHeight m) (summaryLevel m) b
 
 -- how many places a summary has
 abbrev pub summaryLength : ℕ → ℕ → ℕ
