@@ -1,6 +1,7 @@
 mod Vectors
 mod MapA
 mod Orders
+mod AreaVectors
 pub mod Within
 pub mod Pixels
 pub mod Features
