@@ -27,7 +27,7 @@ unfolding sumBelow countOf
 nothing-below zero = refl
 nothing-below (suc s) = let e = nothing-below s in omega arith
 
-same-below : (g h : ℕ → ℕ) (s : ℕ) → ((f : ℕ) → g f ≡ h f) → sumBelow g s ≡ sumBelow h s
+pub same-below : (g h : ℕ → ℕ) (s : ℕ) → ((f : ℕ) → g f ≡ h f) → sumBelow g s ≡ sumBelow h s
 unfolding sumBelow
 same-below g h zero e = refl
 same-below g h (suc s) e = ap₂ (λ x y. x + y) (same-below g h s e) (e s)

@@ -27,6 +27,8 @@ pub mod AreaOf
 pub mod AreasAddUp
 pub mod SummaryOf
 pub mod SameNumbers
+pub mod SummaryAddsUp
+pub mod CountsApart
 pub mod LastEntry
 pub mod SoundLog
 pub mod Waivers
