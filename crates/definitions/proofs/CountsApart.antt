@@ -1,8 +1,8 @@
 -- What is put into a block leaves the counts of every block apart from it: pictures that are equal outside one block agree on each block whose keys
 -- come before or after its own. Rests on Put and CountOf.
 use Prim.Native.Nat.{ℕ, _+_, _^_, _≤_}
-use mathlib.Core.Path.{_≡_, sym, _∙_}
-use mathlib.Core.Bool.{true, false}
+use mathlib.Core.Path.{_≡_}
+use mathlib.Core.Bool.{false}
 use mathlib.Core.Logic.{_⊎_, ⊎-elim}
 use native.Mathlib.Omega.{arith}
 use Rattle.keys.specs.Block.{inBlock}

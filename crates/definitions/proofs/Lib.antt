@@ -29,6 +29,7 @@ pub mod SummaryOf
 pub mod SameNumbers
 pub mod SummaryAddsUp
 pub mod CountsApart
+pub mod SelectArea
 pub mod LastEntry
 pub mod SoundLog
 pub mod Waivers

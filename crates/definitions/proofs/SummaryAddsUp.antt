@@ -7,6 +7,7 @@ use native.Mathlib.Omega.{arith}
 use Rattle.definitions.specs.Picture.{Picture}
 use Rattle.definitions.specs.Area.{pixelsWith, countsFrom, summaryBelow, summaryOf, summaryLevel, summaryHeight}
 use Rattle.definitions.proofs.Within.{Every}
+use Rattle.definitions.proofs.PixelSums.{same-four}
 use Rattle.definitions.proofs.CountOf.{pixels-quadrants}
 use Rattle.definitions.proofs.AreasAddUp.{sumBelow, same-below, add-below, pixels-add-up}
 use Rattle.definitions.proofs.SummaryOf.{summary-zero, summary-suc}
@@ -66,9 +67,6 @@ below-total s p k (suc d) r c =
     ∙ sym (four-below (pixelsWith p (k + d) r c) (pixelsWith p (k + d) r (c + e)) (pixelsWith p (k + d) (r + e) c) (pixelsWith p (k + d) (r + e) (c + e)) s)
     ∙ same-below _ _ s (λ f. sym (pixels-quadrants p f (k + d) r c))
     ∙ ap (λ h. sumBelow (pixelsWith p h r c) s) (sym (add-suc k d))
-  where
-    same-four : {a b c d a′ b′ c′ d′ : ℕ} → a ≡ a′ → b ≡ b′ → c ≡ c′ → d ≡ d′ → a + b + (c + d) ≡ a′ + b′ + (c′ + d′)
-    same-four e f h i = omega arith
 
 -- all numbers of the summary add up to T * T
 pub summary-adds-up : (m s : ℕ) (p : Picture) → Every (λ r c. p r c < s) m 0 0 → total (summaryOf m s p) ≡ 2 ^ m * 2 ^ m
