@@ -2,6 +2,7 @@ mod Vectors
 mod MapA
 mod Orders
 mod Corners
+mod AreaVectors
 pub mod Within
 pub mod Pixels
 pub mod Features
@@ -21,6 +22,15 @@ pub mod SelectMeans
 pub mod SelectAscends
 pub mod SelectAgree
 pub mod WindowScan
+pub mod PixelSums
+pub mod CountOf
+pub mod AreaOf
+pub mod AreasAddUp
+pub mod SummaryOf
+pub mod SameNumbers
+pub mod SummaryAddsUp
+pub mod CountsApart
+pub mod SelectArea
 pub mod LastEntry
 pub mod SoundLog
 pub mod Waivers
