@@ -16,6 +16,7 @@ pub mod Lower
 pub mod Skip
 pub mod LeafKeys
 pub mod Below
+pub mod Few
 pub mod Taken
 pub mod Tables
 pub mod Answers

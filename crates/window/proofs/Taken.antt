@@ -44,6 +44,10 @@ module _ (m : ℕ) (p : Picture) (w : Window) (f : ℕ) where
     pub taken-rest : x ≤ 5 ^ m → Clear m w x (5 ^ m) → Gave (selectIn m p w f) limit 0 answer₀ answer count
     taken-rest low clear = taken-as (selectIn m p w f) (below-rest m p w f x low clear)
 
+    -- what adds nothing is passed
+    pub taken-pass : (y : ℕ) → lower x (selectIn m p w f) ≡ lower y (selectIn m p w f) → Taken limit answer₀ answer count y
+    taken-pass y e = record { counted = t .counted ∙ ap length e; wrote = t .wrote ∙ ap (written limit answer₀ 0) e }
+
     -- a largest block adds what it gives
     pub taken-block : {s : Spot} (g : FirstFrom m w x s) (answer₁ : List ℕ) (r : ℕ)
         → Gave (keysWith (2 ^ f) (contentOf m p (s .key))) limit count answer answer₁ r

@@ -1,165 +1,233 @@
--- `report::report_in` meets its contract: where the walk stands, the union has the slots of the window's pixels before the key, and no others. The
--- key rises from turn to turn.
-use Prim.Native.Nat.{ℕ, _+_, _-_, _^_, _<_}
-use mathlib.Core.Path.{_≡_, refl, sym, subst}
-use mathlib.Core.Bool.{true}
+-- `report::report_in` meets its contract: where the walk stands, the union has the slots of the window's pixels before the key, and no others. Within a
+-- turn it goes down to a block that its record settles; the key rises from turn to turn.
+use Prim.Native.Nat.{ℕ, _+_, _-_, _^_, _≤_, _<_}
+use mathlib.Core.Path.{_≡_, refl, sym, _∙_, subst}
+use mathlib.Core.Bool.{true, false}
+use mathlib.Core.Logic.{⊎-elim}
 use native.Mathlib.Omega.{arith}
+use mathlib.Core.List.{List}
 use lib.ListN.{length}
-use lib.Bits.{bitOr}
 use borrow.Author.Needs.{needs}
+use Rattle.keys.proofs.Powers.{five-le}
 use Rattle.definitions.specs.Picture.{Picture}
-use Rattle.definitions.specs.Window.{isWindow, reportIn}
+use Rattle.definitions.specs.Window.{isWindow}
 use Rattle.definitions.specs.declared.Window.{Window}
 use Rattle.list.specs.Own.{shownBy}
+use Rattle.list.specs.Sorted.{Near}
 use Rattle.list.proofs.Own.{own-ascends}
 use Rattle.window.specs.declared.walk.Spot.{Spot}
-use Rattle.window.specs.Walk.{Stands, Clear, Walking, FirstFrom}
-use Rattle.window.proofs.Steps.{some-keys, follows-at, follows-gone, reached-at, reached-gone, walking-root, walking-after, rises}
-use Rattle.window.proofs.Asked.{Asked, asked-some, asked-count}
-use Rattle.window.proofs.Seen.{bitsAt}
-use Rattle.window.proofs.Gathered.{Gathered, gathered-none, gathered-clear, gathered-block, gathered-end}
+use Rattle.window.specs.Walk.{Stands, isApart, firstQuadrant}
+use Rattle.window.proofs.Lies.{small}
+use Rattle.window.proofs.Steps.{Parent, some-keys, clear-apart, clear-first, cut-parent, first-stands, follows-at, follows-gone, rises}
+use Rattle.window.proofs.Asked.{Asked, asked-some, asked-count, near-later, near-count, near-root}
+use Rattle.window.proofs.Gathered.{Gathered, gathered-none, gathered-clear, gathered-block, gathered-whole, gathered-nothing, gathered-end}
 use Rattle.window.proofs.report.report_in.Statement.{statement}
 use Rattle.window.proofs.report.report_in.Tie as tie
 
-record Going (m : ℕ) (p : Picture) (w : Window) (union : ℕ) (s : Spot) : Type 0 where
-  walking : Walking m w s
+record Going (m : ℕ) (p : Picture) (w : Window) (union : ℕ) (keys : List ℕ) (n from x : ℕ) (s : Spot) : Type 0 where
+  stands : Stands m s
+  rise : x ≤ s .key
+  near : Near keys n from (s .key)
   gathered : Gathered m p w union (s .key)
 
+abbrev Inv-loop2 : tie.InvT-loop2
+Inv-loop2 m keys bits n window union₀ spot₀ from₀ union spot from = Going m (shownBy m keys bits n) window union keys n from (spot₀ .key) spot
+
+abbrev μ-loop2 : tie.MeasureT-loop2
+μ-loop2 m keys bits n window union₀ spot₀ from₀ union spot from = spot .step
+
 abbrev Inv-loop : tie.InvT-loop
-Inv-loop m keys bits n window union₀ spot₀ union spot = Going m (shownBy m keys bits n) window union spot
+Inv-loop m keys bits n window union₀ spot₀ from₀ union spot from = Going m (shownBy m keys bits n) window union keys n from (spot .key) spot
 
 abbrev μ-loop : tie.MeasureT-loop
-μ-loop m keys bits n window union₀ spot₀ union spot = 5 ^ m - spot .key
+μ-loop m keys bits n window union₀ spot₀ from₀ union spot from = 5 ^ m - spot .key
 
-module _ (m : ℕ) (p : Picture) (w : Window) where
-  begins : (s : Spot) → Stands m s → s .key ≡ 0 → Going m p w 0 s
-  begins s h e = record { walking = walking-root m w s h e; gathered = gathered-none m p w (s .key) e }
+module _ {m : ℕ} (p : Picture) (w : Window) (union : ℕ) (keys : List ℕ) (n : ℕ) where
+  -- into a block that the window cuts, from its own place on
+  enters : {from x : ℕ} {s : Spot} → isWindow m w ≡ true → Going m p w union keys n from x s → (place : ℕ) → Near keys n place (s .key) → Parent m s
+      → Going m p w union keys n place x (firstQuadrant s)
+  enters {s = s} good g place near q =
+      record {
+        stands = first-stands q;
+        rise = omega (arith, g .rise);
+        near = near-later near _ (omega arith);
+        gathered = gathered-clear m p w union (s .key) _ (g .gathered) (clear-first w good q);
+      }
 
-  module _ (union : ℕ) {s : Spot} (g : Going m p w union s) where
-    -- nothing is left of the window
-    ends : Clear m w (s .key) (5 ^ m) → union ≡ reportIn p w
-    ends c = gathered-end m p w union (5 ^ m) refl (gathered-clear m p w union (s .key) (5 ^ m) (g .gathered) c)
+  -- past a block apart from it
+  passes : {from x : ℕ} {s : Spot} → isWindow m w ≡ true → Going m p w union keys n from x s → isApart s w ≡ true → Gathered m p w union (s .key + s .step)
+  passes {s = s} good g a = gathered-clear m p w union (s .key) _ (g .gathered) (clear-apart w good (g .stands) a)
 
-    module _ {b : Spot} (good : isWindow m w ≡ true) (f : FirstFrom m w (s .key) b) where
-      -- a largest block is added
-      added : (value : ℕ) → value ≡ bitsAt p (f .walking .stands) → Gathered m p w (bitOr union value) (b .key + b .step)
-      added value is =
-          gathered-block m p w good (f .walking .stands) (f .within) union value is (gathered-clear m p w union (s .key) (b .key) (g .gathered) (f .clear))
+  -- on to the block that follows
+  goes-on : (from before x : ℕ) (t : Spot) → Near keys n from before → before ≤ x → Stands m t → t .key ≡ x → Gathered m p w union x → Going m p w union keys n from (t .key) t
+  goes-on from before x t near later h e u =
+      record { stands = h; rise = omega arith; near = near-later near _ (omega arith); gathered = subst (λ (y : ℕ). Gathered m p w union y) (sym e) u }
 
-      goes-on : (value : ℕ) → value ≡ bitsAt p (f .walking .stands) → (t : Spot) → Stands m t → t .key ≡ b .key + b .step → Going m p w (bitOr union value) t
-      goes-on value is t h e =
-          record {
-            walking = walking-after (f .walking) t h e;
-            gathered = subst (λ (y : ℕ). Gathered m p w (bitOr union value) y) (sym e) (added value is);
-          }
+-- the union by its name in the code
+module _ {m : ℕ} (p : Picture) (w : Window) (union : ℕ) where
+  named : (x u : ℕ) → u ≡ union → Gathered m p w union x → Gathered m p w u x
+  named x u e g = subst (λ (y : ℕ). Gathered m p w y x) (sym e) g
 
--- the entry of the function, from the head of the loop
-abbrev entry : tie.At-loop Inv-loop μ-loop → tie.Start Inv-loop μ-loop
-entry c = c .before .before .before .before
+-- the entry of the function, from the head of the inner loop
+abbrev entry : tie.At-loop2 Inv-loop2 μ-loop2 Inv-loop μ-loop → tie.Start Inv-loop2 μ-loop2 Inv-loop μ-loop
+entry c = c .before .before .before .before .before
 
--- the head of the loop, from where a block is found
-abbrev head : tie.After-block Inv-loop μ-loop → tie.At-loop Inv-loop μ-loop
+-- the head of the inner loop, from where a block is looked up
+abbrev head : tie.After-up-to-from Inv-loop2 μ-loop2 Inv-loop μ-loop → tie.At-loop2 Inv-loop2 μ-loop2 Inv-loop μ-loop
 head c = c .before .before .before
 
-found : (c : tie.After-block Inv-loop μ-loop) → FirstFrom (entry (head c) .args .m) (entry (head c) .args .window) (head c .loop .spot .key) (c .block .given .0 .0)
-found c = reached-at _ _ _ _ _ (c .before .before .find-largest .ensures) (c .block .given .1)
+meets : (c : tie.After-up-to-from Inv-loop2 μ-loop2 Inv-loop μ-loop) → isApart (head c .loop2 .spot) (entry (head c) .args .window) ≡ false
+meets c = sym (c .before .before .apart .ensures) ∙ c .before .if1 .left
 
 -- the record where the block stands
-asked : (c : tie.After-up-to Inv-loop μ-loop)
-    → Asked (entry (head (c .before .before)) .args .m) (entry (head (c .before .before)) .args .keys .now) (entry (head (c .before .before)) .args .bits .now) (entry (head (c .before .before)) .args .n)
-    (found (c .before .before) .walking .stands .height) (c .before .before .block .given .0 .0 .row) (c .before .before .block .given .0 .0 .column) (c .up-to .result - 1)
-asked c = asked-count (entry (head (c .before .before)) .pre .2) (found (c .before .before) .walking .stands .block) _ (c .up-to .ensures)
+asked : (c : tie.After-up-to-from Inv-loop2 μ-loop2 Inv-loop μ-loop)
+    → Asked (entry (head c) .args .m) (entry (head c) .args .keys .now) (entry (head c) .args .bits .now) (entry (head c) .args .n)
+    (head c .loop2 .inv .stands .height) (head c .loop2 .spot .row) (head c .loop2 .spot .column) (c .up-to-from .result - 1)
+asked c = asked-count (entry (head c) .pre .2) (head c .loop2 .inv .stands .block) _ (c .up-to-from .ensures)
 
-in-bits : (c : tie.After-up-to Inv-loop μ-loop) → c .up-to .result - 1 < length (entry (head (c .before .before)) .args .bits .now)
-in-bits c = omega (arith, asked c .room, entry (head (c .before .before)) .pre .2 .fits)
+in-bits : (c : tie.After-up-to-from Inv-loop2 μ-loop2 Inv-loop μ-loop) → c .up-to-from .result - 1 < length (entry (head c) .args .bits .now)
+in-bits c = omega (arith, asked c .room, entry (head c) .pre .2 .fits)
 
-start-requires : tie.Need-start-requires Inv-loop μ-loop
+start-requires : tie.Need-start-requires Inv-loop2 μ-loop2 Inv-loop μ-loop
 start-requires c κs = c .before .before .pre .0
 
-loop-holds : tie.Need-loop-holds Inv-loop μ-loop
-loop-holds c = begins _ _ _ _ (c .start .ensures .0) (c .start .ensures .1)
+loop-holds : tie.Need-loop-holds Inv-loop2 μ-loop2 Inv-loop μ-loop
+loop-holds c =
+    record { stands = c .start .ensures .0; rise = omega arith; near = near-root (c .before .before .before .pre .2) _; gathered = gathered-none _ _ _ _ (c .start .ensures .1) }
 
-find-largest-requires : tie.Need-find-largest-requires Inv-loop μ-loop
-find-largest-requires c κs = (entry c .pre .0, entry c .pre .1, c .loop .inv .walking)
+loop2-holds : tie.Need-loop2-holds Inv-loop2 μ-loop2 Inv-loop μ-loop
+loop2-holds c = c .loop .inv
 
-enum-known-block : tie.Need-enum-known-block Inv-loop μ-loop
-enum-known-block c = search needs
+apart-requires : tie.Need-apart-requires Inv-loop2 μ-loop2 Inv-loop μ-loop
+apart-requires c κs = small _ _ _ (entry c .pre .0) (entry c .pre .1) (c .loop2 .inv .stands)
 
-enum-told : tie.Need-enum-told Inv-loop μ-loop
-enum-told c = search needs
+up-to-from-requires : tie.Need-up-to-from-requires Inv-loop2 μ-loop2 Inv-loop μ-loop
+up-to-from-requires c κs = let at = c .before .before in (own-ascends (entry at .pre .2), at .loop2 .inv .near)
 
-returns : tie.Need-returns Inv-loop μ-loop
-returns c =
-    let at = c .before .before .before in
-    ends _ _ _ _ (at .loop .inv) (reached-gone _ _ _ _ (c .before .before .find-largest .ensures) (c .enum-told .given .1))
+sub-from : tie.Need-sub-from Inv-loop2 μ-loop2 Inv-loop μ-loop
+sub-from c = asked-some (entry (head c) .pre .2) _ _ (c .up-to-from .ensures)
 
-up-to-requires : tie.Need-up-to-requires Inv-loop μ-loop
-up-to-requires c κs = own-ascends (entry (head (c .before)) .pre .2)
+mul-found : tie.Need-mul-found Inv-loop2 μ-loop2 Inv-loop μ-loop
+mul-found c = omega (arith, in-bits c, entry (head c) .good .1 .1 .0 .1)
 
-sub-place : tie.Need-sub-place Inv-loop μ-loop
-sub-place c = asked-some (entry (head (c .before .before)) .pre .2) _ _ (c .up-to .ensures)
+shared-slice-read-found : tie.Need-shared-slice-read-found Inv-loop2 μ-loop2 Inv-loop μ-loop
+shared-slice-read-found c = in-bits (c .before)
 
-mul-union : tie.Need-mul-union Inv-loop μ-loop
-mul-union c = omega (arith, in-bits c, entry (head (c .before .before)) .good .1 .1 .0 .1)
+has-one-slot-requires : tie.Need-has-one-slot-requires Inv-loop2 μ-loop2 Inv-loop μ-loop
+has-one-slot-requires c κs = search needs
 
-shared-slice-read-union : tie.Need-shared-slice-read-union Inv-loop μ-loop
-shared-slice-read-union c = in-bits (c .before)
+-- a block that its record does not settle by itself, from where it was looked up
+abbrev looked : tie.Else3 Inv-loop2 μ-loop2 Inv-loop μ-loop → tie.After-up-to-from Inv-loop2 μ-loop2 Inv-loop μ-loop
+looked c = c .before .before .before .before
 
-after-requires : tie.Need-after-requires Inv-loop μ-loop
-after-requires c κs = let b = c .before .before .before in (entry (head b) .pre .0, found b .walking .stands)
+within-requires : tie.Need-within-requires Inv-loop2 μ-loop2 Inv-loop μ-loop
+within-requires c κs = let at = head (looked c) in small _ _ _ (entry at .pre .0) (entry at .pre .1) (at .loop2 .inv .stands)
 
-enum-known-next : tie.Need-enum-known-next Inv-loop μ-loop
+first-requires : tie.Need-first-requires Inv-loop2 μ-loop2 Inv-loop μ-loop
+first-requires c κs =
+    let at = head (looked (c .before .before)) in
+    let k = some-keys (at .loop2 .inv .stands) in
+    let five = five-le 10 (entry at .pre .0) in
+    omega arith
+
+entered : (c : tie.Else4 Inv-loop2 μ-loop2 Inv-loop μ-loop) → Parent (entry (head (looked (c .before .before))) .args .m) (head (looked (c .before .before)) .loop2 .spot)
+entered c =
+    let asks = looked (c .before .before) in
+    cut-parent _ (head asks .loop2 .inv .stands) (sym (c .before .within .ensures) ∙ c .if4 .left) (meets asks)
+
+loop2-less : tie.Need-loop2-less Inv-loop2 μ-loop2 Inv-loop μ-loop
+loop2-less c =
+    let at = head (looked (c .before .before .before)) in
+    let k = some-keys (at .loop2 .inv .stands) in
+    rw (c .first .ensures) (omega (arith, k .0))
+
+loop2-again : tie.Need-loop2-again Inv-loop2 μ-loop2 Inv-loop μ-loop
+loop2-again c =
+    let at = head (looked (c .before .before .before)) in
+    rw (c .first .ensures) (enters _ _ _ _ _ (entry at .pre .1) (at .loop2 .inv) _ (near-count (entry at .pre .2) _ _ (looked (c .before .before .before) .up-to-from .ensures)) (entered (c .before)))
+
+after-requires : tie.Need-after-requires Inv-loop2 μ-loop2 Inv-loop μ-loop
+after-requires c κs = let at = c .before .before in (entry at .pre .0, at .loop2 .inv .stands)
+
+enum-known-next : tie.Need-enum-known-next Inv-loop2 μ-loop2 Inv-loop μ-loop
 enum-known-next c = search needs
 
-enum-told-2 : tie.Need-enum-told-2 Inv-loop μ-loop
-enum-told-2 c = search needs
+enum-told : tie.Need-enum-told Inv-loop2 μ-loop2 Inv-loop μ-loop
+enum-told c = search needs
 
-returns-2 : tie.Need-returns-2 Inv-loop μ-loop
-returns-2 c =
-    let asks = c .before .before .before .before in
-    let b = asks .before .before in
-    gathered-end _ _ _ _ _ (follows-gone _ _ _ (c .before .before .after .ensures) (c .enum-told2 .given .1))
-    (added _ _ _ _ (head b .loop .inv) (entry (head b) .pre .1) (found b) _ (asked asks .value))
+-- whichever way a turn ended, the union has what the block adds
+passed : (c : tie.Joined1 Inv-loop2 μ-loop2 Inv-loop μ-loop)
+    → Gathered (entry (c .before .before) .args .m) (shownBy (entry (c .before .before) .args .m) (entry (c .before .before) .args .keys .now) (entry (c .before .before) .args .bits .now) (entry (c .before .before) .args .n)) (entry (c .before .before) .args .window) (c .if1 .union)
+    (c .before .before .loop2 .spot .key + c .before .before .loop2 .spot .step)
+passed c =
+    let at = c .before .before in
+    let good = entry at .pre .1 in
+    let g = at .loop2 .inv in
+    let o = entry at .pre .2 in
+    let apart = c .before .apart .ensures in
+    ⊎-elim (λ w. named _ _ _ _ _ (w .1) (passes _ _ _ _ _ good g (sym apart ∙ w .0 .taken)))
+    (⊎-elim (λ w. named _ _ _ _ _ (w .4) (gathered-nothing _ _ _ good (g .stands) _ _ (asked-count o (g .stands .block) _ (w .1 .ensures) .value) (w .3 .taken) (g .gathered)))
+    (⊎-elim (λ w. named _ _ _ _ _ (w .6) (gathered-whole _ _ _ good (g .stands) (sym apart ∙ w .0 .left) _ _ (asked-count o (g .stands .block) _ (w .1 .ensures) .value) (sym (w .4 .ensures) ∙ w .5 .taken) (g .gathered)))
+    (λ w. named _ _ _ _ _ (w .8) (gathered-block _ _ _ good (g .stands) (sym (w .6 .ensures) ∙ w .7 .taken) _ _ (asked-count o (g .stands .block) _ (w .1 .ensures) .value) (g .gathered)))))
+    (c .if1 .came)
+
+-- and the next search can begin where the last one ended
+kept : (c : tie.Joined1 Inv-loop2 μ-loop2 Inv-loop μ-loop) → Near (entry (c .before .before) .args .keys .now) (entry (c .before .before) .args .n) (c .if1 .from) (c .before .before .loop2 .spot .key)
+kept c =
+    let at = c .before .before in
+    let o = entry at .pre .2 in
+    ⊎-elim (λ w. rw (w .2) (at .loop2 .inv .near))
+    (⊎-elim (λ w. rw (w .5) (near-count o _ _ (w .1 .ensures)))
+    (⊎-elim (λ w. rw (w .7) (near-count o _ _ (w .1 .ensures)))
+    (λ w. rw (w .9) (near-count o _ _ (w .1 .ensures)))))
+    (c .if1 .came)
+
+returns : tie.Need-returns Inv-loop2 μ-loop2 Inv-loop μ-loop
+returns c = gathered-end _ _ _ _ _ (follows-gone _ _ _ (c .before .before .after .ensures) (c .enum-told .given .1)) (passed (c .before .before .before))
 
 -- the block that follows
-follows : (c : tie.After-next Inv-loop μ-loop)
-    → Stands (entry (head (c .before .before .before .before .before .before)) .args .m) (c .next .given .0 .0)
-    × (c .next .given .0 .0 .key
-    ≡ c .before .before .before .before .before .before .block .given .0 .0 .key + c .before .before .before .before .before .before .block .given .0 .0 .step)
+follows : (c : tie.After-next Inv-loop2 μ-loop2 Inv-loop μ-loop)
+    → Stands (entry (c .before .before .before .before .before) .args .m) (c .next .given .0 .0)
+    × (c .next .given .0 .0 .key ≡ c .before .before .before .before .before .loop2 .spot .key + c .before .before .before .before .before .loop2 .spot .step)
 follows c = follows-at _ _ _ _ (c .before .before .after .ensures) (c .next .given .1)
 
-loop-less : tie.Need-loop-less Inv-loop μ-loop
+loop-less : tie.Need-loop-less Inv-loop2 μ-loop2 Inv-loop μ-loop
 loop-less c =
-    let b = c .before .before .before .before .before .before .before in
-    let k = some-keys (found b .walking .stands) in
-    rises (head b .loop .inv .walking .stands) _ (omega (arith, follows (c .before) .1, found b .from))
-
-loop-again : tie.Need-loop-again Inv-loop μ-loop
-loop-again c =
-    let asks = c .before .before .before .before .before in
-    let b = asks .before .before in
+    let at = c .before .before .before .before .before .before in
     let f = follows (c .before) in
-    goes-on _ _ _ _ (head b .loop .inv) (entry (head b) .pre .1) (found b) _ (asked asks .value) _ (f .0) (f .1)
+    let k = some-keys (at .loop2 .inv .stands) in
+    rises (at .before .loop .inv .stands) _ (omega (arith, f .1, at .loop2 .inv .rise))
+
+loop-again : tie.Need-loop-again Inv-loop2 μ-loop2 Inv-loop μ-loop
+loop-again c =
+    let f = follows (c .before) in
+    let turn = c .before .before .before .before in
+    goes-on _ _ _ _ _ _ _ _ _ (kept turn) (omega arith) (f .0) (f .1) (passed turn)
 
 pub report-in-spec : {M : Type 1} → statement M
 report-in-spec =
     tie.close
     (tie.spec
+    Inv-loop2
+    μ-loop2
     Inv-loop
     μ-loop
     start-requires
     loop-holds
-    find-largest-requires
-    enum-known-block
-    enum-told
-    returns
-    up-to-requires
-    sub-place
-    mul-union
-    shared-slice-read-union
+    loop2-holds
+    apart-requires
+    up-to-from-requires
+    sub-from
+    mul-found
+    shared-slice-read-found
+    has-one-slot-requires
+    within-requires
+    first-requires
+    loop2-less
+    loop2-again
     after-requires
     enum-known-next
-    enum-told-2
-    returns-2
+    enum-told
+    returns
     loop-less
     loop-again)
