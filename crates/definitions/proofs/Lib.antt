@@ -21,6 +21,11 @@ pub mod SelectMeans
 pub mod SelectAscends
 pub mod SelectAgree
 pub mod WindowScan
+pub mod PixelSums
+pub mod CountOf
+pub mod AreaOf
+pub mod AreasAddUp
+pub mod SummaryOf
 pub mod LastEntry
 pub mod SoundLog
 pub mod Waivers

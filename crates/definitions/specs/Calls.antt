@@ -8,6 +8,8 @@ pub mod BlockOf
 pub mod Exist
 pub mod Report
 pub mod Select
+pub mod FillSummary
+pub mod Area
 pub mod Paint
 pub mod TakeBack
 pub mod Empty

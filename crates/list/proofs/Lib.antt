@@ -16,4 +16,6 @@ pub mod Placed
 pub mod Lookup
 pub mod PartLength
 pub mod Own
+pub mod Shown
+pub mod ShownQuadrants
 pub mod Tests
