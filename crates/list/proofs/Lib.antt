@@ -18,4 +18,5 @@ pub mod PartLength
 pub mod Own
 pub mod Shown
 pub mod ShownQuadrants
+pub mod Trailing
 pub mod Tests

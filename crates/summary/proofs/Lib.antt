@@ -1,0 +1,2 @@
+pub mod CountTurn
+pub mod CountBlock
