@@ -1,0 +1,5 @@
+pub mod SumUnder
+pub mod AreaFrom
+pub mod OverlapArea
+pub mod NumberOf
+pub mod BlockCount

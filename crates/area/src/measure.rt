@@ -1,0 +1,56 @@
+// The area of a feature in a window: the walk goes down the list and the window together, and counts as much as it can at once.
+ghost use mathlib.Core.Path.{_≡_};
+ghost use mathlib.Core.Bool.{true};
+ghost use Prim.Native.Nat.{_*_, _+_, _≤_, _<_, _^_};
+ghost use lib.ListN.{length};
+ghost use Rattle.keys.specs.Key.{heightOf};
+ghost use Rattle.keys.specs.Block.{rowOf, columnOf};
+ghost use Rattle.definitions.specs.Window.{isWindow};
+ghost use Rattle.definitions.specs.Area.{areaIn, pixelsWith, summaryOf};
+ghost use Rattle.list.specs.Own.{OwnList, shownBy};
+ghost use Rattle.window.specs.Walk.{Stands};
+ghost use Rattle.area.specs.Number.{numberOf};
+use crate::overlap;
+use definitions::Window;
+use keys::power;
+use list::standing;
+use summary::count;
+use window::walk;
+use window::walk::Found;
+use window::walk::Spot;
+
+// The number of a block of level 2 in key order, by the first two digits of its key.
+fn number_of(m: u32, block: Spot) -> u32
+    requires { ⌜ (m ≤ 10) × Stands m block × (block .side * 4 ≡ 2 ^ m) ⌝ }
+    ensures { λ r. ⌜ (r ≡ numberOf block) × (r < 16) ⌝ }
+{
+    let key = block.key;
+    let step = block.step;
+    let digits = key / step;
+    (digits / 5 - 1) * 4 + (digits % 5 - 1)
+}
+
+// The pixels of a block that have a feature: of a block of the summary a number there, of a smaller one counted from its records.
+fn block_pixels(
+    m: u32,
+    s: u32,
+    keys: &[u32],
+    bits: &[u32],
+    n: usize,
+    summary: &[u32],
+    block: Spot,
+    feature: u32,
+) -> u32
+    requires { ⌜ (m ≤ 10) × (s ≤ 32) × (feature < s) × Stands m block × OwnList m (now keys) (now bits) n ⌝ }
+    requires { ⌜ now summary ≡ summaryOf m s (shownBy m (now keys) (now bits) n) ⌝ }
+    ensures { λ r. ⌜ r ≡ pixelsWith (shownBy m (now (keys .entry)) (now (bits .entry)) n) (heightOf m (block .key)) (rowOf m (block .key)) (columnOf m (block .key)) feature ⌝ }
+{
+    let key = block.key;
+    let side = block.side;
+    if side * 4 == power::power_of_two(m) {
+        let place = number_of(m, block) * s + feature;
+        return summary[place as usize];
+    }
+    let counts = count::count_block(m, keys, bits, n, key, side * side);
+    counts[feature as usize]
+}
