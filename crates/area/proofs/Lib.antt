@@ -3,3 +3,5 @@ pub mod AreaFrom
 pub mod OverlapArea
 pub mod NumberOf
 pub mod BlockCount
+pub mod Measured
+pub mod Looked

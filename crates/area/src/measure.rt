@@ -54,3 +54,52 @@ fn block_pixels(
     let counts = count::count_block(m, keys, bits, n, key, side * side);
     counts[feature as usize]
 }
+
+// How many pixels of the window have the feature. A block of the feature alone adds its overlap with the window and is not entered. One with the feature
+// and others adds its own count, where the window holds it and it is no larger than the summary's blocks; else it is entered.
+pub fn area_in(
+    m: u32,
+    s: u32,
+    keys: &[u32],
+    bits: &[u32],
+    n: usize,
+    summary: &[u32],
+    window: Window,
+    feature: u32,
+) -> u32
+    requires { ⌜ (m ≤ 10) × (s ≤ 32) × (feature < s) × (isWindow m window ≡ true) × OwnList m (now keys) (now bits) n ⌝ }
+    requires { ⌜ now summary ≡ summaryOf m s (shownBy m (now keys) (now bits) n) ⌝ }
+    ensures { λ r. ⌜ r ≡ areaIn (shownBy m (now (keys .entry)) (now (bits .entry)) n) window feature ⌝ }
+{
+    let bit = power::power_of_two(feature);
+    let side = power::power_of_two(m);
+    let mut pixels = 0;
+    let mut spot = walk::start(m);
+    let mut from = 0;
+    loop {
+        loop {
+            if walk::apart(spot, window) {
+                break;
+            }
+            let key = spot.key;
+            from = standing::up_to_from(keys, n, from, key) - 1;
+            let found = bits[from];
+            if found & bit == 0 {
+                break;
+            }
+            if found == bit {
+                pixels = pixels + overlap::overlap(spot, window);
+                break;
+            }
+            if overlap::is_whole(side, spot, window) {
+                pixels = pixels + block_pixels(m, s, keys, bits, n, summary, spot, feature);
+                break;
+            }
+            spot = walk::first(spot);
+        }
+        let Found::At(next) = walk::after(m, spot) else {
+            return pixels;
+        };
+        spot = next;
+    }
+}
