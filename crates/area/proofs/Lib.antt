@@ -5,3 +5,4 @@ pub mod NumberOf
 pub mod BlockCount
 pub mod Measured
 pub mod Looked
+pub mod SelectArea
