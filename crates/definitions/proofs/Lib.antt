@@ -26,6 +26,7 @@ pub mod CountOf
 pub mod AreaOf
 pub mod AreasAddUp
 pub mod SummaryOf
+pub mod SameNumbers
 pub mod LastEntry
 pub mod SoundLog
 pub mod Waivers

@@ -2,7 +2,7 @@
 -- between rows or between columns; so a block's sum row by row is the sum over its quadrants. Rests on Within.
 use Prim.Native.Nat.{ℕ, zero, suc, _+_, _*_, _^_, _≤_, _<_}
 use mathlib.Core.Path.{_≡_, refl, sym, _∙_, ap, ap₂}
-use native.Mathlib.Nat.{add-zero, zero-add, add-suc, suc-add, pow-suc, mul-comm, mul-assoc}
+use native.Mathlib.Nat.{add-zero, zero-add, add-suc, suc-add, pow-suc, mul-comm, mul-assoc, mul-mul-mul-comm}
 use native.Mathlib.Omega.{arith}
 use Rattle.definitions.proofs.Within.{Every, first-within, every-nw, every-ne, every-sw, every-se}
 
@@ -108,6 +108,12 @@ sum-constant g v (suc k) r c e =
   where
     quadruple : (j x : ℕ) → 4 ^ j * x + 4 ^ j * x + (4 ^ j * x + 4 ^ j * x) ≡ 4 ^ suc j * x
     quadruple j x = rw (pow-suc 4 j, mul-comm (4 ^ j) 4, mul-assoc 4 (4 ^ j) x) (omega arith)
+
+-- a block's pixels, by its side and by its height
+pub squared : (k : ℕ) → 2 ^ k * 2 ^ k ≡ 4 ^ k
+squared zero = refl
+squared (suc k) =
+    ap₂ (λ x y. x * y) (pow-suc 2 k) (pow-suc 2 k) ∙ mul-mul-mul-comm (2 ^ k) 2 (2 ^ k) 2 ∙ ap (λ x. x * (2 * 2)) (squared k) ∙ sym (pow-suc 4 k)
 
 -- a pixel of a rectangle
 pub record InPart (row column width height a b : ℕ) : Type 0 where

@@ -36,6 +36,13 @@ module _ (p : Picture) (k r c : ℕ) where
   pub count-of : (s f : ℕ) → f < s → getD (countsOf s p k r c) f 0 ≡ pixelsWith p k r c f
   count-of s f h = counts-at 0 s f h ∙ ap (pixelsWith p k r c) (zero-add f)
 
+-- the first of more counts
+pub counts-first : (p : Picture) (k r c f s more : ℕ) → s ≤ more → take s (countsFrom p k r c f more) ≡ countsFrom p k r c f s
+unfolding countsFrom
+counts-first p k r c f zero more h = refl
+counts-first p k r c f (suc s) zero h = absurd (omega arith)
+counts-first p k r c f (suc s) (suc more) h = ap (λ l. pixelsWith p k r c f ∷ l) (counts-first p k r c (suc f) s more (omega arith))
+
 -- pictures that agree on a block have the same counts there
 pub counts-agree : (p q : Picture) (k r c f more : ℕ) → Agree p q k r c → countsFrom p k r c f more ≡ countsFrom q k r c f more
 unfolding countsFrom
