@@ -14,22 +14,12 @@ use Rattle.keys.proofs.Interval.{within}
 use Rattle.keys.proofs.Valid.{block-valid}
 use Rattle.definitions.specs.Picture.{Picture}
 use Rattle.definitions.specs.Area.{pixelsWith, countsOf, summaryOf}
+use Rattle.definitions.proofs.PixelSums.{squared}
 use Rattle.definitions.proofs.SummaryOf.{count-of}
 use Rattle.window.specs.Walk.{Stands}
 use Rattle.window.specs.declared.walk.Spot.{Spot}
 use Rattle.area.specs.Number.{numberOf}
 use Rattle.area.proofs.NumberOf.{number-count, number-room}
-
--- a square of side 2 ^ k has 4 ^ k pixels
-square : (k : ℕ) → 2 ^ k * 2 ^ k ≡ 4 ^ k
-square zero = refl
-square (suc k) =
-    ap₂ (λ x y. x * y) (pow-suc 2 k) (pow-suc 2 k)
-    ∙ mul-assoc (2 ^ k) 2 (2 ^ k * 2)
-    ∙ ap (λ x. 2 ^ k * x) (sym (mul-assoc 2 (2 ^ k) 2) ∙ ap (λ x. x * 2) (mul-comm 2 (2 ^ k)) ∙ mul-assoc (2 ^ k) 2 2)
-    ∙ sym (mul-assoc (2 ^ k) (2 ^ k) 4)
-    ∙ ap (λ x. x * 4) (square k)
-    ∙ sym (pow-suc 4 k)
 
 module _ {m : ℕ} {t : Spot} (h : Stands m t) where
   -- no side is more than that of the largest raster
@@ -43,7 +33,7 @@ module _ {m : ℕ} {t : Spot} (h : Stands m t) where
   key-valid = block-valid (h .block) .valid
 
   pub area-is : t .side * t .side ≡ 4 ^ heightOf m (t .key)
-  area-is = ap (λ x. x * x) (h .side) ∙ square (h .height) ∙ ap (λ x. 4 ^ x) (sym (block-valid (h .block) .height))
+  area-is = ap (λ x. x * x) (h .side) ∙ squared (h .height) ∙ ap (λ x. 4 ^ x) (sym (block-valid (h .block) .height))
 
   -- the count by the key is the count of the spot's square
   pub keyed : (p : Picture) (f : ℕ) → pixelsWith p (heightOf m (t .key)) (rowOf m (t .key)) (columnOf m (t .key)) f ≡ pixelsWith p (h .height) (t .row) (t .column) f

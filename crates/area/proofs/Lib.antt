@@ -6,3 +6,4 @@ pub mod BlockCount
 pub mod Measured
 pub mod Looked
 pub mod SelectArea
+pub mod AreaCall
