@@ -12,7 +12,7 @@ use Rattle.keys.specs.Block.{rowOf, columnOf}
 use Rattle.keys.proofs.Powers.{two-le}
 use Rattle.keys.proofs.Interval.{within}
 use Rattle.keys.proofs.Valid.{block-valid}
-use Rattle.definitions.specs.Picture.{Picture}
+use Rattle.definitions.specs.Picture.{Picture, oneFeature}
 use Rattle.definitions.specs.Area.{pixelsWith, countsOf, summaryOf}
 use Rattle.definitions.proofs.PixelSums.{squared}
 use Rattle.definitions.proofs.SummaryOf.{count-of}
@@ -42,6 +42,13 @@ module _ {m : ℕ} {t : Spot} (h : Stands m t) where
       ap (λ x. pixelsWith p x (rowOf m (t .key)) (columnOf m (t .key)) f) (i .height)
       ∙ ap₂ (λ x y. pixelsWith p (h .height) x y f) (i .row) (i .column)
 
+  -- and so is whether it has one feature
+  pub keyed-one : (p : Picture) → oneFeature p (heightOf m (t .key)) (rowOf m (t .key)) (columnOf m (t .key)) ≡ oneFeature p (h .height) (t .row) (t .column)
+  keyed-one p =
+      let i = block-valid (h .block) in
+      ap (λ x. oneFeature p x (rowOf m (t .key)) (columnOf m (t .key))) (i .height)
+      ∙ ap₂ (λ x y. oneFeature p (h .height) x y) (i .row) (i .column)
+
   module _ {s : ℕ} (p : Picture) {summary : List ℕ} (is : summary ≡ summaryOf m s p) (level : t .side * 4 ≡ 2 ^ m) (b : ℕ) (e : b ≡ numberOf t) {f : ℕ} (low : f < s) where
     -- in the summary
     pub summary-has : getD summary (b * s + f) 0 ≡ pixelsWith p (heightOf m (t .key)) (rowOf m (t .key)) (columnOf m (t .key)) f
@@ -53,10 +60,6 @@ module _ {m : ℕ} {t : Spot} (h : Stands m t) where
         let l = ap length is in
         let n = ap (λ x. x * s) e in
         omega arith
-
--- among all counts of the block
-pub count-among : (p : Picture) (k r c f : ℕ) (counts : List ℕ) → counts ≡ countsOf 32 p k r c → f < 32 → getD counts f 0 ≡ pixelsWith p k r c f
-count-among p k r c f counts e low = ap (λ l. getD l f 0) e ∙ count-of p k r c 32 f low
 
 -- a number below 16 times few slots is small
 pub place-small : (b s : ℕ) → b < 16 → s ≤ 32 → b * s ≤ 512

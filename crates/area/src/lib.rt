@@ -2,3 +2,4 @@
 pub mod calls;
 pub mod measure;
 pub mod overlap;
+pub mod tally;

@@ -1,20 +1,18 @@
 // The area of a feature in a window: the walk goes down the list and the window together, and counts as much as it can at once.
 ghost use mathlib.Core.Path.{_≡_};
 ghost use mathlib.Core.Bool.{true};
-ghost use Prim.Native.Nat.{_*_, _+_, _≤_, _<_, _^_};
-ghost use lib.ListN.{length};
-ghost use Rattle.keys.specs.Key.{heightOf};
-ghost use Rattle.keys.specs.Block.{rowOf, columnOf};
+ghost use Prim.Native.Nat.{_*_, _≤_, _<_, _^_};
 ghost use Rattle.definitions.specs.Window.{isWindow};
-ghost use Rattle.definitions.specs.Area.{areaIn, pixelsWith, summaryOf};
+ghost use Rattle.definitions.specs.Area.{areaIn, summaryOf};
 ghost use Rattle.list.specs.Own.{OwnList, shownBy};
 ghost use Rattle.window.specs.Walk.{Stands};
 ghost use Rattle.area.specs.Number.{numberOf};
+ghost use Rattle.area.specs.Tally.{WholeAsked, WholeCounted};
 use crate::overlap;
+use crate::tally;
 use definitions::Window;
 use keys::power;
 use list::standing;
-use summary::count;
 use window::walk;
 use window::walk::Found;
 use window::walk::Spot;
@@ -30,29 +28,27 @@ fn number_of(m: u32, block: Spot) -> u32
     (digits / 5 - 1) * 4 + (digits % 5 - 1)
 }
 
-// The pixels of a block that have a feature: of a block of the summary a number there, of a smaller one counted from its records.
+// The pixels of a block of several features that have one of them: of a block of the summary a number there, of a smaller one counted from its records,
+// which begin at a place.
 fn block_pixels(
     m: u32,
     s: u32,
-    keys: &[u32],
     bits: &[u32],
-    n: usize,
     summary: &[u32],
+    from: usize,
     block: Spot,
     feature: u32,
 ) -> u32
-    requires { ⌜ (m ≤ 10) × (s ≤ 32) × (feature < s) × Stands m block × OwnList m (now keys) (now bits) n ⌝ }
-    requires { ⌜ now summary ≡ summaryOf m s (shownBy m (now keys) (now bits) n) ⌝ }
-    ensures { λ r. ⌜ r ≡ pixelsWith (shownBy m (now (keys .entry)) (now (bits .entry)) n) (heightOf m (block .key)) (rowOf m (block .key)) (columnOf m (block .key)) feature ⌝ }
+    requires { ⌜ (m ≤ 10) × (s ≤ 32) × (feature < s) × Stands m block × WholeAsked m s (now bits) (now summary) block from ⌝ }
+    ensures { λ r. ⌜ WholeCounted m s (now (bits .entry)) (now (summary .entry)) block from feature r ⌝ }
 {
-    let key = block.key;
     let side = block.side;
     if side * 4 == power::power_of_two(m) {
         let place = number_of(m, block) * s + feature;
         return summary[place as usize];
     }
-    let counts = count::count_block(m, keys, bits, n, key, side * side);
-    counts[feature as usize]
+    let counted = tally::tally_node(bits, power::power_of_two(feature), from, side * side);
+    counted.pixels
 }
 
 // How many pixels of the window have the feature. A block of the feature alone adds its overlap with the window and is not entered. One with the feature
@@ -92,7 +88,7 @@ pub fn area_in(
                 break;
             }
             if overlap::is_whole(side, spot, window) {
-                pixels = pixels + block_pixels(m, s, keys, bits, n, summary, spot, feature);
+                pixels = pixels + block_pixels(m, s, bits, summary, from, spot, feature);
                 break;
             }
             spot = walk::first(spot);

@@ -23,6 +23,8 @@ use Rattle.window.proofs.Lies.{small}
 use Rattle.window.proofs.Steps.{Parent, some-keys, first-stands, follows-at, follows-gone, rises}
 use Rattle.window.proofs.Asked.{Asked, asked-some, asked-count, near-later, near-count, near-root}
 use Rattle.window.proofs.Shows.{count-no}
+use Rattle.area.specs.Tally.{MixedAt}
+use Rattle.area.proofs.WholeBlock.{mixed-at}
 use Rattle.area.proofs.Looked.{count-yes, count-alone, count-mixed}
 use Rattle.area.proofs.Measured.{Measured, measured-none, measured-end, measured-most, measured-enter, measured-apart, measured-lacking, measured-overlap, measured-whole, mixed-parent}
 use Rattle.area.proofs.measure.area_in.Statement.{statement}
@@ -136,6 +138,18 @@ shared-slice-read-found c = in-bits (c .before)
 abbrev looked : tie.Else2 Inv-loop2 μ-loop2 Inv-loop μ-loop → tie.After-up-to-from Inv-loop2 μ-loop2 Inv-loop μ-loop
 looked c = c .before .before
 
+-- a block that has the feature and others
+mixed : (c : tie.Else3 Inv-loop2 μ-loop2 Inv-loop μ-loop)
+    → MixedAt (entry (head (looked (c .before))) .args .m) (shownBy (entry (head (looked (c .before))) .args .m) (entry (head (looked (c .before))) .args .keys .now) (entry (head (looked (c .before))) .args .bits .now) (entry (head (looked (c .before))) .args .n))
+    (entry (head (looked (c .before))) .args .bits .now) (head (looked (c .before)) .loop2 .spot) (looked (c .before) .up-to-from .result - 1)
+mixed c =
+    let asks = looked (c .before) in
+    let at = head asks in
+    let h = at .loop2 .inv .stands in
+    let o = entry at .pre .0 .4 in
+    mixed-at o h _ _ (asks .up-to-from .ensures) (count-yes o h _ _ (bit-is at) _ (asks .up-to-from .ensures) (c .before .if2 .left))
+    (count-mixed o h _ _ (bit-is at) _ (asks .up-to-from .ensures) (c .if3 .left))
+
 overlap-requires : tie.Need-overlap-requires Inv-loop2 μ-loop2 Inv-loop μ-loop
 overlap-requires c κs =
     let at = head (looked (c .before)) in
@@ -157,14 +171,14 @@ block-pixels-requires : tie.Need-block-pixels-requires Inv-loop2 μ-loop2 Inv-lo
 block-pixels-requires c κs =
     let at = head (looked (c .before .before .before)) in
     let pre = entry at .pre in
-    ((pre .0 .0, pre .0 .1, pre .0 .2, at .loop2 .inv .stands, pre .0 .4), pre .1)
+    (pre .0 .0, pre .0 .1, pre .0 .2, at .loop2 .inv .stands, record { picture = _; mixed = mixed (c .before .before); summary-is = pre .1 })
 
 add-pixels-2 : tie.Need-add-pixels-2 Inv-loop2 μ-loop2 Inv-loop μ-loop
 add-pixels-2 c =
     let at = head (looked (c .before .before .before .before)) in
     let g = at .loop2 .inv in
     let pre = entry at .pre .0 in
-    fits (pre .0) (pre .3) (measured-whole _ _ _ _ (g .stands) _ (g .measured) _ (sym (c .before .before .is-whole .ensures) ∙ c .before .if4 .taken) _ (c .block-pixels .ensures))
+    fits (pre .0) (pre .3) (measured-whole _ _ _ _ (g .stands) _ (g .measured) _ (sym (c .before .before .is-whole .ensures) ∙ c .before .if4 .taken) _ (c .block-pixels .ensures .holds _ (mixed (c .before .before .before)) (entry at .pre .1)))
 
 first-requires : tie.Need-first-requires Inv-loop2 μ-loop2 Inv-loop μ-loop
 first-requires c κs =
@@ -217,7 +231,8 @@ passed c =
     ⊎-elim (λ w. named _ (w .1) (measured-apart _ _ _ _ (g .stands) _ (g .measured) (sym apart ∙ w .0 .taken)))
     (⊎-elim (λ w. named _ (w .4) (measured-lacking _ _ _ _ (g .stands) _ (g .measured) (count-no o (g .stands) _ _ (bit-is at) _ (w .1 .ensures) (w .3 .taken))))
     (⊎-elim (λ w. named _ (w .6) (measured-overlap _ _ _ _ (g .stands) _ (g .measured) (sym apart ∙ w .0 .left) (count-alone o (g .stands) _ _ (bit-is at) _ (w .1 .ensures) (w .4 .taken)) _ (w .5 .ensures)))
-    (λ w. named _ (w .8) (measured-whole _ _ _ _ (g .stands) _ (g .measured) _ (sym (w .5 .ensures) ∙ w .6 .taken) _ (w .7 .ensures)))))
+    (λ w. named _ (w .8) (measured-whole _ _ _ _ (g .stands) _ (g .measured) _ (sym (w .5 .ensures) ∙ w .6 .taken) _ (w .7 .ensures .holds _
+    (mixed-at o (g .stands) _ _ (w .1 .ensures) (count-yes o (g .stands) _ _ (bit-is at) _ (w .1 .ensures) (w .3 .left)) (count-mixed o (g .stands) _ _ (bit-is at) _ (w .1 .ensures) (w .4 .left))) (entry at .pre .1))))))
     (c .if1 .came)
 
 -- and the next search can begin where the last one ended

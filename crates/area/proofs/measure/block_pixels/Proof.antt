@@ -1,14 +1,15 @@
--- `measure::block_pixels` meets its contract: a block of the summary's level has its count at the place of its number, a smaller one is counted.
+-- `measure::block_pixels` meets its contract: a block of the summary's level has its count at the place of its number, a smaller one is tallied.
 use Prim.Native.Nat.{_*_, _^_}
 use mathlib.Core.Path.{_≡_, _∙_}
 use native.Mathlib.Omega.{arith}
 use borrow.Author.Needs.{needs}
-use Rattle.area.proofs.BlockCount.{side-most, area-fits, key-valid, area-is, summary-has, summary-room, count-among, place-small}
+use Rattle.area.proofs.BlockCount.{side-most, area-fits, place-small}
+use Rattle.area.proofs.WholeBlock.{bit-one, mixed-node, place-room, place-counted, tally-counted}
 use Rattle.area.proofs.measure.block_pixels.Statement.{statement}
 use Rattle.area.proofs.measure.block_pixels.Tie as tie
 
 mul-if1 : tie.Need-mul-if1
-mul-if1 c = let start = c .before .before .before in let h = side-most (start .pre .0 .3) (start .pre .0 .0) in omega arith
+mul-if1 c = let start = c .before .before in let h = side-most (start .pre .3) (start .pre .0) in omega arith
 
 power-of-two-requires : tie.Need-power-of-two-requires
 power-of-two-requires c κs = search needs
@@ -18,49 +19,46 @@ number-of-requires c κs = search needs
 
 -- the entry, from where the block has its number
 abbrev entry : tie.After-number-of → tie.Start
-entry c = c .before .before .before .before .before .before
+entry c = c .before .before .before .before .before
 
 level : (c : tie.After-number-of) → entry c .args .block .side * 4 ≡ 2 ^ entry c .args .m
 level c = c .before .if1 .taken ∙ c .before .before .power-of-two .ensures
 
 mul-place : tie.Need-mul-place
-mul-place c = let h = place-small _ _ (c .number-of .ensures .1) (entry c .pre .0 .1) in omega arith
+mul-place c = let h = place-small _ _ (c .number-of .ensures .1) (entry c .pre .1) in omega arith
 
 add-place : tie.Need-add-place
-add-place c = let h = place-small _ _ (c .number-of .ensures .1) (entry c .pre .0 .1) in omega (arith, entry c .pre .0)
+add-place c = let h = place-small _ _ (c .number-of .ensures .1) (entry c .pre .1) in omega (arith, entry c .pre)
 
 cast-result : tie.Need-cast-result
-cast-result c = let h = place-small _ _ (c .number-of .ensures .1) (entry c .pre .0 .1) in omega (arith, entry c .pre .0)
+cast-result c = let h = place-small _ _ (c .number-of .ensures .1) (entry c .pre .1) in omega (arith, entry c .pre)
 
 mul-result : tie.Need-mul-result
-mul-result c = let h = place-small _ _ (c .number-of .ensures .1) (entry c .pre .0 .1) in omega (arith, entry c .pre .0)
+mul-result c = let h = place-small _ _ (c .number-of .ensures .1) (entry c .pre .1) in omega (arith, entry c .pre)
 
 shared-slice-read-result : tie.Need-shared-slice-read-result
 shared-slice-read-result c =
-    let start = entry (c .before) in
-    summary-room (start .pre .0 .3) _ (start .pre .1) (level (c .before)) _ (c .before .number-of .ensures .0) (start .pre .0 .2)
+    let pre = entry (c .before) .pre in
+    place-room (pre .3) (pre .2) (level (c .before)) _ (c .before .number-of .ensures .0) (pre .4)
 
 returns : tie.Need-returns
 returns c =
-    let start = entry (c .before) in
-    summary-has (start .pre .0 .3) _ (start .pre .1) (level (c .before)) _ (c .before .number-of .ensures .0) (start .pre .0 .2)
+    let pre = entry (c .before) .pre in
+    place-counted (pre .3) (pre .2) (level (c .before)) _ (c .before .number-of .ensures .0)
 
-mul-count-block : tie.Need-mul-count-block
-mul-count-block c = let start = c .before .before .before .before .before in let h = area-fits (start .pre .0 .3) (start .pre .0 .0) in omega arith
+power-of-two-requires-2 : tie.Need-power-of-two-requires-2
+power-of-two-requires-2 c κs = search needs
 
-count-block-requires : tie.Need-count-block-requires
-count-block-requires c κs =
-    let start = c .before .before .before .before .before in
-    (start .pre .0 .4, (start .pre .0 .0, key-valid (start .pre .0 .3), area-is (start .pre .0 .3)))
+mul-tally-node : tie.Need-mul-tally-node
+mul-tally-node c = let pre = c .before .before .before .before .before .pre in let h = area-fits (pre .3) (pre .0) in omega arith
 
-mul-result-2 : tie.Need-mul-result-2
-mul-result-2 c = search needs
-
-array-read-result : tie.Need-array-read-result
-array-read-result c = search needs
+tally-node-requires : tie.Need-tally-node-requires
+tally-node-requires c κs =
+    let pre = c .before .before .before .before .before .pre in
+    (mixed-node (pre .3) (pre .4 .mixed), area-fits (pre .3) (pre .0), bit-one _ _ (c .power-of-two2 .ensures))
 
 returns-2 : tie.Need-returns-2
-returns-2 c = count-among _ _ _ _ _ _ (c .count-block .ensures) (omega arith)
+returns-2 c = tally-counted (c .before .before .before .before .before .before .pre .3) _ _ (c .before .power-of-two2 .ensures) _ (c .tally-node .ensures)
 
 pub block-pixels-spec : {M : Type 1} → statement M
 block-pixels-spec =
@@ -75,8 +73,7 @@ block-pixels-spec =
     mul-result
     shared-slice-read-result
     returns
-    mul-count-block
-    count-block-requires
-    mul-result-2
-    array-read-result
+    power-of-two-requires-2
+    mul-tally-node
+    tally-node-requires
     returns-2)
