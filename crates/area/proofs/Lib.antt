@@ -1,0 +1,11 @@
+pub mod SumUnder
+pub mod AreaFrom
+pub mod OverlapArea
+pub mod NumberOf
+pub mod BlockCount
+pub mod TallyTurn
+pub mod WholeBlock
+pub mod Measured
+pub mod Looked
+pub mod SelectArea
+pub mod AreaCall

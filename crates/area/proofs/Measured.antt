@@ -1,0 +1,96 @@
+-- The area on the walk: what was counted, and what is left from the key where the walk stands on, are together the area. A block that is passed adds what
+-- it has of the feature in the window, one that is entered adds nothing. Rests on AreaFrom, OverlapArea and BlockCount.
+use Prim.Native.Nat.{ℕ, zero, suc, _+_, _*_, _/_, _^_, _≤_, _<_}
+use mathlib.Core.Path.{_≡_, refl, sym, _∙_, ap}
+use mathlib.Core.Bool.{true, false}
+use native.Mathlib.Nat.{pow-le-pow-right}
+use native.Mathlib.Omega.{arith}
+use lib.Dec.{leb, lit<}
+use borrow.Author.Tests.{eqb-true}
+use Rattle.keys.specs.Key.{heightOf}
+use Rattle.keys.specs.Block.{rowOf, columnOf}
+use Rattle.keys.proofs.Cases.{and-right}
+use Rattle.keys.proofs.Under.{Block}
+use Rattle.definitions.specs.Picture.{Picture}
+use Rattle.definitions.specs.Bits.{hasSlot, bitsOf}
+use Rattle.definitions.specs.Window.{isWindow}
+use Rattle.definitions.specs.Area.{areaIn, pixelsWith}
+use Rattle.definitions.specs.declared.Window.{Window}
+use Rattle.definitions.proofs.Slots.{slot-power}
+use Rattle.definitions.proofs.BitsOf.{bits-zero}
+use Rattle.window.specs.Walk.{Stands, isApart, isWithin}
+use Rattle.window.specs.declared.walk.Spot.{Spot}
+use Rattle.window.proofs.Seen.{bitsAt}
+use Rattle.window.proofs.Steps.{Parent, clear-first}
+use Rattle.area.specs.Overlap.{overlapOf, isWhole}
+use Rattle.area.proofs.AreaFrom.{areaFrom, area-first, area-end, area-most, area-clear, area-block}
+use Rattle.area.proofs.OverlapArea.{ownArea, own-apart, own-lacking, own-within, own-whole}
+use Rattle.area.proofs.BlockCount.{keyed}
+
+-- a pixel that has the feature has no other
+one-pixel : (p : Picture) (f r c : ℕ) → hasSlot (bitsOf p zero r c) f ≡ true → bitsOf p zero r c ≡ 2 ^ f
+one-pixel p f r c has =
+    bits-zero p r c ∙ ap (λ x. 2 ^ x) (eqb-true (p r c) f (sym (slot-power (p r c) f) ∙ ap (λ x. hasSlot x f) (sym (bits-zero p r c)) ∙ has))
+
+parent-by : {m : ℕ} (p : Picture) (f : ℕ) (s : Spot) (k : ℕ) → Block m k (s .row) (s .column) (s .key) → s .side ≡ 2 ^ k → s .step ≡ 5 ^ k
+    → hasSlot (bitsOf p k (s .row) (s .column)) f ≡ true
+    → (bitsOf p k (s .row) (s .column) ≡ 2 ^ f → ⊥)
+    → Parent m s
+parent-by p f s zero b side step has other = absurd (other (one-pixel p f (s .row) (s .column) has))
+parent-by p f s (suc k) b side step has other = record { height = k; block = b; side = side; step = step }
+
+-- a block that has the feature and others is no pixel
+pub mixed-parent : (p : Picture) (f : ℕ) {m : ℕ} {s : Spot} (h : Stands m s) → hasSlot (bitsAt p h) f ≡ true → (bitsAt p h ≡ 2 ^ f → ⊥) → Parent m s
+mixed-parent p f {s = s} h has other = parent-by p f s (h .height) (h .block) (h .side) (h .step) has other
+
+module _ (m : ℕ) (p : Picture) (w : Window) (f : ℕ) where
+  -- what was counted, with what is left from a key on, is the area
+  pub record Measured (pixels x : ℕ) : Type 0 where
+    pub adds-up : pixels + areaFrom m p w f x ≡ areaIn p w f
+
+  pub measured-none : (x : ℕ) → x ≡ 0 → isWindow m w ≡ true → Measured 0 x
+  measured-none x e good = let a = area-first m p w f x e good in omega arith
+
+  pub measured-end : (pixels x : ℕ) → x ≡ 5 ^ m → Measured pixels x → pixels ≡ areaIn p w f
+  measured-end pixels x e t = let a = area-end m p w f x e in omega arith
+
+  -- what was counted is at most the raster's pixels
+  pub measured-most : (pixels x : ℕ) → m ≤ 10 → isWindow m w ≡ true → Measured pixels x → pixels ≤ 1048576
+  measured-most pixels x deep good t =
+      let a = area-most m p w f good in
+      let b = pow-le-pow-right {n = 4} (lit< tt) {i = m} {j = 10} deep in
+      omega arith
+
+  -- into a block
+  pub measured-enter : (pixels : ℕ) {s : Spot} → isWindow m w ≡ true → Parent m s → Measured pixels (s .key) → Measured pixels (s .key + s .step / 5)
+  measured-enter pixels {s} good q t =
+      let a = area-clear m p w f (s .key) (s .key + s .step / 5) (omega arith) (clear-first w good q) in
+      omega arith
+
+  module _ {s : Spot} (h : Stands m s) (pixels : ℕ) (t : Measured pixels (s .key)) where
+    -- past a block that adds so many pixels
+    past : (more : ℕ) → more ≡ ownArea p w f h → Measured (pixels + more) (s .key + s .step)
+    past more e =
+        let a = area-block m p w f (h .block) in
+        let b : areaFrom m p w f (s .key + s .step) ≡ areaFrom m p w f (s .key + 5 ^ h .height) = ap (λ x. areaFrom m p w f (s .key + x)) (h .step) in
+        omega arith
+
+    past-none : ownArea p w f h ≡ 0 → Measured pixels (s .key + s .step)
+    past-none e = let a = past 0 (sym e) in omega arith
+
+    pub measured-apart : isApart s w ≡ true → Measured pixels (s .key + s .step)
+    measured-apart e = past-none (own-apart p w f h e)
+
+    pub measured-lacking : hasSlot (bitsAt p h) f ≡ false → Measured pixels (s .key + s .step)
+    measured-lacking e = past-none (own-lacking p w f h e)
+
+    -- a block of the feature alone adds what lies in the window
+    pub measured-overlap : isApart s w ≡ false → bitsAt p h ≡ 2 ^ f → (more : ℕ) → more ≡ overlapOf s w → Measured (pixels + more) (s .key + s .step)
+    measured-overlap e is more g = past more (g ∙ sym (own-whole p w f h e is))
+
+    -- a block within the window adds its count
+    pub measured-whole : (side : ℕ) → isWhole side s w ≡ true
+        → (more : ℕ) → more ≡ pixelsWith p (heightOf m (s .key)) (rowOf m (s .key)) (columnOf m (s .key)) f
+        → Measured (pixels + more) (s .key + s .step)
+    unfolding isWhole
+    measured-whole side e more g = past more (g ∙ keyed h p f ∙ sym (own-within p w f h (and-right (leb (s .side * 4) side) _ e)))
