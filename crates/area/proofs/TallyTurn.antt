@@ -13,7 +13,7 @@ use borrow.Author.Tests.{eq-eqb, ne-eqb}
 use Rattle.keys.specs.Key.{childKey}
 use Rattle.keys.proofs.Cases.{equal}
 use Rattle.definitions.specs.Picture.{Picture, oneFeature}
-use Rattle.definitions.specs.Bits.{featureOf, bitsOf}
+use Rattle.definitions.specs.Bits.{featureOf}
 use Rattle.definitions.specs.Area.{pixelsWith}
 use Rattle.definitions.proofs.Features.{one-pixel}
 use Rattle.definitions.proofs.CountOf.{pixels-quadrants, pixels-most, pixels-one, pixels-none}
