@@ -1,19 +1,21 @@
--- The area of a feature in a window is a sum over the raster's pixels, by quadrants: 1 for each pixel of the window that has the feature. Rests on
--- CountOf and WindowScan.
+-- The area of a feature in a window is a sum over the raster's pixels, by quadrants: 1 for each pixel of the window that has the feature. In a block
+-- inside the window it is the block's count, in one outside it is 0. Rests on CountOf and WindowScan.
 use Prim.Native.Nat.{ℕ, _+_, _-_, _^_, _≤_}
 use mathlib.Core.Path.{_≡_, sym, _∙_, ap, ap₂}
-use mathlib.Core.Bool.{true, cond, _&&_}
+use mathlib.Core.Bool.{true, false, cond, _&&_}
+use native.Mathlib.Nat.{mul-zero}
 use native.Mathlib.Omega.{arith}
 use lib.Dec.{leb, eqb}
 use borrow.Author.Tests.{leb-true}
 use Rattle.keys.proofs.Cases.{decide, and-left, and-right}
 use Rattle.definitions.specs.Picture.{Picture}
 use Rattle.definitions.specs.Window.{isWindow, inWindow, featuresIn}
-use Rattle.definitions.specs.Area.{areaIn}
+use Rattle.definitions.specs.Area.{areaIn, pixelsWith}
 use Rattle.definitions.specs.declared.Window.{Window}
+use Rattle.definitions.proofs.Within.{Every}
 use Rattle.definitions.proofs.WindowScan.{inside-window, window-inside}
-use Rattle.definitions.proofs.PixelSums.{sumRows, sumPixels, sum-block, InPart, rows-same, rows-inside}
-use Rattle.definitions.proofs.CountOf.{oneAt, count-rows}
+use Rattle.definitions.proofs.PixelSums.{sumRows, sumPixels, sum-block, sum-same, sum-constant, InPart, rows-same, rows-inside}
+use Rattle.definitions.proofs.CountOf.{oneAt, count-rows, pixels-sum}
 
 -- 1 at a pixel of the window that has the feature, 0 at another
 abbrev pub oneInside : Picture → Window → ℕ → ℕ → ℕ → ℕ
@@ -63,3 +65,13 @@ module _ (p : Picture) (w : Window) (f : ℕ) where
       ∙ sym (rows-inside (oneInside p w f) (w .row) (w .column) (w .width) (w .height) (2 ^ m - (w .column + w .width)) (2 ^ m - (w .row + w .height)) outside-none)
       ∙ sym (ap₂ (λ x y. sumRows (oneInside p w f) 0 0 x y) right down)
       ∙ sum-block (oneInside p w f) m 0 0
+
+  -- the area in a block that lies wholly in the window is the block's count
+  pub area-inside : (k r c : ℕ) → Every (λ a b. inWindow w a b ≡ true) k r c → sumPixels (oneInside p w f) k r c ≡ pixelsWith p k r c f
+  area-inside k r c h =
+      sum-same (oneInside p w f) (oneAt p f) k r c (λ a b i. ap (λ x. cond (x && eqb (p a b) f) 1 0) (h a b i)) ∙ sym (pixels-sum p f k r c)
+
+  -- in a block that has no pixel of the window there is none
+  pub area-outside : (k r c : ℕ) → Every (λ a b. inWindow w a b ≡ false) k r c → sumPixels (oneInside p w f) k r c ≡ 0
+  area-outside k r c h =
+      sum-constant (oneInside p w f) 0 k r c (λ a b i. ap (λ x. cond (x && eqb (p a b) f) 1 0) (h a b i)) ∙ mul-zero (4 ^ k)

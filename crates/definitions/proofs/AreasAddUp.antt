@@ -3,7 +3,7 @@
 use Prim.Native.Nat.{ℕ, zero, suc, _+_, _*_, _^_, _≤_, _<_}
 use mathlib.Core.Path.{_≡_, refl, sym, _∙_, ap, ap₂}
 use mathlib.Core.Bool.{true, cond}
-use mathlib.Core.List.{List, [], _∷_, _++_, List·Memᴰ, List·Memᴰ·head, List·Memᴰ·tail}
+use mathlib.Core.List.{List, [], _∷_, List·Memᴰ, List·Memᴰ·head, List·Memᴰ·tail}
 use native.Mathlib.Nat.{suc-mul, zero-mul}
 use native.Mathlib.Omega.{arith}
 use lib.ListN.{length, length-append}
@@ -27,7 +27,7 @@ unfolding sumBelow countOf
 nothing-below zero = refl
 nothing-below (suc s) = let e = nothing-below s in omega arith
 
-same-below : (g h : ℕ → ℕ) (s : ℕ) → ((f : ℕ) → g f ≡ h f) → sumBelow g s ≡ sumBelow h s
+pub same-below : (g h : ℕ → ℕ) (s : ℕ) → ((f : ℕ) → g f ≡ h f) → sumBelow g s ≡ sumBelow h s
 unfolding sumBelow
 same-below g h zero e = refl
 same-below g h (suc s) e = ap₂ (λ x y. x + y) (same-below g h s e) (e s)

@@ -1,6 +1,6 @@
 -- How many pixels have a feature: a block's count is the sum over its four quadrants, it depends only on the block's pixels, and a block of one
 -- feature has all its pixels of that one and none of another. Rests on PixelSums.
-use Prim.Native.Nat.{ℕ, zero, suc, _+_, _*_, _^_, _≤_}
+use Prim.Native.Nat.{ℕ, zero, suc, _+_, _^_, _≤_}
 use mathlib.Core.Path.{_≡_, refl, sym, _∙_, ap, ap₂}
 use mathlib.Core.Bool.{true, cond}
 use mathlib.Core.List.{List, [], _∷_, _++_}

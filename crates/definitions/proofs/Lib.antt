@@ -2,6 +2,7 @@ mod Vectors
 mod MapA
 mod Orders
 mod Corners
+mod AreaVectors
 pub mod Within
 pub mod Pixels
 pub mod Features
@@ -27,6 +28,9 @@ pub mod AreaOf
 pub mod AreasAddUp
 pub mod SummaryOf
 pub mod SameNumbers
+pub mod SummaryAddsUp
+pub mod CountsApart
+pub mod SelectArea
 pub mod LastEntry
 pub mod SoundLog
 pub mod Waivers

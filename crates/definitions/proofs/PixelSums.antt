@@ -81,7 +81,7 @@ module _ (g : ℕ → ℕ → ℕ) where
       (ap₂ (λ x y. x + y) (sum-block k (r + 2 ^ k) c) (sum-block k (r + 2 ^ k) (c + 2 ^ k)))
       ∙ sym (sum-suc k r c)
 
-same-four : {a b c d a′ b′ c′ d′ : ℕ} → a ≡ a′ → b ≡ b′ → c ≡ c′ → d ≡ d′ → a + b + (c + d) ≡ a′ + b′ + (c′ + d′)
+pub same-four : {a b c d a′ b′ c′ d′ : ℕ} → a ≡ a′ → b ≡ b′ → c ≡ c′ → d ≡ d′ → a + b + (c + d) ≡ a′ + b′ + (c′ + d′)
 same-four e f h i = omega arith
 
 -- a sum depends only on what is added at the block's pixels

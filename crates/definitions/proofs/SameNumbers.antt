@@ -4,7 +4,7 @@ use mathlib.Core.Path.{_≡_, refl, sym, _∙_, ap, ap₂}
 use mathlib.Core.Bool.{true, false, not, true≢false}
 use mathlib.Core.List.{List, [], _∷_}
 use lib.Dec.{eqb}
-use borrow.Author.Tests.{eqb-true, eq-eqb, not-true, not-false}
+use borrow.Author.Tests.{eqb-true, eq-eqb, not-false}
 use Rattle.keys.proofs.Cases.{decide, and-left, and-right, and-both}
 use Rattle.definitions.specs.Picture.{Picture}
 use Rattle.definitions.specs.Area.{summaryOf, sameNumbers, noSummary}

@@ -1,17 +1,14 @@
 -- The numbers of a summary's blocks: how many there are at each m, how many pixels each has, and the key of each as the code works it out. Rests on
 -- definitions' SummaryOf.
-use Prim.Native.Nat.{ℕ, zero, suc, _+_, _-_, _*_, _/_, _%_, _^_, _≤_, _<_, min}
-use mathlib.Core.Path.{_≡_, refl, sym, _∙_, ap, ap₂}
+use Prim.Native.Nat.{ℕ, _+_, _-_, _*_, _/_, _%_, _^_, _≤_, _<_}
+use mathlib.Core.Path.{_≡_, sym, _∙_, ap, ap₂}
 use mathlib.Core.Bool.{true}
-use mathlib.Core.List.{List}
 use native.Mathlib.Nat.{pow-suc, add-zero, add-mul, mul-comm, mul-assoc, mul-le-mul, pow-le-pow-right}
 use native.Mathlib.Numerals.{add-one}
 use native.Mathlib.Omega.{arith}
 use lib.Dec.{lit<}
-use lib.ListN.{length}
 use Rattle.keys.specs.Key.{validKey, heightOf}
-use Rattle.keys.proofs.Cases.{split, equal}
-use Rattle.keys.proofs.Powers.{five-le, two-le}
+use Rattle.keys.proofs.Powers.{five-le}
 use Rattle.keys.proofs.Valid.{block-valid}
 use Rattle.definitions.specs.Area.{summaryLevel, summaryHeight, keyBelow, blockKey}
 use Rattle.definitions.proofs.PixelSums.{squared}
@@ -34,6 +31,13 @@ module _ (m : ℕ) where
   -- how many pixels each has
   pub area-one : m < 2 → 1 ≡ 4 ^ summaryHeight m
   area-one h = let l : summaryHeight m ≡ 0 = omega arith in sym (ap (λ x. 4 ^ x) l)
+
+  -- how many keys the interval of each has
+  pub step-one : m < 2 → 1 ≡ 5 ^ summaryHeight m
+  step-one h = let l : summaryHeight m ≡ 0 = omega arith in sym (ap (λ x. 5 ^ x) l)
+
+  pub step-many : 2 ≤ m → 5 ^ (m - 2) ≡ 5 ^ summaryHeight m
+  step-many h = let l : m - 2 ≡ summaryHeight m = omega arith in ap (λ x. 5 ^ x) l
 
   module _ (side : ℕ) (e : side ≡ 2 ^ (m - 2)) (h : 2 ≤ m) where
     pub area-many : side * side ≡ 4 ^ summaryHeight m

@@ -4,7 +4,7 @@ use Prim.Native.Nat.{ℕ, zero, suc, _+_, _*_, _/_, _^_, _≤_, _<_}
 use mathlib.Core.Path.{_≡_, refl, sym, _∙_, ap}
 use mathlib.Core.Bool.{true, false, true≢false}
 use mathlib.Core.List.{List}
-use native.Mathlib.Nat.{pow-suc, suc-mul, zero-mul, add-zero, mul-le-mul-right, one-le-pow}
+use native.Mathlib.Nat.{pow-suc, suc-mul, add-zero, mul-le-mul-right, one-le-pow}
 use native.Mathlib.Numerals.{add-one}
 use native.Mathlib.Omega.{arith}
 use lib.ListN.{length, getD, length-set}
@@ -13,14 +13,13 @@ use Rattle.keys.specs.Key.{childKey}
 use Rattle.keys.proofs.Cases.{equal}
 use Rattle.definitions.specs.Picture.{Picture, oneFeature}
 use Rattle.definitions.specs.Bits.{featureOf}
-use Rattle.definitions.specs.List.{listOf}
 use Rattle.definitions.specs.Area.{pixelsWith}
 use Rattle.definitions.proofs.Features.{one-pixel}
 use Rattle.definitions.proofs.CountOf.{pixels-quadrants, pixels-most, pixels-one, pixels-none}
 use Rattle.list.specs.Check.{oneSlot}
 use Rattle.list.specs.Shown.{ShownAt}
 use Rattle.list.proofs.Shown.{shown-room, leaf-one, leaf-feature, leaf-length, node-several}
-use Rattle.list.proofs.ShownQuadrants.{quadrantRow, quadrantColumn, quadrantList, Left, left-all, left-shown, left-then, left-none}
+use Rattle.list.proofs.ShownQuadrants.{quadrantRow, quadrantColumn, Left, left-all, left-shown, left-then, left-none}
 use Rattle.summary.specs.Count.{added, Room, NodeAt, BlockCounted, NodeCounted}
 
 -- the pixels of quadrant number d, and those of the first d quadrants

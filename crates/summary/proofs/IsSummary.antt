@@ -1,6 +1,6 @@
 -- The check of a summary: the blocks passed so far are right, and a wrong length or a wrong block is refusal 18. Rests on Renewed and definitions'
 -- SameNumbers.
-use Prim.Native.Nat.{ℕ, suc, _+_, _*_, _^_, _≤_, _<_}
+use Prim.Native.Nat.{ℕ, _+_, _*_, _^_, _≤_, _<_}
 use mathlib.Core.Path.{_≡_, sym, _∙_, ap, ap₂}
 use mathlib.Core.Bool.{Bool, true, false, not, true≢false}
 use mathlib.Core.List.{List, _++_}

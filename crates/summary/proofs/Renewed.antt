@@ -2,8 +2,8 @@
 -- longer by one block after each turn. Rests on definitions' SummaryOf and slices' Sets.
 use Prim.Native.Nat.{ℕ, suc, _+_, _-_, _*_, _^_, _≤_, _<_}
 use mathlib.Core.Path.{_≡_, refl, sym, _∙_, ap, ap₂}
-use mathlib.Core.List.{List, [], _++_, append-nil}
-use native.Mathlib.Nat.{add-mul, suc-mul, zero-mul, mul-le-mul-right}
+use mathlib.Core.List.{List, _++_, append-nil}
+use native.Mathlib.Nat.{add-mul, suc-mul, zero-mul, one-mul, mul-le-mul-right}
 use native.Mathlib.Omega.{arith}
 use lib.ListN.{length, take, drop, length-drop}
 use lib.Seq.{sets, length-sets, length-take-le, take-add, drop-drop, take-all, drop-length}
@@ -51,18 +51,29 @@ pub record Begun (m s : ℕ) (p : Picture) (from until : ℕ) (old now : List �
   pub run : now ≡ renewed m s p from b old
 
 module _ (m s : ℕ) (p : Picture) where
-  none-renewed : (from : ℕ) (old : List ℕ) → old ≡ renewed m s p from from old
+  pub none-renewed : (from : ℕ) (old : List ℕ) → old ≡ renewed m s p from from old
   unfolding renewed
   none-renewed from old =
       let e : from - from ≡ 0 = omega arith in
       sym (ap (λ n. sets old (from * s) (take (n * s) (drop (from * s) (summaryOf m s p)))) e
       ∙ ap (λ n. sets old (from * s) (take n (drop (from * s) (summaryOf m s p)))) (zero-mul s))
 
+  pub renewed-length : (from until : ℕ) (old : List ℕ) → length (renewed m s p from until old) ≡ length old
+  unfolding renewed
+  renewed-length from until old = length-sets old (from * s) (take ((until - from) * s) (drop (from * s) (summaryOf m s p)))
+
+  -- one block alone
+  pub alone-renewed : (b : ℕ) (old : List ℕ) → renewed m s p b (b + 1) old ≡ sets old (b * s) (take s (drop (b * s) (summaryOf m s p)))
+  unfolding renewed
+  alone-renewed b old =
+      let one : b + 1 - b ≡ 1 = omega arith in
+      ap (λ n. sets old (b * s) (take n (drop (b * s) (summaryOf m s p)))) (ap (λ n. n * s) one ∙ one-mul s)
+
   -- at first none is
   pub renew-begins : (from until : ℕ) (old : List ℕ) → from ≤ until → Begun m s p from until old old from
   renew-begins from until old h = record { above = omega arith; within = h; long = refl; run = none-renewed from old }
 
-  one-renewed : (from b : ℕ) (old : List ℕ) → from ≤ b → b < 4 ^ summaryLevel m
+  pub one-renewed : (from b : ℕ) (old : List ℕ) → from ≤ b → b < 4 ^ summaryLevel m
       → sets (renewed m s p from b old) (b * s) (take s (drop (b * s) (summaryOf m s p))) ≡ renewed m s p from (b + 1) old
   unfolding renewed
   one-renewed from b old h most =

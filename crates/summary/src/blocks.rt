@@ -31,6 +31,17 @@ pub fn area_of(m: u32) -> u32
     side * side
 }
 
+// How many keys the interval of each block has.
+pub fn step_of(m: u32) -> u32
+    requires { ⌜ m ≤ 10 ⌝ }
+    ensures { λ r. ⌜ r ≡ 5 ^ summaryHeight m ⌝ }
+{
+    if m < 2 {
+        return 1;
+    }
+    power::power_of_five(m - 2)
+}
+
 // The key of block number b, whose two digits are those of b in base 4, each one more.
 pub fn key_of(m: u32, b: usize) -> u32
     requires { ⌜ (m ≤ 10) × (b < 4 ^ summaryLevel m) ⌝ }

@@ -4,3 +4,4 @@ pub mod calls;
 pub mod check;
 pub mod count;
 pub mod renew;
+pub mod touched;

@@ -1,6 +1,6 @@
 // Counting into a summary: all blocks, or those from one number to another.
 ghost use mathlib.Core.Path.{_≡_};
-ghost use Prim.Native.Nat.{_≤_, _<_, _^_};
+ghost use Prim.Native.Nat.{_≤_};
 ghost use lib.ListN.{length};
 ghost use Rattle.definitions.specs.Area.{summaryOf, summaryLength};
 ghost use Rattle.list.specs.Own.{OwnList, shownBy};

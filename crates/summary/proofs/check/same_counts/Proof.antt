@@ -3,7 +3,7 @@ use Prim.Native.Nat.{ℕ, _+_, _-_, _<_, _≤_}
 use mathlib.Core.Path.{_≡_}
 use native.Mathlib.Omega.{arith}
 use lib.ListN.{getD}
-use borrow.Author.Count.{below-more, below-none}
+use borrow.Author.Count.{below-more}
 use borrow.Author.Needs.{needs}
 use borrow.Kind.Array.{good-length, eInt}
 use mir.Syntax.{w32}

@@ -1,6 +1,6 @@
 -- `count::count_node` meets its contract: after each turn the counters have the pixels of the quadrants passed. The area falls.
 use Prim.Native.Nat.{ℕ, _-_, _<_}
-use mathlib.Core.Path.{_≡_, sym, _∙_}
+use mathlib.Core.Path.{sym, _∙_}
 use mathlib.Core.Logic.{⊎-elim}
 use native.Mathlib.Omega.{arith}
 use borrow.Fn.Kinds.{In}

@@ -1,5 +1,4 @@
 -- `count::feature_of` meets its contract: below the one slot of a leaf stand as many zeros as its feature says.
-use mathlib.Core.Path.{sym, _∙_}
 use native.Mathlib.Omega.{arith}
 use lib.Count.{trailing-le}
 use Rattle.list.proofs.Trailing.{feature-below, trailing-feature}
