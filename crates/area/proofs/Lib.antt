@@ -7,5 +7,4 @@ pub mod Looked
 pub mod TallyTurn
 pub mod WholeBlock
 pub mod Measured
-pub mod SelectArea
 pub mod AreaCall

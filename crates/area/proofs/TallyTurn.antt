@@ -4,7 +4,7 @@ use Prim.Native.Nat.{ℕ, zero, suc, _+_, _*_, _/_, _^_, _≤_, _<_}
 use mathlib.Core.Path.{_≡_, refl, sym, _∙_, ap}
 use mathlib.Core.Bool.{true, false, cond, true≢false}
 use mathlib.Core.List.{List}
-use native.Mathlib.Nat.{pow-suc, suc-mul, mul-le-mul-right, one-le-pow}
+use native.Mathlib.Nat.{pow-suc, suc-mul, mul-le-mul-right}
 use native.Mathlib.Numerals.{add-one}
 use native.Mathlib.Omega.{arith}
 use lib.ListN.{length, getD}
@@ -188,7 +188,3 @@ leaf-turn bit {bits} {next = next} x one more pixels′ next′ h leaf e sum pas
       ends = ap (λ n. next + n) (sym (leaf-length s leaf));
     })
     sum past
-
--- a quarter of the pixels is less
-pub less : (area t : ℕ) {bits : List ℕ} {at : ℕ} → area ≡ t → NodeAt bits at area → area / 4 < t
-less area t e node = let f = node .pixels in let g = pow-suc 4 (node .height) in let z = one-le-pow (node .height) 4 (omega arith) in omega arith

@@ -7,7 +7,8 @@ use borrow.Fn.Kinds.{In}
 use borrow.Fn.PlainCycle.{Measures, is, falls, and}
 use Rattle.definitions.specs.Bits.{featureOf}
 use Rattle.list.proofs.Shown.{shown-room}
-use Rattle.area.proofs.TallyTurn.{Reached, reached-none, reached-all, next-room, pixels-room, child-asked, child-most, leaf-turn, node-turn, less}
+use Rattle.summary.proofs.CountTurn.{less}
+use Rattle.area.proofs.TallyTurn.{Reached, reached-none, reached-all, next-room, pixels-room, child-asked, child-most, leaf-turn, node-turn}
 use Rattle.area.proofs.tally.tally_node.Reads as own
 use Rattle.area.proofs.tally.tally_node.Kinds as kinds
 use Rattle.area.proofs.tally.+tally_node.Lts-tally_node as lts
