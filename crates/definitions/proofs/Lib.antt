@@ -31,6 +31,7 @@ pub mod SameNumbers
 pub mod SummaryAddsUp
 pub mod CountsApart
 pub mod SelectArea
+pub mod SummaryPlaces
 pub mod LastEntry
 pub mod SoundLog
 pub mod Waivers

@@ -64,8 +64,19 @@ module _ (m s : ℕ) (old new : Picture) where
     pub counted-anew : renewed m s new b (b + 1) (soFar b) ≡ soFar (b + 1)
     counted-anew = alone-renewed m s new b (soFar b) ∙ one-renewed m s new 0 b (summaryOf m s old) (omega arith) h
 
--- the tests of the code: keys that are apart, and keys that stay small
-apart-says : (r : Bool) (k κ k′ κ′ : ℕ) → r ≡ leb (κ + 5 ^ k) κ′ || leb (κ′ + 5 ^ k′) κ → r ≡ true → Apart k κ k′ κ′
+-- the test of the code: the keys of block number b are apart from those of a block
+abbrev pub apartTest : ℕ → ℕ → ℕ → Bool
+apartTest m key b = leb (key + 5 ^ heightOf m key) (blockKey m b) || leb (blockKey m b + 5 ^ summaryHeight m) key
+
+pub test-is : (m key b : ℕ) {step own other : ℕ} {r : Bool} → step ≡ 5 ^ heightOf m key → own ≡ 5 ^ summaryHeight m → other ≡ blockKey m b
+    → r ≡ leb (key + step) other || leb (other + own) key
+    → r ≡ apartTest m key b
+test-is m key b {other = other} e f g is =
+    is
+    ∙ ap₂ (λ y z. leb (key + y) other || leb (other + z) key) e f
+    ∙ ap (λ y. leb (key + 5 ^ heightOf m key) y || leb (y + 5 ^ summaryHeight m) key) g
+
+pub apart-says : (r : Bool) (k κ k′ κ′ : ℕ) → r ≡ leb (κ + 5 ^ k) κ′ || leb (κ′ + 5 ^ k′) κ → r ≡ true → Apart k κ k′ κ′
 apart-says r k κ k′ κ′ is e =
     ⊎-elim (λ (x : leb (κ + 5 ^ k) κ′ ≡ true). inl (leb-true _ _ x)) (λ (x : leb (κ′ + 5 ^ k′) κ ≡ true). inr (leb-true _ _ x))
     (or-either (leb (κ + 5 ^ k) κ′) (leb (κ′ + 5 ^ k′) κ) (sym is ∙ e))
@@ -124,9 +135,7 @@ module _ {m s key : ℕ} {new : Picture} {blocks b : ℕ} {now : List ℕ} (x : 
         → Going m s key new blocks after (b + 1)
     passed-turn r step own other after valid h e f g is no′ same =
         let most : b < 4 ^ summaryLevel m = omega arith in
-        let test : r ≡ leb (key + 5 ^ heightOf m key) (blockKey m b) || leb (blockKey m b + 5 ^ summaryHeight m) key
-        = is ∙ ap₂ (λ y z. leb (key + y) other || leb (other + z) key) e f ∙ ap (λ y. leb (key + 5 ^ heightOf m key) y || leb (y + 5 ^ summaryHeight m) key) g in
-        let apart = apart-says r (heightOf m key) key (summaryHeight m) (blockKey m b) test (not-false r no′) in
+        let apart = apart-says r (heightOf m key) key (summaryHeight m) (blockKey m b) (test-is m key b e f g is) (not-false r no′) in
         record {
           picture = x .picture;
           outside = x .outside;

@@ -1,3 +1,4 @@
 pub mod Count
 pub mod Renew
 pub mod Touched
+pub mod Taken

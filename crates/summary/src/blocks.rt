@@ -1,8 +1,9 @@
 // The blocks of a summary: how many there are, how many pixels each has, their keys, and their counts.
 ghost use mathlib.Core.Path.{_≡_};
-ghost use Prim.Native.Nat.{_≤_, _<_, _^_};
+ghost use mathlib.Core.Bool.{_||_};
+ghost use Prim.Native.Nat.{_+_, _≤_, _<_, _^_};
 ghost use lib.ListN.{length};
-ghost use lib.Dec.{eqb};
+ghost use lib.Dec.{leb, eqb};
 ghost use Rattle.keys.specs.Block.{rowOf, columnOf};
 ghost use Rattle.definitions.specs.Area.{summaryLevel, summaryHeight, summaryLength, blockKey, countsOf};
 ghost use Rattle.list.specs.Own.{OwnList, shownBy};
@@ -56,6 +57,17 @@ pub fn key_of(m: u32, b: usize) -> u32
     }
     let step = power::power_of_five(m - 2);
     (number / 4 * 5 + number % 4 + 6) * step
+}
+
+// The keys of one block, step of them, come before the keys of the other, size of them, or after them.
+pub fn are_apart(key: u32, step: u32, other: u32, size: u32) -> bool
+    requires { ⌜ (key + step < 2 ^ 32) × (other + size < 2 ^ 32) ⌝ }
+    ensures { λ r. ⌜ r ≡ leb (key + step) other || leb (other + size) key ⌝ }
+{
+    if key + step <= other {
+        return true;
+    }
+    other + size <= key
 }
 
 // The counts of block number b.

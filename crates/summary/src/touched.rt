@@ -1,8 +1,7 @@
 // The summary after an edit of one block: only the blocks of the summary that the edited block touches are counted anew.
 ghost use mathlib.Core.Path.{_≡_};
-ghost use mathlib.Core.Bool.{true, _||_};
-ghost use Prim.Native.Nat.{_+_, _≤_, _<_, _^_};
-ghost use lib.Dec.{leb};
+ghost use mathlib.Core.Bool.{true};
+ghost use Prim.Native.Nat.{_≤_};
 ghost use Rattle.keys.specs.Key.{validKey};
 ghost use Rattle.definitions.specs.Area.{summaryOf};
 ghost use Rattle.list.specs.Own.{OwnList, shownBy};
@@ -11,17 +10,6 @@ use crate::blocks;
 use crate::renew;
 use keys::Key;
 use keys::power;
-
-// The keys of one block, step of them, come before the keys of the other, size of them, or after them.
-fn are_apart(key: u32, step: u32, other: u32, size: u32) -> bool
-    requires { ⌜ (key + step < 2 ^ 32) × (other + size < 2 ^ 32) ⌝ }
-    ensures { λ r. ⌜ r ≡ leb (key + step) other || leb (other + size) key ⌝ }
-{
-    if key + step <= other {
-        return true;
-    }
-    other + size <= key
-}
 
 // The summary of a picture becomes that of the list, whose picture is equal to it outside the block with the given key.
 pub fn renew_touched(
@@ -43,7 +31,7 @@ pub fn renew_touched(
     let blocks = blocks::number_of(m);
     let mut b = 0;
     while b < blocks {
-        if !are_apart(key, step, blocks::key_of(m, b), own) {
+        if !blocks::are_apart(key, step, blocks::key_of(m, b), own) {
             renew::renew(m, s, keys, bits, n, summary, b, b + 1);
         }
         b += 1;

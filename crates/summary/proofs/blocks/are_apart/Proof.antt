@@ -1,4 +1,4 @@
--- `touched::are_apart` meets its contract.
+-- `blocks::are_apart` meets its contract.
 use Prim.Native.Nat.{ℕ, _+_, _≤_, _<_}
 use mathlib.Core.Path.{_≡_, sym, ap}
 use mathlib.Core.Bool.{true, _||_}
@@ -6,8 +6,8 @@ use lib.Dec.{leb}
 use borrow.Author.Needs.{needs}
 use borrow.Author.Tests.{le-leb, lt-leb}
 use Rattle.keys.proofs.Cases.{or-left}
-use Rattle.summary.proofs.touched.are_apart.Statement.{statement}
-use Rattle.summary.proofs.touched.are_apart.Tie as tie
+use Rattle.summary.proofs.blocks.are_apart.Statement.{statement}
+use Rattle.summary.proofs.blocks.are_apart.Tie as tie
 
 before-is : (key step other size : ℕ) → key + step ≤ other → true ≡ leb (key + step) other || leb (other + size) key
 before-is key step other size h = sym (or-left _ _ (le-leb (key + step) other h))
