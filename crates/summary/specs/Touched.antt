@@ -1,4 +1,4 @@
--- A summary that an edit of one block has not reached yet. Only contracts need it; proofs/Touched.antt has its laws.
+-- A summary that an edit of one block has not reached yet. Only contracts need it; proofs/TouchedBlocks.antt has its laws.
 use Prim.Native.Nat.{ℕ}
 use mathlib.Core.Path.{_≡_}
 use mathlib.Core.Bool.{false}

@@ -1,4 +1,4 @@
-// The blocks of a summary: how many there are, how many pixels each has, their keys, and their counts.
+// The blocks of a summary: how many there are and how long it is, how many pixels and keys each block has, their keys, and their counts.
 ghost use mathlib.Core.Path.{_≡_};
 ghost use mathlib.Core.Bool.{_||_};
 ghost use Prim.Native.Nat.{_+_, _≤_, _<_, _^_};
