@@ -1,7 +1,11 @@
 mod Vectors
 mod MapA
 mod Orders
+<<<<<<< HEAD
 mod Corners
+=======
+mod AreaVectors
+>>>>>>> 57e5dcc639f160260a8aa36dc49c44fcc85dd370
 pub mod Within
 pub mod Pixels
 pub mod Features
@@ -21,6 +25,12 @@ pub mod SelectMeans
 pub mod SelectAscends
 pub mod SelectAgree
 pub mod WindowScan
+pub mod PixelSums
+pub mod CountOf
+pub mod AreaOf
+pub mod AreasAddUp
+pub mod SummaryOf
+pub mod SameNumbers
 pub mod LastEntry
 pub mod SoundLog
 pub mod Waivers

@@ -72,6 +72,12 @@ pub struct Reported {
 }
 
 #[repr(C)]
+pub struct Measured {
+    pub refusal: u64,
+    pub pixels: u64,
+}
+
+#[repr(C)]
 pub struct Edited {
     pub refusal: u64,
     pub n: u64,

@@ -16,4 +16,7 @@ pub mod Placed
 pub mod Lookup
 pub mod PartLength
 pub mod Own
+pub mod Shown
+pub mod ShownQuadrants
+pub mod Trailing
 pub mod Tests

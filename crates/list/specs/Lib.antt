@@ -2,3 +2,4 @@ pub mod Check
 pub mod Own
 pub mod Sorted
 pub mod Among
+pub mod Shown

@@ -1,0 +1,7 @@
+pub mod CountTurn
+pub mod CountBlock
+pub mod BlockNumbers
+pub mod SameCounts
+pub mod Renewed
+pub mod IsSummary
+pub mod FillAnswers

@@ -1,0 +1,45 @@
+// The check of a summary (refusal 18): its length, and then block after block its counts, in one pass over the records.
+ghost use mathlib.Core.Path.{_≡_};
+ghost use mathlib.Core.Bool.{not};
+ghost use Prim.Native.Nat.{_+_, _≤_};
+ghost use lib.ListN.{length, take, drop};
+ghost use Rattle.definitions.specs.Area.{sameNumbers, noSummary};
+ghost use Rattle.list.specs.Own.{OwnList, shownBy};
+use crate::blocks;
+
+// The first s counters are the s places from a place on.
+fn same_counts(counts: [u32; 32], s: usize, summary: &[u32], at: usize) -> bool
+    requires { ⌜ (s ≤ 32) × (at + s ≤ length (now summary)) ⌝ }
+    ensures { λ r. ⌜ r ≡ sameNumbers (take s counts) (take s (drop at (now (summary .entry)))) ⌝ }
+{
+    let mut i: usize = 0;
+    while i < s {
+        if counts[i] != summary[at + i] {
+            return false;
+        }
+        i += 1;
+    }
+    true
+}
+
+// The summary is that of the list: refusal 18 does not apply.
+pub fn is_summary(m: u32, s: u32, keys: &[u32], bits: &[u32], n: usize, summary: &[u32]) -> bool
+    requires { ⌜ OwnList m (now keys) (now bits) n ⌝ }
+    requires { ⌜ (m ≤ 10) × (s ≤ 32) ⌝ }
+    ensures { λ r. ⌜ r ≡ not (noSummary m s (shownBy m (now (keys .entry)) (now (bits .entry)) n) (now (summary .entry))) ⌝ }
+{
+    if !blocks::have_length(m, s, summary) {
+        return false;
+    }
+    let slots = s as usize;
+    let blocks = blocks::number_of(m);
+    let mut b = 0;
+    while b < blocks {
+        let counts = blocks::counts_of(m, keys, bits, n, b);
+        if !same_counts(counts, slots, summary, b * slots) {
+            return false;
+        }
+        b += 1;
+    }
+    true
+}

@@ -1,0 +1,6 @@
+// The summary beside a list (document 02, item 1): the pixel counts of the blocks of one level, counted from the list's leaves.
+pub mod blocks;
+pub mod calls;
+pub mod check;
+pub mod count;
+pub mod renew;

@@ -1,0 +1,43 @@
+// Counting into a summary: all blocks, or those from one number to another.
+ghost use mathlib.Core.Path.{_≡_};
+ghost use Prim.Native.Nat.{_≤_, _<_, _^_};
+ghost use lib.ListN.{length};
+ghost use Rattle.definitions.specs.Area.{summaryOf, summaryLength};
+ghost use Rattle.list.specs.Own.{OwnList, shownBy};
+ghost use Rattle.summary.specs.Renew.{renewed, Renewable};
+use crate::blocks;
+use slices;
+
+// The blocks from one number on, to another that is not among them, are counted anew; the places of all others stay.
+pub fn renew(
+    m: u32,
+    s: u32,
+    keys: &[u32],
+    bits: &[u32],
+    n: usize,
+    summary: &mut [u32],
+    from: usize,
+    until: usize,
+)
+    requires { ⌜ OwnList m (now keys) (now bits) n ⌝ }
+    requires { ⌜ Renewable m s from until (now summary) ⌝ }
+    ensures { λ _. ⌜ now (summary .exit) ≡ renewed m s (shownBy m (now (keys .entry)) (now (bits .entry)) n) from until (now (summary .entry)) ⌝ }
+{
+    let slots = s as usize;
+    let mut b = from;
+    while b < until {
+        let counts = blocks::counts_of(m, keys, bits, n, b);
+        slices::copy(&counts, 0, slots, summary, b * slots);
+        b += 1;
+    }
+}
+
+// Every place is written.
+pub fn fill(m: u32, s: u32, keys: &[u32], bits: &[u32], n: usize, summary: &mut [u32])
+    requires { ⌜ OwnList m (now keys) (now bits) n ⌝ }
+    requires { ⌜ (m ≤ 10) × (s ≤ 32) × (length (now summary) ≡ summaryLength m s) ⌝ }
+    ensures { λ _. ⌜ now (summary .exit) ≡ summaryOf m s (shownBy m (now (keys .entry)) (now (bits .entry)) n) ⌝ }
+{
+    let blocks = blocks::number_of(m);
+    renew(m, s, keys, bits, n, summary, 0, blocks);
+}
