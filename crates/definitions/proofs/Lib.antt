@@ -1,11 +1,8 @@
 mod Vectors
 mod MapA
 mod Orders
-<<<<<<< HEAD
 mod Corners
-=======
 mod AreaVectors
->>>>>>> 57e5dcc639f160260a8aa36dc49c44fcc85dd370
 pub mod Within
 pub mod Pixels
 pub mod Features
