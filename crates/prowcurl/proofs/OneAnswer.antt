@@ -27,6 +27,8 @@ use Rattle.prowcurl.proofs.lists.hlq_part as part
 use Rattle.prowcurl.proofs.lists.hlq_part.Reads as part-reads
 use Rattle.prowcurl.proofs.areas.hlq_fill_summary as fill-summary
 use Rattle.prowcurl.proofs.areas.hlq_fill_summary.Reads as fill-summary-reads
+use Rattle.prowcurl.proofs.areas.hlq_area as area
+use Rattle.prowcurl.proofs.areas.hlq_area.Reads as area-reads
 use Rattle.prowcurl.proofs.windows.hlq_exist as exist
 use Rattle.prowcurl.proofs.windows.hlq_exist.Reads as exist-reads
 use Rattle.prowcurl.proofs.windows.hlq_report as report
@@ -138,9 +140,12 @@ standing-one = by-equations (λ x. one (x .kept) (x .kept′))
 pub part-one : OneAnswer part.ended part-reads.Learnt
 part-one = by-equations (λ x. one (x .kept) (x .kept′))
 
--- summaries
+-- areas
 pub fill-summary-one : OneAnswer fill-summary.ended fill-summary-reads.Learnt
 fill-summary-one = by-equations (λ x. two (x .kept) (x .kept′))
+
+pub area-one : OneAnswer area.ended area-reads.Learnt
+area-one = by-equations (λ x. one (x .kept) (x .kept′))
 
 -- windows
 pub exist-one : OneAnswer exist.ended exist-reads.Learnt
