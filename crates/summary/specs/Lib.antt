@@ -1,4 +1,2 @@
 pub mod Count
 pub mod Renew
-pub mod Touched
-pub mod Taken

@@ -1,9 +1,8 @@
-// The blocks of a summary: how many there are and how long it is, how many pixels and keys each block has, their keys, and their counts.
+// The blocks of a summary: how many there are and how long it is, how many pixels each block has, their keys, and their counts.
 ghost use mathlib.Core.Path.{_≡_};
-ghost use mathlib.Core.Bool.{_||_};
-ghost use Prim.Native.Nat.{_+_, _≤_, _<_, _^_};
+ghost use Prim.Native.Nat.{_≤_, _<_, _^_};
 ghost use lib.ListN.{length};
-ghost use lib.Dec.{leb, eqb};
+ghost use lib.Dec.{eqb};
 ghost use Rattle.keys.specs.Block.{rowOf, columnOf};
 ghost use Rattle.definitions.specs.Area.{summaryLevel, summaryHeight, summaryLength, blockKey, countsOf};
 ghost use Rattle.list.specs.Own.{OwnList, shownBy};
@@ -32,17 +31,6 @@ pub fn area_of(m: u32) -> u32
     side * side
 }
 
-// How many keys the interval of each block has.
-pub fn step_of(m: u32) -> u32
-    requires { ⌜ m ≤ 10 ⌝ }
-    ensures { λ r. ⌜ r ≡ 5 ^ summaryHeight m ⌝ }
-{
-    if m < 2 {
-        return 1;
-    }
-    power::power_of_five(m - 2)
-}
-
 // The key of block number b, whose two digits are those of b in base 4, each one more.
 pub fn key_of(m: u32, b: usize) -> u32
     requires { ⌜ (m ≤ 10) × (b < 4 ^ summaryLevel m) ⌝ }
@@ -57,17 +45,6 @@ pub fn key_of(m: u32, b: usize) -> u32
     }
     let step = power::power_of_five(m - 2);
     (number / 4 * 5 + number % 4 + 6) * step
-}
-
-// The keys of one block, step of them, come before the keys of the other, size of them, or after them.
-pub fn are_apart(key: u32, step: u32, other: u32, size: u32) -> bool
-    requires { ⌜ (key + step < 2 ^ 32) × (other + size < 2 ^ 32) ⌝ }
-    ensures { λ r. ⌜ r ≡ leb (key + step) other || leb (other + size) key ⌝ }
-{
-    if key + step <= other {
-        return true;
-    }
-    other + size <= key
 }
 
 // The counts of block number b.
