@@ -22,14 +22,14 @@ abbrev pictureA : Picture
 pictureA = pictureOfRaster 2 mapA
 
 -- the counts of blocks of one pixel each, at s = 3
-abbrev counted : List ℕ → List ℕ
+abbrev pub counted : List ℕ → List ℕ
 counted [] = []
 counted (zero ∷ pixels) = 1 ∷ 0 ∷ 0 ∷ counted pixels
 counted (suc zero ∷ pixels) = 0 ∷ 1 ∷ 0 ∷ counted pixels
 counted (suc (suc f) ∷ pixels) = 0 ∷ 0 ∷ 1 ∷ counted pixels
 
 -- Map A's pixels in key order: NW, NE, SW, SE
-abbrev summaryA : List ℕ
+abbrev pub summaryA : List ℕ
 summaryA = counted (0 ∷ 0 ∷ 0 ∷ 0 ∷ 1 ∷ 1 ∷ 1 ∷ 2 ∷ 2 ∷ 2 ∷ 2 ∷ 2 ∷ 0 ∷ 0 ∷ 0 ∷ 0 ∷ [])
 
 -- the areas of the three features in a window of Map A

@@ -1,9 +1,10 @@
--- Document 01's limits and corner cases: its own examples of keys, the ends of the ranges of m and s, each fault of a log and of a file alone, a paint
--- that changes no pixel, and findings with nothing to find or no room. One table under one claim, proved by computation.
+-- Document 01's limits and corner cases: its own examples of keys, the ends of the ranges of m and s, each fault of a log, of a summary and of a file
+-- alone, a paint that changes no pixel, and findings with nothing to find or no room. One table under one claim, proved by computation.
 use Prim.Native.Nat.{ℕ}
 use mathlib.Core.Path.{refl}
 use mathlib.Core.Bool.{Bool, cond}
 use mathlib.Core.List.{List, [], _∷_, _++_}
+use lib.ListN.{set}
 use Rattle.keys.specs.Key.{validKey, digitsOf, digitsThenZeros, onlyZeros, levelOf, digitsBeforeZero, heightOf, rootKey, childKey, parentKey}
 use Rattle.keys.specs.Block.{rowOf, columnOf, sideOf, inBlock, pixelKey, contains, isAncestor}
 use Rattle.definitions.specs.Picture.{everyPixel, oneFeature, featuresBelow}
@@ -11,18 +12,20 @@ use Rattle.definitions.specs.Bits.{bitsOf, unionOfFour, twosIn, featureO
 use Rattle.definitions.specs.List.{listOf}
 use Rattle.definitions.specs.Read.{paired, valueAt, pictureOf, sameRecords, isListOfBlock, isList}
 use Rattle.definitions.specs.Refusal.{first, badSettings, badLength, badPixel}
-use Rattle.definitions.specs.Window.{isWindow, inWindow, isGiven, selectFrom, selectIn}
+use Rattle.definitions.specs.Window.{isWindow, inWindow, featuresOfRow, featuresOfRows, isGiven, selectFrom, selectIn}
+use Rattle.definitions.specs.Area.{countOf, pixelsWith, countsFrom, summaryBelow, summaryOf, sameNumbers, noSummary}
 use Rattle.definitions.specs.Edit.{put, paintIn, contentOf}
 use Rattle.definitions.specs.Log.{closed, entryOf, lastRecord, lastKey, lastCount, beforeLast, lastContent, isContent, lastIsEntry, dividesIn, isSound, noLog}
 use Rattle.definitions.specs.Rules.{findingsOf, allFindings, waiversOf, isHidden, liveOf, hiddenCount, isRule, allRules, idsAscend, badRules, findingsAscend, isRuleId, allWaivers, badWaivers}
 use Rattle.definitions.specs.File.{bytesOf, numberAfter, numberOf, bytesOfRecords, headOf, fileOf, numberAt, readRecords, recordsInFile, sameBytes, wrongMark}
 use Rattle.definitions.specs.Calls.Build.{buildRefusal, build, buildKeys, buildBits}
-use Rattle.definitions.specs.Calls.Paint.{painted, gained, paintRefusal, paint, paintKeys}
+use Rattle.definitions.specs.Calls.Paint.{painted, gained, paintRefusal, paint, paintKeys, paintSummary}
 use Rattle.definitions.specs.Calls.Findings.{liveIn, hiddenIn, findingsRefusal, findings}
 use Rattle.definitions.specs.Calls.Load.{loadRefusal}
 use Rattle.definitions.specs.declared.Rule.{Rule}
 use Rattle.definitions.specs.declared.Found.{Found}
 use Rattle.definitions.proofs.Vectors.{Row, row, Holds, key, slots, window, of-counted, of-edited, mapA, keysA, bitsA, unwritten}
+use Rattle.definitions.proofs.AreaVectors.{counted, summaryA}
 
 -- a yes or no, as 1 or 0
 abbrev truth : Bool → ℕ
@@ -85,10 +88,21 @@ table =
     ∷ says (noLog 1 2 (4 ∷ 4 ∷ []) (4 ∷ 1 ∷ []) 2) 1
     ∷ says (noLog 1 2 (4 ∷ 4 ∷ []) (0 ∷ 1 ∷ []) 2) 1
     ∷ says (noLog 1 2 (0 ∷ 0 ∷ []) (3 ∷ 1 ∷ []) 2) 1
-    -- a paint that changes no pixel is logged, and the list stays in exact room; with no room in the log it is refused like any other
-    ∷ row (of-edited (paint 2 3 (keysA 0) (bitsA 0) 9 (unwritten 2) (unwritten 2) 0 (key (1 ∷ 1 ∷ [])) 0)) (0 ∷ 9 ∷ 2 ∷ [])
-    ∷ row (paintKeys 2 3 (keysA 0) (bitsA 0) 9 (unwritten 2) (unwritten 2) 0 (key (1 ∷ 1 ∷ [])) 0) (keysA 0)
-    ∷ row (of-edited (paint 2 3 (keysA 0) (bitsA 0) 9 (unwritten 1) (unwritten 2) 0 (key (1 ∷ 1 ∷ [])) 0)) (10 ∷ 0 ∷ 0 ∷ [])
+    -- a paint that changes no pixel is logged, and the list stays in exact room, and so does the summary; with no room in the log it is refused like any other
+    ∷ row (of-edited (paint 2 3 (keysA 0) (bitsA 0) 9 summaryA (unwritten 2) (unwritten 2) 0 (key (1 ∷ 1 ∷ [])) 0)) (0 ∷ 9 ∷ 2 ∷ [])
+    ∷ row (paintKeys 2 3 (keysA 0) (bitsA 0) 9 summaryA (unwritten 2) (unwritten 2) 0 (key (1 ∷ 1 ∷ [])) 0) (keysA 0)
+    ∷ row (paintSummary 2 3 (keysA 0) (bitsA 0) 9 summaryA (unwritten 2) (unwritten 2) 0 (key (1 ∷ 1 ∷ [])) 0) summaryA
+    ∷ row (of-edited (paint 2 3 (keysA 0) (bitsA 0) 9 summaryA (unwritten 1) (unwritten 2) 0 (key (1 ∷ 1 ∷ [])) 0)) (10 ∷ 0 ∷ 0 ∷ [])
+    -- a summary too short, too long, of other counts, and of the counts in another block's places: a paint is refused and leaves it
+    ∷ row
+    (refusedBy []
+    ∷ refusedBy (summaryA ++ (0 ∷ []))
+    ∷ refusedBy (set summaryA 47 1)
+    ∷ refusedBy (counted (0 ∷ 0 ∷ 0 ∷ 0 ∷ 2 ∷ 1 ∷ 1 ∷ 1 ∷ 2 ∷ 2 ∷ 2 ∷ 2 ∷ 0 ∷ 0 ∷ 0 ∷ 0 ∷ []))
+    ∷ refusedBy summaryA
+    ∷ [])
+    (18 ∷ 18 ∷ 18 ∷ 18 ∷ 0 ∷ [])
+    ∷ row (paintSummary 2 3 (keysA 0) (bitsA 0) 9 (unwritten 48) (unwritten 2) (unwritten 2) 0 (key (1 ∷ 1 ∷ [])) 0) (unwritten 48)
     -- findings: no rules and no waivers; rules without waivers; with 12 the places of the live ones and hidden 0
     ∷ row (of-found (findings 2 3 (keysA 0) (bitsA 0) 9 [] [] [] [] [])) (0 ∷ 0 ∷ 0 ∷ [])
     ∷ row (of-found (findings 2 3 (keysA 0) (bitsA 0) 9 (rule 7 ∷ []) [] [] (unwritten 2) (unwritten 2))) (0 ∷ 2 ∷ 0 ∷ [])
@@ -100,6 +114,10 @@ table =
     ∷ gives (loadRefusal (head 0 1 11 1 (0 ∷ 0 ∷ 0 ∷ 0 ∷ [])) [] []) 1
     ∷ []
   where
+    -- the refusal of a paint of Map A with this summary
+    refusedBy : List ℕ → ℕ
+    refusedBy summary = paintRefusal 2 3 (keysA 0) (bitsA 0) 9 summary (unwritten 2) (unwritten 2) 0 (key (1 ∷ 1 ∷ [])) 0
+
     of-found : Found → List ℕ
     of-found r = r .refusal ∷ r .live ∷ r .hidden ∷ []
 
@@ -110,12 +128,13 @@ unfolding
     everyPixel oneFeature featuresBelow bitsOf unionOfFour twosIn featureOf listOf
     paired valueAt pictureOf sameRecords isListOfBlock isList
     first badSettings badLength badPixel
-    isWindow inWindow isGiven selectFrom selectIn
+    isWindow inWindow featuresOfRow featuresOfRows isGiven selectFrom selectIn
+    countOf pixelsWith countsFrom summaryBelow summaryOf sameNumbers noSummary
     put paintIn contentOf
     closed entryOf lastRecord lastKey lastCount beforeLast lastContent isContent lastIsEntry dividesIn isSound noLog
     findingsOf allFindings waiversOf isHidden liveOf hiddenCount isRule allRules idsAscend badRules findingsAscend isRuleId allWaivers badWaivers
     bytesOf numberAfter numberOf bytesOfRecords headOf fileOf numberAt readRecords recordsInFile sameBytes wrongMark
     buildRefusal build buildKeys buildBits
-    painted gained paintRefusal paint paintKeys
+    painted gained paintRefusal paint paintKeys paintSummary
     liveIn hiddenIn findingsRefusal findings loadRefusal
 claim = refl

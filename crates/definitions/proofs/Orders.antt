@@ -1,4 +1,4 @@
--- Document 01's orders of refusals: for each call, every number alone and every two neighbours at once, of which the first is given; and what
+-- The documents' orders of refusals: for each call, every number alone and every two neighbours at once, of which the first is given; and what
 -- standing, part, findings and the file answer on Map A. One table under one claim, proved by computation.
 use Prim.Native.Nat.{ℕ}
 use mathlib.Core.Path.{refl}
@@ -12,6 +12,7 @@ use Rattle.definitions.specs.Read.{paired, valueAt, pictureOf, sameRecor
 use Rattle.definitions.specs.Refusal.{first, badSettings, badLength, badPixel}
 use Rattle.definitions.specs.Standing.{upTo, placeOf, isListed, standingOf, recordsIn, partLength, partOf}
 use Rattle.definitions.specs.Window.{isWindow, inWindow, featuresOfRow, featuresOfRows, featuresIn, occurs, unionOf, existIn, reportIn, isGiven, selectFrom, selectIn}
+use Rattle.definitions.specs.Area.{countOf, pixelsWith, countsFrom, summaryBelow, summaryOf, sameNumbers, noSummary}
 use Rattle.definitions.specs.Edit.{put, paintIn, contentOf}
 use Rattle.definitions.specs.Log.{closed, entryOf, lastRecord, lastKey, lastCount, beforeLast, lastContent, isContent, lastIsEntry, dividesIn, isSound, noLog}
 use Rattle.definitions.specs.Rules.{findingsOf, allFindings, waiversOf, isHidden, liveOf, hiddenCount, isRule, allRules, idsAscend, badRules, findingsAscend, isRuleId, allWaivers, badWaivers}
@@ -42,6 +43,13 @@ keys = 0 ∷ 1 ∷ 2 ∷ 3 ∷ 4 ∷ []
 
 abbrev bits : List ℕ
 bits = 3 ∷ 1 ∷ 1 ∷ 1 ∷ 2 ∷ []
+
+-- the two counts of each of its pixels, and those of a map of feature 0 alone
+abbrev summary : List ℕ
+summary = 1 ∷ 0 ∷ 1 ∷ 0 ∷ 1 ∷ 0 ∷ 0 ∷ 1 ∷ []
+
+abbrev summaryOfOne : List ℕ
+summaryOfOne = 1 ∷ 0 ∷ 1 ∷ 0 ∷ 1 ∷ 0 ∷ 1 ∷ 0 ∷ []
 
 -- an entry of block 4, and then a record that closes nothing
 abbrev logKeys : List ℕ
@@ -142,21 +150,27 @@ table =
     ∷ gives (selectRefusal 1 2 keys bits 5 (window 0 0 0 1) 2 []) 6
     ∷ gives (selectRefusal 1 2 keys bits 5 (window 0 0 1 1) 2 []) 7
     ∷ row (of-counted (select 1 2 keys bits 5 (window 0 0 2 2) 0 (unwritten 2))) (12 ∷ 3 ∷ [])
-    -- paint: 1, 4, 5, 8, 7, 10, 9
-    ∷ gives (paintRefusal 1 0 keys bits 4 logKeys logValues 0 1 0) 1
-    ∷ gives (paintRefusal 1 2 keys bits 4 logKeys logValues 3 1 0) 4
-    ∷ gives (paintRefusal 1 2 keys bits 5 logKeys logValues 3 5 0) 5
-    ∷ gives (paintRefusal 1 2 keys bits 5 logKeys logValues 4 1 0) 5
-    ∷ gives (paintRefusal 1 2 keys bits 5 logKeys logValues 2 5 2) 8
-    ∷ gives (paintRefusal 1 2 keys bits 5 logKeys logValues 2 1 2) 7
-    ∷ gives (paintRefusal 1 2 (0 ∷ []) (1 ∷ []) 1 logKeys logValues 2 1 1) 10
-    ∷ gives (paintRefusal 1 2 (0 ∷ []) (1 ∷ []) 1 logKeys logValues 0 1 1) 9
-    -- take back: 1, 4, 5, 11, 9 (a log from another map)
-    ∷ gives (takeBackRefusal 1 0 keys bits 4 logKeys logValues 0) 1
-    ∷ gives (takeBackRefusal 1 2 keys bits 4 logKeys logValues 3) 4
-    ∷ gives (takeBackRefusal 1 2 keys bits 5 logKeys logValues 3) 5
-    ∷ gives (takeBackRefusal 1 2 keys bits 5 logKeys logValues 0) 11
-    ∷ gives (takeBackRefusal 1 2 (0 ∷ []) (1 ∷ []) 1 (4 ∷ 4 ∷ []) (2 ∷ 1 ∷ []) 2) 9
+    -- paint: 1, 4, 18, 5, 8, 7, 10, 9
+    ∷ gives (paintRefusal 1 0 keys bits 4 summary logKeys logValues 0 1 0) 1
+    ∷ gives (paintRefusal 1 2 keys bits 4 summary logKeys logValues 0 1 0) 4
+    ∷ gives (paintRefusal 1 2 keys bits 4 [] logKeys logValues 3 1 0) 4
+    ∷ gives (paintRefusal 1 2 keys bits 5 summaryOfOne logKeys logValues 0 1 0) 18
+    ∷ gives (paintRefusal 1 2 keys bits 5 [] logKeys logValues 3 1 0) 18
+    ∷ gives (paintRefusal 1 2 keys bits 5 summary logKeys logValues 3 5 0) 5
+    ∷ gives (paintRefusal 1 2 keys bits 5 summary logKeys logValues 4 1 0) 5
+    ∷ gives (paintRefusal 1 2 keys bits 5 summary logKeys logValues 2 5 2) 8
+    ∷ gives (paintRefusal 1 2 keys bits 5 summary logKeys logValues 2 1 2) 7
+    ∷ gives (paintRefusal 1 2 (0 ∷ []) (1 ∷ []) 1 summaryOfOne logKeys logValues 2 1 1) 10
+    ∷ gives (paintRefusal 1 2 (0 ∷ []) (1 ∷ []) 1 summaryOfOne logKeys logValues 0 1 1) 9
+    -- take back: 1, 4, 18, 5, 11, 9 (a log from another map)
+    ∷ gives (takeBackRefusal 1 0 keys bits 4 summary logKeys logValues 0) 1
+    ∷ gives (takeBackRefusal 1 2 keys bits 4 summary logKeys logValues 2) 4
+    ∷ gives (takeBackRefusal 1 2 keys bits 4 [] logKeys logValues 3) 4
+    ∷ gives (takeBackRefusal 1 2 keys bits 5 summaryOfOne logKeys logValues 2) 18
+    ∷ gives (takeBackRefusal 1 2 keys bits 5 [] logKeys logValues 3) 18
+    ∷ gives (takeBackRefusal 1 2 keys bits 5 summary logKeys logValues 3) 5
+    ∷ gives (takeBackRefusal 1 2 keys bits 5 summary logKeys logValues 0) 11
+    ∷ gives (takeBackRefusal 1 2 (0 ∷ []) (1 ∷ []) 1 summaryOfOne (4 ∷ 4 ∷ []) (2 ∷ 1 ∷ []) 2) 9
     -- findings: 1, 4, 13, 14, 12
     ∷ gives (findingsRefusal 1 0 keys bits 4 [] [] [] [] []) 1
     ∷ gives (findingsRefusal 1 2 keys bits 4 (rule 7 0 0 ∷ []) [] [] [] []) 4
@@ -226,6 +240,7 @@ unfolding
     first badSettings badLength badPixel
     upTo placeOf isListed standingOf recordsIn partLength partOf
     isWindow inWindow featuresOfRow featuresOfRows featuresIn occurs unionOf existIn reportIn isGiven selectFrom selectIn
+    countOf pixelsWith countsFrom summaryBelow summaryOf sameNumbers noSummary
     put paintIn contentOf
     closed entryOf lastRecord lastKey lastCount beforeLast lastContent isContent lastIsEntry dividesIn isSound noLog
     findingsOf allFindings waiversOf isHidden liveOf hiddenCount isRule allRules idsAscend badRules findingsAscend isRuleId allWaivers badWaivers

@@ -1,7 +1,8 @@
 -- The summary block by block: at place b * s stand the s counts of block number b, whose key is that of the b-th block of the summary's level. Counts
 -- depend only on the block's pixels. Rests on CountOf and the laws of blocks.
-use Prim.Native.Nat.{ℕ, zero, suc, _+_, _*_, _/_, _%_, _^_, _≤_, _<_}
-use mathlib.Core.Path.{_≡_, refl, sym, _∙_, ap, ap₂}
+use Prim.Native.Nat.{ℕ, zero, suc, _+_, _-_, _*_, _/_, _%_, _^_, _≤_, _<_, min}
+use mathlib.Core.Path.{_≡_, refl, sym, _∙_, ap, ap₂, subst}
+use mathlib.Core.Bool.{true}
 use mathlib.Core.List.{List, [], _∷_, _++_, append-assoc, append-nil}
 use native.Mathlib.Nat.{zero-mul, zero-add, add-zero, add-suc, suc-add, pow-suc, add-mul, mul-comm, mul-assoc, add-assoc, one-le-pow, div-add-mod', div-lt-iff-lt-mul, mod-lt}
 use native.Mathlib.Omega.{arith}
@@ -14,7 +15,7 @@ use Rattle.keys.proofs.Interval.{same-key}
 use Rattle.keys.proofs.Valid.{block-valid}
 use Rattle.definitions.specs.Picture.{Picture}
 use Rattle.definitions.specs.Area.{pixelsWith, countsFrom, countsOf, summaryLevel, summaryHeight, summaryBelow, summaryOf, keyBelow, blockKey, summaryLength}
-use Rattle.definitions.proofs.Pixels.{Agree}
+use Rattle.definitions.proofs.Pixels.{Agree, agree-nw, agree-ne, agree-sw, agree-se}
 use Rattle.definitions.proofs.CountOf.{pixels-agree}
 
 module _ (p : Picture) (k r c : ℕ) where
@@ -59,6 +60,19 @@ module _ (s : ℕ) (p : Picture) (k : ℕ) where
       ++ (summaryBelow s p k d (r + 2 ^ (k + d)) c ++ summaryBelow s p k d (r + 2 ^ (k + d)) (c + 2 ^ (k + d))))
   unfolding summaryBelow
   summary-suc d r c = refl
+
+-- pictures that agree on a block have the same counts of the blocks below it
+below-agree : (s : ℕ) (p q : Picture) (k d r c : ℕ) → Agree p q (k + d) r c → summaryBelow s p k d r c ≡ summaryBelow s q k d r c
+below-agree s p q k zero r c h =
+    summary-zero s p k r c ∙ counts-agree p q k r c 0 s (subst (λ x. Agree p q x r c) (add-zero k) h) ∙ sym (summary-zero s q k r c)
+below-agree s p q k (suc d) r c h =
+    let all : Agree p q (suc (k + d)) r c = subst (λ x. Agree p q x r c) (add-suc k d) h in
+    summary-suc s p k d r c
+    ∙ ap₂ (λ x y. x ++ y) (below-agree s p q k d r c (agree-nw {p = p} {q = q} all))
+    (ap₂ (λ x y. x ++ y) (below-agree s p q k d r (c + 2 ^ (k + d)) (agree-ne {p = p} {q = q} all))
+    (ap₂ (λ x y. x ++ y) (below-agree s p q k d (r + 2 ^ (k + d)) c (agree-sw {p = p} {q = q} all))
+    (below-agree s p q k d (r + 2 ^ (k + d)) (c + 2 ^ (k + d)) (agree-se {p = p} {q = q} all))))
+    ∙ sym (summary-suc s q k d r c)
 
 four-lengths : (a b c d : List ℕ) (n : ℕ) → length a ≡ n → length b ≡ n → length c ≡ n → length d ≡ n → length (a ++ (b ++ (c ++ d))) ≡ 4 * n
 four-lengths a b c d n e f g h = simp length-append (omega arith)
@@ -226,3 +240,8 @@ module _ (m s : ℕ) (p : Picture) where
         ∙ sym (getD-take s (drop (b * s) (summaryOf m s p)) f 0 i)
         ∙ ap (λ l. getD l f 0) summary-counts
         ∙ count-of p (summaryHeight m) (rowOf m (blockKey m b)) (columnOf m (blockKey m b)) s f i
+
+-- pictures that agree on the map have the same summary
+pub summary-agree : (m s : ℕ) (p q : Picture) → Agree p q m 0 0 → summaryOf m s p ≡ summaryOf m s q
+unfolding summaryOf
+summary-agree m s p q h = below-agree s p q (summaryHeight m) (summaryLevel m) 0 0 (subst (λ x. Agree p q x 0 0) (sym (heights m s p)) h)

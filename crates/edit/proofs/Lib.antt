@@ -4,6 +4,8 @@ pub mod ContentLength
 pub mod ContentStands
 pub mod EditCallTables
 pub mod Decided
+pub mod Recounted
+pub mod Changed
 pub mod Planned
 pub mod PaintTable
 pub mod PaintPlan

@@ -1,5 +1,5 @@
--- The plan of a paint: a content of one record is put into the block. Rests on Planned.
-use Prim.Native.Nat.{ℕ, _^_}
+-- The plan of a paint: a content of one record is put into the block; and the summary after it. Rests on Planned and Changed.
+use Prim.Native.Nat.{ℕ, _^_, _≤_}
 use mathlib.Core.Path.{_≡_, refl, sym, _∙_, ap}
 use mathlib.Core.Bool.{true}
 use mathlib.Core.List.{List, [], _∷_}
@@ -9,15 +9,20 @@ use Rattle.definitions.specs.List.{Record, recordOf}
 use Rattle.definitions.specs.Read.{paired, recordsOf}
 use Rattle.definitions.specs.Standing.{partLength}
 use Rattle.definitions.specs.Edit.{paintIn, contentOf}
-use Rattle.definitions.specs.Calls.Paint.{painted}
+use Rattle.definitions.specs.Area.{summaryOf}
+use Rattle.definitions.specs.Calls.Paint.{paintedPicture, painted}
 use Rattle.definitions.proofs.Features.{one-from}
 use Rattle.definitions.proofs.ListOf.{list-one}
+use Rattle.list.specs.Own.{shownBy}
 use Rattle.log.specs.declared.entry.Entry.{Entry}
+use Rattle.put.specs.Putting.{Replaced}
 use Rattle.put.specs.Put.{topFor, planAt, planOf}
 use Rattle.put.specs.declared.plan.Plan.{Plan}
 use Rattle.put.proofs.PlanTop.{plan-for}
 use Rattle.edit.specs.PaintCall.{Paintable, newEntry, paintPlan}
+use Rattle.edit.specs.Recount.{Outdated}
 use Rattle.edit.proofs.Planned.{Planned}
+use Rattle.edit.proofs.Changed.{put-outdated, put-counted}
 
 -- the content that a paint puts in is one record
 paint-content : (m κ f : ℕ) → contentOf m (λ row column. f) κ ≡ recordOf κ (2 ^ f) ∷ []
@@ -54,3 +59,15 @@ paint-planned {m} {n} {κ} {f} a is = record {
 pub entry-found : (m : ℕ) (l : List Record) (used κ count : ℕ) → count ≡ partLength m κ l
     → _≡_ {A = Entry} (record { key = κ; start = used; count = count }) (newEntry m l used κ)
 entry-found m l used κ count e = λ i. record { key = κ; start = used; count = e i }
+
+-- the painted list, once it stands, leaves the summary right outside the block
+module _ (s : ℕ) {m n κ f : ℕ} {keys bits keys′ bits′ : List ℕ} {r : ℕ} (a : Paintable m keys bits n κ f)
+    (made : Replaced n (painted m (recordsOf keys bits n) κ f) keys bits keys′ bits′ r) where
+  pub paint-outdated : (summary : List ℕ) → s ≤ 32 → summary ≡ summaryOf m s (shownBy m keys bits n) → Outdated m s keys′ bits′ r summary κ
+  unfolding painted paintIn
+  paint-outdated summary few counts = put-outdated m s κ (λ row column. f) made summary (a .deepest) few (a .valid) counts
+
+  -- and counted anew it is that of the painted picture
+  pub paint-counted : (summary′ : List ℕ) → summary′ ≡ summaryOf m s (shownBy m keys′ bits′ r) → summary′ ≡ summaryOf m s (paintedPicture m (recordsOf keys bits n) κ f)
+  unfolding painted paintIn
+  paint-counted summary′ e = put-counted m s κ (λ row column. f) made summary′ e

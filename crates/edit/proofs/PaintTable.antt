@@ -44,7 +44,7 @@ module _ (m : ℕ) (l : List Record) (keys bits logKeys logValues : List ℕ) (u
       room-enough h =
           sym (none-first _ (log-passes, (le-ltb (room keys bits) (length (painted m l κ f)) (omega arith), tt)))
 
-module _ (m s : ℕ) (keys bits : List ℕ) (n : ℕ) (logKeys logValues : List ℕ) (used κ f : ℕ) where
+module _ (m s : ℕ) (keys bits : List ℕ) (n : ℕ) (summary logKeys logValues : List ℕ) (used κ f : ℕ) where
   -- the rows about room
   abbrev roomRows : List Row
   roomRows =
@@ -56,30 +56,30 @@ module _ (m s : ℕ) (keys bits : List ℕ) (n : ℕ) (logKeys logValues : List 
   abbrev lastRows : List Row
   lastRows = badKey m κ gives 8 ∷ badFeature s f gives 7 ∷ roomRows
 
-  -- 1, 4, 5
-  pub paint-early : (k : ℕ) → k ≡ firstRefusal m s keys bits n logKeys logValues used → (k ≡ 0 → ⊥)
-      → k ≡ paintRefusal m s keys bits n logKeys logValues used κ f
+  -- 1, 4, 18, 5
+  pub paint-early : (k : ℕ) → k ≡ firstRefusal m s keys bits n summary logKeys logValues used → (k ≡ 0 → ⊥)
+      → k ≡ paintRefusal m s keys bits n summary logKeys logValues used κ f
   unfolding paintRefusal firstRefusal
-  paint-early k e not-zero = early-first k (firstRows m s keys bits n logKeys logValues used) lastRows e not-zero
+  paint-early k e not-zero = early-first k (firstRows m s keys bits n summary logKeys logValues used) lastRows e not-zero
 
-  module _ (p : FirstPassed m s keys bits n logKeys logValues used) where
-    paint-rest : first lastRows ≡ paintRefusal m s keys bits n logKeys logValues used κ f
+  module _ (p : FirstPassed m s keys bits n summary logKeys logValues used) where
+    paint-rest : first lastRows ≡ paintRefusal m s keys bits n summary logKeys logValues used κ f
     unfolding paintRefusal
-    paint-rest = rest-first (firstRows m s keys bits n logKeys logValues used) lastRows (passed-none p)
+    paint-rest = rest-first (firstRows m s keys bits n summary logKeys logValues used) lastRows (passed-none p)
 
     -- 8
-    pub bad-key : validKey m κ ≡ false → 8 ≡ paintRefusal m s keys bits n logKeys logValues used κ f
+    pub bad-key : validKey m κ ≡ false → 8 ≡ paintRefusal m s keys bits n summary logKeys logValues used κ f
     bad-key bad = sym (holds-first (this (ap not bad) refl)) ∙ paint-rest
 
     module _ (valid : validKey m κ ≡ true) where
       -- 7
-      pub bad-feature : s ≤ f → 7 ≡ paintRefusal m s keys bits n logKeys logValues used κ f
+      pub bad-feature : s ≤ f → 7 ≡ paintRefusal m s keys bits n summary logKeys logValues used κ f
       bad-feature h = sym (holds-first (later (ap not valid) (this (le-leb s f h) refl))) ∙ paint-rest
 
       module _ (small : f < s) where
         -- 10, 9
         pub room-decides : (k : ℕ) → k ≡ roomRefusal m (recordsOf keys bits n) keys bits logKeys logValues used κ f
-            → k ≡ paintRefusal m s keys bits n logKeys logValues used κ f
+            → k ≡ paintRefusal m s keys bits n summary logKeys logValues used κ f
         unfolding roomRefusal
         room-decides k e = e ∙ rest-first (badKey m κ gives 8 ∷ badFeature s f gives 7 ∷ []) roomRows (ap not valid, (lt-leb s f small, tt)) ∙ paint-rest
 
@@ -91,19 +91,19 @@ module _ (m s : ℕ) (keys bits : List ℕ) (n : ℕ) (logKeys logValues : List 
 
   -- what a paint that is not refused has passed
   pub record PaintPassed : Type 0 where
-    pub first-rows : FirstPassed m s keys bits n logKeys logValues used
+    pub first-rows : FirstPassed m s keys bits n summary logKeys logValues used
     pub valid : validKey m κ ≡ true
     pub small : f < s
     pub log-fits : used + length (gained m (recordsOf keys bits n) κ) ≤ room logKeys logValues
     pub list-fits : length (painted m (recordsOf keys bits n) κ f) ≤ room keys bits
 
-  pub paint-passed : paintRefusal m s keys bits n logKeys logValues used κ f ≡ 0 → PaintPassed
+  pub paint-passed : paintRefusal m s keys bits n summary logKeys logValues used κ f ≡ 0 → PaintPassed
   unfolding paintRefusal
   paint-passed e =
       let none = first-none _ refl e in
-      let last = none .1 .1 .1 in
+      let last = none .1 .1 .1 .1 in
       record {
-        first-rows = record { settings = none .0; listed = none .1 .0; logged = none .1 .1 .0 };
+        first-rows = record { settings = none .0; listed = none .1 .0; summed = none .1 .1 .0; logged = none .1 .1 .1 .0 };
         valid = not-false (validKey m κ) (last .0);
         small = leb-false s f (last .1 .0);
         log-fits = ltb-false _ _ (last .1 .1 .0);
@@ -111,17 +111,17 @@ module _ (m s : ℕ) (keys bits : List ℕ) (n : ℕ) (logKeys logValues : List 
       }
 
 -- what following a paint asks for
-pub paint-paintable : {m s : ℕ} {keys bits : List ℕ} {n : ℕ} {logKeys logValues : List ℕ} {used κ f : ℕ} → PaintPassed m s keys bits n logKeys logValues used κ f
+pub paint-paintable : {m s : ℕ} {keys bits : List ℕ} {n : ℕ} {summary logKeys logValues : List ℕ} {used κ f : ℕ} → PaintPassed m s keys bits n summary logKeys logValues used κ f
     → Paintable m keys bits n κ f
-paint-paintable {m} {s} {keys} {bits} {n} {logKeys} {logValues} {used} {κ} {f} p =
-    passed-paintable m s keys bits n logKeys logValues used κ f (p .first-rows) (p .valid) (p .small)
+paint-paintable {m} {s} {keys} {bits} {n} {summary} {logKeys} {logValues} {used} {κ} {f} p =
+    passed-paintable m s keys bits n summary logKeys logValues used κ f (p .first-rows) (p .valid) (p .small)
 
 -- and what logging asks for
-pub paint-fresh : {m s : ℕ} {keys bits : List ℕ} {n : ℕ} {logKeys logValues : List ℕ} {used κ f : ℕ} (new : Entry)
+pub paint-fresh : {m s : ℕ} {keys bits : List ℕ} {n : ℕ} {summary logKeys logValues : List ℕ} {used κ f : ℕ} (new : Entry)
     → new ≡ newEntry m (recordsOf keys bits n) used κ
-    → PaintPassed m s keys bits n logKeys logValues used κ f
+    → PaintPassed m s keys bits n summary logKeys logValues used κ f
     → Fresh m keys bits n new logKeys logValues
-paint-fresh {m} {s} {keys} {bits} {n} {logKeys} {logValues} new e p =
+paint-fresh {m} {s} {keys} {bits} {n} {summary} {logKeys} {logValues} new e p =
     let a = paint-paintable p in
     subst (λ x. Fresh m keys bits n x logKeys logValues) (sym e)
     (record { deepest = a .deepest; own = a .own; valid = p .valid; whole = refl; fits = p .log-fits })

@@ -1,4 +1,4 @@
--- The plan of a taking back: the content of the log's last entry is put into its block. Rests on Planned and on the laws of the last entry.
+-- The plan of a taking back: the content of the log's last entry is put into its block; and the summary after it. Rests on Planned, Changed and on the laws of the last entry.
 use Prim.Native.Nat.{ℕ, _+_, _≤_, _<_}
 use mathlib.Core.Path.{_≡_, refl, sym, _∙_, ap, subst}
 use mathlib.Core.Bool.{true}
@@ -9,7 +9,9 @@ use lib.Dec.{eqb}
 use Rattle.keys.specs.Key.{validKey}
 use Rattle.definitions.specs.Read.{room, recordsOf, pictureOf}
 use Rattle.definitions.specs.Log.{lastKey, lastContent}
-use Rattle.definitions.specs.Calls.TakeBack.{restored}
+use Rattle.definitions.specs.Area.{summaryOf}
+use Rattle.definitions.specs.Calls.TakeBack.{restoredPicture, restored}
+use Rattle.list.specs.Own.{shownBy}
 use Rattle.log.specs.declared.entry.Entry.{Entry}
 use Rattle.log.specs.Entries.{lastEntry, contentPart}
 use Rattle.log.proofs.Last.{content-length}
@@ -18,8 +20,10 @@ use Rattle.put.specs.Put.{topFor, planAt, planOf, edited}
 use Rattle.put.specs.Putting.{Puttable, Replaced}
 use Rattle.put.specs.declared.plan.Plan.{Plan}
 use Rattle.put.proofs.PlanTop.{plan-for}
+use Rattle.edit.specs.Recount.{Outdated}
 use Rattle.edit.specs.TakingBackCall.{Restorable, restorePlan}
 use Rattle.edit.proofs.Planned.{Planned, can-put, put-makes}
+use Rattle.edit.proofs.Changed.{put-outdated, put-counted}
 
 module _ {m n used : ℕ} {keys bits logKeys logValues : List ℕ} (a : Restorable m keys bits n logKeys logValues used) (last : Entry)
     (is : last ≡ lastEntry (recordsOf logKeys logValues used)) where
@@ -83,3 +87,21 @@ module _ {m n used : ℕ} {keys bits logKeys logValues : List ℕ} (a : Restorab
           → Replaced n (edited m (recordsOf keys bits n) (last .key) (recordsOf (contentPart last logKeys) (contentPart last logValues) (last .count))) keys bits keys′ bits′ r
           → Replaced n (restored m (recordsOf keys bits n) (recordsOf logKeys logValues used)) keys bits keys′ bits′ r
       restore-made h = put-makes (restore-planned found) (contentPart last logKeys) (contentPart last logValues) (last .count) (lent-content (a .ended) last is) h
+
+-- the restored list, once it stands, leaves the summary right outside the block
+module _ (s : ℕ) {m n used : ℕ} {keys bits logKeys logValues keys′ bits′ : List ℕ} {r : ℕ} (a : Restorable m keys bits n logKeys logValues used) (last : Entry)
+    (is : last ≡ lastEntry (recordsOf logKeys logValues used))
+    (made : Replaced n (restored m (recordsOf keys bits n) (recordsOf logKeys logValues used)) keys bits keys′ bits′ r) where
+  pub restore-outdated : (summary : List ℕ) → s ≤ 32 → summary ≡ summaryOf m s (shownBy m keys bits n) → Outdated m s keys′ bits′ r summary (last .key)
+  unfolding restored
+  restore-outdated summary few counts =
+      subst (λ κ. Outdated m s keys′ bits′ r summary κ) (sym (key-is a last is))
+      (put-outdated m s (lastKey (recordsOf logKeys logValues used)) (pictureOf m (lastContent (recordsOf logKeys logValues used))) made summary (a .deepest) few (a .valid) counts)
+
+  -- and counted anew it is that of the restored picture
+  pub restore-counted : (summary′ : List ℕ) → summary′ ≡ summaryOf m s (shownBy m keys′ bits′ r)
+      → summary′ ≡ summaryOf m s (restoredPicture m (recordsOf keys bits n) (recordsOf logKeys logValues used))
+  unfolding restored
+  restore-counted summary′ e =
+      put-counted m s (lastKey (recordsOf logKeys logValues used))
+      (pictureOf m (lastContent (recordsOf logKeys logValues used))) made summary′ e

@@ -1,4 +1,5 @@
 pub mod Content
 pub mod EditCallChecks
 pub mod PaintCall
+pub mod Recount
 pub mod TakingBackCall

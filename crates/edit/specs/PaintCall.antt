@@ -11,7 +11,7 @@ use Rattle.definitions.specs.List.{Record, recordOf}
 use Rattle.definitions.specs.Read.{room, recordsOf}
 use Rattle.definitions.specs.Standing.{partLength}
 use Rattle.definitions.specs.Refusal.{_gives_, first}
-use Rattle.definitions.specs.Calls.Paint.{painted, gained, paint, paintKeys, paintBits, paintLogKeys, paintLogValues}
+use Rattle.definitions.specs.Calls.Paint.{painted, gained, paint, paintKeys, paintBits, paintSummary, paintLogKeys, paintLogValues}
 use Rattle.definitions.specs.declared.Edited.{Edited}
 use Rattle.list.specs.Own.{OwnList}
 use Rattle.log.specs.declared.entry.Entry.{Entry}
@@ -48,10 +48,11 @@ pub record Fresh (m : ℕ) (keys bits : List ℕ) (n : ℕ) (new : Entry) (logKe
   pub whole : new .count ≡ partLength m (new .key) (recordsOf keys bits n)
   pub fits : new .start + length (gained m (recordsOf keys bits n) (new .key)) ≤ room logKeys logValues
 
--- the answer of a paint, and what it leaves in the four lent slices
-pub record Painted (m s : ℕ) (keys bits : List ℕ) (n : ℕ) (logKeys logValues : List ℕ) (used κ f : ℕ) (r : Edited) (keys′ bits′ logKeys′ logValues′ : List ℕ) : Type 0 where
-  pub answer : r ≡ paint m s keys bits n logKeys logValues used κ f
-  pub keys-are : keys′ ≡ paintKeys m s keys bits n logKeys logValues used κ f
-  pub bits-are : bits′ ≡ paintBits m s keys bits n logKeys logValues used κ f
-  pub log-keys-are : logKeys′ ≡ paintLogKeys m s keys bits n logKeys logValues used κ f
-  pub log-values-are : logValues′ ≡ paintLogValues m s keys bits n logKeys logValues used κ f
+-- the answer of a paint, and what it leaves in the five lent slices
+pub record Painted (m s : ℕ) (keys bits : List ℕ) (n : ℕ) (summary logKeys logValues : List ℕ) (used κ f : ℕ) (r : Edited) (keys′ bits′ summary′ logKeys′ logValues′ : List ℕ) : Type 0 where
+  pub answer : r ≡ paint m s keys bits n summary logKeys logValues used κ f
+  pub keys-are : keys′ ≡ paintKeys m s keys bits n summary logKeys logValues used κ f
+  pub bits-are : bits′ ≡ paintBits m s keys bits n summary logKeys logValues used κ f
+  pub summary-is : summary′ ≡ paintSummary m s keys bits n summary logKeys logValues used κ f
+  pub log-keys-are : logKeys′ ≡ paintLogKeys m s keys bits n summary logKeys logValues used κ f
+  pub log-values-are : logValues′ ≡ paintLogValues m s keys bits n summary logKeys logValues used κ f

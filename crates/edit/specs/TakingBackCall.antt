@@ -9,7 +9,7 @@ use Rattle.definitions.specs.List.{Record}
 use Rattle.definitions.specs.Read.{recordsOf, pictureOf}
 use Rattle.definitions.specs.Edit.{contentOf}
 use Rattle.definitions.specs.Log.{lastKey, lastCount, lastContent}
-use Rattle.definitions.specs.Calls.TakeBack.{takeBack, takeBackKeys, takeBackBits, takeBackLogKeys, takeBackLogValues}
+use Rattle.definitions.specs.Calls.TakeBack.{takeBack, takeBackKeys, takeBackBits, takeBackSummary, takeBackLogKeys, takeBackLogValues}
 use Rattle.definitions.specs.declared.Edited.{Edited}
 use Rattle.list.specs.Own.{OwnList}
 use Rattle.log.specs.Entries.{Ended}
@@ -30,10 +30,11 @@ pub record Restorable (m : ℕ) (keys bits : List ℕ) (n : ℕ) (logKeys logVal
   pub correct : lastContent (recordsOf logKeys logValues used)
       ≡ contentOf m (pictureOf m (lastContent (recordsOf logKeys logValues used))) (lastKey (recordsOf logKeys logValues used))
 
--- the answer of a taking back, and what it leaves in the four lent slices
-pub record TakenBack (m s : ℕ) (keys bits : List ℕ) (n : ℕ) (logKeys logValues : List ℕ) (used : ℕ) (r : Edited) (keys′ bits′ logKeys′ logValues′ : List ℕ) : Type 0 where
-  pub answer : r ≡ takeBack m s keys bits n logKeys logValues used
-  pub keys-are : keys′ ≡ takeBackKeys m s keys bits n logKeys logValues used
-  pub bits-are : bits′ ≡ takeBackBits m s keys bits n logKeys logValues used
-  pub log-keys-are : logKeys′ ≡ takeBackLogKeys m s keys bits n logKeys logValues used
-  pub log-values-are : logValues′ ≡ takeBackLogValues m s keys bits n logKeys logValues used
+-- the answer of a taking back, and what it leaves in the five lent slices
+pub record TakenBack (m s : ℕ) (keys bits : List ℕ) (n : ℕ) (summary logKeys logValues : List ℕ) (used : ℕ) (r : Edited) (keys′ bits′ summary′ logKeys′ logValues′ : List ℕ) : Type 0 where
+  pub answer : r ≡ takeBack m s keys bits n summary logKeys logValues used
+  pub keys-are : keys′ ≡ takeBackKeys m s keys bits n summary logKeys logValues used
+  pub bits-are : bits′ ≡ takeBackBits m s keys bits n summary logKeys logValues used
+  pub summary-is : summary′ ≡ takeBackSummary m s keys bits n summary logKeys logValues used
+  pub log-keys-are : logKeys′ ≡ takeBackLogKeys m s keys bits n summary logKeys logValues used
+  pub log-values-are : logValues′ ≡ takeBackLogValues m s keys bits n summary logKeys logValues used

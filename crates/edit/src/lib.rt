@@ -3,4 +3,5 @@ pub mod decision;
 pub mod empty;
 pub mod logging;
 pub mod paint;
+pub mod recount;
 pub mod take_back;

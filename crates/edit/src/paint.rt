@@ -10,6 +10,7 @@ ghost use Rattle.edit.specs.PaintCall.{roomRefusal, Paintable, newEntry,
 use crate::decision;
 use crate::decision::Decision;
 use crate::logging;
+use crate::recount;
 use definitions::Edited;
 use keys::Key;
 use keys::power;
@@ -68,6 +69,7 @@ fn decide(
     keys: &[u32],
     bits: &[u32],
     n: usize,
+    summary: &[u32],
     log_keys: &[u32],
     log_values: &[u32],
     used: usize,
@@ -75,11 +77,11 @@ fn decide(
     feature: u32,
 ) -> Decision
     ensures { λ r. ⌜ r ≡ decided
-        (paintRefusal m s (now (keys .entry)) (now (bits .entry)) n (now («log_keys» .entry)) (now («log_values» .entry)) used key feature)
+        (paintRefusal m s (now (keys .entry)) (now (bits .entry)) n (now (summary .entry)) (now («log_keys» .entry)) (now («log_values» .entry)) used key feature)
         (newEntry m (recordsOf (now (keys .entry)) (now (bits .entry)) n) used key)
         (paintPlan m (recordsOf (now (keys .entry)) (now (bits .entry)) n) key feature) ⌝ }
 {
-    let early = decision::first_refusal(m, s, keys, bits, n, log_keys, log_values, used);
+    let early = decision::first_refusal(m, s, keys, bits, n, summary, log_keys, log_values, used);
     if early != 0 {
         return Decision::Refused(early);
     }
@@ -124,21 +126,22 @@ fn fill(
     )
 }
 
-// Every pixel of one block gets the feature, and the log gains an entry with the block's former content.
+// Every pixel of one block gets the feature, the summary follows, and the log gains an entry with the block's former content.
 pub fn paint(
     m: u32,
     s: u32,
     keys: &mut [u32],
     bits: &mut [u32],
     n: usize,
+    summary: &mut [u32],
     log_keys: &mut [u32],
     log_values: &mut [u32],
     used: usize,
     key: u32,
     feature: u32,
 ) -> Edited
-    ensures { λ r. ⌜ Painted m s (now (keys .entry)) (now (bits .entry)) n (now («log_keys» .entry)) (now («log_values» .entry)) used key feature
-        r (now (keys .exit)) (now (bits .exit)) (now («log_keys» .exit)) (now («log_values» .exit)) ⌝ }
+    ensures { λ r. ⌜ Painted m s (now (keys .entry)) (now (bits .entry)) n (now (summary .entry)) (now («log_keys» .entry)) (now («log_values» .entry)) used key feature
+        r (now (keys .exit)) (now (bits .exit)) (now (summary .exit)) (now («log_keys» .exit)) (now («log_values» .exit)) ⌝ }
 {
     let decision = decide(
         m,
@@ -146,6 +149,7 @@ pub fn paint(
         keys,
         bits,
         n,
+        summary,
         log_keys,
         log_values,
         used,
@@ -163,6 +167,7 @@ pub fn paint(
         Decision::Granted(new, found) => {
             let logged = logging::log_content(m, keys, bits, n, new, log_keys, log_values);
             let after = fill(m, keys, bits, n, key, feature, found);
+            recount::recount(m, s, keys, bits, after, summary, key);
             return Edited {
                 refusal: 0,
                 n: after as u64,

@@ -10,6 +10,7 @@ ghost use Rattle.edit.specs.EditCallChecks.{decided};
 ghost use Rattle.edit.specs.TakingBackCall.{restorePlan, TakenBack};
 use crate::decision;
 use crate::decision::Decision;
+use crate::recount;
 use definitions::Edited;
 use log::entry;
 use log::entry::Entry;
@@ -24,16 +25,17 @@ fn decide(
     keys: &[u32],
     bits: &[u32],
     n: usize,
+    summary: &[u32],
     log_keys: &[u32],
     log_values: &[u32],
     used: usize,
 ) -> Decision
     ensures { λ r. ⌜ r ≡ decided
-        (takeBackRefusal m s (now (keys .entry)) (now (bits .entry)) n (now («log_keys» .entry)) (now («log_values» .entry)) used)
+        (takeBackRefusal m s (now (keys .entry)) (now (bits .entry)) n (now (summary .entry)) (now («log_keys» .entry)) (now («log_values» .entry)) used)
         (lastEntry (recordsOf (now («log_keys» .entry)) (now («log_values» .entry)) used))
         (restorePlan m (recordsOf (now (keys .entry)) (now (bits .entry)) n) (recordsOf (now («log_keys» .entry)) (now («log_values» .entry)) used)) ⌝ }
 {
-    let early = decision::first_refusal(m, s, keys, bits, n, log_keys, log_values, used);
+    let early = decision::first_refusal(m, s, keys, bits, n, summary, log_keys, log_values, used);
     if early != 0 {
         return Decision::Refused(early);
     }
@@ -88,21 +90,22 @@ fn put_back(
     )
 }
 
-// The content of the log's last entry goes back into its block, and the entry is removed.
+// The content of the log's last entry goes back into its block, the summary follows, and the entry is removed.
 pub fn take_back(
     m: u32,
     s: u32,
     keys: &mut [u32],
     bits: &mut [u32],
     n: usize,
+    summary: &mut [u32],
     log_keys: &mut [u32],
     log_values: &mut [u32],
     used: usize,
 ) -> Edited
-    ensures { λ r. ⌜ TakenBack m s (now (keys .entry)) (now (bits .entry)) n (now («log_keys» .entry)) (now («log_values» .entry)) used
-        r (now (keys .exit)) (now (bits .exit)) (now («log_keys» .exit)) (now («log_values» .exit)) ⌝ }
+    ensures { λ r. ⌜ TakenBack m s (now (keys .entry)) (now (bits .entry)) n (now (summary .entry)) (now («log_keys» .entry)) (now («log_values» .entry)) used
+        r (now (keys .exit)) (now (bits .exit)) (now (summary .exit)) (now («log_keys» .exit)) (now («log_values» .exit)) ⌝ }
 {
-    let decision = decide(m, s, keys, bits, n, log_keys, log_values, used);
+    let decision = decide(m, s, keys, bits, n, summary, log_keys, log_values, used);
     match decision {
         Decision::Refused(refusal) => {
             return Edited {
@@ -113,6 +116,7 @@ pub fn take_back(
         }
         Decision::Granted(last, found) => {
             let after = put_back(m, keys, bits, n, last, found, log_keys, log_values);
+            recount::recount(m, s, keys, bits, after, summary, last.key);
             let start = last.start;
             entry::clear_from(log_keys, log_values, start, used);
             return Edited {

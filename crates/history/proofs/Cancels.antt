@@ -7,7 +7,7 @@ use borrow.Author.Tests.{eq-eqb}
 use Rattle.definitions.specs.Picture.{pictureOfRaster}
 use Rattle.definitions.specs.List.{listOfRaster}
 use Rattle.definitions.specs.Read.{recordsOf}
-use Rattle.definitions.specs.Calls.Build.{buildRefusal}
+use Rattle.definitions.specs.Calls.Survey.{surveyRefusal}
 use Rattle.history.specs.History.{Call, painting, takingBack, emptying, Buffers, Paint, Kept, nothing, withoutLatest, built, after, answer, run, keep, kept, drawn, logOf, rasterLeft}
 use Rattle.history.specs.Claim.{backAnswer}
 use Rattle.history.proofs.PaintStep.{paint-left}
@@ -51,24 +51,24 @@ held-zero : (x : Paint) (xs : List Paint) → backAnswer (x ∷ xs) ≡ 0
 unfolding backAnswer
 held-zero x xs = refl
 
-module _ (m s : ℕ) (raster keys bits logKeys logValues : List ℕ) (accept : buildRefusal m s raster keys bits ≡ 0) (calls : List Call) where
+module _ (m s : ℕ) (raster keys bits summary logKeys logValues : List ℕ) (accept : surveyRefusal m s raster keys bits summary ≡ 0) (calls : List Call) where
   abbrev first : Buffers
-  first = built m s raster keys bits logKeys logValues
+  first = built m s raster keys bits summary logKeys logValues
 
   -- taking back cancels the latest paint held
   pub back-cancels : (x : Paint) (xs fixed : List Paint) → kept m s first nothing calls ≡ record { held = x ∷ xs; fixed = fixed }
       → kept m s first nothing (calls ++ (takingBack ∷ [])) ≡ record { held = xs; fixed = fixed }
   back-cancels x xs fixed e =
       let told : answer m s (run m s first calls) takingBack ≡ 0 =
-      history m s raster keys bits logKeys logValues accept calls .back ∙ ap (λ k. backAnswer (k .held)) e ∙ held-zero x xs in
+      history m s raster keys bits summary logKeys logValues accept calls .back ∙ ap (λ k. backAnswer (k .held)) e ∙ held-zero x xs in
       kept-append m s first nothing calls (takingBack ∷ [])
       ∙ kept-one m s (run m s first calls) (kept m s first nothing calls) takingBack
       ∙ ap (λ k. keep takingBack (answer m s (run m s first calls) takingBack) k) e
       ∙ held-back x xs fixed (answer m s (run m s first calls) takingBack) told
 
-module _ (m s : ℕ) (raster keys bits logKeys logValues : List ℕ) (accept : buildRefusal m s raster keys bits ≡ 0) (calls : List Call) (κ f : ℕ) where
+module _ (m s : ℕ) (raster keys bits summary logKeys logValues : List ℕ) (accept : surveyRefusal m s raster keys bits summary ≡ 0) (calls : List Call) (κ f : ℕ) where
   abbrev begin : Buffers
-  begin = built m s raster keys bits logKeys logValues
+  begin = built m s raster keys bits summary logKeys logValues
 
   -- the calls, and then a paint and a taking back
   abbrev undone : List Call
@@ -78,7 +78,7 @@ module _ (m s : ℕ) (raster keys bits logKeys logValues : List ℕ) (accept : b
   pub undone-kept : answer m s (run m s begin calls) (painting κ f) ≡ 0 → kept m s begin nothing undone ≡ kept m s begin nothing calls
   undone-kept e =
       let k : Kept = kept m s begin nothing calls in
-      back-cancels m s raster keys bits logKeys logValues accept (calls ++ (painting κ f ∷ [])) (record { key = κ; feature = f }) (k .held) (k .fixed)
+      back-cancels m s raster keys bits summary logKeys logValues accept (calls ++ (painting κ f ∷ [])) (record { key = κ; feature = f }) (k .held) (k .fixed)
       (kept-append m s begin nothing calls (painting κ f ∷ [])
       ∙ kept-one m s (run m s begin calls) k (painting κ f)
       ∙ held-more κ f (answer m s (run m s begin calls) (painting κ f)) k e)
@@ -88,15 +88,15 @@ module _ (m s : ℕ) (raster keys bits logKeys logValues : List ℕ) (accept : b
       → recordsOf (run m s begin undone .keys) (run m s begin undone .bits) (run m s begin undone .n)
       ≡ recordsOf (run m s begin calls .keys) (run m s begin calls .bits) (run m s begin calls .n)
   undone-list e =
-      history m s raster keys bits logKeys logValues accept undone .list
+      history m s raster keys bits summary logKeys logValues accept undone .list
       ∙ ap (λ k. listOfRaster m (rasterLeft m raster k)) (undone-kept e)
-      ∙ sym (history m s raster keys bits logKeys logValues accept calls .list)
+      ∙ sym (history m s raster keys bits summary logKeys logValues accept calls .list)
 
   -- and the log
   pub undone-log : answer m s (run m s begin calls) (painting κ f) ≡ 0
       → recordsOf (run m s begin undone .logKeys) (run m s begin undone .logValues) (run m s begin undone .used)
       ≡ recordsOf (run m s begin calls .logKeys) (run m s begin calls .logValues) (run m s begin calls .used)
   undone-log e =
-      history m s raster keys bits logKeys logValues accept undone .log
+      history m s raster keys bits summary logKeys logValues accept undone .log
       ∙ ap (λ k. logOf m (drawn m (pictureOfRaster m raster) (k .fixed)) (k .held)) (undone-kept e)
-      ∙ sym (history m s raster keys bits logKeys logValues accept calls .log)
+      ∙ sym (history m s raster keys bits summary logKeys logValues accept calls .log)

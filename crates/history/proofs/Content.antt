@@ -1,5 +1,5 @@
--- What paint and take back make of a list that shows a picture: the list of the painted picture and the entry of the former one; and a logged
--- content put back gives the former picture's list. Rests on Drawn and the laws of reading a list.
+-- What paint and take back make of a list that shows a picture: the list and the summary of the painted picture and the entry of
+-- the former one; and a logged content put back gives the former picture's list and summary. Rests on Drawn and the laws of reading a list.
 use Prim.Native.Nat.{ℕ}
 use mathlib.Core.Path.{_≡_, ap, ap₂, _∙_}
 use mathlib.Core.Bool.{true}
@@ -15,13 +15,15 @@ use Rattle.definitions.specs.Picture.{Picture, featuresBelow}
 use Rattle.definitions.specs.List.{Record, listOfPicture}
 use Rattle.definitions.specs.Read.{pictureOf}
 use Rattle.definitions.specs.Edit.{put, paintIn, contentOf}
+use Rattle.definitions.specs.Area.{summaryOf}
 use Rattle.definitions.specs.Log.{closed, entryOf, isContent, beforeLast}
-use Rattle.definitions.specs.Calls.Paint.{painted, gained}
-use Rattle.definitions.specs.Calls.TakeBack.{restored}
+use Rattle.definitions.specs.Calls.Paint.{paintedPicture, painted, gained}
+use Rattle.definitions.specs.Calls.TakeBack.{restoredPicture, restored}
 use Rattle.definitions.proofs.Pixels.{Agree, agree-under}
 use Rattle.definitions.proofs.Features.{below-under}
 use Rattle.definitions.proofs.ListOf.{list-agree}
 use Rattle.definitions.proofs.ReadBack.{KeysFrom, root-keys, block-back}
+use Rattle.definitions.proofs.SummaryOf.{summary-agree}
 use Rattle.definitions.proofs.IsList.{list-passes}
 use Rattle.definitions.proofs.LastEntry.{last-key, before-last, last-content}
 use Rattle.definitions.proofs.Put.{put-in, put-out}
@@ -64,6 +66,12 @@ painted-list m κ f p =
     list-agree (paintIn m κ f (pictureOf m (listOfPicture m p))) (paintIn m κ f p) m 0 0 rootKey
     (paint-agree m κ f (pictureOf m (listOfPicture m p)) p m 0 0 (map-back m p))
 
+-- and the summary after it
+pub painted-summary : (m s κ f : ℕ) (p : Picture) → summaryOf m s (paintedPicture m (listOfPicture m p) κ f) ≡ summaryOf m s (paintIn m κ f p)
+painted-summary m s κ f p =
+    summary-agree m s (paintIn m κ f (pictureOf m (listOfPicture m p))) (paintIn m κ f p)
+    (paint-agree m κ f (pictureOf m (listOfPicture m p)) p m 0 0 (map-back m p))
+
 -- the entry that the log gains is that of the former picture
 pub gained-entry : (m κ : ℕ) (p : Picture) → validKey m κ ≡ true → gained m (listOfPicture m p) κ ≡ entryOf m p κ
 unfolding gained
@@ -81,14 +89,28 @@ put-back m κ f p valid r c w =
     put-in m κ content map r c i ∙ content-back m κ p valid r c square)
     (λ o. put-out m κ content map r c o ∙ map-back m (paintIn m κ f p) r c w ∙ paint-outside m κ f p r c o)
 
--- so the list is the former one
+-- the last entry's content, put back, gives the former picture
+restored-picture : (m κ f : ℕ) (p : Picture) (log : List Record)
+    → restoredPicture m (listOfPicture m (paintIn m κ f p)) (log ++ entryOf m p κ)
+    ≡ put m κ (pictureOf m (contentOf m p κ)) (pictureOf m (listOfPicture m (paintIn m κ f p)))
+unfolding entryOf
+restored-picture m κ f p log =
+    ap₂ (λ x l. put m x (pictureOf m l) (pictureOf m (listOfPicture m (paintIn m κ f p)))) (last-key log κ (contentOf m p κ)) (last-content log κ (contentOf m p κ))
+
+-- so the summary is the former one
+pub restored-summary : (m s κ f : ℕ) (p : Picture) (log : List Record) → validKey m κ ≡ true
+    → summaryOf m s (restoredPicture m (listOfPicture m (paintIn m κ f p)) (log ++ entryOf m p κ)) ≡ summaryOf m s p
+restored-summary m s κ f p log valid =
+    ap (summaryOf m s) (restored-picture m κ f p log)
+    ∙ summary-agree m s (put m κ (pictureOf m (contentOf m p κ)) (pictureOf m (listOfPicture m (paintIn m κ f p)))) p (put-back m κ f p valid)
+
+-- and the list is the former one
 pub restored-list : (m κ f : ℕ) (p : Picture) (log : List Record) → validKey m κ ≡ true
     → restored m (listOfPicture m (paintIn m κ f p)) (log ++ entryOf m p κ) ≡ listOfPicture m p
-unfolding restored entryOf
+unfolding restored
 restored-list m κ f p log valid =
-    let map : Picture = pictureOf m (listOfPicture m (paintIn m κ f p)) in
-    ap₂ (λ x l. listOfPicture m (put m x (pictureOf m l) map)) (last-key log κ (contentOf m p κ)) (last-content log κ (contentOf m p κ))
-    ∙ list-agree (put m κ (pictureOf m (contentOf m p κ)) map) p m 0 0 rootKey (put-back m κ f p valid)
+    ap (listOfPicture m) (restored-picture m κ f p log)
+    ∙ list-agree (put m κ (pictureOf m (contentOf m p κ)) (pictureOf m (listOfPicture m (paintIn m κ f p)))) p m 0 0 rootKey (put-back m κ f p valid)
 
 -- and the log is what stood before the entry
 pub without-entry : (m κ : ℕ) (p : Picture) (log : List Record) → beforeLast (log ++ entryOf m p κ) ≡ log

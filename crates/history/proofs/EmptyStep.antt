@@ -1,9 +1,10 @@
 -- An emptying in a history: the held paints become fixed, the picture stays, and the invariant is kept. Rests on Invariant.
 use Prim.Native.Nat.{ℕ}
-use mathlib.Core.Path.{_≡_, sym, subst}
+use mathlib.Core.Path.{_≡_, sym, ap, _∙_, subst}
 use mathlib.Core.List.{List, _++_}
 use Rattle.definitions.specs.Picture.{Picture}
 use Rattle.definitions.specs.Read.{room}
+use Rattle.definitions.specs.Area.{summaryOf}
 use Rattle.history.specs.History.{Buffers, Kept, emptying, drawn, after, answer, keep}
 use Rattle.history.proofs.Drawn.{drawn-none, drawn-append}
 use Rattle.history.proofs.Past.{Legal, log-none, start, past-legal}
@@ -24,6 +25,7 @@ empty-keeps {m} {s} {p} {keys} {bits} {b = b} {k = k} {inList = inList} h = reco
   settings = h .settings;
   list =
       rw (drawn-none m (drawn m p (k .held ++ k .fixed)), ground-emptied m p k, ← list-longest (h .list)) (h .list);
+  counts = h .counts ∙ sym (ap (summaryOf m s) (drawn-none m (drawn m p (k .held ++ k .fixed)) ∙ ground-emptied m p k));
   log = rw (log-none m (drawn m p (k .held ++ k .fixed))) (log-emptied (h .log));
   past = start (subst (λ q. Legal m s (room keys bits) q) (sym (ground-emptied m p k)) (past-legal (h .past)));
 }

@@ -1,7 +1,7 @@
--- What holds after each call of a history: the list is that of the first picture with the paints applied, the log is that of the held paints, and
--- every picture of the past is legal. So the list and the log pass their checks, and a refused call keeps all this. Rests on Past and the slices.
+-- What holds after each call of a history: list and summary are those of the first picture with the paints applied, the log is that of the held paints, and
+-- every picture of the past is legal. So the list, the summary and the log pass their checks, and a refused call keeps all this. Rests on Past and the slices.
 use Prim.Native.Nat.{ℕ, max}
-use mathlib.Core.Path.{_≡_, ap, _∙_}
+use mathlib.Core.Path.{_≡_, sym, ap, _∙_}
 use mathlib.Core.Bool.{true, false, not}
 use mathlib.Core.List.{List}
 use lib.Dec.{leb}
@@ -10,12 +10,16 @@ use Rattle.keys.specs.Key.{rootKey}
 use Rattle.keys.proofs.Cases.{and-both}
 use Rattle.definitions.specs.Picture.{Picture}
 use Rattle.definitions.specs.List.{listOfPicture}
-use Rattle.definitions.specs.Read.{room, recordsOf, isListOfBlock, isList}
+use Rattle.definitions.specs.Read.{room, recordsOf, pictureOf, isListOfBlock, isList}
+use Rattle.definitions.specs.Area.{summaryOf, noSummary}
 use Rattle.definitions.specs.Log.{isSound, noLog}
 use Rattle.definitions.specs.Refusal.{badSettings}
 use Rattle.definitions.proofs.ReadBack.{root-keys}
+use Rattle.definitions.proofs.SummaryOf.{summary-agree}
+use Rattle.definitions.proofs.SameNumbers.{summary-right}
 use Rattle.definitions.proofs.IsList.{list-passes}
 use Rattle.history.specs.History.{Buffers, Kept, Call, drawn, logOf, after, answer, keep}
+use Rattle.history.proofs.Content.{map-back}
 use Rattle.history.proofs.Shown.{shown-records, shown-room}
 use Rattle.history.proofs.Slices.{HoldsList, list-shown, list-longest}
 use Rattle.history.proofs.LogSlices.{HoldsLog, log-longest}
@@ -34,6 +38,7 @@ now m p k = drawn m (ground m p k) (k .held)
 pub record Invariant (m s : ℕ) (p : Picture) (keys bits logKeys logValues : List ℕ) (b : Buffers) (k : Kept) (inList inLog : ℕ) : Type 0 where
   pub settings : badSettings m s ≡ false
   pub list : HoldsList (listOfPicture m (now m p k)) inList keys bits (b .keys) (b .bits) (b .n)
+  pub counts : b .summary ≡ summaryOf m s (now m p k)
   pub log : HoldsLog (logOf m (ground m p k) (k .held)) inLog logKeys logValues (b .logKeys) (b .logValues) (b .used)
   pub past : Past m s (room keys bits) (ground m p k) (k .held)
 
@@ -55,6 +60,13 @@ module _ {m s : ℕ} {p : Picture} {keys bits logKeys logValues : List ℕ} {b :
       (le-leb _ _ (shown-room (list-shown (h .list))))
       (ap (λ l. isListOfBlock m s m 0 0 rootKey l) now-records
       ∙ list-passes m s (now m p k) m 0 0 rootKey (root-keys m) (past-legal (h .past) .below))
+
+  -- the summary is theirs: refusal 18 does not come
+  pub now-is-summary : noSummary m s (pictureOf m (recordsOf (b .keys) (b .bits) (b .n))) (b .summary) ≡ false
+  now-is-summary =
+      ap (λ l. noSummary m s (pictureOf m l) (b .summary)) now-records
+      ∙ summary-right m s (pictureOf m (listOfPicture m (now m p k))) (b .summary)
+      (h .counts ∙ sym (summary-agree m s (pictureOf m (listOfPicture m (now m p k))) (now m p k) (map-back m (now m p k))))
 
   -- they are a sound log: refusal 5 does not come
   pub now-is-log : noLog m s (b .logKeys) (b .logValues) (b .used) ≡ false

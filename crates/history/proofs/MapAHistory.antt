@@ -11,11 +11,12 @@ use Rattle.definitions.specs.List.{listOf}
 use Rattle.definitions.specs.Read.{paired, valueAt, pictureOf, sameRecords, isListOfBlock, isList}
 use Rattle.definitions.specs.Refusal.{first, badSettings, badLength, badPixel}
 use Rattle.definitions.specs.Window.{featuresOfRow, featuresOfRows}
+use Rattle.definitions.specs.Area.{countOf, pixelsWith, countsFrom, summaryBelow, summaryOf, sameNumbers, noSummary}
 use Rattle.definitions.specs.Edit.{put, paintIn, contentOf}
 use Rattle.definitions.specs.Log.{closed, entryOf, lastRecord, lastKey, lastCount, beforeLast, lastContent, isContent, lastIsEntry, dividesIn, isSound, noLog}
-use Rattle.definitions.specs.Calls.Build.{buildRefusal, build, buildKeys, buildBits}
-use Rattle.definitions.specs.Calls.Paint.{painted, gained, paintRefusal, paint, paintKeys, paintBits, paintLogKeys, paintLogValues}
-use Rattle.definitions.specs.Calls.TakeBack.{restored, takeBackRefusal, usedBefore, takeBack, takeBackKeys, takeBackBits, takeBackLogKeys, takeBackLogValues}
+use Rattle.definitions.specs.Calls.Survey.{surveyRefusal, survey, surveyKeys, surveyBits, surveySummary}
+use Rattle.definitions.specs.Calls.Paint.{painted, gained, paintRefusal, paint, paintKeys, paintBits, paintSummary, paintLogKeys, paintLogValues}
+use Rattle.definitions.specs.Calls.TakeBack.{restored, takeBackRefusal, usedBefore, takeBack, takeBackKeys, takeBackBits, takeBackSummary, takeBackLogKeys, takeBackLogValues}
 use Rattle.history.specs.History.{Call, painting, takingBack, emptying, Buffers, nothing, withoutLatest, built, answer, after, run, keep, kept, drawn, pictureLeft, rasterLeft}
 
 -- the answers of a run of calls
@@ -27,9 +28,9 @@ answers m s b (c ∷ cs) = answer m s b c ∷ answers m s (after m s b c) cs
 abbrev mapA : List ℕ
 mapA = 0 ∷ 0 ∷ 1 ∷ 1 ∷ 0 ∷ 0 ∷ 1 ∷ 2 ∷ 2 ∷ 2 ∷ 0 ∷ 0 ∷ 2 ∷ 2 ∷ 0 ∷ 0 ∷ []
 
--- built in 12 places of the list, with 7 of the log
+-- built in 12 places of the list, 48 of the summary, with 7 of the log
 abbrev start : Buffers
-start = built 2 3 mapA (replicate 12 99) (replicate 12 98) (replicate 7 97) (replicate 7 96)
+start = built 2 3 mapA (replicate 12 99) (replicate 12 98) (replicate 48 95) (replicate 7 97) (replicate 7 96)
 
 -- each call with what comes of it
 abbrev calls : List Call
@@ -45,6 +46,10 @@ calls =
     ∷ takingBack  -- 11
     ∷ []
 
+-- the counts of a quadrant's four pixels that have one feature
+abbrev four : ℕ → ℕ → ℕ → List ℕ
+four a b c = a ∷ b ∷ c ∷ a ∷ b ∷ c ∷ a ∷ b ∷ c ∷ a ∷ b ∷ c ∷ []
+
 -- what the history gives, the list being that of the raster, then zeroes up to 9 places, and then what was lent
 record Gives : Type 0 where
   answered : answers 2 3 start calls ≡ 0 ∷ 8 ∷ 0 ∷ 11 ∷ 9 ∷ 0 ∷ 10 ∷ 0 ∷ 11 ∷ []
@@ -55,6 +60,7 @@ record Gives : Type 0 where
         keys = 0 ∷ 5 ∷ 10 ∷ 15 ∷ 20 ∷ (replicate 4 0 ++ replicate 3 99);
         bits = 5 ∷ 1 ∷ 4 ∷ 4 ∷ 1 ∷ (replicate 4 0 ++ replicate 3 98);
         n = 5;
+        summary = four 1 0 0 ++ (four 0 0 1 ++ (four 0 0 1 ++ four 1 0 0));
         logKeys = 10 ∷ 11 ∷ 12 ∷ 13 ∷ 14 ∷ 10 ∷ 97 ∷ [];
         logValues = 6 ∷ 2 ∷ 2 ∷ 2 ∷ 4 ∷ 5 ∷ 96 ∷ [];
         used = 0;
@@ -64,8 +70,9 @@ gives : Gives
 unfolding answers answer after run kept keep withoutLatest built drawn pictureLeft rasterLeft
     validKey digitsOf digitsThenZeros onlyZeros levelOf digitsBeforeZero heightOf rowOf columnOf sideOf inBlock pixelKey
     everyPixel oneFeature featuresBelow bitsOf unionOfFour twosIn featureOf listOf
-    paired valueAt pictureOf sameRecords isListOfBlock isList first badSettings badLength badPixel featuresOfRow featuresOfRows put paintIn contentOf
+    paired valueAt pictureOf sameRecords isListOfBlock isList first badSettings badLength badPixel featuresOfRow featuresOfRows
+    countOf pixelsWith countsFrom summaryBelow summaryOf sameNumbers noSummary put paintIn contentOf
     closed entryOf lastRecord lastKey lastCount beforeLast lastContent isContent lastIsEntry dividesIn isSound noLog
-    buildRefusal build buildKeys buildBits painted gained paintRefusal paint paintKeys paintBits paintLogKeys paintLogValues
-    restored takeBackRefusal usedBefore takeBack takeBackKeys takeBackBits takeBackLogKeys takeBackLogValues
+    surveyRefusal survey surveyKeys surveyBits surveySummary painted gained paintRefusal paint paintKeys paintBits paintSummary paintLogKeys paintLogValues
+    restored takeBackRefusal usedBefore takeBack takeBackKeys takeBackBits takeBackSummary takeBackLogKeys takeBackLogValues
 gives = record { answered = refl; paints = refl; raster = refl; buffers = refl }

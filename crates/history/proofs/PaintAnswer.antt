@@ -1,4 +1,4 @@
--- The answer to a paint in a history: refusals 1, 4 and 5 do not come, and the others are told by the picture now. Rests on Invariant and PaintStep.
+-- The answer to a paint in a history: refusals 1, 4, 18 and 5 do not come, and the others are told by the picture now. Rests on Invariant and PaintStep.
 use Prim.Native.Nat.{ℕ, _+_}
 use mathlib.Core.Path.{_≡_, sym, ap, _∙_}
 use mathlib.Core.Bool.{true, false, not}
@@ -11,7 +11,8 @@ use Rattle.keys.specs.Key.{validKey}
 use Rattle.keys.proofs.Cases.{decide}
 use Rattle.definitions.specs.Picture.{Picture}
 use Rattle.definitions.specs.List.{Record, listOfPicture}
-use Rattle.definitions.specs.Read.{room}
+use Rattle.definitions.specs.Read.{room, recordsOf, pictureOf}
+use Rattle.definitions.specs.Area.{noSummary}
 use Rattle.definitions.specs.Edit.{paintIn}
 use Rattle.definitions.specs.Log.{entryOf, noLog}
 use Rattle.definitions.specs.Refusal.{Row, _gives_, first, badSettings, noList, badKey, badFeature}
@@ -21,9 +22,9 @@ use Rattle.history.specs.History.{Buffers, Kept, painting, answer}
 use Rattle.history.specs.Claim.{paintAnswer}
 use Rattle.history.proofs.Slices.{list-room}
 use Rattle.history.proofs.PaintStep.{listAfter, entryIn, list-now, entry-now}
-use Rattle.history.proofs.Invariant.{now, Invariant, now-is-list, now-is-log}
+use Rattle.history.proofs.Invariant.{now, Invariant, now-is-list, now-is-summary, now-is-log}
 
--- the rows of the table after the first four
+-- the rows of the table after 8
 abbrev later : ℕ → ℕ → ℕ → ℕ → ℕ → List Record → List Record → List Row
 later s f roomOfList roomOfLog used entry l =
     badFeature s f gives 7 ∷ ltb roomOfLog (used + length entry) gives 10 ∷ ltb roomOfList (length l) gives 9 ∷ []
@@ -36,12 +37,14 @@ by-key m κ rest rest′ same =
     (λ good. ap (λ r. first (badKey m κ gives 8 ∷ r)) (same (not-false _ good)))
 
 module _ (m s : ℕ) (b : Buffers) (κ f : ℕ) where
-  -- where the first three tests do not hold, the others decide
-  past-three : badSettings m s ≡ false → noList m s (b .keys) (b .bits) (b .n) ≡ false → noLog m s (b .logKeys) (b .logValues) (b .used) ≡ false
+  -- where the first four tests do not hold, the others decide
+  past-four : badSettings m s ≡ false → noList m s (b .keys) (b .bits) (b .n) ≡ false
+      → noSummary m s (pictureOf m (recordsOf (b .keys) (b .bits) (b .n))) (b .summary) ≡ false
+      → noLog m s (b .logKeys) (b .logValues) (b .used) ≡ false
       → answer m s b (painting κ f)
       ≡ first (badKey m κ gives 8 ∷ later s f (room (b .keys) (b .bits)) (room (b .logKeys) (b .logValues)) (b .used) (entryIn m b κ) (listAfter m b κ f))
   unfolding answer paint paintRefusal
-  past-three settings list log = first-later _ _ settings ∙ first-later _ _ list ∙ first-later _ _ log
+  past-four settings list counts log = first-later _ _ settings ∙ first-later _ _ list ∙ first-later _ _ counts ∙ first-later _ _ log
 
 -- a paint's answer, by the picture now
 pub paint-answer : {m s : ℕ} {p : Picture} {keys bits logKeys logValues : List ℕ} {b : Buffers} {k : Kept} {inList inLog : ℕ} (κ f : ℕ)
@@ -52,7 +55,7 @@ paint-answer {m} {s} {p} {keys} {bits} {logKeys} {logValues} {b} {k} κ f h =
     let e = h .log .keys-length in
     let e′ = h .log .values-length in
     let inLog : room (b .logKeys) (b .logValues) ≡ room logKeys logValues = omega arith in
-    past-three m s b κ f (h .settings) (ap not (now-is-list h)) (now-is-log h)
+    past-four m s b κ f (h .settings) (ap not (now-is-list h)) (now-is-summary h) (now-is-log h)
     ∙ by-key m κ
     (later s f (room (b .keys) (b .bits)) (room (b .logKeys) (b .logValues)) (b .used) (entryIn m b κ) (listAfter m b κ f))
     (later s f (room keys bits) (room logKeys logValues) (b .used) (entryOf m (now m p k) κ) (listOfPicture m (paintIn m κ f (now m p k))))

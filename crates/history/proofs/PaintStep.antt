@@ -10,16 +10,17 @@ use Rattle.keys.specs.Key.{validKey}
 use Rattle.keys.proofs.Cases.{equal}
 use Rattle.definitions.specs.Picture.{Picture}
 use Rattle.definitions.specs.List.{Record, listOfPicture, keysOf, valuesOf}
-use Rattle.definitions.specs.Read.{room, recordsOf}
+use Rattle.definitions.specs.Read.{room, recordsOf, pictureOf}
 use Rattle.definitions.specs.Buffer.{overAt, replaced}
+use Rattle.definitions.specs.Area.{summaryOf, noSummary}
 use Rattle.definitions.specs.Edit.{paintIn}
 use Rattle.definitions.specs.Log.{entryOf, noLog}
 use Rattle.definitions.specs.Refusal.{Row, _gives_, badSettings, noList, badKey, badFeature}
-use Rattle.definitions.specs.Calls.Paint.{painted, gained, paintRefusal, paint, paintKeys, paintBits, paintLogKeys, paintLogValues}
+use Rattle.definitions.specs.Calls.Paint.{paintedPicture, painted, gained, paintRefusal, paint, paintKeys, paintBits, paintSummary, paintLogKeys, paintLogValues}
 use Rattle.definitions.proofs.First.{first-none}
 use Rattle.history.specs.History.{Buffers, Paint, Kept, painting, drawn, after, answer, keep}
 use Rattle.history.proofs.Drawn.{drawn-latest, paint-below}
-use Rattle.history.proofs.Content.{painted-list, gained-entry}
+use Rattle.history.proofs.Content.{painted-list, painted-summary, gained-entry}
 use Rattle.history.proofs.Past.{Legal, log-latest, later, past-legal}
 use Rattle.history.proofs.Slices.{list-replaced, list-room}
 use Rattle.history.proofs.LogSlices.{log-gains}
@@ -29,17 +30,22 @@ use Rattle.history.proofs.Invariant.{ground, now, Invariant, now-record
 abbrev pub listAfter : ℕ → Buffers → ℕ → ℕ → List Record
 listAfter m b κ f = painted m (recordsOf (b .keys) (b .bits) (b .n)) κ f
 
+-- the summary that it makes of theirs
+abbrev pub summaryAfter : ℕ → ℕ → Buffers → ℕ → ℕ → List ℕ
+summaryAfter m s b κ f = summaryOf m s (paintedPicture m (recordsOf (b .keys) (b .bits) (b .n)) κ f)
+
 -- the entry that it puts behind the log
 abbrev pub entryIn : ℕ → Buffers → ℕ → List Record
 entryIn m b κ = gained m (recordsOf (b .keys) (b .bits) (b .n)) κ
 
--- the buffers with a list in place of theirs and an entry behind the log
-abbrev pub withEntry : Buffers → List Record → List Record → Buffers
-withEntry b l entry =
+-- the buffers with a list and a summary in place of theirs and an entry behind the log
+abbrev pub withEntry : Buffers → List Record → List ℕ → List Record → Buffers
+withEntry b l summary entry =
     record {
       keys = replaced (b .n) (keysOf l) (b .keys);
       bits = replaced (b .n) (valuesOf l) (b .bits);
       n = length l;
+      summary = summary;
       logKeys = overAt (b .used) (keysOf entry) (b .logKeys);
       logValues = overAt (b .used) (valuesOf entry) (b .logValues);
       used = b .used + length entry;
@@ -58,6 +64,7 @@ module _ (m s : ℕ) (b : Buffers) (κ f : ℕ) where
   rows =
       badSettings m s gives 1
       ∷ noList m s (b .keys) (b .bits) (b .n) gives 4
+      ∷ noSummary m s (pictureOf m (recordsOf (b .keys) (b .bits) (b .n))) (b .summary) gives 18
       ∷ noLog m s (b .logKeys) (b .logValues) (b .used) gives 5
       ∷ badKey m κ gives 8
       ∷ badFeature s f gives 7
@@ -70,20 +77,20 @@ module _ (m s : ℕ) (b : Buffers) (κ f : ℕ) where
   passed e =
       let none = first-none rows refl e in
       record {
-        valid = not-false _ (none .1 .1 .1 .0);
-        below = leb-false s f (none .1 .1 .1 .1 .0);
-        logRoom = ltb-false _ _ (none .1 .1 .1 .1 .1 .0);
-        listRoom = ltb-false _ _ (none .1 .1 .1 .1 .1 .1 .0);
+        valid = not-false _ (none .1 .1 .1 .1 .0);
+        below = leb-false s f (none .1 .1 .1 .1 .1 .0);
+        logRoom = ltb-false _ _ (none .1 .1 .1 .1 .1 .1 .0);
+        listRoom = ltb-false _ _ (none .1 .1 .1 .1 .1 .1 .1 .0);
       }
 
-  -- an accepted paint writes its list and its entry
-  pub paint-done : answer m s b (painting κ f) ≡ 0 → after m s b (painting κ f) ≡ withEntry b (listAfter m b κ f) (entryIn m b κ)
-  unfolding answer after paint paintKeys paintBits paintLogKeys paintLogValues
+  -- an accepted paint writes its list, its summary and its entry
+  pub paint-done : answer m s b (painting κ f) ≡ 0 → after m s b (painting κ f) ≡ withEntry b (listAfter m b κ f) (summaryAfter m s b κ f) (entryIn m b κ)
+  unfolding answer after paint paintKeys paintBits paintSummary paintLogKeys paintLogValues
   paint-done e = rw (eq-eqb _ 0 e)
 
   -- a refused paint leaves the buffers
   pub paint-left : (answer m s b (painting κ f) ≡ 0 → ⊥) → after m s b (painting κ f) ≡ b
-  unfolding answer after paint paintKeys paintBits paintLogKeys paintLogValues
+  unfolding answer after paint paintKeys paintBits paintSummary paintLogKeys paintLogValues
   paint-left h = rw (ne-eqb _ 0 h)
 
   -- and the paints
@@ -103,6 +110,10 @@ module _ {m s : ℕ} {p : Picture} {keys bits logKeys logValues : List ℕ} {b :
   pub list-now : (f : ℕ) → listAfter m b κ f ≡ listOfPicture m (paintIn m κ f (now m p k))
   list-now f = ap (λ l. painted m l κ f) (now-records h) ∙ painted-list m κ f (now m p k)
 
+  -- its summary is that of the same picture
+  summary-now : (f : ℕ) → summaryAfter m s b κ f ≡ summaryOf m s (paintIn m κ f (now m p k))
+  summary-now f = ap (λ l. summaryOf m s (paintedPicture m l κ f)) (now-records h) ∙ painted-summary m s κ f (now m p k)
+
   -- its entry is that of the block in the picture before
   pub entry-now : validKey m κ ≡ true → entryIn m b κ ≡ entryOf m (now m p k) κ
   entry-now valid = ap (λ l. gained m l κ) (now-records h) ∙ gained-entry m κ (now m p k) valid
@@ -115,6 +126,9 @@ module _ {m s : ℕ} {p : Picture} {keys bits logKeys logValues : List ℕ} {b :
   -- the list afterwards is that of the picture with the paint
   list-is : listAfter m b κ f ≡ listOfPicture m (drawn m (ground m p k) (latest ∷ k .held))
   list-is = list-now κ h f ∙ ap (λ q. listOfPicture m q) (sym (drawn-latest m (ground m p k) latest (k .held)))
+
+  summary-is : summaryAfter m s b κ f ≡ summaryOf m s (drawn m (ground m p k) (latest ∷ k .held))
+  summary-is = summary-now κ h f ∙ ap (λ q. summaryOf m s q) (sym (drawn-latest m (ground m p k) latest (k .held)))
 
   entry-is : entryIn m b κ ≡ entryOf m (now m p k) κ
   entry-is = entry-now κ h (passed m s b κ f e .valid)
@@ -130,13 +144,15 @@ module _ {m s : ℕ} {p : Picture} {keys bits logKeys logValues : List ℕ} {b :
 
   -- the buffers with its list and entry keep the invariant
   paint-holds : Invariant m s p keys bits logKeys logValues
-      (withEntry b (listOfPicture m (drawn m (ground m p k) (latest ∷ k .held))) (entryOf m (now m p k) κ))
+      (withEntry b (listOfPicture m (drawn m (ground m p k) (latest ∷ k .held))) (summaryOf m s (drawn m (ground m p k) (latest ∷ k .held)))
+      (entryOf m (now m p k) κ))
       (record { held = latest ∷ k .held; fixed = k .fixed })
       (max inList (length (listOfPicture m (drawn m (ground m p k) (latest ∷ k .held)))))
       (max inLog (b .used + length (entryOf m (now m p k) κ)))
   paint-holds = record {
     settings = h .settings;
     list = list-replaced (listOfPicture m (drawn m (ground m p k) (latest ∷ k .held))) (h .list) (legal-after .fits);
+    counts = refl;
     log =
         rw (log-latest m (ground m p k) latest (k .held))
         (log-gains (entryOf m (now m p k) κ) (h .log) (rw entry-is at (passed m s b κ f e .logRoom)));
@@ -146,7 +162,13 @@ module _ {m s : ℕ} {p : Picture} {keys bits logKeys logValues : List ℕ} {b :
   -- an accepted paint keeps the invariant
   accepted-keeps : Keeps m s p keys bits logKeys logValues b k inList inLog (painting κ f)
   accepted-keeps =
-      rw (keep-done m s b κ f k e, paint-done m s b κ f e ∙ ap₂ (λ l entry. withEntry b l entry) list-is entry-is) paint-holds
+      rw (
+        keep-done m s b κ f k e,
+        paint-done m s b κ f e
+            ∙ ap₂ (λ l entry. withEntry b l (summaryAfter m s b κ f) entry) list-is entry-is
+            ∙ ap (λ counts. withEntry b (listOfPicture m (drawn m (ground m p k) (latest ∷ k .held))) counts (entryOf m (now m p k) κ)) summary-is,
+      )
+      paint-holds
 
 -- a paint keeps the invariant
 pub paint-keeps : {m s : ℕ} {p : Picture} {keys bits logKeys logValues : List ℕ} {b : Buffers} {k : Kept} {inList inLog : ℕ} (κ f : ℕ)

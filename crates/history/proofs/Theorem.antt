@@ -1,7 +1,8 @@
 -- The history theorem: after any run of paints, takings back and log emptyings from an accepted build and an empty log, refused calls included, the
--- buffers hold what a fresh build of the raster left gives, and taking back is refused exactly when no paint is held. Rests on the steps.
+-- buffers hold the list and the summary that a fresh build of the raster left gives, and taking back is refused exactly when no paint is held. Rests on the steps.
 use Prim.Native.Nat.{ℕ, _≤_, max}
 use mathlib.Core.Path.{_≡_, sym, ap, subst₂, _∙_}
+use mathlib.Core.Bool.{false}
 use mathlib.Core.List.{List, [], _∷_}
 use native.Mathlib.Omega.{arith}
 use native.Mathlib.Nat.{le-refl}
@@ -10,16 +11,18 @@ use Rattle.keys.specs.Key.{rootKey}
 use Rattle.definitions.specs.Picture.{Picture, pictureOfRaster}
 use Rattle.definitions.specs.List.{listOfPicture, listOfRaster, keysOf, valuesOf}
 use Rattle.definitions.specs.Buffer.{replaced}
-use Rattle.definitions.specs.Calls.Build.{buildRefusal}
+use Rattle.definitions.specs.Area.{summaryOf, badSummaryLength}
+use Rattle.definitions.specs.Calls.Survey.{surveyRefusal}
 use Rattle.definitions.proofs.ListOf.{list-agree}
+use Rattle.definitions.proofs.SummaryOf.{summary-agree}
 use Rattle.definitions.proofs.RasterOf.{rasterOf, raster-length, raster-back, raster-good, length-from}
 use Rattle.history.specs.History.{Call, painting, takingBack, emptying, Buffers, Kept, nothing, built, after, answer, run, keep, kept, longestList, longestLog, pictureLeft, rasterLeft}
 use Rattle.history.specs.Claim.{AsBuilt, History}
 use Rattle.history.proofs.Past.{past-legal}
 use Rattle.history.proofs.Slices.{list-longest, list-keys-length, list-bits-length}
 use Rattle.history.proofs.LogSlices.{log-longest}
-use Rattle.history.proofs.Invariant.{now, Invariant, now-records, now-log, now-is-list, now-is-log, Keeps}
-use Rattle.history.proofs.BuildStep.{Builds, build-accepted, build-count, build-records, build-holds}
+use Rattle.history.proofs.Invariant.{now, Invariant, now-records, now-log, now-is-list, now-is-summary, now-is-log, Keeps}
+use Rattle.history.proofs.BuildStep.{Builds, build-passed, build-accepted, build-count, build-summary, build-records, build-holds}
 use Rattle.history.proofs.PaintStep.{paint-keeps}
 use Rattle.history.proofs.PaintAnswer.{paint-answer}
 use Rattle.history.proofs.TakeBackStep.{back-answer, back-keeps}
@@ -74,10 +77,17 @@ left-list m raster k =
     let q : Picture = pictureLeft m raster k in
     list-agree (pictureOfRaster m (rasterOf m q)) q m 0 0 rootKey (raster-back m q) ∙ ap (λ q′. listOfPicture m q′) (left-is m raster k)
 
-module _ {m s : ℕ} (raster : List ℕ) {keys bits logKeys logValues : List ℕ} {b : Buffers} {k : Kept} {inList inLog : ℕ}
+-- and so their summaries
+left-summary : (m s : ℕ) (raster : List ℕ) (k : Kept) → summaryOf m s (pictureOfRaster m (rasterLeft m raster k)) ≡ summaryOf m s (pictureLeft m raster k)
+unfolding rasterLeft
+left-summary m s raster k =
+    let q : Picture = pictureLeft m raster k in
+    summary-agree m s (pictureOfRaster m (rasterOf m q)) q (raster-back m q)
+
+module _ {m s : ℕ} (raster summary : List ℕ) (counted : badSummaryLength m s summary ≡ false) {keys bits logKeys logValues : List ℕ} {b : Buffers} {k : Kept} {inList inLog : ℕ}
     (h : Invariant m s (pictureOfRaster m raster) keys bits logKeys logValues b k inList inLog) where
   -- build takes the raster left
-  left-builds : Builds m s (rasterLeft m raster k) keys bits
+  left-builds : Builds m s (rasterLeft m raster k) keys bits summary
   unfolding rasterLeft
   left-builds =
       let q : Picture = pictureLeft m raster k in
@@ -86,24 +96,30 @@ module _ {m s : ℕ} (raster : List ℕ) {keys bits logKeys logValues : List ℕ
         settings = h .settings;
         sized = length-from m (rasterOf m q) (raster-length m q);
         below = raster-good m s q (rw (left-is m raster k) (legal .below));
+        counted = counted;
         fits = rw (left-list m raster k) (legal .fits);
       }
 
   -- the buffers are as demand 3 claims
-  pub as-built : AsBuilt m s raster keys bits logKeys logValues b k inList inLog
+  pub as-built : AsBuilt m s raster keys bits summary logKeys logValues b k inList inLog
   as-built =
       let list = left-list m raster k in
-      let fresh = build-accepted m s (rasterLeft m raster k) keys bits left-builds in
+      let fresh = build-accepted m s (rasterLeft m raster k) keys bits summary left-builds in
+      let counts : b .summary ≡ summaryOf m s (pictureLeft m raster k) = h .counts ∙ ap (summaryOf m s) (sym (left-is m raster k)) in
       let records = now-records h ∙ sym list in
       record {
         picture = now-records h ∙ ap (λ q. listOfPicture m q) (sym (left-is m raster k));
         list = records;
+        summary-left = counts;
         fresh = fresh;
-        fresh-count = h .list .count ∙ ap length (sym list) ∙ sym (build-count m s (rasterLeft m raster k) keys bits fresh);
-        fresh-records = records ∙ sym (build-records m s (rasterLeft m raster k) keys bits fresh);
+        fresh-count = h .list .count ∙ ap length (sym list) ∙ sym (build-count m s (rasterLeft m raster k) keys bits summary fresh);
+        fresh-records = records ∙ sym (build-records m s (rasterLeft m raster k) keys bits summary fresh);
+        fresh-summary = counts
+            ∙ sym (build-summary m s (rasterLeft m raster k) keys bits summary fresh ∙ left-summary m s raster k);
         all-keys = h .list .all-keys ∙ ap (λ l. replaced inList (keysOf l) keys) (sym list);
         all-bits = h .list .all-bits ∙ ap (λ l. replaced inList (valuesOf l) bits) (sym list);
         is-list = now-is-list h;
+        is-summary = now-is-summary h;
         is-log = now-is-log h;
         log = now-log h;
         back = back-answer (k .held) (k .fixed) h;
@@ -117,13 +133,13 @@ module _ {m s : ℕ} (raster : List ℕ) {keys bits logKeys logValues : List ℕ
       }
 
 -- demand 3, for all settings, rasters, slices and runs of calls
-pub history : (m s : ℕ) (raster keys bits logKeys logValues : List ℕ) → buildRefusal m s raster keys bits ≡ 0 → (calls : List Call)
-    → History m s raster keys bits logKeys logValues calls
-history m s raster keys bits logKeys logValues accepted calls =
-    let first : Buffers = built m s raster keys bits logKeys logValues in
+pub history : (m s : ℕ) (raster keys bits summary logKeys logValues : List ℕ) → surveyRefusal m s raster keys bits summary ≡ 0 → (calls : List Call)
+    → History m s raster keys bits summary logKeys logValues calls
+history m s raster keys bits summary logKeys logValues accepted calls =
+    let first : Buffers = built m s raster keys bits summary logKeys logValues in
     let begins = begins-list m s first calls in
     let begins′ = begins-log m s first calls in
-    subst₂ (λ x y. AsBuilt m s raster keys bits logKeys logValues (run m s first calls) (kept m s first nothing calls) x y)
+    subst₂ (λ x y. AsBuilt m s raster keys bits summary logKeys logValues (run m s first calls) (kept m s first nothing calls) x y)
     (let e : max (first .n) (longestList m s first calls) ≡ longestList m s first calls = omega arith in e)
     (let e : max (first .used) (longestLog m s first calls) ≡ longestLog m s first calls = omega arith in e)
-    (as-built raster (run-holds calls (build-holds m s raster keys bits accepted logKeys logValues)))
+    (as-built raster summary (build-passed m s raster keys bits summary accepted .counted) (run-holds calls (build-holds m s raster keys bits summary accepted logKeys logValues)))

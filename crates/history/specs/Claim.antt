@@ -1,4 +1,4 @@
--- What demand 3 claims of the buffers that a history leaves: they hold what a fresh build of the raster left gives, and taking back is refused
+-- What demand 3 claims of the buffers that a history leaves: they hold the list and the summary that a fresh build of the raster left gives, and taking back is refused
 -- exactly when no paint is held. Rests on History.
 use Prim.Native.Nat.{ℕ, _+_}
 use mathlib.Core.Path.{_≡_}
@@ -8,12 +8,13 @@ use lib.ListN.{length, drop}
 use lib.Dec.{ltb}
 use Rattle.definitions.specs.Picture.{Picture, pictureOfRaster}
 use Rattle.definitions.specs.List.{listOfPicture, listOfRaster, keysOf, valuesOf}
-use Rattle.definitions.specs.Read.{room, recordsOf, isList}
+use Rattle.definitions.specs.Read.{room, recordsOf, pictureOf, isList}
 use Rattle.definitions.specs.Buffer.{replaced}
+use Rattle.definitions.specs.Area.{summaryOf, noSummary}
 use Rattle.definitions.specs.Edit.{paintIn}
 use Rattle.definitions.specs.Log.{entryOf, noLog}
 use Rattle.definitions.specs.Refusal.{_gives_, first, badKey, badFeature}
-use Rattle.definitions.specs.Calls.Build.{build, buildRefusal, buildKeys, buildBits}
+use Rattle.definitions.specs.Calls.Survey.{survey, surveyRefusal, surveyKeys, surveyBits, surveySummary}
 use Rattle.history.specs.History.{Call, painting, takingBack, Buffers, Paint, Kept, answer, built, run, longestList, longestLog, kept, nothing, drawn, logOf, pictureLeft, rasterLeft}
 
 -- 11 where no paint is held, and else 0
@@ -32,27 +33,32 @@ paintAnswer m s p roomOfList roomOfLog used κ f =
     ∷ ltb roomOfList (length (listOfPicture m (paintIn m κ f p))) gives 9
     ∷ [])
 
--- build was lent keys and bits, and the log logKeys and logValues; the history left b, keeps the paints k, and had at most so many records in the
+-- build was lent keys, bits and summary, and the log logKeys and logValues; the history left b, keeps the paints k, and had at most so many records in the
 -- list and in the log
-pub record AsBuilt (m s : ℕ) (raster keys bits logKeys logValues : List ℕ) (b : Buffers) (k : Kept) (inList inLog : ℕ) : Type 0 where
+pub record AsBuilt (m s : ℕ) (raster keys bits summary logKeys logValues : List ℕ) (b : Buffers) (k : Kept) (inList inLog : ℕ) : Type 0 where
   -- the first n records are the list of the picture left
   pub picture : recordsOf (b .keys) (b .bits) (b .n) ≡ listOfPicture m (pictureLeft m raster k)
   -- and of the raster left
   pub list : recordsOf (b .keys) (b .bits) (b .n) ≡ listOfRaster m (rasterLeft m raster k)
+  -- the summary is that of the picture left
+  pub summary-left : b .summary ≡ summaryOf m s (pictureLeft m raster k)
   -- a fresh build of that raster into the same slices is accepted
-  pub fresh : buildRefusal m s (rasterLeft m raster k) keys bits ≡ 0
+  pub fresh : surveyRefusal m s (rasterLeft m raster k) keys bits summary ≡ 0
   -- it gives the same count
-  pub fresh-count : b .n ≡ build m s (rasterLeft m raster k) keys bits .count
+  pub fresh-count : b .n ≡ survey m s (rasterLeft m raster k) keys bits summary .count
   -- and the same records
   pub fresh-records : recordsOf (b .keys) (b .bits) (b .n)
-      ≡ recordsOf (buildKeys m s (rasterLeft m raster k) keys bits)
-      (buildBits m s (rasterLeft m raster k) keys bits)
-      (build m s (rasterLeft m raster k) keys bits .count)
+      ≡ recordsOf (surveyKeys m s (rasterLeft m raster k) keys bits summary)
+      (surveyBits m s (rasterLeft m raster k) keys bits summary)
+      (survey m s (rasterLeft m raster k) keys bits summary .count)
+  -- and the same summary
+  pub fresh-summary : b .summary ≡ surveySummary m s (rasterLeft m raster k) keys bits summary
   -- the whole slices: past the list zeroes as far as a list of the history ever went, and then what was lent to build
   pub all-keys : b .keys ≡ replaced inList (keysOf (listOfRaster m (rasterLeft m raster k))) keys
   pub all-bits : b .bits ≡ replaced inList (valuesOf (listOfRaster m (rasterLeft m raster k))) bits
-  -- refusals 4 and 5 do not come
+  -- refusals 4, 18 and 5 do not come
   pub is-list : isList m s (b .keys) (b .bits) (b .n) ≡ true
+  pub is-summary : noSummary m s (pictureOf m (recordsOf (b .keys) (b .bits) (b .n))) (b .summary) ≡ false
   pub is-log : noLog m s (b .logKeys) (b .logValues) (b .used) ≡ false
   -- the log has the entries of the held paints, each of the picture that the paint found, and no others
   pub log : recordsOf (b .logKeys) (b .logValues) (b .used) ≡ logOf m (drawn m (pictureOfRaster m raster) (k .fixed)) (k .held)
@@ -70,7 +76,7 @@ pub record AsBuilt (m s : ℕ) (raster keys bits logKeys logValues : List ℕ) (
   pub past-logValues : drop inLog (b .logValues) ≡ drop inLog logValues
 
 -- demand 3
-abbrev pub History : ℕ → ℕ → List ℕ → List ℕ → List ℕ → List ℕ → List ℕ → List Call → Type 0
-History m s raster keys bits logKeys logValues calls =
-    let start = built m s raster keys bits logKeys logValues in
-    AsBuilt m s raster keys bits logKeys logValues (run m s start calls) (kept m s start nothing calls) (longestList m s start calls) (longestLog m s start calls)
+abbrev pub History : (m s : ℕ) (raster keys bits summary logKeys logValues : List ℕ) → List Call → Type 0
+History m s raster keys bits summary logKeys logValues calls =
+    let start = built m s raster keys bits summary logKeys logValues in
+    AsBuilt m s raster keys bits summary logKeys logValues (run m s start calls) (kept m s start nothing calls) (longestList m s start calls) (longestLog m s start calls)

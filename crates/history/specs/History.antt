@@ -8,9 +8,9 @@ use Rattle.definitions.specs.List.{Record}
 use Rattle.definitions.specs.Edit.{paintIn}
 use Rattle.definitions.specs.Log.{entryOf}
 use Rattle.definitions.specs.Refusal.{accepted}
-use Rattle.definitions.specs.Calls.Build.{build, buildKeys, buildBits}
-use Rattle.definitions.specs.Calls.Paint.{paint, paintKeys, paintBits, paintLogKeys, paintLogValues}
-use Rattle.definitions.specs.Calls.TakeBack.{takeBack, takeBackKeys, takeBackBits, takeBackLogKeys, takeBackLogValues}
+use Rattle.definitions.specs.Calls.Survey.{survey, surveyKeys, surveyBits, surveySummary}
+use Rattle.definitions.specs.Calls.Paint.{paint, paintKeys, paintBits, paintSummary, paintLogKeys, paintLogValues}
+use Rattle.definitions.specs.Calls.TakeBack.{takeBack, takeBackKeys, takeBackBits, takeBackSummary, takeBackLogKeys, takeBackLogValues}
 use Rattle.definitions.specs.Calls.Empty.{emptied}
 
 -- a call of a history; key and feature are any numbers
@@ -24,17 +24,19 @@ pub record Buffers : Type 0 where
   pub keys : List ℕ
   pub bits : List ℕ
   pub n : ℕ
+  pub summary : List ℕ
   pub logKeys : List ℕ
   pub logValues : List ℕ
   pub used : ℕ
 
 -- after build, with an empty log in any two slices
-unfoldable pub built : ℕ → ℕ → List ℕ → List ℕ → List ℕ → List ℕ → List ℕ → Buffers
-built m s raster keys bits logKeys logValues =
+unfoldable pub built : (m s : ℕ) (raster keys bits summary logKeys logValues : List ℕ) → Buffers
+built m s raster keys bits summary logKeys logValues =
     record {
-      keys = buildKeys m s raster keys bits;
-      bits = buildBits m s raster keys bits;
-      n = build m s raster keys bits .count;
+      keys = surveyKeys m s raster keys bits summary;
+      bits = surveyBits m s raster keys bits summary;
+      n = survey m s raster keys bits summary .count;
+      summary = surveySummary m s raster keys bits summary;
       logKeys = logKeys;
       logValues = logValues;
       used = emptied;
@@ -42,34 +44,36 @@ built m s raster keys bits logKeys logValues =
 
 -- the refusal number that a call gives; 0 where it is accepted
 unfoldable pub answer : ℕ → ℕ → Buffers → Call → ℕ
-answer m s b (painting κ f) = paint m s (b .keys) (b .bits) (b .n) (b .logKeys) (b .logValues) (b .used) κ f .refusal
-answer m s b takingBack = takeBack m s (b .keys) (b .bits) (b .n) (b .logKeys) (b .logValues) (b .used) .refusal
+answer m s b (painting κ f) = paint m s (b .keys) (b .bits) (b .n) (b .summary) (b .logKeys) (b .logValues) (b .used) κ f .refusal
+answer m s b takingBack = takeBack m s (b .keys) (b .bits) (b .n) (b .summary) (b .logKeys) (b .logValues) (b .used) .refusal
 answer m s b emptying = 0
 
 -- the buffers after a call: the caller takes the counts of an accepted call's result, and keeps his own where it is refused
 unfoldable pub after : ℕ → ℕ → Buffers → Call → Buffers
 after m s b (painting κ f) =
-    let result = paint m s (b .keys) (b .bits) (b .n) (b .logKeys) (b .logValues) (b .used) κ f in
+    let result = paint m s (b .keys) (b .bits) (b .n) (b .summary) (b .logKeys) (b .logValues) (b .used) κ f in
     record {
-      keys = paintKeys m s (b .keys) (b .bits) (b .n) (b .logKeys) (b .logValues) (b .used) κ f;
-      bits = paintBits m s (b .keys) (b .bits) (b .n) (b .logKeys) (b .logValues) (b .used) κ f;
+      keys = paintKeys m s (b .keys) (b .bits) (b .n) (b .summary) (b .logKeys) (b .logValues) (b .used) κ f;
+      bits = paintBits m s (b .keys) (b .bits) (b .n) (b .summary) (b .logKeys) (b .logValues) (b .used) κ f;
       n = accepted (result .refusal) (result .n) (b .n);
-      logKeys = paintLogKeys m s (b .keys) (b .bits) (b .n) (b .logKeys) (b .logValues) (b .used) κ f;
-      logValues = paintLogValues m s (b .keys) (b .bits) (b .n) (b .logKeys) (b .logValues) (b .used) κ f;
+      summary = paintSummary m s (b .keys) (b .bits) (b .n) (b .summary) (b .logKeys) (b .logValues) (b .used) κ f;
+      logKeys = paintLogKeys m s (b .keys) (b .bits) (b .n) (b .summary) (b .logKeys) (b .logValues) (b .used) κ f;
+      logValues = paintLogValues m s (b .keys) (b .bits) (b .n) (b .summary) (b .logKeys) (b .logValues) (b .used) κ f;
       used = accepted (result .refusal) (result .used) (b .used);
     }
 after m s b takingBack =
-    let result = takeBack m s (b .keys) (b .bits) (b .n) (b .logKeys) (b .logValues) (b .used) in
+    let result = takeBack m s (b .keys) (b .bits) (b .n) (b .summary) (b .logKeys) (b .logValues) (b .used) in
     record {
-      keys = takeBackKeys m s (b .keys) (b .bits) (b .n) (b .logKeys) (b .logValues) (b .used);
-      bits = takeBackBits m s (b .keys) (b .bits) (b .n) (b .logKeys) (b .logValues) (b .used);
+      keys = takeBackKeys m s (b .keys) (b .bits) (b .n) (b .summary) (b .logKeys) (b .logValues) (b .used);
+      bits = takeBackBits m s (b .keys) (b .bits) (b .n) (b .summary) (b .logKeys) (b .logValues) (b .used);
       n = accepted (result .refusal) (result .n) (b .n);
-      logKeys = takeBackLogKeys m s (b .keys) (b .bits) (b .n) (b .logKeys) (b .logValues) (b .used);
-      logValues = takeBackLogValues m s (b .keys) (b .bits) (b .n) (b .logKeys) (b .logValues) (b .used);
+      summary = takeBackSummary m s (b .keys) (b .bits) (b .n) (b .summary) (b .logKeys) (b .logValues) (b .used);
+      logKeys = takeBackLogKeys m s (b .keys) (b .bits) (b .n) (b .summary) (b .logKeys) (b .logValues) (b .used);
+      logValues = takeBackLogValues m s (b .keys) (b .bits) (b .n) (b .summary) (b .logKeys) (b .logValues) (b .used);
       used = accepted (result .refusal) (result .used) (b .used);
     }
 after m s b emptying =
-    record { keys = b .keys; bits = b .bits; n = b .n; logKeys = b .logKeys; logValues = b .logValues; used = emptied }
+    record { keys = b .keys; bits = b .bits; n = b .n; summary = b .summary; logKeys = b .logKeys; logValues = b .logValues; used = emptied }
 
 -- the buffers after a run of calls, the first call first
 unfoldable pub run : ℕ → ℕ → Buffers → List Call → Buffers

@@ -166,7 +166,10 @@ paint-one =
         one (x .kept .keys-are) (x .kept′ .keys-are),
         (
           one (x .kept .bits-are) (x .kept′ .bits-are),
-          (one (x .kept .log-keys-are) (x .kept′ .log-keys-are), one (x .kept .log-values-are) (x .kept′ .log-values-are)),
+          (
+            one (x .kept .summary-is) (x .kept′ .summary-is),
+            (one (x .kept .log-keys-are) (x .kept′ .log-keys-are), one (x .kept .log-values-are) (x .kept′ .log-values-are)),
+          ),
         ),
       ),
     ))
@@ -179,7 +182,10 @@ take-back-one =
         one (x .kept .keys-are) (x .kept′ .keys-are),
         (
           one (x .kept .bits-are) (x .kept′ .bits-are),
-          (one (x .kept .log-keys-are) (x .kept′ .log-keys-are), one (x .kept .log-values-are) (x .kept′ .log-values-are)),
+          (
+            one (x .kept .summary-is) (x .kept′ .summary-is),
+            (one (x .kept .log-keys-are) (x .kept′ .log-keys-are), one (x .kept .log-values-are) (x .kept′ .log-values-are)),
+          ),
         ),
       ),
     ))

@@ -15,14 +15,15 @@ pub extern "C" fn hlq_paint(
     keys: &mut [u32],
     bits: &mut [u32],
     n: usize,
+    summary: &mut [u32],
     log_keys: &mut [u32],
     log_values: &mut [u32],
     used: usize,
     key: u32,
     feature: u32,
 ) -> Edited
-    ensures { λ r. ⌜ Painted m s (now (keys .entry)) (now (bits .entry)) n (now («log_keys» .entry)) (now («log_values» .entry)) used key feature
-        r (now (keys .exit)) (now (bits .exit)) (now («log_keys» .exit)) (now («log_values» .exit)) ⌝ }
+    ensures { λ r. ⌜ Painted m s (now (keys .entry)) (now (bits .entry)) n (now (summary .entry)) (now («log_keys» .entry)) (now («log_values» .entry)) used key feature
+        r (now (keys .exit)) (now (bits .exit)) (now (summary .exit)) (now («log_keys» .exit)) (now («log_values» .exit)) ⌝ }
 {
     paint::paint(
         m,
@@ -30,6 +31,7 @@ pub extern "C" fn hlq_paint(
         keys,
         bits,
         n,
+        summary,
         log_keys,
         log_values,
         used,
@@ -45,14 +47,15 @@ pub extern "C" fn hlq_take_back(
     keys: &mut [u32],
     bits: &mut [u32],
     n: usize,
+    summary: &mut [u32],
     log_keys: &mut [u32],
     log_values: &mut [u32],
     used: usize,
 ) -> Edited
-    ensures { λ r. ⌜ TakenBack m s (now (keys .entry)) (now (bits .entry)) n (now («log_keys» .entry)) (now («log_values» .entry)) used
-        r (now (keys .exit)) (now (bits .exit)) (now («log_keys» .exit)) (now («log_values» .exit)) ⌝ }
+    ensures { λ r. ⌜ TakenBack m s (now (keys .entry)) (now (bits .entry)) n (now (summary .entry)) (now («log_keys» .entry)) (now («log_values» .entry)) used
+        r (now (keys .exit)) (now (bits .exit)) (now (summary .exit)) (now («log_keys» .exit)) (now («log_values» .exit)) ⌝ }
 {
-    take_back::take_back(m, s, keys, bits, n, log_keys, log_values, used)
+    take_back::take_back(m, s, keys, bits, n, summary, log_keys, log_values, used)
 }
 
 #[no_mangle]

@@ -1,29 +1,36 @@
--- Paint: every pixel of one block gets a feature, and the log gains an entry. Refusals 1, 4, 5, 8, 7, 10, 9.
+-- Paint: every pixel of one block gets a feature, the summary follows, and the log gains an entry. Refusals 1, 4, 18, 5, 8, 7, 10, 9.
 use Prim.Native.Nat.{ℕ, _+_}
 use mathlib.Core.List.{List, [], _∷_}
 use lib.ListN.{length}
 use lib.Dec.{ltb}
+use Rattle.definitions.specs.Picture.{Picture}
 use Rattle.definitions.specs.List.{Record, listOfPicture, keysOf, valuesOf}
 use Rattle.definitions.specs.Read.{room, recordsOf, pictureOf}
 use Rattle.definitions.specs.Buffer.{overAt, replaced}
+use Rattle.definitions.specs.Area.{summaryOf, noSummary}
 use Rattle.definitions.specs.Edit.{paintIn}
 use Rattle.definitions.specs.Log.{entryOf, noLog}
 use Rattle.definitions.specs.Refusal.{_gives_, first, accepted, badSettings, noList, badKey, badFeature}
 use Rattle.definitions.specs.declared.Edited.{Edited}
 
--- the list after painting block κ with f
+-- the picture after painting block κ with f
+abbrev pub paintedPicture : ℕ → List Record → ℕ → ℕ → Picture
+paintedPicture m l κ f = paintIn m κ f (pictureOf m l)
+
+-- its list
 unfoldable pub painted : ℕ → List Record → ℕ → ℕ → List Record
-painted m l κ f = listOfPicture m (paintIn m κ f (pictureOf m l))
+painted m l κ f = listOfPicture m (paintedPicture m l κ f)
 
 -- the entry that the log gains
 unfoldable pub gained : ℕ → List Record → ℕ → List Record
 gained m l κ = entryOf m (pictureOf m l) κ
 
-unfoldable pub paintRefusal : ℕ → ℕ → List ℕ → List ℕ → ℕ → List ℕ → List ℕ → ℕ → ℕ → ℕ → ℕ
-paintRefusal m s keys bits n logKeys logValues used κ f =
+unfoldable pub paintRefusal : (m s : ℕ) (keys bits : List ℕ) (n : ℕ) (summary logKeys logValues : List ℕ) (used κ f : ℕ) → ℕ
+paintRefusal m s keys bits n summary logKeys logValues used κ f =
     first
     (badSettings m s gives 1
     ∷ noList m s keys bits n gives 4
+    ∷ noSummary m s (pictureOf m (recordsOf keys bits n)) summary gives 18
     ∷ noLog m s logKeys logValues used gives 5
     ∷ badKey m κ gives 8
     ∷ badFeature s f gives 7
@@ -31,10 +38,10 @@ paintRefusal m s keys bits n logKeys logValues used κ f =
     ∷ ltb (room keys bits) (length (painted m (recordsOf keys bits n) κ f)) gives 9
     ∷ [])
 
-module _ (m s : ℕ) (keys bits : List ℕ) (n : ℕ) (logKeys logValues : List ℕ) (used κ f : ℕ) where
+module _ (m s : ℕ) (keys bits : List ℕ) (n : ℕ) (summary logKeys logValues : List ℕ) (used κ f : ℕ) where
   unfoldable pub paint : Edited
   paint =
-      let refusal = paintRefusal m s keys bits n logKeys logValues used κ f in
+      let refusal = paintRefusal m s keys bits n summary logKeys logValues used κ f in
       record {
         refusal = refusal;
         n = accepted refusal (length (painted m (recordsOf keys bits n) κ f)) 0;
@@ -43,25 +50,32 @@ module _ (m s : ℕ) (keys bits : List ℕ) (n : ℕ) (logKeys logValues : List 
 
   unfoldable pub paintKeys : List ℕ
   paintKeys =
-      accepted (paintRefusal m s keys bits n logKeys logValues used κ f)
+      accepted (paintRefusal m s keys bits n summary logKeys logValues used κ f)
       (replaced n (keysOf (painted m (recordsOf keys bits n) κ f)) keys)
       keys
 
   unfoldable pub paintBits : List ℕ
   paintBits =
-      accepted (paintRefusal m s keys bits n logKeys logValues used κ f)
+      accepted (paintRefusal m s keys bits n summary logKeys logValues used κ f)
       (replaced n (valuesOf (painted m (recordsOf keys bits n) κ f)) bits)
       bits
+
+  -- the counts of the painted picture
+  unfoldable pub paintSummary : List ℕ
+  paintSummary =
+      accepted (paintRefusal m s keys bits n summary logKeys logValues used κ f)
+      (summaryOf m s (paintedPicture m (recordsOf keys bits n) κ f))
+      summary
 
   -- the log's places past the entry stay
   unfoldable pub paintLogKeys : List ℕ
   paintLogKeys =
-      accepted (paintRefusal m s keys bits n logKeys logValues used κ f)
+      accepted (paintRefusal m s keys bits n summary logKeys logValues used κ f)
       (overAt used (keysOf (gained m (recordsOf keys bits n) κ)) logKeys)
       logKeys
 
   unfoldable pub paintLogValues : List ℕ
   paintLogValues =
-      accepted (paintRefusal m s keys bits n logKeys logValues used κ f)
+      accepted (paintRefusal m s keys bits n summary logKeys logValues used κ f)
       (overAt used (valuesOf (gained m (recordsOf keys bits n) κ)) logValues)
       logValues

@@ -1,9 +1,12 @@
 -- `paint::paint` meets its contract: a refusal leaves all as it is; else the entry is logged while the list still has the former content, and then the block is filled.
 use mathlib.Core.Path.{_≡_}
+use native.Mathlib.Omega.{arith}
 use Rattle.definitions.specs.Read.{recordsOf}
 use Rattle.definitions.specs.Calls.Paint.{paintRefusal}
 use Rattle.edit.specs.PaintCall.{newEntry, paintPlan}
 use Rattle.edit.proofs.Decided.{refused, granted}
+use Rattle.edit.proofs.EditCallTables.{passed-settings, passed-summary}
+use Rattle.edit.proofs.PaintPlan.{paint-outdated, paint-counted}
 use Rattle.edit.proofs.PaintTable.{PaintPassed, paint-passed, paint-paintable, paint-fresh}
 use Rattle.edit.proofs.PaintAnswers.{paint-refused, paint-done}
 use borrow.Author.Needs.{needs}
@@ -12,12 +15,12 @@ use Rattle.edit.proofs.paint.paint.Tie as tie
 
 -- the start, from the decision
 abbrev start : tie.After-decide → tie.Start
-start c = c .before .before .before .before .before .before .before .before .before
+start c = c .before .before .before .before .before .before .before .before .before .before .before
 
 -- nothing refuses it, and it goes by its entry and its plan
 goes : (c : tie.After-known-told2)
     → (let a = start (c .before .before .before) .args in
-    (paintRefusal (a .m) (a .s) (a .keys .now) (a .bits .now) (a .n) (a .log-keys .now) (a .log-values .now) (a .used) (a .key) (a .feature) ≡ 0)
+    (paintRefusal (a .m) (a .s) (a .keys .now) (a .bits .now) (a .n) (a .summary .now) (a .log-keys .now) (a .log-values .now) (a .used) (a .key) (a .feature) ≡ 0)
     × (c .before .decision2 .given .0 .0 ≡ newEntry (a .m) (recordsOf (a .keys .now) (a .bits .now) (a .n)) (a .used) (a .key))
     × (c .before .decision2 .given .0 .1 .0 ≡ paintPlan (a .m) (recordsOf (a .keys .now) (a .bits .now) (a .n)) (a .key) (a .feature)))
 goes c = granted _ _ _ _ (c .before .before .before .decide .ensures) _ _ (c .before .decision2 .given .1)
@@ -25,8 +28,8 @@ goes c = granted _ _ _ _ (c .before .before .before .decide .ensures) _ _ (c .be
 -- so it has passed every row
 passed : (c : tie.After-known-told2)
     → (let a = start (c .before .before .before) .args in
-    PaintPassed (a .m) (a .s) (a .keys .now) (a .bits .now) (a .n) (a .log-keys .now) (a .log-values .now) (a .used) (a .key) (a .feature))
-passed c = paint-passed _ _ _ _ _ _ _ _ _ _ (goes c .0)
+    PaintPassed (a .m) (a .s) (a .keys .now) (a .bits .now) (a .n) (a .summary .now) (a .log-keys .now) (a .log-values .now) (a .used) (a .key) (a .feature))
+passed c = paint-passed _ _ _ _ _ _ _ _ _ _ _ (goes c .0)
 
 decide-requires : tie.Need-decide-requires
 decide-requires c κs = search needs
@@ -46,10 +49,13 @@ same-length-3 c = search needs
 same-length-4 : tie.Need-same-length-4
 same-length-4 c = search needs
 
+same-length-5 : tie.Need-same-length-5
+same-length-5 c = search needs
+
 returns : tie.Need-returns
 returns c =
     let told = refused _ _ _ _ (c .before .before .before .decide .ensures) _ (c .before .decision .given .1) in
-    paint-refused _ _ _ _ _ _ _ _ _ _ _ (told .0) (told .1)
+    paint-refused _ _ _ _ _ _ _ _ _ _ _ _ (told .0) (told .1)
 
 enum-known-decision-2 : tie.Need-enum-known-decision-2
 enum-known-decision-2 c = search needs
@@ -63,8 +69,12 @@ fill-requires c κs =
     let p = passed d in
     (paint-paintable p, (goes d .2, p .list-fits))
 
-same-length-5 : tie.Need-same-length-5
-same-length-5 c = search needs
+recount-requires : tie.Need-recount-requires
+recount-requires c κs =
+    let filled = c .before .before .before .before .before .before .before in
+    let d = filled .before .before .before .before .before .before .before .before .before .before .before .before in
+    let p = passed d in
+    paint-outdated _ (paint-paintable p) (filled .fill .ensures) _ (let few = passed-settings (p .first-rows) .few in omega arith) (passed-summary (p .first-rows))
 
 same-length-6 : tie.Need-same-length-6
 same-length-6 c = search needs
@@ -75,11 +85,19 @@ same-length-7 c = search needs
 same-length-8 : tie.Need-same-length-8
 same-length-8 c = search needs
 
+same-length-9 : tie.Need-same-length-9
+same-length-9 c = search needs
+
+same-length-10 : tie.Need-same-length-10
+same-length-10 c = search needs
+
 returns-2 : tie.Need-returns-2
 returns-2 c =
-    let logged = c .before .before .before .before .before .before .before .before .before .before .before in
+    let filled = c .before .before .before .before .before .before .before .before .before .before in
+    let logged = filled .before .before .before .before .before .before .before in
     let d = logged .before .before .before .before .before in
-    paint-done _ _ _ _ _ _ _ _ _ _ _ (goes d .0) (goes d .1) (logged .log-content .ensures) (c .before .before .before .before .fill .ensures)
+    paint-done _ _ _ _ _ _ _ _ _ _ _ _ (goes d .0) (goes d .1) (logged .log-content .ensures) (filled .fill .ensures)
+    (paint-counted _ (paint-paintable (passed d)) (filled .fill .ensures) _ (c .before .before .recount .ensures))
 
 pub paint-spec : {M : Type 1} → statement M
 paint-spec =
@@ -91,12 +109,15 @@ paint-spec =
     same-length-2
     same-length-3
     same-length-4
+    same-length-5
     returns
     enum-known-decision-2
     log-content-requires
     fill-requires
-    same-length-5
+    recount-requires
     same-length-6
     same-length-7
     same-length-8
+    same-length-9
+    same-length-10
     returns-2)

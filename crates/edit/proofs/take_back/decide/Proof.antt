@@ -1,4 +1,4 @@
--- `take_back::decide` meets its contract: the rows in document 01's order, the first three by their own function.
+-- `take_back::decide` meets its contract: the rows in the documents' order, the first four by their own function.
 use Prim.Native.Nat.{_+_, _≤_}
 use mathlib.Core.Path.{_≡_, _∙_}
 use native.Mathlib.Omega.{arith}
@@ -19,12 +19,12 @@ use Rattle.edit.proofs.take_back.decide.Tie as tie
 
 -- the start, from the first refusal
 abbrev start : tie.After-first-refusal → tie.Start
-start c = c .before .before .before .before .before
+start c = c .before .before .before .before .before .before
 
--- 1, 4 and 5 are passed
+-- 1, 4, 18 and 5 are passed
 passed : (c : tie.Else1)
     → (let a = start (c .before) .args in
-    FirstPassed (a .m) (a .s) (a .keys .now) (a .bits .now) (a .n) (a .log-keys .now) (a .log-values .now) (a .used))
+    FirstPassed (a .m) (a .s) (a .keys .now) (a .bits .now) (a .n) (a .summary .now) (a .log-keys .now) (a .log-values .now) (a .used))
 passed c = first-passed _ (c .before .first-refusal .ensures) (c .if1 .left)
 
 -- the last entry can be put back
@@ -65,10 +65,10 @@ first-refusal-requires : tie.Need-first-refusal-requires
 first-refusal-requires c κs = search needs
 
 returns : tie.Need-returns
-returns c = refuses _ _ _ _ (take-early _ _ _ _ _ _ _ _ _ (c .before .first-refusal .ensures) (c .if1 .taken)) (c .if1 .taken)
+returns c = refuses _ _ _ _ (take-early _ _ _ _ _ _ _ _ _ _ (c .before .first-refusal .ensures) (c .if1 .taken)) (c .if1 .taken)
 
 returns-2 : tie.Need-returns-2
-returns-2 c = refuses _ _ 11 _ (no-entry _ _ _ _ _ _ _ _ (passed (c .before)) (c .if2 .taken)) (λ e. omega arith)
+returns-2 c = refuses _ _ 11 _ (no-entry _ _ _ _ _ _ _ _ _ (passed (c .before)) (c .if2 .taken)) (λ e. omega arith)
 
 last-entry-requires : tie.Need-last-entry-requires
 last-entry-requires c κs = restorable c .ended
@@ -95,18 +95,18 @@ length-after-requires c κs =
 returns-3 : tie.Need-returns-3
 returns-3 c =
     let d = c .before .before .before .before .before in
-    refuses _ _ 9 _ (list-full _ _ _ _ _ _ _ _ (passed (d .before)) (d .if2 .left) _ (after-is (c .before)) (omega arith)) (λ e. omega arith)
+    refuses _ _ 9 _ (list-full _ _ _ _ _ _ _ _ _ (passed (d .before)) (d .if2 .left) _ (after-is (c .before)) (omega arith)) (λ e. omega arith)
 
 returns-4 : tie.Need-returns-4
 returns-4 c =
     let d = c .before .before .before .before .before .before in
-    refuses _ _ 9 _ (list-full _ _ _ _ _ _ _ _ (passed (d .before)) (d .if2 .left) _ (after-is (c .before .before)) (omega arith)) (λ e. omega arith)
+    refuses _ _ 9 _ (list-full _ _ _ _ _ _ _ _ _ (passed (d .before)) (d .if2 .left) _ (after-is (c .before .before)) (omega arith)) (λ e. omega arith)
 
 returns-5 : tie.Need-returns-5
 returns-5 c =
     let d = c .before .before .before .before .before .before in
     let found = c .before .before .before .before .before in
-    grants _ _ _ _ _ (room-enough _ _ _ _ _ _ _ _ (passed (d .before)) (d .if2 .left) _ (after-is (c .before .before)) (omega arith)) (found .last-entry .ensures)
+    grants _ _ _ _ _ (room-enough _ _ _ _ _ _ _ _ _ (passed (d .before)) (d .if2 .left) _ (after-is (c .before .before)) (omega arith)) (found .last-entry .ensures)
     (plan-is (c .before .before .before))
 
 pub decide-spec : {M : Type 1} → statement M
