@@ -2,6 +2,7 @@ mod Vectors
 mod MapA
 mod Orders
 mod Corners
+mod FourWaivers
 pub mod Within
 pub mod Pixels
 pub mod Features
@@ -23,6 +24,7 @@ pub mod SelectAgree
 pub mod WindowScan
 pub mod LastEntry
 pub mod SoundLog
+pub mod Hidden
 pub mod Waivers
 pub mod OldFault
 pub mod FindingOrder

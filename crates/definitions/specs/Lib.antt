@@ -9,5 +9,6 @@ pub mod Window
 pub mod Edit
 pub mod Log
 pub mod Rules
+pub mod Covered
 pub mod File
 pub mod Calls
