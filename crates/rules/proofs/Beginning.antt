@@ -94,7 +94,7 @@ module _ (m s : ℕ) (keys bits : List ℕ) (n : ℕ) where
               roomIds = omega arith;
               roomKeys = omega arith;
               count = refl;
-              ascend = λ no-fault. and-left (findingsAscend (waiversOf waiverIds waiverKeys)) (keysValid m (waiversOf waiverIds waiverKeys)) (good-ascend true (eq-eqb (beginRefusal m s keys bits n) 0 zero) no-fault);
+              good = good-ascend true (eq-eqb (beginRefusal m s keys bits n) 0 zero);
               passed = λ no-fault. below-zero (waiversOf waiverIds waiverKeys);
               small = omega arith;
             };
