@@ -3,18 +3,18 @@
 use Prim.Native.Nat.{ℕ, suc, _+_, _^_, _≤_, _<_}
 use native.Mathlib.Omega.{arith}
 use mathlib.Core.Path.{_≡_, refl, sym, ap, _∙_, subst}
-use mathlib.Core.Bool.{Bool, true, false, _||_, true≢false}
+use mathlib.Core.Bool.{true, false, _||_, true≢false}
 use mathlib.Core.List.{List, [], _∷_, _++_}
 use lib.Dec.{leb}
 use borrow.Author.Tests.{le-leb, lt-leb, leb-true, leb-false}
-use Rattle.keys.specs.Key.{heightOf, validKey}
-use Rattle.keys.specs.Block.{rowOf, columnOf, pixelKey, inBlock, inInterval}
+use Rattle.keys.specs.Key.{validKey}
+use Rattle.keys.specs.Block.{pixelKey, inBlock, inInterval}
 use Rattle.keys.proofs.Cases.{decide, split, or-left, or-right, same-test}
 use Rattle.keys.proofs.Powers.{five-pos}
 use Rattle.keys.proofs.Under.{Block}
-use Rattle.keys.proofs.Interval.{apart, within, key-within, nest}
+use Rattle.keys.proofs.Interval.{within, nest}
 use Rattle.keys.proofs.Valid.{valid-block, block-valid}
-use Rattle.keys.proofs.Pixel.{InSquare, InKeys, inside}
+use Rattle.keys.proofs.Pixel.{InSquare, inside}
 use Rattle.keys.proofs.InBlock.{inInterval-iff, inBlock-inInterval, in-raster}
 use Rattle.definitions.specs.Picture.{everyPixel}
 use Rattle.definitions.proofs.Within.{first-within}

@@ -3,12 +3,12 @@
 use Prim.Native.Nat.{ℕ, suc, _+_, _*_, _^_, _≤_, _<_}
 use native.Mathlib.Nat.{pow-suc}
 use native.Mathlib.Omega.{arith}
-use mathlib.Core.Path.{_≡_, sym, ap, _∙_}
+use mathlib.Core.Path.{_≡_, ap, _∙_}
 use mathlib.Core.Bool.{true}
 use Rattle.keys.specs.Key.{heightOf, validKey}
 use Rattle.keys.specs.Block.{pixelKey}
 use Rattle.keys.proofs.Cases.{split}
-use Rattle.keys.proofs.Powers.{two-pos, five-pos}
+use Rattle.keys.proofs.Powers.{two-pos}
 use Rattle.keys.proofs.Under.{Under, Block, here, nw, ne, sw, se}
 use Rattle.keys.proofs.Interval.{Next, at-end, at-block, key-within, nest, next-block, within}
 use Rattle.keys.proofs.Valid.{valid-block, block-valid}

@@ -12,7 +12,7 @@ use Rattle.keys.proofs.Under.{Under, Block, Quadrant, here, nw, ne, sw, se, is-
 use Rattle.keys.proofs.Interval.{within, key-within, nest}
 use Rattle.keys.proofs.Valid.{valid-block, block-valid}
 use Rattle.definitions.specs.Picture.{Picture, oneFeature}
-use Rattle.definitions.specs.List.{Record, recordOf, listOfPicture}
+use Rattle.definitions.specs.List.{Record, recordOf}
 use Rattle.definitions.specs.Read.{recordsOf}
 use Rattle.definitions.proofs.Features.{one-under}
 use Rattle.definitions.proofs.Listed.{Listed, itself, child, ListedRecord, listed-under, listed-to}

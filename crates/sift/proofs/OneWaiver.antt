@@ -1,11 +1,10 @@
 -- One step of the merge in the code's own tests. Rests on Covered and FirstPixel.
 use Prim.Native.Nat.{ℕ, _+_, _-_, _/_, _^_, _≤_, _<_}
 use native.Mathlib.Omega.{arith}
-use mathlib.Core.Path.{_≡_, refl, sym, ap, _∙_}
+use mathlib.Core.Path.{_≡_, sym}
 use mathlib.Core.Bool.{true}
 use borrow.Author.Tests.{le-leb, lt-leb}
 use Rattle.keys.specs.Key.{heightOf, validKey}
-use Rattle.keys.specs.Block.{pixelKey}
 use Rattle.keys.proofs.Powers.{five-le, height-le}
 use Rattle.keys.proofs.Interval.{within}
 use Rattle.keys.proofs.Valid.{valid-block}

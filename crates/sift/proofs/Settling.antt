@@ -1,19 +1,18 @@
 -- Settling one block along a slice of waivers: at each place what is left over the rest is what it was at the start. Rests on Covered.
-use Prim.Native.Nat.{ℕ, zero, suc, _+_, _^_, _≤_, _<_}
+use Prim.Native.Nat.{ℕ, zero, suc, _+_, _≤_, _<_}
 use native.Mathlib.Omega.{arith}
 use native.Mathlib.Numerals.{add-one}
-use mathlib.Core.Path.{_≡_, refl, sym, ap, _∙_, subst}
-use mathlib.Core.Bool.{Bool, true}
+use mathlib.Core.Path.{_≡_, sym, ap, _∙_, subst}
+use mathlib.Core.Bool.{true}
 use mathlib.Core.List.{List, [], _∷_, _++_}
 use lib.ListN.{length, getD, take, drop, take-append-drop, drop-of-length-le}
 use lib.Seq.{take-suc, drop-cons}
 use lib.Dec.{leb}
-use Rattle.keys.specs.Key.{validKey, heightOf}
-use Rattle.keys.proofs.Cases.{split}
+use Rattle.keys.specs.Key.{validKey}
 use Rattle.keys.proofs.Valid.{valid-block}
 use Rattle.definitions.specs.Covered.{isCovered}
 use Rattle.sift.specs.Covering.{endOf, nextOver, nextOf, further, furthestOf, startOf, Waived, none, one, Before, no-waiver, waiver, Passed}
-use Rattle.sift.proofs.Covered.{next-none, next-cons, furthest-none, furthest-cons, waived-right, covered-merge, covered-stop}
+use Rattle.sift.proofs.Covered.{next-cons, furthest-none, furthest-cons, waived-right, covered-merge, covered-stop}
 
 pub waived-at : {m lo : ℕ} {ws : List ℕ} → Waived m lo ws → (i : ℕ) → i < length ws → validKey m (getD ws i 0) ≡ true
 waived-at none i h = absurd (omega arith)

@@ -18,7 +18,7 @@ use Rattle.window.proofs.Content.{listed-keys, leaf-key, leaf-nothing}
 use Rattle.sift.specs.declared.Sifting.{Sifting}
 use Rattle.sift.specs.Sift.{SiftReady, RunReady}
 use Rattle.sift.proofs.Settling.{passed-widen}
-use Rattle.sift.proofs.Leaves.{spot-end, in-slices, record-within}
+use Rattle.sift.proofs.Leaves.{spot-end, record-within}
 use Rattle.sift.proofs.Merge.{sifted-none, sifted-as}
 use Rattle.sift.proofs.sift_block.Statement.{statement}
 use Rattle.sift.proofs.sift_block.Tie as tie

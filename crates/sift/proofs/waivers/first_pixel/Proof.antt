@@ -1,6 +1,6 @@
 -- `waivers::first_pixel` meets its contract: a quarter of the power less one has every digit 1.
-use mathlib.Core.Path.{_≡_, sym, ap, _∙_}
-use Prim.Native.Nat.{_+_, _^_}
+use mathlib.Core.Path.{_≡_, ap, _∙_}
+use Prim.Native.Nat.{_^_}
 use native.Mathlib.Omega.{arith}
 use borrow.Author.Needs.{needs}
 use Rattle.keys.specs.Key.{heightOf}

@@ -1,12 +1,11 @@
 -- `waivers::settle` meets its contract: at each place what is left over the rest is what it was at the start. Rests on Settling.
-use Prim.Native.Nat.{ℕ, _-_, _+_, _^_}
+use Prim.Native.Nat.{_-_}
 use native.Mathlib.Omega.{arith}
-use mathlib.Core.Path.{_≡_, sym, ap, _∙_, refl}
+use mathlib.Core.Path.{_≡_, ap, _∙_, refl}
 use mathlib.Core.Logic.{⊎-elim}
-use lib.ListN.{length, getD}
+use lib.ListN.{length}
 use lib.Dec.{leb}
-use Rattle.keys.specs.Key.{heightOf}
-use Rattle.keys.proofs.Powers.{five-le, five-pos}
+use Rattle.keys.proofs.Powers.{five-le}
 use Rattle.keys.proofs.Valid.{valid-below}
 use Rattle.sift.specs.Covering.{endOf, startOf}
 use Rattle.sift.proofs.Settling.{Going, begins, goes, settled, none-left, late-left, waived-at}

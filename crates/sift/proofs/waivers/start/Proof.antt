@@ -1,5 +1,5 @@
 -- `waivers::start` meets its contract. Rests on Step.
-use mathlib.Core.Path.{_≡_, sym, ap, _∙_}
+use mathlib.Core.Path.{_∙_}
 use native.Mathlib.Omega.{arith}
 use Rattle.keys.proofs.Powers.{five-le}
 use Rattle.keys.proofs.Valid.{valid-below}
