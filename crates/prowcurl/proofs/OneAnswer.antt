@@ -13,10 +13,10 @@ use denote.Triple.End.{Kepts, Fins}
 use denote.Triple.Clauses.{Ended, Lasts, AtExit, atExit}
 use borrow.Fn.Claims.{AllOf, all-left, all-right}
 use borrow.Fn.Read.{Read, r-last, all-models, no-know}
-use Rattle.prowcurl.proofs.blocks.hlq_key_at as key-at
-use Rattle.prowcurl.proofs.blocks.hlq_key_at.Reads as key-at-reads
-use Rattle.prowcurl.proofs.blocks.hlq_block_of as block-of
-use Rattle.prowcurl.proofs.blocks.hlq_block_of.Reads as block-of-reads
+use Rattle.prowcurl.proofs.squares.hlq_key_at as key-at
+use Rattle.prowcurl.proofs.squares.hlq_key_at.Reads as key-at-reads
+use Rattle.prowcurl.proofs.squares.hlq_block_of as block-of
+use Rattle.prowcurl.proofs.squares.hlq_block_of.Reads as block-of-reads
 use Rattle.prowcurl.proofs.lists.hlq_build as build
 use Rattle.prowcurl.proofs.lists.hlq_build.Reads as build-reads
 use Rattle.prowcurl.proofs.lists.hlq_raster as raster

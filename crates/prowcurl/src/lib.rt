@@ -1,7 +1,8 @@
 // The C interface: each call of document 01 under its name in prowcurl.h, with the promise of the function that does the work.
-pub mod blocks;
+
 pub mod edits;
 pub mod files;
 pub mod findings;
 pub mod lists;
+pub mod squares;
 pub mod windows;
