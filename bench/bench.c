@@ -166,7 +166,7 @@ static size_t waive_small(uint32_t key, uint32_t last, uint32_t *waived) {
     size_t count = 0;
     for (; pixels < 256 && key % (5 * step) == 0; step *= 5) pixels *= 4;
     uint32_t around = key - key % (5 * step);
-    if (around > last && below(4) == 0) waived[count++] = around;
+    if (last < around && around < key && below(4) == 0) waived[count++] = around;
     if (pixels == 1 || pixels == 256 || below(4) == 0) waived[count++] = key;
     if (pixels == 1 || pixels == 256) return count;
     for (uint32_t i = 0; i < pixels; i++) {
