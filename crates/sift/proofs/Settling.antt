@@ -3,16 +3,20 @@ use Prim.Native.Nat.{ℕ, zero, suc, _+_, _≤_, _<_}
 use native.Mathlib.Omega.{arith}
 use native.Mathlib.Numerals.{add-one}
 use mathlib.Core.Path.{_≡_, sym, ap, _∙_, subst}
-use mathlib.Core.Bool.{true}
+use mathlib.Core.Bool.{true, false}
 use mathlib.Core.List.{List, [], _∷_, _++_}
 use lib.ListN.{length, getD, take, drop, take-append-drop, drop-of-length-le}
 use lib.Seq.{take-suc, drop-cons}
 use lib.Dec.{leb}
-use Rattle.keys.specs.Key.{validKey}
+use borrow.Author.Tests.{lt-leb}
+use Rattle.keys.specs.Key.{validKey, heightOf}
+use Rattle.keys.proofs.Powers.{five-pos}
 use Rattle.keys.proofs.Valid.{valid-block}
 use Rattle.definitions.specs.Covered.{isCovered}
-use Rattle.sift.specs.Covering.{endOf, nextOver, nextOf, further, furthestOf, startOf, Waived, none, one, Before, no-waiver, waiver, Passed}
-use Rattle.sift.proofs.Covered.{next-cons, furthest-none, furthest-cons, waived-right, covered-merge, covered-stop}
+use Rattle.sift.specs.Covering.{endOf, firstPixel, nextOver, nextOf, further, furthestOf, startOf, Waived, none, one, Before, no-waiver, waiver, Passed}
+use Rattle.sift.proofs.FirstPixel.{first-until}
+use Rattle.sift.proofs.OneWaiver.{start-short}
+use Rattle.sift.proofs.Covered.{next-none, next-cons, furthest-none, furthest-cons, waived-right, covered-merge, covered-stop}
 
 pub waived-at : {m lo : ℕ} {ws : List ℕ} → Waived m lo ws → (i : ℕ) → i < length ws → validKey m (getD ws i 0) ≡ true
 waived-at none i h = absurd (omega arith)
@@ -88,6 +92,20 @@ module _ {m : ℕ} (waived : List ℕ) where
       ∙ ap (λ x. leb end (nextOf m (startOf m x key) (drop from waived))) (p .furthest)
       ∙ sym (covered-merge (valid-block m key v) (take from waived) (drop from waived) (subst (λ (l : List ℕ). Waived m 0 l) (sym (take-append-drop from waived)) t) (p .before))
       ∙ ap (λ l. isCovered m l key) (take-append-drop from waived)
+
+  -- where no waiver is left and none that is passed reaches the block, it is not covered
+  pub settled-past : {from far : ℕ} (key : ℕ) → validKey m key ≡ true → Waived m 0 waived → Passed m waived from far key → length waived ≤ from → far ≤ key
+      → isCovered m waived key ≡ false
+  settled-past {from} {far} key v t p past low =
+      let end = endOf m key in
+      let b = valid-block m key v in
+      let over = five-pos (heightOf m key) in
+      ap (λ l. isCovered m l key) (sym (take-append-drop from waived))
+      ∙ covered-merge b (take from waived) (drop from waived) (subst (λ (l : List ℕ). Waived m 0 l) (sym (take-append-drop from waived)) t) (p .before)
+      ∙ ap (λ x. leb end (nextOf m (startOf m x key) (drop from waived))) (sym (p .furthest))
+      ∙ ap (λ l. leb end (nextOf m (startOf m far key) l)) (drop-of-length-le waived past)
+      ∙ ap (leb end) (next-none m (startOf m far key) ∙ sym (start-short m far key (omega arith)))
+      ∙ lt-leb end (firstPixel m key) (first-until b)
 
   -- where the loop ends
   pub none-left : (place x : ℕ) → length waived ≤ place → Waived m x (drop place waived)

@@ -3,6 +3,7 @@
 ghost use mathlib.Core.Path.{_≡_};
 ghost use mathlib.Core.Bool.{true};
 ghost use Prim.Native.Nat.{_≤_};
+ghost use lib.ListN.{length};
 ghost use Rattle.keys.specs.Key.{validKey};
 ghost use Rattle.sift.specs.Covering.{endOf, firstPixel, nextOver, further, startOf, Waived, Passed, Settles};
 use keys::Key;
@@ -46,16 +47,16 @@ fn larger(a: u32, b: u32) -> u32
     if a <= b { b } else { a }
 }
 
-// Where a block begins: past its end if an earlier waiver reaches that, and else at its first pixel.
-fn start(m: u32, key: u32, furthest: u32) -> u32
-    requires { ⌜ (m ≤ 10) × (validKey m key ≡ true) ⌝ }
+// Where a block begins: past its end if an earlier waiver reaches that, and else at its first pixel. The map's resolution is for the contract alone, so that
+// the block's height is not worked out again.
+fn start(m: u32, key: u32, end: u32, furthest: u32) -> u32
+    requires { ⌜ end ≡ endOf m key ⌝ }
     ensures { λ r. ⌜ r ≡ startOf m furthest key ⌝ }
 {
-    if end_of(m, key) <= furthest {
-        furthest
-    } else {
-        first_pixel(m, key)
+    if end <= furthest {
+        return furthest;
     }
+    key + (end - key - 1) / 4
 }
 
 // One waiver more: where it has the pixel that is left, the first one past it is left.
@@ -80,14 +81,14 @@ fn cover(m: u32, waiver: u32, at: Covering) -> Covering
 }
 
 // One block: passes the waivers that begin before its end.
-pub fn settle(m: u32, waived: &[u32], key: u32, from: usize, furthest: u32) -> Settled
+fn merge(m: u32, waived: &[u32], key: u32, from: usize, furthest: u32) -> Settled
     requires { ⌜ (m ≤ 10) × (validKey m key ≡ true) × Waived m 0 (now waived) × Passed m (now waived) from furthest key ⌝ }
     ensures { λ r. ⌜ Settles m (now (waived .entry)) key r ⌝ }
 {
     let end = end_of(m, key);
     let mut at = Covering {
         furthest,
-        next: start(m, key, furthest),
+        next: start(m, key, end, furthest),
     };
     let mut place = from;
     while place < waived.len() {
@@ -105,4 +106,29 @@ pub fn settle(m: u32, waived: &[u32], key: u32, from: usize, furthest: u32) -> S
         furthest: far,
         hidden: end <= next,
     }
+}
+
+// No waiver is left, and none that is passed reaches the block.
+fn are_past(waived: &[u32], key: u32, from: usize, furthest: u32) -> bool
+    ensures { λ r. ⌜ (r ≡ true → (length (now (waived .entry)) ≤ from) × (furthest ≤ key)) ⌝ }
+{
+    if from < waived.len() {
+        return false;
+    }
+    furthest <= key
+}
+
+// One block: where the waivers are past it nothing is worked out.
+pub fn settle(m: u32, waived: &[u32], key: u32, from: usize, furthest: u32) -> Settled
+    requires { ⌜ (m ≤ 10) × (validKey m key ≡ true) × Waived m 0 (now waived) × Passed m (now waived) from furthest key ⌝ }
+    ensures { λ r. ⌜ Settles m (now (waived .entry)) key r ⌝ }
+{
+    if are_past(waived, key, from, furthest) {
+        return Settled {
+            passed: from,
+            furthest,
+            hidden: false,
+        };
+    }
+    merge(m, waived, key, from, furthest)
 }
