@@ -159,21 +159,43 @@ static void edits(size_t n) {
         printf("THE TWO DIFFER\n");
 }
 
-static void findings(size_t n) {
-    enum { RULES = 1000, WAIVERS = 10000 };
+/* The pixels of a small block in key order, or the block itself; sometimes it, or one around it that begins after the
+ * last waiver, as well. */
+static size_t waive_small(uint32_t key, uint32_t last, uint32_t *waived) {
+    uint32_t step = 1, pixels = 1;
+    size_t count = 0;
+    for (; pixels < 256 && key % (5 * step) == 0; step *= 5) pixels *= 4;
+    uint32_t around = key - key % (5 * step);
+    if (last < around && around < key && below(4) == 0) waived[count++] = around;
+    if (pixels == 1 || pixels == 256 || below(4) == 0) waived[count++] = key;
+    if (pixels == 1 || pixels == 256) return count;
+    for (uint32_t i = 0; i < pixels; i++) {
+        uint32_t pixel = key;
+        for (uint32_t p = pixels / 4, f = step / 5; p > 0; p /= 4, f /= 5) pixel += (1 + i / p % 4) * f;
+        waived[count++] = pixel;
+    }
+    return count;
+}
+
+/* Waivers that are findings; or, where they are small, blocks below findings, some nested in others. */
+static void findings(size_t n, int small) {
+    enum { RULES = 1000, WAIVERS = 10000, MORE = 80 };
     static hlq_rule rules[RULES];
-    static uint32_t ids[WAIVERS], waived[WAIVERS], found_ids[1 << 22], found_keys[1 << 22], other_ids[1 << 22],
-        other_found[1 << 22];
+    static uint32_t ids[WAIVERS + MORE], waived[WAIVERS + MORE], found_ids[1 << 22], found_keys[1 << 22],
+        other_ids[1 << 22], other_found[1 << 22];
     size_t waivers = 0, hidden = 0, visited;
     for (uint32_t i = 0; i < RULES; i++) {
-        uint32_t h = 20 + below(80), w = 20 + below(80);
+        uint32_t h = 20 + below(80), w = 20 + below(80), last = 0;
         rules[i] = (hlq_rule) { 10 * i, below(EDGE - h), below(EDGE - w), h, w, below(S) };
         size_t count = plain_select(M, keys, bits, n, rules[i].row, rules[i].column, h, w, rules[i].feature, answer,
                                     PIXELS, &visited);
-        for (size_t j = 0; j < count && waivers < 12 * (i + 1) && waivers < WAIVERS; j += 2)
-            ids[waivers] = rules[i].id, waived[waivers++] = answer[j];
+        for (size_t j = 0; j < count && waivers < 12 * (i + 1) && waivers < WAIVERS; j += 2) {
+            size_t more = small ? waive_small(answer[j], last, waived + waivers) : (waived[waivers] = answer[j], 1);
+            for (size_t k = 0; k < more; k++) ids[waivers++] = rules[i].id;
+            if (more) last = waived[waivers - 1];
+        }
     }
-    printf("\nfindings at m = %d: %d rules, %zu waivers\n", M, RULES, waivers);
+    printf("\nfindings at m = %d: %d rules, %zu waivers%s\n", M, RULES, waivers, small ? ", small and nested" : "");
     COMPARE("findings", 5, 1,
             sink += hlq_findings(M, S, keys, MOST, bits, MOST, n, rules, RULES, ids, waivers, waived, waivers,
                                  found_ids, 1 << 22, found_keys, 1 << 22)
@@ -183,7 +205,7 @@ static void findings(size_t n) {
             plain_findings(M, keys, bits, n, rules, RULES, ids, waived, waivers, other_ids, other_found, &hidden));
     hlq_found found = hlq_findings(M, S, keys, MOST, bits, MOST, n, rules, RULES, ids, waivers, waived, waivers,
                                    found_ids, 1 << 22, found_keys, 1 << 22);
-    if (found.hidden != hidden || memcmp(found_ids, other_ids, 4 * found.live) != 0 ||
+    if (found.refusal || found.hidden != hidden || memcmp(found_ids, other_ids, 4 * found.live) != 0 ||
         memcmp(found_keys, other_found, 4 * found.live) != 0)
         printf("THE TWO DIFFER\n");
     printf("%llu live, %llu hidden\n", (unsigned long long)found.live, (unsigned long long)found.hidden);
@@ -218,12 +240,14 @@ int main(void) {
     fill(0);
     size_t n = hlq_build(M, S, raster, PIXELS, keys, MOST, bits, MOST).count;
     windows(kinds[0], n, S - 1);
-    findings(n);
+    findings(n, 0);
+    findings(n, 1);
     fill(1);
     n = hlq_build(M, S, raster, PIXELS, keys, MOST, bits, MOST).count;
     windows(kinds[1], n, S - 1);
     edits(n);
-    findings(n);
+    findings(n, 0);
+    findings(n, 1);
     files(n);
     free(file);
     return 0;

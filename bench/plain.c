@@ -444,23 +444,49 @@ size_t plain_take_back(uint32_t m, uint32_t s, uint32_t *keys, uint32_t *bits, s
 
 /* ---- findings, store, load */
 
+/* The waivers of one rule, how far they are passed, and the furthest end of those. */
+typedef struct {
+    const uint32_t *keys;
+    size_t count, at;
+    uint32_t furthest;
+} waived;
+
+static uint32_t pixels_in(uint32_t step) {
+    uint32_t pixels = 1;
+    for (; step > 1; step /= 5) pixels *= 4;
+    return pixels;
+}
+
+/* One waiver has the block, or the areas of those in it, without the ones inside another, make up its own. */
+static int is_covered(uint32_t m, waived *w, uint32_t key) {
+    uint32_t step = step_of(m, key), end = key + step, pixels = 0;
+    for (; w->at < w->count && w->keys[w->at] < end; w->at++) {
+        uint32_t waiver = w->keys[w->at];
+        if (waiver < w->furthest) continue;
+        uint32_t size = step_of(m, waiver);
+        w->furthest = waiver + size;
+        if (waiver > key) pixels += pixels_in(size);
+        else if (w->furthest >= end) pixels = pixels_in(step);
+    }
+    return pixels == 0 ? w->furthest >= end : pixels == pixels_in(step);
+}
+
 size_t plain_findings(uint32_t m, const uint32_t *keys, const uint32_t *bits, size_t n, const hlq_rule *rules,
                       size_t rules_len, const uint32_t *waiver_ids, const uint32_t *waiver_keys, size_t waivers,
                       uint32_t *ids, uint32_t *found, size_t *hidden) {
     static uint32_t given[1 << 20];
-    size_t live = 0, w = 0, visited;
+    size_t live = 0, end = 0, visited;
     *hidden = 0;
     for (size_t i = 0; i < rules_len; i++) {
         const hlq_rule *r = rules + i;
+        while (end < waivers && waiver_ids[end] < r->id) end++;
+        waived w = { waiver_keys + end, 0, 0, 0 };
+        while (end < waivers && waiver_ids[end] == r->id) end++, w.count++;
         size_t count = plain_select(m, keys, bits, n, r->row, r->column, r->height, r->width, r->feature, given,
                                     1 << 20, &visited);
-        for (size_t j = 0; j < count; j++) {
-            while (w < waivers && (waiver_ids[w] < r->id || (waiver_ids[w] == r->id && waiver_keys[w] < given[j]))) w++;
-            if (w < waivers && waiver_ids[w] == r->id && waiver_keys[w] == given[j])
-                (*hidden)++;
-            else
-                ids[live] = r->id, found[live++] = given[j];
-        }
+        for (size_t j = 0; j < count; j++)
+            if (is_covered(m, &w, given[j])) (*hidden)++;
+            else ids[live] = r->id, found[live++] = given[j];
     }
     return live;
 }

@@ -26,7 +26,7 @@ size_t plain_paint(uint32_t m, uint32_t s, uint32_t *keys, uint32_t *bits, size_
                    uint32_t *log_values, size_t *used, uint32_t key, uint32_t feature);
 size_t plain_take_back(uint32_t m, uint32_t s, uint32_t *keys, uint32_t *bits, size_t n, uint32_t *log_keys,
                        uint32_t *log_values, size_t *used);
-/* Live findings and, through the pointer, the hidden ones; waivers are merged in order. */
+/* Live findings and, through the pointer, the hidden ones; waivers are merged in order, and their areas added up. */
 size_t plain_findings(uint32_t m, const uint32_t *keys, const uint32_t *bits, size_t n, const hlq_rule *rules,
                       size_t rules_len, const uint32_t *waiver_ids, const uint32_t *waiver_keys, size_t waivers,
                       uint32_t *ids, uint32_t *found, size_t *hidden);

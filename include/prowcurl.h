@@ -211,9 +211,10 @@ hlq_edited hlq_take_back(uint32_t m, uint32_t s,
 uint64_t hlq_empty(void);
 
 /* FINDINGS. The findings of a rule are the blocks that hlq_select gives for its window and feature;
- * a waiver (an id and a key) hides the finding that has both, and no other. The live findings stand
- * in found_ids and found_keys, by id and then key, in places 0 to live - 1; all other places stay.
- * There are as many waivers as the shorter of their slices holds.
+ * a waiver is an id and a key. A finding is hidden exactly when every pixel of its block lies in
+ * the block of a waiver of its rule: one larger, the same block, or several smaller ones. The live
+ * findings stand in found_ids and found_keys, by id and then key, in places 0 to live - 1; all
+ * other places stay. There are as many waivers as the shorter of their slices holds.
  * Refusals: HLQ_SETTINGS, HLQ_LIST, HLQ_RULES, HLQ_WAIVERS, HLQ_ANSWER_ROOM, in this order. */
 hlq_found hlq_findings(uint32_t m, uint32_t s,
                        const uint32_t *keys, size_t keys_len, const uint32_t *bits, size_t bits_len,

@@ -457,10 +457,25 @@ static int waivers_are_bad(uint32_t m, const hlq_rule *rules, size_t rules_len, 
     return 0;
 }
 
-static int is_waived(const uint32_t *ids, const uint32_t *keys, size_t n, uint32_t id, uint32_t key) {
-    for (size_t i = 0; i < n; i++)
-        if (ids[i] == id && keys[i] == key) return 1;
-    return 0;
+/* A raster of yes and no: the pixels that lie in a waived block of the rule. */
+static void mark_waived(uint32_t m, const uint32_t *ids, const uint32_t *keys, size_t n, uint32_t id, uint8_t *marks) {
+    memset(marks, 0, pixels_of(m));
+    for (size_t i = 0; i < n; i++) {
+        uint32_t row, column, side;
+        if (ids[i] != id) continue;
+        ref_block(m, keys[i], &row, &column, &side);
+        for (uint32_t r = row; r < row + side; r++) memset(marks + ((size_t)r << m) + column, 1, side);
+    }
+}
+
+/* Every pixel of the block is marked. */
+static int is_waived(uint32_t m, const uint8_t *marks, uint32_t key) {
+    uint32_t row, column, side;
+    ref_block(m, key, &row, &column, &side);
+    for (uint32_t r = row; r < row + side; r++)
+        for (uint32_t c = column; c < column + side; c++)
+            if (!marks[((size_t)r << m) + c]) return 0;
+    return 1;
 }
 
 hlq_found ref_findings(uint32_t m, uint32_t s, const uint32_t *keys, size_t keys_len, const uint32_t *bits,
@@ -476,13 +491,16 @@ hlq_found ref_findings(uint32_t m, uint32_t s, const uint32_t *keys, size_t keys
     else if (waivers_are_bad(m, rules, rules_len, waiver_ids, waiver_keys, waivers)) answer.refusal = 14;
     else {
         uint32_t *found = new_selection(m);
+        uint8_t *marks = malloc(pixels_of(m));
+        if (!marks) abort();
         for (int write = 0; write <= 1 && answer.refusal == 0; write++) {
             answer.live = answer.hidden = 0;
             for (size_t i = 0; i < rules_len; i++) {
                 const hlq_rule *r = rules + i;
                 size_t count = select_keys(m, raster, r->row, r->column, r->height, r->width, r->feature, found);
+                mark_waived(m, waiver_ids, waiver_keys, waivers, r->id, marks);
                 for (size_t j = 0; j < count; j++) {
-                    if (is_waived(waiver_ids, waiver_keys, waivers, r->id, found[j])) {
+                    if (is_waived(m, marks, found[j])) {
                         answer.hidden++;
                         continue;
                     }
@@ -495,6 +513,7 @@ hlq_found ref_findings(uint32_t m, uint32_t s, const uint32_t *keys, size_t keys
             }
             if (answer.live > room) answer = (hlq_found){ 12, answer.live, 0 };
         }
+        free(marks);
         free(found);
     }
     free(raster);

@@ -16,7 +16,7 @@ use Rattle.definitions.specs.Window.{isWindow, inWindow, featuresOfRow, 
 use Rattle.definitions.specs.Area.{countOf, pixelsWith, countsFrom, summaryBelow, summaryOf, sameNumbers, noSummary}
 use Rattle.definitions.specs.Edit.{put, paintIn, contentOf}
 use Rattle.definitions.specs.Log.{closed, entryOf, lastRecord, lastKey, lastCount, beforeLast, lastContent, isContent, lastIsEntry, dividesIn, isSound, noLog}
-use Rattle.definitions.specs.Rules.{findingsOf, allFindings, waiversOf, isHidden, liveOf, hiddenCount, isRule, allRules, idsAscend, badRules, findingsAscend, isRuleId, allWaivers, badWaivers}
+use Rattle.definitions.specs.Rules.{findingsOf, allFindings, waiversOf, isWaivedAt, isHidden, liveOf, hiddenCount, isRule, allRules, idsAscend, badRules, findingsAscend, isRuleId, allWaivers, badWaivers}
 use Rattle.definitions.specs.File.{bytesOf, numberAfter, numberOf, bytesOfRecords, headOf, fileOf, numberAt, readRecords, recordsInFile, sameBytes, wrongMark}
 use Rattle.definitions.specs.Calls.Build.{buildRefusal, build, buildKeys, buildBits}
 use Rattle.definitions.specs.Calls.Paint.{painted, gained, paintRefusal, paint, paintKeys, paintSummary}
@@ -132,7 +132,7 @@ unfolding
     countOf pixelsWith countsFrom summaryBelow summaryOf sameNumbers noSummary
     put paintIn contentOf
     closed entryOf lastRecord lastKey lastCount beforeLast lastContent isContent lastIsEntry dividesIn isSound noLog
-    findingsOf allFindings waiversOf isHidden liveOf hiddenCount isRule allRules idsAscend badRules findingsAscend isRuleId allWaivers badWaivers
+    findingsOf allFindings waiversOf isWaivedAt isHidden liveOf hiddenCount isRule allRules idsAscend badRules findingsAscend isRuleId allWaivers badWaivers
     bytesOf numberAfter numberOf bytesOfRecords headOf fileOf numberAt readRecords recordsInFile sameBytes wrongMark
     buildRefusal build buildKeys buildBits
     painted gained paintRefusal paint paintKeys paintSummary

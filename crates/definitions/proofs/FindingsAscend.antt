@@ -83,16 +83,17 @@ module _ (m : ℕ) (p : Picture) where
   findings-ascend rules e = order-ascend (findings-order rules e)
 
 -- ---- the live findings
-live-order : (ws : List Finding) {xs : List Finding} → InOrder xs → InOrder (liveOf ws xs)
-live-order ws no-finding = rw (live-none ws) no-finding
-live-order ws (finding {x} {xs} h t) =
-    decide (isHidden ws x)
-    (λ e. rw (live-hidden ws x xs e) (live-order ws t))
-    (λ e. rw (live-kept ws x xs e) (finding (λ y m. h y (live-only ws xs m .0)) (live-order ws t)))
+module _ (m : ℕ) (ws : List Finding) where
+  live-order : {xs : List Finding} → InOrder xs → InOrder (liveOf m ws xs)
+  live-order no-finding = rw (live-none m ws) no-finding
+  live-order (finding {x} {xs} h t) =
+      decide (isHidden m ws x)
+      (λ e. rw (live-hidden m ws x xs e) (live-order t))
+      (λ e. rw (live-kept m ws x xs e) (finding (λ y i. h y (live-only m ws xs i .0)) (live-order t)))
 
--- findings that ascend do so when the hidden ones are left out
-pub live-ascend : (ws xs : List Finding) → findingsAscend xs ≡ true → findingsAscend (liveOf ws xs) ≡ true
-live-ascend ws xs e = order-ascend (live-order ws (ascend-order xs e))
+  -- findings that ascend do so when the hidden ones are left out
+  pub live-ascend : (xs : List Finding) → findingsAscend xs ≡ true → findingsAscend (liveOf m ws xs) ≡ true
+  live-ascend xs e = order-ascend (live-order (ascend-order xs e))
 
 -- ---- the answer of the call
 -- rules that are not refused have ascending ids
@@ -108,7 +109,7 @@ module _ (m s : ℕ) (keys bits : List ℕ) (n : ℕ) (rules : List Rule) (waive
   live-in-ascend : idsAscend rules ≡ true → findingsAscend (liveIn m keys bits n rules waiverIds waiverKeys) ≡ true
   unfolding liveIn
   live-in-ascend e =
-      let p = pictureOf m (recordsOf keys bits n) in live-ascend (waiversOf waiverIds waiverKeys) (allFindings m p rules) (findings-ascend m p rules e)
+      let p = pictureOf m (recordsOf keys bits n) in live-ascend m (waiversOf waiverIds waiverKeys) (allFindings m p rules) (findings-ascend m p rules e)
 
   -- what an accepted call leaves in the answer slices ascends by id and then key
   pub answered-ascend : findingsRefusal m s keys bits n rules waiverIds waiverKeys foundIds foundKeys ≡ 0

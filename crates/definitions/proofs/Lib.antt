@@ -3,6 +3,7 @@ mod MapA
 mod Orders
 mod Corners
 mod AreaVectors
+mod FourWaivers
 pub mod Within
 pub mod Pixels
 pub mod Features
@@ -34,6 +35,7 @@ pub mod SelectArea
 pub mod SummaryPlaces
 pub mod LastEntry
 pub mod SoundLog
+pub mod Hidden
 pub mod Waivers
 pub mod OldFault
 pub mod FindingOrder

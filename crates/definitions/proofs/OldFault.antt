@@ -1,5 +1,5 @@
--- Waivers and paints: a waiver stays with its rule and its block, never with a place in the list, whatever the picture was before; and the call's
--- answer is exactly the live findings, with counts that make up all. Rests on Waivers.
+-- Waivers and paints: a waiver stays with its rule and its pixels, never with a place in the list, whatever the picture was before; and the call's
+-- answer is exactly the live findings, with counts that make up all. Rests on Hidden and Waivers.
 use Prim.Native.Nat.{ℕ, _+_}
 use mathlib.Core.Path.{_≡_, refl, ap, ap₂, _∙_}
 use mathlib.Core.Logic.{_↔_}
@@ -13,6 +13,7 @@ use Rattle.definitions.specs.Rules.{Finding, findingsOf, allFindings, wa
 use Rattle.definitions.specs.Calls.Findings.{liveIn, hiddenIn, findingsRefusal, findings, findingsIds, findingsKeys}
 use Rattle.definitions.specs.declared.Rule.{Rule}
 use Rattle.definitions.proofs.First.{accepted-done}
+use Rattle.definitions.proofs.Hidden.{WaivedBy, EveryPixelOf, LeftOver}
 use Rattle.definitions.proofs.Waivers.{live-exactly, live-and-hidden}
 
 -- a finding of one of the rules is among the findings of all
@@ -24,32 +25,28 @@ finding-among m p (List·Memᴰ·head {x = first} {xs = rules} e) h =
 finding-among m p (List·Memᴰ·tail {x = first} {xs = rules} i) h = Memᴰ·append-right (findingsOf m p first) (finding-among m p i h)
 
 module _ (m : ℕ) (rules : List Rule) (ws : List Finding) where
-  -- the rules' findings in a picture, and those that no waiver hides
+  -- the rules' findings in a picture, and those that the waivers do not hide
   abbrev findingsIn : Picture → List Finding
   findingsIn p = allFindings m p rules
 
   abbrev live : Picture → List Finding
-  live p = liveOf ws (findingsIn p)
+  live p = liveOf m ws (findingsIn p)
 
-  -- a finding of the picture after a paint is live exactly when no waiver has its rule and its key
-  pub live-after : (q : Picture) {x : Finding} → List·Memᴰ x (findingsIn q) → List·Memᴰ x (live q) ↔ (List·Memᴰ x ws → ⊥)
-  live-after q found = let exactly = live-exactly ws (findingsIn q) in (λ m. exactly .0 m .1, λ free. exactly .1 (found, free))
+  -- a finding of the picture after a paint is live exactly when some pixel of its block lies in no waiver of its rule
+  pub live-after : (q : Picture) {x : Finding} → List·Memᴰ x (findingsIn q) → List·Memᴰ x (live q) ↔ LeftOver m ws x
+  live-after q found = let exactly = live-exactly m ws (findingsIn q) in (λ i. exactly .0 i .1, λ left. exactly .1 (found, left))
 
   -- The fault of the old program cannot happen: p is the picture before a paint and q the one after it. A finding of both is live after the paint
-  -- exactly when it was live before: so its waiver still hides it, and hides no other
+  -- exactly when it was live before: so the waivers that hid it still do, and hide no other
   pub live-as-before : (p q : Picture) {x : Finding} → List·Memᴰ x (findingsIn p) → List·Memᴰ x (findingsIn q) → List·Memᴰ x (live q) ↔ List·Memᴰ x (live p)
   live-as-before p q before after =
       let now = live-after q after in
       let past = live-after p before in
-      (λ m. past .1 (now .0 m), λ m. now .1 (past .0 m))
+      (λ i. past .1 (now .0 i), λ i. now .1 (past .0 i))
 
-  -- and a finding that is not waived is live after it, wherever its record now stands in the list
-  pub not-waived-live : (q : Picture) {x : Finding} → List·Memᴰ x (findingsIn q) → (List·Memᴰ x ws → ⊥) → List·Memᴰ x (live q)
-  not-waived-live q found free = live-after q found .1 free
-
-  -- a waived one is not
-  pub waived-not-live : (q : Picture) {x : Finding} → List·Memᴰ x ws → List·Memᴰ x (live q) → ⊥
-  waived-not-live q waived m = live-exactly ws (findingsIn q) .0 m .1 waived
+  -- nor the fault of document 02's story: where every pixel of a finding was waived, none comes up, whatever blocks the pixels were waived in
+  pub accepted-not-live : (q : Picture) {x : Finding} → EveryPixelOf m (x .key) (WaivedBy m ws (x .id)) → List·Memᴰ x (live q) → ⊥
+  accepted-not-live q every i = let left = live-exactly m ws (findingsIn q) .0 i .1 in left .holds (every (left .row) (left .column) (left .within))
 
 -- ids and keys of findings, read together, are the findings
 found-own : (xs : List Finding) → waiversOf (map (λ x. x .id) xs) (map (λ x. x .key) xs) ≡ xs
@@ -86,4 +83,4 @@ module _ (m s : ℕ) (keys bits : List ℕ) (n : ℕ) (rules : List Rule) (waive
   unfolding findings liveIn hiddenIn
   counts-all done =
       ap₂ (λ a b. a + b) (accepted-done (length (liveIn m keys bits n rules waiverIds waiverKeys)) _ done) (accepted-done (hiddenIn m keys bits n rules waiverIds waiverKeys) 0 done)
-      ∙ live-and-hidden (waiversOf waiverIds waiverKeys) (allFindings m (pictureOf m (recordsOf keys bits n)) rules)
+      ∙ live-and-hidden m (waiversOf waiverIds waiverKeys) (allFindings m (pictureOf m (recordsOf keys bits n)) rules)

@@ -10,5 +10,6 @@ pub mod Area
 pub mod Edit
 pub mod Log
 pub mod Rules
+pub mod Covered
 pub mod File
 pub mod Calls

@@ -1,10 +1,11 @@
--- Rules, findings and waivers (document 01, "Rules and waivers"). Rests on Window.
+-- Rules, findings and waivers (document 01, "Rules and waivers"; document 02, item 2). Rests on Window.
 use Prim.Native.Nat.{ℕ, _+_}
 use mathlib.Core.Bool.{Bool, true, false, cond, not, _&&_, _||_}
 use mathlib.Core.List.{List, [], _∷_, _++_, map}
 use lib.Dec.{ltb, eqb}
-use Rattle.keys.specs.Key.{validKey}
-use Rattle.definitions.specs.Picture.{Picture}
+use Rattle.keys.specs.Key.{validKey, heightOf}
+use Rattle.keys.specs.Block.{rowOf, columnOf, inBlock}
+use Rattle.definitions.specs.Picture.{Picture, everyPixel}
 use Rattle.definitions.specs.Window.{isWindow, selectIn}
 use Rattle.definitions.specs.declared.Window.{Window}
 use Rattle.definitions.specs.declared.Rule.{Rule}
@@ -34,18 +35,22 @@ waiversOf [] keys = []
 waiversOf (id ∷ ids) [] = []
 waiversOf (id ∷ ids) (κ ∷ keys) = findingOf id κ ∷ waiversOf ids keys
 
--- some waiver has the finding's rule and key
-unfoldable pub isHidden : List Finding → Finding → Bool
-isHidden [] x = false
-isHidden (w ∷ ws) x = eqb (w .id) (x .id) && eqb (w .key) (x .key) || isHidden ws x
+-- the pixel lies in the block of some waiver of the rule
+unfoldable pub isWaivedAt : ℕ → List Finding → ℕ → ℕ → ℕ → Bool
+isWaivedAt m [] id row column = false
+isWaivedAt m (w ∷ ws) id row column = eqb (w .id) id && inBlock m (w .key) row column || isWaivedAt m ws id row column
 
-unfoldable pub liveOf : List Finding → List Finding → List Finding
-liveOf waivers [] = []
-liveOf waivers (x ∷ xs) = cond (isHidden waivers x) (liveOf waivers xs) (x ∷ liveOf waivers xs)
+-- every pixel of the finding's block does
+unfoldable pub isHidden : ℕ → List Finding → Finding → Bool
+isHidden m waivers x = everyPixel (isWaivedAt m waivers (x .id)) (heightOf m (x .key)) (rowOf m (x .key)) (columnOf m (x .key))
 
-unfoldable pub hiddenCount : List Finding → List Finding → ℕ
-hiddenCount waivers [] = 0
-hiddenCount waivers (x ∷ xs) = cond (isHidden waivers x) 1 0 + hiddenCount waivers xs
+unfoldable pub liveOf : ℕ → List Finding → List Finding → List Finding
+liveOf m waivers [] = []
+liveOf m waivers (x ∷ xs) = cond (isHidden m waivers x) (liveOf m waivers xs) (x ∷ liveOf m waivers xs)
+
+unfoldable pub hiddenCount : ℕ → List Finding → List Finding → ℕ
+hiddenCount m waivers [] = 0
+hiddenCount m waivers (x ∷ xs) = cond (isHidden m waivers x) 1 0 + hiddenCount m waivers xs
 
 -- the rule's window and feature are good
 unfoldable pub isRule : ℕ → ℕ → Rule → Bool

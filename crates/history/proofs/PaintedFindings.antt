@@ -1,5 +1,5 @@
--- Findings after an accepted paint: they are those of the painted picture, and one that the paint leaves in place is given afterwards exactly when it was
--- given before. Rests on PaintStep and on definitions' OldFault.
+-- Findings after an accepted paint: they are those of the painted picture, each given exactly when some pixel of it is waived nowhere; so one that the
+-- paint leaves in place is given afterwards exactly when it was given before. Rests on PaintStep and on definitions' OldFault.
 use Prim.Native.Nat.{ℕ}
 use mathlib.Core.Path.{_≡_, ap, _∙_}
 use mathlib.Core.Logic.{_↔_}
@@ -14,7 +14,8 @@ use Rattle.definitions.specs.Calls.Findings.{liveIn, findingsRefusal}
 use Rattle.definitions.specs.declared.Rule.{Rule}
 use Rattle.definitions.proofs.Pixels.{Agree}
 use Rattle.definitions.proofs.SelectAgree.{findings-agree}
-use Rattle.definitions.proofs.OldFault.{answered, answered-live, live-after, live-as-before}
+use Rattle.definitions.proofs.Hidden.{WaivedBy, EveryPixelOf, LeftOver}
+use Rattle.definitions.proofs.OldFault.{answered, answered-live, live-after, live-as-before, accepted-not-live}
 use Rattle.history.specs.History.{Buffers, painting, after, answer}
 use Rattle.history.proofs.Shown.{shown-replaced, shown-records}
 use Rattle.history.proofs.Content.{map-back}
@@ -55,25 +56,30 @@ module _ (m s : ℕ) (rules : List Rule) (waiverIds waiverKeys : List ℕ) where
   abbrev waivers : List Finding
   waivers = waiversOf waiverIds waiverKeys
 
-  -- they are those of the picture that no waiver hides
-  given-live : (b : Buffers) (ids keys : List ℕ) → Accepted b ids keys → given b ids keys ≡ liveOf waivers (allFindings m (shows m b) rules)
+  -- they are those of the picture that the waivers do not hide
+  given-live : (b : Buffers) (ids keys : List ℕ) → Accepted b ids keys → given b ids keys ≡ liveOf m waivers (allFindings m (shows m b) rules)
   unfolding liveIn
   given-live b ids keys done = answered-live m s (b .keys) (b .bits) (b .n) rules waiverIds waiverKeys ids keys done
 
   module _ (b : Buffers) (κ f : ℕ) (done : answer m s b (painting κ f) ≡ 0) (ids′ keys′ : List ℕ) (done′ : Accepted (after m s b (painting κ f)) ids′ keys′) where
     -- after an accepted paint those of the painted picture
-    given-painted : given (after m s b (painting κ f)) ids′ keys′ ≡ liveOf waivers (allFindings m (paintIn m κ f (shows m b)) rules)
-    given-painted = given-live (after m s b (painting κ f)) ids′ keys′ done′ ∙ ap (liveOf waivers) (painted-findings m s b κ f done rules)
+    given-painted : given (after m s b (painting κ f)) ids′ keys′ ≡ liveOf m waivers (allFindings m (paintIn m κ f (shows m b)) rules)
+    given-painted = given-live (after m s b (painting κ f)) ids′ keys′ done′ ∙ ap (liveOf m waivers) (painted-findings m s b κ f done rules)
 
-    -- a finding of the painted picture is given after the paint exactly when no waiver has its rule and its key, wherever its record now stands
+    -- a finding of the painted picture is given after the paint exactly when some pixel of its block lies in no waiver of its rule, whatever blocks the
+    -- pixels were waived in and wherever its record now stands
     pub given-after : {x : Finding} → List·Memᴰ x (allFindings m (paintIn m κ f (shows m b)) rules)
-        → List·Memᴰ x (given (after m s b (painting κ f)) ids′ keys′) ↔ (List·Memᴰ x waivers → ⊥)
+        → List·Memᴰ x (given (after m s b (painting κ f)) ids′ keys′) ↔ LeftOver m waivers x
     given-after found = rw given-painted (live-after m rules waivers (paintIn m κ f (shows m b)) found)
 
-    -- The fault of the old program cannot happen: a finding that the paint leaves in place is given after it exactly when it was given before. So its
-    -- waiver still hides it, and hides no other
+    -- The fault of the old program cannot happen: a finding that the paint leaves in place is given after it exactly when it was given before. So the
+    -- waivers that hid it still do, and hide no other
     pub given-as-before : (ids keys : List ℕ) → Accepted b ids keys
         → {x : Finding} → List·Memᴰ x (allFindings m (shows m b) rules) → List·Memᴰ x (allFindings m (paintIn m κ f (shows m b)) rules)
         → List·Memᴰ x (given (after m s b (painting κ f)) ids′ keys′) ↔ List·Memᴰ x (given b ids keys)
     given-as-before ids keys done₀ before found =
         rw (given-painted, given-live b ids keys done₀) (live-as-before m rules waivers (shows m b) (paintIn m κ f (shows m b)) before found)
+
+    -- Nor that of document 02's story: no finding is given of which every pixel was accepted, though the paint made one block of several
+    pub accepted-not-given : {x : Finding} → EveryPixelOf m (x .key) (WaivedBy m waivers (x .id)) → List·Memᴰ x (given (after m s b (painting κ f)) ids′ keys′) → ⊥
+    accepted-not-given every i = accepted-not-live m rules waivers (paintIn m κ f (shows m b)) every (rw given-painted at i)

@@ -10,7 +10,7 @@ use lib.Dec.{ltb}
 use borrow.Author.Tests.{not-true}
 use Rattle.keys.proofs.Cases.{decide, and-left, and-right}
 use Rattle.definitions.specs.Picture.{Picture}
-use Rattle.definitions.specs.Rules.{Finding, findingsOf, allFindings, waiversOf, liveOf, hiddenCount}
+use Rattle.definitions.specs.Rules.{Finding, findingsOf, allFindings, waiversOf, isHidden, liveOf, hiddenCount}
 use Rattle.definitions.specs.declared.Rule.{Rule}
 use Rattle.definitions.proofs.Waivers.{live-none, live-hidden, live-kept}
 use Rattle.window.specs.Gather.{written}
@@ -23,21 +23,22 @@ use Rattle.rules.proofs.GoodRules.{goodFrom, good-first, good-rest}
 use Rattle.rules.proofs.KnownIds.{nextAfter, next-nil, next-cons, knownFrom, known-cons}
 
 -- of two runs of findings
-pub live-append : (ws xs ys : List Finding) → liveOf ws (xs ++ ys) ≡ liveOf ws xs ++ liveOf ws ys
-live-append ws [] ys = ap (λ l. l ++ liveOf ws ys) (sym (live-none ws))
-live-append ws (x ∷ xs) ys =
-    decide (Rattle.definitions.specs.Rules.isHidden ws x)
-    (λ e. live-hidden ws x (xs ++ ys) e ∙ live-append ws xs ys ∙ ap (λ l. l ++ liveOf ws ys) (sym (live-hidden ws x xs e)))
-    (λ e. live-kept ws x (xs ++ ys) e ∙ ap (λ l. x ∷ l) (live-append ws xs ys) ∙ ap (λ l. l ++ liveOf ws ys) (sym (live-kept ws x xs e)))
+module _ (m : ℕ) (ws : List Finding) where
+  pub live-append : (xs ys : List Finding) → liveOf m ws (xs ++ ys) ≡ liveOf m ws xs ++ liveOf m ws ys
+  live-append [] ys = ap (λ l. l ++ liveOf m ws ys) (sym (live-none m ws))
+  live-append (x ∷ xs) ys =
+      decide (isHidden m ws x)
+      (λ e. live-hidden m ws x (xs ++ ys) e ∙ live-append xs ys ∙ ap (λ l. l ++ liveOf m ws ys) (sym (live-hidden m ws x xs e)))
+      (λ e. live-kept m ws x (xs ++ ys) e ∙ ap (λ l. x ∷ l) (live-append xs ys) ∙ ap (λ l. l ++ liveOf m ws ys) (sym (live-kept m ws x xs e)))
 
-pub hidden-none : (ws : List Finding) → hiddenCount ws [] ≡ 0
-unfolding hiddenCount
-hidden-none ws = refl
+  pub hidden-none : hiddenCount m ws [] ≡ 0
+  unfolding hiddenCount
+  hidden-none = refl
 
-pub hidden-append : (ws xs ys : List Finding) → hiddenCount ws (xs ++ ys) ≡ hiddenCount ws xs + hiddenCount ws ys
-unfolding hiddenCount
-hidden-append ws [] ys = omega arith
-hidden-append ws (x ∷ xs) ys = let ih = hidden-append ws xs ys in omega arith
+  pub hidden-append : (xs ys : List Finding) → hiddenCount m ws (xs ++ ys) ≡ hiddenCount m ws xs + hiddenCount m ws ys
+  unfolding hiddenCount
+  hidden-append [] ys = omega arith
+  hidden-append (x ∷ xs) ys = let ih = hidden-append xs ys in omega arith
 
 pub findings-nil : (m : ℕ) (p : Picture) → allFindings m p [] ≡ []
 unfolding allFindings
@@ -68,10 +69,10 @@ module _ (keys bits waiverIds waiverKeys : List ℕ) where
 
   -- the live findings of the rules, and how many are hidden
   abbrev liveAll : State → List Rule → List Finding
-  liveAll st rules = liveOf ws (allFindings (st .m) (picture keys bits waiverIds waiverKeys st) rules)
+  liveAll st rules = liveOf (st .m) ws (allFindings (st .m) (picture keys bits waiverIds waiverKeys st) rules)
 
   abbrev hiddenAll : State → List Rule → ℕ
-  hiddenAll st rules = hiddenCount ws (allFindings (st .m) (picture keys bits waiverIds waiverKeys st) rules)
+  hiddenAll st rules = hiddenCount (st .m) ws (allFindings (st .m) (picture keys bits waiverIds waiverKeys st) rules)
 
   abbrev pub allGathered : List Rule → Progress → Progress
   allGathered rules p =
@@ -87,8 +88,8 @@ module _ (keys bits waiverIds waiverKeys : List ℕ) where
   none-gathered : (p : Progress) → p .state .passed ≡ waiversBelow (p .state .next) ws → p ≡ allGathered [] p
   none-gathered p passed =
       let st = p .state in
-      let none : liveAll st [] ≡ [] = ap (liveOf ws) (findings-nil (st .m) _) ∙ live-none ws in
-      let hid : hiddenAll st [] ≡ 0 = ap (hiddenCount ws) (findings-nil (st .m) _) ∙ hidden-none ws in
+      let none : liveAll st [] ≡ [] = ap (liveOf (st .m) ws) (findings-nil (st .m) _) ∙ live-none (st .m) ws in
+      let hid : hiddenAll st [] ≡ 0 = ap (hiddenCount (st .m) ws) (findings-nil (st .m) _) ∙ hidden-none (st .m) ws in
       same-progress st (sym (next-nil (st .next))) (passed ∙ ap (λ x. waiversBelow x ws) (sym (next-nil (st .next))))
       (let e = ap length none in omega arith)
       (omega arith)
@@ -103,25 +104,25 @@ module _ (keys bits waiverIds waiverKeys : List ℕ) where
     abbrev found : List Finding
     found = findingsOf (st .m) (picture keys bits waiverIds waiverKeys st) rule
 
-    live-two : liveAll st (rule ∷ rules) ≡ liveOf ws found ++ liveAll st rules
-    live-two = ap (liveOf ws) (findings-cons (st .m) _ rule rules) ∙ live-append ws found _
+    live-two : liveAll st (rule ∷ rules) ≡ liveOf (st .m) ws found ++ liveAll st rules
+    live-two = ap (liveOf (st .m) ws) (findings-cons (st .m) _ rule rules) ∙ live-append (st .m) ws found _
 
-    hidden-two : hiddenAll st (rule ∷ rules) ≡ hiddenCount ws found + hiddenAll st rules
-    hidden-two = ap (hiddenCount ws) (findings-cons (st .m) _ rule rules) ∙ hidden-append ws found _
+    hidden-two : hiddenAll st (rule ∷ rules) ≡ hiddenCount (st .m) ws found + hiddenAll st rules
+    hidden-two = ap (hiddenCount (st .m) ws) (findings-cons (st .m) _ rule rules) ∙ hidden-append (st .m) ws found _
 
     wrote-two : (f : Finding → ℕ) (answer : List ℕ)
-        → written (st .limit) (written (st .limit) answer (st .live) (map f (liveOf ws found))) (st .live + length (liveOf ws found)) (map f (liveAll st rules))
+        → written (st .limit) (written (st .limit) answer (st .live) (map f (liveOf (st .m) ws found))) (st .live + length (liveOf (st .m) ws found)) (map f (liveAll st rules))
         ≡ written (st .limit) answer (st .live) (map f (liveAll st (rule ∷ rules)))
     wrote-two f answer =
-        ap (λ k. written (st .limit) (written (st .limit) answer (st .live) (map f (liveOf ws found))) (st .live + k) (map f (liveAll st rules)))
-        (sym (length-map (liveOf ws found) f))
-        ∙ sym (written-append (st .limit) answer (st .live) (map f (liveOf ws found)) (map f (liveAll st rules)))
-        ∙ ap (written (st .limit) answer (st .live)) (sym (map-append f (liveOf ws found) (liveAll st rules)) ∙ ap (map f) (sym live-two))
+        ap (λ k. written (st .limit) (written (st .limit) answer (st .live) (map f (liveOf (st .m) ws found))) (st .live + k) (map f (liveAll st rules)))
+        (sym (length-map (liveOf (st .m) ws found) f))
+        ∙ sym (written-append (st .limit) answer (st .live) (map f (liveOf (st .m) ws found)) (map f (liveAll st rules)))
+        ∙ ap (written (st .limit) answer (st .live)) (sym (map-append f (liveOf (st .m) ws found) (liveAll st rules)) ∙ ap (map f) (sym live-two))
 
     next-gathered : allGathered rules (gathered keys bits waiverIds waiverKeys rule p) ≡ allGathered (rule ∷ rules) p
     next-gathered =
         same-progress st (sym (next-cons (st .next) rule rules)) (ap (λ x. waiversBelow x ws) (sym (next-cons (st .next) rule rules)))
-        (let e = ap length live-two in let g = length-append (liveOf ws found) (liveAll st rules) in omega arith)
+        (let e = ap length live-two in let g = length-append (liveOf (st .m) ws found) (liveAll st rules) in omega arith)
         (let e = hidden-two in omega arith)
         (wrote-two (λ x. x .id) (p .ids))
         (wrote-two (λ x. x .key) (p .keys))

@@ -39,7 +39,7 @@ module _ (keys bits waiverIds waiverKeys : List ℕ) where
         roomIds = f .roomIds;
         roomKeys = f .roomKeys;
         count = f .count;
-        ascend = λ still. f .ascend sound;
+        good = λ still. f .good sound;
         passed = λ still. below-zero (waiversOf waiverIds waiverKeys);
         small = omega arith;
       }
@@ -70,7 +70,7 @@ module _ (keys bits waiverIds waiverKeys : List ℕ) where
           roomIds = f .roomIds;
           roomKeys = f .roomKeys;
           count = f .count;
-          ascend = f .ascend;
+          good = f .good;
           passed = f .passed;
           small = f .small;
         };

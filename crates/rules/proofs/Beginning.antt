@@ -7,12 +7,12 @@ use native.Mathlib.Omega.{arith}
 use lib.ListN.{length}
 use lib.Dec.{eqb}
 use borrow.Author.Tests.{eq-eqb, ne-eqb, le-ltb}
-use Rattle.keys.proofs.Cases.{decide, and-left}
+use Rattle.keys.proofs.Cases.{decide}
 use Rattle.definitions.specs.Read.{room, isList}
 use Rattle.definitions.specs.Refusal.{badSettings}
-use Rattle.definitions.specs.Rules.{Finding, waiversOf, findingsAscend}
+use Rattle.definitions.specs.Rules.{Finding, waiversOf}
 use Rattle.rules.specs.declared.run.State.{State}
-use Rattle.rules.specs.Run.{keysValid, waiversGood, waiversBelow, progressOf, bounding, beginRefusal, beginOf, Ready}
+use Rattle.rules.specs.Run.{waiversGood, waiversBelow, progressOf, bounding, beginRefusal, beginOf, Ready}
 use Rattle.rules.proofs.Settings.{good-level, good-slots}
 
 -- no waiver has an id below 0
@@ -94,7 +94,7 @@ module _ (m s : ℕ) (keys bits : List ℕ) (n : ℕ) where
               roomIds = omega arith;
               roomKeys = omega arith;
               count = refl;
-              ascend = λ no-fault. and-left (findingsAscend (waiversOf waiverIds waiverKeys)) (keysValid m (waiversOf waiverIds waiverKeys)) (good-ascend true (eq-eqb (beginRefusal m s keys bits n) 0 zero) no-fault);
+              good = good-ascend true (eq-eqb (beginRefusal m s keys bits n) 0 zero);
               passed = λ no-fault. below-zero (waiversOf waiverIds waiverKeys);
               small = omega arith;
             };

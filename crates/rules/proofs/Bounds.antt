@@ -51,11 +51,11 @@ module _ (keys bits waiverIds waiverKeys : List ℕ) where
     not-full : (p .state .refusal ≡ 12 → ⊥) → q .state .refusal ≡ 12 → ⊥
 
   -- the live findings of one rule are not more than the window's pixels
-  few-live : (rule : Rule) (st : State) → length (liveOf (waiversOf waiverIds waiverKeys) (findingsAt keys bits waiverIds waiverKeys rule st)) ≤ pixelsOf rule
+  few-live : (rule : Rule) (st : State) → length (liveOf (st .m) (waiversOf waiverIds waiverKeys) (findingsAt keys bits waiverIds waiverKeys rule st)) ≤ pixelsOf rule
   few-live rule st =
       let found = findingsAt keys bits waiverIds waiverKeys rule st in
       let few = findings-bounded (st .m) (picture keys bits waiverIds waiverKeys st) rule in
-      let both = live-and-hidden (waiversOf waiverIds waiverKeys) found in
+      let both = live-and-hidden (st .m) (waiversOf waiverIds waiverKeys) found in
       omega arith
 
   -- one rule of both runs, and then the others

@@ -4,6 +4,7 @@ use mathlib.Core.Path.{_≡_, refl, ap₂}
 use mathlib.Core.Bool.{Bool, true, false, _&&_}
 use mathlib.Core.List.{List, [], _∷_}
 use Rattle.keys.specs.Key.{validKey}
+use Rattle.keys.proofs.Cases.{and-left, and-right}
 use Rattle.definitions.specs.Rules.{Finding, comesBefore, findingsAscend}
 use Rattle.rules.specs.Run.{keysValid, waiversGood}
 
@@ -23,6 +24,16 @@ wrong-second true b c e = rw e
 wrong-second false b c e = refl
 
 module _ (m : ℕ) where
+  -- good waivers are in order
+  pub good-in-order : (ws : List Finding) → waiversGood m ws ≡ true → findingsAscend ws ≡ true
+  unfolding waiversGood
+  good-in-order ws e = and-left (findingsAscend ws) (keysValid m ws) e
+
+  -- and have valid keys
+  pub good-valid : (ws : List Finding) → waiversGood m ws ≡ true → keysValid m ws ≡ true
+  unfolding waiversGood
+  good-valid ws e = and-right (findingsAscend ws) (keysValid m ws) e
+
   pub good-none : waiversGood m [] ≡ true
   unfolding waiversGood findingsAscend keysValid
   good-none = refl

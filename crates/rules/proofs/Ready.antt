@@ -66,9 +66,9 @@ module _ (keys bits waiverIds waiverKeys : List ℕ) where
   fine-gathered rule p low f =
       let ws = waiversOf waiverIds waiverKeys in
       let found = findingsAt keys bits waiverIds waiverKeys rule (p .state) in
-      let live = liveOf ws found in
+      let live = liveOf (p .state .m) ws found in
       let few = findings-few (p .state .m) (picture keys bits waiverIds waiverKeys (p .state)) rule (f .level) in
-      let both = live-and-hidden ws found in
+      let both = live-and-hidden (p .state .m) ws found in
       let ids = length-written (p .state .limit) (p .ids) (p .state .live) (map (λ x. x .id) live) in
       let keys′ = length-written (p .state .limit) (p .keys) (p .state .live) (map (λ x. x .key) live) in
       record {
@@ -80,7 +80,7 @@ module _ (keys bits waiverIds waiverKeys : List ℕ) where
         roomIds = omega (arith, f .roomIds);
         roomKeys = omega (arith, f .roomKeys);
         count = f .count;
-        ascend = f .ascend;
+        good = f .good;
         passed = λ e. refl;
         small = omega (arith, f .small);
       }
@@ -100,7 +100,7 @@ module _ (keys bits waiverIds waiverKeys : List ℕ) where
         roomIds = f .roomIds;
         roomKeys = f .roomKeys;
         count = f .count;
-        ascend = f .ascend;
+        good = f .good;
         passed = λ e. refl;
         small = omega (arith, f .small);
       }
@@ -129,7 +129,7 @@ module _ (keys bits waiverIds waiverKeys : List ℕ) where
           roomIds = f .roomIds;
           roomKeys = f .roomKeys;
           count = f .count;
-          ascend = λ no-fault. absurd (true≢false no-fault);
+          good = λ no-fault. absurd (true≢false no-fault);
           passed = λ no-fault. absurd (true≢false no-fault);
           small = let low = next-low rule p may in omega (arith, f .small);
         };

@@ -1,23 +1,29 @@
 -- The waivers of one rule stand together: those below its id are the first ones, and the rule's own follow, with keys that ascend. So a finding of the
--- rule is hidden exactly where its key is one of them. Rests on FindingOrder, WaiverOrder, KnownIds and the merge (`sift`).
+-- rule is hidden exactly where that part of the keys covers its block. Rests on FindingOrder, WaiverOrder, KnownIds, Hidden and the merge (`sift`).
 use Prim.Native.Nat.{ℕ, zero, suc, _+_, _-_, _≤_, _<_}
-use mathlib.Core.Path.{_≡_, sym, ap, _∙_}
+use mathlib.Core.Path.{_≡_, refl, sym, ap, ap₂, _∙_}
 use mathlib.Core.Bool.{true}
-use mathlib.Core.List.{List, [], _∷_, map}
+use mathlib.Core.List.{List, [], _∷_, map, List·Memᴰ, List·Memᴰ·head, List·Memᴰ·tail}
 use native.Mathlib.Omega.{arith}
-use lib.ListN.{length, getD, take, drop, length-take, length-drop, length-map}
-use lib.Seq.{getD-take, getD-drop}
-use Rattle.keys.proofs.Cases.{decide, split, same-test}
+use lib.ListN.{length, getD, take, drop, length-map}
+use lib.Dec.{eqb}
+use borrow.Author.Tests.{eqb-true, eq-eqb, ne-eqb}
+use Rattle.keys.specs.Key.{validKey}
+use Rattle.keys.proofs.Cases.{decide, split, and-left, and-right}
 use Rattle.definitions.specs.Read.{room}
-use Rattle.definitions.specs.Rules.{Finding, findingOf, waiversOf, isHidden, liveOf, hiddenCount, findingsAscend}
-use Rattle.definitions.proofs.FindingOrder.{ascend-rest}
+use Rattle.definitions.specs.Rules.{Finding, findingOf, waiversOf, liveOf, hiddenCount, findingsAscend}
+use Rattle.definitions.specs.Covered.{waivedKeys, isCovered}
+use Rattle.definitions.proofs.FindingOrder.{InOrder, no-finding, finding, ascend-rest, ascend-order}
+use Rattle.definitions.proofs.Hidden.{hidden-covered}
 use Rattle.definitions.proofs.Waivers.{live-hidden, live-kept, live-none, live-and-hidden}
-use Rattle.rules.specs.Run.{waiversBelow}
-use Rattle.sift.specs.Sift.{isWaived, notWaived, Ascend}
+use Rattle.rules.specs.Run.{waiversBelow, keysValid, waiversGood}
+use Rattle.sift.specs.Covering.{Waived, none, one}
+use Rattle.sift.specs.Sift.{notWaived}
 use Rattle.rules.proofs.WaiverPlaces.{waivers-length}
-use Rattle.rules.proofs.WaiverOrder.{earlier-at, HeldAt, held-hidden, hidden-held}
+use Rattle.rules.proofs.WaiverOrder.{earlier-at}
+use Rattle.rules.proofs.GoodWaivers.{good-in-order, good-valid}
 use Rattle.rules.proofs.KnownIds.{below-in, below-out, below-nil, below-all}
-use Rattle.sift.proofs.Merge.{waived-at, StandsAt, at-waived, not-waived-nil, waived-out, waived-in}
+use Rattle.sift.proofs.Merge.{not-waived-nil, waived-out, waived-in}
 
 -- ---- the waivers below x are the first ones
 below-first : (ids keys : List ℕ) → findingsAscend (waiversOf ids keys) ≡ true → (x i : ℕ) → i < room ids keys → getD ids i 0 < x → i < waiversBelow x (waiversOf ids keys)
@@ -57,9 +63,6 @@ first-below (id ∷ ids) (κ ∷ keys) asc x i h =
     absurd (omega arith))
 
 module _ (ids keys : List ℕ) (asc : findingsAscend (waiversOf ids keys) ≡ true) where
-  abbrev ws : List Finding
-  ws = waiversOf ids keys
-
   pub below-at : (x i : ℕ) → i < room ids keys → getD ids i 0 < x → i < waiversBelow x (waiversOf ids keys)
   below-at = below-first ids keys asc
 
@@ -67,86 +70,108 @@ module _ (ids keys : List ℕ) (asc : findingsAscend (waiversOf ids keys) ≡ tr
   at-below = first-below ids keys asc
 
   pub below-room : (x : ℕ) → waiversBelow x (waiversOf ids keys) ≤ room ids keys
-  below-room x = let few = below-all x ws in let all = waivers-length ids keys in omega arith
+  below-room x = let few = below-all x (waiversOf ids keys) in let all = waivers-length ids keys in omega arith
 
-  module _ (id : ℕ) where
-    abbrev first : ℕ
-    first = waiversBelow id ws
+-- ---- the rule's own
+-- where the first waiver is at or past x, none after it is below
+none-counted : (ids keys : List ℕ) (id κ : ℕ) → findingsAscend (findingOf id κ ∷ waiversOf ids keys) ≡ true → (x : ℕ) → x ≤ id → waiversBelow x (waiversOf ids keys) ≡ 0
+none-counted ids keys id κ asc x high =
+    let rest = ascend-rest _ _ asc in
+    let most = below-room ids keys rest x in
+    split 0 (waiversBelow x (waiversOf ids keys))
+    (λ some.
+    let low = at-below ids keys rest x 0 some in
+    let up = none-below ids keys id κ asc x 0 high (omega arith) in
+    absurd (omega arith))
+    (λ none. omega arith)
 
-    abbrev end : ℕ
-    end = waiversBelow (id + 1) ws
+-- the keys from a place to another
+abbrev pub keysBetween : ℕ → ℕ → List ℕ → List ℕ
+keysBetween first end keys = take (end - first) (drop first keys)
 
-    -- the keys of the rule's waivers
-    abbrev pub own : List ℕ
-    own = take (waiversBelow (id + 1) ws - waiversBelow id ws) (drop (waiversBelow id ws) keys)
+between-none : {first end : ℕ} (keys : List ℕ) → end ≡ first → keysBetween first end keys ≡ []
+between-none {first} {end} keys e = let none : end - first ≡ 0 = omega arith in ap (λ n. take n (drop first keys)) none
 
-    -- from the first to the end the waivers have the rule's id, and no others have
-    own-id : (i : ℕ) → first ≤ i → i < end → getD ids i 0 ≡ id
-    own-id i from before =
-        let low = at-below (id + 1) i before in
-        let most = below-room (id + 1) in
-        split (getD ids i 0) id (λ under. let no′ = below-at id i (omega arith) under in absurd (omega arith)) (λ over. omega arith)
+between-next : {first end a b : ℕ} (κ : ℕ) (keys : List ℕ) → first ≡ suc a → end ≡ suc b → keysBetween first end (κ ∷ keys) ≡ keysBetween a b keys
+between-next {first} {end} {a} {b} κ keys e f = let same : end - first ≡ b - a = omega arith in ap₂ (λ n i. take n (drop i (κ ∷ keys))) same e
 
-    own-place : (i : ℕ) → i < room ids keys → getD ids i 0 ≡ id → (first ≤ i) × (i < end)
-    own-place i h e = (split i first (λ under. let low = at-below id i under in absurd (omega arith)) (λ over. over), below-at (id + 1) i h (omega arith))
+between-first : {first end a b : ℕ} (κ : ℕ) (keys : List ℕ) → first ≡ 0 → end ≡ suc b → a ≡ 0 → keysBetween first end (κ ∷ keys) ≡ κ ∷ keysBetween a b keys
+between-first {first} {end} {a} {b} κ keys e f g =
+    let more : end - first ≡ suc b = omega arith in
+    let all : b ≡ b - a = omega arith in
+    ap₂ (λ n i. take n (drop i (κ ∷ keys))) more e ∙ ap (λ l. κ ∷ l) (ap₂ (λ n i. take n (drop i keys)) all (sym g))
 
-    own-length : length own ≡ end - first
-    own-length =
-        let most = below-room (id + 1) in
-        let t = length-take (end - first) (drop first keys) in
-        let d = length-drop first keys in
-        omega arith
+-- one waiver more
+keys-own : (id κ : ℕ) (ws : List Finding) → waivedKeys id (findingOf id κ ∷ ws) ≡ κ ∷ waivedKeys id ws
+unfolding waivedKeys
+keys-own id κ ws = rw (eq-eqb id id refl)
 
-    own-at : (i : ℕ) → i < length own → getD own i 0 ≡ getD keys (first + i) 0
-    own-at i h = let l = own-length in getD-take (end - first) (drop first keys) i 0 (omega arith) ∙ getD-drop first keys i 0
+keys-other : (id v κ : ℕ) (ws : List Finding) → (v ≡ id → ⊥) → waivedKeys id (findingOf v κ ∷ ws) ≡ waivedKeys id ws
+unfolding waivedKeys
+keys-other id v κ ws other = rw (ne-eqb v id other)
 
-    pub own-ascend : Ascend own
-    own-ascend i j before inside =
-        let l = own-length in
-        let most = below-room (id + 1) in
-        let up = earlier-at ids keys asc (first + i) (first + j) (omega arith) (omega arith) in
-        let a = own-id (first + i) (omega arith) (omega arith) in
-        let b = own-id (first + j) (omega arith) (omega arith) in
-        let less = up .keys (a ∙ sym b) in
-        let atI = own-at i (omega arith) in
-        let atJ = own-at j inside in
-        omega arith
+-- the keys of the rule's waivers are a part of the slice
+pub own-keys : (ids keys : List ℕ) (id : ℕ) → findingsAscend (waiversOf ids keys) ≡ true
+    → keysBetween (waiversBelow id (waiversOf ids keys)) (waiversBelow (id + 1) (waiversOf ids keys)) keys ≡ waivedKeys id (waiversOf ids keys)
+unfolding waiversOf waivedKeys
+own-keys [] keys id asc = between-none keys (below-nil (id + 1) ∙ sym (below-nil id))
+own-keys (v ∷ ids) [] id asc = between-none [] (below-nil (id + 1) ∙ sym (below-nil id))
+own-keys (v ∷ ids) (κ ∷ keys) id asc =
+    let ws = waiversOf ids keys in
+    let ih = own-keys ids keys id (ascend-rest _ _ asc) in
+    split v id
+    (λ low.
+    between-next κ keys (below-in id (findingOf v κ) ws low) (below-in (id + 1) (findingOf v κ) ws (omega arith))
+    ∙ ih
+    ∙ sym (keys-other id v κ ws (λ e. omega arith)))
+    (λ over.
+    let none = below-out id (findingOf v κ) ws over ∙ none-counted ids keys v κ asc id over in
+    split id v
+    (λ high.
+    let end = below-out (id + 1) (findingOf v κ) ws (omega arith) ∙ none-counted ids keys v κ asc (id + 1) (omega arith) in
+    let rest = none-counted ids keys v κ asc (id + 1) (omega arith) ∙ sym (none-counted ids keys v κ asc id over) in
+    between-none (κ ∷ keys) (end ∙ sym none) ∙ sym (between-none keys rest) ∙ ih ∙ sym (keys-other id v κ ws (λ e. omega arith)))
+    (λ under.
+    let same : v ≡ id = omega arith in
+    between-first κ keys none (below-in (id + 1) (findingOf v κ) ws (omega arith)) (none-counted ids keys v κ asc id over)
+    ∙ ap (λ l. κ ∷ l) ih
+    ∙ sym (ap (λ x. waivedKeys id (findingOf x κ ∷ ws)) same ∙ keys-own id κ ws)))
 
-    -- a finding of the rule is hidden exactly where its key is one of them
-    held-waived : (key : ℕ) → HeldAt ids keys id key → isWaived own key ≡ true
-    held-waived key s =
-        let here = own-place (s .place) (s .within) (s .hasId) in
-        let from = here .0 in
-        let before = here .1 in
-        let l = own-length in
-        let is : first + (s .place - first) ≡ s .place = omega arith in
-        waived-at own key (s .place - first) (omega arith) (own-at (s .place - first) (omega arith) ∙ ap (λ i. getD keys i 0) is ∙ s .hasKey)
+-- they are valid and ascend
+waived-own : (m id lo : ℕ) {ws : List Finding} → InOrder ws → keysValid m ws ≡ true → ((w : Finding) → List·Memᴰ w ws → w .id ≡ id → lo ≤ w .key)
+    → Waived m lo (waivedKeys id ws)
+unfolding waivedKeys keysValid
+waived-own m id lo no-finding valid low = none
+waived-own m id lo (finding {x} {xs} later t) valid low =
+    let key = and-left (validKey m (x .key)) (keysValid m xs) valid in
+    let keys = and-right (validKey m (x .key)) (keysValid m xs) valid in
+    decide (eqb (x .id) id)
+    (λ e.
+    let same = eqb-true (x .id) id e in
+    rw e (one (low x (List·Memᴰ·head refl) same) key (waived-own m id (suc (x .key)) t keys (λ w i rule. later w i .keys (same ∙ sym rule)))))
+    (λ e. rw e (waived-own m id lo t keys (λ w i rule. low w (List·Memᴰ·tail i) rule)))
 
-    stands-hidden : (key : ℕ) → StandsAt own key → isHidden ws (findingOf id key) ≡ true
-    stands-hidden key s =
-        let inside = s .within in
-        let l = own-length in
-        let most = below-room (id + 1) in
-        held-hidden ids keys id key (first + s .place) (omega arith) (own-id (first + s .place) (omega arith) (omega arith)) (sym (own-at (s .place) inside) ∙ s .is)
+module _ (m : ℕ) (ws : List Finding) (id : ℕ) where
+  pub own-waived : waiversGood m ws ≡ true → Waived m 0 (waivedKeys id ws)
+  own-waived good = waived-own m id 0 (ascend-order ws (good-in-order m ws good)) (good-valid m ws good) (λ w i rule. omega arith)
 
-    pub own-hides : (key : ℕ) → isHidden ws (findingOf id key) ≡ isWaived own key
-    own-hides key =
-        same-test (isHidden ws (findingOf id key)) (isWaived own key) (λ e. held-waived key (hidden-held ids keys id key e)) (λ e. stands-hidden key (at-waived own key e))
+  -- a finding of the rule is hidden exactly where they cover its block
+  pub own-live : (given : List ℕ) → liveOf m ws (map (findingOf id) given) ≡ map (findingOf id) (notWaived m (waivedKeys id ws) given)
+  own-live [] = live-none m ws ∙ ap (map (findingOf id)) (sym (not-waived-nil m (waivedKeys id ws)))
+  own-live (key ∷ given) =
+      let own = waivedKeys id ws in
+      let hides = hidden-covered m ws (findingOf id key) in
+      decide (isCovered m own key)
+      (λ e. live-hidden m ws (findingOf id key) (map (findingOf id) given) (hides ∙ e)
+      ∙ own-live given
+      ∙ ap (map (findingOf id)) (sym (waived-out m own key given e)))
+      (λ e. live-kept m ws (findingOf id key) (map (findingOf id) given) (hides ∙ e)
+      ∙ ap (λ l. findingOf id key ∷ l) (own-live given)
+      ∙ ap (map (findingOf id)) (sym (waived-in m own key given e)))
 
-    pub own-live : (given : List ℕ) → liveOf ws (map (findingOf id) given) ≡ map (findingOf id) (notWaived own given)
-    own-live [] = live-none ws ∙ ap (map (findingOf id)) (sym (not-waived-nil own))
-    own-live (key ∷ given) =
-        decide (isWaived own key)
-        (λ e. live-hidden ws (findingOf id key) (map (findingOf id) given) (own-hides key ∙ e)
-        ∙ own-live given
-        ∙ ap (map (findingOf id)) (sym (waived-out own key given e)))
-        (λ e. live-kept ws (findingOf id key) (map (findingOf id) given) (own-hides key ∙ e)
-        ∙ ap (λ l. findingOf id key ∷ l) (own-live given)
-        ∙ ap (map (findingOf id)) (sym (waived-in own key given e)))
-
-    pub own-hidden : (given : List ℕ) → hiddenCount ws (map (findingOf id) given) + length (notWaived own given) ≡ length given
-    own-hidden given =
-        let both = live-and-hidden ws (map (findingOf id) given) in
-        let all = length-map given (findingOf id) in
-        let live = ap length (own-live given) ∙ length-map (notWaived own given) (findingOf id) in
-        omega arith
+  pub own-hidden : (given : List ℕ) → hiddenCount m ws (map (findingOf id) given) + length (notWaived m (waivedKeys id ws) given) ≡ length given
+  own-hidden given =
+      let both = live-and-hidden m ws (map (findingOf id) given) in
+      let all = length-map given (findingOf id) in
+      let live = ap length (own-live given) ∙ length-map (notWaived m (waivedKeys id ws) given) (findingOf id) in
+      omega arith

@@ -10,6 +10,7 @@ use borrow.Author.Tests.{ltb-false}
 use Rattle.definitions.specs.Window.{isWindow, selectIn}
 use Rattle.definitions.specs.Rules.{Finding, findingOf, windowOf, findingsOf, waiversOf, liveOf, hiddenCount, findingsAscend}
 use Rattle.definitions.specs.declared.Rule.{Rule}
+use Rattle.definitions.specs.Covered.{waivedKeys}
 use Rattle.list.specs.Own.{OwnList}
 use Rattle.list.proofs.Own.{own-list}
 use Rattle.window.specs.Gather.{written}
@@ -18,10 +19,12 @@ use Rattle.sift.specs.declared.Sifting.{Sifting}
 use Rattle.sift.specs.Sift.{notWaived, SiftReady, Sifted}
 use Rattle.rules.specs.Run.{Progress, progressOf, waiversBelow, counting, picture, findingsAt, gathered, served}
 use Rattle.rules.specs.Step.{OwnEnd, Gatherable, widened}
+use Rattle.sift.proofs.Settling.{none-passed}
+use Rattle.rules.proofs.GoodWaivers.{good-in-order}
 use Rattle.rules.proofs.KnownIds.{below-mono}
 use Rattle.rules.proofs.Ready.{next-low, rule-good, good-window, good-feature, rule-small}
 use Rattle.rules.proofs.StepCases.{served-bounds, served-gathers}
-use Rattle.rules.proofs.RuleWaivers.{below-room, own, own-ascend, own-live, own-hidden}
+use Rattle.rules.proofs.RuleWaivers.{below-room, own-keys, own-waived, own-live, own-hidden}
 use Rattle.rules.proofs.StepWaivers.{end-is}
 
 -- the ids and the keys of a rule's findings
@@ -41,7 +44,7 @@ module _ (keys bits waiverIds waiverKeys : List ℕ) (rule : Rule) (p : Progress
   st = p .state
 
   asc : findingsAscend ws ≡ true
-  asc = g .fine .ascend (g .right)
+  asc = good-in-order _ _ (g .fine .good (g .right))
 
   -- what sifting asks of the rule and the list
   pub own-window : isWindow (st .m) (windowOf rule) ≡ true
@@ -83,22 +86,22 @@ module _ (keys bits waiverIds waiverKeys : List ℕ) (rule : Rule) (p : Progress
         end-is waiverIds waiverKeys asc (st .waivers) (g .fine .count) (rule .id) end
         (subst (λ x. OwnEnd waiverIds x (st .waivers) (rule .id) end) passed-below o)
 
-    lent-own : lent ≡ own waiverIds waiverKeys asc (rule .id)
-    lent-own = ap₂ (λ a b. take (a - b) (drop b waiverKeys)) end-below passed-below
+    lent-own : lent ≡ waivedKeys (rule .id) ws
+    lent-own = ap₂ (λ a b. take (a - b) (drop b waiverKeys)) end-below passed-below ∙ own-keys waiverIds waiverKeys (rule .id) asc
 
     -- what sifting starts from
     abbrev pub at : Sifting
-    at = record { passed = 0; live = st .live; hidden = st .hidden }
+    at = record { passed = 0; furthest = 0; live = st .live; hidden = st .hidden }
 
-    pub lent-ready : rule .id < 4294967296 → SiftReady (st .limit) lent at (p .ids) (p .keys) (2 ^ 59) 0
+    pub lent-ready : rule .id < 4294967296 → SiftReady (st .m) (st .limit) lent at (p .ids) (p .keys) (2 ^ 59) 0
     lent-ready fits =
         let low = next-low keys bits waiverIds waiverKeys rule p (g .may) in
         record {
           limitIds = g .fine .limitIds;
           limitKeys = g .fine .limitKeys;
           counts = omega (arith, g .fine .small);
-          ascend = rw lent-own (own-ascend waiverIds waiverKeys asc (rule .id));
-          passed = record { within = omega arith; below = λ i h. absurd (omega arith) };
+          waivers = rw lent-own (own-waived (st .m) ws (rule .id) (g .fine .good (g .right)));
+          passed = none-passed (st .m) lent 0;
         }
 
     pub counts-small : rule .id < 4294967296 → st .live ≤ 2 ^ 62
@@ -117,38 +120,38 @@ module _ (keys bits waiverIds waiverKeys : List ℕ) (rule : Rule) (p : Progress
     given = selectIn (st .m) (picture keys bits waiverIds waiverKeys st) (windowOf rule) (rule .feature)
 
     abbrev live : List ℕ
-    live = notWaived lent given
+    live = notWaived (st .m) lent given
 
-    live-is : map (findingOf (rule .id)) live ≡ liveOf ws (findingsAt keys bits waiverIds waiverKeys rule st)
+    live-is : map (findingOf (rule .id)) live ≡ liveOf (st .m) ws (findingsAt keys bits waiverIds waiverKeys rule st)
     unfolding findingsOf
     live-is =
-        ap (λ l. map (findingOf (rule .id)) (notWaived l given)) lent-own
-        ∙ sym (own-live waiverIds waiverKeys asc (rule .id) given)
+        ap (λ l. map (findingOf (rule .id)) (notWaived (st .m) l given)) lent-own
+        ∙ sym (own-live (st .m) ws (rule .id) given)
 
-    hidden-is : hiddenCount ws (findingsAt keys bits waiverIds waiverKeys rule st) + length live ≡ length given
+    hidden-is : hiddenCount (st .m) ws (findingsAt keys bits waiverIds waiverKeys rule st) + length live ≡ length given
     unfolding findingsOf
     hidden-is =
-        ap (λ l. hiddenCount ws (map (findingOf (rule .id)) given) + length (notWaived l given)) lent-own
-        ∙ own-hidden waiverIds waiverKeys asc (rule .id) given
+        ap (λ l. hiddenCount (st .m) ws (map (findingOf (rule .id)) given) + length (notWaived (st .m) l given)) lent-own
+        ∙ own-hidden (st .m) ws (rule .id) given
 
-    module _ {r : Sifting} {ids′ keys′ : List ℕ} {x : ℕ} (s : Sifted (st .limit) (rule .id) lent given at r (p .ids) ids′ (p .keys) keys′ x) where
-      count-live : r .live ≡ st .live + length (liveOf ws (findingsAt keys bits waiverIds waiverKeys rule st))
+    module _ {r : Sifting} {ids′ keys′ : List ℕ} {x : ℕ} (s : Sifted (st .m) (st .limit) (rule .id) lent given at r (p .ids) ids′ (p .keys) keys′ x) where
+      count-live : r .live ≡ st .live + length (liveOf (st .m) ws (findingsAt keys bits waiverIds waiverKeys rule st))
       count-live =
           s .counted .live
           ∙ ap (λ n. st .live + n) (sym (length-map live (findingOf (rule .id))) ∙ ap length live-is)
 
-      count-hidden : r .hidden ≡ st .hidden + hiddenCount ws (findingsAt keys bits waiverIds waiverKeys rule st)
+      count-hidden : r .hidden ≡ st .hidden + hiddenCount (st .m) ws (findingsAt keys bits waiverIds waiverKeys rule st)
       count-hidden =
           let both = s .counted .hidden in
           let parts = hidden-is in
           omega arith
 
-      wrote-ids : ids′ ≡ written (st .limit) (p .ids) (st .live) (map (λ x. x .id) (liveOf ws (findingsAt keys bits waiverIds waiverKeys rule st)))
+      wrote-ids : ids′ ≡ written (st .limit) (p .ids) (st .live) (map (λ x. x .id) (liveOf (st .m) ws (findingsAt keys bits waiverIds waiverKeys rule st)))
       wrote-ids =
           s .counted .wroteIds
           ∙ ap (written (st .limit) (p .ids) (st .live)) (ids-of (rule .id) live ∙ ap (map (λ x. x .id)) live-is)
 
-      wrote-keys : keys′ ≡ written (st .limit) (p .keys) (st .live) (map (λ x. x .key) (liveOf ws (findingsAt keys bits waiverIds waiverKeys rule st)))
+      wrote-keys : keys′ ≡ written (st .limit) (p .keys) (st .live) (map (λ x. x .key) (liveOf (st .m) ws (findingsAt keys bits waiverIds waiverKeys rule st)))
       wrote-keys =
           s .counted .wroteKeys
           ∙ ap (written (st .limit) (p .keys) (st .live)) (keys-of (rule .id) live ∙ ap (map (λ x. x .key)) live-is)

@@ -10,6 +10,7 @@ use Rattle.definitions.specs.declared.Rule.{Rule}
 use Rattle.rules.specs.declared.run.State.{State}
 use Rattle.rules.specs.Run.{Progress, waiversBelow, mayCome, isUnknown, Fine}
 use Rattle.rules.specs.Step.{Gatherable}
+use Rattle.rules.proofs.GoodWaivers.{good-in-order}
 use Rattle.rules.proofs.StepCases.{isFaulty}
 use Rattle.rules.proofs.StepWaivers.{smaller-at}
 
@@ -37,7 +38,7 @@ module _ (keys bits waiverIds waiverKeys : List ℕ) (rule : Rule) (p : Progress
 
   smaller-unknown : st .faulty ≡ false → smaller ≡ unknown
   smaller-unknown e =
-      smaller-at waiverIds waiverKeys (f .ascend e) (st .waivers) (f .count) (st .passed) (rule .id)
+      smaller-at waiverIds waiverKeys (good-in-order _ _ (f .good e)) (st .waivers) (f .count) (st .passed) (rule .id)
       ∙ ap (λ x. ltb x (waiversBelow (rule .id) (waiversOf waiverIds waiverKeys))) (f .passed e)
 
   pub wrong-is : st .faulty || smaller ≡ isFaulty keys bits waiverIds waiverKeys rule p

@@ -1,7 +1,7 @@
 -- Two runs over the rules, the first to count and the second to write, give document 01's findings: each refusal in its order, and otherwise the live
 -- findings with both counts. Rests on AllGathered, RunEnds, Quiet, NextCases, Beginning and Refusals.
 use Prim.Native.Nat.{ℕ, _≤_, _<_}
-use mathlib.Core.Path.{_≡_, refl, sym, ap, _∙_}
+use mathlib.Core.Path.{_≡_, refl, sym, ap, ap₂, _∙_}
 use mathlib.Core.Bool.{Bool, true, false}
 use mathlib.Core.List.{List, map}
 use native.Mathlib.Nat.{zero-add}
@@ -225,19 +225,19 @@ module _ (m s : ℕ) (keys bits : List ℕ) (n : ℕ) (rules : List Rule) (waive
             all-same : allFindings (last .m) (pictureOf (last .m) (recordsOf keys bits (last .n))) rules ≡ allFindings m (pictureOf m (recordsOf keys bits n)) rules
             all-same = λ i. allFindings (level-last i) (pictureOf (level-last i) (recordsOf keys bits (records-last i))) rules
 
-            live-same : liveOf ws (allFindings (last .m) (pictureOf (last .m) (recordsOf keys bits (last .n))) rules) ≡ live
+            live-same : liveOf (last .m) ws (allFindings (last .m) (pictureOf (last .m) (recordsOf keys bits (last .n))) rules) ≡ live
             unfolding liveIn
-            live-same = ap (liveOf ws) all-same
+            live-same = ap₂ (λ x l. liveOf x ws l) level-last all-same
 
-            hidden-same : hiddenCount ws (allFindings (last .m) (pictureOf (last .m) (recordsOf keys bits (last .n))) rules) ≡ hiddenIn m keys bits n rules waiverIds waiverKeys
+            hidden-same : hiddenCount (last .m) ws (allFindings (last .m) (pictureOf (last .m) (recordsOf keys bits (last .n))) rules) ≡ hiddenIn m keys bits n rules waiverIds waiverKeys
             unfolding hiddenIn
-            hidden-same = ap (hiddenCount ws) all-same
+            hidden-same = ap₂ (λ x l. hiddenCount x ws l) level-last all-same
 
             final : run second ≡ allGathered keys bits waiverIds waiverKeys rules again
             final = ap run second-is ∙ writing-run
 
             wrote-all : (f : Finding → ℕ) (answer : List ℕ) → room ids foundKeys ≤ length answer
-                → written (last .room) answer 0 (map f (liveOf ws (allFindings (last .m) (pictureOf (last .m) (recordsOf keys bits (last .n))) rules)))
+                → written (last .room) answer 0 (map f (liveOf (last .m) ws (allFindings (last .m) (pictureOf (last .m) (recordsOf keys bits (last .n))) rules)))
                 ≡ over (map f live) answer
             wrote-all f answer h =
                 let size = length-map live f in

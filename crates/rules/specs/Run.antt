@@ -175,16 +175,16 @@ module _ (keys bits waiverIds waiverKeys : List ℕ) where
   abbrev pub findingsAt : Rule → State → List Finding
   findingsAt rule st = findingsOf (st .m) (picture st) rule
 
-  -- the rule's findings that no waiver hides are counted and written, the others counted
+  -- the rule's findings that its waivers do not hide are counted and written, the others counted
   abbrev pub gathered : Rule → Progress → Progress
   gathered rule p =
       progressOf
       (counting (rule .id + 1) (waiversBelow (rule .id + 1) waivers)
-      (p .state .live + length (liveOf waivers (findingsAt rule (p .state))))
-      (p .state .hidden + hiddenCount waivers (findingsAt rule (p .state)))
+      (p .state .live + length (liveOf (p .state .m) waivers (findingsAt rule (p .state))))
+      (p .state .hidden + hiddenCount (p .state .m) waivers (findingsAt rule (p .state)))
       (p .state))
-      (written (p .state .limit) (p .ids) (p .state .live) (map (λ x. x .id) (liveOf waivers (findingsAt rule (p .state)))))
-      (written (p .state .limit) (p .keys) (p .state .live) (map (λ x. x .key) (liveOf waivers (findingsAt rule (p .state)))))
+      (written (p .state .limit) (p .ids) (p .state .live) (map (λ x. x .id) (liveOf (p .state .m) waivers (findingsAt rule (p .state)))))
+      (written (p .state .limit) (p .keys) (p .state .live) (map (λ x. x .key) (liveOf (p .state .m) waivers (findingsAt rule (p .state)))))
 
   -- their number is bounded by the pixels of the rule's window
   abbrev pub bounded : Rule → Progress → Progress
@@ -223,7 +223,7 @@ module _ (keys bits waiverIds waiverKeys : List ℕ) where
     pub roomIds : p .state .room ≤ length (p .ids)
     pub roomKeys : p .state .room ≤ length (p .keys)
     pub count : p .state .waivers ≡ room waiverIds waiverKeys
-    pub ascend : p .state .faulty ≡ false → findingsAscend waivers ≡ true
+    pub good : p .state .faulty ≡ false → waiversGood (p .state .m) waivers ≡ true
     pub passed : p .state .faulty ≡ false → p .state .passed ≡ waiversBelow (p .state .next) waivers
     pub small : p .state .live + p .state .hidden ≤ p .state .next * 9765625
 

@@ -28,4 +28,4 @@ pub record Gatherable (keys bits waiverIds waiverKeys : List ℕ) (rule : Rule) 
 
 -- as many live findings more as the rule's window has pixels
 abbrev pub widened : Rule → Sifting → Sifting
-widened rule at = record { passed = at .passed; live = at .live + pixelsOf rule; hidden = at .hidden }
+widened rule at = record { passed = at .passed; furthest = at .furthest; live = at .live + pixelsOf rule; hidden = at .hidden }

@@ -99,7 +99,7 @@ fn widen(rule: Rule, at: Sifting) -> Sifting
     wider
 }
 
-// The rule's findings that no waiver hides are counted and written, the others counted; or their number is only bounded.
+// The rule's findings that its waivers do not hide are counted and written, the others counted; or their number is only bounded.
 fn gather(
     rule: Rule,
     keys: &[u32],
@@ -121,6 +121,7 @@ fn gather(
     let end = own_end(waiver_ids, passed, state.waivers, id);
     let at = Sifting {
         passed: 0,
+        furthest: 0,
         live: state.live,
         hidden: state.hidden,
     };

@@ -1,1 +1,6 @@
+pub mod FirstPixel
+pub mod Covered
+pub mod OneWaiver
+pub mod Settling
+pub mod Leaves
 pub mod Merge

@@ -1,20 +1,25 @@
-// Sifting: the findings of one rule, in key order, against the keys of the rule's waivers, which ascend too. So one merge decides which are hidden. The
-// walk over the window is that of select; what is given goes into `sift`.
+// Sifting: the findings of one rule, in key order, against the keys of the rule's waivers, which ascend too. So one merge decides which are hidden: `waivers`
+// has it. The walk over the window is that of select; what is given goes into `sift`.
 ghost use mathlib.Core.Path.{_≡_};
-ghost use mathlib.Core.Bool.{true, _&&_};
+ghost use mathlib.Core.Bool.{true};
 ghost use mathlib.Core.List.{[], _∷_};
 ghost use Prim.Native.Nat.{_+_, _≤_, _<_, _^_};
-ghost use lib.ListN.{length, getD, drop};
-ghost use lib.Dec.{ltb, eqb};
+ghost use lib.ListN.{drop};
+ghost use Rattle.keys.specs.Key.{validKey};
 ghost use Rattle.definitions.specs.Edit.{contentOf};
 ghost use Rattle.definitions.specs.Read.{recordsOf};
 ghost use Rattle.definitions.specs.Window.{isWindow, selectIn};
 ghost use Rattle.definitions.specs.Rules.{windowOf};
+ghost use Rattle.list.specs.Check.{oneSlot};
 ghost use Rattle.list.specs.Own.{OwnList, shownBy};
-ghost use Rattle.list.specs.Sorted.{Ascends, Near};
+ghost use Rattle.list.specs.Sorted.{Near};
 ghost use Rattle.window.specs.Walk.{Stands};
 ghost use Rattle.window.specs.Gather.{keysWith, keysUntil};
-ghost use Rattle.sift.specs.Sift.{Passed, FirstPast, SiftReady, RunReady, Sifted};
+ghost use Rattle.sift.specs.Covering.{endOf};
+ghost use Rattle.sift.specs.Sift.{SiftReady, RunReady, Sifted};
+
+pub mod waivers;
+
 use definitions::Rule;
 use definitions::Standing;
 use definitions::Window;
@@ -35,40 +40,15 @@ pub struct Job {
     pub limit: usize,
 }
 
-// How far the rule's waivers are passed, and how many findings were live and hidden.
+// How far the rule's waivers are passed and their furthest end, and how many findings were live and hidden.
 pub struct Sifting {
     pub passed: usize,
+    pub furthest: u32,
     pub live: usize,
     pub hidden: usize,
 }
 
-// The first waiver from a place on whose key is at or past the key.
-fn pass(waived: &[u32], from: usize, key: u32) -> usize
-    requires { ⌜ Passed (now waived) from key ⌝ }
-    ensures { λ r. ⌜ FirstPast (now (waived .entry)) r key ⌝ }
-{
-    let mut place = from;
-    while place < waived.len() {
-        if key <= waived[place] {
-            return place;
-        }
-        place += 1;
-    }
-    place
-}
-
-// The waiver at a place has the key.
-fn stands_at(waived: &[u32], place: usize, key: u32) -> bool
-    ensures { λ r. ⌜ r ≡ ltb place (length (now (waived .entry))) && eqb (getD (now (waived .entry)) place 0) key ⌝ }
-{
-    if place < waived.len() {
-        waived[place] == key
-    } else {
-        false
-    }
-}
-
-// One finding: it is hidden if a waiver has its key, and otherwise written and live.
+// One finding: it is hidden if the waivers cover its block, and otherwise written and live.
 fn sift(
     job: Job,
     key: u32,
@@ -77,20 +57,23 @@ fn sift(
     found_keys: &mut [u32],
     at: Sifting,
 ) -> Sifting
-    requires { ⌜ SiftReady (job .limit) (now waived) at (now «found_ids») (now «found_keys») (2 ^ 62) key ⌝ }
-    ensures { λ r. ⌜ Sifted (job .limit) (job .id) (now (waived .entry)) (key ∷ []) at r
-        (now («found_ids» .entry)) (now («found_ids» .exit)) (now («found_keys» .entry)) (now («found_keys» .exit)) key ⌝ }
+    requires { ⌜ (job .m ≤ 10) × (validKey (job .m) key ≡ true)
+        × SiftReady (job .m) (job .limit) (now waived) at (now «found_ids») (now «found_keys») (2 ^ 62) key ⌝ }
+    ensures { λ r. ⌜ Sifted (job .m) (job .limit) (job .id) (now (waived .entry)) (key ∷ []) at r
+        (now («found_ids» .entry)) (now («found_ids» .exit)) (now («found_keys» .entry)) (now («found_keys» .exit)) (endOf (job .m) key) ⌝ }
 {
     let limit = job.limit;
     let id = job.id;
     let live = at.live;
     let hidden = at.hidden;
-    let from = at.passed;
-    let passed = pass(waived, from, key);
-    if stands_at(waived, passed, key) {
+    let settled = waivers::settle(job.m, waived, key, at.passed, at.furthest);
+    let passed = settled.passed;
+    let furthest = settled.furthest;
+    if settled.hidden {
         let more = hidden + 1;
         return Sifting {
             passed,
+            furthest,
             live,
             hidden: more,
         };
@@ -100,6 +83,7 @@ fn sift(
     let more = live + 1;
     Sifting {
         passed,
+        furthest,
         live: more,
         hidden,
     }
@@ -117,9 +101,9 @@ fn sift_run(
     found_keys: &mut [u32],
     at: Sifting,
 ) -> Sifting
-    requires { ⌜ Ascends (now keys) (job .n) × (job .n ≤ length (now bits))
-        × RunReady (job .limit) (now waived) at (now «found_ids») (now «found_keys») (2 ^ 60) (now keys) (job .n) first end ⌝ }
-    ensures { λ r. ⌜ Sifted (job .limit) (job .id) (now (waived .entry))
+    requires { ⌜ (job .m ≤ 10) × OwnList (job .m) (now keys) (now bits) (job .n) × (oneSlot (job .bit) ≡ true)
+        × RunReady (job .m) (job .limit) (now waived) at (now «found_ids») (now «found_keys») (2 ^ 60) (now keys) (job .n) first end ⌝ }
+    ensures { λ r. ⌜ Sifted (job .m) (job .limit) (job .id) (now (waived .entry))
         (keysUntil end (job .bit) (drop first (recordsOf (now (keys .entry)) (now (bits .entry)) (job .n)))) at r
         (now («found_ids» .entry)) (now («found_ids» .exit)) (now («found_keys» .entry)) (now («found_keys» .exit)) end ⌝ }
 {
@@ -153,9 +137,9 @@ fn sift_block(
     at: Sifting,
 ) -> Sifting
     requires { ⌜ (job .m ≤ 10) × Stands (job .m) block × OwnList (job .m) (now keys) (now bits) (job .n)
-        × Near (now keys) (job .n) from (block .key)
-        × SiftReady (job .limit) (now waived) at (now «found_ids») (now «found_keys») (2 ^ 60) (block .key) ⌝ }
-    ensures { λ r. ⌜ Sifted (job .limit) (job .id) (now (waived .entry))
+        × Near (now keys) (job .n) from (block .key) × (oneSlot (job .bit) ≡ true)
+        × SiftReady (job .m) (job .limit) (now waived) at (now «found_ids») (now «found_keys») (2 ^ 60) (block .key) ⌝ }
+    ensures { λ r. ⌜ Sifted (job .m) (job .limit) (job .id) (now (waived .entry))
         (keysWith (job .bit) (contentOf (job .m) (shownBy (job .m) (now (keys .entry)) (now (bits .entry)) (job .n)) (block .key))) at r
         (now («found_ids» .entry)) (now («found_ids» .exit)) (now («found_keys» .entry)) (now («found_keys» .exit)) (block .key + block .step) ⌝ }
 {
@@ -200,8 +184,8 @@ pub fn sift_rule(
     at: Sifting,
 ) -> Sifting
     requires { ⌜ (m ≤ 10) × (isWindow m (windowOf rule) ≡ true) × (rule .feature < 16) × OwnList m (now keys) (now bits) n
-        × SiftReady limit (now waived) at (now «found_ids») (now «found_keys») (2 ^ 59) 0 ⌝ }
-    ensures { λ r. ⌜ Sifted limit (rule .id) (now (waived .entry)) (selectIn m (shownBy m (now (keys .entry)) (now (bits .entry)) n) (windowOf rule) (rule .feature)) at r
+        × SiftReady m limit (now waived) at (now «found_ids») (now «found_keys») (2 ^ 59) 0 ⌝ }
+    ensures { λ r. ⌜ Sifted m limit (rule .id) (now (waived .entry)) (selectIn m (shownBy m (now (keys .entry)) (now (bits .entry)) n) (windowOf rule) (rule .feature)) at r
         (now («found_ids» .entry)) (now («found_ids» .exit)) (now («found_keys» .entry)) (now («found_keys» .exit)) (5 ^ m) ⌝ }
 {
     let window = Window {

@@ -1,2 +1,1 @@
-pub mod SummaryAgree
 pub mod Surveyed

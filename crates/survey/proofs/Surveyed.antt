@@ -1,5 +1,5 @@
 -- The answers of survey: its table of refusals, what a refused call leaves, that the list just written is an accepted one which shows the raster's
--- picture, and so that its summary is the raster's. Rests on SummaryAgree and on definitions' First, Records and ReadBack.
+-- picture, and so that its summary is the raster's. Rests on definitions' First, Records, ReadBack and SummaryOf.
 use Prim.Native.Nat.{ℕ}
 use mathlib.Core.Path.{_≡_, refl, sym, _∙_, ap, ap₂}
 use mathlib.Core.List.{List, [], _∷_}
@@ -24,7 +24,7 @@ use Rattle.definitions.proofs.ReadBack.{root-keys, block-back}
 use Rattle.definitions.proofs.Records.{records-over}
 use Rattle.list.specs.Own.{OwnList, shownBy}
 use Rattle.list.proofs.Tests.{GoodSettings, good-settings}
-use Rattle.survey.proofs.SummaryAgree.{summary-agree}
+use Rattle.definitions.proofs.SummaryOf.{summary-agree}
 
 -- the tests that come before the list is made
 abbrev pub early : (m s : ℕ) (raster summary : List ℕ) → List Row

@@ -14,11 +14,11 @@ use Rattle.definitions.specs.declared.Found.{Found}
 -- the live findings, by id and then key
 unfoldable pub liveIn : ℕ → List ℕ → List ℕ → ℕ → List Rule → List ℕ → List ℕ → List Finding
 liveIn m keys bits n rules waiverIds waiverKeys =
-    liveOf (waiversOf waiverIds waiverKeys) (allFindings m (pictureOf m (recordsOf keys bits n)) rules)
+    liveOf m (waiversOf waiverIds waiverKeys) (allFindings m (pictureOf m (recordsOf keys bits n)) rules)
 
 unfoldable pub hiddenIn : ℕ → List ℕ → List ℕ → ℕ → List Rule → List ℕ → List ℕ → ℕ
 hiddenIn m keys bits n rules waiverIds waiverKeys =
-    hiddenCount (waiversOf waiverIds waiverKeys) (allFindings m (pictureOf m (recordsOf keys bits n)) rules)
+    hiddenCount m (waiversOf waiverIds waiverKeys) (allFindings m (pictureOf m (recordsOf keys bits n)) rules)
 
 module _ (m s : ℕ) (keys bits : List ℕ) (n : ℕ) (rules : List Rule) (waiverIds waiverKeys foundIds foundKeys : List ℕ) where
   unfoldable pub findingsRefusal : ℕ

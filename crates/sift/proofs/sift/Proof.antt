@@ -1,34 +1,20 @@
--- `sift` meets its contract: the first waiver at or past the key decides, since the waivers ascend.
-use mathlib.Core.Path.{_≡_, refl, sym, _∙_}
+-- `sift` meets its contract: what is settled of the block says whether it is counted as hidden or written.
+use mathlib.Core.Path.{refl, sym, _∙_}
 use borrow.Author.Needs.{needs}
-use Rattle.sift.specs.Sift.{isWaived}
-use Rattle.sift.proofs.Merge.{stands-waived, counted-hidden, counted-live}
+use Rattle.sift.proofs.Merge.{counted-hidden, counted-live}
 use Rattle.sift.proofs.sift.Statement.{statement}
 use Rattle.sift.proofs.sift.Tie as tie
 
--- the entry of the function, from where it is known how the waivers stand
-abbrev entry : tie.After-stands-at → tie.Start
-entry c = c .before .before .before .before .before
-
--- the test's answer is whether the key is waived
-waived : (c : tie.After-stands-at) → isWaived (entry c .args .waived .now) (entry c .args .key) ≡ c .stands-at .result
-waived c = sym (stands-waived _ _ _ (entry c .pre .ascend) (c .before .pass .ensures)) ∙ sym (c .stands-at .ensures)
-
-pass-requires : tie.Need-pass-requires
-pass-requires c κs = search needs
-
-stands-at-requires : tie.Need-stands-at-requires
-stands-at-requires c κs = search needs
+settle-requires : tie.Need-settle-requires
+settle-requires c κs = search needs
 
 add-more : tie.Need-add-more
 add-more c = search needs
 
 returns : tie.Need-returns
 returns c =
-    record {
-      counted = counted-hidden _ _ _ _ _ _ _ _ (waived (c .before) ∙ c .if1 .taken) refl refl;
-      passed = c .before .before .pass .ensures .passed;
-    }
+    let settled = c .before .settle .ensures in
+    record { counted = counted-hidden _ _ _ _ _ _ _ _ _ (sym (settled .hidden) ∙ c .if1 .taken) refl refl; passed = settled .passed }
 
 put-requires : tie.Need-put-requires
 put-requires c κs = search needs
@@ -50,17 +36,17 @@ returns-2 c =
     let second = c .before .before in
     let first = second .before .before .before .before in
     let left = first .before .before in
+    let settled = left .before .settle .ensures in
     record {
-      counted = counted-live _ _ _ _ _ _ _ _ _ _ (waived (left .before) ∙ left .if1 .left) refl refl (first .put .ensures) (second .put2 .ensures);
-      passed = left .before .before .pass .ensures .passed;
+      counted = counted-live _ _ _ _ _ _ _ _ _ _ _ (sym (settled .hidden) ∙ left .if1 .left) refl refl (first .put .ensures) (second .put2 .ensures);
+      passed = settled .passed;
     }
 
 pub sift-spec : {M : Type 1} → statement M
 sift-spec =
     tie.close
     (tie.spec
-    pass-requires
-    stands-at-requires
+    settle-requires
     add-more
     returns
     put-requires

@@ -1,5 +1,5 @@
 -- `sift_block` meets its contract: a listed block's leaves are sifted by a run along its records, and a block inside a leaf is one itself.
-use Prim.Native.Nat.{ℕ, _≤_, _<_}
+use Prim.Native.Nat.{ℕ, _+_, _^_, _≤_, _<_}
 use mathlib.Core.Path.{_≡_, refl, sym, ap, _∙_}
 use mathlib.Core.List.{List}
 use native.Mathlib.Omega.{arith}
@@ -7,33 +7,40 @@ use lib.ListN.{length, getD}
 use borrow.Author.Needs.{needs}
 use Rattle.keys.proofs.Cases.{split}
 use Rattle.keys.proofs.Powers.{five-le}
+use Rattle.keys.proofs.Under.{Block}
+use Rattle.keys.proofs.Valid.{block-valid}
 use Rattle.definitions.specs.declared.Standing.the-variants.{Inside}
-use Rattle.list.specs.Sorted.{Ascends}
+use Rattle.list.specs.Own.{OwnList}
 use Rattle.list.proofs.Own.{own-sorted, own-ascends}
 use Rattle.window.proofs.Steps.{some-keys}
 use Rattle.window.proofs.Asked.{asked-key, asked-inside}
 use Rattle.window.proofs.Content.{listed-keys, leaf-key, leaf-nothing}
 use Rattle.sift.specs.declared.Sifting.{Sifting}
 use Rattle.sift.specs.Sift.{SiftReady, RunReady}
-use Rattle.sift.proofs.Merge.{passed-widen, sifted-none, sifted-as}
+use Rattle.sift.proofs.Settling.{passed-widen}
+use Rattle.sift.proofs.Leaves.{spot-end, record-within}
+use Rattle.sift.proofs.Merge.{sifted-none, sifted-as}
 use Rattle.sift.proofs.sift_block.Statement.{statement}
 use Rattle.sift.proofs.sift_block.Tie as tie
 
--- from the place of a key on the keys are at or past it
-run-ready : {limit : ℕ} {waived : List ℕ} {at : Sifting} {ids keys : List ℕ} {most key : ℕ} {recordKeys : List ℕ} {n : ℕ} (first end : ℕ)
-    → SiftReady limit waived at ids keys most key
-    → Ascends recordKeys n
+-- from the place of a block on the keys are at or past it, and the records that begin in it end in it
+run-ready : {m limit : ℕ} {waived : List ℕ} {at : Sifting} {ids keys : List ℕ} {most k r c key : ℕ} {recordKeys bits : List ℕ} {n : ℕ} (first end : ℕ)
+    → SiftReady m limit waived at ids keys most key
+    → OwnList m recordKeys bits n
+    → Block m k r c key
     → getD recordKeys first 0 ≡ key
-    → key ≤ end
-    → RunReady limit waived at ids keys most recordKeys n first end
-run-ready {key = key} {recordKeys} first end s asc e low =
+    → end ≡ key + 5 ^ k
+    → RunReady m limit waived at ids keys most recordKeys n first end
+run-ready {m} {k = k} {key = key} {recordKeys} {n = n} first end s o b e is =
+    let from : (i : ℕ) → first ≤ i → i < n → key ≤ getD recordKeys i 0 = λ i from before. split first i
+    (λ after. let h = own-ascends o .ascend first i after before in omega arith)
+    (λ at. let same : first ≡ i = omega arith in let f = ap (λ j. getD recordKeys j 0) same in omega arith) in
     record {
       x = key;
       ready = s;
-      beforeEnd = low;
-      beforeKeys = λ i from before. split first i
-          (λ after. let h = asc .ascend first i after before in omega arith)
-          (λ at. let same : first ≡ i = omega arith in let f = ap (λ j. getD recordKeys j 0) same in omega arith);
+      beforeEnd = omega arith;
+      beforeKeys = from;
+      whole = λ i at before below. let w = record-within o b i before (from i at before) (omega arith) in omega arith;
     }
 
 -- where the block was asked for, from where it is known how it stands
@@ -83,7 +90,10 @@ shared-slice-read-if1 : tie.Need-shared-slice-read-if1
 shared-slice-read-if1 c = leaf-place (c .before)
 
 sift-requires : tie.Need-sift-requires
-sift-requires c κs = search needs
+sift-requires c κs =
+    let leaf = c .before .before .before .before in
+    let pre = entry (asks-leaf leaf) .pre in
+    (pre .0, block-valid (pre .1 .block) .valid, search needs)
 
 same-length : tie.Need-same-length
 same-length c = search needs
@@ -96,17 +106,17 @@ returns-2 c =
     let sifted = c .before .before .before .before in
     let leaf = sifted .before .before .before .before .before in
     let pre = entry (asks-leaf leaf) .pre in
-    sifted-as _ _ _ _ _ _ _ _ _ _ _ _ _ (sifted .sift .ensures)
+    sifted-as _ _ _ _ _ _ _ _ _ _ _ _ _ _ (sifted .sift .ensures)
     (sym (leaf-key (pre .2) (pre .1) _ _ _ (asks-leaf leaf .stand-from .ensures) (stands-inside leaf) (sifted .before .before .before .if1 .taken)))
-    (omega arith)
+    (let e = spot-end (pre .1) in omega arith)
 
 returns-3 : tie.Need-returns-3
 returns-3 c =
     let leaf = c .before .before in
     let pre = entry (asks-leaf leaf) .pre in
-    sifted-none _ _ _ _ _ _ _ _
+    sifted-none _ _ _ _ _ _ _ _ _
     (leaf-nothing (pre .2) (pre .1) _ _ _ (asks-leaf leaf .stand-from .ensures) (stands-inside leaf) (c .if1 .left))
-    (passed-widen _ _ _ (pre .4 .passed) (omega arith))
+    (passed-widen _ (pre .5 .passed) (omega arith))
 
 add-sift-run : tie.Need-add-sift-run
 add-sift-run c =
@@ -120,11 +130,12 @@ sift-run-requires c κs =
     let listed = c .before .before in
     let pre = entry (asks-listed listed) .pre in
     let own = pre .2 in (
-      own-ascends own,
-      omega (arith, own .fits),
-      run-ready _ _ (pre .4) (own-ascends own)
+      pre .0,
+      own,
+      pre .4,
+      run-ready _ _ (pre .5) own (pre .1 .block)
           (asked-key own (pre .1 .block) _ _ (asks-listed listed .stand-from .ensures) (listed .before .standing .given .1))
-          (omega arith),
+          (ap (λ x. entry (asks-listed listed) .args .block .key + x) (pre .1 .step)),
     )
 
 same-length-3 : tie.Need-same-length-3
@@ -138,7 +149,7 @@ returns-4 c =
     let run = c .before .before .before .before in
     let listed = run .before .before .before in
     let pre = entry (asks-listed listed) .pre in
-    sifted-as _ _ _ _ _ _ _ _ _ _ _ _ _ (run .sift-run .ensures)
+    sifted-as _ _ _ _ _ _ _ _ _ _ _ _ _ _ (run .sift-run .ensures)
     (listed-keys (pre .2) (pre .1) _ _ _ (asks-listed listed .stand-from .ensures) _ refl (listed .before .standing .given .1))
     (omega arith)
 

@@ -14,8 +14,10 @@ use Rattle.definitions.specs.Window.{selectIn}
 use Rattle.definitions.specs.declared.Window.{Window}
 use Rattle.definitions.specs.Rules.{windowOf}
 use Rattle.definitions.specs.Edit.{contentOf}
+use Rattle.list.specs.Check.{oneSlot}
 use Rattle.list.specs.Own.{shownBy}
 use Rattle.list.specs.Sorted.{Near}
+use Rattle.list.proofs.OneSlot.{power-slot}
 use Rattle.list.proofs.Own.{own-ascends}
 use Rattle.window.specs.declared.walk.Spot.{Spot}
 use Rattle.window.specs.Walk.{Stands, Walking, isWithin, isApart}
@@ -29,13 +31,14 @@ use Rattle.window.proofs.Below.{lower-apart, lower-lacking, lower-block, below-
 use Rattle.window.proofs.Descent.{Descent, descent-begins, descent-enters}
 use Rattle.sift.specs.declared.Sifting.{Sifting}
 use Rattle.sift.specs.Sift.{SiftReady, Sifted}
-use Rattle.sift.proofs.Merge.{counted-ids, counted-keys, still-ready, passed-widen, sifted-none, sifted-append, sifted-as}
+use Rattle.sift.proofs.Settling.{passed-widen}
+use Rattle.sift.proofs.Merge.{counted-ids, counted-keys, still-ready, sifted-none, sifted-append, sifted-as}
 use Rattle.sift.proofs.sift_rule.Statement.{statement}
 use Rattle.sift.proofs.sift_rule.Tie as tie
 
 -- what select gives below x was sifted
 abbrev Below : ℕ → Picture → Window → ℕ → ℕ → ℕ → List ℕ → Sifting → Sifting → List ℕ → List ℕ → List ℕ → List ℕ → ℕ → Type 0
-Below m p w f limit id waived at st ids₀ ids keys₀ keys x = Sifted limit id waived (lower x (selectIn m p w f)) at st ids₀ ids keys₀ keys x
+Below m p w f limit id waived at st ids₀ ids keys₀ keys x = Sifted m limit id waived (lower x (selectIn m p w f)) at st ids₀ ids keys₀ keys x
 
 record Going (m : ℕ) (p : Picture) (w : Window) (f limit id : ℕ) (waived : List ℕ) (at st : Sifting) (ids₀ ids keys₀ keys records : List ℕ) (n from : ℕ) (s : Spot) : Type 0 where
   walking : Walking m w s
@@ -65,10 +68,10 @@ abbrev μ-loop : tie.MeasureT-loop
 
 module _ (m : ℕ) (p : Picture) (w : Window) (f limit id : ℕ) (waived : List ℕ) where
   -- nothing is sifted at the root
-  begins : {most : ℕ} (at : Sifting) (ids keys : List ℕ) (x : ℕ) → x ≡ 0 → SiftReady limit waived at ids keys most 0
+  begins : {most : ℕ} (at : Sifting) (ids keys : List ℕ) (x : ℕ) → x ≡ 0 → SiftReady m limit waived at ids keys most 0
       → Below m p w f limit id waived at at ids ids keys keys x
   begins at ids keys x e r =
-      sifted-none limit id waived _ at ids keys x (below-none m p w f x e) (passed-widen waived (at .passed) x (r .passed) (omega arith))
+      sifted-none m limit id waived _ at ids keys x (below-none m p w f x e) (passed-widen x (r .passed) (omega arith))
 
   module _ {at st : Sifting} {ids₀ ids keys₀ keys : List ℕ} where
     -- the same by the names in the code
@@ -80,28 +83,28 @@ module _ (m : ℕ) (p : Picture) (w : Window) (f limit id : ℕ) (waived : List 
     module _ {x : ℕ} (b : Below m p w f limit id waived at st ids₀ ids keys₀ keys x) where
       -- what adds nothing is passed
       passes : (y : ℕ) → lower x (selectIn m p w f) ≡ lower y (selectIn m p w f) → x ≤ y → Below m p w f limit id waived at st ids₀ ids keys₀ keys y
-      passes y e h = sifted-as limit id waived _ _ at st ids₀ ids keys₀ keys x y b e h
+      passes y e h = sifted-as m limit id waived _ _ at st ids₀ ids keys₀ keys x y b e h
 
       -- at the end all is sifted
-      ends : x ≡ 5 ^ m → Sifted limit id waived (selectIn m p w f) at st ids₀ ids keys₀ keys (5 ^ m)
-      ends e = sifted-as limit id waived _ _ at st ids₀ ids keys₀ keys x (5 ^ m) b (below-all m p w f x e) (omega arith)
+      ends : x ≡ 5 ^ m → Sifted m limit id waived (selectIn m p w f) at st ids₀ ids keys₀ keys (5 ^ m)
+      ends e = sifted-as m limit id waived _ _ at st ids₀ ids keys₀ keys x (5 ^ m) b (below-all m p w f x e) (omega arith)
 
       -- the next block can be sifted
-      ready : SiftReady limit waived at ids₀ keys₀ (2 ^ 59) 0 → m ≤ 10 → SiftReady limit waived st ids keys (2 ^ 60) x
-      ready r low = let few = below-few m p w f x low in still-ready limit id waived (b .counted) (2 ^ 60) x r (b .passed) (omega arith)
+      ready : SiftReady m limit waived at ids₀ keys₀ (2 ^ 59) 0 → m ≤ 10 → SiftReady m limit waived st ids keys (2 ^ 60) x
+      ready r low = let few = below-few m p w f x low in still-ready m limit id waived (b .counted) (2 ^ 60) x r (b .passed) (omega arith)
 
     -- past a block within the window, which is a largest block
     adds : {s : Spot} → Walking m w s → isWithin s w ≡ true → Below m p w f limit id waived at st ids₀ ids keys₀ keys (s .key)
         → (bit : ℕ) → bit ≡ 2 ^ f → (st₁ : Sifting) (ids₁ keys₁ : List ℕ)
-        → Sifted limit id waived (keysWith bit (contentOf m p (s .key))) st st₁ ids ids₁ keys keys₁ (s .key + s .step)
+        → Sifted m limit id waived (keysWith bit (contentOf m p (s .key))) st st₁ ids ids₁ keys keys₁ (s .key + s .step)
         → Below m p w f limit id waived at st₁ ids₀ ids₁ keys₀ keys₁ (s .key + s .step)
     adds {s} h e b bit is st₁ ids₁ keys₁ more =
         let before = lower (s .key) (selectIn m p w f) in
         let leaves = keysWith bit (contentOf m p (s .key)) in
         let same : before ++ leaves ≡ lower (s .key + s .step) (selectIn m p w f)
         = ap (λ x. before ++ keysWith x (contentOf m p (s .key))) is ∙ sym (lower-block m p w f h e) in
-        sifted-as limit id waived (before ++ leaves) _ at st₁ ids₀ ids₁ keys₀ keys₁ (s .key + s .step) (s .key + s .step)
-        (sifted-append limit id waived before leaves at st st₁ ids₀ ids ids₁ keys₀ keys keys₁ (s .key) (s .key + s .step) b more)
+        sifted-as m limit id waived (before ++ leaves) _ at st₁ ids₀ ids₁ keys₀ keys₁ (s .key + s .step) (s .key + s .step)
+        (sifted-append m limit id waived before leaves at st st₁ ids₀ ids ids₁ keys₀ keys keys₁ (s .key) (s .key + s .step) b more)
         same
         (omega arith)
 
@@ -199,7 +202,8 @@ sift-block-requires c κs =
     let asks = looked (c .before .before .before .before) in
     let at = head asks in
     let pre = entry at .pre in
-    (pre .0, stands-at at, pre .3, near-count (pre .3) _ _ (asks .up-to-from .ensures), ready _ _ _ _ _ _ _ (so-far at) (pre .4) (pre .0))
+    let slot = ap oneSlot (at .before .before .before .power-of-two .ensures) ∙ power-slot (entry at .args .rule .feature) in
+    (pre .0, stands-at at, pre .3, near-count (pre .3) _ _ (asks .up-to-from .ensures), slot, ready _ _ _ _ _ _ _ (so-far at) (pre .4) (pre .0))
 
 first-requires : tie.Need-first-requires Inv-loop2 μ-loop2 Inv-loop μ-loop
 first-requires c κs =
@@ -271,10 +275,10 @@ kept c =
     (c .if1 .came)
 
 same-length : tie.Need-same-length Inv-loop2 μ-loop2 Inv-loop μ-loop
-same-length c = counted-ids _ _ _ (passed (c .before .before .before) .counted)
+same-length c = counted-ids _ _ _ _ (passed (c .before .before .before) .counted)
 
 same-length-2 : tie.Need-same-length-2 Inv-loop2 μ-loop2 Inv-loop μ-loop
-same-length-2 c = counted-keys _ _ _ (passed (c .before .before .before) .counted)
+same-length-2 c = counted-keys _ _ _ _ (passed (c .before .before .before) .counted)
 
 returns : tie.Need-returns Inv-loop2 μ-loop2 Inv-loop μ-loop
 returns c = ends _ _ _ _ _ _ _ (passed (c .before .before .before)) (follows-gone _ _ _ (c .before .before .after .ensures) (c .enum-told .given .1))
