@@ -10,7 +10,7 @@ enum { M = 4, EDGE = 1 << M, PIXELS = EDGE * EDGE, RECORDS = HLQ_MOST_RECORDS(M)
 enum { BALLAST, DRAIN, SCRUB, PATH };
 
 /* A header of another interface, or a sheet too large for it, stops the compiler and not the crew. */
-_Static_assert(HLQ_INTERFACE == 2, "written for interface 2 of the library");
+_Static_assert(HLQ_INTERFACE == 3, "written for interface 3 of the library");
 _Static_assert(M <= HLQ_DEEPEST_M && CLASSES <= HLQ_MOST_SLOTS, "the sheet is within the library's limits");
 
 static const char signs[CLASSES + 1] = ".~#=";

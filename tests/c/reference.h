@@ -37,6 +37,11 @@ hlq_counted ref_select(uint32_t m, uint32_t s,
                        const uint32_t *keys, size_t keys_len, const uint32_t *bits, size_t bits_len,
                        size_t n, uint32_t row, uint32_t column, uint32_t height, uint32_t width,
                        uint32_t feature, uint32_t *answer, size_t answer_len);
+hlq_done ref_fill_summary(uint32_t m, uint32_t s, const uint32_t *keys, size_t keys_len, const uint32_t *bits,
+                          size_t bits_len, size_t n, uint32_t *summary, size_t summary_len);
+hlq_measured ref_area(uint32_t m, uint32_t s, const uint32_t *keys, size_t keys_len, const uint32_t *bits,
+                      size_t bits_len, size_t n, const uint32_t *summary, size_t summary_len, uint32_t row,
+                      uint32_t column, uint32_t height, uint32_t width, uint32_t feature);
 hlq_edited ref_paint(uint32_t m, uint32_t s,
                      uint32_t *keys, size_t keys_len, uint32_t *bits, size_t bits_len, size_t n,
                      uint32_t *log_keys, size_t log_keys_len,

@@ -46,6 +46,15 @@ hlq_counted hlq_select(uint32_t m, uint32_t s, TAKE_CONST_LIST, size_t n, TAKE_W
     return ref_select(m, s, LIST, n, WINDOW, feature, answer, answer_len);
 }
 
+hlq_done hlq_fill_summary(uint32_t m, uint32_t s, TAKE_CONST_LIST, size_t n, uint32_t *summary, size_t summary_len) {
+    return ref_fill_summary(m, s, LIST, n, summary, summary_len);
+}
+
+hlq_measured hlq_area(uint32_t m, uint32_t s, TAKE_CONST_LIST, size_t n, const uint32_t *summary, size_t summary_len,
+                      TAKE_WINDOW, uint32_t feature) {
+    return ref_area(m, s, LIST, n, summary, summary_len, WINDOW, feature);
+}
+
 hlq_edited hlq_paint(uint32_t m, uint32_t s, TAKE_LIST, size_t n, TAKE_LOG, size_t used,
                      uint32_t key, uint32_t feature) {
     return ref_paint(m, s, LIST, n, LOG, used, key, feature);

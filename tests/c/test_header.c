@@ -7,7 +7,7 @@
 #include <stdlib.h>
 #include <string.h>
 
-static_assert(HLQ_INTERFACE == 2, "the interface's number");
+static_assert(HLQ_INTERFACE == 3, "the interface's number");
 static_assert(HLQ_DEEPEST_M == 10 && HLQ_MOST_SLOTS == 16, "the limits of document 01");
 static_assert(HLQ_LISTED == 1 && HLQ_INSIDE == 2, "the kinds");
 static_assert(HLQ_ACCEPTED == 0 && HLQ_SETTINGS == 1 && HLQ_RASTER_LENGTH == 2 && HLQ_PIXEL == 3 && HLQ_LIST == 4 &&
@@ -33,7 +33,7 @@ static_assert(sizeof(hlq_done) == 8 && sizeof(hlq_counted) == 16 && sizeof(hlq_s
 enum { MOST = HLQ_MOST_RECORDS(HLQ_DEEPEST_M) };
 
 static uint8_t raster[1 << 2 * HLQ_DEEPEST_M], file[HLQ_FILE_BYTES(MOST)];
-static uint32_t keys[MOST], bits[MOST];
+static uint32_t keys[MOST], bits[MOST], summary[HLQ_SUMMARY_PLACES(HLQ_DEEPEST_M, HLQ_MOST_SLOTS)];
 
 static void must(int ok, const char *what) {
     if (!ok) {
@@ -55,6 +55,11 @@ static void macros_meet_calls(uint32_t m) {
     stored = hlq_store(m, 2, keys, most, bits, most, most, file, HLQ_FILE_BYTES(most));
     must(stored.refusal == HLQ_ACCEPTED && stored.count == HLQ_FILE_BYTES(most), "HLQ_FILE_BYTES holds the file");
     must(hlq_standing(m, 2, keys, most, bits, most, most, 0).kind == HLQ_LISTED, "the root is listed");
+    size_t places = HLQ_SUMMARY_PLACES(m, 2);
+    must(hlq_fill_summary(m, 2, keys, most, bits, most, most, summary, places).refusal == HLQ_ACCEPTED,
+         "HLQ_SUMMARY_PLACES is the summary's length");
+    must(hlq_fill_summary(m, 2, keys, most, bits, most, most, summary, places + 1).refusal == HLQ_SUMMARY,
+         "a summary's length is exact");
 }
 
 static void limits(void) {
@@ -68,9 +73,9 @@ static void limits(void) {
 }
 
 static void words(void) {
-    const char *unknown = hlq_refusal_text(HLQ_FILE_VERSION + 1);
+    const char *unknown = hlq_refusal_text(HLQ_SUMMARY + 1);
     must(strcmp(unknown, hlq_refusal_text(UINT64_MAX)) == 0, "one text for every unknown number");
-    for (uint64_t a = 0; a <= HLQ_FILE_VERSION; a++) {
+    for (uint64_t a = 0; a <= HLQ_SUMMARY; a++) {
         must(strlen(hlq_refusal_text(a)) > 0 && strcmp(hlq_refusal_text(a), unknown) != 0, "a text for each refusal");
         for (uint64_t b = 0; b < a; b++)
             must(strcmp(hlq_refusal_text(a), hlq_refusal_text(b)) != 0, "a text of its own");
