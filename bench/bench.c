@@ -123,6 +123,34 @@ static void windows(const char *kind, size_t n, uint32_t missing) {
             sink += plain_scan(M, raster, 301, 277, 512, 512));
 }
 
+static uint32_t summary[HLQ_SUMMARY_PLACES(M, S)], other_summary[HLQ_SUMMARY_PLACES(M, S)];
+
+/* Areas of windows of side 8, 128 and 1024 (in a corner where the side allows no other). */
+static void areas(const char *kind, size_t n) {
+    size_t places = HLQ_SUMMARY_PLACES(M, S);
+    int times = times_for(n);
+    printf("\nareas at m = %d on the %s raster, n = %zu, each call with its checks of list and summary\n", M, kind, n);
+    COMPARE("fill summary", 9, times,
+            sink += hlq_fill_summary(M, S, keys, MOST, bits, MOST, n, summary, places).refusal, {
+                sink += (uint64_t)plain_is_list(M, S, keys, bits, n);
+                plain_fill_summary(M, S, keys, bits, n, other_summary);
+            });
+    if (memcmp(summary, other_summary, sizeof summary) != 0) printf("THE TWO DIFFER\n");
+    for (uint32_t w = 8; w <= EDGE; w *= w == 8 ? 16 : 8) {
+        uint32_t row = w == EDGE ? 0 : 301, column = w == EDGE ? 0 : 277;
+        uint64_t a = 0, b = 0;
+        char name[48];
+        snprintf(name, sizeof name, "area, window of side %u", w);
+        COMPARE(name, 9, times,
+                a = hlq_area(M, S, keys, MOST, bits, MOST, n, summary, places, row, column, w, w, 3).pixels, {
+                    sink += (uint64_t)plain_is_list(M, S, keys, bits, n);
+                    sink += (uint64_t)plain_is_summary(M, S, keys, bits, n, summary);
+                    b = plain_area(M, S, keys, bits, n, summary, row, column, w, w, 3);
+                });
+        if (a != b) printf("THE TWO DIFFER\n");
+    }
+}
+
 static void edits(size_t n) {
     size_t used = 0, plain_used = 0, plain_n = n;
     uint32_t key =
@@ -218,10 +246,12 @@ int main(void) {
     fill(0);
     size_t n = hlq_build(M, S, raster, PIXELS, keys, MOST, bits, MOST).count;
     windows(kinds[0], n, S - 1);
+    areas(kinds[0], n);
     findings(n);
     fill(1);
     n = hlq_build(M, S, raster, PIXELS, keys, MOST, bits, MOST).count;
     windows(kinds[1], n, S - 1);
+    areas(kinds[1], n);
     edits(n);
     findings(n);
     files(n);

@@ -21,6 +21,13 @@ size_t plain_select(uint32_t m, const uint32_t *keys, const uint32_t *bits, size
                     uint32_t height, uint32_t width, uint32_t feature, uint32_t *answer, size_t room, size_t *visited);
 /* How many largest blocks a window has. */
 size_t plain_blocks(uint32_t m, uint32_t row, uint32_t column, uint32_t height, uint32_t width);
+/* The summary filled and compared, and the area that takes whole blocks from it. */
+void plain_fill_summary(uint32_t m, uint32_t s, const uint32_t *keys, const uint32_t *bits, size_t n, uint32_t *summary);
+int plain_is_summary(uint32_t m, uint32_t s, const uint32_t *keys, const uint32_t *bits, size_t n,
+                     const uint32_t *summary);
+uint32_t plain_area(uint32_t m, uint32_t s, const uint32_t *keys, const uint32_t *bits, size_t n,
+                    const uint32_t *summary, uint32_t row, uint32_t column, uint32_t height, uint32_t width,
+                    uint32_t feature);
 /* Paint and take back with one memmove of each slice; they give the new n, and the used count through the pointer. */
 size_t plain_paint(uint32_t m, uint32_t s, uint32_t *keys, uint32_t *bits, size_t n, uint32_t *log_keys,
                    uint32_t *log_values, size_t *used, uint32_t key, uint32_t feature);
