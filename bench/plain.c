@@ -321,7 +321,8 @@ size_t plain_blocks(uint32_t m, uint32_t row, uint32_t column, uint32_t height, 
     return blocks_below(&w, (spot) { 0, 0, 0, 1u << m, power(5, m) });
 }
 
-/* ---- areas: a leaf counts the pixels that it shares with the window, a node inside takes its numbers from the summary */
+/* ---- areas: a leaf counts the pixels that it shares with the window, a node inside takes its numbers from the summary
+ */
 
 static uint32_t summary_level(uint32_t m) { return m < 2 ? m : 2; }
 
@@ -343,7 +344,8 @@ static uint32_t summary_key(uint32_t m, uint32_t block) {
     return key;
 }
 
-void plain_fill_summary(uint32_t m, uint32_t s, const uint32_t *keys, const uint32_t *bits, size_t n, uint32_t *summary) {
+void plain_fill_summary(uint32_t m, uint32_t s, const uint32_t *keys, const uint32_t *bits, size_t n,
+                        uint32_t *summary) {
     uint32_t level = summary_level(m), pixels = 1u << 2 * (m - level);
     for (uint32_t block = 0; block < 1u << 2 * level; block++) {
         uint32_t counts[32] = { 0 };
@@ -413,7 +415,7 @@ uint32_t plain_area(uint32_t m, uint32_t s, const uint32_t *keys, const uint32_t
                     uint32_t feature) {
     frame w = { row, column, height, width };
     measuring q = { keys, bits, summary, n, w, 1u << feature, feature, s, 1u << (m - summary_level(m)) };
-    return area_below(&q, (spot){ 0, 0, 0, 1u << m, power(5, m) }, 0, 0);
+    return area_below(&q, (spot) { 0, 0, 0, 1u << m, power(5, m) }, 0, 0);
 }
 
 uint32_t plain_scan(uint32_t m, const uint8_t *raster, uint32_t row, uint32_t column, uint32_t height, uint32_t width) {

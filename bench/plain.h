@@ -22,7 +22,8 @@ size_t plain_select(uint32_t m, const uint32_t *keys, const uint32_t *bits, size
 /* How many largest blocks a window has. */
 size_t plain_blocks(uint32_t m, uint32_t row, uint32_t column, uint32_t height, uint32_t width);
 /* The summary filled and compared, and the area that takes whole blocks from it. */
-void plain_fill_summary(uint32_t m, uint32_t s, const uint32_t *keys, const uint32_t *bits, size_t n, uint32_t *summary);
+void plain_fill_summary(uint32_t m, uint32_t s, const uint32_t *keys, const uint32_t *bits, size_t n,
+                        uint32_t *summary);
 int plain_is_summary(uint32_t m, uint32_t s, const uint32_t *keys, const uint32_t *bits, size_t n,
                      const uint32_t *summary);
 uint32_t plain_area(uint32_t m, uint32_t s, const uint32_t *keys, const uint32_t *bits, size_t n,
