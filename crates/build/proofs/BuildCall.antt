@@ -4,6 +4,7 @@ use Prim.Native.Nat.{ℕ, _*_, _^_, _≤_}
 use mathlib.Core.Path.{_≡_, refl, sym, _∙_, ap}
 use mathlib.Core.List.{List, _∷_, map}
 use native.Mathlib.Omega.{arith}
+use native.Mathlib.Nat.{zero-add}
 use lib.ListN.{length, set, length-map}
 use lib.Seq.{sets}
 use borrow.Author.Tests.{eqb-true, not-false}
@@ -65,7 +66,7 @@ whole-fits m s side raster keys bits p e h j = record {
   bits-room = λ t. omega arith;
 }
 
--- what the slices hold in the end
+-- what the slices hold in the end, and the count
 module _ (m side : ℕ) (raster keys bits keys₁ bits₁ : List ℕ) (b n : ℕ) (e : side ≡ 2 ^ m) (w : Written (pictureOfRows side raster) m 0 0 0 0 keys bits keys₁ bits₁ b n) where
   pub whole-keys : length (listOf (pictureOfRows side raster) m 0 0 0) ≤ length keys → set keys₁ 0 0 ≡ over (keysOf (listOfRaster m raster)) keys
   whole-keys h =
@@ -76,3 +77,7 @@ module _ (m side : ℕ) (raster keys bits keys₁ bits₁ : List ℕ) (b n : ℕ
   whole-bits h =
       root-run (λ x. x .value) (pictureOfRows side raster) m b bits bits₁ h (w .union-is) (w .bits-are)
       ∙ ap (λ l. over (valuesOf l) bits) (rows-list m side raster e)
+
+  -- the place after the last record is the number of records, since the first has place 0
+  pub whole-count : n ≡ length (listOfRaster m raster)
+  whole-count = w .next-is ∙ zero-add (length (listOf (pictureOfRows side raster) m 0 0 0)) ∙ ap length (rows-list m side raster e)

@@ -1,9 +1,9 @@
 -- A block of a raster: its quadrants lie in the raster too, and the place of a pixel is a place of the raster. Rests on nothing.
-use Prim.Native.Nat.{ℕ, suc, _+_, _-_, _*_, _^_, _≤_, _<_}
-use mathlib.Core.Path.{_≡_, ap, _∙_, sym}
+use Prim.Native.Nat.{ℕ, zero, suc, _+_, _-_, _*_, _^_, _≤_, _<_}
+use mathlib.Core.Path.{_≡_, refl, ap, _∙_, sym}
 use mathlib.Core.List.{List}
 use native.Mathlib.Omega.{arith}
-use native.Mathlib.Nat.{pow-suc}
+use native.Mathlib.Nat.{pow-suc, mul-mul-mul-comm}
 use lib.Arith.{digits-lt}
 use lib.ListN.{length}
 use Rattle.build.specs.BuildBlocks.{Inside}
@@ -52,10 +52,20 @@ inside-pixel b r′ c′ below right = record {
   features = b .features;
 }
 
--- below 2 and not 0
-pub height-one : {h : ℕ} → h < 2 → (h ≡ 0 → ⊥) → h ≡ 1
-height-one l n = omega arith
+-- below 4 and none of 3, 2 and 1
+pub no-other : {h : ℕ} → h < 4 → (h ≡ 3 → ⊥) → (h ≡ 2 → ⊥) → (h ≡ 1 → ⊥) → h ≡ 0
+no-other l three two one = omega arith
 
 -- the same block, its height known
 pub inside-at : {raster : List ℕ} {side h h′ r c : ℕ} → h ≡ h′ → Inside raster side h r c → Inside raster side h′ r c
 inside-at e b = rw e at b
+
+-- a square of side 2 ^ k has 4 ^ k pixels
+pub square-pixels : (k : ℕ) → 2 ^ k * 2 ^ k ≡ 4 ^ k
+square-pixels zero = refl
+square-pixels (suc k) =
+    ap (λ x. x * x) (pow-suc 2 k) ∙ mul-mul-mul-comm (2 ^ k) 2 (2 ^ k) 2 ∙ ap (λ x. x * 4) (square-pixels k) ∙ sym (pow-suc 4 k)
+
+-- so a raster of that side has
+pub raster-pixels : {raster : List ℕ} {side h r c : ℕ} → Inside raster side h r c → side ≡ 2 ^ h → length raster ≡ 4 ^ h
+raster-pixels {h = h} b e = b .square ∙ ap (λ x. x * x) e ∙ square-pixels h

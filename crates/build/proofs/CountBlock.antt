@@ -1,6 +1,6 @@
--- Counting a block's records: the count of four quadrants gives the block's, it does not depend on the key, and it is at most 5 ^ height.
--- Rests on the list's OneSlot and on the equations of bits and lists.
-use Prim.Native.Nat.{ℕ, zero, suc, _+_, _^_, _≤_}
+-- Counting a block's records: the count of four quadrants gives the block's, it does not depend on the key, it is at most 5 ^ height, and three
+-- times it is less than four times the block's pixels. Rests on the list's OneSlot and on the equations of bits and lists.
+use Prim.Native.Nat.{ℕ, zero, suc, _+_, _*_, _^_, _≤_, _<_}
 use mathlib.Core.Path.{_≡_, refl, sym, _∙_, ap}
 use mathlib.Core.Bool.{true, false, cond}
 use native.Mathlib.Omega.{arith}
@@ -13,8 +13,8 @@ use Rattle.definitions.specs.Picture.{Picture, oneFeature}
 use Rattle.definitions.specs.Bits.{unionOfFour, bitsOf}
 use Rattle.definitions.specs.List.{listOf}
 use Rattle.definitions.proofs.Slots.{same-four}
-use Rattle.definitions.proofs.BitsOf.{bits-zero, bits-suc}
-use Rattle.definitions.proofs.ListOf.{list-zero, list-leaf, length-node}
+use Rattle.definitions.proofs.BitsOf.{bits-zero, bits-suc, bits-one}
+use Rattle.definitions.proofs.ListOf.{list-zero, list-leaf, list-one, length-node, list-most}
 use Rattle.list.specs.Check.{oneSlot}
 use Rattle.build.specs.BuildBlocks.{Tallied, Joined}
 use Rattle.list.proofs.OneSlot.{slot-feature}
@@ -59,6 +59,13 @@ joined-apart union under e = record { bits-are = refl; count-is = rw e }
 -- a pixel has one record
 pub tallied-pixel : (p : Picture) (r c b : ℕ) → b ≡ 2 ^ p r c → Tallied p 0 r c b 1
 tallied-pixel p r c b e = record { bits-are = e ∙ sym (bits-zero p r c); count-is = sym (ap length (list-zero p r c 0)) }
+
+-- so has a block of one feature, with the bits of its first pixel
+pub tallied-one : {p : Picture} {r c b n : ℕ} (k : ℕ) → oneFeature p k r c ≡ true → Tallied p 0 r c b n → Tallied p k r c b n
+tallied-one {p} {r} {c} k one t = record {
+  bits-are = t .bits-are ∙ bits-zero p r c ∙ sym (bits-one p k r c one);
+  count-is = t .count-is ∙ ap length (list-zero p r c 0) ∙ sym (ap length (list-one p k r c 0 one));
+}
 
 -- the bits of four quadrants that begin half a side apart
 pub four-bits : (p : Picture) (k half r c : ℕ) {b₁ b₂ b₃ b₄ : ℕ} → half ≡ 2 ^ k
@@ -110,3 +117,7 @@ module _ (p : Picture) (k half r c : ℕ) (e : half ≡ 2 ^ k) {b₁ b₂ b₃ b
 -- the count of a quadrant is small
 pub tallied-small : {p : Picture} {k r c b n : ℕ} → Tallied p k r c b n → k ≤ 9 → n ≤ 5 ^ 9
 tallied-small {p} {k} {r} {c} t h = let a = list-five p k r c 0 in let u = five-le 9 h in omega (arith, t .count-is)
+
+-- a list has at most as many records as its pixels allow
+pub most-records : (p : Picture) (k r c κ pixels : ℕ) → pixels ≡ 4 ^ k → 3 * length (listOf p k r c κ) < 4 * pixels
+most-records p k r c κ pixels e = let n = list-most p k r c κ in let g = pow-suc 4 k in omega arith

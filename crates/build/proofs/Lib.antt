@@ -6,3 +6,4 @@ pub mod WrittenBlock
 pub mod FittingBlock
 pub mod BuildRefusal
 pub mod BuildCall
+pub mod Alike

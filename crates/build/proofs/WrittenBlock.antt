@@ -13,9 +13,9 @@ use Rattle.keys.proofs.Under.{here, nw, ne, sw, se}
 use Rattle.definitions.specs.Picture.{Picture, oneFeature}
 use Rattle.definitions.specs.Bits.{bitsOf}
 use Rattle.definitions.specs.List.{Record, recordOf, listOf}
-use Rattle.definitions.proofs.Features.{one-under}
-use Rattle.definitions.proofs.BitsOf.{bits-zero}
-use Rattle.definitions.proofs.ListOf.{list-zero, list-leaf, list-node, list-one, list-first, length-node}
+use Rattle.definitions.proofs.Features.{one-under, one-pixel}
+use Rattle.definitions.proofs.BitsOf.{bits-one}
+use Rattle.definitions.proofs.ListOf.{list-leaf, list-node, list-one, list-first, length-node}
 use Rattle.definitions.proofs.FourLists.{same-lists}
 use Rattle.list.specs.Check.{oneSlot}
 use Rattle.build.specs.BuildBlocks.{below, fourSet, FourWritten, Written}
@@ -93,14 +93,19 @@ module _ (f : Record → ℕ) where
       (e₄ ∙ ap (λ n. i₃ + n) (length-run p k (r + 2 ^ k) c (childKey κ k 3)))
       ∙ ap (sets l i₁) (sym (map-node p k r c κ several))
 
--- a pixel has nothing below it
-pub written-pixel : (p : Picture) (r c κ place b n : ℕ) (keys bits : List ℕ) → b ≡ 2 ^ p r c → n ≡ place + 1 → Written p 0 r c κ place keys bits keys bits b n
-written-pixel p r c κ place b n keys bits e h = record {
-  union-is = e ∙ sym (bits-zero p r c);
-  next-is = h ∙ sym (ap (λ l. place + length l) (list-zero p r c κ));
-  keys-are = sym (ap (λ l. sets keys (place + 1) (map (λ x. x .key) (drop 1 l))) (list-zero p r c κ));
-  bits-are = sym (ap (λ l. sets bits (place + 1) (map (λ x. x .value) (drop 1 l))) (list-zero p r c κ));
+-- a block of one feature has nothing below it: it is written by the bits of its first pixel
+pub written-one : (p : Picture) (k r c κ place b n : ℕ) (keys bits : List ℕ) → oneFeature p k r c ≡ true → b ≡ 2 ^ p r c → n ≡ place + 1
+    → Written p k r c κ place keys bits keys bits b n
+written-one p k r c κ place b n keys bits one e h = record {
+  union-is = e ∙ sym (bits-one p k r c one);
+  next-is = h ∙ sym (ap (λ l. place + length l) (list-one p k r c κ one));
+  keys-are = sym (ap (λ l. sets keys (place + 1) (map (λ x. x .key) (drop 1 l))) (list-one p k r c κ one));
+  bits-are = sym (ap (λ l. sets bits (place + 1) (map (λ x. x .value) (drop 1 l))) (list-one p k r c κ one));
 }
+
+-- so is a pixel
+pub written-pixel : (p : Picture) (r c κ place b n : ℕ) (keys bits : List ℕ) → b ≡ 2 ^ p r c → n ≡ place + 1 → Written p 0 r c κ place keys bits keys bits b n
+written-pixel p r c κ place b n keys bits e h = written-one p 0 r c κ place b n keys bits (one-pixel p r c) e h
 
 -- where a block of one feature was written nothing changed
 module _ {p : Picture} {k r c κ place : ℕ} {keys bits keys′ bits′ : List ℕ} {b n : ℕ} (w : Written p k r c κ place keys bits keys′ bits′ b n) (one : oneFeature p k r c ≡ true) where

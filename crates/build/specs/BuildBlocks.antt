@@ -1,4 +1,4 @@
--- What the counting and the writing of one block ask and answer, for the contracts of src/build.rt alone. A raster is read here by the length
+-- What the counting and the writing of one block ask and answer, for the contracts of src/ alone. A raster is read here by the length
 -- of its rows, which the code carries; at 2 ^ m that is the picture of document 01's raster.
 use Prim.Native.Nat.{ℕ, _+_, _*_, _^_, _≤_, _<_}
 use mathlib.Core.Path.{_≡_}
@@ -14,6 +14,10 @@ use Rattle.definitions.specs.List.{Record, listOf, keysOf, valuesOf}
 -- the feature at a row and a column of rows of the given length
 abbrev pub pictureOfRows : ℕ → List ℕ → Picture
 pictureOfRows side raster row column = getD raster (row * side + column) 0
+
+-- four pixels from a place on, as the digits of one number
+abbrev pub wordAt : List ℕ → ℕ → ℕ
+wordAt raster i = getD raster i 0 + 256 * getD raster (i + 1) 0 + 65536 * getD raster (i + 2) 0 + 16777216 * getD raster (i + 3) 0
 
 -- the block lies in a square raster whose features are those of 16 slots
 pub record Inside (raster : List ℕ) (side height row column : ℕ) : Type 0 where

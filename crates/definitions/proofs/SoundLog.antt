@@ -16,7 +16,7 @@ use Rattle.keys.proofs.Cases.{split, and-left, and-right, and-both, same-test}
 use Rattle.definitions.specs.Picture.{Picture}
 use Rattle.definitions.specs.List.{Record, listOf}
 use Rattle.definitions.specs.Read.{pictureOf, sameRecords, isListOfBlock}
-use Rattle.definitions.specs.Log.{closed, lastKey, lastCount, beforeLast, lastContent, isContent, lastIsEntry, dividesIn, isSound}
+use Rattle.definitions.specs.Log.{closed, closingPlaces, lastKey, lastCount, beforeLast, lastContent, isContent, lastIsEntry, dividesIn, isSound}
 use Rattle.definitions.proofs.LastEntry.{length-with-entry, last-key, last-count, before-last, last-content, log-with-entry}
 
 -- the records are entries, one after the other
@@ -43,7 +43,7 @@ content-not-empty m s κ = not-same (listOf (pictureOf m []) (heightOf m κ) (ro
 
 -- the log ends in an entry
 pub record EndsInEntry (m s : ℕ) (log : List Record) : Type 0 where
-  pub all-there : lastCount log + 1 ≤ length log
+  pub all-there : lastCount log + closingPlaces ≤ length log
   pub valid : validKey m (lastKey log) ≡ true
   pub correct : isContent m s (lastKey log) (lastContent log) ≡ true
 
@@ -51,10 +51,10 @@ pub record EndsInEntry (m s : ℕ) (log : List Record) : Type 0 where
 pub ends-in-entry : (m s : ℕ) (log : List Record) → lastIsEntry m s log ≡ true → EndsInEntry m s log
 unfolding lastIsEntry
 ends-in-entry m s log e =
-    let there : Bool = leb (lastCount log + 1) (length log) in
+    let there : Bool = leb (lastCount log + closingPlaces) (length log) in
     let both = and-left (there && validKey m (lastKey log)) (isContent m s (lastKey log) (lastContent log)) e in
     record {
-      all-there = leb-true (lastCount log + 1) (length log) (and-left there (validKey m (lastKey log)) both);
+      all-there = leb-true (lastCount log + closingPlaces) (length log) (and-left there (validKey m (lastKey log)) both);
       valid = and-right there (validKey m (lastKey log)) both;
       correct = and-right (there && validKey m (lastKey log)) (isContent m s (lastKey log) (lastContent log)) e;
     }
@@ -63,9 +63,9 @@ ends-in-entry m s log e =
 pub entry-ends : (m s : ℕ) (log : List Record) → EndsInEntry m s log → lastIsEntry m s log ≡ true
 unfolding lastIsEntry
 entry-ends m s log h =
-    let there : Bool = leb (lastCount log + 1) (length log) in
+    let there : Bool = leb (lastCount log + closingPlaces) (length log) in
     and-both (there && validKey m (lastKey log)) (isContent m s (lastKey log) (lastContent log))
-    (and-both there (validKey m (lastKey log)) (le-leb (lastCount log + 1) (length log) (h .all-there)) (h .valid)) (h .correct)
+    (and-both there (validKey m (lastKey log)) (le-leb (lastCount log + closingPlaces) (length log) (h .all-there)) (h .valid)) (h .correct)
 
 -- a log with an entry put behind it ends in it
 pub with-entry-ends : (m s : ℕ) (log content : List Record) (κ : ℕ) → validKey m κ ≡ true → isContent m s κ content ≡ true → EndsInEntry m s (log ++ closed κ content)

@@ -1,7 +1,7 @@
 -- The answers of paint: a refusal gives its number alone and leaves what was lent, and an accepted paint gives what was logged and put. Rests on the
 -- laws of tables.
 use Prim.Native.Nat.{ℕ, _+_}
-use mathlib.Core.Path.{_≡_, sym, _∙_}
+use mathlib.Core.Path.{_≡_, sym, _∙_, subst}
 use mathlib.Core.List.{List}
 use lib.ListN.{length}
 use Rattle.definitions.specs.List.{Record, keysOf, valuesOf}
@@ -10,9 +10,10 @@ use Rattle.definitions.specs.Buffer.{overAt, replaced}
 use Rattle.definitions.specs.Refusal.{accepted}
 use Rattle.definitions.specs.Calls.Paint.{painted, gained, paintRefusal, paint, paintKeys, paintBits, paintLogKeys, paintLogValues}
 use Rattle.definitions.proofs.First.{accepted-left}
-use Rattle.edit.specs.EntryLogged.{Logged}
+use Rattle.log.specs.declared.entry.Entry.{Entry}
+use Rattle.log.specs.Entries.{Logged}
 use Rattle.put.specs.Putting.{Replaced}
-use Rattle.edit.specs.PaintCall.{Painted}
+use Rattle.edit.specs.PaintCall.{newEntry, Painted}
 
 module _ (m s : ℕ) (keys bits : List ℕ) (n : ℕ) (logKeys logValues : List ℕ) (used κ f : ℕ) where
   -- the list that a paint makes
@@ -56,12 +57,15 @@ module _ (m s : ℕ) (keys bits : List ℕ) (n : ℕ) (logKeys logValues : List 
       }
 
   -- an accepted paint
-  pub paint-done : {keys′ bits′ logKeys′ logValues′ : List ℕ} {after logged : ℕ} → paintRefusal m s keys bits n logKeys logValues used κ f ≡ 0
-      → Logged entry used logKeys logValues logKeys′ logValues′ logged
+  pub paint-done : {keys′ bits′ logKeys′ logValues′ : List ℕ} {after logged : ℕ} (entered : Entry) → paintRefusal m s keys bits n logKeys logValues used κ f ≡ 0
+      → entered ≡ newEntry m (recordsOf keys bits n) used κ
+      → Logged (gained m (recordsOf keys bits n) (entered .key)) (entered .start) logKeys logValues logKeys′ logValues′ logged
       → Replaced n new keys bits keys′ bits′ after
       → Painted m s keys bits n logKeys logValues used κ f (record { refusal = 0; n = after; used = logged }) keys′ bits′ logKeys′ logValues′
-  paint-done none log put =
+  paint-done {logKeys′ = logKeys′} {logValues′ = logValues′} {logged = logged} entered none is entry-logged put =
       let told = by-number 0 none in
+      let log : Logged entry used logKeys logValues logKeys′ logValues′ logged =
+      subst (λ x. Logged (gained m (recordsOf keys bits n) (x .key)) (x .start) logKeys logValues logKeys′ logValues′ logged) is entry-logged in
       record {
         answer = (λ i. record { refusal = 0; n = put .length-is i; used = log .used-are i }) ∙ told .answer;
         keys-are = put .keys-are ∙ told .keys-are;

@@ -1,53 +1,56 @@
--- What the plan and the entry of a paint measure: numbers that do not wrap, and the lengths that decide refusals 9 and 10. Rests on PlanCalls and
--- EntryPart.
-use Prim.Native.Nat.{ℕ, _+_, _-_, _*_, _^_, _≤_}
-use mathlib.Core.Path.{_≡_, refl, _∙_, ap}
+-- The plan of a paint: a content of one record is put into the block. Rests on Planned.
+use Prim.Native.Nat.{ℕ, _^_}
+use mathlib.Core.Path.{_≡_, refl, sym, _∙_, ap}
 use mathlib.Core.Bool.{true}
 use mathlib.Core.List.{List, [], _∷_}
-use native.Mathlib.Omega.{arith}
-use lib.ListN.{length}
-use Rattle.keys.specs.Key.{validKey, heightOf}
-use Rattle.definitions.specs.List.{recordOf}
-use Rattle.definitions.specs.Read.{recordsOf}
-use Rattle.definitions.specs.Calls.Paint.{painted, gained}
-use Rattle.list.specs.Own.{OwnList}
-use Rattle.put.specs.Put.{planAt}
-use Rattle.put.specs.PlanFields.{planIn, topFor}
-use Rattle.edit.specs.PaintCall.{Paintable}
-use Rattle.put.specs.declared.plan.Plan as code
-use Rattle.put.proofs.Ready.{Ready}
-use Rattle.edit.proofs.Calls.{gained-length}
-use Rattle.put.proofs.PlanTop.{records-length}
-use Rattle.put.proofs.PlanPlaces.{part-until}
-use Rattle.edit.proofs.PlanCalls.{paint-ready, paint-after}
-use Rattle.edit.proofs.EntryPart.{below-first}
+use Rattle.keys.specs.Key.{heightOf}
+use Rattle.keys.specs.Block.{rowOf, columnOf}
+use Rattle.definitions.specs.List.{Record, recordOf}
+use Rattle.definitions.specs.Read.{paired, recordsOf}
+use Rattle.definitions.specs.Standing.{partLength}
+use Rattle.definitions.specs.Edit.{paintIn, contentOf}
+use Rattle.definitions.specs.Calls.Paint.{painted}
+use Rattle.definitions.proofs.Features.{one-from}
+use Rattle.definitions.proofs.ListOf.{list-one}
+use Rattle.log.specs.declared.entry.Entry.{Entry}
+use Rattle.put.specs.Put.{topFor, planAt, planOf}
+use Rattle.put.specs.declared.plan.Plan.{Plan}
+use Rattle.put.proofs.PlanTop.{plan-for}
+use Rattle.edit.specs.PaintCall.{Paintable, newEntry, paintPlan}
+use Rattle.edit.proofs.Planned.{Planned}
 
--- an entry has at most as many records as the list, and the closing one
-pub gained-most : {m n : ℕ} {keys bits : List ℕ} → OwnList m keys bits n → (κ : ℕ) → validKey m κ ≡ true → length (gained m (recordsOf keys bits n) κ) ≤ n + 1
-gained-most {m} {n} {keys} {bits} own κ valid =
-    let e = gained-length m κ (recordsOf keys bits n) valid (own .own) in
-    let part = part-until own κ (5 ^ heightOf m κ) valid refl in
-    let most = below-first (κ + 5 ^ heightOf m κ) n keys in
-    omega arith
+-- the content that a paint puts in is one record
+paint-content : (m κ f : ℕ) → contentOf m (λ row column. f) κ ≡ recordOf κ (2 ^ f) ∷ []
+unfolding contentOf
+paint-content m κ f =
+    list-one (λ row column. f) (heightOf m κ) (rowOf m κ) (columnOf m κ) κ
+    (one-from (λ row column. f) f (heightOf m κ) (rowOf m κ) (columnOf m κ) (λ a b w. refl))
+
+-- one record in two slices of one place, with the bits b of the feature
+pub one-record : (κ f b : ℕ) → b ≡ 2 ^ f → recordsOf (κ ∷ []) (b ∷ []) 1 ≡ recordOf κ (2 ^ f) ∷ []
+unfolding paired
+one-record κ f b e = ap (λ x. recordOf κ x ∷ []) e
 
 -- the plan that was found for the bits b of the feature
-module _ {m n κ f : ℕ} {keys bits : List ℕ} (a : Paintable m keys bits n κ f) (b : ℕ) (b-is : b ≡ 2 ^ f) (plan : code.Plan)
-    (found : planIn plan ≡ planAt m (recordsOf keys bits n) κ (topFor m (recordsOf keys bits n) κ true b)) where
-  for-feature : planIn plan ≡ planAt m (recordsOf keys bits n) κ (topFor m (recordsOf keys bits n) κ true (2 ^ f))
-  for-feature = found ∙ ap (λ x. planAt m (recordsOf keys bits n) κ (topFor m (recordsOf keys bits n) κ true x)) b-is
+pub paint-found : (m : ℕ) (l : List Record) (κ f b : ℕ) (plan : Plan) → b ≡ 2 ^ f → plan ≡ planAt m l κ (topFor m l κ true b) → plan ≡ paintPlan m l κ f
+paint-found m l κ f b plan e found =
+    found ∙ plan-for m l κ (recordOf κ b ∷ []) true b refl refl ∙ ap (λ x. planOf m l κ (recordOf κ x ∷ [])) e
 
-  -- it can be followed
-  pub plan-ready : Ready m κ (recordsOf keys bits n) (recordOf κ (2 ^ f) ∷ []) (planIn plan)
-  plan-ready = paint-ready (a .own) κ f (a .valid) plan for-feature
+-- is one that makes the painted list
+pub paint-planned : {m n κ f : ℕ} {keys bits : List ℕ} {plan : Plan} → Paintable m keys bits n κ f → plan ≡ paintPlan m (recordsOf keys bits n) κ f
+    → Planned m keys bits n κ (recordOf κ (2 ^ f) ∷ []) (painted m (recordsOf keys bits n) κ f) plan
+unfolding painted paintIn
+paint-planned {m} {n} {κ} {f} a is = record {
+  deep = a .deepest;
+  valid = a .valid;
+  own = a .own;
+  picture = λ row column. f;
+  content-is = sym (paint-content m κ f);
+  new-is = refl;
+  plan-is = is;
+}
 
-  -- the records that it takes out are there
-  pub plan-old : plan .old ≤ n
-  plan-old = let ready = plan-ready in let size = records-length (a .own) in omega (arith, ready .fits)
-
-  -- it splits at most as many levels as a map has
-  pub plan-levels : plan .levels ≤ 10
-  plan-levels = let ready = plan-ready in omega (arith, ready .high, a .deepest)
-
-  -- the length that decides refusal 9
-  pub plan-length : (r : ℕ) → r ≡ n - plan .old + (4 * plan .levels + 1) → r ≡ length (painted m (recordsOf keys bits n) κ f)
-  plan-length r e = e ∙ paint-after (a .own) κ f (a .valid) plan for-feature
+-- the entry that was found is the new one
+pub entry-found : (m : ℕ) (l : List Record) (used κ count : ℕ) → count ≡ partLength m κ l
+    → _≡_ {A = Entry} (record { key = κ; start = used; count = count }) (newEntry m l used κ)
+entry-found m l used κ count e = λ i. record { key = κ; start = used; count = e i }

@@ -1,7 +1,7 @@
 -- The table of paint, one law for each way out of the code that looks for the refusal, and what a paint that is not refused may rely on. Rests on
 -- EditCallTables.
 use Prim.Native.Nat.{ℕ, _+_, _≤_, _<_}
-use mathlib.Core.Path.{_≡_, refl, sym, ap, _∙_}
+use mathlib.Core.Path.{_≡_, refl, sym, ap, _∙_, subst}
 use mathlib.Core.Bool.{true, false, not}
 use mathlib.Core.List.{List, [], _∷_}
 use native.Mathlib.Omega.{arith}
@@ -14,8 +14,9 @@ use Rattle.definitions.specs.Read.{room, recordsOf}
 use Rattle.definitions.specs.Refusal.{Row, _gives_, first, badKey, badFeature}
 use Rattle.definitions.specs.Calls.Paint.{painted, gained, paintRefusal}
 use Rattle.definitions.proofs.First.{this, later, holds-first, none-first, first-none}
+use Rattle.log.specs.declared.entry.Entry.{Entry}
 use Rattle.edit.specs.EditCallChecks.{firstRefusal}
-use Rattle.edit.specs.PaintCall.{roomRefusal, Paintable}
+use Rattle.edit.specs.PaintCall.{roomRefusal, Paintable, newEntry, Fresh}
 use Rattle.edit.proofs.EditCallTables.{firstRows, FirstPassed, early-first, rest-first, passed-none, passed-settings, passed-own}
 
 -- the rows about room: the first that holds
@@ -114,3 +115,13 @@ pub paint-paintable : {m s : ℕ} {keys bits : List ℕ} {n : ℕ} {logKeys logV
     → Paintable m keys bits n κ f
 paint-paintable {m} {s} {keys} {bits} {n} {logKeys} {logValues} {used} {κ} {f} p =
     passed-paintable m s keys bits n logKeys logValues used κ f (p .first-rows) (p .valid) (p .small)
+
+-- and what logging asks for
+pub paint-fresh : {m s : ℕ} {keys bits : List ℕ} {n : ℕ} {logKeys logValues : List ℕ} {used κ f : ℕ} (new : Entry)
+    → new ≡ newEntry m (recordsOf keys bits n) used κ
+    → PaintPassed m s keys bits n logKeys logValues used κ f
+    → Fresh m keys bits n new logKeys logValues
+paint-fresh {m} {s} {keys} {bits} {n} {logKeys} {logValues} new e p =
+    let a = paint-paintable p in
+    subst (λ x. Fresh m keys bits n x logKeys logValues) (sym e)
+    (record { deepest = a .deepest; own = a .own; valid = p .valid; whole = refl; fits = p .log-fits })

@@ -1,41 +1,19 @@
 -- The answers of take back: a refusal gives its number alone and leaves what was lent, and an accepted taking back gives what was put and cleared.
--- Rests on the laws of tables and TakingBackLast.
-use Prim.Native.Nat.{ℕ, _-_, _≤_}
+-- Rests on the laws of tables.
+use Prim.Native.Nat.{ℕ, _-_}
 use mathlib.Core.Path.{_≡_, sym, ap, _∙_}
 use mathlib.Core.List.{List}
-use native.Mathlib.Omega.{arith}
-use lib.ListN.{length, replicate, length-replicate}
-use lib.Seq.{sets}
+use lib.ListN.{length, replicate}
 use Rattle.definitions.specs.List.{Record, keysOf, valuesOf}
 use Rattle.definitions.specs.Read.{recordsOf}
 use Rattle.definitions.specs.Buffer.{overAt, replaced}
+use Rattle.definitions.specs.Log.{beforeLast}
 use Rattle.definitions.specs.Refusal.{accepted}
 use Rattle.definitions.specs.Calls.TakeBack.{restored, takeBackRefusal, usedBefore, takeBack, takeBackKeys, takeBackBits, takeBackLogKeys, takeBackLogValues}
 use Rattle.definitions.proofs.First.{accepted-left}
-use Rattle.slices.proofs.Sets.{sets-parts}
-use Rattle.log.proofs.Last.{closingCount}
+use Rattle.log.specs.Entries.{Cleared}
 use Rattle.put.specs.Putting.{Replaced}
-use Rattle.edit.specs.TakingBackCall.{Ended, Cleared, TakenBack}
-use Rattle.edit.proofs.TakingBackLast.{entry-before}
-
--- places that were cleared are overwritten with zeroes
-cleared-at : (l : List ℕ) (from end : ℕ) → from ≤ end → end ≤ length l → sets l from (replicate (end - from) 0) ≡ overAt from (replicate (end - from) 0) l
-cleared-at l from end order there =
-    let size = length-replicate {A = ℕ} (end - from) 0 in
-    sets-parts l from (replicate (end - from) 0) (omega arith)
-
-module _ {logKeys logValues : List ℕ} {used : ℕ} (e : Ended logKeys logValues used) (count : ℕ) (count-is : count ≡ closingCount logValues used) where
-  -- both slices cleared from the content's start up to the closing record
-  pub entry-cleared : {logKeys′ logValues′ : List ℕ} → logKeys′ ≡ sets logKeys (used - 1 - count) (replicate (used - (used - 1 - count)) 0)
-      → logValues′ ≡ sets logValues (used - 1 - count) (replicate (used - (used - 1 - count)) 0)
-      → Cleared used logKeys logValues logKeys′ logValues′ (used - 1 - count)
-  entry-cleared k v =
-      let some = e .some in
-      record {
-        used-are = ap (λ c. used - 1 - c) count-is;
-        keys-are = k ∙ cleared-at logKeys (used - 1 - count) used (omega arith) (e .in-keys);
-        values-are = v ∙ cleared-at logValues (used - 1 - count) used (omega arith) (e .in-values);
-      }
+use Rattle.edit.specs.TakingBackCall.{TakenBack}
 
 module _ (m s : ℕ) (keys bits : List ℕ) (n : ℕ) (logKeys logValues : List ℕ) (used : ℕ) where
   -- the list that a taking back makes
@@ -78,14 +56,14 @@ module _ (m s : ℕ) (keys bits : List ℕ) (n : ℕ) (logKeys logValues : List 
       }
 
   -- an accepted taking back
-  pub take-done : {keys′ bits′ logKeys′ logValues′ : List ℕ} {after before : ℕ} → takeBackRefusal m s keys bits n logKeys logValues used ≡ 0
-      → Ended logKeys logValues used
+  pub take-done : {keys′ bits′ logKeys′ logValues′ : List ℕ} {after start : ℕ} → takeBackRefusal m s keys bits n logKeys logValues used ≡ 0
+      → start ≡ length (beforeLast (recordsOf logKeys logValues used))
       → Replaced n new keys bits keys′ bits′ after
-      → Cleared used logKeys logValues logKeys′ logValues′ before
-      → TakenBack m s keys bits n logKeys logValues used (record { refusal = 0; n = after; used = before }) keys′ bits′ logKeys′ logValues′
-  take-done {before = before} none entry put cleared =
+      → Cleared start used logKeys logValues logKeys′ logValues′
+      → TakenBack m s keys bits n logKeys logValues used (record { refusal = 0; n = after; used = start }) keys′ bits′ logKeys′ logValues′
+  unfolding usedBefore
+  take-done none is put cleared =
       let told = by-number 0 none in
-      let is : before ≡ left = cleared .used-are ∙ sym (entry-before entry m s keys bits n) in
       record {
         answer = (λ i. record { refusal = 0; n = put .length-is i; used = is i }) ∙ told .answer;
         keys-are = put .keys-are ∙ told .keys-are;

@@ -1,66 +1,85 @@
--- What the plan of a taking back measures: numbers that do not wrap, and the length that decides refusal 9. Rests on TakingBackLast and PlanCalls.
-use Prim.Native.Nat.{ℕ, _+_, _-_, _*_, _≤_}
-use mathlib.Core.Path.{_≡_, sym, _∙_, ap}
+-- The plan of a taking back: the content of the log's last entry is put into its block. Rests on Planned and on the laws of the last entry.
+use Prim.Native.Nat.{ℕ, _+_, _≤_, _<_}
+use mathlib.Core.Path.{_≡_, refl, sym, _∙_, ap, subst}
 use mathlib.Core.Bool.{true}
 use mathlib.Core.List.{List}
 use native.Mathlib.Omega.{arith}
 use lib.ListN.{length, getD}
 use lib.Dec.{eqb}
 use Rattle.keys.specs.Key.{validKey}
-use Rattle.definitions.specs.Read.{recordsOf}
+use Rattle.definitions.specs.Read.{room, recordsOf, pictureOf}
 use Rattle.definitions.specs.Log.{lastKey, lastContent}
 use Rattle.definitions.specs.Calls.TakeBack.{restored}
-use Rattle.log.proofs.Last.{closingKey, closingCount}
-use Rattle.put.specs.Put.{isLeaf, firstBits, planAt}
-use Rattle.put.specs.PlanFields.{planIn, topFor}
-use Rattle.edit.specs.TakingBackCall.{Restorable}
-use Rattle.put.specs.declared.plan.Plan as code
-use Rattle.put.proofs.Ready.{Ready}
-use Rattle.put.proofs.PlanTop.{records-length}
-use Rattle.edit.proofs.PlanCalls.{restore-ready, restore-after}
-use Rattle.edit.proofs.TakingBackLast.{entry-key, entry-count, entry-bits}
+use Rattle.log.specs.declared.entry.Entry.{Entry}
+use Rattle.log.specs.Entries.{lastEntry, contentPart}
+use Rattle.log.proofs.Last.{content-length}
+use Rattle.log.proofs.Places.{count-is, places-are, first-bits, lent-length, lent-content}
+use Rattle.put.specs.Put.{topFor, planAt, planOf, edited}
+use Rattle.put.specs.Putting.{Puttable, Replaced}
+use Rattle.put.specs.declared.plan.Plan.{Plan}
+use Rattle.put.proofs.PlanTop.{plan-for}
+use Rattle.edit.specs.TakingBackCall.{Restorable, restorePlan}
+use Rattle.edit.proofs.Planned.{Planned, can-put, put-makes}
 
-module _ {m n used : ℕ} {keys bits logKeys logValues : List ℕ} (a : Restorable m keys bits n logKeys logValues used) where
-  -- the key that is read is valid
-  pub key-valid : validKey m (closingKey logKeys used) ≡ true
-  key-valid = ap (validKey m) (sym (entry-key (a .ended))) ∙ a .valid
+module _ {m n used : ℕ} {keys bits logKeys logValues : List ℕ} (a : Restorable m keys bits n logKeys logValues used) (last : Entry)
+    (is : last ≡ lastEntry (recordsOf logKeys logValues used)) where
+  key-is : last .key ≡ lastKey (recordsOf logKeys logValues used)
+  key-is = ap (λ x. x .key) is
 
-  -- the plan that was found for the key, the count and the first bits that were read
-  module _ (count : ℕ) (count-is : count ≡ closingCount logValues used) (plan : code.Plan)
-      (found : planIn plan ≡ planAt m (recordsOf keys bits n) (closingKey logKeys used)
-      (topFor m (recordsOf keys bits n) (closingKey logKeys used) (eqb count 1) (getD logValues (used - 1 - count) 0))) where
-    -- what the plan was told of the content is true
-    pub leaf-is : isLeaf (lastContent (recordsOf logKeys logValues used)) ≡ eqb count 1
-    leaf-is = ap (λ x. eqb x 1) (entry-count (a .ended) ∙ sym count-is)
+  -- the key that was found is valid
+  pub key-valid : validKey m (last .key) ≡ true
+  key-valid = ap (validKey m) key-is ∙ a .valid
 
-    -- its first bits too
-    pub bits-are : firstBits (lastContent (recordsOf logKeys logValues used)) ≡ getD logValues (used - 1 - count) 0
-    bits-are = entry-bits (a .ended) ∙ ap (λ c. getD logValues (used - 1 - c) 0) (sym count-is)
+  -- the content has as many records as was found
+  pub content-count : last .count ≡ length (lastContent (recordsOf logKeys logValues used))
+  content-count = count-is (a .ended) last is ∙ sym (content-length (a .ended))
 
-    for-entry : planIn plan ≡ planAt m (recordsOf keys bits n) (lastKey (recordsOf logKeys logValues used))
-        (topFor m (recordsOf keys bits n) (lastKey (recordsOf logKeys logValues used)) (eqb count 1) (getD logValues (used - 1 - count) 0))
-    for-entry =
+  module _ (plan : Plan) where
+    -- the plan that was found for the key, the count and the first bits
+    pub restore-found : plan ≡ planAt m (recordsOf keys bits n) (last .key)
+        (topFor m (recordsOf keys bits n) (last .key) (eqb (last .count) 1) (getD logValues (last .start) 0))
+        → plan ≡ restorePlan m (recordsOf keys bits n) (recordsOf logKeys logValues used)
+    restore-found found =
         found
-        ∙ ap
-        (λ κ. planAt m (recordsOf keys bits n) κ (topFor m (recordsOf keys bits n) κ (eqb count 1) (getD logValues (used - 1 - count) 0)))
-        (sym (entry-key (a .ended)))
+        ∙ plan-for m (recordsOf keys bits n) (last .key) (lastContent (recordsOf logKeys logValues used)) (eqb (last .count) 1) (getD logValues (last .start) 0)
+        (ap (λ x. eqb x 1) (sym content-count)) (first-bits (a .ended) last is (subst (λ x. 0 < x) (sym (count-is (a .ended) last is)) (a .some-content)))
+        ∙ ap (λ κ. planOf m (recordsOf keys bits n) κ (lastContent (recordsOf logKeys logValues used))) key-is
 
-    -- it can be followed
-    pub plan-ready : Ready m (lastKey (recordsOf logKeys logValues used)) (recordsOf keys bits n) (lastContent (recordsOf logKeys logValues used)) (planIn plan)
-    plan-ready = restore-ready (a .own) (recordsOf logKeys logValues used) (a .valid) (a .correct) _ _ leaf-is bits-are plan for-entry
+    -- is one that makes the restored list
+    pub restore-planned : plan ≡ restorePlan m (recordsOf keys bits n) (recordsOf logKeys logValues used)
+        → Planned m keys bits n (last .key) (lastContent (recordsOf logKeys logValues used))
+        (restored m (recordsOf keys bits n) (recordsOf logKeys logValues used)) plan
+    unfolding restored
+    restore-planned found =
+        subst
+        (λ κ.
+        Planned m keys bits n κ (lastContent (recordsOf logKeys logValues used)) (restored m (recordsOf keys bits n) (recordsOf logKeys logValues used)) plan)
+        (sym key-is)
+        (record {
+          deep = a .deepest;
+          valid = a .valid;
+          own = a .own;
+          picture = pictureOf m (lastContent (recordsOf logKeys logValues used));
+          content-is = a .correct;
+          new-is = refl;
+          plan-is = found;
+        })
 
-    -- the records that it takes out are there
-    pub plan-old : plan .old ≤ n
-    plan-old = let ready = plan-ready in let size = records-length (a .own) in omega (arith, ready .fits)
+    -- what putting its content asks
+    module _ (found : plan ≡ restorePlan m (recordsOf keys bits n) (recordsOf logKeys logValues used)) where
+      pub restore-puttable : length (restored m (recordsOf keys bits n) (recordsOf logKeys logValues used)) ≤ room keys bits
+          → (last .start + last .count ≤ room logKeys logValues)
+          × Puttable m keys bits n (last .key) plan (contentPart last logKeys) (contentPart last logValues) (last .count)
+      restore-puttable fits =
+          let all = places-are (a .ended) last is in
+          let in-keys = a .ended .in-keys in
+          let in-values = a .ended .in-values in
+          let k = lent-length (a .ended) last is logKeys in-keys in
+          let v = lent-length (a .ended) last is logValues in-values in
+          (omega arith, can-put (restore-planned found) (contentPart last logKeys) (contentPart last logValues) (last .count) (lent-content (a .ended) last is) (omega arith) fits)
 
-    -- it splits at most as many levels as a map has
-    pub plan-levels : plan .levels ≤ 10
-    plan-levels = let ready = plan-ready in omega (arith, ready .high, a .deepest)
-
-    -- the length that decides refusal 9
-    pub plan-length : (r : ℕ) → r ≡ n - plan .old + (4 * plan .levels + count)
-        → r ≡ length (restored m (recordsOf keys bits n) (recordsOf logKeys logValues used))
-    plan-length r e =
-        e
-        ∙ restore-after (a .own) (recordsOf logKeys logValues used) (a .valid) (a .correct) _ _ leaf-is bits-are plan for-entry count
-        (count-is ∙ sym (entry-count (a .ended)))
+      -- and what it makes
+      pub restore-made : {keys′ bits′ : List ℕ} {r : ℕ}
+          → Replaced n (edited m (recordsOf keys bits n) (last .key) (recordsOf (contentPart last logKeys) (contentPart last logValues) (last .count))) keys bits keys′ bits′ r
+          → Replaced n (restored m (recordsOf keys bits n) (recordsOf logKeys logValues used)) keys bits keys′ bits′ r
+      restore-made h = put-makes (restore-planned found) (contentPart last logKeys) (contentPart last logValues) (last .count) (lent-content (a .ended) last is) h

@@ -1,15 +1,13 @@
 -- The table of take back, one law for each way out of the code that looks for the refusal, and what a taking back that is not refused may rely on.
 -- Rests on EditCallTables and the laws of the log's last entry.
 use Prim.Native.Nat.{ℕ, _≤_, _<_}
-use mathlib.Core.Path.{_≡_, refl, sym, ap, ap₂, _∙_}
+use mathlib.Core.Path.{_≡_, refl, sym, _∙_}
 use mathlib.Core.List.{List, [], _∷_}
 use native.Mathlib.Omega.{arith}
 use lib.ListN.{length}
 use lib.Dec.{ltb, eqb}
 use borrow.Author.Tests.{lt-ltb, le-ltb, ltb-false, eq-eqb, ne-eqb, eqb-false}
-use Rattle.keys.specs.Key.{validKey}
 use Rattle.definitions.specs.Read.{room, recordsOf}
-use Rattle.definitions.specs.Log.{isContent}
 use Rattle.definitions.specs.Refusal.{Row, _gives_, first}
 use Rattle.definitions.specs.Calls.TakeBack.{restored, takeBackRefusal}
 use Rattle.definitions.proofs.First.{this, later, holds-first, none-first, first-none}
@@ -29,15 +27,10 @@ passed-restorable {m} {s} p some =
     record {
       deepest = passed-settings p .deep;
       own = passed-own p;
-      ended = record {
-        some = some;
-        in-keys = last .in-keys;
-        in-values = last .in-values;
-        some-content = last .some-content;
-        all-there = last .all-there;
-      };
-      valid = ap (validKey m) (last .key) ∙ last .valid;
-      correct = content-is m s _ _ (ap₂ (isContent m s) (last .key) (last .content) ∙ last .correct);
+      ended = last .ended;
+      some-content = last .some-content;
+      valid = last .valid;
+      correct = content-is m s _ _ (last .correct);
     }
 
 module _ (m s : ℕ) (keys bits : List ℕ) (n : ℕ) (logKeys logValues : List ℕ) (used : ℕ) where

@@ -1,18 +1,22 @@
 -- What the functions of paint ask and leave: the table's last two rows, what an accepted paint may rely on, and the call's promise. Only contracts
 -- need these. Rests on Paint of the definitions.
-use Prim.Native.Nat.{ℕ, _+_, _≤_, _<_}
+use Prim.Native.Nat.{ℕ, _+_, _^_, _≤_, _<_}
 use mathlib.Core.Path.{_≡_}
 use mathlib.Core.Bool.{true}
 use mathlib.Core.List.{List, [], _∷_}
 use lib.ListN.{length}
 use lib.Dec.{ltb}
 use Rattle.keys.specs.Key.{validKey}
-use Rattle.definitions.specs.List.{Record}
-use Rattle.definitions.specs.Read.{room}
+use Rattle.definitions.specs.List.{Record, recordOf}
+use Rattle.definitions.specs.Read.{room, recordsOf}
+use Rattle.definitions.specs.Standing.{partLength}
 use Rattle.definitions.specs.Refusal.{_gives_, first}
 use Rattle.definitions.specs.Calls.Paint.{painted, gained, paint, paintKeys, paintBits, paintLogKeys, paintLogValues}
 use Rattle.definitions.specs.declared.Edited.{Edited}
 use Rattle.list.specs.Own.{OwnList}
+use Rattle.log.specs.declared.entry.Entry.{Entry}
+use Rattle.put.specs.Put.{planOf}
+use Rattle.put.specs.declared.plan.Plan.{Plan}
 
 -- 10, 9
 unfoldable pub roomRefusal : ℕ → List Record → List ℕ → List ℕ → List ℕ → List ℕ → ℕ → ℕ → ℕ → ℕ
@@ -28,6 +32,21 @@ pub record Paintable (m : ℕ) (keys bits : List ℕ) (n κ f : ℕ) : Type 0 wh
   pub valid : validKey m κ ≡ true
   pub own : OwnList m keys bits n
   pub feature : f < 16
+
+-- the entry that a paint of block κ writes from place used on, and its plan: the content that it puts in is one record
+abbrev pub newEntry : ℕ → List Record → ℕ → ℕ → Entry
+newEntry m l used κ = record { key = κ; start = used; count = partLength m κ l }
+
+abbrev pub paintPlan : ℕ → List Record → ℕ → ℕ → Plan
+paintPlan m l κ f = planOf m l κ (recordOf κ (2 ^ f) ∷ [])
+
+-- the new entry of a block of an accepted list, for which the log has room
+pub record Fresh (m : ℕ) (keys bits : List ℕ) (n : ℕ) (new : Entry) (logKeys logValues : List ℕ) : Type 0 where
+  pub deepest : m ≤ 10
+  pub own : OwnList m keys bits n
+  pub valid : validKey m (new .key) ≡ true
+  pub whole : new .count ≡ partLength m (new .key) (recordsOf keys bits n)
+  pub fits : new .start + length (gained m (recordsOf keys bits n) (new .key)) ≤ room logKeys logValues
 
 -- the answer of a paint, and what it leaves in the four lent slices
 pub record Painted (m s : ℕ) (keys bits : List ℕ) (n : ℕ) (logKeys logValues : List ℕ) (used κ f : ℕ) (r : Edited) (keys′ bits′ logKeys′ logValues′ : List ℕ) : Type 0 where

@@ -1,6 +1,7 @@
 // The check of a file's records (refusal 4), read from the file's bytes: the same pass as over two slices, since nothing lent may be written
 // before all is accepted.
 ghost use mathlib.Core.Path.{_≡_};
+ghost use mathlib.Core.Bool.{true, cond};
 ghost use Prim.Native.Nat.{ℕ, _+_, _*_, _^_, _≤_, _<_};
 ghost use lib.ListN.{length, drop};
 ghost use Rattle.keys.specs.Key.{rootKey};
@@ -13,29 +14,34 @@ use keys::Key;
 use keys::power;
 use list::check;
 
-// `after_node` at height 1: four pixels. Heights 1 and 2 have functions of their own, as in the check of two slices.
-fn four_pixels(file: &[u8], first: usize, key: u32, own: u32) -> usize
+// After the own record of a node of height 1: whether the next four records are its pixels. Heights 1 and 2 have functions of their own, as in
+// the check of two slices.
+fn four_pixels(file: &[u8], first: usize, key: u32, own: u32) -> bool
     requires { ⌜ (length (now file) ≡ 11 + 6 * nIn (now file)) × (first ≤ nIn (now file)) × (key + 5 < 2 ^ 32) ⌝ }
-    ensures { λ r. ⌜ (r ≤ nIn (now (file .entry)))
-        × (r ≡ placeOf (nIn (now (file .entry))) (afterNode 1 key own (drop first (recordsInFile (now (file .entry)))))) ⌝ }
+    ensures { λ r. ⌜ (r ≡ true → first + 4 ≤ nIn (now (file .entry)))
+        × (cond r (first + 4) 0 ≡ placeOf (nIn (now (file .entry))) (afterNode 1 key own (drop first (recordsInFile (now (file .entry)))))) ⌝ }
 {
     let place = 11 + 6 * first;
     if file.len() - place < 24 {
-        return 0;
+        return false;
     }
     let a = bytes::u16_at(file, place + 4);
-    let b = bytes::u16_at(file, place + 10);
-    let c = bytes::u16_at(file, place + 16);
-    let d = bytes::u16_at(file, place + 22);
-    let nw = check::is_leaf(bytes::u32_at(file, place), a, key + 1);
-    let ne = check::is_leaf(bytes::u32_at(file, place + 6), b, key + 2);
-    let sw = check::is_leaf(bytes::u32_at(file, place + 12), c, key + 3);
-    let se = check::is_leaf(bytes::u32_at(file, place + 18), d, key + 4);
-    if nw & ne & sw & se & ((a | b | c | d) == own) {
-        first + 4
-    } else {
-        0
+    if !check::is_leaf(bytes::u32_at(file, place), a, key + 1) {
+        return false;
     }
+    let b = bytes::u16_at(file, place + 10);
+    if !check::is_leaf(bytes::u32_at(file, place + 6), b, key + 2) {
+        return false;
+    }
+    let c = bytes::u16_at(file, place + 16);
+    if !check::is_leaf(bytes::u32_at(file, place + 12), c, key + 3) {
+        return false;
+    }
+    let d = bytes::u16_at(file, place + 22);
+    if !check::is_leaf(bytes::u32_at(file, place + 18), d, key + 4) {
+        return false;
+    }
+    (a | b | c | d) == own
 }
 
 // `after_node` at height 2.
@@ -59,10 +65,10 @@ fn after_sixteen(file: &[u8], first: usize, key: u32, own: u32) -> usize
         let found = bytes::u16_at(file, place + 4);
         next += 1;
         if !check::has_one_slot(found) {
-            next = four_pixels(file, next, child, found);
-            if next == 0 {
+            if !four_pixels(file, next, child, found) {
                 return 0;
             }
+            next += 4;
         }
         union = union | found;
         quadrant += 1;
@@ -81,10 +87,14 @@ fn after_low(file: &[u8], first: usize, key: u32, own: u32, step: u32) -> usize
     if step == 5 {
         return after_sixteen(file, first, key, own);
     }
-    if step == 1 {
-        return four_pixels(file, first, key, own);
+    if step != 1 {
+        return 0;
     }
-    0
+    if four_pixels(file, first, key, own) {
+        first + 4
+    } else {
+        0
+    }
 }
 
 // After a node's own record: the place after its last record, or 0 where what follows are not its four children. A leaf among them is passed

@@ -9,7 +9,7 @@ use lib.ListN.{length, getD, take}
 use lib.Dec.{leb·suc-suc}
 use borrow.Author.Tests.{le-leb, lt-leb}
 use Rattle.keys.proofs.Cases.{split}
-use Rattle.list.specs.Sorted.{Ascends}
+use Rattle.list.specs.Sorted.{Ascends, Near}
 use Rattle.list.specs.Among.{keysUpTo, keysBelow}
 
 pub up-to-none : (x : ℕ) → keysUpTo x [] ≡ 0
@@ -84,3 +84,38 @@ bracket-end {keys} {n} {x} {low} {high} a b h =
     let order = b .order in
     let most = b .most in
     sym (count-up-to keys n x low (a .room) (omega arith) (b .before) (λ i j k. b .after i (omega arith) k))
+
+-- where all keys from a place on are after x, at most so many are at or before it
+up-to-at-most : (keys : List ℕ) (n x r : ℕ) → n ≤ length keys → ((i : ℕ) → r ≤ i → i < n → x < getD keys i 0) → keysUpTo x (take n keys) ≤ r
+up-to-at-most keys zero x r room after = let e = up-to-none x in omega arith
+up-to-at-most [] (suc n) x r room after = absurd (omega arith)
+up-to-at-most (κ ∷ keys) (suc n) x zero room after =
+    let e = up-to-skip x κ (take n keys) (after 0 (omega arith) (omega arith)) in
+    let h = up-to-at-most keys n x zero (omega arith) (λ i h j. after (suc i) (omega arith) (omega arith)) in
+    omega arith
+up-to-at-most (κ ∷ keys) (suc n) x (suc r) room after =
+    let h = up-to-at-most keys n x r (omega arith) (λ i h j. after (suc i) (omega arith) (omega arith)) in
+    split x κ (λ lt. let e = up-to-skip x κ (take n keys) lt in omega arith) (λ ge. let e = up-to-one x κ (take n keys) ge in omega arith)
+
+-- the keys that are counted are at or before x
+pub counted-before : {keys : List ℕ} {n : ℕ} → Ascends keys n → (x i : ℕ) → i < keysUpTo x (take n keys) → getD keys i 0 ≤ x
+counted-before {keys} {n} a x i h =
+    split x (getD keys i 0)
+    (λ past.
+    let later : (j : ℕ) → i ≤ j → j < n → x < getD keys j 0
+    = λ j k l. split i j (λ lt. let e = a .ascend i j lt l in omega arith) (λ ge. let e : i ≡ j = omega arith in rw (← e) past) in
+    let most = up-to-at-most keys n x i (a .room) later in
+    absurd (omega arith))
+    (λ before. before)
+
+-- before a place whose key is at or before x lie only such keys
+pub bracket-from : {keys : List ℕ} {n from x : ℕ} → Ascends keys n → Near keys n from x → Bracket keys n x (from + 1) n
+bracket-from {keys} {n} {from} {x} a h =
+    record {
+      order = omega (arith, h .room);
+      most = omega arith;
+      before = λ i j.
+          split i from (λ lt. let e = a .ascend i from lt (h .room) in omega (arith, h .before))
+          (λ ge. let e : from ≡ i = omega arith in rw (← e) (h .before));
+      after = λ i j k. absurd (omega arith);
+    }

@@ -1,6 +1,6 @@
 -- An accepted list is the list of its own picture, and what that gives of the two slices: sorted keys, and at a block's place the block's bits and
 -- the part that holds it. Rests on Accepted, Among, Lookup and PartLength.
-use Prim.Native.Nat.{ℕ, _+_, _^_, _≤_, _<_}
+use Prim.Native.Nat.{ℕ, _+_, _-_, _^_, _≤_, _<_}
 use mathlib.Core.Path.{_≡_, refl, sym, _∙_, ap}
 use mathlib.Core.Bool.{true, false}
 use mathlib.Core.List.{List}
@@ -16,9 +16,10 @@ use Rattle.definitions.specs.declared.Standing.the-variants.{Listed, Inside}
 use Rattle.definitions.proofs.ListOf.{list-ascends, list-first, list-some}
 use Rattle.definitions.proofs.Records.{records-length, key-at, value-at}
 use Rattle.list.specs.Own.{OwnList, shownBy}
-use Rattle.list.specs.Sorted.{Ascends, Sorted}
+use Rattle.list.specs.Sorted.{Ascends, Sorted, Near}
 use Rattle.list.specs.Among.{keysUpTo, keysBelow, placeAmong, standingAmong}
 use Rattle.list.proofs.Accepted.{accepted, keys-ascend}
+use Rattle.list.proofs.Count.{counted-before}
 use Rattle.list.proofs.Among.{found-some, found-most, keys-of-records, values-of-records, standing-among, place-among, among-place, standing-listed, standing-inside}
 use Rattle.list.proofs.Lookup.{lookup-value}
 use Rattle.list.proofs.PartLength.{part-some, part-end}
@@ -78,6 +79,14 @@ module _ {m : ℕ} {keys bits : List ℕ} {n : ℕ} (o : OwnList m keys bits n) 
       let some = found-some (own-sorted κ) (keysUpTo κ (take n keys)) refl in
       let most = own-room κ in
       omega arith
+
+  -- a search for what comes later can begin there
+  pub own-near : (κ : ℕ) → Near keys n (placeAmong κ (take n keys)) κ
+  unfolding placeAmong
+  own-near κ =
+      let some = found-some (own-sorted κ) (keysUpTo κ (take n keys)) refl in
+      let room = own-place κ in
+      record { room = room; before = counted-before own-ascends κ (keysUpTo κ (take n keys) - 1) (omega arith) }
 
   -- a standing that was found among the keys, as one in the list
   own-standing : (κ : ℕ) → standingOf κ (listOfPicture m (shownBy m keys bits n)) ≡ standingAmong κ (take n keys)

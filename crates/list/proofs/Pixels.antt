@@ -12,7 +12,7 @@ use Rattle.keys.proofs.Cases.{decide}
 use Rattle.definitions.specs.List.{Record, recordOf}
 use Rattle.definitions.specs.Read.{paired}
 use Rattle.definitions.proofs.Records.{paired-length}
-use Rattle.list.specs.Check.{oneSlot, Outcome, wrong, left, placeOf, afterChildren, afterNode}
+use Rattle.list.specs.Check.{oneSlot, wrong, left, placeOf, afterChildren, afterNode}
 use Rattle.list.proofs.Children.{own-leaf, own-node, node-zero, node-suc, children-none, children-from, children-short, children-other, children-wrong}
 use Rattle.list.proofs.Places.{record-at, place-of}
 
@@ -53,14 +53,22 @@ module _ (κ step own : ℕ) where
 abbrev pub isPixel : ℕ → ℕ → ℕ → Bool
 isPixel κ k bits = eqb k κ && oneSlot bits
 
--- four tests, and that the union of four bitstrings is the block's own
-abbrev pub allPass : Bool → Bool → Bool → Bool → ℕ → ℕ → ℕ → ℕ → ℕ → Bool
-allPass nw ne sw se a b c d own = (((nw && ne) && sw) && se) && eqb (bitOr (bitOr (bitOr a b) c) d) own
+-- what the function answers: whether the next four records are the block's
+abbrev pub Right : List ℕ → List ℕ → ℕ → ℕ → ℕ → Bool → Type 0
+Right K B first κ own r =
+    (r ≡ true → first + 4 ≤ length K) × (cond r (first + 4) 0 ≡ placeOf (length K) (afterNode 1 κ own (drop first (paired K B))))
 
-four-records : (κ own k₁ b₁ k₂ b₂ k₃ b₃ k₄ b₄ : ℕ) (l : List Record) (t : Bool)
-    → t ≡ allPass (isPixel (κ + 1) k₁ b₁) (isPixel (κ + 2) k₂ b₂) (isPixel (κ + 3) k₃ b₃) (isPixel (κ + 4) k₄ b₄) b₁ b₂ b₃ b₄ own
-    → afterNode 1 κ own (recordOf k₁ b₁ ∷ (recordOf k₂ b₂ ∷ (recordOf k₃ b₃ ∷ (recordOf k₄ b₄ ∷ l)))) ≡ cond t (left l) wrong
-four-records κ own k₁ b₁ k₂ b₂ k₃ b₃ k₄ b₄ l t e =
+-- where the block does not end after four records, and where it does, the place
+pub right-false : (r : Bool) (place answer : ℕ) → r ≡ false → cond r place 0 ≡ answer → 0 ≡ answer
+right-false r place answer e h = ap (λ x. cond x place 0) (sym e) ∙ h
+
+pub right-true : (r : Bool) (place answer : ℕ) → r ≡ true → cond r place 0 ≡ answer → place ≡ answer
+right-true r place answer e h = ap (λ x. cond x place 0) (sym e) ∙ h
+
+four-records : (κ own k₁ b₁ k₂ b₂ k₃ b₃ k₄ b₄ : ℕ) (l : List Record)
+    → afterNode 1 κ own (recordOf k₁ b₁ ∷ (recordOf k₂ b₂ ∷ (recordOf k₃ b₃ ∷ (recordOf k₄ b₄ ∷ l))))
+    ≡ cond ((((isPixel (κ + 1) k₁ b₁ && isPixel (κ + 2) k₂ b₂) && isPixel (κ + 3) k₃ b₃) && isPixel (κ + 4) k₄ b₄) && eqb (bitOr (bitOr (bitOr b₁ b₂) b₃) b₄) own) (left l) wrong
+four-records κ own k₁ b₁ k₂ b₂ k₃ b₃ k₄ b₄ l =
     let t₁ = isPixel (κ + 1) k₁ b₁ in
     let t₂ = isPixel (κ + 2) k₂ b₂ in
     let t₃ = isPixel (κ + 3) k₃ b₃ in
@@ -80,32 +88,38 @@ four-records κ own k₁ b₁ k₂ b₂ k₃ b₃ k₄ b₄ l t e =
     (children-none (afterNode 0) κ 1 own (bitOr u₃ b₄) l))))
     ∙ ap (λ u. cond t₁ (cond t₂ (cond t₃ (cond t₄ (cond (eqb (bitOr (bitOr (bitOr u b₂) b₃) b₄) own) (left l) wrong) wrong) wrong) wrong) wrong) (or-zero-l b₁)
     ∙ in-turn t₁ t₂ t₃ t₄ (eqb (bitOr (bitOr (bitOr b₁ b₂) b₃) b₄) own) (left l) wrong
-    ∙ ap (λ x. cond x (left l) wrong) (sym e)
 
--- the bitstrings of the four records from a place on, and their tests
-pub record Tested (K B : List ℕ) (first κ a b c d : ℕ) (nw ne sw se : Bool) : Type 0 where
-  pub a-is : a ≡ getD B first 0
-  pub b-is : b ≡ getD B (first + 1) 0
-  pub c-is : c ≡ getD B (first + 2) 0
-  pub d-is : d ≡ getD B (first + 3) 0
-  pub nw-is : nw ≡ isPixel (κ + 1) (getD K first 0) a
-  pub ne-is : ne ≡ isPixel (κ + 2) (getD K (first + 1) 0) b
-  pub sw-is : sw ≡ isPixel (κ + 3) (getD K (first + 2) 0) c
-  pub se-is : se ≡ isPixel (κ + 4) (getD K (first + 3) 0) d
-
-place-if : (n : ℕ) (b : Bool) (l : List Record) → placeOf n (cond b (left l) wrong) ≡ cond b (placeOf n (left l)) 0
+place-if : (n place : ℕ) (b : Bool) (l : List Record) → placeOf n (left l) ≡ place → placeOf n (cond b (left l) wrong) ≡ cond b place 0
 unfolding placeOf
-place-if n false l = refl
-place-if n true l = refl
+place-if n place false l e = refl
+place-if n place true l e = e
 
 module _ (K B : List ℕ) (first κ own : ℕ) (size : length K ≡ length B) where
   -- fewer than four records are left
-  pub too-few : length K - first < 4 → 0 ≡ placeOf (length K) (afterNode 1 κ own (drop first (paired K B)))
+  pub too-few : length K - first < 4 → Right K B first κ own false
   unfolding placeOf
   too-few h =
       let d = length-drop first (paired K B) in
-      let n = paired-length K B size in
-      sym (ap (placeOf (length K)) (node-suc 0 κ own (drop first (paired K B)) ∙ few-pixels κ 1 own 4 0 (drop first (paired K B)) (omega arith)))
+      let n = paired-length K B size in (
+        λ e. let z : _≡_ {A = ℕ} 0 1 = cc in omega arith,
+        sym (ap (placeOf (length K)) (node-suc 0 κ own (drop first (paired K B)) ∙ few-pixels κ 1 own 4 0 (drop first (paired K B)) (omega arith))),
+      )
+
+  -- the tests of the next four records
+  abbrev pub nw : Bool
+  nw = isPixel (κ + 1) (getD K first 0) (getD B first 0)
+
+  abbrev pub ne : Bool
+  ne = isPixel (κ + 2) (getD K (first + 1) 0) (getD B (first + 1) 0)
+
+  abbrev pub sw : Bool
+  sw = isPixel (κ + 3) (getD K (first + 2) 0) (getD B (first + 2) 0)
+
+  abbrev pub se : Bool
+  se = isPixel (κ + 4) (getD K (first + 3) 0) (getD B (first + 3) 0)
+
+  abbrev pub union : ℕ
+  union = bitOr (bitOr (bitOr (getD B first 0) (getD B (first + 1) 0)) (getD B (first + 2) 0)) (getD B (first + 3) 0)
 
   module _ (there : 4 ≤ length K - first) where
     from-place : (i j : ℕ) → i < length K → i + 1 ≡ j → (l : List Record) → drop j (paired K B) ≡ l → drop i (paired K B) ≡ recordOf (getD K i 0) (getD B i 0) ∷ l
@@ -120,23 +134,27 @@ module _ (K B : List ℕ) (first κ own : ℕ) (size : length K ≡ length B) wh
         (from-place (first + 1) (first + 2) (omega arith) (omega arith) _
         (from-place (first + 2) (first + 3) (omega arith) (omega arith) _ (from-place (first + 3) (first + 4) (omega arith) (omega arith) _ refl)))
 
-    module _ {a b c d : ℕ} {nw ne sw se : Bool} (t : Tested K B first κ a b c d nw ne sw se) where
-      abbrev passed : Bool
-      passed = allPass nw ne sw se a b c d own
+    -- four are left: their tests and their union decide
+    decides : (r : Bool) → r ≡ (((nw && ne) && sw) && se) && eqb union own → Right K B first κ own r
+    decides r e = (
+      λ z. omega arith,
+      ap (λ x. cond x (first + 4) 0) e
+          ∙ sym (ap (placeOf (length K)) (ap (afterNode 1 κ own) next-four ∙ four-records κ own _ _ _ _ _ _ _ _ (drop (first + 4) (paired K B)))
+          ∙ place-if (length K) (first + 4) ((((nw && ne) && sw) && se) && eqb union own) (drop (first + 4) (paired K B))
+          (place-of (paired K B) (first + 4) (length K) (sym (paired-length K B size)) (omega arith))),
+    )
 
-      -- four are left: their tests say whether the block ends after them
-      four-left : placeOf (length K) (afterNode 1 κ own (drop first (paired K B))) ≡ cond passed (first + 4) 0
-      four-left =
-          ap (placeOf (length K))
-          (ap (afterNode 1 κ own) next-four
-          ∙ four-records κ own (getD K first 0) (getD B first 0) (getD K (first + 1) 0) (getD B (first + 1) 0) (getD K (first + 2) 0) (getD B (first + 2) 0)
-          (getD K (first + 3) 0) (getD B (first + 3) 0) (drop (first + 4) (paired K B)) passed
-          (rw (t .nw-is, t .ne-is, t .sw-is, t .se-is, t .a-is, t .b-is, t .c-is, t .d-is)))
-          ∙ place-if (length K) passed (drop (first + 4) (paired K B))
-          ∙ ap (λ x. cond passed x 0) (place-of (paired K B) (first + 4) (length K) (sym (paired-length K B size)) (omega arith))
+    pub nw-wrong : nw ≡ false → Right K B first κ own false
+    nw-wrong h₁ = decides false (rw h₁)
 
-      pub four-right : allPass nw ne sw se a b c d own ≡ true → first + 4 ≡ placeOf (length K) (afterNode 1 κ own (drop first (paired K B)))
-      four-right e = sym (four-left ∙ ap (λ x. cond x (first + 4) 0) e)
+    pub ne-wrong : nw ≡ true → ne ≡ false → Right K B first κ own false
+    ne-wrong h₁ h₂ = decides false (rw (h₁, h₂))
 
-      pub four-wrong : allPass nw ne sw se a b c d own ≡ false → 0 ≡ placeOf (length K) (afterNode 1 κ own (drop first (paired K B)))
-      four-wrong e = sym (four-left ∙ ap (λ x. cond x (first + 4) 0) e)
+    pub sw-wrong : nw ≡ true → ne ≡ true → sw ≡ false → Right K B first κ own false
+    sw-wrong h₁ h₂ h₃ = decides false (rw (h₁, h₂, h₃))
+
+    pub se-wrong : nw ≡ true → ne ≡ true → sw ≡ true → se ≡ false → Right K B first κ own false
+    se-wrong h₁ h₂ h₃ h₄ = decides false (rw (h₁, h₂, h₃, h₄))
+
+    pub all-leaves : nw ≡ true → ne ≡ true → sw ≡ true → se ≡ true → Right K B first κ own (eqb union own)
+    all-leaves h₁ h₂ h₃ h₄ = decides (eqb union own) (rw (h₁, h₂, h₃, h₄))

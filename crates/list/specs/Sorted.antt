@@ -13,3 +13,8 @@ pub record Sorted (keys : List ℕ) (n key : ℕ) : Type 0 where
   pub ascends : Ascends keys n
   pub some : 1 ≤ n
   pub first : getD keys 0 0 ≤ key
+
+-- a place among the first n whose key is at or before x: the search for x can begin there
+pub record Near (keys : List ℕ) (n from x : ℕ) : Type 0 where
+  pub room : from < n
+  pub before : getD keys from 0 ≤ x

@@ -1,7 +1,7 @@
 // The check of a list (refusal 4): one pass in which the key of each record is known before it is read. That no record has a slot at or above s
 // is asked of the first record alone, since a node's bits are the union of its children's.
 ghost use mathlib.Core.Path.{_≡_};
-ghost use mathlib.Core.Bool.{true, _&&_};
+ghost use mathlib.Core.Bool.{true, cond, _&&_};
 ghost use Prim.Native.Nat.{ℕ, _+_, _*_, _^_, _≤_, _<_};
 ghost use lib.ListN.{length, drop};
 ghost use lib.Dec.{leb, eqb};
@@ -29,28 +29,34 @@ pub fn is_leaf(key: u32, bits: u32, leaf: u32) -> bool
     (key == leaf) & has_one_slot(bits)
 }
 
-// `after_node` at height 1: four pixels. Nearly all nodes are at heights 1 and 2, so these have functions of their own, without recursion.
-fn four_pixels(keys: &[u32], bits: &[u32], first: usize, key: u32, own: u32) -> usize
+// After the own record of a node of height 1: whether the next four records are its pixels. Nearly all nodes are at heights 1 and 2, so these
+// have functions of their own, without recursion. The answer is no place: so the machine need not wait for the tests to know where to read on.
+fn four_pixels(keys: &[u32], bits: &[u32], first: usize, key: u32, own: u32) -> bool
     requires { ⌜ (length (now keys) ≡ length (now bits)) × (first ≤ length (now keys)) × (key + 5 < 2 ^ 32) ⌝ }
-    ensures { λ r. ⌜ (r ≤ length (now (keys .entry)))
-        × (r ≡ placeOf (length (now (keys .entry))) (afterNode 1 key own (drop first (paired (now (keys .entry)) (now (bits .entry)))))) ⌝ }
+    ensures { λ r. ⌜ (r ≡ true → first + 4 ≤ length (now (keys .entry)))
+        × (cond r (first + 4) 0
+        ≡ placeOf (length (now (keys .entry))) (afterNode 1 key own (drop first (paired (now (keys .entry)) (now (bits .entry)))))) ⌝ }
 {
     if keys.len() - first < 4 {
-        return 0;
+        return false;
     }
     let a = bits[first];
-    let b = bits[first + 1];
-    let c = bits[first + 2];
-    let d = bits[first + 3];
-    let nw = is_leaf(keys[first], a, key + 1);
-    let ne = is_leaf(keys[first + 1], b, key + 2);
-    let sw = is_leaf(keys[first + 2], c, key + 3);
-    let se = is_leaf(keys[first + 3], d, key + 4);
-    if nw & ne & sw & se & ((a | b | c | d) == own) {
-        first + 4
-    } else {
-        0
+    if !is_leaf(keys[first], a, key + 1) {
+        return false;
     }
+    let b = bits[first + 1];
+    if !is_leaf(keys[first + 1], b, key + 2) {
+        return false;
+    }
+    let c = bits[first + 2];
+    if !is_leaf(keys[first + 2], c, key + 3) {
+        return false;
+    }
+    let d = bits[first + 3];
+    if !is_leaf(keys[first + 3], d, key + 4) {
+        return false;
+    }
+    (a | b | c | d) == own
 }
 
 // `after_node` at height 2.
@@ -73,10 +79,10 @@ fn after_sixteen(keys: &[u32], bits: &[u32], first: usize, key: u32, own: u32) -
         let found = bits[next];
         next += 1;
         if !has_one_slot(found) {
-            next = four_pixels(keys, bits, next, child, found);
-            if next == 0 {
+            if !four_pixels(keys, bits, next, child, found) {
                 return 0;
             }
+            next += 4;
         }
         union = union | found;
         quadrant += 1;
@@ -95,10 +101,14 @@ fn after_low(keys: &[u32], bits: &[u32], first: usize, key: u32, own: u32, step:
     if step == 5 {
         return after_sixteen(keys, bits, first, key, own);
     }
-    if step == 1 {
-        return four_pixels(keys, bits, first, key, own);
+    if step != 1 {
+        return 0;
     }
-    0
+    if four_pixels(keys, bits, first, key, own) {
+        first + 4
+    } else {
+        0
+    }
 }
 
 // After a node's own record: the place after its last record, or 0 where what follows are not its four children. A leaf among them is passed

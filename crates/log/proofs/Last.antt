@@ -1,39 +1,25 @@
--- The last entry of a log by its places in the two slices: its key, its count, where its content starts, and what stands before it; and what a sound
--- log says of these places. Rests on the records of two slices.
-use Prim.Native.Nat.{ℕ, zero, suc, _+_, _-_, _≤_, _<_}
-use mathlib.Core.Path.{_≡_, sym, ap, ap₂, _∙_}
+-- The last entry of a log in two slices: where its key and its count stand; which places its content has; and what a sound log says of it. Rests on
+-- the laws of the last entry and of the records of two slices.
+use Prim.Native.Nat.{ℕ, _+_, _-_, _≤_, _<_}
+use mathlib.Core.Path.{_≡_, sym, ap, _∙_}
 use mathlib.Core.Bool.{Bool, true, false, _&&_}
-use mathlib.Core.List.{List}
+use mathlib.Core.List.{List, [], _∷_}
 use native.Mathlib.Omega.{arith}
-use lib.ListN.{length, getD, take, drop, length-drop}
+use lib.ListN.{length, getD}
 use lib.Dec.{leb}
-use lib.Seq.{length-take-le}
 use borrow.Author.Tests.{leb-true, not-false}
 use Rattle.keys.specs.Key.{validKey}
 use Rattle.keys.proofs.Cases.{and-left, and-right}
-use Rattle.definitions.specs.List.{recordOf, keysOf, valuesOf}
-use Rattle.definitions.specs.Read.{room, paired, recordsOf}
-use Rattle.definitions.specs.Log.{lastRecord, lastKey, lastCount, beforeLast, lastContent, isContent, isSound, noLog}
-use Rattle.definitions.proofs.SoundLog.{content-not-empty, sound-ends, sound-before}
-use Rattle.definitions.proofs.Records.{paired-keys, paired-values, records-length, records-at, records-first, records-run}
+use Rattle.definitions.specs.List.{Record, recordOf}
+use Rattle.definitions.specs.Read.{room, recordsOf}
+use Rattle.definitions.specs.Log.{closingPlaces, lastRecord, lastKey, lastCount, beforeLast, lastContent, isContent, isSound, noLog}
+use Rattle.definitions.proofs.LastEntry.{length-before, content-place, length-content}
+use Rattle.definitions.proofs.SoundLog.{content-not-empty, sound-ends}
+use Rattle.definitions.proofs.Records.{records-length, records-at, records-run}
+use Rattle.log.specs.declared.entry.Entry.{Entry}
+use Rattle.log.specs.Entries.{closingKey, closingCount, lastEntry, Ended, run}
 
--- the key of the closing record
-abbrev pub closingKey : List ℕ → ℕ → ℕ
-closingKey keys used = getD keys (used - 1) 0
-
--- its count
-abbrev pub closingCount : List ℕ → ℕ → ℕ
-closingCount values used = getD values (used - 1) 0
-
--- the place where the content starts
-abbrev pub contentStart : List ℕ → ℕ → ℕ
-contentStart values used = used - 1 - closingCount values used
-
--- the places of the content in one of the two slices
-abbrev pub contentRun : List ℕ → ℕ → List ℕ → List ℕ
-contentRun values used slice = take (closingCount values used) (drop (contentStart values used) slice)
-
-module _ (keys values : List ℕ) (used : ℕ) (in-keys : used ≤ length keys) (in-values : used ≤ length values) (some : 0 < used) where
+module _ (keys values : List ℕ) (used : ℕ) (in-keys : used ≤ length keys) (in-values : used ≤ length values) (some : closingPlaces ≤ used) where
   last-record-at : lastRecord (recordsOf keys values used) ≡ recordOf (closingKey keys used) (closingCount values used)
   unfolding lastRecord
   last-record-at =
@@ -50,31 +36,49 @@ module _ (keys values : List ℕ) (used : ℕ) (in-keys : used ≤ length keys) 
   unfolding lastCount
   last-count-at = ap (λ x. x .value) last-record-at
 
-  start-at : length (recordsOf keys values used) - (lastCount (recordsOf keys values used) + 1) ≡ contentStart values used
-  start-at =
-      ap₂ (λ n count. n - (count + 1)) (records-length keys values used in-keys in-values) last-count-at ∙ omega arith
+-- a last entry that is all there, by its places
+module _ {keys values : List ℕ} {used : ℕ} (e : Ended keys values used) where
+  -- the records
+  abbrev pub log : List Record
+  log = recordsOf keys values used
 
-  -- before the last entry stand the records before the place where its content starts
-  pub before-last-at : beforeLast (recordsOf keys values used) ≡ recordsOf keys values (contentStart values used)
-  unfolding beforeLast
-  before-last-at =
-      ap (λ n. take n (recordsOf keys values used)) start-at
-      ∙ records-first keys values used (contentStart values used) (omega arith)
+  size : length log ≡ used
+  size = records-length keys values used (e .in-keys) (e .in-values)
 
-  -- its content stands from there up to the closing record
-  pub last-content-at : closingCount values used + 1 ≤ used
-      → lastContent (recordsOf keys values used) ≡ paired (contentRun values used keys) (contentRun values used values)
-  unfolding lastContent
-  last-content-at there =
-      ap₂ (λ count n. take count (drop n (recordsOf keys values used))) last-count-at start-at
-      ∙ records-run keys values used (contentStart values used) (closingCount values used) (omega arith)
+  there : lastCount log + closingPlaces ≤ length log
+  there = let a = size in omega (arith, e .all-there)
 
--- the content's places in a slice
-run-length : (values : List ℕ) (used : ℕ) (slice : List ℕ) → closingCount values used + 1 ≤ used → used ≤ length slice
-    → length (contentRun values used slice) ≡ closingCount values used
-run-length values used slice there h =
-    let rest = length-drop (contentStart values used) slice in
-    length-take-le (closingCount values used) (drop (contentStart values used) slice) (omega arith)
+  -- it takes the places past what stands before it
+  pub entry-places : length (beforeLast log) + (lastCount log + closingPlaces) ≡ used
+  entry-places = length-before log there ∙ size
+
+  -- its content is a run of records
+  pub content-run : lastContent log ≡ run keys values (length (beforeLast log)) (lastCount log)
+  content-run =
+      let all = entry-places in
+      content-place log there ∙ records-run keys values used (length (beforeLast log)) (lastCount log) (omega arith)
+
+  -- as long as its count says
+  pub content-length : length (lastContent log) ≡ lastCount log
+  content-length = length-content log there
+
+  -- the count that was read, and how many places the entry takes by it
+  module _ (count taken : ℕ) (read : count ≡ closingCount values used) (taken-is : taken ≡ count + closingPlaces) where
+    count-at : count ≡ lastCount log
+    count-at = read ∙ sym (last-count-at keys values used (e .in-keys) (e .in-values) (omega (arith, e .all-there)))
+
+    -- they are there
+    pub taken-there : taken ≤ used
+    taken-there = let a = count-at in omega (arith, e .all-there)
+
+    -- what was read is the last entry
+    pub last-found : _≡_ {A = Entry} (record { key = closingKey keys used; start = used - taken; count = count }) (lastEntry log)
+    last-found =
+        let a = count-at in
+        let all = entry-places in
+        let key : closingKey keys used ≡ lastKey log = sym (last-key-at keys values used (e .in-keys) (e .in-values) (omega (arith, e .all-there))) in
+        let start : used - taken ≡ length (beforeLast log) = omega arith in
+        λ i. record { key = key i; start = start i; count = a i }
 
 -- a log that is not refused with 5: its records are there and divide into entries
 pub record SoundLog (m s : ℕ) (keys values : List ℕ) (used : ℕ) : Type 0 where
@@ -91,61 +95,27 @@ sound-log m s keys values used e =
     let inside = leb-true used (room keys values) (and-left there (isSound m s (recordsOf keys values used)) both) in
     record { in-keys = omega arith; in-values = omega arith; sound = and-right there (isSound m s (recordsOf keys values used)) both }
 
--- the last entry of a sound log with records, by its places in the two slices
+-- the last entry of a sound log with records
 pub record LastEntry (m s : ℕ) (keys values : List ℕ) (used : ℕ) : Type 0 where
-  pub in-keys : used ≤ length keys
-  pub in-values : used ≤ length values
-  pub some-content : 0 < closingCount values used
-  pub all-there : closingCount values used + 1 ≤ used
-  pub key : lastKey (recordsOf keys values used) ≡ closingKey keys used
-  pub valid : validKey m (closingKey keys used) ≡ true
-  pub count : lastCount (recordsOf keys values used) ≡ closingCount values used
-  pub content : lastContent (recordsOf keys values used) ≡ paired (contentRun values used keys) (contentRun values used values)
-  pub correct : isContent m s (closingKey keys used) (paired (contentRun values used keys) (contentRun values used values)) ≡ true
-  pub content-keys : keysOf (lastContent (recordsOf keys values used)) ≡ contentRun values used keys
-  pub content-values : valuesOf (lastContent (recordsOf keys values used)) ≡ contentRun values used values
-  pub before : beforeLast (recordsOf keys values used) ≡ recordsOf keys values (contentStart values used)
-  pub length-before : length (beforeLast (recordsOf keys values used)) ≡ contentStart values used
-  pub sound-before : isSound m s (recordsOf keys values (contentStart values used)) ≡ true
+  pub ended : Ended keys values used
+  pub some-content : 0 < lastCount (recordsOf keys values used)
+  pub valid : validKey m (lastKey (recordsOf keys values used)) ≡ true
+  pub correct : isContent m s (lastKey (recordsOf keys values used)) (lastContent (recordsOf keys values used)) ≡ true
 
 -- no content is no list
-not-none : (m s κ count : ℕ) (keys values : List ℕ) → isContent m s κ (paired (take count keys) (take count values)) ≡ true → 0 < count
-unfolding paired
-not-none m s κ zero keys values e = absurd (let z : _≡_ {A = Bool} true false = sym e ∙ content-not-empty m s κ in never z)
+not-none : (m s κ : ℕ) (content : List Record) → isContent m s κ content ≡ true → 0 < length content
+not-none m s κ [] e = absurd (let z : _≡_ {A = Bool} true false = sym e ∙ content-not-empty m s κ in never z)
   where
     never : _≡_ {A = Bool} true false → ⊥
     never z = let o : _≡_ {A = ℕ} 0 1 = cc in omega arith
-not-none m s κ (suc count) keys values e = omega arith
+not-none m s κ (x ∷ content) e = omega arith
 
 -- a sound log with records has one
 pub last-entry : {m s : ℕ} {keys values : List ℕ} {used : ℕ} → SoundLog m s keys values used → 0 < used → LastEntry m s keys values used
-last-entry {m} {s} {keys} {values} {used} log some =
-    let in-keys = log .in-keys in
-    let in-values = log .in-values in
-    let size = records-length keys values used in-keys in-values in
-    let has : 0 < length (recordsOf keys values used) = omega arith in
-    let ends = sound-ends m s (recordsOf keys values used) (log .sound) has in
-    let key = last-key-at keys values used in-keys in-values some in
-    let count = last-count-at keys values used in-keys in-values some in
-    let there : closingCount values used + 1 ≤ used = omega (arith, ends .all-there) in
-    let content = last-content-at keys values used in-keys in-values some there in
-    let before = before-last-at keys values used in-keys in-values some in
-    let correct : isContent m s (closingKey keys used) (paired (contentRun values used keys) (contentRun values used values)) ≡ true
-    = sym (ap₂ (λ κ l. isContent m s κ l) key content) ∙ ends .correct in
-    let same = run-length values used keys there in-keys ∙ sym (run-length values used values there in-values) in
-    record {
-      in-keys = in-keys;
-      in-values = in-values;
-      some-content = not-none m s (closingKey keys used) (closingCount values used) _ _ correct;
-      all-there = there;
-      key = key;
-      valid = sym (ap (validKey m) key) ∙ ends .valid;
-      count = count;
-      content = content;
-      correct = correct;
-      content-keys = ap keysOf content ∙ paired-keys _ _ same;
-      content-values = ap valuesOf content ∙ paired-values _ _ same;
-      before = before;
-      length-before = ap length before ∙ records-length keys values (contentStart values used) (omega arith) (omega arith);
-      sound-before = sym (ap (isSound m s) before) ∙ sound-before m s (recordsOf keys values used) (log .sound) has;
-    }
+last-entry {m} {s} {keys} {values} {used} sound some =
+    let size = records-length keys values used (sound .in-keys) (sound .in-values) in
+    let ends = sound-ends m s (recordsOf keys values used) (sound .sound) (omega arith) in
+    let ended : Ended keys values used = record { in-keys = sound .in-keys; in-values = sound .in-values; all-there = omega (arith, ends .all-there) } in
+    let content = content-length ended in
+    let records = not-none m s (lastKey (recordsOf keys values used)) (lastContent (recordsOf keys values used)) (ends .correct) in
+    record { ended = ended; some-content = omega arith; valid = ends .valid; correct = ends .correct }

@@ -1,3 +1,5 @@
 pub mod Last
-pub mod Entry
+pub mod Places
+pub mod Written
+pub mod Tests
 pub mod Sound

@@ -4,20 +4,23 @@ use mathlib.Core.Path.{_≡_, refl, sym, ap, _∙_}
 use mathlib.Core.Bool.{Bool, true, false, not, _&&_}
 use mathlib.Core.List.{List}
 use native.Mathlib.Omega.{arith}
-use lib.ListN.{length, length-take}
+use lib.ListN.{length, take, length-take}
 use borrow.Author.Tests.{le-leb, lt-leb, not-true, not-false}
 use Rattle.definitions.specs.List.{Record}
 use Rattle.definitions.specs.Read.{room, paired, recordsOf}
-use Rattle.definitions.specs.Log.{lastCount, beforeLast, lastIsEntry, isSound, noLog}
+use Rattle.definitions.specs.Log.{closingPlaces, lastCount, beforeLast, lastIsEntry, isSound, noLog}
 use Rattle.definitions.proofs.SoundLog.{divides-step, divides-enough, empty-sound, ends-in-entry}
-use Rattle.definitions.proofs.Records.{records-length}
-use Rattle.log.proofs.Last.{closingCount, last-count-at, before-last-at}
+use Rattle.definitions.proofs.LastEntry.{before-place}
+use Rattle.definitions.proofs.Records.{records-length, records-first}
+use Rattle.log.specs.declared.entry.Entry.{Entry}
+use Rattle.log.specs.Entries.{lastEntry, Ended}
+use Rattle.log.proofs.Places.{start-is, places-are}
 
 -- a log with records is sound exactly when its last are an entry and those before it are sound
 pub sound-step : (m s : ℕ) (log : List Record) → 0 < length log → isSound m s log ≡ lastIsEntry m s log && isSound m s (beforeLast log)
 unfolding beforeLast
 sound-step m s log some =
-    let shorter : length (beforeLast log) ≤ length log = let e = length-take (length log - (lastCount log + 1)) log in omega arith in
+    let shorter : length (beforeLast log) ≤ length log = let e = length-take (length log - (lastCount log + closingPlaces)) log in omega arith in
     sym (divides-enough (suc (length log)) m s log (omega arith))
     ∙ divides-step (length log) m s log some
     ∙ ap (λ b. lastIsEntry m s log && b) (divides-enough (length log) m s (beforeLast log) shorter)
@@ -70,27 +73,34 @@ module _ {m s : ℕ} {keys values : List ℕ} {used end : ℕ} (p : Passed m s k
           (sound-step m s (recordsOf keys values end) has
           ∙ ap (λ b. b && isSound m s (beforeLast (recordsOf keys values end))) (sym told ∙ not-true r e))
 
-      module _ (passes : not r ≡ false) (count : ℕ) (e : count ≡ closingCount values end) where
+      module _ (passes : not r ≡ false) where
         entry : lastIsEntry m s (recordsOf keys values end) ≡ true
         entry = sym told ∙ not-false r passes
 
-        -- the content is there
-        pub content-there : count ≤ end - 1
-        content-there =
+        -- the last entry is all there
+        pub ended : Ended keys values end
+        ended =
             let size = records-length keys values end (omega arith) (omega arith) in
-            let c = last-count-at keys values end (omega arith) (omega arith) some in
-            let h = ends-in-entry m s (recordsOf keys values end) entry in
-            omega (arith, h .all-there)
+            record { in-keys = omega arith; in-values = omega arith; all-there = omega (arith, ends-in-entry m s (recordsOf keys values end) entry .all-there) }
 
-        -- the entry is passed
-        pub turns : Passed m s keys values used (end - 1 - count)
-        turns = record {
-          within = omega arith;
-          in-keys = p .in-keys;
-          in-values = p .in-values;
-          same = p .same
-              ∙ sound-step m s (recordsOf keys values end) has
-              ∙ ap (λ b. b && isSound m s (beforeLast (recordsOf keys values end))) entry
-              ∙ ap (isSound m s) (before-last-at keys values end (omega arith) (omega arith) some)
-              ∙ ap (λ c. isSound m s (recordsOf keys values (end - 1 - c))) (sym e);
-        }
+        module _ (last : Entry) (found : last ≡ lastEntry (recordsOf keys values end)) where
+          -- it has places
+          pub falls : last .start < end
+          falls = let all = places-are ended last found in omega arith
+
+          -- and is passed
+          pub turns : Passed m s keys values used (last .start)
+          turns =
+              let all = places-are ended last found in
+              record {
+                within = omega arith;
+                in-keys = p .in-keys;
+                in-values = p .in-values;
+                same = p .same
+                    ∙ sound-step m s (recordsOf keys values end) has
+                    ∙ ap (λ b. b && isSound m s (beforeLast (recordsOf keys values end))) entry
+                    ∙ ap (isSound m s)
+                    (before-place (recordsOf keys values end)
+                    ∙ ap (λ n. take n (recordsOf keys values end)) (sym (start-is ended last found))
+                    ∙ records-first keys values end (last .start) (omega arith));
+              }

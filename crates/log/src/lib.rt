@@ -1,38 +1,33 @@
-// The check of a log (refusal 5), from the end: each closing record says where its entry begins, so no entry is looked for.
+// The log: its entries, and the check of a log (refusal 5), from the end: the last entry says where it begins, so no entry is looked for.
 ghost use mathlib.Core.Path.{_≡_};
 ghost use mathlib.Core.Bool.{not};
-ghost use Prim.Native.Nat.{_-_, _≤_, _<_};
-ghost use lib.ListN.{length, getD};
+ghost use Prim.Native.Nat.{_≤_, _<_};
+ghost use lib.ListN.{length};
 ghost use Rattle.definitions.specs.Read.{recordsOf};
 ghost use Rattle.definitions.specs.Log.{lastIsEntry, noLog};
 use keys::Key;
 use list::check;
 
-// The number of content records that the last entry claims to have.
-pub fn last_count(values: &[u32], used: usize) -> usize
-    requires { ⌜ (0 < used) × (used ≤ length (now values)) ⌝ }
-    ensures { λ r. ⌜ r ≡ getD (now (values .entry)) (used - 1) 0 ⌝ }
-{
-    values[used - 1] as usize
-}
+pub mod entry;
 
 // The used records end in an entry: all of it is there, its key is valid, and its content is a list of that block.
 fn ends_in_entry(m: u32, s: u32, keys: &[u32], values: &[u32], used: usize) -> bool
     requires { ⌜ (m ≤ 10) × (s ≤ 16) × (0 < used) × (used ≤ length (now keys)) × (used ≤ length (now values)) ⌝ }
     ensures { λ r. ⌜ r ≡ lastIsEntry m s (recordsOf (now (keys .entry)) (now (values .entry)) used) ⌝ }
 {
-    let last = used - 1;
-    let count = last_count(values, used);
-    if last < count {
+    if used < entry::places(entry::last_count(values, used)) {
         return false;
     }
-    let key = keys[last];
+    let last = entry::last_entry(keys, values, used);
+    let key = last.key;
     let block = Key { number: key };
     if !block.is_valid(m) {
         return false;
     }
-    let start = last - count;
-    check::is_content(m, s, &keys[start..last], &values[start..last], count, key)
+    let start = last.start;
+    let count = last.count;
+    let end = start + count;
+    check::is_content(m, s, &keys[start..end], &values[start..end], count, key)
 }
 
 // The used records are there, and divide from the end into entries.
@@ -51,8 +46,7 @@ pub fn is_sound(m: u32, s: u32, keys: &[u32], values: &[u32], used: usize) -> bo
         if !ends_in_entry(m, s, keys, values, end) {
             return false;
         }
-        let count = last_count(values, end);
-        end = end - 1 - count;
+        end = entry::last_entry(keys, values, end).start;
     }
     true
 }

@@ -1,4 +1,4 @@
--- The four calls of `hlq_findings`: what each is passed, that it is there, and what it gives back. All that is known of `begin`, `run`, `begin_writing` and
+-- The four calls of `hlq_findings`: what each is passed, that it is there, and what it gives back. All that is known of `begin`, `run`, `begin_next` and
 -- `answer` is their contracts; the rest are the laws of calls in the crate rules (Calling, LentAnswers).
 use mathlib.Core.Path.{_≡_, refl}
 use Prim.Native.Nat.{ℕ, _^_, _<_}
@@ -32,7 +32,7 @@ use Rattle.definitions.specs.declared.Found.{Found}
 use Rattle.definitions.proofs.Rule as Rule
 use Rattle.definitions.proofs.Found as Found
 use Rattle.definitions.proofs.Found.Laws as Found′
-use Rattle.rules.specs.Run.{progressOf, runOf, beginOf, writingOf, answerOf}
+use Rattle.rules.specs.Run.{progressOf, bounding, runOf, beginOf, nextOf, answerOf}
 use Rattle.rules.specs.declared.run.State.{State}
 use Rattle.rules.proofs.run.State as State
 use Rattle.rules.proofs.run.State.Laws as State′
@@ -43,8 +43,8 @@ use Rattle.rules.proofs.RunSlices.{RunSlices, stateVals, valOf, reads, tokens, 
 use Rattle.rules.proofs.LentAnswers.{Lending, lent-answers}
 use Rattle.rules.proofs.begin.begin as begin
 use Rattle.rules.proofs.begin.begin.Symbol.{name as #begin}
-use Rattle.rules.proofs.begin.begin_writing as writing
-use Rattle.rules.proofs.begin.begin_writing.Symbol.{name as #writing}
+use Rattle.rules.proofs.begin.begin_next as next
+use Rattle.rules.proofs.begin.begin_next.Symbol.{name as #next}
 use Rattle.rules.proofs.begin.answer as answer
 use Rattle.rules.proofs.begin.answer.Symbol.{name as #answer}
 use Rattle.rules.proofs.run.run as run′
@@ -58,8 +58,8 @@ module _ {M : Type 1} (𝓤 : URA M) (H : Heap 𝓤) (A : Atoms 𝓤) (mem : Mem
   abbrev pub Run : Contract 𝓤
   Run = tripleOf 𝓤 H A run′.signature (run′.spec 𝓤 H A mem run)
 
-  abbrev pub Writing : Contract 𝓤
-  Writing = tripleOf 𝓤 H A writing.signature (writing.spec 𝓤 H A mem run)
+  abbrev pub Next : Contract 𝓤
+  Next = tripleOf 𝓤 H A next.signature (next.spec 𝓤 H A mem run)
 
   abbrev pub Answer : Contract 𝓤
   Answer = tripleOf 𝓤 H A answer.signature (answer.spec 𝓤 H A mem run)
@@ -74,26 +74,26 @@ run-passes rules S r = val rules ∷ val (S .keys) ∷ val (S .bits) ∷ val (S 
 
 -- r is the state that `begin` makes
 abbrev pub Begun : RunSlices → ℕ → ℕ → ℕ → State → Type 0
-Begun S m s n r = r ≡ beginOf m s (S .keys .x .now) (S .bits .x .now) n (S .waiver-ids .x .now) (S .waiver-keys .x .now) (length (S .found-ids .x .now)) (length (S .found-keys .x .now))
+Begun S m s n r = r ≡ bounding 0 (beginOf m s (S .keys .x .now) (S .bits .x .now) n (S .waiver-ids .x .now) (S .waiver-keys .x .now) (length (S .found-ids .x .now)) (length (S .found-keys .x .now)))
 
 -- what a run over the rules from the progress of r, l and l′ ends with
 abbrev pub Ran : Slice Rule.the-row → RunSlices → State → List ℕ → List ℕ → Type 0
 Ran rules S r l l′ = Result S (runOf (S .keys .x .now) (S .bits .x .now) (S .waiver-ids .x .now) (S .waiver-keys .x .now) (rules .x .now) (progressOf r l l′))
 
 module _ {M : Type 1} (𝓤 : URA M) (H : Heap 𝓤) (A : Atoms 𝓤) (W : Given 𝓤 H A) (mem : Memory → SProp 𝓤) (run : Routine → Fun 𝓤) (C : Calls 𝓤 H) (fm : FmC 𝓤 H (W .laws) C) where
-  -- ---- begin_writing and answer: a state by value
+  -- ---- begin_next and answer: a state by value
   abbrev state-asked : State → SProp 𝓤
   state-asked r = sep 𝓤 (sep 𝓤 (emp 𝓤) (sem 𝓤 H A (fsep (State.the-row .own r (stateVals r)) ftrue))) (emp 𝓤)
 
   asks-state : (r : State) → Is State.the-row r (stateVals r) → ent 𝓤 (emp 𝓤) (state-asked r)
   asks-state r is = qed W (‵ ftrue ∷ []) ∵ nothing ! $ owned ! State.the-row (Is State.the-row) (LL.makes State.the-type State′.the-plain 𝓤 H A) r _ is $ fjoin ! $ nothing ! $ join ! $ frame ! $ done !
 
-  module _ (known : Triple 𝓤 (C #writing) (Writing 𝓤 H A mem run)) (r : State) (is : Is State.the-row r (stateVals r)) where
-    pub writing-gives : Gives W C #writing (valOf r ∷ []) (‵ ftrue) (Returned State.the-type State′.the-laws (λ r′. r′ ≡ writingOf r)) (λ x. valOf (x .result)) (λ _. ‵ ftrue)
-    writing-gives = returns-struct 𝓤 H A W C fm #writing (valOf r ∷ []) State.the-type State′.the-laws (λ r′. r′ ≡ writingOf r)
-        (λ r′. ensured 𝓤 H A writing.ended (writing.clauses 𝓤 H A mem run) tt (r, tt) tt r′) (‵ ftrue) (‵ ftrue)
+  module _ (known : Triple 𝓤 (C #next) (Next 𝓤 H A mem run)) (r : State) (is : Is State.the-row r (stateVals r)) where
+    pub next-gives : Gives W C #next (valOf r ∷ []) (‵ ftrue) (Returned State.the-type State′.the-laws (λ r′. r′ ≡ nextOf r)) (λ x. valOf (x .result)) (λ _. ‵ ftrue)
+    next-gives = returns-struct 𝓤 H A W C fm #next (valOf r ∷ []) State.the-type State′.the-laws (λ r′. r′ ≡ nextOf r)
+        (λ r′. ensured 𝓤 H A next.ended (next.clauses 𝓤 H A mem run) tt (r, tt) tt r′) (‵ ftrue) (‵ ftrue)
         (via 𝓤 (state-asked r) (asks-state r is) (known ((tt, tt, tt, (r, tt), (stateVals r, tt)), tt)))
-        (λ r′. exE 𝓤 _ (λ ws. snd∗ 𝓤 (sem 𝓤 H A (lasts writing.ended tt (r, tt) ws)) (fact 𝓤 (r′ ≡ writingOf r))))
+        (λ r′. exE 𝓤 _ (λ ws. snd∗ 𝓤 (sem 𝓤 H A (lasts next.ended tt (r, tt) ws)) (fact 𝓤 (r′ ≡ nextOf r))))
 
   module _ (known : Triple 𝓤 (C #answer) (Answer 𝓤 H A mem run)) (r : State) (is : Is State.the-row r (stateVals r)) where
     pub answer-gives : Gives W C #answer (valOf r ∷ []) (‵ ftrue) (Returned Found.the-type Found′.the-laws (λ f. f ≡ answerOf r)) (λ x. LL.val Found.the-type Found′.the-laws (x .result)) (λ _. ‵ ftrue)

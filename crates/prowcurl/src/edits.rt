@@ -4,7 +4,9 @@ ghost use Rattle.definitions.specs.Calls.Empty.{emptied};
 ghost use Rattle.edit.specs.PaintCall.{Painted};
 ghost use Rattle.edit.specs.TakingBackCall.{TakenBack};
 use definitions::Edited;
-use edit::editing;
+use edit::empty;
+use edit::paint;
+use edit::take_back;
 
 #[no_mangle]
 pub extern "C" fn hlq_paint(
@@ -22,7 +24,7 @@ pub extern "C" fn hlq_paint(
     ensures { λ r. ⌜ Painted m s (now (keys .entry)) (now (bits .entry)) n (now («log_keys» .entry)) (now («log_values» .entry)) used key feature
         r (now (keys .exit)) (now (bits .exit)) (now («log_keys» .exit)) (now («log_values» .exit)) ⌝ }
 {
-    editing::paint(
+    paint::paint(
         m,
         s,
         keys,
@@ -50,12 +52,12 @@ pub extern "C" fn hlq_take_back(
     ensures { λ r. ⌜ TakenBack m s (now (keys .entry)) (now (bits .entry)) n (now («log_keys» .entry)) (now («log_values» .entry)) used
         r (now (keys .exit)) (now (bits .exit)) (now («log_keys» .exit)) (now («log_values» .exit)) ⌝ }
 {
-    editing::take_back(m, s, keys, bits, n, log_keys, log_values, used)
+    take_back::take_back(m, s, keys, bits, n, log_keys, log_values, used)
 }
 
 #[no_mangle]
 pub extern "C" fn hlq_empty() -> u64
     ensures { λ r. ⌜ r ≡ emptied ⌝ }
 {
-    editing::empty()
+    empty::empty()
 }

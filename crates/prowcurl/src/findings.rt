@@ -1,6 +1,6 @@
-// Findings for C: the findings of the rules that no waiver hides. The rules are run through twice, once to check them and to count, and once to write.
-// Like the loop that it calls, the function takes the rules as a lent slice of structs and is walked by hand; so the call itself stands here, and not
-// one more function between it and the runs.
+// Findings for C: the findings of the rules that no waiver hides. A first run over the rules checks them and the waivers and bounds the number of findings;
+// a second counts them, and is passed over where the bound is within the room; the third writes. Like the loop that it calls, the function takes the rules
+// as a lent slice of structs and is walked by hand; so the call itself stands here, and not one more function between it and the runs.
 ghost use mathlib.Core.Path.{_≡_};
 ghost use Rattle.definitions.specs.Calls.Findings.{findings as findingsAnswer, findingsIds, findingsKeys};
 use definitions::Found;
@@ -25,7 +25,7 @@ pub extern "C" fn hlq_findings(
         × (now («found_ids» .exit) ≡ findingsIds m s (now (keys .entry)) (now (bits .entry)) n (now (rules .entry)) (now («waiver_ids» .entry)) (now («waiver_keys» .entry)) (now («found_ids» .entry)) (now («found_keys» .entry)))
         × (now («found_keys» .exit) ≡ findingsKeys m s (now (keys .entry)) (now (bits .entry)) n (now (rules .entry)) (now («waiver_ids» .entry)) (now («waiver_keys» .entry)) (now («found_ids» .entry)) (now («found_keys» .entry))) ⌝ }
 {
-    let counting = begin::begin(
+    let checking = begin::begin(
         m,
         s,
         keys,
@@ -36,6 +36,17 @@ pub extern "C" fn hlq_findings(
         found_ids.len(),
         found_keys.len(),
     );
+    let checked = run::run(
+        rules,
+        keys,
+        bits,
+        waiver_ids,
+        waiver_keys,
+        found_ids,
+        found_keys,
+        checking,
+    );
+    let counting = begin::begin_next(checked);
     let counted = run::run(
         rules,
         keys,
@@ -46,7 +57,7 @@ pub extern "C" fn hlq_findings(
         found_keys,
         counting,
     );
-    let writing = begin::begin_writing(counted);
+    let writing = begin::begin_next(counted);
     let written = run::run(
         rules,
         keys,

@@ -6,7 +6,8 @@ use lib.ListN.{take, drop}
 use Rattle.definitions.specs.List.{Record, keysOf, valuesOf}
 use Rattle.definitions.proofs.Ascending.{Ascending, none, next}
 use Rattle.definitions.proofs.AscendingKeys.{AscendingKeys, no-key, key}
-use Rattle.put.specs.Put.{Plan, inserted, exchanged}
+use Rattle.put.specs.Put.{inserted, exchanged}
+use Rattle.put.specs.declared.plan.Plan.{Plan}
 
 -- records ascend exactly when their keys do
 pub ascending-to : {lo hi : ℕ} {l : List Record} → Ascending lo hi l → AscendingKeys lo hi (keysOf l)

@@ -21,7 +21,7 @@ use Rattle.definitions.proofs.BitsOf.{bits-one}
 use Rattle.definitions.proofs.ListOf.{list-first, list-one, length-several}
 use Rattle.put.specs.Family.{around}
 use Rattle.put.specs.Climb.{climb}
-use Rattle.put.specs.Put.{isLeaf, firstBits, topOf, filling}
+use Rattle.put.specs.Put.{isLeaf, firstBits, topFor, topOf, filling}
 use Rattle.put.proofs.Way.{Way, under-of, steps, steps-height}
 use Rattle.put.proofs.Outside.{Outside}
 use Rattle.put.proofs.Context.{Open, open-up}
@@ -67,7 +67,7 @@ pub record Chosen (p′ : Picture) (m κ : ℕ) (l content : List Record) : Type
 -- climbing goes from the block's height, with the levels above it
 pub top-leaf : (m κ : ℕ) (l content : List Record) (k n b : ℕ) → isLeaf content ≡ true → heightOf m κ ≡ k → n + k ≡ m → firstBits content ≡ b
     → topOf m l κ content ≡ climb l κ b n k
-unfolding topOf
+unfolding topOf topFor
 top-leaf m κ l content k n b leaf height levels first =
     ap (λ t. cond t (climb l κ (firstBits content) (m - heightOf m κ) (heightOf m κ)) (heightOf m κ)) leaf
     ∙ ap₂ (λ u h. climb l κ u (m - h) h) first height
@@ -75,7 +75,7 @@ top-leaf m κ l content k n b leaf height levels first =
 
 -- a content of several records fills its own block
 pub top-node : (m κ : ℕ) (l content : List Record) → isLeaf content ≡ false → topOf m l κ content ≡ heightOf m κ
-unfolding topOf
+unfolding topOf topFor
 top-node m κ l content e = rw e
 
 -- one record fills a block with the block's own key

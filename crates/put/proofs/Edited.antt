@@ -16,7 +16,8 @@ use Rattle.definitions.specs.Edit.{put, contentOf}
 use Rattle.definitions.proofs.ListOf.{list-first, list-ascends}
 use Rattle.definitions.proofs.Ascending.{Ascending, widen}
 use Rattle.put.specs.Renew.{renew}
-use Rattle.put.specs.Put.{Plan, planOf, lengthAfter, exchanged, renewed, edited}
+use Rattle.put.specs.Put.{planOf, lengthAfter, exchanged, renewed, edited}
+use Rattle.put.specs.declared.plan.Plan.{Plan}
 use Rattle.put.proofs.Way.{Way, way-of, steps-height}
 use Rattle.put.proofs.Outside.{Outside}
 use Rattle.put.proofs.Put.{put-outside, put-content}

@@ -15,7 +15,8 @@ use Rattle.definitions.proofs.Records.{records-length, value-at}
 use Rattle.list.proofs.Among.{keys-of-records, values-of-records}
 use Rattle.put.specs.Family.{around}
 use Rattle.put.specs.Plant.{digitAt, frontAt, backAt, front, back}
-use Rattle.put.specs.Put.{Plan, firstBits, filling, inserted, bitsBefore}
+use Rattle.put.specs.Put.{firstBits, filling, inserted, bitsBefore}
+use Rattle.put.specs.declared.plan.Plan.{Plan}
 use Rattle.put.specs.Planting.{Wrote, Deep}
 use Rattle.put.specs.Exchanging.{insertedFor}
 use Rattle.put.proofs.Field.{front-suc, back-suc, level-length}

@@ -13,7 +13,8 @@ use Rattle.definitions.specs.Buffer.{over}
 use Rattle.definitions.proofs.Records.{records-length, value-at}
 use Rattle.list.proofs.Among.{keys-of-records, values-of-records}
 use Rattle.put.specs.Plant.{front, back}
-use Rattle.put.specs.Put.{Plan, filling, inserted, exchanged}
+use Rattle.put.specs.Put.{filling, inserted, exchanged}
+use Rattle.put.specs.declared.plan.Plan.{Plan}
 use Rattle.put.specs.Planting.{Wrote, Roomy}
 use Rattle.put.specs.Exchanging.{insertedFor, Fillable, Insertable, Exchangeable, Holds}
 use Rattle.put.proofs.ByKeys.{exchanged-as-keys, exchanged-as-values}

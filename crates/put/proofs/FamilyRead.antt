@@ -19,7 +19,7 @@ use Rattle.definitions.proofs.Slots.{same-four}
 use Rattle.list.specs.Sorted.{Sorted}
 use Rattle.list.specs.Among.{keysUpTo, placeAmong}
 use Rattle.list.proofs.Among.{found-some, found-most, values-of-records, place-among}
-use Rattle.put.specs.Family.{around, bitsAt, childBits, parentBits}
+use Rattle.put.specs.Family.{around, bitsAt, childBits, parentBits, widerBits}
 
 -- keys in order that begin with the root's have a place for every key
 pub sorted-from : {keys : List ℕ} {n : ℕ} → Sorted keys n 0 → (x : ℕ) → Sorted keys n x
@@ -71,19 +71,24 @@ module _ (key step h : ℕ) (is : step ≡ 5 ^ h) where
   unfolding around
   around-parent = ap (λ s. key / s * s) (ap (λ s. s * 5) is ∙ sym (pow-suc 5 h))
 
-  -- the bits of the parent by the four children
-  pub parent-read : (l : List Record) (b nw ne sw se : ℕ)
-      → nw ≡ childBits l (key / step * step) b (key / (step * 5) * (step * 5) + step)
-      → ne ≡ childBits l (key / step * step) b (key / (step * 5) * (step * 5) + 2 * step)
-      → sw ≡ childBits l (key / step * step) b (key / (step * 5) * (step * 5) + 3 * step)
-      → se ≡ childBits l (key / step * step) b (key / (step * 5) * (step * 5) + 4 * step)
-      → bitOr (bitOr nw ne) (bitOr sw se) ≡ parentBits l key b h
-  unfolding parentBits unionOfFour
-  parent-read l b nw ne sw se e₁ e₂ e₃ e₄ =
+  -- so the bits that are found by the step are the parent's
+  pub wider-parent : (l : List Record) (b : ℕ) → widerBits l key b step ≡ parentBits l key b h
+  unfolding widerBits parentBits
+  wider-parent l b =
       let p = around-parent in
       let child : (d x : ℕ) → x ≡ childKey (around (suc h) key) h d → childBits l (key / step * step) b x ≡ childBits l (around h key) b (childKey (around (suc h) key) h d) =
       λ d x e. ap₂ (λ own y. childBits l own b y) around-own e in
-      same-four (e₁ ∙ child 1 _ (omega arith)) (e₂ ∙ child 2 _ (omega arith)) (e₃ ∙ child 3 _ (omega arith)) (e₄ ∙ child 4 _ (omega arith))
+      same-four (child 1 _ (omega arith)) (child 2 _ (omega arith)) (child 3 _ (omega arith)) (child 4 _ (omega arith))
+
+-- by the four children, one after the other
+pub wider-read : (key step : ℕ) (l : List Record) (b nw ne sw se : ℕ)
+    → nw ≡ childBits l (key / step * step) b (key / (step * 5) * (step * 5) + step)
+    → ne ≡ childBits l (key / step * step) b (key / (step * 5) * (step * 5) + 2 * step)
+    → sw ≡ childBits l (key / step * step) b (key / (step * 5) * (step * 5) + 3 * step)
+    → se ≡ childBits l (key / step * step) b (key / (step * 5) * (step * 5) + 4 * step)
+    → bitOr (bitOr nw ne) (bitOr sw se) ≡ widerBits l key b step
+unfolding widerBits unionOfFour
+wider-read key step l b nw ne sw se e₁ e₂ e₃ e₄ = same-four e₁ e₂ e₃ e₄
 
 -- a block around a key begins at or before it
 pub multiple-le : (key step : ℕ) → key / step * step ≤ key

@@ -9,8 +9,9 @@ use native.Mathlib.Omega.{arith}
 use borrow.Author.Tests.{eq-eqb, ne-eqb}
 use Rattle.keys.proofs.Powers.{five-le, five-pos}
 use Rattle.definitions.specs.List.{Record}
-use Rattle.put.specs.Family.{parentBits}
+use Rattle.put.specs.Family.{parentBits, widerBits}
 use Rattle.put.specs.Climb.{climb}
+use Rattle.put.proofs.FamilyRead.{wider-parent}
 use Rattle.put.proofs.Climb.{climb-zero, climb-on, climb-ends}
 
 -- the loop has come to a height, with the step of its blocks
@@ -42,14 +43,17 @@ module _ {m : ℕ} {l : List Record} {key b low height step : ℕ} (p : Climbing
       sym (p .left ∙ ap (λ n. climb l key b n height) e ∙ climb-zero l key b height)
 
   -- the parent's bits, as they were found
-  module _ (h : height < m) (parent : ℕ) (found : (k : ℕ) → step ≡ 5 ^ k → parent ≡ parentBits l key b k) where
+  module _ (h : height < m) (parent : ℕ) (found : parent ≡ widerBits l key b step) where
+    parent-is : parent ≡ parentBits l key b height
+    parent-is = found ∙ wider-parent key step height (p .power) l b
+
     -- they are others: the end
     pub climb-stops : (parent ≡ b → ⊥) → height ≡ climb l key b (m - low) low
     climb-stops other =
         sym
         (p .left
         ∙ ap (λ n. climb l key b n height) (levels h)
-        ∙ climb-ends l key b (m - (height + 1)) height (ne-eqb _ _ (λ e. other (found height (p .power) ∙ e))))
+        ∙ climb-ends l key b (m - (height + 1)) height (ne-eqb _ _ (λ e. other (parent-is ∙ e))))
 
     -- they are the same: on
     pub climb-goes : parent ≡ b → Climbing m l key b low (height + 1) (step * 5)
@@ -60,6 +64,6 @@ module _ {m : ℕ} {l : List Record} {key b low height step : ℕ} (p : Climbing
           left =
               p .left
               ∙ ap (λ n. climb l key b n height) (levels h)
-              ∙ climb-on l key b (m - (height + 1)) height (eq-eqb _ _ (sym (found height (p .power)) ∙ same))
+              ∙ climb-on l key b (m - (height + 1)) height (eq-eqb _ _ (sym (parent-is) ∙ same))
               ∙ ap (climb l key b (m - (height + 1))) (sym (add-one height));
         }

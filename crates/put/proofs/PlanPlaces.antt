@@ -21,8 +21,8 @@ use Rattle.list.proofs.Among.{keys-of-records}
 use Rattle.list.proofs.PartLength.{part-end}
 use Rattle.list.proofs.Own.{own-sorted}
 use Rattle.put.specs.Family.{around}
-use Rattle.put.specs.Put.{Plan, planAt}
-use Rattle.put.specs.PlanFields.{topFor}
+use Rattle.put.specs.Put.{topFor, planAt}
+use Rattle.put.specs.declared.plan.Plan.{Plan}
 use Rattle.put.proofs.Way.{Way, way-of, under-of}
 use Rattle.put.proofs.Standing.{Stands, listed, inside, stands, key-listed, key-inside}
 use Rattle.put.proofs.Bounds.{level, level-valid, level-height, level-until}

@@ -16,9 +16,8 @@ use Rattle.definitions.specs.Edit.{contentOf}
 use Rattle.list.specs.Own.{OwnList, shownBy}
 use Rattle.list.proofs.Own.{own-length}
 use Rattle.put.specs.Climb.{climb}
-use Rattle.put.specs.Put.{isLeaf, firstBits, topOf, planAt, planOf, lengthAfter}
-use Rattle.put.specs.PlanFields.{planIn, topFor}
-use Rattle.put.specs.declared.plan.Plan as code
+use Rattle.put.specs.Put.{isLeaf, firstBits, topOf, topFor, planAt, planOf, lengthAfter}
+use Rattle.put.specs.declared.plan.Plan.{Plan}
 use Rattle.put.proofs.Bounds.{climb-bounds}
 use Rattle.put.proofs.Ready.{Ready, ready-for}
 
@@ -50,18 +49,18 @@ top-fits m l κ b leaf top e deep = let h = top-bounds m l κ b leaf in omega ar
 -- what is told of a content is true: the plan is that of the content
 pub plan-for : (m : ℕ) (l : List Record) (κ : ℕ) (content : List Record) (leaf : Bool) (b : ℕ) → isLeaf content ≡ leaf → firstBits content ≡ b
     → planAt m l κ (topFor m l κ leaf b) ≡ planOf m l κ content
-unfolding planOf topOf topFor
+unfolding planOf topOf
 plan-for m l κ content leaf b e f = ap₂ (λ t x. planAt m l κ (topFor m l κ t x)) (sym e) (sym f)
 
 -- so the code's plan is ready for every content of the block
-pub plan-ready : {m n κ : ℕ} {keys bits : List ℕ} (q : Picture) (content : List Record) (leaf : Bool) (b : ℕ) (plan : code.Plan)
+pub plan-ready : {m n κ : ℕ} {keys bits : List ℕ} (q : Picture) (content : List Record) (leaf : Bool) (b : ℕ) (plan : Plan)
     → OwnList m keys bits n
     → validKey m κ ≡ true
     → content ≡ contentOf m q κ
     → isLeaf content ≡ leaf
     → firstBits content ≡ b
-    → planIn plan ≡ planAt m (recordsOf keys bits n) κ (topFor m (recordsOf keys bits n) κ leaf b)
-    → Ready m κ (recordsOf keys bits n) content (planIn plan)
+    → plan ≡ planAt m (recordsOf keys bits n) κ (topFor m (recordsOf keys bits n) κ leaf b)
+    → Ready m κ (recordsOf keys bits n) content plan
 plan-ready {m} {n} {κ} {keys} {bits} q content leaf b plan own valid is e f found =
     subst (Ready m κ (recordsOf keys bits n) content) (sym (found ∙ plan-for m (recordsOf keys bits n) κ content leaf b e f))
     (ready-for m κ q (shownBy m keys bits n) (recordsOf keys bits n) content valid (own .own) is)
@@ -71,7 +70,7 @@ pub records-length : {m n : ℕ} {keys bits : List ℕ} → OwnList m keys bits 
 records-length own = ap length (own .own) ∙ own-length own
 
 -- the length afterwards, by the numbers of records
-pub length-for : (n count : ℕ) (l content : List Record) (plan : code.Plan) → n ≡ length l → count ≡ length content
-    → n - plan .old + (4 * plan .levels + count) ≡ lengthAfter l content (planIn plan)
+pub length-for : (n count : ℕ) (l content : List Record) (plan : Plan) → n ≡ length l → count ≡ length content
+    → n - plan .old + (4 * plan .levels + count) ≡ lengthAfter l content plan
 unfolding lengthAfter
 length-for n count l content plan e f = ap₂ (λ a c. a - plan .old + (4 * plan .levels + c)) e f

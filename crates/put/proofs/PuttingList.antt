@@ -21,7 +21,8 @@ use Rattle.definitions.proofs.AscendingKeys.{ascending-places}
 use Rattle.list.specs.Sorted.{Sorted}
 use Rattle.list.specs.Own.{shownBy}
 use Rattle.put.specs.Renew.{renew}
-use Rattle.put.specs.Put.{Plan, lengthAfter, exchanged, renewed, edited}
+use Rattle.put.specs.Put.{lengthAfter, exchanged, renewed, edited}
+use Rattle.put.specs.declared.plan.Plan.{Plan}
 use Rattle.put.specs.Planting.{Deep}
 use Rattle.put.specs.Exchanging.{Exchangeable, Holds}
 use Rattle.put.specs.Putting.{Puttable, Replaced}

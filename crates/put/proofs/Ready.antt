@@ -13,7 +13,8 @@ use Rattle.definitions.specs.List.{Record, listOfPicture, keysOf}
 use Rattle.definitions.specs.Edit.{put, contentOf}
 use Rattle.definitions.proofs.Ascending.{Ascending}
 use Rattle.definitions.proofs.ListOf.{list-some}
-use Rattle.put.specs.Put.{isLeaf, firstBits, Plan, topOf, planAt, planOf, lengthAfter, inserted, exchanged}
+use Rattle.put.specs.Put.{isLeaf, firstBits, topFor, topOf, planAt, planOf, lengthAfter, inserted, exchanged}
+use Rattle.put.specs.declared.plan.Plan.{Plan}
 use Rattle.put.proofs.Bounds.{climb-bounds}
 use Rattle.put.proofs.Edited.{put-site, exchanged-ascends, exchanged-first, exchanged-length, length-is, plan-fits, plan-levels}
 
@@ -30,7 +31,7 @@ pub record Ready (m κ : ℕ) (l content : List Record) (plan : Plan) : Type 0 w
 
 -- the filled block is at least as high as the one with key κ
 pub top-low : (m κ : ℕ) (l content : List Record) → heightOf m κ ≤ topOf m l κ content
-unfolding topOf
+unfolding topOf topFor
 top-low m κ l content =
     let i = climb-bounds l κ (firstBits content) (m - heightOf m κ) (heightOf m κ) in
     decide (isLeaf content) (λ t. rw t (i .0)) (λ t. rw t (omega arith))

@@ -16,10 +16,10 @@ use Rattle.definitions.specs.Standing.{placeOf}
 use Rattle.list.specs.Sorted.{Sorted}
 use Rattle.list.specs.Among.{keysUpTo}
 use Rattle.list.proofs.Among.{values-of-records}
-use Rattle.put.specs.Family.{around, parentBits}
+use Rattle.put.specs.Family.{around, widerBits}
 use Rattle.put.specs.Renew.{setBits, renew}
 use Rattle.put.proofs.Renew.{renew-zero, renew-suc}
-use Rattle.put.proofs.FamilyRead.{sorted-from, place-read, count-below, around-parent}
+use Rattle.put.proofs.FamilyRead.{sorted-from, place-read, count-below, around-parent, wider-parent}
 
 -- bits set in a slice are set in the records
 paired-set : (keys bits : List ℕ) (i v : ℕ) → paired keys (set bits i v) ≡ setBits (paired keys bits) i v
@@ -57,7 +57,7 @@ module _ {m : ℕ} {keys bits₀ : List ℕ} {n key height b : ℕ} {bits : List
 
   -- a turn: the parent's bits are found, and set at its place
   pub renew-turns : low < m → Sorted keys n 0 → n ≤ length bits₀ → (own′ count : ℕ)
-      → ((h : ℕ) → step ≡ 5 ^ h → own′ ≡ parentBits (recordsOf keys bits n) key own h)
+      → own′ ≡ widerBits (recordsOf keys bits n) key own step
       → count ≡ keysUpTo (key / (step * 5) * (step * 5)) (take n keys)
       → Renewing m keys bits₀ n key height b (set bits (count - 1) own′) (low + 1) (step * 5) own′
   renew-turns more s room own′ count found is =
@@ -75,7 +75,7 @@ module _ {m : ℕ} {keys bits₀ : List ℕ} {n key height b : ℕ} {bits : List
         rest = drop-set-lt n bits (count - 1) own′ below ∙ p .rest;
         left =
             ap₂ (λ r h. renew r key own′ (m - (low + 1)) h) (records-set keys bits n (count - 1) own′ below) (add-one low)
-            ∙ ap₂ (λ i v. renew (setBits l i v) key v (m - (low + 1)) (suc low)) place (found low (p .power))
+            ∙ ap₂ (λ i v. renew (setBits l i v) key v (m - (low + 1)) (suc low)) place (found ∙ wider-parent key step low (p .power) l own)
             ∙ sym (renew-suc l key own (m - (low + 1)) low)
             ∙ ap (λ k. renew l key own k low) (sym levels)
             ∙ p .left;

@@ -20,7 +20,8 @@ use Rattle.definitions.specs.Standing.{placeOf, partLength}
 use Rattle.definitions.proofs.ListOf.{list-one}
 use Rattle.put.specs.Family.{around, bitsAt}
 use Rattle.put.specs.Plant.{front, back}
-use Rattle.put.specs.Put.{firstBits, Plan, planAt, planOf, filling, inserted}
+use Rattle.put.specs.Put.{firstBits, planAt, planOf, filling, inserted}
+use Rattle.put.specs.declared.plan.Plan.{Plan}
 use Rattle.put.proofs.Way.{Way, there, up, under-of, steps, steps-up, steps-height}
 use Rattle.put.proofs.Outside.{Outside, outside-up}
 use Rattle.put.proofs.Context.{before, Open, open-up}

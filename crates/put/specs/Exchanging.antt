@@ -7,7 +7,8 @@ use Rattle.definitions.specs.List.{Record, keysOf, valuesOf}
 use Rattle.definitions.specs.Read.{room}
 use Rattle.definitions.specs.Buffer.{over}
 use Rattle.put.specs.Plant.{front, back}
-use Rattle.put.specs.Put.{Plan, firstBits, filling}
+use Rattle.put.specs.Put.{firstBits, filling}
+use Rattle.put.specs.declared.plan.Plan.{Plan}
 use Rattle.put.specs.Planting.{Deep}
 
 -- the records that are put in, where g are the bits of the record that stands where the exchange starts

@@ -1,6 +1,6 @@
 -- The blocks around a key, level by level, and the bits of a parent by those of its four children: what a loop does that goes up from a block
 -- to the root. A model in the code's order. Rests on Standing of the definitions.
-use Prim.Native.Nat.{ℕ, suc, _*_, _/_, _^_}
+use Prim.Native.Nat.{ℕ, suc, _+_, _*_, _/_, _^_}
 use mathlib.Core.Bool.{cond}
 use mathlib.Core.List.{List}
 use lib.ListN.{getD}
@@ -29,3 +29,11 @@ parentBits l κ b h =
     (childBits l (around h κ) b (childKey (around (suc h) κ) h 2))
     (childBits l (around h κ) b (childKey (around (suc h) κ) h 3))
     (childBits l (around h κ) b (childKey (around (suc h) κ) h 4))
+
+-- the same with step for 5 ^ h, as a loop has it that goes up
+unfoldable pub widerBits : List Record → ℕ → ℕ → ℕ → ℕ
+widerBits l κ b step =
+    unionOfFour (childBits l (κ / step * step) b (κ / (step * 5) * (step * 5) + step))
+    (childBits l (κ / step * step) b (κ / (step * 5) * (step * 5) + 2 * step))
+    (childBits l (κ / step * step) b (κ / (step * 5) * (step * 5) + 3 * step))
+    (childBits l (κ / step * step) b (κ / (step * 5) * (step * 5) + 4 * step))

@@ -3,7 +3,6 @@ pub mod Renew
 pub mod Climb
 pub mod Plant
 pub mod Put
-pub mod PlanFields
 pub mod Planting
 pub mod Exchanging
 pub mod Putting

@@ -13,6 +13,7 @@ use Rattle.put.specs.Family.{around}
 use Rattle.put.specs.Climb.{climb}
 use Rattle.put.specs.Plant.{front, back}
 use Rattle.put.specs.Renew.{renew}
+use Rattle.put.specs.declared.plan.Plan.{Plan}
 
 -- the content is one record: the block gets one feature
 abbrev pub isLeaf : List Record → Bool
@@ -22,18 +23,15 @@ isLeaf content = eqb (length content) 1
 abbrev pub firstBits : List Record → ℕ
 firstBits content = getD (valuesOf content) 0 0
 
--- the height of the block around κ that is filled: κ's own, or where climbing ends
+-- the height of the block around κ that is filled, by what the content says, whether it is one record and its first bits: where climbing ends, or
+-- κ's own
+unfoldable pub topFor : ℕ → List Record → ℕ → Bool → ℕ → ℕ
+topFor m l κ leaf b = cond leaf (climb l κ b (m - heightOf m κ) (heightOf m κ)) (heightOf m κ)
+
 unfoldable pub topOf : ℕ → List Record → ℕ → List Record → ℕ
-topOf m l κ content =
-    cond (isLeaf content) (climb l κ (firstBits content) (m - heightOf m κ) (heightOf m κ)) (heightOf m κ)
+topOf m l κ content = topFor m l κ (isLeaf content) (firstBits content)
 
--- the block of height top is filled; old records from place start on are exchanged; the leaf around it is split so many levels, 0 if it is listed
-pub record Plan : Type 0 where
-  pub top : ℕ
-  pub start : ℕ
-  pub old : ℕ
-  pub levels : ℕ
-
+-- the plan, whose numbers the code's struct names
 unfoldable pub planAt : ℕ → List Record → ℕ → ℕ → Plan
 planAt m l κ top =
     record {

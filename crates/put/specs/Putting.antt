@@ -11,7 +11,8 @@ use Rattle.definitions.specs.Read.{room, recordsOf}
 use Rattle.definitions.specs.Edit.{contentOf}
 use Rattle.definitions.specs.Buffer.{replaced}
 use Rattle.list.specs.Own.{OwnList}
-use Rattle.put.specs.Put.{Plan, planOf, lengthAfter}
+use Rattle.put.specs.Put.{planOf, lengthAfter}
+use Rattle.put.specs.declared.plan.Plan.{Plan}
 
 -- the first n records are a list, the content is that of some picture at the block, the plan is theirs, and the list fits afterwards
 pub record Puttable (m : ℕ) (keys bits : List ℕ) (n κ : ℕ) (plan : Plan) (contentKeys contentBits : List ℕ) (count : ℕ) : Type 0 where

@@ -2,7 +2,6 @@
 ghost use Prim.Native.Nat.{_+_, _*_, _≤_, _<_, _^_};
 ghost use Rattle.definitions.specs.Read.{recordsOf};
 ghost use Rattle.put.specs.Put.{filling, exchanged};
-ghost use Rattle.put.specs.PlanFields.{planIn};
 ghost use Rattle.put.specs.Planting.{Wrote};
 ghost use Rattle.put.specs.Exchanging.{insertedFor, Fillable, Insertable, Exchangeable, Holds};
 use crate::plan::Plan;
@@ -47,8 +46,8 @@ fn insert(
     content_bits: &[u32],
     count: usize,
 )
-    requires { ⌜ Insertable (now keys) (now bits) key (planIn plan) (now «content_keys») (now «content_bits») count ⌝ }
-    ensures { λ _. ⌜ Wrote (insertedFor g key (recordsOf (now («content_keys» .entry)) (now («content_bits» .entry)) count) (planIn plan)) (plan .start)
+    requires { ⌜ Insertable (now keys) (now bits) key plan (now «content_keys») (now «content_bits») count ⌝ }
+    ensures { λ _. ⌜ Wrote (insertedFor g key (recordsOf (now («content_keys» .entry)) (now («content_bits» .entry)) count) plan) (plan .start)
         (now (keys .entry)) (now (bits .entry)) (now (keys .exit)) (now (bits .exit)) (plan .start + (4 * plan .levels + count)) ⌝ }
 {
     let top = plan.top;
@@ -71,9 +70,9 @@ pub fn exchange(
     content_bits: &[u32],
     count: usize,
 )
-    requires { ⌜ Exchangeable (now keys) (now bits) n key (planIn plan) (now «content_keys») (now «content_bits») count ⌝ }
+    requires { ⌜ Exchangeable (now keys) (now bits) n key plan (now «content_keys») (now «content_bits») count ⌝ }
     ensures { λ _. ⌜ Holds (exchanged (recordsOf (now (keys .entry)) (now (bits .entry)) n) key
-        (recordsOf (now («content_keys» .entry)) (now («content_bits» .entry)) count) (planIn plan))
+        (recordsOf (now («content_keys» .entry)) (now («content_bits» .entry)) count) plan)
         (now (keys .entry)) (now (bits .entry)) (now (keys .exit)) (now (bits .exit)) ⌝ }
 {
     let start = plan.start;

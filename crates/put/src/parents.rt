@@ -1,10 +1,10 @@
 // The bits of a block by the list, and those of a parent by its four children: what a way up from a block to the root asks at each level.
 ghost use mathlib.Core.Path.{_≡_};
-ghost use Prim.Native.Nat.{ℕ, _≤_, _<_, _^_};
+ghost use Prim.Native.Nat.{_≤_, _<_, _^_};
 ghost use lib.ListN.{length};
 ghost use Rattle.definitions.specs.Read.{recordsOf};
 ghost use Rattle.list.specs.Sorted.{Sorted};
-ghost use Rattle.put.specs.Family.{bitsAt, childBits, parentBits};
+ghost use Rattle.put.specs.Family.{bitsAt, childBits, widerBits};
 use list::standing;
 
 // The bits of a block by the list: those of the last record at or before its key.
@@ -29,13 +29,13 @@ fn child_bits(keys: &[u32], bits: &[u32], n: usize, own: u32, b: u32, x: u32) ->
     bits_at(keys, bits, n, x)
 }
 
-// The bits of the block of height h + 1 around key, where the one of height h has got the bits b; step is 5 ^ h. Only the keys must be in order:
-// the bits of the blocks above may still be old.
+// The bits of the block around key with five times as many keys as step says, where the one with step keys has got the bits b. Only the keys must be
+// in order: the bits of the blocks above may still be old.
 pub fn parent_bits(keys: &[u32], bits: &[u32], n: usize, key: u32, b: u32, step: u32) -> u32
     requires { ⌜ Sorted (now keys) n 0 ⌝ }
     requires { ⌜ n ≤ length (now bits) ⌝ }
     requires { ⌜ (key < 5 ^ 10) × (1 ≤ step) × (step ≤ 5 ^ 9) ⌝ }
-    ensures { λ r. ⌜ ((h : ℕ) → step ≡ 5 ^ h → r ≡ parentBits (recordsOf (now (keys .entry)) (now (bits .entry)) n) key b h) ⌝ }
+    ensures { λ r. ⌜ r ≡ widerBits (recordsOf (now (keys .entry)) (now (bits .entry)) n) key b step ⌝ }
 {
     let own = key / step * step;
     let wide = step * 5;

@@ -8,8 +8,7 @@ ghost use Rattle.definitions.specs.Read.{recordsOf};
 ghost use Rattle.list.specs.Sorted.{Sorted};
 ghost use Rattle.list.specs.Own.{OwnList};
 ghost use Rattle.put.specs.Climb.{climb as climbed};
-ghost use Rattle.put.specs.Put.{planAt};
-ghost use Rattle.put.specs.PlanFields.{planIn, topFor};
+ghost use Rattle.put.specs.Put.{topFor, planAt};
 use crate::parents;
 use keys::Key;
 use keys::power;
@@ -70,7 +69,7 @@ pub fn plan_of(
 ) -> Plan
     requires { ⌜ (m ≤ 10) × (validKey m key ≡ true) ⌝ }
     requires { ⌜ OwnList m (now keys) (now bits) n ⌝ }
-    ensures { λ r. ⌜ planIn r ≡ planAt m (recordsOf (now (keys .entry)) (now (bits .entry)) n) key
+    ensures { λ r. ⌜ r ≡ planAt m (recordsOf (now (keys .entry)) (now (bits .entry)) n) key
         (topFor m (recordsOf (now (keys .entry)) (now (bits .entry)) n) key leaf first) ⌝ }
 {
     let top = top_of(m, keys, bits, n, key, leaf, first);

@@ -1,7 +1,6 @@
 // Putting a content into a block of a list, once it is known to fit: exchange, renew, and zeroes in the places given up.
 ghost use Rattle.definitions.specs.Read.{recordsOf};
 ghost use Rattle.put.specs.Put.{edited};
-ghost use Rattle.put.specs.PlanFields.{planIn};
 ghost use Rattle.put.specs.Putting.{Puttable, Replaced};
 use crate::exchange;
 use crate::plan;
@@ -20,7 +19,7 @@ pub fn put(
     content_bits: &[u32],
     count: usize,
 ) -> usize
-    requires { ⌜ Puttable m (now keys) (now bits) n key (planIn plan) (now «content_keys») (now «content_bits») count ⌝ }
+    requires { ⌜ Puttable m (now keys) (now bits) n key plan (now «content_keys») (now «content_bits») count ⌝ }
     ensures { λ r. ⌜ Replaced n (edited m (recordsOf (now (keys .entry)) (now (bits .entry)) n) key
         (recordsOf (now («content_keys» .entry)) (now («content_bits» .entry)) count))
         (now (keys .entry)) (now (bits .entry)) (now (keys .exit)) (now (bits .exit)) r ⌝ }

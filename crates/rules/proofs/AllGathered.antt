@@ -1,4 +1,4 @@
--- A run over good rules with known waivers gathers the findings of all of them: it counts and writes the live ones, and counts the others. Rests on
+-- A run that walks, over good rules with known waivers, gathers the findings of all of them: it counts and writes the live ones, and counts the others. Rests on
 -- StepCases, GoodRules and KnownIds.
 use Prim.Native.Nat.{ℕ, _+_}
 use mathlib.Core.Path.{_≡_, refl, sym, ap, _∙_}
@@ -18,7 +18,7 @@ use Rattle.window.proofs.Written.{written-none, written-append}
 use Rattle.rules.specs.declared.run.State.{State}
 use Rattle.rules.specs.Run.{waiversBelow, Progress, progressOf, counting, picture, isUnknown, gathered, runOf}
 use Rattle.rules.proofs.Fold.{run-nil, run-cons}
-use Rattle.rules.proofs.StepCases.{step-good}
+use Rattle.rules.proofs.StepCases.{step-gathers}
 use Rattle.rules.proofs.GoodRules.{goodFrom, good-first, good-rest}
 use Rattle.rules.proofs.KnownIds.{nextAfter, next-nil, next-cons, knownFrom, known-cons}
 
@@ -131,19 +131,20 @@ module _ (keys bits waiverIds waiverKeys : List ℕ) where
 
   pub run-gathered : (rules : List Rule) (p : Progress)
       → p .state .refusal ≡ 0
+      → p .state .mode ≡ 1
       → p .state .faulty ≡ false
       → p .state .passed ≡ waiversBelow (p .state .next) ws
       → goodFrom (p .state .m) (p .state .s) (p .state .next) rules ≡ true
       → knownFrom ws (p .state .next) rules ≡ true
       → runOf keys bits waiverIds waiverKeys rules p ≡ allGathered rules p
-  run-gathered [] p zero sound passed good known = run-nil keys bits waiverIds waiverKeys p ∙ none-gathered p passed
-  run-gathered (rule ∷ rules) p zero sound passed good known =
+  run-gathered [] p zero walks sound passed good known = run-nil keys bits waiverIds waiverKeys p ∙ none-gathered p passed
+  run-gathered (rule ∷ rules) p zero walks sound passed good known =
       let st = p .state in
       let k = sym (known-cons ws (st .next) rule rules) ∙ known in
       let test = not (ltb (waiversBelow (st .next) ws) (waiversBelow (rule .id) ws)) in
       let seen : isUnknown keys bits waiverIds waiverKeys rule st ≡ false = not-true (ltb (waiversBelow (st .next) ws) (waiversBelow (rule .id) ws)) (and-left test (knownFrom ws (rule .id + 1) rules) k) in
       run-cons keys bits waiverIds waiverKeys rule rules p
       ∙ ap (runOf keys bits waiverIds waiverKeys rules)
-      (step-good keys bits waiverIds waiverKeys rule p zero (good-first (st .m) (st .s) (st .next) rule rules good) (neither (st .faulty) _ sound seen))
-      ∙ run-gathered rules (gathered keys bits waiverIds waiverKeys rule p) zero sound refl (good-rest (st .m) (st .s) (st .next) rule rules good) (and-right test (knownFrom ws (rule .id + 1) rules) k)
+      (step-gathers keys bits waiverIds waiverKeys rule p zero walks (good-first (st .m) (st .s) (st .next) rule rules good) (neither (st .faulty) _ sound seen))
+      ∙ run-gathered rules (gathered keys bits waiverIds waiverKeys rule p) zero walks sound refl (good-rest (st .m) (st .s) (st .next) rule rules good) (and-right test (knownFrom ws (rule .id + 1) rules) k)
       ∙ next-gathered rule rules p

@@ -12,7 +12,7 @@ use Rattle.definitions.specs.Read.{room, isList}
 use Rattle.definitions.specs.Refusal.{badSettings}
 use Rattle.definitions.specs.Rules.{Finding, waiversOf, findingsAscend}
 use Rattle.rules.specs.declared.run.State.{State}
-use Rattle.rules.specs.Run.{keysValid, waiversGood, waiversBelow, progressOf, beginRefusal, beginOf, Ready}
+use Rattle.rules.specs.Run.{keysValid, waiversGood, waiversBelow, progressOf, bounding, beginRefusal, beginOf, Ready}
 use Rattle.rules.proofs.Settings.{good-level, good-slots}
 
 -- no waiver has an id below 0
@@ -43,6 +43,12 @@ module _ (m s : ℕ) (keys bits : List ℕ) (n : ℕ) where
   zero-list e =
       decide (isList m s keys bits n) (λ is. is) (λ no-list. let z = begin-no-list (zero-settings e) no-list in absurd (omega arith))
 
+  -- 12 is not given yet
+  pub begin-not-full : beginRefusal m s keys bits n ≡ 12 → ⊥
+  begin-not-full e =
+      decide (badSettings m s) (λ bad. let z = begin-bad bad in omega arith)
+      (λ good. decide (isList m s keys bits n) (λ is. let z = begin-good good is in omega arith) (λ no-list. let z = begin-no-list good no-list in omega arith))
+
   module _ (waiverIds waiverKeys : List ℕ) where
     abbrev faultAtOnce : Bool
     faultAtOnce = eqb (beginRefusal m s keys bits n) 0 && not (waiversGood m (waiversOf waiverIds waiverKeys))
@@ -63,10 +69,10 @@ module _ (m s : ℕ) (keys bits : List ℕ) (n : ℕ) where
           → faulty ≡ faultAtOnce
           → waivers ≡ room waiverIds waiverKeys
           → room′ ≡ min roomIds roomKeys
-          → record { m = m; s = s; n = n; refusal = refusal; next = 0; faulty = faulty; waivers = waivers; passed = 0; limit = 0; room = room′; live = 0; hidden = 0 } ≡ start
+          → record { m = m; s = s; n = n; mode = 0; refusal = refusal; next = 0; faulty = faulty; waivers = waivers; passed = 0; limit = 0; room = room′; live = 0; hidden = 0 } ≡ bounding 0 start
       unfolding beginOf
       begun refusal faulty waivers room′ e f g h =
-          λ i. record { m = m; s = s; n = n; refusal = e i; next = 0; faulty = f i; waivers = g i; passed = 0; limit = 0; room = h i; live = 0; hidden = 0 }
+          λ i. record { m = m; s = s; n = n; mode = 0; refusal = e i; next = 0; faulty = f i; waivers = g i; passed = 0; limit = 0; room = h i; live = 0; hidden = 0 }
 
       -- the waivers are in order where none is found wrong
       good-ascend : (good : Bool) → eqb (beginRefusal m s keys bits n) 0 ≡ true → faultAtOnce ≡ false → waiversGood m (waiversOf waiverIds waiverKeys) ≡ true
@@ -74,8 +80,8 @@ module _ (m s : ℕ) (keys bits : List ℕ) (n : ℕ) where
           decide (waiversGood m (waiversOf waiverIds waiverKeys)) (λ is. is)
           (λ wrong. absurd (mathlib.Core.Bool.true≢false (sym (ap (λ b. b && not (waiversGood m (waiversOf waiverIds waiverKeys))) e ∙ ap not wrong) ∙ f)))
 
-      -- a run may begin
-      pub begin-ready : (ids foundKeys : List ℕ) → roomIds ≡ length ids → roomKeys ≡ length foundKeys → Ready keys bits waiverIds waiverKeys (progressOf start ids foundKeys)
+      -- the first run may begin
+      pub begin-ready : (ids foundKeys : List ℕ) → roomIds ≡ length ids → roomKeys ≡ length foundKeys → Ready keys bits waiverIds waiverKeys (progressOf (bounding 0 start) ids foundKeys)
       unfolding beginOf waiversGood
       begin-ready ids foundKeys e f =
           record {

@@ -20,7 +20,7 @@ pub mod StepTests
 pub mod StepWaivers
 pub mod StepCases
 pub mod StepWrong
-pub mod WritingCases
+pub mod NextCases
 pub mod Beginning
 pub mod Ready
 pub mod GoodRules
@@ -31,4 +31,6 @@ pub mod AllGathered
 pub mod RunEnds
 pub mod Refusals
 pub mod TwoRuns
+pub mod Bounds
+pub mod ThreeRuns
 pub mod Answer

@@ -1,26 +1,28 @@
 -- What a run stands on is kept by every rule: so it holds from the beginning to the end. The counts stay small, since ids ascend and a rule has at most
 -- as many findings as the map has keys. Rests on StepCases.
-use Prim.Native.Nat.{ℕ, _≤_}
+use Prim.Native.Nat.{ℕ, _*_, _≤_, _<_}
 use mathlib.Core.Path.{_≡_, refl, _∙_}
 use mathlib.Core.Bool.{true, true≢false}
 use mathlib.Core.List.{List, [], _∷_, map}
+use native.Mathlib.Nat.{mul-le-mul}
 use native.Mathlib.Omega.{arith}
 use lib.ListN.{length, length-map}
-use lib.Dec.{leb}
-use borrow.Author.Tests.{leb-true}
+use lib.Dec.{leb, ltb}
+use borrow.Author.Tests.{leb-true, ltb-true}
 use Rattle.keys.proofs.Cases.{decide, equal, and-left, and-right}
-use Rattle.keys.proofs.Powers.{five-le}
+use Rattle.keys.proofs.Powers.{two-le, five-le}
 use Rattle.definitions.specs.Picture.{Picture}
-use Rattle.definitions.specs.Window.{selectIn}
+use Rattle.definitions.specs.Window.{isWindow, selectIn}
 use Rattle.definitions.specs.Rules.{findingOf, windowOf, findingsOf, waiversOf, liveOf, isRule}
 use Rattle.definitions.specs.declared.Rule.{Rule}
 use Rattle.definitions.proofs.SelectAscends.{select-in-ascends}
 use Rattle.definitions.proofs.Waivers.{live-and-hidden}
+use Rattle.window.proofs.Lies.{accepted}
 use Rattle.window.proofs.Lower.{ascending-length}
 use Rattle.window.proofs.Written.{length-written}
-use Rattle.rules.specs.Run.{Progress, mayCome, picture, findingsAt, gathered, stepOf, runOf, Fine, Ready}
+use Rattle.rules.specs.Run.{Progress, pixelsOf, mayCome, picture, findingsAt, gathered, bounded, stepOf, runOf, Fine, Ready}
 use Rattle.rules.proofs.Fold.{run-nil, run-cons}
-use Rattle.rules.proofs.StepCases.{isFaulty, step-stopped, step-bad, step-faulty, step-good}
+use Rattle.rules.proofs.StepCases.{isFaulty, step-stopped, step-rests, step-bad, step-faulty, step-good, served-bounds, served-gathers}
 
 -- a rule has at most as many findings as the map has keys
 pub findings-few : (m : ℕ) (p : Picture) (rule : Rule) → m ≤ 10 → length (findingsOf m p rule) ≤ 9765625
@@ -30,6 +32,22 @@ findings-few m p rule low =
     let b = length-map (selectIn m p (windowOf rule) (rule .feature)) (findingOf (rule .id)) in
     let c = five-le 10 low in
     omega arith
+
+-- a good rule has a window of the raster and a feature below s
+pub good-window : (m s : ℕ) (rule : Rule) → isRule m s rule ≡ true → isWindow m (windowOf rule) ≡ true
+unfolding isRule
+good-window m s rule e = and-left (isWindow m (windowOf rule)) (ltb (rule .feature) s) e
+
+pub good-feature : (m s : ℕ) (rule : Rule) → isRule m s rule ≡ true → rule .feature < s
+unfolding isRule
+good-feature m s rule e = ltb-true (rule .feature) s (and-right (isWindow m (windowOf rule)) (ltb (rule .feature) s) e)
+
+-- so its window is not larger than the largest raster
+pub rule-small : (m s : ℕ) (rule : Rule) → m ≤ 10 → isRule m s rule ≡ true → (rule .height ≤ 1024) × (rule .width ≤ 1024)
+rule-small m s rule low e =
+    let a = accepted m (windowOf rule) (good-window m s rule e) in
+    let two = two-le 10 low in
+    (omega (arith, a .rows), omega (arith, a .columns))
 
 module _ (keys bits waiverIds waiverKeys : List ℕ) where
   abbrev Is : Progress → Type 0
@@ -67,17 +85,40 @@ module _ (keys bits waiverIds waiverKeys : List ℕ) where
         small = omega (arith, f .small);
       }
 
+  -- and so does bounding
+  fine-bounded : (rule : Rule) (p : Progress) → p .state .next ≤ rule .id → isRule (p .state .m) (p .state .s) rule ≡ true → Fine keys bits waiverIds waiverKeys p
+      → Fine keys bits waiverIds waiverKeys (bounded keys bits waiverIds waiverKeys rule p)
+  fine-bounded rule p low good f =
+      let small = rule-small (p .state .m) (p .state .s) rule (f .level) good in
+      let few : pixelsOf rule ≤ 1024 * 1024 = mul-le-mul (small .0) (small .1) in
+      record {
+        level = f .level;
+        slots = f .slots;
+        list = f .list;
+        limitIds = f .limitIds;
+        limitKeys = f .limitKeys;
+        roomIds = f .roomIds;
+        roomKeys = f .roomKeys;
+        count = f .count;
+        ascend = f .ascend;
+        passed = λ e. refl;
+        small = omega (arith, f .small);
+      }
+
   -- a rule keeps it
   pub ready-step : (rule : Rule) (p next : Progress) → next ≡ stepOf keys bits waiverIds waiverKeys rule p → Is p → Is next
   ready-step rule p next e h =
       equal (p .state .refusal) 0
       (λ zero.
       let f = h .fine zero in
+      equal (p .state .mode) 2
+      (λ resting. rw (e ∙ step-rests keys bits waiverIds waiverKeys rule p zero resting) h)
+      (λ on.
       decide (mayCome rule (p .state))
       (λ may.
       decide (isFaulty keys bits waiverIds waiverKeys rule p)
       (λ faulty.
-      rw (e ∙ step-faulty keys bits waiverIds waiverKeys rule p zero may faulty)
+      rw (e ∙ step-faulty keys bits waiverIds waiverKeys rule p zero on may faulty)
       (record {
         fine = λ still. record {
           level = f .level;
@@ -94,9 +135,15 @@ module _ (keys bits waiverIds waiverKeys : List ℕ) where
         };
       }))
       (λ good.
-      rw (e ∙ step-good keys bits waiverIds waiverKeys rule p zero may good)
-      (record { fine = λ still. fine-gathered rule p (next-low rule p may) f })))
-      (λ bad. rw (e ∙ step-bad keys bits waiverIds waiverKeys rule p zero bad) (record { fine = λ still. absurd (omega arith) })))
+      let served = e ∙ step-good keys bits waiverIds waiverKeys rule p zero on may good in
+      equal (p .state .mode) 0
+      (λ bounds.
+      rw (served ∙ served-bounds keys bits waiverIds waiverKeys rule p bounds)
+      (record { fine = λ still. fine-bounded rule p (next-low rule p may) (rule-good rule p may) f }))
+      (λ gathers.
+      rw (served ∙ served-gathers keys bits waiverIds waiverKeys rule p gathers)
+      (record { fine = λ still. fine-gathered rule p (next-low rule p may) f }))))
+      (λ bad. rw (e ∙ step-bad keys bits waiverIds waiverKeys rule p zero on bad) (record { fine = λ still. absurd (omega arith) }))))
       (λ stopped. rw (e ∙ step-stopped keys bits waiverIds waiverKeys rule p stopped) h)
 
   -- and so does a run

@@ -1,13 +1,14 @@
--- What one rule does to a run, case by case: the run is refused already, the rule is bad, a waiver is wrong, or the rule's findings are gathered. Rests
--- on nothing.
+-- What one rule does to a run, case by case: the run is refused already or passes over all rules, the rule is bad, a waiver is wrong, or the rule's findings
+-- are gathered or bounded. Rests on nothing.
 use Prim.Native.Nat.{ℕ, _+_}
-use mathlib.Core.Path.{_≡_}
-use mathlib.Core.Bool.{Bool, true, false, cond, _||_}
+use mathlib.Core.Path.{_≡_, _∙_}
+use mathlib.Core.Bool.{Bool, true, false, cond, not, _&&_, _||_}
 use mathlib.Core.List.{List}
+use native.Mathlib.Omega.{arith}
 use lib.Dec.{eqb}
 use borrow.Author.Tests.{eq-eqb, ne-eqb}
 use Rattle.definitions.specs.declared.Rule.{Rule}
-use Rattle.rules.specs.Run.{Progress, progressOf, refusing, faultyFrom, mayCome, isUnknown, gathered, stepOf}
+use Rattle.rules.specs.Run.{Progress, progressOf, refusing, faultyFrom, mayCome, isUnknown, gathered, bounded, served, stepOf}
 
 -- what a chain of three tests gives
 module _ {A : Type 0} (first second third : Bool) (stopped bad faulty good : A) where
@@ -41,24 +42,54 @@ module _ (keys bits waiverIds waiverKeys : List ℕ) (rule : Rule) (p : Progress
   faulty = progressOf (faultyFrom (rule .id + 1) (p .state)) (p .ids) (p .keys)
 
   abbrev good : Progress
-  good = gathered keys bits waiverIds waiverKeys rule p
+  good = served keys bits waiverIds waiverKeys rule p
+
+  abbrev going : Bool
+  going = eqb (p .state .refusal) 0 && not (eqb (p .state .mode) 2)
+
+  goes : p .state .refusal ≡ 0 → (p .state .mode ≡ 2 → ⊥) → going ≡ true
+  goes e h = rw (eq-eqb (p .state .refusal) 0 e, ne-eqb (p .state .mode) 2 h)
 
   -- a refused run stays as it is
   pub step-stopped : (p .state .refusal ≡ 0 → ⊥) → step ≡ p
   unfolding stepOf
-  step-stopped h = chain-stopped (eqb (p .state .refusal) 0) (mayCome rule (p .state)) isFaulty p bad faulty good (ne-eqb _ _ h)
+  step-stopped h = chain-stopped going (mayCome rule (p .state)) isFaulty p bad faulty good (rw (ne-eqb (p .state .refusal) 0 h))
 
-  -- 13
-  pub step-bad : p .state .refusal ≡ 0 → mayCome rule (p .state) ≡ false → step ≡ bad
+  -- and so does one that passes over all rules
+  pub step-rests : p .state .refusal ≡ 0 → p .state .mode ≡ 2 → step ≡ p
   unfolding stepOf
-  step-bad e f = chain-bad (eqb (p .state .refusal) 0) (mayCome rule (p .state)) isFaulty p bad faulty good (eq-eqb _ _ e) f
+  step-rests e f =
+      chain-stopped going (mayCome rule (p .state)) isFaulty p bad faulty good (rw (eq-eqb (p .state .refusal) 0 e, eq-eqb (p .state .mode) 2 f))
 
-  -- only the rules are looked at
-  pub step-faulty : p .state .refusal ≡ 0 → mayCome rule (p .state) ≡ true → isFaulty ≡ true → step ≡ faulty
-  unfolding stepOf
-  step-faulty e f g = chain-faulty (eqb (p .state .refusal) 0) (mayCome rule (p .state)) isFaulty p bad faulty good (eq-eqb _ _ e) f g
+  -- the run goes on
+  module _ (zero : p .state .refusal ≡ 0) (on : p .state .mode ≡ 2 → ⊥) where
+    -- 13
+    pub step-bad : mayCome rule (p .state) ≡ false → step ≡ bad
+    unfolding stepOf
+    step-bad f = chain-bad going (mayCome rule (p .state)) isFaulty p bad faulty good (goes zero on) f
 
-  -- the rule's findings are gathered
-  pub step-good : p .state .refusal ≡ 0 → mayCome rule (p .state) ≡ true → isFaulty ≡ false → step ≡ good
-  unfolding stepOf
-  step-good e f g = chain-good (eqb (p .state .refusal) 0) (mayCome rule (p .state)) isFaulty p bad faulty good (eq-eqb _ _ e) f g
+    -- only the rules are looked at
+    pub step-faulty : mayCome rule (p .state) ≡ true → isFaulty ≡ true → step ≡ faulty
+    unfolding stepOf
+    step-faulty f g = chain-faulty going (mayCome rule (p .state)) isFaulty p bad faulty good (goes zero on) f g
+
+    -- the rule is served
+    pub step-good : mayCome rule (p .state) ≡ true → isFaulty ≡ false → step ≡ good
+    unfolding stepOf
+    step-good f g = chain-good going (mayCome rule (p .state)) isFaulty p bad faulty good (goes zero on) f g
+
+  -- its findings are bounded, or gathered
+  pub served-bounds : p .state .mode ≡ 0 → good ≡ bounded keys bits waiverIds waiverKeys rule p
+  unfolding served
+  served-bounds e = rw (eq-eqb (p .state .mode) 0 e)
+
+  pub served-gathers : (p .state .mode ≡ 0 → ⊥) → good ≡ gathered keys bits waiverIds waiverKeys rule p
+  unfolding served
+  served-gathers h = rw (ne-eqb (p .state .mode) 0 h)
+
+  -- as in a run that walks
+  pub walks-on : p .state .mode ≡ 1 → p .state .mode ≡ 2 → ⊥
+  walks-on e f = omega arith
+
+  pub step-gathers : p .state .refusal ≡ 0 → p .state .mode ≡ 1 → mayCome rule (p .state) ≡ true → isFaulty ≡ false → step ≡ gathered keys bits waiverIds waiverKeys rule p
+  step-gathers zero walks f g = step-good zero (walks-on walks) f g ∙ served-gathers (λ e. omega arith)

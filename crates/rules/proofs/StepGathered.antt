@@ -1,16 +1,14 @@
--- A rule's findings, sifted against the part of the waivers' keys that the code lends, are those that the run gathers. Rests on RuleWaivers, StepWaivers
--- and Ready.
+-- A rule's findings, sifted against the part of the waivers' keys that the code lends, are those that the run gathers; or their number is bounded. Rests on
+-- RuleWaivers, StepWaivers and Ready.
 use Prim.Native.Nat.{ℕ, _+_, _-_, _^_, _≤_, _<_}
 use mathlib.Core.Path.{_≡_, refl, sym, ap, ap₂, _∙_, subst}
 use mathlib.Core.Bool.{true}
 use mathlib.Core.List.{List, [], _∷_, map}
 use native.Mathlib.Omega.{arith}
 use lib.ListN.{length, take, drop, length-map}
-use lib.Dec.{ltb}
-use borrow.Author.Tests.{ltb-true, ltb-false}
-use Rattle.keys.proofs.Cases.{and-left, and-right}
+use borrow.Author.Tests.{ltb-false}
 use Rattle.definitions.specs.Window.{isWindow, selectIn}
-use Rattle.definitions.specs.Rules.{Finding, findingOf, windowOf, findingsOf, waiversOf, liveOf, hiddenCount, isRule, findingsAscend}
+use Rattle.definitions.specs.Rules.{Finding, findingOf, windowOf, findingsOf, waiversOf, liveOf, hiddenCount, findingsAscend}
 use Rattle.definitions.specs.declared.Rule.{Rule}
 use Rattle.list.specs.Own.{OwnList}
 use Rattle.list.proofs.Own.{own-list}
@@ -18,10 +16,11 @@ use Rattle.window.specs.Gather.{written}
 use Rattle.rules.specs.declared.run.State.{State}
 use Rattle.sift.specs.declared.Sifting.{Sifting}
 use Rattle.sift.specs.Sift.{notWaived, SiftReady, Sifted}
-use Rattle.rules.specs.Run.{Progress, progressOf, waiversBelow, counting, picture, findingsAt, gathered}
-use Rattle.rules.specs.Step.{OwnEnd, Gatherable}
+use Rattle.rules.specs.Run.{Progress, progressOf, waiversBelow, counting, picture, findingsAt, gathered, served}
+use Rattle.rules.specs.Step.{OwnEnd, Gatherable, widened}
 use Rattle.rules.proofs.KnownIds.{below-mono}
-use Rattle.rules.proofs.Ready.{next-low, rule-good}
+use Rattle.rules.proofs.Ready.{next-low, rule-good, good-window, good-feature, rule-small}
+use Rattle.rules.proofs.StepCases.{served-bounds, served-gathers}
 use Rattle.rules.proofs.RuleWaivers.{below-room, own, own-ascend, own-live, own-hidden}
 use Rattle.rules.proofs.StepWaivers.{end-is}
 
@@ -33,15 +32,6 @@ ids-of id (key ∷ keys) = ap (λ l. id ∷ l) (ids-of id keys)
 keys-of : (id : ℕ) (keys : List ℕ) → keys ≡ map (λ x. x .key) (map (findingOf id) keys)
 keys-of id [] = refl
 keys-of id (key ∷ keys) = ap (λ l. key ∷ l) (keys-of id keys)
-
--- a good rule has a window of the raster and a feature below s
-good-window : (m s : ℕ) (rule : Rule) → isRule m s rule ≡ true → isWindow m (windowOf rule) ≡ true
-unfolding isRule
-good-window m s rule e = and-left (isWindow m (windowOf rule)) (ltb (rule .feature) s) e
-
-good-feature : (m s : ℕ) (rule : Rule) → isRule m s rule ≡ true → rule .feature < s
-unfolding isRule
-good-feature m s rule e = ltb-true (rule .feature) s (and-right (isWindow m (windowOf rule)) (ltb (rule .feature) s) e)
 
 module _ (keys bits waiverIds waiverKeys : List ℕ) (rule : Rule) (p : Progress) (g : Gatherable keys bits waiverIds waiverKeys rule p) where
   abbrev ws : List Finding
@@ -61,6 +51,9 @@ module _ (keys bits waiverIds waiverKeys : List ℕ) (rule : Rule) (p : Progress
   own-feature =
       let low = good-feature (st .m) (st .s) rule (rule-good keys bits waiverIds waiverKeys rule p (g .may)) in
       omega (arith, g .fine .slots)
+
+  pub own-small : (rule .height ≤ 1024) × (rule .width ≤ 1024)
+  own-small = rule-small (st .m) (st .s) rule (g .fine .level) (rule-good keys bits waiverIds waiverKeys rule p (g .may))
 
   pub own-records : OwnList (st .m) keys bits (st .n)
   own-records = own-list (st .m) (st .s) keys bits (st .n) (g .fine .list)
@@ -108,6 +101,17 @@ module _ (keys bits waiverIds waiverKeys : List ℕ) (rule : Rule) (p : Progress
           passed = record { within = omega arith; below = λ i h. absurd (omega arith) };
         }
 
+    pub counts-small : rule .id < 4294967296 → st .live ≤ 2 ^ 62
+    counts-small fits = let low = next-low keys bits waiverIds waiverKeys rule p (g .may) in omega (arith, g .fine .small)
+
+    -- where the run only bounds
+    pub widened-served : st .mode ≡ 0 → {r : Sifting} {after : State} → r ≡ widened rule at → after ≡ counting (rule .id + 1) end (r .live) (r .hidden) st
+        → progressOf after (p .ids) (p .keys) ≡ served keys bits waiverIds waiverKeys rule p
+    widened-served bounds {r} e f =
+        ap (λ a. progressOf a (p .ids) (p .keys)) f
+        ∙ ap₂ (λ (n : ℕ) (x : Sifting). progressOf (counting (rule .id + 1) n (x .live) (x .hidden) st) (p .ids) (p .keys)) end-below e
+        ∙ sym (served-bounds keys bits waiverIds waiverKeys rule p bounds)
+
     -- the keys of the rule's findings, and those that are live
     abbrev given : List ℕ
     given = selectIn (st .m) (picture keys bits waiverIds waiverKeys st) (windowOf rule) (rule .feature)
@@ -149,10 +153,15 @@ module _ (keys bits waiverIds waiverKeys : List ℕ) (rule : Rule) (p : Progress
           s .counted .wroteKeys
           ∙ ap (written (st .limit) (p .keys) (st .live)) (keys-of (rule .id) live ∙ ap (map (λ x. x .key)) live-is)
 
-      pub sifted-gathered : {after : State} → after ≡ counting (rule .id + 1) end (r .live) (r .hidden) st
+      sifted-gathered : {after : State} → after ≡ counting (rule .id + 1) end (r .live) (r .hidden) st
           → progressOf after ids′ keys′ ≡ gathered keys bits waiverIds waiverKeys rule p
       sifted-gathered e =
           ap (λ a. progressOf a ids′ keys′) e
           ∙ ap (λ n. progressOf (counting (rule .id + 1) n (r .live) (r .hidden) st) ids′ keys′) end-below
           ∙ ap₂ (λ a b. progressOf (counting (rule .id + 1) (waiversBelow (rule .id + 1) ws) a b st) ids′ keys′) count-live count-hidden
           ∙ ap₂ (λ a b. progressOf (gathered keys bits waiverIds waiverKeys rule p .state) a b) wrote-ids wrote-keys
+
+      -- where it walks
+      pub sifted-served : (st .mode ≡ 0 → ⊥) → {after : State} → after ≡ counting (rule .id + 1) end (r .live) (r .hidden) st
+          → progressOf after ids′ keys′ ≡ served keys bits waiverIds waiverKeys rule p
+      sifted-served walks e = sifted-gathered e ∙ sym (served-gathers keys bits waiverIds waiverKeys rule p walks)

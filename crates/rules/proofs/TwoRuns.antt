@@ -1,5 +1,5 @@
 -- Two runs over the rules, the first to count and the second to write, give document 01's findings: each refusal in its order, and otherwise the live
--- findings with both counts. Rests on AllGathered, RunEnds, Quiet, WritingCases, Beginning and Refusals.
+-- findings with both counts. Rests on AllGathered, RunEnds, Quiet, NextCases, Beginning and Refusals.
 use Prim.Native.Nat.{ℕ, _≤_, _<_}
 use mathlib.Core.Path.{_≡_, refl, sym, ap, _∙_}
 use mathlib.Core.Bool.{Bool, true, false}
@@ -17,9 +17,9 @@ use Rattle.definitions.specs.declared.Rule.{Rule}
 use Rattle.window.specs.Gather.{written}
 use Rattle.window.proofs.Written.{written-over}
 use Rattle.rules.specs.declared.run.State.{State}
-use Rattle.rules.specs.Run.{waiversBelow, waiversGood, Progress, progressOf, runOf, beginRefusal, beginOf, writingOf, answerOf}
+use Rattle.rules.specs.Run.{waiversBelow, waiversGood, Progress, progressOf, restarting, runOf, beginRefusal, beginOf, nextOf, answerOf}
 use Rattle.rules.proofs.WaiverPlaces.{waivers-length}
-use Rattle.rules.proofs.WritingCases.{writing, writing-stopped, writing-faulty, writing-left, writing-full, writing-begins, answer-done, answer-full, answer-refused}
+use Rattle.rules.proofs.NextCases.{next-stopped, next-faulty, next-left, next-full, next-writes, answer-done, answer-full, answer-refused}
 use Rattle.rules.proofs.Beginning.{begin-bad, begin-no-list, begin-good, fault-good, below-zero}
 use Rattle.rules.proofs.GoodRules.{goodFrom}
 use Rattle.rules.proofs.KnownIds.{nextAfter, knownFrom, known-all, all-known}
@@ -52,7 +52,7 @@ module _ (m s : ℕ) (keys bits : List ℕ) (n : ℕ) (rules : List Rule) (waive
   counted = run begun
 
   abbrev pub second : Progress
-  second = progressOf (writingOf (counted .state)) (counted .ids) (counted .keys)
+  second = progressOf (nextOf (counted .state)) (counted .ids) (counted .keys)
 
   -- what the call gives and leaves
   pub record Promised (p : Progress) : Type 0 where
@@ -61,16 +61,16 @@ module _ (m s : ℕ) (keys bits : List ℕ) (n : ℕ) (rules : List Rule) (waive
     pub wroteKeys : p .keys ≡ findingsKeys m s keys bits n rules waiverIds waiverKeys ids foundKeys
 
   -- the counting run writes nothing
-  ids-quiet : counted .ids ≡ ids
+  pub ids-quiet : counted .ids ≡ ids
   unfolding beginOf
   ids-quiet = quiet-ids keys bits waiverIds waiverKeys rules begun refl
 
-  keys-quiet : counted .keys ≡ foundKeys
+  pub keys-quiet : counted .keys ≡ foundKeys
   unfolding beginOf
   keys-quiet = quiet-keys keys bits waiverIds waiverKeys rules begun refl
 
   -- the writing run is refused before it begins
-  module _ (c : ℕ) (is : writingOf (counted .state) .refusal ≡ c) (not-zero : c ≡ 0 → ⊥) (said : refusal ≡ c) where
+  module _ (c : ℕ) (is : nextOf (counted .state) .refusal ≡ c) (not-zero : c ≡ 0 → ⊥) (said : refusal ≡ c) where
     stays : run second ≡ second
     stays = run-stopped keys bits waiverIds waiverKeys rules second (λ e. not-zero (sym is ∙ e))
 
@@ -85,7 +85,7 @@ module _ (m s : ℕ) (keys bits : List ℕ) (n : ℕ) (rules : List Rule) (waive
 
     stopped : (c ≡ 12 → ⊥) → Promised (run second)
     stopped not-full =
-        let st = writingOf (counted .state) in
+        let st = nextOf (counted .state) in
         record {
           answered = ap (λ p. answerOf (p .state)) stays
               ∙ answer-refused st (λ e. not-zero (sym is ∙ e)) (λ e. not-full (sym is ∙ e))
@@ -98,7 +98,7 @@ module _ (m s : ℕ) (keys bits : List ℕ) (n : ℕ) (rules : List Rule) (waive
   -- the counting run was refused
   pub refused-first : (c : ℕ) → counted .state .refusal ≡ c → (c ≡ 0 → ⊥) → (c ≡ 12 → ⊥) → refusal ≡ c → Promised (run second)
   refused-first c is not-zero not-full said =
-      stopped c (ap (λ st. st .refusal) (writing-stopped (counted .state) (λ e. not-zero (sym is ∙ e))) ∙ is) not-zero said not-full
+      stopped c (ap (λ st. st .refusal) (next-stopped (counted .state) (λ e. not-zero (sym is ∙ e))) ∙ is) not-zero said not-full
 
   -- 1 and 4
   begin-refused : (c : ℕ) → beginRefusal m s keys bits n ≡ c → (c ≡ 0 → ⊥) → (c ≡ 12 → ⊥) → refusal ≡ c → Promised (run second)
@@ -109,7 +109,7 @@ module _ (m s : ℕ) (keys bits : List ℕ) (n : ℕ) (rules : List Rule) (waive
   -- 14
   faulted : Faulted counted → refusal ≡ 14 → Promised (run second)
   faulted f said =
-      stopped 14 (ap (λ st. st .refusal) (writing-faulty (counted .state) (f .running) (f .fault))) (λ e. omega arith) said (λ e. omega arith)
+      stopped 14 (ap (λ st. st .refusal) (next-faulty (counted .state) (f .running) (f .fault))) (λ e. omega arith) said (λ e. omega arith)
 
   module _ (settings : badSettings m s ≡ false) (list : isList m s keys bits n ≡ true) where
     begins : start .refusal ≡ 0
@@ -119,24 +119,24 @@ module _ (m s : ℕ) (keys bits : List ℕ) (n : ℕ) (rules : List Rule) (waive
     -- 13
     bad-run : goodFrom m s 0 rules ≡ false → counted .state .refusal ≡ 13
     unfolding beginOf
-    bad-run bad = run-bad keys bits waiverIds waiverKeys rules begun begins bad
+    bad-run bad = run-bad keys bits waiverIds waiverKeys rules begun begins refl bad
 
     module _ (good : goodFrom m s 0 rules ≡ true) where
       wrong-run : waiversGood m ws ≡ false → Faulted counted
       unfolding beginOf
       wrong-run wrong =
           run-faulty keys bits waiverIds waiverKeys rules begun
-          (record { running = begins; fault = sym (fault-good m s keys bits n waiverIds waiverKeys false begins (sym wrong)) }) good
+          (record { running = begins; fault = sym (fault-good m s keys bits n waiverIds waiverKeys false begins (sym wrong)) }) refl good
 
       unknown-run : knownFrom ws 0 rules ≡ false → Faulted counted
       unfolding beginOf
-      unknown-run unknown = run-unknown keys bits waiverIds waiverKeys rules begun begins good unknown
+      unknown-run unknown = run-unknown keys bits waiverIds waiverKeys rules begun begins refl good unknown
 
       module _ (sound : waiversGood m ws ≡ true) (known : knownFrom ws 0 rules ≡ true) where
         counting-run : counted ≡ allGathered keys bits waiverIds waiverKeys rules begun
         unfolding beginOf
         counting-run =
-            run-gathered keys bits waiverIds waiverKeys rules begun begins (sym (fault-good m s keys bits n waiverIds waiverKeys true begins (sym sound)))
+            run-gathered keys bits waiverIds waiverKeys rules begun begins refl (sym (fault-good m s keys bits n waiverIds waiverKeys true begins (sym sound)))
             (below-zero ws)
             good
             known
@@ -147,6 +147,10 @@ module _ (m s : ℕ) (keys bits : List ℕ) (n : ℕ) (rules : List Rule) (waive
         zero-last : last .refusal ≡ 0
         unfolding beginOf
         zero-last = ap (λ p. p .state .refusal) counting-run ∙ begins
+
+        walks-last : last .mode ≡ 0 → ⊥
+        unfolding beginOf
+        walks-last e = let walks = ap (λ p. p .state .mode) counting-run in omega arith
 
         sound-last : last .faulty ≡ false
         unfolding beginOf
@@ -171,18 +175,18 @@ module _ (m s : ℕ) (keys bits : List ℕ) (n : ℕ) (rules : List Rule) (waive
         -- 14: a waiver is left
         left-over : last .passed < last .waivers → refusal ≡ 14 → Promised (run second)
         left-over h said =
-            stopped 14 (ap (λ st. st .refusal) (writing-left last zero-last sound-last h)) (λ e. omega arith) said (λ e. omega arith)
+            stopped 14 (ap (λ st. st .refusal) (next-left last zero-last sound-last h)) (λ e. omega arith) said (λ e. omega arith)
 
         module _ (none : last .waivers ≤ last .passed) where
           -- 12
           too-many : last .room < last .live → refusal ≡ 12 → Promised (run second)
           too-many h said =
-              let full = writing-full last zero-last sound-last none h in
+              let full = next-full last zero-last sound-last none walks-last h in
               let is = ap (λ st. st .refusal) full in
               let stay = stays 12 is (λ e. omega arith) said in
               record {
                 answered = ap (λ p. answerOf (p .state)) stay
-                    ∙ answer-full (writingOf last) is
+                    ∙ answer-full (nextOf last) is
                     ∙ (λ i. record { refusal = is i; live = (ap (λ st. st .live) full ∙ live-last) i; hidden = 0 })
                     ∙ sym (given-full m s keys bits n rules waiverIds waiverKeys ids foundKeys said);
                 wroteIds = stopped-ids 12 is (λ e. omega arith) said;
@@ -193,10 +197,10 @@ module _ (m s : ℕ) (keys bits : List ℕ) (n : ℕ) (rules : List Rule) (waive
           module _ (fits : last .live ≤ last .room) where
             -- it starts from the same settings
             abbrev again : Progress
-            again = progressOf (writing last) ids foundKeys
+            again = progressOf (restarting (last .room) last) ids foundKeys
 
             second-is : second ≡ again
-            second-is = λ i. progressOf (writing-begins last zero-last sound-last none fits i) (ids-quiet i) (keys-quiet i)
+            second-is = λ i. progressOf (next-writes last zero-last sound-last none walks-last fits i) (ids-quiet i) (keys-quiet i)
 
             level-last : last .m ≡ m
             unfolding beginOf
@@ -212,7 +216,7 @@ module _ (m s : ℕ) (keys bits : List ℕ) (n : ℕ) (rules : List Rule) (waive
 
             writing-run : run again ≡ allGathered keys bits waiverIds waiverKeys rules again
             writing-run =
-                run-gathered keys bits waiverIds waiverKeys rules again refl refl
+                run-gathered keys bits waiverIds waiverKeys rules again refl refl refl
                 (below-zero ws)
                 (rw (level-last, slots-last) good)
                 known

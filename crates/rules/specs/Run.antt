@@ -1,5 +1,5 @@
--- A run over the rules, as the code goes: what a rule does to the state and to the two answer slices, how a run begins, how it begins again to write,
--- and what it answers. Only contracts need these; that two runs give document 01's findings is proved in proofs/.
+-- A run over the rules, as the code goes: what a rule does to the state and to the two answer slices, how the first run begins, which run comes after a run,
+-- and what the last answers. Only contracts need these; that the runs give document 01's findings is proved in proofs/.
 use Prim.Native.Nat.{ℕ, _+_, _*_, _≤_, min}
 use mathlib.Core.Path.{_≡_}
 use mathlib.Core.Bool.{Bool, true, false, cond, not, _&&_, _||_}
@@ -46,6 +46,7 @@ refusing number st =
       m = st .m;
       s = st .s;
       n = st .n;
+      mode = st .mode;
       refusal = number;
       next = st .next;
       faulty = st .faulty;
@@ -64,6 +65,7 @@ faultyFrom next st =
       m = st .m;
       s = st .s;
       n = st .n;
+      mode = st .mode;
       refusal = st .refusal;
       next = next;
       faulty = true;
@@ -82,6 +84,7 @@ counting next passed live hidden st =
       m = st .m;
       s = st .s;
       n = st .n;
+      mode = st .mode;
       refusal = st .refusal;
       next = next;
       faulty = st .faulty;
@@ -93,9 +96,70 @@ counting next passed live hidden st =
       hidden = hidden;
     }
 
+-- the same run, which only bounds the number of findings, by the number so far
+abbrev pub bounding : ℕ → State → State
+bounding live st =
+    record {
+      m = st .m;
+      s = st .s;
+      n = st .n;
+      mode = 0;
+      refusal = st .refusal;
+      next = st .next;
+      faulty = st .faulty;
+      waivers = st .waivers;
+      passed = st .passed;
+      limit = st .limit;
+      room = st .room;
+      live = live;
+      hidden = 0;
+    }
+
+-- a run that passes over all rules
+abbrev pub resting : State → State
+resting st =
+    record {
+      m = st .m;
+      s = st .s;
+      n = st .n;
+      mode = 2;
+      refusal = st .refusal;
+      next = st .next;
+      faulty = st .faulty;
+      waivers = st .waivers;
+      passed = st .passed;
+      limit = st .limit;
+      room = st .room;
+      live = st .live;
+      hidden = st .hidden;
+    }
+
+-- a run that goes through the rules from the first, and writes up to the limit
+abbrev pub restarting : ℕ → State → State
+restarting limit st =
+    record {
+      m = st .m;
+      s = st .s;
+      n = st .n;
+      mode = 1;
+      refusal = 0;
+      next = 0;
+      faulty = false;
+      waivers = st .waivers;
+      passed = 0;
+      limit = limit;
+      room = st .room;
+      live = 0;
+      hidden = 0;
+    }
+
 -- the rule has the least id that may come, or a larger one, and is good
 abbrev pub mayCome : Rule → State → Bool
 mayCome rule st = leb (st .next) (rule .id) && isRule (st .m) (st .s) rule
+
+-- how many pixels the rule's window has
+abbrev pub pixelsOf : Rule → ℕ
+pixelsOf rule = rule .height * rule .width
 
 module _ (keys bits waiverIds waiverKeys : List ℕ) where
   abbrev waivers : List Finding
@@ -122,14 +186,25 @@ module _ (keys bits waiverIds waiverKeys : List ℕ) where
       (written (p .state .limit) (p .ids) (p .state .live) (map (λ x. x .id) (liveOf waivers (findingsAt rule (p .state)))))
       (written (p .state .limit) (p .keys) (p .state .live) (map (λ x. x .key) (liveOf waivers (findingsAt rule (p .state)))))
 
+  -- their number is bounded by the pixels of the rule's window
+  abbrev pub bounded : Rule → Progress → Progress
+  bounded rule p =
+      progressOf
+      (counting (rule .id + 1) (waiversBelow (rule .id + 1) waivers) (p .state .live + pixelsOf rule) (p .state .hidden) (p .state))
+      (p .ids)
+      (p .keys)
+
+  unfoldable pub served : Rule → Progress → Progress
+  served rule p = cond (eqb (p .state .mode) 0) (bounded rule p) (gathered rule p)
+
   -- one rule
   unfoldable pub stepOf : Rule → Progress → Progress
   stepOf rule p =
-      cond (eqb (p .state .refusal) 0)
+      cond (eqb (p .state .refusal) 0 && not (eqb (p .state .mode) 2))
       (cond (mayCome rule (p .state))
       (cond (p .state .faulty || isUnknown rule (p .state))
       (progressOf (faultyFrom (rule .id + 1) (p .state)) (p .ids) (p .keys))
-      (gathered rule p))
+      (served rule p))
       (progressOf (refusing 13 (p .state)) (p .ids) (p .keys)))
       p
 
@@ -155,7 +230,7 @@ module _ (keys bits waiverIds waiverKeys : List ℕ) where
   pub record Ready (p : Progress) : Type 0 where
     pub fine : p .state .refusal ≡ 0 → Fine p
 
--- how a run begins: with the refusals 1 and 4 decided, and whether a waiver is wrong by itself
+-- how a counting run begins: with the refusals 1 and 4 decided, and whether a waiver is wrong by itself
 unfoldable pub beginRefusal : ℕ → ℕ → List ℕ → List ℕ → ℕ → ℕ
 beginRefusal m s keys bits n = cond (badSettings m s) 1 (cond (isList m s keys bits n) 0 4)
 
@@ -165,6 +240,7 @@ beginOf m s keys bits n waiverIds waiverKeys roomIds roomKeys =
       m = m;
       s = s;
       n = n;
+      mode = 1;
       refusal = beginRefusal m s keys bits n;
       next = 0;
       faulty = eqb (beginRefusal m s keys bits n) 0 && not (waiversGood m (waiversOf waiverIds waiverKeys));
@@ -176,26 +252,14 @@ beginOf m s keys bits n waiverIds waiverKeys roomIds roomKeys =
       hidden = 0;
     }
 
--- the counting run is over: 14 and 12 are decided, and the writing run begins
-unfoldable pub writingOf : State → State
-writingOf st =
+-- a run is over: 14 is decided, and 12 where the findings were counted; then comes the run that counts, or that writes
+unfoldable pub nextOf : State → State
+nextOf st =
     cond (eqb (st .refusal) 0)
     (cond (st .faulty || ltb (st .passed) (st .waivers)) (refusing 14 st)
-    (cond (ltb (st .room) (st .live)) (refusing 12 st)
-    (record {
-      m = st .m;
-      s = st .s;
-      n = st .n;
-      refusal = 0;
-      next = 0;
-      faulty = false;
-      waivers = st .waivers;
-      passed = 0;
-      limit = st .room;
-      room = st .room;
-      live = 0;
-      hidden = 0;
-    })))
+    (cond (eqb (st .mode) 0)
+    (cond (ltb (st .room) (st .live)) (restarting 0 st) (resting st))
+    (cond (ltb (st .room) (st .live)) (refusing 12 st) (restarting (st .room) st))))
     st
 
 -- what the call answers

@@ -1,11 +1,12 @@
 -- What the contracts of one rule's step say besides Run: where a rule's waivers end, and when its findings are gathered. Only contracts need these.
-use Prim.Native.Nat.{ℕ, _≤_, _<_}
+use Prim.Native.Nat.{ℕ, _+_, _≤_, _<_}
 use mathlib.Core.Path.{_≡_}
 use mathlib.Core.Bool.{true, false}
 use mathlib.Core.List.{List}
 use lib.ListN.{getD}
 use Rattle.definitions.specs.declared.Rule.{Rule}
-use Rattle.rules.specs.Run.{Progress, Fine, mayCome, isUnknown}
+use Rattle.sift.specs.declared.Sifting.{Sifting}
+use Rattle.rules.specs.Run.{Progress, Fine, pixelsOf, mayCome, isUnknown}
 
 -- the waivers from a place to another have no larger id than the rule
 pub record OwnFrom (waiverIds : List ℕ) (from count id place : ℕ) : Type 0 where
@@ -24,3 +25,7 @@ pub record Gatherable (keys bits waiverIds waiverKeys : List ℕ) (rule : Rule) 
   pub may : mayCome rule (p .state) ≡ true
   pub right : p .state .faulty ≡ false
   pub known : isUnknown keys bits waiverIds waiverKeys rule (p .state) ≡ false
+
+-- as many live findings more as the rule's window has pixels
+abbrev pub widened : Rule → Sifting → Sifting
+widened rule at = record { passed = at .passed; live = at .live + pixelsOf rule; hidden = at .hidden }

@@ -1,10 +1,11 @@
-// How a run over the rules begins, begins again to write, and answers.
+// How the first run over the rules begins, what the run after a run is, and what the last answers.
 ghost use mathlib.Core.Path.{_≡_};
 ghost use Prim.Native.Nat.{_+_, _≤_, _<_, min};
 ghost use lib.ListN.{getD};
 ghost use Rattle.definitions.specs.Read.{room};
 ghost use Rattle.definitions.specs.Rules.{findingOf, waiversOf, comesBefore};
-ghost use Rattle.rules.specs.Run.{refusing, waiversGood, beginRefusal, beginOf, writingOf, answerOf};
+ghost use Rattle.rules.specs.Run.{refusing, bounding, resting, restarting, waiversGood, beginRefusal, beginOf, nextOf, answerOf};
+use crate::run;
 use crate::run::State;
 use definitions::Found;
 use keys::Key;
@@ -71,7 +72,7 @@ fn begin_refusal(m: u32, s: u32, keys: &[u32], bits: &[u32], n: usize) -> u64
     }
 }
 
-// The counting run begins.
+// The run that checks begins: it bounds the number of findings.
 pub fn begin(
     m: u32,
     s: u32,
@@ -83,7 +84,7 @@ pub fn begin(
     room_ids: usize,
     room_keys: usize,
 ) -> State
-    ensures { λ r. ⌜ r ≡ beginOf m s (now (keys .entry)) (now (bits .entry)) n (now («waiver_ids» .entry)) (now («waiver_keys» .entry)) «room_ids» «room_keys» ⌝ }
+    ensures { λ r. ⌜ r ≡ bounding 0 (beginOf m s (now (keys .entry)) (now (bits .entry)) n (now («waiver_ids» .entry)) (now («waiver_keys» .entry)) «room_ids» «room_keys») ⌝ }
 {
     let refusal = begin_refusal(m, s, keys, bits, n);
     let waivers = lesser(waiver_ids.len(), waiver_keys.len());
@@ -95,6 +96,7 @@ pub fn begin(
         m,
         s,
         n,
+        mode: run::BOUNDING,
         refusal,
         next: 0,
         faulty,
@@ -116,9 +118,39 @@ pub fn refused(state: State, number: u64) -> State
     st
 }
 
-// The counting run is over: 14 and 12 are decided, and the writing run begins.
-pub fn begin_writing(state: State) -> State
-    ensures { λ r. ⌜ r ≡ writingOf state ⌝ }
+// The next run has nothing to count: the bound is within the room.
+fn rested(state: State) -> State
+    ensures { λ r. ⌜ r ≡ resting state ⌝ }
+{
+    let mut st = state;
+    st.mode = run::RESTING;
+    st
+}
+
+// The rules are gone through from the first again, and up to the limit findings are written.
+fn restarted(state: State, limit: usize) -> State
+    ensures { λ r. ⌜ r ≡ restarting limit state ⌝ }
+{
+    State {
+        m: state.m,
+        s: state.s,
+        n: state.n,
+        mode: run::WALKING,
+        refusal: 0,
+        next: 0,
+        faulty: false,
+        waivers: state.waivers,
+        passed: 0,
+        limit,
+        room: state.room,
+        live: 0,
+        hidden: 0,
+    }
+}
+
+// A run is over: 14 is decided, and 12 where the findings were counted; then comes the run that counts, if the bound is past the room, or that writes.
+pub fn begin_next(state: State) -> State
+    ensures { λ r. ⌜ r ≡ nextOf state ⌝ }
 {
     let room = state.room;
     if state.refusal != 0 {
@@ -130,23 +162,16 @@ pub fn begin_writing(state: State) -> State
     if state.passed < state.waivers {
         return refused(state, 14);
     }
+    if state.mode == run::BOUNDING {
+        if room < state.live {
+            return restarted(state, 0);
+        }
+        return rested(state);
+    }
     if room < state.live {
         return refused(state, 12);
     }
-    State {
-        m: state.m,
-        s: state.s,
-        n: state.n,
-        refusal: 0,
-        next: 0,
-        faulty: false,
-        waivers: state.waivers,
-        passed: 0,
-        limit: room,
-        room,
-        live: 0,
-        hidden: 0,
-    }
+    restarted(state, room)
 }
 
 // With 12 live is the number of places needed, and hidden is 0.

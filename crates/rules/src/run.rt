@@ -5,13 +5,23 @@ ghost use Rattle.rules.specs.Run.{progressOf, Ready, runOf};
 use crate::step;
 use definitions::Rule;
 
-// Where a run over the rules stands: the settings and the number of records; the refusal, or 0; the least id that the next rule may have; whether a
-// waiver is wrong; how many waivers there are and how many are passed; how many findings may be written, and how many have room; and how many
-// were live and hidden.
+// A run that only bounds the number of a rule's findings, by the pixels of its window.
+pub const BOUNDING: u32 = 0;
+
+// A run that walks the windows, and counts the findings and writes them up to its limit.
+pub const WALKING: u32 = 1;
+
+// A run that passes over all rules.
+pub const RESTING: u32 = 2;
+
+// Where a run over the rules stands: the settings and the number of records; which of the three runs it is; the refusal, or 0; the least id that the next rule may have;
+// whether a waiver is wrong; how many waivers there are and how many are passed; how many findings may be written, and how many have room; and how many
+// were live and hidden. A run that bounds has in `live` a number that the live findings do not exceed.
 pub struct State {
     pub m: u32,
     pub s: u32,
     pub n: usize,
+    pub mode: u32,
     pub refusal: u64,
     pub next: u64,
     pub faulty: bool,

@@ -1,12 +1,13 @@
 // One rule of a run: whether it may come, whether a waiver is wrong, and else its findings against its waivers, which stand one after the other.
 ghost use mathlib.Core.Path.{_≡_};
 ghost use mathlib.Core.Bool.{_&&_, _||_};
-ghost use Prim.Native.Nat.{_+_, _≤_};
+ghost use Prim.Native.Nat.{_+_, _^_, _≤_};
 ghost use lib.ListN.{length, getD};
 ghost use lib.Dec.{ltb};
-ghost use Rattle.rules.specs.Run.{progressOf, faultyFrom, counting, mayCome, gathered, Ready, stepOf};
-ghost use Rattle.rules.specs.Step.{OwnEnd, Gatherable};
+ghost use Rattle.rules.specs.Run.{progressOf, faultyFrom, counting, mayCome, served, Ready, stepOf};
+ghost use Rattle.rules.specs.Step.{OwnEnd, Gatherable, widened};
 use crate::begin;
+use crate::run;
 use crate::run::State;
 use definitions::Rule;
 use definitions::Window;
@@ -87,7 +88,18 @@ fn own_end(waiver_ids: &[u32], from: usize, count: usize, id: u32) -> usize
     place
 }
 
-// The rule's findings that no waiver hides are counted and written, the others counted.
+// As many live findings more as the rule's window has pixels: no rule has more.
+fn widen(rule: Rule, at: Sifting) -> Sifting
+    requires { ⌜ (rule .height ≤ 1024) × (rule .width ≤ 1024) × (at .live ≤ 2 ^ 62) ⌝ }
+    ensures { λ r. ⌜ r ≡ widened rule at ⌝ }
+{
+    let pixels = rule.height * rule.width;
+    let mut wider = at;
+    wider.live = at.live + pixels as usize;
+    wider
+}
+
+// The rule's findings that no waiver hides are counted and written, the others counted; or their number is only bounded.
 fn gather(
     rule: Rule,
     keys: &[u32],
@@ -100,7 +112,7 @@ fn gather(
 ) -> State
     requires { ⌜ Gatherable (now keys) (now bits) (now «waiver_ids») (now «waiver_keys») rule (progressOf state (now «found_ids») (now «found_keys»)) ⌝ }
     ensures { λ r. ⌜ progressOf r (now («found_ids» .exit)) (now («found_keys» .exit))
-        ≡ gathered (now (keys .entry)) (now (bits .entry)) (now («waiver_ids» .entry)) (now («waiver_keys» .entry)) rule
+        ≡ served (now (keys .entry)) (now (bits .entry)) (now («waiver_ids» .entry)) (now («waiver_keys» .entry)) rule
         (progressOf state (now («found_ids» .entry)) (now («found_keys» .entry))) ⌝ }
 {
     let id = rule.id;
@@ -112,6 +124,9 @@ fn gather(
         live: state.live,
         hidden: state.hidden,
     };
+    if state.mode == run::BOUNDING {
+        return counted(state, next, end, widen(rule, at));
+    }
     let sifted = sift::sift_rule(
         rule,
         state.m,
@@ -144,6 +159,9 @@ pub fn step(
 {
     let id = rule.id;
     if state.refusal != 0 {
+        return state;
+    }
+    if state.mode == run::RESTING {
         return state;
     }
     if !may_come(rule, state) {

@@ -11,7 +11,7 @@ ghost use Rattle.definitions.specs.Read.{recordsOf};
 ghost use Rattle.definitions.specs.Window.{isWindow, selectIn};
 ghost use Rattle.definitions.specs.Rules.{windowOf};
 ghost use Rattle.list.specs.Own.{OwnList, shownBy};
-ghost use Rattle.list.specs.Sorted.{Ascends};
+ghost use Rattle.list.specs.Sorted.{Ascends, Near};
 ghost use Rattle.window.specs.Walk.{Stands};
 ghost use Rattle.window.specs.Gather.{keysWith, keysUntil};
 ghost use Rattle.sift.specs.Sift.{Passed, FirstPast, SiftReady, RunReady, Sifted};
@@ -145,6 +145,7 @@ fn sift_block(
     job: Job,
     keys: &[u32],
     bits: &[u32],
+    from: usize,
     block: Spot,
     waived: &[u32],
     found_ids: &mut [u32],
@@ -152,6 +153,7 @@ fn sift_block(
     at: Sifting,
 ) -> Sifting
     requires { ⌜ (job .m ≤ 10) × Stands (job .m) block × OwnList (job .m) (now keys) (now bits) (job .n)
+        × Near (now keys) (job .n) from (block .key)
         × SiftReady (job .limit) (now waived) at (now «found_ids») (now «found_keys») (2 ^ 60) (block .key) ⌝ }
     ensures { λ r. ⌜ Sifted (job .limit) (job .id) (now (waived .entry))
         (keysWith (job .bit) (contentOf (job .m) (shownBy (job .m) (now (keys .entry)) (now (bits .entry)) (job .n)) (block .key))) at r
@@ -161,7 +163,7 @@ fn sift_block(
     let bit = job.bit;
     let key = block.key;
     let step = block.step;
-    let standing = standing::stand(keys, n, key);
+    let standing = standing::stand_from(keys, n, from, key);
     let Standing::Listed(place) = standing else {
         let Standing::Inside(leaf) = standing else {
             return at;
@@ -208,21 +210,45 @@ pub fn sift_rule(
         height: rule.height,
         width: rule.width,
     };
+    let feature = rule.feature;
+    let bit = power::power_of_two(feature);
     let job = Job {
         m,
         n,
         id: rule.id,
-        bit: power::power_of_two(rule.feature),
+        bit,
         limit,
     };
     let mut st = at;
     let mut spot = walk::start(m);
+    let mut from = 0;
     loop {
-        let Found::At(block) = walk::find_largest(m, spot, window) else {
-            return st;
-        };
-        st = sift_block(job, keys, bits, block, waived, found_ids, found_keys, st);
-        let Found::At(next) = walk::after(m, block) else {
+        loop {
+            if walk::apart(spot, window) {
+                break;
+            }
+            let key = spot.key;
+            from = standing::up_to_from(keys, n, from, key) - 1;
+            if bits[from] & bit == 0 {
+                break;
+            }
+            if walk::within(spot, window) {
+                st = sift_block(
+                    job,
+                    keys,
+                    bits,
+                    from,
+                    spot,
+                    waived,
+                    found_ids,
+                    found_keys,
+                    st,
+                );
+                break;
+            }
+            spot = walk::first(spot);
+        }
+        let Found::At(next) = walk::after(m, spot) else {
             return st;
         };
         spot = next;

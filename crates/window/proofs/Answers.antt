@@ -1,7 +1,7 @@
 -- The answers of report, exist and select: a refused call gives its number and nothing else (with 12 the places needed), and an accepted one what was
--- found. Rests on Tables.
-use Prim.Native.Nat.{ℕ, _≤_, _<_}
-use mathlib.Core.Path.{_≡_, sym, _∙_, ap}
+-- found. Rests on Tables and Few.
+use Prim.Native.Nat.{ℕ, _*_, _≤_, _<_}
+use mathlib.Core.Path.{_≡_, refl, sym, _∙_, ap}
 use mathlib.Core.Bool.{true, false, cond}
 use mathlib.Core.List.{List}
 use native.Mathlib.Omega.{arith}
@@ -19,6 +19,7 @@ use Rattle.definitions.specs.declared.Counted.{Counted}
 use Rattle.definitions.proofs.First.{accepted-done, accepted-left}
 use Rattle.list.specs.Own.{shownBy}
 use Rattle.window.specs.Gather.{Gave}
+use Rattle.window.proofs.Few.{select-few}
 use Rattle.window.proofs.Written.{written-nothing, written-over}
 use Rattle.window.proofs.Tables.{select-goes-on, select-other, select-short, select-none}
 
@@ -68,41 +69,57 @@ module _ (m s : ℕ) (keys bits : List ℕ) (n : ℕ) (w : Window) where
           let some : selectRefusal m s keys bits n w f answer ≡ 0 → ⊥ = λ z. h (e ∙ z) in
           record {
             result = counted e
-                (sym (accepted-left _ _ some ∙ ap (λ t. cond t (length (selected m keys bits n w f)) 0) (ne-eqb _ 12 (λ z. select-other m s keys bits n w f answer r is h (e ∙ z)))));
+                (sym
+                (accepted-left _ _ some
+                ∙ ap (λ t. cond t (length (selected m keys bits n w f)) 0) (ne-eqb _ 12 (λ z. select-other m s keys bits n w f answer r is h (e ∙ z)))));
             left = sym (accepted-left _ answer some);
           }
 
-      module _ (none : existRefusal m s keys bits n w f ≡ 0) (needed : ℕ) (after : List ℕ) (gave : Gave (selectIn m (shownBy m keys bits n) w f) 0 0 answer after needed) where
-        -- counting leaves the answer as it was
-        pub counting-leaves : after ≡ answer
-        counting-leaves = gave .wrote ∙ written-nothing answer 0 _
-
-        needed-length : needed ≡ length (selected m keys bits n w f)
-        unfolding selected
-        needed-length = gave .counted ∙ omega arith
-
-        -- too little room: the places needed
-        pub select-twelve : length answer < needed → Answered (record { refusal = 12; count = needed }) after
-        unfolding select selectAnswer
-        select-twelve short =
-            let e = select-short m s keys bits n w f answer none (let l = needed-length in omega arith) in
-            let some : selectRefusal m s keys bits n w f answer ≡ 0 → ⊥ = λ z. omega (arith, e) in
-            record {
-              result = counted (sym e) (needed-length ∙ sym (accepted-left _ _ some ∙ ap (λ t. cond t (length (selected m keys bits n w f)) 0) (eq-eqb _ 12 e)));
-              left = counting-leaves ∙ sym (accepted-left _ answer some);
-            }
-
+      module _ (none : existRefusal m s keys bits n w f ≡ 0) where
         -- enough room: the keys
-        pub select-written : needed ≤ length answer → (count : ℕ) (last : List ℕ) → Gave (selectIn m (shownBy m keys bits n) w f) needed 0 after last count
+        select-all : length (selectIn m (shownBy m keys bits n) w f) ≤ length answer → (limit count : ℕ) (before last : List ℕ) → before ≡ answer
+            → length (selectIn m (shownBy m keys bits n) w f) ≤ limit → Gave (selectIn m (shownBy m keys bits n) w f) limit 0 before last count
             → Answered (record { refusal = 0; count = count }) last
         unfolding select selectAnswer selected
-        select-written room count last wrote =
-            let l = needed-length in
-            let e = select-none m s keys bits n w f answer none (omega arith) in
+        select-all room limit count before last same reach gave =
+            let l = selectIn m (shownBy m keys bits n) w f in
+            let e = select-none m s keys bits n w f answer none room in
             record {
-              result = counted (sym e) (wrote .counted ∙ omega arith ∙ sym (accepted-done _ _ e));
-              left = wrote .wrote
-                  ∙ written-over needed after (selectIn m (shownBy m keys bits n) w f) (omega arith) (let k = ap length counting-leaves in omega arith)
-                  ∙ ap (over (selectIn m (shownBy m keys bits n) w f)) counting-leaves
+              result = counted (sym e) (gave .counted ∙ omega arith ∙ sym (accepted-done _ _ e));
+              left = gave .wrote
+                  ∙ written-over limit before l reach (let k = ap length same in omega arith)
+                  ∙ ap (over l) same
                   ∙ sym (accepted-done _ answer e);
             }
+
+        -- room for every pixel of the window is enough
+        pub select-at-once : w .height * w .width ≤ length answer → (count : ℕ) (last : List ℕ)
+            → Gave (selectIn m (shownBy m keys bits n) w f) (length answer) 0 answer last count
+            → Answered (record { refusal = 0; count = count }) last
+        select-at-once room count last gave =
+            let few = select-few (shownBy m keys bits n) w f m in
+            select-all (omega arith) (length answer) count answer last refl (omega arith) gave
+
+        module _ (needed : ℕ) (after : List ℕ) (gave : Gave (selectIn m (shownBy m keys bits n) w f) 0 0 answer after needed) where
+          -- counting leaves the answer as it was
+          pub counting-leaves : after ≡ answer
+          counting-leaves = gave .wrote ∙ written-nothing answer 0 _
+
+          needed-length : needed ≡ length (selected m keys bits n w f)
+          unfolding selected
+          needed-length = gave .counted ∙ omega arith
+
+          -- too little room: the places needed
+          pub select-twelve : length answer < needed → Answered (record { refusal = 12; count = needed }) after
+          unfolding select selectAnswer
+          select-twelve short =
+              let e = select-short m s keys bits n w f answer none (let l = needed-length in omega arith) in
+              let some : selectRefusal m s keys bits n w f answer ≡ 0 → ⊥ = λ z. omega (arith, e) in
+              record {
+                result = counted (sym e) (needed-length ∙ sym (accepted-left _ _ some ∙ ap (λ t. cond t (length (selected m keys bits n w f)) 0) (eq-eqb _ 12 e)));
+                left = counting-leaves ∙ sym (accepted-left _ answer some);
+              }
+
+          pub select-written : needed ≤ length answer → (count : ℕ) (last : List ℕ) → Gave (selectIn m (shownBy m keys bits n) w f) needed 0 after last count
+              → Answered (record { refusal = 0; count = count }) last
+          select-written room count last wrote = select-all (omega (arith, gave .counted)) needed count after last counting-leaves (omega (arith, gave .counted)) wrote

@@ -1,7 +1,7 @@
 -- What asking where a block stands gives on an accepted list, as the code has it: at the place are the block's own bits; a listed block's whole list
--- stands there; a block inside a leaf has one feature. Rests on the laws of standing.
+-- stands there; a block inside a leaf has one feature; and the search for a later key can begin there. Rests on the laws of standing.
 use Prim.Native.Nat.{ℕ, _-_, _≤_, _<_}
-use mathlib.Core.Path.{_≡_, sym, _∙_, ap}
+use mathlib.Core.Path.{_≡_, sym, _∙_, ap, subst}
 use mathlib.Core.Bool.{true}
 use mathlib.Core.List.{List}
 use native.Mathlib.Omega.{arith}
@@ -15,20 +15,37 @@ use Rattle.definitions.specs.declared.Standing.the-variants.{Listed, Inside}
 use Rattle.definitions.specs.Picture.{oneFeature}
 use Rattle.definitions.specs.Bits.{bitsOf}
 use Rattle.definitions.specs.List.{keysOf, listOfPicture}
-use Rattle.definitions.specs.Standing.{placeOf, isListed}
+use Rattle.definitions.specs.Standing.{placeOf, isListed, placeIn}
 use Rattle.definitions.proofs.Features.{one-under}
 use Rattle.list.specs.Own.{OwnList, shownBy}
+use Rattle.list.specs.Sorted.{Near}
 use Rattle.list.specs.Among.{keysUpTo, placeAmong, standingAmong}
-use Rattle.list.proofs.Among.{found-some}
+use Rattle.list.proofs.Among.{found-some, among-place}
 use Rattle.list.proofs.Lookup.{lookup-listed, lookup-inside, AtPlace}
-use Rattle.list.proofs.Own.{own-keys, own-sorted, own-place, own-bits, own-found, own-listed, own-inside}
+use Rattle.list.proofs.Own.{own-keys, own-sorted, own-place, own-bits, own-found, own-listed, own-inside, own-near}
 
 -- the place is one of the list's, and has the block's bits
 pub record Asked (m : ℕ) (keys bits : List ℕ) (n k r c place : ℕ) : Type 0 where
   pub room : place < n
   pub value : getD bits place 0 ≡ bitsOf (shownBy m keys bits n) k r c
 
+-- a place from which a search can begin serves for every later key too
+pub near-later : {keys : List ℕ} {n from x : ℕ} → Near keys n from x → (y : ℕ) → x ≤ y → Near keys n from y
+near-later h y later = record { room = h .room; before = omega (arith, h .before) }
+
 module _ {m : ℕ} {keys bits : List ℕ} {n : ℕ} (o : OwnList m keys bits n) where
+  -- so does the place that was found
+  pub near-count : (κ count : ℕ) → count ≡ keysUpTo κ (take n keys) → Near keys n (count - 1) κ
+  unfolding placeAmong
+  near-count κ count e = subst (λ (x : ℕ). Near keys n (x - 1) κ) (sym e) (own-near o κ)
+
+  pub near-standing : (κ : ℕ) (stands : Standing) → stands ≡ standingAmong κ (take n keys) → Near keys n (placeIn stands) κ
+  near-standing κ stands is = subst (λ (x : ℕ). Near keys n x κ) (sym (ap placeIn is ∙ among-place κ (take n keys))) (own-near o κ)
+
+  -- and before any was, the first
+  pub near-root : (κ : ℕ) → Near keys n 0 κ
+  near-root κ = let s = own-sorted o κ in record { room = omega (arith, s .some); before = s .first }
+
   -- some key is at or before each
   pub asked-some : (κ count : ℕ) → count ≡ keysUpTo κ (take n keys) → 1 ≤ count
   asked-some κ count e = found-some (own-sorted o κ) count e

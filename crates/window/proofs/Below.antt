@@ -1,8 +1,9 @@
--- Select on the walk, the keys alone: what select gives below the key where the walk stands. A gap adds nothing, and a largest block adds its leaves
--- of the feature. Rests on Skip, LeafKeys and Largest.
-use Prim.Native.Nat.{ℕ, _+_, _^_, _≤_, _<_}
+-- Select on the walk, the keys alone: what select gives below the key where the walk stands. A gap adds nothing, and neither does a block apart from the
+-- window, a block without the feature, or the way into a block that the window cuts; a largest block adds its leaves of the feature. Rests on Skip,
+-- LeafKeys and Largest.
+use Prim.Native.Nat.{ℕ, _+_, _/_, _^_, _≤_, _<_}
 use mathlib.Core.Path.{_≡_, refl, sym, _∙_, ap}
-use mathlib.Core.Bool.{true}
+use mathlib.Core.Bool.{true, false, true≢false}
 use mathlib.Core.List.{[], _++_}
 use native.Mathlib.Omega.{arith}
 use lib.ListN.{length}
@@ -10,19 +11,23 @@ use Rattle.keys.specs.Key.{rootKey}
 use Rattle.keys.specs.Block.{pixelKey}
 use Rattle.keys.proofs.Cases.{split}
 use Rattle.keys.proofs.Powers.{five-pos, five-le, two-pos}
-use Rattle.keys.proofs.Interval.{within}
-use Rattle.keys.proofs.Pixel.{inside, pixelKey-lt}
+use Rattle.keys.proofs.Interval.{within, nest, one-block}
+use Rattle.keys.proofs.Pixel.{inside}
 use Rattle.definitions.specs.Picture.{Picture}
+use Rattle.definitions.specs.Bits.{hasSlot}
 use Rattle.definitions.specs.Window.{inWindow, isGiven, selectFrom, selectIn}
 use Rattle.definitions.specs.declared.Window.{Window}
 use Rattle.definitions.specs.Edit.{contentOf}
-use Rattle.definitions.proofs.SelectMeans.{given-inside, given-of, Selected, select-in-exactly}
+use Rattle.definitions.proofs.SelectMeans.{given-inside, given-feature, given-of, Selected, select-in-exactly}
 use Rattle.definitions.proofs.SelectAscends.{select-in-ascends}
 use Rattle.window.specs.declared.walk.Spot.{Spot}
-use Rattle.window.specs.Walk.{isWithin, Clear, Walking, FirstFrom}
+use Rattle.window.specs.Walk.{Stands, isWithin, isApart, Walking, FirstFrom}
 use Rattle.window.specs.Gather.{keysWith}
+use Rattle.window.proofs.Lies.{InSpot, apart-pixel}
+use Rattle.window.proofs.Steps.{Parent, nothing-between}
+use Rattle.window.proofs.Seen.{bitsAt, no-slot-pixel}
 use Rattle.window.proofs.Lower.{lower, lower-all, lower-none, lower-gap, lower-length, ascending-length}
-use Rattle.window.proofs.Largest.{blank, AllInside, within-all, not-broken}
+use Rattle.window.proofs.Largest.{blank, AllInside, within-all, all-within, not-broken}
 use Rattle.window.proofs.Skip.{Alone, select-skip}
 use Rattle.window.proofs.LeafKeys.{leaves-selected}
 use Rattle.window.proofs.Content.{content-list}
@@ -72,6 +77,44 @@ module _ (m : ℕ) (p : Picture) (w : Window) (f : ℕ) where
       (λ missed. g .clear (t .row) (t .column) in-window (omega arith) missed)
       (λ past. not-broken w (g .walking .parting) (t .under) (given-all p w f (t .height) (t .row) (t .column) (t .given)) before (omega arith))))
 
+  -- a block without a pixel of the window that has the feature adds nothing
+  lower-barren : {s : Spot} (h : Stands m s)
+      → ((row column : ℕ) → InSpot s row column → inWindow w row column ≡ true → p row column ≡ f → ⊥)
+      → lower (s .key) (selectIn m p w f) ≡ lower (s .key + s .step) (selectIn m p w f)
+  lower-barren {s} h barren =
+      lower-gap (s .key) (s .key + s .step) (selectIn m p w f) (omega arith)
+      (λ z i from before.
+      let t = select-in-exactly p w f m .0 i in
+      let some = two-pos (t .height) in
+      let v = within (nest (h .block) (t .under) from (omega (arith, h .step))) in
+      barren (t .row) (t .column) (omega (arith, h .side))
+      (given-inside p w f (t .height) (t .row) (t .column) {row = t .row} {column = t .column} (t .given) (omega arith))
+      (given-feature p w f (t .height) (t .row) (t .column) {row = t .row} {column = t .column} (t .given) (omega arith)))
+
+  -- so does one apart from the window
+  pub lower-apart : {s : Spot} → Stands m s → isApart s w ≡ true → lower (s .key) (selectIn m p w f) ≡ lower (s .key + s .step) (selectIn m p w f)
+  lower-apart {s} h e = lower-barren h (λ row column i j has. apart-pixel s w row column e i j)
+
+  -- and one whose bits lack the feature
+  pub lower-lacking : {s : Spot} (h : Stands m s) → hasSlot (bitsAt p h) f ≡ false
+      → lower (s .key) (selectIn m p w f) ≡ lower (s .key + s .step) (selectIn m p w f)
+  lower-lacking h none = lower-barren h (λ row column i j has. no-slot-pixel p f h row column none i has)
+
+  -- and so does the way to the first quadrant of a block that the window cuts
+  pub lower-enter : {s : Spot} (h : Stands m s) → Parent m s → isWithin s w ≡ false
+      → lower (s .key) (selectIn m p w f) ≡ lower (s .key + s .step / 5) (selectIn m p w f)
+  lower-enter {s} h q e =
+      lower-gap (s .key) (s .key + s .step / 5) (selectIn m p w f) (omega arith)
+      (λ z i from before.
+      let t = select-in-exactly p w f m .0 i in
+      split (s .key) z
+      (λ after. nothing-between q (t .under) after before)
+      (λ at.
+      let same = one-block (h .block) (t .under) (omega arith) in
+      let all : AllInside w (h .height) (s .row) (s .column)
+      = rw (same .heights, same .rows, same .columns) (given-all p w f (t .height) (t .row) (t .column) (t .given)) in
+      true≢false (sym (all-within w {s = s} h all) ∙ e)))
+
   -- what the walk finds next adds its leaves
   pub below-block : {x : ℕ} {s : Spot} → FirstFrom m w x s
       → lower (s .key + s .step) (selectIn m p w f) ≡ lower x (selectIn m p w f) ++ keysWith (2 ^ f) (contentOf m p (s .key))
@@ -85,16 +128,6 @@ module _ (m : ℕ) (p : Picture) (w : Window) (f : ℕ) where
   -- at the end of the map all is
   pub below-all : (x : ℕ) → x ≡ 5 ^ m → lower x (selectIn m p w f) ≡ selectIn m p w f
   below-all x e = lower-all x (select-in-ascends m p w f) (omega arith)
-
-  -- and also where nothing is left of the window
-  pub below-rest : (x : ℕ) → x ≤ 5 ^ m → Clear m w x (5 ^ m) → lower x (selectIn m p w f) ≡ selectIn m p w f
-  below-rest x low clear =
-      lower-gap x (5 ^ m) (selectIn m p w f) low
-      (λ z i from before.
-      let t = select-in-exactly p w f m .0 i in
-      selected-pixel t
-      (λ in-window over under. clear (t .row) (t .column) in-window (omega arith) (pixelKey-lt m (t .row) (t .column))))
-      ∙ below-all (5 ^ m) refl
 
   -- there are few keys
   pub below-few : (x : ℕ) → m ≤ 10 → length (lower x (selectIn m p w f)) ≤ 9765625

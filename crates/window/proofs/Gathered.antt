@@ -1,26 +1,30 @@
 -- Report on the walk: every slot gathered is that of a pixel of the window, and every pixel of the window before the key where the walk stands has
--- its slot. A largest block adds its own bits. Rests on Steps and the meaning of report.
+-- its slot. A block within the window adds its bits, and so does a block of one feature that meets it; a block with nothing new is passed. Rests on Seen
+-- and the meaning of report.
 use Prim.Native.Nat.{ℕ, _+_, _^_, _<_}
 use mathlib.Core.Path.{_≡_, sym, _∙_, ap}
-use mathlib.Core.Bool.{true, true≢false}
+use mathlib.Core.Bool.{true, false, true≢false}
 use mathlib.Core.Logic.{⊎-elim}
 use native.Mathlib.Omega.{arith}
 use lib.Bits.{bitOr}
+use borrow.Author.Tests.{eqb-true}
 use Rattle.keys.specs.Block.{pixelKey}
 use Rattle.keys.proofs.Cases.{split, or-either, or-left, or-right, same-test}
 use Rattle.keys.proofs.Pixel.{pixelKey-lt}
 use Rattle.definitions.specs.Picture.{Picture}
-use Rattle.definitions.specs.Bits.{hasSlot}
+use Rattle.definitions.specs.Bits.{hasSlot, featureOf}
 use Rattle.definitions.specs.Window.{isWindow, inWindow, reportIn}
 use Rattle.definitions.specs.declared.Window.{Window}
-use Rattle.definitions.proofs.Slots.{slot-union, slot-of-zero, bits-equal}
+use Rattle.definitions.proofs.Slots.{slot-union, slot-of-zero, bits-equal, slot-power as slot-of-power}
 use Rattle.definitions.proofs.BitsOf.{bits-to, bits-from}
 use Rattle.definitions.proofs.WindowScan.{PixelWith, report-exactly}
+use Rattle.list.specs.Check.{oneSlot}
+use Rattle.list.proofs.OneSlot.{slot-power}
 use Rattle.window.specs.declared.walk.Spot.{Spot}
-use Rattle.window.specs.Walk.{Stands, isWithin, Clear}
-use Rattle.window.proofs.Lies.{InSpot, within-pixel, window-pixel}
+use Rattle.window.specs.Walk.{Stands, isWithin, isApart, Clear}
+use Rattle.window.proofs.Lies.{InSpot, within-pixel, window-pixel, meets-pixel}
 use Rattle.window.proofs.Steps.{in-spot}
-use Rattle.window.proofs.Seen.{bitsAt}
+use Rattle.window.proofs.Seen.{bitsAt, whole-pixel}
 
 pub record Gathered (m : ℕ) (p : Picture) (w : Window) (union x : ℕ) : Type 0 where
   pub only : (i : ℕ) → hasSlot union i ≡ true → PixelWith p w i
@@ -42,10 +46,10 @@ module _ (m : ℕ) (p : Picture) (w : Window) where
         every = λ row column i before. split (pixelKey m row column) x (g .every row column i) (λ past. absurd (c row column i past before));
       }
 
-  module _ {s : Spot} (good : isWindow m w ≡ true) (h : Stands m s) (e : isWithin s w ≡ true) where
+  module _ {s : Spot} (good : isWindow m w ≡ true) (h : Stands m s) where
     -- a slot of a block within the window belongs to a pixel of the window
-    block-only : (i : ℕ) → hasSlot (bitsAt p h) i ≡ true → PixelWith p w i
-    block-only i has =
+    block-only : isWithin s w ≡ true → (i : ℕ) → hasSlot (bitsAt p h) i ≡ true → PixelWith p w i
+    block-only e i has =
         let x = bits-to p (h .height) (s .row) (s .column) i has in
         let inner : InSpot s (x .row) (x .column) = let v = x .within in omega (arith, h .side) in
         record { row = x .row; column = x .column; inside = within-pixel s w (x .row) (x .column) e inner; feature = x .holds }
@@ -53,22 +57,51 @@ module _ (m : ℕ) (p : Picture) (w : Window) where
     block-every : (row column : ℕ) → InSpot s row column → hasSlot (bitsAt p h) (p row column) ≡ true
     block-every row column i = bits-from p (h .height) (s .row) (s .column) row column (omega (arith, h .side))
 
-    -- a largest block adds its bits
-    pub gathered-block : (union bits : ℕ) → bits ≡ bitsAt p h → Gathered m p w union (s .key) → Gathered m p w (bitOr union bits) (s .key + s .step)
-    gathered-block union bits is g =
+    -- with the block's bits every pixel up to its end has its slot
+    every-past : (union bits : ℕ) → bits ≡ bitsAt p h → Gathered m p w union (s .key)
+        → (row column : ℕ) → inWindow w row column ≡ true → pixelKey m row column < s .key + s .step → hasSlot (bitOr union bits) (p row column) ≡ true
+    every-past union bits is g row column i before =
+        let f = p row column in
+        let q = window-pixel m w row column good i in
+        slot-union union bits f
+        ∙ split (pixelKey m row column) (s .key) (λ low. or-left (hasSlot union f) (hasSlot bits f) (g .every row column i low))
+        (λ past.
+        or-right (hasSlot union f) (hasSlot bits f)
+        (ap (λ y. hasSlot y f) is ∙ block-every row column (in-spot row column h (q .0) (q .1) past before)))
+
+    -- a block whose slots are all the window's adds its bits
+    gathered-add : (union bits : ℕ) → bits ≡ bitsAt p h → ((i : ℕ) → hasSlot (bitsAt p h) i ≡ true → PixelWith p w i)
+        → Gathered m p w union (s .key)
+        → Gathered m p w (bitOr union bits) (s .key + s .step)
+    gathered-add union bits is only g =
         record {
           only = λ i has.
-              ⊎-elim (λ (a : hasSlot union i ≡ true). g .only i a) (λ (b : hasSlot bits i ≡ true). block-only i (ap (λ y. hasSlot y i) (sym is) ∙ b))
+              ⊎-elim (λ (a : hasSlot union i ≡ true). g .only i a) (λ (b : hasSlot bits i ≡ true). only i (ap (λ y. hasSlot y i) (sym is) ∙ b))
               (or-either (hasSlot union i) (hasSlot bits i) (sym (slot-union union bits i) ∙ has));
-          every = λ row column i before.
-              let f = p row column in
-              let q = window-pixel m w row column good i in
-              slot-union union bits f
-              ∙ split (pixelKey m row column) (s .key) (λ low. or-left (hasSlot union f) (hasSlot bits f) (g .every row column i low))
-              (λ past.
-              or-right (hasSlot union f) (hasSlot bits f)
-              (ap (λ y. hasSlot y f) is ∙ block-every row column (in-spot row column h (q .0) (q .1) past before)));
+          every = every-past union bits is g;
         }
+
+    -- a block within the window does
+    pub gathered-block : isWithin s w ≡ true → (union bits : ℕ) → bits ≡ bitsAt p h → Gathered m p w union (s .key) → Gathered m p w (bitOr union bits) (s .key + s .step)
+    gathered-block e union bits is g = gathered-add union bits is (block-only e) g
+
+    -- and so does a block of one feature that meets it
+    pub gathered-whole : isApart s w ≡ false → (union bits : ℕ) → bits ≡ bitsAt p h → oneSlot bits ≡ true
+        → Gathered m p w union (s .key)
+        → Gathered m p w (bitOr union bits) (s .key + s .step)
+    gathered-whole e union bits is one g =
+        let x = meets-pixel w good h e in
+        let power = sym is ∙ slot-power bits one in
+        gathered-add union bits is
+        (λ i has.
+        let same = eqb-true (featureOf bits) i (sym (slot-of-power (featureOf bits) i) ∙ ap (λ y. hasSlot y i) (sym power) ∙ has) in
+        record { row = x .row; column = x .column; inside = x .in-window; feature = whole-pixel p (featureOf bits) h (x .row) (x .column) power (x .in-spot) ∙ same })
+        g
+
+    -- a block that adds nothing is passed
+    pub gathered-nothing : (union bits : ℕ) → bits ≡ bitsAt p h → bitOr union bits ≡ union → Gathered m p w union (s .key) → Gathered m p w union (s .key + s .step)
+    gathered-nothing union bits is none g =
+        record { only = g .only; every = λ row column i before. ap (λ y. hasSlot y (p row column)) (sym none) ∙ every-past union bits is g row column i before }
 
   -- at the end the union is the report
   pub gathered-end : (union x : ℕ) → x ≡ 5 ^ m → Gathered m p w union x → union ≡ reportIn p w

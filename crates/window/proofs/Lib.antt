@@ -5,6 +5,7 @@ pub mod Once
 pub mod Largest
 pub mod Walked
 pub mod Asked
+pub mod Going
 pub mod Slot
 pub mod Seen
 pub mod Shows
@@ -16,7 +17,9 @@ pub mod Lower
 pub mod Skip
 pub mod LeafKeys
 pub mod Below
+pub mod Few
 pub mod Taken
+pub mod Descent
 pub mod Tables
 pub mod Answers
 pub mod WindowLaws

@@ -1,12 +1,12 @@
 -- How a block lies to a window, in numbers: the tests isWithin and isApart of a spot, and what they say of the window's pixels. Rests on nothing.
-use Prim.Native.Nat.{ℕ, _+_, _^_, _≤_, _<_}
+use Prim.Native.Nat.{ℕ, _+_, _-_, _^_, _≤_, _<_}
 use mathlib.Core.Path.{_≡_, sym, _∙_}
 use mathlib.Core.Bool.{true, false, _||_, _&&_, true≢false}
 use native.Mathlib.Omega.{arith}
 use lib.Dec.{leb}
 use borrow.Author.Tests.{leb-true, leb-false, le-leb, lt-leb}
 use Rattle.keys.proofs.Cases.{decide, and-left, and-right, and-both, neither-left, neither-right}
-use Rattle.keys.proofs.Powers.{two-le}
+use Rattle.keys.proofs.Powers.{two-le, two-pos}
 use Rattle.keys.proofs.Interval.{within}
 use Rattle.definitions.specs.Window.{isWindow, inWindow}
 use Rattle.definitions.specs.declared.Window.{Window}
@@ -120,3 +120,20 @@ small m s w low e h =
     let b = within (h .block) in
     let two = two-le 10 low in
     omega (arith, h .side)
+
+-- a pixel of the block and of the window
+pub record Shared (s : Spot) (w : Window) : Type 0 where
+  pub row : ℕ
+  pub column : ℕ
+  pub in-spot : InSpot s row column
+  pub in-window : inWindow w row column ≡ true
+
+-- a block that does not lie apart from the window has one
+pub meets-pixel : {m : ℕ} (w : Window) {s : Spot} → isWindow m w ≡ true → Stands m s → isApart s w ≡ false → Shared s w
+meets-pixel {m} w {s} good h e =
+    let a = accepted m w good in
+    let two = two-pos (h .height) in
+    let j = not-apart s w e in
+    let row = w .row + (s .row - w .row) in
+    let column = w .column + (s .column - w .column) in
+    record { row = row; column = column; in-spot = omega (arith, h .side); in-window = window-inside w row column (omega arith) }

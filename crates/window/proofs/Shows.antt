@@ -1,22 +1,22 @@
--- Whether a block shows a feature, read off the record where it stands: a listed block by the feature's bit, a block inside a leaf by the leaf's
--- whole bitstring. Rests on Asked and Slot.
-use Prim.Native.Nat.{ℕ, _^_}
-use mathlib.Core.Path.{_≡_, refl, sym, _∙_, ap}
+-- Whether a block shows a feature, or shows it alone, read off the record where it stands: a listed block by the feature's bit, a block inside a leaf by
+-- the leaf's whole bitstring. Rests on Asked and Slot.
+use Prim.Native.Nat.{ℕ, _-_, _^_}
+use mathlib.Core.Path.{_≡_, sym, _∙_, ap}
 use mathlib.Core.Bool.{true, false}
 use mathlib.Core.List.{List}
 use lib.Bits.{bitAnd}
 use lib.ListN.{getD, take}
-use borrow.Author.Tests.{eq-eqb, ne-eqb}
+use borrow.Author.Tests.{ne-eqb}
 use Rattle.definitions.specs.declared.Standing.{Standing}
 use Rattle.definitions.specs.declared.Standing.the-variants.{Listed, Inside}
 use Rattle.definitions.specs.Bits.{hasSlot}
 use Rattle.definitions.proofs.Slots.{slot-power}
 use Rattle.definitions.proofs.BitsOf.{bits-one}
 use Rattle.list.specs.Own.{OwnList, shownBy}
-use Rattle.list.specs.Among.{standingAmong}
+use Rattle.list.specs.Among.{keysUpTo, standingAmong}
 use Rattle.window.specs.declared.walk.Spot.{Spot}
 use Rattle.window.specs.Walk.{Stands}
-use Rattle.window.proofs.Asked.{Asked, asked-listed, asked-inside, asked-one}
+use Rattle.window.proofs.Asked.{Asked, asked-count, asked-listed, asked-inside, asked-one}
 use Rattle.window.proofs.Slot.{bit-zero, bit-some}
 use Rattle.window.proofs.Seen.{bitsAt}
 
@@ -54,8 +54,17 @@ module _
         ∙ slot-power (p (s .row) (s .column)) f
         ∙ ne-eqb (p (s .row) (s .column)) f (λ same. other (a .value ∙ one ∙ ap (λ x. 2 ^ x) same ∙ sym is-bit))
 
-    -- and of this one
-    pub leaf-yes : stands ≡ Inside place → getD bits place 0 ≡ bit → hasSlot (bitsAt (shownBy m keys bits n) h) f ≡ true
-    leaf-yes e same =
-        let a = asked-inside o (h .block) stands place is e in
-        ap (λ x. hasSlot x f) (sym (a .value) ∙ same ∙ is-bit) ∙ slot-power f f ∙ eq-eqb f f refl
+    -- a leaf, listed or around the block: the block has its feature alone
+    pub listed-whole : stands ≡ Listed place → getD bits place 0 ≡ bit → bitsAt (shownBy m keys bits n) h ≡ 2 ^ f
+    listed-whole e same = sym (asked-listed o (h .block) stands place is e .value) ∙ same ∙ is-bit
+
+    pub leaf-whole : stands ≡ Inside place → getD bits place 0 ≡ bit → bitsAt (shownBy m keys bits n) h ≡ 2 ^ f
+    leaf-whole e same = sym (asked-inside o (h .block) stands place is e .value) ∙ same ∙ is-bit
+
+-- a block without the bit, looked up by the count of the keys at or before its own
+pub count-no : {m : ℕ} {keys bits : List ℕ} {n : ℕ} (o : OwnList m keys bits n) {s : Spot} (h : Stands m s) (f bit : ℕ) → bit ≡ 2 ^ f
+    → (count : ℕ) → count ≡ keysUpTo (s .key) (take n keys) → bitAnd (getD bits (count - 1) 0) bit ≡ 0
+    → hasSlot (bitsAt (shownBy m keys bits n) h) f ≡ false
+count-no {bits = bits} o h f bit is count e none =
+    let a = asked-count o (h .block) count e in
+    bit-zero _ f (ap (λ x. bitAnd x (2 ^ f)) (sym (a .value)) ∙ ap (bitAnd (getD bits (count - 1) 0)) (sym is) ∙ none)

@@ -8,7 +8,7 @@ use native.Mathlib.Omega.{arith}
 use Rattle.keys.specs.Key.{childKey}
 use Rattle.keys.specs.Block.{pixelKey}
 use Rattle.keys.proofs.Cases.{split}
-use Rattle.keys.proofs.Powers.{five-pos}
+use Rattle.keys.proofs.Powers.{five-pos, five-le}
 use Rattle.keys.proofs.Under.{Block, is-nw}
 use Rattle.keys.proofs.Interval.{Same, same-block, within, apart, one-block, no-key-between}
 use Rattle.keys.proofs.Parent.{quadrant-of}
@@ -18,7 +18,7 @@ use Rattle.definitions.specs.declared.Window.{Window}
 use Rattle.window.specs.declared.walk.Spot.{Spot}
 use Rattle.window.specs.declared.walk.Found.{Found}
 use Rattle.window.specs.declared.walk.Found.the-variants.{At, Gone}
-use Rattle.window.specs.Walk.{Stands, Follows, isWithin, isApart, firstQuadrant, Clear, Parting, Walking, FirstFrom, Reached}
+use Rattle.window.specs.Walk.{Stands, Follows, isWithin, isApart, firstQuadrant, Clear, Parting, Walking}
 use Rattle.window.proofs.Lies.{within-inside, not-within, not-apart, InSpot, apart-pixel, window-pixel}
 
 -- two spots with one key have the same numbers
@@ -36,6 +36,10 @@ one-side {s = s} {t = t} h i e =
 pub some-keys : {m : ℕ} {s : Spot} → Stands m s → (0 < s .step) × (s .key + s .step ≤ 5 ^ m)
 some-keys h = let p = five-pos (h .height) in let w = within (h .block) in omega (arith, h .step)
 
+-- so they are few
+pub few-keys : {m : ℕ} {s : Spot} → m ≤ 10 → Stands m s → s .key + s .step ≤ 9765625
+few-keys low h = let k = some-keys h in let five = five-le 10 low in omega arith
+
 -- a pixel lies in a block exactly when its key is among the block's
 pub in-spot : {m : ℕ} {s : Spot} (row column : ℕ) → Stands m s → row < 2 ^ m → column < 2 ^ m
     → s .key ≤ pixelKey m row column
@@ -44,10 +48,6 @@ pub in-spot : {m : ℕ} {s : Spot} (row column : ℕ) → Stands m s → row < 2
 in-spot row column h low narrow from until =
     let i = back row column (h .block) low narrow (record { from = from; until = omega (arith, h .step) }) in
     omega (arith, h .side)
-
--- what is clear up to a key and from it on is clear
-pub clear-join : (m : ℕ) (w : Window) (x y z : ℕ) → Clear m w x y → Clear m w y z → Clear m w x z
-clear-join m w x y z a b row column i from until = split (pixelKey m row column) y (a row column i from) (λ past. b row column i past until)
 
 -- nothing is clear by itself
 pub clear-none : (m : ℕ) (w : Window) (x : ℕ) → Clear m w x x
@@ -97,6 +97,10 @@ first-stands {s = s} p =
     let fifth : s .step / 5 ≡ 5 ^ p .height = omega (arith, p .step) in
     record { height = p .height; block = same-block (quadrant-of (p .block) is-nw) (omega arith); side = half; step = fifth }
 
+-- with fewer keys
+pub first-less : {m : ℕ} {s : Spot} → Stands m s → firstQuadrant s .step < s .step
+first-less h = let k = some-keys h in omega (arith, k .0)
+
 -- its key is the next
 first-key : {m : ℕ} {s : Spot} → (p : Parent m s) → s .key + s .step / 5 ≡ childKey (s .key) (p .height) 1
 first-key {s = s} p = let five = pow-suc 5 (p .height) in omega (arith, p .step)
@@ -137,13 +141,6 @@ follows-gone m x r h e = subst (λ y. Follows m x y) e h
 -- after a block fewer keys are left
 pub rises : {m : ℕ} {s : Spot} → Stands m s → (x : ℕ) → s .key < x → 5 ^ m - x < 5 ^ m - s .key
 rises h x after = let k = some-keys h in omega arith
-
--- what is reached is the first largest block, or the end
-pub reached-at : (m : ℕ) (w : Window) (x : ℕ) (r : Found) (t : Spot) → Reached m w x r → r ≡ At t → FirstFrom m w x t
-reached-at m w x r t h e = subst (λ y. Reached m w x y) e h
-
-pub reached-gone : (m : ℕ) (w : Window) (x : ℕ) (r : Found) → Reached m w x r → r ≡ Gone → Clear m w x (5 ^ m)
-reached-gone m w x r h e = subst (λ y. Reached m w x y) e h
 
 -- the walk begins at the root
 pub walking-root : (m : ℕ) (w : Window) (s : Spot) → Stands m s → s .key ≡ 0 → Walking m w s

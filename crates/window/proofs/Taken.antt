@@ -1,6 +1,7 @@
 -- Select on the walk: what is counted and written is what select gives below the key where the walk stands. Rests on Below.
 use Prim.Native.Nat.{ℕ, _+_, _^_, _≤_}
 use mathlib.Core.Path.{_≡_, sym, _∙_, ap, ap₂}
+use mathlib.Core.Bool.{true}
 use mathlib.Core.List.{List}
 use native.Mathlib.Omega.{arith}
 use lib.ListN.{length, length-append}
@@ -9,11 +10,11 @@ use Rattle.definitions.specs.Window.{selectIn}
 use Rattle.definitions.specs.declared.Window.{Window}
 use Rattle.definitions.specs.Edit.{contentOf}
 use Rattle.window.specs.declared.walk.Spot.{Spot}
-use Rattle.window.specs.Walk.{Clear, FirstFrom}
+use Rattle.window.specs.Walk.{Walking, isWithin}
 use Rattle.window.specs.Gather.{keysWith, written, Gave}
-use Rattle.window.proofs.Written.{written-none, written-append}
+use Rattle.window.proofs.Written.{written-none, written-append, length-written}
 use Rattle.window.proofs.Lower.{lower}
-use Rattle.window.proofs.Below.{below-block, below-none, below-all, below-rest, below-few}
+use Rattle.window.proofs.Below.{lower-block, below-none, below-all, below-few}
 
 module _ (m : ℕ) (p : Picture) (w : Window) (f : ℕ) where
   -- what is counted and written below a key
@@ -33,29 +34,37 @@ module _ (m : ℕ) (p : Picture) (w : Window) (f : ℕ) where
         let few = below-few m p w f x low in
         omega (arith, t .counted)
 
-    taken-as : (l : List ℕ) → lower x (selectIn m p w f) ≡ l → Gave l limit 0 answer₀ answer count
-    taken-as l e =
-        record { counted = let n = ap length e in omega (arith, t .counted); wrote = t .wrote ∙ ap (written limit answer₀ 0) e }
-
     -- at the end all is taken
     pub taken-end : x ≡ 5 ^ m → Gave (selectIn m p w f) limit 0 answer₀ answer count
-    taken-end e = taken-as (selectIn m p w f) (below-all m p w f x e)
+    taken-end e =
+        let all = below-all m p w f x e in
+        record { counted = let n = ap length all in omega (arith, t .counted); wrote = t .wrote ∙ ap (written limit answer₀ 0) all }
 
-    pub taken-rest : x ≤ 5 ^ m → Clear m w x (5 ^ m) → Gave (selectIn m p w f) limit 0 answer₀ answer count
-    taken-rest low clear = taken-as (selectIn m p w f) (below-rest m p w f x low clear)
+    -- the answer keeps its length
+    pub taken-length : length answer ≡ length answer₀
+    taken-length = ap length (t .wrote) ∙ length-written limit answer₀ 0 _
 
-    -- a largest block adds what it gives
-    pub taken-block : {s : Spot} (g : FirstFrom m w x s) (answer₁ : List ℕ) (r : ℕ)
-        → Gave (keysWith (2 ^ f) (contentOf m p (s .key))) limit count answer answer₁ r
-        → Taken limit answer₀ answer₁ r (s .key + s .step)
-    taken-block {s} g answer₁ r gave =
-        let l = lower x (selectIn m p w f) in
-        let more = keysWith (2 ^ f) (contentOf m p (s .key)) in
-        let e = below-block m p w f g in
-        record {
-          counted = let n = ap length e in let a = length-append l more in omega (arith, t .counted, gave .counted);
-          wrote = gave .wrote
-              ∙ ap₂ (λ a i. written limit a i more) (t .wrote) (t .counted ∙ omega arith)
-              ∙ sym (written-append limit answer₀ 0 l more)
-              ∙ ap (written limit answer₀ 0) (sym e);
-        }
+    -- what is taken, by other names
+    pub taken-named : (answer₁ : List ℕ) (count₁ : ℕ) → answer₁ ≡ answer → count₁ ≡ count → Taken limit answer₀ answer₁ count₁ x
+    taken-named answer₁ count₁ e h = record { counted = h ∙ t .counted; wrote = e ∙ t .wrote }
+
+    -- what adds nothing is passed
+    pub taken-pass : (y : ℕ) → lower x (selectIn m p w f) ≡ lower y (selectIn m p w f) → Taken limit answer₀ answer count y
+    taken-pass y e = record { counted = t .counted ∙ ap length e; wrote = t .wrote ∙ ap (written limit answer₀ 0) e }
+
+  -- a largest block adds what it gives
+  pub taken-block : {limit : ℕ} {answer₀ answer : List ℕ} {count : ℕ} {s : Spot} → Walking m w s → isWithin s w ≡ true
+      → Taken limit answer₀ answer count (s .key) → (answer₁ : List ℕ) (r : ℕ)
+      → Gave (keysWith (2 ^ f) (contentOf m p (s .key))) limit count answer answer₁ r
+      → Taken limit answer₀ answer₁ r (s .key + s .step)
+  taken-block {limit} {answer₀} {s = s} h e t answer₁ r gave =
+      let l = lower (s .key) (selectIn m p w f) in
+      let more = keysWith (2 ^ f) (contentOf m p (s .key)) in
+      let adds = lower-block m p w f h e in
+      record {
+        counted = let n = ap length adds in let a = length-append l more in omega (arith, t .counted, gave .counted);
+        wrote = gave .wrote
+            ∙ ap₂ (λ a i. written limit a i more) (t .wrote) (t .counted ∙ omega arith)
+            ∙ sym (written-append limit answer₀ 0 l more)
+            ∙ ap (written limit answer₀ 0) (sym adds);
+      }

@@ -11,7 +11,7 @@ use lib.Seq.{sets, sets-eq}
 use lib.Dec.{ltb}
 use borrow.Author.Tests.{lt-ltb, le-ltb}
 use Rattle.definitions.specs.Buffer.{over}
-use Rattle.window.specs.Gather.{putAt, written, Gave}
+use Rattle.window.specs.Gather.{putAt, written}
 
 pub written-none : (limit : ℕ) (answer : List ℕ) (place : ℕ) → written limit answer place [] ≡ answer
 unfolding written
@@ -75,7 +75,3 @@ written-over limit answer keys h room =
     written-sets limit answer 0 keys (omega arith)
     ∙ sets-eq keys answer 0 (omega arith)
     ∙ ap (λ i. keys ++ drop i answer) (zero-add (length keys))
-
--- what gives keys keeps the answer's length
-pub gave-length : {given : List ℕ} {limit count : ℕ} {before after : List ℕ} {r : ℕ} → Gave given limit count before after r → length after ≡ length before
-gave-length {given} {limit} {count} {before} g = ap length (g .wrote) ∙ length-written limit before count given

@@ -67,8 +67,3 @@ pub record FirstFrom (m : ℕ) (w : Window) (x : ℕ) (s : Spot) : Type 0 where
   pub within : isWithin s w ≡ true
   pub from : x ≤ s .key
   pub clear : Clear m w x (s .key)
-
--- such a block, or none where no pixel of the window is left
-abbrev pub Reached : ℕ → Window → ℕ → Found → Type 0
-Reached m w x (At s) = FirstFrom m w x s
-Reached m w x Gone = Clear m w x (5 ^ m)

@@ -1,6 +1,6 @@
 // A window of the raster (refusal 6). Its four numbers are any 32-bit numbers, so a sum of two of them is never formed before it is known to fit.
 ghost use mathlib.Core.Path.{_≡_};
-ghost use Prim.Native.Nat.{_≤_};
+ghost use Prim.Native.Nat.{_*_, _≤_};
 ghost use Rattle.definitions.specs.Window.{isWindow};
 use definitions::Window;
 use keys::power;
@@ -30,4 +30,14 @@ pub fn is_window(m: u32, window: Window) -> bool
         return false;
     }
     column <= side - width
+}
+
+// How many pixels a window of the raster has.
+pub fn pixels_of(window: Window) -> usize
+    requires { ⌜ (window .height ≤ 1024) × (window .width ≤ 1024) ⌝ }
+    ensures { λ r. ⌜ r ≡ window .height * window .width ⌝ }
+{
+    let height = window.height;
+    let width = window.width;
+    (height * width) as usize
 }

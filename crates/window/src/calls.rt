@@ -4,6 +4,7 @@ ghost use Rattle.definitions.specs.Calls.Exist.{existRefusal, exist as existAns
 ghost use Rattle.definitions.specs.Calls.Report.{reportRefusal, report as reportAnswer};
 ghost use Rattle.definitions.specs.Calls.Select.{select as selectCounted, selectAnswer};
 use crate::bounds::is_window;
+use crate::bounds::pixels_of;
 use crate::exist::exist_in;
 use crate::report::report_in;
 use crate::select::gather;
@@ -84,7 +85,8 @@ pub fn report(m: u32, s: u32, keys: &[u32], bits: &[u32], n: usize, window: Wind
     }
 }
 
-// Where does the feature occur in the window? The keys are counted before any is written.
+// Where does the feature occur in the window? No answer has more keys than the window has pixels: where these fit, one walk counts and writes. Elsewhere
+// the keys are counted before any is written, since a call that is refused for too little room leaves the answer as it was.
 pub fn select(
     m: u32,
     s: u32,
@@ -103,6 +105,13 @@ pub fn select(
         return Counted { refusal, count: 0 };
     }
     let room = answer.len();
+    if pixels_of(window) <= room {
+        let count = gather(m, keys, bits, n, window, feature, answer, room);
+        return Counted {
+            refusal: 0,
+            count: count as u64,
+        };
+    }
     let needed = gather(m, keys, bits, n, window, feature, answer, 0);
     if room < needed {
         return Counted {

@@ -11,34 +11,43 @@ use definitions::Window;
 use keys::power;
 use list::standing;
 
-// Some pixel of the window has the feature: the walk over the window's largest blocks is left at the first that shows it.
+// Some pixel of the window has the feature: the walk is left at the first block that shows it. A block that lies in a leaf, or whose bits lack the
+// feature, is settled by its record, however the window cuts it; only a cut node with the feature and others is entered. Keys rise, so each search begins
+// where the last one ended.
 pub fn exist_in(m: u32, keys: &[u32], bits: &[u32], n: usize, window: Window, feature: u32) -> bool
     requires { ⌜ (m ≤ 10) × (isWindow m window ≡ true) × (feature < 16) × OwnList m (now keys) (now bits) n ⌝ }
     ensures { λ r. ⌜ r ≡ existIn (shownBy m (now (keys .entry)) (now (bits .entry)) n) window feature ⌝ }
 {
     let bit = power::power_of_two(feature);
     let mut spot = walk::start(m);
+    let mut from = 0;
     'walk: loop {
         loop {
-            if walk::within(spot, window) {
-                let key = spot.key;
-                let standing = standing::stand(keys, n, key);
-                let Standing::Listed(place) = standing else {
-                    let Standing::Inside(leaf) = standing else {
-                        break;
-                    };
-                    if bits[leaf] == bit {
-                        break 'walk true;
-                    }
+            if walk::apart(spot, window) {
+                break;
+            }
+            let key = spot.key;
+            let standing = standing::stand_from(keys, n, from, key);
+            let Standing::Listed(place) = standing else {
+                let Standing::Inside(leaf) = standing else {
                     break;
                 };
-                if bits[place] & bit != 0 {
+                from = leaf;
+                if bits[leaf] == bit {
                     break 'walk true;
                 }
                 break;
-            }
-            if walk::apart(spot, window) {
+            };
+            from = place;
+            let found = bits[place];
+            if found & bit == 0 {
                 break;
+            }
+            if found == bit {
+                break 'walk true;
+            }
+            if walk::within(spot, window) {
+                break 'walk true;
             }
             spot = walk::first(spot);
         }

@@ -1,4 +1,4 @@
-// Window queries: the walk over a window's largest blocks in key order, and exist, report and select on it.
+// Window queries: a walk in key order over the blocks that meet a window, which asks the list at each, and exist, report and select on it.
 pub mod bounds;
 pub mod calls;
 pub mod exist;

@@ -7,24 +7,41 @@ ghost use Rattle.list.specs.Own.{OwnList, shownBy};
 use crate::walk;
 use crate::walk::Found;
 use definitions::Window;
+use list::check;
 use list::standing;
 
-// The bitstring of all features in the window: the union over its largest blocks. A block's bits are those of the last record at or before its
-// key, whether that is its own or the leaf's around it.
+// The bitstring of all features in the window. A block's bits are those of the last record at or before its key, whether that is its own or the
+// leaf's around it. They settle the block where none is new, or it has one feature, or it lies within the window; only a cut node that may add a feature
+// is entered. Keys rise, so each search begins where the last one ended.
 pub fn report_in(m: u32, keys: &[u32], bits: &[u32], n: usize, window: Window) -> u32
     requires { ⌜ (m ≤ 10) × (isWindow m window ≡ true) × OwnList m (now keys) (now bits) n ⌝ }
     ensures { λ r. ⌜ r ≡ reportIn (shownBy m (now (keys .entry)) (now (bits .entry)) n) window ⌝ }
 {
     let mut union = 0;
     let mut spot = walk::start(m);
+    let mut from = 0;
     loop {
-        let Found::At(block) = walk::find_largest(m, spot, window) else {
-            return union;
-        };
-        let key = block.key;
-        let place = standing::up_to(keys, n, key) - 1;
-        union = union | bits[place];
-        let Found::At(next) = walk::after(m, block) else {
+        loop {
+            if walk::apart(spot, window) {
+                break;
+            }
+            let key = spot.key;
+            from = standing::up_to_from(keys, n, from, key) - 1;
+            let found = bits[from];
+            if union | found == union {
+                break;
+            }
+            if check::has_one_slot(found) {
+                union = union | found;
+                break;
+            }
+            if walk::within(spot, window) {
+                union = union | found;
+                break;
+            }
+            spot = walk::first(spot);
+        }
+        let Found::At(next) = walk::after(m, spot) else {
             return union;
         };
         spot = next;

@@ -7,6 +7,7 @@ ghost use Rattle.definitions.specs.Edit.{contentOf};
 ghost use Rattle.definitions.specs.Read.{recordsOf};
 ghost use Rattle.definitions.specs.Window.{isWindow, selectIn};
 ghost use Rattle.list.specs.Own.{OwnList, shownBy};
+ghost use Rattle.list.specs.Sorted.{Near};
 ghost use Rattle.window.specs.Walk.{Stands};
 ghost use Rattle.window.specs.Gather.{keysWith, keysUntil, putAt, Gave};
 use crate::walk;
@@ -65,19 +66,21 @@ fn gather_block(
     keys: &[u32],
     bits: &[u32],
     n: usize,
+    from: usize,
     block: Spot,
     bit: u32,
     answer: &mut [u32],
     limit: usize,
     count: usize,
 ) -> usize
-    requires { ⌜ (m ≤ 10) × Stands m block × OwnList m (now keys) (now bits) n × (limit ≤ length (now answer)) × (count ≤ 9765625) ⌝ }
+    requires { ⌜ (m ≤ 10) × Stands m block × OwnList m (now keys) (now bits) n × Near (now keys) n from (block .key)
+        × (limit ≤ length (now answer)) × (count ≤ 9765625) ⌝ }
     ensures { λ r. ⌜ Gave (keysWith bit (contentOf m (shownBy m (now (keys .entry)) (now (bits .entry)) n) (block .key)))
         limit count (now (answer .entry)) (now (answer .exit)) r ⌝ }
 {
     let key = block.key;
     let step = block.step;
-    let standing = standing::stand(keys, n, key);
+    let standing = standing::stand_from(keys, n, from, key);
     let Standing::Listed(place) = standing else {
         let Standing::Inside(leaf) = standing else {
             return count;
@@ -91,7 +94,8 @@ fn gather_block(
     gather_run(keys, bits, n, place, key + step, bit, answer, limit, count)
 }
 
-// Gives the keys that select gives: counts them all, and writes those whose places are below the limit.
+// Gives the keys that select gives: counts them all, and writes those whose places are below the limit. A block without the feature is passed, whatever
+// lies below it. A leaf that the window cuts is entered like a node, since what select gives of it are the largest blocks within the window.
 pub fn gather(
     m: u32,
     keys: &[u32],
@@ -109,12 +113,24 @@ pub fn gather(
     let bit = power::power_of_two(feature);
     let mut count = 0;
     let mut spot = walk::start(m);
+    let mut from = 0;
     loop {
-        let Found::At(block) = walk::find_largest(m, spot, window) else {
-            return count;
-        };
-        count = gather_block(m, keys, bits, n, block, bit, answer, limit, count);
-        let Found::At(next) = walk::after(m, block) else {
+        loop {
+            if walk::apart(spot, window) {
+                break;
+            }
+            let key = spot.key;
+            from = standing::up_to_from(keys, n, from, key) - 1;
+            if bits[from] & bit == 0 {
+                break;
+            }
+            if walk::within(spot, window) {
+                count = gather_block(m, keys, bits, n, from, spot, bit, answer, limit, count);
+                break;
+            }
+            spot = walk::first(spot);
+        }
+        let Found::At(next) = walk::after(m, spot) else {
             return count;
         };
         spot = next;

@@ -1,12 +1,9 @@
-// The walk over the largest blocks of a window, in key order. A block that lies apart from the window is passed over, one that it cuts is entered
-// by its first quadrant, and one within it is a largest block: so the key rises at every turn. The next block's place is read off this one's,
-// without division.
+// The steps of a walk over the blocks that meet a window, in key order: a block is passed with all below it, or entered by its first quadrant, so the
+// key rises at every step. The next block's place is read off this one's, without division.
 ghost use mathlib.Core.Path.{_≡_};
-ghost use mathlib.Core.Bool.{true};
 ghost use Prim.Native.Nat.{_+_, _≤_};
 ghost use Rattle.keys.specs.Key.{rootKey};
-ghost use Rattle.definitions.specs.Window.{isWindow};
-ghost use Rattle.window.specs.Walk.{Stands, Small, Walking, isWithin, isApart, firstQuadrant, Follows, Reached};
+ghost use Rattle.window.specs.Walk.{Stands, Small, isWithin, isApart, firstQuadrant, Follows};
 use definitions::Window;
 use keys::Key;
 use keys::power;
@@ -141,23 +138,4 @@ pub fn after(m: u32, spot: Spot) -> Found
         step = step * 5;
     }
     Found::Gone
-}
-
-// The first largest block of the window at or after a block.
-pub fn find_largest(m: u32, from: Spot, window: Window) -> Found
-    requires { ⌜ (m ≤ 10) × (isWindow m window ≡ true) × Walking m window from ⌝ }
-    ensures { λ r. ⌜ Reached m window (from .key) r ⌝ }
-{
-    let mut spot = from;
-    while !within(spot, window) {
-        if apart(spot, window) {
-            let Found::At(next) = after(m, spot) else {
-                return Found::Gone;
-            };
-            spot = next;
-        } else {
-            spot = first(spot);
-        }
-    }
-    Found::At(spot)
 }

@@ -1,43 +1,71 @@
--- `ends_in_entry` meets its contract: each way out answers what the definition says of the last entry's places.
-use mathlib.Core.Path.{sym, _∙_}
+-- `ends_in_entry` meets its contract: each way out answers what the definition says of the last entry.
+use mathlib.Core.Path.{_≡_, sym, ap, _∙_}
+use mathlib.Core.Bool.{true}
+use Prim.Native.Nat.{_+_}
 use native.Mathlib.Omega.{arith}
 use borrow.Author.Needs.{needs}
 use borrow.Author.Tests.{not-true, not-false}
-use Rattle.log.proofs.Entry.{Used, too-long, not-valid, content-decides}
+use Rattle.keys.specs.Key.{validKey}
+use Rattle.definitions.specs.Read.{recordsOf}
+use Rattle.definitions.specs.Log.{lastCount, closingPlaces}
+use Rattle.log.specs.Entries.{Ended}
+use Rattle.log.proofs.Last.{last-count-at}
+use Rattle.log.proofs.Places.{places-are}
+use Rattle.log.proofs.Tests.{too-long, not-valid, content-decides}
 use Rattle.log.proofs.ends_in_entry.Statement.{statement}
 use Rattle.log.proofs.ends_in_entry.Tie as tie
 
--- the records that are used
-used : (c : tie.Start) → Used (c .args .keys .now) (c .args .values .now) (c .args .used)
-used c = record { some = c .pre .2; in-keys = c .pre .3; in-values = c .pre .4 }
+-- the places that the last entry claims
+claimed : (c : tie.After-places)
+    → (let a = c .before .before .before .before .args in
+    c .places .result ≡ lastCount (recordsOf (a .keys .now) (a .values .now) (a .used)) + closingPlaces)
+claimed c =
+    let start = c .before .before .before .before in
+    let e = last-count-at _ _ _ (start .pre .3) (start .pre .4) (start .pre .2) in
+    c .places .ensures ∙ ap (λ x. x + closingPlaces) (c .before .last-count .ensures .0 ∙ sym e)
 
-sub-last : tie.Need-sub-last
-sub-last c = search needs
+-- all of them are there
+ended : (c : tie.Else1) → (let a = c .before .before .before .before .before .args in Ended (a .keys .now) (a .values .now) (a .used))
+ended c =
+    let start = c .before .before .before .before .before in
+    record { in-keys = start .pre .3; in-values = start .pre .4; all-there = omega (arith, claimed (c .before), c .if1 .left) }
+
+-- the key is valid
+valid : (c : tie.Else2) → validKey (c .before .before .before .before .before .before .before .before .args .m) (c .before .before .last-entry .result .key) ≡ true
+valid c = sym (c .before .is-valid .ensures) ∙ not-false _ (c .if2 .left)
+
+-- the content ends before what closes it
+there : (c : tie.Else2)
+    → (let last = c .before .before .last-entry .result in
+    last .start + (last .count + closingPlaces) ≡ c .before .before .before .before .before .before .before .before .args .used)
+there c = places-are (ended (c .before .before .before)) _ (c .before .before .last-entry .ensures)
 
 last-count-requires : tie.Need-last-count-requires
 last-count-requires c κs = search needs
 
+places-requires : tie.Need-places-requires
+places-requires c κs = search needs
+
 returns : tie.Need-returns
 returns c =
-    let start = c .before .before .before .before in
-    too-long (used start) (start .args .m) (start .args .s) (c .before .last-count .result) (c .before .last-count .ensures) (omega arith)
+    let start = c .before .before .before .before .before in
+    let told = claimed (c .before) in
+    too-long _ _ _ _ _ (start .pre .3) (start .pre .4) (omega (arith, c .if1 .taken))
 
-mul-key : tie.Need-mul-key
-mul-key c = search needs
-
-shared-slice-read-key : tie.Need-shared-slice-read-key
-shared-slice-read-key c = search needs
+last-entry-requires : tie.Need-last-entry-requires
+last-entry-requires c κs = ended c
 
 is-valid-requires : tie.Need-is-valid-requires
 is-valid-requires c κs = search needs
 
 returns-2 : tie.Need-returns-2
-returns-2 c =
-    let start = c .before .before .before .before .before .before .before in
-    not-valid (used start) (start .args .m) (start .args .s) (sym (c .before .is-valid .ensures) ∙ not-true _ (c .if2 .taken))
+returns-2 c = not-valid (ended (c .before .before .before)) _ _ _ (c .before .before .last-entry .ensures) (sym (c .before .is-valid .ensures) ∙ not-true _ (c .if2 .taken))
+
+add-end : tie.Need-add-end
+add-end c = let all = there c in omega arith
 
 mul-is-content : tie.Need-mul-is-content
-mul-is-content c = search needs
+mul-is-content c = let all = there c in omega arith
 
 sub-is-content : tie.Need-sub-is-content
 sub-is-content c = search needs
@@ -46,10 +74,10 @@ part-is-content-start : tie.Need-part-is-content-start
 part-is-content-start c = search needs
 
 part-is-content-end : tie.Need-part-is-content-end
-part-is-content-end c = search needs
+part-is-content-end c = let all = there c in omega arith
 
 mul-is-content-2 : tie.Need-mul-is-content-2
-mul-is-content-2 c = search needs
+mul-is-content-2 c = let all = there (c .before) in omega arith
 
 sub-is-content-2 : tie.Need-sub-is-content-2
 sub-is-content-2 c = search needs
@@ -58,32 +86,28 @@ part-is-content-start-2 : tie.Need-part-is-content-start-2
 part-is-content-start-2 c = search needs
 
 part-is-content-end-2 : tie.Need-part-is-content-end-2
-part-is-content-end-2 c = search needs
+part-is-content-end-2 c = let all = there (c .before) in omega arith
 
 is-content-requires : tie.Need-is-content-requires
-is-content-requires c κs =
-    let e = c .before .before in
-    (omega arith, omega arith, sym (e .before .is-valid .ensures) ∙ not-false _ (e .if2 .left))
+is-content-requires c κs = (omega arith, omega arith, valid (c .before .before))
 
 returns-3 : tie.Need-returns-3
 returns-3 c =
     let e = c .before .before .before in
-    let d = e .before .before .before in
-    let start = d .before .before .before .before in
-    content-decides (used start) (d .before .last-count .result) (d .before .last-count .ensures) (d .if1 .left)
-    (start .args .m) (start .args .s) (c .is-content .result) (sym (e .before .is-valid .ensures) ∙ not-false _ (e .if2 .left)) (c .is-content .ensures)
+    let found = e .before .before in
+    content-decides (ended (found .before)) _ _ _ (found .last-entry .ensures) (c .is-content .result) (valid e) (c .is-content .ensures)
 
 pub ends-in-entry-spec : {M : Type 1} → statement M
 ends-in-entry-spec =
     tie.close
     (tie.spec
-    sub-last
     last-count-requires
+    places-requires
     returns
-    mul-key
-    shared-slice-read-key
+    last-entry-requires
     is-valid-requires
     returns-2
+    add-end
     mul-is-content
     sub-is-content
     part-is-content-start

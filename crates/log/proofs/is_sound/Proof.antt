@@ -1,6 +1,6 @@
 -- `is_sound` meets its contract: after each turn the log is sound exactly when the records that are left are.
 use native.Mathlib.Omega.{arith}
-use Rattle.log.proofs.Sound.{Passed, short-keys, short-values, begins, ends, stops, content-there, turns}
+use Rattle.log.proofs.Sound.{Passed, short-keys, short-values, begins, ends, stops, ended, falls, turns}
 use Rattle.log.proofs.is_sound.Statement.{statement}
 use Rattle.log.proofs.is_sound.Tie as tie
 
@@ -27,26 +27,23 @@ returns-3 c =
     let turn = c .before .before in
     stops (turn .before .loop .inv) (turn .loop-test .taken) (c .before .ends-in-entry .result) (c .before .ends-in-entry .ensures) (c .if3 .taken)
 
-last-count-requires : tie.Need-last-count-requires Inv-loop μ-loop
-last-count-requires c κs = omega arith
-
-sub-end : tie.Need-sub-end Inv-loop μ-loop
-sub-end c = omega arith
-
-sub-end-2 : tie.Need-sub-end-2 Inv-loop μ-loop
-sub-end-2 c =
-    let turn = c .before .before .before in
-    let check = c .before .before .ends-in-entry in
-    content-there (turn .before .loop .inv) (turn .loop-test .taken) (check .result) (check .ensures) (c .before .if3 .left) (c .last-count .result) (c .last-count .ensures)
+last-entry-requires : tie.Need-last-entry-requires Inv-loop μ-loop
+last-entry-requires c κs =
+    let turn = c .before .before in
+    let check = c .before .ends-in-entry in
+    ended (turn .before .loop .inv) (turn .loop-test .taken) (check .result) (check .ensures) (c .if3 .left)
 
 loop-less : tie.Need-loop-less Inv-loop μ-loop
-loop-less c = omega arith
+loop-less c =
+    let turn = c .before .before .before in
+    let check = c .before .before .ends-in-entry in
+    falls (turn .before .loop .inv) (turn .loop-test .taken) (check .result) (check .ensures) (c .before .if3 .left) _ (c .last-entry .ensures)
 
 loop-again : tie.Need-loop-again Inv-loop μ-loop
 loop-again c =
     let turn = c .before .before .before in
     let check = c .before .before .ends-in-entry in
-    turns (turn .before .loop .inv) (turn .loop-test .taken) (check .result) (check .ensures) (c .before .if3 .left) (c .last-count .result) (c .last-count .ensures)
+    turns (turn .before .loop .inv) (turn .loop-test .taken) (check .result) (check .ensures) (c .before .if3 .left) _ (c .last-entry .ensures)
 
 returns-4 : tie.Need-returns-4 Inv-loop μ-loop
 returns-4 c = ends (c .before .loop .inv) (c .loop-test .left)
@@ -62,9 +59,7 @@ is-sound-spec =
     loop-holds
     ends-in-entry-requires
     returns-3
-    last-count-requires
-    sub-end
-    sub-end-2
+    last-entry-requires
     loop-less
     loop-again
     returns-4)

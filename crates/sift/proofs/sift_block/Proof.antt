@@ -37,26 +37,26 @@ run-ready {key = key} {recordKeys} first end s asc e low =
     }
 
 -- where the block was asked for, from where it is known how it stands
-abbrev asks-leaf : tie.After-known-told3 → tie.After-stand
+abbrev asks-leaf : tie.After-known-told3 → tie.After-stand-from
 asks-leaf c = c .before .before .before .before .before .before
 
-abbrev asks-listed : tie.After-known-told → tie.After-stand
+abbrev asks-listed : tie.After-known-told → tie.After-stand-from
 asks-listed c = c .before .before .before
 
-abbrev entry : tie.After-stand → tie.Start
+abbrev entry : tie.After-stand-from → tie.Start
 entry c = c .before .before .before .before .before .before
 
-stands-inside : (c : tie.After-known-told3) → asks-leaf c .stand .result ≡ Inside (c .before .standing3 .given .0 .0)
+stands-inside : (c : tie.After-known-told3) → asks-leaf c .stand-from .result ≡ Inside (c .before .standing3 .given .0 .0)
 stands-inside c = c .before .before .before .before .standing2 .given .1 ∙ c .before .standing3 .given .1
 
 leaf-place : (c : tie.After-known-told3) → c .before .standing3 .given .0 .0 < length (entry (asks-leaf c) .args .bits .now)
 leaf-place c =
     let pre = entry (asks-leaf c) .pre in
-    let a = asked-inside (pre .2) (pre .1 .block) _ _ (asks-leaf c .stand .ensures) (stands-inside c) in
+    let a = asked-inside (pre .2) (pre .1 .block) _ _ (asks-leaf c .stand-from .ensures) (stands-inside c) in
     omega (arith, pre .2 .fits, a .room)
 
-stand-requires : tie.Need-stand-requires
-stand-requires c κs = own-sorted (c .before .before .before .before .before .pre .2) _
+stand-from-requires : tie.Need-stand-from-requires
+stand-from-requires c κs = let pre = c .before .before .before .before .before .pre in (own-sorted (pre .2) _, pre .3)
 
 enum-known-standing : tie.Need-enum-known-standing
 enum-known-standing c = search needs
@@ -97,7 +97,7 @@ returns-2 c =
     let leaf = sifted .before .before .before .before .before in
     let pre = entry (asks-leaf leaf) .pre in
     sifted-as _ _ _ _ _ _ _ _ _ _ _ _ _ (sifted .sift .ensures)
-    (sym (leaf-key (pre .2) (pre .1) _ _ _ (asks-leaf leaf .stand .ensures) (stands-inside leaf) (sifted .before .before .before .if1 .taken)))
+    (sym (leaf-key (pre .2) (pre .1) _ _ _ (asks-leaf leaf .stand-from .ensures) (stands-inside leaf) (sifted .before .before .before .if1 .taken)))
     (omega arith)
 
 returns-3 : tie.Need-returns-3
@@ -105,8 +105,8 @@ returns-3 c =
     let leaf = c .before .before in
     let pre = entry (asks-leaf leaf) .pre in
     sifted-none _ _ _ _ _ _ _ _
-    (leaf-nothing (pre .2) (pre .1) _ _ _ (asks-leaf leaf .stand .ensures) (stands-inside leaf) (c .if1 .left))
-    (passed-widen _ _ _ (pre .3 .passed) (omega arith))
+    (leaf-nothing (pre .2) (pre .1) _ _ _ (asks-leaf leaf .stand-from .ensures) (stands-inside leaf) (c .if1 .left))
+    (passed-widen _ _ _ (pre .4 .passed) (omega arith))
 
 add-sift-run : tie.Need-add-sift-run
 add-sift-run c =
@@ -122,8 +122,8 @@ sift-run-requires c κs =
     let own = pre .2 in (
       own-ascends own,
       omega (arith, own .fits),
-      run-ready _ _ (pre .3) (own-ascends own)
-          (asked-key own (pre .1 .block) _ _ (asks-listed listed .stand .ensures) (listed .before .standing .given .1))
+      run-ready _ _ (pre .4) (own-ascends own)
+          (asked-key own (pre .1 .block) _ _ (asks-listed listed .stand-from .ensures) (listed .before .standing .given .1))
           (omega arith),
     )
 
@@ -139,14 +139,14 @@ returns-4 c =
     let listed = run .before .before .before in
     let pre = entry (asks-listed listed) .pre in
     sifted-as _ _ _ _ _ _ _ _ _ _ _ _ _ (run .sift-run .ensures)
-    (listed-keys (pre .2) (pre .1) _ _ _ (asks-listed listed .stand .ensures) _ refl (listed .before .standing .given .1))
+    (listed-keys (pre .2) (pre .1) _ _ _ (asks-listed listed .stand-from .ensures) _ refl (listed .before .standing .given .1))
     (omega arith)
 
 pub sift-block-spec : {M : Type 1} → statement M
 sift-block-spec =
     tie.close
     (tie.spec
-    stand-requires
+    stand-from-requires
     enum-known-standing
     enum-known-standing-2
     enum-known-standing-3

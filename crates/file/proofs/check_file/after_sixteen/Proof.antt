@@ -1,12 +1,13 @@
 -- `check_file::after_sixteen` meets its contract: before each turn the children passed so far are those that the model has passed, at the step 5.
 use Prim.Native.Nat.{ℕ, _+_, _-_, _*_, _≤_}
-use mathlib.Core.Path.{_≡_, sym, _∙_}
+use mathlib.Core.Path.{_≡_, refl, sym, _∙_}
 use mathlib.Core.Logic.{⊎-elim}
 use native.Mathlib.Omega.{arith}
 use lib.ListN.{drop}
 use borrow.Author.Tests.{not-true, not-false}
 use Rattle.definitions.specs.File.{nIn, recordsInFile}
 use Rattle.list.specs.Check.{placeOf, afterNode}
+use Rattle.list.proofs.Pixels.{right-false, right-true}
 use Rattle.list.proofs.Turn.{step-one, step-five, child-fits}
 use Rattle.file.proofs.FileTurn.{Answered, PassedIn, begins-in, ends-in, differs-in, short-in, other-key-in, child-in, wrong-child-in, leaf-in, node-in}
 use Rattle.file.proofs.check_file.after_sixteen.Statement.{statement}
@@ -87,11 +88,21 @@ returns-3 : tie.Need-returns-3 Inv-loop μ-loop
 returns-3 c =
     let a = c .before .before .before in
     let e = there (a .before) in
-    let h = wrong-child-in (e .before .before .loop .inv) (e .before .loop-test .taken) (e .if1 .left) _
+    let l = e .before .before in
+    let h =
+    wrong-child-in (l .loop .inv) (e .before .loop-test .taken) (e .if1 .left) _
     (a .before .before .before .u32-at .ensures) (a .before .before .if2 .left) _ (a .before .u16-at .ensures)
     (sym (a .has-one-slot .ensures) ∙ not-true _ (c .before .before .if3 .taken))
-    _ (c .if4 .taken) (after-child (a .before) _ (c .before .four-pixels .ensures)) in
+    0 refl
+    (after-child (a .before) 0
+    (omega arith, right-false (c .before .four-pixels .result) (l .loop .next + 1 + 4) _ (not-true _ (c .if4 .taken)) (c .before .four-pixels .ensures .1))) in
     (h .0, h .1 2 step-five)
+
+add-next-2 : tie.Need-add-next-2 Inv-loop μ-loop
+add-next-2 c =
+    let h = c .before .four-pixels .ensures .0 (not-false _ (c .if4 .left)) in
+    let e = there (c .before .before .before .before) .before .before .loop .inv .exact in
+    omega arith
 
 add-quadrant : tie.Need-add-quadrant Inv-loop μ-loop
 add-quadrant c = omega (arith, there (c .before .before) .before .loop-test .taken)
@@ -108,7 +119,10 @@ loop-again c =
     (λ w. rw (w .3)
     (node-in p (e .before .loop-test .taken) (e .if1 .left) _
     (a .before .before .before .u32-at .ensures) (a .before .before .if2 .left) _ (a .before .u16-at .ensures)
-    (sym (a .has-one-slot .ensures) ∙ not-true _ (w .0 .taken)) _ (w .2 .left) (after-child (a .before) _ (w .1 .ensures))))
+    (sym (a .has-one-slot .ensures) ∙ not-true _ (w .0 .taken)) (e .before .before .loop .next + 1 + 4)
+    (λ z. omega arith)
+    (after-child (a .before) _
+    (w .1 .ensures .0 (not-false _ (w .2 .left)), right-true (w .1 .result) (e .before .before .loop .next + 1 + 4) _ (not-false _ (w .2 .left)) (w .1 .ensures .1)))))
     (λ w. rw (w .1)
     (leaf-in p (e .before .loop-test .taken) (e .if1 .left) _
     (a .before .before .before .u32-at .ensures) (a .before .before .if2 .left) _ (a .before .u16-at .ensures)
@@ -141,6 +155,7 @@ after-sixteen-spec =
     has-one-slot-requires
     four-pixels-requires
     returns-3
+    add-next-2
     add-quadrant
     loop-less
     loop-again

@@ -2,6 +2,7 @@
 use mathlib.Core.Path.{_∙_}
 use native.Mathlib.Omega.{arith}
 use borrow.Author.Needs.{needs}
+use Rattle.list.proofs.Pixels.{right-false, right-true}
 use Rattle.list.proofs.Turn.{step-one, step-five, at-height, pixel}
 use Rattle.list.proofs.check.after_low.Statement.{statement}
 use Rattle.list.proofs.check.after_low.Tie as tie
@@ -16,21 +17,34 @@ returns c =
       at-height (a .keys .now) (a .bits .now) (a .first) (a .key) (a .own) 2 (a .step) _ (c .before .if1 .taken ∙ step-five) (c .after-sixteen .ensures .1),
     )
 
+returns-2 : tie.Need-returns-2
+returns-2 c =
+    let s = c .before .before .before .before in
+    let a = s .args in
+    (omega arith, pixel (a .keys .now) (a .bits .now) (a .first) (a .key) (a .own) (a .step) (s .pre .2) (c .before .if1 .left) (c .if2 .taken))
+
 four-pixels-requires : tie.Need-four-pixels-requires
 four-pixels-requires c κs = search needs
 
-returns-2 : tie.Need-returns-2
-returns-2 c =
-    let a = c .before .before .before .before .before .args in (
-      c .four-pixels .ensures .0,
-      at-height (a .keys .now) (a .bits .now) (a .first) (a .key) (a .own) 1 (a .step) _ (c .before .if2 .taken ∙ step-one) (c .four-pixels .ensures .1),
-    )
+add-result : tie.Need-add-result
+add-result c = let h = c .before .four-pixels .ensures .0 (c .if3 .taken) in omega arith
 
 returns-3 : tie.Need-returns-3
 returns-3 c =
-    let s = c .before .before .before .before in
-    let a = s .args in
-    (omega arith, pixel (a .keys .now) (a .bits .now) (a .first) (a .key) (a .own) (a .step) (s .pre .2) (c .before .if1 .left) (c .if2 .left))
+    let a = c .before .before .before .before .before .before .args in
+    let h = c .before .four-pixels .ensures in (
+      h .0 (c .if3 .taken),
+      at-height (a .keys .now) (a .bits .now) (a .first) (a .key) (a .own) 1 (a .step) _ (c .before .before .if2 .left ∙ step-one) (right-true _ _ _ (c .if3 .taken) (h .1)),
+    )
+
+returns-4 : tie.Need-returns-4
+returns-4 c =
+    let a = c .before .before .before .before .before .before .args in
+    let h = c .before .four-pixels .ensures in (
+      omega arith,
+      at-height (a .keys .now) (a .bits .now) (a .first) (a .key) (a .own) 1 (a .step) _ (c .before .before .if2 .left ∙ step-one) (right-false _ _ _ (c .if3 .left) (h .1)),
+    )
 
 pub after-low-spec : {M : Type 1} → statement M
-after-low-spec = tie.close (tie.spec after-sixteen-requires returns four-pixels-requires returns-2 returns-3)
+after-low-spec =
+    tie.close (tie.spec after-sixteen-requires returns returns-2 four-pixels-requires add-result returns-3 returns-4)

@@ -1,9 +1,10 @@
 -- `check::after_sixteen` meets its contract: before each turn the children passed so far are those that the model has passed, at the step 5.
-use Prim.Native.Nat.{_-_}
-use mathlib.Core.Path.{sym, _∙_}
+use Prim.Native.Nat.{_+_, _-_}
+use mathlib.Core.Path.{refl, sym, _∙_}
 use mathlib.Core.Logic.{⊎-elim}
 use native.Mathlib.Omega.{arith}
 use borrow.Author.Tests.{not-true, not-false}
+use Rattle.list.proofs.Pixels.{right-false, right-true}
 use Rattle.list.proofs.Turn.{Passed, step-one, step-five, begins, child-fits, ends, differs, short, other-key, child-at, wrong-child, goes-leaf, goes-node}
 use Rattle.list.proofs.check.after_sixteen.Statement.{statement}
 use Rattle.list.proofs.check.after_sixteen.Tie as tie
@@ -59,16 +60,21 @@ four-pixels-requires c κs =
 returns-3 : tie.Need-returns-3 Inv-loop μ-loop
 returns-3 c =
     let f = c .before .before .before .before .before in
-    let e = f .before .before in (
+    let e = f .before .before in
+    let i = e .before .before .loop .inv in (
       omega arith,
-      wrong-child (e .before .before .loop .inv) (e .before .loop-test .taken) (e .if1 .left) (f .if2 .left)
+      wrong-child i (e .before .loop-test .taken) (e .if1 .left) (f .if2 .left)
           (sym (c .before .before .before .has-one-slot .ensures) ∙ not-true _ (c .before .before .if3 .taken))
-          (c .before .four-pixels .result)
-          (c .if4 .taken)
-          (child-at (e .before .before .loop .inv) (e .before .loop-test .taken) (e .if1 .left) (f .if2 .left) 1 step-one _ (c .before .four-pixels .ensures .1))
+          0
+          refl
+          (child-at i (e .before .loop-test .taken) (e .if1 .left) (f .if2 .left) 1 step-one 0
+          (right-false (c .before .four-pixels .result) (e .before .before .loop .next + 1 + 4) _ (not-true _ (c .if4 .taken)) (c .before .four-pixels .ensures .1)))
           2
           step-five,
     )
+
+add-next-2 : tie.Need-add-next-2 Inv-loop μ-loop
+add-next-2 c = let h = c .before .four-pixels .ensures .0 (not-false _ (c .if4 .left)) in omega arith
 
 add-quadrant : tie.Need-add-quadrant Inv-loop μ-loop
 add-quadrant c = omega (arith, c .before .before .before .before .before .before .loop-test .taken)
@@ -85,10 +91,10 @@ loop-again c =
     (λ w. rw (w .3)
     (goes-node i (e .before .loop-test .taken) (e .if1 .left) (f .if2 .left)
     (sym (c .before .has-one-slot .ensures) ∙ not-true _ (w .0 .taken))
-    (w .1 .result)
-    (w .2 .left)
-    (w .1 .ensures .0)
-    (child-at i (e .before .loop-test .taken) (e .if1 .left) (f .if2 .left) 1 step-one _ (w .1 .ensures .1))))
+    (e .before .before .loop .next + 1 + 4)
+    (λ z. omega arith)
+    (w .1 .ensures .0 (not-false _ (w .2 .left)))
+    (child-at i (e .before .loop-test .taken) (e .if1 .left) (f .if2 .left) 1 step-one _ (right-true (w .1 .result) (e .before .before .loop .next + 1 + 4) _ (not-false _ (w .2 .left)) (w .1 .ensures .1)))))
     (λ w. rw (w .1)
     (goes-leaf i (e .before .loop-test .taken) (e .if1 .left) (f .if2 .left) (sym (c .before .has-one-slot .ensures) ∙ not-false _ (w .0 .left))))
     (c .if3 .came)
@@ -120,6 +126,7 @@ after-sixteen-spec =
     has-one-slot-requires
     four-pixels-requires
     returns-3
+    add-next-2
     add-quadrant
     loop-less
     loop-again

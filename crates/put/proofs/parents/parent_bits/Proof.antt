@@ -1,7 +1,7 @@
 -- `parents::parent_bits` meets its contract: the four children of the parent, one after the other.
 use Prim.Native.Nat.{_*_}
 use native.Mathlib.Omega.{arith}
-use Rattle.put.proofs.FamilyRead.{multiple-le, parent-read}
+use Rattle.put.proofs.FamilyRead.{multiple-le, wider-read}
 use borrow.Author.Needs.{needs}
 use Rattle.put.proofs.parents.parent_bits.Statement.{statement}
 use Rattle.put.proofs.parents.parent_bits.Tie as tie
@@ -61,8 +61,8 @@ child-bits-requires-4 : tie.Need-child-bits-requires-4
 child-bits-requires-4 c κs = search needs
 
 returns : tie.Need-returns
-returns c h e =
-    parent-read _ _ h e _ _ _ _ _ _
+returns c =
+    wider-read _ _ _ _ _ _ _ _
     (c .before .before .before .child-bits .ensures) (c .before .before .child-bits2 .ensures) (c .before .child-bits3 .ensures) (c .child-bits4 .ensures)
 
 pub parent-bits-spec : {M : Type 1} → statement M

@@ -1,6 +1,6 @@
 -- `begin::answer` meets its contract: each way out is a case of the definition.
 use mathlib.Core.Path.{sym}
-use Rattle.rules.proofs.WritingCases.{answer-done, answer-full, answer-refused}
+use Rattle.rules.proofs.NextCases.{answer-done, answer-full, answer-refused}
 use Rattle.rules.proofs.begin.answer.Statement.{statement}
 use Rattle.rules.proofs.begin.answer.Tie as tie
 

@@ -5,7 +5,7 @@ use Rattle.rules.proofs.step.waiver_is_wrong.Statement.{statement}
 use Rattle.rules.proofs.step.waiver_is_wrong.Tie as tie
 
 returns : tie.Need-returns
-returns c = search needs
+returns c = simp (c .if1 .taken)
 
 mul-result : tie.Need-mul-result
 mul-result c = search needs

@@ -37,8 +37,13 @@ returns-3 : tie.Need-returns-3
 unfolding reportRefusal
 returns-3 c =
     sym
-    (none-first _
-    (settings-pass (c .before .before .before .before), (ap not (sym (c .before .before .before .is-list .ensures)) ∙ c .before .before .if2 .left, (ap not (sym (c .before .is-window .ensures) ∙ c .if3 .taken), tt))))
+    (none-first _ (
+      settings-pass (c .before .before .before .before),
+      (
+        ap not (sym (c .before .before .before .is-list .ensures)) ∙ c .before .before .if2 .left,
+        (ap not (sym (c .before .is-window .ensures) ∙ c .if3 .taken), tt),
+      ),
+    ))
 
 returns-4 : tie.Need-returns-4
 unfolding reportRefusal
@@ -46,7 +51,8 @@ returns-4 c =
     sym
     (holds-first
     (later (settings-pass (c .before .before .before .before))
-    (later (ap not (sym (c .before .before .before .is-list .ensures)) ∙ c .before .before .if2 .left) (this (ap not (sym (c .before .is-window .ensures) ∙ c .if3 .left)) refl))))
+    (later (ap not (sym (c .before .before .before .is-list .ensures)) ∙ c .before .before .if2 .left)
+    (this (ap not (sym (c .before .is-window .ensures) ∙ c .if3 .left)) refl))))
 
 pub window-refusal-spec : {M : Type 1} → statement M
 window-refusal-spec =

@@ -1,165 +1,226 @@
--- `report::report_in` meets its contract: where the walk stands, the union has the slots of the window's pixels before the key, and no others. The
--- key rises from turn to turn.
+-- `report::report_in` meets its contract: where the walk stands, the union has the slots of the window's pixels before the key, and no others. Within a
+-- turn it goes down to a block that lies apart from the window or that its record settles; the key rises from turn to turn.
 use Prim.Native.Nat.{ℕ, _+_, _-_, _^_, _<_}
-use mathlib.Core.Path.{_≡_, refl, sym, subst}
-use mathlib.Core.Bool.{true}
+use mathlib.Core.Path.{_≡_, sym, _∙_, subst}
+use mathlib.Core.Bool.{false}
+use mathlib.Core.Logic.{⊎-elim}
 use native.Mathlib.Omega.{arith}
-use lib.ListN.{length}
-use lib.Bits.{bitOr}
+use lib.ListN.{length, take}
 use borrow.Author.Needs.{needs}
 use Rattle.definitions.specs.Picture.{Picture}
-use Rattle.definitions.specs.Window.{isWindow, reportIn}
 use Rattle.definitions.specs.declared.Window.{Window}
 use Rattle.list.specs.Own.{shownBy}
+use Rattle.list.specs.Sorted.{Near}
+use Rattle.list.specs.Among.{keysUpTo}
 use Rattle.list.proofs.Own.{own-ascends}
-use Rattle.window.specs.declared.walk.Spot.{Spot}
-use Rattle.window.specs.Walk.{Stands, Clear, Walking, FirstFrom}
-use Rattle.window.proofs.Steps.{some-keys, follows-at, follows-gone, reached-at, reached-gone, walking-root, walking-after, rises}
-use Rattle.window.proofs.Asked.{Asked, asked-some, asked-count}
-use Rattle.window.proofs.Seen.{bitsAt}
-use Rattle.window.proofs.Gathered.{Gathered, gathered-none, gathered-clear, gathered-block, gathered-end}
+use Rattle.window.specs.Walk.{Stands, isApart}
+use Rattle.window.proofs.Lies.{small}
+use Rattle.window.proofs.Steps.{Parent, few-keys, clear-apart, clear-first, cut-parent, first-less, follows-at, follows-gone}
+use Rattle.window.proofs.Asked.{Asked, asked-some, asked-count, near-count}
+use Rattle.window.proofs.Going.{Going, going-root, going-first, going-on, going-less}
+use Rattle.window.proofs.Gathered.{Gathered, gathered-none, gathered-clear, gathered-block, gathered-whole, gathered-nothing, gathered-end}
 use Rattle.window.proofs.report.report_in.Statement.{statement}
 use Rattle.window.proofs.report.report_in.Tie as tie
 
-record Going (m : ℕ) (p : Picture) (w : Window) (union : ℕ) (s : Spot) : Type 0 where
-  walking : Walking m w s
-  gathered : Gathered m p w union (s .key)
+abbrev Inv-loop2 : tie.InvT-loop2
+Inv-loop2 m keys bits n window union₀ spot₀ from₀ union spot from =
+    Going m keys n from (spot₀ .key) spot × Gathered m (shownBy m keys bits n) window union (spot .key)
+
+abbrev μ-loop2 : tie.MeasureT-loop2
+μ-loop2 m keys bits n window union₀ spot₀ from₀ union spot from = spot .step
 
 abbrev Inv-loop : tie.InvT-loop
-Inv-loop m keys bits n window union₀ spot₀ union spot = Going m (shownBy m keys bits n) window union spot
+Inv-loop m keys bits n window union₀ spot₀ from₀ union spot from =
+    Going m keys n from (spot .key) spot × Gathered m (shownBy m keys bits n) window union (spot .key)
 
 abbrev μ-loop : tie.MeasureT-loop
-μ-loop m keys bits n window union₀ spot₀ union spot = 5 ^ m - spot .key
+μ-loop m keys bits n window union₀ spot₀ from₀ union spot from = 5 ^ m - spot .key
 
-module _ (m : ℕ) (p : Picture) (w : Window) where
-  begins : (s : Spot) → Stands m s → s .key ≡ 0 → Going m p w 0 s
-  begins s h e = record { walking = walking-root m w s h e; gathered = gathered-none m p w (s .key) e }
+-- the union by its name in the code
+named : {m : ℕ} {p : Picture} {w : Window} {union x : ℕ} (u : ℕ) → u ≡ union → Gathered m p w union x → Gathered m p w u x
+named {m} {p} {w} {x = x} u e g = subst (λ (y : ℕ). Gathered m p w y x) (sym e) g
 
-  module _ (union : ℕ) {s : Spot} (g : Going m p w union s) where
-    -- nothing is left of the window
-    ends : Clear m w (s .key) (5 ^ m) → union ≡ reportIn p w
-    ends c = gathered-end m p w union (5 ^ m) refl (gathered-clear m p w union (s .key) (5 ^ m) (g .gathered) c)
+-- the head of the inner loop, the entry of the function from there, and what is known there
+abbrev Turn : Type 0
+Turn = tie.At-loop2 Inv-loop2 μ-loop2 Inv-loop μ-loop
 
-    module _ {b : Spot} (good : isWindow m w ≡ true) (f : FirstFrom m w (s .key) b) where
-      -- a largest block is added
-      added : (value : ℕ) → value ≡ bitsAt p (f .walking .stands) → Gathered m p w (bitOr union value) (b .key + b .step)
-      added value is =
-          gathered-block m p w good (f .walking .stands) (f .within) union value is (gathered-clear m p w union (s .key) (b .key) (g .gathered) (f .clear))
+abbrev entry : Turn → tie.Start Inv-loop2 μ-loop2 Inv-loop μ-loop
+entry c = c .before .before .before .before .before
 
-      goes-on : (value : ℕ) → value ≡ bitsAt p (f .walking .stands) → (t : Spot) → Stands m t → t .key ≡ b .key + b .step → Going m p w (bitOr union value) t
-      goes-on value is t h e =
-          record {
-            walking = walking-after (f .walking) t h e;
-            gathered = subst (λ (y : ℕ). Gathered m p w (bitOr union value) y) (sym e) (added value is);
-          }
+abbrev stands : (c : Turn) → Stands (entry c .args .m) (c .loop2 .spot)
+stands c = c .loop2 .inv .0 .stands
 
--- the entry of the function, from the head of the loop
-abbrev entry : tie.At-loop Inv-loop μ-loop → tie.Start Inv-loop μ-loop
-entry c = c .before .before .before .before
+-- what is gathered below a key
+abbrev GatheredAt : Turn → ℕ → ℕ → Type 0
+GatheredAt c union x =
+    Gathered (entry c .args .m) (shownBy (entry c .args .m) (entry c .args .keys .now) (entry c .args .bits .now) (entry c .args .n)) (entry c .args .window)
+    union x
 
--- the head of the loop, from where a block is found
-abbrev head : tie.After-block Inv-loop μ-loop → tie.At-loop Inv-loop μ-loop
+-- the search for the turn's block, or a later one, can begin at a place
+abbrev NearAt : Turn → ℕ → Type 0
+NearAt c from = Near (entry c .args .keys .now) (entry c .args .n) from (c .loop2 .spot .key)
+
+-- the record where the turn's block stands
+asked : (c : Turn) (count : ℕ) → count ≡ keysUpTo (c .loop2 .spot .key) (take (entry c .args .n) (entry c .args .keys .now))
+    → Asked (entry c .args .m) (entry c .args .keys .now) (entry c .args .bits .now) (entry c .args .n) (stands c .height) (c .loop2 .spot .row)
+    (c .loop2 .spot .column) (count - 1)
+asked c count e = asked-count (entry c .pre .2) (stands c .block) count e
+
+-- where a block is looked up, and the head of its turn
+abbrev Asks : Type 0
+Asks = tie.After-up-to-from Inv-loop2 μ-loop2 Inv-loop μ-loop
+
+abbrev head : Asks → Turn
 head c = c .before .before .before
 
-found : (c : tie.After-block Inv-loop μ-loop) → FirstFrom (entry (head c) .args .m) (entry (head c) .args .window) (head c .loop .spot .key) (c .block .given .0 .0)
-found c = reached-at _ _ _ _ _ (c .before .before .find-largest .ensures) (c .block .given .1)
+-- it meets the window
+meets : (c : Asks) → isApart (head c .loop2 .spot) (entry (head c) .args .window) ≡ false
+meets c = sym (c .before .before .apart .ensures) ∙ c .before .if1 .left
 
--- the record where the block stands
-asked : (c : tie.After-up-to Inv-loop μ-loop)
-    → Asked (entry (head (c .before .before)) .args .m) (entry (head (c .before .before)) .args .keys .now) (entry (head (c .before .before)) .args .bits .now) (entry (head (c .before .before)) .args .n)
-    (found (c .before .before) .walking .stands .height) (c .before .before .block .given .0 .0 .row) (c .before .before .block .given .0 .0 .column) (c .up-to .result - 1)
-asked c = asked-count (entry (head (c .before .before)) .pre .2) (found (c .before .before) .walking .stands .block) _ (c .up-to .ensures)
+in-bits : (c : Asks) → c .up-to-from .result - 1 < length (entry (head c) .args .bits .now)
+in-bits c = omega (arith, asked (head c) _ (c .up-to-from .ensures) .room, entry (head c) .pre .2 .fits)
 
-in-bits : (c : tie.After-up-to Inv-loop μ-loop) → c .up-to .result - 1 < length (entry (head (c .before .before)) .args .bits .now)
-in-bits c = omega (arith, asked c .room, entry (head (c .before .before)) .pre .2 .fits)
-
-start-requires : tie.Need-start-requires Inv-loop μ-loop
+start-requires : tie.Need-start-requires Inv-loop2 μ-loop2 Inv-loop μ-loop
 start-requires c κs = c .before .before .pre .0
 
-loop-holds : tie.Need-loop-holds Inv-loop μ-loop
-loop-holds c = begins _ _ _ _ (c .start .ensures .0) (c .start .ensures .1)
+loop-holds : tie.Need-loop-holds Inv-loop2 μ-loop2 Inv-loop μ-loop
+loop-holds c = (going-root (c .before .before .before .pre .2) (c .start .ensures .0), gathered-none _ _ _ _ (c .start .ensures .1))
 
-find-largest-requires : tie.Need-find-largest-requires Inv-loop μ-loop
-find-largest-requires c κs = (entry c .pre .0, entry c .pre .1, c .loop .inv .walking)
+loop2-holds : tie.Need-loop2-holds Inv-loop2 μ-loop2 Inv-loop μ-loop
+loop2-holds c = c .loop .inv
 
-enum-known-block : tie.Need-enum-known-block Inv-loop μ-loop
-enum-known-block c = search needs
+apart-requires : tie.Need-apart-requires Inv-loop2 μ-loop2 Inv-loop μ-loop
+apart-requires c κs = small _ _ _ (entry c .pre .0) (entry c .pre .1) (stands c)
 
-enum-told : tie.Need-enum-told Inv-loop μ-loop
-enum-told c = search needs
+up-to-from-requires : tie.Need-up-to-from-requires Inv-loop2 μ-loop2 Inv-loop μ-loop
+up-to-from-requires c κs = let at = c .before .before in (own-ascends (entry at .pre .2), at .loop2 .inv .0 .near)
 
-returns : tie.Need-returns Inv-loop μ-loop
-returns c =
-    let at = c .before .before .before in
-    ends _ _ _ _ (at .loop .inv) (reached-gone _ _ _ _ (c .before .before .find-largest .ensures) (c .enum-told .given .1))
+sub-from : tie.Need-sub-from Inv-loop2 μ-loop2 Inv-loop μ-loop
+sub-from c = asked-some (entry (head c) .pre .2) _ _ (c .up-to-from .ensures)
 
-up-to-requires : tie.Need-up-to-requires Inv-loop μ-loop
-up-to-requires c κs = own-ascends (entry (head (c .before)) .pre .2)
+mul-found : tie.Need-mul-found Inv-loop2 μ-loop2 Inv-loop μ-loop
+mul-found c = omega (arith, in-bits c, entry (head c) .good .1 .1 .0 .1)
 
-sub-place : tie.Need-sub-place Inv-loop μ-loop
-sub-place c = asked-some (entry (head (c .before .before)) .pre .2) _ _ (c .up-to .ensures)
+shared-slice-read-found : tie.Need-shared-slice-read-found Inv-loop2 μ-loop2 Inv-loop μ-loop
+shared-slice-read-found c = in-bits (c .before)
 
-mul-union : tie.Need-mul-union Inv-loop μ-loop
-mul-union c = omega (arith, in-bits c, entry (head (c .before .before)) .good .1 .1 .0 .1)
+has-one-slot-requires : tie.Need-has-one-slot-requires Inv-loop2 μ-loop2 Inv-loop μ-loop
+has-one-slot-requires c κs = search needs
 
-shared-slice-read-union : tie.Need-shared-slice-read-union Inv-loop μ-loop
-shared-slice-read-union c = in-bits (c .before)
+-- a block with several features, one of them new, from where it was looked up
+abbrev looked : tie.Else3 Inv-loop2 μ-loop2 Inv-loop μ-loop → Asks
+looked c = c .before .before .before .before
 
-after-requires : tie.Need-after-requires Inv-loop μ-loop
-after-requires c κs = let b = c .before .before .before in (entry (head b) .pre .0, found b .walking .stands)
+within-requires : tie.Need-within-requires Inv-loop2 μ-loop2 Inv-loop μ-loop
+within-requires c κs = let at = head (looked c) in small _ _ _ (entry at .pre .0) (entry at .pre .1) (stands at)
 
-enum-known-next : tie.Need-enum-known-next Inv-loop μ-loop
+first-requires : tie.Need-first-requires Inv-loop2 μ-loop2 Inv-loop μ-loop
+first-requires c κs = let at = head (looked (c .before .before)) in few-keys (entry at .pre .0) (stands at)
+
+-- a block that is entered
+entered : (c : tie.Else4 Inv-loop2 μ-loop2 Inv-loop μ-loop) → Parent (entry (head (looked (c .before .before))) .args .m) (head (looked (c .before .before)) .loop2 .spot)
+entered c =
+    let asks = looked (c .before .before) in
+    cut-parent _ (stands (head asks)) (sym (c .before .within .ensures) ∙ c .if4 .left) (meets asks)
+
+loop2-less : tie.Need-loop2-less Inv-loop2 μ-loop2 Inv-loop μ-loop
+loop2-less c = rw (c .first .ensures) (first-less (stands (head (looked (c .before .before .before)))))
+
+loop2-again : tie.Need-loop2-again Inv-loop2 μ-loop2 Inv-loop μ-loop
+loop2-again c =
+    let asks = looked (c .before .before .before) in
+    let at = head asks in
+    let parent = entered (c .before) in
+    rw (c .first .ensures) (
+      going-first (at .loop2 .inv .0) parent _ (near-count (entry at .pre .2) _ _ (asks .up-to-from .ensures)),
+      gathered-clear _ _ _ _ _ _ (at .loop2 .inv .1) (clear-first _ (entry at .pre .1) parent),
+    )
+
+after-requires : tie.Need-after-requires Inv-loop2 μ-loop2 Inv-loop μ-loop
+after-requires c κs = let at = c .before .before in (entry at .pre .0, stands at)
+
+enum-known-next : tie.Need-enum-known-next Inv-loop2 μ-loop2 Inv-loop μ-loop
 enum-known-next c = search needs
 
-enum-told-2 : tie.Need-enum-told-2 Inv-loop μ-loop
-enum-told-2 c = search needs
+enum-told : tie.Need-enum-told Inv-loop2 μ-loop2 Inv-loop μ-loop
+enum-told c = search needs
 
-returns-2 : tie.Need-returns-2 Inv-loop μ-loop
-returns-2 c =
-    let asks = c .before .before .before .before in
-    let b = asks .before .before in
-    gathered-end _ _ _ _ _ (follows-gone _ _ _ (c .before .before .after .ensures) (c .enum-told2 .given .1))
-    (added _ _ _ _ (head b .loop .inv) (entry (head b) .pre .1) (found b) _ (asked asks .value))
+-- the end of a turn, whichever way it came
+abbrev Ended : Type 0
+Ended = tie.Joined1 Inv-loop2 μ-loop2 Inv-loop μ-loop
 
--- the block that follows
-follows : (c : tie.After-next Inv-loop μ-loop)
-    → Stands (entry (head (c .before .before .before .before .before .before)) .args .m) (c .next .given .0 .0)
-    × (c .next .given .0 .0 .key
-    ≡ c .before .before .before .before .before .before .block .given .0 .0 .key + c .before .before .before .before .before .before .block .given .0 .0 .step)
+-- the union has what the block adds
+passed : (c : Ended) → GatheredAt (c .before .before) (c .if1 .union) (c .before .before .loop2 .spot .key + c .before .before .loop2 .spot .step)
+passed c =
+    let at = c .before .before in
+    let good = entry at .pre .1 in
+    let g = at .loop2 .inv .1 in
+    let apart = c .before .apart .ensures in
+    ⊎-elim (λ w. named _ (w .1) (gathered-clear _ _ _ _ _ _ g (clear-apart _ good (stands at) (sym apart ∙ w .0 .taken))))
+    (⊎-elim (λ w. named _ (w .4) (gathered-nothing _ _ _ good (stands at) _ _ (asked at _ (w .1 .ensures) .value) (w .3 .taken) g))
+    (⊎-elim
+    (λ w.
+    named _ (w .6)
+    (gathered-whole _ _ _ good (stands at) (sym apart ∙ w .0 .left) _ _ (asked at _ (w .1 .ensures) .value) (sym (w .4 .ensures) ∙ w .5 .taken) g))
+    (λ w. named _ (w .8) (gathered-block _ _ _ good (stands at) (sym (w .6 .ensures) ∙ w .7 .taken) _ _ (asked at _ (w .1 .ensures) .value) g))))
+    (c .if1 .came)
+
+-- and the next search can begin where the last one ended
+kept : (c : Ended) → NearAt (c .before .before) (c .if1 .from)
+kept c =
+    let at = c .before .before in
+    let own = entry at .pre .2 in
+    ⊎-elim (λ w. rw (w .2) (at .loop2 .inv .0 .near))
+    (⊎-elim (λ w. rw (w .5) (near-count own _ _ (w .1 .ensures)))
+    (⊎-elim (λ w. rw (w .7) (near-count own _ _ (w .1 .ensures))) (λ w. rw (w .9) (near-count own _ _ (w .1 .ensures)))))
+    (c .if1 .came)
+
+returns : tie.Need-returns Inv-loop2 μ-loop2 Inv-loop μ-loop
+returns c = gathered-end _ _ _ _ _ (follows-gone _ _ _ (c .before .before .after .ensures) (c .enum-told .given .1)) (passed (c .before .before .before))
+
+-- the block that follows, and the head of the turn before it
+abbrev turn : tie.After-next Inv-loop2 μ-loop2 Inv-loop μ-loop → Turn
+turn c = c .before .before .before .before .before
+
+follows : (c : tie.After-next Inv-loop2 μ-loop2 Inv-loop μ-loop)
+    → Stands (entry (turn c) .args .m) (c .next .given .0 .0) × (c .next .given .0 .0 .key ≡ turn c .loop2 .spot .key + turn c .loop2 .spot .step)
 follows c = follows-at _ _ _ _ (c .before .before .after .ensures) (c .next .given .1)
 
-loop-less : tie.Need-loop-less Inv-loop μ-loop
+loop-less : tie.Need-loop-less Inv-loop2 μ-loop2 Inv-loop μ-loop
 loop-less c =
-    let b = c .before .before .before .before .before .before .before in
-    let k = some-keys (found b .walking .stands) in
-    rises (head b .loop .inv .walking .stands) _ (omega (arith, follows (c .before) .1, found b .from))
+    let at = turn (c .before) in
+    going-less (at .before .loop .inv .0 .stands) (at .loop2 .inv .0) _ (follows (c .before) .1)
 
-loop-again : tie.Need-loop-again Inv-loop μ-loop
+loop-again : tie.Need-loop-again Inv-loop2 μ-loop2 Inv-loop μ-loop
 loop-again c =
-    let asks = c .before .before .before .before .before in
-    let b = asks .before .before in
     let f = follows (c .before) in
-    goes-on _ _ _ _ (head b .loop .inv) (entry (head b) .pre .1) (found b) _ (asked asks .value) _ (f .0) (f .1)
+    let ended = c .before .before .before .before in
+    (going-on (ended .before .before .loop2 .spot) _ (kept ended) (f .0) (f .1), rw (f .1) (passed ended))
 
 pub report-in-spec : {M : Type 1} → statement M
 report-in-spec =
     tie.close
     (tie.spec
+    Inv-loop2
+    μ-loop2
     Inv-loop
     μ-loop
     start-requires
     loop-holds
-    find-largest-requires
-    enum-known-block
-    enum-told
-    returns
-    up-to-requires
-    sub-place
-    mul-union
-    shared-slice-read-union
+    loop2-holds
+    apart-requires
+    up-to-from-requires
+    sub-from
+    mul-found
+    shared-slice-read-found
+    has-one-slot-requires
+    within-requires
+    first-requires
+    loop2-less
+    loop2-again
     after-requires
     enum-known-next
-    enum-told-2
-    returns-2
+    enum-told
+    returns
     loop-less
     loop-again)

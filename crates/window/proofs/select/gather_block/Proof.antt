@@ -5,11 +5,10 @@ use mathlib.Core.List.{List, [], _∷_}
 use native.Mathlib.Omega.{arith}
 use lib.ListN.{length}
 use borrow.Author.Needs.{needs}
-use Rattle.keys.proofs.Powers.{five-le}
 use Rattle.definitions.specs.declared.Standing.the-variants.{Inside}
 use Rattle.list.proofs.Own.{own-sorted}
 use Rattle.window.specs.Gather.{putAt, written, Gave}
-use Rattle.window.proofs.Steps.{some-keys}
+use Rattle.window.proofs.Steps.{few-keys}
 use Rattle.window.proofs.Asked.{asked-inside}
 use Rattle.window.proofs.Written.{written-none, written-one}
 use Rattle.window.proofs.Content.{listed-keys, leaf-key, leaf-nothing}
@@ -17,7 +16,8 @@ use Rattle.window.proofs.select.gather_block.Statement.{statement}
 use Rattle.window.proofs.select.gather_block.Tie as tie
 
 -- one key is given
-gives-one : (given : List ℕ) (limit count : ℕ) (before after : List ℕ) (key : ℕ) → given ≡ key ∷ [] → after ≡ putAt limit before count key → Gave given limit count before after (count + 1)
+gives-one : (given : List ℕ) (limit count : ℕ) (before after : List ℕ) (key : ℕ) → given ≡ key ∷ [] → after ≡ putAt limit before count key
+    → Gave given limit count before after (count + 1)
 gives-one given limit count before after key e f =
     record {
       counted = let n = ap length e in omega arith;
@@ -33,30 +33,31 @@ gives-none given limit count before e =
     }
 
 -- the same keys are given by another name
-gives-same : (given given₁ : List ℕ) (limit count : ℕ) (before after : List ℕ) (r : ℕ) → given ≡ given₁ → Gave given limit count before after r → Gave given₁ limit count before after r
+gives-same : (given given₁ : List ℕ) (limit count : ℕ) (before after : List ℕ) (r : ℕ) → given ≡ given₁ → Gave given limit count before after r
+    → Gave given₁ limit count before after r
 gives-same given given₁ limit count before after r e g = rw (← e) g
 
 -- where the block was asked for, from where it is known how it stands
-abbrev asks-leaf : tie.After-known-told3 → tie.After-stand
+abbrev asks-leaf : tie.After-known-told3 → tie.After-stand-from
 asks-leaf c = c .before .before .before .before .before .before
 
-abbrev asks-listed : tie.After-known-told → tie.After-stand
+abbrev asks-listed : tie.After-known-told → tie.After-stand-from
 asks-listed c = c .before .before .before
 
-abbrev entry : tie.After-stand → tie.Start
+abbrev entry : tie.After-stand-from → tie.Start
 entry c = c .before .before .before .before
 
-stands-inside : (c : tie.After-known-told3) → asks-leaf c .stand .result ≡ Inside (c .before .standing3 .given .0 .0)
+stands-inside : (c : tie.After-known-told3) → asks-leaf c .stand-from .result ≡ Inside (c .before .standing3 .given .0 .0)
 stands-inside c = c .before .before .before .before .standing2 .given .1 ∙ c .before .standing3 .given .1
 
 leaf-place : (c : tie.After-known-told3) → c .before .standing3 .given .0 .0 < length (entry (asks-leaf c) .args .bits .now)
 leaf-place c =
     let pre = entry (asks-leaf c) .pre in
-    let a = asked-inside (pre .2) (pre .1 .block) _ _ (asks-leaf c .stand .ensures) (stands-inside c) in
+    let a = asked-inside (pre .2) (pre .1 .block) _ _ (asks-leaf c .stand-from .ensures) (stands-inside c) in
     omega (arith, pre .2 .fits, a .room)
 
-stand-requires : tie.Need-stand-requires
-stand-requires c κs = own-sorted (c .before .before .before .pre .2) _
+stand-from-requires : tie.Need-stand-from-requires
+stand-from-requires c κs = let pre = c .before .before .before .pre in (own-sorted (pre .2) _, pre .3)
 
 enum-known-standing : tie.Need-enum-known-standing
 enum-known-standing c = search needs
@@ -92,20 +93,19 @@ returns-2 : tie.Need-returns-2
 returns-2 c =
     let leaf = c .before .before .before .before .before .before in
     let pre = entry (asks-leaf leaf) .pre in
-    gives-one _ _ _ _ _ _ (leaf-key (pre .2) (pre .1) _ _ _ (asks-leaf leaf .stand .ensures) (stands-inside leaf) (c .before .before .before .before .if1 .taken))
+    gives-one _ _ _ _ _ _ (leaf-key (pre .2) (pre .1) _ _ _ (asks-leaf leaf .stand-from .ensures) (stands-inside leaf) (c .before .before .before .before .if1 .taken))
     (c .before .before .put .ensures)
 
 returns-3 : tie.Need-returns-3
 returns-3 c =
     let leaf = c .before .before in
     let pre = entry (asks-leaf leaf) .pre in
-    gives-none _ _ _ _ (leaf-nothing (pre .2) (pre .1) _ _ _ (asks-leaf leaf .stand .ensures) (stands-inside leaf) (c .if1 .left))
+    gives-none _ _ _ _ (leaf-nothing (pre .2) (pre .1) _ _ _ (asks-leaf leaf .stand-from .ensures) (stands-inside leaf) (c .if1 .left))
 
 add-gather-run : tie.Need-add-gather-run
 add-gather-run c =
     let pre = entry (asks-listed c) .pre in
-    let k = some-keys (pre .1) in
-    let five = five-le 10 (pre .0) in
+    let few = few-keys (pre .0) (pre .1) in
     omega arith
 
 gather-run-requires : tie.Need-gather-run-requires
@@ -118,13 +118,14 @@ returns-4 : tie.Need-returns-4
 returns-4 c =
     let listed = c .before .before .before .before in
     let pre = entry (asks-listed listed) .pre in
-    gives-same _ _ _ _ _ _ _ (listed-keys (pre .2) (pre .1) _ _ _ (asks-listed listed .stand .ensures) _ refl (listed .before .standing .given .1)) (c .before .before .gather-run .ensures)
+    let run = listed-keys (pre .2) (pre .1) _ _ _ (asks-listed listed .stand-from .ensures) _ refl (listed .before .standing .given .1) in
+    gives-same _ _ _ _ _ _ _ run (c .before .before .gather-run .ensures)
 
 pub gather-block-spec : {M : Type 1} → statement M
 gather-block-spec =
     tie.close
     (tie.spec
-    stand-requires
+    stand-from-requires
     enum-known-standing
     enum-known-standing-2
     enum-known-standing-3

@@ -101,8 +101,9 @@ put-requires c κs =
 
 add-given : tie.Need-add-given Inv-loop μ-loop
 add-given c =
-    let at = c .before .before .before .before .before .before .before .before .before in
-    omega (arith, at .loop .inv .bound, entry at .pre .3, entry at .pre .0, entry at .good .0 .1, c .before .before .before .before .before .before .before .before .loop-test .taken)
+    let goes = c .before .before .before .before .before .before .before .before in
+    let at = goes .before in
+    omega (arith, at .loop .inv .bound, entry at .pre .3, entry at .pre .0, entry at .good .0 .1, goes .loop-test .taken)
 
 add-i : tie.Need-add-i Inv-loop μ-loop
 add-i c =

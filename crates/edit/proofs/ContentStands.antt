@@ -1,0 +1,146 @@
+-- What is logged of a block by its standing: a run of the list's records where it is listed, one record where it lies inside a leaf. Rests on
+-- Calls and ContentLength.
+use Prim.Native.Nat.{ℕ, _+_, _^_, _≤_, _<_}
+use mathlib.Core.Path.{_≡_, sym, _∙_, ap, ap₂, subst}
+use mathlib.Core.Bool.{Bool, true, false, cond}
+use mathlib.Core.List.{List, [], _∷_}
+use native.Mathlib.Omega.{arith}
+use lib.ListN.{length, getD, take, drop}
+use lib.Seq.{getD-take}
+use Rattle.keys.proofs.Cases.{decide}
+use Rattle.keys.proofs.Powers.{five-le}
+use Rattle.definitions.specs.List.{Record, recordOf}
+use Rattle.definitions.specs.Read.{room, paired, recordsOf}
+use Rattle.definitions.specs.Standing.{placeOf, isListed, standingOf, recordsIn, partLength}
+use Rattle.definitions.specs.declared.Standing.{Standing}
+use Rattle.definitions.specs.declared.Standing.the-variants.{Listed, Inside}
+use Rattle.definitions.specs.Log.{closed, closingPlaces}
+use Rattle.definitions.specs.Calls.Paint.{gained}
+use Rattle.definitions.proofs.Ascending.{Ascending, none, next}
+use Rattle.definitions.proofs.ListOf.{list-ascends, list-some}
+use Rattle.definitions.proofs.Records.{records-run}
+use Rattle.list.specs.Own.{OwnList, shownBy}
+use Rattle.list.specs.Among.{standingAmong}
+use Rattle.list.proofs.Among.{values-of-records, standing-among}
+use Rattle.list.proofs.Own.{own-length}
+use Rattle.put.specs.Family.{bitsAt}
+use Rattle.edit.specs.Content.{contentIn}
+use Rattle.log.specs.declared.entry.Entry.{Entry}
+use Rattle.log.specs.Entries.{run, Loggable, Logged}
+use Rattle.edit.specs.PaintCall.{Fresh}
+use Rattle.put.proofs.Places.{place-lt}
+use Rattle.edit.proofs.Calls.{gained-in}
+use Rattle.put.proofs.PlanTop.{records-length}
+use Rattle.edit.proofs.ContentLength.{part-there, gained-size}
+
+-- ascending records are no more than their interval has keys
+ascending-length : {lo hi : ℕ} {l : List Record} → Ascending lo hi l → lo + length l ≤ hi
+ascending-length (none h) = omega arith
+ascending-length (next h a) = let i = ascending-length a in omega arith
+
+module _ {m n : ℕ} {keys bits : List ℕ} (own : OwnList m keys bits n) where
+  -- so a list has less than 2 ^ 32
+  pub own-small : m ≤ 10 → n < 2 ^ 32
+  own-small deep =
+      let a = ascending-length (list-ascends (shownBy m keys bits n) m 0 0 0) in
+      let e = own-length own in
+      let i = five-le {k = m} 10 deep in
+      omega arith
+
+  -- every key has a place in it
+  pub own-place : (x : ℕ) → placeOf x (recordsOf keys bits n) < n
+  own-place x =
+      let some = list-some (shownBy m keys bits n) m 0 0 0 in
+      let e = own-length own in
+      let f = records-length own in
+      let h = place-lt x (recordsOf keys bits n) (omega arith) in
+      omega arith
+
+  -- a standing that was found is that of the list
+  module _ (key : ℕ) (standing : Standing) (found : standing ≡ standingAmong key (take n keys)) where
+    in-list : standing ≡ standingOf key (recordsOf keys bits n)
+    in-list = found ∙ sym (standing-among keys bits n (own .fits) key)
+
+    by-test : (t : Bool) → isListed key (recordsOf keys bits n) ≡ t → standing ≡ cond t (Listed (placeOf key (recordsOf keys bits n))) (Inside (placeOf key (recordsOf keys bits n)))
+    unfolding standingOf
+    by-test t e = in-list ∙ ap (λ b. cond b (Listed (placeOf key (recordsOf keys bits n))) (Inside (placeOf key (recordsOf keys bits n)))) e
+
+    -- listed at a place
+    pub stands-listed : (place : ℕ) → standing ≡ Listed place → (isListed key (recordsOf keys bits n) ≡ true) × (place ≡ placeOf key (recordsOf keys bits n))
+    stands-listed place e =
+        decide (isListed key (recordsOf keys bits n)) (λ t. let f = by-test true t in (t, cc))
+        (λ t. let f = by-test false t in let z : _≡_ {A = ℕ} 0 1 = cc in absurd (omega arith))
+
+    -- inside the leaf at a place
+    pub stands-inside : (leaf : ℕ) → standing ≡ Inside leaf → (isListed key (recordsOf keys bits n) ≡ false) × (leaf ≡ placeOf key (recordsOf keys bits n))
+    stands-inside leaf e =
+        decide (isListed key (recordsOf keys bits n))
+        (λ t. let f = by-test true t in let z : _≡_ {A = ℕ} 0 1 = cc in absurd (omega arith))
+        (λ t. let f = by-test false t in (t, cc))
+
+-- a new entry
+module _ {m n : ℕ} {keys bits logKeys logValues : List ℕ} {new : Entry} (a : Fresh m keys bits n new logKeys logValues) where
+  -- the content by the test of the standing
+  content-by : (t : Bool) → isListed (new .key) (recordsOf keys bits n) ≡ t
+      → gained m (recordsOf keys bits n) (new .key)
+      ≡ closed (new .key)
+      (cond t (take (partLength m (new .key) (recordsOf keys bits n)) (drop (placeOf (new .key) (recordsOf keys bits n)) (recordsOf keys bits n)))
+      (recordOf (new .key) (bitsAt (new .key) (recordsOf keys bits n)) ∷ []))
+  unfolding contentIn
+  content-by t e =
+      gained-in m (new .key) (recordsOf keys bits n) (a .valid) (a .own .own)
+      ∙ ap
+      (λ b.
+      closed (new .key)
+      (cond b (take (partLength m (new .key) (recordsOf keys bits n)) (drop (placeOf (new .key) (recordsOf keys bits n)) (recordsOf keys bits n)))
+      (recordOf (new .key) (bitsAt (new .key) (recordsOf keys bits n)) ∷ [])))
+      e
+
+  -- the log has room for it
+  entry-fits : new .start + (new .count + closingPlaces) ≤ room logKeys logValues
+  entry-fits = let e = gained-size (a .own) (new .key) (a .valid) in omega (arith, a .whole, a .fits)
+
+  -- its block is listed at a place
+  module _ (place : ℕ) (listed : isListed (new .key) (recordsOf keys bits n) ≡ true) (place-is : place ≡ placeOf (new .key) (recordsOf keys bits n)) where
+    within : place + new .count ≤ n
+    within = let h = part-there (a .own) (new .key) (a .valid) in omega (arith, a .whole)
+
+    pub listed-loggable : Loggable new keys bits place logKeys logValues
+    listed-loggable =
+        let h = within in
+        let small = own-small (a .own) (a .deepest) in
+        record { content-there = omega (arith, a .own .fits); fits = entry-fits; small = omega arith }
+
+    pub listed-entry : closed (new .key) (run keys bits place (new .count)) ≡ gained m (recordsOf keys bits n) (new .key)
+    listed-entry =
+        sym
+        (content-by true listed
+        ∙ ap₂ (λ c p. closed (new .key) (take c (drop p (recordsOf keys bits n)))) (sym (a .whole)) (sym place-is)
+        ∙ ap (closed (new .key)) (records-run keys bits n place (new .count) within))
+
+  -- its block lies inside the leaf at a place
+  module _ (leaf : ℕ) (inside : isListed (new .key) (recordsOf keys bits n) ≡ false) (leaf-is : leaf ≡ placeOf (new .key) (recordsOf keys bits n)) where
+    pub leaf-there : leaf < n
+    leaf-there = let h = own-place (a .own) (new .key) in omega arith
+
+    one : new .count ≡ 1
+    unfolding partLength
+    one = a .whole ∙ ap (λ b. cond b (recordsIn m (new .key) (recordsOf keys bits n)) 1) inside
+
+    pub inside-loggable : Loggable new (new .key ∷ []) (getD bits leaf 0 ∷ []) 0 logKeys logValues
+    inside-loggable = let e = one in record { content-there = omega arith; fits = entry-fits; small = omega arith }
+
+    pub inside-entry : closed (new .key) (run (new .key ∷ []) (getD bits leaf 0 ∷ []) 0 (new .count)) ≡ gained m (recordsOf keys bits n) (new .key)
+    unfolding bitsAt paired
+    inside-entry =
+        let there = leaf-there in
+        let bits-are : bitsAt (new .key) (recordsOf keys bits n) ≡ getD bits leaf 0 =
+        ap₂ (λ l i. getD l i 0) (values-of-records keys bits n (a .own .fits)) (sym leaf-is) ∙ getD-take n bits leaf 0 there in
+        ap (λ c. closed (new .key) (run (new .key ∷ []) (getD bits leaf 0 ∷ []) 0 c)) one
+        ∙ sym (content-by false inside ∙ ap (λ b. closed (new .key) (recordOf (new .key) b ∷ [])) bits-are)
+
+-- the same entry by another name
+pub logged-same : {entry entry′ : List Record} {start : ℕ} {keys values keys′ values′ : List ℕ} {next : ℕ} → entry ≡ entry′
+    → Logged entry start keys values keys′ values′ next
+    → Logged entry′ start keys values keys′ values′ next
+logged-same {start = start} {keys} {values} {keys′} {values′} {next} e w = subst (λ x. Logged x start keys values keys′ values′ next) e w

@@ -1,0 +1,65 @@
+-- `paint::decide` meets its contract: the rows in document 01's order, the first three and the last two by their own functions.
+use mathlib.Core.Path.{_≡_, refl, sym, _∙_}
+use mathlib.Core.Bool.{true}
+use native.Mathlib.Omega.{arith}
+use borrow.Author.Tests.{not-true, not-false}
+use Rattle.keys.specs.Key.{validKey}
+use Rattle.edit.proofs.Decided.{refuses, decided-as}
+use Rattle.edit.proofs.EditCallTables.{FirstPassed, first-passed, passed-settings, passed-used}
+use Rattle.edit.proofs.PaintTable.{paint-early, bad-key, bad-feature, room-decides, passed-paintable}
+use borrow.Author.Needs.{needs}
+use Rattle.edit.proofs.paint.decide.Statement.{statement}
+use Rattle.edit.proofs.paint.decide.Tie as tie
+
+-- the start, from the first refusal
+abbrev start : tie.After-first-refusal → tie.Start
+start c = c .before .before .before .before .before
+
+-- 1, 4 and 5 are passed
+passed : (c : tie.Else1)
+    → (let a = start (c .before) .args in
+    FirstPassed (a .m) (a .s) (a .keys .now) (a .bits .now) (a .n) (a .log-keys .now) (a .log-values .now) (a .used))
+passed c = first-passed _ (c .before .first-refusal .ensures) (c .if1 .left)
+
+-- the key is valid
+valid : (c : tie.Else2) → (let a = start (c .before .before .before) .args in validKey (a .m) (a .key) ≡ true)
+valid c = sym (c .before .is-valid .ensures) ∙ not-false _ (c .if2 .left)
+
+first-refusal-requires : tie.Need-first-refusal-requires
+first-refusal-requires c κs = search needs
+
+returns : tie.Need-returns
+returns c = refuses _ _ _ _ (paint-early _ _ _ _ _ _ _ _ _ _ _ (c .before .first-refusal .ensures) (c .if1 .taken)) (c .if1 .taken)
+
+is-valid-requires : tie.Need-is-valid-requires
+is-valid-requires c κs = passed-settings (passed c) .deep
+
+returns-2 : tie.Need-returns-2
+returns-2 c = refuses _ _ 8 _ (bad-key _ _ _ _ _ _ _ _ _ _ (passed (c .before .before)) (sym (c .before .is-valid .ensures) ∙ not-true _ (c .if2 .taken))) (λ e. omega arith)
+
+returns-3 : tie.Need-returns-3
+returns-3 c = let d = c .before in refuses _ _ 7 _ (bad-feature _ _ _ _ _ _ _ _ _ _ (passed (d .before .before)) (valid d) (c .if3 .taken)) (λ e. omega arith)
+
+decide-room-requires : tie.Need-decide-room-requires
+decide-room-requires c κs =
+    let d = c .before in
+    let p = passed (d .before .before) in
+    (passed-paintable _ _ _ _ _ _ _ _ _ _ p (valid d) (c .if3 .left), passed-used p)
+
+returns-4 : tie.Need-returns-4
+returns-4 c =
+    let e = c .before in
+    let d = e .before in
+    decided-as _ _ _ _ (c .decide-room .ensures) _ (room-decides _ _ _ _ _ _ _ _ _ _ (passed (d .before .before)) (valid d) (e .if3 .left) _ refl)
+
+pub decide-spec : {M : Type 1} → statement M
+decide-spec =
+    tie.close
+    (tie.spec
+    first-refusal-requires
+    returns
+    is-valid-requires
+    returns-2
+    returns-3
+    decide-room-requires
+    returns-4)

@@ -1,0 +1,124 @@
+-- `paint::decide_room` meets its contract: each way out answers what the table's last two rows say there.
+use Prim.Native.Nat.{_+_, _≤_}
+use mathlib.Core.Path.{_≡_, refl, sym, ap, _∙_}
+use native.Mathlib.Omega.{arith}
+use lib.ListN.{length}
+use Rattle.definitions.specs.Read.{room, recordsOf}
+use Rattle.definitions.specs.Standing.{partLength}
+use Rattle.definitions.specs.Log.{closingPlaces}
+use Rattle.definitions.specs.Calls.Paint.{painted, gained}
+use Rattle.list.proofs.Own.{own-sorted}
+use Rattle.edit.specs.PaintCall.{paintPlan}
+use Rattle.edit.proofs.Decided.{refuses, grants}
+use Rattle.edit.proofs.ContentLength.{part-among, part-there, gained-size}
+use Rattle.edit.proofs.Planned.{old-there, few-levels, length-told}
+use Rattle.edit.proofs.PaintPlan.{paint-found, paint-planned, entry-found}
+use Rattle.edit.proofs.PaintTable.{log-full, list-full, room-enough}
+use borrow.Author.Needs.{needs}
+use Rattle.edit.proofs.paint.decide_room.Statement.{statement}
+use Rattle.edit.proofs.paint.decide_room.Tie as tie
+
+-- the start, from the content's length
+abbrev start : tie.After-content-length → tie.Start
+start c = c .before .before .before .before .before
+
+-- the content's length
+count-is : (c : tie.After-content-length)
+    → (let a = start c .args in c .content-length .result ≡ partLength (a .m) (a .key) (recordsOf (a .keys .now) (a .bits .now) (a .n)))
+count-is c = let a = start c .pre .0 in c .content-length .ensures ∙ part-among (a .own) _ (a .valid)
+
+-- the places that the entry takes
+places-is : (c : tie.After-places)
+    → (let a = start (c .before) .args in
+    c .places .result ≡ partLength (a .m) (a .key) (recordsOf (a .keys .now) (a .bits .now) (a .n)) + closingPlaces)
+places-is c = c .places .ensures ∙ ap (λ x. x + closingPlaces) (count-is (c .before))
+
+-- the places used with it
+logged-is : (c : tie.After-places)
+    → (let a = start (c .before) .args in a .used + c .places .result ≡ a .used + length (gained (a .m) (recordsOf (a .keys .now) (a .bits .now) (a .n)) (a .key)))
+logged-is c =
+    let s = start (c .before) in
+    ap (λ x. s .args .used + x) (places-is c ∙ sym (gained-size (s .pre .0 .own) _ (s .pre .0 .valid)))
+
+-- there is room for them
+log-fits : (c : tie.Else2) → (let d = c .before .before in let a = start (d .before) .args in a .used + d .places .result ≤ room (a .log-keys .now) (a .log-values .now))
+log-fits c = omega (arith, c .before .if1 .left, c .if2 .left)
+
+-- the plan
+plan-is : (c : tie.After-plan-of)
+    → (let a = start (c .before .before .before .before .before) .args in
+    c .plan-of .result ≡ paintPlan (a .m) (recordsOf (a .keys .now) (a .bits .now) (a .n)) (a .key) (a .feature))
+plan-is c = paint-found _ _ _ _ _ _ (c .before .power-of-two .ensures) (c .plan-of .ensures)
+
+-- the length afterwards
+after-is : (c : tie.After-length-after)
+    → (let a = start (c .before .before .before .before .before .before) .args in
+    c .length-after .result ≡ length (painted (a .m) (recordsOf (a .keys .now) (a .bits .now) (a .n)) (a .key) (a .feature)))
+after-is c =
+    let s = start (c .before .before .before .before .before .before) in
+    c .length-after .ensures ∙ length-told (paint-planned (s .pre .0) (plan-is (c .before))) 1 refl
+
+content-length-requires : tie.Need-content-length-requires
+content-length-requires c κs =
+    let s = c .before .before .before .before in
+    ((s .pre .0 .deepest, s .pre .0 .valid), own-sorted (s .pre .0 .own) (s .args .key))
+
+places-requires : tie.Need-places-requires
+places-requires c κs =
+    let s = start c in
+    omega (arith, count-is c, part-there (s .pre .0 .own) _ (s .pre .0 .valid), s .pre .0 .own .fits, s .good)
+
+add-logged : tie.Need-add-logged
+add-logged c =
+    let s = start (c .before) in
+    omega (arith, places-is c, part-there (s .pre .0 .own) _ (s .pre .0 .valid), s .pre .1, s .pre .0 .own .fits, s .good)
+
+returns : tie.Need-returns
+returns c = refuses _ _ 10 _ (log-full _ _ _ _ _ _ _ _ _ _ (logged-is (c .before)) (omega arith)) (λ e. omega arith)
+
+returns-2 : tie.Need-returns-2
+returns-2 c = refuses _ _ 10 _ (log-full _ _ _ _ _ _ _ _ _ _ (logged-is (c .before .before)) (omega arith)) (λ e. omega arith)
+
+power-of-two-requires : tie.Need-power-of-two-requires
+power-of-two-requires c κs = search needs
+
+plan-of-requires : tie.Need-plan-of-requires
+plan-of-requires c κs = search needs
+
+length-after-requires : tie.Need-length-after-requires
+length-after-requires c κs =
+    let s = start (c .before .before .before .before .before) in
+    let planned = paint-planned (s .pre .0) (plan-is c) in
+    (old-there planned, few-levels planned, omega (arith, s .pre .0 .own .fits, s .good))
+
+returns-3 : tie.Need-returns-3
+returns-3 c =
+    let d = c .before .before .before .before in
+    refuses _ _ 9 _ (list-full _ _ _ _ _ _ _ _ _ _ (logged-is (d .before .before)) _ (after-is (c .before)) (log-fits d) (omega arith)) (λ e. omega arith)
+
+returns-4 : tie.Need-returns-4
+returns-4 c =
+    let d = c .before .before .before .before .before in
+    refuses _ _ 9 _ (list-full _ _ _ _ _ _ _ _ _ _ (logged-is (d .before .before)) _ (after-is (c .before .before)) (log-fits d) (omega arith)) (λ e. omega arith)
+
+returns-5 : tie.Need-returns-5
+returns-5 c =
+    let d = c .before .before .before .before .before in
+    grants _ _ _ _ _ (room-enough _ _ _ _ _ _ _ _ _ _ (logged-is (d .before .before)) _ (after-is (c .before .before)) (log-fits d) (omega arith))
+    (entry-found _ _ _ _ _ (count-is (d .before .before .before))) (plan-is (c .before .before .before))
+
+pub decide-room-spec : {M : Type 1} → statement M
+decide-room-spec =
+    tie.close
+    (tie.spec
+    content-length-requires
+    places-requires
+    add-logged
+    returns
+    returns-2
+    power-of-two-requires
+    plan-of-requires
+    length-after-requires
+    returns-3
+    returns-4
+    returns-5)

@@ -1,0 +1,102 @@
+-- `paint::paint` meets its contract: a refusal leaves all as it is; else the entry is logged while the list still has the former content, and then the block is filled.
+use mathlib.Core.Path.{_≡_}
+use Rattle.definitions.specs.Read.{recordsOf}
+use Rattle.definitions.specs.Calls.Paint.{paintRefusal}
+use Rattle.edit.specs.PaintCall.{newEntry, paintPlan}
+use Rattle.edit.proofs.Decided.{refused, granted}
+use Rattle.edit.proofs.PaintTable.{PaintPassed, paint-passed, paint-paintable, paint-fresh}
+use Rattle.edit.proofs.PaintAnswers.{paint-refused, paint-done}
+use borrow.Author.Needs.{needs}
+use Rattle.edit.proofs.paint.paint.Statement.{statement}
+use Rattle.edit.proofs.paint.paint.Tie as tie
+
+-- the start, from the decision
+abbrev start : tie.After-decide → tie.Start
+start c = c .before .before .before .before .before .before .before .before .before
+
+-- nothing refuses it, and it goes by its entry and its plan
+goes : (c : tie.After-known-told2)
+    → (let a = start (c .before .before .before) .args in
+    (paintRefusal (a .m) (a .s) (a .keys .now) (a .bits .now) (a .n) (a .log-keys .now) (a .log-values .now) (a .used) (a .key) (a .feature) ≡ 0)
+    × (c .before .decision2 .given .0 .0 ≡ newEntry (a .m) (recordsOf (a .keys .now) (a .bits .now) (a .n)) (a .used) (a .key))
+    × (c .before .decision2 .given .0 .1 .0 ≡ paintPlan (a .m) (recordsOf (a .keys .now) (a .bits .now) (a .n)) (a .key) (a .feature)))
+goes c = granted _ _ _ _ (c .before .before .before .decide .ensures) _ _ (c .before .decision2 .given .1)
+
+-- so it has passed every row
+passed : (c : tie.After-known-told2)
+    → (let a = start (c .before .before .before) .args in
+    PaintPassed (a .m) (a .s) (a .keys .now) (a .bits .now) (a .n) (a .log-keys .now) (a .log-values .now) (a .used) (a .key) (a .feature))
+passed c = paint-passed _ _ _ _ _ _ _ _ _ _ (goes c .0)
+
+decide-requires : tie.Need-decide-requires
+decide-requires c κs = search needs
+
+enum-known-decision : tie.Need-enum-known-decision
+enum-known-decision c = search needs
+
+same-length : tie.Need-same-length
+same-length c = search needs
+
+same-length-2 : tie.Need-same-length-2
+same-length-2 c = search needs
+
+same-length-3 : tie.Need-same-length-3
+same-length-3 c = search needs
+
+same-length-4 : tie.Need-same-length-4
+same-length-4 c = search needs
+
+returns : tie.Need-returns
+returns c =
+    let told = refused _ _ _ _ (c .before .before .before .decide .ensures) _ (c .before .decision .given .1) in
+    paint-refused _ _ _ _ _ _ _ _ _ _ _ (told .0) (told .1)
+
+enum-known-decision-2 : tie.Need-enum-known-decision-2
+enum-known-decision-2 c = search needs
+
+log-content-requires : tie.Need-log-content-requires
+log-content-requires c κs = let d = c .before .before .before .before in paint-fresh _ (goes d .1) (passed d)
+
+fill-requires : tie.Need-fill-requires
+fill-requires c κs =
+    let d = c .before .before .before .before .before .before .before .before .before .before .before in
+    let p = passed d in
+    (paint-paintable p, (goes d .2, p .list-fits))
+
+same-length-5 : tie.Need-same-length-5
+same-length-5 c = search needs
+
+same-length-6 : tie.Need-same-length-6
+same-length-6 c = search needs
+
+same-length-7 : tie.Need-same-length-7
+same-length-7 c = search needs
+
+same-length-8 : tie.Need-same-length-8
+same-length-8 c = search needs
+
+returns-2 : tie.Need-returns-2
+returns-2 c =
+    let logged = c .before .before .before .before .before .before .before .before .before .before .before in
+    let d = logged .before .before .before .before .before in
+    paint-done _ _ _ _ _ _ _ _ _ _ _ (goes d .0) (goes d .1) (logged .log-content .ensures) (c .before .before .before .before .fill .ensures)
+
+pub paint-spec : {M : Type 1} → statement M
+paint-spec =
+    tie.close
+    (tie.spec
+    decide-requires
+    enum-known-decision
+    same-length
+    same-length-2
+    same-length-3
+    same-length-4
+    returns
+    enum-known-decision-2
+    log-content-requires
+    fill-requires
+    same-length-5
+    same-length-6
+    same-length-7
+    same-length-8
+    returns-2)

@@ -1,0 +1,173 @@
+// Paint (document 01). It is decided before anything is written, 10 and 9 on the end result.
+ghost use mathlib.Core.Path.{_≡_};
+ghost use Prim.Native.Nat.{_≤_};
+ghost use lib.ListN.{length};
+ghost use Rattle.definitions.specs.Read.{room, recordsOf};
+ghost use Rattle.definitions.specs.Calls.Paint.{painted, paintRefusal};
+ghost use Rattle.put.specs.Putting.{Replaced};
+ghost use Rattle.edit.specs.EditCallChecks.{decided};
+ghost use Rattle.edit.specs.PaintCall.{roomRefusal, Paintable, newEntry, paintPlan, Painted};
+use crate::decision;
+use crate::decision::Decision;
+use crate::logging;
+use definitions::Edited;
+use keys::Key;
+use keys::power;
+use log::entry;
+use log::entry::Entry;
+use put::plan;
+use put::plan::Plan;
+use put::putting;
+
+// 10 and 9: the log has room for the entry, and the list for what it becomes.
+fn decide_room(
+    m: u32,
+    keys: &[u32],
+    bits: &[u32],
+    n: usize,
+    log_keys: &[u32],
+    log_values: &[u32],
+    used: usize,
+    key: u32,
+    feature: u32,
+) -> Decision
+    requires { ⌜ (Paintable m (now keys) (now bits) n key feature) × (used ≤ room (now «log_keys») (now «log_values»)) ⌝ }
+    ensures { λ r. ⌜ r ≡ decided (roomRefusal m (recordsOf (now (keys .entry)) (now (bits .entry)) n) (now (keys .entry)) (now (bits .entry))
+        (now («log_keys» .entry)) (now («log_values» .entry)) used key feature)
+        (newEntry m (recordsOf (now (keys .entry)) (now (bits .entry)) n) used key)
+        (paintPlan m (recordsOf (now (keys .entry)) (now (bits .entry)) n) key feature) ⌝ }
+{
+    let count = logging::content_length(m, keys, n, key);
+    let logged = used + entry::places(count);
+    if log_keys.len() < logged {
+        return Decision::Refused(10);
+    }
+    if log_values.len() < logged {
+        return Decision::Refused(10);
+    }
+    let found = plan::plan_of(m, keys, bits, n, key, true, power::power_of_two(feature));
+    let after = plan::length_after(n, 1, found);
+    if keys.len() < after {
+        return Decision::Refused(9);
+    }
+    if bits.len() < after {
+        return Decision::Refused(9);
+    }
+    let new = Entry {
+        key,
+        start: used,
+        count,
+    };
+    Decision::Granted(new, found)
+}
+
+// The first refusal of a paint that applies, or the entry that it logs and its plan.
+fn decide(
+    m: u32,
+    s: u32,
+    keys: &[u32],
+    bits: &[u32],
+    n: usize,
+    log_keys: &[u32],
+    log_values: &[u32],
+    used: usize,
+    key: u32,
+    feature: u32,
+) -> Decision
+    ensures { λ r. ⌜ r ≡ decided
+        (paintRefusal m s (now (keys .entry)) (now (bits .entry)) n (now («log_keys» .entry)) (now («log_values» .entry)) used key feature)
+        (newEntry m (recordsOf (now (keys .entry)) (now (bits .entry)) n) used key)
+        (paintPlan m (recordsOf (now (keys .entry)) (now (bits .entry)) n) key feature) ⌝ }
+{
+    let early = decision::first_refusal(m, s, keys, bits, n, log_keys, log_values, used);
+    if early != 0 {
+        return Decision::Refused(early);
+    }
+    let block = Key { number: key };
+    if !block.is_valid(m) {
+        return Decision::Refused(8);
+    }
+    if s <= feature {
+        return Decision::Refused(7);
+    }
+    decide_room(m, keys, bits, n, log_keys, log_values, used, key, feature)
+}
+
+// The block gets the feature: a content of one record is put into it. Gives the number of records afterwards.
+fn fill(
+    m: u32,
+    keys: &mut [u32],
+    bits: &mut [u32],
+    n: usize,
+    key: u32,
+    feature: u32,
+    found: Plan,
+) -> usize
+    requires { ⌜ Paintable m (now keys) (now bits) n key feature ⌝ }
+    requires { ⌜ found ≡ paintPlan m (recordsOf (now keys) (now bits) n) key feature ⌝ }
+    requires { ⌜ length (painted m (recordsOf (now keys) (now bits) n) key feature) ≤ room (now keys) (now bits) ⌝ }
+    ensures { λ r. ⌜ Replaced n (painted m (recordsOf (now (keys .entry)) (now (bits .entry)) n) key feature)
+        (now (keys .entry)) (now (bits .entry)) (now (keys .exit)) (now (bits .exit)) r ⌝ }
+{
+    let content_keys = [key];
+    let content_bits = [power::power_of_two(feature)];
+    putting::put(
+        m,
+        keys,
+        bits,
+        n,
+        key,
+        found,
+        &content_keys,
+        &content_bits,
+        1,
+    )
+}
+
+// Every pixel of one block gets the feature, and the log gains an entry with the block's former content.
+pub fn paint(
+    m: u32,
+    s: u32,
+    keys: &mut [u32],
+    bits: &mut [u32],
+    n: usize,
+    log_keys: &mut [u32],
+    log_values: &mut [u32],
+    used: usize,
+    key: u32,
+    feature: u32,
+) -> Edited
+    ensures { λ r. ⌜ Painted m s (now (keys .entry)) (now (bits .entry)) n (now («log_keys» .entry)) (now («log_values» .entry)) used key feature
+        r (now (keys .exit)) (now (bits .exit)) (now («log_keys» .exit)) (now («log_values» .exit)) ⌝ }
+{
+    let decision = decide(
+        m,
+        s,
+        keys,
+        bits,
+        n,
+        log_keys,
+        log_values,
+        used,
+        key,
+        feature,
+    );
+    match decision {
+        Decision::Refused(refusal) => {
+            return Edited {
+                refusal,
+                n: 0,
+                used: 0,
+            };
+        }
+        Decision::Granted(new, found) => {
+            let logged = logging::log_content(m, keys, bits, n, new, log_keys, log_values);
+            let after = fill(m, keys, bits, n, key, feature, found);
+            return Edited {
+                refusal: 0,
+                n: after as u64,
+                used: logged as u64,
+            };
+        }
+    }
+}

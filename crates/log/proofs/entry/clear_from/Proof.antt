@@ -1,0 +1,27 @@
+-- `entry::clear_from` meets its contract: both slices are cleared.
+use borrow.Author.Needs.{needs}
+use Rattle.log.proofs.Written.{both-cleared}
+use Rattle.log.proofs.entry.clear_from.Statement.{statement}
+use Rattle.log.proofs.entry.clear_from.Tie as tie
+
+clear-requires : tie.Need-clear-requires
+clear-requires c κs = search needs
+
+clear-requires-2 : tie.Need-clear-requires-2
+clear-requires-2 c κs = search needs
+
+same-length : tie.Need-same-length
+same-length c = search needs
+
+same-length-2 : tie.Need-same-length-2
+same-length-2 c = search needs
+
+returns : tie.Need-returns
+returns c =
+    let cleared = c .before .before .before .before .before .before in
+    let start = cleared .before .before .before .before in
+    both-cleared (start .pre .0) (start .pre .1) (cleared .clear .ensures) (c .before .before .clear2 .ensures)
+
+pub clear-from-spec : {M : Type 1} → statement M
+clear-from-spec =
+    tie.close (tie.spec clear-requires clear-requires-2 same-length same-length-2 returns)
