@@ -13,6 +13,8 @@ enum { M = 10, S = 16, EDGE = 1 << M, PIXELS = EDGE * EDGE, MOST = HLQ_MOST_RECO
 static uint8_t raster[PIXELS], back[PIXELS], *file;
 static uint32_t keys[MOST], bits[MOST], other_keys[MOST], other_bits[MOST], answer[PIXELS], log_keys[2 * MOST],
     log_values[2 * MOST];
+enum { PLACES = HLQ_SUMMARY_PLACES(M, S) };
+static uint32_t summary[PLACES], other_summary[PLACES];
 static volatile uint64_t sink;
 static uint64_t state = 88172645463325252u;
 
@@ -61,12 +63,13 @@ static void fill(int kind) {
 static int times_for(size_t n) { return n < 1000 ? 1000 : 1; }
 
 static void lists(const char *kind) {
-    size_t n = hlq_build(M, S, raster, PIXELS, keys, MOST, bits, MOST).count;
+    size_t n = hlq_build(M, S, raster, PIXELS, keys, MOST, bits, MOST, summary, PLACES).count;
     printf("\n%s raster, m = %d, n = %zu records\n", kind, M, n);
-    COMPARE("build", 7, 1, sink += hlq_build(M, S, raster, PIXELS, keys, MOST, bits, MOST).count,
-            sink += plain_build(M, S, raster, other_keys, other_bits, MOST));
-    COMPARE("build into exactly its room", 7, 1, sink += hlq_build(M, S, raster, PIXELS, keys, n, bits, n).count,
-            sink += plain_build(M, S, raster, other_keys, other_bits, n));
+    COMPARE("build", 7, 1, sink += hlq_build(M, S, raster, PIXELS, keys, MOST, bits, MOST, summary, PLACES).count,
+            sink += plain_survey(M, S, raster, other_keys, other_bits, MOST, other_summary));
+    COMPARE("build into exactly its room", 7, 1,
+            sink += hlq_build(M, S, raster, PIXELS, keys, n, bits, n, summary, PLACES).count,
+            sink += plain_survey(M, S, raster, other_keys, other_bits, n, other_summary));
     COMPARE("standing (the list check)", 7, times_for(n),
             sink += hlq_standing(M, S, keys, MOST, bits, MOST, n, 1234).place,
             sink += (uint64_t)plain_is_list(M, S, keys, bits, n) + plain_place(keys, n, 1234));
@@ -123,11 +126,9 @@ static void windows(const char *kind, size_t n, uint32_t missing) {
             sink += plain_scan(M, raster, 301, 277, 512, 512));
 }
 
-static uint32_t summary[HLQ_SUMMARY_PLACES(M, S)], other_summary[HLQ_SUMMARY_PLACES(M, S)];
-
 /* Areas of windows of side 8, 128 and 1024 (in a corner where the side allows no other). */
 static void areas(const char *kind, size_t n) {
-    size_t places = HLQ_SUMMARY_PLACES(M, S);
+    size_t places = PLACES;
     int times = times_for(n);
     printf("\nareas at m = %d on the %s raster, n = %zu, each call with its checks of list and summary\n", M, kind, n);
     COMPARE("fill summary", 9, times,
@@ -244,12 +245,12 @@ int main(void) {
         lists(kinds[kind]);
     }
     fill(0);
-    size_t n = hlq_build(M, S, raster, PIXELS, keys, MOST, bits, MOST).count;
+    size_t n = hlq_build(M, S, raster, PIXELS, keys, MOST, bits, MOST, summary, PLACES).count;
     windows(kinds[0], n, S - 1);
     areas(kinds[0], n);
     findings(n);
     fill(1);
-    n = hlq_build(M, S, raster, PIXELS, keys, MOST, bits, MOST).count;
+    n = hlq_build(M, S, raster, PIXELS, keys, MOST, bits, MOST, summary, PLACES).count;
     windows(kinds[1], n, S - 1);
     areas(kinds[1], n);
     edits(n);

@@ -354,6 +354,13 @@ void plain_fill_summary(uint32_t m, uint32_t s, const uint32_t *keys, const uint
     }
 }
 
+size_t plain_survey(uint32_t m, uint32_t s, const uint8_t *raster, uint32_t *keys, uint32_t *bits, size_t room,
+                    uint32_t *summary) {
+    size_t n = plain_build(m, s, raster, keys, bits, room);
+    plain_fill_summary(m, s, keys, bits, n, summary);
+    return n;
+}
+
 int plain_is_summary(uint32_t m, uint32_t s, const uint32_t *keys, const uint32_t *bits, size_t n,
                      const uint32_t *summary) {
     uint32_t level = summary_level(m), pixels = 1u << 2 * (m - level);

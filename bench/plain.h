@@ -8,6 +8,9 @@
 uint32_t plain_key_at(uint32_t m, uint32_t row, uint32_t column, uint32_t level);
 hlq_block plain_block_of(uint32_t m, uint32_t key);
 size_t plain_build(uint32_t m, uint32_t s, const uint8_t *raster, uint32_t *keys, uint32_t *bits, size_t room);
+/* Build with the summary of the list. */
+size_t plain_survey(uint32_t m, uint32_t s, const uint8_t *raster, uint32_t *keys, uint32_t *bits, size_t room,
+                    uint32_t *summary);
 int plain_is_list(uint32_t m, uint32_t s, const uint32_t *keys, const uint32_t *bits, size_t n);
 void plain_raster(uint32_t m, const uint32_t *bits, uint8_t *raster);
 size_t plain_place(const uint32_t *keys, size_t n, uint32_t key);

@@ -5,9 +5,9 @@
 
 #include <stdio.h>
 
-enum { M = 2, S = 3, ROOM = HLQ_MOST_RECORDS(M), LOG = 8 };
+enum { M = 2, S = 3, ROOM = HLQ_MOST_RECORDS(M), LOG = 8, PLACES = HLQ_SUMMARY_PLACES(M, S) };
 
-static uint32_t keys[ROOM], bits[ROOM], log_keys[LOG], log_values[LOG];
+static uint32_t keys[ROOM], bits[ROOM], log_keys[LOG], log_values[LOG], summary[PLACES];
 static size_t n, used;
 
 static const hlq_rule rules[] = { { 7, 0, 0, 4, 4, 2 } }; /* no scrub (2) anywhere */
@@ -39,7 +39,7 @@ int main(void) {
                                       0, 0, 1, 2,
                                       2, 2, 0, 0,
                                       2, 2, 2, 0 };
-    n = hlq_build(M, S, survey, sizeof survey, keys, ROOM, bits, ROOM).count;
+    n = hlq_build(M, S, survey, sizeof survey, keys, ROOM, bits, ROOM, summary, PLACES).count;
     place_of_old = (uint32_t)hlq_standing(M, S, keys, ROOM, bits, ROOM, n, waived_block[0]).place;
     tell("the survey, block 30 waived");
     paint(2 * 5 + 4, 1);

@@ -7,6 +7,7 @@
 #include <string.h>
 
 enum { M = 4, EDGE = 1 << M, PIXELS = EDGE * EDGE, RECORDS = HLQ_MOST_RECORDS(M), LOG = 256, CLASSES = 4 };
+enum { PLACES = HLQ_SUMMARY_PLACES(M, CLASSES), METRES = 4 }; /* a pixel is 2 by 2 metres */
 enum { BALLAST, DRAIN, SCRUB, PATH };
 
 /* A header of another interface, or a sheet too large for it, stops the compiler and not the crew. */
@@ -16,8 +17,8 @@ _Static_assert(M <= HLQ_DEEPEST_M && CLASSES <= HLQ_MOST_SLOTS, "the sheet is wi
 static const char signs[CLASSES + 1] = ".~#=";
 static const char *const words[CLASSES] = { "ballast", "drain", "scrub", "path" };
 
-/* The list, and the log of paints that can be taken back. */
-static uint32_t keys[RECORDS], bits[RECORDS], log_keys[LOG], log_values[LOG];
+/* The list with its summary, and the log of paints that can be taken back. */
+static uint32_t keys[RECORDS], bits[RECORDS], summary[PLACES], log_keys[LOG], log_values[LOG];
 static size_t n, used;
 
 static int refused(const char *what, uint64_t refusal) {
@@ -55,6 +56,18 @@ static void print_sheet(void) {
     }
 }
 
+/* The square metres of each class in a window. */
+static void print_areas(const char *where, uint32_t row, uint32_t column, uint32_t height, uint32_t width) {
+    printf("%s:", where);
+    for (uint32_t c = 0; c < CLASSES; c++) {
+        hlq_measured a = hlq_area(M, CLASSES, keys, RECORDS, bits, RECORDS, n, summary, PLACES,
+                                  row, column, height, width, c);
+        if (refused("area", a.refusal)) return;
+        printf(" %s %llu", words[c], (unsigned long long)a.pixels * METRES);
+    }
+    printf("\n");
+}
+
 /* Two sighting windows in which there must be no scrub. */
 static const hlq_rule rules[] = {
     { 10, 0, 4, 8, 8, SCRUB },
@@ -83,7 +96,7 @@ static int paint(uint32_t key, uint32_t class) {
 int main(void) {
     uint8_t raster[PIXELS], file[HLQ_FILE_BYTES(RECORDS)];
     if (!read_sheet(raster)) { printf("no sheet of %d by %d known signs\n", EDGE, EDGE); return 1; }
-    hlq_counted built = hlq_build(M, CLASSES, raster, PIXELS, keys, RECORDS, bits, RECORDS);
+    hlq_counted built = hlq_build(M, CLASSES, raster, PIXELS, keys, RECORDS, bits, RECORDS, summary, PLACES);
     if (refused("build", built.refusal)) return 1;
     n = built.count;
     printf("the sheet has %zu records\n", n);
@@ -93,7 +106,10 @@ int main(void) {
     hlq_reported seen = hlq_report(M, CLASSES, keys, RECORDS, bits, RECORDS, n, 8, 0, 8, 16);
     printf("the southern half has:");
     for (int c = 0; c < CLASSES; c++) if (seen.bits >> c & 1) printf(" %s", words[c]);
-    printf("\n\nfindings, nothing waived: ");
+    printf("\nsquare metres\n");
+    print_areas("  of the sheet", 0, 0, EDGE, EDGE);
+    print_areas("  of the crew's window", 0, 4, 8, 8);
+    printf("\nfindings, nothing waived: ");
     uint32_t waiver_ids[1] = { 0 }, waiver_keys[1] = { 0 }, blocks[FINDINGS];
     print_findings(waiver_ids, waiver_keys, 0);
 

@@ -22,7 +22,8 @@
  *
  * A summary is a slice of HLQ_SUMMARY_PLACES(m, s) numbers beside a list: for each block of level 2
  * (level m if m is smaller), in key order, how many of its pixels have feature 0, feature 1, up to
- * feature s - 1. Place b * s + f counts feature f in block b. hlq_fill_summary makes it.
+ * feature s - 1. Place b * s + f counts feature f in block b. hlq_build makes it, and
+ * hlq_fill_summary does so for a list that was loaded.
  *
  * A log is two slices, log_keys and log_values, of which the first `used` places are in use. Start
  * with used = 0.
@@ -148,11 +149,14 @@ hlq_counted hlq_key_at(uint32_t m, uint32_t row, uint32_t column, uint32_t level
 hlq_block hlq_block_of(uint32_t m, uint32_t key);
 
 /* BUILD. The list of a raster is written to places 0 to count - 1 of keys and bits; all other
- * places stay. count is the number of records, at most HLQ_MOST_RECORDS(m).
- * Refusals: HLQ_SETTINGS, HLQ_RASTER_LENGTH, HLQ_PIXEL, HLQ_LIST_ROOM, in this order. */
+ * places stay. Its summary is written to every place of summary. count is the number of records, at
+ * most HLQ_MOST_RECORDS(m).
+ * Refusals: HLQ_SETTINGS, HLQ_RASTER_LENGTH, HLQ_PIXEL, HLQ_SUMMARY (the length alone),
+ * HLQ_LIST_ROOM, in this order. */
 hlq_counted hlq_build(uint32_t m, uint32_t s,
                       const uint8_t *raster, size_t raster_len,
-                      uint32_t *keys, size_t keys_len, uint32_t *bits, size_t bits_len);
+                      uint32_t *keys, size_t keys_len, uint32_t *bits, size_t bits_len,
+                      uint32_t *summary, size_t summary_len);
 
 /* RASTER FROM LIST. Every byte of raster is written.
  * Refusals: HLQ_SETTINGS, HLQ_LIST, HLQ_RASTER_LENGTH, in this order. */

@@ -194,8 +194,8 @@ hlq_block ref_block_of(uint32_t m, uint32_t key) {
     return (hlq_block){ 0, row, column, side, level };
 }
 
-hlq_counted ref_build(uint32_t m, uint32_t s, const uint8_t *raster, size_t raster_len, uint32_t *keys, size_t keys_len,
-                      uint32_t *bits, size_t bits_len) {
+hlq_counted ref_list(uint32_t m, uint32_t s, const uint8_t *raster, size_t raster_len, uint32_t *keys, size_t keys_len,
+                     uint32_t *bits, size_t bits_len) {
     if (settings_are_bad(m, s)) return (hlq_counted){ 1, 0 };
     if (raster_len != pixels_of(m)) return (hlq_counted){ 2, 0 };
     for (size_t i = 0; i < raster_len; i++)
@@ -378,13 +378,28 @@ static int is_summary(uint32_t m, uint32_t s, const uint8_t *raster, const uint3
     return 1;
 }
 
+void ref_summary(uint32_t m, uint32_t s, const uint8_t *raster, uint32_t *summary) {
+    for (size_t i = 0; i < summary_places(m, s); i++) summary[i] = summary_place(m, s, raster, i);
+}
+
+/* 18 comes before 9, and after all that the raster decides. */
+hlq_counted ref_build(uint32_t m, uint32_t s, const uint8_t *raster, size_t raster_len, uint32_t *keys, size_t keys_len,
+                      uint32_t *bits, size_t bits_len, uint32_t *summary, size_t summary_len) {
+    hlq_counted none = ref_list(m, s, raster, raster_len, keys, 0, bits, 0);
+    if (none.refusal != 9) return none;
+    if (summary_len != summary_places(m, s)) return (hlq_counted){ 18, 0 };
+    hlq_counted answer = ref_list(m, s, raster, raster_len, keys, keys_len, bits, bits_len);
+    if (answer.refusal == 0) ref_summary(m, s, raster, summary);
+    return answer;
+}
+
 hlq_done ref_fill_summary(uint32_t m, uint32_t s, const uint32_t *keys, size_t keys_len, const uint32_t *bits,
                           size_t bits_len, size_t n, uint32_t *summary, size_t summary_len) {
     if (settings_are_bad(m, s)) return (hlq_done){ 1 };
     uint8_t *shown = raster_of(m, s, keys, keys_len, bits, bits_len, n);
     if (!shown) return (hlq_done){ 4 };
     hlq_done answer = { summary_len == summary_places(m, s) ? 0 : 18 };
-    for (size_t i = 0; answer.refusal == 0 && i < summary_len; i++) summary[i] = summary_place(m, s, shown, i);
+    if (answer.refusal == 0) ref_summary(m, s, shown, summary);
     free(shown);
     return answer;
 }

@@ -15,7 +15,12 @@ hlq_counted ref_key_at(uint32_t m, uint32_t row, uint32_t column, uint32_t level
 hlq_block ref_block_of(uint32_t m, uint32_t key);
 hlq_counted ref_build(uint32_t m, uint32_t s,
                       const uint8_t *raster, size_t raster_len,
-                      uint32_t *keys, size_t keys_len, uint32_t *bits, size_t bits_len);
+                      uint32_t *keys, size_t keys_len, uint32_t *bits, size_t bits_len,
+                      uint32_t *summary, size_t summary_len);
+/* The list alone, and the summary of a raster, for tests that need one. */
+hlq_counted ref_list(uint32_t m, uint32_t s, const uint8_t *raster, size_t raster_len, uint32_t *keys, size_t keys_len,
+                     uint32_t *bits, size_t bits_len);
+void ref_summary(uint32_t m, uint32_t s, const uint8_t *raster, uint32_t *summary);
 hlq_done ref_raster(uint32_t m, uint32_t s,
                     const uint32_t *keys, size_t keys_len, const uint32_t *bits, size_t bits_len,
                     size_t n, uint8_t *raster, size_t raster_len);

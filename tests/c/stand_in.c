@@ -8,6 +8,8 @@
 #define LIST keys, keys_len, bits, bits_len
 #define TAKE_LOG uint32_t *log_keys, size_t log_keys_len, uint32_t *log_values, size_t log_values_len
 #define LOG log_keys, log_keys_len, log_values, log_values_len
+#define TAKE_SUMMARY uint32_t *summary, size_t summary_len
+#define SUMMARY summary, summary_len
 #define TAKE_WINDOW uint32_t row, uint32_t column, uint32_t height, uint32_t width
 #define WINDOW row, column, height, width
 
@@ -17,8 +19,8 @@ hlq_counted hlq_key_at(uint32_t m, uint32_t row, uint32_t column, uint32_t level
 
 hlq_block hlq_block_of(uint32_t m, uint32_t key) { return ref_block_of(m, key); }
 
-hlq_counted hlq_build(uint32_t m, uint32_t s, const uint8_t *raster, size_t raster_len, TAKE_LIST) {
-    return ref_build(m, s, raster, raster_len, LIST);
+hlq_counted hlq_build(uint32_t m, uint32_t s, const uint8_t *raster, size_t raster_len, TAKE_LIST, TAKE_SUMMARY) {
+    return ref_build(m, s, raster, raster_len, LIST, SUMMARY);
 }
 
 hlq_done hlq_raster(uint32_t m, uint32_t s, TAKE_CONST_LIST, size_t n, uint8_t *raster, size_t raster_len) {

@@ -94,7 +94,7 @@ map random_map(uint32_t m) {
     map a = { m, 1 + below(HLQ_MOST_SLOTS), 0, room_for(4 * most), room_for(4 * most) };
     uint8_t *raster = room_for(pixels);
     fill_raster(raster, m, a.s, below(5));
-    a.n = ref_build(m, a.s, raster, pixels, a.keys, most, a.bits, most).count;
+    a.n = ref_list(m, a.s, raster, pixels, a.keys, most, a.bits, most).count;
     free(raster);
     return a;
 }

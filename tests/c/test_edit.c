@@ -61,7 +61,7 @@ static uint64_t take_back(survey *a) {
 static survey new_survey(uint32_t m, uint32_t s, uint8_t *raster, size_t room, size_t log_room) {
     size_t pixels = (size_t)1 << 2 * m;
     survey a = { m, s, lend(room, 4), lend(room + below(3), 4), lend(log_room + below(3), 4), lend(log_room, 4), 0, 0 };
-    hlq_counted c = ref_build(m, s, raster, pixels, start(a.keys), a.keys.len, start(a.bits), a.bits.len);
+    hlq_counted c = ref_list(m, s, raster, pixels, start(a.keys), a.keys.len, start(a.bits), a.bits.len);
     a.n = c.count;
     return a;
 }
@@ -73,7 +73,7 @@ static void history(uint32_t m, uint32_t steps, uint32_t kind, uint32_t tight) {
     uint8_t *first = room_for(pixels);
     fill_raster(first, m, s, kind);
     lent keys = lend(most, 4), bits = lend(most, 4);
-    size_t n = ref_build(m, s, first, pixels, start(keys), most, start(bits), most).count;
+    size_t n = ref_list(m, s, first, pixels, start(keys), most, start(bits), most).count;
     give_back(keys), give_back(bits);
     survey a = new_survey(m, s, first, tight ? n + below(2 * m + 6) : most, tight ? 2 + below(40) : 4 * most + 64);
     uint8_t **held = room_for(sizeof *held * (steps + 1));
@@ -109,7 +109,7 @@ static void history(uint32_t m, uint32_t steps, uint32_t kind, uint32_t tight) {
         /* record for record what a fresh build gives */
         lent fresh_keys = copy_of(a.keys), fresh_bits = copy_of(a.bits);
         hlq_counted fresh =
-            ref_build(m, s, now, pixels, start(fresh_keys), fresh_keys.len, start(fresh_bits), fresh_bits.len);
+            ref_list(m, s, now, pixels, start(fresh_keys), fresh_keys.len, start(fresh_bits), fresh_bits.len);
         must(fresh.refusal == 0 && fresh.count == a.n, "the list has as many records as a fresh build");
         same_buffers("keys of a fresh build", a.keys, fresh_keys);
         same_buffers("bits of a fresh build", a.bits, fresh_bits);
@@ -128,7 +128,7 @@ static void other_logs(uint32_t m) {
     uint8_t *raster = room_for(pixels);
     fill_raster(raster, m, s, below(3));
     lent keys = lend(most, 4), bits = lend(most, 4);
-    size_t n = ref_build(m, s, raster, pixels, start(keys), most, start(bits), most).count;
+    size_t n = ref_list(m, s, raster, pixels, start(keys), most, start(bits), most).count;
     give_back(keys), give_back(bits);
     survey a = new_survey(m, s, raster, n + below(3), other.n + 1 + below(12));
     uint32_t *log_keys = start(a.log_keys), *log_values = start(a.log_values);

@@ -47,29 +47,33 @@ static void macros_meet_calls(uint32_t m) {
     size_t pixels = (size_t)1 << 2 * m;
     for (size_t i = 0; i < pixels; i++) raster[i] = (uint8_t)((i ^ i >> m) & 1);
     size_t most = HLQ_MOST_RECORDS(m);
-    must(hlq_build(m, 2, raster, pixels, keys, most - 1, bits, most).refusal == HLQ_LIST_ROOM, "a place too few");
-    hlq_counted built = hlq_build(m, 2, raster, pixels, keys, most, bits, most);
+    size_t places = HLQ_SUMMARY_PLACES(m, 2);
+    hlq_counted built = hlq_build(m, 2, raster, pixels, keys, most - 1, bits, most, summary, places);
+    must(built.refusal == HLQ_LIST_ROOM, "a place too few");
+    built = hlq_build(m, 2, raster, pixels, keys, most, bits, most, summary, places + 1);
+    must(built.refusal == HLQ_SUMMARY, "a summary's length is exact");
+    built = hlq_build(m, 2, raster, pixels, keys, most, bits, most, summary, places);
     must(built.refusal == HLQ_ACCEPTED && built.count == most, "HLQ_MOST_RECORDS holds the largest list");
     hlq_counted stored = hlq_store(m, 2, keys, most, bits, most, most, file, HLQ_FILE_BYTES(most) - 1);
     must(stored.refusal == HLQ_ANSWER_ROOM && stored.count == HLQ_FILE_BYTES(most), "a byte too few");
     stored = hlq_store(m, 2, keys, most, bits, most, most, file, HLQ_FILE_BYTES(most));
     must(stored.refusal == HLQ_ACCEPTED && stored.count == HLQ_FILE_BYTES(most), "HLQ_FILE_BYTES holds the file");
     must(hlq_standing(m, 2, keys, most, bits, most, most, 0).kind == HLQ_LISTED, "the root is listed");
-    size_t places = HLQ_SUMMARY_PLACES(m, 2);
     must(hlq_fill_summary(m, 2, keys, most, bits, most, most, summary, places).refusal == HLQ_ACCEPTED,
          "HLQ_SUMMARY_PLACES is the summary's length");
-    must(hlq_fill_summary(m, 2, keys, most, bits, most, most, summary, places + 1).refusal == HLQ_SUMMARY,
-         "a summary's length is exact");
 }
 
 static void limits(void) {
+    enum { M = HLQ_DEEPEST_M, S = HLQ_MOST_SLOTS, PLACES = HLQ_SUMMARY_PLACES(M, S) };
     memset(raster, 0, sizeof raster);
-    hlq_counted deepest = hlq_build(HLQ_DEEPEST_M, HLQ_MOST_SLOTS, raster, sizeof raster, keys, MOST, bits, MOST);
+    hlq_counted deepest = hlq_build(M, S, raster, sizeof raster, keys, MOST, bits, MOST, summary, PLACES);
     must(deepest.refusal == HLQ_ACCEPTED && deepest.count == 1, "both limits are accepted");
-    must(hlq_standing(HLQ_DEEPEST_M, HLQ_MOST_SLOTS, keys, MOST, bits, MOST, 1, 1).refusal == HLQ_KEY, "no key");
+    must(hlq_standing(M, S, keys, MOST, bits, MOST, 1, 1).refusal == HLQ_KEY, "no key");
     must(hlq_standing(1, 1, keys, MOST, bits, MOST, 1, 1).kind == HLQ_INSIDE, "a quarter of a leaf is inside it");
-    must(hlq_build(HLQ_DEEPEST_M + 1, 1, raster, sizeof raster, keys, MOST, bits, MOST).refusal == HLQ_SETTINGS, "m");
-    must(hlq_build(0, HLQ_MOST_SLOTS + 1, raster, 1, keys, MOST, bits, MOST).refusal == HLQ_SETTINGS, "s");
+    hlq_counted bad = hlq_build(M + 1, 1, raster, sizeof raster, keys, MOST, bits, MOST, summary, 16);
+    must(bad.refusal == HLQ_SETTINGS, "m");
+    bad = hlq_build(0, S + 1, raster, 1, keys, MOST, bits, MOST, summary, S + 1);
+    must(bad.refusal == HLQ_SETTINGS, "s");
 }
 
 static void words(void) {

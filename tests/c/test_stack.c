@@ -35,7 +35,7 @@ static uint64_t refusal;
 static void call_key_at(void) { refusal = hlq_key_at(M, row, column, M).refusal; }
 static void call_block_of(void) { refusal = hlq_block_of(M, key).refusal; }
 static void call_build(void) {
-    hlq_counted built = hlq_build(M, S, raster, PIXELS, keys, MOST, bits, MOST);
+    hlq_counted built = hlq_build(M, S, raster, PIXELS, keys, MOST, bits, MOST, summary, PLACES);
     refusal = built.refusal, n = built.count;
 }
 static void call_raster(void) { refusal = hlq_raster(M, S, keys, MOST, bits, MOST, n, back, PIXELS).refusal; }
