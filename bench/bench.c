@@ -156,35 +156,36 @@ static void edits(size_t n) {
     size_t used = 0, plain_used = 0, plain_n = n;
     uint32_t key =
         2 * 1953125 + 3 * 390625 + 1 * 78125 + 4 * 15625 + 2 * 3125 + 2 * 625 + 3 * 125; /* 2314223000: 8 by 8 pixels */
+    memcpy(other_summary, summary, sizeof summary);
     memcpy(other_keys, keys, sizeof keys), memcpy(other_bits, bits, sizeof bits);
     static uint32_t plain_log_keys[2 * MOST], plain_log_values[2 * MOST];
-    printf("\nedits at m = %d, n = %zu, each with its checks of list and log\n", M, n);
+    printf("\nedits at m = %d, n = %zu, each with its checks of list, summary and log\n", M, n);
     uint32_t feature = 5;
     COMPARE(
         "paint", 6, 1,
         {
-            hlq_edited e = hlq_paint(M, S, keys, MOST, bits, MOST, n, log_keys, 2 * MOST, log_values, 2 * MOST, used,
-                                     key, feature);
+            hlq_edited e = hlq_paint(M, S, keys, MOST, bits, MOST, n, summary, PLACES, log_keys, 2 * MOST, log_values,
+                                     2 * MOST, used, key, feature);
             n = e.n;
             used = e.used;
         },
         {
-            plain_n = plain_paint(M, S, other_keys, other_bits, plain_n, plain_log_keys, plain_log_values, &plain_used,
-                                  key, feature);
+            plain_n = plain_paint(M, S, other_keys, other_bits, plain_n, other_summary, plain_log_keys,
+                                  plain_log_values, &plain_used, key, feature);
             feature ^= 1;
         });
     COMPARE(
         "take back", 6, 1,
         {
-            hlq_edited e =
-                hlq_take_back(M, S, keys, MOST, bits, MOST, n, log_keys, 2 * MOST, log_values, 2 * MOST, used);
+            hlq_edited e = hlq_take_back(M, S, keys, MOST, bits, MOST, n, summary, PLACES, log_keys, 2 * MOST,
+                                         log_values, 2 * MOST, used);
             n = e.n;
             used = e.used;
         },
-        plain_n =
-            plain_take_back(M, S, other_keys, other_bits, plain_n, plain_log_keys, plain_log_values, &plain_used));
+        plain_n = plain_take_back(M, S, other_keys, other_bits, plain_n, other_summary, plain_log_keys,
+                                  plain_log_values, &plain_used));
     if (n != plain_n || used != plain_used || memcmp(keys, other_keys, 4 * n) != 0 ||
-        memcmp(bits, other_bits, 4 * n) != 0)
+        memcmp(bits, other_bits, 4 * n) != 0 || memcmp(summary, other_summary, sizeof summary) != 0)
         printf("THE TWO DIFFER\n");
 }
 

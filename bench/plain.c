@@ -521,9 +521,22 @@ static size_t put(uint32_t m, uint32_t *keys, uint32_t *bits, size_t n, uint32_t
     return now;
 }
 
-size_t plain_paint(uint32_t m, uint32_t s, uint32_t *keys, uint32_t *bits, size_t n, uint32_t *log_keys,
-                   uint32_t *log_values, size_t *used, uint32_t key, uint32_t feature) {
-    if (!plain_is_list(m, s, keys, bits, n) || !plain_log_is_sound(m, s, log_keys, log_values, *used)) return 0;
+/* The summary's blocks that a block touches are counted anew: the one around it, or all below it. */
+static void renew_summary(uint32_t m, uint32_t s, const uint32_t *keys, const uint32_t *bits, size_t n,
+                          uint32_t *summary, uint32_t key) {
+    uint32_t level = summary_level(m), own = power(5, m - level), step = step_of(m, key);
+    for (uint32_t block = 0; block < 1u << 2 * level; block++) {
+        uint32_t at = summary_key(m, block), counts[32] = { 0 };
+        if (at + own <= key || key + step <= at) continue;
+        count_leaves(bits, plain_place(keys, n, at), 1u << 2 * (m - level), counts);
+        memcpy(summary + (size_t)block * s, counts, 4 * s);
+    }
+}
+
+size_t plain_paint(uint32_t m, uint32_t s, uint32_t *keys, uint32_t *bits, size_t n, uint32_t *summary,
+                   uint32_t *log_keys, uint32_t *log_values, size_t *used, uint32_t key, uint32_t feature) {
+    if (!plain_is_list(m, s, keys, bits, n) || !plain_is_summary(m, s, keys, bits, n, summary)) return 0;
+    if (!plain_log_is_sound(m, s, log_keys, log_values, *used)) return 0;
     size_t at = plain_place(keys, n, key), count = 1;
     uint32_t step = step_of(m, key), leaf = 1u << feature;
     if (keys[at] == key) {
@@ -533,14 +546,19 @@ size_t plain_paint(uint32_t m, uint32_t s, uint32_t *keys, uint32_t *bits, size_
         log_keys[*used] = key, log_values[*used] = bits[at];
     log_keys[*used + count] = key, log_values[*used + count] = (uint32_t)count;
     *used += count + 1;
-    return put(m, keys, bits, n, key, &key, &leaf, 1);
+    n = put(m, keys, bits, n, key, &key, &leaf, 1);
+    renew_summary(m, s, keys, bits, n, summary, key);
+    return n;
 }
 
-size_t plain_take_back(uint32_t m, uint32_t s, uint32_t *keys, uint32_t *bits, size_t n, uint32_t *log_keys,
-                       uint32_t *log_values, size_t *used) {
-    if (!plain_is_list(m, s, keys, bits, n) || !plain_log_is_sound(m, s, log_keys, log_values, *used)) return 0;
+size_t plain_take_back(uint32_t m, uint32_t s, uint32_t *keys, uint32_t *bits, size_t n, uint32_t *summary,
+                       uint32_t *log_keys, uint32_t *log_values, size_t *used) {
+    if (!plain_is_list(m, s, keys, bits, n) || !plain_is_summary(m, s, keys, bits, n, summary)) return 0;
+    if (!plain_log_is_sound(m, s, log_keys, log_values, *used)) return 0;
     size_t count = log_values[*used - 1], from = *used - 1 - count;
-    n = put(m, keys, bits, n, log_keys[*used - 1], log_keys + from, log_values + from, count);
+    uint32_t key = log_keys[*used - 1];
+    n = put(m, keys, bits, n, key, log_keys + from, log_values + from, count);
+    renew_summary(m, s, keys, bits, n, summary, key);
     for (size_t i = from; i < *used; i++) log_keys[i] = log_values[i] = 0;
     *used = from;
     return n;

@@ -33,10 +33,10 @@ uint32_t plain_area(uint32_t m, uint32_t s, const uint32_t *keys, const uint32_t
                     const uint32_t *summary, uint32_t row, uint32_t column, uint32_t height, uint32_t width,
                     uint32_t feature);
 /* Paint and take back with one memmove of each slice; they give the new n, and the used count through the pointer. */
-size_t plain_paint(uint32_t m, uint32_t s, uint32_t *keys, uint32_t *bits, size_t n, uint32_t *log_keys,
-                   uint32_t *log_values, size_t *used, uint32_t key, uint32_t feature);
-size_t plain_take_back(uint32_t m, uint32_t s, uint32_t *keys, uint32_t *bits, size_t n, uint32_t *log_keys,
-                       uint32_t *log_values, size_t *used);
+size_t plain_paint(uint32_t m, uint32_t s, uint32_t *keys, uint32_t *bits, size_t n, uint32_t *summary,
+                   uint32_t *log_keys, uint32_t *log_values, size_t *used, uint32_t key, uint32_t feature);
+size_t plain_take_back(uint32_t m, uint32_t s, uint32_t *keys, uint32_t *bits, size_t n, uint32_t *summary,
+                       uint32_t *log_keys, uint32_t *log_values, size_t *used);
 /* Live findings and, through the pointer, the hidden ones; waivers are merged in order. */
 size_t plain_findings(uint32_t m, const uint32_t *keys, const uint32_t *bits, size_t n, const hlq_rule *rules,
                       size_t rules_len, const uint32_t *waiver_ids, const uint32_t *waiver_keys, size_t waivers,

@@ -29,7 +29,8 @@ static void tell(const char *when) {
 }
 
 static void paint(uint32_t key, uint32_t feature) {
-    hlq_edited e = hlq_paint(M, S, keys, ROOM, bits, ROOM, n, log_keys, LOG, log_values, LOG, used, key, feature);
+    hlq_edited e = hlq_paint(M, S, keys, ROOM, bits, ROOM, n, summary, PLACES, log_keys, LOG, log_values, LOG, used,
+                             key, feature);
     if (e.refusal) printf("refused: %s\n", hlq_refusal_text(e.refusal));
     else n = e.n, used = e.used;
 }
@@ -44,7 +45,8 @@ int main(void) {
     tell("the survey, block 30 waived");
     paint(2 * 5 + 4, 1);
     tell("block 24 cleared, and five records become one");
-    hlq_edited e = hlq_take_back(M, S, keys, ROOM, bits, ROOM, n, log_keys, LOG, log_values, LOG, used);
+    hlq_edited e = hlq_take_back(M, S, keys, ROOM, bits, ROOM, n, summary, PLACES, log_keys, LOG, log_values, LOG,
+                                 used);
     n = e.n, used = e.used;
     tell("that was a mistake, and is taken back");
     return 0;

@@ -85,8 +85,8 @@ static void print_findings(const uint32_t *waiver_ids, const uint32_t *waiver_ke
 }
 
 static int paint(uint32_t key, uint32_t class) {
-    hlq_edited e = hlq_paint(M, CLASSES, keys, RECORDS, bits, RECORDS, n, log_keys, LOG, log_values, LOG, used,
-                             key, class);
+    hlq_edited e = hlq_paint(M, CLASSES, keys, RECORDS, bits, RECORDS, n, summary, PLACES,
+                             log_keys, LOG, log_values, LOG, used, key, class);
     if (refused("paint", e.refusal)) return 0;
     n = e.n, used = e.used;
     printf("painted block %s with %s: %zu records\n", name_of(key), words[class], n);
@@ -124,11 +124,15 @@ int main(void) {
     printf("\n");
     picked = hlq_select(M, CLASSES, keys, RECORDS, bits, RECORDS, n, 0, 0, 8, 16, SCRUB, blocks, FINDINGS);
     for (size_t i = 0; i < picked.count; i++) if (!paint(blocks[i], BALLAST)) return 1;
+    printf("square metres after it\n");
+    print_areas("  of the sheet", 0, 0, EDGE, EDGE);
+    print_areas("  of the crew's window", 0, 4, 8, 8);
     printf("\nfindings after the clearing: ");
     print_findings(waiver_ids, waiver_keys, 1);
 
     /* one block too many: taken back */
-    hlq_edited e = hlq_take_back(M, CLASSES, keys, RECORDS, bits, RECORDS, n, log_keys, LOG, log_values, LOG, used);
+    hlq_edited e = hlq_take_back(M, CLASSES, keys, RECORDS, bits, RECORDS, n, summary, PLACES,
+                                 log_keys, LOG, log_values, LOG, used);
     if (refused("take back", e.refusal)) return 1;
     n = e.n, used = e.used;
     printf("\nthe last paint taken back: %zu records\n", n);
@@ -144,7 +148,8 @@ int main(void) {
     printf("\n%llu bytes stored, %llu records loaded, %s\n", (unsigned long long)stored.count,
            (unsigned long long)loaded.n, same ? "the same list" : "ANOTHER LIST");
     used = hlq_empty();
-    e = hlq_take_back(M, CLASSES, keys, RECORDS, bits, RECORDS, n, log_keys, LOG, log_values, LOG, used);
+    e = hlq_take_back(M, CLASSES, keys, RECORDS, bits, RECORDS, n, summary, PLACES,
+                                 log_keys, LOG, log_values, LOG, used);
     printf("the log is emptied; taking back now gives: %s\n", hlq_refusal_text(e.refusal));
     return 0;
 }

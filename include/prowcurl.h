@@ -22,8 +22,8 @@
  *
  * A summary is a slice of HLQ_SUMMARY_PLACES(m, s) numbers beside a list: for each block of level 2
  * (level m if m is smaller), in key order, how many of its pixels have feature 0, feature 1, up to
- * feature s - 1. Place b * s + f counts feature f in block b. hlq_build makes it, and
- * hlq_fill_summary does so for a list that was loaded.
+ * feature s - 1. Place b * s + f counts feature f in block b. hlq_build makes it,
+ * hlq_fill_summary does so for a list that was loaded, and edits keep it right.
  *
  * A log is two slices, log_keys and log_values, of which the first `used` places are in use. Start
  * with used = 0.
@@ -218,21 +218,26 @@ hlq_measured hlq_area(uint32_t m, uint32_t s,
 /* PAINT. Every pixel of the block gets the feature. The list becomes the list of the new raster, in
  * its places 0 to n - 1 (n of the result); places that it gives up become zero, others stay. The
  * log gains an entry, with which hlq_take_back undoes the paint; log places past it stay. A paint
- * that changes no pixel is logged too.
- * Refusals: HLQ_SETTINGS, HLQ_LIST, HLQ_LOG, HLQ_KEY, HLQ_FEATURE, HLQ_LOG_ROOM, HLQ_LIST_ROOM, in
- * this order, all on the end result, before the first write. */
+ * that changes no pixel is logged too. The summary must be the list's, and becomes that of the new
+ * raster.
+ * Refusals: HLQ_SETTINGS, HLQ_LIST, HLQ_SUMMARY, HLQ_LOG, HLQ_KEY, HLQ_FEATURE, HLQ_LOG_ROOM,
+ * HLQ_LIST_ROOM, in this order, all on the end result, before the first write. */
 hlq_edited hlq_paint(uint32_t m, uint32_t s,
                      uint32_t *keys, size_t keys_len, uint32_t *bits, size_t bits_len, size_t n,
+                     uint32_t *summary, size_t summary_len,
                      uint32_t *log_keys, size_t log_keys_len,
                      uint32_t *log_values, size_t log_values_len, size_t used,
                      uint32_t key, uint32_t feature);
 
 /* TAKE BACK. The latest paint still in the log is undone: its block gets its former content, and
- * its entry is removed and its places zeroed.
- * Refusals: HLQ_SETTINGS, HLQ_LIST, HLQ_LOG, HLQ_LOG_EMPTY, HLQ_LIST_ROOM, in this order.
+ * its entry is removed and its places zeroed. The summary must be the list's, and becomes that of
+ * the new raster.
+ * Refusals: HLQ_SETTINGS, HLQ_LIST, HLQ_SUMMARY, HLQ_LOG, HLQ_LOG_EMPTY, HLQ_LIST_ROOM, in this
+ * order.
  * HLQ_LIST_ROOM comes only with a log from another map. */
 hlq_edited hlq_take_back(uint32_t m, uint32_t s,
                          uint32_t *keys, size_t keys_len, uint32_t *bits, size_t bits_len, size_t n,
+                         uint32_t *summary, size_t summary_len,
                          uint32_t *log_keys, size_t log_keys_len,
                          uint32_t *log_values, size_t log_values_len, size_t used);
 

@@ -451,14 +451,15 @@ static uint64_t relist(uint32_t m, const uint8_t *raster, uint32_t *keys, size_t
 }
 
 hlq_edited ref_paint(uint32_t m, uint32_t s, uint32_t *keys, size_t keys_len, uint32_t *bits, size_t bits_len, size_t n,
-                     uint32_t *log_keys, size_t log_keys_len, uint32_t *log_values, size_t log_values_len, size_t used,
-                     uint32_t key, uint32_t feature) {
+                     uint32_t *summary, size_t summary_len, uint32_t *log_keys, size_t log_keys_len,
+                     uint32_t *log_values, size_t log_values_len, size_t used, uint32_t key, uint32_t feature) {
     size_t log_room = shorter(log_keys_len, log_values_len);
     if (settings_are_bad(m, s)) return (hlq_edited){ 1, 0, 0 };
     uint8_t *raster = raster_of(m, s, keys, keys_len, bits, bits_len, n);
     if (!raster) return (hlq_edited){ 4, 0, 0 };
     hlq_edited answer = { 0, 0, 0 };
-    if (used > log_room || !log_is_sound(m, s, log_keys, log_values, used)) answer.refusal = 5;
+    if (!is_summary(m, s, raster, summary, summary_len)) answer.refusal = 18;
+    else if (used > log_room || !log_is_sound(m, s, log_keys, log_values, used)) answer.refusal = 5;
     else if (!ref_key_is_valid(m, key)) answer.refusal = 8;
     else if (feature >= s) answer.refusal = 7;
     else {
@@ -475,6 +476,7 @@ hlq_edited ref_paint(uint32_t m, uint32_t s, uint32_t *keys, size_t keys_len, ui
             memcpy(log_values + used, content.bits, content.n * sizeof *log_values);
             log_keys[used + content.n] = key;
             log_values[used + content.n] = (uint32_t)content.n;
+            ref_summary(m, s, raster, summary);
             answer = (hlq_edited){ 0, now, used + content.n + 1 };
         }
         free_records(&content);
@@ -484,13 +486,14 @@ hlq_edited ref_paint(uint32_t m, uint32_t s, uint32_t *keys, size_t keys_len, ui
 }
 
 hlq_edited ref_take_back(uint32_t m, uint32_t s, uint32_t *keys, size_t keys_len, uint32_t *bits, size_t bits_len,
-                         size_t n, uint32_t *log_keys, size_t log_keys_len, uint32_t *log_values, size_t log_values_len,
-                         size_t used) {
+                         size_t n, uint32_t *summary, size_t summary_len, uint32_t *log_keys, size_t log_keys_len,
+                         uint32_t *log_values, size_t log_values_len, size_t used) {
     if (settings_are_bad(m, s)) return (hlq_edited){ 1, 0, 0 };
     uint8_t *raster = raster_of(m, s, keys, keys_len, bits, bits_len, n);
     if (!raster) return (hlq_edited){ 4, 0, 0 };
     hlq_edited answer = { 0, 0, 0 };
-    if (used > shorter(log_keys_len, log_values_len) || !log_is_sound(m, s, log_keys, log_values, used))
+    if (!is_summary(m, s, raster, summary, summary_len)) answer.refusal = 18;
+    else if (used > shorter(log_keys_len, log_values_len) || !log_is_sound(m, s, log_keys, log_values, used))
         answer.refusal = 5;
     else if (used == 0) answer.refusal = 11;
     else {
@@ -500,6 +503,7 @@ hlq_edited ref_take_back(uint32_t m, uint32_t s, uint32_t *keys, size_t keys_len
         answer.refusal = relist(m, raster, keys, keys_len, bits, bits_len, n, &now);
         if (answer.refusal == 0) {
             for (size_t i = start; i < used; i++) log_keys[i] = log_values[i] = 0;
+            ref_summary(m, s, raster, summary);
             answer = (hlq_edited){ 0, now, start };
         }
     }

@@ -57,13 +57,13 @@ hlq_measured hlq_area(uint32_t m, uint32_t s, TAKE_CONST_LIST, size_t n, const u
     return ref_area(m, s, LIST, n, summary, summary_len, WINDOW, feature);
 }
 
-hlq_edited hlq_paint(uint32_t m, uint32_t s, TAKE_LIST, size_t n, TAKE_LOG, size_t used,
+hlq_edited hlq_paint(uint32_t m, uint32_t s, TAKE_LIST, size_t n, TAKE_SUMMARY, TAKE_LOG, size_t used,
                      uint32_t key, uint32_t feature) {
-    return ref_paint(m, s, LIST, n, LOG, used, key, feature);
+    return ref_paint(m, s, LIST, n, SUMMARY, LOG, used, key, feature);
 }
 
-hlq_edited hlq_take_back(uint32_t m, uint32_t s, TAKE_LIST, size_t n, TAKE_LOG, size_t used) {
-    return ref_take_back(m, s, LIST, n, LOG, used);
+hlq_edited hlq_take_back(uint32_t m, uint32_t s, TAKE_LIST, size_t n, TAKE_SUMMARY, TAKE_LOG, size_t used) {
+    return ref_take_back(m, s, LIST, n, SUMMARY, LOG, used);
 }
 
 hlq_found hlq_findings(uint32_t m, uint32_t s, TAKE_CONST_LIST, size_t n, const hlq_rule *rules, size_t rules_len,

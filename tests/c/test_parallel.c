@@ -41,10 +41,14 @@ static void *work(void *of) {
     for (size_t i = 0; i < PIXELS; i++) w->raster[i] = (uint8_t)(draw(w, 9) ? 0 : draw(w, S));
     size_t n = hlq_build(M, S, w->raster, PIXELS, w->keys, ROOM, w->bits, ROOM, w->summary, PLACES).count, used = 0;
     for (int i = 0; i < STEPS; i++) {
-        hlq_edited e = draw(w, 3) ? hlq_paint(M, S, w->keys, ROOM, w->bits, ROOM, n, w->log_keys, LOG, w->log_values,
-                                              LOG, used, draw_key(w), draw(w, S))
-                                  : hlq_take_back(M, S, w->keys, ROOM, w->bits, ROOM, n, w->log_keys, LOG,
-                                                  w->log_values, LOG, used);
+        hlq_edited e;
+        if (draw(w, 3)) {
+            uint32_t key = draw_key(w), feature = draw(w, S);
+            e = hlq_paint(M, S, w->keys, ROOM, w->bits, ROOM, n, w->summary, PLACES, w->log_keys, LOG, w->log_values, LOG,
+                          used, key, feature);
+        } else
+            e = hlq_take_back(M, S, w->keys, ROOM, w->bits, ROOM, n, w->summary, PLACES, w->log_keys, LOG,
+                              w->log_values, LOG, used);
         if (e.refusal == HLQ_ACCEPTED) n = e.n, used = e.used;
         uint32_t height = 1 + draw(w, EDGE), width = 1 + draw(w, EDGE), row = draw(w, EDGE - height + 1);
         uint32_t column = draw(w, EDGE - width + 1), feature = draw(w, S);

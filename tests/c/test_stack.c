@@ -57,11 +57,13 @@ static void call_area(void) {
     refusal = hlq_area(M, S, keys, MOST, bits, MOST, n, summary, PLACES, row, column, height, width, feature).refusal;
 }
 static void call_paint(void) {
-    hlq_edited e = hlq_paint(M, S, keys, MOST, bits, MOST, n, log_keys, LOG, log_values, LOG, used, key, feature);
+    hlq_edited e = hlq_paint(M, S, keys, MOST, bits, MOST, n, summary, PLACES, log_keys, LOG, log_values, LOG, used,
+                             key, feature);
     refusal = e.refusal, n = e.n, used = e.used;
 }
 static void call_take_back(void) {
-    hlq_edited e = hlq_take_back(M, S, keys, MOST, bits, MOST, n, log_keys, LOG, log_values, LOG, used);
+    hlq_edited e = hlq_take_back(M, S, keys, MOST, bits, MOST, n, summary, PLACES, log_keys, LOG, log_values, LOG,
+                                 used);
     refusal = e.refusal, n = e.n, used = e.used;
 }
 static void call_empty(void) { refusal = hlq_empty(); }
