@@ -44,8 +44,8 @@ static void *work(void *of) {
         hlq_edited e;
         if (draw(w, 3)) {
             uint32_t key = draw_key(w), feature = draw(w, S);
-            e = hlq_paint(M, S, w->keys, ROOM, w->bits, ROOM, n, w->summary, PLACES, w->log_keys, LOG, w->log_values, LOG,
-                          used, key, feature);
+            e = hlq_paint(M, S, w->keys, ROOM, w->bits, ROOM, n, w->summary, PLACES, w->log_keys, LOG, w->log_values,
+                          LOG, used, key, feature);
         } else
             e = hlq_take_back(M, S, w->keys, ROOM, w->bits, ROOM, n, w->summary, PLACES, w->log_keys, LOG,
                               w->log_values, LOG, used);
