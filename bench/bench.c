@@ -13,6 +13,8 @@ enum { M = 10, S = 16, EDGE = 1 << M, PIXELS = EDGE * EDGE, MOST = HLQ_MOST_RECO
 static uint8_t raster[PIXELS], back[PIXELS], *file;
 static uint32_t keys[MOST], bits[MOST], other_keys[MOST], other_bits[MOST], answer[PIXELS], log_keys[2 * MOST],
     log_values[2 * MOST];
+enum { PLACES = HLQ_SUMMARY_PLACES(M, S) };
+static uint32_t summary[PLACES], other_summary[PLACES];
 static volatile uint64_t sink;
 static uint64_t state = 88172645463325252u;
 
@@ -61,12 +63,13 @@ static void fill(int kind) {
 static int times_for(size_t n) { return n < 1000 ? 1000 : 1; }
 
 static void lists(const char *kind) {
-    size_t n = hlq_build(M, S, raster, PIXELS, keys, MOST, bits, MOST).count;
+    size_t n = hlq_build(M, S, raster, PIXELS, keys, MOST, bits, MOST, summary, PLACES).count;
     printf("\n%s raster, m = %d, n = %zu records\n", kind, M, n);
-    COMPARE("build", 7, 1, sink += hlq_build(M, S, raster, PIXELS, keys, MOST, bits, MOST).count,
-            sink += plain_build(M, S, raster, other_keys, other_bits, MOST));
-    COMPARE("build into exactly its room", 7, 1, sink += hlq_build(M, S, raster, PIXELS, keys, n, bits, n).count,
-            sink += plain_build(M, S, raster, other_keys, other_bits, n));
+    COMPARE("build", 7, 1, sink += hlq_build(M, S, raster, PIXELS, keys, MOST, bits, MOST, summary, PLACES).count,
+            sink += plain_survey(M, S, raster, other_keys, other_bits, MOST, other_summary));
+    COMPARE("build into exactly its room", 7, 1,
+            sink += hlq_build(M, S, raster, PIXELS, keys, n, bits, n, summary, PLACES).count,
+            sink += plain_survey(M, S, raster, other_keys, other_bits, n, other_summary));
     COMPARE("standing (the list check)", 7, times_for(n),
             sink += hlq_standing(M, S, keys, MOST, bits, MOST, n, 1234).place,
             sink += (uint64_t)plain_is_list(M, S, keys, bits, n) + plain_place(keys, n, 1234));
@@ -123,39 +126,66 @@ static void windows(const char *kind, size_t n, uint32_t missing) {
             sink += plain_scan(M, raster, 301, 277, 512, 512));
 }
 
+/* Areas of windows of side 8, 128 and 1024 (in a corner where the side allows no other). */
+static void areas(const char *kind, size_t n) {
+    size_t places = PLACES;
+    int times = times_for(n);
+    printf("\nareas at m = %d on the %s raster, n = %zu, each call with its checks of list and summary\n", M, kind, n);
+    COMPARE("fill summary", 9, times,
+            sink += hlq_fill_summary(M, S, keys, MOST, bits, MOST, n, summary, places).refusal, {
+                sink += (uint64_t)plain_is_list(M, S, keys, bits, n);
+                plain_fill_summary(M, S, keys, bits, n, other_summary);
+            });
+    if (memcmp(summary, other_summary, sizeof summary) != 0) printf("THE TWO DIFFER\n");
+    for (uint32_t w = 8; w <= EDGE; w *= w == 8 ? 16 : 8) {
+        uint32_t row = w == EDGE ? 0 : 301, column = w == EDGE ? 0 : 277;
+        uint64_t a = 0, b = 0;
+        char name[48];
+        snprintf(name, sizeof name, "area, window of side %u", w);
+        COMPARE(name, 9, times,
+                a = hlq_area(M, S, keys, MOST, bits, MOST, n, summary, places, row, column, w, w, 3).pixels, {
+                    sink += (uint64_t)plain_is_list(M, S, keys, bits, n);
+                    sink += (uint64_t)plain_is_summary(M, S, keys, bits, n, summary);
+                    b = plain_area(M, S, keys, bits, n, summary, row, column, w, w, 3);
+                });
+        if (a != b) printf("THE TWO DIFFER\n");
+    }
+}
+
 static void edits(size_t n) {
     size_t used = 0, plain_used = 0, plain_n = n;
     uint32_t key =
         2 * 1953125 + 3 * 390625 + 1 * 78125 + 4 * 15625 + 2 * 3125 + 2 * 625 + 3 * 125; /* 2314223000: 8 by 8 pixels */
+    memcpy(other_summary, summary, sizeof summary);
     memcpy(other_keys, keys, sizeof keys), memcpy(other_bits, bits, sizeof bits);
     static uint32_t plain_log_keys[2 * MOST], plain_log_values[2 * MOST];
-    printf("\nedits at m = %d, n = %zu, each with its checks of list and log\n", M, n);
+    printf("\nedits at m = %d, n = %zu, each with its checks of list, summary and log\n", M, n);
     uint32_t feature = 5;
     COMPARE(
         "paint", 6, 1,
         {
-            hlq_edited e = hlq_paint(M, S, keys, MOST, bits, MOST, n, log_keys, 2 * MOST, log_values, 2 * MOST, used,
-                                     key, feature);
+            hlq_edited e = hlq_paint(M, S, keys, MOST, bits, MOST, n, summary, PLACES, log_keys, 2 * MOST, log_values,
+                                     2 * MOST, used, key, feature);
             n = e.n;
             used = e.used;
         },
         {
-            plain_n = plain_paint(M, S, other_keys, other_bits, plain_n, plain_log_keys, plain_log_values, &plain_used,
-                                  key, feature);
+            plain_n = plain_paint(M, S, other_keys, other_bits, plain_n, other_summary, plain_log_keys,
+                                  plain_log_values, &plain_used, key, feature);
             feature ^= 1;
         });
     COMPARE(
         "take back", 6, 1,
         {
-            hlq_edited e =
-                hlq_take_back(M, S, keys, MOST, bits, MOST, n, log_keys, 2 * MOST, log_values, 2 * MOST, used);
+            hlq_edited e = hlq_take_back(M, S, keys, MOST, bits, MOST, n, summary, PLACES, log_keys, 2 * MOST,
+                                         log_values, 2 * MOST, used);
             n = e.n;
             used = e.used;
         },
-        plain_n =
-            plain_take_back(M, S, other_keys, other_bits, plain_n, plain_log_keys, plain_log_values, &plain_used));
+        plain_n = plain_take_back(M, S, other_keys, other_bits, plain_n, other_summary, plain_log_keys,
+                                  plain_log_values, &plain_used));
     if (n != plain_n || used != plain_used || memcmp(keys, other_keys, 4 * n) != 0 ||
-        memcmp(bits, other_bits, 4 * n) != 0)
+        memcmp(bits, other_bits, 4 * n) != 0 || memcmp(summary, other_summary, sizeof summary) != 0)
         printf("THE TWO DIFFER\n");
 }
 
@@ -238,13 +268,15 @@ int main(void) {
         lists(kinds[kind]);
     }
     fill(0);
-    size_t n = hlq_build(M, S, raster, PIXELS, keys, MOST, bits, MOST).count;
+    size_t n = hlq_build(M, S, raster, PIXELS, keys, MOST, bits, MOST, summary, PLACES).count;
     windows(kinds[0], n, S - 1);
+    areas(kinds[0], n);
     findings(n, 0);
     findings(n, 1);
     fill(1);
-    n = hlq_build(M, S, raster, PIXELS, keys, MOST, bits, MOST).count;
+    n = hlq_build(M, S, raster, PIXELS, keys, MOST, bits, MOST, summary, PLACES).count;
     windows(kinds[1], n, S - 1);
+    areas(kinds[1], n);
     edits(n);
     findings(n, 0);
     findings(n, 1);

@@ -321,6 +321,110 @@ size_t plain_blocks(uint32_t m, uint32_t row, uint32_t column, uint32_t height, 
     return blocks_below(&w, (spot) { 0, 0, 0, 1u << m, power(5, m) });
 }
 
+/* ---- areas: a leaf counts the pixels that it shares with the window, a node inside takes its numbers from the summary
+ */
+
+static uint32_t summary_level(uint32_t m) { return m < 2 ? m : 2; }
+
+/* The records from a place on are a block's: each leaf's pixels are added to its feature's counter. */
+static size_t count_leaves(const uint32_t *bits, size_t at, uint32_t pixels, uint32_t *counts) {
+    if (one_bit(bits[at])) {
+        counts[__builtin_ctz(bits[at])] += pixels;
+        return at + 1;
+    }
+    at++;
+    for (int d = 0; d < 4; d++) at = count_leaves(bits, at, pixels / 4, counts);
+    return at;
+}
+
+/* The key of a block of the summary by its number. */
+static uint32_t summary_key(uint32_t m, uint32_t block) {
+    uint32_t level = summary_level(m), key = 0;
+    for (uint32_t d = 0; d < level; d++) key += ((block >> 2 * d & 3) + 1) * power(5, m - level + d);
+    return key;
+}
+
+void plain_fill_summary(uint32_t m, uint32_t s, const uint32_t *keys, const uint32_t *bits, size_t n,
+                        uint32_t *summary) {
+    uint32_t level = summary_level(m), pixels = 1u << 2 * (m - level);
+    for (uint32_t block = 0; block < 1u << 2 * level; block++) {
+        uint32_t counts[32] = { 0 };
+        count_leaves(bits, plain_place(keys, n, summary_key(m, block)), pixels, counts);
+        memcpy(summary + (size_t)block * s, counts, 4 * s);
+    }
+}
+
+size_t plain_survey(uint32_t m, uint32_t s, const uint8_t *raster, uint32_t *keys, uint32_t *bits, size_t room,
+                    uint32_t *summary) {
+    size_t n = plain_build(m, s, raster, keys, bits, room);
+    plain_fill_summary(m, s, keys, bits, n, summary);
+    return n;
+}
+
+int plain_is_summary(uint32_t m, uint32_t s, const uint32_t *keys, const uint32_t *bits, size_t n,
+                     const uint32_t *summary) {
+    uint32_t level = summary_level(m), pixels = 1u << 2 * (m - level);
+    for (uint32_t block = 0; block < 1u << 2 * level; block++) {
+        uint32_t counts[32] = { 0 };
+        count_leaves(bits, plain_place(keys, n, summary_key(m, block)), pixels, counts);
+        if (memcmp(summary + (size_t)block * s, counts, 4 * s) != 0) return 0;
+    }
+    return 1;
+}
+
+typedef struct {
+    const uint32_t *keys, *bits, *summary;
+    size_t n;
+    frame w;
+    uint32_t bit, feature, s, side;
+} measuring;
+
+static uint32_t common(uint32_t a, uint32_t b, uint32_t c, uint32_t d) {
+    uint32_t from = a > c ? a : c, until = b < d ? b : d;
+    return until - from;
+}
+
+static size_t count_one(const uint32_t *bits, size_t at, uint32_t pixels, uint32_t bit, uint32_t *count) {
+    if (one_bit(bits[at])) {
+        if (bits[at] == bit) *count += pixels;
+        return at + 1;
+    }
+    at++;
+    for (int d = 0; d < 4; d++) at = count_one(bits, at, pixels / 4, bit, count);
+    return at;
+}
+
+/* block: the number of the first block of the summary in this one. */
+static uint32_t area_below(const measuring *q, spot b, size_t at, uint32_t block) {
+    uint32_t found = q->bits[at], count = 0;
+    if (!(found & q->bit)) return 0;
+    if (found == q->bit)
+        return common(b.row, b.row + b.side, q->w.row, q->w.row + q->w.height) *
+               common(b.column, b.column + b.side, q->w.column, q->w.column + q->w.width);
+    if (inside(&q->w, &b)) {
+        uint32_t blocks = b.side >= q->side ? (b.side / q->side) * (b.side / q->side) : 0;
+        for (uint32_t i = 0; i < blocks; i++) count += q->summary[(size_t)(block + i) * q->s + q->feature];
+        if (blocks == 0) count_one(q->bits, at, b.side * b.side, q->bit, &count);
+        return count;
+    }
+    uint32_t half = b.side / 2, share = half >= q->side ? (half / q->side) * (half / q->side) : 0;
+    for (uint32_t digit = 1; digit <= 4; digit++) {
+        spot c = quadrant(&b, digit);
+        if (apart(&q->w, &c)) continue;
+        at = place_from(q->keys, q->n, at, c.key);
+        count += area_below(q, c, at, block + (digit - 1) * share);
+    }
+    return count;
+}
+
+uint32_t plain_area(uint32_t m, uint32_t s, const uint32_t *keys, const uint32_t *bits, size_t n,
+                    const uint32_t *summary, uint32_t row, uint32_t column, uint32_t height, uint32_t width,
+                    uint32_t feature) {
+    frame w = { row, column, height, width };
+    measuring q = { keys, bits, summary, n, w, 1u << feature, feature, s, 1u << (m - summary_level(m)) };
+    return area_below(&q, (spot) { 0, 0, 0, 1u << m, power(5, m) }, 0, 0);
+}
+
 uint32_t plain_scan(uint32_t m, const uint8_t *raster, uint32_t row, uint32_t column, uint32_t height, uint32_t width) {
     uint32_t found = 0;
     for (uint32_t r = row; r < row + height; r++)
@@ -417,9 +521,22 @@ static size_t put(uint32_t m, uint32_t *keys, uint32_t *bits, size_t n, uint32_t
     return now;
 }
 
-size_t plain_paint(uint32_t m, uint32_t s, uint32_t *keys, uint32_t *bits, size_t n, uint32_t *log_keys,
-                   uint32_t *log_values, size_t *used, uint32_t key, uint32_t feature) {
-    if (!plain_is_list(m, s, keys, bits, n) || !plain_log_is_sound(m, s, log_keys, log_values, *used)) return 0;
+/* The summary's blocks that a block touches are counted anew: the one around it, or all below it. */
+static void renew_summary(uint32_t m, uint32_t s, const uint32_t *keys, const uint32_t *bits, size_t n,
+                          uint32_t *summary, uint32_t key) {
+    uint32_t level = summary_level(m), own = power(5, m - level), step = step_of(m, key);
+    for (uint32_t block = 0; block < 1u << 2 * level; block++) {
+        uint32_t at = summary_key(m, block), counts[32] = { 0 };
+        if (at + own <= key || key + step <= at) continue;
+        count_leaves(bits, plain_place(keys, n, at), 1u << 2 * (m - level), counts);
+        memcpy(summary + (size_t)block * s, counts, 4 * s);
+    }
+}
+
+size_t plain_paint(uint32_t m, uint32_t s, uint32_t *keys, uint32_t *bits, size_t n, uint32_t *summary,
+                   uint32_t *log_keys, uint32_t *log_values, size_t *used, uint32_t key, uint32_t feature) {
+    if (!plain_is_list(m, s, keys, bits, n) || !plain_is_summary(m, s, keys, bits, n, summary)) return 0;
+    if (!plain_log_is_sound(m, s, log_keys, log_values, *used)) return 0;
     size_t at = plain_place(keys, n, key), count = 1;
     uint32_t step = step_of(m, key), leaf = 1u << feature;
     if (keys[at] == key) {
@@ -429,14 +546,19 @@ size_t plain_paint(uint32_t m, uint32_t s, uint32_t *keys, uint32_t *bits, size_
         log_keys[*used] = key, log_values[*used] = bits[at];
     log_keys[*used + count] = key, log_values[*used + count] = (uint32_t)count;
     *used += count + 1;
-    return put(m, keys, bits, n, key, &key, &leaf, 1);
+    n = put(m, keys, bits, n, key, &key, &leaf, 1);
+    renew_summary(m, s, keys, bits, n, summary, key);
+    return n;
 }
 
-size_t plain_take_back(uint32_t m, uint32_t s, uint32_t *keys, uint32_t *bits, size_t n, uint32_t *log_keys,
-                       uint32_t *log_values, size_t *used) {
-    if (!plain_is_list(m, s, keys, bits, n) || !plain_log_is_sound(m, s, log_keys, log_values, *used)) return 0;
+size_t plain_take_back(uint32_t m, uint32_t s, uint32_t *keys, uint32_t *bits, size_t n, uint32_t *summary,
+                       uint32_t *log_keys, uint32_t *log_values, size_t *used) {
+    if (!plain_is_list(m, s, keys, bits, n) || !plain_is_summary(m, s, keys, bits, n, summary)) return 0;
+    if (!plain_log_is_sound(m, s, log_keys, log_values, *used)) return 0;
     size_t count = log_values[*used - 1], from = *used - 1 - count;
-    n = put(m, keys, bits, n, log_keys[*used - 1], log_keys + from, log_values + from, count);
+    uint32_t key = log_keys[*used - 1];
+    n = put(m, keys, bits, n, key, log_keys + from, log_values + from, count);
+    renew_summary(m, s, keys, bits, n, summary, key);
     for (size_t i = from; i < *used; i++) log_keys[i] = log_values[i] = 0;
     *used = from;
     return n;

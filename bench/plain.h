@@ -8,6 +8,9 @@
 uint32_t plain_key_at(uint32_t m, uint32_t row, uint32_t column, uint32_t level);
 hlq_block plain_block_of(uint32_t m, uint32_t key);
 size_t plain_build(uint32_t m, uint32_t s, const uint8_t *raster, uint32_t *keys, uint32_t *bits, size_t room);
+/* Build with the summary of the list. */
+size_t plain_survey(uint32_t m, uint32_t s, const uint8_t *raster, uint32_t *keys, uint32_t *bits, size_t room,
+                    uint32_t *summary);
 int plain_is_list(uint32_t m, uint32_t s, const uint32_t *keys, const uint32_t *bits, size_t n);
 void plain_raster(uint32_t m, const uint32_t *bits, uint8_t *raster);
 size_t plain_place(const uint32_t *keys, size_t n, uint32_t key);
@@ -21,11 +24,19 @@ size_t plain_select(uint32_t m, const uint32_t *keys, const uint32_t *bits, size
                     uint32_t height, uint32_t width, uint32_t feature, uint32_t *answer, size_t room, size_t *visited);
 /* How many largest blocks a window has. */
 size_t plain_blocks(uint32_t m, uint32_t row, uint32_t column, uint32_t height, uint32_t width);
+/* The summary filled and compared, and the area that takes whole blocks from it. */
+void plain_fill_summary(uint32_t m, uint32_t s, const uint32_t *keys, const uint32_t *bits, size_t n,
+                        uint32_t *summary);
+int plain_is_summary(uint32_t m, uint32_t s, const uint32_t *keys, const uint32_t *bits, size_t n,
+                     const uint32_t *summary);
+uint32_t plain_area(uint32_t m, uint32_t s, const uint32_t *keys, const uint32_t *bits, size_t n,
+                    const uint32_t *summary, uint32_t row, uint32_t column, uint32_t height, uint32_t width,
+                    uint32_t feature);
 /* Paint and take back with one memmove of each slice; they give the new n, and the used count through the pointer. */
-size_t plain_paint(uint32_t m, uint32_t s, uint32_t *keys, uint32_t *bits, size_t n, uint32_t *log_keys,
-                   uint32_t *log_values, size_t *used, uint32_t key, uint32_t feature);
-size_t plain_take_back(uint32_t m, uint32_t s, uint32_t *keys, uint32_t *bits, size_t n, uint32_t *log_keys,
-                       uint32_t *log_values, size_t *used);
+size_t plain_paint(uint32_t m, uint32_t s, uint32_t *keys, uint32_t *bits, size_t n, uint32_t *summary,
+                   uint32_t *log_keys, uint32_t *log_values, size_t *used, uint32_t key, uint32_t feature);
+size_t plain_take_back(uint32_t m, uint32_t s, uint32_t *keys, uint32_t *bits, size_t n, uint32_t *summary,
+                       uint32_t *log_keys, uint32_t *log_values, size_t *used);
 /* Live findings and, through the pointer, the hidden ones; waivers are merged in order, and their areas added up. */
 size_t plain_findings(uint32_t m, const uint32_t *keys, const uint32_t *bits, size_t n, const hlq_rule *rules,
                       size_t rules_len, const uint32_t *waiver_ids, const uint32_t *waiver_keys, size_t waivers,

@@ -7,10 +7,10 @@
 typedef unsigned long long number;
 
 int main(void) {
-    enum { M = 2, S = 3, ROOM = HLQ_MOST_RECORDS(M), LOG = 8 };
+    enum { M = 2, S = 3, ROOM = HLQ_MOST_RECORDS(M), PLACES = HLQ_SUMMARY_PLACES(M, S), LOG = 8 };
     static const uint8_t raster[16] = { 0, 0, 1, 1, 0, 0, 1, 2, 2, 2, 0, 0, 2, 2, 0, 0 };
-    uint32_t keys[ROOM], bits[ROOM], answer[16];
-    hlq_counted built = hlq_build(M, S, raster, 16, keys, ROOM, bits, ROOM);
+    uint32_t keys[ROOM], bits[ROOM], summary[PLACES], answer[16];
+    hlq_counted built = hlq_build(M, S, raster, 16, keys, ROOM, bits, ROOM, summary, PLACES);
     if (built.refusal) return puts(hlq_refusal_text(built.refusal)), 1;
     size_t n = built.count;
 
@@ -21,6 +21,8 @@ int main(void) {
     /* the window from row 0, column 1, 2 rows high and 3 columns wide */
     hlq_exists any = hlq_exist(M, S, keys, ROOM, bits, ROOM, n, 0, 1, 2, 3, 2);
     printf("feature 2 there: %s\n", any.yes ? "yes" : "no");
+    hlq_measured some = hlq_area(M, S, keys, ROOM, bits, ROOM, n, summary, PLACES, 0, 1, 2, 3, 1);
+    printf("pixels of feature 1 there: %llu\n", (number)some.pixels);
     hlq_counted found = hlq_select(M, S, keys, ROOM, bits, ROOM, n, 0, 1, 2, 3, 1, answer, 16); /* blocks 21, 22, 23 */
     printf("feature 1 there:");
     for (size_t i = 0; i < found.count; i++) printf(" %u%u", answer[i] / 5, answer[i] % 5);
@@ -35,10 +37,11 @@ int main(void) {
     printf("%llu hidden\n", (number)f.hidden);
 
     uint32_t log_keys[LOG], log_values[LOG];
-    hlq_edited e = hlq_paint(M, S, keys, ROOM, bits, ROOM, n, log_keys, LOG, log_values, LOG, 0, 2 * 5 + 4, 1);
+    hlq_edited e = hlq_paint(M, S, keys, ROOM, bits, ROOM, n, summary, PLACES, log_keys, LOG, log_values, LOG, 0,
+                             2 * 5 + 4, 1);
     if (e.refusal) return puts(hlq_refusal_text(e.refusal)), 1;
     printf("block 24 painted with feature 1: %llu records\n", (number)e.n);
-    e = hlq_take_back(M, S, keys, ROOM, bits, ROOM, e.n, log_keys, LOG, log_values, LOG, e.used);
+    e = hlq_take_back(M, S, keys, ROOM, bits, ROOM, e.n, summary, PLACES, log_keys, LOG, log_values, LOG, e.used);
     printf("taken back: %llu records\n", (number)e.n);
     return 0;
 }

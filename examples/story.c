@@ -6,9 +6,9 @@
 
 #include <stdio.h>
 
-enum { M = 2, S = 3, ROOM = HLQ_MOST_RECORDS(M), LOG = 8 };
+enum { M = 2, S = 3, ROOM = HLQ_MOST_RECORDS(M), LOG = 8, PLACES = HLQ_SUMMARY_PLACES(M, S) };
 
-static uint32_t keys[ROOM], bits[ROOM], log_keys[LOG], log_values[LOG];
+static uint32_t keys[ROOM], bits[ROOM], log_keys[LOG], log_values[LOG], summary[PLACES];
 static size_t n, used;
 
 static const hlq_rule rules[] = { { 7, 0, 0, 4, 4, 2 } }; /* no scrub (2) anywhere */
@@ -44,7 +44,8 @@ static void tell_of_siblings(const char *when) {
 }
 
 static void paint(uint32_t key, uint32_t feature) {
-    hlq_edited e = hlq_paint(M, S, keys, ROOM, bits, ROOM, n, log_keys, LOG, log_values, LOG, used, key, feature);
+    hlq_edited e = hlq_paint(M, S, keys, ROOM, bits, ROOM, n, summary, PLACES, log_keys, LOG, log_values, LOG, used,
+                             key, feature);
     if (e.refusal) printf("refused: %s\n", hlq_refusal_text(e.refusal));
     else n = e.n, used = e.used;
 }
@@ -54,12 +55,13 @@ int main(void) {
                                       0, 0, 1, 2,
                                       2, 2, 0, 0,
                                       2, 2, 2, 0 };
-    n = hlq_build(M, S, survey, sizeof survey, keys, ROOM, bits, ROOM).count;
+    n = hlq_build(M, S, survey, sizeof survey, keys, ROOM, bits, ROOM, summary, PLACES).count;
     place_of_old = (uint32_t)hlq_standing(M, S, keys, ROOM, bits, ROOM, n, waived_block[0]).place;
     tell("the survey, block 30 waived");
     paint(2 * 5 + 4, 1);
     tell("block 24 cleared, and five records become one");
-    hlq_edited e = hlq_take_back(M, S, keys, ROOM, bits, ROOM, n, log_keys, LOG, log_values, LOG, used);
+    hlq_edited e = hlq_take_back(M, S, keys, ROOM, bits, ROOM, n, summary, PLACES, log_keys, LOG, log_values, LOG,
+                                 used);
     n = e.n, used = e.used;
     tell("that was a mistake, and is taken back");
     tell_of_siblings("the blocks 21, 22, 23 and 24 accepted, while only 24 is scrub");

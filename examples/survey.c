@@ -7,17 +7,18 @@
 #include <string.h>
 
 enum { M = 4, EDGE = 1 << M, PIXELS = EDGE * EDGE, RECORDS = HLQ_MOST_RECORDS(M), LOG = 256, CLASSES = 4 };
+enum { PLACES = HLQ_SUMMARY_PLACES(M, CLASSES), METRES = 4 }; /* a pixel is 2 by 2 metres */
 enum { BALLAST, DRAIN, SCRUB, PATH };
 
 /* A header of another interface, or a sheet too large for it, stops the compiler and not the crew. */
-_Static_assert(HLQ_INTERFACE == 2, "written for interface 2 of the library");
+_Static_assert(HLQ_INTERFACE == 3, "written for interface 3 of the library");
 _Static_assert(M <= HLQ_DEEPEST_M && CLASSES <= HLQ_MOST_SLOTS, "the sheet is within the library's limits");
 
 static const char signs[CLASSES + 1] = ".~#=";
 static const char *const words[CLASSES] = { "ballast", "drain", "scrub", "path" };
 
-/* The list, and the log of paints that can be taken back. */
-static uint32_t keys[RECORDS], bits[RECORDS], log_keys[LOG], log_values[LOG];
+/* The list with its summary, and the log of paints that can be taken back. */
+static uint32_t keys[RECORDS], bits[RECORDS], summary[PLACES], log_keys[LOG], log_values[LOG];
 static size_t n, used;
 
 static int refused(const char *what, uint64_t refusal) {
@@ -55,6 +56,18 @@ static void print_sheet(void) {
     }
 }
 
+/* The square metres of each class in a window. */
+static void print_areas(const char *where, uint32_t row, uint32_t column, uint32_t height, uint32_t width) {
+    printf("%s:", where);
+    for (uint32_t c = 0; c < CLASSES; c++) {
+        hlq_measured a = hlq_area(M, CLASSES, keys, RECORDS, bits, RECORDS, n, summary, PLACES,
+                                  row, column, height, width, c);
+        if (refused("area", a.refusal)) return;
+        printf(" %s %llu", words[c], (unsigned long long)a.pixels * METRES);
+    }
+    printf("\n");
+}
+
 /* Two sighting windows in which there must be no scrub. */
 static const hlq_rule rules[] = {
     { 10, 0, 4, 8, 8, SCRUB },
@@ -72,8 +85,8 @@ static void print_findings(const uint32_t *waiver_ids, const uint32_t *waiver_ke
 }
 
 static int paint(uint32_t key, uint32_t class) {
-    hlq_edited e = hlq_paint(M, CLASSES, keys, RECORDS, bits, RECORDS, n, log_keys, LOG, log_values, LOG, used,
-                             key, class);
+    hlq_edited e = hlq_paint(M, CLASSES, keys, RECORDS, bits, RECORDS, n, summary, PLACES,
+                             log_keys, LOG, log_values, LOG, used, key, class);
     if (refused("paint", e.refusal)) return 0;
     n = e.n, used = e.used;
     printf("painted block %s with %s: %zu records\n", name_of(key), words[class], n);
@@ -83,7 +96,7 @@ static int paint(uint32_t key, uint32_t class) {
 int main(void) {
     uint8_t raster[PIXELS], file[HLQ_FILE_BYTES(RECORDS)];
     if (!read_sheet(raster)) { printf("no sheet of %d by %d known signs\n", EDGE, EDGE); return 1; }
-    hlq_counted built = hlq_build(M, CLASSES, raster, PIXELS, keys, RECORDS, bits, RECORDS);
+    hlq_counted built = hlq_build(M, CLASSES, raster, PIXELS, keys, RECORDS, bits, RECORDS, summary, PLACES);
     if (refused("build", built.refusal)) return 1;
     n = built.count;
     printf("the sheet has %zu records\n", n);
@@ -93,7 +106,10 @@ int main(void) {
     hlq_reported seen = hlq_report(M, CLASSES, keys, RECORDS, bits, RECORDS, n, 8, 0, 8, 16);
     printf("the southern half has:");
     for (int c = 0; c < CLASSES; c++) if (seen.bits >> c & 1) printf(" %s", words[c]);
-    printf("\n\nfindings, nothing waived: ");
+    printf("\nsquare metres\n");
+    print_areas("  of the sheet", 0, 0, EDGE, EDGE);
+    print_areas("  of the crew's window", 0, 4, 8, 8);
+    printf("\nfindings, nothing waived: ");
     uint32_t waiver_ids[1] = { 0 }, waiver_keys[1] = { 0 }, blocks[FINDINGS];
     print_findings(waiver_ids, waiver_keys, 0);
 
@@ -108,11 +124,15 @@ int main(void) {
     printf("\n");
     picked = hlq_select(M, CLASSES, keys, RECORDS, bits, RECORDS, n, 0, 0, 8, 16, SCRUB, blocks, FINDINGS);
     for (size_t i = 0; i < picked.count; i++) if (!paint(blocks[i], BALLAST)) return 1;
+    printf("square metres after it\n");
+    print_areas("  of the sheet", 0, 0, EDGE, EDGE);
+    print_areas("  of the crew's window", 0, 4, 8, 8);
     printf("\nfindings after the clearing: ");
     print_findings(waiver_ids, waiver_keys, 1);
 
     /* one block too many: taken back */
-    hlq_edited e = hlq_take_back(M, CLASSES, keys, RECORDS, bits, RECORDS, n, log_keys, LOG, log_values, LOG, used);
+    hlq_edited e = hlq_take_back(M, CLASSES, keys, RECORDS, bits, RECORDS, n, summary, PLACES,
+                                 log_keys, LOG, log_values, LOG, used);
     if (refused("take back", e.refusal)) return 1;
     n = e.n, used = e.used;
     printf("\nthe last paint taken back: %zu records\n", n);
@@ -128,7 +148,8 @@ int main(void) {
     printf("\n%llu bytes stored, %llu records loaded, %s\n", (unsigned long long)stored.count,
            (unsigned long long)loaded.n, same ? "the same list" : "ANOTHER LIST");
     used = hlq_empty();
-    e = hlq_take_back(M, CLASSES, keys, RECORDS, bits, RECORDS, n, log_keys, LOG, log_values, LOG, used);
+    e = hlq_take_back(M, CLASSES, keys, RECORDS, bits, RECORDS, n, summary, PLACES,
+                                 log_keys, LOG, log_values, LOG, used);
     printf("the log is emptied; taking back now gives: %s\n", hlq_refusal_text(e.refusal));
     return 0;
 }

@@ -10,7 +10,7 @@
 enum { M = 3, S = 2, EDGE = 1 << M, ROOM = HLQ_MOST_RECORDS(M), LOOKOUTS = 3 };
 
 /* Written before the lookouts start, and only read while they watch. */
-static uint32_t keys[ROOM], bits[ROOM];
+static uint32_t keys[ROOM], bits[ROOM], summary[HLQ_SUMMARY_PLACES(M, S)];
 static size_t n;
 
 typedef struct { uint32_t row, height; hlq_counted seen; uint32_t blocks[EDGE * EDGE]; } lookout;
@@ -37,7 +37,8 @@ int main(void) {
     };
     uint8_t raster[EDGE * EDGE];
     for (size_t i = 0; i < sizeof raster; i++) raster[i] = (uint8_t)(sheet[i] - '0');
-    hlq_counted built = hlq_build(M, S, raster, sizeof raster, keys, ROOM, bits, ROOM);
+    hlq_counted built = hlq_build(M, S, raster, sizeof raster, keys, ROOM, bits, ROOM,
+                                  summary, HLQ_SUMMARY_PLACES(M, S));
     if (built.refusal) return puts(hlq_refusal_text(built.refusal)), 1;
     n = built.count;
 

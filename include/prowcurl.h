@@ -20,6 +20,11 @@
  * shorter of the two slices. A list stands in ascending key order. HLQ_MOST_RECORDS(m) places hold
  * any list.
  *
+ * A summary is a slice of HLQ_SUMMARY_PLACES(m, s) numbers beside a list: for each block of level 2
+ * (level m if m is smaller), in key order, how many of its pixels have feature 0, feature 1, up to
+ * feature s - 1. Place b * s + f counts feature f in block b. hlq_build makes it,
+ * hlq_fill_summary does so for a list that was loaded, and edits keep it right.
+ *
  * A log is two slices, log_keys and log_values, of which the first `used` places are in use. Start
  * with used = 0.
  *
@@ -48,13 +53,16 @@ extern "C" {
 #endif
 
 /* Grows by one whenever a call or a result changes its shape. */
-#define HLQ_INTERFACE 2
+#define HLQ_INTERFACE 3
 
 #define HLQ_DEEPEST_M 10  /* the largest m */
 #define HLQ_MOST_SLOTS 16 /* the largest s */
 
 /* The most records that a list has at m: (4^(m+1) - 1) / 3. */
 #define HLQ_MOST_RECORDS(m) ((((size_t)4 << 2 * (m)) - 1) / 3)
+
+/* The places of the summary of a map: 4^2 or 4^m blocks of s numbers. */
+#define HLQ_SUMMARY_PLACES(m, s) (((size_t)1 << 2 * ((m) < 2 ? (m) : 2)) * (s))
 
 /* The bytes of the file of a list of n records. */
 #define HLQ_FILE_BYTES(n) (11 + 6 * (size_t)(n))
@@ -87,7 +95,8 @@ enum {
     HLQ_WAIVERS = 14,      /* waivers not strictly ascending, a bad key, or an id of no rule */
     HLQ_FILE_LENGTH = 15,  /* the file has under 11 bytes, or a wrong length */
     HLQ_FILE_MARK = 16,    /* the file does not begin with HLQ */
-    HLQ_FILE_VERSION = 17  /* the file's version is not 1 */
+    HLQ_FILE_VERSION = 17, /* the file's version is not 1 */
+    HLQ_SUMMARY = 18       /* the summary has a wrong length, or does not hold this map's counts */
 };
 
 /* The words for a refusal, for a message to people. */
@@ -111,6 +120,7 @@ static inline const char *hlq_refusal_text(uint64_t refusal) {
     case HLQ_FILE_LENGTH: return "the file has a wrong length";
     case HLQ_FILE_MARK: return "not a file of a list";
     case HLQ_FILE_VERSION: return "a file of another version";
+    case HLQ_SUMMARY: return "not the summary of the list";
     default: return "no known refusal";
     }
 }
@@ -122,6 +132,7 @@ typedef struct { uint64_t refusal, row, column, side, level; } hlq_block;
 typedef struct { uint64_t start, length; } hlq_span;          /* both 0 for an empty part */
 typedef struct { uint64_t refusal, yes; } hlq_exists;
 typedef struct { uint64_t refusal, bits; } hlq_reported;
+typedef struct { uint64_t refusal, pixels; } hlq_measured;
 typedef struct { uint64_t refusal, n, used; } hlq_edited;
 typedef struct { uint64_t refusal, live, hidden; } hlq_found; /* with HLQ_ANSWER_ROOM: live */
 typedef struct { uint64_t refusal, m, s, n; } hlq_loaded;
@@ -138,11 +149,14 @@ hlq_counted hlq_key_at(uint32_t m, uint32_t row, uint32_t column, uint32_t level
 hlq_block hlq_block_of(uint32_t m, uint32_t key);
 
 /* BUILD. The list of a raster is written to places 0 to count - 1 of keys and bits; all other
- * places stay. count is the number of records, at most HLQ_MOST_RECORDS(m).
- * Refusals: HLQ_SETTINGS, HLQ_RASTER_LENGTH, HLQ_PIXEL, HLQ_LIST_ROOM, in this order. */
+ * places stay. Its summary is written to every place of summary. count is the number of records, at
+ * most HLQ_MOST_RECORDS(m).
+ * Refusals: HLQ_SETTINGS, HLQ_RASTER_LENGTH, HLQ_PIXEL, HLQ_SUMMARY (the length alone),
+ * HLQ_LIST_ROOM, in this order. */
 hlq_counted hlq_build(uint32_t m, uint32_t s,
                       const uint8_t *raster, size_t raster_len,
-                      uint32_t *keys, size_t keys_len, uint32_t *bits, size_t bits_len);
+                      uint32_t *keys, size_t keys_len, uint32_t *bits, size_t bits_len,
+                      uint32_t *summary, size_t summary_len);
 
 /* RASTER FROM LIST. Every byte of raster is written.
  * Refusals: HLQ_SETTINGS, HLQ_LIST, HLQ_RASTER_LENGTH, in this order. */
@@ -185,24 +199,45 @@ hlq_counted hlq_select(uint32_t m, uint32_t s,
                        size_t n, uint32_t row, uint32_t column, uint32_t height, uint32_t width,
                        uint32_t feature, uint32_t *answer, size_t answer_len);
 
+/* FILL SUMMARY. The summary of the list is written to every place of summary.
+ * Refusals: HLQ_SETTINGS, HLQ_LIST, HLQ_SUMMARY (the length alone), in this order. */
+hlq_done hlq_fill_summary(uint32_t m, uint32_t s,
+                          const uint32_t *keys, size_t keys_len,
+                          const uint32_t *bits, size_t bits_len, size_t n,
+                          uint32_t *summary, size_t summary_len);
+
+/* AREA. pixels is the number of pixels of the window that have the feature. The summary must be
+ * that of the list: each of its numbers is checked.
+ * Refusals: HLQ_SETTINGS, HLQ_LIST, HLQ_SUMMARY, HLQ_WINDOW, HLQ_FEATURE, in this order. */
+hlq_measured hlq_area(uint32_t m, uint32_t s,
+                      const uint32_t *keys, size_t keys_len, const uint32_t *bits, size_t bits_len,
+                      size_t n, const uint32_t *summary, size_t summary_len,
+                      uint32_t row, uint32_t column, uint32_t height, uint32_t width,
+                      uint32_t feature);
+
 /* PAINT. Every pixel of the block gets the feature. The list becomes the list of the new raster, in
  * its places 0 to n - 1 (n of the result); places that it gives up become zero, others stay. The
  * log gains an entry, with which hlq_take_back undoes the paint; log places past it stay. A paint
- * that changes no pixel is logged too.
- * Refusals: HLQ_SETTINGS, HLQ_LIST, HLQ_LOG, HLQ_KEY, HLQ_FEATURE, HLQ_LOG_ROOM, HLQ_LIST_ROOM, in
- * this order, all on the end result, before the first write. */
+ * that changes no pixel is logged too. The summary must be the list's, and becomes that of the new
+ * raster.
+ * Refusals: HLQ_SETTINGS, HLQ_LIST, HLQ_SUMMARY, HLQ_LOG, HLQ_KEY, HLQ_FEATURE, HLQ_LOG_ROOM,
+ * HLQ_LIST_ROOM, in this order, all on the end result, before the first write. */
 hlq_edited hlq_paint(uint32_t m, uint32_t s,
                      uint32_t *keys, size_t keys_len, uint32_t *bits, size_t bits_len, size_t n,
+                     uint32_t *summary, size_t summary_len,
                      uint32_t *log_keys, size_t log_keys_len,
                      uint32_t *log_values, size_t log_values_len, size_t used,
                      uint32_t key, uint32_t feature);
 
 /* TAKE BACK. The latest paint still in the log is undone: its block gets its former content, and
- * its entry is removed and its places zeroed.
- * Refusals: HLQ_SETTINGS, HLQ_LIST, HLQ_LOG, HLQ_LOG_EMPTY, HLQ_LIST_ROOM, in this order.
+ * its entry is removed and its places zeroed. The summary must be the list's, and becomes that of
+ * the new raster.
+ * Refusals: HLQ_SETTINGS, HLQ_LIST, HLQ_SUMMARY, HLQ_LOG, HLQ_LOG_EMPTY, HLQ_LIST_ROOM, in this
+ * order.
  * HLQ_LIST_ROOM comes only with a log from another map. */
 hlq_edited hlq_take_back(uint32_t m, uint32_t s,
                          uint32_t *keys, size_t keys_len, uint32_t *bits, size_t bits_len, size_t n,
+                         uint32_t *summary, size_t summary_len,
                          uint32_t *log_keys, size_t log_keys_len,
                          uint32_t *log_values, size_t log_values_len, size_t used);
 

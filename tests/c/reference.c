@@ -194,8 +194,8 @@ hlq_block ref_block_of(uint32_t m, uint32_t key) {
     return (hlq_block){ 0, row, column, side, level };
 }
 
-hlq_counted ref_build(uint32_t m, uint32_t s, const uint8_t *raster, size_t raster_len, uint32_t *keys, size_t keys_len,
-                      uint32_t *bits, size_t bits_len) {
+hlq_counted ref_list(uint32_t m, uint32_t s, const uint8_t *raster, size_t raster_len, uint32_t *keys, size_t keys_len,
+                     uint32_t *bits, size_t bits_len) {
     if (settings_are_bad(m, s)) return (hlq_counted){ 1, 0 };
     if (raster_len != pixels_of(m)) return (hlq_counted){ 2, 0 };
     for (size_t i = 0; i < raster_len; i++)
@@ -349,6 +349,76 @@ hlq_counted ref_select(uint32_t m, uint32_t s, const uint32_t *keys, size_t keys
     return result;
 }
 
+/* How many pixels of a rectangle have the feature. */
+static uint32_t pixels_with(const uint8_t *raster, uint32_t edge, uint32_t row, uint32_t column, uint32_t height,
+                            uint32_t width, uint32_t feature) {
+    uint32_t count = 0;
+    for (uint32_t r = row; r < row + height; r++)
+        for (uint32_t c = column; c < column + width; c++) count += raster[(size_t)r * edge + c] == feature;
+    return count;
+}
+
+/* The summary's level, and how many places it has. */
+static uint32_t summary_level(uint32_t m) { return m < 2 ? m : 2; }
+static size_t summary_places(uint32_t m, uint32_t s) { return (size_t)ref_power(4, summary_level(m)) * s; }
+
+/* The count of one place: its block is found by the block's number, whose digits in base 4 are the key's less one. */
+static uint32_t summary_place(uint32_t m, uint32_t s, const uint8_t *raster, size_t place) {
+    uint32_t level = summary_level(m), block = (uint32_t)(place / s), key = 0, row, column, side;
+    for (uint32_t d = 1; d <= level; d++)
+        key += (block / ref_power(4, level - d) % 4 + 1) * ref_power(5, m - d);
+    ref_block(m, key, &row, &column, &side);
+    return pixels_with(raster, 1u << m, row, column, side, side, (uint32_t)(place % s));
+}
+
+static int is_summary(uint32_t m, uint32_t s, const uint8_t *raster, const uint32_t *summary, size_t summary_len) {
+    if (summary_len != summary_places(m, s)) return 0;
+    for (size_t i = 0; i < summary_len; i++)
+        if (summary[i] != summary_place(m, s, raster, i)) return 0;
+    return 1;
+}
+
+void ref_summary(uint32_t m, uint32_t s, const uint8_t *raster, uint32_t *summary) {
+    for (size_t i = 0; i < summary_places(m, s); i++) summary[i] = summary_place(m, s, raster, i);
+}
+
+/* 18 comes before 9, and after all that the raster decides. */
+hlq_counted ref_build(uint32_t m, uint32_t s, const uint8_t *raster, size_t raster_len, uint32_t *keys, size_t keys_len,
+                      uint32_t *bits, size_t bits_len, uint32_t *summary, size_t summary_len) {
+    hlq_counted none = ref_list(m, s, raster, raster_len, keys, 0, bits, 0);
+    if (none.refusal != 9) return none;
+    if (summary_len != summary_places(m, s)) return (hlq_counted){ 18, 0 };
+    hlq_counted answer = ref_list(m, s, raster, raster_len, keys, keys_len, bits, bits_len);
+    if (answer.refusal == 0) ref_summary(m, s, raster, summary);
+    return answer;
+}
+
+hlq_done ref_fill_summary(uint32_t m, uint32_t s, const uint32_t *keys, size_t keys_len, const uint32_t *bits,
+                          size_t bits_len, size_t n, uint32_t *summary, size_t summary_len) {
+    if (settings_are_bad(m, s)) return (hlq_done){ 1 };
+    uint8_t *shown = raster_of(m, s, keys, keys_len, bits, bits_len, n);
+    if (!shown) return (hlq_done){ 4 };
+    hlq_done answer = { summary_len == summary_places(m, s) ? 0 : 18 };
+    if (answer.refusal == 0) ref_summary(m, s, shown, summary);
+    free(shown);
+    return answer;
+}
+
+hlq_measured ref_area(uint32_t m, uint32_t s, const uint32_t *keys, size_t keys_len, const uint32_t *bits,
+                      size_t bits_len, size_t n, const uint32_t *summary, size_t summary_len, uint32_t row,
+                      uint32_t column, uint32_t height, uint32_t width, uint32_t feature) {
+    if (settings_are_bad(m, s)) return (hlq_measured){ 1, 0 };
+    uint8_t *shown = raster_of(m, s, keys, keys_len, bits, bits_len, n);
+    if (!shown) return (hlq_measured){ 4, 0 };
+    hlq_measured answer = { 0, 0 };
+    if (!is_summary(m, s, shown, summary, summary_len)) answer.refusal = 18;
+    else if (!is_window(m, row, column, height, width)) answer.refusal = 6;
+    else if (feature >= s) answer.refusal = 7;
+    else answer.pixels = pixels_with(shown, 1u << m, row, column, height, width, feature);
+    free(shown);
+    return answer;
+}
+
 /* Entries from the end, each content a list of its block. */
 static int log_is_sound(uint32_t m, uint32_t s, const uint32_t *log_keys, const uint32_t *log_values, size_t used) {
     uint8_t *raster = new_raster(m);
@@ -381,14 +451,15 @@ static uint64_t relist(uint32_t m, const uint8_t *raster, uint32_t *keys, size_t
 }
 
 hlq_edited ref_paint(uint32_t m, uint32_t s, uint32_t *keys, size_t keys_len, uint32_t *bits, size_t bits_len, size_t n,
-                     uint32_t *log_keys, size_t log_keys_len, uint32_t *log_values, size_t log_values_len, size_t used,
-                     uint32_t key, uint32_t feature) {
+                     uint32_t *summary, size_t summary_len, uint32_t *log_keys, size_t log_keys_len,
+                     uint32_t *log_values, size_t log_values_len, size_t used, uint32_t key, uint32_t feature) {
     size_t log_room = shorter(log_keys_len, log_values_len);
     if (settings_are_bad(m, s)) return (hlq_edited){ 1, 0, 0 };
     uint8_t *raster = raster_of(m, s, keys, keys_len, bits, bits_len, n);
     if (!raster) return (hlq_edited){ 4, 0, 0 };
     hlq_edited answer = { 0, 0, 0 };
-    if (used > log_room || !log_is_sound(m, s, log_keys, log_values, used)) answer.refusal = 5;
+    if (!is_summary(m, s, raster, summary, summary_len)) answer.refusal = 18;
+    else if (used > log_room || !log_is_sound(m, s, log_keys, log_values, used)) answer.refusal = 5;
     else if (!ref_key_is_valid(m, key)) answer.refusal = 8;
     else if (feature >= s) answer.refusal = 7;
     else {
@@ -405,6 +476,7 @@ hlq_edited ref_paint(uint32_t m, uint32_t s, uint32_t *keys, size_t keys_len, ui
             memcpy(log_values + used, content.bits, content.n * sizeof *log_values);
             log_keys[used + content.n] = key;
             log_values[used + content.n] = (uint32_t)content.n;
+            ref_summary(m, s, raster, summary);
             answer = (hlq_edited){ 0, now, used + content.n + 1 };
         }
         free_records(&content);
@@ -414,13 +486,14 @@ hlq_edited ref_paint(uint32_t m, uint32_t s, uint32_t *keys, size_t keys_len, ui
 }
 
 hlq_edited ref_take_back(uint32_t m, uint32_t s, uint32_t *keys, size_t keys_len, uint32_t *bits, size_t bits_len,
-                         size_t n, uint32_t *log_keys, size_t log_keys_len, uint32_t *log_values, size_t log_values_len,
-                         size_t used) {
+                         size_t n, uint32_t *summary, size_t summary_len, uint32_t *log_keys, size_t log_keys_len,
+                         uint32_t *log_values, size_t log_values_len, size_t used) {
     if (settings_are_bad(m, s)) return (hlq_edited){ 1, 0, 0 };
     uint8_t *raster = raster_of(m, s, keys, keys_len, bits, bits_len, n);
     if (!raster) return (hlq_edited){ 4, 0, 0 };
     hlq_edited answer = { 0, 0, 0 };
-    if (used > shorter(log_keys_len, log_values_len) || !log_is_sound(m, s, log_keys, log_values, used))
+    if (!is_summary(m, s, raster, summary, summary_len)) answer.refusal = 18;
+    else if (used > shorter(log_keys_len, log_values_len) || !log_is_sound(m, s, log_keys, log_values, used))
         answer.refusal = 5;
     else if (used == 0) answer.refusal = 11;
     else {
@@ -430,6 +503,7 @@ hlq_edited ref_take_back(uint32_t m, uint32_t s, uint32_t *keys, size_t keys_len
         answer.refusal = relist(m, raster, keys, keys_len, bits, bits_len, n, &now);
         if (answer.refusal == 0) {
             for (size_t i = start; i < used; i++) log_keys[i] = log_values[i] = 0;
+            ref_summary(m, s, raster, summary);
             answer = (hlq_edited){ 0, now, start };
         }
     }

@@ -15,7 +15,12 @@ hlq_counted ref_key_at(uint32_t m, uint32_t row, uint32_t column, uint32_t level
 hlq_block ref_block_of(uint32_t m, uint32_t key);
 hlq_counted ref_build(uint32_t m, uint32_t s,
                       const uint8_t *raster, size_t raster_len,
-                      uint32_t *keys, size_t keys_len, uint32_t *bits, size_t bits_len);
+                      uint32_t *keys, size_t keys_len, uint32_t *bits, size_t bits_len,
+                      uint32_t *summary, size_t summary_len);
+/* The list alone, and the summary of a raster, for tests that need one. */
+hlq_counted ref_list(uint32_t m, uint32_t s, const uint8_t *raster, size_t raster_len, uint32_t *keys, size_t keys_len,
+                     uint32_t *bits, size_t bits_len);
+void ref_summary(uint32_t m, uint32_t s, const uint8_t *raster, uint32_t *summary);
 hlq_done ref_raster(uint32_t m, uint32_t s,
                     const uint32_t *keys, size_t keys_len, const uint32_t *bits, size_t bits_len,
                     size_t n, uint8_t *raster, size_t raster_len);
@@ -37,13 +42,20 @@ hlq_counted ref_select(uint32_t m, uint32_t s,
                        const uint32_t *keys, size_t keys_len, const uint32_t *bits, size_t bits_len,
                        size_t n, uint32_t row, uint32_t column, uint32_t height, uint32_t width,
                        uint32_t feature, uint32_t *answer, size_t answer_len);
+hlq_done ref_fill_summary(uint32_t m, uint32_t s, const uint32_t *keys, size_t keys_len, const uint32_t *bits,
+                          size_t bits_len, size_t n, uint32_t *summary, size_t summary_len);
+hlq_measured ref_area(uint32_t m, uint32_t s, const uint32_t *keys, size_t keys_len, const uint32_t *bits,
+                      size_t bits_len, size_t n, const uint32_t *summary, size_t summary_len, uint32_t row,
+                      uint32_t column, uint32_t height, uint32_t width, uint32_t feature);
 hlq_edited ref_paint(uint32_t m, uint32_t s,
                      uint32_t *keys, size_t keys_len, uint32_t *bits, size_t bits_len, size_t n,
+                     uint32_t *summary, size_t summary_len,
                      uint32_t *log_keys, size_t log_keys_len,
                      uint32_t *log_values, size_t log_values_len, size_t used,
                      uint32_t key, uint32_t feature);
 hlq_edited ref_take_back(uint32_t m, uint32_t s,
                          uint32_t *keys, size_t keys_len, uint32_t *bits, size_t bits_len, size_t n,
+                     uint32_t *summary, size_t summary_len,
                          uint32_t *log_keys, size_t log_keys_len,
                          uint32_t *log_values, size_t log_values_len, size_t used);
 hlq_found ref_findings(uint32_t m, uint32_t s,

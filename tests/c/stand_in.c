@@ -8,6 +8,8 @@
 #define LIST keys, keys_len, bits, bits_len
 #define TAKE_LOG uint32_t *log_keys, size_t log_keys_len, uint32_t *log_values, size_t log_values_len
 #define LOG log_keys, log_keys_len, log_values, log_values_len
+#define TAKE_SUMMARY uint32_t *summary, size_t summary_len
+#define SUMMARY summary, summary_len
 #define TAKE_WINDOW uint32_t row, uint32_t column, uint32_t height, uint32_t width
 #define WINDOW row, column, height, width
 
@@ -17,8 +19,8 @@ hlq_counted hlq_key_at(uint32_t m, uint32_t row, uint32_t column, uint32_t level
 
 hlq_block hlq_block_of(uint32_t m, uint32_t key) { return ref_block_of(m, key); }
 
-hlq_counted hlq_build(uint32_t m, uint32_t s, const uint8_t *raster, size_t raster_len, TAKE_LIST) {
-    return ref_build(m, s, raster, raster_len, LIST);
+hlq_counted hlq_build(uint32_t m, uint32_t s, const uint8_t *raster, size_t raster_len, TAKE_LIST, TAKE_SUMMARY) {
+    return ref_build(m, s, raster, raster_len, LIST, SUMMARY);
 }
 
 hlq_done hlq_raster(uint32_t m, uint32_t s, TAKE_CONST_LIST, size_t n, uint8_t *raster, size_t raster_len) {
@@ -46,13 +48,22 @@ hlq_counted hlq_select(uint32_t m, uint32_t s, TAKE_CONST_LIST, size_t n, TAKE_W
     return ref_select(m, s, LIST, n, WINDOW, feature, answer, answer_len);
 }
 
-hlq_edited hlq_paint(uint32_t m, uint32_t s, TAKE_LIST, size_t n, TAKE_LOG, size_t used,
-                     uint32_t key, uint32_t feature) {
-    return ref_paint(m, s, LIST, n, LOG, used, key, feature);
+hlq_done hlq_fill_summary(uint32_t m, uint32_t s, TAKE_CONST_LIST, size_t n, uint32_t *summary, size_t summary_len) {
+    return ref_fill_summary(m, s, LIST, n, summary, summary_len);
 }
 
-hlq_edited hlq_take_back(uint32_t m, uint32_t s, TAKE_LIST, size_t n, TAKE_LOG, size_t used) {
-    return ref_take_back(m, s, LIST, n, LOG, used);
+hlq_measured hlq_area(uint32_t m, uint32_t s, TAKE_CONST_LIST, size_t n, const uint32_t *summary, size_t summary_len,
+                      TAKE_WINDOW, uint32_t feature) {
+    return ref_area(m, s, LIST, n, summary, summary_len, WINDOW, feature);
+}
+
+hlq_edited hlq_paint(uint32_t m, uint32_t s, TAKE_LIST, size_t n, TAKE_SUMMARY, TAKE_LOG, size_t used,
+                     uint32_t key, uint32_t feature) {
+    return ref_paint(m, s, LIST, n, SUMMARY, LOG, used, key, feature);
+}
+
+hlq_edited hlq_take_back(uint32_t m, uint32_t s, TAKE_LIST, size_t n, TAKE_SUMMARY, TAKE_LOG, size_t used) {
+    return ref_take_back(m, s, LIST, n, SUMMARY, LOG, used);
 }
 
 hlq_found hlq_findings(uint32_t m, uint32_t s, TAKE_CONST_LIST, size_t n, const hlq_rule *rules, size_t rules_len,

@@ -4,8 +4,10 @@
 #include <stdlib.h>
 #include <string.h>
 
-static const char *const names[CALLS] = { "key at", "block of", "build", "raster",    "standing", "part",  "exist",
-                                          "report", "select",   "paint", "take back", "findings", "store", "load" };
+static const char *const names[CALLS] = {
+    "key at", "block of",     "build", "raster", "standing",  "part",     "exist", "report",
+    "select", "fill summary", "area",  "paint",  "take back", "findings", "store", "load",
+};
 static uint64_t state = 1, comparisons, pairs[CALLS][MAX_REFUSAL + 1];
 
 static void fail(const char *what) {
@@ -92,7 +94,7 @@ map random_map(uint32_t m) {
     map a = { m, 1 + below(HLQ_MOST_SLOTS), 0, room_for(4 * most), room_for(4 * most) };
     uint8_t *raster = room_for(pixels);
     fill_raster(raster, m, a.s, below(5));
-    a.n = ref_build(m, a.s, raster, pixels, a.keys, most, a.bits, most).count;
+    a.n = ref_list(m, a.s, raster, pixels, a.keys, most, a.bits, most).count;
     free(raster);
     return a;
 }

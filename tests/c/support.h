@@ -13,7 +13,7 @@
 #define SOME(rounds) (rounds)
 #endif
 
-enum { GUARD = 8, MAX_REFUSAL = HLQ_FILE_VERSION };
+enum { GUARD = 8, MAX_REFUSAL = HLQ_SUMMARY };
 
 typedef enum {
     CALL_KEY_AT,
@@ -25,6 +25,8 @@ typedef enum {
     CALL_EXIST,
     CALL_REPORT,
     CALL_SELECT,
+    CALL_FILL_SUMMARY,
+    CALL_AREA,
     CALL_PAINT,
     CALL_TAKE_BACK,
     CALL_FINDINGS,

@@ -7,7 +7,7 @@
 #include <stdlib.h>
 #include <string.h>
 
-static_assert(HLQ_INTERFACE == 2, "the interface's number");
+static_assert(HLQ_INTERFACE == 3, "the interface's number");
 static_assert(HLQ_DEEPEST_M == 10 && HLQ_MOST_SLOTS == 16, "the limits of document 01");
 static_assert(HLQ_LISTED == 1 && HLQ_INSIDE == 2, "the kinds");
 static_assert(HLQ_ACCEPTED == 0 && HLQ_SETTINGS == 1 && HLQ_RASTER_LENGTH == 2 && HLQ_PIXEL == 3 && HLQ_LIST == 4 &&
@@ -33,7 +33,7 @@ static_assert(sizeof(hlq_done) == 8 && sizeof(hlq_counted) == 16 && sizeof(hlq_s
 enum { MOST = HLQ_MOST_RECORDS(HLQ_DEEPEST_M) };
 
 static uint8_t raster[1 << 2 * HLQ_DEEPEST_M], file[HLQ_FILE_BYTES(MOST)];
-static uint32_t keys[MOST], bits[MOST];
+static uint32_t keys[MOST], bits[MOST], summary[HLQ_SUMMARY_PLACES(HLQ_DEEPEST_M, HLQ_MOST_SLOTS)];
 
 static void must(int ok, const char *what) {
     if (!ok) {
@@ -47,30 +47,39 @@ static void macros_meet_calls(uint32_t m) {
     size_t pixels = (size_t)1 << 2 * m;
     for (size_t i = 0; i < pixels; i++) raster[i] = (uint8_t)((i ^ i >> m) & 1);
     size_t most = HLQ_MOST_RECORDS(m);
-    must(hlq_build(m, 2, raster, pixels, keys, most - 1, bits, most).refusal == HLQ_LIST_ROOM, "a place too few");
-    hlq_counted built = hlq_build(m, 2, raster, pixels, keys, most, bits, most);
+    size_t places = HLQ_SUMMARY_PLACES(m, 2);
+    hlq_counted built = hlq_build(m, 2, raster, pixels, keys, most - 1, bits, most, summary, places);
+    must(built.refusal == HLQ_LIST_ROOM, "a place too few");
+    built = hlq_build(m, 2, raster, pixels, keys, most, bits, most, summary, places + 1);
+    must(built.refusal == HLQ_SUMMARY, "a summary's length is exact");
+    built = hlq_build(m, 2, raster, pixels, keys, most, bits, most, summary, places);
     must(built.refusal == HLQ_ACCEPTED && built.count == most, "HLQ_MOST_RECORDS holds the largest list");
     hlq_counted stored = hlq_store(m, 2, keys, most, bits, most, most, file, HLQ_FILE_BYTES(most) - 1);
     must(stored.refusal == HLQ_ANSWER_ROOM && stored.count == HLQ_FILE_BYTES(most), "a byte too few");
     stored = hlq_store(m, 2, keys, most, bits, most, most, file, HLQ_FILE_BYTES(most));
     must(stored.refusal == HLQ_ACCEPTED && stored.count == HLQ_FILE_BYTES(most), "HLQ_FILE_BYTES holds the file");
     must(hlq_standing(m, 2, keys, most, bits, most, most, 0).kind == HLQ_LISTED, "the root is listed");
+    must(hlq_fill_summary(m, 2, keys, most, bits, most, most, summary, places).refusal == HLQ_ACCEPTED,
+         "HLQ_SUMMARY_PLACES is the summary's length");
 }
 
 static void limits(void) {
+    enum { M = HLQ_DEEPEST_M, S = HLQ_MOST_SLOTS, PLACES = HLQ_SUMMARY_PLACES(M, S) };
     memset(raster, 0, sizeof raster);
-    hlq_counted deepest = hlq_build(HLQ_DEEPEST_M, HLQ_MOST_SLOTS, raster, sizeof raster, keys, MOST, bits, MOST);
+    hlq_counted deepest = hlq_build(M, S, raster, sizeof raster, keys, MOST, bits, MOST, summary, PLACES);
     must(deepest.refusal == HLQ_ACCEPTED && deepest.count == 1, "both limits are accepted");
-    must(hlq_standing(HLQ_DEEPEST_M, HLQ_MOST_SLOTS, keys, MOST, bits, MOST, 1, 1).refusal == HLQ_KEY, "no key");
+    must(hlq_standing(M, S, keys, MOST, bits, MOST, 1, 1).refusal == HLQ_KEY, "no key");
     must(hlq_standing(1, 1, keys, MOST, bits, MOST, 1, 1).kind == HLQ_INSIDE, "a quarter of a leaf is inside it");
-    must(hlq_build(HLQ_DEEPEST_M + 1, 1, raster, sizeof raster, keys, MOST, bits, MOST).refusal == HLQ_SETTINGS, "m");
-    must(hlq_build(0, HLQ_MOST_SLOTS + 1, raster, 1, keys, MOST, bits, MOST).refusal == HLQ_SETTINGS, "s");
+    hlq_counted bad = hlq_build(M + 1, 1, raster, sizeof raster, keys, MOST, bits, MOST, summary, 16);
+    must(bad.refusal == HLQ_SETTINGS, "m");
+    bad = hlq_build(0, S + 1, raster, 1, keys, MOST, bits, MOST, summary, S + 1);
+    must(bad.refusal == HLQ_SETTINGS, "s");
 }
 
 static void words(void) {
-    const char *unknown = hlq_refusal_text(HLQ_FILE_VERSION + 1);
+    const char *unknown = hlq_refusal_text(HLQ_SUMMARY + 1);
     must(strcmp(unknown, hlq_refusal_text(UINT64_MAX)) == 0, "one text for every unknown number");
-    for (uint64_t a = 0; a <= HLQ_FILE_VERSION; a++) {
+    for (uint64_t a = 0; a <= HLQ_SUMMARY; a++) {
         must(strlen(hlq_refusal_text(a)) > 0 && strcmp(hlq_refusal_text(a), unknown) != 0, "a text for each refusal");
         for (uint64_t b = 0; b < a; b++)
             must(strcmp(hlq_refusal_text(a), hlq_refusal_text(b)) != 0, "a text of its own");

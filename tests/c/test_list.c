@@ -6,14 +6,19 @@
 #include <string.h>
 
 static void try_build(uint32_t m, uint32_t s, const uint8_t *raster, size_t raster_len, size_t keys_len,
-                      size_t bits_len) {
-    lent keys = lend(keys_len, 4), bits = lend(bits_len, 4), ref_keys = copy_of(keys), ref_bits = copy_of(bits);
-    hlq_counted a = hlq_build(m, s, raster, raster_len, start(keys), keys_len, start(bits), bits_len);
-    hlq_counted b = ref_build(m, s, raster, raster_len, start(ref_keys), keys_len, start(ref_bits), bits_len);
+                      size_t bits_len, size_t summary_len) {
+    lent keys = lend(keys_len, 4), bits = lend(bits_len, 4), summary = lend(summary_len, 4);
+    lent ref_keys = copy_of(keys), ref_bits = copy_of(bits), ref_summary_buffer = copy_of(summary);
+    hlq_counted a = hlq_build(m, s, raster, raster_len, start(keys), keys_len, start(bits), bits_len, start(summary),
+                              summary_len);
+    hlq_counted b = ref_build(m, s, raster, raster_len, start(ref_keys), keys_len, start(ref_bits), bits_len,
+                              start(ref_summary_buffer), summary_len);
     same_results(CALL_BUILD, b.refusal, &a, &b, sizeof a);
     same_buffers("keys after build", keys, ref_keys);
     same_buffers("bits after build", bits, ref_bits);
-    give_back(keys), give_back(bits), give_back(ref_keys), give_back(ref_bits);
+    same_buffers("summary after build", summary, ref_summary_buffer);
+    give_back(keys), give_back(bits), give_back(summary);
+    give_back(ref_keys), give_back(ref_bits), give_back(ref_summary_buffer);
 }
 
 static void builds(uint32_t m) {
@@ -22,26 +27,31 @@ static void builds(uint32_t m) {
     uint32_t s = 1 + below(HLQ_MOST_SLOTS);
     fill_raster(raster, m, s, below(5));
     raster[pixels] = 0;
-    size_t most = HLQ_MOST_RECORDS(m);
+    size_t most = HLQ_MOST_RECORDS(m), places = HLQ_SUMMARY_PLACES(m, s);
     lent keys = lend(most, 4), bits = lend(most, 4);
-    size_t n = ref_build(m, s, raster, pixels, start(keys), most, start(bits), most).count;
+    size_t n = ref_list(m, s, raster, pixels, start(keys), most, start(bits), most).count;
     give_back(keys), give_back(bits);
-    try_build(m, s, raster, pixels, n, n);
-    try_build(m, s, raster, pixels, n + below(5), n + below(5));
-    try_build(m, s, raster, pixels, n - 1, n + 1);
-    try_build(m, s, raster, pixels, n + 1, n - 1);
-    try_build(m, s, raster, pixels, 0, 0);
-    try_build(m, s, raster, pixels - 1, n, n);
-    try_build(m, s, raster, pixels + 1, n, n);
-    try_build(m, 0, raster, pixels, n, n);
-    try_build(m, HLQ_MOST_SLOTS + 1 + below(1000), raster, pixels, n, n);
-    try_build(HLQ_DEEPEST_M + 1 + below(40), s, raster, pixels, n, n);
-    try_build(0xFFFFFFFFu, 0, raster, 0, n, n);
+    try_build(m, s, raster, pixels, n, n, places);
+    try_build(m, s, raster, pixels, n + below(5), n + below(5), places);
+    try_build(m, s, raster, pixels, most, most + below(3), places);
+    try_build(m, s, raster, pixels, n - 1, n + 1, places);
+    try_build(m, s, raster, pixels, n + 1, n - 1, places);
+    try_build(m, s, raster, pixels, 0, 0, places);
+    try_build(m, s, raster, pixels, n, n, places - 1);
+    try_build(m, s, raster, pixels, n, n, places + 1 + below(3));
+    try_build(m, s, raster, pixels, n - 1, n, 0);
+    try_build(m, s, raster, pixels - 1, n, n, places);
+    try_build(m, s, raster, pixels + 1, n, n, 0);
+    try_build(m, 0, raster, pixels, n, n, places);
+    try_build(m, HLQ_MOST_SLOTS + 1 + below(1000), raster, pixels, n, n, places);
+    try_build(HLQ_DEEPEST_M + 1 + below(40), s, raster, pixels, n, n, places);
+    try_build(0xFFFFFFFFu, 0, raster, 0, n, n, 0);
     raster[below((uint32_t)pixels)] = (uint8_t)(s + below(256 - s));
-    try_build(m, s, raster, pixels, n, n);
-    try_build(m, s, raster, pixels - 1, 0, 0);
-    try_build(m, 0, raster, pixels - 1, 0, 0);
-    try_build(m, s, raster, pixels, 0, n);
+    try_build(m, s, raster, pixels, n, n, places);
+    try_build(m, s, raster, pixels, n, n, places + 1);
+    try_build(m, s, raster, pixels - 1, 0, 0, 0);
+    try_build(m, 0, raster, pixels - 1, 0, 0, 0);
+    try_build(m, s, raster, pixels, 0, n, places);
     free(raster);
 }
 
@@ -103,7 +113,7 @@ int main(void) {
             lists(m);
         }
     }
-    expect_pairs(CALL_BUILD, 1u << 0 | 1u << 1 | 1u << 2 | 1u << 3 | 1u << 9);
+    expect_pairs(CALL_BUILD, 1u << 0 | 1u << 1 | 1u << 2 | 1u << 3 | 1u << 18 | 1u << 9);
     expect_pairs(CALL_RASTER, 1u << 0 | 1u << 1 | 1u << 4 | 1u << 2);
     expect_pairs(CALL_STANDING, 1u << 0 | 1u << 1 | 1u << 4 | 1u << 8);
     expect_pairs(CALL_PART, 1u << 0 | 1u << 1 | 1u << 4 | 1u << 8);

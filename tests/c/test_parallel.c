@@ -8,6 +8,7 @@
 #include <string.h>
 
 enum { M = 6, S = 5, EDGE = 1 << M, PIXELS = EDGE * EDGE, ROOM = HLQ_MOST_RECORDS(M), LOG = 4 * ROOM, THREADS = 8 };
+enum { PLACES = HLQ_SUMMARY_PLACES(M, S) };
 enum { STEPS = SOME(400) };
 
 static uint32_t shared_keys[ROOM], shared_bits[ROOM];
@@ -16,7 +17,7 @@ static size_t shared_n;
 typedef struct {
     uint64_t state, sum;
     uint8_t raster[PIXELS], file[HLQ_FILE_BYTES(ROOM)];
-    uint32_t keys[ROOM], bits[ROOM], log_keys[LOG], log_values[LOG], answer[PIXELS];
+    uint32_t keys[ROOM], bits[ROOM], log_keys[LOG], log_values[LOG], answer[PIXELS], summary[PLACES];
 } worker;
 
 /* Its own random numbers: those of support.h are one run for all. */
@@ -38,12 +39,16 @@ static uint32_t draw_key(worker *w) {
 static void *work(void *of) {
     worker *w = of;
     for (size_t i = 0; i < PIXELS; i++) w->raster[i] = (uint8_t)(draw(w, 9) ? 0 : draw(w, S));
-    size_t n = hlq_build(M, S, w->raster, PIXELS, w->keys, ROOM, w->bits, ROOM).count, used = 0;
+    size_t n = hlq_build(M, S, w->raster, PIXELS, w->keys, ROOM, w->bits, ROOM, w->summary, PLACES).count, used = 0;
     for (int i = 0; i < STEPS; i++) {
-        hlq_edited e = draw(w, 3) ? hlq_paint(M, S, w->keys, ROOM, w->bits, ROOM, n, w->log_keys, LOG, w->log_values,
-                                              LOG, used, draw_key(w), draw(w, S))
-                                  : hlq_take_back(M, S, w->keys, ROOM, w->bits, ROOM, n, w->log_keys, LOG,
-                                                  w->log_values, LOG, used);
+        hlq_edited e;
+        if (draw(w, 3)) {
+            uint32_t key = draw_key(w), feature = draw(w, S);
+            e = hlq_paint(M, S, w->keys, ROOM, w->bits, ROOM, n, w->summary, PLACES, w->log_keys, LOG, w->log_values,
+                          LOG, used, key, feature);
+        } else
+            e = hlq_take_back(M, S, w->keys, ROOM, w->bits, ROOM, n, w->summary, PLACES, w->log_keys, LOG,
+                              w->log_values, LOG, used);
         if (e.refusal == HLQ_ACCEPTED) n = e.n, used = e.used;
         uint32_t height = 1 + draw(w, EDGE), width = 1 + draw(w, EDGE), row = draw(w, EDGE - height + 1);
         uint32_t column = draw(w, EDGE - width + 1), feature = draw(w, S);
@@ -67,10 +72,11 @@ static worker *new_worker(uint64_t start) {
 }
 
 int main(void) {
+    uint32_t summary[PLACES];
     static uint8_t raster[PIXELS];
     seed(12);
     fill_raster(raster, M, S, 1);
-    shared_n = hlq_build(M, S, raster, PIXELS, shared_keys, ROOM, shared_bits, ROOM).count;
+    shared_n = hlq_build(M, S, raster, PIXELS, shared_keys, ROOM, shared_bits, ROOM, summary, PLACES).count;
 
     pthread_t threads[THREADS];
     worker *together[THREADS];

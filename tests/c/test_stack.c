@@ -15,11 +15,13 @@ enum {
     PIXELS = EDGE * EDGE,
     MOST = HLQ_MOST_RECORDS(M),
     LOG = MOST + 64,
+    PLACES = HLQ_SUMMARY_PLACES(M, S),
     STACK = 1 << 18
 };
 
 static uint8_t raster[PIXELS], back[PIXELS], file[HLQ_FILE_BYTES(MOST)];
 static uint32_t keys[MOST], bits[MOST], log_keys[LOG], log_values[LOG], answer[PIXELS], found_ids[PIXELS];
+static uint32_t summary[PLACES];
 static size_t n, used;
 
 /* What the calls are asked: set before each. */
@@ -33,7 +35,7 @@ static uint64_t refusal;
 static void call_key_at(void) { refusal = hlq_key_at(M, row, column, M).refusal; }
 static void call_block_of(void) { refusal = hlq_block_of(M, key).refusal; }
 static void call_build(void) {
-    hlq_counted built = hlq_build(M, S, raster, PIXELS, keys, MOST, bits, MOST);
+    hlq_counted built = hlq_build(M, S, raster, PIXELS, keys, MOST, bits, MOST, summary, PLACES);
     refusal = built.refusal, n = built.count;
 }
 static void call_raster(void) { refusal = hlq_raster(M, S, keys, MOST, bits, MOST, n, back, PIXELS).refusal; }
@@ -48,12 +50,20 @@ static void call_report(void) {
 static void call_select(void) {
     refusal = hlq_select(M, S, keys, MOST, bits, MOST, n, row, column, height, width, feature, answer, PIXELS).refusal;
 }
+static void call_fill(void) {
+    refusal = hlq_fill_summary(M, S, keys, MOST, bits, MOST, n, summary, PLACES).refusal;
+}
+static void call_area(void) {
+    refusal = hlq_area(M, S, keys, MOST, bits, MOST, n, summary, PLACES, row, column, height, width, feature).refusal;
+}
 static void call_paint(void) {
-    hlq_edited e = hlq_paint(M, S, keys, MOST, bits, MOST, n, log_keys, LOG, log_values, LOG, used, key, feature);
+    hlq_edited e = hlq_paint(M, S, keys, MOST, bits, MOST, n, summary, PLACES, log_keys, LOG, log_values, LOG, used,
+                             key, feature);
     refusal = e.refusal, n = e.n, used = e.used;
 }
 static void call_take_back(void) {
-    hlq_edited e = hlq_take_back(M, S, keys, MOST, bits, MOST, n, log_keys, LOG, log_values, LOG, used);
+    hlq_edited e = hlq_take_back(M, S, keys, MOST, bits, MOST, n, summary, PLACES, log_keys, LOG, log_values, LOG,
+                                 used);
     refusal = e.refusal, n = e.n, used = e.used;
 }
 static void call_empty(void) { refusal = hlq_empty(); }
@@ -71,15 +81,15 @@ typedef struct {
     size_t deepest;
 } call;
 
-enum { KEY_AT, BLOCK_OF, BUILD, RASTER, STANDING, PART, EXIST, REPORT, SELECT, PAINT, TAKE_BACK, EMPTY, FINDINGS, STORE,
-       LOAD, CALLS };
+enum { KEY_AT, BLOCK_OF, BUILD, RASTER, STANDING, PART, EXIST, REPORT, SELECT, FILL_SUMMARY, AREA, PAINT, TAKE_BACK,
+       EMPTY, FINDINGS, STORE, LOAD, CALLS };
 static call calls[CALLS] = {
-    { "key_at", call_key_at, 0 }, { "block_of", call_block_of, 0 },
-    { "build", call_build, 0 },   { "raster", call_raster, 0 },     { "standing", call_standing, 0 },
-    { "part", call_part, 0 },     { "exist", call_exist, 0 },       { "report", call_report, 0 },
-    { "select", call_select, 0 }, { "paint", call_paint, 0 },       { "take_back", call_take_back, 0 },
-    { "empty", call_empty, 0 },   { "findings", call_findings, 0 }, { "store", call_store, 0 },
-    { "load", call_load, 0 },
+    { "key_at", call_key_at, 0 },       { "block_of", call_block_of, 0 }, { "build", call_build, 0 },
+    { "raster", call_raster, 0 },       { "standing", call_standing, 0 }, { "part", call_part, 0 },
+    { "exist", call_exist, 0 },         { "report", call_report, 0 },     { "select", call_select, 0 },
+    { "fill_summary", call_fill, 0 },   { "area", call_area, 0 },         { "paint", call_paint, 0 },
+    { "take_back", call_take_back, 0 }, { "empty", call_empty, 0 },       { "findings", call_findings, 0 },
+    { "store", call_store, 0 },         { "load", call_load, 0 },
 };
 
 static _Alignas(64) uint8_t stack[STACK];
@@ -115,7 +125,7 @@ static void measure(int which, uint8_t pattern) {
 static void ask_window(uint32_t a, uint32_t b, uint32_t c, uint32_t d, uint8_t pattern) {
     row = a, column = b, height = c, width = d;
     for (feature = 0; feature < S; feature += 3)
-        for (int which = EXIST; which <= SELECT; which++) measure(which, pattern);
+        for (int which = EXIST; which <= AREA; which++) measure(which, pattern);
 }
 
 static void every_call(uint8_t pattern) {
@@ -170,7 +180,7 @@ int main(void) {
     }
     size_t deepest = 0;
     for (int i = 0; i < CALLS; i++) {
-        printf("  %-9s %5zu bytes of stack\n", calls[i].name, calls[i].deepest);
+        printf("  %-12s %5zu bytes of stack\n", calls[i].name, calls[i].deepest);
         if (calls[i].deepest > deepest) deepest = calls[i].deepest;
     }
     printf("stack: %zu bytes at most; the header says %d\n", deepest, HLQ_STACK_BYTES);
