@@ -164,7 +164,9 @@ def joined(folder):
 @lru_cache(maxsize=None)
 def texts():
     crates = ROOT / "crates"
-    tables = {path.stem: path.read_text() for path in sorted((crates / "definitions/specs/Calls").glob("*.antt"))}
+    # C's build is the survey of the definitions: a list with its summary. Their build, the list alone, is no call of C's.
+    tables = {"Build" if path.stem == "Survey" else path.stem: path.read_text()
+              for path in sorted((crates / "definitions/specs/Calls").glob("*.antt")) if path.stem != "Build"}
     return {"header": HEADER.read_text(), "prowcurl": joined(crates / "prowcurl/src"),
             "definitions": joined(crates / "definitions/src"), "keys": joined(crates / "keys/src"), "tables": tables}
 
