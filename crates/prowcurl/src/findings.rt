@@ -1,4 +1,4 @@
-// Findings for C: the findings of the rules that no waiver hides. A first run over the rules checks them and the waivers and bounds the number of findings;
+// Findings for C: the findings of the rules that their waivers do not cover. A first run over the rules checks them and the waivers and bounds the number of findings;
 // a second counts them, and is passed over where the bound is within the room; the third writes. Like the loop that it calls, the function takes the rules
 // as a lent slice of structs and is walked by hand; so the call itself stands here, and not one more function between it and the runs.
 ghost use mathlib.Core.Path.{_≡_};

@@ -1,4 +1,4 @@
--- Findings: the rules' findings that no waiver hides. Refusals 1, 4, 13, 14, 12.
+-- Findings: the rules' findings that their waivers do not cover. Refusals 1, 4, 13, 14, 12.
 use Prim.Native.Nat.{ℕ}
 use mathlib.Core.Bool.{cond}
 use mathlib.Core.List.{List, [], _∷_, map}
