@@ -1,5 +1,5 @@
 -- What the history theorem says in single steps: a refused call leaves every buffer and count, a taking back cancels the latest paint held, and an
--- accepted paint that is taken back leaves list and log as they were. Rests on Theorem.
+-- accepted paint that is taken back leaves list, summary and log as they were. Rests on Theorem.
 use Prim.Native.Nat.{ℕ}
 use mathlib.Core.Path.{_≡_, refl, sym, ap, _∙_}
 use mathlib.Core.List.{List, [], _∷_, _++_}
@@ -7,8 +7,9 @@ use borrow.Author.Tests.{eq-eqb}
 use Rattle.definitions.specs.Picture.{pictureOfRaster}
 use Rattle.definitions.specs.List.{listOfRaster}
 use Rattle.definitions.specs.Read.{recordsOf}
+use Rattle.definitions.specs.Area.{summaryOf}
 use Rattle.definitions.specs.Calls.Survey.{surveyRefusal}
-use Rattle.history.specs.History.{Call, painting, takingBack, emptying, Buffers, Paint, Kept, nothing, withoutLatest, built, after, answer, run, keep, kept, drawn, logOf, rasterLeft}
+use Rattle.history.specs.History.{Call, painting, takingBack, emptying, Buffers, Paint, Kept, nothing, withoutLatest, built, after, answer, run, keep, kept, drawn, logOf, pictureLeft, rasterLeft}
 use Rattle.history.specs.Claim.{backAnswer}
 use Rattle.history.proofs.PaintStep.{paint-left}
 use Rattle.history.proofs.TakeBackStep.{back-left}
@@ -97,6 +98,13 @@ module _ (m s : ℕ) (raster keys bits summary logKeys logValues : List ℕ) (ac
       history m s raster keys bits summary logKeys logValues accept undone .list
       ∙ ap (λ k. listOfRaster m (rasterLeft m raster k)) (undone-kept e)
       ∙ sym (history m s raster keys bits summary logKeys logValues accept calls .list)
+
+  -- and the summary
+  pub undone-summary : answer m s (run m s begin calls) (painting κ f) ≡ 0 → run m s begin undone .summary ≡ run m s begin calls .summary
+  undone-summary e =
+      history m s raster keys bits summary logKeys logValues accept undone .summary-left
+      ∙ ap (λ k. summaryOf m s (pictureLeft m raster k)) (undone-kept e)
+      ∙ sym (history m s raster keys bits summary logKeys logValues accept calls .summary-left)
 
   -- and the log
   pub undone-log : answer m s (run m s begin calls) (painting κ f) ≡ 0
