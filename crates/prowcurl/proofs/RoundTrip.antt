@@ -12,7 +12,7 @@ use Rattle.keys.proofs.Powers.{two-pos}
 use Rattle.definitions.specs.Picture.{Picture, pictureOfRaster}
 use Rattle.definitions.specs.List.{listOfRaster}
 use Rattle.definitions.specs.Read.{recordsOf, pictureOf}
-use Rattle.definitions.specs.Calls.Build.{buildRefusal, build, buildKeys, buildBits}
+use Rattle.definitions.specs.Calls.Survey.{surveyRefusal, survey, surveyKeys, surveyBits}
 use Rattle.definitions.specs.Calls.Raster.{rasterRefusal, rasterPixels}
 use Rattle.definitions.proofs.ListOf.{list-agree}
 use Rattle.definitions.proofs.ReadBack.{picture-back}
@@ -57,14 +57,14 @@ shows-raster m p raster sized shows =
         ∙ shows (x .row) (x .column) (x .in-rows) (x .in-columns)
         ∙ ap (λ (j : ℕ). getD raster j 0) (sym (x .is))
 
-module _ (m s : ℕ) (raster keys bits pixels : List ℕ) (built : buildRefusal m s raster keys bits ≡ 0) where
+module _ (m s : ℕ) (raster keys bits summary pixels : List ℕ) (built : surveyRefusal m s raster keys bits summary ≡ 0) where
   -- build, and then raster in any slice that it accepts: the raster comes back
-  pub build-raster : rasterRefusal m s (buildKeys m s raster keys bits) (buildBits m s raster keys bits) (build m s raster keys bits .count) pixels ≡ 0
-      → rasterPixels m s (buildKeys m s raster keys bits) (buildBits m s raster keys bits) (build m s raster keys bits .count) pixels ≡ raster
+  pub build-raster : rasterRefusal m s (surveyKeys m s raster keys bits summary) (surveyBits m s raster keys bits summary) (survey m s raster keys bits summary .count) pixels ≡ 0
+      → rasterPixels m s (surveyKeys m s raster keys bits summary) (surveyBits m s raster keys bits summary) (survey m s raster keys bits summary .count) pixels ≡ raster
   unfolding rasterPixels
   build-raster done =
-      rw (eq-eqb _ 0 done, build-records m s raster keys bits built)
-      (shows-raster m (pictureOf m (listOfRaster m raster)) raster (length-to m raster (build-passed m s raster keys bits built .sized))
+      rw (eq-eqb _ 0 done, build-records m s raster keys bits summary built)
+      (shows-raster m (pictureOf m (listOfRaster m raster)) raster (length-to m raster (build-passed m s raster keys bits summary built .sized))
       (λ row column r c. picture-back m (pictureOfRaster m raster) row column r c))
 
 module _ (m s : ℕ) (keys bits : List ℕ) (n : ℕ) (pixels : List ℕ) (done : rasterRefusal m s keys bits n pixels ≡ 0) where
