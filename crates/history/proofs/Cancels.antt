@@ -1,5 +1,5 @@
 -- What the history theorem says in single steps: a refused call leaves every buffer and count, a taking back cancels the latest paint held, and an
--- accepted paint that is taken back leaves list and log as they were. Rests on Theorem.
+-- accepted paint that is taken back leaves list, summary and log as they were. Rests on Theorem.
 use Prim.Native.Nat.{ℕ}
 use mathlib.Core.Path.{_≡_, refl, sym, ap, _∙_}
 use mathlib.Core.List.{List, [], _∷_, _++_}
