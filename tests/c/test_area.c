@@ -125,9 +125,9 @@ static void maps(uint32_t m) {
 
 int main(void) {
     for (uint32_t m = 0; m <= 3; m++)
-        for (uint32_t i = 0; i < SOME(m < 3 ? 40 : 12); i++) seed(77 * m + i), all_windows(m);
+        for (uint32_t i = 0; i < SOME(m < 3 ? 40u : 12u); i++) seed(77 * m + i), all_windows(m);
     for (uint32_t m = 0; m <= HLQ_DEEPEST_M; m++)
-        for (uint32_t i = 0; i < SOME(m <= 4 ? 120 : m <= 6 ? 20 : 2); i++) seed(1000 * m + i), maps(m);
+        for (uint32_t i = 0; i < SOME(m <= 4 ? 120u : m <= 6 ? 20u : 2u); i++) seed(1000 * m + i), maps(m);
     expect_pairs(CALL_FILL_SUMMARY, 1u << 0 | 1u << 1 | 1u << 4 | 1u << 18);
     expect_pairs(CALL_AREA, 1u << 0 | 1u << 1 | 1u << 4 | 1u << 18 | 1u << 6 | 1u << 7);
     return finish("area");
