@@ -31,6 +31,8 @@ pub mod SameNumbers
 pub mod SummaryAddsUp
 pub mod CountsApart
 pub mod SelectArea
+pub mod Overlap
+pub mod ClippedCalls
 pub mod LastEntry
 pub mod SoundLog
 pub mod Waivers
