@@ -64,11 +64,14 @@ window-of row column height width is a b c d h =
     let across = d ∙ ap (overlapLength column width) (is h) in
     λ i. record { row = a i; column = b i; height = up i; width = across i }
 
+pub same-dragged : (m : ℕ) (row column : ℤ) (height width : ℕ) → SFits w32 row → SFits w32 column
+    → clippedWindow m (toZ w32 (ofZ w32 row)) (toZ w32 (ofZ w32 column)) height width ≡ clippedWindow m row column height width
+same-dragged m row column height width f g =
+    ap (λ z. clippedWindow m z (toZ w32 (ofZ w32 column)) height width) (toZ-ofZ w32 row f)
+    ∙ ap (λ z. clippedWindow m row z height width) (toZ-ofZ w32 column g)
+
 pub same-window : {m : ℕ} {w : Window} (row column : ℤ) (height width : ℕ) → SFits w32 row → SFits w32 column
     → (m ≤ 10 → w ≡ clippedWindow m (toZ w32 (ofZ w32 row)) (toZ w32 (ofZ w32 column)) height width)
     → m ≤ 10
     → w ≡ clippedWindow m row column height width
-same-window {m} row column height width f g e h =
-    e h
-    ∙ (ap (λ z. clippedWindow m z (toZ w32 (ofZ w32 column)) height width) (toZ-ofZ w32 row f)
-    ∙ ap (λ z. clippedWindow m row z height width) (toZ-ofZ w32 column g))
+same-window {m} row column height width f g e h = e h ∙ same-dragged m row column height width f g
