@@ -9,6 +9,7 @@
 #define TAKE_LOG uint32_t *log_keys, size_t log_keys_len, uint32_t *log_values, size_t log_values_len
 #define LOG log_keys, log_keys_len, log_values, log_values_len
 #define TAKE_WINDOW uint32_t row, uint32_t column, uint32_t height, uint32_t width
+#define TAKE_DRAGGED int32_t row, int32_t column, uint32_t height, uint32_t width
 #define WINDOW row, column, height, width
 
 hlq_counted hlq_key_at(uint32_t m, uint32_t row, uint32_t column, uint32_t level) {
@@ -44,6 +45,19 @@ hlq_reported hlq_report(uint32_t m, uint32_t s, TAKE_CONST_LIST, size_t n, TAKE_
 hlq_counted hlq_select(uint32_t m, uint32_t s, TAKE_CONST_LIST, size_t n, TAKE_WINDOW, uint32_t feature,
                        uint32_t *answer, size_t answer_len) {
     return ref_select(m, s, LIST, n, WINDOW, feature, answer, answer_len);
+}
+
+hlq_exists hlq_exist_clipped(uint32_t m, uint32_t s, TAKE_CONST_LIST, size_t n, TAKE_DRAGGED, uint32_t feature) {
+    return ref_exist_clipped(m, s, LIST, n, WINDOW, feature);
+}
+
+hlq_reported hlq_report_clipped(uint32_t m, uint32_t s, TAKE_CONST_LIST, size_t n, TAKE_DRAGGED) {
+    return ref_report_clipped(m, s, LIST, n, WINDOW);
+}
+
+hlq_counted hlq_select_clipped(uint32_t m, uint32_t s, TAKE_CONST_LIST, size_t n, TAKE_DRAGGED, uint32_t feature,
+                               uint32_t *answer, size_t answer_len) {
+    return ref_select_clipped(m, s, LIST, n, WINDOW, feature, answer, answer_len);
 }
 
 hlq_edited hlq_paint(uint32_t m, uint32_t s, TAKE_LIST, size_t n, TAKE_LOG, size_t used,

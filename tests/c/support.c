@@ -4,8 +4,10 @@
 #include <stdlib.h>
 #include <string.h>
 
-static const char *const names[CALLS] = { "key at", "block of", "build", "raster",    "standing", "part",  "exist",
-                                          "report", "select",   "paint", "take back", "findings", "store", "load" };
+static const char *const names[CALLS] = {
+    "key at", "block of", "build", "raster", "standing", "part", "exist", "report", "select", "exist clipped",
+    "report clipped", "select clipped", "paint", "take back", "findings", "store", "load"
+};
 static uint64_t state = 1, comparisons, pairs[CALLS][MAX_REFUSAL + 1];
 
 static void fail(const char *what) {
