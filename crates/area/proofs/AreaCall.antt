@@ -1,6 +1,6 @@
 -- The call of an area: what a call that is not refused has passed, a refused call gives its number and no pixels, and an accepted one the area. Rests on the
 -- laws of tables.
-use Prim.Native.Nat.{ℕ, _≤_, _<_}
+use Prim.Native.Nat.{ℕ, _<_}
 use mathlib.Core.Path.{_≡_, refl, sym, _∙_}
 use mathlib.Core.Bool.{true}
 use mathlib.Core.List.{List}

@@ -1,13 +1,13 @@
 -- The area from a key on: how many pixels of the window have the feature and a key at or after x. From the root's key on it is the area, at the end of
 -- the map it is 0; a block that is passed takes away its own pixels, and one that is entered takes away none. Rests on SumUnder.
 use Prim.Native.Nat.{ℕ, _+_, _^_, _≤_, _<_}
-use mathlib.Core.Path.{_≡_, refl, sym, _∙_, ap}
-use mathlib.Core.Bool.{Bool, true, false, cond, _&&_}
+use mathlib.Core.Path.{_≡_, sym, _∙_, ap}
+use mathlib.Core.Bool.{true, false, cond, _&&_}
 use native.Mathlib.Omega.{arith}
 use lib.Dec.{leb, ltb, eqb}
 use borrow.Author.Tests.{le-leb, lt-leb, lt-ltb, le-ltb}
 use Rattle.keys.specs.Block.{pixelKey}
-use Rattle.keys.proofs.Cases.{decide, split, and-left}
+use Rattle.keys.proofs.Cases.{decide, split}
 use Rattle.keys.proofs.Under.{Block}
 use Rattle.keys.proofs.Pixel.{InSquare, inside, back, pixelKey-lt}
 use Rattle.definitions.specs.Picture.{Picture}

@@ -1,10 +1,10 @@
--- The count of one feature in the walk's block, by its key as the code asks for it: in numbers of the spot, at its place in the summary, and among the
--- counts of its records. Rests on NumberOf.
-use Prim.Native.Nat.{ℕ, zero, suc, _+_, _*_, _^_, _≤_, _<_}
-use mathlib.Core.Path.{_≡_, refl, sym, _∙_, ap, ap₂}
+-- The walk's block by its key, as the code asks for it: its key is valid, its side squared are its pixels, its count is that of its square, and stands at its
+-- place in the summary. Rests on NumberOf.
+use Prim.Native.Nat.{ℕ, _+_, _*_, _^_, _≤_, _<_}
+use mathlib.Core.Path.{_≡_, sym, _∙_, ap, ap₂}
 use mathlib.Core.Bool.{true}
 use mathlib.Core.List.{List}
-use native.Mathlib.Nat.{pow-suc, mul-le-mul, mul-le-mul-right, mul-assoc, mul-comm}
+use native.Mathlib.Nat.{mul-le-mul}
 use native.Mathlib.Omega.{arith}
 use lib.ListN.{length, getD}
 use Rattle.keys.specs.Key.{validKey, heightOf}
@@ -13,9 +13,8 @@ use Rattle.keys.proofs.Powers.{two-le}
 use Rattle.keys.proofs.Interval.{within}
 use Rattle.keys.proofs.Valid.{block-valid}
 use Rattle.definitions.specs.Picture.{Picture, oneFeature}
-use Rattle.definitions.specs.Area.{pixelsWith, countsOf, summaryOf}
+use Rattle.definitions.specs.Area.{pixelsWith, summaryOf}
 use Rattle.definitions.proofs.PixelSums.{squared}
-use Rattle.definitions.proofs.SummaryOf.{count-of}
 use Rattle.window.specs.Walk.{Stands}
 use Rattle.window.specs.declared.walk.Spot.{Spot}
 use Rattle.area.specs.Number.{numberOf}

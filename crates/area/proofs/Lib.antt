@@ -3,9 +3,8 @@ pub mod AreaFrom
 pub mod OverlapArea
 pub mod NumberOf
 pub mod BlockCount
+pub mod Looked
 pub mod TallyTurn
 pub mod WholeBlock
 pub mod Measured
-pub mod Looked
-pub mod SelectArea
 pub mod AreaCall

@@ -1,47 +1,41 @@
 -- The area on the walk: what was counted, and what is left from the key where the walk stands on, are together the area. A block that is passed adds what
 -- it has of the feature in the window, one that is entered adds nothing. Rests on AreaFrom, OverlapArea and BlockCount.
-use Prim.Native.Nat.{ℕ, zero, suc, _+_, _*_, _/_, _^_, _≤_, _<_}
-use mathlib.Core.Path.{_≡_, refl, sym, _∙_, ap}
-use mathlib.Core.Bool.{true, false}
+use Prim.Native.Nat.{ℕ, zero, suc, _+_, _*_, _/_, _^_, _≤_}
+use mathlib.Core.Path.{_≡_, sym, _∙_, ap}
+use mathlib.Core.Bool.{true, false, true≢false}
+use mathlib.Core.List.{List}
 use native.Mathlib.Nat.{pow-le-pow-right}
 use native.Mathlib.Omega.{arith}
 use lib.Dec.{leb, lit<}
-use borrow.Author.Tests.{eqb-true}
 use Rattle.keys.specs.Key.{heightOf}
 use Rattle.keys.specs.Block.{rowOf, columnOf}
 use Rattle.keys.proofs.Cases.{and-right}
 use Rattle.keys.proofs.Under.{Block}
-use Rattle.definitions.specs.Picture.{Picture}
-use Rattle.definitions.specs.Bits.{hasSlot, bitsOf}
+use Rattle.definitions.specs.Picture.{Picture, oneFeature}
+use Rattle.definitions.specs.Bits.{hasSlot}
 use Rattle.definitions.specs.Window.{isWindow}
 use Rattle.definitions.specs.Area.{areaIn, pixelsWith}
 use Rattle.definitions.specs.declared.Window.{Window}
-use Rattle.definitions.proofs.Slots.{slot-power}
-use Rattle.definitions.proofs.BitsOf.{bits-zero}
-use Rattle.window.specs.Walk.{Stands, isApart, isWithin}
+use Rattle.definitions.proofs.Features.{one-pixel}
+use Rattle.window.specs.Walk.{Stands, isApart}
 use Rattle.window.specs.declared.walk.Spot.{Spot}
 use Rattle.window.proofs.Seen.{bitsAt}
 use Rattle.window.proofs.Steps.{Parent, clear-first}
 use Rattle.area.specs.Overlap.{overlapOf, isWhole}
+use Rattle.area.specs.Tally.{MixedAt}
 use Rattle.area.proofs.AreaFrom.{areaFrom, area-first, area-end, area-most, area-clear, area-block}
 use Rattle.area.proofs.OverlapArea.{ownArea, own-apart, own-lacking, own-within, own-whole}
-use Rattle.area.proofs.BlockCount.{keyed}
+use Rattle.area.proofs.BlockCount.{keyed, keyed-one}
 
--- a pixel that has the feature has no other
-one-pixel : (p : Picture) (f r c : ℕ) → hasSlot (bitsOf p zero r c) f ≡ true → bitsOf p zero r c ≡ 2 ^ f
-one-pixel p f r c has =
-    bits-zero p r c ∙ ap (λ x. 2 ^ x) (eqb-true (p r c) f (sym (slot-power (p r c) f) ∙ ap (λ x. hasSlot x f) (sym (bits-zero p r c)) ∙ has))
-
-parent-by : {m : ℕ} (p : Picture) (f : ℕ) (s : Spot) (k : ℕ) → Block m k (s .row) (s .column) (s .key) → s .side ≡ 2 ^ k → s .step ≡ 5 ^ k
-    → hasSlot (bitsOf p k (s .row) (s .column)) f ≡ true
-    → (bitsOf p k (s .row) (s .column) ≡ 2 ^ f → ⊥)
+parent-by : {m : ℕ} (p : Picture) (s : Spot) (k : ℕ) → Block m k (s .row) (s .column) (s .key) → s .side ≡ 2 ^ k → s .step ≡ 5 ^ k
+    → oneFeature p k (s .row) (s .column) ≡ false
     → Parent m s
-parent-by p f s zero b side step has other = absurd (other (one-pixel p f (s .row) (s .column) has))
-parent-by p f s (suc k) b side step has other = record { height = k; block = b; side = side; step = step }
+parent-by p s zero b side step several = absurd (true≢false (sym (one-pixel p (s .row) (s .column)) ∙ several))
+parent-by p s (suc k) b side step several = record { height = k; block = b; side = side; step = step }
 
--- a block that has the feature and others is no pixel
-pub mixed-parent : (p : Picture) (f : ℕ) {m : ℕ} {s : Spot} (h : Stands m s) → hasSlot (bitsAt p h) f ≡ true → (bitsAt p h ≡ 2 ^ f → ⊥) → Parent m s
-mixed-parent p f {s = s} h has other = parent-by p f s (h .height) (h .block) (h .side) (h .step) has other
+-- a block of several features is no pixel
+pub mixed-parent : {m : ℕ} {p : Picture} {bits : List ℕ} {s : Spot} {from : ℕ} → Stands m s → MixedAt m p bits s from → Parent m s
+mixed-parent {p = p} {s = s} h x = parent-by p s (h .height) (h .block) (h .side) (h .step) (sym (keyed-one h p) ∙ x .several)
 
 module _ (m : ℕ) (p : Picture) (w : Window) (f : ℕ) where
   -- what was counted, with what is left from a key on, is the area

@@ -1,6 +1,6 @@
 -- Where the summary has a block's counts: a block of the summary's level has the number that the first two digits of its key give, and the summary's
 -- place of that number and a feature has the block's count. Rests on the summary block by block.
-use Prim.Native.Nat.{ℕ, zero, suc, _+_, _-_, _*_, _/_, _%_, _^_, _≤_, _<_, min}
+use Prim.Native.Nat.{ℕ, suc, _+_, _-_, _*_, _/_, _%_, _^_, _≤_, _<_}
 use mathlib.Core.Path.{_≡_, refl, sym, _∙_, ap, ap₂}
 use native.Mathlib.Nat.{pow-suc, add-zero, add-mul, suc-mul, mul-comm, mul-assoc, mul-le-mul-right, div-one, mul-div-cancel}
 use native.Mathlib.Numerals.{add-one}
@@ -14,7 +14,7 @@ use Rattle.keys.proofs.Under.{Under, here, nw, ne, sw, se, Block}
 use Rattle.keys.proofs.Interval.{within}
 use Rattle.keys.proofs.Valid.{block-valid}
 use Rattle.definitions.specs.Picture.{Picture}
-use Rattle.definitions.specs.Area.{pixelsWith, summaryLevel, summaryHeight, summaryOf, keyBelow, blockKey, summaryLength}
+use Rattle.definitions.specs.Area.{pixelsWith, summaryLevel, summaryHeight, summaryOf, keyBelow, blockKey}
 use Rattle.definitions.proofs.SummaryOf.{summary-length, summary-place}
 use Rattle.window.specs.Walk.{Stands}
 use Rattle.window.specs.declared.walk.Spot.{Spot}

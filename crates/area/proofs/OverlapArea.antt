@@ -1,7 +1,7 @@
 -- What a block adds to an area: nothing where it lies apart from the window or lacks the feature, the overlap where it has the feature alone, and its
 -- own count where it lies within the window. Rests on the sums over rows and the walk's laws.
-use Prim.Native.Nat.{ℕ, zero, suc, _+_, _-_, _*_, _^_, _≤_, _<_, min}
-use mathlib.Core.Path.{_≡_, refl, sym, _∙_, ap, ap₂}
+use Prim.Native.Nat.{ℕ, zero, suc, _+_, _-_, _*_, _^_, _≤_, _<_}
+use mathlib.Core.Path.{_≡_, sym, _∙_, ap, ap₂}
 use mathlib.Core.Bool.{true, false, cond, _&&_}
 use native.Mathlib.Nat.{suc-mul, zero-mul, mul-zero, mul-one}
 use native.Mathlib.Omega.{arith}
@@ -20,7 +20,7 @@ use Rattle.definitions.proofs.CountOf.{oneAt, pixels-sum}
 use Rattle.definitions.proofs.AreaOf.{oneInside}
 use Rattle.window.specs.Walk.{Stands, isApart, isWithin}
 use Rattle.window.specs.declared.walk.Spot.{Spot}
-use Rattle.window.proofs.Lies.{InSpot, Meets, not-apart, apart-pixel, within-pixel}
+use Rattle.window.proofs.Lies.{InSpot, not-apart, apart-pixel, within-pixel}
 use Rattle.window.proofs.Seen.{bitsAt, no-slot-pixel, whole-pixel}
 use Rattle.area.specs.Overlap.{common, overlapOf}
 use Rattle.area.proofs.SumUnder.{sum-nothing}

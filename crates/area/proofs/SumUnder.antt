@@ -1,13 +1,13 @@
 -- Sums over the pixels of a block that lies in a larger one: the larger block's sum is the smaller one's where nothing is added outside that. A sum of
 -- sums is the sum of both, and a sum of ones and zeros is at most the pixels. Rests on the sums by quadrants.
-use Prim.Native.Nat.{ℕ, zero, suc, _+_, _*_, _^_, _≤_, _<_}
-use mathlib.Core.Path.{_≡_, refl, sym, _∙_, ap}
+use Prim.Native.Nat.{ℕ, zero, suc, _+_, _^_, _≤_}
+use mathlib.Core.Path.{_≡_, refl, _∙_}
 use native.Mathlib.Nat.{pow-suc}
 use native.Mathlib.Omega.{arith}
 use Rattle.keys.proofs.Under.{Under, here, nw, ne, sw, se}
 use Rattle.keys.proofs.Interval.{within}
 use Rattle.keys.proofs.Pixel.{InSquare}
-use Rattle.definitions.proofs.Within.{Every, first-within, every-nw, every-ne, every-sw, every-se}
+use Rattle.definitions.proofs.Within.{Every, every-nw, every-ne, every-sw, every-se}
 use Rattle.definitions.proofs.PixelSums.{sumPixels, sum-zero, sum-suc, sum-constant}
 
 -- what adds nothing at any pixel adds nothing

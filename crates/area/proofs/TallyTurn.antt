@@ -1,11 +1,9 @@
 -- A turn of the count of one feature over a node's quadrants: a leaf or a node among them adds the quadrant's pixels, and after four turns the node is
 -- counted. Rests on list's ShownQuadrants and definitions' CountOf.
-use Prim.Native.Nat.{ℕ, zero, suc, _+_, _*_, _/_, _^_, _≤_, _<_}
-use mathlib.Core.Path.{_≡_, refl, sym, _∙_, ap}
+use Prim.Native.Nat.{ℕ, zero, suc, _+_, _/_, _^_, _≤_, _<_}
+use mathlib.Core.Path.{_≡_, sym, _∙_, ap}
 use mathlib.Core.Bool.{true, false, cond, true≢false}
 use mathlib.Core.List.{List}
-use native.Mathlib.Nat.{pow-suc, suc-mul, mul-le-mul-right, one-le-pow}
-use native.Mathlib.Numerals.{add-one}
 use native.Mathlib.Omega.{arith}
 use lib.ListN.{length, getD}
 use lib.Dec.{eqb}
@@ -13,46 +11,19 @@ use borrow.Author.Tests.{eq-eqb, ne-eqb}
 use Rattle.keys.specs.Key.{childKey}
 use Rattle.keys.proofs.Cases.{equal}
 use Rattle.definitions.specs.Picture.{Picture, oneFeature}
-use Rattle.definitions.specs.Bits.{featureOf, bitsOf}
+use Rattle.definitions.specs.Bits.{featureOf}
 use Rattle.definitions.specs.Area.{pixelsWith}
 use Rattle.definitions.proofs.Features.{one-pixel}
-use Rattle.definitions.proofs.CountOf.{pixels-quadrants, pixels-most, pixels-one, pixels-none}
+use Rattle.definitions.proofs.CountOf.{pixels-most, pixels-one, pixels-none}
 use Rattle.list.specs.Check.{oneSlot}
 use Rattle.list.specs.Shown.{ShownAt}
 use Rattle.list.proofs.OneSlot.{slot-power}
 use Rattle.list.proofs.Shown.{shown-room, leaf-one, leaf-feature, leaf-length, node-several}
 use Rattle.list.proofs.ShownQuadrants.{quadrantRow, quadrantColumn, Left, left-all, left-shown, left-then, left-none}
 use Rattle.summary.specs.Count.{NodeAt}
-use Rattle.summary.proofs.CountTurn.{quadrantPixels, firstPixels, shown-node}
+use Rattle.summary.proofs.CountTurn.{firstPixels, first-none, first-more, first-all, first-room, quarter-is, shown-node}
 use Rattle.area.specs.Tally.{BlockTallied, NodeTallied}
 use Rattle.area.specs.declared.tally.Tally.{Tally}
-
-module _ (p : Picture) (k r c f : ℕ) where
-  first-none : firstPixels p k r c 0 f ≡ 0
-  unfolding firstPixels
-  first-none = refl
-
-  first-more : (d : ℕ) → firstPixels p k r c (d + 1) f ≡ firstPixels p k r c d f + quadrantPixels p k r c d f
-  unfolding firstPixels
-  first-more d = rw (add-one d)
-
-  first-all : firstPixels p k r c 4 f ≡ pixelsWith p (suc k) r c f
-  unfolding firstPixels quadrantRow quadrantColumn
-  first-all = let e = pixels-quadrants p f k r c in omega arith
-
-  first-most : (d : ℕ) → firstPixels p k r c d f ≤ d * 4 ^ k
-  unfolding firstPixels
-  first-most zero = omega arith
-  first-most (suc d) = let e = first-most d in let h = pixels-most p k (quadrantRow d r (2 ^ k)) (quadrantColumn d c (2 ^ k)) f in let g = suc-mul d (4 ^ k) in omega arith
-
-  -- while a quadrant is left, there is room for it
-  first-room : (d : ℕ) → d < 4 → firstPixels p k r c d f + 4 ^ k ≤ 4 ^ suc k
-  first-room d h =
-      let e = first-most d in
-      let g = suc-mul d (4 ^ k) in
-      let i = mul-le-mul-right {m = suc d} {n = 4} (4 ^ k) (omega arith) in
-      let j = pow-suc 4 k in
-      omega arith
 
 -- what a leaf adds to the count of a feature whose bit is given
 leaf-tallied : {p : Picture} {k r c κ : ℕ} {bits : List ℕ} {at : ℕ} (s : ShownAt p k r c κ bits at) → oneSlot (getD bits at 0) ≡ true
@@ -102,9 +73,6 @@ reached-none bits at area f = record {
   most = omega arith;
   passed = λ p k r c κ s several e. record { left = left-all s several; counted = sym (first-none p k r c f) };
 }
-
-quarter-is : (area k : ℕ) → area ≡ 4 ^ suc k → area / 4 ≡ 4 ^ k
-quarter-is area k e = let f = pow-suc 4 k in omega arith
 
 module _ {bits : List ℕ} {at area f pixels next d : ℕ} (x : Reached bits at area f pixels next d) where
   -- one quadrant more
@@ -188,7 +156,3 @@ leaf-turn bit {bits} {next = next} x one more pixels′ next′ h leaf e sum pas
       ends = ap (λ n. next + n) (sym (leaf-length s leaf));
     })
     sum past
-
--- a quarter of the pixels is less
-pub less : (area t : ℕ) {bits : List ℕ} {at : ℕ} → area ≡ t → NodeAt bits at area → area / 4 < t
-less area t e node = let f = node .pixels in let g = pow-suc 4 (node .height) in let z = one-le-pow (node .height) 4 (omega arith) in omega arith

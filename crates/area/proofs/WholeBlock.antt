@@ -1,9 +1,10 @@
 -- A block of several features that is counted as a whole: it is a node that the bitstrings show at its place, its count is a number of the summary, or is
 -- tallied from its records. Rests on BlockCount, TallyTurn and list's Shown.
 use Prim.Native.Nat.{ℕ, _+_, _-_, _*_, _^_, _<_}
-use mathlib.Core.Path.{_≡_, refl, sym, _∙_, ap}
+use mathlib.Core.Path.{_≡_, sym, _∙_, ap}
 use mathlib.Core.Bool.{true, false, true≢false}
 use mathlib.Core.List.{List}
+use lib.Bits.{bitAnd}
 use lib.ListN.{length, getD, take}
 use borrow.Author.Tests.{eqb-true}
 use Rattle.keys.specs.Key.{heightOf}
@@ -19,18 +20,17 @@ use Rattle.definitions.proofs.FeatureOf.{feature-of-power}
 use Rattle.list.specs.Check.{oneSlot}
 use Rattle.list.specs.Own.{OwnList, shownBy}
 use Rattle.list.specs.Among.{keysUpTo, placeAmong}
-use Rattle.list.specs.Shown.{ShownAt}
 use Rattle.list.proofs.OneSlot.{power-slot}
 use Rattle.list.proofs.Shown.{leaf-one, block-shown}
 use Rattle.summary.specs.Count.{NodeAt}
 use Rattle.summary.proofs.CountTurn.{shown-node}
 use Rattle.window.specs.Walk.{Stands}
 use Rattle.window.specs.declared.walk.Spot.{Spot}
-use Rattle.window.proofs.Seen.{bitsAt}
 use Rattle.area.specs.Number.{numberOf}
 use Rattle.area.specs.Tally.{NodeTallied, MixedAt, WholeAsked, WholeCounted}
 use Rattle.area.specs.declared.tally.Tally.{Tally}
 use Rattle.area.proofs.BlockCount.{key-valid, area-is, keyed-one, summary-has, summary-room}
+use Rattle.area.proofs.Looked.{count-yes, count-mixed}
 use Rattle.area.proofs.TallyTurn.{shown-tallied}
 
 -- a feature's bit is one slot
@@ -47,13 +47,16 @@ mixed-several p f k r c has other =
     (λ several. several)
 
 -- so the bitstrings show it where its record is
-pub mixed-at : {m : ℕ} {keys bits : List ℕ} {n : ℕ} (o : OwnList m keys bits n) {s : Spot} (h : Stands m s) (f count : ℕ) → count ≡ keysUpTo (s .key) (take n keys)
-    → hasSlot (bitsAt (shownBy m keys bits n) h) f ≡ true
-    → (bitsAt (shownBy m keys bits n) h ≡ 2 ^ f → ⊥)
+pub mixed-at : {m : ℕ} {keys bits : List ℕ} {n : ℕ} (o : OwnList m keys bits n) {s : Spot} (h : Stands m s) (f bit : ℕ) → bit ≡ 2 ^ f
+    → (count : ℕ) → count ≡ keysUpTo (s .key) (take n keys)
+    → (bitAnd (getD bits (count - 1) 0) bit ≡ 0 → ⊥)
+    → (getD bits (count - 1) 0 ≡ bit → ⊥)
     → MixedAt m (shownBy m keys bits n) bits s (count - 1)
 unfolding placeAmong
-mixed-at {m} {keys} {bits} {n} o {s} h f count e has other =
-    let several = keyed-one h (shownBy m keys bits n) ∙ mixed-several (shownBy m keys bits n) f (h .height) (s .row) (s .column) has other in
+mixed-at {m} {keys} {bits} {n} o {s} h f bit is count e some other =
+    let has = count-yes o h f bit is count e some in
+    let mixed = mixed-several (shownBy m keys bits n) f (h .height) (s .row) (s .column) has (count-mixed o h f bit is count e other) in
+    let several = keyed-one h (shownBy m keys bits n) ∙ mixed in
     record { shown = rw e (block-shown o (valid-block m (s .key) (key-valid h)) several); several = several }
 
 module _ {m : ℕ} {t : Spot} (h : Stands m t) where

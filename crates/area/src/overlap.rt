@@ -8,12 +8,14 @@ use definitions::Window;
 use window::walk;
 use window::walk::Spot;
 
+// Where both runs have begun.
 fn later(first: u32, start: u32) -> u32
     ensures { λ r. ⌜ r ≡ start + (first - start) ⌝ }
 {
     if first < start { start } else { first }
 }
 
+// Where one of them has ended.
 fn earlier(end: u32, past: u32) -> u32
     ensures { λ r. ⌜ r ≡ min end past ⌝ }
 {

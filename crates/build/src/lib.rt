@@ -15,7 +15,7 @@ mod pixels;
 mod write;
 
 // The refusals that settings and raster decide, in their order: 1, 2 and 3, else 0.
-fn refusal_of(m: u32, s: u32, raster: &[u8]) -> u64
+pub fn refusal_of(m: u32, s: u32, raster: &[u8]) -> u64
     ensures { λ r. ⌜ r ≡ first (badSettings m s gives 1 ∷ badLength m (now (raster .entry)) gives 2 ∷ badPixel s (now (raster .entry)) gives 3 ∷ []) ⌝ }
 {
     if settings::are_bad(m, s) {
@@ -38,16 +38,13 @@ fn smaller(a: usize, b: usize) -> usize
     if a < b { a } else { b }
 }
 
-// The list of a raster, or the first refusal that applies. That there is room is known before the first write.
-pub fn build(m: u32, s: u32, raster: &[u8], keys: &mut [u32], bits: &mut [u32]) -> Counted
+// The list of a raster that refusals 1, 2 and 3 pass, or 9. That there is room is known before the first write.
+pub fn build_checked(m: u32, s: u32, raster: &[u8], keys: &mut [u32], bits: &mut [u32]) -> Counted
+    requires { ⌜ first (badSettings m s gives 1 ∷ badLength m (now raster) gives 2 ∷ badPixel s (now raster) gives 3 ∷ []) ≡ 0 ⌝ }
     ensures { λ r. ⌜ r ≡ built m s (now (raster .entry)) (now (keys .entry)) (now (bits .entry)) ⌝ }
     ensures { λ _. ⌜ now (keys .exit) ≡ buildKeys m s (now (raster .entry)) (now (keys .entry)) (now (bits .entry)) ⌝ }
     ensures { λ _. ⌜ now (bits .exit) ≡ buildBits m s (now (raster .entry)) (now (keys .entry)) (now (bits .entry)) ⌝ }
 {
-    let refusal = refusal_of(m, s, raster);
-    if refusal != 0 {
-        return Counted { refusal, count: 0 };
-    }
     let side = power::power_of_two(m) as usize;
     let room = smaller(keys.len(), bits.len());
     if !count::has_room(raster, side, m, room) {
@@ -64,4 +61,17 @@ pub fn build(m: u32, s: u32, raster: &[u8], keys: &mut [u32], bits: &mut [u32]) 
         refusal: 0,
         count: n as u64,
     }
+}
+
+// The list of a raster, or the first refusal that applies.
+pub fn build(m: u32, s: u32, raster: &[u8], keys: &mut [u32], bits: &mut [u32]) -> Counted
+    ensures { λ r. ⌜ r ≡ built m s (now (raster .entry)) (now (keys .entry)) (now (bits .entry)) ⌝ }
+    ensures { λ _. ⌜ now (keys .exit) ≡ buildKeys m s (now (raster .entry)) (now (keys .entry)) (now (bits .entry)) ⌝ }
+    ensures { λ _. ⌜ now (bits .exit) ≡ buildBits m s (now (raster .entry)) (now (keys .entry)) (now (bits .entry)) ⌝ }
+{
+    let refusal = refusal_of(m, s, raster);
+    if refusal != 0 {
+        return Counted { refusal, count: 0 };
+    }
+    build_checked(m, s, raster, keys, bits)
 }

@@ -31,6 +31,7 @@ pub mod SameNumbers
 pub mod SummaryAddsUp
 pub mod CountsApart
 pub mod SelectArea
+pub mod SummaryPlaces
 pub mod Overlap
 pub mod ClippedCalls
 pub mod LastEntry

@@ -1,4 +1,4 @@
--- The blocks that select gives for a feature have together exactly its area in the window. Rests on AreaOf and SelectMeans.
+-- The blocks that select gives for a feature have together exactly its area in the window. Rests on AreaOf.
 use Prim.Native.Nat.{ℕ, zero, suc, _+_, _^_}
 use mathlib.Core.Path.{_≡_, sym, _∙_, ap}
 use mathlib.Core.Bool.{true, false, cond, _&&_}

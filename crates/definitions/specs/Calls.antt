@@ -1,5 +1,6 @@
 -- A file for each call of document 01: its table of refusals in document 01's order, its result, and what each lent buffer holds afterwards.
 pub mod Build
+pub mod Survey
 pub mod Raster
 pub mod Standing
 pub mod Part

@@ -25,6 +25,10 @@ use Rattle.prowcurl.proofs.lists.hlq_standing as standing
 use Rattle.prowcurl.proofs.lists.hlq_standing.Reads as standing-reads
 use Rattle.prowcurl.proofs.lists.hlq_part as part
 use Rattle.prowcurl.proofs.lists.hlq_part.Reads as part-reads
+use Rattle.prowcurl.proofs.areas.hlq_fill_summary as fill-summary
+use Rattle.prowcurl.proofs.areas.hlq_fill_summary.Reads as fill-summary-reads
+use Rattle.prowcurl.proofs.areas.hlq_area as area
+use Rattle.prowcurl.proofs.areas.hlq_area.Reads as area-reads
 use Rattle.prowcurl.proofs.windows.hlq_exist as exist
 use Rattle.prowcurl.proofs.windows.hlq_exist.Reads as exist-reads
 use Rattle.prowcurl.proofs.windows.hlq_report as report
@@ -106,7 +110,7 @@ by-equations {T} shown x =
       all-same-is (x .κs) (T .signature .params) (T .kept) (x .lent) (x .left) (x .left′) (all-right first rest (shown x)),
     )
 
--- whatever promises equate with what was lent, two answers that keep them give the same: one promise, two, three
+-- whatever promises equate with what was lent, two answers that keep them give the same: one promise, two, three, four
 one : {A : Type 0} {a a′ promised : A} → a ≡ promised → a′ ≡ promised → a ≡ a′
 one kept kept′ = kept ∙ sym kept′
 
@@ -117,6 +121,11 @@ three : {A B C : Type 0} {a a′ p : A} {b b′ q : B} {c c′ r : C} → (a ≡
     → (a ≡ a′) × ((b ≡ b′) × (c ≡ c′))
 three kept kept′ = (one (kept .0) (kept′ .0), two (kept .1) (kept′ .1))
 
+four : {A B C D : Type 0} {a a′ p : A} {b b′ q : B} {c c′ r : C} {d d′ t : D} → (a ≡ p) × ((b ≡ q) × ((c ≡ r) × (d ≡ t)))
+    → (a′ ≡ p) × ((b′ ≡ q) × ((c′ ≡ r) × (d′ ≡ t)))
+    → (a ≡ a′) × ((b ≡ b′) × ((c ≡ c′) × (d ≡ d′)))
+four kept kept′ = (one (kept .0) (kept′ .0), three (kept .1) (kept′ .1))
+
 -- blocks
 pub key-at-one : OneAnswer key-at.ended key-at-reads.Learnt
 key-at-one = by-equations (λ x. one (x .kept) (x .kept′))
@@ -126,7 +135,7 @@ block-of-one = by-equations (λ x. one (x .kept) (x .kept′))
 
 -- lists
 pub build-one : OneAnswer build.ended build-reads.Learnt
-build-one = by-equations (λ x. three (x .kept) (x .kept′))
+build-one = by-equations (λ x. four (x .kept) (x .kept′))
 
 pub raster-one : OneAnswer raster.ended raster-reads.Learnt
 raster-one = by-equations (λ x. two (x .kept) (x .kept′))
@@ -136,6 +145,13 @@ standing-one = by-equations (λ x. one (x .kept) (x .kept′))
 
 pub part-one : OneAnswer part.ended part-reads.Learnt
 part-one = by-equations (λ x. one (x .kept) (x .kept′))
+
+-- areas
+pub fill-summary-one : OneAnswer fill-summary.ended fill-summary-reads.Learnt
+fill-summary-one = by-equations (λ x. two (x .kept) (x .kept′))
+
+pub area-one : OneAnswer area.ended area-reads.Learnt
+area-one = by-equations (λ x. one (x .kept) (x .kept′))
 
 -- windows
 pub exist-one : OneAnswer exist.ended exist-reads.Learnt

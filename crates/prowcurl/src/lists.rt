@@ -1,6 +1,6 @@
 // Lists for C: build, raster, standing, part.
 ghost use mathlib.Core.Path.{_≡_};
-ghost use Rattle.definitions.specs.Calls.Build.{build as built, buildKeys, buildBits};
+ghost use Rattle.definitions.specs.Calls.Survey.{survey as surveyed, surveyKeys, surveyBits, surveySummary};
 ghost use Rattle.definitions.specs.Calls.Raster.{raster as rasterAnswer, rasterPixels};
 ghost use Rattle.definitions.specs.Calls.Standing.{standing as standingAnswer};
 ghost use Rattle.definitions.specs.Calls.Part.{partSpan};
@@ -17,12 +17,14 @@ pub extern "C" fn hlq_build(
     raster: &[u8],
     keys: &mut [u32],
     bits: &mut [u32],
+    summary: &mut [u32],
 ) -> Counted
-    ensures { λ r. ⌜ r ≡ built m s (now (raster .entry)) (now (keys .entry)) (now (bits .entry)) ⌝ }
-    ensures { λ _. ⌜ now (keys .exit) ≡ buildKeys m s (now (raster .entry)) (now (keys .entry)) (now (bits .entry)) ⌝ }
-    ensures { λ _. ⌜ now (bits .exit) ≡ buildBits m s (now (raster .entry)) (now (keys .entry)) (now (bits .entry)) ⌝ }
+    ensures { λ r. ⌜ r ≡ surveyed m s (now (raster .entry)) (now (keys .entry)) (now (bits .entry)) (now (summary .entry)) ⌝ }
+    ensures { λ _. ⌜ now (keys .exit) ≡ surveyKeys m s (now (raster .entry)) (now (keys .entry)) (now (bits .entry)) (now (summary .entry)) ⌝ }
+    ensures { λ _. ⌜ now (bits .exit) ≡ surveyBits m s (now (raster .entry)) (now (keys .entry)) (now (bits .entry)) (now (summary .entry)) ⌝ }
+    ensures { λ _. ⌜ now (summary .exit) ≡ surveySummary m s (now (raster .entry)) (now (keys .entry)) (now (bits .entry)) (now (summary .entry)) ⌝ }
 {
-    build::build(m, s, raster, keys, bits)
+    survey::survey(m, s, raster, keys, bits, summary)
 }
 
 #[no_mangle]

@@ -31,25 +31,25 @@ firstPixels p k r c zero f = 0
 firstPixels p k r c (suc d) f = firstPixels p k r c d f + quadrantPixels p k r c d f
 
 module _ (p : Picture) (k r c f : ℕ) where
-  first-none : firstPixels p k r c 0 f ≡ 0
+  pub first-none : firstPixels p k r c 0 f ≡ 0
   unfolding firstPixels
   first-none = refl
 
-  first-more : (d : ℕ) → firstPixels p k r c (d + 1) f ≡ firstPixels p k r c d f + quadrantPixels p k r c d f
+  pub first-more : (d : ℕ) → firstPixels p k r c (d + 1) f ≡ firstPixels p k r c d f + quadrantPixels p k r c d f
   unfolding firstPixels
   first-more d = rw (add-one d)
 
-  first-all : firstPixels p k r c 4 f ≡ pixelsWith p (suc k) r c f
+  pub first-all : firstPixels p k r c 4 f ≡ pixelsWith p (suc k) r c f
   unfolding firstPixels quadrantRow quadrantColumn
   first-all = let e = pixels-quadrants p f k r c in omega arith
 
-  first-most : (d : ℕ) → firstPixels p k r c d f ≤ d * 4 ^ k
+  pub first-most : (d : ℕ) → firstPixels p k r c d f ≤ d * 4 ^ k
   unfolding firstPixels
   first-most zero = omega arith
   first-most (suc d) = let e = first-most d in let h = pixels-most p k (quadrantRow d r (2 ^ k)) (quadrantColumn d c (2 ^ k)) f in let g = suc-mul d (4 ^ k) in omega arith
 
   -- while a quadrant is left, there is room for it
-  first-room : (d : ℕ) → d < 4 → firstPixels p k r c d f + 4 ^ k ≤ 4 ^ suc k
+  pub first-room : (d : ℕ) → d < 4 → firstPixels p k r c d f + 4 ^ k ≤ 4 ^ suc k
   first-room d h =
       let e = first-most d in
       let g = suc-mul d (4 ^ k) in
@@ -123,7 +123,7 @@ reached-none bits counts at area = record {
   };
 }
 
-quarter-is : (area k : ℕ) → area ≡ 4 ^ suc k → area / 4 ≡ 4 ^ k
+pub quarter-is : (area k : ℕ) → area ≡ 4 ^ suc k → area / 4 ≡ 4 ^ k
 quarter-is area k e = let f = pow-suc 4 k in omega arith
 
 module _ {bits counts₀ : List ℕ} {at area : ℕ} {counts : List ℕ} {next d : ℕ} (x : Reached bits counts₀ at area counts next d) where

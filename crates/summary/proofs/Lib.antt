@@ -5,4 +5,3 @@ pub mod SameCounts
 pub mod Renewed
 pub mod IsSummary
 pub mod FillAnswers
-pub mod TouchedBlocks

@@ -1,4 +1,4 @@
-// The blocks of a summary: how many there are, how many pixels each has, their keys, and their counts.
+// The blocks of a summary: how many there are and how long it is, how many pixels each block has, their keys, and their counts.
 ghost use mathlib.Core.Path.{_≡_};
 ghost use Prim.Native.Nat.{_≤_, _<_, _^_};
 ghost use lib.ListN.{length};
@@ -29,17 +29,6 @@ pub fn area_of(m: u32) -> u32
     }
     let side = power::power_of_two(m - 2);
     side * side
-}
-
-// How many keys the interval of each block has.
-pub fn step_of(m: u32) -> u32
-    requires { ⌜ m ≤ 10 ⌝ }
-    ensures { λ r. ⌜ r ≡ 5 ^ summaryHeight m ⌝ }
-{
-    if m < 2 {
-        return 1;
-    }
-    power::power_of_five(m - 2)
 }
 
 // The key of block number b, whose two digits are those of b in base 4, each one more.

@@ -4,4 +4,3 @@ pub mod calls;
 pub mod check;
 pub mod count;
 pub mod renew;
-pub mod touched;

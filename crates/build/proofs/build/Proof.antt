@@ -1,45 +1,9 @@
--- `build::build` meets its contract: the first refusal that applies leaves all as it was, and else the records below the root and the root's own
--- are the whole list.
-use Prim.Native.Nat.{ℕ, _≤_, _<_}
-use mathlib.Core.Path.{_≡_, sym, ap, _∙_}
-use native.Mathlib.Omega.{arith}
-use lib.ListN.{length}
+-- `build::build` meets its contract: a refusal of the first three leaves all as it was, and past them the rest is known.
+use mathlib.Core.Path.{_∙_}
 use borrow.Author.Needs.{needs}
-use borrow.Author.Tests.{leb-true, leb-false, not-true, not-false}
-use Rattle.keys.proofs.Powers.{two-le}
-use Rattle.definitions.specs.List.{listOf, listOfRaster}
-use Rattle.definitions.specs.Read.{room}
-use Rattle.definitions.proofs.ListOf.{list-some}
-use Rattle.list.proofs.Tests.{good-settings}
-use Rattle.build.specs.BuildBlocks.{pictureOfRows}
-use Rattle.build.proofs.FittingBlock.{keys-length, bits-length}
-use Rattle.build.proofs.BuildRefusal.{Passed, passed, refusal-early, refusal-nine, refusal-none, refused, done}
-use Rattle.build.proofs.BuildCall.{whole-inside, whole-fits, whole-keys, whole-bits, whole-count, rows-list}
+use Rattle.build.proofs.BuildRefusal.{refusal-early, refused}
 use Rattle.build.proofs.build.Statement.{statement}
 use Rattle.build.proofs.build.Tie as tie
-
-abbrev start : tie.Else1 → tie.Start
-start c = c .before .before .before .before .before
-
--- past the first test settings and raster are good
-good : (c : tie.Else1) → Passed (start c .args .m) (start c .args .s) (start c .args .raster .now)
-good c = passed _ _ _ (sym (c .before .refusal-of .ensures) ∙ c .if1 .left)
-
--- the list by the rows that the code reads, and the room
-abbrev rows : tie.After-smaller → ℕ
-rows c = length (listOf (pictureOfRows (c .before .power-of-two .result) (start (c .before .before) .args .raster .now)) (start (c .before .before) .args .m) 0 0 0)
-
-abbrev whole : tie.After-smaller → ℕ
-whole c = length (listOfRaster (start (c .before .before) .args .m) (start (c .before .before) .args .raster .now))
-
-same-count : (c : tie.After-smaller) → rows c ≡ whole c
-same-count c = ap length (rows-list _ _ (start (c .before .before) .args .raster .now) (c .before .power-of-two .ensures))
-
--- past the last test the list fits
-fits : (c : tie.Else2) → rows (c .before .before) ≤ room (start (c .before .before .before .before) .args .keys .now) (start (c .before .before .before .before) .args .bits .now)
-fits c =
-    let h : rows (c .before .before) ≤ c .before .before .smaller .result = leb-true _ _ (sym (c .before .has-room .ensures) ∙ not-false _ (c .if2 .left)) in
-    omega (arith, c .before .before .smaller .ensures)
 
 refusal-of-requires : tie.Need-refusal-of-requires
 refusal-of-requires c κs = tt
@@ -49,48 +13,8 @@ returns c =
     let e = c .before .refusal-of .ensures in
     refused _ _ _ _ _ _ (e ∙ refusal-early _ _ _ _ _ (λ z. c .if1 .taken (e ∙ z))) (c .if1 .taken)
 
-power-of-two-requires : tie.Need-power-of-two-requires
-power-of-two-requires c κs = let h = good-settings _ _ (good c .settings) .deep in omega arith
-
-cast-side : tie.Need-cast-side
-cast-side c = let h = two-le 10 (good-settings _ _ (good (c .before) .settings) .deep) in omega (arith, c .power-of-two .ensures)
-
-smaller-requires : tie.Need-smaller-requires
-smaller-requires c κs = tt
-
-has-room-requires : tie.Need-has-room-requires
-has-room-requires c κs = (whole-inside _ _ _ _ (good (c .before .before)) (c .before .power-of-two .ensures), c .before .power-of-two .ensures)
-
-returns-2 : tie.Need-returns-2
-returns-2 c =
-    let d = c .before .before in
-    let h : d .smaller .result < rows d = leb-false _ _ (sym (c .before .has-room .ensures) ∙ not-true _ (c .if2 .taken)) in
-    refused _ _ _ _ _ 9 (refusal-nine _ _ _ _ _ (good (d .before .before)) (omega (arith, same-count d, d .smaller .ensures))) (λ z. omega arith)
-
-write-below-requires : tie.Need-write-below-requires
-write-below-requires c κs =
-    let d = c .before .before in
-    let p = d .before .before .before in
-    let h = fits d in (
-      whole-inside _ _ _ _ (good (p .before)) (p .power-of-two .ensures),
-      whole-fits _ _ _ _ _ _ (good (p .before)) (p .power-of-two .ensures) (omega arith) (omega arith),
-    )
-
-slice-write-keys : tie.Need-slice-write-keys
-slice-write-keys c =
-    let d = c .before .before .before .before .before .before .before in
-    let h = fits d in
-    let s = start (d .before .before .before .before) in
-    let n = list-some (pictureOfRows (d .before .before .before .power-of-two .result) (s .args .raster .now)) (s .args .m) 0 0 0 in
-    omega (arith, keys-length (c .before .before .before .before .write-below .ensures))
-
-slice-write-bits : tie.Need-slice-write-bits
-slice-write-bits c =
-    let d = c .before .before .before .before .before .before .before in
-    let h = fits d in
-    let s = start (d .before .before .before .before) in
-    let n = list-some (pictureOfRows (d .before .before .before .power-of-two .result) (s .args .raster .now)) (s .args .m) 0 0 0 in
-    omega (arith, bits-length (c .before .before .before .before .write-below .ensures))
+build-checked-requires : tie.Need-build-checked-requires
+build-checked-requires c κs = search needs
 
 same-length : tie.Need-same-length
 same-length c = search needs
@@ -98,19 +22,9 @@ same-length c = search needs
 same-length-2 : tie.Need-same-length-2
 same-length-2 c = search needs
 
-returns-3 : tie.Need-returns-3
-returns-3 c =
-    let d = c .before .before .before .before .before .before .before in
-    let p = d .before .before .before in
-    let h = fits d in
-    let e = same-count (d .before .before) in
-    let w = c .before .before .before .before .write-below .ensures in
-    done _ _ _ _ _ _ _ _ (refusal-none _ _ _ _ _ (good (p .before)) (omega arith))
-    (whole-count _ _ (start (p .before) .args .raster .now) _ _ _ _ _ _ (p .power-of-two .ensures) w)
-    (whole-keys _ _ (start (p .before) .args .raster .now) _ _ _ _ _ _ (p .power-of-two .ensures) w (omega arith))
-    (whole-bits _ _ (start (p .before) .args .raster .now) _ _ _ _ _ _ (p .power-of-two .ensures) w (omega arith))
+returns-2 : tie.Need-returns-2
+returns-2 c = search needs
 
 pub build-spec : {M : Type 1} → statement M
 build-spec =
-    tie.close
-    (tie.spec refusal-of-requires returns power-of-two-requires cast-side smaller-requires has-room-requires returns-2 write-below-requires slice-write-keys slice-write-bits same-length same-length-2 returns-3)
+    tie.close (tie.spec refusal-of-requires returns build-checked-requires same-length same-length-2 returns-2)

@@ -9,7 +9,7 @@ use Rattle.definitions.specs.Refusal.{badSettings, noList}
 use Rattle.definitions.specs.Window.{badWindow}
 use Rattle.definitions.specs.Calls.Area.{areaRefusal}
 use Rattle.definitions.proofs.First.{this, later, holds-first, none-first}
-use Rattle.list.specs.Own.{OwnList, shownBy}
+use Rattle.list.specs.Own.{shownBy}
 use Rattle.list.proofs.Own.{own-list}
 use Rattle.list.proofs.Tests.{GoodSettings, good-settings}
 use Rattle.area.proofs.calls.area_refusal.Statement.{statement}

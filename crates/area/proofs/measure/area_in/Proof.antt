@@ -25,7 +25,7 @@ use Rattle.window.proofs.Asked.{Asked, asked-some, asked-count, near-later, nea
 use Rattle.window.proofs.Shows.{count-no}
 use Rattle.area.specs.Tally.{MixedAt}
 use Rattle.area.proofs.WholeBlock.{mixed-at}
-use Rattle.area.proofs.Looked.{count-yes, count-alone, count-mixed}
+use Rattle.area.proofs.Looked.{count-alone}
 use Rattle.area.proofs.Measured.{Measured, measured-none, measured-end, measured-most, measured-enter, measured-apart, measured-lacking, measured-overlap, measured-whole, mixed-parent}
 use Rattle.area.proofs.measure.area_in.Statement.{statement}
 use Rattle.area.proofs.measure.area_in.Tie as tie
@@ -145,10 +145,7 @@ mixed : (c : tie.Else3 Inv-loop2 μ-loop2 Inv-loop μ-loop)
 mixed c =
     let asks = looked (c .before) in
     let at = head asks in
-    let h = at .loop2 .inv .stands in
-    let o = entry at .pre .0 .4 in
-    mixed-at o h _ _ (asks .up-to-from .ensures) (count-yes o h _ _ (bit-is at) _ (asks .up-to-from .ensures) (c .before .if2 .left))
-    (count-mixed o h _ _ (bit-is at) _ (asks .up-to-from .ensures) (c .if3 .left))
+    mixed-at (entry at .pre .0 .4) (at .loop2 .inv .stands) _ _ (bit-is at) _ (asks .up-to-from .ensures) (c .before .if2 .left) (c .if3 .left)
 
 overlap-requires : tie.Need-overlap-requires Inv-loop2 μ-loop2 Inv-loop μ-loop
 overlap-requires c κs =
@@ -189,14 +186,7 @@ first-requires c κs =
 
 -- a block with the feature and others has quadrants
 entered : (c : tie.Else4 Inv-loop2 μ-loop2 Inv-loop μ-loop) → Parent (entry (head (looked (c .before .before .before))) .args .m) (head (looked (c .before .before .before)) .loop2 .spot)
-entered c =
-    let asks = looked (c .before .before .before) in
-    let at = head asks in
-    let h = at .loop2 .inv .stands in
-    let o = entry at .pre .0 .4 in
-    mixed-parent _ _ h
-    (count-yes o h _ _ (bit-is at) _ (asks .up-to-from .ensures) (c .before .before .before .if2 .left))
-    (count-mixed o h _ _ (bit-is at) _ (asks .up-to-from .ensures) (c .before .before .if3 .left))
+entered c = mixed-parent (head (looked (c .before .before .before)) .loop2 .inv .stands) (mixed (c .before .before))
 
 loop2-less : tie.Need-loop2-less Inv-loop2 μ-loop2 Inv-loop μ-loop
 loop2-less c =
@@ -231,8 +221,7 @@ passed c =
     ⊎-elim (λ w. named _ (w .1) (measured-apart _ _ _ _ (g .stands) _ (g .measured) (sym apart ∙ w .0 .taken)))
     (⊎-elim (λ w. named _ (w .4) (measured-lacking _ _ _ _ (g .stands) _ (g .measured) (count-no o (g .stands) _ _ (bit-is at) _ (w .1 .ensures) (w .3 .taken))))
     (⊎-elim (λ w. named _ (w .6) (measured-overlap _ _ _ _ (g .stands) _ (g .measured) (sym apart ∙ w .0 .left) (count-alone o (g .stands) _ _ (bit-is at) _ (w .1 .ensures) (w .4 .taken)) _ (w .5 .ensures)))
-    (λ w. named _ (w .8) (measured-whole _ _ _ _ (g .stands) _ (g .measured) _ (sym (w .5 .ensures) ∙ w .6 .taken) _ (w .7 .ensures .holds _
-    (mixed-at o (g .stands) _ _ (w .1 .ensures) (count-yes o (g .stands) _ _ (bit-is at) _ (w .1 .ensures) (w .3 .left)) (count-mixed o (g .stands) _ _ (bit-is at) _ (w .1 .ensures) (w .4 .left))) (entry at .pre .1))))))
+    (λ w. named _ (w .8) (measured-whole _ _ _ _ (g .stands) _ (g .measured) _ (sym (w .5 .ensures) ∙ w .6 .taken) _ (w .7 .ensures .holds _ (mixed-at o (g .stands) _ _ (bit-is at) _ (w .1 .ensures) (w .3 .left) (w .4 .left)) (entry at .pre .1))))))
     (c .if1 .came)
 
 -- and the next search can begin where the last one ended

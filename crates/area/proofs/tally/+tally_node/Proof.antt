@@ -1,13 +1,14 @@
 -- `tally::tally_node` meets its contract: after each turn the pixels of the quadrants passed are counted. The area falls.
 use Prim.Native.Nat.{ℕ, _-_, _<_}
-use mathlib.Core.Path.{_≡_, sym, _∙_}
+use mathlib.Core.Path.{sym, _∙_}
 use mathlib.Core.Logic.{⊎-elim}
 use native.Mathlib.Omega.{arith}
 use borrow.Fn.Kinds.{In}
 use borrow.Fn.PlainCycle.{Measures, is, falls, and}
 use Rattle.definitions.specs.Bits.{featureOf}
 use Rattle.list.proofs.Shown.{shown-room}
-use Rattle.area.proofs.TallyTurn.{Reached, reached-none, reached-all, next-room, pixels-room, child-asked, child-most, leaf-turn, node-turn, less}
+use Rattle.summary.proofs.CountTurn.{less}
+use Rattle.area.proofs.TallyTurn.{Reached, reached-none, reached-all, next-room, pixels-room, child-asked, child-most, leaf-turn, node-turn}
 use Rattle.area.proofs.tally.tally_node.Reads as own
 use Rattle.area.proofs.tally.tally_node.Kinds as kinds
 use Rattle.area.proofs.tally.+tally_node.Lts-tally_node as lts

@@ -1,0 +1,2 @@
+pub mod SummaryAgree
+pub mod Surveyed
