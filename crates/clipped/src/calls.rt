@@ -1,10 +1,11 @@
 // The calls that ask a window that may reach over the edge: each is the strict call on the clipped window. They refuse by the strict tables, and
 // require nothing.
 ghost use mathlib.Core.Path.{_≡_};
-ghost use Rattle.definitions.specs.Calls.Clipped.{existClipped, reportClipped, selectClipped, selectAnswerClipped};
+ghost use Rattle.definitions.specs.Calls.Clipped.{existClipped, reportClipped, selectClipped, selectAnswerClipped, areaClipped};
 use crate::clip::clipped_window;
 use definitions::Counted;
 use definitions::Exists;
+use definitions::Measured;
 use definitions::Reported;
 
 // Does the feature occur in the window? Yes is 1.
@@ -64,4 +65,24 @@ pub fn select_clipped(
 {
     let window = clipped_window(m, row, column, height, width);
     window::calls::select(m, s, keys, bits, n, window, feature, answer)
+}
+
+// How many pixels of the window have the feature?
+pub fn area_clipped(
+    m: u32,
+    s: u32,
+    keys: &[u32],
+    bits: &[u32],
+    n: usize,
+    summary: &[u32],
+    row: i32,
+    column: i32,
+    height: u32,
+    width: u32,
+    feature: u32,
+) -> Measured
+    ensures { λ r. ⌜ r ≡ areaClipped m s (now (keys .entry)) (now (bits .entry)) n (now (summary .entry)) row column height width feature ⌝ }
+{
+    let window = clipped_window(m, row, column, height, width);
+    area::calls::area(m, s, keys, bits, n, summary, window, feature)
 }
