@@ -41,6 +41,8 @@ use Rattle.prowcurl.proofs.dragged.hlq_report_clipped as report-clipped
 use Rattle.prowcurl.proofs.dragged.hlq_report_clipped.Reads as report-clipped-reads
 use Rattle.prowcurl.proofs.dragged.hlq_select_clipped as select-clipped
 use Rattle.prowcurl.proofs.dragged.hlq_select_clipped.Reads as select-clipped-reads
+use Rattle.prowcurl.proofs.dragged.hlq_area_clipped as area-clipped
+use Rattle.prowcurl.proofs.dragged.hlq_area_clipped.Reads as area-clipped-reads
 use Rattle.prowcurl.proofs.edits.hlq_paint as paint
 use Rattle.prowcurl.proofs.edits.hlq_paint.Reads as paint-reads
 use Rattle.prowcurl.proofs.edits.hlq_take_back as take-back
@@ -172,6 +174,9 @@ report-clipped-one = by-equations (λ x. one (x .kept) (x .kept′))
 
 pub select-clipped-one : OneAnswer select-clipped.ended select-clipped-reads.Learnt
 select-clipped-one = by-equations (λ x. two (x .kept) (x .kept′))
+
+pub area-clipped-one : OneAnswer area-clipped.ended area-clipped-reads.Learnt
+area-clipped-one = by-equations (λ x. one (x .kept) (x .kept′))
 
 -- edits
 pub paint-one : OneAnswer paint.ended paint-reads.Learnt

@@ -1,9 +1,10 @@
-// Window queries for C with a window that may reach over the edge (document 02, item 8): exist, report, select. Row and column may be negative.
+// Window queries for C with a window that may reach over the edge (document 02, item 8): exist, report, select, area. Row and column may be negative.
 ghost use mathlib.Core.Path.{_≡_};
-ghost use Rattle.definitions.specs.Calls.Clipped.{existClipped, reportClipped, selectClipped, selectAnswerClipped};
+ghost use Rattle.definitions.specs.Calls.Clipped.{existClipped, reportClipped, selectClipped, selectAnswerClipped, areaClipped};
 use clipped::calls;
 use definitions::Counted;
 use definitions::Exists;
+use definitions::Measured;
 use definitions::Reported;
 
 #[no_mangle]
@@ -71,5 +72,36 @@ pub extern "C" fn hlq_select_clipped(
         width,
         feature,
         answer,
+    )
+}
+
+#[no_mangle]
+pub extern "C" fn hlq_area_clipped(
+    m: u32,
+    s: u32,
+    keys: &[u32],
+    bits: &[u32],
+    n: usize,
+    summary: &[u32],
+    row: i32,
+    column: i32,
+    height: u32,
+    width: u32,
+    feature: u32,
+) -> Measured
+    ensures { λ r. ⌜ r ≡ areaClipped m s (now (keys .entry)) (now (bits .entry)) n (now (summary .entry)) row column height width feature ⌝ }
+{
+    calls::area_clipped(
+        m,
+        s,
+        keys,
+        bits,
+        n,
+        summary,
+        row,
+        column,
+        height,
+        width,
+        feature,
     )
 }
