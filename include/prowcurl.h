@@ -53,7 +53,7 @@ extern "C" {
 #endif
 
 /* Grows by one whenever a call or a result changes its shape. */
-#define HLQ_INTERFACE 3
+#define HLQ_INTERFACE 4
 
 #define HLQ_DEEPEST_M 10  /* the largest m */
 #define HLQ_MOST_SLOTS 16 /* the largest s */
@@ -214,6 +214,38 @@ hlq_measured hlq_area(uint32_t m, uint32_t s,
                       size_t n, const uint32_t *summary, size_t summary_len,
                       uint32_t row, uint32_t column, uint32_t height, uint32_t width,
                       uint32_t feature);
+
+/* EXIST, REPORT, SELECT CLIPPED. As the calls above, for a window that may reach over the edge: row
+ * and column may be negative, and what lies outside the raster is left out. HLQ_WINDOW is given for
+ * a height or width of 0, and where no pixel of the window lies in the raster.
+ * Refusals: HLQ_SETTINGS, HLQ_LIST, HLQ_WINDOW, HLQ_FEATURE, in this order. */
+hlq_exists hlq_exist_clipped(uint32_t m, uint32_t s,
+                             const uint32_t *keys, size_t keys_len,
+                             const uint32_t *bits, size_t bits_len, size_t n,
+                             int32_t row, int32_t column, uint32_t height, uint32_t width,
+                             uint32_t feature);
+
+/* Refusals: HLQ_SETTINGS, HLQ_LIST, HLQ_WINDOW, in this order. */
+hlq_reported hlq_report_clipped(uint32_t m, uint32_t s,
+                                const uint32_t *keys, size_t keys_len,
+                                const uint32_t *bits, size_t bits_len, size_t n,
+                                int32_t row, int32_t column, uint32_t height, uint32_t width);
+
+/* Refusals: HLQ_SETTINGS, HLQ_LIST, HLQ_WINDOW, HLQ_FEATURE, HLQ_ANSWER_ROOM, in this order. */
+hlq_counted hlq_select_clipped(uint32_t m, uint32_t s,
+                               const uint32_t *keys, size_t keys_len,
+                               const uint32_t *bits, size_t bits_len, size_t n,
+                               int32_t row, int32_t column, uint32_t height, uint32_t width,
+                               uint32_t feature, uint32_t *answer, size_t answer_len);
+
+/* AREA CLIPPED. As hlq_area, for such a window.
+ * Refusals: HLQ_SETTINGS, HLQ_LIST, HLQ_SUMMARY, HLQ_WINDOW, HLQ_FEATURE, in this order. */
+hlq_measured hlq_area_clipped(uint32_t m, uint32_t s,
+                              const uint32_t *keys, size_t keys_len,
+                              const uint32_t *bits, size_t bits_len, size_t n,
+                              const uint32_t *summary, size_t summary_len,
+                              int32_t row, int32_t column, uint32_t height, uint32_t width,
+                              uint32_t feature);
 
 /* PAINT. Every pixel of the block gets the feature. The list becomes the list of the new raster, in
  * its places 0 to n - 1 (n of the result); places that it gives up become zero, others stay. The

@@ -109,7 +109,9 @@ def read_sources(prowcurl, definitions, keys, tables):
     limits = {name: int(constants[source]) for name, source in LIMITS.items()}
     refusals = {}
     for name in calls:
-        table = tables.get("".join(word.capitalize() for word in name.split("_")[1:]), "")
+        # a clipped call has the table of the strict one
+        words = name.removesuffix("_clipped").split("_")[1:]
+        table = tables.get("".join(word.capitalize() for word in words), "")
         rows = [int(number) for number in re.findall(r"\bgives (\d+)", re.sub(r"--.*", "", table))]
         if rows:
             refusals[name] = rows

@@ -419,6 +419,100 @@ hlq_measured ref_area(uint32_t m, uint32_t s, const uint32_t *keys, size_t keys_
     return answer;
 }
 
+typedef struct {
+    int64_t row, column, height, width;
+} dragged;
+
+static int was_dragged(dragged w, int64_t row, int64_t column) {
+    return w.row <= row && row < w.row + w.height && w.column <= column && column < w.column + w.width;
+}
+
+/* The bitstring of the features of all pixels of the raster that were dragged over: 0 where there is none. */
+static uint32_t features_dragged(const uint8_t *raster, uint32_t edge, dragged w) {
+    uint32_t bits = 0;
+    for (uint32_t row = 0; row < edge; row++)
+        for (uint32_t column = 0; column < edge; column++)
+            if (was_dragged(w, row, column)) bits |= 1u << raster[(size_t)row * edge + column];
+    return bits;
+}
+
+hlq_exists ref_exist_clipped(uint32_t m, uint32_t s, const uint32_t *keys, size_t keys_len, const uint32_t *bits,
+                             size_t bits_len, size_t n, int32_t row, int32_t column, uint32_t height, uint32_t width,
+                             uint32_t feature) {
+    if (settings_are_bad(m, s)) return (hlq_exists){ 1, 0 };
+    uint8_t *shown = raster_of(m, s, keys, keys_len, bits, bits_len, n);
+    if (!shown) return (hlq_exists){ 4, 0 };
+    uint32_t found = features_dragged(shown, 1u << m, (dragged){ row, column, height, width });
+    free(shown);
+    if (!found) return (hlq_exists){ 6, 0 };
+    if (feature >= s) return (hlq_exists){ 7, 0 };
+    return (hlq_exists){ 0, found >> feature & 1 };
+}
+
+hlq_reported ref_report_clipped(uint32_t m, uint32_t s, const uint32_t *keys, size_t keys_len, const uint32_t *bits,
+                                size_t bits_len, size_t n, int32_t row, int32_t column, uint32_t height,
+                                uint32_t width) {
+    if (settings_are_bad(m, s)) return (hlq_reported){ 1, 0 };
+    uint8_t *shown = raster_of(m, s, keys, keys_len, bits, bits_len, n);
+    if (!shown) return (hlq_reported){ 4, 0 };
+    uint32_t found = features_dragged(shown, 1u << m, (dragged){ row, column, height, width });
+    free(shown);
+    return found ? (hlq_reported){ 0, found } : (hlq_reported){ 6, 0 };
+}
+
+/* The keys are those of the largest blocks of a raster that has 1 at the pixels asked for, and 0 elsewhere. */
+static size_t select_dragged(uint32_t m, uint8_t *raster, dragged w, uint32_t feature, uint32_t *out) {
+    uint32_t edge = 1u << m;
+    for (uint32_t row = 0; row < edge; row++)
+        for (uint32_t column = 0; column < edge; column++) {
+            uint8_t *pixel = raster + (size_t)row * edge + column;
+            *pixel = was_dragged(w, row, column) && *pixel == feature;
+        }
+    return select_keys(m, raster, 0, 0, edge, edge, 1, out);
+}
+
+hlq_counted ref_select_clipped(uint32_t m, uint32_t s, const uint32_t *keys, size_t keys_len, const uint32_t *bits,
+                               size_t bits_len, size_t n, int32_t row, int32_t column, uint32_t height, uint32_t width,
+                               uint32_t feature, uint32_t *answer, size_t answer_len) {
+    if (settings_are_bad(m, s)) return (hlq_counted){ 1, 0 };
+    uint8_t *shown = raster_of(m, s, keys, keys_len, bits, bits_len, n);
+    if (!shown) return (hlq_counted){ 4, 0 };
+    dragged w = { row, column, height, width };
+    hlq_counted result = { 0, 0 };
+    if (!features_dragged(shown, 1u << m, w)) result.refusal = 6;
+    else if (feature >= s) result.refusal = 7;
+    else {
+        uint32_t *found = new_selection(m);
+        result.count = select_dragged(m, shown, w, feature, found);
+        if (result.count > answer_len) result.refusal = 12;
+        else memcpy(answer, found, result.count * sizeof *answer);
+        free(found);
+    }
+    free(shown);
+    return result;
+}
+
+/* Every pixel of the raster is asked whether it was dragged over and has the feature. */
+hlq_measured ref_area_clipped(uint32_t m, uint32_t s, const uint32_t *keys, size_t keys_len, const uint32_t *bits,
+                              size_t bits_len, size_t n, const uint32_t *summary, size_t summary_len, int32_t row,
+                              int32_t column, uint32_t height, uint32_t width, uint32_t feature) {
+    if (settings_are_bad(m, s)) return (hlq_measured){ 1, 0 };
+    uint8_t *shown = raster_of(m, s, keys, keys_len, bits, bits_len, n);
+    if (!shown) return (hlq_measured){ 4, 0 };
+    dragged w = { row, column, height, width };
+    hlq_measured answer = { 0, 0 };
+    uint32_t edge = 1u << m;
+    if (!is_summary(m, s, shown, summary, summary_len)) answer.refusal = 18;
+    else if (!features_dragged(shown, edge, w)) answer.refusal = 6;
+    else if (feature >= s) answer.refusal = 7;
+    else
+        for (uint32_t r = 0; r < edge; r++)
+            for (uint32_t c = 0; c < edge; c++)
+                answer.pixels += was_dragged(w, r, c) && shown[(size_t)r * edge + c] == feature;
+    free(shown);
+    return answer;
+}
+
 /* Entries from the end, each content a list of its block. */
 static int log_is_sound(uint32_t m, uint32_t s, const uint32_t *log_keys, const uint32_t *log_values, size_t used) {
     uint8_t *raster = new_raster(m);

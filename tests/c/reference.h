@@ -47,6 +47,26 @@ hlq_done ref_fill_summary(uint32_t m, uint32_t s, const uint32_t *keys, size_t k
 hlq_measured ref_area(uint32_t m, uint32_t s, const uint32_t *keys, size_t keys_len, const uint32_t *bits,
                       size_t bits_len, size_t n, const uint32_t *summary, size_t summary_len, uint32_t row,
                       uint32_t column, uint32_t height, uint32_t width, uint32_t feature);
+hlq_exists ref_exist_clipped(uint32_t m, uint32_t s,
+                             const uint32_t *keys, size_t keys_len,
+                             const uint32_t *bits, size_t bits_len, size_t n,
+                             int32_t row, int32_t column, uint32_t height, uint32_t width,
+                             uint32_t feature);
+hlq_reported ref_report_clipped(uint32_t m, uint32_t s,
+                                const uint32_t *keys, size_t keys_len,
+                                const uint32_t *bits, size_t bits_len, size_t n,
+                                int32_t row, int32_t column, uint32_t height, uint32_t width);
+hlq_counted ref_select_clipped(uint32_t m, uint32_t s,
+                               const uint32_t *keys, size_t keys_len,
+                               const uint32_t *bits, size_t bits_len, size_t n,
+                               int32_t row, int32_t column, uint32_t height, uint32_t width,
+                               uint32_t feature, uint32_t *answer, size_t answer_len);
+hlq_measured ref_area_clipped(uint32_t m, uint32_t s,
+                              const uint32_t *keys, size_t keys_len,
+                              const uint32_t *bits, size_t bits_len, size_t n,
+                              const uint32_t *summary, size_t summary_len,
+                              int32_t row, int32_t column, uint32_t height, uint32_t width,
+                              uint32_t feature);
 hlq_edited ref_paint(uint32_t m, uint32_t s,
                      uint32_t *keys, size_t keys_len, uint32_t *bits, size_t bits_len, size_t n,
                      uint32_t *summary, size_t summary_len,

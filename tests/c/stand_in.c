@@ -11,6 +11,7 @@
 #define TAKE_SUMMARY uint32_t *summary, size_t summary_len
 #define SUMMARY summary, summary_len
 #define TAKE_WINDOW uint32_t row, uint32_t column, uint32_t height, uint32_t width
+#define TAKE_DRAGGED int32_t row, int32_t column, uint32_t height, uint32_t width
 #define WINDOW row, column, height, width
 
 hlq_counted hlq_key_at(uint32_t m, uint32_t row, uint32_t column, uint32_t level) {
@@ -55,6 +56,24 @@ hlq_done hlq_fill_summary(uint32_t m, uint32_t s, TAKE_CONST_LIST, size_t n, uin
 hlq_measured hlq_area(uint32_t m, uint32_t s, TAKE_CONST_LIST, size_t n, const uint32_t *summary, size_t summary_len,
                       TAKE_WINDOW, uint32_t feature) {
     return ref_area(m, s, LIST, n, summary, summary_len, WINDOW, feature);
+}
+
+hlq_exists hlq_exist_clipped(uint32_t m, uint32_t s, TAKE_CONST_LIST, size_t n, TAKE_DRAGGED, uint32_t feature) {
+    return ref_exist_clipped(m, s, LIST, n, WINDOW, feature);
+}
+
+hlq_reported hlq_report_clipped(uint32_t m, uint32_t s, TAKE_CONST_LIST, size_t n, TAKE_DRAGGED) {
+    return ref_report_clipped(m, s, LIST, n, WINDOW);
+}
+
+hlq_counted hlq_select_clipped(uint32_t m, uint32_t s, TAKE_CONST_LIST, size_t n, TAKE_DRAGGED, uint32_t feature,
+                               uint32_t *answer, size_t answer_len) {
+    return ref_select_clipped(m, s, LIST, n, WINDOW, feature, answer, answer_len);
+}
+
+hlq_measured hlq_area_clipped(uint32_t m, uint32_t s, TAKE_CONST_LIST, size_t n, const uint32_t *summary,
+                              size_t summary_len, TAKE_DRAGGED, uint32_t feature) {
+    return ref_area_clipped(m, s, LIST, n, summary, summary_len, WINDOW, feature);
 }
 
 hlq_edited hlq_paint(uint32_t m, uint32_t s, TAKE_LIST, size_t n, TAKE_SUMMARY, TAKE_LOG, size_t used,

@@ -56,6 +56,26 @@ static void call_fill(void) {
 static void call_area(void) {
     refusal = hlq_area(M, S, keys, MOST, bits, MOST, n, summary, PLACES, row, column, height, width, feature).refusal;
 }
+/* The same windows, a row and a column further north-west: some reach over the edge. */
+static void call_exist_clipped(void) {
+    refusal = hlq_exist_clipped(M, S, keys, MOST, bits, MOST, n, (int32_t)row - 1, (int32_t)column - 1, height, width,
+                                feature)
+                  .refusal;
+}
+static void call_report_clipped(void) {
+    refusal = hlq_report_clipped(M, S, keys, MOST, bits, MOST, n, (int32_t)row - 1, (int32_t)column - 1, height, width)
+                  .refusal;
+}
+static void call_select_clipped(void) {
+    refusal = hlq_select_clipped(M, S, keys, MOST, bits, MOST, n, (int32_t)row - 1, (int32_t)column - 1, height, width,
+                                 feature, answer, PIXELS)
+                  .refusal;
+}
+static void call_area_clipped(void) {
+    refusal = hlq_area_clipped(M, S, keys, MOST, bits, MOST, n, summary, PLACES, (int32_t)row - 1, (int32_t)column - 1,
+                               height, width, feature)
+                  .refusal;
+}
 static void call_paint(void) {
     hlq_edited e = hlq_paint(M, S, keys, MOST, bits, MOST, n, summary, PLACES, log_keys, LOG, log_values, LOG, used,
                              key, feature);
@@ -81,15 +101,17 @@ typedef struct {
     size_t deepest;
 } call;
 
-enum { KEY_AT, BLOCK_OF, BUILD, RASTER, STANDING, PART, EXIST, REPORT, SELECT, FILL_SUMMARY, AREA, PAINT, TAKE_BACK,
-       EMPTY, FINDINGS, STORE, LOAD, CALLS };
+enum { KEY_AT, BLOCK_OF, BUILD, RASTER, STANDING, PART, EXIST, REPORT, SELECT, FILL_SUMMARY, AREA, EXIST_CLIPPED,
+       REPORT_CLIPPED, SELECT_CLIPPED, AREA_CLIPPED, PAINT, TAKE_BACK, EMPTY, FINDINGS, STORE, LOAD, CALLS };
 static call calls[CALLS] = {
     { "key_at", call_key_at, 0 },       { "block_of", call_block_of, 0 }, { "build", call_build, 0 },
     { "raster", call_raster, 0 },       { "standing", call_standing, 0 }, { "part", call_part, 0 },
     { "exist", call_exist, 0 },         { "report", call_report, 0 },     { "select", call_select, 0 },
-    { "fill_summary", call_fill, 0 },   { "area", call_area, 0 },         { "paint", call_paint, 0 },
-    { "take_back", call_take_back, 0 }, { "empty", call_empty, 0 },       { "findings", call_findings, 0 },
-    { "store", call_store, 0 },         { "load", call_load, 0 },
+    { "fill_summary", call_fill, 0 },   { "area", call_area, 0 },
+    { "exist_clipped", call_exist_clipped, 0 },   { "report_clipped", call_report_clipped, 0 },
+    { "select_clipped", call_select_clipped, 0 }, { "area_clipped", call_area_clipped, 0 },
+    { "paint", call_paint, 0 },         { "take_back", call_take_back, 0 }, { "empty", call_empty, 0 },
+    { "findings", call_findings, 0 },   { "store", call_store, 0 },       { "load", call_load, 0 },
 };
 
 static _Alignas(64) uint8_t stack[STACK];
@@ -125,7 +147,7 @@ static void measure(int which, uint8_t pattern) {
 static void ask_window(uint32_t a, uint32_t b, uint32_t c, uint32_t d, uint8_t pattern) {
     row = a, column = b, height = c, width = d;
     for (feature = 0; feature < S; feature += 3)
-        for (int which = EXIST; which <= AREA; which++) measure(which, pattern);
+        for (int which = EXIST; which <= AREA_CLIPPED; which++) measure(which, pattern);
 }
 
 static void every_call(uint8_t pattern) {
@@ -180,7 +202,7 @@ int main(void) {
     }
     size_t deepest = 0;
     for (int i = 0; i < CALLS; i++) {
-        printf("  %-12s %5zu bytes of stack\n", calls[i].name, calls[i].deepest);
+        printf("  %-14s %5zu bytes of stack\n", calls[i].name, calls[i].deepest);
         if (calls[i].deepest > deepest) deepest = calls[i].deepest;
     }
     printf("stack: %zu bytes at most; the header says %d\n", deepest, HLQ_STACK_BYTES);

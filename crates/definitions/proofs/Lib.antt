@@ -33,6 +33,8 @@ pub mod SummaryAddsUp
 pub mod CountsApart
 pub mod SelectArea
 pub mod SummaryPlaces
+pub mod Overlap
+pub mod ClippedCalls
 pub mod LastEntry
 pub mod SoundLog
 pub mod Hidden

@@ -11,6 +11,7 @@ pub mod Report
 pub mod Select
 pub mod FillSummary
 pub mod Area
+pub mod Clipped
 pub mod Paint
 pub mod TakeBack
 pub mod Empty

@@ -6,6 +6,7 @@ pub mod Buffer
 pub mod Refusal
 pub mod Standing
 pub mod Window
+pub mod Clip
 pub mod Area
 pub mod Edit
 pub mod Log

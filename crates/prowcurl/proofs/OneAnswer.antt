@@ -35,6 +35,14 @@ use Rattle.prowcurl.proofs.windows.hlq_report as report
 use Rattle.prowcurl.proofs.windows.hlq_report.Reads as report-reads
 use Rattle.prowcurl.proofs.windows.hlq_select as select
 use Rattle.prowcurl.proofs.windows.hlq_select.Reads as select-reads
+use Rattle.prowcurl.proofs.dragged.hlq_exist_clipped as exist-clipped
+use Rattle.prowcurl.proofs.dragged.hlq_exist_clipped.Reads as exist-clipped-reads
+use Rattle.prowcurl.proofs.dragged.hlq_report_clipped as report-clipped
+use Rattle.prowcurl.proofs.dragged.hlq_report_clipped.Reads as report-clipped-reads
+use Rattle.prowcurl.proofs.dragged.hlq_select_clipped as select-clipped
+use Rattle.prowcurl.proofs.dragged.hlq_select_clipped.Reads as select-clipped-reads
+use Rattle.prowcurl.proofs.dragged.hlq_area_clipped as area-clipped
+use Rattle.prowcurl.proofs.dragged.hlq_area_clipped.Reads as area-clipped-reads
 use Rattle.prowcurl.proofs.edits.hlq_paint as paint
 use Rattle.prowcurl.proofs.edits.hlq_paint.Reads as paint-reads
 use Rattle.prowcurl.proofs.edits.hlq_take_back as take-back
@@ -156,6 +164,19 @@ report-one = by-equations (λ x. one (x .kept) (x .kept′))
 
 pub select-one : OneAnswer select.ended select-reads.Learnt
 select-one = by-equations (λ x. two (x .kept) (x .kept′))
+
+-- windows over the edge
+pub exist-clipped-one : OneAnswer exist-clipped.ended exist-clipped-reads.Learnt
+exist-clipped-one = by-equations (λ x. one (x .kept) (x .kept′))
+
+pub report-clipped-one : OneAnswer report-clipped.ended report-clipped-reads.Learnt
+report-clipped-one = by-equations (λ x. one (x .kept) (x .kept′))
+
+pub select-clipped-one : OneAnswer select-clipped.ended select-clipped-reads.Learnt
+select-clipped-one = by-equations (λ x. two (x .kept) (x .kept′))
+
+pub area-clipped-one : OneAnswer area-clipped.ended area-clipped-reads.Learnt
+area-clipped-one = by-equations (λ x. one (x .kept) (x .kept′))
 
 -- edits
 pub paint-one : OneAnswer paint.ended paint-reads.Learnt

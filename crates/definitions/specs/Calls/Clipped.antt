@@ -1,0 +1,30 @@
+-- Exist, report, select and area of a window that may reach over the edge (document 02, item 8): each is the strict call on the window clipped to the
+-- raster, with its table of refusals. So 6 is given where height or width is zero or nothing overlaps. Rests on Clip and on the strict calls.
+use Prim.Native.Nat.{ℕ}
+use mathlib.Core.List.{List}
+use lib.IntN.{ℤ}
+use Rattle.definitions.specs.Clip.{clippedWindow}
+use Rattle.definitions.specs.Calls.Exist.{exist}
+use Rattle.definitions.specs.Calls.Report.{report}
+use Rattle.definitions.specs.Calls.Select.{select, selectAnswer}
+use Rattle.definitions.specs.Calls.Area.{area}
+use Rattle.definitions.specs.declared.Exists.{Exists}
+use Rattle.definitions.specs.declared.Reported.{Reported}
+use Rattle.definitions.specs.declared.Counted.{Counted}
+use Rattle.definitions.specs.declared.Measured.{Measured}
+
+module _ (m s : ℕ) (keys bits : List ℕ) (n : ℕ) where
+  abbrev pub existClipped : ℤ → ℤ → ℕ → ℕ → ℕ → Exists
+  existClipped row column height width f = exist m s keys bits n (clippedWindow m row column height width) f
+
+  abbrev pub reportClipped : ℤ → ℤ → ℕ → ℕ → Reported
+  reportClipped row column height width = report m s keys bits n (clippedWindow m row column height width)
+
+  abbrev pub selectClipped : ℤ → ℤ → ℕ → ℕ → ℕ → List ℕ → Counted
+  selectClipped row column height width f answer = select m s keys bits n (clippedWindow m row column height width) f answer
+
+  abbrev pub selectAnswerClipped : ℤ → ℤ → ℕ → ℕ → ℕ → List ℕ → List ℕ
+  selectAnswerClipped row column height width f answer = selectAnswer m s keys bits n (clippedWindow m row column height width) f answer
+
+  abbrev pub areaClipped : List ℕ → ℤ → ℤ → ℕ → ℕ → ℕ → Measured
+  areaClipped summary row column height width f = area m s keys bits n summary (clippedWindow m row column height width) f
