@@ -1,6 +1,7 @@
 pub mod SumUnder
 pub mod AreaFrom
 pub mod OverlapArea
+pub mod LargestArea
 pub mod NumberOf
 pub mod BlockCount
 pub mod Looked
