@@ -16,7 +16,9 @@ lib:
 	@echo "target/staticlib/libprowcurl.a, target/include/prowcurl.h"
 
 # The listing program on Map A, and the example: a day with a survey.
-run: kit lib
+run: kit
+	@echo "== the library is proved first, crate by crate; then it is compiled"
+	@$(MAKE) --no-print-directory lib
 	rt check listing
 	@echo "== the listing program on Map A"
 	@tools/run-c target/bin/listing <crates/listing/stdin

@@ -249,6 +249,31 @@ static void files(size_t n) {
             sink += plain_load(file, other_keys, other_bits));
 }
 
+/* Windows dragged over the north-west corner: what clipping adds to the strict call on the overlap. */
+static void clipped(size_t n) {
+    size_t visited;
+    int times = times_for(n);
+    printf("\nwindows over the edge at m = %d, n = %zu, each call with its check of the list\n", M, n);
+    COMPARE("exist clipped", 9, times,
+            sink += hlq_exist_clipped(M, S, keys, MOST, bits, MOST, n, -40, -70, 200, 200, S - 1).yes,
+            sink += (uint64_t)plain_is_list(M, S, keys, bits, n) +
+                    (uint64_t)plain_exist(M, keys, bits, n, 0, 0, 160, 130, S - 1, &visited));
+    COMPARE("report clipped", 9, times,
+            sink += hlq_report_clipped(M, S, keys, MOST, bits, MOST, n, -40, -70, 200, 200).bits,
+            sink +=
+            (uint64_t)plain_is_list(M, S, keys, bits, n) + plain_report(M, keys, bits, n, 0, 0, 160, 130, &visited));
+    COMPARE("select clipped", 9, times,
+            sink += hlq_select_clipped(M, S, keys, MOST, bits, MOST, n, -40, -70, 200, 200, 3, answer, PIXELS).count,
+            sink += (uint64_t)plain_is_list(M, S, keys, bits, n) +
+                    plain_select(M, keys, bits, n, 0, 0, 160, 130, 3, answer, PIXELS, &visited));
+    COMPARE("area clipped", 9, times,
+            sink += hlq_area_clipped(M, S, keys, MOST, bits, MOST, n, summary, PLACES, -40, -70, 200, 200, 3).pixels, {
+                sink += (uint64_t)plain_is_list(M, S, keys, bits, n);
+                sink += (uint64_t)plain_is_summary(M, S, keys, bits, n, summary);
+                sink += plain_area(M, S, keys, bits, n, summary, 0, 0, 160, 130, 3);
+            });
+}
+
 static void blocks(void) {
     printf("\nblocks at m = %d\n", M);
     COMPARE("key at", 9, 1000, sink += hlq_key_at(M, (uint32_t)again, 1023 - (uint32_t)again % 1024, 9).count,
@@ -271,12 +296,14 @@ int main(void) {
     size_t n = hlq_build(M, S, raster, PIXELS, keys, MOST, bits, MOST, summary, PLACES).count;
     windows(kinds[0], n, S - 1);
     areas(kinds[0], n);
+    clipped(n);
     findings(n, 0);
     findings(n, 1);
     fill(1);
     n = hlq_build(M, S, raster, PIXELS, keys, MOST, bits, MOST, summary, PLACES).count;
     windows(kinds[1], n, S - 1);
     areas(kinds[1], n);
+    clipped(n);
     edits(n);
     findings(n, 0);
     findings(n, 1);
