@@ -1,6 +1,8 @@
 // The calls that ask an accepted list (document 01): where a block stands, the part of the key slice that holds it, and the raster. They refuse
 // by their tables, and require nothing.
 ghost use mathlib.Core.Path.{_≡_};
+ghost use Prim.Native.Nat.{_+_, _*_};
+ghost use denote.Ref.{ptr};
 ghost use Rattle.definitions.specs.Calls.Standing.{standingRefusal, standing as standingAnswer};
 ghost use Rattle.definitions.specs.Calls.Part.{part as partAnswer, partSpan};
 ghost use Rattle.definitions.specs.Calls.Raster.{rasterRefusal, raster as rasterAnswer, rasterPixels};
@@ -76,9 +78,12 @@ pub fn part_span(m: u32, s: u32, keys: &[u32], bits: &[u32], n: usize, key: u32)
     }
 }
 
-// The part of the key slice that holds the block and everything below it, or the one record of the leaf around it; empty where it is refused.
+// The part of the key slice that holds the block and everything below it, or the one record of the leaf around it; empty where it is refused. Which
+// part it is, and not only what it holds, is promised: it starts so many places of four bytes into the lent slice.
 pub fn part<'a>(m: u32, s: u32, keys: &'a [u32], bits: &[u32], n: usize, key: u32) -> &'a [u32]
     ensures { λ r. ⌜ now r ≡ partAnswer m s (now (keys .entry)) (now (bits .entry)) n key ⌝ }
+    ensures { λ r. ⌜ (ptr r .0 ≡ ptr (keys .entry) .0)
+        × (ptr r .1 ≡ ptr (keys .entry) .1 + partSpan m s (now (keys .entry)) (now (bits .entry)) n key .start * 4) ⌝ }
 {
     let span = part_span(m, s, keys, bits, n, key);
     let start = span.start as usize;

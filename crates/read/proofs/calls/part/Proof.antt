@@ -1,4 +1,7 @@
--- `calls::part` meets its contract: the span that was found lies within the key slice, and names the part.
+-- `calls::part` meets its contract: the span that was found lies within the key slice, and names the part and where it starts.
+use Prim.Native.Nat.{_+_, _*_}
+use mathlib.Core.Path.{refl, ap, _∙_}
+use native.Mathlib.Nat.{add-comm}
 use native.Mathlib.Omega.{arith}
 use borrow.Author.Needs.{needs}
 use Rattle.read.proofs.Answers.{span-within, span-part}
@@ -24,7 +27,10 @@ part-result-end : tie.Need-part-result-end
 part-result-end c = span-within _ _ _ _ _ _ _ (c .part-span .ensures)
 
 returns : tie.Need-returns
-returns c = span-part _ _ _ _ _ _ _ (c .before .part-span .ensures)
+returns c = (
+  span-part _ _ _ _ _ _ _ (c .before .part-span .ensures),
+  (refl, add-comm _ _ ∙ ap (λ x. c .before .before .before .before .args .keys .ptr .1 + x .start * 4) (c .before .part-span .ensures)),
+)
 
 pub part-spec : {M : Type 1} → statement M
 part-spec =
