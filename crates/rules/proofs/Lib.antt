@@ -1,4 +1,4 @@
-pub mod Again
+pub mod LentOn
 pub mod Lent
 pub mod Locals
 pub mod Chains

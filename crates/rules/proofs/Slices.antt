@@ -22,7 +22,7 @@ use types.Tokens.{lft-new, lft-end}
 use denote.RattleType.{RattleType}
 use denote.Ref.{RefT}
 use denote.Slice.{sliceVal, MutSlice, ShrSlice, Room, finally, shr-slice-copy}
-use Rattle.rules.proofs.Again.{LentAgain}
+use Rattle.rules.proofs.LentOn.{HeldMeanwhile}
 use Rattle.rules.proofs.Lent.{lend, back}
 
 pub record Slice (R : RattleType) : Type 0 where
@@ -55,7 +55,7 @@ module _ {R : RattleType} (s : Slice R) where
   lent ν δ ys = MutSlice (named 0) (ν ∷ []) R .own (at-list δ ys) (val ∷ [])
 
   abbrev pub kept : ℕ → GName → List (R .Denot) → Fml
-  kept ν δ ys = LentAgain R (s .κ) (ν ∷ []) (s .q) (s .x .name) (s .x .ptr .0) (s .x .ptr .1) δ ys
+  kept ν δ ys = HeldMeanwhile R (s .κ) (ν ∷ []) (s .q) (s .x .name) (s .x .ptr .0) (s .x .ptr .1) δ ys
 
   module _ {M : Type 1} {𝓤 : URA M} {H : Heap 𝓤} {A : Atoms 𝓤} {K : Type 0} (W : Given 𝓤 H A) {Γ : List (Item 𝓤)} {G : Goal 𝓤 H} where
     pub copied : K → Step K W (‵ shared ∷ ‵ shared ∷ Γ) G (‵ shared ∷ Γ) G
