@@ -36,9 +36,9 @@ use Rattle.rules.specs.Run.{progressOf, bounding, runOf, beginOf, nextOf, answe
 use Rattle.rules.specs.declared.run.State.{State}
 use Rattle.rules.proofs.run.State as State
 use Rattle.rules.proofs.run.State.Laws as State′
-use Rattle.rules.proofs.Chains.{apart}
-use Rattle.rules.proofs.Slices.{Slice, val, token, shared, at-list, copied}
-use Rattle.rules.proofs.Calling.{Gives, Returned, returns-struct}
+use Rattle.lending.proofs.Chains.{apart}
+use Rattle.lending.proofs.Slices.{Slice, val, token, shared, at-list, copied}
+use Rattle.lending.proofs.Calling.{Gives, Returned, returns-struct}
 use Rattle.rules.proofs.RunSlices.{RunSlices, stateVals, valOf, reads, tokens, answers, each-read, reads-twice, ReadyAt, Result, call-tokens, gathers, scatters}
 use Rattle.rules.proofs.LentAnswers.{Lending, lent-answers}
 use Rattle.rules.proofs.begin.begin as begin

@@ -29,8 +29,8 @@ use Rattle.definitions.specs.declared.Found.{Found}
 use Rattle.definitions.proofs.Rule as Rule
 use Rattle.definitions.proofs.Found as Found
 use Rattle.definitions.proofs.Found.Laws as Found′
-use Rattle.rules.proofs.Chains.{chain, apart, together, after-nothing}
-use Rattle.rules.proofs.Slices.{Slice, val, token, shared, mutable}
+use Rattle.lending.proofs.Chains.{chain, apart, together, after-nothing}
+use Rattle.lending.proofs.Slices.{Slice, val, token, shared, mutable}
 use Rattle.rules.proofs.RunSlices.{RunSlices, reads, tokens, answers, each-read, each-token, each-answer}
 use Rattle.prowcurl.proofs.findings.hlq_findings as findings
 

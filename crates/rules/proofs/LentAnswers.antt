@@ -24,9 +24,9 @@ use Rattle.rules.specs.Run.{Progress, progressOf}
 use Rattle.rules.specs.declared.run.State.{State}
 use Rattle.rules.proofs.run.State as State
 use Rattle.rules.proofs.run.State.Laws as State′
-use Rattle.rules.proofs.Chains.{chain, apart, together}
-use Rattle.rules.proofs.Slices.{lent, kept, lends, gets-back}
-use Rattle.rules.proofs.Calling.{gave, Gives}
+use Rattle.lending.proofs.Chains.{chain, apart, together}
+use Rattle.lending.proofs.Slices.{lent, kept, lends, gets-back}
+use Rattle.lending.proofs.Calling.{gave, Gives}
 use Rattle.rules.proofs.RunSlices.{RunSlices, valOf, answers, each-answer, Result}
 
 -- what the contract of `step`, or of `run`, binds of its parameters at exit: of the sixth and the seventh the last elements

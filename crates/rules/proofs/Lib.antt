@@ -1,12 +1,5 @@
-pub mod LentOn
-pub mod Lent
-pub mod Locals
-pub mod Chains
-pub mod Slices
-pub mod Calling
 pub mod RunSlices
 pub mod LentAnswers
-pub mod Reborrow
 pub mod StepCall
 pub mod RunTurns
 pub mod RunEntryExit

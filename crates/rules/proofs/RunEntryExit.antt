@@ -28,8 +28,8 @@ use Rattle.definitions.proofs.Rule as Rule
 use Rattle.rules.specs.declared.run.State.{State}
 use Rattle.rules.proofs.run.State as State
 use Rattle.rules.proofs.run.State.Laws as State′
-use Rattle.rules.proofs.Chains.{chain, apart, together, after-nothing}
-use Rattle.rules.proofs.Slices.{Slice, val, token, shared, mutable}
+use Rattle.lending.proofs.Chains.{chain, apart, together, after-nothing}
+use Rattle.lending.proofs.Slices.{Slice, val, token, shared, mutable}
 use Rattle.rules.proofs.RunSlices.{RunSlices, stateVals, valOf, reads, tokens, answers, each-read, each-token, each-answer}
 use Rattle.rules.proofs.RunTurns.{Turn, all-ran}
 use Rattle.rules.proofs.run.run as run′

@@ -25,8 +25,8 @@ use Rattle.rules.specs.Run.{Progress, progressOf, Ready}
 use Rattle.rules.specs.declared.run.State.{State}
 use Rattle.rules.proofs.run.State as State
 use Rattle.rules.proofs.run.State.Laws as State′
-use Rattle.rules.proofs.Chains.{chain, apart, together}
-use Rattle.rules.proofs.Slices.{Slice, token, shared, mutable, lent, copied}
+use Rattle.lending.proofs.Chains.{chain, apart, together}
+use Rattle.lending.proofs.Slices.{Slice, token, shared, mutable, lent, copied}
 
 pub record RunSlices : Type 0 where
   pub keys : Slice u32

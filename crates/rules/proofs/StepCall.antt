@@ -30,8 +30,8 @@ use Rattle.definitions.proofs.Rule.Laws as Rule′
 use Rattle.rules.specs.Run.{progressOf, stepOf}
 use Rattle.rules.specs.declared.run.State.{State}
 use Rattle.rules.proofs.run.State as State
-use Rattle.rules.proofs.Slices.{val, at-list}
-use Rattle.rules.proofs.Calling.{Gives}
+use Rattle.lending.proofs.Slices.{val, at-list}
+use Rattle.lending.proofs.Calling.{Gives}
 use Rattle.rules.proofs.RunSlices.{RunSlices, stateVals, valOf, reads, tokens, answers, ReadyAt, Result, call-tokens, gathers, scatters}
 use Rattle.rules.proofs.LentAnswers.{Lending, lent-answers}
 use Rattle.rules.proofs.step.step as step

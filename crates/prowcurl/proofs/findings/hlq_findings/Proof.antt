@@ -44,10 +44,10 @@ use Rattle.rules.specs.Run.{progressOf, nextOf}
 use Rattle.rules.specs.declared.run.State.{State}
 use Rattle.rules.proofs.run.State as State
 use Rattle.rules.proofs.run.State.Laws as State′
-use Rattle.rules.proofs.Locals.{Content, empty, holds, at, Addresses, envOf, Held, in-local, allocates, frees-all}
-use Rattle.rules.proofs.Slices.{Slice, val, typed-slice, token, shared}
-use Rattle.rules.proofs.Reborrow.{reborrows}
-use Rattle.rules.proofs.Calling.{Returned, calls-giving}
+use Rattle.lending.proofs.Locals.{Content, empty, holds, at, Addresses, envOf, Held, in-local, allocates, frees-all}
+use Rattle.lending.proofs.Slices.{Slice, val, typed-slice, token, shared}
+use Rattle.lending.proofs.Reborrow.{reborrows}
+use Rattle.lending.proofs.Calling.{Returned, calls-giving}
 use Rattle.rules.proofs.RunSlices.{RunSlices, stateVals, valOf, typed-state, reads, tokens, answers, reads-twice, ReadyAt}
 use Rattle.rules.proofs.Answer.{checking-ready, next-ready, findings-law}
 use Rattle.prowcurl.proofs.FindingsEntryExit.{stayed, machine, foundVal, held, AtEntry, AtExit, enters, exits}

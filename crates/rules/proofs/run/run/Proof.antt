@@ -50,10 +50,10 @@ use Rattle.rules.specs.declared.run.State.{State}
 use Rattle.rules.proofs.run.State as State
 use Rattle.rules.proofs.run.State.Laws as State′
 use Rattle.rules.proofs.Fold.{noRule}
-use Rattle.rules.proofs.Locals.{Content, empty, holds, at, Addresses, envOf, Held, in-local, allocates, frees-all}
-use Rattle.rules.proofs.Slices.{Slice, val, typed-slice, token}
-use Rattle.rules.proofs.Reborrow.{reborrows}
-use Rattle.rules.proofs.Calling.{calls-giving}
+use Rattle.lending.proofs.Locals.{Content, empty, holds, at, Addresses, envOf, Held, in-local, allocates, frees-all}
+use Rattle.lending.proofs.Slices.{Slice, val, typed-slice, token}
+use Rattle.lending.proofs.Reborrow.{reborrows}
+use Rattle.lending.proofs.Calling.{calls-giving}
 use Rattle.rules.proofs.RunSlices.{RunSlices, stateVals, valOf, typed-state, reads, tokens, answers, ReadyAt, reads-twice}
 use Rattle.rules.proofs.RunEntryExit.{stayed, machine, sharedRules, held, AtEntry, AtExit, enters, exits}
 use Rattle.rules.proofs.RunTurns.{Turn, rule, entry, first-turn, next-turn, left, nearer}

@@ -22,8 +22,8 @@ use types.Tokens.{lft-new, lft-end}
 use denote.RattleType.{RattleType}
 use denote.Ref.{RefT}
 use denote.Slice.{sliceVal, MutSlice, ShrSlice, Room, finally, shr-slice-copy}
-use Rattle.rules.proofs.LentOn.{HeldMeanwhile}
-use Rattle.rules.proofs.Lent.{lend, back}
+use Rattle.lending.proofs.LentOn.{HeldMeanwhile}
+use Rattle.lending.proofs.Lent.{lend, back}
 
 pub record Slice (R : RattleType) : Type 0 where
   pub κ : Lft

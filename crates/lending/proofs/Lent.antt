@@ -15,7 +15,7 @@ use types.Kit.{Given}
 use denote.RattleType.{RattleType}
 use denote.Ref.{RefT}
 use denote.Slice.{sliceVal, MutSlice, Room, finally}
-use Rattle.rules.proofs.LentOn.{HeldMeanwhile, lend-on, get-back}
+use Rattle.lending.proofs.LentOn.{HeldMeanwhile, lend-on, get-back}
 
 module _ {M : Type 1} (𝓤 : URA M) (H : Heap 𝓤) (A : Atoms 𝓤) (W : Given 𝓤 H A) (R : RattleType) (κ κ′ : Lft) (q : Share) (γ : GName) (b o : ℕ) (ℓ ℓ′ : Lifetime) (n : ℕ) where
   abbrev at-list : GName → List (R .Denot) → RefT (List (R .Denot))

@@ -1,0 +1,7 @@
+pub mod LentOn
+pub mod Lent
+pub mod Locals
+pub mod Chains
+pub mod Slices
+pub mod Calling
+pub mod Reborrow
