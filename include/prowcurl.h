@@ -56,7 +56,7 @@ extern "C" {
 #define HLQ_INTERFACE 4
 
 #define HLQ_DEEPEST_M 10  /* the largest m */
-#define HLQ_MOST_SLOTS 16 /* the largest s */
+#define HLQ_MOST_SLOTS 32 /* the largest s */
 
 /* The most records that a list has at m: (4^(m+1) - 1) / 3. */
 #define HLQ_MOST_RECORDS(m) ((((size_t)4 << 2 * (m)) - 1) / 3)

@@ -4,8 +4,8 @@
 #include <stdlib.h>
 #include <string.h>
 
-/* The limits of document 01, written here a second time: the header's names are what is tested. */
-enum { DEEPEST = 10, SLOTS = 16, NO_FEATURE = 255 };
+/* The limits of documents 01 and 02, written here a second time: the header's names are what is tested. */
+enum { DEEPEST = 10, SLOTS = 32, NO_FEATURE = 255 };
 
 /* The most pixels and records that a map can have. */
 static size_t pixels_of(uint32_t m) { return (size_t)1 << 2 * m; }

@@ -7,7 +7,7 @@ use mathlib.Core.List.{List}
 use native.Mathlib.Nat.{mul-le-mul}
 use native.Mathlib.Omega.{arith}
 use lib.ListN.{length, getD}
-use Rattle.keys.specs.Key.{validKey, heightOf}
+use Rattle.keys.specs.Key.{slotLimit, validKey, heightOf}
 use Rattle.keys.specs.Block.{rowOf, columnOf}
 use Rattle.keys.proofs.Powers.{two-le}
 use Rattle.keys.proofs.Interval.{within}
@@ -61,5 +61,5 @@ module _ {m : ℕ} {t : Spot} (h : Stands m t) where
         omega arith
 
 -- a number below 16 times few slots is small
-pub place-small : (b s : ℕ) → b < 16 → s ≤ 32 → b * s ≤ 512
+pub place-small : (b s : ℕ) → b < 16 → s ≤ slotLimit → b * s ≤ 512
 place-small b s h i = let e = mul-le-mul {n₁ = b} {m₁ = s} {n₂ = 16} {m₂ = 32} (omega arith) i in omega arith

@@ -2,6 +2,7 @@
 ghost use mathlib.Core.Path.{_≡_};
 ghost use mathlib.Core.Bool.{true};
 ghost use Prim.Native.Nat.{_*_, _≤_, _<_, _^_};
+ghost use Rattle.keys.specs.Key.{slotLimit};
 ghost use Rattle.definitions.specs.Window.{isWindow};
 ghost use Rattle.definitions.specs.Area.{areaIn, summaryOf};
 ghost use Rattle.list.specs.Own.{OwnList, shownBy};
@@ -39,7 +40,7 @@ fn block_pixels(
     block: Spot,
     feature: u32,
 ) -> u32
-    requires { ⌜ (m ≤ 10) × (s ≤ 32) × (feature < s) × Stands m block × WholeAsked m s (now bits) (now summary) block from ⌝ }
+    requires { ⌜ (m ≤ 10) × (s ≤ slotLimit) × (feature < s) × Stands m block × WholeAsked m s (now bits) (now summary) block from ⌝ }
     ensures { λ r. ⌜ WholeCounted m s (now (bits .entry)) (now (summary .entry)) block from feature r ⌝ }
 {
     let side = block.side;
@@ -63,7 +64,7 @@ pub fn area_in(
     window: Window,
     feature: u32,
 ) -> u32
-    requires { ⌜ (m ≤ 10) × (s ≤ 32) × (feature < s) × (isWindow m window ≡ true) × OwnList m (now keys) (now bits) n ⌝ }
+    requires { ⌜ (m ≤ 10) × (s ≤ slotLimit) × (feature < s) × (isWindow m window ≡ true) × OwnList m (now keys) (now bits) n ⌝ }
     requires { ⌜ now summary ≡ summaryOf m s (shownBy m (now keys) (now bits) n) ⌝ }
     ensures { λ r. ⌜ r ≡ areaIn (shownBy m (now (keys .entry)) (now (bits .entry)) n) window feature ⌝ }
 {

@@ -9,6 +9,7 @@ use native.Mathlib.Nat.{add-mul, add-zero}
 use lib.Dec.{eqb}
 use lib.ListN.{length, getD}
 use borrow.Author.Tests.{eqb-true}
+use Rattle.keys.specs.Key.{slotLimit}
 use Rattle.keys.proofs.Cases.{and-left, and-right}
 use Rattle.definitions.specs.Picture.{oneFeature}
 use Rattle.definitions.proofs.Features.{one-from}
@@ -62,7 +63,7 @@ digit : (a f x y : ℕ) → a < 256 → f < 256 → a + 256 * x ≡ f + 256 * y 
 digit a f x y ha hf e = let h : x ≡ y = omega arith in (omega arith, h)
 
 -- a word whose digits are all f
-module _ (raster : List ℕ) (features : (i : ℕ) → getD raster i 0 < 16) (f : ℕ) (small : f < 16) (i : ℕ) (w : wordAt raster i ≡ f * 16843009) where
+module _ (raster : List ℕ) (features : (i : ℕ) → getD raster i 0 < slotLimit) (f : ℕ) (small : f < slotLimit) (i : ℕ) (w : wordAt raster i ≡ f * 16843009) where
   row-alike : (b : ℕ) → b < 4 → getD raster (i + b) 0 ≡ f
   row-alike =
       let h₀ = features i in
@@ -110,7 +111,7 @@ module _ (side : ℕ) (raster : List ℕ) (row column : ℕ) where
         a down)
 
   -- a block of 4 by 4 whose rows are the same word
-  pub sixteen-one : ((i : ℕ) → getD raster i 0 < 16) → (f : ℕ) → f < 16
+  pub sixteen-one : ((i : ℕ) → getD raster i 0 < slotLimit) → (f : ℕ) → f < slotLimit
       → wordAt raster (row * side + column) ≡ f * 16843009
       → wordAt raster (row * side + column + side) ≡ f * 16843009
       → wordAt raster (row * side + column + side + side) ≡ f * 16843009

@@ -6,6 +6,7 @@ use mathlib.Core.Bool.{false, cond}
 use mathlib.Core.List.{List}
 use lib.ListN.{length, getD, drop, set}
 use lib.Seq.{sets}
+use Rattle.keys.specs.Key.{slotLimit}
 use Rattle.definitions.specs.Picture.{Picture, oneFeature}
 use Rattle.definitions.specs.Bits.{unionOfFour, bitsOf}
 use Rattle.list.specs.Check.{oneSlot}
@@ -19,14 +20,14 @@ pictureOfRows side raster row column = getD raster (row * side + column) 0
 abbrev pub wordAt : List ℕ → ℕ → ℕ
 wordAt raster i = getD raster i 0 + 256 * getD raster (i + 1) 0 + 65536 * getD raster (i + 2) 0 + 16777216 * getD raster (i + 3) 0
 
--- the block lies in a square raster whose features are those of 16 slots
+-- the block lies in a square raster whose features are those of the slots there are
 pub record Inside (raster : List ℕ) (side height row column : ℕ) : Type 0 where
   pub deep : height ≤ 10
   pub square : length raster ≡ side * side
   pub narrow : side ≤ 1024
   pub rows : row + 2 ^ height ≤ side
   pub columns : column + 2 ^ height ≤ side
-  pub features : (i : ℕ) → getD raster i 0 < 16
+  pub features : (i : ℕ) → getD raster i 0 < slotLimit
 
 -- what a block of four quadrants has: one record where they have one feature together, else its own and theirs
 pub record Joined (union under bits count : ℕ) : Type 0 where

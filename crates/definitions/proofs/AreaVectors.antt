@@ -90,7 +90,7 @@ table =
     ∷ row (asked 2 3 9 summaryA (window 0 1 3 3) 1) (0 ∷ 3 ∷ [])
     -- 1, 4, 18 (too short, too long, one number off), 6, 7 alone
     ∷ row
-    (asked 2 17 9 summaryA (window 0 1 3 3) 1
+    (asked 2 33 9 summaryA (window 0 1 3 3) 1
     ++ (asked 2 3 8 summaryA (window 0 1 3 3) 1
     ++ (asked 2 3 9 [] (window 0 1 3 3) 1
     ++ (asked 2 3 9 (summaryA ++ (0 ∷ [])) (window 0 1 3 3) 1
@@ -99,7 +99,7 @@ table =
     (1 ∷ 0 ∷ 4 ∷ 0 ∷ 18 ∷ 0 ∷ 18 ∷ 0 ∷ 18 ∷ 0 ∷ 6 ∷ 0 ∷ 7 ∷ 0 ∷ [])
     -- and neighbours at once
     ∷ row
-    (asked 2 17 8 summaryA (window 0 1 3 3) 1
+    (asked 2 33 8 summaryA (window 0 1 3 3) 1
     ++ (asked 2 3 8 [] (window 0 1 3 3) 1 ++ (asked 2 3 9 [] (window 0 2 1 3) 1 ++ asked 2 3 9 summaryA (window 0 2 1 3) 3)))
     (1 ∷ 0 ∷ 4 ∷ 0 ∷ 18 ∷ 0 ∷ 6 ∷ 0 ∷ [])
     ∷ []

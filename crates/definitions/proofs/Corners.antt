@@ -61,11 +61,11 @@ table =
     ∷ says (isAncestor 2 10 10) 0
     ∷ says (isAncestor 2 10 14) 1
     ∷ says (isAncestor 2 14 10) 0
-    -- settings: m up to 10, s from 1 to 16
-    ∷ says (badSettings 10 16) 0
+    -- settings: m up to 10, s from 1 to 32
+    ∷ says (badSettings 10 32) 0
     ∷ says (badSettings 0 1) 0
-    ∷ says (badSettings 11 16) 1
-    ∷ says (badSettings 10 17) 1
+    ∷ says (badSettings 11 32) 1
+    ∷ says (badSettings 10 33) 1
     ∷ says (badSettings 10 0) 1
     -- build through its whole buffers: nothing is written past the ninth place, and nothing at all where one slice is too short
     ∷ row (of-counted (build 2 3 mapA (unwritten 11) (unwritten 10))) (0 ∷ 9 ∷ [])

@@ -114,7 +114,7 @@ table : List Row
 table =
     -- build: 1, 2, 3, 9
     gives (buildRefusal 1 0 pixels keys bits) 1
-    ∷ gives (buildRefusal 1 17 pixels keys bits) 1
+    ∷ gives (buildRefusal 1 33 pixels keys bits) 1
     ∷ gives (buildRefusal 1 0 (0 ∷ pixels) keys bits) 1
     ∷ gives (buildRefusal 1 2 (0 ∷ pixels) keys bits) 2
     ∷ gives (buildRefusal 1 1 (0 ∷ pixels) keys bits) 2

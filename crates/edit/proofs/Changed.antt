@@ -7,7 +7,7 @@ use mathlib.Core.List.{List, map}
 use native.Mathlib.Omega.{arith}
 use lib.ListN.{length, take, length-take, length-map}
 use lib.Seq.{take-at}
-use Rattle.keys.specs.Key.{rootKey, validKey}
+use Rattle.keys.specs.Key.{slotLimit, rootKey, validKey}
 use Rattle.definitions.specs.Picture.{Picture}
 use Rattle.definitions.specs.List.{Record, keysOf, valuesOf, listOfPicture}
 use Rattle.definitions.specs.Read.{paired, recordsOf, pictureOf}
@@ -59,7 +59,7 @@ module _ (m : ℕ) {n : ℕ} {keys bits keys′ bits′ : List ℕ} {r : ℕ} (p
 module _ (m s κ : ℕ) {n : ℕ} {keys bits keys′ bits′ : List ℕ} {r : ℕ} (q : Picture)
     (made : Replaced n (listOfPicture m (put m κ q (shownBy m keys bits n))) keys bits keys′ bits′ r) where
   -- the summary from before is right outside the block
-  pub put-outdated : (summary : List ℕ) → m ≤ 10 → s ≤ 32 → validKey m κ ≡ true → summary ≡ summaryOf m s (shownBy m keys bits n)
+  pub put-outdated : (summary : List ℕ) → m ≤ 10 → s ≤ slotLimit → validKey m κ ≡ true → summary ≡ summaryOf m s (shownBy m keys bits n)
       → Outdated m s keys′ bits′ r summary κ
   put-outdated summary deep few valid counts = record {
     deep = deep;

@@ -3,7 +3,7 @@ use Prim.Native.Nat.{ℕ, _^_, _≤_}
 use mathlib.Core.Path.{_≡_, refl, sym, _∙_, ap}
 use mathlib.Core.Bool.{true}
 use mathlib.Core.List.{List, [], _∷_}
-use Rattle.keys.specs.Key.{heightOf}
+use Rattle.keys.specs.Key.{slotLimit, heightOf}
 use Rattle.keys.specs.Block.{rowOf, columnOf}
 use Rattle.definitions.specs.List.{Record, recordOf}
 use Rattle.definitions.specs.Read.{paired, recordsOf}
@@ -63,7 +63,7 @@ entry-found m l used κ count e = λ i. record { key = κ; start = used; count =
 -- the painted list, once it stands, leaves the summary right outside the block
 module _ (s : ℕ) {m n κ f : ℕ} {keys bits keys′ bits′ : List ℕ} {r : ℕ} (a : Paintable m keys bits n κ f)
     (made : Replaced n (painted m (recordsOf keys bits n) κ f) keys bits keys′ bits′ r) where
-  pub paint-outdated : (summary : List ℕ) → s ≤ 32 → summary ≡ summaryOf m s (shownBy m keys bits n) → Outdated m s keys′ bits′ r summary κ
+  pub paint-outdated : (summary : List ℕ) → s ≤ slotLimit → summary ≡ summaryOf m s (shownBy m keys bits n) → Outdated m s keys′ bits′ r summary κ
   unfolding painted paintIn
   paint-outdated summary few counts = put-outdated m s κ (λ row column. f) made summary (a .deepest) few (a .valid) counts
 

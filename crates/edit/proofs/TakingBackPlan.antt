@@ -6,7 +6,7 @@ use mathlib.Core.List.{List}
 use native.Mathlib.Omega.{arith}
 use lib.ListN.{length, getD}
 use lib.Dec.{eqb}
-use Rattle.keys.specs.Key.{validKey}
+use Rattle.keys.specs.Key.{slotLimit, validKey}
 use Rattle.definitions.specs.Read.{room, recordsOf, pictureOf}
 use Rattle.definitions.specs.Log.{lastKey, lastContent}
 use Rattle.definitions.specs.Area.{summaryOf}
@@ -92,7 +92,7 @@ module _ {m n used : ℕ} {keys bits logKeys logValues : List ℕ} (a : Restorab
 module _ (s : ℕ) {m n used : ℕ} {keys bits logKeys logValues keys′ bits′ : List ℕ} {r : ℕ} (a : Restorable m keys bits n logKeys logValues used) (last : Entry)
     (is : last ≡ lastEntry (recordsOf logKeys logValues used))
     (made : Replaced n (restored m (recordsOf keys bits n) (recordsOf logKeys logValues used)) keys bits keys′ bits′ r) where
-  pub restore-outdated : (summary : List ℕ) → s ≤ 32 → summary ≡ summaryOf m s (shownBy m keys bits n) → Outdated m s keys′ bits′ r summary (last .key)
+  pub restore-outdated : (summary : List ℕ) → s ≤ slotLimit → summary ≡ summaryOf m s (shownBy m keys bits n) → Outdated m s keys′ bits′ r summary (last .key)
   unfolding restored
   restore-outdated summary few counts =
       subst (λ κ. Outdated m s keys′ bits′ r summary κ) (sym (key-is a last is))

@@ -6,7 +6,7 @@ use mathlib.Core.Bool.{true}
 use mathlib.Core.List.{List, [], _∷_}
 use lib.ListN.{length}
 use lib.Dec.{ltb}
-use Rattle.keys.specs.Key.{validKey}
+use Rattle.keys.specs.Key.{slotLimit, validKey}
 use Rattle.definitions.specs.List.{Record, recordOf}
 use Rattle.definitions.specs.Read.{room, recordsOf}
 use Rattle.definitions.specs.Standing.{partLength}
@@ -31,7 +31,7 @@ pub record Paintable (m : ℕ) (keys bits : List ℕ) (n κ f : ℕ) : Type 0 wh
   pub deepest : m ≤ 10
   pub valid : validKey m κ ≡ true
   pub own : OwnList m keys bits n
-  pub feature : f < 16
+  pub feature : f < slotLimit
 
 -- the entry that a paint of block κ writes from place used on, and its plan: the content that it puts in is one record
 abbrev pub newEntry : ℕ → List Record → ℕ → ℕ → Entry

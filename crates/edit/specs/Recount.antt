@@ -4,7 +4,7 @@ use Prim.Native.Nat.{ℕ, _^_, _≤_, _<_}
 use mathlib.Core.Path.{_≡_}
 use mathlib.Core.Bool.{true, false}
 use mathlib.Core.List.{List}
-use Rattle.keys.specs.Key.{validKey}
+use Rattle.keys.specs.Key.{slotLimit, validKey}
 use Rattle.keys.specs.Block.{inBlock}
 use Rattle.definitions.specs.Picture.{Picture}
 use Rattle.definitions.specs.Area.{summaryOf}
@@ -12,7 +12,7 @@ use Rattle.list.specs.Own.{OwnList, shownBy}
 
 pub record Outdated (m s : ℕ) (keys bits : List ℕ) (n : ℕ) (summary : List ℕ) (κ : ℕ) : Type 0 where
   pub deep : m ≤ 10
-  pub few : s ≤ 32
+  pub few : s ≤ slotLimit
   pub valid : validKey m κ ≡ true
   pub own : OwnList m keys bits n
   pub before : Picture

@@ -43,18 +43,18 @@ module _ (m s : ℕ) (good : GoodSettings m s) (l : List Record) (is : isListOfB
   shown = block-list-to m s m 0 0 rootKey l is
 
   -- every key is below 5 ^ 10, and every bitstring below 2 ^ 16
-  each : (x : Record) → List·Memᴰ x (listOf (shown .picture) m 0 0 rootKey) → (x .key < 256 ^ 4) × (x .value < 256 ^ 2)
-  each x h =
+  each : s ≤ 16 → (x : Record) → List·Memᴰ x (listOf (shown .picture) m 0 0 rootKey) → (x .key < 256 ^ 4) × (x .value < 256 ^ 2)
+  each few x h =
       let key = key-below (list-ascends (shown .picture) m 0 0 rootKey) h in
       let most : 5 ^ m ≤ 5 ^ 10 = pow-le-pow-right (lit< tt) (good .deep) in
       let at = listed-to (shown .picture) m 0 0 rootKey x h in
       let value = bits-below s (shown .picture) (at .height) (at .row) (at .column) (below-under s (shown .picture) (listed-under (at .listed)) (shown .below)) in
-      let wide : 2 ^ s ≤ 2 ^ 16 = pow-le-pow-right (lit< tt) (good .few) in
+      let wide : 2 ^ s ≤ 2 ^ 16 = pow-le-pow-right (lit< tt) few in
       (omega arith, rw (at .is) (omega arith))
 
   -- the list's records fit a file
-  pub list-fits : FitsFile l
-  list-fits = rw (shown .is) (fits-file (listOf (shown .picture) m 0 0 rootKey) each)
+  pub list-fits : s ≤ 16 → FitsFile l
+  list-fits few = rw (shown .is) (fits-file (listOf (shown .picture) m 0 0 rootKey) (each few))
 
   -- their number does
   pub list-short : length l < 256 ^ 4

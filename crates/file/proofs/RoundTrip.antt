@@ -44,16 +44,16 @@ loads-records file keys bits e =
     ap₂ (λ ks bs. recordsOf ks bs (nIn file)) (left .0) (left .1) ∙ records-over (recordsInFile file) (nIn file) keys bits (in-file file)
 
 -- the file of a list at good settings is accepted wherever there is room
-file-accepted : (m s n : ℕ) (l : List Record) (keys bits : List ℕ) → badSettings m s ≡ false → isListOfBlock m s m 0 0 rootKey l ≡ true → length l ≡ n
+file-accepted : (m s n : ℕ) (l : List Record) (keys bits : List ℕ) → badSettings m s ≡ false → s ≤ 16 → isListOfBlock m s m 0 0 rootKey l ≡ true → length l ≡ n
     → n ≤ room keys bits → LoadsList (fileOf m s l) keys bits m s n l
-file-accepted m s n l keys bits settings is many roomy =
+file-accepted m s n l keys bits settings two is many roomy =
     let good = good-settings m s settings in
     let file = fileOf m s l in
     let short = list-short m s good l is in
     let m-is : mIn file ≡ m = read-m m s l (omega (arith, good .deep)) in
     let s-is : sIn file ≡ s = read-s m s l (omega (arith, good .few)) in
     let n-is : nIn file ≡ n = read-n m s l short ∙ many in
-    let l-is : recordsInFile file ≡ l = read-records m s l short (list-fits m s good l is) in
+    let l-is : recordsInFile file ≡ l = read-records m s l short (list-fits m s good l is two) in
     let none : LoadAccepted file keys bits = record {
       long = written-not-short m s l;
       marked = written-mark m s l;
@@ -87,13 +87,13 @@ stored-bytes m s keys bits n buffer e =
     ∙ take-append-seam (fileOf m s (recordsOf keys bits n)) _
 
 -- load after store gives the list back, in any buffers with room
-pub load-after-store : (m s : ℕ) (keys bits : List ℕ) (n : ℕ) (buffer keys′ bits′ : List ℕ) → storeRefusal m s keys bits n buffer ≡ 0 → n ≤ room keys′ bits′
+pub load-after-store : (m s : ℕ) (keys bits : List ℕ) (n : ℕ) (buffer keys′ bits′ : List ℕ) → storeRefusal m s keys bits n buffer ≡ 0 → s ≤ 16 → n ≤ room keys′ bits′
     → LoadsList (take (store m s keys bits n buffer .count) (storeFile m s keys bits n buffer)) keys′ bits′ m s n (recordsOf keys bits n)
-load-after-store m s keys bits n buffer keys′ bits′ e roomy =
+load-after-store m s keys bits n buffer keys′ bits′ e two roomy =
     let a = store-accepted m s keys bits n buffer e in
     let parts = list-parts m s keys bits n (a .listed) in
     let many : length (recordsOf keys bits n) ≡ n = records-length keys bits n (omega (arith, parts .0)) (omega (arith, parts .0)) in
-    rw (stored-bytes m s keys bits n buffer e) (file-accepted m s n (recordsOf keys bits n) keys′ bits′ (a .settings) (parts .1) many roomy)
+    rw (stored-bytes m s keys bits n buffer e) (file-accepted m s n (recordsOf keys bits n) keys′ bits′ (a .settings) two (parts .1) many roomy)
 
 -- store gives the file's length and leaves its bytes over what the buffer held
 pub record StoresFile (m s : ℕ) (keys bits : List ℕ) (n : ℕ) (buffer file : List ℕ) : Type 0 where

@@ -4,6 +4,7 @@ use Prim.Native.Nat.{ℕ, _+_, _*_, _≤_}
 use mathlib.Core.Path.{_≡_}
 use mathlib.Core.List.{List}
 use lib.ListN.{length}
+use Rattle.keys.specs.Key.{slotLimit}
 use Rattle.definitions.specs.File.{nIn}
 
 pub record RoomFor (n : ℕ) (keys bits file : List ℕ) : Type 0 where
@@ -14,6 +15,6 @@ pub record RoomFor (n : ℕ) (keys bits file : List ℕ) : Type 0 where
 -- m and s are good settings, and the file's n records end where the file does
 pub record Exact (m s n : ℕ) (file : List ℕ) : Type 0 where
   pub deepest : m ≤ 10
-  pub slots : s ≤ 16
+  pub slots : s ≤ slotLimit
   pub many : n ≡ nIn file
   pub ends : length file ≡ 11 + 6 * n

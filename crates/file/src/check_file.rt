@@ -152,7 +152,7 @@ pub fn holds_list(file: &[u8], m: u32, s: u32, n: usize) -> bool
         return false;
     }
     let own = bytes::u16_at(file, 15);
-    if power::power_of_two(s) <= own {
+    if !power::slots_below(own, s) {
         return false;
     }
     if check::has_one_slot(own) {

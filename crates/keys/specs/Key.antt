@@ -14,7 +14,7 @@ deepestLevel = 10
 
 -- the largest number of slots
 abbrev pub slotLimit : ℕ
-slotLimit = 16
+slotLimit = 32
 
 -- the m digits of a key, the highest first
 unfoldable pub digitsOf : ℕ → ℕ → List ℕ

@@ -26,7 +26,7 @@ impl Key {
 
     pub const DEEPEST_LEVEL: u32 = 10;
 
-    pub const SLOT_LIMIT: u32 = 16;
+    pub const SLOT_LIMIT: u32 = 32;
 
     pub fn root() -> Key
         ensures { λ r. ⌜ r .number ≡ rootKey ⌝ }

@@ -61,12 +61,15 @@ table =
     -- s = 12, one pixel of feature 11: 0 12 1, and - 000000000001
     ∷ (0 ∷ 12 ∷ 11 ∷ [])
     prints (48 ∷ 32 ∷ 49 ∷ 50 ∷ 32 ∷ 49 ∷ 10 ∷ 45 ∷ 32 ∷ replicate 11 48 ++ (49 ∷ 10 ∷ []))
-    -- 1: fewer than two bytes, m above 5, s 0, s above 16
+    -- s = 32, one pixel of feature 31: 0 32 1, and - with the last slot alone
+    ∷ (0 ∷ 32 ∷ 31 ∷ [])
+    prints (48 ∷ 32 ∷ 51 ∷ 50 ∷ 32 ∷ 49 ∷ 10 ∷ 45 ∷ 32 ∷ replicate 31 48 ++ (49 ∷ 10 ∷ []))
+    -- 1: fewer than two bytes, m above 5, s 0, s above 32
     ∷ [] prints refusedWith 49
     ∷ (5 ∷ []) prints refusedWith 49
     ∷ (6 ∷ 1 ∷ []) prints refusedWith 49
     ∷ (0 ∷ 0 ∷ 0 ∷ []) prints refusedWith 49
-    ∷ (0 ∷ 17 ∷ 0 ∷ []) prints refusedWith 49
+    ∷ (0 ∷ 33 ∷ 0 ∷ []) prints refusedWith 49
     -- 2: a pixel too few, a pixel too many
     ∷ (1 ∷ 2 ∷ 0 ∷ 1 ∷ 0 ∷ []) prints refusedWith 50
     ∷ (1 ∷ 2 ∷ 0 ∷ 1 ∷ 0 ∷ 1 ∷ 0 ∷ []) prints refusedWith 50

@@ -8,7 +8,7 @@ use native.Mathlib.Omega.{arith}
 use lib.ListN.{length}
 use lib.Dec.{ltb, eqb}
 use borrow.Author.Tests.{ltb-false, eqb-false, not-false}
-use Rattle.keys.specs.Key.{validKey}
+use Rattle.keys.specs.Key.{slotLimit, validKey}
 use Rattle.keys.proofs.Cases.{neither-left, neither-right}
 use Rattle.definitions.specs.Read.{isList}
 use Rattle.definitions.specs.Refusal.{badSettings}
@@ -21,17 +21,17 @@ use Rattle.definitions.proofs.First.{first-none}
 pub record GoodSettings (m s : ℕ) : Type 0 where
   pub deep : m ≤ 10
   pub some : 1 ≤ s
-  pub few : s ≤ 16
+  pub few : s ≤ slotLimit
 
 pub good-settings : (m s : ℕ) → badSettings m s ≡ false → GoodSettings m s
 unfolding badSettings
 good-settings m s e =
-    let slots = neither-right (ltb 10 m) (eqb s 0 || ltb 16 s) e in
-    let not-zero = eqb-false s 0 (neither-left (eqb s 0) (ltb 16 s) slots) in
+    let slots = neither-right (ltb 10 m) (eqb s 0 || ltb slotLimit s) e in
+    let not-zero = eqb-false s 0 (neither-left (eqb s 0) (ltb slotLimit s) slots) in
     record {
-      deep = ltb-false 10 m (neither-left (ltb 10 m) (eqb s 0 || ltb 16 s) e);
+      deep = ltb-false 10 m (neither-left (ltb 10 m) (eqb s 0 || ltb slotLimit s) e);
       some = omega arith;
-      few = ltb-false 16 s (neither-right (eqb s 0) (ltb 16 s) slots);
+      few = ltb-false slotLimit s (neither-right (eqb s 0) (ltb slotLimit s) slots);
     }
 
 -- what a call of standing or part that is not refused has passed

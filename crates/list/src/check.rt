@@ -5,7 +5,7 @@ ghost use mathlib.Core.Bool.{true, cond, _&&_};
 ghost use Prim.Native.Nat.{ℕ, _+_, _*_, _^_, _≤_, _<_};
 ghost use lib.ListN.{length, drop};
 ghost use lib.Dec.{leb, eqb};
-ghost use Rattle.keys.specs.Key.{validKey};
+ghost use Rattle.keys.specs.Key.{slotLimit, validKey};
 ghost use Rattle.definitions.specs.Read.{room, paired, recordsOf, isList};
 ghost use Rattle.definitions.specs.Log.{isContent};
 ghost use Rattle.list.specs.Check.{oneSlot, placeOf, afterNode, stepUnder};
@@ -155,7 +155,7 @@ fn after_node(keys: &[u32], bits: &[u32], first: usize, key: u32, own: u32, step
 
 // The first n records are there, and are the list of the block with the given key at m and s.
 pub fn is_content(m: u32, s: u32, keys: &[u32], bits: &[u32], n: usize, key: u32) -> bool
-    requires { ⌜ (m ≤ 10) × (s ≤ 16) × (validKey m key ≡ true) ⌝ }
+    requires { ⌜ (m ≤ 10) × (s ≤ slotLimit) × (validKey m key ≡ true) ⌝ }
     ensures { λ r. ⌜ r ≡ leb n (room (now (keys .entry)) (now (bits .entry)))
         && isContent m s key (recordsOf (now (keys .entry)) (now (bits .entry)) n) ⌝ }
 {
@@ -172,7 +172,7 @@ pub fn is_content(m: u32, s: u32, keys: &[u32], bits: &[u32], n: usize, key: u32
         return false;
     }
     let own = bits[0];
-    if power::power_of_two(s) <= own {
+    if !power::slots_below(own, s) {
         return false;
     }
     if has_one_slot(own) {
@@ -185,7 +185,7 @@ pub fn is_content(m: u32, s: u32, keys: &[u32], bits: &[u32], n: usize, key: u32
 
 // The first n records are there, and are a raster's list at m and s.
 pub fn is_list(m: u32, s: u32, keys: &[u32], bits: &[u32], n: usize) -> bool
-    requires { ⌜ (m ≤ 10) × (s ≤ 16) ⌝ }
+    requires { ⌜ (m ≤ 10) × (s ≤ slotLimit) ⌝ }
     ensures { λ r. ⌜ r ≡ isList m s (now (keys .entry)) (now (bits .entry)) n ⌝ }
 {
     is_content(m, s, keys, bits, n, Key::ROOT)

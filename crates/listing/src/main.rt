@@ -9,7 +9,7 @@ fn main() {
     let mut pixels = [0u8; 1027];
     let mut keys = [0u32; 1365];
     let mut bits = [0u32; 1365];
-    let mut out = [0u8; 31405];
+    let mut out = [0u8; 53245];
     let read = io::read_full(STDIN_FILENO, &mut pixels);
     let count = lines::list_input(&pixels[..read], &mut keys, &mut bits, &mut out);
     io::write_all(STDOUT_FILENO, &out[..count]);

@@ -8,7 +8,7 @@ use libc::STDOUT_FILENO;
 fn run(heading: &[u8], input: &[u8]) {
     let mut keys = [0u32; 1365];
     let mut bits = [0u32; 1365];
-    let mut out = [0u8; 31405];
+    let mut out = [0u8; 53245];
     let count = lines::list_input(input, &mut keys, &mut bits, &mut out);
     io::write_all(STDOUT_FILENO, heading);
     io::write_all(STDOUT_FILENO, &out[..count]);
@@ -18,11 +18,11 @@ fn run(heading: &[u8], input: &[u8]) {
 fn run_longest(heading: &[u8], input: &[u8]) {
     let mut keys = [0u32; 1365];
     let mut bits = [0u32; 1365];
-    let mut out = [0u8; 31405];
+    let mut out = [0u8; 53245];
     let count = lines::list_input(input, &mut keys, &mut bits, &mut out);
     io::write_all(STDOUT_FILENO, heading);
     io::write_all(STDOUT_FILENO, &out[..10]);
-    io::write_all(STDOUT_FILENO, &out[31382..]);
+    io::write_all(STDOUT_FILENO, &out[53206..]);
     io::print_decimal(STDOUT_FILENO, count as u64);
     io::write_all(STDOUT_FILENO, b"\n");
 }
@@ -33,7 +33,7 @@ fn patch(row: usize, column: usize) -> u8 {
         return 1;
     }
     if row == 21 && column == 13 {
-        return 15;
+        return 31;
     }
     if 30 <= row && column < 5 {
         return 7;
@@ -43,10 +43,10 @@ fn patch(row: usize, column: usize) -> u8 {
 
 // No two neighbours alike, so that every block is listed.
 fn check(row: usize, column: usize) -> u8 {
-    if row % 2 == column % 2 { 0 } else { 15 }
+    if row % 2 == column % 2 { 0 } else { 31 }
 }
 
-// m = 5, s = 16 and a raster of 32 by 32.
+// m = 5, s = 32 and a raster of 32 by 32.
 fn largest(is_patched: bool) -> [u8; 1026]
     ensures { λ r. ⌜ 1026 ≡ length r ⌝ }
 {
@@ -63,27 +63,28 @@ fn largest(is_patched: bool) -> [u8; 1026]
         i += 1;
     }
     input[0] = 5;
-    input[1] = 16;
+    input[1] = 32;
     input
 }
 
 fn run_largest() {
     let patched = largest(true);
-    run(b"# m = 5, s = 16, three patches\n", &patched);
+    run(b"# m = 5, s = 32, three patches\n", &patched);
     let checked = largest(false);
     run_longest(
-        b"# m = 5, s = 16, every block listed: first line, last line, bytes\n",
+        b"# m = 5, s = 32, every block listed: first line, last line, bytes\n",
         &checked,
     );
     let mut long = [0u8; 1027];
     long[0] = 5;
-    long[1] = 16;
+    long[1] = 32;
     run(b"# m = 5, a pixel too many\n", &long);
 }
 
 fn run_small() {
     run(b"# m = 0, s = 1\n", b"\x00\x01\x00");
     run(b"# m = 0, s = 16, feature 15\n", b"\x00\x10\x0f");
+    run(b"# m = 0, s = 32, feature 31\n", b"\x00\x20\x1f");
     run(b"# m = 1, s = 4\n", b"\x01\x04\x03\x02\x01\x00");
     run(
         b"# m = 1, s = 10, one feature\n",
@@ -97,7 +98,7 @@ fn run_settings() {
     run(b"# one byte\n", b"\x00");
     run(b"# m = 6\n", b"\x06\x01\x00");
     run(b"# s = 0\n", b"\x00\x00\x00");
-    run(b"# s = 17\n", b"\x00\x11\x00");
+    run(b"# s = 33\n", b"\x00\x21\x00");
 }
 
 // Refusals 2 and 3.

@@ -3,6 +3,7 @@ ghost use mathlib.Core.Path.{_≡_};
 ghost use mathlib.Core.Bool.{not};
 ghost use Prim.Native.Nat.{_≤_, _<_};
 ghost use lib.ListN.{length};
+ghost use Rattle.keys.specs.Key.{slotLimit};
 ghost use Rattle.definitions.specs.Read.{recordsOf};
 ghost use Rattle.definitions.specs.Log.{lastIsEntry, noLog};
 use keys::Key;
@@ -12,7 +13,7 @@ pub mod entry;
 
 // The used records end in an entry: all of it is there, its key is valid, and its content is a list of that block.
 fn ends_in_entry(m: u32, s: u32, keys: &[u32], values: &[u32], used: usize) -> bool
-    requires { ⌜ (m ≤ 10) × (s ≤ 16) × (0 < used) × (used ≤ length (now keys)) × (used ≤ length (now values)) ⌝ }
+    requires { ⌜ (m ≤ 10) × (s ≤ slotLimit) × (0 < used) × (used ≤ length (now keys)) × (used ≤ length (now values)) ⌝ }
     ensures { λ r. ⌜ r ≡ lastIsEntry m s (recordsOf (now (keys .entry)) (now (values .entry)) used) ⌝ }
 {
     if used < entry::places(entry::last_count(values, used)) {
@@ -32,7 +33,7 @@ fn ends_in_entry(m: u32, s: u32, keys: &[u32], values: &[u32], used: usize) -> b
 
 // The used records are there, and divide from the end into entries.
 pub fn is_sound(m: u32, s: u32, keys: &[u32], values: &[u32], used: usize) -> bool
-    requires { ⌜ (m ≤ 10) × (s ≤ 16) ⌝ }
+    requires { ⌜ (m ≤ 10) × (s ≤ slotLimit) ⌝ }
     ensures { λ r. ⌜ not r ≡ noLog m s (now (keys .entry)) (now (values .entry)) used ⌝ }
 {
     if keys.len() < used {

@@ -16,6 +16,6 @@ pub good-level : (m s : ℕ) → badSettings m s ≡ false → m ≤ 10
 unfolding badSettings
 good-level m s e = ltb-false deepestLevel m (neither (ltb deepestLevel m) (eqb s 0 || ltb slotLimit s) e .0)
 
-pub good-slots : (m s : ℕ) → badSettings m s ≡ false → s ≤ 16
+pub good-slots : (m s : ℕ) → badSettings m s ≡ false → s ≤ slotLimit
 unfolding badSettings
 good-slots m s e = ltb-false slotLimit s (neither (eqb s 0) (ltb slotLimit s) (neither (ltb deepestLevel m) (eqb s 0 || ltb slotLimit s) e .1) .1)

@@ -7,6 +7,7 @@ use mathlib.Core.List.{List, [], _∷_, map}
 use native.Mathlib.Omega.{arith}
 use lib.ListN.{length, take, drop, length-map}
 use borrow.Author.Tests.{ltb-false}
+use Rattle.keys.specs.Key.{slotLimit}
 use Rattle.definitions.specs.Window.{isWindow, selectIn}
 use Rattle.definitions.specs.Rules.{Finding, findingOf, windowOf, findingsOf, waiversOf, liveOf, hiddenCount, findingsAscend}
 use Rattle.definitions.specs.declared.Rule.{Rule}
@@ -50,7 +51,7 @@ module _ (keys bits waiverIds waiverKeys : List ℕ) (rule : Rule) (p : Progress
   pub own-window : isWindow (st .m) (windowOf rule) ≡ true
   own-window = good-window (st .m) (st .s) rule (rule-good keys bits waiverIds waiverKeys rule p (g .may))
 
-  pub own-feature : rule .feature < 16
+  pub own-feature : rule .feature < slotLimit
   own-feature =
       let low = good-feature (st .m) (st .s) rule (rule-good keys bits waiverIds waiverKeys rule p (g .may)) in
       omega (arith, g .fine .slots)

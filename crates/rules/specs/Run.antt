@@ -6,7 +6,7 @@ use mathlib.Core.Bool.{Bool, true, false, cond, not, _&&_, _||_}
 use mathlib.Core.List.{List, [], _∷_, map}
 use lib.ListN.{length}
 use lib.Dec.{leb, ltb, eqb}
-use Rattle.keys.specs.Key.{validKey}
+use Rattle.keys.specs.Key.{slotLimit, validKey}
 use Rattle.definitions.specs.Picture.{Picture}
 use Rattle.definitions.specs.Read.{room, recordsOf, pictureOf, isList}
 use Rattle.definitions.specs.Refusal.{badSettings}
@@ -216,7 +216,7 @@ module _ (keys bits waiverIds waiverKeys : List ℕ) where
   -- what a run that is not refused stands on
   pub record Fine (p : Progress) : Type 0 where
     pub level : p .state .m ≤ 10
-    pub slots : p .state .s ≤ 16
+    pub slots : p .state .s ≤ slotLimit
     pub list : isList (p .state .m) (p .state .s) keys bits (p .state .n) ≡ true
     pub limitIds : p .state .limit ≤ length (p .ids)
     pub limitKeys : p .state .limit ≤ length (p .keys)

@@ -5,7 +5,7 @@ ghost use mathlib.Core.Bool.{true};
 ghost use mathlib.Core.List.{[], _∷_};
 ghost use Prim.Native.Nat.{_+_, _≤_, _<_, _^_};
 ghost use lib.ListN.{drop};
-ghost use Rattle.keys.specs.Key.{validKey};
+ghost use Rattle.keys.specs.Key.{slotLimit, validKey};
 ghost use Rattle.definitions.specs.Edit.{contentOf};
 ghost use Rattle.definitions.specs.Read.{recordsOf};
 ghost use Rattle.definitions.specs.Window.{isWindow, selectIn};
@@ -183,7 +183,7 @@ pub fn sift_rule(
     found_keys: &mut [u32],
     at: Sifting,
 ) -> Sifting
-    requires { ⌜ (m ≤ 10) × (isWindow m (windowOf rule) ≡ true) × (rule .feature < 16) × OwnList m (now keys) (now bits) n
+    requires { ⌜ (m ≤ 10) × (isWindow m (windowOf rule) ≡ true) × (rule .feature < slotLimit) × OwnList m (now keys) (now bits) n
         × SiftReady m limit (now waived) at (now «found_ids») (now «found_keys») (2 ^ 59) 0 ⌝ }
     ensures { λ r. ⌜ Sifted m limit (rule .id) (now (waived .entry)) (selectIn m (shownBy m (now (keys .entry)) (now (bits .entry)) n) (windowOf rule) (rule .feature)) at r
         (now («found_ids» .entry)) (now («found_ids» .exit)) (now («found_keys» .entry)) (now («found_keys» .exit)) (5 ^ m) ⌝ }

@@ -11,6 +11,7 @@ use lib.Dec.{eqb}
 use lib.ListN.{length, take, drop}
 use lib.Seq.{take-add, take-all}
 use borrow.Author.Tests.{eqb-true, eqb-false, not-true, not-false}
+use Rattle.keys.specs.Key.{slotLimit}
 use Rattle.keys.specs.Block.{rowOf, columnOf}
 use Rattle.definitions.specs.Picture.{Picture}
 use Rattle.definitions.specs.Area.{countsOf, summaryLevel, summaryHeight, summaryLength, summaryOf, blockKey, sameNumbers, noSummary}
@@ -43,7 +44,7 @@ module _ (m s : ℕ) (p : Picture) (summary : List ℕ) where
       sym (ap not (summary-right m s p summary
       (sym (take-all (b * s) summary (omega arith)) ∙ h .places ∙ take-all (b * s) (summaryOf m s p) (omega arith))))
 
-  module _ (b : ℕ) (counts : List ℕ) (h : b < 4 ^ summaryLevel m) (few : s ≤ 32)
+  module _ (b : ℕ) (counts : List ℕ) (h : b < 4 ^ summaryLevel m) (few : s ≤ slotLimit)
       (e : counts ≡ countsOf 32 p (summaryHeight m) (rowOf m (blockKey m b)) (columnOf m (blockKey m b))) where
     -- a block whose places differ from its counts
     pub block-wrong : (r : Bool) → r ≡ sameNumbers (take s counts) (take s (drop (b * s) summary)) → not r ≡ true → false ≡ not (noSummary m s p summary)

@@ -7,6 +7,7 @@ use native.Mathlib.Nat.{add-mul, suc-mul, zero-mul, one-mul, mul-le-mul-right}
 use native.Mathlib.Omega.{arith}
 use lib.ListN.{length, take, drop, length-drop}
 use lib.Seq.{sets, length-sets, length-take-le, take-add, drop-drop, take-all, drop-length}
+use Rattle.keys.specs.Key.{slotLimit}
 use Rattle.keys.specs.Block.{rowOf, columnOf}
 use Rattle.slices.proofs.Sets.{sets-join, sets-parts}
 use Rattle.definitions.specs.Picture.{Picture}
@@ -20,11 +21,11 @@ pub places-in : (m s b : ℕ) → b < 4 ^ summaryLevel m → b * s + s ≤ summa
 places-in m s b h = let e = suc-mul b s in let f = mul-le-mul-right {m = suc b} {n = 4 ^ summaryLevel m} s (omega arith) in omega arith
 
 -- and their number is small
-pub places-few : (m s : ℕ) → s ≤ 32 → summaryLength m s ≤ 512
+pub places-few : (m s : ℕ) → s ≤ slotLimit → summaryLength m s ≤ 512
 places-few m s h = let e = number-most m in let f = mul-le-mul-right {m = 4 ^ summaryLevel m} {n = 16} s e in omega arith
 
 -- the first s of a block's counts are what the summary has at its places
-pub counts-part : (m s : ℕ) (p : Picture) (b : ℕ) (counts : List ℕ) → b < 4 ^ summaryLevel m → s ≤ 32
+pub counts-part : (m s : ℕ) (p : Picture) (b : ℕ) (counts : List ℕ) → b < 4 ^ summaryLevel m → s ≤ slotLimit
     → counts ≡ countsOf 32 p (summaryHeight m) (rowOf m (blockKey m b)) (columnOf m (blockKey m b))
     → take s counts ≡ take s (drop (b * s) (summaryOf m s p))
 counts-part m s p b counts h few e =

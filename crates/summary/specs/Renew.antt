@@ -4,6 +4,7 @@ use mathlib.Core.Path.{_≡_}
 use mathlib.Core.List.{List}
 use lib.ListN.{length, take, drop}
 use lib.Seq.{sets}
+use Rattle.keys.specs.Key.{slotLimit}
 use Rattle.definitions.specs.Picture.{Picture}
 use Rattle.definitions.specs.Area.{summaryLevel, summaryLength, summaryOf}
 
@@ -14,7 +15,7 @@ renewed m s p from until summary = sets summary (from * s) (take ((until - from)
 -- the blocks are blocks of the summary, and it has the right length
 pub record Renewable (m s from until : ℕ) (summary : List ℕ) : Type 0 where
   pub deep : m ≤ 10
-  pub few : s ≤ 32
+  pub few : s ≤ slotLimit
   pub order : from ≤ until
   pub most : until ≤ 4 ^ summaryLevel m
   pub long : length summary ≡ summaryLength m s

@@ -3,13 +3,14 @@ ghost use mathlib.Core.Path.{_≡_};
 ghost use mathlib.Core.Bool.{not};
 ghost use Prim.Native.Nat.{_+_, _≤_};
 ghost use lib.ListN.{length, take, drop};
+ghost use Rattle.keys.specs.Key.{slotLimit};
 ghost use Rattle.definitions.specs.Area.{sameNumbers, noSummary};
 ghost use Rattle.list.specs.Own.{OwnList, shownBy};
 use crate::blocks;
 
 // The first s counters are the s places from a place on.
 fn same_counts(counts: [u32; 32], s: usize, summary: &[u32], at: usize) -> bool
-    requires { ⌜ (s ≤ 32) × (at + s ≤ length (now summary)) ⌝ }
+    requires { ⌜ (s ≤ slotLimit) × (at + s ≤ length (now summary)) ⌝ }
     ensures { λ r. ⌜ r ≡ sameNumbers (take s counts) (take s (drop at (now (summary .entry)))) ⌝ }
 {
     let mut i: usize = 0;
@@ -25,7 +26,7 @@ fn same_counts(counts: [u32; 32], s: usize, summary: &[u32], at: usize) -> bool
 // The summary is that of the list: refusal 18 does not apply.
 pub fn is_summary(m: u32, s: u32, keys: &[u32], bits: &[u32], n: usize, summary: &[u32]) -> bool
     requires { ⌜ OwnList m (now keys) (now bits) n ⌝ }
-    requires { ⌜ (m ≤ 10) × (s ≤ 32) ⌝ }
+    requires { ⌜ (m ≤ 10) × (s ≤ slotLimit) ⌝ }
     ensures { λ r. ⌜ r ≡ not (noSummary m s (shownBy m (now (keys .entry)) (now (bits .entry)) n) (now (summary .entry))) ⌝ }
 {
     if !blocks::have_length(m, s, summary) {

@@ -2,6 +2,7 @@
 ghost use mathlib.Core.Path.{_≡_};
 ghost use Prim.Native.Nat.{_≤_};
 ghost use lib.ListN.{length};
+ghost use Rattle.keys.specs.Key.{slotLimit};
 ghost use Rattle.definitions.specs.Area.{summaryOf, summaryLength};
 ghost use Rattle.list.specs.Own.{OwnList, shownBy};
 ghost use Rattle.summary.specs.Renew.{renewed, Renewable};
@@ -35,7 +36,7 @@ pub fn renew(
 // Every place is written.
 pub fn fill(m: u32, s: u32, keys: &[u32], bits: &[u32], n: usize, summary: &mut [u32])
     requires { ⌜ OwnList m (now keys) (now bits) n ⌝ }
-    requires { ⌜ (m ≤ 10) × (s ≤ 32) × (length (now summary) ≡ summaryLength m s) ⌝ }
+    requires { ⌜ (m ≤ 10) × (s ≤ slotLimit) × (length (now summary) ≡ summaryLength m s) ⌝ }
     ensures { λ _. ⌜ now (summary .exit) ≡ summaryOf m s (shownBy m (now (keys .entry)) (now (bits .entry)) n) ⌝ }
 {
     let blocks = blocks::number_of(m);

@@ -2,6 +2,7 @@
 ghost use mathlib.Core.Path.{_≡_};
 ghost use mathlib.Core.Bool.{true};
 ghost use Prim.Native.Nat.{_≤_, _<_};
+ghost use Rattle.keys.specs.Key.{slotLimit};
 ghost use Rattle.definitions.specs.Window.{isWindow, existIn};
 ghost use Rattle.list.specs.Own.{OwnList, shownBy};
 use crate::walk;
@@ -15,7 +16,7 @@ use list::standing;
 // feature, is settled by its record, however the window cuts it; only a cut node with the feature and others is entered. Keys rise, so each search begins
 // where the last one ended.
 pub fn exist_in(m: u32, keys: &[u32], bits: &[u32], n: usize, window: Window, feature: u32) -> bool
-    requires { ⌜ (m ≤ 10) × (isWindow m window ≡ true) × (feature < 16) × OwnList m (now keys) (now bits) n ⌝ }
+    requires { ⌜ (m ≤ 10) × (isWindow m window ≡ true) × (feature < slotLimit) × OwnList m (now keys) (now bits) n ⌝ }
     ensures { λ r. ⌜ r ≡ existIn (shownBy m (now (keys .entry)) (now (bits .entry)) n) window feature ⌝ }
 {
     let bit = power::power_of_two(feature);

@@ -3,6 +3,7 @@ ghost use mathlib.Core.Path.{_≡_};
 ghost use mathlib.Core.Bool.{true};
 ghost use Prim.Native.Nat.{_+_, _≤_, _<_};
 ghost use lib.ListN.{length, drop};
+ghost use Rattle.keys.specs.Key.{slotLimit};
 ghost use Rattle.definitions.specs.Edit.{contentOf};
 ghost use Rattle.definitions.specs.Read.{recordsOf};
 ghost use Rattle.definitions.specs.Window.{isWindow, selectIn};
@@ -106,7 +107,7 @@ pub fn gather(
     answer: &mut [u32],
     limit: usize,
 ) -> usize
-    requires { ⌜ (m ≤ 10) × (isWindow m window ≡ true) × (feature < 16) × OwnList m (now keys) (now bits) n × (limit ≤ length (now answer)) ⌝ }
+    requires { ⌜ (m ≤ 10) × (isWindow m window ≡ true) × (feature < slotLimit) × OwnList m (now keys) (now bits) n × (limit ≤ length (now answer)) ⌝ }
     ensures { λ r. ⌜ Gave (selectIn m (shownBy m (now (keys .entry)) (now (bits .entry)) n) window feature)
         limit 0 (now (answer .entry)) (now (answer .exit)) r ⌝ }
 {

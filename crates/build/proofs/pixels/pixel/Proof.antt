@@ -1,4 +1,4 @@
--- `pixels::pixel` meets its contract: the place is one of the raster's, and its feature is below 16.
+-- `pixels::pixel` meets its contract: the place is one of the raster's, and its feature is a slot.
 use Prim.Native.Nat.{_+_, _*_, _^_}
 use mathlib.Core.Path.{ap, _∙_}
 use native.Mathlib.Omega.{arith}

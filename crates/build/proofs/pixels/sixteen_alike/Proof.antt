@@ -3,6 +3,7 @@ use Prim.Native.Nat.{_+_, _*_, _<_}
 use mathlib.Core.Path.{sym, _∙_}
 use native.Mathlib.Omega.{arith}
 use lib.ListN.{length}
+use Rattle.keys.specs.Key.{slotLimit}
 use Rattle.build.proofs.Alike.{further-inside, four-equal, sixteen-one}
 use Rattle.build.proofs.pixels.sixteen_alike.Statement.{statement}
 use Rattle.build.proofs.pixels.sixteen_alike.Tie as tie
@@ -12,7 +13,7 @@ last : (s : tie.Start) → s .args .row * s .args .side + s .args .column + s .a
 last s = let h = further-inside (s .pre) 3 3 (omega arith) (omega arith) in omega arith
 
 -- the first pixel is a feature
-small : (c : tie.After-wide) → c .wide .result < 16
+small : (c : tie.After-wide) → c .wide .result < slotLimit
 small c = let s = c .before .before .before in omega (arith, c .wide .ensures, s .pre .features (s .args .row * s .args .side + s .args .column))
 
 mul-first : tie.Need-mul-first

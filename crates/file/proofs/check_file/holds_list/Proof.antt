@@ -1,6 +1,7 @@
 -- `check_file::holds_list` meets its contract: each way out answers what the definition does there.
 use mathlib.Core.Path.{sym, ap, _∙_}
 use Prim.Native.Nat.{ℕ, _/_}
+use borrow.Author.Tests.{ltb-true, ltb-false, not-true, not-false}
 use borrow.Author.Needs.{needs}
 use Rattle.file.proofs.FileList.{none-in-file, other-root, large-root, leaf-root, node-root}
 use Rattle.file.proofs.check_file.holds_list.Statement.{statement}
@@ -20,15 +21,15 @@ returns-2 c =
 u16-at-requires : tie.Need-u16-at-requires
 u16-at-requires c κs = search needs
 
-power-of-two-requires : tie.Need-power-of-two-requires
-power-of-two-requires c κs = search needs
+slots-below-requires : tie.Need-slots-below-requires
+slots-below-requires c κs = search needs
 
 returns-3 : tie.Need-returns-3
 returns-3 c =
     let b = c .before .before .before in
     let e = b .before .before in
     large-root (e .before .before .pre) (e .if1 .left) _ (b .before .u32-at .ensures) (b .if2 .left) _ (c .before .before .u16-at .ensures)
-    (rw (c .before .power-of-two .ensures) at (c .if3 .taken))
+    (ltb-false _ _ (sym (c .before .slots-below .ensures) ∙ not-true _ (c .if3 .taken)))
 
 has-one-slot-requires : tie.Need-has-one-slot-requires
 has-one-slot-requires c κs = search needs
@@ -39,7 +40,7 @@ returns-4 c =
     let b = d .before .before .before in
     let e = b .before .before in
     leaf-root (e .before .before .pre) (e .if1 .left) _ (b .before .u32-at .ensures) (b .if2 .left) _ (d .before .before .u16-at .ensures)
-    (rw (d .before .power-of-two .ensures) at (d .if3 .left))
+    (ltb-true _ _ (sym (d .before .slots-below .ensures) ∙ not-false _ (d .if3 .left)))
     (sym (c .before .has-one-slot .ensures) ∙ c .if4 .taken)
 
 power-of-five-requires : tie.Need-power-of-five-requires
@@ -55,7 +56,7 @@ returns-5 c =
     let b = d .before .before .before in
     let e = b .before .before in
     node-root (e .before .before .pre) (e .if1 .left) _ (b .before .u32-at .ensures) (b .if2 .left) _ (d .before .before .u16-at .ensures)
-    (rw (d .before .power-of-two .ensures) at (d .if3 .left))
+    (ltb-true _ _ (sym (d .before .slots-below .ensures) ∙ not-false _ (d .if3 .left)))
     _ _
     (sym (f .before .has-one-slot .ensures) ∙ f .if4 .left)
     (ap (λ (p : ℕ). p / 5) (c .before .power-of-five .ensures))
@@ -69,7 +70,7 @@ holds-list-spec =
     u32-at-requires
     returns-2
     u16-at-requires
-    power-of-two-requires
+    slots-below-requires
     returns-3
     has-one-slot-requires
     returns-4

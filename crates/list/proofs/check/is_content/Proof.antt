@@ -3,6 +3,7 @@ use Prim.Native.Nat.{ℕ, _+_, _*_, _/_, _^_, _≤_, _<_}
 use mathlib.Core.Path.{_≡_, sym, _∙_, ap}
 use mathlib.Core.Bool.{true}
 use native.Mathlib.Omega.{arith}
+use borrow.Author.Tests.{ltb-true, ltb-false, not-true, not-false}
 use borrow.Author.Needs.{needs}
 use Rattle.keys.specs.Key.{validKey, heightOf}
 use Rattle.keys.proofs.Powers.{five-le, height-le}
@@ -61,13 +62,13 @@ returns-4 c = other-key (there (c .before .before)) (c .before .before .before .
 shared-slice-read-own : tie.Need-shared-slice-read-own
 shared-slice-read-own c = search needs
 
-power-of-two-requires : tie.Need-power-of-two-requires
-power-of-two-requires c κs = search needs
+slots-below-requires : tie.Need-slots-below-requires
+slots-below-requires c κs = search needs
 
 returns-5 : tie.Need-returns-5
 returns-5 c =
     let d = c .before .before .before in
-    large-bits (there (d .before .before)) (d .before .before .before .before .before .before .before .args .s) (d .if4 .left) (omega (arith, c .before .power-of-two .ensures, c .if5 .taken))
+    large-bits (there (d .before .before)) (d .before .before .before .before .before .before .before .args .s) (d .if4 .left) (ltb-false _ _ (sym (c .before .slots-below .ensures) ∙ not-true _ (c .if5 .taken)))
 
 has-one-slot-requires : tie.Need-has-one-slot-requires
 has-one-slot-requires c κs = search needs
@@ -76,7 +77,7 @@ returns-6 : tie.Need-returns-6
 returns-6 c =
     let b = c .before .before in
     let d = b .before .before .before in
-    one-record (there (d .before .before)) (d .before .before .before .before .before .before .before .args .s) (d .if4 .left) (omega (arith, b .before .power-of-two .ensures, b .if5 .left))
+    one-record (there (d .before .before)) (d .before .before .before .before .before .before .before .args .s) (d .if4 .left) (ltb-true _ _ (sym (b .before .slots-below .ensures) ∙ not-false _ (b .if5 .left)))
     (sym (c .before .has-one-slot .ensures) ∙ c .if6 .taken)
 
 height-requires : tie.Need-height-requires
@@ -111,7 +112,7 @@ returns-7 c =
     let e = e′ .before in
     let b = e .before .before in
     let d = b .before .before .before in
-    many-records (there (d .before .before)) (d .before .before .before .before .before .before .before .args .s) (d .if4 .left) (omega (arith, b .before .power-of-two .ensures, b .if5 .left))
+    many-records (there (d .before .before)) (d .before .before .before .before .before .before .before .args .s) (d .if4 .left) (ltb-true _ _ (sym (b .before .slots-below .ensures) ∙ not-false _ (b .if5 .left)))
     (c .after-node .result)
     (sym (e .before .has-one-slot .ensures) ∙ e .if6 .left)
     (c .after-node .ensures .1 _ (step-is _ _ _ _ (e′ .height .ensures) (c .before .before .before .power-of-five .ensures)))
@@ -126,7 +127,7 @@ is-content-spec =
     shared-slice-read-if4
     returns-4
     shared-slice-read-own
-    power-of-two-requires
+    slots-below-requires
     returns-5
     has-one-slot-requires
     returns-6

@@ -5,6 +5,7 @@ use mathlib.Core.List.{List}
 use native.Mathlib.Omega.{arith}
 use borrow.Author.Needs.{needs}
 use lib.ListN.{length}
+use Rattle.keys.specs.Key.{slotLimit}
 use Rattle.definitions.specs.Picture.{Picture}
 use Rattle.definitions.specs.Area.{countsOf}
 use Rattle.definitions.proofs.SummaryOf.{counts-length}
@@ -13,7 +14,7 @@ use Rattle.summary.proofs.Renewed.{Begun, renew-begins, renew-turns, re
 use Rattle.summary.proofs.renew.renew.Statement.{statement}
 use Rattle.summary.proofs.renew.renew.Tie as tie
 
-counters : (p : Picture) (k r c s : ℕ) (counts : List ℕ) → counts ≡ countsOf 32 p k r c → s ≤ 32 → 0 + s ≤ length counts
+counters : (p : Picture) (k r c s : ℕ) (counts : List ℕ) → counts ≡ countsOf 32 p k r c → s ≤ slotLimit → 0 + s ≤ length counts
 counters p k r c s counts e h = let f = ap length e in let g = counts-length p k r c 0 32 in omega arith
 
 abbrev Inv-loop : tie.InvT-loop

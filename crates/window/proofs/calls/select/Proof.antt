@@ -6,6 +6,7 @@ use mathlib.Core.Path.{_≡_, sym, _∙_, ap}
 use native.Mathlib.Omega.{arith}
 use lib.ListN.{length}
 use borrow.Author.Needs.{needs}
+use Rattle.keys.specs.Key.{slotLimit}
 use Rattle.keys.proofs.Powers.{two-le}
 use Rattle.definitions.specs.Calls.Exist.{existRefusal}
 use Rattle.definitions.specs.Window.{isWindow}
@@ -31,7 +32,7 @@ none c = sym (c .before .feature-refusal .ensures) ∙ c .if1 .left
 asks : (c : tie.Else1)
     → (entry c .args .m ≤ 10)
     × (isWindow (entry c .args .m) (entry c .args .window) ≡ true)
-    × (entry c .args .feature < 16)
+    × (entry c .args .feature < slotLimit)
     × OwnList (entry c .args .m) (entry c .args .keys .now) (entry c .args .bits .now) (entry c .args .n)
 asks c =
     let p = exist-passed _ _ _ _ _ _ _ (none c) in
