@@ -3,6 +3,7 @@ mod MapA
 mod Orders
 mod Corners
 mod AreaVectors
+mod LeafVectors
 mod FourWaivers
 pub mod Within
 pub mod Pixels

@@ -18,3 +18,5 @@ pub mod Empty
 pub mod Findings
 pub mod Store
 pub mod Load
+pub mod ReadLeaves
+pub mod WriteLeaves

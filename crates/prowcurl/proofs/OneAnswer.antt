@@ -53,6 +53,10 @@ use Rattle.prowcurl.proofs.files.hlq_store as store
 use Rattle.prowcurl.proofs.files.hlq_store.Reads as store-reads
 use Rattle.prowcurl.proofs.files.hlq_load as load
 use Rattle.prowcurl.proofs.files.hlq_load.Reads as load-reads
+use Rattle.prowcurl.proofs.deliveries.hlq_read_leaves as read-leaves
+use Rattle.prowcurl.proofs.deliveries.hlq_read_leaves.Reads as read-leaves-reads
+use Rattle.prowcurl.proofs.deliveries.hlq_write_leaves as write-leaves
+use Rattle.prowcurl.proofs.deliveries.hlq_write_leaves.Reads as write-leaves-reads
 use Rattle.prowcurl.proofs.findings.hlq_findings as findings
 
 -- what a contract tells the caller of what was lent, the result, and the parameters at exit: `Learnt`, as Rattle reads it off the `ensures`
@@ -220,6 +224,13 @@ store-one = by-equations (λ x. two (x .kept) (x .kept′))
 
 pub load-one : OneAnswer load.ended load-reads.Learnt
 load-one = by-equations (λ x. three (x .kept) (x .kept′))
+
+-- leaf lists
+pub read-leaves-one : OneAnswer read-leaves.ended read-leaves-reads.Learnt
+read-leaves-one = by-equations (λ x. three (x .kept) (x .kept′))
+
+pub write-leaves-one : OneAnswer write-leaves.ended write-leaves-reads.Learnt
+write-leaves-one = by-equations (λ x. three (x .kept) (x .kept′))
 
 -- findings: it is proved by hand, so its contract is read here, in the way that Rattle itself reads the others
 abbrev findings-read : (κs : Lfts 7) (lent : Args findings.signature κs) (r : Res findings.signature κs) (s : AtExit findings.ended κs)

@@ -1,0 +1,40 @@
+-- Read leaves: a delivery becomes the list of the raster that it describes (document 02, item 3). Refusals 1, 19, 9. Rests on Leaves.
+use Prim.Native.Nat.{ℕ}
+use mathlib.Core.Bool.{not}
+use mathlib.Core.List.{List, [], _∷_}
+use lib.ListN.{length}
+use lib.Dec.{ltb}
+use Rattle.definitions.specs.List.{Record, listOfPicture, keysOf, valuesOf}
+use Rattle.definitions.specs.Read.{room}
+use Rattle.definitions.specs.Leaves.{isDelivery, pictureDelivered}
+use Rattle.definitions.specs.Buffer.{over}
+use Rattle.definitions.specs.Refusal.{_gives_, first, accepted, badSettings}
+use Rattle.definitions.specs.declared.Counted.{Counted}
+
+-- the list of the raster that the leaves describe
+abbrev pub listDelivered : (m : ℕ) (leafKeys leafFeatures : List ℕ) (leaves : ℕ) → List Record
+listDelivered m leafKeys leafFeatures leaves = listOfPicture m (pictureDelivered m leafKeys leafFeatures leaves)
+
+unfoldable pub readLeavesRefusal : (m s : ℕ) (leafKeys leafFeatures : List ℕ) (leaves : ℕ) (keys bits : List ℕ) → ℕ
+readLeavesRefusal m s leafKeys leafFeatures leaves keys bits =
+    first
+    (badSettings m s gives 1
+    ∷ not (isDelivery m s leafKeys leafFeatures leaves) gives 19
+    ∷ ltb (room keys bits) (length (listDelivered m leafKeys leafFeatures leaves)) gives 9
+    ∷ [])
+
+-- the count is the number of records
+unfoldable pub readLeaves : (m s : ℕ) (leafKeys leafFeatures : List ℕ) (leaves : ℕ) (keys bits : List ℕ) → Counted
+readLeaves m s leafKeys leafFeatures leaves keys bits =
+    record {
+      refusal = readLeavesRefusal m s leafKeys leafFeatures leaves keys bits;
+      count = accepted (readLeavesRefusal m s leafKeys leafFeatures leaves keys bits) (length (listDelivered m leafKeys leafFeatures leaves)) 0;
+    }
+
+unfoldable pub readLeavesKeys : (m s : ℕ) (leafKeys leafFeatures : List ℕ) (leaves : ℕ) (keys bits : List ℕ) → List ℕ
+readLeavesKeys m s leafKeys leafFeatures leaves keys bits =
+    accepted (readLeavesRefusal m s leafKeys leafFeatures leaves keys bits) (over (keysOf (listDelivered m leafKeys leafFeatures leaves)) keys) keys
+
+unfoldable pub readLeavesBits : (m s : ℕ) (leafKeys leafFeatures : List ℕ) (leaves : ℕ) (keys bits : List ℕ) → List ℕ
+readLeavesBits m s leafKeys leafFeatures leaves keys bits =
+    accepted (readLeavesRefusal m s leafKeys leafFeatures leaves keys bits) (over (valuesOf (listDelivered m leafKeys leafFeatures leaves)) bits) bits

@@ -1,0 +1,42 @@
+-- Write leaves: the leaves of a list, a key and a feature each (document 02, item 3). Refusals 1, 4, 12. Rests on Leaves.
+use Prim.Native.Nat.{ℕ}
+use mathlib.Core.Bool.{cond}
+use mathlib.Core.List.{List, [], _∷_}
+use lib.ListN.{length}
+use lib.Dec.{ltb, eqb}
+use Rattle.definitions.specs.List.{Record, keysOf, valuesOf}
+use Rattle.definitions.specs.Read.{room, recordsOf}
+use Rattle.definitions.specs.Leaves.{leavesOf}
+use Rattle.definitions.specs.Buffer.{over}
+use Rattle.definitions.specs.Refusal.{_gives_, first, accepted, badSettings, noList}
+use Rattle.definitions.specs.declared.Counted.{Counted}
+
+-- the leaves of the first n records
+abbrev pub leavesIn : (keys bits : List ℕ) (n : ℕ) → List Record
+leavesIn keys bits n = leavesOf (recordsOf keys bits n)
+
+unfoldable pub writeLeavesRefusal : (m s : ℕ) (keys bits : List ℕ) (n : ℕ) (leafKeys leafFeatures : List ℕ) → ℕ
+writeLeavesRefusal m s keys bits n leafKeys leafFeatures =
+    first
+    (badSettings m s gives 1
+    ∷ noList m s keys bits n gives 4
+    ∷ ltb (room leafKeys leafFeatures) (length (leavesIn keys bits n)) gives 12
+    ∷ [])
+
+-- the count is the number of leaves; with 12 it is the number of places needed, which is the same
+unfoldable pub writeLeaves : (m s : ℕ) (keys bits : List ℕ) (n : ℕ) (leafKeys leafFeatures : List ℕ) → Counted
+writeLeaves m s keys bits n leafKeys leafFeatures =
+    record {
+      refusal = writeLeavesRefusal m s keys bits n leafKeys leafFeatures;
+      count = accepted (writeLeavesRefusal m s keys bits n leafKeys leafFeatures)
+          (length (leavesIn keys bits n))
+          (cond (eqb (writeLeavesRefusal m s keys bits n leafKeys leafFeatures) 12) (length (leavesIn keys bits n)) 0);
+    }
+
+unfoldable pub writtenLeafKeys : (m s : ℕ) (keys bits : List ℕ) (n : ℕ) (leafKeys leafFeatures : List ℕ) → List ℕ
+writtenLeafKeys m s keys bits n leafKeys leafFeatures =
+    accepted (writeLeavesRefusal m s keys bits n leafKeys leafFeatures) (over (keysOf (leavesIn keys bits n)) leafKeys) leafKeys
+
+unfoldable pub writtenLeafFeatures : (m s : ℕ) (keys bits : List ℕ) (n : ℕ) (leafKeys leafFeatures : List ℕ) → List ℕ
+writtenLeafFeatures m s keys bits n leafKeys leafFeatures =
+    accepted (writeLeavesRefusal m s keys bits n leafKeys leafFeatures) (over (valuesOf (leavesIn keys bits n)) leafFeatures) leafFeatures

@@ -1,0 +1,15 @@
+pub mod EndOf
+pub mod Tiles
+pub mod Sound
+pub mod Open
+pub mod Complete
+pub mod Delivery
+pub mod Quarters
+pub mod PassBlock
+pub mod LayBlock
+pub mod LayList
+pub mod LeavesOf
+pub mod Picking
+pub mod ReadAnswer
+pub mod WriteAnswer
+pub mod RoundTrip
