@@ -35,6 +35,7 @@ pub mod SelectArea
 pub mod SummaryPlaces
 pub mod Overlap
 pub mod ClippedCalls
+pub mod OneByOne
 pub mod LastEntry
 pub mod SoundLog
 pub mod Hidden
