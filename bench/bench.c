@@ -274,6 +274,33 @@ static void clipped(size_t n) {
             });
 }
 
+/* The same thousand questions, half of each kind, as one batch and as single calls. A single call checks the list, so
+ * beside them plain C checks it each time too. */
+static void batch(size_t n) {
+    enum { QUESTIONS = 1000 };
+    static hlq_question questions[QUESTIONS];
+    static uint32_t refusals[QUESTIONS], values[QUESTIONS], other_refusals[QUESTIONS], other_values[QUESTIONS];
+    for (uint32_t i = 0; i < QUESTIONS; i++)
+        questions[i] = (hlq_question){ i % 2, (int32_t)below(EDGE) - 40, (int32_t)below(EDGE) - 40, 1 + below(200),
+                                       1 + below(200), below(S) };
+    printf("\n%d questions at m = %d, n = %zu\n", QUESTIONS, M, n);
+    COMPARE("batch", 9, 1,
+            sink += hlq_batch(M, S, keys, MOST, bits, MOST, n, questions, QUESTIONS, refusals, QUESTIONS, values,
+                              QUESTIONS).count,
+            sink += plain_batch(M, S, keys, bits, n, questions, QUESTIONS, other_refusals, other_values));
+    if (memcmp(refusals, other_refusals, sizeof refusals) != 0 || memcmp(values, other_values, sizeof values) != 0)
+        printf("THE TWO DIFFER\n");
+    COMPARE("the same as single calls", 3, 1, {
+        for (int i = 0; i < QUESTIONS; i++) {
+            hlq_question q = questions[i];
+            sink += q.report
+                ? hlq_report_clipped(M, S, keys, MOST, bits, MOST, n, q.row, q.column, q.height, q.width).bits
+                : hlq_exist_clipped(M, S, keys, MOST, bits, MOST, n, q.row, q.column, q.height, q.width, q.feature).yes;
+        }
+    }, for (int i = 0; i < QUESTIONS; i++)
+           sink += plain_batch(M, S, keys, bits, n, questions + i, 1, other_refusals, other_values));
+}
+
 static void blocks(void) {
     printf("\nblocks at m = %d\n", M);
     COMPARE("key at", 9, 1000, sink += hlq_key_at(M, (uint32_t)again, 1023 - (uint32_t)again % 1024, 9).count,
@@ -304,6 +331,7 @@ int main(void) {
     windows(kinds[1], n, S - 1);
     areas(kinds[1], n);
     clipped(n);
+    batch(n);
     edits(n);
     findings(n, 0);
     findings(n, 1);

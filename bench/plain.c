@@ -308,6 +308,31 @@ size_t plain_select(uint32_t m, const uint32_t *keys, const uint32_t *bits, size
     return q.count;
 }
 
+/* The lines of the raster among those dragged: how many, and through the pointer the first. */
+static uint32_t overlap(int32_t start, uint32_t length, uint32_t side, uint32_t *first) {
+    int64_t from = start < 0 ? 0 : start, end = (int64_t)start + length;
+    if (end > side) end = side;
+    *first = (uint32_t)from;
+    return from < end ? (uint32_t)(end - from) : 0;
+}
+
+size_t plain_batch(uint32_t m, uint32_t s, const uint32_t *keys, const uint32_t *bits, size_t n,
+                   const hlq_question *questions, size_t count, uint32_t *refusals, uint32_t *values) {
+    if (!plain_is_list(m, s, keys, bits, n)) return 0;
+    for (size_t i = 0; i < count; i++) {
+        hlq_question q = questions[i];
+        uint32_t row, column, height = overlap(q.row, q.height, 1u << m, &row);
+        uint32_t width = overlap(q.column, q.width, 1u << m, &column);
+        size_t visited;
+        refusals[i] = height == 0 || width == 0 ? 6 : q.report == 0 && q.feature >= s ? 7 : 0;
+        values[i] = 0;
+        if (refusals[i]) continue;
+        if (q.report) values[i] = plain_report(m, keys, bits, n, row, column, height, width, &visited);
+        else values[i] = (uint32_t)plain_exist(m, keys, bits, n, row, column, height, width, q.feature, &visited);
+    }
+    return count;
+}
+
 static size_t blocks_below(const frame *w, spot b) {
     if (apart(w, &b)) return 0;
     if (inside(w, &b)) return 1;

@@ -24,6 +24,9 @@ size_t plain_select(uint32_t m, const uint32_t *keys, const uint32_t *bits, size
                     uint32_t height, uint32_t width, uint32_t feature, uint32_t *answer, size_t room, size_t *visited);
 /* How many largest blocks a window has. */
 size_t plain_blocks(uint32_t m, uint32_t row, uint32_t column, uint32_t height, uint32_t width);
+/* The batch: the list is checked once, and each window clipped in 64-bit numbers. */
+size_t plain_batch(uint32_t m, uint32_t s, const uint32_t *keys, const uint32_t *bits, size_t n,
+                   const hlq_question *questions, size_t count, uint32_t *refusals, uint32_t *values);
 /* The summary filled and compared, and the area that takes whole blocks from it. */
 void plain_fill_summary(uint32_t m, uint32_t s, const uint32_t *keys, const uint32_t *bits, size_t n,
                         uint32_t *summary);

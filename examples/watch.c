@@ -1,5 +1,5 @@
 /* Three lookouts watch one map at once: each is a thread that asks about its own part of the same list, on a stack that
- * has no more than the system and a call of the library need. */
+ * has no more than the system and a call of the library need. Then the night run asks a few windows in one batch. */
 #define _XOPEN_SOURCE 700
 #include "prowcurl.h"
 
@@ -19,6 +19,25 @@ static void *watch(void *given) {
     lookout *l = given;
     l->seen = hlq_select(M, S, keys, ROOM, bits, ROOM, n, l->row, 0, l->height, EDGE, 1, l->blocks, EDGE * EDGE);
     return NULL;
+}
+
+/* The night run: one check of the list for all its windows, which may reach over the edge or miss the sheet. */
+static int night_run(void) {
+    static const hlq_question questions[] = {
+        { 0, -1, -1, 3, 3, 1 }, /* does feature 1 occur at the north-west corner? */
+        { 1, 3, 6, 2, 9, 0 },   /* which features occur in the east? */
+        { 1, 9, 0, 2, 2, 0 },   /* this window misses the sheet: it is refused, and stops no other */
+        { 0, 5, 4, 1, 4, 1 },
+    };
+    enum { QUESTIONS = sizeof questions / sizeof *questions };
+    uint32_t refusals[QUESTIONS], values[QUESTIONS];
+    hlq_counted asked = hlq_batch(M, S, keys, ROOM, bits, ROOM, n, questions, QUESTIONS,
+                                  refusals, QUESTIONS, values, QUESTIONS);
+    if (asked.refusal) return puts(hlq_refusal_text(asked.refusal)), 1;
+    for (size_t i = 0; i < asked.count; i++)
+        printf("%s at row %d, column %d: %s, %u\n", questions[i].report ? "report" : "exist", questions[i].row,
+               questions[i].column, hlq_refusal_text(refusals[i]), values[i]);
+    return 0;
 }
 
 int main(void) {
@@ -56,5 +75,5 @@ int main(void) {
         printf("\n");
     }
     pthread_attr_destroy(&small);
-    return 0;
+    return night_run();
 }

@@ -53,7 +53,7 @@ extern "C" {
 #endif
 
 /* Grows by one whenever a call or a result changes its shape. */
-#define HLQ_INTERFACE 4
+#define HLQ_INTERFACE 6
 
 #define HLQ_DEEPEST_M 10  /* the largest m */
 #define HLQ_MOST_SLOTS 32 /* the largest s */
@@ -137,6 +137,11 @@ typedef struct { uint64_t refusal, n, used; } hlq_edited;
 typedef struct { uint64_t refusal, live, hidden; } hlq_found; /* with HLQ_ANSWER_ROOM: live */
 typedef struct { uint64_t refusal, m, s, n; } hlq_loaded;
 typedef struct { uint32_t id, row, column, height, width, feature; } hlq_rule;
+typedef struct {
+    uint32_t report; /* 0 asks exist, any other number report */
+    int32_t row, column;
+    uint32_t height, width, feature;
+} hlq_question;
 
 /* KEY AT. The key of the block of this level around a pixel, in count: level m is the pixel itself,
  * level 0 the whole map.
@@ -246,6 +251,18 @@ hlq_measured hlq_area_clipped(uint32_t m, uint32_t s,
                               const uint32_t *summary, size_t summary_len,
                               int32_t row, int32_t column, uint32_t height, uint32_t width,
                               uint32_t feature);
+
+/* BATCH. Many questions of one list, which is checked once. A question whose report is 0 asks what
+ * hlq_exist_clipped asks, any other number what hlq_report_clipped asks, which looks at no feature.
+ * At each question's place refusals has the number that the single call gives (HLQ_ACCEPTED,
+ * HLQ_WINDOW or HLQ_FEATURE), and values its yes or its bits, which is 0 where it is refused; a bad
+ * question stops no other. Places past the questions stay. count is the number of questions; with
+ * HLQ_ANSWER_ROOM, where either slice is shorter than the questions, it is the places needed.
+ * Refusals: HLQ_SETTINGS, HLQ_LIST, HLQ_ANSWER_ROOM, in this order. */
+hlq_counted hlq_batch(uint32_t m, uint32_t s,
+                      const uint32_t *keys, size_t keys_len, const uint32_t *bits, size_t bits_len,
+                      size_t n, const hlq_question *questions, size_t questions_len,
+                      uint32_t *refusals, size_t refusals_len, uint32_t *values, size_t values_len);
 
 /* PAINT. Every pixel of the block gets the feature. The list becomes the list of the new raster, in
  * its places 0 to n - 1 (n of the result); places that it gives up become zero, others stay. The

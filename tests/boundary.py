@@ -264,7 +264,7 @@ def changes(t):
                 lambda item: item.replace("const ", ""),
                 lambda item: "const " + item if "*" in item and "const " not in item else item]):
             yield "header", replace(f"{result} {name}({', '.join(changed) or 'void'});")
-    for found in re.finditer(r"typedef struct \{ (.*?) \} (\w+);", t["header"]):
+    for found in re.finditer(r"typedef struct \{\s(.*?)\s\} (\w+);", t["header"], flags=re.S):
         replace = lambda by: t["header"][:found.start()] + by + t["header"][found.end():]
         yield "header", replace("")
         items = [f"{kind} {field}" for kind, field in read_header(found.group(0)).structs[found.group(2)]]

@@ -513,6 +513,25 @@ hlq_measured ref_area_clipped(uint32_t m, uint32_t s, const uint32_t *keys, size
     return answer;
 }
 
+/* Every question scans the raster anew; nothing is written unless all questions have a place on either side. */
+hlq_counted ref_batch(uint32_t m, uint32_t s, const uint32_t *keys, size_t keys_len, const uint32_t *bits,
+                      size_t bits_len, size_t n, const hlq_question *questions, size_t questions_len,
+                      uint32_t *refusals, size_t refusals_len, uint32_t *values, size_t values_len) {
+    if (settings_are_bad(m, s)) return (hlq_counted){ 1, 0 };
+    uint8_t *shown = raster_of(m, s, keys, keys_len, bits, bits_len, n);
+    if (!shown) return (hlq_counted){ 4, 0 };
+    int fits = questions_len <= refusals_len && questions_len <= values_len;
+    for (size_t i = 0; fits && i < questions_len; i++) {
+        hlq_question q = questions[i];
+        uint32_t found = features_dragged(shown, 1u << m, (dragged){ q.row, q.column, q.height, q.width });
+        int no_feature = q.report == 0 && q.feature >= s;
+        refusals[i] = !found ? 6 : no_feature ? 7 : 0;
+        values[i] = refusals[i] ? 0 : q.report ? found : found >> q.feature & 1;
+    }
+    free(shown);
+    return (hlq_counted){ fits ? 0 : 12, questions_len };
+}
+
 /* Entries from the end, each content a list of its block. */
 static int log_is_sound(uint32_t m, uint32_t s, const uint32_t *log_keys, const uint32_t *log_values, size_t used) {
     uint8_t *raster = new_raster(m);

@@ -67,6 +67,10 @@ hlq_measured ref_area_clipped(uint32_t m, uint32_t s,
                               const uint32_t *summary, size_t summary_len,
                               int32_t row, int32_t column, uint32_t height, uint32_t width,
                               uint32_t feature);
+hlq_counted ref_batch(uint32_t m, uint32_t s,
+                      const uint32_t *keys, size_t keys_len, const uint32_t *bits, size_t bits_len,
+                      size_t n, const hlq_question *questions, size_t questions_len,
+                      uint32_t *refusals, size_t refusals_len, uint32_t *values, size_t values_len);
 hlq_edited ref_paint(uint32_t m, uint32_t s,
                      uint32_t *keys, size_t keys_len, uint32_t *bits, size_t bits_len, size_t n,
                      uint32_t *summary, size_t summary_len,

@@ -76,6 +76,12 @@ hlq_measured hlq_area_clipped(uint32_t m, uint32_t s, TAKE_CONST_LIST, size_t n,
     return ref_area_clipped(m, s, LIST, n, summary, summary_len, WINDOW, feature);
 }
 
+hlq_counted hlq_batch(uint32_t m, uint32_t s, TAKE_CONST_LIST, size_t n, const hlq_question *questions,
+                      size_t questions_len, uint32_t *refusals, size_t refusals_len,
+                      uint32_t *values, size_t values_len) {
+    return ref_batch(m, s, LIST, n, questions, questions_len, refusals, refusals_len, values, values_len);
+}
+
 hlq_edited hlq_paint(uint32_t m, uint32_t s, TAKE_LIST, size_t n, TAKE_SUMMARY, TAKE_LOG, size_t used,
                      uint32_t key, uint32_t feature) {
     return ref_paint(m, s, LIST, n, SUMMARY, LOG, used, key, feature);

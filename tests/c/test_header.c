@@ -7,7 +7,7 @@
 #include <stdlib.h>
 #include <string.h>
 
-static_assert(HLQ_INTERFACE == 4, "the interface's number");
+static_assert(HLQ_INTERFACE == 6, "the interface's number");
 static_assert(HLQ_DEEPEST_M == 10 && HLQ_MOST_SLOTS == 32, "the limits of documents 01 and 02");
 static_assert(HLQ_LISTED == 1 && HLQ_INSIDE == 2, "the kinds");
 static_assert(HLQ_ACCEPTED == 0 && HLQ_SETTINGS == 1 && HLQ_RASTER_LENGTH == 2 && HLQ_PIXEL == 3 && HLQ_LIST == 4 &&
@@ -27,7 +27,7 @@ static_assert(HLQ_FILE_BYTES(0xFFFFFFFFu) == 25769803781u, "no wrapping at 32 bi
 static_assert(sizeof(hlq_done) == 8 && sizeof(hlq_counted) == 16 && sizeof(hlq_stands) == 24 &&
                   sizeof(hlq_span) == 16 && sizeof(hlq_exists) == 16 && sizeof(hlq_reported) == 16 &&
                   sizeof(hlq_edited) == 24 && sizeof(hlq_found) == 24 && sizeof(hlq_loaded) == 32 &&
-                  sizeof(hlq_rule) == 24,
+                  sizeof(hlq_rule) == 24 && sizeof(hlq_question) == 24,
               "the structs have no gaps");
 
 enum { MOST = HLQ_MOST_RECORDS(HLQ_DEEPEST_M) };

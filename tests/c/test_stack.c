@@ -76,6 +76,14 @@ static void call_area_clipped(void) {
                                height, width, feature)
                   .refusal;
 }
+static void call_batch(void) {
+    const hlq_question questions[] = {
+        { 0, (int32_t)row - 1, (int32_t)column - 1, height, width, feature },
+        { 1, (int32_t)row - 1, (int32_t)column - 1, height, width, feature },
+        { 0, -1, -1, 1, 1, S },
+    };
+    refusal = hlq_batch(M, S, keys, MOST, bits, MOST, n, questions, 3, found_ids, 3, answer, 3).refusal;
+}
 static void call_paint(void) {
     hlq_edited e = hlq_paint(M, S, keys, MOST, bits, MOST, n, summary, PLACES, log_keys, LOG, log_values, LOG, used,
                              key, feature);
@@ -102,7 +110,7 @@ typedef struct {
 } call;
 
 enum { KEY_AT, BLOCK_OF, BUILD, RASTER, STANDING, PART, EXIST, REPORT, SELECT, FILL_SUMMARY, AREA, EXIST_CLIPPED,
-       REPORT_CLIPPED, SELECT_CLIPPED, AREA_CLIPPED, PAINT, TAKE_BACK, EMPTY, FINDINGS, STORE, LOAD, CALLS };
+       REPORT_CLIPPED, SELECT_CLIPPED, AREA_CLIPPED, BATCH, PAINT, TAKE_BACK, EMPTY, FINDINGS, STORE, LOAD, CALLS };
 static call calls[CALLS] = {
     { "key_at", call_key_at, 0 },       { "block_of", call_block_of, 0 }, { "build", call_build, 0 },
     { "raster", call_raster, 0 },       { "standing", call_standing, 0 }, { "part", call_part, 0 },
@@ -110,6 +118,7 @@ static call calls[CALLS] = {
     { "fill_summary", call_fill, 0 },   { "area", call_area, 0 },
     { "exist_clipped", call_exist_clipped, 0 },   { "report_clipped", call_report_clipped, 0 },
     { "select_clipped", call_select_clipped, 0 }, { "area_clipped", call_area_clipped, 0 },
+    { "batch", call_batch, 0 },
     { "paint", call_paint, 0 },         { "take_back", call_take_back, 0 }, { "empty", call_empty, 0 },
     { "findings", call_findings, 0 },   { "store", call_store, 0 },       { "load", call_load, 0 },
 };
@@ -147,7 +156,7 @@ static void measure(int which, uint8_t pattern) {
 static void ask_window(uint32_t a, uint32_t b, uint32_t c, uint32_t d, uint8_t pattern) {
     row = a, column = b, height = c, width = d;
     for (feature = 0; feature < S; feature += 3)
-        for (int which = EXIST; which <= AREA_CLIPPED; which++) measure(which, pattern);
+        for (int which = EXIST; which <= BATCH; which++) measure(which, pattern);
 }
 
 static void every_call(uint8_t pattern) {

@@ -36,6 +36,7 @@ pub mod SelectArea
 pub mod SummaryPlaces
 pub mod Overlap
 pub mod ClippedCalls
+pub mod OneByOne
 pub mod LastEntry
 pub mod SoundLog
 pub mod Hidden

@@ -3,6 +3,7 @@
 use Prim.Native.Nat.{ℕ}
 use mathlib.Core.Path.{refl}
 use mathlib.Core.List.{List, [], _∷_}
+use lib.IntN.{negsuc}
 use Rattle.keys.specs.Key.{validKey, digitsOf, digitsThenZeros, onlyZeros, levelOf, digitsBeforeZero, heightOf}
 use Rattle.keys.specs.Block.{rowOf, columnOf, sideOf, inBlock, inInterval, pixelKey}
 use Rattle.definitions.specs.Picture.{everyPixel, oneFeature, featuresBelow}
@@ -12,6 +13,7 @@ use Rattle.definitions.specs.Read.{paired, valueAt, pictureOf, sameRecor
 use Rattle.definitions.specs.Refusal.{first, badSettings, badLength, badPixel}
 use Rattle.definitions.specs.Standing.{upTo, placeOf, isListed, standingOf, recordsIn, partLength, partOf}
 use Rattle.definitions.specs.Window.{isWindow, inWindow, featuresOfRow, featuresOfRows, featuresIn, occurs, unionOf, existIn, reportIn, isGiven, selectFrom, selectIn}
+use Rattle.definitions.specs.Clip.{notBefore, overlapEnd, overlapLength, overlapWindow}
 use Rattle.definitions.specs.Area.{countOf, pixelsWith, countsFrom, summaryBelow, summaryOf, sameNumbers, noSummary}
 use Rattle.definitions.specs.Edit.{put, paintIn, contentOf}
 use Rattle.definitions.specs.Log.{closed, entryOf, lastRecord, lastKey, lastCount, beforeLast, lastContent, isContent, lastIsEntry, dividesIn, isSound, noLog}
@@ -21,15 +23,17 @@ use Rattle.definitions.specs.Calls.Build.{buildRefusal}
 use Rattle.definitions.specs.Calls.Raster.{rasterRefusal, rasterPixels}
 use Rattle.definitions.specs.Calls.Standing.{standingRefusal, standing}
 use Rattle.definitions.specs.Calls.Part.{part, partSpan}
-use Rattle.definitions.specs.Calls.Exist.{existRefusal}
-use Rattle.definitions.specs.Calls.Report.{reportRefusal}
+use Rattle.definitions.specs.Calls.Exist.{existRefusal, exist}
+use Rattle.definitions.specs.Calls.Report.{reportRefusal, report}
 use Rattle.definitions.specs.Calls.Select.{selected, selectRefusal, select}
+use Rattle.definitions.specs.Calls.Batch.{refusalTo, valueTo, batchRefusal, batch, batchRefusals, batchValues}
 use Rattle.definitions.specs.Calls.Paint.{painted, gained, paintRefusal}
 use Rattle.definitions.specs.Calls.TakeBack.{restored, takeBackRefusal}
 use Rattle.definitions.specs.Calls.Findings.{liveIn, hiddenIn, findingsRefusal, findings, findingsIds, findingsKeys}
 use Rattle.definitions.specs.Calls.Store.{stored, storeRefusal, store, storeFile}
 use Rattle.definitions.specs.Calls.Load.{loadRefusal, load, loadKeys, loadBits}
 use Rattle.definitions.specs.declared.Rule.{Rule}
+use Rattle.definitions.specs.declared.Question.{Question}
 use Rattle.definitions.specs.declared.Stands.{Stands}
 use Rattle.definitions.specs.declared.Found.{Found}
 use Rattle.definitions.proofs.Vectors.{Row, row, Holds, key, window, of-counted, keysA, bitsA, unwritten}
@@ -57,6 +61,15 @@ logKeys = 4 ∷ 4 ∷ 0 ∷ []
 
 abbrev logValues : List ℕ
 logValues = 1 ∷ 1 ∷ 0 ∷ []
+
+-- a question about the window that begins a row and a column before the map
+abbrev question : ℕ → ℕ → ℕ → Question
+question report side feature =
+    record { report = report; row = negsuc 0; column = negsuc 0; height = side; width = side; feature = feature }
+
+-- exist of a feature that is there and of one past s, report with that feature, report and exist without a common pixel, exist where the feature is not
+abbrev questions : List Question
+questions = question 0 3 1 ∷ question 0 3 2 ∷ question 9 3 2 ∷ question 1 1 0 ∷ question 0 1 2 ∷ question 0 2 1 ∷ []
 
 abbrev rule : ℕ → ℕ → ℕ → Rule
 rule id height feature = record { id = id; row = 0; column = 0; height = height; width = 2; feature = feature }
@@ -150,6 +163,14 @@ table =
     ∷ gives (selectRefusal 1 2 keys bits 5 (window 0 0 0 1) 2 []) 6
     ∷ gives (selectRefusal 1 2 keys bits 5 (window 0 0 1 1) 2 []) 7
     ∷ row (of-counted (select 1 2 keys bits 5 (window 0 0 2 2) 0 (unwritten 2))) (12 ∷ 3 ∷ [])
+    -- batch: 1, 4, 12 with the places needed, on either side; and every kind of question on the whole map
+    ∷ gives (batchRefusal 1 0 keys bits 4 questions [] []) 1
+    ∷ gives (batchRefusal 1 2 keys bits 4 questions [] []) 4
+    ∷ row (of-counted (batch 1 2 keys bits 5 questions (unwritten 5) (unwritten 7))) (12 ∷ 6 ∷ [])
+    ∷ gives (batchRefusal 1 2 keys bits 5 questions (unwritten 6) (unwritten 5)) 12
+    ∷ row (of-counted (batch 1 2 keys bits 5 questions (unwritten 6) (unwritten 7))) (0 ∷ 6 ∷ [])
+    ∷ row (batchRefusals 1 2 keys bits 5 questions (unwritten 6) (unwritten 7)) (0 ∷ 7 ∷ 0 ∷ 6 ∷ 6 ∷ 0 ∷ [])
+    ∷ row (batchValues 1 2 keys bits 5 questions (unwritten 6) (unwritten 7)) (1 ∷ 0 ∷ 3 ∷ 0 ∷ 0 ∷ 0 ∷ 77 ∷ [])
     -- paint: 1, 4, 18, 5, 8, 7, 10, 9
     ∷ gives (paintRefusal 1 0 keys bits 4 summary logKeys logValues 0 1 0) 1
     ∷ gives (paintRefusal 1 2 keys bits 4 summary logKeys logValues 0 1 0) 4
@@ -246,6 +267,7 @@ unfolding
     findingsOf allFindings waiversOf isWaivedAt isHidden liveOf hiddenCount isRule allRules idsAscend badRules findingsAscend isRuleId allWaivers badWaivers
     bytesOf numberAfter numberOf bytesOfRecords headOf fileOf numberAt readRecords recordsInFile sameBytes wrongMark
     buildRefusal rasterRefusal rasterPixels standingRefusal standing part partSpan existRefusal reportRefusal selected selectRefusal select
+    exist report notBefore overlapEnd overlapLength overlapWindow refusalTo valueTo batchRefusal batch batchRefusals batchValues
     painted gained paintRefusal restored takeBackRefusal
     liveIn hiddenIn findingsRefusal findings findingsIds findingsKeys
     stored storeRefusal store storeFile loadRefusal load loadKeys loadBits

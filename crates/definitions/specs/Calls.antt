@@ -12,6 +12,7 @@ pub mod Select
 pub mod FillSummary
 pub mod Area
 pub mod Clipped
+pub mod Batch
 pub mod Paint
 pub mod TakeBack
 pub mod Empty

@@ -19,6 +19,17 @@ pub struct Rule {
     pub feature: u32,
 }
 
+// A question of a batch: does the feature occur in the dragged window (report 0), or which features do (any other number)?
+#[repr(C)]
+pub struct Question {
+    pub report: u32,
+    pub row: i32,
+    pub column: i32,
+    pub height: u32,
+    pub width: u32,
+    pub feature: u32,
+}
+
 // Where a block stands: it is listed at a place, or lies inside the leaf at a place.
 pub enum Standing {
     Listed(usize),

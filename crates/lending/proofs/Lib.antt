@@ -5,3 +5,4 @@ pub mod Chains
 pub mod Slices
 pub mod Calling
 pub mod Reborrow
+pub mod TwoLent

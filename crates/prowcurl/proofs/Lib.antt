@@ -2,3 +2,5 @@ pub mod RoundTrip
 pub mod OneAnswer
 pub mod FindingsCalls
 pub mod FindingsEntryExit
+pub mod BatchCalls
+pub mod BatchEntryExit

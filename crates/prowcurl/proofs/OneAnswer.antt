@@ -58,6 +58,7 @@ use Rattle.prowcurl.proofs.deliveries.hlq_read_leaves.Reads as read-lea
 use Rattle.prowcurl.proofs.deliveries.hlq_write_leaves as write-leaves
 use Rattle.prowcurl.proofs.deliveries.hlq_write_leaves.Reads as write-leaves-reads
 use Rattle.prowcurl.proofs.findings.hlq_findings as findings
+use Rattle.prowcurl.proofs.questions.hlq_batch as batch
 
 -- what a contract tells the caller of what was lent, the result, and the parameters at exit: `Learnt`, as Rattle reads it off the `ensures`
 abbrev Promise : Ended → Type 1
@@ -242,3 +243,14 @@ findings-learnt κs lent r s = AllOf (findings-read κs lent r s .tells)
 
 pub findings-one : OneAnswer findings.ended findings-learnt
 findings-one = by-equations (λ x. (one (x .kept .0) (x .kept′ .0), two (x .kept .1, x .kept .2) (x .kept′ .1, x .kept′ .2)))
+
+-- batch: it is proved by hand too
+abbrev batch-read : (κs : Lfts 5) (lent : Args batch.signature κs) (r : Res batch.signature κs) (s : AtExit batch.ended κs)
+    → Read (λ w. emp (w .𝓤)) no-know (λ w. batch.clauses (w .𝓤) (w .H) (w .𝓖 .A) (w .𝓜 .mem) (w .𝓡 .run) κs lent .ensures tt r s)
+batch-read κs lent r s = all-models _ (λ w. r-last _) (λ w. refl) (λ w. refl) (λ w. refl)
+
+abbrev batch-learnt : Promise batch.ended
+batch-learnt κs lent r s = AllOf (batch-read κs lent r s .tells)
+
+pub batch-one : OneAnswer batch.ended batch-learnt
+batch-one = by-equations (λ x. (one (x .kept .0) (x .kept′ .0), two (x .kept .1, x .kept .2) (x .kept′ .1, x .kept′ .2)))

@@ -6,5 +6,6 @@ pub mod edits;
 pub mod files;
 pub mod findings;
 pub mod lists;
+pub mod questions;
 pub mod squares;
 pub mod windows;

@@ -1,0 +1,51 @@
+-- How a batch begins, by the rows of its table, and what it answers, by its refusal. Rests on definitions' First.
+use Prim.Native.Nat.{ℕ, _≤_, _<_, min}
+use mathlib.Core.Path.{_≡_, refl, sym, ap, _∙_}
+use mathlib.Core.Bool.{true, false, not, cond}
+use mathlib.Core.List.{List}
+use lib.Dec.{eqb}
+use borrow.Author.Tests.{lt-ltb, le-ltb, eq-eqb, ne-eqb}
+use Rattle.definitions.specs.Read.{isList}
+use Rattle.definitions.specs.Refusal.{badSettings}
+use Rattle.definitions.specs.declared.Counted.{Counted}
+use Rattle.definitions.proofs.First.{this, later, none-first, holds-first, accepted-done, accepted-left}
+use Rattle.batch.specs.Run.{beginRefusal, beginOf, answerOf}
+use Rattle.batch.specs.declared.begin.State.{State}
+
+module _ (m s : ℕ) (keys bits : List ℕ) (n questions roomRefusals roomValues : ℕ) where
+  pub begin-one : badSettings m s ≡ true → 1 ≡ beginRefusal m s keys bits n questions roomRefusals roomValues
+  unfolding beginRefusal
+  begin-one bad = sym (holds-first (this bad refl))
+
+  pub begun : (refusal : ℕ) → refusal ≡ beginRefusal m s keys bits n questions roomRefusals roomValues
+      → record { m = m; s = s; n = n; refusal = refusal; questions = questions; place = 0 } ≡ beginOf m s keys bits n questions roomRefusals roomValues
+  begun refusal e = λ i. record { m = m; s = s; n = n; refusal = e i; questions = questions; place = 0 }
+
+  module _ (good : badSettings m s ≡ false) where
+    pub begin-four : isList m s keys bits n ≡ false → 4 ≡ beginRefusal m s keys bits n questions roomRefusals roomValues
+    unfolding beginRefusal
+    begin-four wrong = sym (holds-first (later good (this (ap not wrong) refl)))
+
+    module _ (list : isList m s keys bits n ≡ true) where
+      pub begin-twelve : min roomRefusals roomValues < questions → 12 ≡ beginRefusal m s keys bits n questions roomRefusals roomValues
+      unfolding beginRefusal
+      begin-twelve short = sym (holds-first (later good (later (ap not list) (this (lt-ltb _ _ short) refl))))
+
+      pub begin-none : questions ≤ min roomRefusals roomValues → 0 ≡ beginRefusal m s keys bits n questions roomRefusals roomValues
+      unfolding beginRefusal
+      begin-none room = sym (none-first _ (good, (ap not list, (le-ltb _ _ room, tt))))
+
+counted : {a b b′ : ℕ} → b ≡ b′ → _≡_ {A = Counted} (record { refusal = a; count = b }) (record { refusal = a; count = b′ })
+counted {a} e i = record { refusal = a; count = e i }
+
+pub answer-done : (st : State) → st .refusal ≡ 0 → record { refusal = st .refusal; count = st .questions } ≡ answerOf st
+unfolding answerOf
+answer-done st e = counted (sym (accepted-done _ _ e))
+
+pub answer-full : (st : State) → (st .refusal ≡ 0 → ⊥) → st .refusal ≡ 12 → record { refusal = st .refusal; count = st .questions } ≡ answerOf st
+unfolding answerOf
+answer-full st h e = counted (sym (accepted-left _ _ h ∙ ap (λ t. cond t (st .questions) 0) (eq-eqb (st .refusal) 12 e)))
+
+pub answer-refused : (st : State) → (st .refusal ≡ 0 → ⊥) → (st .refusal ≡ 12 → ⊥) → record { refusal = st .refusal; count = 0 } ≡ answerOf st
+unfolding answerOf
+answer-refused st h k = counted (sym (accepted-left _ _ h ∙ ap (λ t. cond t (st .questions) 0) (ne-eqb (st .refusal) 12 k)))

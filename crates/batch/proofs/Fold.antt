@@ -1,0 +1,102 @@
+-- A batch over the first questions, question by question: one more question is one more step, and all questions are the whole run; what it stands on is
+-- kept, with one question less to come. Rests on nothing.
+use Prim.Native.Nat.{ℕ, zero, suc, _+_, _≤_, _<_}
+use mathlib.Core.Path.{_≡_, refl, sym, ap, subst, _∙_}
+use mathlib.Core.List.{List, [], _∷_}
+use native.Mathlib.Numerals.{add-one}
+use native.Mathlib.Omega.{arith}
+use lib.ListN.{length, getD, take, set, length-set}
+use lib.Dec.{eqb}
+use borrow.Author.Tests.{eq-eqb, ne-eqb}
+use Rattle.keys.proofs.Cases.{equal}
+use Rattle.definitions.specs.Calls.Batch.{refusalTo, valueTo}
+use Rattle.definitions.specs.declared.Question.{Question}
+use Rattle.definitions.proofs.OneByOne.{noQuestion}
+use Rattle.batch.specs.declared.step.Reply.{Reply}
+use Rattle.batch.specs.Run.{Progress, progressOf, at, replyOf, answered, stepOf, runOf, Fine, Ready}
+
+module _ (keys bits : List ℕ) where
+  abbrev first : ℕ → List Question → Progress → Progress
+  first i questions p = runOf keys bits (take i questions) p
+
+  -- a batch that is not refused answers, and a refused one stays
+  pub step-answers : (q : Question) (p : Progress) → p .state .refusal ≡ 0 → stepOf keys bits q p ≡ answered keys bits q p
+  unfolding stepOf
+  step-answers q p e = rw (eq-eqb (p .state .refusal) 0 e)
+
+  pub step-stays : (q : Question) (p : Progress) → (p .state .refusal ≡ 0 → ⊥) → stepOf keys bits q p ≡ p
+  unfolding stepOf
+  step-stays q p h = rw (ne-eqb (p .state .refusal) 0 h)
+
+  -- with the reply in hand
+  pub step-answered : (q : Question) (p : Progress) → p .state .refusal ≡ 0 → (reply : Reply) → reply ≡ replyOf (p .state .m) (p .state .s) keys bits (p .state .n) q
+      → stepOf keys bits q p
+      ≡ progressOf (at (p .state .place + 1) (p .state)) (set (p .refusals) (p .state .place) (reply .refusal)) (set (p .values) (p .state .place) (reply .value))
+  step-answered q p e reply is =
+      step-answers q p e
+      ∙ ap (λ r. progressOf (at (p .state .place + 1) (p .state)) (set (p .refusals) (p .state .place) (r .refusal)) (set (p .values) (p .state .place) (r .value))) (sym is)
+
+  pub run-nil : (p : Progress) → runOf keys bits [] p ≡ p
+  unfolding runOf
+  run-nil p = refl
+
+  pub run-cons : (q : Question) (questions : List Question) (p : Progress) → runOf keys bits (q ∷ questions) p ≡ runOf keys bits questions (stepOf keys bits q p)
+  unfolding runOf
+  run-cons q questions p = refl
+
+  -- no question yet
+  pub run-none : (questions : List Question) (p : Progress) → p ≡ first 0 questions p
+  unfolding runOf
+  run-none questions p = refl
+
+  take-next : (i : ℕ) (questions : List Question) (p : Progress) → i < length questions
+      → stepOf keys bits (getD questions i noQuestion) (first i questions p) ≡ first (suc i) questions p
+  unfolding runOf
+  take-next i [] p h = absurd (omega arith)
+  take-next zero (q ∷ questions) p h = refl
+  take-next (suc i) (q ∷ questions) p h = take-next i questions (stepOf keys bits q p) (omega arith)
+
+  -- one question more
+  pub run-next : (i : ℕ) (questions : List Question) (start p next : Progress) → i < length questions → p ≡ first i questions start
+      → next ≡ stepOf keys bits (getD questions i noQuestion) p
+      → next ≡ first (i + 1) questions start
+  run-next i questions start p next h is e =
+      e ∙ ap (stepOf keys bits (getD questions i noQuestion)) is ∙ take-next i questions start h ∙ ap (λ j. first j questions start) (sym (add-one i))
+
+  -- all questions
+  pub run-all : (questions : List Question) (p : Progress) → first (length questions) questions p ≡ runOf keys bits questions p
+  unfolding runOf
+  run-all [] p = refl
+  run-all (q ∷ questions) p = run-all questions (stepOf keys bits q p)
+
+  -- fewer questions need no more
+  pub ready-fewer : (fewer more : ℕ) (p : Progress) → fewer ≤ more → Ready keys bits more p → Ready keys bits fewer p
+  ready-fewer fewer more p h ready =
+      record {
+        fine = λ none. let f = ready .fine none in
+            record {
+              list = f .list;
+              roomRefusals = let a = f .roomRefusals in omega arith;
+              roomValues = let a = f .roomValues in omega arith;
+            };
+      }
+
+  ready-answered : (more : ℕ) (q : Question) (p : Progress) → p .state .refusal ≡ 0 → Ready keys bits (suc more) p → Ready keys bits more (answered keys bits q p)
+  ready-answered more q p none ready =
+      let f = ready .fine none in
+      let a = length-set (p .refusals) (p .state .place) (refusalTo (p .state .m) (p .state .s) keys bits (p .state .n) q) in
+      let b = length-set (p .values) (p .state .place) (valueTo (p .state .m) (p .state .s) keys bits (p .state .n) q) in
+      record {
+        fine = λ _. record {
+          list = f .list;
+          roomRefusals = let c = f .roomRefusals in omega arith;
+          roomValues = let c = f .roomValues in omega arith;
+        };
+      }
+
+  pub ready-step : (more : ℕ) (q : Question) (p next : Progress) → next ≡ stepOf keys bits q p → Ready keys bits (suc more) p → Ready keys bits more next
+  ready-step more q p next is ready =
+      subst (Ready keys bits more) (sym is)
+      (equal (p .state .refusal) 0
+      (λ none. subst (Ready keys bits more) (sym (step-answers q p none)) (ready-answered more q p none ready))
+      (λ refused. subst (Ready keys bits more) (sym (step-stays q p refused)) (ready-fewer more (suc more) p (omega arith) ready)))

@@ -1,0 +1,9 @@
+pub mod Fold
+pub mod Beginning
+pub mod Replies
+pub mod Answered
+pub mod AskedAlone
+pub mod RunSlices
+pub mod StepCall
+pub mod RunTurns
+pub mod RunEntryExit

@@ -1,0 +1,79 @@
+// How a batch begins, with its refusals decided, and what it answers in the end.
+ghost use mathlib.Core.Path.{_≡_};
+ghost use Rattle.batch.specs.Run.{beginRefusal, beginOf, answerOf};
+use definitions::Counted;
+use list::check;
+use list::settings;
+
+// Where a batch stands: the settings and the number of records, the refusal of the batch, or 0, how many questions there are, and the place of the next.
+pub struct State {
+    pub m: u32,
+    pub s: u32,
+    pub n: usize,
+    pub refusal: u32,
+    pub questions: usize,
+    pub place: usize,
+}
+
+// The refusals 1, 4 and 12, or 0. No later question looks at the list as a whole again.
+fn begin_refusal(
+    m: u32,
+    s: u32,
+    keys: &[u32],
+    bits: &[u32],
+    n: usize,
+    questions: usize,
+    room_refusals: usize,
+    room_values: usize,
+) -> u32
+    ensures { λ r. ⌜ r ≡ beginRefusal m s (now (keys .entry)) (now (bits .entry)) n questions «room_refusals» «room_values» ⌝ }
+{
+    if settings::are_bad(m, s) {
+        return 1;
+    }
+    if !check::is_list(m, s, keys, bits, n) {
+        return 4;
+    }
+    if room_refusals < questions {
+        return 12;
+    }
+    if room_values < questions { 12 } else { 0 }
+}
+
+pub fn begin(
+    m: u32,
+    s: u32,
+    keys: &[u32],
+    bits: &[u32],
+    n: usize,
+    questions: usize,
+    room_refusals: usize,
+    room_values: usize,
+) -> State
+    ensures { λ r. ⌜ r ≡ beginOf m s (now (keys .entry)) (now (bits .entry)) n questions «room_refusals» «room_values» ⌝ }
+{
+    let refusal = begin_refusal(m, s, keys, bits, n, questions, room_refusals, room_values);
+    State {
+        m,
+        s,
+        n,
+        refusal,
+        questions,
+        place: 0,
+    }
+}
+
+// With 12 the count is the number of places needed, which is the questions too.
+pub fn answer(state: State) -> Counted
+    ensures { λ r. ⌜ r ≡ answerOf state ⌝ }
+{
+    let refusal = state.refusal as u64;
+    let count = state.questions as u64;
+    if refusal == 0 {
+        return Counted { refusal, count };
+    }
+    if refusal == 12 {
+        return Counted { refusal, count };
+    }
+    Counted { refusal, count: 0 }
+}

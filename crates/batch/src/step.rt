@@ -1,0 +1,90 @@
+// One question of a batch: the list is accepted, so only its window and its feature can be bad, and that stops no other.
+ghost use mathlib.Core.Path.{_≡_};
+ghost use Prim.Native.Nat.{_≤_};
+ghost use Rattle.definitions.specs.Clip.{clippedWindow};
+ghost use Rattle.batch.specs.Run.{Accepted, replyOf, progressOf, Ready, stepOf};
+use crate::begin::State;
+use clipped::clip::clipped_window;
+use definitions::Question;
+use definitions::Window;
+use window::bounds::is_window;
+use window::exist::exist_in;
+use window::report::report_in;
+
+// What a question is answered: the refusal of the clipped single call, and its value, which is 0 where it is refused.
+pub struct Reply {
+    pub refusal: u32,
+    pub value: u32,
+}
+
+// The part of the question's window that lies in the raster.
+fn window_of(m: u32, question: Question) -> Window
+    requires { ⌜ m ≤ 10 ⌝ }
+    ensures { λ r. ⌜ r ≡ clippedWindow m (question .row) (question .column) (question .height) (question .width) ⌝ }
+{
+    let row = question.row;
+    let column = question.column;
+    let height = question.height;
+    let width = question.width;
+    clipped_window(m, row, column, height, width)
+}
+
+fn reply_to(question: Question, m: u32, s: u32, keys: &[u32], bits: &[u32], n: usize) -> Reply
+    requires { ⌜ Accepted m s (now keys) (now bits) n ⌝ }
+    ensures { λ r. ⌜ r ≡ replyOf m s (now (keys .entry)) (now (bits .entry)) n question ⌝ }
+{
+    let window = window_of(m, question);
+    if !is_window(m, window) {
+        return Reply {
+            refusal: 6,
+            value: 0,
+        };
+    }
+    if question.report != 0 {
+        let value = report_in(m, keys, bits, n, window);
+        return Reply { refusal: 0, value };
+    }
+    let feature = question.feature;
+    if s <= feature {
+        return Reply {
+            refusal: 7,
+            value: 0,
+        };
+    }
+    if exist_in(m, keys, bits, n, window, feature) {
+        Reply {
+            refusal: 0,
+            value: 1,
+        }
+    } else {
+        Reply {
+            refusal: 0,
+            value: 0,
+        }
+    }
+}
+
+// The question's answer is written at its place, unless the batch is refused.
+pub fn step(
+    question: Question,
+    keys: &[u32],
+    bits: &[u32],
+    refusals: &mut [u32],
+    values: &mut [u32],
+    state: State,
+) -> State
+    requires { ⌜ Ready (now keys) (now bits) 1 (progressOf state (now refusals) (now values)) ⌝ }
+    ensures { λ r. ⌜ progressOf r (now (refusals .exit)) (now (values .exit))
+        ≡ stepOf (now (keys .entry)) (now (bits .entry)) question (progressOf state (now (refusals .entry)) (now (values .entry))) ⌝ }
+{
+    let place = state.place;
+    if state.refusal != 0 {
+        return state;
+    }
+    let reply = reply_to(question, state.m, state.s, keys, bits, state.n);
+    refusals[place] = reply.refusal;
+    values[place] = reply.value;
+    let mut st = state;
+    st.place = place + 1;
+    st
+}
