@@ -28,13 +28,16 @@ module _ (keys bits : List ℕ) where
   unfolding stepOf
   step-stays q p h = rw (ne-eqb (p .state .refusal) 0 h)
 
-  -- with the reply in hand
-  pub step-answered : (q : Question) (p : Progress) → p .state .refusal ≡ 0 → (reply : Reply) → reply ≡ replyOf (p .state .m) (p .state .s) keys bits (p .state .n) q
-      → stepOf keys bits q p
-      ≡ progressOf (at (p .state .place + 1) (p .state)) (set (p .refusals) (p .state .place) (reply .refusal)) (set (p .values) (p .state .place) (reply .value))
-  step-answered q p e reply is =
-      step-answers q p e
-      ∙ ap (λ r. progressOf (at (p .state .place + 1) (p .state)) (set (p .refusals) (p .state .place) (r .refusal)) (set (p .values) (p .state .place) (r .value))) (sym is)
+  -- what is left when the reply is put at its place
+  pub step-put : (q : Question) (p : Progress) → p .state .refusal ≡ 0 → (reply : Reply) → reply ≡ replyOf (p .state .m) (p .state .s) keys bits (p .state .n) q
+      → (l v : List ℕ)
+      → l ≡ set (p .refusals) (p .state .place) (reply .refusal)
+      → v ≡ set (p .values) (p .state .place) (reply .value)
+      → progressOf (at (p .state .place + 1) (p .state)) l v ≡ stepOf keys bits q p
+  step-put q p e reply is l v f g =
+      let refusals = f ∙ ap (λ r. set (p .refusals) (p .state .place) (r .refusal)) is in
+      let values = g ∙ ap (λ r. set (p .values) (p .state .place) (r .value)) is in
+      (λ i. progressOf (at (p .state .place + 1) (p .state)) (refusals i) (values i)) ∙ sym (step-answers q p e)
 
   pub run-nil : (p : Progress) → runOf keys bits [] p ≡ p
   unfolding runOf

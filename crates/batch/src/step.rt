@@ -1,6 +1,7 @@
 // One question of a batch: the list is accepted, so only its window and its feature can be bad, and that stops no other.
 ghost use mathlib.Core.Path.{_≡_};
-ghost use Prim.Native.Nat.{_≤_};
+ghost use Prim.Native.Nat.{_≤_, _<_};
+ghost use lib.ListN.{length, set};
 ghost use Rattle.definitions.specs.Clip.{clippedWindow};
 ghost use Rattle.batch.specs.Run.{Accepted, replyOf, progressOf, Ready, stepOf};
 use crate::begin::State;
@@ -64,6 +65,16 @@ fn reply_to(question: Question, m: u32, s: u32, keys: &[u32], bits: &[u32], n: u
     }
 }
 
+// The refusal and the value stand at one place of the two slices, a refused question's too.
+fn put(reply: Reply, place: usize, refusals: &mut [u32], values: &mut [u32])
+    requires { ⌜ (place < length (now refusals)) × (place < length (now values)) ⌝ }
+    ensures { λ _. ⌜ (now (refusals .exit) ≡ set (now (refusals .entry)) place (reply .refusal))
+        × (now (values .exit) ≡ set (now (values .entry)) place (reply .value)) ⌝ }
+{
+    refusals[place] = reply.refusal;
+    values[place] = reply.value;
+}
+
 // The question's answer is written at its place, unless the batch is refused.
 pub fn step(
     question: Question,
@@ -82,8 +93,7 @@ pub fn step(
         return state;
     }
     let reply = reply_to(question, state.m, state.s, keys, bits, state.n);
-    refusals[place] = reply.refusal;
-    values[place] = reply.value;
+    put(reply, place, refusals, values);
     let mut st = state;
     st.place = place + 1;
     st

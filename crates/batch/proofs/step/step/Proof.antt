@@ -3,7 +3,7 @@ use mathlib.Core.Path.{sym}
 use native.Mathlib.Omega.{arith}
 use borrow.Author.Needs.{needs}
 use Rattle.batch.specs.Run.{Progress, progressOf, Fine}
-use Rattle.batch.proofs.Fold.{step-stays, step-answered}
+use Rattle.batch.proofs.Fold.{step-stays, step-put}
 use Rattle.batch.proofs.step.step.Statement.{statement}
 use Rattle.batch.proofs.step.step.Tie as tie
 
@@ -25,20 +25,11 @@ returns c = let s = start (c .before) in sym (step-stays (s .args .keys .now) (s
 reply-to-requires : tie.Need-reply-to-requires
 reply-to-requires c κs = fine c .list
 
-mul-refusals : tie.Need-mul-refusals
-mul-refusals c = record { fits = let h = fine (c .before) .roomRefusals in omega arith }
-
-slice-write-refusals : tie.Need-slice-write-refusals
-slice-write-refusals c = let h = fine (c .before) .roomRefusals in omega arith
-
-mul-values : tie.Need-mul-values
-mul-values c = record { fits = let h = fine (c .before) .roomValues in omega arith }
-
-slice-write-values : tie.Need-slice-write-values
-slice-write-values c = let h = fine (c .before) .roomValues in omega arith
+put-requires : tie.Need-put-requires
+put-requires c κs = let f = fine (c .before .before .before) in (omega (arith, f .roomRefusals), omega (arith, f .roomValues))
 
 add-st : tie.Need-add-st
-add-st c = record { fits = let h = fine (c .before) .roomValues in omega arith }
+add-st c = record { fits = let h = fine (c .before .before .before .before .before .before .before .before) .roomRefusals in omega arith }
 
 same-length : tie.Need-same-length
 same-length c = search needs
@@ -48,21 +39,13 @@ same-length-2 c = search needs
 
 returns-2 : tie.Need-returns-2
 returns-2 c =
-    let e = c .before in
+    let put = c .before .before .before .before in
+    let replied = put .before .before .before in
+    let e = replied .before in
     let s = start (e .before) in
-    sym (step-answered (s .args .keys .now) (s .args .bits .now) (s .args .question) (progress s) (e .if1 .left) _ (c .reply-to .ensures))
+    step-put (s .args .keys .now) (s .args .bits .now) (s .args .question) (progress s) (e .if1 .left) _ (replied .reply-to .ensures) _ _ (put .put .ensures .0) (put .put .ensures .1)
 
 pub step-spec : {M : Type 1} → statement M
 step-spec =
     tie.close
-    (tie.spec
-    returns
-    reply-to-requires
-    mul-refusals
-    slice-write-refusals
-    mul-values
-    slice-write-values
-    add-st
-    same-length
-    same-length-2
-    returns-2)
+    (tie.spec returns reply-to-requires put-requires add-st same-length same-length-2 returns-2)
