@@ -11,7 +11,7 @@ enum { PLACES = HLQ_SUMMARY_PLACES(M, CLASSES), METRES = 4 }; /* a pixel is 2 by
 enum { BALLAST, DRAIN, SCRUB, PATH };
 
 /* A header of another interface, or a sheet too large for it, stops the compiler and not the crew. */
-_Static_assert(HLQ_INTERFACE == 4, "written for interface 4 of the library");
+_Static_assert(HLQ_INTERFACE == 5, "written for interface 5 of the library");
 _Static_assert(M <= HLQ_DEEPEST_M && CLASSES <= HLQ_MOST_SLOTS, "the sheet is within the library's limits");
 
 static const char signs[CLASSES + 1] = ".~#=";
@@ -94,7 +94,7 @@ static int paint(uint32_t key, uint32_t class) {
 }
 
 int main(void) {
-    uint8_t raster[PIXELS], file[HLQ_FILE_BYTES(RECORDS)];
+    uint8_t raster[PIXELS], file[HLQ_FILE_BYTES(RECORDS, CLASSES)];
     if (!read_sheet(raster)) { printf("no sheet of %d by %d known signs\n", EDGE, EDGE); return 1; }
     hlq_counted built = hlq_build(M, CLASSES, raster, PIXELS, keys, RECORDS, bits, RECORDS, summary, PLACES);
     if (refused("build", built.refusal)) return 1;

@@ -4,6 +4,7 @@ mod Orders
 mod Corners
 mod AreaVectors
 mod FourWaivers
+mod ClassVectors
 pub mod Within
 pub mod Pixels
 pub mod Features
@@ -46,6 +47,8 @@ pub mod FileBytes
 pub mod FileOf
 pub mod FileBack
 pub mod First
+pub mod FormerFile
+pub mod LastSlot
 pub mod Records
 pub mod Buffer
 pub mod Put
