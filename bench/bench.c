@@ -13,8 +13,8 @@ enum { M = 10, S = 16, EDGE = 1 << M, PIXELS = EDGE * EDGE, MOST = HLQ_MOST_RECO
 static uint8_t raster[PIXELS], back[PIXELS], *file;
 static uint32_t keys[MOST], bits[MOST], other_keys[MOST], other_bits[MOST], answer[PIXELS], log_keys[2 * MOST],
     log_values[2 * MOST];
-enum { PLACES = HLQ_SUMMARY_PLACES(M, S) };
-static uint32_t summary[PLACES], other_summary[PLACES];
+enum { PLACES = HLQ_SUMMARY_PLACES(M, S), MOST_PLACES = HLQ_SUMMARY_PLACES(M, HLQ_MOST_SLOTS) };
+static uint32_t summary[MOST_PLACES], other_summary[MOST_PLACES];
 static volatile uint64_t sink;
 static uint64_t state = 88172645463325252u;
 
@@ -241,12 +241,30 @@ static void findings(size_t n, int small) {
     printf("%llu live, %llu hidden\n", (unsigned long long)found.live, (unsigned long long)found.hidden);
 }
 
-static void files(size_t n) {
-    printf("\nfile at m = %d, n = %zu\n", M, n);
-    COMPARE("store", 5, 1, sink += hlq_store(M, S, keys, MOST, bits, MOST, n, file, HLQ_FILE_BYTES(MOST)).count,
-            sink += (uint64_t)plain_is_list(M, S, keys, bits, n) + plain_store(M, S, keys, bits, n, file));
-    COMPARE("load", 5, 1, sink += hlq_load(file, HLQ_FILE_BYTES(n), other_keys, MOST, other_bits, MOST).n,
+static void files(uint32_t s, size_t n) {
+    size_t room = HLQ_FILE_BYTES(MOST, s);
+    printf("\nfile at m = %d, s = %u, n = %zu\n", M, s, n);
+    COMPARE("store", 5, 1, sink += hlq_store(M, s, keys, MOST, bits, MOST, n, file, room).count,
+            sink += (uint64_t)plain_is_list(M, s, keys, bits, n) + plain_store(M, s, keys, bits, n, file));
+    COMPARE("load", 5, 1, sink += hlq_load(file, HLQ_FILE_BYTES(n, s), other_keys, MOST, other_bits, MOST).n,
             sink += plain_load(file, other_keys, other_bits));
+}
+
+/* Few classes and many, on noise of all of them: what a class more costs, and files of both versions. */
+static void classes(uint32_t s) {
+    size_t places = HLQ_SUMMARY_PLACES(M, s);
+    for (size_t i = 0; i < PIXELS; i++) raster[i] = (uint8_t)below(s);
+    size_t n = hlq_build(M, s, raster, PIXELS, keys, MOST, bits, MOST, summary, places).count;
+    printf("\nnoise of %u classes, m = %d, n = %zu\n", s, M, n);
+    COMPARE("build", 5, 1, sink += hlq_build(M, s, raster, PIXELS, keys, MOST, bits, MOST, summary, places).count,
+            sink += plain_survey(M, s, raster, other_keys, other_bits, MOST, other_summary));
+    COMPARE("standing (the list check)", 5, 1, sink += hlq_standing(M, s, keys, MOST, bits, MOST, n, 1234).place,
+            sink += (uint64_t)plain_is_list(M, s, keys, bits, n) + plain_place(keys, n, 1234));
+    COMPARE("fill summary", 5, 1, sink += hlq_fill_summary(M, s, keys, MOST, bits, MOST, n, summary, places).refusal, {
+        sink += (uint64_t)plain_is_list(M, s, keys, bits, n);
+        plain_fill_summary(M, s, keys, bits, n, other_summary);
+    });
+    files(s, n);
 }
 
 /* Windows dragged over the north-west corner: what clipping adds to the strict call on the overlap. */
@@ -311,7 +329,7 @@ static void blocks(void) {
 
 int main(void) {
     static const char *const kinds[] = { "uniform", "patchy", "noisy" };
-    file = malloc(HLQ_FILE_BYTES(MOST));
+    file = malloc(HLQ_FILE_BYTES(MOST, HLQ_MOST_SLOTS));
     if (!file) return 1;
     printf("%-36s %14s %14s %8s\n", "call", "library ns", "plain C ns", "ratio");
     blocks();
@@ -335,7 +353,9 @@ int main(void) {
     edits(n);
     findings(n, 0);
     findings(n, 1);
-    files(n);
+    files(S, n);
+    classes(8);
+    classes(HLQ_MOST_SLOTS);
     free(file);
     return 0;
 }

@@ -96,19 +96,22 @@ size_t plain_build(uint32_t m, uint32_t s, const uint8_t *raster, uint32_t *keys
 
 /* ---- check */
 
+/* The bitstring with s slots set: 1u << s would be too much at s = 32. */
+static uint32_t all_slots(uint32_t s) { return 0xFFFFFFFFu >> (32 - s); }
+
 static size_t check_node(const uint32_t *keys, const uint32_t *bits, size_t n, size_t at, uint32_t key, uint32_t step,
-                         uint32_t limit) {
+                         uint32_t slots) {
     uint32_t together = 0;
     size_t next = at + 1;
     for (uint32_t d = 1; d <= 4; d++) {
         if (next >= n || keys[next] != key + d * step) return 0;
         uint32_t b = bits[next];
         if (one_bit(b)) {
-            if (b >= limit) return 0;
+            if (b > slots) return 0;
             next++;
         } else {
             if (step == 1) return 0;
-            next = check_node(keys, bits, n, next, key + d * step, step / 5, limit);
+            next = check_node(keys, bits, n, next, key + d * step, step / 5, slots);
             if (next == 0) return 0;
         }
         together |= b;
@@ -118,8 +121,8 @@ static size_t check_node(const uint32_t *keys, const uint32_t *bits, size_t n, s
 
 int plain_is_list(uint32_t m, uint32_t s, const uint32_t *keys, const uint32_t *bits, size_t n) {
     if (n == 0 || keys[0] != 0) return 0;
-    if (one_bit(bits[0])) return n == 1 && bits[0] < 1u << s;
-    return m > 0 && check_node(keys, bits, n, 0, 0, power(5, m - 1), 1u << s) == n;
+    if (one_bit(bits[0])) return n == 1 && bits[0] <= all_slots(s);
+    return m > 0 && check_node(keys, bits, n, 0, 0, power(5, m - 1), all_slots(s)) == n;
 }
 
 /* ---- raster */
@@ -474,7 +477,7 @@ static int plain_log_is_sound(uint32_t m, uint32_t s, const uint32_t *log_keys, 
         if (one_bit(log_values[from])) {
             if (count != 1) return 0;
         } else if (step == 1 ||
-                   check_node(log_keys + from, log_values + from, count, 0, key, step / 5, 1u << s) != count)
+                   check_node(log_keys + from, log_values + from, count, 0, key, step / 5, all_slots(s)) != count)
             return 0;
         used = from;
     }
@@ -638,27 +641,37 @@ size_t plain_findings(uint32_t m, const uint32_t *keys, const uint32_t *bits, si
     return live;
 }
 
+static void put_four(uint8_t *at, uint32_t x) {
+    at[0] = (uint8_t)(x >> 24), at[1] = (uint8_t)(x >> 16), at[2] = (uint8_t)(x >> 8), at[3] = (uint8_t)x;
+}
+
+static uint32_t four_at(const uint8_t *at) {
+    return (uint32_t)at[0] << 24 | (uint32_t)at[1] << 16 | (uint32_t)at[2] << 8 | at[3];
+}
+
 size_t plain_store(uint32_t m, uint32_t s, const uint32_t *keys, const uint32_t *bits, size_t n, uint8_t *file) {
-    uint8_t head[11] = {
-        'H',       'L', 'Q', 0, 1, (uint8_t)m, (uint8_t)s, (uint8_t)(n >> 24), (uint8_t)(n >> 16), (uint8_t)(n >> 8),
-        (uint8_t)n
-    };
+    uint8_t version = s > 16 ? 2 : 1, head[11] = { 'H', 'L', 'Q', 0, version, (uint8_t)m, (uint8_t)s };
+    put_four(head + 7, (uint32_t)n);
     memcpy(file, head, 11);
-    for (size_t i = 0; i < n; i++) {
-        uint8_t *at = file + 11 + 6 * i;
-        at[0] = (uint8_t)(keys[i] >> 24), at[1] = (uint8_t)(keys[i] >> 16), at[2] = (uint8_t)(keys[i] >> 8),
-        at[3] = (uint8_t)keys[i];
-        at[4] = (uint8_t)(bits[i] >> 8), at[5] = (uint8_t)bits[i];
-    }
-    return 11 + 6 * n;
+    if (version == 2)
+        for (size_t i = 0; i < n; i++) put_four(file + 11 + 8 * i, keys[i]), put_four(file + 15 + 8 * i, bits[i]);
+    else
+        for (size_t i = 0; i < n; i++) {
+            uint8_t *at = file + 11 + 6 * i;
+            put_four(at, keys[i]);
+            at[4] = (uint8_t)(bits[i] >> 8), at[5] = (uint8_t)bits[i];
+        }
+    return 11 + (s > 16 ? 8 : 6) * n;
 }
 
 size_t plain_load(const uint8_t *file, uint32_t *keys, uint32_t *bits) {
-    size_t n = (size_t)file[7] << 24 | (size_t)file[8] << 16 | (size_t)file[9] << 8 | file[10];
-    for (size_t i = 0; i < n; i++) {
-        const uint8_t *at = file + 11 + 6 * i;
-        keys[i] = (uint32_t)at[0] << 24 | (uint32_t)at[1] << 16 | (uint32_t)at[2] << 8 | at[3];
-        bits[i] = (uint32_t)at[4] << 8 | at[5];
-    }
+    size_t n = four_at(file + 7);
+    if (file[4] == 2)
+        for (size_t i = 0; i < n; i++) keys[i] = four_at(file + 11 + 8 * i), bits[i] = four_at(file + 15 + 8 * i);
+    else
+        for (size_t i = 0; i < n; i++) {
+            const uint8_t *at = file + 11 + 6 * i;
+            keys[i] = four_at(at), bits[i] = (uint32_t)at[4] << 8 | at[5];
+        }
     return plain_is_list(file[5], file[6], keys, bits, n) ? n : 0;
 }

@@ -94,7 +94,7 @@ static int paint(uint32_t key, uint32_t class) {
 }
 
 int main(void) {
-    uint8_t raster[PIXELS], file[HLQ_FILE_BYTES(RECORDS)];
+    uint8_t raster[PIXELS], file[HLQ_FILE_BYTES(RECORDS, CLASSES)];
     if (!read_sheet(raster)) { printf("no sheet of %d by %d known signs\n", EDGE, EDGE); return 1; }
     hlq_counted built = hlq_build(M, CLASSES, raster, PIXELS, keys, RECORDS, bits, RECORDS, summary, PLACES);
     if (refused("build", built.refusal)) return 1;

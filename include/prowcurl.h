@@ -64,8 +64,8 @@ extern "C" {
 /* The places of the summary of a map: 4^2 or 4^m blocks of s numbers. */
 #define HLQ_SUMMARY_PLACES(m, s) (((size_t)1 << 2 * ((m) < 2 ? (m) : 2)) * (s))
 
-/* The bytes of the file of a list of n records. */
-#define HLQ_FILE_BYTES(n) (11 + 6 * (size_t)(n))
+/* The bytes of the file of a list of n records: a record takes 6, and above 16 slots 8. */
+#define HLQ_FILE_BYTES(n, s) (11 + ((s) > 16 ? 8 : 6) * (size_t)(n))
 
 /* The stack that a call needs at most, in bytes. */
 #define HLQ_STACK_BYTES 8192
@@ -78,7 +78,8 @@ enum {
 
 enum {
     HLQ_ACCEPTED = 0,
-    HLQ_SETTINGS = 1,      /* m above HLQ_DEEPEST_M, or s 0 or above HLQ_MOST_SLOTS */
+    HLQ_SETTINGS = 1,      /* m above HLQ_DEEPEST_M, or s 0 or above HLQ_MOST_SLOTS (above 16 in a
+                              file of version 1) */
     HLQ_RASTER_LENGTH = 2, /* the raster's length is not 2^m * 2^m */
     HLQ_PIXEL = 3,         /* a pixel is s or more */
     HLQ_LIST = 4,          /* n exceeds the list's room, or the first n records are no raster's list
@@ -95,7 +96,7 @@ enum {
     HLQ_WAIVERS = 14,      /* waivers not strictly ascending, a bad key, or an id of no rule */
     HLQ_FILE_LENGTH = 15,  /* the file has under 11 bytes, or a wrong length */
     HLQ_FILE_MARK = 16,    /* the file does not begin with HLQ */
-    HLQ_FILE_VERSION = 17, /* the file's version is not 1 */
+    HLQ_FILE_VERSION = 17, /* the file's version is neither 1 nor 2, or is 2 with s up to 16 */
     HLQ_SUMMARY = 18       /* the summary has a wrong length, or does not hold this map's counts */
 };
 
@@ -309,13 +310,15 @@ hlq_found hlq_findings(uint32_t m, uint32_t s,
                        uint32_t *found_keys, size_t found_keys_len);
 
 /* STORE. The file of the list in bytes 0 to count - 1; all other bytes stay. It has
- * HLQ_FILE_BYTES(n) bytes.
+ * HLQ_FILE_BYTES(n, s) bytes. Up to 16 slots its version is 1 and bitstrings have 2 bytes; above
+ * that it is 2 and they have 4.
  * Refusals: HLQ_SETTINGS, HLQ_LIST, HLQ_ANSWER_ROOM, in this order. */
 hlq_counted hlq_store(uint32_t m, uint32_t s,
                       const uint32_t *keys, size_t keys_len, const uint32_t *bits, size_t bits_len,
                       size_t n, uint8_t *file, size_t file_len);
 
-/* LOAD. The list of a file in places 0 to n - 1 of keys and bits; all other places stay.
+/* LOAD. The list of a file in places 0 to n - 1 of keys and bits; all other places stay. Files of
+ * both versions are read.
  * Refusals: HLQ_FILE_LENGTH (under 11 bytes), HLQ_FILE_MARK, HLQ_FILE_VERSION, HLQ_SETTINGS,
  * HLQ_FILE_LENGTH (for the number of records that it names), HLQ_LIST (the file's own records),
  * HLQ_LIST_ROOM, in this order. */

@@ -5,7 +5,7 @@
 #include <string.h>
 
 /* The limits of documents 01 and 02, written here a second time: the header's names are what is tested. */
-enum { DEEPEST = 10, SLOTS = 32, NO_FEATURE = 255 };
+enum { DEEPEST = 10, SLOTS = 32, OLD_SLOTS = 16, NO_FEATURE = 255 };
 
 /* The most pixels and records that a map can have. */
 static size_t pixels_of(uint32_t m) { return (size_t)1 << 2 * m; }
@@ -707,42 +707,52 @@ hlq_found ref_findings(uint32_t m, uint32_t s, const uint32_t *keys, size_t keys
     return answer;
 }
 
+/* So many bytes of a number, the highest first. */
+static uint8_t *put_number(uint8_t *at, size_t width, uint32_t x) {
+    for (size_t b = width; b > 0; b--) *at++ = (uint8_t)(x >> 8 * (b - 1));
+    return at;
+}
+
+static uint32_t number_at(const uint8_t *at, size_t width) {
+    uint32_t x = 0;
+    for (size_t b = 0; b < width; b++) x = x << 8 | at[b];
+    return x;
+}
+
 hlq_counted ref_store(uint32_t m, uint32_t s, const uint32_t *keys, size_t keys_len, const uint32_t *bits,
                       size_t bits_len, size_t n, uint8_t *file, size_t file_len) {
     if (settings_are_bad(m, s)) return (hlq_counted){ 1, 0 };
     uint8_t *raster = raster_of(m, s, keys, keys_len, bits, bits_len, n);
     if (!raster) return (hlq_counted){ 4, 0 };
     free(raster);
-    if (file_len < 11 + 6 * n) return (hlq_counted){ 12, 11 + 6 * n };
-    uint8_t head[11] = {
-        0x48,      0x4C, 0x51, 0, 1, (uint8_t)m, (uint8_t)s, (uint8_t)(n >> 24), (uint8_t)(n >> 16), (uint8_t)(n >> 8),
-        (uint8_t)n
-    };
-    memcpy(file, head, sizeof head);
+    size_t width = s > OLD_SLOTS ? 4 : 2, needed = 11 + (4 + width) * n;
+    if (file_len < needed) return (hlq_counted){ 12, needed };
+    memcpy(file, "HLQ", 3);
+    uint8_t *at = put_number(file + 3, 2, s > OLD_SLOTS ? 2 : 1);
+    at = put_number(at, 1, m);
+    at = put_number(at, 1, s);
+    at = put_number(at, 4, (uint32_t)n);
     for (size_t i = 0; i < n; i++) {
-        uint8_t *at = file + 11 + 6 * i;
-        for (int b = 0; b < 4; b++) at[b] = (uint8_t)(keys[i] >> (24 - 8 * b));
-        at[4] = (uint8_t)(bits[i] >> 8);
-        at[5] = (uint8_t)bits[i];
+        at = put_number(at, 4, keys[i]);
+        at = put_number(at, width, bits[i]);
     }
-    return (hlq_counted){ 0, 11 + 6 * n };
+    return (hlq_counted){ 0, needed };
 }
 
 hlq_loaded ref_load(const uint8_t *file, size_t file_len, uint32_t *keys, size_t keys_len, uint32_t *bits,
                     size_t bits_len) {
     if (file_len < 11) return (hlq_loaded){ 15, 0, 0, 0 };
     if (memcmp(file, "HLQ", 3) != 0) return (hlq_loaded){ 16, 0, 0, 0 };
-    if (file[3] != 0 || file[4] != 1) return (hlq_loaded){ 17, 0, 0, 0 };
-    uint32_t m = file[5], s = file[6];
-    if (settings_are_bad(m, s)) return (hlq_loaded){ 1, 0, 0, 0 };
-    uint64_t n = (uint64_t)file[7] << 24 | (uint64_t)file[8] << 16 | (uint64_t)file[9] << 8 | file[10];
-    if (file_len != 11 + 6 * n) return (hlq_loaded){ 15, 0, 0, 0 };
+    uint32_t version = number_at(file + 3, 2), m = file[5], s = file[6];
+    if ((version != 1 && version != 2) || (version == 2 && s <= OLD_SLOTS)) return (hlq_loaded){ 17, 0, 0, 0 };
+    if (settings_are_bad(m, s) || (version == 1 && s > OLD_SLOTS)) return (hlq_loaded){ 1, 0, 0, 0 };
+    uint64_t n = number_at(file + 7, 4), width = version == 2 ? 4 : 2;
+    if (file_len != 11 + (4 + width) * n) return (hlq_loaded){ 15, 0, 0, 0 };
     if (n > most_of(m)) return (hlq_loaded){ 4, 0, 0, 0 };
     records l = new_records(m);
     for (size_t i = 0; i < n; i++) {
-        const uint8_t *at = file + 11 + 6 * i;
-        l.keys[i] = (uint32_t)at[0] << 24 | (uint32_t)at[1] << 16 | (uint32_t)at[2] << 8 | at[3];
-        l.bits[i] = (uint32_t)at[4] << 8 | at[5];
+        l.keys[i] = number_at(file + 11 + (4 + width) * i, 4);
+        l.bits[i] = number_at(file + 15 + (4 + width) * i, width);
     }
     uint8_t *raster = raster_of(m, s, l.keys, n, l.bits, n, n);
     hlq_loaded answer = { 4, 0, 0, 0 };

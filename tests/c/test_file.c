@@ -24,9 +24,26 @@ static void try_load(const uint8_t *file, size_t file_len, size_t keys_len, size
     give_back(keys), give_back(bits), give_back(ref_keys), give_back(ref_bits);
 }
 
+/* The file under either version and a few more, with each s around the limits: 17 and 1 beside each other, and before
+ * the length. */
+static void versions(uint8_t *bytes, size_t length, size_t n) {
+    static const uint8_t slots[] = { 0, 1, 15, 16, 17, 31, 32, 33, 255 };
+    uint8_t version = bytes[4], s = bytes[6];
+    for (uint8_t v = 0; v < 4; v++)
+        for (size_t i = 0; i < sizeof slots; i++) {
+            bytes[4] = v, bytes[6] = slots[i];
+            try_load(bytes, length, n, n);
+            try_load(bytes, length - 1, 0, 0);
+            bytes[3] = 1;
+            try_load(bytes, length, n, n);
+            bytes[3] = 0;
+        }
+    bytes[4] = version, bytes[6] = s;
+}
+
 static void round_of(uint32_t m) {
     map a = random_map(m);
-    size_t length = HLQ_FILE_BYTES(a.n);
+    size_t length = HLQ_FILE_BYTES(a.n, a.s), head = HLQ_FILE_BYTES(0, a.s);
     try_store(a, a.n, length);
     try_store(a, a.n, length + below(9));
     try_store(a, a.n, below((uint32_t)length));
@@ -40,15 +57,17 @@ static void round_of(uint32_t m) {
     try_load(bytes, length, a.n - 1, a.n);
     try_load(bytes, length, a.n, a.n - 1);
     for (uint32_t i = 0; i < 3; i++) try_load(bytes, below((uint32_t)length + 9), a.n, a.n);
-    try_load(bytes, below(HLQ_FILE_BYTES(0)), a.n, a.n);
+    try_load(bytes, below((uint32_t)head), a.n, a.n);
     for (uint32_t i = 0; i < (m < 7 ? 24u : 4u); i++) {
         lent spoilt = copy_of(file);
         uint8_t *at = start(spoilt);
         for (uint32_t j = 1 + below(2); j > 0; j--)
-            at[below(below(2) ? HLQ_FILE_BYTES(0) : (uint32_t)length)] ^= (uint8_t)(1u << below(8));
+            at[below((uint32_t)(below(2) ? head : length))] ^= (uint8_t)(1u << below(8));
         try_load(at, length, a.n + below(2), a.n - below(2));
         give_back(spoilt);
     }
+    versions(bytes, length, a.n);
+    bytes[4] = 1;
     bytes[6] = 0;
     try_load(bytes, length - 1, 0, 0);
     bytes[4] = 2;

@@ -20,10 +20,11 @@ static_assert(HLQ_MOST_RECORDS(0) == 1 && HLQ_MOST_RECORDS(1) == 5 && HLQ_MOST_R
               "the most records");
 static_assert(HLQ_MOST_RECORDS(1 + 1) == 21 && 2 * HLQ_MOST_RECORDS(2) == 42,
               "an argument or a neighbour may be a sum");
-static_assert(HLQ_FILE_BYTES(0) == 11 && HLQ_FILE_BYTES(9) == 65 && HLQ_FILE_BYTES(1 + 1) == 23 &&
-                  2 * HLQ_FILE_BYTES(0) == 22,
+static_assert(HLQ_FILE_BYTES(0, 1) == 11 && HLQ_FILE_BYTES(9, 16) == 65 && HLQ_FILE_BYTES(9, 17) == 83 &&
+                  HLQ_FILE_BYTES(1 + 1, 16 + 1) == 27 && 2 * HLQ_FILE_BYTES(0, 32) == 22,
               "the bytes of a file");
-static_assert(HLQ_FILE_BYTES(0xFFFFFFFFu) == 25769803781u, "no wrapping at 32 bits");
+static_assert(HLQ_FILE_BYTES(0xFFFFFFFFu, 16) == 25769803781u && HLQ_FILE_BYTES(0xFFFFFFFFu, 32) == 34359738371u,
+              "no wrapping at 32 bits");
 static_assert(sizeof(hlq_done) == 8 && sizeof(hlq_counted) == 16 && sizeof(hlq_stands) == 24 &&
                   sizeof(hlq_span) == 16 && sizeof(hlq_exists) == 16 && sizeof(hlq_reported) == 16 &&
                   sizeof(hlq_edited) == 24 && sizeof(hlq_found) == 24 && sizeof(hlq_loaded) == 32 &&
@@ -32,7 +33,7 @@ static_assert(sizeof(hlq_done) == 8 && sizeof(hlq_counted) == 16 && sizeof(hlq_s
 
 enum { MOST = HLQ_MOST_RECORDS(HLQ_DEEPEST_M) };
 
-static uint8_t raster[1 << 2 * HLQ_DEEPEST_M], file[HLQ_FILE_BYTES(MOST)];
+static uint8_t raster[1 << 2 * HLQ_DEEPEST_M], file[HLQ_FILE_BYTES(MOST, HLQ_MOST_SLOTS)];
 static uint32_t keys[MOST], bits[MOST], summary[HLQ_SUMMARY_PLACES(HLQ_DEEPEST_M, HLQ_MOST_SLOTS)];
 
 static void must(int ok, const char *what) {
@@ -54,10 +55,13 @@ static void macros_meet_calls(uint32_t m) {
     must(built.refusal == HLQ_SUMMARY, "a summary's length is exact");
     built = hlq_build(m, 2, raster, pixels, keys, most, bits, most, summary, places);
     must(built.refusal == HLQ_ACCEPTED && built.count == most, "HLQ_MOST_RECORDS holds the largest list");
-    hlq_counted stored = hlq_store(m, 2, keys, most, bits, most, most, file, HLQ_FILE_BYTES(most) - 1);
-    must(stored.refusal == HLQ_ANSWER_ROOM && stored.count == HLQ_FILE_BYTES(most), "a byte too few");
-    stored = hlq_store(m, 2, keys, most, bits, most, most, file, HLQ_FILE_BYTES(most));
-    must(stored.refusal == HLQ_ACCEPTED && stored.count == HLQ_FILE_BYTES(most), "HLQ_FILE_BYTES holds the file");
+    for (uint32_t s = 2; s <= HLQ_MOST_SLOTS; s += 15) { /* 2, 17, 32 */
+        size_t bytes = HLQ_FILE_BYTES(most, s);
+        hlq_counted stored = hlq_store(m, s, keys, most, bits, most, most, file, bytes - 1);
+        must(stored.refusal == HLQ_ANSWER_ROOM && stored.count == bytes, "a byte too few");
+        stored = hlq_store(m, s, keys, most, bits, most, most, file, bytes);
+        must(stored.refusal == HLQ_ACCEPTED && stored.count == bytes, "HLQ_FILE_BYTES holds the file");
+    }
     must(hlq_standing(m, 2, keys, most, bits, most, most, 0).kind == HLQ_LISTED, "the root is listed");
     must(hlq_fill_summary(m, 2, keys, most, bits, most, most, summary, places).refusal == HLQ_ACCEPTED,
          "HLQ_SUMMARY_PLACES is the summary's length");

@@ -16,7 +16,7 @@ static size_t shared_n;
 
 typedef struct {
     uint64_t state, sum;
-    uint8_t raster[PIXELS], file[HLQ_FILE_BYTES(ROOM)];
+    uint8_t raster[PIXELS], file[HLQ_FILE_BYTES(ROOM, S)];
     uint32_t keys[ROOM], bits[ROOM], log_keys[LOG], log_values[LOG], answer[PIXELS], summary[PLACES];
 } worker;
 

@@ -19,7 +19,7 @@ enum {
     STACK = 1 << 18
 };
 
-static uint8_t raster[PIXELS], back[PIXELS], file[HLQ_FILE_BYTES(MOST)];
+static uint8_t raster[PIXELS], back[PIXELS], file[HLQ_FILE_BYTES(MOST, S)];
 static uint32_t keys[MOST], bits[MOST], log_keys[LOG], log_values[LOG], answer[PIXELS], found_ids[PIXELS];
 static uint32_t summary[PLACES];
 static size_t n, used;
@@ -101,7 +101,7 @@ static void call_findings(void) {
                   .refusal;
 }
 static void call_store(void) { refusal = hlq_store(M, S, keys, MOST, bits, MOST, n, file, sizeof file).refusal; }
-static void call_load(void) { refusal = hlq_load(file, HLQ_FILE_BYTES(n), keys, MOST, bits, MOST).refusal; }
+static void call_load(void) { refusal = hlq_load(file, HLQ_FILE_BYTES(n, S), keys, MOST, bits, MOST).refusal; }
 
 typedef struct {
     const char *name;

@@ -5,6 +5,7 @@ mod Corners
 mod AreaVectors
 mod LeafVectors
 mod FourWaivers
+mod ClassVectors
 pub mod Within
 pub mod Pixels
 pub mod Features
@@ -48,6 +49,8 @@ pub mod FileBytes
 pub mod FileOf
 pub mod FileBack
 pub mod First
+pub mod FormerFile
+pub mod LastSlot
 pub mod Records
 pub mod Buffer
 pub mod Put

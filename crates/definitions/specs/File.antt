@@ -1,10 +1,12 @@
--- The file's bytes, written and read (document 01, "The file"): mark, version, m, s, n, and n records, high byte first. Rests on List.
+-- The file's bytes, written and read (document 01, "The file"; document 02, item 5): mark, version, m, s, n, and n records, high byte first.
+-- Rests on List and Refusal.
 use Prim.Native.Nat.{ℕ, zero, suc, _+_, _*_, _/_, _%_, _^_}
-use mathlib.Core.Bool.{Bool, true, false, not, _&&_}
+use mathlib.Core.Bool.{Bool, true, false, cond, not, _&&_, _||_}
 use mathlib.Core.List.{List, [], _∷_, _++_}
 use lib.ListN.{length, take, drop}
 use lib.Dec.{ltb, eqb}
 use Rattle.definitions.specs.List.{Record, recordOf}
+use Rattle.definitions.specs.Refusal.{badSettings}
 
 -- a number in so many bytes, high byte first
 unfoldable pub bytesOf : ℕ → ℕ → List ℕ
@@ -23,32 +25,44 @@ numberOf bytes = numberAfter 0 bytes
 abbrev pub mark : List ℕ
 mark = 0x48 ∷ 0x4C ∷ 0x51 ∷ []
 
-abbrev pub version : ℕ
-version = 1
+-- the slots of a file of version 1: with more than these it has version 2, and bitstrings of 4 bytes in place of 2
+abbrev pub firstSlots : ℕ
+firstSlots = 16
 
--- bytes before the records, and bytes of a record: a key in 4 and a bitstring in 2
+unfoldable pub versionFor : ℕ → ℕ
+versionFor s = cond (ltb firstSlots s) 2 1
+
+unfoldable pub bitBytes : ℕ → ℕ
+bitBytes s = cond (ltb firstSlots s) 4 2
+
+-- what a width of bitstrings is: 2 bytes or 4
+pub data Width : ℕ → Type 0 where
+  two : Width 2
+  four : Width 4
+
+-- bytes before the records, and bytes of a record: a key in 4, and a bitstring in so many
 abbrev pub headLength : ℕ
 headLength = 11
 
 abbrev pub keyBytes : ℕ
 keyBytes = 4
 
-abbrev pub bitBytes : ℕ
-bitBytes = 2
+abbrev pub recordLength : ℕ → ℕ
+recordLength width = keyBytes + width
 
-abbrev pub recordLength : ℕ
-recordLength = keyBytes + bitBytes
+abbrev pub bytesOfRecord : ℕ → Record → List ℕ
+bytesOfRecord width e = bytesOf keyBytes (e .key) ++ bytesOf width (e .value)
 
-unfoldable pub bytesOfRecords : List Record → List ℕ
-bytesOfRecords [] = []
-bytesOfRecords (e ∷ l) = bytesOf keyBytes (e .key) ++ (bytesOf bitBytes (e .value) ++ bytesOfRecords l)
+unfoldable pub bytesOfRecords : ℕ → List Record → List ℕ
+bytesOfRecords width [] = []
+bytesOfRecords width (e ∷ l) = bytesOfRecord width e ++ bytesOfRecords width l
 
 unfoldable pub headOf : ℕ → ℕ → ℕ → List ℕ
-headOf m s n = mark ++ (bytesOf 2 version ++ (bytesOf 1 m ++ (bytesOf 1 s ++ bytesOf 4 n)))
+headOf m s n = mark ++ (bytesOf 2 (versionFor s) ++ (bytesOf 1 m ++ (bytesOf 1 s ++ bytesOf 4 n)))
 
 -- the file of a list
 unfoldable pub fileOf : ℕ → ℕ → List Record → List ℕ
-fileOf m s l = headOf m s (length l) ++ bytesOfRecords l
+fileOf m s l = headOf m s (length l) ++ bytesOfRecords (bitBytes s) l
 
 -- so many bytes from a place on, as a number
 unfoldable pub numberAt : ℕ → ℕ → List ℕ → ℕ
@@ -66,14 +80,14 @@ sIn file = numberAt 6 1 file
 abbrev pub nIn : List ℕ → ℕ
 nIn file = numberAt 7 4 file
 
-unfoldable pub readRecords : ℕ → List ℕ → List Record
-readRecords zero bytes = []
-readRecords (suc n) bytes =
-    recordOf (numberAt 0 keyBytes bytes) (numberAt keyBytes bitBytes bytes) ∷ readRecords n (drop recordLength bytes)
+unfoldable pub readRecords : ℕ → ℕ → List ℕ → List Record
+readRecords width zero bytes = []
+readRecords width (suc n) bytes =
+    recordOf (numberAt 0 keyBytes bytes) (numberAt keyBytes width bytes) ∷ readRecords width n (drop (recordLength width) bytes)
 
 -- the records of a file
 unfoldable pub recordsInFile : List ℕ → List Record
-recordsInFile file = readRecords (nIn file) (drop headLength file)
+recordsInFile file = readRecords (bitBytes (sIn file)) (nIn file) (drop headLength file)
 
 unfoldable pub sameBytes : List ℕ → List ℕ → Bool
 sameBytes [] [] = true
@@ -89,10 +103,24 @@ tooShort file = ltb (length file) headLength
 unfoldable pub wrongMark : List ℕ → Bool
 wrongMark file = not (sameBytes (take 3 file) mark)
 
--- 17
+-- 17: neither version 1 nor 2, or version 2 with slots that have room in version 1
+unfoldable pub otherVersion : ℕ → ℕ → Bool
+otherVersion version s = not (eqb version 1 || eqb version 2) || (eqb version 2 && not (ltb firstSlots s))
+
 abbrev pub wrongVersion : List ℕ → Bool
-wrongVersion file = not (eqb (versionIn file) version)
+wrongVersion file = otherVersion (versionIn file) (sIn file)
+
+-- 1: settings of no list, or version 1 with slots that have no room in it
+unfoldable pub badAtVersion : ℕ → ℕ → ℕ → Bool
+badAtVersion version m s = badSettings m s || (eqb version 1 && ltb firstSlots s)
+
+abbrev pub wrongSettings : List ℕ → Bool
+wrongSettings file = badAtVersion (versionIn file) (mIn file) (sIn file)
+
+-- bytes of a file of n records, whose bitstrings have so many bytes
+abbrev pub fileLength : ℕ → ℕ → ℕ
+fileLength width n = headLength + recordLength width * n
 
 -- 15, the length
 abbrev pub wrongLength : List ℕ → Bool
-wrongLength file = not (eqb (length file) (headLength + recordLength * nIn file))
+wrongLength file = not (eqb (length file) (fileLength (bitBytes (sIn file)) (nIn file)))

@@ -11,7 +11,7 @@ use Rattle.keys.specs.Key.{rootKey}
 use Rattle.definitions.specs.List.{keysOf, valuesOf}
 use Rattle.definitions.specs.Read.{room, isList, isListOfBlock}
 use Rattle.definitions.specs.Buffer.{over}
-use Rattle.definitions.specs.File.{mIn, sIn, nIn, recordsInFile, tooShort, wrongMark, wrongVersion, wrongLength}
+use Rattle.definitions.specs.File.{mIn, sIn, nIn, recordsInFile, tooShort, wrongMark, wrongVersion, wrongSettings, wrongLength}
 use Rattle.definitions.specs.Refusal.{badSettings}
 use Rattle.definitions.specs.Calls.Store.{stored, storeRefusal, store, storeFile}
 use Rattle.definitions.specs.Calls.Load.{loadRefusal, load, loadKeys, loadBits}
@@ -53,7 +53,7 @@ pub record LoadAccepted (file keys bits : List ℕ) : Type 0 where
   pub long : tooShort file ≡ false
   pub marked : wrongMark file ≡ false
   pub versioned : wrongVersion file ≡ false
-  pub settings : badSettings (mIn file) (sIn file) ≡ false
+  pub settings : wrongSettings file ≡ false
   pub exact : wrongLength file ≡ false
   pub listed : isListOfBlock (mIn file) (sIn file) (mIn file) 0 0 rootKey (recordsInFile file) ≡ true
   pub roomy : nIn file ≤ room keys bits

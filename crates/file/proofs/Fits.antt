@@ -1,4 +1,4 @@
--- A list at good settings fits its file: each key into 4 bytes, each bitstring into 2, and their number into 4 (document 01, "The file"). Rests on
+-- A list at good settings fits its file: each key into 4 bytes, each bitstring into 2 or 4, and their number into 4 (document 01, "The file"). Rests on
 -- the laws of lists.
 use Prim.Native.Nat.{ℕ, suc, _^_, _≤_, _<_}
 use mathlib.Core.Path.{_≡_, ap}
@@ -9,9 +9,10 @@ use native.Mathlib.Omega.{arith}
 use lib.ListN.{length}
 use lib.Dec.{lit<, leb}
 use borrow.Author.Tests.{leb-true, le-leb}
-use Rattle.keys.specs.Key.{rootKey}
-use Rattle.keys.proofs.Cases.{and-left, and-right, and-both}
+use Rattle.keys.specs.Key.{rootKey, slotLimit}
+use Rattle.keys.proofs.Cases.{split, and-left, and-right, and-both}
 use Rattle.definitions.specs.List.{Record, listOf}
+use Rattle.definitions.specs.File.{firstSlots, bitBytes}
 use Rattle.definitions.specs.Read.{room, recordsOf, isListOfBlock, isList}
 use Rattle.definitions.proofs.Ascending.{key-below}
 use Rattle.definitions.proofs.BitsOf.{bits-below}
@@ -19,7 +20,7 @@ use Rattle.definitions.proofs.Features.{below-under}
 use Rattle.definitions.proofs.ListOf.{list-ascends, list-most}
 use Rattle.definitions.proofs.Listed.{listed-to, listed-under}
 use Rattle.definitions.proofs.IsList.{ShowsBlock, block-list-to}
-use Rattle.definitions.proofs.FileOf.{FitsFile, fits-file}
+use Rattle.definitions.proofs.FileOf.{FitsFile, fits-file, first-version, second-version}
 use Rattle.list.proofs.Tests.{GoodSettings}
 
 -- a list is the list of its own block, and there is room for it
@@ -38,23 +39,30 @@ unfolding isList
 list-whole m s keys bits n h e =
     and-both (leb n (room keys bits)) (isListOfBlock m s m 0 0 rootKey (recordsOf keys bits n)) (le-leb n (room keys bits) h) e
 
+-- a bitstring of s slots fits the bytes that s has: 16 slots into 2, and 32 into 4
+slots-fit : (s : ℕ) → s ≤ slotLimit → 2 ^ s ≤ 256 ^ bitBytes s
+slots-fit s few =
+    split firstSlots s
+    (λ h. rw (second-version s h .1) (pow-le-pow-right (lit< tt) few))
+    (λ h. rw (first-version s h .1) (pow-le-pow-right (lit< tt) h))
+
 module _ (m s : ℕ) (good : GoodSettings m s) (l : List Record) (is : isListOfBlock m s m 0 0 rootKey l ≡ true) where
   shown : ShowsBlock s m 0 0 rootKey l
   shown = block-list-to m s m 0 0 rootKey l is
 
-  -- every key is below 5 ^ 10, and every bitstring below 2 ^ 16
-  each : s ≤ 16 → (x : Record) → List·Memᴰ x (listOf (shown .picture) m 0 0 rootKey) → (x .key < 256 ^ 4) × (x .value < 256 ^ 2)
-  each few x h =
+  -- every key is below 5 ^ 10, and every bitstring below 2 ^ s
+  each : (x : Record) → List·Memᴰ x (listOf (shown .picture) m 0 0 rootKey) → (x .key < 256 ^ 4) × (x .value < 256 ^ bitBytes s)
+  each x h =
       let key = key-below (list-ascends (shown .picture) m 0 0 rootKey) h in
       let most : 5 ^ m ≤ 5 ^ 10 = pow-le-pow-right (lit< tt) (good .deep) in
       let at = listed-to (shown .picture) m 0 0 rootKey x h in
       let value = bits-below s (shown .picture) (at .height) (at .row) (at .column) (below-under s (shown .picture) (listed-under (at .listed)) (shown .below)) in
-      let wide : 2 ^ s ≤ 2 ^ 16 = pow-le-pow-right (lit< tt) few in
+      let wide = slots-fit s (good .few) in
       (omega arith, rw (at .is) (omega arith))
 
   -- the list's records fit a file
-  pub list-fits : s ≤ 16 → FitsFile l
-  list-fits few = rw (shown .is) (fits-file (listOf (shown .picture) m 0 0 rootKey) (each few))
+  pub list-fits : FitsFile (bitBytes s) l
+  list-fits = rw (shown .is) (fits-file (bitBytes s) (listOf (shown .picture) m 0 0 rootKey) each)
 
   -- their number does
   pub list-short : length l < 256 ^ 4

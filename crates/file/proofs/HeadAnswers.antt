@@ -1,15 +1,16 @@
 -- The answers of the test of a file's head, one for each way out of the code, and how they stand to load's own table. Rests on the laws of
 -- tables.
-use Prim.Native.Nat.{ℕ, _+_, _*_, _≤_, _<_}
+use Prim.Native.Nat.{ℕ, _≤_, _<_}
 use mathlib.Core.Path.{_≡_, refl, sym, ap, ap₂, _∙_}
 use mathlib.Core.Bool.{true, false, not}
 use mathlib.Core.List.{List}
 use lib.ListN.{length}
 use borrow.Author.Tests.{lt-ltb, le-ltb, ltb-false, eq-eqb, ne-eqb, eqb-true, not-false}
-use Rattle.definitions.specs.File.{mIn, sIn, nIn, versionIn, tooShort, wrongMark, wrongVersion, wrongLength}
-use Rattle.definitions.specs.Refusal.{badSettings}
+use Rattle.definitions.specs.File.{bitBytes, fileLength, mIn, sIn, nIn, tooShort, wrongMark, wrongVersion, wrongSettings, wrongLength}
 use Rattle.definitions.specs.Calls.Load.{loadRefusal}
 use Rattle.definitions.proofs.First.{this, later, holds-first, first-holds, first-none, none-first, holds-more}
+use Rattle.definitions.specs.Refusal.{badSettings}
+use Rattle.definitions.proofs.FileBack.{settings-good}
 use Rattle.list.proofs.Tests.{good-settings}
 use Rattle.file.specs.Room.{Exact}
 use Rattle.file.specs.Head.{headRows, headRefusal}
@@ -19,7 +20,7 @@ pub record HeadAccepted (file : List ℕ) : Type 0 where
   pub long : tooShort file ≡ false
   pub marked : wrongMark file ≡ false
   pub versioned : wrongVersion file ≡ false
-  pub settings : badSettings (mIn file) (sIn file) ≡ false
+  pub settings : wrongSettings file ≡ false
   pub exact : wrongLength file ≡ false
 
 -- where the head gives 0, none of them holds
@@ -57,31 +58,28 @@ module _ (file : List ℕ) where
 
     module _ (marked : wrongMark file ≡ false) where
       -- 17
-      pub version-head : (versionIn file ≡ 1 → ⊥) → 17 ≡ headRefusal file
+      pub version-head : wrongVersion file ≡ true → 17 ≡ headRefusal file
       unfolding headRefusal
-      version-head h = sym (holds-first {rows = headRows file} (later not-short (later marked (this (ap not (ne-eqb (versionIn file) 1 h)) refl))))
+      version-head e = sym (holds-first {rows = headRows file} (later not-short (later marked (this e refl))))
 
-      module _ (versioned : versionIn file ≡ 1) where
-        right-version : wrongVersion file ≡ false
-        right-version = ap not (eq-eqb (versionIn file) 1 versioned)
-
+      module _ (versioned : wrongVersion file ≡ false) where
         -- 1
-        pub settings-head : badSettings (mIn file) (sIn file) ≡ true → 1 ≡ headRefusal file
+        pub settings-head : wrongSettings file ≡ true → 1 ≡ headRefusal file
         unfolding headRefusal
-        settings-head e = sym (holds-first {rows = headRows file} (later not-short (later marked (later right-version (this e refl)))))
+        settings-head e = sym (holds-first {rows = headRows file} (later not-short (later marked (later versioned (this e refl)))))
 
-        module _ (good : badSettings (mIn file) (sIn file) ≡ false) where
+        module _ (good : wrongSettings file ≡ false) where
           -- 15: the length
-          pub length-head : (length file ≡ 11 + 6 * nIn file → ⊥) → 15 ≡ headRefusal file
+          pub length-head : (length file ≡ fileLength (bitBytes (sIn file)) (nIn file) → ⊥) → 15 ≡ headRefusal file
           unfolding headRefusal
           length-head h =
-              sym (holds-first {rows = headRows file} (later not-short (later marked (later right-version (later good (this (ap not (ne-eqb (length file) (11 + 6 * nIn file) h)) refl))))))
+              sym (holds-first {rows = headRows file} (later not-short (later marked (later versioned (later good (this (ap not (ne-eqb (length file) (fileLength (bitBytes (sIn file)) (nIn file)) h)) refl))))))
 
           -- none
-          pub good-head : length file ≡ 11 + 6 * nIn file → 0 ≡ headRefusal file
+          pub good-head : length file ≡ fileLength (bitBytes (sIn file)) (nIn file) → 0 ≡ headRefusal file
           unfolding headRefusal
           good-head e =
-              sym (none-first (headRows file) (not-short, (marked, (right-version, (good, (ap not (eq-eqb (length file) (11 + 6 * nIn file) e), tt))))))
+              sym (none-first (headRows file) (not-short, (marked, (versioned, (good, (ap not (eq-eqb (length file) (fileLength (bitBytes (sIn file)) (nIn file)) e), tt))))))
 
 -- an accepted head is long enough
 pub head-long : (file : List ℕ) → 0 ≡ headRefusal file → 11 ≤ length file
@@ -91,6 +89,12 @@ head-long file e = ltb-false (length file) 11 (head-accepted file (sym e) .long)
 pub head-exact : (file : List ℕ) (m s n : ℕ) → 0 ≡ headRefusal file → m ≡ mIn file → s ≡ sIn file → n ≡ nIn file → Exact m s n file
 head-exact file m s n e m-is s-is n-is =
     let a = head-accepted file (sym e) in
-    let good = good-settings m s (ap₂ badSettings m-is s-is ∙ a .settings) in
-    let ends : length file ≡ 11 + 6 * nIn file = eqb-true (length file) (11 + 6 * nIn file) (not-false _ (a .exact)) in
-    record { deepest = good .deep; slots = good .few; many = n-is; ends = ends ∙ ap (λ k. 11 + 6 * k) (sym n-is) }
+    let good = good-settings m s (ap₂ badSettings m-is s-is ∙ settings-good _ (mIn file) (sIn file) (a .settings)) in
+    let ends : length file ≡ fileLength (bitBytes (sIn file)) (nIn file) = eqb-true _ _ (not-false _ (a .exact)) in
+    record {
+      deepest = good .deep;
+      slots = good .few;
+      slots-are = s-is;
+      many = n-is;
+      ends = ends ∙ ap₂ (λ k n. fileLength (bitBytes k) n) (sym s-is) (sym n-is);
+    }

@@ -1,6 +1,8 @@
 pub mod NumberBytes
 pub mod Marked
 pub mod Stores
+pub mod Laid
+pub mod Versions
 pub mod RecordBytes
 pub mod ReadBytes
 pub mod Fits

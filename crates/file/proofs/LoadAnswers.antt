@@ -1,22 +1,24 @@
 -- The answers of load, one for each way out of the code: the number that its table gives, its result, and what it leaves in the two slices. Rests on
 -- the laws of tables, Accepted and HeadAnswers.
-use Prim.Native.Nat.{ℕ, _+_, _*_, _≤_, _<_}
-use mathlib.Core.Path.{_≡_, refl, sym, ap, _∙_}
+use Prim.Native.Nat.{ℕ, _≤_, _<_}
+use mathlib.Core.Path.{_≡_, refl, sym, ap, ap₂, _∙_}
 use mathlib.Core.Bool.{true, false, not}
 use mathlib.Core.List.{List}
 use native.Mathlib.Omega.{arith}
-use lib.ListN.{length, drop}
+use lib.ListN.{length}
 use borrow.Author.Tests.{lt-ltb, ltb-false, eqb-true, not-false}
 use Rattle.keys.specs.Key.{rootKey}
 use Rattle.definitions.specs.List.{keysOf, valuesOf}
 use Rattle.definitions.specs.Read.{room, isListOfBlock}
 use Rattle.definitions.specs.Buffer.{over}
-use Rattle.definitions.specs.File.{mIn, sIn, nIn, readRecords, recordsInFile}
+use Rattle.definitions.specs.File.{bitBytes, fileLength, mIn, sIn, nIn, recordsInFile}
 use Rattle.definitions.specs.Refusal.{accepted}
 use Rattle.definitions.specs.Calls.Load.{loadRefusal, load, loadKeys, loadBits}
 use Rattle.definitions.specs.declared.Loaded.{Loaded}
 use Rattle.definitions.proofs.First.{this, later, holds-first, accepted-left}
+use Rattle.definitions.proofs.FileOf.{width-of}
 use Rattle.file.specs.Head.{headRefusal}
+use Rattle.file.specs.Layout.{keysAt, valuesAt}
 use Rattle.file.specs.Room.{RoomFor}
 use Rattle.file.proofs.Accepted.{LoadAccepted, load-accepted, load-accepts}
 use Rattle.file.proofs.HeadAnswers.{HeadAccepted, head-accepted}
@@ -97,23 +99,29 @@ module _ (file keys bits : List ℕ) where
     long = ltb-false (length file) 11 (b .long)
 
     -- and its records have room
-    pub room-for : (n : ℕ) → n ≡ nIn file → RoomFor n keys bits file
-    room-for n n-is =
+    pub room-for : (s w n : ℕ) → s ≡ sIn file → w ≡ bitBytes s → n ≡ nIn file → RoomFor w n keys bits file
+    room-for s w n s-is w-is n-is =
         let h = b .roomy in
-        let ends : length file ≡ 11 + 6 * nIn file = eqb-true (length file) (11 + 6 * nIn file) (not-false _ (b .exact)) in
-        record { in-keys = omega arith; in-bits = omega arith; in-file = omega arith }
+        let same : w ≡ bitBytes (sIn file) = w-is ∙ ap bitBytes s-is in
+        let ends : length file ≡ fileLength (bitBytes (sIn file)) (nIn file) = eqb-true _ _ (not-false _ (b .exact)) in
+        record {
+          in-keys = omega arith;
+          in-bits = omega arith;
+          in-file = rw (same, n-is) (record { width-is = width-of (sIn file); there = omega arith });
+        }
 
     -- the records read are what load leaves
-    pub all-loaded : (m s n : ℕ) (keys′ bits′ : List ℕ) → m ≡ mIn file → s ≡ sIn file → n ≡ nIn file
-        → keys′ ≡ over (keysOf (readRecords n (drop 11 file))) keys
-        → bits′ ≡ over (valuesOf (readRecords n (drop 11 file))) bits
+    pub all-loaded : (m s w n : ℕ) (keys′ bits′ : List ℕ) → m ≡ mIn file → s ≡ sIn file → w ≡ bitBytes s → n ≡ nIn file
+        → keys′ ≡ over (keysAt w n file) keys
+        → bits′ ≡ over (valuesAt w n file) bits
         → LoadedAs (record { refusal = 0; m = m; s = s; n = n }) keys′ bits′
     unfolding recordsInFile
-    all-loaded m s n keys′ bits′ m-is s-is n-is e f =
-        let told = by-number 0 (sym none) in (
+    all-loaded m s w n keys′ bits′ m-is s-is w-is n-is e f =
+        let told = by-number 0 (sym none) in
+        let same : w ≡ bitBytes (sIn file) = w-is ∙ ap bitBytes s-is in (
           (λ i. record { refusal = 0; m = m-is i; s = s-is i; n = n-is i }) ∙ told .0,
           (
-            e ∙ ap (λ k. over (keysOf (readRecords k (drop 11 file))) keys) n-is ∙ told .1 .0,
-            f ∙ ap (λ k. over (valuesOf (readRecords k (drop 11 file))) bits) n-is ∙ told .1 .1,
+            e ∙ ap₂ (λ w n. over (keysAt w n file) keys) same n-is ∙ told .1 .0,
+            f ∙ ap₂ (λ w n. over (valuesAt w n file) bits) same n-is ∙ told .1 .1,
           ),
         )

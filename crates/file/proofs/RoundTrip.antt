@@ -1,6 +1,6 @@
 -- Store and load undo each other, as their promises state them: a list stored and loaded is the same list, a file loaded and stored is the same
 -- bytes, and one list has one file (document 01, "The file"). Rests on Accepted, Fits, SliceRecords and the laws of files.
-use Prim.Native.Nat.{ℕ, _≤_}
+use Prim.Native.Nat.{ℕ, _≤_, _<_}
 use mathlib.Core.Path.{_≡_, refl, sym, ap, ap₂, _∙_}
 use mathlib.Core.Bool.{true, false}
 use mathlib.Core.List.{List}
@@ -11,13 +11,13 @@ use Rattle.keys.specs.Key.{rootKey}
 use Rattle.definitions.specs.List.{Record, keysOf, valuesOf}
 use Rattle.definitions.specs.Read.{room, recordsOf, isListOfBlock}
 use Rattle.definitions.specs.Buffer.{over}
-use Rattle.definitions.specs.File.{fileOf, mIn, sIn, nIn, recordsInFile}
+use Rattle.definitions.specs.File.{bitBytes, fileOf, mIn, sIn, nIn, recordsInFile}
 use Rattle.definitions.specs.Refusal.{badSettings}
 use Rattle.definitions.specs.Calls.Store.{stored, storeRefusal, store, storeFile}
 use Rattle.definitions.specs.Calls.Load.{loadRefusal, load, loadKeys, loadBits}
 use Rattle.definitions.proofs.FileBytes.{Bytes}
-use Rattle.definitions.proofs.FileOf.{read-m, read-s, read-n, read-records, written-mark, written-version, written-length, written-not-short}
-use Rattle.definitions.proofs.FileBack.{length-read, file-back}
+use Rattle.definitions.proofs.FileOf.{read-m, read-s, read-n, read-records, written-mark, written-version, written-settings, written-length, written-not-short}
+use Rattle.definitions.proofs.FileBack.{length-read, settings-good, file-back}
 use Rattle.definitions.proofs.Records.{records-length, records-over}
 use Rattle.list.proofs.Tests.{good-settings}
 use Rattle.file.proofs.Accepted.{StoreAccepted, store-accepted, store-accepts, store-count, store-leaves, LoadAccepted, load-accepted, load-accepts, load-gives, load-leaves}
@@ -27,7 +27,7 @@ use Rattle.file.proofs.SliceRecords.{past-over, over-room}
 -- as many records are in a file as it says
 in-file : (file : List ℕ) → length (recordsInFile file) ≡ nIn file
 unfolding recordsInFile
-in-file file = length-read (nIn file) (drop 11 file)
+in-file file = length-read (bitBytes (sIn file)) (nIn file) (drop 11 file)
 
 -- load gives m, s, n and leaves the records l as the first n; the places past them stay
 pub record LoadsList (file keys bits : List ℕ) (m s n : ℕ) (l : List Record) : Type 0 where
@@ -44,22 +44,24 @@ loads-records file keys bits e =
     ap₂ (λ ks bs. recordsOf ks bs (nIn file)) (left .0) (left .1) ∙ records-over (recordsInFile file) (nIn file) keys bits (in-file file)
 
 -- the file of a list at good settings is accepted wherever there is room
-file-accepted : (m s n : ℕ) (l : List Record) (keys bits : List ℕ) → badSettings m s ≡ false → s ≤ 16 → isListOfBlock m s m 0 0 rootKey l ≡ true → length l ≡ n
+file-accepted : (m s n : ℕ) (l : List Record) (keys bits : List ℕ) → badSettings m s ≡ false → isListOfBlock m s m 0 0 rootKey l ≡ true → length l ≡ n
     → n ≤ room keys bits → LoadsList (fileOf m s l) keys bits m s n l
-file-accepted m s n l keys bits settings two is many roomy =
+file-accepted m s n l keys bits settings is many roomy =
     let good = good-settings m s settings in
     let file = fileOf m s l in
     let short = list-short m s good l is in
-    let m-is : mIn file ≡ m = read-m m s l (omega (arith, good .deep)) in
-    let s-is : sIn file ≡ s = read-s m s l (omega (arith, good .few)) in
+    let small-m : m < 256 = omega (arith, good .deep) in
+    let small-s : s < 256 = omega (arith, good .few) in
+    let m-is : mIn file ≡ m = read-m m s l small-m in
+    let s-is : sIn file ≡ s = read-s m s l small-s in
     let n-is : nIn file ≡ n = read-n m s l short ∙ many in
-    let l-is : recordsInFile file ≡ l = read-records m s l short (list-fits m s good l is two) in
+    let l-is : recordsInFile file ≡ l = read-records m s l small-s short (list-fits m s good l is) in
     let none : LoadAccepted file keys bits = record {
       long = written-not-short m s l;
       marked = written-mark m s l;
-      versioned = written-version m s l;
-      settings = rw (m-is, s-is) settings;
-      exact = written-length m s l short;
+      versioned = written-version m s l small-s;
+      settings = written-settings m s l small-m small-s settings;
+      exact = written-length m s l small-s short;
       listed = rw (m-is, s-is, l-is) is;
       roomy = rw n-is roomy;
     } in
@@ -76,7 +78,7 @@ file-is : (file keys bits : List ℕ) → Bytes file → loadRefusal file keys b
     → fileOf (mIn file) (sIn file) (recordsOf (loadKeys file keys bits) (loadBits file keys bits) (nIn file)) ≡ file
 file-is file keys bits bytes e =
     let a = load-accepted file keys bits e in
-    ap (fileOf (mIn file) (sIn file)) (loads-records file keys bits e) ∙ file-back file bytes (a .long) (a .marked) (a .versioned) (a .exact)
+    ap (fileOf (mIn file) (sIn file)) (loads-records file keys bits e) ∙ file-back file bytes (a .long) (a .marked) (a .versioned) (a .settings) (a .exact)
 
 -- what store leaves, as long as it says, is the list's file
 pub stored-bytes : (m s : ℕ) (keys bits : List ℕ) (n : ℕ) (buffer : List ℕ) → storeRefusal m s keys bits n buffer ≡ 0
@@ -87,13 +89,13 @@ stored-bytes m s keys bits n buffer e =
     ∙ take-append-seam (fileOf m s (recordsOf keys bits n)) _
 
 -- load after store gives the list back, in any buffers with room
-pub load-after-store : (m s : ℕ) (keys bits : List ℕ) (n : ℕ) (buffer keys′ bits′ : List ℕ) → storeRefusal m s keys bits n buffer ≡ 0 → s ≤ 16 → n ≤ room keys′ bits′
+pub load-after-store : (m s : ℕ) (keys bits : List ℕ) (n : ℕ) (buffer keys′ bits′ : List ℕ) → storeRefusal m s keys bits n buffer ≡ 0 → n ≤ room keys′ bits′
     → LoadsList (take (store m s keys bits n buffer .count) (storeFile m s keys bits n buffer)) keys′ bits′ m s n (recordsOf keys bits n)
-load-after-store m s keys bits n buffer keys′ bits′ e two roomy =
+load-after-store m s keys bits n buffer keys′ bits′ e roomy =
     let a = store-accepted m s keys bits n buffer e in
     let parts = list-parts m s keys bits n (a .listed) in
     let many : length (recordsOf keys bits n) ≡ n = records-length keys bits n (omega (arith, parts .0)) (omega (arith, parts .0)) in
-    rw (stored-bytes m s keys bits n buffer e) (file-accepted m s n (recordsOf keys bits n) keys′ bits′ (a .settings) two (parts .1) many roomy)
+    rw (stored-bytes m s keys bits n buffer e) (file-accepted m s n (recordsOf keys bits n) keys′ bits′ (a .settings) (parts .1) many roomy)
 
 -- store gives the file's length and leaves its bytes over what the buffer held
 pub record StoresFile (m s : ℕ) (keys bits : List ℕ) (n : ℕ) (buffer file : List ℕ) : Type 0 where
@@ -113,7 +115,7 @@ store-after-load file keys bits buffer bytes e long =
     let same = file-is file keys bits bytes e in
     let roomy : nIn file ≤ room ks bs = rw (left .0, left .1) (over-room (recordsInFile file) (nIn file) keys bits (in-file file) (a .roomy)) in
     let none : StoreAccepted (mIn file) (sIn file) ks bs (nIn file) buffer = record {
-      settings = a .settings;
+      settings = settings-good _ (mIn file) (sIn file) (a .settings);
       listed = list-whole (mIn file) (sIn file) ks bs (nIn file) roomy (rw l-is (a .listed));
       roomy = rw same long;
     } in

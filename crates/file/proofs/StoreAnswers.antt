@@ -1,7 +1,7 @@
 -- The answers of store, one for each way out of the code: its result and what it leaves in the file's buffer. Rests on the laws of tables, Accepted,
 -- Stores and FileOf.
 use Prim.Native.Nat.{ℕ, _+_, _*_, _^_, _≤_, _<_}
-use mathlib.Core.Path.{_≡_, refl, sym, ap, _∙_}
+use mathlib.Core.Path.{_≡_, refl, sym, ap, ap₂, _∙_}
 use mathlib.Core.Bool.{true, false, cond, not}
 use mathlib.Core.List.{List, _++_}
 use native.Mathlib.Omega.{arith}
@@ -11,7 +11,7 @@ use lib.Dec.{eqb}
 use borrow.Author.Tests.{lt-ltb}
 use Rattle.definitions.specs.Read.{room, recordsOf, isList}
 use Rattle.definitions.specs.Buffer.{over}
-use Rattle.definitions.specs.File.{headOf, bytesOfRecords, fileOf}
+use Rattle.definitions.specs.File.{bitBytes, fileLength, headOf, bytesOfRecords, fileOf}
 use Rattle.definitions.specs.Refusal.{accepted, badSettings}
 use Rattle.definitions.specs.Calls.Store.{stored, storeRefusal, store, storeFile}
 use Rattle.definitions.specs.declared.Counted.{Counted}
@@ -64,29 +64,29 @@ module _ (m s : ℕ) (keys bits : List ℕ) (n : ℕ) (file : List ℕ) where
       few = rw many at (list-short m s (good-settings m s good) (recordsOf keys bits n) (list-parts m s keys bits n list .1))
 
       -- the bytes needed
-      pub needed : length (stored m s keys bits n) ≡ 11 + 6 * n
+      pub needed : length (stored m s keys bits n) ≡ fileLength (bitBytes s) n
       unfolding stored
-      needed = length-file m s (recordsOf keys bits n) ∙ ap (λ k. 11 + 6 * k) many
+      needed = length-file m s (recordsOf keys bits n) ∙ ap (fileLength (bitBytes s)) many
 
       -- 12
-      pub no-room : length file < 11 + 6 * n → Stored (record { refusal = 12; count = 11 + 6 * n }) file
+      pub no-room : (k : ℕ) → k ≡ fileLength (bitBytes s) n → length file < k → Stored (record { refusal = 12; count = k }) file
       unfolding storeRefusal
-      no-room h =
+      no-room k k-is h =
           let e = needed in
           let told = by-number 12 (holds-first (later good (later (ap not list) (this (lt-ltb (length file) (length (stored m s keys bits n)) (omega arith)) refl)))) in
-          ((λ i. record { refusal = 12; count = sym needed i }) ∙ told .0, told .1)
+          ((λ i. record { refusal = 12; count = (k-is ∙ sym needed) i }) ∙ told .0, told .1)
 
       -- the head and then the records, stored one after the other, are the file
-      pub all-stored : (headed whole : List ℕ) → 11 + 6 * n ≤ length file → headed ≡ sets file 0 (headOf m s n)
-          → whole ≡ sets headed 11 (bytesOfRecords (recordsOf keys bits n)) → Stored (record { refusal = 0; count = 11 + 6 * n }) whole
+      pub all-stored : (w k : ℕ) (headed whole : List ℕ) → w ≡ bitBytes s → k ≡ fileLength (bitBytes s) n → k ≤ length file → headed ≡ sets file 0 (headOf m s n)
+          → whole ≡ sets headed 11 (bytesOfRecords w (recordsOf keys bits n)) → Stored (record { refusal = 0; count = k }) whole
       unfolding stored fileOf
-      all-stored headed whole h e f =
+      all-stored w k headed whole w-is k-is h e f =
           let size = needed in
           let told = by-number 0 (store-accepts m s keys bits n file (record { settings = good; listed = list; roomy = omega arith })) in
-          let bytes = bytesOfRecords (recordsOf keys bits n) in
+          let bytes = bytesOfRecords (bitBytes s) (recordsOf keys bits n) in
           let written : whole ≡ over (stored m s keys bits n) file
-          = f ∙ ap (λ x. sets x 11 bytes) e
+          = f ∙ ap₂ (λ x w. sets x 11 (bytesOfRecords w (recordsOf keys bits n))) e w-is
           ∙ sym (head-then file m s n bytes)
           ∙ ap (λ k. sets file 0 (headOf m s k ++ bytes)) (sym many)
           ∙ sets-over (stored m s keys bits n) file (omega arith) in
-          ((λ i. record { refusal = 0; count = sym needed i }) ∙ told .0, written ∙ told .1)
+          ((λ i. record { refusal = 0; count = (k-is ∙ sym needed) i }) ∙ told .0, written ∙ told .1)

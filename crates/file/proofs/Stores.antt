@@ -7,7 +7,7 @@ use native.Mathlib.Nat.{add-zero, div-one}
 use native.Mathlib.Omega.{arith}
 use lib.ListN.{length, set}
 use lib.Seq.{sets}
-use Rattle.definitions.specs.File.{bytesOf, headOf, mark, version}
+use Rattle.definitions.specs.File.{versionFor, bytesOf, headOf, mark}
 
 -- what is stored from a place on, and then what is stored after it
 pub sets-append : (l : List ℕ) (i : ℕ) (a b : List ℕ) → sets l i (a ++ b) ≡ sets (sets l i a) (i + length a) b
@@ -17,10 +17,11 @@ sets-append l i (x ∷ a) b =
     sets-append (set l i x) (suc i) a b ∙ ap (λ k. sets (sets (set l i x) (suc i) a) k b) next
 
 -- the mark, the version, m, s and n stored one after the other are the head
-pub head-stores : (m s n : ℕ) (old marked versioned whole : List ℕ) → marked ≡ sets old 0 mark → versioned ≡ sets marked 3 (bytesOf 2 version)
+pub head-stores : (m s n version : ℕ) (old marked versioned whole : List ℕ) → version ≡ versionFor s → marked ≡ sets old 0 mark
+    → versioned ≡ sets marked 3 (bytesOf 2 version)
     → whole ≡ sets (set (set versioned 5 (m % 256)) 6 (s % 256)) 7 (bytesOf 4 n) → whole ≡ sets old 0 (headOf m s n)
 unfolding headOf bytesOf
-head-stores m s n old marked versioned whole e f g = g ∙ rw (f, e, div-one m, div-one s)
+head-stores m s n version old marked versioned whole v e f g = g ∙ rw (f, e, v, div-one m, div-one s)
 
 length-head : (m s n : ℕ) → 0 + length (headOf m s n) ≡ 11
 unfolding headOf bytesOf

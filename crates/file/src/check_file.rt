@@ -3,69 +3,68 @@
 ghost use mathlib.Core.Path.{_≡_};
 ghost use mathlib.Core.Bool.{true, cond};
 ghost use Prim.Native.Nat.{ℕ, _+_, _*_, _^_, _≤_, _<_};
-ghost use lib.ListN.{length, drop};
+ghost use lib.ListN.{drop};
 ghost use Rattle.keys.specs.Key.{rootKey};
 ghost use Rattle.definitions.specs.Read.{isListOfBlock};
-ghost use Rattle.definitions.specs.File.{nIn, recordsInFile};
+ghost use Rattle.definitions.specs.File.{recordsInFile};
 ghost use Rattle.list.specs.Check.{placeOf, afterNode, stepUnder};
+ghost use Rattle.file.specs.Layout.{recordsAt, Laid};
 ghost use Rattle.file.specs.Room.{Exact};
-use crate::bytes;
+use crate::layout;
 use keys::Key;
 use keys::power;
 use list::check;
 
 // After the own record of a node of height 1: whether the next four records are its pixels. Heights 1 and 2 have functions of their own, as in
 // the check of two slices.
-fn four_pixels(file: &[u8], first: usize, key: u32, own: u32) -> bool
-    requires { ⌜ (length (now file) ≡ 11 + 6 * nIn (now file)) × (first ≤ nIn (now file)) × (key + 5 < 2 ^ 32) ⌝ }
-    ensures { λ r. ⌜ (r ≡ true → first + 4 ≤ nIn (now (file .entry)))
-        × (cond r (first + 4) 0 ≡ placeOf (nIn (now (file .entry))) (afterNode 1 key own (drop first (recordsInFile (now (file .entry)))))) ⌝ }
+fn four_pixels(file: &[u8], width: usize, n: usize, first: usize, key: u32, own: u32) -> bool
+    requires { ⌜ Laid width n (now file) × (first ≤ n) × (key + 5 < 2 ^ 32) ⌝ }
+    ensures { λ r. ⌜ (r ≡ true → first + 4 ≤ n)
+        × (cond r (first + 4) 0 ≡ placeOf n (afterNode 1 key own (drop first (recordsAt width n (now (file .entry)))))) ⌝ }
 {
-    let place = 11 + 6 * first;
-    if file.len() - place < 24 {
+    if n - first < 4 {
         return false;
     }
-    let a = bytes::u16_at(file, place + 4);
-    if !check::is_leaf(bytes::u32_at(file, place), a, key + 1) {
+    let a = layout::bits_at(file, width, first);
+    if !check::is_leaf(layout::key_at(file, width, first), a, key + 1) {
         return false;
     }
-    let b = bytes::u16_at(file, place + 10);
-    if !check::is_leaf(bytes::u32_at(file, place + 6), b, key + 2) {
+    let b = layout::bits_at(file, width, first + 1);
+    if !check::is_leaf(layout::key_at(file, width, first + 1), b, key + 2) {
         return false;
     }
-    let c = bytes::u16_at(file, place + 16);
-    if !check::is_leaf(bytes::u32_at(file, place + 12), c, key + 3) {
+    let c = layout::bits_at(file, width, first + 2);
+    if !check::is_leaf(layout::key_at(file, width, first + 2), c, key + 3) {
         return false;
     }
-    let d = bytes::u16_at(file, place + 22);
-    if !check::is_leaf(bytes::u32_at(file, place + 18), d, key + 4) {
+    let d = layout::bits_at(file, width, first + 3);
+    if !check::is_leaf(layout::key_at(file, width, first + 3), d, key + 4) {
         return false;
     }
     (a | b | c | d) == own
 }
 
 // `after_node` at height 2.
-fn after_sixteen(file: &[u8], first: usize, key: u32, own: u32) -> usize
-    requires { ⌜ (length (now file) ≡ 11 + 6 * nIn (now file)) × (first ≤ nIn (now file)) × (key + 25 < 2 ^ 32) ⌝ }
-    ensures { λ r. ⌜ (r ≤ nIn (now (file .entry)))
-        × (r ≡ placeOf (nIn (now (file .entry))) (afterNode 2 key own (drop first (recordsInFile (now (file .entry)))))) ⌝ }
+fn after_sixteen(file: &[u8], width: usize, n: usize, first: usize, key: u32, own: u32) -> usize
+    requires { ⌜ Laid width n (now file) × (first ≤ n) × (key + 25 < 2 ^ 32) ⌝ }
+    ensures { λ r. ⌜ (r ≤ n)
+        × (r ≡ placeOf n (afterNode 2 key own (drop first (recordsAt width n (now (file .entry)))))) ⌝ }
 {
     let mut next = first;
     let mut union = 0;
     let mut quadrant = 1;
     while quadrant < 5 {
-        let place = 11 + 6 * next;
-        if file.len() <= place {
+        if n <= next {
             return 0;
         }
         let child = key + quadrant * 5;
-        if bytes::u32_at(file, place) != child {
+        if layout::key_at(file, width, next) != child {
             return 0;
         }
-        let found = bytes::u16_at(file, place + 4);
+        let found = layout::bits_at(file, width, next);
         next += 1;
         if !check::has_one_slot(found) {
-            if !four_pixels(file, next, child, found) {
+            if !four_pixels(file, width, n, next, child, found) {
                 return 0;
             }
             next += 4;
@@ -77,20 +76,28 @@ fn after_sixteen(file: &[u8], first: usize, key: u32, own: u32) -> usize
 }
 
 // `after_node` below height 3. A pixel is no node.
-fn after_low(file: &[u8], first: usize, key: u32, own: u32, step: u32) -> usize
-    requires { ⌜ (length (now file) ≡ 11 + 6 * nIn (now file)) × (first ≤ nIn (now file)) × (step < 25) × (key + 5 * step < 2 ^ 32) ⌝ }
-    ensures { λ r. ⌜ (r ≤ nIn (now (file .entry)))
+fn after_low(
+    file: &[u8],
+    width: usize,
+    n: usize,
+    first: usize,
+    key: u32,
+    own: u32,
+    step: u32,
+) -> usize
+    requires { ⌜ Laid width n (now file) × (first ≤ n) × (step < 25) × (key + 5 * step < 2 ^ 32) ⌝ }
+    ensures { λ r. ⌜ (r ≤ n)
         × ((k : ℕ)
         → step ≡ stepUnder k
-        → r ≡ placeOf (nIn (now (file .entry))) (afterNode k key own (drop first (recordsInFile (now (file .entry)))))) ⌝ }
+        → r ≡ placeOf n (afterNode k key own (drop first (recordsAt width n (now (file .entry)))))) ⌝ }
 {
     if step == 5 {
-        return after_sixteen(file, first, key, own);
+        return after_sixteen(file, width, n, first, key, own);
     }
     if step != 1 {
         return 0;
     }
-    if four_pixels(file, first, key, own) {
+    if four_pixels(file, width, n, first, key, own) {
         first + 4
     } else {
         0
@@ -99,36 +106,43 @@ fn after_low(file: &[u8], first: usize, key: u32, own: u32, step: u32) -> usize
 
 // After a node's own record: the place after its last record, or 0 where what follows are not its four children. A leaf among them is passed
 // here, so that only nodes are called for, and those of height 2 without recursion.
-fn after_node(file: &[u8], first: usize, key: u32, own: u32, step: u32) -> usize
-    requires { ⌜ (length (now file) ≡ 11 + 6 * nIn (now file)) × (first ≤ nIn (now file)) × (key + 5 * step < 2 ^ 32) ⌝ }
-    ensures { λ r. ⌜ (r ≤ nIn (now (file .entry)))
+fn after_node(
+    file: &[u8],
+    width: usize,
+    n: usize,
+    first: usize,
+    key: u32,
+    own: u32,
+    step: u32,
+) -> usize
+    requires { ⌜ Laid width n (now file) × (first ≤ n) × (key + 5 * step < 2 ^ 32) ⌝ }
+    ensures { λ r. ⌜ (r ≤ n)
         × ((k : ℕ)
         → step ≡ stepUnder k
-        → r ≡ placeOf (nIn (now (file .entry))) (afterNode k key own (drop first (recordsInFile (now (file .entry)))))) ⌝ }
+        → r ≡ placeOf n (afterNode k key own (drop first (recordsAt width n (now (file .entry)))))) ⌝ }
 {
     if step < 25 {
-        return after_low(file, first, key, own, step);
+        return after_low(file, width, n, first, key, own, step);
     }
     let lower = step / 5;
     let mut next = first;
     let mut union = 0;
     let mut digit = 1;
     while digit < 5 {
-        let place = 11 + 6 * next;
-        if file.len() <= place {
+        if n <= next {
             return 0;
         }
         let child = key + digit * step;
-        if bytes::u32_at(file, place) != child {
+        if layout::key_at(file, width, next) != child {
             return 0;
         }
-        let found = bytes::u16_at(file, place + 4);
+        let found = layout::bits_at(file, width, next);
         next += 1;
         if !check::has_one_slot(found) {
             if lower == 5 {
-                next = after_sixteen(file, next, child, found);
+                next = after_sixteen(file, width, n, next, child, found);
             } else {
-                next = after_node(file, next, child, found, lower);
+                next = after_node(file, width, n, next, child, found, lower);
             }
             if next == 0 {
                 return 0;
@@ -148,10 +162,11 @@ pub fn holds_list(file: &[u8], m: u32, s: u32, n: usize) -> bool
     if n == 0 {
         return false;
     }
-    if bytes::u32_at(file, 11) != Key::ROOT {
+    let width = layout::width(s);
+    if layout::key_at(file, width, 0) != Key::ROOT {
         return false;
     }
-    let own = bytes::u16_at(file, 15);
+    let own = layout::bits_at(file, width, 0);
     if !power::slots_below(own, s) {
         return false;
     }
@@ -159,5 +174,5 @@ pub fn holds_list(file: &[u8], m: u32, s: u32, n: usize) -> bool
         return n == 1;
     }
     let step = power::power_of_five(m) / 5;
-    after_node(file, 1, Key::ROOT, own, step) == n
+    after_node(file, width, n, 1, Key::ROOT, own, step) == n
 }

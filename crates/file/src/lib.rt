@@ -2,6 +2,7 @@
 pub mod bytes;
 pub mod check_file;
 pub mod head;
+pub mod layout;
 pub mod load;
 pub mod mark;
 pub mod records;

@@ -7,6 +7,7 @@ ghost use Rattle.definitions.specs.Calls.Load.{loadRefusal, load, loadKeys, loa
 use crate::bytes;
 use crate::check_file;
 use crate::head;
+use crate::layout;
 use crate::records;
 use definitions::Loaded;
 
@@ -54,7 +55,7 @@ pub fn load(file: &[u8], keys: &mut [u32], bits: &mut [u32]) -> Loaded
     let m = bytes::u8_at(file, 5);
     let s = bytes::u8_at(file, 6);
     let n = bytes::u32_at(file, 7);
-    records::read(file, n as usize, keys, bits);
+    records::read(layout::width(s), file, n as usize, keys, bits);
     Loaded {
         refusal: 0,
         m: m as u64,

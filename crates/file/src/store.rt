@@ -2,6 +2,7 @@
 ghost use mathlib.Core.Path.{_≡_};
 ghost use Rattle.definitions.specs.Calls.Store.{store, storeFile};
 use crate::head;
+use crate::layout;
 use crate::records;
 use definitions::Counted;
 use list::check;
@@ -24,7 +25,8 @@ pub fn store(m: u32, s: u32, keys: &[u32], bits: &[u32], n: usize, file: &mut [u
             count: 0,
         };
     }
-    let needed = 11 + 6 * n;
+    let width = layout::width(s);
+    let needed = layout::length(width, n);
     if file.len() < needed {
         return Counted {
             refusal: 12,
@@ -32,7 +34,7 @@ pub fn store(m: u32, s: u32, keys: &[u32], bits: &[u32], n: usize, file: &mut [u
         };
     }
     head::put(m, s, n as u32, file);
-    records::put(keys, bits, n, file);
+    records::put(width, keys, bits, n, file);
     Counted {
         refusal: 0,
         count: needed as u64,

@@ -7,8 +7,8 @@ use Rattle.keys.specs.Key.{rootKey}
 use Rattle.definitions.specs.List.{keysOf, valuesOf}
 use Rattle.definitions.specs.Read.{room, isListOfBlock}
 use Rattle.definitions.specs.Buffer.{over}
-use Rattle.definitions.specs.File.{mIn, sIn, nIn, recordsInFile, tooShort, wrongMark, wrongVersion, wrongLength}
-use Rattle.definitions.specs.Refusal.{_gives_, first, accepted, badSettings}
+use Rattle.definitions.specs.File.{mIn, sIn, nIn, recordsInFile, tooShort, wrongMark, wrongVersion, wrongSettings, wrongLength}
+use Rattle.definitions.specs.Refusal.{_gives_, first, accepted}
 use Rattle.definitions.specs.declared.Loaded.{Loaded}
 
 unfoldable pub loadRefusal : List ℕ → List ℕ → List ℕ → ℕ
@@ -17,7 +17,7 @@ loadRefusal file keys bits =
     (tooShort file gives 15
     ∷ wrongMark file gives 16
     ∷ wrongVersion file gives 17
-    ∷ badSettings (mIn file) (sIn file) gives 1
+    ∷ wrongSettings file gives 1
     ∷ wrongLength file gives 15
     ∷ not (isListOfBlock (mIn file) (sIn file) (mIn file) 0 0 rootKey (recordsInFile file)) gives 4
     ∷ ltb (room keys bits) (nIn file) gives 9

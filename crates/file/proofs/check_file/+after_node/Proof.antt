@@ -8,20 +8,21 @@ use borrow.Author.Tests.{not-true, not-false}
 use borrow.Fn.Kinds.{In}
 use borrow.Fn.PlainCycle.{Measures, is, falls, and}
 use Rattle.list.proofs.Turn.{step-five, child-fits}
+use Rattle.file.proofs.Laid.{laid-at}
 use Rattle.file.proofs.FileTurn.{Answered, PassedIn, begins-in, ends-in, differs-in, short-in, other-key-in, child-in, wrong-child-in, leaf-in, node-in}
 use Rattle.file.proofs.check_file.after_node.Reads as own
 use Rattle.file.proofs.check_file.after_node.Kinds as kinds
 use Rattle.file.proofs.check_file.+after_node.Lts-after_node as lts
 use Rattle.file.proofs.check_file.after_low.Reads as after-low
 use Rattle.file.proofs.check_file.after_sixteen.Reads as after-sixteen
-use Rattle.file.proofs.bytes.u16_at.Reads as u16-at
-use Rattle.file.proofs.bytes.u32_at.Reads as u32-at
+use Rattle.file.proofs.layout.bits_at.Reads as bits-at
+use Rattle.file.proofs.layout.key_at.Reads as key-at
 use Rattle.list.proofs.check.has_one_slot.Reads as has-one-slot
 use Rattle.file.proofs.check_file.+after_node.{statement}
 use Rattle.file.proofs.check_file.+after_node.Tie.{close}
 
 abbrev μ : Measures 1 kinds.ps ℕ
-μ κs a = a .1 .1 .1 .1 .0
+μ κs a = a .1 .1 .1 .1 .1 .1 .0
 
 abbrev given : ℕ → In 1 kinds.ps
 given t = and 1 kinds.ps (is 1 kinds.ps μ t) own.Pre
@@ -33,10 +34,10 @@ abbrev claims : ℕ → lts.Claims
 claims t = (
   after-low.Asked,
   after-low.Learnt,
-  u32-at.Asked,
-  u32-at.Learnt,
-  u16-at.Asked,
-  u16-at.Learnt,
+  key-at.Asked,
+  key-at.Learnt,
+  bits-at.Asked,
+  bits-at.Learnt,
   has-one-slot.Asked,
   has-one-slot.Learnt,
   after-sixteen.Asked,
@@ -46,10 +47,10 @@ claims t = (
 )
 
 abbrev Inv-loop : lts.InvT-loop
-Inv-loop file first key own step lower next₀ union₀ digit₀ next union digit = PassedIn file first key own step next union digit
+Inv-loop file width n first key own step lower next₀ union₀ digit₀ next union digit = PassedIn width n file first key own step next union digit
 
 abbrev μ-loop : lts.MeasureT-loop
-μ-loop file first key own step lower next₀ union₀ digit₀ next union digit = 5 - digit
+μ-loop file width n first key own step lower next₀ union₀ digit₀ next union digit = 5 - digit
 
 -- places of the code: a turn in which a record is left, one in which that record's bits were read, one in which it is a node's, and one in which
 -- that node's function was called
@@ -57,7 +58,7 @@ abbrev There : ℕ → Type 0
 There t = lts.Else2 (claims t) (given t) own.Post Inv-loop μ-loop
 
 abbrev Found : ℕ → Type 0
-Found t = lts.After-u16-at (claims t) (given t) own.Post Inv-loop μ-loop
+Found t = lts.After-bits-at (claims t) (given t) own.Post Inv-loop μ-loop
 
 abbrev Node : ℕ → Type 0
 Node t = lts.Then4 (claims t) (given t) own.Post Inv-loop μ-loop
@@ -80,13 +81,7 @@ returns : (t : ℕ) → lts.Need-returns (claims t) (given t) own.Post Inv-loop 
 returns t c = c .after-low .ensures
 
 loop-holds : (t : ℕ) → lts.Need-loop-holds (claims t) (given t) own.Post Inv-loop μ-loop
-loop-holds t c = begins-in _ _ _ _ _ (c .before .before .pre .1) (λ z. omega (arith, c .if1 .left))
-
-mul-place : (t : ℕ) → lts.Need-mul-place (claims t) (given t) own.Post Inv-loop μ-loop
-mul-place t c = omega arith
-
-add-place : (t : ℕ) → lts.Need-add-place (claims t) (given t) own.Post Inv-loop μ-loop
-add-place t c = omega arith
+loop-holds t c = begins-in _ _ _ _ _ _ _ (c .before .before .pre .1) (λ z. omega (arith, c .if1 .left))
 
 returns-2 : (t : ℕ) → lts.Need-returns-2 (claims t) (given t) own.Post Inv-loop μ-loop
 returns-2 t c = short-in (c .before .before .loop .inv) (c .before .loop-test .taken) (c .if2 .taken)
@@ -97,19 +92,16 @@ mul-child t c = let h = child-fits (c .before .before .loop .inv .passed) (c .be
 add-child : (t : ℕ) → lts.Need-add-child (claims t) (given t) own.Post Inv-loop μ-loop
 add-child t c = let h = child-fits (c .before .before .loop .inv .passed) (c .before .loop-test .taken) in omega arith
 
-u32-at-requires : (t : ℕ) → lts.Need-u32-at-requires (claims t) (given t) own.Post Inv-loop μ-loop
-u32-at-requires t c κs = omega arith
+key-at-requires : (t : ℕ) → lts.Need-key-at-requires (claims t) (given t) own.Post Inv-loop μ-loop
+key-at-requires t c κs = laid-at (c .before .before .loop .inv .laid) _ (c .if2 .left)
 
 returns-3 : (t : ℕ) → lts.Need-returns-3 (claims t) (given t) own.Post Inv-loop μ-loop
 returns-3 t c =
     let e = c .before .before in
-    other-key-in (e .before .before .loop .inv) (e .before .loop-test .taken) (e .if2 .left) _ (c .before .u32-at .ensures) (c .if3 .taken)
+    other-key-in (e .before .before .loop .inv) (e .before .loop-test .taken) (e .if2 .left) _ (c .before .key-at .ensures) (c .if3 .taken)
 
-add-u16-at : (t : ℕ) → lts.Need-add-u16-at (claims t) (given t) own.Post Inv-loop μ-loop
-add-u16-at t c = omega arith
-
-u16-at-requires : (t : ℕ) → lts.Need-u16-at-requires (claims t) (given t) own.Post Inv-loop μ-loop
-u16-at-requires t c κs = omega arith
+bits-at-requires : (t : ℕ) → lts.Need-bits-at-requires (claims t) (given t) own.Post Inv-loop μ-loop
+bits-at-requires t c κs = laid-at (c .before .before .before .before .loop .inv .laid) _ (c .before .before .if2 .left)
 
 add-next : (t : ℕ) → lts.Need-add-next (claims t) (given t) own.Post Inv-loop μ-loop
 add-next t c = omega arith
@@ -122,7 +114,7 @@ after-sixteen-requires t c κs =
     let e = there (found (c .before)) in
     let l = e .before .before in
     let h = child-fits (l .loop .inv .passed) (e .before .loop-test .taken) in
-    (l .loop .inv .exact, omega (arith, e .if2 .left), omega (arith, c .if5 .taken))
+    (l .loop .inv .laid, omega (arith, e .if2 .left), omega (arith, c .if5 .taken))
 
 after-node-requires : (t : ℕ) → lts.Need-after-node-requires (claims t) (given t) own.Post Inv-loop μ-loop
 after-node-requires t c κs =
@@ -134,13 +126,13 @@ after-node-requires t c κs =
 
 -- what either function answers of a child that is a node
 after-child : {t : ℕ} (c : Called t) → let f = found (c .before) in let l = there f .before .before in let a = l .before .before .before .args in
-    Answered (a .file .now) (l .loop .next + 1) (a .key + l .loop .digit * a .step) (f .u16-at .result) (a .step / 5) (c .if5 .next)
+    Answered (a .width) (a .n) (a .file .now) (l .loop .next + 1) (a .key + l .loop .digit * a .step) (f .bits-at .result) (a .step / 5) (c .if5 .next)
 after-child c =
     let f = found (c .before) in
     let e = there f in
     ⊎-elim
     (λ w. rw (w .2)
-    (child-in (e .before .before .loop .inv) (e .before .loop-test .taken) (e .if2 .left) _ (f .before .before .u32-at .ensures) (f .before .if3 .left) _ (f .u16-at .ensures)
+    (child-in (e .before .before .loop .inv) (e .before .loop-test .taken) (e .if2 .left) _ (f .before .before .key-at .ensures) (f .before .if3 .left) _ (f .bits-at .ensures)
     2 (w .0 .taken ∙ step-five) _ (w .1 .ensures)))
     (λ w. rw (w .2) (w .1 .ensures))
     (c .if5 .came)
@@ -150,7 +142,7 @@ returns-4 t c =
     let a = c .before .before .before in
     let e = there (a .before) in
     wrong-child-in (e .before .before .loop .inv) (e .before .loop-test .taken) (e .if2 .left) _
-    (a .before .before .before .u32-at .ensures) (a .before .before .if3 .left) _ (a .before .u16-at .ensures)
+    (a .before .before .before .key-at .ensures) (a .before .before .if3 .left) _ (a .before .bits-at .ensures)
     (sym (a .has-one-slot .ensures) ∙ not-true _ (c .before .before .if4 .taken))
     _ (c .if6 .taken) (after-child (c .before))
 
@@ -168,11 +160,11 @@ loop-again t c =
     ⊎-elim
     (λ w. rw (w .3)
     (node-in p (e .before .loop-test .taken) (e .if2 .left) _
-    (a .before .before .before .u32-at .ensures) (a .before .before .if3 .left) _ (a .before .u16-at .ensures)
+    (a .before .before .before .key-at .ensures) (a .before .before .if3 .left) _ (a .before .bits-at .ensures)
     (sym (a .has-one-slot .ensures) ∙ not-true _ (w .0 .taken)) _ (w .2 .left) (after-child (record { before = record { before = a; if4 = w .0 }; if5 = w .1 }))))
     (λ w. rw (w .1)
     (leaf-in p (e .before .loop-test .taken) (e .if2 .left) _
-    (a .before .before .before .u32-at .ensures) (a .before .before .if3 .left) _ (a .before .u16-at .ensures)
+    (a .before .before .before .key-at .ensures) (a .before .before .if3 .left) _ (a .before .bits-at .ensures)
     (sym (a .has-one-slot .ensures) ∙ not-false _ (w .0 .left))))
     (c .if4 .came)
 
@@ -188,15 +180,12 @@ pub +after-node-spec : {M : Type 1} → statement M
     (after-low-requires t)
     (returns t)
     (loop-holds t)
-    (mul-place t)
-    (add-place t)
     (returns-2 t)
     (mul-child t)
     (add-child t)
-    (u32-at-requires t)
+    (key-at-requires t)
     (returns-3 t)
-    (add-u16-at t)
-    (u16-at-requires t)
+    (bits-at-requires t)
     (add-next t)
     (has-one-slot-requires t)
     (after-sixteen-requires t)

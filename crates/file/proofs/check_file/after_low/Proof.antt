@@ -15,32 +15,32 @@ after-sixteen-requires c κs = search needs
 returns : tie.Need-returns
 returns c =
     let a = c .before .before .before .args in
-    at-height-in (a .file .now) (a .first) (a .key) (a .own) (a .step) _ 2 (c .before .if1 .taken ∙ step-five) (c .after-sixteen .ensures)
+    at-height-in (a .width) (a .n) (a .file .now) (a .first) (a .key) (a .own) (a .step) _ 2 (c .before .if1 .taken ∙ step-five) (c .after-sixteen .ensures)
 
 returns-2 : tie.Need-returns-2
 returns-2 c =
     let s = c .before .before .before in
     let a = s .args in
-    pixel-in (a .file .now) (a .first) (a .key) (a .own) (a .step) (s .pre .2) (c .before .if1 .left) (c .if2 .taken)
+    pixel-in (a .width) (a .n) (a .file .now) (a .first) (a .key) (a .own) (a .step) (s .pre .2) (c .before .if1 .left) (c .if2 .taken)
 
 four-pixels-requires : tie.Need-four-pixels-requires
 four-pixels-requires c κs = search needs
 
 add-result : tie.Need-add-result
-add-result c = let h = c .before .four-pixels .ensures .0 (c .if3 .taken) in let e = c .before .before .before .before .before .pre .0 in omega arith
+add-result c = let h = c .before .four-pixels .ensures .0 (c .if3 .taken) in omega arith
 
 returns-3 : tie.Need-returns-3
 returns-3 c =
     let a = c .before .before .before .before .before .args in
     let h = c .before .four-pixels .ensures in
-    at-height-in (a .file .now) (a .first) (a .key) (a .own) (a .step) _ 1 (c .before .before .if2 .left ∙ step-one)
+    at-height-in (a .width) (a .n) (a .file .now) (a .first) (a .key) (a .own) (a .step) _ 1 (c .before .before .if2 .left ∙ step-one)
     (h .0 (c .if3 .taken), right-true (c .before .four-pixels .result) (a .first + 4) _ (c .if3 .taken) (h .1))
 
 returns-4 : tie.Need-returns-4
 returns-4 c =
     let a = c .before .before .before .before .before .args in
     let h = c .before .four-pixels .ensures in
-    at-height-in (a .file .now) (a .first) (a .key) (a .own) (a .step) _ 1 (c .before .before .if2 .left ∙ step-one)
+    at-height-in (a .width) (a .n) (a .file .now) (a .first) (a .key) (a .own) (a .step) _ 1 (c .before .before .if2 .left ∙ step-one)
     (omega arith, right-false (c .before .four-pixels .result) (a .first + 4) _ (c .if3 .left) (h .1))
 
 pub after-low-spec : {M : Type 1} → statement M

@@ -5,38 +5,33 @@ use mathlib.Core.Logic.{⊎-elim}
 use native.Mathlib.Omega.{arith}
 use lib.ListN.{drop}
 use borrow.Author.Tests.{not-true, not-false}
-use Rattle.definitions.specs.File.{nIn, recordsInFile}
 use Rattle.list.specs.Check.{placeOf, afterNode}
 use Rattle.list.proofs.Pixels.{right-false, right-true}
 use Rattle.list.proofs.Turn.{step-one, step-five, child-fits}
+use Rattle.file.specs.Layout.{recordsAt}
+use Rattle.file.proofs.Laid.{laid-at}
 use Rattle.file.proofs.FileTurn.{Answered, PassedIn, begins-in, ends-in, differs-in, short-in, other-key-in, child-in, wrong-child-in, leaf-in, node-in}
 use Rattle.file.proofs.check_file.after_sixteen.Statement.{statement}
 use Rattle.file.proofs.check_file.after_sixteen.Tie as tie
 
 abbrev Inv-loop : tie.InvT-loop
-Inv-loop file first key own next₀ union₀ quadrant₀ next union quadrant = PassedIn file first key own 5 next union quadrant
+Inv-loop file width n first key own next₀ union₀ quadrant₀ next union quadrant = PassedIn width n file first key own 5 next union quadrant
 
 abbrev μ-loop : tie.MeasureT-loop
-μ-loop file first key own next₀ union₀ quadrant₀ next union quadrant = 5 - quadrant
+μ-loop file width n first key own next₀ union₀ quadrant₀ next union quadrant = 5 - quadrant
 
 -- places of the code: a turn in which a record is left, and one in which that record's bits were read
 abbrev There : Type 0
 There = tie.Else1 Inv-loop μ-loop
 
 abbrev Found : Type 0
-Found = tie.After-u16-at Inv-loop μ-loop
+Found = tie.After-bits-at Inv-loop μ-loop
 
 abbrev there : Found → There
 there c = c .before .before .before
 
 loop-holds : tie.Need-loop-holds Inv-loop μ-loop
-loop-holds c = begins-in _ _ _ _ _ (c .before .pre) (λ z. omega arith)
-
-mul-place : tie.Need-mul-place Inv-loop μ-loop
-mul-place c = omega arith
-
-add-place : tie.Need-add-place Inv-loop μ-loop
-add-place c = omega arith
+loop-holds c = begins-in _ _ _ _ _ _ _ (c .before .pre) (λ z. omega arith)
 
 returns : tie.Need-returns Inv-loop μ-loop
 returns c = let h = short-in (c .before .before .loop .inv) (c .before .loop-test .taken) (c .if1 .taken) in (h .0, h .1 2 step-five)
@@ -47,20 +42,17 @@ mul-child c = let h = child-fits (c .before .before .loop .inv .passed) (c .befo
 add-child : tie.Need-add-child Inv-loop μ-loop
 add-child c = let h = child-fits (c .before .before .loop .inv .passed) (c .before .loop-test .taken) in omega arith
 
-u32-at-requires : tie.Need-u32-at-requires Inv-loop μ-loop
-u32-at-requires c κs = omega arith
+key-at-requires : tie.Need-key-at-requires Inv-loop μ-loop
+key-at-requires c κs = laid-at (c .before .before .loop .inv .laid) _ (c .if1 .left)
 
 returns-2 : tie.Need-returns-2 Inv-loop μ-loop
 returns-2 c =
     let e = c .before .before in
-    let h = other-key-in (e .before .before .loop .inv) (e .before .loop-test .taken) (e .if1 .left) _ (c .before .u32-at .ensures) (c .if2 .taken) in
+    let h = other-key-in (e .before .before .loop .inv) (e .before .loop-test .taken) (e .if1 .left) _ (c .before .key-at .ensures) (c .if2 .taken) in
     (h .0, h .1 2 step-five)
 
-add-u16-at : tie.Need-add-u16-at Inv-loop μ-loop
-add-u16-at c = omega arith
-
-u16-at-requires : tie.Need-u16-at-requires Inv-loop μ-loop
-u16-at-requires c κs = omega arith
+bits-at-requires : tie.Need-bits-at-requires Inv-loop μ-loop
+bits-at-requires c κs = laid-at (c .before .before .before .before .loop .inv .laid) _ (c .before .before .if1 .left)
 
 add-next : tie.Need-add-next Inv-loop μ-loop
 add-next c = omega arith
@@ -73,16 +65,16 @@ four-pixels-requires c κs =
     let e = there (c .before .before) in
     let l = e .before .before in
     let h = child-fits (l .loop .inv .passed) (e .before .loop-test .taken) in
-    (l .loop .inv .exact, omega (arith, e .if1 .left), omega arith)
+    (l .loop .inv .laid, omega (arith, e .if1 .left), omega arith)
 
 -- what the four pixels' function answers of a child that is a node
 after-child : (c : Found) (r : ℕ) → let e = there c in let l = e .before .before in let a = l .before .before .args in
-    (r ≤ nIn (a .file .now))
-    × (r ≡ placeOf (nIn (a .file .now)) (afterNode 1 (a .key + l .loop .quadrant * 5) (c .u16-at .result) (drop (l .loop .next + 1) (recordsInFile (a .file .now)))))
-    → Answered (a .file .now) (l .loop .next + 1) (a .key + l .loop .quadrant * 5) (c .u16-at .result) 1 r
+    (r ≤ a .n)
+    × (r ≡ placeOf (a .n) (afterNode 1 (a .key + l .loop .quadrant * 5) (c .bits-at .result) (drop (l .loop .next + 1) (recordsAt (a .width) (a .n) (a .file .now)))))
+    → Answered (a .width) (a .n) (a .file .now) (l .loop .next + 1) (a .key + l .loop .quadrant * 5) (c .bits-at .result) 1 r
 after-child c r h =
     let e = there c in
-    child-in (e .before .before .loop .inv) (e .before .loop-test .taken) (e .if1 .left) _ (c .before .before .u32-at .ensures) (c .before .if2 .left) _ (c .u16-at .ensures) 1 step-one r h
+    child-in (e .before .before .loop .inv) (e .before .loop-test .taken) (e .if1 .left) _ (c .before .before .key-at .ensures) (c .before .if2 .left) _ (c .bits-at .ensures) 1 step-one r h
 
 returns-3 : tie.Need-returns-3 Inv-loop μ-loop
 returns-3 c =
@@ -91,7 +83,7 @@ returns-3 c =
     let l = e .before .before in
     let h =
     wrong-child-in (l .loop .inv) (e .before .loop-test .taken) (e .if1 .left) _
-    (a .before .before .before .u32-at .ensures) (a .before .before .if2 .left) _ (a .before .u16-at .ensures)
+    (a .before .before .before .key-at .ensures) (a .before .before .if2 .left) _ (a .before .bits-at .ensures)
     (sym (a .has-one-slot .ensures) ∙ not-true _ (c .before .before .if3 .taken))
     0 refl
     (after-child (a .before) 0
@@ -101,7 +93,6 @@ returns-3 c =
 add-next-2 : tie.Need-add-next-2 Inv-loop μ-loop
 add-next-2 c =
     let h = c .before .four-pixels .ensures .0 (not-false _ (c .if4 .left)) in
-    let e = there (c .before .before .before .before) .before .before .loop .inv .exact in
     omega arith
 
 add-quadrant : tie.Need-add-quadrant Inv-loop μ-loop
@@ -118,14 +109,14 @@ loop-again c =
     ⊎-elim
     (λ w. rw (w .3)
     (node-in p (e .before .loop-test .taken) (e .if1 .left) _
-    (a .before .before .before .u32-at .ensures) (a .before .before .if2 .left) _ (a .before .u16-at .ensures)
+    (a .before .before .before .key-at .ensures) (a .before .before .if2 .left) _ (a .before .bits-at .ensures)
     (sym (a .has-one-slot .ensures) ∙ not-true _ (w .0 .taken)) (e .before .before .loop .next + 1 + 4)
     (λ z. omega arith)
     (after-child (a .before) _
     (w .1 .ensures .0 (not-false _ (w .2 .left)), right-true (w .1 .result) (e .before .before .loop .next + 1 + 4) _ (not-false _ (w .2 .left)) (w .1 .ensures .1)))))
     (λ w. rw (w .1)
     (leaf-in p (e .before .loop-test .taken) (e .if1 .left) _
-    (a .before .before .before .u32-at .ensures) (a .before .before .if2 .left) _ (a .before .u16-at .ensures)
+    (a .before .before .before .key-at .ensures) (a .before .before .if2 .left) _ (a .before .bits-at .ensures)
     (sym (a .has-one-slot .ensures) ∙ not-false _ (w .0 .left))))
     (c .if3 .came)
 
@@ -142,15 +133,12 @@ after-sixteen-spec =
     Inv-loop
     μ-loop
     loop-holds
-    mul-place
-    add-place
     returns
     mul-child
     add-child
-    u32-at-requires
+    key-at-requires
     returns-2
-    add-u16-at
-    u16-at-requires
+    bits-at-requires
     add-next
     has-one-slot-requires
     four-pixels-requires

@@ -11,15 +11,18 @@ use Rattle.file.proofs.head.put.Tie as tie
 put-requires : tie.Need-put-requires
 put-requires c κs = search needs
 
+version-requires : tie.Need-version-requires
+version-requires c κs = search needs
+
 put-u16-requires : tie.Need-put-u16-requires
 put-u16-requires c κs = search needs
 
 -- after the version the file is as long as it was
-versioned : (c : tie.After-slice-known3) → length (c .before .before .put-u16 .last .1 .0) ≡ length (c .before .before .before .before .before .before .before .before .before .args .file .now)
-versioned c = c .before .before .put-u16 .kept .1 .0 ∙ c .before .before .before .before .before .before .put .kept .0
+versioned : (c : tie.After-slice-known3) → length (c .before .before .put-u16 .last .1 .0) ≡ length (c .before .before .before .before .before .before .before .before .before .before .args .file .now)
+versioned c = c .before .before .put-u16 .kept .1 .0 ∙ c .before .before .before .before .before .before .before .put .kept .0
 
 long : (c : tie.After-slice-known3) → 11 ≤ length (c .before .before .put-u16 .last .1 .0)
-long c = rw (versioned c) (c .before .before .before .before .before .before .before .before .before .pre)
+long c = rw (versioned c) (c .before .before .before .before .before .before .before .before .before .before .pre)
 
 cast-file : tie.Need-cast-file
 cast-file c = search needs
@@ -42,8 +45,9 @@ same-length c = c .before .before .put-u32 .kept .1 .0 ∙ simp length-set (vers
 returns : tie.Need-returns
 returns c =
     let b = c .before .before in
-    head-stores _ _ _ _ _ _ _
-    (b .before .before .before .before .before .before .before .before .put .ensures)
+    head-stores _ _ _ _ _ _ _ _
+    (b .before .before .before .before .before .before .version .ensures)
+    (b .before .before .before .before .before .before .before .before .before .put .ensures)
     (b .before .before .before .before .put-u16 .ensures)
     (b .put-u32 .ensures)
 
@@ -52,6 +56,7 @@ put-spec =
     tie.close
     (tie.spec
     put-requires
+    version-requires
     put-u16-requires
     cast-file
     slice-write-file

@@ -36,14 +36,18 @@ u8-at-requires-2 c κs = let a = start (c .before .before) .args in omega (arith
 u32-at-requires : tie.Need-u32-at-requires
 u32-at-requires c κs = let a = start (c .before .before .before) .args in long (a .file .now) (a .keys .now) (a .bits .now) (none (c .before .before))
 
+width-requires : tie.Need-width-requires
+width-requires c κs = search needs
+
 cast-read : tie.Need-cast-read
 cast-read c = search needs
 
 read-requires : tie.Need-read-requires
 read-requires c κs =
-    let r = c .before .before in
+    let w = c .before .before in
+    let r = w .before in
     let a = start (tested r .before) .args in
-    room-for (a .file .now) (a .keys .now) (a .bits .now) (none (tested r)) _ (r .u32-at .ensures)
+    room-for (a .file .now) (a .keys .now) (a .bits .now) (none (tested r)) _ _ _ (r .before .u8-at2 .ensures) (w .width .ensures) (r .u32-at .ensures)
 
 cast-t16 : tie.Need-cast-t16
 cast-t16 c = search needs
@@ -63,9 +67,10 @@ same-length-2 c = search needs
 returns-2 : tie.Need-returns-2
 returns-2 c =
     let w = c .before .before .before .before in
-    let r = w .before .before .before in
+    let v = w .before .before .before in
+    let r = v .before in
     let a = start (tested r .before) .args in
-    all-loaded (a .file .now) (a .keys .now) (a .bits .now) (none (tested r)) _ _ _ _ _ (r .before .before .u8-at .ensures) (r .before .u8-at2 .ensures) (r .u32-at .ensures)
+    all-loaded (a .file .now) (a .keys .now) (a .bits .now) (none (tested r)) _ _ _ _ _ _ (r .before .before .u8-at .ensures) (r .before .u8-at2 .ensures) (v .width .ensures) (r .u32-at .ensures)
     (w .read .ensures .0)
     (w .read .ensures .1)
 
@@ -78,6 +83,7 @@ load-spec =
     u8-at-requires
     u8-at-requires-2
     u32-at-requires
+    width-requires
     cast-read
     read-requires
     cast-t16

@@ -2,31 +2,26 @@
 use Prim.Native.Nat.{_-_}
 use native.Mathlib.Omega.{arith}
 use Rattle.file.specs.Room.{RoomFor}
+use Rattle.file.proofs.Laid.{laid-at}
 use Rattle.file.proofs.ReadBytes.{Read, none-read, record-taken, all-read}
 use Rattle.file.proofs.records.read.Statement.{statement}
 use Rattle.file.proofs.records.read.Tie as tie
 
 abbrev Inv-loop : tie.InvT-loop
-Inv-loop file n keys₀ bits₀ i₀ keys bits i = Read file n keys₀ bits₀ keys bits i
+Inv-loop width file n keys₀ bits₀ i₀ keys bits i = Read width file n keys₀ bits₀ keys bits i
 
 abbrev μ-loop : tie.MeasureT-loop
-μ-loop file n keys₀ bits₀ i₀ keys bits i = n - i
+μ-loop width file n keys₀ bits₀ i₀ keys bits i = n - i
 
 -- what is required at the start, from the loop's head
-room : (c : tie.At-loop Inv-loop μ-loop) → RoomFor (c .before .before .before .before .args .n) (c .before .before .before .before .args .keys .now) (c .before .before .before .before .args .bits .now) (c .before .before .before .before .args .file .now)
+room : (c : tie.At-loop Inv-loop μ-loop) → RoomFor (c .before .before .before .before .args .width) (c .before .before .before .before .args .n) (c .before .before .before .before .args .keys .now) (c .before .before .before .before .args .bits .now) (c .before .before .before .before .args .file .now)
 room c = c .before .before .before .before .pre
 
 loop-holds : tie.Need-loop-holds Inv-loop μ-loop
-loop-holds c = none-read _ _ _ _
+loop-holds c = none-read _ _ _ _ _
 
-mul-place : tie.Need-mul-place Inv-loop μ-loop
-mul-place c = let h = room (c .before) in omega arith
-
-add-place : tie.Need-add-place Inv-loop μ-loop
-add-place c = let h = room (c .before) in omega arith
-
-u32-at-requires : tie.Need-u32-at-requires Inv-loop μ-loop
-u32-at-requires c κs = let h = room (c .before) in omega arith
+key-at-requires : tie.Need-key-at-requires Inv-loop μ-loop
+key-at-requires c κs = laid-at (room (c .before) .in-file) _ (c .loop-test .taken)
 
 mul-keys : tie.Need-mul-keys Inv-loop μ-loop
 mul-keys c = let h = room (c .before .before) in omega arith
@@ -34,11 +29,8 @@ mul-keys c = let h = room (c .before .before) in omega arith
 slice-write-keys : tie.Need-slice-write-keys Inv-loop μ-loop
 slice-write-keys c = let h = room (c .before .before) in omega arith
 
-add-u16-at : tie.Need-add-u16-at Inv-loop μ-loop
-add-u16-at c = let h = room (c .before .before) in omega arith
-
-u16-at-requires : tie.Need-u16-at-requires Inv-loop μ-loop
-u16-at-requires c κs = let h = room (c .before .before) in omega arith
+bits-at-requires : tie.Need-bits-at-requires Inv-loop μ-loop
+bits-at-requires c κs = laid-at (room (c .before .before) .in-file) _ (c .before .loop-test .taken)
 
 mul-bits : tie.Need-mul-bits Inv-loop μ-loop
 mul-bits c = let h = room (c .before .before .before) in omega arith
@@ -54,7 +46,7 @@ loop-less c = omega arith
 
 loop-again : tie.Need-loop-again Inv-loop μ-loop
 loop-again c =
-    record-taken (room (c .before .before .before)) (c .before .before .before .loop .inv) (c .before .before .loop-test .taken) (c .before .u32-at .ensures) (c .u16-at .ensures)
+    record-taken (room (c .before .before .before)) (c .before .before .before .loop .inv) (c .before .before .loop-test .taken) (c .before .key-at .ensures) (c .bits-at .ensures)
 
 same-length : tie.Need-same-length Inv-loop μ-loop
 same-length c = c .before .loop .inv .same-keys
@@ -72,13 +64,10 @@ read-spec =
     Inv-loop
     μ-loop
     loop-holds
-    mul-place
-    add-place
-    u32-at-requires
+    key-at-requires
     mul-keys
     slice-write-keys
-    add-u16-at
-    u16-at-requires
+    bits-at-requires
     mul-bits
     slice-write-bits
     add-i

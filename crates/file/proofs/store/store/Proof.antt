@@ -1,12 +1,15 @@
 -- `store::store` meets its contract: each way out answers what the definition does there.
-use mathlib.Core.Path.{_≡_, sym, _∙_}
+use mathlib.Core.Path.{_≡_, sym, ap, _∙_}
 use mathlib.Core.Bool.{true, false}
 use native.Mathlib.Omega.{arith}
 use borrow.Author.Tests.{not-true, not-false}
 use Rattle.definitions.specs.Read.{isList}
+use Rattle.definitions.specs.File.{bitBytes, fileLength}
 use Rattle.definitions.specs.Refusal.{badSettings}
+use Rattle.definitions.proofs.FileOf.{width-of}
 use Rattle.list.proofs.Tests.{good-settings}
 use borrow.Author.Needs.{needs}
+use Rattle.file.proofs.Laid.{short-fits}
 use Rattle.file.proofs.StoreAnswers.{bad-settings, no-list, roomy, few, no-room, all-stored}
 use Rattle.file.proofs.store.store.Statement.{statement}
 use Rattle.file.proofs.store.store.Tie as tie
@@ -40,29 +43,32 @@ returns-2 c =
     let a = start (e .before) .args in
     no-list (a .m) (a .s) (a .keys .now) (a .bits .now) (a .n) (a .file .now) (good e) (sym (c .before .is-list .ensures) ∙ not-true _ (c .if2 .taken))
 
-mul-needed : tie.Need-mul-needed
-mul-needed c =
-    let s = start (c .before .before .before) in
-    let a = s .args in
-    let h = roomy (a .m) (a .s) (a .keys .now) (a .bits .now) (a .n) (a .file .now) (good (c .before .before)) (listed c) in
-    omega (arith, s .good)
+width-requires : tie.Need-width-requires
+width-requires c κs = search needs
 
-add-needed : tie.Need-add-needed
-add-needed c =
-    let s = start (c .before .before .before) in
-    let a = s .args in
-    let h = roomy (a .m) (a .s) (a .keys .now) (a .bits .now) (a .n) (a .file .now) (good (c .before .before)) (listed c) in
-    omega (arith, s .good)
+-- from the length back to the test of the list, and what the length is
+abbrev tested : tie.After-length → tie.Else2
+tested c = c .before .before
+
+length-is : (c : tie.After-length) → let a = start (tested c .before .before .before) .args in c .length .result ≡ fileLength (bitBytes (a .s)) (a .n)
+length-is c = c .length .ensures ∙ ap (λ w. fileLength w (start (tested c .before .before .before) .args .n)) (c .before .width .ensures)
+
+length-requires : tie.Need-length-requires
+length-requires c κs =
+    let d = c .before in
+    let a = start (d .before .before .before) .args in
+    rw (c .width .ensures)
+    (width-of (a .s), short-fits (width-of (a .s)) (a .n) (few (a .m) (a .s) (a .keys .now) (a .bits .now) (a .n) (a .file .now) (good (d .before .before)) (listed d)))
 
 returns-3 : tie.Need-returns-3
 returns-3 c =
-    let d = c .before in
+    let d = tested (c .before) in
     let a = start (d .before .before .before) .args in
-    no-room (a .m) (a .s) (a .keys .now) (a .bits .now) (a .n) (a .file .now) (good (d .before .before)) (listed d) (c .if3 .taken)
+    no-room (a .m) (a .s) (a .keys .now) (a .bits .now) (a .n) (a .file .now) (good (d .before .before)) (listed d) _ (length-is (c .before)) (c .if3 .taken)
 
 cast-put : tie.Need-cast-put
 cast-put c =
-    let d = c .before in
+    let d = tested (c .before) in
     let a = start (d .before .before .before) .args in
     omega (arith, few (a .m) (a .s) (a .keys .now) (a .bits .now) (a .n) (a .file .now) (good (d .before .before)) (listed d))
 
@@ -73,10 +79,15 @@ put-requires-2 : tie.Need-put-requires-2
 put-requires-2 c κs =
     let b = c .before .before .before in
     let f = b .before .before in
-    let d = f .before in
+    let l = f .before in
+    let d = tested l in
     let a = start (d .before .before .before) .args in
     let h = roomy (a .m) (a .s) (a .keys .now) (a .bits .now) (a .n) (a .file .now) (good (d .before .before)) (listed d) in
-    record { in-keys = omega arith; in-bits = omega arith; in-file = omega (arith, f .if3 .left, b .put .kept) }
+    record {
+      in-keys = omega arith;
+      in-bits = omega arith;
+      in-file = record { width-is = rw (l .before .width .ensures) (width-of (a .s)); there = omega (arith, f .if3 .left, l .length .ensures, b .put .kept) };
+    }
 
 same-length : tie.Need-same-length
 same-length c = search needs
@@ -86,9 +97,10 @@ returns-4 c =
     let w = c .before .before in
     let b = w .before .before .before .before in
     let f = b .before .before in
-    let d = f .before in
+    let l = f .before in
+    let d = tested l in
     let a = start (d .before .before .before) .args in
-    all-stored (a .m) (a .s) (a .keys .now) (a .bits .now) (a .n) (a .file .now) (good (d .before .before)) (listed d) _ _ (f .if3 .left) (b .put .ensures) (w .put2 .ensures)
+    all-stored (a .m) (a .s) (a .keys .now) (a .bits .now) (a .n) (a .file .now) (good (d .before .before)) (listed d) _ _ _ _ (l .before .width .ensures) (length-is l) (f .if3 .left) (b .put .ensures) (w .put2 .ensures)
 
 pub store-spec : {M : Type 1} → statement M
 store-spec =
@@ -98,8 +110,8 @@ store-spec =
     returns
     is-list-requires
     returns-2
-    mul-needed
-    add-needed
+    width-requires
+    length-requires
     returns-3
     cast-put
     put-requires

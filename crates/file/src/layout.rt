@@ -1,0 +1,66 @@
+// The layout of a file (document 01, "The file"; document 02, item 5): how many bytes a bitstring has, where a record lies, and a record read and
+// written. Only this file knows it.
+ghost use mathlib.Core.Path.{_≡_};
+ghost use Prim.Native.Nat.{_+_, _^_, _≤_, _<_};
+ghost use lib.ListN.{length};
+ghost use lib.Seq.{sets};
+ghost use Rattle.definitions.specs.List.{recordOf};
+ghost use Rattle.definitions.specs.File.{Width, versionFor, bitBytes, fileLength, bytesOfRecord};
+ghost use Rattle.file.specs.Layout.{keyAt, bitsAt, Laid};
+use crate::bytes;
+
+// A file of version 1 has up to so many slots.
+pub const FIRST_SLOTS: u32 = 16;
+
+pub fn version(s: u32) -> u32
+    ensures { λ r. ⌜ r ≡ versionFor s ⌝ }
+{
+    if FIRST_SLOTS < s { 2 } else { 1 }
+}
+
+// The bytes of a bitstring.
+pub fn width(s: u32) -> usize
+    ensures { λ r. ⌜ r ≡ bitBytes s ⌝ }
+{
+    if FIRST_SLOTS < s { 4 } else { 2 }
+}
+
+// The bytes of a file of n records, and so the place of record n.
+pub fn length(width: usize, n: usize) -> usize
+    requires { ⌜ Width width × (fileLength width n < 2 ^ 64) ⌝ }
+    ensures { λ r. ⌜ r ≡ fileLength width n ⌝ }
+{
+    11 + (4 + width) * n
+}
+
+pub fn key_at(file: &[u8], width: usize, i: usize) -> u32
+    requires { ⌜ Laid width (i + 1) (now file) ⌝ }
+    ensures { λ r. ⌜ r ≡ keyAt width i (now (file .entry)) ⌝ }
+{
+    bytes::u32_at(file, length(width, i))
+}
+
+pub fn bits_at(file: &[u8], width: usize, i: usize) -> u32
+    requires { ⌜ Laid width (i + 1) (now file) ⌝ }
+    ensures { λ r. ⌜ r ≡ bitsAt width i (now (file .entry)) ⌝ }
+{
+    let place = length(width, i) + 4;
+    if width == 2 {
+        return bytes::u16_at(file, place);
+    }
+    bytes::u32_at(file, place)
+}
+
+// Record i.
+pub fn put_record(key: u32, bits: u32, file: &mut [u8], width: usize, i: usize)
+    requires { ⌜ Laid width (i + 1) (now file) ⌝ }
+    ensures { λ _. ⌜ now (file .exit) ≡ sets (now (file .entry)) (fileLength width i) (bytesOfRecord width (recordOf key bits)) ⌝ }
+{
+    let place = length(width, i);
+    bytes::put_u32(key, file, place);
+    if width == 2 {
+        bytes::put_u16(bits, file, place + 4);
+    } else {
+        bytes::put_u32(bits, file, place + 4);
+    }
+}
