@@ -70,9 +70,13 @@ static void lists(const char *kind) {
     COMPARE("build into exactly its room", 7, 1,
             sink += hlq_build(M, S, raster, PIXELS, keys, n, bits, n, summary, PLACES).count,
             sink += plain_survey(M, S, raster, other_keys, other_bits, n, other_summary));
-    COMPARE("standing (the list check)", 7, times_for(n),
-            sink += hlq_standing(M, S, keys, MOST, bits, MOST, n, 1234).place,
-            sink += (uint64_t)plain_is_list(M, S, keys, bits, n) + plain_place(keys, n, 1234));
+    COMPARE("standing of a leaf", 7, times_for(n),
+            sink += hlq_standing(M, S, keys, MOST, bits, MOST, n, keys[n - 1]).records,
+            sink +=
+            (uint64_t)plain_is_list(M, S, keys, bits, n) + plain_standing(M, keys, bits, n, keys[n - 1]).records);
+    COMPARE("standing of the root", 7, times_for(n),
+            sink += hlq_standing(M, S, keys, MOST, bits, MOST, n, 0).records,
+            sink += (uint64_t)plain_is_list(M, S, keys, bits, n) + plain_standing(M, keys, bits, n, 0).records);
     COMPARE("raster (with the list check)", 7, 1,
             sink += hlq_raster(M, S, keys, MOST, bits, MOST, n, back, PIXELS).refusal, {
                 sink += (uint64_t)plain_is_list(M, S, keys, bits, n);

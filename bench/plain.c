@@ -159,6 +159,19 @@ size_t plain_place(const uint32_t *keys, size_t n, uint32_t key) {
     return low - 1;
 }
 
+hlq_stands plain_standing(uint32_t m, const uint32_t *keys, const uint32_t *bits, size_t n, uint32_t key) {
+    size_t place = plain_place(keys, n, key);
+    uint32_t level = 0, step = 1, found = keys[place];
+    for (uint32_t k = 0; k < m; k++) step *= 5;
+    if (found != key) {
+        for (uint32_t rest = step / 5; rest > 0 && found / rest % 5 != 0; rest /= 5) level++;
+        return (hlq_stands){ 0, HLQ_INSIDE, place, 0, found, level };
+    }
+    if ((bits[place] & (bits[place] - 1)) == 0) return (hlq_stands){ 0, HLQ_LISTED, place, 1, 0, 0 };
+    while (key % step != 0) step /= 5;
+    return (hlq_stands){ 0, HLQ_LISTED, place, plain_place(keys, n, key + step - 1) + 1 - place, 0, 0 };
+}
+
 /* ---- windows: list and window gone down together. A leaf answers for all of the window that lies in it, a node whose
  * bits add nothing is passed over, and only else its four quadrants are asked, which stand after it in the list. */
 

@@ -14,6 +14,7 @@ size_t plain_survey(uint32_t m, uint32_t s, const uint8_t *raster, uint32_t *key
 int plain_is_list(uint32_t m, uint32_t s, const uint32_t *keys, const uint32_t *bits, size_t n);
 void plain_raster(uint32_t m, const uint32_t *bits, uint8_t *raster);
 size_t plain_place(const uint32_t *keys, size_t n, uint32_t key);
+hlq_stands plain_standing(uint32_t m, const uint32_t *keys, const uint32_t *bits, size_t n, uint32_t key);
 /* List and window gone down together: yes, the bits, or the keys that select gives; and through the pointer the number
  * of blocks visited. */
 int plain_exist(uint32_t m, const uint32_t *keys, const uint32_t *bits, size_t n, uint32_t row, uint32_t column,

@@ -72,8 +72,8 @@ extern "C" {
 
 /* Where a block stands: the `kind` of hlq_stands. */
 enum {
-    HLQ_LISTED = 1, /* it has a record of its own, at `place` */
-    HLQ_INSIDE = 2  /* it lies inside the leaf at `place` */
+    HLQ_LISTED = 1, /* it has a record of its own, at `place`, the first of so many `records` */
+    HLQ_INSIDE = 2  /* it lies inside the leaf at `place`, with the key `leaf` and that `level` */
 };
 
 enum {
@@ -128,7 +128,7 @@ static inline const char *hlq_refusal_text(uint64_t refusal) {
 
 typedef struct { uint64_t refusal; } hlq_done;
 typedef struct { uint64_t refusal, count; } hlq_counted;      /* with HLQ_ANSWER_ROOM: count */
-typedef struct { uint64_t refusal, kind, place; } hlq_stands; /* kind: HLQ_LISTED or HLQ_INSIDE */
+typedef struct { uint64_t refusal, kind, place, records, leaf, level; } hlq_stands;
 typedef struct { uint64_t refusal, row, column, side, level; } hlq_block;
 typedef struct { uint64_t start, length; } hlq_span;          /* both 0 for an empty part */
 typedef struct { uint64_t refusal, yes; } hlq_exists;
@@ -170,7 +170,9 @@ hlq_done hlq_raster(uint32_t m, uint32_t s,
                     const uint32_t *keys, size_t keys_len, const uint32_t *bits, size_t bits_len,
                     size_t n, uint8_t *raster, size_t raster_len);
 
-/* STANDING. Where the block with this key stands: listed at a place, or inside the leaf at a place.
+/* STANDING. Where the block with this key stands. HLQ_LISTED: at a place, and records counts its
+ * record and those of everything below it; leaf and level are 0. HLQ_INSIDE: inside the one leaf
+ * that holds it, with the leaf's place, key and level; records is 0.
  * Refusals: HLQ_SETTINGS, HLQ_LIST, HLQ_KEY, in this order. */
 hlq_stands hlq_standing(uint32_t m, uint32_t s,
                         const uint32_t *keys, size_t keys_len,

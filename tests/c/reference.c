@@ -236,18 +236,22 @@ static uint64_t standing_refusal(uint32_t m, uint32_t s, const uint32_t *keys, s
 hlq_stands ref_standing(uint32_t m, uint32_t s, const uint32_t *keys, size_t keys_len, const uint32_t *bits,
                         size_t bits_len, size_t n, uint32_t key) {
     uint64_t refusal = standing_refusal(m, s, keys, keys_len, bits, bits_len, n, key);
-    if (refusal) return (hlq_stands){ refusal, 0, 0 };
-    for (size_t i = 0; i < n; i++)
-        if (keys[i] == key) return (hlq_stands){ 0, 1, i };
-    size_t leaf = n;
-    uint32_t row, column, side;
+    if (refusal) return (hlq_stands){ refusal, 0, 0, 0, 0, 0 };
+    size_t own = n, leaf = n, records = 0;
+    uint32_t row, column, side, level = 0;
     ref_block(m, key, &row, &column, &side);
     for (size_t i = 0; i < n; i++) {
         uint32_t r, c, e;
         ref_block(m, keys[i], &r, &c, &e);
-        if (has_one_bit(bits[i]) && r <= row && c <= column && row + side <= r + e && column + side <= c + e) leaf = i;
+        if (keys[i] == key) own = i;
+        if (row <= r && column <= c && r + e <= row + side && c + e <= column + side) records++;
+        if (has_one_bit(bits[i]) && r <= row && c <= column && row + side <= r + e && column + side <= c + e) {
+            leaf = i, level = 0;
+            while (e << level != (uint32_t)1 << m) level++;
+        }
     }
-    return (hlq_stands){ 0, 2, leaf };
+    if (own < n) return (hlq_stands){ 0, 1, own, records, 0, 0 };
+    return (hlq_stands){ 0, 2, leaf, 0, keys[leaf], level };
 }
 
 hlq_span ref_part(uint32_t m, uint32_t s, const uint32_t *keys, size_t keys_len, const uint32_t *bits, size_t bits_len,

@@ -25,7 +25,7 @@ static_assert(HLQ_FILE_BYTES(0, 1) == 11 && HLQ_FILE_BYTES(9, 16) == 65 && HLQ_F
               "the bytes of a file");
 static_assert(HLQ_FILE_BYTES(0xFFFFFFFFu, 16) == 25769803781u && HLQ_FILE_BYTES(0xFFFFFFFFu, 32) == 34359738371u,
               "no wrapping at 32 bits");
-static_assert(sizeof(hlq_done) == 8 && sizeof(hlq_counted) == 16 && sizeof(hlq_stands) == 24 &&
+static_assert(sizeof(hlq_done) == 8 && sizeof(hlq_counted) == 16 && sizeof(hlq_stands) == 48 &&
                   sizeof(hlq_span) == 16 && sizeof(hlq_exists) == 16 && sizeof(hlq_reported) == 16 &&
                   sizeof(hlq_edited) == 24 && sizeof(hlq_found) == 24 && sizeof(hlq_loaded) == 32 &&
                   sizeof(hlq_rule) == 24 && sizeof(hlq_question) == 24,
@@ -63,6 +63,7 @@ static void macros_meet_calls(uint32_t m) {
         must(stored.refusal == HLQ_ACCEPTED && stored.count == bytes, "HLQ_FILE_BYTES holds the file");
     }
     must(hlq_standing(m, 2, keys, most, bits, most, most, 0).kind == HLQ_LISTED, "the root is listed");
+    must(hlq_standing(m, 2, keys, most, bits, most, most, 0).records == most, "every record is the root's or below it");
     must(hlq_fill_summary(m, 2, keys, most, bits, most, most, summary, places).refusal == HLQ_ACCEPTED,
          "HLQ_SUMMARY_PLACES is the summary's length");
 }
@@ -73,7 +74,8 @@ static void limits(void) {
     hlq_counted deepest = hlq_build(M, S, raster, sizeof raster, keys, MOST, bits, MOST, summary, PLACES);
     must(deepest.refusal == HLQ_ACCEPTED && deepest.count == 1, "both limits are accepted");
     must(hlq_standing(M, S, keys, MOST, bits, MOST, 1, 1).refusal == HLQ_KEY, "no key");
-    must(hlq_standing(1, 1, keys, MOST, bits, MOST, 1, 1).kind == HLQ_INSIDE, "a quarter of a leaf is inside it");
+    hlq_stands quarter = hlq_standing(1, 1, keys, MOST, bits, MOST, 1, 1);
+    must(quarter.kind == HLQ_INSIDE && quarter.leaf == 0 && quarter.level == 0, "a quarter of a leaf is inside it");
     hlq_counted bad = hlq_build(M + 1, 1, raster, sizeof raster, keys, MOST, bits, MOST, summary, 16);
     must(bad.refusal == HLQ_SETTINGS, "m");
     bad = hlq_build(0, S + 1, raster, 1, keys, MOST, bits, MOST, summary, S + 1);

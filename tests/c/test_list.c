@@ -72,6 +72,13 @@ static void try_list(map a, size_t keys_len, size_t bits_len, size_t n, uint32_t
     hlq_span a3 = hlq_part(a.m, a.s, start(keys), keys_len, start(bits), bits_len, n, key);
     hlq_span b3 = ref_part(a.m, a.s, start(keys), keys_len, start(bits), bits_len, n, key);
     same_results(CALL_PART, b2.refusal, &a3, &b3, sizeof a3);
+    hlq_span told = { a2.place, a2.kind == HLQ_LISTED ? a2.records : a2.kind == HLQ_INSIDE };
+    same_results(CALL_PART, b2.refusal, &told, &a3, sizeof told);
+    if (a2.kind == HLQ_INSIDE) {
+        uint64_t leaf[2] = { a2.leaf, a2.level };
+        uint64_t there[2] = { a.keys[a2.place], hlq_block_of(a.m, a.keys[a2.place]).level };
+        same_results(CALL_STANDING, 0, leaf, there, sizeof leaf);
+    }
     same_buffers("keys, only read", keys, kept_keys);
     same_buffers("bits, only read", bits, kept_bits);
     give_back(keys), give_back(bits), give_back(raster), give_back(kept_keys), give_back(kept_bits),

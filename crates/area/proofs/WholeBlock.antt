@@ -1,6 +1,6 @@
 -- A block of several features that is counted as a whole: it is a node that the bitstrings show at its place, its count is a number of the summary, or is
 -- tallied from its records. Rests on BlockCount, TallyTurn and list's Shown.
-use Prim.Native.Nat.{ℕ, _+_, _-_, _*_, _^_, _<_}
+use Prim.Native.Nat.{ℕ, _+_, _*_, _^_, _<_}
 use mathlib.Core.Path.{_≡_, sym, _∙_, ap}
 use mathlib.Core.Bool.{true, false, true≢false}
 use mathlib.Core.List.{List}
@@ -19,7 +19,7 @@ use Rattle.definitions.proofs.BitsOf.{bits-one}
 use Rattle.definitions.proofs.FeatureOf.{feature-of-power}
 use Rattle.list.specs.Check.{oneSlot}
 use Rattle.list.specs.Own.{OwnList, shownBy}
-use Rattle.list.specs.Among.{keysUpTo, placeAmong}
+use Rattle.list.specs.Among.{placeAmong}
 use Rattle.list.proofs.OneSlot.{power-slot}
 use Rattle.list.proofs.Shown.{leaf-one, block-shown}
 use Rattle.summary.specs.Count.{NodeAt}
@@ -30,7 +30,7 @@ use Rattle.area.specs.Number.{numberOf}
 use Rattle.area.specs.Tally.{NodeTallied, MixedAt, WholeAsked, WholeCounted}
 use Rattle.area.specs.declared.tally.Tally.{Tally}
 use Rattle.area.proofs.BlockCount.{key-valid, area-is, keyed-one, summary-has, summary-room}
-use Rattle.area.proofs.Looked.{count-yes, count-mixed}
+use Rattle.area.proofs.Looked.{place-yes, place-mixed}
 use Rattle.area.proofs.TallyTurn.{shown-tallied}
 
 -- a feature's bit is one slot
@@ -48,14 +48,13 @@ mixed-several p f k r c has other =
 
 -- so the bitstrings show it where its record is
 pub mixed-at : {m : ℕ} {keys bits : List ℕ} {n : ℕ} (o : OwnList m keys bits n) {s : Spot} (h : Stands m s) (f bit : ℕ) → bit ≡ 2 ^ f
-    → (count : ℕ) → count ≡ keysUpTo (s .key) (take n keys)
-    → (bitAnd (getD bits (count - 1) 0) bit ≡ 0 → ⊥)
-    → (getD bits (count - 1) 0 ≡ bit → ⊥)
-    → MixedAt m (shownBy m keys bits n) bits s (count - 1)
-unfolding placeAmong
-mixed-at {m} {keys} {bits} {n} o {s} h f bit is count e some other =
-    let has = count-yes o h f bit is count e some in
-    let mixed = mixed-several (shownBy m keys bits n) f (h .height) (s .row) (s .column) has (count-mixed o h f bit is count e other) in
+    → (place : ℕ) → place ≡ placeAmong (s .key) (take n keys)
+    → (bitAnd (getD bits place 0) bit ≡ 0 → ⊥)
+    → (getD bits place 0 ≡ bit → ⊥)
+    → MixedAt m (shownBy m keys bits n) bits s place
+mixed-at {m} {keys} {bits} {n} o {s} h f bit is place e some other =
+    let has = place-yes o h f bit is place e some in
+    let mixed = mixed-several (shownBy m keys bits n) f (h .height) (s .row) (s .column) has (place-mixed o h f bit is place e other) in
     let several = keyed-one h (shownBy m keys bits n) ∙ mixed in
     record { shown = rw e (block-shown o (valid-block m (s .key) (key-valid h)) several); several = several }
 

@@ -79,7 +79,7 @@ pub fn area_in(
                 break;
             }
             let key = spot.key;
-            from = standing::up_to_from(keys, n, from, key) - 1;
+            from = standing::place_from(keys, n, from, key);
             let found = bits[from];
             if found & bit == 0 {
                 break;

@@ -218,9 +218,13 @@ table =
     ∷ row (storeFile 1 2 keys bits 5 (unwritten 42)) (fileWith 0x51 1 2 (2 ∷ 77 ∷ []))
     ∷ row (loadKeys (fileWith 0x51 1 2 (2 ∷ [])) (unwritten 6) (unwritten 7)) (0 ∷ 1 ∷ 2 ∷ 3 ∷ 4 ∷ 77 ∷ [])
     ∷ row (loadBits (fileWith 0x51 1 2 (2 ∷ [])) (unwritten 6) (unwritten 7)) (3 ∷ 1 ∷ 1 ∷ 1 ∷ 2 ∷ 77 ∷ 77 ∷ [])
-    -- on Map A: block 24 is listed at place 6, block 11 lies inside the leaf at place 1
-    ∷ row (of-stands (standing 2 3 (keysA 0) (bitsA 0) 9 (key (2 ∷ 4 ∷ [])))) (0 ∷ 1 ∷ 6 ∷ [])
-    ∷ row (of-stands (standing 2 3 (keysA 0) (bitsA 0) 9 (key (1 ∷ 1 ∷ [])))) (0 ∷ 2 ∷ 1 ∷ [])
+    -- on Map A: block 24 is listed at place 6 with its one record, block 20 at place 2 with five, the root with all nine; block 11 lies inside the leaf
+    -- 10 at place 1, which is of level 1; and a refused call gives its number alone
+    ∷ row (of-stands (standing 2 3 (keysA 0) (bitsA 0) 9 (key (2 ∷ 4 ∷ [])))) (0 ∷ 1 ∷ 6 ∷ 1 ∷ 0 ∷ 0 ∷ [])
+    ∷ row (of-stands (standing 2 3 (keysA 0) (bitsA 0) 9 (key (2 ∷ 0 ∷ [])))) (0 ∷ 1 ∷ 2 ∷ 5 ∷ 0 ∷ 0 ∷ [])
+    ∷ row (of-stands (standing 2 3 (keysA 0) (bitsA 0) 9 0)) (0 ∷ 1 ∷ 0 ∷ 9 ∷ 0 ∷ 0 ∷ [])
+    ∷ row (of-stands (standing 2 3 (keysA 0) (bitsA 0) 9 (key (1 ∷ 1 ∷ [])))) (0 ∷ 2 ∷ 1 ∷ 0 ∷ key (1 ∷ 0 ∷ []) ∷ 1 ∷ [])
+    ∷ row (of-stands (standing 2 3 (keysA 0) (bitsA 0) 9 (key (5 ∷ 0 ∷ [])))) (8 ∷ 0 ∷ 0 ∷ 0 ∷ 0 ∷ 0 ∷ [])
     -- the part of block 20 is its record and its four children's, that of block 11 the record of the leaf around it
     ∷ row (part 2 3 (keysA 1) (bitsA 1) 9 (key (2 ∷ 0 ∷ [])))
     (key (2 ∷ 0 ∷ []) ∷ key (2 ∷ 1 ∷ []) ∷ key (2 ∷ 2 ∷ []) ∷ key (2 ∷ 3 ∷ []) ∷ key (2 ∷ 4 ∷ []) ∷ [])
@@ -234,7 +238,7 @@ table =
     ∷ []
   where
     of-stands : Stands → List ℕ
-    of-stands r = r .refusal ∷ r .kind ∷ r .place ∷ []
+    of-stands r = r .refusal ∷ r .kind ∷ r .place ∷ r .records ∷ r .leaf ∷ r .level ∷ []
 
     of-found : Found → List ℕ
     of-found r = r .refusal ∷ r .live ∷ r .hidden ∷ []

@@ -30,10 +30,11 @@ pub struct Question {
     pub feature: u32,
 }
 
-// Where a block stands: it is listed at a place, or lies inside the leaf at a place.
+// Where a block stands: it is listed at a place, with the number of records that it and all below it take; or it lies inside the leaf at a place, with
+// the leaf's key and level.
 pub enum Standing {
-    Listed(usize),
-    Inside(usize),
+    Listed(usize, usize),
+    Inside(usize, u32, u32),
 }
 
 // The answers, laid out as C has them. `refusal` is 0 or document 01's number; on a refusal every other number is 0, save the places needed with 12.
@@ -53,6 +54,9 @@ pub struct Stands {
     pub refusal: u64,
     pub kind: u64,
     pub place: u64,
+    pub records: u64,
+    pub leaf: u64,
+    pub level: u64,
 }
 
 #[repr(C)]

@@ -1,8 +1,8 @@
--- Standing among keys: what the search finds is the standing among the first n keys, and on the records of two slices that is document 01's
--- standing. Rests on Count.
-use Prim.Native.Nat.{ℕ, zero, suc, _+_, _-_, _≤_}
+-- The place of a key among keys: what the search finds is the place among the first n keys, and on the records of two slices that is the place of
+-- document 01; so is whether the key is listed there. Rests on Count.
+use Prim.Native.Nat.{ℕ, zero, suc, _+_, _-_, _≤_, _<_}
 use mathlib.Core.Path.{_≡_, refl, sym, _∙_, ap}
-use mathlib.Core.Bool.{true, false, cond}
+use mathlib.Core.Bool.{Bool, true, false, cond}
 use mathlib.Core.List.{List, [], _∷_}
 use native.Mathlib.Omega.{arith}
 use lib.ListN.{length, getD, take, length-take}
@@ -10,13 +10,13 @@ use lib.Seq.{getD-take}
 use lib.Dec.{leb, eqb}
 use borrow.Author.Tests.{eq-eqb, ne-eqb}
 use Rattle.keys.proofs.Cases.{decide, split}
-use Rattle.definitions.specs.declared.Standing.the-variants.{Listed, Inside}
 use Rattle.definitions.specs.List.{Record, keysOf, valuesOf}
 use Rattle.definitions.specs.Read.{room, recordsOf}
-use Rattle.definitions.specs.Standing.{upTo, placeOf, isListed, standingOf, kindOf, placeIn}
+use Rattle.definitions.specs.Standing.{upTo, placeOf, isListed}
 use Rattle.definitions.proofs.Records.{records-keys, records-values}
 use Rattle.list.specs.Sorted.{Sorted}
-use Rattle.list.specs.Among.{keysUpTo, placeAmong, standingAmong}
+use Rattle.list.specs.Among.{keysUpTo, placeAmong, whichAmong, placeIn}
+use Rattle.list.specs.declared.standing.Which.the-variants.{Listed, Inside}
 use Rattle.list.proofs.Count.{up-to-none, up-to-one, up-to-skip}
 
 -- at most all keys are at or before x
@@ -40,21 +40,31 @@ module _ {keys : List ℕ} {n key : ℕ} (s : Sorted keys n key) (count : ℕ) (
   pub found-most : count ≤ n
   found-most = let h = up-to-most key (take n keys) in let e = length-take n keys in omega arith
 
-  found-key : getD (take n keys) (count - 1) 0 ≡ getD keys (count - 1) 0
-  found-key = let h = found-some in let j = found-most in getD-take n keys (count - 1) 0 (omega arith)
-
-  found-place : placeAmong key (take n keys) ≡ count - 1
+  pub found-place : count - 1 ≡ placeAmong key (take n keys)
   unfolding placeAmong
-  found-place = ap (λ x. x - 1) (sym is)
+  found-place = ap (λ x. x - 1) is
 
-  -- the key itself stands there, or not
-  pub found-listed : getD keys (count - 1) 0 ≡ key → Listed (count - 1) ≡ standingAmong key (take n keys)
-  unfolding standingAmong
-  found-listed e = rw (found-place, eq-eqb _ _ (found-key ∙ e))
+-- the place among a sorted list's keys, as it was found
+module _ {keys : List ℕ} {n key : ℕ} (s : Sorted keys n key) where
+  pub place-below : placeAmong key (take n keys) < n
+  unfolding placeAmong
+  place-below =
+      let some = found-some s (keysUpTo key (take n keys)) refl in
+      let most = found-most s (keysUpTo key (take n keys)) refl in
+      omega arith
 
-  pub found-inside : (getD keys (count - 1) 0 ≡ key → ⊥) → Inside (count - 1) ≡ standingAmong key (take n keys)
-  unfolding standingAmong
-  found-inside e = rw (found-place, ne-eqb _ _ (λ f. e (sym found-key ∙ f)))
+  module _ (place : ℕ) (is : place ≡ placeAmong key (take n keys)) where
+    found-key : getD (take n keys) place 0 ≡ getD keys place 0
+    found-key = let h = place-below in getD-take n keys place 0 (omega arith)
+
+    -- the key itself stands there, or not
+    pub found-listed : getD keys place 0 ≡ key → Listed place ≡ whichAmong key (take n keys)
+    unfolding whichAmong
+    found-listed e = rw (← is, eq-eqb _ _ (found-key ∙ e))
+
+    pub found-inside : (getD keys place 0 ≡ key → ⊥) → Inside place ≡ whichAmong key (take n keys)
+    unfolding whichAmong
+    found-inside e = rw (← is, ne-eqb _ _ (λ f. e (sym found-key ∙ f)))
 
 -- records counted are keys counted
 pub up-to-keys : (x : ℕ) (l : List Record) → upTo x l ≡ keysUpTo x (keysOf l)
@@ -66,11 +76,6 @@ pub place-keys : (x : ℕ) (l : List Record) → placeOf x l ≡ placeAmong x (k
 unfolding placeOf placeAmong
 place-keys x l = ap (λ y. y - 1) (up-to-keys x l)
 
--- the standing of a key in a list is its standing among the list's keys
-pub standing-keys : (κ : ℕ) (l : List Record) → standingOf κ l ≡ standingAmong κ (keysOf l)
-unfolding standingOf isListed standingAmong
-standing-keys κ l = rw (place-keys κ l)
-
 -- of the first n records of two slices that hold them
 module _ (keys bits : List ℕ) (n : ℕ) (fits : n ≤ room keys bits) where
   pub keys-of-records : keysOf (recordsOf keys bits n) ≡ take n keys
@@ -79,35 +84,25 @@ module _ (keys bits : List ℕ) (n : ℕ) (fits : n ≤ room keys bits) where
   pub values-of-records : valuesOf (recordsOf keys bits n) ≡ take n bits
   values-of-records = records-values keys bits n (omega arith) (omega arith)
 
-  -- document 01's standing in the records is the standing among the first n keys
-  pub standing-among : (κ : ℕ) → standingOf κ (recordsOf keys bits n) ≡ standingAmong κ (take n keys)
-  standing-among κ = standing-keys κ (recordsOf keys bits n) ∙ ap (standingAmong κ) keys-of-records
-
+  -- the place in the records is the place among the first n keys
   pub place-among : (κ : ℕ) → placeOf κ (recordsOf keys bits n) ≡ placeAmong κ (take n keys)
   place-among κ = place-keys κ (recordsOf keys bits n) ∙ ap (placeAmong κ) keys-of-records
 
--- the place in a standing among keys is the place among them
-pub among-place : (κ : ℕ) (keys : List ℕ) → placeIn (standingAmong κ keys) ≡ placeAmong κ keys
-unfolding standingAmong
+-- the place is among the keys
+pub among-place : (κ : ℕ) (keys : List ℕ) → placeIn (whichAmong κ keys) ≡ placeAmong κ keys
+unfolding whichAmong
 among-place κ keys = decide (eqb (getD keys (placeAmong κ keys) 0) κ) (λ e. rw e) (λ e. rw e)
 
--- a standing says whether the block is listed, and its place
-pub standing-place : (κ : ℕ) (l : List Record) → placeIn (standingOf κ l) ≡ placeOf κ l
-unfolding standingOf
-standing-place κ l = decide (isListed κ l) (λ e. rw e) (λ e. rw e)
+-- which it is among the keys of a list is what the list's test says
+module _ (κ : ℕ) (l : List Record) where
+  by-test : (t : Bool) → isListed κ l ≡ t → whichAmong κ (keysOf l) ≡ cond t (Listed (placeOf κ l)) (Inside (placeOf κ l))
+  unfolding isListed whichAmong
+  by-test t e = rw (← place-keys κ l, e)
 
-pub standing-kind : (κ : ℕ) (l : List Record) → kindOf (standingOf κ l) ≡ cond (isListed κ l) 1 2
-unfolding standingOf
-standing-kind κ l = decide (isListed κ l) (λ e. rw e) (λ e. rw e)
+  pub which-listed : (place : ℕ) → whichAmong κ (keysOf l) ≡ Listed place → (isListed κ l ≡ true) × (placeOf κ l ≡ place)
+  which-listed place e =
+      decide (isListed κ l) (λ t. let f = by-test true t in (t, cc)) (λ t. let f = by-test false t in let z : _≡_ {A = ℕ} 0 1 = cc in absurd (omega arith))
 
-pub standing-listed : (κ : ℕ) (l : List Record) (place : ℕ) → standingOf κ l ≡ Listed place → (isListed κ l ≡ true) × (placeOf κ l ≡ place)
-standing-listed κ l place e = (
-  decide (isListed κ l) (λ f. f) (λ f. absurd (let z : _≡_ {A = ℕ} 1 2 = sym (ap kindOf e) ∙ standing-kind κ l ∙ ap (λ b. cond b 1 2) f in omega arith)),
-  sym (standing-place κ l) ∙ ap placeIn e,
-)
-
-pub standing-inside : (κ : ℕ) (l : List Record) (place : ℕ) → standingOf κ l ≡ Inside place → (isListed κ l ≡ false) × (placeOf κ l ≡ place)
-standing-inside κ l place e = (
-  decide (isListed κ l) (λ f. absurd (let z : _≡_ {A = ℕ} 2 1 = sym (ap kindOf e) ∙ standing-kind κ l ∙ ap (λ b. cond b 1 2) f in omega arith)) (λ f. f),
-  sym (standing-place κ l) ∙ ap placeIn e,
-)
+  pub which-inside : (place : ℕ) → whichAmong κ (keysOf l) ≡ Inside place → (isListed κ l ≡ false) × (placeOf κ l ≡ place)
+  which-inside place e =
+      decide (isListed κ l) (λ t. let f = by-test true t in let z : _≡_ {A = ℕ} 0 1 = cc in absurd (omega arith)) (λ t. let f = by-test false t in (t, cc))

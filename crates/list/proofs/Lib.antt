@@ -18,5 +18,7 @@ pub mod PartLength
 pub mod Own
 pub mod Shown
 pub mod ShownQuadrants
+pub mod Fuller
+pub mod PatchLeaf
 pub mod Trailing
 pub mod Tests

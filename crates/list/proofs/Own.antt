@@ -10,17 +10,17 @@ use Rattle.keys.proofs.Under.{Block}
 use Rattle.definitions.specs.Bits.{bitsOf}
 use Rattle.definitions.specs.List.{keysOf, valuesOf, listOfPicture}
 use Rattle.definitions.specs.Read.{recordsOf, isList}
-use Rattle.definitions.specs.Standing.{placeOf, isListed, standingOf, placeIn, partLength}
-use Rattle.definitions.specs.declared.Standing.{Standing}
-use Rattle.definitions.specs.declared.Standing.the-variants.{Listed, Inside}
+use Rattle.definitions.specs.Standing.{placeOf, isListed, partLength}
 use Rattle.definitions.proofs.ListOf.{list-ascends, list-first, list-some}
 use Rattle.definitions.proofs.Records.{records-length, key-at, value-at}
 use Rattle.list.specs.Own.{OwnList, shownBy}
 use Rattle.list.specs.Sorted.{Ascends, Sorted, Near}
-use Rattle.list.specs.Among.{keysUpTo, keysBelow, placeAmong, standingAmong}
+use Rattle.list.specs.Among.{keysUpTo, keysBelow, placeAmong, whichAmong, placeIn}
+use Rattle.list.specs.declared.standing.Which.{Which}
+use Rattle.list.specs.declared.standing.Which.the-variants.{Listed, Inside}
 use Rattle.list.proofs.Accepted.{accepted, keys-ascend}
 use Rattle.list.proofs.Count.{counted-before}
-use Rattle.list.proofs.Among.{found-some, found-most, keys-of-records, values-of-records, standing-among, place-among, among-place, standing-listed, standing-inside}
+use Rattle.list.proofs.Among.{found-some, place-below, keys-of-records, values-of-records, place-among, among-place, which-listed, which-inside}
 use Rattle.list.proofs.Lookup.{lookup-value}
 use Rattle.list.proofs.PartLength.{part-some, part-end}
 
@@ -69,16 +69,9 @@ module _ {m : ℕ} {keys bits : List ℕ} {n : ℕ} (o : OwnList m keys bits n) 
       let a = own-key 0 (omega arith) in
       record { ascends = own-ascends; some = omega arith; first = omega arith }
 
-  own-room : (κ : ℕ) → keysUpTo κ (take n keys) ≤ n
-  own-room κ = found-most (own-sorted κ) (keysUpTo κ (take n keys)) refl
-
   -- a place among the first n
   pub own-place : (κ : ℕ) → placeAmong κ (take n keys) < n
-  unfolding placeAmong
-  own-place κ =
-      let some = found-some (own-sorted κ) (keysUpTo κ (take n keys)) refl in
-      let most = own-room κ in
-      omega arith
+  own-place κ = place-below (own-sorted κ)
 
   -- a search for what comes later can begin there
   pub own-near : (κ : ℕ) → Near keys n (placeAmong κ (take n keys)) κ
@@ -88,17 +81,17 @@ module _ {m : ℕ} {keys bits : List ℕ} {n : ℕ} (o : OwnList m keys bits n) 
       let room = own-place κ in
       record { room = room; before = counted-before own-ascends κ (keysUpTo κ (take n keys) - 1) (omega arith) }
 
-  -- a standing that was found among the keys, as one in the list
-  own-standing : (κ : ℕ) → standingOf κ (listOfPicture m (shownBy m keys bits n)) ≡ standingAmong κ (take n keys)
-  own-standing κ = ap (standingOf κ) (sym (o .own)) ∙ standing-among keys bits n (o .fits) κ
+  -- what was found among the keys, as it is in the list
+  own-which : (κ : ℕ) → whichAmong κ (keysOf (listOfPicture m (shownBy m keys bits n))) ≡ whichAmong κ (take n keys)
+  own-which κ = ap (whichAmong κ) own-keys
 
-  pub own-listed : (κ place : ℕ) → Listed place ≡ standingAmong κ (take n keys)
+  pub own-listed : (κ place : ℕ) → Listed place ≡ whichAmong κ (take n keys)
       → (isListed κ (listOfPicture m (shownBy m keys bits n)) ≡ true) × (placeOf κ (listOfPicture m (shownBy m keys bits n)) ≡ place)
-  own-listed κ place e = standing-listed κ _ place (own-standing κ ∙ sym e)
+  own-listed κ place e = which-listed κ _ place (own-which κ ∙ sym e)
 
-  pub own-inside : (κ place : ℕ) → Inside place ≡ standingAmong κ (take n keys)
+  pub own-inside : (κ place : ℕ) → Inside place ≡ whichAmong κ (take n keys)
       → (isListed κ (listOfPicture m (shownBy m keys bits n)) ≡ false) × (placeOf κ (listOfPicture m (shownBy m keys bits n)) ≡ place)
-  own-inside κ place e = standing-inside κ _ place (own-standing κ ∙ sym e)
+  own-inside κ place e = which-inside κ _ place (own-which κ ∙ sym e)
 
   -- of a block of the map: the bitstring at its place is its own, and the part that holds it ends with the keys below the end of its interval
   module _ {k r c κ : ℕ} (b : Block m k r c κ) where
@@ -109,8 +102,8 @@ module _ {m : ℕ} {keys bits : List ℕ} {n : ℕ} (o : OwnList m keys bits n) 
         ∙ ap (λ l. getD (valuesOf l) (placeOf κ l) 0) (o .own)
         ∙ lookup-value (shownBy m keys bits n) b
 
-    -- so whatever the standing is, the bitstring at its place is the block's
-    pub own-found : (x : Standing) → x ≡ standingAmong κ (take n keys) → (placeIn x < n) × (getD bits (placeIn x) 0 ≡ bitsOf (shownBy m keys bits n) k r c)
+    -- so whichever it is, the bitstring at its place is the block's
+    pub own-found : (x : Which) → x ≡ whichAmong κ (take n keys) → (placeIn x < n) × (getD bits (placeIn x) 0 ≡ bitsOf (shownBy m keys bits n) k r c)
     own-found x e =
         let f = ap placeIn e ∙ among-place κ (take n keys) in
         (rw f (own-place κ), ap (λ i. getD bits i 0) f ∙ own-bits)

@@ -1,12 +1,12 @@
--- Where a key stands among keys alone, as the searches of the code see it: the twins of upTo, placeOf, isListed and standingOf, without the
--- bitstrings. Only contracts need them; proofs/Among.antt has the laws that connect them.
+-- Which key stands last at or before another among keys alone, as the searches of the code see it: the twins of upTo and placeOf without the
+-- bitstrings, and what a walk asks. Only contracts need them; proofs/Among.antt has the laws that connect them.
 use Prim.Native.Nat.{ℕ, _+_, _-_}
 use mathlib.Core.Bool.{cond}
 use mathlib.Core.List.{List, [], _∷_}
 use lib.ListN.{getD}
 use lib.Dec.{leb, ltb, eqb}
-use Rattle.definitions.specs.declared.Standing.{Standing}
-use Rattle.definitions.specs.declared.Standing.the-variants.{Listed, Inside}
+use Rattle.list.specs.declared.standing.Which.{Which}
+use Rattle.list.specs.declared.standing.Which.the-variants.{Listed, Inside}
 
 -- how many keys are at or before x
 unfoldable pub keysUpTo : ℕ → List ℕ → ℕ
@@ -22,6 +22,11 @@ keysBelow x (κ ∷ keys) = cond (ltb κ x) 1 0 + keysBelow x keys
 unfoldable pub placeAmong : ℕ → List ℕ → ℕ
 placeAmong κ keys = keysUpTo κ keys - 1
 
-unfoldable pub standingAmong : ℕ → List ℕ → Standing
-standingAmong κ keys =
+-- which it is, listed or inside a leaf, and the place
+unfoldable pub whichAmong : ℕ → List ℕ → Which
+whichAmong κ keys =
     cond (eqb (getD keys (placeAmong κ keys) 0) κ) (Listed (placeAmong κ keys)) (Inside (placeAmong κ keys))
+
+abbrev pub placeIn : Which → ℕ
+placeIn (Listed place) = place
+placeIn (Inside place) = place

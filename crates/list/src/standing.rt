@@ -1,13 +1,21 @@
-// Where a block stands in a list (document 01, "Where a block stands"): binary searches among the first n keys.
+// Where a block stands in a list (document 01, "Where a block stands"; document 02, item 6): binary searches among the first n keys.
 ghost use mathlib.Core.Path.{_≡_};
-ghost use Prim.Native.Nat.{_+_, _≤_, _^_};
+ghost use mathlib.Core.Bool.{true};
+ghost use Prim.Native.Nat.{_≤_, _^_};
 ghost use lib.ListN.{take};
+ghost use Rattle.keys.specs.Key.{heightOf};
+ghost use Rattle.definitions.specs.Read.{recordsOf};
+ghost use Rattle.definitions.specs.Standing.{placeOf, isListed, recordsIn, standingOf};
 ghost use Rattle.list.specs.Sorted.{Ascends, Sorted, Near};
-ghost use Rattle.list.specs.Among.{keysUpTo, keysBelow, standingAmong};
+ghost use Rattle.list.specs.Own.{BlockIn};
+ghost use Rattle.list.specs.Among.{keysUpTo, placeAmong, whichAmong};
+use crate::check;
 use definitions::Standing;
+use keys::Key;
+use keys::power;
 
 // How many of the first n keys are at or before x: the answer lies from low to high, and each turn halves what is left.
-pub fn up_to(keys: &[u32], n: usize, x: u32) -> usize
+fn up_to(keys: &[u32], n: usize, x: u32) -> usize
     requires { ⌜ Ascends (now keys) n ⌝ }
     ensures { λ r. ⌜ r ≡ keysUpTo x (take n (now (keys .entry))) ⌝ }
 {
@@ -34,7 +42,7 @@ fn narrowed(width: usize, half: usize) -> usize
 
 // The same count, from a place whose key is known to be at or before x: steps widen while they stay at or before x, and halve once one is past it.
 // So the cost is the logarithm of the distance, not of n: a walk in key order asks for keys that lie close together.
-pub fn up_to_from(keys: &[u32], n: usize, from: usize, x: u32) -> usize
+fn up_to_from(keys: &[u32], n: usize, from: usize, x: u32) -> usize
     requires { ⌜ Ascends (now keys) n × Near (now keys) n from x ⌝ }
     ensures { λ r. ⌜ r ≡ keysUpTo x (take n (now (keys .entry))) ⌝ }
 {
@@ -55,33 +63,99 @@ pub fn up_to_from(keys: &[u32], n: usize, from: usize, x: u32) -> usize
     low
 }
 
-// Where a key stands among the first n keys, looked for from a place on.
-pub fn stand_from(keys: &[u32], n: usize, from: usize, key: u32) -> Standing
-    requires { ⌜ Sorted (now keys) n key × Near (now keys) n from key ⌝ }
-    ensures { λ r. ⌜ r ≡ standingAmong key (take n (now (keys .entry))) ⌝ }
+// The place of the last of the first n keys that is at or before x.
+pub fn place(keys: &[u32], n: usize, x: u32) -> usize
+    requires { ⌜ Sorted (now keys) n x ⌝ }
+    ensures { λ r. ⌜ r ≡ placeAmong x (take n (now (keys .entry))) ⌝ }
 {
-    let place = up_to_from(keys, n, from, key) - 1;
+    up_to(keys, n, x) - 1
+}
+
+// The same, looked for from a place on.
+pub fn place_from(keys: &[u32], n: usize, from: usize, x: u32) -> usize
+    requires { ⌜ Sorted (now keys) n x × Near (now keys) n from x ⌝ }
+    ensures { λ r. ⌜ r ≡ placeAmong x (take n (now (keys .entry))) ⌝ }
+{
+    up_to_from(keys, n, from, x) - 1
+}
+
+// Which it is, listed or inside a leaf, and the place: all that a walk asks of a block. It is the first half of a standing, and asks the keys alone.
+pub enum Which {
+    Listed(usize),
+    Inside(usize),
+}
+
+// Which it is for a key, looked for from a place on.
+pub fn which_from(keys: &[u32], n: usize, from: usize, key: u32) -> Which
+    requires { ⌜ Sorted (now keys) n key × Near (now keys) n from key ⌝ }
+    ensures { λ r. ⌜ r ≡ whichAmong key (take n (now (keys .entry))) ⌝ }
+{
+    let place = place_from(keys, n, from, key);
     let found = keys[place];
     if found == key {
-        Standing::Listed(place)
+        Which::Listed(place)
     } else {
-        Standing::Inside(place)
+        Which::Inside(place)
     }
 }
 
-// The same, where no place is known yet.
-pub fn stand(keys: &[u32], n: usize, key: u32) -> Standing
-    requires { ⌜ Sorted (now keys) n key ⌝ }
-    ensures { λ r. ⌜ r ≡ standingAmong key (take n (now (keys .entry))) ⌝ }
+// How many records a listed block and all below it take, where step is the number of keys of its interval: of a leaf 1 and of a node of four pixels 5,
+// without a search; the last record of a larger node is looked for from its own on.
+fn records_from(
+    m: u32,
+    keys: &[u32],
+    bits: &[u32],
+    n: usize,
+    place: usize,
+    key: u32,
+    step: u32,
+) -> usize
+    requires { ⌜ BlockIn m (now keys) (now bits) n key × (step ≡ 5 ^ heightOf m key)
+        × (isListed key (recordsOf (now keys) (now bits) n) ≡ true) × (place ≡ placeOf key (recordsOf (now keys) (now bits) n)) ⌝ }
+    ensures { λ r. ⌜ r ≡ recordsIn m key (recordsOf (now (keys .entry)) (now (bits .entry)) n) ⌝ }
 {
-    stand_from(keys, n, 0, key)
+    let own = bits[place];
+    if check::has_one_slot(own) {
+        return 1;
+    }
+    if step == 5 {
+        return 5;
+    }
+    up_to_from(keys, n, place, key + (step - 1)) - place
 }
 
-// How many of the first n keys are below key + step: the place after the last record of the block with that key, whose interval has step keys.
-pub fn end_of(keys: &[u32], n: usize, key: u32, step: u32) -> usize
-    requires { ⌜ Ascends (now keys) n ⌝ }
-    requires { ⌜ (1 ≤ step) × (key + step ≤ 2 ^ 32) ⌝ }
-    ensures { λ r. ⌜ r ≡ keysBelow (key + step) (take n (now (keys .entry))) ⌝ }
+// Where a block stands, with the number of its records or the key and level of the leaf around it: looked for from a place on, where step is the number
+// of keys of its interval.
+pub fn stand_from(
+    m: u32,
+    keys: &[u32],
+    bits: &[u32],
+    n: usize,
+    from: usize,
+    key: u32,
+    step: u32,
+) -> Standing
+    requires { ⌜ BlockIn m (now keys) (now bits) n key × (step ≡ 5 ^ heightOf m key) × Near (now keys) n from key ⌝ }
+    ensures { λ r. ⌜ r ≡ standingOf m key (recordsOf (now (keys .entry)) (now (bits .entry)) n) ⌝ }
 {
-    up_to(keys, n, key + (step - 1))
+    match which_from(keys, n, from, key) {
+        Which::Listed(place) => {
+            let records = records_from(m, keys, bits, n, place, key, step);
+            Standing::Listed(place, records)
+        }
+        Which::Inside(place) => {
+            let leaf = keys[place];
+            let level = Key { number: leaf }.level(m);
+            Standing::Inside(place, leaf, level)
+        }
+    }
+}
+
+// The same, where neither a place nor the step is known yet.
+pub fn stand(m: u32, keys: &[u32], bits: &[u32], n: usize, key: u32) -> Standing
+    requires { ⌜ BlockIn m (now keys) (now bits) n key ⌝ }
+    ensures { λ r. ⌜ r ≡ standingOf m key (recordsOf (now (keys .entry)) (now (bits .entry)) n) ⌝ }
+{
+    let step = power::power_of_five(Key { number: key }.height(m));
+    stand_from(m, keys, bits, n, 0, key, step)
 }

@@ -1,6 +1,6 @@
 -- What searches among keys in order read: the bits of a block, of a child and of a parent are those of the model, and the places are there.
 -- Only the order of the keys is asked. Rests on Among of the list.
-use Prim.Native.Nat.{ℕ, suc, _+_, _-_, _*_, _/_, _^_, _≤_, _<_}
+use Prim.Native.Nat.{ℕ, suc, _+_, _*_, _/_, _^_, _≤_, _<_}
 use mathlib.Core.Path.{_≡_, sym, _∙_, ap, ap₂}
 use mathlib.Core.Bool.{cond}
 use mathlib.Core.List.{List}
@@ -17,37 +17,30 @@ use Rattle.definitions.specs.Read.{recordsOf}
 use Rattle.definitions.specs.Standing.{placeOf}
 use Rattle.definitions.proofs.Slots.{same-four}
 use Rattle.list.specs.Sorted.{Sorted}
-use Rattle.list.specs.Among.{keysUpTo, placeAmong}
-use Rattle.list.proofs.Among.{found-some, found-most, values-of-records, place-among}
+use Rattle.list.specs.Among.{placeAmong}
+use Rattle.list.proofs.Among.{place-below, values-of-records, place-among}
 use Rattle.put.specs.Family.{around, bitsAt, childBits, parentBits, widerBits}
 
 -- keys in order that begin with the root's have a place for every key
 pub sorted-from : {keys : List ℕ} {n : ℕ} → Sorted keys n 0 → (x : ℕ) → Sorted keys n x
 sorted-from s x = let first = s .first in record { ascends = s .ascends; some = s .some; first = omega arith }
 
--- a count of keys gives a place
-module _ (keys bits : List ℕ) (n x : ℕ) (fits : n ≤ length keys) (room : n ≤ length bits) (count : ℕ) (is : count ≡ keysUpTo x (take n keys)) where
+-- a place among the keys
+module _ (keys bits : List ℕ) (n x : ℕ) (fits : n ≤ length keys) (room : n ≤ length bits) (place : ℕ) (is : place ≡ placeAmong x (take n keys)) where
   -- it is the place in the records
-  pub place-read : count - 1 ≡ placeOf x (recordsOf keys bits n)
-  unfolding placeAmong
-  place-read = ap (λ k. k - 1) is ∙ sym (place-among keys bits n (omega arith) x)
+  pub place-read : place ≡ placeOf x (recordsOf keys bits n)
+  place-read = is ∙ sym (place-among keys bits n (omega arith) x)
 
   -- the bits there are the block's
-  pub bits-read : count - 1 < n → getD bits (count - 1) 0 ≡ bitsAt x (recordsOf keys bits n)
+  pub bits-read : place < n → getD bits place 0 ≡ bitsAt x (recordsOf keys bits n)
   unfolding bitsAt
   bits-read h =
-      sym (getD-take n bits (count - 1) 0 h)
+      sym (getD-take n bits place 0 h)
       ∙ ap₂ (λ l i. getD l i 0) (sym (values-of-records keys bits n (omega arith))) place-read
 
--- there is such a place
-module _ {keys : List ℕ} {n x : ℕ} (s : Sorted keys n x) (count : ℕ) (is : count ≡ keysUpTo x (take n keys)) where
-  -- a key at or before x is there
-  pub count-some : 1 ≤ count
-  count-some = found-some s count is
-
-  -- so the place is one of the n
-  pub count-below : count - 1 < n
-  count-below = let h = found-some s count is in let i = found-most s count is in omega arith
+-- it is one of the n
+pub place-there : {keys : List ℕ} {n x : ℕ} → Sorted keys n x → (place : ℕ) → place ≡ placeAmong x (take n keys) → place < n
+place-there s place is = let h = place-below s in omega arith
 
 -- the bits of a child: those in hand for the block itself
 pub child-own : (l : List Record) (own b x : ℕ) → x ≡ own → b ≡ childBits l own b x

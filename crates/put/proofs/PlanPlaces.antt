@@ -1,46 +1,33 @@
--- The places of a plan, by searches among the keys: where the filled block or the leaf around it stands, where its part ends, and that what stands
--- there is at least as high. Rests on Standing and on the part of the list.
+-- The numbers of a plan, by where the filled block stands: listed with so many records, or inside a leaf, which is higher. Rests on the laws of the
+-- fuller standing and of the part of the list.
 use Prim.Native.Nat.{ℕ, _+_, _-_, _*_, _/_, _^_, _≤_, _<_}
 use mathlib.Core.Path.{_≡_, sym, _∙_, ap, ap₂}
-use mathlib.Core.Bool.{Bool, true}
+use mathlib.Core.Bool.{Bool, true, false}
 use mathlib.Core.List.{List}
 use native.Mathlib.Omega.{arith}
 use lib.ListN.{getD, take}
-use lib.Seq.{getD-take}
-use Rattle.keys.specs.Key.{validKey, heightOf}
+use borrow.Author.Tests.{eqb-true}
+use Rattle.keys.specs.Key.{validKey, levelOf, heightOf}
 use Rattle.keys.proofs.Powers.{five-le, five-pos}
 use Rattle.keys.proofs.Interval.{under-height}
-use Rattle.keys.proofs.Valid.{valid-block, valid-below, block-valid}
-use Rattle.definitions.specs.Picture.{Picture}
-use Rattle.definitions.specs.List.{Record, listOf, listOfPicture, keysOf}
+use Rattle.keys.proofs.Ancestor.{ancestor-iff}
+use Rattle.keys.proofs.Valid.{valid-block, valid-below, block-level}
+use Rattle.definitions.specs.List.{Record, listOfPicture, keysOf}
 use Rattle.definitions.specs.Read.{recordsOf}
-use Rattle.definitions.specs.Standing.{placeOf, partLength}
-use Rattle.list.specs.Own.{OwnList, shownBy}
-use Rattle.list.specs.Among.{keysUpTo, keysBelow}
+use Rattle.definitions.specs.Standing.{placeOf, keyFound, isListed, standingOf, partLength}
+use Rattle.definitions.specs.declared.Standing.the-variants.{Listed, Inside}
+use Rattle.list.specs.Own.{OwnList, BlockIn, shownBy}
+use Rattle.list.specs.Among.{keysBelow}
 use Rattle.list.proofs.Among.{keys-of-records}
 use Rattle.list.proofs.PartLength.{part-end}
-use Rattle.list.proofs.Own.{own-sorted}
+use Rattle.list.proofs.Fuller.{listed-numbers, inside-numbers, listed-part, inside-part}
+use Rattle.list.proofs.PatchLeaf.{leaf-contains, leaf-level}
 use Rattle.put.specs.Family.{around}
 use Rattle.put.specs.Put.{topFor, planAt}
 use Rattle.put.specs.declared.plan.Plan.{Plan}
-use Rattle.put.proofs.Way.{Way, way-of, under-of}
-use Rattle.put.proofs.Standing.{Stands, listed, inside, stands, key-listed, key-inside}
 use Rattle.put.proofs.Bounds.{level, level-valid, level-height, level-until}
 use Rattle.put.proofs.PlanTop.{top-bounds}
-use Rattle.put.proofs.FamilyRead.{around-own, place-read, count-below}
-
--- the block whose record stands for a block in the list of a picture is at least as high
-module _ (p : Picture) {m k r c κ : ℕ} (w : Way m 0 0 0 k r c κ) where
-  height-at : Stands p w → k ≤ heightOf m (getD (keysOf (listOf p m 0 0 0)) (placeOf κ (listOf p m 0 0 0)) 0)
-  height-at (listed o) = let e = ap (heightOf m) (key-listed p w o) ∙ block-valid (under-of w) .height in omega arith
-  height-at (inside x) =
-      let e = ap (heightOf m) (key-inside p x) ∙ block-valid (under-of (x .way)) .height in
-      let h = under-height (under-of (x .under)) in
-      omega arith
-
--- the same for a block with a valid key
-pub height-found : (m κ : ℕ) (p : Picture) → validKey m κ ≡ true → heightOf m κ ≤ heightOf m (getD (keysOf (listOfPicture m p)) (placeOf κ (listOfPicture m p)) 0)
-height-found m κ p valid = let w = way-of (valid-block m κ valid) in height-at p w (stands p w)
+use Rattle.put.proofs.FamilyRead.{around-own}
 
 module _ {m n : ℕ} {keys bits : List ℕ} (own : OwnList m keys bits n) where
   -- the lists of the records' keys
@@ -55,35 +42,6 @@ module _ {m n : ℕ} {keys bits : List ℕ} (own : OwnList m keys bits n) where
       ∙ part-end (shownBy m keys bits n) (valid-block m x valid)
       ∙ ap₂ (λ s l. keysBelow (x + s) (keysOf l)) (sym e) (sym (own .own))
       ∙ ap (keysBelow (x + step)) records-keys
-
-  -- a count of keys and the count before the end give the part: its place and its length
-  module _ (x step : ℕ) (valid : validKey m x ≡ true) (power : step ≡ 5 ^ heightOf m x)
-      (count end : ℕ) (start-is : count ≡ keysUpTo x (take n keys)) (end-is : end ≡ keysBelow (x + step) (take n keys)) where
-    -- the place
-    pub part-start : count - 1 ≡ placeOf x (recordsOf keys bits n)
-    part-start = let h = own .fits in place-read keys bits n x (omega arith) (omega arith) count start-is
-
-    -- it is not after the end
-    pub part-order : count - 1 ≤ end
-    part-order = let e = part-start in let f = part-until x step valid power in omega arith
-
-    -- the length
-    pub part-length : end - (count - 1) ≡ partLength m x (recordsOf keys bits n)
-    part-length = let e = part-start in let f = part-until x step valid power in omega arith
-
-    -- the key that stands there
-    pub key-found : getD keys (count - 1) 0 ≡ getD (keysOf (recordsOf keys bits n)) (placeOf x (recordsOf keys bits n)) 0
-    key-found =
-        sym (getD-take n keys (count - 1) 0 (count-below (own-sorted own x) count start-is))
-        ∙ ap₂ (λ l i. getD l i 0) (sym records-keys) part-start
-
-    -- its block is at least as high
-    pub found-high : heightOf m x ≤ heightOf m (getD keys (count - 1) 0)
-    found-high =
-        let h = height-found m x (shownBy m keys bits n) valid in
-        let e = ap (heightOf m) key-found in
-        let f = ap (λ l. heightOf m (getD (keysOf l) (placeOf x l) 0)) (own .own) in
-        omega arith
 
 -- the block of height top around a key, with its step
 pub record Filled (m key top step : ℕ) : Type 0 where
@@ -144,27 +102,58 @@ same-plan m l key top top′ filled start old height e f g h i =
     ∙ ap (λ x. record { top = top; start = placeOf x l; old = partLength m x l; levels = heightOf m (getD (keysOf l) (placeOf x l) 0) - top }) f
     ∙ ap (planAt m l key) e
 
--- the plan by what the searches found for the filled block: the count of keys up to its own, and of those before the end of its interval
-module _ {m n key top step : ℕ} {keys bits : List ℕ} (own : OwnList m keys bits n) (f : Filled m key top step) (count end : ℕ)
-    (start-is : count ≡ keysUpTo (key / step * step) (take n keys)) (end-is : end ≡ keysBelow (key / step * step + step) (take n keys)) where
-  -- the part does not end before its place
-  pub plan-order : count - 1 ≤ end
-  plan-order = part-order own (key / step * step) step (filled-valid f) (filled-step f) count end start-is end-is
+-- the key that stands at a listed block's place is its own
+own-key : (κ : ℕ) (l : List Record) → isListed κ l ≡ true → keyFound κ l ≡ κ
+unfolding isListed
+own-key κ l e = eqb-true _ _ e
 
-  -- the leaf around the filled block, or that block itself, is as high at least
-  pub plan-high : (height : ℕ) → height ≡ heightOf m (getD keys (count - 1) 0) → top ≤ height
-  plan-high height e =
-      let h = found-high own (key / step * step) step (filled-valid f) (filled-step f) count end start-is end-is in
-      let g = filled-height f in
-      omega arith
+-- the height of a block by its level
+height-is : (m κ level : ℕ) → level ≡ levelOf m κ → m - level ≡ heightOf m κ
+unfolding heightOf
+height-is m κ level e = ap (λ x. m - x) e
 
-  -- so the four numbers are those of the model
-  pub plan-found : (height : ℕ) (leaf : Bool) (b : ℕ) → height ≡ heightOf m (getD keys (count - 1) 0) → top ≡ topFor m (recordsOf keys bits n) key leaf b
-      → _≡_ {A = Plan} (record { top = top; start = count - 1; old = end - (count - 1); levels = height - top })
-      (planAt m (recordsOf keys bits n) key (topFor m (recordsOf keys bits n) key leaf b))
-  plan-found height leaf b e is =
-      same-plan m (recordsOf keys bits n) key top (topFor m (recordsOf keys bits n) key leaf b) (key / step * step) (count - 1) (end - (count - 1)) height is
-      (filled-is f)
-      (part-start own (key / step * step) step (filled-valid f) (filled-step f) count end start-is end-is)
-      (part-length own (key / step * step) step (filled-valid f) (filled-step f) count end start-is end-is)
-      (e ∙ ap (heightOf m) (key-found own (key / step * step) step (filled-valid f) (filled-step f) count end start-is end-is))
+-- the plan by where the filled block stands
+module _ {m n key top step : ℕ} {keys bits : List ℕ} (own : OwnList m keys bits n) (f : Filled m key top step) where
+  -- it is a block of the list
+  pub filled-asked : BlockIn m keys bits n (key / step * step)
+  filled-asked = record { deepest = f .deep; own = own; valid = filled-valid f }
+
+  -- it is listed: its records are exchanged, and nothing is split
+  pub plan-listed : (start old : ℕ) (leaf : Bool) (b : ℕ) → standingOf m (key / step * step) (recordsOf keys bits n) ≡ Listed start old → top ≡ topFor m (recordsOf keys bits n) key leaf b
+      → _≡_ {A = Plan} (record { top = top; start = start; old = old; levels = 0 }) (planAt m (recordsOf keys bits n) key (topFor m (recordsOf keys bits n) key leaf b))
+  plan-listed start old leaf b e is =
+      let l : List Record = recordsOf keys bits n in
+      let g = listed-numbers m (key / step * step) l start old e in
+      let none : 0 ≡ heightOf m (key / step * step) - top = let h = filled-height f in omega arith in
+      ap (λ x. record { top = top; start = start; old = old; levels = x }) none
+      ∙ same-plan m l key top (topFor m l key leaf b) (key / step * step) start old (heightOf m (key / step * step)) is (filled-is f) (g .1)
+      (g .2 ∙ sym (listed-part m (key / step * step) l (g .0)))
+      (ap (heightOf m) (sym (own-key (key / step * step) l (g .0))))
+
+  -- it lies inside a leaf: the leaf's one record is exchanged, and split down to the block
+  module _ (start around level : ℕ) (e : standingOf m (key / step * step) (recordsOf keys bits n) ≡ Inside start around level) where
+    numbers : (isListed (key / step * step) (recordsOf keys bits n) ≡ false) × (start ≡ placeOf (key / step * step) (recordsOf keys bits n)) × (around ≡ keyFound (key / step * step) (recordsOf keys bits n)) × (level ≡ levelOf m (keyFound (key / step * step) (recordsOf keys bits n)))
+    numbers = inside-numbers m (key / step * step) (recordsOf keys bits n) start around level e
+
+    in-picture : standingOf m (key / step * step) (listOfPicture m (shownBy m keys bits n)) ≡ Inside start around level
+    in-picture = ap (standingOf m (key / step * step)) (sym (own .own)) ∙ e
+
+    -- the leaf is as high at least
+    pub plan-high : (level ≤ m) × (top ≤ m - level)
+    plan-high =
+        let c = leaf-contains m (shownBy m keys bits n) (key / step * step) (filled-valid f) start around level in-picture in
+        let b = valid-block m around (c .0) in
+        let h = block-level b in
+        let i = leaf-level m (shownBy m keys bits n) (key / step * step) (filled-valid f) start around level in-picture in
+        let u = ancestor-iff b (valid-block m (key / step * step) (filled-valid f)) .0 (c .1) in
+        let w = under-height (u .0) in
+        let j = filled-height f in
+        omega arith
+
+    pub plan-inside : (leaf : Bool) (b : ℕ) → top ≡ topFor m (recordsOf keys bits n) key leaf b
+        → _≡_ {A = Plan} (record { top = top; start = start; old = 1; levels = m - level - top }) (planAt m (recordsOf keys bits n) key (topFor m (recordsOf keys bits n) key leaf b))
+    plan-inside leaf b is =
+        let l : List Record = recordsOf keys bits n in
+        same-plan m l key top (topFor m l key leaf b) (key / step * step) start 1 (m - level) is (filled-is f) (numbers .1)
+        (sym (inside-part m (key / step * step) l (numbers .0)))
+        (height-is m (keyFound (key / step * step) l) level (numbers .3))

@@ -14,12 +14,12 @@ use Rattle.definitions.specs.Read.{paired, recordsOf}
 use Rattle.definitions.specs.Buffer.{over}
 use Rattle.definitions.specs.Standing.{placeOf}
 use Rattle.list.specs.Sorted.{Sorted}
-use Rattle.list.specs.Among.{keysUpTo}
+use Rattle.list.specs.Among.{placeAmong}
 use Rattle.list.proofs.Among.{values-of-records}
 use Rattle.put.specs.Family.{around, widerBits}
 use Rattle.put.specs.Renew.{setBits, renew}
 use Rattle.put.proofs.Renew.{renew-zero, renew-suc}
-use Rattle.put.proofs.FamilyRead.{sorted-from, place-read, count-below, around-parent, wider-parent}
+use Rattle.put.proofs.FamilyRead.{sorted-from, place-read, place-there, around-parent, wider-parent}
 
 -- bits set in a slice are set in the records
 paired-set : (keys bits : List ℕ) (i v : ℕ) → paired keys (set bits i v) ≡ setBits (paired keys bits) i v
@@ -56,26 +56,26 @@ module _ {m : ℕ} {keys bits₀ : List ℕ} {n key height b : ℕ} {bits : List
       omega arith
 
   -- a turn: the parent's bits are found, and set at its place
-  pub renew-turns : low < m → Sorted keys n 0 → n ≤ length bits₀ → (own′ count : ℕ)
+  pub renew-turns : low < m → Sorted keys n 0 → n ≤ length bits₀ → (own′ place : ℕ)
       → own′ ≡ widerBits (recordsOf keys bits n) key own step
-      → count ≡ keysUpTo (key / (step * 5) * (step * 5)) (take n keys)
-      → Renewing m keys bits₀ n key height b (set bits (count - 1) own′) (low + 1) (step * 5) own′
-  renew-turns more s room own′ count found is =
+      → place ≡ placeAmong (key / (step * 5) * (step * 5)) (take n keys)
+      → Renewing m keys bits₀ n key height b (set bits place own′) (low + 1) (step * 5) own′
+  renew-turns more s room own′ place found is =
       let l : List Record = recordsOf keys bits n in
       let size = p .size in
       let fits = s .ascends .room in
-      let below : count - 1 < n = count-below (sorted-from s (key / (step * 5) * (step * 5))) count is in
-      let place : count - 1 ≡ placeOf (around (suc low) key) l =
-      place-read keys bits n (key / (step * 5) * (step * 5)) fits (omega arith) count is ∙ ap (λ x. placeOf x l) (around-parent key step low (p .power)) in
+      let below : place < n = place-there (sorted-from s (key / (step * 5) * (step * 5))) place is in
+      let read : place ≡ placeOf (around (suc low) key) l =
+      place-read keys bits n (key / (step * 5) * (step * 5)) fits (omega arith) place is ∙ ap (λ x. placeOf x l) (around-parent key step low (p .power)) in
       let levels : m - low ≡ suc (m - (low + 1)) = omega arith in
       record {
         within = omega arith;
         power = ap (λ x. x * 5) (p .power) ∙ sym (pow-suc 5 low) ∙ ap (λ k. 5 ^ k) (sym (add-one low));
-        size = length-set bits (count - 1) own′ ∙ size;
-        rest = drop-set-lt n bits (count - 1) own′ below ∙ p .rest;
+        size = length-set bits place own′ ∙ size;
+        rest = drop-set-lt n bits place own′ below ∙ p .rest;
         left =
-            ap₂ (λ r h. renew r key own′ (m - (low + 1)) h) (records-set keys bits n (count - 1) own′ below) (add-one low)
-            ∙ ap₂ (λ i v. renew (setBits l i v) key v (m - (low + 1)) (suc low)) place (found ∙ wider-parent key step low (p .power) l own)
+            ap₂ (λ r h. renew r key own′ (m - (low + 1)) h) (records-set keys bits n place own′ below) (add-one low)
+            ∙ ap₂ (λ i v. renew (setBits l i v) key v (m - (low + 1)) (suc low)) read (found ∙ wider-parent key step low (p .power) l own)
             ∙ sym (renew-suc l key own (m - (low + 1)) low)
             ∙ ap (λ k. renew l key own k low) (sym levels)
             ∙ p .left;

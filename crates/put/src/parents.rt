@@ -13,7 +13,7 @@ pub fn bits_at(keys: &[u32], bits: &[u32], n: usize, x: u32) -> u32
     requires { ⌜ n ≤ length (now bits) ⌝ }
     ensures { λ r. ⌜ r ≡ bitsAt x (recordsOf (now (keys .entry)) (now (bits .entry)) n) ⌝ }
 {
-    let place = standing::up_to(keys, n, x) - 1;
+    let place = standing::place(keys, n, x);
     bits[place]
 }
 

@@ -10,6 +10,7 @@ ghost use Rattle.list.specs.Own.{OwnList};
 ghost use Rattle.put.specs.Climb.{climb as climbed};
 ghost use Rattle.put.specs.Put.{topFor, planAt};
 use crate::parents;
+use definitions::Standing;
 use keys::Key;
 use keys::power;
 use list::standing;
@@ -57,7 +58,8 @@ fn top_of(m: u32, keys: &[u32], bits: &[u32], n: usize, key: u32, leaf: bool, fi
     low
 }
 
-// The plan for a content of which it is known whether it is one record, and its first bits.
+// The plan for a content of which it is known whether it is one record, and its first bits: where the filled block stands says which records are
+// exchanged, and how far the leaf around it is split.
 pub fn plan_of(
     m: u32,
     keys: &[u32],
@@ -75,15 +77,19 @@ pub fn plan_of(
     let top = top_of(m, keys, bits, n, key, leaf, first);
     let step = power::power_of_five(top);
     let filled = key / step * step;
-    let start = standing::up_to(keys, n, filled) - 1;
-    let end = standing::end_of(keys, n, filled, step);
-    let number = keys[start];
-    let height = Key { number }.height(m);
-    Plan {
-        top,
-        start,
-        old: end - start,
-        levels: height - top,
+    match standing::stand_from(m, keys, bits, n, 0, filled, step) {
+        Standing::Listed(start, old) => Plan {
+            top,
+            start,
+            old,
+            levels: 0,
+        },
+        Standing::Inside(start, around, level) => Plan {
+            top,
+            start,
+            old: 1,
+            levels: m - level - top,
+        },
     }
 }
 

@@ -27,7 +27,7 @@ pub fn renew(m: u32, keys: &[u32], bits: &mut [u32], n: usize, key: u32, height:
         own = parents::parent_bits(keys, bits, n, key, own, step);
         step = step * 5;
         low += 1;
-        let place = standing::up_to(keys, n, key / step * step) - 1;
+        let place = standing::place(keys, n, key / step * step);
         bits[place] = own;
     }
 }

@@ -1,5 +1,5 @@
--- The answers of standing, part and raster: a refused call gives its number and nothing else, and an accepted one what was found among the keys.
--- Rests on Tests and Own.
+-- The answers of standing, part and raster: a refused call gives its number and nothing else, and an accepted one the numbers of the standing.
+-- Rests on Tests, Own and Fuller.
 use Prim.Native.Nat.{ℕ, suc, _+_, _-_, _^_, _≤_}
 use mathlib.Core.Path.{_≡_, sym, _∙_, ap, ap₂}
 use mathlib.Core.List.{List, []}
@@ -8,96 +8,76 @@ use native.Mathlib.Omega.{arith}
 use lib.ListN.{length, take, drop, length-take, length-drop}
 use Rattle.keys.specs.Key.{heightOf}
 use Rattle.keys.proofs.Cases.{equal}
-use Rattle.keys.proofs.Powers.{five-pos, five-le}
-use Rattle.keys.proofs.Interval.{within}
+use Rattle.keys.proofs.Powers.{five-pos}
 use Rattle.keys.proofs.Valid.{valid-block}
 use Rattle.definitions.specs.Read.{recordsOf}
-use Rattle.definitions.specs.Standing.{kindOf, placeIn, placeOf, partLength, partOf}
+use Rattle.definitions.specs.Standing.{placeOf, standingOf, numbersOf, partLength, partOf}
 use Rattle.definitions.specs.Window.{featuresOfRows}
-use Rattle.definitions.specs.Calls.Standing.{standingRefusal, standing}
+use Rattle.definitions.specs.Calls.Standing.{standingRefusal, standsNowhere, standing}
 use Rattle.definitions.specs.Calls.Part.{part, partSpan}
 use Rattle.definitions.specs.Calls.Raster.{rasterRefusal, raster, rasterPixels}
 use Rattle.definitions.specs.declared.Standing.{Standing}
-use Rattle.definitions.specs.declared.Stands.{Stands}
+use Rattle.definitions.specs.declared.Standing.the-variants.{Listed, Inside}
 use Rattle.definitions.specs.declared.Span.{Span}
 use Rattle.definitions.proofs.First.{accepted-done, accepted-left}
-use Rattle.list.specs.Own.{OwnList, shownBy}
-use Rattle.list.specs.Among.{keysUpTo, keysBelow, placeAmong, standingAmong}
+use Rattle.list.specs.Own.{BlockIn, shownBy}
+use Rattle.list.specs.Among.{keysBelow}
 use Rattle.list.proofs.Count.{below-up-to}
-use Rattle.list.proofs.Among.{up-to-most, standing-among, place-among}
+use Rattle.list.proofs.Among.{up-to-most}
 use Rattle.list.proofs.Own.{own-list, own-part-some, own-part}
+use Rattle.list.proofs.Fuller.{listed-numbers, inside-numbers, listed-part, inside-part}
 use Rattle.list.proofs.Tests.{StandingPassed, standing-passed}
-
-stands : {a b c a′ b′ c′ : ℕ} → a ≡ a′ → b ≡ b′ → c ≡ c′ → _≡_ {A = Stands} (record { refusal = a; kind = b; place = c }) (record { refusal = a′; kind = b′; place = c′ })
-stands e f g i = record { refusal = e i; kind = f i; place = g i }
 
 span : {a b a′ b′ : ℕ} → a ≡ a′ → b ≡ b′ → _≡_ {A = Span} (record { start = a; length = b }) (record { start = a′; length = b′ })
 span e f i = record { start = e i; length = f i }
 
 module _ (m s : ℕ) (keys bits : List ℕ) (n κ : ℕ) where
   -- a refused call of standing
-  pub standing-refused : (r : ℕ) → r ≡ standingRefusal m s keys bits n κ → (r ≡ 0 → ⊥) → record { refusal = r; kind = 0; place = 0 } ≡ standing m s keys bits n κ
+  pub standing-refused : (r : ℕ) → r ≡ standingRefusal m s keys bits n κ → (r ≡ 0 → ⊥) → standsNowhere r ≡ standing m s keys bits n κ
   unfolding standing
-  standing-refused r is h = stands is (sym (accepted-left _ 0 (λ e. h (is ∙ e)))) (sym (accepted-left _ 0 (λ e. h (is ∙ e))))
+  standing-refused r is h = ap standsNowhere is ∙ sym (accepted-left _ _ (λ e. h (is ∙ e)))
 
-  -- an accepted one gives the numbers of the standing among the first n keys
-  pub standing-found : (x : Standing) → standingRefusal m s keys bits n κ ≡ 0 → x ≡ standingAmong κ (take n keys) → record { refusal = 0; kind = kindOf x; place = placeIn x } ≡ standing m s keys bits n κ
+  -- an accepted one gives the numbers of the standing
+  pub standing-found : (x : Standing) → standingRefusal m s keys bits n κ ≡ 0 → x ≡ standingOf m κ (recordsOf keys bits n) → numbersOf x ≡ standing m s keys bits n κ
   unfolding standing
-  standing-found x none is =
-      let o = own-list m s keys bits n (standing-passed m s keys bits n κ none .list) in
-      let e = is ∙ sym (standing-among keys bits n (o .fits) κ) in
-      stands (sym none) (ap kindOf e ∙ sym (accepted-done _ 0 none)) (ap placeIn e ∙ sym (accepted-done _ 0 none))
+  standing-found x none is = ap numbersOf is ∙ sym (accepted-done _ _ none)
 
   -- a refused call of part
   pub span-refused : (r : ℕ) → r ≡ standingRefusal m s keys bits n κ → (r ≡ 0 → ⊥) → record { start = 0; length = 0 } ≡ partSpan m s keys bits n κ
   unfolding partSpan
   span-refused r is h = span (sym (accepted-left _ 0 (λ e. h (is ∙ e)))) (sym (accepted-left _ 0 (λ e. h (is ∙ e))))
 
-  -- of an accepted one: the place, and the end among the first n keys
+  -- of an accepted one: the place and the length
   module _ (none : standingRefusal m s keys bits n κ ≡ 0) where
     passed : StandingPassed m s keys bits n κ
     passed = standing-passed m s keys bits n κ none
 
-    pub own : OwnList m keys bits n
-    own = own-list m s keys bits n (passed .list)
+    pub asked : BlockIn m keys bits n κ
+    asked = record { deepest = passed .settings .deep; own = own-list m s keys bits n (passed .list); valid = passed .valid }
 
-    pub height-small : heightOf m κ ≤ 10
-    height-small = let w = within (valid-block m κ (passed .valid)) in omega (arith, passed .settings .deep)
+    span-found : (start length : ℕ) → start ≡ placeOf κ (recordsOf keys bits n) → length ≡ partLength m κ (recordsOf keys bits n)
+        → record { start = start; length = length } ≡ partSpan m s keys bits n κ
+    unfolding partSpan
+    span-found start length e f =
+        span (e ∙ sym (accepted-done (placeOf κ (recordsOf keys bits n)) 0 none)) (f ∙ sym (accepted-done (partLength m κ (recordsOf keys bits n)) 0 none))
 
-    -- the interval ends within 32 bits
-    pub step-fits : (step : ℕ) → step ≡ 5 ^ heightOf m κ → (1 ≤ step) × (κ + step ≤ 2 ^ 32)
-    step-fits step is =
-        let w = within (valid-block m κ (passed .valid)) in
-        let h = five-le 10 (passed .settings .deep) in
-        let p = five-pos (heightOf m κ) in
-        omega arith
+    -- a listed block's records
+    pub span-listed : (place records : ℕ) → standingOf m κ (recordsOf keys bits n) ≡ Listed place records
+        → record { start = place; length = records } ≡ partSpan m s keys bits n κ
+    span-listed place records e =
+        let f = listed-numbers m κ (recordsOf keys bits n) place records e in
+        span-found place records (f .1) (f .2 ∙ sym (listed-part m κ (recordsOf keys bits n) (f .0)))
 
+    -- the leaf's one
+    pub span-inside : (place leaf level : ℕ) → standingOf m κ (recordsOf keys bits n) ≡ Inside place leaf level
+        → record { start = place; length = 1 } ≡ partSpan m s keys bits n κ
+    span-inside place leaf level e =
+        let f = inside-numbers m κ (recordsOf keys bits n) place leaf level e in
+        span-found place 1 (f .1) (sym (inside-part m κ (recordsOf keys bits n) (f .0)))
+
+    -- it ends with the keys below the end of the block's interval
     part-until : placeOf κ (recordsOf keys bits n) + partLength m κ (recordsOf keys bits n) ≡ keysBelow (κ + 5 ^ heightOf m κ) (take n keys)
-    part-until = own-part own (valid-block m κ (passed .valid))
-
-    place-found : (count : ℕ) → count ≡ keysUpTo κ (take n keys) → count - 1 ≡ placeOf κ (recordsOf keys bits n)
-    unfolding placeAmong
-    place-found count e = ap (λ x. x - 1) e ∙ sym (place-among keys bits n (own .fits) κ)
-
-    module _ (step count end : ℕ) (is : step ≡ 5 ^ heightOf m κ) (counted : count ≡ keysUpTo κ (take n keys)) (ended : end ≡ keysBelow (κ + step) (take n keys)) where
-      whole-part : count - 1 + partLength m κ (recordsOf keys bits n) ≡ end
-      whole-part =
-          let g = place-found count counted in
-          let h = part-until in
-          let i = ended ∙ ap (λ x. keysBelow (κ + x) (take n keys)) is in
-          omega arith
-
-      part-size : end - (count - 1) ≡ partLength m κ (recordsOf keys bits n)
-      part-size = let h = whole-part in omega arith
-
-      pub part-order : count - 1 ≤ end
-      part-order = let h = whole-part in omega arith
-
-      pub span-found : record { start = count - 1; length = end - (count - 1) } ≡ partSpan m s keys bits n κ
-      unfolding partSpan
-      span-found =
-          span (place-found count counted ∙ sym (accepted-done (placeOf κ (recordsOf keys bits n)) 0 none))
-          (part-size ∙ sym (accepted-done (partLength m κ (recordsOf keys bits n)) 0 none))
+    part-until = own-part (asked .own) (valid-block m κ (passed .valid))
 
     until-most : placeOf κ (recordsOf keys bits n) + partLength m κ (recordsOf keys bits n) ≤ length keys
     until-most =
@@ -135,7 +115,7 @@ module _ (m s : ℕ) (keys bits : List ℕ) (n κ : ℕ) where
       let h = length-take (partLength m κ (recordsOf keys bits n)) (drop (placeOf κ (recordsOf keys bits n)) keys) in
       let i = length-drop (placeOf κ (recordsOf keys bits n)) keys in
       let j = until-most none in
-      let k = own-part-some (own none) (valid-block m κ (passed none .valid)) in
+      let k = own-part-some (asked none .own) (valid-block m κ (passed none .valid)) in
       omega arith
 
   -- the part is empty exactly when the call is refused

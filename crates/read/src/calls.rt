@@ -31,7 +31,7 @@ fn standing_refusal(m: u32, s: u32, keys: &[u32], bits: &[u32], n: usize, key: u
     if block.is_valid(m) { 0 } else { 8 }
 }
 
-// Where a block stands: kind 1 is listed at the place, kind 2 inside the leaf at the place.
+// Where a block stands: kind 1 is listed at the place with so many records, kind 2 inside the leaf at the place with that key and level.
 pub fn standing(m: u32, s: u32, keys: &[u32], bits: &[u32], n: usize, key: u32) -> Stands
     ensures { λ r. ⌜ r ≡ standingAnswer m s (now (keys .entry)) (now (bits .entry)) n key ⌝ }
 {
@@ -41,23 +41,32 @@ pub fn standing(m: u32, s: u32, keys: &[u32], bits: &[u32], n: usize, key: u32) 
             refusal,
             kind: 0,
             place: 0,
+            records: 0,
+            leaf: 0,
+            level: 0,
         };
     }
-    match search::stand(keys, n, key) {
-        Standing::Listed(place) => Stands {
+    match search::stand(m, keys, bits, n, key) {
+        Standing::Listed(place, records) => Stands {
             refusal: 0,
             kind: 1,
             place: place as u64,
+            records: records as u64,
+            leaf: 0,
+            level: 0,
         },
-        Standing::Inside(place) => Stands {
+        Standing::Inside(place, leaf, level) => Stands {
             refusal: 0,
             kind: 2,
             place: place as u64,
+            records: 0,
+            leaf: leaf as u64,
+            level: level as u64,
         },
     }
 }
 
-// Where the part of the key slice that holds a block starts, and how many places it has.
+// Where the part of the key slice that holds a block starts, and how many places it has: a listed block's records, or the leaf's one.
 pub fn part_span(m: u32, s: u32, keys: &[u32], bits: &[u32], n: usize, key: u32) -> Span
     ensures { λ r. ⌜ r ≡ partSpan m s (now (keys .entry)) (now (bits .entry)) n key ⌝ }
 {
@@ -67,14 +76,15 @@ pub fn part_span(m: u32, s: u32, keys: &[u32], bits: &[u32], n: usize, key: u32)
             length: 0,
         };
     }
-    let block = Key { number: key };
-    let step = power::power_of_five(block.height(m));
-    let start = search::up_to(keys, n, key) - 1;
-    let end = search::end_of(keys, n, key, step);
-    let length = end - start;
-    Span {
-        start: start as u64,
-        length: length as u64,
+    match search::stand(m, keys, bits, n, key) {
+        Standing::Listed(place, records) => Span {
+            start: place as u64,
+            length: records as u64,
+        },
+        Standing::Inside(place, leaf, level) => Span {
+            start: place as u64,
+            length: 1,
+        },
     }
 }
 

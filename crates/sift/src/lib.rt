@@ -21,10 +21,10 @@ ghost use Rattle.sift.specs.Sift.{SiftReady, RunReady, Sifted};
 pub mod waivers;
 
 use definitions::Rule;
-use definitions::Standing;
 use definitions::Window;
 use keys::power;
 use list::standing;
+use list::standing::Which;
 use window::select;
 use window::walk;
 use window::walk::Found;
@@ -147,9 +147,9 @@ fn sift_block(
     let bit = job.bit;
     let key = block.key;
     let step = block.step;
-    let standing = standing::stand_from(keys, n, from, key);
-    let Standing::Listed(place) = standing else {
-        let Standing::Inside(leaf) = standing else {
+    let which = standing::which_from(keys, n, from, key);
+    let Which::Listed(place) = which else {
+        let Which::Inside(leaf) = which else {
             return at;
         };
         if bits[leaf] == bit {
@@ -212,7 +212,7 @@ pub fn sift_rule(
                 break;
             }
             let key = spot.key;
-            from = standing::up_to_from(keys, n, from, key) - 1;
+            from = standing::place_from(keys, n, from, key);
             if bits[from] & bit == 0 {
                 break;
             }

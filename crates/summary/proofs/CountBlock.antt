@@ -1,6 +1,6 @@
 -- The counts of one block of an accepted list: counters that were all 0 have the block's counts once its leaf or its node was added. Rests on
 -- CountTurn and list's Shown.
-use Prim.Native.Nat.{ℕ, _+_, _-_, _^_, _≤_, _<_}
+use Prim.Native.Nat.{ℕ, _+_, _^_, _≤_, _<_}
 use mathlib.Core.Path.{_≡_, refl, sym, _∙_, ap, ap₂}
 use mathlib.Core.Bool.{true, false}
 use mathlib.Core.List.{List}
@@ -20,10 +20,9 @@ use Rattle.definitions.specs.Area.{pixelsWith, countsOf}
 use Rattle.definitions.proofs.SummaryOf.{counts-length, count-of}
 use Rattle.list.specs.Check.{oneSlot}
 use Rattle.list.specs.Own.{OwnList, shownBy}
-use Rattle.list.specs.Among.{keysUpTo, placeAmong}
+use Rattle.list.specs.Among.{placeAmong}
 use Rattle.list.specs.Shown.{ShownAt}
-use Rattle.list.proofs.Among.{found-some, found-most}
-use Rattle.list.proofs.Own.{own-sorted, own-bits}
+use Rattle.list.proofs.Own.{own-place, own-bits}
 use Rattle.list.proofs.Shown.{slot-one, slot-several, slot-feature, block-shown}
 use Rattle.summary.specs.Count.{added, Room, NodeAt, NodeCounted}
 use Rattle.summary.proofs.CountTurn.{added-length, leaf-added, shown-node, shown-counted}
@@ -52,47 +51,40 @@ raised p k r c counts long h =
     let z = getD-replicate {A = ℕ} 32 f 0 0 below in
     omega arith)
 
-module _ {m : ℕ} {keys bits : List ℕ} {n : ℕ} (o : OwnList m keys bits n) (key : ℕ) {found : ℕ} (is : found ≡ keysUpTo key (take n keys)) where
-  pub place-some : 1 ≤ found
-  place-some = found-some (own-sorted o key) found is
-
-  pub place-room : found - 1 < length bits
-  place-room = let h = found-most (own-sorted o key) found is in let j = place-some in let k = o .fits in omega arith
-
-  place-is : placeAmong key (take n keys) ≡ found - 1
-  unfolding placeAmong
-  place-is = ap (λ x. x - 1) (sym is)
+module _ {m : ℕ} {keys bits : List ℕ} {n : ℕ} (o : OwnList m keys bits n) (key : ℕ) {found : ℕ} (is : found ≡ placeAmong key (take n keys)) where
+  pub place-room : found < length bits
+  place-room = let h = own-place o key in let k = o .fits in omega arith
 
   module _ (valid : validKey m key ≡ true) {area : ℕ} (pixels : area ≡ 4 ^ heightOf m key) where
     block : Block m (heightOf m key) (rowOf m key) (columnOf m key) key
     block = valid-block m key valid
 
-    own-is : getD bits (found - 1) 0 ≡ bitsOf (shownBy m keys bits n) (heightOf m key) (rowOf m key) (columnOf m key)
-    own-is = ap (λ i. getD bits i 0) (sym place-is) ∙ own-bits o block
+    own-is : getD bits found 0 ≡ bitsOf (shownBy m keys bits n) (heightOf m key) (rowOf m key) (columnOf m key)
+    own-is = ap (λ i. getD bits i 0) is ∙ own-bits o block
 
     -- the block has one feature
     pub leaf-counts : (counts : List ℕ)
-        → oneSlot (getD bits (found - 1) 0) ≡ true
-        → counts ≡ added (replicate 32 0) (featureOf (getD bits (found - 1) 0)) area
+        → oneSlot (getD bits found 0) ≡ true
+        → counts ≡ added (replicate 32 0) (featureOf (getD bits found 0)) area
         → counts ≡ countsOf 32 (shownBy m keys bits n) (heightOf m key) (rowOf m key) (columnOf m key)
     leaf-counts counts slot e =
         let leaf = ap oneSlot (sym own-is) ∙ slot in
         raised (shownBy m keys bits n) (heightOf m key) (rowOf m key) (columnOf m key) counts
-        (ap length e ∙ added-length (replicate 32 0) (featureOf (getD bits (found - 1) 0)) area)
+        (ap length e ∙ added-length (replicate 32 0) (featureOf (getD bits found 0)) area)
         (λ f i.
         ap (λ l. getD l f 0) (e ∙ ap₂ (λ g a. added (replicate 32 0) g a) (ap featureOf own-is ∙ slot-feature _ (heightOf m key) (rowOf m key) (columnOf m key) leaf) pixels)
         ∙ leaf-added (shownBy m keys bits n) (heightOf m key) (rowOf m key) (columnOf m key) (replicate 32 0) f (slot-one _ (heightOf m key) (rowOf m key) (columnOf m key) leaf) refl i)
 
     -- the block has several, so it is listed
-    module _ (slots : oneSlot (getD bits (found - 1) 0) ≡ false) where
-      shown : ShownAt (shownBy m keys bits n) (heightOf m key) (rowOf m key) (columnOf m key) key bits (found - 1)
-      shown = rw place-is at (block-shown o block (slot-several _ (heightOf m key) (rowOf m key) (columnOf m key) (ap oneSlot (sym own-is) ∙ slots)))
+    module _ (slots : oneSlot (getD bits found 0) ≡ false) where
+      shown : ShownAt (shownBy m keys bits n) (heightOf m key) (rowOf m key) (columnOf m key) key bits found
+      shown = rw (sym is) at (block-shown o block (slot-several _ (heightOf m key) (rowOf m key) (columnOf m key) (ap oneSlot (sym own-is) ∙ slots)))
 
-      pub node-there : NodeAt bits (found - 1) area
+      pub node-there : NodeAt bits found area
       node-there = shown-node shown slots pixels
 
       pub node-counts : (counts : List ℕ) (next : ℕ)
-          → NodeCounted bits (found - 1) area (replicate 32 0) counts next
+          → NodeCounted bits found area (replicate 32 0) counts next
           → counts ≡ countsOf 32 (shownBy m keys bits n) (heightOf m key) (rowOf m key) (columnOf m key)
       node-counts counts next x =
           raised (shownBy m keys bits n) (heightOf m key) (rowOf m key) (columnOf m key) counts (x .long ∙ length-replicate {A = ℕ} 32 0)

@@ -60,7 +60,7 @@ pub fn count_block(m: u32, keys: &[u32], bits: &[u32], n: usize, key: u32, area:
     ensures { λ r. ⌜ r ≡ countsOf 32 (shownBy m (now (keys .entry)) (now (bits .entry)) n) (heightOf m key) (rowOf m key) (columnOf m key) ⌝ }
 {
     let mut counts = [0u32; 32];
-    let place = search::up_to(keys, n, key) - 1;
+    let place = search::place(keys, n, key);
     let own = bits[place];
     if check::has_one_slot(own) {
         count_leaf(&mut counts, own, area);

@@ -1,6 +1,6 @@
 -- What asking where a block stands gives on an accepted list, as the code has it: at the place are the block's own bits; a listed block's whole list
 -- stands there; a block inside a leaf has one feature; and the search for a later key can begin there. Rests on the laws of standing.
-use Prim.Native.Nat.{ℕ, _-_, _≤_, _<_}
+use Prim.Native.Nat.{ℕ, _≤_, _<_}
 use mathlib.Core.Path.{_≡_, sym, _∙_, ap, subst}
 use mathlib.Core.Bool.{true}
 use mathlib.Core.List.{List}
@@ -10,19 +10,19 @@ use lib.Seq.{getD-take}
 use borrow.Author.Tests.{eqb-true}
 use Rattle.keys.specs.Key.{rootKey}
 use Rattle.keys.proofs.Under.{Block}
-use Rattle.definitions.specs.declared.Standing.{Standing}
-use Rattle.definitions.specs.declared.Standing.the-variants.{Listed, Inside}
 use Rattle.definitions.specs.Picture.{oneFeature}
 use Rattle.definitions.specs.Bits.{bitsOf}
 use Rattle.definitions.specs.List.{keysOf, listOfPicture}
-use Rattle.definitions.specs.Standing.{placeOf, isListed, placeIn}
+use Rattle.definitions.specs.Standing.{placeOf, isListed}
 use Rattle.definitions.proofs.Features.{one-under}
 use Rattle.list.specs.Own.{OwnList, shownBy}
 use Rattle.list.specs.Sorted.{Near}
-use Rattle.list.specs.Among.{keysUpTo, placeAmong, standingAmong}
-use Rattle.list.proofs.Among.{found-some, among-place}
+use Rattle.list.specs.Among.{placeAmong, whichAmong, placeIn}
+use Rattle.list.specs.declared.standing.Which.{Which}
+use Rattle.list.specs.declared.standing.Which.the-variants.{Listed, Inside}
+use Rattle.list.proofs.Among.{among-place}
 use Rattle.list.proofs.Lookup.{lookup-listed, lookup-inside, AtPlace}
-use Rattle.list.proofs.Own.{own-keys, own-sorted, own-place, own-bits, own-found, own-listed, own-inside, own-near}
+use Rattle.list.proofs.Own.{own-keys, own-place, own-bits, own-found, own-listed, own-inside, own-near}
 
 -- the place is one of the list's, and has the block's bits
 pub record Asked (m : ℕ) (keys bits : List ℕ) (n k r c place : ℕ) : Type 0 where
@@ -35,43 +35,33 @@ near-later h y later = record { room = h .room; before = omega (arith, h .before
 
 module _ {m : ℕ} {keys bits : List ℕ} {n : ℕ} (o : OwnList m keys bits n) where
   -- so does the place that was found
-  pub near-count : (κ count : ℕ) → count ≡ keysUpTo κ (take n keys) → Near keys n (count - 1) κ
-  unfolding placeAmong
-  near-count κ count e = subst (λ (x : ℕ). Near keys n (x - 1) κ) (sym e) (own-near o κ)
+  pub near-place : (κ place : ℕ) → place ≡ placeAmong κ (take n keys) → Near keys n place κ
+  near-place κ place e = subst (λ (x : ℕ). Near keys n x κ) (sym e) (own-near o κ)
 
-  pub near-standing : (κ : ℕ) (stands : Standing) → stands ≡ standingAmong κ (take n keys) → Near keys n (placeIn stands) κ
-  near-standing κ stands is = subst (λ (x : ℕ). Near keys n x κ) (sym (ap placeIn is ∙ among-place κ (take n keys))) (own-near o κ)
-
-  -- and before any was, the first
-  pub near-root : (κ : ℕ) → Near keys n 0 κ
-  near-root κ = let s = own-sorted o κ in record { room = omega (arith, s .some); before = s .first }
-
-  -- some key is at or before each
-  pub asked-some : (κ count : ℕ) → count ≡ keysUpTo κ (take n keys) → 1 ≤ count
-  asked-some κ count e = found-some (own-sorted o κ) count e
+  pub near-which : (κ : ℕ) (which : Which) → which ≡ whichAmong κ (take n keys) → Near keys n (placeIn which) κ
+  near-which κ which is = near-place κ (placeIn which) (ap placeIn is ∙ among-place κ (take n keys))
 
   -- at the place of the last key at or before a block's are the block's bits
-  pub asked-count : {k r c κ : ℕ} → Block m k r c κ → (count : ℕ) → count ≡ keysUpTo κ (take n keys) → Asked m keys bits n k r c (count - 1)
-  unfolding placeAmong
-  asked-count {κ = κ} b count e =
+  pub asked-place : {k r c κ : ℕ} → Block m k r c κ → (place : ℕ) → place ≡ placeAmong κ (take n keys) → Asked m keys bits n k r c place
+  asked-place {κ = κ} b place e =
       let low = own-place o κ in
-      record { room = omega arith; value = ap (λ x. getD bits (x - 1) 0) e ∙ own-bits o b }
+      record { room = omega arith; value = ap (λ x. getD bits x 0) e ∙ own-bits o b }
 
-  module _ {k r c κ : ℕ} (b : Block m k r c κ) (stands : Standing) (place : ℕ) (is : stands ≡ standingAmong κ (take n keys)) where
+  module _ {k r c κ : ℕ} (b : Block m k r c κ) (which : Which) (place : ℕ) (is : which ≡ whichAmong κ (take n keys)) where
     -- the record of a listed block is its own
-    pub asked-listed : stands ≡ Listed place → Asked m keys bits n k r c place
+    pub asked-listed : which ≡ Listed place → Asked m keys bits n k r c place
     asked-listed e = let f = own-found o b (Listed place) (sym e ∙ is) in record { room = f .0; value = f .1 }
 
     -- its whole list stands from there on
-    pub asked-list : stands ≡ Listed place → AtPlace (shownBy m keys bits n) m 0 0 rootKey k r c κ κ
+    pub asked-list : which ≡ Listed place → AtPlace (shownBy m keys bits n) m 0 0 rootKey k r c κ κ
     asked-list e = lookup-listed (shownBy m keys bits n) b (own-listed o κ place (sym e ∙ is) .0)
 
     -- and the place is where
-    pub asked-from : stands ≡ Listed place → place ≡ placeOf κ (listOfPicture m (shownBy m keys bits n))
+    pub asked-from : which ≡ Listed place → place ≡ placeOf κ (listOfPicture m (shownBy m keys bits n))
     asked-from e = sym (own-listed o κ place (sym e ∙ is) .1)
 
     -- with the block's key
-    pub asked-key : stands ≡ Listed place → getD keys place 0 ≡ κ
+    pub asked-key : which ≡ Listed place → getD keys place 0 ≡ κ
     unfolding isListed
     asked-key e =
         let l = own-listed o κ place (sym e ∙ is) in
@@ -81,10 +71,10 @@ module _ {m : ℕ} {keys bits : List ℕ} {n : ℕ} (o : OwnList m keys bits n) 
         ∙ eqb-true _ κ (l .0)
 
     -- the leaf around a block that is not listed has the block's one bit
-    pub asked-inside : stands ≡ Inside place → Asked m keys bits n k r c place
+    pub asked-inside : which ≡ Inside place → Asked m keys bits n k r c place
     asked-inside e = let f = own-found o b (Inside place) (sym e ∙ is) in record { room = f .0; value = f .1 }
 
-    pub asked-one : stands ≡ Inside place → oneFeature (shownBy m keys bits n) k r c ≡ true
+    pub asked-one : which ≡ Inside place → oneFeature (shownBy m keys bits n) k r c ≡ true
     asked-one e =
         let i = lookup-inside (shownBy m keys bits n) b (own-inside o κ place (sym e ∙ is) .0) in
         one-under (shownBy m keys bits n) (i .holds) (i .one)

@@ -9,7 +9,8 @@ use Rattle.list.specs.Sorted.{Near}
 use Rattle.window.specs.declared.walk.Spot.{Spot}
 use Rattle.window.specs.Walk.{Stands, firstQuadrant}
 use Rattle.window.proofs.Steps.{Parent, some-keys, first-stands, rises}
-use Rattle.window.proofs.Asked.{near-later, near-root}
+use Rattle.list.proofs.Fuller.{near-root}
+use Rattle.window.proofs.Asked.{near-later}
 
 pub record Going (m : ℕ) (keys : List ℕ) (n from x : ℕ) (s : Spot) : Type 0 where
   pub stands : Stands m s

@@ -13,6 +13,7 @@ pub mod Gathered
 pub mod Written
 pub mod Until
 pub mod Content
+pub mod Run
 pub mod Lower
 pub mod Skip
 pub mod LeafKeys

@@ -7,10 +7,10 @@ ghost use Rattle.definitions.specs.Window.{isWindow, existIn};
 ghost use Rattle.list.specs.Own.{OwnList, shownBy};
 use crate::walk;
 use crate::walk::Found;
-use definitions::Standing;
 use definitions::Window;
 use keys::power;
 use list::standing;
+use list::standing::Which;
 
 // Some pixel of the window has the feature: the walk is left at the first block that shows it. A block that lies in a leaf, or whose bits lack the
 // feature, is settled by its record, however the window cuts it; only a cut node with the feature and others is entered. Keys rise, so each search begins
@@ -28,9 +28,9 @@ pub fn exist_in(m: u32, keys: &[u32], bits: &[u32], n: usize, window: Window, fe
                 break;
             }
             let key = spot.key;
-            let standing = standing::stand_from(keys, n, from, key);
-            let Standing::Listed(place) = standing else {
-                let Standing::Inside(leaf) = standing else {
+            let which = standing::which_from(keys, n, from, key);
+            let Which::Listed(place) = which else {
+                let Which::Inside(leaf) = which else {
                     break;
                 };
                 from = leaf;

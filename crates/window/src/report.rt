@@ -26,7 +26,7 @@ pub fn report_in(m: u32, keys: &[u32], bits: &[u32], n: usize, window: Window) -
                 break;
             }
             let key = spot.key;
-            from = standing::up_to_from(keys, n, from, key) - 1;
+            from = standing::place_from(keys, n, from, key);
             let found = bits[from];
             if union | found == union {
                 break;

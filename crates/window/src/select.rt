@@ -1,16 +1,17 @@
 // Select: where does a feature occur in a window?
 ghost use mathlib.Core.Path.{_≡_};
 ghost use mathlib.Core.Bool.{true};
-ghost use Prim.Native.Nat.{_+_, _≤_, _<_};
-ghost use lib.ListN.{length, drop};
+ghost use Prim.Native.Nat.{_≤_, _<_};
+ghost use lib.ListN.{length, take, drop};
 ghost use Rattle.keys.specs.Key.{slotLimit};
 ghost use Rattle.definitions.specs.Edit.{contentOf};
 ghost use Rattle.definitions.specs.Read.{recordsOf};
 ghost use Rattle.definitions.specs.Window.{isWindow, selectIn};
 ghost use Rattle.list.specs.Own.{OwnList, shownBy};
-ghost use Rattle.list.specs.Sorted.{Near};
+ghost use Rattle.list.specs.Check.{oneSlot};
+ghost use Rattle.list.specs.Among.{placeAmong};
 ghost use Rattle.window.specs.Walk.{Stands};
-ghost use Rattle.window.specs.Gather.{keysWith, keysUntil, putAt, Gave};
+ghost use Rattle.window.specs.Gather.{keysWith, putAt, Gave};
 use crate::walk;
 use crate::walk::Found;
 use crate::walk::Spot;
@@ -29,31 +30,26 @@ pub fn put(answer: &mut [u32], limit: usize, place: usize, number: u32)
     }
 }
 
-// Gives the keys of the records from a place on that have exactly the bit, up to the first record whose key is at or past the end.
+// Gives the keys of the records from one place up to another that have exactly the bit.
 fn gather_run(
     keys: &[u32],
     bits: &[u32],
-    n: usize,
     first: usize,
-    end: u32,
+    end: usize,
     bit: u32,
     answer: &mut [u32],
     limit: usize,
     count: usize,
 ) -> usize
-    requires { ⌜ (n ≤ length (now keys)) × (n ≤ length (now bits)) × (limit ≤ length (now answer)) × (count ≤ 9765625) ⌝ }
-    ensures { λ r. ⌜ Gave (keysUntil end bit (drop first (recordsOf (now (keys .entry)) (now (bits .entry)) n)))
+    requires { ⌜ (end ≤ length (now keys)) × (end ≤ length (now bits)) × (limit ≤ length (now answer)) × (count ≤ 9765625) ⌝ }
+    ensures { λ r. ⌜ Gave (keysWith bit (drop first (recordsOf (now (keys .entry)) (now (bits .entry)) end)))
         limit count (now (answer .entry)) (now (answer .exit)) r ⌝ }
 {
     let mut given = count;
     let mut i = first;
-    while i < n {
-        let key = keys[i];
-        if end <= key {
-            return given;
-        }
+    while i < end {
         if bits[i] == bit {
-            put(answer, limit, given, key);
+            put(answer, limit, given, keys[i]);
             given += 1;
         }
         i += 1;
@@ -61,7 +57,8 @@ fn gather_run(
     given
 }
 
-// Gives the leaves of a block that have exactly the bit: those of its records, or the block itself where it lies inside such a leaf.
+// Gives the leaves of a block that have exactly the feature's bit, where the last record at or before its key is known: the block itself where that
+// record has the bit alone, whether it is the block's own or that of the leaf around it; else those of its records, if it is listed.
 fn gather_block(
     m: u32,
     keys: &[u32],
@@ -74,25 +71,32 @@ fn gather_block(
     limit: usize,
     count: usize,
 ) -> usize
-    requires { ⌜ (m ≤ 10) × Stands m block × OwnList m (now keys) (now bits) n × Near (now keys) n from (block .key)
-        × (limit ≤ length (now answer)) × (count ≤ 9765625) ⌝ }
+    requires { ⌜ (m ≤ 10) × Stands m block × OwnList m (now keys) (now bits) n × (from ≡ placeAmong (block .key) (take n (now keys)))
+        × (oneSlot bit ≡ true) × (limit ≤ length (now answer)) × (count ≤ 9765625) ⌝ }
     ensures { λ r. ⌜ Gave (keysWith bit (contentOf m (shownBy m (now (keys .entry)) (now (bits .entry)) n) (block .key)))
         limit count (now (answer .entry)) (now (answer .exit)) r ⌝ }
 {
     let key = block.key;
+    if bits[from] == bit {
+        put(answer, limit, count, key);
+        return count + 1;
+    }
     let step = block.step;
-    let standing = standing::stand_from(keys, n, from, key);
-    let Standing::Listed(place) = standing else {
-        let Standing::Inside(leaf) = standing else {
-            return count;
-        };
-        if bits[leaf] == bit {
-            put(answer, limit, count, key);
-            return count + 1;
-        }
+    let standing = standing::stand_from(m, keys, bits, n, from, key, step);
+    let Standing::Listed(place, records) = standing else {
+        // Inside a leaf of another feature.
         return count;
     };
-    gather_run(keys, bits, n, place, key + step, bit, answer, limit, count)
+    gather_run(
+        keys,
+        bits,
+        place,
+        place + records,
+        bit,
+        answer,
+        limit,
+        count,
+    )
 }
 
 // Gives the keys that select gives: counts them all, and writes those whose places are below the limit. A block without the feature is passed, whatever
@@ -121,7 +125,7 @@ pub fn gather(
                 break;
             }
             let key = spot.key;
-            from = standing::up_to_from(keys, n, from, key) - 1;
+            from = standing::place_from(keys, n, from, key);
             if bits[from] & bit == 0 {
                 break;
             }

@@ -2,7 +2,7 @@
 use Prim.Native.Nat.{ℕ}
 use mathlib.Core.List.{List, [], _∷_}
 use Rattle.definitions.specs.Read.{recordsOf}
-use Rattle.definitions.specs.Standing.{standingOf, kindOf, placeIn}
+use Rattle.definitions.specs.Standing.{standingOf, numbersOf}
 use Rattle.definitions.specs.Refusal.{_gives_, first, accepted, badSettings, noList, badKey}
 use Rattle.definitions.specs.declared.Stands.{Stands}
 
@@ -10,11 +10,12 @@ unfoldable pub standingRefusal : ℕ → ℕ → List ℕ → List ℕ → ℕ �
 standingRefusal m s keys bits n κ =
     first (badSettings m s gives 1 ∷ noList m s keys bits n gives 4 ∷ badKey m κ gives 8 ∷ [])
 
--- kind 1: listed at the place; kind 2: inside the leaf at the place
+-- a refused call's answer: its number alone
+abbrev pub standsNowhere : ℕ → Stands
+standsNowhere number = record { refusal = number; kind = 0; place = 0; records = 0; leaf = 0; level = 0 }
+
 unfoldable pub standing : ℕ → ℕ → List ℕ → List ℕ → ℕ → ℕ → Stands
 standing m s keys bits n κ =
-    record {
-      refusal = standingRefusal m s keys bits n κ;
-      kind = accepted (standingRefusal m s keys bits n κ) (kindOf (standingOf κ (recordsOf keys bits n))) 0;
-      place = accepted (standingRefusal m s keys bits n κ) (placeIn (standingOf κ (recordsOf keys bits n))) 0;
-    }
+    accepted (standingRefusal m s keys bits n κ)
+    (numbersOf (standingOf m κ (recordsOf keys bits n)))
+    (standsNowhere (standingRefusal m s keys bits n κ))

@@ -18,14 +18,15 @@ use Rattle.list.specs.Check.{oneSlot}
 use Rattle.list.specs.Own.{shownBy}
 use Rattle.list.specs.Sorted.{Near}
 use Rattle.list.proofs.OneSlot.{power-slot}
-use Rattle.list.proofs.Own.{own-ascends}
+use Rattle.list.proofs.Own.{own-sorted}
 use Rattle.window.specs.declared.walk.Spot.{Spot}
 use Rattle.window.specs.Walk.{Stands, Walking, isWithin, isApart}
 use Rattle.window.specs.Gather.{keysWith}
 use Rattle.window.proofs.Lies.{small}
 use Rattle.window.proofs.Steps.{some-keys, cut-parent, follows-at, follows-gone, walking-root, walking-after, rises}
-use Rattle.window.proofs.Asked.{asked-some, asked-count, near-later, near-count, near-root}
-use Rattle.window.proofs.Shows.{count-no}
+use Rattle.list.proofs.Fuller.{near-root}
+use Rattle.window.proofs.Asked.{asked-place, near-later, near-place}
+use Rattle.window.proofs.Shows.{place-no}
 use Rattle.window.proofs.Lower.{lower}
 use Rattle.window.proofs.Below.{lower-apart, lower-lacking, lower-block, below-none, below-all, below-few}
 use Rattle.window.proofs.Descent.{Descent, descent-begins, descent-enters}
@@ -143,16 +144,16 @@ so-far c =
     passes _ _ _ _ _ _ _ (named _ _ _ _ _ _ _ _ _ _ (d .same-ids) (d .same-keys) (d .states) (c .before .loop .inv .sifted)) _ (d .descent .gap) (d .descent .rise)
 
 -- the head of the inner loop, from where a block is looked up
-abbrev head : tie.After-up-to-from Inv-loop2 μ-loop2 Inv-loop μ-loop → tie.At-loop2 Inv-loop2 μ-loop2 Inv-loop μ-loop
+abbrev head : tie.After-place-from Inv-loop2 μ-loop2 Inv-loop μ-loop → tie.At-loop2 Inv-loop2 μ-loop2 Inv-loop μ-loop
 head c = c .before .before .before
 
-meets : (c : tie.After-up-to-from Inv-loop2 μ-loop2 Inv-loop μ-loop) → isApart (head c .loop2 .spot) (windowOf (entry (head c) .args .rule)) ≡ false
+meets : (c : tie.After-place-from Inv-loop2 μ-loop2 Inv-loop μ-loop) → isApart (head c .loop2 .spot) (windowOf (entry (head c) .args .rule)) ≡ false
 meets c = sym (c .before .before .apart .ensures) ∙ c .before .if1 .left
 
-in-bits : (c : tie.After-up-to-from Inv-loop2 μ-loop2 Inv-loop μ-loop) → c .up-to-from .result - 1 < length (entry (head c) .args .bits .now)
+in-bits : (c : tie.After-place-from Inv-loop2 μ-loop2 Inv-loop μ-loop) → c .place-from .result < length (entry (head c) .args .bits .now)
 in-bits c =
     let o = entry (head c) .pre .3 in
-    let asked = asked-count o (stands-at (head c) .block) _ (c .up-to-from .ensures) in
+    let asked = asked-place o (stands-at (head c) .block) _ (c .place-from .ensures) in
     omega (arith, asked .room, o .fits)
 
 power-of-two-requires : tie.Need-power-of-two-requires Inv-loop2 μ-loop2 Inv-loop μ-loop
@@ -178,11 +179,8 @@ loop2-holds c =
 apart-requires : tie.Need-apart-requires Inv-loop2 μ-loop2 Inv-loop μ-loop
 apart-requires c κs = small _ _ _ (entry c .pre .0) (entry c .pre .1) (stands-at c)
 
-up-to-from-requires : tie.Need-up-to-from-requires Inv-loop2 μ-loop2 Inv-loop μ-loop
-up-to-from-requires c κs = let at = c .before .before in (own-ascends (entry at .pre .3), at .loop2 .inv .descent .near)
-
-sub-from : tie.Need-sub-from Inv-loop2 μ-loop2 Inv-loop μ-loop
-sub-from c = asked-some (entry (head c) .pre .3) _ _ (c .up-to-from .ensures)
+place-from-requires : tie.Need-place-from-requires Inv-loop2 μ-loop2 Inv-loop μ-loop
+place-from-requires c κs = let at = c .before .before in (own-sorted (entry at .pre .3) _, at .loop2 .inv .descent .near)
 
 mul-if2 : tie.Need-mul-if2 Inv-loop2 μ-loop2 Inv-loop μ-loop
 mul-if2 c = omega (arith, in-bits c, entry (head c) .good .1 .1 .1 .1 .1 .0 .1)
@@ -191,7 +189,7 @@ shared-slice-read-if2 : tie.Need-shared-slice-read-if2 Inv-loop2 μ-loop2 Inv-lo
 shared-slice-read-if2 c = in-bits (c .before)
 
 -- from where a block shows the feature, to where it was looked up
-abbrev looked : tie.Else2 Inv-loop2 μ-loop2 Inv-loop μ-loop → tie.After-up-to-from Inv-loop2 μ-loop2 Inv-loop μ-loop
+abbrev looked : tie.Else2 Inv-loop2 μ-loop2 Inv-loop μ-loop → tie.After-place-from Inv-loop2 μ-loop2 Inv-loop μ-loop
 looked c = c .before .before
 
 within-requires : tie.Need-within-requires Inv-loop2 μ-loop2 Inv-loop μ-loop
@@ -203,7 +201,7 @@ sift-block-requires c κs =
     let at = head asks in
     let pre = entry at .pre in
     let slot = ap oneSlot (at .before .before .before .power-of-two .ensures) ∙ power-slot (entry at .args .rule .feature) in
-    (pre .0, stands-at at, pre .3, near-count (pre .3) _ _ (asks .up-to-from .ensures), slot, ready _ _ _ _ _ _ _ (so-far at) (pre .4) (pre .0))
+    (pre .0, stands-at at, pre .3, near-place (pre .3) _ _ (asks .place-from .ensures), slot, ready _ _ _ _ _ _ _ (so-far at) (pre .4) (pre .0))
 
 first-requires : tie.Need-first-requires Inv-loop2 μ-loop2 Inv-loop μ-loop
 first-requires c κs =
@@ -213,7 +211,7 @@ first-requires c κs =
     omega arith
 
 -- the block that is entered, from there to where it was looked up
-abbrev enters : tie.Else3 Inv-loop2 μ-loop2 Inv-loop μ-loop → tie.After-up-to-from Inv-loop2 μ-loop2 Inv-loop μ-loop
+abbrev enters : tie.Else3 Inv-loop2 μ-loop2 Inv-loop μ-loop → tie.After-place-from Inv-loop2 μ-loop2 Inv-loop μ-loop
 enters c = looked (c .before .before)
 
 cut : (c : tie.Else3 Inv-loop2 μ-loop2 Inv-loop μ-loop) → isWithin (head (enters c) .loop2 .spot) (windowOf (entry (head (enters c)) .args .rule)) ≡ false
@@ -231,7 +229,7 @@ loop2-again c =
     let d = at .loop2 .inv in
     rw (c .first .ensures)
     record {
-      descent = descent-enters _ _ _ (d .descent) _ (near-count (entry at .pre .3) _ _ (asks .up-to-from .ensures))
+      descent = descent-enters _ _ _ (d .descent) _ (near-place (entry at .pre .3) _ _ (asks .place-from .ensures))
           (cut-parent _ (stands-at at) (cut (c .before)) (meets asks)) (cut (c .before));
       states = d .states;
       same-ids = d .same-ids;
@@ -259,7 +257,7 @@ passed c =
     (passes _ _ _ _ _ _ _ b _ (lower-apart _ _ _ _ (stands-at at) (sym (c .before .apart .ensures) ∙ w .0 .taken)) (omega arith)))
     (⊎-elim
     (λ w. named _ _ _ _ _ _ _ _ _ _ (w .4) (w .5) (w .6)
-    (passes _ _ _ _ _ _ _ b _ (lower-lacking _ _ _ _ (stands-at at) (count-no (entry at .pre .3) (stands-at at) _ _ bit _ (w .1 .ensures) (w .3 .taken))) (omega arith)))
+    (passes _ _ _ _ _ _ _ b _ (lower-lacking _ _ _ _ (stands-at at) (place-no (entry at .pre .3) (stands-at at) _ _ bit _ (w .1 .ensures) (w .3 .taken))) (omega arith)))
     (λ w. named _ _ _ _ _ _ _ _ _ _ (w .13) (w .14) (w .15)
     (adds _ _ _ _ _ _ _ (at .loop2 .inv .descent .walking) (sym (w .4 .ensures) ∙ w .5 .taken) b _ bit _ _ _ (w .8 .ensures))))
     (c .if1 .came)
@@ -271,7 +269,7 @@ kept c =
     let at = c .before .before in
     let o = entry at .pre .3 in
     ⊎-elim (λ w. rw (w .4) (at .loop2 .inv .descent .near))
-    (⊎-elim (λ w. rw (w .7) (near-count o _ _ (w .1 .ensures))) (λ w. rw (w .16) (near-count o _ _ (w .1 .ensures))))
+    (⊎-elim (λ w. rw (w .7) (near-place o _ _ (w .1 .ensures))) (λ w. rw (w .16) (near-place o _ _ (w .1 .ensures))))
     (c .if1 .came)
 
 same-length : tie.Need-same-length Inv-loop2 μ-loop2 Inv-loop μ-loop
@@ -319,8 +317,7 @@ sift-rule-spec =
     loop-holds
     loop2-holds
     apart-requires
-    up-to-from-requires
-    sub-from
+    place-from-requires
     mul-if2
     shared-slice-read-if2
     within-requires

@@ -16,16 +16,17 @@ use Rattle.definitions.specs.Window.{isWindow}
 use Rattle.definitions.specs.declared.Window.{Window}
 use Rattle.list.specs.Own.{shownBy}
 use Rattle.list.specs.Sorted.{Near}
-use Rattle.list.proofs.Own.{own-ascends}
+use Rattle.list.proofs.Own.{own-sorted}
 use Rattle.window.specs.declared.walk.Spot.{Spot}
 use Rattle.window.specs.Walk.{Stands, isApart, firstQuadrant}
 use Rattle.window.proofs.Lies.{small}
 use Rattle.window.proofs.Steps.{Parent, some-keys, first-stands, follows-at, follows-gone, rises}
-use Rattle.window.proofs.Asked.{Asked, asked-some, asked-count, near-later, near-count, near-root}
-use Rattle.window.proofs.Shows.{count-no}
+use Rattle.list.proofs.Fuller.{near-root}
+use Rattle.window.proofs.Asked.{Asked, asked-place, near-later, near-place}
+use Rattle.window.proofs.Shows.{place-no}
 use Rattle.area.specs.Tally.{MixedAt}
 use Rattle.area.proofs.WholeBlock.{mixed-at}
-use Rattle.area.proofs.Looked.{count-alone}
+use Rattle.area.proofs.Looked.{place-alone}
 use Rattle.area.proofs.Measured.{Measured, measured-none, measured-end, measured-most, measured-enter, measured-apart, measured-lacking, measured-overlap, measured-whole, mixed-parent}
 use Rattle.area.proofs.measure.area_in.Statement.{statement}
 use Rattle.area.proofs.measure.area_in.Tie as tie
@@ -82,19 +83,19 @@ bit-is : (c : tie.At-loop2 Inv-loop2 μ-loop2 Inv-loop μ-loop) → c .before .b
 bit-is c = c .before .before .before .before .power-of-two .ensures
 
 -- the head of the inner loop, from where a block is looked up
-abbrev head : tie.After-up-to-from Inv-loop2 μ-loop2 Inv-loop μ-loop → tie.At-loop2 Inv-loop2 μ-loop2 Inv-loop μ-loop
+abbrev head : tie.After-place-from Inv-loop2 μ-loop2 Inv-loop μ-loop → tie.At-loop2 Inv-loop2 μ-loop2 Inv-loop μ-loop
 head c = c .before .before .before
 
-meets : (c : tie.After-up-to-from Inv-loop2 μ-loop2 Inv-loop μ-loop) → isApart (head c .loop2 .spot) (entry (head c) .args .window) ≡ false
+meets : (c : tie.After-place-from Inv-loop2 μ-loop2 Inv-loop μ-loop) → isApart (head c .loop2 .spot) (entry (head c) .args .window) ≡ false
 meets c = sym (c .before .before .apart .ensures) ∙ c .before .if1 .left
 
 -- the record where the block stands
-asked : (c : tie.After-up-to-from Inv-loop2 μ-loop2 Inv-loop μ-loop)
+asked : (c : tie.After-place-from Inv-loop2 μ-loop2 Inv-loop μ-loop)
     → Asked (entry (head c) .args .m) (entry (head c) .args .keys .now) (entry (head c) .args .bits .now) (entry (head c) .args .n)
-    (head c .loop2 .inv .stands .height) (head c .loop2 .spot .row) (head c .loop2 .spot .column) (c .up-to-from .result - 1)
-asked c = asked-count (entry (head c) .pre .0 .4) (head c .loop2 .inv .stands .block) _ (c .up-to-from .ensures)
+    (head c .loop2 .inv .stands .height) (head c .loop2 .spot .row) (head c .loop2 .spot .column) (c .place-from .result)
+asked c = asked-place (entry (head c) .pre .0 .4) (head c .loop2 .inv .stands .block) _ (c .place-from .ensures)
 
-in-bits : (c : tie.After-up-to-from Inv-loop2 μ-loop2 Inv-loop μ-loop) → c .up-to-from .result - 1 < length (entry (head c) .args .bits .now)
+in-bits : (c : tie.After-place-from Inv-loop2 μ-loop2 Inv-loop μ-loop) → c .place-from .result < length (entry (head c) .args .bits .now)
 in-bits c = omega (arith, asked c .room, entry (head c) .pre .0 .4 .fits)
 
 power-of-two-requires : tie.Need-power-of-two-requires Inv-loop2 μ-loop2 Inv-loop μ-loop
@@ -122,11 +123,8 @@ loop2-holds c = c .loop .inv
 apart-requires : tie.Need-apart-requires Inv-loop2 μ-loop2 Inv-loop μ-loop
 apart-requires c κs = small _ _ _ (entry c .pre .0 .0) (entry c .pre .0 .3) (c .loop2 .inv .stands)
 
-up-to-from-requires : tie.Need-up-to-from-requires Inv-loop2 μ-loop2 Inv-loop μ-loop
-up-to-from-requires c κs = let at = c .before .before in (own-ascends (entry at .pre .0 .4), at .loop2 .inv .near)
-
-sub-from : tie.Need-sub-from Inv-loop2 μ-loop2 Inv-loop μ-loop
-sub-from c = asked-some (entry (head c) .pre .0 .4) _ _ (c .up-to-from .ensures)
+place-from-requires : tie.Need-place-from-requires Inv-loop2 μ-loop2 Inv-loop μ-loop
+place-from-requires c κs = let at = c .before .before in (own-sorted (entry at .pre .0 .4) _, at .loop2 .inv .near)
 
 mul-found : tie.Need-mul-found Inv-loop2 μ-loop2 Inv-loop μ-loop
 mul-found c = omega (arith, in-bits c, entry (head c) .good)
@@ -135,17 +133,17 @@ shared-slice-read-found : tie.Need-shared-slice-read-found Inv-loop2 μ-loop2 In
 shared-slice-read-found c = in-bits (c .before)
 
 -- a block that has the feature, from where it was looked up
-abbrev looked : tie.Else2 Inv-loop2 μ-loop2 Inv-loop μ-loop → tie.After-up-to-from Inv-loop2 μ-loop2 Inv-loop μ-loop
+abbrev looked : tie.Else2 Inv-loop2 μ-loop2 Inv-loop μ-loop → tie.After-place-from Inv-loop2 μ-loop2 Inv-loop μ-loop
 looked c = c .before .before
 
 -- a block that has the feature and others
 mixed : (c : tie.Else3 Inv-loop2 μ-loop2 Inv-loop μ-loop)
     → MixedAt (entry (head (looked (c .before))) .args .m) (shownBy (entry (head (looked (c .before))) .args .m) (entry (head (looked (c .before))) .args .keys .now) (entry (head (looked (c .before))) .args .bits .now) (entry (head (looked (c .before))) .args .n))
-    (entry (head (looked (c .before))) .args .bits .now) (head (looked (c .before)) .loop2 .spot) (looked (c .before) .up-to-from .result - 1)
+    (entry (head (looked (c .before))) .args .bits .now) (head (looked (c .before)) .loop2 .spot) (looked (c .before) .place-from .result)
 mixed c =
     let asks = looked (c .before) in
     let at = head asks in
-    mixed-at (entry at .pre .0 .4) (at .loop2 .inv .stands) _ _ (bit-is at) _ (asks .up-to-from .ensures) (c .before .if2 .left) (c .if3 .left)
+    mixed-at (entry at .pre .0 .4) (at .loop2 .inv .stands) _ _ (bit-is at) _ (asks .place-from .ensures) (c .before .if2 .left) (c .if3 .left)
 
 overlap-requires : tie.Need-overlap-requires Inv-loop2 μ-loop2 Inv-loop μ-loop
 overlap-requires c κs =
@@ -158,7 +156,7 @@ add-pixels c =
     let at = head asks in
     let g = at .loop2 .inv in
     let pre = entry at .pre .0 in
-    let alone = count-alone (pre .4) (g .stands) _ _ (bit-is at) _ (asks .up-to-from .ensures) (c .before .if3 .taken) in
+    let alone = place-alone (pre .4) (g .stands) _ _ (bit-is at) _ (asks .place-from .ensures) (c .before .if3 .taken) in
     fits (pre .0) (pre .3) (measured-overlap _ _ _ _ (g .stands) _ (g .measured) (meets asks) alone _ (c .overlap .ensures))
 
 is-whole-requires : tie.Need-is-whole-requires Inv-loop2 μ-loop2 Inv-loop μ-loop
@@ -198,7 +196,7 @@ loop2-again : tie.Need-loop2-again Inv-loop2 μ-loop2 Inv-loop μ-loop
 loop2-again c =
     let asks = looked (c .before .before .before .before) in
     let at = head asks in
-    rw (c .first .ensures) (enters _ _ _ _ _ _ (entry at .pre .0 .3) (at .loop2 .inv) _ (near-count (entry at .pre .0 .4) _ _ (asks .up-to-from .ensures)) (entered (c .before)))
+    rw (c .first .ensures) (enters _ _ _ _ _ _ (entry at .pre .0 .3) (at .loop2 .inv) _ (near-place (entry at .pre .0 .4) _ _ (asks .place-from .ensures)) (entered (c .before)))
 
 after-requires : tie.Need-after-requires Inv-loop2 μ-loop2 Inv-loop μ-loop
 after-requires c κs = let at = c .before .before in (entry at .pre .0 .0, at .loop2 .inv .stands)
@@ -219,8 +217,8 @@ passed c =
     let o = entry at .pre .0 .4 in
     let apart = c .before .apart .ensures in
     ⊎-elim (λ w. named _ (w .1) (measured-apart _ _ _ _ (g .stands) _ (g .measured) (sym apart ∙ w .0 .taken)))
-    (⊎-elim (λ w. named _ (w .4) (measured-lacking _ _ _ _ (g .stands) _ (g .measured) (count-no o (g .stands) _ _ (bit-is at) _ (w .1 .ensures) (w .3 .taken))))
-    (⊎-elim (λ w. named _ (w .6) (measured-overlap _ _ _ _ (g .stands) _ (g .measured) (sym apart ∙ w .0 .left) (count-alone o (g .stands) _ _ (bit-is at) _ (w .1 .ensures) (w .4 .taken)) _ (w .5 .ensures)))
+    (⊎-elim (λ w. named _ (w .4) (measured-lacking _ _ _ _ (g .stands) _ (g .measured) (place-no o (g .stands) _ _ (bit-is at) _ (w .1 .ensures) (w .3 .taken))))
+    (⊎-elim (λ w. named _ (w .6) (measured-overlap _ _ _ _ (g .stands) _ (g .measured) (sym apart ∙ w .0 .left) (place-alone o (g .stands) _ _ (bit-is at) _ (w .1 .ensures) (w .4 .taken)) _ (w .5 .ensures)))
     (λ w. named _ (w .8) (measured-whole _ _ _ _ (g .stands) _ (g .measured) _ (sym (w .5 .ensures) ∙ w .6 .taken) _ (w .7 .ensures .holds _ (mixed-at o (g .stands) _ _ (bit-is at) _ (w .1 .ensures) (w .3 .left) (w .4 .left)) (entry at .pre .1))))))
     (c .if1 .came)
 
@@ -230,9 +228,9 @@ kept c =
     let at = c .before .before in
     let o = entry at .pre .0 .4 in
     ⊎-elim (λ w. rw (w .2) (at .loop2 .inv .near))
-    (⊎-elim (λ w. rw (w .5) (near-count o _ _ (w .1 .ensures)))
-    (⊎-elim (λ w. rw (w .7) (near-count o _ _ (w .1 .ensures)))
-    (λ w. rw (w .9) (near-count o _ _ (w .1 .ensures)))))
+    (⊎-elim (λ w. rw (w .5) (near-place o _ _ (w .1 .ensures)))
+    (⊎-elim (λ w. rw (w .7) (near-place o _ _ (w .1 .ensures)))
+    (λ w. rw (w .9) (near-place o _ _ (w .1 .ensures)))))
     (c .if1 .came)
 
 returns : tie.Need-returns Inv-loop2 μ-loop2 Inv-loop μ-loop
@@ -271,8 +269,7 @@ area-in-spec =
     loop-holds
     loop2-holds
     apart-requires
-    up-to-from-requires
-    sub-from
+    place-from-requires
     mul-found
     shared-slice-read-found
     overlap-requires

@@ -1,36 +1,75 @@
--- `standing::stand_from` meets its contract: the last key at or before the key is the key itself, or that of the leaf around it.
+-- `standing::stand_from` meets its contract: which it is was found among the keys, and its numbers are the records of the block, or the key that was
+-- found and its level.
+use Prim.Native.Nat.{ℕ}
+use mathlib.Core.Path.{_≡_, sym, _∙_, ap}
 use native.Mathlib.Omega.{arith}
-use Rattle.list.proofs.Among.{found-some, found-most, found-listed, found-inside}
+use borrow.Author.Needs.{needs}
+use Rattle.list.proofs.Own.{own-sorted}
+use Rattle.list.proofs.Fuller.{found-listed, found-inside, in-keys, listed-found, inside-found}
 use Rattle.list.proofs.standing.stand_from.Statement.{statement}
 use Rattle.list.proofs.standing.stand_from.Tie as tie
 
-up-to-from-requires : tie.Need-up-to-from-requires
-up-to-from-requires c κs = (c .before .pre .0 .ascends, c .before .pre .1)
+-- the start, from where it is known which it is
+abbrev start : tie.After-which-from → tie.Start
+start c = c .before .before .before
 
-sub-place : tie.Need-sub-place
-sub-place c = found-some (c .before .before .pre .0) _ (c .up-to-from .ensures)
+which-from-requires : tie.Need-which-from-requires
+which-from-requires c κs = let s = c .before .before in (own-sorted (s .pre .0 .own) _, s .pre .2)
 
-mul-found : tie.Need-mul-found
-mul-found c =
-    let s = c .before .before .pre .0 in
-    let some = found-some s _ (c .up-to-from .ensures) in
-    let most = found-most s _ (c .up-to-from .ensures) in
-    omega (arith, s .ascends .room, c .before .before .good .0 .1)
+enum-known-place : tie.Need-enum-known-place
+enum-known-place c = search needs
 
-shared-slice-read-found : tie.Need-shared-slice-read-found
-shared-slice-read-found c =
-    let s = c .before .before .before .pre .0 in
-    let some = found-some s _ (c .before .up-to-from .ensures) in
-    let most = found-most s _ (c .before .up-to-from .ensures) in
-    omega (arith, s .ascends .room)
+records-from-requires : tie.Need-records-from-requires
+records-from-requires c κs =
+    let w = c .before .before .before in
+    let s = start w in
+    let f = found-listed (s .pre .0) _ (sym (w .which-from .ensures) ∙ c .before .place .given .1) in
+    (s .pre .0, s .pre .1, f .0, f .1)
+
+enum-known-place-2 : tie.Need-enum-known-place-2
+enum-known-place-2 c = search needs
+
+mul-leaf : tie.Need-mul-leaf
+mul-leaf c =
+    let w = c .before .before .before in
+    let s = start w in
+    let f = found-inside (s .pre .0) _ (sym (w .which-from .ensures) ∙ c .before .place2 .given .1) in
+    omega (arith, in-keys (s .pre .0) _ (f .1), s .good)
+
+shared-slice-read-leaf : tie.Need-shared-slice-read-leaf
+shared-slice-read-leaf c =
+    let w = c .before .before .before .before in
+    let s = start w in
+    let f = found-inside (s .pre .0) _ (sym (w .which-from .ensures) ∙ c .before .before .place2 .given .1) in
+    in-keys (s .pre .0) _ (f .1)
+
+level-requires : tie.Need-level-requires
+level-requires c κs = search needs
 
 returns : tie.Need-returns
-returns c = found-listed (c .before .before .before .before .pre .0) _ (c .before .before .up-to-from .ensures) (c .if1 .taken)
+returns c =
+    let w = c .before .before .before .before in
+    let s = start w in
+    let f = found-listed (s .pre .0) _ (sym (w .which-from .ensures) ∙ c .before .before .place .given .1) in
+    listed-found (s .pre .0) _ (f .1) (f .0) _ (c .records-from .ensures)
 
 returns-2 : tie.Need-returns-2
-returns-2 c = found-inside (c .before .before .before .before .pre .0) _ (c .before .before .up-to-from .ensures) (c .if1 .left)
+returns-2 c =
+    let w = c .before .before .before .before .before in
+    let s = start w in
+    let f = found-inside (s .pre .0) _ (sym (w .which-from .ensures) ∙ c .before .before .before .place2 .given .1) in
+    inside-found (s .pre .0) _ (f .1) (f .0) _ (c .level .ensures)
 
 pub stand-from-spec : {M : Type 1} → statement M
 stand-from-spec =
     tie.close
-    (tie.spec up-to-from-requires sub-place mul-found shared-slice-read-found returns returns-2)
+    (tie.spec
+    which-from-requires
+    enum-known-place
+    records-from-requires
+    enum-known-place-2
+    mul-leaf
+    shared-slice-read-leaf
+    level-requires
+    returns
+    returns-2)

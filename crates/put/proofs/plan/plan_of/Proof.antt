@@ -1,9 +1,10 @@
--- `plan::plan_of` meets its contract: the places of the filled block or of the leaf around it, found by searches.
+-- `plan::plan_of` meets its contract: the numbers of the plan are those of the filled block's standing.
+use mathlib.Core.Path.{sym, _∙_}
 use native.Mathlib.Omega.{arith}
-use Rattle.list.proofs.Own.{own-ascends, own-sorted}
-use Rattle.put.proofs.FamilyRead.{count-some, count-below}
+use Rattle.list.proofs.Own.{own-sorted}
+use Rattle.list.proofs.Fuller.{near-root}
 use Rattle.put.proofs.PlanTop.{top-fits}
-use Rattle.put.proofs.PlanPlaces.{Filled, filled-by, filled-until, key-below, plan-order, plan-high, plan-found}
+use Rattle.put.proofs.PlanPlaces.{Filled, filled-by, filled-until, filled-step, filled-asked, key-below, plan-listed, plan-high, plan-inside}
 use borrow.Author.Needs.{needs}
 use Rattle.put.proofs.plan.plan_of.Statement.{statement}
 use Rattle.put.proofs.plan.plan_of.Tie as tie
@@ -26,48 +27,43 @@ div-filled c = filled-until (at-power c) .0
 mul-filled : tie.Need-mul-filled
 mul-filled c = let h = filled-until (at-power c) in omega arith
 
-up-to-requires : tie.Need-up-to-requires
-up-to-requires c κs = own-ascends (c .before .before .before .before .pre .1)
+stand-from-requires : tie.Need-stand-from-requires
+stand-from-requires c κs =
+    let own = c .before .before .before .before .pre .1 in
+    let f = at-power c in
+    (filled-asked own f, filled-step f, near-root own _)
 
-sub-start : tie.Need-sub-start
-sub-start c = count-some (own-sorted (c .before .before .before .before .before .pre .1) _) _ (c .up-to .ensures)
+enum-known-start : tie.Need-enum-known-start
+enum-known-start c = search needs
 
-end-of-requires : tie.Need-end-of-requires
-end-of-requires c κs =
-    let h = filled-until (at-power (c .before)) in
-    (own-ascends (c .before .before .before .before .before .pre .1), (h .0, omega arith))
+enum-known-start-2 : tie.Need-enum-known-start-2
+enum-known-start-2 c = search needs
 
-mul-number : tie.Need-mul-number
-mul-number c =
-    let start = c .before .before .before .before .before .before in
-    let h = count-below (own-sorted (start .pre .1) _) _ (c .before .up-to .ensures) in
-    omega (arith, start .pre .1 .fits, start .good .1 .0 .1)
+-- where the standing was asked for, from where it is taken apart
+abbrev own-from : tie.After-stand-from → tie.Start
+own-from c = c .before .before .before .before .before
 
-shared-slice-read-number : tie.Need-shared-slice-read-number
-shared-slice-read-number c =
-    let start = c .before .before .before .before .before .before .before in
-    let h = count-below (own-sorted (start .pre .1) _) _ (c .before .before .up-to .ensures) in
-    omega (arith, start .pre .1 .fits)
+sub-t19 : tie.Need-sub-t19
+sub-t19 c =
+    let asks = c .before .before .before in
+    plan-high (own-from asks .pre .1) (at-power (asks .before)) _ _ _ (sym (asks .stand-from .ensures) ∙ c .before .start2 .given .1) .0
 
-height-requires : tie.Need-height-requires
-height-requires c κs = search needs
-
-sub-t16 : tie.Need-sub-t16
-sub-t16 c =
-    let f = at-power (c .before .before .before .before) in
-    plan-order (c .before .before .before .before .before .before .before .before .pre .1) f _ _ (c .before .before .before .up-to .ensures) (c .before .before .end-of .ensures)
-
-sub-t15 : tie.Need-sub-t15
-sub-t15 c =
-    let f = at-power (c .before .before .before .before) in
-    plan-high (c .before .before .before .before .before .before .before .before .pre .1) f _ _ (c .before .before .before .up-to .ensures) (c .before .before .end-of .ensures)
-    _ (c .height .ensures)
+sub-t20 : tie.Need-sub-t20
+sub-t20 c =
+    let asks = c .before .before .before in
+    plan-high (own-from asks .pre .1) (at-power (asks .before)) _ _ _ (sym (asks .stand-from .ensures) ∙ c .before .start2 .given .1) .1
 
 returns : tie.Need-returns
 returns c =
-    let f = at-power (c .before .before .before .before) in
-    plan-found (c .before .before .before .before .before .before .before .before .pre .1) f _ _ (c .before .before .before .up-to .ensures) (c .before .before .end-of .ensures)
-    _ _ _ (c .height .ensures) (c .before .before .before .before .before .top-of .ensures)
+    let asks = c .before .before .before in
+    plan-listed (own-from asks .pre .1) (at-power (asks .before)) _ _ _ _ (sym (asks .stand-from .ensures) ∙ c .before .start .given .1)
+    (asks .before .before .top-of .ensures)
+
+returns-2 : tie.Need-returns-2
+returns-2 c =
+    let asks = c .before .before .before in
+    plan-inside (own-from asks .pre .1) (at-power (asks .before)) _ _ _ (sym (asks .stand-from .ensures) ∙ c .before .start2 .given .1) _ _
+    (asks .before .before .top-of .ensures)
 
 pub plan-of-spec : {M : Type 1} → statement M
 plan-of-spec =
@@ -77,12 +73,10 @@ plan-of-spec =
     power-of-five-requires
     div-filled
     mul-filled
-    up-to-requires
-    sub-start
-    end-of-requires
-    mul-number
-    shared-slice-read-number
-    height-requires
-    sub-t16
-    sub-t15
-    returns)
+    stand-from-requires
+    enum-known-start
+    enum-known-start-2
+    sub-t19
+    sub-t20
+    returns
+    returns-2)

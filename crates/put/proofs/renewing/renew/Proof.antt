@@ -2,7 +2,7 @@
 use Prim.Native.Nat.{_-_, _*_, _<_, _≤_, _^_}
 use native.Mathlib.Omega.{arith}
 use lib.ListN.{length}
-use Rattle.put.proofs.FamilyRead.{sorted-from, count-some, count-below, multiple-le}
+use Rattle.put.proofs.FamilyRead.{sorted-from, place-there, multiple-le}
 use Rattle.put.proofs.RenewingLoop.{Renewing, renew-begins, renew-step, renew-turns, renew-ends}
 use Rattle.put.proofs.renewing.renew.Statement.{statement}
 use Rattle.put.proofs.renewing.renew.Tie as tie
@@ -20,10 +20,10 @@ step-bounds : (c : tie.In-loop Inv-loop μ-loop) → (1 ≤ c .before .loop .ste
 step-bounds c = renew-step (c .before .loop .inv) (start c .pre .0 .0) (c .loop-test .taken)
 
 -- the place that is found is one of the n
-place-below : (c : tie.After-up-to Inv-loop μ-loop) → c .up-to .result - 1 < start (c .before .before .before) .args .n
-place-below c = count-below (sorted-from (start (c .before .before .before) .pre .1 .0) _) (c .up-to .result) (c .up-to .ensures)
+place-below : (c : tie.After-place Inv-loop μ-loop) → c .place .result < start (c .before .before .before) .args .n
+place-below c = place-there (sorted-from (start (c .before .before .before) .pre .1 .0) _) (c .place .result) (c .place .ensures)
 
-inside : (c : tie.After-up-to Inv-loop μ-loop) → c .up-to .result - 1 < length (c .before .before .before .before .loop .bits)
+inside : (c : tie.After-place Inv-loop μ-loop) → c .place .result < length (c .before .before .before .before .loop .bits)
 inside c =
     let h = place-below c in
     let t = c .before .before .before in
@@ -47,20 +47,17 @@ mul-step c = let s = step-bounds (c .before .before) in omega (arith, s)
 add-low : tie.Need-add-low Inv-loop μ-loop
 add-low c = let t = c .before .before in omega (arith, t .loop-test .taken, start t .pre .0)
 
-div-up-to : tie.Need-div-up-to Inv-loop μ-loop
-div-up-to c = let s = step-bounds (c .before .before) in omega (arith, s)
+div-place : tie.Need-div-place Inv-loop μ-loop
+div-place c = let s = step-bounds (c .before .before) in omega (arith, s)
 
-mul-up-to : tie.Need-mul-up-to Inv-loop μ-loop
-mul-up-to c =
+mul-place : tie.Need-mul-place Inv-loop μ-loop
+mul-place c =
     let t = c .before .before in
     let h = multiple-le (start t .args .key) (t .before .loop .step * 5) in
     omega (arith, h, start t .pre .0)
 
-up-to-requires : tie.Need-up-to-requires Inv-loop μ-loop
-up-to-requires c κs = start (c .before .before) .pre .1 .0 .ascends
-
-sub-place : tie.Need-sub-place Inv-loop μ-loop
-sub-place c = count-some (sorted-from (start (c .before .before .before) .pre .1 .0) _) (c .up-to .result) (c .up-to .ensures)
+place-requires : tie.Need-place-requires Inv-loop μ-loop
+place-requires c κs = sorted-from (start (c .before .before) .pre .1 .0) _
 
 mul-bits : tie.Need-mul-bits Inv-loop μ-loop
 mul-bits c =
@@ -77,7 +74,7 @@ loop-less c = let t = c .before .before .before in omega (arith, t .loop-test .t
 loop-again : tie.Need-loop-again Inv-loop μ-loop
 loop-again c =
     let t = c .before .before .before in
-    renew-turns (t .before .loop .inv) (t .loop-test .taken) (start t .pre .1 .0) (start t .pre .1 .1) _ _ (c .before .parent-bits .ensures) (c .up-to .ensures)
+    renew-turns (t .before .loop .inv) (t .loop-test .taken) (start t .pre .1 .0) (start t .pre .1 .1) _ _ (c .before .parent-bits .ensures) (c .place .ensures)
 
 same-length : tie.Need-same-length Inv-loop μ-loop
 same-length c = c .before .loop .inv .size
@@ -98,10 +95,9 @@ renew-spec =
     parent-bits-requires
     mul-step
     add-low
-    div-up-to
-    mul-up-to
-    up-to-requires
-    sub-place
+    div-place
+    mul-place
+    place-requires
     mul-bits
     slice-write-bits
     loop-less

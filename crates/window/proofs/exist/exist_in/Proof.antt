@@ -7,14 +7,14 @@ use mathlib.Core.Logic.{⊎-elim}
 use native.Mathlib.Omega.{arith}
 use lib.ListN.{length}
 use borrow.Author.Needs.{needs}
-use Rattle.definitions.specs.declared.Standing.the-variants.{Listed, Inside}
+use Rattle.list.specs.declared.standing.Which.the-variants.{Listed, Inside}
 use Rattle.list.specs.Own.{shownBy}
 use Rattle.list.specs.Sorted.{Near}
 use Rattle.list.proofs.Own.{own-sorted}
 use Rattle.window.specs.Walk.{Stands, isApart}
 use Rattle.window.proofs.Lies.{small}
 use Rattle.window.proofs.Steps.{Parent, few-keys, clear-apart, clear-first, cut-parent, first-less, follows-at, follows-gone}
-use Rattle.window.proofs.Asked.{asked-listed, asked-inside, near-standing}
+use Rattle.window.proofs.Asked.{asked-listed, asked-inside, near-which}
 use Rattle.window.proofs.Going.{Going, going-root, going-first, going-on, going-less}
 use Rattle.window.proofs.Seen.{Unseen, unseen-none, unseen-clear, unseen-block, seen-block, seen-whole, unseen-end}
 use Rattle.window.proofs.Shows.{listed-no, listed-yes, listed-whole, leaf-no, leaf-whole}
@@ -70,24 +70,24 @@ loop-holds c = c .walk .inv
 apart-requires : tie.Need-apart-requires Inv-loop μ-loop Inv-walk μ-walk
 apart-requires c κs = small _ _ _ (entry c .pre .0) (entry c .pre .1) (stands c)
 
-stand-from-requires : tie.Need-stand-from-requires Inv-loop μ-loop Inv-walk μ-walk
-stand-from-requires c κs = let at = c .before .before in (own-sorted (entry at .pre .3) _, at .loop .inv .0 .near)
+which-from-requires : tie.Need-which-from-requires Inv-loop μ-loop Inv-walk μ-walk
+which-from-requires c κs = let at = c .before .before in (own-sorted (entry at .pre .3) _, at .loop .inv .0 .near)
 
-enum-known-standing : tie.Need-enum-known-standing Inv-loop μ-loop Inv-walk μ-walk
-enum-known-standing c = search needs
+enum-known-which : tie.Need-enum-known-which Inv-loop μ-loop Inv-walk μ-walk
+enum-known-which c = search needs
 
-enum-known-standing-2 : tie.Need-enum-known-standing-2 Inv-loop μ-loop Inv-walk μ-walk
-enum-known-standing-2 c = search needs
+enum-known-which-2 : tie.Need-enum-known-which-2 Inv-loop μ-loop Inv-walk μ-walk
+enum-known-which-2 c = search needs
 
-enum-known-standing-3 : tie.Need-enum-known-standing-3 Inv-loop μ-loop Inv-walk μ-walk
-enum-known-standing-3 c = search needs
+enum-known-which-3 : tie.Need-enum-known-which-3 Inv-loop μ-loop Inv-walk μ-walk
+enum-known-which-3 c = search needs
 
 enum-told : tie.Need-enum-told Inv-loop μ-loop Inv-walk μ-walk
 enum-told c = search needs
 
 -- a block that was asked for, and the head of its turn
 abbrev Asks : Type 0
-Asks = tie.After-stand-from Inv-loop μ-loop Inv-walk μ-walk
+Asks = tie.After-which-from Inv-loop μ-loop Inv-walk μ-walk
 
 abbrev head : Asks → Turn
 head c = c .before .before .before
@@ -103,13 +103,13 @@ InLeaf = tie.After-known-told3 Inv-loop μ-loop Inv-walk μ-walk
 abbrev asks-leaf : InLeaf → Asks
 asks-leaf c = c .before .before .before .before .before .before
 
-stands-inside : (c : InLeaf) → asks-leaf c .stand-from .result ≡ Inside (c .before .standing3 .given .0 .0)
-stands-inside c = c .before .before .before .before .standing2 .given .1 ∙ c .before .standing3 .given .1
+stands-inside : (c : InLeaf) → asks-leaf c .which-from .result ≡ Inside (c .before .which3 .given .0 .0)
+stands-inside c = c .before .before .before .before .which2 .given .1 ∙ c .before .which3 .given .1
 
-leaf-place : (c : InLeaf) → c .before .standing3 .given .0 .0 < length (entry (head (asks-leaf c)) .args .bits .now)
+leaf-place : (c : InLeaf) → c .before .which3 .given .0 .0 < length (entry (head (asks-leaf c)) .args .bits .now)
 leaf-place c =
     let at = head (asks-leaf c) in
-    let a = asked-inside (entry at .pre .3) (stands at .block) _ _ (asks-leaf c .stand-from .ensures) (stands-inside c) in
+    let a = asked-inside (entry at .pre .3) (stands at .block) _ _ (asks-leaf c .which-from .ensures) (stands-inside c) in
     omega (arith, entry at .pre .3 .fits, a .room)
 
 -- a listed block, and where it was asked for
@@ -119,17 +119,17 @@ IsListed = tie.After-known-told Inv-loop μ-loop Inv-walk μ-walk
 abbrev asks-listed : IsListed → Asks
 asks-listed c = c .before .before .before
 
-listed-place : (c : IsListed) → c .before .standing .given .0 .0 < length (entry (head (asks-listed c)) .args .bits .now)
+listed-place : (c : IsListed) → c .before .which .given .0 .0 < length (entry (head (asks-listed c)) .args .bits .now)
 listed-place c =
     let at = head (asks-listed c) in
-    let a = asked-listed (entry at .pre .3) (stands at .block) _ _ (asks-listed c .stand-from .ensures) (c .before .standing .given .1) in
+    let a = asked-listed (entry at .pre .3) (stands at .block) _ _ (asks-listed c .which-from .ensures) (c .before .which .given .1) in
     omega (arith, entry at .pre .3 .fits, a .room)
 
 -- the next search can begin there
-near-listed : (c : IsListed) → NearAt (head (asks-listed c)) (c .before .standing .given .0 .0)
+near-listed : (c : IsListed) → NearAt (head (asks-listed c)) (c .before .which .given .0 .0)
 near-listed c =
     let asks = asks-listed c in
-    near-standing (entry (head asks) .pre .3) _ (Listed (c .before .standing .given .0 .0)) (sym (c .before .standing .given .1) ∙ asks .stand-from .ensures)
+    near-which (entry (head asks) .pre .3) _ (Listed (c .before .which .given .0 .0)) (sym (c .before .which .given .1) ∙ asks .which-from .ensures)
 
 mul-if2 : tie.Need-mul-if2 Inv-loop μ-loop Inv-walk μ-walk
 mul-if2 c = omega (arith, leaf-place c, entry (head (asks-leaf c)) .good .1 .1 .0 .1)
@@ -207,8 +207,8 @@ kept c =
     let own = entry at .pre .3 in
     ⊎-elim (λ w. rw (w .1) (at .loop .inv .0 .near))
     (⊎-elim (λ w. absurd (omega (arith, w .5 .keys2)))
-    (⊎-elim (λ w. rw (w .10) (near-standing own _ (Inside (w .6 .given .0 .0)) (sym (w .3 .given .1 ∙ w .6 .given .1) ∙ w .1 .ensures)))
-    (λ w. rw (w .7) (near-standing own _ (Listed (w .3 .given .0 .0)) (sym (w .3 .given .1) ∙ w .1 .ensures)))))
+    (⊎-elim (λ w. rw (w .10) (near-which own _ (Inside (w .6 .given .0 .0)) (sym (w .3 .given .1 ∙ w .6 .given .1) ∙ w .1 .ensures)))
+    (λ w. rw (w .7) (near-which own _ (Listed (w .3 .given .0 .0)) (sym (w .3 .given .1) ∙ w .1 .ensures)))))
     (c .if1 .came)
 
 -- the block that follows, and the head of the turn before it
@@ -236,7 +236,7 @@ returns c =
     let asks = asks-leaf leaf in
     let at = head asks in
     let bit = at .before .before .before .power-of-two .ensures in
-    let whole = leaf-whole (entry at .pre .3) (stands at) _ _ bit _ _ (asks .stand-from .ensures) (stands-inside leaf) (c .if2 .taken) in
+    let whole = leaf-whole (entry at .pre .3) (stands at) _ _ bit _ _ (asks .which-from .ensures) (stands-inside leaf) (c .if2 .taken) in
     sym (seen-whole _ _ _ _ (entry at .pre .1) (stands at) (meets asks) whole)
 
 returns-2 : tie.Need-returns-2 Inv-loop μ-loop Inv-walk μ-walk
@@ -245,7 +245,7 @@ returns-2 c =
     let asks = asks-listed listed in
     let at = head asks in
     let bit = at .before .before .before .power-of-two .ensures in
-    let whole = listed-whole (entry at .pre .3) (stands at) _ _ bit _ _ (asks .stand-from .ensures) (listed .before .standing .given .1) (c .if4 .taken) in
+    let whole = listed-whole (entry at .pre .3) (stands at) _ _ bit _ _ (asks .which-from .ensures) (listed .before .which .given .1) (c .if4 .taken) in
     sym (seen-whole _ _ _ _ (entry at .pre .1) (stands at) (meets asks) whole)
 
 returns-3 : tie.Need-returns-3 Inv-loop μ-loop Inv-walk μ-walk
@@ -255,7 +255,7 @@ returns-3 c =
     let at = head asks in
     let bit = at .before .before .before .power-of-two .ensures in
     let some = c .before .before .before .if3 .left in
-    let shows = listed-yes (entry at .pre .3) (stands at) _ _ bit _ _ (asks .stand-from .ensures) (listed .before .standing .given .1) some in
+    let shows = listed-yes (entry at .pre .3) (stands at) _ _ bit _ _ (asks .which-from .ensures) (listed .before .which .given .1) some in
     sym (seen-block _ _ _ _ (stands at) (sym (c .before .within .ensures) ∙ c .if5 .taken) shows)
 
 returns-4 : tie.Need-returns-4 Inv-loop μ-loop Inv-walk μ-walk
@@ -274,10 +274,10 @@ exist-in-spec =
     walk-holds
     loop-holds
     apart-requires
-    stand-from-requires
-    enum-known-standing
-    enum-known-standing-2
-    enum-known-standing-3
+    which-from-requires
+    enum-known-which
+    enum-known-which-2
+    enum-known-which-3
     enum-told
     mul-if2
     shared-slice-read-if2

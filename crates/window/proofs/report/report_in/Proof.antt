@@ -11,12 +11,12 @@ use Rattle.definitions.specs.Picture.{Picture}
 use Rattle.definitions.specs.declared.Window.{Window}
 use Rattle.list.specs.Own.{shownBy}
 use Rattle.list.specs.Sorted.{Near}
-use Rattle.list.specs.Among.{keysUpTo}
-use Rattle.list.proofs.Own.{own-ascends}
+use Rattle.list.specs.Among.{placeAmong}
+use Rattle.list.proofs.Own.{own-sorted}
 use Rattle.window.specs.Walk.{Stands, isApart}
 use Rattle.window.proofs.Lies.{small}
 use Rattle.window.proofs.Steps.{Parent, few-keys, clear-apart, clear-first, cut-parent, first-less, follows-at, follows-gone}
-use Rattle.window.proofs.Asked.{Asked, asked-some, asked-count, near-count}
+use Rattle.window.proofs.Asked.{Asked, asked-place, near-place}
 use Rattle.window.proofs.Going.{Going, going-root, going-first, going-on, going-less}
 use Rattle.window.proofs.Gathered.{Gathered, gathered-none, gathered-clear, gathered-block, gathered-whole, gathered-nothing, gathered-end}
 use Rattle.window.proofs.report.report_in.Statement.{statement}
@@ -61,14 +61,14 @@ abbrev NearAt : Turn → ℕ → Type 0
 NearAt c from = Near (entry c .args .keys .now) (entry c .args .n) from (c .loop2 .spot .key)
 
 -- the record where the turn's block stands
-asked : (c : Turn) (count : ℕ) → count ≡ keysUpTo (c .loop2 .spot .key) (take (entry c .args .n) (entry c .args .keys .now))
+asked : (c : Turn) (place : ℕ) → place ≡ placeAmong (c .loop2 .spot .key) (take (entry c .args .n) (entry c .args .keys .now))
     → Asked (entry c .args .m) (entry c .args .keys .now) (entry c .args .bits .now) (entry c .args .n) (stands c .height) (c .loop2 .spot .row)
-    (c .loop2 .spot .column) (count - 1)
-asked c count e = asked-count (entry c .pre .2) (stands c .block) count e
+    (c .loop2 .spot .column) place
+asked c place e = asked-place (entry c .pre .2) (stands c .block) place e
 
 -- where a block is looked up, and the head of its turn
 abbrev Asks : Type 0
-Asks = tie.After-up-to-from Inv-loop2 μ-loop2 Inv-loop μ-loop
+Asks = tie.After-place-from Inv-loop2 μ-loop2 Inv-loop μ-loop
 
 abbrev head : Asks → Turn
 head c = c .before .before .before
@@ -77,8 +77,8 @@ head c = c .before .before .before
 meets : (c : Asks) → isApart (head c .loop2 .spot) (entry (head c) .args .window) ≡ false
 meets c = sym (c .before .before .apart .ensures) ∙ c .before .if1 .left
 
-in-bits : (c : Asks) → c .up-to-from .result - 1 < length (entry (head c) .args .bits .now)
-in-bits c = omega (arith, asked (head c) _ (c .up-to-from .ensures) .room, entry (head c) .pre .2 .fits)
+in-bits : (c : Asks) → c .place-from .result < length (entry (head c) .args .bits .now)
+in-bits c = omega (arith, asked (head c) _ (c .place-from .ensures) .room, entry (head c) .pre .2 .fits)
 
 start-requires : tie.Need-start-requires Inv-loop2 μ-loop2 Inv-loop μ-loop
 start-requires c κs = c .before .before .pre .0
@@ -92,11 +92,8 @@ loop2-holds c = c .loop .inv
 apart-requires : tie.Need-apart-requires Inv-loop2 μ-loop2 Inv-loop μ-loop
 apart-requires c κs = small _ _ _ (entry c .pre .0) (entry c .pre .1) (stands c)
 
-up-to-from-requires : tie.Need-up-to-from-requires Inv-loop2 μ-loop2 Inv-loop μ-loop
-up-to-from-requires c κs = let at = c .before .before in (own-ascends (entry at .pre .2), at .loop2 .inv .0 .near)
-
-sub-from : tie.Need-sub-from Inv-loop2 μ-loop2 Inv-loop μ-loop
-sub-from c = asked-some (entry (head c) .pre .2) _ _ (c .up-to-from .ensures)
+place-from-requires : tie.Need-place-from-requires Inv-loop2 μ-loop2 Inv-loop μ-loop
+place-from-requires c κs = let at = c .before .before in (own-sorted (entry at .pre .2) _, at .loop2 .inv .0 .near)
 
 mul-found : tie.Need-mul-found Inv-loop2 μ-loop2 Inv-loop μ-loop
 mul-found c = omega (arith, in-bits c, entry (head c) .good .1 .1 .0 .1)
@@ -132,7 +129,7 @@ loop2-again c =
     let at = head asks in
     let parent = entered (c .before) in
     rw (c .first .ensures) (
-      going-first (at .loop2 .inv .0) parent _ (near-count (entry at .pre .2) _ _ (asks .up-to-from .ensures)),
+      going-first (at .loop2 .inv .0) parent _ (near-place (entry at .pre .2) _ _ (asks .place-from .ensures)),
       gathered-clear _ _ _ _ _ _ (at .loop2 .inv .1) (clear-first _ (entry at .pre .1) parent),
     )
 
@@ -171,8 +168,8 @@ kept c =
     let at = c .before .before in
     let own = entry at .pre .2 in
     ⊎-elim (λ w. rw (w .2) (at .loop2 .inv .0 .near))
-    (⊎-elim (λ w. rw (w .5) (near-count own _ _ (w .1 .ensures)))
-    (⊎-elim (λ w. rw (w .7) (near-count own _ _ (w .1 .ensures))) (λ w. rw (w .9) (near-count own _ _ (w .1 .ensures)))))
+    (⊎-elim (λ w. rw (w .5) (near-place own _ _ (w .1 .ensures)))
+    (⊎-elim (λ w. rw (w .7) (near-place own _ _ (w .1 .ensures))) (λ w. rw (w .9) (near-place own _ _ (w .1 .ensures)))))
     (c .if1 .came)
 
 returns : tie.Need-returns Inv-loop2 μ-loop2 Inv-loop μ-loop
@@ -209,8 +206,7 @@ report-in-spec =
     loop-holds
     loop2-holds
     apart-requires
-    up-to-from-requires
-    sub-from
+    place-from-requires
     mul-found
     shared-slice-read-found
     has-one-slot-requires

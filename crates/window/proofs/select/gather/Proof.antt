@@ -1,7 +1,7 @@
 -- `select::gather` meets its contract: where the walk stands, what is counted and written is what select gives below the key. Within a turn it goes down
 -- to a block that lies apart from the window, lacks the feature or lies within the window, and adds nothing on the way; the key rises from turn to turn.
 use Prim.Native.Nat.{ℕ, _+_, _-_, _^_, _<_}
-use mathlib.Core.Path.{_≡_, refl, sym, _∙_, subst}
+use mathlib.Core.Path.{_≡_, refl, sym, _∙_, ap, subst}
 use mathlib.Core.Bool.{false}
 use mathlib.Core.Logic.{⊎-elim}
 use mathlib.Core.List.{List}
@@ -13,16 +13,18 @@ use Rattle.definitions.specs.Window.{selectIn}
 use Rattle.definitions.specs.Edit.{contentOf}
 use Rattle.definitions.specs.declared.Window.{Window}
 use Rattle.list.specs.Own.{shownBy}
+use Rattle.list.specs.Check.{oneSlot}
 use Rattle.list.specs.Sorted.{Near}
-use Rattle.list.proofs.Own.{own-ascends}
+use Rattle.list.proofs.OneSlot.{power-slot}
+use Rattle.list.proofs.Own.{own-sorted}
 use Rattle.window.specs.Walk.{Stands, Walking, isWithin, isApart}
 use Rattle.window.specs.Gather.{keysWith, Gave}
 use Rattle.window.proofs.Lies.{small}
 use Rattle.window.proofs.Steps.{Parent, few-keys, cut-parent, first-stands, first-less, parting-first}
 use Rattle.window.proofs.Steps.{follows-at, follows-gone, walking-root, walking-after}
-use Rattle.window.proofs.Asked.{asked-some, asked-count, near-count}
+use Rattle.window.proofs.Asked.{asked-place, near-place}
 use Rattle.window.proofs.Going.{Going, going-root, going-first, going-on, going-less}
-use Rattle.window.proofs.Shows.{count-no}
+use Rattle.window.proofs.Shows.{place-no}
 use Rattle.window.proofs.Lower.{lower}
 use Rattle.window.proofs.Below.{lower-apart, lower-lacking, lower-enter}
 use Rattle.window.proofs.Taken.{Taken, taken-none, taken-small, taken-length, taken-named, taken-pass, taken-block, taken-end}
@@ -81,7 +83,7 @@ NearAt c from = Near (entry c .args .keys .now) (entry c .args .n) from (c .loop
 
 -- where a block is looked up, and the head of its turn
 abbrev Asks : Type 0
-Asks = tie.After-up-to-from Inv-loop2 μ-loop2 Inv-loop μ-loop
+Asks = tie.After-place-from Inv-loop2 μ-loop2 Inv-loop μ-loop
 
 abbrev head : Asks → Turn
 head c = c .before .before .before
@@ -90,10 +92,10 @@ head c = c .before .before .before
 meets : (c : Asks) → isApart (head c .loop2 .spot) (entry (head c) .args .window) ≡ false
 meets c = sym (c .before .before .apart .ensures) ∙ c .before .if1 .left
 
-in-bits : (c : Asks) → c .up-to-from .result - 1 < length (entry (head c) .args .bits .now)
+in-bits : (c : Asks) → c .place-from .result < length (entry (head c) .args .bits .now)
 in-bits c =
     let own = entry (head c) .pre .3 in
-    omega (arith, asked-count own (stands (head c) .block) _ (c .up-to-from .ensures) .room, own .fits)
+    omega (arith, asked-place own (stands (head c) .block) _ (c .place-from .ensures) .room, own .fits)
 
 power-of-two-requires : tie.Need-power-of-two-requires Inv-loop2 μ-loop2 Inv-loop μ-loop
 power-of-two-requires c κs = omega (arith, c .before .before .before .pre .2)
@@ -113,11 +115,8 @@ loop2-holds c = (c .loop .inv .0, c .loop .inv .1, record { answers = refl; coun
 apart-requires : tie.Need-apart-requires Inv-loop2 μ-loop2 Inv-loop μ-loop
 apart-requires c κs = small _ _ _ (entry c .pre .0) (entry c .pre .1) (stands c)
 
-up-to-from-requires : tie.Need-up-to-from-requires Inv-loop2 μ-loop2 Inv-loop μ-loop
-up-to-from-requires c κs = let at = c .before .before in (own-ascends (entry at .pre .3), at .loop2 .inv .0 .near)
-
-sub-from : tie.Need-sub-from Inv-loop2 μ-loop2 Inv-loop μ-loop
-sub-from c = asked-some (entry (head c) .pre .3) _ _ (c .up-to-from .ensures)
+place-from-requires : tie.Need-place-from-requires Inv-loop2 μ-loop2 Inv-loop μ-loop
+place-from-requires c κs = let at = c .before .before in (own-sorted (entry at .pre .3) _, at .loop2 .inv .0 .near)
 
 mul-if2 : tie.Need-mul-if2 Inv-loop2 μ-loop2 Inv-loop μ-loop
 mul-if2 c = omega (arith, in-bits c, entry (head c) .good .1 .1 .0 .1)
@@ -137,8 +136,8 @@ gather-block-requires c κs =
     let asks = looked (c .before .before .before) in
     let at = head asks in
     let pre = entry at .pre in
-    let near = near-count (pre .3) _ _ (asks .up-to-from .ensures) in
-    (pre .0, stands at, pre .3, near, omega (arith, pre .4, taken-length _ _ _ _ (taken at)), taken-small _ _ _ _ (taken at) (pre .0))
+    let slot = ap oneSlot (at .before .before .before .power-of-two .ensures) ∙ power-slot _ in
+    (pre .0, stands at, pre .3, asks .place-from .ensures, slot, omega (arith, pre .4, taken-length _ _ _ _ (taken at)), taken-small _ _ _ _ (taken at) (pre .0))
 
 first-requires : tie.Need-first-requires Inv-loop2 μ-loop2 Inv-loop μ-loop
 first-requires c κs = let at = head (looked (c .before .before)) in few-keys (entry at .pre .0) (stands at)
@@ -162,7 +161,7 @@ loop2-again c =
     let parent = entered (c .before) in
     let gap = still .gap ∙ lower-enter _ _ _ _ (stands at) parent (cut (c .before)) in
     rw (c .first .ensures) (
-      going-first (at .loop2 .inv .0) parent _ (near-count (entry at .pre .3) _ _ (asks .up-to-from .ensures)),
+      going-first (at .loop2 .inv .0) parent _ (near-place (entry at .pre .3) _ _ (asks .place-from .ensures)),
       record { stands = first-stands parent; parting = parting-first (at .loop2 .inv .1) parent (cut (c .before)) },
       record { answers = still .answers; counts = still .counts; gap = gap },
     )
@@ -198,7 +197,7 @@ passed c =
     ⊎-elim (λ w. taken-named _ _ _ _ (taken-pass _ _ _ _ t _ (lower-apart _ _ _ _ (stands at) (sym apart ∙ w .0 .taken))) _ _ (w .1) (w .2))
     (⊎-elim
     (λ w.
-    let lacks = count-no own (stands at) _ _ bit _ (w .1 .ensures) (w .3 .taken) in
+    let lacks = place-no own (stands at) _ _ bit _ (w .1 .ensures) (w .3 .taken) in
     taken-named _ _ _ _ (taken-pass _ _ _ _ t _ (lower-lacking _ _ _ _ (stands at) lacks)) _ _ (w .4) (w .5))
     (λ w.
     let largest = sym (w .4 .ensures) ∙ w .5 .taken in
@@ -211,7 +210,7 @@ kept c =
     let at = c .before .before in
     let own = entry at .pre .3 in
     ⊎-elim (λ w. rw (w .3) (at .loop2 .inv .0 .near))
-    (⊎-elim (λ w. rw (w .6) (near-count own _ _ (w .1 .ensures))) (λ w. rw (w .12) (near-count own _ _ (w .1 .ensures))))
+    (⊎-elim (λ w. rw (w .6) (near-place own _ _ (w .1 .ensures))) (λ w. rw (w .12) (near-place own _ _ (w .1 .ensures))))
     (c .if1 .came)
 
 same-length : tie.Need-same-length Inv-loop2 μ-loop2 Inv-loop μ-loop
@@ -253,8 +252,7 @@ gather-spec =
     loop-holds
     loop2-holds
     apart-requires
-    up-to-from-requires
-    sub-from
+    place-from-requires
     mul-if2
     shared-slice-read-if2
     within-requires

@@ -1,17 +1,17 @@
--- `select::gather_block` meets its contract: a listed block's leaves are found by a run along its records, and a block inside a leaf is one itself.
-use Prim.Native.Nat.{ℕ, _+_, _<_}
-use mathlib.Core.Path.{_≡_, refl, sym, ap, _∙_}
+-- `select::gather_block` meets its contract: a block of the feature alone is given itself, and a listed block's leaves are found by a run along its
+-- records.
+use Prim.Native.Nat.{ℕ, _+_, _^_, _≤_, _<_}
+use mathlib.Core.Path.{_≡_, sym, ap, _∙_}
 use mathlib.Core.List.{List, [], _∷_}
 use native.Mathlib.Omega.{arith}
 use lib.ListN.{length}
 use borrow.Author.Needs.{needs}
-use Rattle.definitions.specs.declared.Standing.the-variants.{Inside}
-use Rattle.list.proofs.Own.{own-sorted}
-use Rattle.window.specs.Gather.{putAt, written, Gave}
-use Rattle.window.proofs.Steps.{few-keys}
-use Rattle.window.proofs.Asked.{asked-inside}
+use Rattle.keys.proofs.Valid.{block-valid}
+use Rattle.list.proofs.Fuller.{inside-numbers}
+use Rattle.window.specs.Gather.{keysWith, putAt, written, Gave}
+use Rattle.window.proofs.Asked.{asked-place, near-place}
 use Rattle.window.proofs.Written.{written-none, written-one}
-use Rattle.window.proofs.Content.{listed-keys, leaf-key, leaf-nothing}
+use Rattle.window.proofs.Content.{alone-key, inside-nothing, run-fits, run-content}
 use Rattle.window.proofs.select.gather_block.Statement.{statement}
 use Rattle.window.proofs.select.gather_block.Tie as tie
 
@@ -37,48 +37,19 @@ gives-same : (given given₁ : List ℕ) (limit count : ℕ) (before after : Lis
     → Gave given₁ limit count before after r
 gives-same given given₁ limit count before after r e g = rw (← e) g
 
--- where the block was asked for, from where it is known how it stands
-abbrev asks-leaf : tie.After-known-told3 → tie.After-stand-from
-asks-leaf c = c .before .before .before .before .before .before
-
-abbrev asks-listed : tie.After-known-told → tie.After-stand-from
-asks-listed c = c .before .before .before
-
+-- the start, from where the standing is known
 abbrev entry : tie.After-stand-from → tie.Start
-entry c = c .before .before .before .before
+entry c = c .before .before .before .before .before .before
 
-stands-inside : (c : tie.After-known-told3) → asks-leaf c .stand-from .result ≡ Inside (c .before .standing3 .given .0 .0)
-stands-inside c = c .before .before .before .before .standing2 .given .1 ∙ c .before .standing3 .given .1
-
-leaf-place : (c : tie.After-known-told3) → c .before .standing3 .given .0 .0 < length (entry (asks-leaf c) .args .bits .now)
-leaf-place c =
-    let pre = entry (asks-leaf c) .pre in
-    let a = asked-inside (pre .2) (pre .1 .block) _ _ (asks-leaf c .stand-from .ensures) (stands-inside c) in
-    omega (arith, pre .2 .fits, a .room)
-
-stand-from-requires : tie.Need-stand-from-requires
-stand-from-requires c κs = let pre = c .before .before .before .pre in (own-sorted (pre .2) _, pre .3)
-
-enum-known-standing : tie.Need-enum-known-standing
-enum-known-standing c = search needs
-
-enum-known-standing-2 : tie.Need-enum-known-standing-2
-enum-known-standing-2 c = search needs
-
-enum-known-standing-3 : tie.Need-enum-known-standing-3
-enum-known-standing-3 c = search needs
-
-enum-told : tie.Need-enum-told
-enum-told c = search needs
-
-returns : tie.Need-returns
-returns c = search needs
+-- the record that was looked at is there
+from-there : (s : tie.Start) → s .args .from < length (s .args .bits .now)
+from-there s = let a = asked-place (s .pre .2) (s .pre .1 .block) _ (s .pre .3) in omega (arith, s .pre .2 .fits, a .room)
 
 mul-if1 : tie.Need-mul-if1
-mul-if1 c = omega (arith, leaf-place c, entry (asks-leaf c) .good .1 .1 .0 .1)
+mul-if1 c = let s = c .before .before .before in omega (arith, from-there s, s .good .1 .1 .0 .1)
 
 shared-slice-read-if1 : tie.Need-shared-slice-read-if1
-shared-slice-read-if1 c = leaf-place (c .before)
+shared-slice-read-if1 c = from-there (c .before .before .before .before)
 
 put-requires : tie.Need-put-requires
 put-requires c κs = search needs
@@ -89,56 +60,71 @@ add-result c = search needs
 same-length : tie.Need-same-length
 same-length c = search needs
 
+returns : tie.Need-returns
+returns c =
+    let pre = c .before .before .before .before .before .before .before .before .before .pre in
+    gives-one _ _ _ _ _ _ (alone-key (pre .2) (pre .1) _ _ (pre .3) (pre .4) (c .before .before .before .before .if1 .taken)) (c .before .before .put .ensures)
+
+stand-from-requires : tie.Need-stand-from-requires
+stand-from-requires c κs =
+    let pre = c .before .before .before .before .before .pre in
+    let is = block-valid (pre .1 .block) in
+    (record { deepest = pre .0; own = pre .2; valid = is .valid }, pre .1 .step ∙ ap (λ k. 5 ^ k) (sym (is .height)), near-place (pre .2) _ _ (pre .3))
+
+enum-known-standing : tie.Need-enum-known-standing
+enum-known-standing c = search needs
+
+enum-told : tie.Need-enum-told
+enum-told c = search needs
+
 returns-2 : tie.Need-returns-2
 returns-2 c =
-    let leaf = c .before .before .before .before .before .before in
-    let pre = entry (asks-leaf leaf) .pre in
-    gives-one _ _ _ _ _ _ (leaf-key (pre .2) (pre .1) _ _ _ (asks-leaf leaf .stand-from .ensures) (stands-inside leaf) (c .before .before .before .before .if1 .taken))
-    (c .before .before .put .ensures)
+    let asks = c .before .before in
+    let pre = entry asks .pre in
+    let inside = inside-numbers _ _ _ _ _ _ (sym (asks .stand-from .ensures) ∙ c .enum-told .given .1) .0 in
+    gives-none _ _ _ _ (inside-nothing (pre .2) (pre .1) _ _ (pre .3) inside (asks .before .if1 .left))
 
-returns-3 : tie.Need-returns-3
-returns-3 c =
-    let leaf = c .before .before in
-    let pre = entry (asks-leaf leaf) .pre in
-    gives-none _ _ _ _ (leaf-nothing (pre .2) (pre .1) _ _ _ (asks-leaf leaf .stand-from .ensures) (stands-inside leaf) (c .if1 .left))
+-- a listed block's records are there
+fits : (c : tie.After-known-told) → c .before .standing .given .0 .0 + c .before .standing .given .0 .1 .0 ≤ entry (c .before .before .before) .args .n
+fits c =
+    let asks = c .before .before .before in
+    let pre = entry asks .pre in
+    run-fits (pre .2) (pre .1) _ _ (sym (asks .stand-from .ensures) ∙ c .before .standing .given .1)
 
 add-gather-run : tie.Need-add-gather-run
-add-gather-run c =
-    let pre = entry (asks-listed c) .pre in
-    let few = few-keys (pre .0) (pre .1) in
-    omega arith
+add-gather-run c = let s = entry (c .before .before .before) in omega (arith, fits c, s .pre .2 .fits, s .good .1 .1 .0 .1)
 
 gather-run-requires : tie.Need-gather-run-requires
-gather-run-requires c κs = search needs
+gather-run-requires c κs =
+    let s = entry (c .before .before .before .before) in
+    (omega (arith, fits (c .before), s .pre .2 .fits), omega (arith, fits (c .before), s .pre .2 .fits), s .pre .5, s .pre .6)
 
 same-length-2 : tie.Need-same-length-2
 same-length-2 c = search needs
 
-returns-4 : tie.Need-returns-4
-returns-4 c =
+returns-3 : tie.Need-returns-3
+returns-3 c =
     let listed = c .before .before .before .before in
-    let pre = entry (asks-listed listed) .pre in
-    let run = listed-keys (pre .2) (pre .1) _ _ _ (asks-listed listed .stand-from .ensures) _ refl (listed .before .standing .given .1) in
-    gives-same _ _ _ _ _ _ _ run (c .before .before .gather-run .ensures)
+    let asks = listed .before .before .before in
+    let pre = entry asks .pre in
+    let run = run-content (pre .2) (pre .1) _ _ (sym (asks .stand-from .ensures) ∙ listed .before .standing .given .1) in
+    gives-same _ _ _ _ _ _ _ (ap (keysWith _) run) (c .before .before .gather-run .ensures)
 
 pub gather-block-spec : {M : Type 1} → statement M
 gather-block-spec =
     tie.close
     (tie.spec
-    stand-from-requires
-    enum-known-standing
-    enum-known-standing-2
-    enum-known-standing-3
-    enum-told
-    returns
     mul-if1
     shared-slice-read-if1
     put-requires
     add-result
     same-length
+    returns
+    stand-from-requires
+    enum-known-standing
+    enum-told
     returns-2
-    returns-3
     add-gather-run
     gather-run-requires
     same-length-2
-    returns-4)
+    returns-3)

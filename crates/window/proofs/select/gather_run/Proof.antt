@@ -8,29 +8,29 @@ use native.Mathlib.Omega.{arith}
 use lib.ListN.{length}
 use Rattle.window.specs.Gather.{putAt, written, Gave}
 use Rattle.window.proofs.Written.{written-none, written-one, length-put}
-use Rattle.window.proofs.Until.{rest, past-last, past-end, with-bit, without-bit}
+use Rattle.window.proofs.Run.{left, run-over, run-gives, run-passes}
 use Rattle.window.proofs.select.gather_run.Statement.{statement}
 use Rattle.window.proofs.select.gather_run.Tie as tie
 
-record Passed (whole : List ℕ) (limit count : ℕ) (answer₀ answer : List ℕ) (given i : ℕ) (left : List ℕ) : Type 0 where
-  counts : given + length left ≡ count + length whole
-  writes : written limit answer given left ≡ written limit answer₀ count whole
+record Passed (whole : List ℕ) (limit count : ℕ) (answer₀ answer : List ℕ) (given i : ℕ) (more : List ℕ) : Type 0 where
+  counts : given + length more ≡ count + length whole
+  writes : written limit answer given more ≡ written limit answer₀ count whole
   lengths : length answer ≡ length answer₀
   bound : given ≤ count + i
 
 abbrev Inv-loop : tie.InvT-loop
-Inv-loop keys bits n first end bit answer₀ limit count given₀ i₀ answer given i =
-    Passed (rest keys bits n end bit first) limit count answer₀ answer given i (rest keys bits n end bit i)
+Inv-loop keys bits first end bit answer₀ limit count given₀ i₀ answer given i =
+    Passed (left keys bits end bit first) limit count answer₀ answer given i (left keys bits end bit i)
 
 abbrev μ-loop : tie.MeasureT-loop
-μ-loop keys bits n first end bit answer₀ limit count given₀ i₀ answer given i = n - i
+μ-loop keys bits first end bit answer₀ limit count given₀ i₀ answer given i = end - i
 
 begins : (whole : List ℕ) (limit count : ℕ) (answer : List ℕ) (first : ℕ) → Passed whole limit count answer answer count first whole
 begins whole limit count answer first = record { counts = refl; writes = refl; lengths = refl; bound = omega arith }
 
-module _ {whole : List ℕ} {limit count : ℕ} {answer₀ answer : List ℕ} {given i : ℕ} {left : List ℕ} (p : Passed whole limit count answer₀ answer given i left) where
+module _ {whole : List ℕ} {limit count : ℕ} {answer₀ answer : List ℕ} {given i : ℕ} {rest : List ℕ} (p : Passed whole limit count answer₀ answer given i rest) where
   -- nothing is left
-  stops : left ≡ [] → Gave whole limit count answer₀ answer given
+  stops : rest ≡ [] → Gave whole limit count answer₀ answer given
   stops e =
       record {
         counted = let n = ap length e in omega (arith, p .counts);
@@ -39,7 +39,7 @@ module _ {whole : List ℕ} {limit count : ℕ} {answer₀ answer : List ℕ} {g
 
   -- a key is given
   gives : (key : ℕ) (more answer₁ : List ℕ) (given₁ : ℕ)
-      → left ≡ key ∷ more
+      → rest ≡ key ∷ more
       → answer₁ ≡ putAt limit answer given key
       → given₁ ≡ given + 1
       → Passed whole limit count answer₀ answer₁ given₁ (i + 1) more
@@ -55,7 +55,7 @@ module _ {whole : List ℕ} {limit count : ℕ} {answer₀ answer : List ℕ} {g
       }
 
   -- a record is passed
-  skips : (more answer₁ : List ℕ) (given₁ : ℕ) → left ≡ more → answer₁ ≡ answer → given₁ ≡ given → Passed whole limit count answer₀ answer₁ given₁ (i + 1) more
+  skips : (more answer₁ : List ℕ) (given₁ : ℕ) → rest ≡ more → answer₁ ≡ answer → given₁ ≡ given → Passed whole limit count answer₀ answer₁ given₁ (i + 1) more
   skips more answer₁ given₁ e f g =
       record {
         counts = let n = ap length e in omega (arith, p .counts);
@@ -71,63 +71,55 @@ entry c = c .before .before .before .before
 loop-holds : tie.Need-loop-holds Inv-loop μ-loop
 loop-holds c = begins _ _ _ _ _
 
-mul-key : tie.Need-mul-key Inv-loop μ-loop
-mul-key c = omega (arith, c .loop-test .taken, entry (c .before) .pre .0, entry (c .before) .good .0 .1)
+mul-if1 : tie.Need-mul-if1 Inv-loop μ-loop
+mul-if1 c = omega (arith, c .loop-test .taken, entry (c .before) .pre .1, entry (c .before) .good .1 .0 .1)
 
-shared-slice-read-key : tie.Need-shared-slice-read-key Inv-loop μ-loop
-shared-slice-read-key c = omega (arith, c .before .loop-test .taken, entry (c .before .before) .pre .0)
+shared-slice-read-if1 : tie.Need-shared-slice-read-if1 Inv-loop μ-loop
+shared-slice-read-if1 c = omega (arith, c .before .loop-test .taken, entry (c .before .before) .pre .1)
 
-same-length : tie.Need-same-length Inv-loop μ-loop
-same-length c = c .before .before .before .loop .inv .lengths
+mul-put : tie.Need-mul-put Inv-loop μ-loop
+mul-put c =
+    let goes = c .before .before .before in
+    omega (arith, goes .loop-test .taken, entry (goes .before) .pre .0, entry (goes .before) .good .0 .1)
 
-returns : tie.Need-returns Inv-loop μ-loop
-returns c =
-    let at = c .before .before .before in
-    let pre = entry at .pre in
-    stops (at .loop .inv) (past-end _ _ _ _ _ _ (c .before .before .loop-test .taken) (pre .0) (pre .1) (c .if1 .taken))
-
-mul-if2 : tie.Need-mul-if2 Inv-loop μ-loop
-mul-if2 c =
-    let at = c .before .before .before in
-    omega (arith, c .before .before .loop-test .taken, entry at .pre .1, entry at .good .1 .0 .1)
-
-shared-slice-read-if2 : tie.Need-shared-slice-read-if2 Inv-loop μ-loop
-shared-slice-read-if2 c = omega (arith, c .before .before .before .loop-test .taken, entry (c .before .before .before .before) .pre .1)
+shared-slice-read-put : tie.Need-shared-slice-read-put Inv-loop μ-loop
+shared-slice-read-put c =
+    let goes = c .before .before .before .before in
+    omega (arith, goes .loop-test .taken, entry (goes .before) .pre .0)
 
 put-requires : tie.Need-put-requires Inv-loop μ-loop
 put-requires c κs =
-    let at = c .before .before .before .before .before .before in
+    let at = c .before .before .before .before .before in
     omega (arith, entry at .pre .2, at .loop .inv .lengths)
 
 add-given : tie.Need-add-given Inv-loop μ-loop
 add-given c =
-    let goes = c .before .before .before .before .before .before .before .before in
+    let goes = c .before .before .before .before .before .before .before in
     let at = goes .before in
     omega (arith, at .loop .inv .bound, entry at .pre .3, entry at .pre .0, entry at .good .0 .1, goes .loop-test .taken)
 
 add-i : tie.Need-add-i Inv-loop μ-loop
 add-i c =
-    let at = c .before .before .before .before .before in
-    omega (arith, c .before .before .before .before .loop-test .taken, entry at .pre .0, entry at .good .0 .0)
+    let at = c .before .before .before in
+    omega (arith, c .before .before .loop-test .taken, entry at .pre .0, entry at .good .0 .0)
 
 loop-less : tie.Need-loop-less Inv-loop μ-loop
-loop-less c = omega (arith, c .before .before .before .before .loop-test .taken)
+loop-less c = omega (arith, c .before .before .loop-test .taken)
 
 loop-again : tie.Need-loop-again Inv-loop μ-loop
 loop-again c =
-    let at = c .before .before .before .before .before in
+    let at = c .before .before .before in
     let pre = entry at .pre in
-    let inside = c .before .before .before .before .loop-test .taken in
-    let below = c .before .before .if1 .left in
-    ⊎-elim (λ w. gives (at .loop .inv) _ _ _ _ (with-bit _ _ _ _ _ _ inside (pre .0) (pre .1) below (w .0 .taken)) (w .5 ∙ w .2 .ensures) (w .6))
-    (λ w. skips (at .loop .inv) _ _ _ (without-bit _ _ _ _ _ _ inside (pre .0) (pre .1) below (w .0 .left)) (w .1) (w .2))
-    (c .if2 .came)
+    let inside = c .before .before .loop-test .taken in
+    ⊎-elim (λ w. gives (at .loop .inv) _ _ _ _ (run-gives _ _ _ _ _ inside (pre .0) (pre .1) (w .0 .taken)) (w .6 ∙ w .3 .ensures) (w .7))
+    (λ w. skips (at .loop .inv) _ _ _ (run-passes _ _ _ _ _ inside (pre .0) (pre .1) (w .0 .left)) (w .1) (w .2))
+    (c .if1 .came)
 
-same-length-2 : tie.Need-same-length-2 Inv-loop μ-loop
-same-length-2 c = c .before .loop .inv .lengths
+same-length : tie.Need-same-length Inv-loop μ-loop
+same-length c = c .before .loop .inv .lengths
 
-returns-2 : tie.Need-returns-2 Inv-loop μ-loop
-returns-2 c = stops (c .before .loop .inv) (past-last _ _ _ _ _ _ (c .loop-test .left))
+returns : tie.Need-returns Inv-loop μ-loop
+returns c = stops (c .before .loop .inv) (run-over _ _ _ _ _ (c .loop-test .left))
 
 pub gather-run-spec : {M : Type 1} → statement M
 gather-run-spec =
@@ -136,16 +128,14 @@ gather-run-spec =
     Inv-loop
     μ-loop
     loop-holds
-    mul-key
-    shared-slice-read-key
-    same-length
-    returns
-    mul-if2
-    shared-slice-read-if2
+    mul-if1
+    shared-slice-read-if1
+    mul-put
+    shared-slice-read-put
     put-requires
     add-given
     add-i
     loop-less
     loop-again
-    same-length-2
-    returns-2)
+    same-length
+    returns)
