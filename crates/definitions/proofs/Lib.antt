@@ -4,6 +4,7 @@ mod Orders
 mod Corners
 mod AreaVectors
 mod FourWaivers
+mod RedoVectors
 pub mod Within
 pub mod Pixels
 pub mod Features
@@ -37,6 +38,8 @@ pub mod Overlap
 pub mod ClippedCalls
 pub mod LastEntry
 pub mod SoundLog
+pub mod FirstEntry
+pub mod InForce
 pub mod Hidden
 pub mod Waivers
 pub mod OldFault

@@ -14,6 +14,7 @@ pub mod Area
 pub mod Clipped
 pub mod Paint
 pub mod TakeBack
+pub mod Redo
 pub mod Empty
 pub mod Findings
 pub mod Store
