@@ -49,9 +49,10 @@ Parts m s log k = (isSound m s (take k log) ≡ true) × (isSound m s (drop k lo
 
 -- all of a sound log, and nothing
 parts-all : {m s : ℕ} {log : List Record} → Entries m s log → (k : ℕ) → k ≡ length log → Parts m s log k
-parts-all {m} {s} {log} e k same =
-    (ap (λ n. isSound m s (take n log)) same ∙ ap (isSound m s) (take-length log) ∙ sound-exactly m s log .1 e,
-    ap (λ n. isSound m s (drop n log)) same ∙ ap (isSound m s) (drop-length log) ∙ empty-sound m s)
+parts-all {m} {s} {log} e k same = (
+  ap (λ n. isSound m s (take n log)) same ∙ ap (isSound m s) (take-length log) ∙ sound-exactly m s log .1 e,
+  ap (λ n. isSound m s (drop n log)) same ∙ ap (isSound m s) (drop-length log) ∙ empty-sound m s,
+)
 
 -- at the end of an entry both parts are sound
 end-parts : {m s : ℕ} {log : List Record} (e : Entries m s log) (k : ℕ) → List·Memᴰ k (endsOf e) → Parts m s log k
@@ -60,9 +61,10 @@ end-parts none k (List·Memᴰ·tail there) = absurd (List·Memᴰ·not-nil ther
 end-parts (more e κ content f valid correct below) k (List·Memᴰ·head same) = parts-all (more e κ content f valid correct below) k same
 end-parts {m} {s} (more {log} e κ content f valid correct below) k (List·Memᴰ·tail there) =
     let inside = ends-within e k there in
-    let both = end-parts e k there in
-    (ap (isSound m s) (take-append-le k log (closed κ content f) inside) ∙ both .0,
-    ap (isSound m s) (drop-append-le k log (closed κ content f) inside) ∙ sound-with-entry m s (drop k log) content κ f (both .1) valid correct below)
+    let both = end-parts e k there in (
+      ap (isSound m s) (take-append-le k log (closed κ content f) inside) ∙ both .0,
+      ap (isSound m s) (drop-append-le k log (closed κ content f) inside) ∙ sound-with-entry m s (drop k log) content κ f (both .1) valid correct below,
+    )
 
 -- the count record of what is left of a log
 count-left : (log : List Record) (k : ℕ) → closingPlaces ≤ length (drop k log) → lastCount (drop k log) ≡ lastCount log

@@ -83,7 +83,18 @@ fn decide(
         (newEntry m (recordsOf (now (keys .entry)) (now (bits .entry)) n) «in_force» key feature)
         (paintPlan m (recordsOf (now (keys .entry)) (now (bits .entry)) n) key feature) ⌝ }
 {
-    let early = decision::first_refusal(m, s, keys, bits, n, summary, log_keys, log_values, used, in_force);
+    let early = decision::first_refusal(
+        m,
+        s,
+        keys,
+        bits,
+        n,
+        summary,
+        log_keys,
+        log_values,
+        used,
+        in_force,
+    );
     if early != 0 {
         return Decision::Refused(early);
     }
@@ -94,7 +105,17 @@ fn decide(
     if s <= feature {
         return Decision::Refused(7);
     }
-    decide_room(m, keys, bits, n, log_keys, log_values, in_force, key, feature)
+    decide_room(
+        m,
+        keys,
+        bits,
+        n,
+        log_keys,
+        log_values,
+        in_force,
+        key,
+        feature,
+    )
 }
 
 // The block gets the feature: a content of one record is put into it. Gives the number of records afterwards.

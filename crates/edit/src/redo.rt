@@ -32,7 +32,18 @@ fn decide(
         (nextEntry (toRedo (now («log_keys» .entry)) (now («log_values» .entry)) used «in_force»))
         (redoPlan m (recordsOf (now (keys .entry)) (now (bits .entry)) n) (toRedo (now («log_keys» .entry)) (now («log_values» .entry)) used «in_force»)) ⌝ }
 {
-    let early = decision::first_refusal(m, s, keys, bits, n, summary, log_keys, log_values, used, in_force);
+    let early = decision::first_refusal(
+        m,
+        s,
+        keys,
+        bits,
+        n,
+        summary,
+        log_keys,
+        log_values,
+        used,
+        in_force,
+    );
     if early != 0 {
         return Decision::Refused(early);
     }
@@ -44,7 +55,15 @@ fn decide(
         &log_values[in_force..used],
         used - in_force,
     );
-    let found = plan::plan_of(m, keys, bits, n, next.key, true, power::power_of_two(next.feature));
+    let found = plan::plan_of(
+        m,
+        keys,
+        bits,
+        n,
+        next.key,
+        true,
+        power::power_of_two(next.feature),
+    );
     let after = plan::length_after(n, 1, found);
     if keys.len() < after {
         return Decision::Refused(9);
@@ -71,7 +90,18 @@ pub fn redo(
     ensures { λ r. ⌜ Redone m s (now (keys .entry)) (now (bits .entry)) n (now (summary .entry)) (now («log_keys» .entry)) (now («log_values» .entry)) used «in_force»
         r (now (keys .exit)) (now (bits .exit)) (now (summary .exit)) (now («log_keys» .exit)) (now («log_values» .exit)) ⌝ }
 {
-    let decision = decide(m, s, keys, bits, n, summary, log_keys, log_values, used, in_force);
+    let decision = decide(
+        m,
+        s,
+        keys,
+        bits,
+        n,
+        summary,
+        log_keys,
+        log_values,
+        used,
+        in_force,
+    );
     match decision {
         Decision::Refused(refusal) => {
             return Edited {

@@ -36,7 +36,18 @@ fn decide(
         (lastEntry (recordsOf (now («log_keys» .entry)) (now («log_values» .entry)) «in_force»))
         (restorePlan m (recordsOf (now (keys .entry)) (now (bits .entry)) n) (recordsOf (now («log_keys» .entry)) (now («log_values» .entry)) «in_force»)) ⌝ }
 {
-    let early = decision::first_refusal(m, s, keys, bits, n, summary, log_keys, log_values, used, in_force);
+    let early = decision::first_refusal(
+        m,
+        s,
+        keys,
+        bits,
+        n,
+        summary,
+        log_keys,
+        log_values,
+        used,
+        in_force,
+    );
     if early != 0 {
         return Decision::Refused(early);
     }
@@ -107,7 +118,18 @@ pub fn take_back(
     ensures { λ r. ⌜ TakenBack m s (now (keys .entry)) (now (bits .entry)) n (now (summary .entry)) (now («log_keys» .entry)) (now («log_values» .entry)) used «in_force»
         r (now (keys .exit)) (now (bits .exit)) (now (summary .exit)) (now («log_keys» .exit)) (now («log_values» .exit)) ⌝ }
 {
-    let decision = decide(m, s, keys, bits, n, summary, log_keys, log_values, used, in_force);
+    let decision = decide(
+        m,
+        s,
+        keys,
+        bits,
+        n,
+        summary,
+        log_keys,
+        log_values,
+        used,
+        in_force,
+    );
     match decision {
         Decision::Refused(refusal) => {
             return Edited {

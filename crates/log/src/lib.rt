@@ -47,14 +47,7 @@ fn is_sound(m: u32, s: u32, keys: &[u32], values: &[u32], used: usize) -> bool
 }
 
 // The used records are there, those in force are the first of them, and both they and the others divide into entries.
-pub fn is_log(
-    m: u32,
-    s: u32,
-    keys: &[u32],
-    values: &[u32],
-    used: usize,
-    in_force: usize,
-) -> bool
+pub fn is_log(m: u32, s: u32, keys: &[u32], values: &[u32], used: usize, in_force: usize) -> bool
     requires { ⌜ (m ≤ 10) × (s ≤ slotLimit) ⌝ }
     ensures { λ r. ⌜ not r ≡ noLog m s (now (keys .entry)) (now (values .entry)) used «in_force» ⌝ }
 {
