@@ -6,6 +6,7 @@ mod AreaVectors
 mod LeafVectors
 mod FourWaivers
 mod ClassVectors
+mod RedoVectors
 pub mod Within
 pub mod Pixels
 pub mod Features
@@ -40,6 +41,8 @@ pub mod ClippedCalls
 pub mod OneByOne
 pub mod LastEntry
 pub mod SoundLog
+pub mod FirstEntry
+pub mod InForce
 pub mod Hidden
 pub mod Waivers
 pub mod OldFault
