@@ -18,3 +18,5 @@ pub mod Empty
 pub mod Findings
 pub mod Store
 pub mod Load
+pub mod WriteBitStrings
+pub mod ReadBitStrings

@@ -13,4 +13,5 @@ pub mod Log
 pub mod Rules
 pub mod Covered
 pub mod File
+pub mod BitStrings
 pub mod Calls
