@@ -22,3 +22,5 @@ pub mod Store
 pub mod Load
 pub mod ReadLeaves
 pub mod WriteLeaves
+pub mod WriteBitStrings
+pub mod ReadBitStrings

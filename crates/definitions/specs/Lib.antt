@@ -14,4 +14,5 @@ pub mod Rules
 pub mod Covered
 pub mod File
 pub mod Leaves
+pub mod BitStrings
 pub mod Calls

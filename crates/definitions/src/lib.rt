@@ -120,3 +120,11 @@ pub struct Loaded {
     pub s: u64,
     pub n: u64,
 }
+
+// The bytes of a pair of bit strings.
+#[repr(C)]
+pub struct Strings {
+    pub refusal: u64,
+    pub node_bytes: u64,
+    pub leaf_bytes: u64,
+}

@@ -1,0 +1,34 @@
+use Rattle.bit_strings.proofs.Passing.{step-most, key-leaf, key-inner}
+use Rattle.bit_strings.proofs.Levels.{power-small}
+use Prim.Native.Nat.{_^_}
+use native.Mathlib.Omega.{arith}
+use borrow.Author.Needs.{needs}
+use Rattle.bit_strings.proofs.next.key_after.Statement.{statement}
+use Rattle.bit_strings.proofs.next.key_after.Tie as tie
+use Rattle.bit_strings.proofs.next.key_after.Reads as reads
+use Rattle.bit_strings.proofs.next.key_after.Lts as lts
+use Rattle.bit_strings.proofs.next.keys_in.Reads as keys-in-reads
+
+keys-in-requires : tie.Need-keys-in-requires
+keys-in-requires c κs = search needs
+
+add-result : tie.Need-add-result
+add-result c =
+    let s = c .before .before in
+    let h = power-small (s .args .m) (s .pre .0) in
+    omega (arith, step-most (s .args .m) (s .args .key), c .before .keys-in .ensures, s .pre .1)
+
+returns : tie.Need-returns
+returns c = key-leaf _ _ _ _ (c .before .keys-in .ensures) (c .if1 .taken)
+
+add-result-2 : tie.Need-add-result-2
+add-result-2 c =
+    let s = c .before .before in
+    let h = power-small (s .args .m) (s .pre .0) in
+    omega (arith, step-most (s .args .m) (s .args .key), c .before .keys-in .ensures, s .pre .1)
+
+returns-2 : tie.Need-returns-2
+returns-2 c = key-inner _ _ _ _ (c .before .keys-in .ensures) (c .if1 .left)
+
+pub key-after-spec : {M : Type 1} → statement M
+key-after-spec = tie.close (tie.spec keys-in-requires add-result returns add-result-2 returns-2)

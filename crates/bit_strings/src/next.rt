@@ -1,0 +1,76 @@
+// From a block to the one that comes next in key order.
+ghost use mathlib.Core.Path.{_≡_};
+ghost use Prim.Native.Nat.{_+_, _≤_, _<_, _^_};
+ghost use lib.ListN.{drop};
+ghost use lib.Dec.{eqb};
+ghost use Rattle.definitions.specs.BitStrings.{bitsIn, levelsBelow, keyAfter};
+ghost use Rattle.bit_strings.specs.Steps.{passed};
+use crate::bits;
+
+// How many keys the block with the given key has, its own and those below it: five to the power of its height.
+pub fn keys_in(m: u32, key: u32) -> u32
+    requires { ⌜ m ≤ 10 ⌝ }
+    ensures { λ r. ⌜ r ≡ 5 ^ levelsBelow m key ⌝ }
+{
+    let mut height = 0;
+    let mut digits = key;
+    let mut step = 1;
+    while height < m {
+        if digits % 5 != 0 {
+            return step;
+        }
+        digits = digits / 5;
+        step = step * 5;
+        height += 1;
+    }
+    step
+}
+
+// The key after a leaf (1) or an inner node (0).
+pub fn key_after(m: u32, key: u32, leaf: u32) -> u32
+    requires { ⌜ (m ≤ 10) × (key < 5 ^ m) ⌝ }
+    ensures { λ r. ⌜ r ≡ keyAfter m key (eqb leaf 1) ⌝ }
+{
+    let step = keys_in(m, key);
+    if leaf == 1 {
+        return key + step;
+    }
+    key + step / 5
+}
+
+// Where reading goes on after a block: the next key, and 1 where a leaf was passed. The key is 0 where the bits end early, go too deep or
+// show four equal leaf siblings.
+pub struct Passed {
+    pub key: u32,
+    pub leaf: u32,
+}
+
+pub fn pass(m: u32, key: u32, nodes: &[u8], leaves: &[u8], i: usize, j: usize) -> Passed
+    requires { ⌜ (m ≤ 10) × (key < 5 ^ m) × (i ≤ key) × (j ≤ i) ⌝ }
+    ensures { λ r. ⌜ r ≡ passed m key (drop i (bitsIn (now (nodes .entry)))) (drop j (bitsIn (now (leaves .entry)))) ⌝ }
+{
+    let node = bits::bit_at(nodes, i);
+    let step = keys_in(m, key);
+    if node == 1 {
+        if bits::bit_at(leaves, j) == 2 {
+            return Passed { key: 0, leaf: 0 };
+        }
+        return Passed {
+            key: key + step,
+            leaf: 1,
+        };
+    }
+    if node == 2 {
+        return Passed { key: 0, leaf: 0 };
+    }
+    if step == 1 {
+        return Passed { key: 0, leaf: 0 };
+    }
+    if bits::equal_siblings(nodes, leaves, i + 1, j) {
+        return Passed { key: 0, leaf: 0 };
+    }
+    Passed {
+        key: key + step / 5,
+        leaf: 0,
+    }
+}

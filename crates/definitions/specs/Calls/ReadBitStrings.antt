@@ -1,0 +1,35 @@
+-- Read bit strings: a pair of bit strings becomes its list. Refusals 1, 23, 9.
+use Prim.Native.Nat.{ℕ}
+use mathlib.Core.Bool.{not, _||_}
+use mathlib.Core.List.{List, [], _∷_}
+use lib.ListN.{length}
+use lib.Dec.{ltb, eqb}
+use Rattle.definitions.specs.List.{keysOf, valuesOf}
+use Rattle.definitions.specs.Read.{room}
+use Rattle.definitions.specs.Buffer.{over}
+use Rattle.definitions.specs.BitStrings.{isPair, recordsOfPair}
+use Rattle.definitions.specs.Refusal.{_gives_, first, accepted, badSettings}
+use Rattle.definitions.specs.declared.Counted.{Counted}
+
+unfoldable pub readStringsRefusal : ℕ → ℕ → List ℕ → List ℕ → List ℕ → List ℕ → ℕ
+readStringsRefusal m s nodes leaves keys bits =
+    first
+    (badSettings m s gives 1
+    ∷ (not (eqb s 2) || not (isPair m nodes leaves)) gives 23
+    ∷ ltb (room keys bits) (length (recordsOfPair m nodes leaves)) gives 9
+    ∷ [])
+
+unfoldable pub readStrings : ℕ → ℕ → List ℕ → List ℕ → List ℕ → List ℕ → Counted
+readStrings m s nodes leaves keys bits =
+    record {
+      refusal = readStringsRefusal m s nodes leaves keys bits;
+      count = accepted (readStringsRefusal m s nodes leaves keys bits) (length (recordsOfPair m nodes leaves)) 0;
+    }
+
+unfoldable pub readKeys : ℕ → ℕ → List ℕ → List ℕ → List ℕ → List ℕ → List ℕ
+readKeys m s nodes leaves keys bits =
+    accepted (readStringsRefusal m s nodes leaves keys bits) (over (keysOf (recordsOfPair m nodes leaves)) keys) keys
+
+unfoldable pub readBits : ℕ → ℕ → List ℕ → List ℕ → List ℕ → List ℕ → List ℕ
+readBits m s nodes leaves keys bits =
+    accepted (readStringsRefusal m s nodes leaves keys bits) (over (valuesOf (recordsOfPair m nodes leaves)) bits) bits
