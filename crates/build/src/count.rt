@@ -17,7 +17,7 @@ pub struct Tally {
 }
 
 // A block of four quadrants: one record where they have one feature together, else its own and theirs.
-fn joined(nw: Tally, ne: Tally, sw: Tally, se: Tally) -> Tally
+pub fn joined(nw: Tally, ne: Tally, sw: Tally, se: Tally) -> Tally
     requires { ⌜ (nw .count ≤ 5 ^ 9) × (ne .count ≤ 5 ^ 9) × (sw .count ≤ 5 ^ 9) × (se .count ≤ 5 ^ 9) ⌝ }
     ensures { λ r. ⌜ Joined (unionOfFour (nw .bits) (ne .bits) (sw .bits) (se .bits)) (nw .count + (ne .count + (sw .count + se .count))) (r .bits) (r .count) ⌝ }
 {

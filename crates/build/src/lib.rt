@@ -10,9 +10,9 @@ use keys::Key;
 use keys::power;
 use list::settings;
 
-mod count;
-mod pixels;
-mod write;
+pub mod count;
+pub mod pixels;
+pub mod write;
 
 // The refusals that settings and raster decide, in their order: 1, 2 and 3, else 0.
 pub fn refusal_of(m: u32, s: u32, raster: &[u8]) -> u64

@@ -14,7 +14,7 @@ pub struct Below {
 }
 
 // The records of four quadrants, each at the place after the one before it, where the four have several features together; else nothing.
-fn write_four(
+pub fn write_four(
     key: u32,
     step: u32,
     place: usize,

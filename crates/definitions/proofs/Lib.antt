@@ -4,6 +4,7 @@ mod Orders
 mod Corners
 mod AreaVectors
 mod FourWaivers
+mod CombineVectors
 pub mod Within
 pub mod Pixels
 pub mod Features
@@ -46,6 +47,7 @@ pub mod FileBytes
 pub mod FileOf
 pub mod FileBack
 pub mod First
+pub mod Combined
 pub mod Records
 pub mod Buffer
 pub mod Put

@@ -16,5 +16,6 @@ pub mod Paint
 pub mod TakeBack
 pub mod Empty
 pub mod Findings
+pub mod Combine
 pub mod Store
 pub mod Load
