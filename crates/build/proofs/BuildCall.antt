@@ -43,7 +43,7 @@ rows-list m side raster e = ap (λ x. listOf (pictureOfRows x raster) m 0 0 0) e
 
 -- the records below the root and the root's own at place 0 are the whole list
 module _ (f : Record → ℕ) where
-  root-run : (p : Picture) (m x : ℕ) (l l₁ : List ℕ) → length (listOf p m 0 0 0) ≤ length l
+  pub root-run : (p : Picture) (m x : ℕ) (l l₁ : List ℕ) → length (listOf p m 0 0 0) ≤ length l
       → x ≡ f (recordOf 0 (bitsOf p m 0 0))
       → l₁ ≡ sets l 1 (map f (below p m 0 0 0))
       → set l₁ 0 x ≡ over (map f (listOf p m 0 0 0)) l

@@ -7,6 +7,7 @@ mod LeafVectors
 mod FourWaivers
 mod ClassVectors
 mod RedoVectors
+mod CombineVectors
 pub mod Within
 pub mod Pixels
 pub mod Features
@@ -54,6 +55,7 @@ pub mod FileBack
 pub mod First
 pub mod FormerFile
 pub mod LastSlot
+pub mod Combined
 pub mod Records
 pub mod Buffer
 pub mod Put

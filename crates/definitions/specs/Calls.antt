@@ -18,6 +18,7 @@ pub mod TakeBack
 pub mod Redo
 pub mod Empty
 pub mod Findings
+pub mod Combine
 pub mod Store
 pub mod Load
 pub mod ReadLeaves

@@ -12,6 +12,7 @@ pub mod Edit
 pub mod Log
 pub mod Rules
 pub mod Covered
+pub mod Combine
 pub mod File
 pub mod Leaves
 pub mod BitStrings

@@ -1,0 +1,5 @@
+pub mod OneList
+pub mod Table
+pub mod BothLists
+pub mod CombineRefusal
+pub mod WholeLists

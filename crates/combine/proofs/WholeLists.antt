@@ -1,0 +1,107 @@
+-- Both whole lists: they stand at the root, the combined list has fewer records than the two together, and the records below the root with the
+-- root's own are the list. Rests on BothLists, on definitions' Combined and on build's BuildCall.
+use Prim.Native.Nat.{ℕ, _+_, _^_, _≤_, _<_}
+use mathlib.Core.Path.{_≡_, refl, sym, ap, _∙_}
+use mathlib.Core.Bool.{cond}
+use mathlib.Core.List.{List}
+use native.Mathlib.Omega.{arith}
+use native.Mathlib.Nat.{zero-add}
+use lib.ListN.{length, set}
+use borrow.Author.Tests.{lt-ltb, le-ltb}
+use Rattle.keys.proofs.Powers.{five-le}
+use Rattle.definitions.specs.Read.{room}
+use Rattle.definitions.specs.Combine.{combined}
+use Rattle.definitions.proofs.Combined.{combined-most}
+use Rattle.definitions.proofs.ListOf.{list-some}
+use Rattle.list.specs.Own.{shownBy}
+use Rattle.list.proofs.Own.{own-length}
+use Rattle.list.proofs.Shown.{root-shown}
+use Rattle.build.specs.BuildBlocks.{Written}
+use Rattle.build.proofs.CountBlock.{list-five}
+use Rattle.build.proofs.FittingBlock.{keys-length, bits-length}
+use Rattle.build.proofs.BuildCall.{root-run}
+use Rattle.combine.specs.Combining.{Seen, Asked, WriteAsked, Counted, Made}
+use Rattle.combine.specs.Ready.{Ready, resultOf, Answered}
+
+module _ {m : ℕ} {keys₁ bits₁ : List ℕ} {n₁ : ℕ} {keys₂ bits₂ : List ℕ} {n₂ : ℕ} {table : List ℕ} {s₂ : ℕ} (y : Ready m keys₁ bits₁ n₁ keys₂ bits₂ n₂ table s₂) where
+  -- the root is listed first in both
+  root-seen : {step : ℕ} → step ≡ 5 ^ m → Seen (shownBy m keys₁ bits₁ n₁) (shownBy m keys₂ bits₂ n₂) m 0 0 0 bits₁ bits₂ step 0 0 0 0
+  root-seen e = record {
+    step-is = e;
+    first-at = record { inside = λ h. absurd (h refl); listed = λ z. root-shown (y .first-own) };
+    second-at = record { inside = λ h. absurd (h refl); listed = λ z. root-shown (y .second-own) };
+  }
+
+  pub root-asked : {step : ℕ} → step ≡ 5 ^ m → Asked bits₁ bits₂ table s₂ step 0 0 0 0
+  root-asked e = record {
+    first = shownBy m keys₁ bits₁ n₁;
+    second = shownBy m keys₂ bits₂ n₂;
+    height = m;
+    row = 0;
+    column = 0;
+    key = 0;
+    deep = y .deep;
+    seen = root-seen e;
+    named = y .named;
+  }
+
+  pub root-count : {step u n i j : ℕ} → step ≡ 5 ^ m → Counted bits₁ bits₂ table s₂ step 0 0 0 0 u n i j
+      → n ≡ length (resultOf m keys₁ bits₁ n₁ keys₂ bits₂ n₂ table s₂)
+  root-count e h = h .tallied _ _ _ _ _ _ (root-seen e) .count-is
+
+  -- the numbers of records are small, and not 0
+  pub few-records : (n₁ ≤ 5 ^ 10) × (n₂ ≤ 5 ^ 10)
+  few-records =
+      let a = list-five (shownBy m keys₁ bits₁ n₁) m 0 0 0 in
+      let b = list-five (shownBy m keys₂ bits₂ n₂) m 0 0 0 in
+      let h = five-le 10 (y .deep) in
+      (omega (arith, own-length (y .first-own)), omega (arith, own-length (y .second-own)))
+
+  -- the result has fewer than the two together
+  pub result-most : length (resultOf m keys₁ bits₁ n₁ keys₂ bits₂ n₂ table s₂) < n₁ + n₂
+  result-most =
+      let h = combined-most (shownBy m keys₁ bits₁ n₁) (shownBy m keys₂ bits₂ n₂) table s₂ m 0 0 0 in
+      omega (arith, own-length (y .first-own), own-length (y .second-own))
+
+  module _ {keys bits : List ℕ} where
+    pub no-room : room keys bits < length (resultOf m keys₁ bits₁ n₁ keys₂ bits₂ n₂ table s₂)
+        → Answered (resultOf m keys₁ bits₁ n₁ keys₂ bits₂ n₂ table s₂) keys bits keys bits 9 0
+    no-room h = record {
+      refusal-is = sym (ap (λ t. cond t 9 0) (lt-ltb (room keys bits) (length (resultOf m keys₁ bits₁ n₁ keys₂ bits₂ n₂ table s₂)) h));
+      count-is = refl;
+      keys-are = refl;
+      bits-are = refl;
+    }
+
+    module _ (fits : length (resultOf m keys₁ bits₁ n₁ keys₂ bits₂ n₂ table s₂) ≤ room keys bits) where
+      pub root-fits : {step : ℕ} → step ≡ 5 ^ m → WriteAsked bits₁ bits₂ table s₂ step 0 0 0 0 0 0 keys bits
+      unfolding root-asked
+      root-fits e = record {
+        asked = root-asked e;
+        fits = record {
+          key-fits = let u = five-le 10 (y .deep) in omega arith;
+          place-fits = omega arith;
+          keys-room = λ t. omega arith;
+          bits-room = λ t. omega arith;
+        };
+      }
+
+      module _ {step : ℕ} (e : step ≡ 5 ^ m) {keys′ bits′ : List ℕ} {b n i j : ℕ} (w : Made bits₁ bits₂ table s₂ step 0 0 0 0 0 0 keys bits keys′ bits′ b n i j) where
+        root-written : Written (combined (shownBy m keys₁ bits₁ n₁) (shownBy m keys₂ bits₂ n₂) table s₂) m 0 0 0 0 keys bits keys′ bits′ b n
+        root-written = w .written _ _ _ _ _ _ (root-seen e)
+
+        -- the root's own place is there
+        pub root-places : (0 < length keys′) × (0 < length bits′)
+        root-places =
+            let h = list-some (combined (shownBy m keys₁ bits₁ n₁) (shownBy m keys₂ bits₂ n₂) table s₂) m 0 0 0 in
+            (omega (arith, keys-length root-written), omega (arith, bits-length root-written))
+
+        pub has-answer : Answered (resultOf m keys₁ bits₁ n₁ keys₂ bits₂ n₂ table s₂) keys bits (set keys′ 0 0) (set bits′ 0 b) 0 n
+        has-answer =
+            let v = root-written in
+            record {
+              refusal-is = sym (ap (λ t. cond t 9 0) (le-ltb (room keys bits) (length (resultOf m keys₁ bits₁ n₁ keys₂ bits₂ n₂ table s₂)) fits));
+              count-is = v .next-is ∙ zero-add (length (resultOf m keys₁ bits₁ n₁ keys₂ bits₂ n₂ table s₂));
+              keys-are = root-run (λ x. x .key) (combined (shownBy m keys₁ bits₁ n₁) (shownBy m keys₂ bits₂ n₂) table s₂) m 0 keys keys′ (omega arith) refl (v .keys-are);
+              bits-are = root-run (λ x. x .value) (combined (shownBy m keys₁ bits₁ n₁) (shownBy m keys₂ bits₂ n₂) table s₂) m b bits bits′ (omega arith) (v .union-is) (v .bits-are);
+            }
