@@ -16,5 +16,7 @@ pub mod Paint
 pub mod TakeBack
 pub mod Empty
 pub mod Findings
+pub mod AddWaiver
+pub mod RemoveWaiver
 pub mod Store
 pub mod Load

@@ -12,5 +12,6 @@ pub mod Edit
 pub mod Log
 pub mod Rules
 pub mod Covered
+pub mod Offices
 pub mod File
 pub mod Calls
