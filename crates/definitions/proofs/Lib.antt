@@ -49,6 +49,9 @@ pub mod Waivers
 pub mod OldFault
 pub mod FindingOrder
 pub mod FindingsAscend
+pub mod RowPlaces
+pub mod RowOrder
+pub mod Shares
 pub mod FileBytes
 pub mod FileOf
 pub mod FileBack

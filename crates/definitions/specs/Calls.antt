@@ -19,6 +19,8 @@ pub mod Redo
 pub mod Empty
 pub mod Findings
 pub mod Combine
+pub mod AddWaiver
+pub mod RemoveWaiver
 pub mod Store
 pub mod Load
 pub mod ReadLeaves

@@ -13,6 +13,7 @@ pub mod Log
 pub mod Rules
 pub mod Covered
 pub mod Combine
+pub mod Offices
 pub mod File
 pub mod Leaves
 pub mod BitStrings
