@@ -11,11 +11,7 @@ use keys::power;
 use list::settings;
 
 pub mod count;
-<<<<<<< HEAD
-mod pixels;
-=======
 pub mod pixels;
->>>>>>> combine
 pub mod write;
 
 // The refusals that settings and raster decide, in their order: 1, 2 and 3, else 0.
