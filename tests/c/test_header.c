@@ -7,7 +7,7 @@
 #include <stdlib.h>
 #include <string.h>
 
-static_assert(HLQ_INTERFACE == 4, "the interface's number");
+static_assert(HLQ_INTERFACE == 5, "the interface's number");
 static_assert(HLQ_DEEPEST_M == 10 && HLQ_MOST_SLOTS == 16, "the limits of document 01");
 static_assert(HLQ_LISTED == 1 && HLQ_INSIDE == 2, "the kinds");
 static_assert(HLQ_ACCEPTED == 0 && HLQ_SETTINGS == 1 && HLQ_RASTER_LENGTH == 2 && HLQ_PIXEL == 3 && HLQ_LIST == 4 &&
@@ -77,9 +77,9 @@ static void limits(void) {
 }
 
 static void words(void) {
-    const char *unknown = hlq_refusal_text(HLQ_SUMMARY + 1);
+    const char *unknown = hlq_refusal_text(HLQ_LEAVES + 1);
     must(strcmp(unknown, hlq_refusal_text(UINT64_MAX)) == 0, "one text for every unknown number");
-    for (uint64_t a = 0; a <= HLQ_SUMMARY; a++) {
+    for (uint64_t a = 0; a <= HLQ_LEAVES; a++) {
         must(strlen(hlq_refusal_text(a)) > 0 && strcmp(hlq_refusal_text(a), unknown) != 0, "a text for each refusal");
         for (uint64_t b = 0; b < a; b++)
             must(strcmp(hlq_refusal_text(a), hlq_refusal_text(b)) != 0, "a text of its own");
