@@ -271,6 +271,37 @@ static void classes(uint32_t s) {
     files(s, n);
 }
 
+/* Each pixel of the raster as a leaf of its own, in key order. */
+static void deliver_pixels(uint32_t *leaf_keys, uint32_t *leaf_features) {
+    for (uint32_t i = 0; i < PIXELS; i++) {
+        uint32_t row = 0, column = 0;
+        for (uint32_t b = 0; b < M; b++) row |= (i >> (2 * b + 1) & 1) << b, column |= (i >> 2 * b & 1) << b;
+        leaf_keys[i] = plain_key_at(M, row, column, M), leaf_features[i] = raster[(size_t)row * EDGE + column];
+    }
+}
+
+static void read_leaves(const char *name, const uint32_t *leaf_keys, const uint32_t *leaf_features, size_t leaves) {
+    COMPARE(name, 7, 1,
+            sink += hlq_read_leaves(M, S, leaf_keys, leaves, leaf_features, leaves, leaves, keys, MOST, bits, MOST)
+                        .count,
+            sink += plain_read_leaves(M, S, leaf_keys, leaf_features, leaves, other_keys, other_bits, MOST));
+}
+
+/* Leaf lists: the leaves of the list, and each pixel a leaf. */
+static void leaf_lists(size_t n) {
+    static uint32_t leaf_keys[PIXELS], leaf_features[PIXELS];
+    size_t leaves = n - n / 4;
+    printf("\nleaf lists at m = %d: %zu leaves, and %d pixels\n", M, leaves, PIXELS);
+    COMPARE("write leaves (with the list check)", 7, 1,
+            sink += hlq_write_leaves(M, S, keys, MOST, bits, MOST, n, leaf_keys, PIXELS, leaf_features, PIXELS).count,
+            sink += (uint64_t)plain_is_list(M, S, keys, bits, n) +
+                    plain_write_leaves(keys, bits, n, leaf_keys, leaf_features));
+    read_leaves("read leaves, merged", leaf_keys, leaf_features, leaves);
+    deliver_pixels(leaf_keys, leaf_features);
+    read_leaves("read leaves, single pixels", leaf_keys, leaf_features, PIXELS);
+    if (memcmp(keys, other_keys, 4 * n) != 0 || memcmp(bits, other_bits, 4 * n) != 0) printf("THE TWO DIFFER\n");
+}
+
 /* Windows dragged over the north-west corner: what clipping adds to the strict call on the overlap. */
 static void clipped(size_t n) {
     size_t visited;
@@ -358,6 +389,7 @@ int main(void) {
     findings(n, 0);
     findings(n, 1);
     files(S, n);
+    leaf_lists(n);
     classes(8);
     classes(HLQ_MOST_SLOTS);
     free(file);

@@ -688,3 +688,68 @@ size_t plain_load(const uint8_t *file, uint32_t *keys, uint32_t *bits) {
         }
     return plain_is_list(file[5], file[6], keys, bits, n) ? n : 0;
 }
+
+/* ---- leaf lists: a pass that checks and counts, and one that writes, each by the blocks that the leaves must be; four
+ * pixels without a call */
+
+typedef struct {
+    const uint32_t *keys, *features;
+    size_t leaves, at;
+    uint32_t *list_keys, *list_bits;
+} reading;
+
+static tally pass_leaves(reading *r, uint32_t key, uint32_t step) {
+    if (r->at < r->leaves && r->keys[r->at] == key) return (tally) { 1u << r->features[r->at++], 1 };
+    tally whole = { 0, 1 };
+    for (uint32_t d = 1; d <= 4; d++) {
+        uint32_t child = key + d * step;
+        if (step > 1) {
+            if (r->at >= r->leaves) return r->at = SIZE_MAX, whole;
+            tally part = pass_leaves(r, child, step / 5);
+            whole.bits |= part.bits, whole.count += part.count;
+        } else {
+            if (step == 0 || r->at >= r->leaves || r->keys[r->at] != child) return r->at = SIZE_MAX, whole;
+            whole.bits |= 1u << r->features[r->at++], whole.count++;
+        }
+    }
+    if (one_bit(whole.bits)) whole.count = 1;
+    return whole;
+}
+
+static tally lay_leaves(reading *r, uint32_t key, uint32_t step, size_t place) {
+    if (r->keys[r->at] == key) return (tally) { 1u << r->features[r->at++], place + 1 };
+    size_t own[4], next = place + 1;
+    uint32_t bits[4], together = 0;
+    for (uint32_t d = 0; d < 4; d++) {
+        own[d] = next;
+        if (step > 1) {
+            tally part = lay_leaves(r, key + (d + 1) * step, step / 5, next);
+            bits[d] = part.bits, next = part.count;
+        } else bits[d] = 1u << r->features[r->at++], next++;
+        together |= bits[d];
+    }
+    if (one_bit(together)) return (tally) { together, place + 1 };
+    for (uint32_t d = 0; d < 4; d++) r->list_keys[own[d]] = key + (d + 1) * step, r->list_bits[own[d]] = bits[d];
+    return (tally) { together, next };
+}
+
+size_t plain_read_leaves(uint32_t m, uint32_t s, const uint32_t *leaf_keys, const uint32_t *leaf_features,
+                         size_t leaves, uint32_t *keys, uint32_t *bits, size_t room) {
+    uint32_t step = m ? power(5, m - 1) : 0;
+    int bad = 0;
+    for (size_t i = 0; i < leaves; i++) bad |= leaf_features[i] >= s;
+    reading r = { leaf_keys, leaf_features, leaves, 0, keys, bits };
+    if (bad || pass_leaves(&r, 0, step).count > room || r.at != leaves) return 0;
+    r.at = 0;
+    tally root = lay_leaves(&r, 0, step, 0);
+    keys[0] = 0, bits[0] = root.bits;
+    return root.count;
+}
+
+size_t plain_write_leaves(const uint32_t *keys, const uint32_t *bits, size_t n, uint32_t *leaf_keys,
+                          uint32_t *leaf_features) {
+    size_t at = 0;
+    for (size_t i = 0; i < n; i++)
+        if (one_bit(bits[i])) leaf_keys[at] = keys[i], leaf_features[at++] = (uint32_t)__builtin_ctz(bits[i]);
+    return at;
+}

@@ -47,6 +47,11 @@ size_t plain_findings(uint32_t m, const uint32_t *keys, const uint32_t *bits, si
                       uint32_t *ids, uint32_t *found, size_t *hidden);
 size_t plain_store(uint32_t m, uint32_t s, const uint32_t *keys, const uint32_t *bits, size_t n, uint8_t *file);
 size_t plain_load(const uint8_t *file, uint32_t *keys, uint32_t *bits);
+/* The list of a delivery, or 0 where it is none or the room too little; and the leaves of a list. */
+size_t plain_read_leaves(uint32_t m, uint32_t s, const uint32_t *leaf_keys, const uint32_t *leaf_features,
+                         size_t leaves, uint32_t *keys, uint32_t *bits, size_t room);
+size_t plain_write_leaves(const uint32_t *keys, const uint32_t *bits, size_t n, uint32_t *leaf_keys,
+                          uint32_t *leaf_features);
 /* The raster scan that report answers. */
 uint32_t plain_scan(uint32_t m, const uint8_t *raster, uint32_t row, uint32_t column, uint32_t height, uint32_t width);
 

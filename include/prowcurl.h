@@ -25,6 +25,10 @@
  * feature s - 1. Place b * s + f counts feature f in block b. hlq_build makes it,
  * hlq_fill_summary does so for a list that was loaded, and edits keep it right.
  *
+ * A delivery is leaves alone, in two slices leaf_keys and leaf_features: blocks in ascending key
+ * order that cover the raster once, and the feature of each. They may be in parts: four equal
+ * quarters for a block, down to single pixels.
+ *
  * A log is two slices, log_keys and log_values, of which the first `used` places are in use. Start
  * with used = 0.
  *
@@ -97,7 +101,9 @@ enum {
     HLQ_FILE_LENGTH = 15,  /* the file has under 11 bytes, or a wrong length */
     HLQ_FILE_MARK = 16,    /* the file does not begin with HLQ */
     HLQ_FILE_VERSION = 17, /* the file's version is neither 1 nor 2, or is 2 with s up to 16 */
-    HLQ_SUMMARY = 18       /* the summary has a wrong length, or does not hold this map's counts */
+    HLQ_SUMMARY = 18,      /* the summary has a wrong length, or does not hold this map's counts */
+    HLQ_LEAVES = 19        /* the count exceeds the leaves' slices, or the leaves are not ascending
+                              valid keys that cover the raster once, with features below s */
 };
 
 /* The words for a refusal, for a message to people. */
@@ -122,6 +128,7 @@ static inline const char *hlq_refusal_text(uint64_t refusal) {
     case HLQ_FILE_MARK: return "not a file of a list";
     case HLQ_FILE_VERSION: return "a file of another version";
     case HLQ_SUMMARY: return "not the summary of the list";
+    case HLQ_LEAVES: return "not the leaves of a raster";
     default: return "no known refusal";
     }
 }
@@ -326,6 +333,25 @@ hlq_counted hlq_store(uint32_t m, uint32_t s,
  * HLQ_LIST_ROOM, in this order. */
 hlq_loaded hlq_load(const uint8_t *file, size_t file_len,
                     uint32_t *keys, size_t keys_len, uint32_t *bits, size_t bits_len);
+
+/* READ LEAVES. The first `leaves` places of leaf_keys and leaf_features are a delivery. The list of
+ * the raster that it describes is written to places 0 to count - 1 of keys and bits; all other
+ * places stay. What was delivered in parts is merged. count is the number of records.
+ * Refusals: HLQ_SETTINGS, HLQ_LEAVES, HLQ_LIST_ROOM, in this order. */
+hlq_counted hlq_read_leaves(uint32_t m, uint32_t s,
+                            const uint32_t *leaf_keys, size_t leaf_keys_len,
+                            const uint32_t *leaf_features, size_t leaf_features_len, size_t leaves,
+                            uint32_t *keys, size_t keys_len, uint32_t *bits, size_t bits_len);
+
+/* WRITE LEAVES. The leaves of the list, a key and a feature each, in places 0 to count - 1 of
+ * leaf_keys and leaf_features; all other places stay. Their room is the shorter of the two slices.
+ * A list of n records has n - n / 4 leaves.
+ * Refusals: HLQ_SETTINGS, HLQ_LIST, HLQ_ANSWER_ROOM, in this order. */
+hlq_counted hlq_write_leaves(uint32_t m, uint32_t s,
+                             const uint32_t *keys, size_t keys_len,
+                             const uint32_t *bits, size_t bits_len, size_t n,
+                             uint32_t *leaf_keys, size_t leaf_keys_len,
+                             uint32_t *leaf_features, size_t leaf_features_len);
 
 #ifdef __cplusplus
 }

@@ -770,3 +770,59 @@ hlq_loaded ref_load(const uint8_t *file, size_t file_len, uint32_t *keys, size_t
     free_records(&l);
     return answer;
 }
+
+/* The raster that leaves describe, or NULL where they are no delivery. */
+static uint8_t *raster_of_leaves(uint32_t m, uint32_t s, const uint32_t *leaf_keys, const uint32_t *leaf_features,
+                                 size_t leaves) {
+    uint8_t *raster = new_raster(m);
+    int good = 1;
+    memset(raster, NO_FEATURE, pixels_of(m));
+    for (size_t i = 0; good && i < leaves; i++) {
+        uint32_t row, column, side;
+        good = ref_key_is_valid(m, leaf_keys[i]) && leaf_features[i] < s && (i == 0 || leaf_keys[i - 1] < leaf_keys[i]);
+        if (!good) break;
+        ref_block(m, leaf_keys[i], &row, &column, &side);
+        for (uint32_t r = row; r < row + side; r++)
+            for (uint32_t c = column; c < column + side; c++) {
+                uint8_t *pixel = raster + ((size_t)r << m) + c;
+                if (*pixel != NO_FEATURE) good = 0;
+                *pixel = (uint8_t)leaf_features[i];
+            }
+    }
+    for (size_t i = 0; good && i < pixels_of(m); i++) good = raster[i] != NO_FEATURE;
+    if (good) return raster;
+    free(raster);
+    return NULL;
+}
+
+hlq_counted ref_read_leaves(uint32_t m, uint32_t s, const uint32_t *leaf_keys, size_t leaf_keys_len,
+                            const uint32_t *leaf_features, size_t leaf_features_len, size_t leaves, uint32_t *keys,
+                            size_t keys_len, uint32_t *bits, size_t bits_len) {
+    if (settings_are_bad(m, s)) return (hlq_counted){ 1, 0 };
+    if (leaves > shorter(leaf_keys_len, leaf_features_len)) return (hlq_counted){ 19, 0 };
+    uint8_t *raster = raster_of_leaves(m, s, leaf_keys, leaf_features, leaves);
+    if (!raster) return (hlq_counted){ 19, 0 };
+    hlq_counted answer = ref_list(m, s, raster, pixels_of(m), keys, keys_len, bits, bits_len);
+    free(raster);
+    return answer;
+}
+
+hlq_counted ref_write_leaves(uint32_t m, uint32_t s, const uint32_t *keys, size_t keys_len, const uint32_t *bits,
+                             size_t bits_len, size_t n, uint32_t *leaf_keys, size_t leaf_keys_len,
+                             uint32_t *leaf_features, size_t leaf_features_len) {
+    if (settings_are_bad(m, s)) return (hlq_counted){ 1, 0 };
+    uint8_t *raster = raster_of(m, s, keys, keys_len, bits, bits_len, n);
+    if (!raster) return (hlq_counted){ 4, 0 };
+    records list = new_records(m);
+    list_of(m, raster, 0, &list);
+    hlq_counted answer = { 0, 0 };
+    for (size_t i = 0; i < list.n; i++) answer.count += (uint64_t)has_one_bit(list.bits[i]);
+    if (answer.count > shorter(leaf_keys_len, leaf_features_len)) answer.refusal = 12;
+    for (size_t i = 0, at = 0; answer.refusal == 0 && i < list.n; i++)
+        if (has_one_bit(list.bits[i])) {
+            leaf_keys[at] = list.keys[i];
+            leaf_features[at++] = slot_of(list.bits[i]);
+        }
+    free_records(&list), free(raster);
+    return answer;
+}

@@ -105,4 +105,14 @@ hlq_counted hlq_store(uint32_t m, uint32_t s, TAKE_CONST_LIST, size_t n, uint8_t
 
 hlq_loaded hlq_load(const uint8_t *file, size_t file_len, TAKE_LIST) { return ref_load(file, file_len, LIST); }
 
+hlq_counted hlq_read_leaves(uint32_t m, uint32_t s, const uint32_t *leaf_keys, size_t leaf_keys_len,
+                            const uint32_t *leaf_features, size_t leaf_features_len, size_t leaves, TAKE_LIST) {
+    return ref_read_leaves(m, s, leaf_keys, leaf_keys_len, leaf_features, leaf_features_len, leaves, LIST);
+}
+
+hlq_counted hlq_write_leaves(uint32_t m, uint32_t s, TAKE_CONST_LIST, size_t n, uint32_t *leaf_keys,
+                             size_t leaf_keys_len, uint32_t *leaf_features, size_t leaf_features_len) {
+    return ref_write_leaves(m, s, LIST, n, leaf_keys, leaf_keys_len, leaf_features, leaf_features_len);
+}
+
 uint64_t hlq_empty(void) { return 0; }

@@ -5,9 +5,29 @@
 #include <string.h>
 
 static const char *const names[CALLS] = {
-    "key at", "block of",     "build", "raster", "standing",  "part",     "exist", "report",
-    "select", "fill summary", "area",  "exist clipped", "report clipped", "select clipped", "area clipped",
-    "batch",  "paint",        "take back", "findings", "store", "load",
+    [CALL_KEY_AT] = "key at",
+    [CALL_BLOCK_OF] = "block of",
+    [CALL_BUILD] = "build",
+    [CALL_RASTER] = "raster",
+    [CALL_STANDING] = "standing",
+    [CALL_PART] = "part",
+    [CALL_EXIST] = "exist",
+    [CALL_REPORT] = "report",
+    [CALL_SELECT] = "select",
+    [CALL_FILL_SUMMARY] = "fill summary",
+    [CALL_AREA] = "area",
+    [CALL_EXIST_CLIPPED] = "exist clipped",
+    [CALL_REPORT_CLIPPED] = "report clipped",
+    [CALL_SELECT_CLIPPED] = "select clipped",
+    [CALL_AREA_CLIPPED] = "area clipped",
+    [CALL_BATCH] = "batch",
+    [CALL_PAINT] = "paint",
+    [CALL_TAKE_BACK] = "take back",
+    [CALL_FINDINGS] = "findings",
+    [CALL_STORE] = "store",
+    [CALL_LOAD] = "load",
+    [CALL_READ_LEAVES] = "read leaves",
+    [CALL_WRITE_LEAVES] = "write leaves",
 };
 static uint64_t state = 1, comparisons, pairs[CALLS][MAX_REFUSAL + 1];
 

@@ -13,7 +13,7 @@
 #define SOME(rounds) (rounds)
 #endif
 
-enum { GUARD = 8, MAX_REFUSAL = HLQ_SUMMARY };
+enum { GUARD = 8, MAX_REFUSAL = HLQ_LEAVES };
 
 typedef enum {
     CALL_KEY_AT,
@@ -37,6 +37,8 @@ typedef enum {
     CALL_FINDINGS,
     CALL_STORE,
     CALL_LOAD,
+    CALL_READ_LEAVES,
+    CALL_WRITE_LEAVES,
     CALLS
 } call;
 

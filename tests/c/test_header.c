@@ -83,9 +83,9 @@ static void limits(void) {
 }
 
 static void words(void) {
-    const char *unknown = hlq_refusal_text(HLQ_SUMMARY + 1);
+    const char *unknown = hlq_refusal_text(HLQ_LEAVES + 1);
     must(strcmp(unknown, hlq_refusal_text(UINT64_MAX)) == 0, "one text for every unknown number");
-    for (uint64_t a = 0; a <= HLQ_SUMMARY; a++) {
+    for (uint64_t a = 0; a <= HLQ_LEAVES; a++) {
         must(strlen(hlq_refusal_text(a)) > 0 && strcmp(hlq_refusal_text(a), unknown) != 0, "a text for each refusal");
         for (uint64_t b = 0; b < a; b++)
             must(strcmp(hlq_refusal_text(a), hlq_refusal_text(b)) != 0, "a text of its own");

@@ -21,8 +21,8 @@ enum {
 
 static uint8_t raster[PIXELS], back[PIXELS], file[HLQ_FILE_BYTES(MOST, S)];
 static uint32_t keys[MOST], bits[MOST], log_keys[LOG], log_values[LOG], answer[PIXELS], found_ids[PIXELS];
-static uint32_t summary[PLACES];
-static size_t n, used;
+static uint32_t summary[PLACES], leaf_keys[PIXELS], leaf_features[PIXELS];
+static size_t n, used, leaves;
 
 /* What the calls are asked: set before each. */
 static uint32_t key, row, column, height, width, feature;
@@ -102,6 +102,13 @@ static void call_findings(void) {
 }
 static void call_store(void) { refusal = hlq_store(M, S, keys, MOST, bits, MOST, n, file, sizeof file).refusal; }
 static void call_load(void) { refusal = hlq_load(file, HLQ_FILE_BYTES(n, S), keys, MOST, bits, MOST).refusal; }
+static void call_write_leaves(void) {
+    hlq_counted w = hlq_write_leaves(M, S, keys, MOST, bits, MOST, n, leaf_keys, PIXELS, leaf_features, PIXELS);
+    refusal = w.refusal, leaves = w.count;
+}
+static void call_read_leaves(void) {
+    refusal = hlq_read_leaves(M, S, leaf_keys, PIXELS, leaf_features, PIXELS, leaves, keys, MOST, bits, MOST).refusal;
+}
 
 typedef struct {
     const char *name;
@@ -110,7 +117,8 @@ typedef struct {
 } call;
 
 enum { KEY_AT, BLOCK_OF, BUILD, RASTER, STANDING, PART, EXIST, REPORT, SELECT, FILL_SUMMARY, AREA, EXIST_CLIPPED,
-       REPORT_CLIPPED, SELECT_CLIPPED, AREA_CLIPPED, BATCH, PAINT, TAKE_BACK, EMPTY, FINDINGS, STORE, LOAD, CALLS };
+       REPORT_CLIPPED, SELECT_CLIPPED, AREA_CLIPPED, BATCH, PAINT, TAKE_BACK, EMPTY, FINDINGS, STORE, LOAD, WRITE_LEAVES,
+       READ_LEAVES, CALLS };
 static call calls[CALLS] = {
     { "key_at", call_key_at, 0 },       { "block_of", call_block_of, 0 }, { "build", call_build, 0 },
     { "raster", call_raster, 0 },       { "standing", call_standing, 0 }, { "part", call_part, 0 },
@@ -121,6 +129,7 @@ static call calls[CALLS] = {
     { "batch", call_batch, 0 },
     { "paint", call_paint, 0 },         { "take_back", call_take_back, 0 }, { "empty", call_empty, 0 },
     { "findings", call_findings, 0 },   { "store", call_store, 0 },       { "load", call_load, 0 },
+    { "write_leaves", call_write_leaves, 0 }, { "read_leaves", call_read_leaves, 0 },
 };
 
 static _Alignas(64) uint8_t stack[STACK];
@@ -173,6 +182,8 @@ static void every_call(uint8_t pattern) {
     measure(FINDINGS, pattern);
     measure(STORE, pattern);
     measure(LOAD, pattern);
+    measure(WRITE_LEAVES, pattern);
+    measure(READ_LEAVES, pattern);
     for (size_t i = 0; i < sizeof blocks / sizeof *blocks; i++) {
         key = blocks[i], feature = (uint32_t)i;
         measure(KEY_AT, pattern);
