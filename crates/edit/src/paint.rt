@@ -38,7 +38,7 @@ fn decide_room(
         (newEntry m (recordsOf (now (keys .entry)) (now (bits .entry)) n) used key)
         (paintPlan m (recordsOf (now (keys .entry)) (now (bits .entry)) n) key feature) ⌝ }
 {
-    let count = logging::content_length(m, keys, n, key);
+    let count = logging::content_length(m, keys, bits, n, key);
     let logged = used + entry::places(count);
     if log_keys.len() < logged {
         return Decision::Refused(10);
