@@ -7,21 +7,17 @@ use mathlib.Core.List.{List, [], _∷_}
 use native.Mathlib.Omega.{arith}
 use lib.ListN.{length, getD, take, drop}
 use lib.Seq.{getD-take}
-use Rattle.keys.proofs.Cases.{decide}
 use Rattle.keys.proofs.Powers.{five-le}
 use Rattle.definitions.specs.List.{Record, recordOf}
 use Rattle.definitions.specs.Read.{room, paired, recordsOf}
-use Rattle.definitions.specs.Standing.{placeOf, isListed, standingOf, recordsIn, partLength}
-use Rattle.definitions.specs.declared.Standing.{Standing}
-use Rattle.definitions.specs.declared.Standing.the-variants.{Listed, Inside}
+use Rattle.definitions.specs.Standing.{placeOf, isListed, recordsIn, partLength}
 use Rattle.definitions.specs.Log.{closed, closingPlaces}
 use Rattle.definitions.specs.Calls.Paint.{gained}
 use Rattle.definitions.proofs.Ascending.{Ascending, none, next}
 use Rattle.definitions.proofs.ListOf.{list-ascends, list-some}
 use Rattle.definitions.proofs.Records.{records-run}
 use Rattle.list.specs.Own.{OwnList, shownBy}
-use Rattle.list.specs.Among.{standingAmong}
-use Rattle.list.proofs.Among.{values-of-records, standing-among}
+use Rattle.list.proofs.Among.{values-of-records}
 use Rattle.list.proofs.Own.{own-length}
 use Rattle.put.specs.Family.{bitsAt}
 use Rattle.edit.specs.Content.{contentIn}
@@ -55,28 +51,6 @@ module _ {m n : ℕ} {keys bits : List ℕ} (own : OwnList m keys bits n) where
       let f = records-length own in
       let h = place-lt x (recordsOf keys bits n) (omega arith) in
       omega arith
-
-  -- a standing that was found is that of the list
-  module _ (key : ℕ) (standing : Standing) (found : standing ≡ standingAmong key (take n keys)) where
-    in-list : standing ≡ standingOf key (recordsOf keys bits n)
-    in-list = found ∙ sym (standing-among keys bits n (own .fits) key)
-
-    by-test : (t : Bool) → isListed key (recordsOf keys bits n) ≡ t → standing ≡ cond t (Listed (placeOf key (recordsOf keys bits n))) (Inside (placeOf key (recordsOf keys bits n)))
-    unfolding standingOf
-    by-test t e = in-list ∙ ap (λ b. cond b (Listed (placeOf key (recordsOf keys bits n))) (Inside (placeOf key (recordsOf keys bits n)))) e
-
-    -- listed at a place
-    pub stands-listed : (place : ℕ) → standing ≡ Listed place → (isListed key (recordsOf keys bits n) ≡ true) × (place ≡ placeOf key (recordsOf keys bits n))
-    stands-listed place e =
-        decide (isListed key (recordsOf keys bits n)) (λ t. let f = by-test true t in (t, cc))
-        (λ t. let f = by-test false t in let z : _≡_ {A = ℕ} 0 1 = cc in absurd (omega arith))
-
-    -- inside the leaf at a place
-    pub stands-inside : (leaf : ℕ) → standing ≡ Inside leaf → (isListed key (recordsOf keys bits n) ≡ false) × (leaf ≡ placeOf key (recordsOf keys bits n))
-    stands-inside leaf e =
-        decide (isListed key (recordsOf keys bits n))
-        (λ t. let f = by-test true t in let z : _≡_ {A = ℕ} 0 1 = cc in absurd (omega arith))
-        (λ t. let f = by-test false t in (t, cc))
 
 -- a new entry
 module _ {m n : ℕ} {keys bits logKeys logValues : List ℕ} {new : Entry} (a : Fresh m keys bits n new logKeys logValues) where

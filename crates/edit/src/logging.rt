@@ -1,31 +1,26 @@
 // What a paint logs: the block's former content. Its length decides refusal 10 before anything is written.
 ghost use mathlib.Core.Path.{_≡_};
-ghost use mathlib.Core.Bool.{true};
 ghost use Prim.Native.Nat.{_≤_};
-ghost use lib.ListN.{take};
-ghost use Rattle.keys.specs.Key.{validKey};
 ghost use Rattle.definitions.specs.Read.{room, recordsOf};
+ghost use Rattle.definitions.specs.Standing.{partLength};
 ghost use Rattle.definitions.specs.Calls.Paint.{gained};
-ghost use Rattle.list.specs.Sorted.{Sorted};
+ghost use Rattle.list.specs.Own.{BlockIn};
 ghost use Rattle.log.specs.Entries.{Logged};
-ghost use Rattle.edit.specs.Content.{partAmong};
 ghost use Rattle.edit.specs.PaintCall.{Fresh, Relogged};
 use definitions::Standing;
-use keys::Key;
-use keys::power;
 use list::standing;
 use log::entry;
 use log::entry::Entry;
 
-// How many records the content has. It depends on the keys alone.
-pub fn content_length(m: u32, keys: &[u32], n: usize, key: u32) -> usize
-    requires { ⌜ (m ≤ 10) × (validKey m key ≡ true) ⌝ }
-    requires { ⌜ Sorted (now keys) n key ⌝ }
-    ensures { λ r. ⌜ r ≡ partAmong m key (take n (now (keys .entry))) ⌝ }
+// How many records the content has: those of a listed block, or one.
+pub fn content_length(m: u32, keys: &[u32], bits: &[u32], n: usize, key: u32) -> usize
+    requires { ⌜ BlockIn m (now keys) (now bits) n key ⌝ }
+    ensures { λ r. ⌜ r ≡ partLength m key (recordsOf (now (keys .entry)) (now (bits .entry)) n) ⌝ }
 {
-    let step = power::power_of_five(Key { number: key }.height(m));
-    let place = standing::up_to(keys, n, key) - 1;
-    standing::end_of(keys, n, key, step) - place
+    match standing::stand(m, keys, bits, n, key) {
+        Standing::Listed(place, records) => records,
+        Standing::Inside(place, leaf, level) => 1,
+    }
 }
 
 // Writes the new entry: a listed block's records, or one record with the block's own key and the bits of the leaf around it. Gives the number of
@@ -44,14 +39,15 @@ pub fn log_content(
         (now («log_keys» .entry)) (now («log_values» .entry)) (now («log_keys» .exit)) (now («log_values» .exit)) r ⌝ }
 {
     let key = new.key;
-    let standing = standing::stand(keys, n, key);
-    let Standing::Listed(place) = standing else {
-        let Standing::Inside(leaf) = standing else {
+    let standing = standing::stand(m, keys, bits, n, key);
+    let Standing::Listed(place, records) = standing else {
+        let Standing::Inside(around, leaf, level) = standing else {
             // A standing is one of the two: never reached.
             return 0;
         };
+        let value = bits[around];
         let content_keys = [key];
-        let content_bits = [bits[leaf]];
+        let content_bits = [value];
         return entry::write_entry(new, &content_keys, &content_bits, 0, log_keys, log_values);
     };
     entry::write_entry(new, keys, bits, place, log_keys, log_values)

@@ -38,7 +38,7 @@ fn decide_room(
         (newEntry m (recordsOf (now (keys .entry)) (now (bits .entry)) n) «in_force» key feature)
         (paintPlan m (recordsOf (now (keys .entry)) (now (bits .entry)) n) key feature) ⌝ }
 {
-    let count = logging::content_length(m, keys, n, key);
+    let count = logging::content_length(m, keys, bits, n, key);
     let logged = in_force + entry::places(count);
     if log_keys.len() < logged {
         return Decision::Refused(10);

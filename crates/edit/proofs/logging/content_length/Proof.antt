@@ -1,52 +1,28 @@
--- `logging::content_length` meets its contract: the records of the block's part, counted by keys.
-use native.Mathlib.Omega.{arith}
-use Prim.Native.Nat.{_+_}
-use lib.ListN.{take}
-use Rattle.put.proofs.FamilyRead.{count-some}
-use Rattle.edit.proofs.ContentLength.{up-to-below, step-until, height-fits, step-own, content-counted}
+-- `logging::content_length` meets its contract: a listed block's records, or one.
+use mathlib.Core.Path.{sym, _∙_}
 use borrow.Author.Needs.{needs}
+use Rattle.list.proofs.Fuller.{listed-numbers, inside-numbers, listed-part, inside-part}
 use Rattle.edit.proofs.logging.content_length.Statement.{statement}
 use Rattle.edit.proofs.logging.content_length.Tie as tie
 
-height-requires : tie.Need-height-requires
-height-requires c κs = search needs
+stand-requires : tie.Need-stand-requires
+stand-requires c κs = search needs
 
-power-of-five-requires : tie.Need-power-of-five-requires
-power-of-five-requires c κs = height-fits _ _ _ (c .before .before .pre .0 .0) (c .height .ensures)
+enum-known-place : tie.Need-enum-known-place
+enum-known-place c = search needs
 
-up-to-requires : tie.Need-up-to-requires
-up-to-requires c κs = search needs
-
-sub-place : tie.Need-sub-place
-sub-place c = count-some (c .before .before .before .before .pre .1) _ (c .up-to .ensures)
-
-end-of-requires : tie.Need-end-of-requires
-end-of-requires c κs =
-    let start = c .before .before .before .before in
-    let h = step-until _ _ (start .pre .0 .0) (start .pre .0 .1) (step-own _ _ (c .before .power-of-five .ensures) (c .before .before .height .ensures)) in
-    (start .pre .1 .ascends, (h .0, omega arith))
-
-sub-result : tie.Need-sub-result
-sub-result c =
-    let start = c .before .before .before .before .before in
-    let h = step-until _ _ (start .pre .0 .0) (start .pre .0 .1) (step-own _ _ (c .before .before .power-of-five .ensures) (c .before .before .before .height .ensures)) in
-    let i = up-to-below (start .args .key) (start .args .key + c .before .before .power-of-five .result) (take (start .args .n) (start .args .keys .now)) (omega arith) in
-    omega (arith, c .before .up-to .ensures, c .end-of .ensures)
+enum-known-place-2 : tie.Need-enum-known-place-2
+enum-known-place-2 c = search needs
 
 returns : tie.Need-returns
 returns c =
-    let start = c .before .before .before .before .before in
-    content-counted _ _ (start .args .n) (start .args .keys .now) _ _ _ (step-own _ _ (c .before .before .power-of-five .ensures) (c .before .before .before .height .ensures)) (c .before .up-to .ensures)
-    (c .end-of .ensures)
+    let f = listed-numbers _ _ _ _ _ (sym (c .before .before .before .stand .ensures) ∙ c .before .place .given .1) in
+    f .2 ∙ sym (listed-part _ _ _ (f .0))
+
+returns-2 : tie.Need-returns-2
+returns-2 c =
+    let f = inside-numbers _ _ _ _ _ _ (sym (c .before .before .before .stand .ensures) ∙ c .before .place2 .given .1) in
+    sym (inside-part _ _ _ (f .0))
 
 pub content-length-spec : {M : Type 1} → statement M
-content-length-spec =
-    tie.close
-    (tie.spec
-    height-requires
-    power-of-five-requires
-    up-to-requires
-    sub-place
-    end-of-requires
-    sub-result
-    returns)
+content-length-spec = tie.close (tie.spec stand-requires enum-known-place enum-known-place-2 returns returns-2)

@@ -1,12 +1,12 @@
 -- `logging::log_content` meets its contract: by the standing, a run of the list's records or one record is what is written.
 use Prim.Native.Nat.{ℕ}
-use mathlib.Core.Path.{_≡_, _∙_}
+use mathlib.Core.Path.{_≡_, sym, _∙_}
 use mathlib.Core.Bool.{true, false}
 use native.Mathlib.Omega.{arith}
 use Rattle.definitions.specs.Read.{recordsOf}
 use Rattle.definitions.specs.Standing.{isListed, placeOf}
-use Rattle.list.proofs.Own.{own-sorted}
-use Rattle.edit.proofs.ContentStands.{stands-listed, stands-inside, listed-loggable, listed-entry, leaf-there, inside-loggable, inside-entry, logged-same}
+use Rattle.list.proofs.Fuller.{listed-numbers, inside-numbers}
+use Rattle.edit.proofs.ContentStands.{listed-loggable, listed-entry, leaf-there, inside-loggable, inside-entry, logged-same}
 use borrow.Author.Needs.{needs}
 use Rattle.edit.proofs.logging.log_content.Statement.{statement}
 use Rattle.edit.proofs.logging.log_content.Tie as tie
@@ -22,7 +22,8 @@ listed : (c : tie.After-known-told)
     × (c .before .standing .given .0 .0 ≡ placeOf (a .new .key) (recordsOf (a .keys .now) (a .bits .now) (a .n))))
 listed c =
     let found = c .before .before .before in
-    stands-listed (start found .pre .own) _ _ (found .stand .ensures) _ (c .before .standing .given .1)
+    let f = listed-numbers _ _ _ _ _ (sym (found .stand .ensures) ∙ c .before .standing .given .1) in
+    (f .0, f .1)
 
 -- it lies inside the leaf that was found
 inside : (c : tie.After-known-told3)
@@ -32,10 +33,11 @@ inside : (c : tie.After-known-told3)
 inside c =
     let other = c .before .before .before in
     let found = other .before .before .before in
-    stands-inside (start found .pre .own) _ _ (found .stand .ensures) _ (other .before .standing2 .given .1 ∙ c .before .standing3 .given .1)
+    let f = inside-numbers _ _ _ _ _ _ (sym (found .stand .ensures) ∙ other .before .standing2 .given .1 ∙ c .before .standing3 .given .1) in
+    (f .0, f .1)
 
 stand-requires : tie.Need-stand-requires
-stand-requires c κs = own-sorted (c .before .before .before .before .pre .own) _
+stand-requires c κs = let s = c .before .before .before .before in record { deepest = s .pre .deepest; own = s .pre .own; valid = s .pre .valid }
 
 enum-known-standing : tie.Need-enum-known-standing
 enum-known-standing c = search needs
@@ -52,13 +54,13 @@ enum-told c = search needs
 returns : tie.Need-returns
 returns c = let other : _≡_ {A = ℕ} 1 0 = c .before .match2 .keys2 in absurd (omega arith)
 
-mul-t14 : tie.Need-mul-t14
-mul-t14 c =
+mul-value : tie.Need-mul-value
+mul-value c =
     let s = start (c .before .before .before .before .before .before) in
     omega (arith, leaf-there (s .pre) _ (inside c .0) (inside c .1), s .pre .own .fits, s .good .1 .1 .0 .1)
 
-shared-slice-read-t16 : tie.Need-shared-slice-read-t16
-shared-slice-read-t16 c =
+shared-slice-read-value : tie.Need-shared-slice-read-value
+shared-slice-read-value c =
     let s = start (c .before .before .before .before .before .before .before) in
     omega (arith, leaf-there (s .pre) _ (inside (c .before) .0) (inside (c .before) .1), s .pre .own .fits)
 
@@ -112,8 +114,8 @@ log-content-spec =
     enum-known-standing-3
     enum-told
     returns
-    mul-t14
-    shared-slice-read-t16
+    mul-value
+    shared-slice-read-value
     slice-aggregate-write-entry
     slice-aggregate-write-entry-2
     write-entry-requires

@@ -7,10 +7,9 @@ use Rattle.definitions.specs.Read.{room, recordsOf}
 use Rattle.definitions.specs.Standing.{partLength}
 use Rattle.definitions.specs.Log.{closingPlaces}
 use Rattle.definitions.specs.Calls.Paint.{painted, gained}
-use Rattle.list.proofs.Own.{own-sorted}
 use Rattle.edit.specs.PaintCall.{paintPlan}
 use Rattle.edit.proofs.Decided.{refuses, grants}
-use Rattle.edit.proofs.ContentLength.{part-among, part-there, gained-size}
+use Rattle.edit.proofs.ContentLength.{part-there, gained-size}
 use Rattle.edit.proofs.Planned.{old-there, few-levels, length-told}
 use Rattle.edit.proofs.PaintPlan.{paint-found, paint-planned, entry-found}
 use Rattle.edit.proofs.PaintTable.{log-full, list-full, room-enough}
@@ -25,7 +24,7 @@ start c = c .before .before .before .before .before
 -- the content's length
 count-is : (c : tie.After-content-length)
     → (let a = start c .args in c .content-length .result ≡ partLength (a .m) (a .key) (recordsOf (a .keys .now) (a .bits .now) (a .n)))
-count-is c = let a = start c .pre .0 in c .content-length .ensures ∙ part-among (a .own) _ (a .valid)
+count-is c = c .content-length .ensures
 
 -- the places that the entry takes
 places-is : (c : tie.After-places)
@@ -61,7 +60,7 @@ after-is c =
 content-length-requires : tie.Need-content-length-requires
 content-length-requires c κs =
     let s = c .before .before .before .before in
-    ((s .pre .0 .deepest, s .pre .0 .valid), own-sorted (s .pre .0 .own) (s .args .key))
+    record { deepest = s .pre .0 .deepest; own = s .pre .0 .own; valid = s .pre .0 .valid }
 
 places-requires : tie.Need-places-requires
 places-requires c κs =
