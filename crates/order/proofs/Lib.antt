@@ -1,0 +1,3 @@
+pub mod Rearrangements
+pub mod ApartBlocks
+pub mod Swaps

@@ -1,0 +1,39 @@
+-- Runs of paints on one sheet, and what either order leaves alike: the list and the summary, by the definitions that paint's promise cites.
+-- The logs are not compared. Rests on the history's calls.
+use Prim.Native.Nat.{ℕ}
+use mathlib.Core.Path.{_≡_}
+use mathlib.Core.Bool.{Bool, true, _&&_}
+use mathlib.Core.List.{List, [], _∷_}
+use lib.Dec.{eqb}
+use Rattle.definitions.specs.Picture.{Picture}
+use Rattle.definitions.specs.Read.{recordsOf}
+use Rattle.definitions.specs.Edit.{paintIn}
+use Rattle.history.specs.History.{Call, painting, Buffers, Paint, answer, after, run}
+
+-- a paint as a call
+abbrev pub asCall : Paint → Call
+asCall x = painting (x .key) (x .feature)
+
+unfoldable pub asCalls : List Paint → List Call
+asCalls [] = []
+asCalls (x ∷ xs) = asCall x ∷ asCalls xs
+
+-- every paint of the run is accepted, the first paint first
+unfoldable pub inFull : ℕ → ℕ → Buffers → List Paint → Bool
+inFull m s b [] = true
+inFull m s b (x ∷ xs) = eqb (answer m s b (asCall x)) 0 && inFull m s (after m s b (asCall x)) xs
+
+-- a picture with the paints of a run, the first paint first
+unfoldable pub inTurn : ℕ → Picture → List Paint → Picture
+inTurn m p [] = p
+inTurn m p (x ∷ xs) = inTurn m (paintIn m (x .key) (x .feature) p) xs
+
+-- two sheets have the same list, with as many records, and the same summary
+pub record SameSheet (b b′ : Buffers) : Type 0 where
+  pub count : b .n ≡ b′ .n
+  pub list : recordsOf (b .keys) (b .bits) (b .n) ≡ recordsOf (b′ .keys) (b′ .bits) (b′ .n)
+  pub summary : b .summary ≡ b′ .summary
+
+-- the buffers after the paints of a run
+abbrev pub afterPaints : ℕ → ℕ → Buffers → List Paint → Buffers
+afterPaints m s b xs = run m s b (asCalls xs)
