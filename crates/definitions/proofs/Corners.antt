@@ -3,7 +3,7 @@
 use Prim.Native.Nat.{ℕ}
 use mathlib.Core.Path.{refl}
 use mathlib.Core.Bool.{Bool, cond}
-use mathlib.Core.List.{List, [], _∷_, _++_}
+use mathlib.Core.List.{List, [], _∷_, _++_, map}
 use lib.ListN.{set}
 use Rattle.keys.specs.Key.{validKey, digitsOf, digitsThenZeros, onlyZeros, levelOf, digitsBeforeZero, heightOf, rootKey, childKey, parentKey}
 use Rattle.keys.specs.Block.{rowOf, columnOf, sideOf, inBlock, pixelKey, contains, isAncestor}
@@ -15,7 +15,7 @@ use Rattle.definitions.specs.Refusal.{first, badSettings, badLength, bad
 use Rattle.definitions.specs.Window.{isWindow, inWindow, featuresOfRow, featuresOfRows, isGiven, selectFrom, selectIn}
 use Rattle.definitions.specs.Area.{countOf, pixelsWith, countsFrom, summaryBelow, summaryOf, sameNumbers, noSummary}
 use Rattle.definitions.specs.Edit.{put, paintIn, contentOf}
-use Rattle.definitions.specs.Log.{closed, entryOf, lastRecord, lastKey, lastCount, beforeLast, lastContent, isContent, lastIsEntry, dividesIn, isSound, noLog}
+use Rattle.definitions.specs.Log.{closed, entryOf, countRecord, lastRecord, lastKey, lastFeature, lastCount, beforeLast, lastContent, isContent, closes, lastIsEntry, dividesIn, isSound, noLog}
 use Rattle.definitions.specs.Rules.{findingsOf, allFindings, waiversOf, isWaivedAt, isHidden, liveOf, hiddenCount, isRule, allRules, idsAscend, badRules, findingsAscend, isRuleId, allWaivers, badWaivers}
 use Rattle.definitions.specs.File.{bytesOf, numberAfter, numberOf, bytesOfRecords, headOf, fileOf, numberAt, readRecords, recordsInFile, sameBytes, wrongMark}
 use Rattle.definitions.specs.Calls.Build.{buildRefusal, build, buildKeys, buildBits}
@@ -74,25 +74,38 @@ table =
     ∷ row (of-counted (build 2 3 mapA (unwritten 11) (unwritten 8))) (9 ∷ 0 ∷ [])
     ∷ row (buildKeys 2 3 mapA (unwritten 11) (unwritten 8)) (unwritten 11)
     -- a log: no entry is sound; then one fault at a time
-    ∷ says (noLog 1 2 [] [] 0) 0
-    ∷ says (noLog 1 2 (4 ∷ 4 ∷ []) (1 ∷ 1 ∷ []) 2) 0
+    ∷ says (noLog 1 2 [] [] 0 0) 0
+    ∷ says (noLog 1 2 (4 ∷ 4 ∷ 4 ∷ []) (1 ∷ 1 ∷ 0 ∷ []) 3 3) 0
     -- used exceeds the shorter slice
-    ∷ says (noLog 1 2 (4 ∷ 4 ∷ []) (1 ∷ []) 2) 1
+    ∷ says (noLog 1 2 (4 ∷ 4 ∷ 4 ∷ []) (1 ∷ 1 ∷ []) 3 3) 1
     -- a count of 0, and one larger than the records before it
-    ∷ says (noLog 1 2 (4 ∷ 4 ∷ []) (1 ∷ 0 ∷ []) 2) 1
-    ∷ says (noLog 1 2 (4 ∷ 4 ∷ []) (1 ∷ 2 ∷ []) 2) 1
-    -- a closing key that is not valid
-    ∷ says (noLog 1 2 (5 ∷ 5 ∷ []) (1 ∷ 1 ∷ []) 2) 1
+    ∷ says (noLog 1 2 (4 ∷ 4 ∷ 4 ∷ []) (1 ∷ 0 ∷ 0 ∷ []) 3 3) 1
+    ∷ says (noLog 1 2 (4 ∷ 4 ∷ 4 ∷ []) (1 ∷ 2 ∷ 0 ∷ []) 3 3) 1
+    -- a closing key that is not valid, and two closing keys
+    ∷ says (noLog 1 2 (5 ∷ 5 ∷ 5 ∷ []) (1 ∷ 1 ∷ 0 ∷ []) 3 3) 1
+    ∷ says (noLog 1 2 (4 ∷ 3 ∷ 4 ∷ []) (1 ∷ 1 ∷ 0 ∷ []) 3 3) 1
+    -- the last feature below s, and the first that is not
+    ∷ says (noLog 1 2 (4 ∷ 4 ∷ 4 ∷ []) (1 ∷ 1 ∷ 1 ∷ []) 3 3) 0
+    ∷ says (noLog 1 2 (4 ∷ 4 ∷ 4 ∷ []) (1 ∷ 1 ∷ 2 ∷ []) 3 3) 1
     -- a content of another block, with a slot of s or more, with no slot, and a node without its children
-    ∷ says (noLog 1 2 (3 ∷ 4 ∷ []) (1 ∷ 1 ∷ []) 2) 1
-    ∷ says (noLog 1 2 (4 ∷ 4 ∷ []) (4 ∷ 1 ∷ []) 2) 1
-    ∷ says (noLog 1 2 (4 ∷ 4 ∷ []) (0 ∷ 1 ∷ []) 2) 1
-    ∷ says (noLog 1 2 (0 ∷ 0 ∷ []) (3 ∷ 1 ∷ []) 2) 1
+    ∷ says (noLog 1 2 (3 ∷ 4 ∷ 4 ∷ []) (1 ∷ 1 ∷ 0 ∷ []) 3 3) 1
+    ∷ says (noLog 1 2 (4 ∷ 4 ∷ 4 ∷ []) (4 ∷ 1 ∷ 0 ∷ []) 3 3) 1
+    ∷ says (noLog 1 2 (4 ∷ 4 ∷ 4 ∷ []) (0 ∷ 1 ∷ 0 ∷ []) 3 3) 1
+    ∷ says (noLog 1 2 (0 ∷ 0 ∷ 0 ∷ []) (3 ∷ 1 ∷ 0 ∷ []) 3 3) 1
+    -- the entry is to be redone; the count in force lies inside it, or past the records used
+    ∷ says (noLog 1 2 (4 ∷ 4 ∷ 4 ∷ []) (1 ∷ 1 ∷ 0 ∷ []) 3 0) 0
+    ∷ says (noLog 1 2 (4 ∷ 4 ∷ 4 ∷ []) (1 ∷ 1 ∷ 0 ∷ []) 3 1) 1
+    ∷ says (noLog 1 2 (4 ∷ 4 ∷ 4 ∷ []) (1 ∷ 1 ∷ 0 ∷ []) 3 2) 1
+    ∷ says (noLog 1 2 (4 ∷ 4 ∷ 4 ∷ []) (1 ∷ 1 ∷ 0 ∷ []) 0 3) 1
+    -- of two entries one, both or none are in force; a fault past the count in force is a fault
+    ∷ row (map (λ inForce. truth (noLog 1 2 twoKeys twoValues 6 inForce)) (0 ∷ 1 ∷ 2 ∷ 3 ∷ 4 ∷ 5 ∷ 6 ∷ 7 ∷ [])) (0 ∷ 1 ∷ 1 ∷ 0 ∷ 1 ∷ 1 ∷ 0 ∷ 1 ∷ [])
+    ∷ says (noLog 1 2 twoKeys (set twoValues 5 2) 6 3) 1
+    ∷ says (noLog 1 2 twoKeys (set twoValues 3 0) 6 3) 1
     -- a paint that changes no pixel is logged, and the list stays in exact room, and so does the summary; with no room in the log it is refused like any other
-    ∷ row (of-edited (paint 2 3 (keysA 0) (bitsA 0) 9 summaryA (unwritten 2) (unwritten 2) 0 (key (1 ∷ 1 ∷ [])) 0)) (0 ∷ 9 ∷ 2 ∷ [])
-    ∷ row (paintKeys 2 3 (keysA 0) (bitsA 0) 9 summaryA (unwritten 2) (unwritten 2) 0 (key (1 ∷ 1 ∷ [])) 0) (keysA 0)
-    ∷ row (paintSummary 2 3 (keysA 0) (bitsA 0) 9 summaryA (unwritten 2) (unwritten 2) 0 (key (1 ∷ 1 ∷ [])) 0) summaryA
-    ∷ row (of-edited (paint 2 3 (keysA 0) (bitsA 0) 9 summaryA (unwritten 1) (unwritten 2) 0 (key (1 ∷ 1 ∷ [])) 0)) (10 ∷ 0 ∷ 0 ∷ [])
+    ∷ row (of-edited (paint 2 3 (keysA 0) (bitsA 0) 9 summaryA (unwritten 3) (unwritten 3) 0 0 (key (1 ∷ 1 ∷ [])) 0)) (0 ∷ 9 ∷ 3 ∷ 3 ∷ [])
+    ∷ row (paintKeys 2 3 (keysA 0) (bitsA 0) 9 summaryA (unwritten 3) (unwritten 3) 0 0 (key (1 ∷ 1 ∷ [])) 0) (keysA 0)
+    ∷ row (paintSummary 2 3 (keysA 0) (bitsA 0) 9 summaryA (unwritten 3) (unwritten 3) 0 0 (key (1 ∷ 1 ∷ [])) 0) summaryA
+    ∷ row (of-edited (paint 2 3 (keysA 0) (bitsA 0) 9 summaryA (unwritten 2) (unwritten 3) 0 0 (key (1 ∷ 1 ∷ [])) 0)) (10 ∷ 0 ∷ 0 ∷ 0 ∷ [])
     -- a summary too short, too long, of other counts, and of the counts in another block's places: a paint is refused and leaves it
     ∷ row
     (refusedBy []
@@ -102,7 +115,7 @@ table =
     ∷ refusedBy summaryA
     ∷ [])
     (18 ∷ 18 ∷ 18 ∷ 18 ∷ 0 ∷ [])
-    ∷ row (paintSummary 2 3 (keysA 0) (bitsA 0) 9 (unwritten 48) (unwritten 2) (unwritten 2) 0 (key (1 ∷ 1 ∷ [])) 0) (unwritten 48)
+    ∷ row (paintSummary 2 3 (keysA 0) (bitsA 0) 9 (unwritten 48) (unwritten 3) (unwritten 3) 0 0 (key (1 ∷ 1 ∷ [])) 0) (unwritten 48)
     -- findings: no rules and no waivers; rules without waivers; with 12 the places of the live ones and hidden 0
     ∷ row (of-found (findings 2 3 (keysA 0) (bitsA 0) 9 [] [] [] [] [])) (0 ∷ 0 ∷ 0 ∷ [])
     ∷ row (of-found (findings 2 3 (keysA 0) (bitsA 0) 9 (rule 7 ∷ []) [] [] (unwritten 2) (unwritten 2))) (0 ∷ 2 ∷ 0 ∷ [])
@@ -114,9 +127,16 @@ table =
     ∷ gives (loadRefusal (head 0 1 11 1 (0 ∷ 0 ∷ 0 ∷ 0 ∷ [])) [] []) 1
     ∷ []
   where
+    -- two entries of block 4: as often as a closing record is read as content the count in force decides by entries from the end
+    twoKeys : List ℕ
+    twoKeys = 4 ∷ 4 ∷ 4 ∷ 4 ∷ 4 ∷ 4 ∷ []
+
+    twoValues : List ℕ
+    twoValues = 1 ∷ 1 ∷ 1 ∷ 1 ∷ 1 ∷ 1 ∷ []
+
     -- the refusal of a paint of Map A with this summary
     refusedBy : List ℕ → ℕ
-    refusedBy summary = paintRefusal 2 3 (keysA 0) (bitsA 0) 9 summary (unwritten 2) (unwritten 2) 0 (key (1 ∷ 1 ∷ [])) 0
+    refusedBy summary = paintRefusal 2 3 (keysA 0) (bitsA 0) 9 summary (unwritten 3) (unwritten 3) 0 0 (key (1 ∷ 1 ∷ [])) 0
 
     of-found : Found → List ℕ
     of-found r = r .refusal ∷ r .live ∷ r .hidden ∷ []
@@ -131,7 +151,7 @@ unfolding
     isWindow inWindow featuresOfRow featuresOfRows isGiven selectFrom selectIn
     countOf pixelsWith countsFrom summaryBelow summaryOf sameNumbers noSummary
     put paintIn contentOf
-    closed entryOf lastRecord lastKey lastCount beforeLast lastContent isContent lastIsEntry dividesIn isSound noLog
+    closed entryOf countRecord lastRecord lastKey lastFeature lastCount beforeLast lastContent isContent closes lastIsEntry dividesIn isSound noLog
     findingsOf allFindings waiversOf isWaivedAt isHidden liveOf hiddenCount isRule allRules idsAscend badRules findingsAscend isRuleId allWaivers badWaivers
     bytesOf numberAfter numberOf bytesOfRecords headOf fileOf numberAt readRecords recordsInFile sameBytes wrongMark
     buildRefusal build buildKeys buildBits

@@ -12,7 +12,7 @@ use Rattle.definitions.specs.Read.{paired, valueAt, pictureOf, sameRecor
 use Rattle.definitions.specs.Refusal.{first, badSettings, badLength, badPixel}
 use Rattle.definitions.specs.Window.{isWindow, inWindow, featuresOfRow, featuresOfRows, isGiven, selectFrom, selectIn}
 use Rattle.definitions.specs.Edit.{put, paintIn, contentOf}
-use Rattle.definitions.specs.Log.{closed, entryOf, lastRecord, lastKey, lastCount, beforeLast, lastContent, isContent, lastIsEntry, dividesIn, isSound, noLog}
+use Rattle.definitions.specs.Log.{closed, entryOf, countRecord, lastRecord, lastKey, lastFeature, lastCount, beforeLast, lastContent, isContent, closes, lastIsEntry, dividesIn, isSound, noLog}
 use Rattle.definitions.specs.Rules.{findingsOf, allFindings, waiversOf, isWaivedAt, isHidden, liveOf, hiddenCount, isRule, allRules, idsAscend, badRules, findingsAscend, isRuleId, allWaivers, badWaivers}
 use Rattle.definitions.specs.Calls.Paint.{painted, gained, paintRefusal, paint, paintKeys, paintBits}
 use Rattle.definitions.specs.Calls.Findings.{liveIn, hiddenIn, findingsRefusal, findings, findingsKeys}
@@ -57,9 +57,9 @@ table =
     -- rule 7's three findings are waived, and the gap with them; rule 8 has no waiver and three findings
     row (of-found (before (7 ∷ 7 ∷ 7 ∷ 7 ∷ []) four)) (0 ∷ 3 ∷ 3 ∷ [])
     -- the paint makes one block of the four
-    ∷ row (of-edited (paint 2 3 (keysA 0) (bitsA 0) 9 summaryA (unwritten 2) (unwritten 2) 0 gap 1)) (0 ∷ 5 ∷ 2 ∷ [])
-    ∷ row (paintKeys 2 3 (keysA 0) (bitsA 0) 9 summaryA (unwritten 2) (unwritten 2) 0 gap 1) keysAfter
-    ∷ row (paintBits 2 3 (keysA 0) (bitsA 0) 9 summaryA (unwritten 2) (unwritten 2) 0 gap 1) bitsAfter
+    ∷ row (of-edited (paint 2 3 (keysA 0) (bitsA 0) 9 summaryA (unwritten 3) (unwritten 3) 0 0 gap 1)) (0 ∷ 5 ∷ 3 ∷ 3 ∷ [])
+    ∷ row (paintKeys 2 3 (keysA 0) (bitsA 0) 9 summaryA (unwritten 3) (unwritten 3) 0 0 gap 1) keysAfter
+    ∷ row (paintBits 2 3 (keysA 0) (bitsA 0) 9 summaryA (unwritten 3) (unwritten 3) 0 0 gap 1) bitsAfter
     -- rule 7's finding is hidden, though no waiver has its key; rule 8's is given
     ∷ row (of-found (after (7 ∷ 7 ∷ 7 ∷ 7 ∷ []) four)) (0 ∷ 1 ∷ 1 ∷ [])
     ∷ row (findingsKeys 2 3 keysAfter bitsAfter 5 rules (7 ∷ 7 ∷ 7 ∷ 7 ∷ []) four (unwritten 2) (unwritten 2)) (parent ∷ unwritten 1)
@@ -87,7 +87,7 @@ unfolding
     isWindow inWindow featuresOfRow featuresOfRows isGiven selectFrom selectIn
     countOf pixelsWith countsFrom summaryBelow summaryOf sameNumbers noSummary
     put paintIn contentOf
-    closed entryOf lastRecord lastKey lastCount beforeLast lastContent isContent lastIsEntry dividesIn isSound noLog
+    closed entryOf countRecord lastRecord lastKey lastFeature lastCount beforeLast lastContent isContent closes lastIsEntry dividesIn isSound noLog
     findingsOf allFindings waiversOf isWaivedAt isHidden liveOf hiddenCount isRule allRules idsAscend badRules findingsAscend isRuleId allWaivers badWaivers
     painted gained paintRefusal paint paintKeys paintBits
     liveIn hiddenIn findingsRefusal findings findingsKeys

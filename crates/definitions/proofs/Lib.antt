@@ -5,6 +5,7 @@ mod Corners
 mod AreaVectors
 mod LeafVectors
 mod FourWaivers
+mod RedoVectors
 pub mod Within
 pub mod Pixels
 pub mod Features
@@ -39,6 +40,8 @@ pub mod ClippedCalls
 pub mod OneByOne
 pub mod LastEntry
 pub mod SoundLog
+pub mod FirstEntry
+pub mod InForce
 pub mod Hidden
 pub mod Waivers
 pub mod OldFault

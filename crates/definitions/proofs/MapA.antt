@@ -1,4 +1,4 @@
--- Map A of document 01, rows A1 to A12, with the summaries of document 02, item 1, and Figure 1 of document 000: what the definitions compute, held against what the documents say, as
+-- Map A of document 01, rows A1 to A12, with the summaries and the log of document 02, items 1 and 7, and Figure 1 of document 000: what the definitions compute, held against what the documents say, as
 -- one table under one claim. Proved by computation.
 use Prim.Native.Nat.{ℕ}
 use mathlib.Core.Path.{refl}
@@ -13,12 +13,12 @@ use Rattle.definitions.specs.Refusal.{first, badSettings, badLength, bad
 use Rattle.definitions.specs.Window.{isWindow, inWindow, featuresOfRow, featuresOfRows, featuresIn, occurs, unionOf, existIn, reportIn, isGiven, selectFrom, selectIn}
 use Rattle.definitions.specs.Area.{countOf, pixelsWith, countsFrom, summaryBelow, summaryOf, sameNumbers, noSummary}
 use Rattle.definitions.specs.Edit.{put, paintIn, contentOf}
-use Rattle.definitions.specs.Log.{closed, entryOf, lastRecord, lastKey, lastCount, beforeLast, lastContent, isContent, lastIsEntry, dividesIn, isSound, noLog}
+use Rattle.definitions.specs.Log.{closed, entryOf, countRecord, lastRecord, lastKey, lastFeature, lastCount, beforeLast, lastContent, isContent, closes, lastIsEntry, dividesIn, isSound, noLog}
 use Rattle.definitions.specs.Calls.Exist.{existRefusal, exist}
 use Rattle.definitions.specs.Calls.Report.{reportRefusal, report}
 use Rattle.definitions.specs.Calls.Select.{selected, selectRefusal, select, selectAnswer}
 use Rattle.definitions.specs.Calls.Paint.{painted, gained, paintRefusal, paint, paintKeys, paintBits, paintSummary, paintLogKeys, paintLogValues}
-use Rattle.definitions.specs.Calls.TakeBack.{restored, takeBackRefusal, usedBefore, takeBack, takeBackKeys, takeBackBits, takeBackSummary, takeBackLogKeys, takeBackLogValues}
+use Rattle.definitions.specs.Calls.TakeBack.{restored, takeBackRefusal, forceBefore, takeBack, takeBackKeys, takeBackBits, takeBackSummary, takeBackLogKeys, takeBackLogValues}
 use Rattle.definitions.proofs.Vectors.{Row, row, Holds, key, slots, window, shown, of-exist, of-report, of-counted, of-edited, mapA, keysA, bitsA, unwritten}
 use Rattle.definitions.proofs.AreaVectors.{counted, summaryA}
 
@@ -64,19 +64,19 @@ listOfFigure1 =
 
 -- A9's paint, whose buffers A10 takes back
 abbrev paintedKeys : List ℕ
-paintedKeys = paintKeys 2 3 (keysA 1) (bitsA 1) 9 summaryA (unwritten 3) (unwritten 3) 0 (key (2 ∷ 4 ∷ [])) 1
+paintedKeys = paintKeys 2 3 (keysA 1) (bitsA 1) 9 summaryA (unwritten 4) (unwritten 4) 0 0 (key (2 ∷ 4 ∷ [])) 1
 
 abbrev paintedBits : List ℕ
-paintedBits = paintBits 2 3 (keysA 1) (bitsA 1) 9 summaryA (unwritten 3) (unwritten 3) 0 (key (2 ∷ 4 ∷ [])) 1
+paintedBits = paintBits 2 3 (keysA 1) (bitsA 1) 9 summaryA (unwritten 4) (unwritten 4) 0 0 (key (2 ∷ 4 ∷ [])) 1
 
 abbrev paintedSummary : List ℕ
-paintedSummary = paintSummary 2 3 (keysA 1) (bitsA 1) 9 summaryA (unwritten 3) (unwritten 3) 0 (key (2 ∷ 4 ∷ [])) 1
+paintedSummary = paintSummary 2 3 (keysA 1) (bitsA 1) 9 summaryA (unwritten 4) (unwritten 4) 0 0 (key (2 ∷ 4 ∷ [])) 1
 
 abbrev paintedLogKeys : List ℕ
-paintedLogKeys = paintLogKeys 2 3 (keysA 1) (bitsA 1) 9 summaryA (unwritten 3) (unwritten 3) 0 (key (2 ∷ 4 ∷ [])) 1
+paintedLogKeys = paintLogKeys 2 3 (keysA 1) (bitsA 1) 9 summaryA (unwritten 4) (unwritten 4) 0 0 (key (2 ∷ 4 ∷ [])) 1
 
 abbrev paintedLogValues : List ℕ
-paintedLogValues = paintLogValues 2 3 (keysA 1) (bitsA 1) 9 summaryA (unwritten 3) (unwritten 3) 0 (key (2 ∷ 4 ∷ [])) 1
+paintedLogValues = paintLogValues 2 3 (keysA 1) (bitsA 1) 9 summaryA (unwritten 4) (unwritten 4) 0 0 (key (2 ∷ 4 ∷ [])) 1
 
 table : List Row
 table =
@@ -100,7 +100,7 @@ table =
     -- A8: exist 1 in the window of pixel (0,0)
     ∷ row (of-exist (exist 2 3 (keysA 0) (bitsA 0) 9 (window 0 0 1 1) 1)) (0 ∷ 0 ∷ [])
     -- A9: paint 24 with 1. Four places are given up, the spare one stays
-    ∷ row (of-edited (paint 2 3 (keysA 1) (bitsA 1) 9 summaryA (unwritten 3) (unwritten 3) 0 (key (2 ∷ 4 ∷ [])) 1)) (0 ∷ 5 ∷ 2 ∷ [])
+    ∷ row (of-edited (paint 2 3 (keysA 1) (bitsA 1) 9 summaryA (unwritten 4) (unwritten 4) 0 0 (key (2 ∷ 4 ∷ [])) 1)) (0 ∷ 5 ∷ 3 ∷ 3 ∷ [])
     ∷ row paintedKeys
     (key (0 ∷ 0 ∷ []) ∷ key (1 ∷ 0 ∷ []) ∷ key (2 ∷ 0 ∷ []) ∷ key (3 ∷ 0 ∷ []) ∷ key (4 ∷ 0 ∷ []) ∷ 0 ∷ 0 ∷ 0 ∷ 0 ∷ 99 ∷ [])
     ∷ row paintedBits
@@ -116,29 +116,29 @@ table =
     ∷ 99
     ∷ [])
     ∷ row paintedSummary (counted (0 ∷ 0 ∷ 0 ∷ 0 ∷ 1 ∷ 1 ∷ 1 ∷ 1 ∷ 2 ∷ 2 ∷ 2 ∷ 2 ∷ 0 ∷ 0 ∷ 0 ∷ 0 ∷ []))
-    ∷ row paintedLogKeys (key (2 ∷ 4 ∷ []) ∷ key (2 ∷ 4 ∷ []) ∷ 77 ∷ [])
-    ∷ row paintedLogValues (slots (0 ∷ 0 ∷ 1 ∷ []) ∷ 1 ∷ 77 ∷ [])
-    -- A10: taking it back gives A1, and zeroes the entry
-    ∷ row (of-edited (takeBack 2 3 paintedKeys paintedBits 5 paintedSummary paintedLogKeys paintedLogValues 2)) (0 ∷ 9 ∷ 0 ∷ [])
-    ∷ row (takeBackKeys 2 3 paintedKeys paintedBits 5 paintedSummary paintedLogKeys paintedLogValues 2) (keysA 1)
-    ∷ row (takeBackBits 2 3 paintedKeys paintedBits 5 paintedSummary paintedLogKeys paintedLogValues 2) (bitsA 1)
-    ∷ row (takeBackSummary 2 3 paintedKeys paintedBits 5 paintedSummary paintedLogKeys paintedLogValues 2) summaryA
-    ∷ row (takeBackLogKeys 2 3 paintedKeys paintedBits 5 paintedSummary paintedLogKeys paintedLogValues 2) (0 ∷ 0 ∷ 77 ∷ [])
-    ∷ row (takeBackLogValues 2 3 paintedKeys paintedBits 5 paintedSummary paintedLogKeys paintedLogValues 2) (0 ∷ 0 ∷ 77 ∷ [])
+    ∷ row paintedLogKeys (key (2 ∷ 4 ∷ []) ∷ key (2 ∷ 4 ∷ []) ∷ key (2 ∷ 4 ∷ []) ∷ 77 ∷ [])
+    ∷ row paintedLogValues (slots (0 ∷ 0 ∷ 1 ∷ []) ∷ 1 ∷ 1 ∷ 77 ∷ [])
+    -- A10: taking it back gives A1; the entry stays in the log, no longer in force
+    ∷ row (of-edited (takeBack 2 3 paintedKeys paintedBits 5 paintedSummary paintedLogKeys paintedLogValues 3 3)) (0 ∷ 9 ∷ 3 ∷ 0 ∷ [])
+    ∷ row (takeBackKeys 2 3 paintedKeys paintedBits 5 paintedSummary paintedLogKeys paintedLogValues 3 3) (keysA 1)
+    ∷ row (takeBackBits 2 3 paintedKeys paintedBits 5 paintedSummary paintedLogKeys paintedLogValues 3 3) (bitsA 1)
+    ∷ row (takeBackSummary 2 3 paintedKeys paintedBits 5 paintedSummary paintedLogKeys paintedLogValues 3 3) summaryA
+    ∷ row (takeBackLogKeys 2 3 paintedKeys paintedBits 5 paintedSummary paintedLogKeys paintedLogValues 3 3) paintedLogKeys
+    ∷ row (takeBackLogValues 2 3 paintedKeys paintedBits 5 paintedSummary paintedLogKeys paintedLogValues 3 3) paintedLogValues
     -- A11: paint 33 with 0, in room 12, where all stays as it was, and in room 13
-    ∷ row (of-edited (paint 2 3 (keysA 3) (bitsA 3) 9 summaryA (unwritten 2) (unwritten 2) 0 (key (3 ∷ 3 ∷ [])) 0)) (9 ∷ 0 ∷ 0 ∷ [])
-    ∷ row (paintBits 2 3 (keysA 3) (bitsA 3) 9 summaryA (unwritten 2) (unwritten 2) 0 (key (3 ∷ 3 ∷ [])) 0) (bitsA 3)
-    ∷ row (paintLogKeys 2 3 (keysA 3) (bitsA 3) 9 summaryA (unwritten 2) (unwritten 2) 0 (key (3 ∷ 3 ∷ [])) 0) (unwritten 2)
-    ∷ row (of-edited (paint 2 3 (keysA 4) (bitsA 4) 9 summaryA (unwritten 2) (unwritten 2) 0 (key (3 ∷ 3 ∷ [])) 0)) (0 ∷ 13 ∷ 2 ∷ [])
-    ∷ row (paintSummary 2 3 (keysA 3) (bitsA 3) 9 summaryA (unwritten 2) (unwritten 2) 0 (key (3 ∷ 3 ∷ [])) 0) summaryA
-    ∷ row (paintSummary 2 3 (keysA 4) (bitsA 4) 9 summaryA (unwritten 2) (unwritten 2) 0 (key (3 ∷ 3 ∷ [])) 0)
+    ∷ row (of-edited (paint 2 3 (keysA 3) (bitsA 3) 9 summaryA (unwritten 3) (unwritten 3) 0 0 (key (3 ∷ 3 ∷ [])) 0)) (9 ∷ 0 ∷ 0 ∷ 0 ∷ [])
+    ∷ row (paintBits 2 3 (keysA 3) (bitsA 3) 9 summaryA (unwritten 3) (unwritten 3) 0 0 (key (3 ∷ 3 ∷ [])) 0) (bitsA 3)
+    ∷ row (paintLogKeys 2 3 (keysA 3) (bitsA 3) 9 summaryA (unwritten 3) (unwritten 3) 0 0 (key (3 ∷ 3 ∷ [])) 0) (unwritten 3)
+    ∷ row (of-edited (paint 2 3 (keysA 4) (bitsA 4) 9 summaryA (unwritten 3) (unwritten 3) 0 0 (key (3 ∷ 3 ∷ [])) 0)) (0 ∷ 13 ∷ 3 ∷ 3 ∷ [])
+    ∷ row (paintSummary 2 3 (keysA 3) (bitsA 3) 9 summaryA (unwritten 3) (unwritten 3) 0 0 (key (3 ∷ 3 ∷ [])) 0) summaryA
+    ∷ row (paintSummary 2 3 (keysA 4) (bitsA 4) 9 summaryA (unwritten 3) (unwritten 3) 0 0 (key (3 ∷ 3 ∷ [])) 0)
     (counted (0 ∷ 0 ∷ 0 ∷ 0 ∷ 1 ∷ 1 ∷ 1 ∷ 2 ∷ 2 ∷ 2 ∷ 0 ∷ 2 ∷ 0 ∷ 0 ∷ 0 ∷ 0 ∷ []))
-    -- A12: paint 20 with 2, with 6 and with 5 free in the log
-    ∷ row (of-edited (paint 2 3 (keysA 0) (bitsA 0) 9 summaryA (unwritten 6) (unwritten 6) 0 (key (2 ∷ 0 ∷ [])) 2)) (0 ∷ 5 ∷ 6 ∷ [])
-    ∷ row (of-edited (paint 2 3 (keysA 0) (bitsA 0) 9 summaryA (unwritten 5) (unwritten 5) 0 (key (2 ∷ 0 ∷ [])) 2)) (10 ∷ 0 ∷ 0 ∷ [])
-    ∷ row (paintSummary 2 3 (keysA 0) (bitsA 0) 9 summaryA (unwritten 6) (unwritten 6) 0 (key (2 ∷ 0 ∷ [])) 2)
+    -- A12: paint 20 with 2, with 7 and with 6 free in the log
+    ∷ row (of-edited (paint 2 3 (keysA 0) (bitsA 0) 9 summaryA (unwritten 7) (unwritten 7) 0 0 (key (2 ∷ 0 ∷ [])) 2)) (0 ∷ 5 ∷ 7 ∷ 7 ∷ [])
+    ∷ row (of-edited (paint 2 3 (keysA 0) (bitsA 0) 9 summaryA (unwritten 6) (unwritten 6) 0 0 (key (2 ∷ 0 ∷ [])) 2)) (10 ∷ 0 ∷ 0 ∷ 0 ∷ [])
+    ∷ row (paintSummary 2 3 (keysA 0) (bitsA 0) 9 summaryA (unwritten 7) (unwritten 7) 0 0 (key (2 ∷ 0 ∷ [])) 2)
     (counted (0 ∷ 0 ∷ 0 ∷ 0 ∷ 2 ∷ 2 ∷ 2 ∷ 2 ∷ 2 ∷ 2 ∷ 2 ∷ 2 ∷ 0 ∷ 0 ∷ 0 ∷ 0 ∷ []))
-    ∷ row (paintSummary 2 3 (keysA 0) (bitsA 0) 9 summaryA (unwritten 5) (unwritten 5) 0 (key (2 ∷ 0 ∷ [])) 2) summaryA
+    ∷ row (paintSummary 2 3 (keysA 0) (bitsA 0) 9 summaryA (unwritten 6) (unwritten 6) 0 0 (key (2 ∷ 0 ∷ [])) 2) summaryA
     -- Figure 1 of document 000
     ∷ row (shown (listOfRaster 3 figure1)) listOfFigure1
     ∷ []
@@ -152,8 +152,8 @@ unfolding
     isWindow inWindow featuresOfRow featuresOfRows featuresIn occurs unionOf existIn reportIn isGiven selectFrom selectIn
     countOf pixelsWith countsFrom summaryBelow summaryOf sameNumbers noSummary
     put paintIn contentOf
-    closed entryOf lastRecord lastKey lastCount beforeLast lastContent isContent lastIsEntry dividesIn isSound noLog
+    closed entryOf countRecord lastRecord lastKey lastFeature lastCount beforeLast lastContent isContent closes lastIsEntry dividesIn isSound noLog
     existRefusal exist reportRefusal report selected selectRefusal select selectAnswer
     painted gained paintRefusal paint paintKeys paintBits paintSummary paintLogKeys paintLogValues
-    restored takeBackRefusal usedBefore takeBack takeBackKeys takeBackBits takeBackSummary takeBackLogKeys takeBackLogValues
+    restored takeBackRefusal forceBefore takeBack takeBackKeys takeBackBits takeBackSummary takeBackLogKeys takeBackLogValues
 claim = refl

@@ -16,7 +16,7 @@ use Rattle.definitions.specs.Window.{isWindow, inWindow, featuresOfRow, 
 use Rattle.definitions.specs.Clip.{notBefore, overlapEnd, overlapLength, overlapWindow}
 use Rattle.definitions.specs.Area.{countOf, pixelsWith, countsFrom, summaryBelow, summaryOf, sameNumbers, noSummary}
 use Rattle.definitions.specs.Edit.{put, paintIn, contentOf}
-use Rattle.definitions.specs.Log.{closed, entryOf, lastRecord, lastKey, lastCount, beforeLast, lastContent, isContent, lastIsEntry, dividesIn, isSound, noLog}
+use Rattle.definitions.specs.Log.{closed, entryOf, countRecord, lastRecord, lastKey, lastFeature, lastCount, beforeLast, lastContent, isContent, closes, lastIsEntry, dividesIn, isSound, firstIn, firstEntry, noLog}
 use Rattle.definitions.specs.Rules.{findingsOf, allFindings, waiversOf, isWaivedAt, isHidden, liveOf, hiddenCount, isRule, allRules, idsAscend, badRules, findingsAscend, isRuleId, allWaivers, badWaivers}
 use Rattle.definitions.specs.File.{bytesOf, numberAfter, numberOf, bytesOfRecords, headOf, fileOf, numberAt, readRecords, recordsInFile, sameBytes, wrongMark}
 use Rattle.definitions.specs.Calls.Build.{buildRefusal}
@@ -29,6 +29,7 @@ use Rattle.definitions.specs.Calls.Select.{selected, selectRefusal, sele
 use Rattle.definitions.specs.Calls.Batch.{refusalTo, valueTo, batchRefusal, batch, batchRefusals, batchValues}
 use Rattle.definitions.specs.Calls.Paint.{painted, gained, paintRefusal}
 use Rattle.definitions.specs.Calls.TakeBack.{restored, takeBackRefusal}
+use Rattle.definitions.specs.Calls.Redo.{redone, redoRefusal}
 use Rattle.definitions.specs.Calls.Findings.{liveIn, hiddenIn, findingsRefusal, findings, findingsIds, findingsKeys}
 use Rattle.definitions.specs.Calls.Store.{stored, storeRefusal, store, storeFile}
 use Rattle.definitions.specs.Calls.Load.{loadRefusal, load, loadKeys, loadBits}
@@ -57,10 +58,10 @@ summaryOfOne = 1 ∷ 0 ∷ 1 ∷ 0 ∷ 1 ∷ 0 ∷ 1 ∷ 0 ∷ []
 
 -- an entry of block 4, and then a record that closes nothing
 abbrev logKeys : List ℕ
-logKeys = 4 ∷ 4 ∷ 0 ∷ []
+logKeys = 4 ∷ 4 ∷ 4 ∷ 0 ∷ []
 
 abbrev logValues : List ℕ
-logValues = 1 ∷ 1 ∷ 0 ∷ []
+logValues = 1 ∷ 1 ∷ 0 ∷ 0 ∷ []
 
 -- a question about the window that begins a row and a column before the map
 abbrev question : ℕ → ℕ → ℕ → Question
@@ -172,26 +173,40 @@ table =
     ∷ row (batchRefusals 1 2 keys bits 5 questions (unwritten 6) (unwritten 7)) (0 ∷ 7 ∷ 0 ∷ 6 ∷ 6 ∷ 0 ∷ [])
     ∷ row (batchValues 1 2 keys bits 5 questions (unwritten 6) (unwritten 7)) (1 ∷ 0 ∷ 3 ∷ 0 ∷ 0 ∷ 0 ∷ 77 ∷ [])
     -- paint: 1, 4, 18, 5, 8, 7, 10, 9
-    ∷ gives (paintRefusal 1 0 keys bits 4 summary logKeys logValues 0 1 0) 1
-    ∷ gives (paintRefusal 1 2 keys bits 4 summary logKeys logValues 0 1 0) 4
-    ∷ gives (paintRefusal 1 2 keys bits 4 [] logKeys logValues 3 1 0) 4
-    ∷ gives (paintRefusal 1 2 keys bits 5 summaryOfOne logKeys logValues 0 1 0) 18
-    ∷ gives (paintRefusal 1 2 keys bits 5 [] logKeys logValues 3 1 0) 18
-    ∷ gives (paintRefusal 1 2 keys bits 5 summary logKeys logValues 3 5 0) 5
-    ∷ gives (paintRefusal 1 2 keys bits 5 summary logKeys logValues 4 1 0) 5
-    ∷ gives (paintRefusal 1 2 keys bits 5 summary logKeys logValues 2 5 2) 8
-    ∷ gives (paintRefusal 1 2 keys bits 5 summary logKeys logValues 2 1 2) 7
-    ∷ gives (paintRefusal 1 2 (0 ∷ []) (1 ∷ []) 1 summaryOfOne logKeys logValues 2 1 1) 10
-    ∷ gives (paintRefusal 1 2 (0 ∷ []) (1 ∷ []) 1 summaryOfOne logKeys logValues 0 1 1) 9
+    ∷ gives (paintRefusal 1 0 keys bits 4 summary logKeys logValues 0 0 1 0) 1
+    ∷ gives (paintRefusal 1 2 keys bits 4 summary logKeys logValues 0 0 1 0) 4
+    ∷ gives (paintRefusal 1 2 keys bits 4 [] logKeys logValues 4 4 1 0) 4
+    ∷ gives (paintRefusal 1 2 keys bits 5 summaryOfOne logKeys logValues 0 0 1 0) 18
+    ∷ gives (paintRefusal 1 2 keys bits 5 [] logKeys logValues 4 4 1 0) 18
+    ∷ gives (paintRefusal 1 2 keys bits 5 summary logKeys logValues 4 4 5 0) 5
+    ∷ gives (paintRefusal 1 2 keys bits 5 summary logKeys logValues 5 5 1 0) 5
+    ∷ gives (paintRefusal 1 2 keys bits 5 summary logKeys logValues 3 1 5 0) 5
+    ∷ gives (paintRefusal 1 2 keys bits 5 summary logKeys logValues 3 3 5 2) 8
+    ∷ gives (paintRefusal 1 2 keys bits 5 summary logKeys logValues 3 3 1 2) 7
+    ∷ gives (paintRefusal 1 2 (0 ∷ []) (1 ∷ []) 1 summaryOfOne logKeys logValues 3 3 1 1) 10
+    ∷ gives (paintRefusal 1 2 (0 ∷ []) (1 ∷ []) 1 summaryOfOne logKeys logValues 3 0 1 1) 9
     -- take back: 1, 4, 18, 5, 11, 9 (a log from another map)
-    ∷ gives (takeBackRefusal 1 0 keys bits 4 summary logKeys logValues 0) 1
-    ∷ gives (takeBackRefusal 1 2 keys bits 4 summary logKeys logValues 2) 4
-    ∷ gives (takeBackRefusal 1 2 keys bits 4 [] logKeys logValues 3) 4
-    ∷ gives (takeBackRefusal 1 2 keys bits 5 summaryOfOne logKeys logValues 2) 18
-    ∷ gives (takeBackRefusal 1 2 keys bits 5 [] logKeys logValues 3) 18
-    ∷ gives (takeBackRefusal 1 2 keys bits 5 summary logKeys logValues 3) 5
-    ∷ gives (takeBackRefusal 1 2 keys bits 5 summary logKeys logValues 0) 11
-    ∷ gives (takeBackRefusal 1 2 (0 ∷ []) (1 ∷ []) 1 summaryOfOne (4 ∷ 4 ∷ []) (2 ∷ 1 ∷ []) 2) 9
+    ∷ gives (takeBackRefusal 1 0 keys bits 4 summary logKeys logValues 0 0) 1
+    ∷ gives (takeBackRefusal 1 2 keys bits 4 summary logKeys logValues 3 3) 4
+    ∷ gives (takeBackRefusal 1 2 keys bits 4 [] logKeys logValues 4 4) 4
+    ∷ gives (takeBackRefusal 1 2 keys bits 5 summaryOfOne logKeys logValues 3 3) 18
+    ∷ gives (takeBackRefusal 1 2 keys bits 5 [] logKeys logValues 4 4) 18
+    ∷ gives (takeBackRefusal 1 2 keys bits 5 summary logKeys logValues 4 4) 5
+    ∷ gives (takeBackRefusal 1 2 keys bits 5 summary logKeys logValues 4 0) 5
+    ∷ gives (takeBackRefusal 1 2 keys bits 5 summary logKeys logValues 0 0) 11
+    ∷ gives (takeBackRefusal 1 2 keys bits 5 summary logKeys logValues 3 0) 11
+    ∷ gives (takeBackRefusal 1 2 (0 ∷ []) (1 ∷ []) 1 summaryOfOne (4 ∷ 4 ∷ 4 ∷ []) (2 ∷ 1 ∷ 0 ∷ []) 3 3) 9
+    -- redo: 1, 4, 18, 5, 20, 9 (a log from another map)
+    ∷ gives (redoRefusal 1 0 keys bits 4 summary logKeys logValues 0 0) 1
+    ∷ gives (redoRefusal 1 2 keys bits 4 summary logKeys logValues 3 0) 4
+    ∷ gives (redoRefusal 1 2 keys bits 4 [] logKeys logValues 4 4) 4
+    ∷ gives (redoRefusal 1 2 keys bits 5 summaryOfOne logKeys logValues 3 0) 18
+    ∷ gives (redoRefusal 1 2 keys bits 5 [] logKeys logValues 4 4) 18
+    ∷ gives (redoRefusal 1 2 keys bits 5 summary logKeys logValues 4 4) 5
+    ∷ gives (redoRefusal 1 2 keys bits 5 summary logKeys logValues 3 2) 5
+    ∷ gives (redoRefusal 1 2 keys bits 5 summary logKeys logValues 0 0) 20
+    ∷ gives (redoRefusal 1 2 keys bits 5 summary logKeys logValues 3 3) 20
+    ∷ gives (redoRefusal 1 2 (0 ∷ []) (1 ∷ []) 1 summaryOfOne (4 ∷ 4 ∷ 4 ∷ []) (2 ∷ 1 ∷ 1 ∷ []) 3 0) 9
     -- findings: 1, 4, 13, 14, 12
     ∷ gives (findingsRefusal 1 0 keys bits 4 [] [] [] [] []) 1
     ∷ gives (findingsRefusal 1 2 keys bits 4 (rule 7 0 0 ∷ []) [] [] [] []) 4
@@ -263,12 +278,12 @@ unfolding
     isWindow inWindow featuresOfRow featuresOfRows featuresIn occurs unionOf existIn reportIn isGiven selectFrom selectIn
     countOf pixelsWith countsFrom summaryBelow summaryOf sameNumbers noSummary
     put paintIn contentOf
-    closed entryOf lastRecord lastKey lastCount beforeLast lastContent isContent lastIsEntry dividesIn isSound noLog
+    closed entryOf countRecord lastRecord lastKey lastFeature lastCount beforeLast lastContent isContent closes lastIsEntry dividesIn isSound firstIn firstEntry noLog
     findingsOf allFindings waiversOf isWaivedAt isHidden liveOf hiddenCount isRule allRules idsAscend badRules findingsAscend isRuleId allWaivers badWaivers
     bytesOf numberAfter numberOf bytesOfRecords headOf fileOf numberAt readRecords recordsInFile sameBytes wrongMark
     buildRefusal rasterRefusal rasterPixels standingRefusal standing part partSpan existRefusal reportRefusal selected selectRefusal select
     exist report notBefore overlapEnd overlapLength overlapWindow refusalTo valueTo batchRefusal batch batchRefusals batchValues
-    painted gained paintRefusal restored takeBackRefusal
+    painted gained paintRefusal restored takeBackRefusal redone redoRefusal
     liveIn hiddenIn findingsRefusal findings findingsIds findingsKeys
     stored storeRefusal store storeFile loadRefusal load loadKeys loadBits
 claim = refl

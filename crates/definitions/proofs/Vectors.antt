@@ -49,7 +49,7 @@ abbrev pub of-counted : Counted → List ℕ
 of-counted r = r .refusal ∷ r .count ∷ []
 
 abbrev pub of-edited : Edited → List ℕ
-of-edited r = r .refusal ∷ r .n ∷ r .used ∷ []
+of-edited r = r .refusal ∷ r .n ∷ r .used ∷ r .«in_force» ∷ []
 
 -- m = 2, s = 3, rows 0011, 0012, 2200, 2200
 abbrev pub mapA : List ℕ

@@ -15,6 +15,7 @@ pub mod Clipped
 pub mod Batch
 pub mod Paint
 pub mod TakeBack
+pub mod Redo
 pub mod Empty
 pub mod Findings
 pub mod Store

@@ -1,9 +1,10 @@
--- The log: the shape of an entry, and when a log is sound (document 01, "Paint, take back, empty", refusal 5). Rests on Edit and Read.
+-- The log: the shape of an entry, when a log is sound, and the entries that can be redone (document 01, "Paint, take back, empty", refusal 5;
+-- document 02, item 7). Rests on Edit and Read.
 use Prim.Native.Nat.{ℕ, zero, suc, _+_, _-_}
 use mathlib.Core.Bool.{Bool, true, cond, not, _&&_}
 use mathlib.Core.List.{List, [], _∷_, _++_}
 use lib.ListN.{length, getD, take, drop}
-use lib.Dec.{leb, eqb}
+use lib.Dec.{leb, ltb, eqb}
 use Rattle.keys.specs.Key.{validKey, heightOf}
 use Rattle.keys.specs.Block.{rowOf, columnOf}
 use Rattle.definitions.specs.Picture.{Picture}
@@ -11,28 +12,36 @@ use Rattle.definitions.specs.List.{Record, recordOf}
 use Rattle.definitions.specs.Read.{room, recordsOf, isListOfBlock}
 use Rattle.definitions.specs.Edit.{contentOf}
 
--- an entry: a block's former content, and then a closing record with its key and the number of content records
-unfoldable pub closed : ℕ → List Record → List Record
-closed κ content = content ++ (recordOf κ (length content) ∷ [])
+-- an entry: a block's former content, and then two closing records with its key, one with the number of content records and one with the feature
+-- that the block was painted with
+unfoldable pub closed : ℕ → List Record → ℕ → List Record
+closed κ content f = content ++ (recordOf κ (length content) ∷ recordOf κ f ∷ [])
 
 -- how many places an entry needs beside its content
 abbrev pub closingPlaces : ℕ
-closingPlaces = 1
+closingPlaces = 2
 
--- the entry of a paint of block κ
-unfoldable pub entryOf : ℕ → Picture → ℕ → List Record
-entryOf m p κ = closed κ (contentOf m p κ)
+-- the entry of a paint of block κ with f
+unfoldable pub entryOf : ℕ → Picture → ℕ → ℕ → List Record
+entryOf m p κ f = closed κ (contentOf m p κ) f
 
--- the closing record of the last entry
+-- the closing records of the last entry
+unfoldable pub countRecord : List Record → Record
+countRecord log = getD log (length log - 2) (recordOf 0 0)
+
 unfoldable pub lastRecord : List Record → Record
 lastRecord log = getD log (length log - 1) (recordOf 0 0)
 
 unfoldable pub lastKey : List Record → ℕ
 lastKey log = lastRecord log .key
 
+-- the feature that the last entry's block was painted with
+unfoldable pub lastFeature : List Record → ℕ
+lastFeature log = lastRecord log .value
+
 -- the number of records in the last entry's content
 unfoldable pub lastCount : List Record → ℕ
-lastCount log = lastRecord log .value
+lastCount log = countRecord log .value
 
 -- the log before its last entry
 unfoldable pub beforeLast : List Record → List Record
@@ -46,10 +55,15 @@ lastContent log = take (lastCount log) (drop (length log - (lastCount log + clos
 unfoldable pub isContent : ℕ → ℕ → ℕ → List Record → Bool
 isContent m s κ l = isListOfBlock m s (heightOf m κ) (rowOf m κ) (columnOf m κ) κ l
 
--- the last entry is all there, its key is valid at m, and its content is a correct list of that block
+-- the closing records have one key, and a feature below s
+unfoldable pub closes : ℕ → List Record → Bool
+closes s log = eqb (countRecord log .key) (lastKey log) && ltb (lastFeature log) s
+
+-- the last entry is all there and closed, its key is valid at m, and its content is a correct list of that block
 unfoldable pub lastIsEntry : ℕ → ℕ → List Record → Bool
 lastIsEntry m s log =
     leb (lastCount log + closingPlaces) (length log)
+    && closes s log
     && validKey m (lastKey log)
     && isContent m s (lastKey log) (lastContent log)
 
@@ -61,6 +75,23 @@ dividesIn (suc steps) m s log = cond (eqb (length log) 0) true (lastIsEntry m s 
 unfoldable pub isSound : ℕ → ℕ → List Record → Bool
 isSound m s log = dividesIn (length log) m s log
 
--- 5
-unfoldable pub noLog : ℕ → ℕ → List ℕ → List ℕ → ℕ → Bool
-noLog m s keys values used = not (leb used (room keys values) && isSound m s (recordsOf keys values used))
+-- the first entry: what is left when entries are taken off the end as long as another stands before
+unfoldable pub firstIn : ℕ → List Record → List Record
+firstIn zero log = log
+firstIn (suc steps) log = cond (eqb (length (beforeLast log)) 0) log (firstIn steps (beforeLast log))
+
+unfoldable pub firstEntry : List Record → List Record
+firstEntry log = firstIn (length log) log
+
+-- the records that are not in force: their entries were taken back, and can be redone
+abbrev pub toRedo : (keys values : List ℕ) (used inForce : ℕ) → List Record
+toRedo keys values used inForce = drop inForce (recordsOf keys values used)
+
+-- 5: the records used are there, those in force are the first of them, and both those and the ones to redo divide into entries, so that the count in
+-- force is 0 or the end of an entry
+unfoldable pub noLog : (m s : ℕ) (keys values : List ℕ) (used inForce : ℕ) → Bool
+noLog m s keys values used inForce =
+    not (leb used (room keys values)
+    && leb inForce used
+    && isSound m s (recordsOf keys values inForce)
+    && isSound m s (toRedo keys values used inForce))

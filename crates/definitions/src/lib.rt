@@ -93,6 +93,13 @@ pub struct Edited {
     pub refusal: u64,
     pub n: u64,
     pub used: u64,
+    pub in_force: u64,
+}
+
+#[repr(C)]
+pub struct Emptied {
+    pub used: u64,
+    pub in_force: u64,
 }
 
 #[repr(C)]

@@ -77,5 +77,5 @@ module _ {m n : ℕ} {keys bits : List ℕ} (own : OwnList m keys bits n) (key :
   part-there = let e = part-until own key (5 ^ heightOf m key) valid refl in let h = below-first (key + 5 ^ heightOf m key) n keys in omega arith
 
   -- the entry has them and what closes it
-  pub gained-size : length (gained m (recordsOf keys bits n) key) ≡ partLength m key (recordsOf keys bits n) + closingPlaces
-  gained-size = gained-length m key (recordsOf keys bits n) valid (own .own)
+  pub gained-size : (f : ℕ) → length (gained m (recordsOf keys bits n) key f) ≡ partLength m key (recordsOf keys bits n) + closingPlaces
+  gained-size f = gained-length m key f (recordsOf keys bits n) valid (own .own)

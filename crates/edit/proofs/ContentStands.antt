@@ -82,23 +82,25 @@ module _ {m n : ℕ} {keys bits : List ℕ} (own : OwnList m keys bits n) where
 module _ {m n : ℕ} {keys bits logKeys logValues : List ℕ} {new : Entry} (a : Fresh m keys bits n new logKeys logValues) where
   -- the content by the test of the standing
   content-by : (t : Bool) → isListed (new .key) (recordsOf keys bits n) ≡ t
-      → gained m (recordsOf keys bits n) (new .key)
+      → gained m (recordsOf keys bits n) (new .key) (new .feature)
       ≡ closed (new .key)
       (cond t (take (partLength m (new .key) (recordsOf keys bits n)) (drop (placeOf (new .key) (recordsOf keys bits n)) (recordsOf keys bits n)))
       (recordOf (new .key) (bitsAt (new .key) (recordsOf keys bits n)) ∷ []))
+      (new .feature)
   unfolding contentIn
   content-by t e =
-      gained-in m (new .key) (recordsOf keys bits n) (a .valid) (a .own .own)
+      gained-in m (new .key) (new .feature) (recordsOf keys bits n) (a .valid) (a .own .own)
       ∙ ap
       (λ b.
       closed (new .key)
       (cond b (take (partLength m (new .key) (recordsOf keys bits n)) (drop (placeOf (new .key) (recordsOf keys bits n)) (recordsOf keys bits n)))
-      (recordOf (new .key) (bitsAt (new .key) (recordsOf keys bits n)) ∷ [])))
+      (recordOf (new .key) (bitsAt (new .key) (recordsOf keys bits n)) ∷ []))
+      (new .feature))
       e
 
   -- the log has room for it
   entry-fits : new .start + (new .count + closingPlaces) ≤ room logKeys logValues
-  entry-fits = let e = gained-size (a .own) (new .key) (a .valid) in omega (arith, a .whole, a .fits)
+  entry-fits = let e = gained-size (a .own) (new .key) (a .valid) (new .feature) in omega (arith, a .whole, a .fits)
 
   -- its block is listed at a place
   module _ (place : ℕ) (listed : isListed (new .key) (recordsOf keys bits n) ≡ true) (place-is : place ≡ placeOf (new .key) (recordsOf keys bits n)) where
@@ -111,12 +113,12 @@ module _ {m n : ℕ} {keys bits logKeys logValues : List ℕ} {new : Entry} (a :
         let small = own-small (a .own) (a .deepest) in
         record { content-there = omega (arith, a .own .fits); fits = entry-fits; small = omega arith }
 
-    pub listed-entry : closed (new .key) (run keys bits place (new .count)) ≡ gained m (recordsOf keys bits n) (new .key)
+    pub listed-entry : closed (new .key) (run keys bits place (new .count)) (new .feature) ≡ gained m (recordsOf keys bits n) (new .key) (new .feature)
     listed-entry =
         sym
         (content-by true listed
-        ∙ ap₂ (λ c p. closed (new .key) (take c (drop p (recordsOf keys bits n)))) (sym (a .whole)) (sym place-is)
-        ∙ ap (closed (new .key)) (records-run keys bits n place (new .count) within))
+        ∙ ap₂ (λ c p. closed (new .key) (take c (drop p (recordsOf keys bits n))) (new .feature)) (sym (a .whole)) (sym place-is)
+        ∙ ap (λ l. closed (new .key) l (new .feature)) (records-run keys bits n place (new .count) within))
 
   -- its block lies inside the leaf at a place
   module _ (leaf : ℕ) (inside : isListed (new .key) (recordsOf keys bits n) ≡ false) (leaf-is : leaf ≡ placeOf (new .key) (recordsOf keys bits n)) where
@@ -130,14 +132,14 @@ module _ {m n : ℕ} {keys bits logKeys logValues : List ℕ} {new : Entry} (a :
     pub inside-loggable : Loggable new (new .key ∷ []) (getD bits leaf 0 ∷ []) 0 logKeys logValues
     inside-loggable = let e = one in record { content-there = omega arith; fits = entry-fits; small = omega arith }
 
-    pub inside-entry : closed (new .key) (run (new .key ∷ []) (getD bits leaf 0 ∷ []) 0 (new .count)) ≡ gained m (recordsOf keys bits n) (new .key)
+    pub inside-entry : closed (new .key) (run (new .key ∷ []) (getD bits leaf 0 ∷ []) 0 (new .count)) (new .feature) ≡ gained m (recordsOf keys bits n) (new .key) (new .feature)
     unfolding bitsAt paired
     inside-entry =
         let there = leaf-there in
         let bits-are : bitsAt (new .key) (recordsOf keys bits n) ≡ getD bits leaf 0 =
         ap₂ (λ l i. getD l i 0) (values-of-records keys bits n (a .own .fits)) (sym leaf-is) ∙ getD-take n bits leaf 0 there in
-        ap (λ c. closed (new .key) (run (new .key ∷ []) (getD bits leaf 0 ∷ []) 0 c)) one
-        ∙ sym (content-by false inside ∙ ap (λ b. closed (new .key) (recordOf (new .key) b ∷ [])) bits-are)
+        ap (λ c. closed (new .key) (run (new .key ∷ []) (getD bits leaf 0 ∷ []) 0 c) (new .feature)) one
+        ∙ sym (content-by false inside ∙ ap (λ b. closed (new .key) (recordOf (new .key) b ∷ []) (new .feature)) bits-are)
 
 -- the same entry by another name
 pub logged-same : {entry entry′ : List Record} {start : ℕ} {keys values keys′ values′ : List ℕ} {next : ℕ} → entry ≡ entry′

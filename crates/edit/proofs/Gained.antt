@@ -15,15 +15,15 @@ use Rattle.definitions.proofs.LastEntry.{length-closed}
 use Rattle.edit.specs.Content.{contentIn}
 use Rattle.edit.proofs.Content.{content-in, content-length}
 
-module _ (m κ : ℕ) (l : List Record) (valid : validKey m κ ≡ true) (own : l ≡ listOfPicture m (pictureOf m l)) where
+module _ (m κ f : ℕ) (l : List Record) (valid : validKey m κ ≡ true) (own : l ≡ listOfPicture m (pictureOf m l)) where
   -- the entry's content is read from the list
-  pub gained-in : gained m l κ ≡ closed κ (contentIn m l κ)
+  pub gained-in : gained m l κ f ≡ closed κ (contentIn m l κ) f
   unfolding gained entryOf
-  gained-in = ap (closed κ) (sym (ap (λ a. contentIn m a κ) own ∙ content-in m κ (pictureOf m l) valid))
+  gained-in = ap (λ c. closed κ c f) (sym (ap (λ a. contentIn m a κ) own ∙ content-in m κ (pictureOf m l) valid))
 
   -- the entry's length: refusal 10
-  pub gained-length : length (gained m l κ) ≡ partLength m κ l + closingPlaces
+  pub gained-length : length (gained m l κ f) ≡ partLength m κ l + closingPlaces
   unfolding gained entryOf
   gained-length =
-      length-closed κ (contentOf m (pictureOf m l) κ)
+      length-closed κ (contentOf m (pictureOf m l) κ) f
       ∙ ap (λ n. n + closingPlaces) (sym (ap (partLength m κ) own ∙ content-length m κ (pictureOf m l) valid))

@@ -13,3 +13,7 @@ pub mod PaintAnswers
 pub mod TakingBackTable
 pub mod TakingBackPlan
 pub mod TakingBackAnswers
+pub mod Relogging
+pub mod RedoTable
+pub mod RedoPlan
+pub mod RedoAnswers

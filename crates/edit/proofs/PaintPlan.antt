@@ -56,9 +56,9 @@ paint-planned {m} {n} {κ} {f} a is = record {
 }
 
 -- the entry that was found is the new one
-pub entry-found : (m : ℕ) (l : List Record) (used κ count : ℕ) → count ≡ partLength m κ l
-    → _≡_ {A = Entry} (record { key = κ; start = used; count = count }) (newEntry m l used κ)
-entry-found m l used κ count e = λ i. record { key = κ; start = used; count = e i }
+pub entry-found : (m : ℕ) (l : List Record) (start κ f count : ℕ) → count ≡ partLength m κ l
+    → _≡_ {A = Entry} (record { key = κ; start = start; count = count; feature = f }) (newEntry m l start κ f)
+entry-found m l start κ f count e = λ i. record { key = κ; start = start; count = e i; feature = f }
 
 -- the painted list, once it stands, leaves the summary right outside the block
 module _ (s : ℕ) {m n κ f : ℕ} {keys bits keys′ bits′ : List ℕ} {r : ℕ} (a : Paintable m keys bits n κ f)

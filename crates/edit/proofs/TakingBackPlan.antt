@@ -25,9 +25,9 @@ use Rattle.edit.specs.TakingBackCall.{Restorable, restorePlan}
 use Rattle.edit.proofs.Planned.{Planned, can-put, put-makes}
 use Rattle.edit.proofs.Changed.{put-outdated, put-counted}
 
-module _ {m n used : ℕ} {keys bits logKeys logValues : List ℕ} (a : Restorable m keys bits n logKeys logValues used) (last : Entry)
-    (is : last ≡ lastEntry (recordsOf logKeys logValues used)) where
-  key-is : last .key ≡ lastKey (recordsOf logKeys logValues used)
+module _ {m n inForce : ℕ} {keys bits logKeys logValues : List ℕ} (a : Restorable m keys bits n logKeys logValues inForce) (last : Entry)
+    (is : last ≡ lastEntry (recordsOf logKeys logValues inForce)) where
+  key-is : last .key ≡ lastKey (recordsOf logKeys logValues inForce)
   key-is = ap (λ x. x .key) is
 
   -- the key that was found is valid
@@ -35,43 +35,43 @@ module _ {m n used : ℕ} {keys bits logKeys logValues : List ℕ} (a : Restorab
   key-valid = ap (validKey m) key-is ∙ a .valid
 
   -- the content has as many records as was found
-  pub content-count : last .count ≡ length (lastContent (recordsOf logKeys logValues used))
+  pub content-count : last .count ≡ length (lastContent (recordsOf logKeys logValues inForce))
   content-count = count-is (a .ended) last is ∙ sym (content-length (a .ended))
 
   module _ (plan : Plan) where
     -- the plan that was found for the key, the count and the first bits
     pub restore-found : plan ≡ planAt m (recordsOf keys bits n) (last .key)
         (topFor m (recordsOf keys bits n) (last .key) (eqb (last .count) 1) (getD logValues (last .start) 0))
-        → plan ≡ restorePlan m (recordsOf keys bits n) (recordsOf logKeys logValues used)
+        → plan ≡ restorePlan m (recordsOf keys bits n) (recordsOf logKeys logValues inForce)
     restore-found found =
         found
-        ∙ plan-for m (recordsOf keys bits n) (last .key) (lastContent (recordsOf logKeys logValues used)) (eqb (last .count) 1) (getD logValues (last .start) 0)
+        ∙ plan-for m (recordsOf keys bits n) (last .key) (lastContent (recordsOf logKeys logValues inForce)) (eqb (last .count) 1) (getD logValues (last .start) 0)
         (ap (λ x. eqb x 1) (sym content-count)) (first-bits (a .ended) last is (subst (λ x. 0 < x) (sym (count-is (a .ended) last is)) (a .some-content)))
-        ∙ ap (λ κ. planOf m (recordsOf keys bits n) κ (lastContent (recordsOf logKeys logValues used))) key-is
+        ∙ ap (λ κ. planOf m (recordsOf keys bits n) κ (lastContent (recordsOf logKeys logValues inForce))) key-is
 
     -- is one that makes the restored list
-    pub restore-planned : plan ≡ restorePlan m (recordsOf keys bits n) (recordsOf logKeys logValues used)
-        → Planned m keys bits n (last .key) (lastContent (recordsOf logKeys logValues used))
-        (restored m (recordsOf keys bits n) (recordsOf logKeys logValues used)) plan
+    pub restore-planned : plan ≡ restorePlan m (recordsOf keys bits n) (recordsOf logKeys logValues inForce)
+        → Planned m keys bits n (last .key) (lastContent (recordsOf logKeys logValues inForce))
+        (restored m (recordsOf keys bits n) (recordsOf logKeys logValues inForce)) plan
     unfolding restored
     restore-planned found =
         subst
         (λ κ.
-        Planned m keys bits n κ (lastContent (recordsOf logKeys logValues used)) (restored m (recordsOf keys bits n) (recordsOf logKeys logValues used)) plan)
+        Planned m keys bits n κ (lastContent (recordsOf logKeys logValues inForce)) (restored m (recordsOf keys bits n) (recordsOf logKeys logValues inForce)) plan)
         (sym key-is)
         (record {
           deep = a .deepest;
           valid = a .valid;
           own = a .own;
-          picture = pictureOf m (lastContent (recordsOf logKeys logValues used));
+          picture = pictureOf m (lastContent (recordsOf logKeys logValues inForce));
           content-is = a .correct;
           new-is = refl;
           plan-is = found;
         })
 
     -- what putting its content asks
-    module _ (found : plan ≡ restorePlan m (recordsOf keys bits n) (recordsOf logKeys logValues used)) where
-      pub restore-puttable : length (restored m (recordsOf keys bits n) (recordsOf logKeys logValues used)) ≤ room keys bits
+    module _ (found : plan ≡ restorePlan m (recordsOf keys bits n) (recordsOf logKeys logValues inForce)) where
+      pub restore-puttable : length (restored m (recordsOf keys bits n) (recordsOf logKeys logValues inForce)) ≤ room keys bits
           → (last .start + last .count ≤ room logKeys logValues)
           × Puttable m keys bits n (last .key) plan (contentPart last logKeys) (contentPart last logValues) (last .count)
       restore-puttable fits =
@@ -85,23 +85,23 @@ module _ {m n used : ℕ} {keys bits logKeys logValues : List ℕ} (a : Restorab
       -- and what it makes
       pub restore-made : {keys′ bits′ : List ℕ} {r : ℕ}
           → Replaced n (edited m (recordsOf keys bits n) (last .key) (recordsOf (contentPart last logKeys) (contentPart last logValues) (last .count))) keys bits keys′ bits′ r
-          → Replaced n (restored m (recordsOf keys bits n) (recordsOf logKeys logValues used)) keys bits keys′ bits′ r
+          → Replaced n (restored m (recordsOf keys bits n) (recordsOf logKeys logValues inForce)) keys bits keys′ bits′ r
       restore-made h = put-makes (restore-planned found) (contentPart last logKeys) (contentPart last logValues) (last .count) (lent-content (a .ended) last is) h
 
 -- the restored list, once it stands, leaves the summary right outside the block
-module _ (s : ℕ) {m n used : ℕ} {keys bits logKeys logValues keys′ bits′ : List ℕ} {r : ℕ} (a : Restorable m keys bits n logKeys logValues used) (last : Entry)
-    (is : last ≡ lastEntry (recordsOf logKeys logValues used))
-    (made : Replaced n (restored m (recordsOf keys bits n) (recordsOf logKeys logValues used)) keys bits keys′ bits′ r) where
+module _ (s : ℕ) {m n inForce : ℕ} {keys bits logKeys logValues keys′ bits′ : List ℕ} {r : ℕ} (a : Restorable m keys bits n logKeys logValues inForce) (last : Entry)
+    (is : last ≡ lastEntry (recordsOf logKeys logValues inForce))
+    (made : Replaced n (restored m (recordsOf keys bits n) (recordsOf logKeys logValues inForce)) keys bits keys′ bits′ r) where
   pub restore-outdated : (summary : List ℕ) → s ≤ slotLimit → summary ≡ summaryOf m s (shownBy m keys bits n) → Outdated m s keys′ bits′ r summary (last .key)
   unfolding restored
   restore-outdated summary few counts =
       subst (λ κ. Outdated m s keys′ bits′ r summary κ) (sym (key-is a last is))
-      (put-outdated m s (lastKey (recordsOf logKeys logValues used)) (pictureOf m (lastContent (recordsOf logKeys logValues used))) made summary (a .deepest) few (a .valid) counts)
+      (put-outdated m s (lastKey (recordsOf logKeys logValues inForce)) (pictureOf m (lastContent (recordsOf logKeys logValues inForce))) made summary (a .deepest) few (a .valid) counts)
 
   -- and counted anew it is that of the restored picture
   pub restore-counted : (summary′ : List ℕ) → summary′ ≡ summaryOf m s (shownBy m keys′ bits′ r)
-      → summary′ ≡ summaryOf m s (restoredPicture m (recordsOf keys bits n) (recordsOf logKeys logValues used))
+      → summary′ ≡ summaryOf m s (restoredPicture m (recordsOf keys bits n) (recordsOf logKeys logValues inForce))
   unfolding restored
   restore-counted summary′ e =
-      put-counted m s (lastKey (recordsOf logKeys logValues used))
-      (pictureOf m (lastContent (recordsOf logKeys logValues used))) made summary′ e
+      put-counted m s (lastKey (recordsOf logKeys logValues inForce))
+      (pictureOf m (lastContent (recordsOf logKeys logValues inForce))) made summary′ e

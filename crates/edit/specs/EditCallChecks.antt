@@ -1,4 +1,4 @@
--- What paint and take back share: the refusals that they test first, 1, 4, 18, 5, and the decision that a call goes by. Only
+-- What paint, take back and redo share: the refusals that they test first, 1, 4, 18, 5, and the decision that a call goes by. Only
 -- contracts need these.
 use Prim.Native.Nat.{ℕ}
 use mathlib.Core.List.{List, [], _∷_}
@@ -11,13 +11,13 @@ use Rattle.put.specs.declared.plan.Plan.{Plan}
 use Rattle.edit.specs.declared.decision.Decision.{Decision}
 use Rattle.edit.specs.declared.decision.Decision.the-variants.{Refused, Granted}
 
-unfoldable pub firstRefusal : (m s : ℕ) (keys bits : List ℕ) (n : ℕ) (summary logKeys logValues : List ℕ) (used : ℕ) → ℕ
-firstRefusal m s keys bits n summary logKeys logValues used =
+unfoldable pub firstRefusal : (m s : ℕ) (keys bits : List ℕ) (n : ℕ) (summary logKeys logValues : List ℕ) (used inForce : ℕ) → ℕ
+firstRefusal m s keys bits n summary logKeys logValues used inForce =
     first
     (badSettings m s gives 1
     ∷ noList m s keys bits n gives 4
     ∷ noSummary m s (shownBy m keys bits n) summary gives 18
-    ∷ noLog m s logKeys logValues used gives 5
+    ∷ noLog m s logKeys logValues used inForce gives 5
     ∷ [])
 
 -- a call with this refusal is refused, or granted where that is 0

@@ -3,3 +3,4 @@ pub mod EditCallChecks
 pub mod PaintCall
 pub mod Recount
 pub mod TakingBackCall
+pub mod RedoCall

@@ -7,11 +7,11 @@ use mathlib.Core.List.{List, [], _∷_}
 use lib.ListN.{length}
 use lib.Dec.{ltb}
 use Rattle.keys.specs.Key.{slotLimit, validKey}
-use Rattle.definitions.specs.List.{Record, recordOf}
+use Rattle.definitions.specs.List.{Record, recordOf, keysOf, valuesOf}
 use Rattle.definitions.specs.Read.{room, recordsOf}
 use Rattle.definitions.specs.Standing.{partLength}
 use Rattle.definitions.specs.Refusal.{_gives_, first}
-use Rattle.definitions.specs.Calls.Paint.{painted, gained, paint, paintKeys, paintBits, paintSummary, paintLogKeys, paintLogValues}
+use Rattle.definitions.specs.Calls.Paint.{painted, gained, logged, paint, paintKeys, paintBits, paintSummary, paintLogKeys, paintLogValues}
 use Rattle.definitions.specs.declared.Edited.{Edited}
 use Rattle.list.specs.Own.{OwnList}
 use Rattle.log.specs.declared.entry.Entry.{Entry}
@@ -19,10 +19,10 @@ use Rattle.put.specs.Put.{planOf}
 use Rattle.put.specs.declared.plan.Plan.{Plan}
 
 -- 10, 9
-unfoldable pub roomRefusal : ℕ → List Record → List ℕ → List ℕ → List ℕ → List ℕ → ℕ → ℕ → ℕ → ℕ
-roomRefusal m l keys bits logKeys logValues used κ f =
+unfoldable pub roomRefusal : (m : ℕ) (l : List Record) (keys bits logKeys logValues : List ℕ) (inForce κ f : ℕ) → ℕ
+roomRefusal m l keys bits logKeys logValues inForce κ f =
     first
-    (ltb (room logKeys logValues) (used + length (gained m l κ)) gives 10
+    (ltb (room logKeys logValues) (inForce + length (gained m l κ f)) gives 10
     ∷ ltb (room keys bits) (length (painted m l κ f)) gives 9
     ∷ [])
 
@@ -33,9 +33,9 @@ pub record Paintable (m : ℕ) (keys bits : List ℕ) (n κ f : ℕ) : Type 0 wh
   pub own : OwnList m keys bits n
   pub feature : f < slotLimit
 
--- the entry that a paint of block κ writes from place used on, and its plan: the content that it puts in is one record
-abbrev pub newEntry : ℕ → List Record → ℕ → ℕ → Entry
-newEntry m l used κ = record { key = κ; start = used; count = partLength m κ l }
+-- the entry that a paint of block κ with f writes from place start on, and its plan: the content that it puts in is one record
+abbrev pub newEntry : ℕ → List Record → ℕ → ℕ → ℕ → Entry
+newEntry m l start κ f = record { key = κ; start = start; count = partLength m κ l; feature = f }
 
 abbrev pub paintPlan : ℕ → List Record → ℕ → ℕ → Plan
 paintPlan m l κ f = planOf m l κ (recordOf κ (2 ^ f) ∷ [])
@@ -46,13 +46,19 @@ pub record Fresh (m : ℕ) (keys bits : List ℕ) (n : ℕ) (new : Entry) (logKe
   pub own : OwnList m keys bits n
   pub valid : validKey m (new .key) ≡ true
   pub whole : new .count ≡ partLength m (new .key) (recordsOf keys bits n)
-  pub fits : new .start + length (gained m (recordsOf keys bits n) (new .key)) ≤ room logKeys logValues
+  pub fits : new .start + length (gained m (recordsOf keys bits n) (new .key) (new .feature)) ≤ room logKeys logValues
+
+-- an entry stands from a place on, what was used past it is zero, all other places stay, and the place past it is told
+pub record Relogged (entry : List Record) (start used : ℕ) (keys values keys′ values′ : List ℕ) (next : ℕ) : Type 0 where
+  pub keys-are : keys′ ≡ logged used start (keysOf entry) keys
+  pub values-are : values′ ≡ logged used start (valuesOf entry) values
+  pub used-are : next ≡ start + length entry
 
 -- the answer of a paint, and what it leaves in the five lent slices
-pub record Painted (m s : ℕ) (keys bits : List ℕ) (n : ℕ) (summary logKeys logValues : List ℕ) (used κ f : ℕ) (r : Edited) (keys′ bits′ summary′ logKeys′ logValues′ : List ℕ) : Type 0 where
-  pub answer : r ≡ paint m s keys bits n summary logKeys logValues used κ f
-  pub keys-are : keys′ ≡ paintKeys m s keys bits n summary logKeys logValues used κ f
-  pub bits-are : bits′ ≡ paintBits m s keys bits n summary logKeys logValues used κ f
-  pub summary-is : summary′ ≡ paintSummary m s keys bits n summary logKeys logValues used κ f
-  pub log-keys-are : logKeys′ ≡ paintLogKeys m s keys bits n summary logKeys logValues used κ f
-  pub log-values-are : logValues′ ≡ paintLogValues m s keys bits n summary logKeys logValues used κ f
+pub record Painted (m s : ℕ) (keys bits : List ℕ) (n : ℕ) (summary logKeys logValues : List ℕ) (used inForce κ f : ℕ) (r : Edited) (keys′ bits′ summary′ logKeys′ logValues′ : List ℕ) : Type 0 where
+  pub answer : r ≡ paint m s keys bits n summary logKeys logValues used inForce κ f
+  pub keys-are : keys′ ≡ paintKeys m s keys bits n summary logKeys logValues used inForce κ f
+  pub bits-are : bits′ ≡ paintBits m s keys bits n summary logKeys logValues used inForce κ f
+  pub summary-is : summary′ ≡ paintSummary m s keys bits n summary logKeys logValues used inForce κ f
+  pub log-keys-are : logKeys′ ≡ paintLogKeys m s keys bits n summary logKeys logValues used inForce κ f
+  pub log-values-are : logValues′ ≡ paintLogValues m s keys bits n summary logKeys logValues used inForce κ f

@@ -21,20 +21,20 @@ abbrev pub restorePlan : ℕ → List Record → List Record → Plan
 restorePlan m l log = planOf m l (lastKey log) (lastContent log)
 
 -- an accepted list, and a log whose last entry has a correct content of its block
-pub record Restorable (m : ℕ) (keys bits : List ℕ) (n : ℕ) (logKeys logValues : List ℕ) (used : ℕ) : Type 0 where
+pub record Restorable (m : ℕ) (keys bits : List ℕ) (n : ℕ) (logKeys logValues : List ℕ) (inForce : ℕ) : Type 0 where
   pub deepest : m ≤ 10
   pub own : OwnList m keys bits n
-  pub ended : Ended logKeys logValues used
-  pub some-content : 0 < lastCount (recordsOf logKeys logValues used)
-  pub valid : validKey m (lastKey (recordsOf logKeys logValues used)) ≡ true
-  pub correct : lastContent (recordsOf logKeys logValues used)
-      ≡ contentOf m (pictureOf m (lastContent (recordsOf logKeys logValues used))) (lastKey (recordsOf logKeys logValues used))
+  pub ended : Ended logKeys logValues inForce
+  pub some-content : 0 < lastCount (recordsOf logKeys logValues inForce)
+  pub valid : validKey m (lastKey (recordsOf logKeys logValues inForce)) ≡ true
+  pub correct : lastContent (recordsOf logKeys logValues inForce)
+      ≡ contentOf m (pictureOf m (lastContent (recordsOf logKeys logValues inForce))) (lastKey (recordsOf logKeys logValues inForce))
 
 -- the answer of a taking back, and what it leaves in the five lent slices
-pub record TakenBack (m s : ℕ) (keys bits : List ℕ) (n : ℕ) (summary logKeys logValues : List ℕ) (used : ℕ) (r : Edited) (keys′ bits′ summary′ logKeys′ logValues′ : List ℕ) : Type 0 where
-  pub answer : r ≡ takeBack m s keys bits n summary logKeys logValues used
-  pub keys-are : keys′ ≡ takeBackKeys m s keys bits n summary logKeys logValues used
-  pub bits-are : bits′ ≡ takeBackBits m s keys bits n summary logKeys logValues used
-  pub summary-is : summary′ ≡ takeBackSummary m s keys bits n summary logKeys logValues used
-  pub log-keys-are : logKeys′ ≡ takeBackLogKeys m s keys bits n summary logKeys logValues used
-  pub log-values-are : logValues′ ≡ takeBackLogValues m s keys bits n summary logKeys logValues used
+pub record TakenBack (m s : ℕ) (keys bits : List ℕ) (n : ℕ) (summary logKeys logValues : List ℕ) (used inForce : ℕ) (r : Edited) (keys′ bits′ summary′ logKeys′ logValues′ : List ℕ) : Type 0 where
+  pub answer : r ≡ takeBack m s keys bits n summary logKeys logValues used inForce
+  pub keys-are : keys′ ≡ takeBackKeys m s keys bits n summary logKeys logValues used inForce
+  pub bits-are : bits′ ≡ takeBackBits m s keys bits n summary logKeys logValues used inForce
+  pub summary-is : summary′ ≡ takeBackSummary m s keys bits n summary logKeys logValues used inForce
+  pub log-keys-are : logKeys′ ≡ takeBackLogKeys m s keys bits n summary logKeys logValues used inForce
+  pub log-values-are : logValues′ ≡ takeBackLogValues m s keys bits n summary logKeys logValues used inForce

@@ -1,4 +1,4 @@
-// What paint and take back share: the refusals that they test first, and the decision that a call goes by.
+// What paint, take back and redo share: the refusals that they test first, and the decision that a call goes by.
 ghost use mathlib.Core.Path.{_≡_};
 ghost use Rattle.edit.specs.EditCallChecks.{firstRefusal};
 use list::check;
@@ -7,13 +7,13 @@ use log::entry::Entry;
 use put::plan::Plan;
 use summary::check as counts;
 
-// An edit is refused, or it goes by an entry of the log, which it writes or takes back, and by a plan for the list.
+// An edit is refused, or it goes by an entry of the log, which it writes, takes back or redoes, and by a plan for the list.
 pub enum Decision {
     Refused(u64),
     Granted(Entry, Plan),
 }
 
-// The refusals that both calls test first: 1, 4, 18, 5.
+// The refusals that the calls test first: 1, 4, 18, 5.
 pub fn first_refusal(
     m: u32,
     s: u32,
@@ -24,9 +24,10 @@ pub fn first_refusal(
     log_keys: &[u32],
     log_values: &[u32],
     used: usize,
+    in_force: usize,
 ) -> u64
     ensures { λ r. ⌜ r ≡ firstRefusal m s (now (keys .entry)) (now (bits .entry)) n (now (summary .entry))
-        (now («log_keys» .entry)) (now («log_values» .entry)) used ⌝ }
+        (now («log_keys» .entry)) (now («log_values» .entry)) used «in_force» ⌝ }
 {
     if settings::are_bad(m, s) {
         return 1;
@@ -37,7 +38,7 @@ pub fn first_refusal(
     if !counts::is_summary(m, s, keys, bits, n, summary) {
         return 18;
     }
-    if !log::is_sound(m, s, log_keys, log_values, used) {
+    if !log::is_log(m, s, log_keys, log_values, used, in_force) {
         return 5;
     }
     0

@@ -1,10 +1,14 @@
 // Empty (document 01).
 ghost use mathlib.Core.Path.{_≡_};
 ghost use Rattle.definitions.specs.Calls.Empty.{emptied};
+use definitions::Emptied;
 
-// Emptying sets the used count to 0 and touches nothing else.
-pub fn empty() -> u64
+// Emptying sets both counts to 0 and touches nothing else.
+pub fn empty() -> Emptied
     ensures { λ r. ⌜ r ≡ emptied ⌝ }
 {
-    0u64
+    Emptied {
+        used: 0,
+        in_force: 0,
+    }
 }

@@ -28,18 +28,18 @@ fn decide_room(
     n: usize,
     log_keys: &[u32],
     log_values: &[u32],
-    used: usize,
+    in_force: usize,
     key: u32,
     feature: u32,
 ) -> Decision
-    requires { ⌜ (Paintable m (now keys) (now bits) n key feature) × (used ≤ room (now «log_keys») (now «log_values»)) ⌝ }
+    requires { ⌜ (Paintable m (now keys) (now bits) n key feature) × («in_force» ≤ room (now «log_keys») (now «log_values»)) ⌝ }
     ensures { λ r. ⌜ r ≡ decided (roomRefusal m (recordsOf (now (keys .entry)) (now (bits .entry)) n) (now (keys .entry)) (now (bits .entry))
-        (now («log_keys» .entry)) (now («log_values» .entry)) used key feature)
-        (newEntry m (recordsOf (now (keys .entry)) (now (bits .entry)) n) used key)
+        (now («log_keys» .entry)) (now («log_values» .entry)) «in_force» key feature)
+        (newEntry m (recordsOf (now (keys .entry)) (now (bits .entry)) n) «in_force» key feature)
         (paintPlan m (recordsOf (now (keys .entry)) (now (bits .entry)) n) key feature) ⌝ }
 {
     let count = logging::content_length(m, keys, n, key);
-    let logged = used + entry::places(count);
+    let logged = in_force + entry::places(count);
     if log_keys.len() < logged {
         return Decision::Refused(10);
     }
@@ -56,8 +56,9 @@ fn decide_room(
     }
     let new = Entry {
         key,
-        start: used,
+        start: in_force,
         count,
+        feature,
     };
     Decision::Granted(new, found)
 }
@@ -73,15 +74,27 @@ fn decide(
     log_keys: &[u32],
     log_values: &[u32],
     used: usize,
+    in_force: usize,
     key: u32,
     feature: u32,
 ) -> Decision
     ensures { λ r. ⌜ r ≡ decided
-        (paintRefusal m s (now (keys .entry)) (now (bits .entry)) n (now (summary .entry)) (now («log_keys» .entry)) (now («log_values» .entry)) used key feature)
-        (newEntry m (recordsOf (now (keys .entry)) (now (bits .entry)) n) used key)
+        (paintRefusal m s (now (keys .entry)) (now (bits .entry)) n (now (summary .entry)) (now («log_keys» .entry)) (now («log_values» .entry)) used «in_force» key feature)
+        (newEntry m (recordsOf (now (keys .entry)) (now (bits .entry)) n) «in_force» key feature)
         (paintPlan m (recordsOf (now (keys .entry)) (now (bits .entry)) n) key feature) ⌝ }
 {
-    let early = decision::first_refusal(m, s, keys, bits, n, summary, log_keys, log_values, used);
+    let early = decision::first_refusal(
+        m,
+        s,
+        keys,
+        bits,
+        n,
+        summary,
+        log_keys,
+        log_values,
+        used,
+        in_force,
+    );
     if early != 0 {
         return Decision::Refused(early);
     }
@@ -92,11 +105,21 @@ fn decide(
     if s <= feature {
         return Decision::Refused(7);
     }
-    decide_room(m, keys, bits, n, log_keys, log_values, used, key, feature)
+    decide_room(
+        m,
+        keys,
+        bits,
+        n,
+        log_keys,
+        log_values,
+        in_force,
+        key,
+        feature,
+    )
 }
 
 // The block gets the feature: a content of one record is put into it. Gives the number of records afterwards.
-fn fill(
+pub fn fill(
     m: u32,
     keys: &mut [u32],
     bits: &mut [u32],
@@ -126,7 +149,8 @@ fn fill(
     )
 }
 
-// Every pixel of one block gets the feature, the summary follows, and the log gains an entry with the block's former content.
+// Every pixel of one block gets the feature, the summary follows, and the log gains an entry with the block's former content, over those
+// that could be redone.
 pub fn paint(
     m: u32,
     s: u32,
@@ -137,10 +161,11 @@ pub fn paint(
     log_keys: &mut [u32],
     log_values: &mut [u32],
     used: usize,
+    in_force: usize,
     key: u32,
     feature: u32,
 ) -> Edited
-    ensures { λ r. ⌜ Painted m s (now (keys .entry)) (now (bits .entry)) n (now (summary .entry)) (now («log_keys» .entry)) (now («log_values» .entry)) used key feature
+    ensures { λ r. ⌜ Painted m s (now (keys .entry)) (now (bits .entry)) n (now (summary .entry)) (now («log_keys» .entry)) (now («log_values» .entry)) used «in_force» key feature
         r (now (keys .exit)) (now (bits .exit)) (now (summary .exit)) (now («log_keys» .exit)) (now («log_values» .exit)) ⌝ }
 {
     let decision = decide(
@@ -153,6 +178,7 @@ pub fn paint(
         log_keys,
         log_values,
         used,
+        in_force,
         key,
         feature,
     );
@@ -162,16 +188,18 @@ pub fn paint(
                 refusal,
                 n: 0,
                 used: 0,
+                in_force: 0,
             };
         }
         Decision::Granted(new, found) => {
-            let logged = logging::log_content(m, keys, bits, n, new, log_keys, log_values);
+            let logged = logging::log_paint(m, keys, bits, n, new, log_keys, log_values, used);
             let after = fill(m, keys, bits, n, key, feature, found);
             recount::recount(m, s, keys, bits, after, summary, key);
             return Edited {
                 refusal: 0,
                 n: after as u64,
                 used: logged as u64,
+                in_force: logged as u64,
             };
         }
     }

@@ -1,4 +1,4 @@
-// Take back (document 01). It is decided before anything is written, 9 on the end result.
+// Take back (documents 01 and 02). It is decided before anything is written, 9 on the end result.
 ghost use mathlib.Core.Path.{_≡_};
 ghost use Prim.Native.Nat.{_+_, _≤_};
 ghost use Rattle.definitions.specs.Read.{room, recordsOf};
@@ -18,7 +18,7 @@ use put::plan;
 use put::plan::Plan;
 use put::putting;
 
-// The first refusal of a taking back that applies, or the log's last entry and the plan to put its content back.
+// The first refusal of a taking back that applies, or the last entry in force and the plan to put its content back.
 fn decide(
     m: u32,
     s: u32,
@@ -29,20 +29,32 @@ fn decide(
     log_keys: &[u32],
     log_values: &[u32],
     used: usize,
+    in_force: usize,
 ) -> Decision
     ensures { λ r. ⌜ r ≡ decided
-        (takeBackRefusal m s (now (keys .entry)) (now (bits .entry)) n (now (summary .entry)) (now («log_keys» .entry)) (now («log_values» .entry)) used)
-        (lastEntry (recordsOf (now («log_keys» .entry)) (now («log_values» .entry)) used))
-        (restorePlan m (recordsOf (now (keys .entry)) (now (bits .entry)) n) (recordsOf (now («log_keys» .entry)) (now («log_values» .entry)) used)) ⌝ }
+        (takeBackRefusal m s (now (keys .entry)) (now (bits .entry)) n (now (summary .entry)) (now («log_keys» .entry)) (now («log_values» .entry)) used «in_force»)
+        (lastEntry (recordsOf (now («log_keys» .entry)) (now («log_values» .entry)) «in_force»))
+        (restorePlan m (recordsOf (now (keys .entry)) (now (bits .entry)) n) (recordsOf (now («log_keys» .entry)) (now («log_values» .entry)) «in_force»)) ⌝ }
 {
-    let early = decision::first_refusal(m, s, keys, bits, n, summary, log_keys, log_values, used);
+    let early = decision::first_refusal(
+        m,
+        s,
+        keys,
+        bits,
+        n,
+        summary,
+        log_keys,
+        log_values,
+        used,
+        in_force,
+    );
     if early != 0 {
         return Decision::Refused(early);
     }
-    if used == 0 {
+    if in_force == 0 {
         return Decision::Refused(11);
     }
-    let last = entry::last_entry(log_keys, log_values, used);
+    let last = entry::last_entry(log_keys, log_values, in_force);
     let start = last.start;
     let count = last.count;
     let first = log_values[start];
@@ -90,7 +102,7 @@ fn put_back(
     )
 }
 
-// The content of the log's last entry goes back into its block, the summary follows, and the entry is removed.
+// The content of the last entry in force goes back into its block, the summary follows, and the entry is no longer in force. The log stays.
 pub fn take_back(
     m: u32,
     s: u32,
@@ -101,28 +113,41 @@ pub fn take_back(
     log_keys: &mut [u32],
     log_values: &mut [u32],
     used: usize,
+    in_force: usize,
 ) -> Edited
-    ensures { λ r. ⌜ TakenBack m s (now (keys .entry)) (now (bits .entry)) n (now (summary .entry)) (now («log_keys» .entry)) (now («log_values» .entry)) used
+    ensures { λ r. ⌜ TakenBack m s (now (keys .entry)) (now (bits .entry)) n (now (summary .entry)) (now («log_keys» .entry)) (now («log_values» .entry)) used «in_force»
         r (now (keys .exit)) (now (bits .exit)) (now (summary .exit)) (now («log_keys» .exit)) (now («log_values» .exit)) ⌝ }
 {
-    let decision = decide(m, s, keys, bits, n, summary, log_keys, log_values, used);
+    let decision = decide(
+        m,
+        s,
+        keys,
+        bits,
+        n,
+        summary,
+        log_keys,
+        log_values,
+        used,
+        in_force,
+    );
     match decision {
         Decision::Refused(refusal) => {
             return Edited {
                 refusal,
                 n: 0,
                 used: 0,
+                in_force: 0,
             };
         }
         Decision::Granted(last, found) => {
             let after = put_back(m, keys, bits, n, last, found, log_keys, log_values);
             recount::recount(m, s, keys, bits, after, summary, last.key);
             let start = last.start;
-            entry::clear_from(log_keys, log_values, start, used);
             return Edited {
                 refusal: 0,
                 n: after as u64,
-                used: start as u64,
+                used: used as u64,
+                in_force: start as u64,
             };
         }
     }

@@ -18,7 +18,7 @@ use Rattle.definitions.proofs.RasterOf.{raster-below}
 use Rattle.history.specs.History.{built, nothing, drawn}
 use Rattle.history.proofs.Drawn.{drawn-none}
 use Rattle.history.proofs.Shown.{shown-records}
-use Rattle.history.proofs.Past.{Legal, log-none, start}
+use Rattle.history.proofs.Past.{Legal, log-none, after-none, start, no-more}
 use Rattle.history.proofs.Slices.{list-built, list-shown}
 use Rattle.history.proofs.LogSlices.{log-empty}
 use Rattle.history.proofs.Invariant.{Invariant}
@@ -92,6 +92,7 @@ module _ (m s : ℕ) (raster keys bits summary : List ℕ) where
           logKeys = logKeys;
           logValues = logValues;
           used = 0;
+          inForce = 0;
         }
     unfolding built
     built-is logKeys logValues = rw (build-keys, build-bits, build-count, build-summary)
@@ -108,9 +109,10 @@ module _ (m s : ℕ) (raster keys bits summary : List ℕ) where
           settings = passed .settings;
           list = rw (drawn-none m (drawn m p []), drawn-none m p) (list-built (listOfRaster m raster) keys bits (passed .fits));
           counts = sym (ap (summaryOf m s) (drawn-none m (drawn m p []) ∙ drawn-none m p));
-          log = rw (log-none m (drawn m p [])) (log-empty logKeys logValues);
+          log = rw (log-none m (drawn m p []), after-none m (drawn m (drawn m p []) [])) (log-empty logKeys logValues);
           past =
               start
               (subst (λ q. Legal m s (room keys bits) q) (sym (drawn-none m p))
               (record { below = raster-below m s raster (passed .sized) (passed .below); fits = passed .fits }));
+          future = no-more;
         })

@@ -1,9 +1,10 @@
--- What holds after each call of a history: list and summary are those of the first picture with the paints applied, the log is that of the held paints, and
--- every picture of the past is legal. So the list, the summary and the log pass their checks, and a refused call keeps all this. Rests on Past and the slices.
-use Prim.Native.Nat.{ℕ, max}
+-- What holds after each call of a history: list and summary are those of the first picture with the paints applied, the log is that of the paints held and
+-- then of those undone, and every picture of the past and of the paints undone is legal. So the list, the summary and the log pass their checks, and a refused call keeps all this. Rests on Past and the slices.
+use Prim.Native.Nat.{ℕ, _+_, max}
 use mathlib.Core.Path.{_≡_, sym, ap, _∙_}
-use mathlib.Core.Bool.{true, false, not}
+use mathlib.Core.Bool.{Bool, true, false, not, _&&_}
 use mathlib.Core.List.{List}
+use native.Mathlib.Omega.{arith}
 use lib.Dec.{leb}
 use borrow.Author.Tests.{le-leb}
 use Rattle.keys.specs.Key.{rootKey}
@@ -12,18 +13,18 @@ use Rattle.definitions.specs.Picture.{Picture}
 use Rattle.definitions.specs.List.{listOfPicture}
 use Rattle.definitions.specs.Read.{room, recordsOf, pictureOf, isListOfBlock, isList}
 use Rattle.definitions.specs.Area.{summaryOf, noSummary}
-use Rattle.definitions.specs.Log.{isSound, noLog}
+use Rattle.definitions.specs.Log.{isSound, toRedo, noLog}
 use Rattle.definitions.specs.Refusal.{badSettings}
 use Rattle.definitions.proofs.ReadBack.{root-keys}
 use Rattle.definitions.proofs.SummaryOf.{summary-agree}
 use Rattle.definitions.proofs.SameNumbers.{summary-right}
 use Rattle.definitions.proofs.IsList.{list-passes}
-use Rattle.history.specs.History.{Buffers, Kept, Call, drawn, logOf, after, answer, keep}
+use Rattle.history.specs.History.{Buffers, Kept, Call, drawn, logOf, logAfter, after, answer, keep}
 use Rattle.history.proofs.Content.{map-back}
 use Rattle.history.proofs.Shown.{shown-records, shown-room}
 use Rattle.history.proofs.Slices.{HoldsList, list-shown, list-longest}
-use Rattle.history.proofs.LogSlices.{HoldsLog, log-longest}
-use Rattle.history.proofs.Past.{Past, past-legal, past-sound}
+use Rattle.history.proofs.LogSlices.{HoldsLog, log-counts, log-force, log-redo, log-longest}
+use Rattle.history.proofs.Past.{Past, past-legal, past-sound, Future, future-sound}
 
 -- the picture that can no longer be taken back
 abbrev pub ground : ℕ → Picture → Kept → Picture
@@ -39,8 +40,10 @@ pub record Invariant (m s : ℕ) (p : Picture) (keys bits logKeys logValues : Li
   pub settings : badSettings m s ≡ false
   pub list : HoldsList (listOfPicture m (now m p k)) inList keys bits (b .keys) (b .bits) (b .n)
   pub counts : b .summary ≡ summaryOf m s (now m p k)
-  pub log : HoldsLog (logOf m (ground m p k) (k .held)) inLog logKeys logValues (b .logKeys) (b .logValues) (b .used)
+  pub log : HoldsLog (logOf m (ground m p k) (k .held)) (logAfter m (now m p k) (k .undone)) inLog logKeys logValues
+      (b .logKeys) (b .logValues) (b .used) (b .inForce)
   pub past : Past m s (room keys bits) (ground m p k) (k .held)
+  pub future : Future m s (room keys bits) (now m p k) (k .undone)
 
 module _ {m s : ℕ} {p : Picture} {keys bits logKeys logValues : List ℕ} {b : Buffers} {k : Kept} {inList inLog : ℕ}
     (h : Invariant m s p keys bits logKeys logValues b k inList inLog) where
@@ -48,9 +51,13 @@ module _ {m s : ℕ} {p : Picture} {keys bits logKeys logValues : List ℕ} {b :
   pub now-records : recordsOf (b .keys) (b .bits) (b .n) ≡ listOfPicture m (now m p k)
   now-records = shown-records (list-shown (h .list))
 
-  -- the used records are the log of the held paints
-  pub now-log : recordsOf (b .logKeys) (b .logValues) (b .used) ≡ logOf m (ground m p k) (k .held)
-  now-log = shown-records (h .log .shown)
+  -- the records in force are the log of the held paints
+  pub now-force : recordsOf (b .logKeys) (b .logValues) (b .inForce) ≡ logOf m (ground m p k) (k .held)
+  now-force = log-force (h .log)
+
+  -- those to redo are the log of the paints undone
+  pub now-redo : toRedo (b .logKeys) (b .logValues) (b .used) (b .inForce) ≡ logAfter m (now m p k) (k .undone)
+  now-redo = log-redo (h .log)
 
   -- they are a list: refusal 4 does not come
   pub now-is-list : isList m s (b .keys) (b .bits) (b .n) ≡ true
@@ -68,14 +75,20 @@ module _ {m s : ℕ} {p : Picture} {keys bits logKeys logValues : List ℕ} {b :
       ∙ summary-right m s (pictureOf m (listOfPicture m (now m p k))) (b .summary)
       (h .counts ∙ sym (summary-agree m s (pictureOf m (listOfPicture m (now m p k))) (now m p k) (map-back m (now m p k))))
 
-  -- they are a sound log: refusal 5 does not come
-  pub now-is-log : noLog m s (b .logKeys) (b .logValues) (b .used) ≡ false
+  -- both are sound: refusal 5 does not come
+  pub now-is-log : noLog m s (b .logKeys) (b .logValues) (b .used) (b .inForce) ≡ false
   unfolding noLog
   now-is-log =
+      let counts = log-counts (h .log) in
+      let there : Bool = leb (b .used) (room (b .logKeys) (b .logValues)) in
+      let within : Bool = leb (b .inForce) (b .used) in
+      let front : Bool = isSound m s (recordsOf (b .logKeys) (b .logValues) (b .inForce)) in
       ap not
-      (and-both (leb (b .used) (room (b .logKeys) (b .logValues))) (isSound m s (recordsOf (b .logKeys) (b .logValues) (b .used)))
-      (le-leb _ _ (shown-room (h .log .shown)))
-      (ap (λ l. isSound m s l) now-log ∙ past-sound (h .past)))
+      (and-both (there && within && front) (isSound m s (toRedo (b .logKeys) (b .logValues) (b .used) (b .inForce)))
+      (and-both (there && within) front
+      (and-both there within (le-leb _ _ (shown-room (h .log .shown))) (le-leb (b .inForce) (b .used) (omega arith)))
+      (ap (λ l. isSound m s l) now-force ∙ past-sound (h .past)))
+      (ap (λ l. isSound m s l) now-redo ∙ future-sound (past-legal (h .past) .below) (h .future)))
 
 -- the call c keeps the invariant
 abbrev pub Keeps : ℕ → ℕ → Picture → List ℕ → List ℕ → List ℕ → List ℕ → Buffers → Kept → ℕ → ℕ → Call → Type 0

@@ -10,6 +10,7 @@ pub mod PaintStep
 pub mod PaintedFindings
 pub mod PaintAnswer
 pub mod TakeBackStep
+pub mod RedoStep
 pub mod EmptyStep
 pub mod BuildStep
 pub mod Theorem

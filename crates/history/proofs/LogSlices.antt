@@ -1,20 +1,24 @@
--- The slices of the log in a history: what they hold after a paint, a taking back and an emptying, and which places stay as lent.
+-- The slices of the log in a history: what they hold after a paint, a taking back, a redo and an emptying, and which places stay as
+-- lent.
 -- Rests on Buffers and Shown.
 use Prim.Native.Nat.{ℕ, _+_, _-_, _≤_, max}
-use mathlib.Core.Path.{_≡_, refl, sym, ap, _∙_}
-use mathlib.Core.List.{List, [], _++_}
+use mathlib.Core.Path.{_≡_, refl, sym, ap, _∙_, subst}
+use mathlib.Core.List.{List, [], _++_, append-assoc, append-nil}
 use native.Mathlib.Omega.{arith}
 use lib.ListN.{length, drop, replicate, length-append, length-map, length-replicate}
-use lib.Seq.{drop-drop}
+use lib.Seq.{drop-drop, drop-at}
 use Rattle.definitions.specs.List.{Record, keysOf, valuesOf}
-use Rattle.definitions.specs.Read.{room}
+use Rattle.definitions.specs.Read.{room, recordsOf}
 use Rattle.definitions.specs.Buffer.{overAt}
+use Rattle.definitions.specs.Log.{toRedo}
+use Rattle.definitions.specs.Calls.Paint.{logged}
 use Rattle.history.proofs.Buffers.{drop-over, length-over}
-use Rattle.history.proofs.Shown.{Shown, shown-over, shown-before, shown-none, shown-room}
+use Rattle.history.proofs.Shown.{Shown, shown-records, shown-first, shown-logged, shown-none, shown-room}
 
--- lent logKeys and logValues, the slices hold the log, and past the longest log so far what was lent
-pub record HoldsLog (log : List Record) (longest : ℕ) (logKeys logValues logKeys′ logValues′ : List ℕ) (used : ℕ) : Type 0 where
-  pub shown : Shown log used logKeys′ logValues′
+-- lent logKeys and logValues, the slices hold the records in force and then those to redo, and past the longest log so far what was lent
+pub record HoldsLog (front back : List Record) (longest : ℕ) (logKeys logValues logKeys′ logValues′ : List ℕ) (used inForce : ℕ) : Type 0 where
+  pub shown : Shown (front ++ back) used logKeys′ logValues′
+  pub force : inForce ≡ length front
   pub short : used ≤ longest
   pub keys-length : length logKeys′ ≡ length logKeys
   pub values-length : length logValues′ ≡ length logValues
@@ -37,72 +41,108 @@ stays : (longest place end : ℕ) (new slice slice′ : List ℕ) → place ≤ 
     → drop end (overAt place new slice′) ≡ drop end slice
 stays longest place end new slice slice′ h j long e = drop-over place end new slice′ h j ∙ drop-more longest end slice′ slice long e
 
--- an entry is put behind the log where there is room for it
-pub log-gains : {log : List Record} {longest : ℕ} {logKeys logValues logKeys′ logValues′ : List ℕ} {used : ℕ} (entry : List Record)
-    → HoldsLog log longest logKeys logValues logKeys′ logValues′ used
-    → used + length entry ≤ room logKeys′ logValues′
-    → HoldsLog (log ++ entry) (max longest (used + length entry)) logKeys logValues
-    (overAt used (keysOf entry) logKeys′) (overAt used (valuesOf entry) logValues′) (used + length entry)
-log-gains {log} {longest} {logKeys} {logValues} {logKeys′} {logValues′} {used} entry h enough =
-    let e = length-map entry (λ x. x .key) in
-    let f = length-map entry (λ x. x .value) in
-    let in-keys : used + length (keysOf entry) ≤ length logKeys′ = omega arith in
-    let in-values : used + length (valuesOf entry) ≤ length logValues′ = omega arith in
-    let end : ℕ = max longest (used + length entry) in
-    record {
-      shown = shown-over entry (h .shown);
-      short = omega arith;
-      keys-length = length-over used (keysOf entry) logKeys′ in-keys ∙ h .keys-length;
-      values-length = length-over used (valuesOf entry) logValues′ in-values ∙ h .values-length;
-      past-keys = stays longest used end (keysOf entry) logKeys logKeys′ (omega arith) (omega arith) (omega arith) (h .past-keys);
-      past-values = stays longest used end (valuesOf entry) logValues logValues′ (omega arith) (omega arith) (omega arith) (h .past-values);
-    }
+-- how far an entry and the zeroes behind it go
+over-size : (place used count : ℕ) (new : List ℕ) → length new ≡ count
+    → place + length (new ++ replicate (used - (place + length new)) 0) ≡ max used (place + count)
+over-size place used count new e =
+    let all = length-append new (replicate (used - (place + length new)) 0) in
+    let zeroes = length-replicate {A = ℕ} (used - (place + length new)) 0 in
+    over-sum place used count (length new) (length (replicate (used - (place + length new)) 0)) _ e zeroes all
+  where
+    over-sum : (place used count a z n : ℕ) → a ≡ count → z ≡ used - (place + a) → n ≡ a + z → place + n ≡ max used (place + count)
+    over-sum place used count a z n e f g = omega arith
 
--- the last entry is removed and its places become zero
-pub log-loses : (log entry : List Record) {longest : ℕ} {logKeys logValues logKeys′ logValues′ : List ℕ} {used : ℕ} (before : ℕ)
-    → before ≡ length log
-    → HoldsLog (log ++ entry) longest logKeys logValues logKeys′ logValues′ used
-    → HoldsLog log (max longest before) logKeys logValues
-    (overAt before (replicate (used - before) 0) logKeys′) (overAt before (replicate (used - before) 0) logValues′) before
-log-loses log entry {longest} {logKeys} {logValues} {logKeys′} {logValues′} {used} before e h =
-    let zeros : List ℕ = replicate (used - before) 0 in
-    let inside = shown-room (h .shown) in
-    let all : used ≡ length log + length entry = h .shown .count ∙ length-append log entry in
-    let end : before + length zeros ≡ used = ap (λ x. before + x) (length-replicate (used - before) 0) ∙ omega arith in
-    let short = h .short in
-    let in-keys : used ≤ length logKeys′ = omega arith in
-    let in-values : used ≤ length logValues′ = omega arith in
-    record {
-      shown = shown-before log entry before zeros zeros e (h .shown);
-      short = omega arith;
-      keys-length = length-over before zeros logKeys′ (omega arith) ∙ h .keys-length;
-      values-length = length-over before zeros logValues′ (omega arith) ∙ h .values-length;
-      past-keys = stays longest before (max longest before) zeros logKeys logKeys′ (omega arith) (omega arith) (omega arith) (h .past-keys);
-      past-values = stays longest before (max longest before) zeros logValues logValues′ (omega arith) (omega arith) (omega arith) (h .past-values);
-    }
+-- the records in force, those to redo, and how many both are
+module _ {front back : List Record} {longest : ℕ} {logKeys logValues logKeys′ logValues′ : List ℕ} {used inForce : ℕ}
+    (h : HoldsLog front back longest logKeys logValues logKeys′ logValues′ used inForce) where
+  pub log-counts : used ≡ inForce + length back
+  log-counts = let both = length-append front back in let e = h .force in h .shown .count ∙ omega arith
 
--- no log was longer than the longest
-pub log-longest : {log : List Record} {longest : ℕ} {logKeys logValues logKeys′ logValues′ : List ℕ} {used : ℕ}
-    → HoldsLog log longest logKeys logValues logKeys′ logValues′ used → longest ≡ max longest used
-log-longest h = omega arith
+  pub log-force : recordsOf logKeys′ logValues′ inForce ≡ front
+  log-force = shown-records (shown-first front back inForce (h .force) (h .shown))
 
--- the log is emptied, and nothing else is touched
-pub log-emptied : {log : List Record} {longest : ℕ} {logKeys logValues logKeys′ logValues′ : List ℕ} {used : ℕ}
-    → HoldsLog log longest logKeys logValues logKeys′ logValues′ used
-    → HoldsLog [] (max longest 0) logKeys logValues logKeys′ logValues′ 0
-log-emptied {longest = longest} {logKeys} {logValues} {logKeys′} {logValues′} h = record {
-  shown = shown-none logKeys′ logValues′;
-  short = omega arith;
-  keys-length = h .keys-length;
-  values-length = h .values-length;
-  past-keys = drop-more longest (max longest 0) logKeys′ logKeys (omega arith) (h .past-keys);
-  past-values = drop-more longest (max longest 0) logValues′ logValues (omega arith) (h .past-values);
-}
+  pub log-redo : toRedo logKeys′ logValues′ used inForce ≡ back
+  log-redo = ap (drop inForce) (shown-records (h .shown)) ∙ drop-at front back inForce (sym (h .force))
+
+  -- no log was longer than the longest
+  pub log-longest : longest ≡ max longest used
+  log-longest = let e = h .short in omega arith
+
+  -- the log is emptied, and nothing else is touched
+  pub log-emptied : HoldsLog [] [] (max longest 0) logKeys logValues logKeys′ logValues′ 0 0
+  log-emptied = record {
+    shown = shown-none logKeys′ logValues′;
+    force = refl;
+    short = omega arith;
+    keys-length = h .keys-length;
+    values-length = h .values-length;
+    past-keys = drop-more longest (max longest 0) logKeys′ logKeys (omega arith) (h .past-keys);
+    past-values = drop-more longest (max longest 0) logValues′ logValues (omega arith) (h .past-values);
+  }
+
+  -- an entry is put behind the records in force where there is room for it, and those to redo are dropped
+  pub log-gains : (entry : List Record) → inForce + length entry ≤ room logKeys′ logValues′
+      → HoldsLog (front ++ entry) [] (max longest (inForce + length entry)) logKeys logValues
+      (logged used inForce (keysOf entry) logKeys′) (logged used inForce (valuesOf entry) logValues′) (inForce + length entry) (inForce + length entry)
+  log-gains entry enough =
+      let a = length-map entry (λ x. x .key) in
+      let b = length-map entry (λ x. x .value) in
+      let inside = shown-room (h .shown) in
+      let short = h .short in
+      let end : ℕ = max longest (inForce + length entry) in
+      let newKeys : List ℕ = keysOf entry ++ replicate (used - (inForce + length (keysOf entry))) 0 in
+      let newValues : List ℕ = valuesOf entry ++ replicate (used - (inForce + length (valuesOf entry))) 0 in
+      let k = over-size inForce used (length entry) (keysOf entry) a in
+      let v = over-size inForce used (length entry) (valuesOf entry) b in
+      let both = shown-logged used entry (shown-first front back inForce (h .force) (h .shown)) in
+      record {
+        shown = rw append-nil both;
+        force = both .count;
+        short = omega arith;
+        keys-length = length-over inForce newKeys logKeys′ (omega arith) ∙ h .keys-length;
+        values-length = length-over inForce newValues logValues′ (omega arith) ∙ h .values-length;
+        past-keys = stays longest inForce end newKeys logKeys logKeys′ (omega arith) (omega arith) (omega arith) (h .past-keys);
+        past-values = stays longest inForce end newValues logValues logValues′ (omega arith) (omega arith) (omega arith) (h .past-values);
+      }
+
+-- the last entry in force is no longer in force, and nothing else is touched
+pub log-back : (front entry back : List Record) {longest : ℕ} {logKeys logValues logKeys′ logValues′ : List ℕ} {used inForce : ℕ}
+    → HoldsLog (front ++ entry) back longest logKeys logValues logKeys′ logValues′ used inForce
+    → HoldsLog front (entry ++ back) (max longest used) logKeys logValues logKeys′ logValues′ used (length front)
+log-back front entry back {longest} {logKeys} {logValues} {logKeys′} {logValues′} {used} h =
+    subst (λ n. HoldsLog front (entry ++ back) n logKeys logValues logKeys′ logValues′ used (length front)) (log-longest h)
+    (record {
+      shown = rw append-assoc at (h .shown);
+      force = refl;
+      short = h .short;
+      keys-length = h .keys-length;
+      values-length = h .values-length;
+      past-keys = h .past-keys;
+      past-values = h .past-values;
+    })
+
+-- the next entry is in force again, and nothing else is touched
+pub log-again : (front entry back : List Record) {longest : ℕ} {logKeys logValues logKeys′ logValues′ : List ℕ} {used inForce : ℕ}
+    → HoldsLog front (entry ++ back) longest logKeys logValues logKeys′ logValues′ used inForce
+    → HoldsLog (front ++ entry) back (max longest used) logKeys logValues logKeys′ logValues′ used (inForce + length entry)
+log-again front entry back {longest} {logKeys} {logValues} {logKeys′} {logValues′} {used} {inForce} h =
+    let both = length-append front entry in
+    subst (λ n. HoldsLog (front ++ entry) back n logKeys logValues logKeys′ logValues′ used (inForce + length entry)) (log-longest h)
+    (record {
+      shown = rw append-assoc (h .shown);
+      force = let e = h .force in omega arith;
+      short = h .short;
+      keys-length = h .keys-length;
+      values-length = h .values-length;
+      past-keys = h .past-keys;
+      past-values = h .past-values;
+    })
 
 -- an empty log in any slices
-pub log-empty : (logKeys logValues : List ℕ) → HoldsLog [] 0 logKeys logValues logKeys logValues 0
+pub log-empty : (logKeys logValues : List ℕ) → HoldsLog [] [] 0 logKeys logValues logKeys logValues 0 0
 log-empty logKeys logValues = record {
   shown = shown-none logKeys logValues;
+  force = refl;
   short = omega arith;
   keys-length = refl;
   values-length = refl;

@@ -26,8 +26,8 @@ use Rattle.history.proofs.Invariant.{now, Invariant, now-is-list, now-i
 
 -- the rows of the table after 8
 abbrev later : ℕ → ℕ → ℕ → ℕ → ℕ → List Record → List Record → List Row
-later s f roomOfList roomOfLog used entry l =
-    badFeature s f gives 7 ∷ ltb roomOfLog (used + length entry) gives 10 ∷ ltb roomOfList (length l) gives 9 ∷ []
+later s f roomOfList roomOfLog inForce entry l =
+    badFeature s f gives 7 ∷ ltb roomOfLog (inForce + length entry) gives 10 ∷ ltb roomOfList (length l) gives 9 ∷ []
 
 -- a key that is not valid is told first; for a valid one the later rows decide
 by-key : (m κ : ℕ) (rest rest′ : List Row) → (validKey m κ ≡ true → rest ≡ rest′) → first (badKey m κ gives 8 ∷ rest) ≡ first (badKey m κ gives 8 ∷ rest′)
@@ -40,16 +40,16 @@ module _ (m s : ℕ) (b : Buffers) (κ f : ℕ) where
   -- where the first four tests do not hold, the others decide
   past-four : badSettings m s ≡ false → noList m s (b .keys) (b .bits) (b .n) ≡ false
       → noSummary m s (pictureOf m (recordsOf (b .keys) (b .bits) (b .n))) (b .summary) ≡ false
-      → noLog m s (b .logKeys) (b .logValues) (b .used) ≡ false
+      → noLog m s (b .logKeys) (b .logValues) (b .used) (b .inForce) ≡ false
       → answer m s b (painting κ f)
-      ≡ first (badKey m κ gives 8 ∷ later s f (room (b .keys) (b .bits)) (room (b .logKeys) (b .logValues)) (b .used) (entryIn m b κ) (listAfter m b κ f))
+      ≡ first (badKey m κ gives 8 ∷ later s f (room (b .keys) (b .bits)) (room (b .logKeys) (b .logValues)) (b .inForce) (entryIn m b κ f) (listAfter m b κ f))
   unfolding answer paint paintRefusal
   past-four settings list counts log = first-later _ _ settings ∙ first-later _ _ list ∙ first-later _ _ counts ∙ first-later _ _ log
 
 -- a paint's answer, by the picture now
 pub paint-answer : {m s : ℕ} {p : Picture} {keys bits logKeys logValues : List ℕ} {b : Buffers} {k : Kept} {inList inLog : ℕ} (κ f : ℕ)
     → Invariant m s p keys bits logKeys logValues b k inList inLog
-    → answer m s b (painting κ f) ≡ paintAnswer m s (now m p k) (room keys bits) (room logKeys logValues) (b .used) κ f
+    → answer m s b (painting κ f) ≡ paintAnswer m s (now m p k) (room keys bits) (room logKeys logValues) (b .inForce) κ f
 unfolding paintAnswer
 paint-answer {m} {s} {p} {keys} {bits} {logKeys} {logValues} {b} {k} κ f h =
     let e = h .log .keys-length in
@@ -57,6 +57,6 @@ paint-answer {m} {s} {p} {keys} {bits} {logKeys} {logValues} {b} {k} κ f h =
     let inLog : room (b .logKeys) (b .logValues) ≡ room logKeys logValues = omega arith in
     past-four m s b κ f (h .settings) (ap not (now-is-list h)) (now-is-summary h) (now-is-log h)
     ∙ by-key m κ
-    (later s f (room (b .keys) (b .bits)) (room (b .logKeys) (b .logValues)) (b .used) (entryIn m b κ) (listAfter m b κ f))
-    (later s f (room keys bits) (room logKeys logValues) (b .used) (entryOf m (now m p k) κ) (listOfPicture m (paintIn m κ f (now m p k))))
-    (λ valid. rw (list-room (h .list), inLog, entry-now κ h valid, list-now κ h f))
+    (later s f (room (b .keys) (b .bits)) (room (b .logKeys) (b .logValues)) (b .inForce) (entryIn m b κ f) (listAfter m b κ f))
+    (later s f (room keys bits) (room logKeys logValues) (b .inForce) (entryOf m (now m p k) κ f) (listOfPicture m (paintIn m κ f (now m p k))))
+    (λ valid. rw (list-room (h .list), inLog, entry-now κ h f valid, list-now κ h f))

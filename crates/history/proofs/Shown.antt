@@ -1,16 +1,16 @@
--- Records in two slices: that the first n places hold them, how they are read back, and what the slices hold after a list is replaced, after an
--- entry is put behind a log, and after one is removed. Rests on Buffers.
-use Prim.Native.Nat.{ℕ, _+_, _≤_}
+-- Records in two slices: that the first n places hold them, how they are read back, and what the slices hold after a list is replaced and after
+-- an entry is put behind the records in force. Rests on the laws of lists.
+use Prim.Native.Nat.{ℕ, _+_, _-_, _≤_}
 use mathlib.Core.Path.{_≡_, refl, sym, ap, ap₂, _∙_}
-use mathlib.Core.List.{List, [], _∷_, _++_, map}
+use mathlib.Core.List.{List, [], _∷_, _++_, map, append-assoc}
 use native.Mathlib.Omega.{arith}
-use lib.ListN.{length, take, length-append, length-take, length-map}
+use lib.ListN.{length, take, drop, replicate, length-append, length-take, length-map}
 use lib.Seq.{take-at, take-take}
 use Rattle.definitions.specs.List.{Record, keysOf, valuesOf}
 use Rattle.definitions.specs.Read.{room, paired, recordsOf}
-use Rattle.definitions.specs.Buffer.{overAt, replaced}
+use Rattle.definitions.specs.Buffer.{replaced}
+use Rattle.definitions.specs.Calls.Paint.{logged}
 use Rattle.definitions.proofs.Records.{paired-back}
-use Rattle.history.proofs.Buffers.{take-over, take-before}
 
 -- the records are the first n of the two slices
 pub record Shown (l : List Record) (n : ℕ) (keys values : List ℕ) : Type 0 where
@@ -51,45 +51,47 @@ map-append : (f : Record → ℕ) (l l′ : List Record) → map f (l ++ l′) �
 map-append f [] l′ = refl
 map-append f (x ∷ l) l′ = ap (λ rest. f x ∷ rest) (map-append f l l′)
 
-take-more : (f : Record → ℕ) (log entry : List Record) (used : ℕ) (slice : List ℕ) → used ≤ length slice → take used slice ≡ map f log
-    → take (used + length entry) (overAt used (map f entry) slice) ≡ map f (log ++ entry)
-take-more f log entry used slice h e =
-    ap (λ x. take (used + x) (overAt used (map f entry) slice)) (sym (length-map entry f))
-    ∙ take-over used (map f entry) slice h
+-- of two runs of records the first stands first
+take-less : (f : Record → ℕ) (front back : List Record) (used k : ℕ) (slice : List ℕ) → k ≡ length front → k ≤ used
+    → take used slice ≡ map f (front ++ back) → take k slice ≡ map f front
+take-less f front back used k slice e h e′ =
+    sym (take-take k used slice h)
+    ∙ ap (λ l. take k l) (e′ ∙ map-append f front back)
+    ∙ take-at (map f front) (map f back) k (length-map front f ∙ sym e)
+
+pub shown-first : (front back : List Record) {used : ℕ} {keys values : List ℕ} (k : ℕ) → k ≡ length front → Shown (front ++ back) used keys values → Shown front k keys values
+shown-first front back {used} {keys} {values} k e h =
+    let both = length-append front back in
+    let all = h .count in
+    record {
+      count = e;
+      in-keys = take-less (λ x. x .key) front back used k keys e (omega arith) (h .in-keys);
+      in-values = take-less (λ x. x .value) front back used k values e (omega arith) (h .in-values);
+    }
+
+take-more : (f : Record → ℕ) (log entry : List Record) (used count : ℕ) (slice : List ℕ) → count ≤ length slice → take count slice ≡ map f log
+    → take (count + length entry) (logged used count (map f entry) slice) ≡ map f (log ++ entry)
+take-more f log entry used count slice h e =
+    let zeroes : List ℕ = replicate (used - (count + length (map f entry))) 0 in
+    let size = length-map entry f in
+    let front = length-append (take count slice) (map f entry) in
+    let first = length-take count slice in
+    ap (λ l. take (count + length entry) (take count slice ++ l))
+    (append-assoc (map f entry) zeroes (drop (count + length (map f entry ++ zeroes)) slice))
+    ∙ ap (take (count + length entry)) (sym (append-assoc (take count slice) (map f entry) _))
+    ∙ take-at (take count slice ++ map f entry) _ (count + length entry) (omega arith)
     ∙ ap (λ l. l ++ map f entry) e
     ∙ sym (map-append f log entry)
 
 -- an entry written behind a log is shown with it
-pub shown-over : {log : List Record} {used : ℕ} {keys values : List ℕ} (entry : List Record) → Shown log used keys values
-    → Shown (log ++ entry) (used + length entry) (overAt used (keysOf entry) keys) (overAt used (valuesOf entry) values)
-shown-over {log} {used} {keys} {values} entry h =
+pub shown-logged : {log : List Record} {count : ℕ} {keys values : List ℕ} (used : ℕ) (entry : List Record) → Shown log count keys values
+    → Shown (log ++ entry) (count + length entry) (logged used count (keysOf entry) keys) (logged used count (valuesOf entry) values)
+shown-logged {log} {count} {keys} {values} used entry h =
     let inside = shown-room h in
     record {
       count = ap (λ x. x + length entry) (h .count) ∙ sym (length-append log entry);
-      in-keys = take-more (λ x. x .key) log entry used keys (omega arith) (h .in-keys);
-      in-values = take-more (λ x. x .value) log entry used values (omega arith) (h .in-values);
-    }
-
-take-less : (f : Record → ℕ) (log entry : List Record) (used k : ℕ) (new slice : List ℕ) → k ≡ length log → k ≤ used → used ≤ length slice
-    → take used slice ≡ map f (log ++ entry) → take k (overAt k new slice) ≡ map f log
-take-less f log entry used k new slice e h room e′ =
-    take-before k new slice (omega arith)
-    ∙ sym (take-take k used slice h)
-    ∙ ap (λ l. take k l) (e′ ∙ map-append f log entry)
-    ∙ take-at (map f log) (map f entry) k (length-map log f ∙ sym e)
-
--- where an entry's places are written over, what stood before it is shown
-pub shown-before : (log entry : List Record) {used : ℕ} {keys values : List ℕ} (k : ℕ) (new new′ : List ℕ) → k ≡ length log
-    → Shown (log ++ entry) used keys values
-    → Shown log k (overAt k new keys) (overAt k new′ values)
-shown-before log entry {used} {keys} {values} k new new′ e h =
-    let inside = shown-room h in
-    let both = length-append log entry in
-    let all = h .count in
-    record {
-      count = e;
-      in-keys = take-less (λ x. x .key) log entry used k new keys e (omega arith) (omega arith) (h .in-keys);
-      in-values = take-less (λ x. x .value) log entry used k new′ values e (omega arith) (omega arith) (h .in-values);
+      in-keys = take-more (λ x. x .key) log entry used count keys (omega arith) (h .in-keys);
+      in-values = take-more (λ x. x .value) log entry used count values (omega arith) (h .in-values);
     }
 
 -- no records are shown by any slices

@@ -1,54 +1,56 @@
--- A taking back in a history: its answer is 11 where no paint is held and 0 otherwise, it cancels the latest paint held, and the invariant is kept.
+-- A taking back in a history: its answer is 11 where no paint is held and 0 otherwise, it undoes the latest paint held, and the invariant is kept.
 -- Rests on Invariant and Content.
-use Prim.Native.Nat.{ℕ, _-_, _≤_, max}
+use Prim.Native.Nat.{ℕ, _≤_, max}
 use mathlib.Core.Path.{_≡_, refl, ap, ap₂, _∙_}
 use mathlib.Core.Bool.{false, not}
 use mathlib.Core.List.{List, [], _∷_, _++_}
 use native.Mathlib.Omega.{arith}
-use lib.ListN.{length, replicate}
+use lib.ListN.{length}
 use lib.Dec.{ltb, eqb}
 use borrow.Author.Tests.{ne-eqb, eq-eqb, le-ltb}
 use Rattle.definitions.specs.Picture.{Picture}
 use Rattle.definitions.specs.List.{Record, listOfPicture, keysOf, valuesOf}
 use Rattle.definitions.specs.Read.{room, recordsOf, pictureOf}
-use Rattle.definitions.specs.Buffer.{overAt, replaced}
+use Rattle.definitions.specs.Buffer.{replaced}
 use Rattle.definitions.specs.Area.{summaryOf, noSummary}
+use Rattle.definitions.specs.Edit.{paintIn}
 use Rattle.definitions.specs.Log.{entryOf, beforeLast, noLog}
 use Rattle.definitions.specs.Refusal.{Row, _gives_, badSettings, noList}
-use Rattle.definitions.specs.Calls.TakeBack.{restoredPicture, restored, usedBefore, takeBackRefusal, takeBack, takeBackKeys, takeBackBits, takeBackSummary, takeBackLogKeys, takeBackLogValues}
+use Rattle.definitions.specs.Calls.TakeBack.{restoredPicture, restored, forceBefore, takeBackRefusal, takeBack, takeBackKeys, takeBackBits, takeBackSummary, takeBackLogKeys, takeBackLogValues}
 use Rattle.definitions.proofs.First.{this, later, holds-first, none-first}
-use Rattle.history.specs.History.{Buffers, Paint, Kept, takingBack, withoutLatest, drawn, logOf, after, answer, keep}
+use Rattle.history.specs.History.{Buffers, Paint, Kept, takingBack, withoutLatest, drawn, logOf, logAfter, after, answer, keep}
 use Rattle.history.specs.Claim.{backAnswer}
 use Rattle.history.proofs.Drawn.{drawn-latest}
 use Rattle.history.proofs.Content.{restored-list, restored-summary, without-entry}
-use Rattle.history.proofs.Past.{log-none, log-latest, log-some, past-legal, past-before, past-valid}
+use Rattle.history.proofs.Past.{log-none, log-latest, log-some, past-legal, past-before, past-valid, past-below, next, after-next}
 use Rattle.history.proofs.Slices.{list-replaced, list-room}
-use Rattle.history.proofs.LogSlices.{log-loses}
-use Rattle.history.proofs.Invariant.{Invariant, now-records, now-log, now-is-list, now-is-summary, now-is-log, Keeps, same-keeps}
+use Rattle.history.proofs.LogSlices.{log-back}
+use Rattle.history.proofs.Invariant.{Invariant, now-records, now-force, now-is-list, now-is-summary, now-is-log, Keeps, same-keeps}
 
 -- the list that taking back makes of these buffers
 abbrev listAfter : ℕ → Buffers → List Record
-listAfter m b = restored m (recordsOf (b .keys) (b .bits) (b .n)) (recordsOf (b .logKeys) (b .logValues) (b .used))
+listAfter m b = restored m (recordsOf (b .keys) (b .bits) (b .n)) (recordsOf (b .logKeys) (b .logValues) (b .inForce))
 
 -- the summary that it makes of theirs
 abbrev summaryAfter : ℕ → ℕ → Buffers → List ℕ
-summaryAfter m s b = summaryOf m s (restoredPicture m (recordsOf (b .keys) (b .bits) (b .n)) (recordsOf (b .logKeys) (b .logValues) (b .used)))
+summaryAfter m s b = summaryOf m s (restoredPicture m (recordsOf (b .keys) (b .bits) (b .n)) (recordsOf (b .logKeys) (b .logValues) (b .inForce)))
 
--- the used count without the last entry
+-- the records in force without the last entry
 abbrev before : Buffers → ℕ
-before b = length (beforeLast (recordsOf (b .logKeys) (b .logValues) (b .used)))
+before b = length (beforeLast (recordsOf (b .logKeys) (b .logValues) (b .inForce)))
 
--- the buffers with a list and a summary in place of theirs and the log cut to so many records
-abbrev withoutEntry : Buffers → List Record → List ℕ → ℕ → Buffers
-withoutEntry b l summary used =
+-- the buffers with a list and a summary in place of theirs and so many records in force
+abbrev pub withForce : Buffers → List Record → List ℕ → ℕ → Buffers
+withForce b l summary inForce =
     record {
       keys = replaced (b .n) (keysOf l) (b .keys);
       bits = replaced (b .n) (valuesOf l) (b .bits);
       n = length l;
       summary = summary;
-      logKeys = overAt used (replicate (b .used - used) 0) (b .logKeys);
-      logValues = overAt used (replicate (b .used - used) 0) (b .logValues);
-      used = used;
+      logKeys = b .logKeys;
+      logValues = b .logValues;
+      used = b .used;
+      inForce = inForce;
     }
 
 module _ (m s : ℕ) (b : Buffers) where
@@ -58,33 +60,33 @@ module _ (m s : ℕ) (b : Buffers) where
       badSettings m s gives 1
       ∷ noList m s (b .keys) (b .bits) (b .n) gives 4
       ∷ noSummary m s (pictureOf m (recordsOf (b .keys) (b .bits) (b .n))) (b .summary) gives 18
-      ∷ noLog m s (b .logKeys) (b .logValues) (b .used) gives 5
-      ∷ eqb (b .used) 0 gives 11
+      ∷ noLog m s (b .logKeys) (b .logValues) (b .used) (b .inForce) gives 5
+      ∷ eqb (b .inForce) 0 gives 11
       ∷ ltb (room (b .keys) (b .bits)) (length (listAfter m b)) gives 9
       ∷ []
 
-  -- with no records it gives 11
-  none-used : badSettings m s ≡ false → noList m s (b .keys) (b .bits) (b .n) ≡ false
+  -- with none in force it gives 11
+  none-held : badSettings m s ≡ false → noList m s (b .keys) (b .bits) (b .n) ≡ false
       → noSummary m s (pictureOf m (recordsOf (b .keys) (b .bits) (b .n))) (b .summary) ≡ false
-      → noLog m s (b .logKeys) (b .logValues) (b .used) ≡ false
-      → b .used ≡ 0
+      → noLog m s (b .logKeys) (b .logValues) (b .used) (b .inForce) ≡ false
+      → b .inForce ≡ 0
       → answer m s b takingBack ≡ 11
   unfolding answer takeBack takeBackRefusal
-  none-used settings list counts log e = holds-first {rows = rows} (later settings (later list (later counts (later log (this (eq-eqb _ 0 e) refl)))))
+  none-held settings list counts log e = holds-first {rows = rows} (later settings (later list (later counts (later log (this (eq-eqb _ 0 e) refl)))))
 
-  -- with records, and room for the list, it gives 0
-  some-used : badSettings m s ≡ false → noList m s (b .keys) (b .bits) (b .n) ≡ false
+  -- with some in force, and room for the list, it gives 0
+  some-held : badSettings m s ≡ false → noList m s (b .keys) (b .bits) (b .n) ≡ false
       → noSummary m s (pictureOf m (recordsOf (b .keys) (b .bits) (b .n))) (b .summary) ≡ false
-      → noLog m s (b .logKeys) (b .logValues) (b .used) ≡ false
-      → (b .used ≡ 0 → ⊥)
+      → noLog m s (b .logKeys) (b .logValues) (b .used) (b .inForce) ≡ false
+      → (b .inForce ≡ 0 → ⊥)
       → length (listAfter m b) ≤ room (b .keys) (b .bits)
       → answer m s b takingBack ≡ 0
   unfolding answer takeBack takeBackRefusal
-  some-used settings list counts log some fits = none-first rows (settings, (list, (counts, (log, (ne-eqb _ 0 some, (le-ltb _ _ fits, tt))))))
+  some-held settings list counts log some fits = none-first rows (settings, (list, (counts, (log, (ne-eqb _ 0 some, (le-ltb _ _ fits, tt))))))
 
-  -- an accepted taking back writes its list and its summary and cuts the log
-  back-done : answer m s b takingBack ≡ 0 → after m s b takingBack ≡ withoutEntry b (listAfter m b) (summaryAfter m s b) (before b)
-  unfolding answer after takeBack takeBackKeys takeBackBits takeBackSummary takeBackLogKeys takeBackLogValues usedBefore
+  -- an accepted taking back writes its list and its summary and leaves the log
+  back-done : answer m s b takingBack ≡ 0 → after m s b takingBack ≡ withForce b (listAfter m b) (summaryAfter m s b) (before b)
+  unfolding answer after takeBack takeBackKeys takeBackBits takeBackSummary takeBackLogKeys takeBackLogValues forceBefore
   back-done e = rw (eq-eqb _ 0 e)
 
   -- a refused one leaves the buffers
@@ -97,14 +99,14 @@ module _ (m s : ℕ) (b : Buffers) where
   unfolding keep
   keep-left k h = rw (ne-eqb _ 0 h)
 
-  -- an accepted one cancels the latest paint
-  keep-done : (x : Paint) (xs fixed : List Paint) → answer m s b takingBack ≡ 0
-      → keep takingBack (answer m s b takingBack) (record { held = x ∷ xs; fixed = fixed }) ≡ record { held = xs; fixed = fixed }
+  -- an accepted one undoes the latest paint
+  keep-done : (x : Paint) (xs undone fixed : List Paint) → answer m s b takingBack ≡ 0
+      → keep takingBack (answer m s b takingBack) (record { held = x ∷ xs; undone = undone; fixed = fixed }) ≡ record { held = xs; undone = x ∷ undone; fixed = fixed }
   unfolding keep withoutLatest
-  keep-done x xs fixed e = rw (eq-eqb _ 0 e)
+  keep-done x xs undone fixed e = rw (eq-eqb _ 0 e)
 
-module _ {m s : ℕ} {p : Picture} {keys bits logKeys logValues : List ℕ} {b : Buffers} {inList inLog : ℕ} (x : Paint) (xs fixed : List Paint)
-    (h : Invariant m s p keys bits logKeys logValues b (record { held = x ∷ xs; fixed = fixed }) inList inLog) where
+module _ {m s : ℕ} {p : Picture} {keys bits logKeys logValues : List ℕ} {b : Buffers} {inList inLog : ℕ} (x : Paint) (xs undone fixed : List Paint)
+    (h : Invariant m s p keys bits logKeys logValues b (record { held = x ∷ xs; undone = undone; fixed = fixed }) inList inLog) where
   -- the picture before the latest paint
   abbrev former : Picture
   former = drawn m (drawn m p fixed) xs
@@ -113,9 +115,9 @@ module _ {m s : ℕ} {p : Picture} {keys bits logKeys logValues : List ℕ} {b :
   abbrev formerLog : List Record
   formerLog = logOf m (drawn m p fixed) xs
 
-  -- the used records are that log and the paint's entry
-  log-is : recordsOf (b .logKeys) (b .logValues) (b .used) ≡ formerLog ++ entryOf m former (x .key)
-  log-is = now-log h ∙ log-latest m (drawn m p fixed) x xs
+  -- the records in force are that log and the paint's entry
+  log-is : recordsOf (b .logKeys) (b .logValues) (b .inForce) ≡ formerLog ++ entryOf m former (x .key) (x .feature)
+  log-is = now-force h ∙ log-latest m (drawn m p fixed) x xs
 
   -- the list afterwards is that of the picture before
   list-is : listAfter m b ≡ listOfPicture m former
@@ -129,9 +131,9 @@ module _ {m s : ℕ} {p : Picture} {keys bits logKeys logValues : List ℕ} {b :
       ap₂ (λ l log. summaryOf m s (restoredPicture m l log)) (now-records h ∙ ap (λ q. listOfPicture m q) (drawn-latest m (drawn m p fixed) x xs)) log-is
       ∙ restored-summary m s (x .key) (x .feature) former formerLog (past-valid (h .past))
 
-  -- the used count afterwards is that of the log before
+  -- as many are in force afterwards as the log before had
   before-is : before b ≡ length formerLog
-  before-is = ap (λ log. length (beforeLast log)) log-is ∙ ap length (without-entry m (x .key) former formerLog)
+  before-is = ap (λ log. length (beforeLast log)) log-is ∙ ap length (without-entry m (x .key) (x .feature) former formerLog)
 
   -- that list has room, as it had then: refusal 9 does not come
   former-fits : length (listOfPicture m former) ≤ room keys bits
@@ -140,55 +142,61 @@ module _ {m s : ℕ} {p : Picture} {keys bits logKeys logValues : List ℕ} {b :
   -- where a paint is held taking back is accepted
   held-accepted : answer m s b takingBack ≡ 0
   held-accepted =
-      let count = h .log .shown .count in
+      let count = h .log .force in
       let some = log-some m (drawn m p fixed) x xs in
-      some-used m s b (h .settings) (ap not (now-is-list h)) (now-is-summary h) (now-is-log h) (λ e. omega arith) (rw (list-is, list-room (h .list)) former-fits)
+      some-held m s b (h .settings) (ap not (now-is-list h)) (now-is-summary h) (now-is-log h) (λ e. omega arith) (rw (list-is, list-room (h .list)) former-fits)
 
   -- the buffers with that list and log keep the invariant
   back-holds : Invariant m s p keys bits logKeys logValues
-      (withoutEntry b (listOfPicture m former) (summaryOf m s former) (length formerLog))
-      (record { held = xs; fixed = fixed })
+      (withForce b (listOfPicture m former) (summaryOf m s former) (length formerLog))
+      (record { held = xs; undone = x ∷ undone; fixed = fixed })
       (max inList (length (listOfPicture m former)))
-      (max inLog (length formerLog))
+      (max inLog (b .used))
   back-holds = record {
     settings = h .settings;
     list = list-replaced (listOfPicture m former) (h .list) former-fits;
     counts = refl;
-    log = log-loses formerLog (entryOf m former (x .key)) (length formerLog) refl (rw (log-latest m (drawn m p fixed) x xs) at (h .log));
+    log =
+        rw (after-next m former x undone)
+        (log-back formerLog (entryOf m former (x .key) (x .feature)) (logAfter m (paintIn m (x .key) (x .feature) former) undone)
+        (rw (log-latest m (drawn m p fixed) x xs, drawn-latest m (drawn m p fixed) x xs) at (h .log)));
     past = past-before (h .past);
+    future =
+        next x (past-valid (h .past)) (past-below (h .past)) (rw (drawn-latest m (drawn m p fixed) x xs) at (past-legal (h .past)))
+        (rw (drawn-latest m (drawn m p fixed) x xs) at (h .future));
   }
 
-  held-keeps : Keeps m s p keys bits logKeys logValues b (record { held = x ∷ xs; fixed = fixed }) inList inLog takingBack
+  held-keeps : Keeps m s p keys bits logKeys logValues b (record { held = x ∷ xs; undone = undone; fixed = fixed }) inList inLog takingBack
   held-keeps =
       rw (
-        keep-done m s b x xs fixed held-accepted,
+        keep-done m s b x xs undone fixed held-accepted,
         back-done m s b held-accepted
-            ∙ ap₂ (λ l used. withoutEntry b l (summaryAfter m s b) used) list-is before-is
-            ∙ ap (λ counts. withoutEntry b (listOfPicture m former) counts (length formerLog)) summary-is,
+            ∙ ap₂ (λ l n. withForce b l (summaryAfter m s b) n) list-is before-is
+            ∙ ap (λ counts. withForce b (listOfPicture m former) counts (length formerLog)) summary-is,
       )
       back-holds
 
 -- where no paint is held the answer is 11
-none-answer : {m s : ℕ} {p : Picture} {keys bits logKeys logValues : List ℕ} {b : Buffers} {fixed : List Paint} {inList inLog : ℕ}
-    → Invariant m s p keys bits logKeys logValues b (record { held = []; fixed = fixed }) inList inLog
+none-answer : {m s : ℕ} {p : Picture} {keys bits logKeys logValues : List ℕ} {b : Buffers} {undone fixed : List Paint} {inList inLog : ℕ}
+    → Invariant m s p keys bits logKeys logValues b (record { held = []; undone = undone; fixed = fixed }) inList inLog
     → answer m s b takingBack ≡ 11
 none-answer {m} {s} {p} {b = b} {fixed = fixed} h =
-    none-used m s b (h .settings) (ap not (now-is-list h)) (now-is-summary h) (now-is-log h) (h .log .shown .count ∙ ap length (log-none m (drawn m p fixed)))
+    none-held m s b (h .settings) (ap not (now-is-list h)) (now-is-summary h) (now-is-log h) (h .log .force ∙ ap length (log-none m (drawn m p fixed)))
 
 module _ {m s : ℕ} {p : Picture} {keys bits logKeys logValues : List ℕ} {b : Buffers} {inList inLog : ℕ} where
   -- taking back is refused, with 11, exactly when no paint is held
-  pub back-answer : (held fixed : List Paint)
-      → Invariant m s p keys bits logKeys logValues b (record { held = held; fixed = fixed }) inList inLog
+  pub back-answer : (held undone fixed : List Paint)
+      → Invariant m s p keys bits logKeys logValues b (record { held = held; undone = undone; fixed = fixed }) inList inLog
       → answer m s b takingBack ≡ backAnswer held
   unfolding backAnswer
-  back-answer [] fixed h = none-answer h
-  back-answer (x ∷ xs) fixed h = held-accepted x xs fixed h
+  back-answer [] undone fixed h = none-answer h
+  back-answer (x ∷ xs) undone fixed h = held-accepted x xs undone fixed h
 
   -- a taking back keeps the invariant
-  pub back-keeps : (held fixed : List Paint)
-      → Invariant m s p keys bits logKeys logValues b (record { held = held; fixed = fixed }) inList inLog
-      → Keeps m s p keys bits logKeys logValues b (record { held = held; fixed = fixed }) inList inLog takingBack
-  back-keeps [] fixed h =
+  pub back-keeps : (held undone fixed : List Paint)
+      → Invariant m s p keys bits logKeys logValues b (record { held = held; undone = undone; fixed = fixed }) inList inLog
+      → Keeps m s p keys bits logKeys logValues b (record { held = held; undone = undone; fixed = fixed }) inList inLog takingBack
+  back-keeps [] undone fixed h =
       let refused : answer m s b takingBack ≡ 0 → ⊥ = λ e. (let a = none-answer h in omega arith) in
-      same-keeps takingBack (back-left m s b refused) (keep-left m s b (record { held = []; fixed = fixed }) refused) h
-  back-keeps (x ∷ xs) fixed h = held-keeps x xs fixed h
+      same-keeps takingBack (back-left m s b refused) (keep-left m s b (record { held = []; undone = undone; fixed = fixed }) refused) h
+  back-keeps (x ∷ xs) undone fixed h = held-keeps x xs undone fixed h

@@ -1,5 +1,6 @@
--- The history theorem: after any run of paints, takings back and log emptyings from an accepted build and an empty log, refused calls included, the
--- buffers hold the list and the summary that a fresh build of the raster left gives, and taking back is refused exactly when no paint is held. Rests on the steps.
+-- The history theorem: after any run of paints, takings back, redos and log emptyings from an accepted build and an empty log, refused calls included, the
+-- buffers hold the list and the summary that a fresh build of the raster left gives, taking back is refused exactly when no paint is held, and redo exactly when none
+-- is there to redo. Rests on the steps.
 use Prim.Native.Nat.{ℕ, _≤_, max}
 use mathlib.Core.Path.{_≡_, sym, ap, subst₂, _∙_}
 use mathlib.Core.Bool.{false}
@@ -16,16 +17,17 @@ use Rattle.definitions.specs.Calls.Survey.{surveyRefusal}
 use Rattle.definitions.proofs.ListOf.{list-agree}
 use Rattle.definitions.proofs.SummaryOf.{summary-agree}
 use Rattle.definitions.proofs.RasterOf.{rasterOf, raster-length, raster-back, raster-good, length-from}
-use Rattle.history.specs.History.{Call, painting, takingBack, emptying, Buffers, Kept, nothing, built, after, answer, run, keep, kept, longestList, longestLog, pictureLeft, rasterLeft}
+use Rattle.history.specs.History.{Call, painting, takingBack, redoing, emptying, Buffers, Kept, nothing, built, after, answer, run, keep, kept, longestList, longestLog, pictureLeft, rasterLeft}
 use Rattle.history.specs.Claim.{AsBuilt, History}
 use Rattle.history.proofs.Past.{past-legal}
 use Rattle.history.proofs.Slices.{list-longest, list-keys-length, list-bits-length}
-use Rattle.history.proofs.LogSlices.{log-longest}
-use Rattle.history.proofs.Invariant.{now, Invariant, now-records, now-log, now-is-list, now-is-summary, now-is-log, Keeps}
+use Rattle.history.proofs.LogSlices.{log-counts, log-longest}
+use Rattle.history.proofs.Invariant.{now, Invariant, now-records, now-force, now-redo, now-is-list, now-is-summary, now-is-log, Keeps}
 use Rattle.history.proofs.BuildStep.{Builds, build-passed, build-accepted, build-count, build-summary, build-records, build-holds}
 use Rattle.history.proofs.PaintStep.{paint-keeps}
 use Rattle.history.proofs.PaintAnswer.{paint-answer}
 use Rattle.history.proofs.TakeBackStep.{back-answer, back-keeps}
+use Rattle.history.proofs.RedoStep.{redo-answer, redo-keeps}
 use Rattle.history.proofs.EmptyStep.{ground-emptied, empty-keeps}
 
 -- every call keeps the invariant
@@ -33,7 +35,8 @@ pub call-keeps : {m s : ℕ} {p : Picture} {keys bits logKeys logValues : List �
     → Invariant m s p keys bits logKeys logValues b k inList inLog
     → Keeps m s p keys bits logKeys logValues b k inList inLog c
 call-keeps (painting κ f) h = paint-keeps κ f h
-call-keeps {k = k} takingBack h = back-keeps (k .held) (k .fixed) h
+call-keeps {k = k} takingBack h = back-keeps (k .held) (k .undone) (k .fixed) h
+call-keeps {k = k} redoing h = redo-keeps (k .held) (k .undone) (k .fixed) h
 call-keeps emptying h = empty-keeps h
 
 -- a run's longest list and log are at least those that it begins with
@@ -121,8 +124,12 @@ module _ {m s : ℕ} (raster summary : List ℕ) (counted : badSummaryLength m s
         is-list = now-is-list h;
         is-summary = now-is-summary h;
         is-log = now-is-log h;
-        log = now-log h;
-        back = back-answer (k .held) (k .fixed) h;
+        in-force = now-force h;
+        redoable = rw (left-is m raster k) (now-redo h);
+        force-count = h .log .force;
+        used-count = rw (left-is m raster k) (log-counts (h .log));
+        back = back-answer (k .held) (k .undone) (k .fixed) h;
+        again = redo-answer (k .held) (k .undone) (k .fixed) h;
         paints = λ κ f. rw (left-is m raster k) (paint-answer κ f h);
         keys-length = list-keys-length (h .list);
         bits-length = list-bits-length (h .list);

@@ -1,5 +1,5 @@
--- What demand 3 claims of the buffers that a history leaves: they hold the list and the summary that a fresh build of the raster left gives, and taking back is refused
--- exactly when no paint is held. Rests on History.
+-- What demand 3 claims of the buffers that a history leaves: they hold the list and the summary that a fresh build of the raster left gives, taking back is refused
+-- exactly when no paint is held, and redo exactly when none is there to redo. Rests on History.
 use Prim.Native.Nat.{ℕ, _+_}
 use mathlib.Core.Path.{_≡_}
 use mathlib.Core.Bool.{true, false}
@@ -12,24 +12,29 @@ use Rattle.definitions.specs.Read.{room, recordsOf, pictureOf, isList}
 use Rattle.definitions.specs.Buffer.{replaced}
 use Rattle.definitions.specs.Area.{summaryOf, noSummary}
 use Rattle.definitions.specs.Edit.{paintIn}
-use Rattle.definitions.specs.Log.{entryOf, noLog}
+use Rattle.definitions.specs.Log.{entryOf, toRedo, noLog}
 use Rattle.definitions.specs.Refusal.{_gives_, first, badKey, badFeature}
 use Rattle.definitions.specs.Calls.Survey.{survey, surveyRefusal, surveyKeys, surveyBits, surveySummary}
-use Rattle.history.specs.History.{Call, painting, takingBack, Buffers, Paint, Kept, answer, built, run, longestList, longestLog, kept, nothing, drawn, logOf, pictureLeft, rasterLeft}
+use Rattle.history.specs.History.{Call, painting, takingBack, redoing, Buffers, Paint, Kept, answer, built, run, longestList, longestLog, kept, nothing, drawn, logOf, logAfter, pictureLeft, rasterLeft}
 
 -- 11 where no paint is held, and else 0
 unfoldable pub backAnswer : List Paint → ℕ
 backAnswer [] = 11
 backAnswer (x ∷ xs) = 0
 
+-- 20 where no paint is there to redo, and else 0
+unfoldable pub redoAnswer : List Paint → ℕ
+redoAnswer [] = 20
+redoAnswer (x ∷ xs) = 0
+
 -- a paint is refused by its own key and feature, by the log's room for the entry, or by the list's room for the list of the painted picture, in
--- this order; roomOfList and roomOfLog are places, used is the log's count
+-- this order; roomOfList and roomOfLog are places, inForce counts the records in force
 unfoldable pub paintAnswer : ℕ → ℕ → Picture → ℕ → ℕ → ℕ → ℕ → ℕ → ℕ
-paintAnswer m s p roomOfList roomOfLog used κ f =
+paintAnswer m s p roomOfList roomOfLog inForce κ f =
     first
     (badKey m κ gives 8
     ∷ badFeature s f gives 7
-    ∷ ltb roomOfLog (used + length (entryOf m p κ)) gives 10
+    ∷ ltb roomOfLog (inForce + length (entryOf m p κ f)) gives 10
     ∷ ltb roomOfList (length (listOfPicture m (paintIn m κ f p))) gives 9
     ∷ [])
 
@@ -59,13 +64,20 @@ pub record AsBuilt (m s : ℕ) (raster keys bits summary logKeys logValues : Lis
   -- refusals 4, 18 and 5 do not come
   pub is-list : isList m s (b .keys) (b .bits) (b .n) ≡ true
   pub is-summary : noSummary m s (pictureOf m (recordsOf (b .keys) (b .bits) (b .n))) (b .summary) ≡ false
-  pub is-log : noLog m s (b .logKeys) (b .logValues) (b .used) ≡ false
-  -- the log has the entries of the held paints, each of the picture that the paint found, and no others
-  pub log : recordsOf (b .logKeys) (b .logValues) (b .used) ≡ logOf m (drawn m (pictureOfRaster m raster) (k .fixed)) (k .held)
+  pub is-log : noLog m s (b .logKeys) (b .logValues) (b .used) (b .inForce) ≡ false
+  -- the records in force are the entries of the held paints, each of the picture that the paint found, and no others
+  pub in-force : recordsOf (b .logKeys) (b .logValues) (b .inForce) ≡ logOf m (drawn m (pictureOfRaster m raster) (k .fixed)) (k .held)
+  -- the records to redo are the entries of the paints undone, each of the picture that it found, and no others
+  pub redoable : toRedo (b .logKeys) (b .logValues) (b .used) (b .inForce) ≡ logAfter m (pictureLeft m raster k) (k .undone)
+  -- the counts are theirs
+  pub force-count : b .inForce ≡ length (logOf m (drawn m (pictureOfRaster m raster) (k .fixed)) (k .held))
+  pub used-count : b .used ≡ b .inForce + length (logAfter m (pictureLeft m raster k) (k .undone))
   -- taking back is refused, with 11, exactly when no paint is held
   pub back : answer m s b takingBack ≡ backAnswer (k .held)
+  -- redo is refused, with 20, exactly when no paint is there to redo
+  pub again : answer m s b redoing ≡ redoAnswer (k .undone)
   -- paint is refused only by key, feature or room
-  pub paints : (κ f : ℕ) → answer m s b (painting κ f) ≡ paintAnswer m s (pictureLeft m raster k) (room keys bits) (room logKeys logValues) (b .used) κ f
+  pub paints : (κ f : ℕ) → answer m s b (painting κ f) ≡ paintAnswer m s (pictureLeft m raster k) (room keys bits) (room logKeys logValues) (b .inForce) κ f
   -- the slices keep their lengths
   pub keys-length : length (b .keys) ≡ length keys
   pub bits-length : length (b .bits) ≡ length bits

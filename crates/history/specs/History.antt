@@ -1,5 +1,5 @@
--- Histories: any run of paints, takings back and log emptyings on the lent buffers, refused calls included, by the definitions that the promises
--- of build, paint, take back and empty cite. Beside it, without a look at the buffers: the paints still in the log, and the raster that is left.
+-- Histories: any run of paints, takings back, redos and log emptyings on the lent buffers, refused calls included, by the definitions that the promises
+-- of build, paint, take back, redo and empty cite. Beside it, without a look at the buffers: the paints still in the log, and the raster that is left.
 use Prim.Native.Nat.{ℕ, _^_, max}
 use mathlib.Core.List.{List, [], _∷_, _++_}
 use Rattle.definitions.specs.Picture.{Picture, pictureOfRaster}
@@ -11,15 +11,17 @@ use Rattle.definitions.specs.Refusal.{accepted}
 use Rattle.definitions.specs.Calls.Survey.{survey, surveyKeys, surveyBits, surveySummary}
 use Rattle.definitions.specs.Calls.Paint.{paint, paintKeys, paintBits, paintSummary, paintLogKeys, paintLogValues}
 use Rattle.definitions.specs.Calls.TakeBack.{takeBack, takeBackKeys, takeBackBits, takeBackSummary, takeBackLogKeys, takeBackLogValues}
+use Rattle.definitions.specs.Calls.Redo.{redo, redoKeys, redoBits, redoSummary, redoLogKeys, redoLogValues}
 use Rattle.definitions.specs.Calls.Empty.{emptied}
 
 -- a call of a history; key and feature are any numbers
 pub data Call : Type 0 where
   painting : (κ f : ℕ) → Call
   takingBack : Call
+  redoing : Call
   emptying : Call
 
--- the lent buffers and the caller's two counts
+-- the lent buffers and the caller's three counts
 pub record Buffers : Type 0 where
   pub keys : List ℕ
   pub bits : List ℕ
@@ -28,6 +30,7 @@ pub record Buffers : Type 0 where
   pub logKeys : List ℕ
   pub logValues : List ℕ
   pub used : ℕ
+  pub inForce : ℕ
 
 -- after build, with an empty log in any two slices
 unfoldable pub built : (m s : ℕ) (raster keys bits summary logKeys logValues : List ℕ) → Buffers
@@ -39,41 +42,57 @@ built m s raster keys bits summary logKeys logValues =
       summary = surveySummary m s raster keys bits summary;
       logKeys = logKeys;
       logValues = logValues;
-      used = emptied;
+      used = emptied .used;
+      inForce = emptied .«in_force»;
     }
 
 -- the refusal number that a call gives; 0 where it is accepted
 unfoldable pub answer : ℕ → ℕ → Buffers → Call → ℕ
-answer m s b (painting κ f) = paint m s (b .keys) (b .bits) (b .n) (b .summary) (b .logKeys) (b .logValues) (b .used) κ f .refusal
-answer m s b takingBack = takeBack m s (b .keys) (b .bits) (b .n) (b .summary) (b .logKeys) (b .logValues) (b .used) .refusal
+answer m s b (painting κ f) = paint m s (b .keys) (b .bits) (b .n) (b .summary) (b .logKeys) (b .logValues) (b .used) (b .inForce) κ f .refusal
+answer m s b takingBack = takeBack m s (b .keys) (b .bits) (b .n) (b .summary) (b .logKeys) (b .logValues) (b .used) (b .inForce) .refusal
+answer m s b redoing = redo m s (b .keys) (b .bits) (b .n) (b .summary) (b .logKeys) (b .logValues) (b .used) (b .inForce) .refusal
 answer m s b emptying = 0
 
 -- the buffers after a call: the caller takes the counts of an accepted call's result, and keeps his own where it is refused
 unfoldable pub after : ℕ → ℕ → Buffers → Call → Buffers
 after m s b (painting κ f) =
-    let result = paint m s (b .keys) (b .bits) (b .n) (b .summary) (b .logKeys) (b .logValues) (b .used) κ f in
+    let result = paint m s (b .keys) (b .bits) (b .n) (b .summary) (b .logKeys) (b .logValues) (b .used) (b .inForce) κ f in
     record {
-      keys = paintKeys m s (b .keys) (b .bits) (b .n) (b .summary) (b .logKeys) (b .logValues) (b .used) κ f;
-      bits = paintBits m s (b .keys) (b .bits) (b .n) (b .summary) (b .logKeys) (b .logValues) (b .used) κ f;
+      keys = paintKeys m s (b .keys) (b .bits) (b .n) (b .summary) (b .logKeys) (b .logValues) (b .used) (b .inForce) κ f;
+      bits = paintBits m s (b .keys) (b .bits) (b .n) (b .summary) (b .logKeys) (b .logValues) (b .used) (b .inForce) κ f;
       n = accepted (result .refusal) (result .n) (b .n);
-      summary = paintSummary m s (b .keys) (b .bits) (b .n) (b .summary) (b .logKeys) (b .logValues) (b .used) κ f;
-      logKeys = paintLogKeys m s (b .keys) (b .bits) (b .n) (b .summary) (b .logKeys) (b .logValues) (b .used) κ f;
-      logValues = paintLogValues m s (b .keys) (b .bits) (b .n) (b .summary) (b .logKeys) (b .logValues) (b .used) κ f;
+      summary = paintSummary m s (b .keys) (b .bits) (b .n) (b .summary) (b .logKeys) (b .logValues) (b .used) (b .inForce) κ f;
+      logKeys = paintLogKeys m s (b .keys) (b .bits) (b .n) (b .summary) (b .logKeys) (b .logValues) (b .used) (b .inForce) κ f;
+      logValues = paintLogValues m s (b .keys) (b .bits) (b .n) (b .summary) (b .logKeys) (b .logValues) (b .used) (b .inForce) κ f;
       used = accepted (result .refusal) (result .used) (b .used);
+      inForce = accepted (result .refusal) (result .«in_force») (b .inForce);
     }
 after m s b takingBack =
-    let result = takeBack m s (b .keys) (b .bits) (b .n) (b .summary) (b .logKeys) (b .logValues) (b .used) in
+    let result = takeBack m s (b .keys) (b .bits) (b .n) (b .summary) (b .logKeys) (b .logValues) (b .used) (b .inForce) in
     record {
-      keys = takeBackKeys m s (b .keys) (b .bits) (b .n) (b .summary) (b .logKeys) (b .logValues) (b .used);
-      bits = takeBackBits m s (b .keys) (b .bits) (b .n) (b .summary) (b .logKeys) (b .logValues) (b .used);
+      keys = takeBackKeys m s (b .keys) (b .bits) (b .n) (b .summary) (b .logKeys) (b .logValues) (b .used) (b .inForce);
+      bits = takeBackBits m s (b .keys) (b .bits) (b .n) (b .summary) (b .logKeys) (b .logValues) (b .used) (b .inForce);
       n = accepted (result .refusal) (result .n) (b .n);
-      summary = takeBackSummary m s (b .keys) (b .bits) (b .n) (b .summary) (b .logKeys) (b .logValues) (b .used);
-      logKeys = takeBackLogKeys m s (b .keys) (b .bits) (b .n) (b .summary) (b .logKeys) (b .logValues) (b .used);
-      logValues = takeBackLogValues m s (b .keys) (b .bits) (b .n) (b .summary) (b .logKeys) (b .logValues) (b .used);
+      summary = takeBackSummary m s (b .keys) (b .bits) (b .n) (b .summary) (b .logKeys) (b .logValues) (b .used) (b .inForce);
+      logKeys = takeBackLogKeys m s (b .keys) (b .bits) (b .n) (b .summary) (b .logKeys) (b .logValues) (b .used) (b .inForce);
+      logValues = takeBackLogValues m s (b .keys) (b .bits) (b .n) (b .summary) (b .logKeys) (b .logValues) (b .used) (b .inForce);
       used = accepted (result .refusal) (result .used) (b .used);
+      inForce = accepted (result .refusal) (result .«in_force») (b .inForce);
+    }
+after m s b redoing =
+    let result = redo m s (b .keys) (b .bits) (b .n) (b .summary) (b .logKeys) (b .logValues) (b .used) (b .inForce) in
+    record {
+      keys = redoKeys m s (b .keys) (b .bits) (b .n) (b .summary) (b .logKeys) (b .logValues) (b .used) (b .inForce);
+      bits = redoBits m s (b .keys) (b .bits) (b .n) (b .summary) (b .logKeys) (b .logValues) (b .used) (b .inForce);
+      n = accepted (result .refusal) (result .n) (b .n);
+      summary = redoSummary m s (b .keys) (b .bits) (b .n) (b .summary) (b .logKeys) (b .logValues) (b .used) (b .inForce);
+      logKeys = redoLogKeys m s (b .keys) (b .bits) (b .n) (b .summary) (b .logKeys) (b .logValues) (b .used) (b .inForce);
+      logValues = redoLogValues m s (b .keys) (b .bits) (b .n) (b .summary) (b .logKeys) (b .logValues) (b .used) (b .inForce);
+      used = accepted (result .refusal) (result .used) (b .used);
+      inForce = accepted (result .refusal) (result .«in_force») (b .inForce);
     }
 after m s b emptying =
-    record { keys = b .keys; bits = b .bits; n = b .n; summary = b .summary; logKeys = b .logKeys; logValues = b .logValues; used = emptied }
+    record { keys = b .keys; bits = b .bits; n = b .n; summary = b .summary; logKeys = b .logKeys; logValues = b .logValues; used = emptied .used; inForce = emptied .«in_force» }
 
 -- the buffers after a run of calls, the first call first
 unfoldable pub run : ℕ → ℕ → Buffers → List Call → Buffers
@@ -95,25 +114,35 @@ pub record Paint : Type 0 where
   pub key : ℕ
   pub feature : ℕ
 
--- the paints that can still be taken back, and those that no longer can; the latest first in both
+-- the paints that can be taken back, the latest first; those that were taken back and can be redone, the next one first; and those that no longer can
+-- be taken back, the latest first
 pub record Kept : Type 0 where
   pub held : List Paint
+  pub undone : List Paint
   pub fixed : List Paint
 
 abbrev pub nothing : Kept
-nothing = record { held = []; fixed = [] }
+nothing = record { held = []; undone = []; fixed = [] }
 
-unfoldable pub withoutLatest : List Paint → List Paint
-withoutLatest [] = []
-withoutLatest (x ∷ xs) = xs
+-- the latest paint held is undone
+unfoldable pub withoutLatest : (held undone fixed : List Paint) → Kept
+withoutLatest [] undone fixed = record { held = []; undone = undone; fixed = fixed }
+withoutLatest (x ∷ held) undone fixed = record { held = held; undone = x ∷ undone; fixed = fixed }
 
--- what a call with this answer makes of the paints: an accepted paint is held, an accepted taking back cancels the latest paint held, emptying
--- makes all of them fixed, and a refused call changes nothing
+-- the next paint undone is held again, in its old position
+unfoldable pub withNext : (held undone fixed : List Paint) → Kept
+withNext held [] fixed = record { held = held; undone = []; fixed = fixed }
+withNext held (x ∷ undone) fixed = record { held = x ∷ held; undone = undone; fixed = fixed }
+
+-- what a call with this answer makes of the paints: an accepted paint is held and drops those that could be redone, an accepted taking back undoes the
+-- latest paint held, an accepted redo holds the next one again, emptying makes all that are held fixed and drops the others, and a refused call changes
+-- nothing
 unfoldable pub keep : Call → ℕ → Kept → Kept
 keep (painting κ f) refusal k =
-    accepted refusal (record { held = record { key = κ; feature = f } ∷ k .held; fixed = k .fixed }) k
-keep takingBack refusal k = accepted refusal (record { held = withoutLatest (k .held); fixed = k .fixed }) k
-keep emptying refusal k = record { held = []; fixed = k .held ++ k .fixed }
+    accepted refusal (record { held = record { key = κ; feature = f } ∷ k .held; undone = []; fixed = k .fixed }) k
+keep takingBack refusal k = accepted refusal (withoutLatest (k .held) (k .undone) (k .fixed)) k
+keep redoing refusal k = accepted refusal (withNext (k .held) (k .undone) (k .fixed)) k
+keep emptying refusal k = record { held = []; undone = []; fixed = k .held ++ k .fixed }
 
 -- the paints after a run of calls
 unfoldable pub kept : ℕ → ℕ → Buffers → Kept → List Call → Kept
@@ -128,7 +157,12 @@ drawn m p (x ∷ xs) = paintIn m (x .key) (x .feature) (drawn m p xs)
 -- the log of the paints, the latest first, on a picture: each has the entry of its block in the picture that it found
 unfoldable pub logOf : ℕ → Picture → List Paint → List Record
 logOf m p [] = []
-logOf m p (x ∷ xs) = logOf m p xs ++ entryOf m (drawn m p xs) (x .key)
+logOf m p (x ∷ xs) = logOf m p xs ++ entryOf m (drawn m p xs) (x .key) (x .feature)
+
+-- the log of paints to come, the next one first, on a picture
+unfoldable pub logAfter : ℕ → Picture → List Paint → List Record
+logAfter m p [] = []
+logAfter m p (x ∷ xs) = entryOf m p (x .key) (x .feature) ++ logAfter m (paintIn m (x .key) (x .feature) p) xs
 
 -- the first raster with the paints applied that were not taken back
 unfoldable pub pictureLeft : ℕ → List ℕ → Kept → Picture

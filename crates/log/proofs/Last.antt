@@ -12,29 +12,41 @@ use Rattle.keys.specs.Key.{validKey}
 use Rattle.keys.proofs.Cases.{and-left, and-right}
 use Rattle.definitions.specs.List.{Record, recordOf}
 use Rattle.definitions.specs.Read.{room, recordsOf}
-use Rattle.definitions.specs.Log.{closingPlaces, lastRecord, lastKey, lastCount, beforeLast, lastContent, isContent, isSound, noLog}
+use Rattle.definitions.specs.Log.{closingPlaces, countRecord, lastRecord, lastKey, lastFeature, lastCount, beforeLast, lastContent, isContent, isSound, toRedo, noLog}
 use Rattle.definitions.proofs.LastEntry.{length-before, content-place, length-content}
 use Rattle.definitions.proofs.SoundLog.{content-not-empty, sound-ends}
 use Rattle.definitions.proofs.Records.{records-length, records-at, records-run}
 use Rattle.log.specs.declared.entry.Entry.{Entry}
-use Rattle.log.specs.Entries.{closingKey, closingCount, lastEntry, Ended, run}
+use Rattle.log.specs.Entries.{closingKey, closingFeature, closingCount, lastEntry, Ended, run}
 
 module _ (keys values : List ℕ) (used : ℕ) (in-keys : used ≤ length keys) (in-values : used ≤ length values) (some : closingPlaces ≤ used) where
-  last-record-at : lastRecord (recordsOf keys values used) ≡ recordOf (closingKey keys used) (closingCount values used)
+  last-record-at : lastRecord (recordsOf keys values used) ≡ recordOf (closingKey keys used) (closingFeature values used)
   unfolding lastRecord
   last-record-at =
       ap (λ n. getD (recordsOf keys values used) (n - 1) (recordOf 0 0)) (records-length keys values used in-keys in-values)
       ∙ records-at keys values used in-keys in-values (used - 1) (omega arith)
+
+  -- the record before the last
+  pub count-record-at : countRecord (recordsOf keys values used) ≡ recordOf (getD keys (used - 2) 0) (closingCount values used)
+  unfolding countRecord
+  count-record-at =
+      ap (λ n. getD (recordsOf keys values used) (n - 2) (recordOf 0 0)) (records-length keys values used in-keys in-values)
+      ∙ records-at keys values used in-keys in-values (used - 2) (omega arith)
 
   -- the last entry's key stands in the last place that is used
   pub last-key-at : lastKey (recordsOf keys values used) ≡ closingKey keys used
   unfolding lastKey
   last-key-at = ap (λ x. x .key) last-record-at
 
-  -- and so does its count
+  -- and so does its feature
+  pub last-feature-at : lastFeature (recordsOf keys values used) ≡ closingFeature values used
+  unfolding lastFeature
+  last-feature-at = ap (λ x. x .value) last-record-at
+
+  -- its count stands before them
   pub last-count-at : lastCount (recordsOf keys values used) ≡ closingCount values used
   unfolding lastCount
-  last-count-at = ap (λ x. x .value) last-record-at
+  last-count-at = ap (λ x. x .value) count-record-at
 
 -- a last entry that is all there, by its places
 module _ {keys values : List ℕ} {used : ℕ} (e : Ended keys values used) where
@@ -72,28 +84,21 @@ module _ {keys values : List ℕ} {used : ℕ} (e : Ended keys values used) wher
     taken-there = let a = count-at in omega (arith, e .all-there)
 
     -- what was read is the last entry
-    pub last-found : _≡_ {A = Entry} (record { key = closingKey keys used; start = used - taken; count = count }) (lastEntry log)
+    pub last-found : _≡_ {A = Entry} (record { key = closingKey keys used; start = used - taken; count = count; feature = closingFeature values used }) (lastEntry log)
     last-found =
         let a = count-at in
         let all = entry-places in
         let key : closingKey keys used ≡ lastKey log = sym (last-key-at keys values used (e .in-keys) (e .in-values) (omega (arith, e .all-there))) in
+        let feature : closingFeature values used ≡ lastFeature log
+        = sym (last-feature-at keys values used (e .in-keys) (e .in-values) (omega (arith, e .all-there))) in
         let start : used - taken ≡ length (beforeLast log) = omega arith in
-        λ i. record { key = key i; start = start i; count = a i }
+        λ i. record { key = key i; start = start i; count = a i; feature = feature i }
 
--- a log that is not refused with 5: its records are there and divide into entries
+-- records that are there and divide into entries
 pub record SoundLog (m s : ℕ) (keys values : List ℕ) (used : ℕ) : Type 0 where
   pub in-keys : used ≤ length keys
   pub in-values : used ≤ length values
   pub sound : isSound m s (recordsOf keys values used) ≡ true
-
--- what the promise of the check says where it answers yes
-pub sound-log : (m s : ℕ) (keys values : List ℕ) (used : ℕ) → noLog m s keys values used ≡ false → SoundLog m s keys values used
-unfolding noLog
-sound-log m s keys values used e =
-    let there : Bool = leb used (room keys values) in
-    let both : (there && isSound m s (recordsOf keys values used)) ≡ true = not-false _ e in
-    let inside = leb-true used (room keys values) (and-left there (isSound m s (recordsOf keys values used)) both) in
-    record { in-keys = omega arith; in-values = omega arith; sound = and-right there (isSound m s (recordsOf keys values used)) both }
 
 -- the last entry of a sound log with records
 pub record LastEntry (m s : ℕ) (keys values : List ℕ) (used : ℕ) : Type 0 where

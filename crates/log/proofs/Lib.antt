@@ -3,3 +3,5 @@ pub mod Places
 pub mod Written
 pub mod Tests
 pub mod Sound
+pub mod First
+pub mod Parts

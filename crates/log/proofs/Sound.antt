@@ -1,38 +1,19 @@
 -- A log from its end: what stands before the last entry is sound or not, as the log is, and the answers of the check. Rests on Last.
-use Prim.Native.Nat.{ℕ, suc, _+_, _-_, _≤_, _<_}
+use Prim.Native.Nat.{ℕ, _≤_, _<_}
 use mathlib.Core.Path.{_≡_, refl, sym, ap, _∙_}
 use mathlib.Core.Bool.{Bool, true, false, not, _&&_}
 use mathlib.Core.List.{List}
 use native.Mathlib.Omega.{arith}
-use lib.ListN.{length, take, length-take}
-use borrow.Author.Tests.{le-leb, lt-leb, not-true, not-false}
-use Rattle.definitions.specs.List.{Record}
-use Rattle.definitions.specs.Read.{room, paired, recordsOf}
-use Rattle.definitions.specs.Log.{closingPlaces, lastCount, beforeLast, lastIsEntry, isSound, noLog}
-use Rattle.definitions.proofs.SoundLog.{divides-step, divides-enough, empty-sound, ends-in-entry}
+use lib.ListN.{length, take}
+use borrow.Author.Tests.{not-true, not-false}
+use Rattle.definitions.specs.Read.{paired, recordsOf}
+use Rattle.definitions.specs.Log.{beforeLast, lastIsEntry, isSound}
+use Rattle.definitions.proofs.SoundLog.{empty-sound, ends-in-entry, sound-step}
 use Rattle.definitions.proofs.LastEntry.{before-place}
 use Rattle.definitions.proofs.Records.{records-length, records-first}
 use Rattle.log.specs.declared.entry.Entry.{Entry}
 use Rattle.log.specs.Entries.{lastEntry, Ended}
 use Rattle.log.proofs.Places.{start-is, places-are}
-
--- a log with records is sound exactly when its last are an entry and those before it are sound
-pub sound-step : (m s : ℕ) (log : List Record) → 0 < length log → isSound m s log ≡ lastIsEntry m s log && isSound m s (beforeLast log)
-unfolding beforeLast
-sound-step m s log some =
-    let shorter : length (beforeLast log) ≤ length log = let e = length-take (length log - (lastCount log + closingPlaces)) log in omega arith in
-    sym (divides-enough (suc (length log)) m s log (omega arith))
-    ∙ divides-step (length log) m s log some
-    ∙ ap (λ b. lastIsEntry m s log && b) (divides-enough (length log) m s (beforeLast log) shorter)
-
--- where the slices are too short
-pub short-keys : (m s : ℕ) (keys values : List ℕ) (used : ℕ) → length keys < used → true ≡ noLog m s keys values used
-unfolding noLog
-short-keys m s keys values used h = let e = lt-leb used (room keys values) (omega arith) in rw e
-
-pub short-values : (m s : ℕ) (keys values : List ℕ) (used : ℕ) → length values < used → true ≡ noLog m s keys values used
-unfolding noLog
-short-values m s keys values used h = let e = lt-leb used (room keys values) (omega arith) in rw e
 
 -- the entries from `end` on have passed
 pub record Passed (m s : ℕ) (keys values : List ℕ) (used end : ℕ) : Type 0 where
@@ -45,18 +26,12 @@ pub record Passed (m s : ℕ) (keys values : List ℕ) (used end : ℕ) : Type 0
 pub begins : (m s : ℕ) (keys values : List ℕ) (used : ℕ) → used ≤ length keys → used ≤ length values → Passed m s keys values used used
 begins m s keys values used in-keys in-values = record { within = omega arith; in-keys = in-keys; in-values = in-values; same = refl }
 
--- what the check answers of records that are there
-there : (m s : ℕ) (keys values : List ℕ) (used : ℕ) → used ≤ length keys → used ≤ length values → not (isSound m s (recordsOf keys values used)) ≡ noLog m s keys values used
-unfolding noLog
-there m s keys values used in-keys in-values =
-    ap (λ b. not (b && isSound m s (recordsOf keys values used))) (sym (le-leb used (room keys values) (omega arith)))
-
 module _ {m s : ℕ} {keys values : List ℕ} {used end : ℕ} (p : Passed m s keys values used end) where
-  answer : {b : Bool} → isSound m s (recordsOf keys values end) ≡ b → not b ≡ noLog m s keys values used
-  answer e = sym (ap not (p .same ∙ e)) ∙ there m s keys values used (p .in-keys) (p .in-values)
+  answer : {b : Bool} → isSound m s (recordsOf keys values end) ≡ b → b ≡ isSound m s (recordsOf keys values used)
+  answer e = sym (p .same ∙ e)
 
   -- no record is left
-  pub ends : end ≤ 0 → false ≡ noLog m s keys values used
+  pub ends : end ≤ 0 → true ≡ isSound m s (recordsOf keys values used)
   unfolding paired
   ends h = let none : end ≡ 0 = omega arith in answer (ap (λ n. isSound m s (recordsOf keys values n)) none ∙ empty-sound m s)
 
@@ -67,7 +42,7 @@ module _ {m s : ℕ} {keys values : List ℕ} {used end : ℕ} (p : Passed m s k
     -- what the check of the last entry has answered
     module _ (r : Bool) (told : r ≡ lastIsEntry m s (recordsOf keys values end)) where
       -- the last records are no entry
-      pub stops : not r ≡ true → true ≡ noLog m s keys values used
+      pub stops : not r ≡ true → false ≡ isSound m s (recordsOf keys values used)
       stops e =
           answer
           (sound-step m s (recordsOf keys values end) has

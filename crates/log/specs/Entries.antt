@@ -2,24 +2,33 @@
 -- Rests on Log of the definitions.
 use Prim.Native.Nat.{ℕ, _+_, _-_, _^_, _≤_, _<_}
 use mathlib.Core.Path.{_≡_}
+use mathlib.Core.Bool.{Bool, true, _&&_}
 use mathlib.Core.List.{List}
 use lib.ListN.{length, getD, take, drop, replicate}
+use lib.Dec.{leb}
 use Rattle.definitions.specs.List.{Record, keysOf, valuesOf}
 use Rattle.definitions.specs.Read.{room, paired, recordsOf}
 use Rattle.definitions.specs.Buffer.{overAt}
-use Rattle.definitions.specs.Log.{closingPlaces, lastKey, lastCount, beforeLast}
+use Rattle.definitions.specs.Log.{closingPlaces, lastKey, lastFeature, lastCount, beforeLast, closes, isSound}
 use Rattle.log.specs.declared.entry.Entry.{Entry}
 
--- the key and the count of the record that closes the used ones
+-- the key, the feature and the count of the records that close the used ones
 abbrev pub closingKey : List ℕ → ℕ → ℕ
 closingKey keys used = getD keys (used - 1) 0
 
-abbrev pub closingCount : List ℕ → ℕ → ℕ
-closingCount values used = getD values (used - 1) 0
+abbrev pub closingFeature : List ℕ → ℕ → ℕ
+closingFeature values used = getD values (used - 1) 0
 
--- the last entry of a log: its key, the place where its content starts, and how many records that has
+abbrev pub closingCount : List ℕ → ℕ → ℕ
+closingCount values used = getD values (used - 2) 0
+
+-- the last entry is all among the records, and closed
+unfoldable pub isClosed : ℕ → List Record → Bool
+isClosed s log = leb (lastCount log + closingPlaces) (length log) && closes s log
+
+-- the last entry of a log: its key, the place where its content starts, how many records that has, and its feature
 abbrev pub lastEntry : List Record → Entry
-lastEntry log = record { key = lastKey log; start = length (beforeLast log); count = lastCount log }
+lastEntry log = record { key = lastKey log; start = length (beforeLast log); count = lastCount log; feature = lastFeature log }
 
 -- the used records are there, and their last entry is all among them
 pub record Ended (keys values : List ℕ) (used : ℕ) : Type 0 where
@@ -51,3 +60,12 @@ pub record Logged (entry : List Record) (start : ℕ) (keys values keys′ value
 pub record Cleared (start used : ℕ) (keys values keys′ values′ : List ℕ) : Type 0 where
   pub keys-are : keys′ ≡ overAt start (replicate (used - start) 0) keys
   pub values-are : values′ ≡ overAt start (replicate (used - start) 0) values
+
+-- there are used records, and they divide into entries, at some m and s
+pub record Divided (keys values : List ℕ) (used : ℕ) : Type 0 where
+  pub m : ℕ
+  pub s : ℕ
+  pub in-keys : used ≤ length keys
+  pub in-values : used ≤ length values
+  pub some : 0 < used
+  pub sound : isSound m s (recordsOf keys values used) ≡ true

@@ -1,16 +1,17 @@
-// An entry of a log: a block's content, and behind it the record that closes it. What closes an entry, and where, is known here alone.
+// An entry of a log: a block's content, and behind it the two records that close it. What closes an entry, and where, is known here alone.
 ghost use mathlib.Core.Path.{_≡_};
 ghost use Prim.Native.Nat.{_+_, _≤_, _<_, _^_};
 ghost use lib.ListN.{length};
 ghost use Rattle.definitions.specs.Read.{room, recordsOf};
-ghost use Rattle.definitions.specs.Log.{closed, closingPlaces};
-ghost use Rattle.log.specs.Entries.{closingCount, lastEntry, Ended, run, Loggable, Logged, Cleared};
+ghost use Rattle.definitions.specs.Log.{closed, closingPlaces, firstEntry};
+ghost use Rattle.log.specs.Entries.{closingCount, isClosed, lastEntry, Ended, run, Loggable, Logged, Cleared, Divided};
 
-// The block's key, the place in the log where the content starts, and how many records that has.
+// The block's key, the place in the log where the content starts, how many records that has, and the feature that the block was painted with.
 pub struct Entry {
     pub key: u32,
     pub start: usize,
     pub count: usize,
+    pub feature: u32,
 }
 
 // How many places an entry takes whose content has so many records.
@@ -18,7 +19,7 @@ pub fn places(count: usize) -> usize
     requires { ⌜ count < 2 ^ 63 ⌝ }
     ensures { λ r. ⌜ r ≡ count + closingPlaces ⌝ }
 {
-    count + 1
+    count + 2
 }
 
 // The number of content records that the last entry claims to have.
@@ -26,7 +27,25 @@ pub fn last_count(values: &[u32], used: usize) -> usize
     requires { ⌜ (closingPlaces ≤ used) × (used ≤ length (now values)) ⌝ }
     ensures { λ r. ⌜ (r ≡ closingCount (now (values .entry)) used) × (r < 2 ^ 32) ⌝ }
 {
-    values[used - 1] as usize
+    values[used - 2] as usize
+}
+
+// The last entry is all among the used records, and the records that close it have one key and a feature below s.
+pub fn is_closed(s: u32, keys: &[u32], values: &[u32], used: usize) -> bool
+    requires { ⌜ (used ≤ length (now keys)) × (used ≤ length (now values)) ⌝ }
+    ensures { λ r. ⌜ r ≡ isClosed s (recordsOf (now (keys .entry)) (now (values .entry)) used) ⌝ }
+{
+    if used < 2 {
+        return false;
+    }
+    if used < places(last_count(values, used)) {
+        return false;
+    }
+    let key = keys[used - 1];
+    if keys[used - 2] != key {
+        return false;
+    }
+    values[used - 1] < s
 }
 
 // The last entry of the used records.
@@ -36,14 +55,30 @@ pub fn last_entry(keys: &[u32], values: &[u32], used: usize) -> Entry
 {
     let count = last_count(values, used);
     let key = keys[used - 1];
+    let feature = values[used - 1];
     Entry {
         key,
         start: used - places(count),
         count,
+        feature,
     }
 }
 
-// Writes an entry from its start on: its content, which two slices have from a place on, and the closing record. Gives the place past it.
+// The first entry of the used records, which are found from the end: one entry after the other until none stands before.
+pub fn first_entry(keys: &[u32], values: &[u32], used: usize) -> Entry
+    requires { ⌜ Divided (now keys) (now values) used ⌝ }
+    ensures { λ r. ⌜ r ≡ lastEntry (firstEntry (recordsOf (now (keys .entry)) (now (values .entry)) used)) ⌝ }
+{
+    let mut end = used;
+    let mut start = last_entry(keys, values, used).start;
+    while 0 < start {
+        end = start;
+        start = last_entry(keys, values, end).start;
+    }
+    last_entry(keys, values, end)
+}
+
+// Writes an entry from its start on: its content, which two slices have from a place on, and the closing records. Gives the place past it.
 pub fn write_entry(
     new: Entry,
     keys: &[u32],
@@ -53,26 +88,32 @@ pub fn write_entry(
     log_values: &mut [u32],
 ) -> usize
     requires { ⌜ Loggable new (now keys) (now bits) place (now «log_keys») (now «log_values») ⌝ }
-    ensures { λ r. ⌜ Logged (closed (new .key) (run (now (keys .entry)) (now (bits .entry)) place (new .count))) (new .start)
+    ensures { λ r. ⌜ Logged (closed (new .key) (run (now (keys .entry)) (now (bits .entry)) place (new .count)) (new .feature)) (new .start)
         (now («log_keys» .entry)) (now («log_values» .entry)) (now («log_keys» .exit)) (now («log_values» .exit)) r ⌝ }
 {
     let key = new.key;
     let start = new.start;
     let count = new.count;
+    let feature = new.feature;
     slices::copy(keys, place, count, log_keys, start);
     slices::copy(bits, place, count, log_values, start);
     let last = start + count;
     log_keys[last] = key;
     log_values[last] = count as u32;
-    last + 1
+    log_keys[last + 1] = key;
+    log_values[last + 1] = feature;
+    last + 2
 }
 
-// The places from start on, up to those used, become zero.
+// The places from start on, up to those used, become zero; there may be none.
 pub fn clear_from(log_keys: &mut [u32], log_values: &mut [u32], start: usize, used: usize)
-    requires { ⌜ (start ≤ used) × (used ≤ room (now «log_keys») (now «log_values»)) ⌝ }
+    requires { ⌜ (used ≤ room (now «log_keys») (now «log_values»)) ⌝ }
     ensures { λ _. ⌜ Cleared start used
         (now («log_keys» .entry)) (now («log_values» .entry)) (now («log_keys» .exit)) (now («log_values» .exit)) ⌝ }
 {
+    if used <= start {
+        return;
+    }
     slices::clear(log_keys, start, used);
     slices::clear(log_values, start, used);
 }

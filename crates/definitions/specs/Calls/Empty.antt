@@ -1,5 +1,5 @@
--- Empty: the used count becomes 0, and nothing else is touched. It is never refused.
-use Prim.Native.Nat.{ℕ}
+-- Empty: both counts of the log become 0, and nothing else is touched. It is never refused.
+use Rattle.definitions.specs.declared.Emptied.{Emptied}
 
-abbrev pub emptied : ℕ
-emptied = 0
+abbrev pub emptied : Emptied
+emptied = record { used = 0; «in_force» = 0 }

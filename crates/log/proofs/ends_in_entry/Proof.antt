@@ -1,5 +1,5 @@
 -- `ends_in_entry` meets its contract: each way out answers what the definition says of the last entry.
-use mathlib.Core.Path.{_≡_, sym, ap, _∙_}
+use mathlib.Core.Path.{_≡_, sym, _∙_}
 use mathlib.Core.Bool.{true}
 use Prim.Native.Nat.{_+_}
 use native.Mathlib.Omega.{arith}
@@ -7,50 +7,39 @@ use borrow.Author.Needs.{needs}
 use borrow.Author.Tests.{not-true, not-false}
 use Rattle.keys.specs.Key.{validKey}
 use Rattle.definitions.specs.Read.{recordsOf}
-use Rattle.definitions.specs.Log.{lastCount, closingPlaces}
-use Rattle.log.specs.Entries.{Ended}
-use Rattle.log.proofs.Last.{last-count-at}
+use Rattle.definitions.specs.Log.{closingPlaces}
+use Rattle.log.specs.Entries.{isClosed, Ended}
 use Rattle.log.proofs.Places.{places-are}
-use Rattle.log.proofs.Tests.{too-long, not-valid, content-decides}
+use Rattle.log.proofs.Tests.{closed-ended, not-closed, not-valid, content-decides}
 use Rattle.log.proofs.ends_in_entry.Statement.{statement}
 use Rattle.log.proofs.ends_in_entry.Tie as tie
 
--- the places that the last entry claims
-claimed : (c : tie.After-places)
-    → (let a = c .before .before .before .before .args in
-    c .places .result ≡ lastCount (recordsOf (a .keys .now) (a .values .now) (a .used)) + closingPlaces)
-claimed c =
-    let start = c .before .before .before .before in
-    let e = last-count-at _ _ _ (start .pre .3) (start .pre .4) (start .pre .2) in
-    c .places .ensures ∙ ap (λ x. x + closingPlaces) (c .before .last-count .ensures .0 ∙ sym e)
+-- the last entry is closed
+shut : (c : tie.Else1)
+    → (let a = c .before .before .before .before .args in isClosed (a .s) (recordsOf (a .keys .now) (a .values .now) (a .used)) ≡ true)
+shut c = sym (c .before .is-closed .ensures) ∙ not-false _ (c .if1 .left)
 
--- all of them are there
-ended : (c : tie.Else1) → (let a = c .before .before .before .before .before .args in Ended (a .keys .now) (a .values .now) (a .used))
-ended c =
-    let start = c .before .before .before .before .before in
-    record { in-keys = start .pre .3; in-values = start .pre .4; all-there = omega (arith, claimed (c .before), c .if1 .left) }
+-- so it is all there
+ended : (c : tie.Else1) → (let a = c .before .before .before .before .args in Ended (a .keys .now) (a .values .now) (a .used))
+ended c = let start = c .before .before .before .before in closed-ended _ _ _ _ (start .pre .2) (start .pre .3) (shut c)
 
 -- the key is valid
-valid : (c : tie.Else2) → validKey (c .before .before .before .before .before .before .before .before .args .m) (c .before .before .last-entry .result .key) ≡ true
+valid : (c : tie.Else2) → validKey (c .before .before .before .before .before .before .before .args .m) (c .before .before .last-entry .result .key) ≡ true
 valid c = sym (c .before .is-valid .ensures) ∙ not-false _ (c .if2 .left)
 
 -- the content ends before what closes it
 there : (c : tie.Else2)
     → (let last = c .before .before .last-entry .result in
-    last .start + (last .count + closingPlaces) ≡ c .before .before .before .before .before .before .before .before .args .used)
+    last .start + (last .count + closingPlaces) ≡ c .before .before .before .before .before .before .before .args .used)
 there c = places-are (ended (c .before .before .before)) _ (c .before .before .last-entry .ensures)
 
-last-count-requires : tie.Need-last-count-requires
-last-count-requires c κs = search needs
-
-places-requires : tie.Need-places-requires
-places-requires c κs = search needs
+is-closed-requires : tie.Need-is-closed-requires
+is-closed-requires c κs = search needs
 
 returns : tie.Need-returns
 returns c =
-    let start = c .before .before .before .before .before in
-    let told = claimed (c .before) in
-    too-long _ _ _ _ _ (start .pre .3) (start .pre .4) (omega (arith, c .if1 .taken))
+    let start = c .before .before .before .before in
+    not-closed _ _ _ _ (start .pre .2) (start .pre .3) _ (sym (c .before .is-closed .ensures) ∙ not-true _ (c .if1 .taken))
 
 last-entry-requires : tie.Need-last-entry-requires
 last-entry-requires c κs = ended c
@@ -59,7 +48,9 @@ is-valid-requires : tie.Need-is-valid-requires
 is-valid-requires c κs = search needs
 
 returns-2 : tie.Need-returns-2
-returns-2 c = not-valid (ended (c .before .before .before)) _ _ _ (c .before .before .last-entry .ensures) (sym (c .before .is-valid .ensures) ∙ not-true _ (c .if2 .taken))
+returns-2 c =
+    let d = c .before .before .before in
+    not-valid (ended d) _ _ (shut d) _ (c .before .before .last-entry .ensures) (sym (c .before .is-valid .ensures) ∙ not-true _ (c .if2 .taken))
 
 add-end : tie.Need-add-end
 add-end c = let all = there c in omega arith
@@ -95,14 +86,13 @@ returns-3 : tie.Need-returns-3
 returns-3 c =
     let e = c .before .before .before in
     let found = e .before .before in
-    content-decides (ended (found .before)) _ _ _ (found .last-entry .ensures) (c .is-content .result) (valid e) (c .is-content .ensures)
+    content-decides (ended (found .before)) _ _ (shut (found .before)) _ (found .last-entry .ensures) (c .is-content .result) (valid e) (c .is-content .ensures)
 
 pub ends-in-entry-spec : {M : Type 1} → statement M
 ends-in-entry-spec =
     tie.close
     (tie.spec
-    last-count-requires
-    places-requires
+    is-closed-requires
     returns
     last-entry-requires
     is-valid-requires

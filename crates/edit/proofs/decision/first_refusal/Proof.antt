@@ -43,13 +43,13 @@ are-bad-requires : tie.Need-are-bad-requires
 are-bad-requires c κs = search needs
 
 returns : tie.Need-returns
-returns c = bad-settings _ _ _ _ _ _ _ _ _ (sym (c .before .are-bad .ensures) ∙ c .if1 .taken)
+returns c = bad-settings _ _ _ _ _ _ _ _ _ _ (sym (c .before .are-bad .ensures) ∙ c .if1 .taken)
 
 is-list-requires : tie.Need-is-list-requires
 is-list-requires c κs = let g = good-settings _ _ (good c) in (g .deep, g .few)
 
 returns-2 : tie.Need-returns-2
-returns-2 c = no-list _ _ _ _ _ _ _ _ _ (good (c .before .before)) (ap not (sym (c .before .is-list .ensures)) ∙ c .if2 .taken)
+returns-2 c = no-list _ _ _ _ _ _ _ _ _ _ (good (c .before .before)) (ap not (sym (c .before .is-list .ensures)) ∙ c .if2 .taken)
 
 is-summary-requires : tie.Need-is-summary-requires
 is-summary-requires c κs =
@@ -59,22 +59,22 @@ is-summary-requires c κs =
 returns-3 : tie.Need-returns-3
 returns-3 c =
     let d = c .before .before in
-    no-summary _ _ _ _ _ _ _ _ _ (good (d .before .before)) (listed d) (told-wrong _ _ (c .before .is-summary .ensures) (c .if3 .taken))
+    no-summary _ _ _ _ _ _ _ _ _ _ (good (d .before .before)) (listed d) (told-wrong _ _ (c .before .is-summary .ensures) (c .if3 .taken))
 
-is-sound-requires : tie.Need-is-sound-requires
-is-sound-requires c κs = let g = good-settings _ _ (good (c .before .before .before .before)) in (g .deep, g .few)
+is-log-requires : tie.Need-is-log-requires
+is-log-requires c κs = let g = good-settings _ _ (good (c .before .before .before .before)) in (g .deep, g .few)
 
 returns-4 : tie.Need-returns-4
 returns-4 c =
     let u = c .before .before in
     let d = u .before .before in
-    no-log _ _ _ _ _ _ _ _ _ (good (d .before .before)) (listed d) (summed u) (sym (c .before .is-sound .ensures) ∙ c .if4 .taken)
+    no-log _ _ _ _ _ _ _ _ _ _ (good (d .before .before)) (listed d) (summed u) (sym (c .before .is-log .ensures) ∙ c .if4 .taken)
 
 returns-5 : tie.Need-returns-5
 returns-5 c =
     let u = c .before .before in
     let d = u .before .before in
-    all-passed _ _ _ _ _ _ _ _ _ (good (d .before .before)) (listed d) (summed u) (sym (c .before .is-sound .ensures) ∙ c .if4 .left)
+    all-passed _ _ _ _ _ _ _ _ _ _ (good (d .before .before)) (listed d) (summed u) (sym (c .before .is-log .ensures) ∙ c .if4 .left)
 
 pub first-refusal-spec : {M : Type 1} → statement M
 first-refusal-spec =
@@ -86,6 +86,6 @@ first-refusal-spec =
     returns-2
     is-summary-requires
     returns-3
-    is-sound-requires
+    is-log-requires
     returns-4
     returns-5)

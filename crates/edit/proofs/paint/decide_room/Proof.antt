@@ -35,13 +35,13 @@ places-is c = c .places .ensures ∙ ap (λ x. x + closingPlaces) (count-is (c .
 
 -- the places used with it
 logged-is : (c : tie.After-places)
-    → (let a = start (c .before) .args in a .used + c .places .result ≡ a .used + length (gained (a .m) (recordsOf (a .keys .now) (a .bits .now) (a .n)) (a .key)))
+    → (let a = start (c .before) .args in a .in-force + c .places .result ≡ a .in-force + length (gained (a .m) (recordsOf (a .keys .now) (a .bits .now) (a .n)) (a .key) (a .feature)))
 logged-is c =
     let s = start (c .before) in
-    ap (λ x. s .args .used + x) (places-is c ∙ sym (gained-size (s .pre .0 .own) _ (s .pre .0 .valid)))
+    ap (λ x. s .args .in-force + x) (places-is c ∙ sym (gained-size (s .pre .0 .own) _ (s .pre .0 .valid) _))
 
 -- there is room for them
-log-fits : (c : tie.Else2) → (let d = c .before .before in let a = start (d .before) .args in a .used + d .places .result ≤ room (a .log-keys .now) (a .log-values .now))
+log-fits : (c : tie.Else2) → (let d = c .before .before in let a = start (d .before) .args in a .in-force + d .places .result ≤ room (a .log-keys .now) (a .log-values .now))
 log-fits c = omega (arith, c .before .if1 .left, c .if2 .left)
 
 -- the plan
@@ -105,7 +105,7 @@ returns-5 : tie.Need-returns-5
 returns-5 c =
     let d = c .before .before .before .before .before in
     grants _ _ _ _ _ (room-enough _ _ _ _ _ _ _ _ _ _ (logged-is (d .before .before)) _ (after-is (c .before .before)) (log-fits d) (omega arith))
-    (entry-found _ _ _ _ _ (count-is (d .before .before .before))) (plan-is (c .before .before .before))
+    (entry-found _ _ _ _ _ _ (count-is (d .before .before .before))) (plan-is (c .before .before .before))
 
 pub decide-room-spec : {M : Type 1} → statement M
 decide-room-spec =

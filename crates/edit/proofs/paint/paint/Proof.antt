@@ -5,7 +5,7 @@ use Rattle.definitions.specs.Read.{recordsOf}
 use Rattle.definitions.specs.Calls.Paint.{paintRefusal}
 use Rattle.edit.specs.PaintCall.{newEntry, paintPlan}
 use Rattle.edit.proofs.Decided.{refused, granted}
-use Rattle.edit.proofs.EditCallTables.{passed-settings, passed-summary}
+use Rattle.edit.proofs.EditCallTables.{passed-settings, passed-summary, passed-used}
 use Rattle.edit.proofs.PaintPlan.{paint-outdated, paint-counted}
 use Rattle.edit.proofs.PaintTable.{PaintPassed, paint-passed, paint-paintable, paint-fresh}
 use Rattle.edit.proofs.PaintAnswers.{paint-refused, paint-done}
@@ -20,16 +20,16 @@ start c = c .before .before .before .before .before .before .before .before .bef
 -- nothing refuses it, and it goes by its entry and its plan
 goes : (c : tie.After-known-told2)
     → (let a = start (c .before .before .before) .args in
-    (paintRefusal (a .m) (a .s) (a .keys .now) (a .bits .now) (a .n) (a .summary .now) (a .log-keys .now) (a .log-values .now) (a .used) (a .key) (a .feature) ≡ 0)
-    × (c .before .decision2 .given .0 .0 ≡ newEntry (a .m) (recordsOf (a .keys .now) (a .bits .now) (a .n)) (a .used) (a .key))
+    (paintRefusal (a .m) (a .s) (a .keys .now) (a .bits .now) (a .n) (a .summary .now) (a .log-keys .now) (a .log-values .now) (a .used) (a .in-force) (a .key) (a .feature) ≡ 0)
+    × (c .before .decision2 .given .0 .0 ≡ newEntry (a .m) (recordsOf (a .keys .now) (a .bits .now) (a .n)) (a .in-force) (a .key) (a .feature))
     × (c .before .decision2 .given .0 .1 .0 ≡ paintPlan (a .m) (recordsOf (a .keys .now) (a .bits .now) (a .n)) (a .key) (a .feature)))
 goes c = granted _ _ _ _ (c .before .before .before .decide .ensures) _ _ (c .before .decision2 .given .1)
 
 -- so it has passed every row
 passed : (c : tie.After-known-told2)
     → (let a = start (c .before .before .before) .args in
-    PaintPassed (a .m) (a .s) (a .keys .now) (a .bits .now) (a .n) (a .summary .now) (a .log-keys .now) (a .log-values .now) (a .used) (a .key) (a .feature))
-passed c = paint-passed _ _ _ _ _ _ _ _ _ _ _ (goes c .0)
+    PaintPassed (a .m) (a .s) (a .keys .now) (a .bits .now) (a .n) (a .summary .now) (a .log-keys .now) (a .log-values .now) (a .used) (a .in-force) (a .key) (a .feature))
+passed c = paint-passed _ _ _ _ _ _ _ _ _ _ _ _ (goes c .0)
 
 decide-requires : tie.Need-decide-requires
 decide-requires c κs = search needs
@@ -55,13 +55,15 @@ same-length-5 c = search needs
 returns : tie.Need-returns
 returns c =
     let told = refused _ _ _ _ (c .before .before .before .decide .ensures) _ (c .before .decision .given .1) in
-    paint-refused _ _ _ _ _ _ _ _ _ _ _ _ (told .0) (told .1)
+    paint-refused _ _ _ _ _ _ _ _ _ _ _ _ _ (told .0) (told .1)
 
 enum-known-decision-2 : tie.Need-enum-known-decision-2
 enum-known-decision-2 c = search needs
 
-log-content-requires : tie.Need-log-content-requires
-log-content-requires c κs = let d = c .before .before .before .before in paint-fresh _ (goes d .1) (passed d)
+log-paint-requires : tie.Need-log-paint-requires
+log-paint-requires c κs =
+    let d = c .before .before .before .before in
+    (paint-fresh _ (goes d .1) (passed d), passed-used (passed d .first-rows))
 
 fill-requires : tie.Need-fill-requires
 fill-requires c κs =
@@ -96,7 +98,7 @@ returns-2 c =
     let filled = c .before .before .before .before .before .before .before .before .before .before in
     let logged = filled .before .before .before .before .before .before .before in
     let d = logged .before .before .before .before .before in
-    paint-done _ _ _ _ _ _ _ _ _ _ _ _ (goes d .0) (goes d .1) (logged .log-content .ensures) (filled .fill .ensures)
+    paint-done _ _ _ _ _ _ _ _ _ _ _ _ _ (goes d .0) (goes d .1) (logged .log-paint .ensures) (filled .fill .ensures)
     (paint-counted _ (paint-paintable (passed d)) (filled .fill .ensures) _ (c .before .before .recount .ensures))
 
 pub paint-spec : {M : Type 1} → statement M
@@ -112,7 +114,7 @@ paint-spec =
     same-length-5
     returns
     enum-known-decision-2
-    log-content-requires
+    log-paint-requires
     fill-requires
     recount-requires
     same-length-6

@@ -24,13 +24,13 @@ start c = c .before .before .before .before .before .before
 -- 1, 4, 18 and 5 are passed
 passed : (c : tie.Else1)
     → (let a = start (c .before) .args in
-    FirstPassed (a .m) (a .s) (a .keys .now) (a .bits .now) (a .n) (a .summary .now) (a .log-keys .now) (a .log-values .now) (a .used))
+    FirstPassed (a .m) (a .s) (a .keys .now) (a .bits .now) (a .n) (a .summary .now) (a .log-keys .now) (a .log-values .now) (a .used) (a .in-force))
 passed c = first-passed _ (c .before .first-refusal .ensures) (c .if1 .left)
 
 -- the last entry can be put back
 restorable : (c : tie.Else2)
     → (let a = start (c .before .before) .args in
-    Restorable (a .m) (a .keys .now) (a .bits .now) (a .n) (a .log-keys .now) (a .log-values .now) (a .used))
+    Restorable (a .m) (a .keys .now) (a .bits .now) (a .n) (a .log-keys .now) (a .log-values .now) (a .in-force))
 restorable c = passed-restorable (passed (c .before)) (let h = c .if2 .left in omega arith)
 
 -- its places are there
@@ -45,7 +45,7 @@ there c =
 -- the plan
 plan-is : (c : tie.After-plan-of)
     → (let a = start (c .before .before .before .before .before) .args in
-    c .plan-of .result ≡ restorePlan (a .m) (recordsOf (a .keys .now) (a .bits .now) (a .n)) (recordsOf (a .log-keys .now) (a .log-values .now) (a .used)))
+    c .plan-of .result ≡ restorePlan (a .m) (recordsOf (a .keys .now) (a .bits .now) (a .n)) (recordsOf (a .log-keys .now) (a .log-values .now) (a .in-force)))
 plan-is c =
     let found = c .before .before in
     restore-found (restorable (found .before)) _ (found .last-entry .ensures) _ (c .plan-of .ensures)
@@ -54,7 +54,7 @@ plan-is c =
 after-is : (c : tie.After-length-after)
     → (let a = start (c .before .before .before .before .before .before) .args in
     c .length-after .result
-    ≡ length (restored (a .m) (recordsOf (a .keys .now) (a .bits .now) (a .n)) (recordsOf (a .log-keys .now) (a .log-values .now) (a .used))))
+    ≡ length (restored (a .m) (recordsOf (a .keys .now) (a .bits .now) (a .n)) (recordsOf (a .log-keys .now) (a .log-values .now) (a .in-force))))
 after-is c =
     let found = c .before .before .before in
     let a = restorable (found .before) in
@@ -65,10 +65,10 @@ first-refusal-requires : tie.Need-first-refusal-requires
 first-refusal-requires c κs = search needs
 
 returns : tie.Need-returns
-returns c = refuses _ _ _ _ (take-early _ _ _ _ _ _ _ _ _ _ (c .before .first-refusal .ensures) (c .if1 .taken)) (c .if1 .taken)
+returns c = refuses _ _ _ _ (take-early _ _ _ _ _ _ _ _ _ _ _ (c .before .first-refusal .ensures) (c .if1 .taken)) (c .if1 .taken)
 
 returns-2 : tie.Need-returns-2
-returns-2 c = refuses _ _ 11 _ (no-entry _ _ _ _ _ _ _ _ _ (passed (c .before)) (c .if2 .taken)) (λ e. omega arith)
+returns-2 c = refuses _ _ 11 _ (no-entry _ _ _ _ _ _ _ _ _ _ (passed (c .before)) (c .if2 .taken)) (λ e. omega arith)
 
 last-entry-requires : tie.Need-last-entry-requires
 last-entry-requires c κs = restorable c .ended
@@ -95,18 +95,18 @@ length-after-requires c κs =
 returns-3 : tie.Need-returns-3
 returns-3 c =
     let d = c .before .before .before .before .before in
-    refuses _ _ 9 _ (list-full _ _ _ _ _ _ _ _ _ (passed (d .before)) (d .if2 .left) _ (after-is (c .before)) (omega arith)) (λ e. omega arith)
+    refuses _ _ 9 _ (list-full _ _ _ _ _ _ _ _ _ _ (passed (d .before)) (d .if2 .left) _ (after-is (c .before)) (omega arith)) (λ e. omega arith)
 
 returns-4 : tie.Need-returns-4
 returns-4 c =
     let d = c .before .before .before .before .before .before in
-    refuses _ _ 9 _ (list-full _ _ _ _ _ _ _ _ _ (passed (d .before)) (d .if2 .left) _ (after-is (c .before .before)) (omega arith)) (λ e. omega arith)
+    refuses _ _ 9 _ (list-full _ _ _ _ _ _ _ _ _ _ (passed (d .before)) (d .if2 .left) _ (after-is (c .before .before)) (omega arith)) (λ e. omega arith)
 
 returns-5 : tie.Need-returns-5
 returns-5 c =
     let d = c .before .before .before .before .before .before in
     let found = c .before .before .before .before .before in
-    grants _ _ _ _ _ (room-enough _ _ _ _ _ _ _ _ _ (passed (d .before)) (d .if2 .left) _ (after-is (c .before .before)) (omega arith)) (found .last-entry .ensures)
+    grants _ _ _ _ _ (room-enough _ _ _ _ _ _ _ _ _ _ (passed (d .before)) (d .if2 .left) _ (after-is (c .before .before)) (omega arith)) (found .last-entry .ensures)
     (plan-is (c .before .before .before))
 
 pub decide-spec : {M : Type 1} → statement M

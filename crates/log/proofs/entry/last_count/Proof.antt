@@ -15,10 +15,10 @@ shared-slice-read-result : tie.Need-shared-slice-read-result
 shared-slice-read-result c = search needs
 
 cast-result : tie.Need-cast-result
-cast-result c = omega (arith, c .shared-slice-known .given (c .before .args .used - 1))
+cast-result c = omega (arith, c .shared-slice-known .given (c .before .args .used - 2))
 
 returns : tie.Need-returns
-returns c = (search needs, omega (arith, c .shared-slice-known .given (c .before .args .used - 1)))
+returns c = (search needs, omega (arith, c .shared-slice-known .given (c .before .args .used - 2)))
 
 pub last-count-spec : {M : Type 1} → statement M
 last-count-spec = tie.close (tie.spec sub-result mul-result shared-slice-read-result cast-result returns)

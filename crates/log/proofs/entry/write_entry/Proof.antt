@@ -1,5 +1,7 @@
--- `entry::write_entry` meets its contract: the content in both slices, and behind it the closing record.
+-- `entry::write_entry` meets its contract: the content in both slices, and behind it the closing records.
 use mathlib.Core.Path.{refl}
+use native.Mathlib.Omega.{arith}
+use lib.ListN.{length-set}
 use borrow.Author.Needs.{needs}
 use Rattle.log.proofs.Written.{entry-written}
 use Rattle.log.proofs.entry.write_entry.Statement.{statement}
@@ -29,6 +31,24 @@ mul-log-values c = search needs
 slice-write-log-values : tie.Need-slice-write-log-values
 slice-write-log-values c = search needs
 
+add-log-keys : tie.Need-add-log-keys
+add-log-keys c = search needs
+
+mul-log-keys-2 : tie.Need-mul-log-keys-2
+mul-log-keys-2 c = search needs
+
+slice-write-log-keys-2 : tie.Need-slice-write-log-keys-2
+slice-write-log-keys-2 c = simp length-set (omega arith)
+
+add-log-values : tie.Need-add-log-values
+add-log-values c = search needs
+
+mul-log-values-2 : tie.Need-mul-log-values-2
+mul-log-values-2 c = search needs
+
+slice-write-log-values-2 : tie.Need-slice-write-log-values-2
+slice-write-log-values-2 c = simp length-set (omega arith)
+
 add-result : tie.Need-add-result
 add-result c = search needs
 
@@ -55,6 +75,12 @@ write-entry-spec =
     cast-log-values
     mul-log-values
     slice-write-log-values
+    add-log-keys
+    mul-log-keys-2
+    slice-write-log-keys-2
+    add-log-values
+    mul-log-values-2
+    slice-write-log-values-2
     add-result
     same-length
     same-length-2

@@ -1,0 +1,201 @@
+-- A redo in a history: its answer is 20 where no paint is there to redo and 0 otherwise, it holds the next paint again, and the invariant is kept.
+-- Rests on Invariant and Content.
+use Prim.Native.Nat.{ℕ, _+_, _≤_, max}
+use mathlib.Core.Path.{_≡_, refl, sym, ap, ap₂, _∙_, subst}
+use mathlib.Core.Bool.{false, not}
+use mathlib.Core.List.{List, [], _∷_, _++_}
+use native.Mathlib.Omega.{arith}
+use lib.ListN.{length, length-append}
+use lib.Dec.{ltb, eqb}
+use borrow.Author.Tests.{ne-eqb, eq-eqb, le-ltb}
+use Rattle.definitions.specs.Picture.{Picture}
+use Rattle.definitions.specs.List.{Record, listOfPicture}
+use Rattle.definitions.specs.Read.{room, recordsOf, pictureOf}
+use Rattle.definitions.specs.Area.{summaryOf, noSummary}
+use Rattle.definitions.specs.Edit.{paintIn}
+use Rattle.definitions.specs.Log.{entryOf, firstEntry, toRedo, noLog}
+use Rattle.definitions.specs.Refusal.{Row, _gives_, badSettings, noList}
+use Rattle.definitions.specs.Calls.Redo.{redonePicture, redone, forceAfter, redoRefusal, redo, redoKeys, redoBits, redoSummary, redoLogKeys, redoLogValues}
+use Rattle.definitions.proofs.First.{this, later, holds-first, none-first}
+use Rattle.definitions.proofs.SoundLog.{Entries}
+use Rattle.history.specs.History.{Buffers, Paint, Kept, redoing, withNext, drawn, logOf, logAfter, after, answer, keep}
+use Rattle.history.specs.Claim.{redoAnswer}
+use Rattle.history.proofs.Drawn.{drawn-latest}
+use Rattle.history.proofs.Content.{first-next, redone-list, redone-summary}
+use Rattle.history.proofs.Past.{Legal, log-latest, entry-some, past-legal, Future, future-valid, future-below, future-legal, future-after, future-entries, after-none, after-next}
+use Rattle.history.proofs.Past as past
+use Rattle.history.proofs.Slices.{list-replaced, list-room}
+use Rattle.history.proofs.LogSlices.{log-counts, log-again}
+use Rattle.history.proofs.TakeBackStep.{withForce}
+use Rattle.history.proofs.Invariant.{now, Invariant, now-records, now-redo, now-is-list, now-is-summary, now-is-log, Keeps, same-keeps}
+
+-- the records to redo in these buffers
+abbrev redoIn : Buffers → List Record
+redoIn b = toRedo (b .logKeys) (b .logValues) (b .used) (b .inForce)
+
+-- the list that a redo makes of them
+abbrev listAfter : ℕ → Buffers → List Record
+listAfter m b = redone m (recordsOf (b .keys) (b .bits) (b .n)) (redoIn b)
+
+-- the summary that it makes of theirs
+abbrev summaryAfter : ℕ → ℕ → Buffers → List ℕ
+summaryAfter m s b = summaryOf m s (redonePicture m (recordsOf (b .keys) (b .bits) (b .n)) (redoIn b))
+
+-- the records in force with the next entry
+abbrev reached : Buffers → ℕ
+reached b = b .inForce + length (firstEntry (redoIn b))
+
+module _ (m s : ℕ) (b : Buffers) where
+  -- the table of refusals
+  abbrev rows : List Row
+  rows =
+      badSettings m s gives 1
+      ∷ noList m s (b .keys) (b .bits) (b .n) gives 4
+      ∷ noSummary m s (pictureOf m (recordsOf (b .keys) (b .bits) (b .n))) (b .summary) gives 18
+      ∷ noLog m s (b .logKeys) (b .logValues) (b .used) (b .inForce) gives 5
+      ∷ eqb (b .inForce) (b .used) gives 20
+      ∷ ltb (room (b .keys) (b .bits)) (length (listAfter m b)) gives 9
+      ∷ []
+
+  -- with all in force it gives 20
+  none-undone : badSettings m s ≡ false → noList m s (b .keys) (b .bits) (b .n) ≡ false
+      → noSummary m s (pictureOf m (recordsOf (b .keys) (b .bits) (b .n))) (b .summary) ≡ false
+      → noLog m s (b .logKeys) (b .logValues) (b .used) (b .inForce) ≡ false
+      → b .inForce ≡ b .used
+      → answer m s b redoing ≡ 20
+  unfolding answer redo redoRefusal
+  none-undone settings list counts log e = holds-first {rows = rows} (later settings (later list (later counts (later log (this (eq-eqb _ _ e) refl)))))
+
+  -- with some to redo, and room for the list, it gives 0
+  some-undone : badSettings m s ≡ false → noList m s (b .keys) (b .bits) (b .n) ≡ false
+      → noSummary m s (pictureOf m (recordsOf (b .keys) (b .bits) (b .n))) (b .summary) ≡ false
+      → noLog m s (b .logKeys) (b .logValues) (b .used) (b .inForce) ≡ false
+      → (b .inForce ≡ b .used → ⊥)
+      → length (listAfter m b) ≤ room (b .keys) (b .bits)
+      → answer m s b redoing ≡ 0
+  unfolding answer redo redoRefusal
+  some-undone settings list counts log some fits = none-first rows (settings, (list, (counts, (log, (ne-eqb _ _ some, (le-ltb _ _ fits, tt))))))
+
+  -- an accepted redo writes its list and its summary and leaves the log
+  redo-done : answer m s b redoing ≡ 0 → after m s b redoing ≡ withForce b (listAfter m b) (summaryAfter m s b) (reached b)
+  unfolding answer after redo redoKeys redoBits redoSummary redoLogKeys redoLogValues forceAfter
+  redo-done e = rw (eq-eqb _ 0 e)
+
+  -- a refused one leaves the buffers
+  pub redo-left : (answer m s b redoing ≡ 0 → ⊥) → after m s b redoing ≡ b
+  unfolding answer after redo redoKeys redoBits redoSummary redoLogKeys redoLogValues
+  redo-left h = rw (ne-eqb _ 0 h)
+
+  -- and the paints
+  keep-left : (k : Kept) → (answer m s b redoing ≡ 0 → ⊥) → keep redoing (answer m s b redoing) k ≡ k
+  unfolding keep
+  keep-left k h = rw (ne-eqb _ 0 h)
+
+  -- an accepted one holds the next paint again
+  keep-done : (held : List Paint) (x : Paint) (xs fixed : List Paint) → answer m s b redoing ≡ 0
+      → keep redoing (answer m s b redoing) (record { held = held; undone = x ∷ xs; fixed = fixed }) ≡ record { held = x ∷ held; undone = xs; fixed = fixed }
+  unfolding keep withNext
+  keep-done held x xs fixed e = rw (eq-eqb _ 0 e)
+
+module _ {m s : ℕ} {p : Picture} {keys bits logKeys logValues : List ℕ} {b : Buffers} {inList inLog : ℕ} (held : List Paint) (x : Paint) (xs fixed : List Paint)
+    (h : Invariant m s p keys bits logKeys logValues b (record { held = held; undone = x ∷ xs; fixed = fixed }) inList inLog) where
+  -- the picture now, and with the paint redone
+  abbrev before : Picture
+  before = drawn m (drawn m p fixed) held
+
+  abbrev painted : Picture
+  painted = paintIn m (x .key) (x .feature) before
+
+  -- the paint's entry, and what can be redone after it
+  abbrev entry : List Record
+  entry = entryOf m before (x .key) (x .feature)
+
+  abbrev rest : List Record
+  rest = logAfter m painted xs
+
+  rest-entries : Entries m s rest
+  rest-entries = future-entries (future-legal (h .future) .below) (future-after (h .future))
+
+  -- the records to redo are both
+  redo-is : redoIn b ≡ entry ++ rest
+  redo-is = now-redo h ∙ after-next m before x xs
+
+  -- the list afterwards is that of the painted picture
+  list-is : listAfter m b ≡ listOfPicture m painted
+  list-is = ap₂ (redone m) (now-records h) redo-is ∙ redone-list m s (x .key) (x .feature) before rest-entries
+
+  -- and so the summary
+  summary-is : summaryAfter m s b ≡ summaryOf m s painted
+  summary-is =
+      ap₂ (λ l log. summaryOf m s (redonePicture m l log)) (now-records h) redo-is ∙ redone-summary m s (x .key) (x .feature) before rest-entries
+
+  -- as many are in force afterwards as the entry adds
+  reached-is : reached b ≡ b .inForce + length entry
+  reached-is = ap (λ l. b .inForce + length (firstEntry l)) redo-is ∙ ap (λ l. b .inForce + length l) (first-next m s (x .key) (x .feature) before rest-entries)
+
+  -- that list has room, as it had then: refusal 9 does not come
+  painted-fits : length (listOfPicture m painted) ≤ room keys bits
+  painted-fits = future-legal (h .future) .fits
+
+  -- where a paint is undone redo is accepted
+  undone-accepted : answer m s b redoing ≡ 0
+  undone-accepted =
+      let counts = log-counts (h .log) in
+      let size = ap length (after-next m before x xs) ∙ length-append entry rest in
+      let some = entry-some m (x .key) (x .feature) before in
+      some-undone m s b (h .settings) (ap not (now-is-list h)) (now-is-summary h) (now-is-log h) (λ e. omega arith) (rw (list-is, list-room (h .list)) painted-fits)
+
+  -- the buffers with that list keep the invariant
+  redo-holds : Invariant m s p keys bits logKeys logValues
+      (withForce b (listOfPicture m painted) (summaryOf m s painted) (b .inForce + length entry))
+      (record { held = x ∷ held; undone = xs; fixed = fixed })
+      (max inList (length (listOfPicture m painted)))
+      (max inLog (b .used))
+  redo-holds =
+      let same : drawn m (drawn m p fixed) (x ∷ held) ≡ painted = drawn-latest m (drawn m p fixed) x held in
+      record {
+        settings = h .settings;
+        list = rw same (list-replaced (listOfPicture m painted) (h .list) painted-fits);
+        counts = ap (summaryOf m s) (sym same);
+        log = rw (same, log-latest m (drawn m p fixed) x held)
+            (log-again (logOf m (drawn m p fixed) held) entry rest (rw (after-next m before x xs) at (h .log)));
+        past = past.later (h .past) x (future-valid (h .future)) (future-below (h .future)) (rw same (future-legal (h .future)));
+        future = rw same (future-after (h .future));
+      }
+
+  undone-keeps : Keeps m s p keys bits logKeys logValues b (record { held = held; undone = x ∷ xs; fixed = fixed }) inList inLog redoing
+  undone-keeps =
+      rw (
+        keep-done m s b held x xs fixed undone-accepted,
+        redo-done m s b undone-accepted
+            ∙ ap₂ (λ l n. withForce b l (summaryAfter m s b) n) list-is reached-is
+            ∙ ap (λ counts. withForce b (listOfPicture m painted) counts (b .inForce + length entry)) summary-is,
+      )
+      redo-holds
+
+-- where no paint is undone the answer is 20
+none-answer : {m s : ℕ} {p : Picture} {keys bits logKeys logValues : List ℕ} {b : Buffers} {held fixed : List Paint} {inList inLog : ℕ}
+    → Invariant m s p keys bits logKeys logValues b (record { held = held; undone = []; fixed = fixed }) inList inLog
+    → answer m s b redoing ≡ 20
+none-answer {m} {s} {p} {b = b} {held = held} {fixed = fixed} h =
+    let counts = log-counts (h .log) in
+    let none = ap length (after-none m (drawn m (drawn m p fixed) held)) in
+    none-undone m s b (h .settings) (ap not (now-is-list h)) (now-is-summary h) (now-is-log h) (omega arith)
+
+module _ {m s : ℕ} {p : Picture} {keys bits logKeys logValues : List ℕ} {b : Buffers} {inList inLog : ℕ} where
+  -- redo is refused, with 20, exactly when no paint is there to redo
+  pub redo-answer : (held undone fixed : List Paint)
+      → Invariant m s p keys bits logKeys logValues b (record { held = held; undone = undone; fixed = fixed }) inList inLog
+      → answer m s b redoing ≡ redoAnswer undone
+  unfolding redoAnswer
+  redo-answer held [] fixed h = none-answer h
+  redo-answer held (x ∷ xs) fixed h = undone-accepted held x xs fixed h
+
+  -- a redo keeps the invariant
+  pub redo-keeps : (held undone fixed : List Paint)
+      → Invariant m s p keys bits logKeys logValues b (record { held = held; undone = undone; fixed = fixed }) inList inLog
+      → Keeps m s p keys bits logKeys logValues b (record { held = held; undone = undone; fixed = fixed }) inList inLog redoing
+  redo-keeps held [] fixed h =
+      let refused : answer m s b redoing ≡ 0 → ⊥ = λ e. (let a = none-answer h in omega arith) in
+      same-keeps redoing (redo-left m s b refused) (keep-left m s b (record { held = held; undone = []; fixed = fixed }) refused) h
+  redo-keeps held (x ∷ xs) fixed h = undone-keeps held x xs fixed h

@@ -1,0 +1,50 @@
+-- `entry::first_entry` meets its contract: after each turn the first entry is the first of what is left.
+use native.Mathlib.Omega.{arith}
+use Rattle.log.proofs.First.{Walk, divided-ended, walk-begins, start-less, walk-left, walk-turns, walk-ends}
+use Rattle.log.proofs.entry.first_entry.Statement.{statement}
+use Rattle.log.proofs.entry.first_entry.Tie as tie
+
+abbrev Inv-loop : tie.InvT-loop
+Inv-loop keys values used end₀ start₀ end start = Walk keys values used end start
+
+abbrev μ-loop : tie.MeasureT-loop
+μ-loop keys values used end₀ start₀ end start = start
+
+last-entry-requires : tie.Need-last-entry-requires Inv-loop μ-loop
+last-entry-requires c κs = divided-ended (c .before .before .pre)
+
+loop-holds : tie.Need-loop-holds Inv-loop μ-loop
+loop-holds c = walk-begins _ (c .before .before .before .pre) (c .last-entry .ensures)
+
+last-entry-requires-2 : tie.Need-last-entry-requires-2 Inv-loop μ-loop
+last-entry-requires-2 c κs = divided-ended (walk-left (c .before .loop .inv) (c .loop-test .taken))
+
+loop-less : tie.Need-loop-less Inv-loop μ-loop
+loop-less c =
+    let turn = c .before in
+    start-less (walk-turns (turn .before .loop .inv) _ (turn .loop-test .taken) (c .last-entry2 .ensures))
+
+loop-again : tie.Need-loop-again Inv-loop μ-loop
+loop-again c =
+    let turn = c .before in
+    walk-turns (turn .before .loop .inv) _ (turn .loop-test .taken) (c .last-entry2 .ensures)
+
+last-entry-requires-3 : tie.Need-last-entry-requires-3 Inv-loop μ-loop
+last-entry-requires-3 c κs = divided-ended (c .before .loop .inv .left)
+
+returns : tie.Need-returns Inv-loop μ-loop
+returns c = walk-ends (c .before .before .loop .inv) _ (c .before .loop-test .left) (c .last-entry3 .ensures)
+
+pub first-entry-spec : {M : Type 1} → statement M
+first-entry-spec =
+    tie.close
+    (tie.spec
+    Inv-loop
+    μ-loop
+    last-entry-requires
+    loop-holds
+    last-entry-requires-2
+    loop-less
+    loop-again
+    last-entry-requires-3
+    returns)
