@@ -1,3 +1,5 @@
 pub mod Rearrangements
 pub mod ApartBlocks
 pub mod Swaps
+pub mod Sheets
+pub mod Theorem

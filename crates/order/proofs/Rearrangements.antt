@@ -54,12 +54,12 @@ swapped-times (swap {x = y} {y = z} {xs = xs}) x =
 swapped-times (and-then d e) x = swapped-times d x ∙ swapped-times e x
 
 -- ys is a run with x at some place, and rest is what is left without it
-record Found (x : Paint) (ys : List Paint) : Type 0 where
-  rest : List Paint
-  brought : Swapped (x ∷ rest) ys
+pub record Found (x : Paint) (ys : List Paint) : Type 0 where
+  pub rest : List Paint
+  pub brought : Swapped (x ∷ rest) ys
 
 -- a paint that comes in a run can be brought to its front
-found : (x : Paint) (ys : List Paint) → 1 ≤ timesIn x ys → Found x ys
+pub found : (x : Paint) (ys : List Paint) → 1 ≤ timesIn x ys → Found x ys
 found x [] h = let e = times-none x in absurd (omega arith)
 found x (y ∷ ys) h =
     decide (samePaint x y)
@@ -69,10 +69,14 @@ found x (y ∷ ys) h =
     let deeper = found x ys (omega arith) in
     record { rest = y ∷ deeper .rest; brought = and-then swap (further (deeper .brought)) })
 
+-- a run with a paint is no rearrangement of one without
+pub not-none : (y : Paint) (ys : List Paint) → Rearranged [] (y ∷ ys) → ⊥
+not-none y ys h = let e = times-none y in let f = times-first y ys in let g = h y in omega arith
+
 -- where each paint comes as often in both runs, swaps lead from one to the other
 pub times-swapped : (xs ys : List Paint) → Rearranged xs ys → Swapped xs ys
 times-swapped [] [] h = none
-times-swapped [] (y ∷ ys) h = let e = times-none y in let f = times-first y ys in let g = h y in absurd (omega arith)
+times-swapped [] (y ∷ ys) h = absurd (not-none y ys h)
 times-swapped (x ∷ xs) ys h =
     let first = times-first x xs in
     let same = h x in

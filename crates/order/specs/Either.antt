@@ -6,7 +6,8 @@ use mathlib.Core.Bool.{Bool, true, _&&_}
 use mathlib.Core.List.{List, [], _∷_}
 use lib.Dec.{eqb}
 use Rattle.definitions.specs.Picture.{Picture}
-use Rattle.definitions.specs.Read.{recordsOf}
+use Rattle.definitions.specs.List.{Record}
+use Rattle.definitions.specs.Read.{recordsOf, pictureOf}
 use Rattle.definitions.specs.Edit.{paintIn}
 use Rattle.history.specs.History.{Call, painting, Buffers, Paint, answer, after, run}
 
@@ -28,10 +29,18 @@ unfoldable pub inTurn : ℕ → Picture → List Paint → Picture
 inTurn m p [] = p
 inTurn m p (x ∷ xs) = inTurn m (paintIn m (x .key) (x .feature) p) xs
 
+-- the records on a sheet
+abbrev pub listIn : Buffers → List Record
+listIn b = recordsOf (b .keys) (b .bits) (b .n)
+
+-- the picture that they show
+abbrev pub pictureIn : ℕ → Buffers → Picture
+pictureIn m b = pictureOf m (listIn b)
+
 -- two sheets have the same list, with as many records, and the same summary
 pub record SameSheet (b b′ : Buffers) : Type 0 where
   pub count : b .n ≡ b′ .n
-  pub list : recordsOf (b .keys) (b .bits) (b .n) ≡ recordsOf (b′ .keys) (b′ .bits) (b′ .n)
+  pub list : listIn b ≡ listIn b′
   pub summary : b .summary ≡ b′ .summary
 
 -- the buffers after the paints of a run
