@@ -3,3 +3,4 @@ pub mod ApartBlocks
 pub mod Swaps
 pub mod Sheets
 pub mod Theorem
+mod Counterexamples
