@@ -12,7 +12,7 @@ use Rattle.history.specs.History.{Paint}
 use Rattle.order.specs.Rearranged.{samePaint, timesIn, Rearranged, Swapped, none, further, swap, and-then}
 
 -- a paint comes no time in a run without paints
-times-none : (x : Paint) → timesIn x [] ≡ 0
+pub times-none : (x : Paint) → timesIn x [] ≡ 0
 unfolding timesIn
 times-none x = refl
 
