@@ -1,0 +1,3 @@
+pub mod Rearranged
+pub mod Apart
+pub mod Either
