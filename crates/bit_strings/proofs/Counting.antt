@@ -16,6 +16,20 @@ use Rattle.bit_strings.specs.declared.next.Passed.{Passed}
 use Rattle.bit_strings.proofs.NextBit.{drop-on}
 use Rattle.bit_strings.proofs.Passing.{GoesOn, Stuck, step, reading-past, records-past}
 
+by-tests : (a b x y : Bool) → isWhole (cond (a || b) runsOn (cond (x || y) spareBitSet whole)) ≡ (not a && not x) && (not b && not y)
+unfolding isWhole
+by-tests true b x y = refl
+by-tests false true true y = refl
+by-tests false true false y = refl
+by-tests false false true y = refl
+by-tests false false false true = refl
+by-tests false false false false = refl
+
+-- what is left over may be, exactly where both strings have spare bits alone
+pub left-is : (ns ls : List Bool) → isWhole (leftOver ns ls) ≡ isSpare ns && isSpare ls
+unfolding leftOver isSpare
+left-is ns ls = by-tests (leb 8 (length ns)) (leb 8 (length ls)) (anySet ns) (anySet ls)
+
 -- i blocks are read, j of them leaves, and the next one has the given key
 pub record Counting (m : ℕ) (nodes leaves : List ℕ) (key i j : ℕ) : Type 0 where
   pub below : i ≤ key
@@ -74,19 +88,6 @@ module _ (m : ℕ) (nodes leaves : List ℕ) (key i j : ℕ) (c : Counting m nod
           read = sym (g .read ∙ (λ t. isWhole (reading m (p .key) (nodes-on t) (leaves-on t)))) ∙ c .read;
           records = omega arith;
         }
-
-  by-tests : (a b x y : Bool) → isWhole (cond (a || b) runsOn (cond (x || y) spareBitSet whole)) ≡ (not a && not x) && (not b && not y)
-  unfolding isWhole
-  by-tests true b x y = refl
-  by-tests false true true y = refl
-  by-tests false true false y = refl
-  by-tests false false true y = refl
-  by-tests false false false true = refl
-  by-tests false false false false = refl
-
-  left-is : (ns ls : List Bool) → isWhole (leftOver ns ls) ≡ isSpare ns && isSpare ls
-  unfolding leftOver isSpare
-  left-is ns ls = by-tests (leb 8 (length ns)) (leb 8 (length ls)) (anySet ns) (anySet ls)
 
   module _ (past : 5 ^ m ≤ key) where
     left : isSpare (drop i (bitsIn nodes)) && isSpare (drop j (bitsIn leaves)) ≡ isPair m nodes leaves

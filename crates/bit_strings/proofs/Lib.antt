@@ -11,3 +11,6 @@ pub mod Filling
 pub mod ReadAnswers
 pub mod Shape
 pub mod WriteAnswers
+pub mod Unpacking
+pub mod Trees
+pub mod OnePair
