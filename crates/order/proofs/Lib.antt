@@ -4,5 +4,6 @@ pub mod Swaps
 pub mod Sheets
 pub mod Theorem
 pub mod AllPaints
+pub mod LogLength
 pub mod Refusals
 mod Counterexamples
