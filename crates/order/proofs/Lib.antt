@@ -6,4 +6,5 @@ pub mod Theorem
 pub mod AllPaints
 pub mod LogLength
 pub mod Refusals
+pub mod NextPaint
 mod Counterexamples
