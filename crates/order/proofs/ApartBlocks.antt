@@ -84,7 +84,7 @@ module _ (m a b : ℕ) (valid-a : validKey m a ≡ true) (valid-b : validKey m b
       true≢false (sym in-b ∙ h (rowOf m b) (columnOf m b) in-a)
 
 -- sharing no pixel goes both ways
-disjoint-flip : (m a b : ℕ) → Disjoint m a b → Disjoint m b a
+pub disjoint-flip : (m a b : ℕ) → Disjoint m a b → Disjoint m b a
 disjoint-flip m a b h row column e = decide (inBlock m a row column) (λ f. absurd (true≢false (sym e ∙ h row column f))) (λ out. out)
 
 -- a block has a pixel

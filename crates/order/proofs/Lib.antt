@@ -4,5 +4,7 @@ pub mod Swaps
 pub mod Sheets
 pub mod Theorem
 pub mod AllPaints
+pub mod LogLength
 pub mod Refusals
+pub mod NextPaint
 mod Counterexamples

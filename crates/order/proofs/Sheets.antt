@@ -86,6 +86,14 @@ module _ (m s : ℕ) where
         summary = ap (λ l′. summaryOf m s (paintedPicture m l′ κ f)) e ∙ painted-summary m s κ f p;
       })
 
+  -- buffers that a paint was accepted on have the list of the picture that they show
+  pub accepted-list : (b : Buffers) (x : Paint) → answer m s b (asCall x) ≡ 0 → listIn b ≡ listOfPicture m (pictureIn m b)
+  accepted-list b x e = shown-list m s (b .keys) (b .bits) (b .n) (passed m s b (x .key) (x .feature) e .list)
+
+  -- and its key was valid
+  pub accepted-valid : (b : Buffers) (x : Paint) → answer m s b (asCall x) ≡ 0 → validKey m (x .key) ≡ true
+  accepted-valid b x e = passed m s b (x .key) (x .feature) e .valid
+
   -- the first paint of a run that is accepted in full is accepted
   pub first-accepted : (b : Buffers) (x : Paint) (xs : List Paint) → inFull m s b (x ∷ xs) ≡ true → answer m s b (asCall x) ≡ 0
   unfolding inFull
@@ -102,7 +110,7 @@ module _ (m s : ℕ) where
   in-full-valid b [] h = refl
   in-full-valid b (x ∷ xs) h =
       and-both (validKey m (x .key)) (allValid m xs)
-      (passed m s b (x .key) (x .feature) (first-accepted b x xs h) .valid)
+      (accepted-valid b x (first-accepted b x xs h))
       (in-full-valid (after m s b (asCall x)) xs (rest-in-full b x xs h))
 
   -- a run on a sheet that shows a picture leaves one that shows the picture with the paints in turn
@@ -119,6 +127,5 @@ module _ (m s : ℕ) where
   unfolding asCalls run inTurn
   run-shows b x xs h =
       let accepted = first-accepted b x xs h in
-      let own = shown-list m s (b .keys) (b .bits) (b .n) (passed m s b (x .key) (x .feature) accepted .list) in
       more-shows (after m s b (asCall x)) (paintIn m (x .key) (x .feature) (pictureIn m b)) xs
-      (paint-shows b (pictureIn m b) x own accepted) (rest-in-full b x xs h)
+      (paint-shows b (pictureIn m b) x (accepted-list b x accepted) accepted) (rest-in-full b x xs h)
