@@ -53,7 +53,7 @@ extern "C" {
 #endif
 
 /* Grows by one whenever a call or a result changes its shape. */
-#define HLQ_INTERFACE 4
+#define HLQ_INTERFACE 5
 
 #define HLQ_DEEPEST_M 10  /* the largest m */
 #define HLQ_MOST_SLOTS 16 /* the largest s */
@@ -66,6 +66,10 @@ extern "C" {
 
 /* The bytes of the file of a list of n records. */
 #define HLQ_FILE_BYTES(n) (11 + 6 * (size_t)(n))
+
+/* The bytes of the two bit strings of a list of n records: one bit a node, one bit a leaf. */
+#define HLQ_NODE_STRING_BYTES(n) (((size_t)(n) + 7) / 8)
+#define HLQ_LEAF_STRING_BYTES(n) (((size_t)(n) - (size_t)(n) / 4 + 7) / 8)
 
 /* The stack that a call needs at most, in bytes. */
 #define HLQ_STACK_BYTES 8192
@@ -96,7 +100,8 @@ enum {
     HLQ_FILE_LENGTH = 15,  /* the file has under 11 bytes, or a wrong length */
     HLQ_FILE_MARK = 16,    /* the file does not begin with HLQ */
     HLQ_FILE_VERSION = 17, /* the file's version is not 1 */
-    HLQ_SUMMARY = 18       /* the summary has a wrong length, or does not hold this map's counts */
+    HLQ_SUMMARY = 18,      /* the summary has a wrong length, or does not hold this map's counts */
+    HLQ_BIT_STRINGS = 23   /* s is not 2, or what is to be read is no pair of bit strings */
 };
 
 /* The words for a refusal, for a message to people. */
@@ -121,6 +126,7 @@ static inline const char *hlq_refusal_text(uint64_t refusal) {
     case HLQ_FILE_MARK: return "not a file of a list";
     case HLQ_FILE_VERSION: return "a file of another version";
     case HLQ_SUMMARY: return "not the summary of the list";
+    case HLQ_BIT_STRINGS: return "not two features, or not a pair of bit strings";
     default: return "no known refusal";
     }
 }
@@ -136,6 +142,7 @@ typedef struct { uint64_t refusal, pixels; } hlq_measured;
 typedef struct { uint64_t refusal, n, used; } hlq_edited;
 typedef struct { uint64_t refusal, live, hidden; } hlq_found; /* with HLQ_ANSWER_ROOM: live */
 typedef struct { uint64_t refusal, m, s, n; } hlq_loaded;
+typedef struct { uint64_t refusal, node_bytes, leaf_bytes; } hlq_strings; /* as hlq_counted */
 typedef struct { uint32_t id, row, column, height, width, feature; } hlq_rule;
 
 /* KEY AT. The key of the block of this level around a pixel, in count: level m is the pixel itself,
@@ -304,6 +311,30 @@ hlq_counted hlq_store(uint32_t m, uint32_t s,
  * HLQ_LIST_ROOM, in this order. */
 hlq_loaded hlq_load(const uint8_t *file, size_t file_len,
                     uint32_t *keys, size_t keys_len, uint32_t *bits, size_t bits_len);
+
+/* WRITE BIT STRINGS. A list of two features as a pair of bit strings. In key order node_bits has
+ * one bit a node, 0 for an inner node and 1 for a leaf, those at level m too, and leaf_bits has one
+ * bit a leaf, its feature. Both are packed from the high bit of byte 0 on, and the spare bits of
+ * the last byte are zero. They stand in bytes 0 to node_bytes - 1 and 0 to leaf_bytes - 1, which
+ * are HLQ_NODE_STRING_BYTES(n) and HLQ_LEAF_STRING_BYTES(n); all other bytes stay. With
+ * HLQ_ANSWER_ROOM both fields hold the bytes needed.
+ * Refusals: HLQ_SETTINGS, HLQ_BIT_STRINGS (s is not 2), HLQ_LIST, HLQ_ANSWER_ROOM, in this
+ * order. */
+hlq_strings hlq_write_bit_strings(uint32_t m, uint32_t s,
+                                  const uint32_t *keys, size_t keys_len,
+                                  const uint32_t *bits, size_t bits_len, size_t n,
+                                  uint8_t *node_bits, size_t node_bits_len,
+                                  uint8_t *leaf_bits, size_t leaf_bits_len);
+
+/* READ BIT STRINGS. The list of a pair of bit strings in places 0 to count - 1 of keys and bits;
+ * all other places stay. The two slices have exactly the bytes of the strings. The pair is refused
+ * when the bits end early, run on, go deeper than m, have a spare bit set, or show four leaves of
+ * one feature under one node.
+ * Refusals: HLQ_SETTINGS, HLQ_BIT_STRINGS, HLQ_LIST_ROOM, in this order. */
+hlq_counted hlq_read_bit_strings(uint32_t m, uint32_t s,
+                                 const uint8_t *node_bits, size_t node_bits_len,
+                                 const uint8_t *leaf_bits, size_t leaf_bits_len,
+                                 uint32_t *keys, size_t keys_len, uint32_t *bits, size_t bits_len);
 
 #ifdef __cplusplus
 }

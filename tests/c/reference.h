@@ -90,5 +90,13 @@ hlq_counted ref_store(uint32_t m, uint32_t s,
                       size_t n, uint8_t *file, size_t file_len);
 hlq_loaded ref_load(const uint8_t *file, size_t file_len,
                     uint32_t *keys, size_t keys_len, uint32_t *bits, size_t bits_len);
+hlq_strings ref_write_bit_strings(uint32_t m, uint32_t s,
+                                  const uint32_t *keys, size_t keys_len, const uint32_t *bits, size_t bits_len,
+                                  size_t n, uint8_t *node_bits, size_t node_bits_len,
+                                  uint8_t *leaf_bits, size_t leaf_bits_len);
+hlq_counted ref_read_bit_strings(uint32_t m, uint32_t s,
+                                 const uint8_t *node_bits, size_t node_bits_len,
+                                 const uint8_t *leaf_bits, size_t leaf_bits_len,
+                                 uint32_t *keys, size_t keys_len, uint32_t *bits, size_t bits_len);
 
 #endif

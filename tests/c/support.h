@@ -13,7 +13,7 @@
 #define SOME(rounds) (rounds)
 #endif
 
-enum { GUARD = 8, MAX_REFUSAL = HLQ_SUMMARY };
+enum { GUARD = 8, MAX_REFUSAL = HLQ_BIT_STRINGS };
 
 typedef enum {
     CALL_KEY_AT,
@@ -36,6 +36,8 @@ typedef enum {
     CALL_FINDINGS,
     CALL_STORE,
     CALL_LOAD,
+    CALL_WRITE_BIT_STRINGS,
+    CALL_READ_BIT_STRINGS,
     CALLS
 } call;
 

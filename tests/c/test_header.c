@@ -7,7 +7,7 @@
 #include <stdlib.h>
 #include <string.h>
 
-static_assert(HLQ_INTERFACE == 4, "the interface's number");
+static_assert(HLQ_INTERFACE == 5, "the interface's number");
 static_assert(HLQ_DEEPEST_M == 10 && HLQ_MOST_SLOTS == 16, "the limits of document 01");
 static_assert(HLQ_LISTED == 1 && HLQ_INSIDE == 2, "the kinds");
 static_assert(HLQ_ACCEPTED == 0 && HLQ_SETTINGS == 1 && HLQ_RASTER_LENGTH == 2 && HLQ_PIXEL == 3 && HLQ_LIST == 4 &&
@@ -58,6 +58,10 @@ static void macros_meet_calls(uint32_t m) {
     must(stored.refusal == HLQ_ANSWER_ROOM && stored.count == HLQ_FILE_BYTES(most), "a byte too few");
     stored = hlq_store(m, 2, keys, most, bits, most, most, file, HLQ_FILE_BYTES(most));
     must(stored.refusal == HLQ_ACCEPTED && stored.count == HLQ_FILE_BYTES(most), "HLQ_FILE_BYTES holds the file");
+    size_t nodes = HLQ_NODE_STRING_BYTES(most), leaves = HLQ_LEAF_STRING_BYTES(most);
+    hlq_strings strings = hlq_write_bit_strings(m, 2, keys, most, bits, most, most, file, nodes, file + nodes, leaves);
+    must(strings.refusal == HLQ_ACCEPTED && strings.node_bytes == nodes && strings.leaf_bytes == leaves,
+         "HLQ_NODE_STRING_BYTES and HLQ_LEAF_STRING_BYTES hold the bit strings");
     must(hlq_standing(m, 2, keys, most, bits, most, most, 0).kind == HLQ_LISTED, "the root is listed");
     must(hlq_fill_summary(m, 2, keys, most, bits, most, most, summary, places).refusal == HLQ_ACCEPTED,
          "HLQ_SUMMARY_PLACES is the summary's length");

@@ -175,3 +175,7 @@ module _ (bytes : List ℕ) (i : ℕ) (inside : i / 8 < length bytes) where
 pub bit-past : (bytes : List ℕ) (i : ℕ) → length bytes ≤ i / 8 → 2 ≡ nextBit (bitsAfter bytes i)
 unfolding nextBit
 bit-past bytes i h = sym (ap nextBit (none-there bytes i h))
+
+-- a power is a divisor
+pub power-positive : (p k : ℕ) → p ≡ 2 ^ k → 0 < p
+power-positive p k e = let h = pow-pos k in omega arith

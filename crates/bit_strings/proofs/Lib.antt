@@ -1,3 +1,4 @@
+mod Rows
 pub mod Bytes
 pub mod NextBit
 pub mod Levels

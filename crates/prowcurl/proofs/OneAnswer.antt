@@ -53,6 +53,10 @@ use Rattle.prowcurl.proofs.files.hlq_store as store
 use Rattle.prowcurl.proofs.files.hlq_store.Reads as store-reads
 use Rattle.prowcurl.proofs.files.hlq_load as load
 use Rattle.prowcurl.proofs.files.hlq_load.Reads as load-reads
+use Rattle.prowcurl.proofs.strings.hlq_write_bit_strings as write-bit-strings
+use Rattle.prowcurl.proofs.strings.hlq_write_bit_strings.Reads as write-bit-strings-reads
+use Rattle.prowcurl.proofs.strings.hlq_read_bit_strings as read-bit-strings
+use Rattle.prowcurl.proofs.strings.hlq_read_bit_strings.Reads as read-bit-strings-reads
 use Rattle.prowcurl.proofs.findings.hlq_findings as findings
 
 -- what a contract tells the caller of what was lent, the result, and the parameters at exit: `Learnt`, as Rattle reads it off the `ensures`
@@ -220,6 +224,13 @@ store-one = by-equations (λ x. two (x .kept) (x .kept′))
 
 pub load-one : OneAnswer load.ended load-reads.Learnt
 load-one = by-equations (λ x. three (x .kept) (x .kept′))
+
+-- bit strings
+pub write-bit-strings-one : OneAnswer write-bit-strings.ended write-bit-strings-reads.Learnt
+write-bit-strings-one = by-equations (λ x. three (x .kept) (x .kept′))
+
+pub read-bit-strings-one : OneAnswer read-bit-strings.ended read-bit-strings-reads.Learnt
+read-bit-strings-one = by-equations (λ x. three (x .kept) (x .kept′))
 
 -- findings: it is proved by hand, so its contract is read here, in the way that Rattle itself reads the others
 abbrev findings-read : (κs : Lfts 7) (lent : Args findings.signature κs) (r : Res findings.signature κs) (s : AtExit findings.ended κs)

@@ -16,11 +16,11 @@ shared-slice-read-byte c = search needs
 cast-byte : tie.Need-cast-byte
 cast-byte c = omega (arith, c .shared-slice-known .given (c .before .before .args .i / 8))
 
+cast-low : tie.Need-cast-low
+cast-low c = search needs
+
 sub-high : tie.Need-sub-high
 sub-high c = search needs
-
-cast-high : tie.Need-cast-high
-cast-high c = search needs
 
 shr-result : tie.Need-shr-result
 shr-result c = search needs
@@ -31,4 +31,4 @@ returns-2 c = bit-there (c .before .before .args .bytes .now) (c .before .before
 pub bit-at-spec : {M : Type 1} → statement M
 bit-at-spec =
     tie.close
-    (tie.spec returns shared-slice-read-byte cast-byte sub-high cast-high shr-result returns-2)
+    (tie.spec returns shared-slice-read-byte cast-byte cast-low sub-high shr-result returns-2)

@@ -1,5 +1,4 @@
-use Rattle.bit_strings.proofs.Bytes.{none-there, spare-none, spare-byte, spare-more, spare-last}
-use lib.Pow.{pow-pos}
+use Rattle.bit_strings.proofs.Bytes.{power-positive, none-there, spare-none, spare-byte, spare-more, spare-last}
 use lib.ListN.{getD}
 use lib.Dec.{eqb}
 use mathlib.Core.Path.{_≡_, sym, _∙_, ap}
@@ -40,7 +39,7 @@ power-of-two-requires : tie.Need-power-of-two-requires
 power-of-two-requires c κs = search needs
 
 rem-result : tie.Need-rem-result
-rem-result c = omega (arith, c .power-of-two .ensures, pow-pos (8 - c .before .before .before .before .before .before .args .at % 8))
+rem-result c = omega (arith, power-positive _ _ (c .power-of-two .ensures))
 
 returns-4 : tie.Need-returns-4
 returns-4 c =
