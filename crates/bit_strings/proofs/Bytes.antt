@@ -11,7 +11,7 @@ use lib.Seq.{drop-nil, drop-append-le, drop-append-add}
 use lib.Dec.{leb, eqb}
 use lib.Arith.{mod-mul}
 use lib.Pow.{pow-pos}
-use borrow.Author.Tests.{eq-eqb, ne-eqb, eqb-true, eqb-false, le-leb, lt-leb}
+use borrow.Author.Tests.{ne-eqb, eqb-true, eqb-false, le-leb, lt-leb}
 use Rattle.keys.proofs.Cases.{decide}
 use Rattle.definitions.specs.Bits.{hasSlot}
 use Rattle.definitions.specs.BitStrings.{bitsOfByte, bitsIn, anySet}

@@ -13,5 +13,7 @@ pub mod ReadAnswers
 pub mod Shape
 pub mod WriteAnswers
 pub mod Unpacking
+pub mod Places
+pub mod Siblings
 pub mod Trees
 pub mod OnePair

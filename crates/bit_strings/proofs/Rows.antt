@@ -2,11 +2,10 @@
 -- of the refusals (docs/BIT-STRINGS.md works the same sheet by hand). Rests on the definitions.
 use Prim.Native.Nat.{ℕ}
 use mathlib.Core.Path.{_≡_, refl}
-use mathlib.Core.Bool.{Bool, true, false}
 use mathlib.Core.List.{List, [], _∷_}
 use Rattle.definitions.specs.Picture.{everyPixel, oneFeature}
 use Rattle.definitions.specs.Bits.{unionOfFour, bitsOf}
-use Rattle.definitions.specs.List.{Record, recordOf, listOf, listOfRaster, keysOf, valuesOf}
+use Rattle.definitions.specs.List.{listOf, listOfRaster, keysOf, valuesOf}
 use Rattle.definitions.specs.BitStrings.{isInner, nodeBits, leafBits, highFirst, packedIn, packed, bitsOfByte, bitsIn, levelsBelow, keyAfter}
 use Rattle.definitions.specs.BitStrings.{beginsWith, fourEqual, anySet, leftOver, reading, recordsFrom, recordsOfPair, isWhole, isPair}
 use Rattle.definitions.specs.BitStrings.{Reading, whole, endsEarly, runsOn, tooDeep, spareBitSet, equalSiblings}

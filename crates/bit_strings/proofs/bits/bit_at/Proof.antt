@@ -1,11 +1,10 @@
+-- `bits::bit_at` meets its contract: past the last byte there is none, and else it is a digit of its byte.
 use Rattle.bit_strings.proofs.Bytes.{bit-past, bit-there}
 use Prim.Native.Nat.{_/_}
 use native.Mathlib.Omega.{arith}
 use borrow.Author.Needs.{needs}
 use Rattle.bit_strings.proofs.bits.bit_at.Statement.{statement}
 use Rattle.bit_strings.proofs.bits.bit_at.Tie as tie
-use Rattle.bit_strings.proofs.bits.bit_at.Reads as reads
-use Rattle.bit_strings.proofs.bits.bit_at.Lts as lts
 
 returns : tie.Need-returns
 returns c = bit-past (c .before .args .bytes .now) (c .before .args .i) (c .if1 .taken)
