@@ -302,6 +302,29 @@ static void leaf_lists(size_t n) {
     if (memcmp(keys, other_keys, 4 * n) != 0 || memcmp(bits, other_bits, 4 * n) != 0) printf("THE TWO DIFFER\n");
 }
 
+/* The same map with its features taken in pairs, as two bit strings. */
+static void bit_strings(void) {
+    enum { TWO_PLACES = HLQ_SUMMARY_PLACES(M, 2) };
+    static uint32_t two_keys[MOST], two_bits[MOST], two_summary[TWO_PLACES];
+    static uint8_t nodes[HLQ_NODE_STRING_BYTES(MOST)], leaves[HLQ_LEAF_STRING_BYTES(MOST)];
+    for (size_t i = 0; i < PIXELS; i++) back[i] = raster[i] & 1;
+    size_t n = hlq_build(M, 2, back, PIXELS, two_keys, MOST, two_bits, MOST, two_summary, TWO_PLACES).count;
+    size_t node_bytes = HLQ_NODE_STRING_BYTES(n), leaf_bytes = HLQ_LEAF_STRING_BYTES(n);
+    int times = times_for(n);
+    printf("\nbit strings at m = %d, n = %zu\n", M, n);
+    COMPARE("write bit strings", 5, times,
+            sink += hlq_write_bit_strings(M, 2, two_keys, MOST, two_bits, MOST, n, nodes, sizeof nodes, leaves,
+                                          sizeof leaves)
+                        .leaf_bytes,
+            sink += (uint64_t)plain_is_list(M, 2, two_keys, two_bits, n) +
+                    plain_write_bits(two_bits, n, nodes, leaves));
+    COMPARE("read bit strings", 5, times,
+            sink += hlq_read_bit_strings(M, 2, nodes, node_bytes, leaves, leaf_bytes, other_keys, MOST, other_bits,
+                                         MOST)
+                        .count,
+            sink += plain_read_bits(M, nodes, node_bytes, leaves, leaf_bytes, other_keys, other_bits));
+}
+
 /* Windows dragged over the north-west corner: what clipping adds to the strict call on the overlap. */
 static void clipped(size_t n) {
     size_t visited;
@@ -390,6 +413,7 @@ int main(void) {
     findings(n, 1);
     files(S, n);
     leaf_lists(n);
+    bit_strings();
     classes(8);
     classes(HLQ_MOST_SLOTS);
     free(file);

@@ -753,3 +753,63 @@ size_t plain_write_leaves(const uint32_t *keys, const uint32_t *bits, size_t n, 
         if (one_bit(bits[i])) leaf_keys[at] = keys[i], leaf_features[at++] = (uint32_t)__builtin_ctz(bits[i]);
     return at;
 }
+
+/* ---- bit strings */
+
+/* Both strings in one pass, each bit pushed into a byte that is stored when it is full. */
+size_t plain_write_bits(const uint32_t *bits, size_t n, uint8_t *nodes, uint8_t *leaves) {
+    uint32_t node = 0, leaf = 0;
+    size_t count = 0;
+    for (size_t i = 0; i < n; i++) {
+        uint32_t is_leaf = bits[i] != 3;
+        node = node << 1 | is_leaf;
+        if (i % 8 == 7) nodes[i / 8] = (uint8_t)node;
+        if (!is_leaf) continue;
+        leaf = leaf << 1 | bits[i] >> 1;
+        if (count % 8 == 7) leaves[count / 8] = (uint8_t)leaf;
+        count++;
+    }
+    if (n % 8) nodes[n / 8] = (uint8_t)(node << (8 - n % 8));
+    if (count % 8) leaves[count / 8] = (uint8_t)(leaf << (8 - count % 8));
+    return count;
+}
+
+/* A pair that is read. */
+typedef struct {
+    const uint8_t *nodes, *leaves;
+    size_t nodes_len, leaves_len, i, j;
+    uint32_t *keys, *bits;
+} strings;
+
+/* Reads a block; 0 where it is wrong. What it writes as a leaf is told apart by its bits. */
+static int read_block(strings *s, uint32_t key, uint32_t step) {
+    if (s->i / 8 >= s->nodes_len) return 0;
+    size_t at = s->i++;
+    s->keys[at] = key;
+    if (s->nodes[at / 8] >> (7 - at % 8) & 1) {
+        if (s->j / 8 >= s->leaves_len) return 0;
+        s->bits[at] = 1 + (s->leaves[s->j / 8] >> (7 - s->j % 8) & 1);
+        s->j++;
+        return 1;
+    }
+    if (step == 1) return 0;
+    s->bits[at] = 3;
+    for (uint32_t d = 1; d <= 4; d++)
+        if (!read_block(s, key + d * (step / 5), step / 5)) return 0;
+    const uint32_t *b = s->bits + at;
+    return s->i != at + 5 || b[1] != b[2] || b[2] != b[3] || b[3] != b[4];
+}
+
+static int is_spare(const uint8_t *bytes, size_t len, size_t at) {
+    return len == (at + 7) / 8 && (at % 8 == 0 || (uint8_t)(bytes[at / 8] << at % 8) == 0);
+}
+
+/* One pass that writes as it reads: unlike the library it may leave something behind where it refuses. */
+size_t plain_read_bits(uint32_t m, const uint8_t *nodes, size_t nodes_len, const uint8_t *leaves, size_t leaves_len,
+                       uint32_t *keys, uint32_t *bits) {
+    uint32_t step = 1;
+    while (m--) step *= 5;
+    strings s = { nodes, leaves, nodes_len, leaves_len, 0, 0, keys, bits };
+    if (!read_block(&s, 0, step)) return 0;
+    return is_spare(nodes, nodes_len, s.i) && is_spare(leaves, leaves_len, s.j) ? s.i : 0;
+}

@@ -52,6 +52,9 @@ size_t plain_read_leaves(uint32_t m, uint32_t s, const uint32_t *leaf_keys, cons
                          size_t leaves, uint32_t *keys, uint32_t *bits, size_t room);
 size_t plain_write_leaves(const uint32_t *keys, const uint32_t *bits, size_t n, uint32_t *leaf_keys,
                           uint32_t *leaf_features);
+size_t plain_write_bits(const uint32_t *bits, size_t n, uint8_t *nodes, uint8_t *leaves);
+size_t plain_read_bits(uint32_t m, const uint8_t *nodes, size_t nodes_len, const uint8_t *leaves, size_t leaves_len,
+                       uint32_t *keys, uint32_t *bits);
 /* The raster scan that report answers. */
 uint32_t plain_scan(uint32_t m, const uint8_t *raster, uint32_t row, uint32_t column, uint32_t height, uint32_t width);
 

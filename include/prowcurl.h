@@ -71,6 +71,10 @@ extern "C" {
 /* The bytes of the file of a list of n records: a record takes 6, and above 16 slots 8. */
 #define HLQ_FILE_BYTES(n, s) (11 + ((s) > 16 ? 8 : 6) * (size_t)(n))
 
+/* The bytes of the two bit strings of a list of n records: one bit a node, one bit a leaf. */
+#define HLQ_NODE_STRING_BYTES(n) (((size_t)(n) + 7) / 8)
+#define HLQ_LEAF_STRING_BYTES(n) (((size_t)(n) - (size_t)(n) / 4 + 7) / 8)
+
 /* The stack that a call needs at most, in bytes. */
 #define HLQ_STACK_BYTES 8192
 
@@ -102,8 +106,14 @@ enum {
     HLQ_FILE_MARK = 16,    /* the file does not begin with HLQ */
     HLQ_FILE_VERSION = 17, /* the file's version is neither 1 nor 2, or is 2 with s up to 16 */
     HLQ_SUMMARY = 18,      /* the summary has a wrong length, or does not hold this map's counts */
-    HLQ_LEAVES = 19        /* the count exceeds the leaves' slices, or the leaves are not ascending
+    HLQ_LEAVES = 19,       /* the count exceeds the leaves' slices, or the leaves are not ascending
                               valid keys that cover the raster once, with features below s */
+    HLQ_NO_REDO = 20,      /* no paint that was taken back is there to redo */
+    HLQ_OFFICE = 21,       /* the office is neither 0 nor 1 */
+    HLQ_ROW = 22,          /* the row to add is there, or the row to remove is not */
+    HLQ_BIT_STRINGS = 23,  /* s is not 2, or what is to be read is no pair of bit strings */
+    HLQ_RESOLUTION = 24,   /* the two lists to combine have different m */
+    HLQ_CLASS_TABLE = 25   /* the table's length is not s1 * s2, or an entry is s3 or more */
 };
 
 /* The words for a refusal, for a message to people. */
@@ -129,6 +139,12 @@ static inline const char *hlq_refusal_text(uint64_t refusal) {
     case HLQ_FILE_VERSION: return "a file of another version";
     case HLQ_SUMMARY: return "not the summary of the list";
     case HLQ_LEAVES: return "not the leaves of a raster";
+    case HLQ_NO_REDO: return "nothing to redo";
+    case HLQ_OFFICE: return "not an office";
+    case HLQ_ROW: return "the row to add is there, or the row to remove is not";
+    case HLQ_BIT_STRINGS: return "not two features, or not a pair of bit strings";
+    case HLQ_RESOLUTION: return "two lists of different resolution";
+    case HLQ_CLASS_TABLE: return "a table of a wrong length, or with an entry that is no class";
     default: return "no known refusal";
     }
 }
@@ -144,6 +160,7 @@ typedef struct { uint64_t refusal, pixels; } hlq_measured;
 typedef struct { uint64_t refusal, n, used; } hlq_edited;
 typedef struct { uint64_t refusal, live, hidden; } hlq_found; /* with HLQ_ANSWER_ROOM: live */
 typedef struct { uint64_t refusal, m, s, n; } hlq_loaded;
+typedef struct { uint64_t refusal, node_bytes, leaf_bytes; } hlq_strings; /* as hlq_counted */
 typedef struct { uint32_t id, row, column, height, width, feature; } hlq_rule;
 typedef struct {
     uint32_t report; /* 0 asks exist, any other number report */
@@ -352,6 +369,30 @@ hlq_counted hlq_write_leaves(uint32_t m, uint32_t s,
                              const uint32_t *bits, size_t bits_len, size_t n,
                              uint32_t *leaf_keys, size_t leaf_keys_len,
                              uint32_t *leaf_features, size_t leaf_features_len);
+
+/* WRITE BIT STRINGS. A list of two features as a pair of bit strings. In key order node_bits has
+ * one bit a node, 0 for an inner node and 1 for a leaf, those at level m too, and leaf_bits has one
+ * bit a leaf, its feature. Both are packed from the high bit of byte 0 on, and the spare bits of
+ * the last byte are zero. They stand in bytes 0 to node_bytes - 1 and 0 to leaf_bytes - 1, which
+ * are HLQ_NODE_STRING_BYTES(n) and HLQ_LEAF_STRING_BYTES(n); all other bytes stay. With
+ * HLQ_ANSWER_ROOM both fields hold the bytes needed.
+ * Refusals: HLQ_SETTINGS, HLQ_BIT_STRINGS (s is not 2), HLQ_LIST, HLQ_ANSWER_ROOM, in this
+ * order. */
+hlq_strings hlq_write_bit_strings(uint32_t m, uint32_t s,
+                                  const uint32_t *keys, size_t keys_len,
+                                  const uint32_t *bits, size_t bits_len, size_t n,
+                                  uint8_t *node_bits, size_t node_bits_len,
+                                  uint8_t *leaf_bits, size_t leaf_bits_len);
+
+/* READ BIT STRINGS. The list of a pair of bit strings in places 0 to count - 1 of keys and bits;
+ * all other places stay. The two slices have exactly the bytes of the strings. The pair is refused
+ * when the bits end early, run on, go deeper than m, have a spare bit set, or show four leaves of
+ * one feature under one node.
+ * Refusals: HLQ_SETTINGS, HLQ_BIT_STRINGS, HLQ_LIST_ROOM, in this order. */
+hlq_counted hlq_read_bit_strings(uint32_t m, uint32_t s,
+                                 const uint8_t *node_bits, size_t node_bits_len,
+                                 const uint8_t *leaf_bits, size_t leaf_bits_len,
+                                 uint32_t *keys, size_t keys_len, uint32_t *bits, size_t bits_len);
 
 #ifdef __cplusplus
 }

@@ -826,3 +826,128 @@ hlq_counted ref_write_leaves(uint32_t m, uint32_t s, const uint32_t *keys, size_
     free_records(&list), free(raster);
     return answer;
 }
+
+/* Bit strings. Each is made as a text of characters 0 and 1 first, and packed afterwards. */
+typedef struct {
+    char *bits;
+    size_t n;
+} text;
+
+static text new_text(size_t most) {
+    text t = { malloc(most + 8), 0 };
+    if (!t.bits) abort();
+    return t;
+}
+
+/* One character a node and, apart from it, one a leaf, by scans of the raster. */
+static void texts_of(const uint8_t *raster, uint32_t edge, uint32_t row, uint32_t column, uint32_t side, text *nodes,
+                     text *leaves) {
+    uint32_t found = features_in(raster, edge, row, column, side, side);
+    if (has_one_bit(found)) {
+        nodes->bits[nodes->n++] = '1';
+        leaves->bits[leaves->n++] = (char)('0' + raster[(size_t)row * edge + column]);
+        return;
+    }
+    nodes->bits[nodes->n++] = '0';
+    for (uint32_t d = 0; d < 4; d++)
+        texts_of(raster, edge, row + d / 2 * (side / 2), column + d % 2 * (side / 2), side / 2, nodes, leaves);
+}
+
+static size_t bytes_of(const text *t) { return t->n / 8 + (t->n % 8 != 0); }
+
+static void pack_text(const text *t, uint8_t *bytes) {
+    for (size_t k = 0; k < bytes_of(t); k++) {
+        uint32_t byte = 0;
+        for (size_t i = 8 * k; i < 8 * k + 8; i++) byte = byte * 2 + (i < t->n && t->bits[i] == '1');
+        bytes[k] = (uint8_t)byte;
+    }
+}
+
+hlq_strings ref_write_bit_strings(uint32_t m, uint32_t s, const uint32_t *keys, size_t keys_len, const uint32_t *bits,
+                                  size_t bits_len, size_t n, uint8_t *node_bits, size_t node_bits_len,
+                                  uint8_t *leaf_bits, size_t leaf_bits_len) {
+    if (settings_are_bad(m, s)) return (hlq_strings){ 1, 0, 0 };
+    if (s != 2) return (hlq_strings){ 23, 0, 0 };
+    uint8_t *raster = raster_of(m, s, keys, keys_len, bits, bits_len, n);
+    if (!raster) return (hlq_strings){ 4, 0, 0 };
+    text nodes = new_text(most_of(m)), leaves = new_text(pixels_of(m));
+    texts_of(raster, 1u << m, 0, 0, 1u << m, &nodes, &leaves);
+    free(raster);
+    hlq_strings answer = { 12, bytes_of(&nodes), bytes_of(&leaves) };
+    if (node_bits_len >= answer.node_bytes && leaf_bits_len >= answer.leaf_bytes) {
+        answer.refusal = 0;
+        pack_text(&nodes, node_bits);
+        pack_text(&leaves, leaf_bits);
+    }
+    free(nodes.bits);
+    free(leaves.bits);
+    return answer;
+}
+
+/* A byte string that is being read. */
+typedef struct {
+    const uint8_t *bytes;
+    size_t len, at;
+} source;
+
+static int next_bit(source *from) {
+    if (from->at / 8 >= from->len) return -1;
+    int bit = from->bytes[from->at / 8] >> (7 - from->at % 8) & 1;
+    from->at++;
+    return bit;
+}
+
+/* Paints a block as the strings say; 0 where they end early or go too deep. */
+static int paint_block(uint8_t *raster, uint32_t edge, uint32_t row, uint32_t column, uint32_t side, source *nodes,
+                       source *leaves) {
+    int leaf = next_bit(nodes), feature;
+    if (leaf < 0) return 0;
+    if (!leaf) {
+        for (uint32_t d = 0; d < 4; d++)
+            if (side == 1 || !paint_block(raster, edge, row + d / 2 * (side / 2), column + d % 2 * (side / 2),
+                                          side / 2, nodes, leaves))
+                return 0;
+        return 1;
+    }
+    if ((feature = next_bit(leaves)) < 0) return 0;
+    for (uint32_t r = row; r < row + side; r++) memset(raster + (size_t)r * edge + column, feature, side);
+    return 1;
+}
+
+/* A pair is accepted exactly when it is what the raster that it paints is written as. */
+hlq_counted ref_read_bit_strings(uint32_t m, uint32_t s, const uint8_t *node_bits, size_t node_bits_len,
+                                 const uint8_t *leaf_bits, size_t leaf_bits_len, uint32_t *keys, size_t keys_len,
+                                 uint32_t *bits, size_t bits_len) {
+    if (settings_are_bad(m, s)) return (hlq_counted){ 1, 0 };
+    if (s != 2) return (hlq_counted){ 23, 0 };
+    source from_nodes = { node_bits, node_bits_len, 0 }, from_leaves = { leaf_bits, leaf_bits_len, 0 };
+    uint8_t *raster = calloc(pixels_of(m), 1);
+    if (!raster) abort();
+    int good = paint_block(raster, 1u << m, 0, 0, 1u << m, &from_nodes, &from_leaves);
+    text nodes = new_text(most_of(m)), leaves = new_text(pixels_of(m));
+    if (good) texts_of(raster, 1u << m, 0, 0, 1u << m, &nodes, &leaves);
+    good = good && bytes_of(&nodes) == node_bits_len && bytes_of(&leaves) == leaf_bits_len;
+    if (good) {
+        uint8_t *again = malloc(node_bits_len + leaf_bits_len);
+        if (!again) abort();
+        pack_text(&nodes, again);
+        pack_text(&leaves, again + node_bits_len);
+        good = memcmp(again, node_bits, node_bits_len) == 0 &&
+               memcmp(again + node_bits_len, leaf_bits, leaf_bits_len) == 0;
+        free(again);
+    }
+    hlq_counted answer = { 23, 0 };
+    if (good && shorter(keys_len, bits_len) < nodes.n) answer.refusal = 9;
+    if (good && answer.refusal == 23) {
+        records l = new_records(m);
+        list_of(m, raster, 0, &l);
+        memcpy(keys, l.keys, 4 * l.n);
+        memcpy(bits, l.bits, 4 * l.n);
+        answer = (hlq_counted){ 0, l.n };
+        free_records(&l);
+    }
+    free(raster);
+    free(nodes.bits);
+    free(leaves.bits);
+    return answer;
+}

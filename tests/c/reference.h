@@ -102,5 +102,13 @@ hlq_counted ref_write_leaves(uint32_t m, uint32_t s,
                              const uint32_t *keys, size_t keys_len, const uint32_t *bits, size_t bits_len, size_t n,
                              uint32_t *leaf_keys, size_t leaf_keys_len,
                              uint32_t *leaf_features, size_t leaf_features_len);
+hlq_strings ref_write_bit_strings(uint32_t m, uint32_t s,
+                                  const uint32_t *keys, size_t keys_len, const uint32_t *bits, size_t bits_len,
+                                  size_t n, uint8_t *node_bits, size_t node_bits_len,
+                                  uint8_t *leaf_bits, size_t leaf_bits_len);
+hlq_counted ref_read_bit_strings(uint32_t m, uint32_t s,
+                                 const uint8_t *node_bits, size_t node_bits_len,
+                                 const uint8_t *leaf_bits, size_t leaf_bits_len,
+                                 uint32_t *keys, size_t keys_len, uint32_t *bits, size_t bits_len);
 
 #endif

@@ -13,7 +13,7 @@
 #define SOME(rounds) (rounds)
 #endif
 
-enum { GUARD = 8, MAX_REFUSAL = HLQ_LEAVES };
+enum { GUARD = 8, MAX_REFUSAL = HLQ_CLASS_TABLE };
 
 typedef enum {
     CALL_KEY_AT,
@@ -39,6 +39,8 @@ typedef enum {
     CALL_LOAD,
     CALL_READ_LEAVES,
     CALL_WRITE_LEAVES,
+    CALL_WRITE_BIT_STRINGS,
+    CALL_READ_BIT_STRINGS,
     CALLS
 } call;
 

@@ -62,6 +62,10 @@ static void macros_meet_calls(uint32_t m) {
         stored = hlq_store(m, s, keys, most, bits, most, most, file, bytes);
         must(stored.refusal == HLQ_ACCEPTED && stored.count == bytes, "HLQ_FILE_BYTES holds the file");
     }
+    size_t nodes = HLQ_NODE_STRING_BYTES(most), leaves = HLQ_LEAF_STRING_BYTES(most);
+    hlq_strings strings = hlq_write_bit_strings(m, 2, keys, most, bits, most, most, file, nodes, file + nodes, leaves);
+    must(strings.refusal == HLQ_ACCEPTED && strings.node_bytes == nodes && strings.leaf_bytes == leaves,
+         "HLQ_NODE_STRING_BYTES and HLQ_LEAF_STRING_BYTES hold the bit strings");
     must(hlq_standing(m, 2, keys, most, bits, most, most, 0).kind == HLQ_LISTED, "the root is listed");
     must(hlq_standing(m, 2, keys, most, bits, most, most, 0).records == most, "every record is the root's or below it");
     must(hlq_fill_summary(m, 2, keys, most, bits, most, most, summary, places).refusal == HLQ_ACCEPTED,

@@ -22,7 +22,9 @@ enum {
 static uint8_t raster[PIXELS], back[PIXELS], file[HLQ_FILE_BYTES(MOST, S)];
 static uint32_t keys[MOST], bits[MOST], log_keys[LOG], log_values[LOG], answer[PIXELS], found_ids[PIXELS];
 static uint32_t summary[PLACES], leaf_keys[PIXELS], leaf_features[PIXELS];
-static size_t n, used, leaves;
+static size_t n, used, leaves, two;
+static uint32_t two_keys[MOST], two_bits[MOST];
+static uint8_t node_bits[HLQ_NODE_STRING_BYTES(MOST)], leaf_bits[HLQ_LEAF_STRING_BYTES(MOST)];
 
 /* What the calls are asked: set before each. */
 static uint32_t key, row, column, height, width, feature;
@@ -109,6 +111,16 @@ static void call_write_leaves(void) {
 static void call_read_leaves(void) {
     refusal = hlq_read_leaves(M, S, leaf_keys, PIXELS, leaf_features, PIXELS, leaves, keys, MOST, bits, MOST).refusal;
 }
+static void call_write(void) {
+    refusal = hlq_write_bit_strings(M, 2, two_keys, MOST, two_bits, MOST, two, node_bits, sizeof node_bits, leaf_bits,
+                                    sizeof leaf_bits)
+                  .refusal;
+}
+static void call_read(void) {
+    refusal = hlq_read_bit_strings(M, 2, node_bits, HLQ_NODE_STRING_BYTES(two), leaf_bits, HLQ_LEAF_STRING_BYTES(two),
+                                   two_keys, MOST, two_bits, MOST)
+                  .refusal;
+}
 
 typedef struct {
     const char *name;
@@ -118,7 +130,7 @@ typedef struct {
 
 enum { KEY_AT, BLOCK_OF, BUILD, RASTER, STANDING, PART, EXIST, REPORT, SELECT, FILL_SUMMARY, AREA, EXIST_CLIPPED,
        REPORT_CLIPPED, SELECT_CLIPPED, AREA_CLIPPED, BATCH, PAINT, TAKE_BACK, EMPTY, FINDINGS, STORE, LOAD, WRITE_LEAVES,
-       READ_LEAVES, CALLS };
+       READ_LEAVES, WRITE, READ, CALLS };
 static call calls[CALLS] = {
     { "key_at", call_key_at, 0 },       { "block_of", call_block_of, 0 }, { "build", call_build, 0 },
     { "raster", call_raster, 0 },       { "standing", call_standing, 0 }, { "part", call_part, 0 },
@@ -130,6 +142,7 @@ static call calls[CALLS] = {
     { "paint", call_paint, 0 },         { "take_back", call_take_back, 0 }, { "empty", call_empty, 0 },
     { "findings", call_findings, 0 },   { "store", call_store, 0 },       { "load", call_load, 0 },
     { "write_leaves", call_write_leaves, 0 }, { "read_leaves", call_read_leaves, 0 },
+    { "write_bit_strings", call_write, 0 },       { "read_bit_strings", call_read, 0 },
 };
 
 static _Alignas(64) uint8_t stack[STACK];
@@ -168,6 +181,14 @@ static void ask_window(uint32_t a, uint32_t b, uint32_t c, uint32_t d, uint8_t p
         for (int which = EXIST; which <= BATCH; which++) measure(which, pattern);
 }
 
+/* The list of the same map with its features taken in pairs, for the calls that want two. */
+static void two_features(void) {
+    enum { TWO_PLACES = HLQ_SUMMARY_PLACES(M, 2) };
+    static uint32_t two_summary[TWO_PLACES];
+    for (size_t i = 0; i < PIXELS; i++) back[i] = raster[i] & 1;
+    two = hlq_build(M, 2, back, PIXELS, two_keys, MOST, two_bits, MOST, two_summary, TWO_PLACES).count;
+}
+
 static void every_call(uint8_t pattern) {
     /* the root, two large blocks, three pixels, and four pixels at the last corner */
     static const uint32_t blocks[] = { 0, 1953125, 4 * 1953125 + 390625, 7324218, 2441406, 9765624, 9765620 };
@@ -184,6 +205,9 @@ static void every_call(uint8_t pattern) {
     measure(LOAD, pattern);
     measure(WRITE_LEAVES, pattern);
     measure(READ_LEAVES, pattern);
+    two_features();
+    measure(WRITE, pattern);
+    measure(READ, pattern);
     for (size_t i = 0; i < sizeof blocks / sizeof *blocks; i++) {
         key = blocks[i], feature = (uint32_t)i;
         measure(KEY_AT, pattern);

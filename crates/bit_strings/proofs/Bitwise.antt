@@ -8,7 +8,7 @@ use native.Mathlib.Numerals.{add-one}
 use native.Mathlib.Omega.{arith}
 use lib.ListN.{length, getD, drop, set, length-set, length-drop}
 use lib.Pow.{pow-mono}
-use lib.Seq.{getD-drop, drop-drop, drop-nil, paste, paste-suc, paste-zero, take-length}
+use lib.Seq.{getD-drop, drop-drop, paste, paste-suc, paste-zero, take-length}
 use Rattle.definitions.specs.Buffer.{over}
 use Rattle.definitions.specs.BitStrings.{highFirst, packedIn}
 use Rattle.bit_strings.specs.Strings.{stringOf, Picked, Filled}

@@ -11,7 +11,7 @@ use lib.Seq.{drop-nil, drop-append-le, drop-append-add}
 use lib.Dec.{leb, eqb}
 use lib.Arith.{mod-mul}
 use lib.Pow.{pow-pos}
-use borrow.Author.Tests.{eq-eqb, ne-eqb, eqb-true, eqb-false, le-leb, lt-leb}
+use borrow.Author.Tests.{ne-eqb, eqb-true, eqb-false, le-leb, lt-leb}
 use Rattle.keys.proofs.Cases.{decide}
 use Rattle.definitions.specs.Bits.{hasSlot}
 use Rattle.definitions.specs.BitStrings.{bitsOfByte, bitsIn, anySet}
@@ -175,3 +175,7 @@ module _ (bytes : List ℕ) (i : ℕ) (inside : i / 8 < length bytes) where
 pub bit-past : (bytes : List ℕ) (i : ℕ) → length bytes ≤ i / 8 → 2 ≡ nextBit (bitsAfter bytes i)
 unfolding nextBit
 bit-past bytes i h = sym (ap nextBit (none-there bytes i h))
+
+-- a power is a divisor
+pub power-positive : (p k : ℕ) → p ≡ 2 ^ k → 0 < p
+power-positive p k e = let h = pow-pos k in omega arith

@@ -1,10 +1,9 @@
 -- The loop that counts the records of a pair: what is left decides as the whole does. Rests on Passing.
-use Prim.Native.Nat.{ℕ, suc, _+_, _*_, _^_, _≤_, _<_}
+use Prim.Native.Nat.{ℕ, _+_, _*_, _^_, _≤_, _<_}
 use mathlib.Core.Path.{_≡_, refl, sym, ap, _∙_}
 use mathlib.Core.Bool.{Bool, true, false, cond, not, _&&_, _||_}
 use mathlib.Core.Logic.{⊎-elim}
 use mathlib.Core.List.{List}
-use native.Mathlib.Nat.{add-zero}
 use native.Mathlib.Omega.{arith}
 use lib.ListN.{length, drop}
 use lib.Seq.{drop-drop}
@@ -14,7 +13,7 @@ use Rattle.definitions.specs.BitStrings.{runsOn, spareBitSet, whole}
 use Rattle.bit_strings.specs.Steps.{isSpare, passed, countOf}
 use Rattle.bit_strings.specs.declared.next.Passed.{Passed}
 use Rattle.bit_strings.proofs.NextBit.{drop-on}
-use Rattle.bit_strings.proofs.Passing.{GoesOn, Stuck, step, reading-past, records-past}
+use Rattle.bit_strings.proofs.Passing.{GoesOn, step, reading-past, records-past}
 
 by-tests : (a b x y : Bool) → isWhole (cond (a || b) runsOn (cond (x || y) spareBitSet whole)) ≡ (not a && not x) && (not b && not y)
 unfolding isWhole

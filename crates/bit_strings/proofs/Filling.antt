@@ -1,8 +1,8 @@
 -- The loop that writes the records of a pair: each turn writes the next one. Rests on Passing and Bitwise.
-use Prim.Native.Nat.{ℕ, zero, suc, _+_, _^_, _≤_, _<_}
-use mathlib.Core.Path.{_≡_, refl, sym, ap, ap₂, _∙_}
+use Prim.Native.Nat.{ℕ, suc, _+_, _^_, _≤_, _<_}
+use mathlib.Core.Path.{_≡_, refl, sym, ap, _∙_}
 use mathlib.Core.Bool.{Bool, true, false, cond}
-use mathlib.Core.List.{List, [], _∷_, map}
+use mathlib.Core.List.{List, [], _∷_}
 use native.Mathlib.Numerals.{add-one}
 use native.Mathlib.Omega.{arith}
 use lib.ListN.{length, getD, drop, set, length-set, length-map, List·getD-map}
@@ -10,13 +10,12 @@ use lib.Seq.{drop-cons, drop-drop, paste, paste-zero}
 use lib.Dec.{eqb}
 use Rattle.keys.proofs.Cases.{split}
 use Rattle.definitions.specs.List.{Record, recordOf, keysOf, valuesOf}
-use Rattle.definitions.specs.Read.{room}
 use Rattle.definitions.specs.Buffer.{over}
 use Rattle.definitions.specs.BitStrings.{bitsIn, keyAfter, leafValue, innerValue, recordsFrom, recordsOfPair}
 use Rattle.bit_strings.specs.Steps.{nextBit, Fits}
 use Rattle.bit_strings.proofs.NextBit.{drop-on}
 use Rattle.bit_strings.proofs.Passing.{records-past, records-leaf, records-inner}
-use Rattle.bit_strings.proofs.Bitwise.{one-more, paste-all, there, then-on}
+use Rattle.bit_strings.proofs.Bitwise.{one-more, paste-all}
 
 -- what the first of the records that are left says
 pub record First (m x : ℕ) (nodes leaves : List Bool) (e : Record) (l : List Record) : Type 0 where

@@ -1,14 +1,12 @@
 -- The levels below a block, digit by digit from the right, and the next key. Rests on the laws of powers.
 use Prim.Native.Nat.{ℕ, zero, suc, _+_, _-_, _*_, _/_, _%_, _^_, _≤_, _<_}
 use mathlib.Core.Path.{_≡_, refl, sym, ap, _∙_}
-use mathlib.Core.Bool.{true, false}
-use native.Mathlib.Nat.{pow-suc, one-le-pow, pow-le-pow-right}
+use native.Mathlib.Nat.{pow-suc, pow-le-pow-right}
 use native.Mathlib.Numerals.{add-one}
 use native.Mathlib.Omega.{arith}
-use lib.Dec.{eqb}
 use borrow.Author.Tests.{eq-eqb, ne-eqb}
 use Rattle.keys.proofs.Cases.{equal}
-use Rattle.definitions.specs.BitStrings.{levelsBelow, keyAfter}
+use Rattle.definitions.specs.BitStrings.{levelsBelow}
 
 pub levels-more : (k x : ℕ) → x % 5 ≡ 0 → levelsBelow (suc k) x ≡ suc (levelsBelow k (x / 5))
 unfolding levelsBelow

@@ -1,3 +1,4 @@
+mod Rows
 pub mod Bytes
 pub mod NextBit
 pub mod Levels
@@ -12,5 +13,7 @@ pub mod ReadAnswers
 pub mod Shape
 pub mod WriteAnswers
 pub mod Unpacking
+pub mod Places
+pub mod Siblings
 pub mod Trees
 pub mod OnePair

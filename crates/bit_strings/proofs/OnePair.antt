@@ -1,14 +1,14 @@
 -- One list has one pair of strings and each accepted pair one list: what is written reads back as the list, what is read is a list and writes back as
 -- the bytes (document 02, item 12). Rests on Trees and Unpacking, and on the laws of joined pictures.
-use Prim.Native.Nat.{ℕ, zero, suc, _+_, _*_, _^_, _<_}
+use Prim.Native.Nat.{ℕ, suc, _+_, _*_, _^_, _<_}
 use mathlib.Core.Path.{_≡_, refl, sym, ap, ap₂, _∙_}
 use mathlib.Core.Bool.{Bool, true, false, cond, _&&_}
 use mathlib.Core.List.{List, [], _∷_, _++_, append-nil}
 use native.Mathlib.Omega.{arith}
 use lib.ListN.{length}
-use Rattle.keys.specs.Key.{rootKey, childKey}
+use Rattle.keys.specs.Key.{rootKey}
 use Rattle.keys.proofs.Cases.{and-left, and-right, and-both}
-use Rattle.definitions.specs.Picture.{Picture, oneFeature, featuresBelow}
+use Rattle.definitions.specs.Picture.{Picture, oneFeature}
 use Rattle.definitions.specs.Bits.{bitsOf, featureOf, twosIn}
 use Rattle.definitions.specs.List.{Record, recordOf, listOf}
 use Rattle.definitions.specs.Read.{isListOfBlock}
@@ -28,7 +28,8 @@ use Rattle.bit_strings.proofs.Counting.{left-is}
 use Rattle.bit_strings.proofs.Passing.{reading-past, records-past}
 use Rattle.bit_strings.proofs.Shape.{Shape, leaf, node, list-shape, nodes-many, leaves-many}
 use Rattle.bit_strings.proofs.Unpacking.{again, packed-back}
-use Rattle.bit_strings.proofs.Trees.{root-place, list-read, BlockRead, block-read}
+use Rattle.bit_strings.proofs.Places.{root-place}
+use Rattle.bit_strings.proofs.Trees.{list-read, BlockRead, block-read}
 
 -- ---- a shape is the list of a picture
 

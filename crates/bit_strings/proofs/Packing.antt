@@ -1,7 +1,7 @@
 -- One string of a list, bit by bit and byte by byte: what the code picks is the string of the definitions. Rests on the laws of lists.
 use Prim.Native.Nat.{ℕ, zero, suc, _+_, _-_, _*_, _/_, _%_, _^_, _≤_, _<_}
 use mathlib.Core.Path.{_≡_, refl, sym, ap, _∙_}
-use mathlib.Core.Bool.{Bool, true, false, cond, not, _&&_}
+use mathlib.Core.Bool.{Bool, true, false, cond, not}
 use mathlib.Core.List.{List, [], _∷_}
 use native.Mathlib.Nat.{mod-lt}
 use native.Mathlib.Numerals.{add-one}
@@ -10,11 +10,10 @@ use lib.ListN.{length, getD, drop}
 use lib.Seq.{drop-cons, drop-length}
 use lib.Dec.{eqb}
 use lib.Arith.{mod-mul}
-use borrow.Author.Tests.{eq-eqb, ne-eqb, eqb-true, eqb-false, not-true, not-false}
+use borrow.Author.Tests.{eq-eqb, ne-eqb, eqb-true, not-true, not-false}
 use Rattle.keys.proofs.Cases.{decide, same-test, and-left, and-right, and-both}
 use Rattle.definitions.specs.Bits.{hasSlot}
-use Rattle.definitions.specs.BitStrings.{isInner, highFirst}
-use Rattle.bit_strings.specs.declared.pack.Bit.{Bit}
+use Rattle.definitions.specs.BitStrings.{isInner}
 use Rattle.bit_strings.specs.Strings.{bitOf, stringOf, Picked}
 
 -- both slots are set exactly where the last two bits are

@@ -1,24 +1,22 @@
 -- Reading block by block: where the code is stuck the pair is refused, where it passes a block the rest decides, and past the last block what is left
 -- over does. Rests on NextBit and Levels.
-use Prim.Native.Nat.{ℕ, zero, suc, _+_, _*_, _/_, _^_, _≤_, _<_}
+use Prim.Native.Nat.{ℕ, zero, suc, _+_, _/_, _^_, _≤_, _<_}
 use mathlib.Core.Path.{_≡_, refl, sym, ap, _∙_}
-use mathlib.Core.Bool.{Bool, true, false, cond, not, _&&_, _||_}
-use mathlib.Core.Logic.{_⊎_, inl, inr, ⊎-elim}
+use mathlib.Core.Bool.{Bool, true, false, not}
+use mathlib.Core.Logic.{_⊎_, inl, inr}
 use mathlib.Core.List.{List, [], _∷_}
 use native.Mathlib.Nat.{pow-suc, one-le-pow, pow-le-pow-right}
 use native.Mathlib.Omega.{arith}
-use lib.ListN.{length, getD, drop}
-use lib.Seq.{drop-drop}
+use lib.ListN.{length, drop}
 use lib.Dec.{leb, eqb}
-use borrow.Author.Tests.{eq-eqb, ne-eqb, eqb-true, eqb-false, le-leb, lt-leb}
-use Rattle.keys.proofs.Cases.{decide, equal, split}
+use borrow.Author.Tests.{eq-eqb, ne-eqb, le-leb, lt-leb}
+use Rattle.keys.proofs.Cases.{decide, equal}
 use Rattle.definitions.specs.List.{Record, recordOf}
-use Rattle.definitions.specs.BitStrings.{bitsIn, levelsBelow, keyAfter, fourEqual, anySet, isWhole, leftOver, reading, leafValue, innerValue, recordsFrom, isPair, recordsOfPair}
+use Rattle.definitions.specs.BitStrings.{levelsBelow, keyAfter, fourEqual, isWhole, leftOver, reading, leafValue, innerValue, recordsFrom}
 use Rattle.definitions.specs.BitStrings.{endsEarly, tooDeep, equalSiblings}
-use Rattle.bit_strings.specs.Steps.{nextBit, isSpare, passed, countOf}
+use Rattle.bit_strings.specs.Steps.{passed}
 use Rattle.bit_strings.specs.declared.next.Passed.{Passed}
-use Rattle.bit_strings.proofs.Levels.{levels-most, power-small}
-use Rattle.bit_strings.proofs.NextBit.{drop-on}
+use Rattle.bit_strings.proofs.Levels.{levels-most}
 
 -- ---- the next key lies beyond, and not far
 

@@ -1,14 +1,14 @@
 -- The list of a block of two features as a tree: one leaf, or an inner node and its four quadrants that are not alike. Every list of two features has
 -- such a shape, so a quarter of its nodes, rounded down, are inner. Rests on BitsOf and ListOf of the definitions.
-use Prim.Native.Nat.{ℕ, zero, suc, _+_, _*_, _/_, _%_, _^_, _<_}
-use mathlib.Core.Path.{_≡_, refl, sym, ap, ap₂, _∙_}
+use Prim.Native.Nat.{ℕ, zero, suc, _+_, _*_, _/_, _^_, _<_}
+use mathlib.Core.Path.{_≡_, refl, sym, ap, _∙_}
 use mathlib.Core.Bool.{Bool, true, false, cond, not, false≢true}
 use mathlib.Core.List.{List, [], _∷_, _++_}
 use native.Mathlib.Omega.{arith}
 use lib.ListN.{length, length-append}
 use lib.Pow.{pow-mono}
 use Rattle.keys.specs.Key.{childKey}
-use Rattle.keys.proofs.Cases.{decide, split, equal}
+use Rattle.keys.proofs.Cases.{decide, split}
 use Rattle.definitions.specs.Picture.{Picture, oneFeature, featuresBelow}
 use Rattle.definitions.specs.Bits.{hasSlot, unionOfFour, bitsOf}
 use Rattle.definitions.specs.List.{Record, recordOf, listOf}

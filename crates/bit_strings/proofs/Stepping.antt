@@ -1,16 +1,14 @@
 -- The code's step past one block is the model's, one law for each way out. Rests on Passing.
 use Prim.Native.Nat.{ℕ, zero, suc, _+_, _/_, _^_}
 use mathlib.Core.Path.{_≡_, refl, sym, ap, _∙_}
-use mathlib.Core.Bool.{Bool, true, false, cond}
+use mathlib.Core.Bool.{Bool, true, false}
 use mathlib.Core.List.{List, [], _∷_}
-use native.Mathlib.Nat.{pow-suc, one-le-pow}
+use native.Mathlib.Nat.{pow-suc}
 use native.Mathlib.Omega.{arith}
 use lib.ListN.{drop}
-use lib.Dec.{eqb}
 use borrow.Author.Tests.{eq-eqb, ne-eqb}
-use Rattle.definitions.specs.BitStrings.{levelsBelow, keyAfter, fourEqual}
+use Rattle.definitions.specs.BitStrings.{levelsBelow, fourEqual}
 use Rattle.bit_strings.specs.Steps.{nextBit, stuck, passed}
-use Rattle.bit_strings.specs.declared.next.Passed.{Passed}
 use Rattle.bit_strings.proofs.Passing.{after-leaf, after-inner}
 
 power-one : (k : ℕ) → 5 ^ k ≡ 1 → k ≡ 0

@@ -2,23 +2,22 @@
 -- bytes. Rests on Bytes and Bitwise.
 use Prim.Native.Nat.{ℕ, zero, suc, _+_, _-_, _*_, _/_, _%_, _^_, _≤_, _<_}
 use mathlib.Core.Path.{_≡_, refl, sym, ap, ap₂, _∙_}
-use mathlib.Core.Bool.{Bool, true, false, cond, not, _&&_, _||_, false≢true, true≢false}
+use mathlib.Core.Bool.{Bool, true, false, cond, not, false≢true}
 use mathlib.Core.List.{List, [], _∷_, _++_}
-use native.Mathlib.Nat.{add-zero, zero-add, pow-succ', pow-suc, mod-lt, mod-eq-of-lt, zero-mul, one-mul, mul-assoc, add-mul-div-right}
+use native.Mathlib.Nat.{zero-add, pow-succ', pow-suc, mod-lt, mod-eq-of-lt, zero-mul, one-mul, mul-assoc, add-mul-div-right}
 use native.Mathlib.Omega.{arith}
-use lib.ListN.{length, getD, drop, length-append, length-drop}
-use lib.Seq.{drop-nil, drop-at, getD-drop, drop-drop}
+use lib.ListN.{length, getD, drop, length-append}
+use lib.Seq.{drop-at, getD-drop, drop-drop}
 use lib.Dec.{eqb, leb}
 use lib.Arith.{mod-mul, digits-div}
 use lib.Pow.{pow-pos, pow-add}
-use borrow.Author.Tests.{eqb-true, eqb-false, not-false, not-true, leb-false}
+use borrow.Author.Tests.{not-true, leb-false}
 use Rattle.keys.proofs.Cases.{decide, and-left, and-right, neither-left, neither-right}
-use Rattle.definitions.specs.Bits.{hasSlot}
 use Rattle.definitions.specs.BitStrings.{highFirst, packedIn, bytesFor, packed, bitsOfByte, bitsIn, anySet}
 use Rattle.definitions.proofs.FileBytes.{Bytes, no-byte, byte}
 use Rattle.bit_strings.specs.Steps.{isSpare}
 use Rattle.bit_strings.proofs.Bytes.{length-byte, length-bits}
-use Rattle.bit_strings.proofs.Bitwise.{high-suc, length-packed}
+use Rattle.bit_strings.proofs.Bitwise.{high-suc}
 
 -- ---- spare bits count for nothing
 

@@ -1,25 +1,24 @@
 -- The answers of writing bit strings, one for each way out of the code: its result and what it leaves in the two byte slices. Rests on the laws of
 -- tables, Packing and Shape.
-use Prim.Native.Nat.{ℕ, _+_, _-_, _*_, _/_, _≤_, _<_}
+use Prim.Native.Nat.{ℕ, _+_, _-_, _*_, _/_, _≤_}
 use mathlib.Core.Path.{_≡_, refl, sym, ap, ap₂, _∙_}
 use mathlib.Core.Bool.{Bool, true, false, cond, not, _||_}
 use mathlib.Core.List.{List, [], _∷_}
 use native.Mathlib.Omega.{arith}
 use lib.ListN.{length, take}
-use lib.Seq.{length-take-le}
 use lib.Dec.{ltb, eqb, leb}
-use borrow.Author.Tests.{eq-eqb, ne-eqb, eqb-true, leb-true, not-false}
+use borrow.Author.Tests.{ne-eqb, eqb-true, leb-true, not-false}
 use Rattle.keys.specs.Key.{rootKey}
 use Rattle.keys.proofs.Cases.{decide, and-left, and-right}
-use Rattle.definitions.specs.Bits.{hasSlot, bitsOf}
-use Rattle.definitions.specs.List.{Record, valuesOf, listOf}
+use Rattle.definitions.specs.Bits.{hasSlot}
+use Rattle.definitions.specs.List.{Record, valuesOf}
 use Rattle.definitions.specs.Read.{room, recordsOf, isList, isListOfBlock}
 use Rattle.definitions.specs.Buffer.{over}
 use Rattle.definitions.specs.BitStrings.{isInner, nodeBits, leafBits, packedIn, bytesFor, packed}
 use Rattle.definitions.specs.Refusal.{_gives_, first, accepted, badSettings, noList}
 use Rattle.definitions.specs.Calls.WriteBitStrings.{nodeString, leafString, writeStringsRefusal, writeStrings, writtenNodes, writtenLeaves}
 use Rattle.definitions.specs.declared.Strings.{Strings}
-use Rattle.definitions.proofs.First.{this, later, holds-first, none-first, first-none, first-holds, holds-more, NoneHolds}
+use Rattle.definitions.proofs.First.{this, later, holds-first, none-first, first-none, first-holds, holds-more}
 use Rattle.definitions.proofs.Records.{records-length}
 use Rattle.definitions.proofs.IsList.{ShowsBlock, block-list-to}
 use Rattle.list.proofs.Among.{values-of-records}

@@ -16,7 +16,8 @@ pub fn bit_at(bytes: &[u8], i: usize) -> u32
         return 2;
     }
     let byte = bytes[k] as u32;
-    let high = (7 - i % 8) as u32;
+    let low = (i % 8) as u32;
+    let high = 7 - low;
     (byte >> high) % 2
 }
 

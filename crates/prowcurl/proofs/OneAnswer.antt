@@ -57,6 +57,10 @@ use Rattle.prowcurl.proofs.deliveries.hlq_read_leaves as read-leaves
 use Rattle.prowcurl.proofs.deliveries.hlq_read_leaves.Reads as read-leaves-reads
 use Rattle.prowcurl.proofs.deliveries.hlq_write_leaves as write-leaves
 use Rattle.prowcurl.proofs.deliveries.hlq_write_leaves.Reads as write-leaves-reads
+use Rattle.prowcurl.proofs.strings.hlq_write_bit_strings as write-bit-strings
+use Rattle.prowcurl.proofs.strings.hlq_write_bit_strings.Reads as write-bit-strings-reads
+use Rattle.prowcurl.proofs.strings.hlq_read_bit_strings as read-bit-strings
+use Rattle.prowcurl.proofs.strings.hlq_read_bit_strings.Reads as read-bit-strings-reads
 use Rattle.prowcurl.proofs.findings.hlq_findings as findings
 use Rattle.prowcurl.proofs.questions.hlq_batch as batch
 
@@ -232,6 +236,13 @@ read-leaves-one = by-equations (λ x. three (x .kept) (x .kept′))
 
 pub write-leaves-one : OneAnswer write-leaves.ended write-leaves-reads.Learnt
 write-leaves-one = by-equations (λ x. three (x .kept) (x .kept′))
+
+-- bit strings
+pub write-bit-strings-one : OneAnswer write-bit-strings.ended write-bit-strings-reads.Learnt
+write-bit-strings-one = by-equations (λ x. three (x .kept) (x .kept′))
+
+pub read-bit-strings-one : OneAnswer read-bit-strings.ended read-bit-strings-reads.Learnt
+read-bit-strings-one = by-equations (λ x. three (x .kept) (x .kept′))
 
 -- findings: it is proved by hand, so its contract is read here, in the way that Rattle itself reads the others
 abbrev findings-read : (κs : Lfts 7) (lent : Args findings.signature κs) (r : Res findings.signature κs) (s : AtExit findings.ended κs)

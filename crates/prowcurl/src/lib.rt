@@ -8,4 +8,5 @@ pub mod findings;
 pub mod lists;
 pub mod questions;
 pub mod squares;
+pub mod strings;
 pub mod windows;

@@ -1,16 +1,14 @@
+-- `bits::begins_four` meets its contract: the bits that are left decide as the four do.
 use Rattle.bit_strings.proofs.NextBit.{begins-turn, begins-stop, begins-end, begins-start}
 use Rattle.definitions.specs.BitStrings.{bitsIn, beginsWith}
 use lib.Dec.{eqb}
 use lib.ListN.{drop}
-use mathlib.Core.Path.{_≡_, sym, _∙_, ap, refl}
+use mathlib.Core.Path.{_≡_, sym, _∙_}
 use Prim.Native.Nat.{_≤_, _+_, _-_}
 use native.Mathlib.Omega.{arith}
 use borrow.Author.Needs.{needs}
 use Rattle.bit_strings.proofs.bits.begins_four.Statement.{statement}
 use Rattle.bit_strings.proofs.bits.begins_four.Tie as tie
-use Rattle.bit_strings.proofs.bits.begins_four.Reads as reads
-use Rattle.bit_strings.proofs.bits.begins_four.Lts as lts
-use Rattle.bit_strings.proofs.bits.bit_at.Reads as bit-at-reads
 
 abbrev Inv-loop : tie.InvT-loop
 Inv-loop bytes at bit i₀ i = (i ≤ 4) × (beginsWith (4 - i) (eqb bit 1) (drop (at + i) (bitsIn bytes)) ≡ beginsWith 4 (eqb bit 1) (drop at (bitsIn bytes)))

@@ -1,13 +1,10 @@
+-- `bits::equal_siblings` meets its contract: each way out answers what the definition does there.
 use Rattle.bit_strings.proofs.NextBit.{four-not, four-zeros, four-ones}
 use borrow.Author.Tests.{not-true, not-false}
-use mathlib.Core.Path.{_≡_, sym, _∙_}
-use native.Mathlib.Omega.{arith}
+use mathlib.Core.Path.{sym, _∙_}
 use borrow.Author.Needs.{needs}
 use Rattle.bit_strings.proofs.bits.equal_siblings.Statement.{statement}
 use Rattle.bit_strings.proofs.bits.equal_siblings.Tie as tie
-use Rattle.bit_strings.proofs.bits.equal_siblings.Reads as reads
-use Rattle.bit_strings.proofs.bits.equal_siblings.Lts as lts
-use Rattle.bit_strings.proofs.bits.begins_four.Reads as begins-four-reads
 
 begins-four-requires : tie.Need-begins-four-requires
 begins-four-requires c κs = search needs

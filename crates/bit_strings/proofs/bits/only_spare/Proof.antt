@@ -1,16 +1,13 @@
-use Rattle.bit_strings.proofs.Bytes.{none-there, spare-none, spare-byte, spare-more, spare-last}
-use lib.Pow.{pow-pos}
+-- `bits::only_spare` meets its contract: none left, a byte too many, or the rest of the last byte.
+use Rattle.bit_strings.proofs.Bytes.{power-positive, none-there, spare-none, spare-byte, spare-more, spare-last}
 use lib.ListN.{getD}
 use lib.Dec.{eqb}
-use mathlib.Core.Path.{_≡_, sym, _∙_, ap}
+use mathlib.Core.Path.{sym, _∙_, ap}
 use Prim.Native.Nat.{_/_, _%_, _-_}
 use native.Mathlib.Omega.{arith}
 use borrow.Author.Needs.{needs}
 use Rattle.bit_strings.proofs.bits.only_spare.Statement.{statement}
 use Rattle.bit_strings.proofs.bits.only_spare.Tie as tie
-use Rattle.bit_strings.proofs.bits.only_spare.Reads as reads
-use Rattle.bit_strings.proofs.bits.only_spare.Lts as lts
-use Rattle.keys.proofs.power.power_of_two.Reads as power-of-two-reads
 
 returns : tie.Need-returns
 returns c = let s = c .before .before .args in sym (spare-none _ (none-there (s .bytes .now) (s .at) (c .if1 .taken)))
@@ -40,7 +37,7 @@ power-of-two-requires : tie.Need-power-of-two-requires
 power-of-two-requires c κs = search needs
 
 rem-result : tie.Need-rem-result
-rem-result c = omega (arith, c .power-of-two .ensures, pow-pos (8 - c .before .before .before .before .before .before .args .at % 8))
+rem-result c = omega (arith, power-positive _ _ (c .power-of-two .ensures))
 
 returns-4 : tie.Need-returns-4
 returns-4 c =

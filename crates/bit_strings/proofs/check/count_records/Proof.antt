@@ -1,17 +1,12 @@
+-- `check::count_records` meets its contract: what is left decides as the whole does, and past the last block what is left over.
 use Rattle.bit_strings.proofs.Counting.{Counting, counting-start, counting-stuck, counting-on, counting-turn, counting-nodes, counting-leaves, counting-end}
-use Rattle.bit_strings.proofs.Levels.{power-small}
 use borrow.Author.Tests.{not-true, not-false}
-use mathlib.Core.Path.{_≡_, sym, _∙_}
-use Prim.Native.Nat.{_-_, _^_, _<_}
+use mathlib.Core.Path.{sym, _∙_}
+use Prim.Native.Nat.{_-_}
 use native.Mathlib.Omega.{arith}
 use borrow.Author.Needs.{needs}
 use Rattle.bit_strings.proofs.check.count_records.Statement.{statement}
 use Rattle.bit_strings.proofs.check.count_records.Tie as tie
-use Rattle.bit_strings.proofs.check.count_records.Reads as reads
-use Rattle.bit_strings.proofs.check.count_records.Lts as lts
-use Rattle.bit_strings.proofs.bits.only_spare.Reads as only-spare-reads
-use Rattle.bit_strings.proofs.next.pass.Reads as pass-reads
-use Rattle.keys.proofs.power.power_of_five.Reads as power-of-five-reads
 
 abbrev Inv-loop : tie.InvT-loop
 Inv-loop m nodes leaves end key₀ i₀ j₀ key i j = Counting m nodes leaves key i j

@@ -1,15 +1,10 @@
+-- `fill::fill` meets its contract: each turn writes the next record.
 use Rattle.bit_strings.proofs.Filling.{Filling, filling-start, next, filling-turn, filling-end}
-use Rattle.bit_strings.specs.Steps.{Fits}
 use Prim.Native.Nat.{_-_}
 use native.Mathlib.Omega.{arith}
 use borrow.Author.Needs.{needs}
 use Rattle.bit_strings.proofs.fill.fill.Statement.{statement}
 use Rattle.bit_strings.proofs.fill.fill.Tie as tie
-use Rattle.bit_strings.proofs.fill.fill.Reads as reads
-use Rattle.bit_strings.proofs.fill.fill.Lts as lts
-use Rattle.bit_strings.proofs.bits.bit_at.Reads as bit-at-reads
-use Rattle.bit_strings.proofs.fill.value_at.Reads as value-at-reads
-use Rattle.bit_strings.proofs.next.key_after.Reads as key-after-reads
 
 abbrev Inv-loop : tie.InvT-loop
 Inv-loop m nodes leaves n keys₀ bits₀ key₀ i₀ j₀ keys bits key i j = Filling m nodes leaves n keys₀ bits₀ keys bits key i j

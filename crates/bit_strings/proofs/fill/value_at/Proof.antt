@@ -1,13 +1,10 @@
+-- `fill::value_at` meets its contract: an inner node, and a leaf of either feature.
 use lib.ListN.{drop}
 use Rattle.definitions.specs.BitStrings.{bitsIn}
 use Rattle.bit_strings.proofs.Answers.{value-inner, value-two, value-one}
-use native.Mathlib.Omega.{arith}
 use borrow.Author.Needs.{needs}
 use Rattle.bit_strings.proofs.fill.value_at.Statement.{statement}
 use Rattle.bit_strings.proofs.fill.value_at.Tie as tie
-use Rattle.bit_strings.proofs.fill.value_at.Reads as reads
-use Rattle.bit_strings.proofs.fill.value_at.Lts as lts
-use Rattle.bit_strings.proofs.bits.bit_at.Reads as bit-at-reads
 
 returns : tie.Need-returns
 returns c = value-inner _ (drop (c .before .before .args .j) (bitsIn (c .before .before .args .leaves .now))) (c .if1 .taken)

@@ -1,13 +1,10 @@
+-- `next::key_after` meets its contract: the two ways of going on.
 use Rattle.bit_strings.proofs.Passing.{step-most, key-leaf, key-inner}
 use Rattle.bit_strings.proofs.Levels.{power-small}
-use Prim.Native.Nat.{_^_}
 use native.Mathlib.Omega.{arith}
 use borrow.Author.Needs.{needs}
 use Rattle.bit_strings.proofs.next.key_after.Statement.{statement}
 use Rattle.bit_strings.proofs.next.key_after.Tie as tie
-use Rattle.bit_strings.proofs.next.key_after.Reads as reads
-use Rattle.bit_strings.proofs.next.key_after.Lts as lts
-use Rattle.bit_strings.proofs.next.keys_in.Reads as keys-in-reads
 
 keys-in-requires : tie.Need-keys-in-requires
 keys-in-requires c κs = search needs

@@ -1,13 +1,12 @@
+-- `next::keys_in` meets its contract: after each turn one zero more is passed.
 use Rattle.bit_strings.proofs.Levels.{levels-start, levels-turn, levels-stop, levels-end, power-small, power-next}
 use Rattle.definitions.specs.BitStrings.{levelsBelow}
-use mathlib.Core.Path.{_≡_, sym, _∙_, ap, refl}
+use mathlib.Core.Path.{_≡_, _∙_, refl}
 use Prim.Native.Nat.{_≤_, _+_, _-_, _^_}
 use native.Mathlib.Omega.{arith}
 use borrow.Author.Needs.{needs}
 use Rattle.bit_strings.proofs.next.keys_in.Statement.{statement}
 use Rattle.bit_strings.proofs.next.keys_in.Tie as tie
-use Rattle.bit_strings.proofs.next.keys_in.Reads as reads
-use Rattle.bit_strings.proofs.next.keys_in.Lts as lts
 
 abbrev Inv-loop : tie.InvT-loop
 Inv-loop m key height₀ digits₀ step₀ height digits step = (height ≤ m) × (step ≡ 5 ^ height) × (height + levelsBelow (m - height) digits ≡ levelsBelow m key)

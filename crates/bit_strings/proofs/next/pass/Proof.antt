@@ -1,19 +1,15 @@
+-- `next::pass` meets its contract: each way out is one of the model.
 use Rattle.bit_strings.proofs.Stepping.{pass-no-leaf, pass-leaf, pass-none, pass-deep, pass-equal, pass-inner}
 use Rattle.bit_strings.proofs.Passing.{step-most}
 use Rattle.bit_strings.proofs.NextBit.{drop-on}
 use Rattle.bit_strings.proofs.Levels.{power-small}
 use Rattle.definitions.specs.BitStrings.{bitsIn, fourEqual}
 use lib.ListN.{drop}
-use mathlib.Core.Path.{_≡_, sym, _∙_, ap}
+use mathlib.Core.Path.{sym, _∙_, ap}
 use native.Mathlib.Omega.{arith}
 use borrow.Author.Needs.{needs}
 use Rattle.bit_strings.proofs.next.pass.Statement.{statement}
 use Rattle.bit_strings.proofs.next.pass.Tie as tie
-use Rattle.bit_strings.proofs.next.pass.Reads as reads
-use Rattle.bit_strings.proofs.next.pass.Lts as lts
-use Rattle.bit_strings.proofs.bits.bit_at.Reads as bit-at-reads
-use Rattle.bit_strings.proofs.bits.equal_siblings.Reads as equal-siblings-reads
-use Rattle.bit_strings.proofs.next.keys_in.Reads as keys-in-reads
 
 bit-at-requires : tie.Need-bit-at-requires
 bit-at-requires c κs = search needs

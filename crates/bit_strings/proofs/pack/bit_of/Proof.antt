@@ -1,10 +1,7 @@
+-- `pack::bit_of` meets its contract: the two strings, an inner node and a leaf in each.
 use Rattle.bit_strings.proofs.Packing.{node-inner, node-leaf, leaf-none, leaf-some}
-use native.Mathlib.Omega.{arith}
-use borrow.Author.Needs.{needs}
 use Rattle.bit_strings.proofs.pack.bit_of.Statement.{statement}
 use Rattle.bit_strings.proofs.pack.bit_of.Tie as tie
-use Rattle.bit_strings.proofs.pack.bit_of.Reads as reads
-use Rattle.bit_strings.proofs.pack.bit_of.Lts as lts
 
 returns : tie.Need-returns
 returns c = node-inner _ (c .before .before .args .value) (c .before .if1 .taken) (c .if2 .taken)

@@ -1,14 +1,12 @@
+-- `pack::next_bit` meets its contract: a record without a bit changes nothing of the string.
 use Rattle.bit_strings.proofs.Packing.{stringFrom, pick-skip, pick-bit, pick-end}
 use lib.ListN.{length}
-use mathlib.Core.Path.{_≡_, sym, _∙_, ap, refl}
+use mathlib.Core.Path.{_≡_, refl}
 use Prim.Native.Nat.{_≤_, _-_}
 use native.Mathlib.Omega.{arith}
 use borrow.Author.Needs.{needs}
 use Rattle.bit_strings.proofs.pack.next_bit.Statement.{statement}
 use Rattle.bit_strings.proofs.pack.next_bit.Tie as tie
-use Rattle.bit_strings.proofs.pack.next_bit.Reads as reads
-use Rattle.bit_strings.proofs.pack.next_bit.Lts as lts
-use Rattle.bit_strings.proofs.pack.bit_of.Reads as bit-of-reads
 
 abbrev Inv-loop : tie.InvT-loop
 Inv-loop values at leaves place₀ place = (place ≤ length values) × (stringFrom leaves values place ≡ stringFrom leaves values at)

@@ -1,12 +1,10 @@
+-- `pack::next_byte` meets its contract: the bits so far and those to come make the byte.
 use Rattle.bit_strings.proofs.Bitwise.{Making, making-start, fits-byte, making-turn, byte-small, making-end}
 use Prim.Native.Nat.{_-_}
 use native.Mathlib.Omega.{arith}
 use borrow.Author.Needs.{needs}
 use Rattle.bit_strings.proofs.pack.next_byte.Statement.{statement}
 use Rattle.bit_strings.proofs.pack.next_byte.Tie as tie
-use Rattle.bit_strings.proofs.pack.next_byte.Reads as reads
-use Rattle.bit_strings.proofs.pack.next_byte.Lts as lts
-use Rattle.bit_strings.proofs.pack.next_bit.Reads as next-bit-reads
 
 abbrev Inv-loop : tie.InvT-loop
 Inv-loop values at leaves byte₀ place₀ count₀ byte place count = Making leaves values at byte place count

@@ -1,12 +1,10 @@
+-- `pack::pack` meets its contract: after each turn one byte more is written.
 use Rattle.bit_strings.proofs.Bitwise.{Written, written-start, written-turn, written-end}
 use Prim.Native.Nat.{_-_}
 use native.Mathlib.Omega.{arith}
 use borrow.Author.Needs.{needs}
 use Rattle.bit_strings.proofs.pack.pack.Statement.{statement}
 use Rattle.bit_strings.proofs.pack.pack.Tie as tie
-use Rattle.bit_strings.proofs.pack.pack.Reads as reads
-use Rattle.bit_strings.proofs.pack.pack.Lts as lts
-use Rattle.bit_strings.proofs.pack.next_byte.Reads as next-byte-reads
 
 abbrev Inv-loop : tie.InvT-loop
 Inv-loop values leaves count out₀ place₀ k₀ out place k = Written leaves values count out₀ out place k

@@ -1,10 +1,7 @@
+-- `read::lacks_room` meets its contract: the shorter slice decides.
 use Rattle.bit_strings.proofs.Answers.{lacks-first, lacks-second}
-use native.Mathlib.Omega.{arith}
-use borrow.Author.Needs.{needs}
 use Rattle.bit_strings.proofs.read.lacks_room.Statement.{statement}
 use Rattle.bit_strings.proofs.read.lacks_room.Tie as tie
-use Rattle.bit_strings.proofs.read.lacks_room.Reads as reads
-use Rattle.bit_strings.proofs.read.lacks_room.Lts as lts
 
 returns : tie.Need-returns
 returns c = lacks-first (c .before .args .keys) (c .before .args .bits) (c .before .args .n) (c .if1 .taken)

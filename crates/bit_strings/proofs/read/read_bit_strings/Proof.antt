@@ -1,18 +1,12 @@
+-- `read::read_bit_strings` meets its contract: each way out answers what the definition does there.
 use Rattle.bit_strings.proofs.ReadAnswers.{bad-settings, not-two, refused-pair, no-room, fitting, all-read}
 use Rattle.list.proofs.Tests.{good-settings}
 use Rattle.definitions.specs.Refusal.{badSettings}
-use mathlib.Core.Bool.{true, false}
+use mathlib.Core.Bool.{false}
 use mathlib.Core.Path.{_≡_, sym, _∙_}
-use native.Mathlib.Omega.{arith}
 use borrow.Author.Needs.{needs}
 use Rattle.bit_strings.proofs.read.read_bit_strings.Statement.{statement}
 use Rattle.bit_strings.proofs.read.read_bit_strings.Tie as tie
-use Rattle.bit_strings.proofs.read.read_bit_strings.Reads as reads
-use Rattle.bit_strings.proofs.read.read_bit_strings.Lts as lts
-use Rattle.bit_strings.proofs.check.count_records.Reads as count-records-reads
-use Rattle.bit_strings.proofs.fill.fill.Reads as fill-reads
-use Rattle.bit_strings.proofs.read.lacks_room.Reads as lacks-room-reads
-use Rattle.list.proofs.settings.are_bad.Reads as are-bad-reads
 
 -- the settings are good
 good : (c : tie.Else1) → let a = c .before .before .before .before .before .before .args in badSettings (a .m) (a .s) ≡ false

@@ -1,15 +1,11 @@
+-- `write::early_refusal` meets its contract: the tests of its table in their order.
 use Rattle.bit_strings.proofs.Answers.{early-settings, early-slots, early-list, early-none}
 use Rattle.list.proofs.Tests.{good-settings}
 use borrow.Author.Tests.{not-true, not-false}
-use mathlib.Core.Path.{_≡_, sym, _∙_}
-use native.Mathlib.Omega.{arith}
+use mathlib.Core.Path.{sym, _∙_}
 use borrow.Author.Needs.{needs}
 use Rattle.bit_strings.proofs.write.early_refusal.Statement.{statement}
 use Rattle.bit_strings.proofs.write.early_refusal.Tie as tie
-use Rattle.bit_strings.proofs.write.early_refusal.Reads as reads
-use Rattle.bit_strings.proofs.write.early_refusal.Lts as lts
-use Rattle.list.proofs.check.is_list.Reads as is-list-reads
-use Rattle.list.proofs.settings.are_bad.Reads as are-bad-reads
 
 are-bad-requires : tie.Need-are-bad-requires
 are-bad-requires c κs = search needs

@@ -1,10 +1,7 @@
+-- `write::is_short` meets its contract: either slice may be too short.
 use Rattle.bit_strings.proofs.Answers.{short-first, short-second}
-use native.Mathlib.Omega.{arith}
-use borrow.Author.Needs.{needs}
 use Rattle.bit_strings.proofs.write.is_short.Statement.{statement}
 use Rattle.bit_strings.proofs.write.is_short.Tie as tie
-use Rattle.bit_strings.proofs.write.is_short.Reads as reads
-use Rattle.bit_strings.proofs.write.is_short.Lts as lts
 
 returns : tie.Need-returns
 returns c = short-first (c .before .args .first) (c .before .args .least) _ (c .if1 .taken)

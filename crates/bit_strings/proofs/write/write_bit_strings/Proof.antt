@@ -1,3 +1,4 @@
+-- `write::write_bit_strings` meets its contract: each way out answers what the definition does there.
 use lib.Dec.{ltb}
 use lib.ListN.{length}
 use Prim.Native.Nat.{_+_, _/_}
@@ -8,17 +9,11 @@ use Rattle.bit_strings.specs.Strings.{earlyRefusal}
 use Rattle.keys.proofs.Cases.{neither-left, neither-right}
 use borrow.Author.Tests.{ltb-false}
 use lib.Seq.{length-take-le}
-use mathlib.Core.Bool.{true, false}
 use mathlib.Core.Path.{_≡_, sym, _∙_}
 use native.Mathlib.Omega.{arith}
 use borrow.Author.Needs.{needs}
 use Rattle.bit_strings.proofs.write.write_bit_strings.Statement.{statement}
 use Rattle.bit_strings.proofs.write.write_bit_strings.Tie as tie
-use Rattle.bit_strings.proofs.write.write_bit_strings.Reads as reads
-use Rattle.bit_strings.proofs.write.write_bit_strings.Lts as lts
-use Rattle.bit_strings.proofs.pack.pack.Reads as pack-reads
-use Rattle.bit_strings.proofs.write.early_refusal.Reads as early-refusal-reads
-use Rattle.bit_strings.proofs.write.is_short.Reads as is-short-reads
 
 -- the start, from the early refusal
 abbrev start : tie.After-early-refusal → tie.Start
