@@ -13,7 +13,7 @@
 #define SOME(rounds) (rounds)
 #endif
 
-enum { GUARD = 8, MAX_REFUSAL = HLQ_SUMMARY };
+enum { GUARD = 8, MAX_REFUSAL = HLQ_CLASS_TABLE };
 
 typedef enum {
     CALL_KEY_AT,
@@ -25,6 +25,7 @@ typedef enum {
     CALL_EXIST,
     CALL_REPORT,
     CALL_SELECT,
+    CALL_COMBINE,
     CALL_FILL_SUMMARY,
     CALL_AREA,
     CALL_EXIST_CLIPPED,

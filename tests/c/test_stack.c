@@ -21,7 +21,8 @@ enum {
 
 static uint8_t raster[PIXELS], back[PIXELS], file[HLQ_FILE_BYTES(MOST)];
 static uint32_t keys[MOST], bits[MOST], log_keys[LOG], log_values[LOG], answer[PIXELS], found_ids[PIXELS];
-static uint32_t summary[PLACES];
+static uint32_t summary[PLACES], combined_keys[2 * MOST], combined_bits[2 * MOST];
+static uint8_t table[S * S];
 static size_t n, used;
 
 /* What the calls are asked: set before each. */
@@ -49,6 +50,17 @@ static void call_report(void) {
 }
 static void call_select(void) {
     refusal = hlq_select(M, S, keys, MOST, bits, MOST, n, row, column, height, width, feature, answer, PIXELS).refusal;
+}
+/* The map against a map of one leaf, which is its first record under the bits of one feature. */
+static void call_combine(void) {
+    static const uint32_t leaf_key[] = { 0 }, leaf_bits[] = { 2 };
+    refusal = hlq_combine(M, S, keys, MOST, bits, MOST, n, M, S, leaf_key, 1, leaf_bits, 1, 1, S, table, sizeof table,
+                          combined_keys, n, combined_bits, n)
+                  .refusal;
+    if (refusal == HLQ_ACCEPTED) /* and against itself, which has to be counted first in so little room */
+        refusal = hlq_combine(M, S, keys, MOST, bits, MOST, n, M, S, keys, MOST, bits, MOST, n, S, table, sizeof table,
+                              combined_keys, n, combined_bits, n)
+                      .refusal;
 }
 static void call_fill(void) {
     refusal = hlq_fill_summary(M, S, keys, MOST, bits, MOST, n, summary, PLACES).refusal;
@@ -102,7 +114,7 @@ typedef struct {
 } call;
 
 enum { KEY_AT, BLOCK_OF, BUILD, RASTER, STANDING, PART, EXIST, REPORT, SELECT, FILL_SUMMARY, AREA, EXIST_CLIPPED,
-       REPORT_CLIPPED, SELECT_CLIPPED, AREA_CLIPPED, PAINT, TAKE_BACK, EMPTY, FINDINGS, STORE, LOAD, CALLS };
+       REPORT_CLIPPED, SELECT_CLIPPED, AREA_CLIPPED, PAINT, TAKE_BACK, EMPTY, FINDINGS, STORE, LOAD, COMBINE, CALLS };
 static call calls[CALLS] = {
     { "key_at", call_key_at, 0 },       { "block_of", call_block_of, 0 }, { "build", call_build, 0 },
     { "raster", call_raster, 0 },       { "standing", call_standing, 0 }, { "part", call_part, 0 },
@@ -112,6 +124,7 @@ static call calls[CALLS] = {
     { "select_clipped", call_select_clipped, 0 }, { "area_clipped", call_area_clipped, 0 },
     { "paint", call_paint, 0 },         { "take_back", call_take_back, 0 }, { "empty", call_empty, 0 },
     { "findings", call_findings, 0 },   { "store", call_store, 0 },       { "load", call_load, 0 },
+    { "combine", call_combine, 0 },
 };
 
 static _Alignas(64) uint8_t stack[STACK];
@@ -164,6 +177,7 @@ static void every_call(uint8_t pattern) {
     measure(FINDINGS, pattern);
     measure(STORE, pattern);
     measure(LOAD, pattern);
+    measure(COMBINE, pattern);
     for (size_t i = 0; i < sizeof blocks / sizeof *blocks; i++) {
         key = blocks[i], feature = (uint32_t)i;
         measure(KEY_AT, pattern);
@@ -190,6 +204,7 @@ static uint32_t below(uint32_t limit) {
 }
 
 int main(void) {
+    for (size_t i = 0; i < sizeof table; i++) table[i] = (uint8_t)((i / S + i % S) % S);
     for (int kind = 0; kind < 4; kind++) {
         memset(raster, 3, PIXELS);
         for (size_t i = 0; i < PIXELS; i++) {
