@@ -117,8 +117,10 @@ static void refusals(map a, map b, classes c, size_t room) {
 static void rooms(map a, map b, classes c) {
     size_t n = try_combine(a, b, c, a.n + b.n - 1, a.n + b.n - 1);
     must(n > 0, "room for n1 + n2 - 1 records is enough");
-    try_combine(a, b, c, n, n), try_combine(a, b, c, n + 3, n), try_combine(a, b, c, n, n + 3);
-    try_combine(a, b, c, n - 1, n + 2), try_combine(a, b, c, n + 2, n - 1), try_combine(a, b, c, 0, 0);
+    try_combine(a, b, c, n, n), try_combine(a, b, c, n - 1, n + 2);
+    if (a.m > 6) return; /* the reference is slow there */
+    try_combine(a, b, c, n + 3, n), try_combine(a, b, c, n, n + 3);
+    try_combine(a, b, c, n + 2, n - 1), try_combine(a, b, c, 0, 0);
 }
 
 /* One list with itself, in one pair of buffers, through a diagonal table: it comes back. */
@@ -135,7 +137,7 @@ static void with_itself(map a) {
 
 static void maps(uint32_t m) {
     map a = random_map(m), b = random_map(m);
-    for (uint32_t kind = 0; kind < 5; kind++) {
+    for (uint32_t kind = m > 6 ? below(5) : 0; kind < 5; kind += m > 6 ? 5 : 1) {
         classes c = any_table(a, b, kind);
         rooms(a, b, c);
         free(c.table);
