@@ -377,6 +377,40 @@ static void batch(size_t n) {
            sink += plain_batch(M, S, keys, bits, n, questions + i, 1, other_refusals, other_values));
 }
 
+/* Two rasters of a kind each, and a class for every pair: into room for both, and into exactly the result's room. */
+static void combining(const char *first, int first_kind, const char *second, int second_kind) {
+    static uint32_t keys2[MOST], bits2[MOST];
+    static uint8_t table[S * S];
+    for (size_t i = 0; i < sizeof table; i++) table[i] = (uint8_t)((i / S + 3 * (i % S)) % S);
+    fill(second_kind);
+    size_t n2 = hlq_build(M, S, raster, PIXELS, keys2, MOST, bits2, MOST, summary, PLACES).count;
+    fill(first_kind);
+    size_t n1 = hlq_build(M, S, raster, PIXELS, keys, MOST, bits, MOST, summary, PLACES).count;
+    uint32_t *out_keys = malloc(8 * MOST), *out_bits = malloc(8 * MOST);
+    if (!out_keys || !out_bits) exit(1);
+    size_t n = hlq_combine(M, S, keys, MOST, bits, MOST, n1, M, S, keys2, MOST, bits2, MOST, n2, S, table, sizeof table,
+                           out_keys, 2 * MOST, out_bits, 2 * MOST)
+                   .count;
+    printf("\n%s against %s at m = %d: %zu and %zu records, combined %zu, with the checks of both lists\n", first,
+           second, M, n1, n2, n);
+    for (int tight = 0; tight < 2; tight++) {
+        size_t room = tight ? n : 2 * MOST, plain_n = 0;
+        int times = n1 + n2 < 1000 ? 100 : 1;
+        COMPARE(tight ? "combine into exactly its room" : "combine", 7, times,
+                sink += hlq_combine(M, S, keys, MOST, bits, MOST, n1, M, S, keys2, MOST, bits2, MOST, n2, S, table,
+                                    sizeof table, out_keys, room, out_bits, room)
+                            .count,
+                {
+                    sink += (uint64_t)plain_is_list(M, S, keys, bits, n1);
+                    sink += (uint64_t)plain_is_list(M, S, keys2, bits2, n2);
+                    plain_n = plain_combine(M, bits, n1, S, bits2, n2, table, other_keys, other_bits, room);
+                });
+        if (plain_n != n || memcmp(out_keys, other_keys, 4 * n) != 0 || memcmp(out_bits, other_bits, 4 * n) != 0)
+            printf("THE TWO DIFFER\n");
+    }
+    free(out_keys), free(out_bits);
+}
+
 static void blocks(void) {
     printf("\nblocks at m = %d\n", M);
     COMPARE("key at", 9, 1000, sink += hlq_key_at(M, (uint32_t)again, 1023 - (uint32_t)again % 1024, 9).count,
@@ -395,6 +429,9 @@ int main(void) {
         fill(kind);
         lists(kinds[kind]);
     }
+    combining("patchy", 1, "patchy", 1);
+    combining("patchy", 1, "noisy", 2);
+    combining("one leaf", 0, "noisy", 2);
     fill(0);
     size_t n = hlq_build(M, S, raster, PIXELS, keys, MOST, bits, MOST, summary, PLACES).count;
     windows(kinds[0], n, S - 1);

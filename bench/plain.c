@@ -147,6 +147,59 @@ void plain_raster(uint32_t m, const uint32_t *bits, uint8_t *raster) {
 
 /* ---- standing: the last place whose key is at or before */
 
+/* Two lists, their table, and where the result goes. */
+typedef struct {
+    const uint32_t *bits1, *bits2;
+    const uint8_t *table;
+    uint32_t s2, *keys, *bits; /* keys null: count alone */
+} two_lists;
+
+/* A combined block: its bits, the place after its records, and where it ends in both lists. */
+typedef struct {
+    uint32_t bits;
+    size_t next, at1, at2;
+} joint;
+
+/* The block whose records begin at at1 and at2; where a list has a leaf around it, that leaf's bits, else 0. The
+ * records below the block are written past place. */
+static joint combine_block(const two_lists *j, uint32_t leaf1, size_t at1, uint32_t leaf2, size_t at2, uint32_t key,
+                           uint32_t step, size_t place) {
+    if (!leaf1) {
+        leaf1 = j->bits1[at1++];
+        if (!one_bit(leaf1)) leaf1 = 0;
+    }
+    if (!leaf2) {
+        leaf2 = j->bits2[at2++];
+        if (!one_bit(leaf2)) leaf2 = 0;
+    }
+    if (leaf1 && leaf2) {
+        uint8_t class = j->table[(uint32_t)__builtin_ctz(leaf1) * j->s2 + (uint32_t)__builtin_ctz(leaf2)];
+        return (joint){ 1u << class, place + 1, at1, at2 };
+    }
+    uint32_t lower = step / 5, union_of_four = 0, own[4];
+    size_t places[4], next = place + 1;
+    for (uint32_t d = 0; d < 4; d++) {
+        places[d] = next;
+        joint q = combine_block(j, leaf1, at1, leaf2, at2, key + (d + 1) * lower, lower, next);
+        own[d] = q.bits, union_of_four |= q.bits;
+        next = q.next, at1 = q.at1, at2 = q.at2;
+    }
+    if (one_bit(union_of_four)) return (joint){ union_of_four, place + 1, at1, at2 };
+    if (j->keys)
+        for (uint32_t d = 0; d < 4; d++) j->keys[places[d]] = key + (d + 1) * lower, j->bits[places[d]] = own[d];
+    return (joint){ union_of_four, next, at1, at2 };
+}
+
+size_t plain_combine(uint32_t m, const uint32_t *bits1, size_t n1, uint32_t s2, const uint32_t *bits2, size_t n2,
+                     const uint8_t *table, uint32_t *keys, uint32_t *bits, size_t room) {
+    two_lists count = { bits1, bits2, table, s2, NULL, NULL }, j = { bits1, bits2, table, s2, keys, bits };
+    uint32_t step = power(5, m);
+    if (n1 + n2 - 1 > room && combine_block(&count, 0, 0, 0, 0, 0, step, 0).next > room) return 0;
+    joint root = combine_block(&j, 0, 0, 0, 0, 0, step, 0);
+    keys[0] = 0, bits[0] = root.bits;
+    return root.next;
+}
+
 size_t plain_place(const uint32_t *keys, size_t n, uint32_t key) {
     size_t low = 0, high = n;
     while (low < high) {

@@ -23,6 +23,9 @@ uint32_t plain_report(uint32_t m, const uint32_t *keys, const uint32_t *bits, si
                       uint32_t height, uint32_t width, size_t *visited);
 size_t plain_select(uint32_t m, const uint32_t *keys, const uint32_t *bits, size_t n, uint32_t row, uint32_t column,
                     uint32_t height, uint32_t width, uint32_t feature, uint32_t *answer, size_t room, size_t *visited);
+/* Two lists gone down together, merged as build merges; counted first where their records might not fit. */
+size_t plain_combine(uint32_t m, const uint32_t *bits1, size_t n1, uint32_t s2, const uint32_t *bits2, size_t n2,
+                     const uint8_t *table, uint32_t *keys, uint32_t *bits, size_t room);
 /* How many largest blocks a window has. */
 size_t plain_blocks(uint32_t m, uint32_t row, uint32_t column, uint32_t height, uint32_t width);
 /* The batch: the list is checked once, and each window clipped in 64-bit numbers. */

@@ -5,8 +5,9 @@
  * CONVENTIONS
  *
  * Every call ends, reads and writes only inside the buffers that you lend it, allocates nothing,
- * and keeps nothing between calls. Buffers of one call do not overlap. A buffer of no elements may
- * have any pointer that is not null.
+ * and keeps nothing between calls. A buffer that a call writes overlaps no other of its buffers;
+ * those that it only reads (const) may overlap. A buffer of no elements may have any pointer that
+ * is not null.
  *
  * m is the resolution, 0 to HLQ_DEEPEST_M: the raster has 2^m rows of 2^m bytes, row after row, row
  * 0 at the top, column 0 at the left. s is the number of slots, 1 to HLQ_MOST_SLOTS: each byte of
@@ -23,7 +24,7 @@
  * A summary is a slice of HLQ_SUMMARY_PLACES(m, s) numbers beside a list: for each block of level 2
  * (level m if m is smaller), in key order, how many of its pixels have feature 0, feature 1, up to
  * feature s - 1. Place b * s + f counts feature f in block b. hlq_build makes it,
- * hlq_fill_summary does so for a list that was loaded, and edits keep it right.
+ * hlq_fill_summary does so for a list that was loaded or combined, and edits keep it right.
  *
  * A delivery is leaves alone, in two slices leaf_keys and leaf_features: blocks in ascending key
  * order that cover the raster once, and the feature of each. They may be in parts: four equal
@@ -230,6 +231,20 @@ hlq_counted hlq_select(uint32_t m, uint32_t s,
                        const uint32_t *keys, size_t keys_len, const uint32_t *bits, size_t bits_len,
                        size_t n, uint32_t row, uint32_t column, uint32_t height, uint32_t width,
                        uint32_t feature, uint32_t *answer, size_t answer_len);
+
+/* COMBINE. Two lists of one m, pixel by pixel: table[a * s2 + b] names the class of a pixel that has
+ * feature a in the first list and feature b in the second. The list of these classes, 0 to s3 - 1,
+ * is written to places 0 to count - 1 of keys3 and bits3; all other places stay. Room for
+ * n1 + n2 - 1 records is always enough. The two lists may be the same buffers.
+ * Refusals: HLQ_SETTINGS (of the first list, of the second, or s3), HLQ_RESOLUTION, HLQ_LIST (the
+ * first), HLQ_LIST (the second), HLQ_CLASS_TABLE (not exactly s1 * s2 entries, or one that is not
+ * below s3), HLQ_LIST_ROOM, in this order. */
+hlq_counted hlq_combine(uint32_t m1, uint32_t s1, const uint32_t *keys1, size_t keys1_len,
+                        const uint32_t *bits1, size_t bits1_len, size_t n1,
+                        uint32_t m2, uint32_t s2, const uint32_t *keys2, size_t keys2_len,
+                        const uint32_t *bits2, size_t bits2_len, size_t n2,
+                        uint32_t s3, const uint8_t *table, size_t table_len,
+                        uint32_t *keys3, size_t keys3_len, uint32_t *bits3, size_t bits3_len);
 
 /* FILL SUMMARY. The summary of the list is written to every place of summary.
  * Refusals: HLQ_SETTINGS, HLQ_LIST, HLQ_SUMMARY (the length alone), in this order. */

@@ -397,6 +397,30 @@ hlq_counted ref_build(uint32_t m, uint32_t s, const uint8_t *raster, size_t rast
     return answer;
 }
 
+/* Both rasters, a class for each pixel, and the list of that raster. */
+hlq_counted ref_combine(uint32_t m1, uint32_t s1, const uint32_t *keys1, size_t keys1_len, const uint32_t *bits1,
+                        size_t bits1_len, size_t n1, uint32_t m2, uint32_t s2, const uint32_t *keys2, size_t keys2_len,
+                        const uint32_t *bits2, size_t bits2_len, size_t n2, uint32_t s3, const uint8_t *table,
+                        size_t table_len, uint32_t *keys3, size_t keys3_len, uint32_t *bits3, size_t bits3_len) {
+    if (settings_are_bad(m1, s1) || settings_are_bad(m2, s2) || s3 == 0 || s3 > SLOTS) return (hlq_counted){ 1, 0 };
+    if (m1 != m2) return (hlq_counted){ 24, 0 };
+    uint8_t *first = raster_of(m1, s1, keys1, keys1_len, bits1, bits1_len, n1);
+    if (!first) return (hlq_counted){ 4, 0 };
+    hlq_counted answer = { 4, 0 };
+    uint8_t *second = raster_of(m2, s2, keys2, keys2_len, bits2, bits2_len, n2);
+    if (second) {
+        int bad = table_len != (size_t)s1 * s2;
+        for (size_t i = 0; i < table_len; i++) bad |= table[i] >= s3;
+        answer = (hlq_counted){ 25, 0 };
+        if (!bad) {
+            for (size_t i = 0; i < pixels_of(m1); i++) first[i] = table[(size_t)first[i] * s2 + second[i]];
+            answer = ref_list(m1, s3, first, pixels_of(m1), keys3, keys3_len, bits3, bits3_len);
+        }
+    }
+    free(first), free(second);
+    return answer;
+}
+
 hlq_done ref_fill_summary(uint32_t m, uint32_t s, const uint32_t *keys, size_t keys_len, const uint32_t *bits,
                           size_t bits_len, size_t n, uint32_t *summary, size_t summary_len) {
     if (settings_are_bad(m, s)) return (hlq_done){ 1 };

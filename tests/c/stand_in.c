@@ -49,6 +49,14 @@ hlq_counted hlq_select(uint32_t m, uint32_t s, TAKE_CONST_LIST, size_t n, TAKE_W
     return ref_select(m, s, LIST, n, WINDOW, feature, answer, answer_len);
 }
 
+hlq_counted hlq_combine(uint32_t m1, uint32_t s1, const uint32_t *keys1, size_t keys1_len, const uint32_t *bits1,
+                        size_t bits1_len, size_t n1, uint32_t m2, uint32_t s2, const uint32_t *keys2, size_t keys2_len,
+                        const uint32_t *bits2, size_t bits2_len, size_t n2, uint32_t s3, const uint8_t *table,
+                        size_t table_len, uint32_t *keys3, size_t keys3_len, uint32_t *bits3, size_t bits3_len) {
+    return ref_combine(m1, s1, keys1, keys1_len, bits1, bits1_len, n1, m2, s2, keys2, keys2_len, bits2, bits2_len, n2,
+                       s3, table, table_len, keys3, keys3_len, bits3, bits3_len);
+}
+
 hlq_done hlq_fill_summary(uint32_t m, uint32_t s, TAKE_CONST_LIST, size_t n, uint32_t *summary, size_t summary_len) {
     return ref_fill_summary(m, s, LIST, n, summary, summary_len);
 }

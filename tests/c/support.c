@@ -30,6 +30,7 @@ static const char *const names[CALLS] = {
     [CALL_WRITE_LEAVES] = "write leaves",
     [CALL_WRITE_BIT_STRINGS] = "write bit strings",
     [CALL_READ_BIT_STRINGS] = "read bit strings",
+    [CALL_COMBINE] = "combine",
 };
 static uint64_t state = 1, comparisons, pairs[CALLS][MAX_REFUSAL + 1];
 

@@ -25,6 +25,7 @@ typedef enum {
     CALL_EXIST,
     CALL_REPORT,
     CALL_SELECT,
+    CALL_COMBINE,
     CALL_FILL_SUMMARY,
     CALL_AREA,
     CALL_EXIST_CLIPPED,

@@ -15,6 +15,7 @@ static_assert(HLQ_ACCEPTED == 0 && HLQ_SETTINGS == 1 && HLQ_RASTER_LENGTH == 2 &
                   HLQ_LOG_ROOM == 10 && HLQ_LOG_EMPTY == 11 && HLQ_ANSWER_ROOM == 12 && HLQ_RULES == 13 &&
                   HLQ_WAIVERS == 14 && HLQ_FILE_LENGTH == 15 && HLQ_FILE_MARK == 16 && HLQ_FILE_VERSION == 17,
               "the refusals of document 01");
+static_assert(HLQ_SUMMARY == 18 && HLQ_RESOLUTION == 24 && HLQ_CLASS_TABLE == 25, "the refusals of document 02");
 static_assert(HLQ_MOST_RECORDS(0) == 1 && HLQ_MOST_RECORDS(1) == 5 && HLQ_MOST_RECORDS(5) == 1365 &&
                   HLQ_MOST_RECORDS(HLQ_DEEPEST_M) == 1398101,
               "the most records");
@@ -87,9 +88,9 @@ static void limits(void) {
 }
 
 static void words(void) {
-    const char *unknown = hlq_refusal_text(HLQ_LEAVES + 1);
+    const char *unknown = hlq_refusal_text(HLQ_CLASS_TABLE + 1);
     must(strcmp(unknown, hlq_refusal_text(UINT64_MAX)) == 0, "one text for every unknown number");
-    for (uint64_t a = 0; a <= HLQ_LEAVES; a++) {
+    for (uint64_t a = 0; a <= HLQ_CLASS_TABLE; a++) {
         must(strlen(hlq_refusal_text(a)) > 0 && strcmp(hlq_refusal_text(a), unknown) != 0, "a text for each refusal");
         for (uint64_t b = 0; b < a; b++)
             must(strcmp(hlq_refusal_text(a), hlq_refusal_text(b)) != 0, "a text of its own");

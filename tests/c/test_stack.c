@@ -25,6 +25,8 @@ static uint32_t summary[PLACES], leaf_keys[PIXELS], leaf_features[PIXELS];
 static size_t n, used, leaves, two;
 static uint32_t two_keys[MOST], two_bits[MOST];
 static uint8_t node_bits[HLQ_NODE_STRING_BYTES(MOST)], leaf_bits[HLQ_LEAF_STRING_BYTES(MOST)];
+static uint32_t combined_keys[2 * MOST], combined_bits[2 * MOST];
+static uint8_t table[S * S];
 
 /* What the calls are asked: set before each. */
 static uint32_t key, row, column, height, width, feature;
@@ -51,6 +53,17 @@ static void call_report(void) {
 }
 static void call_select(void) {
     refusal = hlq_select(M, S, keys, MOST, bits, MOST, n, row, column, height, width, feature, answer, PIXELS).refusal;
+}
+/* The map against a map of one leaf, which is its first record under the bits of one feature. */
+static void call_combine(void) {
+    static const uint32_t leaf_key[] = { 0 }, leaf_bits[] = { 2 };
+    refusal = hlq_combine(M, S, keys, MOST, bits, MOST, n, M, S, leaf_key, 1, leaf_bits, 1, 1, S, table, sizeof table,
+                          combined_keys, n, combined_bits, n)
+                  .refusal;
+    if (refusal == HLQ_ACCEPTED) /* and against itself, which has to be counted first in so little room */
+        refusal = hlq_combine(M, S, keys, MOST, bits, MOST, n, M, S, keys, MOST, bits, MOST, n, S, table, sizeof table,
+                              combined_keys, n, combined_bits, n)
+                      .refusal;
 }
 static void call_fill(void) {
     refusal = hlq_fill_summary(M, S, keys, MOST, bits, MOST, n, summary, PLACES).refusal;
@@ -130,7 +143,7 @@ typedef struct {
 
 enum { KEY_AT, BLOCK_OF, BUILD, RASTER, STANDING, PART, EXIST, REPORT, SELECT, FILL_SUMMARY, AREA, EXIST_CLIPPED,
        REPORT_CLIPPED, SELECT_CLIPPED, AREA_CLIPPED, BATCH, PAINT, TAKE_BACK, EMPTY, FINDINGS, STORE, LOAD, WRITE_LEAVES,
-       READ_LEAVES, WRITE, READ, CALLS };
+       READ_LEAVES, WRITE, READ, COMBINE, CALLS };
 static call calls[CALLS] = {
     { "key_at", call_key_at, 0 },       { "block_of", call_block_of, 0 }, { "build", call_build, 0 },
     { "raster", call_raster, 0 },       { "standing", call_standing, 0 }, { "part", call_part, 0 },
@@ -143,6 +156,7 @@ static call calls[CALLS] = {
     { "findings", call_findings, 0 },   { "store", call_store, 0 },       { "load", call_load, 0 },
     { "write_leaves", call_write_leaves, 0 }, { "read_leaves", call_read_leaves, 0 },
     { "write_bit_strings", call_write, 0 },       { "read_bit_strings", call_read, 0 },
+    { "combine", call_combine, 0 },
 };
 
 static _Alignas(64) uint8_t stack[STACK];
@@ -203,6 +217,7 @@ static void every_call(uint8_t pattern) {
     measure(FINDINGS, pattern);
     measure(STORE, pattern);
     measure(LOAD, pattern);
+    measure(COMBINE, pattern);
     measure(WRITE_LEAVES, pattern);
     measure(READ_LEAVES, pattern);
     two_features();
@@ -234,6 +249,7 @@ static uint32_t below(uint32_t limit) {
 }
 
 int main(void) {
+    for (size_t i = 0; i < sizeof table; i++) table[i] = (uint8_t)((i / S + i % S) % S);
     for (int kind = 0; kind < 4; kind++) {
         memset(raster, 3, PIXELS);
         for (size_t i = 0; i < PIXELS; i++) {

@@ -25,6 +25,8 @@ use Rattle.prowcurl.proofs.lists.hlq_standing as standing
 use Rattle.prowcurl.proofs.lists.hlq_standing.Reads as standing-reads
 use Rattle.prowcurl.proofs.lists.hlq_part as part
 use Rattle.prowcurl.proofs.lists.hlq_part.Reads as part-reads
+use Rattle.prowcurl.proofs.combining.hlq_combine as combine
+use Rattle.prowcurl.proofs.combining.hlq_combine.Reads as combine-reads
 use Rattle.prowcurl.proofs.areas.hlq_fill_summary as fill-summary
 use Rattle.prowcurl.proofs.areas.hlq_fill_summary.Reads as fill-summary-reads
 use Rattle.prowcurl.proofs.areas.hlq_area as area
@@ -156,6 +158,9 @@ standing-one = by-equations (λ x. one (x .kept) (x .kept′))
 
 pub part-one : OneAnswer part.ended part-reads.Learnt
 part-one = by-equations (λ x. one (x .kept) (x .kept′))
+
+pub combine-one : OneAnswer combine.ended combine-reads.Learnt
+combine-one = by-equations (λ x. three (x .kept) (x .kept′))
 
 -- areas
 pub fill-summary-one : OneAnswer fill-summary.ended fill-summary-reads.Learnt

@@ -4,7 +4,8 @@ use native.Mathlib.Omega.{arith}
 use borrow.Fn.Kinds.{In}
 use borrow.Fn.PlainCycle.{Measures, is, falls, and}
 use Rattle.combine.specs.Combining.{Asked}
-use Rattle.combine.proofs.BothLists.{first-room, second-room, leaves-slots, leaves-named, leaves-counted, step-falls, asks-nw, asks-ne, asks-sw, asks-se, four-small, node-counted}
+use Rattle.combine.proofs.TwoLeaves.{leaves-slots, leaves-named, leaves-counted}
+use Rattle.combine.proofs.FourCalls.{first-room, second-room, step-falls, asks-nw, asks-ne, asks-sw, asks-se, four-small, node-counted}
 use Rattle.combine.proofs.count.count_block.Reads as own
 use Rattle.combine.proofs.count.count_block.Kinds as kinds
 use Rattle.combine.proofs.count.+count_block.Lts-count_block as lts

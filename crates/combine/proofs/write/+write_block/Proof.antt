@@ -6,7 +6,8 @@ use native.Mathlib.Omega.{arith}
 use borrow.Fn.Kinds.{In}
 use borrow.Fn.PlainCycle.{Measures, is, falls, and}
 use Rattle.combine.specs.Combining.{WriteAsked}
-use Rattle.combine.proofs.BothLists.{first-room, second-room, leaves-slots, leaves-named, leaves-made, step-falls, keys-fit, writes-nw, writes-ne, writes-sw, writes-se, four-asked, node-made}
+use Rattle.combine.proofs.TwoLeaves.{leaves-slots, leaves-named, leaves-made}
+use Rattle.combine.proofs.FourCalls.{first-room, second-room, step-falls, keys-fit, writes-nw, writes-ne, writes-sw, writes-se, four-asked, node-made}
 use Rattle.combine.proofs.write.write_block.Reads as own
 use Rattle.combine.proofs.write.write_block.Kinds as kinds
 use Rattle.combine.proofs.write.+write_block.Lts-write_block as lts
