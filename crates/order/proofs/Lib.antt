@@ -6,5 +6,6 @@ pub mod Theorem
 pub mod AllPaints
 pub mod LogLength
 pub mod Refusals
+pub mod OnASheet
 pub mod NextPaint
 mod Counterexamples
