@@ -8,4 +8,5 @@ pub mod LogLength
 pub mod Refusals
 pub mod OnASheet
 pub mod NextPaint
+pub mod Room
 mod Counterexamples

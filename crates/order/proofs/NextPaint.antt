@@ -11,7 +11,7 @@ use Rattle.keys.specs.Key.{rootKey, validKey}
 use Rattle.keys.proofs.Cases.{decide}
 use Rattle.definitions.specs.Picture.{Picture}
 use Rattle.definitions.specs.List.{listOfPicture}
-use Rattle.definitions.specs.Read.{room, pictureOf}
+use Rattle.definitions.specs.Read.{room}
 use Rattle.definitions.specs.Edit.{paintIn}
 use Rattle.definitions.specs.Log.{entryOf}
 use Rattle.definitions.specs.Refusal.{Row, _gives_, first, badKey, badFeature}
@@ -21,19 +21,14 @@ use Rattle.definitions.proofs.ListOf.{list-agree}
 use Rattle.definitions.proofs.Pixels.{Agree}
 use Rattle.history.specs.History.{Call, Buffers, Paint, answer, pictureLeft}
 use Rattle.history.specs.Claim.{paintAnswer}
-use Rattle.history.proofs.Content.{map-back, entry-agree}
+use Rattle.history.proofs.Content.{entry-agree}
 use Rattle.history.proofs.Drawn.{paint-agree}
 use Rattle.order.specs.Rearranged.{Rearranged}
 use Rattle.order.specs.Apart.{allApart}
 use Rattle.order.specs.Either.{asCall, inFull, afterPaints}
 use Rattle.order.proofs.Theorem.{either-order}
-use Rattle.order.proofs.OnASheet.{sheetAfter, keptAfter, after-history}
+use Rattle.order.proofs.OnASheet.{one-list, sheetAfter, keptAfter, after-history}
 use Rattle.order.proofs.LogLength.{either-log-length}
-
--- pictures with one list agree on the map
-one-list : (m : ℕ) (p q : Picture) → listOfPicture m p ≡ listOfPicture m q → Agree p q m 0 0
-one-list m p q e row column square =
-    sym (map-back m p row column square) ∙ ap (λ l. pictureOf m l row column) e ∙ map-back m q row column square
 
 -- the rows after 8
 abbrev later : (s f roomOfList roomOfLog inForce entry list : ℕ) → List Row
