@@ -23,7 +23,7 @@ use Rattle.definitions.proofs.Pixels.{Agree}
 use Rattle.history.specs.History.{Call, Buffers, Paint, answer, after, run, pictureLeft}
 use Rattle.history.specs.Claim.{paintAnswer}
 use Rattle.history.proofs.Content.{entry-agree}
-use Rattle.order.specs.Rearranged.{Rearranged, Swapped, none, further, swap, and-then}
+use Rattle.order.specs.Rearranged.{timesIn, Rearranged, Swapped, none, further, swap, and-then}
 use Rattle.order.specs.Apart.{allApart}
 use Rattle.order.specs.Either.{asCall, asCalls, inFull, inTurn, listIn, afterPaints}
 use Rattle.order.proofs.Rearrangements.{times-swapped}
@@ -88,6 +88,23 @@ unfolding paintAnswer
 by-list m s p roomOfList roomOfLog inForce κ f key feature fits =
     first-later _ _ key ∙ first-later _ _ feature ∙ first-later _ _ (le-ltb roomOfLog (inForce + length (entryOf m p κ f)) fits)
 
+-- a run with one paint more
+one-more : (m s : ℕ) (b : Buffers) (front : List Paint) (y : Paint) → afterPaints m s b (front ++ (y ∷ [])) ≡ after m s (afterPaints m s b front) (asCall y)
+unfolding asCalls run
+one-more m s b [] y = refl
+one-more m s b (x ∷ front) y = one-more m s (after m s b (asCall x)) front y
+
+-- is accepted in full where the run is and then the paint
+in-full-more : (m s : ℕ) (b : Buffers) (front : List Paint) (y : Paint) → inFull m s b front ≡ true → answer m s (afterPaints m s b front) (asCall y) ≡ 0
+    → inFull m s b (front ++ (y ∷ [])) ≡ true
+unfolding inFull asCalls run
+in-full-more m s b [] y h e = and-both (eqb (answer m s b (asCall y)) 0) true (eq-eqb _ 0 e) refl
+in-full-more m s b (x ∷ front) y h e =
+    let next : Buffers = after m s b (asCall x) in
+    and-both (eqb (answer m s b (asCall x)) 0) (inFull m s next (front ++ (y ∷ [])))
+    (and-left (eqb (answer m s b (asCall x)) 0) (inFull m s next front) h)
+    (in-full-more m s next front y (and-right (eqb (answer m s b (asCall x)) 0) (inFull m s next front) h) e)
+
 module _ (m s : ℕ) (raster keys bits summary logKeys logValues : List ℕ) (accepted : surveyRefusal m s raster keys bits summary ≡ 0) (before : List Call) where
   abbrev sheet : Buffers
   sheet = sheetAfter m s raster keys bits summary logKeys logValues before
@@ -150,3 +167,31 @@ module _ (m s : ℕ) (raster keys bits summary logKeys logValues : List ℕ) (ac
         after-history m s raster keys bits summary logKeys logValues accepted before front .paints (y .key) (y .feature)
         ∙ by-list m s (left front) (room keys bits) (room logKeys logValues) (afterPaints m s sheet front .inForce) (y .key) (y .feature)
         (ap not valid) (not-true _ below) (entry-fits front y back r j valid)
+
+    -- where the list has room for any list it is accepted
+    next-accepted : 4 ^ suc m ≤ 3 * room keys bits + 1 → (front : List Paint) (y : Paint) (back : List Paint) → Rearranged xs (front ++ (y ∷ back))
+        → inFull m s sheet front ≡ true
+        → answer m s (afterPaints m s sheet front) (asCall y) ≡ 0
+    next-accepted ample front y back r j =
+        let q : Picture = paintIn m (y .key) (y .feature) (left front) in
+        let most = list-most q m 0 0 rootKey in
+        only-nine front y back r j
+        ∙ first-later (listRow (room keys bits) (length (listOfPicture m q))) [] (le-ltb (room keys bits) (length (listOfPicture m q)) (omega arith))
+        ∙ first-end
+
+    -- the rest of another order is accepted, after as much of it as was accepted
+    rest-accepted : 4 ^ suc m ≤ 3 * room keys bits + 1 → (front back : List Paint) → Rearranged xs (front ++ back) → inFull m s sheet front ≡ true
+        → inFull m s (afterPaints m s sheet front) back ≡ true
+    unfolding inFull
+    rest-accepted ample front [] r j = refl
+    rest-accepted ample front (y ∷ back) r j =
+        let b : Buffers = afterPaints m s sheet front in
+        let e = next-accepted ample front y back r j in
+        and-both (eqb (answer m s b (asCall y)) 0) (inFull m s (after m s b (asCall y)) back) (eq-eqb _ 0 e)
+        (subst (λ b′. inFull m s b′ back ≡ true) (one-more m s sheet front y)
+        (rest-accepted ample (front ++ (y ∷ [])) back (λ z. r z ∙ ap (timesIn z) (sym (append-assoc front (y ∷ []) back))) (in-full-more m s sheet front y j e)))
+
+    -- every order of the paints is accepted in full where one is, if the list has room for any list
+    pub every-order : 4 ^ suc m ≤ 3 * room keys bits + 1 → (ys : List Paint) → Rearranged xs ys → inFull m s sheet ys ≡ true
+    unfolding inFull asCalls run
+    every-order ample ys r = rest-accepted ample [] ys r refl
