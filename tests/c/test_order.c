@@ -1,7 +1,7 @@
 /* Two crews, one sheet: runs of paints of which every two blocks are apart, each in several random orders on copies of
  * one sheet. Every order that is accepted in full leaves the list and the summary of the first raster with all the
- * paints, and as long a log; another order is refused for want of room, and for nothing else. Tight rooms, and paints
- * that are not apart. */
+ * paints, and as long a log; another order is refused for want of room, and for nothing else, and where one was
+ * accepted in full for want of the list's room alone. Tight rooms, and paints that are not apart. */
 #include "support.h"
 
 #include <stdio.h>
@@ -71,15 +71,15 @@ static void shuffle(painting *run, size_t count) {
     }
 }
 
-/* Whether every paint was accepted; a refusal is one of room. */
-static int all_accepted(sheet *a, const painting *run, size_t count) {
-    int full = 1;
+/* The first refusal of a run, or 0; it goes on after a refusal, and every one is of room. */
+static uint64_t first_refusal(sheet *a, const painting *run, size_t count) {
+    uint64_t first = 0;
     for (size_t i = 0; i < count; i++) {
         uint64_t refusal = paint(a, &run[i]);
         must(refusal == 0 || refusal == HLQ_LOG_ROOM || refusal == HLQ_LIST_ROOM, "a refusal that is not one of room");
-        full &= refusal == 0;
+        if (first == 0) first = refusal;
     }
-    return full;
+    return first;
 }
 
 /* The list and the summary are those of the raster, record for record and count for count. */
@@ -133,10 +133,12 @@ static void orders(uint32_t m, uint32_t kind, int tight) {
     size_t before = records(m, s, raster), after = records(m, s, all);
     size_t room = tight ? (before < after ? after : before) + below(m) : most;
     sheet first = new_sheet(m, s, raster, room, tight && below(4) == 0 ? 3 + below(60) : 4 * most + 128);
+    uint64_t refusals[ORDERS];
     sheet one = { 0 };
     for (uint32_t i = 0; i < ORDERS; i++) {
         sheet a = copy_sheet(&first);
-        if (all_accepted(&a, run, count)) {
+        refusals[i] = first_refusal(&a, run, count);
+        if (refusals[i] == 0) {
             in_full++;
             shows(&a, all);
             if (seen++ == 0) one = copy_sheet(&a);
@@ -148,6 +150,9 @@ static void orders(uint32_t m, uint32_t kind, int tight) {
         free_sheet(&a);
         shuffle(run, count);
     }
+    for (uint32_t i = 0; i < ORDERS && seen > 0; i++)
+        must(refusals[i] == 0 || (refusals[i] == HLQ_LIST_ROOM && tight),
+             "where one order is accepted in full, another is refused for the list's room alone");
     if (seen > 0) free_sheet(&one);
     if (seen > 0 && seen < ORDERS) only_some++;
     free_sheet(&first);

@@ -6,5 +6,7 @@ pub mod Theorem
 pub mod AllPaints
 pub mod LogLength
 pub mod Refusals
+pub mod OnASheet
 pub mod NextPaint
+pub mod Room
 mod Counterexamples

@@ -26,7 +26,7 @@ use Rattle.order.specs.Apart.{apart, apartFromAll, allApart, allValid}
 use Rattle.order.specs.Either.{asCall, asCalls, inFull, listIn, pictureIn, afterPaints}
 use Rattle.order.proofs.Rearrangements.{times-swapped, not-none}
 use Rattle.order.proofs.ApartBlocks.{Disjoint, disjoint-flip, apart-to, apart-disjoint}
-use Rattle.order.proofs.Swaps.{apart-swapped}
+use Rattle.order.proofs.Swaps.{valid-swapped, apart-swapped}
 use Rattle.order.proofs.Sheets.{paint-shows, accepted-list, accepted-valid, first-accepted, rest-in-full, in-full-valid}
 
 -- a paint leaves the entry of a block without a common pixel
@@ -39,12 +39,12 @@ entry-stays m a f b g p valid h =
     (λ row column square. paint-outside m a f p row column (disjoint-flip m a b h row column (inBlock-iff row column block .1 square))))
 
 -- the places of the entries of a run, each of the picture that it found
-unfoldable placesInTurn : ℕ → Picture → List Paint → ℕ
+unfoldable pub placesInTurn : ℕ → Picture → List Paint → ℕ
 placesInTurn m p [] = 0
 placesInTurn m p (x ∷ xs) = length (entryOf m p (x .key) (x .feature)) + placesInTurn m (paintIn m (x .key) (x .feature) p) xs
 
 -- the same, each of the first picture
-unfoldable placesAtOnce : ℕ → Picture → List Paint → ℕ
+unfoldable pub placesAtOnce : ℕ → Picture → List Paint → ℕ
 placesAtOnce m p [] = 0
 placesAtOnce m p (x ∷ xs) = length (entryOf m p (x .key) (x .feature)) + placesAtOnce m p xs
 
@@ -78,6 +78,13 @@ places-swapped m p (further {x = x} d) = ap (λ n. length (entryOf m p (x .key) 
 places-swapped m p (swap {x = x} {y = y} {xs = xs}) = omega arith
 places-swapped m p (and-then d e) = places-swapped m p d ∙ places-swapped m p e
 
+-- so a rearrangement of paints, every pair apart, needs as many places
+pub places-either : (m : ℕ) (p : Picture) (xs ys : List Paint) → Rearranged xs ys → allValid m xs ≡ true → allApart m xs ≡ true
+    → placesInTurn m p xs ≡ placesInTurn m p ys
+places-either m p xs ys r v h =
+    let d = times-swapped xs ys r in
+    in-turn-at-once m p xs v h ∙ places-swapped m p d ∙ sym (in-turn-at-once m p ys (valid-swapped m d v) (apart-swapped m d h))
+
 module _ (m s : ℕ) where
   -- an accepted paint puts its entry in force
   one-longer : (b : Buffers) (p : Picture) (x : Paint) → listIn b ≡ listOfPicture m p → answer m s b (asCall x) ≡ 0
@@ -88,7 +95,7 @@ module _ (m s : ℕ) where
       (ap (λ l. gained m l (x .key) (x .feature)) e ∙ gained-entry m (x .key) (x .feature) p (accepted-valid m s b x accepted))
 
   -- a run puts its entries in force
-  run-longer : (b : Buffers) (p : Picture) (xs : List Paint) → listIn b ≡ listOfPicture m p → inFull m s b xs ≡ true
+  pub run-longer : (b : Buffers) (p : Picture) (xs : List Paint) → listIn b ≡ listOfPicture m p → inFull m s b xs ≡ true
       → afterPaints m s b xs .inForce ≡ b .inForce + placesInTurn m p xs
   unfolding asCalls run placesInTurn
   run-longer b p [] e h = omega arith
@@ -107,10 +114,6 @@ module _ (m s : ℕ) where
   either-log-length b (x ∷ xs) (y ∷ ys) r h i j =
       let p : Picture = pictureIn m b in
       let e = accepted-list m s b x (first-accepted m s b x xs i) in
-      let d = times-swapped (x ∷ xs) (y ∷ ys) r in
       run-longer b p (x ∷ xs) e i
-      ∙ ap (λ n. b .inForce + n)
-      (in-turn-at-once m p (x ∷ xs) (in-full-valid m s b (x ∷ xs) i) h
-      ∙ places-swapped m p d
-      ∙ sym (in-turn-at-once m p (y ∷ ys) (in-full-valid m s b (y ∷ ys) j) (apart-swapped m d h)))
+      ∙ ap (λ n. b .inForce + n) (places-either m p (x ∷ xs) (y ∷ ys) r (in-full-valid m s b (x ∷ xs) i) h)
       ∙ sym (run-longer b p (y ∷ ys) e j)

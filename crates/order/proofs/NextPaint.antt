@@ -3,7 +3,7 @@
 use Prim.Native.Nat.{ℕ, _+_}
 use mathlib.Core.Path.{_≡_, refl, sym, ap, ap₂, _∙_}
 use mathlib.Core.Bool.{true}
-use mathlib.Core.List.{List, [], _∷_, _++_}
+use mathlib.Core.List.{List, [], _∷_}
 use lib.ListN.{length}
 use lib.Dec.{ltb}
 use borrow.Author.Tests.{not-false}
@@ -11,7 +11,7 @@ use Rattle.keys.specs.Key.{rootKey, validKey}
 use Rattle.keys.proofs.Cases.{decide}
 use Rattle.definitions.specs.Picture.{Picture}
 use Rattle.definitions.specs.List.{listOfPicture}
-use Rattle.definitions.specs.Read.{room, pictureOf}
+use Rattle.definitions.specs.Read.{room}
 use Rattle.definitions.specs.Edit.{paintIn}
 use Rattle.definitions.specs.Log.{entryOf}
 use Rattle.definitions.specs.Refusal.{Row, _gives_, first, badKey, badFeature}
@@ -19,21 +19,16 @@ use Rattle.definitions.specs.Calls.Survey.{surveyRefusal}
 use Rattle.definitions.proofs.First.{first-this}
 use Rattle.definitions.proofs.ListOf.{list-agree}
 use Rattle.definitions.proofs.Pixels.{Agree}
-use Rattle.history.specs.History.{Call, Buffers, Paint, Kept, nothing, built, answer, after, run, kept, pictureLeft}
+use Rattle.history.specs.History.{Call, Buffers, Paint, answer, pictureLeft}
 use Rattle.history.specs.Claim.{paintAnswer}
-use Rattle.history.proofs.Content.{map-back, entry-agree}
+use Rattle.history.proofs.Content.{entry-agree}
 use Rattle.history.proofs.Drawn.{paint-agree}
-use Rattle.history.proofs.Theorem.{history}
 use Rattle.order.specs.Rearranged.{Rearranged}
 use Rattle.order.specs.Apart.{allApart}
-use Rattle.order.specs.Either.{asCall, asCalls, inFull, afterPaints}
+use Rattle.order.specs.Either.{asCall, inFull, afterPaints}
 use Rattle.order.proofs.Theorem.{either-order}
+use Rattle.order.proofs.OnASheet.{one-list, sheetAfter, keptAfter, after-history}
 use Rattle.order.proofs.LogLength.{either-log-length}
-
--- pictures with one list agree on the map
-one-list : (m : ℕ) (p q : Picture) → listOfPicture m p ≡ listOfPicture m q → Agree p q m 0 0
-one-list m p q e row column square =
-    sym (map-back m p row column square) ∙ ap (λ l. pictureOf m l row column) e ∙ map-back m q row column square
 
 -- the rows after 8
 abbrev later : (s f roomOfList roomOfLog inForce entry list : ℕ) → List Row
@@ -54,30 +49,18 @@ answer-agree m s p q roomOfList roomOfLog inForce κ f h =
     ∙ sym (first-this row (rest (length (entryOf m q κ f)) (length (listOfPicture m (paintIn m κ f q)))) bad))
     (λ good. ap₂ (λ entry l. first (row ∷ rest (length entry) (length l))) (entry-agree m κ f p q (not-false _ good) h) list)
 
--- a run that goes on begins where the first part ended
-run-append : (m s : ℕ) (b : Buffers) (calls more : List Call) → run m s b (calls ++ more) ≡ run m s (run m s b calls) more
-unfolding run
-run-append m s b [] more = refl
-run-append m s b (c ∷ calls) more = run-append m s (after m s b c) calls more
-
 module _ (m s : ℕ) (raster keys bits summary logKeys logValues : List ℕ) (accepted : surveyRefusal m s raster keys bits summary ≡ 0) (before : List Call) where
-  -- the sheet that the crews find: after a build, and any calls
-  abbrev pub sheet : Buffers
-  sheet = run m s (built m s raster keys bits summary logKeys logValues) before
-
-  -- what the history leaves after a run of paints on it
-  abbrev left : List Paint → Kept
-  left xs = kept m s (built m s raster keys bits summary logKeys logValues) nothing (before ++ asCalls xs)
-
-  same-buffers : (xs : List Paint) → run m s (built m s raster keys bits summary logKeys logValues) (before ++ asCalls xs) ≡ afterPaints m s sheet xs
-  same-buffers xs = run-append m s (built m s raster keys bits summary logKeys logValues) before (asCalls xs)
-
   -- after two orders that were accepted in full every further paint is answered alike
-  pub next-alike : (xs ys : List Paint) → Rearranged xs ys → allApart m xs ≡ true → inFull m s sheet xs ≡ true → inFull m s sheet ys ≡ true → (x : Paint)
-      → answer m s (afterPaints m s sheet xs) (asCall x) ≡ answer m s (afterPaints m s sheet ys) (asCall x)
+  pub next-alike : (xs ys : List Paint) → Rearranged xs ys → allApart m xs ≡ true → inFull m s (sheetAfter m s raster keys bits summary logKeys logValues before) xs ≡ true
+      → inFull m s (sheetAfter m s raster keys bits summary logKeys logValues before) ys ≡ true
+      → (x : Paint)
+      → answer m s (afterPaints m s (sheetAfter m s raster keys bits summary logKeys logValues before) xs) (asCall x)
+      ≡ answer m s (afterPaints m s (sheetAfter m s raster keys bits summary logKeys logValues before) ys) (asCall x)
   next-alike xs ys r h i j x =
-      let a = rw (same-buffers xs) at (history m s raster keys bits summary logKeys logValues accepted (before ++ asCalls xs)) in
-      let b = rw (same-buffers ys) at (history m s raster keys bits summary logKeys logValues accepted (before ++ asCalls ys)) in
+      let a = after-history m s raster keys bits summary logKeys logValues accepted before xs in
+      let b = after-history m s raster keys bits summary logKeys logValues accepted before ys in
+      let sheet : Buffers = sheetAfter m s raster keys bits summary logKeys logValues before in
+      let left = keptAfter m s raster keys bits summary logKeys logValues before in
       let one : listOfPicture m (pictureLeft m raster (left xs)) ≡ listOfPicture m (pictureLeft m raster (left ys)) =
       sym (a .picture) ∙ either-order m s sheet xs ys r h i j .list ∙ b .picture in
       a .paints (x .key) (x .feature)

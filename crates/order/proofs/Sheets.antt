@@ -2,7 +2,7 @@
 -- accepted paint has checked them. Rests on the steps of the history and on paint's own definitions.
 use Prim.Native.Nat.{ℕ, _+_}
 use mathlib.Core.Path.{_≡_, refl, sym, ap, subst, _∙_}
-use mathlib.Core.Bool.{Bool, true, _&&_}
+use mathlib.Core.Bool.{Bool, true, false, _&&_}
 use mathlib.Core.List.{List, [], _∷_}
 use lib.ListN.{length}
 use lib.Dec.{leb, ltb, eqb}
@@ -27,11 +27,12 @@ use Rattle.order.specs.Apart.{allValid}
 use Rattle.order.specs.Either.{asCall, asCalls, inFull, inTurn, listIn, pictureIn, SameSheet, afterPaints}
 
 -- what an accepted paint has checked
-record Passed (m s : ℕ) (b : Buffers) (κ : ℕ) : Type 0 where
+record Passed (m s : ℕ) (b : Buffers) (κ f : ℕ) : Type 0 where
   list : isList m s (b .keys) (b .bits) (b .n) ≡ true
   valid : validKey m κ ≡ true
+  below : badFeature s f ≡ false
 
-passed : (m s : ℕ) (b : Buffers) (κ f : ℕ) → answer m s b (painting κ f) ≡ 0 → Passed m s b κ
+passed : (m s : ℕ) (b : Buffers) (κ f : ℕ) → answer m s b (painting κ f) ≡ 0 → Passed m s b κ f
 unfolding answer paint paintRefusal
 passed m s b κ f e =
     let rows : List Row =
@@ -45,7 +46,7 @@ passed m s b κ f e =
     ∷ ltb (room (b .keys) (b .bits)) (length (painted m (listIn b) κ f)) gives 9
     ∷ [] in
     let none = first-none rows refl e in
-    record { list = not-false _ (none .1 .0); valid = not-false _ (none .1 .1 .1 .1 .0) }
+    record { list = not-false _ (none .1 .0); valid = not-false _ (none .1 .1 .1 .1 .0); below = none .1 .1 .1 .1 .1 .0 }
 
 -- a list is that of the picture that it shows
 shown-list : (m s : ℕ) (keys bits : List ℕ) (n : ℕ) → isList m s keys bits n ≡ true
@@ -94,6 +95,10 @@ module _ (m s : ℕ) where
   pub accepted-valid : (b : Buffers) (x : Paint) → answer m s b (asCall x) ≡ 0 → validKey m (x .key) ≡ true
   accepted-valid b x e = passed m s b (x .key) (x .feature) e .valid
 
+  -- and its feature below s
+  pub accepted-below : (b : Buffers) (x : Paint) → answer m s b (asCall x) ≡ 0 → badFeature s (x .feature) ≡ false
+  accepted-below b x e = passed m s b (x .key) (x .feature) e .below
+
   -- the first paint of a run that is accepted in full is accepted
   pub first-accepted : (b : Buffers) (x : Paint) (xs : List Paint) → inFull m s b (x ∷ xs) ≡ true → answer m s b (asCall x) ≡ 0
   unfolding inFull
@@ -120,6 +125,14 @@ module _ (m s : ℕ) where
   more-shows b p (x ∷ xs) h e =
       more-shows (after m s b (asCall x)) (paintIn m (x .key) (x .feature) p) xs
       (paint-shows b p x (h .list) (first-accepted b x xs e)) (rest-in-full b x xs e)
+
+  -- a run on a picture's list leaves the list of the picture with the paints in turn
+  pub run-list : (b : Buffers) (p : Picture) (xs : List Paint) → listIn b ≡ listOfPicture m p → inFull m s b xs ≡ true
+      → listIn (afterPaints m s b xs) ≡ listOfPicture m (inTurn m p xs)
+  unfolding asCalls run inTurn
+  run-list b p [] e h = e
+  run-list b p (x ∷ xs) e h =
+      run-list (after m s b (asCall x)) (paintIn m (x .key) (x .feature) p) xs (paint-shows b p x e (first-accepted b x xs h) .list) (rest-in-full b x xs h)
 
   -- a run of paints that is accepted in full, on any buffers, leaves the list and the summary of their picture with the paints in turn
   pub run-shows : (b : Buffers) (x : Paint) (xs : List Paint) → inFull m s b (x ∷ xs) ≡ true
