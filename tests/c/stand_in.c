@@ -99,4 +99,14 @@ hlq_counted hlq_store(uint32_t m, uint32_t s, TAKE_CONST_LIST, size_t n, uint8_t
 
 hlq_loaded hlq_load(const uint8_t *file, size_t file_len, TAKE_LIST) { return ref_load(file, file_len, LIST); }
 
+hlq_strings hlq_write_bit_strings(uint32_t m, uint32_t s, TAKE_CONST_LIST, size_t n, uint8_t *node_bits,
+                                  size_t node_bits_len, uint8_t *leaf_bits, size_t leaf_bits_len) {
+    return ref_write_bit_strings(m, s, LIST, n, node_bits, node_bits_len, leaf_bits, leaf_bits_len);
+}
+
+hlq_counted hlq_read_bit_strings(uint32_t m, uint32_t s, const uint8_t *node_bits, size_t node_bits_len,
+                                 const uint8_t *leaf_bits, size_t leaf_bits_len, TAKE_LIST) {
+    return ref_read_bit_strings(m, s, node_bits, node_bits_len, leaf_bits, leaf_bits_len, LIST);
+}
+
 uint64_t hlq_empty(void) { return 0; }
