@@ -123,4 +123,14 @@ hlq_counted hlq_write_leaves(uint32_t m, uint32_t s, TAKE_CONST_LIST, size_t n, 
     return ref_write_leaves(m, s, LIST, n, leaf_keys, leaf_keys_len, leaf_features, leaf_features_len);
 }
 
+hlq_strings hlq_write_bit_strings(uint32_t m, uint32_t s, TAKE_CONST_LIST, size_t n, uint8_t *node_bits,
+                                  size_t node_bits_len, uint8_t *leaf_bits, size_t leaf_bits_len) {
+    return ref_write_bit_strings(m, s, LIST, n, node_bits, node_bits_len, leaf_bits, leaf_bits_len);
+}
+
+hlq_counted hlq_read_bit_strings(uint32_t m, uint32_t s, const uint8_t *node_bits, size_t node_bits_len,
+                                 const uint8_t *leaf_bits, size_t leaf_bits_len, TAKE_LIST) {
+    return ref_read_bit_strings(m, s, node_bits, node_bits_len, leaf_bits, leaf_bits_len, LIST);
+}
+
 uint64_t hlq_empty(void) { return 0; }

@@ -1,10 +1,13 @@
 -- A block's place among the keys: its digits, that its keys are the map's, and the levels below it; a child's place follows from its parent's.
 -- Rests on Levels.
 use Prim.Native.Nat.{ℕ, zero, suc, _+_, _-_, _*_, _/_, _%_, _^_, _≤_}
+use mathlib.Core.Bool.{true}
 use mathlib.Core.Path.{_≡_, refl, sym, ap, ap₂, _∙_}
 use native.Mathlib.Nat.{pow-suc, one-le-pow, add-mul, mul-assoc, zero-mul, pow-le-pow-right, mul-le-mul-right}
 use native.Mathlib.Omega.{arith}
-use Rattle.keys.specs.Key.{childKey}
+use Rattle.keys.specs.Key.{validKey, heightOf, childKey}
+use Rattle.keys.proofs.Valid.{valid-block}
+use Rattle.keys.proofs.Under.{Under, here, nw, ne, sw, se, Block}
 use Rattle.keys.proofs.Cases.{split}
 use Rattle.definitions.specs.BitStrings.{levelsBelow}
 use Rattle.bit_strings.proofs.Levels.{levels-more, levels-none}
@@ -67,3 +70,17 @@ child-place {m} {k} {κ} p d low high =
 
     times : (a b x : ℕ) → a ≤ b → a * x ≤ b * x
     times a b x h = mul-le-mul-right x h
+
+-- every block of the map has its place, so the zeros at the end of a key are its height
+pub under-place : {m k r c κ k′ r′ c′ κ′ : ℕ} → Place m k κ → Under k r c κ k′ r′ c′ κ′ → Place m k′ κ′
+under-place p here = p
+under-place p (nw u) = under-place (child-place p 1 (omega arith) (omega arith)) u
+under-place p (ne u) = under-place (child-place p 2 (omega arith) (omega arith)) u
+under-place p (sw u) = under-place (child-place p 3 (omega arith) (omega arith)) u
+under-place p (se u) = under-place (child-place p 4 (omega arith) (omega arith)) u
+
+pub block-levels : {m k r c κ : ℕ} → Block m k r c κ → levelsBelow m κ ≡ k
+block-levels {m} b = under-place (root-place m) b .levels
+
+pub levels-height : (m κ : ℕ) → validKey m κ ≡ true → levelsBelow m κ ≡ heightOf m κ
+levels-height m κ valid = block-levels (valid-block m κ valid)

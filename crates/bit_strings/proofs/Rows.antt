@@ -3,13 +3,16 @@
 use Prim.Native.Nat.{ℕ}
 use mathlib.Core.Path.{_≡_, refl}
 use mathlib.Core.List.{List, [], _∷_}
-use Rattle.definitions.specs.Picture.{everyPixel, oneFeature}
-use Rattle.definitions.specs.Bits.{unionOfFour, bitsOf}
+use Rattle.definitions.specs.Picture.{everyPixel, oneFeature, featuresBelow}
+use Rattle.definitions.specs.Bits.{unionOfFour, bitsOf, featureOf, twosIn}
 use Rattle.definitions.specs.List.{listOf, listOfRaster, keysOf, valuesOf}
 use Rattle.definitions.specs.BitStrings.{isInner, nodeBits, leafBits, highFirst, packedIn, packed, bitsOfByte, bitsIn, levelsBelow, keyAfter}
 use Rattle.definitions.specs.BitStrings.{beginsWith, fourEqual, anySet, leftOver, reading, recordsFrom, recordsOfPair, isWhole, isPair}
 use Rattle.definitions.specs.BitStrings.{Reading, whole, endsEarly, runsOn, tooDeep, spareBitSet, equalSiblings}
 use Rattle.definitions.specs.Refusal.{first, badSettings}
+use Rattle.keys.specs.Block.{pixelKey}
+use Rattle.definitions.specs.Read.{paired, valueAt, pictureOf, sameRecords, isListOfBlock, isList}
+use Rattle.definitions.specs.Calls.WriteBitStrings.{nodeString, leafString, writeStringsRefusal, writeStrings, writtenNodes, writtenLeaves}
 use Rattle.definitions.specs.Calls.ReadBitStrings.{readStringsRefusal}
 
 -- four rows of four pixels
@@ -59,3 +62,21 @@ pub order : (readStringsRefusal 2 2 sheetNodes sheetLeaves (0 ∷ []) (0 ∷ [])
     × (readStringsRefusal 0 2 (0x80 ∷ []) (0x80 ∷ []) (0 ∷ []) (0 ∷ []) ≡ 0)
 unfolding readStringsRefusal first badSettings isPair isWhole bitsOfByte bitsIn levelsBelow keyAfter beginsWith fourEqual anySet leftOver reading recordsFrom recordsOfPair
 order = (refl, refl, refl, refl, refl)
+
+-- the order on writing, on a map of one pixel of feature 0: each number alone, and each two neighbours at once
+pub order-writing : (writeStringsRefusal 0 2 (0 ∷ []) (1 ∷ []) 1 (9 ∷ []) (9 ∷ []) ≡ 0)
+    × (writeStringsRefusal 0 2 (0 ∷ []) (1 ∷ []) 1 [] (9 ∷ []) ≡ 12)
+    × (writeStringsRefusal 0 2 (0 ∷ []) (1 ∷ []) 1 (9 ∷ []) [] ≡ 12)
+    × (writeStringsRefusal 0 2 (0 ∷ []) (3 ∷ []) 1 [] [] ≡ 4)
+    × (writeStringsRefusal 0 3 (0 ∷ []) (1 ∷ []) 2 [] [] ≡ 23)
+    × (writeStringsRefusal 0 1 (0 ∷ []) (1 ∷ []) 1 (9 ∷ []) (9 ∷ []) ≡ 23)
+    × (writeStringsRefusal 11 3 (0 ∷ []) (1 ∷ []) 1 [] [] ≡ 1)
+unfolding writeStringsRefusal first badSettings isList isListOfBlock sameRecords pictureOf valueAt paired featureOf twosIn featuresBelow pixelKey listOf bitsOf oneFeature everyPixel nodeString leafString isInner nodeBits leafBits highFirst packedIn packed
+order-writing = (refl, refl, refl, refl, refl, refl, refl)
+
+-- with 12 the bytes needed of each string, and nothing is written
+pub needed : (writeStrings 0 2 (0 ∷ []) (1 ∷ []) 1 [] (9 ∷ []) ≡ record { refusal = 12; «node_bytes» = 1; «leaf_bytes» = 1 })
+    × (writtenLeaves 0 2 (0 ∷ []) (1 ∷ []) 1 [] (9 ∷ []) ≡ 9 ∷ [])
+    × (writtenNodes 0 2 (0 ∷ []) (1 ∷ []) 1 (9 ∷ 9 ∷ []) (9 ∷ []) ≡ 0x80 ∷ 9 ∷ [])
+unfolding writeStrings writtenLeaves writtenNodes writeStringsRefusal first badSettings isList isListOfBlock sameRecords pictureOf valueAt paired featureOf twosIn featuresBelow pixelKey listOf bitsOf oneFeature everyPixel nodeString leafString isInner nodeBits leafBits highFirst packedIn packed
+needed = (refl, refl, refl)
