@@ -232,7 +232,7 @@ hlq_counted hlq_select(uint32_t m, uint32_t s,
                        size_t n, uint32_t row, uint32_t column, uint32_t height, uint32_t width,
                        uint32_t feature, uint32_t *answer, size_t answer_len);
 
-/* COMBINE. Two lists of one m, pixel by pixel: table[a * s2 + b] names the class of a pixel that has
+/* COMBINE. Two lists of one m, pixel by pixel: table[a * s2 + b] names the class of a pixel with
  * feature a in the first list and feature b in the second. The list of these classes, 0 to s3 - 1,
  * is written to places 0 to count - 1 of keys3 and bits3; all other places stay. Room for
  * n1 + n2 - 1 records is always enough. The two lists may be the same buffers.

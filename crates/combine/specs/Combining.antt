@@ -67,7 +67,7 @@ pub record Asked (bits₁ bits₂ table : List ℕ) (s₂ step leaf₁ at₁ lea
   pub seen : Seen first second height row column key bits₁ bits₂ step leaf₁ at₁ leaf₂ at₂
   pub named : Named first second height row column table s₂
 
--- and room for the records below it
+-- and room for the records below it, as build asks for it
 pub record WriteAsked (bits₁ bits₂ table : List ℕ) (s₂ step leaf₁ at₁ leaf₂ at₂ key place : ℕ) (keys bits : List ℕ) : Type 0 where
   pub asked : Asked bits₁ bits₂ table s₂ step leaf₁ at₁ leaf₂ at₂
   pub fits : Fitting (combined (asked .first) (asked .second) table s₂) (asked .height) (asked .row) (asked .column) key place keys bits
