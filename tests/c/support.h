@@ -13,7 +13,7 @@
 #define SOME(rounds) (rounds)
 #endif
 
-enum { GUARD = 8, MAX_REFUSAL = HLQ_SUMMARY };
+enum { GUARD = 8, MAX_REFUSAL = HLQ_NO_REDO };
 
 typedef enum {
     CALL_KEY_AT,
@@ -33,6 +33,7 @@ typedef enum {
     CALL_AREA_CLIPPED,
     CALL_PAINT,
     CALL_TAKE_BACK,
+    CALL_REDO,
     CALL_FINDINGS,
     CALL_STORE,
     CALL_LOAD,
