@@ -157,7 +157,8 @@ static void areas(const char *kind, size_t n) {
 }
 
 static void edits(size_t n) {
-    size_t used = 0, plain_used = 0, plain_n = n;
+    size_t used = 0, in_force = 0, plain_n = n;
+    plain_counts plain = { 0, 0 };
     uint32_t key =
         2 * 1953125 + 3 * 390625 + 1 * 78125 + 4 * 15625 + 2 * 3125 + 2 * 625 + 3 * 125; /* 2314223000: 8 by 8 pixels */
     memcpy(other_summary, summary, sizeof summary);
@@ -169,26 +170,39 @@ static void edits(size_t n) {
         "paint", 6, 1,
         {
             hlq_edited e = hlq_paint(M, S, keys, MOST, bits, MOST, n, summary, PLACES, log_keys, 2 * MOST, log_values,
-                                     2 * MOST, used, key, feature);
+                                     2 * MOST, used, in_force, key, feature);
             n = e.n;
             used = e.used;
+            in_force = e.in_force;
         },
         {
             plain_n = plain_paint(M, S, other_keys, other_bits, plain_n, other_summary, plain_log_keys,
-                                  plain_log_values, &plain_used, key, feature);
+                                  plain_log_values, &plain, key, feature);
             feature ^= 1;
         });
     COMPARE(
         "take back", 6, 1,
         {
             hlq_edited e = hlq_take_back(M, S, keys, MOST, bits, MOST, n, summary, PLACES, log_keys, 2 * MOST,
-                                         log_values, 2 * MOST, used);
+                                         log_values, 2 * MOST, used, in_force);
             n = e.n;
             used = e.used;
+            in_force = e.in_force;
         },
         plain_n = plain_take_back(M, S, other_keys, other_bits, plain_n, other_summary, plain_log_keys,
-                                  plain_log_values, &plain_used));
-    if (n != plain_n || used != plain_used || memcmp(keys, other_keys, 4 * n) != 0 ||
+                                  plain_log_values, &plain));
+    COMPARE(
+        "redo", 6, 1,
+        {
+            hlq_edited e = hlq_redo(M, S, keys, MOST, bits, MOST, n, summary, PLACES, log_keys, 2 * MOST, log_values,
+                                    2 * MOST, used, in_force);
+            n = e.n;
+            used = e.used;
+            in_force = e.in_force;
+        },
+        plain_n = plain_redo(M, S, other_keys, other_bits, plain_n, other_summary, plain_log_keys, plain_log_values,
+                             &plain));
+    if (n != plain_n || used != plain.used || in_force != plain.in_force || memcmp(keys, other_keys, 4 * n) != 0 ||
         memcmp(bits, other_bits, 4 * n) != 0 || memcmp(summary, other_summary, sizeof summary) != 0)
         printf("THE TWO DIFFER\n");
 }

@@ -535,11 +535,15 @@ static uint32_t step_of(uint32_t m, uint32_t key) {
 }
 
 static int plain_log_is_sound(uint32_t m, uint32_t s, const uint32_t *log_keys, const uint32_t *log_values,
-                              size_t used) {
+                              size_t used, size_t in_force) {
+    if (in_force > used) return 0;
     while (used > 0) {
-        size_t count = log_values[used - 1], from = used - 1 - count;
+        if (used < 3) return 0;
+        size_t count = log_values[used - 2], from = used - 2 - count;
         uint32_t key = log_keys[used - 1], step = step_of(m, key);
-        if (count == 0 || count >= used || log_keys[from] != key) return 0;
+        if (count == 0 || count + 2 > used || log_keys[from] != key) return 0;
+        if (log_keys[used - 2] != key || log_values[used - 1] >= s) return 0;
+        if (from < in_force && in_force < used) return 0;
         if (one_bit(log_values[from])) {
             if (count != 1) return 0;
         } else if (step == 1 ||
@@ -628,33 +632,47 @@ static void renew_summary(uint32_t m, uint32_t s, const uint32_t *keys, const ui
 }
 
 size_t plain_paint(uint32_t m, uint32_t s, uint32_t *keys, uint32_t *bits, size_t n, uint32_t *summary,
-                   uint32_t *log_keys, uint32_t *log_values, size_t *used, uint32_t key, uint32_t feature) {
+                   uint32_t *log_keys, uint32_t *log_values, plain_counts *c, uint32_t key, uint32_t feature) {
     if (!plain_is_list(m, s, keys, bits, n) || !plain_is_summary(m, s, keys, bits, n, summary)) return 0;
-    if (!plain_log_is_sound(m, s, log_keys, log_values, *used)) return 0;
-    size_t at = plain_place(keys, n, key), count = 1;
+    if (!plain_log_is_sound(m, s, log_keys, log_values, c->used, c->in_force)) return 0;
+    size_t at = plain_place(keys, n, key), count = 1, from = c->in_force;
     uint32_t step = step_of(m, key), leaf = 1u << feature;
     if (keys[at] == key) {
         count = (key + step >= power(5, m) ? n : plain_place(keys, n, key + step - 1) + 1) - at;
-        memcpy(log_keys + *used, keys + at, 4 * count), memcpy(log_values + *used, bits + at, 4 * count);
+        memcpy(log_keys + from, keys + at, 4 * count), memcpy(log_values + from, bits + at, 4 * count);
     } else
-        log_keys[*used] = key, log_values[*used] = bits[at];
-    log_keys[*used + count] = key, log_values[*used + count] = (uint32_t)count;
-    *used += count + 1;
+        log_keys[from] = key, log_values[from] = bits[at];
+    log_keys[from + count] = log_keys[from + count + 1] = key;
+    log_values[from + count] = (uint32_t)count, log_values[from + count + 1] = feature;
+    for (size_t i = from + count + 2; i < c->used; i++) log_keys[i] = log_values[i] = 0;
+    c->used = c->in_force = from + count + 2;
     n = put(m, keys, bits, n, key, &key, &leaf, 1);
     renew_summary(m, s, keys, bits, n, summary, key);
     return n;
 }
 
 size_t plain_take_back(uint32_t m, uint32_t s, uint32_t *keys, uint32_t *bits, size_t n, uint32_t *summary,
-                       uint32_t *log_keys, uint32_t *log_values, size_t *used) {
+                       const uint32_t *log_keys, const uint32_t *log_values, plain_counts *c) {
     if (!plain_is_list(m, s, keys, bits, n) || !plain_is_summary(m, s, keys, bits, n, summary)) return 0;
-    if (!plain_log_is_sound(m, s, log_keys, log_values, *used)) return 0;
-    size_t count = log_values[*used - 1], from = *used - 1 - count;
-    uint32_t key = log_keys[*used - 1];
+    if (!plain_log_is_sound(m, s, log_keys, log_values, c->used, c->in_force)) return 0;
+    size_t count = log_values[c->in_force - 2], from = c->in_force - 2 - count;
+    uint32_t key = log_keys[c->in_force - 1];
     n = put(m, keys, bits, n, key, log_keys + from, log_values + from, count);
     renew_summary(m, s, keys, bits, n, summary, key);
-    for (size_t i = from; i < *used; i++) log_keys[i] = log_values[i] = 0;
-    *used = from;
+    c->in_force = from;
+    return n;
+}
+
+size_t plain_redo(uint32_t m, uint32_t s, uint32_t *keys, uint32_t *bits, size_t n, uint32_t *summary,
+                  const uint32_t *log_keys, const uint32_t *log_values, plain_counts *c) {
+    if (!plain_is_list(m, s, keys, bits, n) || !plain_is_summary(m, s, keys, bits, n, summary)) return 0;
+    if (!plain_log_is_sound(m, s, log_keys, log_values, c->used, c->in_force)) return 0;
+    size_t end = c->used;
+    while (end - 2 - log_values[end - 2] > c->in_force) end -= 2 + (size_t)log_values[end - 2];
+    uint32_t key = log_keys[end - 1], leaf = 1u << log_values[end - 1];
+    n = put(m, keys, bits, n, key, &key, &leaf, 1);
+    renew_summary(m, s, keys, bits, n, summary, key);
+    c->in_force = end;
     return n;
 }
 

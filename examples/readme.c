@@ -1,5 +1,5 @@
 /* The example of the README: a list is built, a block is looked up in it, a window is asked, a rule is run with a
- * waiver, and a paint is taken back. */
+ * waiver, and a paint is taken back and redone. */
 #include "prowcurl.h"
 
 #include <stdio.h>
@@ -37,11 +37,15 @@ int main(void) {
     printf("%llu hidden\n", (number)f.hidden);
 
     uint32_t log_keys[LOG], log_values[LOG];
-    hlq_edited e = hlq_paint(M, S, keys, ROOM, bits, ROOM, n, summary, PLACES, log_keys, LOG, log_values, LOG, 0,
+    hlq_edited e = hlq_paint(M, S, keys, ROOM, bits, ROOM, n, summary, PLACES, log_keys, LOG, log_values, LOG, 0, 0,
                              2 * 5 + 4, 1);
     if (e.refusal) return puts(hlq_refusal_text(e.refusal)), 1;
     printf("block 24 painted with feature 1: %llu records\n", (number)e.n);
-    e = hlq_take_back(M, S, keys, ROOM, bits, ROOM, e.n, summary, PLACES, log_keys, LOG, log_values, LOG, e.used);
+    e = hlq_take_back(M, S, keys, ROOM, bits, ROOM, e.n, summary, PLACES, log_keys, LOG, log_values, LOG, e.used,
+                      e.in_force);
     printf("taken back: %llu records\n", (number)e.n);
+    e = hlq_redo(M, S, keys, ROOM, bits, ROOM, e.n, summary, PLACES, log_keys, LOG, log_values, LOG, e.used,
+                 e.in_force);
+    printf("and redone: %llu records\n", (number)e.n);
     return 0;
 }

@@ -6,10 +6,10 @@
 
 #include <stdio.h>
 
-enum { M = 2, S = 3, ROOM = HLQ_MOST_RECORDS(M), LOG = 8, PLACES = HLQ_SUMMARY_PLACES(M, S) };
+enum { M = 2, S = 3, ROOM = HLQ_MOST_RECORDS(M), LOG = 16, PLACES = HLQ_SUMMARY_PLACES(M, S) };
 
 static uint32_t keys[ROOM], bits[ROOM], log_keys[LOG], log_values[LOG], summary[PLACES];
-static size_t n, used;
+static size_t n, used, in_force;
 
 static const hlq_rule rules[] = { { 7, 0, 0, 4, 4, 2 } }; /* no scrub (2) anywhere */
 static const uint32_t waived_rules[] = { 7, 7, 7, 7 }, waived_block[] = { 3 * 5 },
@@ -45,9 +45,9 @@ static void tell_of_siblings(const char *when) {
 
 static void paint(uint32_t key, uint32_t feature) {
     hlq_edited e = hlq_paint(M, S, keys, ROOM, bits, ROOM, n, summary, PLACES, log_keys, LOG, log_values, LOG, used,
-                             key, feature);
+                             in_force, key, feature);
     if (e.refusal) printf("refused: %s\n", hlq_refusal_text(e.refusal));
-    else n = e.n, used = e.used;
+    else n = e.n, used = e.used, in_force = e.in_force;
 }
 
 int main(void) {
@@ -61,8 +61,8 @@ int main(void) {
     paint(2 * 5 + 4, 1);
     tell("block 24 cleared, and five records become one");
     hlq_edited e = hlq_take_back(M, S, keys, ROOM, bits, ROOM, n, summary, PLACES, log_keys, LOG, log_values, LOG,
-                                 used);
-    n = e.n, used = e.used;
+                                 used, in_force);
+    n = e.n, used = e.used, in_force = e.in_force;
     tell("that was a mistake, and is taken back");
     tell_of_siblings("the blocks 21, 22, 23 and 24 accepted, while only 24 is scrub");
     for (uint32_t quadrant = 1; quadrant <= 3; quadrant++) paint(2 * 5 + quadrant, 2);

@@ -1,6 +1,6 @@
 /* A day with a survey, as a crew's program would live it: read the sheet, build the list, ask it, run rules with
- * waivers, paint what was cleared, take a mistake back, and keep the list in a file. Reads the sheet from standard
- * input: 16 lines of 16 characters. */
+ * waivers, paint what was cleared, take a mistake back, redo a step too many, and keep the list in a file. Reads the
+ * sheet from standard input: 16 lines of 16 characters. */
 #include "prowcurl.h"
 
 #include <stdio.h>
@@ -19,7 +19,7 @@ static const char *const words[CLASSES] = { "ballast", "drain", "scrub", "path" 
 
 /* The list with its summary, and the log of paints that can be taken back. */
 static uint32_t keys[RECORDS], bits[RECORDS], summary[PLACES], log_keys[LOG], log_values[LOG];
-static size_t n, used;
+static size_t n, used, in_force;
 
 static int refused(const char *what, uint64_t refusal) {
     if (refusal) printf("%s: refused, %s\n", what, hlq_refusal_text(refusal));
@@ -86,10 +86,28 @@ static void print_findings(const uint32_t *waiver_ids, const uint32_t *waiver_ke
 
 static int paint(uint32_t key, uint32_t class) {
     hlq_edited e = hlq_paint(M, CLASSES, keys, RECORDS, bits, RECORDS, n, summary, PLACES,
-                             log_keys, LOG, log_values, LOG, used, key, class);
+                             log_keys, LOG, log_values, LOG, used, in_force, key, class);
     if (refused("paint", e.refusal)) return 0;
-    n = e.n, used = e.used;
+    n = e.n, used = e.used, in_force = e.in_force;
     printf("painted block %s with %s: %zu records\n", name_of(key), words[class], n);
+    return 1;
+}
+
+static int take_back(void) {
+    hlq_edited e = hlq_take_back(M, CLASSES, keys, RECORDS, bits, RECORDS, n, summary, PLACES,
+                                 log_keys, LOG, log_values, LOG, used, in_force);
+    if (refused("take back", e.refusal)) return 0;
+    n = e.n, used = e.used, in_force = e.in_force;
+    printf("the last paint taken back: %zu records\n", n);
+    return 1;
+}
+
+static int redo(void) {
+    hlq_edited e = hlq_redo(M, CLASSES, keys, RECORDS, bits, RECORDS, n, summary, PLACES,
+                            log_keys, LOG, log_values, LOG, used, in_force);
+    if (refused("redo", e.refusal)) return 0;
+    n = e.n, used = e.used, in_force = e.in_force;
+    printf("that was a step too many, put back: %zu records\n", n);
     return 1;
 }
 
@@ -130,12 +148,9 @@ int main(void) {
     printf("\nfindings after the clearing: ");
     print_findings(waiver_ids, waiver_keys, 1);
 
-    /* one block too many: taken back */
-    hlq_edited e = hlq_take_back(M, CLASSES, keys, RECORDS, bits, RECORDS, n, summary, PLACES,
-                                 log_keys, LOG, log_values, LOG, used);
-    if (refused("take back", e.refusal)) return 1;
-    n = e.n, used = e.used;
-    printf("\nthe last paint taken back: %zu records\n", n);
+    /* one block too many: taken back; and then a step too many, which is put back */
+    printf("\n");
+    if (!take_back() || !take_back() || !redo()) return 1;
     print_sheet();
 
     /* into a file and out again */
@@ -147,9 +162,10 @@ int main(void) {
     int same = memcmp(keys, again_keys, 4 * n) == 0 && memcmp(bits, again_bits, 4 * n) == 0;
     printf("\n%llu bytes stored, %llu records loaded, %s\n", (unsigned long long)stored.count,
            (unsigned long long)loaded.n, same ? "the same list" : "ANOTHER LIST");
-    used = hlq_empty();
-    e = hlq_take_back(M, CLASSES, keys, RECORDS, bits, RECORDS, n, summary, PLACES,
-                                 log_keys, LOG, log_values, LOG, used);
+    hlq_emptied emptied = hlq_empty();
+    used = emptied.used, in_force = emptied.in_force;
+    hlq_edited e = hlq_take_back(M, CLASSES, keys, RECORDS, bits, RECORDS, n, summary, PLACES,
+                                 log_keys, LOG, log_values, LOG, used, in_force);
     printf("the log is emptied; taking back now gives: %s\n", hlq_refusal_text(e.refusal));
     return 0;
 }

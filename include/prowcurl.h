@@ -1,6 +1,6 @@
 /* prowcurl.h: a raster of ground classes as a sorted list of quadtree nodes (the hybrid linear
  * quadtree of Nardelli and Proietti), which answers window queries, takes edits that can be taken
- * back, runs rules with waivers, and is stored in a file.
+ * back and redone, runs rules with waivers, and is stored in a file.
  *
  * CONVENTIONS
  *
@@ -30,8 +30,11 @@
  * order that cover the raster once, and the feature of each. They may be in parts: four equal
  * quarters for a block, down to single pixels.
  *
- * A log is two slices, log_keys and log_values, of which the first `used` places are in use. Start
- * with used = 0.
+ * A log is two slices, log_keys and log_values, of which the first `used` places are in use; of
+ * these the first `in_force` are the entries of paints that can be taken back, and the others those
+ * of paints that were taken back and can be redone. Start with used = 0 and in_force = 0. An entry
+ * is the former content of a painted block, n records, and then two records with the block's key:
+ * one with n, and one with the feature.
  *
  * REFUSALS
  *
@@ -93,13 +96,14 @@ enum {
     HLQ_PIXEL = 3,         /* a pixel is s or more */
     HLQ_LIST = 4,          /* n exceeds the list's room, or the first n records are no raster's list
                               at m and s */
-    HLQ_LOG = 5,           /* used exceeds the log's room, or the log is not sound */
+    HLQ_LOG = 5,           /* used exceeds the log's room, the log is not sound, or in_force is
+                              neither 0 nor the end of an entry within used */
     HLQ_WINDOW = 6,        /* not a window of this raster */
     HLQ_FEATURE = 7,       /* the feature is s or more */
     HLQ_KEY = 8,           /* the key is not valid at m */
     HLQ_LIST_ROOM = 9,     /* the list afterwards would exceed its room */
     HLQ_LOG_ROOM = 10,     /* the log afterwards would exceed its room */
-    HLQ_LOG_EMPTY = 11,    /* used is 0: there is no paint to take back */
+    HLQ_LOG_EMPTY = 11,    /* in_force is 0: there is no paint to take back */
     HLQ_ANSWER_ROOM = 12,  /* the answer exceeds its room; the places needed are returned */
     HLQ_RULES = 13,        /* rule ids not strictly ascending, or a bad window or feature */
     HLQ_WAIVERS = 14,      /* waivers not strictly ascending, a bad key, or an id of no rule */
@@ -131,7 +135,7 @@ static inline const char *hlq_refusal_text(uint64_t refusal) {
     case HLQ_KEY: return "not the key of a block";
     case HLQ_LIST_ROOM: return "no room for the list";
     case HLQ_LOG_ROOM: return "no room in the log";
-    case HLQ_LOG_EMPTY: return "the log is empty";
+    case HLQ_LOG_EMPTY: return "no paint to take back";
     case HLQ_ANSWER_ROOM: return "no room for the answer";
     case HLQ_RULES: return "a bad rule, or rules not ascending";
     case HLQ_WAIVERS: return "a bad waiver, or waivers not ascending";
@@ -158,7 +162,8 @@ typedef struct { uint64_t start, length; } hlq_span;          /* both 0 for an e
 typedef struct { uint64_t refusal, yes; } hlq_exists;
 typedef struct { uint64_t refusal, bits; } hlq_reported;
 typedef struct { uint64_t refusal, pixels; } hlq_measured;
-typedef struct { uint64_t refusal, n, used; } hlq_edited;
+typedef struct { uint64_t refusal, n, used, in_force; } hlq_edited;
+typedef struct { uint64_t used, in_force; } hlq_emptied;
 typedef struct { uint64_t refusal, live, hidden; } hlq_found; /* with HLQ_ANSWER_ROOM: live */
 typedef struct { uint64_t refusal, m, s, n; } hlq_loaded;
 typedef struct { uint64_t refusal, node_bytes, leaf_bytes; } hlq_strings; /* as hlq_counted */
@@ -308,21 +313,22 @@ hlq_counted hlq_batch(uint32_t m, uint32_t s,
 
 /* PAINT. Every pixel of the block gets the feature. The list becomes the list of the new raster, in
  * its places 0 to n - 1 (n of the result); places that it gives up become zero, others stay. The
- * log gains an entry, with which hlq_take_back undoes the paint; log places past it stay. A paint
- * that changes no pixel is logged too. The summary must be the list's, and becomes that of the new
- * raster.
+ * log's entry for it, with which hlq_take_back undoes the paint, stands from place in_force on;
+ * paints that could be redone are dropped, and what was used past the new entry becomes zero; all
+ * other log places stay. A refused paint drops nothing. A paint that changes no pixel is logged
+ * too. The summary must be the list's, and becomes that of the new raster.
  * Refusals: HLQ_SETTINGS, HLQ_LIST, HLQ_SUMMARY, HLQ_LOG, HLQ_KEY, HLQ_FEATURE, HLQ_LOG_ROOM,
  * HLQ_LIST_ROOM, in this order, all on the end result, before the first write. */
 hlq_edited hlq_paint(uint32_t m, uint32_t s,
                      uint32_t *keys, size_t keys_len, uint32_t *bits, size_t bits_len, size_t n,
                      uint32_t *summary, size_t summary_len,
                      uint32_t *log_keys, size_t log_keys_len,
-                     uint32_t *log_values, size_t log_values_len, size_t used,
+                     uint32_t *log_values, size_t log_values_len, size_t used, size_t in_force,
                      uint32_t key, uint32_t feature);
 
-/* TAKE BACK. The latest paint still in the log is undone: its block gets its former content, and
- * its entry is removed and its places zeroed. The summary must be the list's, and becomes that of
- * the new raster.
+/* TAKE BACK. The latest paint in force is undone: its block gets its former content. The log stays,
+ * and in_force is lowered over the entry, so that hlq_redo can put the paint back. The summary must
+ * be the list's, and becomes that of the new raster.
  * Refusals: HLQ_SETTINGS, HLQ_LIST, HLQ_SUMMARY, HLQ_LOG, HLQ_LOG_EMPTY, HLQ_LIST_ROOM, in this
  * order.
  * HLQ_LIST_ROOM comes only with a log from another map. */
@@ -330,11 +336,25 @@ hlq_edited hlq_take_back(uint32_t m, uint32_t s,
                          uint32_t *keys, size_t keys_len, uint32_t *bits, size_t bits_len, size_t n,
                          uint32_t *summary, size_t summary_len,
                          uint32_t *log_keys, size_t log_keys_len,
-                         uint32_t *log_values, size_t log_values_len, size_t used);
+                         uint32_t *log_values, size_t log_values_len, size_t used,
+                         size_t in_force);
 
-/* EMPTY. The new `used` of an emptied log, 0. Earlier paints can then no longer be taken back.
+/* REDO. The paint that was taken back last is put back: its block gets its feature again. The log
+ * stays, and in_force is raised over the entry. The summary must be the list's, and becomes that of
+ * the new raster.
+ * Refusals: HLQ_SETTINGS, HLQ_LIST, HLQ_SUMMARY, HLQ_LOG, HLQ_NO_REDO, HLQ_LIST_ROOM, in this
+ * order.
+ * HLQ_LIST_ROOM comes only with a log from another map. */
+hlq_edited hlq_redo(uint32_t m, uint32_t s,
+                    uint32_t *keys, size_t keys_len, uint32_t *bits, size_t bits_len, size_t n,
+                    uint32_t *summary, size_t summary_len,
+                    uint32_t *log_keys, size_t log_keys_len,
+                    uint32_t *log_values, size_t log_values_len, size_t used, size_t in_force);
+
+/* EMPTY. The new counts of an emptied log, both 0. Earlier paints can then no longer be taken back
+ * or redone.
  * Refusals: none. */
-uint64_t hlq_empty(void);
+hlq_emptied hlq_empty(void);
 
 /* FINDINGS. The findings of a rule are the blocks that hlq_select gives for its window and feature;
  * a waiver is an id and a key. A finding is hidden exactly when every pixel of its block lies in

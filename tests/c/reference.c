@@ -560,19 +560,45 @@ hlq_counted ref_batch(uint32_t m, uint32_t s, const uint32_t *keys, size_t keys_
     return (hlq_counted){ fits ? 0 : 12, questions_len };
 }
 
-/* Entries from the end, each content a list of its block. */
-static int log_is_sound(uint32_t m, uint32_t s, const uint32_t *log_keys, const uint32_t *log_values, size_t used) {
+typedef struct {
+    uint32_t key, feature;
+    size_t start, count, end;
+} entry;
+
+/* The entry whose two closing records end at a place, its content painted into the raster; 0 where there is none. */
+static int entry_before(uint32_t m, uint32_t s, const uint32_t *log_keys, const uint32_t *log_values, size_t end,
+                        uint8_t *raster, entry *e) {
+    if (end < 3) return 0;
+    *e = (entry){ log_keys[end - 1], log_values[end - 1], 0, log_values[end - 2], end };
+    if (log_keys[end - 2] != e->key || e->feature >= s || e->count == 0 || e->count > end - 2) return 0;
+    e->start = end - 2 - e->count;
+    return ref_key_is_valid(m, e->key) &&
+           shows_block(m, s, e->key, log_keys + e->start, log_values + e->start, e->count, raster);
+}
+
+/* Entries from the end, as far as used; the count in force is 0 or the end of one of them. Gives the entry that ends
+ * there and the one that starts there, where there are such. */
+static int log_is_sound(uint32_t m, uint32_t s, const uint32_t *log_keys, const uint32_t *log_values, size_t room,
+                        size_t used, size_t in_force, entry *last, entry *next) {
+    if (used > room) return 0;
     uint8_t *raster = new_raster(m);
-    int sound = 1;
-    while (sound && used > 0) {
-        uint32_t key = log_keys[used - 1];
-        size_t count = log_values[used - 1];
-        sound = count >= 1 && count + 1 <= used && ref_key_is_valid(m, key) &&
-                shows_block(m, s, key, log_keys + (used - 1 - count), log_values + (used - 1 - count), count, raster);
-        if (sound) used -= count + 1;
+    int sound = 1, met = in_force == 0;
+    for (size_t end = used; sound && end > 0;) {
+        entry e = { 0, 0, 0, 0, 0 };
+        sound = entry_before(m, s, log_keys, log_values, end, raster, &e);
+        if (!sound) break;
+        if (e.end == in_force) met = 1, *last = e;
+        if (e.start == in_force) *next = e;
+        end = e.start;
     }
     free(raster);
-    return sound;
+    return sound && met;
+}
+
+static void fill_block(uint32_t m, uint32_t key, uint32_t feature, uint8_t *raster) {
+    uint32_t row, column, side;
+    ref_block(m, key, &row, &column, &side);
+    for (uint32_t r = row; r < row + side; r++) memset(raster + ((size_t)r << m) + column, (int)feature, side);
 }
 
 /* The list of the raster in place of the first n records; 9 where it does not fit. */
@@ -591,34 +617,38 @@ static uint64_t relist(uint32_t m, const uint8_t *raster, uint32_t *keys, size_t
     return refusal;
 }
 
+static const hlq_edited no_edit = { 0, 0, 0, 0 };
+
 hlq_edited ref_paint(uint32_t m, uint32_t s, uint32_t *keys, size_t keys_len, uint32_t *bits, size_t bits_len, size_t n,
                      uint32_t *summary, size_t summary_len, uint32_t *log_keys, size_t log_keys_len,
-                     uint32_t *log_values, size_t log_values_len, size_t used, uint32_t key, uint32_t feature) {
+                     uint32_t *log_values, size_t log_values_len, size_t used, size_t in_force, uint32_t key,
+                     uint32_t feature) {
     size_t log_room = shorter(log_keys_len, log_values_len);
-    if (settings_are_bad(m, s)) return (hlq_edited){ 1, 0, 0 };
+    if (settings_are_bad(m, s)) return (hlq_edited){ 1, 0, 0, 0 };
     uint8_t *raster = raster_of(m, s, keys, keys_len, bits, bits_len, n);
-    if (!raster) return (hlq_edited){ 4, 0, 0 };
-    hlq_edited answer = { 0, 0, 0 };
+    if (!raster) return (hlq_edited){ 4, 0, 0, 0 };
+    hlq_edited answer = no_edit;
+    entry last, next;
     if (!is_summary(m, s, raster, summary, summary_len)) answer.refusal = 18;
-    else if (used > log_room || !log_is_sound(m, s, log_keys, log_values, used)) answer.refusal = 5;
+    else if (!log_is_sound(m, s, log_keys, log_values, log_room, used, in_force, &last, &next)) answer.refusal = 5;
     else if (!ref_key_is_valid(m, key)) answer.refusal = 8;
     else if (feature >= s) answer.refusal = 7;
     else {
         records content = new_records(m);
-        uint32_t row, column, side;
         size_t now = 0;
         list_of(m, raster, key, &content);
-        ref_block(m, key, &row, &column, &side);
-        for (uint32_t r = row; r < row + side; r++) memset(raster + ((size_t)r << m) + column, (int)feature, side);
-        if (used + content.n + 1 > log_room) answer.refusal = 10;
+        fill_block(m, key, feature, raster);
+        size_t closing = in_force + content.n;
+        if (closing + 2 > log_room) answer.refusal = 10;
         else answer.refusal = relist(m, raster, keys, keys_len, bits, bits_len, n, &now);
         if (answer.refusal == 0) {
-            memcpy(log_keys + used, content.keys, content.n * sizeof *log_keys);
-            memcpy(log_values + used, content.bits, content.n * sizeof *log_values);
-            log_keys[used + content.n] = key;
-            log_values[used + content.n] = (uint32_t)content.n;
+            for (size_t i = in_force; i < used; i++) log_keys[i] = log_values[i] = 0;
+            memcpy(log_keys + in_force, content.keys, content.n * sizeof *log_keys);
+            memcpy(log_values + in_force, content.bits, content.n * sizeof *log_values);
+            log_keys[closing] = log_keys[closing + 1] = key;
+            log_values[closing] = (uint32_t)content.n, log_values[closing + 1] = feature;
             ref_summary(m, s, raster, summary);
-            answer = (hlq_edited){ 0, now, used + content.n + 1 };
+            answer = (hlq_edited){ 0, now, closing + 2, closing + 2 };
         }
         free_records(&content);
     }
@@ -626,30 +656,46 @@ hlq_edited ref_paint(uint32_t m, uint32_t s, uint32_t *keys, size_t keys_len, ui
     return answer;
 }
 
-hlq_edited ref_take_back(uint32_t m, uint32_t s, uint32_t *keys, size_t keys_len, uint32_t *bits, size_t bits_len,
-                         size_t n, uint32_t *summary, size_t summary_len, uint32_t *log_keys, size_t log_keys_len,
-                         uint32_t *log_values, size_t log_values_len, size_t used) {
-    if (settings_are_bad(m, s)) return (hlq_edited){ 1, 0, 0 };
+/* Taking back, or redo: the content of the last entry in force, or the feature of the next one, goes into its block. */
+static hlq_edited step(int forward, uint32_t m, uint32_t s, uint32_t *keys, size_t keys_len, uint32_t *bits,
+                       size_t bits_len, size_t n, uint32_t *summary, size_t summary_len, const uint32_t *log_keys,
+                       size_t log_keys_len, const uint32_t *log_values, size_t log_values_len, size_t used,
+                       size_t in_force) {
+    if (settings_are_bad(m, s)) return (hlq_edited){ 1, 0, 0, 0 };
     uint8_t *raster = raster_of(m, s, keys, keys_len, bits, bits_len, n);
-    if (!raster) return (hlq_edited){ 4, 0, 0 };
-    hlq_edited answer = { 0, 0, 0 };
+    if (!raster) return (hlq_edited){ 4, 0, 0, 0 };
+    hlq_edited answer = no_edit;
+    entry last = { 0, 0, 0, 0, 0 }, next = last;
+    size_t now = 0, log_room = shorter(log_keys_len, log_values_len);
     if (!is_summary(m, s, raster, summary, summary_len)) answer.refusal = 18;
-    else if (used > shorter(log_keys_len, log_values_len) || !log_is_sound(m, s, log_keys, log_values, used))
-        answer.refusal = 5;
-    else if (used == 0) answer.refusal = 11;
+    else if (!log_is_sound(m, s, log_keys, log_values, log_room, used, in_force, &last, &next)) answer.refusal = 5;
+    else if (forward && in_force == used) answer.refusal = 20;
+    else if (!forward && in_force == 0) answer.refusal = 11;
     else {
-        uint32_t key = log_keys[used - 1];
-        size_t count = log_values[used - 1], start = used - 1 - count, now = 0;
-        shows_block(m, s, key, log_keys + start, log_values + start, count, raster);
+        if (forward) fill_block(m, next.key, next.feature, raster);
+        else shows_block(m, s, last.key, log_keys + last.start, log_values + last.start, last.count, raster);
         answer.refusal = relist(m, raster, keys, keys_len, bits, bits_len, n, &now);
         if (answer.refusal == 0) {
-            for (size_t i = start; i < used; i++) log_keys[i] = log_values[i] = 0;
             ref_summary(m, s, raster, summary);
-            answer = (hlq_edited){ 0, now, start };
+            answer = (hlq_edited){ 0, now, used, forward ? next.end : last.start };
         }
     }
     free(raster);
     return answer;
+}
+
+hlq_edited ref_take_back(uint32_t m, uint32_t s, uint32_t *keys, size_t keys_len, uint32_t *bits, size_t bits_len,
+                         size_t n, uint32_t *summary, size_t summary_len, uint32_t *log_keys, size_t log_keys_len,
+                         uint32_t *log_values, size_t log_values_len, size_t used, size_t in_force) {
+    return step(0, m, s, keys, keys_len, bits, bits_len, n, summary, summary_len, log_keys, log_keys_len, log_values,
+                log_values_len, used, in_force);
+}
+
+hlq_edited ref_redo(uint32_t m, uint32_t s, uint32_t *keys, size_t keys_len, uint32_t *bits, size_t bits_len, size_t n,
+                    uint32_t *summary, size_t summary_len, uint32_t *log_keys, size_t log_keys_len,
+                    uint32_t *log_values, size_t log_values_len, size_t used, size_t in_force) {
+    return step(1, m, s, keys, keys_len, bits, bits_len, n, summary, summary_len, log_keys, log_keys_len, log_values,
+                log_values_len, used, in_force);
 }
 
 static int rules_are_bad(uint32_t m, uint32_t s, const hlq_rule *rules, size_t n) {

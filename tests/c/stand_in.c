@@ -8,6 +8,8 @@
 #define LIST keys, keys_len, bits, bits_len
 #define TAKE_LOG uint32_t *log_keys, size_t log_keys_len, uint32_t *log_values, size_t log_values_len
 #define LOG log_keys, log_keys_len, log_values, log_values_len
+#define TAKE_COUNTS size_t used, size_t in_force
+#define COUNTS used, in_force
 #define TAKE_SUMMARY uint32_t *summary, size_t summary_len
 #define SUMMARY summary, summary_len
 #define TAKE_WINDOW uint32_t row, uint32_t column, uint32_t height, uint32_t width
@@ -90,13 +92,17 @@ hlq_counted hlq_batch(uint32_t m, uint32_t s, TAKE_CONST_LIST, size_t n, const h
     return ref_batch(m, s, LIST, n, questions, questions_len, refusals, refusals_len, values, values_len);
 }
 
-hlq_edited hlq_paint(uint32_t m, uint32_t s, TAKE_LIST, size_t n, TAKE_SUMMARY, TAKE_LOG, size_t used,
+hlq_edited hlq_paint(uint32_t m, uint32_t s, TAKE_LIST, size_t n, TAKE_SUMMARY, TAKE_LOG, TAKE_COUNTS,
                      uint32_t key, uint32_t feature) {
-    return ref_paint(m, s, LIST, n, SUMMARY, LOG, used, key, feature);
+    return ref_paint(m, s, LIST, n, SUMMARY, LOG, COUNTS, key, feature);
 }
 
-hlq_edited hlq_take_back(uint32_t m, uint32_t s, TAKE_LIST, size_t n, TAKE_SUMMARY, TAKE_LOG, size_t used) {
-    return ref_take_back(m, s, LIST, n, SUMMARY, LOG, used);
+hlq_edited hlq_take_back(uint32_t m, uint32_t s, TAKE_LIST, size_t n, TAKE_SUMMARY, TAKE_LOG, TAKE_COUNTS) {
+    return ref_take_back(m, s, LIST, n, SUMMARY, LOG, COUNTS);
+}
+
+hlq_edited hlq_redo(uint32_t m, uint32_t s, TAKE_LIST, size_t n, TAKE_SUMMARY, TAKE_LOG, TAKE_COUNTS) {
+    return ref_redo(m, s, LIST, n, SUMMARY, LOG, COUNTS);
 }
 
 hlq_found hlq_findings(uint32_t m, uint32_t s, TAKE_CONST_LIST, size_t n, const hlq_rule *rules, size_t rules_len,
@@ -133,4 +139,4 @@ hlq_counted hlq_read_bit_strings(uint32_t m, uint32_t s, const uint8_t *node_bit
     return ref_read_bit_strings(m, s, node_bits, node_bits_len, leaf_bits, leaf_bits_len, LIST);
 }
 
-uint64_t hlq_empty(void) { return 0; }
+hlq_emptied hlq_empty(void) { return (hlq_emptied){ 0, 0 }; }

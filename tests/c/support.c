@@ -23,6 +23,7 @@ static const char *const names[CALLS] = {
     [CALL_BATCH] = "batch",
     [CALL_PAINT] = "paint",
     [CALL_TAKE_BACK] = "take back",
+    [CALL_REDO] = "redo",
     [CALL_FINDINGS] = "findings",
     [CALL_STORE] = "store",
     [CALL_LOAD] = "load",

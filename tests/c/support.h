@@ -35,6 +35,7 @@ typedef enum {
     CALL_BATCH,
     CALL_PAINT,
     CALL_TAKE_BACK,
+    CALL_REDO,
     CALL_FINDINGS,
     CALL_STORE,
     CALL_LOAD,

@@ -15,7 +15,9 @@ static_assert(HLQ_ACCEPTED == 0 && HLQ_SETTINGS == 1 && HLQ_RASTER_LENGTH == 2 &
                   HLQ_LOG_ROOM == 10 && HLQ_LOG_EMPTY == 11 && HLQ_ANSWER_ROOM == 12 && HLQ_RULES == 13 &&
                   HLQ_WAIVERS == 14 && HLQ_FILE_LENGTH == 15 && HLQ_FILE_MARK == 16 && HLQ_FILE_VERSION == 17,
               "the refusals of document 01");
-static_assert(HLQ_SUMMARY == 18 && HLQ_RESOLUTION == 24 && HLQ_CLASS_TABLE == 25, "the refusals of document 02");
+static_assert(HLQ_SUMMARY == 18 && HLQ_LEAVES == 19 && HLQ_NO_REDO == 20 && HLQ_OFFICE == 21 && HLQ_ROW == 22 &&
+                  HLQ_BIT_STRINGS == 23 && HLQ_RESOLUTION == 24 && HLQ_CLASS_TABLE == 25,
+              "the refusals of document 02");
 static_assert(HLQ_MOST_RECORDS(0) == 1 && HLQ_MOST_RECORDS(1) == 5 && HLQ_MOST_RECORDS(5) == 1365 &&
                   HLQ_MOST_RECORDS(HLQ_DEEPEST_M) == 1398101,
               "the most records");
@@ -28,8 +30,9 @@ static_assert(HLQ_FILE_BYTES(0xFFFFFFFFu, 16) == 25769803781u && HLQ_FILE_BYTES(
               "no wrapping at 32 bits");
 static_assert(sizeof(hlq_done) == 8 && sizeof(hlq_counted) == 16 && sizeof(hlq_stands) == 48 &&
                   sizeof(hlq_span) == 16 && sizeof(hlq_exists) == 16 && sizeof(hlq_reported) == 16 &&
-                  sizeof(hlq_edited) == 24 && sizeof(hlq_found) == 24 && sizeof(hlq_loaded) == 32 &&
-                  sizeof(hlq_rule) == 24 && sizeof(hlq_question) == 24,
+                  sizeof(hlq_edited) == 32 && sizeof(hlq_emptied) == 16 && sizeof(hlq_found) == 24 &&
+                  sizeof(hlq_loaded) == 32 && sizeof(hlq_strings) == 24 && sizeof(hlq_rule) == 24 &&
+                  sizeof(hlq_question) == 24,
               "the structs have no gaps");
 
 enum { MOST = HLQ_MOST_RECORDS(HLQ_DEEPEST_M) };

@@ -40,16 +40,20 @@ static void *work(void *of) {
     worker *w = of;
     for (size_t i = 0; i < PIXELS; i++) w->raster[i] = (uint8_t)(draw(w, 9) ? 0 : draw(w, S));
     size_t n = hlq_build(M, S, w->raster, PIXELS, w->keys, ROOM, w->bits, ROOM, w->summary, PLACES).count, used = 0;
+    size_t in_force = 0;
     for (int i = 0; i < STEPS; i++) {
         hlq_edited e;
         if (draw(w, 3)) {
             uint32_t key = draw_key(w), feature = draw(w, S);
             e = hlq_paint(M, S, w->keys, ROOM, w->bits, ROOM, n, w->summary, PLACES, w->log_keys, LOG, w->log_values,
-                          LOG, used, key, feature);
-        } else
+                          LOG, used, in_force, key, feature);
+        } else if (draw(w, 3) == 0)
+            e = hlq_redo(M, S, w->keys, ROOM, w->bits, ROOM, n, w->summary, PLACES, w->log_keys, LOG, w->log_values,
+                         LOG, used, in_force);
+        else
             e = hlq_take_back(M, S, w->keys, ROOM, w->bits, ROOM, n, w->summary, PLACES, w->log_keys, LOG,
-                              w->log_values, LOG, used);
-        if (e.refusal == HLQ_ACCEPTED) n = e.n, used = e.used;
+                              w->log_values, LOG, used, in_force);
+        if (e.refusal == HLQ_ACCEPTED) n = e.n, used = e.used, in_force = e.in_force;
         uint32_t height = 1 + draw(w, EDGE), width = 1 + draw(w, EDGE), row = draw(w, EDGE - height + 1);
         uint32_t column = draw(w, EDGE - width + 1), feature = draw(w, S);
         hlq_counted own =

@@ -22,7 +22,7 @@ enum {
 static uint8_t raster[PIXELS], back[PIXELS], file[HLQ_FILE_BYTES(MOST, S)];
 static uint32_t keys[MOST], bits[MOST], log_keys[LOG], log_values[LOG], answer[PIXELS], found_ids[PIXELS];
 static uint32_t summary[PLACES], leaf_keys[PIXELS], leaf_features[PIXELS];
-static size_t n, used, leaves, two;
+static size_t n, used, in_force, leaves, two;
 static uint32_t two_keys[MOST], two_bits[MOST];
 static uint8_t node_bits[HLQ_NODE_STRING_BYTES(MOST)], leaf_bits[HLQ_LEAF_STRING_BYTES(MOST)];
 static uint32_t combined_keys[2 * MOST], combined_bits[2 * MOST];
@@ -101,15 +101,20 @@ static void call_batch(void) {
 }
 static void call_paint(void) {
     hlq_edited e = hlq_paint(M, S, keys, MOST, bits, MOST, n, summary, PLACES, log_keys, LOG, log_values, LOG, used,
-                             key, feature);
-    refusal = e.refusal, n = e.n, used = e.used;
+                             in_force, key, feature);
+    refusal = e.refusal, n = e.n, used = e.used, in_force = e.in_force;
 }
 static void call_take_back(void) {
     hlq_edited e = hlq_take_back(M, S, keys, MOST, bits, MOST, n, summary, PLACES, log_keys, LOG, log_values, LOG,
-                                 used);
-    refusal = e.refusal, n = e.n, used = e.used;
+                                 used, in_force);
+    refusal = e.refusal, n = e.n, used = e.used, in_force = e.in_force;
 }
-static void call_empty(void) { refusal = hlq_empty(); }
+static void call_redo(void) {
+    hlq_edited e = hlq_redo(M, S, keys, MOST, bits, MOST, n, summary, PLACES, log_keys, LOG, log_values, LOG, used,
+                            in_force);
+    refusal = e.refusal, n = e.n, used = e.used, in_force = e.in_force;
+}
+static void call_empty(void) { refusal = hlq_empty().used; }
 static void call_findings(void) {
     refusal = hlq_findings(M, S, keys, MOST, bits, MOST, n, rules, 3, waiver_ids, 3, waiver_keys, 3, found_ids, PIXELS,
                            answer, PIXELS)
@@ -142,8 +147,8 @@ typedef struct {
 } call;
 
 enum { KEY_AT, BLOCK_OF, BUILD, RASTER, STANDING, PART, EXIST, REPORT, SELECT, FILL_SUMMARY, AREA, EXIST_CLIPPED,
-       REPORT_CLIPPED, SELECT_CLIPPED, AREA_CLIPPED, BATCH, PAINT, TAKE_BACK, EMPTY, FINDINGS, STORE, LOAD, WRITE_LEAVES,
-       READ_LEAVES, WRITE, READ, COMBINE, CALLS };
+       REPORT_CLIPPED, SELECT_CLIPPED, AREA_CLIPPED, BATCH, PAINT, TAKE_BACK, REDO, EMPTY, FINDINGS, STORE, LOAD,
+       WRITE_LEAVES, READ_LEAVES, WRITE, READ, COMBINE, CALLS };
 static call calls[CALLS] = {
     { "key_at", call_key_at, 0 },       { "block_of", call_block_of, 0 }, { "build", call_build, 0 },
     { "raster", call_raster, 0 },       { "standing", call_standing, 0 }, { "part", call_part, 0 },
@@ -152,7 +157,8 @@ static call calls[CALLS] = {
     { "exist_clipped", call_exist_clipped, 0 },   { "report_clipped", call_report_clipped, 0 },
     { "select_clipped", call_select_clipped, 0 }, { "area_clipped", call_area_clipped, 0 },
     { "batch", call_batch, 0 },
-    { "paint", call_paint, 0 },         { "take_back", call_take_back, 0 }, { "empty", call_empty, 0 },
+    { "paint", call_paint, 0 },         { "take_back", call_take_back, 0 }, { "redo", call_redo, 0 },
+    { "empty", call_empty, 0 },
     { "findings", call_findings, 0 },   { "store", call_store, 0 },       { "load", call_load, 0 },
     { "write_leaves", call_write_leaves, 0 }, { "read_leaves", call_read_leaves, 0 },
     { "write_bit_strings", call_write, 0 },       { "read_bit_strings", call_read, 0 },
@@ -206,7 +212,7 @@ static void two_features(void) {
 static void every_call(uint8_t pattern) {
     /* the root, two large blocks, three pixels, and four pixels at the last corner */
     static const uint32_t blocks[] = { 0, 1953125, 4 * 1953125 + 390625, 7324218, 2441406, 9765624, 9765620 };
-    used = 0;
+    used = 0, in_force = 0;
     measure(BUILD, pattern);
     measure(RASTER, pattern);
     measure(EMPTY, pattern);
@@ -230,6 +236,8 @@ static void every_call(uint8_t pattern) {
         measure(STANDING, pattern);
         measure(PART, pattern);
         measure(PAINT, pattern);
+        measure(TAKE_BACK, pattern);
+        measure(REDO, pattern);
         measure(TAKE_BACK, pattern);
     }
     /* several entries in one log, and single pixels into a map of one leaf */

@@ -49,6 +49,8 @@ use Rattle.prowcurl.proofs.edits.hlq_paint as paint
 use Rattle.prowcurl.proofs.edits.hlq_paint.Reads as paint-reads
 use Rattle.prowcurl.proofs.edits.hlq_take_back as take-back
 use Rattle.prowcurl.proofs.edits.hlq_take_back.Reads as take-back-reads
+use Rattle.prowcurl.proofs.edits.hlq_redo as redo
+use Rattle.prowcurl.proofs.edits.hlq_redo.Reads as redo-reads
 use Rattle.prowcurl.proofs.edits.hlq_empty as empty
 use Rattle.prowcurl.proofs.edits.hlq_empty.Reads as empty-reads
 use Rattle.prowcurl.proofs.files.hlq_store as store
@@ -211,6 +213,22 @@ paint-one =
 
 pub take-back-one : OneAnswer take-back.ended take-back-reads.Learnt
 take-back-one =
+    by-equations (λ x. (
+      one (x .kept .answer) (x .kept′ .answer),
+      (
+        one (x .kept .keys-are) (x .kept′ .keys-are),
+        (
+          one (x .kept .bits-are) (x .kept′ .bits-are),
+          (
+            one (x .kept .summary-is) (x .kept′ .summary-is),
+            (one (x .kept .log-keys-are) (x .kept′ .log-keys-are), one (x .kept .log-values-are) (x .kept′ .log-values-are)),
+          ),
+        ),
+      ),
+    ))
+
+pub redo-one : OneAnswer redo.ended redo-reads.Learnt
+redo-one =
     by-equations (λ x. (
       one (x .kept .answer) (x .kept′ .answer),
       (

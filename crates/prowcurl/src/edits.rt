@@ -1,11 +1,14 @@
-// Edits for C: paint, take back, empty.
+// Edits for C: paint, take back, redo, empty.
 ghost use mathlib.Core.Path.{_≡_};
 ghost use Rattle.definitions.specs.Calls.Empty.{emptied};
 ghost use Rattle.edit.specs.PaintCall.{Painted};
 ghost use Rattle.edit.specs.TakingBackCall.{TakenBack};
+ghost use Rattle.edit.specs.RedoCall.{Redone};
 use definitions::Edited;
+use definitions::Emptied;
 use edit::empty;
 use edit::paint;
+use edit::redo;
 use edit::take_back;
 
 #[no_mangle]
@@ -19,10 +22,11 @@ pub extern "C" fn hlq_paint(
     log_keys: &mut [u32],
     log_values: &mut [u32],
     used: usize,
+    in_force: usize,
     key: u32,
     feature: u32,
 ) -> Edited
-    ensures { λ r. ⌜ Painted m s (now (keys .entry)) (now (bits .entry)) n (now (summary .entry)) (now («log_keys» .entry)) (now («log_values» .entry)) used key feature
+    ensures { λ r. ⌜ Painted m s (now (keys .entry)) (now (bits .entry)) n (now (summary .entry)) (now («log_keys» .entry)) (now («log_values» .entry)) used «in_force» key feature
         r (now (keys .exit)) (now (bits .exit)) (now (summary .exit)) (now («log_keys» .exit)) (now («log_values» .exit)) ⌝ }
 {
     paint::paint(
@@ -35,6 +39,7 @@ pub extern "C" fn hlq_paint(
         log_keys,
         log_values,
         used,
+        in_force,
         key,
         feature,
     )
@@ -51,15 +56,57 @@ pub extern "C" fn hlq_take_back(
     log_keys: &mut [u32],
     log_values: &mut [u32],
     used: usize,
+    in_force: usize,
 ) -> Edited
-    ensures { λ r. ⌜ TakenBack m s (now (keys .entry)) (now (bits .entry)) n (now (summary .entry)) (now («log_keys» .entry)) (now («log_values» .entry)) used
+    ensures { λ r. ⌜ TakenBack m s (now (keys .entry)) (now (bits .entry)) n (now (summary .entry)) (now («log_keys» .entry)) (now («log_values» .entry)) used «in_force»
         r (now (keys .exit)) (now (bits .exit)) (now (summary .exit)) (now («log_keys» .exit)) (now («log_values» .exit)) ⌝ }
 {
-    take_back::take_back(m, s, keys, bits, n, summary, log_keys, log_values, used)
+    take_back::take_back(
+        m,
+        s,
+        keys,
+        bits,
+        n,
+        summary,
+        log_keys,
+        log_values,
+        used,
+        in_force,
+    )
 }
 
 #[no_mangle]
-pub extern "C" fn hlq_empty() -> u64
+pub extern "C" fn hlq_redo(
+    m: u32,
+    s: u32,
+    keys: &mut [u32],
+    bits: &mut [u32],
+    n: usize,
+    summary: &mut [u32],
+    log_keys: &mut [u32],
+    log_values: &mut [u32],
+    used: usize,
+    in_force: usize,
+) -> Edited
+    ensures { λ r. ⌜ Redone m s (now (keys .entry)) (now (bits .entry)) n (now (summary .entry)) (now («log_keys» .entry)) (now («log_values» .entry)) used «in_force»
+        r (now (keys .exit)) (now (bits .exit)) (now (summary .exit)) (now («log_keys» .exit)) (now («log_values» .exit)) ⌝ }
+{
+    redo::redo(
+        m,
+        s,
+        keys,
+        bits,
+        n,
+        summary,
+        log_keys,
+        log_values,
+        used,
+        in_force,
+    )
+}
+
+#[no_mangle]
+pub extern "C" fn hlq_empty() -> Emptied
     ensures { λ r. ⌜ r ≡ emptied ⌝ }
 {
     empty::empty()
