@@ -61,7 +61,7 @@ extern "C" {
 #endif
 
 /* Grows by one whenever a call or a result changes its shape. */
-#define HLQ_INTERFACE 6
+#define HLQ_INTERFACE 12
 
 #define HLQ_DEEPEST_M 10  /* the largest m */
 #define HLQ_MOST_SLOTS 32 /* the largest s */
