@@ -66,15 +66,18 @@ static void reads(void) {
 static void edits(void) {
     fresh();
     hlq_edited e =
-        hlq_paint(M, S, keys, ROOM, bits, ROOM, N, summary, PLACES, log_keys, LOG, log_values, LOG, 0, 0, LAST);
+        hlq_paint(M, S, keys, ROOM, bits, ROOM, N, summary, PLACES, log_keys, LOG, log_values, LOG, 0, 0, 0, LAST);
     must(e.refusal == 0 && e.n == 1 && bits[0] == LAST_SLOT && summary[LAST] == 1 && summary[FIRST] == 0,
          "the sheet painted with class 31");
-    e = hlq_paint(M, S, keys, ROOM, bits, ROOM, e.n, summary, PLACES, log_keys, LOG, log_values, LOG, e.used, 0, S);
+    e = hlq_paint(M, S, keys, ROOM, bits, ROOM, e.n, summary, PLACES, log_keys, LOG, log_values, LOG, e.used, e.in_force,
+                  0, S);
     must(e.refusal == HLQ_FEATURE, "no paint with class 32");
-    size_t used = N + 1;
+    size_t used = N + 2;
     must(log_values[0] == list_bits[0] && log_values[2] == LAST_SLOT, "the log has both slots");
-    e = hlq_take_back(M, S, keys, ROOM, bits, ROOM, 1, summary, PLACES, log_keys, LOG, log_values, LOG, used);
-    must(e.refusal == 0 && e.n == N && e.used == 0 && memcmp(bits, list_bits, sizeof list_bits) == 0, "taken back");
+    e = hlq_take_back(M, S, keys, ROOM, bits, ROOM, 1, summary, PLACES, log_keys, LOG, log_values, LOG, used, used);
+    must(e.refusal == 0 && e.n == N && e.in_force == 0 && memcmp(bits, list_bits, sizeof list_bits) == 0, "taken back");
+    e = hlq_redo(M, S, keys, ROOM, bits, ROOM, N, summary, PLACES, log_keys, LOG, log_values, LOG, used, 0);
+    must(e.refusal == 0 && e.n == 1 && e.in_force == used && bits[0] == LAST_SLOT, "and put back after all");
 }
 
 static void findings(void) {
