@@ -69,8 +69,8 @@ static void edits(void) {
         hlq_paint(M, S, keys, ROOM, bits, ROOM, N, summary, PLACES, log_keys, LOG, log_values, LOG, 0, 0, 0, LAST);
     must(e.refusal == 0 && e.n == 1 && bits[0] == LAST_SLOT && summary[LAST] == 1 && summary[FIRST] == 0,
          "the sheet painted with class 31");
-    e = hlq_paint(M, S, keys, ROOM, bits, ROOM, e.n, summary, PLACES, log_keys, LOG, log_values, LOG, e.used, e.in_force,
-                  0, S);
+    e = hlq_paint(M, S, keys, ROOM, bits, ROOM, e.n, summary, PLACES, log_keys, LOG, log_values, LOG, e.used,
+                  e.in_force, 0, S);
     must(e.refusal == HLQ_FEATURE, "no paint with class 32");
     size_t used = N + 2;
     must(log_values[0] == list_bits[0] && log_values[2] == LAST_SLOT, "the log has both slots");
