@@ -12,7 +12,7 @@ use Rattle.build.proofs.FittingBlock.{fits-nw, fits-ne, fits-sw, fits-se, fits-
 use Rattle.build.proofs.WrittenBlock.{written-one, written-quadrants}
 use Rattle.leaves.specs.Delivered.{endOf, Parted, leaf, four, Ready, Laid}
 use Rattle.leaves.proofs.EndOf.{end-leaf}
-use Rattle.leaves.proofs.Quarters.{Quarters, quarters, last-is, parted-there}
+use Rattle.leaves.proofs.Quarters.{Quarters, quarters, last-is, parted-there, parted-pixel}
 
 module _ (leafKeys leafFeatures : List ℕ) where
   leaf-written : (k κ at place b : ℕ) (keys bits : List ℕ) → getD leafKeys at 0 ≡ κ → b ≡ 2 ^ getD leafFeatures at 0
@@ -137,6 +137,17 @@ module _ (leafKeys leafFeatures : List ℕ) where
                   (l₄ .written p (r + 2 ^ k) (c + 2 ^ k) (q .se))
                   f;
             }
+
+-- a pixel that is ready is written by its bits
+pub laid-pixel : {leafKeys leafFeatures : List ℕ} {κ at place b next end : ℕ} {keys bits : List ℕ} → Ready leafKeys leafFeatures 0 κ at place keys bits
+    → (b ≡ 2 ^ getD leafFeatures at 0) × (next ≡ place + 1) × (end ≡ at + 1)
+    → Laid leafKeys leafFeatures 0 κ at place keys bits keys bits b next end
+laid-pixel {leafKeys} {leafFeatures} {κ} {at} {place} {b} {keys = keys} {bits = bits} a e =
+    rw (e .1, e .2) (laid-leaf leafKeys leafFeatures 0 κ at place b keys bits (parted-there (a .parted)) (parted-pixel (a .parted)) (e .0))
+
+-- the place of a block is small
+pub ready-place : {leafKeys leafFeatures : List ℕ} {k κ at place : ℕ} {keys bits : List ℕ} → Ready leafKeys leafFeatures k κ at place keys bits → place ≤ 5 ^ 10
+ready-place a = let f = a .fits in omega (arith, f .key-fits, f .place-fits)
 
 -- the same block, its height known
 pub ready-at : {leafKeys leafFeatures : List ℕ} {k k′ κ at place : ℕ} {keys bits : List ℕ} → k ≡ k′

@@ -91,3 +91,13 @@ asked-quadrant {height = height} {step = step} a h κ low =
     let f = fifth-step height h in
     let s = step-below h (a .step-is) in
     record { deep = omega (arith, a .deep); step-is = s; key-fits = omega (arith, a .key-fits); same = a .same; few = a .few }
+
+-- what is asked of a block of 2 by 2 pixels
+pub asked-one : {keys features : List ℕ} {height step key : ℕ} → height ≡ 1 → Asked keys features height step key → Asked keys features 1 5 key
+asked-one e a =
+    let b = rw e at a in
+    record { deep = b .deep; step-is = refl; key-fits = b .key-fits; same = b .same; few = b .few }
+
+-- a pixel has its own leaf
+pub parted-pixel : {p : Picture} {keys features : List ℕ} {r c κ at : ℕ} → Parted p keys features zero r c κ at → getD keys at 0 ≡ κ
+parted-pixel (leaf h e o f) = e

@@ -22,12 +22,92 @@ pub struct Pass {
     pub count: usize,
 }
 
+// A pixel: the next leaf is the pixel.
+fn pass_pixel(keys: &[u32], features: &[u32], key: u32, at: usize) -> Pass
+    requires { ⌜ Asked (now keys) (now features) 0 1 key ⌝ }
+    ensures { λ r. ⌜ Passed (now (keys .entry)) (now (features .entry)) 0 key at (r .next) (r .bits) (r .count) ⌝ }
+{
+    if keys.len() <= at {
+        return Pass {
+            next: keys.len() + 1,
+            bits: 0,
+            count: 1,
+        };
+    }
+    if keys[at] != key {
+        return Pass {
+            next: keys.len() + 1,
+            bits: 0,
+            count: 1,
+        };
+    }
+    Pass {
+        next: at + 1,
+        bits: power::power_of_two(features[at]),
+        count: 1,
+    }
+}
+
+// A block of 2 by 2 pixels, with no recursive call: most blocks of a delivery in parts are of this size.
+fn pass_quad(keys: &[u32], features: &[u32], key: u32, at: usize) -> Pass
+    requires { ⌜ Asked (now keys) (now features) 1 5 key ⌝ }
+    ensures { λ r. ⌜ Passed (now (keys .entry)) (now (features .entry)) 1 key at (r .next) (r .bits) (r .count) ⌝ }
+{
+    if keys.len() <= at {
+        return Pass {
+            next: keys.len() + 1,
+            bits: 0,
+            count: 1,
+        };
+    }
+    if keys[at] == key {
+        return Pass {
+            next: at + 1,
+            bits: power::power_of_two(features[at]),
+            count: 1,
+        };
+    }
+    let nw = pass_pixel(keys, features, key + 1, at);
+    let second = nw.next;
+    let ne = pass_pixel(keys, features, key + 2, second);
+    let third = ne.next;
+    let sw = pass_pixel(keys, features, key + 3, third);
+    let fourth = sw.next;
+    let se = pass_pixel(keys, features, key + 4, fourth);
+    let a = Tally {
+        bits: nw.bits,
+        count: nw.count,
+    };
+    let b = Tally {
+        bits: ne.bits,
+        count: ne.count,
+    };
+    let c = Tally {
+        bits: sw.bits,
+        count: sw.count,
+    };
+    let d = Tally {
+        bits: se.bits,
+        count: se.count,
+    };
+    let whole = count::joined(a, b, c, d);
+    let next = se.next;
+    Pass {
+        next,
+        bits: whole.bits,
+        count: whole.count,
+    }
+}
+
 // A block: the next leaf is the block itself, or its quadrants' leaves follow one after the other. Where a leaf is wrong, all that is asked
 // afterwards finds no leaf left, so each leaf is looked at no more often than it is deep.
 fn pass_block(keys: &[u32], features: &[u32], height: u32, step: u32, key: u32, at: usize) -> Pass
     requires { ⌜ Asked (now keys) (now features) height step key ⌝ }
     ensures { λ r. ⌜ Passed (now (keys .entry)) (now (features .entry)) height key at (r .next) (r .bits) (r .count) ⌝ }
 {
+    if height == 1 {
+        return pass_quad(keys, features, key, at);
+    }
     if keys.len() <= at {
         return Pass {
             next: keys.len() + 1,

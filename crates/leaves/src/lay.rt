@@ -2,8 +2,9 @@
 // knows that they are not alike, so what was delivered in parts is merged, and nothing is written past the last record.
 ghost use mathlib.Core.Path.{_≡_};
 ghost use mathlib.Core.Bool.{true, false};
-ghost use Prim.Native.Nat.{_≤_};
-ghost use lib.ListN.{length};
+ghost use Prim.Native.Nat.{_+_, _^_, _≤_, _<_};
+ghost use lib.ListN.{length, getD};
+ghost use Rattle.keys.specs.Key.{slotLimit};
 ghost use Rattle.definitions.specs.List.{listOfPicture, keysOf, valuesOf};
 ghost use Rattle.definitions.specs.Read.{room, paired};
 ghost use Rattle.definitions.specs.Leaves.{areLeaves, pictureOfLeaves};
@@ -22,6 +23,71 @@ pub struct Lain {
     pub end: usize,
 }
 
+// A pixel has no records below it.
+fn lay_pixel(leaf_features: &[u32], at: usize, place: usize) -> Lain
+    requires { ⌜ (at < length (now «leaf_features»)) × (getD (now «leaf_features») at 0 < slotLimit) × (place ≤ 5 ^ 10) ⌝ }
+    ensures { λ r. ⌜ (r .bits ≡ 2 ^ getD (now («leaf_features» .entry)) at 0) × (r .next ≡ place + 1) × (r .end ≡ at + 1) ⌝ }
+{
+    Lain {
+        bits: power::power_of_two(leaf_features[at]),
+        next: place + 1,
+        end: at + 1,
+    }
+}
+
+// A block of 2 by 2 pixels, with no recursive call.
+fn lay_quad(
+    leaf_keys: &[u32],
+    leaf_features: &[u32],
+    key: u32,
+    at: usize,
+    place: usize,
+    keys: &mut [u32],
+    bits: &mut [u32],
+) -> Lain
+    requires { ⌜ Asked (now «leaf_keys») (now «leaf_features») 1 5 key × Ready (now «leaf_keys») (now «leaf_features») 1 key at place (now keys) (now bits) ⌝ }
+    ensures { λ r. ⌜ Laid (now («leaf_keys» .entry)) (now («leaf_features» .entry)) 1 key at place (now (keys .entry)) (now (bits .entry)) (now (keys .exit)) (now (bits .exit)) (r .bits) (r .next) (r .end) ⌝ }
+{
+    if leaf_keys[at] == key {
+        return lay_pixel(leaf_features, at, place);
+    }
+    let first = place + 1;
+    let nw = lay_pixel(leaf_features, at, first);
+    let ne_at = nw.end;
+    let second = nw.next;
+    let ne = lay_pixel(leaf_features, ne_at, second);
+    let sw_at = ne.end;
+    let third = ne.next;
+    let sw = lay_pixel(leaf_features, sw_at, third);
+    let se_at = sw.end;
+    let fourth = sw.next;
+    let se = lay_pixel(leaf_features, se_at, fourth);
+    let last = se.next;
+    let a = Below {
+        bits: nw.bits,
+        next: second,
+    };
+    let b = Below {
+        bits: ne.bits,
+        next: third,
+    };
+    let c = Below {
+        bits: sw.bits,
+        next: fourth,
+    };
+    let d = Below {
+        bits: se.bits,
+        next: last,
+    };
+    let below = write::write_four(key, 1, place, a, b, c, d, keys, bits);
+    let end = se.end;
+    Lain {
+        bits: below.bits,
+        next: below.next,
+        end,
+    }
+}
+
 // The records below a block, and not its own: only its parent knows whether it is listed.
 fn lay_below(
     leaf_keys: &[u32],
@@ -37,6 +103,9 @@ fn lay_below(
     requires { ⌜ Asked (now «leaf_keys») (now «leaf_features») height step key × Ready (now «leaf_keys») (now «leaf_features») height key at place (now keys) (now bits) ⌝ }
     ensures { λ r. ⌜ Laid (now («leaf_keys» .entry)) (now («leaf_features» .entry)) height key at place (now (keys .entry)) (now (bits .entry)) (now (keys .exit)) (now (bits .exit)) (r .bits) (r .next) (r .end) ⌝ }
 {
+    if height == 1 {
+        return lay_quad(leaf_keys, leaf_features, key, at, place, keys, bits);
+    }
     if leaf_keys[at] == key {
         return Lain {
             bits: power::power_of_two(leaf_features[at]),

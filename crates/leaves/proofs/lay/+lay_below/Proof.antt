@@ -1,4 +1,4 @@
--- `lay::lay_below` meets its contract: the next leaf is the block, or the four quadrants one after the other and then their own records. The height
+-- `lay::lay_below` meets its contract: four pixels have their own function, the next leaf is the block, or the four quadrants one after the other and then their own records. The height
 -- falls at each call.
 use Prim.Native.Nat.{ℕ, suc, _+_, _-_, _*_, _/_, _^_, _≤_, _<_}
 use mathlib.Core.Path.{_≡_, sym, _∙_}
@@ -8,13 +8,14 @@ use borrow.Fn.Kinds.{In}
 use borrow.Fn.PlainCycle.{Measures, is, falls, and}
 use Rattle.build.proofs.BuildInside.{one-above, fifth-step}
 use Rattle.leaves.specs.Delivered.{Asked, Ready}
-use Rattle.leaves.proofs.Quarters.{parted-there, parted-high, step-below, asked-quadrant}
+use Rattle.leaves.proofs.Quarters.{parted-there, parted-high, step-below, asked-quadrant, asked-one}
 use Rattle.leaves.proofs.LayBlock.{laid-leaf, ready-nw, ready-ne, ready-sw, ready-se, ready-four, laid-four, ready-at, laid-at}
 use Rattle.leaves.proofs.lay.lay_below.Reads as own
 use Rattle.leaves.proofs.lay.lay_below.Kinds as kinds
 use Rattle.leaves.proofs.lay.+lay_below.Lts-lay_below as lts
 use Rattle.build.proofs.write.write_four.Reads as write-four
 use Rattle.keys.proofs.power.power_of_two.Reads as power-of-two
+use Rattle.leaves.proofs.lay.lay_quad.Reads as lay-quad
 use Rattle.leaves.proofs.lay.+lay_below.{statement}
 use Rattle.leaves.proofs.lay.+lay_below.Tie.{close}
 
@@ -29,27 +30,27 @@ abbrev below : ℕ → In 4 kinds.ps
 below t = and 4 kinds.ps (falls 4 kinds.ps _<_ measure t) own.Pre
 
 abbrev claims : ℕ → lts.Claims
-claims t = (power-of-two.Asked, power-of-two.Learnt, below t, own.Post, write-four.Asked, write-four.Learnt)
+claims t = (lay-quad.Asked, lay-quad.Learnt, power-of-two.Asked, power-of-two.Learnt, below t, own.Post, write-four.Asked, write-four.Learnt)
 
 -- past the test the block has quadrants: what a call for one of them asks
 abbrev High : ℕ → Type 0
-High t = lts.Else1 (claims t) (given t) own.Post
+High t = lts.Else2 (claims t) (given t) own.Post
 
 abbrev start : (t : ℕ) → High t → lts.Start (claims t) (given t) own.Post
-start t c = c .before .before .before .before .before .before
+start t c = c .before .before .before .before .before .before .before
 
 -- once one, two, three and all quadrants are written, and the way back from there
 abbrev Once : ℕ → Type 0
-Once t = lts.After-slice-known4 (claims t) (given t) own.Post
+Once t = lts.After-slice-known6 (claims t) (given t) own.Post
 
 abbrev Twice : ℕ → Type 0
-Twice t = lts.After-slice-known6 (claims t) (given t) own.Post
+Twice t = lts.After-slice-known8 (claims t) (given t) own.Post
 
 abbrev Thrice : ℕ → Type 0
-Thrice t = lts.After-slice-known8 (claims t) (given t) own.Post
+Thrice t = lts.After-slice-known10 (claims t) (given t) own.Post
 
 abbrev All : ℕ → Type 0
-All t = lts.After-slice-known10 (claims t) (given t) own.Post
+All t = lts.After-slice-known12 (claims t) (given t) own.Post
 
 abbrev from-once : (t : ℕ) → Once t → High t
 from-once t c = c .before .before .before .before .before .before .before
@@ -65,7 +66,7 @@ from-all t c = c .before .before .before .before .before .before .before
 
 module _ (t : ℕ) (c : High t) where
   positive : 0 < start t c .args .height
-  positive = parted-high (start t c .pre .1 .1 .parted) (c .if1 .left)
+  positive = parted-high (start t c .pre .1 .1 .parted) (c .if2 .left)
 
   step-is : start t c .args .step / 5 ≡ 5 ^ (start t c .args .height - 1)
   step-is = step-below positive (start t c .pre .1 .0 .step-is)
@@ -86,38 +87,53 @@ module _ (t : ℕ) (c : High t) where
       → Asked (start t c .args .leaf-keys .now) (start t c .args .leaf-features .now) (start t c .args .height - 1) (start t c .args .step / 5) κ
   quadrant κ low = asked-quadrant (start t c .pre .1 .0) positive κ low
 
-read-byte : (t : ℕ) → lts.Need-mul-if1 (claims t) (given t) own.Post
-read-byte t c = let h = parted-there (c .before .before .before .before .pre .1 .1 .parted) in omega arith
+quad-requires : (t : ℕ) → lts.Need-lay-quad-requires (claims t) (given t) own.Post
+quad-requires t c κs =
+    let s = c .before .before .before .before .before .before .before in
+    let e = c .before .before .if1 .taken in
+    (asked-one e (s .pre .1 .0), ready-at e (s .pre .1 .1))
 
-read-key : (t : ℕ) → lts.Need-shared-slice-read-if1 (claims t) (given t) own.Post
-read-key t c = let h = parted-there (c .before .before .before .before .before .pre .1 .1 .parted) in omega arith
+same-length : (t : ℕ) → lts.Need-same-length (claims t) (given t) own.Post
+same-length t c = c .before .before .before .before .lay-quad .kept .1 .1 .1 .1 .1 .0
+
+same-length-2 : (t : ℕ) → lts.Need-same-length-2 (claims t) (given t) own.Post
+same-length-2 t c = c .before .before .before .before .lay-quad .kept .1 .1 .1 .1 .1 .1 .0
+
+returns : (t : ℕ) → lts.Need-returns (claims t) (given t) own.Post
+returns t c = laid-at (sym (c .before .before .before .before .before .before .before .if1 .taken)) (c .before .before .before .before .lay-quad .ensures)
+
+read-byte : (t : ℕ) → lts.Need-mul-if2 (claims t) (given t) own.Post
+read-byte t c = let h = parted-there (c .before .before .before .before .before .pre .1 .1 .parted) in omega arith
+
+read-key : (t : ℕ) → lts.Need-shared-slice-read-if2 (claims t) (given t) own.Post
+read-key t c = let h = parted-there (c .before .before .before .before .before .before .pre .1 .1 .parted) in omega arith
 
 read-feature-byte : (t : ℕ) → lts.Need-mul-power-of-two (claims t) (given t) own.Post
-read-feature-byte t c = let h = parted-there (c .before .before .before .before .before .before .pre .1 .1 .parted) in omega arith
+read-feature-byte t c = let h = parted-there (c .before .before .before .before .before .before .before .pre .1 .1 .parted) in omega arith
 
 read-feature : (t : ℕ) → lts.Need-shared-slice-read-power-of-two (claims t) (given t) own.Post
 read-feature t c =
-    let s = c .before .before .before .before .before .before .before in
+    let s = c .before .before .before .before .before .before .before .before in
     let h = parted-there (s .pre .1 .1 .parted) in
     omega (arith, s .pre .1 .0 .same)
 
 power-requires : (t : ℕ) → lts.Need-power-of-two-requires (claims t) (given t) own.Post
 power-requires t c κs =
-    let s = c .before .before .before .before .before .before .before in
+    let s = c .before .before .before .before .before .before .before .before in
     omega (arith, s .pre .1 .0 .few (s .args .at))
 
-leaf-place : (t : ℕ) → lts.Need-add-t42 (claims t) (given t) own.Post
+leaf-place : (t : ℕ) → lts.Need-add-t46 (claims t) (given t) own.Post
 leaf-place t c =
-    let f = c .before .before .before .before .before .before .before .before .pre .1 .1 .fits in
+    let f = c .before .before .before .before .before .before .before .before .before .pre .1 .1 .fits in
     omega (arith, f .key-fits, f .place-fits)
 
-leaf-end : (t : ℕ) → lts.Need-add-t43 (claims t) (given t) own.Post
-leaf-end t c = let h = parted-there (c .before .before .before .before .before .before .before .before .pre .1 .1 .parted) in omega arith
+leaf-end : (t : ℕ) → lts.Need-add-t47 (claims t) (given t) own.Post
+leaf-end t c = let h = parted-there (c .before .before .before .before .before .before .before .before .before .pre .1 .1 .parted) in omega arith
 
-returns : (t : ℕ) → lts.Need-returns (claims t) (given t) own.Post
-returns t c =
-    let s = c .before .before .before .before .before .before .before .before in
-    laid-leaf _ _ _ _ _ _ _ _ _ (parted-there (s .pre .1 .1 .parted)) (c .before .before .if1 .taken) (c .power-of-two .ensures)
+returns-2 : (t : ℕ) → lts.Need-returns-2 (claims t) (given t) own.Post
+returns-2 t c =
+    let s = c .before .before .before .before .before .before .before .before .before in
+    laid-leaf _ _ _ _ _ _ _ _ _ (parted-there (s .pre .1 .1 .parted)) (c .before .before .if2 .taken) (c .power-of-two .ensures)
 
 sub-lower : (t : ℕ) → lts.Need-sub-lower (claims t) (given t) own.Post
 sub-lower t c = let h = positive t c in omega arith
@@ -131,7 +147,7 @@ nw-key t c = let h = keys-fit t c in omega arith
 nw-requires : (t : ℕ) → lts.Need-lay-below-requires (claims t) (given t) own.Post
 nw-requires t c κs =
     let d = c .before .before in
-    (falling t d, (quadrant t d _ (omega arith), ready-nw _ _ _ _ _ _ _ (step-is t d) (d .if1 .left) (ready t d)))
+    (falling t d, (quadrant t d _ (omega arith), ready-nw _ _ _ _ _ _ _ (step-is t d) (d .if2 .left) (ready t d)))
 
 ne-key : (t : ℕ) → lts.Need-mul-ne-key (claims t) (given t) own.Post
 ne-key t c = let h = keys-fit t (from-once t c) in omega arith
@@ -144,7 +160,7 @@ ne-requires t c κs =
     let a = c .before .before in
     let d = from-once t a in (
       falling t d,
-      (quadrant t d _ (omega arith), ready-ne _ _ _ _ _ _ _ (step-is t d) (d .if1 .left) (ready t d) (a .before .before .before .before .lay-below .ensures)),
+      (quadrant t d _ (omega arith), ready-ne _ _ _ _ _ _ _ (step-is t d) (d .if2 .left) (ready t d) (a .before .before .before .before .lay-below .ensures)),
     )
 
 sw-key : (t : ℕ) → lts.Need-mul-sw-key (claims t) (given t) own.Post
@@ -161,7 +177,7 @@ sw-requires t c κs =
       falling t d,
       (
         quadrant t d _ (omega arith),
-        ready-sw _ _ _ _ _ _ _ (step-is t d) (d .if1 .left) (ready t d) (a .before .before .before .before .lay-below .ensures) (b .before .before .before .before .lay-below2 .ensures),
+        ready-sw _ _ _ _ _ _ _ (step-is t d) (d .if2 .left) (ready t d) (a .before .before .before .before .lay-below .ensures) (b .before .before .before .before .lay-below2 .ensures),
       ),
     )
 
@@ -180,7 +196,7 @@ se-requires t c κs =
       falling t d,
       (
         quadrant t d _ (omega arith),
-        ready-se _ _ _ _ _ _ _ (step-is t d) (d .if1 .left) (ready t d) (a .before .before .before .before .lay-below .ensures) (b .before .before .before .before .lay-below2 .ensures) (g .before .before .before .before .lay-below3 .ensures),
+        ready-se _ _ _ _ _ _ _ (step-is t d) (d .if2 .left) (ready t d) (a .before .before .before .before .lay-below .ensures) (b .before .before .before .before .lay-below2 .ensures) (g .before .before .before .before .lay-below3 .ensures),
       ),
     )
 
@@ -191,10 +207,10 @@ write-four-requires t c κs =
     let b = from-thrice t g in
     let a = from-twice t b in
     let d = from-once t a in
-    ready-four _ _ _ _ _ _ _ (step-is t d) (d .if1 .left) (ready t d) (a .before .before .before .before .lay-below .ensures) (b .before .before .before .before .lay-below2 .ensures) (g .before .before .before .before .lay-below3 .ensures) (h .before .before .before .before .lay-below4 .ensures)
+    ready-four _ _ _ _ _ _ _ (step-is t d) (d .if2 .left) (ready t d) (a .before .before .before .before .lay-below .ensures) (b .before .before .before .before .lay-below2 .ensures) (g .before .before .before .before .lay-below3 .ensures) (h .before .before .before .before .lay-below4 .ensures)
 
-same-length : (t : ℕ) → lts.Need-same-length (claims t) (given t) own.Post
-same-length t c =
+same-length-3 : (t : ℕ) → lts.Need-same-length-3 (claims t) (given t) own.Post
+same-length-3 t c =
     let h = c .before .before .before .before .before .before .before in
     let g = from-all t h in
     let b = from-thrice t g in
@@ -205,8 +221,8 @@ same-length t c =
     ∙ b .before .before .before .before .lay-below2 .kept .1 .1 .1 .1 .1 .1 .1 .0
     ∙ a .before .before .before .before .lay-below .kept .1 .1 .1 .1 .1 .1 .1 .0
 
-same-length-2 : (t : ℕ) → lts.Need-same-length-2 (claims t) (given t) own.Post
-same-length-2 t c =
+same-length-4 : (t : ℕ) → lts.Need-same-length-4 (claims t) (given t) own.Post
+same-length-4 t c =
     let h = c .before .before .before .before .before .before .before in
     let g = from-all t h in
     let b = from-thrice t g in
@@ -217,15 +233,15 @@ same-length-2 t c =
     ∙ b .before .before .before .before .lay-below2 .kept .1 .1 .1 .1 .1 .1 .1 .1 .0
     ∙ a .before .before .before .before .lay-below .kept .1 .1 .1 .1 .1 .1 .1 .1 .0
 
-returns-2 : (t : ℕ) → lts.Need-returns-2 (claims t) (given t) own.Post
-returns-2 t c =
+returns-3 : (t : ℕ) → lts.Need-returns-3 (claims t) (given t) own.Post
+returns-3 t c =
     let h = c .before .before .before .before .before .before .before in
     let g = from-all t h in
     let b = from-thrice t g in
     let a = from-twice t b in
     let d = from-once t a in
     laid-at (one-above (positive t d))
-    (laid-four _ _ _ _ _ _ _ (step-is t d) (d .if1 .left) (ready t d) (a .before .before .before .before .lay-below .ensures) (b .before .before .before .before .lay-below2 .ensures) (g .before .before .before .before .lay-below3 .ensures) (h .before .before .before .before .lay-below4 .ensures) (c .before .before .before .before .write-four .ensures))
+    (laid-four _ _ _ _ _ _ _ (step-is t d) (d .if2 .left) (ready t d) (a .before .before .before .before .lay-below .ensures) (b .before .before .before .before .lay-below2 .ensures) (g .before .before .before .before .lay-below3 .ensures) (h .before .before .before .before .lay-below4 .ensures) (c .before .before .before .before .write-four .ensures))
 
 pub +lay-below-spec : {M : Type 1} → statement M
 +lay-below-spec =
@@ -233,6 +249,10 @@ pub +lay-below-spec : {M : Type 1} → statement M
     λ t. lts.spec (claims t)
     (given t)
     own.Post
+    (quad-requires t)
+    (same-length t)
+    (same-length-2 t)
+    (returns t)
     (read-byte t)
     (read-key t)
     (read-feature-byte t)
@@ -240,7 +260,7 @@ pub +lay-below-spec : {M : Type 1} → statement M
     (power-requires t)
     (leaf-place t)
     (leaf-end t)
-    (returns t)
+    (returns-2 t)
     (sub-lower t)
     (nw-place t)
     (nw-key t)
@@ -255,6 +275,6 @@ pub +lay-below-spec : {M : Type 1} → statement M
     (se-key-2 t)
     (se-requires t)
     (write-four-requires t)
-    (same-length t)
-    (same-length-2 t)
-    (returns-2 t)
+    (same-length-3 t)
+    (same-length-4 t)
+    (returns-3 t)
