@@ -4,6 +4,7 @@ mod Orders
 mod Corners
 mod AreaVectors
 mod FourWaivers
+mod OfficeVectors
 pub mod Within
 pub mod Pixels
 pub mod Features
