@@ -7,7 +7,7 @@
 static const char *const names[CALLS] = {
     "key at", "block of",     "build", "raster", "standing",  "part",     "exist", "report",
     "select", "fill summary", "area",  "exist clipped", "report clipped", "select clipped", "area clipped",
-    "paint",  "take back", "findings", "store", "load",
+    "paint",  "take back", "findings", "add waiver", "remove waiver", "store", "load",
 };
 static uint64_t state = 1, comparisons, pairs[CALLS][MAX_REFUSAL + 1];
 

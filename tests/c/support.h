@@ -13,7 +13,7 @@
 #define SOME(rounds) (rounds)
 #endif
 
-enum { GUARD = 8, MAX_REFUSAL = HLQ_SUMMARY };
+enum { GUARD = 8, MAX_REFUSAL = HLQ_ROW };
 
 typedef enum {
     CALL_KEY_AT,
@@ -34,6 +34,8 @@ typedef enum {
     CALL_PAINT,
     CALL_TAKE_BACK,
     CALL_FINDINGS,
+    CALL_ADD_WAIVER,
+    CALL_REMOVE_WAIVER,
     CALL_STORE,
     CALL_LOAD,
     CALLS

@@ -7,7 +7,7 @@
 #include <stdlib.h>
 #include <string.h>
 
-static_assert(HLQ_INTERFACE == 4, "the interface's number");
+static_assert(HLQ_INTERFACE == 5, "the interface's number");
 static_assert(HLQ_DEEPEST_M == 10 && HLQ_MOST_SLOTS == 16, "the limits of document 01");
 static_assert(HLQ_LISTED == 1 && HLQ_INSIDE == 2, "the kinds");
 static_assert(HLQ_ACCEPTED == 0 && HLQ_SETTINGS == 1 && HLQ_RASTER_LENGTH == 2 && HLQ_PIXEL == 3 && HLQ_LIST == 4 &&

@@ -29,7 +29,8 @@ static uint32_t key, row, column, height, width, feature;
 static const hlq_rule rules[] = { { 1, 0, 0, EDGE, EDGE, 3 },
                                   { 2, 1, 1, EDGE - 2, EDGE - 2, 5 },
                                   { 9, 7, 0, 500, EDGE, 0 } };
-static const uint32_t waiver_ids[] = { 1, 2, 9 }, waiver_keys[] = { 0, 0, 0 };
+static uint32_t offices[HLQ_TABLE_PLACES], waiver_ids[HLQ_TABLE_PLACES], waiver_keys[HLQ_TABLE_PLACES];
+static size_t rows;
 static uint64_t refusal;
 
 static void call_key_at(void) { refusal = hlq_key_at(M, row, column, M).refusal; }
@@ -88,9 +89,19 @@ static void call_take_back(void) {
 }
 static void call_empty(void) { refusal = hlq_empty(); }
 static void call_findings(void) {
-    refusal = hlq_findings(M, S, keys, MOST, bits, MOST, n, rules, 3, waiver_ids, 3, waiver_keys, 3, found_ids, PIXELS,
-                           answer, PIXELS)
+    refusal = hlq_findings(M, S, keys, MOST, bits, MOST, n, 0, rules, 3, offices, HLQ_TABLE_PLACES, waiver_ids,
+                           HLQ_TABLE_PLACES, waiver_keys, HLQ_TABLE_PLACES, rows, found_ids, PIXELS, answer, PIXELS)
                   .refusal;
+}
+static void call_add_waiver(void) {
+    hlq_counted c = hlq_add_waiver(M, 0, offices, HLQ_TABLE_PLACES, waiver_ids, HLQ_TABLE_PLACES, waiver_keys,
+                                   HLQ_TABLE_PLACES, rows, 1, 0);
+    refusal = c.refusal, rows = c.count;
+}
+static void call_remove_waiver(void) {
+    hlq_counted c = hlq_remove_waiver(M, 0, offices, HLQ_TABLE_PLACES, waiver_ids, HLQ_TABLE_PLACES, waiver_keys,
+                                      HLQ_TABLE_PLACES, rows, 1, 0);
+    refusal = c.refusal, rows = c.count;
 }
 static void call_store(void) { refusal = hlq_store(M, S, keys, MOST, bits, MOST, n, file, sizeof file).refusal; }
 static void call_load(void) { refusal = hlq_load(file, HLQ_FILE_BYTES(n), keys, MOST, bits, MOST).refusal; }
@@ -111,7 +122,8 @@ static call calls[CALLS] = {
     { "exist_clipped", call_exist_clipped, 0 },   { "report_clipped", call_report_clipped, 0 },
     { "select_clipped", call_select_clipped, 0 }, { "area_clipped", call_area_clipped, 0 },
     { "paint", call_paint, 0 },         { "take_back", call_take_back, 0 }, { "empty", call_empty, 0 },
-    { "findings", call_findings, 0 },   { "store", call_store, 0 },       { "load", call_load, 0 },
+    { "add waiver", call_add_waiver, 0 }, { "findings", call_findings, 0 },
+    { "remove waiver", call_remove_waiver, 0 },   { "store", call_store, 0 },       { "load", call_load, 0 },
 };
 
 static _Alignas(64) uint8_t stack[STACK];

@@ -53,6 +53,10 @@ use Rattle.prowcurl.proofs.files.hlq_store as store
 use Rattle.prowcurl.proofs.files.hlq_store.Reads as store-reads
 use Rattle.prowcurl.proofs.files.hlq_load as load
 use Rattle.prowcurl.proofs.files.hlq_load.Reads as load-reads
+use Rattle.prowcurl.proofs.waivers.hlq_add_waiver as add-waiver
+use Rattle.prowcurl.proofs.waivers.hlq_add_waiver.Reads as add-waiver-reads
+use Rattle.prowcurl.proofs.waivers.hlq_remove_waiver as remove-waiver
+use Rattle.prowcurl.proofs.waivers.hlq_remove_waiver.Reads as remove-waiver-reads
 use Rattle.prowcurl.proofs.findings.hlq_findings as findings
 
 -- what a contract tells the caller of what was lent, the result, and the parameters at exit: `Learnt`, as Rattle reads it off the `ensures`
@@ -221,8 +225,17 @@ store-one = by-equations (λ x. two (x .kept) (x .kept′))
 pub load-one : OneAnswer load.ended load-reads.Learnt
 load-one = by-equations (λ x. three (x .kept) (x .kept′))
 
+-- offices
+pub add-waiver-one : OneAnswer add-waiver.ended add-waiver-reads.Learnt
+add-waiver-one =
+    by-equations (λ x. (one (x .kept .0) (x .kept′ .0), (one (x .kept .1) (x .kept′ .1), (one (x .kept .2) (x .kept′ .2), one (x .kept .3) (x .kept′ .3)))))
+
+pub remove-waiver-one : OneAnswer remove-waiver.ended remove-waiver-reads.Learnt
+remove-waiver-one =
+    by-equations (λ x. (one (x .kept .0) (x .kept′ .0), (one (x .kept .1) (x .kept′ .1), (one (x .kept .2) (x .kept′ .2), one (x .kept .3) (x .kept′ .3)))))
+
 -- findings: it is proved by hand, so its contract is read here, in the way that Rattle itself reads the others
-abbrev findings-read : (κs : Lfts 7) (lent : Args findings.signature κs) (r : Res findings.signature κs) (s : AtExit findings.ended κs)
+abbrev findings-read : (κs : Lfts 8) (lent : Args findings.signature κs) (r : Res findings.signature κs) (s : AtExit findings.ended κs)
     → Read (λ w. emp (w .𝓤)) no-know (λ w. findings.clauses (w .𝓤) (w .H) (w .𝓖 .A) (w .𝓜 .mem) (w .𝓡 .run) κs lent .ensures tt r s)
 findings-read κs lent r s = all-models _ (λ w. r-last _) (λ w. refl) (λ w. refl) (λ w. refl)
 

@@ -6,4 +6,5 @@ pub mod files;
 pub mod findings;
 pub mod lists;
 pub mod squares;
+pub mod waivers;
 pub mod windows;

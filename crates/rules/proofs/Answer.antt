@@ -142,8 +142,7 @@ module _ (m s : ℕ) (keys bits : List ℕ) (n office : ℕ) (rules : List Rule)
       let second = c .counts ∙ runs-own (progressOf r₂ l₁ l₁′) s₂ ∙ ap (λ r. runOwn (progressOf r l₁ l₁′)) (c .next) ∙ ap (λ p. runOwn (go p)) first in
       let third = c .writes ∙ runs-own (progressOf r₄ l₃ l₃′) s₄ ∙ ap (λ r. runOwn (progressOf r l₃ l₃′)) (c .last) ∙ ap (λ p. runOwn (go p)) second in
       let promised = three-runs m s keys bits n office own rules (ownPart start ids) (ownPart start waived) foundIds foundKeys (own-at-fits m s keys bits n office offices ids waived rows) in
-      let is = office-answers m s keys bits n office rules offices ids waived rows foundIds foundKeys in
-      (
+      let is = office-answers m s keys bits n office rules offices ids waived rows foundIds foundKeys in (
         c .answers ∙ ap (λ p. answerOf (p .state)) third ∙ promised .answered ∙ is .0,
         ap (λ p. p .ids) third ∙ promised .wroteIds ∙ is .1,
         ap (λ p. p .keys) third ∙ promised .wroteKeys ∙ is .2,

@@ -132,15 +132,14 @@ module _ (m s : ℕ) (keys bits : List ℕ) (n office : ℕ) (rules : List Rule)
 
   -- two calls that are refused with the same number give the same
   both-refused : (wrong wrong′ : Bool) (ws ws′ : List Finding) (c : ℕ) → refusal wrong ws ≡ c → refusal wrong′ ws′ ≡ c → (c ≡ 0 → ⊥) → (c ≡ 12 → ⊥) → Alike wrong ws wrong′ ws′
-  both-refused wrong wrong′ ws ws′ c e f not-zero not-full =
-      (
-        given-refused m s keys bits n office wrong rules ws foundIds foundKeys c e not-zero not-full
+  both-refused wrong wrong′ ws ws′ c e f not-zero not-full = (
+    given-refused m s keys bits n office wrong rules ws foundIds foundKeys c e not-zero not-full
         ∙ sym (given-refused m s keys bits n office wrong′ rules ws′ foundIds foundKeys c f not-zero not-full),
-        ids-stay m s keys bits n office wrong rules ws foundIds foundKeys (λ z. not-zero (sym e ∙ z))
+    ids-stay m s keys bits n office wrong rules ws foundIds foundKeys (λ z. not-zero (sym e ∙ z))
         ∙ sym (ids-stay m s keys bits n office wrong′ rules ws′ foundIds foundKeys (λ z. not-zero (sym f ∙ z))),
-        keys-stay m s keys bits n office wrong rules ws foundIds foundKeys (λ z. not-zero (sym e ∙ z))
+    keys-stay m s keys bits n office wrong rules ws foundIds foundKeys (λ z. not-zero (sym e ∙ z))
         ∙ sym (keys-stay m s keys bits n office wrong′ rules ws′ foundIds foundKeys (λ z. not-zero (sym f ∙ z))),
-      )
+  )
 
   -- 21, 1 and 4 do not look at the table
   early-alike : (wrong wrong′ : Bool) (ws ws′ : List Finding) → (beginRefusal office m s keys bits n ≡ 0 → ⊥) → Alike wrong ws wrong′ ws′
