@@ -113,7 +113,8 @@ typedef struct {
 } call;
 
 enum { KEY_AT, BLOCK_OF, BUILD, RASTER, STANDING, PART, EXIST, REPORT, SELECT, FILL_SUMMARY, AREA, EXIST_CLIPPED,
-       REPORT_CLIPPED, SELECT_CLIPPED, AREA_CLIPPED, PAINT, TAKE_BACK, EMPTY, FINDINGS, STORE, LOAD, CALLS };
+       REPORT_CLIPPED, SELECT_CLIPPED, AREA_CLIPPED, PAINT, TAKE_BACK, EMPTY, ADD_WAIVER, FINDINGS,
+       REMOVE_WAIVER, STORE, LOAD, CALLS };
 static call calls[CALLS] = {
     { "key_at", call_key_at, 0 },       { "block_of", call_block_of, 0 }, { "build", call_build, 0 },
     { "raster", call_raster, 0 },       { "standing", call_standing, 0 }, { "part", call_part, 0 },
@@ -173,7 +174,9 @@ static void every_call(uint8_t pattern) {
     ask_window(1, 1, EDGE - 2, EDGE - 2, pattern);
     ask_window(EDGE - 1, EDGE - 1, 1, 1, pattern);
     ask_window(EDGE / 2 - 1, 3, 2, EDGE - 7, pattern);
+    measure(ADD_WAIVER, pattern);
     measure(FINDINGS, pattern);
+    measure(REMOVE_WAIVER, pattern);
     measure(STORE, pattern);
     measure(LOAD, pattern);
     for (size_t i = 0; i < sizeof blocks / sizeof *blocks; i++) {
