@@ -15,3 +15,4 @@ pub mod BuildStep
 pub mod Theorem
 pub mod Cancels
 pub mod MapAHistory
+pub mod OfficeShares
