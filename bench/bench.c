@@ -227,7 +227,8 @@ static size_t waive_small(uint32_t key, uint32_t last, uint32_t *waived) {
 
 /* Waivers that are findings; or, where they are small, blocks below findings, some nested in others. */
 static void findings(size_t n, int small) {
-    enum { RULES = 1000, WAIVERS = 10000, MORE = 80 };
+    enum { RULES = 1000, WAIVERS = HLQ_OFFICE_ROWS, MORE = 80 };
+    static uint32_t offices[HLQ_TABLE_PLACES], table_ids[HLQ_TABLE_PLACES], table_keys[HLQ_TABLE_PLACES];
     static hlq_rule rules[RULES];
     static uint32_t ids[WAIVERS + MORE], waived[WAIVERS + MORE], found_ids[1 << 22], found_keys[1 << 22],
         other_ids[1 << 22], other_found[1 << 22];
@@ -243,16 +244,22 @@ static void findings(size_t n, int small) {
             if (more) last = waived[waivers - 1];
         }
     }
-    printf("\nfindings at m = %d: %d rules, %zu waivers%s\n", M, RULES, waivers, small ? ", small and nested" : "");
+    /* the rows of office 1; office 0 has as many */
+    if (waivers > WAIVERS) waivers = WAIVERS;
+    for (size_t i = 0; i < waivers; i++) offices[i] = 0, table_ids[i] = (uint32_t)i, table_keys[i] = 0;
+    for (size_t i = 0; i < waivers; i++)
+        offices[waivers + i] = 1, table_ids[waivers + i] = ids[i], table_keys[waivers + i] = waived[i];
+    printf("\nfindings at m = %d: %d rules, %zu waivers an office%s\n", M, RULES, waivers,
+           small ? ", small and nested" : "");
     COMPARE("findings", 5, 1,
-            sink += hlq_findings(M, S, keys, MOST, bits, MOST, n, rules, RULES, ids, waivers, waived, waivers,
-                                 found_ids, 1 << 22, found_keys, 1 << 22)
+            sink += hlq_findings(M, S, keys, MOST, bits, MOST, n, 1, rules, RULES, offices, HLQ_TABLE_PLACES, table_ids,
+                                 HLQ_TABLE_PLACES, table_keys, HLQ_TABLE_PLACES, 2 * waivers, found_ids, 1 << 22, found_keys, 1 << 22)
                         .live,
             sink +=
             (uint64_t)plain_is_list(M, S, keys, bits, n) +
             plain_findings(M, keys, bits, n, rules, RULES, ids, waived, waivers, other_ids, other_found, &hidden));
-    hlq_found found = hlq_findings(M, S, keys, MOST, bits, MOST, n, rules, RULES, ids, waivers, waived, waivers,
-                                   found_ids, 1 << 22, found_keys, 1 << 22);
+    hlq_found found = hlq_findings(M, S, keys, MOST, bits, MOST, n, 1, rules, RULES, offices, HLQ_TABLE_PLACES, table_ids,
+                                   HLQ_TABLE_PLACES, table_keys, HLQ_TABLE_PLACES, 2 * waivers, found_ids, 1 << 22, found_keys, 1 << 22);
     if (found.refusal || found.hidden != hidden || memcmp(found_ids, other_ids, 4 * found.live) != 0 ||
         memcmp(found_keys, other_found, 4 * found.live) != 0)
         printf("THE TWO DIFFER\n");

@@ -29,11 +29,13 @@ int main(void) {
     printf("\nslots there: %llu\n", (number)hlq_report(M, S, keys, ROOM, bits, ROOM, n, 0, 1, 2, 3).bits);
 
     static const hlq_rule rules[1] = { { 7, 0, 0, 4, 4, 2 } }; /* rule 7: no feature 2 in the whole map */
-    static const uint32_t waiver_ids[1] = { 7 }, waiver_keys[1] = { 2 * 5 + 4 }; /* but in block 24 it is accepted */
-    uint32_t ids[16];
-    hlq_found f = hlq_findings(M, S, keys, ROOM, bits, ROOM, n, rules, 1, waiver_ids, 1, waiver_keys, 1,
-                               ids, 16, answer, 16);
-    printf("%llu live, of rule %u in block %u%u; ", (number)f.live, ids[0], answer[0] / 5, answer[0] % 5);
+    uint32_t offices[HLQ_TABLE_PLACES], ids[HLQ_TABLE_PLACES], waived[HLQ_TABLE_PLACES], found_ids[16];
+    hlq_counted rows = hlq_add_waiver(M, 0, offices, HLQ_TABLE_PLACES, ids, HLQ_TABLE_PLACES, waived, HLQ_TABLE_PLACES, 0,
+                                      7, 2 * 5 + 4); /* but in block 24 office 0 accepts it */
+    hlq_found f = hlq_findings(M, S, keys, ROOM, bits, ROOM, n, 0, rules, 1, offices, HLQ_TABLE_PLACES,
+                               ids, HLQ_TABLE_PLACES, waived, HLQ_TABLE_PLACES, rows.count,
+                               found_ids, 16, answer, 16);
+    printf("%llu live, of rule %u in block %u%u; ", (number)f.live, found_ids[0], answer[0] / 5, answer[0] % 5);
     printf("%llu hidden\n", (number)f.hidden);
 
     uint32_t log_keys[LOG], log_values[LOG];

@@ -77,8 +77,15 @@ enum { RULES = sizeof rules / sizeof *rules, FINDINGS = 64 };
 
 static void print_findings(const uint32_t *waiver_ids, const uint32_t *waiver_keys, size_t waivers) {
     uint32_t ids[FINDINGS], blocks[FINDINGS];
-    hlq_found f = hlq_findings(M, CLASSES, keys, RECORDS, bits, RECORDS, n, rules, RULES,
-                               waiver_ids, waivers, waiver_keys, waivers, ids, FINDINGS, blocks, FINDINGS);
+    uint32_t offices[HLQ_TABLE_PLACES], rule_ids[HLQ_TABLE_PLACES], waived[HLQ_TABLE_PLACES];
+    size_t rows = 0;
+    for (size_t i = 0; i < waivers; i++)
+        rows = hlq_add_waiver(M, 0, offices, HLQ_TABLE_PLACES, rule_ids, HLQ_TABLE_PLACES, waived, HLQ_TABLE_PLACES,
+                              rows, waiver_ids[i], waiver_keys[i])
+                   .count;
+    hlq_found f = hlq_findings(M, CLASSES, keys, RECORDS, bits, RECORDS, n, 0, rules, RULES,
+                               offices, HLQ_TABLE_PLACES, rule_ids, HLQ_TABLE_PLACES, waived, HLQ_TABLE_PLACES, rows,
+                               ids, FINDINGS, blocks, FINDINGS);
     if (refused("findings", f.refusal)) return;
     printf("%llu live, %llu hidden\n", (unsigned long long)f.live, (unsigned long long)f.hidden);
     for (size_t i = 0; i < f.live; i++) printf("  rule %u: scrub in block %s\n", ids[i], name_of(blocks[i]));

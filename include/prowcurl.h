@@ -69,6 +69,10 @@ extern "C" {
 /* The most records that a list has at m: (4^(m+1) - 1) / 3. */
 #define HLQ_MOST_RECORDS(m) ((((size_t)4 << 2 * (m)) - 1) / 3)
 
+/* The places of each slice of a table of waivers, and the rows that an office may hold in it. */
+#define HLQ_TABLE_PLACES 512
+#define HLQ_OFFICE_ROWS 256
+
 /* The places of the summary of a map: 4^2 or 4^m blocks of s numbers. */
 #define HLQ_SUMMARY_PLACES(m, s) (((size_t)1 << 2 * ((m) < 2 ? (m) : 2)) * (s))
 
@@ -106,7 +110,7 @@ enum {
     HLQ_LOG_EMPTY = 11,    /* in_force is 0: there is no paint to take back */
     HLQ_ANSWER_ROOM = 12,  /* the answer exceeds its room; the places needed are returned */
     HLQ_RULES = 13,        /* rule ids not strictly ascending, or a bad window or feature */
-    HLQ_WAIVERS = 14,      /* waivers not strictly ascending, a bad key, or an id of no rule */
+    HLQ_WAIVERS = 14,      /* not a table of waivers, a bad key, or an id of no rule */
     HLQ_FILE_LENGTH = 15,  /* the file has under 11 bytes, or a wrong length */
     HLQ_FILE_MARK = 16,    /* the file does not begin with HLQ */
     HLQ_FILE_VERSION = 17, /* the file's version is neither 1 nor 2, or is 2 with s up to 16 */
@@ -138,7 +142,7 @@ static inline const char *hlq_refusal_text(uint64_t refusal) {
     case HLQ_LOG_EMPTY: return "no paint to take back";
     case HLQ_ANSWER_ROOM: return "no room for the answer";
     case HLQ_RULES: return "a bad rule, or rules not ascending";
-    case HLQ_WAIVERS: return "a bad waiver, or waivers not ascending";
+    case HLQ_WAIVERS: return "a bad waiver, or not a table of waivers";
     case HLQ_FILE_LENGTH: return "the file has a wrong length";
     case HLQ_FILE_MARK: return "not a file of a list";
     case HLQ_FILE_VERSION: return "a file of another version";
@@ -356,17 +360,41 @@ hlq_edited hlq_redo(uint32_t m, uint32_t s,
  * Refusals: none. */
 hlq_emptied hlq_empty(void);
 
-/* FINDINGS. The findings of a rule are the blocks that hlq_select gives for its window and feature;
- * a waiver is an id and a key. A finding is hidden exactly when every pixel of its block lies in
- * the block of a waiver of its rule: one larger, the same block, or several smaller ones. The live
+/* A TABLE OF WAIVERS has HLQ_TABLE_PLACES places in each of its slices offices, ids and waived, and
+ * `rows` rows in the first of them: an office, 0 or 1, has waived the findings of a rule (id) in a
+ * block (key). Rows ascend strictly by office, id and key; an office has at most HLQ_OFFICE_ROWS.
+ * An empty table has 0 rows, whatever its places hold.
+ *
+ * ADD WAIVER. The row is put at its place and the later ones move on; places past them stay. count
+ * is the number of rows afterwards; with HLQ_ANSWER_ROOM, when the office has HLQ_OFFICE_ROWS rows,
+ * it is one more than that. The keys of other rows are not looked at.
+ * Refusals: HLQ_OFFICE, HLQ_SETTINGS (m alone), HLQ_WAIVERS, HLQ_KEY, HLQ_ROW, HLQ_ANSWER_ROOM, in
+ * this order. */
+hlq_counted hlq_add_waiver(uint32_t m, uint32_t office, uint32_t *offices, size_t offices_len,
+                           uint32_t *ids, size_t ids_len, uint32_t *waived, size_t waived_len,
+                           size_t rows, uint32_t id, uint32_t key);
+
+/* REMOVE WAIVER. The row is taken out, the later ones move back, and the place given up becomes
+ * zero in all three slices. count is the number of rows afterwards.
+ * Refusals: HLQ_OFFICE, HLQ_SETTINGS (m alone), HLQ_WAIVERS, HLQ_KEY, HLQ_ROW, in this order. */
+hlq_counted hlq_remove_waiver(uint32_t m, uint32_t office, uint32_t *offices, size_t offices_len,
+                              uint32_t *ids, size_t ids_len, uint32_t *waived, size_t waived_len,
+                              size_t rows, uint32_t id, uint32_t key);
+
+/* FINDINGS. The findings of a rule are the blocks that hlq_select gives for its window and feature.
+ * A finding is hidden exactly when every pixel of its block lies in the block of a waiver that the
+ * asking office has for its rule: one larger, the same block, or several smaller ones. The live
  * findings stand in found_ids and found_keys, by id and then key, in places 0 to live - 1; all
- * other places stay. There are as many waivers as the shorter of their slices holds.
- * Refusals: HLQ_SETTINGS, HLQ_LIST, HLQ_RULES, HLQ_WAIVERS, HLQ_ANSWER_ROOM, in this order. */
+ * other places stay. HLQ_WAIVERS: not a table of waivers, a bad key in any row, or a row of the
+ * asking office with an id that no rule has.
+ * Refusals: HLQ_OFFICE, HLQ_SETTINGS, HLQ_LIST, HLQ_RULES, HLQ_WAIVERS, HLQ_ANSWER_ROOM, in this
+ * order. */
 hlq_found hlq_findings(uint32_t m, uint32_t s,
                        const uint32_t *keys, size_t keys_len, const uint32_t *bits, size_t bits_len,
-                       size_t n, const hlq_rule *rules, size_t rules_len,
-                       const uint32_t *waiver_ids, size_t waiver_ids_len,
-                       const uint32_t *waiver_keys, size_t waiver_keys_len,
+                       size_t n, uint32_t office, const hlq_rule *rules, size_t rules_len,
+                       const uint32_t *offices, size_t offices_len,
+                       const uint32_t *ids, size_t ids_len,
+                       const uint32_t *waived, size_t waived_len, size_t rows,
                        uint32_t *found_ids, size_t found_ids_len,
                        uint32_t *found_keys, size_t found_keys_len);
 

@@ -739,17 +739,87 @@ static int is_waived(uint32_t m, const uint8_t *marks, uint32_t key) {
     return 1;
 }
 
+/* A row of a table as a number of its own, so that rows are compared as a whole. */
+typedef struct {
+    uint32_t office, id, key;
+} table_row;
+
+static int by_row(const void *a, const void *b) {
+    const table_row *x = a, *y = b;
+    if (x->office != y->office) return x->office < y->office ? -1 : 1;
+    if (x->id != y->id) return x->id < y->id ? -1 : 1;
+    return (x->key > y->key) - (x->key < y->key);
+}
+
+/* The rows of a table, or 0 where it is none. */
+static int read_table(const uint32_t *offices, size_t offices_len, const uint32_t *ids, size_t ids_len,
+                      const uint32_t *waived, size_t waived_len, size_t rows, table_row *table) {
+    size_t held[2] = { 0, 0 };
+    if (offices_len != 512 || ids_len != 512 || waived_len != 512 || rows > 512) return 0;
+    for (size_t i = 0; i < rows; i++) {
+        table[i] = (table_row){ offices[i], ids[i], waived[i] };
+        if (offices[i] > 1) return 0;
+        held[offices[i]]++;
+        if (i > 0 && by_row(table + i - 1, table + i) >= 0) return 0;
+    }
+    return held[0] <= 256 && held[1] <= 256;
+}
+
+static hlq_counted change_table(int adding, uint32_t m, uint32_t office, uint32_t *offices, size_t offices_len,
+                                uint32_t *ids, size_t ids_len, uint32_t *waived, size_t waived_len, size_t rows,
+                                uint32_t id, uint32_t key) {
+    table_row table[513], own = { office, id, key };
+    size_t at = 0, held = 0;
+    if (office > 1) return (hlq_counted){ 21, 0 };
+    if (m > 10) return (hlq_counted){ 1, 0 };
+    if (!read_table(offices, offices_len, ids, ids_len, waived, waived_len, rows, table)) return (hlq_counted){ 14, 0 };
+    if (!ref_key_is_valid(m, key)) return (hlq_counted){ 8, 0 };
+    for (size_t i = 0; i < rows; i++) held += table[i].office == office;
+    while (at < rows && by_row(table + at, &own) != 0) at++;
+    if ((at < rows) == adding) return (hlq_counted){ 22, 0 };
+    if (adding && held == 256) return (hlq_counted){ 12, 257 };
+    if (adding) table[rows] = own; /* behind the others, and then in order */
+    else table[at] = (table_row){ 2, 0, 0 };
+    qsort(table, rows + (size_t)adding, sizeof *table, by_row);
+    size_t now = adding ? rows + 1 : rows - 1;
+    if (!adding) table[now] = (table_row){ 0, 0, 0 };
+    for (size_t i = 0; i < now + !adding; i++)
+        offices[i] = table[i].office, ids[i] = table[i].id, waived[i] = table[i].key;
+    return (hlq_counted){ 0, now };
+}
+
+hlq_counted ref_add_waiver(uint32_t m, uint32_t office, uint32_t *offices, size_t offices_len, uint32_t *ids,
+                           size_t ids_len, uint32_t *waived, size_t waived_len, size_t rows, uint32_t id,
+                           uint32_t key) {
+    return change_table(1, m, office, offices, offices_len, ids, ids_len, waived, waived_len, rows, id, key);
+}
+
+hlq_counted ref_remove_waiver(uint32_t m, uint32_t office, uint32_t *offices, size_t offices_len, uint32_t *ids,
+                              size_t ids_len, uint32_t *waived, size_t waived_len, size_t rows, uint32_t id,
+                              uint32_t key) {
+    return change_table(0, m, office, offices, offices_len, ids, ids_len, waived, waived_len, rows, id, key);
+}
+
 hlq_found ref_findings(uint32_t m, uint32_t s, const uint32_t *keys, size_t keys_len, const uint32_t *bits,
-                       size_t bits_len, size_t n, const hlq_rule *rules, size_t rules_len, const uint32_t *waiver_ids,
-                       size_t waiver_ids_len, const uint32_t *waiver_keys, size_t waiver_keys_len, uint32_t *found_ids,
+                       size_t bits_len, size_t n, uint32_t office, const hlq_rule *rules, size_t rules_len,
+                       const uint32_t *offices, size_t offices_len, const uint32_t *ids, size_t ids_len,
+                       const uint32_t *waived, size_t waived_len, size_t rows, uint32_t *found_ids,
                        size_t found_ids_len, uint32_t *found_keys, size_t found_keys_len) {
-    size_t waivers = shorter(waiver_ids_len, waiver_keys_len), room = shorter(found_ids_len, found_keys_len);
+    size_t waivers = 0, room = shorter(found_ids_len, found_keys_len);
+    uint32_t waiver_ids[512], waiver_keys[512];
+    table_row table[513];
+    if (office > 1) return (hlq_found){ 21, 0, 0 };
+    int good = read_table(offices, offices_len, ids, ids_len, waived, waived_len, rows, table);
+    for (size_t i = 0; good && i < rows; i++) {
+        if (m <= 10 && !ref_key_is_valid(m, table[i].key)) good = 0;
+        if (table[i].office == office) waiver_ids[waivers] = table[i].id, waiver_keys[waivers++] = table[i].key;
+    }
     if (settings_are_bad(m, s)) return (hlq_found){ 1, 0, 0 };
     uint8_t *raster = raster_of(m, s, keys, keys_len, bits, bits_len, n);
     if (!raster) return (hlq_found){ 4, 0, 0 };
     hlq_found answer = { 0, 0, 0 };
     if (rules_are_bad(m, s, rules, rules_len)) answer.refusal = 13;
-    else if (waivers_are_bad(m, rules, rules_len, waiver_ids, waiver_keys, waivers)) answer.refusal = 14;
+    else if (!good || waivers_are_bad(m, rules, rules_len, waiver_ids, waiver_keys, waivers)) answer.refusal = 14;
     else {
         uint32_t *found = new_selection(m);
         uint8_t *marks = malloc(pixels_of(m));

@@ -91,11 +91,16 @@ hlq_edited ref_redo(uint32_t m, uint32_t s,
                     uint32_t *summary, size_t summary_len,
                     uint32_t *log_keys, size_t log_keys_len,
                     uint32_t *log_values, size_t log_values_len, size_t used, size_t in_force);
+hlq_counted ref_add_waiver(uint32_t m, uint32_t office, uint32_t *offices, size_t offices_len, uint32_t *ids,
+                           size_t ids_len, uint32_t *waived, size_t waived_len, size_t rows, uint32_t id, uint32_t key);
+hlq_counted ref_remove_waiver(uint32_t m, uint32_t office, uint32_t *offices, size_t offices_len, uint32_t *ids,
+                              size_t ids_len, uint32_t *waived, size_t waived_len, size_t rows, uint32_t id,
+                              uint32_t key);
 hlq_found ref_findings(uint32_t m, uint32_t s,
                        const uint32_t *keys, size_t keys_len, const uint32_t *bits, size_t bits_len,
-                       size_t n, const hlq_rule *rules, size_t rules_len,
-                       const uint32_t *waiver_ids, size_t waiver_ids_len,
-                       const uint32_t *waiver_keys, size_t waiver_keys_len,
+                       size_t n, uint32_t office, const hlq_rule *rules, size_t rules_len,
+                       const uint32_t *offices, size_t offices_len, const uint32_t *ids, size_t ids_len,
+                       const uint32_t *waived, size_t waived_len, size_t rows,
                        uint32_t *found_ids, size_t found_ids_len,
                        uint32_t *found_keys, size_t found_keys_len);
 hlq_counted ref_store(uint32_t m, uint32_t s,

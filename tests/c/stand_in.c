@@ -10,6 +10,9 @@
 #define LOG log_keys, log_keys_len, log_values, log_values_len
 #define TAKE_COUNTS size_t used, size_t in_force
 #define COUNTS used, in_force
+#define TAKE_TABLE \
+    uint32_t *offices, size_t offices_len, uint32_t *ids, size_t ids_len, uint32_t *waived, size_t waived_len
+#define TABLE offices, offices_len, ids, ids_len, waived, waived_len
 #define TAKE_SUMMARY uint32_t *summary, size_t summary_len
 #define SUMMARY summary, summary_len
 #define TAKE_WINDOW uint32_t row, uint32_t column, uint32_t height, uint32_t width
@@ -105,12 +108,20 @@ hlq_edited hlq_redo(uint32_t m, uint32_t s, TAKE_LIST, size_t n, TAKE_SUMMARY, T
     return ref_redo(m, s, LIST, n, SUMMARY, LOG, COUNTS);
 }
 
-hlq_found hlq_findings(uint32_t m, uint32_t s, TAKE_CONST_LIST, size_t n, const hlq_rule *rules, size_t rules_len,
-                       const uint32_t *waiver_ids, size_t waiver_ids_len,
-                       const uint32_t *waiver_keys, size_t waiver_keys_len,
-                       uint32_t *found_ids, size_t found_ids_len, uint32_t *found_keys, size_t found_keys_len) {
-    return ref_findings(m, s, LIST, n, rules, rules_len, waiver_ids, waiver_ids_len, waiver_keys, waiver_keys_len,
-                        found_ids, found_ids_len, found_keys, found_keys_len);
+hlq_counted hlq_add_waiver(uint32_t m, uint32_t office, TAKE_TABLE, size_t rows, uint32_t id, uint32_t key) {
+    return ref_add_waiver(m, office, TABLE, rows, id, key);
+}
+
+hlq_counted hlq_remove_waiver(uint32_t m, uint32_t office, TAKE_TABLE, size_t rows, uint32_t id, uint32_t key) {
+    return ref_remove_waiver(m, office, TABLE, rows, id, key);
+}
+
+hlq_found hlq_findings(uint32_t m, uint32_t s, TAKE_CONST_LIST, size_t n, uint32_t office, const hlq_rule *rules,
+                       size_t rules_len, const uint32_t *offices, size_t offices_len, const uint32_t *ids,
+                       size_t ids_len, const uint32_t *waived, size_t waived_len, size_t rows, uint32_t *found_ids,
+                       size_t found_ids_len, uint32_t *found_keys, size_t found_keys_len) {
+    return ref_findings(m, s, LIST, n, office, rules, rules_len, TABLE, rows, found_ids, found_ids_len, found_keys,
+                        found_keys_len);
 }
 
 hlq_counted hlq_store(uint32_t m, uint32_t s, TAKE_CONST_LIST, size_t n, uint8_t *file, size_t file_len) {

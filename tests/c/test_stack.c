@@ -33,7 +33,8 @@ static uint32_t key, row, column, height, width, feature;
 static const hlq_rule rules[] = { { 1, 0, 0, EDGE, EDGE, 3 },
                                   { 2, 1, 1, EDGE - 2, EDGE - 2, 5 },
                                   { 9, 7, 0, 500, EDGE, 0 } };
-static const uint32_t waiver_ids[] = { 1, 2, 9 }, waiver_keys[] = { 0, 0, 0 };
+static uint32_t offices[HLQ_TABLE_PLACES], waiver_ids[HLQ_TABLE_PLACES], waiver_keys[HLQ_TABLE_PLACES];
+static size_t rows;
 static uint64_t refusal;
 
 static void call_key_at(void) { refusal = hlq_key_at(M, row, column, M).refusal; }
@@ -116,9 +117,19 @@ static void call_redo(void) {
 }
 static void call_empty(void) { refusal = hlq_empty().used; }
 static void call_findings(void) {
-    refusal = hlq_findings(M, S, keys, MOST, bits, MOST, n, rules, 3, waiver_ids, 3, waiver_keys, 3, found_ids, PIXELS,
-                           answer, PIXELS)
+    refusal = hlq_findings(M, S, keys, MOST, bits, MOST, n, 0, rules, 3, offices, HLQ_TABLE_PLACES, waiver_ids,
+                           HLQ_TABLE_PLACES, waiver_keys, HLQ_TABLE_PLACES, rows, found_ids, PIXELS, answer, PIXELS)
                   .refusal;
+}
+static void call_add_waiver(void) {
+    hlq_counted c = hlq_add_waiver(M, 0, offices, HLQ_TABLE_PLACES, waiver_ids, HLQ_TABLE_PLACES, waiver_keys,
+                                   HLQ_TABLE_PLACES, rows, 1, 0);
+    refusal = c.refusal, rows = c.count;
+}
+static void call_remove_waiver(void) {
+    hlq_counted c = hlq_remove_waiver(M, 0, offices, HLQ_TABLE_PLACES, waiver_ids, HLQ_TABLE_PLACES, waiver_keys,
+                                      HLQ_TABLE_PLACES, rows, 1, 0);
+    refusal = c.refusal, rows = c.count;
 }
 static void call_store(void) { refusal = hlq_store(M, S, keys, MOST, bits, MOST, n, file, sizeof file).refusal; }
 static void call_load(void) { refusal = hlq_load(file, HLQ_FILE_BYTES(n, S), keys, MOST, bits, MOST).refusal; }
@@ -147,8 +158,8 @@ typedef struct {
 } call;
 
 enum { KEY_AT, BLOCK_OF, BUILD, RASTER, STANDING, PART, EXIST, REPORT, SELECT, FILL_SUMMARY, AREA, EXIST_CLIPPED,
-       REPORT_CLIPPED, SELECT_CLIPPED, AREA_CLIPPED, BATCH, PAINT, TAKE_BACK, REDO, EMPTY, FINDINGS, STORE, LOAD,
-       WRITE_LEAVES, READ_LEAVES, WRITE, READ, COMBINE, CALLS };
+       REPORT_CLIPPED, SELECT_CLIPPED, AREA_CLIPPED, BATCH, PAINT, TAKE_BACK, REDO, EMPTY, ADD_WAIVER, FINDINGS,
+       REMOVE_WAIVER, STORE, LOAD, WRITE_LEAVES, READ_LEAVES, WRITE, READ, COMBINE, CALLS };
 static call calls[CALLS] = {
     { "key_at", call_key_at, 0 },       { "block_of", call_block_of, 0 }, { "build", call_build, 0 },
     { "raster", call_raster, 0 },       { "standing", call_standing, 0 }, { "part", call_part, 0 },
@@ -159,7 +170,8 @@ static call calls[CALLS] = {
     { "batch", call_batch, 0 },
     { "paint", call_paint, 0 },         { "take_back", call_take_back, 0 }, { "redo", call_redo, 0 },
     { "empty", call_empty, 0 },
-    { "findings", call_findings, 0 },   { "store", call_store, 0 },       { "load", call_load, 0 },
+    { "add_waiver", call_add_waiver, 0 }, { "findings", call_findings, 0 },
+    { "remove_waiver", call_remove_waiver, 0 },   { "store", call_store, 0 },       { "load", call_load, 0 },
     { "write_leaves", call_write_leaves, 0 }, { "read_leaves", call_read_leaves, 0 },
     { "write_bit_strings", call_write, 0 },       { "read_bit_strings", call_read, 0 },
     { "combine", call_combine, 0 },
@@ -220,7 +232,9 @@ static void every_call(uint8_t pattern) {
     ask_window(1, 1, EDGE - 2, EDGE - 2, pattern);
     ask_window(EDGE - 1, EDGE - 1, 1, 1, pattern);
     ask_window(EDGE / 2 - 1, 3, 2, EDGE - 7, pattern);
+    measure(ADD_WAIVER, pattern);
     measure(FINDINGS, pattern);
+    measure(REMOVE_WAIVER, pattern);
     measure(STORE, pattern);
     measure(LOAD, pattern);
     measure(COMBINE, pattern);

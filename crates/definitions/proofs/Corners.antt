@@ -20,11 +20,12 @@ use Rattle.definitions.specs.Rules.{findingsOf, allFindings, waiversOf, 
 use Rattle.definitions.specs.File.{bytesOf, numberAfter, numberOf, versionFor, bitBytes, bytesOfRecords, headOf, fileOf, numberAt, readRecords, recordsInFile, sameBytes, wrongMark, otherVersion, badAtVersion}
 use Rattle.definitions.specs.Calls.Build.{buildRefusal, build, buildKeys, buildBits}
 use Rattle.definitions.specs.Calls.Paint.{painted, gained, paintRefusal, paint, paintKeys, paintSummary}
-use Rattle.definitions.specs.Calls.Findings.{liveIn, hiddenIn, findingsRefusal, findings}
+use Rattle.definitions.specs.Calls.Findings.{liveIn, hiddenIn, refusalWith, foundWith, findings}
+use Rattle.definitions.specs.Offices.{rowsIn, tableOf, rowsOf, rowsAscend, officesKnown, isSoundTable, isTable, rowKeysValid}
 use Rattle.definitions.specs.Calls.Load.{loadRefusal}
 use Rattle.definitions.specs.declared.Rule.{Rule}
 use Rattle.definitions.specs.declared.Found.{Found}
-use Rattle.definitions.proofs.Vectors.{Row, row, Holds, key, slots, window, of-counted, of-edited, mapA, keysA, bitsA, unwritten}
+use Rattle.definitions.proofs.Vectors.{tableWith, Row, row, Holds, key, slots, window, of-counted, of-edited, mapA, keysA, bitsA, unwritten}
 use Rattle.definitions.proofs.AreaVectors.{counted, summaryA}
 
 -- a yes or no, as 1 or 0
@@ -117,9 +118,9 @@ table =
     (18 ∷ 18 ∷ 18 ∷ 18 ∷ 0 ∷ [])
     ∷ row (paintSummary 2 3 (keysA 0) (bitsA 0) 9 (unwritten 48) (unwritten 3) (unwritten 3) 0 0 (key (1 ∷ 1 ∷ [])) 0) (unwritten 48)
     -- findings: no rules and no waivers; rules without waivers; with 12 the places of the live ones and hidden 0
-    ∷ row (of-found (findings 2 3 (keysA 0) (bitsA 0) 9 [] [] [] [] [])) (0 ∷ 0 ∷ 0 ∷ [])
-    ∷ row (of-found (findings 2 3 (keysA 0) (bitsA 0) 9 (rule 7 ∷ []) [] [] (unwritten 2) (unwritten 2))) (0 ∷ 2 ∷ 0 ∷ [])
-    ∷ row (of-found (findings 2 3 (keysA 0) (bitsA 0) 9 (rule 7 ∷ rule 8 ∷ []) (7 ∷ []) (key (2 ∷ 4 ∷ []) ∷ []) (unwritten 2) (unwritten 9))) (12 ∷ 3 ∷ 0 ∷ [])
+    ∷ row (of-found (findings 2 3 (keysA 0) (bitsA 0) 9 0 [] (tableWith []) (tableWith []) (tableWith []) 0 [] [])) (0 ∷ 0 ∷ 0 ∷ [])
+    ∷ row (of-found (findings 2 3 (keysA 0) (bitsA 0) 9 0 (rule 7 ∷ []) (tableWith []) (tableWith []) (tableWith []) 0 (unwritten 2) (unwritten 2))) (0 ∷ 2 ∷ 0 ∷ [])
+    ∷ row (of-found (findings 2 3 (keysA 0) (bitsA 0) 9 0 (rule 7 ∷ rule 8 ∷ []) (tableWith []) (tableWith (7 ∷ [])) (tableWith (key (2 ∷ 4 ∷ []) ∷ [])) 1 (unwritten 2) (unwritten 9))) (12 ∷ 3 ∷ 0 ∷ [])
     -- files of eleven bytes: n = 0 is no list, version 257 is not 1, and n = 2^32 - 1 does not wrap
     ∷ gives (loadRefusal (head 0 1 0 1 (0 ∷ 0 ∷ 0 ∷ 0 ∷ [])) [] []) 4
     ∷ gives (loadRefusal (head 1 1 0 1 (0 ∷ 0 ∷ 0 ∷ 0 ∷ [])) [] []) 17
@@ -156,5 +157,6 @@ unfolding
     bytesOf numberAfter numberOf versionFor bitBytes bytesOfRecords headOf fileOf numberAt readRecords recordsInFile sameBytes wrongMark otherVersion badAtVersion
     buildRefusal build buildKeys buildBits
     painted gained paintRefusal paint paintKeys paintSummary
-    liveIn hiddenIn findingsRefusal findings loadRefusal
+    rowsIn tableOf rowsOf rowsAscend officesKnown isSoundTable isTable rowKeysValid
+    liveIn hiddenIn refusalWith foundWith tableWith loadRefusal
 claim = refl

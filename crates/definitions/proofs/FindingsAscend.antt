@@ -3,7 +3,7 @@
 use Prim.Native.Nat.{ℕ, _<_}
 use mathlib.Core.Path.{_≡_, refl, sym, ap, _∙_}
 use mathlib.Core.Logic.{⊎-elim}
-use mathlib.Core.Bool.{true, false, _&&_}
+use mathlib.Core.Bool.{Bool, true, false, _&&_}
 use mathlib.Core.List.{List, [], _∷_, map, List·Memᴰ, List·Memᴰ·not-nil, List·Memᴰ·append-cases, Memᴰ·of-map}
 use native.Mathlib.Omega.{arith}
 use lib.ListN.{length, getD}
@@ -12,9 +12,9 @@ use borrow.Author.Tests.{ltb-true, not-false}
 use Rattle.keys.proofs.Cases.{decide, and-left, and-right}
 use Rattle.definitions.specs.Picture.{Picture}
 use Rattle.definitions.specs.Read.{recordsOf, pictureOf}
-use Rattle.definitions.specs.Rules.{Finding, findingOf, windowOf, findingsOf, allFindings, waiversOf, isHidden, liveOf, allRules, idsAscend, badRules, findingsAscend}
+use Rattle.definitions.specs.Rules.{Finding, findingOf, windowOf, findingsOf, allFindings, isHidden, liveOf, allRules, idsAscend, badRules, findingsAscend}
 use Rattle.definitions.specs.Window.{selectIn}
-use Rattle.definitions.specs.Calls.Findings.{liveIn, findingsRefusal}
+use Rattle.definitions.specs.Calls.Findings.{liveIn, refusalWith}
 use Rattle.definitions.specs.declared.Rule.{Rule}
 use Rattle.definitions.proofs.AscendingKeys.{AscendingKeys, no-key, key, ascending-member}
 use Rattle.definitions.proofs.SelectAscends.{select-in-ascends}
@@ -101,27 +101,27 @@ good-ids : (m s : ℕ) (rules : List Rule) → badRules m s rules ≡ false → 
 unfolding badRules
 good-ids m s rules e = and-left (idsAscend rules) (allRules m s rules) (not-false (idsAscend rules && allRules m s rules) e)
 
-module _ (m s : ℕ) (keys bits : List ℕ) (n : ℕ) (rules : List Rule) (waiverIds waiverKeys foundIds foundKeys : List ℕ) where
-  accepted-ids : findingsRefusal m s keys bits n rules waiverIds waiverKeys foundIds foundKeys ≡ 0 → idsAscend rules ≡ true
-  unfolding findingsRefusal
-  accepted-ids done = let none = first-none _ refl done in good-ids m s rules (none .1 .1 .0)
+module _ (m s : ℕ) (keys bits : List ℕ) (n office : ℕ) (wrong : Bool) (rules : List Rule) (waivers : List Finding) (foundIds foundKeys : List ℕ) where
+  accepted-ids : refusalWith m s keys bits n office wrong rules waivers foundIds foundKeys ≡ 0 → idsAscend rules ≡ true
+  unfolding refusalWith
+  accepted-ids done = let none = first-none _ refl done in good-ids m s rules (none .1 .1 .1 .0)
 
-  live-in-ascend : idsAscend rules ≡ true → findingsAscend (liveIn m keys bits n rules waiverIds waiverKeys) ≡ true
+  live-in-ascend : idsAscend rules ≡ true → findingsAscend (liveIn m keys bits n rules waivers) ≡ true
   unfolding liveIn
   live-in-ascend e =
-      let p = pictureOf m (recordsOf keys bits n) in live-ascend m (waiversOf waiverIds waiverKeys) (allFindings m p rules) (findings-ascend m p rules e)
+      let p = pictureOf m (recordsOf keys bits n) in live-ascend m waivers (allFindings m p rules) (findings-ascend m p rules e)
 
   -- what an accepted call leaves in the answer slices ascends by id and then key
-  pub answered-ascend : findingsRefusal m s keys bits n rules waiverIds waiverKeys foundIds foundKeys ≡ 0
-      → findingsAscend (answered m s keys bits n rules waiverIds waiverKeys foundIds foundKeys) ≡ true
+  pub answered-ascend : refusalWith m s keys bits n office wrong rules waivers foundIds foundKeys ≡ 0
+      → findingsAscend (answered m s keys bits n office wrong rules waivers foundIds foundKeys) ≡ true
   answered-ascend done =
-      ap findingsAscend (answered-live m s keys bits n rules waiverIds waiverKeys foundIds foundKeys done) ∙ live-in-ascend (accepted-ids done)
+      ap findingsAscend (answered-live m s keys bits n office wrong rules waivers foundIds foundKeys done) ∙ live-in-ascend (accepted-ids done)
 
   -- so each finding stands there once: two places with the same finding are one
-  pub answered-once : findingsRefusal m s keys bits n rules waiverIds waiverKeys foundIds foundKeys ≡ 0
-      → (d : Finding) (i j : ℕ) → i < length (answered m s keys bits n rules waiverIds waiverKeys foundIds foundKeys)
-      → j < length (answered m s keys bits n rules waiverIds waiverKeys foundIds foundKeys)
-      → getD (answered m s keys bits n rules waiverIds waiverKeys foundIds foundKeys) i d
-      ≡ getD (answered m s keys bits n rules waiverIds waiverKeys foundIds foundKeys) j d
+  pub answered-once : refusalWith m s keys bits n office wrong rules waivers foundIds foundKeys ≡ 0
+      → (d : Finding) (i j : ℕ) → i < length (answered m s keys bits n office wrong rules waivers foundIds foundKeys)
+      → j < length (answered m s keys bits n office wrong rules waivers foundIds foundKeys)
+      → getD (answered m s keys bits n office wrong rules waivers foundIds foundKeys) i d
+      ≡ getD (answered m s keys bits n office wrong rules waivers foundIds foundKeys) j d
       → i ≡ j
   answered-once done d i j hi hj e = order-once d (ascend-order _ (answered-ascend done)) i j hi hj e

@@ -3,6 +3,7 @@
 use Prim.Native.Nat.{ℕ}
 use mathlib.Core.Path.{refl}
 use mathlib.Core.List.{List, [], _∷_}
+use lib.ListN.{length}
 use Rattle.keys.specs.Key.{validKey, digitsOf, digitsThenZeros, onlyZeros, levelOf, digitsBeforeZero, heightOf}
 use Rattle.keys.specs.Block.{rowOf, columnOf, sideOf, inBlock, pixelKey}
 use Rattle.definitions.specs.Picture.{everyPixel, oneFeature, featuresBelow}
@@ -15,12 +16,13 @@ use Rattle.definitions.specs.Edit.{put, paintIn, contentOf}
 use Rattle.definitions.specs.Log.{closed, entryOf, countRecord, lastRecord, lastKey, lastFeature, lastCount, beforeLast, lastContent, isContent, closes, lastIsEntry, dividesIn, isSound, noLog}
 use Rattle.definitions.specs.Rules.{findingsOf, allFindings, waiversOf, isWaivedAt, isHidden, liveOf, hiddenCount, isRule, allRules, idsAscend, badRules, findingsAscend, isRuleId, allWaivers, badWaivers}
 use Rattle.definitions.specs.Calls.Paint.{painted, gained, paintRefusal, paint, paintKeys, paintBits}
-use Rattle.definitions.specs.Calls.Findings.{liveIn, hiddenIn, findingsRefusal, findings, findingsKeys}
+use Rattle.definitions.specs.Calls.Findings.{liveIn, hiddenIn, refusalWith, foundWith, keysWith, findings, findingsKeys}
+use Rattle.definitions.specs.Offices.{rowsIn, tableOf, rowsOf, rowsAscend, officesKnown, isSoundTable, isTable, rowKeysValid}
 use Rattle.definitions.specs.declared.Rule.{Rule}
 use Rattle.definitions.specs.declared.Found.{Found}
 use Rattle.definitions.specs.Area.{countOf, pixelsWith, countsFrom, summaryBelow, summaryOf, sameNumbers, noSummary}
 use Rattle.definitions.proofs.AreaVectors.{summaryA}
-use Rattle.definitions.proofs.Vectors.{Row, row, Holds, key, of-edited, keysA, bitsA, unwritten}
+use Rattle.definitions.proofs.Vectors.{tableWith, Row, row, Holds, key, of-edited, keysA, bitsA, unwritten}
 
 -- scrub anywhere, by two rules
 abbrev rule : ℕ → Rule
@@ -31,7 +33,7 @@ rules = rule 7 ∷ rule 8 ∷ []
 
 -- the list before, and after block 24 is painted with scrub
 abbrev before : List ℕ → List ℕ → Found
-before ids waived = findings 2 3 (keysA 0) (bitsA 0) 9 rules ids waived (unwritten 6) (unwritten 6)
+before ids waived = findings 2 3 (keysA 0) (bitsA 0) 9 0 rules (tableWith []) (tableWith ids) (tableWith waived) (length ids) (unwritten 6) (unwritten 6)
 
 abbrev gap : ℕ
 gap = key (2 ∷ 4 ∷ [])
@@ -43,7 +45,7 @@ abbrev bitsAfter : List ℕ
 bitsAfter = 7 ∷ 1 ∷ 2 ∷ 4 ∷ 1 ∷ 0 ∷ 0 ∷ 0 ∷ 0 ∷ []
 
 abbrev after : List ℕ → List ℕ → Found
-after ids waived = findings 2 3 keysAfter bitsAfter 5 rules ids waived (unwritten 6) (unwritten 6)
+after ids waived = findings 2 3 keysAfter bitsAfter 5 0 rules (tableWith []) (tableWith ids) (tableWith waived) (length ids) (unwritten 6) (unwritten 6)
 
 -- the blocks 21, 22, 23, 24 and their parent 20
 abbrev four : List ℕ
@@ -62,7 +64,7 @@ table =
     ∷ row (paintBits 2 3 (keysA 0) (bitsA 0) 9 summaryA (unwritten 3) (unwritten 3) 0 0 gap 1) bitsAfter
     -- rule 7's finding is hidden, though no waiver has its key; rule 8's is given
     ∷ row (of-found (after (7 ∷ 7 ∷ 7 ∷ 7 ∷ []) four)) (0 ∷ 1 ∷ 1 ∷ [])
-    ∷ row (findingsKeys 2 3 keysAfter bitsAfter 5 rules (7 ∷ 7 ∷ 7 ∷ 7 ∷ []) four (unwritten 2) (unwritten 2)) (parent ∷ unwritten 1)
+    ∷ row (findingsKeys 2 3 keysAfter bitsAfter 5 0 rules (tableWith []) (tableWith (7 ∷ 7 ∷ 7 ∷ 7 ∷ [])) (tableWith four) 4 (unwritten 2) (unwritten 2)) (parent ∷ unwritten 1)
     -- three of the four do not hide it, and neither do three and the fourth of another rule
     ∷ row (of-found (after (7 ∷ 7 ∷ 7 ∷ []) (key (2 ∷ 1 ∷ []) ∷ key (2 ∷ 2 ∷ []) ∷ gap ∷ []))) (0 ∷ 2 ∷ 0 ∷ [])
     ∷ row (of-found (after (7 ∷ 7 ∷ 7 ∷ 8 ∷ []) four)) (0 ∷ 2 ∷ 0 ∷ [])
@@ -70,6 +72,8 @@ table =
     ∷ row (of-found (after (7 ∷ []) (parent ∷ []))) (0 ∷ 1 ∷ 1 ∷ [])
     ∷ row (of-found (after (7 ∷ []) (0 ∷ []))) (0 ∷ 1 ∷ 1 ∷ [])
     ∷ row (of-found (after (7 ∷ 7 ∷ 7 ∷ []) (0 ∷ parent ∷ gap ∷ []))) (0 ∷ 1 ∷ 1 ∷ [])
+    -- the same four of the other office hide nothing
+    ∷ row (of-found (findings 2 3 keysAfter bitsAfter 5 1 rules (tableWith []) (tableWith (7 ∷ 7 ∷ 7 ∷ 7 ∷ [])) (tableWith four) 4 (unwritten 6) (unwritten 6))) (0 ∷ 2 ∷ 0 ∷ [])
     -- before the paint a larger one hides all three
     ∷ row (of-found (before (7 ∷ []) (parent ∷ []))) (0 ∷ 3 ∷ 3 ∷ [])
     ∷ []
@@ -90,5 +94,6 @@ unfolding
     closed entryOf countRecord lastRecord lastKey lastFeature lastCount beforeLast lastContent isContent closes lastIsEntry dividesIn isSound noLog
     findingsOf allFindings waiversOf isWaivedAt isHidden liveOf hiddenCount isRule allRules idsAscend badRules findingsAscend isRuleId allWaivers badWaivers
     painted gained paintRefusal paint paintKeys paintBits
-    liveIn hiddenIn findingsRefusal findings findingsKeys
+    rowsIn tableOf rowsOf rowsAscend officesKnown isSoundTable isTable rowKeysValid
+    liveIn hiddenIn refusalWith foundWith keysWith tableWith
 claim = refl

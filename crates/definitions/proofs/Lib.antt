@@ -8,6 +8,7 @@ mod FourWaivers
 mod ClassVectors
 mod RedoVectors
 mod CombineVectors
+mod OfficeVectors
 pub mod Within
 pub mod Pixels
 pub mod Features

@@ -3,6 +3,7 @@
 use Prim.Native.Nat.{ℕ, _+_}
 use mathlib.Core.Path.{_≡_, refl, ap, ap₂, _∙_}
 use mathlib.Core.Logic.{_↔_}
+use mathlib.Core.Bool.{Bool}
 use mathlib.Core.List.{List, [], _∷_, map, List·Memᴰ, List·Memᴰ·head, List·Memᴰ·tail, Memᴰ·append-left, Memᴰ·append-right}
 use lib.ListN.{length, take, length-map}
 use lib.Seq.{take-at}
@@ -10,7 +11,7 @@ use Rattle.definitions.specs.Picture.{Picture}
 use Rattle.definitions.specs.Read.{recordsOf, pictureOf}
 use Rattle.definitions.specs.Buffer.{over}
 use Rattle.definitions.specs.Rules.{Finding, findingsOf, allFindings, waiversOf, liveOf}
-use Rattle.definitions.specs.Calls.Findings.{liveIn, hiddenIn, findingsRefusal, findings, findingsIds, findingsKeys}
+use Rattle.definitions.specs.Calls.Findings.{liveIn, hiddenIn, refusalWith, foundWith, idsWith, keysWith}
 use Rattle.definitions.specs.declared.Rule.{Rule}
 use Rattle.definitions.proofs.First.{accepted-done}
 use Rattle.definitions.proofs.Hidden.{WaivedBy, EveryPixelOf, LeftOver}
@@ -57,19 +58,19 @@ found-own (x ∷ xs) = ap (λ rest. x ∷ rest) (found-own xs)
 take-over : (f : Finding → ℕ) (xs : List Finding) (slice : List ℕ) → take (length xs) (over (map f xs) slice) ≡ map f xs
 take-over f xs slice = take-at (map f xs) _ (length xs) (length-map xs f)
 
-module _ (m s : ℕ) (keys bits : List ℕ) (n : ℕ) (rules : List Rule) (waiverIds waiverKeys foundIds foundKeys : List ℕ) where
+module _ (m s : ℕ) (keys bits : List ℕ) (n office : ℕ) (wrong : Bool) (rules : List Rule) (waivers : List Finding) (foundIds foundKeys : List ℕ) where
   -- what the call leaves in the first places of the two answer slices, as many as it says
   abbrev pub answered : List Finding
   answered =
       waiversOf
-      (take (findings m s keys bits n rules waiverIds waiverKeys foundIds foundKeys .live) (findingsIds m s keys bits n rules waiverIds waiverKeys foundIds foundKeys))
-      (take (findings m s keys bits n rules waiverIds waiverKeys foundIds foundKeys .live) (findingsKeys m s keys bits n rules waiverIds waiverKeys foundIds foundKeys))
+      (take (foundWith m s keys bits n office wrong rules waivers foundIds foundKeys .live) (idsWith m s keys bits n office wrong rules waivers foundIds foundKeys))
+      (take (foundWith m s keys bits n office wrong rules waivers foundIds foundKeys .live) (keysWith m s keys bits n office wrong rules waivers foundIds foundKeys))
 
   -- an accepted call leaves there the live findings
-  pub answered-live : findingsRefusal m s keys bits n rules waiverIds waiverKeys foundIds foundKeys ≡ 0 → answered ≡ liveIn m keys bits n rules waiverIds waiverKeys
-  unfolding findings findingsIds findingsKeys
+  pub answered-live : refusalWith m s keys bits n office wrong rules waivers foundIds foundKeys ≡ 0 → answered ≡ liveIn m keys bits n rules waivers
+  unfolding foundWith idsWith keysWith
   answered-live done =
-      let xs = liveIn m keys bits n rules waiverIds waiverKeys in
+      let xs = liveIn m keys bits n rules waivers in
       let count = accepted-done (length xs) _ done in
       ap₂ waiversOf
       (ap₂ take count (accepted-done (over (map (λ x. x .id) xs) foundIds) foundIds done) ∙ take-over (λ x. x .id) xs foundIds)
@@ -77,10 +78,10 @@ module _ (m s : ℕ) (keys bits : List ℕ) (n : ℕ) (rules : List Rule) (waive
       ∙ found-own xs
 
   -- and says how many findings there are: the live and the hidden ones together are all
-  pub counts-all : findingsRefusal m s keys bits n rules waiverIds waiverKeys foundIds foundKeys ≡ 0
-      → findings m s keys bits n rules waiverIds waiverKeys foundIds foundKeys .live + findings m s keys bits n rules waiverIds waiverKeys foundIds foundKeys .hidden
+  pub counts-all : refusalWith m s keys bits n office wrong rules waivers foundIds foundKeys ≡ 0
+      → foundWith m s keys bits n office wrong rules waivers foundIds foundKeys .live + foundWith m s keys bits n office wrong rules waivers foundIds foundKeys .hidden
       ≡ length (allFindings m (pictureOf m (recordsOf keys bits n)) rules)
-  unfolding findings liveIn hiddenIn
+  unfolding foundWith liveIn hiddenIn
   counts-all done =
-      ap₂ (λ a b. a + b) (accepted-done (length (liveIn m keys bits n rules waiverIds waiverKeys)) _ done) (accepted-done (hiddenIn m keys bits n rules waiverIds waiverKeys) 0 done)
-      ∙ live-and-hidden m (waiversOf waiverIds waiverKeys) (allFindings m (pictureOf m (recordsOf keys bits n)) rules)
+      ap₂ (λ a b. a + b) (accepted-done (length (liveIn m keys bits n rules waivers)) _ done) (accepted-done (hiddenIn m keys bits n rules waivers) 0 done)
+      ∙ live-and-hidden m waivers (allFindings m (pictureOf m (recordsOf keys bits n)) rules)

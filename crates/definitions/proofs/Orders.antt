@@ -4,6 +4,7 @@ use Prim.Native.Nat.{ℕ}
 use mathlib.Core.Path.{refl}
 use mathlib.Core.List.{List, [], _∷_}
 use lib.IntN.{negsuc}
+use lib.ListN.{length}
 use Rattle.keys.specs.Key.{validKey, digitsOf, digitsThenZeros, onlyZeros, levelOf, digitsBeforeZero, heightOf}
 use Rattle.keys.specs.Block.{rowOf, columnOf, sideOf, inBlock, inInterval, pixelKey}
 use Rattle.definitions.specs.Picture.{everyPixel, oneFeature, featuresBelow}
@@ -30,14 +31,15 @@ use Rattle.definitions.specs.Calls.Batch.{refusalTo, valueTo, batchRefus
 use Rattle.definitions.specs.Calls.Paint.{painted, gained, paintRefusal}
 use Rattle.definitions.specs.Calls.TakeBack.{restored, takeBackRefusal}
 use Rattle.definitions.specs.Calls.Redo.{redone, redoRefusal}
-use Rattle.definitions.specs.Calls.Findings.{liveIn, hiddenIn, findingsRefusal, findings, findingsIds, findingsKeys}
+use Rattle.definitions.specs.Calls.Findings.{liveIn, hiddenIn, refusalWith, foundWith, idsWith, keysWith, findingsRefusal, findings, findingsIds, findingsKeys}
+use Rattle.definitions.specs.Offices.{rowsIn, tableOf, rowsOf, rowsAscend, officesKnown, isSoundTable, isTable, rowKeysValid}
 use Rattle.definitions.specs.Calls.Store.{stored, storeRefusal, store, storeFile}
 use Rattle.definitions.specs.Calls.Load.{loadRefusal, load, loadKeys, loadBits}
 use Rattle.definitions.specs.declared.Rule.{Rule}
 use Rattle.definitions.specs.declared.Question.{Question}
 use Rattle.definitions.specs.declared.Stands.{Stands}
 use Rattle.definitions.specs.declared.Found.{Found}
-use Rattle.definitions.proofs.Vectors.{Row, row, Holds, key, window, of-counted, keysA, bitsA, unwritten}
+use Rattle.definitions.proofs.Vectors.{tableWith, Row, row, Holds, key, window, of-counted, keysA, bitsA, unwritten}
 
 -- a map of side 2 with two features, and its list of five records
 abbrev pixels : List ℕ
@@ -207,16 +209,17 @@ table =
     ∷ gives (redoRefusal 1 2 keys bits 5 summary logKeys logValues 0 0) 20
     ∷ gives (redoRefusal 1 2 keys bits 5 summary logKeys logValues 3 3) 20
     ∷ gives (redoRefusal 1 2 (0 ∷ []) (1 ∷ []) 1 summaryOfOne (4 ∷ 4 ∷ 4 ∷ []) (2 ∷ 1 ∷ 1 ∷ []) 3 0) 9
-    -- findings: 1, 4, 13, 14, 12
-    ∷ gives (findingsRefusal 1 0 keys bits 4 [] [] [] [] []) 1
-    ∷ gives (findingsRefusal 1 2 keys bits 4 (rule 7 0 0 ∷ []) [] [] [] []) 4
-    ∷ gives (findingsRefusal 1 2 keys bits 5 (rule 7 0 0 ∷ []) (8 ∷ []) (0 ∷ []) [] []) 13
-    ∷ gives (findingsRefusal 1 2 keys bits 5 (rule 7 1 2 ∷ []) [] [] [] []) 13
-    ∷ gives (findingsRefusal 1 2 keys bits 5 (rule 7 1 0 ∷ rule 7 1 1 ∷ []) [] [] [] []) 13
-    ∷ gives (findingsRefusal 1 2 keys bits 5 (rule 7 1 0 ∷ []) (8 ∷ []) (0 ∷ []) [] []) 14
-    ∷ gives (findingsRefusal 1 2 keys bits 5 (rule 7 1 0 ∷ []) (7 ∷ []) (5 ∷ []) [] []) 14
-    ∷ gives (findingsRefusal 1 2 keys bits 5 (rule 7 1 0 ∷ []) (7 ∷ 7 ∷ []) (1 ∷ 1 ∷ []) [] []) 14
-    ∷ gives (findingsRefusal 1 2 keys bits 5 (rule 7 1 0 ∷ []) (7 ∷ []) (1 ∷ []) [] (unwritten 9)) 12
+    -- findings: 21, 1, 4, 13, 14, 12
+    ∷ gives (findingsRefusal 1 0 keys bits 4 2 [] [] [] [] 0 [] []) 21
+    ∷ gives (findingsRefusal 1 0 keys bits 4 0 [] [] [] [] 0 [] []) 1
+    ∷ gives (findingsRefusal 1 2 keys bits 4 0 (rule 7 0 0 ∷ []) (tableWith []) (tableWith []) (tableWith []) 0 [] []) 4
+    ∷ gives (asked (rule 7 0 0 ∷ []) (8 ∷ []) (0 ∷ []) [] []) 13
+    ∷ gives (asked (rule 7 1 2 ∷ []) [] [] [] []) 13
+    ∷ gives (asked (rule 7 1 0 ∷ rule 7 1 1 ∷ []) [] [] [] []) 13
+    ∷ gives (asked (rule 7 1 0 ∷ []) (8 ∷ []) (0 ∷ []) [] []) 14
+    ∷ gives (asked (rule 7 1 0 ∷ []) (7 ∷ []) (5 ∷ []) [] []) 14
+    ∷ gives (asked (rule 7 1 0 ∷ []) (7 ∷ 7 ∷ []) (1 ∷ 1 ∷ []) [] []) 14
+    ∷ gives (asked (rule 7 1 0 ∷ []) (7 ∷ []) (1 ∷ []) [] (unwritten 9)) 12
     -- store: 1, 4, 12
     ∷ gives (storeRefusal 1 0 keys bits 4 []) 1
     ∷ gives (storeRefusal 1 2 keys bits 4 []) 4
@@ -246,12 +249,17 @@ table =
     ∷ row (part 2 3 (keysA 1) (bitsA 1) 9 (key (1 ∷ 1 ∷ []))) (key (1 ∷ 0 ∷ []) ∷ [])
     ∷ row (part 2 3 (keysA 1) (bitsA 1) 9 (key (1 ∷ 0 ∷ 0 ∷ []))) []
     -- two rules find 21, 22, 23 and 24, 30; the waivers hide 22 of the first and 24 of the second and nothing else
-    ∷ row (of-found (findings 2 3 (keysA 0) (bitsA 0) 9 rules waiverIds waiverKeys (unwritten 4) (unwritten 3))) (0 ∷ 3 ∷ 2 ∷ [])
-    ∷ row (findingsIds 2 3 (keysA 0) (bitsA 0) 9 rules waiverIds waiverKeys (unwritten 4) (unwritten 3)) (3 ∷ 3 ∷ 8 ∷ 77 ∷ [])
-    ∷ row (findingsKeys 2 3 (keysA 0) (bitsA 0) 9 rules waiverIds waiverKeys (unwritten 4) (unwritten 3))
+    ∷ row (of-found (findings 2 3 (keysA 0) (bitsA 0) 9 0 rules (tableWith []) (tableWith waiverIds) (tableWith waiverKeys) 3 (unwritten 4) (unwritten 3))) (0 ∷ 3 ∷ 2 ∷ [])
+    ∷ row (findingsIds 2 3 (keysA 0) (bitsA 0) 9 0 rules (tableWith []) (tableWith waiverIds) (tableWith waiverKeys) 3 (unwritten 4) (unwritten 3)) (3 ∷ 3 ∷ 8 ∷ 77 ∷ [])
+    ∷ row (findingsKeys 2 3 (keysA 0) (bitsA 0) 9 0 rules (tableWith []) (tableWith waiverIds) (tableWith waiverKeys) 3 (unwritten 4) (unwritten 3))
     (key (2 ∷ 1 ∷ []) ∷ key (2 ∷ 3 ∷ []) ∷ key (3 ∷ 0 ∷ []) ∷ [])
     ∷ []
   where
+    -- the refusal of a call of office 0 with these waivers in the table
+    asked : List Rule → List ℕ → List ℕ → List ℕ → List ℕ → ℕ
+    asked rules ids waived foundIds foundKeys =
+        findingsRefusal 1 2 keys bits 5 0 rules (tableWith []) (tableWith ids) (tableWith waived) (length ids) foundIds foundKeys
+
     of-stands : Stands → List ℕ
     of-stands r = r .refusal ∷ r .kind ∷ r .place ∷ r .records ∷ r .leaf ∷ r .level ∷ []
 
@@ -288,6 +296,7 @@ unfolding
     buildRefusal rasterRefusal rasterPixels standingRefusal standing part partSpan existRefusal reportRefusal selected selectRefusal select
     exist report notBefore overlapEnd overlapLength overlapWindow refusalTo valueTo batchRefusal batch batchRefusals batchValues
     painted gained paintRefusal restored takeBackRefusal redone redoRefusal
-    liveIn hiddenIn findingsRefusal findings findingsIds findingsKeys
+    rowsIn tableOf rowsOf rowsAscend officesKnown isSoundTable isTable rowKeysValid
+    liveIn hiddenIn refusalWith foundWith idsWith keysWith tableWith
     stored storeRefusal store storeFile loadRefusal load loadKeys loadBits
 claim = refl

@@ -49,13 +49,21 @@ shares-few (w ∷ t) =
     let ih = shares-few t in
     by-office (w .office) (λ e. let z = more-zero w t e in omega arith) (λ e. let z = more-one w t e in omega arith) (λ h. let z = more-none w t h in omega arith)
 
+-- the first row's office, and the others
+pub known-first : (w : Waiver) (t : List Waiver) → officesKnown (w ∷ t) ≡ true → w .office ≤ 1
+unfolding officesKnown
+known-first w t e = ltb-false 1 (w .office) (not-true (badOffice (w .office)) (and-left (not (badOffice (w .office))) (officesKnown t) e))
+
+pub known-rest : (w : Waiver) (t : List Waiver) → officesKnown (w ∷ t) ≡ true → officesKnown t ≡ true
+unfolding officesKnown
+known-rest w t e = and-right (not (badOffice (w .office))) (officesKnown t) e
+
 -- the offices are known exactly where the shares together are all rows
 pub known-all : (t : List Waiver) → officesKnown t ≡ true → length (rowsOf 0 t) + length (rowsOf 1 t) ≡ length t
-unfolding officesKnown
 known-all [] e = none-yet
 known-all (w ∷ t) e =
-    let ih = known-all t (and-right (not (badOffice (w .office))) (officesKnown t) e) in
-    let low = ltb-false 1 (w .office) (not-true (badOffice (w .office)) (and-left (not (badOffice (w .office))) (officesKnown t) e)) in
+    let ih = known-all t (known-rest w t e) in
+    let low = known-first w t e in
     by-office (w .office) (λ f. let z = more-zero w t f in omega arith) (λ f. let z = more-one w t f in omega arith) (λ h. absurd (omega arith))
 
 pub all-known : (t : List Waiver) → length (rowsOf 0 t) + length (rowsOf 1 t) ≡ length t → officesKnown t ≡ true

@@ -1,9 +1,9 @@
 -- The vocabulary of the tables of vectors: a row, keys by their digits, bitstrings by their slots, and Map A of document 01 as a raster and as a
 -- list in two slices. Assumes nothing.
-use Prim.Native.Nat.{ℕ, _+_, _*_}
+use Prim.Native.Nat.{ℕ, _+_, _-_, _*_}
 use mathlib.Core.Path.{_≡_}
-use mathlib.Core.List.{List, [], _∷_, map}
-use lib.ListN.{replicate}
+use mathlib.Core.List.{List, [], _∷_, _++_, map}
+use lib.ListN.{length, replicate}
 use Rattle.definitions.specs.List.{Record}
 use Rattle.definitions.specs.declared.Window.{Window}
 use Rattle.definitions.specs.declared.Exists.{Exists}
@@ -50,6 +50,10 @@ of-counted r = r .refusal ∷ r .count ∷ []
 
 abbrev pub of-edited : Edited → List ℕ
 of-edited r = r .refusal ∷ r .n ∷ r .used ∷ r .«in_force» ∷ []
+
+-- a slice of a table: these numbers in its first places, zeros in the others
+unfoldable pub tableWith : List ℕ → List ℕ
+tableWith numbers = numbers ++ replicate (512 - length numbers) 0
 
 -- m = 2, s = 3, rows 0011, 0012, 2200, 2200
 abbrev pub mapA : List ℕ

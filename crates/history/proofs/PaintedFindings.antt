@@ -3,12 +3,14 @@
 use Prim.Native.Nat.{ℕ}
 use mathlib.Core.Path.{_≡_, ap, _∙_}
 use mathlib.Core.Logic.{_↔_}
+use mathlib.Core.Bool.{not, _||_}
 use mathlib.Core.List.{List, List·Memᴰ}
 use Rattle.definitions.specs.Picture.{Picture}
 use Rattle.definitions.specs.List.{Record}
 use Rattle.definitions.specs.Read.{recordsOf, pictureOf}
 use Rattle.definitions.specs.Edit.{paintIn}
-use Rattle.definitions.specs.Rules.{Finding, allFindings, waiversOf, liveOf}
+use Rattle.definitions.specs.Rules.{Finding, allFindings, liveOf}
+use Rattle.definitions.specs.Offices.{badTable, tableOf, rowsOf, rowKeysValid}
 use Rattle.definitions.specs.Calls.Paint.{painted}
 use Rattle.definitions.specs.Calls.Findings.{liveIn, findingsRefusal}
 use Rattle.definitions.specs.declared.Rule.{Rule}
@@ -43,23 +45,24 @@ module _ (m s : ℕ) (b : Buffers) (κ f : ℕ) (done : answer m s b (painting �
       ap (λ l. allFindings m (pictureOf m l) rules) records-after
       ∙ findings-agree m (pictureOf m (listAfter m b κ f)) (paintIn m κ f (shows m b)) rules painted-back
 
--- the same two slices of waivers are lent to both calls; the answer slices may be any
-module _ (m s : ℕ) (rules : List Rule) (waiverIds waiverKeys : List ℕ) where
+-- the same office asks with the same rules and the same table; the answer slices may be any
+module _ (m s office : ℕ) (rules : List Rule) (offices tableIds waived : List ℕ) (rows : ℕ) where
+  -- the office's own rows
+  abbrev waivers : List Finding
+  waivers = rowsOf office (tableOf offices tableIds waived rows)
+
   -- the call of findings is accepted on the list in the buffers
   abbrev pub Accepted : Buffers → List ℕ → List ℕ → Type 0
-  Accepted b ids keys = findingsRefusal m s (b .keys) (b .bits) (b .n) rules waiverIds waiverKeys ids keys ≡ 0
+  Accepted b ids keys = findingsRefusal m s (b .keys) (b .bits) (b .n) office rules offices tableIds waived rows ids keys ≡ 0
 
   -- the findings that it leaves in the answer slices
   abbrev pub given : Buffers → List ℕ → List ℕ → List Finding
-  given b ids keys = answered m s (b .keys) (b .bits) (b .n) rules waiverIds waiverKeys ids keys
-
-  abbrev waivers : List Finding
-  waivers = waiversOf waiverIds waiverKeys
+  given b ids keys = answered m s (b .keys) (b .bits) (b .n) office (badTable offices tableIds waived rows || not (rowKeysValid m (tableOf offices tableIds waived rows))) rules waivers ids keys
 
   -- they are those of the picture that the waivers do not hide
   given-live : (b : Buffers) (ids keys : List ℕ) → Accepted b ids keys → given b ids keys ≡ liveOf m waivers (allFindings m (shows m b) rules)
   unfolding liveIn
-  given-live b ids keys done = answered-live m s (b .keys) (b .bits) (b .n) rules waiverIds waiverKeys ids keys done
+  given-live b ids keys done = answered-live m s (b .keys) (b .bits) (b .n) office (badTable offices tableIds waived rows || not (rowKeysValid m (tableOf offices tableIds waived rows))) rules waivers ids keys done
 
   module _ (b : Buffers) (κ f : ℕ) (done : answer m s b (painting κ f) ≡ 0) (ids′ keys′ : List ℕ) (done′ : Accepted (after m s b (painting κ f)) ids′ keys′) where
     -- after an accepted paint those of the painted picture

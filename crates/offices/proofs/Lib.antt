@@ -5,3 +5,4 @@ pub mod Tests
 pub mod Checked
 pub mod Decided
 pub mod Answers
+pub mod OwnRows

@@ -65,6 +65,10 @@ use Rattle.prowcurl.proofs.strings.hlq_write_bit_strings as write-bit-s
 use Rattle.prowcurl.proofs.strings.hlq_write_bit_strings.Reads as write-bit-strings-reads
 use Rattle.prowcurl.proofs.strings.hlq_read_bit_strings as read-bit-strings
 use Rattle.prowcurl.proofs.strings.hlq_read_bit_strings.Reads as read-bit-strings-reads
+use Rattle.prowcurl.proofs.waivers.hlq_add_waiver as add-waiver
+use Rattle.prowcurl.proofs.waivers.hlq_add_waiver.Reads as add-waiver-reads
+use Rattle.prowcurl.proofs.waivers.hlq_remove_waiver as remove-waiver
+use Rattle.prowcurl.proofs.waivers.hlq_remove_waiver.Reads as remove-waiver-reads
 use Rattle.prowcurl.proofs.findings.hlq_findings as findings
 use Rattle.prowcurl.proofs.questions.hlq_batch as batch
 
@@ -267,8 +271,17 @@ write-bit-strings-one = by-equations (λ x. three (x .kept) (x .kept′))
 pub read-bit-strings-one : OneAnswer read-bit-strings.ended read-bit-strings-reads.Learnt
 read-bit-strings-one = by-equations (λ x. three (x .kept) (x .kept′))
 
+-- offices
+pub add-waiver-one : OneAnswer add-waiver.ended add-waiver-reads.Learnt
+add-waiver-one =
+    by-equations (λ x. (one (x .kept .0) (x .kept′ .0), (one (x .kept .1) (x .kept′ .1), (one (x .kept .2) (x .kept′ .2), one (x .kept .3) (x .kept′ .3)))))
+
+pub remove-waiver-one : OneAnswer remove-waiver.ended remove-waiver-reads.Learnt
+remove-waiver-one =
+    by-equations (λ x. (one (x .kept .0) (x .kept′ .0), (one (x .kept .1) (x .kept′ .1), (one (x .kept .2) (x .kept′ .2), one (x .kept .3) (x .kept′ .3)))))
+
 -- findings: it is proved by hand, so its contract is read here, in the way that Rattle itself reads the others
-abbrev findings-read : (κs : Lfts 7) (lent : Args findings.signature κs) (r : Res findings.signature κs) (s : AtExit findings.ended κs)
+abbrev findings-read : (κs : Lfts 8) (lent : Args findings.signature κs) (r : Res findings.signature κs) (s : AtExit findings.ended κs)
     → Read (λ w. emp (w .𝓤)) no-know (λ w. findings.clauses (w .𝓤) (w .H) (w .𝓖 .A) (w .𝓜 .mem) (w .𝓡 .run) κs lent .ensures tt r s)
 findings-read κs lent r s = all-models _ (λ w. r-last _) (λ w. refl) (λ w. refl) (λ w. refl)
 

@@ -1,4 +1,4 @@
-// Findings for C: the findings of the rules that their waivers do not cover. A first run over the rules checks them and the waivers and bounds the number of findings;
+// Findings for C: the findings of the rules that the asking office's waivers do not cover. A first run over the rules checks them and the table and bounds the number of findings;
 // a second counts them, and is passed over where the bound is within the room; the third writes. Like the loop that it calls, the function takes the rules
 // as a lent slice of structs and is walked by hand; so the call itself stands here, and not one more function between it and the runs.
 ghost use mathlib.Core.Path.{_≡_};
@@ -15,15 +15,18 @@ pub extern "C" fn hlq_findings(
     keys: &[u32],
     bits: &[u32],
     n: usize,
+    office: u32,
     rules: &[Rule],
-    waiver_ids: &[u32],
-    waiver_keys: &[u32],
+    offices: &[u32],
+    ids: &[u32],
+    waived: &[u32],
+    rows: usize,
     found_ids: &mut [u32],
     found_keys: &mut [u32],
 ) -> Found
-    ensures { λ r. ⌜ (r ≡ findingsAnswer m s (now (keys .entry)) (now (bits .entry)) n (now (rules .entry)) (now («waiver_ids» .entry)) (now («waiver_keys» .entry)) (now («found_ids» .entry)) (now («found_keys» .entry)))
-        × (now («found_ids» .exit) ≡ findingsIds m s (now (keys .entry)) (now (bits .entry)) n (now (rules .entry)) (now («waiver_ids» .entry)) (now («waiver_keys» .entry)) (now («found_ids» .entry)) (now («found_keys» .entry)))
-        × (now («found_keys» .exit) ≡ findingsKeys m s (now (keys .entry)) (now (bits .entry)) n (now (rules .entry)) (now («waiver_ids» .entry)) (now («waiver_keys» .entry)) (now («found_ids» .entry)) (now («found_keys» .entry))) ⌝ }
+    ensures { λ r. ⌜ (r ≡ findingsAnswer m s (now (keys .entry)) (now (bits .entry)) n office (now (rules .entry)) (now (offices .entry)) (now (ids .entry)) (now (waived .entry)) rows (now («found_ids» .entry)) (now («found_keys» .entry)))
+        × (now («found_ids» .exit) ≡ findingsIds m s (now (keys .entry)) (now (bits .entry)) n office (now (rules .entry)) (now (offices .entry)) (now (ids .entry)) (now (waived .entry)) rows (now («found_ids» .entry)) (now («found_keys» .entry)))
+        × (now («found_keys» .exit) ≡ findingsKeys m s (now (keys .entry)) (now (bits .entry)) n office (now (rules .entry)) (now (offices .entry)) (now (ids .entry)) (now (waived .entry)) rows (now («found_ids» .entry)) (now («found_keys» .entry))) ⌝ }
 {
     let checking = begin::begin(
         m,
@@ -31,8 +34,11 @@ pub extern "C" fn hlq_findings(
         keys,
         bits,
         n,
-        waiver_ids,
-        waiver_keys,
+        office,
+        offices,
+        ids,
+        waived,
+        rows,
         found_ids.len(),
         found_keys.len(),
     );
@@ -40,8 +46,8 @@ pub extern "C" fn hlq_findings(
         rules,
         keys,
         bits,
-        waiver_ids,
-        waiver_keys,
+        ids,
+        waived,
         found_ids,
         found_keys,
         checking,
@@ -51,8 +57,8 @@ pub extern "C" fn hlq_findings(
         rules,
         keys,
         bits,
-        waiver_ids,
-        waiver_keys,
+        ids,
+        waived,
         found_ids,
         found_keys,
         counting,
@@ -62,8 +68,8 @@ pub extern "C" fn hlq_findings(
         rules,
         keys,
         bits,
-        waiver_ids,
-        waiver_keys,
+        ids,
+        waived,
         found_ids,
         found_keys,
         writing,

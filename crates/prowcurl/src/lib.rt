@@ -10,4 +10,5 @@ pub mod lists;
 pub mod questions;
 pub mod squares;
 pub mod strings;
+pub mod waivers;
 pub mod windows;

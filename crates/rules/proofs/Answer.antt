@@ -1,7 +1,7 @@
--- What the calls of `findings` come to, one after the other: each run may begin, and in the end the call gives document 01's findings. Rests on Ready and
--- ThreeRuns.
+-- What the calls of `findings` come to, one after the other: each run may begin, and in the end the call gives document 01's findings. Rests on TableRuns,
+-- ThreeRuns and OfficeAnswer.
 use Prim.Native.Nat.{ℕ, _≤_}
-use mathlib.Core.Path.{_≡_, refl, ap, _∙_}
+use mathlib.Core.Path.{_≡_, refl, sym, ap, subst, _∙_}
 use mathlib.Core.Bool.{false}
 use mathlib.Core.List.{List}
 use native.Mathlib.Omega.{arith}
@@ -11,19 +11,14 @@ use Rattle.definitions.specs.Rules.{waiversOf}
 use Rattle.definitions.specs.Calls.Findings.{findings, findingsIds, findingsKeys}
 use Rattle.definitions.specs.declared.Rule.{Rule}
 use Rattle.definitions.specs.declared.Found.{Found}
+use Rattle.offices.specs.declared.own.Own.{Own}
 use Rattle.rules.specs.declared.run.State.{State}
-use Rattle.rules.specs.Run.{Progress, progressOf, bounding, restarting, Fine, Ready, runOf, beginOf, nextOf, answerOf}
+use Rattle.rules.specs.Run.{Progress, progressOf, bounding, restarting, ownPart, Fine, Ready, TableReady, runOf, tableRun, beginOf, ownAt, nextOf, answerOf}
 use Rattle.rules.proofs.NextCases.{next-stopped, next-faulty, next-left, next-counts, next-rests, next-full, next-writes}
 use Rattle.rules.proofs.Beginning.{below-zero, begin-ready}
-use Rattle.rules.proofs.Ready.{ready-run}
+use Rattle.rules.proofs.TableRuns.{Same, same-on, next-same, ready-same, table-ready-run, table-run-same, table-run-from}
+use Rattle.rules.proofs.OfficeAnswer.{own-at-within, own-at-fits, office-answers}
 use Rattle.rules.proofs.ThreeRuns.{after, three-runs}
-
--- the first run may begin
-pub checking-ready : (m s : ℕ) (keys bits : List ℕ) (n : ℕ) (waiverIds waiverKeys ids foundKeys : List ℕ) (r₀ : State)
-    → r₀ ≡ bounding 0 (beginOf m s keys bits n waiverIds waiverKeys (length ids) (length foundKeys))
-    → Ready keys bits waiverIds waiverKeys (progressOf r₀ ids foundKeys)
-checking-ready m s keys bits n waiverIds waiverKeys ids foundKeys r₀ e =
-    rw e (begin-ready m s keys bits n waiverIds waiverKeys (length ids) (length foundKeys) ids foundKeys refl refl)
 
 module _ (keys bits waiverIds waiverKeys : List ℕ) where
   -- where a run ended, one that goes through the rules again may begin
@@ -80,35 +75,75 @@ module _ (keys bits waiverIds waiverKeys : List ℕ) where
       (λ fits. rw (next-writes st running sound none walks fits) (record { fine = λ e. fine-restarted (st .room) st l l′ f sound (omega arith) }))))))
       (λ stopped. rw (next-stopped st stopped) h)
 
-  pub next-ready : (rules : List Rule) (p : Progress) (r r′ : State) (l l′ : List ℕ) → Ready keys bits waiverIds waiverKeys p
-      → progressOf r l l′ ≡ runOf keys bits waiverIds waiverKeys rules p
+module _ (keys bits ids waived : List ℕ) where
+  pub next-ready : (rules : List Rule) (p : Progress) (r r′ : State) (l l′ : List ℕ) → TableReady keys bits ids waived p
+      → progressOf r l l′ ≡ tableRun keys bits ids waived rules p
       → r′ ≡ nextOf r
-      → Ready keys bits waiverIds waiverKeys (progressOf r′ l l′)
-  next-ready rules p r r′ l l′ h e f = rw f (ready-next r l l′ (rw e (ready-run keys bits waiverIds waiverKeys rules p h)))
+      → TableReady keys bits ids waived (progressOf r′ l l′)
+  next-ready rules p r r′ l l′ h e f =
+      let ran : TableReady keys bits ids waived (progressOf r l l′) = rw e (table-ready-run keys bits ids waived rules p h) in
+      rw f
+      (ready-same keys bits ids waived (progressOf r l l′) (progressOf (nextOf r) l l′) (next-same r) ran (ready-next keys bits (ownPart r ids) (ownPart r waived) r l l′ (ran .own)))
 
-module _ (m s : ℕ) (keys bits : List ℕ) (n : ℕ) (rules : List Rule) (waiverIds waiverKeys ids foundKeys : List ℕ) where
+module _ (m s : ℕ) (keys bits : List ℕ) (n office : ℕ) (rules : List Rule) (offices ids waived : List ℕ) (rows : ℕ) (foundIds foundKeys : List ℕ) where
+  abbrev own : Own
+  own = ownAt m s keys bits n office offices ids waived rows
+
+  abbrev start : State
+  start = bounding 0 (beginOf m s keys bits n office own (length foundIds) (length foundKeys))
+
+  -- the first run may begin
+  pub checking-ready : (r₀ : State) → r₀ ≡ start → TableReady keys bits ids waived (progressOf r₀ foundIds foundKeys)
+  unfolding beginOf
+  checking-ready r₀ e =
+      let within = own-at-within m s keys bits n office offices ids waived rows in
+      rw e
+      (record {
+        in-ids = within .0;
+        in-waived = within .1;
+        own = begin-ready office m s keys bits n own (length foundIds) (length foundKeys) (ownPart start ids) (ownPart start waived) foundIds foundKeys
+            (own-at-fits m s keys bits n office offices ids waived rows) refl refl;
+      })
+
   abbrev run : Progress → Progress
-  run = runOf keys bits waiverIds waiverKeys rules
+  run = tableRun keys bits ids waived rules
+
+  abbrev runOwn : Progress → Progress
+  runOwn = runOf keys bits (ownPart start ids) (ownPart start waived) rules
 
   -- the states and the answer slices along the call: what begins, what the first run leaves, what begins after it, and so on to the answer
   pub record Course (r₀ r₁ r₂ r₃ r₄ r₅ : State) (l₁ l₁′ l₃ l₃′ l₅ l₅′ : List ℕ) (f : Found) : Type 0 where
-    pub begins : r₀ ≡ bounding 0 (beginOf m s keys bits n waiverIds waiverKeys (length ids) (length foundKeys))
-    pub checks : progressOf r₁ l₁ l₁′ ≡ run (progressOf r₀ ids foundKeys)
+    pub begins : r₀ ≡ start
+    pub checks : progressOf r₁ l₁ l₁′ ≡ run (progressOf r₀ foundIds foundKeys)
     pub next : r₂ ≡ nextOf r₁
     pub counts : progressOf r₃ l₃ l₃′ ≡ run (progressOf r₂ l₁ l₁′)
     pub last : r₄ ≡ nextOf r₃
     pub writes : progressOf r₅ l₅ l₅′ ≡ run (progressOf r₄ l₃ l₃′)
     pub answers : f ≡ answerOf r₅
 
-  -- the call gives and leaves what document 01 says
+  -- a run over the table from a state with the same rows is one over the office's rows
+  runs-own : (p : Progress) → Same start (p .state) → run p ≡ runOwn p
+  runs-own p same = table-run-from keys bits ids waived rules p same
+
+  -- the call gives and leaves what the documents say
   pub findings-law : {r₀ r₁ r₂ r₃ r₄ r₅ : State} {l₁ l₁′ l₃ l₃′ l₅ l₅′ : List ℕ} {f : Found} → Course r₀ r₁ r₂ r₃ r₄ r₅ l₁ l₁′ l₃ l₃′ l₅ l₅′ f
-      → (f ≡ findings m s keys bits n rules waiverIds waiverKeys ids foundKeys)
-      × (l₅ ≡ findingsIds m s keys bits n rules waiverIds waiverKeys ids foundKeys)
-      × (l₅′ ≡ findingsKeys m s keys bits n rules waiverIds waiverKeys ids foundKeys)
-  findings-law {r₁ = r₁} {r₃ = r₃} {l₁ = l₁} {l₁′} {l₃} {l₃′} c =
-      let go = after m s keys bits n rules waiverIds waiverKeys ids foundKeys in
-      let first = c .checks ∙ ap (λ r. run (progressOf r ids foundKeys)) (c .begins) in
-      let second = c .counts ∙ ap (λ r. run (progressOf r l₁ l₁′)) (c .next) ∙ ap (λ p. run (go p)) first in
-      let third = c .writes ∙ ap (λ r. run (progressOf r l₃ l₃′)) (c .last) ∙ ap (λ p. run (go p)) second in
-      let promised = three-runs m s keys bits n rules waiverIds waiverKeys ids foundKeys in
-      (c .answers ∙ ap (λ p. answerOf (p .state)) third ∙ promised .answered, ap (λ p. p .ids) third ∙ promised .wroteIds, ap (λ p. p .keys) third ∙ promised .wroteKeys)
+      → (f ≡ findings m s keys bits n office rules offices ids waived rows foundIds foundKeys)
+      × (l₅ ≡ findingsIds m s keys bits n office rules offices ids waived rows foundIds foundKeys)
+      × (l₅′ ≡ findingsKeys m s keys bits n office rules offices ids waived rows foundIds foundKeys)
+  unfolding beginOf
+  findings-law {r₀} {r₁} {r₂} {r₃} {r₄} {r₅} {l₁} {l₁′} {l₃} {l₃′} {l₅} {l₅′} c =
+      let go = after m s keys bits n office own rules (ownPart start ids) (ownPart start waived) foundIds foundKeys in
+      let s₀ : Same start r₀ = rw (c .begins) (record { offset = refl; count = refl }) in
+      let s₁ : Same start r₁ = same-on s₀ (subst (λ q. Same r₀ (q .state)) (sym (c .checks)) (table-run-same keys bits ids waived rules (progressOf r₀ foundIds foundKeys))) in
+      let s₂ : Same start r₂ = same-on s₁ (subst (λ x. Same r₁ x) (sym (c .next)) (next-same r₁)) in
+      let s₃ : Same start r₃ = same-on s₂ (subst (λ q. Same r₂ (q .state)) (sym (c .counts)) (table-run-same keys bits ids waived rules (progressOf r₂ l₁ l₁′))) in
+      let s₄ : Same start r₄ = same-on s₃ (subst (λ x. Same r₃ x) (sym (c .last)) (next-same r₃)) in
+      let first = c .checks ∙ runs-own (progressOf r₀ foundIds foundKeys) s₀ ∙ ap (λ r. runOwn (progressOf r foundIds foundKeys)) (c .begins) in
+      let second = c .counts ∙ runs-own (progressOf r₂ l₁ l₁′) s₂ ∙ ap (λ r. runOwn (progressOf r l₁ l₁′)) (c .next) ∙ ap (λ p. runOwn (go p)) first in
+      let third = c .writes ∙ runs-own (progressOf r₄ l₃ l₃′) s₄ ∙ ap (λ r. runOwn (progressOf r l₃ l₃′)) (c .last) ∙ ap (λ p. runOwn (go p)) second in
+      let promised = three-runs m s keys bits n office own rules (ownPart start ids) (ownPart start waived) foundIds foundKeys (own-at-fits m s keys bits n office offices ids waived rows) in
+      let is = office-answers m s keys bits n office rules offices ids waived rows foundIds foundKeys in (
+        c .answers ∙ ap (λ p. answerOf (p .state)) third ∙ promised .answered ∙ is .0,
+        ap (λ p. p .ids) third ∙ promised .wroteIds ∙ is .1,
+        ap (λ p. p .keys) third ∙ promised .wroteKeys ∙ is .2,
+      )

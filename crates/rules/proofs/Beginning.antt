@@ -1,18 +1,20 @@
--- How a run begins: the state, field by field, and what it stands on where neither 1 nor 4 is given. Rests on Settings.
+-- How a run begins: the refusals that come first, and what the run stands on where none of 21, 1 and 4 is given. Rests on Settings.
 use Prim.Native.Nat.{ℕ, min}
 use mathlib.Core.Path.{_≡_, refl, sym, ap, _∙_}
-use mathlib.Core.Bool.{Bool, true, false, not, _&&_}
+use mathlib.Core.Bool.{true, false, cond, not}
 use mathlib.Core.List.{List, [], _∷_}
 use native.Mathlib.Omega.{arith}
 use lib.ListN.{length}
-use lib.Dec.{eqb}
-use borrow.Author.Tests.{eq-eqb, ne-eqb, le-ltb}
+use borrow.Author.Tests.{eq-eqb, ne-eqb, le-ltb, not-false}
 use Rattle.keys.proofs.Cases.{decide}
 use Rattle.definitions.specs.Read.{room, isList}
 use Rattle.definitions.specs.Refusal.{badSettings}
+use Rattle.definitions.specs.Offices.{badOffice}
 use Rattle.definitions.specs.Rules.{Finding, waiversOf}
+use Rattle.offices.specs.Own.{noRows, ownOf}
+use Rattle.offices.specs.declared.own.Own.{Own}
 use Rattle.rules.specs.declared.run.State.{State}
-use Rattle.rules.specs.Run.{waiversGood, waiversBelow, progressOf, bounding, beginRefusal, beginOf, Ready}
+use Rattle.rules.specs.Run.{waiversGood, waiversBelow, progressOf, bounding, beginRefusal, beginOf, ownAt, Ready}
 use Rattle.rules.proofs.Settings.{good-level, good-slots}
 
 -- no waiver has an id below 0
@@ -21,81 +23,85 @@ unfolding waiversBelow
 below-zero [] = refl
 below-zero (w ∷ ws) = let ih = below-zero ws in rw (le-ltb (w .id) 0 (omega arith)) (omega arith)
 
-module _ (m s : ℕ) (keys bits : List ℕ) (n : ℕ) where
+-- the rows that were found are these waivers, and good ones where the table is
+pub record Fit (m : ℕ) (own : Own) (waiverIds waiverKeys : List ℕ) : Type 0 where
+  pub size : own .count ≡ room waiverIds waiverKeys
+  pub good : own .good ≡ true → waiversGood m (waiversOf waiverIds waiverKeys) ≡ true
+
+module _ (office m s : ℕ) (keys bits : List ℕ) (n : ℕ) where
   -- what the number says
-  pub begin-bad : badSettings m s ≡ true → beginRefusal m s keys bits n ≡ 1
+  pub begin-other : badOffice office ≡ true → beginRefusal office m s keys bits n ≡ 21
   unfolding beginRefusal
-  begin-bad e = rw e
+  begin-other e = rw e
 
-  pub begin-no-list : badSettings m s ≡ false → isList m s keys bits n ≡ false → beginRefusal m s keys bits n ≡ 4
+  pub begin-bad : badOffice office ≡ false → badSettings m s ≡ true → beginRefusal office m s keys bits n ≡ 1
   unfolding beginRefusal
-  begin-no-list e f = rw (e, f)
+  begin-bad known e = rw (known, e)
 
-  pub begin-good : badSettings m s ≡ false → isList m s keys bits n ≡ true → beginRefusal m s keys bits n ≡ 0
+  pub begin-no-list : badOffice office ≡ false → badSettings m s ≡ false → isList m s keys bits n ≡ false → beginRefusal office m s keys bits n ≡ 4
   unfolding beginRefusal
-  begin-good e f = rw (e, f)
+  begin-no-list known e f = rw (known, e, f)
+
+  pub begin-good : badOffice office ≡ false → badSettings m s ≡ false → isList m s keys bits n ≡ true → beginRefusal office m s keys bits n ≡ 0
+  unfolding beginRefusal
+  begin-good known e f = rw (known, e, f)
 
   -- and the other way
-  pub zero-settings : beginRefusal m s keys bits n ≡ 0 → badSettings m s ≡ false
-  zero-settings e = decide (badSettings m s) (λ bad. let z = begin-bad bad in absurd (omega arith)) (λ good. good)
+  pub zero-office : beginRefusal office m s keys bits n ≡ 0 → badOffice office ≡ false
+  zero-office e = decide (badOffice office) (λ other. let z = begin-other other in absurd (omega arith)) (λ known. known)
 
-  pub zero-list : beginRefusal m s keys bits n ≡ 0 → isList m s keys bits n ≡ true
+  pub zero-settings : beginRefusal office m s keys bits n ≡ 0 → badSettings m s ≡ false
+  zero-settings e = decide (badSettings m s) (λ bad. let z = begin-bad (zero-office e) bad in absurd (omega arith)) (λ good. good)
+
+  pub zero-list : beginRefusal office m s keys bits n ≡ 0 → isList m s keys bits n ≡ true
   zero-list e =
-      decide (isList m s keys bits n) (λ is. is) (λ no-list. let z = begin-no-list (zero-settings e) no-list in absurd (omega arith))
+      decide (isList m s keys bits n) (λ is. is) (λ no-list. let z = begin-no-list (zero-office e) (zero-settings e) no-list in absurd (omega arith))
 
   -- 12 is not given yet
-  pub begin-not-full : beginRefusal m s keys bits n ≡ 12 → ⊥
+  pub begin-not-full : beginRefusal office m s keys bits n ≡ 12 → ⊥
   begin-not-full e =
-      decide (badSettings m s) (λ bad. let z = begin-bad bad in omega arith)
-      (λ good. decide (isList m s keys bits n) (λ is. let z = begin-good good is in omega arith) (λ no-list. let z = begin-no-list good no-list in omega arith))
+      decide (badOffice office) (λ other. let z = begin-other other in omega arith)
+      (λ known. decide (badSettings m s) (λ bad. let z = begin-bad known bad in omega arith)
+      (λ good. decide (isList m s keys bits n) (λ is. let z = begin-good known good is in omega arith) (λ no-list. let z = begin-no-list known good no-list in omega arith)))
 
-  module _ (waiverIds waiverKeys : List ℕ) where
-    abbrev faultAtOnce : Bool
-    faultAtOnce = eqb (beginRefusal m s keys bits n) 0 && not (waiversGood m (waiversOf waiverIds waiverKeys))
+  -- the office's rows are looked for only where nothing is refused
+  pub own-looked : (offices ids waived : List ℕ) (rows : ℕ) → beginRefusal office m s keys bits n ≡ 0 → ownOf m office offices ids waived rows ≡ ownAt m s keys bits n office offices ids waived rows
+  unfolding ownAt
+  own-looked offices ids waived rows e = sym (ap (λ b. cond b (ownOf m office offices ids waived rows) (noRows true)) (eq-eqb (beginRefusal office m s keys bits n) 0 e))
 
-    -- the test of the waivers counts only where nothing is refused
-    pub fault-good : (good : Bool) → beginRefusal m s keys bits n ≡ 0 → good ≡ waiversGood m (waiversOf waiverIds waiverKeys) → not good ≡ faultAtOnce
-    fault-good good e f = ap not f ∙ sym (ap (λ b. b && not (waiversGood m (waiversOf waiverIds waiverKeys))) (eq-eqb (beginRefusal m s keys bits n) 0 e))
+  pub own-passed : (offices ids waived : List ℕ) (rows : ℕ) → (beginRefusal office m s keys bits n ≡ 0 → ⊥) → noRows true ≡ ownAt m s keys bits n office offices ids waived rows
+  unfolding ownAt
+  own-passed offices ids waived rows h = sym (ap (λ b. cond b (ownOf m office offices ids waived rows) (noRows true)) (ne-eqb (beginRefusal office m s keys bits n) 0 h))
 
-    pub fault-none : (beginRefusal m s keys bits n ≡ 0 → ⊥) → false ≡ faultAtOnce
-    fault-none h = sym (ap (λ b. b && not (waiversGood m (waiversOf waiverIds waiverKeys))) (ne-eqb (beginRefusal m s keys bits n) 0 h))
+  module _ (own : Own) (roomIds roomKeys : ℕ) where
+    abbrev start : State
+    start = beginOf m s keys bits n office own roomIds roomKeys
 
-    module _ (roomIds roomKeys : ℕ) where
-      abbrev start : State
-      start = beginOf m s keys bits n waiverIds waiverKeys roomIds roomKeys
+    -- field by field
+    pub begun : (refusal room′ : ℕ) (o : Own) → refusal ≡ beginRefusal office m s keys bits n → o ≡ own → room′ ≡ min roomIds roomKeys
+        → record { m = m; s = s; n = n; mode = 0; refusal = refusal; next = 0; faulty = not (o .good); offset = o .offset; waivers = o .count; passed = 0; limit = 0; room = room′; live = 0; hidden = 0 }
+        ≡ bounding 0 start
+    unfolding beginOf
+    begun refusal room′ o e f g =
+        λ i. record { m = m; s = s; n = n; mode = 0; refusal = e i; next = 0; faulty = not (f i .good); offset = f i .offset; waivers = f i .count; passed = 0; limit = 0; room = g i; live = 0; hidden = 0 }
 
-      pub begun : (refusal : ℕ) (faulty : Bool) (waivers room′ : ℕ)
-          → refusal ≡ beginRefusal m s keys bits n
-          → faulty ≡ faultAtOnce
-          → waivers ≡ room waiverIds waiverKeys
-          → room′ ≡ min roomIds roomKeys
-          → record { m = m; s = s; n = n; mode = 0; refusal = refusal; next = 0; faulty = faulty; waivers = waivers; passed = 0; limit = 0; room = room′; live = 0; hidden = 0 } ≡ bounding 0 start
-      unfolding beginOf
-      begun refusal faulty waivers room′ e f g h =
-          λ i. record { m = m; s = s; n = n; mode = 0; refusal = e i; next = 0; faulty = f i; waivers = g i; passed = 0; limit = 0; room = h i; live = 0; hidden = 0 }
-
-      -- the waivers are in order where none is found wrong
-      good-ascend : (good : Bool) → eqb (beginRefusal m s keys bits n) 0 ≡ true → faultAtOnce ≡ false → waiversGood m (waiversOf waiverIds waiverKeys) ≡ true
-      good-ascend good e f =
-          decide (waiversGood m (waiversOf waiverIds waiverKeys)) (λ is. is)
-          (λ wrong. absurd (mathlib.Core.Bool.true≢false (sym (ap (λ b. b && not (waiversGood m (waiversOf waiverIds waiverKeys))) e ∙ ap not wrong) ∙ f)))
-
-      -- the first run may begin
-      pub begin-ready : (ids foundKeys : List ℕ) → roomIds ≡ length ids → roomKeys ≡ length foundKeys → Ready keys bits waiverIds waiverKeys (progressOf (bounding 0 start) ids foundKeys)
-      unfolding beginOf waiversGood
-      begin-ready ids foundKeys e f =
-          record {
-            fine = λ zero. record {
-              level = good-level m s (zero-settings zero);
-              slots = good-slots m s (zero-settings zero);
-              list = zero-list zero;
-              limitIds = omega arith;
-              limitKeys = omega arith;
-              roomIds = omega arith;
-              roomKeys = omega arith;
-              count = refl;
-              good = good-ascend true (eq-eqb (beginRefusal m s keys bits n) 0 zero);
-              passed = λ no-fault. below-zero (waiversOf waiverIds waiverKeys);
-              small = omega arith;
-            };
-          }
+    -- the first run may begin
+    pub begin-ready : (waiverIds waiverKeys ids foundKeys : List ℕ) → Fit m own waiverIds waiverKeys → roomIds ≡ length ids → roomKeys ≡ length foundKeys
+        → Ready keys bits waiverIds waiverKeys (progressOf (bounding 0 start) ids foundKeys)
+    unfolding beginOf
+    begin-ready waiverIds waiverKeys ids foundKeys fit e f =
+        record {
+          fine = λ zero. record {
+            level = good-level m s (zero-settings zero);
+            slots = good-slots m s (zero-settings zero);
+            list = zero-list zero;
+            limitIds = omega arith;
+            limitKeys = omega arith;
+            roomIds = omega arith;
+            roomKeys = omega arith;
+            count = fit .size;
+            good = λ no-fault. fit .good (not-false (own .good) no-fault);
+            passed = λ no-fault. below-zero (waiversOf waiverIds waiverKeys);
+            small = omega arith;
+          };
+        }

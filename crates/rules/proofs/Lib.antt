@@ -16,6 +16,7 @@ pub mod StepWrong
 pub mod NextCases
 pub mod Beginning
 pub mod Ready
+pub mod TableRuns
 pub mod GoodRules
 pub mod Quiet
 pub mod KnownIds
@@ -26,4 +27,5 @@ pub mod Refusals
 pub mod TwoRuns
 pub mod Bounds
 pub mod ThreeRuns
+pub mod OfficeAnswer
 pub mod Answer

@@ -21,7 +21,7 @@ use denote.Builtin.{u32}
 use denote.Laws.{Is}
 use denote.Steps.{owned}
 use denote.Struct.Laws as LL
-use Rattle.rules.specs.Run.{Progress, progressOf, Ready}
+use Rattle.rules.specs.Run.{Progress, progressOf, TableReady}
 use Rattle.rules.specs.declared.run.State.{State}
 use Rattle.rules.proofs.run.State as State
 use Rattle.rules.proofs.run.State.Laws as State′
@@ -67,7 +67,7 @@ module _ (S : RunSlices) where
 
   -- a run, or a step, may begin from the progress p
   abbrev pub ReadyAt : Progress → Type 0
-  ReadyAt p = Ready (S .keys .x .now) (S .bits .x .now) (S .waiver-ids .x .now) (S .waiver-keys .x .now) p
+  ReadyAt p = TableReady (S .keys .x .now) (S .bits .x .now) (S .waiver-ids .x .now) (S .waiver-keys .x .now) p
 
   pub record Result (p : Progress) : Type 0 where
     pub state : State

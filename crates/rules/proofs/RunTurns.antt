@@ -1,5 +1,5 @@
 -- The turns of the loop in `run`, as numbers and lists: before a turn the state and the two answer lists are those of a run over the first i rules, and a
--- step over the rule at i makes them those of the next turn. Rests on the laws of a run in Fold, and on Ready.
+-- step over the rule at i makes them those of the next turn. Rests on the laws of a run in Fold, and on TableRuns.
 use mathlib.Core.Path.{_≡_, refl, ap, _∙_}
 use Prim.Native.Nat.{ℕ, _+_, _-_, _≤_, _<_}
 use native.Mathlib.Omega.{arith}
@@ -7,11 +7,11 @@ use mathlib.Core.List.{List}
 use lib.ListN.{length, getD, take}
 use denote.Laws.{Is}
 use Rattle.definitions.specs.declared.Rule.{Rule}
-use Rattle.rules.specs.Run.{Progress, progressOf, Ready, stepOf, runOf}
+use Rattle.rules.specs.Run.{Progress, progressOf, TableReady, tableStep, tableRun}
 use Rattle.rules.specs.declared.run.State.{State}
 use Rattle.rules.proofs.run.State as State
 use Rattle.rules.proofs.Fold.{noRule, run-none, run-next, run-all}
-use Rattle.rules.proofs.Ready.{ready-step}
+use Rattle.rules.proofs.TableRuns.{table-ready-step}
 use Rattle.rules.proofs.RunSlices.{RunSlices, stateVals, Result}
 
 module _ (S : RunSlices) (rules : List Rule) (start : State) where
@@ -32,22 +32,22 @@ module _ (S : RunSlices) (rules : List Rule) (start : State) where
   entry = progressOf start (S .found-ids .x .now) (S .found-keys .x .now)
 
   abbrev pub ran : List Rule → Progress
-  ran rs = runOf K B WI WK rs entry
+  ran rs = tableRun K B WI WK rs entry
 
   pub record Turn : Type 0 where
     pub i : ℕ
     pub small : i ≤ length rules
     pub found : Result S (ran (take i rules))
-    pub ready : Ready K B WI WK (progressOf (found .state) (found .ids) (found .keys))
+    pub ready : TableReady K B WI WK (progressOf (found .state) (found .ids) (found .keys))
 
   -- the rule of a turn
   abbrev pub rule : Turn → Rule
   rule t = getD rules (t .i) noRule
 
   abbrev pub Stepped : Turn → Type 0
-  Stepped t = Result S (stepOf K B WI WK (rule t) (progressOf (t .found .state) (t .found .ids) (t .found .keys)))
+  Stepped t = Result S (tableStep K B WI WK (rule t) (progressOf (t .found .state) (t .found .ids) (t .found .keys)))
 
-  abbrev pub first-turn : Is State.the-row start (stateVals start) → Ready K B WI WK entry → Turn
+  abbrev pub first-turn : Is State.the-row start (stateVals start) → TableReady K B WI WK entry → Turn
   first-turn fits ready = record {
     i = 0;
     small = omega arith;
@@ -68,7 +68,7 @@ module _ (S : RunSlices) (rules : List Rule) (start : State) where
       keys-length = x .keys-length;
       fits = x .fits;
     };
-    ready = ready-step K B WI WK (rule t) (progressOf (t .found .state) (t .found .ids) (t .found .keys)) (progressOf (x .state) (x .ids) (x .keys)) (x .comes-to) (t .ready);
+    ready = table-ready-step K B WI WK (rule t) (progressOf (t .found .state) (t .found .ids) (t .found .keys)) (progressOf (x .state) (x .ids) (x .keys)) (x .comes-to) (t .ready);
   }
 
   -- the turns, in the order of what is left

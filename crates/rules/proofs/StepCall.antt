@@ -27,7 +27,7 @@ use denote.Triple.Walked.{says}
 use Rattle.definitions.specs.declared.Rule.{Rule}
 use Rattle.definitions.proofs.Rule as Rule
 use Rattle.definitions.proofs.Rule.Laws as Rule′
-use Rattle.rules.specs.Run.{progressOf, stepOf}
+use Rattle.rules.specs.Run.{progressOf, tableStep}
 use Rattle.rules.specs.declared.run.State.{State}
 use Rattle.rules.proofs.run.State as State
 use Rattle.lending.proofs.Slices.{val, at-list}
@@ -52,7 +52,7 @@ passes S rule r = LL.val Rule.the-type Rule′.the-laws rule ∷ val (S .keys) �
 module _ {M : Type 1} (𝓤 : URA M) (H : Heap 𝓤) (A : Atoms 𝓤) (W : Given 𝓤 H A) (mem : Memory → SProp 𝓤) (run : Routine → Fun 𝓤) (C : Calls 𝓤 H)
     (fm : FmC 𝓤 H (W .laws) C) (known : Triple 𝓤 (C #step) (Step 𝓤 H A mem run)) (S : RunSlices) (rule : Rule) (r : State) (l l′ : List ℕ) where
   abbrev stepped : Type 0
-  stepped = Result S (stepOf (S .keys .x .now) (S .bits .x .now) (S .waiver-ids .x .now) (S .waiver-keys .x .now) rule (progressOf r l l′))
+  stepped = Result S (tableStep (S .keys .x .now) (S .bits .x .now) (S .waiver-ids .x .now) (S .waiver-keys .x .now) rule (progressOf r l l′))
 
   abbrev lifetimes : ℕ → ℕ → Lfts 6
   lifetimes ν ν′ = (S .keys .κ, (S .bits .κ, (S .waiver-ids .κ, (S .waiver-keys .κ, (ν ∷ [], (ν′ ∷ [], tt))))))

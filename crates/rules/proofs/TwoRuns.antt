@@ -2,33 +2,35 @@
 -- findings with both counts. Rests on AllGathered, RunEnds, Quiet, NextCases, Beginning and Refusals.
 use Prim.Native.Nat.{ℕ, _≤_, _<_}
 use mathlib.Core.Path.{_≡_, refl, sym, ap, ap₂, _∙_}
-use mathlib.Core.Bool.{Bool, true, false}
+use mathlib.Core.Bool.{Bool, true, false, not, _||_}
 use mathlib.Core.List.{List, map}
 use native.Mathlib.Nat.{zero-add}
 use native.Mathlib.Omega.{arith}
 use lib.ListN.{length, length-map}
-use Rattle.keys.proofs.Cases.{decide, split}
+use Rattle.keys.proofs.Cases.{decide, split, or-left, or-right}
 use Rattle.definitions.specs.Read.{room, pictureOf, recordsOf, isList}
 use Rattle.definitions.specs.Buffer.{over}
 use Rattle.definitions.specs.Rules.{Finding, allFindings, waiversOf, liveOf, hiddenCount, badWaivers}
+use Rattle.definitions.specs.Offices.{badOffice}
 use Rattle.definitions.specs.Refusal.{badSettings}
-use Rattle.definitions.specs.Calls.Findings.{liveIn, hiddenIn, findingsRefusal, findings, findingsIds, findingsKeys}
+use Rattle.definitions.specs.Calls.Findings.{liveIn, hiddenIn, refusalWith, foundWith, idsWith, keysWith}
 use Rattle.definitions.specs.declared.Rule.{Rule}
+use Rattle.offices.specs.declared.own.Own.{Own}
 use Rattle.window.specs.Gather.{written}
 use Rattle.window.proofs.Written.{written-over}
 use Rattle.rules.specs.declared.run.State.{State}
 use Rattle.rules.specs.Run.{waiversBelow, waiversGood, Progress, progressOf, restarting, runOf, beginRefusal, beginOf, nextOf, answerOf}
 use Rattle.rules.proofs.WaiverPlaces.{waivers-length}
 use Rattle.rules.proofs.NextCases.{next-stopped, next-faulty, next-left, next-full, next-writes, answer-done, answer-full, answer-refused}
-use Rattle.rules.proofs.Beginning.{begin-bad, begin-no-list, begin-good, fault-good, below-zero}
+use Rattle.rules.proofs.Beginning.{Fit, begin-other, begin-bad, begin-no-list, begin-good, below-zero}
 use Rattle.rules.proofs.GoodRules.{goodFrom}
 use Rattle.rules.proofs.KnownIds.{nextAfter, knownFrom, known-all, all-known}
 use Rattle.rules.proofs.AllGathered.{allGathered, run-gathered}
 use Rattle.rules.proofs.RunEnds.{Faulted, run-bad, run-faulty, run-unknown}
 use Rattle.rules.proofs.Quiet.{run-stopped, quiet-ids, quiet-keys}
-use Rattle.rules.proofs.Refusals.{waivers-fine, waivers-wrong, waivers-unknown, refusal-1, refusal-4, refusal-13, refusal-14, refusal-12, refusal-0, given-refused, given-full, given-done, ids-stay, keys-stay, ids-written, keys-written}
+use Rattle.rules.proofs.Refusals.{waivers-fine, waivers-unknown, refusal-21, refusal-1, refusal-4, refusal-13, refusal-14, refusal-12, refusal-0, given-refused, given-full, given-done, ids-stay, keys-stay, ids-written, keys-written}
 
-module _ (m s : ℕ) (keys bits : List ℕ) (n : ℕ) (rules : List Rule) (waiverIds waiverKeys ids foundKeys : List ℕ) where
+module _ (m s : ℕ) (keys bits : List ℕ) (n office : ℕ) (own : Own) (rules : List Rule) (waiverIds waiverKeys ids foundKeys : List ℕ) where
   abbrev ws : List Finding
   ws = waiversOf waiverIds waiverKeys
 
@@ -36,13 +38,13 @@ module _ (m s : ℕ) (keys bits : List ℕ) (n : ℕ) (rules : List Rule) (waive
   run = runOf keys bits waiverIds waiverKeys rules
 
   abbrev live : List Finding
-  live = liveIn m keys bits n rules waiverIds waiverKeys
+  live = liveIn m keys bits n rules (waiversOf waiverIds waiverKeys)
 
   abbrev refusal : ℕ
-  refusal = findingsRefusal m s keys bits n rules waiverIds waiverKeys ids foundKeys
+  refusal = refusalWith m s keys bits n office (not (own .good)) rules (waiversOf waiverIds waiverKeys) ids foundKeys
 
   abbrev start : State
-  start = beginOf m s keys bits n waiverIds waiverKeys (length ids) (length foundKeys)
+  start = beginOf m s keys bits n office own (length ids) (length foundKeys)
 
   abbrev begun : Progress
   begun = progressOf start ids foundKeys
@@ -56,9 +58,9 @@ module _ (m s : ℕ) (keys bits : List ℕ) (n : ℕ) (rules : List Rule) (waive
 
   -- what the call gives and leaves
   pub record Promised (p : Progress) : Type 0 where
-    pub answered : answerOf (p .state) ≡ findings m s keys bits n rules waiverIds waiverKeys ids foundKeys
-    pub wroteIds : p .ids ≡ findingsIds m s keys bits n rules waiverIds waiverKeys ids foundKeys
-    pub wroteKeys : p .keys ≡ findingsKeys m s keys bits n rules waiverIds waiverKeys ids foundKeys
+    pub answered : answerOf (p .state) ≡ foundWith m s keys bits n office (not (own .good)) rules (waiversOf waiverIds waiverKeys) ids foundKeys
+    pub wroteIds : p .ids ≡ idsWith m s keys bits n office (not (own .good)) rules (waiversOf waiverIds waiverKeys) ids foundKeys
+    pub wroteKeys : p .keys ≡ keysWith m s keys bits n office (not (own .good)) rules (waiversOf waiverIds waiverKeys) ids foundKeys
 
   -- the counting run writes nothing
   pub ids-quiet : counted .ids ≡ ids
@@ -77,11 +79,11 @@ module _ (m s : ℕ) (keys bits : List ℕ) (n : ℕ) (rules : List Rule) (waive
     not-done : refusal ≡ 0 → ⊥
     not-done e = not-zero (sym said ∙ e)
 
-    stopped-ids : run second .ids ≡ findingsIds m s keys bits n rules waiverIds waiverKeys ids foundKeys
-    stopped-ids = ap (λ p. p .ids) stays ∙ ids-quiet ∙ sym (ids-stay m s keys bits n rules waiverIds waiverKeys ids foundKeys not-done)
+    stopped-ids : run second .ids ≡ idsWith m s keys bits n office (not (own .good)) rules (waiversOf waiverIds waiverKeys) ids foundKeys
+    stopped-ids = ap (λ p. p .ids) stays ∙ ids-quiet ∙ sym (ids-stay m s keys bits n office (not (own .good)) rules ws ids foundKeys not-done)
 
-    stopped-keys : run second .keys ≡ findingsKeys m s keys bits n rules waiverIds waiverKeys ids foundKeys
-    stopped-keys = ap (λ p. p .keys) stays ∙ keys-quiet ∙ sym (keys-stay m s keys bits n rules waiverIds waiverKeys ids foundKeys not-done)
+    stopped-keys : run second .keys ≡ keysWith m s keys bits n office (not (own .good)) rules (waiversOf waiverIds waiverKeys) ids foundKeys
+    stopped-keys = ap (λ p. p .keys) stays ∙ keys-quiet ∙ sym (keys-stay m s keys bits n office (not (own .good)) rules ws ids foundKeys not-done)
 
     stopped : (c ≡ 12 → ⊥) → Promised (run second)
     stopped not-full =
@@ -90,7 +92,7 @@ module _ (m s : ℕ) (keys bits : List ℕ) (n : ℕ) (rules : List Rule) (waive
           answered = ap (λ p. answerOf (p .state)) stays
               ∙ answer-refused st (λ e. not-zero (sym is ∙ e)) (λ e. not-full (sym is ∙ e))
               ∙ ap (λ k. record { refusal = k; live = 0; hidden = 0 }) is
-              ∙ sym (given-refused m s keys bits n rules waiverIds waiverKeys ids foundKeys c said not-zero not-full);
+              ∙ sym (given-refused m s keys bits n office (not (own .good)) rules ws ids foundKeys c said not-zero not-full);
           wroteIds = stopped-ids;
           wroteKeys = stopped-keys;
         }
@@ -101,7 +103,7 @@ module _ (m s : ℕ) (keys bits : List ℕ) (n : ℕ) (rules : List Rule) (waive
       stopped c (ap (λ st. st .refusal) (next-stopped (counted .state) (λ e. not-zero (sym is ∙ e))) ∙ is) not-zero said not-full
 
   -- 1 and 4
-  begin-refused : (c : ℕ) → beginRefusal m s keys bits n ≡ c → (c ≡ 0 → ⊥) → (c ≡ 12 → ⊥) → refusal ≡ c → Promised (run second)
+  begin-refused : (c : ℕ) → beginRefusal office m s keys bits n ≡ c → (c ≡ 0 → ⊥) → (c ≡ 12 → ⊥) → refusal ≡ c → Promised (run second)
   unfolding beginOf
   begin-refused c is not-zero not-full said =
       refused-first c (ap (λ p. p .state .refusal) (run-stopped keys bits waiverIds waiverKeys rules begun (λ e. not-zero (sym is ∙ e))) ∙ is) not-zero not-full said
@@ -111,10 +113,10 @@ module _ (m s : ℕ) (keys bits : List ℕ) (n : ℕ) (rules : List Rule) (waive
   faulted f said =
       stopped 14 (ap (λ st. st .refusal) (next-faulty (counted .state) (f .running) (f .fault))) (λ e. omega arith) said (λ e. omega arith)
 
-  module _ (settings : badSettings m s ≡ false) (list : isList m s keys bits n ≡ true) where
+  module _ (known-office : badOffice office ≡ false) (settings : badSettings m s ≡ false) (list : isList m s keys bits n ≡ true) where
     begins : start .refusal ≡ 0
     unfolding beginOf
-    begins = begin-good m s keys bits n settings list
+    begins = begin-good office m s keys bits n known-office settings list
 
     -- 13
     bad-run : goodFrom m s 0 rules ≡ false → counted .state .refusal ≡ 13
@@ -122,21 +124,19 @@ module _ (m s : ℕ) (keys bits : List ℕ) (n : ℕ) (rules : List Rule) (waive
     bad-run bad = run-bad keys bits waiverIds waiverKeys rules begun begins refl bad
 
     module _ (good : goodFrom m s 0 rules ≡ true) where
-      wrong-run : waiversGood m ws ≡ false → Faulted counted
+      wrong-run : own .good ≡ false → Faulted counted
       unfolding beginOf
-      wrong-run wrong =
-          run-faulty keys bits waiverIds waiverKeys rules begun
-          (record { running = begins; fault = sym (fault-good m s keys bits n waiverIds waiverKeys false begins (sym wrong)) }) refl good
+      wrong-run wrong = run-faulty keys bits waiverIds waiverKeys rules begun (record { running = begins; fault = ap not wrong }) refl good
 
       unknown-run : knownFrom ws 0 rules ≡ false → Faulted counted
       unfolding beginOf
       unknown-run unknown = run-unknown keys bits waiverIds waiverKeys rules begun begins refl good unknown
 
-      module _ (sound : waiversGood m ws ≡ true) (known : knownFrom ws 0 rules ≡ true) where
+      module _ (right : own .good ≡ true) (size : own .count ≡ length ws) (sound : waiversGood m ws ≡ true) (known : knownFrom ws 0 rules ≡ true) where
         counting-run : counted ≡ allGathered keys bits waiverIds waiverKeys rules begun
         unfolding beginOf
         counting-run =
-            run-gathered keys bits waiverIds waiverKeys rules begun begins refl (sym (fault-good m s keys bits n waiverIds waiverKeys true begins (sym sound)))
+            run-gathered keys bits waiverIds waiverKeys rules begun begins refl (ap not right)
             (below-zero ws)
             good
             known
@@ -154,7 +154,7 @@ module _ (m s : ℕ) (keys bits : List ℕ) (n : ℕ) (rules : List Rule) (waive
 
         sound-last : last .faulty ≡ false
         unfolding beginOf
-        sound-last = ap (λ p. p .state .faulty) counting-run ∙ sym (fault-good m s keys bits n waiverIds waiverKeys true begins (sym sound))
+        sound-last = ap (λ p. p .state .faulty) counting-run ∙ ap not right
 
         passed-last : last .passed ≡ waiversBelow (nextAfter 0 rules) ws
         unfolding beginOf
@@ -162,7 +162,7 @@ module _ (m s : ℕ) (keys bits : List ℕ) (n : ℕ) (rules : List Rule) (waive
 
         waivers-last : last .waivers ≡ length ws
         unfolding beginOf
-        waivers-last = ap (λ p. p .state .waivers) counting-run ∙ sym (waivers-length waiverIds waiverKeys)
+        waivers-last = ap (λ p. p .state .waivers) counting-run ∙ size
 
         room-last : last .room ≡ room ids foundKeys
         unfolding beginOf
@@ -188,7 +188,7 @@ module _ (m s : ℕ) (keys bits : List ℕ) (n : ℕ) (rules : List Rule) (waive
                 answered = ap (λ p. answerOf (p .state)) stay
                     ∙ answer-full (nextOf last) is
                     ∙ (λ i. record { refusal = is i; live = (ap (λ st. st .live) full ∙ live-last) i; hidden = 0 })
-                    ∙ sym (given-full m s keys bits n rules waiverIds waiverKeys ids foundKeys said);
+                    ∙ sym (given-full m s keys bits n office (not (own .good)) rules ws ids foundKeys said);
                 wroteIds = stopped-ids 12 is (λ e. omega arith) said;
                 wroteKeys = stopped-keys 12 is (λ e. omega arith) said;
               }
@@ -229,7 +229,7 @@ module _ (m s : ℕ) (keys bits : List ℕ) (n : ℕ) (rules : List Rule) (waive
             unfolding liveIn
             live-same = ap₂ (λ x l. liveOf x ws l) level-last all-same
 
-            hidden-same : hiddenCount (last .m) ws (allFindings (last .m) (pictureOf (last .m) (recordsOf keys bits (last .n))) rules) ≡ hiddenIn m keys bits n rules waiverIds waiverKeys
+            hidden-same : hiddenCount (last .m) ws (allFindings (last .m) (pictureOf (last .m) (recordsOf keys bits (last .n))) rules) ≡ hiddenIn m keys bits n rules (waiversOf waiverIds waiverKeys)
             unfolding hiddenIn
             hidden-same = ap₂ (λ x l. hiddenCount x ws l) level-last all-same
 
@@ -251,51 +251,57 @@ module _ (m s : ℕ) (keys bits : List ℕ) (n : ℕ) (rules : List Rule) (waive
                   answered = ap (λ p. answerOf (p .state)) final
                       ∙ answer-done (allGathered keys bits waiverIds waiverKeys rules again .state) refl
                       ∙ (λ i. record { refusal = 0; live = (zero-add _ ∙ ap length live-same) i; hidden = (zero-add _ ∙ hidden-same) i })
-                      ∙ sym (given-done m s keys bits n rules waiverIds waiverKeys ids foundKeys said);
+                      ∙ sym (given-done m s keys bits n office (not (own .good)) rules ws ids foundKeys said);
                   wroteIds = ap (λ p. p .ids) final
                       ∙ wrote-all (λ x. x .id) ids (omega arith)
-                      ∙ sym (ids-written m s keys bits n rules waiverIds waiverKeys ids foundKeys said);
+                      ∙ sym (ids-written m s keys bits n office (not (own .good)) rules ws ids foundKeys said);
                   wroteKeys = ap (λ p. p .keys) final
                       ∙ wrote-all (λ x. x .key) foundKeys (omega arith)
-                      ∙ sym (keys-written m s keys bits n rules waiverIds waiverKeys ids foundKeys said);
+                      ∙ sym (keys-written m s keys bits n office (not (own .good)) rules ws ids foundKeys said);
                 }
 
-            fine-table : badWaivers m rules ws ≡ false
-            fine-table =
-                waivers-fine m rules ws sound
-                (known-all m s ws 0 rules good known (let a = passed-last in let b = waivers-last in omega arith))
+        fine-table : last .waivers ≤ last .passed → not (own .good) || badWaivers m rules ws ≡ false
+        fine-table none =
+            ap₂ (λ a b. a || b) (ap not right)
+            (waivers-fine m rules ws sound (known-all m s ws 0 rules good known (let a = passed-last in let b = waivers-last in omega arith)))
 
         -- the rules and the waivers are good
         gathered-runs : Promised (run second)
         gathered-runs =
             split (last .passed) (last .waivers)
             (λ h. left-over h
-            (refusal-14 m s keys bits n rules waiverIds waiverKeys ids foundKeys settings list good
-            (waivers-unknown m rules ws (λ all. let found = all-known m s ws 0 rules good all in let a = passed-last in let b = waivers-last in let c = found .none in omega arith))))
+            (refusal-14 m s keys bits n office (not (own .good)) rules ws ids foundKeys known-office settings list good
+            (or-right (not (own .good)) (badWaivers m rules ws) (waivers-unknown m rules ws (λ all. let found = all-known m s ws 0 rules good all in let a = passed-last in let b = waivers-last in let c = found .none in omega arith)))))
             (λ none. split (last .room) (last .live)
             (λ h. too-many none h
-            (refusal-12 m s keys bits n rules waiverIds waiverKeys ids foundKeys settings list good
-            (waivers-fine m rules ws sound (known-all m s ws 0 rules good known (let a = passed-last in let b = waivers-last in omega arith)))
+            (refusal-12 m s keys bits n office (not (own .good)) rules ws ids foundKeys known-office settings list good
+            (fine-table none)
             (let a = live-last in let b = room-last in omega arith)))
             (λ fits. done none fits
-            (refusal-0 m s keys bits n rules waiverIds waiverKeys ids foundKeys settings list good (fine-table none fits)
+            (refusal-0 m s keys bits n office (not (own .good)) rules ws ids foundKeys known-office settings list good (fine-table none)
             (let a = live-last in let b = room-last in omega arith))))
 
-      good-runs : Promised (run second)
-      good-runs =
-          decide (waiversGood m ws)
-          (λ sound. decide (knownFrom ws 0 rules) (λ known. gathered-runs sound known)
+      good-runs : Fit m own waiverIds waiverKeys → Promised (run second)
+      good-runs fit =
+          decide (own .good)
+          (λ right.
+          let sound = fit .good right in
+          decide (knownFrom ws 0 rules) (λ known. gathered-runs right (fit .size ∙ sym (waivers-length waiverIds waiverKeys)) sound known)
           (λ unknown. faulted (unknown-run unknown)
-          (refusal-14 m s keys bits n rules waiverIds waiverKeys ids foundKeys settings list good
-          (waivers-unknown m rules ws (λ all. mathlib.Core.Bool.true≢false (sym (all-known m s ws 0 rules good all .known) ∙ unknown))))))
-          (λ wrong. faulted (wrong-run wrong) (refusal-14 m s keys bits n rules waiverIds waiverKeys ids foundKeys settings list good (waivers-wrong m rules ws wrong)))
+          (refusal-14 m s keys bits n office (not (own .good)) rules ws ids foundKeys known-office settings list good
+          (or-right (not (own .good)) (badWaivers m rules ws)
+          (waivers-unknown m rules ws (λ all. mathlib.Core.Bool.true≢false (sym (all-known m s ws 0 rules good all .known) ∙ unknown)))))))
+          (λ wrong. faulted (wrong-run wrong)
+          (refusal-14 m s keys bits n office (not (own .good)) rules ws ids foundKeys known-office settings list good (or-left (not (own .good)) (badWaivers m rules ws) (ap not wrong))))
 
   -- two runs give what document 01 says
-  pub two-runs : Promised (run second)
-  two-runs =
-      decide (badSettings m s)
-      (λ bad. begin-refused 1 (begin-bad m s keys bits n bad) (λ e. omega arith) (λ e. omega arith) (refusal-1 m s keys bits n rules waiverIds waiverKeys ids foundKeys bad))
+  pub two-runs : Fit m own waiverIds waiverKeys → Promised (run second)
+  two-runs fit =
+      decide (badOffice office)
+      (λ other. begin-refused 21 (begin-other office m s keys bits n other) (λ e. omega arith) (λ e. omega arith) (refusal-21 m s keys bits n office (not (own .good)) rules ws ids foundKeys other))
+      (λ known. decide (badSettings m s)
+      (λ bad. begin-refused 1 (begin-bad office m s keys bits n known bad) (λ e. omega arith) (λ e. omega arith) (refusal-1 m s keys bits n office (not (own .good)) rules ws ids foundKeys known bad))
       (λ settings. decide (isList m s keys bits n)
-      (λ list. decide (goodFrom m s 0 rules) (good-runs settings list)
-      (λ wrong. refused-first 13 (bad-run settings list wrong) (λ e. omega arith) (λ e. omega arith) (refusal-13 m s keys bits n rules waiverIds waiverKeys ids foundKeys settings list wrong)))
-      (λ no-list. begin-refused 4 (begin-no-list m s keys bits n settings no-list) (λ e. omega arith) (λ e. omega arith) (refusal-4 m s keys bits n rules waiverIds waiverKeys ids foundKeys settings no-list)))
+      (λ list. decide (goodFrom m s 0 rules) (λ good. good-runs known settings list good fit)
+      (λ wrong. refused-first 13 (bad-run known settings list wrong) (λ e. omega arith) (λ e. omega arith) (refusal-13 m s keys bits n office (not (own .good)) rules ws ids foundKeys known settings list wrong)))
+      (λ no-list. begin-refused 4 (begin-no-list office m s keys bits n known settings no-list) (λ e. omega arith) (λ e. omega arith) (refusal-4 m s keys bits n office (not (own .good)) rules ws ids foundKeys known settings no-list))))

@@ -4,15 +4,18 @@ use Prim.Native.Nat.{ℕ, _+_, _*_, _≤_, min}
 use mathlib.Core.Path.{_≡_}
 use mathlib.Core.Bool.{Bool, true, false, cond, not, _&&_, _||_}
 use mathlib.Core.List.{List, [], _∷_, map}
-use lib.ListN.{length}
+use lib.ListN.{length, take, drop}
 use lib.Dec.{leb, ltb, eqb}
 use Rattle.keys.specs.Key.{slotLimit, validKey}
 use Rattle.definitions.specs.Picture.{Picture}
 use Rattle.definitions.specs.Read.{room, recordsOf, pictureOf, isList}
 use Rattle.definitions.specs.Refusal.{badSettings}
+use Rattle.definitions.specs.Offices.{badOffice}
 use Rattle.definitions.specs.Rules.{Finding, findingsOf, waiversOf, liveOf, hiddenCount, isRule, findingsAscend}
 use Rattle.definitions.specs.declared.Rule.{Rule}
 use Rattle.definitions.specs.declared.Found.{Found}
+use Rattle.offices.specs.Own.{noRows, ownOf}
+use Rattle.offices.specs.declared.own.Own.{Own}
 use Rattle.window.specs.Gather.{written}
 use Rattle.rules.specs.declared.run.State.{State}
 
@@ -50,6 +53,7 @@ refusing number st =
       refusal = number;
       next = st .next;
       faulty = st .faulty;
+      offset = st .offset;
       waivers = st .waivers;
       passed = st .passed;
       limit = st .limit;
@@ -69,6 +73,7 @@ faultyFrom next st =
       refusal = st .refusal;
       next = next;
       faulty = true;
+      offset = st .offset;
       waivers = st .waivers;
       passed = st .passed;
       limit = st .limit;
@@ -88,6 +93,7 @@ counting next passed live hidden st =
       refusal = st .refusal;
       next = next;
       faulty = st .faulty;
+      offset = st .offset;
       waivers = st .waivers;
       passed = passed;
       limit = st .limit;
@@ -107,6 +113,7 @@ bounding live st =
       refusal = st .refusal;
       next = st .next;
       faulty = st .faulty;
+      offset = st .offset;
       waivers = st .waivers;
       passed = st .passed;
       limit = st .limit;
@@ -126,6 +133,7 @@ resting st =
       refusal = st .refusal;
       next = st .next;
       faulty = st .faulty;
+      offset = st .offset;
       waivers = st .waivers;
       passed = st .passed;
       limit = st .limit;
@@ -145,6 +153,7 @@ restarting limit st =
       refusal = 0;
       next = 0;
       faulty = false;
+      offset = st .offset;
       waivers = st .waivers;
       passed = 0;
       limit = limit;
@@ -230,27 +239,51 @@ module _ (keys bits waiverIds waiverKeys : List ℕ) where
   pub record Ready (p : Progress) : Type 0 where
     pub fine : p .state .refusal ≡ 0 → Fine p
 
--- how a counting run begins: with the refusals 1 and 4 decided, and whether a waiver is wrong by itself
-unfoldable pub beginRefusal : ℕ → ℕ → List ℕ → List ℕ → ℕ → ℕ
-beginRefusal m s keys bits n = cond (badSettings m s) 1 (cond (isList m s keys bits n) 0 4)
+-- the part of a slice of the table that the asking office's rows take
+abbrev pub ownPart : State → List ℕ → List ℕ
+ownPart st l = take (st .waivers) (drop (st .offset) l)
 
-unfoldable pub beginOf : ℕ → ℕ → List ℕ → List ℕ → ℕ → List ℕ → List ℕ → ℕ → ℕ → State
-beginOf m s keys bits n waiverIds waiverKeys roomIds roomKeys =
+module _ (keys bits ids waived : List ℕ) where
+  -- one rule against the asking office's rows
+  unfoldable pub tableStep : Rule → Progress → Progress
+  tableStep rule p = stepOf keys bits (ownPart (p .state) ids) (ownPart (p .state) waived) rule p
+
+  unfoldable pub tableRun : List Rule → Progress → Progress
+  tableRun [] p = p
+  tableRun (rule ∷ rules) p = tableRun rules (tableStep rule p)
+
+  pub record TableReady (p : Progress) : Type 0 where
+    pub in-ids : p .state .offset + p .state .waivers ≤ length ids
+    pub in-waived : p .state .offset + p .state .waivers ≤ length waived
+    pub own : Ready keys bits (ownPart (p .state) ids) (ownPart (p .state) waived) p
+
+-- how a counting run begins: with the refusals 21, 1 and 4 decided, and whether the table is wrong by itself
+unfoldable pub beginRefusal : ℕ → ℕ → ℕ → List ℕ → List ℕ → ℕ → ℕ
+beginRefusal office m s keys bits n = cond (badOffice office) 21 (cond (badSettings m s) 1 (cond (isList m s keys bits n) 0 4))
+
+unfoldable pub beginOf : ℕ → ℕ → List ℕ → List ℕ → ℕ → ℕ → Own → ℕ → ℕ → State
+beginOf m s keys bits n office own roomIds roomKeys =
     record {
       m = m;
       s = s;
       n = n;
       mode = 1;
-      refusal = beginRefusal m s keys bits n;
+      refusal = beginRefusal office m s keys bits n;
       next = 0;
-      faulty = eqb (beginRefusal m s keys bits n) 0 && not (waiversGood m (waiversOf waiverIds waiverKeys));
-      waivers = room waiverIds waiverKeys;
+      faulty = not (own .good);
+      offset = own .offset;
+      waivers = own .count;
       passed = 0;
       limit = 0;
       room = min roomIds roomKeys;
       live = 0;
       hidden = 0;
     }
+
+-- the asking office's rows, which are looked for where nothing is refused so far
+unfoldable pub ownAt : ℕ → ℕ → List ℕ → List ℕ → ℕ → ℕ → List ℕ → List ℕ → List ℕ → ℕ → Own
+ownAt m s keys bits n office offices ids waived rows =
+    cond (eqb (beginRefusal office m s keys bits n) 0) (ownOf m office offices ids waived rows) (noRows true)
 
 -- a run is over: 14 is decided, and 12 where the findings were counted; then comes the run that counts, or that writes
 unfoldable pub nextOf : State → State

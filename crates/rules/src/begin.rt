@@ -1,16 +1,13 @@
 // How the first run over the rules begins, what the run after a run is, and what the last answers.
 ghost use mathlib.Core.Path.{_≡_};
-ghost use Prim.Native.Nat.{_+_, _≤_, _<_, min};
-ghost use lib.ListN.{getD};
-ghost use Rattle.definitions.specs.Read.{room};
-ghost use Rattle.definitions.specs.Rules.{findingOf, waiversOf, comesBefore};
-ghost use Rattle.rules.specs.Run.{refusing, bounding, resting, restarting, waiversGood, beginRefusal, beginOf, nextOf, answerOf};
+ghost use Prim.Native.Nat.{min};
+ghost use Rattle.rules.specs.Run.{refusing, bounding, resting, restarting, beginRefusal, beginOf, ownAt, nextOf, answerOf};
 use crate::run;
 use crate::run::State;
 use definitions::Found;
-use keys::Key;
 use list::check;
 use list::settings;
+use offices::own;
 
 pub fn lesser(a: usize, b: usize) -> usize
     ensures { λ r. ⌜ r ≡ min a b ⌝ }
@@ -18,50 +15,13 @@ pub fn lesser(a: usize, b: usize) -> usize
     if a < b { a } else { b }
 }
 
-// A waiver comes before the next.
-fn comes_before_next(ids: &[u32], keys: &[u32], i: usize) -> bool
-    requires { ⌜ i + 1 < room (now ids) (now keys) ⌝ }
-    ensures { λ r. ⌜ r ≡ comesBefore (findingOf (getD (now (ids .entry)) i 0) (getD (now (keys .entry)) i 0))
-        (findingOf (getD (now (ids .entry)) (i + 1) 0) (getD (now (keys .entry)) (i + 1) 0)) ⌝ }
+// The refusals 21, 1 and 4.
+fn begin_refusal(office: u32, m: u32, s: u32, keys: &[u32], bits: &[u32], n: usize) -> u64
+    ensures { λ r. ⌜ r ≡ beginRefusal office m s (now (keys .entry)) (now (bits .entry)) n ⌝ }
 {
-    let a = ids[i];
-    let b = ids[i + 1];
-    if a < b {
-        return true;
+    if 1 < office {
+        return 21;
     }
-    if a != b {
-        return false;
-    }
-    keys[i] < keys[i + 1]
-}
-
-// The waivers are in order, and their keys are valid.
-fn waivers_are_good(m: u32, ids: &[u32], keys: &[u32], count: usize) -> bool
-    requires { ⌜ (m ≤ 10) × (count ≡ room (now ids) (now keys)) ⌝ }
-    ensures { λ r. ⌜ r ≡ waiversGood m (waiversOf (now (ids .entry)) (now (keys .entry))) ⌝ }
-{
-    let mut i = 0;
-    while i < count {
-        let key = keys[i];
-        let block = Key { number: key };
-        if !block.is_valid(m) {
-            return false;
-        }
-        let next = i + 1;
-        if next < count {
-            if !comes_before_next(ids, keys, i) {
-                return false;
-            }
-        }
-        i = next;
-    }
-    true
-}
-
-// The refusals 1 and 4.
-fn begin_refusal(m: u32, s: u32, keys: &[u32], bits: &[u32], n: usize) -> u64
-    ensures { λ r. ⌜ r ≡ beginRefusal m s (now (keys .entry)) (now (bits .entry)) n ⌝ }
-{
     if settings::are_bad(m, s) {
         return 1;
     }
@@ -72,25 +32,28 @@ fn begin_refusal(m: u32, s: u32, keys: &[u32], bits: &[u32], n: usize) -> u64
     }
 }
 
-// The run that checks begins: it bounds the number of findings.
+// The run that checks begins: it bounds the number of findings. The table is looked at where nothing is refused so far.
 pub fn begin(
     m: u32,
     s: u32,
     keys: &[u32],
     bits: &[u32],
     n: usize,
-    waiver_ids: &[u32],
-    waiver_keys: &[u32],
+    office: u32,
+    offices: &[u32],
+    ids: &[u32],
+    waived: &[u32],
+    rows: usize,
     room_ids: usize,
     room_keys: usize,
 ) -> State
-    ensures { λ r. ⌜ r ≡ bounding 0 (beginOf m s (now (keys .entry)) (now (bits .entry)) n (now («waiver_ids» .entry)) (now («waiver_keys» .entry)) «room_ids» «room_keys») ⌝ }
+    ensures { λ r. ⌜ r ≡ bounding 0 (beginOf m s (now (keys .entry)) (now (bits .entry)) n office
+        (ownAt m s (now (keys .entry)) (now (bits .entry)) n office (now (offices .entry)) (now (ids .entry)) (now (waived .entry)) rows) «room_ids» «room_keys») ⌝ }
 {
-    let refusal = begin_refusal(m, s, keys, bits, n);
-    let waivers = lesser(waiver_ids.len(), waiver_keys.len());
-    let mut faulty = false;
+    let refusal = begin_refusal(office, m, s, keys, bits, n);
+    let mut own = own::none(true);
     if refusal == 0 {
-        faulty = !waivers_are_good(m, waiver_ids, waiver_keys, waivers);
+        own = own::own_rows(m, office, offices, ids, waived, rows);
     }
     State {
         m,
@@ -99,8 +62,9 @@ pub fn begin(
         mode: run::BOUNDING,
         refusal,
         next: 0,
-        faulty,
-        waivers,
+        faulty: !own.good,
+        offset: own.offset,
+        waivers: own.count,
         passed: 0,
         limit: 0,
         room: lesser(room_ids, room_keys),
@@ -139,6 +103,7 @@ fn restarted(state: State, limit: usize) -> State
         refusal: 0,
         next: 0,
         faulty: false,
+        offset: state.offset,
         waivers: state.waivers,
         passed: 0,
         limit,

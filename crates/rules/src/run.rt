@@ -1,7 +1,7 @@
 // The loop over the lent rules. Each rule is copied out and given to `step`, which has all the logic and is covered; the loop itself is walked by
 // hand.
 ghost use mathlib.Core.Path.{_≡_};
-ghost use Rattle.rules.specs.Run.{progressOf, Ready, runOf};
+ghost use Rattle.rules.specs.Run.{progressOf, TableReady, tableRun};
 use crate::step;
 use definitions::Rule;
 
@@ -15,7 +15,7 @@ pub const WALKING: u32 = 1;
 pub const RESTING: u32 = 2;
 
 // Where a run over the rules stands: the settings and the number of records; which of the three runs it is; the refusal, or 0; the least id that the next rule may have;
-// whether a waiver is wrong; how many waivers there are and how many are passed; how many findings may be written, and how many have room; and how many
+// whether a waiver is wrong; where the asking office's rows begin, how many they are and how many are passed; how many findings may be written, and how many have room; and how many
 // were live and hidden. A run that bounds has in `live` a number that the live findings do not exceed.
 pub struct State {
     pub m: u32,
@@ -25,6 +25,7 @@ pub struct State {
     pub refusal: u64,
     pub next: u64,
     pub faulty: bool,
+    pub offset: usize,
     pub waivers: usize,
     pub passed: usize,
     pub limit: usize,
@@ -43,9 +44,9 @@ pub fn run(
     found_keys: &mut [u32],
     state: State,
 ) -> State
-    requires { ⌜ Ready (now keys) (now bits) (now «waiver_ids») (now «waiver_keys») (progressOf state (now «found_ids») (now «found_keys»)) ⌝ }
+    requires { ⌜ TableReady (now keys) (now bits) (now «waiver_ids») (now «waiver_keys») (progressOf state (now «found_ids») (now «found_keys»)) ⌝ }
     ensures { λ r. ⌜ progressOf r (now («found_ids» .exit)) (now («found_keys» .exit))
-        ≡ runOf (now (keys .entry)) (now (bits .entry)) (now («waiver_ids» .entry)) (now («waiver_keys» .entry)) (now (rules .entry))
+        ≡ tableRun (now (keys .entry)) (now (bits .entry)) (now («waiver_ids» .entry)) (now («waiver_keys» .entry)) (now (rules .entry))
         (progressOf state (now («found_ids» .entry)) (now («found_keys» .entry))) ⌝ }
 {
     let mut st = state;

@@ -4,7 +4,7 @@ ghost use mathlib.Core.Bool.{_&&_, _||_};
 ghost use Prim.Native.Nat.{_+_, _^_, _≤_};
 ghost use lib.ListN.{length, getD};
 ghost use lib.Dec.{ltb};
-ghost use Rattle.rules.specs.Run.{progressOf, faultyFrom, counting, mayCome, served, Ready, stepOf};
+ghost use Rattle.rules.specs.Run.{progressOf, faultyFrom, counting, mayCome, served, Ready, stepOf, TableReady, tableStep};
 ghost use Rattle.rules.specs.Step.{OwnEnd, Gatherable, widened};
 use crate::begin;
 use crate::run;
@@ -143,7 +143,8 @@ fn gather(
     counted(state, next, end, sifted)
 }
 
-pub fn step(
+// One rule against its own waivers.
+fn own_step(
     rule: Rule,
     keys: &[u32],
     bits: &[u32],
@@ -178,6 +179,36 @@ pub fn step(
         bits,
         waiver_ids,
         waiver_keys,
+        found_ids,
+        found_keys,
+        state,
+    )
+}
+
+// The asking office's rows are a part of the table's slices.
+pub fn step(
+    rule: Rule,
+    keys: &[u32],
+    bits: &[u32],
+    waiver_ids: &[u32],
+    waiver_keys: &[u32],
+    found_ids: &mut [u32],
+    found_keys: &mut [u32],
+    state: State,
+) -> State
+    requires { ⌜ TableReady (now keys) (now bits) (now «waiver_ids») (now «waiver_keys») (progressOf state (now «found_ids») (now «found_keys»)) ⌝ }
+    ensures { λ r. ⌜ progressOf r (now («found_ids» .exit)) (now («found_keys» .exit))
+        ≡ tableStep (now (keys .entry)) (now (bits .entry)) (now («waiver_ids» .entry)) (now («waiver_keys» .entry)) rule
+        (progressOf state (now («found_ids» .entry)) (now («found_keys» .entry))) ⌝ }
+{
+    let from = state.offset;
+    let end = from + state.waivers;
+    own_step(
+        rule,
+        keys,
+        bits,
+        &waiver_ids[from..end],
+        &waiver_keys[from..end],
         found_ids,
         found_keys,
         state,

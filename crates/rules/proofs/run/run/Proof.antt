@@ -45,7 +45,7 @@ use Rattle.keys.proofs.Cases.{split}
 use Rattle.definitions.specs.declared.Rule.{Rule}
 use Rattle.definitions.proofs.Rule as Rule
 use Rattle.definitions.proofs.Rule.Laws as Rule′
-use Rattle.rules.specs.Run.{progressOf, Ready}
+use Rattle.rules.specs.Run.{progressOf, TableReady}
 use Rattle.rules.specs.declared.run.State.{State}
 use Rattle.rules.proofs.run.State as State
 use Rattle.rules.proofs.run.State.Laws as State′
@@ -214,7 +214,7 @@ module _ {M : Type 1} (𝓤 : URA M) (H : Heap 𝓤) (A : Atoms 𝓤) (W : Given
           ),
         ),
       ))
-      (λ κs qs bounds a g are. needs 𝓤 (Ready (a .1 .0 .now) (a .1 .1 .0 .now) (a .1 .1 .1 .0 .now) (a .1 .1 .1 .1 .0 .now)
+      (λ κs qs bounds a g are. needs 𝓤 (TableReady (a .1 .0 .now) (a .1 .1 .0 .now) (a .1 .1 .1 .0 .now) (a .1 .1 .1 .1 .0 .now)
       (progressOf (a .1 .1 .1 .1 .1 .1 .1 .0) (a .1 .1 .1 .1 .1 .0 .now) (a .1 .1 .1 .1 .1 .1 .0 .now))) _ (λ ready.
       walk 𝓤 H A W mem run (record { κ = κs .0; q = qs .0; x = a .0; room = are .0 .0 .1 }) (record {
         keys = record { κ = κs .1 .0; q = qs .1 .0; x = a .1 .0; room = are .1 .0 .0 .1 };
