@@ -82,11 +82,12 @@ static void edits(void) {
 
 static void findings(void) {
     static const hlq_rule rules[2] = { { 1, 0, 0, 2, 2, FIRST }, { 7, 0, 0, 2, 2, LAST } };
-    static const uint32_t ids[1] = { 7 }, waived[1] = { 3 };
+    static const uint32_t offices[HLQ_TABLE_PLACES] = { 0 }, ids[HLQ_TABLE_PLACES] = { 7 }, waived[HLQ_TABLE_PLACES] = { 3 };
     uint32_t found_ids[4], found_keys[4];
     fresh();
     hlq_found f =
-        hlq_findings(M, S, keys, ROOM, bits, ROOM, N, rules, 2, ids, 1, waived, 1, found_ids, 4, found_keys, 4);
+        hlq_findings(M, S, keys, ROOM, bits, ROOM, N, 0, rules, 2, offices, HLQ_TABLE_PLACES, ids, HLQ_TABLE_PLACES,
+                     waived, HLQ_TABLE_PLACES, 1, found_ids, 4, found_keys, 4);
     must(f.refusal == 0 && f.live == 3 && f.hidden == 1, "findings of classes 0 and 31");
     must(found_ids[2] == 7 && found_keys[2] == 2, "class 31 in block 2 is live, in block 3 it is waived");
 }
