@@ -16,3 +16,4 @@ pub mod Theorem
 pub mod Cancels
 pub mod MapAHistory
 pub mod OfficeShares
+pub mod OfficeIsolation
