@@ -17,3 +17,4 @@ pub mod Cancels
 pub mod MapAHistory
 pub mod OfficeShares
 pub mod OfficeIsolation
+pub mod OfficeTheorem
