@@ -2,12 +2,13 @@
 -- those of its own calls alone. Rests on OfficeShares.
 use Prim.Native.Nat.{ℕ, suc, _+_, _-_, _≤_, _<_, max}
 use mathlib.Core.Path.{_≡_, refl, sym, ap, ap₂, subst, _∙_}
+use mathlib.Core.Logic.{_↔_}
 use mathlib.Core.Bool.{Bool, true, false, cond, not, _&&_, _||_, true≢false}
 use mathlib.Core.List.{List, [], _∷_, _++_, map}
 use native.Mathlib.Omega.{arith}
 use lib.ListN.{length, take, drop, replicate, length-append, length-drop, length-map, length-replicate}
 use lib.Dec.{leb, ltb, eqb}
-use borrow.Author.Tests.{eq-eqb, ne-eqb, le-leb, lt-leb, leb-false, ltb-false, not-false}
+use borrow.Author.Tests.{eq-eqb, ne-eqb, le-leb, lt-leb, leb-true, leb-false, ltb-false, not-false}
 use Rattle.keys.specs.Key.{deepestLevel, validKey}
 use Rattle.keys.proofs.Cases.{decide, split, equal, and-both}
 use Rattle.definitions.specs.Buffer.{over, replaced}
@@ -18,7 +19,7 @@ use Rattle.definitions.specs.Calls.AddWaiver.{addRefusal, addWaiver, addOffices
 use Rattle.definitions.specs.Calls.RemoveWaiver.{removeRefusal, removeWaiver, removeOffices, removeIds, removeKeys}
 use Rattle.definitions.specs.Calls.Findings.{refusalWith, foundWith, idsWith, keysWith, findings, findingsIds, findingsKeys}
 use Rattle.definitions.specs.declared.Rule.{Rule}
-use Rattle.definitions.proofs.First.{first-later, first-none, accepted-done, accepted-left}
+use Rattle.definitions.proofs.First.{first-this, first-later, first-end, first-none, accepted-done, accepted-left}
 use Rattle.definitions.proofs.RowPlaces.{table-length, table-made}
 use Rattle.definitions.proofs.RowOrder.{added-ascend, removed-ascend}
 use Rattle.definitions.proofs.Shares.{Sound, share-none, known-all}
@@ -98,6 +99,29 @@ module _ (m : ℕ) (T : Table) (g : Grown m T) where
         ∙ ap (λ b. first (badOffice (a .office) gives 21 ∷ ltb deepestLevel m gives 1 ∷ badKey m (a .key) gives 8 ∷ b gives 22 ∷ leb officeLimit (length share) gives 12 ∷ [])) (share-row w t))
         (third-out _ _ _ _ (ap not (never-14 g))
         ∙ ap (λ b. first (badOffice (a .office) gives 21 ∷ ltb deepestLevel m gives 1 ∷ badKey m (a .key) gives 8 ∷ not b gives 22 ∷ [])) (share-row w t))
+
+    own-limit : badOffice (a .office) ≡ false → length share ≤ 256
+    own-limit known =
+        let low = ltb-false 1 (a .office) known in
+        equal (a .office) 0
+        (λ e. let s = g .sound .zero in let f = ap (λ o. length (rowsOf o t)) e in omega arith)
+        (λ other. let e : a .office ≡ 1 = omega arith in let s = g .sound .one in let f = ap (λ o. length (rowsOf o t)) e in omega arith)
+
+    -- where nothing else is wrong with a row to add, 12 comes exactly when the office has 256
+    pub full-exactly : a .adds ≡ true → badOffice (a .office) ≡ false → ltb deepestLevel m ≡ false → badKey m (a .key) ≡ false → isRow w t ≡ false
+        → (refusalOf m T a ≡ 12) ↔ (length share ≡ 256)
+    unfolding refusalOf addRefusal
+    full-exactly adds known level key-good new =
+        let last = leb officeLimit (length share) gives 12 in
+        let five : refusalOf m T a ≡ first (last ∷ []) =
+        ap (λ b. cond b adding removing) adds
+        ∙ (first-later _ _ known ∙ first-later _ _ level ∙ first-later _ _ (ap not (never-14 g)) ∙ first-later _ _ key-good ∙ first-later _ _ new) in
+        (
+          λ e. decide (leb 256 (length share))
+          (λ full. let h = leb-true 256 (length share) full in let l = own-limit known in omega arith)
+          (λ few. let z = sym five ∙ e in let y = first-later last [] few ∙ first-end in absurd (omega arith)),
+          λ e. five ∙ first-this last [] (le-leb 256 (length share) (omega arith)),
+        )
 
     -- ---- the table after a call
     holds : Holds (T .offices) (T .ids) (T .waived) (T .rows)
