@@ -266,6 +266,24 @@ static void findings(size_t n, int small) {
     printf("%llu live, %llu hidden\n", (unsigned long long)found.live, (unsigned long long)found.hidden);
 }
 
+/* A row removed from a full table and added again: the row in the middle of office 1. */
+static void tables(void) {
+    static uint32_t offices[HLQ_TABLE_PLACES], ids[HLQ_TABLE_PLACES], waived[HLQ_TABLE_PLACES];
+    size_t rows = HLQ_TABLE_PLACES;
+    for (uint32_t i = 0; i < HLQ_TABLE_PLACES; i++)
+        offices[i] = i / HLQ_OFFICE_ROWS, ids[i] = i % HLQ_OFFICE_ROWS, waived[i] = 0;
+    printf("\na full table of two offices, each call with its check of the table\n");
+    COMPARE("remove and add a waiver", 9, 100,
+            rows = hlq_remove_waiver(M, 1, offices, HLQ_TABLE_PLACES, ids, HLQ_TABLE_PLACES, waived, HLQ_TABLE_PLACES,
+                                     rows, 128, 0)
+                       .count;
+            rows = hlq_add_waiver(M, 1, offices, HLQ_TABLE_PLACES, ids, HLQ_TABLE_PLACES, waived, HLQ_TABLE_PLACES,
+                                  rows, 128, 0)
+                       .count;
+            sink += rows, rows = plain_remove_waiver(1, offices, ids, waived, rows, 128, 0);
+            rows = plain_add_waiver(1, offices, ids, waived, rows, 128, 0); sink += rows);
+}
+
 static void files(uint32_t s, size_t n) {
     size_t room = HLQ_FILE_BYTES(MOST, s);
     printf("\nfile at m = %d, s = %u, n = %zu\n", M, s, n);
@@ -446,6 +464,7 @@ int main(void) {
     if (!file) return 1;
     printf("%-36s %14s %14s %8s\n", "call", "library ns", "plain C ns", "ratio");
     blocks();
+    tables();
     for (int kind = 0; kind <= 2; kind++) {
         fill(kind);
         lists(kinds[kind]);

@@ -676,6 +676,48 @@ size_t plain_redo(uint32_t m, uint32_t s, uint32_t *keys, uint32_t *bits, size_t
     return n;
 }
 
+/* ---- the table of two offices */
+
+static int row_before(uint32_t o, uint32_t i, uint32_t k, uint32_t office, uint32_t id, uint32_t key) {
+    if (o != office) return o < office;
+    if (i != id) return i < id;
+    return k < key;
+}
+
+static int is_table(const uint32_t *offices, const uint32_t *ids, const uint32_t *waived, size_t rows) {
+    size_t held[2] = { 0, 0 };
+    for (size_t i = 0; i < rows; i++) {
+        if (offices[i] > 1) return 0;
+        if (i > 0 && !row_before(offices[i - 1], ids[i - 1], waived[i - 1], offices[i], ids[i], waived[i])) return 0;
+        held[offices[i]]++;
+    }
+    return held[0] <= 256 && held[1] <= 256;
+}
+
+size_t plain_add_waiver(uint32_t office, uint32_t *offices, uint32_t *ids, uint32_t *waived, size_t rows, uint32_t id,
+                        uint32_t key) {
+    size_t at = 0;
+    if (!is_table(offices, ids, waived, rows)) return 0;
+    while (at < rows && row_before(offices[at], ids[at], waived[at], office, id, key)) at++;
+    memmove(offices + at + 1, offices + at, 4 * (rows - at));
+    memmove(ids + at + 1, ids + at, 4 * (rows - at));
+    memmove(waived + at + 1, waived + at, 4 * (rows - at));
+    offices[at] = office, ids[at] = id, waived[at] = key;
+    return rows + 1;
+}
+
+size_t plain_remove_waiver(uint32_t office, uint32_t *offices, uint32_t *ids, uint32_t *waived, size_t rows,
+                           uint32_t id, uint32_t key) {
+    size_t at = 0;
+    if (!is_table(offices, ids, waived, rows)) return 0;
+    while (at < rows && row_before(offices[at], ids[at], waived[at], office, id, key)) at++;
+    memmove(offices + at, offices + at + 1, 4 * (rows - at - 1));
+    memmove(ids + at, ids + at + 1, 4 * (rows - at - 1));
+    memmove(waived + at, waived + at + 1, 4 * (rows - at - 1));
+    offices[rows - 1] = ids[rows - 1] = waived[rows - 1] = 0;
+    return rows - 1;
+}
+
 /* ---- findings, store, load */
 
 /* The waivers of one rule, how far they are passed, and the furthest end of those. */

@@ -17,3 +17,5 @@ pub mod Theorem
 pub mod Cancels
 pub mod MapAHistory
 pub mod OfficeShares
+pub mod OfficeIsolation
+pub mod OfficeTheorem
