@@ -253,13 +253,15 @@ static void findings(size_t n, int small) {
            small ? ", small and nested" : "");
     COMPARE("findings", 5, 1,
             sink += hlq_findings(M, S, keys, MOST, bits, MOST, n, 1, rules, RULES, offices, HLQ_TABLE_PLACES, table_ids,
-                                 HLQ_TABLE_PLACES, table_keys, HLQ_TABLE_PLACES, 2 * waivers, found_ids, 1 << 22, found_keys, 1 << 22)
+                                 HLQ_TABLE_PLACES, table_keys, HLQ_TABLE_PLACES, 2 * waivers, found_ids, 1 << 22,
+                                 found_keys, 1 << 22)
                         .live,
             sink +=
             (uint64_t)plain_is_list(M, S, keys, bits, n) +
             plain_findings(M, keys, bits, n, rules, RULES, ids, waived, waivers, other_ids, other_found, &hidden));
-    hlq_found found = hlq_findings(M, S, keys, MOST, bits, MOST, n, 1, rules, RULES, offices, HLQ_TABLE_PLACES, table_ids,
-                                   HLQ_TABLE_PLACES, table_keys, HLQ_TABLE_PLACES, 2 * waivers, found_ids, 1 << 22, found_keys, 1 << 22);
+    hlq_found found = hlq_findings(M, S, keys, MOST, bits, MOST, n, 1, rules, RULES, offices, HLQ_TABLE_PLACES,
+                                   table_ids, HLQ_TABLE_PLACES, table_keys, HLQ_TABLE_PLACES, 2 * waivers, found_ids,
+                                   1 << 22, found_keys, 1 << 22);
     if (found.refusal || found.hidden != hidden || memcmp(found_ids, other_ids, 4 * found.live) != 0 ||
         memcmp(found_keys, other_found, 4 * found.live) != 0)
         printf("THE TWO DIFFER\n");

@@ -30,8 +30,8 @@ int main(void) {
 
     static const hlq_rule rules[1] = { { 7, 0, 0, 4, 4, 2 } }; /* rule 7: no feature 2 in the whole map */
     uint32_t offices[HLQ_TABLE_PLACES], ids[HLQ_TABLE_PLACES], waived[HLQ_TABLE_PLACES], found_ids[16];
-    hlq_counted rows = hlq_add_waiver(M, 0, offices, HLQ_TABLE_PLACES, ids, HLQ_TABLE_PLACES, waived, HLQ_TABLE_PLACES, 0,
-                                      7, 2 * 5 + 4); /* but in block 24 office 0 accepts it */
+    hlq_counted rows = hlq_add_waiver(M, 0, offices, HLQ_TABLE_PLACES, ids, HLQ_TABLE_PLACES, waived, HLQ_TABLE_PLACES,
+                                      0, 7, 2 * 5 + 4); /* but in block 24 office 0 accepts it */
     hlq_found f = hlq_findings(M, S, keys, ROOM, bits, ROOM, n, 0, rules, 1, offices, HLQ_TABLE_PLACES,
                                ids, HLQ_TABLE_PLACES, waived, HLQ_TABLE_PLACES, rows.count,
                                found_ids, 16, answer, 16);

@@ -25,8 +25,8 @@ static unsigned long long print_live(const uint32_t *waived, size_t waivers) {
     uint32_t offices[HLQ_TABLE_PLACES], rule_ids[HLQ_TABLE_PLACES], table[HLQ_TABLE_PLACES];
     size_t rows = 0;
     for (size_t i = 0; i < waivers; i++)
-        rows = hlq_add_waiver(M, 0, offices, HLQ_TABLE_PLACES, rule_ids, HLQ_TABLE_PLACES, table, HLQ_TABLE_PLACES, rows,
-                              waived_rules[i], waived[i])
+        rows = hlq_add_waiver(M, 0, offices, HLQ_TABLE_PLACES, rule_ids, HLQ_TABLE_PLACES, table, HLQ_TABLE_PLACES,
+                              rows, waived_rules[i], waived[i])
                    .count;
     hlq_found f = hlq_findings(M, S, keys, ROOM, bits, ROOM, n, 0, rules, 1, offices, HLQ_TABLE_PLACES,
                                rule_ids, HLQ_TABLE_PLACES, table, HLQ_TABLE_PLACES, rows, ids, ROOM, blocks, ROOM);

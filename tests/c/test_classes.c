@@ -82,7 +82,8 @@ static void edits(void) {
 
 static void findings(void) {
     static const hlq_rule rules[2] = { { 1, 0, 0, 2, 2, FIRST }, { 7, 0, 0, 2, 2, LAST } };
-    static const uint32_t offices[HLQ_TABLE_PLACES] = { 0 }, ids[HLQ_TABLE_PLACES] = { 7 }, waived[HLQ_TABLE_PLACES] = { 3 };
+    static const uint32_t offices[HLQ_TABLE_PLACES] = { 0 }, ids[HLQ_TABLE_PLACES] = { 7 };
+    static const uint32_t waived[HLQ_TABLE_PLACES] = { 3 };
     uint32_t found_ids[4], found_keys[4];
     fresh();
     hlq_found f =

@@ -105,7 +105,8 @@ static void full(uint32_t m) {
     uint32_t first = below(2);
     for (uint32_t k = 0; k < 2; k++) {
         uint32_t office = k ? 1 - first : first;
-        for (uint32_t i = 0; i < 256; i++) must(change(1, m, office, &t, i * 3, 0).refusal == 0, "a place for each row");
+        for (uint32_t i = 0; i < 256; i++)
+            must(change(1, m, office, &t, i * 3, 0).refusal == 0, "a place for each row");
         must(change(1, m, office, &t, 9999, 0).count == 257, "the office is full");
         must(change(1, m, office, &t, 3, 0).refusal == 22, "a row that is there, in a full office");
         must(held(&t, office) == 256, "256 rows");
@@ -136,7 +137,9 @@ static void damaged(uint32_t m) {
             for (size_t i = 0; i < t.rows; i++) t.offices[i] = 1, t.ids[i] = (uint32_t)i, t.waived[i] = 0;
         }
     }
-    hlq_rule rules[3] = { { 0, 0, 0, 1, 1, 0 }, { 1, 0, 0, 1u << m, 1u << m, 0 }, { 2, 0, 0, 1, 1, below(3) ? 0 : 99 } };
+    hlq_rule rules[3] = { { 0, 0, 0, 1, 1, 0 },
+                          { 1, 0, 0, 1u << m, 1u << m, 0 },
+                          { 2, 0, 0, 1, 1, below(3) ? 0 : 99 } };
     hlq_found f;
     uint32_t ids[64], keys[64];
     for (uint32_t o = 0; o < 3; o++) findings_of(a, &t, o, rules, 1 + below(3), &f, ids, keys);
