@@ -1,0 +1,53 @@
+-- What a step does to the pixels, as the code is told it, and what the code answers about a block. Rests on Step.
+use Prim.Native.Nat.{ℕ, _+_, _^_, _≤_, _<_}
+use mathlib.Core.Path.{_≡_}
+use mathlib.Core.Bool.{true}
+use mathlib.Core.List.{List}
+use Rattle.keys.specs.Block.{pixelKey}
+use Rattle.keys.proofs.Under.{Block}
+use Rattle.definitions.specs.Bits.{featureOf}
+use Rattle.definitions.specs.Window.{inWindow}
+use Rattle.definitions.specs.declared.Window.{Window}
+use Rattle.list.specs.Check.{oneSlot}
+use Rattle.build.specs.BuildBlocks.{Tallied}
+use Rattle.step.specs.Step.{Step, over, plain}
+use Rattle.step.specs.declared.deed.Deed.{Deed}
+
+-- every pixel of a window gets a feature
+abbrev pub windowStep : Window → ℕ → Step
+windowStep w f = record { touches = inWindow w; gives = plain f }
+
+-- a window and a feature that a map can have
+pub record Painting (w : Window) (feature : ℕ) : Type 0 where
+  pub low : w .row + w .height ≤ 1024
+  pub narrow : w .column + w .width ≤ 1024
+  pub slot : feature ≤ 31
+
+-- the step that a deed stands for
+abbrev pub stepOf : (m : ℕ) (deed : Deed) (logKeys logValues : List ℕ) → Step
+stepOf m deed ks vs = windowStep (deed .window) (deed .feature)
+
+-- what is known of a deed before anything is changed
+abbrev pub Doable : (m : ℕ) (deed : Deed) (logKeys logValues : List ℕ) → Type 0
+Doable m deed ks vs = Painting (deed .window) (deed .feature)
+
+-- a leaf's block of the map
+pub record LeafAsked (m own height row column key : ℕ) : Type 0 where
+  pub deep : m ≤ 10
+  pub block : Block m height row column key
+  pub leaf : oneSlot own ≡ true
+
+-- the bits of the leaf after the step where it stays a leaf; 0 where the quadrants have to be asked
+pub record Settled (t : Step) (own height row column bits : ℕ) : Type 0 where
+  pub stays : (bits ≡ 0 → ⊥) → Tallied (over t (plain (featureOf own))) height row column bits 1
+  pub parts : bits ≡ 0 → 0 < height
+
+-- two steps do the same to every pixel whose key is below past
+pub record SameBefore (m past : ℕ) (t t′ : Step) : Type 0 where
+  pub touches : (row column : ℕ) → pixelKey m row column < past → t′ .touches row column ≡ t .touches row column
+  pub gives : (row column : ℕ) → pixelKey m row column < past → t′ .gives row column ≡ t .gives row column
+
+-- a deed of which no more is told than the blocks before past need
+pub record Narrowed (m past : ℕ) (deed deed′ : Deed) (logKeys logValues : List ℕ) : Type 0 where
+  pub doable : Doable m deed′ logKeys logValues
+  pub same : SameBefore m past (stepOf m deed logKeys logValues) (stepOf m deed′ logKeys logValues)

@@ -1,0 +1,10 @@
+// A step of an edit that touches many blocks, done to the list as one change (document 02, item 10): count what the list becomes, renew the bits of its
+// nodes, squeeze out what has become one leaf, and let every leaf grow to what the step makes of it. No stage needs more room than the list before or
+// the list after.
+pub mod change;
+pub mod deed;
+pub mod grow;
+mod quarters;
+pub mod renew;
+pub mod squeeze;
+pub mod tally;
