@@ -160,5 +160,6 @@ int main(void) {
         }
     expect_pairs(CALL_ADD_WAIVER, 1u << 0 | 1u << 21 | 1u << 1 | 1u << 14 | 1u << 8 | 1u << 22 | 1u << 12);
     expect_pairs(CALL_REMOVE_WAIVER, 1u << 0 | 1u << 21 | 1u << 1 | 1u << 14 | 1u << 8 | 1u << 22);
+    expect_pairs(CALL_FINDINGS, 1u << 0 | 1u << 21 | 1u << 13 | 1u << 14 | 1u << 12);
     return finish("offices");
 }
