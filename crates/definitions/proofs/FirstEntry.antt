@@ -1,14 +1,13 @@
 -- The first entry of a log, found from the end: one entry after the other is passed until none stands before. So it is the first of entries that stand one
 -- after the other. Rests on SoundLog.
-use Prim.Native.Nat.{ℕ, zero, suc, _+_, _-_, _≤_, _<_}
+use Prim.Native.Nat.{ℕ, zero, suc, _+_, _-_, _≤_}
 use mathlib.Core.Path.{_≡_, refl, sym, ap, _∙_}
 use mathlib.Core.List.{List, [], _++_, append-assoc, append-nil}
 use native.Mathlib.Omega.{arith}
 use native.Mathlib.Nat.{le-refl}
-use mathlib.Core.Bool.{cond, true, false}
+use mathlib.Core.Bool.{cond}
 use lib.ListN.{length, length-append, length-take}
-use lib.Dec.{eqb}
-use borrow.Author.Tests.{eq-eqb, ne-eqb, eqb-true, eqb-false}
+use borrow.Author.Tests.{eq-eqb, ne-eqb}
 use Rattle.keys.proofs.Cases.{equal}
 use Rattle.definitions.specs.List.{Record}
 use Rattle.definitions.specs.Log.{closed, closingPlaces, lastCount, beforeLast, firstIn, firstEntry}

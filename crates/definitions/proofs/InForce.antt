@@ -1,13 +1,12 @@
 -- The count in force (document 02, item 7): a log whose records in force and to redo are both sound is sound, and its count in force is 0 or the end of an
 -- entry; for a sound log both are sound exactly then. Rests on SoundLog.
 use Prim.Native.Nat.{ℕ, _+_, _-_, _≤_, _<_}
-use mathlib.Core.Path.{_≡_, refl, sym, ap, _∙_, subst}
+use mathlib.Core.Path.{_≡_, sym, ap, _∙_, subst}
 use mathlib.Core.Logic.{_↔_}
-use mathlib.Core.Bool.{true, _&&_}
+use mathlib.Core.Bool.{true}
 use mathlib.Core.List.{List, [], _∷_, _++_, append-assoc, append-nil, List·Memᴰ, List·Memᴰ·head, List·Memᴰ·tail, List·Memᴰ·not-nil}
 use native.Mathlib.Omega.{arith}
-use native.Mathlib.Nat.{le-refl}
-use lib.ListN.{length, getD, take, drop, length-take, length-drop, length-append, take-append-drop}
+use lib.ListN.{length, getD, take, drop, length-drop, take-append-drop}
 use lib.Seq.{take-append-le, drop-append-le, take-length, drop-length, getD-drop}
 use Rattle.keys.proofs.Cases.{equal, and-right}
 use Rattle.definitions.specs.List.{Record, recordOf}

@@ -1,6 +1,6 @@
 -- The plan of a redo: the block of the next entry is painted with its feature again. Rests on PaintPlan and on the laws of the log's first entry.
 use Prim.Native.Nat.{ℕ, _+_, _-_, _^_, _≤_, _<_}
-use mathlib.Core.Path.{_≡_, sym, _∙_, ap, ap₂, subst}
+use mathlib.Core.Path.{_≡_, sym, _∙_, ap, subst}
 use mathlib.Core.Bool.{true}
 use mathlib.Core.List.{List}
 use native.Mathlib.Omega.{arith}
@@ -9,7 +9,7 @@ use Rattle.keys.specs.Key.{slotLimit, validKey}
 use Rattle.definitions.specs.List.{Record}
 use Rattle.definitions.specs.Read.{room, recordsOf}
 use Rattle.definitions.specs.Area.{summaryOf}
-use Rattle.definitions.specs.Log.{closingPlaces, lastKey, lastFeature, isSound, firstEntry, toRedo}
+use Rattle.definitions.specs.Log.{closingPlaces, isSound, firstEntry, toRedo}
 use Rattle.definitions.specs.Calls.Redo.{redonePicture, redone}
 use Rattle.definitions.specs.Calls.Paint.{paintedPicture, painted}
 use Rattle.definitions.proofs.Records.{records-length}
@@ -22,9 +22,8 @@ use Rattle.put.specs.Putting.{Replaced}
 use Rattle.put.specs.Put.{topFor, planAt}
 use Rattle.put.specs.declared.plan.Plan.{Plan}
 use Rattle.edit.specs.PaintCall.{Paintable, paintPlan}
-use Rattle.edit.specs.Recount.{Outdated}
 use Rattle.edit.specs.RedoCall.{nextEntry, redoPlan}
-use Rattle.edit.proofs.PaintPlan.{paint-found, paint-outdated, paint-counted}
+use Rattle.edit.proofs.PaintPlan.{paint-found, paint-counted}
 
 -- the records to redo, of which there are some
 module _ {m s : ℕ} {keys values : List ℕ} {used inForce : ℕ} (w : WholeLog m s keys values used inForce) (some : inForce < used) where

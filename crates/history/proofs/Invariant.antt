@@ -1,6 +1,6 @@
 -- What holds after each call of a history: list and summary are those of the first picture with the paints applied, the log is that of the paints held and
 -- then of those undone, and every picture of the past and of the paints undone is legal. So the list, the summary and the log pass their checks, and a refused call keeps all this. Rests on Past and the slices.
-use Prim.Native.Nat.{ℕ, _+_, max}
+use Prim.Native.Nat.{ℕ, max}
 use mathlib.Core.Path.{_≡_, sym, ap, _∙_}
 use mathlib.Core.Bool.{Bool, true, false, not, _&&_}
 use mathlib.Core.List.{List}

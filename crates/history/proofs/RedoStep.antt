@@ -1,7 +1,7 @@
 -- A redo in a history: its answer is 20 where no paint is there to redo and 0 otherwise, it holds the next paint again, and the invariant is kept.
 -- Rests on Invariant and Content.
 use Prim.Native.Nat.{ℕ, _+_, _≤_, max}
-use mathlib.Core.Path.{_≡_, refl, sym, ap, ap₂, _∙_, subst}
+use mathlib.Core.Path.{_≡_, refl, sym, ap, ap₂, _∙_}
 use mathlib.Core.Bool.{false, not}
 use mathlib.Core.List.{List, [], _∷_, _++_}
 use native.Mathlib.Omega.{arith}
@@ -22,7 +22,7 @@ use Rattle.history.specs.History.{Buffers, Paint, Kept, redoing, withNex
 use Rattle.history.specs.Claim.{redoAnswer}
 use Rattle.history.proofs.Drawn.{drawn-latest}
 use Rattle.history.proofs.Content.{first-next, redone-list, redone-summary}
-use Rattle.history.proofs.Past.{Legal, log-latest, entry-some, past-legal, Future, future-valid, future-below, future-legal, future-after, future-entries, after-none, after-next}
+use Rattle.history.proofs.Past.{log-latest, entry-some, future-valid, future-below, future-legal, future-after, future-entries, after-none, after-next}
 use Rattle.history.proofs.Past as past
 use Rattle.history.proofs.Slices.{list-replaced, list-room}
 use Rattle.history.proofs.LogSlices.{log-counts, log-again}

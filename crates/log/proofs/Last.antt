@@ -2,17 +2,14 @@
 -- the laws of the last entry and of the records of two slices.
 use Prim.Native.Nat.{ℕ, _+_, _-_, _≤_, _<_}
 use mathlib.Core.Path.{_≡_, sym, ap, _∙_}
-use mathlib.Core.Bool.{Bool, true, false, _&&_}
+use mathlib.Core.Bool.{Bool, true, false}
 use mathlib.Core.List.{List, [], _∷_}
 use native.Mathlib.Omega.{arith}
 use lib.ListN.{length, getD}
-use lib.Dec.{leb}
-use borrow.Author.Tests.{leb-true, not-false}
 use Rattle.keys.specs.Key.{validKey}
-use Rattle.keys.proofs.Cases.{and-left, and-right}
 use Rattle.definitions.specs.List.{Record, recordOf}
-use Rattle.definitions.specs.Read.{room, recordsOf}
-use Rattle.definitions.specs.Log.{closingPlaces, countRecord, lastRecord, lastKey, lastFeature, lastCount, beforeLast, lastContent, isContent, isSound, toRedo, noLog}
+use Rattle.definitions.specs.Read.{recordsOf}
+use Rattle.definitions.specs.Log.{closingPlaces, countRecord, lastRecord, lastKey, lastFeature, lastCount, beforeLast, lastContent, isContent, isSound}
 use Rattle.definitions.proofs.LastEntry.{length-before, content-place, length-content}
 use Rattle.definitions.proofs.SoundLog.{content-not-empty, sound-ends}
 use Rattle.definitions.proofs.Records.{records-length, records-at, records-run}

@@ -64,7 +64,7 @@ pub fn last_entry(keys: &[u32], values: &[u32], used: usize) -> Entry
     }
 }
 
-// The first entry of the used records, which are found from the end: one entry after the other until none stands before.
+// The first entry of the used records. It is found from the end: one entry after the other, until none stands before.
 pub fn first_entry(keys: &[u32], values: &[u32], used: usize) -> Entry
     requires { ⌜ Divided (now keys) (now values) used ⌝ }
     ensures { λ r. ⌜ r ≡ lastEntry (firstEntry (recordsOf (now (keys .entry)) (now (values .entry)) used)) ⌝ }

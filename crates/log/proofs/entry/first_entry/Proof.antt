@@ -1,5 +1,4 @@
 -- `entry::first_entry` meets its contract: after each turn the first entry is the first of what is left.
-use native.Mathlib.Omega.{arith}
 use Rattle.log.proofs.First.{Walk, divided-ended, walk-begins, start-less, walk-left, walk-turns, walk-ends}
 use Rattle.log.proofs.entry.first_entry.Statement.{statement}
 use Rattle.log.proofs.entry.first_entry.Tie as tie
