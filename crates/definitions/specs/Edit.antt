@@ -8,13 +8,13 @@ use Rattle.definitions.specs.Picture.{Picture}
 use Rattle.definitions.specs.List.{Record, listOf}
 
 -- q inside the block with key κ, p outside it
-unfoldable pub put : ℕ → ℕ → Picture → Picture → Picture
+unfoldable pub put : (m κ : ℕ) (q p : Picture) → Picture
 put m κ q p row column = cond (inBlock m κ row column) (q row column) (p row column)
 
 -- every pixel of the block gets feature f
-unfoldable pub paintIn : ℕ → ℕ → ℕ → Picture → Picture
+unfoldable pub paintIn : (m κ f : ℕ) (p : Picture) → Picture
 paintIn m κ f p = put m κ (λ row column. f) p
 
 -- the content of a block: its node and all below, or one record with its own key where it lies inside a leaf
-unfoldable pub contentOf : ℕ → Picture → ℕ → List Record
+unfoldable pub contentOf : (m : ℕ) (p : Picture) (κ : ℕ) → List Record
 contentOf m p κ = listOf p (heightOf m κ) (rowOf m κ) (columnOf m κ) κ

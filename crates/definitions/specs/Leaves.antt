@@ -14,7 +14,7 @@ use Rattle.definitions.specs.Read.{room, recordsOf}
 use Rattle.definitions.specs.Refusal.{badPixel}
 
 -- the bitstring is one slot alone
-abbrev pub isLeaf : ℕ → Bool
+abbrev pub isLeaf : (bits : ℕ) → Bool
 isLeaf bits = eqb bits (2 ^ featureOf bits)
 
 -- of each record of one feature its key and its feature
@@ -22,12 +22,12 @@ unfoldable pub leavesOf : List Record → List Record
 leavesOf [] = []
 leavesOf (e ∷ l) = cond (isLeaf (e .value)) (recordOf (e .key) (featureOf (e .value)) ∷ leavesOf l) (leavesOf l)
 
-unfoldable pub validKeys : (m : ℕ) → List ℕ → Bool
+unfoldable pub validKeys : (m : ℕ) (keys : List ℕ) → Bool
 validKeys m [] = true
 validKeys m (κ ∷ keys) = validKey m κ && validKeys m keys
 
 -- the first key is at least so large, and each other larger than the one before it
-unfoldable pub ascendFrom : (least : ℕ) → List ℕ → Bool
+unfoldable pub ascendFrom : (least : ℕ) (keys : List ℕ) → Bool
 ascendFrom least [] = true
 ascendFrom least (κ ∷ keys) = leb least κ && ascendFrom (suc κ) keys
 

@@ -11,7 +11,7 @@ pub record Record : Type 0 where
   pub key : ℕ
   pub value : ℕ
 
-abbrev pub recordOf : ℕ → ℕ → Record
+abbrev pub recordOf : (key value : ℕ) → Record
 recordOf key value = record { key = key; value = value }
 
 abbrev pub keysOf : List Record → List ℕ
@@ -21,7 +21,7 @@ abbrev pub valuesOf : List Record → List ℕ
 valuesOf l = map (λ x. x .value) l
 
 -- the list of the block of height k with key κ: one record where it has one feature, else its record and then those of its four quadrants
-unfoldable pub listOf : Picture → ℕ → ℕ → ℕ → ℕ → List Record
+unfoldable pub listOf : (p : Picture) (k row column κ : ℕ) → List Record
 listOf p zero row column κ = recordOf κ (bitsOf p zero row column) ∷ []
 listOf p (suc k) row column κ =
     recordOf κ (bitsOf p (suc k) row column)
@@ -32,8 +32,8 @@ listOf p (suc k) row column κ =
     ++ (listOf p k (row + 2 ^ k) column (childKey κ k 3) ++ listOf p k (row + 2 ^ k) (column + 2 ^ k) (childKey κ k 4))))
 
 -- the list of a picture of side 2 ^ m
-abbrev pub listOfPicture : ℕ → Picture → List Record
+abbrev pub listOfPicture : (m : ℕ) (p : Picture) → List Record
 listOfPicture m p = listOf p m 0 0 rootKey
 
-abbrev pub listOfRaster : ℕ → List ℕ → List Record
+abbrev pub listOfRaster : (m : ℕ) (raster : List ℕ) → List Record
 listOfRaster m raster = listOfPicture m (pictureOfRaster m raster)

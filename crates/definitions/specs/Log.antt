@@ -14,7 +14,7 @@ use Rattle.definitions.specs.Edit.{contentOf}
 
 -- an entry: a block's former content, and then two closing records with its key, one with the number of content records and one with the feature
 -- that the block was painted with
-unfoldable pub closed : ℕ → List Record → ℕ → List Record
+unfoldable pub closed : (κ : ℕ) (content : List Record) (f : ℕ) → List Record
 closed κ content f = content ++ (recordOf κ (length content) ∷ recordOf κ f ∷ [])
 
 -- how many places an entry needs beside its content
@@ -22,45 +22,45 @@ abbrev pub closingPlaces : ℕ
 closingPlaces = 2
 
 -- the entry of a paint of block κ with f
-unfoldable pub entryOf : ℕ → Picture → ℕ → ℕ → List Record
+unfoldable pub entryOf : (m : ℕ) (p : Picture) (κ f : ℕ) → List Record
 entryOf m p κ f = closed κ (contentOf m p κ) f
 
 -- the closing records of the last entry
-unfoldable pub countRecord : List Record → Record
+unfoldable pub countRecord : (log : List Record) → Record
 countRecord log = getD log (length log - 2) (recordOf 0 0)
 
-unfoldable pub lastRecord : List Record → Record
+unfoldable pub lastRecord : (log : List Record) → Record
 lastRecord log = getD log (length log - 1) (recordOf 0 0)
 
-unfoldable pub lastKey : List Record → ℕ
+unfoldable pub lastKey : (log : List Record) → ℕ
 lastKey log = lastRecord log .key
 
 -- the feature that the last entry's block was painted with
-unfoldable pub lastFeature : List Record → ℕ
+unfoldable pub lastFeature : (log : List Record) → ℕ
 lastFeature log = lastRecord log .value
 
 -- the number of records in the last entry's content
-unfoldable pub lastCount : List Record → ℕ
+unfoldable pub lastCount : (log : List Record) → ℕ
 lastCount log = countRecord log .value
 
 -- the log before its last entry
-unfoldable pub beforeLast : List Record → List Record
+unfoldable pub beforeLast : (log : List Record) → List Record
 beforeLast log = take (length log - (lastCount log + closingPlaces)) log
 
 -- the content of the last entry
-unfoldable pub lastContent : List Record → List Record
+unfoldable pub lastContent : (log : List Record) → List Record
 lastContent log = take (lastCount log) (drop (length log - (lastCount log + closingPlaces)) log)
 
 -- the records are a correct list of the block with key κ at m and s
-unfoldable pub isContent : ℕ → ℕ → ℕ → List Record → Bool
+unfoldable pub isContent : (m s κ : ℕ) (l : List Record) → Bool
 isContent m s κ l = isListOfBlock m s (heightOf m κ) (rowOf m κ) (columnOf m κ) κ l
 
 -- the closing records have one key, and a feature below s
-unfoldable pub closes : ℕ → List Record → Bool
+unfoldable pub closes : (s : ℕ) (log : List Record) → Bool
 closes s log = eqb (countRecord log .key) (lastKey log) && ltb (lastFeature log) s
 
 -- the last entry is all there and closed, its key is valid at m, and its content is a correct list of that block
-unfoldable pub lastIsEntry : ℕ → ℕ → List Record → Bool
+unfoldable pub lastIsEntry : (m s : ℕ) (log : List Record) → Bool
 lastIsEntry m s log =
     leb (lastCount log + closingPlaces) (length log)
     && closes s log
@@ -68,19 +68,19 @@ lastIsEntry m s log =
     && isContent m s (lastKey log) (lastContent log)
 
 -- the records divide from the end into entries; an entry has records, so as many steps as there are records suffice
-unfoldable pub dividesIn : ℕ → ℕ → ℕ → List Record → Bool
+unfoldable pub dividesIn : (steps m s : ℕ) (log : List Record) → Bool
 dividesIn zero m s log = eqb (length log) 0
 dividesIn (suc steps) m s log = cond (eqb (length log) 0) true (lastIsEntry m s log && dividesIn steps m s (beforeLast log))
 
-unfoldable pub isSound : ℕ → ℕ → List Record → Bool
+unfoldable pub isSound : (m s : ℕ) (log : List Record) → Bool
 isSound m s log = dividesIn (length log) m s log
 
 -- the first entry: what is left when entries are taken off the end as long as another stands before
-unfoldable pub firstIn : ℕ → List Record → List Record
+unfoldable pub firstIn : (steps : ℕ) (log : List Record) → List Record
 firstIn zero log = log
 firstIn (suc steps) log = cond (eqb (length (beforeLast log)) 0) log (firstIn steps (beforeLast log))
 
-unfoldable pub firstEntry : List Record → List Record
+unfoldable pub firstEntry : (log : List Record) → List Record
 firstEntry log = firstIn (length log) log
 
 -- the records that are not in force: their entries were taken back, and can be redone

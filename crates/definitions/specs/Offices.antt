@@ -29,7 +29,7 @@ abbrev pub waivedBy : Waiver → Finding
 waivedBy w = findingOf (w .id) (w .key)
 
 -- 21
-abbrev pub badOffice : ℕ → Bool
+abbrev pub badOffice : (office : ℕ) → Bool
 badOffice office = ltb 1 office
 
 -- the rows of three slices, as many as the shortest holds
@@ -44,7 +44,7 @@ unfoldable pub tableOf : (offices ids waived : List ℕ) (rows : ℕ) → List W
 tableOf offices ids waived rows = rowsIn (take rows offices) (take rows ids) (take rows waived)
 
 -- the row at a place of the slices, and that they have places for so many rows
-abbrev pub rowAt : (offices ids waived : List ℕ) → ℕ → Waiver
+abbrev pub rowAt : (offices ids waived : List ℕ) (i : ℕ) → Waiver
 rowAt offices ids waived i = waiverOf (getD offices i 0) (getD ids i 0) (getD waived i 0)
 
 pub record Holds (offices ids waived : List ℕ) (rows : ℕ) : Type 0 where
@@ -53,12 +53,12 @@ pub record Holds (offices ids waived : List ℕ) (rows : ℕ) : Type 0 where
   pub in-waived : rows ≤ length waived
 
 -- an office's own rows
-unfoldable pub rowsOf : ℕ → List Waiver → List Finding
+unfoldable pub rowsOf : (office : ℕ) (table : List Waiver) → List Finding
 rowsOf office [] = []
 rowsOf office (w ∷ table) = cond (eqb (w .office) office) (waivedBy w ∷ rowsOf office table) (rowsOf office table)
 
 -- by office, then id, then key
-abbrev pub rowBefore : Waiver → Waiver → Bool
+abbrev pub rowBefore : (a b : Waiver) → Bool
 rowBefore a b = ltb (a .office) (b .office) || eqb (a .office) (b .office) && comesBefore (waivedBy a) (waivedBy b)
 
 -- strictly ascending: each before the next
@@ -87,23 +87,23 @@ abbrev pub badTable : (offices ids waived : List ℕ) (rows : ℕ) → Bool
 badTable offices ids waived rows = not (isTable offices ids waived rows)
 
 -- every row's key is valid, whichever office has it
-unfoldable pub rowKeysValid : ℕ → List Waiver → Bool
+unfoldable pub rowKeysValid : (m : ℕ) (table : List Waiver) → Bool
 rowKeysValid m [] = true
 rowKeysValid m (w ∷ table) = validKey m (w .key) && rowKeysValid m table
 
-abbrev pub sameRow : Waiver → Waiver → Bool
+abbrev pub sameRow : (a b : Waiver) → Bool
 sameRow a b = eqb (a .office) (b .office) && (eqb (a .id) (b .id) && eqb (a .key) (b .key))
 
 -- the row is in the table
-unfoldable pub isRow : Waiver → List Waiver → Bool
+unfoldable pub isRow : (w : Waiver) (table : List Waiver) → Bool
 isRow w [] = false
 isRow w (x ∷ table) = sameRow x w || isRow w table
 
 -- the table with the row at its place, and without the row
-unfoldable pub added : Waiver → List Waiver → List Waiver
+unfoldable pub added : (w : Waiver) (table : List Waiver) → List Waiver
 added w [] = w ∷ []
 added w (x ∷ table) = cond (rowBefore x w) (x ∷ added w table) (w ∷ (x ∷ table))
 
-unfoldable pub removed : Waiver → List Waiver → List Waiver
+unfoldable pub removed : (w : Waiver) (table : List Waiver) → List Waiver
 removed w [] = []
 removed w (x ∷ table) = cond (sameRow x w) table (x ∷ removed w table)

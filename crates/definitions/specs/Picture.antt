@@ -10,14 +10,14 @@ abbrev pub Picture : Type 0
 Picture = ℕ → ℕ → ℕ
 
 -- a raster of side 2 ^ m: row after row, row 0 at the top, column 0 at the left
-abbrev pub pictureOfRaster : ℕ → List ℕ → Picture
+abbrev pub pictureOfRaster : (m : ℕ) (raster : List ℕ) → Picture
 pictureOfRaster m raster row column = getD raster (row * 2 ^ m + column) 0
 
-abbrev pub allFour : Bool → Bool → Bool → Bool → Bool
+abbrev pub allFour : (nw ne sw se : Bool) → Bool
 allFour nw ne sw se = nw && ne && (sw && se)
 
 -- every pixel of the block of height k whose first row and column are given passes the test
-unfoldable pub everyPixel : (ℕ → ℕ → Bool) → ℕ → ℕ → ℕ → Bool
+unfoldable pub everyPixel : (test : ℕ → ℕ → Bool) (k row column : ℕ) → Bool
 everyPixel test zero row column = test row column
 everyPixel test (suc k) row column =
     allFour (everyPixel test k row column)
@@ -26,8 +26,8 @@ everyPixel test (suc k) row column =
     (everyPixel test k (row + 2 ^ k) (column + 2 ^ k))
 
 -- the block has one feature: that of its first pixel
-unfoldable pub oneFeature : Picture → ℕ → ℕ → ℕ → Bool
+unfoldable pub oneFeature : (p : Picture) (k row column : ℕ) → Bool
 oneFeature p k row column = everyPixel (λ r c. eqb (p r c) (p row column)) k row column
 
-unfoldable pub featuresBelow : ℕ → Picture → ℕ → ℕ → ℕ → Bool
+unfoldable pub featuresBelow : (s : ℕ) (p : Picture) (k row column : ℕ) → Bool
 featuresBelow s p k row column = everyPixel (λ r c. ltb (p r c) s) k row column

@@ -11,38 +11,38 @@ use Rattle.definitions.specs.Bits.{featureOf}
 use Rattle.definitions.specs.List.{Record, recordOf, listOf}
 
 -- room is the shorter of the two slices
-abbrev pub room : List ℕ → List ℕ → ℕ
+abbrev pub room : (keys values : List ℕ) → ℕ
 room keys values = min (length keys) (length values)
 
-unfoldable pub paired : List ℕ → List ℕ → List Record
+unfoldable pub paired : (keys values : List ℕ) → List Record
 paired [] values = []
 paired (κ ∷ keys) [] = []
 paired (κ ∷ keys) (v ∷ values) = recordOf κ v ∷ paired keys values
 
 -- the first n records of two slices
-abbrev pub recordsOf : List ℕ → List ℕ → ℕ → List Record
+abbrev pub recordsOf : (keys values : List ℕ) (n : ℕ) → List Record
 recordsOf keys values n = paired (take n keys) (take n values)
 
 -- the value of the last record whose key is at or before x, or v where there is none
-unfoldable pub valueAt : ℕ → ℕ → List Record → ℕ
+unfoldable pub valueAt : (x v : ℕ) (l : List Record) → ℕ
 valueAt x v [] = v
 valueAt x v (e ∷ l) = valueAt x (cond (leb (e .key) x) (e .value) v) l
 
 -- the picture that a list shows: at each pixel the feature of the last record at or before the pixel's key
-unfoldable pub pictureOf : ℕ → List Record → Picture
+unfoldable pub pictureOf : (m : ℕ) (l : List Record) → Picture
 pictureOf m l row column = featureOf (valueAt (pixelKey m row column) 0 l)
 
-unfoldable pub sameRecords : List Record → List Record → Bool
+unfoldable pub sameRecords : (xs ys : List Record) → Bool
 sameRecords [] [] = true
 sameRecords [] (y ∷ ys) = false
 sameRecords (x ∷ xs) [] = false
 sameRecords (x ∷ xs) (y ∷ ys) = eqb (x .key) (y .key) && eqb (x .value) (y .value) && sameRecords xs ys
 
 -- the records are the list of the block that they show, and its features are below s
-unfoldable pub isListOfBlock : ℕ → ℕ → ℕ → ℕ → ℕ → ℕ → List Record → Bool
+unfoldable pub isListOfBlock : (m s k row column κ : ℕ) (l : List Record) → Bool
 isListOfBlock m s k row column κ l =
     sameRecords l (listOf (pictureOf m l) k row column κ) && featuresBelow s (pictureOf m l) k row column
 
 -- the first n records are there, and are the list of a raster at m and s
-unfoldable pub isList : ℕ → ℕ → List ℕ → List ℕ → ℕ → Bool
+unfoldable pub isList : (m s : ℕ) (keys bits : List ℕ) (n : ℕ) → Bool
 isList m s keys bits n = leb n (room keys bits) && isListOfBlock m s m 0 0 rootKey (recordsOf keys bits n)

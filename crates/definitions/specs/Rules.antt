@@ -15,48 +15,48 @@ pub record Finding : Type 0 where
   pub id : ℕ
   pub key : ℕ
 
-abbrev pub findingOf : ℕ → ℕ → Finding
+abbrev pub findingOf : (id key : ℕ) → Finding
 findingOf id key = record { id = id; key = key }
 
 abbrev pub windowOf : Rule → Window
 windowOf rule = record { row = rule .row; column = rule .column; height = rule .height; width = rule .width }
 
 -- the findings of a rule are the blocks that select gives
-unfoldable pub findingsOf : ℕ → Picture → Rule → List Finding
+unfoldable pub findingsOf : (m : ℕ) (p : Picture) (rule : Rule) → List Finding
 findingsOf m p rule = map (findingOf (rule .id)) (selectIn m p (windowOf rule) (rule .feature))
 
-unfoldable pub allFindings : ℕ → Picture → List Rule → List Finding
+unfoldable pub allFindings : (m : ℕ) (p : Picture) (rules : List Rule) → List Finding
 allFindings m p [] = []
 allFindings m p (rule ∷ rules) = findingsOf m p rule ++ allFindings m p rules
 
 -- the waivers of two slices, as many as the shorter holds
-unfoldable pub waiversOf : List ℕ → List ℕ → List Finding
+unfoldable pub waiversOf : (ids keys : List ℕ) → List Finding
 waiversOf [] keys = []
 waiversOf (id ∷ ids) [] = []
 waiversOf (id ∷ ids) (κ ∷ keys) = findingOf id κ ∷ waiversOf ids keys
 
 -- the pixel lies in the block of some waiver of the rule
-unfoldable pub isWaivedAt : ℕ → List Finding → ℕ → ℕ → ℕ → Bool
+unfoldable pub isWaivedAt : (m : ℕ) (waivers : List Finding) (id row column : ℕ) → Bool
 isWaivedAt m [] id row column = false
 isWaivedAt m (w ∷ ws) id row column = eqb (w .id) id && inBlock m (w .key) row column || isWaivedAt m ws id row column
 
 -- every pixel of the finding's block does
-unfoldable pub isHidden : ℕ → List Finding → Finding → Bool
+unfoldable pub isHidden : (m : ℕ) (waivers : List Finding) (x : Finding) → Bool
 isHidden m waivers x = everyPixel (isWaivedAt m waivers (x .id)) (heightOf m (x .key)) (rowOf m (x .key)) (columnOf m (x .key))
 
-unfoldable pub liveOf : ℕ → List Finding → List Finding → List Finding
+unfoldable pub liveOf : (m : ℕ) (waivers findings : List Finding) → List Finding
 liveOf m waivers [] = []
 liveOf m waivers (x ∷ xs) = cond (isHidden m waivers x) (liveOf m waivers xs) (x ∷ liveOf m waivers xs)
 
-unfoldable pub hiddenCount : ℕ → List Finding → List Finding → ℕ
+unfoldable pub hiddenCount : (m : ℕ) (waivers findings : List Finding) → ℕ
 hiddenCount m waivers [] = 0
 hiddenCount m waivers (x ∷ xs) = cond (isHidden m waivers x) 1 0 + hiddenCount m waivers xs
 
 -- the rule's window and feature are good
-unfoldable pub isRule : ℕ → ℕ → Rule → Bool
+unfoldable pub isRule : (m s : ℕ) (rule : Rule) → Bool
 isRule m s rule = isWindow m (windowOf rule) && ltb (rule .feature) s
 
-unfoldable pub allRules : ℕ → ℕ → List Rule → Bool
+unfoldable pub allRules : (m s : ℕ) (rules : List Rule) → Bool
 allRules m s [] = true
 allRules m s (rule ∷ rules) = isRule m s rule && allRules m s rules
 
@@ -67,11 +67,11 @@ idsAscend (a ∷ []) = true
 idsAscend (a ∷ (b ∷ rules)) = ltb (a .id) (b .id) && idsAscend (b ∷ rules)
 
 -- 13
-unfoldable pub badRules : ℕ → ℕ → List Rule → Bool
+unfoldable pub badRules : (m s : ℕ) (rules : List Rule) → Bool
 badRules m s rules = not (idsAscend rules && allRules m s rules)
 
 -- by id and then key
-abbrev pub comesBefore : Finding → Finding → Bool
+abbrev pub comesBefore : (a b : Finding) → Bool
 comesBefore a b = ltb (a .id) (b .id) || eqb (a .id) (b .id) && ltb (a .key) (b .key)
 
 unfoldable pub findingsAscend : List Finding → Bool
@@ -79,14 +79,14 @@ findingsAscend [] = true
 findingsAscend (a ∷ []) = true
 findingsAscend (a ∷ (b ∷ xs)) = comesBefore a b && findingsAscend (b ∷ xs)
 
-unfoldable pub isRuleId : List Rule → ℕ → Bool
+unfoldable pub isRuleId : (rules : List Rule) (id : ℕ) → Bool
 isRuleId [] id = false
 isRuleId (rule ∷ rules) id = eqb (rule .id) id || isRuleId rules id
 
-unfoldable pub allWaivers : ℕ → List Rule → List Finding → Bool
+unfoldable pub allWaivers : (m : ℕ) (rules : List Rule) (waivers : List Finding) → Bool
 allWaivers m rules [] = true
 allWaivers m rules (w ∷ ws) = validKey m (w .key) && isRuleId rules (w .id) && allWaivers m rules ws
 
 -- 14
-unfoldable pub badWaivers : ℕ → List Rule → List Finding → Bool
+unfoldable pub badWaivers : (m : ℕ) (rules : List Rule) (waivers : List Finding) → Bool
 badWaivers m rules waivers = not (findingsAscend waivers && allWaivers m rules waivers)

@@ -9,58 +9,58 @@ use Rattle.definitions.specs.Picture.{Picture, everyPixel}
 use Rattle.definitions.specs.declared.Window.{Window}
 
 -- height and width are at least 1, and it lies wholly inside the raster
-unfoldable pub isWindow : ℕ → Window → Bool
+unfoldable pub isWindow : (m : ℕ) (w : Window) → Bool
 isWindow m w =
     leb 1 (w .height)
     && leb 1 (w .width)
     && (leb (w .row + w .height) (2 ^ m) && leb (w .column + w .width) (2 ^ m))
 
 -- 6
-abbrev pub badWindow : ℕ → Window → Bool
+abbrev pub badWindow : (m : ℕ) (w : Window) → Bool
 badWindow m w = not (isWindow m w)
 
 -- the pixel lies in the window
-unfoldable pub inWindow : Window → ℕ → ℕ → Bool
+unfoldable pub inWindow : (w : Window) (row column : ℕ) → Bool
 inWindow w row column =
     leb (w .row) row
     && ltb row (w .row + w .height)
     && (leb (w .column) column && ltb column (w .column + w .width))
 
 -- the features of a run of pixels in a row
-unfoldable pub featuresOfRow : Picture → ℕ → ℕ → ℕ → List ℕ
+unfoldable pub featuresOfRow : (p : Picture) (row column width : ℕ) → List ℕ
 featuresOfRow p row column zero = []
 featuresOfRow p row column (suc width) = p row column ∷ featuresOfRow p row (suc column) width
 
-unfoldable pub featuresOfRows : Picture → ℕ → ℕ → ℕ → ℕ → List ℕ
+unfoldable pub featuresOfRows : (p : Picture) (row column width height : ℕ) → List ℕ
 featuresOfRows p row column width zero = []
 featuresOfRows p row column width (suc height) = featuresOfRow p row column width ++ featuresOfRows p (suc row) column width height
 
 -- the features of the window's pixels, row after row
-unfoldable pub featuresIn : Picture → Window → List ℕ
+unfoldable pub featuresIn : (p : Picture) (w : Window) → List ℕ
 featuresIn p w = featuresOfRows p (w .row) (w .column) (w .width) (w .height)
 
-unfoldable pub occurs : ℕ → List ℕ → Bool
+unfoldable pub occurs : (f : ℕ) (features : List ℕ) → Bool
 occurs f [] = false
 occurs f (x ∷ xs) = eqb x f || occurs f xs
 
-unfoldable pub unionOf : List ℕ → ℕ
+unfoldable pub unionOf : (features : List ℕ) → ℕ
 unionOf [] = 0
 unionOf (x ∷ xs) = bitOr (2 ^ x) (unionOf xs)
 
 -- some pixel of the window has feature f
-unfoldable pub existIn : Picture → Window → ℕ → Bool
+unfoldable pub existIn : (p : Picture) (w : Window) (f : ℕ) → Bool
 existIn p w f = occurs f (featuresIn p w)
 
 -- the bitstring of all features in the window
-unfoldable pub reportIn : Picture → Window → ℕ
+unfoldable pub reportIn : (p : Picture) (w : Window) → ℕ
 reportIn p w = unionOf (featuresIn p w)
 
 -- all pixels of the block lie in the window and have feature f
-unfoldable pub isGiven : Picture → Window → ℕ → ℕ → ℕ → ℕ → Bool
+unfoldable pub isGiven : (p : Picture) (w : Window) (f k row column : ℕ) → Bool
 isGiven p w f k row column = everyPixel (λ r c. inWindow w r c && eqb (p r c) f) k row column
 
 -- the largest such blocks at or below the block of height k with key κ, in key order
-unfoldable pub selectFrom : Picture → Window → ℕ → ℕ → ℕ → ℕ → ℕ → List ℕ
+unfoldable pub selectFrom : (p : Picture) (w : Window) (f k row column κ : ℕ) → List ℕ
 selectFrom p w f zero row column κ = cond (isGiven p w f zero row column) (κ ∷ []) []
 selectFrom p w f (suc k) row column κ =
     cond (isGiven p w f (suc k) row column) (κ ∷ [])
@@ -69,5 +69,5 @@ selectFrom p w f (suc k) row column κ =
     ++ (selectFrom p w f k (row + 2 ^ k) column (childKey κ k 3)
     ++ selectFrom p w f k (row + 2 ^ k) (column + 2 ^ k) (childKey κ k 4))))
 
-unfoldable pub selectIn : ℕ → Picture → Window → ℕ → List ℕ
+unfoldable pub selectIn : (m : ℕ) (p : Picture) (w : Window) (f : ℕ) → List ℕ
 selectIn m p w f = selectFrom p w f m 0 0 rootKey

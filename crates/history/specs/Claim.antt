@@ -18,18 +18,18 @@ use Rattle.definitions.specs.Calls.Survey.{survey, surveyRefusal, surveyKeys, s
 use Rattle.history.specs.History.{Call, painting, takingBack, redoing, Buffers, Paint, Kept, answer, built, run, longestList, longestLog, kept, nothing, drawn, logOf, logAfter, pictureLeft, rasterLeft}
 
 -- 11 where no paint is held, and else 0
-unfoldable pub backAnswer : List Paint → ℕ
+unfoldable pub backAnswer : (held : List Paint) → ℕ
 backAnswer [] = 11
 backAnswer (x ∷ xs) = 0
 
 -- 20 where no paint is there to redo, and else 0
-unfoldable pub redoAnswer : List Paint → ℕ
+unfoldable pub redoAnswer : (undone : List Paint) → ℕ
 redoAnswer [] = 20
 redoAnswer (x ∷ xs) = 0
 
 -- a paint is refused by its own key and feature, by the log's room for the entry, or by the list's room for the list of the painted picture, in
 -- this order; roomOfList and roomOfLog are places, inForce counts the records in force
-unfoldable pub paintAnswer : ℕ → ℕ → Picture → ℕ → ℕ → ℕ → ℕ → ℕ → ℕ
+unfoldable pub paintAnswer : (m s : ℕ) (p : Picture) (roomOfList roomOfLog inForce κ f : ℕ) → ℕ
 paintAnswer m s p roomOfList roomOfLog inForce κ f =
     first
     (badKey m κ gives 8
@@ -88,7 +88,7 @@ pub record AsBuilt (m s : ℕ) (raster keys bits summary logKeys logValues : Lis
   pub past-logValues : drop inLog (b .logValues) ≡ drop inLog logValues
 
 -- demand 3
-abbrev pub History : (m s : ℕ) (raster keys bits summary logKeys logValues : List ℕ) → List Call → Type 0
+abbrev pub History : (m s : ℕ) (raster keys bits summary logKeys logValues : List ℕ) (calls : List Call) → Type 0
 History m s raster keys bits summary logKeys logValues calls =
     let start = built m s raster keys bits summary logKeys logValues in
     AsBuilt m s raster keys bits summary logKeys logValues (run m s start calls) (kept m s start nothing calls) (longestList m s start calls) (longestLog m s start calls)

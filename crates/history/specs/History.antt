@@ -47,14 +47,14 @@ built m s raster keys bits summary logKeys logValues =
     }
 
 -- the refusal number that a call gives; 0 where it is accepted
-unfoldable pub answer : ℕ → ℕ → Buffers → Call → ℕ
+unfoldable pub answer : (m s : ℕ) (b : Buffers) (call : Call) → ℕ
 answer m s b (painting κ f) = paint m s (b .keys) (b .bits) (b .n) (b .summary) (b .logKeys) (b .logValues) (b .used) (b .inForce) κ f .refusal
 answer m s b takingBack = takeBack m s (b .keys) (b .bits) (b .n) (b .summary) (b .logKeys) (b .logValues) (b .used) (b .inForce) .refusal
 answer m s b redoing = redo m s (b .keys) (b .bits) (b .n) (b .summary) (b .logKeys) (b .logValues) (b .used) (b .inForce) .refusal
 answer m s b emptying = 0
 
 -- the buffers after a call: the caller takes the counts of an accepted call's result, and keeps his own where it is refused
-unfoldable pub after : ℕ → ℕ → Buffers → Call → Buffers
+unfoldable pub after : (m s : ℕ) (b : Buffers) (call : Call) → Buffers
 after m s b (painting κ f) =
     let result = paint m s (b .keys) (b .bits) (b .n) (b .summary) (b .logKeys) (b .logValues) (b .used) (b .inForce) κ f in
     record {
@@ -95,17 +95,17 @@ after m s b emptying =
     record { keys = b .keys; bits = b .bits; n = b .n; summary = b .summary; logKeys = b .logKeys; logValues = b .logValues; used = emptied .used; inForce = emptied .«in_force» }
 
 -- the buffers after a run of calls, the first call first
-unfoldable pub run : ℕ → ℕ → Buffers → List Call → Buffers
+unfoldable pub run : (m s : ℕ) (b : Buffers) (calls : List Call) → Buffers
 run m s b [] = b
 run m s b (c ∷ cs) = run m s (after m s b c) cs
 
 -- the largest number of records that the list has in a run
-unfoldable pub longestList : ℕ → ℕ → Buffers → List Call → ℕ
+unfoldable pub longestList : (m s : ℕ) (b : Buffers) (calls : List Call) → ℕ
 longestList m s b [] = b .n
 longestList m s b (c ∷ cs) = max (b .n) (longestList m s (after m s b c) cs)
 
 -- the largest number of records that the log has in a run
-unfoldable pub longestLog : ℕ → ℕ → Buffers → List Call → ℕ
+unfoldable pub longestLog : (m s : ℕ) (b : Buffers) (calls : List Call) → ℕ
 longestLog m s b [] = b .used
 longestLog m s b (c ∷ cs) = max (b .used) (longestLog m s (after m s b c) cs)
 
@@ -137,7 +137,7 @@ withNext held (x ∷ undone) fixed = record { held = x ∷ held; undone = undone
 -- what a call with this answer makes of the paints: an accepted paint is held and drops those that could be redone, an accepted taking back undoes the
 -- latest paint held, an accepted redo holds the next one again, emptying makes all that are held fixed and drops the others, and a refused call changes
 -- nothing
-unfoldable pub keep : Call → ℕ → Kept → Kept
+unfoldable pub keep : (call : Call) (refusal : ℕ) (k : Kept) → Kept
 keep (painting κ f) refusal k =
     accepted refusal (record { held = record { key = κ; feature = f } ∷ k .held; undone = []; fixed = k .fixed }) k
 keep takingBack refusal k = accepted refusal (withoutLatest (k .held) (k .undone) (k .fixed)) k
@@ -145,29 +145,29 @@ keep redoing refusal k = accepted refusal (withNext (k .held) (k .undone) (k .fi
 keep emptying refusal k = record { held = []; undone = []; fixed = k .held ++ k .fixed }
 
 -- the paints after a run of calls
-unfoldable pub kept : ℕ → ℕ → Buffers → Kept → List Call → Kept
+unfoldable pub kept : (m s : ℕ) (b : Buffers) (k : Kept) (calls : List Call) → Kept
 kept m s b k [] = k
 kept m s b k (c ∷ cs) = kept m s (after m s b c) (keep c (answer m s b c) k) cs
 
 -- paints, the latest first, applied to a picture one after the other
-unfoldable pub drawn : ℕ → Picture → List Paint → Picture
+unfoldable pub drawn : (m : ℕ) (p : Picture) (paints : List Paint) → Picture
 drawn m p [] = p
 drawn m p (x ∷ xs) = paintIn m (x .key) (x .feature) (drawn m p xs)
 
 -- the log of the paints, the latest first, on a picture: each has the entry of its block in the picture that it found
-unfoldable pub logOf : ℕ → Picture → List Paint → List Record
+unfoldable pub logOf : (m : ℕ) (p : Picture) (paints : List Paint) → List Record
 logOf m p [] = []
 logOf m p (x ∷ xs) = logOf m p xs ++ entryOf m (drawn m p xs) (x .key) (x .feature)
 
 -- the log of paints to come, the next one first, on a picture
-unfoldable pub logAfter : ℕ → Picture → List Paint → List Record
+unfoldable pub logAfter : (m : ℕ) (p : Picture) (paints : List Paint) → List Record
 logAfter m p [] = []
 logAfter m p (x ∷ xs) = entryOf m p (x .key) (x .feature) ++ logAfter m (paintIn m (x .key) (x .feature) p) xs
 
 -- the first raster with the paints applied that were not taken back
-unfoldable pub pictureLeft : ℕ → List ℕ → Kept → Picture
+unfoldable pub pictureLeft : (m : ℕ) (raster : List ℕ) (k : Kept) → Picture
 pictureLeft m raster k = drawn m (pictureOfRaster m raster) (k .held ++ k .fixed)
 
 -- the same as a raster, row after row
-unfoldable pub rasterLeft : ℕ → List ℕ → Kept → List ℕ
+unfoldable pub rasterLeft : (m : ℕ) (raster : List ℕ) (k : Kept) → List ℕ
 rasterLeft m raster k = featuresOfRows (pictureLeft m raster k) 0 0 (2 ^ m) (2 ^ m)

@@ -22,13 +22,13 @@ pub record Ask : Type 0 where
   pub key : ℕ
 
 -- its refusal
-unfoldable pub refusalOf : ℕ → Table → Ask → ℕ
+unfoldable pub refusalOf : (m : ℕ) (t : Table) (a : Ask) → ℕ
 refusalOf m t a =
     cond (a .adds)
     (addRefusal m (a .office) (t .offices) (t .ids) (t .waived) (t .rows) (a .id) (a .key))
     (removeRefusal m (a .office) (t .offices) (t .ids) (t .waived) (t .rows) (a .id) (a .key))
 
-abbrev adding : ℕ → Table → Ask → Table
+abbrev adding : (m : ℕ) (t : Table) (a : Ask) → Table
 adding m t a =
     record {
       offices = addOffices m (a .office) (t .offices) (t .ids) (t .waived) (t .rows) (a .id) (a .key);
@@ -38,7 +38,7 @@ adding m t a =
           (addWaiver m (a .office) (t .offices) (t .ids) (t .waived) (t .rows) (a .id) (a .key) .count) (t .rows);
     }
 
-abbrev removing : ℕ → Table → Ask → Table
+abbrev removing : (m : ℕ) (t : Table) (a : Ask) → Table
 removing m t a =
     record {
       offices = removeOffices m (a .office) (t .offices) (t .ids) (t .waived) (t .rows) (a .id) (a .key);
@@ -49,20 +49,20 @@ removing m t a =
     }
 
 -- the table after the call: the slices as it leaves them, and the count that it gives, or the old one where it is refused
-unfoldable pub afterAsk : ℕ → Table → Ask → Table
+unfoldable pub afterAsk : (m : ℕ) (t : Table) (a : Ask) → Table
 afterAsk m t a = cond (a .adds) (adding m t a) (removing m t a)
 
 -- after all calls, one after the other
-unfoldable pub afterAll : ℕ → Table → List Ask → Table
+unfoldable pub afterAll : (m : ℕ) (t : Table) (asks : List Ask) → Table
 afterAll m t [] = t
 afterAll m t (a ∷ asks) = afterAll m (afterAsk m t a) asks
 
 -- the calls of an office, and what they are refused with along the run
-unfoldable pub ownAsks : ℕ → List Ask → List Ask
+unfoldable pub ownAsks : (office : ℕ) (asks : List Ask) → List Ask
 ownAsks office [] = []
 ownAsks office (a ∷ asks) = cond (eqb (a .office) office) (a ∷ ownAsks office asks) (ownAsks office asks)
 
-unfoldable pub refusalsOf : ℕ → ℕ → Table → List Ask → List ℕ
+unfoldable pub refusalsOf : (m office : ℕ) (t : Table) (asks : List Ask) → List ℕ
 refusalsOf m office t [] = []
 refusalsOf m office t (a ∷ asks) =
     cond (eqb (a .office) office) (refusalOf m t a ∷ refusalsOf m office (afterAsk m t a) asks) (refusalsOf m office (afterAsk m t a) asks)

@@ -17,40 +17,40 @@ abbrev pub slotLimit : ℕ
 slotLimit = 32
 
 -- the m digits of a key, the highest first
-unfoldable pub digitsOf : ℕ → ℕ → List ℕ
+unfoldable pub digitsOf : (m κ : ℕ) → List ℕ
 digitsOf zero κ = []
 digitsOf (suc k) κ = κ / 5 ^ k ∷ digitsOf k (κ % 5 ^ k)
 
-unfoldable pub onlyZeros : List ℕ → Bool
+unfoldable pub onlyZeros : (digits : List ℕ) → Bool
 onlyZeros [] = true
 onlyZeros (d ∷ ds) = eqb d 0 && onlyZeros ds
 
 -- some digits that are not zero, and then zeros
-unfoldable pub digitsThenZeros : List ℕ → Bool
+unfoldable pub digitsThenZeros : (digits : List ℕ) → Bool
 digitsThenZeros [] = true
 digitsThenZeros (d ∷ ds) = cond (eqb d 0) (onlyZeros ds) (digitsThenZeros ds)
 
 -- a number of m digits, of which the first d are 1 to 4 and the others 0
-unfoldable pub validKey : ℕ → ℕ → Bool
+unfoldable pub validKey : (m κ : ℕ) → Bool
 validKey m κ = ltb κ (5 ^ m) && digitsThenZeros (digitsOf m κ)
 
 -- how many digits stand before the first zero
-unfoldable pub digitsBeforeZero : List ℕ → ℕ
+unfoldable pub digitsBeforeZero : (digits : List ℕ) → ℕ
 digitsBeforeZero [] = 0
 digitsBeforeZero (d ∷ ds) = cond (eqb d 0) 0 (suc (digitsBeforeZero ds))
 
 -- the level d of a valid key
-unfoldable pub levelOf : ℕ → ℕ → ℕ
+unfoldable pub levelOf : (m κ : ℕ) → ℕ
 levelOf m κ = digitsBeforeZero (digitsOf m κ)
 
 -- the number of levels below a block
-unfoldable pub heightOf : ℕ → ℕ → ℕ
+unfoldable pub heightOf : (m κ : ℕ) → ℕ
 heightOf m κ = m - levelOf m κ
 
 -- the child that has height k: digit 1 NW, 2 NE, 3 SW, 4 SE
-abbrev pub childKey : ℕ → ℕ → ℕ → ℕ
+abbrev pub childKey : (κ k digit : ℕ) → ℕ
 childKey κ k digit = κ + digit * 5 ^ k
 
 -- the key with its last digit from 1 to 4 made 0; the root's is the root
-unfoldable pub parentKey : ℕ → ℕ → ℕ
+unfoldable pub parentKey : (m κ : ℕ) → ℕ
 parentKey m κ = κ / 5 ^ suc (heightOf m κ) * 5 ^ suc (heightOf m κ)

@@ -9,7 +9,7 @@ use Rattle.definitions.specs.Buffer.{over}
 use Rattle.definitions.specs.Refusal.{_gives_, first, accepted, badSettings, badLength, badPixel}
 use Rattle.definitions.specs.declared.Counted.{Counted}
 
-unfoldable pub buildRefusal : ℕ → ℕ → List ℕ → List ℕ → List ℕ → ℕ
+unfoldable pub buildRefusal : (m s : ℕ) (raster keys bits : List ℕ) → ℕ
 buildRefusal m s raster keys bits =
     first
     (badSettings m s gives 1
@@ -19,17 +19,17 @@ buildRefusal m s raster keys bits =
     ∷ [])
 
 -- the count is the number of records
-unfoldable pub build : ℕ → ℕ → List ℕ → List ℕ → List ℕ → Counted
+unfoldable pub build : (m s : ℕ) (raster keys bits : List ℕ) → Counted
 build m s raster keys bits =
     record {
       refusal = buildRefusal m s raster keys bits;
       count = accepted (buildRefusal m s raster keys bits) (length (listOfRaster m raster)) 0;
     }
 
-unfoldable pub buildKeys : ℕ → ℕ → List ℕ → List ℕ → List ℕ → List ℕ
+unfoldable pub buildKeys : (m s : ℕ) (raster keys bits : List ℕ) → List ℕ
 buildKeys m s raster keys bits =
     accepted (buildRefusal m s raster keys bits) (over (keysOf (listOfRaster m raster)) keys) keys
 
-unfoldable pub buildBits : ℕ → ℕ → List ℕ → List ℕ → List ℕ → List ℕ
+unfoldable pub buildBits : (m s : ℕ) (raster keys bits : List ℕ) → List ℕ
 buildBits m s raster keys bits =
     accepted (buildRefusal m s raster keys bits) (over (valuesOf (listOfRaster m raster)) bits) bits

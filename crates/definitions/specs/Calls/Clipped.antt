@@ -14,17 +14,17 @@ use Rattle.definitions.specs.declared.Counted.{Counted}
 use Rattle.definitions.specs.declared.Measured.{Measured}
 
 module _ (m s : ℕ) (keys bits : List ℕ) (n : ℕ) where
-  abbrev pub existClipped : ℤ → ℤ → ℕ → ℕ → ℕ → Exists
+  abbrev pub existClipped : (row column : ℤ) (height width f : ℕ) → Exists
   existClipped row column height width f = exist m s keys bits n (clippedWindow m row column height width) f
 
-  abbrev pub reportClipped : ℤ → ℤ → ℕ → ℕ → Reported
+  abbrev pub reportClipped : (row column : ℤ) (height width : ℕ) → Reported
   reportClipped row column height width = report m s keys bits n (clippedWindow m row column height width)
 
-  abbrev pub selectClipped : ℤ → ℤ → ℕ → ℕ → ℕ → List ℕ → Counted
+  abbrev pub selectClipped : (row column : ℤ) (height width f : ℕ) (answer : List ℕ) → Counted
   selectClipped row column height width f answer = select m s keys bits n (clippedWindow m row column height width) f answer
 
-  abbrev pub selectAnswerClipped : ℤ → ℤ → ℕ → ℕ → ℕ → List ℕ → List ℕ
+  abbrev pub selectAnswerClipped : (row column : ℤ) (height width f : ℕ) (answer : List ℕ) → List ℕ
   selectAnswerClipped row column height width f answer = selectAnswer m s keys bits n (clippedWindow m row column height width) f answer
 
-  abbrev pub areaClipped : List ℕ → ℤ → ℤ → ℕ → ℕ → ℕ → Measured
+  abbrev pub areaClipped : (summary : List ℕ) (row column : ℤ) (height width f : ℕ) → Measured
   areaClipped summary row column height width f = area m s keys bits n summary (clippedWindow m row column height width) f

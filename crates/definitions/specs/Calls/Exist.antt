@@ -8,7 +8,7 @@ use Rattle.definitions.specs.Refusal.{_gives_, first, accepted, badSetti
 use Rattle.definitions.specs.declared.Window.{Window}
 use Rattle.definitions.specs.declared.Exists.{Exists}
 
-unfoldable pub existRefusal : ℕ → ℕ → List ℕ → List ℕ → ℕ → Window → ℕ → ℕ
+unfoldable pub existRefusal : (m s : ℕ) (keys bits : List ℕ) (n : ℕ) (w : Window) (f : ℕ) → ℕ
 existRefusal m s keys bits n w f =
     first
     (badSettings m s gives 1
@@ -18,7 +18,7 @@ existRefusal m s keys bits n w f =
     ∷ [])
 
 -- yes is 1
-unfoldable pub exist : ℕ → ℕ → List ℕ → List ℕ → ℕ → Window → ℕ → Exists
+unfoldable pub exist : (m s : ℕ) (keys bits : List ℕ) (n : ℕ) (w : Window) (f : ℕ) → Exists
 exist m s keys bits n w f =
     record {
       refusal = existRefusal m s keys bits n w f;

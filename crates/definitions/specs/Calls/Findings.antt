@@ -13,10 +13,10 @@ use Rattle.definitions.specs.declared.Rule.{Rule}
 use Rattle.definitions.specs.declared.Found.{Found}
 
 -- the live findings, by id and then key
-unfoldable pub liveIn : ℕ → List ℕ → List ℕ → ℕ → List Rule → List Finding → List Finding
+unfoldable pub liveIn : (m : ℕ) (keys bits : List ℕ) (n : ℕ) (rules : List Rule) (waivers : List Finding) → List Finding
 liveIn m keys bits n rules waivers = liveOf m waivers (allFindings m (pictureOf m (recordsOf keys bits n)) rules)
 
-unfoldable pub hiddenIn : ℕ → List ℕ → List ℕ → ℕ → List Rule → List Finding → ℕ
+unfoldable pub hiddenIn : (m : ℕ) (keys bits : List ℕ) (n : ℕ) (rules : List Rule) (waivers : List Finding) → ℕ
 hiddenIn m keys bits n rules waivers = hiddenCount m waivers (allFindings m (pictureOf m (recordsOf keys bits n)) rules)
 
 -- with these waivers; `wrong` says that the table is refused by itself

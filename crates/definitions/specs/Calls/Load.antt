@@ -11,7 +11,7 @@ use Rattle.definitions.specs.File.{mIn, sIn, nIn, recordsInFile, tooShor
 use Rattle.definitions.specs.Refusal.{_gives_, first, accepted}
 use Rattle.definitions.specs.declared.Loaded.{Loaded}
 
-unfoldable pub loadRefusal : List ℕ → List ℕ → List ℕ → ℕ
+unfoldable pub loadRefusal : (file keys bits : List ℕ) → ℕ
 loadRefusal file keys bits =
     first
     (tooShort file gives 15
@@ -23,7 +23,7 @@ loadRefusal file keys bits =
     ∷ ltb (room keys bits) (nIn file) gives 9
     ∷ [])
 
-unfoldable pub load : List ℕ → List ℕ → List ℕ → Loaded
+unfoldable pub load : (file keys bits : List ℕ) → Loaded
 load file keys bits =
     let refusal = loadRefusal file keys bits in
     record {
@@ -33,8 +33,8 @@ load file keys bits =
       n = accepted refusal (nIn file) 0;
     }
 
-unfoldable pub loadKeys : List ℕ → List ℕ → List ℕ → List ℕ
+unfoldable pub loadKeys : (file keys bits : List ℕ) → List ℕ
 loadKeys file keys bits = accepted (loadRefusal file keys bits) (over (keysOf (recordsInFile file)) keys) keys
 
-unfoldable pub loadBits : List ℕ → List ℕ → List ℕ → List ℕ
+unfoldable pub loadBits : (file keys bits : List ℕ) → List ℕ
 loadBits file keys bits = accepted (loadRefusal file keys bits) (over (valuesOf (recordsInFile file)) bits) bits

@@ -15,15 +15,15 @@ use Rattle.definitions.specs.Refusal.{_gives_, first, accepted, badSetti
 use Rattle.definitions.specs.declared.Edited.{Edited}
 
 -- the picture after painting block κ with f
-abbrev pub paintedPicture : ℕ → List Record → ℕ → ℕ → Picture
+abbrev pub paintedPicture : (m : ℕ) (l : List Record) (κ f : ℕ) → Picture
 paintedPicture m l κ f = paintIn m κ f (pictureOf m l)
 
 -- its list
-unfoldable pub painted : ℕ → List Record → ℕ → ℕ → List Record
+unfoldable pub painted : (m : ℕ) (l : List Record) (κ f : ℕ) → List Record
 painted m l κ f = listOfPicture m (paintedPicture m l κ f)
 
 -- the entry that the log gains
-unfoldable pub gained : ℕ → List Record → ℕ → ℕ → List Record
+unfoldable pub gained : (m : ℕ) (l : List Record) (κ f : ℕ) → List Record
 gained m l κ f = entryOf m (pictureOf m l) κ f
 
 -- a slice of the log with the entry's numbers from the place in force on: what was used past them becomes zero, all other places stay

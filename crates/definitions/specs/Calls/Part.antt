@@ -8,12 +8,12 @@ use Rattle.definitions.specs.Calls.Standing.{standingRefusal}
 use Rattle.definitions.specs.declared.Span.{Span}
 
 -- the handed-back part
-unfoldable pub part : ℕ → ℕ → List ℕ → List ℕ → ℕ → ℕ → List ℕ
+unfoldable pub part : (m s : ℕ) (keys bits : List ℕ) (n κ : ℕ) → List ℕ
 part m s keys bits n κ =
     accepted (standingRefusal m s keys bits n κ) (partOf m κ (recordsOf keys bits n) keys) []
 
 -- where it starts, and how many places it has
-unfoldable pub partSpan : ℕ → ℕ → List ℕ → List ℕ → ℕ → ℕ → Span
+unfoldable pub partSpan : (m s : ℕ) (keys bits : List ℕ) (n κ : ℕ) → Span
 partSpan m s keys bits n κ =
     record {
       start = accepted (standingRefusal m s keys bits n κ) (placeOf κ (recordsOf keys bits n)) 0;

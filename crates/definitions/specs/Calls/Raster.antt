@@ -6,15 +6,15 @@ use Rattle.definitions.specs.Window.{featuresOfRows}
 use Rattle.definitions.specs.Refusal.{_gives_, first, accepted, badSettings, badLength, noList}
 use Rattle.definitions.specs.declared.Done.{Done}
 
-unfoldable pub rasterRefusal : ℕ → ℕ → List ℕ → List ℕ → ℕ → List ℕ → ℕ
+unfoldable pub rasterRefusal : (m s : ℕ) (keys bits : List ℕ) (n : ℕ) (pixels : List ℕ) → ℕ
 rasterRefusal m s keys bits n pixels =
     first (badSettings m s gives 1 ∷ noList m s keys bits n gives 4 ∷ badLength m pixels gives 2 ∷ [])
 
-unfoldable pub raster : ℕ → ℕ → List ℕ → List ℕ → ℕ → List ℕ → Done
+unfoldable pub raster : (m s : ℕ) (keys bits : List ℕ) (n : ℕ) (pixels : List ℕ) → Done
 raster m s keys bits n pixels = record { refusal = rasterRefusal m s keys bits n pixels }
 
 -- row after row, the features of the picture that the list shows
-unfoldable pub rasterPixels : ℕ → ℕ → List ℕ → List ℕ → ℕ → List ℕ → List ℕ
+unfoldable pub rasterPixels : (m s : ℕ) (keys bits : List ℕ) (n : ℕ) (pixels : List ℕ) → List ℕ
 rasterPixels m s keys bits n pixels =
     accepted (rasterRefusal m s keys bits n pixels)
     (featuresOfRows (pictureOf m (recordsOf keys bits n)) 0 0 (2 ^ m) (2 ^ m))

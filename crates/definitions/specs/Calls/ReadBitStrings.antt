@@ -11,7 +11,7 @@ use Rattle.definitions.specs.BitStrings.{isPair, recordsOfPair}
 use Rattle.definitions.specs.Refusal.{_gives_, first, accepted, badSettings}
 use Rattle.definitions.specs.declared.Counted.{Counted}
 
-unfoldable pub readStringsRefusal : ℕ → ℕ → List ℕ → List ℕ → List ℕ → List ℕ → ℕ
+unfoldable pub readStringsRefusal : (m s : ℕ) (nodes leaves keys bits : List ℕ) → ℕ
 readStringsRefusal m s nodes leaves keys bits =
     first
     (badSettings m s gives 1
@@ -19,17 +19,17 @@ readStringsRefusal m s nodes leaves keys bits =
     ∷ ltb (room keys bits) (length (recordsOfPair m nodes leaves)) gives 9
     ∷ [])
 
-unfoldable pub readStrings : ℕ → ℕ → List ℕ → List ℕ → List ℕ → List ℕ → Counted
+unfoldable pub readStrings : (m s : ℕ) (nodes leaves keys bits : List ℕ) → Counted
 readStrings m s nodes leaves keys bits =
     record {
       refusal = readStringsRefusal m s nodes leaves keys bits;
       count = accepted (readStringsRefusal m s nodes leaves keys bits) (length (recordsOfPair m nodes leaves)) 0;
     }
 
-unfoldable pub readKeys : ℕ → ℕ → List ℕ → List ℕ → List ℕ → List ℕ → List ℕ
+unfoldable pub readKeys : (m s : ℕ) (nodes leaves keys bits : List ℕ) → List ℕ
 readKeys m s nodes leaves keys bits =
     accepted (readStringsRefusal m s nodes leaves keys bits) (over (keysOf (recordsOfPair m nodes leaves)) keys) keys
 
-unfoldable pub readBits : ℕ → ℕ → List ℕ → List ℕ → List ℕ → List ℕ → List ℕ
+unfoldable pub readBits : (m s : ℕ) (nodes leaves keys bits : List ℕ) → List ℕ
 readBits m s nodes leaves keys bits =
     accepted (readStringsRefusal m s nodes leaves keys bits) (over (valuesOf (recordsOfPair m nodes leaves)) bits) bits

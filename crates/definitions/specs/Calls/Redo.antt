@@ -15,11 +15,11 @@ use Rattle.definitions.specs.Calls.Paint.{paintedPicture, painted}
 use Rattle.definitions.specs.declared.Edited.{Edited}
 
 -- the picture after the first of the entries to redo is painted again
-abbrev pub redonePicture : ℕ → List Record → List Record → Picture
+abbrev pub redonePicture : (m : ℕ) (l entries : List Record) → Picture
 redonePicture m l entries = paintedPicture m l (lastKey (firstEntry entries)) (lastFeature (firstEntry entries))
 
 -- its list
-unfoldable pub redone : ℕ → List Record → List Record → List Record
+unfoldable pub redone : (m : ℕ) (l entries : List Record) → List Record
 redone m l entries = painted m l (lastKey (firstEntry entries)) (lastFeature (firstEntry entries))
 
 unfoldable pub redoRefusal : (m s : ℕ) (keys bits : List ℕ) (n : ℕ) (summary logKeys logValues : List ℕ) (used inForce : ℕ) → ℕ

@@ -7,11 +7,11 @@ use Rattle.definitions.specs.Refusal.{_gives_, first, accepted, badSetti
 use Rattle.definitions.specs.declared.Window.{Window}
 use Rattle.definitions.specs.declared.Reported.{Reported}
 
-unfoldable pub reportRefusal : ℕ → ℕ → List ℕ → List ℕ → ℕ → Window → ℕ
+unfoldable pub reportRefusal : (m s : ℕ) (keys bits : List ℕ) (n : ℕ) (w : Window) → ℕ
 reportRefusal m s keys bits n w =
     first (badSettings m s gives 1 ∷ noList m s keys bits n gives 4 ∷ badWindow m w gives 6 ∷ [])
 
-unfoldable pub report : ℕ → ℕ → List ℕ → List ℕ → ℕ → Window → Reported
+unfoldable pub report : (m s : ℕ) (keys bits : List ℕ) (n : ℕ) (w : Window) → Reported
 report m s keys bits n w =
     record {
       refusal = reportRefusal m s keys bits n w;

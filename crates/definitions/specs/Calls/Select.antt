@@ -12,10 +12,10 @@ use Rattle.definitions.specs.declared.Window.{Window}
 use Rattle.definitions.specs.declared.Counted.{Counted}
 
 -- the keys that select gives of a list
-unfoldable pub selected : ℕ → List ℕ → List ℕ → ℕ → Window → ℕ → List ℕ
+unfoldable pub selected : (m : ℕ) (keys bits : List ℕ) (n : ℕ) (w : Window) (f : ℕ) → List ℕ
 selected m keys bits n w f = selectIn m (pictureOf m (recordsOf keys bits n)) w f
 
-unfoldable pub selectRefusal : ℕ → ℕ → List ℕ → List ℕ → ℕ → Window → ℕ → List ℕ → ℕ
+unfoldable pub selectRefusal : (m s : ℕ) (keys bits : List ℕ) (n : ℕ) (w : Window) (f : ℕ) (answer : List ℕ) → ℕ
 selectRefusal m s keys bits n w f answer =
     first
     (badSettings m s gives 1
@@ -26,7 +26,7 @@ selectRefusal m s keys bits n w f answer =
     ∷ [])
 
 -- with 12 the count is the number of places needed
-unfoldable pub select : ℕ → ℕ → List ℕ → List ℕ → ℕ → Window → ℕ → List ℕ → Counted
+unfoldable pub select : (m s : ℕ) (keys bits : List ℕ) (n : ℕ) (w : Window) (f : ℕ) (answer : List ℕ) → Counted
 select m s keys bits n w f answer =
     record {
       refusal = selectRefusal m s keys bits n w f answer;
@@ -35,6 +35,6 @@ select m s keys bits n w f answer =
           (cond (eqb (selectRefusal m s keys bits n w f answer) 12) (length (selected m keys bits n w f)) 0);
     }
 
-unfoldable pub selectAnswer : ℕ → ℕ → List ℕ → List ℕ → ℕ → Window → ℕ → List ℕ → List ℕ
+unfoldable pub selectAnswer : (m s : ℕ) (keys bits : List ℕ) (n : ℕ) (w : Window) (f : ℕ) (answer : List ℕ) → List ℕ
 selectAnswer m s keys bits n w f answer =
     accepted (selectRefusal m s keys bits n w f answer) (over (selected m keys bits n w f) answer) answer

@@ -10,10 +10,10 @@ use Rattle.definitions.specs.File.{fileOf}
 use Rattle.definitions.specs.Refusal.{_gives_, first, accepted, badSettings, noList}
 use Rattle.definitions.specs.declared.Counted.{Counted}
 
-unfoldable pub stored : ℕ → ℕ → List ℕ → List ℕ → ℕ → List ℕ
+unfoldable pub stored : (m s : ℕ) (keys bits : List ℕ) (n : ℕ) → List ℕ
 stored m s keys bits n = fileOf m s (recordsOf keys bits n)
 
-unfoldable pub storeRefusal : ℕ → ℕ → List ℕ → List ℕ → ℕ → List ℕ → ℕ
+unfoldable pub storeRefusal : (m s : ℕ) (keys bits : List ℕ) (n : ℕ) (file : List ℕ) → ℕ
 storeRefusal m s keys bits n file =
     first
     (badSettings m s gives 1
@@ -22,7 +22,7 @@ storeRefusal m s keys bits n file =
     ∷ [])
 
 -- the count is in bytes; with 12 it is the number of bytes needed
-unfoldable pub store : ℕ → ℕ → List ℕ → List ℕ → ℕ → List ℕ → Counted
+unfoldable pub store : (m s : ℕ) (keys bits : List ℕ) (n : ℕ) (file : List ℕ) → Counted
 store m s keys bits n file =
     record {
       refusal = storeRefusal m s keys bits n file;
@@ -31,5 +31,5 @@ store m s keys bits n file =
           (cond (eqb (storeRefusal m s keys bits n file) 12) (length (stored m s keys bits n)) 0);
     }
 
-unfoldable pub storeFile : ℕ → ℕ → List ℕ → List ℕ → ℕ → List ℕ → List ℕ
+unfoldable pub storeFile : (m s : ℕ) (keys bits : List ℕ) (n : ℕ) (file : List ℕ) → List ℕ
 storeFile m s keys bits n file = accepted (storeRefusal m s keys bits n file) (over (stored m s keys bits n) file) file

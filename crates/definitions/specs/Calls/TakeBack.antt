@@ -15,11 +15,11 @@ use Rattle.definitions.specs.Refusal.{_gives_, first, accepted, badSetti
 use Rattle.definitions.specs.declared.Edited.{Edited}
 
 -- the picture after the last entry's content is put back into its block
-abbrev pub restoredPicture : ℕ → List Record → List Record → Picture
+abbrev pub restoredPicture : (m : ℕ) (l log : List Record) → Picture
 restoredPicture m l log = put m (lastKey log) (pictureOf m (lastContent log)) (pictureOf m l)
 
 -- its list
-unfoldable pub restored : ℕ → List Record → List Record → List Record
+unfoldable pub restored : (m : ℕ) (l log : List Record) → List Record
 restored m l log = listOfPicture m (restoredPicture m l log)
 
 unfoldable pub takeBackRefusal : (m s : ℕ) (keys bits : List ℕ) (n : ℕ) (summary logKeys logValues : List ℕ) (used inForce : ℕ) → ℕ

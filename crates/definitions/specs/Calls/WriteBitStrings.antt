@@ -10,13 +10,13 @@ use Rattle.definitions.specs.BitStrings.{nodeBits, leafBits, packed}
 use Rattle.definitions.specs.Refusal.{_gives_, first, accepted, badSettings, noList}
 use Rattle.definitions.specs.declared.Strings.{Strings}
 
-unfoldable pub nodeString : List ℕ → List ℕ → ℕ → List ℕ
+unfoldable pub nodeString : (keys bits : List ℕ) (n : ℕ) → List ℕ
 nodeString keys bits n = packed (nodeBits (recordsOf keys bits n))
 
-unfoldable pub leafString : List ℕ → List ℕ → ℕ → List ℕ
+unfoldable pub leafString : (keys bits : List ℕ) (n : ℕ) → List ℕ
 leafString keys bits n = packed (leafBits (recordsOf keys bits n))
 
-unfoldable pub writeStringsRefusal : ℕ → ℕ → List ℕ → List ℕ → ℕ → List ℕ → List ℕ → ℕ
+unfoldable pub writeStringsRefusal : (m s : ℕ) (keys bits : List ℕ) (n : ℕ) (nodes leaves : List ℕ) → ℕ
 writeStringsRefusal m s keys bits n nodes leaves =
     first
     (badSettings m s gives 1
@@ -26,7 +26,7 @@ writeStringsRefusal m s keys bits n nodes leaves =
     ∷ [])
 
 -- with 12 the bytes needed of each
-unfoldable pub writeStrings : ℕ → ℕ → List ℕ → List ℕ → ℕ → List ℕ → List ℕ → Strings
+unfoldable pub writeStrings : (m s : ℕ) (keys bits : List ℕ) (n : ℕ) (nodes leaves : List ℕ) → Strings
 writeStrings m s keys bits n nodes leaves =
     let refusal = writeStringsRefusal m s keys bits n nodes leaves in
     record {
@@ -35,10 +35,10 @@ writeStrings m s keys bits n nodes leaves =
       «leaf_bytes» = cond (eqb refusal 0 || eqb refusal 12) (length (leafString keys bits n)) 0;
     }
 
-unfoldable pub writtenNodes : ℕ → ℕ → List ℕ → List ℕ → ℕ → List ℕ → List ℕ → List ℕ
+unfoldable pub writtenNodes : (m s : ℕ) (keys bits : List ℕ) (n : ℕ) (nodes leaves : List ℕ) → List ℕ
 writtenNodes m s keys bits n nodes leaves =
     accepted (writeStringsRefusal m s keys bits n nodes leaves) (over (nodeString keys bits n) nodes) nodes
 
-unfoldable pub writtenLeaves : ℕ → ℕ → List ℕ → List ℕ → ℕ → List ℕ → List ℕ → List ℕ
+unfoldable pub writtenLeaves : (m s : ℕ) (keys bits : List ℕ) (n : ℕ) (nodes leaves : List ℕ) → List ℕ
 writtenLeaves m s keys bits n nodes leaves =
     accepted (writeStringsRefusal m s keys bits n nodes leaves) (over (leafString keys bits n) leaves) leaves
