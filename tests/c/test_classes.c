@@ -106,6 +106,27 @@ static void files(void) {
          "loaded again");
 }
 
+/* Leaves of classes 0 and 31, a batch that asks for both, and class 31 combined with class 0. */
+static void other_shapes(void) {
+    static const uint32_t leaf_keys[4] = { 1, 2, 3, 4 }, leaf_features[4] = { FIRST, LAST, LAST, FIRST };
+    static const hlq_question asked[2] = { { 0, 0, 1, 1, 1, LAST }, { 1, -1, -1, 3, 3, 0 } };
+    static uint8_t table[S * S];
+    uint32_t written_keys[4], written_features[4], other_keys[N], other_bits[N], refusals[2], values[2];
+    fresh();
+    hlq_counted w = hlq_write_leaves(M, S, keys, ROOM, bits, ROOM, N, written_keys, 4, written_features, 4);
+    must(w.refusal == 0 && w.count == 4 && memcmp(written_keys, leaf_keys, sizeof leaf_keys) == 0 &&
+             memcmp(written_features, leaf_features, sizeof leaf_features) == 0,
+         "write leaves");
+    hlq_counted r = hlq_read_leaves(M, S, leaf_keys, 4, leaf_features, 4, 4, other_keys, N, other_bits, N);
+    must(r.refusal == 0 && r.count == N && memcmp(other_bits, list_bits, sizeof list_bits) == 0, "read leaves");
+    hlq_counted b = hlq_batch(M, S, keys, ROOM, bits, ROOM, N, asked, 2, refusals, 2, values, 2);
+    must(b.refusal == 0 && refusals[0] == 0 && values[0] == 1 && values[1] == (FIRST_SLOT | LAST_SLOT), "batch");
+    for (uint32_t f = 0; f < S; f++) table[f * S + f] = (uint8_t)f;
+    hlq_counted c = hlq_combine(M, S, keys, ROOM, bits, ROOM, N, M, S, keys, ROOM, bits, ROOM, N, S, table,
+                                sizeof table, other_keys, N, other_bits, N);
+    must(c.refusal == 0 && c.count == N && memcmp(other_bits, list_bits, sizeof list_bits) == 0, "combine");
+}
+
 /* One digit. */
 static uint8_t digit(char c) { return (uint8_t)(c <= '9' ? c - '0' : c - 'A' + 10); }
 
@@ -162,6 +183,7 @@ int main(void) {
     edits();
     findings();
     files();
+    other_shapes();
     former_file();
     for (uint32_t m = 0; m <= 6; m++)
         for (uint32_t i = 0; i < SOME(m <= 4 ? 60u : 8u); i++) {
