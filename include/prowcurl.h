@@ -24,7 +24,7 @@
  * A summary is a slice of HLQ_SUMMARY_PLACES(m, s) numbers beside a list: for each block of level 2
  * (level m if m is smaller), in key order, how many of its pixels have feature 0, feature 1, up to
  * feature s - 1. Place b * s + f counts feature f in block b. hlq_build makes it,
- * hlq_fill_summary does so for a list that was loaded or combined, and edits keep it right.
+ * hlq_fill_summary does so for a list that was loaded, read or combined, and edits keep it right.
  *
  * A delivery is leaves alone, in two slices leaf_keys and leaf_features: blocks in ascending key
  * order that cover the raster once, and the feature of each. They may be in parts: four equal
