@@ -115,11 +115,10 @@ module _ (m : ℕ) (T : Table) (g : Grown m T) where
         let last = leb officeLimit (length share) gives 12 in
         let five : refusalOf m T a ≡ first (last ∷ []) =
         ap (λ b. cond b adding removing) adds
-        ∙ (first-later _ _ known ∙ first-later _ _ level ∙ first-later _ _ (ap not (never-14 g)) ∙ first-later _ _ key-good ∙ first-later _ _ new) in
-        (
+        ∙ (first-later _ _ known ∙ first-later _ _ level ∙ first-later _ _ (ap not (never-14 g)) ∙ first-later _ _ key-good ∙ first-later _ _ new) in (
           λ e. decide (leb 256 (length share))
-          (λ full. let h = leb-true 256 (length share) full in let l = own-limit known in omega arith)
-          (λ few. let z = sym five ∙ e in let y = first-later last [] few ∙ first-end in absurd (omega arith)),
+              (λ full. let h = leb-true 256 (length share) full in let l = own-limit known in omega arith)
+              (λ few. let z = sym five ∙ e in let y = first-later last [] few ∙ first-end in absurd (omega arith)),
           λ e. five ∙ first-this last [] (le-leb 256 (length share) (omega arith)),
         )
 
