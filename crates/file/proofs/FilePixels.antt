@@ -1,54 +1,85 @@
--- A node of height 1 in a file: the four records in a row are those of two slices that hold the file's keys and bitstrings. Rests on FileTurn and
--- the laws of the check.
-use Prim.Native.Nat.{ℕ, _+_, _-_, _*_, _≤_, _<_}
-use mathlib.Core.Path.{_≡_, sym, ap, _∙_}
+-- A node of height 1 in a file: its children can only be leaves, so each of the next four records must be one. The turns are those of the check
+-- over a node's children, at the step 1. Rests on FileTurn.
+use Prim.Native.Nat.{ℕ, _+_, _-_, _*_, _/_, _^_, _≤_, _<_}
+use mathlib.Core.Path.{_≡_, refl, sym, ap, _∙_}
 use mathlib.Core.Bool.{Bool, true, false, cond}
 use mathlib.Core.List.{List}
 use native.Mathlib.Omega.{arith}
 use lib.Dec.{eqb}
 use lib.Bits.{bitOr}
-use lib.ListN.{length, getD, drop}
-use Rattle.list.specs.Check.{placeOf, afterNode}
-use Rattle.list.proofs.Pixels.{isPixel, Right, union, too-few}
-use Rattle.file.specs.Layout.{keyAt, bitsAt, recordsAt, keysAt, valuesAt}
-use Rattle.file.proofs.ReadBytes.{key-read, value-read}
-use Rattle.file.proofs.FileTurn.{many, size, in-place}
+use lib.ListN.{length, drop}
+use borrow.Author.Tests.{eqb-true, eqb-false}
+use Rattle.keys.proofs.Cases.{decide}
+use Rattle.list.specs.Check.{oneSlot, placeOf, afterNode}
+use Rattle.list.proofs.Pixels.{Right, too-few}
+use Rattle.list.proofs.Turn.{step-one}
+use Rattle.file.specs.Layout.{Laid, keyAt, bitsAt, recordsAt, keysAt, valuesAt}
+use Rattle.file.proofs.FileTurn.{many, size, in-place, Answered, PassedIn, begins-in, ends-in, differs-in, other-key-in, wrong-child-in, leaf-in, pixel-in}
 
 -- what the function answers, of the file's records
 abbrev pub RightIn : ℕ → ℕ → List ℕ → ℕ → ℕ → ℕ → Bool → Type 0
-RightIn w n file first κ own r =
-    (r ≡ true → first + 4 ≤ n) × (cond r (first + 4) 0 ≡ placeOf (n) (afterNode 1 κ own (drop first (recordsAt w n file))))
+RightIn w n file first key own r =
+    (r ≡ true → first + 4 ≤ n) × (cond r (first + 4) 0 ≡ placeOf n (afterNode 1 key own (drop first (recordsAt w n file))))
 
-pub right-in : (w n : ℕ) (file : List ℕ) (first κ own : ℕ) (r : Bool) → Right (keysAt w n file) (valuesAt w n file) first κ own r → RightIn w n file first κ own r
-right-in w n file first κ own r h = (λ f. let e = many w n file in let k = h .0 f in omega arith, h .1 ∙ in-place w n file first κ own 1)
+-- fewer than four records are left
+pub too-few-in : (w n : ℕ) (file : List ℕ) (first key own : ℕ) → n - first < 4 → RightIn w n file first key own false
+too-few-in w n file first key own h =
+    let e = many w n file in
+    let r = too-few (keysAt w n file) (valuesAt w n file) first key own (size w n file) (omega arith) in
+    (λ f. let k = r .0 f in omega arith, r .1 ∙ in-place w n file first key own 1)
 
--- record i: its bitstring, and its test
-module _ (w n : ℕ) (file : List ℕ) (i : ℕ) (there : i < n) where
-  pub bits-in : (a : ℕ) → a ≡ bitsAt w i file → a ≡ getD (valuesAt w n file) i 0
-  bits-in a h = h ∙ sym (value-read w n i file there)
+-- four are left, and so many of them have passed
+pub record PixelsIn (w n : ℕ) (file : List ℕ) (first key own next union digit : ℕ) : Type 0 where
+  pub four : first + 4 ≤ n
+  pub place : next + 1 ≡ first + digit
+  pub passed : PassedIn w n file first key own 1 next union digit
 
-  pub pixel-at : (κ k a : ℕ) (t : Bool) → k ≡ keyAt w i file → a ≡ getD (valuesAt w n file) i 0 → t ≡ isPixel κ k a
-      → t ≡ isPixel κ (getD (keysAt w n file) i 0) (getD (valuesAt w n file) i 0)
-  pixel-at κ k a t key bits test =
-      test
-      ∙ ap (λ x. isPixel κ x a) (key ∙ sym (key-read w n i file there))
-      ∙ ap (isPixel κ (getD (keysAt w n file) i 0)) bits
+-- none at first
+pub pixels-begin : (w n : ℕ) (file : List ℕ) (first key own : ℕ) → Laid w n file × (first ≤ n) × (key + 5 < 2 ^ 32) → 4 ≤ n - first
+    → PixelsIn w n file first key own first 0 1
+pixels-begin w n file first key own pre h = record {
+  four = omega (arith, pre .1);
+  place = refl;
+  passed = begins-in w n file first key own 1 (pre .0, pre .1, omega (arith, pre .2)) (λ z. omega arith);
+}
 
-module _ (w n : ℕ) (file : List ℕ) (first κ own : ℕ) where
-  -- fewer than four records are left
-  pub too-few-in : n - first < 4 → RightIn w n file first κ own false
-  too-few-in h =
-      let e = many w n file in
-      right-in w n file first κ own false (too-few (keysAt w n file) (valuesAt w n file) first κ own (size w n file) (omega arith))
+module _ {w n : ℕ} {file : List ℕ} {first key own next union digit : ℕ} (p : PixelsIn w n file first key own next union digit) where
+  -- one that is wrong decides
+  wrong-pixel : Answered w n file first key own 1 0 → RightIn w n file first key own false
+  wrong-pixel h = (λ f. p .four, h .1 1 step-one)
 
-  -- four are left
-  pub four-there : 4 ≤ n - first → 4 ≤ length (keysAt w n file) - first
-  four-there h = let e = many w n file in omega arith
+  -- after the last their union does
+  pub pixels-end : 5 ≤ digit → RightIn w n file first key own (eqb union own)
+  pixels-end end =
+      let at : next ≡ first + 4 = let e = p .place in let most = p .passed .passed .until in omega arith in
+      decide (eqb union own)
+      (λ same. rw same (λ f. p .four, sym at ∙ ends-in (p .passed) end (eqb-true _ _ same) .1 1 step-one))
+      (λ other. rw other (wrong-pixel (differs-in (p .passed) end (eqb-false _ _ other))))
 
-  -- and leaves: their union decides
-  pub union-in : (a b c d : ℕ)
-      → a ≡ getD (valuesAt w n file) first 0 → b ≡ getD (valuesAt w n file) (first + 1) 0 → c ≡ getD (valuesAt w n file) (first + 2) 0 → d ≡ getD (valuesAt w n file) (first + 3) 0
-      → Right (keysAt w n file) (valuesAt w n file) first κ own (eqb (union (keysAt w n file) (valuesAt w n file) first κ own (size w n file)) own)
-      → RightIn w n file first κ own (eqb (bitOr (bitOr (bitOr a b) c) d) own)
-  union-in a b c d a-is b-is c-is d-is h =
-      rw (a-is, b-is, c-is, d-is) (right-in w n file first κ own (eqb (union (keysAt w n file) (valuesAt w n file) first κ own (size w n file)) own) h)
+  module _ (turn : digit < 5) where
+    pub there : next < n
+    there = let e = p .place in let f = p .four in omega arith
+
+    module _ (κ : ℕ) (κ-is : κ ≡ keyAt w next file) where
+      -- another key
+      pub other-pixel : (κ ≡ key + digit → ⊥) → RightIn w n file first key own false
+      other-pixel h = wrong-pixel (other-key-in (p .passed) turn there κ κ-is (λ e. h (omega arith)))
+
+      module _ (child : κ ≡ key + digit) (found : ℕ) (found-is : found ≡ bitsAt w next file) where
+        child-is : κ ≡ key + digit * 1
+        child-is = omega arith
+
+        -- no leaf
+        pub node-pixel : oneSlot found ≡ false → RightIn w n file first key own false
+        node-pixel node =
+            wrong-pixel
+            (wrong-child-in (p .passed) turn there κ κ-is child-is found found-is node 0 refl
+            (pixel-in w n file (next + 1) (key + digit * 1) found (1 / 5) (omega arith) (λ z. omega arith) (λ z. omega arith)))
+
+        -- a leaf: one more has passed
+        pub leaf-pixel : oneSlot found ≡ true → PixelsIn w n file first key own (next + 1) (bitOr union found) (digit + 1)
+        leaf-pixel leaf = record {
+          four = p .four;
+          place = let e = p .place in omega arith;
+          passed = leaf-in (p .passed) turn there κ κ-is child-is found found-is leaf;
+        }

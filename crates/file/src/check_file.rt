@@ -25,23 +25,22 @@ fn four_pixels(file: &[u8], width: usize, n: usize, first: usize, key: u32, own:
     if n - first < 4 {
         return false;
     }
-    let a = layout::bits_at(file, width, first);
-    if !check::is_leaf(layout::key_at(file, width, first), a, key + 1) {
-        return false;
+    let mut next = first;
+    let mut union = 0;
+    let mut digit = 1;
+    while digit < 5 {
+        if layout::key_at(file, width, next) != key + digit {
+            return false;
+        }
+        let found = layout::bits_at(file, width, next);
+        if !check::has_one_slot(found) {
+            return false;
+        }
+        union = union | found;
+        next += 1;
+        digit += 1;
     }
-    let b = layout::bits_at(file, width, first + 1);
-    if !check::is_leaf(layout::key_at(file, width, first + 1), b, key + 2) {
-        return false;
-    }
-    let c = layout::bits_at(file, width, first + 2);
-    if !check::is_leaf(layout::key_at(file, width, first + 2), c, key + 3) {
-        return false;
-    }
-    let d = layout::bits_at(file, width, first + 3);
-    if !check::is_leaf(layout::key_at(file, width, first + 3), d, key + 4) {
-        return false;
-    }
-    (a | b | c | d) == own
+    union == own
 }
 
 // `after_node` at height 2.
