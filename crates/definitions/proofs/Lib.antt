@@ -42,6 +42,7 @@ pub mod Overlap
 pub mod ClippedCalls
 pub mod OneByOne
 pub mod LastEntry
+pub mod ContentOf
 pub mod SoundLog
 pub mod FirstEntry
 pub mod InForce
