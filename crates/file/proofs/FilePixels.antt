@@ -1,17 +1,17 @@
 -- A node of height 1 in a file: its children can only be leaves, so each of the next four records must be one. The turns are those of the check
 -- over a node's children, at the step 1. Rests on FileTurn.
 use Prim.Native.Nat.{ℕ, _+_, _-_, _*_, _/_, _^_, _≤_, _<_}
-use mathlib.Core.Path.{_≡_, refl, sym, ap, _∙_}
+use mathlib.Core.Path.{_≡_, refl, sym, _∙_}
 use mathlib.Core.Bool.{Bool, true, false, cond}
 use mathlib.Core.List.{List}
 use native.Mathlib.Omega.{arith}
 use lib.Dec.{eqb}
 use lib.Bits.{bitOr}
-use lib.ListN.{length, drop}
+use lib.ListN.{drop}
 use borrow.Author.Tests.{eqb-true, eqb-false}
 use Rattle.keys.proofs.Cases.{decide}
 use Rattle.list.specs.Check.{oneSlot, placeOf, afterNode}
-use Rattle.list.proofs.Pixels.{Right, too-few}
+use Rattle.list.proofs.Pixels.{too-few}
 use Rattle.list.proofs.Turn.{step-one}
 use Rattle.file.specs.Layout.{Laid, keyAt, bitsAt, recordsAt, keysAt, valuesAt}
 use Rattle.file.proofs.FileTurn.{many, size, in-place, Answered, PassedIn, begins-in, ends-in, differs-in, other-key-in, wrong-child-in, leaf-in, pixel-in}

@@ -1,5 +1,5 @@
 -- Places of records: a file that has room for n of them has each of the first n whole. Rests on the widths 2 and 4.
-use Prim.Native.Nat.{ℕ, _+_, _^_, _≤_, _<_}
+use Prim.Native.Nat.{ℕ, _+_, _*_, _^_, _≤_, _<_}
 use mathlib.Core.Path.{_≡_, refl, sym, ap, ap₂, _∙_}
 use mathlib.Core.List.{List}
 use native.Mathlib.Omega.{arith}
@@ -64,3 +64,10 @@ record-put file p place u w κ v keyed whole at width e f =
     ∙ ap (λ k. sets (sets file p (bytesOf 4 κ)) (p + k) (bytesOf u v)) (sym (length-bytes 4 κ))
     ∙ sym (sets-append file p (bytesOf 4 κ) (bytesOf u v))
     ∙ ap₂ (λ p w. sets file p (bytesOfRecord w (recordOf κ v))) at width
+
+-- the place of record n at each width
+pub place-two : (w n : ℕ) → w ≡ 2 → 11 + 6 * n ≡ fileLength w n
+place-two w n e = rw e (omega arith)
+
+pub place-four : (w n : ℕ) → w ≡ 4 → 11 + 8 * n ≡ fileLength w n
+place-four w n e = rw e (omega arith)

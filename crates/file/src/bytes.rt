@@ -44,7 +44,7 @@ pub fn u32_at(file: &[u8], place: usize) -> u32
     requires { ⌜ place + 4 ≤ length (now file) ⌝ }
     ensures { λ r. ⌜ r ≡ numberAt place 4 (now (file .entry)) ⌝ }
 {
-    let high = u16_at(file, place);
     let low = u16_at(file, place + 2);
+    let high = u16_at(file, place);
     high * 65536 + low
 }

@@ -10,6 +10,7 @@ ghost use Rattle.definitions.specs.File.{recordsInFile};
 ghost use Rattle.list.specs.Check.{placeOf, afterNode, stepUnder};
 ghost use Rattle.file.specs.Layout.{recordsAt, Laid};
 ghost use Rattle.file.specs.Room.{Exact};
+use crate::bytes;
 use crate::layout;
 use keys::Key;
 use keys::power;
@@ -29,10 +30,11 @@ fn four_pixels(file: &[u8], width: usize, n: usize, first: usize, key: u32, own:
     let mut union = 0;
     let mut digit = 1;
     while digit < 5 {
-        if layout::key_at(file, width, next) != key + digit {
+        let place = layout::place(width, next);
+        if bytes::u32_at(file, place) != key + digit {
             return false;
         }
-        let found = layout::bits_at(file, width, next);
+        let found = layout::bits_behind(file, width, place);
         if !check::has_one_slot(found) {
             return false;
         }

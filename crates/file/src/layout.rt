@@ -5,7 +5,7 @@ ghost use Prim.Native.Nat.{_+_, _^_, _≤_, _<_};
 ghost use lib.ListN.{length};
 ghost use lib.Seq.{sets};
 ghost use Rattle.definitions.specs.List.{recordOf};
-ghost use Rattle.definitions.specs.File.{Width, versionFor, bitBytes, fileLength, bytesOfRecord};
+ghost use Rattle.definitions.specs.File.{Width, versionFor, bitBytes, fileLength, bytesOfRecord, numberAt};
 ghost use Rattle.file.specs.Layout.{keyAt, bitsAt, Laid};
 use crate::bytes;
 
@@ -33,6 +33,28 @@ pub fn length(width: usize, n: usize) -> usize
     11 + (4 + width) * n
 }
 
+// The place of record n with the width asked first: so the compiler makes a loop over records once a width, without a multiplication.
+pub fn place(width: usize, n: usize) -> usize
+    requires { ⌜ Width width × (fileLength width n < 2 ^ 64) ⌝ }
+    ensures { λ r. ⌜ r ≡ fileLength width n ⌝ }
+{
+    if width == 2 {
+        return 11 + 6 * n;
+    }
+    11 + 8 * n
+}
+
+// The bitstring of the record at a place.
+pub fn bits_behind(file: &[u8], width: usize, place: usize) -> u32
+    requires { ⌜ Width width × (place + 4 + width ≤ length (now file)) ⌝ }
+    ensures { λ r. ⌜ r ≡ numberAt (place + 4) width (now (file .entry)) ⌝ }
+{
+    if width == 2 {
+        return bytes::u16_at(file, place + 4);
+    }
+    bytes::u32_at(file, place + 4)
+}
+
 pub fn key_at(file: &[u8], width: usize, i: usize) -> u32
     requires { ⌜ Laid width (i + 1) (now file) ⌝ }
     ensures { λ r. ⌜ r ≡ keyAt width i (now (file .entry)) ⌝ }
@@ -44,11 +66,7 @@ pub fn bits_at(file: &[u8], width: usize, i: usize) -> u32
     requires { ⌜ Laid width (i + 1) (now file) ⌝ }
     ensures { λ r. ⌜ r ≡ bitsAt width i (now (file .entry)) ⌝ }
 {
-    let place = length(width, i) + 4;
-    if width == 2 {
-        return bytes::u16_at(file, place);
-    }
-    bytes::u32_at(file, place)
+    bits_behind(file, width, length(width, i))
 }
 
 // Record i.

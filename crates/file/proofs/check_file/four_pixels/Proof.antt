@@ -1,9 +1,13 @@
 -- `check_file::four_pixels` meets its contract: before each turn the pixels passed so far are those that the model has passed, at the step 1.
-use Prim.Native.Nat.{_+_, _-_}
-use mathlib.Core.Path.{sym, _∙_}
+use Prim.Native.Nat.{ℕ, _+_, _-_, _≤_}
+use mathlib.Core.Path.{_≡_, refl, sym, ap, _∙_}
 use native.Mathlib.Omega.{arith}
+use lib.ListN.{length}
+use borrow.Author.Needs.{needs}
 use borrow.Author.Tests.{not-true, not-false}
-use Rattle.file.proofs.Laid.{laid-at}
+use Rattle.definitions.specs.File.{fileLength}
+use Rattle.file.specs.Layout.{keyAt, bitsAt}
+use Rattle.file.proofs.Laid.{laid-at, record-ends, number-here}
 use Rattle.file.proofs.FilePixels.{PixelsIn, too-few-in, pixels-begin, pixels-end, there, other-pixel, node-pixel, leaf-pixel}
 use Rattle.file.proofs.check_file.four_pixels.Statement.{statement}
 use Rattle.file.proofs.check_file.four_pixels.Tie as tie
@@ -19,10 +23,26 @@ abbrev Turn : Type 0
 Turn = tie.In-loop Inv-loop μ-loop
 
 abbrev Found : Type 0
-Found = tie.After-bits-at Inv-loop μ-loop
+Found = tie.After-bits-behind Inv-loop μ-loop
 
 abbrev turn : Found → Turn
-turn c = c .before .before .before
+turn c = c .before .before .before .before
+
+-- the turn's record is whole
+whole : (c : Turn) → let l = c .before in let a = l .before .before .before .args in fileLength (a .width) (l .loop .next) + 4 + a .width ≤ length (a .file .now)
+whole c =
+    let p = c .before .loop .inv in
+    let l = laid-at (p .passed .laid) _ (there p (c .loop-test .taken)) in
+    record-ends (l .width-is) _ _ (l .there)
+
+-- its key and its bits
+key-is : (c : tie.After-u32-at Inv-loop μ-loop) → let l = c .before .before .before in let a = l .before .before .before .args in
+    c .u32-at .result ≡ keyAt (a .width) (l .loop .next) (a .file .now)
+key-is c = number-here _ _ _ _ _ _ (c .before .place .ensures) refl (c .u32-at .ensures)
+
+bits-are : (c : Found) → let l = turn c .before in let a = l .before .before .before .args in
+    c .bits-behind .result ≡ bitsAt (a .width) (l .loop .next) (a .file .now)
+bits-are c = number-here _ _ _ _ _ _ (ap (λ (k : ℕ). k + 4) (c .before .before .before .place .ensures)) refl (c .bits-behind .ensures)
 
 sub-if1 : tie.Need-sub-if1 Inv-loop μ-loop
 sub-if1 c = omega arith
@@ -35,22 +55,25 @@ returns c =
 loop-holds : tie.Need-loop-holds Inv-loop μ-loop
 loop-holds c = pixels-begin _ _ _ _ _ _ (c .before .before .pre) (c .if1 .left)
 
-key-at-requires : tie.Need-key-at-requires Inv-loop μ-loop
-key-at-requires c κs = let p = c .before .loop .inv in laid-at (p .passed .laid) _ (there p (c .loop-test .taken))
+place-requires : tie.Need-place-requires Inv-loop μ-loop
+place-requires c κs = let h = whole c in (c .before .loop .inv .passed .laid .width-is, search needs)
+
+u32-at-requires : tie.Need-u32-at-requires Inv-loop μ-loop
+u32-at-requires c κs = let h = whole (c .before) in omega (arith, c .place .ensures)
 
 add-if2 : tie.Need-add-if2 Inv-loop μ-loop
-add-if2 c = let h = c .before .before .before .before .before .pre .2 in omega (arith, c .before .loop-test .taken)
+add-if2 c = let h = c .before .before .before .before .before .before .pre .2 in omega (arith, c .before .before .loop-test .taken)
 
 returns-2 : tie.Need-returns-2 Inv-loop μ-loop
 returns-2 c =
-    let t = c .before .before in
-    other-pixel (t .before .loop .inv) (t .loop-test .taken) _ (c .before .key-at .ensures) (c .if2 .taken)
+    let t = c .before .before .before in
+    other-pixel (t .before .loop .inv) (t .loop-test .taken) _ (key-is (c .before)) (c .if2 .taken)
 
-bits-at-requires : tie.Need-bits-at-requires Inv-loop μ-loop
-bits-at-requires c κs =
-    let t = c .before .before in
-    let p = t .before .loop .inv in
-    laid-at (p .passed .laid) _ (there p (t .loop-test .taken))
+bits-behind-requires : tie.Need-bits-behind-requires Inv-loop μ-loop
+bits-behind-requires c κs =
+    let t = c .before .before .before in
+    let h = whole t in
+    (t .before .loop .inv .passed .laid .width-is, omega (arith, c .before .before .place .ensures))
 
 has-one-slot-requires : tie.Need-has-one-slot-requires Inv-loop μ-loop
 has-one-slot-requires c κs = tt
@@ -59,7 +82,7 @@ returns-3 : tie.Need-returns-3 Inv-loop μ-loop
 returns-3 c =
     let b = c .before .before in
     let t = turn b in
-    node-pixel (t .before .loop .inv) (t .loop-test .taken) _ (b .before .before .key-at .ensures) (b .before .if2 .left) _ (b .bits-at .ensures)
+    node-pixel (t .before .loop .inv) (t .loop-test .taken) _ (key-is (b .before .before)) (b .before .if2 .left) _ (bits-are b)
     (sym (c .before .has-one-slot .ensures) ∙ not-true _ (c .if3 .taken))
 
 add-next : tie.Need-add-next Inv-loop μ-loop
@@ -78,7 +101,7 @@ loop-again : tie.Need-loop-again Inv-loop μ-loop
 loop-again c =
     let b = c .before .before in
     let t = turn b in
-    leaf-pixel (t .before .loop .inv) (t .loop-test .taken) _ (b .before .before .key-at .ensures) (b .before .if2 .left) _ (b .bits-at .ensures)
+    leaf-pixel (t .before .loop .inv) (t .loop-test .taken) _ (key-is (b .before .before)) (b .before .if2 .left) _ (bits-are b)
     (sym (c .before .has-one-slot .ensures) ∙ not-false _ (c .if3 .left))
 
 returns-4 : tie.Need-returns-4 Inv-loop μ-loop
@@ -93,10 +116,11 @@ four-pixels-spec =
     sub-if1
     returns
     loop-holds
-    key-at-requires
+    place-requires
+    u32-at-requires
     add-if2
     returns-2
-    bits-at-requires
+    bits-behind-requires
     has-one-slot-requires
     returns-3
     add-next
