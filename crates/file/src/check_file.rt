@@ -45,7 +45,7 @@ fn four_pixels(file: &[u8], width: usize, n: usize, first: usize, key: u32, own:
     union == own
 }
 
-// `after_node` at height 2.
+// `after_node` at height 2. The loop counts by the child's key alone: so it is small enough for the compiler to make it once a width.
 fn after_sixteen(file: &[u8], width: usize, n: usize, first: usize, key: u32, own: u32) -> usize
     requires { ⌜ Laid width n (now file) × (first ≤ n) × (key + 25 < 2 ^ 32) ⌝ }
     ensures { λ r. ⌜ (r ≤ n)
@@ -53,12 +53,12 @@ fn after_sixteen(file: &[u8], width: usize, n: usize, first: usize, key: u32, ow
 {
     let mut next = first;
     let mut union = 0;
-    let mut quadrant = 1;
-    while quadrant < 5 {
+    let end = key + 25;
+    let mut child = key + 5;
+    while child != end {
         if n <= next {
             return 0;
         }
-        let child = key + quadrant * 5;
         if layout::key_at(file, width, next) != child {
             return 0;
         }
@@ -71,7 +71,7 @@ fn after_sixteen(file: &[u8], width: usize, n: usize, first: usize, key: u32, ow
             next += 4;
         }
         union = union | found;
-        quadrant += 1;
+        child += 5;
     }
     if union == own { next } else { 0 }
 }

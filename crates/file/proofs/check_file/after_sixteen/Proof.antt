@@ -1,7 +1,9 @@
 -- `check_file::after_sixteen` meets its contract: before each turn the children passed so far are those that the model has passed, at the step 5.
-use Prim.Native.Nat.{ℕ, _+_, _-_, _*_, _≤_}
+-- The code counts them by the next child's key.
+use Prim.Native.Nat.{ℕ, _+_, _-_, _*_, _≤_, _<_}
 use mathlib.Core.Path.{_≡_, refl, sym, _∙_}
 use mathlib.Core.Logic.{⊎-elim}
+use mathlib.Core.List.{List}
 use native.Mathlib.Omega.{arith}
 use lib.ListN.{drop}
 use borrow.Author.Tests.{not-true, not-false}
@@ -14,11 +16,26 @@ use Rattle.file.proofs.FileTurn.{Answered, PassedIn, begins-in, ends-in
 use Rattle.file.proofs.check_file.after_sixteen.Statement.{statement}
 use Rattle.file.proofs.check_file.after_sixteen.Tie as tie
 
+record ChildrenIn (w n : ℕ) (file : List ℕ) (first key own next union child : ℕ) : Type 0 where
+  pub quadrant : ℕ
+  pub child-is : child ≡ key + quadrant * 5
+  pub passed : PassedIn w n file first key own 5 next union quadrant
+
+-- while it is not the key after the last child's, a child is left
+turn : {w n : ℕ} {file : List ℕ} {first key own next union child : ℕ} (p : ChildrenIn w n file first key own next union child)
+    → (child ≡ key + 25 → ⊥) → p .quadrant < 5
+turn p h = let most = p .passed .passed .until in let e = p .child-is in omega (arith, h)
+
+-- and then none
+end : {w n : ℕ} {file : List ℕ} {first key own next union child : ℕ} (p : ChildrenIn w n file first key own next union child)
+    → child ≡ key + 25 → 5 ≤ p .quadrant
+end p h = let e = p .child-is in omega (arith, h)
+
 abbrev Inv-loop : tie.InvT-loop
-Inv-loop file width n first key own next₀ union₀ quadrant₀ next union quadrant = PassedIn width n file first key own 5 next union quadrant
+Inv-loop file width n first key own next₀ union₀ end child₀ next union child = ChildrenIn width n file first key own next union child
 
 abbrev μ-loop : tie.MeasureT-loop
-μ-loop file width n first key own next₀ union₀ quadrant₀ next union quadrant = 5 - quadrant
+μ-loop file width n first key own next₀ union₀ end child₀ next union child = key + 25 - child
 
 -- places of the code: a turn in which a record is left, and one in which that record's bits were read
 abbrev There : Type 0
@@ -30,29 +47,33 @@ Found = tie.After-bits-at Inv-loop μ-loop
 abbrev there : Found → There
 there c = c .before .before .before
 
-loop-holds : tie.Need-loop-holds Inv-loop μ-loop
-loop-holds c = begins-in _ _ _ _ _ _ _ (c .before .pre) (λ z. omega arith)
-
-returns : tie.Need-returns Inv-loop μ-loop
-returns c = let h = short-in (c .before .before .loop .inv) (c .before .loop-test .taken) (c .if1 .taken) in (h .0, h .1 2 step-five)
-
-mul-child : tie.Need-mul-child Inv-loop μ-loop
-mul-child c = let h = child-fits (c .before .before .loop .inv .passed) (c .before .loop-test .taken) in omega arith
+add-end : tie.Need-add-end Inv-loop μ-loop
+add-end c = let h = c .before .pre .2 in omega arith
 
 add-child : tie.Need-add-child Inv-loop μ-loop
-add-child c = let h = child-fits (c .before .before .loop .inv .passed) (c .before .loop-test .taken) in omega arith
+add-child c = let h = c .before .pre .2 in omega arith
+
+loop-holds : tie.Need-loop-holds Inv-loop μ-loop
+loop-holds c = record { quadrant = 1; child-is = refl; passed = begins-in _ _ _ _ _ _ _ (c .before .pre) (λ z. omega arith) }
+
+returns : tie.Need-returns Inv-loop μ-loop
+returns c =
+    let p = c .before .before .loop .inv in
+    let h = short-in (p .passed) (turn p (c .before .loop-test .taken)) (c .if1 .taken) in
+    (h .0, h .1 2 step-five)
 
 key-at-requires : tie.Need-key-at-requires Inv-loop μ-loop
-key-at-requires c κs = laid-at (c .before .before .loop .inv .laid) _ (c .if1 .left)
+key-at-requires c κs = laid-at (c .before .before .loop .inv .passed .laid) _ (c .if1 .left)
 
 returns-2 : tie.Need-returns-2 Inv-loop μ-loop
 returns-2 c =
     let e = c .before .before in
-    let h = other-key-in (e .before .before .loop .inv) (e .before .loop-test .taken) (e .if1 .left) _ (c .before .key-at .ensures) (c .if2 .taken) in
+    let p = e .before .before .loop .inv in
+    let h = other-key-in (p .passed) (turn p (e .before .loop-test .taken)) (e .if1 .left) _ (c .before .key-at .ensures) (λ z. c .if2 .taken (z ∙ sym (p .child-is))) in
     (h .0, h .1 2 step-five)
 
 bits-at-requires : tie.Need-bits-at-requires Inv-loop μ-loop
-bits-at-requires c κs = laid-at (c .before .before .before .before .loop .inv .laid) _ (c .before .before .if1 .left)
+bits-at-requires c κs = laid-at (c .before .before .before .before .loop .inv .passed .laid) _ (c .before .before .if1 .left)
 
 add-next : tie.Need-add-next Inv-loop μ-loop
 add-next c = omega arith
@@ -63,27 +84,30 @@ has-one-slot-requires c κs = tt
 four-pixels-requires : tie.Need-four-pixels-requires Inv-loop μ-loop
 four-pixels-requires c κs =
     let e = there (c .before .before) in
-    let l = e .before .before in
-    let h = child-fits (l .loop .inv .passed) (e .before .loop-test .taken) in
-    (l .loop .inv .laid, omega (arith, e .if1 .left), omega arith)
+    let p = e .before .before .loop .inv in
+    let h = child-fits (p .passed .passed) (turn p (e .before .loop-test .taken)) in
+    (p .passed .laid, omega (arith, e .if1 .left), omega (arith, p .child-is))
 
 -- what the four pixels' function answers of a child that is a node
 after-child : (c : Found) (r : ℕ) → let e = there c in let l = e .before .before in let a = l .before .before .args in
     (r ≤ a .n)
-    × (r ≡ placeOf (a .n) (afterNode 1 (a .key + l .loop .quadrant * 5) (c .bits-at .result) (drop (l .loop .next + 1) (recordsAt (a .width) (a .n) (a .file .now)))))
-    → Answered (a .width) (a .n) (a .file .now) (l .loop .next + 1) (a .key + l .loop .quadrant * 5) (c .bits-at .result) 1 r
+    × (r ≡ placeOf (a .n) (afterNode 1 (l .loop .child) (c .bits-at .result) (drop (l .loop .next + 1) (recordsAt (a .width) (a .n) (a .file .now)))))
+    → Answered (a .width) (a .n) (a .file .now) (l .loop .next + 1) (a .key + l .loop .inv .quadrant * 5) (c .bits-at .result) 1 r
 after-child c r h =
     let e = there c in
-    child-in (e .before .before .loop .inv) (e .before .loop-test .taken) (e .if1 .left) _ (c .before .before .key-at .ensures) (c .before .if2 .left) _ (c .bits-at .ensures) 1 step-one r h
+    let p = e .before .before .loop .inv in
+    child-in (p .passed) (turn p (e .before .loop-test .taken)) (e .if1 .left) _ (c .before .before .key-at .ensures) (c .before .if2 .left ∙ p .child-is) _
+    (c .bits-at .ensures) 1 step-one r (rw (sym (p .child-is)) h)
 
 returns-3 : tie.Need-returns-3 Inv-loop μ-loop
 returns-3 c =
     let a = c .before .before .before in
     let e = there (a .before) in
     let l = e .before .before in
+    let p = l .loop .inv in
     let h =
-    wrong-child-in (l .loop .inv) (e .before .loop-test .taken) (e .if1 .left) _
-    (a .before .before .before .key-at .ensures) (a .before .before .if2 .left) _ (a .before .bits-at .ensures)
+    wrong-child-in (p .passed) (turn p (e .before .loop-test .taken)) (e .if1 .left) _
+    (a .before .before .before .key-at .ensures) (a .before .before .if2 .left ∙ p .child-is) _ (a .before .bits-at .ensures)
     (sym (a .has-one-slot .ensures) ∙ not-true _ (c .before .before .if3 .taken))
     0 refl
     (after-child (a .before) 0
@@ -95,36 +119,53 @@ add-next-2 c =
     let h = c .before .four-pixels .ensures .0 (not-false _ (c .if4 .left)) in
     omega arith
 
-add-quadrant : tie.Need-add-quadrant Inv-loop μ-loop
-add-quadrant c = omega (arith, there (c .before .before) .before .loop-test .taken)
+add-child-2 : tie.Need-add-child-2 Inv-loop μ-loop
+add-child-2 c =
+    let e = there (c .before .before) in
+    let p = e .before .before .loop .inv in
+    let h = child-fits (p .passed .passed) (turn p (e .before .loop-test .taken)) in
+    omega (arith, p .child-is)
 
 loop-less : tie.Need-loop-less Inv-loop μ-loop
-loop-less c = omega (arith, there (c .before .before) .before .loop-test .taken)
+loop-less c =
+    let e = there (c .before .before) in
+    let p = e .before .before .loop .inv in
+    omega (arith, p .child-is, turn p (e .before .loop-test .taken))
 
 loop-again : tie.Need-loop-again Inv-loop μ-loop
 loop-again c =
     let a = c .before in
     let e = there (a .before) in
     let p = e .before .before .loop .inv in
-    ⊎-elim
-    (λ w. rw (w .3)
-    (node-in p (e .before .loop-test .taken) (e .if1 .left) _
-    (a .before .before .before .key-at .ensures) (a .before .before .if2 .left) _ (a .before .bits-at .ensures)
-    (sym (a .has-one-slot .ensures) ∙ not-true _ (w .0 .taken)) (e .before .before .loop .next + 1 + 4)
-    (λ z. omega arith)
-    (after-child (a .before) _
-    (w .1 .ensures .0 (not-false _ (w .2 .left)), right-true (w .1 .result) (e .before .before .loop .next + 1 + 4) _ (not-false _ (w .2 .left)) (w .1 .ensures .1)))))
-    (λ w. rw (w .1)
-    (leaf-in p (e .before .loop-test .taken) (e .if1 .left) _
-    (a .before .before .before .key-at .ensures) (a .before .before .if2 .left) _ (a .before .bits-at .ensures)
-    (sym (a .has-one-slot .ensures) ∙ not-false _ (w .0 .left))))
-    (c .if3 .came)
+    record {
+      quadrant = p .quadrant + 1;
+      child-is = omega (arith, p .child-is);
+      passed = ⊎-elim
+          (λ w. rw (w .3)
+          (node-in (p .passed) (turn p (e .before .loop-test .taken)) (e .if1 .left) _
+          (a .before .before .before .key-at .ensures) (a .before .before .if2 .left ∙ p .child-is) _ (a .before .bits-at .ensures)
+          (sym (a .has-one-slot .ensures) ∙ not-true _ (w .0 .taken)) (e .before .before .loop .next + 1 + 4)
+          (λ z. omega arith)
+          (after-child (a .before) _
+          (w .1 .ensures .0 (not-false _ (w .2 .left)), right-true (w .1 .result) (e .before .before .loop .next + 1 + 4) _ (not-false _ (w .2 .left)) (w .1 .ensures .1)))))
+          (λ w. rw (w .1)
+          (leaf-in (p .passed) (turn p (e .before .loop-test .taken)) (e .if1 .left) _
+          (a .before .before .before .key-at .ensures) (a .before .before .if2 .left ∙ p .child-is) _ (a .before .bits-at .ensures)
+          (sym (a .has-one-slot .ensures) ∙ not-false _ (w .0 .left))))
+          (c .if3 .came);
+    }
 
 returns-4 : tie.Need-returns-4 Inv-loop μ-loop
-returns-4 c = let h = ends-in (c .before .before .loop .inv) (c .before .loop-test .left) (c .if5 .taken) in (h .0, h .1 2 step-five)
+returns-4 c =
+    let p = c .before .before .loop .inv in
+    let h = ends-in (p .passed) (end p (c .before .loop-test .left)) (c .if5 .taken) in
+    (h .0, h .1 2 step-five)
 
 returns-5 : tie.Need-returns-5 Inv-loop μ-loop
-returns-5 c = let h = differs-in (c .before .before .loop .inv) (c .before .loop-test .left) (c .if5 .left) in (h .0, h .1 2 step-five)
+returns-5 c =
+    let p = c .before .before .loop .inv in
+    let h = differs-in (p .passed) (end p (c .before .loop-test .left)) (c .if5 .left) in
+    (h .0, h .1 2 step-five)
 
 pub after-sixteen-spec : {M : Type 1} → statement M
 after-sixteen-spec =
@@ -132,10 +173,10 @@ after-sixteen-spec =
     (tie.spec
     Inv-loop
     μ-loop
+    add-end
+    add-child
     loop-holds
     returns
-    mul-child
-    add-child
     key-at-requires
     returns-2
     bits-at-requires
@@ -144,7 +185,7 @@ after-sixteen-spec =
     four-pixels-requires
     returns-3
     add-next-2
-    add-quadrant
+    add-child-2
     loop-less
     loop-again
     returns-4
