@@ -1,7 +1,7 @@
 -- The loop of the check over a node's children, with the records read from a file: each step is that over two slices, where the slices hold the
 -- file's keys and bitstrings. Rests on ReadBytes, the records of two slices and the laws of the check.
 use Prim.Native.Nat.{ℕ, _+_, _*_, _/_, _^_, _≤_, _<_}
-use mathlib.Core.Path.{_≡_, sym, ap, _∙_}
+use mathlib.Core.Path.{_≡_, refl, sym, ap, _∙_}
 use mathlib.Core.Bool.{true, false}
 use mathlib.Core.List.{List}
 use native.Mathlib.Omega.{arith}
@@ -18,6 +18,11 @@ use Rattle.file.proofs.ReadBytes.{key-read, value-read, keys-many, bits
 abbrev pub Answered : ℕ → ℕ → List ℕ → ℕ → ℕ → ℕ → ℕ → ℕ → Type 0
 Answered w n file first key own step r =
     (r ≤ n) × ((k : ℕ) → step ≡ stepUnder k → r ≡ placeOf n (afterNode k key own (drop first (recordsAt w n file))))
+
+-- 25 is the step under a block of height 3
+pub step-twenty-five : 25 ≡ stepUnder 3
+unfolding stepUnder
+step-twenty-five = refl
 
 -- there are as many keys as records
 pub many : (w n : ℕ) (file : List ℕ) → length (keysAt w n file) ≡ n
@@ -60,6 +65,12 @@ pub record PassedIn (w n : ℕ) (file : List ℕ) (first key own step next union
   pub laid : Laid w n file
   pub reached : next ≤ n
   pub passed : Passed (keysAt w n file) (valuesAt w n file) first key own step next union digit
+
+-- the same where the code counts by the next child's key
+pub record ChildrenIn (w n : ℕ) (file : List ℕ) (first key own step next union child : ℕ) : Type 0 where
+  pub digit : ℕ
+  pub child-is : child ≡ key + digit * step
+  pub passed : PassedIn w n file first key own step next union digit
 
 -- before the first turn nothing has been passed
 pub begins-in : (w n : ℕ) (file : List ℕ) (first key own step : ℕ)

@@ -76,7 +76,38 @@ fn after_sixteen(file: &[u8], width: usize, n: usize, first: usize, key: u32, ow
     if union == own { next } else { 0 }
 }
 
-// `after_node` below height 3. A pixel is no node.
+// `after_node` at height 3: with one step and one call this loop, too, is small enough.
+fn after_sixty_four(file: &[u8], width: usize, n: usize, first: usize, key: u32, own: u32) -> usize
+    requires { ⌜ Laid width n (now file) × (first ≤ n) × (key + 125 < 2 ^ 32) ⌝ }
+    ensures { λ r. ⌜ (r ≤ n)
+        × (r ≡ placeOf n (afterNode 3 key own (drop first (recordsAt width n (now (file .entry)))))) ⌝ }
+{
+    let mut next = first;
+    let mut union = 0;
+    let end = key + 125;
+    let mut child = key + 25;
+    while child != end {
+        if n <= next {
+            return 0;
+        }
+        if layout::key_at(file, width, next) != child {
+            return 0;
+        }
+        let found = layout::bits_at(file, width, next);
+        next += 1;
+        if !check::has_one_slot(found) {
+            next = after_sixteen(file, width, n, next, child, found);
+            if next == 0 {
+                return 0;
+            }
+        }
+        union = union | found;
+        child += 25;
+    }
+    if union == own { next } else { 0 }
+}
+
+// `after_node` below height 4. A pixel is no node.
 fn after_low(
     file: &[u8],
     width: usize,
@@ -86,12 +117,15 @@ fn after_low(
     own: u32,
     step: u32,
 ) -> usize
-    requires { ⌜ Laid width n (now file) × (first ≤ n) × (step < 25) × (key + 5 * step < 2 ^ 32) ⌝ }
+    requires { ⌜ Laid width n (now file) × (first ≤ n) × (step < 26) × (key + 5 * step < 2 ^ 32) ⌝ }
     ensures { λ r. ⌜ (r ≤ n)
         × ((k : ℕ)
         → step ≡ stepUnder k
         → r ≡ placeOf n (afterNode k key own (drop first (recordsAt width n (now (file .entry)))))) ⌝ }
 {
+    if step == 25 {
+        return after_sixty_four(file, width, n, first, key, own);
+    }
     if step == 5 {
         return after_sixteen(file, width, n, first, key, own);
     }
@@ -106,7 +140,7 @@ fn after_low(
 }
 
 // After a node's own record: the place after its last record, or 0 where what follows are not its four children. A leaf among them is passed
-// here, so that only nodes are called for, and those of height 2 without recursion.
+// here, so that only nodes are called for, and those of height 3 without recursion.
 fn after_node(
     file: &[u8],
     width: usize,
@@ -122,7 +156,7 @@ fn after_node(
         → step ≡ stepUnder k
         → r ≡ placeOf n (afterNode k key own (drop first (recordsAt width n (now (file .entry)))))) ⌝ }
 {
-    if step < 25 {
+    if step < 26 {
         return after_low(file, width, n, first, key, own, step);
     }
     let lower = step / 5;
@@ -140,8 +174,8 @@ fn after_node(
         let found = layout::bits_at(file, width, next);
         next += 1;
         if !check::has_one_slot(found) {
-            if lower == 5 {
-                next = after_sixteen(file, width, n, next, child, found);
+            if lower == 25 {
+                next = after_sixty_four(file, width, n, next, child, found);
             } else {
                 next = after_node(file, width, n, next, child, found, lower);
             }

@@ -7,14 +7,14 @@ use native.Mathlib.Omega.{arith}
 use borrow.Author.Tests.{not-true, not-false}
 use borrow.Fn.Kinds.{In}
 use borrow.Fn.PlainCycle.{Measures, is, falls, and}
-use Rattle.list.proofs.Turn.{step-five, child-fits}
+use Rattle.list.proofs.Turn.{child-fits}
 use Rattle.file.proofs.Laid.{laid-at}
-use Rattle.file.proofs.FileTurn.{Answered, PassedIn, begins-in, ends-in, differs-in, short-in, other-key-in, child-in, wrong-child-in, leaf-in, node-in}
+use Rattle.file.proofs.FileTurn.{step-twenty-five, Answered, PassedIn, begins-in, ends-in, differs-in, short-in, other-key-in, child-in, wrong-child-in, leaf-in, node-in}
 use Rattle.file.proofs.check_file.after_node.Reads as own
 use Rattle.file.proofs.check_file.after_node.Kinds as kinds
 use Rattle.file.proofs.check_file.+after_node.Lts-after_node as lts
 use Rattle.file.proofs.check_file.after_low.Reads as after-low
-use Rattle.file.proofs.check_file.after_sixteen.Reads as after-sixteen
+use Rattle.file.proofs.check_file.after_sixty_four.Reads as after-sixty-four
 use Rattle.file.proofs.layout.bits_at.Reads as bits-at
 use Rattle.file.proofs.layout.key_at.Reads as key-at
 use Rattle.list.proofs.check.has_one_slot.Reads as has-one-slot
@@ -40,8 +40,8 @@ claims t = (
   bits-at.Learnt,
   has-one-slot.Asked,
   has-one-slot.Learnt,
-  after-sixteen.Asked,
-  after-sixteen.Learnt,
+  after-sixty-four.Asked,
+  after-sixty-four.Learnt,
   below t,
   own.Post,
 )
@@ -109,8 +109,8 @@ add-next t c = omega arith
 has-one-slot-requires : (t : ℕ) → lts.Need-has-one-slot-requires (claims t) (given t) own.Post Inv-loop μ-loop
 has-one-slot-requires t c κs = tt
 
-after-sixteen-requires : (t : ℕ) → lts.Need-after-sixteen-requires (claims t) (given t) own.Post Inv-loop μ-loop
-after-sixteen-requires t c κs =
+after-sixty-four-requires : (t : ℕ) → lts.Need-after-sixty-four-requires (claims t) (given t) own.Post Inv-loop μ-loop
+after-sixty-four-requires t c κs =
     let e = there (found (c .before)) in
     let l = e .before .before in
     let h = child-fits (l .loop .inv .passed) (e .before .loop-test .taken) in
@@ -133,7 +133,7 @@ after-child c =
     ⊎-elim
     (λ w. rw (w .2)
     (child-in (e .before .before .loop .inv) (e .before .loop-test .taken) (e .if2 .left) _ (f .before .before .key-at .ensures) (f .before .if3 .left) _ (f .bits-at .ensures)
-    2 (w .0 .taken ∙ step-five) _ (w .1 .ensures)))
+    3 (w .0 .taken ∙ step-twenty-five) _ (w .1 .ensures)))
     (λ w. rw (w .2) (w .1 .ensures))
     (c .if5 .came)
 
@@ -188,7 +188,7 @@ pub +after-node-spec : {M : Type 1} → statement M
     (bits-at-requires t)
     (add-next t)
     (has-one-slot-requires t)
-    (after-sixteen-requires t)
+    (after-sixty-four-requires t)
     (after-node-requires t)
     (returns-4 t)
     (add-digit t)

@@ -12,27 +12,22 @@ use Rattle.list.proofs.Pixels.{right-false, right-true}
 use Rattle.list.proofs.Turn.{step-one, step-five, child-fits}
 use Rattle.file.specs.Layout.{recordsAt}
 use Rattle.file.proofs.Laid.{laid-at}
-use Rattle.file.proofs.FileTurn.{Answered, PassedIn, begins-in, ends-in, differs-in, short-in, other-key-in, child-in, wrong-child-in, leaf-in, node-in}
+use Rattle.file.proofs.FileTurn.{Answered, ChildrenIn, begins-in, ends-in, differs-in, short-in, other-key-in, child-in, wrong-child-in, leaf-in, node-in}
 use Rattle.file.proofs.check_file.after_sixteen.Statement.{statement}
 use Rattle.file.proofs.check_file.after_sixteen.Tie as tie
 
-record ChildrenIn (w n : ℕ) (file : List ℕ) (first key own next union child : ℕ) : Type 0 where
-  pub quadrant : ℕ
-  pub child-is : child ≡ key + quadrant * 5
-  pub passed : PassedIn w n file first key own 5 next union quadrant
-
 -- while it is not the key after the last child's, a child is left
-turn : {w n : ℕ} {file : List ℕ} {first key own next union child : ℕ} (p : ChildrenIn w n file first key own next union child)
-    → (child ≡ key + 25 → ⊥) → p .quadrant < 5
+turn : {w n : ℕ} {file : List ℕ} {first key own next union child : ℕ} (p : ChildrenIn w n file first key own 5 next union child)
+    → (child ≡ key + 25 → ⊥) → p .digit < 5
 turn p h = let most = p .passed .passed .until in let e = p .child-is in omega (arith, h)
 
 -- and then none
-end : {w n : ℕ} {file : List ℕ} {first key own next union child : ℕ} (p : ChildrenIn w n file first key own next union child)
-    → child ≡ key + 25 → 5 ≤ p .quadrant
+end : {w n : ℕ} {file : List ℕ} {first key own next union child : ℕ} (p : ChildrenIn w n file first key own 5 next union child)
+    → child ≡ key + 25 → 5 ≤ p .digit
 end p h = let e = p .child-is in omega (arith, h)
 
 abbrev Inv-loop : tie.InvT-loop
-Inv-loop file width n first key own next₀ union₀ end child₀ next union child = ChildrenIn width n file first key own next union child
+Inv-loop file width n first key own next₀ union₀ end child₀ next union child = ChildrenIn width n file first key own 5 next union child
 
 abbrev μ-loop : tie.MeasureT-loop
 μ-loop file width n first key own next₀ union₀ end child₀ next union child = key + 25 - child
@@ -54,7 +49,7 @@ add-child : tie.Need-add-child Inv-loop μ-loop
 add-child c = let h = c .before .pre .2 in omega arith
 
 loop-holds : tie.Need-loop-holds Inv-loop μ-loop
-loop-holds c = record { quadrant = 1; child-is = refl; passed = begins-in _ _ _ _ _ _ _ (c .before .pre) (λ z. omega arith) }
+loop-holds c = record { digit = 1; child-is = refl; passed = begins-in _ _ _ _ _ _ _ (c .before .pre) (λ z. omega arith) }
 
 returns : tie.Need-returns Inv-loop μ-loop
 returns c =
@@ -92,7 +87,7 @@ four-pixels-requires c κs =
 after-child : (c : Found) (r : ℕ) → let e = there c in let l = e .before .before in let a = l .before .before .args in
     (r ≤ a .n)
     × (r ≡ placeOf (a .n) (afterNode 1 (l .loop .child) (c .bits-at .result) (drop (l .loop .next + 1) (recordsAt (a .width) (a .n) (a .file .now)))))
-    → Answered (a .width) (a .n) (a .file .now) (l .loop .next + 1) (a .key + l .loop .inv .quadrant * 5) (c .bits-at .result) 1 r
+    → Answered (a .width) (a .n) (a .file .now) (l .loop .next + 1) (a .key + l .loop .inv .digit * 5) (c .bits-at .result) 1 r
 after-child c r h =
     let e = there c in
     let p = e .before .before .loop .inv in
@@ -138,7 +133,7 @@ loop-again c =
     let e = there (a .before) in
     let p = e .before .before .loop .inv in
     record {
-      quadrant = p .quadrant + 1;
+      digit = p .digit + 1;
       child-is = omega (arith, p .child-is);
       passed = ⊎-elim
           (λ w. rw (w .3)
