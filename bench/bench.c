@@ -156,7 +156,8 @@ static void areas(const char *kind, size_t n) {
     }
 }
 
-static void edits(size_t n) {
+/* Gives the number of records afterwards: the last paint is redone, and stands. */
+static size_t edits(size_t n) {
     size_t used = 0, in_force = 0, plain_n = n;
     plain_counts plain = { 0, 0 };
     uint32_t key =
@@ -205,6 +206,7 @@ static void edits(size_t n) {
     if (n != plain_n || used != plain.used || in_force != plain.in_force || memcmp(keys, other_keys, 4 * n) != 0 ||
         memcmp(bits, other_bits, 4 * n) != 0 || memcmp(summary, other_summary, sizeof summary) != 0)
         printf("THE TWO DIFFER\n");
+    return n;
 }
 
 /* The pixels of a small block in key order, or the block itself; sometimes it, or one around it that begins after the
@@ -487,7 +489,7 @@ int main(void) {
     areas(kinds[1], n);
     clipped(n);
     batch(n);
-    edits(n);
+    n = edits(n);
     findings(n, 0);
     findings(n, 1);
     files(S, n);
