@@ -43,8 +43,10 @@ pub mod ClippedCalls
 pub mod OneByOne
 pub mod LastEntry
 pub mod ContentOf
+pub mod LogEntries
+pub mod LastStep
 pub mod SoundLog
-pub mod FirstEntry
+pub mod FirstStep
 pub mod InForce
 pub mod Hidden
 pub mod Waivers

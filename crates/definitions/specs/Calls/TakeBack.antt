@@ -1,5 +1,5 @@
--- Take back: the content of the last entry in force goes into its block, the summary follows, and the entry is no longer in force. The log stays, so
--- that it can be redone. Refusals 1, 4, 18, 5, 11, 9.
+-- Take back: the last step in force, a single entry or a group, is taken back: the contents of its entries go into their blocks, the last first, the
+-- summary follows, and the step is no longer in force. The log stays, so that it can be redone. Refusals 1, 4, 18, 5, 11, 9.
 use Prim.Native.Nat.{ℕ}
 use mathlib.Core.List.{List, [], _∷_}
 use lib.ListN.{length}
@@ -9,14 +9,13 @@ use Rattle.definitions.specs.List.{Record, listOfPicture, keysOf, values
 use Rattle.definitions.specs.Read.{room, recordsOf, pictureOf}
 use Rattle.definitions.specs.Buffer.{replaced}
 use Rattle.definitions.specs.Area.{summaryOf, noSummary}
-use Rattle.definitions.specs.Edit.{put}
-use Rattle.definitions.specs.Log.{lastKey, lastContent, beforeLast, noLog}
+use Rattle.definitions.specs.Log.{stepCount, stepEntries, beforeStep, putBack, noLog}
 use Rattle.definitions.specs.Refusal.{_gives_, first, accepted, badSettings, noList}
 use Rattle.definitions.specs.declared.Edited.{Edited}
 
--- the picture after the last entry's content is put back into its block
+-- the picture after the last step is taken back
 abbrev pub restoredPicture : (m : ℕ) (l log : List Record) → Picture
-restoredPicture m l log = put m (lastKey log) (pictureOf m (lastContent log)) (pictureOf m l)
+restoredPicture m l log = putBack (stepCount log) m (stepEntries log) (pictureOf m l)
 
 -- its list
 unfoldable pub restored : (m : ℕ) (l log : List Record) → List Record
@@ -34,9 +33,9 @@ takeBackRefusal m s keys bits n summary logKeys logValues used inForce =
     ∷ [])
 
 module _ (m s : ℕ) (keys bits : List ℕ) (n : ℕ) (summary logKeys logValues : List ℕ) (used inForce : ℕ) where
-  -- the records in force without the last entry
+  -- the records in force without the last step
   unfoldable pub forceBefore : ℕ
-  forceBefore = length (beforeLast (recordsOf logKeys logValues inForce))
+  forceBefore = length (beforeStep (recordsOf logKeys logValues inForce))
 
   unfoldable pub takeBack : Edited
   takeBack =
