@@ -59,6 +59,13 @@ nestedKeys = 7 ∷ 7 ∷ 7 ∷ 0 ∷ 0 ∷ 9 ∷ 9 ∷ 9 ∷ 0 ∷ 0 ∷ []
 abbrev nestedValues : List ℕ
 nestedValues = 1 ∷ 1 ∷ 2 ∷ 1 ∷ 255 ∷ 1 ∷ 1 ∷ 2 ∷ 2 ∷ 255 ∷ []
 
+-- a group from another map: block 20 and then block 21, which lies in it
+abbrev overlapKeys : List ℕ
+overlapKeys = key (2 ∷ 0 ∷ []) ∷ key (2 ∷ 0 ∷ []) ∷ key (2 ∷ 0 ∷ []) ∷ key (2 ∷ 1 ∷ []) ∷ key (2 ∷ 1 ∷ []) ∷ key (2 ∷ 1 ∷ []) ∷ 0 ∷ 0 ∷ []
+
+abbrev overlapValues : List ℕ
+overlapValues = slots (1 ∷ 0 ∷ 0 ∷ []) ∷ 1 ∷ 2 ∷ slots (0 ∷ 1 ∷ 0 ∷ []) ∷ 1 ∷ 1 ∷ 2 ∷ 255 ∷ []
+
 table : List Row
 table =
     row (largestBlocks 2 (window 0 1 2 3)) (key (1 ∷ 2 ∷ []) ∷ key (1 ∷ 4 ∷ []) ∷ key (2 ∷ 0 ∷ []) ∷ [])
@@ -100,6 +107,9 @@ table =
     -- a number below the entries before it is sound: the first entry stands alone, and stays in force
     ∷ row (of-edited (takeBack 2 3 (keysW ++ (0 ∷ 0 ∷ 0 ∷ 0 ∷ [])) (bitsW ++ (0 ∷ 0 ∷ 0 ∷ 0 ∷ [])) 9 summaryW logKeysW (set logValuesW 13 2) 15 15)) (0 ∷ 13 ∷ 15 ∷ 3 ∷ [])
     ∷ row (of-edited (redo 2 3 keysW bitsW 9 summaryW logKeysW (set logValuesW 13 2) 15 3)) (0 ∷ 9 ∷ 15 ∷ 15 ∷ [])
+    -- blocks that overlap: taken back last to first the first entry's content stays, redone first to last the last entry's feature
+    ∷ row (of-edited (takeBack 2 3 (keysA 1) (bitsA 1) 9 summaryA overlapKeys overlapValues 8 8)) (0 ∷ 5 ∷ 8 ∷ 0 ∷ [])
+    ∷ row (of-edited (redo 2 3 (keysA 1) (bitsA 1) 9 summaryA overlapKeys overlapValues 8 0)) (0 ∷ 9 ∷ 8 ∷ 8 ∷ [])
     ∷ []
 
 claim : Holds table
