@@ -1,100 +1,101 @@
--- The count in force (document 02, item 7): a log whose records in force and to redo are both sound is sound, and its count in force is 0 or the end of an
--- entry; for a sound log both are sound exactly then. Rests on SoundLog.
+-- The count in force (document 02, items 7 and 10): a log whose records in force and to redo are both sound is sound, and its count in force is 0 or the end
+-- of a step, never inside a group; for a sound log both are sound exactly then. Rests on SoundLog.
 use Prim.Native.Nat.{ℕ, _+_, _-_, _≤_, _<_}
 use mathlib.Core.Path.{_≡_, sym, ap, _∙_, subst}
 use mathlib.Core.Logic.{_↔_}
 use mathlib.Core.Bool.{true}
 use mathlib.Core.List.{List, [], _∷_, _++_, append-assoc, append-nil, List·Memᴰ, List·Memᴰ·head, List·Memᴰ·tail, List·Memᴰ·not-nil}
 use native.Mathlib.Omega.{arith}
-use lib.ListN.{length, getD, take, drop, length-drop, take-append-drop}
-use lib.Seq.{take-append-le, drop-append-le, take-length, drop-length, getD-drop}
-use Rattle.keys.proofs.Cases.{equal, and-right}
-use Rattle.definitions.specs.List.{Record, recordOf}
-use Rattle.definitions.specs.Log.{closed, closingPlaces, countRecord, lastCount, beforeLast, lastIsEntry, isSound}
-use Rattle.definitions.proofs.LastEntry.{length-with-entry, last-count, before-last}
-use Rattle.definitions.proofs.SoundLog.{Entries, none, more, sound-exactly, sound-step, sound-ends, sound-with-entry, empty-sound}
+use lib.ListN.{length, take, drop, length-append, length-drop, length-take, take-append-drop}
+use lib.Seq.{take-append-le, drop-append-le, take-length, drop-length, length-take-le}
+use Rattle.keys.proofs.Cases.{equal}
+use Rattle.definitions.specs.List.{Record}
+use Rattle.definitions.specs.Log.{groupMark, closingPlaces, beforeStep, isSound}
+use Rattle.definitions.proofs.LastStep.{IsStep, LastStep, last-step, step-some, step-before}
+use Rattle.definitions.proofs.SoundLog.{Steps, none, more, sound-steps, sound-exactly, sound-with, sound-last, sound-before, empty-sound}
 
--- entries and then entries are entries
-pub entries-append : {m s : ℕ} {log rest : List Record} → Entries m s log → Entries m s rest → Entries m s (log ++ rest)
-entries-append {m} {s} {log} e none = subst (λ l. Entries m s l) (sym (append-nil log)) e
-entries-append {m} {s} {log} e (more {log = before} rest κ content f valid correct below) =
-    subst (λ l. Entries m s l) (append-assoc log before (closed κ content f)) (more (entries-append e rest) κ content f valid correct below)
+-- steps and then steps are steps
+pub steps-append : {m s : ℕ} {log rest : List Record} → Steps m s log → Steps m s rest → Steps m s (log ++ rest)
+steps-append {m} {s} {log} e none = subst (λ l. Steps m s l) (sym (append-nil log)) e
+steps-append {m} {s} {log} e (more {log = before} {step} rest is) =
+    subst (λ l. Steps m s l) (append-assoc log before step) (more (steps-append e rest) is)
 
 -- where the records in force and those to redo are sound, the whole log is
-pub parts-sound : (m s : ℕ) (log : List Record) (inForce : ℕ) → isSound m s (take inForce log) ≡ true → isSound m s (drop inForce log) ≡ true → isSound m s log ≡ true
-parts-sound m s log inForce front back =
+pub parts-sound : (m s : ℕ) (log : List Record) (inForce : ℕ) → s ≤ groupMark → isSound m s (take inForce log) ≡ true → isSound m s (drop inForce log) ≡ true
+    → isSound m s log ≡ true
+parts-sound m s log inForce few front back =
     ap (isSound m s) (sym (take-append-drop inForce log))
-    ∙ sound-exactly m s (take inForce log ++ drop inForce log) .1
-    (entries-append (sound-exactly m s (take inForce log) .0 front) (sound-exactly m s (drop inForce log) .0 back))
+    ∙ sound-exactly m s (take inForce log ++ drop inForce log) few .1
+    (steps-append (sound-steps m s (take inForce log) front) (sound-steps m s (drop inForce log) back))
 
--- the places where the entries end, the last one first, and then 0
-abbrev pub endsOf : {m s : ℕ} {log : List Record} → Entries m s log → List ℕ
+-- the places where the steps end, the last one first, and then 0
+abbrev pub endsOf : {m s : ℕ} {log : List Record} → Steps m s log → List ℕ
 endsOf none = 0 ∷ []
-endsOf (more {log} e κ content f valid correct below) = length (log ++ closed κ content f) ∷ endsOf e
+endsOf (more {log} {step} e is) = length (log ++ step) ∷ endsOf e
 
 -- they lie within the log
-ends-within : {m s : ℕ} {log : List Record} (e : Entries m s log) (k : ℕ) → List·Memᴰ k (endsOf e) → k ≤ length log
+ends-within : {m s : ℕ} {log : List Record} (e : Steps m s log) (k : ℕ) → List·Memᴰ k (endsOf e) → k ≤ length log
 ends-within none k (List·Memᴰ·head e) = omega arith
 ends-within none k (List·Memᴰ·tail there) = absurd (List·Memᴰ·not-nil there)
-ends-within (more e κ content f valid correct below) k (List·Memᴰ·head same) = omega arith
-ends-within (more {log} e κ content f valid correct below) k (List·Memᴰ·tail there) =
+ends-within (more e is) k (List·Memᴰ·head same) = omega arith
+ends-within (more {log} {step} e is) k (List·Memᴰ·tail there) =
     let inside = ends-within e k there in
-    let all = length-with-entry log κ content f in
+    let all = length-append log step in
     omega arith
 
 -- both parts of a log
 abbrev Parts : ℕ → ℕ → List Record → ℕ → Type 0
 Parts m s log k = (isSound m s (take k log) ≡ true) × (isSound m s (drop k log) ≡ true)
 
--- all of a sound log, and nothing
-parts-all : {m s : ℕ} {log : List Record} → Entries m s log → (k : ℕ) → k ≡ length log → Parts m s log k
-parts-all {m} {s} {log} e k same = (
-  ap (λ n. isSound m s (take n log)) same ∙ ap (isSound m s) (take-length log) ∙ sound-exactly m s log .1 e,
-  ap (λ n. isSound m s (drop n log)) same ∙ ap (isSound m s) (drop-length log) ∙ empty-sound m s,
-)
+module _ {m s : ℕ} (few : s ≤ groupMark) where
+  -- all of a sound log, and nothing
+  parts-all : {log : List Record} → Steps m s log → (k : ℕ) → k ≡ length log → Parts m s log k
+  parts-all {log} e k same = (
+    ap (λ n. isSound m s (take n log)) same ∙ ap (isSound m s) (take-length log) ∙ sound-exactly m s log few .1 e,
+    ap (λ n. isSound m s (drop n log)) same ∙ ap (isSound m s) (drop-length log) ∙ empty-sound m s,
+  )
 
--- at the end of an entry both parts are sound
-end-parts : {m s : ℕ} {log : List Record} (e : Entries m s log) (k : ℕ) → List·Memᴰ k (endsOf e) → Parts m s log k
-end-parts none k (List·Memᴰ·head same) = parts-all none k same
-end-parts none k (List·Memᴰ·tail there) = absurd (List·Memᴰ·not-nil there)
-end-parts (more e κ content f valid correct below) k (List·Memᴰ·head same) = parts-all (more e κ content f valid correct below) k same
-end-parts {m} {s} (more {log} e κ content f valid correct below) k (List·Memᴰ·tail there) =
-    let inside = ends-within e k there in
-    let both = end-parts e k there in (
-      ap (isSound m s) (take-append-le k log (closed κ content f) inside) ∙ both .0,
-      ap (isSound m s) (drop-append-le k log (closed κ content f) inside) ∙ sound-with-entry m s (drop k log) content κ f (both .1) valid correct below,
-    )
+  -- at the end of a step both parts are sound
+  end-parts : {log : List Record} (e : Steps m s log) (k : ℕ) → List·Memᴰ k (endsOf e) → Parts m s log k
+  end-parts none k (List·Memᴰ·head same) = parts-all none k same
+  end-parts none k (List·Memᴰ·tail there) = absurd (List·Memᴰ·not-nil there)
+  end-parts (more e is) k (List·Memᴰ·head same) = parts-all (more e is) k same
+  end-parts (more {log} {step} e is) k (List·Memᴰ·tail there) =
+      let inside = ends-within e k there in
+      let both = end-parts e k there in (
+        ap (isSound m s) (take-append-le k log step inside) ∙ both .0,
+        ap (isSound m s) (drop-append-le k log step inside) ∙ sound-with (drop k log) few (both .1) is,
+      )
 
--- the count record of what is left of a log
-count-left : (log : List Record) (k : ℕ) → closingPlaces ≤ length (drop k log) → lastCount (drop k log) ≡ lastCount log
-unfolding lastCount countRecord
-count-left log k h =
-    let size = length-drop k log in
-    let place : k + (length (drop k log) - 2) ≡ length log - 2 = omega arith in
-    ap (λ x. x .value) (getD-drop k log (length (drop k log) - 2) (recordOf 0 0) ∙ ap (λ i. getD log i (recordOf 0 0)) place)
+  -- reading from the end does not see what stands in front: the last step of what is left of a log is the log's last step
+  module _ (log step : List Record) (is : IsStep m s step) (k : ℕ) (left : LastStep m s (drop k (log ++ step))) where
+    -- what stands before the last step, by both readings
+    pub read-alike : log ≡ take k (log ++ step) ++ beforeStep (drop k (log ++ step))
+    read-alike =
+        let all : List Record = log ++ step in
+        sym (step-before few is log)
+        ∙ ap beforeStep (sym (take-append-drop k all) ∙ ap (λ l. take k all ++ l) (left .log-is) ∙ sym (append-assoc (take k all) (beforeStep (drop k all)) (left .step)))
+        ∙ step-before few (left .is) (take k all ++ beforeStep (drop k all))
 
--- where both parts are sound the count is at the end of an entry
-parts-end : {m s : ℕ} {log : List Record} (e : Entries m s log) (k : ℕ) → k ≤ length log → Parts m s log k → List·Memᴰ k (endsOf e)
-parts-end none k inside both = let zero : k ≡ 0 = omega arith in List·Memᴰ·head zero
-parts-end {m} {s} (more {log} e κ content f valid correct below) k inside both =
-    equal k (length (log ++ closed κ content f))
-    (λ same. List·Memᴰ·head same)
-    (λ other.
-    let all = length-with-entry log κ content f in
-    let size = length-drop k (log ++ closed κ content f) in
-    let some : 0 < length (drop k (log ++ closed κ content f)) = omega arith in
-    let ends = sound-ends m s (drop k (log ++ closed κ content f)) (both .1) some in
-    let there = ends .all-there in
-    let count = count-left (log ++ closed κ content f) k (omega arith) ∙ last-count log κ content f in
-    let low : k ≤ length log = omega arith in
-    let front = sym (ap (isSound m s) (take-append-le k log (closed κ content f) low)) ∙ both .0 in
-    let left : drop k (log ++ closed κ content f) ≡ drop k log ++ closed κ content f = drop-append-le k log (closed κ content f) low in
-    let step = sym (sound-step m s (drop k (log ++ closed κ content f)) some) ∙ both .1 in
-    let back = sym (ap (isSound m s) (ap beforeLast left ∙ before-last (drop k log) κ content f))
-    ∙ and-right (lastIsEntry m s (drop k (log ++ closed κ content f))) (isSound m s (beforeLast (drop k (log ++ closed κ content f)))) step in
-    List·Memᴰ·tail (parts-end e k low (front, back)))
+  -- where both parts are sound the count is at the end of a step
+  parts-end : {log : List Record} (e : Steps m s log) (k : ℕ) → k ≤ length log → Parts m s log k → List·Memᴰ k (endsOf e)
+  parts-end none k inside both = let zero : k ≡ 0 = omega arith in List·Memᴰ·head zero
+  parts-end (more {log} {step} e is) k inside both =
+      equal k (length (log ++ step))
+      (λ same. List·Memᴰ·head same)
+      (λ other.
+      let rest : List Record = drop k (log ++ step) in
+      let size = length-drop k (log ++ step) in
+      let some : 0 < length rest = omega arith in
+      let alike = read-alike log step is k (last-step m s rest (sound-last m s rest (both .1) some)) in
+      let first = length-take-le k (log ++ step) inside in
+      let sum = ap length alike ∙ length-append (take k (log ++ step)) (beforeStep rest) in
+      let low : k ≤ length log = omega arith in
+      let front = sym (ap (isSound m s) (take-append-le k log step low)) ∙ both .0 in
+      let back = sym (ap (isSound m s) (ap beforeStep (drop-append-le k log step low) ∙ step-before few is (drop k log))) ∙ sound-before m s rest (both .1) some in
+      List·Memᴰ·tail (parts-end e k low (front, back)))
 
--- document 02's words: the count in force is 0 or the end of an entry within used exactly when both parts of a sound log are sound
-pub parts-exactly : {m s : ℕ} {log : List Record} (e : Entries m s log) (k : ℕ) → k ≤ length log
-    → List·Memᴰ k (endsOf e) ↔ ((isSound m s (take k log) ≡ true) × (isSound m s (drop k log) ≡ true))
-parts-exactly e k inside = (end-parts e k, parts-end e k inside)
+  -- document 02's words: the count in force is 0 or the end of a step within used exactly when both parts of a sound log are sound
+  pub parts-exactly : {log : List Record} (e : Steps m s log) (k : ℕ) → k ≤ length log
+      → List·Memᴰ k (endsOf e) ↔ ((isSound m s (take k log) ≡ true) × (isSound m s (drop k log) ≡ true))
+  parts-exactly e k inside = (end-parts e k, parts-end e k inside)

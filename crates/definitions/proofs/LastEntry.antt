@@ -76,6 +76,11 @@ module _ (log : List Record) (κ : ℕ) (content : List Record) (f : ℕ) where
   last-content =
       ap₂ (λ n l. take n l) last-count (drop-at log (closed κ content f) _ before-length) ∙ take-at content (recordOf κ (length content) ∷ recordOf κ f ∷ []) _ refl
 
+-- less stands before the last entry than with it
+pub before-less : (log : List Record) → length (beforeLast log) ≤ length log - closingPlaces
+unfolding beforeLast
+before-less log = let e = length-take (length log - (lastCount log + closingPlaces)) log in omega arith
+
 -- before the last entry stand the first records, so many as there are
 pub before-place : (log : List Record) → beforeLast log ≡ take (length (beforeLast log)) log
 unfolding beforeLast
@@ -117,6 +122,30 @@ last-two log room =
     (ap (λ n. drop n log) next
     ∙ drop-cons log (length log - 1) (recordOf 0 0) (omega arith)
     ∙ ap (λ l. getD log (length log - 1) (recordOf 0 0) ∷ l) (ap (λ n. drop n log) after ∙ drop-length log))
+
+-- two records behind others: the last two are they, and before them stand the others
+module _ (front : List Record) (x y : Record) where
+  two-more : length (front ++ (x ∷ y ∷ [])) ≡ length front + closingPlaces
+  two-more = length-append front (x ∷ y ∷ [])
+
+  pub two-count : countRecord (front ++ (x ∷ y ∷ [])) ≡ x
+  unfolding countRecord
+  two-count = let size = two-more in getD-at front x (y ∷ []) (recordOf 0 0) (length (front ++ (x ∷ y ∷ [])) - 2) (omega arith)
+
+  pub two-last : lastRecord (front ++ (x ∷ y ∷ [])) ≡ y
+  unfolding lastRecord
+  two-last =
+      let size = two-more in
+      let more = length-append front (x ∷ []) in
+      ap (λ l. getD l (length (front ++ (x ∷ y ∷ [])) - 1) (recordOf 0 0)) (sym (append-assoc front (x ∷ []) (y ∷ [])))
+      ∙ getD-at (front ++ (x ∷ [])) y [] (recordOf 0 0) (length (front ++ (x ∷ y ∷ [])) - 1) (omega arith)
+
+  pub two-front : take (length (front ++ (x ∷ y ∷ [])) - closingPlaces) (front ++ (x ∷ y ∷ [])) ≡ front
+  two-front = let size = two-more in take-at front (x ∷ y ∷ []) (length (front ++ (x ∷ y ∷ [])) - closingPlaces) (omega arith)
+
+-- a log of two records and more is what stands before the last two, and then these
+pub log-with-two : (log : List Record) → 2 ≤ length log → log ≡ take (length log - closingPlaces) log ++ (countRecord log ∷ lastRecord log ∷ [])
+log-with-two log room = sym (take-append-drop (length log - closingPlaces) log) ∙ ap (λ l. take (length log - closingPlaces) log ++ l) (last-two log room)
 
 -- what the last entry closes with
 closing : (log : List Record) → lastRecord log ≡ recordOf (lastKey log) (lastFeature log)

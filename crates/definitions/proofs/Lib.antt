@@ -7,6 +7,7 @@ mod LeafVectors
 mod FourWaivers
 mod ClassVectors
 mod RedoVectors
+mod GroupVectors
 mod CombineVectors
 mod OfficeVectors
 pub mod Within
@@ -43,8 +44,10 @@ pub mod ClippedCalls
 pub mod OneByOne
 pub mod LastEntry
 pub mod ContentOf
+pub mod LogEntries
+pub mod LastStep
 pub mod SoundLog
-pub mod FirstEntry
+pub mod FirstStep
 pub mod InForce
 pub mod Hidden
 pub mod Waivers

@@ -13,7 +13,7 @@ use Rattle.definitions.specs.Refusal.{first, badSettings, badLength, bad
 use Rattle.definitions.specs.Window.{isWindow, inWindow, featuresOfRow, featuresOfRows, featuresIn, occurs, unionOf, existIn, reportIn, isGiven, selectFrom, selectIn}
 use Rattle.definitions.specs.Area.{countOf, pixelsWith, countsFrom, summaryBelow, summaryOf, sameNumbers, noSummary}
 use Rattle.definitions.specs.Edit.{put, paintIn, contentOf}
-use Rattle.definitions.specs.Log.{closed, entryOf, countRecord, lastRecord, lastKey, lastFeature, lastCount, beforeLast, lastContent, isContent, closes, lastIsEntry, dividesIn, isSound, noLog}
+use Rattle.definitions.specs.Log.{closed, entryOf, countRecord, lastRecord, lastKey, lastFeature, lastCount, beforeLast, lastContent, isContent, closes, lastIsEntry, endsInMark, stepCount, stepEntries, beforeEntries, beforeStep, endsInEntries, lastIsGroup, lastIsStep, dividesIn, isSound, putBack, paintAgain, noLog}
 use Rattle.definitions.specs.Calls.Exist.{existRefusal, exist}
 use Rattle.definitions.specs.Calls.Report.{reportRefusal, report}
 use Rattle.definitions.specs.Calls.Select.{selected, selectRefusal, select, selectAnswer}
@@ -152,7 +152,7 @@ unfolding
     isWindow inWindow featuresOfRow featuresOfRows featuresIn occurs unionOf existIn reportIn isGiven selectFrom selectIn
     countOf pixelsWith countsFrom summaryBelow summaryOf sameNumbers noSummary
     put paintIn contentOf
-    closed entryOf countRecord lastRecord lastKey lastFeature lastCount beforeLast lastContent isContent closes lastIsEntry dividesIn isSound noLog
+    closed entryOf countRecord lastRecord lastKey lastFeature lastCount beforeLast lastContent isContent closes lastIsEntry endsInMark stepCount stepEntries beforeEntries beforeStep endsInEntries lastIsGroup lastIsStep dividesIn isSound putBack paintAgain noLog
     existRefusal exist reportRefusal report selected selectRefusal select selectAnswer
     painted gained paintRefusal paint paintKeys paintBits paintSummary paintLogKeys paintLogValues
     restored takeBackRefusal forceBefore takeBack takeBackKeys takeBackBits takeBackSummary takeBackLogKeys takeBackLogValues

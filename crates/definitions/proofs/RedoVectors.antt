@@ -14,7 +14,7 @@ use Rattle.definitions.specs.Refusal.{first, badSettings, badLength, bad
 use Rattle.definitions.specs.Window.{featuresOfRow, featuresOfRows}
 use Rattle.definitions.specs.Area.{countOf, pixelsWith, countsFrom, summaryBelow, summaryOf, sameNumbers, noSummary}
 use Rattle.definitions.specs.Edit.{put, paintIn, contentOf}
-use Rattle.definitions.specs.Log.{closed, entryOf, countRecord, lastRecord, lastKey, lastFeature, lastCount, beforeLast, lastContent, isContent, closes, lastIsEntry, dividesIn, isSound, firstIn, firstEntry, noLog}
+use Rattle.definitions.specs.Log.{closed, entryOf, countRecord, lastRecord, lastKey, lastFeature, lastCount, beforeLast, lastContent, isContent, closes, lastIsEntry, endsInMark, stepCount, stepEntries, beforeEntries, beforeStep, endsInEntries, lastIsGroup, lastIsStep, dividesIn, isSound, putBack, paintAgain, firstIn, firstStep, noLog}
 use Rattle.definitions.specs.Calls.Paint.{painted, gained, paintRefusal, paint, paintLogKeys, paintLogValues}
 use Rattle.definitions.specs.Calls.TakeBack.{restored, takeBackRefusal, forceBefore, takeBack, takeBackLogKeys}
 use Rattle.definitions.specs.Calls.Redo.{redone, redoRefusal, forceAfter, redo, redoKeys, redoBits, redoSummary, redoLogKeys, redoLogValues}
@@ -97,7 +97,7 @@ unfolding
     first badSettings badLength badPixel
     featuresOfRow featuresOfRows countOf pixelsWith countsFrom summaryBelow summaryOf sameNumbers noSummary
     put paintIn contentOf
-    closed entryOf countRecord lastRecord lastKey lastFeature lastCount beforeLast lastContent isContent closes lastIsEntry dividesIn isSound firstIn firstEntry noLog
+    closed entryOf countRecord lastRecord lastKey lastFeature lastCount beforeLast lastContent isContent closes lastIsEntry endsInMark stepCount stepEntries beforeEntries beforeStep endsInEntries lastIsGroup lastIsStep dividesIn isSound putBack paintAgain firstIn firstStep noLog
     painted gained paintRefusal paint paintLogKeys paintLogValues
     restored takeBackRefusal forceBefore takeBack takeBackLogKeys
     redone redoRefusal forceAfter redo redoKeys redoBits redoSummary redoLogKeys redoLogValues

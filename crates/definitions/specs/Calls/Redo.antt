@@ -1,71 +1,65 @@
--- Redo: the next entry that was taken back is in force again: its block is painted with its feature, the summary follows, and the log stays.
+-- Redo: the next step that was taken back is in force again: the blocks of its entries are painted with their features, the first first, the summary
+-- follows, and the log stays.
 -- Refusals 1, 4, 18, 5, 20, 9.
 use Prim.Native.Nat.{ℕ, _+_}
 use mathlib.Core.List.{List, [], _∷_}
 use lib.ListN.{length}
 use lib.Dec.{ltb, eqb}
 use Rattle.definitions.specs.Picture.{Picture}
-use Rattle.definitions.specs.List.{Record, keysOf, valuesOf}
+use Rattle.definitions.specs.List.{Record, listOfPicture, keysOf, valuesOf}
 use Rattle.definitions.specs.Read.{room, recordsOf, pictureOf}
 use Rattle.definitions.specs.Buffer.{replaced}
 use Rattle.definitions.specs.Area.{summaryOf, noSummary}
-use Rattle.definitions.specs.Log.{lastKey, lastFeature, firstEntry, toRedo, noLog}
+use Rattle.definitions.specs.Log.{stepCount, stepEntries, firstStep, paintAgain, toRedo, noLog}
 use Rattle.definitions.specs.Refusal.{_gives_, first, accepted, badSettings, noList}
-use Rattle.definitions.specs.Calls.Paint.{paintedPicture, painted}
 use Rattle.definitions.specs.declared.Edited.{Edited}
 
--- the picture after the first of the entries to redo is painted again
-abbrev pub redonePicture : (m : ℕ) (l entries : List Record) → Picture
-redonePicture m l entries = paintedPicture m l (lastKey (firstEntry entries)) (lastFeature (firstEntry entries))
+-- the picture after the first of the steps to redo is painted again
+abbrev pub redonePicture : (m : ℕ) (l steps : List Record) → Picture
+redonePicture m l steps = paintAgain (stepCount (firstStep steps)) m (stepEntries (firstStep steps)) (pictureOf m l)
 
 -- its list
-unfoldable pub redone : (m : ℕ) (l entries : List Record) → List Record
-redone m l entries = painted m l (lastKey (firstEntry entries)) (lastFeature (firstEntry entries))
-
-unfoldable pub redoRefusal : (m s : ℕ) (keys bits : List ℕ) (n : ℕ) (summary logKeys logValues : List ℕ) (used inForce : ℕ) → ℕ
-redoRefusal m s keys bits n summary logKeys logValues used inForce =
-    first
-    (badSettings m s gives 1
-    ∷ noList m s keys bits n gives 4
-    ∷ noSummary m s (pictureOf m (recordsOf keys bits n)) summary gives 18
-    ∷ noLog m s logKeys logValues used inForce gives 5
-    ∷ eqb inForce used gives 20
-    ∷ ltb (room keys bits) (length (redone m (recordsOf keys bits n) (toRedo logKeys logValues used inForce))) gives 9
-    ∷ [])
+unfoldable pub redone : (m : ℕ) (l steps : List Record) → List Record
+redone m l steps = listOfPicture m (redonePicture m l steps)
 
 module _ (m s : ℕ) (keys bits : List ℕ) (n : ℕ) (summary logKeys logValues : List ℕ) (used inForce : ℕ) where
-  -- the records in force with the next entry
+  -- the list that the redo leaves
+  abbrev listAfter : List Record
+  listAfter = redone m (recordsOf keys bits n) (toRedo logKeys logValues used inForce)
+
+  unfoldable pub redoRefusal : ℕ
+  redoRefusal =
+      first
+      (badSettings m s gives 1
+      ∷ noList m s keys bits n gives 4
+      ∷ noSummary m s (pictureOf m (recordsOf keys bits n)) summary gives 18
+      ∷ noLog m s logKeys logValues used inForce gives 5
+      ∷ eqb inForce used gives 20
+      ∷ ltb (room keys bits) (length listAfter) gives 9
+      ∷ [])
+
+  -- the records in force with the next step
   unfoldable pub forceAfter : ℕ
-  forceAfter = inForce + length (firstEntry (toRedo logKeys logValues used inForce))
+  forceAfter = inForce + length (firstStep (toRedo logKeys logValues used inForce))
 
   unfoldable pub redo : Edited
   redo =
-      let refusal = redoRefusal m s keys bits n summary logKeys logValues used inForce in
       record {
-        refusal = refusal;
-        n = accepted refusal (length (redone m (recordsOf keys bits n) (toRedo logKeys logValues used inForce))) 0;
-        used = accepted refusal used 0;
-        «in_force» = accepted refusal forceAfter 0;
+        refusal = redoRefusal;
+        n = accepted redoRefusal (length listAfter) 0;
+        used = accepted redoRefusal used 0;
+        «in_force» = accepted redoRefusal forceAfter 0;
       }
 
   unfoldable pub redoKeys : List ℕ
-  redoKeys =
-      accepted (redoRefusal m s keys bits n summary logKeys logValues used inForce)
-      (replaced n (keysOf (redone m (recordsOf keys bits n) (toRedo logKeys logValues used inForce))) keys)
-      keys
+  redoKeys = accepted redoRefusal (replaced n (keysOf listAfter) keys) keys
 
   unfoldable pub redoBits : List ℕ
-  redoBits =
-      accepted (redoRefusal m s keys bits n summary logKeys logValues used inForce)
-      (replaced n (valuesOf (redone m (recordsOf keys bits n) (toRedo logKeys logValues used inForce))) bits)
-      bits
+  redoBits = accepted redoRefusal (replaced n (valuesOf listAfter) bits) bits
 
   -- the counts of the picture painted again
   unfoldable pub redoSummary : List ℕ
-  redoSummary =
-      accepted (redoRefusal m s keys bits n summary logKeys logValues used inForce)
-      (summaryOf m s (redonePicture m (recordsOf keys bits n) (toRedo logKeys logValues used inForce)))
-      summary
+  redoSummary = accepted redoRefusal (summaryOf m s (redonePicture m (recordsOf keys bits n) (toRedo logKeys logValues used inForce))) summary
 
   -- the log stays
   unfoldable pub redoLogKeys : List ℕ
