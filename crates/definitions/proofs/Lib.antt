@@ -27,6 +27,8 @@ pub mod AscendingKeys
 pub mod SelectMeans
 pub mod SelectAscends
 pub mod SelectAgree
+pub mod LargestBlocks
+pub mod LargestPixels
 pub mod WindowScan
 pub mod PixelSums
 pub mod CountOf
@@ -48,6 +50,7 @@ pub mod LastStep
 pub mod SoundLog
 pub mod FirstStep
 pub mod InForce
+pub mod WindowPaint
 pub mod Hidden
 pub mod Waivers
 pub mod OldFault
