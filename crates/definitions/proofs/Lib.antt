@@ -51,6 +51,8 @@ pub mod SoundLog
 pub mod FirstStep
 pub mod InForce
 pub mod WindowPaint
+pub mod GroupStep
+pub mod GroupBack
 pub mod Hidden
 pub mod Waivers
 pub mod OldFault

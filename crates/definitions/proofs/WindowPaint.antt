@@ -2,18 +2,18 @@
 -- paints would log, each of the picture that the earlier ones left (document 02, item 10). Rests on LargestPixels.
 use Prim.Native.Nat.{ℕ, _+_, _^_, _≤_, _<_}
 use mathlib.Core.Path.{_≡_, refl, sym, ap, ap₂, _∙_}
-use mathlib.Core.Bool.{Bool, true, false, cond, _||_, true≢false}
+use mathlib.Core.Bool.{Bool, true, false, cond, _||_}
 use mathlib.Core.List.{List, [], _∷_, _++_}
 use native.Mathlib.Omega.{arith}
 use Rattle.keys.specs.Key.{heightOf}
 use Rattle.keys.specs.Block.{rowOf, columnOf, inBlock, pixelKey}
 use Rattle.keys.proofs.Cases.{decide}
 use Rattle.keys.proofs.Under.{Block}
-use Rattle.keys.proofs.Pixel.{InSquare, inside}
+use Rattle.keys.proofs.Pixel.{inside}
 use Rattle.keys.proofs.InBlock.{inBlock-iff, in-raster}
 use Rattle.keys.proofs.Valid.{block-valid}
 use Rattle.definitions.specs.Picture.{Picture}
-use Rattle.definitions.specs.List.{Record, listOf}
+use Rattle.definitions.specs.List.{Record}
 use Rattle.definitions.specs.Edit.{paintIn, fillWindow, contentOf}
 use Rattle.definitions.specs.Log.{closed, entryOf, entriesOf}
 use Rattle.definitions.specs.Window.{inWindow, largestBlocks}
@@ -35,14 +35,14 @@ loggedInTurn m [] f p = []
 loggedInTurn m (κ ∷ blocks) f p = entryOf m p κ f ++ loggedInTurn m blocks f (paintIn m κ f p)
 
 -- a paint at a pixel, by the test of its block
-paint-pixel : (m κ f : ℕ) (p : Picture) (row column : ℕ) → paintIn m κ f p row column ≡ cond (inBlock m κ row column) f (p row column)
+pub paint-pixel : (m κ f : ℕ) (p : Picture) (row column : ℕ) → paintIn m κ f p row column ≡ cond (inBlock m κ row column) f (p row column)
 unfolding paintIn
 paint-pixel m κ f p row column =
     decide (inBlock m κ row column)
     (λ e. put-in m κ (λ a b. f) p row column e ∙ sym (ap (λ t. cond t f (p row column)) e))
     (λ e. put-out m κ (λ a b. f) p row column e ∙ sym (ap (λ t. cond t f (p row column)) e))
 
-one-of-two : (a b : Bool) (f g : ℕ) → cond b f (cond a f g) ≡ cond (a || b) f g
+pub one-of-two : (a b : Bool) (f g : ℕ) → cond b f (cond a f g) ≡ cond (a || b) f g
 one-of-two true true f g = refl
 one-of-two true false f g = refl
 one-of-two false b f g = refl
