@@ -1,5 +1,5 @@
 -- The largest blocks of a window have together exactly its pixels, so a window of the raster has one at least (document 02, item 10). Rests on LargestBlocks.
-use Prim.Native.Nat.{ℕ, zero, suc, _+_, _^_, _<_}
+use Prim.Native.Nat.{ℕ, zero, suc, _+_, _^_, _≤_, _<_}
 use mathlib.Core.Path.{_≡_, refl, sym, ap, ap₂, _∙_}
 use mathlib.Core.Logic.{⊎-elim}
 use mathlib.Core.Bool.{Bool, true, false, _&&_, _||_, true≢false}
@@ -9,17 +9,17 @@ use lib.ListN.{length}
 use lib.Dec.{leb}
 use borrow.Author.Tests.{leb-true}
 use Rattle.keys.specs.Key.{rootKey, childKey}
-use Rattle.keys.specs.Block.{inBlock}
+use Rattle.keys.specs.Block.{inBlock, pixelKey}
 use Rattle.keys.proofs.Cases.{decide, and-left, and-right, or-either, or-left, or-right, same-test}
 use Rattle.keys.proofs.Under.{here, nw, ne, sw, se, Block, under-trans}
-use Rattle.keys.proofs.Pixel.{InSquare}
+use Rattle.keys.proofs.Pixel.{InSquare, inside}
 use Rattle.keys.proofs.InBlock.{inBlock-iff}
 use Rattle.definitions.specs.Window.{isWindow, inWindow, isCovered, largestFrom, largestBlocks}
 use Rattle.definitions.specs.declared.Window.{Window}
 use Rattle.definitions.proofs.Within.{within-cases, pixel-row, pixel-column}
 use Rattle.definitions.proofs.Pixels.{every-to, every-from}
 use Rattle.definitions.proofs.WindowScan.{window-inside}
-use Rattle.definitions.proofs.LargestBlocks.{covered-one, covered-none, covered-part}
+use Rattle.definitions.proofs.LargestBlocks.{BlocksInOrder, no-block, block, covered-one, covered-none, covered-part}
 
 -- some block of a list of keys has the pixel
 unfoldable pub inSome : (m : ℕ) (blocks : List ℕ) (row column : ℕ) → Bool
@@ -122,6 +122,25 @@ largest-pixels m w row column low narrow =
     same-test (inSome m (largestFrom w m 0 0 rootKey) row column) (inWindow w row column)
     (all-inside w m here row column)
     (all-covered w m here row column (omega arith))
+
+-- a pixel of one of some blocks in order has its key at or past where they begin
+some-from : {m from until : ℕ} {blocks : List ℕ} → BlocksInOrder m from until blocks → (row column : ℕ) → inSome m blocks row column ≡ true
+    → from ≤ pixelKey m row column
+unfolding inSome
+some-from (no-block h) row column e = absurd (true≢false (sym e))
+some-from {m} {blocks = κ ∷ blocks} (block {k = k} h b rest) row column e =
+    ⊎-elim
+    (λ (i : inBlock m κ row column ≡ true). let key = inside {row = row} {column = column} b (inBlock-iff row column b .0 i) in omega arith)
+    (λ (i : inSome m blocks row column ≡ true). let past = some-from rest row column i in omega arith)
+    (or-either (inBlock m κ row column) (inSome m blocks row column) e)
+
+-- so a pixel lies in one of them only: no later block has a pixel of an earlier one
+pub order-apart : {m from until κ : ℕ} {blocks : List ℕ} → BlocksInOrder m from until (κ ∷ blocks) → (row column : ℕ) → inBlock m κ row column ≡ true
+    → inSome m blocks row column ≡ false
+order-apart {m} {κ = κ} {blocks = blocks} (block {k = k} h b rest) row column e =
+    decide (inSome m blocks row column)
+    (λ also. absurd (let key = inside {row = row} {column = column} b (inBlock-iff row column b .0 e) in let past = some-from rest row column also in omega arith))
+    (λ alone. alone)
 
 no-blocks : (m : ℕ) (blocks : List ℕ) (row column : ℕ) → inSome m blocks row column ≡ true → 0 < length blocks
 unfolding inSome
