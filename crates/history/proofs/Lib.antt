@@ -2,6 +2,8 @@ pub mod Buffers
 pub mod Shown
 pub mod Drawn
 pub mod Content
+pub mod Fit
+pub mod Applied
 pub mod Past
 pub mod Slices
 pub mod LogSlices
