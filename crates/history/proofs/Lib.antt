@@ -18,6 +18,7 @@ pub mod BuildStep
 pub mod Theorem
 pub mod Cancels
 pub mod MapAHistory
+pub mod MapAWindows
 pub mod OfficeShares
 pub mod OfficeIsolation
 pub mod OfficeTheorem
