@@ -7,6 +7,7 @@ mod LeafVectors
 mod FourWaivers
 mod ClassVectors
 mod RedoVectors
+mod GroupVectors
 mod CombineVectors
 mod OfficeVectors
 pub mod Within

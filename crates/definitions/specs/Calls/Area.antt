@@ -8,19 +8,20 @@ use Rattle.definitions.specs.Refusal.{_gives_, first, accepted, badSetti
 use Rattle.definitions.specs.declared.Window.{Window}
 use Rattle.definitions.specs.declared.Measured.{Measured}
 
-unfoldable pub areaRefusal : (m s : ℕ) (keys bits : List ℕ) (n : ℕ) (summary : List ℕ) (w : Window) (f : ℕ) → ℕ
-areaRefusal m s keys bits n summary w f =
-    first
-    (badSettings m s gives 1
-    ∷ noList m s keys bits n gives 4
-    ∷ noSummary m s (pictureOf m (recordsOf keys bits n)) summary gives 18
-    ∷ badWindow m w gives 6
-    ∷ badFeature s f gives 7
-    ∷ [])
+module _ (m s : ℕ) (keys bits : List ℕ) (n : ℕ) (summary : List ℕ) (w : Window) (f : ℕ) where
+  unfoldable pub areaRefusal : ℕ
+  areaRefusal =
+      first
+      (badSettings m s gives 1
+      ∷ noList m s keys bits n gives 4
+      ∷ noSummary m s (pictureOf m (recordsOf keys bits n)) summary gives 18
+      ∷ badWindow m w gives 6
+      ∷ badFeature s f gives 7
+      ∷ [])
 
-unfoldable pub area : (m s : ℕ) (keys bits : List ℕ) (n : ℕ) (summary : List ℕ) (w : Window) (f : ℕ) → Measured
-area m s keys bits n summary w f =
-    record {
-      refusal = areaRefusal m s keys bits n summary w f;
-      pixels = accepted (areaRefusal m s keys bits n summary w f) (areaIn (pictureOf m (recordsOf keys bits n)) w f) 0;
-    }
+  unfoldable pub area : Measured
+  area =
+      record {
+        refusal = areaRefusal;
+        pixels = accepted areaRefusal (areaIn (pictureOf m (recordsOf keys bits n)) w f) 0;
+      }

@@ -7,15 +7,16 @@ use Rattle.keys.specs.Block.{rowOf, columnOf, sideOf}
 use Rattle.definitions.specs.Refusal.{_gives_, first, accepted, badKey}
 use Rattle.definitions.specs.declared.Block.{Block}
 
-unfoldable pub blockOfRefusal : (m κ : ℕ) → ℕ
-blockOfRefusal m κ = first (ltb deepestLevel m gives 1 ∷ badKey m κ gives 8 ∷ [])
+module _ (m κ : ℕ) where
+  unfoldable pub blockOfRefusal : ℕ
+  blockOfRefusal = first (ltb deepestLevel m gives 1 ∷ badKey m κ gives 8 ∷ [])
 
-unfoldable pub blockOf : (m κ : ℕ) → Block
-blockOf m κ =
-    record {
-      refusal = blockOfRefusal m κ;
-      row = accepted (blockOfRefusal m κ) (rowOf m κ) 0;
-      column = accepted (blockOfRefusal m κ) (columnOf m κ) 0;
-      side = accepted (blockOfRefusal m κ) (sideOf m κ) 0;
-      level = accepted (blockOfRefusal m κ) (levelOf m κ) 0;
-    }
+  unfoldable pub blockOf : Block
+  blockOf =
+      record {
+        refusal = blockOfRefusal;
+        row = accepted blockOfRefusal (rowOf m κ) 0;
+        column = accepted blockOfRefusal (columnOf m κ) 0;
+        side = accepted blockOfRefusal (sideOf m κ) 0;
+        level = accepted blockOfRefusal (levelOf m κ) 0;
+      }

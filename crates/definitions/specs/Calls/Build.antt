@@ -9,27 +9,26 @@ use Rattle.definitions.specs.Buffer.{over}
 use Rattle.definitions.specs.Refusal.{_gives_, first, accepted, badSettings, badLength, badPixel}
 use Rattle.definitions.specs.declared.Counted.{Counted}
 
-unfoldable pub buildRefusal : (m s : ℕ) (raster keys bits : List ℕ) → ℕ
-buildRefusal m s raster keys bits =
-    first
-    (badSettings m s gives 1
-    ∷ badLength m raster gives 2
-    ∷ badPixel s raster gives 3
-    ∷ ltb (room keys bits) (length (listOfRaster m raster)) gives 9
-    ∷ [])
+module _ (m s : ℕ) (raster keys bits : List ℕ) where
+  unfoldable pub buildRefusal : ℕ
+  buildRefusal =
+      first
+      (badSettings m s gives 1
+      ∷ badLength m raster gives 2
+      ∷ badPixel s raster gives 3
+      ∷ ltb (room keys bits) (length (listOfRaster m raster)) gives 9
+      ∷ [])
 
--- the count is the number of records
-unfoldable pub build : (m s : ℕ) (raster keys bits : List ℕ) → Counted
-build m s raster keys bits =
-    record {
-      refusal = buildRefusal m s raster keys bits;
-      count = accepted (buildRefusal m s raster keys bits) (length (listOfRaster m raster)) 0;
-    }
+  -- the count is the number of records
+  unfoldable pub build : Counted
+  build =
+      record {
+        refusal = buildRefusal;
+        count = accepted buildRefusal (length (listOfRaster m raster)) 0;
+      }
 
-unfoldable pub buildKeys : (m s : ℕ) (raster keys bits : List ℕ) → List ℕ
-buildKeys m s raster keys bits =
-    accepted (buildRefusal m s raster keys bits) (over (keysOf (listOfRaster m raster)) keys) keys
+  unfoldable pub buildKeys : List ℕ
+  buildKeys = accepted buildRefusal (over (keysOf (listOfRaster m raster)) keys) keys
 
-unfoldable pub buildBits : (m s : ℕ) (raster keys bits : List ℕ) → List ℕ
-buildBits m s raster keys bits =
-    accepted (buildRefusal m s raster keys bits) (over (valuesOf (listOfRaster m raster)) bits) bits
+  unfoldable pub buildBits : List ℕ
+  buildBits = accepted buildRefusal (over (valuesOf (listOfRaster m raster)) bits) bits

@@ -8,19 +8,20 @@ use Rattle.definitions.specs.Refusal.{_gives_, first, accepted, badSetti
 use Rattle.definitions.specs.declared.Window.{Window}
 use Rattle.definitions.specs.declared.Exists.{Exists}
 
-unfoldable pub existRefusal : (m s : ℕ) (keys bits : List ℕ) (n : ℕ) (w : Window) (f : ℕ) → ℕ
-existRefusal m s keys bits n w f =
-    first
-    (badSettings m s gives 1
-    ∷ noList m s keys bits n gives 4
-    ∷ badWindow m w gives 6
-    ∷ badFeature s f gives 7
-    ∷ [])
+module _ (m s : ℕ) (keys bits : List ℕ) (n : ℕ) (w : Window) (f : ℕ) where
+  unfoldable pub existRefusal : ℕ
+  existRefusal =
+      first
+      (badSettings m s gives 1
+      ∷ noList m s keys bits n gives 4
+      ∷ badWindow m w gives 6
+      ∷ badFeature s f gives 7
+      ∷ [])
 
--- yes is 1
-unfoldable pub exist : (m s : ℕ) (keys bits : List ℕ) (n : ℕ) (w : Window) (f : ℕ) → Exists
-exist m s keys bits n w f =
-    record {
-      refusal = existRefusal m s keys bits n w f;
-      yes = accepted (existRefusal m s keys bits n w f) (cond (existIn (pictureOf m (recordsOf keys bits n)) w f) 1 0) 0;
-    }
+  -- yes is 1
+  unfoldable pub exist : Exists
+  exist =
+      record {
+        refusal = existRefusal;
+        yes = accepted existRefusal (cond (existIn (pictureOf m (recordsOf keys bits n)) w f) 1 0) 0;
+      }

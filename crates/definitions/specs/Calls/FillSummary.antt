@@ -6,14 +6,14 @@ use Rattle.definitions.specs.Area.{summaryOf, badSummaryLength}
 use Rattle.definitions.specs.Refusal.{_gives_, first, accepted, badSettings, noList}
 use Rattle.definitions.specs.declared.Done.{Done}
 
-unfoldable pub fillRefusal : (m s : ℕ) (keys bits : List ℕ) (n : ℕ) (summary : List ℕ) → ℕ
-fillRefusal m s keys bits n summary =
-    first (badSettings m s gives 1 ∷ noList m s keys bits n gives 4 ∷ badSummaryLength m s summary gives 18 ∷ [])
+module _ (m s : ℕ) (keys bits : List ℕ) (n : ℕ) (summary : List ℕ) where
+  unfoldable pub fillRefusal : ℕ
+  fillRefusal =
+      first (badSettings m s gives 1 ∷ noList m s keys bits n gives 4 ∷ badSummaryLength m s summary gives 18 ∷ [])
 
-unfoldable pub fillSummary : (m s : ℕ) (keys bits : List ℕ) (n : ℕ) (summary : List ℕ) → Done
-fillSummary m s keys bits n summary = record { refusal = fillRefusal m s keys bits n summary }
+  unfoldable pub fillSummary : Done
+  fillSummary = record { refusal = fillRefusal }
 
--- every place of the summary is written
-unfoldable pub filledSummary : (m s : ℕ) (keys bits : List ℕ) (n : ℕ) (summary : List ℕ) → List ℕ
-filledSummary m s keys bits n summary =
-    accepted (fillRefusal m s keys bits n summary) (summaryOf m s (pictureOf m (recordsOf keys bits n))) summary
+  -- every place of the summary is written
+  unfoldable pub filledSummary : List ℕ
+  filledSummary = accepted fillRefusal (summaryOf m s (pictureOf m (recordsOf keys bits n))) summary

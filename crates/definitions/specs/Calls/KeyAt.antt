@@ -12,14 +12,15 @@ use Rattle.definitions.specs.declared.Counted.{Counted}
 abbrev pub noPixel : (m row column : ℕ) → Bool
 noPixel m row column = leb (2 ^ m) row || leb (2 ^ m) column
 
-unfoldable pub keyAtRefusal : (m row column level : ℕ) → ℕ
-keyAtRefusal m row column level =
-    first (ltb deepestLevel m gives 1 ∷ noPixel m row column gives 6 ∷ ltb m level gives 8 ∷ [])
+module _ (m row column level : ℕ) where
+  unfoldable pub keyAtRefusal : ℕ
+  keyAtRefusal =
+      first (ltb deepestLevel m gives 1 ∷ noPixel m row column gives 6 ∷ ltb m level gives 8 ∷ [])
 
--- the key stands in the count
-unfoldable pub keyAt : (m row column level : ℕ) → Counted
-keyAt m row column level =
-    record {
-      refusal = keyAtRefusal m row column level;
-      count = accepted (keyAtRefusal m row column level) (keyAround m level row column) 0;
-    }
+  -- the key stands in the count
+  unfoldable pub keyAt : Counted
+  keyAt =
+      record {
+        refusal = keyAtRefusal;
+        count = accepted keyAtRefusal (keyAround m level row column) 0;
+      }

@@ -30,58 +30,49 @@ gained m l κ f = entryOf m (pictureOf m l) κ f
 abbrev pub logged : (used inForce : ℕ) (entry slice : List ℕ) → List ℕ
 logged used inForce entry slice = overAt inForce (entry ++ replicate (used - (inForce + length entry)) 0) slice
 
-unfoldable pub paintRefusal : (m s : ℕ) (keys bits : List ℕ) (n : ℕ) (summary logKeys logValues : List ℕ) (used inForce κ f : ℕ) → ℕ
-paintRefusal m s keys bits n summary logKeys logValues used inForce κ f =
-    first
-    (badSettings m s gives 1
-    ∷ noList m s keys bits n gives 4
-    ∷ noSummary m s (pictureOf m (recordsOf keys bits n)) summary gives 18
-    ∷ noLog m s logKeys logValues used inForce gives 5
-    ∷ badKey m κ gives 8
-    ∷ badFeature s f gives 7
-    ∷ ltb (room logKeys logValues) (inForce + length (gained m (recordsOf keys bits n) κ f)) gives 10
-    ∷ ltb (room keys bits) (length (painted m (recordsOf keys bits n) κ f)) gives 9
-    ∷ [])
-
 module _ (m s : ℕ) (keys bits : List ℕ) (n : ℕ) (summary logKeys logValues : List ℕ) (used inForce κ f : ℕ) where
+  -- the list that the paint leaves, and the entry that the log gains
+  abbrev listAfter : List Record
+  listAfter = painted m (recordsOf keys bits n) κ f
+
+  abbrev entry : List Record
+  entry = gained m (recordsOf keys bits n) κ f
+
+  unfoldable pub paintRefusal : ℕ
+  paintRefusal =
+      first
+      (badSettings m s gives 1
+      ∷ noList m s keys bits n gives 4
+      ∷ noSummary m s (pictureOf m (recordsOf keys bits n)) summary gives 18
+      ∷ noLog m s logKeys logValues used inForce gives 5
+      ∷ badKey m κ gives 8
+      ∷ badFeature s f gives 7
+      ∷ ltb (room logKeys logValues) (inForce + length entry) gives 10
+      ∷ ltb (room keys bits) (length listAfter) gives 9
+      ∷ [])
+
   unfoldable pub paint : Edited
   paint =
-      let refusal = paintRefusal m s keys bits n summary logKeys logValues used inForce κ f in
       record {
-        refusal = refusal;
-        n = accepted refusal (length (painted m (recordsOf keys bits n) κ f)) 0;
-        used = accepted refusal (inForce + length (gained m (recordsOf keys bits n) κ f)) 0;
-        «in_force» = accepted refusal (inForce + length (gained m (recordsOf keys bits n) κ f)) 0;
+        refusal = paintRefusal;
+        n = accepted paintRefusal (length listAfter) 0;
+        used = accepted paintRefusal (inForce + length entry) 0;
+        «in_force» = accepted paintRefusal (inForce + length entry) 0;
       }
 
   unfoldable pub paintKeys : List ℕ
-  paintKeys =
-      accepted (paintRefusal m s keys bits n summary logKeys logValues used inForce κ f)
-      (replaced n (keysOf (painted m (recordsOf keys bits n) κ f)) keys)
-      keys
+  paintKeys = accepted paintRefusal (replaced n (keysOf listAfter) keys) keys
 
   unfoldable pub paintBits : List ℕ
-  paintBits =
-      accepted (paintRefusal m s keys bits n summary logKeys logValues used inForce κ f)
-      (replaced n (valuesOf (painted m (recordsOf keys bits n) κ f)) bits)
-      bits
+  paintBits = accepted paintRefusal (replaced n (valuesOf listAfter) bits) bits
 
   -- the counts of the painted picture
   unfoldable pub paintSummary : List ℕ
-  paintSummary =
-      accepted (paintRefusal m s keys bits n summary logKeys logValues used inForce κ f)
-      (summaryOf m s (paintedPicture m (recordsOf keys bits n) κ f))
-      summary
+  paintSummary = accepted paintRefusal (summaryOf m s (paintedPicture m (recordsOf keys bits n) κ f)) summary
 
   -- the entry stands in the log from the place in force on
   unfoldable pub paintLogKeys : List ℕ
-  paintLogKeys =
-      accepted (paintRefusal m s keys bits n summary logKeys logValues used inForce κ f)
-      (logged used inForce (keysOf (gained m (recordsOf keys bits n) κ f)) logKeys)
-      logKeys
+  paintLogKeys = accepted paintRefusal (logged used inForce (keysOf entry) logKeys) logKeys
 
   unfoldable pub paintLogValues : List ℕ
-  paintLogValues =
-      accepted (paintRefusal m s keys bits n summary logKeys logValues used inForce κ f)
-      (logged used inForce (valuesOf (gained m (recordsOf keys bits n) κ f)) logValues)
-      logValues
+  paintLogValues = accepted paintRefusal (logged used inForce (valuesOf entry) logValues) logValues

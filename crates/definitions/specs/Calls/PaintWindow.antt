@@ -29,58 +29,49 @@ filled m l w f = listOfPicture m (filledPicture m l w f)
 unfoldable pub groupGained : (m : ℕ) (l : List Record) (w : Window) (f : ℕ) → List Record
 groupGained m l w f = groupOf m (pictureOf m l) w f
 
-unfoldable pub paintWindowRefusal : (m s : ℕ) (keys bits : List ℕ) (n : ℕ) (summary logKeys logValues : List ℕ) (used inForce : ℕ) (w : Window) (f : ℕ) → ℕ
-paintWindowRefusal m s keys bits n summary logKeys logValues used inForce w f =
-    first
-    (badSettings m s gives 1
-    ∷ noList m s keys bits n gives 4
-    ∷ noSummary m s (pictureOf m (recordsOf keys bits n)) summary gives 18
-    ∷ noLog m s logKeys logValues used inForce gives 5
-    ∷ badWindow m w gives 6
-    ∷ badFeature s f gives 7
-    ∷ ltb (room logKeys logValues) (inForce + length (groupGained m (recordsOf keys bits n) w f)) gives 10
-    ∷ ltb (room keys bits) (length (filled m (recordsOf keys bits n) w f)) gives 9
-    ∷ [])
-
 module _ (m s : ℕ) (keys bits : List ℕ) (n : ℕ) (summary logKeys logValues : List ℕ) (used inForce : ℕ) (w : Window) (f : ℕ) where
+  -- the list that the paint leaves, and the group that the log gains
+  abbrev listAfter : List Record
+  listAfter = filled m (recordsOf keys bits n) w f
+
+  abbrev group : List Record
+  group = groupGained m (recordsOf keys bits n) w f
+
+  unfoldable pub paintWindowRefusal : ℕ
+  paintWindowRefusal =
+      first
+      (badSettings m s gives 1
+      ∷ noList m s keys bits n gives 4
+      ∷ noSummary m s (pictureOf m (recordsOf keys bits n)) summary gives 18
+      ∷ noLog m s logKeys logValues used inForce gives 5
+      ∷ badWindow m w gives 6
+      ∷ badFeature s f gives 7
+      ∷ ltb (room logKeys logValues) (inForce + length group) gives 10
+      ∷ ltb (room keys bits) (length listAfter) gives 9
+      ∷ [])
+
   unfoldable pub paintWindow : Edited
   paintWindow =
-      let refusal = paintWindowRefusal m s keys bits n summary logKeys logValues used inForce w f in
       record {
-        refusal = refusal;
-        n = accepted refusal (length (filled m (recordsOf keys bits n) w f)) 0;
-        used = accepted refusal (inForce + length (groupGained m (recordsOf keys bits n) w f)) 0;
-        «in_force» = accepted refusal (inForce + length (groupGained m (recordsOf keys bits n) w f)) 0;
+        refusal = paintWindowRefusal;
+        n = accepted paintWindowRefusal (length listAfter) 0;
+        used = accepted paintWindowRefusal (inForce + length group) 0;
+        «in_force» = accepted paintWindowRefusal (inForce + length group) 0;
       }
 
   unfoldable pub paintWindowKeys : List ℕ
-  paintWindowKeys =
-      accepted (paintWindowRefusal m s keys bits n summary logKeys logValues used inForce w f)
-      (replaced n (keysOf (filled m (recordsOf keys bits n) w f)) keys)
-      keys
+  paintWindowKeys = accepted paintWindowRefusal (replaced n (keysOf listAfter) keys) keys
 
   unfoldable pub paintWindowBits : List ℕ
-  paintWindowBits =
-      accepted (paintWindowRefusal m s keys bits n summary logKeys logValues used inForce w f)
-      (replaced n (valuesOf (filled m (recordsOf keys bits n) w f)) bits)
-      bits
+  paintWindowBits = accepted paintWindowRefusal (replaced n (valuesOf listAfter) bits) bits
 
   -- the counts of the filled picture
   unfoldable pub paintWindowSummary : List ℕ
-  paintWindowSummary =
-      accepted (paintWindowRefusal m s keys bits n summary logKeys logValues used inForce w f)
-      (summaryOf m s (filledPicture m (recordsOf keys bits n) w f))
-      summary
+  paintWindowSummary = accepted paintWindowRefusal (summaryOf m s (filledPicture m (recordsOf keys bits n) w f)) summary
 
   -- the group stands in the log from the place in force on
   unfoldable pub paintWindowLogKeys : List ℕ
-  paintWindowLogKeys =
-      accepted (paintWindowRefusal m s keys bits n summary logKeys logValues used inForce w f)
-      (logged used inForce (keysOf (groupGained m (recordsOf keys bits n) w f)) logKeys)
-      logKeys
+  paintWindowLogKeys = accepted paintWindowRefusal (logged used inForce (keysOf group) logKeys) logKeys
 
   unfoldable pub paintWindowLogValues : List ℕ
-  paintWindowLogValues =
-      accepted (paintWindowRefusal m s keys bits n summary logKeys logValues used inForce w f)
-      (logged used inForce (valuesOf (groupGained m (recordsOf keys bits n) w f)) logValues)
-      logValues
+  paintWindowLogValues = accepted paintWindowRefusal (logged used inForce (valuesOf group) logValues) logValues

@@ -11,25 +11,24 @@ use Rattle.definitions.specs.BitStrings.{isPair, recordsOfPair}
 use Rattle.definitions.specs.Refusal.{_gives_, first, accepted, badSettings}
 use Rattle.definitions.specs.declared.Counted.{Counted}
 
-unfoldable pub readStringsRefusal : (m s : ℕ) (nodes leaves keys bits : List ℕ) → ℕ
-readStringsRefusal m s nodes leaves keys bits =
-    first
-    (badSettings m s gives 1
-    ∷ (not (eqb s 2) || not (isPair m nodes leaves)) gives 23
-    ∷ ltb (room keys bits) (length (recordsOfPair m nodes leaves)) gives 9
-    ∷ [])
+module _ (m s : ℕ) (nodes leaves keys bits : List ℕ) where
+  unfoldable pub readStringsRefusal : ℕ
+  readStringsRefusal =
+      first
+      (badSettings m s gives 1
+      ∷ (not (eqb s 2) || not (isPair m nodes leaves)) gives 23
+      ∷ ltb (room keys bits) (length (recordsOfPair m nodes leaves)) gives 9
+      ∷ [])
 
-unfoldable pub readStrings : (m s : ℕ) (nodes leaves keys bits : List ℕ) → Counted
-readStrings m s nodes leaves keys bits =
-    record {
-      refusal = readStringsRefusal m s nodes leaves keys bits;
-      count = accepted (readStringsRefusal m s nodes leaves keys bits) (length (recordsOfPair m nodes leaves)) 0;
-    }
+  unfoldable pub readStrings : Counted
+  readStrings =
+      record {
+        refusal = readStringsRefusal;
+        count = accepted readStringsRefusal (length (recordsOfPair m nodes leaves)) 0;
+      }
 
-unfoldable pub readKeys : (m s : ℕ) (nodes leaves keys bits : List ℕ) → List ℕ
-readKeys m s nodes leaves keys bits =
-    accepted (readStringsRefusal m s nodes leaves keys bits) (over (keysOf (recordsOfPair m nodes leaves)) keys) keys
+  unfoldable pub readKeys : List ℕ
+  readKeys = accepted readStringsRefusal (over (keysOf (recordsOfPair m nodes leaves)) keys) keys
 
-unfoldable pub readBits : (m s : ℕ) (nodes leaves keys bits : List ℕ) → List ℕ
-readBits m s nodes leaves keys bits =
-    accepted (readStringsRefusal m s nodes leaves keys bits) (over (valuesOf (recordsOfPair m nodes leaves)) bits) bits
+  unfoldable pub readBits : List ℕ
+  readBits = accepted readStringsRefusal (over (valuesOf (recordsOfPair m nodes leaves)) bits) bits

@@ -15,26 +15,25 @@ use Rattle.definitions.specs.declared.Counted.{Counted}
 abbrev pub listDelivered : (m : ℕ) (leafKeys leafFeatures : List ℕ) (leaves : ℕ) → List Record
 listDelivered m leafKeys leafFeatures leaves = listOfPicture m (pictureDelivered m leafKeys leafFeatures leaves)
 
-unfoldable pub readLeavesRefusal : (m s : ℕ) (leafKeys leafFeatures : List ℕ) (leaves : ℕ) (keys bits : List ℕ) → ℕ
-readLeavesRefusal m s leafKeys leafFeatures leaves keys bits =
-    first
-    (badSettings m s gives 1
-    ∷ not (isDelivery m s leafKeys leafFeatures leaves) gives 19
-    ∷ ltb (room keys bits) (length (listDelivered m leafKeys leafFeatures leaves)) gives 9
-    ∷ [])
+module _ (m s : ℕ) (leafKeys leafFeatures : List ℕ) (leaves : ℕ) (keys bits : List ℕ) where
+  unfoldable pub readLeavesRefusal : ℕ
+  readLeavesRefusal =
+      first
+      (badSettings m s gives 1
+      ∷ not (isDelivery m s leafKeys leafFeatures leaves) gives 19
+      ∷ ltb (room keys bits) (length (listDelivered m leafKeys leafFeatures leaves)) gives 9
+      ∷ [])
 
--- the count is the number of records
-unfoldable pub readLeaves : (m s : ℕ) (leafKeys leafFeatures : List ℕ) (leaves : ℕ) (keys bits : List ℕ) → Counted
-readLeaves m s leafKeys leafFeatures leaves keys bits =
-    record {
-      refusal = readLeavesRefusal m s leafKeys leafFeatures leaves keys bits;
-      count = accepted (readLeavesRefusal m s leafKeys leafFeatures leaves keys bits) (length (listDelivered m leafKeys leafFeatures leaves)) 0;
-    }
+  -- the count is the number of records
+  unfoldable pub readLeaves : Counted
+  readLeaves =
+      record {
+        refusal = readLeavesRefusal;
+        count = accepted readLeavesRefusal (length (listDelivered m leafKeys leafFeatures leaves)) 0;
+      }
 
-unfoldable pub readLeavesKeys : (m s : ℕ) (leafKeys leafFeatures : List ℕ) (leaves : ℕ) (keys bits : List ℕ) → List ℕ
-readLeavesKeys m s leafKeys leafFeatures leaves keys bits =
-    accepted (readLeavesRefusal m s leafKeys leafFeatures leaves keys bits) (over (keysOf (listDelivered m leafKeys leafFeatures leaves)) keys) keys
+  unfoldable pub readLeavesKeys : List ℕ
+  readLeavesKeys = accepted readLeavesRefusal (over (keysOf (listDelivered m leafKeys leafFeatures leaves)) keys) keys
 
-unfoldable pub readLeavesBits : (m s : ℕ) (leafKeys leafFeatures : List ℕ) (leaves : ℕ) (keys bits : List ℕ) → List ℕ
-readLeavesBits m s leafKeys leafFeatures leaves keys bits =
-    accepted (readLeavesRefusal m s leafKeys leafFeatures leaves keys bits) (over (valuesOf (listDelivered m leafKeys leafFeatures leaves)) bits) bits
+  unfoldable pub readLeavesBits : List ℕ
+  readLeavesBits = accepted readLeavesRefusal (over (valuesOf (listDelivered m leafKeys leafFeatures leaves)) bits) bits

@@ -22,50 +22,44 @@ redonePicture m l steps = paintAgain (stepCount (firstStep steps)) m (stepEntrie
 unfoldable pub redone : (m : ℕ) (l steps : List Record) → List Record
 redone m l steps = listOfPicture m (redonePicture m l steps)
 
-unfoldable pub redoRefusal : (m s : ℕ) (keys bits : List ℕ) (n : ℕ) (summary logKeys logValues : List ℕ) (used inForce : ℕ) → ℕ
-redoRefusal m s keys bits n summary logKeys logValues used inForce =
-    first
-    (badSettings m s gives 1
-    ∷ noList m s keys bits n gives 4
-    ∷ noSummary m s (pictureOf m (recordsOf keys bits n)) summary gives 18
-    ∷ noLog m s logKeys logValues used inForce gives 5
-    ∷ eqb inForce used gives 20
-    ∷ ltb (room keys bits) (length (redone m (recordsOf keys bits n) (toRedo logKeys logValues used inForce))) gives 9
-    ∷ [])
-
 module _ (m s : ℕ) (keys bits : List ℕ) (n : ℕ) (summary logKeys logValues : List ℕ) (used inForce : ℕ) where
+  -- the list that the redo leaves
+  abbrev listAfter : List Record
+  listAfter = redone m (recordsOf keys bits n) (toRedo logKeys logValues used inForce)
+
+  unfoldable pub redoRefusal : ℕ
+  redoRefusal =
+      first
+      (badSettings m s gives 1
+      ∷ noList m s keys bits n gives 4
+      ∷ noSummary m s (pictureOf m (recordsOf keys bits n)) summary gives 18
+      ∷ noLog m s logKeys logValues used inForce gives 5
+      ∷ eqb inForce used gives 20
+      ∷ ltb (room keys bits) (length listAfter) gives 9
+      ∷ [])
+
   -- the records in force with the next step
   unfoldable pub forceAfter : ℕ
   forceAfter = inForce + length (firstStep (toRedo logKeys logValues used inForce))
 
   unfoldable pub redo : Edited
   redo =
-      let refusal = redoRefusal m s keys bits n summary logKeys logValues used inForce in
       record {
-        refusal = refusal;
-        n = accepted refusal (length (redone m (recordsOf keys bits n) (toRedo logKeys logValues used inForce))) 0;
-        used = accepted refusal used 0;
-        «in_force» = accepted refusal forceAfter 0;
+        refusal = redoRefusal;
+        n = accepted redoRefusal (length listAfter) 0;
+        used = accepted redoRefusal used 0;
+        «in_force» = accepted redoRefusal forceAfter 0;
       }
 
   unfoldable pub redoKeys : List ℕ
-  redoKeys =
-      accepted (redoRefusal m s keys bits n summary logKeys logValues used inForce)
-      (replaced n (keysOf (redone m (recordsOf keys bits n) (toRedo logKeys logValues used inForce))) keys)
-      keys
+  redoKeys = accepted redoRefusal (replaced n (keysOf listAfter) keys) keys
 
   unfoldable pub redoBits : List ℕ
-  redoBits =
-      accepted (redoRefusal m s keys bits n summary logKeys logValues used inForce)
-      (replaced n (valuesOf (redone m (recordsOf keys bits n) (toRedo logKeys logValues used inForce))) bits)
-      bits
+  redoBits = accepted redoRefusal (replaced n (valuesOf listAfter) bits) bits
 
   -- the counts of the picture painted again
   unfoldable pub redoSummary : List ℕ
-  redoSummary =
-      accepted (redoRefusal m s keys bits n summary logKeys logValues used inForce)
-      (summaryOf m s (redonePicture m (recordsOf keys bits n) (toRedo logKeys logValues used inForce)))
-      summary
+  redoSummary = accepted redoRefusal (summaryOf m s (redonePicture m (recordsOf keys bits n) (toRedo logKeys logValues used inForce))) summary
 
   -- the log stays
   unfoldable pub redoLogKeys : List ℕ

@@ -7,13 +7,14 @@ use Rattle.definitions.specs.Refusal.{_gives_, first, accepted, badSetti
 use Rattle.definitions.specs.declared.Window.{Window}
 use Rattle.definitions.specs.declared.Reported.{Reported}
 
-unfoldable pub reportRefusal : (m s : ℕ) (keys bits : List ℕ) (n : ℕ) (w : Window) → ℕ
-reportRefusal m s keys bits n w =
-    first (badSettings m s gives 1 ∷ noList m s keys bits n gives 4 ∷ badWindow m w gives 6 ∷ [])
+module _ (m s : ℕ) (keys bits : List ℕ) (n : ℕ) (w : Window) where
+  unfoldable pub reportRefusal : ℕ
+  reportRefusal =
+      first (badSettings m s gives 1 ∷ noList m s keys bits n gives 4 ∷ badWindow m w gives 6 ∷ [])
 
-unfoldable pub report : (m s : ℕ) (keys bits : List ℕ) (n : ℕ) (w : Window) → Reported
-report m s keys bits n w =
-    record {
-      refusal = reportRefusal m s keys bits n w;
-      bits = accepted (reportRefusal m s keys bits n w) (reportIn (pictureOf m (recordsOf keys bits n)) w) 0;
-    }
+  unfoldable pub report : Reported
+  report =
+      record {
+        refusal = reportRefusal;
+        bits = accepted reportRefusal (reportIn (pictureOf m (recordsOf keys bits n)) w) 0;
+      }

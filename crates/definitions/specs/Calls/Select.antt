@@ -15,26 +15,26 @@ use Rattle.definitions.specs.declared.Counted.{Counted}
 unfoldable pub selected : (m : ℕ) (keys bits : List ℕ) (n : ℕ) (w : Window) (f : ℕ) → List ℕ
 selected m keys bits n w f = selectIn m (pictureOf m (recordsOf keys bits n)) w f
 
-unfoldable pub selectRefusal : (m s : ℕ) (keys bits : List ℕ) (n : ℕ) (w : Window) (f : ℕ) (answer : List ℕ) → ℕ
-selectRefusal m s keys bits n w f answer =
-    first
-    (badSettings m s gives 1
-    ∷ noList m s keys bits n gives 4
-    ∷ badWindow m w gives 6
-    ∷ badFeature s f gives 7
-    ∷ ltb (length answer) (length (selected m keys bits n w f)) gives 12
-    ∷ [])
+module _ (m s : ℕ) (keys bits : List ℕ) (n : ℕ) (w : Window) (f : ℕ) (answer : List ℕ) where
+  unfoldable pub selectRefusal : ℕ
+  selectRefusal =
+      first
+      (badSettings m s gives 1
+      ∷ noList m s keys bits n gives 4
+      ∷ badWindow m w gives 6
+      ∷ badFeature s f gives 7
+      ∷ ltb (length answer) (length (selected m keys bits n w f)) gives 12
+      ∷ [])
 
--- with 12 the count is the number of places needed
-unfoldable pub select : (m s : ℕ) (keys bits : List ℕ) (n : ℕ) (w : Window) (f : ℕ) (answer : List ℕ) → Counted
-select m s keys bits n w f answer =
-    record {
-      refusal = selectRefusal m s keys bits n w f answer;
-      count = accepted (selectRefusal m s keys bits n w f answer)
-          (length (selected m keys bits n w f))
-          (cond (eqb (selectRefusal m s keys bits n w f answer) 12) (length (selected m keys bits n w f)) 0);
-    }
+  -- with 12 the count is the number of places needed
+  unfoldable pub select : Counted
+  select =
+      record {
+        refusal = selectRefusal;
+        count = accepted selectRefusal
+            (length (selected m keys bits n w f))
+            (cond (eqb selectRefusal 12) (length (selected m keys bits n w f)) 0);
+      }
 
-unfoldable pub selectAnswer : (m s : ℕ) (keys bits : List ℕ) (n : ℕ) (w : Window) (f : ℕ) (answer : List ℕ) → List ℕ
-selectAnswer m s keys bits n w f answer =
-    accepted (selectRefusal m s keys bits n w f answer) (over (selected m keys bits n w f) answer) answer
+  unfoldable pub selectAnswer : List ℕ
+  selectAnswer = accepted selectRefusal (over (selected m keys bits n w f) answer) answer

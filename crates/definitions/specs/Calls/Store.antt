@@ -13,23 +13,24 @@ use Rattle.definitions.specs.declared.Counted.{Counted}
 unfoldable pub stored : (m s : ℕ) (keys bits : List ℕ) (n : ℕ) → List ℕ
 stored m s keys bits n = fileOf m s (recordsOf keys bits n)
 
-unfoldable pub storeRefusal : (m s : ℕ) (keys bits : List ℕ) (n : ℕ) (file : List ℕ) → ℕ
-storeRefusal m s keys bits n file =
-    first
-    (badSettings m s gives 1
-    ∷ noList m s keys bits n gives 4
-    ∷ ltb (length file) (length (stored m s keys bits n)) gives 12
-    ∷ [])
+module _ (m s : ℕ) (keys bits : List ℕ) (n : ℕ) (file : List ℕ) where
+  unfoldable pub storeRefusal : ℕ
+  storeRefusal =
+      first
+      (badSettings m s gives 1
+      ∷ noList m s keys bits n gives 4
+      ∷ ltb (length file) (length (stored m s keys bits n)) gives 12
+      ∷ [])
 
--- the count is in bytes; with 12 it is the number of bytes needed
-unfoldable pub store : (m s : ℕ) (keys bits : List ℕ) (n : ℕ) (file : List ℕ) → Counted
-store m s keys bits n file =
-    record {
-      refusal = storeRefusal m s keys bits n file;
-      count = accepted (storeRefusal m s keys bits n file)
-          (length (stored m s keys bits n))
-          (cond (eqb (storeRefusal m s keys bits n file) 12) (length (stored m s keys bits n)) 0);
-    }
+  -- the count is in bytes; with 12 it is the number of bytes needed
+  unfoldable pub store : Counted
+  store =
+      record {
+        refusal = storeRefusal;
+        count = accepted storeRefusal
+            (length (stored m s keys bits n))
+            (cond (eqb storeRefusal 12) (length (stored m s keys bits n)) 0);
+      }
 
-unfoldable pub storeFile : (m s : ℕ) (keys bits : List ℕ) (n : ℕ) (file : List ℕ) → List ℕ
-storeFile m s keys bits n file = accepted (storeRefusal m s keys bits n file) (over (stored m s keys bits n) file) file
+  unfoldable pub storeFile : List ℕ
+  storeFile = accepted storeRefusal (over (stored m s keys bits n) file) file

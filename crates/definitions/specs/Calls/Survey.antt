@@ -11,29 +11,28 @@ use Rattle.definitions.specs.Area.{summaryOf, badSummaryLength}
 use Rattle.definitions.specs.Refusal.{_gives_, first, accepted, badSettings, badLength, badPixel}
 use Rattle.definitions.specs.declared.Counted.{Counted}
 
-unfoldable pub surveyRefusal : (m s : ℕ) (raster keys bits summary : List ℕ) → ℕ
-surveyRefusal m s raster keys bits summary =
-    first
-    (badSettings m s gives 1
-    ∷ badLength m raster gives 2
-    ∷ badPixel s raster gives 3
-    ∷ badSummaryLength m s summary gives 18
-    ∷ ltb (room keys bits) (length (listOfRaster m raster)) gives 9
-    ∷ [])
-
 module _ (m s : ℕ) (raster keys bits summary : List ℕ) where
+  unfoldable pub surveyRefusal : ℕ
+  surveyRefusal =
+      first
+      (badSettings m s gives 1
+      ∷ badLength m raster gives 2
+      ∷ badPixel s raster gives 3
+      ∷ badSummaryLength m s summary gives 18
+      ∷ ltb (room keys bits) (length (listOfRaster m raster)) gives 9
+      ∷ [])
+
   -- the count is the number of records
   unfoldable pub survey : Counted
   survey =
-      let refusal = surveyRefusal m s raster keys bits summary in
-      record { refusal = refusal; count = accepted refusal (length (listOfRaster m raster)) 0 }
+      record { refusal = surveyRefusal; count = accepted surveyRefusal (length (listOfRaster m raster)) 0 }
 
   unfoldable pub surveyKeys : List ℕ
-  surveyKeys = accepted (surveyRefusal m s raster keys bits summary) (over (keysOf (listOfRaster m raster)) keys) keys
+  surveyKeys = accepted surveyRefusal (over (keysOf (listOfRaster m raster)) keys) keys
 
   unfoldable pub surveyBits : List ℕ
-  surveyBits = accepted (surveyRefusal m s raster keys bits summary) (over (valuesOf (listOfRaster m raster)) bits) bits
+  surveyBits = accepted surveyRefusal (over (valuesOf (listOfRaster m raster)) bits) bits
 
   -- every place of the summary is written
   unfoldable pub surveySummary : List ℕ
-  surveySummary = accepted (surveyRefusal m s raster keys bits summary) (summaryOf m s (pictureOfRaster m raster)) summary
+  surveySummary = accepted surveyRefusal (summaryOf m s (pictureOfRaster m raster)) summary

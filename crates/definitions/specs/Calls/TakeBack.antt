@@ -21,50 +21,44 @@ restoredPicture m l log = putBack (stepCount log) m (stepEntries log) (pictureOf
 unfoldable pub restored : (m : ℕ) (l log : List Record) → List Record
 restored m l log = listOfPicture m (restoredPicture m l log)
 
-unfoldable pub takeBackRefusal : (m s : ℕ) (keys bits : List ℕ) (n : ℕ) (summary logKeys logValues : List ℕ) (used inForce : ℕ) → ℕ
-takeBackRefusal m s keys bits n summary logKeys logValues used inForce =
-    first
-    (badSettings m s gives 1
-    ∷ noList m s keys bits n gives 4
-    ∷ noSummary m s (pictureOf m (recordsOf keys bits n)) summary gives 18
-    ∷ noLog m s logKeys logValues used inForce gives 5
-    ∷ eqb inForce 0 gives 11
-    ∷ ltb (room keys bits) (length (restored m (recordsOf keys bits n) (recordsOf logKeys logValues inForce))) gives 9
-    ∷ [])
-
 module _ (m s : ℕ) (keys bits : List ℕ) (n : ℕ) (summary logKeys logValues : List ℕ) (used inForce : ℕ) where
+  -- the list that the taking back leaves
+  abbrev listAfter : List Record
+  listAfter = restored m (recordsOf keys bits n) (recordsOf logKeys logValues inForce)
+
+  unfoldable pub takeBackRefusal : ℕ
+  takeBackRefusal =
+      first
+      (badSettings m s gives 1
+      ∷ noList m s keys bits n gives 4
+      ∷ noSummary m s (pictureOf m (recordsOf keys bits n)) summary gives 18
+      ∷ noLog m s logKeys logValues used inForce gives 5
+      ∷ eqb inForce 0 gives 11
+      ∷ ltb (room keys bits) (length listAfter) gives 9
+      ∷ [])
+
   -- the records in force without the last step
   unfoldable pub forceBefore : ℕ
   forceBefore = length (beforeStep (recordsOf logKeys logValues inForce))
 
   unfoldable pub takeBack : Edited
   takeBack =
-      let refusal = takeBackRefusal m s keys bits n summary logKeys logValues used inForce in
       record {
-        refusal = refusal;
-        n = accepted refusal (length (restored m (recordsOf keys bits n) (recordsOf logKeys logValues inForce))) 0;
-        used = accepted refusal used 0;
-        «in_force» = accepted refusal forceBefore 0;
+        refusal = takeBackRefusal;
+        n = accepted takeBackRefusal (length listAfter) 0;
+        used = accepted takeBackRefusal used 0;
+        «in_force» = accepted takeBackRefusal forceBefore 0;
       }
 
   unfoldable pub takeBackKeys : List ℕ
-  takeBackKeys =
-      accepted (takeBackRefusal m s keys bits n summary logKeys logValues used inForce)
-      (replaced n (keysOf (restored m (recordsOf keys bits n) (recordsOf logKeys logValues inForce))) keys)
-      keys
+  takeBackKeys = accepted takeBackRefusal (replaced n (keysOf listAfter) keys) keys
 
   unfoldable pub takeBackBits : List ℕ
-  takeBackBits =
-      accepted (takeBackRefusal m s keys bits n summary logKeys logValues used inForce)
-      (replaced n (valuesOf (restored m (recordsOf keys bits n) (recordsOf logKeys logValues inForce))) bits)
-      bits
+  takeBackBits = accepted takeBackRefusal (replaced n (valuesOf listAfter) bits) bits
 
   -- the counts of the restored picture
   unfoldable pub takeBackSummary : List ℕ
-  takeBackSummary =
-      accepted (takeBackRefusal m s keys bits n summary logKeys logValues used inForce)
-      (summaryOf m s (restoredPicture m (recordsOf keys bits n) (recordsOf logKeys logValues inForce)))
-      summary
+  takeBackSummary = accepted takeBackRefusal (summaryOf m s (restoredPicture m (recordsOf keys bits n) (recordsOf logKeys logValues inForce))) summary
 
   -- the log stays
   unfoldable pub takeBackLogKeys : List ℕ

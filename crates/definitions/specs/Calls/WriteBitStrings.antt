@@ -16,29 +16,27 @@ nodeString keys bits n = packed (nodeBits (recordsOf keys bits n))
 unfoldable pub leafString : (keys bits : List ℕ) (n : ℕ) → List ℕ
 leafString keys bits n = packed (leafBits (recordsOf keys bits n))
 
-unfoldable pub writeStringsRefusal : (m s : ℕ) (keys bits : List ℕ) (n : ℕ) (nodes leaves : List ℕ) → ℕ
-writeStringsRefusal m s keys bits n nodes leaves =
-    first
-    (badSettings m s gives 1
-    ∷ not (eqb s 2) gives 23
-    ∷ noList m s keys bits n gives 4
-    ∷ (ltb (length nodes) (length (nodeString keys bits n)) || ltb (length leaves) (length (leafString keys bits n))) gives 12
-    ∷ [])
+module _ (m s : ℕ) (keys bits : List ℕ) (n : ℕ) (nodes leaves : List ℕ) where
+  unfoldable pub writeStringsRefusal : ℕ
+  writeStringsRefusal =
+      first
+      (badSettings m s gives 1
+      ∷ not (eqb s 2) gives 23
+      ∷ noList m s keys bits n gives 4
+      ∷ (ltb (length nodes) (length (nodeString keys bits n)) || ltb (length leaves) (length (leafString keys bits n))) gives 12
+      ∷ [])
 
--- with 12 the bytes needed of each
-unfoldable pub writeStrings : (m s : ℕ) (keys bits : List ℕ) (n : ℕ) (nodes leaves : List ℕ) → Strings
-writeStrings m s keys bits n nodes leaves =
-    let refusal = writeStringsRefusal m s keys bits n nodes leaves in
-    record {
-      refusal = refusal;
-      «node_bytes» = cond (eqb refusal 0 || eqb refusal 12) (length (nodeString keys bits n)) 0;
-      «leaf_bytes» = cond (eqb refusal 0 || eqb refusal 12) (length (leafString keys bits n)) 0;
-    }
+  -- with 12 the bytes needed of each
+  unfoldable pub writeStrings : Strings
+  writeStrings =
+      record {
+        refusal = writeStringsRefusal;
+        «node_bytes» = cond (eqb writeStringsRefusal 0 || eqb writeStringsRefusal 12) (length (nodeString keys bits n)) 0;
+        «leaf_bytes» = cond (eqb writeStringsRefusal 0 || eqb writeStringsRefusal 12) (length (leafString keys bits n)) 0;
+      }
 
-unfoldable pub writtenNodes : (m s : ℕ) (keys bits : List ℕ) (n : ℕ) (nodes leaves : List ℕ) → List ℕ
-writtenNodes m s keys bits n nodes leaves =
-    accepted (writeStringsRefusal m s keys bits n nodes leaves) (over (nodeString keys bits n) nodes) nodes
+  unfoldable pub writtenNodes : List ℕ
+  writtenNodes = accepted writeStringsRefusal (over (nodeString keys bits n) nodes) nodes
 
-unfoldable pub writtenLeaves : (m s : ℕ) (keys bits : List ℕ) (n : ℕ) (nodes leaves : List ℕ) → List ℕ
-writtenLeaves m s keys bits n nodes leaves =
-    accepted (writeStringsRefusal m s keys bits n nodes leaves) (over (leafString keys bits n) leaves) leaves
+  unfoldable pub writtenLeaves : List ℕ
+  writtenLeaves = accepted writeStringsRefusal (over (leafString keys bits n) leaves) leaves

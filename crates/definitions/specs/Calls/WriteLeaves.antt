@@ -15,28 +15,27 @@ use Rattle.definitions.specs.declared.Counted.{Counted}
 abbrev pub leavesIn : (keys bits : List ℕ) (n : ℕ) → List Record
 leavesIn keys bits n = leavesOf (recordsOf keys bits n)
 
-unfoldable pub writeLeavesRefusal : (m s : ℕ) (keys bits : List ℕ) (n : ℕ) (leafKeys leafFeatures : List ℕ) → ℕ
-writeLeavesRefusal m s keys bits n leafKeys leafFeatures =
-    first
-    (badSettings m s gives 1
-    ∷ noList m s keys bits n gives 4
-    ∷ ltb (room leafKeys leafFeatures) (length (leavesIn keys bits n)) gives 12
-    ∷ [])
+module _ (m s : ℕ) (keys bits : List ℕ) (n : ℕ) (leafKeys leafFeatures : List ℕ) where
+  unfoldable pub writeLeavesRefusal : ℕ
+  writeLeavesRefusal =
+      first
+      (badSettings m s gives 1
+      ∷ noList m s keys bits n gives 4
+      ∷ ltb (room leafKeys leafFeatures) (length (leavesIn keys bits n)) gives 12
+      ∷ [])
 
--- the count is the number of leaves; with 12 it is the number of places needed, which is the same
-unfoldable pub writeLeaves : (m s : ℕ) (keys bits : List ℕ) (n : ℕ) (leafKeys leafFeatures : List ℕ) → Counted
-writeLeaves m s keys bits n leafKeys leafFeatures =
-    record {
-      refusal = writeLeavesRefusal m s keys bits n leafKeys leafFeatures;
-      count = accepted (writeLeavesRefusal m s keys bits n leafKeys leafFeatures)
-          (length (leavesIn keys bits n))
-          (cond (eqb (writeLeavesRefusal m s keys bits n leafKeys leafFeatures) 12) (length (leavesIn keys bits n)) 0);
-    }
+  -- the count is the number of leaves; with 12 it is the number of places needed, which is the same
+  unfoldable pub writeLeaves : Counted
+  writeLeaves =
+      record {
+        refusal = writeLeavesRefusal;
+        count = accepted writeLeavesRefusal
+            (length (leavesIn keys bits n))
+            (cond (eqb writeLeavesRefusal 12) (length (leavesIn keys bits n)) 0);
+      }
 
-unfoldable pub writtenLeafKeys : (m s : ℕ) (keys bits : List ℕ) (n : ℕ) (leafKeys leafFeatures : List ℕ) → List ℕ
-writtenLeafKeys m s keys bits n leafKeys leafFeatures =
-    accepted (writeLeavesRefusal m s keys bits n leafKeys leafFeatures) (over (keysOf (leavesIn keys bits n)) leafKeys) leafKeys
+  unfoldable pub writtenLeafKeys : List ℕ
+  writtenLeafKeys = accepted writeLeavesRefusal (over (keysOf (leavesIn keys bits n)) leafKeys) leafKeys
 
-unfoldable pub writtenLeafFeatures : (m s : ℕ) (keys bits : List ℕ) (n : ℕ) (leafKeys leafFeatures : List ℕ) → List ℕ
-writtenLeafFeatures m s keys bits n leafKeys leafFeatures =
-    accepted (writeLeavesRefusal m s keys bits n leafKeys leafFeatures) (over (valuesOf (leavesIn keys bits n)) leafFeatures) leafFeatures
+  unfoldable pub writtenLeafFeatures : List ℕ
+  writtenLeafFeatures = accepted writeLeavesRefusal (over (valuesOf (leavesIn keys bits n)) leafFeatures) leafFeatures
