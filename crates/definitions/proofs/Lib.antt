@@ -28,6 +28,8 @@ pub mod AscendingKeys
 pub mod SelectMeans
 pub mod SelectAscends
 pub mod SelectAgree
+pub mod LargestBlocks
+pub mod LargestPixels
 pub mod WindowScan
 pub mod PixelSums
 pub mod CountOf
@@ -49,6 +51,9 @@ pub mod LastStep
 pub mod SoundLog
 pub mod FirstStep
 pub mod InForce
+pub mod WindowPaint
+pub mod GroupStep
+pub mod GroupBack
 pub mod Hidden
 pub mod Waivers
 pub mod OldFault

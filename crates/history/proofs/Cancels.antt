@@ -26,7 +26,7 @@ empty-answer m s b = refl
 
 -- a refused call leaves every buffer and count
 pub refused-left : (m s : ℕ) (b : Buffers) (c : Call) → (answer m s b c ≡ 0 → ⊥) → after m s b c ≡ b
-refused-left m s b (painting κ f) h = paint-left m s b κ f h
+refused-left m s b (painting x) h = paint-left m s b x h
 refused-left m s b takingBack h = back-left m s b h
 refused-left m s b redoing h = redo-left m s b h
 refused-left m s b emptying h = absurd (h (empty-answer m s b))
@@ -62,10 +62,10 @@ held-again : (held : List Paint) (x : Paint) (xs fixed : List Paint) (refusal : 
 unfolding keep withNext
 held-again held x xs fixed refusal e = rw (eq-eqb refusal 0 e)
 
-held-more : (κ f refusal : ℕ) (k : Kept) → refusal ≡ 0
-    → keep (painting κ f) refusal k ≡ record { held = record { key = κ; feature = f } ∷ k .held; undone = []; fixed = k .fixed }
+held-more : (x : Paint) (refusal : ℕ) (k : Kept) → refusal ≡ 0
+    → keep (painting x) refusal k ≡ record { held = x ∷ k .held; undone = []; fixed = k .fixed }
 unfolding keep
-held-more κ f refusal k e = rw (eq-eqb refusal 0 e)
+held-more x refusal k e = rw (eq-eqb refusal 0 e)
 
 held-zero : (x : Paint) (xs : List Paint) → backAnswer (x ∷ xs) ≡ 0
 unfolding backAnswer
@@ -145,25 +145,25 @@ module _ (m s : ℕ) (raster keys bits summary logKeys logValues : List ℕ) (ac
       kept-alike ((calls ++ (redoing ∷ [])) ++ (takingBack ∷ [])) calls
       (back-cancels (calls ++ (redoing ∷ [])) x (k .held) xs (k .fixed) (redo-restores calls (k .held) x xs (k .fixed) now) ∙ sym now)
 
-module _ (m s : ℕ) (raster keys bits summary logKeys logValues : List ℕ) (accept : surveyRefusal m s raster keys bits summary ≡ 0) (calls : List Call) (κ f : ℕ) where
+module _ (m s : ℕ) (raster keys bits summary logKeys logValues : List ℕ) (accept : surveyRefusal m s raster keys bits summary ≡ 0) (calls : List Call) (x : Paint) where
   abbrev begin : Buffers
   begin = built m s raster keys bits summary logKeys logValues
 
   -- the calls, and then a paint and a taking back
   abbrev undone : List Call
-  undone = (calls ++ (painting κ f ∷ [])) ++ (takingBack ∷ [])
+  undone = (calls ++ (painting x ∷ [])) ++ (takingBack ∷ [])
 
   -- an accepted paint that is taken back is the only one that can be redone, and leaves the other paints as they were
-  pub undone-kept : answer m s (run m s begin calls) (painting κ f) ≡ 0
+  pub undone-kept : answer m s (run m s begin calls) (painting x) ≡ 0
       → kept m s begin nothing undone
-      ≡ record { held = kept m s begin nothing calls .held; undone = record { key = κ; feature = f } ∷ []; fixed = kept m s begin nothing calls .fixed }
+      ≡ record { held = kept m s begin nothing calls .held; undone = x ∷ []; fixed = kept m s begin nothing calls .fixed }
   undone-kept e =
       let k : Kept = kept m s begin nothing calls in
-      back-cancels m s raster keys bits summary logKeys logValues accept (calls ++ (painting κ f ∷ [])) (record { key = κ; feature = f }) (k .held) [] (k .fixed)
-      (one-more m s raster keys bits summary logKeys logValues accept calls (painting κ f) ∙ held-more κ f (answer m s (run m s begin calls) (painting κ f)) k e)
+      back-cancels m s raster keys bits summary logKeys logValues accept (calls ++ (painting x ∷ [])) x (k .held) [] (k .fixed)
+      (one-more m s raster keys bits summary logKeys logValues accept calls (painting x) ∙ held-more x (answer m s (run m s begin calls) (painting x)) k e)
 
   -- and so the list
-  pub undone-list : answer m s (run m s begin calls) (painting κ f) ≡ 0
+  pub undone-list : answer m s (run m s begin calls) (painting x) ≡ 0
       → recordsOf (run m s begin undone .keys) (run m s begin undone .bits) (run m s begin undone .n)
       ≡ recordsOf (run m s begin calls .keys) (run m s begin calls .bits) (run m s begin calls .n)
   undone-list e =
@@ -173,7 +173,7 @@ module _ (m s : ℕ) (raster keys bits summary logKeys logValues : List ℕ) (ac
       ∙ sym (history m s raster keys bits summary logKeys logValues accept calls .list)
 
   -- and the summary
-  pub undone-summary : answer m s (run m s begin calls) (painting κ f) ≡ 0 → run m s begin undone .summary ≡ run m s begin calls .summary
+  pub undone-summary : answer m s (run m s begin calls) (painting x) ≡ 0 → run m s begin undone .summary ≡ run m s begin calls .summary
   undone-summary e =
       history m s raster keys bits summary logKeys logValues accept undone .summary-left
       ∙ ap (λ k. summaryOf m s (pictureLeft m raster k)) (undone-kept e)
@@ -181,7 +181,7 @@ module _ (m s : ℕ) (raster keys bits summary logKeys logValues : List ℕ) (ac
       ∙ sym (history m s raster keys bits summary logKeys logValues accept calls .summary-left)
 
   -- and the records in force
-  pub undone-log : answer m s (run m s begin calls) (painting κ f) ≡ 0
+  pub undone-log : answer m s (run m s begin calls) (painting x) ≡ 0
       → recordsOf (run m s begin undone .logKeys) (run m s begin undone .logValues) (run m s begin undone .inForce)
       ≡ recordsOf (run m s begin calls .logKeys) (run m s begin calls .logValues) (run m s begin calls .inForce)
   undone-log e =

@@ -7,11 +7,14 @@ use mathlib.Core.List.{List, [], _∷_, _++_}
 use Rattle.keys.specs.Block.{inBlock}
 use Rattle.keys.proofs.Cases.{decide}
 use Rattle.definitions.specs.Picture.{Picture, featuresBelow}
-use Rattle.definitions.specs.Edit.{paintIn}
+use Rattle.definitions.specs.Edit.{paintIn, fillWindow}
+use Rattle.definitions.specs.Window.{inWindow}
+use Rattle.definitions.specs.declared.Window.{Window}
 use Rattle.definitions.proofs.Pixels.{Agree}
 use Rattle.definitions.proofs.Features.{below-to, below-from}
 use Rattle.definitions.proofs.Put.{put-in, put-out}
-use Rattle.history.specs.History.{Paint, drawn}
+use Rattle.definitions.proofs.WindowPaint.{fill-in, fill-out}
+use Rattle.history.specs.History.{Paint, applied, drawn}
 
 -- no paint leaves the picture
 pub drawn-none : (m : ℕ) (p : Picture) → drawn m p [] ≡ p
@@ -19,7 +22,7 @@ unfolding drawn
 drawn-none m p = refl
 
 -- the latest paint comes last
-pub drawn-latest : (m : ℕ) (p : Picture) (x : Paint) (xs : List Paint) → drawn m p (x ∷ xs) ≡ paintIn m (x .key) (x .feature) (drawn m p xs)
+pub drawn-latest : (m : ℕ) (p : Picture) (x : Paint) (xs : List Paint) → drawn m p (x ∷ xs) ≡ applied m x (drawn m p xs)
 unfolding drawn
 drawn-latest m p x xs = refl
 
@@ -28,7 +31,7 @@ pub drawn-append : (m : ℕ) (p : Picture) (xs ys : List Paint) → drawn m p (x
 drawn-append m p [] ys = sym (drawn-none m (drawn m p ys))
 drawn-append m p (x ∷ xs) ys =
     drawn-latest m p x (xs ++ ys)
-    ∙ ap (λ q. paintIn m (x .key) (x .feature) q) (drawn-append m p xs ys)
+    ∙ ap (applied m x) (drawn-append m p xs ys)
     ∙ sym (drawn-latest m (drawn m p ys) x xs)
 
 -- a painted pixel of the block has the feature
@@ -55,3 +58,18 @@ paint-below m s κ f p k r c h e =
     (λ a b w. decide (inBlock m κ a b)
     (λ i. rw (paint-inside m κ f p a b i) h)
     (λ o. rw (paint-outside m κ f p a b o) (below-to s p k r c e a b w)))
+
+-- and so after the same paint of a window
+pub fill-agree : (w : Window) (f : ℕ) (p q : Picture) (k r c : ℕ) → Agree p q k r c → Agree (fillWindow w f p) (fillWindow w f q) k r c
+fill-agree w f p q k r c h a b i =
+    decide (inWindow w a b)
+    (λ e. fill-in w f p a b e ∙ sym (fill-in w f q a b e))
+    (λ e. fill-out w f p a b e ∙ h a b i ∙ sym (fill-out w f q a b e))
+
+-- which leaves features below s too
+pub fill-below : (s : ℕ) (w : Window) (f : ℕ) (p : Picture) (k r c : ℕ) → f < s → featuresBelow s p k r c ≡ true → featuresBelow s (fillWindow w f p) k r c ≡ true
+fill-below s w f p k r c h e =
+    below-from s (fillWindow w f p) k r c
+    (λ a b i. decide (inWindow w a b)
+    (λ inner. rw (fill-in w f p a b inner) h)
+    (λ outer. rw (fill-out w f p a b outer) (below-to s p k r c e a b i)))

@@ -1,19 +1,19 @@
 -- What holds after each call of a history: list and summary are those of the first picture with the paints applied, the log is that of the paints held and
 -- then of those undone, and every picture of the past and of the paints undone is legal. So the list, the summary and the log pass their checks, and a refused call keeps all this. Rests on Past and the slices.
-use Prim.Native.Nat.{ℕ, max}
+use Prim.Native.Nat.{ℕ, _≤_, max}
 use mathlib.Core.Path.{_≡_, sym, ap, _∙_}
-use mathlib.Core.Bool.{Bool, true, false, not, _&&_}
+use mathlib.Core.Bool.{Bool, true, false, not, _&&_, _||_}
 use mathlib.Core.List.{List}
 use native.Mathlib.Omega.{arith}
-use lib.Dec.{leb}
-use borrow.Author.Tests.{le-leb}
-use Rattle.keys.specs.Key.{rootKey}
-use Rattle.keys.proofs.Cases.{and-both}
+use lib.Dec.{leb, ltb, eqb}
+use borrow.Author.Tests.{le-leb, ltb-false}
+use Rattle.keys.specs.Key.{rootKey, deepestLevel, slotLimit}
+use Rattle.keys.proofs.Cases.{and-both, neither-right}
 use Rattle.definitions.specs.Picture.{Picture}
 use Rattle.definitions.specs.List.{listOfPicture}
 use Rattle.definitions.specs.Read.{room, recordsOf, pictureOf, isListOfBlock, isList}
 use Rattle.definitions.specs.Area.{summaryOf, noSummary}
-use Rattle.definitions.specs.Log.{isSound, toRedo, noLog}
+use Rattle.definitions.specs.Log.{groupMark, isSound, toRedo, noLog}
 use Rattle.definitions.specs.Refusal.{badSettings}
 use Rattle.definitions.proofs.ReadBack.{root-keys}
 use Rattle.definitions.proofs.SummaryOf.{summary-agree}
@@ -75,6 +75,13 @@ module _ {m s : ℕ} {p : Picture} {keys bits logKeys logValues : List ℕ} {b :
       ∙ summary-right m s (pictureOf m (listOfPicture m (now m p k))) (b .summary)
       (h .counts ∙ sym (summary-agree m s (pictureOf m (listOfPicture m (now m p k))) (now m p k) (map-back m (now m p k))))
 
+  -- the mark of a group is no feature
+  pub now-few : s ≤ groupMark
+  unfolding badSettings
+  now-few =
+      let small = ltb-false slotLimit s (neither-right (eqb s 0) (ltb slotLimit s) (neither-right (ltb deepestLevel m) (eqb s 0 || ltb slotLimit s) (h .settings))) in
+      omega arith
+
   -- both are sound: refusal 5 does not come
   pub now-is-log : noLog m s (b .logKeys) (b .logValues) (b .used) (b .inForce) ≡ false
   unfolding noLog
@@ -87,8 +94,8 @@ module _ {m s : ℕ} {p : Picture} {keys bits logKeys logValues : List ℕ} {b :
       (and-both (there && within && front) (isSound m s (toRedo (b .logKeys) (b .logValues) (b .used) (b .inForce)))
       (and-both (there && within) front
       (and-both there within (le-leb _ _ (shown-room (h .log .shown))) (le-leb (b .inForce) (b .used) (omega arith)))
-      (ap (λ l. isSound m s l) now-force ∙ past-sound (h .past)))
-      (ap (λ l. isSound m s l) now-redo ∙ future-sound (past-legal (h .past) .below) (h .future)))
+      (ap (λ l. isSound m s l) now-force ∙ past-sound now-few (h .past)))
+      (ap (λ l. isSound m s l) now-redo ∙ future-sound now-few (past-legal (h .past) .below) (h .future)))
 
 -- the call c keeps the invariant
 abbrev pub Keeps : ℕ → ℕ → Picture → List ℕ → List ℕ → List ℕ → List ℕ → Buffers → Kept → ℕ → ℕ → Call → Type 0

@@ -2,6 +2,8 @@ pub mod Buffers
 pub mod Shown
 pub mod Drawn
 pub mod Content
+pub mod Fit
+pub mod Applied
 pub mod Past
 pub mod Slices
 pub mod LogSlices
@@ -16,6 +18,7 @@ pub mod BuildStep
 pub mod Theorem
 pub mod Cancels
 pub mod MapAHistory
+pub mod MapAWindows
 pub mod OfficeShares
 pub mod OfficeIsolation
 pub mod OfficeTheorem

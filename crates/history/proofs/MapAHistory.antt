@@ -13,20 +13,20 @@ use Rattle.definitions.specs.Refusal.{first, badSettings, badLength, badPixel}
 use Rattle.definitions.specs.Window.{featuresOfRow, featuresOfRows}
 use Rattle.definitions.specs.Area.{countOf, pixelsWith, countsFrom, summaryBelow, summaryOf, sameNumbers, noSummary}
 use Rattle.definitions.specs.Edit.{put, paintIn, contentOf}
-use Rattle.definitions.specs.Log.{closed, entryOf, countRecord, lastRecord, lastKey, lastFeature, lastCount, beforeLast, lastContent, isContent, closes, lastIsEntry, dividesIn, isSound, firstIn, firstEntry, noLog}
+use Rattle.definitions.specs.Log.{closed, entryOf, countRecord, lastRecord, lastKey, lastFeature, lastCount, beforeLast, lastContent, isContent, closes, lastIsEntry, endsInMark, stepCount, stepEntries, beforeEntries, beforeStep, lastIsStep, dividesIn, isSound, firstIn, firstStep, putBack, paintAgain, noLog}
 use Rattle.definitions.specs.Calls.Survey.{surveyRefusal, survey, surveyKeys, surveyBits, surveySummary}
 use Rattle.definitions.specs.Calls.Paint.{painted, gained, paintRefusal, paint, paintKeys, paintBits, paintSummary, paintLogKeys, paintLogValues}
 use Rattle.definitions.specs.Calls.TakeBack.{restored, takeBackRefusal, forceBefore, takeBack, takeBackKeys, takeBackBits, takeBackSummary, takeBackLogKeys, takeBackLogValues}
 use Rattle.definitions.specs.Calls.Redo.{redone, redoRefusal, forceAfter, redo, redoKeys, redoBits, redoSummary, redoLogKeys, redoLogValues}
-use Rattle.history.specs.History.{Call, painting, takingBack, redoing, emptying, Buffers, nothing, withoutLatest, withNext, built, answer, after, run, keep, kept, drawn, pictureLeft, rasterLeft}
+use Rattle.history.specs.History.{Call, ofBlock, painting, takingBack, redoing, emptying, Buffers, nothing, withoutLatest, withNext, built, answer, after, run, keep, kept, applied, drawn, pictureLeft, rasterLeft}
 
 -- the answers of a run of calls
-unfoldable answers : ℕ → ℕ → Buffers → List Call → List ℕ
+unfoldable pub answers : ℕ → ℕ → Buffers → List Call → List ℕ
 answers m s b [] = []
 answers m s b (c ∷ cs) = answer m s b c ∷ answers m s (after m s b c) cs
 
 -- m = 2, s = 3, rows 0011, 0012, 2200, 2200
-abbrev mapA : List ℕ
+abbrev pub mapA : List ℕ
 mapA = 0 ∷ 0 ∷ 1 ∷ 1 ∷ 0 ∷ 0 ∷ 1 ∷ 2 ∷ 2 ∷ 2 ∷ 0 ∷ 0 ∷ 2 ∷ 2 ∷ 0 ∷ 0 ∷ []
 
 -- built in 12 places of the list, 48 of the summary, with 8 of the log
@@ -36,29 +36,29 @@ start = built 2 3 mapA (replicate 12 99) (replicate 12 98) (replicate 48 95) (re
 -- each call with what comes of it
 abbrev calls : List Call
 calls =
-    painting 14 1  -- 24 with 1, A9: the list shrinks to 5, the log gains 3
-    ∷ painting 4 1  -- 8: not valid
+    painting (ofBlock 14 1)  -- 24 with 1, A9: the list shrinks to 5, the log gains 3
+    ∷ painting (ofBlock 4 1)  -- 8: not valid
     ∷ redoing  -- 20
     ∷ takingBack  -- A10
     ∷ takingBack  -- 11
     ∷ redoing  -- A9 again
     ∷ takingBack
-    ∷ painting 18 0  -- 33 with 0, A11: 13 records in room 12, 9; nothing is dropped
-    ∷ painting 10 2  -- 20 with 2, A12: the log gains 7, over what could be redone
+    ∷ painting (ofBlock 18 0)  -- 33 with 0, A11: 13 records in room 12, 9; nothing is dropped
+    ∷ painting (ofBlock 10 2)  -- 20 with 2, A12: the log gains 7, over what could be redone
     ∷ redoing  -- 20
-    ∷ painting 14 1  -- 10 records in a log of room 8, 10
+    ∷ painting (ofBlock 14 1)  -- 10 records in a log of room 8, 10
     ∷ emptying
     ∷ takingBack  -- 11
     ∷ []
 
 -- the counts of a quadrant's four pixels that have one feature
-abbrev four : ℕ → ℕ → ℕ → List ℕ
+abbrev pub four : ℕ → ℕ → ℕ → List ℕ
 four a b c = a ∷ b ∷ c ∷ a ∷ b ∷ c ∷ a ∷ b ∷ c ∷ a ∷ b ∷ c ∷ []
 
 -- what the history gives, the list being that of the raster, then zeroes up to 9 places, and then what was lent
 record Gives : Type 0 where
   answered : answers 2 3 start calls ≡ 0 ∷ 8 ∷ 20 ∷ 0 ∷ 11 ∷ 0 ∷ 0 ∷ 9 ∷ 0 ∷ 20 ∷ 10 ∷ 0 ∷ 11 ∷ []
-  paints : kept 2 3 start nothing calls ≡ record { held = []; undone = []; fixed = record { key = 10; feature = 2 } ∷ [] }
+  paints : kept 2 3 start nothing calls ≡ record { held = []; undone = []; fixed = ofBlock 10 2 ∷ [] }
   raster : rasterLeft 2 mapA (kept 2 3 start nothing calls) ≡ 0 ∷ 0 ∷ 2 ∷ 2 ∷ 0 ∷ 0 ∷ 2 ∷ 2 ∷ 2 ∷ 2 ∷ 0 ∷ 0 ∷ 2 ∷ 2 ∷ 0 ∷ 0 ∷ []
   buffers : run 2 3 start calls
       ≡ record {
@@ -73,12 +73,13 @@ record Gives : Type 0 where
       }
 
 gives : Gives
-unfolding answers answer after run kept keep withoutLatest withNext built drawn pictureLeft rasterLeft
+unfolding answers answer after run kept keep withoutLatest withNext built applied drawn pictureLeft rasterLeft
     validKey digitsOf digitsThenZeros onlyZeros levelOf digitsBeforeZero heightOf rowOf columnOf sideOf inBlock pixelKey
     everyPixel oneFeature featuresBelow bitsOf unionOfFour twosIn featureOf listOf
     paired valueAt pictureOf sameRecords isListOfBlock isList first badSettings badLength badPixel featuresOfRow featuresOfRows
     countOf pixelsWith countsFrom summaryBelow summaryOf sameNumbers noSummary put paintIn contentOf
-    closed entryOf countRecord lastRecord lastKey lastFeature lastCount beforeLast lastContent isContent closes lastIsEntry dividesIn isSound firstIn firstEntry noLog
+    closed entryOf countRecord lastRecord lastKey lastFeature lastCount beforeLast lastContent isContent closes lastIsEntry
+    endsInMark stepCount stepEntries beforeEntries beforeStep lastIsStep dividesIn isSound firstIn firstStep putBack paintAgain noLog
     surveyRefusal survey surveyKeys surveyBits surveySummary painted gained paintRefusal paint paintKeys paintBits paintSummary paintLogKeys paintLogValues
     restored takeBackRefusal forceBefore takeBack takeBackKeys takeBackBits takeBackSummary takeBackLogKeys takeBackLogValues
     redone redoRefusal forceAfter redo redoKeys redoBits redoSummary redoLogKeys redoLogValues

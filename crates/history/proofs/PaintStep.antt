@@ -1,182 +1,191 @@
--- A paint in a history: refused it leaves everything, accepted it holds one paint more and drops those undone, and the invariant is kept. Rests on Invariant and Content.
-use Prim.Native.Nat.{ℕ, _+_, _≤_, _<_, max}
+-- A paint in a history, of a block or of a window: refused it leaves everything, accepted it holds one paint more and drops those undone, and the invariant is
+-- kept. Rests on Invariant and Applied.
+use Prim.Native.Nat.{ℕ, _+_, _≤_, max}
 use mathlib.Core.Path.{_≡_, refl, sym, ap, ap₂, _∙_}
-use mathlib.Core.Bool.{true}
 use mathlib.Core.List.{List, [], _∷_}
 use lib.ListN.{length}
 use lib.Dec.{ltb}
 use borrow.Author.Tests.{ne-eqb, eq-eqb, leb-false, ltb-false, not-false}
-use Rattle.keys.specs.Key.{validKey}
 use Rattle.keys.proofs.Cases.{equal}
 use Rattle.definitions.specs.Picture.{Picture}
 use Rattle.definitions.specs.List.{Record, listOfPicture, keysOf, valuesOf}
 use Rattle.definitions.specs.Read.{room, recordsOf, pictureOf}
 use Rattle.definitions.specs.Buffer.{replaced}
 use Rattle.definitions.specs.Area.{summaryOf, noSummary}
-use Rattle.definitions.specs.Edit.{paintIn}
-use Rattle.definitions.specs.Log.{entryOf, noLog}
+use Rattle.definitions.specs.Window.{badWindow}
+use Rattle.definitions.specs.Log.{noLog}
 use Rattle.definitions.specs.Refusal.{Row, _gives_, badSettings, noList, badKey, badFeature}
-use Rattle.definitions.specs.Calls.Paint.{paintedPicture, painted, gained, logged, paintRefusal, paint, paintKeys, paintBits, paintSummary, paintLogKeys, paintLogValues}
+use Rattle.definitions.specs.Calls.Paint.{painted, gained, logged, paintRefusal, paint, paintKeys, paintBits, paintSummary, paintLogKeys, paintLogValues}
+use Rattle.definitions.specs.Calls.PaintWindow.{filled, groupGained, paintWindowRefusal, paintWindow, paintWindowKeys, paintWindowBits, paintWindowSummary, paintWindowLogKeys, paintWindowLogValues}
 use Rattle.definitions.proofs.First.{first-none}
-use Rattle.history.specs.History.{Buffers, Paint, Kept, painting, drawn, after, answer, keep}
-use Rattle.history.proofs.Drawn.{drawn-latest, paint-below}
-use Rattle.history.proofs.Content.{painted-list, painted-summary, gained-entry}
+use Rattle.history.specs.History.{Buffers, Paint, ofBlock, ofWindow, Kept, painting, applied, stepOf, drawn, after, answer, keep}
+use Rattle.history.proofs.Drawn.{drawn-latest}
+use Rattle.history.proofs.Fit.{Fit, block-fit, window-fit, applied-below}
+use Rattle.history.proofs.Applied.{applied-list, applied-summary, gained-step}
 use Rattle.history.proofs.Past.{Legal, log-latest, after-none, later, past-legal, no-more}
 use Rattle.history.proofs.Slices.{list-replaced, list-room}
 use Rattle.history.proofs.LogSlices.{log-gains}
 use Rattle.history.proofs.Invariant.{ground, now, Invariant, now-records, Keeps, same-keeps}
 
--- the list that a paint makes of these buffers
-abbrev pub listAfter : ℕ → Buffers → ℕ → ℕ → List Record
-listAfter m b κ f = painted m (recordsOf (b .keys) (b .bits) (b .n)) κ f
+-- the picture that these buffers show
+abbrev pub shownIn : ℕ → Buffers → Picture
+shownIn m b = pictureOf m (recordsOf (b .keys) (b .bits) (b .n))
+
+-- the list that a paint makes of them
+abbrev pub listAfter : ℕ → Buffers → Paint → List Record
+listAfter m b x = listOfPicture m (applied m x (shownIn m b))
 
 -- the summary that it makes of theirs
-abbrev pub summaryAfter : ℕ → ℕ → Buffers → ℕ → ℕ → List ℕ
-summaryAfter m s b κ f = summaryOf m s (paintedPicture m (recordsOf (b .keys) (b .bits) (b .n)) κ f)
+abbrev pub summaryAfter : ℕ → ℕ → Buffers → Paint → List ℕ
+summaryAfter m s b x = summaryOf m s (applied m x (shownIn m b))
 
--- the entry that it puts behind the log
-abbrev pub entryIn : ℕ → Buffers → ℕ → ℕ → List Record
-entryIn m b κ f = gained m (recordsOf (b .keys) (b .bits) (b .n)) κ f
+-- the step that it puts behind the log
+abbrev pub stepIn : ℕ → Buffers → Paint → List Record
+stepIn m b x = stepOf m (shownIn m b) x
 
--- the buffers with a list and a summary in place of theirs and an entry behind the log
-abbrev pub withEntry : Buffers → List Record → List ℕ → List Record → Buffers
-withEntry b l summary entry =
+-- the buffers with a list and a summary in place of theirs and a step behind the log
+abbrev pub withStep : Buffers → List Record → List ℕ → List Record → Buffers
+withStep b l summary step =
     record {
       keys = replaced (b .n) (keysOf l) (b .keys);
       bits = replaced (b .n) (valuesOf l) (b .bits);
       n = length l;
       summary = summary;
-      logKeys = logged (b .used) (b .inForce) (keysOf entry) (b .logKeys);
-      logValues = logged (b .used) (b .inForce) (valuesOf entry) (b .logValues);
-      used = b .inForce + length entry;
-      inForce = b .inForce + length entry;
+      logKeys = logged (b .used) (b .inForce) (keysOf step) (b .logKeys);
+      logValues = logged (b .used) (b .inForce) (valuesOf step) (b .logValues);
+      used = b .inForce + length step;
+      inForce = b .inForce + length step;
     }
 
+-- the table of refusals of a paint, by the two rows that tell what it paints
+abbrev rows : ℕ → ℕ → Buffers → Row → ℕ → Paint → List Row
+rows m s b place f x =
+    badSettings m s gives 1
+    ∷ noList m s (b .keys) (b .bits) (b .n) gives 4
+    ∷ noSummary m s (shownIn m b) (b .summary) gives 18
+    ∷ noLog m s (b .logKeys) (b .logValues) (b .used) (b .inForce) gives 5
+    ∷ place
+    ∷ badFeature s f gives 7
+    ∷ ltb (room (b .logKeys) (b .logValues)) (b .inForce + length (stepIn m b x)) gives 10
+    ∷ ltb (room (b .keys) (b .bits)) (length (listAfter m b x)) gives 9
+    ∷ []
+
 -- what an accepted paint passed
-record Passed (m s : ℕ) (b : Buffers) (κ f : ℕ) : Type 0 where
-  valid : validKey m κ ≡ true
-  below : f < s
-  logRoom : b .inForce + length (entryIn m b κ f) ≤ room (b .logKeys) (b .logValues)
-  listRoom : length (listAfter m b κ f) ≤ room (b .keys) (b .bits)
+record Passed (m s : ℕ) (b : Buffers) (x : Paint) : Type 0 where
+  fit : Fit m s x
+  logRoom : b .inForce + length (stepIn m b x) ≤ room (b .logKeys) (b .logValues)
+  listRoom : length (listAfter m b x) ≤ room (b .keys) (b .bits)
 
-module _ (m s : ℕ) (b : Buffers) (κ f : ℕ) where
-  -- the table of refusals
-  abbrev rows : List Row
-  rows =
-      badSettings m s gives 1
-      ∷ noList m s (b .keys) (b .bits) (b .n) gives 4
-      ∷ noSummary m s (pictureOf m (recordsOf (b .keys) (b .bits) (b .n))) (b .summary) gives 18
-      ∷ noLog m s (b .logKeys) (b .logValues) (b .used) (b .inForce) gives 5
-      ∷ badKey m κ gives 8
-      ∷ badFeature s f gives 7
-      ∷ ltb (room (b .logKeys) (b .logValues)) (b .inForce + length (entryIn m b κ f)) gives 10
-      ∷ ltb (room (b .keys) (b .bits)) (length (listAfter m b κ f)) gives 9
-      ∷ []
-
-  passed : answer m s b (painting κ f) ≡ 0 → Passed m s b κ f
-  unfolding answer paint paintRefusal
-  passed e =
-      let none = first-none rows refl e in
+module _ (m s : ℕ) (b : Buffers) where
+  passed : (x : Paint) → answer m s b (painting x) ≡ 0 → Passed m s b x
+  unfolding answer paint paintRefusal painted gained paintWindow paintWindowRefusal filled groupGained applied stepOf
+  passed (ofBlock κ f) e =
+      let none = first-none (rows m s b (badKey m κ gives 8) f (ofBlock κ f)) refl e in
       record {
-        valid = not-false _ (none .1 .1 .1 .1 .0);
-        below = leb-false s f (none .1 .1 .1 .1 .1 .0);
+        fit = block-fit κ f (not-false _ (none .1 .1 .1 .1 .0)) (leb-false s f (none .1 .1 .1 .1 .1 .0));
+        logRoom = ltb-false _ _ (none .1 .1 .1 .1 .1 .1 .0);
+        listRoom = ltb-false _ _ (none .1 .1 .1 .1 .1 .1 .1 .0);
+      }
+  passed (ofWindow w f) e =
+      let none = first-none (rows m s b (badWindow m w gives 6) f (ofWindow w f)) refl e in
+      record {
+        fit = window-fit w f (not-false _ (none .1 .1 .1 .1 .0)) (leb-false s f (none .1 .1 .1 .1 .1 .0));
         logRoom = ltb-false _ _ (none .1 .1 .1 .1 .1 .1 .0);
         listRoom = ltb-false _ _ (none .1 .1 .1 .1 .1 .1 .1 .0);
       }
 
-  -- an accepted paint writes its list, its summary and its entry
-  pub paint-done : answer m s b (painting κ f) ≡ 0 → after m s b (painting κ f) ≡ withEntry b (listAfter m b κ f) (summaryAfter m s b κ f) (entryIn m b κ f)
-  unfolding answer after paint paintKeys paintBits paintSummary paintLogKeys paintLogValues
-  paint-done e = rw (eq-eqb _ 0 e)
+  -- an accepted paint writes its list, its summary and its step
+  pub paint-done : (x : Paint) → answer m s b (painting x) ≡ 0
+      → after m s b (painting x) ≡ withStep b (listAfter m b x) (summaryAfter m s b x) (stepIn m b x)
+  unfolding answer after applied stepOf painted gained filled groupGained paint paintKeys paintBits paintSummary paintLogKeys paintLogValues paintWindow paintWindowKeys paintWindowBits paintWindowSummary paintWindowLogKeys paintWindowLogValues
+  paint-done (ofBlock κ f) e = rw (eq-eqb _ 0 e)
+  paint-done (ofWindow w f) e = rw (eq-eqb _ 0 e)
 
   -- a refused paint leaves the buffers
-  pub paint-left : (answer m s b (painting κ f) ≡ 0 → ⊥) → after m s b (painting κ f) ≡ b
-  unfolding answer after paint paintKeys paintBits paintSummary paintLogKeys paintLogValues
-  paint-left h = rw (ne-eqb _ 0 h)
+  pub paint-left : (x : Paint) → (answer m s b (painting x) ≡ 0 → ⊥) → after m s b (painting x) ≡ b
+  unfolding answer after paint paintKeys paintBits paintSummary paintLogKeys paintLogValues paintWindow paintWindowKeys paintWindowBits paintWindowSummary paintWindowLogKeys paintWindowLogValues
+  paint-left (ofBlock κ f) h = rw (ne-eqb _ 0 h)
+  paint-left (ofWindow w f) h = rw (ne-eqb _ 0 h)
 
   -- and the paints
-  keep-left : (k : Kept) → (answer m s b (painting κ f) ≡ 0 → ⊥) → keep (painting κ f) (answer m s b (painting κ f)) k ≡ k
+  keep-left : (x : Paint) (k : Kept) → (answer m s b (painting x) ≡ 0 → ⊥) → keep (painting x) (answer m s b (painting x)) k ≡ k
   unfolding keep
-  keep-left k h = rw (ne-eqb _ 0 h)
+  keep-left x k h = rw (ne-eqb _ 0 h)
 
   -- an accepted paint is held
-  keep-done : (k : Kept) → answer m s b (painting κ f) ≡ 0
-      → keep (painting κ f) (answer m s b (painting κ f)) k ≡ record { held = record { key = κ; feature = f } ∷ k .held; undone = []; fixed = k .fixed }
+  keep-done : (x : Paint) (k : Kept) → answer m s b (painting x) ≡ 0
+      → keep (painting x) (answer m s b (painting x)) k ≡ record { held = x ∷ k .held; undone = []; fixed = k .fixed }
   unfolding keep
-  keep-done k e = rw (eq-eqb _ 0 e)
+  keep-done x k e = rw (eq-eqb _ 0 e)
 
 module _ {m s : ℕ} {p : Picture} {keys bits logKeys logValues : List ℕ} {b : Buffers} {k : Kept} {inList inLog : ℕ}
-    (κ : ℕ) (h : Invariant m s p keys bits logKeys logValues b k inList inLog) where
+    (x : Paint) (h : Invariant m s p keys bits logKeys logValues b k inList inLog) where
   -- the list that a paint makes is that of the picture with it
-  pub list-now : (f : ℕ) → listAfter m b κ f ≡ listOfPicture m (paintIn m κ f (now m p k))
-  list-now f = ap (λ l. painted m l κ f) (now-records h) ∙ painted-list m κ f (now m p k)
+  pub list-now : listAfter m b x ≡ listOfPicture m (applied m x (now m p k))
+  list-now = ap (λ l. listOfPicture m (applied m x (pictureOf m l))) (now-records h) ∙ applied-list m x (now m p k)
 
   -- its summary is that of the same picture
-  summary-now : (f : ℕ) → summaryAfter m s b κ f ≡ summaryOf m s (paintIn m κ f (now m p k))
-  summary-now f = ap (λ l. summaryOf m s (paintedPicture m l κ f)) (now-records h) ∙ painted-summary m s κ f (now m p k)
+  summary-now : summaryAfter m s b x ≡ summaryOf m s (applied m x (now m p k))
+  summary-now = ap (λ l. summaryOf m s (applied m x (pictureOf m l))) (now-records h) ∙ applied-summary m s x (now m p k)
 
-  -- its entry is that of the block in the picture before
-  pub entry-now : (f : ℕ) → validKey m κ ≡ true → entryIn m b κ f ≡ entryOf m (now m p k) κ f
-  entry-now f valid = ap (λ l. gained m l κ f) (now-records h) ∙ gained-entry m κ f (now m p k) valid
+  -- its step is that of the picture before
+  pub step-now : Fit m s x → stepIn m b x ≡ stepOf m (now m p k) x
+  step-now fit = ap (λ l. stepOf m (pictureOf m l) x) (now-records h) ∙ gained-step (now m p k) fit
 
 module _ {m s : ℕ} {p : Picture} {keys bits logKeys logValues : List ℕ} {b : Buffers} {k : Kept} {inList inLog : ℕ}
-    (κ f : ℕ) (h : Invariant m s p keys bits logKeys logValues b k inList inLog) (e : answer m s b (painting κ f) ≡ 0) where
-  abbrev latest : Paint
-  latest = record { key = κ; feature = f }
-
+    (x : Paint) (h : Invariant m s p keys bits logKeys logValues b k inList inLog) (e : answer m s b (painting x) ≡ 0) where
   -- the list afterwards is that of the picture with the paint
-  list-is : listAfter m b κ f ≡ listOfPicture m (drawn m (ground m p k) (latest ∷ k .held))
-  list-is = list-now κ h f ∙ ap (λ q. listOfPicture m q) (sym (drawn-latest m (ground m p k) latest (k .held)))
+  list-is : listAfter m b x ≡ listOfPicture m (drawn m (ground m p k) (x ∷ k .held))
+  list-is = list-now x h ∙ ap (λ q. listOfPicture m q) (sym (drawn-latest m (ground m p k) x (k .held)))
 
-  summary-is : summaryAfter m s b κ f ≡ summaryOf m s (drawn m (ground m p k) (latest ∷ k .held))
-  summary-is = summary-now κ h f ∙ ap (λ q. summaryOf m s q) (sym (drawn-latest m (ground m p k) latest (k .held)))
+  summary-is : summaryAfter m s b x ≡ summaryOf m s (drawn m (ground m p k) (x ∷ k .held))
+  summary-is = summary-now x h ∙ ap (λ q. summaryOf m s q) (sym (drawn-latest m (ground m p k) x (k .held)))
 
-  entry-is : entryIn m b κ f ≡ entryOf m (now m p k) κ f
-  entry-is = entry-now κ h f (passed m s b κ f e .valid)
+  step-is : stepIn m b x ≡ stepOf m (now m p k) x
+  step-is = step-now x h (passed m s b x e .fit)
 
   -- the picture with the paint is legal
-  legal-after : Legal m s (room keys bits) (drawn m (ground m p k) (latest ∷ k .held))
+  legal-after : Legal m s (room keys bits) (drawn m (ground m p k) (x ∷ k .held))
   legal-after = record {
     below =
-        rw (drawn-latest m (ground m p k) latest (k .held))
-        (paint-below m s κ f (now m p k) m 0 0 (passed m s b κ f e .below) (past-legal (h .past) .below));
-    fits = rw (← list-is, ← list-room (h .list)) (passed m s b κ f e .listRoom);
+        rw (drawn-latest m (ground m p k) x (k .held))
+        (applied-below (now m p k) (passed m s b x e .fit) (past-legal (h .past) .below));
+    fits = rw (← list-is, ← list-room (h .list)) (passed m s b x e .listRoom);
   }
 
-  -- the buffers with its list and entry keep the invariant
+  -- the buffers with its list and step keep the invariant
   paint-holds : Invariant m s p keys bits logKeys logValues
-      (withEntry b (listOfPicture m (drawn m (ground m p k) (latest ∷ k .held))) (summaryOf m s (drawn m (ground m p k) (latest ∷ k .held)))
-      (entryOf m (now m p k) κ f))
-      (record { held = latest ∷ k .held; undone = []; fixed = k .fixed })
-      (max inList (length (listOfPicture m (drawn m (ground m p k) (latest ∷ k .held)))))
-      (max inLog (b .inForce + length (entryOf m (now m p k) κ f)))
+      (withStep b (listOfPicture m (drawn m (ground m p k) (x ∷ k .held))) (summaryOf m s (drawn m (ground m p k) (x ∷ k .held))) (stepOf m (now m p k) x))
+      (record { held = x ∷ k .held; undone = []; fixed = k .fixed })
+      (max inList (length (listOfPicture m (drawn m (ground m p k) (x ∷ k .held)))))
+      (max inLog (b .inForce + length (stepOf m (now m p k) x)))
   paint-holds = record {
     settings = h .settings;
-    list = list-replaced (listOfPicture m (drawn m (ground m p k) (latest ∷ k .held))) (h .list) (legal-after .fits);
+    list = list-replaced (listOfPicture m (drawn m (ground m p k) (x ∷ k .held))) (h .list) (legal-after .fits);
     counts = refl;
     log =
-        rw (log-latest m (ground m p k) latest (k .held), after-none m (drawn m (ground m p k) (latest ∷ k .held)))
-        (log-gains (h .log) (entryOf m (now m p k) κ f) (rw entry-is at (passed m s b κ f e .logRoom)));
-    past = later (h .past) latest (passed m s b κ f e .valid) (passed m s b κ f e .below) legal-after;
+        rw (log-latest m (ground m p k) x (k .held), after-none m (drawn m (ground m p k) (x ∷ k .held)))
+        (log-gains (h .log) (stepOf m (now m p k) x) (rw step-is at (passed m s b x e .logRoom)));
+    past = later (h .past) x (passed m s b x e .fit) legal-after;
     future = no-more;
   }
 
   -- an accepted paint keeps the invariant
-  accepted-keeps : Keeps m s p keys bits logKeys logValues b k inList inLog (painting κ f)
+  accepted-keeps : Keeps m s p keys bits logKeys logValues b k inList inLog (painting x)
   accepted-keeps =
       rw (
-        keep-done m s b κ f k e,
-        paint-done m s b κ f e
-            ∙ ap₂ (λ l entry. withEntry b l (summaryAfter m s b κ f) entry) list-is entry-is
-            ∙ ap (λ counts. withEntry b (listOfPicture m (drawn m (ground m p k) (latest ∷ k .held))) counts (entryOf m (now m p k) κ f)) summary-is,
+        keep-done m s b x k e,
+        paint-done m s b x e
+            ∙ ap₂ (λ l step. withStep b l (summaryAfter m s b x) step) list-is step-is
+            ∙ ap (λ counts. withStep b (listOfPicture m (drawn m (ground m p k) (x ∷ k .held))) counts (stepOf m (now m p k) x)) summary-is,
       )
       paint-holds
 
 -- a paint keeps the invariant
-pub paint-keeps : {m s : ℕ} {p : Picture} {keys bits logKeys logValues : List ℕ} {b : Buffers} {k : Kept} {inList inLog : ℕ} (κ f : ℕ)
+pub paint-keeps : {m s : ℕ} {p : Picture} {keys bits logKeys logValues : List ℕ} {b : Buffers} {k : Kept} {inList inLog : ℕ} (x : Paint)
     → Invariant m s p keys bits logKeys logValues b k inList inLog
-    → Keeps m s p keys bits logKeys logValues b k inList inLog (painting κ f)
-paint-keeps {m} {s} {b = b} {k = k} κ f h =
-    equal (answer m s b (painting κ f)) 0
-    (λ done. accepted-keeps κ f h done)
-    (λ left. same-keeps (painting κ f) (paint-left m s b κ f left) (keep-left m s b κ f k left) h)
+    → Keeps m s p keys bits logKeys logValues b k inList inLog (painting x)
+paint-keeps {m} {s} {b = b} {k = k} x h =
+    equal (answer m s b (painting x)) 0
+    (λ done. accepted-keeps x h done)
+    (λ left. same-keeps (painting x) (paint-left m s b x left) (keep-left m s b x k left) h)

@@ -1,33 +1,34 @@
 -- A redo in a history: its answer is 20 where no paint is there to redo and 0 otherwise, it holds the next paint again, and the invariant is kept.
--- Rests on Invariant and Content.
+-- Rests on Invariant and Applied.
 use Prim.Native.Nat.{ℕ, _+_, _≤_, max}
 use mathlib.Core.Path.{_≡_, refl, sym, ap, ap₂, _∙_}
-use mathlib.Core.Bool.{false, not}
+use mathlib.Core.Bool.{true, false, not}
 use mathlib.Core.List.{List, [], _∷_, _++_}
 use native.Mathlib.Omega.{arith}
 use lib.ListN.{length, length-append}
 use lib.Dec.{ltb, eqb}
 use borrow.Author.Tests.{ne-eqb, eq-eqb, le-ltb}
-use Rattle.definitions.specs.Picture.{Picture}
+use Rattle.definitions.specs.Picture.{Picture, featuresBelow}
 use Rattle.definitions.specs.List.{Record, listOfPicture}
 use Rattle.definitions.specs.Read.{room, recordsOf, pictureOf}
 use Rattle.definitions.specs.Area.{summaryOf, noSummary}
-use Rattle.definitions.specs.Edit.{paintIn}
-use Rattle.definitions.specs.Log.{entryOf, firstEntry, toRedo, noLog}
+use Rattle.definitions.specs.Log.{firstStep, toRedo, noLog}
 use Rattle.definitions.specs.Refusal.{Row, _gives_, badSettings, noList}
 use Rattle.definitions.specs.Calls.Redo.{redonePicture, redone, forceAfter, redoRefusal, redo, redoKeys, redoBits, redoSummary, redoLogKeys, redoLogValues}
 use Rattle.definitions.proofs.First.{this, later, holds-first, none-first}
-use Rattle.definitions.proofs.SoundLog.{Entries}
-use Rattle.history.specs.History.{Buffers, Paint, Kept, redoing, withNext, drawn, logOf, logAfter, after, answer, keep}
+use Rattle.definitions.proofs.LastStep.{step-some}
+use Rattle.definitions.proofs.SoundLog.{Steps}
+use Rattle.history.specs.History.{Buffers, Paint, Kept, redoing, withNext, applied, stepOf, drawn, logOf, logAfter, after, answer, keep}
 use Rattle.history.specs.Claim.{redoAnswer}
 use Rattle.history.proofs.Drawn.{drawn-latest}
-use Rattle.history.proofs.Content.{first-next, redone-list, redone-summary}
-use Rattle.history.proofs.Past.{log-latest, entry-some, future-valid, future-below, future-legal, future-after, future-entries, after-none, after-next}
+use Rattle.history.proofs.Fit.{Fit, step-is}
+use Rattle.history.proofs.Applied.{first-next, redone-list, redone-summary}
+use Rattle.history.proofs.Past.{past-legal, log-latest, future-fit, future-legal, future-after, future-steps, after-none, after-next}
 use Rattle.history.proofs.Past as past
 use Rattle.history.proofs.Slices.{list-replaced, list-room}
 use Rattle.history.proofs.LogSlices.{log-counts, log-again}
 use Rattle.history.proofs.TakeBackStep.{withForce}
-use Rattle.history.proofs.Invariant.{now, Invariant, now-records, now-redo, now-is-list, now-is-summary, now-is-log, Keeps, same-keeps}
+use Rattle.history.proofs.Invariant.{now, Invariant, now-records, now-few, now-redo, now-is-list, now-is-summary, now-is-log, Keeps, same-keeps}
 
 -- the records to redo in these buffers
 abbrev redoIn : Buffers → List Record
@@ -41,9 +42,9 @@ listAfter m b = redone m (recordsOf (b .keys) (b .bits) (b .n)) (redoIn b)
 abbrev summaryAfter : ℕ → ℕ → Buffers → List ℕ
 summaryAfter m s b = summaryOf m s (redonePicture m (recordsOf (b .keys) (b .bits) (b .n)) (redoIn b))
 
--- the records in force with the next entry
+-- the records in force with the next step
 abbrev reached : Buffers → ℕ
-reached b = b .inForce + length (firstEntry (redoIn b))
+reached b = b .inForce + length (firstStep (redoIn b))
 
 module _ (m s : ℕ) (b : Buffers) where
   -- the table of refusals
@@ -104,34 +105,41 @@ module _ {m s : ℕ} {p : Picture} {keys bits logKeys logValues : List ℕ} {b :
   before = drawn m (drawn m p fixed) held
 
   abbrev painted : Picture
-  painted = paintIn m (x .key) (x .feature) before
+  painted = applied m x before
 
-  -- the paint's entry, and what can be redone after it
-  abbrev entry : List Record
-  entry = entryOf m before (x .key) (x .feature)
+  -- the paint's step, and what can be redone after it
+  abbrev step : List Record
+  step = stepOf m before x
 
   abbrev rest : List Record
   rest = logAfter m painted xs
 
-  rest-entries : Entries m s rest
-  rest-entries = future-entries (future-legal (h .future) .below) (future-after (h .future))
+  rest-steps : Steps m s rest
+  rest-steps = future-steps (future-legal (h .future) .below) (future-after (h .future))
+
+  -- the paint is fit, and the picture now is legal
+  next-fit : Fit m s x
+  next-fit = future-fit (h .future)
+
+  before-below : featuresBelow s before m 0 0 ≡ true
+  before-below = past-legal (h .past) .below
 
   -- the records to redo are both
-  redo-is : redoIn b ≡ entry ++ rest
+  redo-is : redoIn b ≡ step ++ rest
   redo-is = now-redo h ∙ after-next m before x xs
 
   -- the list afterwards is that of the painted picture
   list-is : listAfter m b ≡ listOfPicture m painted
-  list-is = ap₂ (redone m) (now-records h) redo-is ∙ redone-list m s (x .key) (x .feature) before rest-entries
+  list-is = ap₂ (redone m) (now-records h) redo-is ∙ redone-list before (now-few h) next-fit before-below rest-steps
 
   -- and so the summary
   summary-is : summaryAfter m s b ≡ summaryOf m s painted
   summary-is =
-      ap₂ (λ l log. summaryOf m s (redonePicture m l log)) (now-records h) redo-is ∙ redone-summary m s (x .key) (x .feature) before rest-entries
+      ap₂ (λ l log. summaryOf m s (redonePicture m l log)) (now-records h) redo-is ∙ redone-summary before (now-few h) next-fit before-below rest-steps
 
-  -- as many are in force afterwards as the entry adds
-  reached-is : reached b ≡ b .inForce + length entry
-  reached-is = ap (λ l. b .inForce + length (firstEntry l)) redo-is ∙ ap (λ l. b .inForce + length l) (first-next m s (x .key) (x .feature) before rest-entries)
+  -- as many are in force afterwards as the step adds
+  reached-is : reached b ≡ b .inForce + length step
+  reached-is = ap (λ l. b .inForce + length (firstStep l)) redo-is ∙ ap (λ l. b .inForce + length l) (first-next before (now-few h) next-fit before-below rest-steps)
 
   -- that list has room, as it had then: refusal 9 does not come
   painted-fits : length (listOfPicture m painted) ≤ room keys bits
@@ -141,13 +149,13 @@ module _ {m s : ℕ} {p : Picture} {keys bits logKeys logValues : List ℕ} {b :
   undone-accepted : answer m s b redoing ≡ 0
   undone-accepted =
       let counts = log-counts (h .log) in
-      let size = ap length (after-next m before x xs) ∙ length-append entry rest in
-      let some = entry-some m (x .key) (x .feature) before in
+      let size = ap length (after-next m before x xs) ∙ length-append step rest in
+      let some = step-some (step-is before next-fit before-below) in
       some-undone m s b (h .settings) (ap not (now-is-list h)) (now-is-summary h) (now-is-log h) (λ e. omega arith) (rw (list-is, list-room (h .list)) painted-fits)
 
   -- the buffers with that list keep the invariant
   redo-holds : Invariant m s p keys bits logKeys logValues
-      (withForce b (listOfPicture m painted) (summaryOf m s painted) (b .inForce + length entry))
+      (withForce b (listOfPicture m painted) (summaryOf m s painted) (b .inForce + length step))
       (record { held = x ∷ held; undone = xs; fixed = fixed })
       (max inList (length (listOfPicture m painted)))
       (max inLog (b .used))
@@ -158,8 +166,8 @@ module _ {m s : ℕ} {p : Picture} {keys bits logKeys logValues : List ℕ} {b :
         list = rw same (list-replaced (listOfPicture m painted) (h .list) painted-fits);
         counts = ap (summaryOf m s) (sym same);
         log = rw (same, log-latest m (drawn m p fixed) x held)
-            (log-again (logOf m (drawn m p fixed) held) entry rest (rw (after-next m before x xs) at (h .log)));
-        past = past.later (h .past) x (future-valid (h .future)) (future-below (h .future)) (rw same (future-legal (h .future)));
+            (log-again (logOf m (drawn m p fixed) held) step rest (rw (after-next m before x xs) at (h .log)));
+        past = past.later (h .past) x next-fit (rw same (future-legal (h .future)));
         future = rw same (future-after (h .future));
       }
 
@@ -169,7 +177,7 @@ module _ {m s : ℕ} {p : Picture} {keys bits logKeys logValues : List ℕ} {b :
         keep-done m s b held x xs fixed undone-accepted,
         redo-done m s b undone-accepted
             ∙ ap₂ (λ l n. withForce b l (summaryAfter m s b) n) list-is reached-is
-            ∙ ap (λ counts. withForce b (listOfPicture m painted) counts (b .inForce + length entry)) summary-is,
+            ∙ ap (λ counts. withForce b (listOfPicture m painted) counts (b .inForce + length step)) summary-is,
       )
       redo-holds
 

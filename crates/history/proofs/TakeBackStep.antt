@@ -1,31 +1,31 @@
 -- A taking back in a history: its answer is 11 where no paint is held and 0 otherwise, it undoes the latest paint held, and the invariant is kept.
--- Rests on Invariant and Content.
+-- Rests on Invariant and Applied.
 use Prim.Native.Nat.{ℕ, _≤_, max}
 use mathlib.Core.Path.{_≡_, refl, ap, ap₂, _∙_}
-use mathlib.Core.Bool.{false, not}
+use mathlib.Core.Bool.{true, false, not}
 use mathlib.Core.List.{List, [], _∷_, _++_}
 use native.Mathlib.Omega.{arith}
 use lib.ListN.{length}
 use lib.Dec.{ltb, eqb}
 use borrow.Author.Tests.{ne-eqb, eq-eqb, le-ltb}
-use Rattle.definitions.specs.Picture.{Picture}
+use Rattle.definitions.specs.Picture.{Picture, featuresBelow}
 use Rattle.definitions.specs.List.{Record, listOfPicture, keysOf, valuesOf}
 use Rattle.definitions.specs.Read.{room, recordsOf, pictureOf}
 use Rattle.definitions.specs.Buffer.{replaced}
 use Rattle.definitions.specs.Area.{summaryOf, noSummary}
-use Rattle.definitions.specs.Edit.{paintIn}
-use Rattle.definitions.specs.Log.{entryOf, beforeLast, noLog}
+use Rattle.definitions.specs.Log.{beforeStep, noLog}
 use Rattle.definitions.specs.Refusal.{Row, _gives_, badSettings, noList}
 use Rattle.definitions.specs.Calls.TakeBack.{restoredPicture, restored, forceBefore, takeBackRefusal, takeBack, takeBackKeys, takeBackBits, takeBackSummary, takeBackLogKeys, takeBackLogValues}
 use Rattle.definitions.proofs.First.{this, later, holds-first, none-first}
-use Rattle.history.specs.History.{Buffers, Paint, Kept, takingBack, withoutLatest, drawn, logOf, logAfter, after, answer, keep}
+use Rattle.history.specs.History.{Buffers, Paint, Kept, takingBack, withoutLatest, applied, stepOf, drawn, logOf, logAfter, after, answer, keep}
 use Rattle.history.specs.Claim.{backAnswer}
 use Rattle.history.proofs.Drawn.{drawn-latest}
-use Rattle.history.proofs.Content.{restored-list, restored-summary, without-entry}
-use Rattle.history.proofs.Past.{log-none, log-latest, log-some, past-legal, past-before, past-valid, past-below, next, after-next}
+use Rattle.history.proofs.Fit.{Fit}
+use Rattle.history.proofs.Applied.{restored-list, restored-summary, without-step}
+use Rattle.history.proofs.Past.{log-none, log-latest, log-some, past-legal, past-before, past-fit, next, after-next}
 use Rattle.history.proofs.Slices.{list-replaced, list-room}
 use Rattle.history.proofs.LogSlices.{log-back}
-use Rattle.history.proofs.Invariant.{Invariant, now-records, now-force, now-is-list, now-is-summary, now-is-log, Keeps, same-keeps}
+use Rattle.history.proofs.Invariant.{Invariant, now-records, now-few, now-force, now-is-list, now-is-summary, now-is-log, Keeps, same-keeps}
 
 -- the list that taking back makes of these buffers
 abbrev listAfter : ℕ → Buffers → List Record
@@ -35,9 +35,9 @@ listAfter m b = restored m (recordsOf (b .keys) (b .bits) (b .n)) (recordsOf (b 
 abbrev summaryAfter : ℕ → ℕ → Buffers → List ℕ
 summaryAfter m s b = summaryOf m s (restoredPicture m (recordsOf (b .keys) (b .bits) (b .n)) (recordsOf (b .logKeys) (b .logValues) (b .inForce)))
 
--- the records in force without the last entry
+-- the records in force without the last step
 abbrev before : Buffers → ℕ
-before b = length (beforeLast (recordsOf (b .logKeys) (b .logValues) (b .inForce)))
+before b = length (beforeStep (recordsOf (b .logKeys) (b .logValues) (b .inForce)))
 
 -- the buffers with a list and a summary in place of theirs and so many records in force
 abbrev pub withForce : Buffers → List Record → List ℕ → ℕ → Buffers
@@ -115,25 +115,32 @@ module _ {m s : ℕ} {p : Picture} {keys bits logKeys logValues : List ℕ} {b :
   abbrev formerLog : List Record
   formerLog = logOf m (drawn m p fixed) xs
 
-  -- the records in force are that log and the paint's entry
-  log-is : recordsOf (b .logKeys) (b .logValues) (b .inForce) ≡ formerLog ++ entryOf m former (x .key) (x .feature)
+  -- the paint is fit, and found a legal picture
+  latest-fit : Fit m s x
+  latest-fit = past-fit (h .past)
+
+  former-below : featuresBelow s former m 0 0 ≡ true
+  former-below = past-legal (past-before (h .past)) .below
+
+  -- the records in force are that log and the paint's step
+  log-is : recordsOf (b .logKeys) (b .logValues) (b .inForce) ≡ formerLog ++ stepOf m former x
   log-is = now-force h ∙ log-latest m (drawn m p fixed) x xs
 
   -- the list afterwards is that of the picture before
   list-is : listAfter m b ≡ listOfPicture m former
   list-is =
       ap₂ (λ l log. restored m l log) (now-records h ∙ ap (λ q. listOfPicture m q) (drawn-latest m (drawn m p fixed) x xs)) log-is
-      ∙ restored-list m (x .key) (x .feature) former formerLog (past-valid (h .past))
+      ∙ restored-list former (now-few h) latest-fit former-below formerLog
 
   -- the summary afterwards is that of the picture before
   summary-is : summaryAfter m s b ≡ summaryOf m s former
   summary-is =
       ap₂ (λ l log. summaryOf m s (restoredPicture m l log)) (now-records h ∙ ap (λ q. listOfPicture m q) (drawn-latest m (drawn m p fixed) x xs)) log-is
-      ∙ restored-summary m s (x .key) (x .feature) former formerLog (past-valid (h .past))
+      ∙ restored-summary former (now-few h) latest-fit former-below formerLog
 
   -- as many are in force afterwards as the log before had
   before-is : before b ≡ length formerLog
-  before-is = ap (λ log. length (beforeLast log)) log-is ∙ ap length (without-entry m (x .key) (x .feature) former formerLog)
+  before-is = ap (λ log. length (beforeStep log)) log-is ∙ ap length (without-step former (now-few h) latest-fit former-below formerLog)
 
   -- that list has room, as it had then: refusal 9 does not come
   former-fits : length (listOfPicture m former) ≤ room keys bits
@@ -143,7 +150,7 @@ module _ {m s : ℕ} {p : Picture} {keys bits logKeys logValues : List ℕ} {b :
   held-accepted : answer m s b takingBack ≡ 0
   held-accepted =
       let count = h .log .force in
-      let some = log-some m (drawn m p fixed) x xs in
+      let some = log-some x xs (h .past) in
       some-held m s b (h .settings) (ap not (now-is-list h)) (now-is-summary h) (now-is-log h) (λ e. omega arith) (rw (list-is, list-room (h .list)) former-fits)
 
   -- the buffers with that list and log keep the invariant
@@ -158,11 +165,11 @@ module _ {m s : ℕ} {p : Picture} {keys bits logKeys logValues : List ℕ} {b :
     counts = refl;
     log =
         rw (after-next m former x undone)
-        (log-back formerLog (entryOf m former (x .key) (x .feature)) (logAfter m (paintIn m (x .key) (x .feature) former) undone)
+        (log-back formerLog (stepOf m former x) (logAfter m (applied m x former) undone)
         (rw (log-latest m (drawn m p fixed) x xs, drawn-latest m (drawn m p fixed) x xs) at (h .log)));
     past = past-before (h .past);
     future =
-        next x (past-valid (h .past)) (past-below (h .past)) (rw (drawn-latest m (drawn m p fixed) x xs) at (past-legal (h .past)))
+        next x (past-fit (h .past)) (rw (drawn-latest m (drawn m p fixed) x xs) at (past-legal (h .past)))
         (rw (drawn-latest m (drawn m p fixed) x xs) at (h .future));
   }
 

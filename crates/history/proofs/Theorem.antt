@@ -1,4 +1,4 @@
--- The history theorem: after any run of paints, takings back, redos and log emptyings from an accepted build and an empty log, refused calls included, the
+-- The history theorem: after any run of paints of blocks and of windows, takings back, redos and log emptyings from an accepted build and an empty log, refused calls included, the
 -- buffers hold the list and the summary that a fresh build of the raster left gives, taking back is refused exactly when no paint is held, and redo exactly when none
 -- is there to redo. Rests on the steps.
 use Prim.Native.Nat.{ℕ, _≤_, max}
@@ -25,7 +25,7 @@ use Rattle.history.proofs.LogSlices.{log-counts, log-longest}
 use Rattle.history.proofs.Invariant.{now, Invariant, now-records, now-force, now-redo, now-is-list, now-is-summary, now-is-log, Keeps}
 use Rattle.history.proofs.BuildStep.{Builds, build-passed, build-accepted, build-count, build-summary, build-records, build-holds}
 use Rattle.history.proofs.PaintStep.{paint-keeps}
-use Rattle.history.proofs.PaintAnswer.{paint-answer}
+use Rattle.history.proofs.PaintAnswer.{paint-answer, window-answer}
 use Rattle.history.proofs.TakeBackStep.{back-answer, back-keeps}
 use Rattle.history.proofs.RedoStep.{redo-answer, redo-keeps}
 use Rattle.history.proofs.EmptyStep.{ground-emptied, empty-keeps}
@@ -34,7 +34,7 @@ use Rattle.history.proofs.EmptyStep.{ground-emptied, empty-keeps}
 pub call-keeps : {m s : ℕ} {p : Picture} {keys bits logKeys logValues : List ℕ} {b : Buffers} {k : Kept} {inList inLog : ℕ} (c : Call)
     → Invariant m s p keys bits logKeys logValues b k inList inLog
     → Keeps m s p keys bits logKeys logValues b k inList inLog c
-call-keeps (painting κ f) h = paint-keeps κ f h
+call-keeps (painting x) h = paint-keeps x h
 call-keeps {k = k} takingBack h = back-keeps (k .held) (k .undone) (k .fixed) h
 call-keeps {k = k} redoing h = redo-keeps (k .held) (k .undone) (k .fixed) h
 call-keeps emptying h = empty-keeps h
@@ -130,7 +130,8 @@ module _ {m s : ℕ} (raster summary : List ℕ) (counted : badSummaryLength m s
         used-count = rw (left-is m raster k) (log-counts (h .log));
         back = back-answer (k .held) (k .undone) (k .fixed) h;
         again = redo-answer (k .held) (k .undone) (k .fixed) h;
-        paints = λ κ f. rw (left-is m raster k) (paint-answer κ f h);
+        paints = λ κ f. rw (left-is m raster k) (paint-answer h κ f);
+        window-paints = λ w f. rw (left-is m raster k) (window-answer h w f);
         keys-length = list-keys-length (h .list);
         bits-length = list-bits-length (h .list);
         logKeys-length = h .log .keys-length;

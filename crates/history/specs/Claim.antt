@@ -11,11 +11,13 @@ use Rattle.definitions.specs.List.{listOfPicture, listOfRaster, keysOf, valuesO
 use Rattle.definitions.specs.Read.{room, recordsOf, pictureOf, isList}
 use Rattle.definitions.specs.Buffer.{replaced}
 use Rattle.definitions.specs.Area.{summaryOf, noSummary}
-use Rattle.definitions.specs.Edit.{paintIn}
-use Rattle.definitions.specs.Log.{entryOf, toRedo, noLog}
+use Rattle.definitions.specs.Edit.{paintIn, fillWindow}
+use Rattle.definitions.specs.Window.{badWindow}
+use Rattle.definitions.specs.declared.Window.{Window}
+use Rattle.definitions.specs.Log.{entryOf, groupOf, toRedo, noLog}
 use Rattle.definitions.specs.Refusal.{_gives_, first, badKey, badFeature}
 use Rattle.definitions.specs.Calls.Survey.{survey, surveyRefusal, surveyKeys, surveyBits, surveySummary}
-use Rattle.history.specs.History.{Call, painting, takingBack, redoing, Buffers, Paint, Kept, answer, built, run, longestList, longestLog, kept, nothing, drawn, logOf, logAfter, pictureLeft, rasterLeft}
+use Rattle.history.specs.History.{Call, painting, ofBlock, ofWindow, takingBack, redoing, Buffers, Paint, Kept, answer, built, run, longestList, longestLog, kept, nothing, drawn, logOf, logAfter, pictureLeft, rasterLeft}
 
 -- 11 where no paint is held, and else 0
 unfoldable pub backAnswer : (held : List Paint) → ℕ
@@ -36,6 +38,16 @@ paintAnswer m s p roomOfList roomOfLog inForce κ f =
     ∷ badFeature s f gives 7
     ∷ ltb roomOfLog (inForce + length (entryOf m p κ f)) gives 10
     ∷ ltb roomOfList (length (listOfPicture m (paintIn m κ f p))) gives 9
+    ∷ [])
+
+-- a paint of a window likewise, by its window in the place of a key, and by the log's room for the whole group
+unfoldable pub paintWindowAnswer : (m s : ℕ) (p : Picture) (roomOfList roomOfLog inForce : ℕ) (w : Window) (f : ℕ) → ℕ
+paintWindowAnswer m s p roomOfList roomOfLog inForce w f =
+    first
+    (badWindow m w gives 6
+    ∷ badFeature s f gives 7
+    ∷ ltb roomOfLog (inForce + length (groupOf m p w f)) gives 10
+    ∷ ltb roomOfList (length (listOfPicture m (fillWindow w f p))) gives 9
     ∷ [])
 
 -- build was lent keys, bits and summary, and the log logKeys and logValues; the history left b, keeps the paints k, and had at most so many records in the
@@ -65,9 +77,9 @@ pub record AsBuilt (m s : ℕ) (raster keys bits summary logKeys logValues : Lis
   pub is-list : isList m s (b .keys) (b .bits) (b .n) ≡ true
   pub is-summary : noSummary m s (pictureOf m (recordsOf (b .keys) (b .bits) (b .n))) (b .summary) ≡ false
   pub is-log : noLog m s (b .logKeys) (b .logValues) (b .used) (b .inForce) ≡ false
-  -- the records in force are the entries of the held paints, each of the picture that the paint found, and no others
+  -- the records in force are the steps of the held paints, each of the picture that the paint found, and no others
   pub in-force : recordsOf (b .logKeys) (b .logValues) (b .inForce) ≡ logOf m (drawn m (pictureOfRaster m raster) (k .fixed)) (k .held)
-  -- the records to redo are the entries of the paints undone, each of the picture that it found, and no others
+  -- the records to redo are the steps of the paints undone, each of the picture that it found, and no others
   pub redoable : toRedo (b .logKeys) (b .logValues) (b .used) (b .inForce) ≡ logAfter m (pictureLeft m raster k) (k .undone)
   -- the counts are theirs
   pub force-count : b .inForce ≡ length (logOf m (drawn m (pictureOfRaster m raster) (k .fixed)) (k .held))
@@ -77,7 +89,10 @@ pub record AsBuilt (m s : ℕ) (raster keys bits summary logKeys logValues : Lis
   -- redo is refused, with 20, exactly when no paint is there to redo
   pub again : answer m s b redoing ≡ redoAnswer (k .undone)
   -- paint is refused only by key, feature or room
-  pub paints : (κ f : ℕ) → answer m s b (painting κ f) ≡ paintAnswer m s (pictureLeft m raster k) (room keys bits) (room logKeys logValues) (b .inForce) κ f
+  pub paints : (κ f : ℕ) → answer m s b (painting (ofBlock κ f)) ≡ paintAnswer m s (pictureLeft m raster k) (room keys bits) (room logKeys logValues) (b .inForce) κ f
+  -- a paint of a window only by window, feature or room
+  pub window-paints : (w : Window) (f : ℕ)
+      → answer m s b (painting (ofWindow w f)) ≡ paintWindowAnswer m s (pictureLeft m raster k) (room keys bits) (room logKeys logValues) (b .inForce) w f
   -- the slices keep their lengths
   pub keys-length : length (b .keys) ≡ length keys
   pub bits-length : length (b .bits) ≡ length bits

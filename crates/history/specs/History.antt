@@ -1,22 +1,30 @@
--- Histories: any run of paints, takings back, redos and log emptyings on the lent buffers, refused calls included, by the definitions that the promises
--- of build, paint, take back, redo and empty cite. Beside it, without a look at the buffers: the paints still in the log, and the raster that is left.
+-- Histories: any run of paints of blocks and of windows, takings back, redos and log emptyings on the lent buffers, refused calls included, by the
+-- definitions that the promises of build, paint, paint a window, take back, redo and empty cite. Beside it, without a look at the buffers: the paints still in
+-- the log, and the raster that is left. A paint of a window counts as one paint.
 use Prim.Native.Nat.{ℕ, _^_, max}
 use mathlib.Core.List.{List, [], _∷_, _++_}
 use Rattle.definitions.specs.Picture.{Picture, pictureOfRaster}
 use Rattle.definitions.specs.Window.{featuresOfRows}
 use Rattle.definitions.specs.List.{Record}
-use Rattle.definitions.specs.Edit.{paintIn}
-use Rattle.definitions.specs.Log.{entryOf}
+use Rattle.definitions.specs.Edit.{paintIn, fillWindow}
+use Rattle.definitions.specs.Log.{entryOf, groupOf}
 use Rattle.definitions.specs.Refusal.{accepted}
 use Rattle.definitions.specs.Calls.Survey.{survey, surveyKeys, surveyBits, surveySummary}
 use Rattle.definitions.specs.Calls.Paint.{paint, paintKeys, paintBits, paintSummary, paintLogKeys, paintLogValues}
+use Rattle.definitions.specs.Calls.PaintWindow.{paintWindow, paintWindowKeys, paintWindowBits, paintWindowSummary, paintWindowLogKeys, paintWindowLogValues}
 use Rattle.definitions.specs.Calls.TakeBack.{takeBack, takeBackKeys, takeBackBits, takeBackSummary, takeBackLogKeys, takeBackLogValues}
 use Rattle.definitions.specs.Calls.Redo.{redo, redoKeys, redoBits, redoSummary, redoLogKeys, redoLogValues}
 use Rattle.definitions.specs.Calls.Empty.{emptied}
+use Rattle.definitions.specs.declared.Window.{Window}
 
--- a call of a history; key and feature are any numbers
+-- a paint of a block or of a window with a feature; key, window and feature are any
+pub data Paint : Type 0 where
+  ofBlock : (κ f : ℕ) → Paint
+  ofWindow : (w : Window) (f : ℕ) → Paint
+
+-- a call of a history
 pub data Call : Type 0 where
-  painting : (κ f : ℕ) → Call
+  painting : (x : Paint) → Call
   takingBack : Call
   redoing : Call
   emptying : Call
@@ -48,14 +56,16 @@ built m s raster keys bits summary logKeys logValues =
 
 -- the refusal number that a call gives; 0 where it is accepted
 unfoldable pub answer : (m s : ℕ) (b : Buffers) (call : Call) → ℕ
-answer m s b (painting κ f) = paint m s (b .keys) (b .bits) (b .n) (b .summary) (b .logKeys) (b .logValues) (b .used) (b .inForce) κ f .refusal
+answer m s b (painting (ofBlock κ f)) = paint m s (b .keys) (b .bits) (b .n) (b .summary) (b .logKeys) (b .logValues) (b .used) (b .inForce) κ f .refusal
+answer m s b (painting (ofWindow w f)) =
+    paintWindow m s (b .keys) (b .bits) (b .n) (b .summary) (b .logKeys) (b .logValues) (b .used) (b .inForce) w f .refusal
 answer m s b takingBack = takeBack m s (b .keys) (b .bits) (b .n) (b .summary) (b .logKeys) (b .logValues) (b .used) (b .inForce) .refusal
 answer m s b redoing = redo m s (b .keys) (b .bits) (b .n) (b .summary) (b .logKeys) (b .logValues) (b .used) (b .inForce) .refusal
 answer m s b emptying = 0
 
 -- the buffers after a call: the caller takes the counts of an accepted call's result, and keeps his own where it is refused
 unfoldable pub after : (m s : ℕ) (b : Buffers) (call : Call) → Buffers
-after m s b (painting κ f) =
+after m s b (painting (ofBlock κ f)) =
     let result = paint m s (b .keys) (b .bits) (b .n) (b .summary) (b .logKeys) (b .logValues) (b .used) (b .inForce) κ f in
     record {
       keys = paintKeys m s (b .keys) (b .bits) (b .n) (b .summary) (b .logKeys) (b .logValues) (b .used) (b .inForce) κ f;
@@ -64,6 +74,18 @@ after m s b (painting κ f) =
       summary = paintSummary m s (b .keys) (b .bits) (b .n) (b .summary) (b .logKeys) (b .logValues) (b .used) (b .inForce) κ f;
       logKeys = paintLogKeys m s (b .keys) (b .bits) (b .n) (b .summary) (b .logKeys) (b .logValues) (b .used) (b .inForce) κ f;
       logValues = paintLogValues m s (b .keys) (b .bits) (b .n) (b .summary) (b .logKeys) (b .logValues) (b .used) (b .inForce) κ f;
+      used = accepted (result .refusal) (result .used) (b .used);
+      inForce = accepted (result .refusal) (result .«in_force») (b .inForce);
+    }
+after m s b (painting (ofWindow w f)) =
+    let result = paintWindow m s (b .keys) (b .bits) (b .n) (b .summary) (b .logKeys) (b .logValues) (b .used) (b .inForce) w f in
+    record {
+      keys = paintWindowKeys m s (b .keys) (b .bits) (b .n) (b .summary) (b .logKeys) (b .logValues) (b .used) (b .inForce) w f;
+      bits = paintWindowBits m s (b .keys) (b .bits) (b .n) (b .summary) (b .logKeys) (b .logValues) (b .used) (b .inForce) w f;
+      n = accepted (result .refusal) (result .n) (b .n);
+      summary = paintWindowSummary m s (b .keys) (b .bits) (b .n) (b .summary) (b .logKeys) (b .logValues) (b .used) (b .inForce) w f;
+      logKeys = paintWindowLogKeys m s (b .keys) (b .bits) (b .n) (b .summary) (b .logKeys) (b .logValues) (b .used) (b .inForce) w f;
+      logValues = paintWindowLogValues m s (b .keys) (b .bits) (b .n) (b .summary) (b .logKeys) (b .logValues) (b .used) (b .inForce) w f;
       used = accepted (result .refusal) (result .used) (b .used);
       inForce = accepted (result .refusal) (result .«in_force») (b .inForce);
     }
@@ -109,11 +131,6 @@ unfoldable pub longestLog : (m s : ℕ) (b : Buffers) (calls : List Call) → �
 longestLog m s b [] = b .used
 longestLog m s b (c ∷ cs) = max (b .used) (longestLog m s (after m s b c) cs)
 
--- a paint of a block
-pub record Paint : Type 0 where
-  pub key : ℕ
-  pub feature : ℕ
-
 -- the paints that can be taken back, the latest first; those that were taken back and can be redone, the next one first; and those that no longer can
 -- be taken back, the latest first
 pub record Kept : Type 0 where
@@ -138,8 +155,7 @@ withNext held (x ∷ undone) fixed = record { held = x ∷ held; undone = undone
 -- latest paint held, an accepted redo holds the next one again, emptying makes all that are held fixed and drops the others, and a refused call changes
 -- nothing
 unfoldable pub keep : (call : Call) (refusal : ℕ) (k : Kept) → Kept
-keep (painting κ f) refusal k =
-    accepted refusal (record { held = record { key = κ; feature = f } ∷ k .held; undone = []; fixed = k .fixed }) k
+keep (painting x) refusal k = accepted refusal (record { held = x ∷ k .held; undone = []; fixed = k .fixed }) k
 keep takingBack refusal k = accepted refusal (withoutLatest (k .held) (k .undone) (k .fixed)) k
 keep redoing refusal k = accepted refusal (withNext (k .held) (k .undone) (k .fixed)) k
 keep emptying refusal k = record { held = []; undone = []; fixed = k .held ++ k .fixed }
@@ -149,20 +165,30 @@ unfoldable pub kept : (m s : ℕ) (b : Buffers) (k : Kept) (calls : List Call) �
 kept m s b k [] = k
 kept m s b k (c ∷ cs) = kept m s (after m s b c) (keep c (answer m s b c) k) cs
 
+-- what a paint makes of a picture
+unfoldable pub applied : (m : ℕ) (x : Paint) (p : Picture) → Picture
+applied m (ofBlock κ f) p = paintIn m κ f p
+applied m (ofWindow w f) p = fillWindow w f p
+
+-- what it logs of the picture that it found: an entry, or a group
+unfoldable pub stepOf : (m : ℕ) (p : Picture) (x : Paint) → List Record
+stepOf m p (ofBlock κ f) = entryOf m p κ f
+stepOf m p (ofWindow w f) = groupOf m p w f
+
 -- paints, the latest first, applied to a picture one after the other
 unfoldable pub drawn : (m : ℕ) (p : Picture) (paints : List Paint) → Picture
 drawn m p [] = p
-drawn m p (x ∷ xs) = paintIn m (x .key) (x .feature) (drawn m p xs)
+drawn m p (x ∷ xs) = applied m x (drawn m p xs)
 
--- the log of the paints, the latest first, on a picture: each has the entry of its block in the picture that it found
+-- the log of the paints, the latest first, on a picture: each has its step in the picture that it found
 unfoldable pub logOf : (m : ℕ) (p : Picture) (paints : List Paint) → List Record
 logOf m p [] = []
-logOf m p (x ∷ xs) = logOf m p xs ++ entryOf m (drawn m p xs) (x .key) (x .feature)
+logOf m p (x ∷ xs) = logOf m p xs ++ stepOf m (drawn m p xs) x
 
 -- the log of paints to come, the next one first, on a picture
 unfoldable pub logAfter : (m : ℕ) (p : Picture) (paints : List Paint) → List Record
 logAfter m p [] = []
-logAfter m p (x ∷ xs) = entryOf m p (x .key) (x .feature) ++ logAfter m (paintIn m (x .key) (x .feature) p) xs
+logAfter m p (x ∷ xs) = stepOf m p x ++ logAfter m (applied m x p) xs
 
 -- the first raster with the paints applied that were not taken back
 unfoldable pub pictureLeft : (m : ℕ) (raster : List ℕ) (k : Kept) → Picture

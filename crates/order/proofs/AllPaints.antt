@@ -15,7 +15,8 @@ use Rattle.definitions.specs.Picture.{Picture}
 use Rattle.definitions.specs.List.{listOfPicture}
 use Rattle.definitions.specs.Read.{pictureOf}
 use Rattle.definitions.specs.Edit.{paintIn}
-use Rattle.history.specs.History.{Buffers, Paint, run}
+use Rattle.history.specs.History.{Buffers, run}
+use Rattle.order.specs.Paint.{Paint}
 use Rattle.history.proofs.Content.{map-back}
 use Rattle.history.proofs.Drawn.{paint-inside, paint-outside}
 use Rattle.order.specs.Rearranged.{timesIn, Rearranged, Swapped}

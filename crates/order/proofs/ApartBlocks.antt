@@ -16,7 +16,7 @@ use Rattle.keys.proofs.Valid.{valid-block}
 use Rattle.keys.proofs.Pixel.{InSquare, inside}
 use Rattle.keys.proofs.InBlock.{inBlock-iff}
 use Rattle.keys.proofs.Ancestor.{ancestor-iff}
-use Rattle.history.specs.History.{Paint}
+use Rattle.order.specs.Paint.{Paint}
 use Rattle.order.specs.Apart.{apart}
 
 -- what being apart says of two keys

@@ -16,10 +16,11 @@ use Rattle.definitions.specs.Refusal.{first, badSettings, badLength, badPixel}
 use Rattle.definitions.specs.Window.{featuresOfRow, featuresOfRows}
 use Rattle.definitions.specs.Area.{countOf, pixelsWith, countsFrom, summaryBelow, summaryOf, sameNumbers, noSummary}
 use Rattle.definitions.specs.Edit.{put, paintIn, contentOf}
-use Rattle.definitions.specs.Log.{closed, entryOf, countRecord, lastRecord, lastKey, lastFeature, lastCount, beforeLast, lastContent, isContent, closes, lastIsEntry, dividesIn, isSound, noLog}
+use Rattle.definitions.specs.Log.{closed, entryOf, countRecord, lastRecord, lastKey, lastFeature, lastCount, beforeLast, lastContent, isContent, closes, lastIsEntry, endsInMark, stepCount, stepEntries, beforeEntries, beforeStep, lastIsStep, dividesIn, isSound, noLog}
 use Rattle.definitions.specs.Calls.Survey.{surveyRefusal, survey, surveyKeys, surveyBits, surveySummary}
 use Rattle.definitions.specs.Calls.Paint.{painted, gained, paintRefusal, paint, paintKeys, paintBits, paintSummary, paintLogKeys, paintLogValues}
-use Rattle.history.specs.History.{Buffers, Paint, built, answer, after, run}
+use Rattle.history.specs.History.{Buffers, built, answer, after, run}
+use Rattle.order.specs.Paint.{Paint}
 use Rattle.order.specs.Apart.{apart}
 use Rattle.order.specs.Either.{asCall, asCalls, SameSheet, afterPaints}
 
@@ -66,7 +67,8 @@ unfolding asCalls run answer after built apart isAncestor contains
     everyPixel oneFeature featuresBelow bitsOf unionOfFour twosIn featureOf listOf
     paired valueAt pictureOf sameRecords isListOfBlock isList first badSettings badLength badPixel featuresOfRow featuresOfRows
     countOf pixelsWith countsFrom summaryBelow summaryOf sameNumbers noSummary put paintIn contentOf
-    closed entryOf countRecord lastRecord lastKey lastFeature lastCount beforeLast lastContent isContent closes lastIsEntry dividesIn isSound noLog
+    closed entryOf countRecord lastRecord lastKey lastFeature lastCount beforeLast lastContent isContent closes lastIsEntry
+    endsInMark stepCount stepEntries beforeEntries beforeStep lastIsStep dividesIn isSound noLog
     surveyRefusal survey surveyKeys surveyBits surveySummary painted gained paintRefusal paint paintKeys paintBits paintSummary paintLogKeys paintLogValues
 needed = record {
   one-block = record {

@@ -17,10 +17,11 @@ use Rattle.definitions.specs.Edit.{paintIn, contentOf}
 use Rattle.definitions.specs.Log.{closed, entryOf}
 use Rattle.definitions.specs.Calls.Paint.{gained}
 use Rattle.definitions.proofs.ListOf.{list-agree}
-use Rattle.history.specs.History.{Buffers, Paint, answer, after, run}
+use Rattle.history.specs.History.{Buffers, ofBlock, stepOf, answer, after, run}
+use Rattle.order.specs.Paint.{Paint}
 use Rattle.history.proofs.Content.{gained-entry}
 use Rattle.history.proofs.Drawn.{paint-outside}
-use Rattle.history.proofs.PaintStep.{entryIn, paint-done}
+use Rattle.history.proofs.PaintStep.{paint-done}
 use Rattle.order.specs.Rearranged.{Rearranged, Swapped, none, further, swap, and-then}
 use Rattle.order.specs.Apart.{apart, apartFromAll, allApart, allValid}
 use Rattle.order.specs.Either.{asCall, asCalls, inFull, listIn, pictureIn, afterPaints}
@@ -89,8 +90,9 @@ module _ (m s : ℕ) where
   -- an accepted paint puts its entry in force
   one-longer : (b : Buffers) (p : Picture) (x : Paint) → listIn b ≡ listOfPicture m p → answer m s b (asCall x) ≡ 0
       → after m s b (asCall x) .inForce ≡ b .inForce + length (entryOf m p (x .key) (x .feature))
+  unfolding stepOf gained
   one-longer b p x e accepted =
-      ap (λ b′. b′ .inForce) (paint-done m s b (x .key) (x .feature) accepted)
+      ap (λ b′. b′ .inForce) (paint-done m s b (ofBlock (x .key) (x .feature)) accepted)
       ∙ ap (λ l. b .inForce + length l)
       (ap (λ l. gained m l (x .key) (x .feature)) e ∙ gained-entry m (x .key) (x .feature) p (accepted-valid m s b x accepted))
 

@@ -19,7 +19,8 @@ use Rattle.definitions.specs.Calls.Survey.{surveyRefusal}
 use Rattle.definitions.proofs.First.{first-this}
 use Rattle.definitions.proofs.ListOf.{list-agree}
 use Rattle.definitions.proofs.Pixels.{Agree}
-use Rattle.history.specs.History.{Call, Buffers, Paint, answer, pictureLeft}
+use Rattle.history.specs.History.{Call, Buffers, answer, pictureLeft}
+use Rattle.order.specs.Paint.{Paint}
 use Rattle.history.specs.Claim.{paintAnswer}
 use Rattle.history.proofs.Content.{entry-agree}
 use Rattle.history.proofs.Drawn.{paint-agree}

@@ -8,7 +8,7 @@ use native.Mathlib.Omega.{arith}
 use lib.Dec.{eqb}
 use borrow.Author.Tests.{eqb-true, eq-eqb}
 use Rattle.keys.proofs.Cases.{decide, and-left, and-right, and-both}
-use Rattle.history.specs.History.{Paint}
+use Rattle.order.specs.Paint.{Paint}
 use Rattle.order.specs.Rearranged.{samePaint, timesIn, Rearranged, Swapped, none, further, swap, and-then}
 
 -- a paint comes no time in a run without paints

@@ -16,7 +16,8 @@ use Rattle.definitions.specs.Log.{entryOf}
 use Rattle.definitions.specs.Refusal.{Row, _gives_, first, badKey, badFeature}
 use Rattle.definitions.specs.Calls.Survey.{surveyRefusal}
 use Rattle.definitions.proofs.First.{first-this, first-later, first-end}
-use Rattle.history.specs.History.{Call, Buffers, Paint, nothing, built, answer, run, kept, pictureLeft}
+use Rattle.history.specs.History.{Call, Buffers, nothing, built, answer, run, kept, pictureLeft}
+use Rattle.order.specs.Paint.{Paint}
 use Rattle.history.specs.Claim.{paintAnswer}
 use Rattle.history.proofs.Theorem.{history}
 use Rattle.order.specs.Either.{asCall, isOfRoom, sameButRoom}

@@ -20,7 +20,8 @@ use Rattle.definitions.specs.Calls.Survey.{surveyRefusal}
 use Rattle.definitions.proofs.First.{first-later, first-end}
 use Rattle.definitions.proofs.ListOf.{list-most}
 use Rattle.definitions.proofs.Pixels.{Agree}
-use Rattle.history.specs.History.{Call, Buffers, Paint, answer, after, run, pictureLeft}
+use Rattle.history.specs.History.{Call, Buffers, answer, after, run, pictureLeft}
+use Rattle.order.specs.Paint.{Paint}
 use Rattle.history.specs.Claim.{paintAnswer}
 use Rattle.history.proofs.Content.{entry-agree}
 use Rattle.order.specs.Rearranged.{timesIn, Rearranged, Swapped, none, further, swap, and-then}

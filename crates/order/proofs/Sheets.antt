@@ -19,10 +19,11 @@ use Rattle.definitions.specs.Refusal.{Row, _gives_, badSettings, noList, badKey
 use Rattle.definitions.specs.Calls.Paint.{paintedPicture, painted, gained, paintRefusal, paint}
 use Rattle.definitions.proofs.First.{first-none}
 use Rattle.definitions.proofs.IsList.{same-to}
-use Rattle.history.specs.History.{Buffers, Paint, painting, answer, after, run}
+use Rattle.history.specs.History.{Buffers, ofBlock, painting, applied, answer, after, run}
+use Rattle.order.specs.Paint.{Paint}
 use Rattle.history.proofs.Content.{painted-list, painted-summary}
 use Rattle.history.proofs.Shown.{shown-records, shown-replaced}
-use Rattle.history.proofs.PaintStep.{listAfter, summaryAfter, entryIn, withEntry, paint-done}
+use Rattle.history.proofs.PaintStep.{listAfter, paint-done}
 use Rattle.order.specs.Apart.{allValid}
 use Rattle.order.specs.Either.{asCall, asCalls, inFull, inTurn, listIn, pictureIn, SameSheet, afterPaints}
 
@@ -32,7 +33,7 @@ record Passed (m s : ℕ) (b : Buffers) (κ f : ℕ) : Type 0 where
   valid : validKey m κ ≡ true
   below : badFeature s f ≡ false
 
-passed : (m s : ℕ) (b : Buffers) (κ f : ℕ) → answer m s b (painting κ f) ≡ 0 → Passed m s b κ f
+passed : (m s : ℕ) (b : Buffers) (κ f : ℕ) → answer m s b (painting (ofBlock κ f)) ≡ 0 → Passed m s b κ f
 unfolding answer paint paintRefusal
 passed m s b κ f e =
     let rows : List Row =
@@ -76,12 +77,13 @@ module _ (m s : ℕ) where
   -- an accepted paint leaves the list and the summary of the painted picture
   pub paint-shows : (b : Buffers) (p : Picture) (x : Paint) → listIn b ≡ listOfPicture m p → answer m s b (asCall x) ≡ 0
       → Shows m s (after m s b (asCall x)) (paintIn m (x .key) (x .feature) p)
+  unfolding applied painted
   paint-shows b p x e accepted =
       let κ : ℕ = x .key in
       let f : ℕ = x .feature in
-      let l : List Record = listAfter m b κ f in
+      let l : List Record = listAfter m b (ofBlock κ f) in
       let is : l ≡ listOfPicture m (paintIn m κ f p) = ap (λ l′. painted m l′ κ f) e ∙ painted-list m κ f p in
-      subst (λ b′. Shows m s b′ (paintIn m κ f p)) (sym (paint-done m s b κ f accepted)) (record {
+      subst (λ b′. Shows m s b′ (paintIn m κ f p)) (sym (paint-done m s b (ofBlock κ f) accepted)) (record {
         count = ap length is;
         list = shown-records (shown-replaced (b .n) l (b .keys) (b .bits)) ∙ is;
         summary = ap (λ l′. summaryOf m s (paintedPicture m l′ κ f)) e ∙ painted-summary m s κ f p;

@@ -9,7 +9,7 @@ use Rattle.keys.specs.Block.{inBlock}
 use Rattle.keys.proofs.Cases.{decide, and-left, and-right, and-both}
 use Rattle.definitions.specs.Picture.{Picture}
 use Rattle.definitions.specs.Edit.{paintIn}
-use Rattle.history.specs.History.{Paint}
+use Rattle.order.specs.Paint.{Paint}
 use Rattle.history.proofs.Drawn.{paint-inside, paint-outside}
 use Rattle.order.specs.Rearranged.{Rearranged, Swapped, none, further, swap, and-then}
 use Rattle.order.specs.Apart.{apart, apartFromAll, allApart, allValid, touched}

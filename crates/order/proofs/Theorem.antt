@@ -14,7 +14,8 @@ use Rattle.definitions.specs.Read.{pictureOf}
 use Rattle.definitions.specs.Area.{summaryOf}
 use Rattle.definitions.specs.Edit.{paintIn}
 use Rattle.definitions.specs.Calls.Paint.{paintedPicture, painted}
-use Rattle.history.specs.History.{Buffers, Paint, answer, after, run}
+use Rattle.history.specs.History.{Buffers, answer, after, run}
+use Rattle.order.specs.Paint.{Paint}
 use Rattle.history.proofs.Content.{painted-list, painted-summary}
 use Rattle.order.specs.Rearranged.{Rearranged, swap}
 use Rattle.order.specs.Apart.{apart, apartFromAll, allApart}

@@ -5,7 +5,7 @@ use mathlib.Core.List.{List, [], _∷_}
 use lib.Dec.{eqb}
 use Rattle.keys.specs.Key.{validKey}
 use Rattle.keys.specs.Block.{inBlock, isAncestor}
-use Rattle.history.specs.History.{Paint}
+use Rattle.order.specs.Paint.{Paint}
 
 -- neither block is the other, and neither contains the other
 unfoldable pub apart : ℕ → Paint → Paint → Bool

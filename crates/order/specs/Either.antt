@@ -10,13 +10,14 @@ use Rattle.definitions.specs.Picture.{Picture}
 use Rattle.definitions.specs.List.{Record}
 use Rattle.definitions.specs.Read.{recordsOf, pictureOf}
 use Rattle.definitions.specs.Edit.{paintIn}
-use Rattle.history.specs.History.{Call, painting, Buffers, Paint, answer, after, run}
+use Rattle.history.specs.History.{Call, ofBlock, painting, Buffers, answer, after, run}
+use Rattle.order.specs.Paint.{Paint}
 use Rattle.order.specs.Rearranged.{timesIn}
 use Rattle.order.specs.Apart.{touched}
 
 -- a paint as a call
 abbrev pub asCall : Paint → Call
-asCall x = painting (x .key) (x .feature)
+asCall x = painting (ofBlock (x .key) (x .feature))
 
 unfoldable pub asCalls : List Paint → List Call
 asCalls [] = []

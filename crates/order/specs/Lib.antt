@@ -1,3 +1,4 @@
+pub mod Paint
 pub mod Rearranged
 pub mod Apart
 pub mod Either

@@ -5,7 +5,7 @@ use mathlib.Core.Path.{_≡_}
 use mathlib.Core.Bool.{Bool, cond, _&&_}
 use mathlib.Core.List.{List, [], _∷_}
 use lib.Dec.{eqb}
-use Rattle.history.specs.History.{Paint}
+use Rattle.order.specs.Paint.{Paint}
 
 -- the same block and the same feature
 abbrev pub samePaint : Paint → Paint → Bool

@@ -13,7 +13,7 @@ use Rattle.definitions.specs.Calls.Survey.{surveyRefusal, survey}
 use Rattle.definitions.specs.declared.Counted.{Counted}
 use Rattle.definitions.specs.declared.Edited.{Edited}
 use Rattle.definitions.specs.declared.Emptied.{Emptied}
-use Rattle.history.specs.History.{Call, painting, takingBack, redoing, emptying, Buffers, built, answer, after, run, kept, nothing, longestList, longestLog}
+use Rattle.history.specs.History.{Call, ofBlock, painting, takingBack, redoing, emptying, Buffers, built, answer, after, run, kept, nothing, longestList, longestLog}
 use Rattle.history.specs.Claim.{AsBuilt}
 use Rattle.history.proofs.Theorem.{history}
 use Rattle.prowcurl.proofs.lists.hlq_build as build
@@ -94,7 +94,7 @@ module _ (m s : ℕ) (x : Edit) where
       (atExit paint.ended (x .κs) lent (tt, (tt, (x .keys′, (x .bits′, (tt, (x .summary′, (x .logKeys′, (x .logValues′, (tt, (tt, (tt, (tt, tt)))))))))))))
 
   -- it gives the step of a paint
-  pub paint-step : (κ f : ℕ) → KeepsPaint κ f → Steps m s (before x) (painting κ f) (x .result .refusal) (afterwards x)
+  pub paint-step : (κ f : ℕ) → KeepsPaint κ f → Steps m s (before x) (painting (ofBlock κ f)) (x .result .refusal) (afterwards x)
   unfolding answer after
   paint-step κ f kept =
       record {
@@ -156,7 +156,7 @@ empty-step m s b κs r kept = record { refused = refl; left = ap (withCounts b) 
 -- calls one after the other, each of which keeps its contract and was lent what the one before it left
 pub data Ran (m s : ℕ) : Buffers → List Call → Buffers → Type 0 where
   done : {b : Buffers} → Ran m s b [] b
-  by-paint : {b′ : Buffers} {cs : List Call} (x : Edit) (κ f : ℕ) → KeepsPaint m s x κ f → Ran m s (afterwards x) cs b′ → Ran m s (before x) (painting κ f ∷ cs) b′
+  by-paint : {b′ : Buffers} {cs : List Call} (x : Edit) (κ f : ℕ) → KeepsPaint m s x κ f → Ran m s (afterwards x) cs b′ → Ran m s (before x) (painting (ofBlock κ f) ∷ cs) b′
   by-take-back : {b′ : Buffers} {cs : List Call} (x : Edit) → KeepsTakeBack m s x → Ran m s (afterwards x) cs b′ → Ran m s (before x) (takingBack ∷ cs) b′
   by-redo : {b′ : Buffers} {cs : List Call} (x : Edit) → KeepsRedo m s x → Ran m s (afterwards x) cs b′ → Ran m s (before x) (redoing ∷ cs) b′
   by-empty : {b b′ : Buffers} {cs : List Call} (κs : Lfts 0) (r : Emptied) → empty-reads.Learnt κs tt r tt → Ran m s (withCounts b r) cs b′ → Ran m s b (emptying ∷ cs) b′
