@@ -12,6 +12,13 @@ pub mod RenewSteps
 pub mod TallySteps
 pub mod LeafTally
 pub mod Gifts
+pub mod Chains
+pub mod Turned
+pub mod Lookups
+pub mod EntryTurns
+pub mod ByEntries
+pub mod ShortRuns
+pub mod DeedCases
 pub mod ByWindow
 pub mod SpreadSteps
 pub mod LeafWritten
