@@ -19,6 +19,8 @@ pub mod EntryTurns
 pub mod ByEntries
 pub mod ShortRuns
 pub mod DeedCases
+pub mod PutBack
+pub mod LastEntries
 pub mod ByWindow
 pub mod SpreadSteps
 pub mod LeafWritten
