@@ -4,6 +4,7 @@ pub mod Squeezed
 pub mod SqueezeLoop
 pub mod GrowLoop
 pub mod WriteRecord
+pub mod Spaced
 pub mod Early
 pub mod QuarterSums
 pub mod Narrowed
@@ -19,6 +20,7 @@ pub mod EntryTurns
 pub mod ByEntries
 pub mod ShortRuns
 pub mod DeedCases
+pub mod GrowLeft
 pub mod PutBack
 pub mod LastEntries
 pub mod ByWindow

@@ -20,7 +20,7 @@ use Rattle.step.proofs.Turned.{pixel-before, touched-onto, given-onto}
 use Rattle.step.proofs.EntryTurns.{turn-entries, turn-more, turn-valid}
 use Rattle.step.proofs.ByEntries.{back-key, again-key}
 
-same-then : {m past : ℕ} {t t′ t″ : Step} → SameBefore m past t t′ → SameBefore m past t′ t″ → SameBefore m past t t″
+pub same-then : {m past : ℕ} {t t′ t″ : Step} → SameBefore m past t t′ → SameBefore m past t′ t″ → SameBefore m past t t″
 same-then s u = record {
   touches = λ row column h. u .touches row column h ∙ s .touches row column h;
   gives = λ row column h. u .gives row column h ∙ s .gives row column h;

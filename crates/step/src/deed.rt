@@ -45,7 +45,19 @@ pub fn settled(
     }
 }
 
-// As much of the step as concerns a block and what lies before it in key order.
+// As much of the step as concerns what lies before a key.
+pub fn narrow_to(deed: Deed, log_keys: &[u32], log_values: &[u32], m: u32, past: u32) -> Deed
+    requires { ⌜ Doable m deed (now «log_keys») (now «log_values») ⌝ }
+    ensures { λ r. ⌜ Narrowed m past deed r (now («log_keys» .entry)) (now («log_values» .entry)) ⌝ }
+{
+    match deed {
+        Deed::Fill(window, feature) => Deed::Fill(window, feature),
+        Deed::Back(run) => Deed::Back(run::before(m, log_keys, log_values, run, past)),
+        Deed::Again(run) => Deed::Again(run::before(m, log_keys, log_values, run, past)),
+    }
+}
+
+// As much as concerns a block and what lies before it in key order.
 pub fn narrow(
     deed: Deed,
     log_keys: &[u32],
@@ -57,15 +69,6 @@ pub fn narrow(
     requires { ⌜ Doable m deed (now «log_keys») (now «log_values») × (height ≤ 10) × (key + 5 ^ height ≤ 5 ^ 10) ⌝ }
     ensures { λ r. ⌜ Narrowed m (key + 5 ^ height) deed r (now («log_keys» .entry)) (now («log_values» .entry)) ⌝ }
 {
-    match deed {
-        Deed::Fill(window, feature) => Deed::Fill(window, feature),
-        Deed::Back(run) => {
-            let past = key + power::power_of_five(height);
-            Deed::Back(run::before(m, log_keys, log_values, run, past))
-        }
-        Deed::Again(run) => {
-            let past = key + power::power_of_five(height);
-            Deed::Again(run::before(m, log_keys, log_values, run, past))
-        }
-    }
+    let past = key + power::power_of_five(height);
+    narrow_to(deed, log_keys, log_values, m, past)
 }
