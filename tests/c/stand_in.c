@@ -1,6 +1,6 @@
-/* A stand-in for the library whose calls are the reference's, save the edits, which are in stand_in_edits.c. With it the
- * C side of the tests runs under the sanitizers on machines that cannot link the x86-64 archive; there all but the tests
- * of edits compare the reference with itself. */
+/* A stand-in for the library whose calls are the reference's, save the edits, which are in stand_in_edits.c. With it
+ * the C side of the tests runs under the sanitizers on machines that cannot link the x86-64 archive; there all but the
+ * tests of edits compare the reference with itself. */
 #include "reference.h"
 
 /* The slices of a list, as the calls take them and as they are passed on. */
