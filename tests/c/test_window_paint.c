@@ -72,7 +72,8 @@ static void one_window(uint32_t m, uint32_t s, const uint8_t *before, window w, 
     refusal = redo(&a), l.in_force = 1;
     stepped(refusal, &a, &l, after);
     if (m <= 3) {
-        narrow_paints += most_on_the_way(m, before, after, blocks, count, 0) > room;
+        int narrow = most_on_the_way(m, before, after, blocks, count, 0) > room;
+        narrow_paints += (unsigned long)narrow, narrow_redos += (unsigned long)narrow;
         narrow_backs += most_on_the_way(m, after, before, blocks, count, 1) > room;
     }
     free_model(&l), free_survey(&a);
