@@ -156,6 +156,8 @@ static void areas(const char *kind, size_t n) {
     }
 }
 
+static uint32_t plain_log_keys[2 * MOST], plain_log_values[2 * MOST];
+
 /* Gives the number of records afterwards: the last paint is redone, and stands. */
 static size_t edits(size_t n) {
     size_t used = 0, in_force = 0, plain_n = n;
@@ -164,7 +166,6 @@ static size_t edits(size_t n) {
         2 * 1953125 + 3 * 390625 + 1 * 78125 + 4 * 15625 + 2 * 3125 + 2 * 625 + 3 * 125; /* 2314223000: 8 by 8 pixels */
     memcpy(other_summary, summary, sizeof summary);
     memcpy(other_keys, keys, sizeof keys), memcpy(other_bits, bits, sizeof bits);
-    static uint32_t plain_log_keys[2 * MOST], plain_log_values[2 * MOST];
     printf("\nedits at m = %d, n = %zu, each with its checks of list, summary and log\n", M, n);
     uint32_t feature = 5;
     COMPARE(
@@ -190,7 +191,7 @@ static size_t edits(size_t n) {
             used = e.used;
             in_force = e.in_force;
         },
-        plain_n = plain_take_back(M, S, other_keys, other_bits, plain_n, other_summary, plain_log_keys,
+        plain_n = plain_take_back(M, S, other_keys, other_bits, plain_n, MOST, other_summary, plain_log_keys,
                                   plain_log_values, &plain));
     COMPARE(
         "redo", 6, 1,
@@ -201,12 +202,64 @@ static size_t edits(size_t n) {
             used = e.used;
             in_force = e.in_force;
         },
-        plain_n = plain_redo(M, S, other_keys, other_bits, plain_n, other_summary, plain_log_keys, plain_log_values,
-                             &plain));
+        plain_n = plain_redo(M, S, other_keys, other_bits, plain_n, MOST, other_summary, plain_log_keys,
+                             plain_log_values, &plain));
     if (n != plain_n || used != plain.used || in_force != plain.in_force || memcmp(keys, other_keys, 4 * n) != 0 ||
         memcmp(bits, other_bits, 4 * n) != 0 || memcmp(summary, other_summary, sizeof summary) != 0)
         printf("THE TWO DIFFER\n");
     return n;
+}
+
+/* A library's edit of the survey, whose counts it leaves. */
+#define EDITED(call) \
+    do { \
+        hlq_edited e = call; \
+        sink += e.refusal, n = e.n, used = e.used, in_force = e.in_force; \
+    } while (0)
+#define SURVEY \
+    M, S, keys, MOST, bits, MOST, n, summary, PLACES, log_keys, 2 * MOST, log_values, 2 * MOST, used, in_force
+
+/* A window painted as one step and taken back, and redone and taken back: list and summary are then those of before. */
+static void window_edits(const char *kind, size_t n, uint32_t row, uint32_t column, uint32_t height, uint32_t width) {
+    size_t used = 0, in_force = 0, plain_n = n;
+    plain_counts plain = { 0, 0 };
+    memcpy(other_summary, summary, sizeof summary);
+    memcpy(other_keys, keys, sizeof keys), memcpy(other_bits, bits, sizeof bits);
+    printf("\na window of %u by %u, %zu largest blocks, on the %s raster, n = %zu, each call with its checks of list, "
+           "summary and log\n",
+           height, width, plain_blocks(M, row, column, height, width), kind, n);
+    COMPARE(
+        "paint window, take back", 7, 1,
+        {
+            EDITED(hlq_paint_window(SURVEY, row, column, height, width, 5));
+            EDITED(hlq_take_back(SURVEY));
+        },
+        {
+            plain_n = plain_paint_window(M, S, other_keys, other_bits, plain_n, MOST, other_summary, plain_log_keys,
+                                         plain_log_values, 2 * MOST, &plain, row, column, height, width, 5);
+            plain_n = plain_take_back(M, S, other_keys, other_bits, plain_n, MOST, other_summary, plain_log_keys,
+                                      plain_log_values, &plain);
+        });
+    COMPARE(
+        "redo, take back", 7, 1,
+        {
+            EDITED(hlq_redo(SURVEY));
+            EDITED(hlq_take_back(SURVEY));
+        },
+        {
+            plain_n = plain_redo(M, S, other_keys, other_bits, plain_n, MOST, other_summary, plain_log_keys,
+                                 plain_log_values, &plain);
+            plain_n = plain_take_back(M, S, other_keys, other_bits, plain_n, MOST, other_summary, plain_log_keys,
+                                      plain_log_values, &plain);
+        });
+    EDITED(hlq_redo(SURVEY));
+    plain_n = plain_redo(M, S, other_keys, other_bits, plain_n, MOST, other_summary, plain_log_keys, plain_log_values,
+                         &plain);
+    if (n != plain_n || used != plain.used || in_force != plain.in_force || memcmp(keys, other_keys, 4 * n) != 0 ||
+        memcmp(bits, other_bits, 4 * n) != 0 || memcmp(summary, other_summary, sizeof summary) != 0 ||
+        memcmp(log_keys, plain_log_keys, 4 * used) != 0 || memcmp(log_values, plain_log_values, 4 * used) != 0)
+        printf("THE TWO DIFFER\n");
+    EDITED(hlq_take_back(SURVEY));
 }
 
 /* The pixels of a small block in key order, or the block itself; sometimes it, or one around it that begins after the
@@ -472,6 +525,9 @@ int main(void) {
     for (int kind = 0; kind <= 2; kind++) {
         fill(kind);
         lists(kinds[kind]);
+        size_t n = hlq_build(M, S, raster, PIXELS, keys, MOST, bits, MOST, summary, PLACES).count;
+        window_edits(kinds[kind], n, 301, 277, 512, 512);
+        window_edits(kinds[kind], n, 517, 0, 1, EDGE);
     }
     combining("patchy", 1, "patchy", 1);
     combining("patchy", 1, "noisy", 2);

@@ -1,5 +1,6 @@
 #include "plain.h"
 
+#include <stdlib.h>
 #include <string.h>
 
 static int one_bit(uint32_t b) { return b != 0 && (b & (b - 1)) == 0; }
@@ -534,24 +535,36 @@ static uint32_t step_of(uint32_t m, uint32_t key) {
     return key == 0 ? power(5, m) : step;
 }
 
+/* Whether the record before a place closes a group. */
+static int closes_group(const uint32_t *log_keys, const uint32_t *log_values, size_t end) {
+    return end >= 2 && log_keys[end - 1] == 0 && log_values[end - 1] == HLQ_GROUP_MARK;
+}
+
 static int plain_log_is_sound(uint32_t m, uint32_t s, const uint32_t *log_keys, const uint32_t *log_values,
                               size_t used, size_t in_force) {
+    size_t left = 0, step_end = used;
     if (in_force > used) return 0;
     while (used > 0) {
+        if (left == 0) step_end = used, left = 1;
+        if (used == step_end && closes_group(log_keys, log_values, used)) {
+            left = log_values[used - 2], used -= 2;
+            if (log_keys[used] != 0 || left == 0) return 0;
+        }
         if (used < 3) return 0;
         size_t count = log_values[used - 2], from = used - 2 - count;
         uint32_t key = log_keys[used - 1], step = step_of(m, key);
         if (count == 0 || count + 2 > used || log_keys[from] != key) return 0;
         if (log_keys[used - 2] != key || log_values[used - 1] >= s) return 0;
-        if (from < in_force && in_force < used) return 0;
         if (one_bit(log_values[from])) {
             if (count != 1) return 0;
         } else if (step == 1 ||
                    check_node(log_keys + from, log_values + from, count, 0, key, step / 5, all_slots(s)) != count)
             return 0;
-        used = from;
+        used = from, left--;
+        if (used < in_force && in_force < step_end) return 0;
+        if (used == in_force && left > 0) return 0;
     }
-    return 1;
+    return left == 0;
 }
 
 /* The records of a content planted in a leaf of another feature: four a level, down to the block. */
@@ -631,6 +644,201 @@ static void renew_summary(uint32_t m, uint32_t s, const uint32_t *keys, const ui
     }
 }
 
+/* ---- steps of several blocks */
+
+/* A block, its new content, and the places of its old one in the list: none where it lies inside a leaf. */
+typedef struct {
+    uint32_t key, step;
+    const uint32_t *keys, *bits;
+    size_t n, from, old;
+} part;
+
+/* A list, the parts that are put into it, none in another and by key, and the new list; how far both have been read. */
+typedef struct {
+    const uint32_t *keys, *bits;
+    size_t n, at;
+    const part *parts;
+    size_t count, next;
+    uint32_t *out_keys, *out_bits;
+} weaver;
+
+/* The records of the block at the place reached, or those of a block inside a leaf with these bits. */
+static tally copy_block(weaver *w, uint32_t leaf, uint32_t key, uint32_t step, size_t place) {
+    if (leaf) {
+        w->out_keys[place] = key, w->out_bits[place] = leaf;
+        return (tally) { leaf, place + 1 };
+    }
+    size_t from = w->at, end = one_bit(w->bits[from]) ? from + 1 : place_from(w->keys, w->n, from, key + step - 1) + 1;
+    memcpy(w->out_keys + place, w->keys + from, 4 * (end - from));
+    memcpy(w->out_bits + place, w->bits + from, 4 * (end - from));
+    w->at = end;
+    return (tally) { w->bits[from], place + end - from };
+}
+
+static tally weave(weaver *w, uint32_t leaf, uint32_t key, uint32_t step, size_t place) {
+    const part *p = w->parts + w->next;
+    if (w->next == w->count || p->key - key >= step) return copy_block(w, leaf, key, step, place);
+    if (p->key == key) {
+        memcpy(w->out_keys + place, p->keys, 4 * p->n), memcpy(w->out_bits + place, p->bits, 4 * p->n);
+        w->next++, w->at += p->old;
+        return (tally) { p->bits[0], place + p->n };
+    }
+    if (!leaf) {
+        leaf = w->bits[w->at++];
+        if (!one_bit(leaf)) leaf = 0;
+    }
+    uint32_t lower = step / 5, together = 0;
+    size_t next = place + 1;
+    for (uint32_t d = 1; d <= 4; d++) {
+        tally q = weave(w, leaf, key + d * lower, lower, next);
+        together |= q.bits, next = q.count;
+    }
+    w->out_keys[place] = key, w->out_bits[place] = together;
+    return (tally) { together, one_bit(together) ? place + 1 : next };
+}
+
+/* Where the blocks of the parts stand; gives whether none lies in another and they ascend. */
+static int place_parts(uint32_t m, const uint32_t *keys, size_t n, part *parts, size_t count) {
+    size_t at = 0;
+    int apart = 1;
+    for (size_t i = 0; i < count; i++) {
+        part *p = parts + i;
+        p->step = step_of(m, p->key);
+        if (i > 0 && p->key < parts[i - 1].key + parts[i - 1].step) apart = 0;
+        at = apart ? place_from(keys, n, at, p->key) : 0;
+        p->from = at;
+        p->old = keys[at] == p->key ? place_from(keys, n, at, p->key + p->step - 1) + 1 - at : 0;
+    }
+    return apart;
+}
+
+/* The new list is made here, beside the old one, and copied over it where it fits. */
+static uint32_t made_keys[HLQ_MOST_RECORDS(HLQ_DEEPEST_M)], made_bits[HLQ_MOST_RECORDS(HLQ_DEEPEST_M)];
+
+/* The parts put into a list: in one pass where they are apart, else one after the other. */
+static size_t make_list(uint32_t m, const uint32_t *keys, const uint32_t *bits, size_t n, const part *parts,
+                        size_t count, int apart, int backwards) {
+    weaver w = { keys, bits, n, 0, parts, count, 0, made_keys, made_bits };
+    if (apart) return weave(&w, 0, 0, power(5, m), 0).count;
+    memcpy(made_keys, keys, 4 * n), memcpy(made_bits, bits, 4 * n);
+    for (size_t i = 0; i < count; i++) {
+        const part *p = parts + (backwards ? count - 1 - i : i);
+        n = put(m, made_keys, made_bits, n, p->key, p->keys, p->bits, p->n);
+    }
+    return n;
+}
+
+static void take_over(uint32_t *keys, uint32_t *bits, size_t n, size_t now) {
+    memcpy(keys, made_keys, 4 * now), memcpy(bits, made_bits, 4 * now);
+    for (size_t i = now; i < n; i++) keys[i] = bits[i] = 0;
+}
+
+/* The summary's blocks that the parts touch are counted anew. */
+static void renew_parts(uint32_t m, uint32_t s, const uint32_t *keys, const uint32_t *bits, size_t n,
+                        uint32_t *summary, const part *parts, size_t count) {
+    uint32_t level = summary_level(m), own = power(5, m - level);
+    for (uint32_t block = 0; block < 1u << 2 * level; block++) {
+        uint32_t at = summary_key(m, block), counts[32] = { 0 };
+        size_t i = 0;
+        while (i < count && (at + own <= parts[i].key || parts[i].key + parts[i].step <= at)) i++;
+        if (i == count) continue;
+        count_leaves(bits, plain_place(keys, n, at), 1u << 2 * (m - level), counts);
+        memcpy(summary + (size_t)block * s, counts, 4 * s);
+    }
+}
+
+/* The window's largest blocks, by key. */
+static size_t cover(const frame *w, spot b, part *parts, size_t count) {
+    if (apart(w, &b)) return count;
+    if (inside(w, &b)) {
+        parts[count].key = b.key;
+        return count + 1;
+    }
+    for (uint32_t digit = 1; digit <= 4; digit++) count = cover(w, quadrant(&b, digit), parts, count);
+    return count;
+}
+
+/* The group of the parts, from place in_force on; keys and bits are those of the list before. */
+static size_t log_parts(const uint32_t *keys, const uint32_t *bits, const part *parts, size_t count, uint32_t feature,
+                        uint32_t *log_keys, uint32_t *log_values, size_t at) {
+    for (size_t i = 0; i < count; i++) {
+        const part *p = parts + i;
+        size_t records = p->old ? p->old : 1;
+        memcpy(log_keys + at, p->old ? keys + p->from : &p->key, 4 * records);
+        memcpy(log_values + at, bits + p->from, 4 * records);
+        at += records;
+        log_keys[at] = log_keys[at + 1] = p->key;
+        log_values[at] = (uint32_t)records, log_values[at + 1] = feature;
+        at += 2;
+    }
+    log_keys[at] = log_keys[at + 1] = 0;
+    log_values[at] = (uint32_t)count, log_values[at + 1] = HLQ_GROUP_MARK;
+    return at + 2;
+}
+
+size_t plain_paint_window(uint32_t m, uint32_t s, uint32_t *keys, uint32_t *bits, size_t n, size_t room,
+                          uint32_t *summary, uint32_t *log_keys, uint32_t *log_values, size_t log_room,
+                          plain_counts *c, uint32_t row, uint32_t column, uint32_t height, uint32_t width,
+                          uint32_t feature) {
+    if (!plain_is_list(m, s, keys, bits, n) || !plain_is_summary(m, s, keys, bits, n, summary)) return 0;
+    if (!plain_log_is_sound(m, s, log_keys, log_values, c->used, c->in_force)) return 0;
+    frame w = { row, column, height, width };
+    spot root = { 0, 0, 0, 1u << m, power(5, m) };
+    size_t count = blocks_below(&w, root), end = c->in_force + 2;
+    uint32_t leaf = 1u << feature;
+    part *parts = malloc(count * sizeof *parts);
+    if (!parts) return 0;
+    cover(&w, root, parts, 0);
+    for (size_t i = 0; i < count; i++) parts[i].keys = &parts[i].key, parts[i].bits = &leaf, parts[i].n = 1;
+    place_parts(m, keys, n, parts, count);
+    for (size_t i = 0; i < count; i++) end += (parts[i].old ? parts[i].old : 1) + 2;
+    size_t now = end > log_room ? 0 : make_list(m, keys, bits, n, parts, count, 1, 0);
+    if (now > room) now = 0;
+    if (now) {
+        log_parts(keys, bits, parts, count, feature, log_keys, log_values, c->in_force);
+        for (size_t i = end; i < c->used; i++) log_keys[i] = log_values[i] = 0;
+        c->used = c->in_force = end;
+        take_over(keys, bits, n, now);
+        renew_parts(m, s, keys, bits, now, summary, parts, count);
+    }
+    free(parts);
+    return now;
+}
+
+/* Where the step that ends at a place starts. */
+static size_t step_start(const uint32_t *log_keys, const uint32_t *log_values, size_t end) {
+    size_t number = 1;
+    if (closes_group(log_keys, log_values, end)) number = log_values[end - 2], end -= 2;
+    while (number-- > 0) end -= 2 + (size_t)log_values[end - 2];
+    return end;
+}
+
+/* The group that ends at a place: the contents of its entries, or their features, go into their blocks. */
+static size_t put_group(uint32_t m, uint32_t s, uint32_t *keys, uint32_t *bits, size_t n, size_t room,
+                        uint32_t *summary, const uint32_t *log_keys, const uint32_t *log_values, size_t end,
+                        int backwards) {
+    size_t count = log_values[end - 2];
+    uint32_t leaves[32];
+    part *parts = malloc(count * sizeof *parts);
+    if (!parts) return 0;
+    for (uint32_t f = 0; f < s; f++) leaves[f] = 1u << f;
+    end -= 2;
+    for (size_t i = count; i > 0; i--) {
+        size_t records = log_values[end - 2], from = end - 2 - records;
+        part p = { log_keys[end - 1], 0, log_keys + from, log_values + from, records, 0, 0 };
+        if (!backwards) p.keys = log_keys + end - 1, p.bits = leaves + log_values[end - 1], p.n = 1;
+        parts[i - 1] = p, end = from;
+    }
+    size_t now = make_list(m, keys, bits, n, parts, count, place_parts(m, keys, n, parts, count), backwards);
+    if (now > room) now = 0;
+    if (now) {
+        take_over(keys, bits, n, now);
+        renew_parts(m, s, keys, bits, now, summary, parts, count);
+    }
+    free(parts);
+    return now;
+}
+
 size_t plain_paint(uint32_t m, uint32_t s, uint32_t *keys, uint32_t *bits, size_t n, uint32_t *summary,
                    uint32_t *log_keys, uint32_t *log_values, plain_counts *c, uint32_t key, uint32_t feature) {
     if (!plain_is_list(m, s, keys, bits, n) || !plain_is_summary(m, s, keys, bits, n, summary)) return 0;
@@ -651,10 +859,15 @@ size_t plain_paint(uint32_t m, uint32_t s, uint32_t *keys, uint32_t *bits, size_
     return n;
 }
 
-size_t plain_take_back(uint32_t m, uint32_t s, uint32_t *keys, uint32_t *bits, size_t n, uint32_t *summary,
-                       const uint32_t *log_keys, const uint32_t *log_values, plain_counts *c) {
+size_t plain_take_back(uint32_t m, uint32_t s, uint32_t *keys, uint32_t *bits, size_t n, size_t room,
+                       uint32_t *summary, const uint32_t *log_keys, const uint32_t *log_values, plain_counts *c) {
     if (!plain_is_list(m, s, keys, bits, n) || !plain_is_summary(m, s, keys, bits, n, summary)) return 0;
     if (!plain_log_is_sound(m, s, log_keys, log_values, c->used, c->in_force)) return 0;
+    if (closes_group(log_keys, log_values, c->in_force)) {
+        n = put_group(m, s, keys, bits, n, room, summary, log_keys, log_values, c->in_force, 1);
+        c->in_force = n ? step_start(log_keys, log_values, c->in_force) : c->in_force;
+        return n;
+    }
     size_t count = log_values[c->in_force - 2], from = c->in_force - 2 - count;
     uint32_t key = log_keys[c->in_force - 1];
     n = put(m, keys, bits, n, key, log_keys + from, log_values + from, count);
@@ -663,12 +876,17 @@ size_t plain_take_back(uint32_t m, uint32_t s, uint32_t *keys, uint32_t *bits, s
     return n;
 }
 
-size_t plain_redo(uint32_t m, uint32_t s, uint32_t *keys, uint32_t *bits, size_t n, uint32_t *summary,
+size_t plain_redo(uint32_t m, uint32_t s, uint32_t *keys, uint32_t *bits, size_t n, size_t room, uint32_t *summary,
                   const uint32_t *log_keys, const uint32_t *log_values, plain_counts *c) {
     if (!plain_is_list(m, s, keys, bits, n) || !plain_is_summary(m, s, keys, bits, n, summary)) return 0;
     if (!plain_log_is_sound(m, s, log_keys, log_values, c->used, c->in_force)) return 0;
-    size_t end = c->used;
-    while (end - 2 - log_values[end - 2] > c->in_force) end -= 2 + (size_t)log_values[end - 2];
+    size_t end = c->used, start;
+    while ((start = step_start(log_keys, log_values, end)) > c->in_force) end = start;
+    if (closes_group(log_keys, log_values, end)) {
+        n = put_group(m, s, keys, bits, n, room, summary, log_keys, log_values, end, 0);
+        c->in_force = n ? end : c->in_force;
+        return n;
+    }
     uint32_t key = log_keys[end - 1], leaf = 1u << log_values[end - 1];
     n = put(m, keys, bits, n, key, &key, &leaf, 1);
     renew_summary(m, s, keys, bits, n, summary, key);

@@ -39,16 +39,21 @@ int plain_is_summary(uint32_t m, uint32_t s, const uint32_t *keys, const uint32_
 uint32_t plain_area(uint32_t m, uint32_t s, const uint32_t *keys, const uint32_t *bits, size_t n,
                     const uint32_t *summary, uint32_t row, uint32_t column, uint32_t height, uint32_t width,
                     uint32_t feature);
-/* Paint, take back and redo with one memmove of each slice; they give the new n, and the log's counts through the
- * pointer. */
+/* Paint of a block, and taking back and redo of one, with one memmove of each slice. Paint of a window, and taking back
+ * and redo of a group: the new list is made in one pass beside the old one, and copied over it where it fits the room.
+ * They give the new n, and the log's counts through the pointer. */
 typedef struct {
     size_t used, in_force;
 } plain_counts;
 size_t plain_paint(uint32_t m, uint32_t s, uint32_t *keys, uint32_t *bits, size_t n, uint32_t *summary,
                    uint32_t *log_keys, uint32_t *log_values, plain_counts *c, uint32_t key, uint32_t feature);
-size_t plain_take_back(uint32_t m, uint32_t s, uint32_t *keys, uint32_t *bits, size_t n, uint32_t *summary,
-                       const uint32_t *log_keys, const uint32_t *log_values, plain_counts *c);
-size_t plain_redo(uint32_t m, uint32_t s, uint32_t *keys, uint32_t *bits, size_t n, uint32_t *summary,
+size_t plain_paint_window(uint32_t m, uint32_t s, uint32_t *keys, uint32_t *bits, size_t n, size_t room,
+                          uint32_t *summary, uint32_t *log_keys, uint32_t *log_values, size_t log_room,
+                          plain_counts *c, uint32_t row, uint32_t column, uint32_t height, uint32_t width,
+                          uint32_t feature);
+size_t plain_take_back(uint32_t m, uint32_t s, uint32_t *keys, uint32_t *bits, size_t n, size_t room,
+                       uint32_t *summary, const uint32_t *log_keys, const uint32_t *log_values, plain_counts *c);
+size_t plain_redo(uint32_t m, uint32_t s, uint32_t *keys, uint32_t *bits, size_t n, size_t room, uint32_t *summary,
                   const uint32_t *log_keys, const uint32_t *log_values, plain_counts *c);
 /* Live findings and, through the pointer, the hidden ones; waivers are merged in order, and their areas added up. */
 size_t plain_findings(uint32_t m, const uint32_t *keys, const uint32_t *bits, size_t n, const hlq_rule *rules,

@@ -31,10 +31,14 @@
  * quarters for a block, down to single pixels.
  *
  * A log is two slices, log_keys and log_values, of which the first `used` places are in use; of
- * these the first `in_force` are the entries of paints that can be taken back, and the others those
- * of paints that were taken back and can be redone. Start with used = 0 and in_force = 0. An entry
- * is the former content of a painted block, n records, and then two records with the block's key:
- * one with n, and one with the feature.
+ * these the first `in_force` are the steps that can be taken back, and the others those that were
+ * taken back and can be redone. Start with used = 0 and in_force = 0. A step is a single entry, for
+ * the paint of a block, or a group, for the paint of a window. An entry is the former content of a
+ * painted block, n records, and then two records with the block's key: one with n, and one with the
+ * feature. A group is entries, one or more, then a record with key 0 and their number, and then one
+ * with key 0 and HLQ_GROUP_MARK, which is no feature. A log is read from its end, where a record
+ * with key 0 and that mark closes a group, and any other a single entry; it is not sound with a
+ * group whose number is 0 or exceeds the single entries straight before it.
  *
  * REFUSALS
  *
@@ -61,7 +65,7 @@ extern "C" {
 #endif
 
 /* Grows by one whenever a call or a result changes its shape. */
-#define HLQ_INTERFACE 12
+#define HLQ_INTERFACE 13
 
 #define HLQ_DEEPEST_M 10  /* the largest m */
 #define HLQ_MOST_SLOTS 32 /* the largest s */
@@ -72,6 +76,9 @@ extern "C" {
 /* The places of each slice of a table of waivers, and the rows that an office may hold in it. */
 #define HLQ_TABLE_PLACES 512
 #define HLQ_OFFICE_ROWS 256
+
+/* The value of the record that closes a group in a log. */
+#define HLQ_GROUP_MARK 255
 
 /* The places of the summary of a map: 4^2 or 4^m blocks of s numbers. */
 #define HLQ_SUMMARY_PLACES(m, s) (((size_t)1 << 2 * ((m) < 2 ? (m) : 2)) * (s))
@@ -101,13 +108,13 @@ enum {
     HLQ_LIST = 4,          /* n exceeds the list's room, or the first n records are no raster's list
                               at m and s */
     HLQ_LOG = 5,           /* used exceeds the log's room, the log is not sound, or in_force is
-                              neither 0 nor the end of an entry within used */
+                              neither 0 nor the end of a step within used */
     HLQ_WINDOW = 6,        /* not a window of this raster */
     HLQ_FEATURE = 7,       /* the feature is s or more */
     HLQ_KEY = 8,           /* the key is not valid at m */
     HLQ_LIST_ROOM = 9,     /* the list afterwards would exceed its room */
     HLQ_LOG_ROOM = 10,     /* the log afterwards would exceed its room */
-    HLQ_LOG_EMPTY = 11,    /* in_force is 0: there is no paint to take back */
+    HLQ_LOG_EMPTY = 11,    /* in_force is 0: there is no step to take back */
     HLQ_ANSWER_ROOM = 12,  /* the answer exceeds its room; the places needed are returned */
     HLQ_RULES = 13,        /* rule ids not strictly ascending, or a bad window or feature */
     HLQ_WAIVERS = 14,      /* not a table of waivers, a bad key, or an id of no rule */
@@ -117,7 +124,7 @@ enum {
     HLQ_SUMMARY = 18,      /* the summary has a wrong length, or does not hold this map's counts */
     HLQ_LEAVES = 19,       /* the count exceeds the leaves' slices, or the leaves are not ascending
                               valid keys that cover the raster once, with features below s */
-    HLQ_NO_REDO = 20,      /* no paint that was taken back is there to redo */
+    HLQ_NO_REDO = 20,      /* in_force is used: there is no step to redo */
     HLQ_OFFICE = 21,       /* the office is neither 0 nor 1 */
     HLQ_ROW = 22,          /* the row to add is there, or the row to remove is not */
     HLQ_BIT_STRINGS = 23,  /* s is not 2, or what is to be read is no pair of bit strings */
@@ -318,7 +325,7 @@ hlq_counted hlq_batch(uint32_t m, uint32_t s,
 /* PAINT. Every pixel of the block gets the feature. The list becomes the list of the new raster, in
  * its places 0 to n - 1 (n of the result); places that it gives up become zero, others stay. The
  * log's entry for it, with which hlq_take_back undoes the paint, stands from place in_force on;
- * paints that could be redone are dropped, and what was used past the new entry becomes zero; all
+ * steps that could be redone are dropped, and what was used past the new entry becomes zero; all
  * other log places stay. A refused paint drops nothing. A paint that changes no pixel is logged
  * too. The summary must be the list's, and becomes that of the new raster.
  * Refusals: HLQ_SETTINGS, HLQ_LIST, HLQ_SUMMARY, HLQ_LOG, HLQ_KEY, HLQ_FEATURE, HLQ_LOG_ROOM,
@@ -330,12 +337,30 @@ hlq_edited hlq_paint(uint32_t m, uint32_t s,
                      uint32_t *log_values, size_t log_values_len, size_t used, size_t in_force,
                      uint32_t key, uint32_t feature);
 
-/* TAKE BACK. The latest paint in force is undone: its block gets its former content. The log stays,
- * and in_force is lowered over the entry, so that hlq_redo can put the paint back. The summary must
- * be the list's, and becomes that of the new raster.
+/* PAINT WINDOW. Every pixel of the window gets the feature, as one step: taking back and redo are
+ * of the whole of it. List, summary and log change as in hlq_paint, save that what stands from
+ * place in_force on is a group: an entry for each of the window's largest blocks, in ascending key
+ * order. These are the blocks that lie in it, and are the whole map or have a parent that does not.
+ * A window that is one block gives a group of one. HLQ_LOG_ROOM counts the whole group, and
+ * HLQ_LIST_ROOM is about the list in the end: no stage on the way needs more room.
+ * Refusals: HLQ_SETTINGS, HLQ_LIST, HLQ_SUMMARY, HLQ_LOG, HLQ_WINDOW, HLQ_FEATURE, HLQ_LOG_ROOM,
+ * HLQ_LIST_ROOM, in this order, all on the end result, before the first write. */
+hlq_edited hlq_paint_window(uint32_t m, uint32_t s,
+                            uint32_t *keys, size_t keys_len, uint32_t *bits, size_t bits_len,
+                            size_t n, uint32_t *summary, size_t summary_len,
+                            uint32_t *log_keys, size_t log_keys_len,
+                            uint32_t *log_values, size_t log_values_len,
+                            size_t used, size_t in_force,
+                            uint32_t row, uint32_t column, uint32_t height, uint32_t width,
+                            uint32_t feature);
+
+/* TAKE BACK. The latest step in force is undone: its block gets its former content, and in a group
+ * every block does, from the last entry to the first. The log stays, and in_force is lowered over
+ * the step, so that hlq_redo can put it back. The summary must be the list's, and becomes that of
+ * the new raster.
  * Refusals: HLQ_SETTINGS, HLQ_LIST, HLQ_SUMMARY, HLQ_LOG, HLQ_LOG_EMPTY, HLQ_LIST_ROOM, in this
  * order.
- * HLQ_LIST_ROOM comes only with a log from another map. */
+ * HLQ_LIST_ROOM is about the end result alone, and comes only with a log from another map. */
 hlq_edited hlq_take_back(uint32_t m, uint32_t s,
                          uint32_t *keys, size_t keys_len, uint32_t *bits, size_t bits_len, size_t n,
                          uint32_t *summary, size_t summary_len,
@@ -343,19 +368,19 @@ hlq_edited hlq_take_back(uint32_t m, uint32_t s,
                          uint32_t *log_values, size_t log_values_len, size_t used,
                          size_t in_force);
 
-/* REDO. The paint that was taken back last is put back: its block gets its feature again. The log
- * stays, and in_force is raised over the entry. The summary must be the list's, and becomes that of
- * the new raster.
+/* REDO. The step that was taken back last is put back: its block gets its feature again, and in a
+ * group every block does, from the first entry to the last. The log stays, and in_force is raised
+ * over the step. The summary must be the list's, and becomes that of the new raster.
  * Refusals: HLQ_SETTINGS, HLQ_LIST, HLQ_SUMMARY, HLQ_LOG, HLQ_NO_REDO, HLQ_LIST_ROOM, in this
  * order.
- * HLQ_LIST_ROOM comes only with a log from another map. */
+ * HLQ_LIST_ROOM is about the end result alone, and comes only with a log from another map. */
 hlq_edited hlq_redo(uint32_t m, uint32_t s,
                     uint32_t *keys, size_t keys_len, uint32_t *bits, size_t bits_len, size_t n,
                     uint32_t *summary, size_t summary_len,
                     uint32_t *log_keys, size_t log_keys_len,
                     uint32_t *log_values, size_t log_values_len, size_t used, size_t in_force);
 
-/* EMPTY. The new counts of an emptied log, both 0. Earlier paints can then no longer be taken back
+/* EMPTY. The new counts of an emptied log, both 0. Earlier steps can then no longer be taken back
  * or redone.
  * Refusals: none. */
 hlq_emptied hlq_empty(void);

@@ -5,7 +5,7 @@
 #include <string.h>
 
 /* The limits of documents 01 and 02, written here a second time: the header's names are what is tested. */
-enum { DEEPEST = 10, SLOTS = 32, OLD_SLOTS = 16, NO_FEATURE = 255 };
+enum { DEEPEST = 10, SLOTS = 32, OLD_SLOTS = 16, NO_FEATURE = 255, MARK = 255 };
 
 /* The most pixels and records that a map can have. */
 static size_t pixels_of(uint32_t m) { return (size_t)1 << 2 * m; }
@@ -136,7 +136,9 @@ static int shows_block(uint32_t m, uint32_t s, uint32_t block, const uint32_t *k
     for (uint32_t r = row; r < row + side; r++)
         for (uint32_t c = column; c < column + side; c++)
             if (raster[(size_t)r * edge + c] == NO_FEATURE) return 0;
-    records again = new_records(m);
+    uint32_t height = 0;
+    while (1u << height < side) height++;
+    records again = new_records(height);
     list_of(m, raster, block, &again);
     int same = again.n == n && memcmp(again.keys, keys, n * sizeof *keys) == 0 &&
                memcmp(again.bits, bits, n * sizeof *bits) == 0;
@@ -576,20 +578,44 @@ static int entry_before(uint32_t m, uint32_t s, const uint32_t *log_keys, const 
            shows_block(m, s, e->key, log_keys + e->start, log_values + e->start, e->count, raster);
 }
 
-/* Entries from the end, as far as used; the count in force is 0 or the end of one of them. Gives the entry that ends
- * there and the one that starts there, where there are such. */
+/* A step of the log: where it starts, where its last entry ends, and where the step ends. */
+typedef struct {
+    size_t start, entries_end, end;
+} log_step;
+
+/* The step that ends at a place: the single entry there or, where the last record is (0, 255), so many entries as the
+ * record before says; 0 where there is none. */
+static int step_before(uint32_t m, uint32_t s, const uint32_t *log_keys, const uint32_t *log_values, size_t end,
+                       uint8_t *raster, log_step *t) {
+    entry e;
+    uint32_t number = 1;
+    *t = (log_step){ end, end, end };
+    if (end >= 2 && log_keys[end - 1] == 0 && log_values[end - 1] == MARK) {
+        if (log_keys[end - 2] != 0 || log_values[end - 2] == 0) return 0;
+        number = log_values[end - 2];
+        t->start = t->entries_end = end - 2;
+    }
+    for (; number > 0; number--) {
+        if (!entry_before(m, s, log_keys, log_values, t->start, raster, &e)) return 0;
+        t->start = e.start;
+    }
+    return 1;
+}
+
+/* Steps from the end, as far as used; the count in force is 0 or the end of one of them. Gives the step that ends there
+ * and the one that starts there, where there are such. */
 static int log_is_sound(uint32_t m, uint32_t s, const uint32_t *log_keys, const uint32_t *log_values, size_t room,
-                        size_t used, size_t in_force, entry *last, entry *next) {
+                        size_t used, size_t in_force, log_step *last, log_step *next) {
     if (used > room) return 0;
     uint8_t *raster = new_raster(m);
     int sound = 1, met = in_force == 0;
     for (size_t end = used; sound && end > 0;) {
-        entry e = { 0, 0, 0, 0, 0 };
-        sound = entry_before(m, s, log_keys, log_values, end, raster, &e);
+        log_step t = { 0, 0, 0 };
+        sound = step_before(m, s, log_keys, log_values, end, raster, &t);
         if (!sound) break;
-        if (e.end == in_force) met = 1, *last = e;
-        if (e.start == in_force) *next = e;
-        end = e.start;
+        if (t.end == in_force) met = 1, *last = t;
+        if (t.start == in_force) *next = t;
+        end = t.start;
     }
     free(raster);
     return sound && met;
@@ -619,44 +645,128 @@ static uint64_t relist(uint32_t m, const uint8_t *raster, uint32_t *keys, size_t
 
 static const hlq_edited no_edit = { 0, 0, 0, 0 };
 
-hlq_edited ref_paint(uint32_t m, uint32_t s, uint32_t *keys, size_t keys_len, uint32_t *bits, size_t bits_len, size_t n,
-                     uint32_t *summary, size_t summary_len, uint32_t *log_keys, size_t log_keys_len,
-                     uint32_t *log_values, size_t log_values_len, size_t used, size_t in_force, uint32_t key,
-                     uint32_t feature) {
-    size_t log_room = shorter(log_keys_len, log_values_len);
+/* What a paint writes into the log, before it is known to fit. */
+typedef struct {
+    uint32_t *keys, *values;
+    size_t n, room;
+} draft;
+
+static void write_log(draft *d, uint32_t key, uint32_t value) {
+    if (d->n == d->room) {
+        d->room = 2 * d->room + 64;
+        d->keys = realloc(d->keys, d->room * sizeof *d->keys);
+        d->values = realloc(d->values, d->room * sizeof *d->values);
+        if (!d->keys || !d->values) abort();
+    }
+    d->keys[d->n] = key;
+    d->values[d->n++] = value;
+}
+
+/* Each block in turn: its content goes into the draft, with the closing records, and its pixels get the feature. */
+static void paint_in_turn(uint32_t m, uint8_t *raster, const uint32_t *blocks, size_t count, uint32_t feature,
+                          draft *d) {
+    records content = new_records(m);
+    for (size_t b = 0; b < count; b++) {
+        list_of(m, raster, blocks[b], &content);
+        for (size_t i = 0; i < content.n; i++) write_log(d, content.keys[i], content.bits[i]);
+        write_log(d, blocks[b], (uint32_t)content.n);
+        write_log(d, blocks[b], feature);
+        fill_block(m, blocks[b], feature, raster);
+    }
+    free_records(&content);
+}
+
+/* The blocks that a paint is of, in order: one block, or the largest blocks of a window, which are those of a raster
+ * that has 1 at its pixels. */
+static uint32_t *blocks_to_paint(uint32_t m, int window, uint32_t key, dragged w, size_t *count) {
+    uint32_t *blocks = new_selection(m), edge = 1u << m;
+    uint8_t *marks = new_raster(m);
+    if (window) {
+        for (uint32_t r = 0; r < edge; r++)
+            for (uint32_t c = 0; c < edge; c++) marks[(size_t)r * edge + c] = (uint8_t)was_dragged(w, r, c);
+        *count = select_keys(m, marks, 0, 0, edge, edge, 1, blocks);
+    } else blocks[0] = key, *count = 1;
+    free(marks);
+    return blocks;
+}
+
+/* A paint of a block or, where the window is not null, of a window. */
+static hlq_edited paint_step(uint32_t m, uint32_t s, uint32_t *keys, size_t keys_len, uint32_t *bits, size_t bits_len,
+                             size_t n, uint32_t *summary, size_t summary_len, uint32_t *log_keys, size_t log_keys_len,
+                             uint32_t *log_values, size_t log_values_len, size_t used, size_t in_force, uint32_t key,
+                             const uint32_t *window, uint32_t feature) {
+    size_t log_room = shorter(log_keys_len, log_values_len), now = 0, count;
     if (settings_are_bad(m, s)) return (hlq_edited){ 1, 0, 0, 0 };
     uint8_t *raster = raster_of(m, s, keys, keys_len, bits, bits_len, n);
     if (!raster) return (hlq_edited){ 4, 0, 0, 0 };
     hlq_edited answer = no_edit;
-    entry last, next;
+    log_step last, next;
     if (!is_summary(m, s, raster, summary, summary_len)) answer.refusal = 18;
     else if (!log_is_sound(m, s, log_keys, log_values, log_room, used, in_force, &last, &next)) answer.refusal = 5;
-    else if (!ref_key_is_valid(m, key)) answer.refusal = 8;
+    else if (window && !is_window(m, window[0], window[1], window[2], window[3])) answer.refusal = 6;
+    else if (!window && !ref_key_is_valid(m, key)) answer.refusal = 8;
     else if (feature >= s) answer.refusal = 7;
     else {
-        records content = new_records(m);
-        size_t now = 0;
-        list_of(m, raster, key, &content);
-        fill_block(m, key, feature, raster);
-        size_t closing = in_force + content.n;
-        if (closing + 2 > log_room) answer.refusal = 10;
+        dragged w = { 0, 0, 0, 0 };
+        draft d = { NULL, NULL, 0, 0 };
+        if (window) w = (dragged){ window[0], window[1], window[2], window[3] };
+        uint32_t *blocks = blocks_to_paint(m, window != NULL, key, w, &count);
+        paint_in_turn(m, raster, blocks, count, feature, &d);
+        if (window) write_log(&d, 0, (uint32_t)count), write_log(&d, 0, MARK);
+        if (in_force + d.n > log_room) answer.refusal = 10;
         else answer.refusal = relist(m, raster, keys, keys_len, bits, bits_len, n, &now);
         if (answer.refusal == 0) {
             for (size_t i = in_force; i < used; i++) log_keys[i] = log_values[i] = 0;
-            memcpy(log_keys + in_force, content.keys, content.n * sizeof *log_keys);
-            memcpy(log_values + in_force, content.bits, content.n * sizeof *log_values);
-            log_keys[closing] = log_keys[closing + 1] = key;
-            log_values[closing] = (uint32_t)content.n, log_values[closing + 1] = feature;
+            memcpy(log_keys + in_force, d.keys, d.n * sizeof *log_keys);
+            memcpy(log_values + in_force, d.values, d.n * sizeof *log_values);
             ref_summary(m, s, raster, summary);
-            answer = (hlq_edited){ 0, now, closing + 2, closing + 2 };
+            answer = (hlq_edited){ 0, now, in_force + d.n, in_force + d.n };
         }
-        free_records(&content);
+        free(d.keys), free(d.values), free(blocks);
     }
     free(raster);
     return answer;
 }
 
-/* Taking back, or redo: the content of the last entry in force, or the feature of the next one, goes into its block. */
+hlq_edited ref_paint(uint32_t m, uint32_t s, uint32_t *keys, size_t keys_len, uint32_t *bits, size_t bits_len, size_t n,
+                     uint32_t *summary, size_t summary_len, uint32_t *log_keys, size_t log_keys_len,
+                     uint32_t *log_values, size_t log_values_len, size_t used, size_t in_force, uint32_t key,
+                     uint32_t feature) {
+    return paint_step(m, s, keys, keys_len, bits, bits_len, n, summary, summary_len, log_keys, log_keys_len, log_values,
+                      log_values_len, used, in_force, key, NULL, feature);
+}
+
+hlq_edited ref_paint_window(uint32_t m, uint32_t s, uint32_t *keys, size_t keys_len, uint32_t *bits, size_t bits_len,
+                            size_t n, uint32_t *summary, size_t summary_len, uint32_t *log_keys, size_t log_keys_len,
+                            uint32_t *log_values, size_t log_values_len, size_t used, size_t in_force, uint32_t row,
+                            uint32_t column, uint32_t height, uint32_t width, uint32_t feature) {
+    uint32_t window[] = { row, column, height, width };
+    return paint_step(m, s, keys, keys_len, bits, bits_len, n, summary, summary_len, log_keys, log_keys_len, log_values,
+                      log_values_len, used, in_force, 0, window, feature);
+}
+
+/* The contents of a step's entries go into their blocks, from the last to the first. */
+static void put_contents(uint32_t m, uint32_t s, const uint32_t *log_keys, const uint32_t *log_values, log_step t,
+                         uint8_t *raster) {
+    entry e;
+    for (size_t end = t.entries_end; end > t.start; end = e.start)
+        entry_before(m, s, log_keys, log_values, end, raster, &e);
+}
+
+/* The blocks of a step's entries get their features, from the first to the last. */
+static void put_features(uint32_t m, uint32_t s, const uint32_t *log_keys, const uint32_t *log_values, log_step t,
+                         uint8_t *raster) {
+    size_t count = 0;
+    entry *all = malloc((t.end - t.start) / 3 * sizeof *all);
+    uint8_t *aside = new_raster(m);
+    if (!all) abort();
+    for (size_t end = t.entries_end; end > t.start; end = all[count++].start)
+        entry_before(m, s, log_keys, log_values, end, aside, &all[count]);
+    while (count-- > 0) fill_block(m, all[count].key, all[count].feature, raster);
+    free(all), free(aside);
+}
+
+/* Taking back the last step in force, or redo of the next one. */
 static hlq_edited step(int forward, uint32_t m, uint32_t s, uint32_t *keys, size_t keys_len, uint32_t *bits,
                        size_t bits_len, size_t n, uint32_t *summary, size_t summary_len, const uint32_t *log_keys,
                        size_t log_keys_len, const uint32_t *log_values, size_t log_values_len, size_t used,
@@ -665,15 +775,15 @@ static hlq_edited step(int forward, uint32_t m, uint32_t s, uint32_t *keys, size
     uint8_t *raster = raster_of(m, s, keys, keys_len, bits, bits_len, n);
     if (!raster) return (hlq_edited){ 4, 0, 0, 0 };
     hlq_edited answer = no_edit;
-    entry last = { 0, 0, 0, 0, 0 }, next = last;
+    log_step last = { 0, 0, 0 }, next = last;
     size_t now = 0, log_room = shorter(log_keys_len, log_values_len);
     if (!is_summary(m, s, raster, summary, summary_len)) answer.refusal = 18;
     else if (!log_is_sound(m, s, log_keys, log_values, log_room, used, in_force, &last, &next)) answer.refusal = 5;
     else if (forward && in_force == used) answer.refusal = 20;
     else if (!forward && in_force == 0) answer.refusal = 11;
     else {
-        if (forward) fill_block(m, next.key, next.feature, raster);
-        else shows_block(m, s, last.key, log_keys + last.start, log_values + last.start, last.count, raster);
+        if (forward) put_features(m, s, log_keys, log_values, next, raster);
+        else put_contents(m, s, log_keys, log_values, last, raster);
         answer.refusal = relist(m, raster, keys, keys_len, bits, bits_len, n, &now);
         if (answer.refusal == 0) {
             ref_summary(m, s, raster, summary);

@@ -81,6 +81,12 @@ hlq_edited ref_paint(uint32_t m, uint32_t s,
                      uint32_t *log_keys, size_t log_keys_len,
                      uint32_t *log_values, size_t log_values_len, size_t used, size_t in_force,
                      uint32_t key, uint32_t feature);
+hlq_edited ref_paint_window(uint32_t m, uint32_t s,
+                            uint32_t *keys, size_t keys_len, uint32_t *bits, size_t bits_len, size_t n,
+                            uint32_t *summary, size_t summary_len,
+                            uint32_t *log_keys, size_t log_keys_len,
+                            uint32_t *log_values, size_t log_values_len, size_t used, size_t in_force,
+                            uint32_t row, uint32_t column, uint32_t height, uint32_t width, uint32_t feature);
 hlq_edited ref_take_back(uint32_t m, uint32_t s,
                          uint32_t *keys, size_t keys_len, uint32_t *bits, size_t bits_len, size_t n,
                          uint32_t *summary, size_t summary_len,

@@ -1,15 +1,12 @@
-/* A stand-in for the library whose calls are the reference's. With it the C side of the tests runs under the sanitizers
- * on machines that cannot link the x86-64 archive; there it compares the reference with itself. */
+/* A stand-in for the library whose calls are the reference's, save the edits, which are in stand_in_edits.c. With it
+ * the C side of the tests runs under the sanitizers on machines that cannot link the x86-64 archive; there all but the
+ * tests of edits compare the reference with itself. */
 #include "reference.h"
 
-/* The slices of a list and of a log, as the calls take them and as they are passed on. */
+/* The slices of a list, as the calls take them and as they are passed on. */
 #define TAKE_CONST_LIST const uint32_t *keys, size_t keys_len, const uint32_t *bits, size_t bits_len
 #define TAKE_LIST uint32_t *keys, size_t keys_len, uint32_t *bits, size_t bits_len
 #define LIST keys, keys_len, bits, bits_len
-#define TAKE_LOG uint32_t *log_keys, size_t log_keys_len, uint32_t *log_values, size_t log_values_len
-#define LOG log_keys, log_keys_len, log_values, log_values_len
-#define TAKE_COUNTS size_t used, size_t in_force
-#define COUNTS used, in_force
 #define TAKE_TABLE \
     uint32_t *offices, size_t offices_len, uint32_t *ids, size_t ids_len, uint32_t *waived, size_t waived_len
 #define TABLE offices, offices_len, ids, ids_len, waived, waived_len
@@ -93,19 +90,6 @@ hlq_counted hlq_batch(uint32_t m, uint32_t s, TAKE_CONST_LIST, size_t n, const h
                       size_t questions_len, uint32_t *refusals, size_t refusals_len,
                       uint32_t *values, size_t values_len) {
     return ref_batch(m, s, LIST, n, questions, questions_len, refusals, refusals_len, values, values_len);
-}
-
-hlq_edited hlq_paint(uint32_t m, uint32_t s, TAKE_LIST, size_t n, TAKE_SUMMARY, TAKE_LOG, TAKE_COUNTS,
-                     uint32_t key, uint32_t feature) {
-    return ref_paint(m, s, LIST, n, SUMMARY, LOG, COUNTS, key, feature);
-}
-
-hlq_edited hlq_take_back(uint32_t m, uint32_t s, TAKE_LIST, size_t n, TAKE_SUMMARY, TAKE_LOG, TAKE_COUNTS) {
-    return ref_take_back(m, s, LIST, n, SUMMARY, LOG, COUNTS);
-}
-
-hlq_edited hlq_redo(uint32_t m, uint32_t s, TAKE_LIST, size_t n, TAKE_SUMMARY, TAKE_LOG, TAKE_COUNTS) {
-    return ref_redo(m, s, LIST, n, SUMMARY, LOG, COUNTS);
 }
 
 hlq_counted hlq_add_waiver(uint32_t m, uint32_t office, TAKE_TABLE, size_t rows, uint32_t id, uint32_t key) {

@@ -22,6 +22,7 @@ static const char *const names[CALLS] = {
     [CALL_AREA_CLIPPED] = "area clipped",
     [CALL_BATCH] = "batch",
     [CALL_PAINT] = "paint",
+    [CALL_PAINT_WINDOW] = "paint window",
     [CALL_TAKE_BACK] = "take back",
     [CALL_REDO] = "redo",
     [CALL_ADD_WAIVER] = "add waiver",

@@ -34,6 +34,7 @@ typedef enum {
     CALL_AREA_CLIPPED,
     CALL_BATCH,
     CALL_PAINT,
+    CALL_PAINT_WINDOW,
     CALL_TAKE_BACK,
     CALL_REDO,
     CALL_FINDINGS,

@@ -7,9 +7,10 @@
 #include <stdlib.h>
 #include <string.h>
 
-static_assert(HLQ_INTERFACE == 12, "the interface's number");
+static_assert(HLQ_INTERFACE == 13, "the interface's number");
 static_assert(HLQ_DEEPEST_M == 10 && HLQ_MOST_SLOTS == 32, "the limits of documents 01 and 02");
 static_assert(HLQ_LISTED == 1 && HLQ_INSIDE == 2, "the kinds");
+static_assert(HLQ_GROUP_MARK == 255 && HLQ_GROUP_MARK >= HLQ_MOST_SLOTS, "the mark, which is no feature");
 static_assert(HLQ_ACCEPTED == 0 && HLQ_SETTINGS == 1 && HLQ_RASTER_LENGTH == 2 && HLQ_PIXEL == 3 && HLQ_LIST == 4 &&
                   HLQ_LOG == 5 && HLQ_WINDOW == 6 && HLQ_FEATURE == 7 && HLQ_KEY == 8 && HLQ_LIST_ROOM == 9 &&
                   HLQ_LOG_ROOM == 10 && HLQ_LOG_EMPTY == 11 && HLQ_ANSWER_ROOM == 12 && HLQ_RULES == 13 &&
@@ -90,6 +91,17 @@ static void limits(void) {
     must(bad.refusal == HLQ_SETTINGS, "s");
 }
 
+/* What closes a group in a log is the number of its entries and the mark. */
+static void group(void) {
+    uint32_t log_keys[8], log_values[8];
+    must(hlq_fill_summary(1, 1, keys, 1, bits, 1, 1, summary, 4).refusal == HLQ_ACCEPTED, "a map of one leaf");
+    hlq_edited painted = hlq_paint_window(1, 1, keys, 1, bits, 1, 1, summary, 4, log_keys, 8, log_values, 8, 0, 0, 0, 0,
+                                          1, 2, 0);
+    must(painted.refusal == HLQ_ACCEPTED && painted.n == 1 && painted.used == 8, "a strip of two pixels is painted");
+    must(log_keys[6] == 0 && log_values[6] == 2 && log_keys[7] == 0 && log_values[7] == HLQ_GROUP_MARK,
+         "its two entries are a group");
+}
+
 static void words(void) {
     const char *unknown = hlq_refusal_text(HLQ_CLASS_TABLE + 1);
     must(strcmp(unknown, hlq_refusal_text(UINT64_MAX)) == 0, "one text for every unknown number");
@@ -103,6 +115,7 @@ static void words(void) {
 int main(void) {
     for (uint32_t m = 0; m <= HLQ_DEEPEST_M; m++) macros_meet_calls(m);
     limits();
+    group();
     words();
     printf("header: numbers, macros and words are as document 01 and the calls have them\n");
     return 0;

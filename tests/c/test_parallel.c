@@ -43,7 +43,11 @@ static void *work(void *of) {
     size_t in_force = 0;
     for (int i = 0; i < STEPS; i++) {
         hlq_edited e;
-        if (draw(w, 3)) {
+        if (draw(w, 4) == 0) {
+            uint32_t row = draw(w, EDGE - 9), column = draw(w, EDGE - 9), feature = draw(w, S);
+            e = hlq_paint_window(M, S, w->keys, ROOM, w->bits, ROOM, n, w->summary, PLACES, w->log_keys, LOG,
+                                 w->log_values, LOG, used, in_force, row, column, 9, 3, feature);
+        } else if (draw(w, 3)) {
             uint32_t key = draw_key(w), feature = draw(w, S);
             e = hlq_paint(M, S, w->keys, ROOM, w->bits, ROOM, n, w->summary, PLACES, w->log_keys, LOG, w->log_values,
                           LOG, used, in_force, key, feature);

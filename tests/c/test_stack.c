@@ -14,7 +14,7 @@ enum {
     EDGE = 1 << M,
     PIXELS = EDGE * EDGE,
     MOST = HLQ_MOST_RECORDS(M),
-    LOG = MOST + 64,
+    LOG = MOST + 16 * EDGE,
     PLACES = HLQ_SUMMARY_PLACES(M, S),
     STACK = 1 << 18
 };
@@ -105,6 +105,11 @@ static void call_paint(void) {
                              in_force, key, feature);
     refusal = e.refusal, n = e.n, used = e.used, in_force = e.in_force;
 }
+static void call_paint_window(void) {
+    hlq_edited e = hlq_paint_window(M, S, keys, MOST, bits, MOST, n, summary, PLACES, log_keys, LOG, log_values, LOG,
+                                    used, in_force, row, column, height, width, feature);
+    refusal = e.refusal, n = e.n, used = e.used, in_force = e.in_force;
+}
 static void call_take_back(void) {
     hlq_edited e = hlq_take_back(M, S, keys, MOST, bits, MOST, n, summary, PLACES, log_keys, LOG, log_values, LOG,
                                  used, in_force);
@@ -158,8 +163,8 @@ typedef struct {
 } call;
 
 enum { KEY_AT, BLOCK_OF, BUILD, RASTER, STANDING, PART, EXIST, REPORT, SELECT, FILL_SUMMARY, AREA, EXIST_CLIPPED,
-       REPORT_CLIPPED, SELECT_CLIPPED, AREA_CLIPPED, BATCH, PAINT, TAKE_BACK, REDO, EMPTY, ADD_WAIVER, FINDINGS,
-       REMOVE_WAIVER, STORE, LOAD, WRITE_LEAVES, READ_LEAVES, WRITE, READ, COMBINE, CALLS };
+       REPORT_CLIPPED, SELECT_CLIPPED, AREA_CLIPPED, BATCH, PAINT, PAINT_WINDOW, TAKE_BACK, REDO, EMPTY, ADD_WAIVER,
+       FINDINGS, REMOVE_WAIVER, STORE, LOAD, WRITE_LEAVES, READ_LEAVES, WRITE, READ, COMBINE, CALLS };
 static call calls[CALLS] = {
     { "key_at", call_key_at, 0 },       { "block_of", call_block_of, 0 }, { "build", call_build, 0 },
     { "raster", call_raster, 0 },       { "standing", call_standing, 0 }, { "part", call_part, 0 },
@@ -168,7 +173,8 @@ static call calls[CALLS] = {
     { "exist_clipped", call_exist_clipped, 0 },   { "report_clipped", call_report_clipped, 0 },
     { "select_clipped", call_select_clipped, 0 }, { "area_clipped", call_area_clipped, 0 },
     { "batch", call_batch, 0 },
-    { "paint", call_paint, 0 },         { "take_back", call_take_back, 0 }, { "redo", call_redo, 0 },
+    { "paint", call_paint, 0 },         { "paint_window", call_paint_window, 0 },
+    { "take_back", call_take_back, 0 }, { "redo", call_redo, 0 },
     { "empty", call_empty, 0 },
     { "add_waiver", call_add_waiver, 0 }, { "findings", call_findings, 0 },
     { "remove_waiver", call_remove_waiver, 0 },   { "store", call_store, 0 },       { "load", call_load, 0 },
@@ -221,6 +227,15 @@ static void two_features(void) {
     two = hlq_build(M, 2, back, PIXELS, two_keys, MOST, two_bits, MOST, two_summary, TWO_PLACES).count;
 }
 
+/* A window painted, taken back, redone and taken back. */
+static void paint_window(uint32_t a, uint32_t b, uint32_t c, uint32_t d, uint8_t pattern) {
+    row = a, column = b, height = c, width = d, feature = 7;
+    measure(PAINT_WINDOW, pattern);
+    measure(TAKE_BACK, pattern);
+    measure(REDO, pattern);
+    measure(TAKE_BACK, pattern);
+}
+
 static void every_call(uint8_t pattern) {
     /* the root, two large blocks, three pixels, and four pixels at the last corner */
     static const uint32_t blocks[] = { 0, 1953125, 4 * 1953125 + 390625, 7324218, 2441406, 9765624, 9765620 };
@@ -254,6 +269,11 @@ static void every_call(uint8_t pattern) {
         measure(REDO, pattern);
         measure(TAKE_BACK, pattern);
     }
+    /* windows, of which the first has blocks of every size */
+    paint_window(1, 1, EDGE - 2, EDGE - 2, pattern);
+    paint_window(EDGE / 2 - 1, 3, 2, EDGE - 7, pattern);
+    paint_window(0, 0, EDGE, EDGE, pattern);
+    paint_window(EDGE - 1, EDGE - 1, 1, 1, pattern);
     /* several entries in one log, and single pixels into a map of one leaf */
     key = 0, feature = 1;
     measure(PAINT, pattern);
