@@ -2,4 +2,4 @@
 flags="-std=c11 -Wall -Wextra -Werror -O1 -g -fsanitize=address,undefined -fno-sanitize-recover=all"
 flags="$flags -Iinclude -DFEWER_ROUNDS ${CFLAGS-}"
 library=target/staticlib/libprowcurl.a
-if [ "$(uname -m)" != x86_64 ]; then library=tests/c/stand_in.c; fi
+if [ "$(uname -m)" != x86_64 ]; then library="tests/c/stand_in.c tests/c/stand_in_edits.c"; fi
