@@ -3,14 +3,15 @@
 use Prim.Native.Nat.{ℕ, zero, suc, _+_, _^_, _≤_}
 use mathlib.Core.Path.{_≡_, refl, sym, ap, ap₂, _∙_}
 use mathlib.Core.Bool.{Bool, true, false, cond, _&&_}
-use mathlib.Core.List.{List, [], _∷_, _++_}
+use mathlib.Core.List.{List, [], _∷_, _++_, List·Memᴰ, List·Memᴰ·head, List·Memᴰ·tail, List·Memᴰ·not-nil}
 use native.Mathlib.Nat.{pow-suc}
 use native.Mathlib.Omega.{arith}
 use lib.Dec.{eqb}
 use borrow.Author.Tests.{eq-eqb}
-use Rattle.keys.specs.Key.{rootKey, childKey}
+use Rattle.keys.specs.Key.{rootKey, childKey, validKey}
 use Rattle.keys.proofs.Cases.{decide}
 use Rattle.keys.proofs.Under.{here, nw, ne, sw, se, Block, under-trans}
+use Rattle.keys.proofs.Valid.{block-valid}
 use Rattle.definitions.specs.Window.{inWindow, isGiven, selectFrom, selectIn, isCovered, largestFrom, largestBlocks}
 use Rattle.definitions.specs.declared.Window.{Window}
 use Rattle.definitions.proofs.Pixels.{every-same}
@@ -105,3 +106,12 @@ largest-order w (suc k) {r} {c} {κ} b =
 pub largest-in-order : (m : ℕ) (w : Window) → BlocksInOrder m 0 (0 + 5 ^ m) (largestBlocks m w)
 unfolding largestBlocks
 largest-in-order m w = largest-order w m here
+
+order-valid : {m from until x : ℕ} {blocks : List ℕ} → BlocksInOrder m from until blocks → List·Memᴰ x blocks → validKey m x ≡ true
+order-valid (no-block h) i = absurd (List·Memᴰ·not-nil i)
+order-valid {m} (block h b rest) (List·Memᴰ·head e) = ap (validKey m) e ∙ block-valid b .valid
+order-valid (block h b rest) (List·Memᴰ·tail i) = order-valid rest i
+
+-- their keys are valid
+pub largest-valid : (m : ℕ) (w : Window) {x : ℕ} → List·Memᴰ x (largestBlocks m w) → validKey m x ≡ true
+largest-valid m w i = order-valid (largest-in-order m w) i
