@@ -1,12 +1,9 @@
 -- What taking a run's entries back, or painting them again, does to a leaf. Rests on Gifts, Turned and Lookups.
-use Prim.Native.Nat.{ℕ, _+_, _^_, _≤_, _<_}
-use mathlib.Core.Path.{_≡_, refl, sym, _∙_, ap, subst}
-use mathlib.Core.Bool.{Bool, true, false}
+use Prim.Native.Nat.{ℕ, _^_}
+use mathlib.Core.Path.{_≡_, refl, sym, subst}
+use mathlib.Core.Bool.{true, false}
 use mathlib.Core.List.{List, [], _∷_, map}
 use native.Mathlib.Nat.{le-refl}
-use Rattle.keys.specs.Key.{validKey}
-use Rattle.keys.specs.Block.{inInterval}
-use Rattle.keys.proofs.Under.{Block}
 use Rattle.definitions.specs.Bits.{bitsOf}
 use Rattle.definitions.specs.Read.{recordsOf}
 use Rattle.definitions.proofs.Features.{one-from}

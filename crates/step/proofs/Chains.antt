@@ -1,15 +1,15 @@
 -- The entries between two places of a log, one after the other from the end. Rests on the laws of the log's last entry.
 use Prim.Native.Nat.{ℕ, zero, suc, _+_, _^_, _≤_, _<_}
 use mathlib.Core.Path.{_≡_, refl, sym, _∙_, ap}
-use mathlib.Core.Bool.{Bool, true, false, cond, _&&_}
+use mathlib.Core.Bool.{Bool, true, _&&_}
 use mathlib.Core.List.{List, [], _∷_}
 use native.Mathlib.Nat.{le-refl}
 use native.Mathlib.Omega.{arith}
 use lib.ListN.{length}
 use lib.Dec.{leb}
 use borrow.Author.Tests.{le-leb, lt-leb, leb-true}
-use Rattle.keys.specs.Key.{heightOf, validKey, slotLimit}
-use Rattle.keys.proofs.Cases.{decide, split, and-left, and-right, and-both}
+use Rattle.keys.specs.Key.{heightOf, validKey}
+use Rattle.keys.proofs.Cases.{decide, and-left, and-right, and-both}
 use Rattle.keys.proofs.Valid.{valid-block, valid-below}
 use Rattle.keys.proofs.Interval.{within}
 use Rattle.definitions.specs.Read.{recordsOf}
@@ -18,7 +18,6 @@ use Rattle.definitions.proofs.Records.{records-length}
 use Rattle.log.specs.declared.entry.Entry.{Entry}
 use Rattle.log.specs.Entries.{lastEntry, Ended}
 use Rattle.log.proofs.Last.{entry-places}
-use Rattle.step.specs.declared.run.Run.{Run}
 use Rattle.step.specs.Runs.{lastFirst, firstFirst, Chain, done, more, descends, Between, EntriesIn}
 
 -- the last entry between two places, and those before it

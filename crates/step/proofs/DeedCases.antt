@@ -1,13 +1,13 @@
 -- A deed by its kind: what is known of it, what it makes of a leaf, and what is left of it before a key. Rests on ShortRuns.
 use Prim.Native.Nat.{ℕ}
-use mathlib.Core.Path.{_≡_, refl, sym, subst}
+use mathlib.Core.Path.{_≡_, sym, subst}
 use mathlib.Core.List.{List}
 use Rattle.definitions.specs.declared.Window.{Window}
 use Rattle.step.specs.declared.run.Run.{Run}
 use Rattle.step.specs.declared.deed.Deed.{Deed}
 use Rattle.step.specs.declared.deed.Deed.the-variants.{Fill, Back, Again}
 use Rattle.step.specs.Runs.{EntriesIn, backStep, againStep}
-use Rattle.step.specs.Deed.{windowStep, Painting, stepOf, Doable, Settled, SameBefore, Narrowed, ShortRun}
+use Rattle.step.specs.Deed.{windowStep, Painting, stepOf, Doable, Settled, Narrowed, ShortRun}
 use Rattle.step.proofs.Narrowed.{same-itself}
 
 module _ (m : ℕ) (ks vs : List ℕ) {deed : Deed} where

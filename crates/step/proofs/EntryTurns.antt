@@ -1,6 +1,6 @@
 -- One entry of a run after the other, from the last: what it makes of a leaf, and when those before it need not be asked. Rests on Chains and Turned.
 use Prim.Native.Nat.{ℕ, _+_, _-_, _^_, _≤_, _<_}
-use mathlib.Core.Path.{_≡_, refl, sym, _∙_, ap, ap₂, subst}
+use mathlib.Core.Path.{_≡_, sym, _∙_, ap, ap₂, subst}
 use mathlib.Core.Bool.{Bool, true, false, cond, not, _&&_, true≢false}
 use mathlib.Core.List.{List, [], _∷_}
 use native.Mathlib.Omega.{arith}
@@ -8,15 +8,15 @@ use lib.Dec.{leb, ltb}
 use borrow.Author.Tests.{le-leb, lt-leb, lt-ltb, le-ltb, not-true, not-false}
 use Rattle.keys.specs.Key.{validKey, heightOf}
 use Rattle.keys.specs.Block.{inInterval}
-use Rattle.keys.proofs.Cases.{decide, split}
+use Rattle.keys.proofs.Cases.{split}
 use Rattle.keys.proofs.Powers.{five-pos}
 use Rattle.definitions.specs.Read.{recordsOf}
 use Rattle.list.specs.Check.{oneSlot}
 use Rattle.list.proofs.OneSlot.{power-slot}
 use Rattle.log.specs.declared.entry.Entry.{Entry}
-use Rattle.log.specs.Entries.{lastEntry, Ended}
+use Rattle.log.specs.Entries.{lastEntry}
 use Rattle.step.specs.Runs.{lastFirst, firstFirst, descends, Between, EntriesIn, backBits, bitsBy, oneOrNone, metBy, settledBy, Held, Asking}
-use Rattle.step.proofs.Chains.{last-none, first-onto, onto, onto-none, descends-none, descends-some, descends-first, descends-rest, last, run-ends, run-ended, run-more, run-rest, last-valid, last-slot, last-within, last-less, between-rest}
+use Rattle.step.proofs.Chains.{last-none, first-onto, onto, onto-none, descends-none, descends-some, descends-first, descends-rest, last, run-ends, run-more, run-rest, last-valid, last-slot, last-within, last-less, between-rest}
 use Rattle.step.proofs.Turned.{settled-none, settled-some, settled-turn}
 use Rattle.step.proofs.Lookups.{last-held}
 

@@ -1,8 +1,8 @@
 -- Growing with as much of the step as is left: a record before a key becomes the same. Rests on Narrowed and GrowLoop.
 use Prim.Native.Nat.{ℕ, _+_, _-_, _^_, _≤_, _<_, min}
-use mathlib.Core.Path.{_≡_, refl, sym, _∙_, ap}
-use mathlib.Core.Bool.{true, false, cond}
-use mathlib.Core.List.{List, [], _∷_}
+use mathlib.Core.Path.{_≡_, sym, _∙_, ap}
+use mathlib.Core.Bool.{true}
+use mathlib.Core.List.{List}
 use native.Mathlib.Omega.{arith}
 use lib.ListN.{length, getD}
 use lib.Seq.{sets}
@@ -12,7 +12,7 @@ use Rattle.keys.proofs.Cases.{decide}
 use Rattle.keys.proofs.Interval.{within}
 use Rattle.keys.proofs.Valid.{valid-block}
 use Rattle.definitions.specs.Bits.{featureOf}
-use Rattle.definitions.specs.List.{Record, recordOf, keysOf, valuesOf, listOf}
+use Rattle.definitions.specs.List.{Record, recordOf, keysOf, valuesOf}
 use Rattle.definitions.proofs.ListOf.{list-agree}
 use Rattle.list.specs.Check.{oneSlot}
 use Rattle.step.specs.declared.deed.Deed.{Deed}

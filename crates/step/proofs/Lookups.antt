@@ -1,35 +1,32 @@
 -- What an entry of a run tells of a block: its content's bits, or its feature's. Rests on the lookup in a list and on Chains.
-use Prim.Native.Nat.{ℕ, _+_, _-_, _^_, _≤_, _<_}
-use mathlib.Core.Path.{_≡_, refl, sym, _∙_, ap, ap₂}
-use mathlib.Core.Bool.{Bool, true, false, cond}
-use mathlib.Core.List.{List, [], _∷_}
+use Prim.Native.Nat.{ℕ, _+_, _-_, _<_}
+use mathlib.Core.Path.{_≡_, sym, _∙_, ap, ap₂}
+use mathlib.Core.Bool.{true}
+use mathlib.Core.List.{List}
 use native.Mathlib.Omega.{arith}
-use lib.ListN.{length, getD, take, drop, length-take, length-drop}
+use lib.ListN.{length, getD, take, drop, length-drop}
 use lib.Seq.{getD-take, getD-drop, length-take-le, take-all}
-use Rattle.keys.specs.Key.{validKey, heightOf}
+use Rattle.keys.specs.Key.{heightOf}
 use Rattle.keys.specs.Block.{rowOf, columnOf, inInterval}
-use Rattle.keys.proofs.Under.{Block, Under}
+use Rattle.keys.proofs.Under.{Block}
 use Rattle.keys.proofs.Valid.{valid-block}
 use Rattle.keys.proofs.Ancestor.{interval-iff}
 use Rattle.keys.proofs.InBlock.{inInterval-iff}
-use Rattle.definitions.specs.Picture.{Picture}
 use Rattle.definitions.specs.Bits.{bitsOf}
 use Rattle.definitions.specs.List.{Record, keysOf, valuesOf, listOf}
-use Rattle.definitions.specs.Read.{paired, recordsOf, pictureOf}
+use Rattle.definitions.specs.Read.{recordsOf, pictureOf}
 use Rattle.definitions.specs.Standing.{placeOf}
-use Rattle.definitions.specs.Log.{lastContent, lastCount, beforeLast}
-use Rattle.definitions.proofs.SoundLog.{EndsInEntry}
-use Rattle.definitions.proofs.Records.{paired-length, paired-keys, paired-values}
+use Rattle.definitions.specs.Log.{lastContent}
+use Rattle.definitions.proofs.Records.{paired-keys, paired-values}
 use Rattle.definitions.proofs.ListOf.{list-first}
-use Rattle.list.specs.Sorted.{Ascends, Sorted}
 use Rattle.list.specs.Among.{placeAmong}
-use Rattle.list.proofs.Accepted.{content-list, keys-ascend, key-from}
+use Rattle.list.proofs.Accepted.{content-list, keys-ascend}
 use Rattle.list.proofs.Among.{place-keys, place-below}
 use Rattle.list.proofs.Lookup.{lookup-value}
 use Rattle.log.specs.declared.entry.Entry.{Entry}
 use Rattle.log.specs.Entries.{lastEntry, run, contentPart}
 use Rattle.log.proofs.Last.{content-run, content-length, entry-places}
-use Rattle.step.specs.Runs.{contentIn, backGift, againGift, backBits, againBits, Held}
+use Rattle.step.specs.Runs.{contentIn, backGift, backBits, Held}
 use Rattle.step.proofs.Chains.{Ends, ends-ended}
 
 -- the content as the code lends it, and as it is defined

@@ -1,13 +1,13 @@
 -- The step of a run over a picture is the picture with the run's entries put back, one after the other, or painted again. Rests on Gifts and Chains.
-use Prim.Native.Nat.{ℕ, zero, suc, _+_, _≤_, _<_}
+use Prim.Native.Nat.{ℕ, zero, suc}
 use mathlib.Core.Path.{_≡_, refl, sym, _∙_, ap, ap₂, fun-ext}
-use mathlib.Core.Bool.{Bool, true, false, _||_}
+use mathlib.Core.Bool.{_||_}
 use mathlib.Core.List.{List, [], _∷_, map}
 use native.Mathlib.Nat.{le-refl}
 use native.Mathlib.Omega.{arith}
-use lib.ListN.{length, take}
+use lib.ListN.{length}
 use Rattle.keys.specs.Block.{inBlock}
-use Rattle.keys.proofs.Cases.{decide, or-left, or-right}
+use Rattle.keys.proofs.Cases.{decide, or-left}
 use Rattle.definitions.specs.Picture.{Picture}
 use Rattle.definitions.specs.List.{Record}
 use Rattle.definitions.specs.Read.{recordsOf, pictureOf}
@@ -15,7 +15,6 @@ use Rattle.definitions.specs.Edit.{put, paintIn}
 use Rattle.definitions.specs.Log.{lastKey, lastFeature, lastContent, beforeLast}
 use Rattle.definitions.proofs.Put.{put-in, put-out}
 use Rattle.definitions.proofs.LastEntry.{before-place}
-use Rattle.definitions.proofs.SoundLog.{EndsInEntry}
 use Rattle.definitions.proofs.Records.{records-first}
 use Rattle.log.specs.declared.entry.Entry.{Entry}
 use Rattle.log.specs.Entries.{lastEntry}
@@ -24,10 +23,10 @@ use Rattle.step.specs.declared.run.Run.{Run}
 use Rattle.step.specs.declared.deed.Deed.the-variants.{Back, Again}
 use Rattle.step.specs.Step.{over, plain}
 use Rattle.step.specs.Deed.{stepOf}
-use Rattle.step.specs.Runs.{Gift, touched, given, giftsStep, backGift, againGift, lastFirst, firstFirst, Chain, done, more, EntriesIn, lastOfRun, backStep, againStep, putBack, paintAgain, startBack}
+use Rattle.step.specs.Runs.{Gift, touched, giftsStep, backGift, againGift, lastFirst, firstFirst, Chain, done, more, EntriesIn, lastOfRun, putBack, paintAgain}
 use Rattle.step.proofs.Pruned.{over-in, over-out}
 use Rattle.step.proofs.Gifts.{touched-cons, touched-none, given-this, given-later}
-use Rattle.step.proofs.Chains.{Ends, ends-ended, ends-less, chain-order, chain-more, last-none, onto, onto-some, first-onto}
+use Rattle.step.proofs.Chains.{Ends, ends-ended, ends-less, chain-more, last-none, onto, first-onto}
 
 -- gifts laid on a picture one after the other, the head last, so that it decides
 unfoldable laid : (m : ℕ) → List Gift → Picture → Picture

@@ -1,14 +1,13 @@
 -- After squeezing, what follows a leaf begins at or past the leaf's end. Rests on Pruned.
 use Prim.Native.Nat.{ℕ, zero, suc, _+_, _*_, _^_, _≤_, _<_}
-use mathlib.Core.Path.{_≡_, refl, sym, _∙_, ap}
-use mathlib.Core.Bool.{Bool, true, false, cond}
+use mathlib.Core.Path.{_≡_, _∙_, ap}
+use mathlib.Core.Bool.{true, false, cond}
 use mathlib.Core.List.{List, [], _∷_, _++_}
 use native.Mathlib.Nat.{le-refl, pow-suc}
 use native.Mathlib.Omega.{arith}
 use lib.ListN.{length, getD}
 use Rattle.keys.specs.Key.{childKey, heightOf}
 use Rattle.keys.proofs.Cases.{decide}
-use Rattle.keys.proofs.Powers.{five-pos}
 use Rattle.keys.proofs.Under.{Block, here, nw, ne, sw, se, under-trans}
 use Rattle.keys.proofs.Valid.{block-valid}
 use Rattle.definitions.specs.Picture.{Picture, oneFeature}

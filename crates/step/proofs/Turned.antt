@@ -1,11 +1,11 @@
 -- Entries in one order and in the other: what the pixels get, and what a leaf becomes. Rests on Gifts and Chains.
 use Prim.Native.Nat.{ℕ, _+_, _^_, _≤_, _<_}
 use mathlib.Core.Path.{_≡_, refl, sym, _∙_, ap, ap₂}
-use mathlib.Core.Bool.{Bool, true, false, cond, _||_, true≢false}
+use mathlib.Core.Bool.{Bool, true, false, cond, _||_}
 use mathlib.Core.List.{List, [], _∷_, map}
 use native.Mathlib.Omega.{arith}
 use Rattle.keys.specs.Key.{validKey, heightOf}
-use Rattle.keys.specs.Block.{inBlock, inInterval, pixelKey}
+use Rattle.keys.specs.Block.{inBlock, pixelKey}
 use Rattle.keys.proofs.Cases.{decide, neither-left, neither-right}
 use Rattle.keys.proofs.Valid.{valid-block}
 use Rattle.keys.proofs.Pixel.{inside}
@@ -13,7 +13,7 @@ use Rattle.keys.proofs.InBlock.{inBlock-iff}
 use Rattle.log.specs.declared.entry.Entry.{Entry}
 use Rattle.step.specs.Runs.{Gift, touched, given, giftsStep, metBy, settledBy, descends}
 use Rattle.step.proofs.Gifts.{touched-cons, touched-none, given-this, given-later, Same}
-use Rattle.step.proofs.Chains.{onto, onto-none, onto-some, descends-first, descends-rest}
+use Rattle.step.proofs.Chains.{onto, onto-some, descends-first, descends-rest}
 
 -- a pixel of a block has a key of its interval
 pub pixel-keys : (m x a b : ℕ) → validKey m x ≡ true → inBlock m x a b ≡ true → (x ≤ pixelKey m a b) × (pixelKey m a b < x + 5 ^ heightOf m x)

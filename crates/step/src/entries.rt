@@ -136,7 +136,8 @@ pub fn settled_back(
     requires { ⌜ EntriesIn m run (now «log_keys») (now «log_values») × LeafAsked m own height row column key ⌝ }
     ensures { λ r. ⌜ Settled (backStep m run (now («log_keys» .entry)) (now («log_values» .entry))) own height row column r ⌝ }
 {
-    if run.ordered {
+    let ordered = run.ordered;
+    if ordered {
         return by_last(true, run, log_keys, log_values, m, own, key);
     }
     by_first(run, log_keys, log_values, m, own, key)

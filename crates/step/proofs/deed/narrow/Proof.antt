@@ -1,9 +1,8 @@
 -- `deed::narrow` meets its contract.
 use Prim.Native.Nat.{_+_}
-use mathlib.Core.Path.{ap, subst}
+use mathlib.Core.Path.{subst}
 use borrow.Author.Needs.{needs}
 use Rattle.step.specs.Deed.{Narrowed}
-use borrow.Author.Needs.{needs}
 use Rattle.step.proofs.deed.narrow.Statement.{statement}
 use Rattle.step.proofs.deed.narrow.Tie as tie
 

@@ -2,7 +2,6 @@
 use mathlib.Core.Path.{refl}
 use borrow.Author.Needs.{needs}
 use Rattle.step.proofs.DeedCases.{back-known, again-known, fill-narrowed, back-narrowed, again-narrowed}
-use borrow.Author.Needs.{needs}
 use Rattle.step.proofs.deed.narrow_to.Statement.{statement}
 use Rattle.step.proofs.deed.narrow_to.Tie as tie
 

@@ -1,7 +1,6 @@
 -- `deed::settled` meets its contract, kind by kind.
 use borrow.Author.Needs.{needs}
 use Rattle.step.proofs.DeedCases.{fill-known, back-known, again-known, fill-settled, back-settled, again-settled}
-use borrow.Author.Needs.{needs}
 use Rattle.step.proofs.deed.settled.Statement.{statement}
 use Rattle.step.proofs.deed.settled.Tie as tie
 

@@ -1,6 +1,5 @@
 -- `by_first` meets its contract: what the entries from the end on make of the leaf is what those before leave where they are apart from it.
-use Prim.Native.Nat.{ℕ}
-use mathlib.Core.Path.{_≡_, refl, sym, _∙_}
+use mathlib.Core.Path.{_≡_, refl, _∙_}
 use mathlib.Core.Bool.{true}
 use mathlib.Core.List.{[]}
 use Rattle.step.specs.Runs.{Between, bitsBy, settledBy, firstFirst}

@@ -1,5 +1,4 @@
 -- `by_last` meets its contract: an entry that is apart from the leaf leaves it to those before it.
-use Prim.Native.Nat.{ℕ}
 use mathlib.Core.Path.{_≡_, refl, sym, _∙_}
 use borrow.Author.Tests.{ltb-true}
 use Rattle.step.specs.Runs.{EntriesIn, bitsBy, settledBy, lastFirst}

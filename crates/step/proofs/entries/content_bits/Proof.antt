@@ -2,7 +2,6 @@
 use native.Mathlib.Omega.{arith}
 use borrow.Author.Needs.{needs}
 use Rattle.step.proofs.Lookups.{found-inside, found-bits}
-use borrow.Author.Needs.{needs}
 use Rattle.step.proofs.entries.content_bits.Statement.{statement}
 use Rattle.step.proofs.entries.content_bits.Tie as tie
 

@@ -2,7 +2,6 @@
 use mathlib.Core.Path.{sym, _∙_}
 use borrow.Author.Needs.{needs}
 use Rattle.step.proofs.EntryTurns.{given-again, given-one, given-none}
-use borrow.Author.Needs.{needs}
 use Rattle.step.proofs.entries.given.Statement.{statement}
 use Rattle.step.proofs.entries.given.Tie as tie
 

@@ -1,10 +1,8 @@
 -- `holds` meets its contract.
-use mathlib.Core.Path.{_≡_, refl, sym, _∙_, ap}
 use native.Mathlib.Omega.{arith}
 use borrow.Author.Needs.{needs}
 use Rattle.keys.proofs.Powers.{height-le}
 use Rattle.step.proofs.EntryTurns.{not-from, from-so}
-use borrow.Author.Needs.{needs}
 use Rattle.step.proofs.entries.holds.Statement.{statement}
 use Rattle.step.proofs.entries.holds.Tie as tie
 

@@ -1,8 +1,7 @@
 -- `met` meets its contract: the entry holds the block, lies inside it, or is apart from it.
-use mathlib.Core.Path.{_≡_, refl, sym, _∙_, ap}
+use mathlib.Core.Path.{sym, _∙_}
 use borrow.Author.Needs.{needs}
 use Rattle.step.proofs.EntryTurns.{met-holds, met-parted, met-apart}
-use borrow.Author.Needs.{needs}
 use Rattle.step.proofs.entries.met.Statement.{statement}
 use Rattle.step.proofs.entries.met.Tie as tie
 

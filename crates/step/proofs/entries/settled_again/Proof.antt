@@ -1,7 +1,6 @@
 -- `settled_again` meets its contract.
 use borrow.Author.Needs.{needs}
 use Rattle.step.proofs.ByEntries.{again-by-last}
-use borrow.Author.Needs.{needs}
 use Rattle.step.proofs.entries.settled_again.Statement.{statement}
 use Rattle.step.proofs.entries.settled_again.Tie as tie
 

@@ -1,7 +1,6 @@
 -- `settled_back` meets its contract.
 use borrow.Author.Needs.{needs}
 use Rattle.step.proofs.ByEntries.{back-by-first, back-by-last}
-use borrow.Author.Needs.{needs}
 use Rattle.step.proofs.entries.settled_back.Statement.{statement}
 use Rattle.step.proofs.entries.settled_back.Tie as tie
 

@@ -1,5 +1,4 @@
 -- `grow` meets its contract.
-use Prim.Native.Nat.{_-_}
 use native.Mathlib.Omega.{arith}
 use Rattle.step.specs.Deed.{stepOf}
 use Rattle.step.proofs.GrowLoop.{Growing, grow-begins, grow-ends-keys, grow-ends-bits}

@@ -1,8 +1,7 @@
 -- `is_ordered` meets its contract: after each turn the entries descend exactly when those that are left do.
-use Prim.Native.Nat.{ℕ, _^_}
-use mathlib.Core.Path.{_≡_, refl, sym, _∙_, ap}
+use Prim.Native.Nat.{_^_}
+use mathlib.Core.Path.{_≡_, _∙_, ap}
 use native.Mathlib.Omega.{arith}
-use borrow.Author.Needs.{needs}
 use Rattle.keys.proofs.Powers.{height-le}
 use Rattle.keys.proofs.Powers.{five-le}
 use Rattle.step.specs.Runs.{Between, descends, lastFirst}

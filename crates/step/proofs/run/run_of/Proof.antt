@@ -1,7 +1,6 @@
 -- `run_of` meets its contract.
 use mathlib.Core.Path.{refl, sym, _∙_}
 use borrow.Author.Needs.{needs}
-use borrow.Author.Needs.{needs}
 use Rattle.step.proofs.run.run_of.Statement.{statement}
 use Rattle.step.proofs.run.run_of.Tie as tie
 
