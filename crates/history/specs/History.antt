@@ -16,6 +16,7 @@ use Rattle.definitions.specs.Calls.TakeBack.{takeBack, takeBackKeys, takeBackBi
 use Rattle.definitions.specs.Calls.Redo.{redo, redoKeys, redoBits, redoSummary, redoLogKeys, redoLogValues}
 use Rattle.definitions.specs.Calls.Empty.{emptied}
 use Rattle.definitions.specs.declared.Window.{Window}
+use Rattle.definitions.specs.declared.Edited.{Edited}
 
 -- a paint of a block or of a window with a feature; key, window and feature are any
 pub data Paint : Type 0 where
@@ -54,65 +55,62 @@ built m s raster keys bits summary logKeys logValues =
       inForce = emptied .«in_force»;
     }
 
+-- a definition of an edit, of the lent buffers
+abbrev pub lentTo : {A : Type 0} (b : Buffers) (definition : List ℕ → List ℕ → ℕ → List ℕ → List ℕ → List ℕ → ℕ → ℕ → A) → A
+lentTo b definition = definition (b .keys) (b .bits) (b .n) (b .summary) (b .logKeys) (b .logValues) (b .used) (b .inForce)
+
 -- the refusal number that a call gives; 0 where it is accepted
 unfoldable pub answer : (m s : ℕ) (b : Buffers) (call : Call) → ℕ
-answer m s b (painting (ofBlock κ f)) = paint m s (b .keys) (b .bits) (b .n) (b .summary) (b .logKeys) (b .logValues) (b .used) (b .inForce) κ f .refusal
-answer m s b (painting (ofWindow w f)) =
-    paintWindow m s (b .keys) (b .bits) (b .n) (b .summary) (b .logKeys) (b .logValues) (b .used) (b .inForce) w f .refusal
-answer m s b takingBack = takeBack m s (b .keys) (b .bits) (b .n) (b .summary) (b .logKeys) (b .logValues) (b .used) (b .inForce) .refusal
-answer m s b redoing = redo m s (b .keys) (b .bits) (b .n) (b .summary) (b .logKeys) (b .logValues) (b .used) (b .inForce) .refusal
+answer m s b (painting (ofBlock κ f)) = lentTo b (paint m s) κ f .refusal
+answer m s b (painting (ofWindow w f)) = lentTo b (paintWindow m s) w f .refusal
+answer m s b takingBack = lentTo b (takeBack m s) .refusal
+answer m s b redoing = lentTo b (redo m s) .refusal
 answer m s b emptying = 0
 
--- the buffers after a call: the caller takes the counts of an accepted call's result, and keeps his own where it is refused
+-- the buffers after an edit: the caller takes the counts of an accepted call's result, and keeps his own where it is refused
+abbrev pub edited : (b : Buffers) (result : Edited) (keys bits summary logKeys logValues : List ℕ) → Buffers
+edited b result keys bits summary logKeys logValues =
+    record {
+      keys = keys;
+      bits = bits;
+      n = accepted (result .refusal) (result .n) (b .n);
+      summary = summary;
+      logKeys = logKeys;
+      logValues = logValues;
+      used = accepted (result .refusal) (result .used) (b .used);
+      inForce = accepted (result .refusal) (result .«in_force») (b .inForce);
+    }
+
+-- the buffers after a call
 unfoldable pub after : (m s : ℕ) (b : Buffers) (call : Call) → Buffers
 after m s b (painting (ofBlock κ f)) =
-    let result = paint m s (b .keys) (b .bits) (b .n) (b .summary) (b .logKeys) (b .logValues) (b .used) (b .inForce) κ f in
-    record {
-      keys = paintKeys m s (b .keys) (b .bits) (b .n) (b .summary) (b .logKeys) (b .logValues) (b .used) (b .inForce) κ f;
-      bits = paintBits m s (b .keys) (b .bits) (b .n) (b .summary) (b .logKeys) (b .logValues) (b .used) (b .inForce) κ f;
-      n = accepted (result .refusal) (result .n) (b .n);
-      summary = paintSummary m s (b .keys) (b .bits) (b .n) (b .summary) (b .logKeys) (b .logValues) (b .used) (b .inForce) κ f;
-      logKeys = paintLogKeys m s (b .keys) (b .bits) (b .n) (b .summary) (b .logKeys) (b .logValues) (b .used) (b .inForce) κ f;
-      logValues = paintLogValues m s (b .keys) (b .bits) (b .n) (b .summary) (b .logKeys) (b .logValues) (b .used) (b .inForce) κ f;
-      used = accepted (result .refusal) (result .used) (b .used);
-      inForce = accepted (result .refusal) (result .«in_force») (b .inForce);
-    }
+    edited b (lentTo b (paint m s) κ f)
+    (lentTo b (paintKeys m s) κ f)
+    (lentTo b (paintBits m s) κ f)
+    (lentTo b (paintSummary m s) κ f)
+    (lentTo b (paintLogKeys m s) κ f)
+    (lentTo b (paintLogValues m s) κ f)
 after m s b (painting (ofWindow w f)) =
-    let result = paintWindow m s (b .keys) (b .bits) (b .n) (b .summary) (b .logKeys) (b .logValues) (b .used) (b .inForce) w f in
-    record {
-      keys = paintWindowKeys m s (b .keys) (b .bits) (b .n) (b .summary) (b .logKeys) (b .logValues) (b .used) (b .inForce) w f;
-      bits = paintWindowBits m s (b .keys) (b .bits) (b .n) (b .summary) (b .logKeys) (b .logValues) (b .used) (b .inForce) w f;
-      n = accepted (result .refusal) (result .n) (b .n);
-      summary = paintWindowSummary m s (b .keys) (b .bits) (b .n) (b .summary) (b .logKeys) (b .logValues) (b .used) (b .inForce) w f;
-      logKeys = paintWindowLogKeys m s (b .keys) (b .bits) (b .n) (b .summary) (b .logKeys) (b .logValues) (b .used) (b .inForce) w f;
-      logValues = paintWindowLogValues m s (b .keys) (b .bits) (b .n) (b .summary) (b .logKeys) (b .logValues) (b .used) (b .inForce) w f;
-      used = accepted (result .refusal) (result .used) (b .used);
-      inForce = accepted (result .refusal) (result .«in_force») (b .inForce);
-    }
+    edited b (lentTo b (paintWindow m s) w f)
+    (lentTo b (paintWindowKeys m s) w f)
+    (lentTo b (paintWindowBits m s) w f)
+    (lentTo b (paintWindowSummary m s) w f)
+    (lentTo b (paintWindowLogKeys m s) w f)
+    (lentTo b (paintWindowLogValues m s) w f)
 after m s b takingBack =
-    let result = takeBack m s (b .keys) (b .bits) (b .n) (b .summary) (b .logKeys) (b .logValues) (b .used) (b .inForce) in
-    record {
-      keys = takeBackKeys m s (b .keys) (b .bits) (b .n) (b .summary) (b .logKeys) (b .logValues) (b .used) (b .inForce);
-      bits = takeBackBits m s (b .keys) (b .bits) (b .n) (b .summary) (b .logKeys) (b .logValues) (b .used) (b .inForce);
-      n = accepted (result .refusal) (result .n) (b .n);
-      summary = takeBackSummary m s (b .keys) (b .bits) (b .n) (b .summary) (b .logKeys) (b .logValues) (b .used) (b .inForce);
-      logKeys = takeBackLogKeys m s (b .keys) (b .bits) (b .n) (b .summary) (b .logKeys) (b .logValues) (b .used) (b .inForce);
-      logValues = takeBackLogValues m s (b .keys) (b .bits) (b .n) (b .summary) (b .logKeys) (b .logValues) (b .used) (b .inForce);
-      used = accepted (result .refusal) (result .used) (b .used);
-      inForce = accepted (result .refusal) (result .«in_force») (b .inForce);
-    }
+    edited b (lentTo b (takeBack m s))
+    (lentTo b (takeBackKeys m s))
+    (lentTo b (takeBackBits m s))
+    (lentTo b (takeBackSummary m s))
+    (lentTo b (takeBackLogKeys m s))
+    (lentTo b (takeBackLogValues m s))
 after m s b redoing =
-    let result = redo m s (b .keys) (b .bits) (b .n) (b .summary) (b .logKeys) (b .logValues) (b .used) (b .inForce) in
-    record {
-      keys = redoKeys m s (b .keys) (b .bits) (b .n) (b .summary) (b .logKeys) (b .logValues) (b .used) (b .inForce);
-      bits = redoBits m s (b .keys) (b .bits) (b .n) (b .summary) (b .logKeys) (b .logValues) (b .used) (b .inForce);
-      n = accepted (result .refusal) (result .n) (b .n);
-      summary = redoSummary m s (b .keys) (b .bits) (b .n) (b .summary) (b .logKeys) (b .logValues) (b .used) (b .inForce);
-      logKeys = redoLogKeys m s (b .keys) (b .bits) (b .n) (b .summary) (b .logKeys) (b .logValues) (b .used) (b .inForce);
-      logValues = redoLogValues m s (b .keys) (b .bits) (b .n) (b .summary) (b .logKeys) (b .logValues) (b .used) (b .inForce);
-      used = accepted (result .refusal) (result .used) (b .used);
-      inForce = accepted (result .refusal) (result .«in_force») (b .inForce);
-    }
+    edited b (lentTo b (redo m s))
+    (lentTo b (redoKeys m s))
+    (lentTo b (redoBits m s))
+    (lentTo b (redoSummary m s))
+    (lentTo b (redoLogKeys m s))
+    (lentTo b (redoLogValues m s))
 after m s b emptying =
     record { keys = b .keys; bits = b .bits; n = b .n; summary = b .summary; logKeys = b .logKeys; logValues = b .logValues; used = emptied .used; inForce = emptied .«in_force» }
 
