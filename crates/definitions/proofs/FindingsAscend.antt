@@ -12,7 +12,7 @@ use borrow.Author.Tests.{ltb-true, not-false}
 use Rattle.keys.proofs.Cases.{decide, and-left, and-right}
 use Rattle.definitions.specs.Picture.{Picture}
 use Rattle.definitions.specs.Read.{recordsOf, pictureOf}
-use Rattle.definitions.specs.Rules.{Finding, findingOf, windowOf, findingsOf, allFindings, isHidden, liveOf, allRules, idsAscend, badRules, findingsAscend}
+use Rattle.definitions.specs.Rules.{Finding, findingOf, windowOfRule, findingsOf, allFindings, isHidden, liveOf, allRules, idsAscend, badRules, findingsAscend}
 use Rattle.definitions.specs.Window.{selectIn}
 use Rattle.definitions.specs.Calls.Findings.{liveIn, refusalWith}
 use Rattle.definitions.specs.declared.Rule.{Rule}
@@ -51,11 +51,11 @@ module _ (m : ℕ) (p : Picture) where
   -- a finding has its rule's id
   rule-id : (rule : Rule) {x : Finding} → List·Memᴰ x (findingsOf m p rule) → x .id ≡ rule .id
   unfolding findingsOf
-  rule-id rule h = own-id (selectIn m p (windowOf rule) (rule .feature)) h .0
+  rule-id rule h = own-id (selectIn m p (windowOfRule rule) (rule .feature)) h .0
 
   rule-order : (rule : Rule) → InOrder (findingsOf m p rule)
   unfolding findingsOf
-  rule-order rule = keys-order (rule .id) (select-in-ascends m p (windowOf rule) (rule .feature))
+  rule-order rule = keys-order (rule .id) (select-in-ascends m p (windowOfRule rule) (rule .feature))
 
   -- the findings of later rules have larger ids
   later-ids : (a : Rule) (rules : List Rule) → idsAscend (a ∷ rules) ≡ true → {x : Finding} → List·Memᴰ x (allFindings m p rules) → a .id < x .id

@@ -7,7 +7,7 @@ use lib.Dec.{eqb}
 use Rattle.keys.specs.Key.{rootKey, childKey}
 use Rattle.definitions.specs.Picture.{Picture}
 use Rattle.definitions.specs.Window.{inWindow, isGiven, selectFrom, selectIn}
-use Rattle.definitions.specs.Rules.{findingOf, windowOf, findingsOf, allFindings}
+use Rattle.definitions.specs.Rules.{findingOf, windowOfRule, findingsOf, allFindings}
 use Rattle.definitions.specs.declared.Window.{Window}
 use Rattle.definitions.specs.declared.Rule.{Rule}
 use Rattle.definitions.proofs.Pixels.{Agree, agree-nw, agree-ne, agree-sw, agree-se, every-same}
@@ -34,4 +34,4 @@ pub findings-agree : (m : ℕ) (p q : Picture) (rules : List Rule) → Agree p q
 unfolding allFindings findingsOf selectIn
 findings-agree m p q [] same = refl
 findings-agree m p q (rule ∷ rules) same =
-    ap₂ (λ keys rest. map (findingOf (rule .id)) keys ++ rest) (select-agree p q (windowOf rule) (rule .feature) m 0 0 rootKey same) (findings-agree m p q rules same)
+    ap₂ (λ keys rest. map (findingOf (rule .id)) keys ++ rest) (select-agree p q (windowOfRule rule) (rule .feature) m 0 0 rootKey same) (findings-agree m p q rules same)

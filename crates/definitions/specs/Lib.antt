@@ -17,4 +17,5 @@ pub mod Offices
 pub mod File
 pub mod Leaves
 pub mod BitStrings
+pub mod Listing
 pub mod Calls

@@ -18,12 +18,12 @@ pub record Finding : Type 0 where
 abbrev pub findingOf : (id key : ℕ) → Finding
 findingOf id key = record { id = id; key = key }
 
-abbrev pub windowOf : Rule → Window
-windowOf rule = record { row = rule .row; column = rule .column; height = rule .height; width = rule .width }
+abbrev pub windowOfRule : Rule → Window
+windowOfRule rule = record { row = rule .row; column = rule .column; height = rule .height; width = rule .width }
 
 -- the findings of a rule are the blocks that select gives
 unfoldable pub findingsOf : (m : ℕ) (p : Picture) (rule : Rule) → List Finding
-findingsOf m p rule = map (findingOf (rule .id)) (selectIn m p (windowOf rule) (rule .feature))
+findingsOf m p rule = map (findingOf (rule .id)) (selectIn m p (windowOfRule rule) (rule .feature))
 
 unfoldable pub allFindings : (m : ℕ) (p : Picture) (rules : List Rule) → List Finding
 allFindings m p [] = []
@@ -54,7 +54,7 @@ hiddenCount m waivers (x ∷ xs) = cond (isHidden m waivers x) 1 0 + hiddenCount
 
 -- the rule's window and feature are good
 unfoldable pub isRule : (m s : ℕ) (rule : Rule) → Bool
-isRule m s rule = isWindow m (windowOf rule) && ltb (rule .feature) s
+isRule m s rule = isWindow m (windowOfRule rule) && ltb (rule .feature) s
 
 unfoldable pub allRules : (m s : ℕ) (rules : List Rule) → Bool
 allRules m s [] = true

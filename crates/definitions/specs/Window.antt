@@ -8,6 +8,10 @@ use Rattle.keys.specs.Key.{rootKey, childKey}
 use Rattle.definitions.specs.Picture.{Picture, everyPixel}
 use Rattle.definitions.specs.declared.Window.{Window}
 
+-- a window by its four numbers, as C passes it
+abbrev pub windowAt : (row column height width : ℕ) → Window
+windowAt row column height width = record { row = row; column = column; height = height; width = width }
+
 -- height and width are at least 1, and it lies wholly inside the raster
 unfoldable pub isWindow : (m : ℕ) (w : Window) → Bool
 isWindow m w =

@@ -9,7 +9,7 @@ use lib.ListN.{length, length-append, length-map}
 use Rattle.keys.specs.Key.{slotLimit, digitsOf}
 use Rattle.keys.proofs.Cases.{decide, split}
 use Rattle.definitions.specs.List.{Record}
-use Rattle.lines.specs.Listing.{characterOf, blank, lineEnd, decimal, keyText, slotsFrom, slotsText, lineOf, linesOf, headLine, listing, refusalLine}
+use Rattle.definitions.specs.Listing.{characterOf, blank, lineEnd, decimal, keyText, slotsFrom, slotsText, lineOf, linesOf, headLine, listing, refusalLine}
 use Rattle.lines.specs.Lent.{longestListing}
 use Rattle.lines.proofs.Pieces.{decimal-digit, decimal-tenth}
 

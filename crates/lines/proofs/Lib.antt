@@ -1,4 +1,3 @@
-mod Vectors
 pub mod Going
 pub mod Pieces
 pub mod Records

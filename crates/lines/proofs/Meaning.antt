@@ -9,7 +9,7 @@ use native.Mathlib.Nat.{add-zero, zero-add, add-suc, suc-add}
 use lib.ListN.{length, getD, length-append, List·getD-append}
 use Rattle.keys.proofs.Cases.{split}
 use Rattle.definitions.specs.Bits.{hasSlot}
-use Rattle.lines.specs.Listing.{characterOf, decimal, slotsFrom, slotsText}
+use Rattle.definitions.specs.Listing.{characterOf, decimal, slotsFrom, slotsText}
 use Rattle.lines.proofs.Pieces.{decimal-digit, decimal-tenth}
 
 -- the number that characters stand for, after those that stand for v

@@ -11,7 +11,7 @@ use borrow.Author.Tests.{lt-ltb, le-ltb, ltb-true, ltb-false, eqb-true, eqb-fals
 use Rattle.keys.specs.Key.{digitsOf}
 use Rattle.keys.proofs.Cases.{decide}
 use Rattle.keys.proofs.Descent.{one-less}
-use Rattle.lines.specs.Listing.{characterOf, decimalIn, decimal, digitsText, slotsFrom}
+use Rattle.definitions.specs.Listing.{characterOf, decimalIn, decimal, digitsText, slotsFrom}
 
 -- a number below ten is one digit, whatever the fuel
 decimal-one : (fuel x : ℕ) → x < 10 → decimalIn fuel x ≡ characterOf x ∷ []

@@ -18,7 +18,7 @@ use Rattle.definitions.specs.declared.Counted.{Counted}
 use Rattle.definitions.proofs.First.{accepted-done, accepted-left}
 use Rattle.definitions.proofs.ListOf.{list-ascends}
 use Rattle.definitions.proofs.Records.{records-over}
-use Rattle.lines.specs.Listing.{largestResolution, recordRoom, mOf, sOf, rasterOf, buildRefuses, listingRefusal, listing, refusalLine, listed, listedKeys, listedBits}
+use Rattle.definitions.specs.Listing.{largestResolution, recordRoom, mOf, sOf, rasterOf, buildRefuses, listingRefusal, listing, refusalLine, listed, listedKeys, listedBits}
 use Rattle.lines.specs.Put.{Put, Room, Records}
 use Rattle.lines.specs.Lent.{longestListing, Lent, Printed}
 use Rattle.lines.proofs.Going.{put-over, put-length}

@@ -12,7 +12,7 @@ use Rattle.definitions.specs.Read.{paired, recordsOf}
 use Rattle.definitions.specs.Buffer.{over}
 use Rattle.definitions.proofs.Ascending.{Ascending}
 use Rattle.list.proofs.Accepted.{key-below}
-use Rattle.lines.specs.Listing.{lineOf, linesOf}
+use Rattle.definitions.specs.Listing.{lineOf, linesOf}
 
 module _ (keys bits : List ℕ) (n i : ℕ) (h : i < n) (k : n ≤ length keys) (b : n ≤ length bits) where
   -- the first of the records left, and the others

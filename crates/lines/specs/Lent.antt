@@ -5,7 +5,7 @@ use mathlib.Core.List.{List}
 use lib.ListN.{length}
 use Rattle.keys.specs.Key.{slotLimit}
 use Rattle.definitions.specs.Buffer.{over}
-use Rattle.lines.specs.Listing.{listed, listedKeys, listedBits}
+use Rattle.definitions.specs.Listing.{listed, listedKeys, listedBits}
 
 -- bytes of the longest listing: a head of 10, and 1,365 lines of 5 digits, a blank, all slots and the line's end
 abbrev pub longestListing : ℕ

@@ -2,7 +2,7 @@
 ghost use mathlib.Core.Path.{_≡_};
 ghost use Prim.Native.Nat.{_≤_, _<_, _^_};
 ghost use Rattle.definitions.specs.List.{recordOf};
-ghost use Rattle.lines.specs.Listing.{digitsText, keyText, slotsText, lineOf};
+ghost use Rattle.definitions.specs.Listing.{digitsText, keyText, slotsText, lineOf};
 ghost use Rattle.lines.specs.Put.{Put, Room};
 use crate::text;
 use keys::power;

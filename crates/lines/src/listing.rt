@@ -1,6 +1,6 @@
 // What is printed of an accepted input and of a refused one.
 ghost use Rattle.definitions.specs.Read.{recordsOf};
-ghost use Rattle.lines.specs.Listing.{headLine, linesOf, listing, refusalLine};
+ghost use Rattle.definitions.specs.Listing.{headLine, linesOf, listing, refusalLine};
 ghost use Rattle.lines.specs.Put.{Put, Room, Records};
 use crate::line;
 use crate::text;

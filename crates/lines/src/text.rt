@@ -1,7 +1,7 @@
 // Bytes, numbers and fixed text, written from a place on. Each function answers the place after what it wrote.
 ghost use Prim.Native.Nat.{_<_};
 ghost use mathlib.Core.List.{[], _∷_, _++_};
-ghost use Rattle.lines.specs.Listing.{characterOf, decimal};
+ghost use Rattle.definitions.specs.Listing.{characterOf, decimal};
 ghost use Rattle.lines.specs.Put.{Put, Room};
 
 pub fn put_byte(byte: u8, out: &mut [u8], place: usize) -> usize

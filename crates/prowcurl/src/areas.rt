@@ -2,7 +2,7 @@
 ghost use mathlib.Core.Path.{_≡_};
 ghost use Rattle.definitions.specs.Calls.FillSummary.{fillSummary, filledSummary};
 ghost use Rattle.definitions.specs.Calls.Area.{area as areaMeasured};
-ghost use Rattle.prowcurl.specs.Window.{windowOf};
+ghost use Rattle.definitions.specs.Window.{windowAt};
 use area::calls as measuring;
 use definitions::Done;
 use definitions::Measured;
@@ -38,7 +38,7 @@ pub extern "C" fn hlq_area(
     width: u32,
     feature: u32,
 ) -> Measured
-    ensures { λ r. ⌜ r ≡ areaMeasured m s (now (keys .entry)) (now (bits .entry)) n (now (summary .entry)) (windowOf row column height width) feature ⌝ }
+    ensures { λ r. ⌜ r ≡ areaMeasured m s (now (keys .entry)) (now (bits .entry)) n (now (summary .entry)) (windowAt row column height width) feature ⌝ }
 {
     let window = Window {
         row,

@@ -3,7 +3,7 @@ ghost use mathlib.Core.Path.{_≡_};
 ghost use Rattle.definitions.specs.Calls.Exist.{exist as existAnswer};
 ghost use Rattle.definitions.specs.Calls.Report.{report as reportAnswer};
 ghost use Rattle.definitions.specs.Calls.Select.{select as selectCounted, selectAnswer};
-ghost use Rattle.prowcurl.specs.Window.{windowOf};
+ghost use Rattle.definitions.specs.Window.{windowAt};
 use definitions::Counted;
 use definitions::Exists;
 use definitions::Reported;
@@ -23,7 +23,7 @@ pub extern "C" fn hlq_exist(
     width: u32,
     feature: u32,
 ) -> Exists
-    ensures { λ r. ⌜ r ≡ existAnswer m s (now (keys .entry)) (now (bits .entry)) n (windowOf row column height width) feature ⌝ }
+    ensures { λ r. ⌜ r ≡ existAnswer m s (now (keys .entry)) (now (bits .entry)) n (windowAt row column height width) feature ⌝ }
 {
     let window = Window {
         row,
@@ -46,7 +46,7 @@ pub extern "C" fn hlq_report(
     height: u32,
     width: u32,
 ) -> Reported
-    ensures { λ r. ⌜ r ≡ reportAnswer m s (now (keys .entry)) (now (bits .entry)) n (windowOf row column height width) ⌝ }
+    ensures { λ r. ⌜ r ≡ reportAnswer m s (now (keys .entry)) (now (bits .entry)) n (windowAt row column height width) ⌝ }
 {
     let window = Window {
         row,
@@ -71,9 +71,9 @@ pub extern "C" fn hlq_select(
     feature: u32,
     answer: &mut [u32],
 ) -> Counted
-    ensures { λ r. ⌜ r ≡ selectCounted m s (now (keys .entry)) (now (bits .entry)) n (windowOf row column height width) feature (now (answer .entry)) ⌝ }
+    ensures { λ r. ⌜ r ≡ selectCounted m s (now (keys .entry)) (now (bits .entry)) n (windowAt row column height width) feature (now (answer .entry)) ⌝ }
     ensures { λ _. ⌜ now (answer .exit)
-        ≡ selectAnswer m s (now (keys .entry)) (now (bits .entry)) n (windowOf row column height width) feature (now (answer .entry)) ⌝ }
+        ≡ selectAnswer m s (now (keys .entry)) (now (bits .entry)) n (windowAt row column height width) feature (now (answer .entry)) ⌝ }
 {
     let window = Window {
         row,

@@ -9,7 +9,7 @@ use lib.ListN.{length, length-map}
 use Rattle.keys.proofs.Cases.{decide, equal}
 use Rattle.definitions.specs.Picture.{Picture}
 use Rattle.definitions.specs.Window.{selectIn}
-use Rattle.definitions.specs.Rules.{findingOf, windowOf, findingsOf, waiversOf, liveOf}
+use Rattle.definitions.specs.Rules.{findingOf, windowOfRule, findingsOf, waiversOf, liveOf}
 use Rattle.definitions.specs.declared.Rule.{Rule}
 use Rattle.definitions.proofs.Waivers.{live-and-hidden}
 use Rattle.window.proofs.Few.{select-few}
@@ -22,8 +22,8 @@ use Rattle.rules.proofs.StepCases.{isFaulty, step-stopped, step-bad, st
 findings-bounded : (m : ℕ) (p : Picture) (rule : Rule) → length (findingsOf m p rule) ≤ pixelsOf rule
 unfolding findingsOf
 findings-bounded m p rule =
-    let few = select-few p (windowOf rule) (rule .feature) m in
-    let size = length-map (selectIn m p (windowOf rule) (rule .feature)) (findingOf (rule .id)) in
+    let few = select-few p (windowOfRule rule) (rule .feature) m in
+    let size = length-map (selectIn m p (windowOfRule rule) (rule .feature)) (findingOf (rule .id)) in
     omega arith
 
 module _ (keys bits waiverIds waiverKeys : List ℕ) where

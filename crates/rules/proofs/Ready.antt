@@ -13,7 +13,7 @@ use Rattle.keys.proofs.Cases.{decide, equal, and-left, and-right}
 use Rattle.keys.proofs.Powers.{two-le, five-le}
 use Rattle.definitions.specs.Picture.{Picture}
 use Rattle.definitions.specs.Window.{isWindow, selectIn}
-use Rattle.definitions.specs.Rules.{findingOf, windowOf, findingsOf, waiversOf, liveOf, isRule}
+use Rattle.definitions.specs.Rules.{findingOf, windowOfRule, findingsOf, waiversOf, liveOf, isRule}
 use Rattle.definitions.specs.declared.Rule.{Rule}
 use Rattle.definitions.proofs.SelectAscends.{select-in-ascends}
 use Rattle.definitions.proofs.Waivers.{live-and-hidden}
@@ -28,24 +28,24 @@ use Rattle.rules.proofs.StepCases.{isFaulty, step-stopped, step-rests, 
 pub findings-few : (m : ℕ) (p : Picture) (rule : Rule) → m ≤ 10 → length (findingsOf m p rule) ≤ 9765625
 unfolding findingsOf
 findings-few m p rule low =
-    let a = ascending-length (select-in-ascends m p (windowOf rule) (rule .feature)) in
-    let b = length-map (selectIn m p (windowOf rule) (rule .feature)) (findingOf (rule .id)) in
+    let a = ascending-length (select-in-ascends m p (windowOfRule rule) (rule .feature)) in
+    let b = length-map (selectIn m p (windowOfRule rule) (rule .feature)) (findingOf (rule .id)) in
     let c = five-le 10 low in
     omega arith
 
 -- a good rule has a window of the raster and a feature below s
-pub good-window : (m s : ℕ) (rule : Rule) → isRule m s rule ≡ true → isWindow m (windowOf rule) ≡ true
+pub good-window : (m s : ℕ) (rule : Rule) → isRule m s rule ≡ true → isWindow m (windowOfRule rule) ≡ true
 unfolding isRule
-good-window m s rule e = and-left (isWindow m (windowOf rule)) (ltb (rule .feature) s) e
+good-window m s rule e = and-left (isWindow m (windowOfRule rule)) (ltb (rule .feature) s) e
 
 pub good-feature : (m s : ℕ) (rule : Rule) → isRule m s rule ≡ true → rule .feature < s
 unfolding isRule
-good-feature m s rule e = ltb-true (rule .feature) s (and-right (isWindow m (windowOf rule)) (ltb (rule .feature) s) e)
+good-feature m s rule e = ltb-true (rule .feature) s (and-right (isWindow m (windowOfRule rule)) (ltb (rule .feature) s) e)
 
 -- so its window is not larger than the largest raster
 pub rule-small : (m s : ℕ) (rule : Rule) → m ≤ 10 → isRule m s rule ≡ true → (rule .height ≤ 1024) × (rule .width ≤ 1024)
 rule-small m s rule low e =
-    let a = accepted m (windowOf rule) (good-window m s rule e) in
+    let a = accepted m (windowOfRule rule) (good-window m s rule e) in
     let two = two-le 10 low in
     (omega (arith, a .rows), omega (arith, a .columns))
 

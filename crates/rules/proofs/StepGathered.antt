@@ -9,7 +9,7 @@ use lib.ListN.{length, take, drop, length-map}
 use borrow.Author.Tests.{ltb-false}
 use Rattle.keys.specs.Key.{slotLimit}
 use Rattle.definitions.specs.Window.{isWindow, selectIn}
-use Rattle.definitions.specs.Rules.{Finding, findingOf, windowOf, findingsOf, waiversOf, liveOf, hiddenCount, findingsAscend}
+use Rattle.definitions.specs.Rules.{Finding, findingOf, windowOfRule, findingsOf, waiversOf, liveOf, hiddenCount, findingsAscend}
 use Rattle.definitions.specs.declared.Rule.{Rule}
 use Rattle.definitions.specs.Covered.{waivedKeys}
 use Rattle.list.specs.Own.{OwnList}
@@ -48,7 +48,7 @@ module _ (keys bits waiverIds waiverKeys : List ℕ) (rule : Rule) (p : Progress
   asc = good-in-order _ _ (g .fine .good (g .right))
 
   -- what sifting asks of the rule and the list
-  pub own-window : isWindow (st .m) (windowOf rule) ≡ true
+  pub own-window : isWindow (st .m) (windowOfRule rule) ≡ true
   own-window = good-window (st .m) (st .s) rule (rule-good keys bits waiverIds waiverKeys rule p (g .may))
 
   pub own-feature : rule .feature < slotLimit
@@ -118,7 +118,7 @@ module _ (keys bits waiverIds waiverKeys : List ℕ) (rule : Rule) (p : Progress
 
     -- the keys of the rule's findings, and those that are live
     abbrev given : List ℕ
-    given = selectIn (st .m) (picture keys bits waiverIds waiverKeys st) (windowOf rule) (rule .feature)
+    given = selectIn (st .m) (picture keys bits waiverIds waiverKeys st) (windowOfRule rule) (rule .feature)
 
     abbrev live : List ℕ
     live = notWaived (st .m) lent given

@@ -9,7 +9,7 @@ use lib.Dec.{leb, ltb}
 use borrow.Author.Tests.{lt-ltb, le-ltb, le-leb, lt-leb}
 use Rattle.keys.proofs.Cases.{split}
 use Rattle.definitions.specs.Window.{isWindow}
-use Rattle.definitions.specs.Rules.{windowOf, isRule}
+use Rattle.definitions.specs.Rules.{windowOfRule, isRule}
 use Rattle.definitions.specs.declared.Rule.{Rule}
 use Rattle.rules.specs.declared.run.State.{State}
 use Rattle.rules.specs.Run.{mayCome}
@@ -31,15 +31,15 @@ others-hold a false c e f = rw e
 module _ (rule : Rule) (st : State) where
   pub may-low : rule .id < st .next → false ≡ mayCome rule st
   unfolding isRule
-  may-low h = first-fails (leb (st .next) (rule .id)) (isWindow (st .m) (windowOf rule)) (ltb (rule .feature) (st .s)) (lt-leb _ _ h)
+  may-low h = first-fails (leb (st .next) (rule .id)) (isWindow (st .m) (windowOfRule rule)) (ltb (rule .feature) (st .s)) (lt-leb _ _ h)
 
   pub may-feature : st .s ≤ rule .feature → false ≡ mayCome rule st
   unfolding isRule
-  may-feature h = last-fails (leb (st .next) (rule .id)) (isWindow (st .m) (windowOf rule)) _ (le-ltb _ _ h)
+  may-feature h = last-fails (leb (st .next) (rule .id)) (isWindow (st .m) (windowOfRule rule)) _ (le-ltb _ _ h)
 
-  pub may-window : st .next ≤ rule .id → rule .feature < st .s → isWindow (st .m) (windowOf rule) ≡ mayCome rule st
+  pub may-window : st .next ≤ rule .id → rule .feature < st .s → isWindow (st .m) (windowOfRule rule) ≡ mayCome rule st
   unfolding isRule
-  may-window h k = others-hold _ (isWindow (st .m) (windowOf rule)) _ (le-leb _ _ h) (lt-ltb _ _ k)
+  may-window h k = others-hold _ (isWindow (st .m) (windowOfRule rule)) _ (le-leb _ _ h) (lt-ltb _ _ k)
 
 -- one more waiver of the rule
 module _ (ids : List ℕ) (from count id : ℕ) where

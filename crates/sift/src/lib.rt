@@ -9,7 +9,7 @@ ghost use Rattle.keys.specs.Key.{slotLimit, validKey};
 ghost use Rattle.definitions.specs.Edit.{contentOf};
 ghost use Rattle.definitions.specs.Read.{recordsOf};
 ghost use Rattle.definitions.specs.Window.{isWindow, selectIn};
-ghost use Rattle.definitions.specs.Rules.{windowOf};
+ghost use Rattle.definitions.specs.Rules.{windowOfRule};
 ghost use Rattle.list.specs.Check.{oneSlot};
 ghost use Rattle.list.specs.Own.{OwnList, shownBy};
 ghost use Rattle.list.specs.Sorted.{Near};
@@ -183,9 +183,9 @@ pub fn sift_rule(
     found_keys: &mut [u32],
     at: Sifting,
 ) -> Sifting
-    requires { ⌜ (m ≤ 10) × (isWindow m (windowOf rule) ≡ true) × (rule .feature < slotLimit) × OwnList m (now keys) (now bits) n
+    requires { ⌜ (m ≤ 10) × (isWindow m (windowOfRule rule) ≡ true) × (rule .feature < slotLimit) × OwnList m (now keys) (now bits) n
         × SiftReady m limit (now waived) at (now «found_ids») (now «found_keys») (2 ^ 59) 0 ⌝ }
-    ensures { λ r. ⌜ Sifted m limit (rule .id) (now (waived .entry)) (selectIn m (shownBy m (now (keys .entry)) (now (bits .entry)) n) (windowOf rule) (rule .feature)) at r
+    ensures { λ r. ⌜ Sifted m limit (rule .id) (now (waived .entry)) (selectIn m (shownBy m (now (keys .entry)) (now (bits .entry)) n) (windowOfRule rule) (rule .feature)) at r
         (now («found_ids» .entry)) (now («found_ids» .exit)) (now («found_keys» .entry)) (now («found_keys» .exit)) (5 ^ m) ⌝ }
 {
     let window = Window {

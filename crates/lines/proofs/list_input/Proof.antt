@@ -4,7 +4,7 @@ use mathlib.Core.Path.{_≡_}
 use native.Mathlib.Omega.{arith}
 use borrow.Author.Needs.{needs}
 use lib.ListN.{length, take, drop}
-use Rattle.lines.specs.Listing.{listingRefusal}
+use Rattle.definitions.specs.Listing.{listingRefusal}
 use Rattle.lines.proofs.Going.{kept}
 use Rattle.lines.proofs.Listed.{refused-short, refused-large}
 use Rattle.lines.proofs.Program.{raster-part, refusal-room, refuses, Reads, Told, told, build-refusal-room, build-refuses, records, listing-room, build-accepts}

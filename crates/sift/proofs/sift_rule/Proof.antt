@@ -12,7 +12,7 @@ use Rattle.keys.proofs.Powers.{five-le}
 use Rattle.definitions.specs.Picture.{Picture}
 use Rattle.definitions.specs.Window.{selectIn}
 use Rattle.definitions.specs.declared.Window.{Window}
-use Rattle.definitions.specs.Rules.{windowOf}
+use Rattle.definitions.specs.Rules.{windowOfRule}
 use Rattle.definitions.specs.Edit.{contentOf}
 use Rattle.list.specs.Check.{oneSlot}
 use Rattle.list.specs.Own.{shownBy}
@@ -134,7 +134,7 @@ picture c = shownBy (c .args .m) (c .args .keys .now) (c .args .bits .now) (c .a
 -- what was sifted by the names at a place, up to a key
 abbrev Sofar : tie.Start Inv-loop2 μ-loop2 Inv-loop μ-loop → Sifting → List ℕ → List ℕ → ℕ → Type 0
 Sofar c st ids keys x =
-    Below (c .args .m) (picture c) (windowOf (c .args .rule)) (c .args .rule .feature) (c .args .limit) (c .args .rule .id) (c .args .waived .now)
+    Below (c .args .m) (picture c) (windowOfRule (c .args .rule)) (c .args .rule .feature) (c .args .limit) (c .args .rule .id) (c .args .waived .now)
     (c .args .at) st (c .args .found-ids .now) ids (c .args .found-keys .now) keys x
 
 -- and there
@@ -147,7 +147,7 @@ so-far c =
 abbrev head : tie.After-place-from Inv-loop2 μ-loop2 Inv-loop μ-loop → tie.At-loop2 Inv-loop2 μ-loop2 Inv-loop μ-loop
 head c = c .before .before .before
 
-meets : (c : tie.After-place-from Inv-loop2 μ-loop2 Inv-loop μ-loop) → isApart (head c .loop2 .spot) (windowOf (entry (head c) .args .rule)) ≡ false
+meets : (c : tie.After-place-from Inv-loop2 μ-loop2 Inv-loop μ-loop) → isApart (head c .loop2 .spot) (windowOfRule (entry (head c) .args .rule)) ≡ false
 meets c = sym (c .before .before .apart .ensures) ∙ c .before .if1 .left
 
 in-bits : (c : tie.After-place-from Inv-loop2 μ-loop2 Inv-loop μ-loop) → c .place-from .result < length (entry (head c) .args .bits .now)
@@ -214,7 +214,7 @@ first-requires c κs =
 abbrev enters : tie.Else3 Inv-loop2 μ-loop2 Inv-loop μ-loop → tie.After-place-from Inv-loop2 μ-loop2 Inv-loop μ-loop
 enters c = looked (c .before .before)
 
-cut : (c : tie.Else3 Inv-loop2 μ-loop2 Inv-loop μ-loop) → isWithin (head (enters c) .loop2 .spot) (windowOf (entry (head (enters c)) .args .rule)) ≡ false
+cut : (c : tie.Else3 Inv-loop2 μ-loop2 Inv-loop μ-loop) → isWithin (head (enters c) .loop2 .spot) (windowOfRule (entry (head (enters c)) .args .rule)) ≡ false
 cut c = sym (c .before .within .ensures) ∙ c .if3 .left
 
 loop2-less : tie.Need-loop2-less Inv-loop2 μ-loop2 Inv-loop μ-loop

@@ -8,7 +8,7 @@ use lib.Dec.{lit<}
 use Rattle.keys.specs.Key.{digitsOf}
 use Rattle.keys.proofs.Powers.{five-pos}
 use Rattle.keys.proofs.Descent.{power-down, power-whole}
-use Rattle.lines.specs.Listing.{characterOf, digitsText}
+use Rattle.definitions.specs.Listing.{characterOf, digitsText}
 use Rattle.lines.specs.Put.{Put, Room}
 use Rattle.lines.proofs.Going.{Going}
 use Rattle.lines.proofs.Going as going

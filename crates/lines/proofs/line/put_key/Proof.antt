@@ -4,7 +4,7 @@ use mathlib.Core.Path.{_≡_, sym, ap, subst}
 use mathlib.Core.Bool.{Bool, cond}
 use mathlib.Core.List.{List, [], _∷_}
 use borrow.Author.Tests.{eq-eqb, ne-eqb}
-use Rattle.lines.specs.Listing.{dash, digitsText, keyText}
+use Rattle.definitions.specs.Listing.{dash, digitsText, keyText}
 use Rattle.lines.specs.Put.{Put, Room}
 use Rattle.lines.proofs.Going.{kept}
 use Rattle.lines.proofs.line.put_key.Statement.{statement}

@@ -3,7 +3,7 @@ use Prim.Native.Nat.{ℕ}
 use mathlib.Core.Path.{_∙_}
 use mathlib.Core.List.{List, [], _∷_, _++_}
 use Rattle.definitions.specs.List.{recordOf}
-use Rattle.lines.specs.Listing.{blank, lineEnd, keyText, slotsText, lineOf}
+use Rattle.definitions.specs.Listing.{blank, lineEnd, keyText, slotsText, lineOf}
 use Rattle.lines.specs.Put.{Put, Room}
 use Rattle.lines.proofs.Going.{Going, kept}
 use Rattle.lines.proofs.Going as going

@@ -4,7 +4,7 @@ use mathlib.Core.Path.{_≡_, sym, ap, _∙_}
 use mathlib.Core.List.{List, [], _∷_, _++_}
 use native.Mathlib.Omega.{arith}
 use native.Mathlib.Nat.{div-one}
-use Rattle.lines.specs.Listing.{characterOf, slotsFrom, slotsText}
+use Rattle.definitions.specs.Listing.{characterOf, slotsFrom, slotsText}
 use Rattle.lines.specs.Put.{Put, Room}
 use Rattle.lines.proofs.Going.{Going}
 use Rattle.lines.proofs.Going as going

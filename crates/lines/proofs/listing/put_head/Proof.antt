@@ -2,7 +2,7 @@
 use Prim.Native.Nat.{ℕ}
 use mathlib.Core.Path.{_≡_, sym, ap, _∙_}
 use mathlib.Core.List.{List, [], _∷_, _++_, append-assoc}
-use Rattle.lines.specs.Listing.{blank, lineEnd, decimal, headLine}
+use Rattle.definitions.specs.Listing.{blank, lineEnd, decimal, headLine}
 use Rattle.lines.specs.Put.{Put, Room}
 use Rattle.lines.proofs.Going.{Going, kept}
 use Rattle.lines.proofs.Going as going

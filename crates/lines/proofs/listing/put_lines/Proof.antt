@@ -6,7 +6,7 @@ use native.Mathlib.Omega.{arith}
 use lib.ListN.{drop, getD}
 use Rattle.definitions.specs.List.{recordOf}
 use Rattle.definitions.specs.Read.{recordsOf}
-use Rattle.lines.specs.Listing.{lineOf, linesOf}
+use Rattle.definitions.specs.Listing.{lineOf, linesOf}
 use Rattle.lines.specs.Put.{Put, Room, Records}
 use Rattle.lines.proofs.Going.{Going}
 use Rattle.lines.proofs.Going as going

@@ -4,7 +4,7 @@ use mathlib.Core.Path.{_≡_, ap, _∙_}
 use mathlib.Core.List.{List, _++_}
 use Rattle.definitions.specs.Read.{recordsOf}
 use Rattle.definitions.proofs.Records.{records-length}
-use Rattle.lines.specs.Listing.{headLine, linesOf, listing}
+use Rattle.definitions.specs.Listing.{headLine, linesOf, listing}
 use Rattle.lines.specs.Put.{Put, Room, Records}
 use Rattle.lines.proofs.Going.{Going, kept}
 use Rattle.lines.proofs.Going as going

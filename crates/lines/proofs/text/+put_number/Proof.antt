@@ -6,7 +6,7 @@ use native.Mathlib.Omega.{arith}
 use lib.ListN.{length}
 use borrow.Fn.Kinds.{In}
 use borrow.Fn.PlainCycle.{Measures, is, falls, and}
-use Rattle.lines.specs.Listing.{characterOf, decimal}
+use Rattle.definitions.specs.Listing.{characterOf, decimal}
 use Rattle.lines.specs.Put.{Put, Room}
 use Rattle.lines.proofs.Going.{Going}
 use Rattle.lines.proofs.Going as going

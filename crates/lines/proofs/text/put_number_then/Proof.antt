@@ -1,7 +1,7 @@
 -- `put_number_then` meets its contract: the number and the byte stand one after the other.
 use mathlib.Core.Path.{_∙_}
 use mathlib.Core.List.{[], _∷_}
-use Rattle.lines.specs.Listing.{decimal}
+use Rattle.definitions.specs.Listing.{decimal}
 use Rattle.lines.proofs.Going.{begins, goes, finishes, room, piece-room, kept}
 use Rattle.lines.proofs.text.put_number_then.Statement.{statement}
 use Rattle.lines.proofs.text.put_number_then.Tie as tie
