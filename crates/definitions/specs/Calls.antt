@@ -14,6 +14,7 @@ pub mod Area
 pub mod Clipped
 pub mod Batch
 pub mod Paint
+pub mod PaintWindow
 pub mod TakeBack
 pub mod Redo
 pub mod Empty

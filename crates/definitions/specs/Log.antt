@@ -5,11 +5,13 @@ use mathlib.Core.Bool.{Bool, true, cond, not, _&&_}
 use mathlib.Core.List.{List, [], _∷_, _++_}
 use lib.ListN.{length, getD, take, drop}
 use lib.Dec.{leb, ltb, eqb}
-use Rattle.keys.specs.Key.{validKey, heightOf}
+use Rattle.keys.specs.Key.{rootKey, validKey, heightOf}
 use Rattle.keys.specs.Block.{rowOf, columnOf}
 use Rattle.definitions.specs.Picture.{Picture}
 use Rattle.definitions.specs.List.{Record, recordOf}
 use Rattle.definitions.specs.Read.{room, recordsOf, isListOfBlock}
+use Rattle.definitions.specs.Window.{largestBlocks}
+use Rattle.definitions.specs.declared.Window.{Window}
 use Rattle.definitions.specs.Edit.{contentOf}
 
 -- an entry: a block's former content, and then two closing records with its key, one with the number of content records and one with the feature
@@ -66,6 +68,22 @@ lastIsEntry m s log =
     && closes s log
     && validKey m (lastKey log)
     && isContent m s (lastKey log) (lastContent log)
+
+-- a group: entries, and then two closing records with the key 0, one with the number of entries and one with the mark 255, which is no feature
+abbrev pub groupMark : ℕ
+groupMark = 255
+
+unfoldable pub grouped : (entries : List Record) (number : ℕ) → List Record
+grouped entries number = entries ++ (recordOf rootKey number ∷ recordOf rootKey groupMark ∷ [])
+
+-- the entries of paints of blocks with f, one behind the other
+unfoldable pub entriesOf : (m : ℕ) (p : Picture) (blocks : List ℕ) (f : ℕ) → List Record
+entriesOf m p [] f = []
+entriesOf m p (κ ∷ blocks) f = entryOf m p κ f ++ entriesOf m p blocks f
+
+-- the group of a paint of window w with f: an entry for each of its largest blocks
+unfoldable pub groupOf : (m : ℕ) (p : Picture) (w : Window) (f : ℕ) → List Record
+groupOf m p w f = grouped (entriesOf m p (largestBlocks m w) f) (length (largestBlocks m w))
 
 -- the records divide from the end into entries; an entry has records, so as many steps as there are records suffice
 unfoldable pub dividesIn : (steps m s : ℕ) (log : List Record) → Bool
