@@ -4,7 +4,7 @@
 pub mod change;
 pub mod deed;
 pub mod grow;
-mod quarters;
+pub mod quarters;
 pub mod renew;
 pub mod squeeze;
 pub mod tally;
