@@ -46,14 +46,14 @@ module _ (m : ℕ) {n : ℕ} {keys bits keys′ bits′ : List ℕ} {r : ℕ} (p
   new-shows a c w = ap (λ l. pictureOf m l a c) new-records ∙ block-back m p m 0 0 rootKey (root-keys m) a c w
 
   -- and is the list of what it shows
-  new-own : OwnList m keys′ bits′ r
+  pub new-own : OwnList m keys′ bits′ r
   new-own =
       let a = there (λ x. x .key) (listOfPicture m p) r keys′ (made .length-is) keys-front in
       let b = there (λ x. x .value) (listOfPicture m p) r bits′ (made .length-is) values-front in
       record { fits = omega arith; own = new-records ∙ sym (list-agree (shownBy m keys′ bits′ r) p m 0 0 rootKey new-shows) }
 
   -- so its summary is the picture's
-  new-summary : (s : ℕ) (summary′ : List ℕ) → summary′ ≡ summaryOf m s (shownBy m keys′ bits′ r) → summary′ ≡ summaryOf m s p
+  pub new-summary : (s : ℕ) (summary′ : List ℕ) → summary′ ≡ summaryOf m s (shownBy m keys′ bits′ r) → summary′ ≡ summaryOf m s p
   new-summary s summary′ e = e ∙ summary-agree m s (shownBy m keys′ bits′ r) p new-shows
 
 module _ (m s κ : ℕ) {n : ℕ} {keys bits keys′ bits′ : List ℕ} {r : ℕ} (q : Picture)

@@ -17,3 +17,11 @@ pub mod Relogging
 pub mod RedoTable
 pub mod RedoPlan
 pub mod RedoAnswers
+pub mod LargestBlocks
+pub mod WindowLies
+pub mod EntriesLogged
+pub mod WindowNeeds
+pub mod WindowFilled
+pub mod PaintWindowTable
+pub mod PaintWindowAnswers
+pub mod GroupLogged

@@ -14,7 +14,7 @@ use Rattle.log.specs.Entries.{Logged, Cleared}
 use Rattle.edit.specs.PaintCall.{Relogged}
 
 -- what follows a run is written behind it
-over-join : (old : List ℕ) (start : ℕ) (xs ys : List ℕ) (next : ℕ) → next ≡ start + length xs → start + length xs ≤ length old → next + length ys ≤ length old
+pub over-join : (old : List ℕ) (start : ℕ) (xs ys : List ℕ) (next : ℕ) → next ≡ start + length xs → start + length xs ≤ length old → next + length ys ≤ length old
     → overAt next ys (overAt start xs old) ≡ overAt start (xs ++ ys) old
 over-join old start xs ys next e h j =
     let first : sets old start xs ≡ overAt start xs old = sets-parts old start xs h in

@@ -4,3 +4,5 @@ pub mod PaintCall
 pub mod Recount
 pub mod TakingBackCall
 pub mod RedoCall
+pub mod WindowLogging
+pub mod PaintWindowCall

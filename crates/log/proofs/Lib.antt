@@ -5,3 +5,4 @@ pub mod Tests
 pub mod Sound
 pub mod First
 pub mod Parts
+pub mod GroupWritten

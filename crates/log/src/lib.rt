@@ -10,6 +10,7 @@ use keys::Key;
 use list::check;
 
 pub mod entry;
+pub mod group;
 
 // The used records end in an entry: all of it is there and closed, its key is valid, and its content is a list of that block.
 fn ends_in_entry(m: u32, s: u32, keys: &[u32], values: &[u32], used: usize) -> bool

@@ -6,7 +6,7 @@ pub mod deed;
 mod entries;
 mod fill;
 pub mod grow;
-mod quarters;
+pub mod quarters;
 pub mod renew;
 pub mod run;
 pub mod squeeze;

@@ -1,0 +1,150 @@
+-- The largest blocks of a window at or below a block: none where it lies apart from the window, itself where it lies within, and else those of
+-- its quadrants; and how long their entries are. Rests on the pixels of a block and on the length of a content.
+use Prim.Native.Nat.{ℕ, zero, suc, _+_, _-_, _*_, _^_, _≤_, _<_}
+use mathlib.Core.Path.{_≡_, refl, sym, _∙_, ap, ap₂}
+use mathlib.Core.Bool.{true, false, true≢false}
+use mathlib.Core.List.{List, [], _∷_, _++_, append-nil, append-assoc}
+use native.Mathlib.Omega.{arith}
+use native.Mathlib.Nat.{pow-suc, one-le-pow}
+use lib.ListN.{length, length-append}
+use Rattle.keys.specs.Key.{childKey, heightOf}
+use Rattle.keys.specs.Block.{rowOf, columnOf}
+use Rattle.keys.proofs.Cases.{decide}
+use Rattle.keys.proofs.Under.{Block, here, nw, ne, sw, se, under-trans}
+use Rattle.keys.proofs.Valid.{block-valid}
+use Rattle.definitions.specs.Picture.{Picture}
+use Rattle.definitions.specs.List.{Record}
+use Rattle.definitions.specs.Window.{inWindow, isCovered, largestFrom}
+use Rattle.definitions.specs.declared.Window.{Window}
+use Rattle.definitions.specs.Edit.{contentOf}
+use Rattle.definitions.specs.Log.{closingPlaces, entryOf, entriesOf}
+use Rattle.definitions.proofs.Within.{Every, first-within, every-nw, every-ne, every-sw, every-se}
+use Rattle.definitions.proofs.Pixels.{every-to, every-from}
+use Rattle.definitions.proofs.LastEntry.{length-closed}
+use Rattle.build.proofs.CountBlock.{list-five}
+use Rattle.step.specs.Quarters.{quartersOf}
+use Rattle.step.specs.declared.quarters.Quarters.{Quarters}
+
+-- a block with a pixel outside the window is not covered
+pub not-covered : (w : Window) (k r c : ℕ) → inWindow w r c ≡ false → isCovered w k r c ≡ false
+unfolding isCovered
+not-covered w k r c h = decide (isCovered w k r c) (λ e. absurd (true≢false (sym (every-to (inWindow w) k r c e r c (first-within k r c)) ∙ h))) (λ e. e)
+
+-- a covered block is itself the largest
+pub largest-one : (w : Window) (k r c κ : ℕ) → isCovered w k r c ≡ true → largestFrom w k r c κ ≡ κ ∷ []
+unfolding largestFrom
+largest-one w zero r c κ e = rw e refl
+largest-one w (suc k) r c κ e = rw e refl
+
+-- one that is not covered has those of its quadrants
+pub largest-four : (w : Window) (k r c κ : ℕ) → isCovered w (suc k) r c ≡ false
+    → largestFrom w (suc k) r c κ
+    ≡ largestFrom w k r c (childKey κ k 1)
+    ++ (largestFrom w k r (c + 2 ^ k) (childKey κ k 2)
+    ++ (largestFrom w k (r + 2 ^ k) c (childKey κ k 3) ++ largestFrom w k (r + 2 ^ k) (c + 2 ^ k) (childKey κ k 4)))
+unfolding largestFrom
+largest-four w k r c κ e = rw e refl
+
+largest-pixel : (w : Window) (r c κ : ℕ) → isCovered w zero r c ≡ false → largestFrom w zero r c κ ≡ []
+unfolding largestFrom
+largest-pixel w r c κ e = rw e refl
+
+-- a block that lies apart from the window has none
+pub largest-none : (w : Window) (k r c κ : ℕ) → Every (λ a b. inWindow w a b ≡ false) k r c → largestFrom w k r c κ ≡ []
+largest-none w zero r c κ h = largest-pixel w r c κ (not-covered w zero r c (h r c (first-within zero r c)))
+largest-none w (suc k) r c κ h =
+    largest-four w k r c κ (not-covered w (suc k) r c (h r c (first-within (suc k) r c)))
+    ∙ ap₂ _++_ (largest-none w k r c (childKey κ k 1) (every-nw h))
+    (ap₂ _++_ (largest-none w k r (c + 2 ^ k) (childKey κ k 2) (every-ne h))
+    (ap₂ _++_ (largest-none w k (r + 2 ^ k) c (childKey κ k 3) (every-sw h)) (largest-none w k (r + 2 ^ k) (c + 2 ^ k) (childKey κ k 4) (every-se h))))
+
+-- the quadrants as the code names them
+pub largest-quarters : (w : Window) (r c κ : ℕ) {k : ℕ} {q : Quarters} → q ≡ quartersOf k r c κ → 0 < k → isCovered w k r c ≡ false
+    → largestFrom w k r c κ
+    ≡ largestFrom w (q .height) r c (q .nw)
+    ++ (largestFrom w (q .height) r (q .right) (q .ne)
+    ++ (largestFrom w (q .height) (q .down) c (q .sw) ++ largestFrom w (q .height) (q .down) (q .right) (q .se)))
+largest-quarters w r c κ {k} e positive cut =
+    let up : k ≡ suc (k - 1) = omega arith in
+    let first : childKey κ (k - 1) 1 ≡ κ + 5 ^ (k - 1) = omega arith in
+    let rest : List ℕ =
+    largestFrom w (k - 1) r (c + 2 ^ (k - 1)) (childKey κ (k - 1) 2)
+    ++ (largestFrom w (k - 1) (r + 2 ^ (k - 1)) c (childKey κ (k - 1) 3) ++ largestFrom w (k - 1) (r + 2 ^ (k - 1)) (c + 2 ^ (k - 1)) (childKey κ (k - 1) 4)) in
+    rw e
+    (ap (λ j. largestFrom w j r c κ) up
+    ∙ largest-four w (k - 1) r c κ (ap (λ j. isCovered w j r c) (sym up) ∙ cut)
+    ∙ ap (λ x. largestFrom w (k - 1) r c x ++ rest) first)
+
+module _ (m : ℕ) (p : Picture) (f : ℕ) where
+  -- the entries of two runs of blocks
+  pub entries-append : (xs ys : List ℕ) → entriesOf m p (xs ++ ys) f ≡ entriesOf m p xs f ++ entriesOf m p ys f
+  unfolding entriesOf
+  entries-append [] ys = refl
+  entries-append (κ ∷ xs) ys =
+      ap (λ l. entryOf m p κ f ++ l) (entries-append xs ys) ∙ sym (append-assoc (entryOf m p κ f) (entriesOf m p xs f) (entriesOf m p ys f))
+
+  -- of four
+  pub entries-four : (a b c d : List ℕ)
+      → entriesOf m p (a ++ (b ++ (c ++ d))) f ≡ entriesOf m p a f ++ (entriesOf m p b f ++ (entriesOf m p c f ++ entriesOf m p d f))
+  entries-four a b c d =
+      entries-append a (b ++ (c ++ d))
+      ∙ ap (λ l. entriesOf m p a f ++ l) (entries-append b (c ++ d) ∙ ap (λ l. entriesOf m p b f ++ l) (entries-append c d))
+
+  -- of one block
+  pub entries-one : (κ : ℕ) → entriesOf m p (κ ∷ []) f ≡ entryOf m p κ f
+  unfolding entriesOf
+  entries-one κ = append-nil (entryOf m p κ f)
+
+  -- of none
+  pub entries-none : entriesOf m p [] f ≡ []
+  unfolding entriesOf
+  entries-none = refl
+
+  entry-length : (κ : ℕ) → length (entryOf m p κ f) ≡ length (contentOf m p κ) + closingPlaces
+  unfolding entryOf
+  entry-length κ = length-closed κ (contentOf m p κ) f
+
+  -- each entry has places
+  pub entries-more : (blocks : List ℕ) → length blocks ≤ length (entriesOf m p blocks f)
+  unfolding entriesOf
+  entries-more [] = omega arith
+  entries-more (κ ∷ blocks) =
+      let h = entries-more blocks in
+      let e = length-append (entryOf m p κ f) (entriesOf m p blocks f) in
+      let g = entry-length κ in
+      omega arith
+
+  -- a block's entry has at most three times as many places as the block has keys
+  entry-few : {k r c κ : ℕ} → Block m k r c κ → length (entryOf m p κ f) ≤ 3 * 5 ^ k
+  unfolding contentOf
+  entry-few {k} {r} {c} {κ} b =
+      let g = entry-length κ in
+      let h = list-five p (heightOf m κ) (rowOf m κ) (columnOf m κ) κ in
+      let e = ap (λ j. 5 ^ j) (block-valid b .height) in
+      let o = one-le-pow k 5 (omega arith) in
+      omega arith
+
+  -- and so have the entries of the largest blocks in it
+  pub entries-few : (w : Window) (k : ℕ) {r c κ : ℕ} → Block m k r c κ → length (entriesOf m p (largestFrom w k r c κ) f) ≤ 3 * 5 ^ k
+  entries-few w zero {r} {c} {κ} b =
+      decide (isCovered w zero r c)
+      (λ e. let x = ap length (ap (λ l. entriesOf m p l f) (largest-one w zero r c κ e) ∙ entries-one κ) in let y = entry-few b in omega arith)
+      (λ e. let x = ap length (ap (λ l. entriesOf m p l f) (largest-pixel w r c κ e) ∙ entries-none) in omega arith)
+  entries-few w (suc k) {r} {c} {κ} b =
+      decide (isCovered w (suc k) r c)
+      (λ e. let x = ap length (ap (λ l. entriesOf m p l f) (largest-one w (suc k) r c κ e) ∙ entries-one κ) in let y = entry-few b in omega arith)
+      (λ e.
+      let l₁ : List ℕ = largestFrom w k r c (childKey κ k 1) in
+      let l₂ : List ℕ = largestFrom w k r (c + 2 ^ k) (childKey κ k 2) in
+      let l₃ : List ℕ = largestFrom w k (r + 2 ^ k) c (childKey κ k 3) in
+      let l₄ : List ℕ = largestFrom w k (r + 2 ^ k) (c + 2 ^ k) (childKey κ k 4) in
+      let x = ap length (ap (λ l. entriesOf m p l f) (largest-four w k r c κ e) ∙ entries-four l₁ l₂ l₃ l₄) in
+      let x₁ = length-append (entriesOf m p l₁ f) (entriesOf m p l₂ f ++ (entriesOf m p l₃ f ++ entriesOf m p l₄ f)) in
+      let x₂ = length-append (entriesOf m p l₂ f) (entriesOf m p l₃ f ++ entriesOf m p l₄ f) in
+      let x₃ = length-append (entriesOf m p l₃ f) (entriesOf m p l₄ f) in
+      let h₁ = entries-few w k (under-trans b (nw here)) in
+      let h₂ = entries-few w k (under-trans b (ne here)) in
+      let h₃ = entries-few w k (under-trans b (sw here)) in
+      let h₄ = entries-few w k (under-trans b (se here)) in
+      let five = pow-suc 5 k in
+      omega arith)
