@@ -24,7 +24,7 @@ use Rattle.step.proofs.QuarterSums.{block-nw, block-ne, block-sw, block-se}
 use Rattle.edit.specs.WindowLogging.{entriesBelow, Enterable}
 use Rattle.edit.proofs.ContentStands.{logged-same}
 use Rattle.edit.proofs.Relogging.{over-join}
-use Rattle.edit.proofs.LargestBlocks.{largest-quarters, entries-none, entries-one, entries-four}
+use Rattle.edit.proofs.WindowEntries.{largest-quarters, entries-none, entries-one, entries-four}
 
 none-over : (place : ℕ) (l : List ℕ) → l ≡ overAt place [] l
 none-over place l = let same : place ≡ place + 0 = omega arith in sym (take-append-drop place l) ∙ ap (λ n. take place l ++ drop n l) same

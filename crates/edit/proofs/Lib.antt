@@ -17,7 +17,7 @@ pub mod Relogging
 pub mod RedoTable
 pub mod RedoPlan
 pub mod RedoAnswers
-pub mod LargestBlocks
+pub mod WindowEntries
 pub mod WindowLies
 pub mod EntriesLogged
 pub mod WindowNeeds

@@ -16,7 +16,8 @@ use Rattle.window.specs.Walk.{Small, isWithin, isApart}
 use Rattle.window.specs.declared.walk.Spot.{Spot}
 use Rattle.window.proofs.Lies.{apart-pixel, within-pixel, not-apart, inside-within}
 use Rattle.edit.specs.WindowLogging.{Placed, Lies, Coverable}
-use Rattle.edit.proofs.LargestBlocks.{largest-none, largest-one}
+use Rattle.definitions.proofs.LargestBlocks.{covered-one}
+use Rattle.edit.proofs.WindowEntries.{largest-none}
 
 abbrev pub spotAt : (row column side : ℕ) → Spot
 spotAt row column side = record { key = 0; row = row; column = column; side = side; step = 0 }
@@ -51,7 +52,7 @@ module _ {w : Window} {k r c side : ℕ} (a : Placed w k r c) (e : side ≡ 2 ^ 
   unfolding isCovered
   lies-within h = record {
     none = λ x. absurd (omega arith);
-    one = λ x κ. largest-one w k r c κ (every-from (inWindow w) k r c (λ row column i. within-pixel (spotAt r c side) w row column h (omega arith)));
+    one = λ x κ. covered-one w k r c κ (every-from (inWindow w) k r c (λ row column i. within-pixel (spotAt r c side) w row column h (omega arith)));
     parts = λ x y. absurd (y refl);
   }
 

@@ -20,7 +20,7 @@ use Rattle.step.specs.Quarters.{quartersOf}
 use Rattle.step.specs.declared.quarters.Quarters.{Quarters}
 use Rattle.edit.specs.WindowLogging.{NeededFor}
 use Rattle.edit.proofs.ContentLength.{gained-size}
-use Rattle.edit.proofs.LargestBlocks.{largest-quarters, entries-none, entries-one, entries-four, entries-more, entries-few}
+use Rattle.edit.proofs.WindowEntries.{largest-quarters, entries-none, entries-one, entries-four, entries-more, entries-few}
 
 pub needs-none : (m : ℕ) (p : Picture) {blocks : List ℕ} → blocks ≡ [] → NeededFor m p blocks 0 0
 needs-none m p {blocks} e = record {

@@ -24,7 +24,7 @@ pub fn length_filled(
     requires { ⌜ Fillable m (now keys) (now bits) n window feature ⌝ }
     ensures { λ r. ⌜ r ≡ length (filled m (recordsOf (now (keys .entry)) (now (bits .entry)) n) window feature) ⌝ }
 {
-    let deed = Deed { window, feature };
+    let deed = Deed::Fill(window, feature);
     change::length_after(deed, log_keys, log_values, m, keys, bits, n)
 }
 
@@ -45,6 +45,6 @@ pub fn fill_window(
     ensures { λ _. ⌜ Replaced n (filled m (recordsOf (now (keys .entry)) (now (bits .entry)) n) window feature)
         (now (keys .entry)) (now (bits .entry)) (now (keys .exit)) (now (bits .exit)) after ⌝ }
 {
-    let deed = Deed { window, feature };
+    let deed = Deed::Fill(window, feature);
     change::change(deed, log_keys, log_values, m, keys, bits, n, after);
 }

@@ -20,6 +20,7 @@ use Rattle.definitions.specs.Edit.{contentOf}
 use Rattle.definitions.specs.Log.{closingPlaces, entryOf, entriesOf}
 use Rattle.definitions.proofs.Within.{Every, first-within, every-nw, every-ne, every-sw, every-se}
 use Rattle.definitions.proofs.Pixels.{every-to, every-from}
+use Rattle.definitions.proofs.LargestBlocks.{covered-one, covered-none, covered-part}
 use Rattle.definitions.proofs.LastEntry.{length-closed}
 use Rattle.build.proofs.CountBlock.{list-five}
 use Rattle.step.specs.Quarters.{quartersOf}
@@ -30,30 +31,11 @@ pub not-covered : (w : Window) (k r c : ℕ) → inWindow w r c ≡ false → is
 unfolding isCovered
 not-covered w k r c h = decide (isCovered w k r c) (λ e. absurd (true≢false (sym (every-to (inWindow w) k r c e r c (first-within k r c)) ∙ h))) (λ e. e)
 
--- a covered block is itself the largest
-pub largest-one : (w : Window) (k r c κ : ℕ) → isCovered w k r c ≡ true → largestFrom w k r c κ ≡ κ ∷ []
-unfolding largestFrom
-largest-one w zero r c κ e = rw e refl
-largest-one w (suc k) r c κ e = rw e refl
-
--- one that is not covered has those of its quadrants
-pub largest-four : (w : Window) (k r c κ : ℕ) → isCovered w (suc k) r c ≡ false
-    → largestFrom w (suc k) r c κ
-    ≡ largestFrom w k r c (childKey κ k 1)
-    ++ (largestFrom w k r (c + 2 ^ k) (childKey κ k 2)
-    ++ (largestFrom w k (r + 2 ^ k) c (childKey κ k 3) ++ largestFrom w k (r + 2 ^ k) (c + 2 ^ k) (childKey κ k 4)))
-unfolding largestFrom
-largest-four w k r c κ e = rw e refl
-
-largest-pixel : (w : Window) (r c κ : ℕ) → isCovered w zero r c ≡ false → largestFrom w zero r c κ ≡ []
-unfolding largestFrom
-largest-pixel w r c κ e = rw e refl
-
 -- a block that lies apart from the window has none
 pub largest-none : (w : Window) (k r c κ : ℕ) → Every (λ a b. inWindow w a b ≡ false) k r c → largestFrom w k r c κ ≡ []
-largest-none w zero r c κ h = largest-pixel w r c κ (not-covered w zero r c (h r c (first-within zero r c)))
+largest-none w zero r c κ h = covered-none w r c κ (not-covered w zero r c (h r c (first-within zero r c)))
 largest-none w (suc k) r c κ h =
-    largest-four w k r c κ (not-covered w (suc k) r c (h r c (first-within (suc k) r c)))
+    covered-part w k r c κ (not-covered w (suc k) r c (h r c (first-within (suc k) r c)))
     ∙ ap₂ _++_ (largest-none w k r c (childKey κ k 1) (every-nw h))
     (ap₂ _++_ (largest-none w k r (c + 2 ^ k) (childKey κ k 2) (every-ne h))
     (ap₂ _++_ (largest-none w k (r + 2 ^ k) c (childKey κ k 3) (every-sw h)) (largest-none w k (r + 2 ^ k) (c + 2 ^ k) (childKey κ k 4) (every-se h))))
@@ -72,7 +54,7 @@ largest-quarters w r c κ {k} e positive cut =
     ++ (largestFrom w (k - 1) (r + 2 ^ (k - 1)) c (childKey κ (k - 1) 3) ++ largestFrom w (k - 1) (r + 2 ^ (k - 1)) (c + 2 ^ (k - 1)) (childKey κ (k - 1) 4)) in
     rw e
     (ap (λ j. largestFrom w j r c κ) up
-    ∙ largest-four w (k - 1) r c κ (ap (λ j. isCovered w j r c) (sym up) ∙ cut)
+    ∙ covered-part w (k - 1) r c κ (ap (λ j. isCovered w j r c) (sym up) ∙ cut)
     ∙ ap (λ x. largestFrom w (k - 1) r c x ++ rest) first)
 
 module _ (m : ℕ) (p : Picture) (f : ℕ) where
@@ -128,17 +110,17 @@ module _ (m : ℕ) (p : Picture) (f : ℕ) where
   pub entries-few : (w : Window) (k : ℕ) {r c κ : ℕ} → Block m k r c κ → length (entriesOf m p (largestFrom w k r c κ) f) ≤ 3 * 5 ^ k
   entries-few w zero {r} {c} {κ} b =
       decide (isCovered w zero r c)
-      (λ e. let x = ap length (ap (λ l. entriesOf m p l f) (largest-one w zero r c κ e) ∙ entries-one κ) in let y = entry-few b in omega arith)
+      (λ e. let x = ap length (ap (λ l. entriesOf m p l f) (covered-one w zero r c κ e) ∙ entries-one κ) in let y = entry-few b in omega arith)
       (λ e. let x = ap length (ap (λ l. entriesOf m p l f) (largest-pixel w r c κ e) ∙ entries-none) in omega arith)
   entries-few w (suc k) {r} {c} {κ} b =
       decide (isCovered w (suc k) r c)
-      (λ e. let x = ap length (ap (λ l. entriesOf m p l f) (largest-one w (suc k) r c κ e) ∙ entries-one κ) in let y = entry-few b in omega arith)
+      (λ e. let x = ap length (ap (λ l. entriesOf m p l f) (covered-one w (suc k) r c κ e) ∙ entries-one κ) in let y = entry-few b in omega arith)
       (λ e.
       let l₁ : List ℕ = largestFrom w k r c (childKey κ k 1) in
       let l₂ : List ℕ = largestFrom w k r (c + 2 ^ k) (childKey κ k 2) in
       let l₃ : List ℕ = largestFrom w k (r + 2 ^ k) c (childKey κ k 3) in
       let l₄ : List ℕ = largestFrom w k (r + 2 ^ k) (c + 2 ^ k) (childKey κ k 4) in
-      let x = ap length (ap (λ l. entriesOf m p l f) (largest-four w k r c κ e) ∙ entries-four l₁ l₂ l₃ l₄) in
+      let x = ap length (ap (λ l. entriesOf m p l f) (covered-part w k r c κ e) ∙ entries-four l₁ l₂ l₃ l₄) in
       let x₁ = length-append (entriesOf m p l₁ f) (entriesOf m p l₂ f ++ (entriesOf m p l₃ f ++ entriesOf m p l₄ f)) in
       let x₂ = length-append (entriesOf m p l₂ f) (entriesOf m p l₃ f ++ entriesOf m p l₄ f) in
       let x₃ = length-append (entriesOf m p l₃ f) (entriesOf m p l₄ f) in
