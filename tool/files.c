@@ -141,7 +141,8 @@ void sync_folder(const char *path) {
     char *slash = strrchr(folder, '/');
     if (slash) slash[slash == folder] = 0; /* the root keeps its slash */
     int file = open(slash ? folder : ".", O_RDONLY | O_DIRECTORY | O_CLOEXEC);
-    if (file < 0 || fsync(file) != 0) fail(STATUS_IO, "the folder of %s: %s", path, strerror(errno));
+    if (file < 0 || (fsync(file) != 0 && errno != EINVAL)) /* some network folders know no fsync */
+        fail(STATUS_IO, "the folder of %s: %s", path, strerror(errno));
     close(file);
     free(folder);
     crash_point();

@@ -86,11 +86,9 @@ sheet open_sheet(const arguments *a, const char *path, purpose why) {
     sheet s = { .path = real_path(path), .wait = seconds_to_wait(a) };
     s.lock = lock_file(s.path, why != TO_READ, s.wait);
     if (s.lock < 0) fail(STATUS_NO_INPUT, "%s: %s", path, strerror(ENOENT));
-    uint8_t *bytes = read_file(s.path, MOST_MAP_BYTES, &s.length);
-    s.list = map_of(bytes, s.length, path);
-    s.digest = digest_of(bytes, s.length);
-    free(bytes);
-    s.state = take_log_of(s.path, s.digest, s.length, why != TO_READ, &s.log);
+    s.bytes = read_file(s.path, MOST_MAP_BYTES, &s.length);
+    s.list = map_of(s.bytes, s.length, path);
+    s.state = take_log_of(s.path, digest_of(s.bytes, s.length), s.length, why != TO_READ, &s.log);
     if (why == TO_EDIT && s.state > LOG_FITS)
         fail(STATUS_DATA, "%s.log %s; 'prowcurl forget %s' empties it", path,
              s.state == LOG_OTHER ? "is the log of another map, or of another state of this one" : "is damaged", path);
@@ -101,9 +99,8 @@ sheet open_sheet(const arguments *a, const char *path, purpose why) {
 void keep_sheet(sheet *s) {
     size_t length, log_length;
     uint8_t *bytes = bytes_of_map(&s->list, &length);
-    uint64_t digest = digest_of(bytes, length);
-    uint8_t *log = bytes_of_log(&s->log, digest, length, &log_length);
-    int same = digest == s->digest && length == s->length;
+    uint8_t *log = bytes_of_log(&s->log, digest_of(bytes, length), length, &log_length);
+    int same = length == s->length && memcmp(bytes, s->bytes, length) == 0;
     replace_pair(s->path, same ? NULL : bytes, length, log, log_length, s->wait);
     free(bytes);
     free(log);
@@ -113,6 +110,7 @@ void close_sheet(sheet *s) {
     close(s->lock);
     give_back_map(&s->list);
     give_back_log(&s->log);
+    free(s->bytes);
     free(s->path);
 }
 

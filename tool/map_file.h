@@ -36,7 +36,7 @@ typedef struct {
     map list;
     paints log;
     log_state state;
-    uint64_t digest; /* of the file as it was opened */
+    uint8_t *bytes; /* of the file as it was opened */
     size_t length;
 } sheet;
 
