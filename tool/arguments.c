@@ -71,9 +71,10 @@ arguments parse(const command *c, int count, char **words) {
         else fail(STATUS_USAGE, "--%s wants a value: %s", options[o].name, options[o].value);
     }
     if (a.given[OPTION_HELP]) return a;
-    if (a.count < c->least || a.count > c->most)
-        fail(STATUS_USAGE, "'prowcurl %s' has %d words too %s; usage: prowcurl %s", c->name,
-             a.count < c->least ? c->least - a.count : a.count - c->most, a.count < c->least ? "few" : "many", c->usage);
+    int few = c->least - a.count, many = a.count - c->most;
+    if (few > 0 || many > 0)
+        fail(STATUS_USAGE, "'prowcurl %s' has %d words too %s; usage: prowcurl %s", c->name, few > 0 ? few : many,
+             few > 0 ? "few" : "many", c->usage);
     if (a.given[OPTION_JSON] && a.given[OPTION_CSV]) fail(STATUS_USAGE, "--json and --csv exclude each other");
     return a;
 }

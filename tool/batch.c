@@ -43,7 +43,8 @@ static void ask(const map *list, const hlq_question *questions, size_t count, ui
 
 /* In one call where nobody looks on. On a terminal in parts, each twice the last until one takes a fifth of a second,
  * so that a line can tell how far it is; it comes after a second. */
-static void ask_all(const map *list, const hlq_question *questions, size_t count, uint32_t *refusals, uint32_t *values) {
+static void ask_all(const map *list, const hlq_question *questions, size_t count, uint32_t *refusals,
+                    uint32_t *values) {
     int watched = isatty(STDERR_FILENO), told = 0;
     double begun = now();
     size_t part = watched ? 1024 : count;

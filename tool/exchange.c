@@ -117,7 +117,8 @@ static void write_bits(const arguments *a) {
     }
     size_t node_room = HLQ_NODE_STRING_BYTES(list.n), leaf_room = HLQ_LEAF_STRING_BYTES(list.n);
     uint8_t *nodes = room_for(node_room, 1), *leaves = room_for(leaf_room, 1);
-    hlq_strings put = hlq_write_bit_strings(list.m, list.s, LIST_OF(&list), list.n, nodes, node_room, leaves, leaf_room);
+    hlq_strings put = hlq_write_bit_strings(list.m, list.s, LIST_OF(&list), list.n, nodes, node_room, leaves,
+                                            leaf_room);
     accept_or_end(put.refusal, a->words[0]);
     write_file(a->words[1], nodes, (size_t)put.node_bytes);
     write_file(a->words[2], leaves, (size_t)put.leaf_bytes);

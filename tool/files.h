@@ -6,8 +6,8 @@
 #include <stddef.h>
 #include <stdint.h>
 
-/* The bytes of a file (- is standard input), at most `most` and one more, so that a caller sees that it is too long; a zero follows them.
- * Ends where the file cannot be read. */
+/* The bytes of a file (- is standard input), at most `most` and one more, so that a caller sees that it is too long; a
+ * zero follows them. Ends where the file cannot be read. */
 uint8_t *read_file(const char *path, size_t most, size_t *length);
 int file_exists(const char *path);
 /* The path without links, so that a replacement lands where the file lies; the same path where there is no file. */

@@ -19,9 +19,9 @@ void run_paint_window(const arguments *a) {
     /* every record of the map, and for each block, of which there are no more than pixels, one record of its own where
      * it lies in a leaf and two closing ones; then the two that close the group */
     widen_log(log, log->used + HLQ_MOST_RECORDS(list->m) + 3 * pixels + 2);
-    hlq_edited edited = hlq_paint_window(list->m, list->s, LIST_OF(list), list->n, summary, places, log->keys, log->room,
-                                         log->values, log->room, log->used, log->in_force, w.top, w.left, w.height,
-                                         w.width, class);
+    hlq_edited edited = hlq_paint_window(list->m, list->s, LIST_OF(list), list->n, summary, places, log->keys,
+                                         log->room, log->values, log->room, log->used, log->in_force, w.top, w.left,
+                                         w.height, w.width, class);
     free(summary);
     finish_edit(&s, a, edited);
     give_back_classes(&classes);

@@ -4,7 +4,8 @@ _prowcurl() {
     local program=${COMP_WORDS[0]}
     COMPREPLY=()
     if [ "$COMP_CWORD" -eq 1 ] || { [ "$COMP_CWORD" -eq 2 ] && [ "$command" = help ]; }; then
-        mapfile -t COMPREPLY < <(compgen -W "$("$program" help 2>/dev/null | sed -n 's/^  \([a-z-]*\) .*/\1/p')" -- "$word")
+        mapfile -t COMPREPLY < <(compgen -W "$("$program" help 2>/dev/null |
+            sed -n 's/^  \([a-z-]*\) .*/\1/p')" -- "$word")
         return
     fi
     if [[ $word == --* ]]; then

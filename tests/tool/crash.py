@@ -62,9 +62,17 @@ def at_every_point(tool, folder, words):
     return point - 1
 
 
+def has_window_paints(tool):
+    return int(tool("--version").split()[-1]) >= 13
+
+
 def test_points(tool, folder):
     points = 0
     tool.write("b.pgm", pgm(patches(SIDE, 4)))
+    if has_window_paints(tool):
+        words = ["paint-window", "a.hlq", "5", "7", "20", "31", "2"]
+        points += at_every_point(tool, folder, words)
+        tool(*words)
     for words in (["paint", "a.hlq", "100000", "1"], ["paint", "a.hlq", "100000", "1"], ["undo", "a.hlq"],
                   ["paint", "a.hlq", "231000", "3"], ["undo", "a.hlq"], ["redo", "a.hlq"],
                   ["build", "b.pgm", "a.hlq", "--force", "--slots", "5"], ["paint", "a.hlq", "0", "2"],
@@ -92,8 +100,12 @@ def test_waivers(tool, folder):
     return point - 1
 
 
-def random_edit(numbers):
+def random_edit(numbers, windows):
     kind = numbers.random()
+    if windows and kind > 0.8:
+        row, column = numbers.randrange(SIDE), numbers.randrange(SIDE)
+        height, width = numbers.randrange(SIDE - row) + 1, numbers.randrange(SIDE - column) + 1
+        return ["paint-window", "a.hlq", *map(str, (row, column, height, width, numbers.randrange(5)))]
     if kind < 0.2:
         return ["undo", "a.hlq"]
     if kind < 0.35:
@@ -115,9 +127,9 @@ def killed_after(tool, words, seconds):
 def test_random_kills(tool, folder):
     numbers = random.Random(28)
     original, killed, went_through, lasts = tool.read("a.hlq"), 0, 0, 0.01
-    old = state_of(tool)
+    old, windows = state_of(tool), has_window_paints(tool)
     for _ in range(EDITS):
-        words = random_edit(numbers)
+        words = random_edit(numbers, windows)
         done = copied(tool, folder + "/done")
         before = time.monotonic()
         refusal = subprocess.run(done.program + words, cwd=done.folder, env=done.env, capture_output=True).returncode

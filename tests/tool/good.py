@@ -10,7 +10,8 @@ from support import CLASSES, Tool, must, patches, pgm, pixels_of, work_folder
 
 SIDE = 16
 ROWS = patches(SIDE, 3)
-CLASS_FILE = 'class,name,colour\r\n0,field,#dfe8c8\r\n1,"ballast, old",#bdb5a8\r\n2,track,\r\n3,"a ""drain""",#6fa8dc\r\n4,scrub,#4f8a3c\r\n'
+CLASS_FILE = ('class,name,colour\r\n0,field,#dfe8c8\r\n1,"ballast, old",#bdb5a8\r\n2,track,\r\n'
+              '3,"a ""drain""",#6fa8dc\r\n4,scrub,#4f8a3c\r\n')
 WINDOWS = [(0, 0, 16, 16), (3, 2, 5, 7), (-4, -1, 6, 3), (12, 9, 40, 4294967295), (15, 15, 1, 1)]
 
 
@@ -264,7 +265,8 @@ def test_exchange(tool):
     tool("build", "new.pgm", "new.hlq", "--slots", CLASSES)
     tool.write("table.csv", "old,new,class\n" + "".join(f"{f},{f},0\n" for f in range(CLASSES)) + "3,4,2\n")
     tool("change", "a.hlq", "new.hlq", "table.csv", "c.hlq", "--else", 1)
-    wanted = [[0 if a == b else 2 if (a, b) == (3, 4) else 1 for a, b in zip(*rows)] for rows in zip(ROWS, patches(SIDE, 8))]
+    pairs = [list(zip(*rows)) for rows in zip(ROWS, patches(SIDE, 8))]
+    wanted = [[0 if a == b else 2 if (a, b) == (3, 4) else 1 for a, b in row] for row in pairs]
     must(pixels_of(tool("raster", "c.hlq", "-", text=False)) == wanted, "the map of changes")
     tool("change", "a.hlq", "new.hlq", "table.csv", "c.hlq", status=65, says="pair 0, 1 is missing")
 
