@@ -2,7 +2,7 @@
 # the Rattle kit, Debian's packages and git; what else they need they install. CC, CFLAGS and LDFLAGS are heeded, by
 # `make install` PREFIX and DESTDIR too.
 
-.PHONY: lib run test bench shared install kit clean
+.PHONY: lib tool line run test bench shared install install-tool kit clean
 
 # The interface's number is the shared library's version.
 interface := $(shell sed -n 's/^.define HLQ_INTERFACE //p' include/prowcurl.h)
@@ -15,7 +15,17 @@ lib:
 	@cp include/prowcurl.h target/include/
 	@echo "target/staticlib/libprowcurl.a, target/include/prowcurl.h"
 
-# The listing program on Map A, and the example: a day with a survey.
+# The command-line tool, target/tool/prowcurl: docs/TOOL.md.
+tool: lib
+	@tools/build-tool target/tool/prowcurl
+	@echo "target/tool/prowcurl"
+
+# The tool on the sample line: its map, findings, areas and picture, in target/line.
+line: tool
+	@tools/need python3 python3
+	@tools/show-line target/tool/prowcurl target/line
+
+# The listing program on Map A, the example: a day with a survey, and the tool on the sample line.
 run: kit
 	@echo "== the library is proved first, crate by crate; then it is compiled"
 	@$(MAKE) --no-print-directory lib
@@ -25,6 +35,7 @@ run: kit
 	@echo "== the example: a survey, its rules and waivers"
 	@tools/compile-c target/c/example_survey examples/survey.c
 	@tools/run-c target/c/example_survey <examples/survey.txt
+	@$(MAKE) --no-print-directory --old-file=lib line
 
 # The layout, the proofs (rt ci), the must-fail edits, the programs and the C tests. The last line is the gate's own.
 test: kit
@@ -39,10 +50,10 @@ bench: lib
 shared: lib
 	@tools/link-shared target/shared/$(soname)
 
-# Header, archive, shared library and a pkg-config file below PREFIX; DESTDIR stands before it where the files are only
-# gathered.
+# Header, archive, shared library and a pkg-config file below PREFIX, and the tool with its manual page and completion;
+# DESTDIR stands before it where the files are only gathered.
 PREFIX ?= /usr/local
-install: shared
+install: shared install-tool
 	install -d $(DESTDIR)$(PREFIX)/include $(DESTDIR)$(PREFIX)/lib/pkgconfig
 	install -m 644 include/prowcurl.h $(DESTDIR)$(PREFIX)/include/
 	install -m 644 target/staticlib/libprowcurl.a $(DESTDIR)$(PREFIX)/lib/
@@ -50,6 +61,13 @@ install: shared
 	ln -sf $(soname) $(DESTDIR)$(PREFIX)/lib/libprowcurl.so
 	sed -e 's|@PREFIX@|$(PREFIX)|' -e 's|@INTERFACE@|$(interface)|' prowcurl.pc.in \
 	    >$(DESTDIR)$(PREFIX)/lib/pkgconfig/prowcurl.pc
+
+install-tool: tool
+	install -d $(DESTDIR)$(PREFIX)/bin $(DESTDIR)$(PREFIX)/share/man/man1 \
+	    $(DESTDIR)$(PREFIX)/share/bash-completion/completions
+	install -m 755 target/tool/prowcurl $(DESTDIR)$(PREFIX)/bin/
+	install -m 644 tool/prowcurl.1 $(DESTDIR)$(PREFIX)/share/man/man1/
+	install -m 644 tool/prowcurl.bash $(DESTDIR)$(PREFIX)/share/bash-completion/completions/prowcurl
 
 # Says when another kit is found than the one that these proofs were made with, and goes on.
 kit:
