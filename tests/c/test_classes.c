@@ -80,6 +80,30 @@ static void edits(void) {
     must(e.refusal == 0 && e.n == 1 && e.in_force == used && bits[0] == LAST_SLOT, "and put back after all");
 }
 
+/* The two columns as windows: the second makes one leaf of the sheet, and both are taken back. */
+static void window_edits(void) {
+    fresh();
+    hlq_edited e = hlq_paint_window(M, S, keys, ROOM, bits, ROOM, N, summary, PLACES, log_keys, LOG, log_values, LOG, 0,
+                                    0, 0, 0, 2, 1, LAST);
+    must(e.refusal == 0 && e.n == N && e.used == 8 && bits[1] == LAST_SLOT && bits[4] == FIRST_SLOT,
+         "a column painted with class 31");
+    e = hlq_paint_window(M, S, keys, ROOM, bits, ROOM, e.n, summary, PLACES, log_keys, LOG, log_values, LOG, e.used,
+                         e.in_force, 0, 1, 2, 1, LAST);
+    must(e.refusal == 0 && e.n == 1 && e.used == 16 && bits[0] == LAST_SLOT && summary[3 * S + LAST] == 1,
+         "and the other one");
+    must(log_values[0] == FIRST_SLOT && log_values[3] == LAST_SLOT && log_values[5] == LAST, "the log has both slots");
+    for (int i = 0; i < 2; i++)
+        e = hlq_take_back(M, S, keys, ROOM, bits, ROOM, e.n, summary, PLACES, log_keys, LOG, log_values, LOG, e.used,
+                          e.in_force);
+    must(e.refusal == 0 && e.n == N && e.in_force == 0 && memcmp(bits, list_bits, sizeof list_bits) == 0,
+         "both columns taken back");
+    e = hlq_redo(M, S, keys, ROOM, bits, ROOM, N, summary, PLACES, log_keys, LOG, log_values, LOG, e.used, e.in_force);
+    must(e.refusal == 0 && e.n == N && e.in_force == 8 && bits[1] == LAST_SLOT, "a column put back after all");
+    e = hlq_paint_window(M, S, keys, ROOM, bits, ROOM, e.n, summary, PLACES, log_keys, LOG, log_values, LOG, e.used,
+                         e.in_force, 0, 0, 2, 1, HLQ_GROUP_MARK);
+    must(e.refusal == HLQ_FEATURE, "the mark is no class");
+}
+
 static void findings(void) {
     static const hlq_rule rules[2] = { { 1, 0, 0, 2, 2, FIRST }, { 7, 0, 0, 2, 2, LAST } };
     static const uint32_t offices[HLQ_TABLE_PLACES] = { 0 }, ids[HLQ_TABLE_PLACES] = { 7 };
@@ -181,6 +205,7 @@ static void random_classes(uint32_t m) {
 int main(void) {
     reads();
     edits();
+    window_edits();
     findings();
     files();
     other_shapes();
