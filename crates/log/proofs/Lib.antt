@@ -6,6 +6,7 @@ pub mod Mark
 pub mod Walk
 pub mod Group
 pub mod StepPlaces
+pub mod GroupEntries
 pub mod Sound
 pub mod First
 pub mod Parts
