@@ -5,4 +5,6 @@ pub mod logging;
 pub mod paint;
 pub mod recount;
 pub mod redo;
+pub mod redo_group;
 pub mod take_back;
+pub mod take_back_group;
