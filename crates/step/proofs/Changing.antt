@@ -8,7 +8,7 @@ use native.Mathlib.Omega.{arith}
 use lib.ListN.{length, getD, take, drop, replicate, length-map, take-append-drop}
 use lib.Seq.{sets, length-sets, drop-at, drop-cons, length-take-le}
 use Rattle.slices.proofs.Sets.{sets-parts}
-use Rattle.keys.specs.Key.{childKey, validKey}
+use Rattle.keys.specs.Key.{childKey, validKey, heightOf}
 use Rattle.keys.proofs.Cases.{decide, split}
 use Rattle.keys.proofs.Powers.{five-le}
 use Rattle.keys.proofs.Under.{Block, here, nw, ne, sw, se, under-trans}
@@ -29,6 +29,7 @@ use Rattle.step.specs.Change.{Changeable, Changed, zeroed}
 use Rattle.step.proofs.Pruned.{pruned-one, pruned-merged, pruned-node, renewed-one, renewed-node, grown-pruned}
 use Rattle.step.proofs.Squeezed.{renewed-length, squeezed-list, pruned-before}
 use Rattle.step.proofs.Assembled.{renewed-keys, replaced-longer, replaced-shorter}
+use Rattle.step.proofs.Spaced.{pruned-spaced, spaced-at}
 use Rattle.step.proofs.Early.{early, grown-ascends}
 
 -- every record's key is a block's
@@ -188,12 +189,23 @@ module _ (t : Step) {m : ℕ} {keys bits : List ℕ} {n : ℕ} (deep : m ≤ 10)
             let g : getD l i (recordOf 0 0) .key ≡ getD keys₂ i 0 = ap (λ x. x .key) (at i h) in
             rw (f, g) at a
 
+        left-spaced : (i j : ℕ) → i < j → j < left → oneSlot (getD bits₂ i 0) ≡ true → getD keys₂ i 0 + 5 ^ heightOf m (getD keys₂ i 0) ≤ getD keys₂ j 0
+        left-spaced i j u h one =
+            let l : List Record = recordsOf keys₂ bits₂ left in
+            let a : getD l i (recordOf 0 0) .key ≡ getD keys₂ i 0 = ap (λ x. x .key) (at i (omega arith)) in
+            let b : getD l i (recordOf 0 0) .value ≡ getD bits₂ i 0 = ap (λ x. x .value) (at i (omega arith)) in
+            let z : getD l j (recordOf 0 0) .key ≡ getD keys₂ j 0 = ap (λ x. x .key) (at j h) in
+            let s = spaced-at m 0 (0 + 5 ^ m) l i j (rw left-is (pruned-spaced p (stepOver t p) m 0 0 0 here)) u (rw many h) (ap oneSlot b ∙ one) in
+            let f = ap (λ x. 5 ^ heightOf m x) a in
+            omega arith
+
         pub grow-asked : GrowAsked t m left after keys₂ bits₂
         grow-asked = record {
           deep = deep;
           first-keys = inside .0;
           first-bits = inside .1;
           valid = left-valid;
+          spaced = left-spaced;
           ends = after-is ∙ sym (ap length grown-is);
           early = left-early;
           in-keys = omega (arith, fits);

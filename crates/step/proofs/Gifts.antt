@@ -28,7 +28,7 @@ use Rattle.log.specs.declared.entry.Entry.{Entry}
 use Rattle.build.specs.BuildBlocks.{Tallied}
 use Rattle.step.specs.Step.{Step, over, plain}
 use Rattle.step.specs.Deed.{Settled}
-use Rattle.step.specs.Runs.{Gift, touched, given, giftsStep, oneOrNone, settledBy}
+use Rattle.step.specs.Runs.{Gift, touched, given, giftsStep, oneOrNone, settledBy, metBy}
 use Rattle.step.proofs.LeafTally.{untouched, covered}
 
 pub touched-cons : (m : ℕ) (g : Gift) (gs : List Gift) (a b : ℕ) → touched m (g ∷ gs) a b ≡ inBlock m (g .key) a b || touched m gs a b
@@ -156,7 +156,7 @@ module _ (m : ℕ) (gift : Entry → Gift) (same-key : (e : Entry) → gift e .k
           )) s
 
     pub entries-settle : (es : List Entry) → AllTell k r c κ es → Settled (giftsStep m (map gift es)) own k r c (settledBy m own κ bits es)
-    unfolding settledBy
+    unfolding settledBy touched given metBy
     entries-settle [] all = none-settles
     entries-settle (e ∷ es) all =
         decide (inInterval m (e .key) κ)

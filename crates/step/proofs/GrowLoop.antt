@@ -152,10 +152,10 @@ module _ (t : Step) (m n : ℕ) (ks₀ bs₀ : List ℕ) where
 
 -- the loop as the code has it
 module _ {t : Step} {m n end : ℕ} {ks₀ bs₀ ks bs : List ℕ} {read write : ℕ} (a : GrowAsked t m n end ks₀ bs₀) (s : Growing t m n ks₀ bs₀ ks bs read write) (more : 0 < read) where
-  same-key : getD ks (read - 1) 0 ≡ getD ks₀ (read - 1) 0
+  pub same-key : getD ks (read - 1) 0 ≡ getD ks₀ (read - 1) 0
   same-key = sym (getD-take read ks (read - 1) 0 (omega arith)) ∙ ap (λ l. getD l (read - 1) 0) (s .front-keys) ∙ getD-take read ks₀ (read - 1) 0 (omega arith)
 
-  same-bits : getD bs (read - 1) 0 ≡ getD bs₀ (read - 1) 0
+  pub same-bits : getD bs (read - 1) 0 ≡ getD bs₀ (read - 1) 0
   same-bits = sym (getD-take read bs (read - 1) 0 (omega arith)) ∙ ap (λ l. getD l (read - 1) 0) (s .front-bits) ∙ getD-take read bs₀ (read - 1) 0 (omega arith)
 
   same-own : recordOf (getD ks (read - 1) 0) (getD bs (read - 1) 0) ≡ own ks₀ bs₀ (read - 1)

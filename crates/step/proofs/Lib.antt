@@ -4,6 +4,7 @@ pub mod Squeezed
 pub mod SqueezeLoop
 pub mod GrowLoop
 pub mod WriteRecord
+pub mod Spaced
 pub mod Early
 pub mod QuarterSums
 pub mod Narrowed
@@ -12,6 +13,16 @@ pub mod RenewSteps
 pub mod TallySteps
 pub mod LeafTally
 pub mod Gifts
+pub mod Chains
+pub mod Turned
+pub mod Lookups
+pub mod EntryTurns
+pub mod ByEntries
+pub mod ShortRuns
+pub mod DeedCases
+pub mod GrowLeft
+pub mod PutBack
+pub mod LastEntries
 pub mod ByWindow
 pub mod SpreadSteps
 pub mod LeafWritten

@@ -1,4 +1,4 @@
--- What a step does to the pixels, as the code is told it, and what the code answers about a block. Rests on Step.
+-- What a step does to the pixels, as the code is told it, and what the code answers about a block. Rests on Step and Runs.
 use Prim.Native.Nat.{ℕ, _+_, _^_, _≤_, _<_}
 use mathlib.Core.Path.{_≡_}
 use mathlib.Core.Bool.{true}
@@ -11,7 +11,10 @@ use Rattle.definitions.specs.declared.Window.{Window}
 use Rattle.list.specs.Check.{oneSlot}
 use Rattle.build.specs.BuildBlocks.{Tallied}
 use Rattle.step.specs.Step.{Step, over, plain}
+use Rattle.step.specs.Runs.{EntriesIn, backStep, againStep}
+use Rattle.step.specs.declared.run.Run.{Run}
 use Rattle.step.specs.declared.deed.Deed.{Deed}
+use Rattle.step.specs.declared.deed.Deed.the-variants.{Fill, Back, Again}
 
 -- every pixel of a window gets a feature
 abbrev pub windowStep : Window → ℕ → Step
@@ -25,11 +28,15 @@ pub record Painting (w : Window) (feature : ℕ) : Type 0 where
 
 -- the step that a deed stands for
 abbrev pub stepOf : (m : ℕ) (deed : Deed) (logKeys logValues : List ℕ) → Step
-stepOf m deed ks vs = windowStep (deed .window) (deed .feature)
+stepOf m (Fill window feature) ks vs = windowStep window feature
+stepOf m (Back run) ks vs = backStep m run ks vs
+stepOf m (Again run) ks vs = againStep m run ks vs
 
 -- what is known of a deed before anything is changed
 abbrev pub Doable : (m : ℕ) (deed : Deed) (logKeys logValues : List ℕ) → Type 0
-Doable m deed ks vs = Painting (deed .window) (deed .feature)
+Doable m (Fill window feature) ks vs = Painting window feature
+Doable m (Back run) ks vs = EntriesIn m run ks vs
+Doable m (Again run) ks vs = EntriesIn m run ks vs
 
 -- a leaf's block of the map
 pub record LeafAsked (m own height row column key : ℕ) : Type 0 where
@@ -51,3 +58,9 @@ pub record SameBefore (m past : ℕ) (t t′ : Step) : Type 0 where
 pub record Narrowed (m past : ℕ) (deed deed′ : Deed) (logKeys logValues : List ℕ) : Type 0 where
   pub doable : Doable m deed′ logKeys logValues
   pub same : SameBefore m past (stepOf m deed logKeys logValues) (stepOf m deed′ logKeys logValues)
+
+-- the entries of a run that a key does not rule out: as a deed of either kind it is narrowed to what lies before that key
+pub record ShortRun (m past : ℕ) (run run′ : Run) (logKeys logValues : List ℕ) : Type 0 where
+  pub entries : EntriesIn m run′ logKeys logValues
+  pub same-back : SameBefore m past (backStep m run logKeys logValues) (backStep m run′ logKeys logValues)
+  pub same-again : SameBefore m past (againStep m run logKeys logValues) (againStep m run′ logKeys logValues)

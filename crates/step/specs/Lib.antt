@@ -1,6 +1,6 @@
 pub mod Quarters
 pub mod Step
-pub mod Deed
 pub mod Runs
+pub mod Deed
 pub mod Passes
 pub mod Change

@@ -5,7 +5,7 @@ use mathlib.Core.Path.{_≡_}
 use mathlib.Core.List.{List, _++_}
 use lib.ListN.{length, getD, drop}
 use lib.Seq.{sets}
-use Rattle.keys.specs.Key.{validKey}
+use Rattle.keys.specs.Key.{validKey, heightOf}
 use Rattle.keys.proofs.Under.{Block}
 use Rattle.list.specs.Check.{oneSlot}
 use Rattle.build.specs.BuildBlocks.{Tallied}
@@ -78,6 +78,7 @@ pub record GrowAsked (t : Step) (m n end : ℕ) (keys bits : List ℕ) : Type 0 
   pub first-keys : n ≤ length keys
   pub first-bits : n ≤ length bits
   pub valid : (i : ℕ) → i < n → oneSlot (getD bits i 0) ≡ true → validKey m (getD keys i 0) ≡ true
+  pub spaced : (i j : ℕ) → i < j → j < n → oneSlot (getD bits i 0) ≡ true → getD keys i 0 + 5 ^ heightOf m (getD keys i 0) ≤ getD keys j 0
   pub ends : end ≡ length (grown t m (recordsOf keys bits n))
   pub early : (i : ℕ) → i < n → length (grown t m (recordsOf keys bits i)) ≤ getD keys i 0
   pub in-keys : end ≤ length keys

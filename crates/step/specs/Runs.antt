@@ -2,19 +2,24 @@
 -- decide is read from the log's end. Rests on Step and on the entries of the log.
 use Prim.Native.Nat.{ℕ, zero, suc, _+_, _^_, _≤_, _<_}
 use mathlib.Core.Path.{_≡_}
-use mathlib.Core.Bool.{Bool, true, false, cond, _||_}
+use mathlib.Core.Bool.{Bool, true, false, cond, _||_, _&&_}
 use mathlib.Core.List.{List, [], _∷_, map}
-use lib.ListN.{length}
+use lib.ListN.{length, getD}
 use lib.Dec.{leb}
-use Rattle.keys.specs.Key.{heightOf}
+use Rattle.keys.specs.Key.{heightOf, slotLimit}
 use Rattle.keys.specs.Block.{inBlock, inInterval}
 use Rattle.definitions.specs.Picture.{Picture}
-use Rattle.definitions.specs.List.{Record}
-use Rattle.definitions.specs.Read.{recordsOf, valueAt, pictureOf}
+use Rattle.definitions.specs.List.{Record, valuesOf}
+use Rattle.definitions.specs.Read.{recordsOf, pictureOf}
+use Rattle.definitions.specs.Standing.{placeOf}
+use Rattle.definitions.specs.Edit.{put, paintIn}
+use Rattle.definitions.specs.Log.{lastKey, lastFeature, beforeLast, lastContent}
 use Rattle.definitions.proofs.SoundLog.{EndsInEntry}
 use Rattle.list.specs.Check.{oneSlot}
+use Rattle.list.specs.Sorted.{Sorted}
 use Rattle.log.specs.declared.entry.Entry.{Entry}
-use Rattle.log.specs.Entries.{lastEntry, run}
+use Rattle.log.specs.Entries.{lastEntry, run, contentPart}
+use Rattle.step.specs.declared.run.Run.{Run}
 use Rattle.step.specs.Step.{Step, plain}
 
 -- a block, and what its pixels get
@@ -66,25 +71,84 @@ pub data Chain (m s : ℕ) (logKeys logValues : List ℕ) (start : ℕ) : ℕ �
       → Chain m s logKeys logValues start (lastEntry (recordsOf logKeys logValues end) .start)
       → Chain m s logKeys logValues start end
 
--- entries, the last first, of which each ends at or before the key of the one in front of it
-abbrev pub Descending : (m : ℕ) → List Entry → Type 0
-Descending m [] = Unit {0}
-Descending m (e ∷ []) = Unit {0}
-Descending m (e ∷ f ∷ es) = (f .key + 5 ^ heightOf m (f .key) ≤ e .key) × Descending m (f ∷ es)
+-- entries, the last first, of which the first ends at or before a limit and each other at or before the key of the one in front of it
+unfoldable pub descends : (m limit : ℕ) → List Entry → Bool
+descends m limit [] = true
+descends m limit (e ∷ es) = leb (e .key + 5 ^ heightOf m (e .key)) limit && descends m (e .key) es
+
+-- between two places of a log there are entries, at some s
+pub record Between (m start end : ℕ) (logKeys logValues : List ℕ) : Type 0 where
+  pub s : ℕ
+  pub few : s ≤ slotLimit
+  pub chain : Chain m s logKeys logValues start end
+
+-- so between those of a run; whether they descend is told for speed alone
+pub record EntriesIn (m : ℕ) (run : Run) (logKeys logValues : List ℕ) : Type 0 where
+  pub between : Between m (run .start) (run .end) logKeys logValues
+  pub told : run .ordered ≡ true → descends m (5 ^ m) (lastFirst (run .end) logKeys logValues (run .start) (run .end)) ≡ true
+
+-- the entries of a run, the last first and the first first
+abbrev pub lastOfRun : Run → (logKeys logValues : List ℕ) → List Entry
+lastOfRun run ks vs = lastFirst (run .end) ks vs (run .start) (run .end)
+
+abbrev pub firstOfRun : Run → (logKeys logValues : List ℕ) → List Entry
+firstOfRun run ks vs = firstFirst (run .end) ks vs (run .start) (run .end) []
+
+-- the entries are taken back last to first, so of those that have a pixel the first decides
+abbrev pub backStep : (m : ℕ) → Run → (logKeys logValues : List ℕ) → Step
+backStep m run ks vs = giftsStep m (map (backGift m ks vs) (firstOfRun run ks vs))
+
+-- they are painted again first to last, so the last decides
+abbrev pub againStep : (m : ℕ) → Run → (logKeys logValues : List ℕ) → Step
+againStep m run ks vs = giftsStep m (map againGift (lastOfRun run ks vs))
 
 -- what a list of entries makes of a leaf with the key κ: its own bits where all are apart from it, the bits of one feature, or 0 where the quadrants
 -- have to be asked
 abbrev pub oneOrNone : ℕ → ℕ
 oneOrNone bits = cond (oneSlot bits) bits 0
 
+-- what one entry makes of it, where the entries that it decides before make something of it
+unfoldable pub metBy : (m κ : ℕ) → (Entry → ℕ) → Entry → (others : ℕ) → ℕ
+metBy m κ bits e others = cond (inInterval m (e .key) κ) (oneOrNone (bits e)) (cond (inInterval m κ (e .key)) 0 others)
+
 unfoldable pub settledBy : (m own κ : ℕ) → (Entry → ℕ) → List Entry → ℕ
 settledBy m own κ bits [] = own
-settledBy m own κ bits (e ∷ es) =
-    cond (inInterval m (e .key) κ) (oneOrNone (bits e)) (cond (inInterval m κ (e .key)) 0 (settledBy m own κ bits es))
+settledBy m own κ bits (e ∷ es) = metBy m κ bits e (settledBy m own κ bits es)
 
--- the bits of a block in an entry's content, and in a feature
+-- the bits of the block with the key κ in an entry's content: of the last record at or before it
 abbrev pub backBits : (logKeys logValues : List ℕ) (κ : ℕ) → Entry → ℕ
-backBits ks vs κ e = valueAt κ 0 (contentIn ks vs e)
+backBits ks vs κ e = getD (valuesOf (contentIn ks vs e)) (placeOf κ (contentIn ks vs e)) 0
 
+-- those of a feature
 abbrev pub againBits : Entry → ℕ
 againBits e = 2 ^ (e .feature)
+
+-- either, as the code is told
+abbrev pub bitsBy : (back : Bool) (logKeys logValues : List ℕ) (κ : ℕ) → Entry → ℕ
+bitsBy back ks vs κ e = cond back (backBits ks vs κ e) (againBits e)
+
+-- an entry's content lies in the log, and its keys ascend from one at or before κ on
+pub record Held (e : Entry) (logKeys logValues : List ℕ) (κ : ℕ) : Type 0 where
+  pub in-keys : e .start + e .count ≤ length logKeys
+  pub in-values : e .start + e .count ≤ length logValues
+  pub sorted : Sorted (contentPart e logKeys) (e .count) κ
+
+-- what an entry can be asked of a block with the key κ: its feature is a slot's, and where its block holds the other, its content is there
+pub record Asking (m : ℕ) (e : Entry) (logKeys logValues : List ℕ) (κ : ℕ) : Type 0 where
+  pub slot : e .feature ≤ 31
+  pub held : inInterval m (e .key) κ ≡ true → Held e logKeys logValues κ
+
+-- the last count entries of a log put back, the last first
+unfoldable pub putBack : (count m : ℕ) (log : List Record) (p : Picture) → Picture
+putBack zero m log p = p
+putBack (suc count) m log p = putBack count m (beforeLast log) (put m (lastKey log) (pictureOf m (lastContent log)) p)
+
+-- their blocks painted again, the first first
+unfoldable pub paintAgain : (count m : ℕ) (log : List Record) (p : Picture) → Picture
+paintAgain zero m log p = p
+paintAgain (suc count) m log p = paintIn m (lastKey log) (lastFeature log) (paintAgain count m (beforeLast log) p)
+
+-- the place where the last count entries before a place start
+unfoldable pub startBack : (count : ℕ) (logKeys logValues : List ℕ) (end : ℕ) → ℕ
+startBack zero ks vs end = end
+startBack (suc count) ks vs end = startBack count ks vs (lastEntry (recordsOf ks vs end) .start)

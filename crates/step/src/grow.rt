@@ -177,6 +177,8 @@ fn write_record(
     place
 }
 
+// The records one after the other, the last first. A leaf before a record ends at or before the record's key, so that what the step does from there on
+// need not be asked any more.
 pub fn grow(
     deed: Deed,
     log_keys: &[u32],
@@ -194,10 +196,12 @@ pub fn grow(
 {
     let mut read = n;
     let mut write = end;
+    let mut left = deed;
     while 0 < read {
         read -= 1;
         let key = keys[read];
         let b = bits[read];
-        write = write_record(deed, log_keys, log_values, m, key, b, write, keys, bits);
+        write = write_record(left, log_keys, log_values, m, key, b, write, keys, bits);
+        left = deed::narrow_to(left, log_keys, log_values, m, key);
     }
 }

@@ -3,8 +3,11 @@
 // the list after.
 pub mod change;
 pub mod deed;
+mod entries;
+mod fill;
 pub mod grow;
 mod quarters;
 pub mod renew;
+pub mod run;
 pub mod squeeze;
 pub mod tally;

@@ -1,48 +1,47 @@
--- `settled` meets its contract.
-use mathlib.Core.Path.{sym, _∙_}
-use native.Mathlib.Omega.{arith}
+-- `deed::settled` meets its contract, kind by kind.
 use borrow.Author.Needs.{needs}
-use Rattle.keys.proofs.Interval.{within}
-use Rattle.step.proofs.ByWindow.{small, out, in-all, in-part}
+use Rattle.step.proofs.DeedCases.{fill-known, back-known, again-known, fill-settled, back-settled, again-settled}
+use borrow.Author.Needs.{needs}
 use Rattle.step.proofs.deed.settled.Statement.{statement}
 use Rattle.step.proofs.deed.settled.Tie as tie
 
-power-of-two-requires : tie.Need-power-of-two-requires
-power-of-two-requires c κs = let a = c .before .before .before .pre .1 in let w = within (a .block) in omega (arith, w .height, a .deep)
+enum-known-deed : tie.Need-enum-known-deed
+enum-known-deed c = search needs
 
-apart-requires : tie.Need-apart-requires
-apart-requires c κs = let s = c .before .before .before .before in small (s .pre .0) (s .pre .1) (c .power-of-two .ensures)
+settled-requires : tie.Need-settled-requires
+settled-requires c κs = let s = c .before .before .before .before .before in (fill-known (s .args .m) (s .args .log-keys .now) (s .args .log-values .now) (c .before .deed .given .1) (s .pre .0), s .pre .1)
+
+enum-known-deed-2 : tie.Need-enum-known-deed-2
+enum-known-deed-2 c = search needs
+
+settled-back-requires : tie.Need-settled-back-requires
+settled-back-requires c κs = let s = c .before .before .before .before .before in (back-known (s .args .m) (s .args .log-keys .now) (s .args .log-values .now) (c .before .deed2 .given .1) (s .pre .0), s .pre .1)
+
+enum-known-deed-3 : tie.Need-enum-known-deed-3
+enum-known-deed-3 c = search needs
+
+settled-again-requires : tie.Need-settled-again-requires
+settled-again-requires c κs = let s = c .before .before .before .before .before in (again-known (s .args .m) (s .args .log-keys .now) (s .args .log-values .now) (c .before .deed3 .given .1) (s .pre .0), s .pre .1)
 
 returns : tie.Need-returns
-returns c =
-    let s = c .before .before .before .before .before .before in
-    out (s .pre .0) (s .pre .1) (c .before .before .power-of-two .ensures) (sym (c .before .apart .ensures) ∙ c .if1 .taken)
-
-within-requires : tie.Need-within-requires
-within-requires c κs = let s = c .before .before .before .before .before .before in small (s .pre .0) (s .pre .1) (c .before .before .power-of-two .ensures)
-
-power-of-two-requires-2 : tie.Need-power-of-two-requires-2
-power-of-two-requires-2 c κs = search needs
+returns c = let a = c .before .before .before .before .before .before .args in fill-settled (a .m) (a .log-keys .now) (a .log-values .now) (c .before .before .deed .given .1) (c .settled .ensures)
 
 returns-2 : tie.Need-returns-2
-returns-2 c =
-    let s = c .before .before .before .before .before .before .before .before .before in
-    in-all (s .pre .0) (s .pre .1) (c .before .before .before .before .before .power-of-two .ensures) (sym (c .before .before .within .ensures) ∙ c .before .if2 .taken) (c .power-of-two2 .ensures)
+returns-2 c = let a = c .before .before .before .before .before .before .args in back-settled (a .m) (a .log-keys .now) (a .log-values .now) (c .before .before .deed2 .given .1) (c .settled-back .ensures)
 
 returns-3 : tie.Need-returns-3
-returns-3 c =
-    let s = c .before .before .before .before .before .before .before .before in
-    in-part (s .pre .0) (s .pre .1) (c .before .before .before .before .power-of-two .ensures) (sym (c .before .before .before .apart .ensures) ∙ c .before .before .if1 .left)
-    (sym (c .before .within .ensures) ∙ c .if2 .left)
+returns-3 c = let a = c .before .before .before .before .before .before .args in again-settled (a .m) (a .log-keys .now) (a .log-values .now) (c .before .before .deed3 .given .1) (c .settled-again .ensures)
 
 pub settled-spec : {M : Type 1} → statement M
 settled-spec =
     tie.close
     (tie.spec
-    power-of-two-requires
-    apart-requires
+    enum-known-deed
+    settled-requires
+    enum-known-deed-2
+    settled-back-requires
+    enum-known-deed-3
+    settled-again-requires
     returns
-    within-requires
-    power-of-two-requires-2
     returns-2
     returns-3)

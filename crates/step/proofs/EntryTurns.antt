@@ -1,0 +1,186 @@
+-- One entry of a run after the other, from the last: what it makes of a leaf, and when those before it need not be asked. Rests on Chains and Turned.
+use Prim.Native.Nat.{ℕ, _+_, _-_, _^_, _≤_, _<_}
+use mathlib.Core.Path.{_≡_, refl, sym, _∙_, ap, ap₂, subst}
+use mathlib.Core.Bool.{Bool, true, false, cond, not, _&&_, true≢false}
+use mathlib.Core.List.{List, [], _∷_}
+use native.Mathlib.Omega.{arith}
+use lib.Dec.{leb, ltb}
+use borrow.Author.Tests.{le-leb, lt-leb, lt-ltb, le-ltb, not-true, not-false}
+use Rattle.keys.specs.Key.{validKey, heightOf}
+use Rattle.keys.specs.Block.{inInterval}
+use Rattle.keys.proofs.Cases.{decide, split}
+use Rattle.keys.proofs.Powers.{five-pos}
+use Rattle.definitions.specs.Read.{recordsOf}
+use Rattle.list.specs.Check.{oneSlot}
+use Rattle.list.proofs.OneSlot.{power-slot}
+use Rattle.log.specs.declared.entry.Entry.{Entry}
+use Rattle.log.specs.Entries.{lastEntry, Ended}
+use Rattle.step.specs.Runs.{lastFirst, firstFirst, descends, Between, EntriesIn, backBits, bitsBy, oneOrNone, metBy, settledBy, Held, Asking}
+use Rattle.step.proofs.Chains.{last-none, first-onto, onto, onto-none, descends-none, descends-some, descends-first, descends-rest, last, run-ends, run-ended, run-more, run-rest, last-valid, last-slot, last-within, last-less, between-rest}
+use Rattle.step.proofs.Turned.{settled-none, settled-some, settled-turn}
+use Rattle.step.proofs.Lookups.{last-held}
+
+-- a key in an interval, by the test of the code
+pub not-from : (m outer inner : ℕ) → inner < outer → false ≡ inInterval m outer inner
+unfolding inInterval
+not-from m outer inner h = rw (lt-leb outer inner h)
+
+pub from-so : (m outer inner step height : ℕ) → outer ≤ inner → step ≡ 5 ^ height → height ≡ heightOf m outer → ltb (inner - outer) step ≡ inInterval m outer inner
+unfolding inInterval
+from-so m outer inner step height h e f =
+    let g : step ≡ 5 ^ heightOf m outer = e ∙ ap (λ x. 5 ^ x) f in
+    rw (le-leb outer inner h)
+    (split inner (outer + 5 ^ heightOf m outer)
+    (λ lt. lt-ltb (inner - outer) step (omega arith) ∙ sym (lt-ltb inner (outer + 5 ^ heightOf m outer) lt))
+    (λ ge. le-ltb (inner - outer) step (omega arith) ∙ sym (le-ltb inner (outer + 5 ^ heightOf m outer) ge)))
+
+-- a block that ends at or before a key does not hold it
+pub ends-before : (m x κ : ℕ) → x + 5 ^ heightOf m x ≤ κ → inInterval m x κ ≡ false
+unfolding inInterval
+ends-before m x κ h = rw (le-leb x κ (omega arith), le-ltb κ (x + 5 ^ heightOf m x) h)
+
+not-holding : (m x κ : ℕ) → x ≤ κ → inInterval m x κ ≡ false → x + 5 ^ heightOf m x ≤ κ
+unfolding inInterval
+not-holding m x κ h e =
+    split κ (x + 5 ^ heightOf m x)
+    (λ lt. absurd (true≢false (sym (ap₂ (λ a b. a && b) (le-leb x κ h) (lt-ltb κ (x + 5 ^ heightOf m x) lt)) ∙ e)))
+    (λ ge. ge)
+
+-- what an entry gives a block that it holds: a feature's bits are one slot, a content's may be several
+module _ (back : Bool) (ks vs : List ℕ) (κ : ℕ) (e : Entry) (bits : ℕ) where
+  pub given-again : not back ≡ true → bits ≡ 2 ^ (e .feature) → bits ≡ oneOrNone (bitsBy back ks vs κ e)
+  given-again h is =
+      is
+      ∙ sym (ap (λ x. cond x (2 ^ (e .feature)) 0) (power-slot (e .feature)))
+      ∙ ap (λ b. oneOrNone (bitsBy b ks vs κ e)) (sym (not-true back h))
+
+  pub given-one : not back ≡ false → bits ≡ backBits ks vs κ e → oneSlot bits ≡ true → bits ≡ oneOrNone (bitsBy back ks vs κ e)
+  given-one h is one =
+      is
+      ∙ sym (ap (λ x. cond x (backBits ks vs κ e) 0) (ap oneSlot (sym is) ∙ one))
+      ∙ ap (λ b. oneOrNone (bitsBy b ks vs κ e)) (sym (not-false back h))
+
+  pub given-none : not back ≡ false → bits ≡ backBits ks vs κ e → oneSlot bits ≡ false → 0 ≡ oneOrNone (bitsBy back ks vs κ e)
+  given-none h is several =
+      sym (ap (λ x. cond x (backBits ks vs κ e) 0) (ap oneSlot (sym is) ∙ several))
+      ∙ ap (λ b. oneOrNone (bitsBy b ks vs κ e)) (sym (not-false back h))
+
+-- what one entry makes of a leaf
+module _ (m κ : ℕ) (bits : Entry → ℕ) (e : Entry) (others : ℕ) where
+  pub met-holds : inInterval m (e .key) κ ≡ true → oneOrNone (bits e) ≡ metBy m κ bits e others
+  unfolding metBy
+  met-holds h = rw h
+
+  pub met-parted : inInterval m (e .key) κ ≡ false → inInterval m κ (e .key) ≡ true → 0 ≡ metBy m κ bits e others
+  unfolding metBy
+  met-parted h i = rw (h, i)
+
+  pub met-apart : inInterval m (e .key) κ ≡ false → inInterval m κ (e .key) ≡ false → others ≡ metBy m κ bits e others
+  unfolding metBy
+  met-apart h i = rw (h, i)
+
+-- entries that descend below a limit at or before a leaf's key are all apart from it
+pub none-met : (m own κ limit : ℕ) (bits : Entry → ℕ) (es : List Entry) → descends m limit es ≡ true → limit ≤ κ → settledBy m own κ bits es ≡ own
+none-met m own κ limit bits [] d h = settled-none m own κ bits
+none-met m own κ limit bits (e ∷ es) d h =
+    let f = descends-first m limit e es d in
+    let p = five-some (heightOf m (e .key)) in
+    settled-some m own κ bits e es
+    ∙ sym (met-apart m κ bits e (settledBy m own κ bits es) (ends-before m (e .key) κ (omega arith)) (sym (not-from m κ (e .key) (omega arith))))
+    ∙ none-met m own κ (e .key) bits es (descends-rest m limit e es d) (omega arith)
+  where
+    five-some : (k : ℕ) → 0 < 5 ^ k
+    five-some k = five-pos k
+
+-- the last entry of what is left, as it was read
+module _ {m start end : ℕ} {ks vs : List ℕ} (d : Between m start end ks vs) (some : start < end) (e : Entry) (found : e ≡ lastEntry (recordsOf ks vs end)) where
+  pub turn-less : e .start < end
+  turn-less = subst (λ x. x .start < end) (sym found) (last-less d some)
+
+  pub turn-rest : Between m start (e .start) ks vs
+  turn-rest = subst (λ x. Between m start (x .start) ks vs) (sym found) (between-rest d some)
+
+  pub turn-more : lastFirst end ks vs start end ≡ e ∷ lastFirst (e .start) ks vs start (e .start)
+  turn-more = subst (λ x. lastFirst end ks vs start end ≡ x ∷ lastFirst (x .start) ks vs start (x .start)) (sym found) (run-more d some)
+
+  pub turn-valid : validKey m (e .key) ≡ true
+  turn-valid = subst (λ x. validKey m (x .key) ≡ true) (sym found) (last-valid d some)
+
+  pub turn-within : e .key + 5 ^ heightOf m (e .key) ≤ 5 ^ m
+  turn-within = subst (λ x. x .key + 5 ^ heightOf m (x .key) ≤ 5 ^ m) (sym found) (last-within d some)
+
+  pub turn-slot : e .feature ≤ 31
+  turn-slot = subst (λ x. x .feature ≤ 31) (sym found) (last-slot d some)
+
+  pub turn-held : (κ : ℕ) → inInterval m (e .key) κ ≡ true → Held e ks vs κ
+  turn-held κ = subst (λ x. inInterval m (x .key) κ ≡ true → Held x ks vs κ) (sym found) (last-held (run-ends d some))
+
+  pub turn-asking : (κ : ℕ) → Asking m e ks vs κ
+  turn-asking κ = record { slot = turn-slot; held = turn-held κ }
+
+  -- the first decides: it has met the leaf, and those before it are left
+  pub first-turns : (answer answer′ κ : ℕ) (bits : Entry → ℕ) {whole : ℕ}
+      → settledBy m answer κ bits (firstFirst end ks vs start end []) ≡ whole
+      → answer′ ≡ metBy m κ bits e answer
+      → settledBy m answer′ κ bits (firstFirst (e .start) ks vs start (e .start) []) ≡ whole
+  first-turns answer answer′ κ bits inv is =
+      ap₂ (λ a l. settledBy m a κ bits l) is (first-onto (e .start) ks vs start (e .start) [])
+      ∙ settled-turn m answer κ bits e (lastFirst (e .start) ks vs start (e .start))
+      ∙ ap (λ l. settledBy m answer κ bits (onto l [])) (sym turn-more)
+      ∙ ap (settledBy m answer κ bits) (sym (first-onto end ks vs start end []))
+      ∙ inv
+
+  -- the last decides: it holds the leaf, or lies inside it, or those before it are asked
+  module _ (own κ : ℕ) (bits : Entry → ℕ) where
+    by-turn : settledBy m own κ bits (lastFirst end ks vs start end) ≡ metBy m κ bits e (settledBy m own κ bits (lastFirst (e .start) ks vs start (e .start)))
+    by-turn = ap (settledBy m own κ bits) turn-more ∙ settled-some m own κ bits e (lastFirst (e .start) ks vs start (e .start))
+
+    pub last-holds : inInterval m (e .key) κ ≡ true → oneOrNone (bits e) ≡ settledBy m own κ bits (lastFirst end ks vs start end)
+    last-holds h = met-holds m κ bits e _ h ∙ sym by-turn
+
+    pub last-parted : inInterval m (e .key) κ ≡ false → inInterval m κ (e .key) ≡ true → 0 ≡ settledBy m own κ bits (lastFirst end ks vs start end)
+    last-parted h i = met-parted m κ bits e _ h i ∙ sym by-turn
+
+    pub last-apart : inInterval m (e .key) κ ≡ false → inInterval m κ (e .key) ≡ false
+        → settledBy m own κ bits (lastFirst (e .start) ks vs start (e .start)) ≡ settledBy m own κ bits (lastFirst end ks vs start end)
+    last-apart h i = met-apart m κ bits e _ h i ∙ sym by-turn
+
+    -- of ordered ones none before one that ends before the leaf
+    pub last-stops : descends m (5 ^ m) (lastFirst end ks vs start end) ≡ true → inInterval m (e .key) κ ≡ false → inInterval m κ (e .key) ≡ false → e .key < κ
+        → own ≡ settledBy m own κ bits (lastFirst end ks vs start end)
+    last-stops o h i less =
+        let all : descends m (5 ^ m) (e ∷ lastFirst (e .start) ks vs start (e .start)) ≡ true = sym (ap (descends m (5 ^ m)) turn-more) ∙ o in
+        sym (none-met m own κ (e .key) bits (lastFirst (e .start) ks vs start (e .start)) (descends-rest m (5 ^ m) e _ all) (omega arith)) ∙ last-apart h i
+
+  -- whether they descend, told by the last and those before it
+  module _ (limit : ℕ) where
+    descends-turn : descends m limit (lastFirst end ks vs start end)
+        ≡ (leb (e .key + 5 ^ heightOf m (e .key)) limit && descends m (e .key) (lastFirst (e .start) ks vs start (e .start)))
+    descends-turn = ap (descends m limit) turn-more ∙ descends-some m limit e _
+
+    pub descends-on : e .key + 5 ^ heightOf m (e .key) ≤ limit
+        → descends m (e .key) (lastFirst (e .start) ks vs start (e .start)) ≡ descends m limit (lastFirst end ks vs start end)
+    descends-on h = sym (descends-turn ∙ ap (λ b. b && descends m (e .key) (lastFirst (e .start) ks vs start (e .start))) (le-leb (e .key + 5 ^ heightOf m (e .key)) limit h))
+
+    pub descends-not : limit < e .key + 5 ^ heightOf m (e .key) → false ≡ descends m limit (lastFirst end ks vs start end)
+    descends-not h = sym (descends-turn ∙ ap (λ b. b && descends m (e .key) (lastFirst (e .start) ks vs start (e .start))) (lt-leb (e .key + 5 ^ heightOf m (e .key)) limit h))
+
+-- a run without its last entry, as that was read
+pub turn-entries : {m start end : ℕ} {ordered : Bool} {ks vs : List ℕ} → EntriesIn m (record { start = start; end = end; ordered = ordered }) ks vs → start < end
+    → (e : Entry) → e ≡ lastEntry (recordsOf ks vs end) → EntriesIn m (record { start = start; end = e .start; ordered = ordered }) ks vs
+turn-entries {m} {start} {end} {ordered} {ks} {vs} d some e found =
+    subst (λ x. EntriesIn m (record { start = start; end = x .start; ordered = ordered }) ks vs) (sym found) (run-rest d some)
+
+pub limit-is : (m limit : ℕ) (es : List Entry) → limit ≡ 5 ^ m → descends m limit es ≡ descends m (5 ^ m) es
+limit-is m limit es e = ap (λ x. descends m x es) e
+
+-- no entry is left
+pub last-over : (m own κ : ℕ) (bits : Entry → ℕ) (ks vs : List ℕ) (start end : ℕ) → end ≤ start → own ≡ settledBy m own κ bits (lastFirst end ks vs start end)
+last-over m own κ bits ks vs start end h = sym (ap (settledBy m own κ bits) (last-none end ks vs start end h) ∙ settled-none m own κ bits)
+
+pub first-over : (m own κ : ℕ) (bits : Entry → ℕ) (ks vs : List ℕ) (start end : ℕ) → end ≤ start → own ≡ settledBy m own κ bits (firstFirst end ks vs start end [])
+first-over m own κ bits ks vs start end h =
+    sym (ap (settledBy m own κ bits) (first-onto end ks vs start end [] ∙ ap (λ l. onto l []) (last-none end ks vs start end h) ∙ onto-none []) ∙ settled-none m own κ bits)
+
+pub descends-over : (m limit : ℕ) (ks vs : List ℕ) (start end : ℕ) → end ≤ start → true ≡ descends m limit (lastFirst end ks vs start end)
+descends-over m limit ks vs start end h = sym (ap (descends m limit) (last-none end ks vs start end h) ∙ descends-none m limit)

@@ -1,0 +1,118 @@
+-- What an entry of a run tells of a block: its content's bits, or its feature's. Rests on the lookup in a list and on Chains.
+use Prim.Native.Nat.{ℕ, _+_, _-_, _^_, _≤_, _<_}
+use mathlib.Core.Path.{_≡_, refl, sym, _∙_, ap, ap₂}
+use mathlib.Core.Bool.{Bool, true, false, cond}
+use mathlib.Core.List.{List, [], _∷_}
+use native.Mathlib.Omega.{arith}
+use lib.ListN.{length, getD, take, drop, length-take, length-drop}
+use lib.Seq.{getD-take, getD-drop, length-take-le, take-all}
+use Rattle.keys.specs.Key.{validKey, heightOf}
+use Rattle.keys.specs.Block.{rowOf, columnOf, inInterval}
+use Rattle.keys.proofs.Under.{Block, Under}
+use Rattle.keys.proofs.Valid.{valid-block}
+use Rattle.keys.proofs.Ancestor.{interval-iff}
+use Rattle.keys.proofs.InBlock.{inInterval-iff}
+use Rattle.definitions.specs.Picture.{Picture}
+use Rattle.definitions.specs.Bits.{bitsOf}
+use Rattle.definitions.specs.List.{Record, keysOf, valuesOf, listOf}
+use Rattle.definitions.specs.Read.{paired, recordsOf, pictureOf}
+use Rattle.definitions.specs.Standing.{placeOf}
+use Rattle.definitions.specs.Log.{lastContent, lastCount, beforeLast}
+use Rattle.definitions.proofs.SoundLog.{EndsInEntry}
+use Rattle.definitions.proofs.Records.{paired-length, paired-keys, paired-values}
+use Rattle.definitions.proofs.ListOf.{list-first}
+use Rattle.list.specs.Sorted.{Ascends, Sorted}
+use Rattle.list.specs.Among.{placeAmong}
+use Rattle.list.proofs.Accepted.{content-list, keys-ascend, key-from}
+use Rattle.list.proofs.Among.{place-keys, place-below}
+use Rattle.list.proofs.Lookup.{lookup-value}
+use Rattle.log.specs.declared.entry.Entry.{Entry}
+use Rattle.log.specs.Entries.{lastEntry, run, contentPart}
+use Rattle.log.proofs.Last.{content-run, content-length, entry-places}
+use Rattle.step.specs.Runs.{contentIn, backGift, againGift, backBits, againBits, Held}
+use Rattle.step.proofs.Chains.{Ends, ends-ended}
+
+-- the content as the code lends it, and as it is defined
+module _ {e : Entry} {ks vs : List ℕ} {κ : ℕ} (h : Held e ks vs κ) where
+  abbrev keys : List ℕ
+  keys = take (e .count) (drop (e .start) ks)
+
+  abbrev values : List ℕ
+  values = take (e .count) (drop (e .start) vs)
+
+  keys-many : length keys ≡ e .count
+  keys-many = let l = length-drop (e .start) ks in let a = h .in-keys in length-take-le (e .count) (drop (e .start) ks) (omega arith)
+
+  values-many : length values ≡ e .count
+  values-many = let l = length-drop (e .start) vs in let a = h .in-values in length-take-le (e .count) (drop (e .start) vs) (omega arith)
+
+  lent-keys : take (e .count) (contentPart e ks) ≡ keys
+  lent-keys =
+      let n : e .start + e .count - e .start ≡ e .count = omega arith in
+      ap (λ i. take (e .count) (take i (drop (e .start) ks))) n ∙ take-all (e .count) keys (let l = keys-many in omega arith)
+
+  pub found-inside : (place : ℕ) → place ≡ placeAmong κ (take (e .count) (contentPart e ks)) → place < e .count
+  found-inside place is = let p = place-below (h .sorted) in omega arith
+
+  -- the value at the place that was found is the content's at the key
+  pub found-bits : (place : ℕ) → place ≡ placeAmong κ (take (e .count) (contentPart e ks)) → getD vs (e .start + place) 0 ≡ backBits ks vs κ e
+  found-bits place is =
+      let p = found-inside place is in
+      let same : place ≡ placeOf κ (contentIn ks vs e)
+      = is ∙ ap (placeAmong κ) (lent-keys ∙ sym (paired-keys keys values (keys-many ∙ sym values-many))) ∙ sym (place-keys κ (contentIn ks vs e)) in
+      sym (getD-drop (e .start) vs place 0)
+      ∙ sym (getD-take (e .count) (drop (e .start) vs) place 0 p)
+      ∙ ap₂ (λ l i. getD l i 0) (sym (paired-values keys values (keys-many ∙ sym values-many))) same
+
+-- an entry at the end of the records
+module _ {m s : ℕ} {ks vs : List ℕ} {start end : ℕ} (x : Ends m s ks vs start end) where
+  abbrev last : Entry
+  last = lastEntry (recordsOf ks vs end)
+
+  abbrev content : List Record
+  content = contentIn ks vs last
+
+  content-same : lastContent (recordsOf ks vs end) ≡ content
+  content-same = content-run (ends-ended x)
+
+  shown : content ≡ listOf (pictureOf m content) (heightOf m (last .key)) (rowOf m (last .key)) (columnOf m (last .key)) (last .key)
+  shown =
+      let b = content-list m s (last .key) (lastContent (recordsOf ks vs end)) (x .ends .correct) in
+      sym content-same ∙ b .is ∙ ap (λ l. listOf (pictureOf m l) (heightOf m (last .key)) (rowOf m (last .key)) (columnOf m (last .key)) (last .key)) content-same
+
+  -- the bits that it tells of a block which its own holds
+  pub back-told : {k r c κ : ℕ} → Block m k r c κ → inInterval m (last .key) κ ≡ true → backBits ks vs κ last ≡ bitsOf (backGift m ks vs last .content) k r c
+  back-told {k} {r} {c} {κ} b h =
+      let v = valid-block m (last .key) (x .ends .valid) in
+      ap (λ l. getD (valuesOf l) (placeOf κ l) 0) shown
+      ∙ lookup-value (pictureOf m content) (interval-iff v b .0 h)
+
+  -- its content is there, and can be searched
+  pub last-held : {κ : ℕ} → inInterval m (last .key) κ ≡ true → Held last ks vs κ
+  last-held {κ} h =
+      let v = valid-block m (last .key) (x .ends .valid) in
+      let i = inInterval-iff κ v .0 h in
+      let p = entry-places (ends-ended x) in
+      let b = content-list m s (last .key) (lastContent (recordsOf ks vs end)) (x .ends .correct) in
+      let size = content-length (ends-ended x) in
+      let l = length-drop (last .start) ks in
+      let l′ = length-drop (last .start) vs in
+      let km : length (take (last .count) (drop (last .start) ks)) ≡ last .count = length-take-le (last .count) (drop (last .start) ks) (omega (arith, x .in-keys)) in
+      let vm : length (take (last .count) (drop (last .start) vs)) ≡ last .count = length-take-le (last .count) (drop (last .start) vs) (omega (arith, x .in-values)) in
+      let n : last .start + last .count - last .start ≡ last .count = omega arith in
+      let part : contentPart last ks ≡ keysOf (lastContent (recordsOf ks vs end))
+      = ap (λ i. take i (drop (last .start) ks)) n ∙ sym (ap keysOf content-same ∙ paired-keys (take (last .count) (drop (last .start) ks)) (take (last .count) (drop (last .start) vs)) (km ∙ sym vm)) in
+      let room : length (contentPart last ks) ≡ last .count = ap (λ i. length (take i (drop (last .start) ks))) n ∙ km in
+      let first = ap (λ l. getD (keysOf l) 0 0) (b .is ∙ list-first (pictureOf m (lastContent (recordsOf ks vs end))) (heightOf m (last .key)) (rowOf m (last .key)) (columnOf m (last .key)) (last .key) .1) in
+      record {
+        in-keys = omega (arith, x .in-keys);
+        in-values = omega (arith, x .in-values);
+        sorted = record {
+          ascends = record {
+            room = omega arith;
+            ascend = λ a z u w. rw part (keys-ascend a z (b .ascends) u (omega arith));
+          };
+          some = omega (arith, b .some);
+          first = rw part (omega (arith, i .from));
+        };
+      }

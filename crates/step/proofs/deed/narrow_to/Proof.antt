@@ -1,0 +1,44 @@
+-- `deed::narrow_to` meets its contract, kind by kind.
+use mathlib.Core.Path.{refl}
+use borrow.Author.Needs.{needs}
+use Rattle.step.proofs.DeedCases.{back-known, again-known, fill-narrowed, back-narrowed, again-narrowed}
+use borrow.Author.Needs.{needs}
+use Rattle.step.proofs.deed.narrow_to.Statement.{statement}
+use Rattle.step.proofs.deed.narrow_to.Tie as tie
+
+enum-known-deed : tie.Need-enum-known-deed
+enum-known-deed c = search needs
+
+enum-known-deed-2 : tie.Need-enum-known-deed-2
+enum-known-deed-2 c = search needs
+
+before-requires : tie.Need-before-requires
+before-requires c κs = let s = c .before .before .before .before .before in back-known (s .args .m) (s .args .log-keys .now) (s .args .log-values .now) (c .before .deed2 .given .1) (s .pre)
+
+enum-known-deed-3 : tie.Need-enum-known-deed-3
+enum-known-deed-3 c = search needs
+
+before-requires-2 : tie.Need-before-requires-2
+before-requires-2 c κs = let s = c .before .before .before .before .before in again-known (s .args .m) (s .args .log-keys .now) (s .args .log-values .now) (c .before .deed3 .given .1) (s .pre)
+
+returns : tie.Need-returns
+returns c = let s = c .before .before .before .before .before in fill-narrowed (s .args .m) (s .args .log-keys .now) (s .args .log-values .now) (c .before .deed .given .1) (s .pre)
+
+returns-2 : tie.Need-returns-2
+returns-2 c = let s = c .before .before .before .before .before .before in back-narrowed (s .args .m) (s .args .log-keys .now) (s .args .log-values .now) (c .before .before .deed2 .given .1) refl (c .before2 .ensures)
+
+returns-3 : tie.Need-returns-3
+returns-3 c = let s = c .before .before .before .before .before .before in again-narrowed (s .args .m) (s .args .log-keys .now) (s .args .log-values .now) (c .before .before .deed3 .given .1) refl (c .before3 .ensures)
+
+pub narrow-to-spec : {M : Type 1} → statement M
+narrow-to-spec =
+    tie.close
+    (tie.spec
+    enum-known-deed
+    enum-known-deed-2
+    before-requires
+    enum-known-deed-3
+    before-requires-2
+    returns
+    returns-2
+    returns-3)

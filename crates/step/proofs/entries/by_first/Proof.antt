@@ -1,0 +1,54 @@
+-- `by_first` meets its contract: what the entries from the end on make of the leaf is what those before leave where they are apart from it.
+use Prim.Native.Nat.{ℕ}
+use mathlib.Core.Path.{_≡_, refl, sym, _∙_}
+use mathlib.Core.Bool.{true}
+use mathlib.Core.List.{[]}
+use Rattle.step.specs.Runs.{Between, bitsBy, settledBy, firstFirst}
+use Rattle.step.proofs.Chains.{run-ended}
+use Rattle.step.proofs.EntryTurns.{turn-less, turn-rest, turn-asking, first-turns, first-over}
+use Rattle.step.proofs.entries.by_first.Statement.{statement}
+use Rattle.step.proofs.entries.by_first.Tie as tie
+
+abbrev Inv-loop : tie.InvT-loop
+Inv-loop log-keys log-values m own key start end₀ answer₀ end answer =
+    Between m start end log-keys log-values
+    × (settledBy m answer key (bitsBy true log-keys log-values key) (firstFirst end log-keys log-values start end [])
+    ≡ settledBy m own key (bitsBy true log-keys log-values key) (firstFirst end₀ log-keys log-values start end₀ []))
+
+abbrev μ-loop : tie.MeasureT-loop
+μ-loop log-keys log-values m own key start end₀ answer₀ end answer = end
+
+loop-holds : tie.Need-loop-holds Inv-loop μ-loop
+loop-holds c = (c .before .before .pre .1 .between, refl)
+
+last-entry-requires : tie.Need-last-entry-requires Inv-loop μ-loop
+last-entry-requires c κs = run-ended (c .before .loop .inv .0) (c .loop-test .taken)
+
+met-requires : tie.Need-met-requires Inv-loop μ-loop
+met-requires c κs = (c .before .before .before .before .before .pre .0, turn-asking (c .before .before .loop .inv .0) (c .before .loop-test .taken) _ (c .last-entry .ensures) _)
+
+loop-less : tie.Need-loop-less Inv-loop μ-loop
+loop-less c = turn-less (c .before .before .before .loop .inv .0) (c .before .before .loop-test .taken) _ (c .before .last-entry .ensures)
+
+loop-again : tie.Need-loop-again Inv-loop μ-loop
+loop-again c =
+    let i = c .before .before .before .loop .inv in
+    let t = c .before .before .loop-test .taken in
+    let f = c .before .last-entry .ensures in
+    (turn-rest (i .0) t _ f, first-turns (i .0) t _ f _ _ _ _ (i .1) (c .met .ensures))
+
+returns : tie.Need-returns Inv-loop μ-loop
+returns c = first-over _ _ _ _ _ _ _ _ (c .loop-test .left) ∙ c .before .loop .inv .1
+
+pub by-first-spec : {M : Type 1} → statement M
+by-first-spec =
+    tie.close
+    (tie.spec
+    Inv-loop
+    μ-loop
+    loop-holds
+    last-entry-requires
+    met-requires
+    loop-less
+    loop-again
+    returns)
