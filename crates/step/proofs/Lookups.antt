@@ -18,7 +18,7 @@ use Rattle.definitions.specs.List.{Record, keysOf, valuesOf, listOf}
 use Rattle.definitions.specs.Read.{paired, recordsOf, pictureOf}
 use Rattle.definitions.specs.Standing.{placeOf}
 use Rattle.definitions.specs.Log.{lastContent, lastCount, beforeLast}
-use Rattle.definitions.proofs.SoundLog.{EndsInEntry}
+use Rattle.definitions.proofs.LogEntries.{EndsInEntry}
 use Rattle.definitions.proofs.Records.{paired-length, paired-keys, paired-values}
 use Rattle.definitions.proofs.ListOf.{list-first}
 use Rattle.list.specs.Sorted.{Ascends, Sorted}

@@ -15,7 +15,7 @@ use Rattle.definitions.specs.Edit.{put, paintIn}
 use Rattle.definitions.specs.Log.{lastKey, lastFeature, lastContent, beforeLast}
 use Rattle.definitions.proofs.Put.{put-in, put-out}
 use Rattle.definitions.proofs.LastEntry.{before-place}
-use Rattle.definitions.proofs.SoundLog.{EndsInEntry}
+use Rattle.definitions.proofs.LogEntries.{EndsInEntry}
 use Rattle.definitions.proofs.Records.{records-first}
 use Rattle.log.specs.declared.entry.Entry.{Entry}
 use Rattle.log.specs.Entries.{lastEntry}

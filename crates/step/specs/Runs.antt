@@ -14,7 +14,7 @@ use Rattle.definitions.specs.Read.{recordsOf, pictureOf}
 use Rattle.definitions.specs.Standing.{placeOf}
 use Rattle.definitions.specs.Edit.{put, paintIn}
 use Rattle.definitions.specs.Log.{lastKey, lastFeature, beforeLast, lastContent}
-use Rattle.definitions.proofs.SoundLog.{EndsInEntry}
+use Rattle.definitions.proofs.LogEntries.{EndsInEntry}
 use Rattle.list.specs.Check.{oneSlot}
 use Rattle.list.specs.Sorted.{Sorted}
 use Rattle.log.specs.declared.entry.Entry.{Entry}
