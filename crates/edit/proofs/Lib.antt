@@ -17,3 +17,7 @@ pub mod Relogging
 pub mod RedoTable
 pub mod RedoPlan
 pub mod RedoAnswers
+pub mod GroupRuns
+pub mod Applying
+pub mod TakingBackGroup
+pub mod RedoGroup

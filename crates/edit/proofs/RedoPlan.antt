@@ -11,7 +11,7 @@ use Rattle.definitions.specs.List.{Record, listOfPicture}
 use Rattle.definitions.specs.Read.{recordsOf, pictureOf}
 use Rattle.definitions.specs.Area.{summaryOf}
 use Rattle.definitions.specs.Edit.{paintIn}
-use Rattle.definitions.specs.Log.{lastKey, lastFeature, endsInMark, isSound, firstStep, paintAgain, toRedo}
+use Rattle.definitions.specs.Log.{lastKey, lastFeature, endsInMark, stepEntries, isSound, firstStep, paintAgain, toRedo}
 use Rattle.definitions.specs.Calls.Redo.{redonePicture, redone}
 use Rattle.definitions.specs.Calls.Paint.{paintedPicture, painted}
 use Rattle.definitions.proofs.LogEntries.{EndsInEntry, ends-in-entry}
@@ -26,7 +26,8 @@ use Rattle.log.proofs.First.{FirstOf, first-sound}
 use Rattle.log.proofs.Last.{entry-ended}
 use Rattle.log.proofs.Parts.{part-length, part-redo}
 use Rattle.put.specs.Putting.{Replaced}
-use Rattle.edit.specs.PaintCall.{Paintable}
+use Rattle.put.specs.declared.plan.Plan.{Plan}
+use Rattle.edit.specs.PaintCall.{Paintable, paintPlan}
 use Rattle.edit.specs.RedoCall.{LogToRedo, nextStep, nextEntry}
 use Rattle.edit.proofs.PaintPlan.{paint-counted}
 
@@ -39,13 +40,13 @@ module _ {keys values : List ℕ} {used inForce : ℕ} (d : LogToRedo keys value
   part-is : recordsOf (part keys) (part values) (used - inForce) ≡ toRedo keys values used inForce
   part-is = let w = d .whole in part-redo (d .m) (d .s) keys values used inForce (w .in-keys) (w .in-values) (w .within)
 
-  lent : (l : List ℕ) → used ≤ length l → length (part l) ≡ used - inForce
-  lent = let w = d .whole in part-length (d .m) (d .s) keys values used inForce (w .in-keys) (w .in-values) (w .within)
+  pub part-lent : (l : List ℕ) → used ≤ length l → length (take (used - inForce) (drop inForce l)) ≡ used - inForce
+  part-lent = let w = d .whole in part-length (d .m) (d .s) keys values used inForce (w .in-keys) (w .in-values) (w .within)
 
   pub redo-divided : Divided (take (used - inForce) (drop inForce keys)) (take (used - inForce) (drop inForce values)) (used - inForce)
   redo-divided =
-      let k = lent keys (d .whole .in-keys) in
-      let v = lent values (d .whole .in-values) in
+      let k = part-lent keys (d .whole .in-keys) in
+      let v = part-lent values (d .whole .in-values) in
       let some = d .some in
       record {
         m = d .m;
@@ -101,8 +102,8 @@ module _ {keys values : List ℕ} {used inForce : ℕ} (d : LogToRedo keys value
       pub next-ended : Ended (take (used - inForce) (drop inForce keys)) (take (used - inForce) (drop inForce values)) end
       next-ended =
           let within = end-within in
-          let k = lent keys (d .whole .in-keys) in
-          let v = lent values (d .whole .in-values) in
+          let k = part-lent keys (d .whole .in-keys) in
+          let v = part-lent values (d .whole .in-values) in
           entry-ended (omega arith) (omega arith) (subst (EndsInEntry (d .m) (d .s)) first-records next-ends)
 
       -- the entry that was found
@@ -137,6 +138,26 @@ module _ (m : ℕ) (l steps : List Record) (single : endsInMark (firstStep steps
   pub redone-is : painted m l (next .key) (next .feature) ≡ redone m l steps
   unfolding redone painted
   redone-is = ap (listOfPicture m) (sym again)
+
+-- the plan and the room of a paint, by the entry that a decision goes by
+pub redo-paints : (m : ℕ) (l : List Record) (entry next : Entry) → next ≡ entry → (plan : Plan) (size : ℕ) → plan ≡ paintPlan m l (entry .key) (entry .feature)
+    → length (painted m l (entry .key) (entry .feature)) ≤ size
+    → (plan ≡ paintPlan m l (next .key) (next .feature)) × (length (painted m l (next .key) (next .feature)) ≤ size)
+redo-paints m l entry next same plan size found fits =
+    let e : length (painted m l (next .key) (next .feature)) ≡ length (painted m l (entry .key) (entry .feature))
+    = ap (λ x. length (painted m l (x .key) (x .feature))) same in
+    (found ∙ sym (ap (λ x. paintPlan m l (x .key) (x .feature)) same), omega arith)
+
+-- the step that was found, by its kind
+pub next-single : (steps : List Record) (next : Step) → next ≡ nextStep steps → next .grouped ≡ false
+    → (endsInMark (firstStep steps) ≡ false) × (next .end ≡ length (firstStep steps))
+next-single steps next is e =
+    let single : endsInMark (firstStep steps) ≡ false = sym (ap (λ x. x .grouped) is) ∙ e in
+    (single, ap (λ x. x .end) is ∙ ap length (entries-single (firstStep steps) single))
+
+pub next-group : (steps : List Record) (next : Step) → next ≡ nextStep steps → next .grouped ≡ true
+    → (endsInMark (firstStep steps) ≡ true) × (next .end ≡ length (stepEntries (firstStep steps)))
+next-group steps next is e = (sym (ap (λ x. x .grouped) is) ∙ e, ap (λ x. x .end) is)
 
 -- the redone list, once it stands, leaves the summary right outside the block
 module _ {m n : ℕ} {keys bits keys′ bits′ : List ℕ} {r : ℕ} (steps : List Record) (single : endsInMark (firstStep steps) ≡ false) (next : Entry) (is : next ≡ nextEntry steps)

@@ -47,7 +47,7 @@ module _ (m s : ℕ) (keys bits : List ℕ) (n : ℕ) (summary logKeys logValues
     redo-first-rows = first-passed 0 (sym (t .passed)) refl
 
     -- the log has records to redo
-    pub to-redo : LogToRedo logKeys logValues used inForce
+    abbrev pub to-redo : LogToRedo logKeys logValues used inForce
     to-redo =
         let few = passed-settings redo-first-rows .few in
         record { m = m; s = s; few = omega arith; whole = passed-log redo-first-rows; some = t .some }

@@ -4,3 +4,4 @@ pub mod PaintCall
 pub mod Recount
 pub mod TakingBackCall
 pub mod RedoCall
+pub mod GroupCall

@@ -1,6 +1,7 @@
 // Edits of the list: what is logged, paint, take back, redo and empty.
 pub mod decision;
 pub mod empty;
+pub mod group;
 pub mod logging;
 pub mod paint;
 pub mod recount;

@@ -17,7 +17,7 @@ use definitions::Edited;
 use keys::power;
 use log::entry;
 use log::entry::Entry;
-use log::step;
+use log::step as steps;
 use log::step::Step;
 use put::plan;
 
@@ -26,7 +26,7 @@ fn next_step(log_keys: &[u32], log_values: &[u32], used: usize, in_force: usize)
     requires { ⌜ LogToRedo (now «log_keys») (now «log_values») used «in_force» ⌝ }
     ensures { λ r. ⌜ r ≡ nextStep (toRedo (now («log_keys» .entry)) (now («log_values» .entry)) used «in_force») ⌝ }
 {
-    step::first_step(
+    steps::first_step(
         &log_keys[in_force..used],
         &log_values[in_force..used],
         used - in_force,

@@ -17,7 +17,7 @@ use crate::take_back_group;
 use definitions::Edited;
 use log::entry;
 use log::entry::Entry;
-use log::step;
+use log::step as steps;
 use put::plan;
 use put::plan::Plan;
 use put::putting;
@@ -173,7 +173,7 @@ pub fn take_back(
             in_force: 0,
         };
     }
-    if step::ends_in_mark(log_keys, log_values, in_force) {
+    if steps::ends_in_mark(log_keys, log_values, in_force) {
         return take_back_group::take_group_back(
             m,
             s,

@@ -1,49 +1,42 @@
+-- `redo::next_entry` meets its contract: the last entry of the part of the log that is lent, up to where the next step ends.
+use Rattle.edit.proofs.RedoPlan.{next-ended, next-found}
 use borrow.Author.Needs.{needs}
 use Rattle.edit.proofs.redo.next_entry.Statement.{statement}
 use Rattle.edit.proofs.redo.next_entry.Tie as tie
-use Rattle.edit.proofs.redo.next_entry.Reads as reads
-use Rattle.edit.proofs.redo.next_entry.Lts as lts
-use Rattle.log.proofs.entry.last_entry.Reads as last-entry-reads
 
--- src/redo.rt:49:23
 mul-last-entry : tie.Need-mul-last-entry
 mul-last-entry c = search needs
 
--- src/redo.rt:49:23
 sub-last-entry : tie.Need-sub-last-entry
 sub-last-entry c = search needs
 
--- src/redo.rt:49:23
 part-last-entry-start : tie.Need-part-last-entry-start
 part-last-entry-start c = search needs
 
--- src/redo.rt:49:23
 part-last-entry-end : tie.Need-part-last-entry-end
 part-last-entry-end c = search needs
 
--- src/redo.rt:49:50
 mul-last-entry-2 : tie.Need-mul-last-entry-2
 mul-last-entry-2 c = search needs
 
--- src/redo.rt:49:50
 sub-last-entry-2 : tie.Need-sub-last-entry-2
 sub-last-entry-2 c = search needs
 
--- src/redo.rt:49:50
 part-last-entry-start-2 : tie.Need-part-last-entry-start-2
 part-last-entry-start-2 c = search needs
 
--- src/redo.rt:49:50
 part-last-entry-end-2 : tie.Need-part-last-entry-end-2
 part-last-entry-end-2 c = search needs
 
--- src/redo.rt:49:5
 last-entry-requires : tie.Need-last-entry-requires
-last-entry-requires c κs = ?
+last-entry-requires c κs =
+    let start = c .before .before .before .before in
+    next-ended (start .pre .0) _ (start .pre .2) (start .pre .1)
 
--- src/redo.rt:37:1
 returns : tie.Need-returns
-returns c = ?
+returns c =
+    let start = c .before .before .before .before .before in
+    next-found (start .pre .0) _ (start .pre .2) (start .pre .1) _ (c .last-entry .ensures)
 
 pub next-entry-spec : {M : Type 1} → statement M
 next-entry-spec =

@@ -1,123 +1,117 @@
+-- `take_back::take_back` meets its contract: the refusals up to 11 leave all as it is, and the mark says which way the last step is taken back.
+use mathlib.Core.Path.{sym, _∙_}
+use native.Mathlib.Omega.{arith}
+use Rattle.edit.specs.TakingBackCall.{Takeable}
+use Rattle.edit.proofs.EditCallTables.{first-passed, passed-force}
+use Rattle.edit.proofs.TakingBackTable.{take-early, take-first, no-entry}
+use Rattle.edit.proofs.TakingBackAnswers.{take-refused}
+use borrow.Author.Needs.{needs}
 use Rattle.edit.proofs.take_back.take_back.Statement.{statement}
 use Rattle.edit.proofs.take_back.take_back.Tie as tie
-use Rattle.edit.proofs.take_back.take_back.Reads as reads
-use Rattle.edit.proofs.take_back.take_back.Lts as lts
-use Rattle.edit.proofs.decision.first_refusal.Reads as first-refusal-reads
-use Rattle.edit.proofs.take_back.take_entry_back.Reads as take-entry-back-reads
-use Rattle.edit.proofs.take_back_group.take_group_back.Reads as take-group-back-reads
-use Rattle.log.proofs.step.ends_in_mark.Reads as ends-in-mark-reads
 
--- src/take_back.rt:148:9
+-- the start, from the first refusal
+abbrev start : tie.After-first-refusal → tie.Start
+start c = c .before .before .before .before .before .before .before .before .before .before .before
+
+-- the rows up to 11 are passed
+takeable : (c : tie.Else2)
+    → (let a = start (c .before .before) .args in
+    Takeable (a .m) (a .s) (a .keys .now) (a .bits .now) (a .n) (a .summary .now) (a .log-keys .now) (a .log-values .now) (a .used) (a .in-force))
+takeable c = record { passed = sym (c .before .before .first-refusal .ensures) ∙ c .before .if1 .left; some = let h = c .if2 .left in omega arith }
+
 first-refusal-requires : tie.Need-first-refusal-requires
-first-refusal-requires c κs = ?
+first-refusal-requires c κs = search needs
 
--- src/take_back.rt:161:9
 same-length : tie.Need-same-length
-same-length c = ?
+same-length c = search needs
 
--- src/take_back.rt:161:9
 same-length-2 : tie.Need-same-length-2
-same-length-2 c = ?
+same-length-2 c = search needs
 
--- src/take_back.rt:161:9
 same-length-3 : tie.Need-same-length-3
-same-length-3 c = ?
+same-length-3 c = search needs
 
--- src/take_back.rt:161:9
 same-length-4 : tie.Need-same-length-4
-same-length-4 c = ?
+same-length-4 c = search needs
 
--- src/take_back.rt:161:9
 same-length-5 : tie.Need-same-length-5
-same-length-5 c = ?
+same-length-5 c = search needs
 
--- src/take_back.rt:161:9
 returns : tie.Need-returns
-returns c = ?
+returns c = take-refused _ _ _ _ _ _ _ _ _ _ _ (take-early _ _ _ _ _ _ _ _ _ _ _ (c .before .first-refusal .ensures) (c .if1 .taken)) (c .if1 .taken)
 
--- src/take_back.rt:169:9
 same-length-6 : tie.Need-same-length-6
-same-length-6 c = ?
+same-length-6 c = search needs
 
--- src/take_back.rt:169:9
 same-length-7 : tie.Need-same-length-7
-same-length-7 c = ?
+same-length-7 c = search needs
 
--- src/take_back.rt:169:9
 same-length-8 : tie.Need-same-length-8
-same-length-8 c = ?
+same-length-8 c = search needs
 
--- src/take_back.rt:169:9
 same-length-9 : tie.Need-same-length-9
-same-length-9 c = ?
+same-length-9 c = search needs
 
--- src/take_back.rt:169:9
 same-length-10 : tie.Need-same-length-10
-same-length-10 c = ?
+same-length-10 c = search needs
 
--- src/take_back.rt:169:9
 returns-2 : tie.Need-returns-2
-returns-2 c = ?
+returns-2 c =
+    let rows = first-passed _ (c .before .before .first-refusal .ensures) (c .before .if1 .left) in
+    take-refused _ _ _ _ _ _ _ _ _ _ 11 (no-entry _ _ _ _ _ _ _ _ _ _ rows (c .if2 .taken)) (λ e. omega arith)
 
--- src/take_back.rt:176:8
 ends-in-mark-requires : tie.Need-ends-in-mark-requires
-ends-in-mark-requires c κs = ?
+ends-in-mark-requires c κs =
+    let room = passed-force (take-first _ _ _ _ _ _ _ _ _ _ (takeable (c .before .before))) in
+    (omega arith, omega arith)
 
--- src/take_back.rt:177:9
 take-group-back-requires : tie.Need-take-group-back-requires
-take-group-back-requires c κs = ?
+take-group-back-requires c κs =
+    let marked = c .before .before .before .before .before in
+    let mark = marked .before in
+    (takeable (mark .before .before .before), sym (mark .ends-in-mark .ensures) ∙ marked .if3 .taken)
 
--- src/take_back.rt:177:9
 same-length-11 : tie.Need-same-length-11
-same-length-11 c = ?
+same-length-11 c = search needs
 
--- src/take_back.rt:177:9
 same-length-12 : tie.Need-same-length-12
-same-length-12 c = ?
+same-length-12 c = search needs
 
--- src/take_back.rt:177:9
 same-length-13 : tie.Need-same-length-13
-same-length-13 c = ?
+same-length-13 c = search needs
 
--- src/take_back.rt:177:9
 same-length-14 : tie.Need-same-length-14
-same-length-14 c = ?
+same-length-14 c = search needs
 
--- src/take_back.rt:177:9
 same-length-15 : tie.Need-same-length-15
-same-length-15 c = ?
+same-length-15 c = search needs
 
--- src/take_back.rt:177:9
 returns-3 : tie.Need-returns-3
-returns-3 c = ?
+returns-3 c = c .before .before .before .before .before .before .take-group-back .ensures
 
--- src/take_back.rt:190:5
 take-entry-back-requires : tie.Need-take-entry-back-requires
-take-entry-back-requires c κs = ?
+take-entry-back-requires c κs =
+    let single = c .before .before .before .before .before in
+    let mark = single .before in
+    (takeable (mark .before .before .before), sym (mark .ends-in-mark .ensures) ∙ single .if3 .left)
 
--- src/take_back.rt:133:1
 same-length-16 : tie.Need-same-length-16
-same-length-16 c = ?
+same-length-16 c = search needs
 
--- src/take_back.rt:133:1
 same-length-17 : tie.Need-same-length-17
-same-length-17 c = ?
+same-length-17 c = search needs
 
--- src/take_back.rt:133:1
 same-length-18 : tie.Need-same-length-18
-same-length-18 c = ?
+same-length-18 c = search needs
 
--- src/take_back.rt:133:1
 same-length-19 : tie.Need-same-length-19
-same-length-19 c = ?
+same-length-19 c = search needs
 
--- src/take_back.rt:133:1
 same-length-20 : tie.Need-same-length-20
-same-length-20 c = ?
+same-length-20 c = search needs
 
--- src/take_back.rt:133:1
 returns-4 : tie.Need-returns-4
-returns-4 c = ?
+returns-4 c = c .before .before .before .before .before .before .take-entry-back .ensures
 
 pub take-back-spec : {M : Type 1} → statement M
 take-back-spec =
