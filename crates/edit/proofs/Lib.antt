@@ -25,3 +25,7 @@ pub mod WindowFilled
 pub mod PaintWindowTable
 pub mod PaintWindowAnswers
 pub mod GroupLogged
+pub mod GroupRuns
+pub mod Applying
+pub mod TakingBackGroup
+pub mod RedoGroup

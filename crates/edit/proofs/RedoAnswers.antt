@@ -8,7 +8,7 @@ use Rattle.definitions.specs.Picture.{Picture}
 use Rattle.definitions.specs.List.{Record, keysOf, valuesOf}
 use Rattle.definitions.specs.Read.{recordsOf}
 use Rattle.definitions.specs.Buffer.{replaced}
-use Rattle.definitions.specs.Log.{firstEntry, toRedo}
+use Rattle.definitions.specs.Log.{firstStep, toRedo}
 use Rattle.definitions.specs.Area.{summaryOf}
 use Rattle.definitions.specs.Refusal.{accepted}
 use Rattle.definitions.specs.Calls.Redo.{redonePicture, redone, redoRefusal, forceAfter, redo, redoKeys, redoBits, redoSummary, redoLogKeys, redoLogValues}
@@ -65,7 +65,7 @@ module _ (m s : ℕ) (keys bits : List ℕ) (n : ℕ) (summary logKeys logValues
 
   -- an accepted redo
   pub redo-done : {keys′ bits′ summary′ : List ℕ} {after next : ℕ} → redoRefusal m s keys bits n summary logKeys logValues used inForce ≡ 0
-      → next ≡ inForce + length (firstEntry (toRedo logKeys logValues used inForce))
+      → next ≡ inForce + length (firstStep (toRedo logKeys logValues used inForce))
       → Replaced n new keys bits keys′ bits′ after
       → summary′ ≡ summaryOf m s picture
       → Redone m s keys bits n summary logKeys logValues used inForce (record { refusal = 0; n = after; used = used; «in_force» = next }) keys′ bits′ summary′ logKeys logValues

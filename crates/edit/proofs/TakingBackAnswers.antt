@@ -8,7 +8,7 @@ use Rattle.definitions.specs.Picture.{Picture}
 use Rattle.definitions.specs.List.{Record, keysOf, valuesOf}
 use Rattle.definitions.specs.Read.{recordsOf}
 use Rattle.definitions.specs.Buffer.{replaced}
-use Rattle.definitions.specs.Log.{beforeLast}
+use Rattle.definitions.specs.Log.{beforeStep}
 use Rattle.definitions.specs.Area.{summaryOf}
 use Rattle.definitions.specs.Refusal.{accepted}
 use Rattle.definitions.specs.Calls.TakeBack.{restoredPicture, restored, takeBackRefusal, forceBefore, takeBack, takeBackKeys, takeBackBits, takeBackSummary, takeBackLogKeys, takeBackLogValues}
@@ -65,7 +65,7 @@ module _ (m s : ℕ) (keys bits : List ℕ) (n : ℕ) (summary logKeys logValues
 
   -- an accepted taking back
   pub take-done : {keys′ bits′ summary′ : List ℕ} {after start : ℕ} → takeBackRefusal m s keys bits n summary logKeys logValues used inForce ≡ 0
-      → start ≡ length (beforeLast (recordsOf logKeys logValues inForce))
+      → start ≡ length (beforeStep (recordsOf logKeys logValues inForce))
       → Replaced n new keys bits keys′ bits′ after
       → summary′ ≡ summaryOf m s picture
       → TakenBack m s keys bits n summary logKeys logValues used inForce (record { refusal = 0; n = after; used = used; «in_force» = start }) keys′ bits′ summary′ logKeys logValues

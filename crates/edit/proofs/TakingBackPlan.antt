@@ -1,16 +1,20 @@
--- The plan of a taking back: the content of the log's last entry is put into its block; and the summary after it. Rests on Planned, Changed and on the laws of the last entry.
+-- The plan of a taking back of a single entry: the content of the log's last entry is put into its block; and the summary after it. Rests on Planned, Changed
+-- and on the laws of the last entry.
 use Prim.Native.Nat.{ℕ, _+_, _≤_, _<_}
-use mathlib.Core.Path.{_≡_, refl, sym, _∙_, ap, subst}
-use mathlib.Core.Bool.{true}
+use mathlib.Core.Path.{_≡_, sym, _∙_, ap, ap₂, subst}
+use mathlib.Core.Bool.{true, false}
 use mathlib.Core.List.{List}
 use native.Mathlib.Omega.{arith}
 use lib.ListN.{length, getD}
 use lib.Dec.{eqb}
 use Rattle.keys.specs.Key.{slotLimit, validKey}
+use Rattle.definitions.specs.List.{Record, listOfPicture}
 use Rattle.definitions.specs.Read.{room, recordsOf, pictureOf}
-use Rattle.definitions.specs.Log.{lastKey, lastContent}
+use Rattle.definitions.specs.Edit.{put}
+use Rattle.definitions.specs.Log.{lastKey, lastContent, endsInMark, putBack}
 use Rattle.definitions.specs.Area.{summaryOf}
 use Rattle.definitions.specs.Calls.TakeBack.{restoredPicture, restored}
+use Rattle.definitions.proofs.LastStep.{count-single, entries-single}
 use Rattle.list.specs.Own.{shownBy}
 use Rattle.log.specs.declared.entry.Entry.{Entry}
 use Rattle.log.specs.Entries.{lastEntry, contentPart}
@@ -24,6 +28,12 @@ use Rattle.edit.specs.Recount.{Outdated}
 use Rattle.edit.specs.TakingBackCall.{Restorable, restorePlan}
 use Rattle.edit.proofs.Planned.{Planned, can-put, put-makes}
 use Rattle.edit.proofs.Changed.{put-outdated, put-counted}
+
+-- a single entry is taken back by putting its content
+restored-single : (m : ℕ) (l log : List Record) → endsInMark log ≡ false
+    → restoredPicture m l log ≡ put m (lastKey log) (pictureOf m (lastContent log)) (pictureOf m l)
+unfolding putBack
+restored-single m l log e = ap₂ (λ n x. putBack n m x (pictureOf m l)) (count-single log e) (entries-single log e)
 
 module _ {m n inForce : ℕ} {keys bits logKeys logValues : List ℕ} (a : Restorable m keys bits n logKeys logValues inForce) (last : Entry)
     (is : last ≡ lastEntry (recordsOf logKeys logValues inForce)) where
@@ -65,7 +75,7 @@ module _ {m n inForce : ℕ} {keys bits logKeys logValues : List ℕ} (a : Resto
           own = a .own;
           picture = pictureOf m (lastContent (recordsOf logKeys logValues inForce));
           content-is = a .correct;
-          new-is = refl;
+          new-is = ap (listOfPicture m) (restored-single m (recordsOf keys bits n) (recordsOf logKeys logValues inForce) (a .single));
           plan-is = found;
         })
 
@@ -92,16 +102,21 @@ module _ {m n inForce : ℕ} {keys bits logKeys logValues : List ℕ} (a : Resto
 module _ (s : ℕ) {m n inForce : ℕ} {keys bits logKeys logValues keys′ bits′ : List ℕ} {r : ℕ} (a : Restorable m keys bits n logKeys logValues inForce) (last : Entry)
     (is : last ≡ lastEntry (recordsOf logKeys logValues inForce))
     (made : Replaced n (restored m (recordsOf keys bits n) (recordsOf logKeys logValues inForce)) keys bits keys′ bits′ r) where
-  pub restore-outdated : (summary : List ℕ) → s ≤ slotLimit → summary ≡ summaryOf m s (shownBy m keys bits n) → Outdated m s keys′ bits′ r summary (last .key)
+  put-there : Replaced n (listOfPicture m (put m (lastKey (recordsOf logKeys logValues inForce)) (pictureOf m (lastContent (recordsOf logKeys logValues inForce)))
+      (shownBy m keys bits n))) keys bits keys′ bits′ r
   unfolding restored
+  put-there =
+      subst (λ p. Replaced n (listOfPicture m p) keys bits keys′ bits′ r) (restored-single m (recordsOf keys bits n) (recordsOf logKeys logValues inForce) (a .single)) made
+
+  pub restore-outdated : (summary : List ℕ) → s ≤ slotLimit → summary ≡ summaryOf m s (shownBy m keys bits n) → Outdated m s keys′ bits′ r summary (last .key)
   restore-outdated summary few counts =
       subst (λ κ. Outdated m s keys′ bits′ r summary κ) (sym (key-is a last is))
-      (put-outdated m s (lastKey (recordsOf logKeys logValues inForce)) (pictureOf m (lastContent (recordsOf logKeys logValues inForce))) made summary (a .deepest) few (a .valid) counts)
+      (put-outdated m s (lastKey (recordsOf logKeys logValues inForce)) (pictureOf m (lastContent (recordsOf logKeys logValues inForce))) put-there summary (a .deepest) few (a .valid) counts)
 
   -- and counted anew it is that of the restored picture
   pub restore-counted : (summary′ : List ℕ) → summary′ ≡ summaryOf m s (shownBy m keys′ bits′ r)
       → summary′ ≡ summaryOf m s (restoredPicture m (recordsOf keys bits n) (recordsOf logKeys logValues inForce))
-  unfolding restored
   restore-counted summary′ e =
       put-counted m s (lastKey (recordsOf logKeys logValues inForce))
-      (pictureOf m (lastContent (recordsOf logKeys logValues inForce))) made summary′ e
+      (pictureOf m (lastContent (recordsOf logKeys logValues inForce))) put-there summary′ e
+      ∙ ap (summaryOf m s) (sym (restored-single m (recordsOf keys bits n) (recordsOf logKeys logValues inForce) (a .single)))

@@ -2,32 +2,37 @@
 -- Rests on EditCallTables and the laws of the log's last entry.
 use Prim.Native.Nat.{ℕ, _≤_, _<_}
 use mathlib.Core.Path.{_≡_, refl, sym, _∙_}
+use mathlib.Core.Bool.{false}
 use mathlib.Core.List.{List, [], _∷_}
 use native.Mathlib.Omega.{arith}
 use lib.ListN.{length}
 use lib.Dec.{ltb, eqb}
-use borrow.Author.Tests.{lt-ltb, le-ltb, ltb-false, eq-eqb, ne-eqb, eqb-false}
+use borrow.Author.Tests.{lt-ltb, le-ltb, ltb-false, eq-eqb, ne-eqb}
+use Rattle.definitions.specs.List.{Record}
 use Rattle.definitions.specs.Read.{room, recordsOf}
+use Rattle.definitions.specs.Log.{endsInMark}
 use Rattle.definitions.specs.Refusal.{Row, _gives_, first}
 use Rattle.definitions.specs.Calls.TakeBack.{restored, takeBackRefusal}
-use Rattle.definitions.proofs.First.{this, later, holds-first, none-first, first-none}
+use Rattle.definitions.proofs.First.{this, first-later, holds-first, none-first, first-none}
 use Rattle.list.proofs.Accepted.{content-is}
 use Rattle.log.proofs.Last.{last-entry}
 use Rattle.log.proofs.Parts.{force-sound}
 use Rattle.edit.specs.EditCallChecks.{firstRefusal}
-use Rattle.edit.specs.TakingBackCall.{Restorable}
-use Rattle.edit.proofs.EditCallTables.{firstRows, FirstPassed, early-first, rest-first, passed-none, passed-settings, passed-own, passed-log}
+use Rattle.edit.specs.TakingBackCall.{Takeable, restoredRefusal, Restorable}
+use Rattle.edit.proofs.EditCallTables.{firstRows, FirstPassed, first-passed, early-first, rest-first, passed-none, passed-settings, passed-own, passed-log}
 
--- a list and a log that passed, and an entry: what taking it back asks for
+-- a list and a log that passed, and a single entry: what taking it back asks for
 pub passed-restorable : {m s : ℕ} {keys bits : List ℕ} {n : ℕ} {summary logKeys logValues : List ℕ} {used inForce : ℕ}
     → FirstPassed m s keys bits n summary logKeys logValues used inForce
     → 0 < inForce
+    → endsInMark (recordsOf logKeys logValues inForce) ≡ false
     → Restorable m keys bits n logKeys logValues inForce
-passed-restorable {m} {s} p some =
-    let last = last-entry (force-sound (passed-log p)) some in
+passed-restorable {m} {s} p some single =
+    let last = last-entry (force-sound (passed-log p)) some single in
     record {
       deepest = passed-settings p .deep;
       own = passed-own p;
+      single = single;
       ended = last .ended;
       some-content = last .some-content;
       valid = last .valid;
@@ -57,38 +62,34 @@ module _ (m s : ℕ) (keys bits : List ℕ) (n : ℕ) (summary logKeys logValues
     pub no-entry : inForce ≡ 0 → 11 ≡ takeBackRefusal m s keys bits n summary logKeys logValues used inForce
     no-entry none = sym (holds-first (this (eq-eqb inForce 0 none) refl)) ∙ take-rest
 
-    module _ (some : inForce ≡ 0 → ⊥) (after : ℕ) (after-is : after ≡ length (restored m (recordsOf keys bits n) (recordsOf logKeys logValues inForce))) where
-      -- 9
-      pub list-full : room keys bits < after → 9 ≡ takeBackRefusal m s keys bits n summary logKeys logValues used inForce
-      list-full h =
-          sym (holds-first
-          (later (ne-eqb inForce 0 some)
-          (this (lt-ltb (room keys bits) (length (restored m (recordsOf keys bits n) (recordsOf logKeys logValues inForce))) (omega arith)) refl)))
-          ∙ take-rest
+  -- past 11 the last row decides
+  module _ (t : Takeable m s keys bits n summary logKeys logValues used inForce) where
+    pub take-first : FirstPassed m s keys bits n summary logKeys logValues used inForce
+    take-first = first-passed 0 (sym (t .passed)) refl
 
-      -- none
-      pub room-enough : after ≤ room keys bits → 0 ≡ takeBackRefusal m s keys bits n summary logKeys logValues used inForce
-      room-enough h =
-          sym (none-first lastRows (
-            ne-eqb inForce 0 some,
-            (le-ltb (room keys bits) (length (restored m (recordsOf keys bits n) (recordsOf logKeys logValues inForce))) (omega arith), tt),
-          ))
-          ∙ take-rest
+    pub last-row : restoredRefusal m (recordsOf keys bits n) (recordsOf logKeys logValues inForce) keys bits
+        ≡ takeBackRefusal m s keys bits n summary logKeys logValues used inForce
+    unfolding restoredRefusal
+    last-row =
+        let some = t .some in
+        sym (first-later (eqb inForce 0 gives 11)
+        (ltb (room keys bits) (length (restored m (recordsOf keys bits n) (recordsOf logKeys logValues inForce))) gives 9 ∷ [])
+        (ne-eqb inForce 0 (λ z. omega arith)))
+        ∙ take-rest take-first
 
-  -- what a taking back that is not refused has passed
-  pub record TakePassed : Type 0 where
-    pub first-rows : FirstPassed m s keys bits n summary logKeys logValues used inForce
-    pub some : 0 < inForce
-    pub list-fits : length (restored m (recordsOf keys bits n) (recordsOf logKeys logValues inForce)) ≤ room keys bits
+-- the last row
+module _ (m : ℕ) (l log : List Record) (keys bits : List ℕ) where
+  -- 9
+  pub list-full : (after : ℕ) → after ≡ length (restored m l log) → room keys bits < after → 9 ≡ restoredRefusal m l log keys bits
+  unfolding restoredRefusal
+  list-full after after-is h = sym (holds-first (this (lt-ltb (room keys bits) (length (restored m l log)) (omega arith)) refl))
 
-  pub take-passed : takeBackRefusal m s keys bits n summary logKeys logValues used inForce ≡ 0 → TakePassed
-  unfolding takeBackRefusal
-  take-passed e =
-      let none = first-none _ refl e in
-      let last = none .1 .1 .1 .1 in
-      let not-zero = eqb-false inForce 0 (last .0) in
-      record {
-        first-rows = record { settings = none .0; listed = none .1 .0; summed = none .1 .1 .0; logged = none .1 .1 .1 .0 };
-        some = omega arith;
-        list-fits = ltb-false _ _ (last .1 .0);
-      }
+  -- none
+  pub room-enough : (after : ℕ) → after ≡ length (restored m l log) → after ≤ room keys bits → 0 ≡ restoredRefusal m l log keys bits
+  unfolding restoredRefusal
+  room-enough after after-is h =
+      sym (none-first (ltb (room keys bits) (length (restored m l log)) gives 9 ∷ []) (le-ltb (room keys bits) (length (restored m l log)) (omega arith), tt))
+
+  pub list-fits : restoredRefusal m l log keys bits ≡ 0 → length (restored m l log) ≤ room keys bits
+  unfolding restoredRefusal
+  list-fits e = let none = first-none (ltb (room keys bits) (length (restored m l log)) gives 9 ∷ []) refl e in ltb-false _ _ (none .0)

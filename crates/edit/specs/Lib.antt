@@ -6,3 +6,4 @@ pub mod TakingBackCall
 pub mod RedoCall
 pub mod WindowLogging
 pub mod PaintWindowCall
+pub mod GroupCall

@@ -1,59 +1,43 @@
-// Take back (documents 01 and 02). It is decided before anything is written, 9 on the end result.
+// Take back (documents 01 and 02): the last step in force, a single entry here or a group in its own file. It is decided before anything is written, 9 on the
+// end result.
 ghost use mathlib.Core.Path.{_≡_};
+ghost use mathlib.Core.Bool.{false};
 ghost use Prim.Native.Nat.{_+_, _≤_};
 ghost use Rattle.definitions.specs.Read.{room, recordsOf};
-ghost use Rattle.definitions.specs.Calls.TakeBack.{takeBackRefusal};
+ghost use Rattle.definitions.specs.Log.{endsInMark};
 ghost use Rattle.log.specs.Entries.{lastEntry, contentPart};
 ghost use Rattle.put.specs.Put.{edited};
 ghost use Rattle.put.specs.Putting.{Puttable, Replaced};
 ghost use Rattle.edit.specs.EditCallChecks.{decided};
-ghost use Rattle.edit.specs.TakingBackCall.{restorePlan, TakenBack};
+ghost use Rattle.edit.specs.TakingBackCall.{Takeable, restoredRefusal, Restorable, restorePlan, TakenBack};
 use crate::decision;
 use crate::decision::Decision;
 use crate::recount;
+use crate::take_back_group;
 use definitions::Edited;
 use log::entry;
 use log::entry::Entry;
+use log::step as steps;
 use put::plan;
 use put::plan::Plan;
 use put::putting;
 
-// The first refusal of a taking back that applies, or the last entry in force and the plan to put its content back.
+// The refusal of a taking back of the last entry in force, which is a single one, or that entry and the plan to put its content back.
 fn decide(
     m: u32,
-    s: u32,
     keys: &[u32],
     bits: &[u32],
     n: usize,
-    summary: &[u32],
     log_keys: &[u32],
     log_values: &[u32],
-    used: usize,
     in_force: usize,
 ) -> Decision
+    requires { ⌜ Restorable m (now keys) (now bits) n (now «log_keys») (now «log_values») «in_force» ⌝ }
     ensures { λ r. ⌜ r ≡ decided
-        (takeBackRefusal m s (now (keys .entry)) (now (bits .entry)) n (now (summary .entry)) (now («log_keys» .entry)) (now («log_values» .entry)) used «in_force»)
+        (restoredRefusal m (recordsOf (now (keys .entry)) (now (bits .entry)) n) (recordsOf (now («log_keys» .entry)) (now («log_values» .entry)) «in_force») (now (keys .entry)) (now (bits .entry)))
         (lastEntry (recordsOf (now («log_keys» .entry)) (now («log_values» .entry)) «in_force»))
         (restorePlan m (recordsOf (now (keys .entry)) (now (bits .entry)) n) (recordsOf (now («log_keys» .entry)) (now («log_values» .entry)) «in_force»)) ⌝ }
 {
-    let early = decision::first_refusal(
-        m,
-        s,
-        keys,
-        bits,
-        n,
-        summary,
-        log_keys,
-        log_values,
-        used,
-        in_force,
-    );
-    if early != 0 {
-        return Decision::Refused(early);
-    }
-    if in_force == 0 {
-        return Decision::Refused(11);
-    }
     let last = entry::last_entry(log_keys, log_values, in_force);
     let start = last.start;
     let count = last.count;
@@ -102,34 +86,25 @@ fn put_back(
     )
 }
 
-// The content of the last entry in force goes back into its block, the summary follows, and the entry is no longer in force. The log stays.
-pub fn take_back(
+// The content of the last entry in force, which is a single one, goes back into its block, and the summary follows.
+fn take_entry_back(
     m: u32,
     s: u32,
     keys: &mut [u32],
     bits: &mut [u32],
     n: usize,
     summary: &mut [u32],
-    log_keys: &mut [u32],
-    log_values: &mut [u32],
+    log_keys: &[u32],
+    log_values: &[u32],
     used: usize,
     in_force: usize,
 ) -> Edited
+    requires { ⌜ Takeable m s (now keys) (now bits) n (now summary) (now «log_keys») (now «log_values») used «in_force»
+        × (endsInMark (recordsOf (now «log_keys») (now «log_values») «in_force») ≡ false) ⌝ }
     ensures { λ r. ⌜ TakenBack m s (now (keys .entry)) (now (bits .entry)) n (now (summary .entry)) (now («log_keys» .entry)) (now («log_values» .entry)) used «in_force»
-        r (now (keys .exit)) (now (bits .exit)) (now (summary .exit)) (now («log_keys» .exit)) (now («log_values» .exit)) ⌝ }
+        r (now (keys .exit)) (now (bits .exit)) (now (summary .exit)) (now («log_keys» .entry)) (now («log_values» .entry)) ⌝ }
 {
-    let decision = decide(
-        m,
-        s,
-        keys,
-        bits,
-        n,
-        summary,
-        log_keys,
-        log_values,
-        used,
-        in_force,
-    );
+    let decision = decide(m, keys, bits, n, log_keys, log_values, in_force);
     match decision {
         Decision::Refused(refusal) => {
             return Edited {
@@ -151,4 +126,77 @@ pub fn take_back(
             };
         }
     }
+}
+
+// The last step in force is taken back: the contents of its entries go into their blocks, the last first, the summary follows, and the step is no longer in
+// force. The log stays.
+pub fn take_back(
+    m: u32,
+    s: u32,
+    keys: &mut [u32],
+    bits: &mut [u32],
+    n: usize,
+    summary: &mut [u32],
+    log_keys: &mut [u32],
+    log_values: &mut [u32],
+    used: usize,
+    in_force: usize,
+) -> Edited
+    ensures { λ r. ⌜ TakenBack m s (now (keys .entry)) (now (bits .entry)) n (now (summary .entry)) (now («log_keys» .entry)) (now («log_values» .entry)) used «in_force»
+        r (now (keys .exit)) (now (bits .exit)) (now (summary .exit)) (now («log_keys» .exit)) (now («log_values» .exit)) ⌝ }
+{
+    let early = decision::first_refusal(
+        m,
+        s,
+        keys,
+        bits,
+        n,
+        summary,
+        log_keys,
+        log_values,
+        used,
+        in_force,
+    );
+    if early != 0 {
+        return Edited {
+            refusal: early,
+            n: 0,
+            used: 0,
+            in_force: 0,
+        };
+    }
+    if in_force == 0 {
+        return Edited {
+            refusal: 11,
+            n: 0,
+            used: 0,
+            in_force: 0,
+        };
+    }
+    if steps::ends_in_mark(log_keys, log_values, in_force) {
+        return take_back_group::take_group_back(
+            m,
+            s,
+            keys,
+            bits,
+            n,
+            summary,
+            log_keys,
+            log_values,
+            used,
+            in_force,
+        );
+    }
+    take_entry_back(
+        m,
+        s,
+        keys,
+        bits,
+        n,
+        summary,
+        log_keys,
+        log_values,
+        used,
+        in_force,
+    )
 }

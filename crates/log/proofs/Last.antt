@@ -9,20 +9,23 @@ use lib.ListN.{length, getD}
 use Rattle.keys.specs.Key.{validKey}
 use Rattle.definitions.specs.List.{Record, recordOf}
 use Rattle.definitions.specs.Read.{recordsOf}
-use Rattle.definitions.specs.Log.{closingPlaces, countRecord, lastRecord, lastKey, lastFeature, lastCount, beforeLast, lastContent, isContent, isSound}
+use Rattle.definitions.specs.Log.{closingPlaces, countRecord, lastRecord, lastKey, lastFeature, lastCount, beforeLast, lastContent, isContent, endsInMark, isSound}
 use Rattle.definitions.proofs.LastEntry.{length-before, content-place, length-content}
-use Rattle.definitions.proofs.SoundLog.{content-not-empty, sound-ends}
+use Rattle.definitions.proofs.LogEntries.{content-not-empty, EndsInEntry}
+use Rattle.definitions.proofs.SoundLog.{sound-ends}
 use Rattle.definitions.proofs.Records.{records-length, records-at, records-run}
 use Rattle.log.specs.declared.entry.Entry.{Entry}
 use Rattle.log.specs.Entries.{closingKey, closingFeature, closingCount, lastEntry, Ended, run}
 
-module _ (keys values : List ℕ) (used : ℕ) (in-keys : used ≤ length keys) (in-values : used ≤ length values) (some : closingPlaces ≤ used) where
-  last-record-at : lastRecord (recordsOf keys values used) ≡ recordOf (closingKey keys used) (closingFeature values used)
-  unfolding lastRecord
-  last-record-at =
-      ap (λ n. getD (recordsOf keys values used) (n - 1) (recordOf 0 0)) (records-length keys values used in-keys in-values)
-      ∙ records-at keys values used in-keys in-values (used - 1) (omega arith)
+-- the last record stands in the last place that is used
+pub last-record-at : (keys values : List ℕ) (used : ℕ) → used ≤ length keys → used ≤ length values → 0 < used
+    → lastRecord (recordsOf keys values used) ≡ recordOf (closingKey keys used) (closingFeature values used)
+unfolding lastRecord
+last-record-at keys values used in-keys in-values some =
+    ap (λ n. getD (recordsOf keys values used) (n - 1) (recordOf 0 0)) (records-length keys values used in-keys in-values)
+    ∙ records-at keys values used in-keys in-values (used - 1) (omega arith)
 
+module _ (keys values : List ℕ) (used : ℕ) (in-keys : used ≤ length keys) (in-values : used ≤ length values) (some : closingPlaces ≤ used) where
   -- the record before the last
   pub count-record-at : countRecord (recordsOf keys values used) ≡ recordOf (getD keys (used - 2) 0) (closingCount values used)
   unfolding countRecord
@@ -33,12 +36,12 @@ module _ (keys values : List ℕ) (used : ℕ) (in-keys : used ≤ length keys) 
   -- the last entry's key stands in the last place that is used
   pub last-key-at : lastKey (recordsOf keys values used) ≡ closingKey keys used
   unfolding lastKey
-  last-key-at = ap (λ x. x .key) last-record-at
+  last-key-at = ap (λ x. x .key) (last-record-at keys values used in-keys in-values (omega arith))
 
   -- and so does its feature
   pub last-feature-at : lastFeature (recordsOf keys values used) ≡ closingFeature values used
   unfolding lastFeature
-  last-feature-at = ap (λ x. x .value) last-record-at
+  last-feature-at = ap (λ x. x .value) (last-record-at keys values used in-keys in-values (omega arith))
 
   -- its count stands before them
   pub last-count-at : lastCount (recordsOf keys values used) ≡ closingCount values used
@@ -91,13 +94,20 @@ module _ {keys values : List ℕ} {used : ℕ} (e : Ended keys values used) wher
         let start : used - taken ≡ length (beforeLast log) = omega arith in
         λ i. record { key = key i; start = start i; count = a i; feature = feature i }
 
--- records that are there and divide into entries
+-- records that are there and divide into steps
 pub record SoundLog (m s : ℕ) (keys values : List ℕ) (used : ℕ) : Type 0 where
   pub in-keys : used ≤ length keys
   pub in-values : used ≤ length values
   pub sound : isSound m s (recordsOf keys values used) ≡ true
 
--- the last entry of a sound log with records
+-- records that end in an entry: it is all there
+pub entry-ended : {m s : ℕ} {keys values : List ℕ} {used : ℕ} → used ≤ length keys → used ≤ length values → EndsInEntry m s (recordsOf keys values used)
+    → Ended keys values used
+entry-ended {keys = keys} {values} {used} in-keys in-values ends =
+    let size = records-length keys values used in-keys in-values in
+    record { in-keys = in-keys; in-values = in-values; all-there = omega (arith, ends .all-there) }
+
+-- the last entry of a sound log with records that does not end in a group
 pub record LastEntry (m s : ℕ) (keys values : List ℕ) (used : ℕ) : Type 0 where
   pub ended : Ended keys values used
   pub some-content : 0 < lastCount (recordsOf keys values used)
@@ -113,11 +123,12 @@ not-none m s κ [] e = absurd (let z : _≡_ {A = Bool} true false = sym e ∙ c
 not-none m s κ (x ∷ content) e = omega arith
 
 -- a sound log with records has one
-pub last-entry : {m s : ℕ} {keys values : List ℕ} {used : ℕ} → SoundLog m s keys values used → 0 < used → LastEntry m s keys values used
-last-entry {m} {s} {keys} {values} {used} sound some =
+pub last-entry : {m s : ℕ} {keys values : List ℕ} {used : ℕ} → SoundLog m s keys values used → 0 < used → endsInMark (recordsOf keys values used) ≡ false
+    → LastEntry m s keys values used
+last-entry {m} {s} {keys} {values} {used} sound some mark =
     let size = records-length keys values used (sound .in-keys) (sound .in-values) in
-    let ends = sound-ends m s (recordsOf keys values used) (sound .sound) (omega arith) in
-    let ended : Ended keys values used = record { in-keys = sound .in-keys; in-values = sound .in-values; all-there = omega (arith, ends .all-there) } in
+    let ends = sound-ends m s (recordsOf keys values used) (sound .sound) (omega arith) mark in
+    let ended : Ended keys values used = entry-ended (sound .in-keys) (sound .in-values) ends in
     let content = content-length ended in
     let records = not-none m s (lastKey (recordsOf keys values used)) (lastContent (recordsOf keys values used)) (ends .correct) in
     record { ended = ended; some-content = omega arith; valid = ends .valid; correct = ends .correct }

@@ -2,6 +2,11 @@ pub mod Last
 pub mod Places
 pub mod Written
 pub mod Tests
+pub mod Mark
+pub mod Walk
+pub mod Group
+pub mod StepPlaces
+pub mod GroupEntries
 pub mod Sound
 pub mod First
 pub mod Parts

@@ -1,4 +1,5 @@
--- The content of a last entry as code lends it: the first bits of it, and the parts of the log's two slices that hold it. Rests on Last.
+-- The last entry as code finds and lends it: what stands before it, the first bits of its content, and the parts of the log's two slices that hold that.
+-- Rests on Last.
 use Prim.Native.Nat.{ℕ, _+_, _-_, _≤_, _<_}
 use mathlib.Core.Path.{_≡_, sym, ap, ap₂, _∙_}
 use mathlib.Core.List.{List}
@@ -9,7 +10,8 @@ use lib.Seq.{length-take-le, take-take, getD-take, getD-drop}
 use Rattle.definitions.specs.List.{keysOf, valuesOf}
 use Rattle.definitions.specs.Read.{room, paired, recordsOf}
 use Rattle.definitions.specs.Log.{closingPlaces, lastCount, beforeLast, lastContent}
-use Rattle.definitions.proofs.Records.{paired-keys, paired-values, paired-length}
+use Rattle.definitions.proofs.LastEntry.{before-place}
+use Rattle.definitions.proofs.Records.{paired-keys, paired-values, paired-length, records-first}
 use Rattle.log.specs.declared.entry.Entry.{Entry}
 use Rattle.log.specs.Entries.{lastEntry, Ended, run, contentPart}
 use Rattle.log.proofs.Last.{log, entry-places, content-run}
@@ -43,6 +45,14 @@ module _ {keys values : List ℕ} {used : ℕ} (e : Ended keys values used) (las
   -- the content and what closes it are the last places used
   pub places-are : last .start + (last .count + closingPlaces) ≡ used
   places-are = ap₂ (λ a b. a + (b + closingPlaces)) start-is count-is ∙ entry-places e
+
+  -- what stands before it are the first records
+  pub before-is : beforeLast (log e) ≡ recordsOf keys values (last .start)
+  before-is =
+      let all = places-are in
+      before-place (log e)
+      ∙ ap (λ n. take n (log e)) (sym start-is)
+      ∙ records-first keys values used (last .start) (omega arith)
 
   content-is : lastContent (log e) ≡ run keys values (last .start) (last .count)
   content-is = content-run e ∙ sym (ap₂ (run keys values) start-is count-is)

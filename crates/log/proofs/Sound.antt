@@ -1,21 +1,29 @@
--- A log from its end: what stands before the last entry is sound or not, as the log is, and the answers of the check. Rests on Last.
+-- A log from its end: what stands before the last step is sound or not, as the log is, and the answers of the check. Rests on StepPlaces.
 use Prim.Native.Nat.{ℕ, _≤_, _<_}
 use mathlib.Core.Path.{_≡_, refl, sym, ap, _∙_}
-use mathlib.Core.Bool.{Bool, true, false, not, _&&_}
+use mathlib.Core.Bool.{Bool, true, false, cond, not, _&&_}
 use mathlib.Core.List.{List}
 use native.Mathlib.Omega.{arith}
-use lib.ListN.{length, take}
+use lib.ListN.{length}
 use borrow.Author.Tests.{not-true, not-false}
+use Rattle.definitions.specs.List.{Record}
 use Rattle.definitions.specs.Read.{paired, recordsOf}
-use Rattle.definitions.specs.Log.{beforeLast, lastIsEntry, isSound}
-use Rattle.definitions.proofs.SoundLog.{empty-sound, ends-in-entry, sound-step}
-use Rattle.definitions.proofs.LastEntry.{before-place}
-use Rattle.definitions.proofs.Records.{records-length, records-first}
-use Rattle.log.specs.declared.entry.Entry.{Entry}
-use Rattle.log.specs.Entries.{lastEntry, Ended}
-use Rattle.log.proofs.Places.{start-is, places-are}
+use Rattle.definitions.specs.Log.{endsInMark, beforeStep, lastIsEntry, lastIsGroup, lastIsStep, isSound}
+use Rattle.definitions.proofs.LastStep.{step-single, step-group}
+use Rattle.definitions.proofs.SoundLog.{empty-sound, sound-step}
+use Rattle.definitions.proofs.Records.{records-length}
+use Rattle.log.specs.declared.step.Step.{Step}
+use Rattle.log.specs.Steps.{lastStep, Stepped}
+use Rattle.log.proofs.StepPlaces.{start-below, before-step-is}
 
--- the entries from `end` on have passed
+-- the mark says which check decides
+pub group-decides : (m s : ℕ) (log : List Record) (r a : Bool) → r ≡ endsInMark log → r ≡ true → a ≡ lastIsGroup m s log → a ≡ lastIsStep m s log
+group-decides m s log r a told marked answer = answer ∙ sym (step-group log (sym told ∙ marked) m s)
+
+pub single-decides : (m s : ℕ) (log : List Record) (r a : Bool) → r ≡ endsInMark log → r ≡ false → a ≡ lastIsEntry m s log → a ≡ lastIsStep m s log
+single-decides m s log r a told single answer = answer ∙ sym (step-single log (sym told ∙ single) m s)
+
+-- the steps from `end` on have passed
 pub record Passed (m s : ℕ) (keys values : List ℕ) (used end : ℕ) : Type 0 where
   pub within : end ≤ used
   pub in-keys : used ≤ length keys
@@ -39,43 +47,38 @@ module _ {m s : ℕ} {keys values : List ℕ} {used end : ℕ} (p : Passed m s k
     has : 0 < length (recordsOf keys values end)
     has = let size = records-length keys values end (omega arith) (omega arith) in omega arith
 
-    -- what the check of the last entry has answered
-    module _ (r : Bool) (told : r ≡ lastIsEntry m s (recordsOf keys values end)) where
-      -- the last records are no entry
+    -- what the check of the last step has answered
+    module _ (r : Bool) (told : r ≡ lastIsStep m s (recordsOf keys values end)) where
+      -- the last records are no step
       pub stops : not r ≡ true → false ≡ isSound m s (recordsOf keys values used)
       stops e =
           answer
           (sound-step m s (recordsOf keys values end) has
-          ∙ ap (λ b. b && isSound m s (beforeLast (recordsOf keys values end))) (sym told ∙ not-true r e))
+          ∙ ap (λ b. b && isSound m s (beforeStep (recordsOf keys values end))) (sym told ∙ not-true r e))
 
       module _ (passes : not r ≡ false) where
-        entry : lastIsEntry m s (recordsOf keys values end) ≡ true
-        entry = sym told ∙ not-false r passes
+        step : lastIsStep m s (recordsOf keys values end) ≡ true
+        step = sym told ∙ not-false r passes
 
-        -- the last entry is all there
-        pub ended : Ended keys values end
-        ended =
-            let size = records-length keys values end (omega arith) (omega arith) in
-            record { in-keys = omega arith; in-values = omega arith; all-there = omega (arith, ends-in-entry m s (recordsOf keys values end) entry .all-there) }
+        -- they are one
+        pub stepped : Stepped keys values end
+        stepped = record { m = m; s = s; in-keys = omega arith; in-values = omega arith; step = step }
 
-        module _ (last : Entry) (found : last ≡ lastEntry (recordsOf keys values end)) where
+        module _ (last : Step) (found : last ≡ lastStep (recordsOf keys values end)) where
           -- it has places
           pub falls : last .start < end
-          falls = let all = places-are ended last found in omega arith
+          falls = start-below keys values end (stepped .in-keys) (stepped .in-values) last found some
 
           -- and is passed
           pub turns : Passed m s keys values used (last .start)
           turns =
-              let all = places-are ended last found in
+              let less = falls in
               record {
                 within = omega arith;
                 in-keys = p .in-keys;
                 in-values = p .in-values;
                 same = p .same
                     ∙ sound-step m s (recordsOf keys values end) has
-                    ∙ ap (λ b. b && isSound m s (beforeLast (recordsOf keys values end))) entry
-                    ∙ ap (isSound m s)
-                    (before-place (recordsOf keys values end)
-                    ∙ ap (λ n. take n (recordsOf keys values end)) (sym (start-is ended last found))
-                    ∙ records-first keys values end (last .start) (omega arith));
+                    ∙ ap (λ b. b && isSound m s (beforeStep (recordsOf keys values end))) step
+                    ∙ ap (isSound m s) (before-step-is keys values end (stepped .in-keys) (stepped .in-values) last found);
               }

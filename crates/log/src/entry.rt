@@ -3,8 +3,8 @@ ghost use mathlib.Core.Path.{_≡_};
 ghost use Prim.Native.Nat.{_+_, _≤_, _<_, _^_};
 ghost use lib.ListN.{length};
 ghost use Rattle.definitions.specs.Read.{room, recordsOf};
-ghost use Rattle.definitions.specs.Log.{closed, closingPlaces, firstEntry};
-ghost use Rattle.log.specs.Entries.{closingCount, isClosed, lastEntry, Ended, run, Loggable, Logged, Cleared, Divided};
+ghost use Rattle.definitions.specs.Log.{closed, closingPlaces};
+ghost use Rattle.log.specs.Entries.{closingCount, isClosed, lastEntry, Ended, run, Loggable, Logged, Cleared};
 
 // The block's key, the place in the log where the content starts, how many records that has, and the feature that the block was painted with.
 pub struct Entry {
@@ -62,20 +62,6 @@ pub fn last_entry(keys: &[u32], values: &[u32], used: usize) -> Entry
         count,
         feature,
     }
-}
-
-// The first entry of the used records. It is found from the end: one entry after the other, until none stands before.
-pub fn first_entry(keys: &[u32], values: &[u32], used: usize) -> Entry
-    requires { ⌜ Divided (now keys) (now values) used ⌝ }
-    ensures { λ r. ⌜ r ≡ lastEntry (firstEntry (recordsOf (now (keys .entry)) (now (values .entry)) used)) ⌝ }
-{
-    let mut end = used;
-    let mut start = last_entry(keys, values, used).start;
-    while 0 < start {
-        end = start;
-        start = last_entry(keys, values, end).start;
-    }
-    last_entry(keys, values, end)
 }
 
 // Writes an entry from its start on: its content, which two slices have from a place on, and the closing records. Gives the place past it.

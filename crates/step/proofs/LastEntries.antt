@@ -6,7 +6,7 @@ use native.Mathlib.Nat.{le-refl}
 use native.Mathlib.Omega.{arith}
 use lib.ListN.{length}
 use Rattle.definitions.specs.Read.{recordsOf}
-use Rattle.definitions.proofs.SoundLog.{EndsInEntry}
+use Rattle.definitions.proofs.LogEntries.{EndsInEntry}
 use Rattle.definitions.proofs.Records.{records-length}
 use Rattle.log.specs.Entries.{lastEntry, Ended}
 use Rattle.log.proofs.Last.{entry-places}

@@ -12,7 +12,7 @@ use Rattle.definitions.specs.Picture.{Picture}
 use Rattle.definitions.specs.List.{Record}
 use Rattle.definitions.specs.Read.{recordsOf, pictureOf}
 use Rattle.definitions.specs.Edit.{put, paintIn}
-use Rattle.definitions.specs.Log.{lastKey, lastFeature, lastContent, beforeLast}
+use Rattle.definitions.specs.Log.{lastKey, lastFeature, lastContent, beforeLast, putBack, paintAgain}
 use Rattle.definitions.proofs.Put.{put-in, put-out}
 use Rattle.definitions.proofs.LastEntry.{before-place}
 use Rattle.definitions.proofs.Records.{records-first}
@@ -23,7 +23,7 @@ use Rattle.step.specs.declared.run.Run.{Run}
 use Rattle.step.specs.declared.deed.Deed.the-variants.{Back, Again}
 use Rattle.step.specs.Step.{over, plain}
 use Rattle.step.specs.Deed.{stepOf}
-use Rattle.step.specs.Runs.{Gift, touched, giftsStep, backGift, againGift, lastFirst, firstFirst, Chain, done, more, EntriesIn, lastOfRun, putBack, paintAgain}
+use Rattle.step.specs.Runs.{Gift, touched, giftsStep, backGift, againGift, lastFirst, firstFirst, Chain, done, more, EntriesIn, lastOfRun}
 use Rattle.step.proofs.Pruned.{over-in, over-out}
 use Rattle.step.proofs.Gifts.{touched-cons, touched-none, given-this, given-later}
 use Rattle.step.proofs.Chains.{Ends, ends-ended, ends-less, chain-more, last-none, onto, first-onto}

@@ -12,9 +12,7 @@ use Rattle.definitions.specs.Picture.{Picture}
 use Rattle.definitions.specs.List.{Record, valuesOf}
 use Rattle.definitions.specs.Read.{recordsOf, pictureOf}
 use Rattle.definitions.specs.Standing.{placeOf}
-use Rattle.definitions.specs.Edit.{put, paintIn}
-use Rattle.definitions.specs.Log.{lastKey, lastFeature, beforeLast, lastContent}
-use Rattle.definitions.proofs.SoundLog.{EndsInEntry}
+use Rattle.definitions.proofs.LogEntries.{EndsInEntry}
 use Rattle.list.specs.Check.{oneSlot}
 use Rattle.list.specs.Sorted.{Sorted}
 use Rattle.log.specs.declared.entry.Entry.{Entry}
@@ -137,16 +135,6 @@ pub record Held (e : Entry) (logKeys logValues : List ℕ) (κ : ℕ) : Type 0 w
 pub record Asking (m : ℕ) (e : Entry) (logKeys logValues : List ℕ) (κ : ℕ) : Type 0 where
   pub slot : e .feature ≤ 31
   pub held : inInterval m (e .key) κ ≡ true → Held e logKeys logValues κ
-
--- the last count entries of a log put back, the last first
-unfoldable pub putBack : (count m : ℕ) (log : List Record) (p : Picture) → Picture
-putBack zero m log p = p
-putBack (suc count) m log p = putBack count m (beforeLast log) (put m (lastKey log) (pictureOf m (lastContent log)) p)
-
--- their blocks painted again, the first first
-unfoldable pub paintAgain : (count m : ℕ) (log : List Record) (p : Picture) → Picture
-paintAgain zero m log p = p
-paintAgain (suc count) m log p = paintIn m (lastKey log) (lastFeature log) (paintAgain count m (beforeLast log) p)
 
 -- the place where the last count entries before a place start
 unfoldable pub startBack : (count : ℕ) (logKeys logValues : List ℕ) (end : ℕ) → ℕ

@@ -1,6 +1,6 @@
 -- `is_sound` meets its contract: after each turn the records are sound exactly when those that are left are.
 use native.Mathlib.Omega.{arith}
-use Rattle.log.proofs.Sound.{Passed, begins, ends, stops, ended, falls, turns}
+use Rattle.log.proofs.Sound.{Passed, begins, ends, stops, stepped, falls, turns}
 use Rattle.log.proofs.is_sound.Statement.{statement}
 use Rattle.log.proofs.is_sound.Tie as tie
 
@@ -13,31 +13,31 @@ abbrev μ-loop : tie.MeasureT-loop
 loop-holds : tie.Need-loop-holds Inv-loop μ-loop
 loop-holds c = let start = c .before .before in begins _ _ _ _ _ (start .pre .2) (start .pre .3)
 
-ends-in-entry-requires : tie.Need-ends-in-entry-requires Inv-loop μ-loop
-ends-in-entry-requires c κs = omega arith
+ends-in-step-requires : tie.Need-ends-in-step-requires Inv-loop μ-loop
+ends-in-step-requires c κs = omega arith
 
 returns : tie.Need-returns Inv-loop μ-loop
 returns c =
     let turn = c .before .before in
-    stops (turn .before .loop .inv) (turn .loop-test .taken) (c .before .ends-in-entry .result) (c .before .ends-in-entry .ensures) (c .if1 .taken)
+    stops (turn .before .loop .inv) (turn .loop-test .taken) (c .before .ends-in-step .result) (c .before .ends-in-step .ensures) (c .if1 .taken)
 
-last-entry-requires : tie.Need-last-entry-requires Inv-loop μ-loop
-last-entry-requires c κs =
+last-step-requires : tie.Need-last-step-requires Inv-loop μ-loop
+last-step-requires c κs =
     let turn = c .before .before in
-    let check = c .before .ends-in-entry in
-    ended (turn .before .loop .inv) (turn .loop-test .taken) (check .result) (check .ensures) (c .if1 .left)
+    let check = c .before .ends-in-step in
+    stepped (turn .before .loop .inv) (turn .loop-test .taken) (check .result) (check .ensures) (c .if1 .left)
 
 loop-less : tie.Need-loop-less Inv-loop μ-loop
 loop-less c =
     let turn = c .before .before .before in
-    let check = c .before .before .ends-in-entry in
-    falls (turn .before .loop .inv) (turn .loop-test .taken) (check .result) (check .ensures) (c .before .if1 .left) _ (c .last-entry .ensures)
+    let check = c .before .before .ends-in-step in
+    falls (turn .before .loop .inv) (turn .loop-test .taken) (check .result) (check .ensures) (c .before .if1 .left) _ (c .last-step .ensures)
 
 loop-again : tie.Need-loop-again Inv-loop μ-loop
 loop-again c =
     let turn = c .before .before .before in
-    let check = c .before .before .ends-in-entry in
-    turns (turn .before .loop .inv) (turn .loop-test .taken) (check .result) (check .ensures) (c .before .if1 .left) _ (c .last-entry .ensures)
+    let check = c .before .before .ends-in-step in
+    turns (turn .before .loop .inv) (turn .loop-test .taken) (check .result) (check .ensures) (c .before .if1 .left) _ (c .last-step .ensures)
 
 returns-2 : tie.Need-returns-2 Inv-loop μ-loop
 returns-2 c = ends (c .before .loop .inv) (c .loop-test .left)
@@ -49,9 +49,9 @@ is-sound-spec =
     Inv-loop
     μ-loop
     loop-holds
-    ends-in-entry-requires
+    ends-in-step-requires
     returns
-    last-entry-requires
+    last-step-requires
     loop-less
     loop-again
     returns-2)

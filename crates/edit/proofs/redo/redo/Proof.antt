@@ -1,65 +1,35 @@
--- `redo::redo` meets its contract: a refusal leaves all as it is; else the block is filled again, and the summary is counted anew.
-use Prim.Native.Nat.{_+_, _≤_}
-use mathlib.Core.Path.{_≡_, ap, _∙_}
+-- `redo::redo` meets its contract: the refusals up to 20 leave all as it is, and the next step's kind says which way it is redone.
+use mathlib.Core.Path.{sym, _∙_}
 use native.Mathlib.Omega.{arith}
-use lib.ListN.{length}
-use Rattle.definitions.specs.Read.{recordsOf}
-use Rattle.definitions.specs.Log.{closingPlaces, firstEntry, toRedo}
-use Rattle.definitions.specs.Calls.Redo.{redoRefusal}
-use Rattle.edit.specs.PaintCall.{Paintable}
-use Rattle.edit.specs.RedoCall.{nextEntry, redoPlan}
-use Rattle.edit.proofs.Decided.{refused, granted}
-use Rattle.edit.proofs.EditCallTables.{passed-settings, passed-own, passed-summary, passed-log}
-use Rattle.edit.proofs.PaintPlan.{paint-outdated}
-use Rattle.edit.proofs.RedoPlan.{redo-paintable, next-places, redo-paints, redo-made, redo-counted}
-use Rattle.edit.proofs.RedoTable.{RedoPassed, redo-passed}
-use Rattle.edit.proofs.RedoAnswers.{redo-refused, redo-done}
+use Rattle.edit.specs.RedoCall.{Redoable}
+use Rattle.edit.proofs.EditCallTables.{FirstPassed, first-passed, passed-log}
+use Rattle.edit.proofs.RedoPlan.{next-single, next-group}
+use Rattle.edit.proofs.RedoTable.{redo-early, none-to-redo, to-redo}
+use Rattle.edit.proofs.RedoAnswers.{redo-refused}
 use borrow.Author.Needs.{needs}
 use Rattle.edit.proofs.redo.redo.Statement.{statement}
 use Rattle.edit.proofs.redo.redo.Tie as tie
 
--- the start, from the decision
-abbrev start : tie.After-decide → tie.Start
+-- the start, from the first refusal
+abbrev start : tie.After-first-refusal → tie.Start
 start c = c .before .before .before .before .before .before .before .before .before .before .before
 
--- nothing refuses it, and it goes by the next entry and its plan
-goes : (c : tie.After-known-told2)
-    → (let a = start (c .before .before .before) .args in
-    (redoRefusal (a .m) (a .s) (a .keys .now) (a .bits .now) (a .n) (a .summary .now) (a .log-keys .now) (a .log-values .now) (a .used) (a .in-force) ≡ 0)
-    × (c .before .decision2 .given .0 .0 ≡ nextEntry (toRedo (a .log-keys .now) (a .log-values .now) (a .used) (a .in-force)))
-    × (c .before .decision2 .given .0 .1 .0
-    ≡ redoPlan (a .m) (recordsOf (a .keys .now) (a .bits .now) (a .n)) (toRedo (a .log-keys .now) (a .log-values .now) (a .used) (a .in-force))))
-goes c = granted _ _ _ _ (c .before .before .before .decide .ensures) _ _ (c .before .decision2 .given .1)
+-- the first rows are passed
+rows : (c : tie.Else1)
+    → (let a = start (c .before) .args in
+    FirstPassed (a .m) (a .s) (a .keys .now) (a .bits .now) (a .n) (a .summary .now) (a .log-keys .now) (a .log-values .now) (a .used) (a .in-force))
+rows c = first-passed _ (c .before .first-refusal .ensures) (c .if1 .left)
 
--- so it has passed every row
-passed : (c : tie.After-known-told2)
-    → (let a = start (c .before .before .before) .args in
-    RedoPassed (a .m) (a .s) (a .keys .now) (a .bits .now) (a .n) (a .summary .now) (a .log-keys .now) (a .log-values .now) (a .used) (a .in-force))
-passed c = redo-passed _ _ _ _ _ _ _ _ _ _ (goes c .0)
+-- and 20 too
+redoable : (c : tie.Else2)
+    → (let a = start (c .before .before) .args in
+    Redoable (a .m) (a .s) (a .keys .now) (a .bits .now) (a .n) (a .summary .now) (a .log-keys .now) (a .log-values .now) (a .used) (a .in-force))
+redoable c =
+    let within = passed-log (rows (c .before)) .within in
+    record { passed = sym (c .before .before .first-refusal .ensures) ∙ c .before .if1 .left; some = let h = c .if2 .left in omega arith }
 
--- and the next entry can be painted
-paintable : (c : tie.After-known-told2)
-    → (let a = start (c .before .before .before) .args in
-    let next = c .before .decision2 .given .0 .0 in
-    Paintable (a .m) (a .keys .now) (a .bits .now) (a .n) (next .key) (next .feature))
-paintable c =
-    let p = passed c in
-    let rows = p .first-rows in
-    redo-paintable (passed-log rows) (p .some) _ (goes c .1) (passed-settings rows .deep) (passed-settings rows .few) (passed-own rows)
-
--- its places are the next ones
-places-next : (c : tie.After-known-told2)
-    → (let a = start (c .before .before .before) .args in
-    let next = c .before .decision2 .given .0 .0 in
-    (a .in-force + (next .count + closingPlaces) ≡ a .in-force + length (firstEntry (toRedo (a .log-keys .now) (a .log-values .now) (a .used) (a .in-force))))
-    × (a .in-force + (next .count + closingPlaces) ≤ a .used))
-places-next c = let p = passed c in next-places (passed-log (p .first-rows)) (p .some) _ (goes c .1)
-
-decide-requires : tie.Need-decide-requires
-decide-requires c κs = search needs
-
-enum-known-decision : tie.Need-enum-known-decision
-enum-known-decision c = search needs
+first-refusal-requires : tie.Need-first-refusal-requires
+first-refusal-requires c κs = search needs
 
 same-length : tie.Need-same-length
 same-length c = search needs
@@ -77,35 +47,7 @@ same-length-5 : tie.Need-same-length-5
 same-length-5 c = search needs
 
 returns : tie.Need-returns
-returns c =
-    let told = refused _ _ _ _ (c .before .before .before .decide .ensures) _ (c .before .decision .given .1) in
-    redo-refused _ _ _ _ _ _ _ _ _ _ _ (told .0) (told .1)
-
-enum-known-decision-2 : tie.Need-enum-known-decision-2
-enum-known-decision-2 c = search needs
-
-fill-requires : tie.Need-fill-requires
-fill-requires c κs =
-    let d = c .before .before in
-    let paints = redo-paints _ _ _ _ (goes d .1) _ _ (goes d .2) (passed d .list-fits) in
-    (paintable d, (paints .0, paints .1))
-
-recount-requires : tie.Need-recount-requires
-recount-requires c κs =
-    let filled = c .before .before .before .before .before .before .before in
-    let d = filled .before .before .before in
-    let rows = passed d .first-rows in
-    paint-outdated _ (paintable d) (filled .fill .ensures) _ (let few = passed-settings rows .few in omega arith) (passed-summary rows)
-
-places-requires : tie.Need-places-requires
-places-requires c κs =
-    let d = c .before .before .before .before .before .before .before .before .before .before .before .before .before in
-    omega (arith, places-next d .1, passed-log (passed d .first-rows) .in-keys, start (d .before .before .before) .good)
-
-add-now : tie.Need-add-now
-add-now c =
-    let d = c .before .before .before .before .before .before .before .before .before .before .before .before .before .before in
-    omega (arith, places-next d .1, c .places .ensures, passed-log (passed d .first-rows) .in-keys, start (d .before .before .before) .good)
+returns c = redo-refused _ _ _ _ _ _ _ _ _ _ _ (redo-early _ _ _ _ _ _ _ _ _ _ _ (c .before .first-refusal .ensures) (c .if1 .taken)) (c .if1 .taken)
 
 same-length-6 : tie.Need-same-length-6
 same-length-6 c = search needs
@@ -123,34 +65,90 @@ same-length-10 : tie.Need-same-length-10
 same-length-10 c = search needs
 
 returns-2 : tie.Need-returns-2
-returns-2 c =
-    let counted = c .before .before .before in
-    let filled = counted .before .before .before .before .before .before .before .before in
-    let d = filled .before .before .before in
-    redo-done _ _ _ _ _ _ _ _ _ _ (goes d .0) (ap (λ x. start (d .before .before .before) .args .in-force + x) (c .places .ensures) ∙ places-next d .0)
-    (redo-made _ _ (goes d .1) (paintable d) (filled .fill .ensures))
-    (redo-counted _ _ (goes d .1) (paintable d) (filled .fill .ensures) _ _ (counted .recount .ensures))
+returns-2 c = redo-refused _ _ _ _ _ _ _ _ _ _ 20 (none-to-redo _ _ _ _ _ _ _ _ _ _ (rows (c .before)) (c .if2 .taken)) (λ e. omega arith)
+
+next-step-requires : tie.Need-next-step-requires
+next-step-requires c κs = to-redo _ _ _ _ _ _ _ _ _ _ (redoable (c .before .before))
+
+redo-group-requires : tie.Need-redo-group-requires
+redo-group-requires c κs =
+    let marked = c .before .before .before .before .before in
+    let next = marked .before in
+    let told = next-group _ _ (next .next-step .ensures) (marked .if3 .taken) in
+    (redoable (next .before .before .before), told .0, told .1)
+
+same-length-11 : tie.Need-same-length-11
+same-length-11 c = search needs
+
+same-length-12 : tie.Need-same-length-12
+same-length-12 c = search needs
+
+same-length-13 : tie.Need-same-length-13
+same-length-13 c = search needs
+
+same-length-14 : tie.Need-same-length-14
+same-length-14 c = search needs
+
+same-length-15 : tie.Need-same-length-15
+same-length-15 c = search needs
+
+returns-3 : tie.Need-returns-3
+returns-3 c = c .before .before .before .before .before .before .redo-group .ensures
+
+redo-entry-requires : tie.Need-redo-entry-requires
+redo-entry-requires c κs =
+    let single = c .before .before .before .before .before in
+    let next = single .before in
+    let told = next-single _ _ (next .next-step .ensures) (single .if3 .left) in
+    (redoable (next .before .before .before), told .0, told .1)
+
+same-length-16 : tie.Need-same-length-16
+same-length-16 c = search needs
+
+same-length-17 : tie.Need-same-length-17
+same-length-17 c = search needs
+
+same-length-18 : tie.Need-same-length-18
+same-length-18 c = search needs
+
+same-length-19 : tie.Need-same-length-19
+same-length-19 c = search needs
+
+same-length-20 : tie.Need-same-length-20
+same-length-20 c = search needs
+
+returns-4 : tie.Need-returns-4
+returns-4 c = c .before .before .before .before .before .before .redo-entry .ensures
 
 pub redo-spec : {M : Type 1} → statement M
 redo-spec =
     tie.close
     (tie.spec
-    decide-requires
-    enum-known-decision
+    first-refusal-requires
     same-length
     same-length-2
     same-length-3
     same-length-4
     same-length-5
     returns
-    enum-known-decision-2
-    fill-requires
-    recount-requires
-    places-requires
-    add-now
     same-length-6
     same-length-7
     same-length-8
     same-length-9
     same-length-10
-    returns-2)
+    returns-2
+    next-step-requires
+    redo-group-requires
+    same-length-11
+    same-length-12
+    same-length-13
+    same-length-14
+    same-length-15
+    returns-3
+    redo-entry-requires
+    same-length-16
+    same-length-17
+    same-length-18
+    same-length-19
+    same-length-20
+    returns-4)

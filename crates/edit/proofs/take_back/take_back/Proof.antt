@@ -1,50 +1,26 @@
--- `take_back::take_back` meets its contract: a refusal leaves all as it is; else the content goes back, and the summary is counted anew.
-use mathlib.Core.Path.{_≡_}
+-- `take_back::take_back` meets its contract: the refusals up to 11 leave all as it is, and the mark says which way the last step is taken back.
+use mathlib.Core.Path.{sym, _∙_}
 use native.Mathlib.Omega.{arith}
-use Rattle.definitions.specs.Read.{recordsOf}
-use Rattle.definitions.specs.Calls.TakeBack.{takeBackRefusal}
-use Rattle.log.specs.Entries.{lastEntry}
-use Rattle.log.proofs.Places.{start-is}
-use Rattle.edit.specs.TakingBackCall.{Restorable, restorePlan}
-use Rattle.edit.proofs.Decided.{refused, granted}
-use Rattle.edit.proofs.EditCallTables.{passed-settings, passed-summary}
-use Rattle.edit.proofs.TakingBackPlan.{restore-puttable, restore-made, restore-outdated, restore-counted}
-use Rattle.edit.proofs.TakingBackTable.{TakePassed, take-passed, passed-restorable}
-use Rattle.edit.proofs.TakingBackAnswers.{take-refused, take-done}
+use Rattle.edit.specs.TakingBackCall.{Takeable}
+use Rattle.edit.proofs.EditCallTables.{first-passed, passed-force}
+use Rattle.edit.proofs.TakingBackTable.{take-early, take-first, no-entry}
+use Rattle.edit.proofs.TakingBackAnswers.{take-refused}
 use borrow.Author.Needs.{needs}
 use Rattle.edit.proofs.take_back.take_back.Statement.{statement}
 use Rattle.edit.proofs.take_back.take_back.Tie as tie
 
--- the start, from the decision
-abbrev start : tie.After-decide → tie.Start
+-- the start, from the first refusal
+abbrev start : tie.After-first-refusal → tie.Start
 start c = c .before .before .before .before .before .before .before .before .before .before .before
 
--- nothing refuses it, and it goes by the last entry in force and its plan
-goes : (c : tie.After-known-told2)
-    → (let a = start (c .before .before .before) .args in
-    (takeBackRefusal (a .m) (a .s) (a .keys .now) (a .bits .now) (a .n) (a .summary .now) (a .log-keys .now) (a .log-values .now) (a .used) (a .in-force) ≡ 0)
-    × (c .before .decision2 .given .0 .0 ≡ lastEntry (recordsOf (a .log-keys .now) (a .log-values .now) (a .in-force)))
-    × (c .before .decision2 .given .0 .1 .0
-    ≡ restorePlan (a .m) (recordsOf (a .keys .now) (a .bits .now) (a .n)) (recordsOf (a .log-keys .now) (a .log-values .now) (a .in-force))))
-goes c = granted _ _ _ _ (c .before .before .before .decide .ensures) _ _ (c .before .decision2 .given .1)
+-- the rows up to 11 are passed
+takeable : (c : tie.Else2)
+    → (let a = start (c .before .before) .args in
+    Takeable (a .m) (a .s) (a .keys .now) (a .bits .now) (a .n) (a .summary .now) (a .log-keys .now) (a .log-values .now) (a .used) (a .in-force))
+takeable c = record { passed = sym (c .before .before .first-refusal .ensures) ∙ c .before .if1 .left; some = let h = c .if2 .left in omega arith }
 
--- so it has passed every row
-passed : (c : tie.After-known-told2)
-    → (let a = start (c .before .before .before) .args in
-    TakePassed (a .m) (a .s) (a .keys .now) (a .bits .now) (a .n) (a .summary .now) (a .log-keys .now) (a .log-values .now) (a .used) (a .in-force))
-passed c = take-passed _ _ _ _ _ _ _ _ _ _ (goes c .0)
-
--- and the last entry can be put back
-restorable : (c : tie.After-known-told2)
-    → (let a = start (c .before .before .before) .args in
-    Restorable (a .m) (a .keys .now) (a .bits .now) (a .n) (a .log-keys .now) (a .log-values .now) (a .in-force))
-restorable c = let p = passed c in passed-restorable (p .first-rows) (p .some)
-
-decide-requires : tie.Need-decide-requires
-decide-requires c κs = search needs
-
-enum-known-decision : tie.Need-enum-known-decision
-enum-known-decision c = search needs
+first-refusal-requires : tie.Need-first-refusal-requires
+first-refusal-requires c κs = search needs
 
 same-length : tie.Need-same-length
 same-length c = search needs
@@ -62,24 +38,7 @@ same-length-5 : tie.Need-same-length-5
 same-length-5 c = search needs
 
 returns : tie.Need-returns
-returns c =
-    let told = refused _ _ _ _ (c .before .before .before .decide .ensures) _ (c .before .decision .given .1) in
-    take-refused _ _ _ _ _ _ _ _ _ _ _ (told .0) (told .1)
-
-enum-known-decision-2 : tie.Need-enum-known-decision-2
-enum-known-decision-2 c = search needs
-
-put-back-requires : tie.Need-put-back-requires
-put-back-requires c κs = let d = c .before .before .before .before in restore-puttable (restorable d) _ (goes d .1) _ (goes d .2) (passed d .list-fits)
-
-recount-requires : tie.Need-recount-requires
-recount-requires c κs =
-    let put = c .before .before .before .before .before .before .before in
-    let d = put .before .before .before .before .before in
-    let p = passed d in
-    restore-outdated _ (restorable d) _ (goes d .1) (restore-made (restorable d) _ (goes d .1) _ (goes d .2) (put .put-back .ensures)) _
-    (let few = passed-settings (p .first-rows) .few in omega arith)
-    (passed-summary (p .first-rows))
+returns c = take-refused _ _ _ _ _ _ _ _ _ _ _ (take-early _ _ _ _ _ _ _ _ _ _ _ (c .before .first-refusal .ensures) (c .if1 .taken)) (c .if1 .taken)
 
 same-length-6 : tie.Need-same-length-6
 same-length-6 c = search needs
@@ -98,31 +57,91 @@ same-length-10 c = search needs
 
 returns-2 : tie.Need-returns-2
 returns-2 c =
-    let counted = c .before .before in
-    let put = counted .before .before .before .before .before .before .before .before in
-    let d = put .before .before .before .before .before in
-    let made = restore-made (restorable d) _ (goes d .1) _ (goes d .2) (put .put-back .ensures) in
-    take-done _ _ _ _ _ _ _ _ _ _ (goes d .0) (start-is (restorable d .ended) _ (goes d .1)) made
-    (restore-counted _ (restorable d) _ (goes d .1) made _ (counted .recount .ensures))
+    let rows = first-passed _ (c .before .before .first-refusal .ensures) (c .before .if1 .left) in
+    take-refused _ _ _ _ _ _ _ _ _ _ 11 (no-entry _ _ _ _ _ _ _ _ _ _ rows (c .if2 .taken)) (λ e. omega arith)
+
+ends-in-mark-requires : tie.Need-ends-in-mark-requires
+ends-in-mark-requires c κs =
+    let room = passed-force (take-first _ _ _ _ _ _ _ _ _ _ (takeable (c .before .before))) in
+    (omega arith, omega arith)
+
+take-group-back-requires : tie.Need-take-group-back-requires
+take-group-back-requires c κs =
+    let marked = c .before .before .before .before .before in
+    let mark = marked .before in
+    (takeable (mark .before .before .before), sym (mark .ends-in-mark .ensures) ∙ marked .if3 .taken)
+
+same-length-11 : tie.Need-same-length-11
+same-length-11 c = search needs
+
+same-length-12 : tie.Need-same-length-12
+same-length-12 c = search needs
+
+same-length-13 : tie.Need-same-length-13
+same-length-13 c = search needs
+
+same-length-14 : tie.Need-same-length-14
+same-length-14 c = search needs
+
+same-length-15 : tie.Need-same-length-15
+same-length-15 c = search needs
+
+returns-3 : tie.Need-returns-3
+returns-3 c = c .before .before .before .before .before .before .take-group-back .ensures
+
+take-entry-back-requires : tie.Need-take-entry-back-requires
+take-entry-back-requires c κs =
+    let single = c .before .before .before .before .before in
+    let mark = single .before in
+    (takeable (mark .before .before .before), sym (mark .ends-in-mark .ensures) ∙ single .if3 .left)
+
+same-length-16 : tie.Need-same-length-16
+same-length-16 c = search needs
+
+same-length-17 : tie.Need-same-length-17
+same-length-17 c = search needs
+
+same-length-18 : tie.Need-same-length-18
+same-length-18 c = search needs
+
+same-length-19 : tie.Need-same-length-19
+same-length-19 c = search needs
+
+same-length-20 : tie.Need-same-length-20
+same-length-20 c = search needs
+
+returns-4 : tie.Need-returns-4
+returns-4 c = c .before .before .before .before .before .before .take-entry-back .ensures
 
 pub take-back-spec : {M : Type 1} → statement M
 take-back-spec =
     tie.close
     (tie.spec
-    decide-requires
-    enum-known-decision
+    first-refusal-requires
     same-length
     same-length-2
     same-length-3
     same-length-4
     same-length-5
     returns
-    enum-known-decision-2
-    put-back-requires
-    recount-requires
     same-length-6
     same-length-7
     same-length-8
     same-length-9
     same-length-10
-    returns-2)
+    returns-2
+    ends-in-mark-requires
+    take-group-back-requires
+    same-length-11
+    same-length-12
+    same-length-13
+    same-length-14
+    same-length-15
+    returns-3
+    take-entry-back-requires
+    same-length-16
+    same-length-17
+    same-length-18
+    same-length-19
+    same-length-20
+    returns-4)

@@ -1,0 +1,46 @@
+-- What the functions that change a list by a group of entries ask and leave. Only contracts need these. Rests on the runs and steps of crate step.
+use Prim.Native.Nat.{ℕ, _≤_, _<_}
+use mathlib.Core.Path.{_≡_}
+use mathlib.Core.Bool.{true}
+use mathlib.Core.List.{List}
+use lib.ListN.{length}
+use Rattle.keys.specs.Key.{slotLimit}
+use Rattle.definitions.specs.Picture.{Picture}
+use Rattle.definitions.specs.List.{Record, listOfPicture}
+use Rattle.definitions.specs.Read.{room, recordsOf}
+use Rattle.definitions.specs.Area.{summaryOf}
+use Rattle.definitions.specs.Log.{endsInMark, stepCount, stepEntries, beforeStep, lastIsStep}
+use Rattle.list.specs.Own.{OwnList, shownBy}
+use Rattle.put.specs.Putting.{Replaced}
+use Rattle.step.specs.declared.run.Run.{Run}
+use Rattle.step.specs.Runs.{EntriesIn, lastOfRun}
+
+-- the used records of a log end in a group, at some s
+pub record GroupLast (m : ℕ) (logKeys logValues : List ℕ) (used : ℕ) : Type 0 where
+  pub deep : m ≤ 10
+  pub s : ℕ
+  pub few : s ≤ slotLimit
+  pub in-keys : used ≤ length logKeys
+  pub in-values : used ≤ length logValues
+  pub step : lastIsStep m s (recordsOf logKeys logValues used) ≡ true
+  pub mark : endsInMark (recordsOf logKeys logValues used) ≡ true
+
+-- its entries as a run
+pub record GroupRun (m : ℕ) (run : Run) (logKeys logValues : List ℕ) (log : List Record) : Type 0 where
+  pub entries : EntriesIn m run logKeys logValues
+  pub start-is : run .start ≡ length (beforeStep log)
+  pub entries-are : stepEntries log ≡ recordsOf logKeys logValues (run .end)
+  pub many : length (lastOfRun run logKeys logValues) ≡ stepCount log
+
+-- an accepted list, and its summary
+pub record Kept (m s : ℕ) (keys bits : List ℕ) (n : ℕ) (summary : List ℕ) : Type 0 where
+  pub deep : m ≤ 10
+  pub few : s ≤ slotLimit
+  pub own : OwnList m keys bits n
+  pub counts : summary ≡ summaryOf m s (shownBy m keys bits n)
+
+-- where there is room, the list of a picture and its summary stand, and the number of records is told; else nothing is changed, and 0 is told
+pub record Applied (p : Picture) (m s n : ℕ) (keys bits summary keys′ bits′ summary′ : List ℕ) (r : ℕ) : Type 0 where
+  pub full : r ≡ 0 → (room keys bits < length (listOfPicture m p)) × (keys′ ≡ keys) × (bits′ ≡ bits) × (summary′ ≡ summary)
+  pub done : (r ≡ 0 → ⊥)
+      → (length (listOfPicture m p) ≤ room keys bits) × Replaced n (listOfPicture m p) keys bits keys′ bits′ r × (summary′ ≡ summaryOf m s p)
