@@ -12,7 +12,7 @@ use Rattle.definitions.specs.Log.{closingPlaces, stepCount, stepEntries, before
 use Rattle.definitions.proofs.Records.{records-length}
 use Rattle.log.specs.declared.step.Step.{Step}
 use Rattle.log.specs.Steps.{lastStep, Stepped, EntriesBetween, none-between, one-between}
-use Rattle.log.proofs.Group.{entries-at}
+use Rattle.log.proofs.GroupChecked.{entries-at}
 use Rattle.log.proofs.GroupEntries.{group-between}
 use Rattle.step.specs.declared.run.Run.{Run}
 use Rattle.step.specs.declared.deed.Deed.the-variants.{Back, Again}

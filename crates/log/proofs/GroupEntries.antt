@@ -17,7 +17,7 @@ use Rattle.log.specs.Entries.{lastEntry, Ended}
 use Rattle.log.specs.Steps.{EntriesBetween, none-between, one-between}
 use Rattle.log.proofs.Last.{entry-ended}
 use Rattle.log.proofs.Places.{places-are, before-is}
-use Rattle.log.proofs.Group.{entries-at}
+use Rattle.log.proofs.GroupChecked.{entries-at}
 
 -- the entries that records end in
 pub last-between : (count m s : ℕ) (keys values : List ℕ) (end : ℕ) → end ≤ length keys → end ≤ length values

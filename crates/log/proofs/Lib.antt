@@ -4,7 +4,7 @@ pub mod Written
 pub mod Tests
 pub mod Mark
 pub mod Walk
-pub mod Group
+pub mod GroupChecked
 pub mod StepPlaces
 pub mod GroupEntries
 pub mod Sound

@@ -22,7 +22,7 @@ use Rattle.log.specs.Entries.{closingCount, lastEntry, Ended}
 use Rattle.log.specs.Steps.{lastStep, EntriesLast, Stepped}
 use Rattle.log.proofs.Last.{last-count-at, entry-ended}
 use Rattle.log.proofs.Places.{start-is}
-use Rattle.log.proofs.Group.{entries-at}
+use Rattle.log.proofs.GroupChecked.{entries-at}
 
 -- before entries stand the first records, so many as there are
 pub before-entries-place : (count : ℕ) (log : List Record) → beforeEntries count log ≡ take (length (beforeEntries count log)) log

@@ -1,5 +1,5 @@
 -- `ends_in_group` meets its contract: each way out answers what the definition says of the group's closing records and of the entries before.
-use Rattle.log.proofs.Group.{too-few, other-key, no-number, entries-decide}
+use Rattle.log.proofs.GroupChecked.{too-few, other-key, no-number, entries-decide}
 use borrow.Author.Needs.{needs}
 use Rattle.log.proofs.ends_in_group.Statement.{statement}
 use Rattle.log.proofs.ends_in_group.Tie as tie
