@@ -43,6 +43,12 @@ unfolding applied
 applied-below {m} {s} p (block-fit κ f valid small) below = paint-below m s κ f p m 0 0 small below
 applied-below {m} {s} p (window-fit w f good small) below = fill-below s w f p m 0 0 small below
 
+-- what a fit paint logs of a picture with features below s is a step
+pub step-is : {m s : ℕ} {x : Paint} (p : Picture) → Fit m s x → featuresBelow s p m 0 0 ≡ true → IsStep m s (stepOf m p x)
+unfolding stepOf
+step-is {m} {s} p (block-fit κ f valid small) below = entry-step m s κ f p valid small below
+step-is {m} {s} p (window-fit w f good small) below = group-step m s f p small below w good
+
 -- the group of a window depends on the map's pixels alone
 group-agree : (m : ℕ) (w : Window) (f : ℕ) (p q : Picture) → Agree p q m 0 0 → groupOf m p w f ≡ groupOf m q w f
 unfolding groupOf
@@ -55,12 +61,6 @@ pub step-agree : {m s : ℕ} {x : Paint} (p q : Picture) → Fit m s x → Agree
 unfolding stepOf
 step-agree {m} p q (block-fit κ f valid small) h = entry-agree m κ f p q valid h
 step-agree {m} p q (window-fit w f good small) h = group-agree m w f p q h
-
--- what a fit paint logs of a picture with features below s is a step
-pub step-is : {m s : ℕ} {x : Paint} (p : Picture) → Fit m s x → featuresBelow s p m 0 0 ≡ true → IsStep m s (stepOf m p x)
-unfolding stepOf
-step-is {m} {s} p (block-fit κ f valid small) below = entry-step m s κ f p valid small below
-step-is {m} {s} p (window-fit w f good small) below = group-step m s f p small below w good
 
 -- the step of a paint of a block is one entry
 module _ (m s : ℕ) (few : s ≤ groupMark) (κ f : ℕ) (small : f < s) (p : Picture) (log : List Record) where

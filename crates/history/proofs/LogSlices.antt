@@ -41,7 +41,7 @@ stays : (longest place end : ℕ) (new slice slice′ : List ℕ) → place ≤ 
     → drop end (overAt place new slice′) ≡ drop end slice
 stays longest place end new slice slice′ h j long e = drop-over place end new slice′ h j ∙ drop-more longest end slice′ slice long e
 
--- how far an entry and the zeroes behind it go
+-- how far a step and the zeroes behind it go
 over-size : (place used count : ℕ) (new : List ℕ) → length new ≡ count
     → place + length (new ++ replicate (used - (place + length new)) 0) ≡ max used (place + count)
 over-size place used count new e =
@@ -80,21 +80,21 @@ module _ {front back : List Record} {longest : ℕ} {logKeys logValues logKeys�
     past-values = drop-more longest (max longest 0) logValues′ logValues (omega arith) (h .past-values);
   }
 
-  -- an entry is put behind the records in force where there is room for it, and those to redo are dropped
-  pub log-gains : (entry : List Record) → inForce + length entry ≤ room logKeys′ logValues′
-      → HoldsLog (front ++ entry) [] (max longest (inForce + length entry)) logKeys logValues
-      (logged used inForce (keysOf entry) logKeys′) (logged used inForce (valuesOf entry) logValues′) (inForce + length entry) (inForce + length entry)
-  log-gains entry enough =
-      let a = length-map entry (λ x. x .key) in
-      let b = length-map entry (λ x. x .value) in
+  -- a step is put behind the records in force where there is room for it, and those to redo are dropped
+  pub log-gains : (step : List Record) → inForce + length step ≤ room logKeys′ logValues′
+      → HoldsLog (front ++ step) [] (max longest (inForce + length step)) logKeys logValues
+      (logged used inForce (keysOf step) logKeys′) (logged used inForce (valuesOf step) logValues′) (inForce + length step) (inForce + length step)
+  log-gains step enough =
+      let a = length-map step (λ x. x .key) in
+      let b = length-map step (λ x. x .value) in
       let inside = shown-room (h .shown) in
       let short = h .short in
-      let end : ℕ = max longest (inForce + length entry) in
-      let newKeys : List ℕ = keysOf entry ++ replicate (used - (inForce + length (keysOf entry))) 0 in
-      let newValues : List ℕ = valuesOf entry ++ replicate (used - (inForce + length (valuesOf entry))) 0 in
-      let k = over-size inForce used (length entry) (keysOf entry) a in
-      let v = over-size inForce used (length entry) (valuesOf entry) b in
-      let both = shown-logged used entry (shown-first front back inForce (h .force) (h .shown)) in
+      let end : ℕ = max longest (inForce + length step) in
+      let newKeys : List ℕ = keysOf step ++ replicate (used - (inForce + length (keysOf step))) 0 in
+      let newValues : List ℕ = valuesOf step ++ replicate (used - (inForce + length (valuesOf step))) 0 in
+      let k = over-size inForce used (length step) (keysOf step) a in
+      let v = over-size inForce used (length step) (valuesOf step) b in
+      let both = shown-logged used step (shown-first front back inForce (h .force) (h .shown)) in
       record {
         shown = rw append-nil both;
         force = both .count;
@@ -105,12 +105,12 @@ module _ {front back : List Record} {longest : ℕ} {logKeys logValues logKeys�
         past-values = stays longest inForce end newValues logValues logValues′ (omega arith) (omega arith) (omega arith) (h .past-values);
       }
 
--- the last entry in force is no longer in force, and nothing else is touched
-pub log-back : (front entry back : List Record) {longest : ℕ} {logKeys logValues logKeys′ logValues′ : List ℕ} {used inForce : ℕ}
-    → HoldsLog (front ++ entry) back longest logKeys logValues logKeys′ logValues′ used inForce
-    → HoldsLog front (entry ++ back) (max longest used) logKeys logValues logKeys′ logValues′ used (length front)
-log-back front entry back {longest} {logKeys} {logValues} {logKeys′} {logValues′} {used} h =
-    subst (λ n. HoldsLog front (entry ++ back) n logKeys logValues logKeys′ logValues′ used (length front)) (log-longest h)
+-- the last step in force is no longer in force, and nothing else is touched
+pub log-back : (front step back : List Record) {longest : ℕ} {logKeys logValues logKeys′ logValues′ : List ℕ} {used inForce : ℕ}
+    → HoldsLog (front ++ step) back longest logKeys logValues logKeys′ logValues′ used inForce
+    → HoldsLog front (step ++ back) (max longest used) logKeys logValues logKeys′ logValues′ used (length front)
+log-back front step back {longest} {logKeys} {logValues} {logKeys′} {logValues′} {used} h =
+    subst (λ n. HoldsLog front (step ++ back) n logKeys logValues logKeys′ logValues′ used (length front)) (log-longest h)
     (record {
       shown = rw append-assoc at (h .shown);
       force = refl;
@@ -121,13 +121,13 @@ log-back front entry back {longest} {logKeys} {logValues} {logKeys′} {logValue
       past-values = h .past-values;
     })
 
--- the next entry is in force again, and nothing else is touched
-pub log-again : (front entry back : List Record) {longest : ℕ} {logKeys logValues logKeys′ logValues′ : List ℕ} {used inForce : ℕ}
-    → HoldsLog front (entry ++ back) longest logKeys logValues logKeys′ logValues′ used inForce
-    → HoldsLog (front ++ entry) back (max longest used) logKeys logValues logKeys′ logValues′ used (inForce + length entry)
-log-again front entry back {longest} {logKeys} {logValues} {logKeys′} {logValues′} {used} {inForce} h =
-    let both = length-append front entry in
-    subst (λ n. HoldsLog (front ++ entry) back n logKeys logValues logKeys′ logValues′ used (inForce + length entry)) (log-longest h)
+-- the next step is in force again, and nothing else is touched
+pub log-again : (front step back : List Record) {longest : ℕ} {logKeys logValues logKeys′ logValues′ : List ℕ} {used inForce : ℕ}
+    → HoldsLog front (step ++ back) longest logKeys logValues logKeys′ logValues′ used inForce
+    → HoldsLog (front ++ step) back (max longest used) logKeys logValues logKeys′ logValues′ used (inForce + length step)
+log-again front step back {longest} {logKeys} {logValues} {logKeys′} {logValues′} {used} {inForce} h =
+    let both = length-append front step in
+    subst (λ n. HoldsLog (front ++ step) back n logKeys logValues logKeys′ logValues′ used (inForce + length step)) (log-longest h)
     (record {
       shown = rw append-assoc (h .shown);
       force = let e = h .force in omega arith;
