@@ -5,6 +5,7 @@ use native.Mathlib.Omega.{arith}
 use lib.ListN.{length}
 use Rattle.definitions.specs.Read.{recordsOf}
 use Rattle.definitions.specs.Log.{toRedo}
+use Rattle.definitions.specs.Calls.Redo.{redoRefusal}
 use Rattle.edit.specs.PaintCall.{Paintable, paintPlan}
 use Rattle.edit.specs.RedoCall.{nextEntry, paintedRefusal, LogToRedo}
 use Rattle.edit.proofs.Decided.{refused, granted}
@@ -63,7 +64,11 @@ paints c =
     redo-paintable (redoable first) _ (first .pre .2) (first .pre .1) _ (next-is c) _ _ _ (passed-settings rows .deep) (passed-own rows)
 
 -- the row of the table, by the entry that was found
-row : (c : tie.After-decide) → _
+row : (c : tie.After-decide)
+    → (let a = begin (found c) .args in
+    let next = found c .next-entry .result in
+    paintedRefusal (a .m) (recordsOf (a .keys .now) (a .bits .now) (a .n)) (a .keys .now) (a .bits .now) (next .key) (next .feature)
+    ≡ redoRefusal (a .m) (a .s) (a .keys .now) (a .bits .now) (a .n) (a .summary .now) (a .log-keys .now) (a .log-values .now) (a .used) (a .in-force))
 row c =
     let entry = found c in
     let first = begin entry in
@@ -85,9 +90,6 @@ same-length c = search needs
 
 same-length-2 : tie.Need-same-length-2
 same-length-2 c = search needs
-
-same-length-3 : tie.Need-same-length-3
-same-length-3 c = search needs
 
 returns : tie.Need-returns
 returns c =
@@ -118,14 +120,14 @@ add-now c =
     let first = begin (found (d .before .before .before)) in
     omega (arith, end-within (redoable first) _ (first .pre .2), redoable first .whole .in-keys, first .good)
 
+same-length-3 : tie.Need-same-length-3
+same-length-3 c = search needs
+
 same-length-4 : tie.Need-same-length-4
 same-length-4 c = search needs
 
 same-length-5 : tie.Need-same-length-5
 same-length-5 c = search needs
-
-same-length-6 : tie.Need-same-length-6
-same-length-6 c = search needs
 
 returns-2 : tie.Need-returns-2
 returns-2 c =
@@ -147,13 +149,12 @@ redo-entry-spec =
     enum-known-decision
     same-length
     same-length-2
-    same-length-3
     returns
     enum-known-decision-2
     fill-requires
     recount-requires
     add-now
+    same-length-3
     same-length-4
     same-length-5
-    same-length-6
     returns-2)

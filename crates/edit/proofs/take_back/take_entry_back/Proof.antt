@@ -47,9 +47,6 @@ same-length c = search needs
 same-length-2 : tie.Need-same-length-2
 same-length-2 c = search needs
 
-same-length-3 : tie.Need-same-length-3
-same-length-3 c = search needs
-
 returns : tie.Need-returns
 returns c =
     let told = refused _ _ _ _ (c .before .before .before .decide .ensures) _ (c .before .decision .given .1) in
@@ -75,14 +72,14 @@ recount-requires c κs =
     (let few = passed-settings rows .few in omega arith)
     (passed-summary rows)
 
+same-length-3 : tie.Need-same-length-3
+same-length-3 c = search needs
+
 same-length-4 : tie.Need-same-length-4
 same-length-4 c = search needs
 
 same-length-5 : tie.Need-same-length-5
 same-length-5 c = search needs
-
-same-length-6 : tie.Need-same-length-6
-same-length-6 c = search needs
 
 returns-2 : tie.Need-returns-2
 returns-2 c =
@@ -104,12 +101,11 @@ take-entry-back-spec =
     enum-known-decision
     same-length
     same-length-2
-    same-length-3
     returns
     enum-known-decision-2
     put-back-requires
     recount-requires
+    same-length-3
     same-length-4
     same-length-5
-    same-length-6
     returns-2)
