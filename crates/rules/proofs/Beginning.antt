@@ -13,7 +13,7 @@ use Rattle.definitions.specs.Offices.{badOffice}
 use Rattle.definitions.specs.Rules.{Finding, waiversOf}
 use Rattle.offices.specs.Own.{noRows, ownOf}
 use Rattle.offices.specs.declared.own.Own.{Own}
-use Rattle.rules.specs.declared.run.State.{State}
+use Rattle.rules.specs.declared.state.State.{State}
 use Rattle.rules.specs.Run.{waiversGood, waiversBelow, progressOf, bounding, beginRefusal, beginOf, ownAt, Ready}
 use Rattle.rules.proofs.Settings.{good-level, good-slots}
 

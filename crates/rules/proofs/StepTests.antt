@@ -11,7 +11,7 @@ use Rattle.keys.proofs.Cases.{split}
 use Rattle.definitions.specs.Window.{isWindow}
 use Rattle.definitions.specs.Rules.{windowOf, isRule}
 use Rattle.definitions.specs.declared.Rule.{Rule}
-use Rattle.rules.specs.declared.run.State.{State}
+use Rattle.rules.specs.declared.state.State.{State}
 use Rattle.rules.specs.Run.{mayCome}
 use Rattle.rules.specs.Step.{OwnFrom}
 

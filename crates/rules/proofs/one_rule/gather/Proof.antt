@@ -1,10 +1,10 @@
--- `step::gather` meets its contract: the part of the waivers' keys that it lends is the rule's own. Rests on StepGathered.
+-- `one_rule::gather` meets its contract: the part of the waivers' keys that it lends is the rule's own. Rests on StepGathered.
 use Prim.Native.Nat.{_<_}
 use native.Mathlib.Omega.{arith}
 use borrow.Author.Needs.{needs}
 use Rattle.rules.proofs.StepGathered.{own-window, own-feature, own-small, own-records, passed-room, lent-ready, counts-small, widened-served, sifted-served}
-use Rattle.rules.proofs.step.gather.Statement.{statement}
-use Rattle.rules.proofs.step.gather.Tie as tie
+use Rattle.rules.proofs.one_rule.gather.Statement.{statement}
+use Rattle.rules.proofs.one_rule.gather.Tie as tie
 
 -- the entry of the function, from the call that finds the end of the rule's waivers
 abbrev entry : tie.After-own-end → tie.Start

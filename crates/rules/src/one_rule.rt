@@ -1,14 +1,11 @@
 // One rule of a run: whether it may come, whether a waiver is wrong, and else its findings against its waivers, which stand one after the other.
 ghost use mathlib.Core.Path.{_≡_};
-ghost use mathlib.Core.Bool.{_&&_, _||_};
-ghost use Prim.Native.Nat.{_+_, _^_, _≤_};
-ghost use lib.ListN.{length, getD};
-ghost use lib.Dec.{ltb};
-ghost use Rattle.rules.specs.Run.{progressOf, faultyFrom, counting, mayCome, served, Ready, stepOf, TableReady, tableStep};
-ghost use Rattle.rules.specs.Step.{OwnEnd, Gatherable, widened};
-use crate::begin;
-use crate::run;
-use crate::run::State;
+ghost use Prim.Native.Nat.{_^_, _≤_};
+ghost use Rattle.rules.specs.Run.{progressOf, mayCome, served, Ready, stepOf, TableReady, tableStep};
+ghost use Rattle.rules.specs.Step.{Gatherable, widened};
+use crate::state;
+use crate::state::State;
+use crate::waivers;
 use definitions::Rule;
 use definitions::Window;
 use sift::Sifting;
@@ -33,59 +30,6 @@ fn may_come(rule: Rule, state: State) -> bool
         width: rule.width,
     };
     bounds::is_window(state.m, window)
-}
-
-// A waiver is wrong: it was so before, or the first that is not passed has an id that no rule has.
-fn waiver_is_wrong(id: u32, waiver_ids: &[u32], state: State) -> bool
-    requires { ⌜ state .waivers ≤ length (now «waiver_ids») ⌝ }
-    ensures { λ r. ⌜ r ≡ state .faulty || ltb (state .passed) (state .waivers) && ltb (getD (now («waiver_ids» .entry)) (state .passed) 0) id ⌝ }
-{
-    let passed = state.passed;
-    if state.faulty {
-        return true;
-    }
-    if passed < state.waivers {
-        waiver_ids[passed] < id
-    } else {
-        false
-    }
-}
-
-// A waiver is wrong: from here on only the rules are looked at.
-fn faulty_from(state: State, next: u64) -> State
-    ensures { λ r. ⌜ r ≡ faultyFrom next state ⌝ }
-{
-    let mut st = state;
-    st.next = next;
-    st.faulty = true;
-    st
-}
-
-// The rule's findings are counted.
-fn counted(state: State, next: u64, passed: usize, sifted: Sifting) -> State
-    ensures { λ r. ⌜ r ≡ counting next passed (sifted .live) (sifted .hidden) state ⌝ }
-{
-    let mut st = state;
-    st.next = next;
-    st.passed = passed;
-    st.live = sifted.live;
-    st.hidden = sifted.hidden;
-    st
-}
-
-// The first place from a place on whose waiver has a larger id.
-fn own_end(waiver_ids: &[u32], from: usize, count: usize, id: u32) -> usize
-    requires { ⌜ (from ≤ count) × (count ≤ length (now «waiver_ids»)) ⌝ }
-    ensures { λ r. ⌜ OwnEnd (now («waiver_ids» .entry)) from count id r ⌝ }
-{
-    let mut place = from;
-    while place < count {
-        if id < waiver_ids[place] {
-            return place;
-        }
-        place += 1;
-    }
-    place
 }
 
 // As many live findings more as the rule's window has pixels: no rule has more.
@@ -118,15 +62,15 @@ fn gather(
     let id = rule.id;
     let next = id as u64 + 1;
     let passed = state.passed;
-    let end = own_end(waiver_ids, passed, state.waivers, id);
+    let end = waivers::own_end(waiver_ids, passed, state.waivers, id);
     let at = Sifting {
         passed: 0,
         furthest: 0,
         live: state.live,
         hidden: state.hidden,
     };
-    if state.mode == run::BOUNDING {
-        return counted(state, next, end, widen(rule, at));
+    if state.mode == state::BOUNDING {
+        return state::counted(state, next, end, widen(rule, at));
     }
     let sifted = sift::sift_rule(
         rule,
@@ -140,7 +84,7 @@ fn gather(
         found_keys,
         at,
     );
-    counted(state, next, end, sifted)
+    state::counted(state, next, end, sifted)
 }
 
 // One rule against its own waivers.
@@ -163,15 +107,15 @@ fn own_step(
     if state.refusal != 0 {
         return state;
     }
-    if state.mode == run::RESTING {
+    if state.mode == state::RESTING {
         return state;
     }
     if !may_come(rule, state) {
-        return begin::refused(state, 13);
+        return state::refused(state, 13);
     }
-    if waiver_is_wrong(id, waiver_ids, state) {
+    if waivers::waiver_is_wrong(id, waiver_ids, state) {
         let next = id as u64 + 1;
-        return faulty_from(state, next);
+        return state::faulty_from(state, next);
     }
     gather(
         rule,

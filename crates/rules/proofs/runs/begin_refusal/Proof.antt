@@ -1,11 +1,11 @@
--- `begin::begin_refusal` meets its contract: 21 comes before 1, and 1 before 4.
+-- `runs::begin_refusal` meets its contract: 21 comes before 1, and 1 before 4.
 use mathlib.Core.Path.{sym, _∙_}
 use borrow.Author.Tests.{lt-ltb, le-ltb}
 use borrow.Author.Needs.{needs}
 use Rattle.rules.proofs.Settings.{good-level, good-slots}
 use Rattle.rules.proofs.Beginning.{begin-other, begin-bad, begin-no-list, begin-good}
-use Rattle.rules.proofs.begin.begin_refusal.Statement.{statement}
-use Rattle.rules.proofs.begin.begin_refusal.Tie as tie
+use Rattle.rules.proofs.runs.begin_refusal.Statement.{statement}
+use Rattle.rules.proofs.runs.begin_refusal.Tie as tie
 
 returns : tie.Need-returns
 returns c = sym (begin-other _ _ _ _ _ _ (lt-ltb 1 _ (c .if1 .taken)))

@@ -1,11 +1,11 @@
--- `step::widen` meets its contract: a window of the largest raster has at most 1024 * 1024 pixels.
+-- `one_rule::widen` meets its contract: a window of the largest raster has at most 1024 * 1024 pixels.
 use Prim.Native.Nat.{_*_, _≤_}
 use native.Mathlib.Nat.{mul-le-mul}
 use native.Mathlib.Omega.{arith}
 use borrow.Author.Needs.{needs}
 use Rattle.rules.specs.Run.{pixelsOf}
-use Rattle.rules.proofs.step.widen.Statement.{statement}
-use Rattle.rules.proofs.step.widen.Tie as tie
+use Rattle.rules.proofs.one_rule.widen.Statement.{statement}
+use Rattle.rules.proofs.one_rule.widen.Tie as tie
 
 few : (s : tie.Start) → pixelsOf (s .args .rule) ≤ 1024 * 1024
 few s = mul-le-mul (s .pre .0) (s .pre .1)

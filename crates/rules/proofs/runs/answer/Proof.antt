@@ -1,8 +1,8 @@
--- `begin::answer` meets its contract: each way out is a case of the definition.
+-- `runs::answer` meets its contract: each way out is a case of the definition.
 use mathlib.Core.Path.{sym}
 use Rattle.rules.proofs.NextCases.{answer-done, answer-full, answer-refused}
-use Rattle.rules.proofs.begin.answer.Statement.{statement}
-use Rattle.rules.proofs.begin.answer.Tie as tie
+use Rattle.rules.proofs.runs.answer.Statement.{statement}
+use Rattle.rules.proofs.runs.answer.Tie as tie
 
 returns : tie.Need-returns
 returns c = sym (answer-done _ (c .if1 .taken))

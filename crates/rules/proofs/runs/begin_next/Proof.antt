@@ -1,9 +1,9 @@
--- `begin::begin_next` meets its contract: each way out is a case of the definition.
+-- `runs::begin_next` meets its contract: each way out is a case of the definition.
 use mathlib.Core.Path.{sym, _∙_}
 use borrow.Author.Needs.{needs}
 use Rattle.rules.proofs.NextCases.{next-stopped, next-faulty, next-left, next-counts, next-rests, next-full, next-writes}
-use Rattle.rules.proofs.begin.begin_next.Statement.{statement}
-use Rattle.rules.proofs.begin.begin_next.Tie as tie
+use Rattle.rules.proofs.runs.begin_next.Statement.{statement}
+use Rattle.rules.proofs.runs.begin_next.Tie as tie
 
 returns : tie.Need-returns
 returns c = sym (next-stopped _ (c .if1 .taken))

@@ -1,10 +1,10 @@
--- `step::own_end` meets its contract: the waivers that it passes have no larger id.
+-- `waivers::own_end` meets its contract: the waivers that it passes have no larger id.
 use Prim.Native.Nat.{_-_}
 use native.Mathlib.Omega.{arith}
 use Rattle.rules.specs.Step.{OwnFrom}
 use Rattle.rules.proofs.StepTests.{own-none, own-next}
-use Rattle.rules.proofs.step.own_end.Statement.{statement}
-use Rattle.rules.proofs.step.own_end.Tie as tie
+use Rattle.rules.proofs.waivers.own_end.Statement.{statement}
+use Rattle.rules.proofs.waivers.own_end.Tie as tie
 
 abbrev Inv-loop : tie.InvT-loop
 Inv-loop waiver-ids from count id place₀ place = OwnFrom waiver-ids from count id place

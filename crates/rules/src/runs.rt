@@ -1,15 +1,15 @@
-// How the first run over the rules begins, what the run after a run is, and what the last answers.
+// The runs of findings: how the first begins, which run comes after a run, and what the last answers.
 ghost use mathlib.Core.Path.{_≡_};
 ghost use Prim.Native.Nat.{min};
-ghost use Rattle.rules.specs.Run.{refusing, bounding, resting, restarting, beginRefusal, beginOf, ownAt, nextOf, answerOf};
-use crate::run;
-use crate::run::State;
+ghost use Rattle.rules.specs.Run.{bounding, beginRefusal, beginOf, ownAt, nextOf, answerOf};
+use crate::state;
+use crate::state::State;
 use definitions::Found;
 use list::check;
 use list::settings;
 use offices::own;
 
-pub fn lesser(a: usize, b: usize) -> usize
+fn lesser(a: usize, b: usize) -> usize
     ensures { λ r. ⌜ r ≡ min a b ⌝ }
 {
     if a < b { a } else { b }
@@ -59,7 +59,7 @@ pub fn begin(
         m,
         s,
         n,
-        mode: run::BOUNDING,
+        mode: state::BOUNDING,
         refusal,
         next: 0,
         faulty: !own.good,
@@ -68,46 +68,6 @@ pub fn begin(
         passed: 0,
         limit: 0,
         room: lesser(room_ids, room_keys),
-        live: 0,
-        hidden: 0,
-    }
-}
-
-// The run is refused.
-pub fn refused(state: State, number: u64) -> State
-    ensures { λ r. ⌜ r ≡ refusing number state ⌝ }
-{
-    let mut st = state;
-    st.refusal = number;
-    st
-}
-
-// The next run has nothing to count: the bound is within the room.
-fn rested(state: State) -> State
-    ensures { λ r. ⌜ r ≡ resting state ⌝ }
-{
-    let mut st = state;
-    st.mode = run::RESTING;
-    st
-}
-
-// The rules are gone through from the first again, and up to the limit findings are written.
-fn restarted(state: State, limit: usize) -> State
-    ensures { λ r. ⌜ r ≡ restarting limit state ⌝ }
-{
-    State {
-        m: state.m,
-        s: state.s,
-        n: state.n,
-        mode: run::WALKING,
-        refusal: 0,
-        next: 0,
-        faulty: false,
-        offset: state.offset,
-        waivers: state.waivers,
-        passed: 0,
-        limit,
-        room: state.room,
         live: 0,
         hidden: 0,
     }
@@ -122,21 +82,21 @@ pub fn begin_next(state: State) -> State
         return state;
     }
     if state.faulty {
-        return refused(state, 14);
+        return state::refused(state, 14);
     }
     if state.passed < state.waivers {
-        return refused(state, 14);
+        return state::refused(state, 14);
     }
-    if state.mode == run::BOUNDING {
+    if state.mode == state::BOUNDING {
         if room < state.live {
-            return restarted(state, 0);
+            return state::restarted(state, 0);
         }
-        return rested(state);
+        return state::rested(state);
     }
     if room < state.live {
-        return refused(state, 12);
+        return state::refused(state, 12);
     }
-    restarted(state, room)
+    state::restarted(state, room)
 }
 
 // With 12 live is the number of places needed, and hidden is 0.

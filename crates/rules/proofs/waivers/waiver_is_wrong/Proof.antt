@@ -1,8 +1,8 @@
--- `step::waiver_is_wrong` meets its contract, test by test.
+-- `waivers::waiver_is_wrong` meets its contract, test by test.
 use borrow.Author.Needs.{needs}
 use borrow.Author.Tests.{lt-ltb, le-ltb}
-use Rattle.rules.proofs.step.waiver_is_wrong.Statement.{statement}
-use Rattle.rules.proofs.step.waiver_is_wrong.Tie as tie
+use Rattle.rules.proofs.waivers.waiver_is_wrong.Statement.{statement}
+use Rattle.rules.proofs.waivers.waiver_is_wrong.Tie as tie
 
 returns : tie.Need-returns
 returns c = simp (c .if1 .taken)

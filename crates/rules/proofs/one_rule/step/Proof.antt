@@ -1,9 +1,9 @@
--- `step::step` meets its contract: the parts that it lends are the asking office's rows.
+-- `one_rule::step` meets its contract: the parts that it lends are the asking office's rows.
 use mathlib.Core.Path.{_∙_}
 use borrow.Author.Needs.{needs}
 use Rattle.rules.proofs.TableRuns.{ready-cut, step-cut}
-use Rattle.rules.proofs.step.step.Statement.{statement}
-use Rattle.rules.proofs.step.step.Tie as tie
+use Rattle.rules.proofs.one_rule.step.Statement.{statement}
+use Rattle.rules.proofs.one_rule.step.Tie as tie
 
 add-end : tie.Need-add-end
 add-end c = search needs

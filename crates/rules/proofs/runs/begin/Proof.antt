@@ -1,11 +1,11 @@
--- `begin::begin` meets its contract: the table is looked at only where none of 21, 1 and 4 is given.
+-- `runs::begin` meets its contract: the table is looked at only where none of 21, 1 and 4 is given.
 use mathlib.Core.Path.{sym, _∙_}
 use mathlib.Core.Logic.{⊎-elim}
 use borrow.Author.Needs.{needs}
 use Rattle.rules.proofs.Settings.{good-level}
 use Rattle.rules.proofs.Beginning.{zero-settings, own-looked, own-passed, begun}
-use Rattle.rules.proofs.begin.begin.Statement.{statement}
-use Rattle.rules.proofs.begin.begin.Tie as tie
+use Rattle.rules.proofs.runs.begin.Statement.{statement}
+use Rattle.rules.proofs.runs.begin.Tie as tie
 
 begin-refusal-requires : tie.Need-begin-refusal-requires
 begin-refusal-requires c κs = search needs

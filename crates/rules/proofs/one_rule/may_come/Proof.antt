@@ -1,9 +1,9 @@
--- `step::may_come` meets its contract: its tests are those of the definition, the id first.
+-- `one_rule::may_come` meets its contract: its tests are those of the definition, the id first.
 use mathlib.Core.Path.{_∙_}
 use borrow.Author.Needs.{needs}
 use Rattle.rules.proofs.StepTests.{may-low, may-feature, may-window}
-use Rattle.rules.proofs.step.may_come.Statement.{statement}
-use Rattle.rules.proofs.step.may_come.Tie as tie
+use Rattle.rules.proofs.one_rule.may_come.Statement.{statement}
+use Rattle.rules.proofs.one_rule.may_come.Tie as tie
 
 -- the entry of the function, from the second test
 abbrev entry : tie.After-struct-known4 → tie.Start

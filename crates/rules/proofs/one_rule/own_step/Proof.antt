@@ -1,4 +1,4 @@
--- `step::own_step` meets its contract, case by case: the run is refused already or passes over all rules, the rule is bad, a waiver is wrong, or the rule is
+-- `one_rule::own_step` meets its contract, case by case: the run is refused already or passes over all rules, the rule is bad, a waiver is wrong, or the rule is
 -- served.
 use mathlib.Core.Path.{_≡_, sym, ap, _∙_}
 use mathlib.Core.Bool.{true}
@@ -8,8 +8,8 @@ use borrow.Author.Tests.{not-true, not-false}
 use Rattle.rules.specs.Run.{Progress, progressOf, mayCome, Fine}
 use Rattle.rules.proofs.StepCases.{isFaulty, step-stopped, step-rests, step-bad, step-faulty, step-good}
 use Rattle.rules.proofs.StepWrong.{wrong-is, gatherable}
-use Rattle.rules.proofs.step.own_step.Statement.{statement}
-use Rattle.rules.proofs.step.own_step.Tie as tie
+use Rattle.rules.proofs.one_rule.own_step.Statement.{statement}
+use Rattle.rules.proofs.one_rule.own_step.Tie as tie
 
 -- the entry of the function, from the test whether the run is refused
 abbrev entry : tie.After-struct-known → tie.Start

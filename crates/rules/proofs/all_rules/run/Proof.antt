@@ -1,4 +1,4 @@
--- `run::run` meets its contract: a walk of its MIR, by hand, since it takes a lent slice of structs. In each turn the rule at i is copied out of the lent
+-- `all_rules::run` meets its contract: a walk of its MIR, by hand, since it takes a lent slice of structs. In each turn the rule at i is copied out of the lent
 -- slice and passed to `step`. Rests on RunEntryExit, RunTurns (what holds before a turn), StepCall (the call of `step`), and the laws of locals and slices.
 -- The numbers in the walk are places in the list of what is held. `at n i` is the place of local i when n things stand before the locals. The locals:
 -- 0 the answer, 1 rules, 2 keys, 3 bits, 4 waiver_ids, 5 waiver_keys, 6 found_ids, 7 found_keys, 8 state, 9 st, 10 i; 11 a number, 12 the test, 13 where
@@ -46,9 +46,9 @@ use Rattle.definitions.specs.declared.Rule.{Rule}
 use Rattle.definitions.proofs.Rule as Rule
 use Rattle.definitions.proofs.Rule.Laws as Rule′
 use Rattle.rules.specs.Run.{progressOf, TableReady}
-use Rattle.rules.specs.declared.run.State.{State}
-use Rattle.rules.proofs.run.State as State
-use Rattle.rules.proofs.run.State.Laws as State′
+use Rattle.rules.specs.declared.state.State.{State}
+use Rattle.rules.proofs.state.State as State
+use Rattle.rules.proofs.state.State.Laws as State′
 use Rattle.rules.proofs.Fold.{noRule}
 use Rattle.lending.proofs.Locals.{Content, empty, holds, at, Addresses, envOf, Held, in-local, allocates, frees-all}
 use Rattle.lending.proofs.Slices.{Slice, val, typed-slice, token}
@@ -58,14 +58,14 @@ use Rattle.rules.proofs.RunSlices.{RunSlices, stateVals, valOf, typed-s
 use Rattle.rules.proofs.RunEntryExit.{stayed, machine, sharedRules, held, AtEntry, AtExit, enters, exits}
 use Rattle.rules.proofs.RunTurns.{Turn, rule, entry, first-turn, next-turn, left, nearer}
 use Rattle.rules.proofs.StepCall.{ruleVals, Step, step-gives}
-use Rattle.rules.proofs.step.step.Symbol as step-def
-use Rattle.rules.proofs.step.step.Symbol.{name as #step}
-use Rattle.rules.proofs.step.step.Met as step-thm
-use Rattle.rules.proofs.run.run.Key.{name as #run}
-use Rattle.rules.proofs.run.run as run′
-use Rattle.rules.proofs.run.run.Statement as stated
-use Rattle.rules.proofs.run.run.Code as code
-use Rattle.rules.proofs.run.run.Code.Mir as mir
+use Rattle.rules.proofs.one_rule.step.Symbol as step-def
+use Rattle.rules.proofs.one_rule.step.Symbol.{name as #step}
+use Rattle.rules.proofs.one_rule.step.Met as step-thm
+use Rattle.rules.proofs.all_rules.run.Key.{name as #run}
+use Rattle.rules.proofs.all_rules.run as run′
+use Rattle.rules.proofs.all_rules.run.Statement as stated
+use Rattle.rules.proofs.all_rules.run.Code as code
+use Rattle.rules.proofs.all_rules.run.Code.Mir as mir
 
 ruleTells : Tells Rule.the-row (Is Rule.the-row) ruleVals
 ruleTells = LL.tells Rule.the-type Rule′.the-laws
@@ -147,7 +147,7 @@ module _ {M : Type 1} (𝓤 : URA M) (H : Heap 𝓤) (A : Atoms 𝓤) (W : Given
         reborrows ! (at 5 7) (at 5 17) (at 5 18) refl refl refl (tt, tt) refl refl refl (typed-slice (S .found-keys)) $
         -- [the rules' token; the rules; the tokens; the answers; what is read]: the call takes the tokens, the answers, and what is read, which stays here too
         move ! (4 ∷ []) $ reads-twice S W ! $ move ! (0 ∷ 4 ∷ []) $ join ! $ move ! (0 ∷ 4 ∷ []) $ join ! $
-        -- st = step::step(rules[i], keys, bits, waiver_ids, waiver_keys, found_ids, found_keys, st)
+        -- st = one_rule::step(rules[i], keys, bits, waiver_ids, waiver_keys, found_ids, found_keys, st)
         calls-giving ! fm
         (step-gives 𝓤 H A W mem run C fm known S (ruleOf t) (t .found .state) (t .found .ids) (t .found .keys) is (t .found .fits) (t .ready) (t .found .ids-length) (t .found .keys-length))
         (and-then ! (in-local ! (at 4 14) refl) (and-then ! (in-local ! (at 4 2) refl) (and-then ! (in-local ! (at 4 3) refl)
@@ -245,4 +245,4 @@ run-spec 𝓤 H 𝓜 𝓖 𝓡 =
     entered 𝓤 H (tripleOf 𝓤 H (𝓖 .A) run′.signature (run′.spec 𝓤 H (𝓖 .A) (𝓜 .mem) (𝓡 .run)))
     (tables 𝓤 H 𝓜 𝓡 code.env .C) (tables 𝓤 H 𝓜 𝓡 code.env .Λ) #run code.function (code.unfolded 𝓤 H 𝓜 𝓡)
     (run-meets 𝓤 H (𝓖 .A) (givenOf 𝓤 H 𝓜 𝓖) (𝓜 .mem) (𝓡 .run) (tablesOf 𝓤 H 𝓜 (tables 𝓤 H 𝓜 𝓡 code.env))
-    (cited 𝓤 H (Step 𝓤 H (𝓖 .A) (𝓜 .mem) (𝓡 .run)) 𝓜 𝓡 code.env #step step-def.routine code.calls-rules·step·step (step-thm.met 𝓤 H 𝓜 𝓖 𝓡)))
+    (cited 𝓤 H (Step 𝓤 H (𝓖 .A) (𝓜 .mem) (𝓡 .run)) 𝓜 𝓡 code.env #step step-def.routine code.calls-rules·one-rule·step (step-thm.met 𝓤 H 𝓜 𝓖 𝓡)))
