@@ -28,3 +28,4 @@ pub mod ShownQuadrants
 pub mod Fuller
 pub mod PatchLeaf
 pub mod Tests
+pub mod FirstRefusal

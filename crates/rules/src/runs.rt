@@ -5,8 +5,7 @@ ghost use Rattle.rules.specs.Run.{bounding, beginRefusal, beginOf, ownAt
 use crate::state;
 use crate::state::State;
 use definitions::Found;
-use list::check;
-use list::settings;
+use list::refusal::first_refusal;
 use offices::own;
 
 fn lesser(a: usize, b: usize) -> usize
@@ -22,14 +21,7 @@ fn begin_refusal(office: u32, m: u32, s: u32, keys: &[u32], bits: &[u32], n: usi
     if 1 < office {
         return 21;
     }
-    if settings::are_bad(m, s) {
-        return 1;
-    }
-    if check::is_list(m, s, keys, bits, n) {
-        0
-    } else {
-        4
-    }
+    first_refusal(m, s, keys, bits, n)
 }
 
 // The run that checks begins: it bounds the number of findings. The table is looked at where nothing is refused so far.
