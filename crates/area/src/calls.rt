@@ -4,8 +4,7 @@ ghost use Rattle.definitions.specs.Calls.Area.{areaRefusal, area as areaMeasure
 use crate::measure::area_in;
 use definitions::Measured;
 use definitions::Window;
-use list::check;
-use list::settings;
+use list::refusal::first_refusal;
 use summary::check::is_summary;
 use window::bounds::is_window;
 
@@ -22,11 +21,9 @@ fn area_refusal(
 ) -> u64
     ensures { λ r. ⌜ r ≡ areaRefusal m s (now (keys .entry)) (now (bits .entry)) n (now (summary .entry)) window feature ⌝ }
 {
-    if settings::are_bad(m, s) {
-        return 1;
-    }
-    if !check::is_list(m, s, keys, bits, n) {
-        return 4;
+    let refusal = first_refusal(m, s, keys, bits, n);
+    if refusal != 0 {
+        return refusal;
     }
     if !is_summary(m, s, keys, bits, n, summary) {
         return 18;

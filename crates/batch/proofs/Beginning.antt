@@ -1,39 +1,36 @@
--- How a batch begins, by the rows of its table, and what it answers, by its refusal. Rests on definitions' First.
+-- How a batch begins, by the rows of its table, and what it answers, by its refusal. Rests on definitions' First and list's FirstRefusal.
 use Prim.Native.Nat.{ℕ, _≤_, _<_, min}
 use mathlib.Core.Path.{_≡_, refl, sym, ap, _∙_}
-use mathlib.Core.Bool.{true, false, not, cond}
+use mathlib.Core.Bool.{cond}
 use mathlib.Core.List.{List}
 use lib.Dec.{eqb}
 use borrow.Author.Tests.{lt-ltb, le-ltb, eq-eqb, ne-eqb}
-use Rattle.definitions.specs.Read.{isList}
-use Rattle.definitions.specs.Refusal.{badSettings}
 use Rattle.definitions.specs.declared.Counted.{Counted}
-use Rattle.definitions.proofs.First.{this, later, none-first, holds-first, accepted-done, accepted-left}
+use Rattle.definitions.proofs.First.{this, none-first, holds-first, accepted-done, accepted-left}
+use Rattle.list.specs.First.{firstRefusal}
+use Rattle.list.proofs.FirstRefusal.{refused-first, passed-first}
 use Rattle.batch.specs.Run.{beginRefusal, beginOf, answerOf}
 use Rattle.batch.specs.declared.begin.State.{State}
 
 module _ (m s : ℕ) (keys bits : List ℕ) (n questions roomRefusals roomValues : ℕ) where
-  pub begin-one : badSettings m s ≡ true → 1 ≡ beginRefusal m s keys bits n questions roomRefusals roomValues
+  -- 1 and 4
+  pub begin-early : (k : ℕ) → k ≡ firstRefusal m s keys bits n → (k ≡ 0 → ⊥) → k ≡ beginRefusal m s keys bits n questions roomRefusals roomValues
   unfolding beginRefusal
-  begin-one bad = sym (holds-first (this bad refl))
+  begin-early k e h = refused-first m s keys bits n k _ e h
 
   pub begun : (refusal : ℕ) → refusal ≡ beginRefusal m s keys bits n questions roomRefusals roomValues
       → record { m = m; s = s; n = n; refusal = refusal; questions = questions; place = 0 } ≡ beginOf m s keys bits n questions roomRefusals roomValues
   begun refusal e = λ i. record { m = m; s = s; n = n; refusal = e i; questions = questions; place = 0 }
 
-  module _ (good : badSettings m s ≡ false) where
-    pub begin-four : isList m s keys bits n ≡ false → 4 ≡ beginRefusal m s keys bits n questions roomRefusals roomValues
+  -- past them the room decides
+  module _ (k : ℕ) (e : k ≡ firstRefusal m s keys bits n) (zero : k ≡ 0) where
+    pub begin-twelve : min roomRefusals roomValues < questions → 12 ≡ beginRefusal m s keys bits n questions roomRefusals roomValues
     unfolding beginRefusal
-    begin-four wrong = sym (holds-first (later good (this (ap not wrong) refl)))
+    begin-twelve short = sym (passed-first m s keys bits n k _ e zero ∙ holds-first (this (lt-ltb _ _ short) refl))
 
-    module _ (list : isList m s keys bits n ≡ true) where
-      pub begin-twelve : min roomRefusals roomValues < questions → 12 ≡ beginRefusal m s keys bits n questions roomRefusals roomValues
-      unfolding beginRefusal
-      begin-twelve short = sym (holds-first (later good (later (ap not list) (this (lt-ltb _ _ short) refl))))
-
-      pub begin-none : questions ≤ min roomRefusals roomValues → 0 ≡ beginRefusal m s keys bits n questions roomRefusals roomValues
-      unfolding beginRefusal
-      begin-none room = sym (none-first _ (good, (ap not list, (le-ltb _ _ room, tt))))
+    pub begin-none : questions ≤ min roomRefusals roomValues → 0 ≡ beginRefusal m s keys bits n questions roomRefusals roomValues
+    unfolding beginRefusal
+    begin-none room = sym (passed-first m s keys bits n k _ e zero ∙ none-first _ (le-ltb _ _ room, tt))
 
 counted : {a b b′ : ℕ} → b ≡ b′ → _≡_ {A = Counted} (record { refusal = a; count = b }) (record { refusal = a; count = b′ })
 counted {a} e i = record { refusal = a; count = e i }

@@ -2,8 +2,7 @@
 ghost use mathlib.Core.Path.{_≡_};
 ghost use Rattle.batch.specs.Run.{beginRefusal, beginOf, answerOf};
 use definitions::Counted;
-use list::check;
-use list::settings;
+use list::refusal::first_refusal;
 
 // Where a batch stands: the settings and the number of records, the refusal of the batch, or 0, how many questions there are, and the place of the next.
 pub struct State {
@@ -28,11 +27,9 @@ fn begin_refusal(
 ) -> u32
     ensures { λ r. ⌜ r ≡ beginRefusal m s (now (keys .entry)) (now (bits .entry)) n questions «room_refusals» «room_values» ⌝ }
 {
-    if settings::are_bad(m, s) {
-        return 1;
-    }
-    if !check::is_list(m, s, keys, bits, n) {
-        return 4;
+    let refusal = first_refusal(m, s, keys, bits, n);
+    if refusal != 0 {
+        return refusal as u32;
     }
     if room_refusals < questions {
         return 12;

@@ -8,17 +8,19 @@ use native.Mathlib.Omega.{arith}
 use lib.ListN.{length}
 use lib.Seq.{sets}
 use lib.Dec.{eqb}
-use borrow.Author.Tests.{lt-ltb}
+use borrow.Author.Tests.{lt-ltb, ne-eqb}
 use Rattle.definitions.specs.Read.{room, recordsOf, isList}
 use Rattle.definitions.specs.Buffer.{over}
 use Rattle.definitions.specs.File.{bitBytes, fileLength, headOf, bytesOfRecords, fileOf}
 use Rattle.definitions.specs.Refusal.{accepted, badSettings}
 use Rattle.definitions.specs.Calls.Store.{stored, storeRefusal, store, storeFile}
 use Rattle.definitions.specs.declared.Counted.{Counted}
-use Rattle.definitions.proofs.First.{this, later, holds-first}
+use Rattle.definitions.proofs.First.{this, later, holds-first, accepted-left}
 use Rattle.definitions.proofs.FileOf.{length-file}
 use Rattle.definitions.proofs.Records.{records-length}
 use Rattle.definitions.proofs.Buffer.{sets-over}
+use Rattle.list.specs.First.{firstRefusal}
+use Rattle.list.proofs.FirstRefusal.{refused-first, first-small}
 use Rattle.list.proofs.Tests.{good-settings}
 use Rattle.file.proofs.Accepted.{store-accepts}
 use Rattle.file.proofs.Fits.{list-parts, list-short}
@@ -40,17 +42,17 @@ module _ (m s : ℕ) (keys bits : List ℕ) (n : ℕ) (file : List ℕ) where
         sym (λ i. accepted (e i) (over (stored m s keys bits n) file) file),
       )
 
-  -- 1
-  pub bad-settings : badSettings m s ≡ true → Stored (record { refusal = 1; count = 0 }) file
+  -- 1 and 4
+  pub refused-early : (k : ℕ) → k ≡ firstRefusal m s keys bits n → (k ≡ 0 → ⊥) → Stored (record { refusal = k; count = 0 }) file
   unfolding storeRefusal
-  bad-settings bad = by-number 1 (holds-first (this bad refl))
+  refused-early k e h =
+      let small = first-small m s keys bits n in
+      let bytes = length (stored m s keys bits n) in
+      let told = by-number k (sym (refused-first m s keys bits n k _ e h)) in
+      let none = accepted-left {refusal = k} bytes (cond (eqb k 12) bytes 0) h ∙ ap (λ b. cond b bytes 0) (ne-eqb k 12 (λ twelve. omega arith)) in
+      ((λ i. record { refusal = k; count = sym none i }) ∙ told .0, sym (accepted-left {refusal = k} (over (stored m s keys bits n) file) file h) ∙ told .1)
 
   module _ (good : badSettings m s ≡ false) where
-    -- 4
-    pub no-list : isList m s keys bits n ≡ false → Stored (record { refusal = 4; count = 0 }) file
-    unfolding storeRefusal
-    no-list bad = by-number 4 (holds-first (later good (this (ap not bad) refl)))
-
     module _ (list : isList m s keys bits n ≡ true) where
       -- there are n records
       pub roomy : n ≤ room keys bits

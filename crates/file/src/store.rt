@@ -5,25 +5,16 @@ use crate::head;
 use crate::layout;
 use crate::records;
 use definitions::Counted;
-use list::check;
-use list::settings;
+use list::refusal::first_refusal;
 
 // The count is in bytes; with 12 it is the number of bytes needed.
 pub fn store(m: u32, s: u32, keys: &[u32], bits: &[u32], n: usize, file: &mut [u8]) -> Counted
     ensures { λ r. ⌜ r ≡ store m s (now (keys .entry)) (now (bits .entry)) n (now (file .entry)) ⌝ }
     ensures { λ _. ⌜ now (file .exit) ≡ storeFile m s (now (keys .entry)) (now (bits .entry)) n (now (file .entry)) ⌝ }
 {
-    if settings::are_bad(m, s) {
-        return Counted {
-            refusal: 1,
-            count: 0,
-        };
-    }
-    if !check::is_list(m, s, keys, bits, n) {
-        return Counted {
-            refusal: 4,
-            count: 0,
-        };
+    let refusal = first_refusal(m, s, keys, bits, n);
+    if refusal != 0 {
+        return Counted { refusal, count: 0 };
     }
     let width = layout::width(s);
     let needed = layout::length(width, n);

@@ -1,13 +1,13 @@
 -- The parent's key: it is that of the block of which a block is a quadrant, the one ancestor that is a level up. Rests on Parent and Ancestor.
 use Prim.Native.Nat.{ℕ, zero, suc, _+_, _-_, _*_, _/_, _^_, _≤_, _<_}
-use native.Mathlib.Nat.{add-mul, mul-assoc, zero-div, zero-mul}
+use native.Mathlib.Nat.{add-mul, mul-assoc, pow-suc, zero-div, zero-mul}
 use native.Mathlib.Omega.{arith}
 use mathlib.Core.Path.{_≡_, refl, sym, ap, _∙_}
 use mathlib.Core.Bool.{true}
 use mathlib.Core.Logic.{_≢_}
 use lib.Pow.{pow-add}
 use lib.Arith.{digits-div}
-use Rattle.keys.specs.Key.{levelOf, validKey, childKey, parentKey}
+use Rattle.keys.specs.Key.{levelOf, heightOf, validKey, childKey, parentKey}
 use Rattle.keys.specs.Block.{isAncestor}
 use Rattle.keys.proofs.Under.{Under, Block, here, nw, ne, sw, se, Quadrant, is-nw, is-ne, is-sw, is-se, quadrant-under}
 use Rattle.keys.proofs.Interval.{within, under-height, key-within, apart}
@@ -147,3 +147,13 @@ pub child-valid : {m k r c κ : ℕ} (d : ℕ)
     → d ≤ 4
     → (validKey m (childKey κ k d) ≡ true) × (parentKey m (childKey κ k d) ≡ κ)
 child-valid {k} {r} {c} {κ} d b least most = from-child b (child-of k r c κ d least most)
+
+-- as the code has them, by the step: what the digit of a block is worth in its key
+pub child-by-step : (κ k digit : ℕ) → κ + digit * 5 ^ k ≡ childKey κ k digit
+child-by-step κ k digit = refl
+
+pub parent-by-step : (m κ : ℕ) → κ / (5 ^ heightOf m κ * 5) * (5 ^ heightOf m κ * 5) ≡ parentKey m κ
+unfolding parentKey
+parent-by-step m κ =
+    let wide : 5 ^ heightOf m κ * 5 ≡ 5 ^ suc (heightOf m κ) = let e = pow-suc 5 (heightOf m κ) in omega arith in
+    ap (λ (x : ℕ). κ / x * x) wide

@@ -1,10 +1,9 @@
-// Keys of blocks (document 01, "Keys"): the key type's constants, child and parent, level, validity, the block of a key, the key of a pixel,
-// and ancestors. Only crates above this one call these functions; what they require is shown there.
+// Keys of blocks (document 01, "Keys"): the key type's constants, child and parent, level, validity, the block of a key and the key of a pixel.
+// Only crates above this one call these functions; what they require is shown there.
 ghost use mathlib.Core.Path.{_≡_};
-ghost use mathlib.Core.Bool.{true};
-ghost use Prim.Native.Nat.{_≤_, _<_, _^_};
-ghost use Rattle.keys.specs.Key.{rootKey, validKey, levelOf, heightOf, childKey, parentKey};
-ghost use Rattle.keys.specs.Block.{rowOf, columnOf, sideOf, pixelKey, keyAround, isAncestor};
+ghost use Prim.Native.Nat.{_+_, _*_, _/_, _^_, _≤_, _<_};
+ghost use Rattle.keys.specs.Key.{validKey, levelOf, heightOf};
+ghost use Rattle.keys.specs.Block.{rowOf, columnOf, sideOf, pixelKey, keyAround};
 
 pub mod power;
 pub mod quadrant;
@@ -28,22 +27,29 @@ impl Key {
 
     pub const SLOT_LIMIT: u32 = 32;
 
-    pub fn root() -> Key
-        ensures { λ r. ⌜ r .number ≡ rootKey ⌝ }
+    // A child of a block: digit 1 NW, 2 NE, 3 SW, 4 SE, each worth as many keys as the child has. Whoever goes from level to level has that number, the
+    // step, at hand; so no power is worked out here.
+    pub fn child(parent: u32, step: u32, digit: u32) -> u32
+        requires { ⌜ (parent < 5 ^ 10) × (step ≤ 5 ^ 10) × (digit ≤ 4) ⌝ }
+        ensures { λ r. ⌜ r ≡ parent + digit * step ⌝ }
     {
-        Key { number: Key::ROOT }
+        parent + digit * step
     }
 
-    // The child that has the given height: digit 1 NW, 2 NE, 3 SW, 4 SE.
-    pub fn child(self, height: u32, digit: u32) -> Key
-        requires { ⌜ (self .number < 5 ^ 10) × (height ≤ 10) × (digit ≤ 4) ⌝ }
-        ensures { λ r. ⌜ r .number ≡ childKey (self .number) height digit ⌝ }
+    // The block around a key that has as many keys as step says: the digits below become zeros.
+    pub fn enclosing(key: u32, step: u32) -> u32
+        requires { ⌜ 1 ≤ step ⌝ }
+        ensures { λ r. ⌜ (r ≡ key / step * step) × (r ≤ key) ⌝ }
     {
-        let number = self.number;
-        let step = power::power_of_five(height);
-        Key {
-            number: number + digit * step,
-        }
+        key / step * step
+    }
+
+    // The parent of the block that has as many keys as step says: five times as many.
+    pub fn parent(key: u32, step: u32) -> u32
+        requires { ⌜ (1 ≤ step) × (step ≤ 5 ^ 9) ⌝ }
+        ensures { λ r. ⌜ (r ≡ key / (step * 5) * (step * 5)) × (r ≤ key) ⌝ }
+    {
+        Key::enclosing(key, step * 5)
     }
 
     // How many digits stand before the first zero, read from the left as on paper. The key 24 of Figure 2 of document 000 is the number 14, at m = 2:
@@ -76,18 +82,6 @@ impl Key {
     {
         let level = self.level(m);
         if m < level { 0 } else { m - level }
-    }
-
-    // The block that this one is a quadrant of; the root's is the root.
-    pub fn parent(self, m: u32) -> Key
-        requires { ⌜ m ≤ 10 ⌝ }
-        ensures { λ r. ⌜ r .number ≡ parentKey m (self .number) ⌝ }
-    {
-        let number = self.number;
-        let step = power::power_of_five(self.height(m) + 1);
-        Key {
-            number: number / step * step,
-        }
     }
 
     // Some digits from 1 to 4 and then zeros.
@@ -173,16 +167,5 @@ impl Key {
         Key {
             number: number / step * step,
         }
-    }
-
-    // A different, larger block that contains the other.
-    pub fn is_ancestor_of(self, other: Key, m: u32) -> bool
-        requires { ⌜ (m ≤ 10) × (validKey m (self .number) ≡ true) × (validKey m (other .number) ≡ true) ⌝ }
-        ensures { λ r. ⌜ r ≡ isAncestor m (self .number) (other .number) ⌝ }
-    {
-        let a = self.number;
-        let b = other.number;
-        let step = power::power_of_five(self.height(m));
-        a < b && b < a + step
     }
 }

@@ -15,7 +15,9 @@ use Rattle.definitions.specs.Refusal.{first, badSettings}
 use Rattle.definitions.specs.Calls.WriteLeaves.{leavesIn, writeLeavesRefusal, writeLeaves, writtenLeafKeys, writtenLeafFeatures}
 use Rattle.definitions.specs.declared.Counted.{Counted}
 use Rattle.definitions.proofs.First.{accepted-done, accepted-left}
+use Rattle.list.specs.First.{firstRefusal}
 use Rattle.list.specs.Own.{shownBy}
+use Rattle.list.proofs.FirstRefusal.{refused-first, first-small}
 use Rattle.list.proofs.Own.{own-list, own-length}
 use Rattle.leaves.proofs.LeavesOf.{leaves-count}
 use Rattle.leaves.proofs.ReadAnswer.{counted}
@@ -30,14 +32,6 @@ leaves-number m s keys bits n e =
     omega arith
 
 module _ (m s : ℕ) (keys bits : List ℕ) (n : ℕ) (leafKeys leafFeatures : List ℕ) where
-  pub write-one : badSettings m s ≡ true → 1 ≡ writeLeavesRefusal m s keys bits n leafKeys leafFeatures
-  unfolding writeLeavesRefusal first
-  write-one e = rw e
-
-  pub write-four : badSettings m s ≡ false → isList m s keys bits n ≡ false → 4 ≡ writeLeavesRefusal m s keys bits n leafKeys leafFeatures
-  unfolding writeLeavesRefusal first
-  write-four e f = rw (e, f)
-
   pub write-twelve : badSettings m s ≡ false → isList m s keys bits n ≡ true → room leafKeys leafFeatures < length (leavesIn keys bits n)
       → 12 ≡ writeLeavesRefusal m s keys bits n leafKeys leafFeatures
   unfolding writeLeavesRefusal first
@@ -62,6 +56,14 @@ module _ (m s : ℕ) (keys bits : List ℕ) (n : ℕ) (leafKeys leafFeatures : L
     counted e (f ∙ ap (λ x. cond (eqb x 12) (length (leavesIn keys bits n)) 0) e ∙ sym (accepted-left _ _ (λ z. h (e ∙ z)))),
     (sym (accepted-left _ leafKeys (λ z. h (e ∙ z))), sym (accepted-left _ leafFeatures (λ z. h (e ∙ z)))),
   )
+
+  -- 1 and 4
+  pub write-early : (r : ℕ) → r ≡ firstRefusal m s keys bits n → (r ≡ 0 → ⊥) → Answered (record { refusal = r; count = 0 }) leafKeys leafFeatures
+  unfolding writeLeavesRefusal
+  write-early r e h =
+      let small = first-small m s keys bits n in
+      write-refused r 0 (refused-first m s keys bits n r _ e h) h
+      (sym (ap (λ b. cond b (length (leavesIn keys bits n)) 0) (ne-eqb r 12 (λ twelve. omega arith))))
 
   -- an accepted one
   pub write-done : (count : ℕ) (leafKeys′ leafFeatures′ : List ℕ) → 0 ≡ writeLeavesRefusal m s keys bits n leafKeys leafFeatures

@@ -11,7 +11,7 @@ use crate::count;
 use crate::lay;
 use crate::pick;
 use definitions::Counted;
-use list::check;
+use list::refusal::first_refusal;
 use list::settings;
 
 fn smaller(a: usize, b: usize) -> usize
@@ -94,17 +94,9 @@ pub fn write_leaves(
     ensures { λ _. ⌜ now («leaf_keys» .exit) ≡ writtenLeafKeys m s (now (keys .entry)) (now (bits .entry)) n (now («leaf_keys» .entry)) (now («leaf_features» .entry)) ⌝ }
     ensures { λ _. ⌜ now («leaf_features» .exit) ≡ writtenLeafFeatures m s (now (keys .entry)) (now (bits .entry)) n (now («leaf_keys» .entry)) (now («leaf_features» .entry)) ⌝ }
 {
-    if settings::are_bad(m, s) {
-        return Counted {
-            refusal: 1,
-            count: 0,
-        };
-    }
-    if !check::is_list(m, s, keys, bits, n) {
-        return Counted {
-            refusal: 4,
-            count: 0,
-        };
+    let refusal = first_refusal(m, s, keys, bits, n);
+    if refusal != 0 {
+        return Counted { refusal, count: 0 };
     }
     let leaves = n - n / 4;
     if smaller(leaf_keys.len(), leaf_features.len()) < leaves {

@@ -3,3 +3,4 @@ pub mod Own
 pub mod Sorted
 pub mod Among
 pub mod Shown
+pub mod First

@@ -33,22 +33,22 @@ use Rattle.definitions.proofs.Rule as Rule
 use Rattle.definitions.proofs.Found as Found
 use Rattle.definitions.proofs.Found.Laws as Found′
 use Rattle.rules.specs.Run.{progressOf, bounding, tableRun, beginOf, ownAt, nextOf, answerOf}
-use Rattle.rules.specs.declared.run.State.{State}
-use Rattle.rules.proofs.run.State as State
-use Rattle.rules.proofs.run.State.Laws as State′
+use Rattle.rules.specs.declared.state.State.{State}
+use Rattle.rules.proofs.state.State as State
+use Rattle.rules.proofs.state.State.Laws as State′
 use Rattle.lending.proofs.Chains.{chain, apart}
 use Rattle.lending.proofs.Slices.{Slice, val, token, shared, at-list, copied}
 use Rattle.lending.proofs.Calling.{Gives, Returned, returns-struct}
 use Rattle.rules.proofs.RunSlices.{RunSlices, stateVals, valOf, reads, tokens, answers, each-read, reads-twice, ReadyAt, Result, call-tokens, gathers, scatters}
 use Rattle.rules.proofs.LentAnswers.{Lending, lent-answers}
-use Rattle.rules.proofs.begin.begin as begin
-use Rattle.rules.proofs.begin.begin.Symbol.{name as #begin}
-use Rattle.rules.proofs.begin.begin_next as next
-use Rattle.rules.proofs.begin.begin_next.Symbol.{name as #next}
-use Rattle.rules.proofs.begin.answer as answer
-use Rattle.rules.proofs.begin.answer.Symbol.{name as #answer}
-use Rattle.rules.proofs.run.run as run′
-use Rattle.rules.proofs.run.run.Symbol.{name as #run}
+use Rattle.rules.proofs.runs.begin as begin
+use Rattle.rules.proofs.runs.begin.Symbol.{name as #begin}
+use Rattle.rules.proofs.runs.begin_next as next
+use Rattle.rules.proofs.runs.begin_next.Symbol.{name as #next}
+use Rattle.rules.proofs.runs.answer as answer
+use Rattle.rules.proofs.runs.answer.Symbol.{name as #answer}
+use Rattle.rules.proofs.all_rules.run as run′
+use Rattle.rules.proofs.all_rules.run.Symbol.{name as #run}
 
 -- the contracts
 module _ {M : Type 1} (𝓤 : URA M) (H : Heap 𝓤) (A : Atoms 𝓤) (mem : Memory → SProp 𝓤) (run : Routine → Fun 𝓤) where

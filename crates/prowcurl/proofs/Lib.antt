@@ -1,7 +1,10 @@
+-- what the promises of the C functions say together
 pub mod RoundTrip
 pub mod OneAnswer
 pub mod HistorySteps
+-- findings, walked by hand
 pub mod FindingsCalls
 pub mod FindingsEntryExit
+-- the batch, walked by hand
 pub mod BatchCalls
 pub mod BatchEntryExit

@@ -5,8 +5,8 @@ ghost use mathlib.Core.Path.{_≡_};
 ghost use Rattle.definitions.specs.Calls.Findings.{findings as findingsAnswer, findingsIds, findingsKeys};
 use definitions::Found;
 use definitions::Rule;
-use rules::begin;
-use rules::run;
+use rules::all_rules;
+use rules::runs;
 
 #[no_mangle]
 pub extern "C" fn hlq_findings(
@@ -28,7 +28,7 @@ pub extern "C" fn hlq_findings(
         × (now («found_ids» .exit) ≡ findingsIds m s (now (keys .entry)) (now (bits .entry)) n office (now (rules .entry)) (now (offices .entry)) (now (ids .entry)) (now (waived .entry)) rows (now («found_ids» .entry)) (now («found_keys» .entry)))
         × (now («found_keys» .exit) ≡ findingsKeys m s (now (keys .entry)) (now (bits .entry)) n office (now (rules .entry)) (now (offices .entry)) (now (ids .entry)) (now (waived .entry)) rows (now («found_ids» .entry)) (now («found_keys» .entry))) ⌝ }
 {
-    let checking = begin::begin(
+    let checking = runs::begin(
         m,
         s,
         keys,
@@ -42,7 +42,7 @@ pub extern "C" fn hlq_findings(
         found_ids.len(),
         found_keys.len(),
     );
-    let checked = run::run(
+    let checked = all_rules::run(
         rules,
         keys,
         bits,
@@ -52,8 +52,8 @@ pub extern "C" fn hlq_findings(
         found_keys,
         checking,
     );
-    let counting = begin::begin_next(checked);
-    let counted = run::run(
+    let counting = runs::begin_next(checked);
+    let counted = all_rules::run(
         rules,
         keys,
         bits,
@@ -63,8 +63,8 @@ pub extern "C" fn hlq_findings(
         found_keys,
         counting,
     );
-    let writing = begin::begin_next(counted);
-    let written = run::run(
+    let writing = runs::begin_next(counted);
+    let written = all_rules::run(
         rules,
         keys,
         bits,
@@ -74,5 +74,5 @@ pub extern "C" fn hlq_findings(
         found_keys,
         writing,
     );
-    begin::answer(written)
+    runs::answer(written)
 }

@@ -73,15 +73,17 @@ module _ (key step h : ℕ) (is : step ≡ 5 ^ h) where
       λ d x e. ap₂ (λ own y. childBits l own b y) around-own e in
       same-four (child 1 _ (omega arith)) (child 2 _ (omega arith)) (child 3 _ (omega arith)) (child 4 _ (omega arith))
 
--- by the four children, one after the other
-pub wider-read : (key step : ℕ) (l : List Record) (b nw ne sw se : ℕ)
-    → nw ≡ childBits l (key / step * step) b (key / (step * 5) * (step * 5) + step)
-    → ne ≡ childBits l (key / step * step) b (key / (step * 5) * (step * 5) + 2 * step)
-    → sw ≡ childBits l (key / step * step) b (key / (step * 5) * (step * 5) + 3 * step)
-    → se ≡ childBits l (key / step * step) b (key / (step * 5) * (step * 5) + 4 * step)
+-- by the four children, one after the other, as the code has them
+pub wider-read : (key step : ℕ) (l : List Record) (b own parent first second third fourth nw ne sw se : ℕ)
+    → own ≡ key / step * step → parent ≡ key / (step * 5) * (step * 5)
+    → first ≡ parent + 1 * step → second ≡ parent + 2 * step → third ≡ parent + 3 * step → fourth ≡ parent + 4 * step
+    → nw ≡ childBits l own b first → ne ≡ childBits l own b second → sw ≡ childBits l own b third → se ≡ childBits l own b fourth
     → bitOr (bitOr nw ne) (bitOr sw se) ≡ widerBits l key b step
 unfolding widerBits unionOfFour
-wider-read key step l b nw ne sw se e₁ e₂ e₃ e₄ = same-four e₁ e₂ e₃ e₄
+wider-read key step l b own parent first second third fourth nw ne sw se own-is parent-is f₁ f₂ f₃ f₄ e₁ e₂ e₃ e₄ =
+    let child : (x y z : ℕ) → z ≡ childBits l own b x → x ≡ y → z ≡ childBits l (key / step * step) b y
+    = λ x y z e f. e ∙ ap₂ (λ u v. childBits l u b v) own-is f in
+    same-four (child first _ nw e₁ (omega arith)) (child second _ ne e₂ (omega arith)) (child third _ sw e₃ (omega arith)) (child fourth _ se e₄ (omega arith))
 
 -- a block around a key begins at or before it
 pub multiple-le : (key step : ℕ) → key / step * step ≤ key

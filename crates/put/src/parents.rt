@@ -5,6 +5,7 @@ ghost use lib.ListN.{length};
 ghost use Rattle.definitions.specs.Read.{recordsOf};
 ghost use Rattle.list.specs.Sorted.{Sorted};
 ghost use Rattle.put.specs.Family.{bitsAt, childBits, widerBits};
+use keys::Key;
 use list::standing;
 
 // The bits of a block by the list: those of the last record at or before its key.
@@ -37,12 +38,11 @@ pub fn parent_bits(keys: &[u32], bits: &[u32], n: usize, key: u32, b: u32, step:
     requires { ⌜ (key < 5 ^ 10) × (1 ≤ step) × (step ≤ 5 ^ 9) ⌝ }
     ensures { λ r. ⌜ r ≡ widerBits (recordsOf (now (keys .entry)) (now (bits .entry)) n) key b step ⌝ }
 {
-    let own = key / step * step;
-    let wide = step * 5;
-    let parent = key / wide * wide;
-    let nw = child_bits(keys, bits, n, own, b, parent + step);
-    let ne = child_bits(keys, bits, n, own, b, parent + 2 * step);
-    let sw = child_bits(keys, bits, n, own, b, parent + 3 * step);
-    let se = child_bits(keys, bits, n, own, b, parent + 4 * step);
+    let own = Key::enclosing(key, step);
+    let parent = Key::parent(key, step);
+    let nw = child_bits(keys, bits, n, own, b, Key::child(parent, step, 1));
+    let ne = child_bits(keys, bits, n, own, b, Key::child(parent, step, 2));
+    let sw = child_bits(keys, bits, n, own, b, Key::child(parent, step, 3));
+    let se = child_bits(keys, bits, n, own, b, Key::child(parent, step, 4));
     (nw | ne) | (sw | se)
 }

@@ -13,19 +13,16 @@ use definitions::Standing;
 use definitions::Stands;
 use keys::Key;
 use keys::power;
-use list::check;
-use list::settings;
+use list::refusal::first_refusal;
 use list::standing as search;
 
 // Refusals 1, 4 and 8, or 0.
 fn standing_refusal(m: u32, s: u32, keys: &[u32], bits: &[u32], n: usize, key: u32) -> u64
     ensures { λ r. ⌜ r ≡ standingRefusal m s (now (keys .entry)) (now (bits .entry)) n key ⌝ }
 {
-    if settings::are_bad(m, s) {
-        return 1;
-    }
-    if !check::is_list(m, s, keys, bits, n) {
-        return 4;
+    let refusal = first_refusal(m, s, keys, bits, n);
+    if refusal != 0 {
+        return refusal;
     }
     let block = Key { number: key };
     if block.is_valid(m) { 0 } else { 8 }
@@ -105,11 +102,9 @@ pub fn part<'a>(m: u32, s: u32, keys: &'a [u32], bits: &[u32], n: usize, key: u3
 fn raster_refusal(m: u32, s: u32, keys: &[u32], bits: &[u32], n: usize, raster: &[u8]) -> u64
     ensures { λ r. ⌜ r ≡ rasterRefusal m s (now (keys .entry)) (now (bits .entry)) n (now (raster .entry)) ⌝ }
 {
-    if settings::are_bad(m, s) {
-        return 1;
-    }
-    if !check::is_list(m, s, keys, bits, n) {
-        return 4;
+    let refusal = first_refusal(m, s, keys, bits, n);
+    if refusal != 0 {
+        return refusal;
     }
     let side = power::power_of_two(m) as usize;
     if raster.len() == side * side { 0 } else { 2 }

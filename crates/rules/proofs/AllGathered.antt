@@ -15,7 +15,7 @@ use Rattle.definitions.specs.declared.Rule.{Rule}
 use Rattle.definitions.proofs.Waivers.{live-none, live-hidden, live-kept}
 use Rattle.window.specs.Gather.{written}
 use Rattle.window.proofs.Written.{written-none, written-append}
-use Rattle.rules.specs.declared.run.State.{State}
+use Rattle.rules.specs.declared.state.State.{State}
 use Rattle.rules.specs.Run.{waiversBelow, Progress, progressOf, counting, picture, isUnknown, gathered, runOf}
 use Rattle.rules.proofs.Fold.{run-nil, run-cons}
 use Rattle.rules.proofs.StepCases.{step-gathers}

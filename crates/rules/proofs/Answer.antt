@@ -12,7 +12,7 @@ use Rattle.definitions.specs.Calls.Findings.{findings, findingsIds, findingsKey
 use Rattle.definitions.specs.declared.Rule.{Rule}
 use Rattle.definitions.specs.declared.Found.{Found}
 use Rattle.offices.specs.declared.own.Own.{Own}
-use Rattle.rules.specs.declared.run.State.{State}
+use Rattle.rules.specs.declared.state.State.{State}
 use Rattle.rules.specs.Run.{Progress, progressOf, bounding, restarting, ownPart, Fine, Ready, TableReady, runOf, tableRun, beginOf, ownAt, nextOf, answerOf}
 use Rattle.rules.proofs.NextCases.{next-stopped, next-faulty, next-left, next-counts, next-rests, next-full, next-writes}
 use Rattle.rules.proofs.Beginning.{below-zero, begin-ready}

@@ -11,9 +11,11 @@ use Rattle.definitions.specs.Read.{room, isList}
 use Rattle.definitions.specs.Refusal.{badSettings}
 use Rattle.definitions.specs.Offices.{badOffice}
 use Rattle.definitions.specs.Rules.{Finding, waiversOf}
+use Rattle.list.specs.First.{firstRefusal}
+use Rattle.list.proofs.FirstRefusal.{first-settings, first-no-list, first-good}
 use Rattle.offices.specs.Own.{noRows, ownOf}
 use Rattle.offices.specs.declared.own.Own.{Own}
-use Rattle.rules.specs.declared.run.State.{State}
+use Rattle.rules.specs.declared.state.State.{State}
 use Rattle.rules.specs.Run.{waiversGood, waiversBelow, progressOf, bounding, beginRefusal, beginOf, ownAt, Ready}
 use Rattle.rules.proofs.Settings.{good-level, good-slots}
 
@@ -36,15 +38,19 @@ module _ (office m s : ℕ) (keys bits : List ℕ) (n : ℕ) where
 
   pub begin-bad : badOffice office ≡ false → badSettings m s ≡ true → beginRefusal office m s keys bits n ≡ 1
   unfolding beginRefusal
-  begin-bad known e = rw (known, e)
+  begin-bad known e = rw known (first-settings m s keys bits n e)
 
   pub begin-no-list : badOffice office ≡ false → badSettings m s ≡ false → isList m s keys bits n ≡ false → beginRefusal office m s keys bits n ≡ 4
   unfolding beginRefusal
-  begin-no-list known e f = rw (known, e, f)
+  begin-no-list known e f = rw known (first-no-list m s keys bits n e (ap not f))
 
   pub begin-good : badOffice office ≡ false → badSettings m s ≡ false → isList m s keys bits n ≡ true → beginRefusal office m s keys bits n ≡ 0
   unfolding beginRefusal
-  begin-good known e f = rw (known, e, f)
+  begin-good known e f = rw known (first-good m s keys bits n e (ap not f))
+
+  pub begin-known : badOffice office ≡ false → beginRefusal office m s keys bits n ≡ firstRefusal m s keys bits n
+  unfolding beginRefusal
+  begin-known known = rw known
 
   -- and the other way
   pub zero-office : beginRefusal office m s keys bits n ≡ 0 → badOffice office ≡ false

@@ -13,7 +13,7 @@ use Rattle.definitions.specs.Rules.{findingOf, windowOfRule, findingsOf, waiver
 use Rattle.definitions.specs.declared.Rule.{Rule}
 use Rattle.definitions.proofs.Waivers.{live-and-hidden}
 use Rattle.window.proofs.Few.{select-few}
-use Rattle.rules.specs.declared.run.State.{State}
+use Rattle.rules.specs.declared.state.State.{State}
 use Rattle.rules.specs.Run.{Progress, progressOf, refusing, faultyFrom, bounding, restarting, pixelsOf, mayCome, picture, findingsAt, gathered, stepOf, runOf}
 use Rattle.rules.proofs.Fold.{run-nil, run-cons}
 use Rattle.rules.proofs.StepCases.{isFaulty, step-stopped, step-bad, step-faulty, step-good, step-gathers, served-bounds, walks-on}

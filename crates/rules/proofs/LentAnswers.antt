@@ -21,9 +21,9 @@ use denote.Slice.{finally}
 use denote.Steps.{only, facts, heard}
 use denote.Struct.Laws as LL
 use Rattle.rules.specs.Run.{Progress, progressOf}
-use Rattle.rules.specs.declared.run.State.{State}
-use Rattle.rules.proofs.run.State as State
-use Rattle.rules.proofs.run.State.Laws as State′
+use Rattle.rules.specs.declared.state.State.{State}
+use Rattle.rules.proofs.state.State as State
+use Rattle.rules.proofs.state.State.Laws as State′
 use Rattle.lending.proofs.Chains.{chain, apart, together}
 use Rattle.lending.proofs.Slices.{lent, kept, lends, gets-back}
 use Rattle.lending.proofs.Calling.{gave, Gives}

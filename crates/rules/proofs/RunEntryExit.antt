@@ -25,14 +25,14 @@ use denote.Struct.Laws as LL
 use denote.Triple.Entry.{Args, Vals, onEntry}
 use denote.Triple.Walked.{says, Stays, stay-dropped, stay-slice, walkOf, ends-at}
 use Rattle.definitions.proofs.Rule as Rule
-use Rattle.rules.specs.declared.run.State.{State}
-use Rattle.rules.proofs.run.State as State
-use Rattle.rules.proofs.run.State.Laws as State′
+use Rattle.rules.specs.declared.state.State.{State}
+use Rattle.rules.proofs.state.State as State
+use Rattle.rules.proofs.state.State.Laws as State′
 use Rattle.lending.proofs.Chains.{chain, apart, together, after-nothing}
 use Rattle.lending.proofs.Slices.{Slice, val, token, shared, mutable}
 use Rattle.rules.proofs.RunSlices.{RunSlices, stateVals, valOf, reads, tokens, answers, each-read, each-token, each-answer}
 use Rattle.rules.proofs.RunTurns.{Turn, all-ran}
-use Rattle.rules.proofs.run.run as run′
+use Rattle.rules.proofs.all_rules.run as run′
 
 -- what is had of the parameters at exit: the two answer slices
 abbrev pub stayed : Stays (run′.ended .signature .params) (run′.ended .kept)

@@ -22,9 +22,9 @@ use denote.Laws.{Is}
 use denote.Steps.{owned}
 use denote.Struct.Laws as LL
 use Rattle.rules.specs.Run.{Progress, progressOf, TableReady}
-use Rattle.rules.specs.declared.run.State.{State}
-use Rattle.rules.proofs.run.State as State
-use Rattle.rules.proofs.run.State.Laws as State′
+use Rattle.rules.specs.declared.state.State.{State}
+use Rattle.rules.proofs.state.State as State
+use Rattle.rules.proofs.state.State.Laws as State′
 use Rattle.lending.proofs.Chains.{chain, apart, together}
 use Rattle.lending.proofs.Slices.{Slice, token, shared, mutable, lent, copied}
 

@@ -8,8 +8,8 @@ use lib.ListN.{length, getD, take}
 use denote.Laws.{Is}
 use Rattle.definitions.specs.declared.Rule.{Rule}
 use Rattle.rules.specs.Run.{Progress, progressOf, TableReady, tableStep, tableRun}
-use Rattle.rules.specs.declared.run.State.{State}
-use Rattle.rules.proofs.run.State as State
+use Rattle.rules.specs.declared.state.State.{State}
+use Rattle.rules.proofs.state.State as State
 use Rattle.rules.proofs.Fold.{noRule, run-none, run-next, run-all}
 use Rattle.rules.proofs.TableRuns.{table-ready-step}
 use Rattle.rules.proofs.RunSlices.{RunSlices, stateVals, Result}

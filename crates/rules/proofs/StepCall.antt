@@ -28,14 +28,14 @@ use Rattle.definitions.specs.declared.Rule.{Rule}
 use Rattle.definitions.proofs.Rule as Rule
 use Rattle.definitions.proofs.Rule.Laws as Rule′
 use Rattle.rules.specs.Run.{progressOf, tableStep}
-use Rattle.rules.specs.declared.run.State.{State}
-use Rattle.rules.proofs.run.State as State
+use Rattle.rules.specs.declared.state.State.{State}
+use Rattle.rules.proofs.state.State as State
 use Rattle.lending.proofs.Slices.{val, at-list}
 use Rattle.lending.proofs.Calling.{Gives}
 use Rattle.rules.proofs.RunSlices.{RunSlices, stateVals, valOf, reads, tokens, answers, ReadyAt, Result, call-tokens, gathers, scatters}
 use Rattle.rules.proofs.LentAnswers.{Lending, lent-answers}
-use Rattle.rules.proofs.step.step as step
-use Rattle.rules.proofs.step.step.Symbol.{name as #step}
+use Rattle.rules.proofs.one_rule.step as step
+use Rattle.rules.proofs.one_rule.step.Symbol.{name as #step}
 
 -- the machine values of a rule
 abbrev pub ruleVals : Rule → List Val

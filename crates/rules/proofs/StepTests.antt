@@ -11,9 +11,9 @@ use Rattle.keys.proofs.Cases.{split}
 use Rattle.definitions.specs.Window.{isWindow}
 use Rattle.definitions.specs.Rules.{windowOfRule, isRule}
 use Rattle.definitions.specs.declared.Rule.{Rule}
-use Rattle.rules.specs.declared.run.State.{State}
+use Rattle.rules.specs.declared.state.State.{State}
 use Rattle.rules.specs.Run.{mayCome}
-use Rattle.rules.specs.Step.{OwnFrom}
+use Rattle.rules.specs.Step.{OwnFrom, OwnEnd}
 
 -- three tests, in the order of the code
 first-fails : (a b c : Bool) → a ≡ false → false ≡ a && (b && c)
@@ -56,3 +56,15 @@ module _ (ids : List ℕ) (from count id : ℕ) where
   -- none yet
   pub own-none : from ≤ count → OwnFrom ids from count id from
   own-none h = record { start = omega arith; within = h; own = λ i after before. absurd (omega arith) }
+
+  -- the end is one place alone
+  not-before : (place place′ : ℕ) → OwnEnd ids from count id place → OwnEnd ids from count id place′ → place < place′ → ⊥
+  not-before place place′ o o′ h =
+      let far = o′ .run .within in
+      let larger = o .past (omega arith) in
+      let own = o′ .run .own place (o .run .start) h in
+      omega arith
+
+  pub own-end-one : (place place′ : ℕ) → OwnEnd ids from count id place → OwnEnd ids from count id place′ → place ≡ place′
+  own-end-one place place′ o o′ =
+      split place place′ (λ h. absurd (not-before place place′ o o′ h)) (λ h. split place′ place (λ k. absurd (not-before place′ place o′ o k)) (λ k. omega arith))

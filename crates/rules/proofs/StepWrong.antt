@@ -7,7 +7,7 @@ use lib.ListN.{getD}
 use lib.Dec.{ltb}
 use Rattle.definitions.specs.Rules.{waiversOf}
 use Rattle.definitions.specs.declared.Rule.{Rule}
-use Rattle.rules.specs.declared.run.State.{State}
+use Rattle.rules.specs.declared.state.State.{State}
 use Rattle.rules.specs.Run.{Progress, waiversBelow, mayCome, isUnknown, Fine}
 use Rattle.rules.specs.Step.{Gatherable}
 use Rattle.rules.proofs.GoodWaivers.{good-in-order}

@@ -10,7 +10,7 @@ use lib.ListN.{length}
 use Rattle.keys.proofs.Cases.{decide, split, equal}
 use Rattle.definitions.specs.declared.Rule.{Rule}
 use Rattle.offices.specs.declared.own.Own.{Own}
-use Rattle.rules.specs.declared.run.State.{State}
+use Rattle.rules.specs.declared.state.State.{State}
 use Rattle.rules.specs.Run.{Progress, progressOf, refusing, bounding, resting, restarting, runOf, beginOf, nextOf, answerOf}
 use Rattle.rules.proofs.NextCases.{next-stopped, next-faulty, next-left, next-counts, next-rests, next-writes, answer-refused}
 use Rattle.rules.proofs.Beginning.{Fit, begin-not-full}

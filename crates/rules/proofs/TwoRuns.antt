@@ -18,7 +18,7 @@ use Rattle.definitions.specs.declared.Rule.{Rule}
 use Rattle.offices.specs.declared.own.Own.{Own}
 use Rattle.window.specs.Gather.{written}
 use Rattle.window.proofs.Written.{written-over}
-use Rattle.rules.specs.declared.run.State.{State}
+use Rattle.rules.specs.declared.state.State.{State}
 use Rattle.rules.specs.Run.{waiversBelow, waiversGood, Progress, progressOf, restarting, runOf, beginRefusal, beginOf, nextOf, answerOf}
 use Rattle.rules.proofs.WaiverPlaces.{waivers-length}
 use Rattle.rules.proofs.NextCases.{next-stopped, next-faulty, next-left, next-full, next-writes, answer-done, answer-full, answer-refused}

@@ -9,15 +9,15 @@ use lib.Dec.{leb, ltb, eqb}
 use Rattle.keys.specs.Key.{slotLimit, validKey}
 use Rattle.definitions.specs.Picture.{Picture}
 use Rattle.definitions.specs.Read.{room, recordsOf, pictureOf, isList}
-use Rattle.definitions.specs.Refusal.{badSettings}
 use Rattle.definitions.specs.Offices.{badOffice}
 use Rattle.definitions.specs.Rules.{Finding, findingsOf, waiversOf, liveOf, hiddenCount, isRule, findingsAscend}
 use Rattle.definitions.specs.declared.Rule.{Rule}
 use Rattle.definitions.specs.declared.Found.{Found}
+use Rattle.list.specs.First.{firstRefusal}
 use Rattle.offices.specs.Own.{noRows, ownOf}
 use Rattle.offices.specs.declared.own.Own.{Own}
 use Rattle.window.specs.Gather.{written}
-use Rattle.rules.specs.declared.run.State.{State}
+use Rattle.rules.specs.declared.state.State.{State}
 
 -- how many waivers have a rule's id below x
 unfoldable pub waiversBelow : ℕ → List Finding → ℕ
@@ -259,7 +259,7 @@ module _ (keys bits ids waived : List ℕ) where
 
 -- how a counting run begins: with the refusals 21, 1 and 4 decided, and whether the table is wrong by itself
 unfoldable pub beginRefusal : ℕ → ℕ → ℕ → List ℕ → List ℕ → ℕ → ℕ
-beginRefusal office m s keys bits n = cond (badOffice office) 21 (cond (badSettings m s) 1 (cond (isList m s keys bits n) 0 4))
+beginRefusal office m s keys bits n = cond (badOffice office) 21 (firstRefusal m s keys bits n)
 
 unfoldable pub beginOf : ℕ → ℕ → List ℕ → List ℕ → ℕ → ℕ → Own → ℕ → ℕ → State
 beginOf m s keys bits n office own roomIds roomKeys =

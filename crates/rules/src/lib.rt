@@ -1,4 +1,7 @@
-// Rules and waivers (document 01): the runs over the rules that findings is made of. A run begins, goes through the rules one by one, and answers.
-pub mod begin;
-pub mod run;
-pub mod step;
+// Rules and waivers (document 01): the runs over the rules that findings is made of, from where a run stands to what the last answers. Each file uses only
+// those above it.
+pub mod all_rules;
+pub mod one_rule;
+pub mod runs;
+pub mod state;
+pub mod waivers;

@@ -4,18 +4,15 @@ ghost use Rattle.definitions.specs.Calls.FillSummary.{fillRefusal, fillSummary,
 use crate::blocks;
 use crate::renew;
 use definitions::Done;
-use list::check;
-use list::settings;
+use list::refusal::first_refusal;
 
 // Refusals 1, 4 and 18, or 0.
 fn fill_refusal(m: u32, s: u32, keys: &[u32], bits: &[u32], n: usize, summary: &[u32]) -> u64
     ensures { λ r. ⌜ r ≡ fillRefusal m s (now (keys .entry)) (now (bits .entry)) n (now (summary .entry)) ⌝ }
 {
-    if settings::are_bad(m, s) {
-        return 1;
-    }
-    if !check::is_list(m, s, keys, bits, n) {
-        return 4;
+    let refusal = first_refusal(m, s, keys, bits, n);
+    if refusal != 0 {
+        return refusal;
     }
     if blocks::have_length(m, s, summary) {
         0

@@ -12,18 +12,15 @@ use definitions::Counted;
 use definitions::Exists;
 use definitions::Reported;
 use definitions::Window;
-use list::check;
-use list::settings;
+use list::refusal::first_refusal;
 
 // Refusals 1, 4 and 6, or 0.
 fn window_refusal(m: u32, s: u32, keys: &[u32], bits: &[u32], n: usize, window: Window) -> u64
     ensures { λ r. ⌜ r ≡ reportRefusal m s (now (keys .entry)) (now (bits .entry)) n window ⌝ }
 {
-    if settings::are_bad(m, s) {
-        return 1;
-    }
-    if !check::is_list(m, s, keys, bits, n) {
-        return 4;
+    let refusal = first_refusal(m, s, keys, bits, n);
+    if refusal != 0 {
+        return refusal;
     }
     if is_window(m, window) { 0 } else { 6 }
 }

@@ -41,9 +41,9 @@ use Rattle.definitions.proofs.Rule as Rule
 use Rattle.definitions.proofs.Found as Found
 use Rattle.definitions.proofs.Found.Laws as Found′
 use Rattle.rules.specs.Run.{progressOf, nextOf}
-use Rattle.rules.specs.declared.run.State.{State}
-use Rattle.rules.proofs.run.State as State
-use Rattle.rules.proofs.run.State.Laws as State′
+use Rattle.rules.specs.declared.state.State.{State}
+use Rattle.rules.proofs.state.State as State
+use Rattle.rules.proofs.state.State.Laws as State′
 use Rattle.lending.proofs.Locals.{Content, empty, holds, at, Addresses, envOf, Held, in-local, allocates, frees-all}
 use Rattle.lending.proofs.Slices.{Slice, val, typed-slice, token, shared}
 use Rattle.lending.proofs.Chains.{apart, together}
@@ -53,18 +53,18 @@ use Rattle.rules.proofs.RunSlices.{RunSlices, stateVals, valOf, typed-state, re
 use Rattle.rules.proofs.Answer.{checking-ready, next-ready, findings-law}
 use Rattle.prowcurl.proofs.FindingsEntryExit.{stayed, machine, foundVal, held, AtEntry, AtExit, enters, exits}
 use Rattle.prowcurl.proofs.FindingsCalls.{Begin, Run, Next, Answer, Begun, Ran, each-begin-token, begin-gives, run-gives, next-gives, answer-gives, takes}
-use Rattle.rules.proofs.begin.begin.Symbol as begin-def
-use Rattle.rules.proofs.begin.begin.Symbol.{name as #begin}
-use Rattle.rules.proofs.begin.begin.Met as begin-thm
-use Rattle.rules.proofs.begin.begin_next.Symbol as next-def
-use Rattle.rules.proofs.begin.begin_next.Symbol.{name as #next}
-use Rattle.rules.proofs.begin.begin_next.Met as next-thm
-use Rattle.rules.proofs.begin.answer.Symbol as answer-def
-use Rattle.rules.proofs.begin.answer.Symbol.{name as #answer}
-use Rattle.rules.proofs.begin.answer.Met as answer-thm
-use Rattle.rules.proofs.run.run.Symbol as run-def
-use Rattle.rules.proofs.run.run.Symbol.{name as #run}
-use Rattle.rules.proofs.run.run.Met as run-thm
+use Rattle.rules.proofs.runs.begin.Symbol as begin-def
+use Rattle.rules.proofs.runs.begin.Symbol.{name as #begin}
+use Rattle.rules.proofs.runs.begin.Met as begin-thm
+use Rattle.rules.proofs.runs.begin_next.Symbol as next-def
+use Rattle.rules.proofs.runs.begin_next.Symbol.{name as #next}
+use Rattle.rules.proofs.runs.begin_next.Met as next-thm
+use Rattle.rules.proofs.runs.answer.Symbol as answer-def
+use Rattle.rules.proofs.runs.answer.Symbol.{name as #answer}
+use Rattle.rules.proofs.runs.answer.Met as answer-thm
+use Rattle.rules.proofs.all_rules.run.Symbol as run-def
+use Rattle.rules.proofs.all_rules.run.Symbol.{name as #run}
+use Rattle.rules.proofs.all_rules.run.Met as run-thm
 use Rattle.prowcurl.proofs.findings.hlq_findings.Key.{name as #findings}
 use Rattle.prowcurl.proofs.findings.hlq_findings as findings
 use Rattle.prowcurl.proofs.findings.hlq_findings.Statement as stated
@@ -133,10 +133,10 @@ module _ {M : Type 1} (𝓤 : URA M) (H : Heap 𝓤) (A : Atoms 𝓤) (W : Given
               ∷ (lengths ++ (written-again ++ written-again))))
               (runs C Λ En mir.t-15 (atRet En Post))
           writes x₂ x₃ =
-              -- let writing = begin::begin_next(counted)
+              -- let writing = runs::begin_next(counted)
               nothing ! $ calls-giving ! fm (next-gives 𝓤 H A W mem run C fm known-next (x₃ .state) (x₃ .fits)) (and-then ! (in-local ! (at 7 17) refl) (no-more !)) (λ x₄.
               drop ! $ land ! (from ! (stop !)) (init ! (at 6 18) refl (typed-state W (x₄ .result) (x₄ .fits))) $
-              -- let written = run::run(rules, keys, bits, waiver_ids, waiver_keys, found_ids, found_keys, writing)
+              -- let written = all_rules::run(rules, keys, bits, waiver_ids, waiver_keys, found_ids, found_keys, writing)
               reborrows ! (at 6 12) (at 6 30) (at 6 31) refl refl refl (tt, tt) refl refl refl (typed-slice (S .found-ids)) $
               reborrows ! (at 6 13) (at 6 32) (at 6 33) refl refl refl (tt, tt) refl refl refl (typed-slice (S .found-keys)) $
               takes W rules S ! (x₃ .ids) (x₃ .keys) $
@@ -148,7 +148,7 @@ module _ {M : Type 1} (𝓤 : URA M) (H : Heap 𝓤) (A : Atoms 𝓤) (W : Given
               (and-then ! (in-local ! (at 4 9) refl) (and-then ! (in-local ! (at 4 10) refl) (and-then ! (in-local ! (at 4 31) refl)
               (and-then ! (in-local ! (at 4 33) refl) (and-then ! (in-local ! (at 4 18) refl) (no-more !))))))))) (λ x₅.
               land ! (from ! (stop !)) (init ! (at 4 19) refl (typed-state W (x₅ .state) (x₅ .fits))) $ parts ! $ parts ! $
-              -- begin::answer(written)
+              -- runs::answer(written)
               nothing ! $ calls-giving ! fm (answer-gives 𝓤 H A W mem run C fm known-answer (x₅ .state) (x₅ .fits)) (and-then ! (in-local ! (at 7 19) refl) (no-more !)) (λ x₆.
               drop ! $ land ! (from ! (stop !)) (init ! (at 6 0) refl (LL.lawful Found.the-type Found′.the-laws 𝓤 H A W .typed (x₆ .result) (foundVal (x₆ .result) ∷ []) (x₆ .fits) .0)) $
               returns ! (look ! (at 6 0) refl) $ move ! (3 ∷ 4 ∷ []) $ drop ! $ drop ! $ group ! 4 $
@@ -169,10 +169,10 @@ module _ {M : Type 1} (𝓤 : URA M) (H : Heap 𝓤) (A : Atoms 𝓤) (W : Given
           counts : Sq W (Between (x₁ .ids) (x₁ .keys) (holds (valOf r₀) ∷ holds (valOf (x₁ .state)) ∷ empty ∷ empty ∷ empty ∷ empty ∷ (lengths ++ written-again)))
               (runs C Λ En mir.t-9 (atRet En Post))
           counts =
-              -- let counting = begin::begin_next(checked)
+              -- let counting = runs::begin_next(checked)
               nothing ! $ calls-giving ! fm (next-gives 𝓤 H A W mem run C fm known-next (x₁ .state) (x₁ .fits)) (and-then ! (in-local ! (at 7 15) refl) (no-more !)) (λ x₂.
               drop ! $ land ! (from ! (stop !)) (init ! (at 6 16) refl (typed-state W (x₂ .result) (x₂ .fits))) $
-              -- let counted = run::run(rules, keys, bits, waiver_ids, waiver_keys, found_ids, found_keys, counting)
+              -- let counted = all_rules::run(rules, keys, bits, waiver_ids, waiver_keys, found_ids, found_keys, counting)
               reborrows ! (at 6 12) (at 6 26) (at 6 27) refl refl refl (tt, tt) refl refl refl (typed-slice (S .found-ids)) $
               reborrows ! (at 6 13) (at 6 28) (at 6 29) refl refl refl (tt, tt) refl refl refl (typed-slice (S .found-keys)) $
               takes W rules S ! (x₁ .ids) (x₁ .keys) $
@@ -186,7 +186,7 @@ module _ {M : Type 1} (𝓤 : URA M) (H : Heap 𝓤) (A : Atoms 𝓤) (W : Given
         -- the first run
         checks : Sq W (Between ids keys (holds (valOf r₀) ∷ empty ∷ empty ∷ empty ∷ empty ∷ empty ∷ lengths)) (runs C Λ En mir.t-4 (atRet En Post))
         checks =
-            -- let checked = run::run(rules, keys, bits, waiver_ids, waiver_keys, found_ids, found_keys, checking)
+            -- let checked = all_rules::run(rules, keys, bits, waiver_ids, waiver_keys, found_ids, found_keys, checking)
             reborrows ! (at 6 12) (at 6 22) (at 6 23) refl refl refl (tt, tt) refl refl refl (typed-slice (S .found-ids)) $
             reborrows ! (at 6 13) (at 6 24) (at 6 25) refl refl refl (tt, tt) refl refl refl (typed-slice (S .found-keys)) $
             takes W rules S ! ids keys $
@@ -207,7 +207,7 @@ module _ {M : Type 1} (𝓤 : URA M) (H : Heap 𝓤) (A : Atoms 𝓤) (W : Given
         pass1 ! (init ! (at 1 9) refl (typed-slice (S .waiver-ids))) $ pass1 ! (init ! (at 1 10) refl (typed-slice (S .waiver-keys))) $
         pass1 ! (init ! (at 1 11) refl (tt, record { fits = rows-fits })) $
         pass1 ! (init ! (at 1 12) refl (typed-slice (S .found-ids))) $ pass1 ! (init ! (at 1 13) refl (typed-slice (S .found-keys))) $ pass0 ! $
-        -- let checking = begin::begin(m, s, keys, bits, n, waiver_ids, waiver_keys, found_ids.len(), found_keys.len())
+        -- let checking = runs::begin(m, s, keys, bits, n, waiver_ids, waiver_keys, found_ids.len(), found_keys.len())
         assigns ! (of-opd ! (load ! (from ! (fld ! refl (stop !))) (look-in ! (at 1 12) (sub ! 1 refl (whole !))))) (from ! (stop !)) (init ! (at 1 20) refl (tt, record { fits = S .found-ids .room .0 })) $
         assigns ! (of-opd ! (load ! (from ! (fld ! refl (stop !))) (look-in ! (at 1 13) (sub ! 1 refl (whole !))))) (from ! (stop !)) (init ! (at 1 21) refl (tt, record { fits = S .found-keys .room .0 })) $
         parts ! $ move ! (1 ∷ []) $ parts ! $ move ! (1 ∷ []) $ parts ! $ move ! (1 ∷ []) $ parts ! $ move ! (1 ∷ []) $ parts ! $ move ! (1 ∷ []) $ parts ! $
@@ -320,7 +320,7 @@ hlq-findings-spec 𝓤 H 𝓜 𝓖 𝓡 =
     entered 𝓤 H (tripleOf 𝓤 H (𝓖 .A) findings.signature (findings.spec 𝓤 H (𝓖 .A) (𝓜 .mem) (𝓡 .run)))
     (tables 𝓤 H 𝓜 𝓡 code.env .C) (tables 𝓤 H 𝓜 𝓡 code.env .Λ) #findings code.function (code.unfolded 𝓤 H 𝓜 𝓡)
     (findings-meets 𝓤 H (𝓖 .A) (givenOf 𝓤 H 𝓜 𝓖) (𝓜 .mem) (𝓡 .run) (tablesOf 𝓤 H 𝓜 (tables 𝓤 H 𝓜 𝓡 code.env))
-    (cited 𝓤 H (Begin 𝓤 H (𝓖 .A) (𝓜 .mem) (𝓡 .run)) 𝓜 𝓡 code.env #begin begin-def.routine code.calls-rules·begin·begin (begin-thm.met 𝓤 H 𝓜 𝓖 𝓡))
-    (cited 𝓤 H (Run 𝓤 H (𝓖 .A) (𝓜 .mem) (𝓡 .run)) 𝓜 𝓡 code.env #run run-def.routine code.calls-rules·run·run (run-thm.met 𝓤 H 𝓜 𝓖 𝓡))
-    (cited 𝓤 H (Next 𝓤 H (𝓖 .A) (𝓜 .mem) (𝓡 .run)) 𝓜 𝓡 code.env #next next-def.routine code.calls-rules·begin·begin-next (next-thm.met 𝓤 H 𝓜 𝓖 𝓡))
-    (cited 𝓤 H (Answer 𝓤 H (𝓖 .A) (𝓜 .mem) (𝓡 .run)) 𝓜 𝓡 code.env #answer answer-def.routine code.calls-rules·begin·answer (answer-thm.met 𝓤 H 𝓜 𝓖 𝓡)))
+    (cited 𝓤 H (Begin 𝓤 H (𝓖 .A) (𝓜 .mem) (𝓡 .run)) 𝓜 𝓡 code.env #begin begin-def.routine code.calls-rules·runs·begin (begin-thm.met 𝓤 H 𝓜 𝓖 𝓡))
+    (cited 𝓤 H (Run 𝓤 H (𝓖 .A) (𝓜 .mem) (𝓡 .run)) 𝓜 𝓡 code.env #run run-def.routine code.calls-rules·all-rules·run (run-thm.met 𝓤 H 𝓜 𝓖 𝓡))
+    (cited 𝓤 H (Next 𝓤 H (𝓖 .A) (𝓜 .mem) (𝓡 .run)) 𝓜 𝓡 code.env #next next-def.routine code.calls-rules·runs·begin-next (next-thm.met 𝓤 H 𝓜 𝓖 𝓡))
+    (cited 𝓤 H (Answer 𝓤 H (𝓖 .A) (𝓜 .mem) (𝓡 .run)) 𝓜 𝓡 code.env #answer answer-def.routine code.calls-rules·runs·answer (answer-thm.met 𝓤 H 𝓜 𝓖 𝓡)))

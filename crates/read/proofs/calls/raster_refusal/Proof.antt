@@ -1,4 +1,4 @@
--- `calls::raster_refusal` meets its contract: its tests are those of the table, in the same order.
+-- `calls::raster_refusal` meets its contract: past the first two rows of the table the number of pixels decides.
 use Prim.Native.Nat.{ℕ, _*_, _^_, _≤_, _<_}
 use mathlib.Core.Path.{_≡_, refl, sym, _∙_, ap}
 use mathlib.Core.Bool.{true, not}
@@ -12,8 +12,8 @@ use Rattle.keys.proofs.Powers.{two-le}
 use Rattle.definitions.specs.Refusal.{badLength}
 use Rattle.definitions.specs.Calls.Raster.{rasterRefusal}
 use Rattle.definitions.proofs.RasterOf.{length-from}
-use Rattle.definitions.proofs.First.{this, later, holds-first, none-first}
-use Rattle.list.proofs.Tests.{good-settings}
+use Rattle.definitions.proofs.First.{this, holds-first, none-first}
+use Rattle.list.proofs.FirstRefusal.{refused-first, passed-first, list-passed}
 use Rattle.read.proofs.calls.raster_refusal.Statement.{statement}
 use Rattle.read.proofs.calls.raster_refusal.Tie as tie
 
@@ -33,55 +33,40 @@ other-length : (m : ℕ) (raster : List ℕ) → (length raster ≡ 2 ^ m * 2 ^ 
 unfolding badLength
 other-length m raster h = ap not (ne-eqb _ _ h)
 
-are-bad-requires : tie.Need-are-bad-requires
-are-bad-requires c κs = search needs
+first-refusal-requires : tie.Need-first-refusal-requires
+first-refusal-requires c κs = search needs
 
 returns : tie.Need-returns
 unfolding rasterRefusal
-returns c = sym (holds-first (this (sym (c .before .are-bad .ensures) ∙ c .if1 .taken) refl))
-
-is-list-requires : tie.Need-is-list-requires
-is-list-requires c κs = let g = good-settings _ _ (sym (c .before .are-bad .ensures) ∙ c .if1 .left) in (g .deep, g .few)
-
-returns-2 : tie.Need-returns-2
-unfolding rasterRefusal
-returns-2 c = sym (holds-first (later (sym (c .before .before .before .are-bad .ensures) ∙ c .before .before .if1 .left) (this (ap not (sym (c .before .is-list .ensures)) ∙ c .if2 .taken) refl)))
+returns c = refused-first _ _ _ _ _ _ _ (c .before .first-refusal .ensures) (c .if1 .taken)
 
 power-of-two-requires : tie.Need-power-of-two-requires
-power-of-two-requires c κs = let g = good-settings _ _ (sym (c .before .before .before .are-bad .ensures) ∙ c .before .before .if1 .left) in omega (arith, g .deep)
+power-of-two-requires c κs = let g = list-passed _ _ _ _ _ _ (c .before .first-refusal .ensures) (c .if1 .left) .settings in omega (arith, g .deep)
 
 cast-side : tie.Need-cast-side
 cast-side c = search needs
 
-mul-if3 : tie.Need-mul-if3
-mul-if3 c = let h = square-fits _ _ (c .power-of-two .ensures) (good-settings _ _ (sym (c .before .before .before .before .are-bad .ensures) ∙ c .before .before .before .if1 .left) .deep) in omega arith
+mul-if2 : tie.Need-mul-if2
+mul-if2 c =
+    let e = c .before in
+    let h = square-fits _ _ (c .power-of-two .ensures) (list-passed _ _ _ _ _ _ (e .before .first-refusal .ensures) (e .if1 .left) .settings .deep) in
+    omega arith
+
+returns-2 : tie.Need-returns-2
+unfolding rasterRefusal
+returns-2 c =
+    let e = c .before .before in
+    sym
+    (passed-first _ _ _ _ _ _ _ (e .before .first-refusal .ensures) (e .if1 .left)
+    ∙ none-first _ (length-from _ _ (c .if2 .taken ∙ squared _ _ (c .before .power-of-two .ensures)), tt))
 
 returns-3 : tie.Need-returns-3
 unfolding rasterRefusal
 returns-3 c =
+    let e = c .before .before in
     sym
-    (none-first _
-    ((sym (c .before .before .before .before .before .are-bad .ensures) ∙ c .before .before .before .before .if1 .left), (ap not (sym (c .before .before .before .is-list .ensures)) ∙ c .before .before .if2 .left, (length-from _ _ (c .if3 .taken ∙ squared _ _ (c .before .power-of-two .ensures)), tt))))
-
-returns-4 : tie.Need-returns-4
-unfolding rasterRefusal
-returns-4 c =
-    sym
-    (holds-first
-    (later (sym (c .before .before .before .before .before .are-bad .ensures) ∙ c .before .before .before .before .if1 .left)
-    (later (ap not (sym (c .before .before .before .is-list .ensures)) ∙ c .before .before .if2 .left)
-    (this (other-length _ _ (λ e. c .if3 .left (e ∙ sym (squared _ _ (c .before .power-of-two .ensures))))) refl))))
+    (passed-first _ _ _ _ _ _ _ (e .before .first-refusal .ensures) (e .if1 .left)
+    ∙ holds-first (this (other-length _ _ (λ z. c .if2 .left (z ∙ sym (squared _ _ (c .before .power-of-two .ensures))))) refl))
 
 pub raster-refusal-spec : {M : Type 1} → statement M
-raster-refusal-spec =
-    tie.close
-    (tie.spec
-    are-bad-requires
-    returns
-    is-list-requires
-    returns-2
-    power-of-two-requires
-    cast-side
-    mul-if3
-    returns-3
-    returns-4)
+raster-refusal-spec = tie.close (tie.spec first-refusal-requires returns power-of-two-requires cast-side mul-if2 returns-2 returns-3)

@@ -1,0 +1,31 @@
+-- `refusal::first_refusal` meets its contract: its tests are the first two rows of the tables, in the same order. Rests on FirstRefusal.
+use mathlib.Core.Path.{_≡_, sym, ap, _∙_}
+use mathlib.Core.Bool.{false, not}
+use borrow.Author.Needs.{needs}
+use Rattle.definitions.specs.Refusal.{badSettings}
+use Rattle.list.proofs.Tests.{good-settings}
+use Rattle.list.proofs.FirstRefusal.{first-settings, first-no-list, first-good}
+use Rattle.list.proofs.refusal.first_refusal.Statement.{statement}
+use Rattle.list.proofs.refusal.first_refusal.Tie as tie
+
+are-bad-requires : tie.Need-are-bad-requires
+are-bad-requires c κs = search needs
+
+returns : tie.Need-returns
+returns c = sym (first-settings _ _ _ _ _ (sym (c .before .are-bad .ensures) ∙ c .if1 .taken))
+
+is-list-requires : tie.Need-is-list-requires
+is-list-requires c κs = let g = good-settings _ _ (sym (c .before .are-bad .ensures) ∙ c .if1 .left) in (g .deep, g .few)
+
+returns-2 : tie.Need-returns-2
+returns-2 c =
+    let e = c .before .before in
+    sym (first-good _ _ _ _ _ (sym (e .before .are-bad .ensures) ∙ e .if1 .left) (ap not (sym (c .before .is-list .ensures) ∙ c .if2 .taken)))
+
+returns-3 : tie.Need-returns-3
+returns-3 c =
+    let e = c .before .before in
+    sym (first-no-list _ _ _ _ _ (sym (e .before .are-bad .ensures) ∙ e .if1 .left) (ap not (sym (c .before .is-list .ensures) ∙ c .if2 .left)))
+
+pub first-refusal-spec : {M : Type 1} → statement M
+first-refusal-spec = tie.close (tie.spec are-bad-requires returns is-list-requires returns-2 returns-3)

@@ -1,0 +1,120 @@
+// The runs of findings: how the first begins, which run comes after a run, and what the last answers.
+ghost use mathlib.Core.Path.{_≡_};
+ghost use Prim.Native.Nat.{min};
+ghost use Rattle.rules.specs.Run.{bounding, beginRefusal, beginOf, ownAt, nextOf, answerOf};
+use crate::state;
+use crate::state::State;
+use definitions::Found;
+use list::refusal::first_refusal;
+use offices::own;
+
+fn lesser(a: usize, b: usize) -> usize
+    ensures { λ r. ⌜ r ≡ min a b ⌝ }
+{
+    if a < b { a } else { b }
+}
+
+// The refusals 21, 1 and 4.
+fn begin_refusal(office: u32, m: u32, s: u32, keys: &[u32], bits: &[u32], n: usize) -> u64
+    ensures { λ r. ⌜ r ≡ beginRefusal office m s (now (keys .entry)) (now (bits .entry)) n ⌝ }
+{
+    if 1 < office {
+        return 21;
+    }
+    first_refusal(m, s, keys, bits, n)
+}
+
+// The run that checks begins: it bounds the number of findings. The table is looked at where nothing is refused so far.
+pub fn begin(
+    m: u32,
+    s: u32,
+    keys: &[u32],
+    bits: &[u32],
+    n: usize,
+    office: u32,
+    offices: &[u32],
+    ids: &[u32],
+    waived: &[u32],
+    rows: usize,
+    room_ids: usize,
+    room_keys: usize,
+) -> State
+    ensures { λ r. ⌜ r ≡ bounding 0 (beginOf m s (now (keys .entry)) (now (bits .entry)) n office
+        (ownAt m s (now (keys .entry)) (now (bits .entry)) n office (now (offices .entry)) (now (ids .entry)) (now (waived .entry)) rows) «room_ids» «room_keys») ⌝ }
+{
+    let refusal = begin_refusal(office, m, s, keys, bits, n);
+    let mut own = own::none(true);
+    if refusal == 0 {
+        own = own::own_rows(m, office, offices, ids, waived, rows);
+    }
+    State {
+        m,
+        s,
+        n,
+        mode: state::BOUNDING,
+        refusal,
+        next: 0,
+        faulty: !own.good,
+        offset: own.offset,
+        waivers: own.count,
+        passed: 0,
+        limit: 0,
+        room: lesser(room_ids, room_keys),
+        live: 0,
+        hidden: 0,
+    }
+}
+
+// A run is over: 14 is decided, and 12 where the findings were counted; then comes the run that counts, if the bound is past the room, or that writes.
+pub fn begin_next(state: State) -> State
+    ensures { λ r. ⌜ r ≡ nextOf state ⌝ }
+{
+    let room = state.room;
+    if state.refusal != 0 {
+        return state;
+    }
+    if state.faulty {
+        return state::refused(state, 14);
+    }
+    if state.passed < state.waivers {
+        return state::refused(state, 14);
+    }
+    if state.mode == state::BOUNDING {
+        if room < state.live {
+            return state::restarted(state, 0);
+        }
+        return state::rested(state);
+    }
+    if room < state.live {
+        return state::refused(state, 12);
+    }
+    state::restarted(state, room)
+}
+
+// With 12 live is the number of places needed, and hidden is 0.
+pub fn answer(state: State) -> Found
+    ensures { λ r. ⌜ r ≡ answerOf state ⌝ }
+{
+    let refusal = state.refusal;
+    let live = state.live;
+    let hidden = state.hidden;
+    if refusal == 0 {
+        return Found {
+            refusal,
+            live: live as u64,
+            hidden: hidden as u64,
+        };
+    }
+    if refusal == 12 {
+        return Found {
+            refusal,
+            live: live as u64,
+            hidden: 0,
+        };
+    }
+    Found {
+        refusal,
+        live: 0,
+        hidden: 0,
+    }
+}
