@@ -2,8 +2,3 @@ pub mod Content
 pub mod EditCallChecks
 pub mod PaintCall
 pub mod Recount
-pub mod TakingBackCall
-pub mod RedoCall
-pub mod WindowLogging
-pub mod PaintWindowCall
-pub mod GroupCall

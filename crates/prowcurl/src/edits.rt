@@ -2,14 +2,14 @@
 ghost use mathlib.Core.Path.{_≡_};
 ghost use Rattle.definitions.specs.Calls.Empty.{emptied};
 ghost use Rattle.edit.specs.PaintCall.{Painted};
-ghost use Rattle.edit.specs.TakingBackCall.{TakenBack};
-ghost use Rattle.edit.specs.RedoCall.{Redone};
+ghost use Rattle.undo.specs.TakingBackCall.{TakenBack};
+ghost use Rattle.undo.specs.RedoCall.{Redone};
 use definitions::Edited;
 use definitions::Emptied;
 use edit::empty;
 use edit::paint;
-use edit::redo;
-use edit::take_back;
+use undo::redo;
+use undo::take_back;
 
 #[no_mangle]
 pub extern "C" fn hlq_paint(

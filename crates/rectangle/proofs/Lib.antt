@@ -1,0 +1,8 @@
+pub mod WindowEntries
+pub mod WindowLies
+pub mod EntriesLogged
+pub mod WindowNeeds
+pub mod WindowFilled
+pub mod PaintWindowTable
+pub mod PaintWindowAnswers
+pub mod GroupLogged

@@ -1,0 +1,79 @@
+-- What the entries of a window's largest blocks need, none, one block's, and those of the quadrants together. Rests on LargestBlocks and Gained.
+use Prim.Native.Nat.{ℕ, _+_, _*_, _^_, _≤_, _<_}
+use mathlib.Core.Path.{_≡_, refl, sym, _∙_, ap}
+use mathlib.Core.Bool.{true, false}
+use mathlib.Core.List.{List, [], _∷_, _++_}
+use native.Mathlib.Omega.{arith}
+use lib.ListN.{length, length-append}
+use Rattle.keys.specs.Key.{validKey}
+use Rattle.keys.proofs.Under.{Block}
+use Rattle.keys.proofs.Powers.{five-le}
+use Rattle.definitions.specs.Picture.{Picture}
+use Rattle.definitions.specs.Read.{recordsOf}
+use Rattle.definitions.specs.Standing.{partLength}
+use Rattle.definitions.specs.Window.{isCovered, largestFrom}
+use Rattle.definitions.specs.declared.Window.{Window}
+use Rattle.definitions.specs.Log.{closingPlaces, entriesOf}
+use Rattle.definitions.specs.Calls.Paint.{gained}
+use Rattle.list.specs.Own.{OwnList, shownBy}
+use Rattle.step.specs.Quarters.{quartersOf}
+use Rattle.step.specs.declared.quarters.Quarters.{Quarters}
+use Rattle.rectangle.specs.WindowLogging.{NeededFor}
+use Rattle.edit.proofs.ContentLength.{gained-size}
+use Rattle.rectangle.proofs.WindowEntries.{largest-quarters, entries-none, entries-one, entries-four, entries-more, entries-few}
+
+pub needs-none : (m : ℕ) (p : Picture) {blocks : List ℕ} → blocks ≡ [] → NeededFor m p blocks 0 0
+needs-none m p {blocks} e = record {
+  number-is = sym (ap length e);
+  places-are = λ f. sym (ap length (ap (λ l. entriesOf m p l f) e ∙ entries-none m p f));
+}
+
+pub needs-one : {m n : ℕ} {keys bits : List ℕ} (own : OwnList m keys bits n) (κ : ℕ) → validKey m κ ≡ true → {blocks : List ℕ} {count places : ℕ} → blocks ≡ κ ∷ []
+    → count ≡ partLength m κ (recordsOf keys bits n) → places ≡ count + closingPlaces → NeededFor m (shownBy m keys bits n) blocks 1 places
+unfolding gained
+needs-one {m} {n} {keys} {bits} own κ valid {blocks} e count-is places-are = record {
+  number-is = sym (ap length e);
+  places-are = λ f.
+      places-are
+      ∙ ap (λ x. x + closingPlaces) count-is
+      ∙ sym (gained-size own κ valid f)
+      ∙ sym (ap length (ap (λ l. entriesOf m (shownBy m keys bits n) l f) e ∙ entries-one m (shownBy m keys bits n) f κ));
+}
+
+-- four runs of blocks
+needs-runs : (m : ℕ) (p : Picture) (l₁ l₂ l₃ l₄ : List ℕ) {n₁ n₂ n₃ n₄ p₁ p₂ p₃ p₄ : ℕ}
+    → NeededFor m p l₁ n₁ p₁ → NeededFor m p l₂ n₂ p₂ → NeededFor m p l₃ n₃ p₃ → NeededFor m p l₄ n₄ p₄
+    → NeededFor m p (l₁ ++ (l₂ ++ (l₃ ++ l₄))) (n₁ + n₂ + n₃ + n₄) (p₁ + p₂ + p₃ + p₄)
+needs-runs m p l₁ l₂ l₃ l₄ a b c d = record {
+  number-is =
+      let x₁ = length-append l₁ (l₂ ++ (l₃ ++ l₄)) in
+      let x₂ = length-append l₂ (l₃ ++ l₄) in
+      let x₃ = length-append l₃ l₄ in
+      omega (arith, a .number-is, b .number-is, c .number-is, d .number-is);
+  places-are = λ f.
+      let x = ap length (entries-four m p f l₁ l₂ l₃ l₄) in
+      let x₁ = length-append (entriesOf m p l₁ f) (entriesOf m p l₂ f ++ (entriesOf m p l₃ f ++ entriesOf m p l₄ f)) in
+      let x₂ = length-append (entriesOf m p l₂ f) (entriesOf m p l₃ f ++ entriesOf m p l₄ f) in
+      let x₃ = length-append (entriesOf m p l₃ f) (entriesOf m p l₄ f) in
+      omega (arith, a .places-are f, b .places-are f, c .places-are f, d .places-are f);
+}
+
+-- of the quadrants
+pub needs-four : (m : ℕ) (p : Picture) (w : Window) (r c κ : ℕ) {k : ℕ} {q : Quarters} {n₁ n₂ n₃ n₄ p₁ p₂ p₃ p₄ : ℕ} → q ≡ quartersOf k r c κ → 0 < k → isCovered w k r c ≡ false
+    → NeededFor m p (largestFrom w (q .height) r c (q .nw)) n₁ p₁
+    → NeededFor m p (largestFrom w (q .height) r (q .right) (q .ne)) n₂ p₂
+    → NeededFor m p (largestFrom w (q .height) (q .down) c (q .sw)) n₃ p₃
+    → NeededFor m p (largestFrom w (q .height) (q .down) (q .right) (q .se)) n₄ p₄
+    → NeededFor m p (largestFrom w k r c κ) (n₁ + n₂ + n₃ + n₄) (p₁ + p₂ + p₃ + p₄)
+needs-four m p w r c κ e positive cut nw ne sw se = rw (largest-quarters w r c κ e positive cut) (needs-runs m p _ _ _ _ nw ne sw se)
+
+-- what a block needs is little
+pub needs-few : (m : ℕ) (p : Picture) (w : Window) (r c κ : ℕ) {k number places : ℕ} → k ≤ 10 → Block m k r c κ → NeededFor m p (largestFrom w k r c κ) number places
+    → (number ≤ 29296875) × (places ≤ 29296875)
+needs-few m p w r c κ {k} deep b a =
+    let e = a .number-is in
+    let g = a .places-are 0 in
+    let h = entries-few m p 0 w k b in
+    let i = entries-more m p 0 (largestFrom w k r c κ) in
+    let five = five-le 10 deep in
+    omega arith

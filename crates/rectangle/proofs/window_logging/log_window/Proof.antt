@@ -1,0 +1,43 @@
+-- `window_logging::log_window` meets its contract: the entries, what closes them, and then what was used past the group is cleared.
+use borrow.Author.Needs.{needs}
+use Rattle.edit.proofs.Relogging.{relogged}
+use Rattle.rectangle.proofs.GroupLogged.{group-enterable, closing-fits, group-logged}
+use Rattle.rectangle.proofs.window_logging.log_window.Statement.{statement}
+use Rattle.rectangle.proofs.window_logging.log_window.Tie as tie
+
+log-blocks-requires : tie.Need-log-blocks-requires
+log-blocks-requires c κs = group-enterable (c .before .before .before .before .before .before .pre)
+
+close-group-requires : tie.Need-close-group-requires
+close-group-requires c κs =
+    let written = c .before .before .before .before .before .before in
+    let start = written .before .before .before .before .before .before .before in
+    closing-fits (start .pre) (written .log-blocks .ensures)
+
+clear-from-requires : tie.Need-clear-from-requires
+clear-from-requires c κs = search needs
+
+same-length : tie.Need-same-length
+same-length c = search needs
+
+same-length-2 : tie.Need-same-length-2
+same-length-2 c = search needs
+
+returns : tie.Need-returns
+returns c =
+    let cleared = c .before .before .before .before in
+    let closed = cleared .before .before .before .before .before .before .before in
+    let written = closed .before .before .before .before .before .before .before in
+    let start = written .before .before .before .before .before .before .before in
+    relogged (start .pre .fits) (start .pre .there) (group-logged (start .pre) (written .log-blocks .ensures) (closed .close-group .ensures)) (cleared .clear-from .ensures)
+
+pub log-window-spec : {M : Type 1} → statement M
+log-window-spec =
+    tie.close
+    (tie.spec
+    log-blocks-requires
+    close-group-requires
+    clear-from-requires
+    same-length
+    same-length-2
+    returns)

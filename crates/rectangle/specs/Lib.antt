@@ -1,0 +1,2 @@
+pub mod WindowLogging
+pub mod PaintWindowCall

@@ -1,0 +1,45 @@
+-- What the functions of painting a window ask and leave: the table's last two rows, what an accepted call may rely on, and the call's promise. Only
+-- contracts need these. Rests on PaintWindow of the definitions.
+use Prim.Native.Nat.{ℕ, _+_, _<_}
+use mathlib.Core.Path.{_≡_}
+use mathlib.Core.List.{List, [], _∷_}
+use lib.ListN.{length}
+use lib.Dec.{ltb}
+use Rattle.keys.specs.Key.{slotLimit}
+use Rattle.definitions.specs.List.{Record}
+use Rattle.definitions.specs.Read.{room}
+use Rattle.definitions.specs.Window.{largestBlocks}
+use Rattle.definitions.specs.declared.Window.{Window}
+use Rattle.definitions.specs.Refusal.{_gives_, first}
+use Rattle.definitions.specs.Calls.PaintWindow.{filled, groupGained, paintWindow, paintWindowKeys, paintWindowBits, paintWindowSummary, paintWindowLogKeys, paintWindowLogValues}
+use Rattle.definitions.specs.declared.Edited.{Edited}
+use Rattle.rectangle.specs.WindowLogging.{Coverable}
+use Rattle.rectangle.specs.declared.paint_window.WindowPlan.{WindowPlan}
+
+-- an accepted list, a window of the map, and a feature that its pixels may get
+pub record Fillable (m : ℕ) (keys bits : List ℕ) (n : ℕ) (w : Window) (f : ℕ) : Type 0 where
+  pub list : Coverable m keys bits n w
+  pub slot : f < slotLimit
+
+-- 10, 9
+unfoldable pub windowRoomRefusal : (m : ℕ) (l : List Record) (keys bits logKeys logValues : List ℕ) (inForce : ℕ) (w : Window) (f : ℕ) → ℕ
+windowRoomRefusal m l keys bits logKeys logValues inForce w f =
+    first
+    (ltb (room logKeys logValues) (inForce + length (groupGained m l w f)) gives 10
+    ∷ ltb (room keys bits) (length (filled m l w f)) gives 9
+    ∷ [])
+
+-- the refusal, and where it is 0 the number of entries and the length of the list afterwards
+pub record WindowDecided (refusal m : ℕ) (l : List Record) (w : Window) (f : ℕ) (r : WindowPlan) : Type 0 where
+  pub refusal-is : r .refusal ≡ refusal
+  pub number-is : r .refusal ≡ 0 → r .number ≡ length (largestBlocks m w)
+  pub after-is : r .refusal ≡ 0 → r .after ≡ length (filled m l w f)
+
+-- the answer of painting a window, and what it leaves in the five lent slices
+pub record WindowPainted (m s : ℕ) (keys bits : List ℕ) (n : ℕ) (summary logKeys logValues : List ℕ) (used inForce : ℕ) (w : Window) (f : ℕ) (r : Edited) (keys′ bits′ summary′ logKeys′ logValues′ : List ℕ) : Type 0 where
+  pub answer : r ≡ paintWindow m s keys bits n summary logKeys logValues used inForce w f
+  pub keys-are : keys′ ≡ paintWindowKeys m s keys bits n summary logKeys logValues used inForce w f
+  pub bits-are : bits′ ≡ paintWindowBits m s keys bits n summary logKeys logValues used inForce w f
+  pub summary-is : summary′ ≡ paintWindowSummary m s keys bits n summary logKeys logValues used inForce w f
+  pub log-keys-are : logKeys′ ≡ paintWindowLogKeys m s keys bits n summary logKeys logValues used inForce w f
+  pub log-values-are : logValues′ ≡ paintWindowLogValues m s keys bits n summary logKeys logValues used inForce w f

@@ -1,0 +1,90 @@
+// The largest blocks of a window, by the quadrants of the map: how a block lies to the window, and what their entries will need.
+ghost use mathlib.Core.Path.{_≡_};
+ghost use Rattle.keys.proofs.Under.{Block};
+ghost use Rattle.definitions.specs.Window.{largestFrom};
+ghost use Rattle.list.specs.Own.{shownBy};
+ghost use Rattle.rectangle.specs.WindowLogging.{Placed, Lies, Coverable, NeededFor};
+use edit::logging;
+use definitions::Window;
+use keys::power;
+use log::entry;
+use step::quarters;
+use window::walk;
+use window::walk::Spot;
+
+// 0 where none of the largest blocks lies in the block, 1 where it is one itself, 2 where its quadrants have to be asked.
+pub fn lies(window: Window, height: u32, row: u32, column: u32) -> u32
+    requires { ⌜ Placed window height row column ⌝ }
+    ensures { λ r. ⌜ Lies window height row column r ⌝ }
+{
+    let side = power::power_of_two(height);
+    let spot = Spot {
+        key: 0,
+        row,
+        column,
+        side,
+        step: 0,
+    };
+    if walk::apart(spot, window) {
+        return 0;
+    }
+    if walk::within(spot, window) {
+        return 1;
+    }
+    2
+}
+
+// The number of blocks, and how many places of the log their entries take.
+pub struct Needed {
+    pub number: u32,
+    pub places: usize,
+}
+
+// What the largest blocks at or below a block need.
+pub fn need_below(
+    m: u32,
+    keys: &[u32],
+    bits: &[u32],
+    n: usize,
+    window: Window,
+    height: u32,
+    row: u32,
+    column: u32,
+    key: u32,
+) -> Needed
+    requires { ⌜ Coverable m (now keys) (now bits) n window × Block m height row column key ⌝ }
+    ensures { λ r. ⌜ NeededFor m (shownBy m (now (keys .entry)) (now (bits .entry)) n) (largestFrom window height row column key) (r .number) (r .places) ⌝ }
+{
+    let told = lies(window, height, row, column);
+    if told == 0 {
+        return Needed {
+            number: 0,
+            places: 0,
+        };
+    }
+    if told == 1 {
+        let count = logging::content_length(m, keys, bits, n, key);
+        let places = entry::places(count);
+        return Needed { number: 1, places };
+    }
+    let four = quarters::of(height, row, column, key);
+    let lower = four.height;
+    let nw = need_below(m, keys, bits, n, window, lower, row, column, four.nw);
+    let ne = need_below(m, keys, bits, n, window, lower, row, four.right, four.ne);
+    let sw = need_below(m, keys, bits, n, window, lower, four.down, column, four.sw);
+    let se = need_below(
+        m,
+        keys,
+        bits,
+        n,
+        window,
+        lower,
+        four.down,
+        four.right,
+        four.se,
+    );
+    Needed {
+        number: nw.number + ne.number + sw.number + se.number,
+        places: nw.places + ne.places + sw.places + se.places,
+    }
+}

@@ -1,0 +1,54 @@
+-- A deed done to a list and its summary: what there is no room for is left, and what is changed is the deed's picture. Rests on Changed.
+use Prim.Native.Nat.{ℕ, _≤_, _<_}
+use mathlib.Core.Path.{_≡_, refl, sym, _∙_, ap, subst}
+use mathlib.Core.List.{List}
+use native.Mathlib.Omega.{arith}
+use lib.ListN.{length}
+use Rattle.keys.specs.Key.{rootKey}
+use Rattle.definitions.specs.Picture.{Picture}
+use Rattle.definitions.specs.List.{listOfPicture}
+use Rattle.definitions.specs.Read.{room}
+use Rattle.definitions.specs.Area.{summaryOf}
+use Rattle.definitions.proofs.LogEntries.{list-not-empty}
+use Rattle.list.specs.Own.{shownBy}
+use Rattle.put.specs.Putting.{Replaced}
+use Rattle.step.specs.Step.{Step, over}
+use Rattle.step.specs.Change.{Changeable, Changed}
+use Rattle.undo.specs.GroupCall.{Kept, Applied}
+use Rattle.edit.specs.Recount.{Outdated}
+use Rattle.edit.proofs.Changed.{all-outdated, all-counted}
+
+-- no room
+pub applied-full : (p : Picture) (m s n after : ℕ) (keys bits summary : List ℕ) → after ≡ length (listOfPicture m p) → room keys bits < after
+    → Applied p m s n keys bits summary keys bits summary 0
+applied-full p m s n after keys bits summary is h = record { full = λ z. (omega arith, refl, refl, refl); done = λ some. absurd (some refl) }
+
+module _ {t : Step} {m s n after : ℕ} {keys bits summary : List ℕ} (k : Kept m s keys bits n summary)
+    (is : after ≡ length (listOfPicture m (over t (shownBy m keys bits n)))) (fits : after ≤ room keys bits) where
+  -- what changing asks
+  pub can-change : Changeable t m keys bits n after
+  can-change = record { deep = k .deep; own = k .own; after-is = is; fits = fits }
+
+  module _ {keys′ bits′ : List ℕ} (made : Changed t m n keys bits keys′ bits′) where
+    stands : Replaced n (listOfPicture m (over t (shownBy m keys bits n))) keys bits keys′ bits′ after
+    stands = record { length-is = is; keys-are = made .keys-are; values-are = made .bits-are }
+
+    -- what counting anew asks
+    pub change-outdated : Outdated m s keys′ bits′ after summary rootKey
+    change-outdated = all-outdated m (over t (shownBy m keys bits n)) stands s (shownBy m keys bits n) summary (k .deep) (k .few) (k .counts)
+
+    -- all is changed
+    pub applied-done : (summary′ : List ℕ) → summary′ ≡ summaryOf m s (shownBy m keys′ bits′ after)
+        → Applied (over t (shownBy m keys bits n)) m s n keys bits summary keys′ bits′ summary′ after
+    applied-done summary′ counted =
+        let some : 0 < length (listOfPicture m (over t (shownBy m keys bits n))) = list-not-empty (over t (shownBy m keys bits n)) m 0 0 rootKey in
+        record {
+          full = λ z. absurd (omega arith);
+          done = λ some′. (omega arith, stands, all-counted m (over t (shownBy m keys bits n)) stands s summary′ counted);
+        }
+
+-- by another name of the picture
+pub applied-as : {p q : Picture} {m s n : ℕ} {keys bits summary keys′ bits′ summary′ : List ℕ} {r : ℕ} → p ≡ q
+    → Applied p m s n keys bits summary keys′ bits′ summary′ r → Applied q m s n keys bits summary keys′ bits′ summary′ r
+applied-as {m = m} {s} {n} {keys} {bits} {summary} {keys′} {bits′} {summary′} {r} e a =
+    subst (λ x. Applied x m s n keys bits summary keys′ bits′ summary′ r) e a

@@ -1,0 +1,87 @@
+-- The entries of a group as a run of crate step, and what the deed over them makes of a picture. Rests on log's GroupEntries and step's PutBack.
+use Prim.Native.Nat.{ℕ, suc, _-_, _≤_, _<_}
+use mathlib.Core.Path.{_≡_, sym, _∙_, ap, ap₂, subst}
+use mathlib.Core.List.{List}
+use native.Mathlib.Nat.{le-refl}
+use native.Mathlib.Omega.{arith}
+use lib.ListN.{length}
+use Rattle.definitions.specs.Picture.{Picture}
+use Rattle.definitions.specs.List.{Record}
+use Rattle.definitions.specs.Read.{recordsOf}
+use Rattle.definitions.specs.Log.{closingPlaces, stepCount, stepEntries, beforeStep, putBack, paintAgain}
+use Rattle.definitions.proofs.Records.{records-length}
+use Rattle.log.specs.declared.step.Step.{Step}
+use Rattle.log.specs.Steps.{lastStep, Stepped, EntriesBetween, none-between, one-between}
+use Rattle.log.proofs.GroupChecked.{entries-at}
+use Rattle.log.proofs.GroupEntries.{group-between}
+use Rattle.step.specs.declared.run.Run.{Run}
+use Rattle.step.specs.declared.deed.Deed.the-variants.{Back, Again}
+use Rattle.step.specs.Step.{over}
+use Rattle.step.specs.Deed.{stepOf}
+use Rattle.step.specs.Runs.{lastFirst, Chain, done, more, Between, EntriesIn}
+use Rattle.step.proofs.Chains.{last-none, chain-more}
+use Rattle.step.proofs.PutBack.{back-picture, again-picture}
+use Rattle.undo.specs.GroupCall.{GroupLast, GroupRun}
+
+-- entries between two places are a chain, with as many links
+between-chain : {m s : ℕ} {ks vs : List ℕ} {start count end : ℕ} → EntriesBetween m s ks vs start count end → Chain m s ks vs start end
+between-chain none-between = done
+between-chain (one-between {end = end} some a b e rest) = more {end = end} some a b e (between-chain rest)
+
+between-many : {m s : ℕ} {ks vs : List ℕ} {start count end : ℕ} → EntriesBetween m s ks vs start count end → length (lastFirst end ks vs start end) ≡ count
+between-many {ks = ks} {vs} {start} none-between = ap length (last-none start ks vs start start (le-refl _))
+between-many (one-between {count} {end} some a b e rest) =
+    ap length (chain-more end (more {end = end} some a b e (between-chain rest)) some) ∙ ap suc (between-many rest)
+
+module _ {m : ℕ} {ks vs : List ℕ} {used : ℕ} (d : GroupLast m ks vs used) where
+  abbrev log : List Record
+  log = recordsOf ks vs used
+
+  -- the records end in a step
+  pub group-stepped : Stepped ks vs used
+  group-stepped = record { m = m; s = d .s; in-keys = d .in-keys; in-values = d .in-values; step = d .step }
+
+  between : EntriesBetween m (d .s) ks vs (length (beforeStep log)) (stepCount log) (length (stepEntries log))
+  between = group-between m (d .s) ks vs used (d .in-keys) (d .in-values) (d .step) (d .mark)
+
+  -- the step that was found
+  module _ (last : Step) (found : last ≡ lastStep (recordsOf ks vs used)) where
+    start-is : last .start ≡ length (beforeStep log)
+    start-is = ap (λ x. x .start) found
+
+    end-is : last .end ≡ length (stepEntries log)
+    end-is = ap (λ x. x .end) found
+
+    -- its places can be made a run
+    pub run-asked : (m ≤ 10) × Between m (last .start) (last .end) ks vs
+    run-asked = (
+      d .deep,
+      record {
+        s = d .s;
+        few = d .few;
+        chain = subst (λ x. Chain m (d .s) ks vs x (last .end)) (sym start-is)
+            (subst (λ x. Chain m (d .s) ks vs (length (beforeStep log)) x) (sym end-is) (between-chain between));
+      },
+    )
+
+    -- and that is the group's
+    pub run-found : (r : Run) → r .start ≡ last .start → r .end ≡ last .end → EntriesIn m r ks vs → GroupRun m r ks vs (recordsOf ks vs used)
+    run-found r starts ends entries =
+        let at = entries-at ks vs used (d .in-keys) (d .in-values) (d .mark) in
+        let in-keys = d .in-keys in
+        let in-values = d .in-values in
+        let size : length (stepEntries log) ≡ used - closingPlaces = ap length at ∙ records-length ks vs (used - closingPlaces) (omega arith) (omega arith) in
+        record {
+          entries = entries;
+          start-is = starts ∙ start-is;
+          entries-are = at ∙ ap (recordsOf ks vs) (sym (ends ∙ end-is ∙ size));
+          many = ap₂ (λ a b. length (lastFirst b ks vs a b)) (starts ∙ start-is) (ends ∙ end-is) ∙ between-many between;
+        }
+
+-- the deeds over it
+module _ {m : ℕ} {run : Run} {ks vs : List ℕ} {log : List Record} (g : GroupRun m run ks vs log) where
+  pub group-back : (p : Picture) → over (stepOf m (Back run) ks vs) p ≡ putBack (stepCount log) m (stepEntries log) p
+  group-back p = back-picture (g .entries) (g .many) (g .entries-are) p
+
+  pub group-again : (p : Picture) → over (stepOf m (Again run) ks vs) p ≡ paintAgain (stepCount log) m (stepEntries log) p
+  group-again p = again-picture (g .entries) (g .many) (g .entries-are) p

@@ -1,0 +1,154 @@
+-- `redo::redo` meets its contract: the refusals up to 20 leave all as it is, and the next step's kind says which way it is redone.
+use mathlib.Core.Path.{sym, _∙_}
+use native.Mathlib.Omega.{arith}
+use Rattle.undo.specs.RedoCall.{Redoable}
+use Rattle.edit.proofs.EditCallTables.{FirstPassed, first-passed, passed-log}
+use Rattle.undo.proofs.RedoPlan.{next-single, next-group}
+use Rattle.undo.proofs.RedoTable.{redo-early, none-to-redo, to-redo}
+use Rattle.undo.proofs.RedoAnswers.{redo-refused}
+use borrow.Author.Needs.{needs}
+use Rattle.undo.proofs.redo.redo.Statement.{statement}
+use Rattle.undo.proofs.redo.redo.Tie as tie
+
+-- the start, from the first refusal
+abbrev start : tie.After-first-refusal → tie.Start
+start c = c .before .before .before .before .before .before .before .before .before .before .before
+
+-- the first rows are passed
+rows : (c : tie.Else1)
+    → (let a = start (c .before) .args in
+    FirstPassed (a .m) (a .s) (a .keys .now) (a .bits .now) (a .n) (a .summary .now) (a .log-keys .now) (a .log-values .now) (a .used) (a .in-force))
+rows c = first-passed _ (c .before .first-refusal .ensures) (c .if1 .left)
+
+-- and 20 too
+redoable : (c : tie.Else2)
+    → (let a = start (c .before .before) .args in
+    Redoable (a .m) (a .s) (a .keys .now) (a .bits .now) (a .n) (a .summary .now) (a .log-keys .now) (a .log-values .now) (a .used) (a .in-force))
+redoable c =
+    let within = passed-log (rows (c .before)) .within in
+    record { passed = sym (c .before .before .first-refusal .ensures) ∙ c .before .if1 .left; some = let h = c .if2 .left in omega arith }
+
+first-refusal-requires : tie.Need-first-refusal-requires
+first-refusal-requires c κs = search needs
+
+same-length : tie.Need-same-length
+same-length c = search needs
+
+same-length-2 : tie.Need-same-length-2
+same-length-2 c = search needs
+
+same-length-3 : tie.Need-same-length-3
+same-length-3 c = search needs
+
+same-length-4 : tie.Need-same-length-4
+same-length-4 c = search needs
+
+same-length-5 : tie.Need-same-length-5
+same-length-5 c = search needs
+
+returns : tie.Need-returns
+returns c = redo-refused _ _ _ _ _ _ _ _ _ _ _ (redo-early _ _ _ _ _ _ _ _ _ _ _ (c .before .first-refusal .ensures) (c .if1 .taken)) (c .if1 .taken)
+
+same-length-6 : tie.Need-same-length-6
+same-length-6 c = search needs
+
+same-length-7 : tie.Need-same-length-7
+same-length-7 c = search needs
+
+same-length-8 : tie.Need-same-length-8
+same-length-8 c = search needs
+
+same-length-9 : tie.Need-same-length-9
+same-length-9 c = search needs
+
+same-length-10 : tie.Need-same-length-10
+same-length-10 c = search needs
+
+returns-2 : tie.Need-returns-2
+returns-2 c = redo-refused _ _ _ _ _ _ _ _ _ _ 20 (none-to-redo _ _ _ _ _ _ _ _ _ _ (rows (c .before)) (c .if2 .taken)) (λ e. omega arith)
+
+next-step-requires : tie.Need-next-step-requires
+next-step-requires c κs = to-redo _ _ _ _ _ _ _ _ _ _ (redoable (c .before .before))
+
+redo-group-requires : tie.Need-redo-group-requires
+redo-group-requires c κs =
+    let marked = c .before .before .before .before .before in
+    let next = marked .before in
+    let told = next-group _ _ (next .next-step .ensures) (marked .if3 .taken) in
+    (redoable (next .before .before .before), told .0, told .1)
+
+same-length-11 : tie.Need-same-length-11
+same-length-11 c = search needs
+
+same-length-12 : tie.Need-same-length-12
+same-length-12 c = search needs
+
+same-length-13 : tie.Need-same-length-13
+same-length-13 c = search needs
+
+same-length-14 : tie.Need-same-length-14
+same-length-14 c = search needs
+
+same-length-15 : tie.Need-same-length-15
+same-length-15 c = search needs
+
+returns-3 : tie.Need-returns-3
+returns-3 c = c .before .before .before .before .before .before .redo-group .ensures
+
+redo-entry-requires : tie.Need-redo-entry-requires
+redo-entry-requires c κs =
+    let single = c .before .before .before .before .before in
+    let next = single .before in
+    let told = next-single _ _ (next .next-step .ensures) (single .if3 .left) in
+    (redoable (next .before .before .before), told .0, told .1)
+
+same-length-16 : tie.Need-same-length-16
+same-length-16 c = search needs
+
+same-length-17 : tie.Need-same-length-17
+same-length-17 c = search needs
+
+same-length-18 : tie.Need-same-length-18
+same-length-18 c = search needs
+
+same-length-19 : tie.Need-same-length-19
+same-length-19 c = search needs
+
+same-length-20 : tie.Need-same-length-20
+same-length-20 c = search needs
+
+returns-4 : tie.Need-returns-4
+returns-4 c = c .before .before .before .before .before .before .redo-entry .ensures
+
+pub redo-spec : {M : Type 1} → statement M
+redo-spec =
+    tie.close
+    (tie.spec
+    first-refusal-requires
+    same-length
+    same-length-2
+    same-length-3
+    same-length-4
+    same-length-5
+    returns
+    same-length-6
+    same-length-7
+    same-length-8
+    same-length-9
+    same-length-10
+    returns-2
+    next-step-requires
+    redo-group-requires
+    same-length-11
+    same-length-12
+    same-length-13
+    same-length-14
+    same-length-15
+    returns-3
+    redo-entry-requires
+    same-length-16
+    same-length-17
+    same-length-18
+    same-length-19
+    same-length-20
+    returns-4)

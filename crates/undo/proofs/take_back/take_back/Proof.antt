@@ -1,0 +1,147 @@
+-- `take_back::take_back` meets its contract: the refusals up to 11 leave all as it is, and the mark says which way the last step is taken back.
+use mathlib.Core.Path.{sym, _∙_}
+use native.Mathlib.Omega.{arith}
+use Rattle.undo.specs.TakingBackCall.{Takeable}
+use Rattle.edit.proofs.EditCallTables.{first-passed, passed-force}
+use Rattle.undo.proofs.TakingBackTable.{take-early, take-first, no-entry}
+use Rattle.undo.proofs.TakingBackAnswers.{take-refused}
+use borrow.Author.Needs.{needs}
+use Rattle.undo.proofs.take_back.take_back.Statement.{statement}
+use Rattle.undo.proofs.take_back.take_back.Tie as tie
+
+-- the start, from the first refusal
+abbrev start : tie.After-first-refusal → tie.Start
+start c = c .before .before .before .before .before .before .before .before .before .before .before
+
+-- the rows up to 11 are passed
+takeable : (c : tie.Else2)
+    → (let a = start (c .before .before) .args in
+    Takeable (a .m) (a .s) (a .keys .now) (a .bits .now) (a .n) (a .summary .now) (a .log-keys .now) (a .log-values .now) (a .used) (a .in-force))
+takeable c = record { passed = sym (c .before .before .first-refusal .ensures) ∙ c .before .if1 .left; some = let h = c .if2 .left in omega arith }
+
+first-refusal-requires : tie.Need-first-refusal-requires
+first-refusal-requires c κs = search needs
+
+same-length : tie.Need-same-length
+same-length c = search needs
+
+same-length-2 : tie.Need-same-length-2
+same-length-2 c = search needs
+
+same-length-3 : tie.Need-same-length-3
+same-length-3 c = search needs
+
+same-length-4 : tie.Need-same-length-4
+same-length-4 c = search needs
+
+same-length-5 : tie.Need-same-length-5
+same-length-5 c = search needs
+
+returns : tie.Need-returns
+returns c = take-refused _ _ _ _ _ _ _ _ _ _ _ (take-early _ _ _ _ _ _ _ _ _ _ _ (c .before .first-refusal .ensures) (c .if1 .taken)) (c .if1 .taken)
+
+same-length-6 : tie.Need-same-length-6
+same-length-6 c = search needs
+
+same-length-7 : tie.Need-same-length-7
+same-length-7 c = search needs
+
+same-length-8 : tie.Need-same-length-8
+same-length-8 c = search needs
+
+same-length-9 : tie.Need-same-length-9
+same-length-9 c = search needs
+
+same-length-10 : tie.Need-same-length-10
+same-length-10 c = search needs
+
+returns-2 : tie.Need-returns-2
+returns-2 c =
+    let rows = first-passed _ (c .before .before .first-refusal .ensures) (c .before .if1 .left) in
+    take-refused _ _ _ _ _ _ _ _ _ _ 11 (no-entry _ _ _ _ _ _ _ _ _ _ rows (c .if2 .taken)) (λ e. omega arith)
+
+ends-in-mark-requires : tie.Need-ends-in-mark-requires
+ends-in-mark-requires c κs =
+    let room = passed-force (take-first _ _ _ _ _ _ _ _ _ _ (takeable (c .before .before))) in
+    (omega arith, omega arith)
+
+take-group-back-requires : tie.Need-take-group-back-requires
+take-group-back-requires c κs =
+    let marked = c .before .before .before .before .before in
+    let mark = marked .before in
+    (takeable (mark .before .before .before), sym (mark .ends-in-mark .ensures) ∙ marked .if3 .taken)
+
+same-length-11 : tie.Need-same-length-11
+same-length-11 c = search needs
+
+same-length-12 : tie.Need-same-length-12
+same-length-12 c = search needs
+
+same-length-13 : tie.Need-same-length-13
+same-length-13 c = search needs
+
+same-length-14 : tie.Need-same-length-14
+same-length-14 c = search needs
+
+same-length-15 : tie.Need-same-length-15
+same-length-15 c = search needs
+
+returns-3 : tie.Need-returns-3
+returns-3 c = c .before .before .before .before .before .before .take-group-back .ensures
+
+take-entry-back-requires : tie.Need-take-entry-back-requires
+take-entry-back-requires c κs =
+    let single = c .before .before .before .before .before in
+    let mark = single .before in
+    (takeable (mark .before .before .before), sym (mark .ends-in-mark .ensures) ∙ single .if3 .left)
+
+same-length-16 : tie.Need-same-length-16
+same-length-16 c = search needs
+
+same-length-17 : tie.Need-same-length-17
+same-length-17 c = search needs
+
+same-length-18 : tie.Need-same-length-18
+same-length-18 c = search needs
+
+same-length-19 : tie.Need-same-length-19
+same-length-19 c = search needs
+
+same-length-20 : tie.Need-same-length-20
+same-length-20 c = search needs
+
+returns-4 : tie.Need-returns-4
+returns-4 c = c .before .before .before .before .before .before .take-entry-back .ensures
+
+pub take-back-spec : {M : Type 1} → statement M
+take-back-spec =
+    tie.close
+    (tie.spec
+    first-refusal-requires
+    same-length
+    same-length-2
+    same-length-3
+    same-length-4
+    same-length-5
+    returns
+    same-length-6
+    same-length-7
+    same-length-8
+    same-length-9
+    same-length-10
+    returns-2
+    ends-in-mark-requires
+    take-group-back-requires
+    same-length-11
+    same-length-12
+    same-length-13
+    same-length-14
+    same-length-15
+    returns-3
+    take-entry-back-requires
+    same-length-16
+    same-length-17
+    same-length-18
+    same-length-19
+    same-length-20
+    returns-4)

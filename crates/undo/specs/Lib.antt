@@ -1,0 +1,3 @@
+pub mod TakingBackCall
+pub mod RedoCall
+pub mod GroupCall

@@ -1,0 +1,54 @@
+-- What the functions of take back ask and leave: a call that the rows before the last have passed, an accepted list and a log that ends in a single entry, and
+-- the call's promise. Only contracts need these. Rests on TakeBack of the definitions.
+use Prim.Native.Nat.{ℕ, _≤_, _<_}
+use mathlib.Core.Path.{_≡_}
+use mathlib.Core.Bool.{true, false}
+use mathlib.Core.List.{List, [], _∷_}
+use lib.ListN.{length}
+use lib.Dec.{ltb}
+use Rattle.keys.specs.Key.{validKey}
+use Rattle.definitions.specs.List.{Record}
+use Rattle.definitions.specs.Read.{room, recordsOf, pictureOf}
+use Rattle.definitions.specs.Edit.{contentOf}
+use Rattle.definitions.specs.Log.{lastKey, lastCount, lastContent, endsInMark}
+use Rattle.definitions.specs.Refusal.{_gives_, first}
+use Rattle.definitions.specs.Calls.TakeBack.{restored, takeBack, takeBackKeys, takeBackBits, takeBackSummary, takeBackLogKeys, takeBackLogValues}
+use Rattle.definitions.specs.declared.Edited.{Edited}
+use Rattle.list.specs.Own.{OwnList}
+use Rattle.log.specs.Entries.{Ended}
+use Rattle.put.specs.Put.{planOf}
+use Rattle.put.specs.declared.plan.Plan.{Plan}
+use Rattle.edit.specs.EditCallChecks.{firstRefusal}
+
+-- what 1, 4, 18, 5 and 11 do not refuse
+pub record Takeable (m s : ℕ) (keys bits : List ℕ) (n : ℕ) (summary logKeys logValues : List ℕ) (used inForce : ℕ) : Type 0 where
+  pub passed : firstRefusal m s keys bits n summary logKeys logValues used inForce ≡ 0
+  pub some : 0 < inForce
+
+-- 9
+unfoldable pub restoredRefusal : (m : ℕ) (l log : List Record) (keys bits : List ℕ) → ℕ
+restoredRefusal m l log keys bits = first (ltb (room keys bits) (length (restored m l log)) gives 9 ∷ [])
+
+-- the plan of a taking back: the last entry's content is put in
+abbrev pub restorePlan : ℕ → List Record → List Record → Plan
+restorePlan m l log = planOf m l (lastKey log) (lastContent log)
+
+-- an accepted list, and a log that ends in a single entry, which has a correct content of its block
+pub record Restorable (m : ℕ) (keys bits : List ℕ) (n : ℕ) (logKeys logValues : List ℕ) (inForce : ℕ) : Type 0 where
+  pub deepest : m ≤ 10
+  pub own : OwnList m keys bits n
+  pub single : endsInMark (recordsOf logKeys logValues inForce) ≡ false
+  pub ended : Ended logKeys logValues inForce
+  pub some-content : 0 < lastCount (recordsOf logKeys logValues inForce)
+  pub valid : validKey m (lastKey (recordsOf logKeys logValues inForce)) ≡ true
+  pub correct : lastContent (recordsOf logKeys logValues inForce)
+      ≡ contentOf m (pictureOf m (lastContent (recordsOf logKeys logValues inForce))) (lastKey (recordsOf logKeys logValues inForce))
+
+-- the answer of a taking back, and what it leaves in the five lent slices
+pub record TakenBack (m s : ℕ) (keys bits : List ℕ) (n : ℕ) (summary logKeys logValues : List ℕ) (used inForce : ℕ) (r : Edited) (keys′ bits′ summary′ logKeys′ logValues′ : List ℕ) : Type 0 where
+  pub answer : r ≡ takeBack m s keys bits n summary logKeys logValues used inForce
+  pub keys-are : keys′ ≡ takeBackKeys m s keys bits n summary logKeys logValues used inForce
+  pub bits-are : bits′ ≡ takeBackBits m s keys bits n summary logKeys logValues used inForce
+  pub summary-is : summary′ ≡ takeBackSummary m s keys bits n summary logKeys logValues used inForce
+  pub log-keys-are : logKeys′ ≡ takeBackLogKeys m s keys bits n summary logKeys logValues used inForce
+  pub log-values-are : logValues′ ≡ takeBackLogValues m s keys bits n summary logKeys logValues used inForce
