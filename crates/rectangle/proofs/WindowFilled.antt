@@ -21,7 +21,7 @@ use Rattle.list.specs.Own.{OwnList, shownBy}
 use Rattle.put.specs.Putting.{Replaced}
 use Rattle.step.specs.Step.{over}
 use Rattle.step.specs.Deed.{windowStep, Painting}
-use Rattle.step.specs.Change.{Changeable, Changed}
+use Rattle.passes.specs.Change.{Changeable, Changed}
 use Rattle.rectangle.specs.PaintWindowCall.{Fillable}
 use Rattle.edit.specs.Recount.{Outdated}
 use Rattle.edit.proofs.Changed.{new-own, new-summary}

@@ -7,7 +7,7 @@ ghost use Rattle.definitions.specs.Calls.PaintWindow.{filled};
 ghost use Rattle.put.specs.Putting.{Replaced};
 ghost use Rattle.rectangle.specs.PaintWindowCall.{Fillable};
 use definitions::Window;
-use step::change;
+use passes::change;
 use step::deed::Deed;
 
 // How many records the list will have.

@@ -8,7 +8,7 @@ use Rattle.step.specs.declared.deed.Deed.{Deed}
 use Rattle.step.specs.declared.deed.Deed.the-variants.{Fill, Back, Again}
 use Rattle.step.specs.Runs.{EntriesIn, backStep, againStep}
 use Rattle.step.specs.Deed.{windowStep, Painting, stepOf, Doable, Settled, Narrowed, ShortRun}
-use Rattle.step.proofs.Narrowed.{same-itself}
+use Rattle.step.proofs.SameBefore.{same-itself}
 
 module _ (m : ℕ) (ks vs : List ℕ) {deed : Deed} where
   -- what is known of it

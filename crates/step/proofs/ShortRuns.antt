@@ -14,7 +14,7 @@ use Rattle.step.specs.Step.{Step}
 use Rattle.step.specs.Deed.{SameBefore, ShortRun}
 use Rattle.step.specs.Runs.{Gift, touched, given, giftsStep, backGift, againGift, lastFirst, firstFirst, EntriesIn, backStep, againStep}
 use Rattle.step.proofs.Gifts.{touched-cons, given-later}
-use Rattle.step.proofs.Narrowed.{same-itself}
+use Rattle.step.proofs.SameBefore.{same-itself}
 use Rattle.step.proofs.Chains.{onto, onto-some, first-onto}
 use Rattle.step.proofs.Turned.{pixel-before, touched-onto, given-onto}
 use Rattle.step.proofs.EntryTurns.{turn-entries, turn-more, turn-valid}

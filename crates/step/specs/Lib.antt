@@ -2,5 +2,3 @@ pub mod Quarters
 pub mod Step
 pub mod Runs
 pub mod Deed
-pub mod Passes
-pub mod Change

@@ -1,13 +1,7 @@
-// A step of an edit that touches many blocks, done to the list as one change (document 02, item 10): count what the list becomes, renew the bits of its
-// nodes, squeeze out what has become one leaf, and let every leaf grow to what the step makes of it. No stage needs more room than the list before or
-// the list after.
-pub mod change;
+// A step of an edit that touches many blocks, as the code is told it (document 02, item 10): a window to be filled, or entries of the log to be taken back or
+// painted again; and what it does to a leaf.
 pub mod deed;
 mod entries;
 mod fill;
-pub mod grow;
 pub mod quarters;
-pub mod renew;
 pub mod run;
-pub mod squeeze;
-pub mod tally;

@@ -13,7 +13,7 @@ use Rattle.definitions.proofs.LogEntries.{list-not-empty}
 use Rattle.list.specs.Own.{shownBy}
 use Rattle.put.specs.Putting.{Replaced}
 use Rattle.step.specs.Step.{Step, over}
-use Rattle.step.specs.Change.{Changeable, Changed}
+use Rattle.passes.specs.Change.{Changeable, Changed}
 use Rattle.undo.specs.GroupCall.{Kept, Applied}
 use Rattle.edit.specs.Recount.{Outdated}
 use Rattle.edit.proofs.Changed.{all-outdated, all-counted}

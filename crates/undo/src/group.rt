@@ -8,7 +8,7 @@ ghost use Rattle.step.specs.Deed.{Doable, stepOf};
 ghost use Rattle.undo.specs.GroupCall.{GroupLast, GroupRun, Kept, Applied};
 use edit::recount;
 use log::step as steps;
-use step::change;
+use passes::change;
 use step::deed::Deed;
 use step::run;
 use step::run::Run;

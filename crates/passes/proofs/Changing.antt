@@ -1,0 +1,226 @@
+-- The four passes one after the other, on the slices. Rests on Squeezed, Early and Assembled.
+use Prim.Native.Nat.{ℕ, zero, suc, _+_, _-_, _^_, _≤_, _<_, max}
+use mathlib.Core.Path.{_≡_, refl, sym, _∙_, ap, ap₂}
+use mathlib.Core.Bool.{true, false}
+use mathlib.Core.List.{List, [], _∷_, _++_}
+use native.Mathlib.Nat.{zero-add}
+use native.Mathlib.Omega.{arith}
+use lib.ListN.{length, getD, take, drop, replicate, length-map, take-append-drop}
+use lib.Seq.{sets, length-sets, drop-at, drop-cons, length-take-le}
+use Rattle.slices.proofs.Sets.{sets-parts}
+use Rattle.keys.specs.Key.{childKey, validKey, heightOf}
+use Rattle.keys.proofs.Cases.{decide, split}
+use Rattle.keys.proofs.Powers.{five-le}
+use Rattle.keys.proofs.Under.{Block, here, nw, ne, sw, se, under-trans}
+use Rattle.keys.proofs.Valid.{block-valid, valid-below}
+use Rattle.definitions.specs.Picture.{Picture, oneFeature}
+use Rattle.definitions.specs.List.{Record, recordOf, keysOf, valuesOf, listOf, listOfPicture}
+use Rattle.definitions.specs.Read.{room, paired, recordsOf}
+use Rattle.definitions.specs.Buffer.{over, replaced}
+use Rattle.definitions.proofs.Features.{one-pixel}
+use Rattle.definitions.proofs.ListOf.{list-one, list-node}
+use Rattle.definitions.proofs.Records.{paired-back, records-length, records-at, records-first, records-keys, records-values, records-over}
+use Rattle.list.specs.Check.{oneSlot}
+use Rattle.list.specs.Own.{OwnList, shownBy}
+use Rattle.list.proofs.Own.{own-keys, own-values, own-length}
+use Rattle.step.specs.Step.{Step, renewed, squeezed, pruned, grown, over as stepOver}
+use Rattle.passes.specs.Passes.{Showing, Shown, There, IsSqueezed, GrowAsked, Counted, Renewed, RenewedAt}
+use Rattle.passes.specs.Change.{Changeable, Changed, zeroed}
+use Rattle.step.proofs.Pruned.{pruned-one, pruned-merged, pruned-node, renewed-one, renewed-node, grown-pruned}
+use Rattle.passes.proofs.Squeezed.{renewed-length, squeezed-list, pruned-before}
+use Rattle.passes.proofs.Assembled.{renewed-keys, replaced-longer, replaced-shorter}
+use Rattle.passes.proofs.Spaced.{pruned-spaced, spaced-at}
+use Rattle.passes.proofs.Early.{early, grown-ascends}
+
+-- every record's key is a block's
+abbrev pub AllValid : ℕ → List Record → Type 0
+AllValid m [] = Unit {0}
+AllValid m (x ∷ l) = (validKey m (x .key) ≡ true) × AllValid m l
+
+valid-append : (m : ℕ) (a b : List Record) → AllValid m a → AllValid m b → AllValid m (a ++ b)
+valid-append m [] b h i = i
+valid-append m (x ∷ a) b h i = (h .0, valid-append m a b (h .1) i)
+
+pub valid-at : (m : ℕ) (l : List Record) (i : ℕ) → AllValid m l → i < length l → validKey m (getD l i (recordOf 0 0) .key) ≡ true
+valid-at m [] i h j = absurd (omega arith)
+valid-at m (x ∷ l) zero h j = h .0
+valid-at m (x ∷ l) (suc i) h j = valid-at m l i (h .1) (omega arith)
+
+-- so of a list
+pub list-valid : (p : Picture) {m : ℕ} (k r c κ : ℕ) → Block m k r c κ → AllValid m (listOf p k r c κ)
+list-valid p zero r c κ b = rw (list-one p zero r c κ (one-pixel p r c)) (block-valid b .valid, tt)
+list-valid p {m} (suc k) r c κ b =
+    decide (oneFeature p (suc k) r c)
+    (λ e. rw (list-one p (suc k) r c κ e) (block-valid b .valid, tt))
+    (λ e. rw (list-node p k r c κ e) (
+      block-valid b .valid,
+      valid-append m (listOf p k r c (childKey κ k 1)) _ (list-valid p k r c (childKey κ k 1) (under-trans b (nw here)))
+          (valid-append m (listOf p k r (c + 2 ^ k) (childKey κ k 2)) _ (list-valid p k r (c + 2 ^ k) (childKey κ k 2) (under-trans b (ne here)))
+          (valid-append m (listOf p k (r + 2 ^ k) c (childKey κ k 3)) _ (list-valid p k (r + 2 ^ k) c (childKey κ k 3) (under-trans b (sw here)))
+          (list-valid p k (r + 2 ^ k) (c + 2 ^ k) (childKey κ k 4) (under-trans b (se here))))),
+    ))
+
+-- so of what squeezing leaves
+pub pruned-valid : (p q : Picture) {m : ℕ} (k r c κ : ℕ) → Block m k r c κ → AllValid m (pruned p q k r c κ)
+pruned-valid p q zero r c κ b = rw (pruned-one p q zero r c κ (one-pixel p r c)) (block-valid b .valid, tt)
+pruned-valid p q {m} (suc k) r c κ b =
+    decide (oneFeature p (suc k) r c)
+    (λ e. rw (pruned-one p q (suc k) r c κ e) (block-valid b .valid, tt))
+    (λ e. decide (oneFeature q (suc k) r c)
+    (λ f. rw (pruned-merged p q k r c κ e f) (block-valid b .valid, tt))
+    (λ f. rw (pruned-node p q k r c κ e f) (
+      block-valid b .valid,
+      valid-append m (pruned p q k r c (childKey κ k 1)) _ (pruned-valid p q k r c (childKey κ k 1) (under-trans b (nw here)))
+          (valid-append m (pruned p q k r (c + 2 ^ k) (childKey κ k 2)) _ (pruned-valid p q k r (c + 2 ^ k) (childKey κ k 2) (under-trans b (ne here)))
+          (valid-append m (pruned p q k (r + 2 ^ k) c (childKey κ k 3)) _ (pruned-valid p q k (r + 2 ^ k) c (childKey κ k 3) (under-trans b (sw here)))
+          (pruned-valid p q k (r + 2 ^ k) (c + 2 ^ k) (childKey κ k 4) (under-trans b (se here))))),
+    )))
+
+-- the whole list is shown from the first place on
+pub showing-whole : {m : ℕ} {keys bits : List ℕ} {n : ℕ} → OwnList m keys bits n → Showing (valuesOf (listOf (shownBy m keys bits n) m 0 0 0)) bits 0
+showing-whole {bits = bits} {n} own = record { rest = drop n bits; is = sym (take-append-drop n bits) ∙ ap (λ l. l ++ drop n bits) (sym (own-values own)) }
+
+pub shown-whole : {m : ℕ} {keys bits : List ℕ} {n : ℕ} → m ≤ 10 → OwnList m keys bits n → Shown m m 0 0 0 bits 0
+shown-whole {m} {keys} {bits} {n} deep own = record { picture = shownBy m keys bits n; deep = deep; block = here; shown = showing-whole own }
+
+-- a slice whose first places are stored anew
+over-same : (new old : List ℕ) (n : ℕ) → new ≡ take n old → n ≤ length old → over new old ≡ old
+over-same new old n e h = rw e (ap (λ i. take n old ++ drop i old) (length-take-le n old h) ∙ take-append-drop n old)
+
+sets-over : (new old : List ℕ) → length new ≤ length old → sets old 0 new ≡ over new old
+sets-over new old h = sets-parts old 0 new (omega arith) ∙ ap (λ i. new ++ drop i old) (zero-add (length new))
+
+-- the places that a shorter list gives up are zero at the end
+pub all-replaced : (n after : ℕ) (new between before : List ℕ) → length new ≡ after → n ≤ length between → drop n between ≡ drop n before
+    → zeroed n after (over new between) ≡ replaced n new before
+all-replaced n after new between before e room h =
+    rw (← e) (split n (length new)
+    (λ longer.
+    let z : n - length new ≡ 0 = omega arith in
+    ap (λ i. sets (over new between) (length new) (replicate i 0)) z ∙ replaced-longer n new between before (omega arith) h)
+    (λ shorter. replaced-shorter n new between before (omega arith) room h))
+
+pub nothing-given : (n after : ℕ) (l : List ℕ) → n ≤ after → l ≡ zeroed n after l
+nothing-given n after l h = let z : n - after ≡ 0 = omega arith in sym (ap (λ i. sets l after (replicate i 0)) z)
+
+module _ (t : Step) {m : ℕ} {keys bits : List ℕ} {n : ℕ} (deep : m ≤ 10) (own : OwnList m keys bits n) where
+  abbrev p : Picture
+  p = shownBy m keys bits n
+
+  abbrev between : List Record
+  between = renewed p (stepOver t p) m 0 0 0
+
+  -- how long the list becomes
+  pub length-told : {union count next : ℕ} → Counted t m 0 0 bits 0 union count next → count ≡ length (listOfPicture m (stepOver t (shownBy m keys bits n)))
+  length-told x = x .tallied p 0 (showing-whole own) .count-is
+
+  between-length : length between ≡ n
+  between-length = renewed-length p (stepOver t p) m 0 0 0 ∙ own-length own
+
+  between-keys : over (keysOf between) keys ≡ keys
+  between-keys = over-same (keysOf between) keys n (renewed-keys p (stepOver t p) m 0 0 0 ∙ own-keys own) (omega (arith, own .fits))
+
+  key-small : (i : ℕ) → i < n → getD keys i 0 < 5 ^ 10
+  key-small i h =
+      let five = five-le 10 deep in
+      let e = records-at keys bits n (omega (arith, own .fits)) (omega (arith, own .fits)) i h in
+      let v = valid-at m (listOf p m 0 0 0) i (list-valid p m 0 0 0 here) (let l = own-length own in omega arith) in
+      let b = valid-below m (getD (listOf p m 0 0 0) i (recordOf 0 0) .key) v in
+      let f : getD (listOf p m 0 0 0) i (recordOf 0 0) .key ≡ getD keys i 0 = ap (λ l. getD l i (recordOf 0 0) .key) (sym (own .own)) ∙ ap (λ x. x .key) e in
+      omega arith
+
+  module _ {bits₁ : List ℕ} {union next : ℕ} (r : Renewed t m 0 0 bits 0 bits₁ union next) where
+    -- after the first pass
+    renewed-bits : bits₁ ≡ over (valuesOf between) bits
+    renewed-bits =
+        let l = between-length in
+        let v = length-map between (λ x. x .value) in
+        r .holds p 0 (showing-whole own) .bits-are ∙ sets-over (valuesOf between) bits (omega (arith, own .fits))
+
+    renewed-records : recordsOf keys bits₁ n ≡ between
+    renewed-records = ap₂ (λ ks bs. recordsOf ks bs n) (sym between-keys) renewed-bits ∙ records-over between n keys bits between-length
+
+    past-first : drop n bits₁ ≡ drop n bits
+    past-first =
+        let l = between-length in
+        let v = length-map between (λ x. x .value) in
+        let e : length (valuesOf between) ≡ n = omega arith in
+        ap (drop n) renewed-bits ∙ ap (λ i. drop n (valuesOf between ++ drop i bits)) e ∙ drop-at (valuesOf between) (drop n bits) n e
+
+    pub squeeze-asked : length bits₁ ≡ length bits → There m n keys bits₁
+    squeeze-asked same = record { deep = deep; in-keys = omega (arith, own .fits); in-bits = omega (arith, own .fits); small = key-small }
+
+    module _ {keys₂ bits₂ : List ℕ} {left : ℕ} (q : IsSqueezed m n keys bits₁ keys₂ bits₂ left) where
+      -- after the second
+      left-is : recordsOf keys₂ bits₂ left ≡ pruned p (stepOver t p) m 0 0 0
+      left-is = q .is ∙ ap (squeezed m 0) renewed-records ∙ squeezed-list m p (stepOver t p)
+
+      grown-is : grown t m (recordsOf keys₂ bits₂ left) ≡ listOf (stepOver t p) m 0 0 0
+      grown-is = ap (grown t m) left-is ∙ grown-pruned t p here
+
+      past-keys : drop n keys₂ ≡ drop n keys
+      past-keys = q .past-keys
+
+      past-bits : drop n bits₂ ≡ drop n bits
+      past-bits = q .past-bits ∙ past-first
+
+      module _ {after : ℕ} (same-keys : length keys₂ ≡ length keys) (same-bits : length bits₂ ≡ length bits)
+          (after-is : after ≡ length (listOfPicture m (stepOver t (shownBy m keys bits n)))) (fits : after ≤ room keys bits) where
+        inside : (left ≤ length keys₂) × (left ≤ length bits₂)
+        inside = omega (arith, q .few, own .fits)
+
+        at : (i : ℕ) → i < left → getD (recordsOf keys₂ bits₂ left) i (recordOf 0 0) ≡ recordOf (getD keys₂ i 0) (getD bits₂ i 0)
+        at i h = records-at keys₂ bits₂ left (inside .0) (inside .1) i h
+
+        many : length (recordsOf keys₂ bits₂ left) ≡ left
+        many = records-length keys₂ bits₂ left (inside .0) (inside .1)
+
+        left-valid : (i : ℕ) → i < left → oneSlot (getD bits₂ i 0) ≡ true → validKey m (getD keys₂ i 0) ≡ true
+        left-valid i h one =
+            let v = valid-at m (recordsOf keys₂ bits₂ left) i (rw left-is (pruned-valid p (stepOver t p) m 0 0 0 here)) (rw many h) in
+            rw (at i h) at v
+
+        left-early : (i : ℕ) → i < left → length (grown t m (recordsOf keys₂ bits₂ i)) ≤ getD keys₂ i 0
+        left-early i h =
+            let l : List Record = recordsOf keys₂ bits₂ left in
+            let cut : l ≡ take i l ++ (getD l i (recordOf 0 0) ∷ drop (suc i) l) = sym (take-append-drop i l) ∙ ap (λ r. take i l ++ r) (drop-cons l i (recordOf 0 0) (rw many h)) in
+            let a = early t m (0 + 5 ^ m) (take i l) (getD l i (recordOf 0 0)) (drop (suc i) l) (rw (← cut, left-is) (grown-ascends t p m)) in
+            let f : take i l ≡ recordsOf keys₂ bits₂ i = records-first keys₂ bits₂ left i (omega arith) in
+            let g : getD l i (recordOf 0 0) .key ≡ getD keys₂ i 0 = ap (λ x. x .key) (at i h) in
+            rw (f, g) at a
+
+        left-spaced : (i j : ℕ) → i < j → j < left → oneSlot (getD bits₂ i 0) ≡ true → getD keys₂ i 0 + 5 ^ heightOf m (getD keys₂ i 0) ≤ getD keys₂ j 0
+        left-spaced i j u h one =
+            let l : List Record = recordsOf keys₂ bits₂ left in
+            let a : getD l i (recordOf 0 0) .key ≡ getD keys₂ i 0 = ap (λ x. x .key) (at i (omega arith)) in
+            let b : getD l i (recordOf 0 0) .value ≡ getD bits₂ i 0 = ap (λ x. x .value) (at i (omega arith)) in
+            let z : getD l j (recordOf 0 0) .key ≡ getD keys₂ j 0 = ap (λ x. x .key) (at j h) in
+            let s = spaced-at m 0 (0 + 5 ^ m) l i j (rw left-is (pruned-spaced p (stepOver t p) m 0 0 0 here)) u (rw many h) (ap oneSlot b ∙ one) in
+            let f = ap (λ x. 5 ^ heightOf m x) a in
+            omega arith
+
+        pub grow-asked : GrowAsked t m left after keys₂ bits₂
+        grow-asked = record {
+          deep = deep;
+          first-keys = inside .0;
+          first-bits = inside .1;
+          valid = left-valid;
+          spaced = left-spaced;
+          ends = after-is ∙ sym (ap length grown-is);
+          early = left-early;
+          in-keys = omega (arith, fits);
+          in-bits = omega (arith, fits);
+        }
+
+        -- after the third, and when the places given up are zero
+        pub changed-keys : {keys₃ : List ℕ} → keys₃ ≡ over (keysOf (grown t m (recordsOf keys₂ bits₂ left))) keys₂
+            → zeroed n after keys₃ ≡ replaced n (keysOf (listOfPicture m (stepOver t (shownBy m keys bits n)))) keys
+        changed-keys e =
+            ap (zeroed n after) (e ∙ ap (λ l. over (keysOf l) keys₂) grown-is)
+            ∙ all-replaced n after (keysOf (listOf (stepOver t p) m 0 0 0)) keys₂ keys (length-map (listOf (stepOver t p) m 0 0 0) (λ x. x .key) ∙ sym after-is) (omega (arith, own .fits)) past-keys
+
+        pub changed-bits : {bits₃ : List ℕ} → bits₃ ≡ over (valuesOf (grown t m (recordsOf keys₂ bits₂ left))) bits₂
+            → zeroed n after bits₃ ≡ replaced n (valuesOf (listOfPicture m (stepOver t (shownBy m keys bits n)))) bits
+        changed-bits e =
+            ap (zeroed n after) (e ∙ ap (λ l. over (valuesOf l) bits₂) grown-is)
+            ∙ all-replaced n after (valuesOf (listOf (stepOver t p) m 0 0 0)) bits₂ bits (length-map (listOf (stepOver t p) m 0 0 0) (λ x. x .value) ∙ sym after-is) (omega (arith, own .fits)) past-bits

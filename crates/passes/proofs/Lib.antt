@@ -1,0 +1,16 @@
+pub mod Runs
+pub mod Squeezed
+pub mod SqueezeLoop
+pub mod GrowLoop
+pub mod WriteRecord
+pub mod Spaced
+pub mod Early
+pub mod Narrowed
+pub mod RenewLaws
+pub mod RenewSteps
+pub mod TallySteps
+pub mod GrowLeft
+pub mod SpreadSteps
+pub mod LeafWritten
+pub mod Assembled
+pub mod Changing

@@ -1,0 +1,95 @@
+-- A step of which only the pixels before a key are told does the same to every block before that key. Rests on the laws of pictures that agree.
+use Prim.Native.Nat.{ℕ, zero, suc, _+_, _^_, _≤_, _<_}
+use mathlib.Core.Path.{_≡_, sym, _∙_, ap, ap₂}
+use mathlib.Core.Bool.{cond, true, false}
+use mathlib.Core.List.{List, [], _∷_, _++_}
+use native.Mathlib.Omega.{arith}
+use lib.ListN.{length, drop}
+use lib.Seq.{sets}
+use Rattle.keys.specs.Block.{pixelKey}
+use Rattle.keys.proofs.Under.{Block}
+use Rattle.keys.proofs.Pixel.{inside}
+use Rattle.keys.specs.Key.{childKey}
+use Rattle.keys.proofs.Cases.{decide}
+use Rattle.definitions.specs.Picture.{Picture, oneFeature}
+use Rattle.definitions.specs.Bits.{bitsOf}
+use Rattle.definitions.specs.List.{Record, recordOf, keysOf, valuesOf, listOf}
+use Rattle.definitions.proofs.Pixels.{Agree, agree-nw, agree-ne, agree-sw, agree-se}
+use Rattle.definitions.proofs.Features.{one-agree, one-pixel}
+use Rattle.definitions.proofs.BitsOf.{bits-agree}
+use Rattle.definitions.proofs.ListOf.{list-agree}
+use Rattle.build.specs.BuildBlocks.{Tallied, Written, Fitting}
+use Rattle.step.specs.Step.{Step, over, renewed}
+use Rattle.step.specs.Deed.{SameBefore}
+use Rattle.passes.specs.Passes.{Counted, Renewed, RenewedAt}
+use Rattle.step.proofs.Pruned.{renewed-one, renewed-node}
+
+same-node : {x x′ : Record} {a b c d a′ b′ c′ d′ : List Record} → x ≡ x′ → a ≡ a′ → b ≡ b′ → c ≡ c′ → d ≡ d′
+    → x ∷ (a ++ (b ++ (c ++ d))) ≡ x′ ∷ (a′ ++ (b′ ++ (c′ ++ d′)))
+same-node e f g h i = cc
+
+-- the bits that nodes are renewed to come from the picture's pixels alone
+pub renewed-agree : (p q q′ : Picture) (k r c κ : ℕ) → Agree q q′ k r c → renewed p q k r c κ ≡ renewed p q′ k r c κ
+renewed-agree p q q′ zero r c κ h = renewed-one p q zero r c κ (one-pixel p r c) ∙ sym (renewed-one p q′ zero r c κ (one-pixel p r c))
+renewed-agree p q q′ (suc k) r c κ h =
+    decide (oneFeature p (suc k) r c)
+    (λ e. renewed-one p q (suc k) r c κ e ∙ sym (renewed-one p q′ (suc k) r c κ e))
+    (λ e. renewed-node p q k r c κ e
+    ∙ same-node (ap (recordOf κ) (bits-agree q q′ (suc k) r c h))
+    (renewed-agree p q q′ k r c (childKey κ k 1) (agree-nw h))
+    (renewed-agree p q q′ k r (c + 2 ^ k) (childKey κ k 2) (agree-ne h))
+    (renewed-agree p q q′ k (r + 2 ^ k) c (childKey κ k 3) (agree-sw h))
+    (renewed-agree p q q′ k (r + 2 ^ k) (c + 2 ^ k) (childKey κ k 4) (agree-se h))
+    ∙ sym (renewed-node p q′ k r c κ e))
+
+module _ {m past k r c κ : ℕ} {t t′ : Step} (s : SameBefore m past t t′) (b : Block m k r c κ) (h : κ + 5 ^ k ≤ past) where
+  -- on a block before that key the two steps over a picture agree
+  pub narrowed-agree : (p : Picture) → Agree (over t′ p) (over t p) k r c
+  unfolding over
+  narrowed-agree p row column w =
+      let i = inside b w in
+      ap₂ (λ x y. cond x y (p row column)) (s .touches row column (omega (arith, i, h))) (s .gives row column (omega (arith, i, h)))
+
+  pub narrowed-tallied : (p : Picture) {bits count : ℕ} → Tallied (over t′ p) k r c bits count → Tallied (over t p) k r c bits count
+  narrowed-tallied p x = record {
+    bits-are = x .bits-are ∙ bits-agree (over t′ p) (over t p) k r c (narrowed-agree p);
+    count-is = x .count-is ∙ ap length (list-agree (over t′ p) (over t p) k r c 0 (narrowed-agree p));
+  }
+
+  pub narrowed-counted : {bits : List ℕ} {at union count next : ℕ} → Counted t′ k r c bits at union count next → Counted t k r c bits at union count next
+  narrowed-counted x = record { tallied = λ p key s. narrowed-tallied p (x .tallied p key s); passed = x .passed }
+
+  -- what is to be renewed is the same
+  pub narrowed-renewed : {before after : List ℕ} {at union next : ℕ} → Renewed t′ k r c before at after union next → Renewed t k r c before at after union next
+  narrowed-renewed {before} {after} {at} {union} {next} x = record {
+    holds = λ p key s.
+        let y = x .holds p key s in
+        record {
+          union-is = y .union-is ∙ bits-agree (over t′ p) (over t p) k r c (narrowed-agree p);
+          next-is = y .next-is;
+          bits-are = y .bits-are ∙ ap (λ l. sets before at (valuesOf l)) (renewed-agree p (over t′ p) (over t p) k r c key (narrowed-agree p));
+        };
+  }
+
+  -- what is to be written is the same, and so is the room that it needs
+  pub narrowed-written : (p : Picture) {place union next : ℕ} {keys bits keys′ bits′ : List ℕ} → Written (over t′ p) k r c κ place keys bits keys′ bits′ union next
+      → Written (over t p) k r c κ place keys bits keys′ bits′ union next
+  narrowed-written p {place} {union} {next} {keys} {bits} {keys′} {bits′} x =
+      let same = list-agree (over t′ p) (over t p) k r c κ (narrowed-agree p) in
+      record {
+        union-is = x .union-is ∙ bits-agree (over t′ p) (over t p) k r c (narrowed-agree p);
+        next-is = x .next-is ∙ ap (λ l. place + length l) same;
+        keys-are = x .keys-are ∙ ap (λ l. sets keys (place + 1) (keysOf (drop 1 l))) same;
+        bits-are = x .bits-are ∙ ap (λ l. sets bits (place + 1) (valuesOf (drop 1 l))) same;
+      }
+
+  pub narrowed-fitting : (p : Picture) {place : ℕ} {keys bits : List ℕ} → Fitting (over t p) k r c κ place keys bits → Fitting (over t′ p) k r c κ place keys bits
+  narrowed-fitting p {place} {keys} {bits} x =
+      let same = list-agree (over t′ p) (over t p) k r c κ (narrowed-agree p) in
+      let one = one-agree (over t′ p) (over t p) k r c (narrowed-agree p) in
+      record {
+        key-fits = x .key-fits;
+        place-fits = x .place-fits;
+        keys-room = λ several. rw same (x .keys-room (sym one ∙ several));
+        bits-room = λ several. rw same (x .bits-room (sym one ∙ several));
+      }

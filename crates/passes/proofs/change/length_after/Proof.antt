@@ -1,0 +1,13 @@
+-- `length_after` meets its contract.
+use Rattle.passes.proofs.Changing.{shown-whole, length-told}
+use Rattle.passes.proofs.change.length_after.Statement.{statement}
+use Rattle.passes.proofs.change.length_after.Tie as tie
+
+tally-records-requires : tie.Need-tally-records-requires
+tally-records-requires c κs = let s = c .before .before .before .before .pre in (s .0, shown-whole (s .1) (s .2))
+
+returns : tie.Need-returns
+returns c = let s = c .before .before .before .before .before .pre in length-told _ (s .1) (s .2) (c .tally-records .ensures)
+
+pub length-after-spec : {M : Type 1} → statement M
+length-after-spec = tie.close (tie.spec tally-records-requires returns)

@@ -1,0 +1,32 @@
+-- What changing a list by a step asks and leaves. Only contracts need these. Rests on Step.
+use Prim.Native.Nat.{ℕ, _-_, _≤_}
+use mathlib.Core.Path.{_≡_}
+use mathlib.Core.List.{List}
+use lib.ListN.{length, replicate}
+use lib.Seq.{sets}
+use Rattle.definitions.specs.List.{keysOf, valuesOf, listOfPicture}
+use Rattle.definitions.specs.Read.{room}
+use Rattle.definitions.specs.Buffer.{replaced}
+use Rattle.list.specs.Own.{OwnList, shownBy}
+use Rattle.step.specs.Step.{Step, over}
+
+-- the first n records are a list, and there is room for what it becomes
+pub record Changeable (t : Step) (m : ℕ) (keys bits : List ℕ) (n after : ℕ) : Type 0 where
+  pub deep : m ≤ 10
+  pub own : OwnList m keys bits n
+  pub after-is : after ≡ length (listOfPicture m (over t (shownBy m keys bits n)))
+  pub fits : after ≤ room keys bits
+
+-- the list of the step over the picture stands there; places given up are zero, and all others stay
+pub record Changed (t : Step) (m n : ℕ) (keys bits keys′ bits′ : List ℕ) : Type 0 where
+  pub keys-are : keys′ ≡ replaced n (keysOf (listOfPicture m (over t (shownBy m keys bits n)))) keys
+  pub bits-are : bits′ ≡ replaced n (valuesOf (listOfPicture m (over t (shownBy m keys bits n)))) bits
+
+-- n places of both slices are there
+pub record GivenUp (n after : ℕ) (keys bits : List ℕ) : Type 0 where
+  pub in-keys : n ≤ length keys
+  pub in-bits : n ≤ length bits
+
+-- the places from one up to another are zero
+abbrev pub zeroed : (n after : ℕ) → List ℕ → List ℕ
+zeroed n after l = sets l after (replicate (n - after) 0)
