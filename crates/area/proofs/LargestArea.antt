@@ -9,7 +9,8 @@ use lib.Dec.{eqb}
 use Rattle.keys.specs.Key.{heightOf, childKey}
 use Rattle.keys.specs.Block.{rowOf, columnOf}
 use Rattle.keys.proofs.Cases.{decide}
-use Rattle.keys.proofs.Under.{here, nw, ne, sw, se, Block, under-trans}
+use Rattle.keys.specs.Under.{here, nw, ne, sw, se, Block}
+use Rattle.keys.proofs.Under.{under-trans}
 use Rattle.keys.proofs.Valid.{block-valid}
 use Rattle.definitions.specs.Picture.{Picture}
 use Rattle.definitions.specs.Window.{isWindow, inWindow, isGiven, selectFrom, selectIn}

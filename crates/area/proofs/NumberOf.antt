@@ -10,7 +10,7 @@ use Rattle.keys.specs.Key.{childKey, heightOf}
 use Rattle.keys.specs.Block.{rowOf, columnOf}
 use Rattle.keys.proofs.Cases.{split}
 use Rattle.keys.proofs.Powers.{five-pos, two-pos, two-le}
-use Rattle.keys.proofs.Under.{Under, here, nw, ne, sw, se, Block}
+use Rattle.keys.specs.Under.{Under, here, nw, ne, sw, se, Block}
 use Rattle.keys.proofs.Interval.{within}
 use Rattle.keys.proofs.Valid.{block-valid}
 use Rattle.definitions.specs.Picture.{Picture}

@@ -4,7 +4,7 @@ use Prim.Native.Nat.{ℕ, zero, suc, _+_, _^_, _≤_}
 use mathlib.Core.Path.{_≡_, refl, _∙_}
 use native.Mathlib.Nat.{pow-suc}
 use native.Mathlib.Omega.{arith}
-use Rattle.keys.proofs.Under.{Under, here, nw, ne, sw, se}
+use Rattle.keys.specs.Under.{Under, here, nw, ne, sw, se}
 use Rattle.keys.proofs.Interval.{within}
 use Rattle.keys.proofs.Pixel.{InSquare}
 use Rattle.definitions.proofs.Within.{Every, every-nw, every-ne, every-sw, every-se}

@@ -7,7 +7,7 @@ use native.Mathlib.Nat.{pow-suc, one-le-pow, add-mul, mul-assoc, zero-mul, pow-l
 use native.Mathlib.Omega.{arith}
 use Rattle.keys.specs.Key.{validKey, heightOf, childKey}
 use Rattle.keys.proofs.Valid.{valid-block}
-use Rattle.keys.proofs.Under.{Under, here, nw, ne, sw, se, Block}
+use Rattle.keys.specs.Under.{Under, here, nw, ne, sw, se, Block}
 use Rattle.keys.proofs.Cases.{split}
 use Rattle.definitions.specs.BitStrings.{levelsBelow}
 use Rattle.bit_strings.proofs.Levels.{levels-more, levels-none}

@@ -9,7 +9,7 @@ use lib.ListN.{length}
 use lib.Seq.{length-sets}
 use Rattle.keys.specs.Key.{childKey}
 use Rattle.keys.proofs.Powers.{five-pos}
-use Rattle.keys.proofs.Under.{here, nw, ne, sw, se}
+use Rattle.keys.specs.Under.{here, nw, ne, sw, se}
 use Rattle.definitions.specs.Picture.{Picture, oneFeature}
 use Rattle.definitions.specs.Bits.{unionOfFour}
 use Rattle.definitions.specs.List.{listOf, keysOf, valuesOf}

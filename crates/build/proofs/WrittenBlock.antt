@@ -9,7 +9,7 @@ use lib.ListN.{length, drop, length-map}
 use lib.Seq.{sets}
 use Rattle.keys.specs.Key.{childKey}
 use Rattle.keys.proofs.Cases.{decide}
-use Rattle.keys.proofs.Under.{here, nw, ne, sw, se}
+use Rattle.keys.specs.Under.{here, nw, ne, sw, se}
 use Rattle.definitions.specs.Picture.{Picture, oneFeature}
 use Rattle.definitions.specs.Bits.{bitsOf}
 use Rattle.definitions.specs.List.{Record, recordOf, listOf}

@@ -6,7 +6,7 @@ use mathlib.Core.List.{List}
 use native.Mathlib.Omega.{arith}
 use native.Mathlib.Nat.{pow-suc}
 use Rattle.keys.specs.Key.{childKey}
-use Rattle.keys.proofs.Under.{Under, here, nw, ne, sw, se}
+use Rattle.keys.specs.Under.{Under, here, nw, ne, sw, se}
 use Rattle.definitions.specs.Picture.{Picture}
 use Rattle.definitions.proofs.Features.{below-under}
 use Rattle.list.proofs.ShownQuadrants.{quadrantRow, quadrantColumn}

@@ -8,7 +8,7 @@ use native.Mathlib.Nat.{pow-suc}
 use lib.ListN.{length}
 use Rattle.keys.specs.Key.{childKey}
 use Rattle.keys.proofs.Powers.{five-pos}
-use Rattle.keys.proofs.Under.{here, nw, ne, sw, se}
+use Rattle.keys.specs.Under.{here, nw, ne, sw, se}
 use Rattle.definitions.specs.Picture.{Picture}
 use Rattle.definitions.specs.Bits.{unionOfFour}
 use Rattle.definitions.specs.Combine.{combined}

@@ -12,7 +12,7 @@ use lib.ListN.{length, getD}
 use borrow.Author.Tests.{eqb-true, not-false}
 use Rattle.keys.specs.Key.{rootKey, childKey}
 use Rattle.keys.proofs.Cases.{decide, and-left, and-right, neither-left, neither-right}
-use Rattle.keys.proofs.Under.{here, nw, ne, sw, se}
+use Rattle.keys.specs.Under.{here, nw, ne, sw, se}
 use Rattle.definitions.specs.Picture.{Picture, oneFeature, featuresBelow}
 use Rattle.definitions.specs.List.{Record, listOf, listOfPicture}
 use Rattle.definitions.specs.Read.{room, recordsOf, pictureOf, sameRecords, isListOfBlock, isList}

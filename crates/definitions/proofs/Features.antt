@@ -6,7 +6,7 @@ use mathlib.Core.Logic.{_↔_}
 use lib.Dec.{ltb, eqb}
 use borrow.Author.Tests.{ltb-true, lt-ltb, eqb-true, eq-eqb, eqb-false}
 use Rattle.keys.proofs.Cases.{decide}
-use Rattle.keys.proofs.Under.{Under}
+use Rattle.keys.specs.Under.{Under}
 use Rattle.definitions.specs.Picture.{Picture, oneFeature, featuresBelow}
 use Rattle.definitions.proofs.Within.{Every, Somewhere, first-within, pixel-row, pixel-column, under-within}
 use Rattle.definitions.proofs.Pixels.{Agree, every-to, every-from, every-fails, every-same}

@@ -12,7 +12,8 @@ use borrow.Author.Tests.{eqb-true, eq-eqb, leb-true, le-leb, lt-ltb}
 use Rattle.keys.specs.Key.{heightOf, childKey}
 use Rattle.keys.specs.Block.{rowOf, columnOf, sideOf, inBlock, contains}
 use Rattle.keys.proofs.Cases.{decide, and-left, and-right, and-both, or-either, or-left, or-right, same-test}
-use Rattle.keys.proofs.Under.{Block, under-trans, here, nw, ne, sw, se}
+use Rattle.keys.specs.Under.{Block, here, nw, ne, sw, se}
+use Rattle.keys.proofs.Under.{under-trans}
 use Rattle.keys.proofs.Valid.{block-valid}
 use Rattle.keys.proofs.Pixel.{InSquare}
 use Rattle.definitions.specs.Picture.{everyPixel, allFour}

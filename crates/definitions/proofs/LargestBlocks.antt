@@ -10,7 +10,8 @@ use lib.Dec.{eqb}
 use borrow.Author.Tests.{eq-eqb}
 use Rattle.keys.specs.Key.{rootKey, childKey, validKey}
 use Rattle.keys.proofs.Cases.{decide}
-use Rattle.keys.proofs.Under.{here, nw, ne, sw, se, Block, under-trans}
+use Rattle.keys.specs.Under.{here, nw, ne, sw, se, Block}
+use Rattle.keys.proofs.Under.{under-trans}
 use Rattle.keys.proofs.Valid.{block-valid}
 use Rattle.definitions.specs.Window.{inWindow, isGiven, selectFrom, selectIn, isCovered, largestFrom, largestBlocks}
 use Rattle.definitions.specs.declared.Window.{Window}

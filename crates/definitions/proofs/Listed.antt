@@ -8,7 +8,8 @@ use mathlib.Core.List.{List, _∷_, _++_, List·Memᴰ, List·Memᴰ·head, List
 use mathlib.Core.List.{List·Memᴰ·append-cases, List·Memᴰ·cases-cons, List·Memᴰ·eq-of-singleton}
 use Rattle.keys.specs.Key.{childKey}
 use Rattle.keys.proofs.Cases.{decide}
-use Rattle.keys.proofs.Under.{Under, here, nw, ne, sw, se, Quadrant, is-nw, is-ne, is-sw, is-se, under-trans, quadrant-under}
+use Rattle.keys.specs.Under.{Under, here, nw, ne, sw, se, Quadrant, is-nw, is-ne, is-sw, is-se}
+use Rattle.keys.proofs.Under.{under-trans, quadrant-under}
 use Rattle.definitions.specs.Picture.{Picture, oneFeature}
 use Rattle.definitions.specs.Bits.{bitsOf}
 use Rattle.definitions.specs.List.{Record, recordOf, listOf}

@@ -8,7 +8,8 @@ use native.Mathlib.Omega.{arith}
 use lib.Dec.{eqb}
 use Rattle.keys.specs.Key.{heightOf, childKey}
 use Rattle.keys.proofs.Cases.{decide}
-use Rattle.keys.proofs.Under.{here, nw, ne, sw, se, Block, under-trans}
+use Rattle.keys.specs.Under.{here, nw, ne, sw, se, Block}
+use Rattle.keys.proofs.Under.{under-trans}
 use Rattle.keys.proofs.Valid.{block-valid}
 use Rattle.definitions.specs.Picture.{Picture}
 use Rattle.definitions.specs.Window.{isWindow, inWindow, isGiven, selectFrom, selectIn}

@@ -10,7 +10,8 @@ use lib.ListN.{length, getD, take, drop, length-append}
 use lib.Seq.{take-at, drop-at, getD-take, getD-drop}
 use Rattle.keys.specs.Key.{childKey}
 use Rattle.keys.specs.Block.{rowOf, columnOf}
-use Rattle.keys.proofs.Under.{Under, here, nw, ne, sw, se, Block, under-trans}
+use Rattle.keys.specs.Under.{Under, here, nw, ne, sw, se, Block}
+use Rattle.keys.proofs.Under.{under-trans}
 use Rattle.keys.proofs.Interval.{same-key}
 use Rattle.keys.proofs.Valid.{block-valid}
 use Rattle.definitions.specs.Picture.{Picture}

@@ -15,7 +15,7 @@ use borrow.Author.Tests.{le-leb, ne-eqb}
 use Rattle.keys.specs.Key.{validKey, heightOf}
 use Rattle.keys.specs.Block.{rowOf, columnOf, sideOf, inBlock}
 use Rattle.keys.proofs.Cases.{decide, and-both}
-use Rattle.keys.proofs.Under.{Under}
+use Rattle.keys.specs.Under.{Under}
 use Rattle.keys.proofs.Interval.{within}
 use Rattle.keys.proofs.Valid.{valid-block}
 use Rattle.keys.proofs.InBlock.{inBlock-iff}

@@ -8,7 +8,7 @@ use native.Mathlib.Omega.{arith}
 use Rattle.keys.specs.Key.{heightOf}
 use Rattle.keys.specs.Block.{rowOf, columnOf, inBlock, pixelKey}
 use Rattle.keys.proofs.Cases.{decide}
-use Rattle.keys.proofs.Under.{Block}
+use Rattle.keys.specs.Under.{Block}
 use Rattle.keys.proofs.Pixel.{inside}
 use Rattle.keys.proofs.InBlock.{inBlock-iff, in-raster}
 use Rattle.keys.proofs.Valid.{block-valid}

@@ -6,7 +6,7 @@ use native.Mathlib.Nat.{pow-suc}
 use native.Mathlib.Omega.{arith}
 use lib.Pow.{pow-pos}
 use Rattle.keys.proofs.Cases.{split}
-use Rattle.keys.proofs.Under.{Under, here, nw, ne, sw, se}
+use Rattle.keys.specs.Under.{Under, here, nw, ne, sw, se}
 use Rattle.keys.proofs.Pixel.{InSquare}
 
 -- what holds at every pixel of the block

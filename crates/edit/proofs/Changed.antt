@@ -10,7 +10,7 @@ use lib.ListN.{length, take, length-take, length-map}
 use lib.Seq.{take-at}
 use Rattle.keys.specs.Key.{slotLimit, rootKey, validKey}
 use Rattle.keys.specs.Block.{inBlock}
-use Rattle.keys.proofs.Under.{here}
+use Rattle.keys.specs.Under.{here}
 use Rattle.keys.proofs.Valid.{block-valid}
 use Rattle.keys.proofs.InBlock.{inBlock-iff}
 use Rattle.definitions.specs.Picture.{Picture}

@@ -10,7 +10,7 @@ use borrow.Author.Tests.{leb-true, ltb-true, eqb-false, le-leb, lt-ltb, le-ltb, 
 use Rattle.keys.specs.Key.{heightOf, validKey}
 use Rattle.keys.specs.Block.{sideOf, contains, isAncestor, inInterval}
 use Rattle.keys.proofs.Cases.{split, equal, and-left, and-right, and-both, same-test}
-use Rattle.keys.proofs.Under.{Under, Block}
+use Rattle.keys.specs.Under.{Under, Block}
 use Rattle.keys.proofs.Interval.{within, key-within, nest, apart}
 use Rattle.keys.proofs.Powers.{two-pos}
 use Rattle.keys.proofs.Valid.{Is, valid-block, block-valid}

@@ -7,7 +7,7 @@ use mathlib.Core.Bool.{true}
 use Rattle.keys.specs.Key.{validKey, levelOf, heightOf, childKey}
 use Rattle.keys.specs.Block.{rowOf, columnOf, inBlock, pixelKey, keyAround}
 use Rattle.keys.proofs.Cases.{split}
-use Rattle.keys.proofs.Under.{Under, Block, here, nw, ne, sw, se}
+use Rattle.keys.specs.Under.{Under, Block, here, nw, ne, sw, se}
 use Rattle.keys.proofs.Interval.{within}
 use Rattle.keys.proofs.Valid.{valid-block, block-valid, block-level}
 use Rattle.keys.proofs.Pixel.{InKeys, pixel-block, inside}

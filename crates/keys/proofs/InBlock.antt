@@ -10,7 +10,7 @@ use borrow.Author.Tests.{leb-true, ltb-true, le-leb, lt-ltb}
 use Rattle.keys.specs.Key.{validKey}
 use Rattle.keys.specs.Block.{sideOf, inBlock, inInterval, pixelKey}
 use Rattle.keys.proofs.Cases.{and-left, and-right, and-both, same-test}
-use Rattle.keys.proofs.Under.{Block}
+use Rattle.keys.specs.Under.{Block}
 use Rattle.keys.proofs.Interval.{within}
 use Rattle.keys.proofs.Valid.{Is, valid-block, block-valid}
 use Rattle.keys.proofs.Pixel.{InSquare, InKeys, inside, back}

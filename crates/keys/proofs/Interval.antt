@@ -7,7 +7,7 @@ use mathlib.Core.Path.{_≡_, refl}
 use Rattle.keys.specs.Key.{childKey}
 use Rattle.keys.proofs.Cases.{split}
 use Rattle.keys.proofs.Powers.{five-pos}
-use Rattle.keys.proofs.Under.{Under, here, nw, ne, sw, se, Quadrant, is-nw, is-ne, is-sw, is-se}
+use Rattle.keys.specs.Under.{Under, here, nw, ne, sw, se, Quadrant, is-nw, is-ne, is-sw, is-se}
 
 -- the numbers of two blocks are the same
 pub record Same (k r c κ k′ r′ c′ κ′ : ℕ) : Type 0 where

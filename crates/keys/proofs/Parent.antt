@@ -2,7 +2,8 @@
 use Prim.Native.Nat.{ℕ, suc, _+_, _^_, _≤_}
 use native.Mathlib.Omega.{arith}
 use Rattle.keys.specs.Key.{childKey}
-use Rattle.keys.proofs.Under.{Under, here, nw, ne, sw, se, Quadrant, is-nw, is-ne, is-sw, is-se, under-trans, quadrant-under}
+use Rattle.keys.specs.Under.{Under, here, nw, ne, sw, se, Quadrant, is-nw, is-ne, is-sw, is-se}
+use Rattle.keys.proofs.Under.{under-trans, quadrant-under}
 use Rattle.keys.proofs.Interval.{Same}
 
 -- the second block is the first, or is a quadrant of a block under the first

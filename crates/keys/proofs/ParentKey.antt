@@ -9,7 +9,8 @@ use lib.Pow.{pow-add}
 use lib.Arith.{digits-div}
 use Rattle.keys.specs.Key.{levelOf, heightOf, validKey, childKey, parentKey}
 use Rattle.keys.specs.Block.{isAncestor}
-use Rattle.keys.proofs.Under.{Under, Block, here, nw, ne, sw, se, Quadrant, is-nw, is-ne, is-sw, is-se, quadrant-under}
+use Rattle.keys.specs.Under.{Under, Block, here, nw, ne, sw, se, Quadrant, is-nw, is-ne, is-sw, is-se}
+use Rattle.keys.proofs.Under.{quadrant-under}
 use Rattle.keys.proofs.Interval.{within, under-height, key-within, apart}
 use Rattle.keys.proofs.Powers.{five-pos}
 use Rattle.keys.proofs.Parent.{quadrant-of, quadrant-after, parent-cases}

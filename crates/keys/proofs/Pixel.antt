@@ -8,7 +8,8 @@ use borrow.Author.Tests.{lt-ltb, le-ltb}
 use Rattle.keys.specs.Key.{childKey}
 use Rattle.keys.specs.Block.{pixelKey}
 use Rattle.keys.proofs.Cases.{split}
-use Rattle.keys.proofs.Under.{Under, Block, here, nw, ne, sw, se, under-trans}
+use Rattle.keys.specs.Under.{Under, Block, here, nw, ne, sw, se}
+use Rattle.keys.proofs.Under.{under-trans}
 use Rattle.keys.proofs.Interval.{same-block, within, nest, one-block}
 
 -- the key of the only pixel of a block of height 0

@@ -1,26 +1,6 @@
--- Blocks as the tree has them: a block of height k at a row and a column, with its key, lies at or under another. Laws about blocks are
--- inductions on this type. Rests on nothing.
-use Prim.Native.Nat.{ℕ, suc, _+_, _^_}
-use Rattle.keys.specs.Key.{childKey}
-
--- the second block (k′ r′ c′ κ′) is the first (k r c κ), or lies at or under one of its quadrants
-pub data Under : ℕ → ℕ → ℕ → ℕ → ℕ → ℕ → ℕ → ℕ → Type 0 where
-  here : {k r c κ : ℕ} → Under k r c κ k r c κ
-  nw : {k r c κ k′ r′ c′ κ′ : ℕ} → Under k r c (childKey κ k 1) k′ r′ c′ κ′ → Under (suc k) r c κ k′ r′ c′ κ′
-  ne : {k r c κ k′ r′ c′ κ′ : ℕ} → Under k r (c + 2 ^ k) (childKey κ k 2) k′ r′ c′ κ′ → Under (suc k) r c κ k′ r′ c′ κ′
-  sw : {k r c κ k′ r′ c′ κ′ : ℕ} → Under k (r + 2 ^ k) c (childKey κ k 3) k′ r′ c′ κ′ → Under (suc k) r c κ k′ r′ c′ κ′
-  se : {k r c κ k′ r′ c′ κ′ : ℕ} → Under k (r + 2 ^ k) (c + 2 ^ k) (childKey κ k 4) k′ r′ c′ κ′ → Under (suc k) r c κ k′ r′ c′ κ′
-
--- a block of the map: it lies under the root
-abbrev pub Block : ℕ → ℕ → ℕ → ℕ → ℕ → Type 0
-Block m k r c κ = Under m 0 0 0 k r c κ
-
--- Quadrant k r c κ r′ c′ κ′: the block (k r′ c′ κ′) is a quadrant of (suc k r c κ), its parent
-pub data Quadrant : ℕ → ℕ → ℕ → ℕ → ℕ → ℕ → ℕ → Type 0 where
-  is-nw : {k r c κ : ℕ} → Quadrant k r c κ r c (childKey κ k 1)
-  is-ne : {k r c κ : ℕ} → Quadrant k r c κ r (c + 2 ^ k) (childKey κ k 2)
-  is-sw : {k r c κ : ℕ} → Quadrant k r c κ (r + 2 ^ k) c (childKey κ k 3)
-  is-se : {k r c κ : ℕ} → Quadrant k r c κ (r + 2 ^ k) (c + 2 ^ k) (childKey κ k 4)
+-- Blocks at or under others: under is transitive, and a quadrant lies under its parent. Rests on nothing.
+use Prim.Native.Nat.{ℕ, suc}
+use Rattle.keys.specs.Under.{Under, here, nw, ne, sw, se, Quadrant, is-nw, is-ne, is-sw, is-se}
 
 -- what is under a block that is under a third is under the third
 pub under-trans : {k r c κ k₁ r₁ c₁ κ₁ k₂ r₂ c₂ κ₂ : ℕ} → Under k r c κ k₁ r₁ c₁ κ₁ → Under k₁ r₁ c₁ κ₁ k₂ r₂ c₂ κ₂ → Under k r c κ k₂ r₂ c₂ κ₂

@@ -11,7 +11,7 @@ use borrow.Author.Tests.{ltb-true, lt-ltb}
 use Rattle.keys.specs.Key.{digitsOf, digitsThenZeros, levelOf, heightOf, validKey, childKey}
 use Rattle.keys.specs.Block.{isSouth, isEast, rowOf, columnOf}
 use Rattle.keys.proofs.Cases.{equal, and-left, and-right, and-both}
-use Rattle.keys.proofs.Under.{Under, Block, here, nw, ne, sw, se}
+use Rattle.keys.specs.Under.{Under, Block, here, nw, ne, sw, se}
 use Rattle.keys.proofs.Interval.{same-block}
 use Rattle.keys.proofs.Powers.{five-pos}
 use Rattle.keys.proofs.Digits.{split-digit, validDigits, row-suc, column-suc, height-digit, valid-digit, valid-zero, zeros, zeros-only, row-zero, column-zero, height-zero, level-height}

@@ -11,7 +11,8 @@ use lib.ListN.{length, getD, drop, drop-of-length-le}
 use lib.Seq.{drop-cons}
 use Rattle.keys.specs.Key.{childKey}
 use Rattle.keys.proofs.Cases.{split, equal}
-use Rattle.keys.proofs.Under.{Block, here, nw, ne, sw, se, under-trans}
+use Rattle.keys.specs.Under.{Block, here, nw, ne, sw, se}
+use Rattle.keys.proofs.Under.{under-trans}
 use Rattle.definitions.specs.Picture.{Picture, oneFeature}
 use Rattle.leaves.specs.Delivered.{endOf, Parted, leaf, four}
 use Rattle.leaves.proofs.EndOf.{endOfFour, end-leaf, end-four}

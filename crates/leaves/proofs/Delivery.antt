@@ -13,7 +13,7 @@ use borrow.Author.Tests.{leb-true, eqb-true, eq-eqb, not-true, not-false}
 use Rattle.keys.specs.Key.{validKey}
 use Rattle.keys.specs.Block.{inBlock}
 use Rattle.keys.proofs.Cases.{decide, and-left, and-right, and-both}
-use Rattle.keys.proofs.Under.{Block, here}
+use Rattle.keys.specs.Under.{Block, here}
 use Rattle.keys.proofs.Valid.{valid-below}
 use Rattle.keys.proofs.InBlock.{inBlock-iff, in-raster}
 use Rattle.definitions.specs.Picture.{Picture, oneFeature}

@@ -11,7 +11,8 @@ use borrow.Author.Tests.{lt-leb}
 use Rattle.keys.specs.Key.{childKey}
 use Rattle.keys.specs.Block.{inBlock}
 use Rattle.keys.proofs.Cases.{decide}
-use Rattle.keys.proofs.Under.{Block, here, nw, ne, sw, se, under-trans}
+use Rattle.keys.specs.Under.{Block, here, nw, ne, sw, se}
+use Rattle.keys.proofs.Under.{under-trans}
 use Rattle.keys.proofs.Pixel.{InSquare}
 use Rattle.keys.proofs.InBlock.{inBlock-iff}
 use Rattle.definitions.specs.Picture.{Picture, oneFeature, featuresBelow}

@@ -10,7 +10,7 @@ use Rattle.keys.specs.Key.{childKey, validKey, heightOf}
 use Rattle.keys.specs.Block.{rowOf, columnOf, inBlock, pixelKey}
 use Rattle.keys.proofs.Cases.{decide, split, equal}
 use Rattle.keys.proofs.Powers.{five-pos}
-use Rattle.keys.proofs.Under.{Under, Block}
+use Rattle.keys.specs.Under.{Under, Block}
 use Rattle.keys.proofs.Interval.{within, nest, past-first-child}
 use Rattle.keys.proofs.Valid.{valid-block}
 use Rattle.keys.proofs.Pixel.{InSquare, InKeys, inside, back}

@@ -9,7 +9,7 @@ use lib.ListN.{length, drop, length-map, length-append}
 use lib.Seq.{take-at}
 use Rattle.keys.specs.Block.{inBlock}
 use Rattle.keys.proofs.Cases.{decide}
-use Rattle.keys.proofs.Under.{here}
+use Rattle.keys.specs.Under.{here}
 use Rattle.definitions.specs.Picture.{Picture, featuresBelow}
 use Rattle.definitions.specs.List.{Record, listOf, listOfPicture, keysOf, valuesOf}
 use Rattle.definitions.specs.Read.{room, recordsOf, pictureOf, isList}

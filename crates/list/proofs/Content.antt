@@ -11,7 +11,7 @@ use borrow.Author.Tests.{lt-ltb, le-ltb, eqb-true, eq-eqb, ne-eqb, eqb-false, le
 use Rattle.keys.specs.Key.{rootKey, validKey, heightOf}
 use Rattle.keys.proofs.Cases.{decide}
 use Rattle.keys.proofs.Digits.{row-zero, column-zero, height-zero}
-use Rattle.keys.proofs.Under.{Block, here}
+use Rattle.keys.specs.Under.{Block, here}
 use Rattle.keys.proofs.Valid.{block-valid}
 use Rattle.definitions.specs.List.{Record}
 use Rattle.definitions.specs.Read.{room, paired, recordsOf, isList}

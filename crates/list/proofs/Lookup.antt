@@ -10,7 +10,7 @@ use lib.ListN.{length, getD, List·getD-map}
 use lib.Seq.{getD-append-seam}
 use lib.Dec.{leb, eqb}
 use borrow.Author.Tests.{le-leb, lt-leb, eq-eqb, ne-eqb}
-use Rattle.keys.proofs.Under.{Under}
+use Rattle.keys.specs.Under.{Under}
 use Rattle.keys.proofs.Interval.{Same, key-within}
 use Rattle.definitions.specs.Picture.{Picture, oneFeature}
 use Rattle.definitions.specs.Bits.{bitsOf}

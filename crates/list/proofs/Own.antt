@@ -6,7 +6,7 @@ use mathlib.Core.Bool.{true, false}
 use mathlib.Core.List.{List}
 use native.Mathlib.Omega.{arith}
 use lib.ListN.{length, getD, take}
-use Rattle.keys.proofs.Under.{Block}
+use Rattle.keys.specs.Under.{Block}
 use Rattle.definitions.specs.Bits.{bitsOf}
 use Rattle.definitions.specs.List.{keysOf, valuesOf, listOfPicture}
 use Rattle.definitions.specs.Read.{recordsOf, isList}

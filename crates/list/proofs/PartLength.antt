@@ -12,7 +12,7 @@ use Rattle.keys.specs.Key.{rootKey}
 use Rattle.keys.specs.Block.{inInterval}
 use Rattle.keys.proofs.Cases.{decide}
 use Rattle.keys.proofs.Powers.{five-pos}
-use Rattle.keys.proofs.Under.{Block}
+use Rattle.keys.specs.Under.{Block}
 use Rattle.keys.proofs.Pixel.{InKeys}
 use Rattle.keys.proofs.InBlock.{inInterval-iff}
 use Rattle.keys.proofs.Interval.{within}

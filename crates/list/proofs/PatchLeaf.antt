@@ -9,7 +9,7 @@ use lib.ListN.{length}
 use Rattle.keys.specs.Key.{rootKey, levelOf, heightOf, validKey}
 use Rattle.keys.specs.Block.{rowOf, columnOf, contains, isAncestor}
 use Rattle.keys.proofs.Cases.{equal}
-use Rattle.keys.proofs.Under.{Under, Block}
+use Rattle.keys.specs.Under.{Under, Block}
 use Rattle.keys.proofs.Interval.{key-within, same-key}
 use Rattle.keys.proofs.Valid.{valid-block, block-valid}
 use Rattle.keys.proofs.Ancestor.{contains-iff, ancestor-iff}

@@ -10,7 +10,8 @@ use native.Mathlib.Omega.{arith}
 use Rattle.keys.specs.Key.{childKey}
 use Rattle.keys.proofs.Cases.{decide}
 use Rattle.keys.proofs.Powers.{five-pos}
-use Rattle.keys.proofs.Under.{Under, here, nw, ne, sw, se, Quadrant, is-nw, is-ne, is-sw, is-se, under-trans, quadrant-under}
+use Rattle.keys.specs.Under.{Under, here, nw, ne, sw, se, Quadrant, is-nw, is-ne, is-sw, is-se}
+use Rattle.keys.proofs.Under.{under-trans, quadrant-under}
 use Rattle.keys.proofs.Interval.{Same, key-within}
 use Rattle.definitions.specs.Picture.{Picture, oneFeature}
 use Rattle.definitions.specs.Bits.{bitsOf}

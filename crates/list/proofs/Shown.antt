@@ -8,7 +8,7 @@ use native.Mathlib.Omega.{arith}
 use lib.ListN.{length, getD, take, drop, length-drop, length-map, take-append-drop}
 use lib.Seq.{getD-drop, drop-at}
 use Rattle.keys.proofs.Cases.{decide}
-use Rattle.keys.proofs.Under.{Block}
+use Rattle.keys.specs.Under.{Block}
 use Rattle.definitions.specs.Picture.{Picture, oneFeature}
 use Rattle.definitions.specs.Bits.{bitsOf, featureOf}
 use Rattle.definitions.specs.List.{Record, valuesOf, listOf, listOfPicture}

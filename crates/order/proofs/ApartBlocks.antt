@@ -10,7 +10,7 @@ use Rattle.keys.specs.Key.{validKey, heightOf}
 use Rattle.keys.specs.Block.{rowOf, columnOf, inBlock, isAncestor}
 use Rattle.keys.proofs.Cases.{decide, equal, and-left, and-right, and-both}
 use Rattle.keys.proofs.Powers.{two-pos}
-use Rattle.keys.proofs.Under.{Under}
+use Rattle.keys.specs.Under.{Under}
 use Rattle.keys.proofs.Interval.{within, apart as by-keys}
 use Rattle.keys.proofs.Valid.{valid-block}
 use Rattle.keys.proofs.Pixel.{InSquare, inside}

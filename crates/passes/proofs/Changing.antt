@@ -11,7 +11,8 @@ use Rattle.slices.proofs.Sets.{sets-parts}
 use Rattle.keys.specs.Key.{childKey, validKey, heightOf}
 use Rattle.keys.proofs.Cases.{decide, split}
 use Rattle.keys.proofs.Powers.{five-le}
-use Rattle.keys.proofs.Under.{Block, here, nw, ne, sw, se, under-trans}
+use Rattle.keys.specs.Under.{Block, here, nw, ne, sw, se}
+use Rattle.keys.proofs.Under.{under-trans}
 use Rattle.keys.proofs.Valid.{block-valid, valid-below}
 use Rattle.definitions.specs.Picture.{Picture, oneFeature}
 use Rattle.definitions.specs.List.{Record, recordOf, keysOf, valuesOf, listOf, listOfPicture}

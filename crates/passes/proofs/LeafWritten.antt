@@ -24,7 +24,7 @@ use Rattle.build.specs.BuildBlocks.{Written, Fitting, below, Tallied}
 use Rattle.build.proofs.WrittenBlock.{own-first, below-one}
 use Rattle.build.proofs.CountBlock.{length-key}
 use Rattle.step.specs.Step.{Step, over, plain, expanded}
-use Rattle.keys.proofs.Under.{Block}
+use Rattle.keys.specs.Under.{Block}
 use Rattle.keys.proofs.Interval.{within}
 use Rattle.keys.proofs.Powers.{two-le, five-le}
 use Rattle.step.specs.Deed.{LeafAsked}

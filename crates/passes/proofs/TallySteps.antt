@@ -7,7 +7,8 @@ use native.Mathlib.Omega.{arith}
 use lib.ListN.{length, getD, drop, length-map}
 use lib.Seq.{drop-drop, drop-at}
 use Rattle.keys.specs.Key.{childKey}
-use Rattle.keys.proofs.Under.{Block, here, nw, ne, sw, se, under-trans}
+use Rattle.keys.specs.Under.{Block, here, nw, ne, sw, se}
+use Rattle.keys.proofs.Under.{under-trans}
 use Rattle.definitions.specs.Picture.{Picture, oneFeature}
 use Rattle.definitions.specs.Bits.{bitsOf, featureOf, unionOfFour}
 use Rattle.definitions.specs.List.{valuesOf, listOf}

@@ -7,7 +7,8 @@ use mathlib.Core.List.{List}
 use lib.Dec.{eqb}
 use borrow.Author.Tests.{eqb-true, eq-eqb}
 use Rattle.keys.proofs.Cases.{decide, same-test}
-use Rattle.keys.proofs.Under.{Under, here, under-trans, Quadrant, quadrant-under}
+use Rattle.keys.specs.Under.{Under, here, Quadrant}
+use Rattle.keys.proofs.Under.{under-trans, quadrant-under}
 use Rattle.keys.proofs.Pixel.{InKeys}
 use Rattle.definitions.specs.Picture.{Picture, oneFeature}
 use Rattle.definitions.specs.Bits.{bitsOf}

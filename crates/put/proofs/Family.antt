@@ -8,7 +8,8 @@ use native.Mathlib.Omega.{arith}
 use borrow.Author.Tests.{eq-eqb, ne-eqb}
 use Rattle.keys.specs.Key.{childKey}
 use Rattle.keys.proofs.Cases.{equal}
-use Rattle.keys.proofs.Under.{Under, Block, Quadrant, is-nw, is-ne, is-sw, is-se, quadrant-under}
+use Rattle.keys.specs.Under.{Under, Block, Quadrant, is-nw, is-ne, is-sw, is-se}
+use Rattle.keys.proofs.Under.{quadrant-under}
 use Rattle.keys.proofs.Interval.{within, one-block}
 use Rattle.keys.proofs.Parent.{quadrant-of}
 use Rattle.keys.proofs.ParentKey.{multiple, cleared}

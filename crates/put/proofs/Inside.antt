@@ -7,7 +7,7 @@ use native.Mathlib.Omega.{arith}
 use lib.Pow.{pow-lt}
 use Rattle.keys.proofs.Cases.{split}
 use Rattle.keys.proofs.Powers.{two-pos}
-use Rattle.keys.proofs.Under.{Under}
+use Rattle.keys.specs.Under.{Under}
 use Rattle.keys.proofs.Interval.{within, one-block}
 use Rattle.keys.proofs.Pixel.{InSquare}
 use Rattle.definitions.specs.Picture.{Picture, oneFeature}

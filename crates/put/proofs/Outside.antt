@@ -4,7 +4,8 @@ use Prim.Native.Nat.{ℕ, suc, _+_, _^_, _≤_}
 use mathlib.Core.Path.{_≡_}
 use mathlib.Core.Logic.{_⊎_, inl, inr}
 use native.Mathlib.Omega.{arith}
-use Rattle.keys.proofs.Under.{Under, Block, Quadrant, quadrant-under}
+use Rattle.keys.specs.Under.{Under, Block, Quadrant}
+use Rattle.keys.proofs.Under.{quadrant-under}
 use Rattle.keys.proofs.Interval.{within, apart}
 use Rattle.keys.proofs.Pixel.{InSquare, InKeys, inside}
 use Rattle.keys.proofs.Parent.{quadrant-of}

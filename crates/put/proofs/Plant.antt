@@ -8,7 +8,8 @@ use native.Mathlib.Nat.{mul-div-cancel}
 use native.Mathlib.Omega.{arith}
 use lib.Bits.{bitOr, or-comm, or-self}
 use Rattle.keys.proofs.Powers.{five-pos}
-use Rattle.keys.proofs.Under.{Block, Quadrant, is-nw, is-ne, is-sw, is-se, quadrant-under}
+use Rattle.keys.specs.Under.{Block, Quadrant, is-nw, is-ne, is-sw, is-se}
+use Rattle.keys.proofs.Under.{quadrant-under}
 use Rattle.keys.proofs.Parent.{quadrant-of}
 use Rattle.keys.proofs.Pixel.{InKeys}
 use Rattle.definitions.specs.Picture.{Picture, oneFeature}

@@ -6,7 +6,7 @@ use mathlib.Core.Bool.{true}
 use Rattle.keys.specs.Key.{validKey, heightOf}
 use Rattle.keys.specs.Block.{rowOf, columnOf, inBlock}
 use Rattle.keys.proofs.Cases.{decide}
-use Rattle.keys.proofs.Under.{Block}
+use Rattle.keys.specs.Under.{Block}
 use Rattle.keys.proofs.Valid.{valid-block}
 use Rattle.keys.proofs.InBlock.{inBlock-iff}
 use Rattle.definitions.specs.Picture.{Picture}

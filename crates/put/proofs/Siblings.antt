@@ -7,7 +7,7 @@ use native.Mathlib.Nat.{pow-suc}
 use native.Mathlib.Omega.{arith}
 use Rattle.keys.specs.Key.{childKey}
 use Rattle.keys.proofs.Powers.{five-pos}
-use Rattle.keys.proofs.Under.{Block, Quadrant, is-nw, is-ne, is-sw, is-se}
+use Rattle.keys.specs.Under.{Block, Quadrant, is-nw, is-ne, is-sw, is-se}
 use Rattle.definitions.specs.Picture.{Picture, oneFeature}
 use Rattle.definitions.specs.Bits.{bitsOf}
 use Rattle.definitions.specs.List.{Record, recordOf, listOf}

@@ -9,7 +9,7 @@ use native.Mathlib.Omega.{arith}
 use lib.Bits.{bitOr}
 use lib.ListN.{length, getD}
 use Rattle.keys.specs.Key.{heightOf}
-use Rattle.keys.proofs.Under.{Under}
+use Rattle.keys.specs.Under.{Under}
 use Rattle.keys.proofs.Interval.{nest, one-block}
 use Rattle.keys.proofs.Valid.{block-valid}
 use Rattle.keys.proofs.Pixel.{InKeys}

@@ -10,7 +10,7 @@ use borrow.Author.Tests.{eq-eqb, ne-eqb}
 use Rattle.keys.specs.Key.{heightOf}
 use Rattle.keys.proofs.Cases.{decide}
 use Rattle.keys.proofs.Powers.{five-pos}
-use Rattle.keys.proofs.Under.{Quadrant}
+use Rattle.keys.specs.Under.{Quadrant}
 use Rattle.keys.proofs.Interval.{key-within}
 use Rattle.keys.proofs.Parent.{quadrant-after}
 use Rattle.definitions.specs.Picture.{Picture, oneFeature}

@@ -2,7 +2,8 @@
 use Prim.Native.Nat.{ℕ, zero, suc, _+_}
 use mathlib.Core.Path.{_≡_, refl}
 use native.Mathlib.Omega.{arith}
-use Rattle.keys.proofs.Under.{Under, here, nw, ne, sw, se, Quadrant, is-nw, is-ne, is-sw, is-se, under-trans, quadrant-under}
+use Rattle.keys.specs.Under.{Under, here, nw, ne, sw, se, Quadrant, is-nw, is-ne, is-sw, is-se}
+use Rattle.keys.proofs.Under.{under-trans, quadrant-under}
 
 -- Way K R C Κ k r c κ: from the block (k r c κ) up to the block (K R C Κ), which it is or lies in
 pub data Way (K R C Κ : ℕ) : ℕ → ℕ → ℕ → ℕ → Type 0 where

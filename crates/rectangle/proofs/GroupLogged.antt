@@ -5,7 +5,7 @@ use mathlib.Core.List.{List, _++_}
 use native.Mathlib.Omega.{arith}
 use lib.ListN.{length, length-append}
 use Rattle.keys.specs.Key.{rootKey}
-use Rattle.keys.proofs.Under.{here}
+use Rattle.keys.specs.Under.{here}
 use Rattle.definitions.specs.List.{Record}
 use Rattle.definitions.specs.Read.{room, recordsOf}
 use Rattle.definitions.specs.Window.{largestFrom, largestBlocks}

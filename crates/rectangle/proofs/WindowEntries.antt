@@ -10,7 +10,8 @@ use lib.ListN.{length, length-append}
 use Rattle.keys.specs.Key.{childKey, heightOf}
 use Rattle.keys.specs.Block.{rowOf, columnOf}
 use Rattle.keys.proofs.Cases.{decide}
-use Rattle.keys.proofs.Under.{Block, here, nw, ne, sw, se, under-trans}
+use Rattle.keys.specs.Under.{Block, here, nw, ne, sw, se}
+use Rattle.keys.proofs.Under.{under-trans}
 use Rattle.keys.proofs.Valid.{block-valid}
 use Rattle.definitions.specs.Picture.{Picture}
 use Rattle.definitions.specs.List.{Record}

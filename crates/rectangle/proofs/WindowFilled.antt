@@ -7,7 +7,7 @@ use native.Mathlib.Omega.{arith}
 use lib.ListN.{length}
 use Rattle.keys.specs.Key.{slotLimit, rootKey, validKey}
 use Rattle.keys.specs.Block.{inBlock}
-use Rattle.keys.proofs.Under.{Block, here}
+use Rattle.keys.specs.Under.{Block, here}
 use Rattle.keys.proofs.Valid.{block-valid}
 use Rattle.keys.proofs.InBlock.{inBlock-iff}
 use Rattle.definitions.specs.Picture.{Picture}

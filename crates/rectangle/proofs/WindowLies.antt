@@ -7,7 +7,7 @@ use native.Mathlib.Omega.{arith}
 use Rattle.keys.proofs.Cases.{decide}
 use Rattle.keys.proofs.Interval.{within}
 use Rattle.keys.proofs.Powers.{two-le, two-pos}
-use Rattle.keys.proofs.Under.{Block}
+use Rattle.keys.specs.Under.{Block}
 use Rattle.definitions.specs.Window.{inWindow, isCovered}
 use Rattle.definitions.specs.declared.Window.{Window}
 use Rattle.definitions.proofs.Pixels.{every-to, every-from}

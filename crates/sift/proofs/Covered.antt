@@ -11,7 +11,7 @@ use Rattle.keys.specs.Key.{validKey}
 use Rattle.keys.specs.Block.{pixelKey, inBlock, inInterval}
 use Rattle.keys.proofs.Cases.{decide, split, or-left, or-right, same-test}
 use Rattle.keys.proofs.Powers.{five-pos}
-use Rattle.keys.proofs.Under.{Block}
+use Rattle.keys.specs.Under.{Block}
 use Rattle.keys.proofs.Interval.{within, nest}
 use Rattle.keys.proofs.Valid.{valid-block, block-valid}
 use Rattle.keys.proofs.Pixel.{InSquare, inside}

@@ -9,7 +9,7 @@ use Rattle.keys.specs.Key.{heightOf, validKey}
 use Rattle.keys.specs.Block.{pixelKey}
 use Rattle.keys.proofs.Cases.{split}
 use Rattle.keys.proofs.Powers.{two-pos}
-use Rattle.keys.proofs.Under.{Under, Block, here, nw, ne, sw, se}
+use Rattle.keys.specs.Under.{Under, Block, here, nw, ne, sw, se}
 use Rattle.keys.proofs.Interval.{Next, at-end, at-block, key-within, nest, next-block, within}
 use Rattle.keys.proofs.Valid.{valid-block, block-valid}
 use Rattle.keys.proofs.Pixel.{InSquare, pixel-zero, pixel-nw, pixelKey-lt, pixel-block, pixel-in-block}

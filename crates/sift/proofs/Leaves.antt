@@ -8,7 +8,8 @@ use mathlib.Core.List.{List, [], _∷_, List·Memᴰ, List·Memᴰ·head, List·
 use lib.ListN.{length, getD, drop}
 use Rattle.keys.specs.Key.{validKey, heightOf, rootKey}
 use Rattle.keys.proofs.Cases.{split}
-use Rattle.keys.proofs.Under.{Under, Block, Quadrant, here, nw, ne, sw, se, is-nw, is-ne, is-sw, is-se, quadrant-under}
+use Rattle.keys.specs.Under.{Under, Block, Quadrant, here, nw, ne, sw, se, is-nw, is-ne, is-sw, is-se}
+use Rattle.keys.proofs.Under.{quadrant-under}
 use Rattle.keys.proofs.Interval.{within, key-within, nest}
 use Rattle.keys.proofs.Valid.{valid-block, block-valid}
 use Rattle.definitions.specs.Picture.{Picture, oneFeature}

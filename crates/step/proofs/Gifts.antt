@@ -8,7 +8,7 @@ use lib.ListN.{length}
 use Rattle.keys.specs.Key.{validKey, heightOf}
 use Rattle.keys.specs.Block.{inBlock, inInterval, rowOf, columnOf}
 use Rattle.keys.proofs.Cases.{decide, or-left}
-use Rattle.keys.proofs.Under.{Block, Under}
+use Rattle.keys.specs.Under.{Block, Under}
 use Rattle.keys.proofs.Valid.{valid-block}
 use Rattle.keys.proofs.Interval.{within, apart}
 use Rattle.keys.proofs.Powers.{two-pos, five-pos}

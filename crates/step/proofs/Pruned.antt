@@ -11,7 +11,8 @@ use borrow.Author.Tests.{lt-ltb, le-ltb}
 use Rattle.keys.specs.Key.{childKey, heightOf}
 use Rattle.keys.specs.Block.{rowOf, columnOf}
 use Rattle.keys.proofs.Cases.{decide}
-use Rattle.keys.proofs.Under.{Block, Under, here, nw, ne, sw, se, under-trans}
+use Rattle.keys.specs.Under.{Block, Under, here, nw, ne, sw, se}
+use Rattle.keys.proofs.Under.{under-trans}
 use Rattle.keys.proofs.Valid.{block-valid}
 use Rattle.definitions.specs.Picture.{Picture, oneFeature}
 use Rattle.definitions.specs.Bits.{bitsOf, featureOf}

@@ -4,7 +4,8 @@ use mathlib.Core.Path.{_≡_, refl, sym, _∙_, ap}
 use native.Mathlib.Nat.{pow-suc}
 use native.Mathlib.Omega.{arith}
 use Rattle.keys.specs.Key.{childKey}
-use Rattle.keys.proofs.Under.{Block, here, nw, ne, sw, se, under-trans}
+use Rattle.keys.specs.Under.{Block, here, nw, ne, sw, se}
+use Rattle.keys.proofs.Under.{under-trans}
 use Rattle.keys.proofs.Interval.{within}
 use Rattle.keys.proofs.Powers.{two-le, five-le}
 use Rattle.step.specs.Quarters.{Divisible, quartersOf}

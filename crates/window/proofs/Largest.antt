@@ -7,7 +7,8 @@ use mathlib.Core.List.{List}
 use native.Mathlib.Omega.{arith}
 use Rattle.keys.proofs.Cases.{decide}
 use Rattle.keys.proofs.Powers.{five-pos, two-pos}
-use Rattle.keys.proofs.Under.{Block, quadrant-under}
+use Rattle.keys.specs.Under.{Block}
+use Rattle.keys.proofs.Under.{quadrant-under}
 use Rattle.keys.proofs.Interval.{Same, within, nest}
 use Rattle.keys.proofs.Parent.{parent-cases, quadrant-after}
 use Rattle.definitions.specs.Picture.{Picture}

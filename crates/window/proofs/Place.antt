@@ -6,7 +6,7 @@ use native.Mathlib.Nat.{pow-suc, mul-assoc, mul-comm, add-mul, one-mul, zero-mul
 use native.Mathlib.Omega.{arith}
 use lib.Bits.{bitAnd, and-shifted, and-block, and-self, and-zero-r}
 use lib.Pow.{pow-pos, pow-lt}
-use Rattle.keys.proofs.Under.{Under, Block, here, nw, ne, sw, se, Quadrant, is-nw, is-ne, is-sw, is-se}
+use Rattle.keys.specs.Under.{Under, Block, here, nw, ne, sw, se, Quadrant, is-nw, is-ne, is-sw, is-se}
 use Rattle.keys.proofs.Interval.{same-block, within}
 use Rattle.keys.proofs.Parent.{parent-cases, quadrant-of}
 

@@ -8,7 +8,7 @@ use native.Mathlib.Omega.{arith}
 use Rattle.keys.specs.Key.{childKey}
 use Rattle.keys.proofs.Cases.{decide}
 use Rattle.keys.proofs.Powers.{five-pos}
-use Rattle.keys.proofs.Under.{Under, here, nw, ne, sw, se}
+use Rattle.keys.specs.Under.{Under, here, nw, ne, sw, se}
 use Rattle.keys.proofs.Interval.{within}
 use Rattle.definitions.specs.Picture.{Picture}
 use Rattle.definitions.specs.Window.{isGiven, selectFrom}

@@ -9,7 +9,7 @@ use Rattle.keys.specs.Key.{childKey}
 use Rattle.keys.specs.Block.{pixelKey}
 use Rattle.keys.proofs.Cases.{split}
 use Rattle.keys.proofs.Powers.{five-pos, five-le}
-use Rattle.keys.proofs.Under.{Block, is-nw}
+use Rattle.keys.specs.Under.{Block, is-nw}
 use Rattle.keys.proofs.Interval.{Same, same-block, within, apart, one-block, no-key-between}
 use Rattle.keys.proofs.Parent.{quadrant-of}
 use Rattle.keys.proofs.Pixel.{back, pixel-block}

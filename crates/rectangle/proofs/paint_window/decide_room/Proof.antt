@@ -3,7 +3,7 @@ use Prim.Native.Nat.{_+_, _≤_}
 use mathlib.Core.Path.{_≡_, refl, sym, ap, _∙_}
 use native.Mathlib.Omega.{arith}
 use lib.ListN.{length}
-use Rattle.keys.proofs.Under.{here}
+use Rattle.keys.specs.Under.{here}
 use Rattle.definitions.specs.Read.{room, recordsOf}
 use Rattle.definitions.specs.Log.{closingPlaces}
 use Rattle.definitions.specs.Calls.PaintWindow.{groupGained}

@@ -8,7 +8,7 @@ use lib.Bits.{bitAnd}
 use lib.Pow.{pow-pos, pow-mono, pow-lt}
 use Rattle.keys.proofs.Cases.{split}
 use Rattle.keys.proofs.Powers.{five-le, two-le}
-use Rattle.keys.proofs.Under.{Block}
+use Rattle.keys.specs.Under.{Block}
 use Rattle.keys.proofs.Interval.{within, same-block}
 use Rattle.window.specs.declared.walk.Spot.{Spot}
 use Rattle.window.specs.Walk.{Stands}

@@ -1,6 +1,6 @@
 -- `walk::start` meets its contract: the root is a block of the map.
 use mathlib.Core.Path.{refl}
-use Rattle.keys.proofs.Under.{here}
+use Rattle.keys.specs.Under.{here}
 use borrow.Author.Needs.{needs}
 use Rattle.window.proofs.walk.start.Statement.{statement}
 use Rattle.window.proofs.walk.start.Tie as tie
