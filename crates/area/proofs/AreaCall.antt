@@ -11,8 +11,8 @@ use Rattle.definitions.specs.Area.{areaIn, summaryOf}
 use Rattle.definitions.specs.Calls.Area.{areaRefusal, area}
 use Rattle.definitions.specs.declared.Measured.{Measured}
 use Rattle.definitions.specs.declared.Window.{Window}
-use Rattle.definitions.proofs.First.{first-none, accepted-done, accepted-left}
-use Rattle.definitions.proofs.SameNumbers.{summary-is}
+use Rattle.laws.proofs.First.{first-none, accepted-done, accepted-left}
+use Rattle.laws.proofs.SameNumbers.{summary-is}
 use Rattle.list.specs.Own.{shownBy}
 use Rattle.list.proofs.Tests.{GoodSettings, good-settings}
 

@@ -14,8 +14,8 @@ use Rattle.definitions.specs.Picture.{Picture}
 use Rattle.definitions.specs.Window.{isWindow, inWindow}
 use Rattle.definitions.specs.Area.{areaIn}
 use Rattle.definitions.specs.declared.Window.{Window}
-use Rattle.definitions.proofs.PixelSums.{sumPixels, sum-same}
-use Rattle.definitions.proofs.AreaOf.{oneInside, area-sum}
+use Rattle.laws.proofs.PixelSums.{sumPixels, sum-same}
+use Rattle.laws.proofs.AreaOf.{oneInside, area-sum}
 use Rattle.window.specs.Walk.{Clear}
 use Rattle.area.proofs.SumUnder.{sum-nothing, sum-both, sum-most, sum-under}
 

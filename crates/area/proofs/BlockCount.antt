@@ -14,7 +14,7 @@ use Rattle.keys.proofs.Interval.{within}
 use Rattle.keys.proofs.Valid.{block-valid}
 use Rattle.definitions.specs.Picture.{Picture, oneFeature}
 use Rattle.definitions.specs.Area.{pixelsWith, summaryOf}
-use Rattle.definitions.proofs.PixelSums.{squared}
+use Rattle.laws.proofs.PixelSums.{squared}
 use Rattle.window.specs.Walk.{Stands}
 use Rattle.window.specs.declared.walk.Spot.{Spot}
 use Rattle.area.specs.Number.{numberOf}

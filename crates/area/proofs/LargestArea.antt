@@ -16,10 +16,10 @@ use Rattle.definitions.specs.Picture.{Picture}
 use Rattle.definitions.specs.Window.{isWindow, inWindow, isGiven, selectFrom, selectIn}
 use Rattle.definitions.specs.Area.{areaIn, pixelsWith}
 use Rattle.definitions.specs.declared.Window.{Window}
-use Rattle.definitions.proofs.SelectMeans.{given-inside}
-use Rattle.definitions.proofs.Pixels.{every-zero}
-use Rattle.definitions.proofs.PixelSums.{same-four, sumPixels, sum-zero, sum-suc}
-use Rattle.definitions.proofs.AreaOf.{oneInside, area-sum, area-inside}
+use Rattle.laws.proofs.SelectMeans.{given-inside}
+use Rattle.laws.proofs.Pixels.{every-zero}
+use Rattle.laws.proofs.PixelSums.{same-four, sumPixels, sum-zero, sum-suc}
+use Rattle.laws.proofs.AreaOf.{oneInside, area-sum, area-inside}
 use Rattle.window.proofs.Largest.{blank, largestBlocks}
 
 module _ (m : ℕ) (p : Picture) (f : ℕ) where

@@ -16,7 +16,7 @@ use Rattle.definitions.specs.Bits.{hasSlot}
 use Rattle.definitions.specs.Window.{isWindow}
 use Rattle.definitions.specs.Area.{areaIn, pixelsWith}
 use Rattle.definitions.specs.declared.Window.{Window}
-use Rattle.definitions.proofs.Features.{one-pixel}
+use Rattle.laws.proofs.Features.{one-pixel}
 use Rattle.window.specs.Walk.{Stands, isApart}
 use Rattle.window.specs.declared.walk.Spot.{Spot}
 use Rattle.window.proofs.Seen.{bitsAt}

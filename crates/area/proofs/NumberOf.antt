@@ -15,7 +15,7 @@ use Rattle.keys.proofs.Interval.{within}
 use Rattle.keys.proofs.Valid.{block-valid}
 use Rattle.definitions.specs.Picture.{Picture}
 use Rattle.definitions.specs.Area.{pixelsWith, summaryLevel, summaryHeight, summaryOf, keyBelow, blockKey}
-use Rattle.definitions.proofs.SummaryOf.{summary-length, summary-place}
+use Rattle.laws.proofs.SummaryOf.{summary-length, summary-place}
 use Rattle.window.specs.Walk.{Stands}
 use Rattle.window.specs.declared.walk.Spot.{Spot}
 use Rattle.area.specs.Number.{numberOf}

@@ -14,10 +14,10 @@ use Rattle.definitions.specs.Bits.{hasSlot}
 use Rattle.definitions.specs.Window.{inWindow}
 use Rattle.definitions.specs.Area.{pixelsWith}
 use Rattle.definitions.specs.declared.Window.{Window}
-use Rattle.definitions.proofs.WindowScan.{inside-window, window-inside}
-use Rattle.definitions.proofs.PixelSums.{sumRow, sumRows, sumPixels, sum-block, sum-same, InPart, rows-same, rows-cut, columns-cut}
-use Rattle.definitions.proofs.CountOf.{oneAt, pixels-sum}
-use Rattle.definitions.proofs.AreaOf.{oneInside}
+use Rattle.laws.proofs.WindowScan.{inside-window, window-inside}
+use Rattle.laws.proofs.PixelSums.{sumRow, sumRows, sumPixels, sum-block, sum-same, InPart, rows-same, rows-cut, columns-cut}
+use Rattle.laws.proofs.CountOf.{oneAt, pixels-sum}
+use Rattle.laws.proofs.AreaOf.{oneInside}
 use Rattle.window.specs.Walk.{Stands, isApart, isWithin}
 use Rattle.window.specs.declared.walk.Spot.{Spot}
 use Rattle.window.proofs.Lies.{InSpot, not-apart, apart-pixel, within-pixel}

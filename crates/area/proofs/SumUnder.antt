@@ -7,8 +7,8 @@ use native.Mathlib.Omega.{arith}
 use Rattle.keys.specs.Under.{Under, here, nw, ne, sw, se}
 use Rattle.keys.proofs.Interval.{within}
 use Rattle.keys.proofs.Pixel.{InSquare}
-use Rattle.definitions.proofs.Within.{Every, every-nw, every-ne, every-sw, every-se}
-use Rattle.definitions.proofs.PixelSums.{sumPixels, sum-zero, sum-suc, sum-constant}
+use Rattle.laws.proofs.Within.{Every, every-nw, every-ne, every-sw, every-se}
+use Rattle.laws.proofs.PixelSums.{sumPixels, sum-zero, sum-suc, sum-constant}
 
 -- what adds nothing at any pixel adds nothing
 pub sum-nothing : (g : ℕ → ℕ → ℕ) (k r c : ℕ) → Every (λ a b. g a b ≡ 0) k r c → sumPixels g k r c ≡ 0

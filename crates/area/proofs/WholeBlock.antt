@@ -14,9 +14,9 @@ use Rattle.keys.proofs.Valid.{valid-block}
 use Rattle.definitions.specs.Picture.{Picture, oneFeature}
 use Rattle.definitions.specs.Bits.{hasSlot, bitsOf, featureOf}
 use Rattle.definitions.specs.Area.{pixelsWith}
-use Rattle.definitions.proofs.Slots.{slot-power}
-use Rattle.definitions.proofs.BitsOf.{bits-one}
-use Rattle.definitions.proofs.FeatureOf.{feature-of-power}
+use Rattle.laws.proofs.Slots.{slot-power}
+use Rattle.laws.proofs.BitsOf.{bits-one}
+use Rattle.laws.proofs.FeatureOf.{feature-of-power}
 use Rattle.list.specs.Check.{oneSlot}
 use Rattle.list.specs.Own.{OwnList, shownBy}
 use Rattle.list.specs.Among.{placeAmong}

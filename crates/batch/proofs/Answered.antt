@@ -17,8 +17,8 @@ use Rattle.definitions.specs.Buffer.{over}
 use Rattle.definitions.specs.Calls.Batch.{refusalTo, valueTo, batchRefusal, batch, batchRefusals, batchValues}
 use Rattle.definitions.specs.declared.Question.{Question}
 use Rattle.definitions.specs.declared.Counted.{Counted}
-use Rattle.definitions.proofs.First.{first-none, accepted-done, accepted-left}
-use Rattle.definitions.proofs.Buffer.{sets-over}
+use Rattle.laws.proofs.First.{first-none, accepted-done, accepted-left}
+use Rattle.laws.proofs.Buffer.{sets-over}
 use Rattle.batch.specs.Run.{Accepted, Progress, progressOf, at, beginRefusal, beginOf, answered, stepOf, runOf, Ready, answerOf}
 use Rattle.batch.specs.declared.begin.State.{State}
 use Rattle.batch.proofs.Fold.{step-answers, step-stays, run-nil, run-cons}

@@ -9,8 +9,8 @@ use Rattle.definitions.specs.Buffer.{over}
 use Rattle.definitions.specs.Calls.Clipped.{existClipped, reportClipped}
 use Rattle.definitions.specs.Calls.Batch.{refusalTo, valueTo, batchRefusal, batchRefusals, batchValues}
 use Rattle.definitions.specs.declared.Question.{Question}
-use Rattle.definitions.proofs.First.{accepted-done}
-use Rattle.definitions.proofs.OneByOne.{noQuestion, asks-exist, asks-report, refusal-at, value-at}
+use Rattle.laws.proofs.First.{accepted-done}
+use Rattle.laws.proofs.OneByOne.{noQuestion, asks-exist, asks-report, refusal-at, value-at}
 
 -- within a list it does not matter what would stand past its end
 any-default : (l : List ℕ) (i a b : ℕ) → i < length l → getD l i a ≡ getD l i b

@@ -6,7 +6,7 @@ use mathlib.Core.List.{List}
 use lib.Dec.{eqb}
 use borrow.Author.Tests.{lt-ltb, le-ltb, eq-eqb, ne-eqb}
 use Rattle.definitions.specs.declared.Counted.{Counted}
-use Rattle.definitions.proofs.First.{this, none-first, holds-first, accepted-done, accepted-left}
+use Rattle.laws.proofs.First.{this, none-first, holds-first, accepted-done, accepted-left}
 use Rattle.list.specs.First.{firstRefusal}
 use Rattle.list.proofs.FirstRefusal.{refused-first, passed-first}
 use Rattle.batch.specs.Run.{beginRefusal, beginOf, answerOf}

@@ -11,7 +11,7 @@ use borrow.Author.Tests.{eq-eqb, ne-eqb}
 use Rattle.keys.proofs.Cases.{equal}
 use Rattle.definitions.specs.Calls.Batch.{refusalTo, valueTo}
 use Rattle.definitions.specs.declared.Question.{Question}
-use Rattle.definitions.proofs.OneByOne.{noQuestion}
+use Rattle.laws.proofs.OneByOne.{noQuestion}
 use Rattle.batch.specs.declared.step.Reply.{Reply}
 use Rattle.batch.specs.Run.{Progress, progressOf, at, replyOf, answered, stepOf, runOf, Fine, Ready}
 

@@ -15,8 +15,8 @@ use Rattle.definitions.specs.declared.Window.{Window}
 use Rattle.definitions.specs.declared.Exists.{Exists}
 use Rattle.definitions.specs.declared.Reported.{Reported}
 use Rattle.definitions.specs.declared.Question.{Question}
-use Rattle.definitions.proofs.First.{this, later, none-first, holds-first}
-use Rattle.definitions.proofs.OneByOne.{asks-exist, asks-report}
+use Rattle.laws.proofs.First.{this, later, none-first, holds-first}
+use Rattle.laws.proofs.OneByOne.{asks-exist, asks-report}
 use Rattle.list.specs.Own.{shownBy}
 use Rattle.window.proofs.Tables.{exist-goes-on, exist-feature, exist-none}
 use Rattle.window.proofs.Answers.{report-refused, report-found, exist-refused, exist-yes, exist-no}

@@ -7,7 +7,7 @@ use mathlib.Core.List.{List}
 use lib.ListN.{length, getD, take}
 use denote.Laws.{Is}
 use Rattle.definitions.specs.declared.Question.{Question}
-use Rattle.definitions.proofs.OneByOne.{noQuestion}
+use Rattle.laws.proofs.OneByOne.{noQuestion}
 use Rattle.batch.specs.Run.{Progress, progressOf, Ready, stepOf, runOf}
 use Rattle.batch.specs.declared.begin.State.{State}
 use Rattle.batch.proofs.begin.State as State

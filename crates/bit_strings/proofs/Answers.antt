@@ -11,7 +11,7 @@ use Rattle.keys.proofs.Cases.{split}
 use Rattle.definitions.specs.Read.{isList}
 use Rattle.definitions.specs.Refusal.{badSettings}
 use Rattle.definitions.specs.BitStrings.{leafValue, innerValue}
-use Rattle.definitions.proofs.First.{this, later, holds-first, none-first}
+use Rattle.laws.proofs.First.{this, later, holds-first, none-first}
 use Rattle.bit_strings.specs.Steps.{nextBit}
 use Rattle.bit_strings.specs.Strings.{earlyRefusal}
 use Rattle.bit_strings.proofs.NextBit.{next-first}

@@ -13,13 +13,13 @@ use Rattle.definitions.specs.Bits.{bitsOf, featureOf, twosIn}
 use Rattle.definitions.specs.List.{Record, recordOf, listOf}
 use Rattle.definitions.specs.Read.{isListOfBlock}
 use Rattle.definitions.specs.BitStrings.{nodeBits, leafBits, packed, bitsIn, isWhole, leftOver, reading, recordsFrom, isPair, recordsOfPair}
-use Rattle.definitions.proofs.FileBytes.{Bytes}
-use Rattle.definitions.proofs.Features.{one-from}
-use Rattle.definitions.proofs.Slots.{same-four}
-use Rattle.definitions.proofs.BitsOf.{bits-one, below-bits}
-use Rattle.definitions.proofs.ListOf.{list-one}
-use Rattle.definitions.proofs.ReadBack.{root-keys}
-use Rattle.definitions.proofs.IsList.{ShowsBlock, block-list-to, block-list-from}
+use Rattle.laws.proofs.FileBytes.{Bytes}
+use Rattle.laws.proofs.Features.{one-from}
+use Rattle.laws.proofs.Slots.{same-four}
+use Rattle.laws.proofs.BitsOf.{bits-one, below-bits}
+use Rattle.laws.proofs.ListOf.{list-one}
+use Rattle.laws.proofs.ReadBack.{root-keys}
+use Rattle.laws.proofs.IsList.{ShowsBlock, block-list-to, block-list-from}
 use Rattle.list.specs.Check.{oneSlot}
 use Rattle.list.proofs.OneSlot.{slot-feature}
 use Rattle.list.proofs.Joined.{joined, joined-bits, joined-list}

@@ -18,7 +18,7 @@ use Rattle.definitions.specs.BitStrings.{bitsIn, isPair, recordsOfPair}
 use Rattle.definitions.specs.Refusal.{accepted, badSettings}
 use Rattle.definitions.specs.Calls.ReadBitStrings.{readStringsRefusal, readStrings, readKeys, readBits}
 use Rattle.definitions.specs.declared.Counted.{Counted}
-use Rattle.definitions.proofs.First.{this, later, holds-first, none-first}
+use Rattle.laws.proofs.First.{this, later, holds-first, none-first}
 use Rattle.list.proofs.Tests.{good-settings}
 use Rattle.bit_strings.specs.Steps.{countOf, Fits}
 use Rattle.bit_strings.proofs.Passing.{step}

@@ -13,11 +13,11 @@ use Rattle.definitions.specs.Picture.{Picture, oneFeature, featuresBelow}
 use Rattle.definitions.specs.Bits.{hasSlot, unionOfFour, bitsOf}
 use Rattle.definitions.specs.List.{Record, recordOf, listOf}
 use Rattle.definitions.specs.BitStrings.{isInner, nodeBits, leafBits}
-use Rattle.definitions.proofs.Within.{first-within, every-nw, every-ne, every-sw, every-se}
-use Rattle.definitions.proofs.Features.{below-to, below-from, one-pixel}
-use Rattle.definitions.proofs.Slots.{slot-le}
-use Rattle.definitions.proofs.BitsOf.{bits-suc, bits-one, bits-several, bits-below}
-use Rattle.definitions.proofs.ListOf.{list-one, list-node}
+use Rattle.laws.proofs.Within.{first-within, every-nw, every-ne, every-sw, every-se}
+use Rattle.laws.proofs.Features.{below-to, below-from, one-pixel}
+use Rattle.laws.proofs.Slots.{slot-le}
+use Rattle.laws.proofs.BitsOf.{bits-suc, bits-one, bits-several, bits-below}
+use Rattle.laws.proofs.ListOf.{list-one, list-node}
 
 -- height, key, own bits and records
 pub data Shape : ℕ → ℕ → ℕ → List Record → Type 0 where

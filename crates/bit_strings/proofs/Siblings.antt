@@ -9,7 +9,7 @@ use Rattle.keys.proofs.Cases.{equal}
 use Rattle.definitions.specs.Bits.{hasSlot, unionOfFour}
 use Rattle.definitions.specs.List.{Record}
 use Rattle.definitions.specs.BitStrings.{nodeBits, leafBits, beginsWith, fourEqual}
-use Rattle.definitions.proofs.Slots.{slot-nw, slot-ne, slot-sw, slot-se, four-lt}
+use Rattle.laws.proofs.Slots.{slot-nw, slot-ne, slot-sw, slot-se, four-lt}
 use Rattle.bit_strings.proofs.Shape.{Shape, leaf, node, three, nodes-append, leaves-append, nodes-leaf, nodes-inner, leaves-leaf, nodes-none, leaves-none}
 
 -- a leaf's two bits, or an inner node's one

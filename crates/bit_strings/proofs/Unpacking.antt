@@ -14,7 +14,7 @@ use lib.Pow.{pow-pos, pow-add}
 use borrow.Author.Tests.{not-true, leb-false}
 use Rattle.keys.proofs.Cases.{decide, and-left, and-right, neither-left, neither-right}
 use Rattle.definitions.specs.BitStrings.{highFirst, packedIn, bytesFor, packed, bitsOfByte, bitsIn, anySet}
-use Rattle.definitions.proofs.FileBytes.{Bytes, no-byte, byte}
+use Rattle.laws.proofs.FileBytes.{Bytes, no-byte, byte}
 use Rattle.bit_strings.specs.Steps.{isSpare}
 use Rattle.bit_strings.proofs.Bytes.{length-byte, length-bits}
 use Rattle.bit_strings.proofs.Bitwise.{high-suc}

@@ -18,9 +18,9 @@ use Rattle.definitions.specs.BitStrings.{isInner, nodeBits, leafBits, packedIn,
 use Rattle.definitions.specs.Refusal.{_gives_, first, accepted, badSettings, noList}
 use Rattle.definitions.specs.Calls.WriteBitStrings.{nodeString, leafString, writeStringsRefusal, writeStrings, writtenNodes, writtenLeaves}
 use Rattle.definitions.specs.declared.Strings.{Strings}
-use Rattle.definitions.proofs.First.{this, later, holds-first, none-first, first-none, first-holds, holds-more}
-use Rattle.definitions.proofs.Records.{records-length}
-use Rattle.definitions.proofs.IsList.{ShowsBlock, block-list-to}
+use Rattle.laws.proofs.First.{this, later, holds-first, none-first, first-none, first-holds, holds-more}
+use Rattle.laws.proofs.Records.{records-length}
+use Rattle.laws.proofs.IsList.{ShowsBlock, block-list-to}
 use Rattle.list.proofs.Among.{values-of-records}
 use Rattle.bit_strings.specs.Strings.{bitOf, stringOf, earlyRefusal}
 use Rattle.bit_strings.proofs.Bitwise.{length-packed}

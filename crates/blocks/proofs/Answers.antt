@@ -13,7 +13,7 @@ use Rattle.definitions.specs.Calls.KeyAt.{keyAtRefusal, keyAt}
 use Rattle.definitions.specs.Calls.BlockOf.{blockOfRefusal, blockOf}
 use Rattle.definitions.specs.declared.Counted.{Counted}
 use Rattle.definitions.specs.declared.Block.{Block}
-use Rattle.definitions.proofs.First.{this, later, holds-first, none-first, first-none, accepted-done, accepted-left}
+use Rattle.laws.proofs.First.{this, later, holds-first, none-first, first-none, accepted-done, accepted-left}
 
 counted : {a b a′ b′ : ℕ} → a ≡ a′ → b ≡ b′ → _≡_ {A = Counted} (record { refusal = a; count = b }) (record { refusal = a′; count = b′ })
 counted e f i = record { refusal = e i; count = f i }

@@ -12,7 +12,7 @@ use borrow.Author.Tests.{eqb-true}
 use Rattle.keys.specs.Key.{slotLimit}
 use Rattle.keys.proofs.Cases.{and-left, and-right}
 use Rattle.definitions.specs.Picture.{oneFeature}
-use Rattle.definitions.proofs.Features.{one-from}
+use Rattle.laws.proofs.Features.{one-from}
 use Rattle.build.specs.BuildBlocks.{pictureOfRows, wordAt, Inside}
 use Rattle.build.proofs.BuildInside.{inside-place, inside-pixel}
 

@@ -14,7 +14,7 @@ use Rattle.definitions.specs.Bits.{bitsOf}
 use Rattle.definitions.specs.List.{Record, recordOf, listOf, listOfRaster, keysOf, valuesOf}
 use Rattle.definitions.specs.Buffer.{over}
 use Rattle.definitions.specs.Refusal.{badLength}
-use Rattle.definitions.proofs.Buffer.{sets-over}
+use Rattle.laws.proofs.Buffer.{sets-over}
 use Rattle.list.proofs.Tests.{good-settings}
 use Rattle.build.specs.BuildBlocks.{pictureOfRows, below, Inside, Fitting, Written}
 use Rattle.build.proofs.RasterTests.{pixels-below}

@@ -12,9 +12,9 @@ use Rattle.keys.proofs.Powers.{five-le}
 use Rattle.definitions.specs.Picture.{Picture, oneFeature}
 use Rattle.definitions.specs.Bits.{unionOfFour, bitsOf}
 use Rattle.definitions.specs.List.{listOf}
-use Rattle.definitions.proofs.Slots.{same-four}
-use Rattle.definitions.proofs.BitsOf.{bits-zero, bits-suc, bits-one}
-use Rattle.definitions.proofs.ListOf.{list-zero, list-leaf, list-one, length-node, list-most}
+use Rattle.laws.proofs.Slots.{same-four}
+use Rattle.laws.proofs.BitsOf.{bits-zero, bits-suc, bits-one}
+use Rattle.laws.proofs.ListOf.{list-zero, list-leaf, list-one, length-node, list-most}
 use Rattle.list.specs.Check.{oneSlot}
 use Rattle.build.specs.BuildBlocks.{Tallied, Joined}
 use Rattle.list.proofs.OneSlot.{slot-feature}

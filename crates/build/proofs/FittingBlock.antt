@@ -13,8 +13,8 @@ use Rattle.keys.specs.Under.{here, nw, ne, sw, se}
 use Rattle.definitions.specs.Picture.{Picture, oneFeature}
 use Rattle.definitions.specs.Bits.{unionOfFour}
 use Rattle.definitions.specs.List.{listOf, keysOf, valuesOf}
-use Rattle.definitions.proofs.Features.{several-above}
-use Rattle.definitions.proofs.ListOf.{length-node, list-some}
+use Rattle.laws.proofs.Features.{several-above}
+use Rattle.laws.proofs.ListOf.{length-node, list-some}
 use Rattle.list.specs.Check.{oneSlot}
 use Rattle.build.specs.BuildBlocks.{below, Fitting, FourAsked, Written}
 use Rattle.list.proofs.OneSlot.{slot-feature}

@@ -13,10 +13,10 @@ use Rattle.keys.specs.Under.{here, nw, ne, sw, se}
 use Rattle.definitions.specs.Picture.{Picture, oneFeature}
 use Rattle.definitions.specs.Bits.{bitsOf}
 use Rattle.definitions.specs.List.{Record, recordOf, listOf}
-use Rattle.definitions.proofs.Features.{one-under, one-pixel}
-use Rattle.definitions.proofs.BitsOf.{bits-one}
-use Rattle.definitions.proofs.ListOf.{list-leaf, list-node, list-one, list-first, length-node}
-use Rattle.definitions.proofs.FourLists.{same-lists}
+use Rattle.laws.proofs.Features.{one-under, one-pixel}
+use Rattle.laws.proofs.BitsOf.{bits-one}
+use Rattle.laws.proofs.ListOf.{list-leaf, list-node, list-one, list-first, length-node}
+use Rattle.laws.proofs.FourLists.{same-lists}
 use Rattle.list.specs.Check.{oneSlot}
 use Rattle.build.specs.BuildBlocks.{below, fourSet, FourWritten, Written}
 use Rattle.list.proofs.OneSlot.{slot-feature}

@@ -12,7 +12,7 @@ use mir.ValLaws.{toZ-ofZ}
 use borrow.Author.Tests.{le-ltb, ltb-true}
 use Rattle.definitions.specs.Clip.{notBefore, overlapLength, overlapWindow, clippedWindow}
 use Rattle.definitions.specs.declared.Window.{Window}
-use Rattle.definitions.proofs.Overlap.{is-true, not-before-zero}
+use Rattle.laws.proofs.Overlap.{is-true, not-before-zero}
 
 pub negative-is : (z : ℤ) → z <ℤ pos 0 → z ≡ negsuc (mag z)
 negative-is (pos n) h = absurd (let l = ltb-true n 0 (is-true (ltb n 0) (h .lt)) in omega arith)

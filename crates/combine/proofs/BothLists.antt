@@ -8,7 +8,7 @@ use native.Mathlib.Nat.{pow-suc}
 use Rattle.keys.specs.Key.{childKey}
 use Rattle.keys.specs.Under.{Under, here, nw, ne, sw, se}
 use Rattle.definitions.specs.Picture.{Picture}
-use Rattle.definitions.proofs.Features.{below-under}
+use Rattle.laws.proofs.Features.{below-under}
 use Rattle.list.proofs.ShownQuadrants.{quadrantRow, quadrantColumn}
 use Rattle.combine.specs.Combining.{Entered, Seen, Passes, AllPass, Named}
 use Rattle.combine.proofs.OneList.{Quarters, quarters-all, quarter-at, quarter-next, quarters-none}

@@ -16,7 +16,7 @@ use Rattle.definitions.specs.Refusal.{Row, _gives_, first, accepted, badSetting
 use Rattle.definitions.specs.Combine.{combinedList, badTable}
 use Rattle.definitions.specs.Calls.Combine.{combination, combineRefusal, combine, combineKeys, combineBits}
 use Rattle.definitions.specs.declared.Counted.{Counted}
-use Rattle.definitions.proofs.First.{NoneHolds, FirstHolds, first-none, first-holds, first-later, holds-first, holds-more, accepted-left}
+use Rattle.laws.proofs.First.{NoneHolds, FirstHolds, first-none, first-holds, first-later, holds-first, holds-more, accepted-left}
 use Rattle.list.proofs.Accepted.{accepted as accepted-list}
 use Rattle.list.proofs.Own.{own-list}
 use Rattle.list.proofs.Tests.{GoodSettings, good-settings}

@@ -14,10 +14,10 @@ use Rattle.keys.specs.Under.{Under}
 use Rattle.definitions.specs.Picture.{Picture, oneFeature}
 use Rattle.definitions.specs.Bits.{bitsOf, featureOf}
 use Rattle.definitions.specs.List.{listOf}
-use Rattle.definitions.proofs.Within.{first-within, under-within}
-use Rattle.definitions.proofs.Features.{one-to, one-under}
-use Rattle.definitions.proofs.BitsOf.{bits-one}
-use Rattle.definitions.proofs.ListOf.{list-one}
+use Rattle.laws.proofs.Within.{first-within, under-within}
+use Rattle.laws.proofs.Features.{one-to, one-under}
+use Rattle.laws.proofs.BitsOf.{bits-one}
+use Rattle.laws.proofs.ListOf.{list-one}
 use Rattle.list.specs.Check.{oneSlot}
 use Rattle.list.proofs.OneSlot.{none-slot}
 use Rattle.list.proofs.Shown.{slot-one, slot-feature, shown-value, node-several}

@@ -12,8 +12,8 @@ use Rattle.keys.specs.Key.{slotLimit}
 use Rattle.definitions.specs.Picture.{Picture}
 use Rattle.definitions.specs.Refusal.{badPixel}
 use Rattle.definitions.specs.Combine.{classOf, badTable}
-use Rattle.definitions.proofs.Within.{first-within}
-use Rattle.definitions.proofs.Features.{below-to}
+use Rattle.laws.proofs.Within.{first-within}
+use Rattle.laws.proofs.Features.{below-to}
 use Rattle.combine.specs.Combining.{Named}
 
 module _ (s₁ s₂ s₃ : ℕ) (table : List ℕ) where

@@ -12,8 +12,8 @@ use Rattle.keys.proofs.Cases.{equal, and-left, and-right}
 use Rattle.definitions.specs.Picture.{Picture, oneFeature}
 use Rattle.definitions.specs.Bits.{featureOf}
 use Rattle.definitions.specs.Combine.{classOf, combined}
-use Rattle.definitions.proofs.Features.{one-pixel}
-use Rattle.definitions.proofs.Combined.{combined-is, combined-one}
+use Rattle.laws.proofs.Features.{one-pixel}
+use Rattle.laws.proofs.Combined.{combined-is, combined-one}
 use Rattle.list.specs.Check.{oneSlot}
 use Rattle.build.proofs.CountBlock.{tallied-pixel, tallied-one}
 use Rattle.build.proofs.WrittenBlock.{written-one}

@@ -11,8 +11,8 @@ use borrow.Author.Tests.{lt-ltb, le-ltb}
 use Rattle.keys.proofs.Powers.{five-le}
 use Rattle.definitions.specs.Read.{room}
 use Rattle.definitions.specs.Combine.{combined}
-use Rattle.definitions.proofs.Combined.{combined-most}
-use Rattle.definitions.proofs.ListOf.{list-some}
+use Rattle.laws.proofs.Combined.{combined-most}
+use Rattle.laws.proofs.ListOf.{list-some}
 use Rattle.list.specs.Own.{shownBy}
 use Rattle.list.proofs.Own.{own-length}
 use Rattle.list.proofs.Shown.{root-shown}

@@ -19,12 +19,12 @@ use Rattle.definitions.specs.Read.{paired, recordsOf, pictureOf}
 use Rattle.definitions.specs.Buffer.{replaced}
 use Rattle.definitions.specs.Edit.{put}
 use Rattle.definitions.specs.Area.{summaryOf}
-use Rattle.definitions.proofs.Pixels.{Agree}
-use Rattle.definitions.proofs.ListOf.{list-agree}
-use Rattle.definitions.proofs.ReadBack.{root-keys, block-back, picture-back}
-use Rattle.definitions.proofs.Records.{paired-back}
-use Rattle.definitions.proofs.Put.{put-out}
-use Rattle.definitions.proofs.SummaryOf.{summary-agree}
+use Rattle.laws.proofs.Pixels.{Agree}
+use Rattle.laws.proofs.ListOf.{list-agree}
+use Rattle.laws.proofs.ReadBack.{root-keys, block-back, picture-back}
+use Rattle.laws.proofs.Records.{paired-back}
+use Rattle.laws.proofs.Put.{put-out}
+use Rattle.laws.proofs.SummaryOf.{summary-agree}
 use Rattle.list.specs.Own.{OwnList, shownBy}
 use Rattle.put.specs.Putting.{Replaced}
 use Rattle.edit.specs.Recount.{Outdated}

@@ -12,7 +12,7 @@ use Rattle.definitions.specs.Picture.{Picture}
 use Rattle.definitions.specs.List.{Record, recordOf, listOf, listOfPicture}
 use Rattle.definitions.specs.Standing.{placeOf, partLength}
 use Rattle.definitions.specs.Edit.{contentOf}
-use Rattle.definitions.proofs.Features.{one-under}
+use Rattle.laws.proofs.Features.{one-under}
 use Rattle.put.specs.Family.{bitsAt}
 use Rattle.edit.specs.Content.{contentIn}
 use Rattle.put.proofs.Way.{Way, way-of, under-of}

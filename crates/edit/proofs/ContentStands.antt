@@ -13,9 +13,9 @@ use Rattle.definitions.specs.Read.{room, paired, recordsOf}
 use Rattle.definitions.specs.Standing.{placeOf, isListed, recordsIn, partLength}
 use Rattle.definitions.specs.Log.{closed, closingPlaces}
 use Rattle.definitions.specs.Calls.Paint.{gained}
-use Rattle.definitions.proofs.Ascending.{Ascending, none, next}
-use Rattle.definitions.proofs.ListOf.{list-ascends, list-some}
-use Rattle.definitions.proofs.Records.{records-run}
+use Rattle.laws.proofs.Ascending.{Ascending, none, next}
+use Rattle.laws.proofs.ListOf.{list-ascends, list-some}
+use Rattle.laws.proofs.Records.{records-run}
 use Rattle.list.specs.Own.{OwnList, shownBy}
 use Rattle.list.proofs.Among.{values-of-records}
 use Rattle.list.proofs.Own.{own-length}

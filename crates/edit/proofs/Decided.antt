@@ -6,7 +6,7 @@ use lib.Dec.{eqb}
 use borrow.Author.Tests.{eqb-true, eqb-false}
 use Rattle.keys.proofs.Cases.{decide}
 use Rattle.definitions.specs.Refusal.{accepted}
-use Rattle.definitions.proofs.First.{accepted-done, accepted-left}
+use Rattle.laws.proofs.First.{accepted-done, accepted-left}
 use Rattle.log.specs.declared.entry.Entry.{Entry}
 use Rattle.put.specs.declared.plan.Plan.{Plan}
 use Rattle.edit.specs.declared.decision.Decision.{Decision}

@@ -10,8 +10,8 @@ use Rattle.definitions.specs.Read.{room, isList}
 use Rattle.definitions.specs.Area.{summaryOf, noSummary}
 use Rattle.definitions.specs.Log.{noLog}
 use Rattle.definitions.specs.Refusal.{Row, _gives_, first, badSettings, noList}
-use Rattle.definitions.proofs.First.{NoneHolds, this, later, first-later, none-first, first-none, holds-first, first-holds, holds-more}
-use Rattle.definitions.proofs.SameNumbers.{summary-is}
+use Rattle.laws.proofs.First.{NoneHolds, this, later, first-later, none-first, first-none, holds-first, first-holds, holds-more}
+use Rattle.laws.proofs.SameNumbers.{summary-is}
 use Rattle.list.specs.Own.{OwnList, shownBy}
 use Rattle.list.proofs.Own.{own-list}
 use Rattle.list.proofs.Tests.{GoodSettings, good-settings}

@@ -11,7 +11,7 @@ use Rattle.definitions.specs.Edit.{contentOf}
 use Rattle.definitions.specs.Log.{closed, closingPlaces, entryOf}
 use Rattle.definitions.specs.Calls.Paint.{gained}
 use Rattle.definitions.specs.Standing.{partLength}
-use Rattle.definitions.proofs.LastEntry.{length-closed}
+use Rattle.laws.proofs.LastEntry.{length-closed}
 use Rattle.edit.specs.Content.{contentIn}
 use Rattle.edit.proofs.Content.{content-in, content-length}
 

@@ -11,7 +11,7 @@ use Rattle.definitions.specs.Buffer.{replaced}
 use Rattle.definitions.specs.Area.{summaryOf}
 use Rattle.definitions.specs.Refusal.{accepted}
 use Rattle.definitions.specs.Calls.Paint.{paintedPicture, painted, gained, logged, paintRefusal, paint, paintKeys, paintBits, paintSummary, paintLogKeys, paintLogValues}
-use Rattle.definitions.proofs.First.{accepted-left}
+use Rattle.laws.proofs.First.{accepted-left}
 use Rattle.log.specs.declared.entry.Entry.{Entry}
 use Rattle.put.specs.Putting.{Replaced}
 use Rattle.edit.specs.PaintCall.{newEntry, Relogged, Painted}

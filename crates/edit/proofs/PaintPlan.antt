@@ -11,8 +11,8 @@ use Rattle.definitions.specs.Standing.{partLength}
 use Rattle.definitions.specs.Edit.{paintIn, contentOf}
 use Rattle.definitions.specs.Area.{summaryOf}
 use Rattle.definitions.specs.Calls.Paint.{paintedPicture, painted}
-use Rattle.definitions.proofs.Features.{one-from}
-use Rattle.definitions.proofs.ListOf.{list-one}
+use Rattle.laws.proofs.Features.{one-from}
+use Rattle.laws.proofs.ListOf.{list-one}
 use Rattle.list.specs.Own.{shownBy}
 use Rattle.log.specs.declared.entry.Entry.{Entry}
 use Rattle.put.specs.Putting.{Replaced}

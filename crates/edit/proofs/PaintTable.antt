@@ -13,7 +13,7 @@ use Rattle.definitions.specs.List.{Record}
 use Rattle.definitions.specs.Read.{room, recordsOf}
 use Rattle.definitions.specs.Refusal.{Row, _gives_, first, badKey, badFeature}
 use Rattle.definitions.specs.Calls.Paint.{painted, gained, paintRefusal}
-use Rattle.definitions.proofs.First.{this, later, holds-first, none-first, first-none}
+use Rattle.laws.proofs.First.{this, later, holds-first, none-first, first-none}
 use Rattle.log.specs.declared.entry.Entry.{Entry}
 use Rattle.edit.specs.EditCallChecks.{firstRefusal}
 use Rattle.edit.specs.PaintCall.{roomRefusal, Paintable, newEntry, Fresh}

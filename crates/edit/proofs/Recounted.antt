@@ -21,8 +21,8 @@ use Rattle.keys.proofs.InBlock.{in-raster, inBlock-keys-iff}
 use Rattle.slices.proofs.Sets.{sets-parts}
 use Rattle.definitions.specs.Picture.{Picture}
 use Rattle.definitions.specs.Area.{summaryLevel, summaryHeight, summaryLength, summaryOf, blockKey}
-use Rattle.definitions.proofs.Pixels.{Agree}
-use Rattle.definitions.proofs.SummaryOf.{counts-agree, summary-length, summary-block, summary-counts}
+use Rattle.laws.proofs.Pixels.{Agree}
+use Rattle.laws.proofs.SummaryOf.{counts-agree, summary-length, summary-block, summary-counts}
 use Rattle.list.specs.Own.{shownBy}
 use Rattle.summary.specs.Renew.{renewed}
 use Rattle.summary.proofs.Renewed.{places-in}

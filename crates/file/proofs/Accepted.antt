@@ -15,7 +15,7 @@ use Rattle.definitions.specs.File.{mIn, sIn, nIn, recordsInFile, tooShort, wron
 use Rattle.definitions.specs.Refusal.{badSettings}
 use Rattle.definitions.specs.Calls.Store.{stored, storeRefusal, store, storeFile}
 use Rattle.definitions.specs.Calls.Load.{loadRefusal, load, loadKeys, loadBits}
-use Rattle.definitions.proofs.First.{first-none, none-first, accepted-done}
+use Rattle.laws.proofs.First.{first-none, none-first, accepted-done}
 
 -- store's rows
 pub record StoreAccepted (m s : ℕ) (keys bits : List ℕ) (n : ℕ) (file : List ℕ) : Type 0 where

@@ -13,7 +13,7 @@ use Rattle.keys.specs.Key.{rootKey}
 use Rattle.keys.proofs.Digits.{height-zero}
 use Rattle.definitions.specs.Read.{room, paired, recordsOf, isListOfBlock, isList}
 use Rattle.definitions.specs.File.{bitBytes, recordsInFile}
-use Rattle.definitions.proofs.FileOf.{width-of}
+use Rattle.laws.proofs.FileOf.{width-of}
 use Rattle.list.specs.Check.{oneSlot, placeOf, afterNode}
 use Rattle.list.proofs.Turn.{step-fifth}
 use Rattle.list.proofs.Content.{Stand, Answer, no-records, other-key, large-bits, one-record, many-records, keys-length, root-valid, root-list}

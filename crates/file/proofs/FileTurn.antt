@@ -8,7 +8,7 @@ use native.Mathlib.Omega.{arith}
 use lib.ListN.{length, getD, drop}
 use lib.Bits.{bitOr}
 use Rattle.definitions.specs.Read.{paired}
-use Rattle.definitions.proofs.Records.{paired-back}
+use Rattle.laws.proofs.Records.{paired-back}
 use Rattle.list.specs.Check.{oneSlot, placeOf, afterNode, stepUnder}
 use Rattle.list.proofs.Turn.{Answer, Passed, at-height, pixel, begins, ends, differs, short, other-key, wrong-child, goes-leaf, goes-node}
 use Rattle.file.specs.Layout.{Laid, keyAt, bitsAt, recordsAt, keysAt, valuesAt}

@@ -14,13 +14,13 @@ use Rattle.keys.proofs.Cases.{split, and-left, and-right, and-both}
 use Rattle.definitions.specs.List.{Record, listOf}
 use Rattle.definitions.specs.File.{firstSlots, bitBytes}
 use Rattle.definitions.specs.Read.{room, recordsOf, isListOfBlock, isList}
-use Rattle.definitions.proofs.Ascending.{key-below}
-use Rattle.definitions.proofs.BitsOf.{bits-below}
-use Rattle.definitions.proofs.Features.{below-under}
-use Rattle.definitions.proofs.ListOf.{list-ascends, list-most}
-use Rattle.definitions.proofs.Listed.{listed-to, listed-under}
-use Rattle.definitions.proofs.IsList.{ShowsBlock, block-list-to}
-use Rattle.definitions.proofs.FileOf.{FitsFile, fits-file, first-version, second-version}
+use Rattle.laws.proofs.Ascending.{key-below}
+use Rattle.laws.proofs.BitsOf.{bits-below}
+use Rattle.laws.proofs.Features.{below-under}
+use Rattle.laws.proofs.ListOf.{list-ascends, list-most}
+use Rattle.laws.proofs.Listed.{listed-to, listed-under}
+use Rattle.laws.proofs.IsList.{ShowsBlock, block-list-to}
+use Rattle.laws.proofs.FileOf.{FitsFile, fits-file, first-version, second-version}
 use Rattle.list.proofs.Tests.{GoodSettings}
 
 -- a list is the list of its own block, and there is room for it

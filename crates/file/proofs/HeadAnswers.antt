@@ -8,9 +8,9 @@ use lib.ListN.{length}
 use borrow.Author.Tests.{lt-ltb, le-ltb, ltb-false, eq-eqb, ne-eqb, eqb-true, not-false}
 use Rattle.definitions.specs.File.{bitBytes, fileLength, mIn, sIn, nIn, tooShort, wrongMark, wrongVersion, wrongSettings, wrongLength}
 use Rattle.definitions.specs.Calls.Load.{loadRefusal}
-use Rattle.definitions.proofs.First.{this, later, holds-first, first-holds, first-none, none-first, holds-more}
+use Rattle.laws.proofs.First.{this, later, holds-first, first-holds, first-none, none-first, holds-more}
 use Rattle.definitions.specs.Refusal.{badSettings}
-use Rattle.definitions.proofs.FileBack.{settings-good}
+use Rattle.laws.proofs.FileBack.{settings-good}
 use Rattle.list.proofs.Tests.{good-settings}
 use Rattle.file.specs.Room.{Exact}
 use Rattle.file.specs.Head.{headRows, headRefusal}

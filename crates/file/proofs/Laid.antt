@@ -7,7 +7,7 @@ use lib.ListN.{length}
 use lib.Seq.{sets}
 use Rattle.definitions.specs.List.{recordOf}
 use Rattle.definitions.specs.File.{Width, two, four, fileLength, bytesOf, bytesOfRecord, numberAt}
-use Rattle.definitions.proofs.FileBytes.{length-bytes}
+use Rattle.laws.proofs.FileBytes.{length-bytes}
 use Rattle.file.specs.Layout.{Laid}
 use Rattle.file.proofs.Stores.{sets-append}
 

@@ -15,8 +15,8 @@ use Rattle.definitions.specs.File.{bitBytes, fileLength, mIn, sIn, nIn, records
 use Rattle.definitions.specs.Refusal.{accepted}
 use Rattle.definitions.specs.Calls.Load.{loadRefusal, load, loadKeys, loadBits}
 use Rattle.definitions.specs.declared.Loaded.{Loaded}
-use Rattle.definitions.proofs.First.{this, later, holds-first, accepted-left}
-use Rattle.definitions.proofs.FileOf.{width-of}
+use Rattle.laws.proofs.First.{this, later, holds-first, accepted-left}
+use Rattle.laws.proofs.FileOf.{width-of}
 use Rattle.file.specs.Head.{headRefusal}
 use Rattle.file.specs.Layout.{keysAt, valuesAt}
 use Rattle.file.specs.Room.{RoomFor}

@@ -8,8 +8,8 @@ use native.Mathlib.Omega.{arith}
 use lib.ListN.{length, getD, set}
 use lib.Seq.{sets, drop-cons}
 use Rattle.definitions.specs.File.{bytesOf, numberAfter, numberOf, numberAt}
-use Rattle.definitions.proofs.FileBytes.{bytes-at-places}
-use Rattle.definitions.proofs.FileBack.{number-at-below}
+use Rattle.laws.proofs.FileBytes.{bytes-at-places}
+use Rattle.laws.proofs.FileBack.{number-at-below}
 
 -- two stores put a number's last two bytes at a place
 pub put-two : (l : List ℕ) (place x : ℕ) → set (set l place (x / 256 % 256)) (place + 1) (x % 256) ≡ sets l place (bytesOf 2 x)

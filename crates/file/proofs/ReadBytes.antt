@@ -10,7 +10,7 @@ use lib.Seq.{drop-drop, paste, paste-suc, paste-zero, take-length}
 use Rattle.definitions.specs.List.{Record, recordOf}
 use Rattle.definitions.specs.Buffer.{over}
 use Rattle.definitions.specs.File.{numberAt, readRecords}
-use Rattle.definitions.proofs.FileBack.{length-read}
+use Rattle.laws.proofs.FileBack.{length-read}
 use Rattle.file.specs.Layout.{keyAt, bitsAt, recordsAt, keysAt, valuesAt}
 use Rattle.file.specs.Room.{RoomFor}
 

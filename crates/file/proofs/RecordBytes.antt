@@ -9,8 +9,8 @@ use lib.Seq.{sets, length-sets}
 use Rattle.definitions.specs.List.{Record, recordOf}
 use Rattle.definitions.specs.Read.{paired, recordsOf}
 use Rattle.definitions.specs.File.{Width, fileLength, bytesOfRecord, bytesOfRecords}
-use Rattle.definitions.proofs.Records.{records-length}
-use Rattle.definitions.proofs.FileOf.{length-records}
+use Rattle.laws.proofs.Records.{records-length}
+use Rattle.laws.proofs.FileOf.{length-records}
 use Rattle.file.specs.Room.{RoomFor}
 use Rattle.file.proofs.Stores.{sets-append}
 

@@ -15,10 +15,10 @@ use Rattle.definitions.specs.File.{bitBytes, fileOf, mIn, sIn, nIn, recordsInFi
 use Rattle.definitions.specs.Refusal.{badSettings}
 use Rattle.definitions.specs.Calls.Store.{stored, storeRefusal, store, storeFile}
 use Rattle.definitions.specs.Calls.Load.{loadRefusal, load, loadKeys, loadBits}
-use Rattle.definitions.proofs.FileBytes.{Bytes}
-use Rattle.definitions.proofs.FileOf.{read-m, read-s, read-n, read-records, written-mark, written-version, written-settings, written-length, written-not-short}
-use Rattle.definitions.proofs.FileBack.{length-read, settings-good, file-back}
-use Rattle.definitions.proofs.Records.{records-length, records-over}
+use Rattle.laws.proofs.FileBytes.{Bytes}
+use Rattle.laws.proofs.FileOf.{read-m, read-s, read-n, read-records, written-mark, written-version, written-settings, written-length, written-not-short}
+use Rattle.laws.proofs.FileBack.{length-read, settings-good, file-back}
+use Rattle.laws.proofs.Records.{records-length, records-over}
 use Rattle.list.proofs.Tests.{good-settings}
 use Rattle.file.proofs.Accepted.{StoreAccepted, store-accepted, store-accepts, store-count, store-leaves, LoadAccepted, load-accepted, load-accepts, load-gives, load-leaves}
 use Rattle.file.proofs.Fits.{list-parts, list-whole, list-fits, list-short}

@@ -15,10 +15,10 @@ use Rattle.definitions.specs.File.{bitBytes, fileLength, headOf, bytesOfRecords
 use Rattle.definitions.specs.Refusal.{accepted, badSettings}
 use Rattle.definitions.specs.Calls.Store.{stored, storeRefusal, store, storeFile}
 use Rattle.definitions.specs.declared.Counted.{Counted}
-use Rattle.definitions.proofs.First.{this, later, holds-first, accepted-left}
-use Rattle.definitions.proofs.FileOf.{length-file}
-use Rattle.definitions.proofs.Records.{records-length}
-use Rattle.definitions.proofs.Buffer.{sets-over}
+use Rattle.laws.proofs.First.{this, later, holds-first, accepted-left}
+use Rattle.laws.proofs.FileOf.{length-file}
+use Rattle.laws.proofs.Records.{records-length}
+use Rattle.laws.proofs.Buffer.{sets-over}
 use Rattle.list.specs.First.{firstRefusal}
 use Rattle.list.proofs.FirstRefusal.{refused-first, first-small}
 use Rattle.list.proofs.Tests.{good-settings}

@@ -12,12 +12,12 @@ use Rattle.definitions.specs.Area.{summaryOf}
 use Rattle.definitions.specs.Log.{groupMark, stepCount, stepEntries, firstStep, beforeStep, paintAgain}
 use Rattle.definitions.specs.Calls.TakeBack.{restoredPicture, restored}
 use Rattle.definitions.specs.Calls.Redo.{redonePicture, redone}
-use Rattle.definitions.proofs.Pixels.{Agree}
-use Rattle.definitions.proofs.ListOf.{list-agree}
-use Rattle.definitions.proofs.SummaryOf.{summary-agree}
-use Rattle.definitions.proofs.LastStep.{step-before}
-use Rattle.definitions.proofs.SoundLog.{Steps}
-use Rattle.definitions.proofs.FirstStep.{first-of}
+use Rattle.laws.proofs.Pixels.{Agree}
+use Rattle.laws.proofs.ListOf.{list-agree}
+use Rattle.laws.proofs.SummaryOf.{summary-agree}
+use Rattle.laws.proofs.LastStep.{step-before}
+use Rattle.laws.proofs.SoundLog.{Steps}
+use Rattle.laws.proofs.FirstStep.{first-of}
 use Rattle.history.specs.History.{Paint, applied, stepOf}
 use Rattle.history.proofs.Content.{map-back}
 use Rattle.history.proofs.Fit.{Fit, applied-agree, step-agree, step-is, step-back, step-again}

@@ -13,8 +13,8 @@ use Rattle.definitions.specs.Buffer.{over}
 use Rattle.definitions.specs.Area.{summaryOf, badSummaryLength}
 use Rattle.definitions.specs.Refusal.{Row, _gives_, badSettings, badLength, badPixel}
 use Rattle.definitions.specs.Calls.Survey.{survey, surveyRefusal, surveyKeys, surveyBits, surveySummary}
-use Rattle.definitions.proofs.First.{first-none, none-first}
-use Rattle.definitions.proofs.RasterOf.{raster-below}
+use Rattle.laws.proofs.First.{first-none, none-first}
+use Rattle.laws.proofs.RasterOf.{raster-below}
 use Rattle.history.specs.History.{built, nothing, drawn}
 use Rattle.history.proofs.Drawn.{drawn-none}
 use Rattle.history.proofs.Shown.{shown-records}

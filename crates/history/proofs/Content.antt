@@ -13,10 +13,10 @@ use Rattle.definitions.specs.Edit.{paintIn, contentOf}
 use Rattle.definitions.specs.Area.{summaryOf}
 use Rattle.definitions.specs.Log.{closed, entryOf}
 use Rattle.definitions.specs.Calls.Paint.{paintedPicture, painted, gained}
-use Rattle.definitions.proofs.Pixels.{Agree, agree-under}
-use Rattle.definitions.proofs.ListOf.{list-agree}
-use Rattle.definitions.proofs.ReadBack.{root-keys, block-back}
-use Rattle.definitions.proofs.SummaryOf.{summary-agree}
+use Rattle.laws.proofs.Pixels.{Agree, agree-under}
+use Rattle.laws.proofs.ListOf.{list-agree}
+use Rattle.laws.proofs.ReadBack.{root-keys, block-back}
+use Rattle.laws.proofs.SummaryOf.{summary-agree}
 use Rattle.history.proofs.Drawn.{paint-agree}
 
 -- the picture that a picture's list shows agrees with it on the map

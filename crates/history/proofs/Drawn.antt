@@ -10,10 +10,10 @@ use Rattle.definitions.specs.Picture.{Picture, featuresBelow}
 use Rattle.definitions.specs.Edit.{paintIn, fillWindow}
 use Rattle.definitions.specs.Window.{inWindow}
 use Rattle.definitions.specs.declared.Window.{Window}
-use Rattle.definitions.proofs.Pixels.{Agree}
-use Rattle.definitions.proofs.Features.{below-to, below-from}
-use Rattle.definitions.proofs.Put.{put-in, put-out}
-use Rattle.definitions.proofs.WindowPaint.{fill-in, fill-out}
+use Rattle.laws.proofs.Pixels.{Agree}
+use Rattle.laws.proofs.Features.{below-to, below-from}
+use Rattle.laws.proofs.Put.{put-in, put-out}
+use Rattle.laws.proofs.WindowPaint.{fill-in, fill-out}
 use Rattle.history.specs.History.{Paint, applied, drawn}
 
 -- no paint leaves the picture

@@ -16,12 +16,12 @@ use Rattle.definitions.specs.Edit.{paintIn, fillWindow, contentOf}
 use Rattle.definitions.specs.Window.{isWindow, largestBlocks}
 use Rattle.definitions.specs.declared.Window.{Window}
 use Rattle.definitions.specs.Log.{groupMark, closed, entryOf, grouped, entriesOf, groupOf, endsInMark, stepCount, stepEntries, putBack, paintAgain}
-use Rattle.definitions.proofs.Pixels.{Agree}
-use Rattle.definitions.proofs.LastStep.{IsStep, single-mark, count-single, entries-single, group-count, group-entries}
-use Rattle.definitions.proofs.LargestBlocks.{largest-in-order}
-use Rattle.definitions.proofs.WindowPaint.{entries-past}
-use Rattle.definitions.proofs.GroupStep.{entry-step, group-step}
-use Rattle.definitions.proofs.GroupBack.{entry-back, entry-again, group-back, group-again}
+use Rattle.laws.proofs.Pixels.{Agree}
+use Rattle.laws.proofs.LastStep.{IsStep, single-mark, count-single, entries-single, group-count, group-entries}
+use Rattle.laws.proofs.LargestBlocks.{largest-in-order}
+use Rattle.laws.proofs.WindowPaint.{entries-past}
+use Rattle.laws.proofs.GroupStep.{entry-step, group-step}
+use Rattle.laws.proofs.GroupBack.{entry-back, entry-again, group-back, group-again}
 use Rattle.history.specs.History.{Paint, ofBlock, ofWindow, applied, stepOf}
 use Rattle.history.proofs.Drawn.{paint-outside, paint-agree, paint-below, fill-agree, fill-below}
 use Rattle.history.proofs.Content.{entry-agree}

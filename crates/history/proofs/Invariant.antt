@@ -15,10 +15,10 @@ use Rattle.definitions.specs.Read.{room, recordsOf, pictureOf, isListOfBlock, i
 use Rattle.definitions.specs.Area.{summaryOf, noSummary}
 use Rattle.definitions.specs.Log.{groupMark, isSound, toRedo, noLog}
 use Rattle.definitions.specs.Refusal.{badSettings}
-use Rattle.definitions.proofs.ReadBack.{root-keys}
-use Rattle.definitions.proofs.SummaryOf.{summary-agree}
-use Rattle.definitions.proofs.SameNumbers.{summary-right}
-use Rattle.definitions.proofs.IsList.{list-passes}
+use Rattle.laws.proofs.ReadBack.{root-keys}
+use Rattle.laws.proofs.SummaryOf.{summary-agree}
+use Rattle.laws.proofs.SameNumbers.{summary-right}
+use Rattle.laws.proofs.IsList.{list-passes}
 use Rattle.history.specs.History.{Buffers, Kept, Call, drawn, logOf, logAfter, after, answer, keep}
 use Rattle.history.proofs.Content.{map-back}
 use Rattle.history.proofs.Shown.{shown-records, shown-room}

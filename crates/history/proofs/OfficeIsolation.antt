@@ -19,10 +19,10 @@ use Rattle.definitions.specs.Calls.AddWaiver.{addRefusal, addWaiver, addOffices
 use Rattle.definitions.specs.Calls.RemoveWaiver.{removeRefusal, removeWaiver, removeOffices, removeIds, removeKeys}
 use Rattle.definitions.specs.Calls.Findings.{refusalWith, foundWith, idsWith, keysWith, findings, findingsIds, findingsKeys}
 use Rattle.definitions.specs.declared.Rule.{Rule}
-use Rattle.definitions.proofs.First.{first-this, first-later, first-end, first-none, accepted-done, accepted-left}
-use Rattle.definitions.proofs.RowPlaces.{table-length, table-made}
-use Rattle.definitions.proofs.RowOrder.{added-ascend, removed-ascend}
-use Rattle.definitions.proofs.Shares.{Sound, share-none, known-all}
+use Rattle.laws.proofs.First.{first-this, first-later, first-end, first-none, accepted-done, accepted-left}
+use Rattle.laws.proofs.RowPlaces.{table-length, table-made}
+use Rattle.laws.proofs.RowOrder.{added-ascend, removed-ascend}
+use Rattle.laws.proofs.Shares.{Sound, share-none, known-all}
 use Rattle.history.specs.OfficeRuns.{Table, Ask, refusalOf, afterAsk, afterAll, ownAsks, refusalsOf}
 use Rattle.history.proofs.OfficeShares.{isFound, addedOwn, removedOwn, share-row, share-added, share-added-other, share-removed, share-removed-other, added-length, added-own-length, removed-length, removed-own-few, added-known, removed-known, added-valid, removed-valid}
 

@@ -12,8 +12,8 @@ use Rattle.keys.specs.Key.{validKey}
 use Rattle.keys.proofs.Cases.{decide, split, equal, and-left, and-right, and-both}
 use Rattle.definitions.specs.Rules.{Finding, comesBefore}
 use Rattle.definitions.specs.Offices.{Waiver, waivedBy, badOffice, rowsOf, rowBefore, rowsAscend, officesKnown, rowKeysValid, sameRow, isRow, added, removed}
-use Rattle.definitions.proofs.RowOrder.{After, no-row, next-row, ascend-after, ascend-rows, same-numbers}
-use Rattle.definitions.proofs.Shares.{share-own, share-other, share-none}
+use Rattle.laws.proofs.RowOrder.{After, no-row, next-row, ascend-after, ascend-rows, same-numbers}
+use Rattle.laws.proofs.Shares.{share-own, share-other, share-none}
 
 -- ---- a share by itself
 abbrev pub sameFinding : Finding → Finding → Bool

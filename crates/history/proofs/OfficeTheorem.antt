@@ -13,9 +13,9 @@ use Rattle.definitions.specs.Rules.{Finding}
 use Rattle.definitions.specs.Offices.{Waiver, waivedBy, rowsIn, tableOf, rowsOf, rowsAscend, officesKnown, rowKeysValid, isTable, added, removed}
 use Rattle.definitions.specs.Calls.Findings.{foundWith, idsWith, keysWith, findings, findingsIds, findingsKeys}
 use Rattle.definitions.specs.declared.Rule.{Rule}
-use Rattle.definitions.proofs.First.{accepted-done, accepted-left}
-use Rattle.definitions.proofs.Shares.{share-none, known-all}
-use Rattle.definitions.proofs.RowPlaces.{table-length}
+use Rattle.laws.proofs.First.{accepted-done, accepted-left}
+use Rattle.laws.proofs.Shares.{share-none, known-all}
+use Rattle.laws.proofs.RowPlaces.{table-length}
 use Rattle.history.specs.OfficeRuns.{Table, Ask, refusalOf, afterAsk, afterAll, ownAsks, refusalsOf}
 use Rattle.history.proofs.OfficeShares.{addedOwn, removedOwn, share-added, share-added-other, share-removed, share-removed-other}
 use Rattle.history.proofs.OfficeIsolation.{rowOfAsk, tableIn, Grown, never-14, ownRefusal, ownAfter, refusal-own, stays, adds-row, removes-row}

@@ -19,7 +19,7 @@ use Rattle.definitions.specs.Log.{noLog}
 use Rattle.definitions.specs.Refusal.{Row, _gives_, first, badSettings, noList, badKey, badFeature}
 use Rattle.definitions.specs.Calls.Paint.{painted, gained, paint, paintRefusal}
 use Rattle.definitions.specs.Calls.PaintWindow.{filled, groupGained, paintWindow, paintWindowRefusal}
-use Rattle.definitions.proofs.First.{first-this, first-later}
+use Rattle.laws.proofs.First.{first-this, first-later}
 use Rattle.history.specs.History.{Buffers, Paint, ofBlock, ofWindow, Kept, painting, applied, stepOf, answer}
 use Rattle.history.specs.Claim.{paintAnswer, paintWindowAnswer}
 use Rattle.history.proofs.Fit.{Fit, block-fit, window-fit}

@@ -17,7 +17,7 @@ use Rattle.definitions.specs.Log.{noLog}
 use Rattle.definitions.specs.Refusal.{Row, _gives_, badSettings, noList, badKey, badFeature}
 use Rattle.definitions.specs.Calls.Paint.{painted, gained, logged, paintRefusal, paint, paintKeys, paintBits, paintSummary, paintLogKeys, paintLogValues}
 use Rattle.definitions.specs.Calls.PaintWindow.{filled, groupGained, paintWindowRefusal, paintWindow, paintWindowKeys, paintWindowBits, paintWindowSummary, paintWindowLogKeys, paintWindowLogValues}
-use Rattle.definitions.proofs.First.{first-none}
+use Rattle.laws.proofs.First.{first-none}
 use Rattle.history.specs.History.{Buffers, Paint, ofBlock, ofWindow, Kept, painting, applied, stepOf, drawn, after, answer, keep}
 use Rattle.history.proofs.Drawn.{drawn-latest}
 use Rattle.history.proofs.Fit.{Fit, block-fit, window-fit, applied-below}

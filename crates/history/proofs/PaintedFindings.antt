@@ -12,10 +12,10 @@ use Rattle.definitions.specs.Rules.{Finding, allFindings, liveOf}
 use Rattle.definitions.specs.Offices.{badTable, tableOf, rowsOf, rowKeysValid}
 use Rattle.definitions.specs.Calls.Findings.{liveIn, findingsRefusal}
 use Rattle.definitions.specs.declared.Rule.{Rule}
-use Rattle.definitions.proofs.Pixels.{Agree}
-use Rattle.definitions.proofs.SelectAgree.{findings-agree}
-use Rattle.definitions.proofs.Hidden.{WaivedBy, EveryPixelOf, LeftOver}
-use Rattle.definitions.proofs.OldFault.{answered, answered-live, live-after, live-as-before, accepted-not-live}
+use Rattle.laws.proofs.Pixels.{Agree}
+use Rattle.laws.proofs.SelectAgree.{findings-agree}
+use Rattle.laws.proofs.Hidden.{WaivedBy, EveryPixelOf, LeftOver}
+use Rattle.laws.proofs.OldFault.{answered, answered-live, live-after, live-as-before, accepted-not-live}
 use Rattle.history.specs.History.{Buffers, Paint, painting, applied, after, answer}
 use Rattle.history.proofs.Shown.{shown-replaced, shown-records}
 use Rattle.history.proofs.Content.{map-back}

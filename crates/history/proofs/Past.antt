@@ -9,9 +9,9 @@ use lib.ListN.{length, length-append}
 use Rattle.definitions.specs.Picture.{Picture, featuresBelow}
 use Rattle.definitions.specs.List.{listOfPicture}
 use Rattle.definitions.specs.Log.{groupMark, isSound}
-use Rattle.definitions.proofs.LastStep.{step-some}
-use Rattle.definitions.proofs.SoundLog.{Steps, none, more, sound-exactly}
-use Rattle.definitions.proofs.InForce.{steps-append}
+use Rattle.laws.proofs.LastStep.{step-some}
+use Rattle.laws.proofs.SoundLog.{Steps, none, more, sound-exactly}
+use Rattle.laws.proofs.InForce.{steps-append}
 use Rattle.history.specs.History.{Paint, applied, stepOf, drawn, logOf, logAfter}
 use Rattle.history.proofs.Drawn.{drawn-none}
 use Rattle.history.proofs.Fit.{Fit, step-is}

@@ -15,9 +15,9 @@ use Rattle.definitions.specs.Area.{summaryOf, noSummary}
 use Rattle.definitions.specs.Log.{firstStep, toRedo, noLog}
 use Rattle.definitions.specs.Refusal.{Row, _gives_, badSettings, noList}
 use Rattle.definitions.specs.Calls.Redo.{redonePicture, redone, forceAfter, redoRefusal, redo, redoKeys, redoBits, redoSummary, redoLogKeys, redoLogValues}
-use Rattle.definitions.proofs.First.{this, later, holds-first, none-first}
-use Rattle.definitions.proofs.LastStep.{step-some}
-use Rattle.definitions.proofs.SoundLog.{Steps}
+use Rattle.laws.proofs.First.{this, later, holds-first, none-first}
+use Rattle.laws.proofs.LastStep.{step-some}
+use Rattle.laws.proofs.SoundLog.{Steps}
 use Rattle.history.specs.History.{Buffers, Paint, Kept, redoing, withNext, applied, stepOf, drawn, logOf, logAfter, after, answer, keep}
 use Rattle.history.specs.Claim.{redoAnswer}
 use Rattle.history.proofs.Drawn.{drawn-latest}

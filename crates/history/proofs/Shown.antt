@@ -10,7 +10,7 @@ use Rattle.definitions.specs.List.{Record, keysOf, valuesOf}
 use Rattle.definitions.specs.Read.{room, paired, recordsOf}
 use Rattle.definitions.specs.Buffer.{replaced}
 use Rattle.definitions.specs.Calls.Paint.{logged}
-use Rattle.definitions.proofs.Records.{paired-back}
+use Rattle.laws.proofs.Records.{paired-back}
 
 -- the records are the first n of the two slices
 pub record Shown (l : List Record) (n : ℕ) (keys values : List ℕ) : Type 0 where

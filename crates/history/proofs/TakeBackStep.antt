@@ -16,7 +16,7 @@ use Rattle.definitions.specs.Area.{summaryOf, noSummary}
 use Rattle.definitions.specs.Log.{beforeStep, noLog}
 use Rattle.definitions.specs.Refusal.{Row, _gives_, badSettings, noList}
 use Rattle.definitions.specs.Calls.TakeBack.{restoredPicture, restored, forceBefore, takeBackRefusal, takeBack, takeBackKeys, takeBackBits, takeBackSummary, takeBackLogKeys, takeBackLogValues}
-use Rattle.definitions.proofs.First.{this, later, holds-first, none-first}
+use Rattle.laws.proofs.First.{this, later, holds-first, none-first}
 use Rattle.history.specs.History.{Buffers, Paint, Kept, takingBack, withoutLatest, applied, stepOf, drawn, logOf, logAfter, after, answer, keep}
 use Rattle.history.specs.Claim.{backAnswer}
 use Rattle.history.proofs.Drawn.{drawn-latest}

@@ -14,9 +14,9 @@ use Rattle.definitions.specs.List.{listOfPicture, listOfRaster, keysOf, valuesO
 use Rattle.definitions.specs.Buffer.{replaced}
 use Rattle.definitions.specs.Area.{summaryOf, badSummaryLength}
 use Rattle.definitions.specs.Calls.Survey.{surveyRefusal}
-use Rattle.definitions.proofs.ListOf.{list-agree}
-use Rattle.definitions.proofs.SummaryOf.{summary-agree}
-use Rattle.definitions.proofs.RasterOf.{rasterOf, raster-length, raster-back, raster-good, length-from}
+use Rattle.laws.proofs.ListOf.{list-agree}
+use Rattle.laws.proofs.SummaryOf.{summary-agree}
+use Rattle.laws.proofs.RasterOf.{rasterOf, raster-length, raster-back, raster-good, length-from}
 use Rattle.history.specs.History.{Call, painting, takingBack, redoing, emptying, Buffers, Kept, nothing, built, after, answer, run, keep, kept, longestList, longestLog, pictureLeft, rasterLeft}
 use Rattle.history.specs.Claim.{AsBuilt, History}
 use Rattle.history.proofs.Past.{past-legal}

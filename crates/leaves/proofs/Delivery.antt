@@ -20,10 +20,10 @@ use Rattle.definitions.specs.Picture.{Picture, oneFeature}
 use Rattle.definitions.specs.Read.{paired}
 use Rattle.definitions.specs.Leaves.{validKeys, ascendFrom, coverings, coverOnce, areLeaves, pictureOfLeaves}
 use Rattle.definitions.specs.Refusal.{badPixel}
-use Rattle.definitions.proofs.Within.{Every, first-within}
-use Rattle.definitions.proofs.Pixels.{every-to, every-from}
-use Rattle.definitions.proofs.Features.{one-from}
-use Rattle.definitions.proofs.AscendingKeys.{AscendingKeys, no-key, key}
+use Rattle.laws.proofs.Within.{Every, first-within}
+use Rattle.laws.proofs.Pixels.{every-to, every-from}
+use Rattle.laws.proofs.Features.{one-from}
+use Rattle.laws.proofs.AscendingKeys.{AscendingKeys, no-key, key}
 use Rattle.leaves.specs.Delivered.{endOf, Parted}
 use Rattle.leaves.proofs.Tiles.{Tiles, tiles-ascend, ascend-test, tiles-valid, tiles-once}
 use Rattle.leaves.proofs.Sound.{Begins, sound}

@@ -16,7 +16,7 @@ use Rattle.definitions.specs.Read.{room, paired}
 use Rattle.definitions.specs.Leaves.{areLeaves, pictureOfLeaves}
 use Rattle.definitions.specs.Buffer.{over}
 use Rattle.definitions.specs.Refusal.{badSettings, badPixel}
-use Rattle.definitions.proofs.Buffer.{sets-over}
+use Rattle.laws.proofs.Buffer.{sets-over}
 use Rattle.list.proofs.Tests.{good-settings}
 use Rattle.build.specs.BuildBlocks.{below, Written}
 use Rattle.build.proofs.RasterTests.{pixels-below}

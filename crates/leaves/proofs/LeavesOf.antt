@@ -20,10 +20,10 @@ use Rattle.definitions.specs.Bits.{featureOf, bitsOf}
 use Rattle.definitions.specs.List.{Record, recordOf, listOf, keysOf, valuesOf}
 use Rattle.definitions.specs.Leaves.{isLeaf, leavesOf}
 use Rattle.definitions.specs.Refusal.{badPixel}
-use Rattle.definitions.proofs.Within.{within-cases, first-within}
-use Rattle.definitions.proofs.Features.{one-to, one-pixel, below-to, below-under}
-use Rattle.definitions.proofs.FeatureOf.{feature-of-power}
-use Rattle.definitions.proofs.ListOf.{list-one, list-node, length-node}
+use Rattle.laws.proofs.Within.{within-cases, first-within}
+use Rattle.laws.proofs.Features.{one-to, one-pixel, below-to, below-under}
+use Rattle.laws.proofs.FeatureOf.{feature-of-power}
+use Rattle.laws.proofs.ListOf.{list-one, list-node, length-node}
 use Rattle.list.specs.Check.{oneSlot}
 use Rattle.list.proofs.OneSlot.{power-slot, slot-feature}
 use Rattle.leaves.proofs.Tiles.{Tiles, alone, parts}

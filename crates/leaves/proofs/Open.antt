@@ -16,8 +16,8 @@ use Rattle.keys.proofs.Valid.{valid-block}
 use Rattle.keys.proofs.Pixel.{InSquare, InKeys, inside, back}
 use Rattle.keys.proofs.InBlock.{inBlock-iff, inBlock-keys-iff, in-raster}
 use Rattle.definitions.specs.Leaves.{coverings}
-use Rattle.definitions.proofs.Within.{first-within, under-within}
-use Rattle.definitions.proofs.AscendingKeys.{AscendingKeys, no-key, key, ascending-bounds, ascending-member, ascending-rest}
+use Rattle.laws.proofs.Within.{first-within, under-within}
+use Rattle.laws.proofs.AscendingKeys.{AscendingKeys, no-key, key, ascending-bounds, ascending-member, ascending-rest}
 
 -- a number counted once more where the test holds
 abbrev pub once : Bool → ℕ

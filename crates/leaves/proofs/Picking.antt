@@ -13,8 +13,8 @@ use Rattle.definitions.specs.List.{Record, recordOf, keysOf, valuesOf}
 use Rattle.definitions.specs.Read.{room, paired, recordsOf}
 use Rattle.definitions.specs.Leaves.{leavesOf}
 use Rattle.definitions.specs.Buffer.{over}
-use Rattle.definitions.proofs.Records.{records-first}
-use Rattle.definitions.proofs.Buffer.{sets-over}
+use Rattle.laws.proofs.Records.{records-first}
+use Rattle.laws.proofs.Buffer.{sets-over}
 use Rattle.list.specs.Check.{oneSlot}
 use Rattle.build.proofs.WriteBlock.{sets-append}
 use Rattle.leaves.proofs.LeavesOf.{leaves-cons, leaves-skip, leaves-nil, leaves-append}

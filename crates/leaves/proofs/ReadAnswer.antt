@@ -16,8 +16,8 @@ use Rattle.definitions.specs.Buffer.{over}
 use Rattle.definitions.specs.Refusal.{first, badSettings}
 use Rattle.definitions.specs.Calls.ReadLeaves.{listDelivered, readLeavesRefusal, readLeaves, readLeavesKeys, readLeavesBits}
 use Rattle.definitions.specs.declared.Counted.{Counted}
-use Rattle.definitions.proofs.First.{accepted-done, accepted-left}
-use Rattle.definitions.proofs.ListOf.{list-some}
+use Rattle.laws.proofs.First.{accepted-done, accepted-left}
+use Rattle.laws.proofs.ListOf.{list-some}
 
 -- an answer by its two numbers
 pub counted : {r r′ n n′ : ℕ} → r ≡ r′ → n ≡ n′ → _≡_ {A = Counted} (record { refusal = r; count = n }) (record { refusal = r′; count = n′ })

@@ -17,9 +17,9 @@ use Rattle.definitions.specs.Leaves.{coverings, areLeaves, isDelivery, leavesOf
 use Rattle.definitions.specs.Buffer.{over}
 use Rattle.definitions.specs.Calls.ReadLeaves.{listDelivered}
 use Rattle.definitions.specs.Calls.WriteLeaves.{leavesIn}
-use Rattle.definitions.proofs.Pixels.{Agree}
-use Rattle.definitions.proofs.ListOf.{list-agree}
-use Rattle.definitions.proofs.Records.{records-over}
+use Rattle.laws.proofs.Pixels.{Agree}
+use Rattle.laws.proofs.ListOf.{list-agree}
+use Rattle.laws.proofs.Records.{records-over}
 use Rattle.list.specs.Own.{shownBy}
 use Rattle.list.proofs.Accepted.{accepted}
 use Rattle.list.proofs.Own.{own-list}

@@ -19,8 +19,8 @@ use Rattle.keys.proofs.Valid.{block-valid}
 use Rattle.keys.proofs.Pixel.{InSquare}
 use Rattle.keys.proofs.InBlock.{inBlock-iff}
 use Rattle.definitions.specs.Leaves.{validKeys, ascendFrom, coverings}
-use Rattle.definitions.proofs.Within.{within-cases}
-use Rattle.definitions.proofs.AscendingKeys.{AscendingKeys, no-key, key, ascending-bounds, ascending-widen, ascending-append}
+use Rattle.laws.proofs.Within.{within-cases}
+use Rattle.laws.proofs.AscendingKeys.{AscendingKeys, no-key, key, ascending-bounds, ascending-widen, ascending-append}
 
 pub data Tiles : ℕ → ℕ → ℕ → ℕ → List ℕ → Type 0 where
   alone : {k r c κ : ℕ} → Tiles k r c κ (κ ∷ [])

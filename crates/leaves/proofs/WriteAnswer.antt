@@ -14,7 +14,7 @@ use Rattle.definitions.specs.Buffer.{over}
 use Rattle.definitions.specs.Refusal.{first, badSettings}
 use Rattle.definitions.specs.Calls.WriteLeaves.{leavesIn, writeLeavesRefusal, writeLeaves, writtenLeafKeys, writtenLeafFeatures}
 use Rattle.definitions.specs.declared.Counted.{Counted}
-use Rattle.definitions.proofs.First.{accepted-done, accepted-left}
+use Rattle.laws.proofs.First.{accepted-done, accepted-left}
 use Rattle.list.specs.First.{firstRefusal}
 use Rattle.list.specs.Own.{shownBy}
 use Rattle.list.proofs.FirstRefusal.{refused-first, first-small}

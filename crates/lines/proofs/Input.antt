@@ -18,7 +18,7 @@ use Rattle.definitions.specs.List.{listOfRaster}
 use Rattle.definitions.specs.Read.{room}
 use Rattle.definitions.specs.Refusal.{first, badSettings, badLength, badPixel}
 use Rattle.definitions.specs.Calls.Build.{buildRefusal}
-use Rattle.definitions.proofs.ListOf.{list-most}
+use Rattle.laws.proofs.ListOf.{list-most}
 use Rattle.definitions.specs.Listing.{largestResolution, recordRoom, mOf, sOf, rasterOf, buildRefuses, listingRefusal, listed}
 use Rattle.lines.proofs.Listed.{refused-short, refused-large, refused-build, prints-refusal}
 

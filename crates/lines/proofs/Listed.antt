@@ -13,7 +13,7 @@ use Rattle.definitions.specs.List.{listOfRaster}
 use Rattle.definitions.specs.Read.{room}
 use Rattle.definitions.specs.Refusal.{_gives_, first, badSettings, badLength, badPixel}
 use Rattle.definitions.specs.Calls.Build.{buildRefusal}
-use Rattle.definitions.proofs.First.{first-this, first-later, first-end, first-none, accepted-done, accepted-left}
+use Rattle.laws.proofs.First.{first-this, first-later, first-end, first-none, accepted-done, accepted-left}
 use Rattle.definitions.specs.Listing.{largestResolution, mOf, sOf, buildRefuses, listingRefusal, listIn, listing, refusalLine, listed, listedKeys, listedBits}
 
 module _ (input : List ℕ) where

@@ -15,9 +15,9 @@ use Rattle.definitions.specs.Buffer.{over}
 use Rattle.definitions.specs.Refusal.{accepted}
 use Rattle.definitions.specs.Calls.Build.{buildRefusal, build, buildKeys, buildBits}
 use Rattle.definitions.specs.declared.Counted.{Counted}
-use Rattle.definitions.proofs.First.{accepted-done, accepted-left}
-use Rattle.definitions.proofs.ListOf.{list-ascends}
-use Rattle.definitions.proofs.Records.{records-over}
+use Rattle.laws.proofs.First.{accepted-done, accepted-left}
+use Rattle.laws.proofs.ListOf.{list-ascends}
+use Rattle.laws.proofs.Records.{records-over}
 use Rattle.definitions.specs.Listing.{largestResolution, recordRoom, mOf, sOf, rasterOf, buildRefuses, listingRefusal, listing, refusalLine, listed, listedKeys, listedBits}
 use Rattle.lines.specs.Put.{Put, Room, Records}
 use Rattle.lines.specs.Lent.{longestListing, Lent, Printed}

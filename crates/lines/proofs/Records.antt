@@ -10,7 +10,7 @@ use Rattle.keys.proofs.Descent.{one-less}
 use Rattle.definitions.specs.List.{Record, recordOf, keysOf}
 use Rattle.definitions.specs.Read.{paired, recordsOf}
 use Rattle.definitions.specs.Buffer.{over}
-use Rattle.definitions.proofs.Ascending.{Ascending}
+use Rattle.laws.proofs.Ascending.{Ascending}
 use Rattle.list.proofs.Accepted.{key-below}
 use Rattle.definitions.specs.Listing.{lineOf, linesOf}
 

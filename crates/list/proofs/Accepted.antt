@@ -17,14 +17,14 @@ use Rattle.definitions.specs.List.{Record, keysOf, valuesOf, listOf, listOfPict
 use Rattle.definitions.specs.Read.{room, recordsOf, pictureOf, sameRecords, isListOfBlock, isList}
 use Rattle.definitions.specs.Log.{isContent}
 use Rattle.definitions.specs.Edit.{contentOf}
-use Rattle.definitions.proofs.Features.{below-under}
-use Rattle.definitions.proofs.BitsOf.{bits-below}
-use Rattle.definitions.proofs.Ascending.{Ascending, none, next, ascending-bounds}
-use Rattle.definitions.proofs.ListOf.{list-first, list-ascends, list-some, list-most}
-use Rattle.definitions.proofs.Listed.{listed-under, listed-to}
-use Rattle.definitions.proofs.ReadBack.{root-keys}
-use Rattle.definitions.proofs.IsList.{same-to, list-passes}
-use Rattle.definitions.proofs.Records.{records-length, key-at, value-at}
+use Rattle.laws.proofs.Features.{below-under}
+use Rattle.laws.proofs.BitsOf.{bits-below}
+use Rattle.laws.proofs.Ascending.{Ascending, none, next, ascending-bounds}
+use Rattle.laws.proofs.ListOf.{list-first, list-ascends, list-some, list-most}
+use Rattle.laws.proofs.Listed.{listed-under, listed-to}
+use Rattle.laws.proofs.ReadBack.{root-keys}
+use Rattle.laws.proofs.IsList.{same-to, list-passes}
+use Rattle.laws.proofs.Records.{records-length, key-at, value-at}
 
 -- the records l are the list of the block of height k at row r and column c with key κ, as they show it
 pub record BlockList (m s k r c κ : ℕ) (l : List Record) : Type 0 where

@@ -17,10 +17,10 @@ use Rattle.definitions.specs.Bits.{bitsOf}
 use Rattle.definitions.specs.List.{Record, recordOf, listOf}
 use Rattle.definitions.specs.Read.{isListOfBlock}
 use Rattle.definitions.specs.Log.{isContent}
-use Rattle.definitions.proofs.BitsOf.{bits-below, below-bits}
-use Rattle.definitions.proofs.ListOf.{list-first}
-use Rattle.definitions.proofs.ReadBack.{KeysFrom}
-use Rattle.definitions.proofs.IsList.{ShowsBlock, block-list-to, block-list-from}
+use Rattle.laws.proofs.BitsOf.{bits-below, below-bits}
+use Rattle.laws.proofs.ListOf.{list-first}
+use Rattle.laws.proofs.ReadBack.{KeysFrom}
+use Rattle.laws.proofs.IsList.{ShowsBlock, block-list-to, block-list-from}
 use Rattle.list.specs.Check.{Outcome, wrong, left, afterOwn, afterNode}
 use Rattle.list.proofs.Sound.{sound}
 use Rattle.list.proofs.Complete.{complete}

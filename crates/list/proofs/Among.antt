@@ -13,7 +13,7 @@ use Rattle.keys.proofs.Cases.{decide, split}
 use Rattle.definitions.specs.List.{Record, keysOf, valuesOf}
 use Rattle.definitions.specs.Read.{room, recordsOf}
 use Rattle.definitions.specs.Standing.{upTo, placeOf, isListed}
-use Rattle.definitions.proofs.Records.{records-keys, records-values}
+use Rattle.laws.proofs.Records.{records-keys, records-values}
 use Rattle.list.specs.Sorted.{Sorted}
 use Rattle.list.specs.Among.{keysUpTo, placeAmong, whichAmong, placeIn}
 use Rattle.list.specs.declared.standing.Which.the-variants.{Listed, Inside}

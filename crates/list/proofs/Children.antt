@@ -10,7 +10,7 @@ use borrow.Author.Tests.{eqb-true, eq-eqb, ne-eqb}
 use Rattle.keys.proofs.Cases.{decide}
 use Rattle.definitions.specs.Bits.{unionOfFour}
 use Rattle.definitions.specs.List.{Record, recordOf}
-use Rattle.definitions.proofs.Slots.{or-assoc}
+use Rattle.laws.proofs.Slots.{or-assoc}
 use Rattle.list.specs.Check.{oneSlot, Outcome, wrong, left, andThen, afterOwn, afterChildren, afterNode}
 
 -- wrong records leave nothing

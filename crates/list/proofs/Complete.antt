@@ -10,9 +10,9 @@ use Rattle.keys.proofs.Cases.{decide}
 use Rattle.definitions.specs.Picture.{Picture, oneFeature}
 use Rattle.definitions.specs.Bits.{bitsOf}
 use Rattle.definitions.specs.List.{Record, recordOf, listOf}
-use Rattle.definitions.proofs.Features.{one-pixel}
-use Rattle.definitions.proofs.BitsOf.{bits-suc}
-use Rattle.definitions.proofs.ListOf.{list-one, list-node, list-first}
+use Rattle.laws.proofs.Features.{one-pixel}
+use Rattle.laws.proofs.BitsOf.{bits-suc}
+use Rattle.laws.proofs.ListOf.{list-one, list-node, list-first}
 use Rattle.list.specs.Check.{wrong, left, afterOwn, afterChildren, afterNode}
 use Rattle.list.proofs.OneSlot.{slot-feature}
 use Rattle.list.proofs.Children.{own-leaf, own-node, node-suc, children-none, children-from, union-in-turn, four-lists}

@@ -16,7 +16,7 @@ use Rattle.keys.proofs.Valid.{block-valid}
 use Rattle.definitions.specs.List.{Record}
 use Rattle.definitions.specs.Read.{room, paired, recordsOf, isList}
 use Rattle.definitions.specs.Log.{isContent}
-use Rattle.definitions.proofs.Records.{paired-length}
+use Rattle.laws.proofs.Records.{paired-length}
 use Rattle.list.specs.Check.{oneSlot, Outcome, wrong, left, placeOf, afterOwn, afterNode}
 use Rattle.list.proofs.Children.{own-leaf, own-node}
 use Rattle.list.proofs.Places.{record-at}

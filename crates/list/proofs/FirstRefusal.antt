@@ -9,7 +9,7 @@ use borrow.Author.Tests.{not-false}
 use Rattle.keys.proofs.Cases.{decide}
 use Rattle.definitions.specs.Read.{isList}
 use Rattle.definitions.specs.Refusal.{Row, first, badSettings, noList}
-use Rattle.definitions.proofs.First.{NoneHolds, this, later, first-later, first-holds, first-none, none-first, holds-first, holds-more}
+use Rattle.laws.proofs.First.{NoneHolds, this, later, first-later, first-holds, first-none, none-first, holds-first, holds-more}
 use Rattle.list.specs.First.{listFirst, firstRefusal}
 use Rattle.list.proofs.Tests.{GoodSettings, good-settings}
 

@@ -21,7 +21,7 @@ use Rattle.definitions.specs.Read.{recordsOf}
 use Rattle.definitions.specs.Standing.{placeOf, keyFound, isListed, recordsIn, standingOf, partLength}
 use Rattle.definitions.specs.declared.Standing.{Standing}
 use Rattle.definitions.specs.declared.Standing.the-variants.{Listed, Inside}
-use Rattle.definitions.proofs.ListOf.{list-one, list-zero, list-node}
+use Rattle.laws.proofs.ListOf.{list-one, list-zero, list-node}
 use Rattle.list.specs.Check.{oneSlot}
 use Rattle.list.specs.Own.{OwnList, BlockIn, shownBy}
 use Rattle.list.specs.Sorted.{Near}

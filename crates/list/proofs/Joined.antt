@@ -9,10 +9,10 @@ use Rattle.keys.specs.Key.{childKey}
 use Rattle.definitions.specs.Picture.{Picture, oneFeature}
 use Rattle.definitions.specs.Bits.{unionOfFour, bitsOf}
 use Rattle.definitions.specs.List.{recordOf, listOf}
-use Rattle.definitions.proofs.Pixels.{Agree}
-use Rattle.definitions.proofs.Slots.{same-four}
-use Rattle.definitions.proofs.BitsOf.{bits-suc, bits-agree}
-use Rattle.definitions.proofs.ListOf.{list-node, list-agree}
+use Rattle.laws.proofs.Pixels.{Agree}
+use Rattle.laws.proofs.Slots.{same-four}
+use Rattle.laws.proofs.BitsOf.{bits-suc, bits-agree}
+use Rattle.laws.proofs.ListOf.{list-node, list-agree}
 
 -- each pixel from the picture of the quadrant that it lies in
 pub joined : ℕ → ℕ → ℕ → Picture → Picture → Picture → Picture → Picture

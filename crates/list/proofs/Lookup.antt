@@ -16,11 +16,11 @@ use Rattle.definitions.specs.Picture.{Picture, oneFeature}
 use Rattle.definitions.specs.Bits.{bitsOf}
 use Rattle.definitions.specs.List.{recordOf, keysOf, valuesOf, listOf}
 use Rattle.definitions.specs.Standing.{upTo, placeOf, isListed}
-use Rattle.definitions.proofs.Within.{first-within, under-within}
-use Rattle.definitions.proofs.Features.{one-to, one-under}
-use Rattle.definitions.proofs.BitsOf.{bits-one}
-use Rattle.definitions.proofs.Ascending.{ascending-rest}
-use Rattle.definitions.proofs.ListOf.{list-first, list-one, list-ascends}
+use Rattle.laws.proofs.Within.{first-within, under-within}
+use Rattle.laws.proofs.Features.{one-to, one-under}
+use Rattle.laws.proofs.BitsOf.{bits-one}
+use Rattle.laws.proofs.Ascending.{ascending-rest}
+use Rattle.laws.proofs.ListOf.{list-first, list-one, list-ascends}
 use Rattle.list.proofs.Counted.{counted, up-to-counted, counted-none, counted-yes, counted-append, counted-all, counted-out}
 use Rattle.list.proofs.Placed.{Placed, Around, around}
 

@@ -12,8 +12,8 @@ use borrow.Author.Tests.{eqb-true, eq-eqb, eqb-false}
 use Rattle.keys.proofs.Cases.{decide, same-test}
 use Rattle.definitions.specs.Picture.{Picture, oneFeature}
 use Rattle.definitions.specs.Bits.{featureOf, bitsOf}
-use Rattle.definitions.proofs.BitsOf.{bits-one, power-one}
-use Rattle.definitions.proofs.FeatureOf.{feature-of-power}
+use Rattle.laws.proofs.BitsOf.{bits-one, power-one}
+use Rattle.laws.proofs.FeatureOf.{feature-of-power}
 use Rattle.list.specs.Check.{oneSlot}
 
 -- a power of two has one slot, its exponent's

@@ -11,8 +11,8 @@ use Rattle.definitions.specs.Bits.{bitsOf}
 use Rattle.definitions.specs.List.{keysOf, valuesOf, listOfPicture}
 use Rattle.definitions.specs.Read.{recordsOf, isList}
 use Rattle.definitions.specs.Standing.{placeOf, isListed, partLength}
-use Rattle.definitions.proofs.ListOf.{list-ascends, list-first, list-some}
-use Rattle.definitions.proofs.Records.{records-length, key-at, value-at}
+use Rattle.laws.proofs.ListOf.{list-ascends, list-first, list-some}
+use Rattle.laws.proofs.Records.{records-length, key-at, value-at}
 use Rattle.list.specs.Own.{OwnList, shownBy}
 use Rattle.list.specs.Sorted.{Ascends, Sorted, Near}
 use Rattle.list.specs.Among.{keysUpTo, keysBelow, placeAmong, whichAmong, placeIn}

@@ -19,7 +19,7 @@ use Rattle.keys.proofs.Interval.{within}
 use Rattle.definitions.specs.Picture.{Picture, oneFeature}
 use Rattle.definitions.specs.List.{recordOf, keysOf, listOf, listOfPicture}
 use Rattle.definitions.specs.Standing.{placeOf, isListed, recordsIn, partLength}
-use Rattle.definitions.proofs.ListOf.{list-one, list-ascends, list-some}
+use Rattle.laws.proofs.ListOf.{list-one, list-ascends, list-some}
 use Rattle.list.specs.Among.{keysBelow}
 use Rattle.list.proofs.Counted.{counted, below-counted, records-counted, counted-none, counted-yes, counted-all, counted-out}
 use Rattle.list.proofs.Placed.{Placed}

@@ -11,7 +11,7 @@ use borrow.Author.Tests.{eqb-true, eqb-false}
 use Rattle.keys.proofs.Cases.{decide}
 use Rattle.definitions.specs.List.{Record, recordOf}
 use Rattle.definitions.specs.Read.{paired}
-use Rattle.definitions.proofs.Records.{paired-length}
+use Rattle.laws.proofs.Records.{paired-length}
 use Rattle.list.specs.Check.{oneSlot, wrong, left, placeOf, afterChildren, afterNode}
 use Rattle.list.proofs.Children.{own-leaf, own-node, node-zero, node-suc, children-none, children-from, children-short, children-other, children-wrong}
 use Rattle.list.proofs.Places.{record-at, place-of}

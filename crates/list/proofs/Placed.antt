@@ -16,8 +16,8 @@ use Rattle.keys.proofs.Interval.{Same, key-within}
 use Rattle.definitions.specs.Picture.{Picture, oneFeature}
 use Rattle.definitions.specs.Bits.{bitsOf}
 use Rattle.definitions.specs.List.{Record, recordOf, listOf}
-use Rattle.definitions.proofs.Ascending.{Ascending, none, widen, ascending-one, ascending-append}
-use Rattle.definitions.proofs.ListOf.{list-node, list-ascends}
+use Rattle.laws.proofs.Ascending.{Ascending, none, widen, ascending-one, ascending-append}
+use Rattle.laws.proofs.ListOf.{list-node, list-ascends}
 
 -- the list of the second block is a part of the first's, and the keys around it are outside its interval
 pub record Placed (p : Picture) (k r c κ k′ r′ c′ κ′ : ℕ) : Type 0 where

@@ -9,8 +9,8 @@ use lib.ListN.{length, getD, take, drop, length-append, length-drop, take-append
 use lib.Seq.{drop-at}
 use Rattle.definitions.specs.List.{Record, recordOf}
 use Rattle.definitions.specs.Read.{paired}
-use Rattle.definitions.proofs.ListOf.{list-first}
-use Rattle.definitions.proofs.Records.{paired-length}
+use Rattle.laws.proofs.ListOf.{list-first}
+use Rattle.laws.proofs.Records.{paired-length}
 use Rattle.list.specs.Check.{Outcome, wrong, left, placeOf, afterOwn, afterNode}
 use Rattle.list.proofs.Sound.{sound}
 

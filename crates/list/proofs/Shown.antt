@@ -13,10 +13,10 @@ use Rattle.definitions.specs.Picture.{Picture, oneFeature}
 use Rattle.definitions.specs.Bits.{bitsOf, featureOf}
 use Rattle.definitions.specs.List.{Record, valuesOf, listOf, listOfPicture}
 use Rattle.definitions.specs.Standing.{placeOf, isListed}
-use Rattle.definitions.proofs.Features.{one-under}
-use Rattle.definitions.proofs.FeatureOf.{feature-of-power}
-use Rattle.definitions.proofs.BitsOf.{bits-one, power-one}
-use Rattle.definitions.proofs.ListOf.{list-first, list-one}
+use Rattle.laws.proofs.Features.{one-under}
+use Rattle.laws.proofs.FeatureOf.{feature-of-power}
+use Rattle.laws.proofs.BitsOf.{bits-one, power-one}
+use Rattle.laws.proofs.ListOf.{list-first, list-one}
 use Rattle.list.specs.Check.{oneSlot}
 use Rattle.list.specs.Own.{OwnList, shownBy}
 use Rattle.list.specs.Among.{placeAmong}

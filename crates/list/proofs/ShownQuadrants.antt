@@ -12,7 +12,7 @@ use Rattle.keys.specs.Key.{childKey}
 use Rattle.definitions.specs.Picture.{Picture, oneFeature}
 use Rattle.definitions.specs.Bits.{bitsOf}
 use Rattle.definitions.specs.List.{Record, recordOf, valuesOf, listOf}
-use Rattle.definitions.proofs.ListOf.{list-node}
+use Rattle.laws.proofs.ListOf.{list-node}
 use Rattle.list.specs.Shown.{ShownAt}
 use Rattle.list.proofs.Shown.{two-values}
 

@@ -9,10 +9,10 @@ use Rattle.keys.proofs.Cases.{decide}
 use Rattle.definitions.specs.Picture.{Picture, oneFeature}
 use Rattle.definitions.specs.Bits.{featureOf, bitsOf}
 use Rattle.definitions.specs.List.{Record, recordOf, listOf}
-use Rattle.definitions.proofs.Features.{one-from}
-use Rattle.definitions.proofs.Slots.{same-four}
-use Rattle.definitions.proofs.BitsOf.{bits-one}
-use Rattle.definitions.proofs.ListOf.{list-one}
+use Rattle.laws.proofs.Features.{one-from}
+use Rattle.laws.proofs.Slots.{same-four}
+use Rattle.laws.proofs.BitsOf.{bits-one}
+use Rattle.laws.proofs.ListOf.{list-one}
 use Rattle.list.specs.Check.{oneSlot, left, afterOwn, afterNode}
 use Rattle.list.proofs.OneSlot.{slot-power, slot-feature}
 use Rattle.list.proofs.Joined.{joined, joined-bits, joined-list}

@@ -14,8 +14,8 @@ use Rattle.definitions.specs.Read.{isList}
 use Rattle.definitions.specs.Refusal.{badSettings}
 use Rattle.definitions.specs.Calls.Standing.{standingRefusal}
 use Rattle.definitions.specs.Calls.Raster.{rasterRefusal}
-use Rattle.definitions.proofs.RasterOf.{length-to}
-use Rattle.definitions.proofs.First.{first-none}
+use Rattle.laws.proofs.RasterOf.{length-to}
+use Rattle.laws.proofs.First.{first-none}
 
 -- settings that refusal 1 passes
 pub record GoodSettings (m s : ℕ) : Type 0 where

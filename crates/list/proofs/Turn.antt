@@ -14,7 +14,7 @@ use Rattle.keys.proofs.Cases.{split}
 use Rattle.keys.proofs.Powers.{five-pos, five-le}
 use Rattle.definitions.specs.List.{Record, recordOf}
 use Rattle.definitions.specs.Read.{paired}
-use Rattle.definitions.proofs.Records.{paired-length}
+use Rattle.laws.proofs.Records.{paired-length}
 use Rattle.list.specs.Check.{oneSlot, Outcome, wrong, left, placeOf, afterOwn, afterChildren, afterNode, stepUnder}
 use Rattle.list.proofs.Children.{own-leaf, own-node, node-zero, node-suc, children-none, children-from, children-short, children-other, children-wrong}
 use Rattle.list.proofs.Places.{record-at, records-end, place-of, told}

@@ -10,10 +10,10 @@ use Rattle.keys.proofs.Cases.{equal}
 use Rattle.definitions.specs.List.{Record}
 use Rattle.definitions.specs.Read.{recordsOf}
 use Rattle.definitions.specs.Log.{groupMark, beforeStep, lastIsStep, isSound, firstStep}
-use Rattle.definitions.proofs.LastStep.{step-ends, step-before, before-step-less}
-use Rattle.definitions.proofs.SoundLog.{Steps, none, more, sound-steps, sound-last, sound-before}
-use Rattle.definitions.proofs.FirstStep.{first-is-last, first-before}
-use Rattle.definitions.proofs.Records.{records-length}
+use Rattle.laws.proofs.LastStep.{step-ends, step-before, before-step-less}
+use Rattle.laws.proofs.SoundLog.{Steps, none, more, sound-steps, sound-last, sound-before}
+use Rattle.laws.proofs.FirstStep.{first-is-last, first-before}
+use Rattle.laws.proofs.Records.{records-length}
 use Rattle.log.specs.declared.step.Step.{Step}
 use Rattle.log.specs.Steps.{lastStep, Stepped, Divided}
 use Rattle.log.proofs.StepPlaces.{start-below, before-step-is}

@@ -12,8 +12,8 @@ use Rattle.keys.specs.Key.{rootKey}
 use Rattle.definitions.specs.List.{Record}
 use Rattle.definitions.specs.Read.{recordsOf}
 use Rattle.definitions.specs.Log.{closingPlaces, countRecord, lastCount, endsInMark, stepCount, stepEntries, endsInEntries, lastIsEntry, lastIsGroup, lastIsStep}
-use Rattle.definitions.proofs.LastStep.{count-group, entries-group}
-use Rattle.definitions.proofs.Records.{records-length, records-first}
+use Rattle.laws.proofs.LastStep.{count-group, entries-group}
+use Rattle.laws.proofs.Records.{records-length, records-first}
 use Rattle.log.specs.Entries.{closingCount}
 use Rattle.log.proofs.Last.{count-record-at, last-count-at}
 

@@ -10,9 +10,9 @@ use Rattle.keys.proofs.Cases.{and-left, and-right}
 use Rattle.definitions.specs.List.{Record}
 use Rattle.definitions.specs.Read.{recordsOf}
 use Rattle.definitions.specs.Log.{closingPlaces, beforeLast, lastIsEntry, endsInMark, stepCount, stepEntries, beforeEntries, beforeStep, endsInEntries, lastIsStep}
-use Rattle.definitions.proofs.LogEntries.{ends-in-entry}
-use Rattle.definitions.proofs.LastStep.{count-group, entries-group, before-entries-less, EndsInGroup, ends-in-group}
-use Rattle.definitions.proofs.Records.{records-length}
+use Rattle.laws.proofs.LogEntries.{ends-in-entry}
+use Rattle.laws.proofs.LastStep.{count-group, entries-group, before-entries-less, EndsInGroup, ends-in-group}
+use Rattle.laws.proofs.Records.{records-length}
 use Rattle.log.specs.Entries.{lastEntry, Ended}
 use Rattle.log.specs.Steps.{EntriesBetween, none-between, one-between}
 use Rattle.log.proofs.Last.{entry-ended}

@@ -10,10 +10,10 @@ use Rattle.keys.specs.Key.{validKey}
 use Rattle.definitions.specs.List.{Record, recordOf}
 use Rattle.definitions.specs.Read.{recordsOf}
 use Rattle.definitions.specs.Log.{closingPlaces, countRecord, lastRecord, lastKey, lastFeature, lastCount, beforeLast, lastContent, isContent, endsInMark, isSound}
-use Rattle.definitions.proofs.LastEntry.{length-before, content-place, length-content}
-use Rattle.definitions.proofs.LogEntries.{content-not-empty, EndsInEntry}
-use Rattle.definitions.proofs.SoundLog.{sound-ends}
-use Rattle.definitions.proofs.Records.{records-length, records-at, records-run}
+use Rattle.laws.proofs.LastEntry.{length-before, content-place, length-content}
+use Rattle.laws.proofs.LogEntries.{content-not-empty, EndsInEntry}
+use Rattle.laws.proofs.SoundLog.{sound-ends}
+use Rattle.laws.proofs.Records.{records-length, records-at, records-run}
 use Rattle.log.specs.declared.entry.Entry.{Entry}
 use Rattle.log.specs.Entries.{closingKey, closingFeature, closingCount, lastEntry, Ended, run}
 

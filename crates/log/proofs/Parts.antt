@@ -11,7 +11,7 @@ use borrow.Author.Tests.{le-leb, lt-leb, leb-true, not-true, not-false}
 use Rattle.keys.proofs.Cases.{and-left, and-right}
 use Rattle.definitions.specs.Read.{room, paired, recordsOf}
 use Rattle.definitions.specs.Log.{isSound, toRedo, noLog}
-use Rattle.definitions.proofs.Records.{records-length, records-run}
+use Rattle.laws.proofs.Records.{records-length, records-run}
 use Rattle.log.proofs.Last.{SoundLog}
 
 module _ (m s : ℕ) (keys values : List ℕ) (used inForce : ℕ) where

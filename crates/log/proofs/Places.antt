@@ -10,8 +10,8 @@ use lib.Seq.{length-take-le, take-take, getD-take, getD-drop}
 use Rattle.definitions.specs.List.{keysOf, valuesOf}
 use Rattle.definitions.specs.Read.{room, paired, recordsOf}
 use Rattle.definitions.specs.Log.{closingPlaces, lastCount, beforeLast, lastContent}
-use Rattle.definitions.proofs.LastEntry.{before-place}
-use Rattle.definitions.proofs.Records.{paired-keys, paired-values, paired-length, records-first}
+use Rattle.laws.proofs.LastEntry.{before-place}
+use Rattle.laws.proofs.Records.{paired-keys, paired-values, paired-length, records-first}
 use Rattle.log.specs.declared.entry.Entry.{Entry}
 use Rattle.log.specs.Entries.{lastEntry, Ended, run, contentPart}
 use Rattle.log.proofs.Last.{log, entry-places, content-run}

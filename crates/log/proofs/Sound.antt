@@ -9,9 +9,9 @@ use borrow.Author.Tests.{not-true, not-false}
 use Rattle.definitions.specs.List.{Record}
 use Rattle.definitions.specs.Read.{paired, recordsOf}
 use Rattle.definitions.specs.Log.{endsInMark, beforeStep, lastIsEntry, lastIsGroup, lastIsStep, isSound}
-use Rattle.definitions.proofs.LastStep.{step-single, step-group}
-use Rattle.definitions.proofs.SoundLog.{empty-sound, sound-step}
-use Rattle.definitions.proofs.Records.{records-length}
+use Rattle.laws.proofs.LastStep.{step-single, step-group}
+use Rattle.laws.proofs.SoundLog.{empty-sound, sound-step}
+use Rattle.laws.proofs.Records.{records-length}
 use Rattle.log.specs.declared.step.Step.{Step}
 use Rattle.log.specs.Steps.{lastStep, Stepped}
 use Rattle.log.proofs.StepPlaces.{start-below, before-step-is}

@@ -12,10 +12,10 @@ use Rattle.keys.proofs.Cases.{decide}
 use Rattle.definitions.specs.List.{Record}
 use Rattle.definitions.specs.Read.{recordsOf}
 use Rattle.definitions.specs.Log.{closingPlaces, lastCount, beforeLast, endsInMark, stepCount, stepEntries, beforeEntries, beforeStep, endsInEntries, lastIsStep}
-use Rattle.definitions.proofs.LastEntry.{before-place}
-use Rattle.definitions.proofs.LogEntries.{ends-in-entry}
-use Rattle.definitions.proofs.LastStep.{entries-single, before-single, step-single, before-group, entries-group, before-entries-less, before-step-less, EndsInGroup, ends-in-group}
-use Rattle.definitions.proofs.Records.{records-length, records-first}
+use Rattle.laws.proofs.LastEntry.{before-place}
+use Rattle.laws.proofs.LogEntries.{ends-in-entry}
+use Rattle.laws.proofs.LastStep.{entries-single, before-single, step-single, before-group, entries-group, before-entries-less, before-step-less, EndsInGroup, ends-in-group}
+use Rattle.laws.proofs.Records.{records-length, records-first}
 use Rattle.log.specs.declared.entry.Entry.{Entry}
 use Rattle.log.specs.declared.step.Step.{Step}
 use Rattle.log.specs.Entries.{closingCount, lastEntry, Ended}

@@ -12,7 +12,7 @@ use Rattle.keys.proofs.Cases.{and-left}
 use Rattle.definitions.specs.List.{Record}
 use Rattle.definitions.specs.Read.{room, recordsOf}
 use Rattle.definitions.specs.Log.{closingPlaces, countRecord, lastKey, lastCount, lastContent, closes, isContent, lastIsEntry}
-use Rattle.definitions.proofs.Records.{records-length}
+use Rattle.laws.proofs.Records.{records-length}
 use Rattle.log.specs.declared.entry.Entry.{Entry}
 use Rattle.log.specs.Entries.{closingKey, closingFeature, isClosed, lastEntry, Ended, contentPart}
 use Rattle.log.proofs.Last.{log, count-record-at, last-key-at, last-feature-at}

@@ -10,8 +10,8 @@ use Rattle.keys.proofs.Cases.{and-left, and-right}
 use Rattle.definitions.specs.List.{Record}
 use Rattle.definitions.specs.Read.{recordsOf}
 use Rattle.definitions.specs.Log.{beforeLast, lastIsEntry, beforeEntries, endsInEntries}
-use Rattle.definitions.proofs.LogEntries.{ends-in-entry}
-use Rattle.definitions.proofs.Records.{records-length}
+use Rattle.laws.proofs.LogEntries.{ends-in-entry}
+use Rattle.laws.proofs.Records.{records-length}
 use Rattle.log.specs.declared.entry.Entry.{Entry}
 use Rattle.log.specs.Entries.{lastEntry, Ended}
 use Rattle.log.specs.Steps.{EntriesLast}

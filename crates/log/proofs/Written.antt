@@ -11,7 +11,7 @@ use Rattle.definitions.specs.List.{Record, recordOf, keysOf, valuesOf}
 use Rattle.definitions.specs.Read.{room}
 use Rattle.definitions.specs.Buffer.{overAt}
 use Rattle.definitions.specs.Log.{closed}
-use Rattle.definitions.proofs.LastEntry.{length-closed}
+use Rattle.laws.proofs.LastEntry.{length-closed}
 use Rattle.log.specs.declared.entry.Entry.{Entry}
 use Rattle.log.specs.Entries.{run, Loggable, Logged, Cleared}
 use Rattle.log.proofs.Places.{run-keys, run-values, run-length}

@@ -7,7 +7,7 @@ use lib.ListN.{length}
 use Rattle.definitions.specs.List.{Record}
 use Rattle.definitions.specs.Read.{recordsOf}
 use Rattle.definitions.specs.Log.{endsInMark, stepEntries, beforeStep, endsInEntries, lastIsStep, isSound}
-use Rattle.definitions.proofs.LogEntries.{EndsInEntry}
+use Rattle.laws.proofs.LogEntries.{EndsInEntry}
 use Rattle.log.specs.declared.step.Step.{Step}
 use Rattle.log.specs.Entries.{lastEntry}
 

@@ -12,8 +12,8 @@ use Rattle.definitions.specs.Buffer.{over, replaced}
 use Rattle.definitions.specs.Offices.{Waiver, waiverOf, Holds, tableOf, added, removed}
 use Rattle.definitions.specs.Calls.AddWaiver.{addRefusal, addWaiver, addOffices, addIds, addKeys}
 use Rattle.definitions.specs.Calls.RemoveWaiver.{removeRefusal, removeWaiver, removeOffices, removeIds, removeKeys}
-use Rattle.definitions.proofs.First.{accepted-done, accepted-left}
-use Rattle.definitions.proofs.RowPlaces.{table-length, table-offices, table-ids, table-keys}
+use Rattle.laws.proofs.First.{accepted-done, accepted-left}
+use Rattle.laws.proofs.RowPlaces.{table-length, table-offices, table-ids, table-keys}
 use Rattle.offices.specs.Place.{placeIn, opened, closed}
 use Rattle.offices.specs.Refusal.{refusedWith}
 use Rattle.offices.proofs.Moved.{slice-added, slice-removed}

@@ -9,8 +9,8 @@ use lib.Dec.{leb, eqb}
 use borrow.Author.Tests.{eqb-true, leb-true, le-leb, lt-leb}
 use Rattle.keys.proofs.Cases.{and-left, and-right}
 use Rattle.definitions.specs.Offices.{Waiver, Holds, tableOf, rowsOf, rowsAscend, officesKnown, isSoundTable, isTable}
-use Rattle.definitions.proofs.RowPlaces.{table-length}
-use Rattle.definitions.proofs.Shares.{Sound, is-sound, known-exactly}
+use Rattle.laws.proofs.RowPlaces.{table-length}
+use Rattle.laws.proofs.Shares.{Sound, is-sound, known-exactly}
 use Rattle.offices.specs.Place.{timesIn}
 use Rattle.offices.proofs.Counted.{times-share}
 

@@ -12,8 +12,8 @@ use lib.Seq.{length-take-le, drop-cons, getD-take}
 use borrow.Author.Tests.{eq-eqb, ne-eqb}
 use Rattle.keys.proofs.Cases.{decide, equal}
 use Rattle.definitions.specs.Offices.{Waiver, rowAt, Holds, tableOf, rowsOf, rowBefore, rowsAscend}
-use Rattle.definitions.proofs.RowPlaces.{table-length, table-drop, table-end, table-offices}
-use Rattle.definitions.proofs.Shares.{share-own, share-other, share-none}
+use Rattle.laws.proofs.RowPlaces.{table-length, table-drop, table-end, table-offices}
+use Rattle.laws.proofs.Shares.{share-own, share-other, share-none}
 use Rattle.offices.specs.Place.{timesIn}
 
 -- ---- the count

@@ -14,9 +14,9 @@ use Rattle.definitions.specs.Refusal.{Row, _gives_, first, accepted, badKey}
 use Rattle.definitions.specs.Offices.{Waiver, waiverOf, rowAt, Holds, tableOf, rowsOf, sameRow, isRow, isTable, badOffice, badTable, officeLimit}
 use Rattle.definitions.specs.Calls.AddWaiver.{addRefusal}
 use Rattle.definitions.specs.Calls.RemoveWaiver.{removeRefusal}
-use Rattle.definitions.proofs.First.{first-this, first-later, first-end, first-none, first-holds, holds-first, holds-more, accepted-done, accepted-left}
-use Rattle.definitions.proofs.RowPlaces.{table-length, table-drop}
-use Rattle.definitions.proofs.Shares.{Sound, room-left}
+use Rattle.laws.proofs.First.{first-this, first-later, first-end, first-none, first-holds, holds-first, holds-more, accepted-done, accepted-left}
+use Rattle.laws.proofs.RowPlaces.{table-length, table-drop}
+use Rattle.laws.proofs.Shares.{Sound, room-left}
 use Rattle.offices.specs.Place.{placeIn}
 use Rattle.offices.specs.Refusal.{tableRefusal, decidedOn}
 use Rattle.offices.specs.declared.calls.Decision.{Decision}

@@ -14,10 +14,10 @@ use Rattle.keys.specs.Key.{validKey}
 use Rattle.keys.proofs.Cases.{decide, equal, and-left, and-right, and-both}
 use Rattle.definitions.specs.Rules.{Finding, findingOf, waiversOf, comesBefore, findingsAscend}
 use Rattle.definitions.specs.Offices.{Waiver, waivedBy, Holds, rowsIn, tableOf, rowsOf, rowsAscend, officesKnown, rowKeysValid, isTable}
-use Rattle.definitions.proofs.FindingOrder.{earlier-test}
-use Rattle.definitions.proofs.RowPlaces.{table-length, table-keys}
-use Rattle.definitions.proofs.RowOrder.{After, no-row, next-row, ascend-after, ascend-rows, after-on}
-use Rattle.definitions.proofs.Shares.{Sound, share-own, share-other, share-none, known-all, known-first, known-rest}
+use Rattle.laws.proofs.FindingOrder.{earlier-test}
+use Rattle.laws.proofs.RowPlaces.{table-length, table-keys}
+use Rattle.laws.proofs.RowOrder.{After, no-row, next-row, ascend-after, ascend-rows, after-on}
+use Rattle.laws.proofs.Shares.{Sound, share-own, share-other, share-none, known-all, known-first, known-rest}
 use Rattle.offices.specs.Own.{keysIn, noRows, offsetOf, ownOf}
 use Rattle.offices.specs.declared.own.Own.{Own}
 use Rattle.offices.proofs.Moved.{drop-take}

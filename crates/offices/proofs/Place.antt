@@ -11,8 +11,8 @@ use lib.Dec.{ltb}
 use borrow.Author.Tests.{lt-ltb, le-ltb}
 use Rattle.keys.proofs.Cases.{decide, split}
 use Rattle.definitions.specs.Offices.{Waiver, waiverOf, rowAt, Holds, tableOf, rowBefore, rowsAscend, sameRow, isRow, added, removed}
-use Rattle.definitions.proofs.RowPlaces.{table-length, table-drop, table-end}
-use Rattle.definitions.proofs.RowOrder.{Before, test-before, before-test, before-other, before-or-after, after-on, ascend-after, ascend-rows, not-after}
+use Rattle.laws.proofs.RowPlaces.{table-length, table-drop, table-end}
+use Rattle.laws.proofs.RowOrder.{Before, test-before, before-test, before-other, before-or-after, after-on, ascend-after, ascend-rows, not-after}
 use Rattle.offices.specs.Place.{placeIn}
 
 -- ---- one row

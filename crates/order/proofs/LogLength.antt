@@ -16,7 +16,7 @@ use Rattle.definitions.specs.List.{listOfPicture}
 use Rattle.definitions.specs.Edit.{paintIn, contentOf}
 use Rattle.definitions.specs.Log.{closed, entryOf}
 use Rattle.definitions.specs.Calls.Paint.{gained}
-use Rattle.definitions.proofs.ListOf.{list-agree}
+use Rattle.laws.proofs.ListOf.{list-agree}
 use Rattle.history.specs.History.{Buffers, ofBlock, stepOf, answer, after, run}
 use Rattle.order.specs.Paint.{Paint}
 use Rattle.history.proofs.Content.{gained-entry}

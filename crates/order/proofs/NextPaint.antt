@@ -16,9 +16,9 @@ use Rattle.definitions.specs.Edit.{paintIn}
 use Rattle.definitions.specs.Log.{entryOf}
 use Rattle.definitions.specs.Refusal.{Row, _gives_, first, badKey, badFeature}
 use Rattle.definitions.specs.Calls.Survey.{surveyRefusal}
-use Rattle.definitions.proofs.First.{first-this}
-use Rattle.definitions.proofs.ListOf.{list-agree}
-use Rattle.definitions.proofs.Pixels.{Agree}
+use Rattle.laws.proofs.First.{first-this}
+use Rattle.laws.proofs.ListOf.{list-agree}
+use Rattle.laws.proofs.Pixels.{Agree}
 use Rattle.history.specs.History.{Call, Buffers, answer, pictureLeft}
 use Rattle.order.specs.Paint.{Paint}
 use Rattle.history.specs.Claim.{paintAnswer}

@@ -6,7 +6,7 @@ use Rattle.definitions.specs.Picture.{Picture}
 use Rattle.definitions.specs.List.{listOfPicture}
 use Rattle.definitions.specs.Read.{pictureOf}
 use Rattle.definitions.specs.Calls.Survey.{surveyRefusal}
-use Rattle.definitions.proofs.Pixels.{Agree}
+use Rattle.laws.proofs.Pixels.{Agree}
 use Rattle.history.specs.History.{Call, Buffers, Kept, nothing, built, after, run, kept, longestList, longestLog}
 use Rattle.order.specs.Paint.{Paint}
 use Rattle.history.specs.Claim.{AsBuilt}

@@ -15,7 +15,7 @@ use Rattle.definitions.specs.Edit.{paintIn}
 use Rattle.definitions.specs.Log.{entryOf}
 use Rattle.definitions.specs.Refusal.{Row, _gives_, first, badKey, badFeature}
 use Rattle.definitions.specs.Calls.Survey.{surveyRefusal}
-use Rattle.definitions.proofs.First.{first-this, first-later, first-end}
+use Rattle.laws.proofs.First.{first-this, first-later, first-end}
 use Rattle.history.specs.History.{Call, Buffers, nothing, built, answer, run, kept, pictureLeft}
 use Rattle.order.specs.Paint.{Paint}
 use Rattle.history.specs.Claim.{paintAnswer}

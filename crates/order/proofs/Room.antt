@@ -17,9 +17,9 @@ use Rattle.definitions.specs.Edit.{paintIn}
 use Rattle.definitions.specs.Log.{entryOf, isSound, toRedo, noLog}
 use Rattle.definitions.specs.Refusal.{Row, _gives_, first, badKey, badFeature}
 use Rattle.definitions.specs.Calls.Survey.{surveyRefusal}
-use Rattle.definitions.proofs.First.{first-later, first-end}
-use Rattle.definitions.proofs.ListOf.{list-most}
-use Rattle.definitions.proofs.Pixels.{Agree}
+use Rattle.laws.proofs.First.{first-later, first-end}
+use Rattle.laws.proofs.ListOf.{list-most}
+use Rattle.laws.proofs.Pixels.{Agree}
 use Rattle.history.specs.History.{Call, Buffers, answer, after, run, pictureLeft}
 use Rattle.order.specs.Paint.{Paint}
 use Rattle.history.specs.Claim.{paintAnswer}

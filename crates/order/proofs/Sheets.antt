@@ -17,8 +17,8 @@ use Rattle.definitions.specs.Edit.{paintIn}
 use Rattle.definitions.specs.Log.{noLog}
 use Rattle.definitions.specs.Refusal.{Row, _gives_, badSettings, noList, badKey, badFeature}
 use Rattle.definitions.specs.Calls.Paint.{paintedPicture, painted, gained, paintRefusal, paint}
-use Rattle.definitions.proofs.First.{first-none}
-use Rattle.definitions.proofs.IsList.{same-to}
+use Rattle.laws.proofs.First.{first-none}
+use Rattle.laws.proofs.IsList.{same-to}
 use Rattle.history.specs.History.{Buffers, ofBlock, painting, applied, answer, after, run}
 use Rattle.order.specs.Paint.{Paint}
 use Rattle.history.proofs.Content.{painted-list, painted-summary}

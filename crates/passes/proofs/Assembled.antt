@@ -12,8 +12,8 @@ use Rattle.keys.proofs.Cases.{decide}
 use Rattle.definitions.specs.Picture.{Picture, oneFeature}
 use Rattle.definitions.specs.List.{Record, keysOf, valuesOf, listOf}
 use Rattle.definitions.specs.Buffer.{over, replaced}
-use Rattle.definitions.proofs.Features.{one-pixel}
-use Rattle.definitions.proofs.ListOf.{list-one, list-node}
+use Rattle.laws.proofs.Features.{one-pixel}
+use Rattle.laws.proofs.ListOf.{list-one, list-node}
 use Rattle.step.specs.Step.{renewed}
 use Rattle.step.proofs.Pruned.{renewed-one, renewed-node}
 

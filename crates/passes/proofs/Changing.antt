@@ -18,9 +18,9 @@ use Rattle.definitions.specs.Picture.{Picture, oneFeature}
 use Rattle.definitions.specs.List.{Record, recordOf, keysOf, valuesOf, listOf, listOfPicture}
 use Rattle.definitions.specs.Read.{room, paired, recordsOf}
 use Rattle.definitions.specs.Buffer.{over, replaced}
-use Rattle.definitions.proofs.Features.{one-pixel}
-use Rattle.definitions.proofs.ListOf.{list-one, list-node}
-use Rattle.definitions.proofs.Records.{paired-back, records-length, records-at, records-first, records-keys, records-values, records-over}
+use Rattle.laws.proofs.Features.{one-pixel}
+use Rattle.laws.proofs.ListOf.{list-one, list-node}
+use Rattle.laws.proofs.Records.{paired-back, records-length, records-at, records-first, records-keys, records-values, records-over}
 use Rattle.list.specs.Check.{oneSlot}
 use Rattle.list.specs.Own.{OwnList, shownBy}
 use Rattle.list.proofs.Own.{own-keys, own-values, own-length}

@@ -12,8 +12,8 @@ use Rattle.keys.specs.Under.{here}
 use Rattle.definitions.specs.Picture.{Picture}
 use Rattle.definitions.specs.Bits.{featureOf}
 use Rattle.definitions.specs.List.{Record, recordOf, listOf}
-use Rattle.definitions.proofs.Ascending.{Ascending, next}
-use Rattle.definitions.proofs.ListOf.{list-first, list-ascends}
+use Rattle.laws.proofs.Ascending.{Ascending, next}
+use Rattle.laws.proofs.ListOf.{list-first, list-ascends}
 use Rattle.list.specs.Check.{oneSlot}
 use Rattle.step.specs.Step.{Step, over, plain, pruned, expanded, grown}
 use Rattle.step.proofs.Pruned.{grown-cons, grown-append, grown-pruned}

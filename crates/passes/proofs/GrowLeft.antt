@@ -13,7 +13,7 @@ use Rattle.keys.proofs.Interval.{within}
 use Rattle.keys.proofs.Valid.{valid-block}
 use Rattle.definitions.specs.Bits.{featureOf}
 use Rattle.definitions.specs.List.{Record, recordOf, keysOf, valuesOf}
-use Rattle.definitions.proofs.ListOf.{list-agree}
+use Rattle.laws.proofs.ListOf.{list-agree}
 use Rattle.list.specs.Check.{oneSlot}
 use Rattle.step.specs.declared.deed.Deed.{Deed}
 use Rattle.step.specs.Step.{Step, over, plain, expanded}

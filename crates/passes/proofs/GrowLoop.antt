@@ -11,7 +11,7 @@ use Rattle.passes.proofs.Runs.{take-sets-before}
 use Rattle.definitions.specs.List.{Record, recordOf, keysOf, valuesOf}
 use Rattle.definitions.specs.Read.{paired, recordsOf}
 use Rattle.definitions.specs.Buffer.{over}
-use Rattle.definitions.proofs.Records.{records-length, records-at, records-first}
+use Rattle.laws.proofs.Records.{records-length, records-at, records-first}
 use Rattle.step.specs.Step.{Step, expanded, grown}
 use Rattle.passes.specs.Passes.{WriteAsked, Wrote, GrowAsked}
 use Rattle.keys.specs.Key.{validKey}

@@ -13,10 +13,10 @@ use Rattle.keys.proofs.Valid.{valid-block}
 use Rattle.definitions.specs.Picture.{Picture, oneFeature}
 use Rattle.definitions.specs.Bits.{bitsOf, featureOf}
 use Rattle.definitions.specs.List.{recordOf, keysOf, valuesOf, listOf}
-use Rattle.definitions.proofs.BitsOf.{bits-one}
+use Rattle.laws.proofs.BitsOf.{bits-one}
 use Rattle.keys.proofs.Cases.{decide}
-use Rattle.definitions.proofs.Features.{one-pixel}
-use Rattle.definitions.proofs.ListOf.{list-one, length-several}
+use Rattle.laws.proofs.Features.{one-pixel}
+use Rattle.laws.proofs.ListOf.{list-one, length-several}
 use Rattle.list.specs.Check.{oneSlot}
 use Rattle.list.proofs.OneSlot.{slot-power}
 use Rattle.slices.proofs.Sets.{sets-front}

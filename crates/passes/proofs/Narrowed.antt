@@ -14,10 +14,10 @@ use Rattle.keys.proofs.Cases.{decide}
 use Rattle.definitions.specs.Picture.{Picture, oneFeature}
 use Rattle.definitions.specs.Bits.{bitsOf}
 use Rattle.definitions.specs.List.{Record, recordOf, keysOf, valuesOf, listOf}
-use Rattle.definitions.proofs.Pixels.{Agree, agree-nw, agree-ne, agree-sw, agree-se}
-use Rattle.definitions.proofs.Features.{one-agree, one-pixel}
-use Rattle.definitions.proofs.BitsOf.{bits-agree}
-use Rattle.definitions.proofs.ListOf.{list-agree}
+use Rattle.laws.proofs.Pixels.{Agree, agree-nw, agree-ne, agree-sw, agree-se}
+use Rattle.laws.proofs.Features.{one-agree, one-pixel}
+use Rattle.laws.proofs.BitsOf.{bits-agree}
+use Rattle.laws.proofs.ListOf.{list-agree}
 use Rattle.build.specs.BuildBlocks.{Tallied, Written, Fitting}
 use Rattle.step.specs.Step.{Step, over, renewed}
 use Rattle.step.specs.Deed.{SameBefore}

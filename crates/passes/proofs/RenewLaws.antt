@@ -14,11 +14,11 @@ use Rattle.keys.proofs.Cases.{decide}
 use Rattle.definitions.specs.Picture.{Picture, oneFeature}
 use Rattle.definitions.specs.Bits.{bitsOf, featureOf, unionOfFour}
 use Rattle.definitions.specs.List.{Record, recordOf, keysOf, valuesOf, listOf}
-use Rattle.definitions.proofs.Slots.{same-four}
-use Rattle.definitions.proofs.Features.{one-pixel}
-use Rattle.definitions.proofs.FeatureOf.{feature-of-power}
-use Rattle.definitions.proofs.BitsOf.{bits-one, bits-agree, bits-suc, power-one}
-use Rattle.definitions.proofs.ListOf.{list-one, list-node, list-first, length-node}
+use Rattle.laws.proofs.Slots.{same-four}
+use Rattle.laws.proofs.Features.{one-pixel}
+use Rattle.laws.proofs.FeatureOf.{feature-of-power}
+use Rattle.laws.proofs.BitsOf.{bits-one, bits-agree, bits-suc, power-one}
+use Rattle.laws.proofs.ListOf.{list-one, list-node, list-first, length-node}
 use Rattle.list.specs.Check.{oneSlot}
 use Rattle.list.proofs.OneSlot.{slot-feature, slot-power}
 use Rattle.step.specs.Step.{Step, over, plain, renewed}

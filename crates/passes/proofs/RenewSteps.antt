@@ -12,8 +12,8 @@ use Rattle.keys.proofs.Under.{under-trans}
 use Rattle.definitions.specs.Picture.{Picture, oneFeature}
 use Rattle.definitions.specs.Bits.{bitsOf, featureOf, unionOfFour}
 use Rattle.definitions.specs.List.{valuesOf, listOf}
-use Rattle.definitions.proofs.Features.{one-pixel}
-use Rattle.definitions.proofs.ListOf.{list-first}
+use Rattle.laws.proofs.Features.{one-pixel}
+use Rattle.laws.proofs.ListOf.{list-first}
 use Rattle.list.specs.Check.{oneSlot}
 use Rattle.list.proofs.OneSlot.{slot-feature}
 use Rattle.step.specs.Step.{Step, over, plain, renewed}

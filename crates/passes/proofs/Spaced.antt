@@ -14,7 +14,7 @@ use Rattle.keys.proofs.Valid.{block-valid}
 use Rattle.definitions.specs.Picture.{Picture, oneFeature}
 use Rattle.definitions.specs.Bits.{bitsOf}
 use Rattle.definitions.specs.List.{Record, recordOf}
-use Rattle.definitions.proofs.Features.{one-pixel}
+use Rattle.laws.proofs.Features.{one-pixel}
 use Rattle.list.specs.Check.{oneSlot}
 use Rattle.list.proofs.OneSlot.{slot-feature}
 use Rattle.step.specs.Step.{pruned}

@@ -13,7 +13,7 @@ use borrow.Author.Tests.{lt-ltb, le-ltb}
 use Rattle.keys.specs.Key.{heightOf}
 use Rattle.definitions.specs.List.{Record, recordOf}
 use Rattle.definitions.specs.Read.{paired, recordsOf}
-use Rattle.definitions.proofs.Records.{records-length, records-at}
+use Rattle.laws.proofs.Records.{records-length, records-at}
 use Rattle.list.specs.Check.{oneSlot}
 use Rattle.step.specs.Step.{squeezed}
 use Rattle.passes.specs.Passes.{There, IsSqueezed}

@@ -16,8 +16,8 @@ use Rattle.keys.proofs.Valid.{block-valid}
 use Rattle.definitions.specs.Picture.{Picture, oneFeature}
 use Rattle.definitions.specs.Bits.{bitsOf}
 use Rattle.definitions.specs.List.{Record, recordOf, keysOf, listOf}
-use Rattle.definitions.proofs.Features.{one-pixel}
-use Rattle.definitions.proofs.ListOf.{list-one, list-node, list-some, length-node}
+use Rattle.laws.proofs.Features.{one-pixel}
+use Rattle.laws.proofs.ListOf.{list-one, list-node, list-some, length-node}
 use Rattle.list.specs.Check.{oneSlot}
 use Rattle.list.proofs.OneSlot.{slot-feature}
 use Rattle.step.specs.Step.{Step, over, renewed, squeezed, pruned, expanded, grown}

@@ -12,9 +12,9 @@ use Rattle.keys.proofs.Under.{under-trans}
 use Rattle.definitions.specs.Picture.{Picture, oneFeature}
 use Rattle.definitions.specs.Bits.{bitsOf, featureOf, unionOfFour}
 use Rattle.definitions.specs.List.{valuesOf, listOf}
-use Rattle.definitions.proofs.BitsOf.{bits-one, bits-agree}
-use Rattle.definitions.proofs.FeatureOf.{feature-of-power}
-use Rattle.definitions.proofs.ListOf.{list-one, list-agree, length-node}
+use Rattle.laws.proofs.BitsOf.{bits-one, bits-agree}
+use Rattle.laws.proofs.FeatureOf.{feature-of-power}
+use Rattle.laws.proofs.ListOf.{list-one, list-agree, length-node}
 use Rattle.list.specs.Check.{oneSlot}
 use Rattle.list.proofs.OneSlot.{slot-feature}
 use Rattle.build.specs.BuildBlocks.{Tallied, Joined}

@@ -14,9 +14,9 @@ use Rattle.definitions.specs.List.{listOfRaster}
 use Rattle.definitions.specs.Read.{recordsOf, pictureOf}
 use Rattle.definitions.specs.Calls.Survey.{surveyRefusal, survey, surveyKeys, surveyBits}
 use Rattle.definitions.specs.Calls.Raster.{rasterRefusal, rasterPixels}
-use Rattle.definitions.proofs.ListOf.{list-agree}
-use Rattle.definitions.proofs.ReadBack.{picture-back}
-use Rattle.definitions.proofs.RasterOf.{rasterOf, rows-at, raster-length, raster-back, length-to}
+use Rattle.laws.proofs.ListOf.{list-agree}
+use Rattle.laws.proofs.ReadBack.{picture-back}
+use Rattle.laws.proofs.RasterOf.{rasterOf, rows-at, raster-length, raster-back, length-to}
 use Rattle.list.proofs.Accepted.{accepted}
 use Rattle.list.proofs.Tests.{raster-passed}
 use Rattle.history.proofs.BuildStep.{build-passed, build-records}

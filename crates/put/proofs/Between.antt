@@ -10,8 +10,8 @@ use Rattle.definitions.specs.Picture.{Picture, oneFeature}
 use Rattle.definitions.specs.Bits.{bitsOf}
 use Rattle.definitions.specs.List.{Record, recordOf, listOf, keysOf}
 use Rattle.definitions.specs.Standing.{placeOf}
-use Rattle.definitions.proofs.Ascending.{Ascending, ascending-append, widen, ascending-rest}
-use Rattle.definitions.proofs.ListOf.{list-first, list-one, list-ascends}
+use Rattle.laws.proofs.Ascending.{Ascending, ascending-append, widen, ascending-rest}
+use Rattle.laws.proofs.ListOf.{list-first, list-one, list-ascends}
 use Rattle.put.specs.Family.{bitsAt}
 use Rattle.put.proofs.Places.{place-cut, bits-cut, key-cut}
 

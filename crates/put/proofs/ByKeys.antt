@@ -4,8 +4,8 @@ use mathlib.Core.Path.{_≡_, refl, _∙_, ap, ap₂}
 use mathlib.Core.List.{List, [], _∷_, _++_, map, map-append}
 use lib.ListN.{take, drop}
 use Rattle.definitions.specs.List.{Record, keysOf, valuesOf}
-use Rattle.definitions.proofs.Ascending.{Ascending, none, next}
-use Rattle.definitions.proofs.AscendingKeys.{AscendingKeys, no-key, key}
+use Rattle.laws.proofs.Ascending.{Ascending, none, next}
+use Rattle.laws.proofs.AscendingKeys.{AscendingKeys, no-key, key}
 use Rattle.put.specs.Put.{inserted, exchanged}
 use Rattle.put.specs.declared.plan.Plan.{Plan}
 

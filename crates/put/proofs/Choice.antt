@@ -16,9 +16,9 @@ use Rattle.keys.proofs.Pixel.{InKeys}
 use Rattle.definitions.specs.Picture.{Picture, oneFeature}
 use Rattle.definitions.specs.Bits.{bitsOf}
 use Rattle.definitions.specs.List.{Record, recordOf, listOf}
-use Rattle.definitions.proofs.Features.{one-pixel}
-use Rattle.definitions.proofs.BitsOf.{bits-one}
-use Rattle.definitions.proofs.ListOf.{list-first, list-one, length-several}
+use Rattle.laws.proofs.Features.{one-pixel}
+use Rattle.laws.proofs.BitsOf.{bits-one}
+use Rattle.laws.proofs.ListOf.{list-first, list-one, length-several}
 use Rattle.put.specs.Family.{around}
 use Rattle.put.specs.Climb.{climb}
 use Rattle.put.specs.Put.{isLeaf, firstBits, topFor, topOf, filling}

@@ -13,9 +13,9 @@ use Rattle.keys.proofs.Pixel.{InKeys}
 use Rattle.definitions.specs.Picture.{Picture, oneFeature}
 use Rattle.definitions.specs.Bits.{bitsOf}
 use Rattle.definitions.specs.List.{Record, listOf}
-use Rattle.definitions.proofs.Within.{first-within, under-within}
-use Rattle.definitions.proofs.Features.{one-to}
-use Rattle.definitions.proofs.BitsOf.{bits-one, power-one}
+use Rattle.laws.proofs.Within.{first-within, under-within}
+use Rattle.laws.proofs.Features.{one-to}
+use Rattle.laws.proofs.BitsOf.{bits-one, power-one}
 use Rattle.put.specs.Family.{parentBits}
 use Rattle.put.specs.Climb.{climb}
 use Rattle.put.proofs.Way.{Way, there, up, under-of, steps, steps-there, steps-up}

@@ -10,8 +10,8 @@ use Rattle.keys.proofs.Under.{quadrant-under}
 use Rattle.definitions.specs.Picture.{Picture, oneFeature}
 use Rattle.definitions.specs.Bits.{bitsOf}
 use Rattle.definitions.specs.List.{Record, recordOf, listOf}
-use Rattle.definitions.proofs.Features.{several-above}
-use Rattle.definitions.proofs.Ascending.{Ascending, none, next, ascending-append}
+use Rattle.laws.proofs.Features.{several-above}
+use Rattle.laws.proofs.Ascending.{Ascending, none, next, ascending-append}
 use Rattle.put.proofs.Way.{Way, there, up, under-of}
 use Rattle.put.proofs.Outside.{Outside, outside-up}
 use Rattle.put.proofs.Siblings.{preceding, following, four-split, node-four, preceding-ascends, following-ascends, following-same}

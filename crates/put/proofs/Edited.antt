@@ -13,8 +13,8 @@ use Rattle.definitions.specs.Picture.{Picture}
 use Rattle.definitions.specs.Bits.{bitsOf}
 use Rattle.definitions.specs.List.{Record, recordOf, listOf, listOfPicture, keysOf, valuesOf}
 use Rattle.definitions.specs.Edit.{put, contentOf}
-use Rattle.definitions.proofs.ListOf.{list-first, list-ascends}
-use Rattle.definitions.proofs.Ascending.{Ascending, widen}
+use Rattle.laws.proofs.ListOf.{list-first, list-ascends}
+use Rattle.laws.proofs.Ascending.{Ascending, widen}
 use Rattle.put.specs.Renew.{renew}
 use Rattle.put.specs.Put.{planOf, lengthAfter, exchanged, renewed, edited}
 use Rattle.put.specs.declared.plan.Plan.{Plan}

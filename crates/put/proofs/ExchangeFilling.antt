@@ -11,7 +11,7 @@ use borrow.Author.Tests.{eq-eqb, ne-eqb}
 use Rattle.keys.proofs.Cases.{equal}
 use Rattle.definitions.specs.List.{Record, recordOf, keysOf, valuesOf}
 use Rattle.definitions.specs.Read.{room, recordsOf}
-use Rattle.definitions.proofs.Records.{records-length, value-at}
+use Rattle.laws.proofs.Records.{records-length, value-at}
 use Rattle.list.proofs.Among.{keys-of-records, values-of-records}
 use Rattle.put.specs.Family.{around}
 use Rattle.put.specs.Plant.{digitAt, frontAt, backAt, front, back}

@@ -10,7 +10,7 @@ use lib.Bits.{bitOr}
 use Rattle.definitions.specs.List.{Record, keysOf, valuesOf}
 use Rattle.definitions.specs.Read.{room, recordsOf}
 use Rattle.definitions.specs.Buffer.{over}
-use Rattle.definitions.proofs.Records.{records-length, value-at}
+use Rattle.laws.proofs.Records.{records-length, value-at}
 use Rattle.list.proofs.Among.{keys-of-records, values-of-records}
 use Rattle.put.specs.Plant.{front, back}
 use Rattle.put.specs.Put.{filling, inserted, exchanged}

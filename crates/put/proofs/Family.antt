@@ -17,8 +17,8 @@ use Rattle.keys.proofs.Pixel.{InKeys}
 use Rattle.definitions.specs.Picture.{Picture}
 use Rattle.definitions.specs.Bits.{unionOfFour, bitsOf}
 use Rattle.definitions.specs.List.{Record, listOf}
-use Rattle.definitions.proofs.Slots.{same-four}
-use Rattle.definitions.proofs.BitsOf.{bits-suc, bits-agree}
+use Rattle.laws.proofs.Slots.{same-four}
+use Rattle.laws.proofs.BitsOf.{bits-suc, bits-agree}
 use Rattle.put.specs.Family.{around, bitsAt, childBits, parentBits}
 use Rattle.put.proofs.Way.{Way, up, under-of}
 use Rattle.put.proofs.Outside.{Outside, agree-sibling}

@@ -15,7 +15,7 @@ use Rattle.definitions.specs.Bits.{unionOfFour}
 use Rattle.definitions.specs.List.{Record}
 use Rattle.definitions.specs.Read.{recordsOf}
 use Rattle.definitions.specs.Standing.{placeOf}
-use Rattle.definitions.proofs.Slots.{same-four}
+use Rattle.laws.proofs.Slots.{same-four}
 use Rattle.list.specs.Sorted.{Sorted}
 use Rattle.list.specs.Among.{placeAmong}
 use Rattle.list.proofs.Among.{place-below, values-of-records, place-among}

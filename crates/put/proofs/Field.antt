@@ -13,11 +13,11 @@ use Rattle.keys.proofs.Pixel.{InKeys}
 use Rattle.definitions.specs.Picture.{Picture, oneFeature}
 use Rattle.definitions.specs.Bits.{bitsOf}
 use Rattle.definitions.specs.List.{Record, recordOf, listOf}
-use Rattle.definitions.proofs.Within.{Every, first-within, under-within}
-use Rattle.definitions.proofs.Features.{one-to, one-from}
-use Rattle.definitions.proofs.Slots.{or-assoc}
-use Rattle.definitions.proofs.BitsOf.{bits-one}
-use Rattle.definitions.proofs.ListOf.{list-one}
+use Rattle.laws.proofs.Within.{Every, first-within, under-within}
+use Rattle.laws.proofs.Features.{one-to, one-from}
+use Rattle.laws.proofs.Slots.{or-assoc}
+use Rattle.laws.proofs.BitsOf.{bits-one}
+use Rattle.laws.proofs.ListOf.{list-one}
 use Rattle.put.specs.Plant.{digitAt, leaves, frontAt, backAt, front, back}
 use Rattle.put.proofs.Way.{Way, there, up, under-of, steps, steps-there, steps-up}
 use Rattle.put.proofs.Outside.{Outside, outside-up, agree-sibling}

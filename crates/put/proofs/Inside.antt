@@ -12,8 +12,8 @@ use Rattle.keys.proofs.Interval.{within, one-block}
 use Rattle.keys.proofs.Pixel.{InSquare}
 use Rattle.definitions.specs.Picture.{Picture, oneFeature}
 use Rattle.definitions.specs.List.{listOf}
-use Rattle.definitions.proofs.Within.{Every, Somewhere, under-within}
-use Rattle.definitions.proofs.Features.{one-to, one-from}
+use Rattle.laws.proofs.Within.{Every, Somewhere, under-within}
+use Rattle.laws.proofs.Features.{one-to, one-from}
 use Rattle.put.proofs.Way.{Way, under-of}
 use Rattle.put.proofs.Outside.{Outside}
 use Rattle.put.proofs.Context.{Open}

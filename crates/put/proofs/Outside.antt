@@ -10,8 +10,8 @@ use Rattle.keys.proofs.Interval.{within, apart}
 use Rattle.keys.proofs.Pixel.{InSquare, InKeys, inside}
 use Rattle.keys.proofs.Parent.{quadrant-of}
 use Rattle.definitions.specs.Picture.{Picture}
-use Rattle.definitions.proofs.Within.{under-within}
-use Rattle.definitions.proofs.Pixels.{Agree}
+use Rattle.laws.proofs.Within.{under-within}
+use Rattle.laws.proofs.Pixels.{Agree}
 
 -- the pictures are equal at every pixel that does not lie in the block
 abbrev pub Outside : Picture → Picture → ℕ → ℕ → ℕ → Type 0

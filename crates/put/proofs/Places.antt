@@ -15,7 +15,7 @@ use Rattle.keys.proofs.Cases.{decide}
 use Rattle.keys.specs.Block.{inInterval}
 use Rattle.definitions.specs.List.{Record, recordOf, keysOf, valuesOf}
 use Rattle.definitions.specs.Standing.{upTo, placeOf, recordsIn}
-use Rattle.definitions.proofs.Ascending.{Ascending, none, next, ascending-bounds}
+use Rattle.laws.proofs.Ascending.{Ascending, none, next, ascending-bounds}
 use Rattle.put.specs.Family.{bitsAt}
 use Rattle.put.specs.Renew.{setBits}
 

@@ -15,8 +15,8 @@ use Rattle.keys.proofs.Pixel.{InKeys}
 use Rattle.definitions.specs.Picture.{Picture, oneFeature}
 use Rattle.definitions.specs.Bits.{unionOfFour, bitsOf}
 use Rattle.definitions.specs.List.{recordOf, listOf}
-use Rattle.definitions.proofs.Slots.{or-assoc, same-four}
-use Rattle.definitions.proofs.BitsOf.{bits-suc}
+use Rattle.laws.proofs.Slots.{or-assoc, same-four}
+use Rattle.laws.proofs.BitsOf.{bits-suc}
 use Rattle.put.specs.Plant.{digitAt, leaves, frontAt, backAt}
 use Rattle.put.proofs.Siblings.{preceding, following, four-split, node-four}
 use Rattle.put.proofs.Family.{around-is, keys-up}

@@ -11,9 +11,9 @@ use Rattle.keys.proofs.Valid.{valid-block}
 use Rattle.keys.proofs.InBlock.{inBlock-iff}
 use Rattle.definitions.specs.Picture.{Picture}
 use Rattle.definitions.specs.Edit.{put, contentOf}
-use Rattle.definitions.proofs.Pixels.{Agree}
-use Rattle.definitions.proofs.ListOf.{list-agree}
-use Rattle.definitions.proofs.Put.{put-in, put-out}
+use Rattle.laws.proofs.Pixels.{Agree}
+use Rattle.laws.proofs.ListOf.{list-agree}
+use Rattle.laws.proofs.Put.{put-in, put-out}
 use Rattle.put.proofs.Outside.{Outside}
 
 -- inside the block put agrees with the new picture

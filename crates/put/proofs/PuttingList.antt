@@ -14,10 +14,10 @@ use Rattle.definitions.specs.List.{Record, keysOf, valuesOf}
 use Rattle.definitions.specs.Read.{room, recordsOf}
 use Rattle.definitions.specs.Edit.{contentOf}
 use Rattle.definitions.specs.Buffer.{over}
-use Rattle.definitions.proofs.Ascending.{Ascending}
-use Rattle.definitions.proofs.ListOf.{list-some}
-use Rattle.definitions.proofs.Records.{records-length, records-over}
-use Rattle.definitions.proofs.AscendingKeys.{ascending-places}
+use Rattle.laws.proofs.Ascending.{Ascending}
+use Rattle.laws.proofs.ListOf.{list-some}
+use Rattle.laws.proofs.Records.{records-length, records-over}
+use Rattle.laws.proofs.AscendingKeys.{ascending-places}
 use Rattle.list.specs.Sorted.{Sorted}
 use Rattle.list.specs.Own.{shownBy}
 use Rattle.put.specs.Renew.{renew}

@@ -11,8 +11,8 @@ use Rattle.keys.proofs.Cases.{decide}
 use Rattle.definitions.specs.Picture.{Picture}
 use Rattle.definitions.specs.List.{Record, listOfPicture, keysOf}
 use Rattle.definitions.specs.Edit.{put, contentOf}
-use Rattle.definitions.proofs.Ascending.{Ascending}
-use Rattle.definitions.proofs.ListOf.{list-some}
+use Rattle.laws.proofs.Ascending.{Ascending}
+use Rattle.laws.proofs.ListOf.{list-some}
 use Rattle.put.specs.Put.{isLeaf, firstBits, topFor, topOf, planAt, planOf, lengthAfter, exchanged}
 use Rattle.put.specs.declared.plan.Plan.{Plan}
 use Rattle.put.proofs.Bounds.{climb-bounds}

@@ -12,8 +12,8 @@ use Rattle.definitions.specs.Picture.{Picture, oneFeature}
 use Rattle.definitions.specs.Bits.{bitsOf}
 use Rattle.definitions.specs.List.{Record, recordOf, listOf}
 use Rattle.definitions.specs.Standing.{placeOf}
-use Rattle.definitions.proofs.Ascending.{Ascending, next, ascending-append}
-use Rattle.definitions.proofs.ListOf.{list-ascends}
+use Rattle.laws.proofs.Ascending.{Ascending, next, ascending-append}
+use Rattle.laws.proofs.ListOf.{list-ascends}
 use Rattle.put.specs.Family.{around, bitsAt, parentBits}
 use Rattle.put.specs.Renew.{setBits, renew}
 use Rattle.put.proofs.Way.{Way, there, up, under-of, steps, steps-there, steps-up}

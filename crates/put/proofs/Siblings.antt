@@ -11,8 +11,8 @@ use Rattle.keys.specs.Under.{Block, Quadrant, is-nw, is-ne, is-sw, is-se}
 use Rattle.definitions.specs.Picture.{Picture, oneFeature}
 use Rattle.definitions.specs.Bits.{bitsOf}
 use Rattle.definitions.specs.List.{Record, recordOf, listOf}
-use Rattle.definitions.proofs.Ascending.{Ascending, none, widen, ascending-append}
-use Rattle.definitions.proofs.ListOf.{list-node, list-ascends, list-agree}
+use Rattle.laws.proofs.Ascending.{Ascending, none, widen, ascending-append}
+use Rattle.laws.proofs.ListOf.{list-node, list-ascends, list-agree}
 use Rattle.put.proofs.Outside.{Outside, agree-sibling}
 
 -- the lists of the four quadrants, one after the other

@@ -17,7 +17,7 @@ use Rattle.definitions.specs.Picture.{Picture, oneFeature}
 use Rattle.definitions.specs.Bits.{bitsOf}
 use Rattle.definitions.specs.List.{Record, listOf, keysOf, valuesOf}
 use Rattle.definitions.specs.Standing.{placeOf, partLength}
-use Rattle.definitions.proofs.ListOf.{list-one}
+use Rattle.laws.proofs.ListOf.{list-one}
 use Rattle.put.specs.Family.{around, bitsAt}
 use Rattle.put.specs.Plant.{front, back}
 use Rattle.put.specs.Put.{firstBits, planAt, planOf, filling, inserted}

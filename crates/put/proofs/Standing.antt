@@ -17,10 +17,10 @@ use Rattle.definitions.specs.Picture.{Picture, oneFeature}
 use Rattle.definitions.specs.Bits.{bitsOf}
 use Rattle.definitions.specs.List.{listOf, keysOf}
 use Rattle.definitions.specs.Standing.{placeOf, isListed, recordsIn, partLength}
-use Rattle.definitions.proofs.Within.{first-within, under-within}
-use Rattle.definitions.proofs.Features.{one-to, one-under, several-above}
-use Rattle.definitions.proofs.BitsOf.{bits-one}
-use Rattle.definitions.proofs.ListOf.{list-ascends}
+use Rattle.laws.proofs.Within.{first-within, under-within}
+use Rattle.laws.proofs.Features.{one-to, one-under, several-above}
+use Rattle.laws.proofs.BitsOf.{bits-one}
+use Rattle.laws.proofs.ListOf.{list-ascends}
 use Rattle.put.specs.Family.{bitsAt}
 use Rattle.put.proofs.Way.{Way, there, up, under-of}
 use Rattle.put.proofs.Context.{before, after, Open, spliced, context, before-ascends, after-ascends}

@@ -19,7 +19,7 @@ use Rattle.definitions.specs.Calls.Raster.{rasterRefusal, raster, rasterPixels}
 use Rattle.definitions.specs.declared.Standing.{Standing}
 use Rattle.definitions.specs.declared.Standing.the-variants.{Listed, Inside}
 use Rattle.definitions.specs.declared.Span.{Span}
-use Rattle.definitions.proofs.First.{accepted-done, accepted-left}
+use Rattle.laws.proofs.First.{accepted-done, accepted-left}
 use Rattle.list.specs.Own.{BlockIn, shownBy}
 use Rattle.list.specs.Among.{keysBelow}
 use Rattle.list.proofs.Count.{below-up-to}

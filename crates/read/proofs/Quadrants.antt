@@ -10,7 +10,7 @@ use Rattle.keys.specs.Key.{childKey}
 use Rattle.definitions.specs.Picture.{Picture, oneFeature}
 use Rattle.definitions.specs.Bits.{bitsOf}
 use Rattle.definitions.specs.List.{Record, recordOf, valuesOf, listOf}
-use Rattle.definitions.proofs.ListOf.{list-node}
+use Rattle.laws.proofs.ListOf.{list-node}
 use Rattle.read.specs.Fill.{rectanglePainted, quadrantRow, quadrantColumn}
 use Rattle.read.proofs.Rectangle.{four-painted}
 

@@ -9,7 +9,7 @@ use lib.ListN.{length, getD}
 use lib.Seq.{ext-getD}
 use Rattle.definitions.specs.Picture.{Picture}
 use Rattle.definitions.specs.Window.{featuresOfRows}
-use Rattle.definitions.proofs.RasterOf.{rows-length, rows-at}
+use Rattle.laws.proofs.RasterOf.{rows-length, rows-at}
 use Rattle.read.specs.Fill.{inRectangle, rectanglePainted}
 use Rattle.read.proofs.Painted.{painted-at}
 use Rattle.read.proofs.Rectangle.{true-rectangle, rectangle-length}

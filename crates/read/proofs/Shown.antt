@@ -13,10 +13,10 @@ use Rattle.keys.proofs.Cases.{decide}
 use Rattle.definitions.specs.Picture.{Picture, oneFeature}
 use Rattle.definitions.specs.Bits.{bitsOf, featureOf}
 use Rattle.definitions.specs.List.{valuesOf, listOf}
-use Rattle.definitions.proofs.Features.{one-to, one-pixel}
-use Rattle.definitions.proofs.FeatureOf.{feature-of-power}
-use Rattle.definitions.proofs.BitsOf.{bits-one, power-one}
-use Rattle.definitions.proofs.ListOf.{list-first, list-one}
+use Rattle.laws.proofs.Features.{one-to, one-pixel}
+use Rattle.laws.proofs.FeatureOf.{feature-of-power}
+use Rattle.laws.proofs.BitsOf.{bits-one, power-one}
+use Rattle.laws.proofs.ListOf.{list-first, list-one}
 use Rattle.list.specs.Check.{oneSlot}
 use Rattle.read.specs.Fill.{rectanglePainted, Shows, ShowsNode, BlockFilled, Filled}
 use Rattle.list.proofs.OneSlot.{slot-power, power-slot}

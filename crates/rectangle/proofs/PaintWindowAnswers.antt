@@ -13,7 +13,7 @@ use Rattle.definitions.specs.Refusal.{accepted}
 use Rattle.definitions.specs.declared.Window.{Window}
 use Rattle.definitions.specs.Calls.Paint.{logged}
 use Rattle.definitions.specs.Calls.PaintWindow.{filledPicture, filled, groupGained, paintWindowRefusal, paintWindow, paintWindowKeys, paintWindowBits, paintWindowSummary, paintWindowLogKeys, paintWindowLogValues}
-use Rattle.definitions.proofs.First.{accepted-left}
+use Rattle.laws.proofs.First.{accepted-left}
 use Rattle.put.specs.Putting.{Replaced}
 use Rattle.edit.specs.PaintCall.{Relogged}
 use Rattle.rectangle.specs.PaintWindowCall.{WindowPainted}

@@ -19,10 +19,10 @@ use Rattle.definitions.specs.Window.{inWindow, isCovered, largestFrom}
 use Rattle.definitions.specs.declared.Window.{Window}
 use Rattle.definitions.specs.Edit.{contentOf}
 use Rattle.definitions.specs.Log.{closingPlaces, entryOf, entriesOf}
-use Rattle.definitions.proofs.Within.{Every, first-within, every-nw, every-ne, every-sw, every-se}
-use Rattle.definitions.proofs.Pixels.{every-to, every-from}
-use Rattle.definitions.proofs.LargestBlocks.{covered-one, covered-none, covered-part}
-use Rattle.definitions.proofs.LastEntry.{length-closed}
+use Rattle.laws.proofs.Within.{Every, first-within, every-nw, every-ne, every-sw, every-se}
+use Rattle.laws.proofs.Pixels.{every-to, every-from}
+use Rattle.laws.proofs.LargestBlocks.{covered-one, covered-none, covered-part}
+use Rattle.laws.proofs.LastEntry.{length-closed}
 use Rattle.build.proofs.CountBlock.{list-five}
 use Rattle.step.specs.Quarters.{quartersOf}
 use Rattle.step.specs.declared.quarters.Quarters.{Quarters}

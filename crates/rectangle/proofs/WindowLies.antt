@@ -10,13 +10,13 @@ use Rattle.keys.proofs.Powers.{two-le, two-pos}
 use Rattle.keys.specs.Under.{Block}
 use Rattle.definitions.specs.Window.{inWindow, isCovered}
 use Rattle.definitions.specs.declared.Window.{Window}
-use Rattle.definitions.proofs.Pixels.{every-to, every-from}
-use Rattle.definitions.proofs.WindowScan.{inside-window}
+use Rattle.laws.proofs.Pixels.{every-to, every-from}
+use Rattle.laws.proofs.WindowScan.{inside-window}
 use Rattle.window.specs.Walk.{Small, isWithin, isApart}
 use Rattle.window.specs.declared.walk.Spot.{Spot}
 use Rattle.window.proofs.Lies.{apart-pixel, within-pixel, not-apart, inside-within}
 use Rattle.rectangle.specs.WindowLogging.{Placed, Lies, Coverable}
-use Rattle.definitions.proofs.LargestBlocks.{covered-one}
+use Rattle.laws.proofs.LargestBlocks.{covered-one}
 use Rattle.rectangle.proofs.WindowEntries.{largest-none}
 
 abbrev pub spotAt : (row column side : ℕ) → Spot

@@ -12,7 +12,7 @@ use Rattle.keys.proofs.Cases.{decide, and-left, and-right}
 use Rattle.definitions.specs.Picture.{Picture}
 use Rattle.definitions.specs.Rules.{Finding, findingsOf, allFindings, waiversOf, isHidden, liveOf, hiddenCount}
 use Rattle.definitions.specs.declared.Rule.{Rule}
-use Rattle.definitions.proofs.Waivers.{live-none, live-hidden, live-kept}
+use Rattle.laws.proofs.Waivers.{live-none, live-hidden, live-kept}
 use Rattle.window.specs.Gather.{written}
 use Rattle.window.proofs.Written.{written-none, written-append}
 use Rattle.rules.specs.declared.state.State.{State}

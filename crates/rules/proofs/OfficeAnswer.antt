@@ -17,7 +17,7 @@ use Rattle.definitions.specs.Offices.{Waiver, badOffice, tableOf, rowsOf, rowKe
 use Rattle.definitions.specs.Calls.Findings.{refusalWith, foundWith, idsWith, keysWith, findings, findingsIds, findingsKeys}
 use Rattle.definitions.specs.declared.Rule.{Rule}
 use Rattle.definitions.specs.declared.Found.{Found}
-use Rattle.definitions.proofs.Shares.{share-own, share-other, share-none}
+use Rattle.laws.proofs.Shares.{share-own, share-other, share-none}
 use Rattle.offices.specs.Own.{noRows, offsetOf, ownOf}
 use Rattle.offices.specs.declared.own.Own.{Own}
 use Rattle.offices.proofs.OwnRows.{partOf, own-part, own-within, own-ascend, own-no-table, own-bad-key, own-found, rows-hold, rows-sound}

@@ -15,8 +15,8 @@ use Rattle.definitions.specs.Picture.{Picture}
 use Rattle.definitions.specs.Window.{isWindow, selectIn}
 use Rattle.definitions.specs.Rules.{findingOf, windowOfRule, findingsOf, waiversOf, liveOf, isRule}
 use Rattle.definitions.specs.declared.Rule.{Rule}
-use Rattle.definitions.proofs.SelectAscends.{select-in-ascends}
-use Rattle.definitions.proofs.Waivers.{live-and-hidden}
+use Rattle.laws.proofs.SelectAscends.{select-in-ascends}
+use Rattle.laws.proofs.Waivers.{live-and-hidden}
 use Rattle.window.proofs.Lies.{accepted}
 use Rattle.window.proofs.Lower.{ascending-length}
 use Rattle.window.proofs.Written.{length-written}

@@ -18,7 +18,7 @@ use Rattle.definitions.specs.Refusal.{Row, _gives_, first, badSettings, noList}
 use Rattle.definitions.specs.Calls.Findings.{liveIn, hiddenIn, refusalWith, foundWith, idsWith, keysWith}
 use Rattle.definitions.specs.declared.Rule.{Rule}
 use Rattle.definitions.specs.declared.Found.{Found}
-use Rattle.definitions.proofs.First.{first-this, first-later, first-end, accepted-done, accepted-left}
+use Rattle.laws.proofs.First.{first-this, first-later, first-end, accepted-done, accepted-left}
 use Rattle.rules.specs.Run.{keysValid, waiversGood}
 use Rattle.rules.proofs.GoodRules.{goodFrom, bad-rules}
 use Rattle.rules.proofs.KnownIds.{AllKnown}

@@ -13,9 +13,9 @@ use Rattle.keys.proofs.Cases.{decide, split, and-left, and-right}
 use Rattle.definitions.specs.Read.{room}
 use Rattle.definitions.specs.Rules.{Finding, findingOf, waiversOf, liveOf, hiddenCount, findingsAscend}
 use Rattle.definitions.specs.Covered.{waivedKeys, isCovered}
-use Rattle.definitions.proofs.FindingOrder.{InOrder, no-finding, finding, ascend-rest, ascend-order}
-use Rattle.definitions.proofs.Hidden.{hidden-covered}
-use Rattle.definitions.proofs.Waivers.{live-hidden, live-kept, live-none, live-and-hidden}
+use Rattle.laws.proofs.FindingOrder.{InOrder, no-finding, finding, ascend-rest, ascend-order}
+use Rattle.laws.proofs.Hidden.{hidden-covered}
+use Rattle.laws.proofs.Waivers.{live-hidden, live-kept, live-none, live-and-hidden}
 use Rattle.rules.specs.Run.{waiversBelow, keysValid, waiversGood}
 use Rattle.sift.specs.Covering.{Waived, none, one}
 use Rattle.sift.specs.Sift.{notWaived}

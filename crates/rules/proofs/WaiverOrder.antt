@@ -6,7 +6,7 @@ use mathlib.Core.List.{List}
 use native.Mathlib.Omega.{arith}
 use Rattle.definitions.specs.Read.{room}
 use Rattle.definitions.specs.Rules.{findingOf, waiversOf, findingsAscend}
-use Rattle.definitions.proofs.FindingOrder.{Earlier, ascend-order, order-places}
+use Rattle.laws.proofs.FindingOrder.{Earlier, ascend-order, order-places}
 use Rattle.rules.proofs.WaiverPlaces.{waiverAt, waivers-length, waivers-at}
 
 -- each comes before every later one

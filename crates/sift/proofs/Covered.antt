@@ -17,8 +17,8 @@ use Rattle.keys.proofs.Valid.{valid-block, block-valid}
 use Rattle.keys.proofs.Pixel.{InSquare, inside}
 use Rattle.keys.proofs.InBlock.{inInterval-iff, inBlock-inInterval, in-raster}
 use Rattle.definitions.specs.Picture.{everyPixel}
-use Rattle.definitions.proofs.Within.{first-within}
-use Rattle.definitions.proofs.Pixels.{every-to, every-from}
+use Rattle.laws.proofs.Within.{first-within}
+use Rattle.laws.proofs.Pixels.{every-to, every-from}
 use Rattle.definitions.specs.Covered.{inSome, isCovered}
 use Rattle.sift.specs.Covering.{endOf, firstPixel, nextOver, nextOf, further, furthestOf, startOf, Waived, none, one, Before, no-waiver, waiver}
 use Rattle.sift.proofs.FirstPixel.{first-from, first-at, first-past, past-end, PixelAt, lands}

@@ -15,8 +15,8 @@ use Rattle.keys.proofs.Valid.{valid-block, block-valid}
 use Rattle.definitions.specs.Picture.{Picture, oneFeature}
 use Rattle.definitions.specs.List.{Record, recordOf}
 use Rattle.definitions.specs.Read.{recordsOf}
-use Rattle.definitions.proofs.Features.{one-under}
-use Rattle.definitions.proofs.Listed.{Listed, itself, child, ListedRecord, listed-under, listed-to}
+use Rattle.laws.proofs.Features.{one-under}
+use Rattle.laws.proofs.Listed.{Listed, itself, child, ListedRecord, listed-under, listed-to}
 use Rattle.list.specs.Check.{oneSlot}
 use Rattle.list.specs.Own.{OwnList, shownBy}
 use Rattle.list.proofs.OneSlot.{slot-feature}

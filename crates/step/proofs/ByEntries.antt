@@ -6,8 +6,8 @@ use mathlib.Core.List.{List, [], _∷_, map}
 use native.Mathlib.Nat.{le-refl}
 use Rattle.definitions.specs.Bits.{bitsOf}
 use Rattle.definitions.specs.Read.{recordsOf}
-use Rattle.definitions.proofs.Features.{one-from}
-use Rattle.definitions.proofs.BitsOf.{bits-one}
+use Rattle.laws.proofs.Features.{one-from}
+use Rattle.laws.proofs.BitsOf.{bits-one}
 use Rattle.log.specs.declared.entry.Entry.{Entry}
 use Rattle.log.specs.Entries.{lastEntry}
 use Rattle.step.specs.declared.run.Run.{Run}

@@ -9,7 +9,7 @@ use Rattle.keys.proofs.Powers.{two-le, two-pos}
 use Rattle.definitions.specs.Bits.{featureOf}
 use Rattle.definitions.specs.Window.{inWindow}
 use Rattle.definitions.specs.declared.Window.{Window}
-use Rattle.definitions.proofs.Within.{Every}
+use Rattle.laws.proofs.Within.{Every}
 use Rattle.list.specs.Check.{oneSlot}
 use Rattle.list.proofs.OneSlot.{slot-power}
 use Rattle.window.specs.Walk.{Small, isWithin, isApart}

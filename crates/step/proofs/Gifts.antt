@@ -17,11 +17,11 @@ use Rattle.keys.proofs.InBlock.{inBlock-iff, inInterval-iff}
 use Rattle.keys.proofs.Ancestor.{interval-iff}
 use Rattle.definitions.specs.Picture.{Picture, oneFeature}
 use Rattle.definitions.specs.Bits.{bitsOf, featureOf}
-use Rattle.definitions.proofs.Within.{Every, under-within, first-within}
-use Rattle.definitions.proofs.Features.{one-pixel}
-use Rattle.definitions.proofs.Pixels.{Agree}
-use Rattle.definitions.proofs.BitsOf.{bits-agree, power-every}
-use Rattle.definitions.proofs.ListOf.{list-agree}
+use Rattle.laws.proofs.Within.{Every, under-within, first-within}
+use Rattle.laws.proofs.Features.{one-pixel}
+use Rattle.laws.proofs.Pixels.{Agree}
+use Rattle.laws.proofs.BitsOf.{bits-agree, power-every}
+use Rattle.laws.proofs.ListOf.{list-agree}
 use Rattle.list.specs.Check.{oneSlot}
 use Rattle.list.proofs.OneSlot.{slot-power, slot-feature}
 use Rattle.log.specs.declared.entry.Entry.{Entry}

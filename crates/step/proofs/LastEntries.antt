@@ -6,8 +6,8 @@ use native.Mathlib.Nat.{le-refl}
 use native.Mathlib.Omega.{arith}
 use lib.ListN.{length}
 use Rattle.definitions.specs.Read.{recordsOf}
-use Rattle.definitions.proofs.LogEntries.{EndsInEntry}
-use Rattle.definitions.proofs.Records.{records-length}
+use Rattle.laws.proofs.LogEntries.{EndsInEntry}
+use Rattle.laws.proofs.Records.{records-length}
 use Rattle.log.specs.Entries.{lastEntry, Ended}
 use Rattle.log.proofs.Last.{entry-places}
 use Rattle.step.specs.Runs.{lastFirst, Chain, done, more, startBack}

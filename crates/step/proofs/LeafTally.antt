@@ -8,10 +8,10 @@ use lib.ListN.{length}
 use Rattle.definitions.specs.Picture.{Picture, oneFeature}
 use Rattle.definitions.specs.Bits.{bitsOf, featureOf, unionOfFour}
 use Rattle.definitions.specs.List.{listOf}
-use Rattle.definitions.proofs.Within.{Every, first-within}
-use Rattle.definitions.proofs.Features.{one-from}
-use Rattle.definitions.proofs.BitsOf.{bits-one}
-use Rattle.definitions.proofs.ListOf.{list-one}
+use Rattle.laws.proofs.Within.{Every, first-within}
+use Rattle.laws.proofs.Features.{one-from}
+use Rattle.laws.proofs.BitsOf.{bits-one}
+use Rattle.laws.proofs.ListOf.{list-one}
 use Rattle.list.specs.Check.{oneSlot}
 use Rattle.list.proofs.OneSlot.{slot-power}
 use Rattle.build.specs.BuildBlocks.{Tallied, Joined}

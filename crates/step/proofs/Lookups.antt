@@ -17,8 +17,8 @@ use Rattle.definitions.specs.List.{Record, keysOf, valuesOf, listOf}
 use Rattle.definitions.specs.Read.{recordsOf, pictureOf}
 use Rattle.definitions.specs.Standing.{placeOf}
 use Rattle.definitions.specs.Log.{lastContent}
-use Rattle.definitions.proofs.Records.{paired-keys, paired-values}
-use Rattle.definitions.proofs.ListOf.{list-first}
+use Rattle.laws.proofs.Records.{paired-keys, paired-values}
+use Rattle.laws.proofs.ListOf.{list-first}
 use Rattle.list.specs.Among.{placeAmong}
 use Rattle.list.proofs.Accepted.{content-list, keys-ascend}
 use Rattle.list.proofs.Among.{place-keys, place-below}

@@ -17,12 +17,12 @@ use Rattle.keys.proofs.Valid.{block-valid}
 use Rattle.definitions.specs.Picture.{Picture, oneFeature}
 use Rattle.definitions.specs.Bits.{bitsOf, featureOf}
 use Rattle.definitions.specs.List.{Record, recordOf, listOf}
-use Rattle.definitions.proofs.Within.{first-within, pixel-row, pixel-column}
-use Rattle.definitions.proofs.Pixels.{Agree}
-use Rattle.definitions.proofs.Features.{one-to, one-pixel}
-use Rattle.definitions.proofs.FeatureOf.{feature-of-power}
-use Rattle.definitions.proofs.BitsOf.{bits-one}
-use Rattle.definitions.proofs.ListOf.{list-zero, list-leaf, list-node, list-one, list-agree, list-some}
+use Rattle.laws.proofs.Within.{first-within, pixel-row, pixel-column}
+use Rattle.laws.proofs.Pixels.{Agree}
+use Rattle.laws.proofs.Features.{one-to, one-pixel}
+use Rattle.laws.proofs.FeatureOf.{feature-of-power}
+use Rattle.laws.proofs.BitsOf.{bits-one}
+use Rattle.laws.proofs.ListOf.{list-zero, list-leaf, list-node, list-one, list-agree, list-some}
 use Rattle.list.specs.Check.{oneSlot}
 use Rattle.list.proofs.OneSlot.{slot-feature, power-slot}
 use Rattle.step.specs.Step.{Step, over, plain, renewed, squeezed, pruned, expanded, grown}

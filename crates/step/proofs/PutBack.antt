@@ -13,9 +13,9 @@ use Rattle.definitions.specs.List.{Record}
 use Rattle.definitions.specs.Read.{recordsOf, pictureOf}
 use Rattle.definitions.specs.Edit.{put, paintIn}
 use Rattle.definitions.specs.Log.{lastKey, lastFeature, lastContent, beforeLast, putBack, paintAgain}
-use Rattle.definitions.proofs.Put.{put-in, put-out}
-use Rattle.definitions.proofs.LastEntry.{before-place}
-use Rattle.definitions.proofs.Records.{records-first}
+use Rattle.laws.proofs.Put.{put-in, put-out}
+use Rattle.laws.proofs.LastEntry.{before-place}
+use Rattle.laws.proofs.Records.{records-first}
 use Rattle.log.specs.declared.entry.Entry.{Entry}
 use Rattle.log.specs.Entries.{lastEntry}
 use Rattle.log.proofs.Last.{content-run}

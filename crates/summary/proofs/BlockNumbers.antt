@@ -11,8 +11,8 @@ use Rattle.keys.specs.Key.{validKey, heightOf}
 use Rattle.keys.proofs.Powers.{five-le}
 use Rattle.keys.proofs.Valid.{block-valid}
 use Rattle.definitions.specs.Area.{summaryLevel, summaryHeight, keyBelow, blockKey}
-use Rattle.definitions.proofs.PixelSums.{squared}
-use Rattle.definitions.proofs.SummaryOf.{summary-block}
+use Rattle.laws.proofs.PixelSums.{squared}
+use Rattle.laws.proofs.SummaryOf.{summary-block}
 
 -- how many blocks
 module _ (m : ℕ) where

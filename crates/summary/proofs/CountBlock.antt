@@ -17,7 +17,7 @@ use Rattle.keys.proofs.Valid.{valid-block}
 use Rattle.definitions.specs.Picture.{Picture}
 use Rattle.definitions.specs.Bits.{bitsOf, featureOf}
 use Rattle.definitions.specs.Area.{pixelsWith, countsOf}
-use Rattle.definitions.proofs.SummaryOf.{counts-length, count-of}
+use Rattle.laws.proofs.SummaryOf.{counts-length, count-of}
 use Rattle.list.specs.Check.{oneSlot}
 use Rattle.list.specs.Own.{OwnList, shownBy}
 use Rattle.list.specs.Among.{placeAmong}

@@ -14,8 +14,8 @@ use Rattle.keys.proofs.Cases.{equal}
 use Rattle.definitions.specs.Picture.{Picture, oneFeature}
 use Rattle.definitions.specs.Bits.{featureOf}
 use Rattle.definitions.specs.Area.{pixelsWith}
-use Rattle.definitions.proofs.Features.{one-pixel}
-use Rattle.definitions.proofs.CountOf.{pixels-quadrants, pixels-most, pixels-one, pixels-none}
+use Rattle.laws.proofs.Features.{one-pixel}
+use Rattle.laws.proofs.CountOf.{pixels-quadrants, pixels-most, pixels-one, pixels-none}
 use Rattle.list.specs.Check.{oneSlot}
 use Rattle.list.specs.Shown.{ShownAt}
 use Rattle.list.proofs.Shown.{shown-room, leaf-one, leaf-feature, leaf-length, node-several}

@@ -9,7 +9,7 @@ use borrow.Author.Tests.{eqb-true, not-false}
 use Rattle.definitions.specs.Read.{isList}
 use Rattle.definitions.specs.Area.{summaryLength, summaryOf}
 use Rattle.definitions.specs.Calls.FillSummary.{fillRefusal, fillSummary, filledSummary}
-use Rattle.definitions.proofs.First.{first-none, accepted-done, accepted-left}
+use Rattle.laws.proofs.First.{first-none, accepted-done, accepted-left}
 use Rattle.list.specs.Own.{shownBy}
 use Rattle.list.proofs.Tests.{GoodSettings, good-settings}
 

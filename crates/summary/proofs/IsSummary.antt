@@ -15,8 +15,8 @@ use Rattle.keys.specs.Key.{slotLimit}
 use Rattle.keys.specs.Block.{rowOf, columnOf}
 use Rattle.definitions.specs.Picture.{Picture}
 use Rattle.definitions.specs.Area.{countsOf, summaryLevel, summaryHeight, summaryLength, summaryOf, blockKey, sameNumbers, noSummary}
-use Rattle.definitions.proofs.SummaryOf.{summary-length}
-use Rattle.definitions.proofs.SameNumbers.{same-to, same-from, summary-right, summary-wrong}
+use Rattle.laws.proofs.SummaryOf.{summary-length}
+use Rattle.laws.proofs.SameNumbers.{same-to, same-from, summary-right, summary-wrong}
 use Rattle.summary.proofs.Renewed.{counts-part}
 
 -- the places of the first b blocks are right

@@ -12,7 +12,7 @@ use Rattle.keys.specs.Block.{rowOf, columnOf}
 use Rattle.slices.proofs.Sets.{sets-join, sets-parts}
 use Rattle.definitions.specs.Picture.{Picture}
 use Rattle.definitions.specs.Area.{countsOf, summaryLevel, summaryHeight, summaryLength, summaryOf, blockKey}
-use Rattle.definitions.proofs.SummaryOf.{counts-first, summary-length, summary-counts}
+use Rattle.laws.proofs.SummaryOf.{counts-first, summary-length, summary-counts}
 use Rattle.summary.specs.Renew.{renewed, Renewable}
 use Rattle.summary.proofs.BlockNumbers.{number-most}
 

@@ -7,7 +7,7 @@ use native.Mathlib.Omega.{arith}
 use lib.ListN.{length, getD, take, drop, length-drop}
 use lib.Seq.{ext-getD, length-take-le, getD-take, getD-drop}
 use Rattle.definitions.specs.Area.{sameNumbers}
-use Rattle.definitions.proofs.SameNumbers.{same-from, same-not}
+use Rattle.laws.proofs.SameNumbers.{same-from, same-not}
 
 module _ (s : ℕ) (counts summary : List ℕ) (at : ℕ) where
   -- a place of the part

@@ -17,14 +17,14 @@ use Rattle.definitions.specs.Refusal.{Row, _gives_, first, accepted, badSetting
 use Rattle.definitions.specs.Calls.Build.{build, buildRefusal, buildKeys, buildBits}
 use Rattle.definitions.specs.Calls.Survey.{survey, surveyRefusal, surveyKeys, surveyBits, surveySummary}
 use Rattle.definitions.specs.declared.Counted.{Counted}
-use Rattle.definitions.proofs.First.{first-later, first-none, none-first, first-holds, holds-more, holds-first, accepted-done, accepted-left}
-use Rattle.definitions.proofs.Pixels.{Agree}
-use Rattle.definitions.proofs.ListOf.{list-agree}
-use Rattle.definitions.proofs.ReadBack.{root-keys, block-back}
-use Rattle.definitions.proofs.Records.{records-over}
+use Rattle.laws.proofs.First.{first-later, first-none, none-first, first-holds, holds-more, holds-first, accepted-done, accepted-left}
+use Rattle.laws.proofs.Pixels.{Agree}
+use Rattle.laws.proofs.ListOf.{list-agree}
+use Rattle.laws.proofs.ReadBack.{root-keys, block-back}
+use Rattle.laws.proofs.Records.{records-over}
 use Rattle.list.specs.Own.{OwnList, shownBy}
 use Rattle.list.proofs.Tests.{GoodSettings, good-settings}
-use Rattle.definitions.proofs.SummaryOf.{summary-agree}
+use Rattle.laws.proofs.SummaryOf.{summary-agree}
 
 -- the tests that come before the list is made
 abbrev pub early : (m s : ℕ) (raster summary : List ℕ) → List Row

@@ -9,7 +9,7 @@ use Rattle.definitions.specs.Picture.{Picture}
 use Rattle.definitions.specs.List.{listOfPicture}
 use Rattle.definitions.specs.Read.{room}
 use Rattle.definitions.specs.Area.{summaryOf}
-use Rattle.definitions.proofs.LogEntries.{list-not-empty}
+use Rattle.laws.proofs.LogEntries.{list-not-empty}
 use Rattle.list.specs.Own.{shownBy}
 use Rattle.put.specs.Putting.{Replaced}
 use Rattle.step.specs.Step.{Step, over}

@@ -9,7 +9,7 @@ use Rattle.definitions.specs.Picture.{Picture}
 use Rattle.definitions.specs.List.{Record}
 use Rattle.definitions.specs.Read.{recordsOf}
 use Rattle.definitions.specs.Log.{closingPlaces, stepCount, stepEntries, beforeStep, putBack, paintAgain}
-use Rattle.definitions.proofs.Records.{records-length}
+use Rattle.laws.proofs.Records.{records-length}
 use Rattle.log.specs.declared.step.Step.{Step}
 use Rattle.log.specs.Steps.{lastStep, Stepped, EntriesBetween, none-between, one-between}
 use Rattle.log.proofs.GroupChecked.{entries-at}

@@ -12,7 +12,7 @@ use Rattle.definitions.specs.Log.{firstStep, toRedo}
 use Rattle.definitions.specs.Area.{summaryOf}
 use Rattle.definitions.specs.Refusal.{accepted}
 use Rattle.definitions.specs.Calls.Redo.{redonePicture, redone, redoRefusal, forceAfter, redo, redoKeys, redoBits, redoSummary, redoLogKeys, redoLogValues}
-use Rattle.definitions.proofs.First.{accepted-left}
+use Rattle.laws.proofs.First.{accepted-left}
 use Rattle.put.specs.Putting.{Replaced}
 use Rattle.undo.specs.RedoCall.{Redone}
 

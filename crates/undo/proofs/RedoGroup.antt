@@ -9,7 +9,7 @@ use Rattle.definitions.specs.List.{Record}
 use Rattle.definitions.specs.Read.{room, recordsOf}
 use Rattle.definitions.specs.Log.{closingPlaces, endsInMark, stepCount, stepEntries, lastIsStep, firstStep, paintAgain, toRedo}
 use Rattle.definitions.specs.Calls.Redo.{redonePicture, redone}
-use Rattle.definitions.proofs.LastStep.{entries-group, ends-in-group}
+use Rattle.laws.proofs.LastStep.{entries-group, ends-in-group}
 use Rattle.list.specs.Own.{shownBy}
 use Rattle.undo.specs.GroupCall.{GroupLast, Kept, Applied}
 use Rattle.undo.specs.RedoCall.{Redoable, LogToRedo, Redone}

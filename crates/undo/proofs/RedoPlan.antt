@@ -14,9 +14,9 @@ use Rattle.definitions.specs.Edit.{paintIn}
 use Rattle.definitions.specs.Log.{lastKey, lastFeature, endsInMark, stepEntries, isSound, firstStep, paintAgain, toRedo}
 use Rattle.definitions.specs.Calls.Redo.{redonePicture, redone}
 use Rattle.definitions.specs.Calls.Paint.{paintedPicture, painted}
-use Rattle.definitions.proofs.LogEntries.{EndsInEntry, ends-in-entry}
-use Rattle.definitions.proofs.LastStep.{count-single, entries-single, step-single}
-use Rattle.definitions.proofs.Records.{records-length, records-first}
+use Rattle.laws.proofs.LogEntries.{EndsInEntry, ends-in-entry}
+use Rattle.laws.proofs.LastStep.{count-single, entries-single, step-single}
+use Rattle.laws.proofs.Records.{records-length, records-first}
 use Rattle.list.specs.Own.{OwnList, shownBy}
 use Rattle.log.specs.declared.entry.Entry.{Entry}
 use Rattle.log.specs.declared.step.Step.{Step}

@@ -12,7 +12,7 @@ use Rattle.definitions.specs.Log.{toRedo}
 use Rattle.definitions.specs.Refusal.{Row, _gives_, first}
 use Rattle.definitions.specs.Calls.Redo.{redone, redoRefusal}
 use Rattle.definitions.specs.Calls.Paint.{painted}
-use Rattle.definitions.proofs.First.{this, first-later, holds-first, none-first, first-none}
+use Rattle.laws.proofs.First.{this, first-later, holds-first, none-first, first-none}
 use Rattle.edit.specs.EditCallChecks.{firstRefusal}
 use Rattle.undo.specs.RedoCall.{Redoable, LogToRedo, paintedRefusal}
 use Rattle.edit.proofs.EditCallTables.{firstRows, FirstPassed, first-passed, early-first, rest-first, passed-none, passed-settings, passed-log}

@@ -12,7 +12,7 @@ use Rattle.definitions.specs.Log.{beforeStep}
 use Rattle.definitions.specs.Area.{summaryOf}
 use Rattle.definitions.specs.Refusal.{accepted}
 use Rattle.definitions.specs.Calls.TakeBack.{restoredPicture, restored, takeBackRefusal, forceBefore, takeBack, takeBackKeys, takeBackBits, takeBackSummary, takeBackLogKeys, takeBackLogValues}
-use Rattle.definitions.proofs.First.{accepted-left}
+use Rattle.laws.proofs.First.{accepted-left}
 use Rattle.put.specs.Putting.{Replaced}
 use Rattle.undo.specs.TakingBackCall.{TakenBack}
 

@@ -8,8 +8,8 @@ use lib.ListN.{length}
 use Rattle.definitions.specs.Read.{room, recordsOf}
 use Rattle.definitions.specs.Log.{endsInMark, beforeStep}
 use Rattle.definitions.specs.Calls.TakeBack.{restoredPicture, restored, takeBackRefusal}
-use Rattle.definitions.proofs.SoundLog.{sound-last}
-use Rattle.definitions.proofs.Records.{records-length}
+use Rattle.laws.proofs.SoundLog.{sound-last}
+use Rattle.laws.proofs.Records.{records-length}
 use Rattle.undo.specs.GroupCall.{GroupLast, Kept, Applied}
 use Rattle.undo.specs.TakingBackCall.{Takeable, TakenBack}
 use Rattle.edit.proofs.EditCallTables.{passed-settings, passed-own, passed-summary, passed-log}

@@ -14,7 +14,7 @@ use Rattle.definitions.specs.Edit.{put}
 use Rattle.definitions.specs.Log.{lastKey, lastContent, endsInMark, putBack}
 use Rattle.definitions.specs.Area.{summaryOf}
 use Rattle.definitions.specs.Calls.TakeBack.{restoredPicture, restored}
-use Rattle.definitions.proofs.LastStep.{count-single, entries-single}
+use Rattle.laws.proofs.LastStep.{count-single, entries-single}
 use Rattle.list.specs.Own.{shownBy}
 use Rattle.log.specs.declared.entry.Entry.{Entry}
 use Rattle.log.specs.Entries.{lastEntry, contentPart}

@@ -13,7 +13,7 @@ use Rattle.definitions.specs.Read.{room, recordsOf}
 use Rattle.definitions.specs.Log.{endsInMark}
 use Rattle.definitions.specs.Refusal.{Row, _gives_, first}
 use Rattle.definitions.specs.Calls.TakeBack.{restored, takeBackRefusal}
-use Rattle.definitions.proofs.First.{this, first-later, holds-first, none-first, first-none}
+use Rattle.laws.proofs.First.{this, first-later, holds-first, none-first, first-none}
 use Rattle.list.proofs.Accepted.{content-is}
 use Rattle.log.proofs.Last.{last-entry}
 use Rattle.log.proofs.Parts.{force-sound}

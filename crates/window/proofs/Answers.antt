@@ -16,7 +16,7 @@ use Rattle.definitions.specs.declared.Window.{Window}
 use Rattle.definitions.specs.declared.Exists.{Exists}
 use Rattle.definitions.specs.declared.Reported.{Reported}
 use Rattle.definitions.specs.declared.Counted.{Counted}
-use Rattle.definitions.proofs.First.{accepted-done, accepted-left}
+use Rattle.laws.proofs.First.{accepted-done, accepted-left}
 use Rattle.list.specs.Own.{shownBy}
 use Rattle.window.specs.Gather.{Gave}
 use Rattle.window.proofs.Few.{select-few}

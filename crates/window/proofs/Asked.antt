@@ -14,7 +14,7 @@ use Rattle.definitions.specs.Picture.{oneFeature}
 use Rattle.definitions.specs.Bits.{bitsOf}
 use Rattle.definitions.specs.List.{keysOf, listOfPicture}
 use Rattle.definitions.specs.Standing.{placeOf, isListed}
-use Rattle.definitions.proofs.Features.{one-under}
+use Rattle.laws.proofs.Features.{one-under}
 use Rattle.list.specs.Own.{OwnList, shownBy}
 use Rattle.list.specs.Sorted.{Near}
 use Rattle.list.specs.Among.{placeAmong, whichAmong, placeIn}

@@ -18,8 +18,8 @@ use Rattle.definitions.specs.Bits.{hasSlot}
 use Rattle.definitions.specs.Window.{inWindow, isGiven, selectFrom, selectIn}
 use Rattle.definitions.specs.declared.Window.{Window}
 use Rattle.definitions.specs.Edit.{contentOf}
-use Rattle.definitions.proofs.SelectMeans.{given-inside, given-feature, given-of, Selected, select-in-exactly}
-use Rattle.definitions.proofs.SelectAscends.{select-in-ascends}
+use Rattle.laws.proofs.SelectMeans.{given-inside, given-feature, given-of, Selected, select-in-exactly}
+use Rattle.laws.proofs.SelectAscends.{select-in-ascends}
 use Rattle.window.specs.declared.walk.Spot.{Spot}
 use Rattle.window.specs.Walk.{Stands, isWithin, isApart, Walking, FirstFrom}
 use Rattle.window.specs.Gather.{keysWith}

@@ -17,11 +17,11 @@ use Rattle.definitions.specs.List.{Record, recordOf, listOf, listOfPicture}
 use Rattle.definitions.specs.Read.{recordsOf}
 use Rattle.definitions.specs.Standing.{placeOf, isListed, recordsIn, standingOf}
 use Rattle.definitions.specs.Edit.{contentOf}
-use Rattle.definitions.proofs.Ascending.{Ascending, none, next, ascending-bounds}
-use Rattle.definitions.proofs.Features.{one-under}
-use Rattle.definitions.proofs.Records.{records-length, records-run}
-use Rattle.definitions.proofs.BitsOf.{bits-one}
-use Rattle.definitions.proofs.ListOf.{list-one, list-ascends}
+use Rattle.laws.proofs.Ascending.{Ascending, none, next, ascending-bounds}
+use Rattle.laws.proofs.Features.{one-under}
+use Rattle.laws.proofs.Records.{records-length, records-run}
+use Rattle.laws.proofs.BitsOf.{bits-one}
+use Rattle.laws.proofs.ListOf.{list-one, list-ascends}
 use Rattle.list.specs.Own.{OwnList, shownBy}
 use Rattle.list.specs.Check.{oneSlot}
 use Rattle.list.specs.Among.{placeAmong, whichAmong, placeIn}

@@ -13,8 +13,8 @@ use Rattle.keys.proofs.Powers.{two-pos}
 use Rattle.definitions.specs.Picture.{Picture}
 use Rattle.definitions.specs.Window.{isGiven, selectFrom, selectIn}
 use Rattle.definitions.specs.declared.Window.{Window}
-use Rattle.definitions.proofs.WindowScan.{inside-window}
-use Rattle.definitions.proofs.SelectMeans.{given-inside, select-given, select-pixel, select-quadrants}
+use Rattle.laws.proofs.WindowScan.{inside-window}
+use Rattle.laws.proofs.SelectMeans.{given-inside, select-given, select-pixel, select-quadrants}
 
 -- how many numbers of the run of a size from a on are below x
 unfoldable below : ℕ → ℕ → ℕ → ℕ

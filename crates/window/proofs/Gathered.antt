@@ -15,9 +15,9 @@ use Rattle.definitions.specs.Picture.{Picture}
 use Rattle.definitions.specs.Bits.{hasSlot, featureOf}
 use Rattle.definitions.specs.Window.{isWindow, inWindow, reportIn}
 use Rattle.definitions.specs.declared.Window.{Window}
-use Rattle.definitions.proofs.Slots.{slot-union, slot-of-zero, bits-equal, slot-power as slot-of-power}
-use Rattle.definitions.proofs.BitsOf.{bits-to, bits-from}
-use Rattle.definitions.proofs.WindowScan.{PixelWith, report-exactly}
+use Rattle.laws.proofs.Slots.{slot-union, slot-of-zero, bits-equal, slot-power as slot-of-power}
+use Rattle.laws.proofs.BitsOf.{bits-to, bits-from}
+use Rattle.laws.proofs.WindowScan.{PixelWith, report-exactly}
 use Rattle.list.specs.Check.{oneSlot}
 use Rattle.list.proofs.OneSlot.{slot-power}
 use Rattle.window.specs.declared.walk.Spot.{Spot}

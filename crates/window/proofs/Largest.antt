@@ -14,8 +14,8 @@ use Rattle.keys.proofs.Parent.{parent-cases, quadrant-after}
 use Rattle.definitions.specs.Picture.{Picture}
 use Rattle.definitions.specs.Window.{isGiven, selectIn}
 use Rattle.definitions.specs.declared.Window.{Window}
-use Rattle.definitions.proofs.WindowScan.{inside-window}
-use Rattle.definitions.proofs.SelectMeans.{given-inside, given-of, Largest, is-outer, has-parent, Selected}
+use Rattle.laws.proofs.WindowScan.{inside-window}
+use Rattle.laws.proofs.SelectMeans.{given-inside, given-of, Largest, is-outer, has-parent, Selected}
 use Rattle.window.specs.declared.walk.Spot.{Spot}
 use Rattle.window.specs.Walk.{Stands, isWithin, Parting, Walking}
 use Rattle.window.proofs.Lies.{inside-within, within-pixel}

@@ -14,13 +14,13 @@ use Rattle.definitions.specs.Bits.{bitsOf}
 use Rattle.definitions.specs.List.{Record, recordOf, listOf}
 use Rattle.definitions.specs.Window.{isGiven, selectFrom}
 use Rattle.definitions.specs.declared.Window.{Window}
-use Rattle.definitions.proofs.Features.{one-to, one-from, one-pixel}
-use Rattle.definitions.proofs.FeatureOf.{power-inj}
-use Rattle.definitions.proofs.Within.{first-within, within-nw, within-ne, within-sw, within-se}
-use Rattle.definitions.proofs.BitsOf.{power-one}
-use Rattle.definitions.proofs.ListOf.{list-one, list-node}
-use Rattle.definitions.proofs.SelectMeans.{given-inside, given-feature, given-of, given-under, select-given, select-pixel, select-quadrants}
-use Rattle.definitions.proofs.FourLists.{same-lists}
+use Rattle.laws.proofs.Features.{one-to, one-from, one-pixel}
+use Rattle.laws.proofs.FeatureOf.{power-inj}
+use Rattle.laws.proofs.Within.{first-within, within-nw, within-ne, within-sw, within-se}
+use Rattle.laws.proofs.BitsOf.{power-one}
+use Rattle.laws.proofs.ListOf.{list-one, list-node}
+use Rattle.laws.proofs.SelectMeans.{given-inside, given-feature, given-of, given-under, select-given, select-pixel, select-quadrants}
+use Rattle.laws.proofs.FourLists.{same-lists}
 use Rattle.window.specs.Gather.{keysWith}
 use Rattle.window.proofs.Content.{with-none, with-give, with-pass, with-append}
 use Rattle.window.proofs.Largest.{blank, AllInside}

@@ -10,7 +10,7 @@ use Rattle.keys.proofs.Powers.{two-le, two-pos}
 use Rattle.keys.proofs.Interval.{within}
 use Rattle.definitions.specs.Window.{isWindow, inWindow}
 use Rattle.definitions.specs.declared.Window.{Window}
-use Rattle.definitions.proofs.WindowScan.{inside-window, window-inside}
+use Rattle.laws.proofs.WindowScan.{inside-window, window-inside}
 use Rattle.window.specs.declared.walk.Spot.{Spot}
 use Rattle.window.specs.Walk.{Stands, Small, isWithin, isApart}
 

@@ -9,7 +9,7 @@ use lib.ListN.{length}
 use lib.Dec.{ltb}
 use borrow.Author.Tests.{lt-ltb, le-ltb}
 use Rattle.keys.proofs.Cases.{split}
-use Rattle.definitions.proofs.AscendingKeys.{AscendingKeys, no-key, key, ascending-bounds}
+use Rattle.laws.proofs.AscendingKeys.{AscendingKeys, no-key, key, ascending-bounds}
 
 unfoldable pub lower : ℕ → List ℕ → List ℕ
 lower x [] = []

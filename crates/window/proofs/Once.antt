@@ -16,7 +16,7 @@ use Rattle.keys.proofs.Pixel.{InSquare, inside}
 use Rattle.definitions.specs.Picture.{Picture}
 use Rattle.definitions.specs.Window.{inWindow, isGiven}
 use Rattle.definitions.specs.declared.Window.{Window}
-use Rattle.definitions.proofs.SelectMeans.{given-inside, given-feature, given-of, given-under, Largest, is-outer, has-parent, Selected}
+use Rattle.laws.proofs.SelectMeans.{given-inside, given-feature, given-of, given-under, Largest, is-outer, has-parent, Selected}
 
 -- a block under another that has the same height has the same key
 same-height : {k r c κ k′ r′ c′ κ′ : ℕ} → Under k r c κ k′ r′ c′ κ′ → k ≤ k′ → κ ≡ κ′

@@ -13,9 +13,9 @@ use Rattle.definitions.specs.Picture.{Picture}
 use Rattle.definitions.specs.Bits.{hasSlot, bitsOf}
 use Rattle.definitions.specs.Window.{isWindow, inWindow, existIn}
 use Rattle.definitions.specs.declared.Window.{Window}
-use Rattle.definitions.proofs.Slots.{slot-power}
-use Rattle.definitions.proofs.BitsOf.{bits-to, bits-from}
-use Rattle.definitions.proofs.WindowScan.{exist-exactly}
+use Rattle.laws.proofs.Slots.{slot-power}
+use Rattle.laws.proofs.BitsOf.{bits-to, bits-from}
+use Rattle.laws.proofs.WindowScan.{exist-exactly}
 use Rattle.window.specs.declared.walk.Spot.{Spot}
 use Rattle.window.specs.Walk.{Stands, isWithin, isApart, Clear}
 use Rattle.window.proofs.Lies.{InSpot, within-pixel, window-pixel, meets-pixel}

@@ -8,8 +8,8 @@ use lib.Bits.{bitAnd}
 use lib.ListN.{getD, take}
 use borrow.Author.Tests.{ne-eqb}
 use Rattle.definitions.specs.Bits.{hasSlot}
-use Rattle.definitions.proofs.Slots.{slot-power}
-use Rattle.definitions.proofs.BitsOf.{bits-one}
+use Rattle.laws.proofs.Slots.{slot-power}
+use Rattle.laws.proofs.BitsOf.{bits-one}
 use Rattle.list.specs.Own.{OwnList, shownBy}
 use Rattle.list.specs.Among.{placeAmong, whichAmong}
 use Rattle.list.specs.declared.standing.Which.{Which}

@@ -13,9 +13,9 @@ use Rattle.keys.proofs.Interval.{within}
 use Rattle.definitions.specs.Picture.{Picture}
 use Rattle.definitions.specs.Window.{isGiven, selectFrom}
 use Rattle.definitions.specs.declared.Window.{Window}
-use Rattle.definitions.proofs.AscendingKeys.{AscendingKeys, ascending-append, ascending-widen}
-use Rattle.definitions.proofs.SelectMeans.{select-quadrants}
-use Rattle.definitions.proofs.SelectAscends.{select-ascends}
+use Rattle.laws.proofs.AscendingKeys.{AscendingKeys, ascending-append, ascending-widen}
+use Rattle.laws.proofs.SelectMeans.{select-quadrants}
+use Rattle.laws.proofs.SelectAscends.{select-ascends}
 use Rattle.window.proofs.Lower.{lower, lower-all, lower-none, lower-first, lower-later}
 
 module _ (p : Picture) (w : Window) (f : ℕ) where

@@ -15,7 +15,7 @@ use Rattle.definitions.specs.Calls.Report.{reportRefusal}
 use Rattle.definitions.specs.Calls.Exist.{existRefusal}
 use Rattle.definitions.specs.Calls.Select.{selected, selectRefusal}
 use Rattle.definitions.specs.declared.Window.{Window}
-use Rattle.definitions.proofs.First.{FirstHolds, this, later, none-first, first-none, holds-first, first-holds, holds-more}
+use Rattle.laws.proofs.First.{FirstHolds, this, later, none-first, first-none, holds-first, first-holds, holds-more}
 use Rattle.list.proofs.Tests.{GoodSettings, good-settings}
 
 -- no row has the number x

@@ -9,9 +9,9 @@ use native.Mathlib.Omega.{arith}
 use Rattle.keys.proofs.Pixel.{InSquare}
 use Rattle.definitions.specs.Window.{inWindow}
 use Rattle.definitions.specs.declared.Window.{Window}
-use Rattle.definitions.proofs.AscendingKeys.{AscendingKeys}
-use Rattle.definitions.proofs.SelectMeans.{Selected, select-in-exactly}
-use Rattle.definitions.proofs.SelectAscends.{select-in-ascends}
+use Rattle.laws.proofs.AscendingKeys.{AscendingKeys}
+use Rattle.laws.proofs.SelectMeans.{Selected, select-in-exactly}
+use Rattle.laws.proofs.SelectAscends.{select-in-ascends}
 use Rattle.window.proofs.Once.{Covered, covered-once, covered-exactly}
 use Rattle.window.proofs.Largest.{blank, largestBlocks}
 

@@ -14,9 +14,9 @@ use Rattle.definitions.specs.Picture.{Picture}
 use Rattle.definitions.specs.Bits.{hasSlot}
 use Rattle.definitions.specs.Window.{isWindow, inWindow, existIn, reportIn, selectIn}
 use Rattle.definitions.specs.declared.Window.{Window}
-use Rattle.definitions.proofs.Within.{first-within}
-use Rattle.definitions.proofs.SelectMeans.{given-inside, given-feature, Selected, select-in-exactly}
-use Rattle.definitions.proofs.WindowScan.{exist-exactly, exist-report}
+use Rattle.laws.proofs.Within.{first-within}
+use Rattle.laws.proofs.SelectMeans.{given-inside, given-feature, Selected, select-in-exactly}
+use Rattle.laws.proofs.WindowScan.{exist-exactly, exist-report}
 use Rattle.window.proofs.Lies.{window-pixel}
 use Rattle.window.proofs.Once.{covered-once, covers}
 

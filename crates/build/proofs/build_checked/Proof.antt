@@ -9,7 +9,7 @@ use borrow.Author.Tests.{leb-true, leb-false, not-true, not-false}
 use Rattle.keys.proofs.Powers.{two-le}
 use Rattle.definitions.specs.List.{listOf, listOfRaster}
 use Rattle.definitions.specs.Read.{room}
-use Rattle.definitions.proofs.ListOf.{list-some}
+use Rattle.laws.proofs.ListOf.{list-some}
 use Rattle.list.proofs.Tests.{good-settings}
 use Rattle.build.specs.BuildBlocks.{pictureOfRows}
 use Rattle.build.proofs.FittingBlock.{keys-length, bits-length}

@@ -4,7 +4,7 @@ use mathlib.Core.Bool.{false, not, _||_}
 use borrow.Author.Needs.{needs}
 use borrow.Author.Tests.{eq-eqb, ne-eqb}
 use Rattle.definitions.specs.Refusal.{badSettings}
-use Rattle.definitions.proofs.First.{this, later, holds-first, none-first}
+use Rattle.laws.proofs.First.{this, later, holds-first, none-first}
 use Rattle.combine.proofs.CombineRefusal.{three-good}
 use Rattle.combine.proofs.refusal_of.Statement.{statement}
 use Rattle.combine.proofs.refusal_of.Tie as tie

@@ -2,7 +2,7 @@
 use mathlib.Core.Path.{refl, sym, _∙_, ap}
 use mathlib.Core.Bool.{not}
 use borrow.Author.Needs.{needs}
-use Rattle.definitions.proofs.First.{this, holds-first, none-first}
+use Rattle.laws.proofs.First.{this, holds-first, none-first}
 use Rattle.survey.proofs.Surveyed.{earliest-early, length-decides}
 use Rattle.survey.proofs.refusal_of.Statement.{statement}
 use Rattle.survey.proofs.refusal_of.Tie as tie

@@ -7,7 +7,7 @@ use borrow.Author.Tests.{le-leb, lt-leb}
 use Rattle.definitions.specs.Area.{noSummary}
 use Rattle.definitions.specs.Window.{badWindow}
 use Rattle.definitions.specs.Calls.Area.{areaRefusal}
-use Rattle.definitions.proofs.First.{this, later, holds-first, none-first}
+use Rattle.laws.proofs.First.{this, later, holds-first, none-first}
 use Rattle.list.specs.Own.{shownBy}
 use Rattle.list.proofs.Own.{own-list}
 use Rattle.list.proofs.FirstRefusal.{ListPassed, refused-first, passed-first, list-passed}

@@ -43,13 +43,13 @@ use denote.Triple.Table.{entered, cited}
 use denote.Triple.Walked.{needs, stay-dropped, Goes, goes-dropped, goes-slice, Walks, walked, walk-meets}
 use Rattle.keys.proofs.Cases.{split}
 use Rattle.definitions.specs.declared.Question.{Question}
-use Rattle.definitions.proofs.Question as Question
-use Rattle.definitions.proofs.Question.Laws as Question′
+use Rattle.laws.proofs.Question as Question
+use Rattle.laws.proofs.Question.Laws as Question′
 use Rattle.batch.specs.Run.{progressOf, Ready}
 use Rattle.batch.specs.declared.begin.State.{State}
 use Rattle.batch.proofs.begin.State as State
 use Rattle.batch.proofs.begin.State.Laws as State′
-use Rattle.definitions.proofs.OneByOne.{noQuestion}
+use Rattle.laws.proofs.OneByOne.{noQuestion}
 use Rattle.lending.proofs.Locals.{Content, empty, holds, at, Addresses, envOf, Held, in-local, allocates, frees-all}
 use Rattle.lending.proofs.Slices.{Slice, val, typed-slice, token}
 use Rattle.lending.proofs.Reborrow.{reborrows}

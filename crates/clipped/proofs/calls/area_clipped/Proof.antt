@@ -1,7 +1,7 @@
 -- `calls::area_clipped` meets its contract: the strict call answers for the clipped window.
 use mathlib.Core.Path.{_∙_}
 use borrow.Author.Needs.{needs}
-use Rattle.definitions.proofs.ClippedCalls.{area-same}
+use Rattle.laws.proofs.ClippedCalls.{area-same}
 use Rattle.clipped.proofs.Lines.{same-window}
 use Rattle.clipped.proofs.calls.area_clipped.Statement.{statement}
 use Rattle.clipped.proofs.calls.area_clipped.Tie as tie

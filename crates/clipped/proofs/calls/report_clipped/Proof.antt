@@ -1,7 +1,7 @@
 -- `calls::report_clipped` meets its contract: the strict call answers for the clipped window.
 use mathlib.Core.Path.{_∙_}
 use borrow.Author.Needs.{needs}
-use Rattle.definitions.proofs.ClippedCalls.{report-same}
+use Rattle.laws.proofs.ClippedCalls.{report-same}
 use Rattle.clipped.proofs.Lines.{same-window}
 use Rattle.clipped.proofs.calls.report_clipped.Statement.{statement}
 use Rattle.clipped.proofs.calls.report_clipped.Tie as tie

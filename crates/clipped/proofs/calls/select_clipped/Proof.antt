@@ -1,7 +1,7 @@
 -- `calls::select_clipped` meets its contract: the strict call answers for the clipped window, and leaves the answer slice as it does.
 use mathlib.Core.Path.{_∙_}
 use borrow.Author.Needs.{needs}
-use Rattle.definitions.proofs.ClippedCalls.{select-same, answer-same}
+use Rattle.laws.proofs.ClippedCalls.{select-same, answer-same}
 use Rattle.clipped.proofs.Lines.{same-window}
 use Rattle.clipped.proofs.calls.select_clipped.Statement.{statement}
 use Rattle.clipped.proofs.calls.select_clipped.Tie as tie

@@ -1,7 +1,7 @@
 -- `clip::not_before` meets its contract, by the sign of the line.
 use mathlib.Core.Path.{sym, ap, _∙_}
 use Rattle.definitions.specs.Clip.{notBefore}
-use Rattle.definitions.proofs.Overlap.{not-before-line}
+use Rattle.laws.proofs.Overlap.{not-before-line}
 use Rattle.clipped.proofs.Lines.{not-negative, negative-none, same-start, line-is}
 use Rattle.clipped.proofs.clip.not_before.Statement.{statement}
 use Rattle.clipped.proofs.clip.not_before.Tie as tie

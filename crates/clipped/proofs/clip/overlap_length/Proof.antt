@@ -6,7 +6,7 @@ use mir.Syntax.{w32}
 use mir.Val.{SFits, toZ, ofZ}
 use borrow.Author.Needs.{needs}
 use Rattle.definitions.specs.Clip.{overlapLength}
-use Rattle.definitions.proofs.Overlap.{before-none, before-some, from-none, from-some}
+use Rattle.laws.proofs.Overlap.{before-none, before-some, from-none, from-some}
 use Rattle.clipped.proofs.Lines.{not-negative, line-is}
 use Rattle.clipped.proofs.clip.overlap_length.Statement.{statement}
 use Rattle.clipped.proofs.clip.overlap_length.Tie as tie

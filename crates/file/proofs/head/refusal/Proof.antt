@@ -5,7 +5,7 @@ use mathlib.Core.Bool.{false}
 use native.Mathlib.Omega.{arith}
 use lib.ListN.{length}
 use Rattle.definitions.specs.File.{otherVersion, badAtVersion, wrongMark, wrongVersion, wrongSettings, bitBytes, fileLength, sIn, nIn}
-use Rattle.definitions.proofs.FileOf.{width-of}
+use Rattle.laws.proofs.FileOf.{width-of}
 use borrow.Author.Needs.{needs}
 use Rattle.file.proofs.Laid.{short-fits}
 use Rattle.file.proofs.HeadAnswers.{short-head, mark-head, version-head, settings-head, length-head, good-head}

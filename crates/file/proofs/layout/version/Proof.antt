@@ -1,6 +1,6 @@
 -- `layout::version` meets its contract: the version is that of the slots.
 use mathlib.Core.Path.{sym}
-use Rattle.definitions.proofs.FileOf.{first-version, second-version}
+use Rattle.laws.proofs.FileOf.{first-version, second-version}
 use Rattle.file.proofs.layout.version.Statement.{statement}
 use Rattle.file.proofs.layout.version.Tie as tie
 

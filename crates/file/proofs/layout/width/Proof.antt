@@ -1,6 +1,6 @@
 -- `layout::width` meets its contract: the bytes are those of the slots.
 use mathlib.Core.Path.{sym}
-use Rattle.definitions.proofs.FileOf.{first-version, second-version}
+use Rattle.laws.proofs.FileOf.{first-version, second-version}
 use Rattle.file.proofs.layout.width.Statement.{statement}
 use Rattle.file.proofs.layout.width.Tie as tie
 

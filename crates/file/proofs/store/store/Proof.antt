@@ -2,7 +2,7 @@
 use mathlib.Core.Path.{_≡_, ap, _∙_}
 use native.Mathlib.Omega.{arith}
 use Rattle.definitions.specs.File.{bitBytes, fileLength}
-use Rattle.definitions.proofs.FileOf.{width-of}
+use Rattle.laws.proofs.FileOf.{width-of}
 use Rattle.list.proofs.FirstRefusal.{ListPassed, list-passed}
 use borrow.Author.Needs.{needs}
 use Rattle.file.proofs.Laid.{short-fits}

@@ -6,7 +6,7 @@ use lib.ListN.{length}
 use borrow.Author.Needs.{needs}
 use Rattle.definitions.specs.Read.{paired}
 use Rattle.definitions.specs.Leaves.{pictureOfLeaves}
-use Rattle.definitions.proofs.ListOf.{list-some}
+use Rattle.laws.proofs.ListOf.{list-some}
 use Rattle.list.proofs.Tests.{good-settings}
 use Rattle.leaves.proofs.Delivery.{leaves-to}
 use Rattle.leaves.proofs.LayList.{root-asked, root-ready, root-keys, root-bits}

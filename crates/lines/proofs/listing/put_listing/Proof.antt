@@ -3,7 +3,7 @@ use Prim.Native.Nat.{ℕ}
 use mathlib.Core.Path.{_≡_, ap, _∙_}
 use mathlib.Core.List.{List, _++_}
 use Rattle.definitions.specs.Read.{recordsOf}
-use Rattle.definitions.proofs.Records.{records-length}
+use Rattle.laws.proofs.Records.{records-length}
 use Rattle.definitions.specs.Listing.{headLine, linesOf, listing}
 use Rattle.lines.specs.Put.{Put, Room, Records}
 use Rattle.lines.proofs.Going.{Going, kept}

@@ -1,7 +1,7 @@
 -- `dragged::hlq_area_clipped` meets its contract: the call that it passes on has the same.
 use mathlib.Core.Path.{_∙_}
 use borrow.Author.Needs.{needs}
-use Rattle.definitions.proofs.ClippedCalls.{area-same}
+use Rattle.laws.proofs.ClippedCalls.{area-same}
 use Rattle.clipped.proofs.Lines.{same-dragged}
 use Rattle.prowcurl.proofs.dragged.hlq_area_clipped.Statement.{statement}
 use Rattle.prowcurl.proofs.dragged.hlq_area_clipped.Tie as tie

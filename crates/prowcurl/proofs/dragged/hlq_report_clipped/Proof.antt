@@ -1,7 +1,7 @@
 -- `dragged::hlq_report_clipped` meets its contract: the call that it passes on has the same.
 use mathlib.Core.Path.{_∙_}
 use borrow.Author.Needs.{needs}
-use Rattle.definitions.proofs.ClippedCalls.{report-same}
+use Rattle.laws.proofs.ClippedCalls.{report-same}
 use Rattle.clipped.proofs.Lines.{same-dragged}
 use Rattle.prowcurl.proofs.dragged.hlq_report_clipped.Statement.{statement}
 use Rattle.prowcurl.proofs.dragged.hlq_report_clipped.Tie as tie

@@ -1,7 +1,7 @@
 -- `dragged::hlq_select_clipped` meets its contract: the call that it passes on has the same.
 use mathlib.Core.Path.{_∙_}
 use borrow.Author.Needs.{needs}
-use Rattle.definitions.proofs.ClippedCalls.{select-same, answer-same}
+use Rattle.laws.proofs.ClippedCalls.{select-same, answer-same}
 use Rattle.clipped.proofs.Lines.{same-dragged}
 use Rattle.prowcurl.proofs.dragged.hlq_select_clipped.Statement.{statement}
 use Rattle.prowcurl.proofs.dragged.hlq_select_clipped.Tie as tie

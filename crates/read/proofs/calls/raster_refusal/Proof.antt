@@ -11,8 +11,8 @@ use borrow.Author.Tests.{ne-eqb}
 use Rattle.keys.proofs.Powers.{two-le}
 use Rattle.definitions.specs.Refusal.{badLength}
 use Rattle.definitions.specs.Calls.Raster.{rasterRefusal}
-use Rattle.definitions.proofs.RasterOf.{length-from}
-use Rattle.definitions.proofs.First.{this, holds-first, none-first}
+use Rattle.laws.proofs.RasterOf.{length-from}
+use Rattle.laws.proofs.First.{this, holds-first, none-first}
 use Rattle.list.proofs.FirstRefusal.{refused-first, passed-first, list-passed}
 use Rattle.read.proofs.calls.raster_refusal.Statement.{statement}
 use Rattle.read.proofs.calls.raster_refusal.Tie as tie

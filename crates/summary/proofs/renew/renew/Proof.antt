@@ -8,7 +8,7 @@ use lib.ListN.{length}
 use Rattle.keys.specs.Key.{slotLimit}
 use Rattle.definitions.specs.Picture.{Picture}
 use Rattle.definitions.specs.Area.{countsOf}
-use Rattle.definitions.proofs.SummaryOf.{counts-length}
+use Rattle.laws.proofs.SummaryOf.{counts-length}
 use Rattle.list.specs.Own.{shownBy}
 use Rattle.summary.proofs.Renewed.{Begun, renew-begins, renew-turns, renew-ends, places-in, places-few}
 use Rattle.summary.proofs.renew.renew.Statement.{statement}

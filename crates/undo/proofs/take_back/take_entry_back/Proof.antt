@@ -3,7 +3,7 @@ use mathlib.Core.Path.{_≡_, sym, ap, _∙_}
 use native.Mathlib.Omega.{arith}
 use lib.ListN.{length}
 use Rattle.definitions.specs.Read.{recordsOf}
-use Rattle.definitions.proofs.LastStep.{before-single}
+use Rattle.laws.proofs.LastStep.{before-single}
 use Rattle.log.specs.Entries.{lastEntry}
 use Rattle.log.proofs.Places.{start-is}
 use Rattle.undo.specs.TakingBackCall.{restoredRefusal, Restorable, restorePlan}

@@ -3,7 +3,7 @@ use mathlib.Core.Path.{refl, sym, _∙_, ap}
 use mathlib.Core.Bool.{not}
 use borrow.Author.Needs.{needs}
 use Rattle.definitions.specs.Calls.Report.{reportRefusal}
-use Rattle.definitions.proofs.First.{this, holds-first, none-first}
+use Rattle.laws.proofs.First.{this, holds-first, none-first}
 use Rattle.list.proofs.FirstRefusal.{refused-first, passed-first, list-passed}
 use Rattle.window.proofs.calls.window_refusal.Statement.{statement}
 use Rattle.window.proofs.calls.window_refusal.Tie as tie
