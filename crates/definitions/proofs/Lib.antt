@@ -8,5 +8,6 @@ mod FourWaivers
 mod ClassVectors
 mod RedoVectors
 mod GroupVectors
+mod ListingVectors
 mod CombineVectors
 mod OfficeVectors

@@ -62,21 +62,21 @@ listOfFigure1 =
     (node3 4 3 0 1 0 0 0
     (node3 4 4 0 1 0 0 0 []))))))))))))))))))))
 
--- A9's paint, whose buffers A10 takes back
+-- what A9's paint leaves, which A10 takes back
 abbrev paintedKeys : List ℕ
-paintedKeys = paintKeys 2 3 (keysA 1) (bitsA 1) 9 summaryA (unwritten 4) (unwritten 4) 0 0 (key (2 ∷ 4 ∷ [])) 1
+paintedKeys = key (0 ∷ 0 ∷ []) ∷ key (1 ∷ 0 ∷ []) ∷ key (2 ∷ 0 ∷ []) ∷ key (3 ∷ 0 ∷ []) ∷ key (4 ∷ 0 ∷ []) ∷ 0 ∷ 0 ∷ 0 ∷ 0 ∷ 99 ∷ []
 
 abbrev paintedBits : List ℕ
-paintedBits = paintBits 2 3 (keysA 1) (bitsA 1) 9 summaryA (unwritten 4) (unwritten 4) 0 0 (key (2 ∷ 4 ∷ [])) 1
+paintedBits = slots (1 ∷ 1 ∷ 1 ∷ []) ∷ slots (1 ∷ 0 ∷ 0 ∷ []) ∷ slots (0 ∷ 1 ∷ 0 ∷ []) ∷ slots (0 ∷ 0 ∷ 1 ∷ []) ∷ slots (1 ∷ 0 ∷ 0 ∷ []) ∷ 0 ∷ 0 ∷ 0 ∷ 0 ∷ 99 ∷ []
 
 abbrev paintedSummary : List ℕ
-paintedSummary = paintSummary 2 3 (keysA 1) (bitsA 1) 9 summaryA (unwritten 4) (unwritten 4) 0 0 (key (2 ∷ 4 ∷ [])) 1
+paintedSummary = counted (0 ∷ 0 ∷ 0 ∷ 0 ∷ 1 ∷ 1 ∷ 1 ∷ 1 ∷ 2 ∷ 2 ∷ 2 ∷ 2 ∷ 0 ∷ 0 ∷ 0 ∷ 0 ∷ [])
 
 abbrev paintedLogKeys : List ℕ
-paintedLogKeys = paintLogKeys 2 3 (keysA 1) (bitsA 1) 9 summaryA (unwritten 4) (unwritten 4) 0 0 (key (2 ∷ 4 ∷ [])) 1
+paintedLogKeys = key (2 ∷ 4 ∷ []) ∷ key (2 ∷ 4 ∷ []) ∷ key (2 ∷ 4 ∷ []) ∷ 77 ∷ []
 
 abbrev paintedLogValues : List ℕ
-paintedLogValues = paintLogValues 2 3 (keysA 1) (bitsA 1) 9 summaryA (unwritten 4) (unwritten 4) 0 0 (key (2 ∷ 4 ∷ [])) 1
+paintedLogValues = slots (0 ∷ 0 ∷ 1 ∷ []) ∷ 1 ∷ 1 ∷ 77 ∷ []
 
 table : List Row
 table =
@@ -101,23 +101,11 @@ table =
     ∷ row (of-exist (exist 2 3 (keysA 0) (bitsA 0) 9 (window 0 0 1 1) 1)) (0 ∷ 0 ∷ [])
     -- A9: paint 24 with 1. Four places are given up, the spare one stays
     ∷ row (of-edited (paint 2 3 (keysA 1) (bitsA 1) 9 summaryA (unwritten 4) (unwritten 4) 0 0 (key (2 ∷ 4 ∷ [])) 1)) (0 ∷ 5 ∷ 3 ∷ 3 ∷ [])
-    ∷ row paintedKeys
-    (key (0 ∷ 0 ∷ []) ∷ key (1 ∷ 0 ∷ []) ∷ key (2 ∷ 0 ∷ []) ∷ key (3 ∷ 0 ∷ []) ∷ key (4 ∷ 0 ∷ []) ∷ 0 ∷ 0 ∷ 0 ∷ 0 ∷ 99 ∷ [])
-    ∷ row paintedBits
-    (slots (1 ∷ 1 ∷ 1 ∷ [])
-    ∷ slots (1 ∷ 0 ∷ 0 ∷ [])
-    ∷ slots (0 ∷ 1 ∷ 0 ∷ [])
-    ∷ slots (0 ∷ 0 ∷ 1 ∷ [])
-    ∷ slots (1 ∷ 0 ∷ 0 ∷ [])
-    ∷ 0
-    ∷ 0
-    ∷ 0
-    ∷ 0
-    ∷ 99
-    ∷ [])
-    ∷ row paintedSummary (counted (0 ∷ 0 ∷ 0 ∷ 0 ∷ 1 ∷ 1 ∷ 1 ∷ 1 ∷ 2 ∷ 2 ∷ 2 ∷ 2 ∷ 0 ∷ 0 ∷ 0 ∷ 0 ∷ []))
-    ∷ row paintedLogKeys (key (2 ∷ 4 ∷ []) ∷ key (2 ∷ 4 ∷ []) ∷ key (2 ∷ 4 ∷ []) ∷ 77 ∷ [])
-    ∷ row paintedLogValues (slots (0 ∷ 0 ∷ 1 ∷ []) ∷ 1 ∷ 1 ∷ 77 ∷ [])
+    ∷ row (paintKeys 2 3 (keysA 1) (bitsA 1) 9 summaryA (unwritten 4) (unwritten 4) 0 0 (key (2 ∷ 4 ∷ [])) 1) paintedKeys
+    ∷ row (paintBits 2 3 (keysA 1) (bitsA 1) 9 summaryA (unwritten 4) (unwritten 4) 0 0 (key (2 ∷ 4 ∷ [])) 1) paintedBits
+    ∷ row (paintSummary 2 3 (keysA 1) (bitsA 1) 9 summaryA (unwritten 4) (unwritten 4) 0 0 (key (2 ∷ 4 ∷ [])) 1) paintedSummary
+    ∷ row (paintLogKeys 2 3 (keysA 1) (bitsA 1) 9 summaryA (unwritten 4) (unwritten 4) 0 0 (key (2 ∷ 4 ∷ [])) 1) paintedLogKeys
+    ∷ row (paintLogValues 2 3 (keysA 1) (bitsA 1) 9 summaryA (unwritten 4) (unwritten 4) 0 0 (key (2 ∷ 4 ∷ [])) 1) paintedLogValues
     -- A10: taking it back gives A1; the entry stays in the log, no longer in force
     ∷ row (of-edited (takeBack 2 3 paintedKeys paintedBits 5 paintedSummary paintedLogKeys paintedLogValues 3 3)) (0 ∷ 9 ∷ 3 ∷ 0 ∷ [])
     ∷ row (takeBackKeys 2 3 paintedKeys paintedBits 5 paintedSummary paintedLogKeys paintedLogValues 3 3) (keysA 1)

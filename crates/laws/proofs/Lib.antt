@@ -1,4 +1,3 @@
-mod ListingVectors
 pub mod Within
 pub mod Pixels
 pub mod Features
