@@ -121,6 +121,54 @@ fn redo_entry(
     }
 }
 
+// The next step that was taken back is in force again, by the way of its kind.
+fn redo_step(
+    m: u32,
+    s: u32,
+    keys: &mut [u32],
+    bits: &mut [u32],
+    n: usize,
+    summary: &mut [u32],
+    log_keys: &[u32],
+    log_values: &[u32],
+    used: usize,
+    in_force: usize,
+) -> Edited
+    requires { ⌜ Redoable m s (now keys) (now bits) n (now summary) (now «log_keys») (now «log_values») used «in_force» ⌝ }
+    ensures { λ r. ⌜ Redone m s (now (keys .entry)) (now (bits .entry)) n (now (summary .entry)) (now («log_keys» .entry)) (now («log_values» .entry)) used «in_force»
+        r (now (keys .exit)) (now (bits .exit)) (now (summary .exit)) (now («log_keys» .entry)) (now («log_values» .entry)) ⌝ }
+{
+    let next = next_step(log_keys, log_values, used, in_force);
+    if next.grouped {
+        return redo_group::redo_group(
+            m,
+            s,
+            keys,
+            bits,
+            n,
+            summary,
+            log_keys,
+            log_values,
+            used,
+            in_force,
+            next.end,
+        );
+    }
+    redo_entry(
+        m,
+        s,
+        keys,
+        bits,
+        n,
+        summary,
+        log_keys,
+        log_values,
+        used,
+        in_force,
+        next.end,
+    )
+}
+
 // The next step that was taken back is in force again: the blocks of its entries get their features, the first first, and the summary follows. The log stays.
 pub fn redo(
     m: u32,
@@ -165,23 +213,7 @@ pub fn redo(
             in_force: 0,
         };
     }
-    let next = next_step(log_keys, log_values, used, in_force);
-    if next.grouped {
-        return redo_group::redo_group(
-            m,
-            s,
-            keys,
-            bits,
-            n,
-            summary,
-            log_keys,
-            log_values,
-            used,
-            in_force,
-            next.end,
-        );
-    }
-    redo_entry(
+    redo_step(
         m,
         s,
         keys,
@@ -192,6 +224,5 @@ pub fn redo(
         log_values,
         used,
         in_force,
-        next.end,
     )
 }

@@ -128,6 +128,51 @@ fn take_entry_back(
     }
 }
 
+// The last step in force is taken back, by the way of its kind.
+fn take_step_back(
+    m: u32,
+    s: u32,
+    keys: &mut [u32],
+    bits: &mut [u32],
+    n: usize,
+    summary: &mut [u32],
+    log_keys: &[u32],
+    log_values: &[u32],
+    used: usize,
+    in_force: usize,
+) -> Edited
+    requires { ⌜ Takeable m s (now keys) (now bits) n (now summary) (now «log_keys») (now «log_values») used «in_force» ⌝ }
+    ensures { λ r. ⌜ TakenBack m s (now (keys .entry)) (now (bits .entry)) n (now (summary .entry)) (now («log_keys» .entry)) (now («log_values» .entry)) used «in_force»
+        r (now (keys .exit)) (now (bits .exit)) (now (summary .exit)) (now («log_keys» .entry)) (now («log_values» .entry)) ⌝ }
+{
+    if steps::ends_in_mark(log_keys, log_values, in_force) {
+        return take_back_group::take_group_back(
+            m,
+            s,
+            keys,
+            bits,
+            n,
+            summary,
+            log_keys,
+            log_values,
+            used,
+            in_force,
+        );
+    }
+    take_entry_back(
+        m,
+        s,
+        keys,
+        bits,
+        n,
+        summary,
+        log_keys,
+        log_values,
+        used,
+        in_force,
+    )
+}
+
 // The last step in force is taken back: the contents of its entries go into their blocks, the last first, the summary follows, and the step is no longer in
 // force. The log stays.
 pub fn take_back(
@@ -173,21 +218,7 @@ pub fn take_back(
             in_force: 0,
         };
     }
-    if steps::ends_in_mark(log_keys, log_values, in_force) {
-        return take_back_group::take_group_back(
-            m,
-            s,
-            keys,
-            bits,
-            n,
-            summary,
-            log_keys,
-            log_values,
-            used,
-            in_force,
-        );
-    }
-    take_entry_back(
+    take_step_back(
         m,
         s,
         keys,

@@ -1,10 +1,9 @@
--- `redo::redo` meets its contract: the refusals up to 20 leave all as it is, and the next step's kind says which way it is redone.
+-- `redo::redo` meets its contract: the refusals up to 20 leave all as it is; past them the next step is redone.
 use mathlib.Core.Path.{sym, _∙_}
 use native.Mathlib.Omega.{arith}
 use Rattle.undo.specs.RedoCall.{Redoable}
 use Rattle.edit.proofs.EditCallTables.{FirstPassed, first-passed, passed-log}
-use Rattle.undo.proofs.RedoPlan.{next-single, next-group}
-use Rattle.undo.proofs.RedoTable.{redo-early, none-to-redo, to-redo}
+use Rattle.undo.proofs.RedoTable.{redo-early, none-to-redo}
 use Rattle.undo.proofs.RedoAnswers.{redo-refused}
 use borrow.Author.Needs.{needs}
 use Rattle.undo.proofs.redo.redo.Statement.{statement}
@@ -67,15 +66,8 @@ same-length-10 c = search needs
 returns-2 : tie.Need-returns-2
 returns-2 c = redo-refused _ _ _ _ _ _ _ _ _ _ 20 (none-to-redo _ _ _ _ _ _ _ _ _ _ (rows (c .before)) (c .if2 .taken)) (λ e. omega arith)
 
-next-step-requires : tie.Need-next-step-requires
-next-step-requires c κs = to-redo _ _ _ _ _ _ _ _ _ _ (redoable (c .before .before))
-
-redo-group-requires : tie.Need-redo-group-requires
-redo-group-requires c κs =
-    let marked = c .before .before .before .before .before in
-    let next = marked .before in
-    let told = next-group _ _ (next .next-step .ensures) (marked .if3 .taken) in
-    (redoable (next .before .before .before), told .0, told .1)
+redo-step-requires : tie.Need-redo-step-requires
+redo-step-requires c κs = redoable (c .before .before .before .before .before)
 
 same-length-11 : tie.Need-same-length-11
 same-length-11 c = search needs
@@ -93,32 +85,7 @@ same-length-15 : tie.Need-same-length-15
 same-length-15 c = search needs
 
 returns-3 : tie.Need-returns-3
-returns-3 c = c .before .before .before .before .before .before .redo-group .ensures
-
-redo-entry-requires : tie.Need-redo-entry-requires
-redo-entry-requires c κs =
-    let single = c .before .before .before .before .before in
-    let next = single .before in
-    let told = next-single _ _ (next .next-step .ensures) (single .if3 .left) in
-    (redoable (next .before .before .before), told .0, told .1)
-
-same-length-16 : tie.Need-same-length-16
-same-length-16 c = search needs
-
-same-length-17 : tie.Need-same-length-17
-same-length-17 c = search needs
-
-same-length-18 : tie.Need-same-length-18
-same-length-18 c = search needs
-
-same-length-19 : tie.Need-same-length-19
-same-length-19 c = search needs
-
-same-length-20 : tie.Need-same-length-20
-same-length-20 c = search needs
-
-returns-4 : tie.Need-returns-4
-returns-4 c = c .before .before .before .before .before .before .redo-entry .ensures
+returns-3 c = c .before .before .before .before .before .before .redo-step .ensures
 
 pub redo-spec : {M : Type 1} → statement M
 redo-spec =
@@ -137,18 +104,10 @@ redo-spec =
     same-length-9
     same-length-10
     returns-2
-    next-step-requires
-    redo-group-requires
+    redo-step-requires
     same-length-11
     same-length-12
     same-length-13
     same-length-14
     same-length-15
-    returns-3
-    redo-entry-requires
-    same-length-16
-    same-length-17
-    same-length-18
-    same-length-19
-    same-length-20
-    returns-4)
+    returns-3)

@@ -1,9 +1,9 @@
--- `take_back::take_back` meets its contract: the refusals up to 11 leave all as it is, and the mark says which way the last step is taken back.
+-- `take_back::take_back` meets its contract: the refusals up to 11 leave all as it is; past them the last step is taken back.
 use mathlib.Core.Path.{sym, _∙_}
 use native.Mathlib.Omega.{arith}
 use Rattle.undo.specs.TakingBackCall.{Takeable}
-use Rattle.edit.proofs.EditCallTables.{first-passed, passed-force}
-use Rattle.undo.proofs.TakingBackTable.{take-early, take-first, no-entry}
+use Rattle.edit.proofs.EditCallTables.{first-passed}
+use Rattle.undo.proofs.TakingBackTable.{take-early, no-entry}
 use Rattle.undo.proofs.TakingBackAnswers.{take-refused}
 use borrow.Author.Needs.{needs}
 use Rattle.undo.proofs.take_back.take_back.Statement.{statement}
@@ -60,16 +60,8 @@ returns-2 c =
     let rows = first-passed _ (c .before .before .first-refusal .ensures) (c .before .if1 .left) in
     take-refused _ _ _ _ _ _ _ _ _ _ 11 (no-entry _ _ _ _ _ _ _ _ _ _ rows (c .if2 .taken)) (λ e. omega arith)
 
-ends-in-mark-requires : tie.Need-ends-in-mark-requires
-ends-in-mark-requires c κs =
-    let room = passed-force (take-first _ _ _ _ _ _ _ _ _ _ (takeable (c .before .before))) in
-    (omega arith, omega arith)
-
-take-group-back-requires : tie.Need-take-group-back-requires
-take-group-back-requires c κs =
-    let marked = c .before .before .before .before .before in
-    let mark = marked .before in
-    (takeable (mark .before .before .before), sym (mark .ends-in-mark .ensures) ∙ marked .if3 .taken)
+take-step-back-requires : tie.Need-take-step-back-requires
+take-step-back-requires c κs = takeable (c .before .before .before .before .before)
 
 same-length-11 : tie.Need-same-length-11
 same-length-11 c = search needs
@@ -87,31 +79,7 @@ same-length-15 : tie.Need-same-length-15
 same-length-15 c = search needs
 
 returns-3 : tie.Need-returns-3
-returns-3 c = c .before .before .before .before .before .before .take-group-back .ensures
-
-take-entry-back-requires : tie.Need-take-entry-back-requires
-take-entry-back-requires c κs =
-    let single = c .before .before .before .before .before in
-    let mark = single .before in
-    (takeable (mark .before .before .before), sym (mark .ends-in-mark .ensures) ∙ single .if3 .left)
-
-same-length-16 : tie.Need-same-length-16
-same-length-16 c = search needs
-
-same-length-17 : tie.Need-same-length-17
-same-length-17 c = search needs
-
-same-length-18 : tie.Need-same-length-18
-same-length-18 c = search needs
-
-same-length-19 : tie.Need-same-length-19
-same-length-19 c = search needs
-
-same-length-20 : tie.Need-same-length-20
-same-length-20 c = search needs
-
-returns-4 : tie.Need-returns-4
-returns-4 c = c .before .before .before .before .before .before .take-entry-back .ensures
+returns-3 c = c .before .before .before .before .before .before .take-step-back .ensures
 
 pub take-back-spec : {M : Type 1} → statement M
 take-back-spec =
@@ -130,18 +98,10 @@ take-back-spec =
     same-length-9
     same-length-10
     returns-2
-    ends-in-mark-requires
-    take-group-back-requires
+    take-step-back-requires
     same-length-11
     same-length-12
     same-length-13
     same-length-14
     same-length-15
-    returns-3
-    take-entry-back-requires
-    same-length-16
-    same-length-17
-    same-length-18
-    same-length-19
-    same-length-20
-    returns-4)
+    returns-3)
