@@ -277,6 +277,8 @@ def test_windows(tool):
         if more:
             tool(command, "a.hlq", 0, 0, 1, 1, 5, status=7)
             tool(command, "a.hlq", 0, 0, 1, 1, "scrub", status=USAGE, says="--classes is missing")
+    tool("list", "a.hlq", "101", status=8)
+    tool("list", "a.hlq", "11", status=USAGE, says="KEY: '11' is not a key of this map")
     tool("at", "a.hlq", 8, 0, status=6)
     tool("at", "a.hlq", -1, 0, status=USAGE)
     tool("areas", "a.hlq", 0, 0, 1, status=USAGE, says="ROW COLUMN HEIGHT WIDTH")
