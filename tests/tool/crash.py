@@ -186,6 +186,22 @@ def test_two_writers(tool):
     return reads
 
 
+def test_first_builds(tool):
+    """A map that several make at once, and edit at once: a log is never lost, and none is left beside another map."""
+    script = '"$@" build a.pgm f.hlq --slots 5 && "$@" paint f.hlq ${0}00000 1'
+    for _ in range(12):
+        for name in ("f.hlq", "f.hlq.log"):
+            if os.path.exists(tool.path(name)):
+                os.remove(tool.path(name))
+        makers = [subprocess.Popen(["bash", "-c", script, str(n)] + tool.program, cwd=tool.folder, env=tool.env,
+                                   stdout=subprocess.DEVNULL, stderr=subprocess.PIPE) for n in (1, 2, 3, 4)]
+        ends = [(maker.communicate()[1], maker.returncode) for maker in makers]
+        must(all(status in (0, 73) for _, status in ends), f"builds at once: {ends}")
+        must([status for _, status in ends].count(0) >= 1, "nobody has made the map")
+        tool("check", "f.hlq")
+        tool("undo", "f.hlq")
+
+
 def test_full_disk(tool, folder):
     """Files may not grow past some bytes: a write fails, and everything stays as it was."""
     tool("paint", "a.hlq", 0, 2)
@@ -219,6 +235,7 @@ def main():
         tool("build", "a.pgm", "a.hlq", "--slots", 5, "--force")
         print(f"kills at random: {test_random_kills(tool, folder)}")
         reads = test_two_writers(tool)
+        test_first_builds(tool)
         test_full_disk(tool, folder)
         no_litter(tool)
         print(f"three writers at once: nothing lost, {reads} checks meanwhile were sound")
