@@ -129,9 +129,14 @@ void fact_number(const char *name, uint64_t number) {
     fact(name, text, 1);
 }
 
+/* People get two places, programs all that there is. */
+static void decimal_text(double number, char text[400]) {
+    snprintf(text, 400, out.as == AS_TEXT ? "%.2f" : "%.15g", number);
+}
+
 void fact_decimal(const char *name, double number) {
     char text[400];
-    snprintf(text, sizeof text, "%.2f", number);
+    decimal_text(number, text);
     fact(name, text, 1);
 }
 
@@ -215,7 +220,7 @@ void cell_signed(int64_t number) {
 
 void cell_decimal(double number) {
     char text[400];
-    snprintf(text, sizeof text, "%.2f", number);
+    decimal_text(number, text);
     cell(text, 1);
 }
 

@@ -83,7 +83,10 @@ static char *new_files[4];
 static int new_count;
 
 static void remove_new_files(void) {
-    while (new_count > 0) unlink(new_files[--new_count]);
+    while (new_count > 0) {
+        unlink(new_files[--new_count]);
+        free(new_files[new_count]);
+    }
 }
 
 void keep_new_files(void) {
@@ -154,6 +157,22 @@ void put_in_place(const char *path) {
     free(name);
     crash_point();
     sync_folder(path);
+}
+
+/* Whoever makes a file holds PATH.new, and whoever edits it needs PATH: so while we hold the one, and there is not the
+ * other, nobody else is at work. */
+int put_if_free(const char *path, const uint8_t *bytes, size_t length, const char *stale, double seconds) {
+    int file = write_new(path, bytes, length, seconds);
+    int is_free = !file_exists(path);
+    if (is_free) {
+        unlink(stale);
+        keep_new_files();
+        put_in_place(path);
+    } else {
+        remove_new_files();
+    }
+    close(file);
+    return is_free;
 }
 
 void replace_one(const char *path, const uint8_t *bytes, size_t length, double seconds) {

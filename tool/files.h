@@ -26,6 +26,8 @@ void put_in_place(const char *path);
 /* New files that were not put in place are removed when the tool ends; from here on they stay. */
 void keep_new_files(void);
 
+/* A first file of this name, after what was left at `stale` is removed; 0 where there is one meanwhile. */
+int put_if_free(const char *path, const uint8_t *bytes, size_t length, const char *stale, double seconds);
 /* One file replaced, and a map with its log: map is NULL where only the log changes. */
 void replace_one(const char *path, const uint8_t *bytes, size_t length, double seconds);
 void replace_pair(const char *map_path, const uint8_t *map, size_t map_length, const uint8_t *log, size_t log_length,

@@ -28,8 +28,9 @@ const command commands[] = {
       "the same map of it. - is standard output." },
     { "info", 1, 1, ALWAYS | BIT(WAIT), run_info, "info MAP.hlq", "say how large a map is and what its log holds",
       "The classes are those that occur. The log is that of the edits, in MAP.hlq.log." },
-    { "list", 1, 1, ALWAYS, run_list, "list MAP.hlq", "print the records of a map",
-      "Each record is a block: its key, one digit a level (1 NW, 2 NE, 3 SW, 4 SE), and the classes in it." },
+    { "list", 1, 2, ALWAYS, run_list, "list MAP.hlq [KEY]", "print the records of a map",
+      "Each record is a block: its key, one digit a level (1 NW, 2 NE, 3 SW, 4 SE), and the classes in it. With KEY\n"
+      "only the records of that block are printed, or that of the leaf around it." },
     { "check", 1, 1, ALWAYS | BIT(WAIT), run_check, "check MAP.hlq", "check a map and its log",
       "The file is loaded, which checks every record; its raster is built again and must give the same list; the log\n"
       "must fit the map and be sound. Where that is not so, the exit status is the refusal's number, or 65." },

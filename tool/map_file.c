@@ -135,25 +135,34 @@ static void finish_former_writer(const char *path) {
     give_back_log(&log);
 }
 
-void keep_map(const char *path, const map *a, const arguments *args) {
-    char *real = real_path(path), *log_path = text_of("%s.log", real), *stale = text_of("%s.log.new", real);
+/* One try: 0 where there was no map when we looked, and there is one now. */
+static int try_to_keep(const char *path, const uint8_t *bytes, size_t length, const arguments *args) {
+    char *log_path = text_of("%s.log", path), *stale = text_of("%s.log.new", path);
     double wait = seconds_to_wait(args);
-    int lock = lock_file(real, 1, wait);
-    if (lock >= 0) finish_former_writer(real);
-    size_t length;
-    uint8_t *bytes = bytes_of_map(a, &length);
+    int lock = lock_file(path, 1, wait), kept = 1;
+    if (lock >= 0) finish_former_writer(path);
     if (file_exists(log_path)) {
         if (!args->given[OPTION_FORCE])
             fail(STATUS_CANNOT_CREATE, "%s has a log of edits beside it; --force replaces the map and empties the log",
                  path);
-        replace_with_log(real, bytes, length, wait);
-    } else {
+        replace_with_log(path, bytes, length, wait);
+    } else if (lock >= 0) {
         unlink(stale); /* of a first edit that was stopped before it counted */
-        replace_one(real, bytes, length, wait);
+        replace_one(path, bytes, length, wait);
+    } else {
+        kept = put_if_free(path, bytes, length, stale, wait);
     }
     if (lock >= 0) close(lock);
-    free(bytes);
-    free(real);
     free(log_path);
     free(stale);
+    return kept;
+}
+
+void keep_map(const char *path, const map *a, const arguments *args) {
+    char *real = real_path(path);
+    size_t length;
+    uint8_t *bytes = bytes_of_map(a, &length);
+    while (!try_to_keep(real, bytes, length, args)) continue;
+    free(bytes);
+    free(real);
 }

@@ -78,13 +78,21 @@ void run_info(const arguments *a) {
     close_sheet(&s);
 }
 
+/* All records, or those of a block: its own and those below it, or the leaf around it. */
+static hlq_span places_asked(const map *list, const arguments *a) {
+    if (a->count == 1) return (hlq_span){ 0, list->n };
+    uint32_t key = key_of(list->m, a->words[1], "KEY", STATUS_USAGE);
+    return hlq_part(list->m, list->s, LIST_OF(list), list->n, key);
+}
+
 void run_list(const arguments *a) {
     static const column columns[] = { { "place", 8 }, { "key", -10 }, { "level", 5 }, { "row", 5 }, { "column", 6 },
                                       { "side", 5 }, { "classes", -8 } };
     map list = load_map(a->words[0]);
+    hlq_span asked = places_asked(&list, a);
     answer_begin(a);
     table_begin("records", columns, sizeof columns / sizeof *columns);
-    for (size_t i = 0; i < list.n; i++) {
+    for (size_t i = (size_t)asked.start; i < asked.start + asked.length; i++) {
         char key[KEY_TEXT];
         hlq_block block = hlq_block_of(list.m, list.keys[i]);
         key_text(list.m, list.keys[i], key);

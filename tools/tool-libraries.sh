@@ -7,9 +7,8 @@
 libraries="-lnetpbm -lpng16 -lz -lm"
 library_flags=""
 if [ "$kind" = native ] || [ "$(uname -m)" = x86_64 ]; then
-    tools/need "${CC:-cc}" gcc libc6-dev
-    printf '#include <stdio.h>\n#include <png.h>\n#include <netpbm/pgm.h>\n' >target/tool/probe.c
-    if ! ${CC:-cc} -E target/tool/probe.c >/dev/null 2>&1; then
+    if [ -z "${CC-}" ]; then tools/need cc gcc libc6-dev; fi
+    if ! printf '#include <png.h>\n#include <netpbm/pgm.h>\n' | ${CC:-cc} -E - >/dev/null 2>&1; then
         echo "libpng or netpbm's library is missing: installing libpng-dev libnetpbm-dev" >&2
         apt-get update -qq >&2
         apt-get install -y -qq libpng-dev libnetpbm-dev >&2

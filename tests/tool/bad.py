@@ -184,6 +184,33 @@ def any_end(tool, words):
     must(done.returncode == 0 or done.stderr.startswith(b"prowcurl: "), f"{words}: not in words")
 
 
+def test_anything(tool):
+    """Good surveys, maps and logs with some bytes changed, cut or doubled."""
+    tool.write("f.hlq", tool.read("a.hlq"))
+    tool("paint", "f.hlq", "100", 3)
+    rows = patches(SIDE, 5)
+    plain = f"P2\n{SIDE} {SIDE}\n9\n" + "\n".join(" ".join(map(str, row)) for row in rows)
+    grid = f"ncols {SIDE}\nnrows {SIDE}\n" + "\n".join(" ".join(map(str, row)) for row in rows)
+    good = {"s.pgm": pgm(rows), "p.pgm": plain.encode(), "g.asc": grid.encode(), "f.hlq": tool.read("f.hlq"),
+            "f.hlq.log": tool.read("f.hlq.log")}
+    numbers = random.Random(1)
+    for name, content in good.items():
+        for _ in range(25):
+            spoilt = bytearray(content)
+            for _ in range(numbers.randrange(1, 4)):
+                at = numbers.randrange(min(len(spoilt), 80) if numbers.random() < 0.7 else len(spoilt))
+                spoilt[at : at + numbers.randrange(2)] = numbers.choice(
+                    [b"", bytes([numbers.randrange(256)]), b"9999999999", spoilt[at : at + 9]])
+            tool.write(name, bytes(spoilt))
+            if name.startswith("f."):
+                any_end(tool, ["check", "f.hlq"])
+                any_end(tool, ["undo", "f.hlq"])
+            else:
+                any_end(tool, ["build", name, "any.hlq"])
+        for kept in good:  # as they were, for the next
+            tool.write(kept, good[kept])
+
+
 def test_rules_and_waivers(tool):
     def rules(content):
         return tool.write("r.csv", "id,row,column,height,width,class\n" + content)
@@ -250,6 +277,8 @@ def test_windows(tool):
         if more:
             tool(command, "a.hlq", 0, 0, 1, 1, 5, status=7)
             tool(command, "a.hlq", 0, 0, 1, 1, "scrub", status=USAGE, says="--classes is missing")
+    tool("list", "a.hlq", "101", status=8)
+    tool("list", "a.hlq", "11", status=USAGE, says="KEY: '11' is not a key of this map")
     tool("at", "a.hlq", 8, 0, status=6)
     tool("at", "a.hlq", -1, 0, status=USAGE)
     tool("areas", "a.hlq", 0, 0, 1, status=USAGE, says="ROW COLUMN HEIGHT WIDTH")
@@ -342,8 +371,8 @@ def main():
     with work_folder() as folder:
         tool = Tool(sys.argv[1:], folder)
         tool("build", tool.write("a.pgm", pgm(patches(SIDE, 5))), "a.hlq", "--slots", 5)
-        for test in (test_surveys, test_maps, test_tables, test_rules_and_waivers, test_windows, test_logs,
-                     test_exchange, test_lines):
+        for test in (test_surveys, test_maps, test_tables, test_anything, test_rules_and_waivers, test_windows,
+                     test_logs, test_exchange, test_lines):
             test(tool)
         print(f"bad files: {tool.runs} runs as expected")
 

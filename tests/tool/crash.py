@@ -4,6 +4,7 @@ every kill the map and its log must be the old ones or the new ones, both whole,
 import fcntl
 import os
 import random
+import resource
 import shutil
 import subprocess
 import sys
@@ -69,6 +70,10 @@ def has_window_paints(tool):
 def test_points(tool, folder):
     points = 0
     tool.write("b.pgm", pgm(patches(SIDE, 4)))
+    patch = tool.json("at", "a.hlq", 9, 9)  # a first edit that changes no pixel: there is no log yet
+    words = ["paint", "a.hlq", patch["key"], str(patch["class"])]
+    points += at_every_point(tool, folder, words)
+    tool(*words)
     if has_window_paints(tool):
         words = ["paint-window", "a.hlq", "5", "7", "20", "31", "2"]
         points += at_every_point(tool, folder, words)
@@ -181,6 +186,40 @@ def test_two_writers(tool):
     return reads
 
 
+def test_first_builds(tool):
+    """A map that several make at once, and edit at once: a log is never lost, and none is left beside another map."""
+    script = '"$@" build a.pgm f.hlq --slots 5 && "$@" paint f.hlq ${0}00000 1'
+    for _ in range(12):
+        for name in ("f.hlq", "f.hlq.log"):
+            if os.path.exists(tool.path(name)):
+                os.remove(tool.path(name))
+        makers = [subprocess.Popen(["bash", "-c", script, str(n)] + tool.program, cwd=tool.folder, env=tool.env,
+                                   stdout=subprocess.DEVNULL, stderr=subprocess.PIPE) for n in (1, 2, 3, 4)]
+        ends = [(maker.communicate()[1], maker.returncode) for maker in makers]
+        must(all(status in (0, 73) for _, status in ends), f"builds at once: {ends}")
+        must([status for _, status in ends].count(0) >= 1, "nobody has made the map")
+        tool("check", "f.hlq")
+        tool("undo", "f.hlq")
+
+
+def test_full_disk(tool, folder):
+    """Files may not grow past some bytes: a write fails, and everything stays as it was."""
+    tool("paint", "a.hlq", 0, 2)
+    old, done = state_of(tool), copied(tool, folder + "/done")
+    done("undo", "a.hlq")
+    sizes = [os.path.getsize(done.path(name)) for name in ("a.hlq", "a.hlq.log")]
+    for most in (0, 1, min(sizes) - 1, max(sizes) - 1):  # the last lets one of the two files through
+        def limit(most=most):
+            resource.setrlimit(resource.RLIMIT_FSIZE, (most, most))
+        # not restored, the signal for a file that is too long stays ignored, as Python has it, and the write fails
+        done = subprocess.run(tool.program + ["undo", "a.hlq"], cwd=tool.folder, env=tool.env, preexec_fn=limit,
+                              stdout=subprocess.DEVNULL, stderr=subprocess.PIPE, restore_signals=False)
+        must(done.returncode == 74 and done.stderr.startswith(b"prowcurl: "), f"no room for {most} bytes: {done}")
+        must(state_of(tool) == old, "a failed write changes something")
+        no_litter(tool)
+    tool("undo", "a.hlq")
+
+
 def no_litter(tool):
     left = [name for name in os.listdir(tool.folder) if name.endswith(".new")]
     must(not left, f"left behind: {left}")
@@ -196,6 +235,8 @@ def main():
         tool("build", "a.pgm", "a.hlq", "--slots", 5, "--force")
         print(f"kills at random: {test_random_kills(tool, folder)}")
         reads = test_two_writers(tool)
+        test_first_builds(tool)
+        test_full_disk(tool, folder)
         no_litter(tool)
         print(f"three writers at once: nothing lost, {reads} checks meanwhile were sound")
         if tool.runs < 100:

@@ -74,6 +74,12 @@ def test_map(tool):
         row, column, side = square_of(record["key"])
         must((row, column, side) == (record["row"], record["column"], record["side"]), "a record's square")
         must(record["classes"] == sorted(set(seen_in(ROWS, row, column, side, side))), "a record's classes")
+    for key in ("0", "1000", "4100", "2340", "1111"):
+        part = tool.json("list", "a.hlq", key)["records"]
+        below = [record for record in records if record["key"].startswith(key.rstrip("0"))]
+        around = [record for record in records if key.startswith(record["key"].rstrip("0"))][-1:]
+        listed = key == "0" or any(record["key"] == key for record in records)
+        must(part == (below if listed else around), f"the records of block {key}")
     must(tool.json("check", "a.hlq")["map"] == "sound", "check")
     for row, column in ((0, 0), (7, 9), (15, 15)):
         at = tool.json("at", "a.hlq", row, column, "--classes", "classes.csv")
