@@ -14,7 +14,8 @@ use Rattle.definitions.specs.Calls.Paint.{paintedPicture, painted, gained, logg
 use Rattle.laws.proofs.First.{accepted-left}
 use Rattle.log.specs.declared.entry.Entry.{Entry}
 use Rattle.put.specs.Putting.{Replaced}
-use Rattle.edit.specs.PaintCall.{newEntry, Relogged, Painted}
+use Rattle.definitions.specs.Calls.Paint.{Painted}
+use Rattle.edit.specs.PaintCall.{newEntry, Relogged}
 
 module _ (m s : ℕ) (keys bits : List ℕ) (n : ℕ) (summary logKeys logValues : List ℕ) (used inForce κ f : ℕ) where
   -- the picture that a paint makes

@@ -53,12 +53,3 @@ pub record Relogged (entry : List Record) (start used : ℕ) (keys values keys�
   pub keys-are : keys′ ≡ logged used start (keysOf entry) keys
   pub values-are : values′ ≡ logged used start (valuesOf entry) values
   pub used-are : next ≡ start + length entry
-
--- the answer of a paint, and what it leaves in the five lent slices
-pub record Painted (m s : ℕ) (keys bits : List ℕ) (n : ℕ) (summary logKeys logValues : List ℕ) (used inForce κ f : ℕ) (r : Edited) (keys′ bits′ summary′ logKeys′ logValues′ : List ℕ) : Type 0 where
-  pub answer : r ≡ paint m s keys bits n summary logKeys logValues used inForce κ f
-  pub keys-are : keys′ ≡ paintKeys m s keys bits n summary logKeys logValues used inForce κ f
-  pub bits-are : bits′ ≡ paintBits m s keys bits n summary logKeys logValues used inForce κ f
-  pub summary-is : summary′ ≡ paintSummary m s keys bits n summary logKeys logValues used inForce κ f
-  pub log-keys-are : logKeys′ ≡ paintLogKeys m s keys bits n summary logKeys logValues used inForce κ f
-  pub log-values-are : logValues′ ≡ paintLogValues m s keys bits n summary logKeys logValues used inForce κ f

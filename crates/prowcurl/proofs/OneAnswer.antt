@@ -47,6 +47,8 @@ use Rattle.prowcurl.proofs.dragged.hlq_area_clipped as area-clipped
 use Rattle.prowcurl.proofs.dragged.hlq_area_clipped.Reads as area-clipped-reads
 use Rattle.prowcurl.proofs.edits.hlq_paint as paint
 use Rattle.prowcurl.proofs.edits.hlq_paint.Reads as paint-reads
+use Rattle.prowcurl.proofs.edits.hlq_paint_window as paint-window
+use Rattle.prowcurl.proofs.edits.hlq_paint_window.Reads as paint-window-reads
 use Rattle.prowcurl.proofs.edits.hlq_take_back as take-back
 use Rattle.prowcurl.proofs.edits.hlq_take_back.Reads as take-back-reads
 use Rattle.prowcurl.proofs.edits.hlq_redo as redo
@@ -201,6 +203,22 @@ area-clipped-one = by-equations (λ x. one (x .kept) (x .kept′))
 -- edits
 pub paint-one : OneAnswer paint.ended paint-reads.Learnt
 paint-one =
+    by-equations (λ x. (
+      one (x .kept .answer) (x .kept′ .answer),
+      (
+        one (x .kept .keys-are) (x .kept′ .keys-are),
+        (
+          one (x .kept .bits-are) (x .kept′ .bits-are),
+          (
+            one (x .kept .summary-is) (x .kept′ .summary-is),
+            (one (x .kept .log-keys-are) (x .kept′ .log-keys-are), one (x .kept .log-values-are) (x .kept′ .log-values-are)),
+          ),
+        ),
+      ),
+    ))
+
+pub paint-window-one : OneAnswer paint-window.ended paint-window-reads.Learnt
+paint-window-one =
     by-equations (λ x. (
       one (x .kept .answer) (x .kept′ .answer),
       (

@@ -16,7 +16,7 @@ use Rattle.definitions.specs.Calls.PaintWindow.{filledPicture, filled, groupGai
 use Rattle.laws.proofs.First.{accepted-left}
 use Rattle.put.specs.Putting.{Replaced}
 use Rattle.edit.specs.PaintCall.{Relogged}
-use Rattle.rectangle.specs.PaintWindowCall.{WindowPainted}
+use Rattle.definitions.specs.Calls.PaintWindow.{WindowPainted}
 
 module _ (m s : ℕ) (keys bits : List ℕ) (n : ℕ) (summary logKeys logValues : List ℕ) (used inForce : ℕ) (w : Window) (f : ℕ) where
   -- the picture with the window filled

@@ -34,12 +34,3 @@ pub record WindowDecided (refusal m : ℕ) (l : List Record) (w : Window) (f : �
   pub refusal-is : r .refusal ≡ refusal
   pub number-is : r .refusal ≡ 0 → r .number ≡ length (largestBlocks m w)
   pub after-is : r .refusal ≡ 0 → r .after ≡ length (filled m l w f)
-
--- the answer of painting a window, and what it leaves in the five lent slices
-pub record WindowPainted (m s : ℕ) (keys bits : List ℕ) (n : ℕ) (summary logKeys logValues : List ℕ) (used inForce : ℕ) (w : Window) (f : ℕ) (r : Edited) (keys′ bits′ summary′ logKeys′ logValues′ : List ℕ) : Type 0 where
-  pub answer : r ≡ paintWindow m s keys bits n summary logKeys logValues used inForce w f
-  pub keys-are : keys′ ≡ paintWindowKeys m s keys bits n summary logKeys logValues used inForce w f
-  pub bits-are : bits′ ≡ paintWindowBits m s keys bits n summary logKeys logValues used inForce w f
-  pub summary-is : summary′ ≡ paintWindowSummary m s keys bits n summary logKeys logValues used inForce w f
-  pub log-keys-are : logKeys′ ≡ paintWindowLogKeys m s keys bits n summary logKeys logValues used inForce w f
-  pub log-values-are : logValues′ ≡ paintWindowLogValues m s keys bits n summary logKeys logValues used inForce w f

@@ -14,7 +14,7 @@ use Rattle.definitions.specs.Refusal.{accepted}
 use Rattle.definitions.specs.Calls.Redo.{redonePicture, redone, redoRefusal, forceAfter, redo, redoKeys, redoBits, redoSummary, redoLogKeys, redoLogValues}
 use Rattle.laws.proofs.First.{accepted-left}
 use Rattle.put.specs.Putting.{Replaced}
-use Rattle.undo.specs.RedoCall.{Redone}
+use Rattle.definitions.specs.Calls.Redo.{Redone}
 
 module _ (m s : ℕ) (keys bits : List ℕ) (n : ℕ) (summary logKeys logValues : List ℕ) (used inForce : ℕ) where
   -- the picture that a redo makes

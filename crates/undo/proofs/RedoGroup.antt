@@ -12,7 +12,8 @@ use Rattle.definitions.specs.Calls.Redo.{redonePicture, redone}
 use Rattle.laws.proofs.LastStep.{entries-group, ends-in-group}
 use Rattle.list.specs.Own.{shownBy}
 use Rattle.undo.specs.GroupCall.{GroupLast, Kept, Applied}
-use Rattle.undo.specs.RedoCall.{Redoable, LogToRedo, Redone}
+use Rattle.definitions.specs.Calls.Redo.{Redone}
+use Rattle.undo.specs.RedoCall.{Redoable, LogToRedo}
 use Rattle.edit.proofs.EditCallTables.{passed-settings, passed-own, passed-summary}
 use Rattle.undo.proofs.Applying.{applied-as}
 use Rattle.undo.proofs.RedoPlan.{redo-first, part-lent, end-within, first-records}

@@ -14,7 +14,7 @@ use Rattle.definitions.specs.Refusal.{accepted}
 use Rattle.definitions.specs.Calls.TakeBack.{restoredPicture, restored, takeBackRefusal, forceBefore, takeBack, takeBackKeys, takeBackBits, takeBackSummary, takeBackLogKeys, takeBackLogValues}
 use Rattle.laws.proofs.First.{accepted-left}
 use Rattle.put.specs.Putting.{Replaced}
-use Rattle.undo.specs.TakingBackCall.{TakenBack}
+use Rattle.definitions.specs.Calls.TakeBack.{TakenBack}
 
 module _ (m s : ℕ) (keys bits : List ℕ) (n : ℕ) (summary logKeys logValues : List ℕ) (used inForce : ℕ) where
   -- the picture that a taking back makes

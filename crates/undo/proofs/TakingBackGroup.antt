@@ -11,7 +11,8 @@ use Rattle.definitions.specs.Calls.TakeBack.{restoredPicture, restored, takeBac
 use Rattle.laws.proofs.SoundLog.{sound-last}
 use Rattle.laws.proofs.Records.{records-length}
 use Rattle.undo.specs.GroupCall.{GroupLast, Kept, Applied}
-use Rattle.undo.specs.TakingBackCall.{Takeable, TakenBack}
+use Rattle.definitions.specs.Calls.TakeBack.{TakenBack}
+use Rattle.undo.specs.TakingBackCall.{Takeable}
 use Rattle.edit.proofs.EditCallTables.{passed-settings, passed-own, passed-summary, passed-log}
 use Rattle.undo.proofs.TakingBackTable.{take-first, last-row, list-full, room-enough}
 use Rattle.undo.proofs.TakingBackAnswers.{take-refused, take-done}

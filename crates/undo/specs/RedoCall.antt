@@ -44,12 +44,3 @@ nextEntry steps = lastEntry (firstStep steps)
 -- 9, for a block that is painted again
 unfoldable pub paintedRefusal : (m : ℕ) (l : List Record) (keys bits : List ℕ) (κ f : ℕ) → ℕ
 paintedRefusal m l keys bits κ f = first (ltb (room keys bits) (length (painted m l κ f)) gives 9 ∷ [])
-
--- the answer of a redo, and what it leaves in the five lent slices
-pub record Redone (m s : ℕ) (keys bits : List ℕ) (n : ℕ) (summary logKeys logValues : List ℕ) (used inForce : ℕ) (r : Edited) (keys′ bits′ summary′ logKeys′ logValues′ : List ℕ) : Type 0 where
-  pub answer : r ≡ redo m s keys bits n summary logKeys logValues used inForce
-  pub keys-are : keys′ ≡ redoKeys m s keys bits n summary logKeys logValues used inForce
-  pub bits-are : bits′ ≡ redoBits m s keys bits n summary logKeys logValues used inForce
-  pub summary-is : summary′ ≡ redoSummary m s keys bits n summary logKeys logValues used inForce
-  pub log-keys-are : logKeys′ ≡ redoLogKeys m s keys bits n summary logKeys logValues used inForce
-  pub log-values-are : logValues′ ≡ redoLogValues m s keys bits n summary logKeys logValues used inForce

@@ -43,12 +43,3 @@ pub record Restorable (m : ℕ) (keys bits : List ℕ) (n : ℕ) (logKeys logVal
   pub valid : validKey m (lastKey (recordsOf logKeys logValues inForce)) ≡ true
   pub correct : lastContent (recordsOf logKeys logValues inForce)
       ≡ contentOf m (pictureOf m (lastContent (recordsOf logKeys logValues inForce))) (lastKey (recordsOf logKeys logValues inForce))
-
--- the answer of a taking back, and what it leaves in the five lent slices
-pub record TakenBack (m s : ℕ) (keys bits : List ℕ) (n : ℕ) (summary logKeys logValues : List ℕ) (used inForce : ℕ) (r : Edited) (keys′ bits′ summary′ logKeys′ logValues′ : List ℕ) : Type 0 where
-  pub answer : r ≡ takeBack m s keys bits n summary logKeys logValues used inForce
-  pub keys-are : keys′ ≡ takeBackKeys m s keys bits n summary logKeys logValues used inForce
-  pub bits-are : bits′ ≡ takeBackBits m s keys bits n summary logKeys logValues used inForce
-  pub summary-is : summary′ ≡ takeBackSummary m s keys bits n summary logKeys logValues used inForce
-  pub log-keys-are : logKeys′ ≡ takeBackLogKeys m s keys bits n summary logKeys logValues used inForce
-  pub log-values-are : logValues′ ≡ takeBackLogValues m s keys bits n summary logKeys logValues used inForce

@@ -1,6 +1,7 @@
 -- Paint: every pixel of one block gets a feature, the summary follows, the entries that could be redone are dropped, and the log gains an entry.
 -- Refusals 1, 4, 18, 5, 8, 7, 10, 9.
 use Prim.Native.Nat.{ℕ, _+_, _-_}
+use mathlib.Core.Path.{_≡_}
 use mathlib.Core.List.{List, [], _∷_, _++_}
 use lib.ListN.{length, replicate}
 use lib.Dec.{ltb}
@@ -76,3 +77,12 @@ module _ (m s : ℕ) (keys bits : List ℕ) (n : ℕ) (summary logKeys logValues
 
   unfoldable pub paintLogValues : List ℕ
   paintLogValues = accepted paintRefusal (logged used inForce (valuesOf entry) logValues) logValues
+
+  -- the answer of a paint, and what it leaves in the five lent slices
+  pub record Painted (r : Edited) (keys′ bits′ summary′ logKeys′ logValues′ : List ℕ) : Type 0 where
+    pub answer : r ≡ paint
+    pub keys-are : keys′ ≡ paintKeys
+    pub bits-are : bits′ ≡ paintBits
+    pub summary-is : summary′ ≡ paintSummary
+    pub log-keys-are : logKeys′ ≡ paintLogKeys
+    pub log-values-are : logValues′ ≡ paintLogValues

@@ -1,6 +1,7 @@
 -- Paint a window: every pixel of a window gets a feature as one step, the summary follows, the steps that could be redone are dropped, and the log gains
 -- a group: an entry for each of the window's largest blocks, in key order. Refusals 1, 4, 18, 5, 6, 7, 10, 9. Rests on Paint.
 use Prim.Native.Nat.{ℕ, _+_}
+use mathlib.Core.Path.{_≡_}
 use mathlib.Core.List.{List, [], _∷_}
 use lib.ListN.{length}
 use lib.Dec.{ltb}
@@ -75,3 +76,12 @@ module _ (m s : ℕ) (keys bits : List ℕ) (n : ℕ) (summary logKeys logValues
 
   unfoldable pub paintWindowLogValues : List ℕ
   paintWindowLogValues = accepted paintWindowRefusal (logged used inForce (valuesOf group) logValues) logValues
+
+  -- the answer of painting a window, and what it leaves in the five lent slices
+  pub record WindowPainted (r : Edited) (keys′ bits′ summary′ logKeys′ logValues′ : List ℕ) : Type 0 where
+    pub answer : r ≡ paintWindow
+    pub keys-are : keys′ ≡ paintWindowKeys
+    pub bits-are : bits′ ≡ paintWindowBits
+    pub summary-is : summary′ ≡ paintWindowSummary
+    pub log-keys-are : logKeys′ ≡ paintWindowLogKeys
+    pub log-values-are : logValues′ ≡ paintWindowLogValues

@@ -2,6 +2,7 @@
 -- follows, and the log stays.
 -- Refusals 1, 4, 18, 5, 20, 9.
 use Prim.Native.Nat.{ℕ, _+_}
+use mathlib.Core.Path.{_≡_}
 use mathlib.Core.List.{List, [], _∷_}
 use lib.ListN.{length}
 use lib.Dec.{ltb, eqb}
@@ -67,3 +68,12 @@ module _ (m s : ℕ) (keys bits : List ℕ) (n : ℕ) (summary logKeys logValues
 
   unfoldable pub redoLogValues : List ℕ
   redoLogValues = logValues
+
+  -- the answer of a redo, and what it leaves in the five lent slices
+  pub record Redone (r : Edited) (keys′ bits′ summary′ logKeys′ logValues′ : List ℕ) : Type 0 where
+    pub answer : r ≡ redo
+    pub keys-are : keys′ ≡ redoKeys
+    pub bits-are : bits′ ≡ redoBits
+    pub summary-is : summary′ ≡ redoSummary
+    pub log-keys-are : logKeys′ ≡ redoLogKeys
+    pub log-values-are : logValues′ ≡ redoLogValues

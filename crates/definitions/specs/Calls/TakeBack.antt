@@ -1,6 +1,7 @@
 -- Take back: the last step in force, a single entry or a group, is taken back: the contents of its entries go into their blocks, the last first, the
 -- summary follows, and the step is no longer in force. The log stays, so that it can be redone. Refusals 1, 4, 18, 5, 11, 9.
 use Prim.Native.Nat.{ℕ}
+use mathlib.Core.Path.{_≡_}
 use mathlib.Core.List.{List, [], _∷_}
 use lib.ListN.{length}
 use lib.Dec.{ltb, eqb}
@@ -66,3 +67,12 @@ module _ (m s : ℕ) (keys bits : List ℕ) (n : ℕ) (summary logKeys logValues
 
   unfoldable pub takeBackLogValues : List ℕ
   takeBackLogValues = logValues
+
+  -- the answer of a taking back, and what it leaves in the five lent slices
+  pub record TakenBack (r : Edited) (keys′ bits′ summary′ logKeys′ logValues′ : List ℕ) : Type 0 where
+    pub answer : r ≡ takeBack
+    pub keys-are : keys′ ≡ takeBackKeys
+    pub bits-are : bits′ ≡ takeBackBits
+    pub summary-is : summary′ ≡ takeBackSummary
+    pub log-keys-are : logKeys′ ≡ takeBackLogKeys
+    pub log-values-are : logValues′ ≡ takeBackLogValues
