@@ -11,15 +11,18 @@ use denote.Triple.Entry.{Args}
 use Rattle.definitions.specs.Refusal.{accepted}
 use Rattle.definitions.specs.Calls.Survey.{surveyRefusal, survey}
 use Rattle.definitions.specs.declared.Counted.{Counted}
+use Rattle.definitions.specs.declared.Window.{Window}
 use Rattle.definitions.specs.declared.Edited.{Edited}
 use Rattle.definitions.specs.declared.Emptied.{Emptied}
-use Rattle.history.specs.History.{Call, ofBlock, painting, takingBack, redoing, emptying, Buffers, built, answer, after, run, kept, nothing, longestList, longestLog}
+use Rattle.history.specs.History.{Call, ofBlock, ofWindow, painting, takingBack, redoing, emptying, Buffers, built, answer, after, run, kept, nothing, longestList, longestLog}
 use Rattle.history.specs.Claim.{AsBuilt}
 use Rattle.history.proofs.Theorem.{history}
 use Rattle.prowcurl.proofs.lists.hlq_build as build
 use Rattle.prowcurl.proofs.lists.hlq_build.Reads as build-reads
 use Rattle.prowcurl.proofs.edits.hlq_paint as paint
 use Rattle.prowcurl.proofs.edits.hlq_paint.Reads as paint-reads
+use Rattle.prowcurl.proofs.edits.hlq_paint_window as paint-window
+use Rattle.prowcurl.proofs.edits.hlq_paint_window.Reads as paint-window-reads
 use Rattle.prowcurl.proofs.edits.hlq_take_back as take-back
 use Rattle.prowcurl.proofs.edits.hlq_take_back.Reads as take-back-reads
 use Rattle.prowcurl.proofs.edits.hlq_redo as redo
@@ -102,6 +105,24 @@ module _ (m s : ℕ) (x : Edit) where
         left = λ i. counted x (kept .answer i) (kept .keys-are i) (kept .bits-are i) (kept .summary-is i) (kept .log-keys-are i) (kept .log-values-are i);
       }
 
+  -- that of hlq_paint_window
+  abbrev pub KeepsPaintWindow : (w : Window) (f : ℕ) → Type 0
+  KeepsPaintWindow w f =
+      let lent : Args paint-window.signature (x .κs) =
+      (m, (s, (x .keys, (x .bits, (x .n, (x .summary, (x .logKeys, (x .logValues, (x .used, (x .inForce, (w .row, (w .column, (w .height, (w .width, (f, tt))))))))))))))) in
+      paint-window-reads.Learnt (x .κs) lent (x .result)
+      (atExit paint-window.ended (x .κs) lent
+      (tt, (tt, (x .keys′, (x .bits′, (tt, (x .summary′, (x .logKeys′, (x .logValues′, (tt, (tt, (tt, (tt, (tt, (tt, (tt, tt))))))))))))))))
+
+  -- it gives the step of a paint of a window
+  pub paint-window-step : (w : Window) (f : ℕ) → KeepsPaintWindow w f → Steps m s (before x) (painting (ofWindow w f)) (x .result .refusal) (afterwards x)
+  unfolding answer after
+  paint-window-step w f kept =
+      record {
+        refused = ap (λ (r : Edited). r .refusal) (kept .answer);
+        left = λ i. counted x (kept .answer i) (kept .keys-are i) (kept .bits-are i) (kept .summary-is i) (kept .log-keys-are i) (kept .log-values-are i);
+      }
+
   -- that of hlq_take_back
   abbrev pub KeepsTakeBack : Type 0
   KeepsTakeBack =
@@ -157,6 +178,8 @@ empty-step m s b κs r kept = record { refused = refl; left = ap (withCounts b) 
 pub data Ran (m s : ℕ) : Buffers → List Call → Buffers → Type 0 where
   done : {b : Buffers} → Ran m s b [] b
   by-paint : {b′ : Buffers} {cs : List Call} (x : Edit) (κ f : ℕ) → KeepsPaint m s x κ f → Ran m s (afterwards x) cs b′ → Ran m s (before x) (painting (ofBlock κ f) ∷ cs) b′
+  by-paint-window : {b′ : Buffers} {cs : List Call} (x : Edit) (w : Window) (f : ℕ) → KeepsPaintWindow m s x w f → Ran m s (afterwards x) cs b′
+      → Ran m s (before x) (painting (ofWindow w f) ∷ cs) b′
   by-take-back : {b′ : Buffers} {cs : List Call} (x : Edit) → KeepsTakeBack m s x → Ran m s (afterwards x) cs b′ → Ran m s (before x) (takingBack ∷ cs) b′
   by-redo : {b′ : Buffers} {cs : List Call} (x : Edit) → KeepsRedo m s x → Ran m s (afterwards x) cs b′ → Ran m s (before x) (redoing ∷ cs) b′
   by-empty : {b b′ : Buffers} {cs : List Call} (κs : Lfts 0) (r : Emptied) → empty-reads.Learnt κs tt r tt → Ran m s (withCounts b r) cs b′ → Ran m s b (emptying ∷ cs) b′
@@ -171,6 +194,7 @@ module _ (m s : ℕ) where
   unfolding run
   ran-is done = refl
   ran-is (by-paint {cs = cs} x κ f kept rest) = further cs (paint-step m s x κ f kept) (ran-is rest)
+  ran-is (by-paint-window {cs = cs} x w f kept rest) = further cs (paint-window-step m s x w f kept) (ran-is rest)
   ran-is (by-take-back {cs = cs} x kept rest) = further cs (take-back-step m s x kept) (ran-is rest)
   ran-is (by-redo {cs = cs} x kept rest) = further cs (redo-step m s x kept) (ran-is rest)
   ran-is (by-empty {b = b} {cs = cs} κs r kept rest) = further cs (empty-step m s b κs r kept) (ran-is rest)
