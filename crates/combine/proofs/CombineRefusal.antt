@@ -13,7 +13,7 @@ use Rattle.definitions.specs.List.{keysOf, valuesOf}
 use Rattle.definitions.specs.Read.{room, isList}
 use Rattle.definitions.specs.Buffer.{over}
 use Rattle.definitions.specs.Refusal.{Row, _gives_, first, accepted, badSettings, badPixel}
-use Rattle.definitions.specs.Combine.{combinedList, badTable}
+use Rattle.definitions.specs.Combine.{combinedList, badClassTable}
 use Rattle.definitions.specs.Calls.Combine.{combination, combineRefusal, combine, combineKeys, combineBits}
 use Rattle.definitions.specs.declared.Counted.{Counted}
 use Rattle.laws.proofs.First.{NoneHolds, FirstHolds, first-none, first-holds, first-later, holds-first, holds-more, accepted-left}
@@ -70,7 +70,7 @@ module _ (m₁ s₁ : ℕ) (keys₁ bits₁ : List ℕ) (n₁ m₂ s₂ : ℕ) (
     pub small : badPixel s₃ table ≡ false
 
   pub passed : first early ≡ 0 → Passed
-  unfolding badTable
+  unfolding badClassTable
   passed e =
       let none = first-none early refl e in
       record {

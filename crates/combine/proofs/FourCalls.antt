@@ -17,7 +17,7 @@ use Rattle.build.specs.BuildBlocks.{Tallied, Joined, Fitting, Written, FourAske
 use Rattle.build.proofs.CountBlock.{tallied-four, tallied-small}
 use Rattle.build.proofs.WrittenBlock.{written-quadrants}
 use Rattle.build.proofs.FittingBlock.{fitting-at, fits-nw, fits-ne, fits-sw, fits-se, fits-four}
-use Rattle.combine.specs.Combining.{Entered, Seen, AllPass, Named, Asked, WriteAsked, Counted, Made}
+use Rattle.combine.specs.Combining.{Entered, Seen, AllPass, Named, Asked, WriteAsked, BlockCounted, Made}
 use Rattle.combine.proofs.TwoLeaves.{notBoth, not-pixel}
 use Rattle.combine.proofs.BothLists.{lower, nw-seen, ne-seen, sw-seen, se-seen, four-pass, seen-at, named-at, named-under, positive-height}
 
@@ -106,8 +106,8 @@ module _ {bits₁ bits₂ table : List ℕ} {s₂ step leaf₁ at₁ leaf₂ at�
 -- the counts of the quadrants are small
 module _ {bits₁ bits₂ table : List ℕ} {s₂ step leaf₁ at₁ leaf₂ at₂ l₁ i₁ l₂ j₁ : ℕ} (a : Asked bits₁ bits₂ table s₂ step leaf₁ at₁ leaf₂ at₂)
     (e₁ : Entered bits₁ leaf₁ at₁ l₁ i₁) (e₂ : Entered bits₂ leaf₂ at₂ l₂ j₁) (n : notBoth l₁ l₂) {i₂ j₂ i₃ j₃ i₄ j₄ i₅ j₅ u₁ u₂ u₃ u₄ m₁ m₂ m₃ m₄ : ℕ}
-    (h₁ : Counted bits₁ bits₂ table s₂ (step / 5) l₁ i₁ l₂ j₁ u₁ m₁ i₂ j₂) (h₂ : Counted bits₁ bits₂ table s₂ (step / 5) l₁ i₂ l₂ j₂ u₂ m₂ i₃ j₃)
-    (h₃ : Counted bits₁ bits₂ table s₂ (step / 5) l₁ i₃ l₂ j₃ u₃ m₃ i₄ j₄) (h₄ : Counted bits₁ bits₂ table s₂ (step / 5) l₁ i₄ l₂ j₄ u₄ m₄ i₅ j₅) where
+    (h₁ : BlockCounted bits₁ bits₂ table s₂ (step / 5) l₁ i₁ l₂ j₁ u₁ m₁ i₂ j₂) (h₂ : BlockCounted bits₁ bits₂ table s₂ (step / 5) l₁ i₂ l₂ j₂ u₂ m₂ i₃ j₃)
+    (h₃ : BlockCounted bits₁ bits₂ table s₂ (step / 5) l₁ i₃ l₂ j₃ u₃ m₃ i₄ j₄) (h₄ : BlockCounted bits₁ bits₂ table s₂ (step / 5) l₁ i₄ l₂ j₄ u₄ m₄ i₅ j₅) where
   pub four-small : (m₁ ≤ 5 ^ 9) × (m₂ ≤ 5 ^ 9) × (m₃ ≤ 5 ^ 9) × (m₄ ≤ 5 ^ 9)
   four-small =
       let s = seen a e₁ e₂ n in
@@ -192,8 +192,8 @@ module _ {bits₁ bits₂ : List ℕ} {step leaf₁ at₁ leaf₂ at₂ l₁ i�
     all-pass p q zero r c κ s = absurd (not-pixel s e₁ e₂ n)
     all-pass p q (suc k) r c κ s = four-pass s e₁ e₂ h₁ h₂ h₃ h₄
 
-  module _ {table : List ℕ} {s₂ u₁ u₂ u₃ u₄ m₁ m₂ m₃ m₄ u m : ℕ} (h₁ : Counted bits₁ bits₂ table s₂ (step / 5) l₁ i₁ l₂ j₁ u₁ m₁ i₂ j₂) (h₂ : Counted bits₁ bits₂ table s₂ (step / 5) l₁ i₂ l₂ j₂ u₂ m₂ i₃ j₃)
-      (h₃ : Counted bits₁ bits₂ table s₂ (step / 5) l₁ i₃ l₂ j₃ u₃ m₃ i₄ j₄) (h₄ : Counted bits₁ bits₂ table s₂ (step / 5) l₁ i₄ l₂ j₄ u₄ m₄ i₅ j₅)
+  module _ {table : List ℕ} {s₂ u₁ u₂ u₃ u₄ m₁ m₂ m₃ m₄ u m : ℕ} (h₁ : BlockCounted bits₁ bits₂ table s₂ (step / 5) l₁ i₁ l₂ j₁ u₁ m₁ i₂ j₂) (h₂ : BlockCounted bits₁ bits₂ table s₂ (step / 5) l₁ i₂ l₂ j₂ u₂ m₂ i₃ j₃)
+      (h₃ : BlockCounted bits₁ bits₂ table s₂ (step / 5) l₁ i₃ l₂ j₃ u₃ m₃ i₄ j₄) (h₄ : BlockCounted bits₁ bits₂ table s₂ (step / 5) l₁ i₄ l₂ j₄ u₄ m₄ i₅ j₅)
       (joined : Joined (unionOfFour u₁ u₂ u₃ u₄) (m₁ + (m₂ + (m₃ + m₄))) u m) where
     all-tallied : (p q : Picture) (k r c κ : ℕ) → Seen p q k r c κ bits₁ bits₂ step leaf₁ at₁ leaf₂ at₂ → Tallied (combined p q table s₂) k r c u m
     all-tallied p q zero r c κ s = absurd (not-pixel s e₁ e₂ n)
@@ -205,7 +205,7 @@ module _ {bits₁ bits₂ : List ℕ} {step leaf₁ at₁ leaf₂ at₂ l₁ i�
         (h₄ .tallied p q k (r + 2 ^ k) (c + 2 ^ k) (childKey κ k 4) (se-seen s e₁ e₂ (h₁ .passes) (h₂ .passes) (h₃ .passes)))
         joined
 
-    pub node-counted : Counted bits₁ bits₂ table s₂ step leaf₁ at₁ leaf₂ at₂ u m i₅ j₅
+    pub node-counted : BlockCounted bits₁ bits₂ table s₂ step leaf₁ at₁ leaf₂ at₂ u m i₅ j₅
     node-counted = record { passes = all-pass (h₁ .passes) (h₂ .passes) (h₃ .passes) (h₄ .passes); tallied = all-tallied }
 
   module _ {table : List ℕ} {s₂ u₁ u₂ u₃ u₄ x₂ x₃ x₄ x₅ u x key place : ℕ} {keys bits keys₁ bits₁′ keys₂ bits₂′ keys₃ bits₃ keys₄ bits₄ keys₅ bits₅ : List ℕ}

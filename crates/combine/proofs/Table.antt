@@ -11,18 +11,18 @@ use borrow.Author.Tests.{eq-eqb, ne-eqb}
 use Rattle.keys.specs.Key.{slotLimit}
 use Rattle.definitions.specs.Picture.{Picture}
 use Rattle.definitions.specs.Refusal.{badPixel}
-use Rattle.definitions.specs.Combine.{classOf, badTable}
+use Rattle.definitions.specs.Combine.{classOf, badClassTable}
 use Rattle.laws.proofs.Within.{first-within}
 use Rattle.laws.proofs.Features.{below-to}
 use Rattle.combine.specs.Combining.{Named}
 
 module _ (s₁ s₂ s₃ : ℕ) (table : List ℕ) where
-  pub table-short : (length table ≡ s₁ * s₂ → ⊥) → true ≡ badTable s₁ s₂ s₃ table
-  unfolding badTable
+  pub table-short : (length table ≡ s₁ * s₂ → ⊥) → true ≡ badClassTable s₁ s₂ s₃ table
+  unfolding badClassTable
   table-short h = rw (ne-eqb (length table) (s₁ * s₂) h)
 
-  pub table-long : length table ≡ s₁ * s₂ → badPixel s₃ table ≡ badTable s₁ s₂ s₃ table
-  unfolding badTable
+  pub table-long : length table ≡ s₁ * s₂ → badPixel s₃ table ≡ badClassTable s₁ s₂ s₃ table
+  unfolding badClassTable
   table-long e = rw (eq-eqb (length table) (s₁ * s₂) e)
 
 module _ {p q : Picture} {k r c : ℕ} {table : List ℕ} {s₂ : ℕ} (n : Named p q k r c table s₂) where

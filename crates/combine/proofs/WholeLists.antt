@@ -20,7 +20,7 @@ use Rattle.build.specs.BuildBlocks.{Written}
 use Rattle.build.proofs.CountBlock.{list-five}
 use Rattle.build.proofs.FittingBlock.{keys-length, bits-length}
 use Rattle.build.proofs.BuildCall.{root-run}
-use Rattle.combine.specs.Combining.{Seen, Asked, WriteAsked, Counted, Made}
+use Rattle.combine.specs.Combining.{Seen, Asked, WriteAsked, BlockCounted, Made}
 use Rattle.combine.specs.Ready.{Ready, resultOf, Answered}
 
 module _ {m : ℕ} {keys₁ bits₁ : List ℕ} {n₁ : ℕ} {keys₂ bits₂ : List ℕ} {n₂ : ℕ} {table : List ℕ} {s₂ : ℕ} (y : Ready m keys₁ bits₁ n₁ keys₂ bits₂ n₂ table s₂) where
@@ -45,7 +45,7 @@ module _ {m : ℕ} {keys₁ bits₁ : List ℕ} {n₁ : ℕ} {keys₂ bits₂ : 
     named = y .named;
   }
 
-  pub root-count : {step u n i j : ℕ} → step ≡ 5 ^ m → Counted bits₁ bits₂ table s₂ step 0 0 0 0 u n i j
+  pub root-count : {step u n i j : ℕ} → step ≡ 5 ^ m → BlockCounted bits₁ bits₂ table s₂ step 0 0 0 0 u n i j
       → n ≡ length (resultOf m keys₁ bits₁ n₁ keys₂ bits₂ n₂ table s₂)
   root-count e h = h .tallied _ _ _ _ _ _ (root-seen e) .count-is
 

@@ -78,7 +78,7 @@ AllPass bits₁ bits₂ step leaf₁ at₁ leaf₂ at₂ next₁ next₂ =
     (p q : Picture) (k r c κ : ℕ) → Seen p q k r c κ bits₁ bits₂ step leaf₁ at₁ leaf₂ at₂ → Passes p q k r c κ leaf₁ at₁ leaf₂ at₂ next₁ next₂
 
 -- and these the bits and the number of records of the combined block
-pub record Counted (bits₁ bits₂ table : List ℕ) (s₂ step leaf₁ at₁ leaf₂ at₂ union count next₁ next₂ : ℕ) : Type 0 where
+pub record BlockCounted (bits₁ bits₂ table : List ℕ) (s₂ step leaf₁ at₁ leaf₂ at₂ union count next₁ next₂ : ℕ) : Type 0 where
   pub passes : AllPass bits₁ bits₂ step leaf₁ at₁ leaf₂ at₂ next₁ next₂
   pub tallied : (p q : Picture) (k r c κ : ℕ) → Seen p q k r c κ bits₁ bits₂ step leaf₁ at₁ leaf₂ at₂
       → Tallied (combined p q table s₂) k r c union count

@@ -9,7 +9,7 @@ use Rattle.definitions.specs.List.{Record, listOfPicture, keysOf, valuesOf}
 use Rattle.definitions.specs.Read.{room}
 use Rattle.definitions.specs.Buffer.{over}
 use Rattle.definitions.specs.Refusal.{Row, _gives_, accepted, badSettings, noList}
-use Rattle.definitions.specs.Combine.{combined, badTable}
+use Rattle.definitions.specs.Combine.{combined, badClassTable}
 use Rattle.list.specs.Own.{OwnList, shownBy}
 use Rattle.combine.specs.Combining.{Named}
 
@@ -20,7 +20,7 @@ earlyRows m₁ s₁ keys₁ bits₁ n₁ m₂ s₂ keys₂ bits₂ n₂ s₃ tab
     ∷ not (eqb m₁ m₂) gives 24
     ∷ noList m₁ s₁ keys₁ bits₁ n₁ gives 4
     ∷ noList m₂ s₂ keys₂ bits₂ n₂ gives 4
-    ∷ badTable s₁ s₂ s₃ table gives 25
+    ∷ badClassTable s₁ s₂ s₃ table gives 25
     ∷ []
 
 -- two accepted lists of one resolution, with a table for their classes

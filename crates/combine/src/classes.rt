@@ -5,7 +5,7 @@ ghost use Prim.Native.Nat.{_+_, _*_, _^_, _≤_, _<_};
 ghost use lib.ListN.{length, getD};
 ghost use Rattle.keys.specs.Key.{slotLimit};
 ghost use Rattle.definitions.specs.Bits.{featureOf};
-ghost use Rattle.definitions.specs.Combine.{classOf, badTable};
+ghost use Rattle.definitions.specs.Combine.{classOf, badClassTable};
 ghost use Rattle.list.specs.Check.{oneSlot};
 use build::pixels;
 use keys::power;
@@ -39,7 +39,7 @@ pub fn class_bits(table: &[u8], s2: usize, first: u32, second: u32) -> u32
 // Refusal 25: the table has not an entry for each pair of classes, or an entry is no class of the result.
 pub fn is_bad(s1: u32, s2: u32, s3: u32, table: &[u8]) -> bool
     requires { ⌜ (s1 ≤ slotLimit) × (s2 ≤ slotLimit) ⌝ }
-    ensures { λ r. ⌜ r ≡ badTable s1 s2 s3 (now (table .entry)) ⌝ }
+    ensures { λ r. ⌜ r ≡ badClassTable s1 s2 s3 (now (table .entry)) ⌝ }
 {
     let pairs = s1 * s2;
     if table.len() != pairs as usize {

@@ -1,6 +1,6 @@
 // Counting the records of two combined lists, without writing any: one recursion over the blocks goes down both lists together.
 ghost use mathlib.Core.Path.{_≡_};
-ghost use Rattle.combine.specs.Combining.{Asked, Counted};
+ghost use Rattle.combine.specs.Combining.{Asked, BlockCounted};
 use crate::classes;
 use crate::cursor;
 use build::count;
@@ -26,7 +26,7 @@ pub fn count_block(
     at2: usize,
 ) -> Counting
     requires { ⌜ Asked (now bits1) (now bits2) (now table) s2 step leaf1 at1 leaf2 at2 ⌝ }
-    ensures { λ r. ⌜ Counted (now (bits1 .entry)) (now (bits2 .entry)) (now (table .entry)) s2 step leaf1 at1 leaf2 at2 (r .tally .bits) (r .tally .count) (r .first) (r .second) ⌝ }
+    ensures { λ r. ⌜ BlockCounted (now (bits1 .entry)) (now (bits2 .entry)) (now (table .entry)) s2 step leaf1 at1 leaf2 at2 (r .tally .bits) (r .tally .count) (r .first) (r .second) ⌝ }
 {
     let a = cursor::enter(bits1, leaf1, at1);
     let b = cursor::enter(bits2, leaf2, at2);

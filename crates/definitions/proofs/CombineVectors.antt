@@ -9,7 +9,7 @@ use Rattle.definitions.specs.Bits.{bitsOf, unionOfFour, twosIn, featureO
 use Rattle.definitions.specs.List.{listOf}
 use Rattle.definitions.specs.Read.{paired, valueAt, pictureOf, sameRecords, isListOfBlock, isList}
 use Rattle.definitions.specs.Refusal.{first, badSettings, badPixel}
-use Rattle.definitions.specs.Combine.{combined, combinedList, badTable}
+use Rattle.definitions.specs.Combine.{combined, combinedList, badClassTable}
 use Rattle.definitions.specs.Calls.Combine.{combination, combineRefusal, combine, combineKeys, combineBits}
 use Rattle.definitions.proofs.Vectors.{Row, row, Holds, of-counted, keysA, bitsA, unwritten}
 
@@ -77,5 +77,5 @@ unfolding
     table pixelKey everyPixel oneFeature featuresBelow bitsOf unionOfFour twosIn featureOf listOf
     paired valueAt pictureOf sameRecords isListOfBlock isList
     first badSettings badPixel
-    combined combinedList badTable combination combineRefusal combine combineKeys combineBits
+    combined combinedList badClassTable combination combineRefusal combine combineKeys combineBits
 claim = refl

@@ -23,5 +23,5 @@ unfoldable pub combinedList : (m : ℕ) (first second : List Record) (table : Li
 combinedList m first second table s₂ = listOfPicture m (combined (pictureOf m first) (pictureOf m second) table s₂)
 
 -- 25: the table has not exactly one entry for each pair of classes, or an entry is no class of the result
-unfoldable pub badTable : (s₁ s₂ s₃ : ℕ) (table : List ℕ) → Bool
-badTable s₁ s₂ s₃ table = not (eqb (length table) (s₁ * s₂)) || badPixel s₃ table
+unfoldable pub badClassTable : (s₁ s₂ s₃ : ℕ) (table : List ℕ) → Bool
+badClassTable s₁ s₂ s₃ table = not (eqb (length table) (s₁ * s₂)) || badPixel s₃ table

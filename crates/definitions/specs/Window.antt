@@ -77,14 +77,14 @@ unfoldable pub selectIn : (m : ℕ) (p : Picture) (w : Window) (f : ℕ) → Lis
 selectIn m p w f = selectFrom p w f m 0 0 rootKey
 
 -- all pixels of the block lie in the window
-unfoldable pub isCovered : (w : Window) (k row column : ℕ) → Bool
-isCovered w k row column = everyPixel (inWindow w) k row column
+unfoldable pub isInside : (w : Window) (k row column : ℕ) → Bool
+isInside w k row column = everyPixel (inWindow w) k row column
 
 -- the largest such blocks at or below the block of height k with key κ, in key order
 unfoldable pub largestFrom : (w : Window) (k row column κ : ℕ) → List ℕ
-largestFrom w zero row column κ = cond (isCovered w zero row column) (κ ∷ []) []
+largestFrom w zero row column κ = cond (isInside w zero row column) (κ ∷ []) []
 largestFrom w (suc k) row column κ =
-    cond (isCovered w (suc k) row column) (κ ∷ [])
+    cond (isInside w (suc k) row column) (κ ∷ [])
     (largestFrom w k row column (childKey κ k 1)
     ++ (largestFrom w k row (column + 2 ^ k) (childKey κ k 2)
     ++ (largestFrom w k (row + 2 ^ k) column (childKey κ k 3)

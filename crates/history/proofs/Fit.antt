@@ -22,7 +22,7 @@ use Rattle.laws.proofs.LargestBlocks.{largest-in-order}
 use Rattle.laws.proofs.WindowPaint.{entries-past}
 use Rattle.laws.proofs.GroupStep.{entry-step, group-step}
 use Rattle.laws.proofs.GroupBack.{entry-back, entry-again, group-back, group-again}
-use Rattle.history.specs.History.{Paint, ofBlock, ofWindow, applied, stepOf}
+use Rattle.history.specs.History.{Paint, ofBlock, ofWindow, applied, loggedBy}
 use Rattle.history.proofs.Drawn.{paint-outside, paint-agree, paint-below, fill-agree, fill-below}
 use Rattle.history.proofs.Content.{entry-agree}
 
@@ -44,8 +44,8 @@ applied-below {m} {s} p (block-fit κ f valid small) below = paint-below m s κ 
 applied-below {m} {s} p (window-fit w f good small) below = fill-below s w f p m 0 0 small below
 
 -- what a fit paint logs of a picture with features below s is a step
-pub step-is : {m s : ℕ} {x : Paint} (p : Picture) → Fit m s x → featuresBelow s p m 0 0 ≡ true → IsStep m s (stepOf m p x)
-unfolding stepOf
+pub step-is : {m s : ℕ} {x : Paint} (p : Picture) → Fit m s x → featuresBelow s p m 0 0 ≡ true → IsStep m s (loggedBy m p x)
+unfolding loggedBy
 step-is {m} {s} p (block-fit κ f valid small) below = entry-step m s κ f p valid small below
 step-is {m} {s} p (window-fit w f good small) below = group-step m s f p small below w good
 
@@ -57,8 +57,8 @@ group-agree m w f p q h =
     (entries-past f p q (largest-in-order m w) (λ row column low narrow past. h row column (omega arith)))
 
 -- pictures that agree on the map have the same step
-pub step-agree : {m s : ℕ} {x : Paint} (p q : Picture) → Fit m s x → Agree p q m 0 0 → stepOf m p x ≡ stepOf m q x
-unfolding stepOf
+pub step-agree : {m s : ℕ} {x : Paint} (p q : Picture) → Fit m s x → Agree p q m 0 0 → loggedBy m p x ≡ loggedBy m q x
+unfolding loggedBy
 step-agree {m} p q (block-fit κ f valid small) h = entry-agree m κ f p q valid h
 step-agree {m} p q (window-fit w f good small) h = group-agree m w f p q h
 
@@ -104,8 +104,8 @@ from-same m p p′ q e h row column i = ap (λ picture. picture row column) e �
 -- the step of a fit paint taken back, from any picture that agrees with the one after it, gives the picture before it
 pub step-back : {m s : ℕ} {x : Paint} (p : Picture) → s ≤ groupMark → Fit m s x → featuresBelow s p m 0 0 ≡ true
     → (log : List Record) (q : Picture) → Agree q (applied m x p) m 0 0
-    → Agree (putBack (stepCount (log ++ stepOf m p x)) m (stepEntries (log ++ stepOf m p x)) q) p m 0 0
-unfolding applied stepOf
+    → Agree (putBack (stepCount (log ++ loggedBy m p x)) m (stepEntries (log ++ loggedBy m p x)) q) p m 0 0
+unfolding applied loggedBy
 step-back {m} {s} p few (block-fit κ f valid small) below log q same =
     from-same m _ (putBack 1 m (log ++ entryOf m p κ f) q) p
     (ap₂ (λ n l. putBack n m l q) (entry-count m s few κ f small p log) (entry-entries m s few κ f small p log))
@@ -117,8 +117,8 @@ step-back {m} {s} p few (window-fit w f good small) below log q same =
 
 -- painted again, on any picture, it is the paint
 pub step-again : {m s : ℕ} {x : Paint} (p : Picture) → s ≤ groupMark → Fit m s x → featuresBelow s p m 0 0 ≡ true
-    → (q : Picture) → Agree (paintAgain (stepCount (stepOf m p x)) m (stepEntries (stepOf m p x)) q) (applied m x q) m 0 0
-unfolding applied stepOf
+    → (q : Picture) → Agree (paintAgain (stepCount (loggedBy m p x)) m (stepEntries (loggedBy m p x)) q) (applied m x q) m 0 0
+unfolding applied loggedBy
 step-again {m} {s} p few (block-fit κ f valid small) below q =
     same-agree m _ (paintIn m κ f q)
     (ap₂ (λ n l. paintAgain n m l q) (entry-count m s few κ f small p []) (entry-entries m s few κ f small p []) ∙ entry-again m κ f p [] q)

@@ -20,7 +20,7 @@ use Rattle.definitions.specs.Refusal.{Row, _gives_, first, badSettings, noList,
 use Rattle.definitions.specs.Calls.Paint.{painted, gained, paint, paintRefusal}
 use Rattle.definitions.specs.Calls.PaintWindow.{filled, groupGained, paintWindow, paintWindowRefusal}
 use Rattle.laws.proofs.First.{first-this, first-later}
-use Rattle.history.specs.History.{Buffers, Paint, ofBlock, ofWindow, Kept, painting, applied, stepOf, answer}
+use Rattle.history.specs.History.{Buffers, Paint, ofBlock, ofWindow, Kept, painting, applied, loggedBy, answer}
 use Rattle.history.specs.Claim.{paintAnswer, paintWindowAnswer}
 use Rattle.history.proofs.Fit.{Fit, block-fit, window-fit}
 use Rattle.history.proofs.Slices.{list-room}
@@ -44,13 +44,13 @@ module _ (m s : ℕ) (b : Buffers) (settings : badSettings m s ≡ false) (list 
   block-past-four : (κ f : ℕ) → answer m s b (painting (ofBlock κ f))
       ≡ first (badKey m κ gives 8 ∷ badFeature s f gives 7
       ∷ rooms (room (b .keys) (b .bits)) (room (b .logKeys) (b .logValues)) (b .inForce) (stepIn m b (ofBlock κ f)) (listAfter m b (ofBlock κ f)))
-  unfolding answer paint paintRefusal painted gained applied stepOf
+  unfolding answer paint paintRefusal painted gained applied loggedBy
   block-past-four κ f = first-later _ _ settings ∙ first-later _ _ list ∙ first-later _ _ counts ∙ first-later _ _ log
 
   window-past-four : (w : Window) (f : ℕ) → answer m s b (painting (ofWindow w f))
       ≡ first (badWindow m w gives 6 ∷ badFeature s f gives 7
       ∷ rooms (room (b .keys) (b .bits)) (room (b .logKeys) (b .logValues)) (b .inForce) (stepIn m b (ofWindow w f)) (listAfter m b (ofWindow w f)))
-  unfolding answer paintWindow paintWindowRefusal filled groupGained applied stepOf
+  unfolding answer paintWindow paintWindowRefusal filled groupGained applied loggedBy
   window-past-four w f = first-later _ _ settings ∙ first-later _ _ list ∙ first-later _ _ counts ∙ first-later _ _ log
 
 module _ {m s : ℕ} {p : Picture} {keys bits logKeys logValues : List ℕ} {b : Buffers} {k : Kept} {inList inLog : ℕ}
@@ -58,7 +58,7 @@ module _ {m s : ℕ} {p : Picture} {keys bits logKeys logValues : List ℕ} {b :
   -- for a fit paint the rows of room are told by the picture now
   rooms-now : (x : Paint) → Fit m s x
       → first (rooms (room (b .keys) (b .bits)) (room (b .logKeys) (b .logValues)) (b .inForce) (stepIn m b x) (listAfter m b x))
-      ≡ first (rooms (room keys bits) (room logKeys logValues) (b .inForce) (stepOf m (now m p k) x) (listOfPicture m (applied m x (now m p k))))
+      ≡ first (rooms (room keys bits) (room logKeys logValues) (b .inForce) (loggedBy m (now m p k) x) (listOfPicture m (applied m x (now m p k))))
   rooms-now x fit =
       let e = h .log .keys-length in
       let e′ = h .log .values-length in
@@ -68,7 +68,7 @@ module _ {m s : ℕ} {p : Picture} {keys bits logKeys logValues : List ℕ} {b :
   -- a paint's answer, by the picture now
   pub paint-answer : (κ f : ℕ)
       → answer m s b (painting (ofBlock κ f)) ≡ paintAnswer m s (now m p k) (room keys bits) (room logKeys logValues) (b .inForce) κ f
-  unfolding paintAnswer applied stepOf
+  unfolding paintAnswer applied loggedBy
   paint-answer κ f =
       block-past-four m s b (h .settings) (ap not (now-is-list h)) (now-is-summary h) (now-is-log h) κ f
       ∙ by-row (badKey m κ) 8 _ _
@@ -77,7 +77,7 @@ module _ {m s : ℕ} {p : Picture} {keys bits logKeys logValues : List ℕ} {b :
   -- and that of a window's
   pub window-answer : (w : Window) (f : ℕ)
       → answer m s b (painting (ofWindow w f)) ≡ paintWindowAnswer m s (now m p k) (room keys bits) (room logKeys logValues) (b .inForce) w f
-  unfolding paintWindowAnswer applied stepOf
+  unfolding paintWindowAnswer applied loggedBy
   window-answer w f =
       window-past-four m s b (h .settings) (ap not (now-is-list h)) (now-is-summary h) (now-is-log h) w f
       ∙ by-row (badWindow m w) 6 _ _

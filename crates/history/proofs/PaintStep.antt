@@ -18,7 +18,7 @@ use Rattle.definitions.specs.Refusal.{Row, _gives_, badSettings, noList, badKey
 use Rattle.definitions.specs.Calls.Paint.{painted, gained, logged, paintRefusal, paint, paintKeys, paintBits, paintSummary, paintLogKeys, paintLogValues}
 use Rattle.definitions.specs.Calls.PaintWindow.{filled, groupGained, paintWindowRefusal, paintWindow, paintWindowKeys, paintWindowBits, paintWindowSummary, paintWindowLogKeys, paintWindowLogValues}
 use Rattle.laws.proofs.First.{first-none}
-use Rattle.history.specs.History.{Buffers, Paint, ofBlock, ofWindow, Kept, painting, applied, stepOf, drawn, after, answer, keep}
+use Rattle.history.specs.History.{Buffers, Paint, ofBlock, ofWindow, Kept, painting, applied, loggedBy, drawn, after, answer, keep}
 use Rattle.history.proofs.Drawn.{drawn-latest}
 use Rattle.history.proofs.Fit.{Fit, block-fit, window-fit, applied-below}
 use Rattle.history.proofs.Applied.{applied-list, applied-summary, gained-step}
@@ -41,7 +41,7 @@ summaryAfter m s b x = summaryOf m s (applied m x (shownIn m b))
 
 -- the step that it puts behind the log
 abbrev pub stepIn : ℕ → Buffers → Paint → List Record
-stepIn m b x = stepOf m (shownIn m b) x
+stepIn m b x = loggedBy m (shownIn m b) x
 
 -- the buffers with a list and a summary in place of theirs and a step behind the log
 abbrev pub withStep : Buffers → List Record → List ℕ → List Record → Buffers
@@ -78,7 +78,7 @@ record Passed (m s : ℕ) (b : Buffers) (x : Paint) : Type 0 where
 
 module _ (m s : ℕ) (b : Buffers) where
   passed : (x : Paint) → answer m s b (painting x) ≡ 0 → Passed m s b x
-  unfolding answer paint paintRefusal painted gained paintWindow paintWindowRefusal filled groupGained applied stepOf
+  unfolding answer paint paintRefusal painted gained paintWindow paintWindowRefusal filled groupGained applied loggedBy
   passed (ofBlock κ f) e =
       let none = first-none (rows m s b (badKey m κ gives 8) f (ofBlock κ f)) refl e in
       record {
@@ -97,7 +97,7 @@ module _ (m s : ℕ) (b : Buffers) where
   -- an accepted paint writes its list, its summary and its step
   pub paint-done : (x : Paint) → answer m s b (painting x) ≡ 0
       → after m s b (painting x) ≡ withStep b (listAfter m b x) (summaryAfter m s b x) (stepIn m b x)
-  unfolding answer after applied stepOf painted gained filled groupGained paint paintKeys paintBits paintSummary paintLogKeys paintLogValues paintWindow paintWindowKeys paintWindowBits paintWindowSummary paintWindowLogKeys paintWindowLogValues
+  unfolding answer after applied loggedBy painted gained filled groupGained paint paintKeys paintBits paintSummary paintLogKeys paintLogValues paintWindow paintWindowKeys paintWindowBits paintWindowSummary paintWindowLogKeys paintWindowLogValues
   paint-done (ofBlock κ f) e = rw (eq-eqb _ 0 e)
   paint-done (ofWindow w f) e = rw (eq-eqb _ 0 e)
 
@@ -129,8 +129,8 @@ module _ {m s : ℕ} {p : Picture} {keys bits logKeys logValues : List ℕ} {b :
   summary-now = ap (λ l. summaryOf m s (applied m x (pictureOf m l))) (now-records h) ∙ applied-summary m s x (now m p k)
 
   -- its step is that of the picture before
-  pub step-now : Fit m s x → stepIn m b x ≡ stepOf m (now m p k) x
-  step-now fit = ap (λ l. stepOf m (pictureOf m l) x) (now-records h) ∙ gained-step (now m p k) fit
+  pub step-now : Fit m s x → stepIn m b x ≡ loggedBy m (now m p k) x
+  step-now fit = ap (λ l. loggedBy m (pictureOf m l) x) (now-records h) ∙ gained-step (now m p k) fit
 
 module _ {m s : ℕ} {p : Picture} {keys bits logKeys logValues : List ℕ} {b : Buffers} {k : Kept} {inList inLog : ℕ}
     (x : Paint) (h : Invariant m s p keys bits logKeys logValues b k inList inLog) (e : answer m s b (painting x) ≡ 0) where
@@ -141,7 +141,7 @@ module _ {m s : ℕ} {p : Picture} {keys bits logKeys logValues : List ℕ} {b :
   summary-is : summaryAfter m s b x ≡ summaryOf m s (drawn m (ground m p k) (x ∷ k .held))
   summary-is = summary-now x h ∙ ap (λ q. summaryOf m s q) (sym (drawn-latest m (ground m p k) x (k .held)))
 
-  step-is : stepIn m b x ≡ stepOf m (now m p k) x
+  step-is : stepIn m b x ≡ loggedBy m (now m p k) x
   step-is = step-now x h (passed m s b x e .fit)
 
   -- the picture with the paint is legal
@@ -155,17 +155,17 @@ module _ {m s : ℕ} {p : Picture} {keys bits logKeys logValues : List ℕ} {b :
 
   -- the buffers with its list and step keep the invariant
   paint-holds : Invariant m s p keys bits logKeys logValues
-      (withStep b (listOfPicture m (drawn m (ground m p k) (x ∷ k .held))) (summaryOf m s (drawn m (ground m p k) (x ∷ k .held))) (stepOf m (now m p k) x))
+      (withStep b (listOfPicture m (drawn m (ground m p k) (x ∷ k .held))) (summaryOf m s (drawn m (ground m p k) (x ∷ k .held))) (loggedBy m (now m p k) x))
       (record { held = x ∷ k .held; undone = []; fixed = k .fixed })
       (max inList (length (listOfPicture m (drawn m (ground m p k) (x ∷ k .held)))))
-      (max inLog (b .inForce + length (stepOf m (now m p k) x)))
+      (max inLog (b .inForce + length (loggedBy m (now m p k) x)))
   paint-holds = record {
     settings = h .settings;
     list = list-replaced (listOfPicture m (drawn m (ground m p k) (x ∷ k .held))) (h .list) (legal-after .fits);
     counts = refl;
     log =
         rw (log-latest m (ground m p k) x (k .held), after-none m (drawn m (ground m p k) (x ∷ k .held)))
-        (log-gains (h .log) (stepOf m (now m p k) x) (rw step-is at (passed m s b x e .logRoom)));
+        (log-gains (h .log) (loggedBy m (now m p k) x) (rw step-is at (passed m s b x e .logRoom)));
     past = later (h .past) x (passed m s b x e .fit) legal-after;
     future = no-more;
   }
@@ -177,7 +177,7 @@ module _ {m s : ℕ} {p : Picture} {keys bits logKeys logValues : List ℕ} {b :
         keep-done m s b x k e,
         paint-done m s b x e
             ∙ ap₂ (λ l step. withStep b l (summaryAfter m s b x) step) list-is step-is
-            ∙ ap (λ counts. withStep b (listOfPicture m (drawn m (ground m p k) (x ∷ k .held))) counts (stepOf m (now m p k) x)) summary-is,
+            ∙ ap (λ counts. withStep b (listOfPicture m (drawn m (ground m p k) (x ∷ k .held))) counts (loggedBy m (now m p k) x)) summary-is,
       )
       paint-holds
 

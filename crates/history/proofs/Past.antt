@@ -12,7 +12,7 @@ use Rattle.definitions.specs.Log.{groupMark, isSound}
 use Rattle.laws.proofs.LastStep.{step-some}
 use Rattle.laws.proofs.SoundLog.{Steps, none, more, sound-exactly}
 use Rattle.laws.proofs.InForce.{steps-append}
-use Rattle.history.specs.History.{Paint, applied, stepOf, drawn, logOf, logAfter}
+use Rattle.history.specs.History.{Paint, applied, loggedBy, drawn, logOf, logAfter}
 use Rattle.history.proofs.Drawn.{drawn-none}
 use Rattle.history.proofs.Fit.{Fit, step-is}
 
@@ -22,7 +22,7 @@ unfolding logOf
 log-none m p = refl
 
 -- the latest paint's step stands last
-pub log-latest : (m : ℕ) (p : Picture) (x : Paint) (xs : List Paint) → logOf m p (x ∷ xs) ≡ logOf m p xs ++ stepOf m (drawn m p xs) x
+pub log-latest : (m : ℕ) (p : Picture) (x : Paint) (xs : List Paint) → logOf m p (x ∷ xs) ≡ logOf m p xs ++ loggedBy m (drawn m p xs) x
 unfolding logOf
 log-latest m p x xs = refl
 
@@ -63,7 +63,7 @@ past-sound {m} {s} {size} {p} {xs} few h = sound-exactly m s (logOf m p xs) few 
 -- with a paint the log has records
 pub log-some : {m s size : ℕ} {p : Picture} (x : Paint) (xs : List Paint) → Past m s size p (x ∷ xs) → 0 < length (logOf m p (x ∷ xs))
 log-some {m} {s} {size} {p} x xs h =
-    let e = ap length (log-latest m p x xs) ∙ length-append (logOf m p xs) (stepOf m (drawn m p xs) x) in
+    let e = ap length (log-latest m p x xs) ∙ length-append (logOf m p xs) (loggedBy m (drawn m p xs) x) in
     let some = step-some (step-is (drawn m p xs) (past-fit h) (past-legal (past-before h) .below)) in
     omega arith
 
@@ -91,7 +91,7 @@ after-none m p = refl
 
 -- the next paint's step stands first
 pub after-next : (m : ℕ) (p : Picture) (x : Paint) (xs : List Paint)
-    → logAfter m p (x ∷ xs) ≡ stepOf m p x ++ logAfter m (applied m x p) xs
+    → logAfter m p (x ∷ xs) ≡ loggedBy m p x ++ logAfter m (applied m x p) xs
 unfolding logAfter
 after-next m p x xs = refl
 

@@ -18,7 +18,7 @@ use Rattle.definitions.specs.Calls.Redo.{redonePicture, redone, forceAfter, red
 use Rattle.laws.proofs.First.{this, later, holds-first, none-first}
 use Rattle.laws.proofs.LastStep.{step-some}
 use Rattle.laws.proofs.SoundLog.{Steps}
-use Rattle.history.specs.History.{Buffers, Paint, Kept, redoing, withNext, applied, stepOf, drawn, logOf, logAfter, after, answer, keep}
+use Rattle.history.specs.History.{Buffers, Paint, Kept, redoing, withNext, applied, loggedBy, drawn, logOf, logAfter, after, answer, keep}
 use Rattle.history.specs.Claim.{redoAnswer}
 use Rattle.history.proofs.Drawn.{drawn-latest}
 use Rattle.history.proofs.Fit.{Fit, step-is}
@@ -109,7 +109,7 @@ module _ {m s : ℕ} {p : Picture} {keys bits logKeys logValues : List ℕ} {b :
 
   -- the paint's step, and what can be redone after it
   abbrev step : List Record
-  step = stepOf m before x
+  step = loggedBy m before x
 
   abbrev rest : List Record
   rest = logAfter m painted xs

@@ -17,7 +17,7 @@ use Rattle.definitions.specs.Log.{beforeStep, noLog}
 use Rattle.definitions.specs.Refusal.{Row, _gives_, badSettings, noList}
 use Rattle.definitions.specs.Calls.TakeBack.{restoredPicture, restored, forceBefore, takeBackRefusal, takeBack, takeBackKeys, takeBackBits, takeBackSummary, takeBackLogKeys, takeBackLogValues}
 use Rattle.laws.proofs.First.{this, later, holds-first, none-first}
-use Rattle.history.specs.History.{Buffers, Paint, Kept, takingBack, withoutLatest, applied, stepOf, drawn, logOf, logAfter, after, answer, keep}
+use Rattle.history.specs.History.{Buffers, Paint, Kept, takingBack, withoutLatest, applied, loggedBy, drawn, logOf, logAfter, after, answer, keep}
 use Rattle.history.specs.Claim.{backAnswer}
 use Rattle.history.proofs.Drawn.{drawn-latest}
 use Rattle.history.proofs.Fit.{Fit}
@@ -123,7 +123,7 @@ module _ {m s : ℕ} {p : Picture} {keys bits logKeys logValues : List ℕ} {b :
   former-below = past-legal (past-before (h .past)) .below
 
   -- the records in force are that log and the paint's step
-  log-is : recordsOf (b .logKeys) (b .logValues) (b .inForce) ≡ formerLog ++ stepOf m former x
+  log-is : recordsOf (b .logKeys) (b .logValues) (b .inForce) ≡ formerLog ++ loggedBy m former x
   log-is = now-force h ∙ log-latest m (drawn m p fixed) x xs
 
   -- the list afterwards is that of the picture before
@@ -165,7 +165,7 @@ module _ {m s : ℕ} {p : Picture} {keys bits logKeys logValues : List ℕ} {b :
     counts = refl;
     log =
         rw (after-next m former x undone)
-        (log-back formerLog (stepOf m former x) (logAfter m (applied m x former) undone)
+        (log-back formerLog (loggedBy m former x) (logAfter m (applied m x former) undone)
         (rw (log-latest m (drawn m p fixed) x xs, drawn-latest m (drawn m p fixed) x xs) at (h .log)));
     past = past-before (h .past);
     future =

@@ -68,8 +68,8 @@ answer m s b redoing = lentTo b (redo m s) .refusal
 answer m s b emptying = 0
 
 -- the buffers after an edit: the caller takes the counts of an accepted call's result, and keeps his own where it is refused
-abbrev pub edited : (b : Buffers) (result : Edited) (keys bits summary logKeys logValues : List ℕ) → Buffers
-edited b result keys bits summary logKeys logValues =
+abbrev pub afterEdit : (b : Buffers) (result : Edited) (keys bits summary logKeys logValues : List ℕ) → Buffers
+afterEdit b result keys bits summary logKeys logValues =
     record {
       keys = keys;
       bits = bits;
@@ -84,28 +84,28 @@ edited b result keys bits summary logKeys logValues =
 -- the buffers after a call
 unfoldable pub after : (m s : ℕ) (b : Buffers) (call : Call) → Buffers
 after m s b (painting (ofBlock κ f)) =
-    edited b (lentTo b (paint m s) κ f)
+    afterEdit b (lentTo b (paint m s) κ f)
     (lentTo b (paintKeys m s) κ f)
     (lentTo b (paintBits m s) κ f)
     (lentTo b (paintSummary m s) κ f)
     (lentTo b (paintLogKeys m s) κ f)
     (lentTo b (paintLogValues m s) κ f)
 after m s b (painting (ofWindow w f)) =
-    edited b (lentTo b (paintWindow m s) w f)
+    afterEdit b (lentTo b (paintWindow m s) w f)
     (lentTo b (paintWindowKeys m s) w f)
     (lentTo b (paintWindowBits m s) w f)
     (lentTo b (paintWindowSummary m s) w f)
     (lentTo b (paintWindowLogKeys m s) w f)
     (lentTo b (paintWindowLogValues m s) w f)
 after m s b takingBack =
-    edited b (lentTo b (takeBack m s))
+    afterEdit b (lentTo b (takeBack m s))
     (lentTo b (takeBackKeys m s))
     (lentTo b (takeBackBits m s))
     (lentTo b (takeBackSummary m s))
     (lentTo b (takeBackLogKeys m s))
     (lentTo b (takeBackLogValues m s))
 after m s b redoing =
-    edited b (lentTo b (redo m s))
+    afterEdit b (lentTo b (redo m s))
     (lentTo b (redoKeys m s))
     (lentTo b (redoBits m s))
     (lentTo b (redoSummary m s))
@@ -169,9 +169,9 @@ applied m (ofBlock κ f) p = paintIn m κ f p
 applied m (ofWindow w f) p = fillWindow w f p
 
 -- what it logs of the picture that it found: an entry, or a group
-unfoldable pub stepOf : (m : ℕ) (p : Picture) (x : Paint) → List Record
-stepOf m p (ofBlock κ f) = entryOf m p κ f
-stepOf m p (ofWindow w f) = groupOf m p w f
+unfoldable pub loggedBy : (m : ℕ) (p : Picture) (x : Paint) → List Record
+loggedBy m p (ofBlock κ f) = entryOf m p κ f
+loggedBy m p (ofWindow w f) = groupOf m p w f
 
 -- paints, the latest first, applied to a picture one after the other
 unfoldable pub drawn : (m : ℕ) (p : Picture) (paints : List Paint) → Picture
@@ -181,12 +181,12 @@ drawn m p (x ∷ xs) = applied m x (drawn m p xs)
 -- the log of the paints, the latest first, on a picture: each has its step in the picture that it found
 unfoldable pub logOf : (m : ℕ) (p : Picture) (paints : List Paint) → List Record
 logOf m p [] = []
-logOf m p (x ∷ xs) = logOf m p xs ++ stepOf m (drawn m p xs) x
+logOf m p (x ∷ xs) = logOf m p xs ++ loggedBy m (drawn m p xs) x
 
 -- the log of paints to come, the next one first, on a picture
 unfoldable pub logAfter : (m : ℕ) (p : Picture) (paints : List Paint) → List Record
 logAfter m p [] = []
-logAfter m p (x ∷ xs) = stepOf m p x ++ logAfter m (applied m x p) xs
+logAfter m p (x ∷ xs) = loggedBy m p x ++ logAfter m (applied m x p) xs
 
 -- the first raster with the paints applied that were not taken back
 unfoldable pub pictureLeft : (m : ℕ) (raster : List ℕ) (k : Kept) → Picture

@@ -17,7 +17,7 @@ use Rattle.definitions.specs.Picture.{Picture, oneFeature, featuresBelow}
 use Rattle.definitions.specs.List.{Record, listOf, listOfPicture}
 use Rattle.definitions.specs.Read.{room, recordsOf, pictureOf, sameRecords, isListOfBlock, isList}
 use Rattle.definitions.specs.Refusal.{badPixel}
-use Rattle.definitions.specs.Combine.{classOf, combined, combinedList, badTable}
+use Rattle.definitions.specs.Combine.{classOf, combined, combinedList, badClassTable}
 use Rattle.laws.proofs.Within.{Every}
 use Rattle.laws.proofs.Features.{one-to, one-from, one-pixel, one-under, below-to, below-from}
 use Rattle.laws.proofs.ListOf.{list-agree, list-one, list-some, length-node}
@@ -67,8 +67,8 @@ module _ (p q : Picture) (s₁ s₂ k r c κ : ℕ) (firsts : Every (λ a b. p a
       combined-as (combined q p transposed s₁) (λ a b u v. h (p a b) (q a b) u v ∙ sym (combined-is q p transposed s₁ a b))
 
   -- entries below s₃ give classes below s₃
-  pub combined-below : (s₃ : ℕ) → badTable s₁ s₂ s₃ table ≡ false → featuresBelow s₃ (combined p q table s₂) k r c ≡ true
-  unfolding badTable
+  pub combined-below : (s₃ : ℕ) → badClassTable s₁ s₂ s₃ table ≡ false → featuresBelow s₃ (combined p q table s₂) k r c ≡ true
+  unfolding badClassTable
   combined-below s₃ e =
       let sized = eqb-true (length table) (s₁ * s₂) (not-false _ (neither-left (not (eqb (length table) (s₁ * s₂))) (badPixel s₃ table) e)) in
       let small = neither-right (not (eqb (length table) (s₁ * s₂))) (badPixel s₃ table) e in
@@ -154,7 +154,7 @@ combined-most p q table s₂ (suc k) r c κ =
 module _ (m s₁ s₂ : ℕ) (keys₁ bits₁ : List ℕ) (n₁ : ℕ) (keys₂ bits₂ : List ℕ) (n₂ : ℕ) (table : List ℕ)
     (first-list : isList m s₁ keys₁ bits₁ n₁ ≡ true) (second-list : isList m s₂ keys₂ bits₂ n₂ ≡ true) where
   -- the result is a list at m and s₃
-  pub result-list : (s₃ : ℕ) → badTable s₁ s₂ s₃ table ≡ false
+  pub result-list : (s₃ : ℕ) → badClassTable s₁ s₂ s₃ table ≡ false
       → isListOfBlock m s₃ m 0 0 rootKey (combinedList m (recordsOf keys₁ bits₁ n₁) (recordsOf keys₂ bits₂ n₂) table s₂) ≡ true
   unfolding combinedList
   result-list s₃ e =

@@ -13,7 +13,7 @@ use Rattle.keys.proofs.Cases.{decide}
 use Rattle.keys.specs.Under.{here, nw, ne, sw, se, Block}
 use Rattle.keys.proofs.Under.{under-trans}
 use Rattle.keys.proofs.Valid.{block-valid}
-use Rattle.definitions.specs.Window.{inWindow, isGiven, selectFrom, selectIn, isCovered, largestFrom, largestBlocks}
+use Rattle.definitions.specs.Window.{inWindow, isGiven, selectFrom, selectIn, isInside, largestFrom, largestBlocks}
 use Rattle.definitions.specs.declared.Window.{Window}
 use Rattle.laws.proofs.Pixels.{every-same}
 
@@ -23,8 +23,8 @@ and-true false = refl
 
 module _ (w : Window) (f : ℕ) where
   -- a block lies in the window exactly when a picture of f alone gives it
-  covered-given : (k r c : ℕ) → isCovered w k r c ≡ isGiven (λ row column. f) w f k r c
-  unfolding isCovered isGiven
+  covered-given : (k r c : ℕ) → isInside w k r c ≡ isGiven (λ row column. f) w f k r c
+  unfolding isInside isGiven
   covered-given k r c =
       every-same (inWindow w) (λ row column. inWindow w row column && eqb f f) k r c
       (λ row column i. sym (ap (λ b. inWindow w row column && b) (eq-eqb f f refl) ∙ and-true (inWindow w row column)))
@@ -44,18 +44,18 @@ unfolding largestBlocks selectIn
 largest-select m w f = from-select w f m 0 0 rootKey
 
 -- a block that lies in the window is its only largest block
-pub covered-one : (w : Window) (k r c κ : ℕ) → isCovered w k r c ≡ true → largestFrom w k r c κ ≡ κ ∷ []
+pub covered-one : (w : Window) (k r c κ : ℕ) → isInside w k r c ≡ true → largestFrom w k r c κ ≡ κ ∷ []
 unfolding largestFrom
 covered-one w zero r c κ e = rw e
 covered-one w (suc k) r c κ e = rw e
 
 -- a pixel that does not has none
-pub covered-none : (w : Window) (r c κ : ℕ) → isCovered w 0 r c ≡ false → largestFrom w 0 r c κ ≡ []
+pub covered-none : (w : Window) (r c κ : ℕ) → isInside w 0 r c ≡ false → largestFrom w 0 r c κ ≡ []
 unfolding largestFrom
 covered-none w r c κ e = rw e
 
 -- a larger block that does not has those of its quadrants
-pub covered-part : (w : Window) (k r c κ : ℕ) → isCovered w (suc k) r c ≡ false
+pub covered-part : (w : Window) (k r c κ : ℕ) → isInside w (suc k) r c ≡ false
     → largestFrom w (suc k) r c κ
     ≡ largestFrom w k r c (childKey κ k 1)
     ++ (largestFrom w k r (c + 2 ^ k) (childKey κ k 2)
@@ -89,12 +89,12 @@ one-in-order {k = k} {κ = κ} b = block {from = κ} {κ = κ} (omega arith) b (
 -- the largest blocks under a block of the map stand in order
 largest-order : {m : ℕ} (w : Window) (k : ℕ) {r c κ : ℕ} → Block m k r c κ → BlocksInOrder m κ (κ + 5 ^ k) (largestFrom w k r c κ)
 largest-order w zero {r} {c} {κ} b =
-    decide (isCovered w 0 r c)
+    decide (isInside w 0 r c)
     (λ e. rw (covered-one w 0 r c κ e) (one-in-order b))
     (λ e. rw (covered-none w r c κ e) (no-block {from = κ} {until = κ + 1} (omega arith)))
 largest-order w (suc k) {r} {c} {κ} b =
     let five = pow-suc 5 k in
-    decide (isCovered w (suc k) r c)
+    decide (isInside w (suc k) r c)
     (λ e. rw (covered-one w (suc k) r c κ e) (one-in-order b))
     (λ e. rw (covered-part w k r c κ e)
     (order-widen {from = childKey κ k 1} {from′ = κ} {until′ = κ + 5 ^ suc k} (omega arith) (omega arith)

@@ -15,7 +15,7 @@ use Rattle.keys.specs.Under.{here, nw, ne, sw, se, Block}
 use Rattle.keys.proofs.Under.{under-trans}
 use Rattle.keys.proofs.Pixel.{InSquare, inside}
 use Rattle.keys.proofs.InBlock.{inBlock-iff}
-use Rattle.definitions.specs.Window.{isWindow, inWindow, isCovered, largestFrom, largestBlocks}
+use Rattle.definitions.specs.Window.{isWindow, inWindow, isInside, largestFrom, largestBlocks}
 use Rattle.definitions.specs.declared.Window.{Window}
 use Rattle.laws.proofs.Within.{within-cases, pixel-row, pixel-column}
 use Rattle.laws.proofs.Pixels.{every-to, every-from}
@@ -65,25 +65,25 @@ or-false : (a : Bool) → a || false ≡ a
 or-false true = refl
 or-false false = refl
 
-covered-inside : {m k r c κ : ℕ} (w : Window) → Block m k r c κ → (row column : ℕ) → isCovered w k r c ≡ true → inSome m (κ ∷ []) row column ≡ true
+covered-inside : {m k r c κ : ℕ} (w : Window) → Block m k r c κ → (row column : ℕ) → isInside w k r c ≡ true → inSome m (κ ∷ []) row column ≡ true
     → inWindow w row column ≡ true
-unfolding isCovered inSome
+unfolding isInside inSome
 covered-inside {m} {k} {r} {c} {κ} w b row column e h =
     every-to (inWindow w) k r c e row column (inBlock-iff row column b .0 (sym (or-false (inBlock m κ row column)) ∙ h))
 
-pixel-covered : (w : Window) (r c : ℕ) → inWindow w r c ≡ true → isCovered w 0 r c ≡ true
-unfolding isCovered
+pixel-covered : (w : Window) (r c : ℕ) → inWindow w r c ≡ true → isInside w 0 r c ≡ true
+unfolding isInside
 pixel-covered w r c h = every-from (inWindow w) 0 r c (λ row column i. ap₂ (inWindow w) (pixel-row i) (pixel-column i) ∙ h)
 
 -- a pixel of one of the largest blocks lies in the window
 all-inside : {m : ℕ} (w : Window) (k : ℕ) {r c κ : ℕ} → Block m k r c κ → (row column : ℕ) → inSome m (largestFrom w k r c κ) row column ≡ true
     → inWindow w row column ≡ true
 all-inside {m} w zero {r} {c} {κ} b row column h =
-    decide (isCovered w 0 r c)
+    decide (isInside w 0 r c)
     (λ e. covered-inside w b row column e (rw (covered-one w 0 r c κ e) at h))
     (λ e. absurd (true≢false (sym (rw (covered-none w r c κ e) at h) ∙ some-none m row column)))
 all-inside {m} w (suc k) {r} {c} {κ} b row column h =
-    decide (isCovered w (suc k) r c)
+    decide (isInside w (suc k) r c)
     (λ e. covered-inside w b row column e (rw (covered-one w (suc k) r c κ e) at h))
     (λ e. some-of-four m (largestFrom w k r c (childKey κ k 1)) (largestFrom w k r (c + 2 ^ k) (childKey κ k 2))
     (largestFrom w k (r + 2 ^ k) c (childKey κ k 3)) (largestFrom w k (r + 2 ^ k) (c + 2 ^ k) (childKey κ k 4)) row column
@@ -97,7 +97,7 @@ all-inside {m} w (suc k) {r} {c} {κ} b row column h =
 all-covered : {m : ℕ} (w : Window) (k : ℕ) {r c κ : ℕ} → Block m k r c κ → (row column : ℕ) → InSquare k r c row column → inWindow w row column ≡ true
     → inSome m (largestFrom w k r c κ) row column ≡ true
 all-covered {m} w zero {r} {c} {κ} b row column i h =
-    decide (isCovered w 0 r c)
+    decide (isInside w 0 r c)
     (λ e. rw (covered-one w 0 r c κ e) (itself b row column i))
     (λ e. absurd (true≢false (sym (pixel-covered w r c (ap₂ (inWindow w) (sym (pixel-row i)) (sym (pixel-column i)) ∙ h)) ∙ e)))
 all-covered {m} w (suc k) {r} {c} {κ} b row column i h =
@@ -105,7 +105,7 @@ all-covered {m} w (suc k) {r} {c} {κ} b row column i h =
     let d : List ℕ = largestFrom w k r (c + 2 ^ k) (childKey κ k 2) in
     let g : List ℕ = largestFrom w k (r + 2 ^ k) c (childKey κ k 3) in
     let j : List ℕ = largestFrom w k (r + 2 ^ k) (c + 2 ^ k) (childKey κ k 4) in
-    decide (isCovered w (suc k) r c)
+    decide (isInside w (suc k) r c)
     (λ e. rw (covered-one w (suc k) r c κ e) (itself b row column i))
     (λ e. rw (covered-part w k r c κ e)
     (within-cases i

@@ -17,7 +17,7 @@ use Rattle.definitions.specs.Edit.{paintIn, contentOf}
 use Rattle.definitions.specs.Log.{closed, entryOf}
 use Rattle.definitions.specs.Calls.Paint.{gained}
 use Rattle.laws.proofs.ListOf.{list-agree}
-use Rattle.history.specs.History.{Buffers, ofBlock, stepOf, answer, after, run}
+use Rattle.history.specs.History.{Buffers, ofBlock, loggedBy, answer, after, run}
 use Rattle.order.specs.Paint.{Paint}
 use Rattle.history.proofs.Content.{gained-entry}
 use Rattle.history.proofs.Drawn.{paint-outside}
@@ -90,7 +90,7 @@ module _ (m s : ℕ) where
   -- an accepted paint puts its entry in force
   one-longer : (b : Buffers) (p : Picture) (x : Paint) → listIn b ≡ listOfPicture m p → answer m s b (asCall x) ≡ 0
       → after m s b (asCall x) .inForce ≡ b .inForce + length (entryOf m p (x .key) (x .feature))
-  unfolding stepOf gained
+  unfolding loggedBy gained
   one-longer b p x e accepted =
       ap (λ b′. b′ .inForce) (paint-done m s b (ofBlock (x .key) (x .feature)) accepted)
       ∙ ap (λ l. b .inForce + length l)

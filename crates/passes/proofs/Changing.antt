@@ -25,7 +25,7 @@ use Rattle.list.specs.Check.{oneSlot}
 use Rattle.list.specs.Own.{OwnList, shownBy}
 use Rattle.list.proofs.Own.{own-keys, own-values, own-length}
 use Rattle.step.specs.Step.{Step, renewed, squeezed, pruned, grown, over as stepOver}
-use Rattle.passes.specs.Passes.{Showing, Shown, There, IsSqueezed, GrowAsked, Counted, Renewed, RenewedAt}
+use Rattle.passes.specs.Passes.{Showing, Shown, There, IsSqueezed, GrowAsked, BlockCounted, Renewed, RenewedAt}
 use Rattle.passes.specs.Change.{Changeable, Changed, zeroed}
 use Rattle.step.proofs.Pruned.{pruned-one, pruned-merged, pruned-node, renewed-one, renewed-node, grown-pruned}
 use Rattle.passes.proofs.Squeezed.{renewed-length, squeezed-list, pruned-before}
@@ -112,7 +112,7 @@ module _ (t : Step) {m : ℕ} {keys bits : List ℕ} {n : ℕ} (deep : m ≤ 10)
   between = renewed p (stepOver t p) m 0 0 0
 
   -- how long the list becomes
-  pub length-told : {union count next : ℕ} → Counted t m 0 0 bits 0 union count next → count ≡ length (listOfPicture m (stepOver t (shownBy m keys bits n)))
+  pub length-told : {union count next : ℕ} → BlockCounted t m 0 0 bits 0 union count next → count ≡ length (listOfPicture m (stepOver t (shownBy m keys bits n)))
   length-told x = x .tallied p 0 (showing-whole own) .count-is
 
   between-length : length between ≡ n

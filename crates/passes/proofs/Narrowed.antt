@@ -21,7 +21,7 @@ use Rattle.laws.proofs.ListOf.{list-agree}
 use Rattle.build.specs.BuildBlocks.{Tallied, Written, Fitting}
 use Rattle.step.specs.Step.{Step, over, renewed}
 use Rattle.step.specs.Deed.{SameBefore}
-use Rattle.passes.specs.Passes.{Counted, Renewed, RenewedAt}
+use Rattle.passes.specs.Passes.{BlockCounted, Renewed, RenewedAt}
 use Rattle.step.proofs.Pruned.{renewed-one, renewed-node}
 
 same-node : {x x′ : Record} {a b c d a′ b′ c′ d′ : List Record} → x ≡ x′ → a ≡ a′ → b ≡ b′ → c ≡ c′ → d ≡ d′
@@ -56,7 +56,7 @@ module _ {m past k r c κ : ℕ} {t t′ : Step} (s : SameBefore m past t t′) 
     count-is = x .count-is ∙ ap length (list-agree (over t′ p) (over t p) k r c 0 (narrowed-agree p));
   }
 
-  pub narrowed-counted : {bits : List ℕ} {at union count next : ℕ} → Counted t′ k r c bits at union count next → Counted t k r c bits at union count next
+  pub narrowed-counted : {bits : List ℕ} {at union count next : ℕ} → BlockCounted t′ k r c bits at union count next → BlockCounted t k r c bits at union count next
   narrowed-counted x = record { tallied = λ p key s. narrowed-tallied p (x .tallied p key s); passed = x .passed }
 
   -- what is to be renewed is the same

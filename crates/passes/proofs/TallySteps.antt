@@ -24,7 +24,7 @@ use Rattle.step.specs.Quarters.{quartersOf}
 use Rattle.step.specs.declared.quarters.Quarters.{Quarters}
 use Rattle.step.proofs.QuarterSums.{block-nw, block-ne, block-sw, block-se}
 use Rattle.step.specs.Deed.{LeafAsked}
-use Rattle.passes.specs.Passes.{Showing, Shown, Counted}
+use Rattle.passes.specs.Passes.{Showing, Shown, BlockCounted}
 use Rattle.step.proofs.Pruned.{leaf-before}
 use Rattle.passes.proofs.RenewLaws.{showing-left, node-quadrants, V₂, V₃, V₄}
 use Rattle.passes.proofs.RenewSteps.{shown-own, shown-several, asked-positive}
@@ -59,7 +59,7 @@ module _ (t : Step) (p : Picture) (k r c κ half : ℕ) (e : half ≡ 2 ^ k) {b 
   pub count-nw : Showing (valuesOf (listOf p k r c (childKey κ k 1))) b (at + 1)
   count-nw = showing-left (valuesOf (listOf p k r c (childKey κ k 1))) (v₂ ++ (v₃ ++ v₄)) all
 
-  module _ {u₁ m₁ n₁ : ℕ} (h₁ : Counted t k r c b (at + 1) u₁ m₁ n₁) where
+  module _ {u₁ m₁ n₁ : ℕ} (h₁ : BlockCounted t k r c b (at + 1) u₁ m₁ n₁) where
     behind-nw : Showing (v₂ ++ (v₃ ++ v₄)) b n₁
     behind-nw = past p k r c (childKey κ k 1) (v₂ ++ (v₃ ++ v₄)) all (h₁ .passed p (childKey κ k 1) count-nw)
 
@@ -67,7 +67,7 @@ module _ (t : Step) (p : Picture) (k r c κ half : ℕ) (e : half ≡ 2 ^ k) {b 
     unfolding v₂
     count-ne = showing-left (valuesOf (listOf p k r (c + half) (childKey κ k 2))) (v₃ ++ v₄) behind-nw
 
-    module _ {u₂ m₂ n₂ : ℕ} (h₂ : Counted t k r (c + half) b n₁ u₂ m₂ n₂) where
+    module _ {u₂ m₂ n₂ : ℕ} (h₂ : BlockCounted t k r (c + half) b n₁ u₂ m₂ n₂) where
       behind-ne : Showing (v₃ ++ v₄) b n₂
       unfolding v₂
       behind-ne = past p k r (c + half) (childKey κ k 2) (v₃ ++ v₄) behind-nw (h₂ .passed p (childKey κ k 2) count-ne)
@@ -76,12 +76,12 @@ module _ (t : Step) (p : Picture) (k r c κ half : ℕ) (e : half ≡ 2 ^ k) {b 
       unfolding v₃
       count-sw = showing-left (valuesOf (listOf p k (r + half) c (childKey κ k 3))) v₄ behind-ne
 
-      module _ {u₃ m₃ n₃ : ℕ} (h₃ : Counted t k (r + half) c b n₂ u₃ m₃ n₃) where
+      module _ {u₃ m₃ n₃ : ℕ} (h₃ : BlockCounted t k (r + half) c b n₂ u₃ m₃ n₃) where
         pub count-se : Showing (valuesOf (listOf p k (r + half) (c + half) (childKey κ k 4))) b n₃
         unfolding v₃ v₄
         count-se = past p k (r + half) c (childKey κ k 3) (valuesOf (listOf p k (r + half) (c + half) (childKey κ k 4))) behind-ne (h₃ .passed p (childKey κ k 3) count-sw)
 
-        module _ {u₄ m₄ n₄ : ℕ} (h₄ : Counted t k (r + half) (c + half) b n₃ u₄ m₄ n₄) where
+        module _ {u₄ m₄ n₄ : ℕ} (h₄ : BlockCounted t k (r + half) (c + half) b n₃ u₄ m₄ n₄) where
           pub four-tallied : {u n : ℕ} → Joined (unionOfFour u₁ u₂ u₃ u₄) (m₁ + (m₂ + (m₃ + m₄))) u n → Tallied (over t p) (suc k) r c u n
           four-tallied j = tallied-four (over t p) k half r c e (h₁ .tallied p (childKey κ k 1) count-nw) (h₂ .tallied p (childKey κ k 2) count-ne) (h₃ .tallied p (childKey κ k 3) count-sw) (h₄ .tallied p (childKey κ k 4) count-se) j
 
@@ -102,7 +102,7 @@ module _ (t : Step) (p : Picture) (k r c κ half : ℕ) (e : half ≡ 2 ^ k) {b 
 
 -- a leaf
 pub leaf-counted : (t : Step) (k r c : ℕ) {b : List ℕ} {at union count : ℕ} → oneSlot (getD b at 0) ≡ true
-    → Tallied (over t (plain (featureOf (getD b at 0)))) k r c union count → Counted t k r c b at union count (at + 1)
+    → Tallied (over t (plain (featureOf (getD b at 0)))) k r c union count → BlockCounted t k r c b at union count (at + 1)
 leaf-counted t k r c {b} {at} {union} {count} one told =
     record {
       tallied = λ p κ s. same p κ s (uniform p κ s);
@@ -148,8 +148,8 @@ module _ (t : Step) {m k r c κ at : ℕ} {b : List ℕ} {q : Quarters} (e : q �
         rw (e, ← first) (count-nw t (a .picture) (k - 1) r c κ (2 ^ (k - 1)) refl shown several);
   }
 
-  module _ {u₁ m₁ n₁ : ℕ} (h₁ : Counted t (q .height) r c b (at + 1) u₁ m₁ n₁) where
-    g₁ : Counted t (k - 1) r c b (at + 1) u₁ m₁ n₁
+  module _ {u₁ m₁ n₁ : ℕ} (h₁ : BlockCounted t (q .height) r c b (at + 1) u₁ m₁ n₁) where
+    g₁ : BlockCounted t (k - 1) r c b (at + 1) u₁ m₁ n₁
     g₁ = rw e at h₁
 
     pub asks-ne : Shown m (q .height) r (q .right) (q .ne) b n₁
@@ -160,8 +160,8 @@ module _ (t : Step) {m k r c κ at : ℕ} {b : List ℕ} {q : Quarters} (e : q �
       shown = rw e (count-ne t (a .picture) (k - 1) r c κ (2 ^ (k - 1)) refl shown several g₁);
     }
 
-    module _ {u₂ m₂ n₂ : ℕ} (h₂ : Counted t (q .height) r (q .right) b n₁ u₂ m₂ n₂) where
-      g₂ : Counted t (k - 1) r (c + 2 ^ (k - 1)) b n₁ u₂ m₂ n₂
+    module _ {u₂ m₂ n₂ : ℕ} (h₂ : BlockCounted t (q .height) r (q .right) b n₁ u₂ m₂ n₂) where
+      g₂ : BlockCounted t (k - 1) r (c + 2 ^ (k - 1)) b n₁ u₂ m₂ n₂
       g₂ = rw e at h₂
 
       pub asks-sw : Shown m (q .height) (q .down) c (q .sw) b n₂
@@ -172,8 +172,8 @@ module _ (t : Step) {m k r c κ at : ℕ} {b : List ℕ} {q : Quarters} (e : q �
         shown = rw e (count-sw t (a .picture) (k - 1) r c κ (2 ^ (k - 1)) refl shown several g₁ g₂);
       }
 
-      module _ {u₃ m₃ n₃ : ℕ} (h₃ : Counted t (q .height) (q .down) c b n₂ u₃ m₃ n₃) where
-        g₃ : Counted t (k - 1) (r + 2 ^ (k - 1)) c b n₂ u₃ m₃ n₃
+      module _ {u₃ m₃ n₃ : ℕ} (h₃ : BlockCounted t (q .height) (q .down) c b n₂ u₃ m₃ n₃) where
+        g₃ : BlockCounted t (k - 1) (r + 2 ^ (k - 1)) c b n₂ u₃ m₃ n₃
         g₃ = rw e at h₃
 
         pub asks-se : Shown m (q .height) (q .down) (q .right) (q .se) b n₃
@@ -184,11 +184,11 @@ module _ (t : Step) {m k r c κ at : ℕ} {b : List ℕ} {q : Quarters} (e : q �
           shown = rw e (count-se t (a .picture) (k - 1) r c κ (2 ^ (k - 1)) refl shown several g₁ g₂ g₃);
         }
 
-        pub gives-node : {u₄ m₄ n₄ u n : ℕ} → Counted t (q .height) (q .down) (q .right) b n₃ u₄ m₄ n₄
+        pub gives-node : {u₄ m₄ n₄ u n : ℕ} → BlockCounted t (q .height) (q .down) (q .right) b n₃ u₄ m₄ n₄
             → Joined (unionOfFour u₁ u₂ u₃ u₄) (m₁ + (m₂ + (m₃ + m₄))) u n
-            → Counted t k r c b at u n n₄
+            → BlockCounted t k r c b at u n n₄
         gives-node {u₄} {m₄} {n₄} {u} {n} h₄ j =
-            let g₄ : Counted t (k - 1) (r + 2 ^ (k - 1)) (c + 2 ^ (k - 1)) b n₃ u₄ m₄ n₄ = rw e at h₄ in
+            let g₄ : BlockCounted t (k - 1) (r + 2 ^ (k - 1)) (c + 2 ^ (k - 1)) b n₃ u₄ m₄ n₄ = rw e at h₄ in
             record {
               tallied = λ p κ s.
                   let s′ : Showing (valuesOf (listOf p (suc (k - 1)) r c κ)) b at = rw (← up) s in
@@ -203,5 +203,5 @@ pub leaf-shown : {m k r c κ at : ℕ} {b : List ℕ} → Shown m k r c κ b at 
 leaf-shown a own one = record { deep = a .deep; block = a .block; leaf = one }
 
 -- what a call asks for its tallies
-pub counted-small : {t : Step} {m k r c κ at u n next : ℕ} {b : List ℕ} → Shown m k r c κ b at → Counted t k r c b at u n next → k ≤ 9 → n ≤ 5 ^ 9
+pub counted-small : {t : Step} {m k r c κ at u n next : ℕ} {b : List ℕ} → Shown m k r c κ b at → BlockCounted t k r c b at u n next → k ≤ 9 → n ≤ 5 ^ 9
 counted-small {κ = κ} a h low = tallied-small (h .tallied (a .picture) κ (a .shown)) low

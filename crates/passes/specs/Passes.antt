@@ -28,7 +28,7 @@ pub record Shown (m height row column key : ℕ) (bits : List ℕ) (at : ℕ) : 
   pub shown : Showing (valuesOf (listOf picture height row column key)) bits at
 
 -- the bits and the number of records of a block after the step, and the place after its records before it, of whichever picture the bitstrings show
-pub record Counted (t : Step) (height row column : ℕ) (bits : List ℕ) (at union count next : ℕ) : Type 0 where
+pub record BlockCounted (t : Step) (height row column : ℕ) (bits : List ℕ) (at union count next : ℕ) : Type 0 where
   pub tallied : (p : Picture) (key : ℕ) → Showing (valuesOf (listOf p height row column key)) bits at → Tallied (over t p) height row column union count
   pub passed : (p : Picture) (key : ℕ) → Showing (valuesOf (listOf p height row column key)) bits at → next ≡ at + length (listOf p height row column key)
 

@@ -4,7 +4,7 @@ ghost use Rattle.definitions.specs.Bits.{featureOf};
 ghost use Rattle.build.specs.BuildBlocks.{Tallied};
 ghost use Rattle.step.specs.Step.{plain, over};
 ghost use Rattle.step.specs.Deed.{Doable, stepOf, LeafAsked};
-ghost use Rattle.passes.specs.Passes.{Shown, Counted};
+ghost use Rattle.passes.specs.Passes.{Shown, BlockCounted};
 use build::count;
 use build::count::Tally;
 use list::check;
@@ -101,7 +101,7 @@ pub fn tally_records(
     bits: &[u32],
 ) -> Passed
     requires { ⌜ Doable m deed (now «log_keys») (now «log_values») × Shown m height row column key (now bits) at ⌝ }
-    ensures { λ r. ⌜ Counted (stepOf m deed (now («log_keys» .entry)) (now («log_values» .entry))) height row column (now (bits .entry)) at (r .tally .bits) (r .tally .count) (r .next) ⌝ }
+    ensures { λ r. ⌜ BlockCounted (stepOf m deed (now («log_keys» .entry)) (now («log_values» .entry))) height row column (now (bits .entry)) at (r .tally .bits) (r .tally .count) (r .next) ⌝ }
 {
     let own = bits[at];
     if check::has_one_slot(own) {

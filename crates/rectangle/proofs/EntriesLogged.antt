@@ -12,7 +12,7 @@ use Rattle.definitions.specs.Picture.{Picture}
 use Rattle.definitions.specs.List.{Record, keysOf, valuesOf}
 use Rattle.definitions.specs.Read.{room, recordsOf}
 use Rattle.definitions.specs.Buffer.{overAt}
-use Rattle.definitions.specs.Window.{isCovered, largestFrom}
+use Rattle.definitions.specs.Window.{isInside, largestFrom}
 use Rattle.definitions.specs.declared.Window.{Window}
 use Rattle.definitions.specs.Log.{entriesOf}
 use Rattle.definitions.specs.Calls.Paint.{gained}
@@ -87,7 +87,7 @@ no-entry m p w f k r c κ place keys values e =
 
 -- the entries of the quadrants, one behind the other
 module _ {m : ℕ} {keys bits : List ℕ} {n : ℕ} {w : Window} {f k r c κ place : ℕ} {logKeys logValues : List ℕ} {q : Quarters}
-    (a : Enterable m keys bits n w f k r c κ place logKeys logValues) (e : q ≡ quartersOf k r c κ) (positive : 0 < k) (cut : isCovered w k r c ≡ false) where
+    (a : Enterable m keys bits n w f k r c κ place logKeys logValues) (e : q ≡ quartersOf k r c κ) (positive : 0 < k) (cut : isInside w k r c ≡ false) where
   abbrev in-nw : List Record
   in-nw = entriesBelow m (shownBy m keys bits n) w f (q .height) r c (q .nw)
 

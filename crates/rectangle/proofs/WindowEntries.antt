@@ -15,7 +15,7 @@ use Rattle.keys.proofs.Under.{under-trans}
 use Rattle.keys.proofs.Valid.{block-valid}
 use Rattle.definitions.specs.Picture.{Picture}
 use Rattle.definitions.specs.List.{Record}
-use Rattle.definitions.specs.Window.{inWindow, isCovered, largestFrom}
+use Rattle.definitions.specs.Window.{inWindow, isInside, largestFrom}
 use Rattle.definitions.specs.declared.Window.{Window}
 use Rattle.definitions.specs.Edit.{contentOf}
 use Rattle.definitions.specs.Log.{closingPlaces, entryOf, entriesOf}
@@ -28,9 +28,9 @@ use Rattle.step.specs.Quarters.{quartersOf}
 use Rattle.step.specs.declared.quarters.Quarters.{Quarters}
 
 -- a block with a pixel outside the window is not covered
-pub not-covered : (w : Window) (k r c : ℕ) → inWindow w r c ≡ false → isCovered w k r c ≡ false
-unfolding isCovered
-not-covered w k r c h = decide (isCovered w k r c) (λ e. absurd (true≢false (sym (every-to (inWindow w) k r c e r c (first-within k r c)) ∙ h))) (λ e. e)
+pub not-covered : (w : Window) (k r c : ℕ) → inWindow w r c ≡ false → isInside w k r c ≡ false
+unfolding isInside
+not-covered w k r c h = decide (isInside w k r c) (λ e. absurd (true≢false (sym (every-to (inWindow w) k r c e r c (first-within k r c)) ∙ h))) (λ e. e)
 
 -- a block that lies apart from the window has none
 pub largest-none : (w : Window) (k r c κ : ℕ) → Every (λ a b. inWindow w a b ≡ false) k r c → largestFrom w k r c κ ≡ []
@@ -42,7 +42,7 @@ largest-none w (suc k) r c κ h =
     (ap₂ _++_ (largest-none w k (r + 2 ^ k) c (childKey κ k 3) (every-sw h)) (largest-none w k (r + 2 ^ k) (c + 2 ^ k) (childKey κ k 4) (every-se h))))
 
 -- the quadrants as the code names them
-pub largest-quarters : (w : Window) (r c κ : ℕ) {k : ℕ} {q : Quarters} → q ≡ quartersOf k r c κ → 0 < k → isCovered w k r c ≡ false
+pub largest-quarters : (w : Window) (r c κ : ℕ) {k : ℕ} {q : Quarters} → q ≡ quartersOf k r c κ → 0 < k → isInside w k r c ≡ false
     → largestFrom w k r c κ
     ≡ largestFrom w (q .height) r c (q .nw)
     ++ (largestFrom w (q .height) r (q .right) (q .ne)
@@ -55,7 +55,7 @@ largest-quarters w r c κ {k} e positive cut =
     ++ (largestFrom w (k - 1) (r + 2 ^ (k - 1)) c (childKey κ (k - 1) 3) ++ largestFrom w (k - 1) (r + 2 ^ (k - 1)) (c + 2 ^ (k - 1)) (childKey κ (k - 1) 4)) in
     rw e
     (ap (λ j. largestFrom w j r c κ) up
-    ∙ covered-part w (k - 1) r c κ (ap (λ j. isCovered w j r c) (sym up) ∙ cut)
+    ∙ covered-part w (k - 1) r c κ (ap (λ j. isInside w j r c) (sym up) ∙ cut)
     ∙ ap (λ x. largestFrom w (k - 1) r c x ++ rest) first)
 
 module _ (m : ℕ) (p : Picture) (f : ℕ) where
@@ -110,11 +110,11 @@ module _ (m : ℕ) (p : Picture) (f : ℕ) where
   -- and so have the entries of the largest blocks in it
   pub entries-few : (w : Window) (k : ℕ) {r c κ : ℕ} → Block m k r c κ → length (entriesOf m p (largestFrom w k r c κ) f) ≤ 3 * 5 ^ k
   entries-few w zero {r} {c} {κ} b =
-      decide (isCovered w zero r c)
+      decide (isInside w zero r c)
       (λ e. let x = ap length (ap (λ l. entriesOf m p l f) (covered-one w zero r c κ e) ∙ entries-one κ) in let y = entry-few b in omega arith)
       (λ e. let x = ap length (ap (λ l. entriesOf m p l f) (largest-pixel w r c κ e) ∙ entries-none) in omega arith)
   entries-few w (suc k) {r} {c} {κ} b =
-      decide (isCovered w (suc k) r c)
+      decide (isInside w (suc k) r c)
       (λ e. let x = ap length (ap (λ l. entriesOf m p l f) (covered-one w (suc k) r c κ e) ∙ entries-one κ) in let y = entry-few b in omega arith)
       (λ e.
       let l₁ : List ℕ = largestFrom w k r c (childKey κ k 1) in

@@ -8,7 +8,7 @@ use Rattle.keys.proofs.Cases.{decide}
 use Rattle.keys.proofs.Interval.{within}
 use Rattle.keys.proofs.Powers.{two-le, two-pos}
 use Rattle.keys.specs.Under.{Block}
-use Rattle.definitions.specs.Window.{inWindow, isCovered}
+use Rattle.definitions.specs.Window.{inWindow, isInside}
 use Rattle.definitions.specs.declared.Window.{Window}
 use Rattle.laws.proofs.Pixels.{every-to, every-from}
 use Rattle.laws.proofs.WindowScan.{inside-window}
@@ -49,7 +49,7 @@ module _ {w : Window} {k r c side : ℕ} (a : Placed w k r c) (e : side ≡ 2 ^ 
   }
 
   pub lies-within : isWithin (spotAt r c side) w ≡ true → Lies w k r c 1
-  unfolding isCovered
+  unfolding isInside
   lies-within h = record {
     none = λ x. absurd (omega arith);
     one = λ x κ. covered-one w k r c κ (every-from (inWindow w) k r c (λ row column i. within-pixel (spotAt r c side) w row column h (omega arith)));
@@ -57,8 +57,8 @@ module _ {w : Window} {k r c side : ℕ} (a : Placed w k r c) (e : side ≡ 2 ^ 
   }
 
   -- a covered block has its rows and columns in the window: those of its first and of its last pixel
-  covered-within : isCovered w k r c ≡ true → isWithin (spotAt r c side) w ≡ true
-  unfolding isCovered
+  covered-within : isInside w k r c ≡ true → isWithin (spotAt r c side) w ≡ true
+  unfolding isInside
   covered-within h =
       let some = two-pos k in
       let first = inside-window w r c (every-to (inWindow w) k r c h r c (omega arith)) in
@@ -69,7 +69,7 @@ module _ {w : Window} {k r c side : ℕ} (a : Placed w k r c) (e : side ≡ 2 ^ 
   lies-cut h i = record {
     none = λ x. absurd (omega arith);
     one = λ x. absurd (omega arith);
-    parts = λ x y. (higher k e, decide (isCovered w k r c) (λ j. absurd (true≢false (sym (covered-within j) ∙ i))) (λ j. j));
+    parts = λ x y. (higher k e, decide (isInside w k r c) (λ j. absurd (true≢false (sym (covered-within j) ∙ i))) (λ j. j));
   }
     where
       higher : (k : ℕ) → side ≡ 2 ^ k → 0 < k

@@ -11,7 +11,7 @@ use Rattle.keys.proofs.Powers.{five-le}
 use Rattle.definitions.specs.Picture.{Picture}
 use Rattle.definitions.specs.Read.{recordsOf}
 use Rattle.definitions.specs.Standing.{partLength}
-use Rattle.definitions.specs.Window.{isCovered, largestFrom}
+use Rattle.definitions.specs.Window.{isInside, largestFrom}
 use Rattle.definitions.specs.declared.Window.{Window}
 use Rattle.definitions.specs.Log.{closingPlaces, entriesOf}
 use Rattle.definitions.specs.Calls.Paint.{gained}
@@ -59,7 +59,7 @@ needs-runs m p l₁ l₂ l₃ l₄ a b c d = record {
 }
 
 -- of the quadrants
-pub needs-four : (m : ℕ) (p : Picture) (w : Window) (r c κ : ℕ) {k : ℕ} {q : Quarters} {n₁ n₂ n₃ n₄ p₁ p₂ p₃ p₄ : ℕ} → q ≡ quartersOf k r c κ → 0 < k → isCovered w k r c ≡ false
+pub needs-four : (m : ℕ) (p : Picture) (w : Window) (r c κ : ℕ) {k : ℕ} {q : Quarters} {n₁ n₂ n₃ n₄ p₁ p₂ p₃ p₄ : ℕ} → q ≡ quartersOf k r c κ → 0 < k → isInside w k r c ≡ false
     → NeededFor m p (largestFrom w (q .height) r c (q .nw)) n₁ p₁
     → NeededFor m p (largestFrom w (q .height) r (q .right) (q .ne)) n₂ p₂
     → NeededFor m p (largestFrom w (q .height) (q .down) c (q .sw)) n₃ p₃

@@ -8,7 +8,7 @@ use Rattle.keys.specs.Under.{Block}
 use Rattle.definitions.specs.Picture.{Picture}
 use Rattle.definitions.specs.List.{Record}
 use Rattle.definitions.specs.Read.{room, recordsOf}
-use Rattle.definitions.specs.Window.{isCovered, largestFrom, largestBlocks}
+use Rattle.definitions.specs.Window.{isInside, largestFrom, largestBlocks}
 use Rattle.definitions.specs.declared.Window.{Window}
 use Rattle.definitions.specs.Log.{entriesOf}
 use Rattle.definitions.specs.Calls.PaintWindow.{groupGained}
@@ -26,7 +26,7 @@ pub record Placed (w : Window) (height row column : ℕ) : Type 0 where
 pub record Lies (w : Window) (height row column told : ℕ) : Type 0 where
   pub none : told ≡ 0 → (κ : ℕ) → largestFrom w height row column κ ≡ []
   pub one : told ≡ 1 → (κ : ℕ) → largestFrom w height row column κ ≡ κ ∷ []
-  pub parts : (told ≡ 0 → ⊥) → (told ≡ 1 → ⊥) → (0 < height) × (isCovered w height row column ≡ false)
+  pub parts : (told ≡ 0 → ⊥) → (told ≡ 1 → ⊥) → (0 < height) × (isInside w height row column ≡ false)
 
 -- an accepted list, and a window of the map
 pub record Coverable (m : ℕ) (keys bits : List ℕ) (n : ℕ) (w : Window) : Type 0 where

@@ -11,7 +11,7 @@ use Rattle.window.specs.Gather.{putAt, written}
 use Rattle.window.proofs.Written.{written-none, written-one, written-append, length-written}
 use Rattle.sift.specs.declared.Sifting.{Sifting}
 use Rattle.sift.specs.Covering.{Passed}
-use Rattle.sift.specs.Sift.{notWaived, SiftReady, Counted, Sifted}
+use Rattle.sift.specs.Sift.{notWaived, SiftReady, FindingsCounted, Sifted}
 use Rattle.sift.proofs.Settling.{passed-widen}
 
 -- ---- the keys that are not waived
@@ -47,7 +47,7 @@ module _ (m limit id : ℕ) (waived : List ℕ) where
   same l = map (λ (key : ℕ). id) l
 
   -- nothing is given
-  pub counted-none : (given : List ℕ) (at : Sifting) (ids keys : List ℕ) → given ≡ [] → Counted m limit id waived given at at ids ids keys keys
+  pub counted-none : (given : List ℕ) (at : Sifting) (ids keys : List ℕ) → given ≡ [] → FindingsCounted m limit id waived given at at ids ids keys keys
   counted-none given at ids keys e =
       let none : notWaived m waived given ≡ [] = ap (notWaived m waived) e ∙ not-waived-nil m waived in
       record {
@@ -59,7 +59,7 @@ module _ (m limit id : ℕ) (waived : List ℕ) where
 
   -- one key that is waived
   pub counted-hidden : (key : ℕ) (at r : Sifting) (ids keys : List ℕ) → isCovered m waived key ≡ true → r .live ≡ at .live → r .hidden ≡ at .hidden + 1
-      → Counted m limit id waived (key ∷ []) at r ids ids keys keys
+      → FindingsCounted m limit id waived (key ∷ []) at r ids ids keys keys
   counted-hidden key at r ids keys e l h =
       let none : notWaived m waived (key ∷ []) ≡ [] = waived-out m waived key [] e ∙ not-waived-nil m waived in
       record {
@@ -76,7 +76,7 @@ module _ (m limit id : ℕ) (waived : List ℕ) where
   pub counted-live : (key : ℕ) (at r : Sifting) (ids ids′ keys keys′ : List ℕ) → isCovered m waived key ≡ false → r .live ≡ at .live + 1 → r .hidden ≡ at .hidden
       → ids′ ≡ putAt limit ids (at .live) id
       → keys′ ≡ putAt limit keys (at .live) key
-      → Counted m limit id waived (key ∷ []) at r ids ids′ keys keys′
+      → FindingsCounted m limit id waived (key ∷ []) at r ids ids′ keys keys′
   counted-live key at r ids ids′ keys keys′ e l h f g =
       let one : notWaived m waived (key ∷ []) ≡ key ∷ [] = waived-in m waived key [] e ∙ ap (λ l. key ∷ l) (not-waived-nil m waived) in
       record {
@@ -92,9 +92,9 @@ module _ (m limit id : ℕ) (waived : List ℕ) where
 
   -- two runs, one after the other
   pub counted-append : (a b : List ℕ) (at r₁ r₂ : Sifting) (ids ids₁ ids₂ keys keys₁ keys₂ : List ℕ)
-      → Counted m limit id waived a at r₁ ids ids₁ keys keys₁
-      → Counted m limit id waived b r₁ r₂ ids₁ ids₂ keys₁ keys₂
-      → Counted m limit id waived (a ++ b) at r₂ ids ids₂ keys keys₂
+      → FindingsCounted m limit id waived a at r₁ ids ids₁ keys keys₁
+      → FindingsCounted m limit id waived b r₁ r₂ ids₁ ids₂ keys₁ keys₂
+      → FindingsCounted m limit id waived (a ++ b) at r₂ ids ids₂ keys keys₂
   counted-append a b at r₁ r₂ ids ids₁ ids₂ keys keys₁ keys₂ f g =
       let na = notWaived m waived a in
       let nb = notWaived m waived b in
@@ -115,7 +115,7 @@ module _ (m limit id : ℕ) (waived : List ℕ) where
       }
 
   -- the slices keep their lengths
-  module _ {given : List ℕ} {at r : Sifting} {ids ids′ keys keys′ : List ℕ} (c : Counted m limit id waived given at r ids ids′ keys keys′) where
+  module _ {given : List ℕ} {at r : Sifting} {ids ids′ keys keys′ : List ℕ} (c : FindingsCounted m limit id waived given at r ids ids′ keys keys′) where
     pub counted-ids : length ids′ ≡ length ids
     counted-ids = ap length (c .wroteIds) ∙ length-written limit ids (at .live) _
 
@@ -159,6 +159,6 @@ pub sifted-as : (m limit id : ℕ) (waived a b : List ℕ) (at r : Sifting) (ids
     → Sifted m limit id waived b at r ids ids₁ keys keys₁ y
 sifted-as m limit id waived a b at r ids ids₁ keys keys₁ x y f e h =
     record {
-      counted = subst (λ (l : List ℕ). Counted m limit id waived l at r ids ids₁ keys keys₁) e (f .counted);
+      counted = subst (λ (l : List ℕ). FindingsCounted m limit id waived l at r ids ids₁ keys keys₁) e (f .counted);
       passed = passed-widen y (f .passed) h;
     }

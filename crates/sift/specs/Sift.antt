@@ -33,7 +33,7 @@ pub record RunReady (m limit : ℕ) (waived : List ℕ) (at : Sifting) (ids keys
   pub whole : (i : ℕ) → first ≤ i → i < n → getD recordKeys i 0 < end → endOf m (getD recordKeys i 0) ≤ end
 
 -- the given keys were counted as live or hidden, and the live ones written with the rule's id
-pub record Counted (m limit id : ℕ) (waived given : List ℕ) (at r : Sifting) (ids ids′ keys keys′ : List ℕ) : Type 0 where
+pub record FindingsCounted (m limit id : ℕ) (waived given : List ℕ) (at r : Sifting) (ids ids′ keys keys′ : List ℕ) : Type 0 where
   pub live : r .live ≡ at .live + length (notWaived m waived given)
   pub hidden : r .hidden + length (notWaived m waived given) ≡ at .hidden + length given
   pub wroteIds : ids′ ≡ written limit ids (at .live) (map (λ (key : ℕ). id) (notWaived m waived given))
@@ -41,5 +41,5 @@ pub record Counted (m limit id : ℕ) (waived given : List ℕ) (at r : Sifting)
 
 -- and the waivers passed begin before x
 pub record Sifted (m limit id : ℕ) (waived given : List ℕ) (at r : Sifting) (ids ids′ keys keys′ : List ℕ) (x : ℕ) : Type 0 where
-  pub counted : Counted m limit id waived given at r ids ids′ keys keys′
+  pub counted : FindingsCounted m limit id waived given at r ids ids′ keys keys′
   pub passed : Passed m waived (r .passed) (r .furthest) x

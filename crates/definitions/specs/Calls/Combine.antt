@@ -7,7 +7,7 @@ use lib.Dec.{ltb, eqb}
 use Rattle.definitions.specs.List.{Record, keysOf, valuesOf}
 use Rattle.definitions.specs.Read.{room, recordsOf}
 use Rattle.definitions.specs.Buffer.{over}
-use Rattle.definitions.specs.Combine.{combinedList, badTable}
+use Rattle.definitions.specs.Combine.{combinedList, badClassTable}
 use Rattle.definitions.specs.Refusal.{Row, _gives_, first, accepted, badSettings, noList}
 use Rattle.definitions.specs.declared.Counted.{Counted}
 
@@ -25,7 +25,7 @@ module _ (m₁ s₁ : ℕ) (keys₁ bits₁ : List ℕ) (n₁ m₂ s₂ : ℕ) (
         ∷ not (eqb m₁ m₂) gives 24
         ∷ noList m₁ s₁ keys₁ bits₁ n₁ gives 4
         ∷ noList m₂ s₂ keys₂ bits₂ n₂ gives 4
-        ∷ badTable s₁ s₂ s₃ table gives 25
+        ∷ badClassTable s₁ s₂ s₃ table gives 25
         ∷ ltb (room keys bits) (length combination) gives 9
         ∷ [])
 

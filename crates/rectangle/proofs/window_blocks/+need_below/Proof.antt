@@ -7,7 +7,7 @@ use borrow.Fn.Kinds.{In}
 use borrow.Fn.PlainCycle.{Measures, is, falls, and}
 use Rattle.keys.proofs.Interval.{within}
 use Rattle.keys.proofs.Valid.{block-valid}
-use Rattle.definitions.specs.Window.{isCovered}
+use Rattle.definitions.specs.Window.{isInside}
 use Rattle.step.proofs.QuarterSums.{divisible, lower-than, block-nw, block-ne, block-sw, block-se}
 use Rattle.edit.proofs.ContentLength.{part-there}
 use Rattle.rectangle.proofs.WindowLies.{placed}
@@ -74,7 +74,7 @@ abbrev start : (t : ℕ) → Quartered t → Start t
 start t c = c .before .before .before .before .before .before
 
 cut : (t : ℕ) (c : Divided t)
-    → (let a = c .before .before .before .before .before .args in (0 < a .height) × (isCovered (a .window) (a .height) (a .row) (a .column) ≡ false))
+    → (let a = c .before .before .before .before .before .args in (0 < a .height) × (isInside (a .window) (a .height) (a .row) (a .column) ≡ false))
 cut t c = c .before .before .lies .ensures .parts (c .before .if1 .left) (c .if2 .left)
 
 of-requires : (t : ℕ) → lts.Need-of-requires (claims t) (given t) own.Post

@@ -9,7 +9,7 @@ use borrow.Fn.PlainCycle.{Measures, is, falls, and}
 use lib.ListN.{length}
 use Rattle.keys.proofs.Valid.{block-valid}
 use Rattle.definitions.specs.Read.{recordsOf}
-use Rattle.definitions.specs.Window.{isCovered, largestFrom}
+use Rattle.definitions.specs.Window.{isInside, largestFrom}
 use Rattle.definitions.specs.Calls.Paint.{gained}
 use Rattle.list.specs.Own.{shownBy}
 use Rattle.rectangle.specs.WindowLogging.{entriesBelow}
@@ -95,7 +95,7 @@ abbrev start : (t : ℕ) → Quartered t → Start t
 start t c = c .before .before .before .before .before .before .before .before
 
 cut : (t : ℕ) (c : Divided t)
-    → (let a = c .before .before .before .before .before .before .before .args in (0 < a .height) × (isCovered (a .window) (a .height) (a .row) (a .column) ≡ false))
+    → (let a = c .before .before .before .before .before .before .before .args in (0 < a .height) × (isInside (a .window) (a .height) (a .row) (a .column) ≡ false))
 cut t c = c .before .before .lies .ensures .parts (c .before .if1 .left) (c .if2 .left)
 
 of-requires : (t : ℕ) → lts.Need-of-requires (claims t) (given t) own.Post
