@@ -25,8 +25,8 @@ use denote.Triple.Spec.{tripleOf}
 use denote.Triple.Statement.{Contract, Triple}
 use denote.Triple.Walked.{says}
 use Rattle.definitions.specs.declared.Question.{Question}
-use Rattle.laws.proofs.Question as Question
-use Rattle.laws.proofs.Question.Laws as Question′
+use Rattle.definitions.proofs.Question as Question
+use Rattle.definitions.proofs.Question.Laws as Question′
 use Rattle.batch.specs.Run.{progressOf, stepOf}
 use Rattle.batch.specs.declared.begin.State.{State}
 use Rattle.batch.proofs.begin.State as State

@@ -29,9 +29,9 @@ use denote.Triple.Spec.{tripleOf}
 use denote.Triple.Statement.{Contract, Triple}
 use denote.Triple.Walked.{says}
 use Rattle.definitions.specs.declared.Counted.{Counted}
-use Rattle.laws.proofs.Question as Question
-use Rattle.laws.proofs.Counted as Counted
-use Rattle.laws.proofs.Counted.Laws as Counted′
+use Rattle.definitions.proofs.Question as Question
+use Rattle.definitions.proofs.Counted as Counted
+use Rattle.definitions.proofs.Counted.Laws as Counted′
 use Rattle.batch.specs.Run.{progressOf, runOf, beginOf, answerOf}
 use Rattle.batch.specs.declared.begin.State.{State}
 use Rattle.batch.proofs.begin.State as State

@@ -26,9 +26,9 @@ use denote.Triple.Entry.{Args, Vals, onEntry}
 use denote.Triple.Walked.{says, Stays, stay-dropped, stay-slice, walkOf, ends-at}
 use Rattle.definitions.specs.Calls.Batch.{batch as batchAnswer, batchRefusals, batchValues}
 use Rattle.definitions.specs.declared.Counted.{Counted}
-use Rattle.laws.proofs.Question as Question
-use Rattle.laws.proofs.Counted as Counted
-use Rattle.laws.proofs.Counted.Laws as Counted′
+use Rattle.definitions.proofs.Question as Question
+use Rattle.definitions.proofs.Counted as Counted
+use Rattle.definitions.proofs.Counted.Laws as Counted′
 use Rattle.lending.proofs.Chains.{chain, apart, together, after-nothing}
 use Rattle.lending.proofs.Slices.{Slice, val, token, shared, mutable}
 use Rattle.lending.proofs.TwoLent.{each-answer}

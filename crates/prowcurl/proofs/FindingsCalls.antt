@@ -29,9 +29,9 @@ use denote.Triple.Spec.{tripleOf}
 use denote.Triple.Statement.{Contract, Triple}
 use denote.Triple.Walked.{says}
 use Rattle.definitions.specs.declared.Found.{Found}
-use Rattle.laws.proofs.Rule as Rule
-use Rattle.laws.proofs.Found as Found
-use Rattle.laws.proofs.Found.Laws as Found′
+use Rattle.definitions.proofs.Rule as Rule
+use Rattle.definitions.proofs.Found as Found
+use Rattle.definitions.proofs.Found.Laws as Found′
 use Rattle.rules.specs.Run.{progressOf, bounding, tableRun, beginOf, ownAt, nextOf, answerOf}
 use Rattle.rules.specs.declared.state.State.{State}
 use Rattle.rules.proofs.state.State as State

@@ -26,9 +26,9 @@ use denote.Triple.Entry.{Args, Vals, onEntry}
 use denote.Triple.Walked.{says, Stays, stay-dropped, stay-slice, walkOf, ends-at}
 use Rattle.definitions.specs.Calls.Findings.{findings as findingsAnswer, findingsIds, findingsKeys}
 use Rattle.definitions.specs.declared.Found.{Found}
-use Rattle.laws.proofs.Rule as Rule
-use Rattle.laws.proofs.Found as Found
-use Rattle.laws.proofs.Found.Laws as Found′
+use Rattle.definitions.proofs.Rule as Rule
+use Rattle.definitions.proofs.Found as Found
+use Rattle.definitions.proofs.Found.Laws as Found′
 use Rattle.lending.proofs.Chains.{chain, apart, together, after-nothing}
 use Rattle.lending.proofs.Slices.{Slice, val, token, shared, mutable}
 use Rattle.rules.proofs.RunSlices.{RunSlices, reads, tokens, answers, each-read, each-token, each-answer}

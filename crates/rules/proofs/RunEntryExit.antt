@@ -24,7 +24,7 @@ use denote.Steps.{owned, nothing}
 use denote.Struct.Laws as LL
 use denote.Triple.Entry.{Args, Vals, onEntry}
 use denote.Triple.Walked.{says, Stays, stay-dropped, stay-slice, walkOf, ends-at}
-use Rattle.laws.proofs.Rule as Rule
+use Rattle.definitions.proofs.Rule as Rule
 use Rattle.rules.specs.declared.state.State.{State}
 use Rattle.rules.proofs.state.State as State
 use Rattle.rules.proofs.state.State.Laws as State′

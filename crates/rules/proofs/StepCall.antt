@@ -25,8 +25,8 @@ use denote.Triple.Spec.{tripleOf}
 use denote.Triple.Statement.{Contract, Triple}
 use denote.Triple.Walked.{says}
 use Rattle.definitions.specs.declared.Rule.{Rule}
-use Rattle.laws.proofs.Rule as Rule
-use Rattle.laws.proofs.Rule.Laws as Rule′
+use Rattle.definitions.proofs.Rule as Rule
+use Rattle.definitions.proofs.Rule.Laws as Rule′
 use Rattle.rules.specs.Run.{progressOf, tableStep}
 use Rattle.rules.specs.declared.state.State.{State}
 use Rattle.rules.proofs.state.State as State

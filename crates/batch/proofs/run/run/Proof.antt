@@ -43,8 +43,8 @@ use denote.Triple.Table.{entered, cited}
 use denote.Triple.Walked.{needs, stay-dropped, Goes, goes-dropped, goes-slice, Walks, walked, walk-meets}
 use Rattle.keys.proofs.Cases.{split}
 use Rattle.definitions.specs.declared.Question.{Question}
-use Rattle.laws.proofs.Question as Question
-use Rattle.laws.proofs.Question.Laws as Question′
+use Rattle.definitions.proofs.Question as Question
+use Rattle.definitions.proofs.Question.Laws as Question′
 use Rattle.batch.specs.Run.{progressOf, Ready}
 use Rattle.batch.specs.declared.begin.State.{State}
 use Rattle.batch.proofs.begin.State as State

@@ -37,9 +37,9 @@ use denote.Triple.Statement.{Triple}
 use denote.Triple.Table.{entered, cited}
 use denote.Triple.Walked.{stay-dropped, Goes, Silent, goes-dropped, goes-slice, Walks, walked, walk-meets}
 use Rattle.definitions.specs.declared.Found.{Found}
-use Rattle.laws.proofs.Rule as Rule
-use Rattle.laws.proofs.Found as Found
-use Rattle.laws.proofs.Found.Laws as Found′
+use Rattle.definitions.proofs.Rule as Rule
+use Rattle.definitions.proofs.Found as Found
+use Rattle.definitions.proofs.Found.Laws as Found′
 use Rattle.rules.specs.Run.{progressOf, nextOf}
 use Rattle.rules.specs.declared.state.State.{State}
 use Rattle.rules.proofs.state.State as State

@@ -35,9 +35,9 @@ use denote.Triple.Spec.{Meets, tripleOf}
 use denote.Triple.Statement.{Triple}
 use denote.Triple.Table.{entered, cited}
 use denote.Triple.Walked.{stay-dropped, Goes, Silent, goes-dropped, goes-slice, Walks, walked, walk-meets}
-use Rattle.laws.proofs.Question as Question
-use Rattle.laws.proofs.Counted as Counted
-use Rattle.laws.proofs.Counted.Laws as Counted′
+use Rattle.definitions.proofs.Question as Question
+use Rattle.definitions.proofs.Counted as Counted
+use Rattle.definitions.proofs.Counted.Laws as Counted′
 use Rattle.batch.specs.declared.begin.State.{State}
 use Rattle.batch.proofs.begin.State as State
 use Rattle.lending.proofs.Locals.{Content, empty, holds, at, Addresses, envOf, Held, in-local, allocates, frees-all}

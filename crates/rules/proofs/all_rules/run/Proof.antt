@@ -43,8 +43,8 @@ use denote.Triple.Table.{entered, cited}
 use denote.Triple.Walked.{needs, stay-dropped, Goes, goes-dropped, goes-slice, Walks, walked, walk-meets}
 use Rattle.keys.proofs.Cases.{split}
 use Rattle.definitions.specs.declared.Rule.{Rule}
-use Rattle.laws.proofs.Rule as Rule
-use Rattle.laws.proofs.Rule.Laws as Rule′
+use Rattle.definitions.proofs.Rule as Rule
+use Rattle.definitions.proofs.Rule.Laws as Rule′
 use Rattle.rules.specs.Run.{progressOf, TableReady}
 use Rattle.rules.specs.declared.state.State.{State}
 use Rattle.rules.proofs.state.State as State
