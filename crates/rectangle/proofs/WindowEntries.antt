@@ -112,7 +112,7 @@ module _ (m : ℕ) (p : Picture) (f : ℕ) where
   entries-few w zero {r} {c} {κ} b =
       decide (isInside w zero r c)
       (λ e. let x = ap length (ap (λ l. entriesOf m p l f) (covered-one w zero r c κ e) ∙ entries-one κ) in let y = entry-few b in omega arith)
-      (λ e. let x = ap length (ap (λ l. entriesOf m p l f) (largest-pixel w r c κ e) ∙ entries-none) in omega arith)
+      (λ e. let x = ap length (ap (λ l. entriesOf m p l f) (covered-none w r c κ e) ∙ entries-none) in omega arith)
   entries-few w (suc k) {r} {c} {κ} b =
       decide (isInside w (suc k) r c)
       (λ e. let x = ap length (ap (λ l. entriesOf m p l f) (covered-one w (suc k) r c κ e) ∙ entries-one κ) in let y = entry-few b in omega arith)
