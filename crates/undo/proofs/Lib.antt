@@ -1,10 +1,6 @@
 pub mod TakingBackTable
 pub mod TakingBackPlan
 pub mod TakingBackAnswers
-pub mod RedoTable
-pub mod RedoPlan
-pub mod RedoAnswers
 pub mod GroupRuns
 pub mod Applying
 pub mod TakingBackGroup
-pub mod RedoGroup

@@ -1,3 +1,2 @@
 pub mod TakingBackCall
-pub mod RedoCall
 pub mod GroupCall

@@ -7,16 +7,16 @@ use Rattle.definitions.specs.Read.{recordsOf}
 use Rattle.definitions.specs.Log.{toRedo}
 use Rattle.definitions.specs.Calls.Redo.{redoRefusal}
 use Rattle.edit.specs.PaintCall.{Paintable, paintPlan}
-use Rattle.undo.specs.RedoCall.{nextEntry, paintedRefusal, LogToRedo}
+use Rattle.redo.specs.RedoCall.{nextEntry, paintedRefusal, LogToRedo}
 use Rattle.edit.proofs.Decided.{refused, granted}
 use Rattle.edit.proofs.EditCallTables.{passed-settings, passed-own, passed-summary}
 use Rattle.edit.proofs.PaintPlan.{paint-outdated}
-use Rattle.undo.proofs.RedoPlan.{redo-paintable, end-within, redone-is, redo-paints, redo-made, redo-counted}
-use Rattle.undo.proofs.RedoTable.{redo-first-rows, to-redo, painted-row, paint-fits}
-use Rattle.undo.proofs.RedoAnswers.{redo-refused, redo-done}
+use Rattle.redo.proofs.RedoPlan.{redo-paintable, end-within, redone-is, redo-paints, redo-made, redo-counted}
+use Rattle.redo.proofs.RedoTable.{redo-first-rows, to-redo, painted-row, paint-fits}
+use Rattle.redo.proofs.RedoAnswers.{redo-refused, redo-done}
 use borrow.Author.Needs.{needs}
-use Rattle.undo.proofs.redo.redo_entry.Statement.{statement}
-use Rattle.undo.proofs.redo.redo_entry.Tie as tie
+use Rattle.redo.proofs.redo.redo_entry.Statement.{statement}
+use Rattle.redo.proofs.redo.redo_entry.Tie as tie
 
 -- the start, from the next entry and from the decision
 abbrev begin : tie.After-next-entry → tie.Start

@@ -8,10 +8,10 @@ use Rattle.edit.specs.PaintCall.{paintPlan}
 use Rattle.edit.proofs.Decided.{refuses, grants}
 use Rattle.edit.proofs.Planned.{old-there, few-levels, length-told}
 use Rattle.edit.proofs.PaintPlan.{paint-found, paint-planned}
-use Rattle.undo.proofs.RedoTable.{paint-full, paint-enough}
+use Rattle.redo.proofs.RedoTable.{paint-full, paint-enough}
 use borrow.Author.Needs.{needs}
-use Rattle.undo.proofs.redo.decide.Statement.{statement}
-use Rattle.undo.proofs.redo.decide.Tie as tie
+use Rattle.redo.proofs.redo.decide.Statement.{statement}
+use Rattle.redo.proofs.redo.decide.Tie as tie
 
 -- the start, from the bits of the feature
 abbrev start : tie.After-power-of-two → tie.Start

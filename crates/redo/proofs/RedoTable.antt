@@ -14,7 +14,7 @@ use Rattle.definitions.specs.Calls.Redo.{redone, redoRefusal}
 use Rattle.definitions.specs.Calls.Paint.{painted}
 use Rattle.laws.proofs.First.{this, first-later, holds-first, none-first, first-none}
 use Rattle.edit.specs.EditCallChecks.{firstRefusal}
-use Rattle.undo.specs.RedoCall.{Redoable, LogToRedo, paintedRefusal}
+use Rattle.redo.specs.RedoCall.{Redoable, LogToRedo, paintedRefusal}
 use Rattle.edit.proofs.EditCallTables.{firstRows, FirstPassed, first-passed, early-first, rest-first, passed-none, passed-settings, passed-log}
 
 module _ (m s : ℕ) (keys bits : List ℕ) (n : ℕ) (summary logKeys logValues : List ℕ) (used inForce : ℕ) where

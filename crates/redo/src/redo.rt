@@ -8,7 +8,7 @@ ghost use Rattle.definitions.specs.Log.{endsInMark, firstStep, toRedo};
 ghost use Rattle.edit.specs.EditCallChecks.{decided};
 ghost use Rattle.edit.specs.PaintCall.{Paintable, paintPlan};
 ghost use Rattle.definitions.specs.Calls.Redo.{Redone};
-ghost use Rattle.undo.specs.RedoCall.{Redoable, LogToRedo, nextStep, nextEntry, paintedRefusal};
+ghost use Rattle.redo.specs.RedoCall.{Redoable, LogToRedo, nextStep, nextEntry, paintedRefusal};
 use crate::redo_group;
 use definitions::Edited;
 use edit::decision;

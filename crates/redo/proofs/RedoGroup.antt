@@ -11,14 +11,14 @@ use Rattle.definitions.specs.Log.{closingPlaces, endsInMark, stepCount, stepEnt
 use Rattle.definitions.specs.Calls.Redo.{redonePicture, redone}
 use Rattle.laws.proofs.LastStep.{entries-group, ends-in-group}
 use Rattle.list.specs.Own.{shownBy}
 use Rattle.undo.specs.GroupCall.{GroupLast, Kept, Applied}
 use Rattle.definitions.specs.Calls.Redo.{Redone}
-use Rattle.undo.specs.RedoCall.{Redoable, LogToRedo}
+use Rattle.redo.specs.RedoCall.{Redoable, LogToRedo}
 use Rattle.edit.proofs.EditCallTables.{passed-settings, passed-own, passed-summary}
 use Rattle.undo.proofs.Applying.{applied-as}
-use Rattle.undo.proofs.RedoPlan.{redo-first, part-lent, end-within, first-records}
-use Rattle.undo.proofs.RedoTable.{redo-first-rows, to-redo, list-full, room-enough}
-use Rattle.undo.proofs.RedoAnswers.{redo-refused, redo-done}
+use Rattle.redo.proofs.RedoPlan.{redo-first, part-lent, end-within, first-records}
+use Rattle.redo.proofs.RedoTable.{redo-first-rows, to-redo, list-full, room-enough}
+use Rattle.redo.proofs.RedoAnswers.{redo-refused, redo-done}
 
 module _ {m s : ℕ} {keys bits : List ℕ} {n : ℕ} {summary logKeys logValues : List ℕ} {used inForce : ℕ}
     (t : Redoable m s keys bits n summary logKeys logValues used inForce) where

@@ -1,13 +1,13 @@
 -- `redo::redo` meets its contract: the refusals up to 20 leave all as it is; past them the next step is redone.
 use mathlib.Core.Path.{sym, _∙_}
 use native.Mathlib.Omega.{arith}
-use Rattle.undo.specs.RedoCall.{Redoable}
+use Rattle.redo.specs.RedoCall.{Redoable}
 use Rattle.edit.proofs.EditCallTables.{FirstPassed, first-passed, passed-log}
-use Rattle.undo.proofs.RedoTable.{redo-early, none-to-redo}
-use Rattle.undo.proofs.RedoAnswers.{redo-refused}
+use Rattle.redo.proofs.RedoTable.{redo-early, none-to-redo}
+use Rattle.redo.proofs.RedoAnswers.{redo-refused}
 use borrow.Author.Needs.{needs}
-use Rattle.undo.proofs.redo.redo.Statement.{statement}
-use Rattle.undo.proofs.redo.redo.Tie as tie
+use Rattle.redo.proofs.redo.redo.Statement.{statement}
+use Rattle.redo.proofs.redo.redo.Tie as tie
 
 -- the start, from the first refusal
 abbrev start : tie.After-first-refusal → tie.Start

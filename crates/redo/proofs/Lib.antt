@@ -1,0 +1,4 @@
+pub mod RedoTable
+pub mod RedoPlan
+pub mod RedoAnswers
+pub mod RedoGroup
