@@ -12,7 +12,7 @@ use definitions::Window;
 use edit::empty;
 use edit::paint;
 use rectangle::paint_window;
-use redo::redo;
+use redo::redo as redoing;
 use undo::take_back;
 
 #[no_mangle]
@@ -138,7 +138,7 @@ pub extern "C" fn hlq_redo(
     ensures { λ r. ⌜ Redone m s (now (keys .entry)) (now (bits .entry)) n (now (summary .entry)) (now («log_keys» .entry)) (now («log_values» .entry)) used «in_force»
         r (now (keys .exit)) (now (bits .exit)) (now (summary .exit)) (now («log_keys» .exit)) (now («log_values» .exit)) ⌝ }
 {
-    redo::redo(
+    redoing::redo(
         m,
         s,
         keys,
