@@ -12,7 +12,10 @@ has-one-slot-requires : tie.Need-has-one-slot-requires
 has-one-slot-requires c κs = search needs
 
 add-result : tie.Need-add-result
-add-result c = search needs
+add-result c =
+    let t = c .before .before .before in
+    let h = end-small (t .args .m) (t .args .key) (t .pre .0) (t .pre .1) in
+    record { fits = omega (arith, h) }
 
 returns : tie.Need-returns
 returns c =
