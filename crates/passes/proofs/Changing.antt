@@ -10,10 +10,9 @@ use lib.Seq.{sets, length-sets, drop-at, drop-cons, length-take-le}
 use Rattle.slices.proofs.Sets.{sets-parts}
 use Rattle.keys.specs.Key.{childKey, validKey, heightOf}
 use Rattle.keys.proofs.Cases.{decide, split}
-use Rattle.keys.proofs.Powers.{five-le}
 use Rattle.keys.specs.Under.{Block, here, nw, ne, sw, se}
 use Rattle.keys.proofs.Under.{under-trans}
-use Rattle.keys.proofs.Valid.{block-valid, valid-below}
+use Rattle.keys.proofs.Valid.{block-valid}
 use Rattle.definitions.specs.Picture.{Picture, oneFeature}
 use Rattle.definitions.specs.List.{Record, recordOf, keysOf, valuesOf, listOf, listOfPicture}
 use Rattle.definitions.specs.Read.{room, paired, recordsOf}
@@ -121,14 +120,12 @@ module _ (t : Step) {m : ℕ} {keys bits : List ℕ} {n : ℕ} (deep : m ≤ 10)
   between-keys : over (keysOf between) keys ≡ keys
   between-keys = over-same (keysOf between) keys n (renewed-keys p (stepOver t p) m 0 0 0 ∙ own-keys own) (omega (arith, own .fits))
 
-  key-small : (i : ℕ) → i < n → getD keys i 0 < 5 ^ 10
-  key-small i h =
-      let five = five-le 10 deep in
+  key-valid : (i : ℕ) → i < n → validKey m (getD keys i 0) ≡ true
+  key-valid i h =
       let e = records-at keys bits n (omega (arith, own .fits)) (omega (arith, own .fits)) i h in
       let v = valid-at m (listOf p m 0 0 0) i (list-valid p m 0 0 0 here) (let l = own-length own in omega arith) in
-      let b = valid-below m (getD (listOf p m 0 0 0) i (recordOf 0 0) .key) v in
       let f : getD (listOf p m 0 0 0) i (recordOf 0 0) .key ≡ getD keys i 0 = ap (λ l. getD l i (recordOf 0 0) .key) (sym (own .own)) ∙ ap (λ x. x .key) e in
-      omega arith
+      ap (validKey m) (sym f) ∙ v
 
   module _ {bits₁ : List ℕ} {union next : ℕ} (r : Renewed t m 0 0 bits 0 bits₁ union next) where
     -- after the first pass
@@ -149,7 +146,7 @@ module _ (t : Step) {m : ℕ} {keys bits : List ℕ} {n : ℕ} (deep : m ≤ 10)
         ap (drop n) renewed-bits ∙ ap (λ i. drop n (valuesOf between ++ drop i bits)) e ∙ drop-at (valuesOf between) (drop n bits) n e
 
     pub squeeze-asked : length bits₁ ≡ length bits → There m n keys bits₁
-    squeeze-asked same = record { deep = deep; in-keys = omega (arith, own .fits); in-bits = omega (arith, own .fits); small = key-small }
+    squeeze-asked same = record { deep = deep; in-keys = omega (arith, own .fits); in-bits = omega (arith, own .fits); valid = key-valid }
 
     module _ {keys₂ bits₂ : List ℕ} {left : ℕ} (q : IsSqueezed m n keys bits₁ keys₂ bits₂ left) where
       -- after the second

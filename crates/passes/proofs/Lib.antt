@@ -1,5 +1,6 @@
 pub mod Runs
 pub mod Squeezed
+pub mod KeyTail
 pub mod SqueezeLoop
 pub mod GrowLoop
 pub mod WriteRecord

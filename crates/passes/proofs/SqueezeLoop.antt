@@ -52,10 +52,6 @@ records-set ks vs i κ v h j =
     ap₂ paired (take-suc-set ks i κ h) (take-suc-set vs i v j)
     ∙ paired-more (take i ks) (take i vs) κ v (length-take-le i ks (omega arith) ∙ sym (length-take-le i vs (omega arith)))
 
-pub height-low : (m κ : ℕ) → heightOf m κ ≤ m
-unfolding heightOf
-height-low m κ = omega arith
-
 pub end-leaf : (m κ b end : ℕ) → oneSlot b ≡ true → cond (oneSlot b) (κ + 5 ^ heightOf m κ) end ≡ κ + 5 ^ heightOf m κ
 end-leaf m κ b end e = rw e
 

@@ -43,12 +43,12 @@ pub record Renewed (t : Step) (height row column : ℕ) (before : List ℕ) (at 
   pub holds : (p : Picture) (key : ℕ) → Showing (valuesOf (listOf p height row column key)) before at
       → RenewedAt t p height row column key before at after union next
 
--- n records are there, with keys of the map
+-- n records are there, with keys of blocks
 pub record There (m n : ℕ) (keys bits : List ℕ) : Type 0 where
   pub deep : m ≤ 10
   pub in-keys : n ≤ length keys
   pub in-bits : n ≤ length bits
-  pub small : (i : ℕ) → i < n → getD keys i 0 < 5 ^ 10
+  pub valid : (i : ℕ) → i < n → validKey m (getD keys i 0) ≡ true
 
 -- the first r records are the n before, squeezed; the places past the n stay
 pub record IsSqueezed (m n : ℕ) (keys bits keys′ bits′ : List ℕ) (r : ℕ) : Type 0 where

@@ -1,8 +1,9 @@
 -- `squeeze` meets its contract.
 use Prim.Native.Nat.{_-_}
-use mathlib.Core.Path.{_≡_, _∙_}
+use mathlib.Core.Path.{_≡_, _∙_, ap}
 use mathlib.Core.Logic.{⊎-elim}
 use native.Mathlib.Omega.{arith}
+use Rattle.keys.specs.Key.{validKey}
 use Rattle.passes.proofs.SqueezeLoop.{Squeezing, squeeze-begins, read-key, squeeze-turns-kept, squeeze-turns-dropped, squeeze-ends}
 use Rattle.passes.proofs.squeeze.squeeze.Statement.{statement}
 use Rattle.passes.proofs.squeeze.squeeze.Tie as tie
@@ -34,8 +35,7 @@ end-after-requires c κs =
     let pre = at .before .before .before .pre in
     let more = c .before .before .before .loop-test .taken in
     let e = read-key (at .loop .inv) pre more in
-    let h = pre .small (at .loop .read) more in
-    (pre .deep, omega (arith, e, h))
+    (pre .deep, ap (validKey _) e ∙ pre .valid (at .loop .read) more)
 
 mul-keys : tie.Need-mul-keys Inv-loop μ-loop
 mul-keys c = omega arith
