@@ -5,7 +5,7 @@ use mathlib.Core.Path.{_≡_, refl, sym, _∙_, ap, ap₂}
 use mathlib.Core.Bool.{true}
 use mathlib.Core.List.{List}
 use native.Mathlib.Omega.{arith}
-use lib.ListN.{length, set}
+use lib.ListN.{length, set, length-set}
 use lib.Seq.{sets, length-sets}
 use Rattle.definitions.specs.Picture.{Picture, oneFeature}
 use Rattle.definitions.specs.Bits.{bitsOf}
@@ -13,7 +13,7 @@ use Rattle.definitions.specs.List.{keysOf, valuesOf, listOf}
 use Rattle.keys.proofs.Cases.{decide}
 use Rattle.laws.proofs.Features.{one-pixel}
 use Rattle.laws.proofs.ListOf.{list-one, list-some, length-several}
-use Rattle.slices.proofs.Sets.{sets-front}
+use Rattle.slices.proofs.Sets.{sets-front, sets-cons}
 use Rattle.build.specs.BuildBlocks.{Written, Fitting, below, Tallied}
 use Rattle.build.proofs.WrittenBlock.{own-first, below-one}
 use Rattle.build.proofs.CountBlock.{length-key}
@@ -55,11 +55,29 @@ module _ {p : Picture} {m height row column key end : ℕ} {ks bs : List ℕ} (d
   pub wl-room : (end - count < length ks) × (end - count < length bs)
   wl-room = let e = counted in let s = list-some p height row column key in omega (arith, a .low, a .in-keys, a .in-bits)
 
-  pub wl-fits : Fitting p height row column key (end - count) ks bs
+  -- a leaf that stays one record
+  pub wl-one : count ≡ 1 → Wrote (listOf p height row column key) end ks bs (set ks (end - count) key) (set bs (end - count) union) (end - count)
+  wl-one one =
+      let e = counted in
+      let w = count-one key (end - count) ks bs y one in
+      record {
+        start-is = omega (arith, a .low);
+        keys-are = ap (λ l. set l (end - count) key) (w .keys-are)
+            ∙ sets-front ks (end - count) key (keysOf (below p height row column key))
+            ∙ ap (λ l. sets ks (end - count) (keysOf l)) (sym (own-first p height row column key));
+        bits-are = ap₂ (λ l x. set l (end - count) x) (w .bits-are) (w .union-is)
+            ∙ sets-front bs (end - count) (bitsOf p height row column) (valuesOf (below p height row column key))
+            ∙ ap (λ l. sets bs (end - count) (valuesOf l)) (sym (own-first p height row column key));
+      }
+
+  -- else its own record is written first, and those below it behind
+  pub wl-fits : Fitting p height row column key (end - count) (set ks (end - count) key) (set bs (end - count) union)
   wl-fits =
       let i = within block in
       let f = five-le 10 deep in
       let e = counted in
+      let x = length-set ks (end - count) key in
+      let z = length-set bs (end - count) union in
       record {
         key-fits = omega (arith, i .until);
         place-fits = omega (arith, a .early);
@@ -67,23 +85,26 @@ module _ {p : Picture} {m height row column key end : ℕ} {ks bs : List ℕ} (d
         bits-room = λ several. omega (arith, a .low, a .in-bits);
       }
 
-  module _ {ks′ bs′ : List ℕ} {bits next : ℕ} (w : Written p height row column key (end - count) ks bs ks′ bs′ bits next) where
-    -- the own record in front: what the leaf grows to
-    pub wl-wrote : Wrote (listOf p height row column key) end ks bs (set ks′ (end - count) key) (set bs′ (end - count) bits) (end - count)
-    wl-wrote =
-        let e = counted in
-        record {
-          start-is = omega (arith, a .low);
-          keys-are = ap (λ l. set l (end - count) key) (w .keys-are)
-              ∙ sets-front ks (end - count) key (keysOf (below p height row column key))
-              ∙ ap (λ l. sets ks (end - count) (keysOf l)) (sym (own-first p height row column key));
-          bits-are = ap₂ (λ l x. set l (end - count) x) (w .bits-are) (w .union-is)
-              ∙ sets-front bs (end - count) (bitsOf p height row column) (valuesOf (below p height row column key))
-              ∙ ap (λ l. sets bs (end - count) (valuesOf l)) (sym (own-first p height row column key));
-        }
+  pub wl-wrote : {ks′ bs′ : List ℕ} {bits next : ℕ}
+      → Written p height row column key (end - count) (set ks (end - count) key) (set bs (end - count) union) ks′ bs′ bits next
+      → Wrote (listOf p height row column key) end ks bs ks′ bs′ (end - count)
+  wl-wrote w =
+      let e = counted in
+      record {
+        start-is = omega (arith, a .low);
+        keys-are = w .keys-are
+            ∙ sym (sets-cons ks (end - count) key (keysOf (below p height row column key)))
+            ∙ ap (λ l. sets ks (end - count) (keysOf l)) (sym (own-first p height row column key));
+        bits-are = w .bits-are
+            ∙ ap (λ x. sets (set bs (end - count) x) (end - count + 1) (valuesOf (below p height row column key))) (y .bits-are)
+            ∙ sym (sets-cons bs (end - count) (bitsOf p height row column) (valuesOf (below p height row column key)))
+            ∙ ap (λ l. sets bs (end - count) (valuesOf l)) (sym (own-first p height row column key));
+      }
 
-    pub wl-sizes : (length ks′ ≡ length ks) × (length bs′ ≡ length bs)
-    wl-sizes = (
-      ap length (w .keys-are) ∙ length-sets ks _ (keysOf (below p height row column key)),
-      ap length (w .bits-are) ∙ length-sets bs _ (valuesOf (below p height row column key)),
-    )
+  pub wl-sizes : {ks′ bs′ : List ℕ} {bits next : ℕ}
+      → Written p height row column key (end - count) (set ks (end - count) key) (set bs (end - count) union) ks′ bs′ bits next
+      → (length ks′ ≡ length ks) × (length bs′ ≡ length bs)
+  wl-sizes w = (
+    ap length (w .keys-are) ∙ length-sets (set ks (end - count) key) _ (keysOf (below p height row column key)) ∙ length-set ks (end - count) key,
+    ap length (w .bits-are) ∙ length-sets (set bs (end - count) union) _ (valuesOf (below p height row column key)) ∙ length-set bs (end - count) union,
+  )

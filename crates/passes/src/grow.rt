@@ -105,7 +105,7 @@ fn spread(
     write::write_four(key, four.step, place, nw, ne, sw, se, keys, bits)
 }
 
-// What a leaf grows to, written before a place; the first of its places is given back.
+// What a leaf grows to, written before a place; the first of its places is given back. Most leaves stay one record, and need not be asked twice.
 fn write_leaf(
     deed: Deed,
     log_keys: &[u32],
@@ -126,7 +126,12 @@ fn write_leaf(
 {
     let tally = tally::tally_leaf(deed, log_keys, log_values, m, b, height, row, column, key);
     let start = end - tally.count;
-    let below = spread(
+    keys[start] = key;
+    bits[start] = tally.bits;
+    if tally.count == 1 {
+        return start;
+    }
+    spread(
         deed,
         log_keys,
         log_values,
@@ -140,8 +145,6 @@ fn write_leaf(
         keys,
         bits,
     );
-    keys[start] = key;
-    bits[start] = below.bits;
     start
 }
 
