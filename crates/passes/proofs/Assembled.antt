@@ -17,7 +17,7 @@ use Rattle.laws.proofs.ListOf.{list-one, list-node}
 use Rattle.step.specs.Step.{renewed}
 use Rattle.step.proofs.Pruned.{renewed-one, renewed-node}
 
-four-keys : (a b c d : List Record) → keysOf (a ++ (b ++ (c ++ d))) ≡ keysOf a ++ (keysOf b ++ (keysOf c ++ keysOf d))
+pub four-keys : (a b c d : List Record) → keysOf (a ++ (b ++ (c ++ d))) ≡ keysOf a ++ (keysOf b ++ (keysOf c ++ keysOf d))
 four-keys a b c d =
     map-append (λ x. x .key) a (b ++ (c ++ d))
     ∙ ap (λ l. keysOf a ++ l) (map-append (λ x. x .key) b (c ++ d) ∙ ap (λ l. keysOf b ++ l) (map-append (λ x. x .key) c d))

@@ -1,36 +1,32 @@
--- The four passes one after the other, on the slices. Rests on Squeezed, Early and Assembled.
-use Prim.Native.Nat.{ℕ, zero, suc, _+_, _-_, _^_, _≤_, _<_, max}
-use mathlib.Core.Path.{_≡_, refl, sym, _∙_, ap, ap₂}
-use mathlib.Core.Bool.{true, false}
+-- The four passes one after the other, on the slices. Rests on Squeezed and Assembled.
+use Prim.Native.Nat.{ℕ, zero, suc, _+_, _-_, _^_, _≤_, _<_}
+use mathlib.Core.Path.{_≡_, sym, _∙_, ap, ap₂}
+use mathlib.Core.Bool.{true}
 use mathlib.Core.List.{List, [], _∷_, _++_}
 use native.Mathlib.Nat.{zero-add}
 use native.Mathlib.Omega.{arith}
 use lib.ListN.{length, getD, take, drop, replicate, length-map, take-append-drop}
-use lib.Seq.{sets, length-sets, drop-at, drop-cons, length-take-le}
+use lib.Seq.{sets, drop-at, length-take-le}
 use Rattle.slices.proofs.Sets.{sets-parts}
-use Rattle.keys.specs.Key.{childKey, validKey, heightOf}
+use Rattle.keys.specs.Key.{childKey, validKey}
 use Rattle.keys.proofs.Cases.{decide, split}
 use Rattle.keys.specs.Under.{Block, here, nw, ne, sw, se}
 use Rattle.keys.proofs.Under.{under-trans}
 use Rattle.keys.proofs.Valid.{block-valid}
 use Rattle.definitions.specs.Picture.{Picture, oneFeature}
 use Rattle.definitions.specs.List.{Record, recordOf, keysOf, valuesOf, listOf, listOfPicture}
-use Rattle.definitions.specs.Read.{room, paired, recordsOf}
+use Rattle.definitions.specs.Read.{room, recordsOf}
 use Rattle.definitions.specs.Buffer.{over, replaced}
 use Rattle.laws.proofs.Features.{one-pixel}
 use Rattle.laws.proofs.ListOf.{list-one, list-node}
-use Rattle.laws.proofs.Records.{paired-back, records-length, records-at, records-first, records-keys, records-values, records-over}
-use Rattle.list.specs.Check.{oneSlot}
+use Rattle.laws.proofs.Records.{records-length, records-at, records-over}
 use Rattle.list.specs.Own.{OwnList, shownBy}
 use Rattle.list.proofs.Own.{own-keys, own-values, own-length}
-use Rattle.step.specs.Step.{Step, renewed, squeezed, pruned, grown, over as stepOver}
-use Rattle.passes.specs.Passes.{Showing, Shown, There, IsSqueezed, GrowAsked, BlockCounted, Renewed, RenewedAt}
-use Rattle.passes.specs.Change.{Changeable, Changed, zeroed}
-use Rattle.step.proofs.Pruned.{pruned-one, pruned-merged, pruned-node, renewed-one, renewed-node, grown-pruned}
-use Rattle.passes.proofs.Squeezed.{renewed-length, squeezed-list, pruned-before}
+use Rattle.step.specs.Step.{Step, renewed, squeezed, pruned, over as stepOver}
+use Rattle.passes.specs.Passes.{Showing, Shown, There, IsSqueezed, Moved, Growing, GrowAsked, Grown, BlockCounted, Renewed}
+use Rattle.passes.specs.Change.{zeroed}
+use Rattle.passes.proofs.Squeezed.{renewed-length, squeezed-list}
 use Rattle.passes.proofs.Assembled.{renewed-keys, replaced-longer, replaced-shorter}
-use Rattle.passes.proofs.Spaced.{pruned-spaced, spaced-at}
-use Rattle.passes.proofs.Early.{early, grown-ascends}
 
 -- every record's key is a block's
 abbrev pub AllValid : ℕ → List Record → Type 0
@@ -59,22 +55,6 @@ list-valid p {m} (suc k) r c κ b =
           (valid-append m (listOf p k (r + 2 ^ k) c (childKey κ k 3)) _ (list-valid p k (r + 2 ^ k) c (childKey κ k 3) (under-trans b (sw here)))
           (list-valid p k (r + 2 ^ k) (c + 2 ^ k) (childKey κ k 4) (under-trans b (se here))))),
     ))
-
--- so of what squeezing leaves
-pub pruned-valid : (p q : Picture) {m : ℕ} (k r c κ : ℕ) → Block m k r c κ → AllValid m (pruned p q k r c κ)
-pruned-valid p q zero r c κ b = rw (pruned-one p q zero r c κ (one-pixel p r c)) (block-valid b .valid, tt)
-pruned-valid p q {m} (suc k) r c κ b =
-    decide (oneFeature p (suc k) r c)
-    (λ e. rw (pruned-one p q (suc k) r c κ e) (block-valid b .valid, tt))
-    (λ e. decide (oneFeature q (suc k) r c)
-    (λ f. rw (pruned-merged p q k r c κ e f) (block-valid b .valid, tt))
-    (λ f. rw (pruned-node p q k r c κ e f) (
-      block-valid b .valid,
-      valid-append m (pruned p q k r c (childKey κ k 1)) _ (pruned-valid p q k r c (childKey κ k 1) (under-trans b (nw here)))
-          (valid-append m (pruned p q k r (c + 2 ^ k) (childKey κ k 2)) _ (pruned-valid p q k r (c + 2 ^ k) (childKey κ k 2) (under-trans b (ne here)))
-          (valid-append m (pruned p q k (r + 2 ^ k) c (childKey κ k 3)) _ (pruned-valid p q k (r + 2 ^ k) c (childKey κ k 3) (under-trans b (sw here)))
-          (pruned-valid p q k (r + 2 ^ k) (c + 2 ^ k) (childKey κ k 4) (under-trans b (se here))))),
-    )))
 
 -- the whole list is shown from the first place on
 pub showing-whole : {m : ℕ} {keys bits : List ℕ} {n : ℕ} → OwnList m keys bits n → Showing (valuesOf (listOf (shownBy m keys bits n) m 0 0 0)) bits 0
@@ -153,9 +133,6 @@ module _ (t : Step) {m : ℕ} {keys bits : List ℕ} {n : ℕ} (deep : m ≤ 10)
       left-is : recordsOf keys₂ bits₂ left ≡ pruned p (stepOver t p) m 0 0 0
       left-is = q .is ∙ ap (squeezed m 0) renewed-records ∙ squeezed-list m p (stepOver t p)
 
-      grown-is : grown t m (recordsOf keys₂ bits₂ left) ≡ listOf (stepOver t p) m 0 0 0
-      grown-is = ap (grown t m) left-is ∙ grown-pruned t p here
-
       past-keys : drop n keys₂ ≡ drop n keys
       past-keys = q .past-keys
 
@@ -167,58 +144,47 @@ module _ (t : Step) {m : ℕ} {keys bits : List ℕ} {n : ℕ} (deep : m ≤ 10)
         inside : (left ≤ length keys₂) × (left ≤ length bits₂)
         inside = omega (arith, q .few, own .fits)
 
-        at : (i : ℕ) → i < left → getD (recordsOf keys₂ bits₂ left) i (recordOf 0 0) ≡ recordOf (getD keys₂ i 0) (getD bits₂ i 0)
-        at i h = records-at keys₂ bits₂ left (inside .0) (inside .1) i h
+        many : length (pruned p (stepOver t p) m 0 0 0) ≡ left
+        many = ap length (sym left-is) ∙ records-length keys₂ bits₂ left (inside .0) (inside .1)
 
-        many : length (recordsOf keys₂ bits₂ left) ≡ left
-        many = records-length keys₂ bits₂ left (inside .0) (inside .1)
+        growing : Growing t p m 0 0 0 keys₂ bits₂ left after
+        growing =
+            let e = many in
+            record {
+              waits = record {
+                ending = record { front = []; in-keys = inside .0; in-bits = inside .1; is = left-is };
+                apart = omega arith;
+                early = omega arith;
+                in-keys = omega (arith, fits);
+                in-bits = omega (arith, fits);
+              };
+            }
 
-        left-valid : (i : ℕ) → i < left → oneSlot (getD bits₂ i 0) ≡ true → validKey m (getD keys₂ i 0) ≡ true
-        left-valid i h one =
-            let v = valid-at m (recordsOf keys₂ bits₂ left) i (rw left-is (pruned-valid p (stepOver t p) m 0 0 0 here)) (rw many h) in
-            rw (at i h) at v
-
-        left-early : (i : ℕ) → i < left → length (grown t m (recordsOf keys₂ bits₂ i)) ≤ getD keys₂ i 0
-        left-early i h =
-            let l : List Record = recordsOf keys₂ bits₂ left in
-            let cut : l ≡ take i l ++ (getD l i (recordOf 0 0) ∷ drop (suc i) l) = sym (take-append-drop i l) ∙ ap (λ r. take i l ++ r) (drop-cons l i (recordOf 0 0) (rw many h)) in
-            let a = early t m (0 + 5 ^ m) (take i l) (getD l i (recordOf 0 0)) (drop (suc i) l) (rw (← cut, left-is) (grown-ascends t p m)) in
-            let f : take i l ≡ recordsOf keys₂ bits₂ i = records-first keys₂ bits₂ left i (omega arith) in
-            let g : getD l i (recordOf 0 0) .key ≡ getD keys₂ i 0 = ap (λ x. x .key) (at i h) in
-            rw (f, g) at a
-
-        left-spaced : (i j : ℕ) → i < j → j < left → oneSlot (getD bits₂ i 0) ≡ true → getD keys₂ i 0 + 5 ^ heightOf m (getD keys₂ i 0) ≤ getD keys₂ j 0
-        left-spaced i j u h one =
-            let l : List Record = recordsOf keys₂ bits₂ left in
-            let a : getD l i (recordOf 0 0) .key ≡ getD keys₂ i 0 = ap (λ x. x .key) (at i (omega arith)) in
-            let b : getD l i (recordOf 0 0) .value ≡ getD bits₂ i 0 = ap (λ x. x .value) (at i (omega arith)) in
-            let z : getD l j (recordOf 0 0) .key ≡ getD keys₂ j 0 = ap (λ x. x .key) (at j h) in
-            let s = spaced-at m 0 (0 + 5 ^ m) l i j (rw left-is (pruned-spaced p (stepOver t p) m 0 0 0 here)) u (rw many h) (ap oneSlot b ∙ one) in
-            let f = ap (λ x. 5 ^ heightOf m x) a in
-            omega arith
-
-        pub grow-asked : GrowAsked t m left after keys₂ bits₂
-        grow-asked = record {
-          deep = deep;
-          first-keys = inside .0;
-          first-bits = inside .1;
-          valid = left-valid;
-          spaced = left-spaced;
-          ends = after-is ∙ sym (ap length grown-is);
-          early = left-early;
-          in-keys = omega (arith, fits);
-          in-bits = omega (arith, fits);
-        }
+        pub grow-asked : GrowAsked t m m 0 0 0 keys₂ bits₂ left after
+        grow-asked = record { picture = p; deep = deep; block = here; growing = growing }
 
         -- after the third, and when the places given up are zero
-        pub changed-keys : {keys₃ : List ℕ} → keys₃ ≡ over (keysOf (grown t m (recordsOf keys₂ bits₂ left))) keys₂
-            → zeroed n after keys₃ ≡ replaced n (keysOf (listOfPicture m (stepOver t (shownBy m keys bits n)))) keys
-        changed-keys e =
-            ap (zeroed n after) (e ∙ ap (λ l. over (keysOf l) keys₂) grown-is)
-            ∙ all-replaced n after (keysOf (listOf (stepOver t p) m 0 0 0)) keys₂ keys (length-map (listOf (stepOver t p) m 0 0 0) (λ x. x .key) ∙ sym after-is) (omega (arith, own .fits)) past-keys
+        module _ {keys₃ bits₃ : List ℕ} {read write : ℕ} (g : Grown t m 0 0 0 keys₂ bits₂ left after keys₃ bits₃ read write) where
+          moved : Moved (pruned p (stepOver t p) m 0 0 0) (listOf (stepOver t p) m 0 0 0) keys₂ bits₂ left after keys₃ bits₃ read write
+          moved = g .holds p growing
 
-        pub changed-bits : {bits₃ : List ℕ} → bits₃ ≡ over (valuesOf (grown t m (recordsOf keys₂ bits₂ left))) bits₂
-            → zeroed n after bits₃ ≡ replaced n (valuesOf (listOfPicture m (stepOver t (shownBy m keys bits n)))) bits
-        changed-bits e =
-            ap (zeroed n after) (e ∙ ap (λ l. over (valuesOf l) bits₂) grown-is)
-            ∙ all-replaced n after (valuesOf (listOf (stepOver t p) m 0 0 0)) bits₂ bits (length-map (listOf (stepOver t p) m 0 0 0) (λ x. x .value) ∙ sym after-is) (omega (arith, own .fits)) past-bits
+          from-first : write ≡ 0
+          from-first = let d = moved in omega (arith, d .wrote .start-is)
+
+          pub changed-keys : zeroed n after keys₃ ≡ replaced n (keysOf (listOfPicture m (stepOver t (shownBy m keys bits n)))) keys
+          changed-keys =
+              let l = length-map (listOf (stepOver t p) m 0 0 0) (λ x. x .key) in
+              ap (zeroed n after)
+              (moved .wrote .keys-are
+              ∙ ap (λ i. sets keys₂ i (keysOf (listOf (stepOver t p) m 0 0 0))) from-first
+              ∙ sets-over (keysOf (listOf (stepOver t p) m 0 0 0)) keys₂ (omega (arith, fits)))
+              ∙ all-replaced n after (keysOf (listOf (stepOver t p) m 0 0 0)) keys₂ keys (l ∙ sym after-is) (omega (arith, own .fits)) past-keys
+
+          pub changed-bits : zeroed n after bits₃ ≡ replaced n (valuesOf (listOfPicture m (stepOver t (shownBy m keys bits n)))) bits
+          changed-bits =
+              let l = length-map (listOf (stepOver t p) m 0 0 0) (λ x. x .value) in
+              ap (zeroed n after)
+              (moved .wrote .bits-are
+              ∙ ap (λ i. sets bits₂ i (valuesOf (listOf (stepOver t p) m 0 0 0))) from-first
+              ∙ sets-over (valuesOf (listOf (stepOver t p) m 0 0 0)) bits₂ (omega (arith, fits)))
+              ∙ all-replaced n after (valuesOf (listOf (stepOver t p) m 0 0 0)) bits₂ bits (l ∙ sym after-is) (omega (arith, own .fits)) past-bits

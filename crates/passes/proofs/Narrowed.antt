@@ -19,10 +19,10 @@ use Rattle.laws.proofs.Features.{one-agree, one-pixel}
 use Rattle.laws.proofs.BitsOf.{bits-agree}
 use Rattle.laws.proofs.ListOf.{list-agree}
 use Rattle.build.specs.BuildBlocks.{Tallied, Written, Fitting}
-use Rattle.step.specs.Step.{Step, over, renewed}
+use Rattle.step.specs.Step.{Step, over, renewed, pruned}
 use Rattle.step.specs.Deed.{SameBefore}
-use Rattle.passes.specs.Passes.{BlockCounted, Renewed, RenewedAt}
-use Rattle.step.proofs.Pruned.{renewed-one, renewed-node}
+use Rattle.passes.specs.Passes.{BlockCounted, Renewed, RenewedAt, Growing, GrowAsked, Grown}
+use Rattle.step.proofs.Pruned.{renewed-one, renewed-node, pruned-one, pruned-merged, pruned-node}
 
 same-node : {x x′ : Record} {a b c d a′ b′ c′ d′ : List Record} → x ≡ x′ → a ≡ a′ → b ≡ b′ → c ≡ c′ → d ≡ d′
     → x ∷ (a ++ (b ++ (c ++ d))) ≡ x′ ∷ (a′ ++ (b′ ++ (c′ ++ d′)))
@@ -41,6 +41,24 @@ renewed-agree p q q′ (suc k) r c κ h =
     (renewed-agree p q q′ k (r + 2 ^ k) c (childKey κ k 3) (agree-sw h))
     (renewed-agree p q q′ k (r + 2 ^ k) (c + 2 ^ k) (childKey κ k 4) (agree-se h))
     ∙ sym (renewed-node p q′ k r c κ e))
+
+-- and so does what squeezing leaves
+pub pruned-agree : (p q q′ : Picture) (k r c κ : ℕ) → Agree q q′ k r c → pruned p q k r c κ ≡ pruned p q′ k r c κ
+pruned-agree p q q′ zero r c κ h = pruned-one p q zero r c κ (one-pixel p r c) ∙ sym (pruned-one p q′ zero r c κ (one-pixel p r c))
+pruned-agree p q q′ (suc k) r c κ h =
+    let same = one-agree q q′ (suc k) r c h in
+    let own : recordOf κ (bitsOf q (suc k) r c) ≡ recordOf κ (bitsOf q′ (suc k) r c) = ap (recordOf κ) (bits-agree q q′ (suc k) r c h) in
+    decide (oneFeature p (suc k) r c)
+    (λ e. pruned-one p q (suc k) r c κ e ∙ sym (pruned-one p q′ (suc k) r c κ e))
+    (λ e. decide (oneFeature q (suc k) r c)
+    (λ f. pruned-merged p q k r c κ e f ∙ ap (λ x. x ∷ []) own ∙ sym (pruned-merged p q′ k r c κ e (sym same ∙ f)))
+    (λ f. pruned-node p q k r c κ e f
+    ∙ same-node own
+    (pruned-agree p q q′ k r c (childKey κ k 1) (agree-nw h))
+    (pruned-agree p q q′ k r (c + 2 ^ k) (childKey κ k 2) (agree-ne h))
+    (pruned-agree p q q′ k (r + 2 ^ k) c (childKey κ k 3) (agree-sw h))
+    (pruned-agree p q q′ k (r + 2 ^ k) (c + 2 ^ k) (childKey κ k 4) (agree-se h))
+    ∙ sym (pruned-node p q′ k r c κ e (sym same ∙ f))))
 
 module _ {m past k r c κ : ℕ} {t t′ : Step} (s : SameBefore m past t t′) (b : Block m k r c κ) (h : κ + 5 ^ k ≤ past) where
   -- on a block before that key the two steps over a picture agree
@@ -93,3 +111,20 @@ module _ {m past k r c κ : ℕ} {t t′ : Step} (s : SameBefore m past t t′) 
         keys-room = λ several. rw same (x .keys-room (sym one ∙ several));
         bits-room = λ several. rw same (x .bits-room (sym one ∙ several));
       }
+
+  -- what waits to grow is the same, and so is what it grows to
+  pub narrowed-growing : (p : Picture) {keys bits : List ℕ} {read write : ℕ} → Growing t p k r c κ keys bits read write → Growing t′ p k r c κ keys bits read write
+  narrowed-growing p g = record {
+    waits = rw (pruned-agree p (over t′ p) (over t p) k r c κ (narrowed-agree p), list-agree (over t′ p) (over t p) k r c κ (narrowed-agree p)) (g .waits);
+  }
+
+  pub narrowed-grown : {keys bits keys′ bits′ : List ℕ} {read write read′ write′ : ℕ} → Grown t′ k r c κ keys bits read write keys′ bits′ read′ write′
+      → Grown t k r c κ keys bits read write keys′ bits′ read′ write′
+  narrowed-grown x = record {
+    holds = λ p g.
+        let y = x .holds p (narrowed-growing p g) in
+        rw (pruned-agree p (over t′ p) (over t p) k r c κ (narrowed-agree p), list-agree (over t′ p) (over t p) k r c κ (narrowed-agree p)) at y;
+  }
+
+  pub narrowed-asked : {keys bits : List ℕ} {read write : ℕ} → GrowAsked t m k r c κ keys bits read write → GrowAsked t′ m k r c κ keys bits read write
+  narrowed-asked a = record { picture = a .picture; deep = a .deep; block = b; growing = narrowed-growing (a .picture) (a .growing) }

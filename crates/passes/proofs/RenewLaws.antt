@@ -62,7 +62,7 @@ values-length : (p q : Picture) (k r c κ : ℕ) → length (valuesOf (renewed p
 values-length p q k r c κ =
     length-map (renewed p q k r c κ) (λ x. x .value) ∙ renewed-length p q k r c κ ∙ sym (length-map (listOf p k r c κ) (λ x. x .value))
 
-four-values : (a b c d : List Record) → valuesOf (a ++ (b ++ (c ++ d))) ≡ valuesOf a ++ (valuesOf b ++ (valuesOf c ++ valuesOf d))
+pub four-values : (a b c d : List Record) → valuesOf (a ++ (b ++ (c ++ d))) ≡ valuesOf a ++ (valuesOf b ++ (valuesOf c ++ valuesOf d))
 four-values a b c d =
     map-append (λ x. x .value) a (b ++ (c ++ d))
     ∙ ap (λ l. valuesOf a ++ l) (map-append (λ x. x .value) b (c ++ d) ∙ ap (λ l. valuesOf b ++ l) (map-append (λ x. x .value) c d))

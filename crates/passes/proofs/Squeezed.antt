@@ -224,10 +224,10 @@ pruned-before p q m =
     let j = renewed-length p q m 0 0 0 in
     omega arith
 
-pub pruned-after : (t : Step) (p : Picture) (m : ℕ) → length (pruned p (over t p) m 0 0 0) ≤ length (listOf (over t p) m 0 0 0)
-pruned-after t p m =
-    let h = ap length (grown-pruned t p {m = m} here) in
-    let i = grown-length t m (pruned p (over t p) m 0 0 0) in
+pub pruned-after : (t : Step) (p : Picture) {m k r c κ : ℕ} → Block m k r c κ → length (pruned p (over t p) k r c κ) ≤ length (listOf (over t p) k r c κ)
+pruned-after t p {m} {k} {r} {c} {κ} b =
+    let h = ap length (grown-pruned t p b) in
+    let i = grown-length t m (pruned p (over t p) k r c κ) in
     omega arith
 
 -- THE WHOLE: the three passes one after the other

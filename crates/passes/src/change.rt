@@ -61,6 +61,19 @@ pub fn change(
 {
     renew::renew(deed, log_keys, log_values, m, m, 0, 0, Key::ROOT, 0, bits);
     let left = squeeze::squeeze(m, keys, bits, n);
-    grow::grow(deed, log_keys, log_values, m, keys, bits, left, after);
+    grow::grow(
+        deed,
+        log_keys,
+        log_values,
+        m,
+        m,
+        0,
+        0,
+        Key::ROOT,
+        left,
+        after,
+        keys,
+        bits,
+    );
     give_up(keys, bits, n, after);
 }

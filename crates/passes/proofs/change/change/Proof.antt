@@ -27,8 +27,8 @@ give-up-requires c κs =
     let g = c .before .before .before .before .before .before .grow in
     let q = c .before .before .before .before .before .before .before .before .before .before .before .before .before .squeeze in
     let r = c .before .before .before .before .before .before .before .before .before .before .before .before .before .before .before .before .before .before .renew in
-    let e = g .kept .1 .1 .1 .1 .0 ∙ q .kept .1 .0 in
-    let f = g .kept .1 .1 .1 .1 .1 .0 ∙ (q .kept .1 .1 .0 ∙ r .kept .1 .1 .1 .1 .1 .1 .1 .1 .1 .0) in
+    let e = g .kept .1 .1 .1 .1 .1 .1 .1 .1 .1 .1 .0 ∙ q .kept .1 .0 in
+    let f = g .kept .1 .1 .1 .1 .1 .1 .1 .1 .1 .1 .1 .0 ∙ (q .kept .1 .1 .0 ∙ r .kept .1 .1 .1 .1 .1 .1 .1 .1 .1 .0) in
     record { in-keys = omega (arith, s .own .fits, e); in-bits = omega (arith, s .own .fits, f) }
 
 same-length : tie.Need-same-length
@@ -47,8 +47,8 @@ returns c =
     let e = q .kept .1 .0 in
     let f = q .kept .1 .1 .0 ∙ r .kept .1 .1 .1 .1 .1 .1 .1 .1 .1 .0 in
     record {
-      keys-are = u .ensures .0 ∙ changed-keys _ (s .deep) (s .own) (r .ensures) (q .ensures) e f (s .after-is) (s .fits) (g .ensures .0);
-      bits-are = u .ensures .1 ∙ changed-bits _ (s .deep) (s .own) (r .ensures) (q .ensures) e f (s .after-is) (s .fits) (g .ensures .1);
+      keys-are = u .ensures .0 ∙ changed-keys _ (s .deep) (s .own) (r .ensures) (q .ensures) e f (s .after-is) (s .fits) (g .ensures);
+      bits-are = u .ensures .1 ∙ changed-bits _ (s .deep) (s .own) (r .ensures) (q .ensures) e f (s .after-is) (s .fits) (g .ensures);
     }
 
 pub change-spec : {M : Type 1} → statement M

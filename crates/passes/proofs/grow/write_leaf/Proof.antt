@@ -1,65 +1,26 @@
--- `write_leaf` meets its contract: what the leaf grows to is counted, and written from its first place on.
-use native.Mathlib.Omega.{arith}
+-- `write_leaf` meets its contract: what the leaf grows to is counted, its own record is written, and behind it those below it, if there are any.
 use borrow.Author.Needs.{needs}
-use Rattle.passes.proofs.LeafWritten.{wl-asked, wl-low, wl-room, wl-fits, wl-wrote, wl-sizes}
+use Rattle.passes.proofs.LeafWritten.{wl-low, wl-room, wl-one, wl-fits, wl-wrote, wl-sizes}
 use Rattle.passes.proofs.grow.write_leaf.Statement.{statement}
 use Rattle.passes.proofs.grow.write_leaf.Tie as tie
 
-block-requires : tie.Need-block-requires
-block-requires c κs = search needs
-
-height-requires : tie.Need-height-requires
-height-requires c κs = search needs
-
 tally-leaf-requires : tie.Need-tally-leaf-requires
-tally-leaf-requires c κs =
-    let s = c .before .before .before .before .before .before in
-    (s .pre .0 .0, wl-asked _ (s .pre .1) (s .pre .0 .1) (c .height .ensures) (c .before .block .ensures .0) (c .before .block .ensures .1))
+tally-leaf-requires c κs = search needs
 
 sub-start : tie.Need-sub-start
-sub-start c =
-    let s = c .before .before .before .before .before .before .before .before in
-    let b = c .before .before .before .block .ensures in
-    wl-low _ (s .pre .1) (s .pre .0 .1) (c .before .before .height .ensures) (b .0) (b .1) (c .before .tally-leaf .ensures)
-
-spread-requires : tie.Need-spread-requires
-spread-requires c κs =
-    let s = c .before .before .before .before .before .before .before .before .before .before in
-    let b = c .before .before .before .before .before .block .ensures in
-    let h = c .before .before .before .before .height .ensures in (
-      (s .pre .0 .0, wl-asked _ (s .pre .1) (s .pre .0 .1) h (b .0) (b .1)),
-      wl-fits _ (s .pre .1) (s .pre .0 .1) h (b .0) (b .1) (c .before .before .before .tally-leaf .ensures),
-    )
+sub-start c = let s = c .before .before .before .before .before .before .pre in wl-low (s .0 .1 .deep) (s .0 .1 .block) (s .1) (c .before .tally-leaf .ensures)
 
 mul-keys : tie.Need-mul-keys
-mul-keys c =
-    let s = c .before .before .before .before .before .before .before .before .before .before .before .before .before .before .before in
-    let b = c .before .before .before .before .before .before .before .before .before .before .block .ensures in
-    let h = wl-room _ (s .pre .1) (s .pre .0 .1) (c .before .before .before .before .before .before .before .before .before .height .ensures) (b .0) (b .1) (c .before .before .before .before .before .before .before .before .tally-leaf .ensures) in
-    omega (arith, h, s .good)
+mul-keys c = search needs
 
 slice-write-keys : tie.Need-slice-write-keys
-slice-write-keys c =
-    let s = c .before .before .before .before .before .before .before .before .before .before .before .before .before .before .before in
-    let b = c .before .before .before .before .before .before .before .before .before .before .block .ensures in
-    let h = wl-room _ (s .pre .1) (s .pre .0 .1) (c .before .before .before .before .before .before .before .before .before .height .ensures) (b .0) (b .1) (c .before .before .before .before .before .before .before .before .tally-leaf .ensures) in
-    let e = wl-sizes _ (s .pre .1) (s .pre .0 .1) (c .before .before .before .before .before .before .before .before .before .height .ensures) (b .0) (b .1) (c .before .before .before .before .before .before .before .before .tally-leaf .ensures) (c .before .before .before .before .spread .ensures) in
-    omega (arith, h, e)
+slice-write-keys c = let s = c .before .before .before .before .before .before .pre in wl-room (s .0 .1 .deep) (s .0 .1 .block) (s .1) (c .before .tally-leaf .ensures) .0
 
 mul-bits : tie.Need-mul-bits
-mul-bits c =
-    let s = c .before .before .before .before .before .before .before .before .before .before .before .before .before .before .before in
-    let b = c .before .before .before .before .before .before .before .before .before .before .block .ensures in
-    let h = wl-room _ (s .pre .1) (s .pre .0 .1) (c .before .before .before .before .before .before .before .before .before .height .ensures) (b .0) (b .1) (c .before .before .before .before .before .before .before .before .tally-leaf .ensures) in
-    omega (arith, h, s .good)
+mul-bits c = search needs
 
 slice-write-bits : tie.Need-slice-write-bits
-slice-write-bits c =
-    let s = c .before .before .before .before .before .before .before .before .before .before .before .before .before .before .before in
-    let b = c .before .before .before .before .before .before .before .before .before .before .block .ensures in
-    let h = wl-room _ (s .pre .1) (s .pre .0 .1) (c .before .before .before .before .before .before .before .before .before .height .ensures) (b .0) (b .1) (c .before .before .before .before .before .before .before .before .tally-leaf .ensures) in
-    let e = wl-sizes _ (s .pre .1) (s .pre .0 .1) (c .before .before .before .before .before .before .before .before .before .height .ensures) (b .0) (b .1) (c .before .before .before .before .before .before .before .before .tally-leaf .ensures) (c .before .before .before .before .spread .ensures) in
-    omega (arith, h, e)
+slice-write-bits c = let s = c .before .before .before .before .before .before .pre in wl-room (s .0 .1 .deep) (s .0 .1 .block) (s .1) (c .before .tally-leaf .ensures) .1
 
 same-length : tie.Need-same-length
 same-length c = search needs
@@ -68,24 +29,36 @@ same-length-2 : tie.Need-same-length-2
 same-length-2 c = search needs
 
 returns : tie.Need-returns
-returns c =
-    let s = c .before .before .before .before .before .before .before .before .before .before .before .before .before .before .before in
-    let b = c .before .before .before .before .before .before .before .before .before .before .block .ensures in
-    wl-wrote _ (s .pre .1) (s .pre .0 .1) (c .before .before .before .before .before .before .before .before .before .height .ensures) (b .0) (b .1) (c .before .before .before .before .before .before .before .before .tally-leaf .ensures) (c .before .before .before .before .spread .ensures)
+returns c = let s = c .before .before .before .before .before .before .before .before .pre in wl-one (s .0 .1 .deep) (s .0 .1 .block) (s .1) (c .before .before .before .tally-leaf .ensures) (c .if1 .taken)
+
+spread-requires : tie.Need-spread-requires
+spread-requires c κs = let s = c .before .before .before .before .before .before .before .before .before .before .pre in (s .0, wl-fits (s .0 .1 .deep) (s .0 .1 .block) (s .1) (c .before .before .before .before .before .tally-leaf .ensures))
+
+same-length-3 : tie.Need-same-length-3
+same-length-3 c = let s = c .before .before .before .before .before .before .before .before .before .before .before .before .before .before .before .pre in wl-sizes (s .0 .1 .deep) (s .0 .1 .block) (s .1) (c .before .before .before .before .before .before .before .before .before .before .tally-leaf .ensures) (c .before .before .before .before .spread .ensures) .0
+
+same-length-4 : tie.Need-same-length-4
+same-length-4 c = let s = c .before .before .before .before .before .before .before .before .before .before .before .before .before .before .before .pre in wl-sizes (s .0 .1 .deep) (s .0 .1 .block) (s .1) (c .before .before .before .before .before .before .before .before .before .before .tally-leaf .ensures) (c .before .before .before .before .spread .ensures) .1
+
+returns-2 : tie.Need-returns-2
+returns-2 c =
+    let s = c .before .before .before .before .before .before .before .before .before .before .before .before .before .before .before .pre in
+    wl-wrote (s .0 .1 .deep) (s .0 .1 .block) (s .1) (c .before .before .before .before .before .before .before .before .before .before .tally-leaf .ensures) (c .before .before .before .before .spread .ensures)
 
 pub write-leaf-spec : {M : Type 1} → statement M
 write-leaf-spec =
     tie.close
     (tie.spec
-    block-requires
-    height-requires
     tally-leaf-requires
     sub-start
-    spread-requires
     mul-keys
     slice-write-keys
     mul-bits
     slice-write-bits
     same-length
     same-length-2
-    returns)
+    returns
+    spread-requires
+    same-length-3
+    same-length-4
+    returns-2)
