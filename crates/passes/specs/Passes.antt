@@ -1,9 +1,11 @@
 -- What the passes over the slices ask and leave. Only contracts need these. Rests on Step and on build's laws of a block.
 use Prim.Native.Nat.{ℕ, _+_, _-_, _^_, _≤_, _<_}
+use mathlib.Core.Bool.{true}
 use mathlib.Core.Path.{_≡_}
 use mathlib.Core.List.{List, _++_}
 use lib.ListN.{length, getD, set, drop}
 use lib.Seq.{sets}
+use Rattle.keys.specs.Key.{validKey}
 use Rattle.keys.specs.Under.{Block}
 use Rattle.build.specs.BuildBlocks.{Tallied}
 use Rattle.definitions.specs.Picture.{Picture}
