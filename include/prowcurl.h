@@ -91,7 +91,7 @@ extern "C" {
 #define HLQ_LEAF_STRING_BYTES(n) (((size_t)(n) - (size_t)(n) / 4 + 7) / 8)
 
 /* The stack that a call needs at most, in bytes. */
-#define HLQ_STACK_BYTES 8192
+#define HLQ_STACK_BYTES 10240
 
 /* Where a block stands: the `kind` of hlq_stands. */
 enum {
