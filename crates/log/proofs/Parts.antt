@@ -75,7 +75,7 @@ module _ (m s : ℕ) (keys values : List ℕ) (used inForce : ℕ) where
       back-decides q r is good told =
           ap not (told ∙ ap (isSound m s) part-redo) ∙ ap (λ b. not (b && back)) (sym (not-false q good) ∙ is) ∙ passes
 
--- a log that is not refused with 5: the used records are there, those in force are the first of them, and both parts divide into entries
+-- a log that is not refused with 5: the used records are there, those in force are the first of them, and both parts divide into steps
 pub record WholeLog (m s : ℕ) (keys values : List ℕ) (used inForce : ℕ) : Type 0 where
   pub in-keys : used ≤ length keys
   pub in-values : used ≤ length values
