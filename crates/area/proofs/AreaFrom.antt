@@ -16,7 +16,7 @@ use Rattle.definitions.specs.Area.{areaIn}
 use Rattle.definitions.specs.declared.Window.{Window}
 use Rattle.laws.proofs.PixelSums.{sumPixels, sum-same}
 use Rattle.laws.proofs.AreaOf.{oneInside, area-sum}
-use Rattle.window.specs.Walk.{Clear}
+use Rattle.walk.specs.Walk.{Clear}
 use Rattle.area.proofs.SumUnder.{sum-nothing, sum-both, sum-most, sum-under}
 
 module _ (m : ℕ) (p : Picture) (w : Window) (f : ℕ) where

@@ -15,8 +15,8 @@ use Rattle.keys.proofs.Valid.{block-valid}
 use Rattle.definitions.specs.Picture.{Picture, oneFeature}
 use Rattle.definitions.specs.Area.{pixelsWith, summaryOf}
 use Rattle.laws.proofs.PixelSums.{squared}
-use Rattle.window.specs.Walk.{Stands}
-use Rattle.window.specs.declared.walk.Spot.{Spot}
+use Rattle.walk.specs.Walk.{Stands}
+use Rattle.walk.specs.declared.Spot.{Spot}
 use Rattle.area.specs.Number.{numberOf}
 use Rattle.area.proofs.NumberOf.{number-count, number-room}
 

@@ -20,7 +20,7 @@ use Rattle.laws.proofs.SelectMeans.{given-inside}
 use Rattle.laws.proofs.Pixels.{every-zero}
 use Rattle.laws.proofs.PixelSums.{same-four, sumPixels, sum-zero, sum-suc}
 use Rattle.laws.proofs.AreaOf.{oneInside, area-sum, area-inside}
-use Rattle.window.proofs.Largest.{blank, largestBlocks}
+use Rattle.walk.proofs.Largest.{blank, largestBlocks}
 
 module _ (m : ℕ) (p : Picture) (f : ℕ) where
   -- how many pixels of the blocks with the given keys have the feature, added up

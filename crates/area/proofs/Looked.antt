@@ -8,11 +8,11 @@ use lib.ListN.{getD, take}
 use Rattle.definitions.specs.Bits.{hasSlot}
 use Rattle.list.specs.Own.{OwnList, shownBy}
 use Rattle.list.specs.Among.{placeAmong}
-use Rattle.window.specs.Walk.{Stands}
-use Rattle.window.specs.declared.walk.Spot.{Spot}
-use Rattle.window.proofs.Asked.{asked-place}
-use Rattle.window.proofs.Seen.{bitsAt}
-use Rattle.window.proofs.Slot.{bit-some}
+use Rattle.walk.specs.Walk.{Stands}
+use Rattle.walk.specs.declared.Spot.{Spot}
+use Rattle.walk.proofs.Asked.{asked-place}
+use Rattle.walk.proofs.SpotBits.{bitsAt}
+use Rattle.walk.proofs.Slot.{bit-some}
 
 module _
     {m : ℕ}

@@ -17,10 +17,10 @@ use Rattle.definitions.specs.Window.{isWindow}
 use Rattle.definitions.specs.Area.{areaIn, pixelsWith}
 use Rattle.definitions.specs.declared.Window.{Window}
 use Rattle.laws.proofs.Features.{one-pixel}
-use Rattle.window.specs.Walk.{Stands, isApart}
-use Rattle.window.specs.declared.walk.Spot.{Spot}
-use Rattle.window.proofs.Seen.{bitsAt}
-use Rattle.window.proofs.Steps.{Parent, clear-first}
+use Rattle.walk.specs.Walk.{Stands, isApart}
+use Rattle.walk.specs.declared.Spot.{Spot}
+use Rattle.walk.proofs.SpotBits.{bitsAt}
+use Rattle.walk.proofs.Steps.{Parent, clear-first}
 use Rattle.area.specs.Overlap.{overlapOf, isWhole}
 use Rattle.area.specs.Tally.{MixedAt}
 use Rattle.area.proofs.AreaFrom.{areaFrom, area-first, area-end, area-most, area-clear, area-block}

@@ -16,8 +16,8 @@ use Rattle.keys.proofs.Valid.{block-valid}
 use Rattle.definitions.specs.Picture.{Picture}
 use Rattle.definitions.specs.Area.{pixelsWith, summaryLevel, summaryHeight, summaryOf, keyBelow, blockKey}
 use Rattle.laws.proofs.SummaryOf.{summary-length, summary-place}
-use Rattle.window.specs.Walk.{Stands}
-use Rattle.window.specs.declared.walk.Spot.{Spot}
+use Rattle.walk.specs.Walk.{Stands}
+use Rattle.walk.specs.declared.Spot.{Spot}
 use Rattle.area.specs.Number.{numberOf}
 
 -- a block under another that is lower lies at or under one of its quadrants, which a digit names

@@ -18,10 +18,10 @@ use Rattle.laws.proofs.WindowScan.{inside-window, window-inside}
 use Rattle.laws.proofs.PixelSums.{sumRow, sumRows, sumPixels, sum-block, sum-same, InPart, rows-same, rows-cut, columns-cut}
 use Rattle.laws.proofs.CountOf.{oneAt, pixels-sum}
 use Rattle.laws.proofs.AreaOf.{oneInside}
-use Rattle.window.specs.Walk.{Stands, isApart, isWithin}
-use Rattle.window.specs.declared.walk.Spot.{Spot}
-use Rattle.window.proofs.Lies.{InSpot, not-apart, apart-pixel, within-pixel}
-use Rattle.window.proofs.Seen.{bitsAt, no-slot-pixel, whole-pixel}
+use Rattle.walk.specs.Walk.{Stands, isApart, isWithin}
+use Rattle.walk.specs.declared.Spot.{Spot}
+use Rattle.walk.proofs.Lies.{InSpot, not-apart, apart-pixel, within-pixel}
+use Rattle.walk.proofs.SpotBits.{bitsAt, no-slot-pixel, whole-pixel}
 use Rattle.area.specs.Overlap.{common, overlapOf}
 use Rattle.area.proofs.SumUnder.{sum-nothing}
 

@@ -24,8 +24,8 @@ use Rattle.list.proofs.OneSlot.{power-slot}
 use Rattle.list.proofs.Shown.{leaf-one, block-shown}
 use Rattle.summary.specs.Count.{NodeAt}
 use Rattle.summary.proofs.CountTurn.{shown-node}
-use Rattle.window.specs.Walk.{Stands}
-use Rattle.window.specs.declared.walk.Spot.{Spot}
+use Rattle.walk.specs.Walk.{Stands}
+use Rattle.walk.specs.declared.Spot.{Spot}
 use Rattle.area.specs.Number.{numberOf}
 use Rattle.area.specs.Tally.{NodeTallied, MixedAt, WholeAsked, WholeCounted}
 use Rattle.area.specs.declared.tally.Tally.{Tally}

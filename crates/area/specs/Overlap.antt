@@ -4,8 +4,8 @@ use Prim.Native.Nat.{ℕ, _+_, _-_, _*_, _≤_, _<_, min}
 use mathlib.Core.Bool.{Bool, _&&_}
 use lib.Dec.{leb}
 use Rattle.definitions.specs.declared.Window.{Window}
-use Rattle.window.specs.Walk.{isWithin}
-use Rattle.window.specs.declared.walk.Spot.{Spot}
+use Rattle.walk.specs.Walk.{isWithin}
+use Rattle.walk.specs.declared.Spot.{Spot}
 
 -- how many numbers two runs have in common: from the later start to the earlier end
 abbrev pub common : (first side start length : ℕ) → ℕ

@@ -11,7 +11,7 @@ use Rattle.definitions.specs.Picture.{Picture, oneFeature}
 use Rattle.definitions.specs.List.{listOf}
 use Rattle.definitions.specs.Area.{pixelsWith, summaryOf}
 use Rattle.list.specs.Shown.{ShownAt}
-use Rattle.window.specs.declared.walk.Spot.{Spot}
+use Rattle.walk.specs.declared.Spot.{Spot}
 use Rattle.area.specs.declared.tally.Tally.{Tally}
 
 -- the block's pixels of the feature, and the place after its list

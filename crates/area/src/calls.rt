@@ -6,7 +6,7 @@ use definitions::Measured;
 use definitions::Window;
 use list::refusal::first_refusal;
 use summary::check::is_summary;
-use window::bounds::is_window;
+use walk::bounds::is_window;
 
 // Refusals 1, 4, 18, 6 and 7, or 0.
 fn area_refusal(

@@ -6,7 +6,7 @@ ghost use Rattle.keys.specs.Key.{slotLimit};
 ghost use Rattle.definitions.specs.Window.{isWindow};
 ghost use Rattle.definitions.specs.Area.{areaIn, summaryOf};
 ghost use Rattle.list.specs.Own.{OwnList, shownBy};
-ghost use Rattle.window.specs.Walk.{Stands};
+ghost use Rattle.walk.specs.Walk.{Stands};
 ghost use Rattle.area.specs.Number.{numberOf};
 ghost use Rattle.area.specs.Tally.{WholeAsked, WholeCounted};
 use crate::overlap;
@@ -14,9 +14,8 @@ use crate::tally;
 use definitions::Window;
 use keys::power;
 use list::standing;
-use window::walk;
-use window::walk::Found;
-use window::walk::Spot;
+use walk::Found;
+use walk::Spot;
 
 // The number of a block of level 2 in key order, by the first two digits of its key.
 fn number_of(m: u32, block: Spot) -> u32

@@ -2,11 +2,10 @@
 ghost use mathlib.Core.Path.{_≡_};
 ghost use mathlib.Core.Bool.{false};
 ghost use Prim.Native.Nat.{_+_, _-_, _≤_, min};
-ghost use Rattle.window.specs.Walk.{Small, isApart};
+ghost use Rattle.walk.specs.Walk.{Small, isApart};
 ghost use Rattle.area.specs.Overlap.{Crossing, common, overlapOf, isWhole};
 use definitions::Window;
-use window::walk;
-use window::walk::Spot;
+use walk::Spot;
 
 // Where both runs have begun.
 fn later(first: u32, start: u32) -> u32

@@ -8,7 +8,7 @@ use crate::begin::State;
 use clipped::clip::clipped_window;
 use definitions::Question;
 use definitions::Window;
-use window::bounds::is_window;
+use walk::bounds::is_window;
 use window::exist::exist_in;
 use window::report::report_in;
 

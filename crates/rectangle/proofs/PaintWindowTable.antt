@@ -16,7 +16,7 @@ use Rattle.definitions.specs.declared.Window.{Window}
 use Rattle.definitions.specs.Refusal.{Row, _gives_, first, badFeature}
 use Rattle.definitions.specs.Calls.PaintWindow.{filled, groupGained, paintWindowRefusal}
 use Rattle.laws.proofs.First.{this, later, holds-first, none-first, first-none}
-use Rattle.window.proofs.Lies.{accepted}
+use Rattle.walk.proofs.Lies.{accepted}
 use Rattle.edit.specs.EditCallChecks.{firstRefusal}
 use Rattle.rectangle.specs.WindowLogging.{FreshGroup}
 use Rattle.rectangle.specs.PaintWindowCall.{Fillable, windowRoomRefusal, WindowDecided}

@@ -12,9 +12,9 @@ use Rattle.definitions.specs.Window.{inWindow, isInside}
 use Rattle.definitions.specs.declared.Window.{Window}
 use Rattle.laws.proofs.Pixels.{every-to, every-from}
 use Rattle.laws.proofs.WindowScan.{inside-window}
-use Rattle.window.specs.Walk.{Small, isWithin, isApart}
-use Rattle.window.specs.declared.walk.Spot.{Spot}
-use Rattle.window.proofs.Lies.{apart-pixel, within-pixel, not-apart, inside-within}
+use Rattle.walk.specs.Walk.{Small, isWithin, isApart}
+use Rattle.walk.specs.declared.Spot.{Spot}
+use Rattle.walk.proofs.Lies.{apart-pixel, within-pixel, not-apart, inside-within}
 use Rattle.rectangle.specs.WindowLogging.{Placed, Lies, Coverable}
 use Rattle.laws.proofs.LargestBlocks.{covered-one}
 use Rattle.rectangle.proofs.WindowEntries.{largest-none}

@@ -14,7 +14,7 @@ use edit::decision;
 use edit::recount;
 use keys::Key;
 use log::group;
-use window::bounds;
+use walk::bounds;
 
 // The refusal; where it is 0, the number of entries that the group will have, and the number of records that the list will have.
 pub struct WindowPlan {

@@ -9,8 +9,7 @@ use edit::logging;
 use keys::power;
 use log::entry;
 use step::quarters;
-use window::walk;
-use window::walk::Spot;
+use walk::Spot;
 
 // 0 where none of the largest blocks lies in the block, 1 where it is one itself, 2 where its quadrants have to be asked.
 pub fn lies(window: Window, height: u32, row: u32, column: u32) -> u32

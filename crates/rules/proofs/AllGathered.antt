@@ -13,8 +13,8 @@ use Rattle.definitions.specs.Picture.{Picture}
 use Rattle.definitions.specs.Rules.{Finding, findingsOf, allFindings, waiversOf, isHidden, liveOf, hiddenCount}
 use Rattle.definitions.specs.declared.Rule.{Rule}
 use Rattle.laws.proofs.Waivers.{live-none, live-hidden, live-kept}
-use Rattle.window.specs.Gather.{written}
-use Rattle.window.proofs.Written.{written-none, written-append}
+use Rattle.walk.specs.Given.{written}
+use Rattle.walk.proofs.Written.{written-none, written-append}
 use Rattle.rules.specs.declared.state.State.{State}
 use Rattle.rules.specs.Run.{waiversBelow, Progress, progressOf, counting, picture, isUnknown, gathered, runOf}
 use Rattle.rules.proofs.Fold.{run-nil, run-cons}

@@ -12,7 +12,7 @@ use Rattle.definitions.specs.Window.{selectIn}
 use Rattle.definitions.specs.Rules.{findingOf, windowOfRule, findingsOf, waiversOf, liveOf}
 use Rattle.definitions.specs.declared.Rule.{Rule}
 use Rattle.laws.proofs.Waivers.{live-and-hidden}
-use Rattle.window.proofs.Few.{select-few}
+use Rattle.walk.proofs.Few.{select-few}
 use Rattle.rules.specs.declared.state.State.{State}
 use Rattle.rules.specs.Run.{Progress, progressOf, refusing, faultyFrom, bounding, restarting, pixelsOf, mayCome, picture, findingsAt, gathered, stepOf, runOf}
 use Rattle.rules.proofs.Fold.{run-nil, run-cons}

@@ -4,8 +4,8 @@ use mathlib.Core.Path.{_≡_, refl, ap, _∙_}
 use mathlib.Core.List.{List, [], _∷_}
 use Rattle.keys.proofs.Cases.{decide, equal}
 use Rattle.definitions.specs.declared.Rule.{Rule}
-use Rattle.window.specs.Gather.{written}
-use Rattle.window.proofs.Written.{written-nothing}
+use Rattle.walk.specs.Given.{written}
+use Rattle.walk.proofs.Written.{written-nothing}
 use Rattle.rules.specs.Run.{Progress, mayCome, stepOf, runOf}
 use Rattle.rules.proofs.Fold.{run-nil, run-cons}
 use Rattle.rules.proofs.StepCases.{isFaulty, step-stopped, step-rests, step-bad, step-faulty, step-good, served-bounds, served-gathers}

@@ -17,9 +17,9 @@ use Rattle.definitions.specs.Rules.{findingOf, windowOfRule, findingsOf, waiver
 use Rattle.definitions.specs.declared.Rule.{Rule}
 use Rattle.laws.proofs.SelectAscends.{select-in-ascends}
 use Rattle.laws.proofs.Waivers.{live-and-hidden}
-use Rattle.window.proofs.Lies.{accepted}
-use Rattle.window.proofs.Lower.{ascending-length}
-use Rattle.window.proofs.Written.{length-written}
+use Rattle.walk.proofs.Lies.{accepted}
+use Rattle.walk.proofs.Lower.{ascending-length}
+use Rattle.walk.proofs.Written.{length-written}
 use Rattle.rules.specs.Run.{Progress, pixelsOf, mayCome, picture, findingsAt, gathered, bounded, stepOf, runOf, Fine, Ready}
 use Rattle.rules.proofs.Fold.{run-nil, run-cons}
 use Rattle.rules.proofs.StepCases.{isFaulty, step-stopped, step-rests, step-bad, step-faulty, step-good, served-bounds, served-gathers}

@@ -14,7 +14,7 @@ use Rattle.definitions.specs.declared.Rule.{Rule}
 use Rattle.definitions.specs.Covered.{waivedKeys}
 use Rattle.list.specs.Own.{OwnList}
 use Rattle.list.proofs.Own.{own-list}
-use Rattle.window.specs.Gather.{written}
+use Rattle.walk.specs.Given.{written}
 use Rattle.rules.specs.declared.state.State.{State}
 use Rattle.sift.specs.declared.Sifting.{Sifting}
 use Rattle.sift.specs.Sift.{notWaived, SiftReady, Sifted}

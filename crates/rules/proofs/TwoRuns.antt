@@ -16,8 +16,8 @@ use Rattle.definitions.specs.Refusal.{badSettings}
 use Rattle.definitions.specs.Calls.Findings.{liveIn, hiddenIn, refusalWith, foundWith, idsWith, keysWith}
 use Rattle.definitions.specs.declared.Rule.{Rule}
 use Rattle.offices.specs.declared.own.Own.{Own}
-use Rattle.window.specs.Gather.{written}
-use Rattle.window.proofs.Written.{written-over}
+use Rattle.walk.specs.Given.{written}
+use Rattle.walk.proofs.Written.{written-over}
 use Rattle.rules.specs.declared.state.State.{State}
 use Rattle.rules.specs.Run.{waiversBelow, waiversGood, Progress, progressOf, restarting, runOf, beginRefusal, beginOf, nextOf, answerOf}
 use Rattle.rules.proofs.WaiverPlaces.{waivers-length}

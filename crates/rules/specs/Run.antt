@@ -16,7 +16,7 @@ use Rattle.definitions.specs.declared.Found.{Found}
 use Rattle.list.specs.First.{firstRefusal}
 use Rattle.offices.specs.Own.{noRows, ownOf}
 use Rattle.offices.specs.declared.own.Own.{Own}
-use Rattle.window.specs.Gather.{written}
+use Rattle.walk.specs.Given.{written}
 use Rattle.rules.specs.declared.state.State.{State}
 
 -- how many waivers have a rule's id below x

@@ -9,7 +9,7 @@ use crate::waivers;
 use definitions::Rule;
 use definitions::Window;
 use sift::Sifting;
-use window::bounds;
+use walk::bounds;
 
 // The rule's id is not below the least that may come, and the rule is good.
 fn may_come(rule: Rule, state: State) -> bool

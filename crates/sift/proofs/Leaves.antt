@@ -21,9 +21,9 @@ use Rattle.list.specs.Check.{oneSlot}
 use Rattle.list.specs.Own.{OwnList, shownBy}
 use Rattle.list.proofs.OneSlot.{slot-feature}
 use Rattle.list.proofs.Own.{own-ascends}
-use Rattle.window.specs.declared.walk.Spot.{Spot}
-use Rattle.window.specs.Walk.{Stands}
-use Rattle.window.proofs.Until.{records-drop}
+use Rattle.walk.specs.declared.Spot.{Spot}
+use Rattle.walk.specs.Walk.{Stands}
+use Rattle.walk.proofs.RecordsFrom.{records-drop}
 use Rattle.sift.specs.Covering.{endOf}
 
 -- a block that begins inside the parent of a quadrant, after the parent and before the quadrant, ends before the quadrant

@@ -7,8 +7,8 @@ use native.Mathlib.Omega.{arith}
 use lib.ListN.{length, length-append, length-map}
 use Rattle.keys.proofs.Cases.{decide}
 use Rattle.definitions.specs.Covered.{isCovered}
-use Rattle.window.specs.Gather.{putAt, written}
-use Rattle.window.proofs.Written.{written-none, written-one, written-append, length-written}
+use Rattle.walk.specs.Given.{putAt, written}
+use Rattle.walk.proofs.Written.{written-none, written-one, written-append, length-written}
 use Rattle.sift.specs.declared.Sifting.{Sifting}
 use Rattle.sift.specs.Covering.{Passed}
 use Rattle.sift.specs.Sift.{notWaived, SiftReady, FindingsCounted, Sifted}

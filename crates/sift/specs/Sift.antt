@@ -5,10 +5,18 @@ use mathlib.Core.Path.{_≡_}
 use mathlib.Core.Bool.{cond}
 use mathlib.Core.List.{List, [], _∷_, map}
 use lib.ListN.{length, getD}
+use lib.Dec.{ltb, eqb}
+use Rattle.definitions.specs.List.{Record}
 use Rattle.definitions.specs.Covered.{isCovered}
-use Rattle.window.specs.Gather.{written}
+use Rattle.walk.specs.Given.{written}
 use Rattle.sift.specs.Covering.{endOf, Waived, Passed}
 use Rattle.sift.specs.declared.Sifting.{Sifting}
+
+-- the keys of the records with exactly the given bits, before the first record whose key is at or past the end
+unfoldable pub keysUntil : ℕ → ℕ → List Record → List ℕ
+keysUntil end bits [] = []
+keysUntil end bits (e ∷ l) =
+    cond (ltb (e .key) end) (cond (eqb (e .value) bits) (e .key ∷ keysUntil end bits l) (keysUntil end bits l)) []
 
 -- the given keys whose blocks the waivers do not cover
 unfoldable pub notWaived : ℕ → List ℕ → List ℕ → List ℕ

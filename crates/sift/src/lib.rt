@@ -13,8 +13,9 @@ ghost use Rattle.definitions.specs.Rules.{windowOfRule};
 ghost use Rattle.list.specs.Check.{oneSlot};
 ghost use Rattle.list.specs.Own.{OwnList, shownBy};
 ghost use Rattle.list.specs.Sorted.{Near};
-ghost use Rattle.window.specs.Walk.{Stands};
-ghost use Rattle.window.specs.Gather.{keysWith, keysUntil};
+ghost use Rattle.walk.specs.Walk.{Stands};
+ghost use Rattle.walk.specs.Given.{keysWith};
+ghost use Rattle.sift.specs.Sift.{keysUntil};
 ghost use Rattle.sift.specs.Covering.{endOf};
 ghost use Rattle.sift.specs.Sift.{SiftReady, RunReady, Sifted};
 
@@ -25,10 +26,9 @@ use definitions::Window;
 use keys::power;
 use list::standing;
 use list::standing::Which;
-use window::select;
-use window::walk;
-use window::walk::Found;
-use window::walk::Spot;
+use walk::Found;
+use walk::Spot;
+use walk::answer::put;
 
 // What is the same for all findings of a rule: the map's resolution and number of records, the rule's id and its feature's bit, and how many findings
 // may be written.
@@ -78,8 +78,8 @@ fn sift(
             hidden: more,
         };
     }
-    select::put(found_ids, limit, live, id);
-    select::put(found_keys, limit, live, key);
+    put(found_ids, limit, live, id);
+    put(found_keys, limit, live, key);
     let more = live + 1;
     Sifting {
         passed,

@@ -12,9 +12,9 @@ use Rattle.definitions.specs.declared.Window.{Window}
 use Rattle.laws.proofs.Within.{Every}
 use Rattle.list.specs.Check.{oneSlot}
 use Rattle.list.proofs.OneSlot.{slot-power}
-use Rattle.window.specs.Walk.{Small, isWithin, isApart}
-use Rattle.window.specs.declared.walk.Spot.{Spot}
-use Rattle.window.proofs.Lies.{apart-pixel, within-pixel, not-apart, inside-within}
+use Rattle.walk.specs.Walk.{Small, isWithin, isApart}
+use Rattle.walk.specs.declared.Spot.{Spot}
+use Rattle.walk.proofs.Lies.{apart-pixel, within-pixel, not-apart, inside-within}
 use Rattle.build.specs.BuildBlocks.{Tallied}
 use Rattle.step.specs.Step.{over, plain}
 use Rattle.step.specs.Deed.{windowStep, Painting, LeafAsked, Settled}

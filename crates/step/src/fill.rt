@@ -3,8 +3,7 @@ ghost use mathlib.Core.Path.{_≡_};
 ghost use Rattle.step.specs.Deed.{windowStep, Painting, LeafAsked, Settled};
 use definitions::Window;
 use keys::power;
-use window::walk;
-use window::walk::Spot;
+use walk::Spot;
 
 // The bits of a leaf after the window was painted, where it stays a leaf; else 0.
 pub fn settled(

@@ -19,8 +19,8 @@ use Rattle.definitions.specs.declared.Counted.{Counted}
 use Rattle.laws.proofs.First.{accepted-done, accepted-left}
 use Rattle.list.specs.Own.{shownBy}
 use Rattle.window.specs.Gather.{Gave}
-use Rattle.window.proofs.Few.{select-few}
-use Rattle.window.proofs.Written.{written-nothing, written-over}
+use Rattle.walk.proofs.Few.{select-few}
+use Rattle.walk.proofs.Written.{written-nothing, written-over}
 use Rattle.window.proofs.Tables.{select-goes-on, select-other, select-short, select-none}
 
 exists : {a b a′ b′ : ℕ} → a ≡ a′ → b ≡ b′ → _≡_ {A = Exists} (record { refusal = a; yes = b }) (record { refusal = a′; yes = b′ })

@@ -1,6 +1,6 @@
 -- Report on the walk: every slot gathered is that of a pixel of the window, and every pixel of the window before the key where the walk stands has
--- its slot. A block within the window adds its bits, and so does a block of one feature that meets it; a block with nothing new is passed. Rests on Seen
--- and the meaning of report.
+-- its slot. A block within the window adds its bits, and so does a block of one feature that meets it; a block with nothing new is passed. Rests on
+-- the walk's laws of a block's bits and the meaning of report.
 use Prim.Native.Nat.{ℕ, _+_, _^_, _<_}
 use mathlib.Core.Path.{_≡_, sym, _∙_, ap}
 use mathlib.Core.Bool.{true, false, true≢false}
@@ -20,11 +20,11 @@ use Rattle.laws.proofs.BitsOf.{bits-to, bits-from}
 use Rattle.laws.proofs.WindowScan.{PixelWith, report-exactly}
 use Rattle.list.specs.Check.{oneSlot}
 use Rattle.list.proofs.OneSlot.{slot-power}
-use Rattle.window.specs.declared.walk.Spot.{Spot}
-use Rattle.window.specs.Walk.{Stands, isWithin, isApart, Clear}
-use Rattle.window.proofs.Lies.{InSpot, within-pixel, window-pixel, meets-pixel}
-use Rattle.window.proofs.Steps.{in-spot}
-use Rattle.window.proofs.Seen.{bitsAt, whole-pixel}
+use Rattle.walk.specs.declared.Spot.{Spot}
+use Rattle.walk.specs.Walk.{Stands, isWithin, isApart, Clear}
+use Rattle.walk.proofs.Lies.{InSpot, within-pixel, window-pixel, meets-pixel}
+use Rattle.walk.proofs.Steps.{in-spot}
+use Rattle.walk.proofs.SpotBits.{bitsAt, whole-pixel}
 
 pub record Gathered (m : ℕ) (p : Picture) (w : Window) (union x : ℕ) : Type 0 where
   pub only : (i : ℕ) → hasSlot union i ≡ true → PixelWith p w i

@@ -1,4 +1,4 @@
--- A run along the records up to a place: what the record at each place gives, and so what the run gives from a place on. Rests on Content and Until.
+-- A run along the records up to a place: what the record at each place gives, and so what the run gives from a place on. Rests on the laws of records and of keys with given bits.
 use Prim.Native.Nat.{ℕ, _+_, _≤_, _<_}
 use mathlib.Core.Path.{_≡_, sym, ap, _∙_}
 use mathlib.Core.List.{List, [], _∷_}
@@ -6,9 +6,9 @@ use native.Mathlib.Numerals.{add-one}
 use lib.ListN.{length, getD, drop}
 use Rattle.definitions.specs.List.{recordOf}
 use Rattle.definitions.specs.Read.{recordsOf}
-use Rattle.window.specs.Gather.{keysWith}
-use Rattle.window.proofs.Until.{records-drop, records-end}
-use Rattle.window.proofs.Content.{with-none, with-give, with-pass}
+use Rattle.walk.specs.Given.{keysWith}
+use Rattle.walk.proofs.RecordsFrom.{records-drop, records-end}
+use Rattle.walk.proofs.Content.{with-none, with-give, with-pass}
 
 abbrev pub left : List ℕ → List ℕ → ℕ → ℕ → ℕ → List ℕ
 left keys bits end bit i = keysWith bit (drop i (recordsOf keys bits end))

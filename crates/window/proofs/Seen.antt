@@ -2,42 +2,23 @@
 -- this past its end. One that shows it within the window settles the answer, and so does one of this feature alone that meets the window. Rests on Steps
 -- and the meaning of exist.
 use Prim.Native.Nat.{ℕ, _+_, _^_, _<_}
-use mathlib.Core.Path.{_≡_, sym, _∙_, ap}
-use mathlib.Core.Bool.{true, false, true≢false}
+use mathlib.Core.Path.{_≡_}
+use mathlib.Core.Bool.{true, false}
 use native.Mathlib.Omega.{arith}
-use borrow.Author.Tests.{eqb-true}
 use Rattle.keys.specs.Block.{pixelKey}
 use Rattle.keys.proofs.Cases.{decide, split}
 use Rattle.keys.proofs.Pixel.{pixelKey-lt}
 use Rattle.definitions.specs.Picture.{Picture}
-use Rattle.definitions.specs.Bits.{hasSlot, bitsOf}
+use Rattle.definitions.specs.Bits.{hasSlot}
 use Rattle.definitions.specs.Window.{isWindow, inWindow, existIn}
 use Rattle.definitions.specs.declared.Window.{Window}
-use Rattle.laws.proofs.Slots.{slot-power}
-use Rattle.laws.proofs.BitsOf.{bits-to, bits-from}
+use Rattle.laws.proofs.BitsOf.{bits-to}
 use Rattle.laws.proofs.WindowScan.{exist-exactly}
-use Rattle.window.specs.declared.walk.Spot.{Spot}
-use Rattle.window.specs.Walk.{Stands, isWithin, isApart, Clear}
-use Rattle.window.proofs.Lies.{InSpot, within-pixel, window-pixel, meets-pixel}
-use Rattle.window.proofs.Steps.{in-spot}
-
--- the bits of the spot's block
-abbrev pub bitsAt : Picture → {m : ℕ} {s : Spot} → Stands m s → ℕ
-bitsAt p {s = s} h = bitsOf p (h .height) (s .row) (s .column)
-
--- a slot of a block's bits that is not set belongs to none of its pixels
-pub no-slot-pixel : (p : Picture) (f : ℕ) {m : ℕ} {s : Spot} (h : Stands m s) (row column : ℕ)
-    → hasSlot (bitsAt p h) f ≡ false → InSpot s row column → p row column ≡ f
-    → ⊥
-no-slot-pixel p f {s = s} h row column none i has =
-    let e = bits-from p (h .height) (s .row) (s .column) row column (omega (arith, h .side)) in
-    true≢false (sym (ap (hasSlot (bitsAt p h)) (sym has) ∙ e) ∙ none)
-
--- a block with one slot alone has that feature at every pixel
-pub whole-pixel : (p : Picture) (f : ℕ) {m : ℕ} {s : Spot} (h : Stands m s) (row column : ℕ) → bitsAt p h ≡ 2 ^ f → InSpot s row column → p row column ≡ f
-whole-pixel p f {s = s} h row column is i =
-    let e = bits-from p (h .height) (s .row) (s .column) row column (omega (arith, h .side)) in
-    sym (eqb-true f (p row column) (sym (slot-power f (p row column)) ∙ ap (λ x. hasSlot x (p row column)) (sym is) ∙ e))
+use Rattle.walk.specs.declared.Spot.{Spot}
+use Rattle.walk.specs.Walk.{Stands, isWithin, isApart, Clear}
+use Rattle.walk.proofs.Lies.{InSpot, within-pixel, window-pixel, meets-pixel}
+use Rattle.walk.proofs.Steps.{in-spot}
+use Rattle.walk.proofs.SpotBits.{bitsAt, no-slot-pixel, whole-pixel}
 
 module _ (m : ℕ) (p : Picture) (w : Window) (f : ℕ) where
   -- no pixel of the window with the feature has its key below x

@@ -9,12 +9,13 @@ use Rattle.definitions.specs.Picture.{Picture}
 use Rattle.definitions.specs.Window.{selectIn}
 use Rattle.definitions.specs.declared.Window.{Window}
 use Rattle.definitions.specs.Edit.{contentOf}
-use Rattle.window.specs.declared.walk.Spot.{Spot}
-use Rattle.window.specs.Walk.{Walking, isWithin}
-use Rattle.window.specs.Gather.{keysWith, written, Gave}
-use Rattle.window.proofs.Written.{written-none, written-append, length-written}
-use Rattle.window.proofs.Lower.{lower}
-use Rattle.window.proofs.Below.{lower-block, below-none, below-all, below-few}
+use Rattle.walk.specs.declared.Spot.{Spot}
+use Rattle.walk.specs.Walk.{Walking, isWithin}
+use Rattle.walk.specs.Given.{keysWith, written}
+use Rattle.window.specs.Gather.{Gave}
+use Rattle.walk.proofs.Written.{written-none, written-append, length-written}
+use Rattle.walk.proofs.Lower.{lower}
+use Rattle.walk.proofs.Below.{lower-block, below-none, below-all, below-few}
 
 module _ (m : ℕ) (p : Picture) (w : Window) (f : ℕ) where
   -- what is counted and written below a key

@@ -17,8 +17,8 @@ use Rattle.definitions.specs.declared.Window.{Window}
 use Rattle.laws.proofs.Within.{first-within}
 use Rattle.laws.proofs.SelectMeans.{given-inside, given-feature, Selected, select-in-exactly}
 use Rattle.laws.proofs.WindowScan.{exist-exactly, exist-report}
-use Rattle.window.proofs.Lies.{window-pixel}
-use Rattle.window.proofs.Once.{covered-once, covers}
+use Rattle.walk.proofs.Lies.{window-pixel}
+use Rattle.walk.proofs.Once.{covered-once, covers}
 
 -- a member of a list says that it has one, and a list that has one has a member
 some-length : {x : ℕ} {l : List ℕ} → List·Memᴰ x l → 0 < length l

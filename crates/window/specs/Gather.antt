@@ -1,32 +1,9 @@
--- What the contracts of select's inner functions say: the keys that a run of records gives, and what writing them leaves in the answer. Only contracts
--- need these; that they are what select gives is proved in proofs/.
-use Prim.Native.Nat.{ℕ, suc, _+_}
+-- What the contracts of select's inner functions say of the keys that they were given. Only contracts need this.
+use Prim.Native.Nat.{ℕ, _+_}
 use mathlib.Core.Path.{_≡_}
-use mathlib.Core.Bool.{cond}
-use mathlib.Core.List.{List, [], _∷_}
-use lib.ListN.{length, set}
-use lib.Dec.{ltb, eqb}
-use Rattle.definitions.specs.List.{Record}
-
--- the keys of the records that have exactly the given bits
-unfoldable pub keysWith : ℕ → List Record → List ℕ
-keysWith bits [] = []
-keysWith bits (e ∷ l) = cond (eqb (e .value) bits) (e .key ∷ keysWith bits l) (keysWith bits l)
-
--- the same of the records before the first whose key is at or past the end
-unfoldable pub keysUntil : ℕ → ℕ → List Record → List ℕ
-keysUntil end bits [] = []
-keysUntil end bits (e ∷ l) =
-    cond (ltb (e .key) end) (cond (eqb (e .value) bits) (e .key ∷ keysUntil end bits l) (keysUntil end bits l)) []
-
--- one key is written at its place, if that is below the limit
-abbrev pub putAt : ℕ → List ℕ → ℕ → ℕ → List ℕ
-putAt limit answer place key = cond (ltb place limit) (set answer place key) answer
-
--- keys are written one after the other, as far as the limit lets
-unfoldable pub written : ℕ → List ℕ → ℕ → List ℕ → List ℕ
-written limit answer place [] = answer
-written limit answer place (key ∷ keys) = written limit (putAt limit answer place key) (suc place) keys
+use mathlib.Core.List.{List}
+use lib.ListN.{length}
+use Rattle.walk.specs.Given.{written}
 
 -- the keys that were given were counted, and written into the answer
 pub record Gave (given : List ℕ) (limit count : ℕ) (before after : List ℕ) (r : ℕ) : Type 0 where

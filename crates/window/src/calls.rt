@@ -3,8 +3,6 @@ ghost use mathlib.Core.Path.{_≡_};
 ghost use Rattle.definitions.specs.Calls.Exist.{existRefusal, exist as existAnswer};
 ghost use Rattle.definitions.specs.Calls.Report.{reportRefusal, report as reportAnswer};
 ghost use Rattle.definitions.specs.Calls.Select.{select as selectCounted, selectAnswer};
-use crate::bounds::is_window;
-use crate::bounds::pixels_of;
 use crate::exist::exist_in;
 use crate::report::report_in;
 use crate::select::gather;
@@ -13,6 +11,8 @@ use definitions::Exists;
 use definitions::Reported;
 use definitions::Window;
 use list::refusal::first_refusal;
+use walk::bounds::is_window;
+use walk::bounds::pixels_of;
 
 // Refusals 1, 4 and 6, or 0.
 fn window_refusal(m: u32, s: u32, keys: &[u32], bits: &[u32], n: usize, window: Window) -> u64

@@ -5,12 +5,11 @@ ghost use Prim.Native.Nat.{_≤_, _<_};
 ghost use Rattle.keys.specs.Key.{slotLimit};
 ghost use Rattle.definitions.specs.Window.{isWindow, existIn};
 ghost use Rattle.list.specs.Own.{OwnList, shownBy};
-use crate::walk;
-use crate::walk::Found;
 use definitions::Window;
 use keys::power;
 use list::standing;
 use list::standing::Which;
+use walk::Found;
 
 // Some pixel of the window has the feature: the walk is left at the first block that shows it. A block that lies in a leaf, or whose bits lack the
 // feature, is settled by its record, however the window cuts it; only a cut node with the feature and others is entered. Keys rise, so each search begins

@@ -1,7 +1,5 @@
-// Window queries: a walk in key order over the blocks that meet a window, which asks the list at each, and exist, report and select on it.
-pub mod bounds;
+// Window queries: exist, report and select, each a walk in key order over the blocks that meet a window (crate `walk`), which asks the list at each.
 pub mod calls;
 pub mod exist;
 pub mod report;
 pub mod select;
-pub mod walk;

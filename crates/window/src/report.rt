@@ -4,11 +4,10 @@ ghost use mathlib.Core.Bool.{true};
 ghost use Prim.Native.Nat.{_≤_};
 ghost use Rattle.definitions.specs.Window.{isWindow, reportIn};
 ghost use Rattle.list.specs.Own.{OwnList, shownBy};
-use crate::walk;
-use crate::walk::Found;
 use definitions::Window;
 use list::check;
 use list::standing;
+use walk::Found;
 
 // The bitstring of all features in the window. A block's bits are those of the last record at or before its key, whether that is its own or the
 // leaf's around it. They settle the block where none is new, or it has one feature, or it lies within the window; only a cut node that may add a feature

@@ -10,25 +10,16 @@ ghost use Rattle.definitions.specs.Window.{isWindow, selectIn};
 ghost use Rattle.list.specs.Own.{OwnList, shownBy};
 ghost use Rattle.list.specs.Check.{oneSlot};
 ghost use Rattle.list.specs.Among.{placeAmong};
-ghost use Rattle.window.specs.Walk.{Stands};
-ghost use Rattle.window.specs.Gather.{keysWith, putAt, Gave};
-use crate::walk;
-use crate::walk::Found;
-use crate::walk::Spot;
+ghost use Rattle.walk.specs.Walk.{Stands};
+ghost use Rattle.walk.specs.Given.{keysWith};
+ghost use Rattle.window.specs.Gather.{Gave};
 use definitions::Standing;
 use definitions::Window;
 use keys::power;
 use list::standing;
-
-// Writes a number at its place, if that is below the limit: with the limit 0 answers are only counted.
-pub fn put(answer: &mut [u32], limit: usize, place: usize, number: u32)
-    requires { ⌜ limit ≤ length (now answer) ⌝ }
-    ensures { λ r. ⌜ now (answer .exit) ≡ putAt limit (now (answer .entry)) place number ⌝ }
-{
-    if place < limit {
-        answer[place] = number;
-    }
-}
+use walk::Found;
+use walk::Spot;
+use walk::answer::put;
 
 // Gives the keys of the records from one place up to another that have exactly the bit.
 fn gather_run(

@@ -12,9 +12,9 @@ use Rattle.keys.proofs.Valid.{block-valid}
 use Rattle.list.specs.declared.standing.Which.the-variants.{Inside}
 use Rattle.list.specs.Own.{OwnList}
 use Rattle.list.proofs.Own.{own-sorted, own-ascends}
-use Rattle.window.proofs.Steps.{some-keys}
-use Rattle.window.proofs.Asked.{asked-key, asked-inside}
-use Rattle.window.proofs.Content.{listed-keys, leaf-key, leaf-nothing}
+use Rattle.walk.proofs.Steps.{some-keys}
+use Rattle.walk.proofs.Asked.{asked-key, asked-inside}
+use Rattle.sift.proofs.BlockLeaves.{listed-keys, leaf-key, leaf-nothing}
 use Rattle.sift.specs.declared.Sifting.{Sifting}
 use Rattle.sift.specs.Sift.{SiftReady, RunReady}
 use Rattle.sift.proofs.Settling.{passed-widen}

@@ -19,17 +19,17 @@ use Rattle.list.specs.Own.{shownBy}
 use Rattle.list.specs.Sorted.{Near}
 use Rattle.list.proofs.OneSlot.{power-slot}
 use Rattle.list.proofs.Own.{own-sorted}
-use Rattle.window.specs.declared.walk.Spot.{Spot}
-use Rattle.window.specs.Walk.{Stands, Walking, isWithin, isApart}
-use Rattle.window.specs.Gather.{keysWith}
-use Rattle.window.proofs.Lies.{small}
-use Rattle.window.proofs.Steps.{some-keys, cut-parent, follows-at, follows-gone, walking-root, walking-after, rises}
+use Rattle.walk.specs.declared.Spot.{Spot}
+use Rattle.walk.specs.Walk.{Stands, Walking, isWithin, isApart}
+use Rattle.walk.specs.Given.{keysWith}
+use Rattle.walk.proofs.Lies.{small}
+use Rattle.walk.proofs.Steps.{some-keys, cut-parent, follows-at, follows-gone, walking-root, walking-after, rises}
 use Rattle.list.proofs.Fuller.{near-root}
-use Rattle.window.proofs.Asked.{asked-place, near-later, near-place}
-use Rattle.window.proofs.Shows.{place-no}
-use Rattle.window.proofs.Lower.{lower}
-use Rattle.window.proofs.Below.{lower-apart, lower-lacking, lower-block, below-none, below-all, below-few}
-use Rattle.window.proofs.Descent.{Descent, descent-begins, descent-enters}
+use Rattle.walk.proofs.Asked.{asked-place, near-later, near-place}
+use Rattle.walk.proofs.Shows.{place-no}
+use Rattle.walk.proofs.Lower.{lower}
+use Rattle.walk.proofs.Below.{lower-apart, lower-lacking, lower-block, below-none, below-all, below-few}
+use Rattle.sift.proofs.Descent.{Descent, descent-begins, descent-enters}
 use Rattle.sift.specs.declared.Sifting.{Sifting}
 use Rattle.sift.specs.Sift.{SiftReady, Sifted}
 use Rattle.sift.proofs.Settling.{passed-widen}

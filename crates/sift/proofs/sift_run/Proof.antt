@@ -7,7 +7,7 @@ use mathlib.Core.List.{List, [], _∷_, _++_, append-assoc, append-nil}
 use native.Mathlib.Omega.{arith}
 use lib.ListN.{length, getD, length-append}
 use Rattle.list.specs.Check.{oneSlot}
-use Rattle.window.proofs.Until.{rest, past-last, past-end, with-bit, without-bit}
+use Rattle.sift.proofs.Until.{rest, past-last, past-end, with-bit, without-bit}
 use Rattle.sift.specs.declared.Sifting.{Sifting}
 use Rattle.sift.specs.Covering.{endOf}
 use Rattle.sift.specs.Sift.{SiftReady, RunReady, Sifted}

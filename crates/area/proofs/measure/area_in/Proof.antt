@@ -17,13 +17,13 @@ use Rattle.definitions.specs.declared.Window.{Window}
 use Rattle.list.specs.Own.{shownBy}
 use Rattle.list.specs.Sorted.{Near}
 use Rattle.list.proofs.Own.{own-sorted}
-use Rattle.window.specs.declared.walk.Spot.{Spot}
-use Rattle.window.specs.Walk.{Stands, isApart, firstQuadrant}
-use Rattle.window.proofs.Lies.{small}
-use Rattle.window.proofs.Steps.{Parent, some-keys, first-stands, follows-at, follows-gone, rises}
+use Rattle.walk.specs.declared.Spot.{Spot}
+use Rattle.walk.specs.Walk.{Stands, isApart, firstQuadrant}
+use Rattle.walk.proofs.Lies.{small}
+use Rattle.walk.proofs.Steps.{Parent, some-keys, first-stands, follows-at, follows-gone, rises}
 use Rattle.list.proofs.Fuller.{near-root}
-use Rattle.window.proofs.Asked.{Asked, asked-place, near-later, near-place}
-use Rattle.window.proofs.Shows.{place-no}
+use Rattle.walk.proofs.Asked.{Asked, asked-place, near-later, near-place}
+use Rattle.walk.proofs.Shows.{place-no}
 use Rattle.area.specs.Tally.{MixedAt}
 use Rattle.area.proofs.WholeBlock.{mixed-at}
 use Rattle.area.proofs.Looked.{place-alone}

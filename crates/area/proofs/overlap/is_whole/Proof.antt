@@ -3,7 +3,7 @@ use mathlib.Core.Path.{sym, ap, _∙_}
 use mathlib.Core.Bool.{_&&_}
 use borrow.Author.Needs.{needs}
 use borrow.Author.Tests.{le-leb, lt-leb}
-use Rattle.window.specs.Walk.{isWithin}
+use Rattle.walk.specs.Walk.{isWithin}
 use Rattle.area.specs.Overlap.{isWhole}
 use Rattle.area.proofs.overlap.is_whole.Statement.{statement}
 use Rattle.area.proofs.overlap.is_whole.Tie as tie

@@ -3,7 +3,7 @@ use mathlib.Core.Path.{ap₂}
 use Prim.Native.Nat.{_*_}
 use native.Mathlib.Nat.{mul-le-mul}
 use native.Mathlib.Omega.{arith}
-use Rattle.window.proofs.Lies.{not-apart}
+use Rattle.walk.proofs.Lies.{not-apart}
 use Rattle.area.specs.Overlap.{overlapOf}
 use Rattle.area.proofs.overlap.overlap.Statement.{statement}
 use Rattle.area.proofs.overlap.overlap.Tie as tie

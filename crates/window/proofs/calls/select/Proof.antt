@@ -12,7 +12,7 @@ use Rattle.definitions.specs.Calls.Exist.{existRefusal}
 use Rattle.definitions.specs.Window.{isWindow}
 use Rattle.list.specs.Own.{OwnList}
 use Rattle.list.proofs.Own.{own-list}
-use Rattle.window.proofs.Lies.{accepted}
+use Rattle.walk.proofs.Lies.{accepted}
 use Rattle.window.proofs.Tables.{exist-passed, exist-below}
 use Rattle.window.proofs.Answers.{select-refused, select-at-once, select-twelve, select-written, counting-leaves}
 use Rattle.window.proofs.calls.select.Statement.{statement}

@@ -11,13 +11,13 @@ use Rattle.list.specs.declared.standing.Which.the-variants.{Listed, Inside}
 use Rattle.list.specs.Own.{shownBy}
 use Rattle.list.specs.Sorted.{Near}
 use Rattle.list.proofs.Own.{own-sorted}
-use Rattle.window.specs.Walk.{Stands, isApart}
-use Rattle.window.proofs.Lies.{small}
-use Rattle.window.proofs.Steps.{Parent, few-keys, clear-apart, clear-first, cut-parent, first-less, follows-at, follows-gone}
-use Rattle.window.proofs.Asked.{asked-listed, asked-inside, near-which}
-use Rattle.window.proofs.Going.{Going, going-root, going-first, going-on, going-less}
+use Rattle.walk.specs.Walk.{Stands, isApart}
+use Rattle.walk.proofs.Lies.{small}
+use Rattle.walk.proofs.Steps.{Parent, few-keys, clear-apart, clear-first, cut-parent, first-less, follows-at, follows-gone}
+use Rattle.walk.proofs.Asked.{asked-listed, asked-inside, near-which}
+use Rattle.walk.proofs.Going.{Going, going-root, going-first, going-on, going-less}
 use Rattle.window.proofs.Seen.{Unseen, unseen-none, unseen-clear, unseen-block, seen-block, seen-whole, unseen-end}
-use Rattle.window.proofs.Shows.{listed-no, listed-yes, listed-whole, leaf-no, leaf-whole}
+use Rattle.walk.proofs.Shows.{listed-no, listed-yes, listed-whole, leaf-no, leaf-whole}
 use Rattle.window.proofs.exist.exist_in.Statement.{statement}
 use Rattle.window.proofs.exist.exist_in.Tie as tie
 

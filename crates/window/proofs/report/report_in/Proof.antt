@@ -13,11 +13,11 @@ use Rattle.list.specs.Own.{shownBy}
 use Rattle.list.specs.Sorted.{Near}
 use Rattle.list.specs.Among.{placeAmong}
 use Rattle.list.proofs.Own.{own-sorted}
-use Rattle.window.specs.Walk.{Stands, isApart}
-use Rattle.window.proofs.Lies.{small}
-use Rattle.window.proofs.Steps.{Parent, few-keys, clear-apart, clear-first, cut-parent, first-less, follows-at, follows-gone}
-use Rattle.window.proofs.Asked.{Asked, asked-place, near-place}
-use Rattle.window.proofs.Going.{Going, going-root, going-first, going-on, going-less}
+use Rattle.walk.specs.Walk.{Stands, isApart}
+use Rattle.walk.proofs.Lies.{small}
+use Rattle.walk.proofs.Steps.{Parent, few-keys, clear-apart, clear-first, cut-parent, first-less, follows-at, follows-gone}
+use Rattle.walk.proofs.Asked.{Asked, asked-place, near-place}
+use Rattle.walk.proofs.Going.{Going, going-root, going-first, going-on, going-less}
 use Rattle.window.proofs.Gathered.{Gathered, gathered-none, gathered-clear, gathered-block, gathered-whole, gathered-nothing, gathered-end}
 use Rattle.window.proofs.report.report_in.Statement.{statement}
 use Rattle.window.proofs.report.report_in.Tie as tie

@@ -17,16 +17,17 @@ use Rattle.list.specs.Check.{oneSlot}
 use Rattle.list.specs.Sorted.{Near}
 use Rattle.list.proofs.OneSlot.{power-slot}
 use Rattle.list.proofs.Own.{own-sorted}
-use Rattle.window.specs.Walk.{Stands, Walking, isWithin, isApart}
-use Rattle.window.specs.Gather.{keysWith, Gave}
-use Rattle.window.proofs.Lies.{small}
-use Rattle.window.proofs.Steps.{Parent, few-keys, cut-parent, first-stands, first-less, parting-first}
-use Rattle.window.proofs.Steps.{follows-at, follows-gone, walking-root, walking-after}
-use Rattle.window.proofs.Asked.{asked-place, near-place}
-use Rattle.window.proofs.Going.{Going, going-root, going-first, going-on, going-less}
-use Rattle.window.proofs.Shows.{place-no}
-use Rattle.window.proofs.Lower.{lower}
-use Rattle.window.proofs.Below.{lower-apart, lower-lacking, lower-enter}
+use Rattle.walk.specs.Walk.{Stands, Walking, isWithin, isApart}
+use Rattle.walk.specs.Given.{keysWith}
+use Rattle.window.specs.Gather.{Gave}
+use Rattle.walk.proofs.Lies.{small}
+use Rattle.walk.proofs.Steps.{Parent, few-keys, cut-parent, first-stands, first-less, parting-first}
+use Rattle.walk.proofs.Steps.{follows-at, follows-gone, walking-root, walking-after}
+use Rattle.walk.proofs.Asked.{asked-place, near-place}
+use Rattle.walk.proofs.Going.{Going, going-root, going-first, going-on, going-less}
+use Rattle.walk.proofs.Shows.{place-no}
+use Rattle.walk.proofs.Lower.{lower}
+use Rattle.walk.proofs.Below.{lower-apart, lower-lacking, lower-enter}
 use Rattle.window.proofs.Taken.{Taken, taken-none, taken-small, taken-length, taken-named, taken-pass, taken-block, taken-end}
 use Rattle.window.proofs.select.gather.Statement.{statement}
 use Rattle.window.proofs.select.gather.Tie as tie

@@ -8,10 +8,11 @@ use lib.ListN.{length}
 use borrow.Author.Needs.{needs}
 use Rattle.keys.proofs.Valid.{block-valid}
 use Rattle.list.proofs.Fuller.{inside-numbers}
-use Rattle.window.specs.Gather.{keysWith, putAt, written, Gave}
-use Rattle.window.proofs.Asked.{asked-place, near-place}
-use Rattle.window.proofs.Written.{written-none, written-one}
-use Rattle.window.proofs.Content.{alone-key, inside-nothing, run-fits, run-content}
+use Rattle.walk.specs.Given.{keysWith, putAt, written}
+use Rattle.window.specs.Gather.{Gave}
+use Rattle.walk.proofs.Asked.{asked-place, near-place}
+use Rattle.walk.proofs.Written.{written-none, written-one}
+use Rattle.window.proofs.BlockLeaves.{alone-key, inside-nothing, run-fits, run-content}
 use Rattle.window.proofs.select.gather_block.Statement.{statement}
 use Rattle.window.proofs.select.gather_block.Tie as tie
 

@@ -6,8 +6,9 @@ use mathlib.Core.List.{List, [], _∷_}
 use native.Mathlib.Numerals.{add-one}
 use native.Mathlib.Omega.{arith}
 use lib.ListN.{length}
-use Rattle.window.specs.Gather.{putAt, written, Gave}
-use Rattle.window.proofs.Written.{written-none, written-one, length-put}
+use Rattle.walk.specs.Given.{putAt, written}
+use Rattle.window.specs.Gather.{Gave}
+use Rattle.walk.proofs.Written.{written-none, written-one, length-put}
 use Rattle.window.proofs.Run.{left, run-over, run-gives, run-passes}
 use Rattle.window.proofs.select.gather_run.Statement.{statement}
 use Rattle.window.proofs.select.gather_run.Tie as tie

@@ -1,0 +1,69 @@
+-- What the contracts of the walk say: where it stands, how a block lies to a window, which block comes next. Only contracts need these; the laws
+-- that connect them with the window's pixels stand in proofs/.
+use Prim.Native.Nat.{ℕ, _+_, _/_, _^_, _≤_, _<_}
+use mathlib.Core.Path.{_≡_}
+use mathlib.Core.Bool.{Bool, true, _&&_, _||_}
+use lib.Dec.{leb}
+use Rattle.keys.specs.Block.{pixelKey}
+use Rattle.keys.specs.Under.{Block}
+use Rattle.definitions.specs.Window.{inWindow}
+use Rattle.definitions.specs.declared.Window.{Window}
+use Rattle.walk.specs.declared.Spot.{Spot}
+use Rattle.walk.specs.declared.Found.{Found}
+use Rattle.walk.specs.declared.Found.the-variants.{At, Gone}
+
+-- the spot has the numbers of a block of the map
+pub record Stands (m : ℕ) (s : Spot) : Type 0 where
+  pub height : ℕ
+  pub block : Block m height (s .row) (s .column) (s .key)
+  pub side : s .side ≡ 2 ^ height
+  pub step : s .step ≡ 5 ^ height
+
+-- the sums that compare a block with a window are small
+pub record Small (s : Spot) (w : Window) : Type 0 where
+  pub rows : s .row + s .side ≤ 1024
+  pub columns : s .column + s .side ≤ 1024
+  pub height : w .row + w .height ≤ 1024
+  pub width : w .column + w .width ≤ 1024
+
+-- every pixel of the block lies in the window
+unfoldable pub isWithin : Spot → Window → Bool
+isWithin s w =
+    leb (w .row) (s .row)
+    && leb (s .row + s .side) (w .row + w .height)
+    && (leb (w .column) (s .column) && leb (s .column + s .side) (w .column + w .width))
+
+-- no pixel of the block lies in the window
+unfoldable pub isApart : Spot → Window → Bool
+isApart s w =
+    leb (s .row + s .side) (w .row)
+    || leb (w .row + w .height) (s .row)
+    || (leb (s .column + s .side) (w .column) || leb (w .column + w .width) (s .column))
+
+abbrev pub firstQuadrant : Spot → Spot
+firstQuadrant s = record { key = s .key + s .step / 5; row = s .row; column = s .column; side = s .side / 2; step = s .step / 5 }
+
+-- the block with key x, or the end of the map where x is the key after the last
+abbrev pub Follows : ℕ → ℕ → Found → Type 0
+Follows m x (At s) = Stands m s × (s .key ≡ x)
+Follows m x Gone = x ≡ 5 ^ m
+
+-- no pixel of the window has its key from x on and below y
+abbrev pub Clear : ℕ → Window → ℕ → ℕ → Type 0
+Clear m w x y = (row column : ℕ) → inWindow w row column ≡ true → x ≤ pixelKey m row column → pixelKey m row column < y → ⊥
+
+-- no block within the window begins before the key and ends after it
+abbrev pub Parting : ℕ → Window → ℕ → Type 0
+Parting m w x = (s : Spot) → Stands m s → isWithin s w ≡ true → s .key < x → x < s .key + s .step → ⊥
+
+-- a block at which the walk can stand: it lies inside no block that the walk should have given
+pub record Walking (m : ℕ) (w : Window) (s : Spot) : Type 0 where
+  pub stands : Stands m s
+  pub parting : Parting m w (s .key)
+
+-- the first largest block of the window from the key x on
+pub record FirstFrom (m : ℕ) (w : Window) (x : ℕ) (s : Spot) : Type 0 where
+  pub walking : Walking m w s
+  pub within : isWithin s w ≡ true
+  pub from : x ≤ s .key
+  pub clear : Clear m w x (s .key)
