@@ -17,13 +17,14 @@ use Rattle.definitions.specs.Calls.Survey.{surveyRefusal}
 use Rattle.laws.proofs.ListOf.{list-agree}
 use Rattle.laws.proofs.SummaryOf.{summary-agree}
 use Rattle.laws.proofs.RasterOf.{rasterOf, raster-length, raster-back, raster-good, length-from}
+use Rattle.laws.proofs.Built.{Builds, build-passed, build-accepted, build-count, build-summary, build-records}
 use Rattle.history.specs.History.{Call, painting, takingBack, redoing, emptying, Buffers, Kept, nothing, built, after, answer, run, keep, kept, longestList, longestLog, pictureLeft, rasterLeft}
 use Rattle.history.specs.Claim.{AsBuilt, History}
 use Rattle.history.proofs.Past.{past-legal}
 use Rattle.history.proofs.Slices.{list-longest, list-keys-length, list-bits-length}
 use Rattle.history.proofs.LogSlices.{log-counts, log-longest}
 use Rattle.history.proofs.Invariant.{now, Invariant, now-records, now-force, now-redo, now-is-list, now-is-summary, now-is-log, Keeps}
-use Rattle.history.proofs.BuildStep.{Builds, build-passed, build-accepted, build-count, build-summary, build-records, build-holds}
+use Rattle.history.proofs.BuildStep.{build-holds}
 use Rattle.history.proofs.PaintStep.{paint-keeps}
 use Rattle.history.proofs.PaintAnswer.{paint-answer, window-answer}
 use Rattle.history.proofs.TakeBackStep.{back-answer, back-keeps}

@@ -58,5 +58,6 @@ pub mod FormerFile
 pub mod LastSlot
 pub mod Combined
 pub mod Records
+pub mod Built
 pub mod Buffer
 pub mod Put

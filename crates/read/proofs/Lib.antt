@@ -1,7 +1,10 @@
+-- filling a raster, block by block
 pub mod Painted
 pub mod Rectangle
 pub mod Quadrants
 pub mod Shown
 pub mod FillTurn
 pub mod Rows
+-- the calls, and the round trip of build and raster
 pub mod Answers
+pub mod RoundTrip

@@ -1,5 +1,5 @@
 -- Raster to list and back loses nothing, over the promises of build and raster: build and then raster gives the raster back, raster and then
--- build gives the list back. Rests on the reading laws of the definitions and on the laws of build and of accepted lists.
+-- build gives the list back. Rests on the laws of reading, of an accepted build and of accepted lists; not on the code of build.
 use Prim.Native.Nat.{ℕ, _+_, _*_, _/_, _%_, _^_, _<_}
 use mathlib.Core.Path.{_≡_, sym, ap, _∙_}
 use mathlib.Core.List.{List}
@@ -19,7 +19,7 @@ use Rattle.laws.proofs.ReadBack.{picture-back}
 use Rattle.laws.proofs.RasterOf.{rasterOf, rows-at, raster-length, raster-back, length-to}
 use Rattle.list.proofs.Accepted.{accepted}
 use Rattle.list.proofs.Tests.{raster-passed}
-use Rattle.history.proofs.BuildStep.{build-passed, build-records}
+use Rattle.laws.proofs.Built.{build-passed, build-records}
 
 -- a place of a raster by its row and column
 record Place (m i : ℕ) : Type 0 where
