@@ -32,6 +32,10 @@ module _ {p : Picture} {k r c κ place : ℕ} {keys bits keys′ bits′ : List 
 pub fitting-at : {p : Picture} {h h′ r c key place : ℕ} {keys bits : List ℕ} → h ≡ h′ → Fitting p h r c key place keys bits → Fitting p h′ r c key place keys bits
 fitting-at e f = rw e at f
 
+-- and its key
+pub fitting-key : {p : Picture} {h r c key key′ place : ℕ} {keys bits : List ℕ} → key ≡ key′ → Fitting p h r c key′ place keys bits → Fitting p h r c key place keys bits
+fitting-key e f = rw e f
+
 module _ (p : Picture) (k half step r c key place : ℕ) (e : half ≡ 2 ^ k) (g : step ≡ 5 ^ k) {keys bits : List ℕ} (f : Fitting p (suc k) r c key place keys bits) where
   -- a block of several features has its own record and those of its quadrants
   node-length : oneFeature p (suc k) r c ≡ false → length (listOf p (suc k) r c key)

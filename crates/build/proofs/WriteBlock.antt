@@ -65,10 +65,17 @@ module _ (key step place nw ne sw se second third fourth last : ℕ) (keys bits 
   pub four-alike : oneSlot union ≡ true → FourWritten key step place nw ne sw se second third fourth last keys bits keys bits union (place + 1)
   four-alike t = record { union-is = e; next-is = rw t; keys-are = rw t; bits-are = rw t }
 
-  pub four-apart : oneSlot union ≡ false
+  pub four-apart : {nw-key ne-key sw-key se-key : ℕ}
+      → nw-key ≡ key + 1 * step
+      → ne-key ≡ key + 2 * step
+      → sw-key ≡ key + 3 * step
+      → se-key ≡ key + 4 * step
+      → oneSlot union ≡ false
       → FourWritten key step place nw ne sw se second third fourth last keys bits
-      (fourSet keys (place + 1) second third fourth (key + step) (key + 2 * step) (key + 3 * step) (key + 4 * step))
+      (fourSet keys (place + 1) second third fourth nw-key ne-key sw-key se-key)
       (fourSet bits (place + 1) second third fourth nw ne sw se)
       union
       last
-  four-apart t = record { union-is = e; next-is = rw t; keys-are = rw t; bits-are = rw t }
+  four-apart {nw-key} first-is second-is third-is fourth-is t =
+      let once : nw-key ≡ key + step = omega arith in
+      record { union-is = e; next-is = rw t; keys-are = rw (t, once, second-is, third-is, fourth-is); bits-are = rw t }

@@ -124,6 +124,12 @@ pub written-at : {p : Picture} {h h′ r c κ place : ℕ} {keys bits keys′ bi
     → Written p h′ r c κ place keys bits keys′ bits′ b n
 written-at e w = rw e at w
 
+-- and its key
+pub written-key : {p : Picture} {h r c κ κ′ place : ℕ} {keys bits keys′ bits′ : List ℕ} {b n : ℕ} → κ ≡ κ′
+    → Written p h r c κ place keys bits keys′ bits′ b n
+    → Written p h r c κ′ place keys bits keys′ bits′ b n
+written-key e w = rw e at w
+
 -- a block is written once its quadrants are and their own records stand before them
 module _ (p : Picture) (k r c key place : ℕ) {keys bits keys₁ bits₁ keys₂ bits₂ keys₃ bits₃ keys₄ bits₄ keys′ bits′ : List ℕ} {b₁ b₂ b₃ b₄ i₂ i₃ i₄ last b n : ℕ}
     (w₁ : Written p k r c (childKey key k 1) (place + 1) keys bits keys₁ bits₁ b₁ i₂)

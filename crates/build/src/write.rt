@@ -4,6 +4,7 @@ ghost use Prim.Native.Nat.{_+_, _^_, _≤_, _<_};
 ghost use Rattle.definitions.specs.Bits.{unionOfFour};
 ghost use Rattle.build.specs.BuildBlocks.{pictureOfRows, Inside, FourAsked, FourWritten, Fitting, Written};
 use crate::pixels;
+use keys::Key;
 use keys::power;
 use list::check;
 
@@ -41,13 +42,13 @@ pub fn write_four(
     let second = nw.next;
     let third = ne.next;
     let fourth = sw.next;
-    keys[fourth] = key + 4 * step;
+    keys[fourth] = Key::child(key, step, 4);
     bits[fourth] = se.bits;
-    keys[third] = key + 3 * step;
+    keys[third] = Key::child(key, step, 3);
     bits[third] = sw.bits;
-    keys[second] = key + 2 * step;
+    keys[second] = Key::child(key, step, 2);
     bits[second] = ne.bits;
-    keys[first] = key + step;
+    keys[first] = Key::child(key, step, 1);
     bits[first] = nw.bits;
     let next = se.next;
     Below { bits: union, next }
@@ -199,16 +200,16 @@ pub fn write_below(
     let down = row + half;
     let right = column + half;
     let first = place + 1;
-    let nw_key = key + step;
+    let nw_key = Key::child(key, step, 1);
     let nw = write_below(raster, side, lower, row, column, nw_key, first, keys, bits);
     let second = nw.next;
-    let ne_key = key + 2 * step;
+    let ne_key = Key::child(key, step, 2);
     let ne = write_below(raster, side, lower, row, right, ne_key, second, keys, bits);
     let third = ne.next;
-    let sw_key = key + 3 * step;
+    let sw_key = Key::child(key, step, 3);
     let sw = write_below(raster, side, lower, down, column, sw_key, third, keys, bits);
     let fourth = sw.next;
-    let se_key = key + 4 * step;
+    let se_key = Key::child(key, step, 4);
     let se = write_below(raster, side, lower, down, right, se_key, fourth, keys, bits);
     write_four(key, step, place, nw, ne, sw, se, keys, bits)
 }

@@ -63,7 +63,7 @@ module _ {w n : ℕ} {file : List ℕ} {first key own next union digit : ℕ} (p
     module _ (κ : ℕ) (κ-is : κ ≡ keyAt w next file) where
       -- another key
       pub other-pixel : (κ ≡ key + digit → ⊥) → RightIn w n file first key own false
-      other-pixel h = wrong-pixel (other-key-in (p .passed) turn there κ κ-is (λ e. h (omega arith)))
+      other-pixel h = wrong-pixel (other-key-in (p .passed) turn there κ κ-is refl (λ e. h (omega arith)))
 
       module _ (child : κ ≡ key + digit) (found : ℕ) (found-is : found ≡ bitsAt w next file) where
         child-is : κ ≡ key + digit * 1
@@ -73,7 +73,7 @@ module _ {w n : ℕ} {file : List ℕ} {first key own next union digit : ℕ} (p
         pub node-pixel : oneSlot found ≡ false → RightIn w n file first key own false
         node-pixel node =
             wrong-pixel
-            (wrong-child-in (p .passed) turn there κ κ-is child-is found found-is node 0 refl
+            (wrong-child-in (p .passed) turn there κ κ-is refl child-is found found-is node 0 refl
             (pixel-in w n file (next + 1) (key + digit * 1) found (1 / 5) (omega arith) (λ z. omega arith) (λ z. omega arith)))
 
         -- a leaf: one more has passed
@@ -81,5 +81,5 @@ module _ {w n : ℕ} {file : List ℕ} {first key own next union digit : ℕ} (p
         leaf-pixel leaf = record {
           four = p .four;
           place = let e = p .place in omega arith;
-          passed = leaf-in (p .passed) turn there κ κ-is child-is found found-is leaf;
+          passed = leaf-in (p .passed) turn there κ κ-is refl child-is found found-is leaf;
         }

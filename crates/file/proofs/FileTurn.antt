@@ -98,7 +98,8 @@ module _ {w n : ℕ} {file : List ℕ} {first key own step next union digit : �
         let past : length (keysAt w n file) ≤ next = omega arith in
         answered w n file first key own step 0 (omega arith) (short (p .passed) turn past)
 
-    module _ (there : next < n) (κ : ℕ) (κ-is : κ ≡ keyAt w next file) where
+    -- a record is left with the key κ, and x is the child's key
+    module _ (there : next < n) (κ : ℕ) (κ-is : κ ≡ keyAt w next file) {x : ℕ} (is : x ≡ key + digit * step) where
       listed : next < length (keysAt w n file)
       listed = let e = many w n file in omega arith
 
@@ -106,11 +107,11 @@ module _ {w n : ℕ} {file : List ℕ} {first key own step next union digit : �
       key-is = κ-is ∙ sym (key-read w n next file there)
 
       -- the record has another key than the child
-      pub other-key-in : (κ ≡ key + digit * step → ⊥) → Answered w n file first key own step 0
-      other-key-in h = answered w n file first key own step 0 (omega arith) (other-key (p .passed) turn listed (λ e. h (key-is ∙ e)))
+      pub other-key-in : (κ ≡ x → ⊥) → Answered w n file first key own step 0
+      other-key-in h = answered w n file first key own step 0 (omega arith) (other-key (p .passed) turn listed is (λ e. h (key-is ∙ e)))
 
-      module _ (child : κ ≡ key + digit * step) (found : ℕ) (found-is : found ≡ bitsAt w next file) where
-        child-is : getD (keysAt w n file) next 0 ≡ key + digit * step
+      module _ (child : κ ≡ x) (found : ℕ) (found-is : found ≡ bitsAt w next file) where
+        child-is : getD (keysAt w n file) next 0 ≡ x
         child-is = sym key-is ∙ child
 
         bits-is : getD (valuesAt w n file) next 0 ≡ found
@@ -119,28 +120,28 @@ module _ {w n : ℕ} {file : List ℕ} {first key own step next union digit : �
         -- what a function for one height alone answers of the child's block
         pub child-in : (k : ℕ) → step / 5 ≡ stepUnder k
             → (after : ℕ)
-            → (after ≤ n) × (after ≡ placeOf n (afterNode k (key + digit * step) found (drop (next + 1) (recordsAt w n file))))
-            → Answered w n file (next + 1) (key + digit * step) found (step / 5) after
-        child-in k e after h = at-height-in w n file (next + 1) (key + digit * step) found (step / 5) after k e h
+            → (after ≤ n) × (after ≡ placeOf n (afterNode k x found (drop (next + 1) (recordsAt w n file))))
+            → Answered w n file (next + 1) x found (step / 5) after
+        child-in k e after h = at-height-in w n file (next + 1) x found (step / 5) after k e h
 
         -- the child's block is wrong
-        pub wrong-child-in : oneSlot found ≡ false → (after : ℕ) → after ≡ 0 → Answered w n file (next + 1) (key + digit * step) found (step / 5) after
+        pub wrong-child-in : oneSlot found ≡ false → (after : ℕ) → after ≡ 0 → Answered w n file (next + 1) x found (step / 5) after
             → Answered w n file first key own step 0
         wrong-child-in node after none h =
             answered w n file first key own step 0 (omega arith)
-            (wrong-child (p .passed) turn listed child-is (ap oneSlot bits-is ∙ node) after none
-            (rw bits-is (answer w n file (next + 1) (key + digit * step) found (step / 5) after h)))
+            (wrong-child (p .passed) turn listed is child-is (ap oneSlot bits-is ∙ node) after none
+            (rw bits-is (answer w n file (next + 1) x found (step / 5) after h)))
 
         -- a leaf ends at once
         pub leaf-in : oneSlot found ≡ true → PassedIn w n file first key own step (next + 1) (bitOr union found) (digit + 1)
         leaf-in leaf = record {
           laid = p .laid;
           reached = omega arith;
-          passed = rw bits-is at (goes-leaf (p .passed) turn listed child-is (ap oneSlot bits-is ∙ leaf));
+          passed = rw bits-is at (goes-leaf (p .passed) turn listed is child-is (ap oneSlot bits-is ∙ leaf));
         }
 
         -- a node ends where its children end
-        pub node-in : oneSlot found ≡ false → (after : ℕ) → (after ≡ 0 → ⊥) → Answered w n file (next + 1) (key + digit * step) found (step / 5) after
+        pub node-in : oneSlot found ≡ false → (after : ℕ) → (after ≡ 0 → ⊥) → Answered w n file (next + 1) x found (step / 5) after
             → PassedIn w n file first key own step after (bitOr union found) (digit + 1)
         node-in node after good h =
             let e = many w n file in
@@ -149,6 +150,6 @@ module _ {w n : ℕ} {file : List ℕ} {first key own step next union digit : �
               laid = p .laid;
               reached = h .0;
               passed = rw bits-is at
-                  (goes-node (p .passed) turn listed child-is (ap oneSlot bits-is ∙ node) after good within
-                  (rw bits-is (answer w n file (next + 1) (key + digit * step) found (step / 5) after h)));
+                  (goes-node (p .passed) turn listed is child-is (ap oneSlot bits-is ∙ node) after good within
+                  (rw bits-is (answer w n file (next + 1) x found (step / 5) after h)));
             }

@@ -167,7 +167,7 @@ fn after_node(
         if n <= next {
             return 0;
         }
-        let child = key + digit * step;
+        let child = Key::child(key, step, digit);
         if layout::key_at(file, width, next) != child {
             return 0;
         }

@@ -30,7 +30,7 @@ impl Key {
     // A child of a block: digit 1 NW, 2 NE, 3 SW, 4 SE, each worth as many keys as the child has. Whoever goes from level to level has that number, the
     // step, at hand; so no power is worked out here.
     pub fn child(parent: u32, step: u32, digit: u32) -> u32
-        requires { ⌜ (parent < 5 ^ 10) × (step ≤ 5 ^ 10) × (digit ≤ 4) ⌝ }
+        requires { ⌜ (parent + 4 * step < 2 ^ 32) × (digit ≤ 4) ⌝ }
         ensures { λ r. ⌜ r ≡ parent + digit * step ⌝ }
     {
         parent + digit * step

@@ -151,7 +151,8 @@ module _ {K B : List ℕ} {first key own step next union digit : ℕ} (p : Passe
         (λ j f. ap (afterChildren (afterNode j) key step own (suc (4 - digit)) union) (records-end K B next (p .size) h)
         ∙ children-short (afterNode j) key step own (4 - digit) union)
 
-    module _ (there : next < length K) where
+    -- a record is left, and x is the child's key
+    module _ (there : next < length K) {x : ℕ} (is : x ≡ key + digit * step) where
       -- the records from the next one on
       here : (j : ℕ) (o : Outcome)
           → afterChildren (afterNode j) key step own (suc (4 - digit)) union (recordOf (getD K next 0) (getD B next 0) ∷ drop (next + 1) (paired K B)) ≡ o
@@ -162,41 +163,41 @@ module _ {K B : List ℕ} {first key own step next union digit : ℕ} (p : Passe
       digit-is = let h = p .from in omega arith
 
       -- it has another key than the child
-      pub other-key : (getD K next 0 ≡ key + digit * step → ⊥) → Answer K B first key own step 0
+      pub other-key : (getD K next 0 ≡ x → ⊥) → Answer K B first key own step 0
       other-key h = fails
           (λ j f. here j wrong
           (children-other (afterNode j) key step own (4 - digit) union (getD B next 0) (drop (next + 1) (paired K B)) (getD K next 0)
-          (λ e. h (e ∙ ap (λ d. key + d * step) digit-is))))
+          (λ e. h (e ∙ ap (λ d. key + d * step) digit-is ∙ sym is))))
 
-      module _ (child : getD K next 0 ≡ key + digit * step) where
-        child-is : key + digit * step ≡ key + (5 - suc (4 - digit)) * step
-        child-is = ap (λ d. key + d * step) (sym digit-is)
+      module _ (child : getD K next 0 ≡ x) where
+        child-is : x ≡ key + (5 - suc (4 - digit)) * step
+        child-is = is ∙ ap (λ d. key + d * step) (sym digit-is)
 
         -- what a function for one height alone answers of its block
         pub child-at : (k : ℕ) → step / 5 ≡ stepUnder k
             → (after : ℕ)
-            → after ≡ placeOf (length K) (afterNode k (key + digit * step) (getD B next 0) (drop (next + 1) (paired K B)))
-            → Answer K B (next + 1) (key + digit * step) (getD B next 0) (step / 5) after
-        child-at k e after h = at-height K B (next + 1) (key + digit * step) (getD B next 0) k (step / 5) after e h
+            → after ≡ placeOf (length K) (afterNode k x (getD B next 0) (drop (next + 1) (paired K B)))
+            → Answer K B (next + 1) x (getD B next 0) (step / 5) after
+        child-at k e after h = at-height K B (next + 1) x (getD B next 0) k (step / 5) after e h
 
         -- its block is wrong
         pub wrong-child : oneSlot (getD B next 0) ≡ false
             → (after : ℕ)
             → after ≡ 0
-            → Answer K B (next + 1) (key + digit * step) (getD B next 0) (step / 5) after
+            → Answer K B (next + 1) x (getD B next 0) (step / 5) after
             → Answer K B first key own step 0
         wrong-child node after none h = fails
             (λ j f.
-            let own-is = own-node (afterNode j) (key + digit * step) (getD B next 0) (drop (next + 1) (paired K B)) node in
-            let t = told j (key + digit * step) (getD B next 0) (paired K B) (next + 1) (length K) (sym (paired-length K B (p .size))) (omega arith) (omega arith) in
+            let own-is = own-node (afterNode j) x (getD B next 0) (drop (next + 1) (paired K B)) node in
+            let t = told j x (getD B next 0) (paired K B) (next + 1) (length K) (sym (paired-length K B (p .size))) (omega arith) (omega arith) in
             here j wrong
-            (ap (λ x. afterChildren (afterNode j) key step own (suc (4 - digit)) union (recordOf x (getD B next 0) ∷ drop (next + 1) (paired K B))) child
-            ∙ children-wrong (afterNode j) key step own (4 - digit) union (getD B next 0) (drop (next + 1) (paired K B)) (key + digit * step) child-is
+            (ap (λ y. afterChildren (afterNode j) key step own (suc (4 - digit)) union (recordOf y (getD B next 0) ∷ drop (next + 1) (paired K B))) child
+            ∙ children-wrong (afterNode j) key step own (4 - digit) union (getD B next 0) (drop (next + 1) (paired K B)) x child-is
             (t .refused (ap (placeOf (length K)) own-is ∙ sym (h j (step-down j step f)) ∙ none))))
 
         -- its block ends before the place `after`, and the next digit's turn comes
         pub goes : (after : ℕ) → after ≤ length K
-            → ((j : ℕ) → step ≡ 5 ^ j → afterOwn (afterNode j) (key + digit * step) (getD B next 0) (drop (next + 1) (paired K B)) ≡ left (drop after (paired K B)))
+            → ((j : ℕ) → step ≡ 5 ^ j → afterOwn (afterNode j) x (getD B next 0) (drop (next + 1) (paired K B)) ≡ left (drop after (paired K B)))
             → Passed K B first key own step after (bitOr union (getD B next 0)) (digit + 1)
         goes after within h = record {
           size = p .size;
@@ -208,26 +209,26 @@ module _ {K B : List ℕ} {first key own step next union digit : ℕ} (p : Passe
           same = λ j f.
               p .same j f ∙ rest j (drop next (paired K B))
               ∙ here j _
-              (ap (λ x. afterChildren (afterNode j) key step own (suc (4 - digit)) union (recordOf x (getD B next 0) ∷ drop (next + 1) (paired K B))) child
-              ∙ children-from (afterNode j) key step own (4 - digit) union (getD B next 0) (drop (next + 1) (paired K B)) (drop after (paired K B)) (key + digit * step) child-is (h j f))
-              ∙ ap (λ x. afterChildren (afterNode j) key step own x (bitOr union (getD B next 0)) (drop after (paired K B))) (omega arith);
+              (ap (λ y. afterChildren (afterNode j) key step own (suc (4 - digit)) union (recordOf y (getD B next 0) ∷ drop (next + 1) (paired K B))) child
+              ∙ children-from (afterNode j) key step own (4 - digit) union (getD B next 0) (drop (next + 1) (paired K B)) (drop after (paired K B)) x child-is (h j f))
+              ∙ ap (λ y. afterChildren (afterNode j) key step own y (bitOr union (getD B next 0)) (drop after (paired K B))) (omega arith);
         }
 
         -- a leaf ends at once
         pub goes-leaf : oneSlot (getD B next 0) ≡ true → Passed K B first key own step (next + 1) (bitOr union (getD B next 0)) (digit + 1)
-        goes-leaf leaf = goes (next + 1) (omega arith) (λ j f. own-leaf (afterNode j) (key + digit * step) (getD B next 0) (drop (next + 1) (paired K B)) leaf)
+        goes-leaf leaf = goes (next + 1) (omega arith) (λ j f. own-leaf (afterNode j) x (getD B next 0) (drop (next + 1) (paired K B)) leaf)
 
         -- a node ends where its children end
         pub goes-node : oneSlot (getD B next 0) ≡ false
             → (after : ℕ)
             → (after ≡ 0 → ⊥)
             → after ≤ length K
-            → Answer K B (next + 1) (key + digit * step) (getD B next 0) (step / 5) after
+            → Answer K B (next + 1) x (getD B next 0) (step / 5) after
             → Passed K B first key own step after (bitOr union (getD B next 0)) (digit + 1)
         goes-node node after good within h =
             goes after within
             (λ j f.
-            let own-is = own-node (afterNode j) (key + digit * step) (getD B next 0) (drop (next + 1) (paired K B)) node in
-            let t = told j (key + digit * step) (getD B next 0) (paired K B) (next + 1) (length K) (sym (paired-length K B (p .size))) (omega arith) (omega arith) in
+            let own-is = own-node (afterNode j) x (getD B next 0) (drop (next + 1) (paired K B)) node in
+            let t = told j x (getD B next 0) (paired K B) (next + 1) (length K) (sym (paired-length K B (p .size))) (omega arith) (omega arith) in
             let place = h j (step-down j step f) ∙ ap (placeOf (length K)) (sym own-is) in
-            t .passed (λ z. good (place ∙ z)) ∙ ap (λ x. left (drop x (paired K B))) (sym place))
+            t .passed (λ z. good (place ∙ z)) ∙ ap (λ y. left (drop y (paired K B))) (sym place))

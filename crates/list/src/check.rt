@@ -72,7 +72,7 @@ fn after_sixteen(keys: &[u32], bits: &[u32], first: usize, key: u32, own: u32) -
         if keys.len() <= next {
             return 0;
         }
-        let child = key + quadrant * 5;
+        let child = Key::child(key, 5, quadrant);
         if keys[next] != child {
             return 0;
         }
@@ -131,7 +131,7 @@ fn after_node(keys: &[u32], bits: &[u32], first: usize, key: u32, own: u32, step
         if keys.len() <= next {
             return 0;
         }
-        let child = key + digit * step;
+        let child = Key::child(key, step, digit);
         if keys[next] != child {
             return 0;
         }

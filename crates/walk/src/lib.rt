@@ -47,9 +47,8 @@ pub fn first(spot: Spot) -> Spot
     ensures { λ r. ⌜ r ≡ firstQuadrant spot ⌝ }
 {
     let step = spot.step / 5;
-    let key = spot.key;
     Spot {
-        key: key + step,
+        key: Key::child(spot.key, step, 1),
         row: spot.row,
         column: spot.column,
         side: spot.side / 2,

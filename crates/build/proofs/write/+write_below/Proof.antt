@@ -1,6 +1,6 @@
 -- `write::write_below` meets its contract: the four quadrants one after the other, and then their own records. The height falls at each call.
 use Prim.Native.Nat.{ℕ, suc, _+_, _-_, _*_, _^_, _≤_, _<_}
-use mathlib.Core.Path.{sym, _∙_}
+use mathlib.Core.Path.{_≡_, sym, _∙_}
 use native.Mathlib.Omega.{arith}
 use borrow.Fn.Kinds.{In}
 use borrow.Fn.PlainCycle.{Measures, is, falls, and}
@@ -8,11 +8,12 @@ use Rattle.definitions.specs.Picture.{Picture}
 use Rattle.keys.proofs.Powers.{two-le}
 use Rattle.build.specs.BuildBlocks.{pictureOfRows, Inside, Fitting}
 use Rattle.build.proofs.BuildInside.{one-above, half-side, fifth-step, inside-quadrant}
-use Rattle.build.proofs.FittingBlock.{fitting-at, fits-nw, fits-ne, fits-sw, fits-se, fits-four}
-use Rattle.build.proofs.WrittenBlock.{written-at, written-quadrants}
+use Rattle.build.proofs.FittingBlock.{fitting-at, fitting-key, fits-nw, fits-ne, fits-sw, fits-se, fits-four}
+use Rattle.build.proofs.WrittenBlock.{written-at, written-key, written-quadrants}
 use Rattle.build.proofs.write.write_below.Reads as own
 use Rattle.build.proofs.write.write_below.Kinds as kinds
 use Rattle.build.proofs.write.+write_below.Lts-write_below as lts
+use Rattle.keys.proofs.Key.child.Reads as key-child
 use Rattle.keys.proofs.power.power_of_five.Reads as power-of-five
 use Rattle.keys.proofs.power.power_of_two.Reads as power-of-two
 use Rattle.build.proofs.write.write_four.Reads as write-four
@@ -31,7 +32,7 @@ abbrev below : ℕ → In 3 kinds.ps
 below t = and 3 kinds.ps (falls 3 kinds.ps _<_ measure t) own.Pre
 
 abbrev claims : ℕ → lts.Claims
-claims t = (write-low.Asked, write-low.Learnt, power-of-two.Asked, power-of-two.Learnt, power-of-five.Asked, power-of-five.Learnt, below t, own.Post, write-four.Asked, write-four.Learnt)
+claims t = (write-low.Asked, write-low.Learnt, power-of-two.Asked, power-of-two.Learnt, power-of-five.Asked, power-of-five.Learnt, key-child.Asked, key-child.Learnt, below t, own.Post, write-four.Asked, write-four.Learnt)
 
 -- once half a side and the step are known: the block has quadrants, and what a call for one of them asks
 abbrev Powers : ℕ → Type 0
@@ -43,7 +44,7 @@ start t c = c .before .before .before .before .before .before
 abbrev picture : (t : ℕ) → Powers t → Picture
 picture t c = pictureOfRows (start t c .args .side) (start t c .args .raster .now)
 
--- once one, two, three and all quadrants are written, and the way back from there
+-- once one, two, three and all quadrants are written, where the last one's key became known, and the way back from there
 abbrev Once : ℕ → Type 0
 Once t = lts.After-slice-known6 (claims t) (given t) own.Post
 
@@ -56,17 +57,33 @@ Thrice t = lts.After-slice-known10 (claims t) (given t) own.Post
 abbrev All : ℕ → Type 0
 All t = lts.After-slice-known12 (claims t) (given t) own.Post
 
+abbrev nw-child : (t : ℕ) → Once t → lts.After-child (claims t) (given t) own.Post
+nw-child t c = c .before .before .before .before .before .before .before
+
 abbrev from-once : (t : ℕ) → Once t → Powers t
-from-once t c = c .before .before .before .before .before .before .before
+from-once t c = nw-child t c .before
+
+abbrev ne-child : (t : ℕ) → Twice t → lts.After-child2 (claims t) (given t) own.Post
+ne-child t c = c .before .before .before .before .before .before .before
 
 abbrev from-twice : (t : ℕ) → Twice t → Once t
-from-twice t c = c .before .before .before .before .before .before .before
+from-twice t c = ne-child t c .before
+
+abbrev sw-child : (t : ℕ) → Thrice t → lts.After-child3 (claims t) (given t) own.Post
+sw-child t c = c .before .before .before .before .before .before .before
 
 abbrev from-thrice : (t : ℕ) → Thrice t → Twice t
-from-thrice t c = c .before .before .before .before .before .before .before
+from-thrice t c = sw-child t c .before
+
+abbrev se-child : (t : ℕ) → All t → lts.After-child4 (claims t) (given t) own.Post
+se-child t c = c .before .before .before .before .before .before .before
 
 abbrev from-all : (t : ℕ) → All t → Thrice t
-from-all t c = c .before .before .before .before .before .before .before
+from-all t c = se-child t c .before
+
+-- the first quadrant is one step on
+once-step : (x key step : ℕ) → x ≡ key + 1 * step → x ≡ key + step
+once-step x key step e = omega arith
 
 module _ (t : ℕ) (c : Powers t) where
   positive : 0 < start t c .args .height
@@ -133,70 +150,65 @@ add-right t c = let h = sides t c in omega arith
 nw-place : (t : ℕ) → lts.Need-add-first (claims t) (given t) own.Post
 nw-place t c = let f = start t c .pre .1 .1 in omega (arith, f .key-fits, f .place-fits)
 
-nw-key : (t : ℕ) → lts.Need-add-nw-key (claims t) (given t) own.Post
-nw-key t c = let h = keys-fit t c in omega arith
+nw-key : (t : ℕ) → lts.Need-child-requires (claims t) (given t) own.Post
+nw-key t c κs = let h = keys-fit t c in (omega arith, omega arith)
 
 nw-requires : (t : ℕ) → lts.Need-write-below-requires (claims t) (given t) own.Post
 nw-requires t c κs =
-    let d = c .before .before in (
+    let k = c .before .before in
+    let d = k .before in (
       falling t d,
       (
         quadrant t d _ _ (omega arith) (omega arith),
-        fits-nw _ _ _ _ _ _ _ _ (d .before .power-of-two .ensures) (d .power-of-five .ensures) (room t d),
+        fitting-key (once-step _ _ _ (k .child .ensures)) (fits-nw _ _ _ _ _ _ _ _ (d .before .power-of-two .ensures) (d .power-of-five .ensures) (room t d)),
       ),
     )
 
-ne-key : (t : ℕ) → lts.Need-mul-ne-key (claims t) (given t) own.Post
-ne-key t c = let h = keys-fit t (from-once t c) in omega arith
-
-ne-key-2 : (t : ℕ) → lts.Need-add-ne-key (claims t) (given t) own.Post
-ne-key-2 t c = let h = keys-fit t (from-once t c) in omega arith
+ne-key : (t : ℕ) → lts.Need-child-requires-2 (claims t) (given t) own.Post
+ne-key t c κs = let h = keys-fit t (from-once t c) in (omega arith, omega arith)
 
 ne-requires : (t : ℕ) → lts.Need-write-below-requires-2 (claims t) (given t) own.Post
 ne-requires t c κs =
-    let a = c .before .before in
+    let k = c .before .before in
+    let a = k .before in
     let d = from-once t a in (
       falling t d,
       (
         quadrant t d _ _ (omega arith) (omega arith),
-        fits-ne _ _ _ _ _ _ _ _ (d .before .power-of-two .ensures) (d .power-of-five .ensures) (room t d) (a .before .before .before .before .write-below .ensures),
+        fitting-key (k .child2 .ensures) (fits-ne _ _ _ _ _ _ _ _ (d .before .power-of-two .ensures) (d .power-of-five .ensures) (room t d) (written-key (once-step _ _ _ (nw-child t a .child .ensures)) (a .before .before .before .before .write-below .ensures))),
       ),
     )
 
-sw-key : (t : ℕ) → lts.Need-mul-sw-key (claims t) (given t) own.Post
-sw-key t c = let h = keys-fit t (from-once t (from-twice t c)) in omega arith
-
-sw-key-2 : (t : ℕ) → lts.Need-add-sw-key (claims t) (given t) own.Post
-sw-key-2 t c = let h = keys-fit t (from-once t (from-twice t c)) in omega arith
+sw-key : (t : ℕ) → lts.Need-child-requires-3 (claims t) (given t) own.Post
+sw-key t c κs = let h = keys-fit t (from-once t (from-twice t c)) in (omega arith, omega arith)
 
 sw-requires : (t : ℕ) → lts.Need-write-below-requires-3 (claims t) (given t) own.Post
 sw-requires t c κs =
-    let b = c .before .before in
+    let k = c .before .before in
+    let b = k .before in
     let a = from-twice t b in
     let d = from-once t a in (
       falling t d,
       (
         quadrant t d _ _ (omega arith) (omega arith),
-        fits-sw _ _ _ _ _ _ _ _ (d .before .power-of-two .ensures) (d .power-of-five .ensures) (room t d) (a .before .before .before .before .write-below .ensures) (b .before .before .before .before .write-below2 .ensures),
+        fitting-key (k .child3 .ensures) (fits-sw _ _ _ _ _ _ _ _ (d .before .power-of-two .ensures) (d .power-of-five .ensures) (room t d) (written-key (once-step _ _ _ (nw-child t a .child .ensures)) (a .before .before .before .before .write-below .ensures)) (written-key (ne-child t b .child2 .ensures) (b .before .before .before .before .write-below2 .ensures))),
       ),
     )
 
-se-key : (t : ℕ) → lts.Need-mul-se-key (claims t) (given t) own.Post
-se-key t c = let h = keys-fit t (from-once t (from-twice t (from-thrice t c))) in omega arith
-
-se-key-2 : (t : ℕ) → lts.Need-add-se-key (claims t) (given t) own.Post
-se-key-2 t c = let h = keys-fit t (from-once t (from-twice t (from-thrice t c))) in omega arith
+se-key : (t : ℕ) → lts.Need-child-requires-4 (claims t) (given t) own.Post
+se-key t c κs = let h = keys-fit t (from-once t (from-twice t (from-thrice t c))) in (omega arith, omega arith)
 
 se-requires : (t : ℕ) → lts.Need-write-below-requires-4 (claims t) (given t) own.Post
 se-requires t c κs =
-    let g = c .before .before in
+    let k = c .before .before in
+    let g = k .before in
     let b = from-thrice t g in
     let a = from-twice t b in
     let d = from-once t a in (
       falling t d,
       (
         quadrant t d _ _ (omega arith) (omega arith),
-        fits-se _ _ _ _ _ _ _ _ (d .before .power-of-two .ensures) (d .power-of-five .ensures) (room t d) (a .before .before .before .before .write-below .ensures) (b .before .before .before .before .write-below2 .ensures) (g .before .before .before .before .write-below3 .ensures),
+        fitting-key (k .child4 .ensures) (fits-se _ _ _ _ _ _ _ _ (d .before .power-of-two .ensures) (d .power-of-five .ensures) (room t d) (written-key (once-step _ _ _ (nw-child t a .child .ensures)) (a .before .before .before .before .write-below .ensures)) (written-key (ne-child t b .child2 .ensures) (b .before .before .before .before .write-below2 .ensures)) (written-key (sw-child t g .child3 .ensures) (g .before .before .before .before .write-below3 .ensures))),
       ),
     )
 
@@ -207,7 +219,7 @@ write-four-requires t c κs =
     let b = from-thrice t g in
     let a = from-twice t b in
     let d = from-once t a in
-    fits-four _ _ _ _ _ _ _ _ (d .before .power-of-two .ensures) (d .power-of-five .ensures) (room t d) (a .before .before .before .before .write-below .ensures) (b .before .before .before .before .write-below2 .ensures) (g .before .before .before .before .write-below3 .ensures) (h .before .before .before .before .write-below4 .ensures)
+    fits-four _ _ _ _ _ _ _ _ (d .before .power-of-two .ensures) (d .power-of-five .ensures) (room t d) (written-key (once-step _ _ _ (nw-child t a .child .ensures)) (a .before .before .before .before .write-below .ensures)) (written-key (ne-child t b .child2 .ensures) (b .before .before .before .before .write-below2 .ensures)) (written-key (sw-child t g .child3 .ensures) (g .before .before .before .before .write-below3 .ensures)) (written-key (se-child t h .child4 .ensures) (h .before .before .before .before .write-below4 .ensures))
 
 same-length-3 : (t : ℕ) → lts.Need-same-length-3 (claims t) (given t) own.Post
 same-length-3 t c =
@@ -241,7 +253,7 @@ returns-2 t c =
     let a = from-twice t b in
     let d = from-once t a in
     written-at {p = picture t d} (one-above (positive t d))
-    (written-quadrants (picture t d) _ _ _ _ _ _ _ (d .before .power-of-two .ensures) (d .power-of-five .ensures) (a .before .before .before .before .write-below .ensures) (b .before .before .before .before .write-below2 .ensures) (g .before .before .before .before .write-below3 .ensures) (h .before .before .before .before .write-below4 .ensures) (c .before .before .before .before .write-four .ensures))
+    (written-quadrants (picture t d) _ _ _ _ _ _ _ (d .before .power-of-two .ensures) (d .power-of-five .ensures) (written-key (once-step _ _ _ (nw-child t a .child .ensures)) (a .before .before .before .before .write-below .ensures)) (written-key (ne-child t b .child2 .ensures) (b .before .before .before .before .write-below2 .ensures)) (written-key (sw-child t g .child3 .ensures) (g .before .before .before .before .write-below3 .ensures)) (written-key (se-child t h .child4 .ensures) (h .before .before .before .before .write-below4 .ensures)) (c .before .before .before .before .write-four .ensures))
 
 pub +write-below-spec : {M : Type 1} → statement M
 +write-below-spec =
@@ -263,13 +275,10 @@ pub +write-below-spec : {M : Type 1} → statement M
     (nw-key t)
     (nw-requires t)
     (ne-key t)
-    (ne-key-2 t)
     (ne-requires t)
     (sw-key t)
-    (sw-key-2 t)
     (sw-requires t)
     (se-key t)
-    (se-key-2 t)
     (se-requires t)
     (write-four-requires t)
     (same-length-3 t)

@@ -34,74 +34,78 @@ returns : tie.Need-returns
 unfolding unionOfFour
 returns c = four-alike _ _ _ _ _ _ _ _ _ _ _ _ _ _ refl (sym (c .before .has-one-slot .ensures) ∙ c .if1 .taken)
 
+-- once the key of the last, third, second and first quadrant is known, the way back
+abbrev last : tie.After-child → tie.Else1
+last c = c .before
+
+abbrev third : tie.After-child2 → tie.Else1
+third c = c .before .before
+
+abbrev second : tie.After-child3 → tie.Else1
+second c = c .before .before .before
+
+abbrev first : tie.After-child4 → tie.Else1
+first c = c .before .before .before .before
+
+child-requires : tie.Need-child-requires
+child-requires c κs = (omega (arith, start c .pre), omega arith)
+
 mul-keys : tie.Need-mul-keys
-mul-keys c = omega (arith, start c .pre)
-
-add-keys : tie.Need-add-keys
-add-keys c = omega (arith, start c .pre)
-
-mul-keys-2 : tie.Need-mul-keys-2
-mul-keys-2 c = let h = keys-last c in let s = start c in omega (arith, s .pre, s .good)
+mul-keys c = let h = keys-last (last c) in let s = start (last c) in omega (arith, s .pre, s .good)
 
 slice-write-keys : tie.Need-slice-write-keys
-slice-write-keys c = keys-last c
+slice-write-keys c = keys-last (last c)
 
 mul-bits : tie.Need-mul-bits
-mul-bits c = let h = bits-last c in let s = start c in omega (arith, s .pre, s .good)
+mul-bits c = let h = bits-last (last c) in let s = start (last c) in omega (arith, s .pre, s .good)
 
 slice-write-bits : tie.Need-slice-write-bits
-slice-write-bits c = bits-last c
+slice-write-bits c = bits-last (last c)
 
-mul-keys-3 : tie.Need-mul-keys-3
-mul-keys-3 c = omega (arith, start c .pre)
+child-requires-2 : tie.Need-child-requires-2
+child-requires-2 c κs = (omega (arith, start (last c) .pre), omega arith)
 
-add-keys-2 : tie.Need-add-keys-2
-add-keys-2 c = omega (arith, start c .pre)
-
-mul-keys-4 : tie.Need-mul-keys-4
-mul-keys-4 c = let h = keys-last c in let s = start c in omega (arith, s .pre, s .good)
+mul-keys-2 : tie.Need-mul-keys-2
+mul-keys-2 c = let h = keys-last (third c) in let s = start (third c) in omega (arith, s .pre, s .good)
 
 slice-write-keys-2 : tie.Need-slice-write-keys-2
-slice-write-keys-2 c = let h = keys-last c in simp length-set (omega (arith, start c .pre))
+slice-write-keys-2 c = let h = keys-last (third c) in simp length-set (omega (arith, start (third c) .pre))
 
 mul-bits-2 : tie.Need-mul-bits-2
-mul-bits-2 c = let h = bits-last c in let s = start c in omega (arith, s .pre, s .good)
+mul-bits-2 c = let h = bits-last (third c) in let s = start (third c) in omega (arith, s .pre, s .good)
 
 slice-write-bits-2 : tie.Need-slice-write-bits-2
-slice-write-bits-2 c = let h = bits-last c in simp length-set (omega (arith, start c .pre))
+slice-write-bits-2 c = let h = bits-last (third c) in simp length-set (omega (arith, start (third c) .pre))
 
-mul-keys-5 : tie.Need-mul-keys-5
-mul-keys-5 c = omega (arith, start c .pre)
+child-requires-3 : tie.Need-child-requires-3
+child-requires-3 c κs = (omega (arith, start (third c) .pre), omega arith)
 
-add-keys-3 : tie.Need-add-keys-3
-add-keys-3 c = omega (arith, start c .pre)
-
-mul-keys-6 : tie.Need-mul-keys-6
-mul-keys-6 c = let h = keys-last c in let s = start c in omega (arith, s .pre, s .good)
+mul-keys-3 : tie.Need-mul-keys-3
+mul-keys-3 c = let h = keys-last (second c) in let s = start (second c) in omega (arith, s .pre, s .good)
 
 slice-write-keys-3 : tie.Need-slice-write-keys-3
-slice-write-keys-3 c = let h = keys-last c in simp length-set (omega (arith, start c .pre))
+slice-write-keys-3 c = let h = keys-last (second c) in simp length-set (omega (arith, start (second c) .pre))
 
 mul-bits-3 : tie.Need-mul-bits-3
-mul-bits-3 c = let h = bits-last c in let s = start c in omega (arith, s .pre, s .good)
+mul-bits-3 c = let h = bits-last (second c) in let s = start (second c) in omega (arith, s .pre, s .good)
 
 slice-write-bits-3 : tie.Need-slice-write-bits-3
-slice-write-bits-3 c = let h = bits-last c in simp length-set (omega (arith, start c .pre))
+slice-write-bits-3 c = let h = bits-last (second c) in simp length-set (omega (arith, start (second c) .pre))
 
-add-keys-4 : tie.Need-add-keys-4
-add-keys-4 c = omega (arith, start c .pre)
+child-requires-4 : tie.Need-child-requires-4
+child-requires-4 c κs = (omega (arith, start (second c) .pre), omega arith)
 
-mul-keys-7 : tie.Need-mul-keys-7
-mul-keys-7 c = let h = keys-last c in let s = start c in omega (arith, s .pre, s .good)
+mul-keys-4 : tie.Need-mul-keys-4
+mul-keys-4 c = let h = keys-last (first c) in let s = start (first c) in omega (arith, s .pre, s .good)
 
 slice-write-keys-4 : tie.Need-slice-write-keys-4
-slice-write-keys-4 c = let h = keys-last c in simp length-set (omega (arith, start c .pre))
+slice-write-keys-4 c = let h = keys-last (first c) in simp length-set (omega (arith, start (first c) .pre))
 
 mul-bits-4 : tie.Need-mul-bits-4
-mul-bits-4 c = let h = bits-last c in let s = start c in omega (arith, s .pre, s .good)
+mul-bits-4 c = let h = bits-last (first c) in let s = start (first c) in omega (arith, s .pre, s .good)
 
 slice-write-bits-4 : tie.Need-slice-write-bits-4
-slice-write-bits-4 c = let h = bits-last c in simp length-set (omega (arith, start c .pre))
+slice-write-bits-4 c = let h = bits-last (first c) in simp length-set (omega (arith, start (first c) .pre))
 
 same-length : tie.Need-same-length
 same-length c = simp length-set
@@ -111,7 +115,10 @@ same-length-2 c = simp length-set
 
 returns-2 : tie.Need-returns-2
 unfolding unionOfFour
-returns-2 c = four-apart _ _ _ _ _ _ _ _ _ _ _ _ _ _ refl (several c)
+returns-2 c =
+    let ne = c .before in
+    let sw = ne .before in
+    four-apart _ _ _ _ _ _ _ _ _ _ _ _ _ _ refl (c .child4 .ensures) (ne .child3 .ensures) (sw .child2 .ensures) (sw .before .child .ensures) (several (first c))
 
 pub write-four-spec : {M : Type 1} → statement M
 write-four-spec =
@@ -120,26 +127,23 @@ write-four-spec =
     add-first
     has-one-slot-requires
     returns
+    child-requires
     mul-keys
-    add-keys
-    mul-keys-2
     slice-write-keys
     mul-bits
     slice-write-bits
-    mul-keys-3
-    add-keys-2
-    mul-keys-4
+    child-requires-2
+    mul-keys-2
     slice-write-keys-2
     mul-bits-2
     slice-write-bits-2
-    mul-keys-5
-    add-keys-3
-    mul-keys-6
+    child-requires-3
+    mul-keys-3
     slice-write-keys-3
     mul-bits-3
     slice-write-bits-3
-    add-keys-4
-    mul-keys-7
+    child-requires-4
+    mul-keys-4
     slice-write-keys-4
     mul-bits-4
     slice-write-bits-4

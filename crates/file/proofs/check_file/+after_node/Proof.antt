@@ -7,6 +7,7 @@ use native.Mathlib.Omega.{arith}
 use borrow.Author.Tests.{not-true, not-false}
 use borrow.Fn.Kinds.{In}
 use borrow.Fn.PlainCycle.{Measures, is, falls, and}
+use Rattle.keys.proofs.Key.child.Reads as key-child
 use Rattle.list.proofs.Turn.{child-fits}
 use Rattle.file.proofs.Laid.{laid-at}
 use Rattle.file.proofs.FileTurn.{step-twenty-five, Answered, PassedIn, begins-in, ends-in, differs-in, short-in, other-key-in, child-in, wrong-child-in, leaf-in, node-in}
@@ -34,6 +35,8 @@ abbrev claims : ℕ → lts.Claims
 claims t = (
   after-low.Asked,
   after-low.Learnt,
+  key-child.Asked,
+  key-child.Learnt,
   key-at.Asked,
   key-at.Learnt,
   bits-at.Asked,
@@ -67,7 +70,7 @@ abbrev Called : ℕ → Type 0
 Called t = lts.Joined5 (claims t) (given t) own.Post Inv-loop μ-loop
 
 abbrev there : {t : ℕ} → Found t → There t
-there c = c .before .before .before
+there c = c .before .before .before .before
 
 abbrev found : {t : ℕ} → Node t → Found t
 found c = c .before .before
@@ -86,22 +89,20 @@ loop-holds t c = begins-in _ _ _ _ _ _ _ (c .before .before .pre .1) (λ z. omeg
 returns-2 : (t : ℕ) → lts.Need-returns-2 (claims t) (given t) own.Post Inv-loop μ-loop
 returns-2 t c = short-in (c .before .before .loop .inv) (c .before .loop-test .taken) (c .if2 .taken)
 
-mul-child : (t : ℕ) → lts.Need-mul-child (claims t) (given t) own.Post Inv-loop μ-loop
-mul-child t c = let h = child-fits (c .before .before .loop .inv .passed) (c .before .loop-test .taken) in omega arith
-
-add-child : (t : ℕ) → lts.Need-add-child (claims t) (given t) own.Post Inv-loop μ-loop
-add-child t c = let h = child-fits (c .before .before .loop .inv .passed) (c .before .loop-test .taken) in omega arith
+child-requires : (t : ℕ) → lts.Need-child-requires (claims t) (given t) own.Post Inv-loop μ-loop
+child-requires t c κs = let i = c .before .before .loop .inv .passed in (omega (arith, i .fits), omega (arith, c .before .loop-test .taken))
 
 key-at-requires : (t : ℕ) → lts.Need-key-at-requires (claims t) (given t) own.Post Inv-loop μ-loop
-key-at-requires t c κs = laid-at (c .before .before .loop .inv .laid) _ (c .if2 .left)
+key-at-requires t c κs = laid-at (c .before .before .before .loop .inv .laid) _ (c .before .if2 .left)
 
 returns-3 : (t : ℕ) → lts.Need-returns-3 (claims t) (given t) own.Post Inv-loop μ-loop
 returns-3 t c =
-    let e = c .before .before in
-    other-key-in (e .before .before .loop .inv) (e .before .loop-test .taken) (e .if2 .left) _ (c .before .key-at .ensures) (c .if3 .taken)
+    let k = c .before .before in
+    let e = k .before in
+    other-key-in (e .before .before .loop .inv) (e .before .loop-test .taken) (e .if2 .left) _ (c .before .key-at .ensures) (k .child .ensures) (c .if3 .taken)
 
 bits-at-requires : (t : ℕ) → lts.Need-bits-at-requires (claims t) (given t) own.Post Inv-loop μ-loop
-bits-at-requires t c κs = laid-at (c .before .before .before .before .loop .inv .laid) _ (c .before .before .if2 .left)
+bits-at-requires t c κs = laid-at (c .before .before .before .before .before .loop .inv .laid) _ (c .before .before .before .if2 .left)
 
 add-next : (t : ℕ) → lts.Need-add-next (claims t) (given t) own.Post Inv-loop μ-loop
 add-next t c = omega arith
@@ -111,28 +112,30 @@ has-one-slot-requires t c κs = tt
 
 after-sixty-four-requires : (t : ℕ) → lts.Need-after-sixty-four-requires (claims t) (given t) own.Post Inv-loop μ-loop
 after-sixty-four-requires t c κs =
-    let e = there (found (c .before)) in
+    let f = found (c .before) in
+    let e = there f in
     let l = e .before .before in
     let h = child-fits (l .loop .inv .passed) (e .before .loop-test .taken) in
-    (l .loop .inv .laid, omega (arith, e .if2 .left), omega (arith, c .if5 .taken))
+    (l .loop .inv .laid, omega (arith, e .if2 .left), omega (arith, c .if5 .taken, f .before .before .before .child .ensures))
 
 after-node-requires : (t : ℕ) → lts.Need-after-node-requires (claims t) (given t) own.Post Inv-loop μ-loop
 after-node-requires t c κs =
-    let e = there (found (c .before)) in
+    let f = found (c .before) in
+    let e = there f in
     let l = e .before .before in
     let h = child-fits (l .loop .inv .passed) (e .before .loop-test .taken) in
     let s = l .before .before .before in
-    (omega (arith, s .pre .0, l .before .if1 .left, l .loop .inv .passed .positive), (s .pre .1 .0, omega (arith, e .if2 .left), omega arith))
+    (omega (arith, s .pre .0, l .before .if1 .left, l .loop .inv .passed .positive), (s .pre .1 .0, omega (arith, e .if2 .left), omega (arith, f .before .before .before .child .ensures)))
 
 -- what either function answers of a child that is a node
 after-child : {t : ℕ} (c : Called t) → let f = found (c .before) in let l = there f .before .before in let a = l .before .before .before .args in
-    Answered (a .width) (a .n) (a .file .now) (l .loop .next + 1) (a .key + l .loop .digit * a .step) (f .bits-at .result) (a .step / 5) (c .if5 .next)
+    Answered (a .width) (a .n) (a .file .now) (l .loop .next + 1) (f .before .before .before .child .result) (f .bits-at .result) (a .step / 5) (c .if5 .next)
 after-child c =
     let f = found (c .before) in
     let e = there f in
     ⊎-elim
     (λ w. rw (w .2)
-    (child-in (e .before .before .loop .inv) (e .before .loop-test .taken) (e .if2 .left) _ (f .before .before .key-at .ensures) (f .before .if3 .left) _ (f .bits-at .ensures)
+    (child-in (e .before .before .loop .inv) (e .before .loop-test .taken) (e .if2 .left) _ (f .before .before .key-at .ensures) (f .before .before .before .child .ensures) (f .before .if3 .left) _ (f .bits-at .ensures)
     3 (w .0 .taken ∙ step-twenty-five) _ (w .1 .ensures)))
     (λ w. rw (w .2) (w .1 .ensures))
     (c .if5 .came)
@@ -142,7 +145,7 @@ returns-4 t c =
     let a = c .before .before .before in
     let e = there (a .before) in
     wrong-child-in (e .before .before .loop .inv) (e .before .loop-test .taken) (e .if2 .left) _
-    (a .before .before .before .key-at .ensures) (a .before .before .if3 .left) _ (a .before .bits-at .ensures)
+    (a .before .before .before .key-at .ensures) (a .before .before .before .before .child .ensures) (a .before .before .if3 .left) _ (a .before .bits-at .ensures)
     (sym (a .has-one-slot .ensures) ∙ not-true _ (c .before .before .if4 .taken))
     _ (c .if6 .taken) (after-child (c .before))
 
@@ -160,11 +163,11 @@ loop-again t c =
     ⊎-elim
     (λ w. rw (w .3)
     (node-in p (e .before .loop-test .taken) (e .if2 .left) _
-    (a .before .before .before .key-at .ensures) (a .before .before .if3 .left) _ (a .before .bits-at .ensures)
+    (a .before .before .before .key-at .ensures) (a .before .before .before .before .child .ensures) (a .before .before .if3 .left) _ (a .before .bits-at .ensures)
     (sym (a .has-one-slot .ensures) ∙ not-true _ (w .0 .taken)) _ (w .2 .left) (after-child (record { before = record { before = a; if4 = w .0 }; if5 = w .1 }))))
     (λ w. rw (w .1)
     (leaf-in p (e .before .loop-test .taken) (e .if2 .left) _
-    (a .before .before .before .key-at .ensures) (a .before .before .if3 .left) _ (a .before .bits-at .ensures)
+    (a .before .before .before .key-at .ensures) (a .before .before .before .before .child .ensures) (a .before .before .if3 .left) _ (a .before .bits-at .ensures)
     (sym (a .has-one-slot .ensures) ∙ not-false _ (w .0 .left))))
     (c .if4 .came)
 
@@ -181,8 +184,7 @@ pub +after-node-spec : {M : Type 1} → statement M
     (returns t)
     (loop-holds t)
     (returns-2 t)
-    (mul-child t)
-    (add-child t)
+    (child-requires t)
     (key-at-requires t)
     (returns-3 t)
     (bits-at-requires t)

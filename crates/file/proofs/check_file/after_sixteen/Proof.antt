@@ -64,7 +64,7 @@ returns-2 : tie.Need-returns-2 Inv-loop μ-loop
 returns-2 c =
     let e = c .before .before in
     let p = e .before .before .loop .inv in
-    let h = other-key-in (p .passed) (turn p (e .before .loop-test .taken)) (e .if1 .left) _ (c .before .key-at .ensures) (λ z. c .if2 .taken (z ∙ sym (p .child-is))) in
+    let h = other-key-in (p .passed) (turn p (e .before .loop-test .taken)) (e .if1 .left) _ (c .before .key-at .ensures) refl (λ z. c .if2 .taken (z ∙ sym (p .child-is))) in
     (h .0, h .1 2 step-five)
 
 bits-at-requires : tie.Need-bits-at-requires Inv-loop μ-loop
@@ -91,7 +91,7 @@ after-child : (c : Found) (r : ℕ) → let e = there c in let l = e .before .be
 after-child c r h =
     let e = there c in
     let p = e .before .before .loop .inv in
-    child-in (p .passed) (turn p (e .before .loop-test .taken)) (e .if1 .left) _ (c .before .before .key-at .ensures) (c .before .if2 .left ∙ p .child-is) _
+    child-in (p .passed) (turn p (e .before .loop-test .taken)) (e .if1 .left) _ (c .before .before .key-at .ensures) refl (c .before .if2 .left ∙ p .child-is) _
     (c .bits-at .ensures) 1 step-one r (rw (sym (p .child-is)) h)
 
 returns-3 : tie.Need-returns-3 Inv-loop μ-loop
@@ -102,7 +102,7 @@ returns-3 c =
     let p = l .loop .inv in
     let h =
     wrong-child-in (p .passed) (turn p (e .before .loop-test .taken)) (e .if1 .left) _
-    (a .before .before .before .key-at .ensures) (a .before .before .if2 .left ∙ p .child-is) _ (a .before .bits-at .ensures)
+    (a .before .before .before .key-at .ensures) refl (a .before .before .if2 .left ∙ p .child-is) _ (a .before .bits-at .ensures)
     (sym (a .has-one-slot .ensures) ∙ not-true _ (c .before .before .if3 .taken))
     0 refl
     (after-child (a .before) 0
@@ -138,14 +138,14 @@ loop-again c =
       passed = ⊎-elim
           (λ w. rw (w .3)
           (node-in (p .passed) (turn p (e .before .loop-test .taken)) (e .if1 .left) _
-          (a .before .before .before .key-at .ensures) (a .before .before .if2 .left ∙ p .child-is) _ (a .before .bits-at .ensures)
+          (a .before .before .before .key-at .ensures) refl (a .before .before .if2 .left ∙ p .child-is) _ (a .before .bits-at .ensures)
           (sym (a .has-one-slot .ensures) ∙ not-true _ (w .0 .taken)) (e .before .before .loop .next + 1 + 4)
           (λ z. omega arith)
           (after-child (a .before) _
           (w .1 .ensures .0 (not-false _ (w .2 .left)), right-true (w .1 .result) (e .before .before .loop .next + 1 + 4) _ (not-false _ (w .2 .left)) (w .1 .ensures .1)))))
           (λ w. rw (w .1)
           (leaf-in (p .passed) (turn p (e .before .loop-test .taken)) (e .if1 .left) _
-          (a .before .before .before .key-at .ensures) (a .before .before .if2 .left ∙ p .child-is) _ (a .before .bits-at .ensures)
+          (a .before .before .before .key-at .ensures) refl (a .before .before .if2 .left ∙ p .child-is) _ (a .before .bits-at .ensures)
           (sym (a .has-one-slot .ensures) ∙ not-false _ (w .0 .left))))
           (c .if3 .came);
     }

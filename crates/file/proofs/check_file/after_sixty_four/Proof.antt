@@ -63,7 +63,7 @@ returns-2 : tie.Need-returns-2 Inv-loop μ-loop
 returns-2 c =
     let e = c .before .before in
     let p = e .before .before .loop .inv in
-    let h = other-key-in (p .passed) (turn p (e .before .loop-test .taken)) (e .if1 .left) _ (c .before .key-at .ensures) (λ z. c .if2 .taken (z ∙ sym (p .child-is))) in
+    let h = other-key-in (p .passed) (turn p (e .before .loop-test .taken)) (e .if1 .left) _ (c .before .key-at .ensures) refl (λ z. c .if2 .taken (z ∙ sym (p .child-is))) in
     (h .0, h .1 3 step-twenty-five)
 
 bits-at-requires : tie.Need-bits-at-requires Inv-loop μ-loop
@@ -90,7 +90,7 @@ after-child : (c : Found) (r : ℕ) → let e = there c in let l = e .before .be
 after-child c r h =
     let e = there c in
     let p = e .before .before .loop .inv in
-    child-in (p .passed) (turn p (e .before .loop-test .taken)) (e .if1 .left) _ (c .before .before .key-at .ensures) (c .before .if2 .left ∙ p .child-is) _
+    child-in (p .passed) (turn p (e .before .loop-test .taken)) (e .if1 .left) _ (c .before .before .key-at .ensures) refl (c .before .if2 .left ∙ p .child-is) _
     (c .bits-at .ensures) 2 step-five r (rw (sym (p .child-is)) h)
 
 returns-3 : tie.Need-returns-3 Inv-loop μ-loop
@@ -101,7 +101,7 @@ returns-3 c =
     let p = l .loop .inv in
     let h =
     wrong-child-in (p .passed) (turn p (e .before .loop-test .taken)) (e .if1 .left) _
-    (a .before .before .before .key-at .ensures) (a .before .before .if2 .left ∙ p .child-is) _ (a .before .bits-at .ensures)
+    (a .before .before .before .key-at .ensures) refl (a .before .before .if2 .left ∙ p .child-is) _ (a .before .bits-at .ensures)
     (sym (a .has-one-slot .ensures) ∙ not-true _ (c .before .before .if3 .taken))
     _ (c .if4 .taken) (after-child (a .before) _ (c .before .after-sixteen .ensures)) in
     (h .0, h .1 3 step-twenty-five)
@@ -130,12 +130,12 @@ loop-again c =
       passed = ⊎-elim
           (λ w. rw (w .3)
           (node-in (p .passed) (turn p (e .before .loop-test .taken)) (e .if1 .left) _
-          (a .before .before .before .key-at .ensures) (a .before .before .if2 .left ∙ p .child-is) _ (a .before .bits-at .ensures)
+          (a .before .before .before .key-at .ensures) refl (a .before .before .if2 .left ∙ p .child-is) _ (a .before .bits-at .ensures)
           (sym (a .has-one-slot .ensures) ∙ not-true _ (w .0 .taken)) _
           (w .2 .left) (after-child (a .before) _ (w .1 .ensures))))
           (λ w. rw (w .1)
           (leaf-in (p .passed) (turn p (e .before .loop-test .taken)) (e .if1 .left) _
-          (a .before .before .before .key-at .ensures) (a .before .before .if2 .left ∙ p .child-is) _ (a .before .bits-at .ensures)
+          (a .before .before .before .key-at .ensures) refl (a .before .before .if2 .left ∙ p .child-is) _ (a .before .bits-at .ensures)
           (sym (a .has-one-slot .ensures) ∙ not-false _ (w .0 .left))))
           (c .if3 .came);
     }

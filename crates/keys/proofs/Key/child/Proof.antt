@@ -1,15 +1,15 @@
--- `Key::child` meets its contract: a key below 5 ^ 10 and at most four steps of 5 ^ 10 fit 32 bits.
-use native.Mathlib.Nat.{mul-le-mul}
+-- `Key::child` meets its contract: at most four steps past a key fit 32 bits where four do.
+use native.Mathlib.Nat.{mul-le-mul-right}
 use native.Mathlib.Omega.{arith}
 use borrow.Author.Needs.{needs}
 use Rattle.keys.proofs.Key.child.Statement.{statement}
 use Rattle.keys.proofs.Key.child.Tie as tie
 
 mul-result : tie.Need-mul-result
-mul-result c = let h = mul-le-mul (c .pre .2) (c .pre .1) in omega arith
+mul-result c = let h = mul-le-mul-right (c .args .step) (c .pre .1) in omega (arith, c .pre .0)
 
 add-result : tie.Need-add-result
-add-result c = let h = mul-le-mul (c .pre .2) (c .pre .1) in omega (arith, c .pre .0)
+add-result c = let h = mul-le-mul-right (c .args .step) (c .pre .1) in omega (arith, c .pre .0)
 
 returns : tie.Need-returns
 returns c = search needs

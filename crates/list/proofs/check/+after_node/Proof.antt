@@ -8,6 +8,7 @@ use lib.ListN.{length, getD}
 use borrow.Author.Tests.{not-true, not-false}
 use borrow.Fn.Kinds.{In}
 use borrow.Fn.PlainCycle.{Measures, is, falls, and}
+use Rattle.keys.proofs.Key.child.Reads as key-child
 use Rattle.list.proofs.Turn.{Answer, Passed, step-five, begins, child-fits, ends, differs, short, other-key, child-at, wrong-child, goes-leaf, goes-node}
 use Rattle.list.proofs.check.after_node.Reads as own
 use Rattle.list.proofs.check.after_node.Kinds as kinds
@@ -28,7 +29,7 @@ abbrev below : ℕ → In 2 kinds.ps
 below t = and 2 kinds.ps (falls 2 kinds.ps _<_ μ t) own.Pre
 
 abbrev claims : ℕ → lts.Claims
-claims t = (after-low.Asked, after-low.Learnt, has-one-slot.Asked, has-one-slot.Learnt, after-sixteen.Asked, after-sixteen.Learnt, below t, own.Post)
+claims t = (after-low.Asked, after-low.Learnt, key-child.Asked, key-child.Learnt, has-one-slot.Asked, has-one-slot.Learnt, after-sixteen.Asked, after-sixteen.Learnt, below t, own.Post)
 
 abbrev Inv-loop : lts.InvT-loop
 Inv-loop keys bits first key own step lower next₀ union₀ digit₀ next union digit = Passed keys bits first key own step next union digit
@@ -57,7 +58,7 @@ abbrev start : {t : ℕ} → lts.At-loop (claims t) (given t) own.Post Inv-loop 
 start c = c .before .before .before .before
 
 abbrev there : {t : ℕ} → Keyed t → There t
-there c = c .before .before
+there c = c .before .before .before
 
 abbrev keyed : {t : ℕ} → Node t → Keyed t
 keyed c = c .before .before .before
@@ -76,11 +77,8 @@ loop-holds t c = begins _ _ _ _ _ _ (c .before .before .before .pre .1) (λ z. o
 returns-2 : (t : ℕ) → lts.Need-returns-2 (claims t) (given t) own.Post Inv-loop μ-loop
 returns-2 t c = (omega arith, short (c .before .before .loop .inv) (c .before .loop-test .taken) (omega (arith, c .if2 .taken)))
 
-mul-child : (t : ℕ) → lts.Need-mul-child (claims t) (given t) own.Post Inv-loop μ-loop
-mul-child t c = let h = child-fits (c .before .before .loop .inv) (c .before .loop-test .taken) in omega arith
-
-add-child : (t : ℕ) → lts.Need-add-child (claims t) (given t) own.Post Inv-loop μ-loop
-add-child t c = let h = child-fits (c .before .before .loop .inv) (c .before .loop-test .taken) in omega arith
+child-requires : (t : ℕ) → lts.Need-child-requires (claims t) (given t) own.Post Inv-loop μ-loop
+child-requires t c κs = let i = c .before .before .loop .inv in (omega (arith, i .fits), omega (arith, c .before .loop-test .taken))
 
 mul-if3 : (t : ℕ) → lts.Need-mul-if3 (claims t) (given t) own.Post Inv-loop μ-loop
 mul-if3 t c = omega arith
@@ -90,8 +88,9 @@ shared-slice-read-if3 t c = omega arith
 
 returns-3 : (t : ℕ) → lts.Need-returns-3 (claims t) (given t) own.Post Inv-loop μ-loop
 returns-3 t c =
-    let e = c .before .before in
-    (omega arith, other-key (e .before .before .loop .inv) (e .before .loop-test .taken) (e .if2 .left) (c .if3 .taken))
+    let k = c .before .before in
+    let e = k .before in
+    (omega arith, other-key (e .before .before .loop .inv) (e .before .loop-test .taken) (e .if2 .left) (k .child .ensures) (c .if3 .taken))
 
 mul-found : (t : ℕ) → lts.Need-mul-found (claims t) (given t) own.Post Inv-loop μ-loop
 mul-found t c = omega arith
@@ -107,31 +106,33 @@ has-one-slot-requires t c κs = tt
 
 after-sixteen-requires : (t : ℕ) → lts.Need-after-sixteen-requires (claims t) (given t) own.Post Inv-loop μ-loop
 after-sixteen-requires t c κs =
-    let e = there (keyed (c .before)) in
+    let f = keyed (c .before) in
+    let e = there f in
     let i = e .before .before .loop .inv in
     let h = child-fits i (e .before .loop-test .taken) in
-    (i .size, omega (arith, e .if2 .left), omega (arith, c .if5 .taken))
+    (i .size, omega (arith, e .if2 .left), omega (arith, c .if5 .taken, f .before .before .child .ensures))
 
 after-node-requires : (t : ℕ) → lts.Need-after-node-requires (claims t) (given t) own.Post Inv-loop μ-loop
 after-node-requires t c κs =
-    let e = there (keyed (c .before)) in
+    let f = keyed (c .before) in
+    let e = there f in
     let i = e .before .before .loop .inv in
     let h = child-fits i (e .before .loop-test .taken) in
     let s = start (e .before .before) .pre .0 in
     let z = i .positive in
-    (omega arith, (i .size, omega (arith, e .if2 .left), omega arith))
+    (omega arith, (i .size, omega (arith, e .if2 .left), omega (arith, f .before .before .child .ensures)))
 
 -- what either function answers of a child that is a node
 after-child : {t : ℕ} (c : Called t) → let f = keyed (c .before) in let l = there f .before .before in let a = start l .args in
     (c .if5 .next ≤ length (a .keys .now))
-    × Answer (a .keys .now) (a .bits .now) (l .loop .next + 1) (a .key + l .loop .digit * a .step) (getD (a .bits .now) (l .loop .next) 0) (a .step / 5) (c .if5 .next)
+    × Answer (a .keys .now) (a .bits .now) (l .loop .next + 1) (f .before .before .child .result) (getD (a .bits .now) (l .loop .next) 0) (a .step / 5) (c .if5 .next)
 after-child c =
     let f = keyed (c .before) in
     let e = there f in
     ⊎-elim
     (λ w. rw (w .2) (
       w .1 .ensures .0,
-      child-at (e .before .before .loop .inv) (e .before .loop-test .taken) (e .if2 .left) (f .if3 .left) 2 (w .0 .taken ∙ step-five) _ (w .1 .ensures .1),
+      child-at (e .before .before .loop .inv) (e .before .loop-test .taken) (e .if2 .left) (f .before .before .child .ensures) (f .if3 .left) 2 (w .0 .taken ∙ step-five) _ (w .1 .ensures .1),
     ))
     (λ w. rw (w .2) (w .1 .ensures))
     (c .if5 .came)
@@ -142,7 +143,7 @@ returns-4 t c =
     let f = keyed n in
     let e = there f in (
       omega arith,
-      wrong-child (e .before .before .loop .inv) (e .before .loop-test .taken) (e .if2 .left) (f .if3 .left)
+      wrong-child (e .before .before .loop .inv) (e .before .loop-test .taken) (e .if2 .left) (f .before .before .child .ensures) (f .if3 .left)
           (sym (n .before .has-one-slot .ensures) ∙ not-true _ (n .if4 .taken))
           _
           (c .if6 .taken)
@@ -150,10 +151,10 @@ returns-4 t c =
     )
 
 add-digit : (t : ℕ) → lts.Need-add-digit (claims t) (given t) own.Post Inv-loop μ-loop
-add-digit t c = omega (arith, c .before .before .before .before .before .before .loop-test .taken)
+add-digit t c = omega (arith, c .before .before .before .before .before .before .before .loop-test .taken)
 
 loop-less : (t : ℕ) → lts.Need-loop-less (claims t) (given t) own.Post Inv-loop μ-loop
-loop-less t c = omega (arith, c .before .before .before .before .before .before .loop-test .taken)
+loop-less t c = omega (arith, c .before .before .before .before .before .before .before .loop-test .taken)
 
 loop-again : (t : ℕ) → lts.Need-loop-again (claims t) (given t) own.Post Inv-loop μ-loop
 loop-again t c =
@@ -164,14 +165,14 @@ loop-again t c =
     (λ w.
     let after = after-child (record { before = record { before = c .before; if4 = w .0 }; if5 = w .1 }) in
     rw (w .3)
-    (goes-node i (e .before .loop-test .taken) (e .if2 .left) (f .if3 .left)
+    (goes-node i (e .before .loop-test .taken) (e .if2 .left) (f .before .before .child .ensures) (f .if3 .left)
     (sym (c .before .has-one-slot .ensures) ∙ not-true _ (w .0 .taken))
     _
     (w .2 .left)
     (after .0)
     (after .1)))
     (λ w. rw (w .1)
-    (goes-leaf i (e .before .loop-test .taken) (e .if2 .left) (f .if3 .left) (sym (c .before .has-one-slot .ensures) ∙ not-false _ (w .0 .left))))
+    (goes-leaf i (e .before .loop-test .taken) (e .if2 .left) (f .before .before .child .ensures) (f .if3 .left) (sym (c .before .has-one-slot .ensures) ∙ not-false _ (w .0 .left))))
     (c .if4 .came)
 
 returns-5 : (t : ℕ) → lts.Need-returns-5 (claims t) (given t) own.Post Inv-loop μ-loop
@@ -189,8 +190,7 @@ pub +after-node-spec : {M : Type 1} → statement M
     (returns t)
     (loop-holds t)
     (returns-2 t)
-    (mul-child t)
-    (add-child t)
+    (child-requires t)
     (mul-if3 t)
     (shared-slice-read-if3 t)
     (returns-3 t)

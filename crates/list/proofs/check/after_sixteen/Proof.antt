@@ -21,11 +21,8 @@ loop-holds c = begins _ _ _ _ _ _ (c .before .before .pre) (λ z. omega arith)
 returns : tie.Need-returns Inv-loop μ-loop
 returns c = (omega arith, short (c .before .before .loop .inv) (c .before .loop-test .taken) (omega (arith, c .if1 .taken)) 2 step-five)
 
-mul-child : tie.Need-mul-child Inv-loop μ-loop
-mul-child c = let h = child-fits (c .before .before .loop .inv) (c .before .loop-test .taken) in omega arith
-
-add-child : tie.Need-add-child Inv-loop μ-loop
-add-child c = let h = child-fits (c .before .before .loop .inv) (c .before .loop-test .taken) in omega arith
+child-requires : tie.Need-child-requires Inv-loop μ-loop
+child-requires c κs = let i = c .before .before .loop .inv in (omega (arith, i .fits), omega (arith, c .before .loop-test .taken))
 
 mul-if2 : tie.Need-mul-if2 Inv-loop μ-loop
 mul-if2 c = omega arith
@@ -35,8 +32,9 @@ shared-slice-read-if2 c = omega arith
 
 returns-2 : tie.Need-returns-2 Inv-loop μ-loop
 returns-2 c =
-    let e = c .before .before in
-    (omega arith, other-key (e .before .before .loop .inv) (e .before .loop-test .taken) (e .if1 .left) (c .if2 .taken) 2 step-five)
+    let k = c .before .before in
+    let e = k .before in
+    (omega arith, other-key (e .before .before .loop .inv) (e .before .loop-test .taken) (e .if1 .left) (k .child .ensures) (c .if2 .taken) 2 step-five)
 
 mul-found : tie.Need-mul-found Inv-loop μ-loop
 mul-found c = omega arith
@@ -52,22 +50,24 @@ has-one-slot-requires c κs = tt
 
 four-pixels-requires : tie.Need-four-pixels-requires Inv-loop μ-loop
 four-pixels-requires c κs =
-    let e = c .before .before .before .before .before in
+    let k = c .before .before .before .before .before in
+    let e = k .before in
     let i = e .before .before .loop .inv in
     let h = child-fits i (e .before .loop-test .taken) in
-    (i .size, omega (arith, e .if1 .left), omega arith)
+    (i .size, omega (arith, e .if1 .left), omega (arith, k .child .ensures))
 
 returns-3 : tie.Need-returns-3 Inv-loop μ-loop
 returns-3 c =
     let f = c .before .before .before .before .before in
-    let e = f .before .before in
+    let k = f .before .before in
+    let e = k .before in
     let i = e .before .before .loop .inv in (
       omega arith,
-      wrong-child i (e .before .loop-test .taken) (e .if1 .left) (f .if2 .left)
+      wrong-child i (e .before .loop-test .taken) (e .if1 .left) (k .child .ensures) (f .if2 .left)
           (sym (c .before .before .before .has-one-slot .ensures) ∙ not-true _ (c .before .before .if3 .taken))
           0
           refl
-          (child-at i (e .before .loop-test .taken) (e .if1 .left) (f .if2 .left) 1 step-one 0
+          (child-at i (e .before .loop-test .taken) (e .if1 .left) (k .child .ensures) (f .if2 .left) 1 step-one 0
           (right-false (c .before .four-pixels .result) (e .before .before .loop .next + 1 + 4) _ (not-true _ (c .if4 .taken)) (c .before .four-pixels .ensures .1)))
           2
           step-five,
@@ -77,26 +77,27 @@ add-next-2 : tie.Need-add-next-2 Inv-loop μ-loop
 add-next-2 c = let h = c .before .four-pixels .ensures .0 (not-false _ (c .if4 .left)) in omega arith
 
 add-quadrant : tie.Need-add-quadrant Inv-loop μ-loop
-add-quadrant c = omega (arith, c .before .before .before .before .before .before .loop-test .taken)
+add-quadrant c = omega (arith, c .before .before .before .before .before .before .before .loop-test .taken)
 
 loop-less : tie.Need-loop-less Inv-loop μ-loop
-loop-less c = omega (arith, c .before .before .before .before .before .before .loop-test .taken)
+loop-less c = omega (arith, c .before .before .before .before .before .before .before .loop-test .taken)
 
 loop-again : tie.Need-loop-again Inv-loop μ-loop
 loop-again c =
     let f = c .before .before .before in
-    let e = f .before .before in
+    let k = f .before .before in
+    let e = k .before in
     let i = e .before .before .loop .inv in
     ⊎-elim
     (λ w. rw (w .3)
-    (goes-node i (e .before .loop-test .taken) (e .if1 .left) (f .if2 .left)
+    (goes-node i (e .before .loop-test .taken) (e .if1 .left) (k .child .ensures) (f .if2 .left)
     (sym (c .before .has-one-slot .ensures) ∙ not-true _ (w .0 .taken))
     (e .before .before .loop .next + 1 + 4)
     (λ z. omega arith)
     (w .1 .ensures .0 (not-false _ (w .2 .left)))
-    (child-at i (e .before .loop-test .taken) (e .if1 .left) (f .if2 .left) 1 step-one _ (right-true (w .1 .result) (e .before .before .loop .next + 1 + 4) _ (not-false _ (w .2 .left)) (w .1 .ensures .1)))))
+    (child-at i (e .before .loop-test .taken) (e .if1 .left) (k .child .ensures) (f .if2 .left) 1 step-one _ (right-true (w .1 .result) (e .before .before .loop .next + 1 + 4) _ (not-false _ (w .2 .left)) (w .1 .ensures .1)))))
     (λ w. rw (w .1)
-    (goes-leaf i (e .before .loop-test .taken) (e .if1 .left) (f .if2 .left) (sym (c .before .has-one-slot .ensures) ∙ not-false _ (w .0 .left))))
+    (goes-leaf i (e .before .loop-test .taken) (e .if1 .left) (k .child .ensures) (f .if2 .left) (sym (c .before .has-one-slot .ensures) ∙ not-false _ (w .0 .left))))
     (c .if3 .came)
 
 returns-4 : tie.Need-returns-4 Inv-loop μ-loop
@@ -115,8 +116,7 @@ after-sixteen-spec =
     μ-loop
     loop-holds
     returns
-    mul-child
-    add-child
+    child-requires
     mul-if2
     shared-slice-read-if2
     returns-2
