@@ -1,5 +1,6 @@
 -- what the promises of the C functions say together
 pub mod RoundTrip
+pub mod Uniqueness
 pub mod OneAnswer
 pub mod HistorySteps
 -- findings, walked by hand
