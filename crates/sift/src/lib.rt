@@ -25,7 +25,6 @@ use definitions::Window;
 use keys::power;
 use list::standing;
 use list::standing::Which;
-use window::select;
 use window::walk;
 use window::walk::Found;
 use window::walk::Spot;
@@ -78,8 +77,8 @@ fn sift(
             hidden: more,
         };
     }
-    select::put(found_ids, limit, live, id);
-    select::put(found_keys, limit, live, key);
+    slices::write_below(found_ids, limit, live, id);
+    slices::write_below(found_keys, limit, live, key);
     let more = live + 1;
     Sifting {
         passed,

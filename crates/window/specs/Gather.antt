@@ -20,13 +20,13 @@ keysUntil end bits (e ∷ l) =
     cond (ltb (e .key) end) (cond (eqb (e .value) bits) (e .key ∷ keysUntil end bits l) (keysUntil end bits l)) []
 
 -- one key is written at its place, if that is below the limit
-abbrev pub putAt : ℕ → List ℕ → ℕ → ℕ → List ℕ
-putAt limit answer place key = cond (ltb place limit) (set answer place key) answer
+abbrev pub writtenAt : ℕ → List ℕ → ℕ → ℕ → List ℕ
+writtenAt limit answer place key = cond (ltb place limit) (set answer place key) answer
 
 -- keys are written one after the other, as far as the limit lets
 unfoldable pub written : ℕ → List ℕ → ℕ → List ℕ → List ℕ
 written limit answer place [] = answer
-written limit answer place (key ∷ keys) = written limit (putAt limit answer place key) (suc place) keys
+written limit answer place (key ∷ keys) = written limit (writtenAt limit answer place key) (suc place) keys
 
 -- the keys that were given were counted, and written into the answer
 pub record Gave (given : List ℕ) (limit count : ℕ) (before after : List ℕ) (r : ℕ) : Type 0 where

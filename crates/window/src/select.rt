@@ -11,7 +11,7 @@ ghost use Rattle.list.specs.Own.{OwnList, shownBy};
 ghost use Rattle.list.specs.Check.{oneSlot};
 ghost use Rattle.list.specs.Among.{placeAmong};
 ghost use Rattle.window.specs.Walk.{Stands};
-ghost use Rattle.window.specs.Gather.{keysWith, putAt, Gave};
+ghost use Rattle.window.specs.Gather.{keysWith, writtenAt, Gave};
 use crate::walk;
 use crate::walk::Found;
 use crate::walk::Spot;
@@ -19,16 +19,6 @@ use definitions::Standing;
 use definitions::Window;
 use keys::power;
 use list::standing;
-
-// Writes a number at its place, if that is below the limit: with the limit 0 answers are only counted.
-pub fn put(answer: &mut [u32], limit: usize, place: usize, number: u32)
-    requires { ⌜ limit ≤ length (now answer) ⌝ }
-    ensures { λ r. ⌜ now (answer .exit) ≡ putAt limit (now (answer .entry)) place number ⌝ }
-{
-    if place < limit {
-        answer[place] = number;
-    }
-}
 
 // Gives the keys of the records from one place up to another that have exactly the bit.
 fn gather_run(
@@ -49,7 +39,7 @@ fn gather_run(
     let mut i = first;
     while i < end {
         if bits[i] == bit {
-            put(answer, limit, given, keys[i]);
+            slices::write_below(answer, limit, given, keys[i]);
             given += 1;
         }
         i += 1;
@@ -78,7 +68,7 @@ fn gather_block(
 {
     let key = block.key;
     if bits[from] == bit {
-        put(answer, limit, count, key);
+        slices::write_below(answer, limit, count, key);
         return count + 1;
     }
     let step = block.step;

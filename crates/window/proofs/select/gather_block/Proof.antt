@@ -8,7 +8,7 @@ use lib.ListN.{length}
 use borrow.Author.Needs.{needs}
 use Rattle.keys.proofs.Valid.{block-valid}
 use Rattle.list.proofs.Fuller.{inside-numbers}
-use Rattle.window.specs.Gather.{keysWith, putAt, written, Gave}
+use Rattle.window.specs.Gather.{keysWith, writtenAt, written, Gave}
 use Rattle.window.proofs.Asked.{asked-place, near-place}
 use Rattle.window.proofs.Written.{written-none, written-one}
 use Rattle.window.proofs.Content.{alone-key, inside-nothing, run-fits, run-content}
@@ -16,7 +16,7 @@ use Rattle.window.proofs.select.gather_block.Statement.{statement}
 use Rattle.window.proofs.select.gather_block.Tie as tie
 
 -- one key is given
-gives-one : (given : List ℕ) (limit count : ℕ) (before after : List ℕ) (key : ℕ) → given ≡ key ∷ [] → after ≡ putAt limit before count key
+gives-one : (given : List ℕ) (limit count : ℕ) (before after : List ℕ) (key : ℕ) → given ≡ key ∷ [] → after ≡ writtenAt limit before count key
     → Gave given limit count before after (count + 1)
 gives-one given limit count before after key e f =
     record {
@@ -51,8 +51,8 @@ mul-if1 c = let s = c .before .before .before in omega (arith, from-there s, s .
 shared-slice-read-if1 : tie.Need-shared-slice-read-if1
 shared-slice-read-if1 c = from-there (c .before .before .before .before)
 
-put-requires : tie.Need-put-requires
-put-requires c κs = search needs
+write-below-requires : tie.Need-write-below-requires
+write-below-requires c κs = search needs
 
 add-result : tie.Need-add-result
 add-result c = search needs
@@ -63,7 +63,7 @@ same-length c = search needs
 returns : tie.Need-returns
 returns c =
     let pre = c .before .before .before .before .before .before .before .before .before .pre in
-    gives-one _ _ _ _ _ _ (alone-key (pre .2) (pre .1) _ _ (pre .3) (pre .4) (c .before .before .before .before .if1 .taken)) (c .before .before .put .ensures)
+    gives-one _ _ _ _ _ _ (alone-key (pre .2) (pre .1) _ _ (pre .3) (pre .4) (c .before .before .before .before .if1 .taken)) (c .before .before .write-below .ensures)
 
 stand-from-requires : tie.Need-stand-from-requires
 stand-from-requires c κs =
@@ -116,7 +116,7 @@ gather-block-spec =
     (tie.spec
     mul-if1
     shared-slice-read-if1
-    put-requires
+    write-below-requires
     add-result
     same-length
     returns
