@@ -66,7 +66,7 @@ fn reply_to(question: Question, m: u32, s: u32, keys: &[u32], bits: &[u32], n: u
 }
 
 // The refusal and the value stand at one place of the two slices, a refused question's too.
-fn put(reply: Reply, place: usize, refusals: &mut [u32], values: &mut [u32])
+fn give_reply(reply: Reply, place: usize, refusals: &mut [u32], values: &mut [u32])
     requires { ⌜ (place < length (now refusals)) × (place < length (now values)) ⌝ }
     ensures { λ _. ⌜ (now (refusals .exit) ≡ set (now (refusals .entry)) place (reply .refusal))
         × (now (values .exit) ≡ set (now (values .entry)) place (reply .value)) ⌝ }
@@ -93,7 +93,7 @@ pub fn step(
         return state;
     }
     let reply = reply_to(question, state.m, state.s, keys, bits, state.n);
-    put(reply, place, refusals, values);
+    give_reply(reply, place, refusals, values);
     let mut st = state;
     st.place = place + 1;
     st

@@ -32,12 +32,6 @@ pub fn refusal_of(m: u32, s: u32, raster: &[u8]) -> u64
     0
 }
 
-fn smaller(a: usize, b: usize) -> usize
-    ensures { λ r. ⌜ r ≡ min a b ⌝ }
-{
-    if a < b { a } else { b }
-}
-
 // The list of a raster that refusals 1, 2 and 3 pass, or 9. That there is room is known before the first write.
 pub fn build_checked(m: u32, s: u32, raster: &[u8], keys: &mut [u32], bits: &mut [u32]) -> Counted
     requires { ⌜ first (badSettings m s gives 1 ∷ badLength m (now raster) gives 2 ∷ badPixel s (now raster) gives 3 ∷ []) ≡ 0 ⌝ }
@@ -46,7 +40,7 @@ pub fn build_checked(m: u32, s: u32, raster: &[u8], keys: &mut [u32], bits: &mut
     ensures { λ _. ⌜ now (bits .exit) ≡ buildBits m s (now (raster .entry)) (now (keys .entry)) (now (bits .entry)) ⌝ }
 {
     let side = power::power_of_two(m) as usize;
-    let room = smaller(keys.len(), bits.len());
+    let room = slices::smaller(keys.len(), bits.len());
     if !count::has_room(raster, side, m, room) {
         return Counted {
             refusal: 9,

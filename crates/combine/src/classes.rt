@@ -9,19 +9,12 @@ ghost use Rattle.definitions.specs.Combine.{classOf, badClassTable};
 ghost use Rattle.list.specs.Check.{oneSlot};
 use build::pixels;
 use keys::power;
+use list::feature;
 
 fn wide(x: u8) -> u32
     ensures { λ r. ⌜ r ≡ x ⌝ }
 {
     x as u32
-}
-
-// The feature of a leaf: the number of its one slot.
-fn feature_of(bits: u32) -> usize
-    requires { ⌜ oneSlot bits ≡ true ⌝ }
-    ensures { λ r. ⌜ r ≡ featureOf bits ⌝ }
-{
-    u32::trailing_zeros(bits) as usize
 }
 
 // The bits of the class that the table names for two leaves.
@@ -30,8 +23,8 @@ pub fn class_bits(table: &[u8], s2: usize, first: u32, second: u32) -> u32
     requires { ⌜ (featureOf first * s2 + featureOf second < length (now table)) × (classOf (now table) s2 (featureOf first) (featureOf second) < slotLimit) ⌝ }
     ensures { λ r. ⌜ r ≡ 2 ^ classOf (now (table .entry)) s2 (featureOf first) (featureOf second) ⌝ }
 {
-    let a = feature_of(first);
-    let b = feature_of(second);
+    let a = feature::feature_of(first);
+    let b = feature::feature_of(second);
     let place = a * s2 + b;
     power::power_of_two(wide(table[place]))
 }

@@ -67,12 +67,6 @@ fn refusal_of(
     0
 }
 
-fn smaller(a: usize, b: usize) -> usize
-    ensures { λ r. ⌜ r ≡ min a b ⌝ }
-{
-    if a < b { a } else { b }
-}
-
 // The combined list fits into the room. It has fewer records than the two together, so it is counted only where those would not fit. The keys are
 // lent for the promise alone.
 fn has_room(
@@ -116,7 +110,7 @@ fn combine_ready(
     requires { ⌜ Ready m (now keys1) (now bits1) n1 (now keys2) (now bits2) n2 (now table) s2 ⌝ }
     ensures { λ r. ⌜ Answered (resultOf m (now (keys1 .entry)) (now (bits1 .entry)) n1 (now (keys2 .entry)) (now (bits2 .entry)) n2 (now (table .entry)) s2) (now (keys .entry)) (now (bits .entry)) (now (keys .exit)) (now (bits .exit)) (r .refusal) (r .count) ⌝ }
 {
-    let room = smaller(keys.len(), bits.len());
+    let room = slices::smaller(keys.len(), bits.len());
     if !has_room(m, keys1, bits1, n1, keys2, bits2, n2, table, s2, room) {
         return Counted {
             refusal: 9,

@@ -9,5 +9,6 @@ pub mod Changed
 pub mod Planned
 pub mod PaintTable
 pub mod PaintPlan
+pub mod EditAnswers
 pub mod PaintAnswers
 pub mod Relogging

@@ -1,7 +1,7 @@
--- The answers of paint: a refusal gives its number alone and leaves what was lent, and an accepted paint gives what was logged, put and counted. Rests on the
--- laws of tables.
+-- The answers of paint: a refusal gives its number alone and leaves what was lent, and an accepted paint gives what was logged, put and counted. Rests on
+-- EditAnswers.
 use Prim.Native.Nat.{ℕ, _+_}
-use mathlib.Core.Path.{_≡_, sym, _∙_, subst}
+use mathlib.Core.Path.{_≡_, subst}
 use mathlib.Core.List.{List}
 use lib.ListN.{length}
 use Rattle.definitions.specs.Picture.{Picture}
@@ -9,13 +9,12 @@ use Rattle.definitions.specs.List.{Record, keysOf, valuesOf}
 use Rattle.definitions.specs.Read.{recordsOf}
 use Rattle.definitions.specs.Buffer.{replaced}
 use Rattle.definitions.specs.Area.{summaryOf}
-use Rattle.definitions.specs.Refusal.{accepted}
-use Rattle.definitions.specs.Calls.Paint.{paintedPicture, painted, gained, logged, paintRefusal, paint, paintKeys, paintBits, paintSummary, paintLogKeys, paintLogValues}
-use Rattle.laws.proofs.First.{accepted-left}
+use Rattle.definitions.specs.declared.Edited.{Edited}
+use Rattle.definitions.specs.Calls.Paint.{paintedPicture, painted, gained, logged, paintRefusal, paint, paintKeys, paintBits, paintSummary, paintLogKeys, paintLogValues, Painted}
 use Rattle.log.specs.declared.entry.Entry.{Entry}
 use Rattle.put.specs.Putting.{Replaced}
-use Rattle.definitions.specs.Calls.Paint.{Painted}
 use Rattle.edit.specs.PaintCall.{newEntry, Relogged}
+use Rattle.edit.proofs.EditAnswers.{Left, left-refused, left-done}
 
 module _ (m s : ℕ) (keys bits : List ℕ) (n : ℕ) (summary logKeys logValues : List ℕ) (used inForce κ f : ℕ) where
   -- the picture that a paint makes
@@ -30,40 +29,34 @@ module _ (m s : ℕ) (keys bits : List ℕ) (n : ℕ) (summary logKeys logValues
   abbrev entry : List Record
   entry = gained m (recordsOf keys bits n) κ f
 
-  -- all by the number that the table gives
-  by-number : (k : ℕ) → paintRefusal m s keys bits n summary logKeys logValues used inForce κ f ≡ k
-      → Painted m s keys bits n summary logKeys logValues used inForce κ f
-      (record { refusal = k; n = accepted k (length new) 0; used = accepted k (inForce + length entry) 0; «in_force» = accepted k (inForce + length entry) 0 })
-      (accepted k (replaced n (keysOf new) keys) keys)
-      (accepted k (replaced n (valuesOf new) bits) bits)
-      (accepted k (summaryOf m s picture) summary)
-      (accepted k (logged used inForce (keysOf entry) logKeys) logKeys)
-      (accepted k (logged used inForce (valuesOf entry) logValues) logValues)
+  abbrev refusal : ℕ
+  refusal = paintRefusal m s keys bits n summary logKeys logValues used inForce κ f
+
+  -- what an edit leaves, of a paint
+  abbrev PaintLeft : Edited → List ℕ → List ℕ → List ℕ → List ℕ → List ℕ → Type 0
+  PaintLeft =
+      Left refusal (length new) (inForce + length entry) (inForce + length entry)
+      (replaced n (keysOf new) keys) (replaced n (valuesOf new) bits) (summaryOf m s picture)
+      (logged used inForce (keysOf entry) logKeys) (logged used inForce (valuesOf entry) logValues)
+      keys bits summary logKeys logValues
+
+  as-painted : {r : Edited} {keys′ bits′ summary′ logKeys′ logValues′ : List ℕ} → PaintLeft r keys′ bits′ summary′ logKeys′ logValues′
+      → Painted m s keys bits n summary logKeys logValues used inForce κ f r keys′ bits′ summary′ logKeys′ logValues′
   unfolding paint paintKeys paintBits paintSummary paintLogKeys paintLogValues
-  by-number k e =
+  as-painted l =
       record {
-        answer = sym (λ i. record { refusal = e i; n = accepted (e i) (length new) 0; used = accepted (e i) (inForce + length entry) 0; «in_force» = accepted (e i) (inForce + length entry) 0 });
-        keys-are = sym (λ i. accepted (e i) (replaced n (keysOf new) keys) keys);
-        bits-are = sym (λ i. accepted (e i) (replaced n (valuesOf new) bits) bits);
-        summary-is = sym (λ i. accepted (e i) (summaryOf m s picture) summary);
-        log-keys-are = sym (λ i. accepted (e i) (logged used inForce (keysOf entry) logKeys) logKeys);
-        log-values-are = sym (λ i. accepted (e i) (logged used inForce (valuesOf entry) logValues) logValues);
+        answer = l .answer;
+        keys-are = l .keys-are;
+        bits-are = l .bits-are;
+        summary-is = l .summary-is;
+        log-keys-are = l .log-keys-are;
+        log-values-are = l .log-values-are;
       }
 
   -- a refusal
   pub paint-refused : (k : ℕ) → k ≡ paintRefusal m s keys bits n summary logKeys logValues used inForce κ f → (k ≡ 0 → ⊥)
       → Painted m s keys bits n summary logKeys logValues used inForce κ f (record { refusal = k; n = 0; used = 0; «in_force» = 0 }) keys bits summary logKeys logValues
-  paint-refused k e not-zero =
-      let told = by-number k (sym e) in
-      let nothing : (x : ℕ) → accepted k x 0 ≡ 0 = λ x. accepted-left x 0 not-zero in
-      record {
-        answer = sym (λ i. record { refusal = k; n = nothing (length new) i; used = nothing (inForce + length entry) i; «in_force» = nothing (inForce + length entry) i }) ∙ told .answer;
-        keys-are = sym (accepted-left (replaced n (keysOf new) keys) keys not-zero) ∙ told .keys-are;
-        bits-are = sym (accepted-left (replaced n (valuesOf new) bits) bits not-zero) ∙ told .bits-are;
-        summary-is = sym (accepted-left (summaryOf m s picture) summary not-zero) ∙ told .summary-is;
-        log-keys-are = sym (accepted-left (logged used inForce (keysOf entry) logKeys) logKeys not-zero) ∙ told .log-keys-are;
-        log-values-are = sym (accepted-left (logged used inForce (valuesOf entry) logValues) logValues not-zero) ∙ told .log-values-are;
-      }
+  paint-refused k e not-zero = as-painted (left-refused refusal _ _ _ _ _ _ _ _ keys bits summary logKeys logValues k e not-zero)
 
   -- an accepted paint
   pub paint-done : {keys′ bits′ summary′ logKeys′ logValues′ : List ℕ} {after next : ℕ} (entered : Entry) → paintRefusal m s keys bits n summary logKeys logValues used inForce κ f ≡ 0
@@ -73,14 +66,7 @@ module _ (m s : ℕ) (keys bits : List ℕ) (n : ℕ) (summary logKeys logValues
       → summary′ ≡ summaryOf m s picture
       → Painted m s keys bits n summary logKeys logValues used inForce κ f (record { refusal = 0; n = after; used = next; «in_force» = next }) keys′ bits′ summary′ logKeys′ logValues′
   paint-done {logKeys′ = logKeys′} {logValues′ = logValues′} {next = next} entered none is entry-logged put counted =
-      let told = by-number 0 none in
       let log : Relogged entry inForce used logKeys logValues logKeys′ logValues′ next =
       subst (λ x. Relogged (gained m (recordsOf keys bits n) (x .key) (x .feature)) (x .start) used logKeys logValues logKeys′ logValues′ next) is entry-logged in
-      record {
-        answer = (λ i. record { refusal = 0; n = put .length-is i; used = log .used-are i; «in_force» = log .used-are i }) ∙ told .answer;
-        keys-are = put .keys-are ∙ told .keys-are;
-        bits-are = put .values-are ∙ told .bits-are;
-        summary-is = counted ∙ told .summary-is;
-        log-keys-are = log .keys-are ∙ told .log-keys-are;
-        log-values-are = log .values-are ∙ told .log-values-are;
-      }
+      as-painted (left-done refusal _ _ _ _ _ _ _ _ keys bits summary logKeys logValues none
+      (put .length-is) (log .used-are) (log .used-are) (put .keys-are) (put .values-are) counted (log .keys-are) (log .values-are))

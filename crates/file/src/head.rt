@@ -10,11 +10,11 @@ use crate::layout;
 use crate::mark;
 use list::settings;
 
-pub fn put(m: u32, s: u32, n: u32, file: &mut [u8])
+pub fn write_head(m: u32, s: u32, n: u32, file: &mut [u8])
     requires { ⌜ headLength ≤ length (now file) ⌝ }
     ensures { λ _. ⌜ now (file .exit) ≡ sets (now (file .entry)) 0 (headOf m s n) ⌝ }
 {
-    mark::put(file);
+    mark::write_mark(file);
     bytes::put_u16(layout::version(s), file, 3);
     file[5] = (m % 256) as u8;
     file[6] = (s % 256) as u8;

@@ -7,7 +7,7 @@ ghost use Rattle.definitions.specs.File.{mark, wrongMark};
 
 const MARK: [u8; 3] = *b"HLQ";
 
-pub fn put(file: &mut [u8])
+pub fn write_mark(file: &mut [u8])
     requires { ⌜ 3 ≤ length (now file) ⌝ }
     ensures { λ _. ⌜ now (file .exit) ≡ sets (now (file .entry)) 0 mark ⌝ }
 {

@@ -9,7 +9,7 @@ ghost use Rattle.file.specs.Room.{RoomFor};
 use crate::layout;
 
 // The first n records of two slices become bytes.
-pub fn put(width: usize, keys: &[u32], bits: &[u32], n: usize, file: &mut [u8])
+pub fn write_records(width: usize, keys: &[u32], bits: &[u32], n: usize, file: &mut [u8])
     requires { ⌜ RoomFor width n (now keys) (now bits) (now file) ⌝ }
     ensures { λ _. ⌜ now (file .exit) ≡ sets (now (file .entry)) headLength (bytesOfRecords width (recordsOf (now (keys .entry)) (now (bits .entry)) n)) ⌝ }
 {

@@ -24,8 +24,8 @@ pub fn store(m: u32, s: u32, keys: &[u32], bits: &[u32], n: usize, file: &mut [u
             count: needed as u64,
         };
     }
-    head::put(m, s, n as u32, file);
-    records::put(width, keys, bits, n, file);
+    head::write_head(m, s, n as u32, file);
+    records::write_records(width, keys, bits, n, file);
     Counted {
         refusal: 0,
         count: needed as u64,

@@ -14,12 +14,6 @@ use definitions::Counted;
 use list::refusal::first_refusal;
 use list::settings;
 
-fn smaller(a: usize, b: usize) -> usize
-    ensures { λ r. ⌜ r ≡ min a b ⌝ }
-{
-    if a < b { a } else { b }
-}
-
 // How many records the list of the first leaves of two slices has, or 0 where they are no delivery.
 fn delivered(m: u32, s: u32, leaf_keys: &[u32], leaf_features: &[u32], leaves: usize) -> usize
     requires { ⌜ badSettings m s ≡ false ⌝ }
@@ -27,7 +21,7 @@ fn delivered(m: u32, s: u32, leaf_keys: &[u32], leaf_features: &[u32], leaves: u
         (length (listDelivered m (now («leaf_keys» .entry)) (now («leaf_features» .entry)) leaves))
         0 ⌝ }
 {
-    if smaller(leaf_keys.len(), leaf_features.len()) < leaves {
+    if slices::smaller(leaf_keys.len(), leaf_features.len()) < leaves {
         return 0;
     }
     count::records_of(m, s, &leaf_keys[..leaves], &leaf_features[..leaves])
@@ -60,7 +54,7 @@ pub fn read_leaves(
             count: 0,
         };
     }
-    if smaller(keys.len(), bits.len()) < n {
+    if slices::smaller(keys.len(), bits.len()) < n {
         return Counted {
             refusal: 9,
             count: 0,
@@ -99,7 +93,7 @@ pub fn write_leaves(
         return Counted { refusal, count: 0 };
     }
     let leaves = n - n / 4;
-    if smaller(leaf_keys.len(), leaf_features.len()) < leaves {
+    if slices::smaller(leaf_keys.len(), leaf_features.len()) < leaves {
         return Counted {
             refusal: 12,
             count: leaves as u64,

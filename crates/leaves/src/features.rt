@@ -4,6 +4,7 @@ ghost use mathlib.Core.Bool.{true};
 ghost use Rattle.definitions.specs.Bits.{featureOf};
 ghost use Rattle.definitions.specs.Refusal.{badPixel};
 ghost use Rattle.list.specs.Check.{oneSlot};
+use list::feature;
 
 // Some feature is s or more. It reads on after the first one, so that the loop has no way out and works many at a time.
 pub fn has_bad_feature(s: u32, features: &[u32]) -> bool
@@ -20,10 +21,10 @@ pub fn has_bad_feature(s: u32, features: &[u32]) -> bool
     bad
 }
 
-// The feature of a leaf: the number of its one slot.
+// The feature of a leaf as a delivery has it, in 32 bits.
 pub fn feature_of(bits: u32) -> u32
     requires { ⌜ oneSlot bits ≡ true ⌝ }
     ensures { λ r. ⌜ r ≡ featureOf bits ⌝ }
 {
-    u32::trailing_zeros(bits)
+    feature::feature_of(bits) as u32
 }

@@ -1,4 +1,5 @@
 -- what the promises of the C functions say together
+pub mod Uniqueness
 pub mod OneAnswer
 pub mod HistorySteps
 -- findings, walked by hand

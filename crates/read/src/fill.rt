@@ -11,13 +11,14 @@ ghost use Rattle.list.specs.Own.{OwnList, shownBy};
 ghost use Rattle.read.specs.Fill.{painted, inRun, rectanglePainted, cornerOf, ShowsNode, Filled};
 use keys::power;
 use list::check;
+use list::feature;
 
-// The feature of a leaf: the number of its one slot.
+// The feature of a leaf as a pixel has it, in one byte.
 fn feature_of(bits: u32) -> u8
     requires { ⌜ oneSlot bits ≡ true ⌝ }
     ensures { λ r. ⌜ r ≡ featureOf bits ⌝ }
 {
-    u32::trailing_zeros(bits) as u8
+    feature::feature_of(bits) as u8
 }
 
 fn fill_row(raster: &mut [u8], from: usize, until: usize, feature: u8)

@@ -8,12 +8,6 @@ use definitions::Found;
 use list::refusal::first_refusal;
 use offices::own;
 
-fn lesser(a: usize, b: usize) -> usize
-    ensures { λ r. ⌜ r ≡ min a b ⌝ }
-{
-    if a < b { a } else { b }
-}
-
 // The refusals 21, 1 and 4.
 fn begin_refusal(office: u32, m: u32, s: u32, keys: &[u32], bits: &[u32], n: usize) -> u64
     ensures { λ r. ⌜ r ≡ beginRefusal office m s (now (keys .entry)) (now (bits .entry)) n ⌝ }
@@ -59,7 +53,7 @@ pub fn begin(
         waivers: own.count,
         passed: 0,
         limit: 0,
-        room: lesser(room_ids, room_keys),
+        room: slices::smaller(room_ids, room_keys),
         live: 0,
         hidden: 0,
     }

@@ -7,7 +7,7 @@ use native.Mathlib.Omega.{arith}
 use lib.ListN.{length, length-append, length-map}
 use Rattle.keys.proofs.Cases.{decide}
 use Rattle.definitions.specs.Covered.{isCovered}
-use Rattle.walk.specs.Given.{putAt, written}
+use Rattle.walk.specs.Given.{writtenAt, written}
 use Rattle.walk.proofs.Written.{written-none, written-one, written-append, length-written}
 use Rattle.sift.specs.declared.Sifting.{Sifting}
 use Rattle.sift.specs.Covering.{Passed}
@@ -69,13 +69,13 @@ module _ (m limit id : ℕ) (waived : List ℕ) where
         wroteKeys = sym (ap (written limit keys (at .live)) none ∙ written-none limit keys (at .live));
       }
 
-  written-single : (answer : List ℕ) (place number : ℕ) → putAt limit answer place number ≡ written limit answer place (number ∷ [])
+  written-single : (answer : List ℕ) (place number : ℕ) → writtenAt limit answer place number ≡ written limit answer place (number ∷ [])
   written-single answer place number = sym (written-one limit answer place number [] ∙ written-none limit _ _)
 
   -- one that is not
   pub counted-live : (key : ℕ) (at r : Sifting) (ids ids′ keys keys′ : List ℕ) → isCovered m waived key ≡ false → r .live ≡ at .live + 1 → r .hidden ≡ at .hidden
-      → ids′ ≡ putAt limit ids (at .live) id
-      → keys′ ≡ putAt limit keys (at .live) key
+      → ids′ ≡ writtenAt limit ids (at .live) id
+      → keys′ ≡ writtenAt limit keys (at .live) key
       → FindingsCounted m limit id waived (key ∷ []) at r ids ids′ keys keys′
   counted-live key at r ids ids′ keys keys′ e l h f g =
       let one : notWaived m waived (key ∷ []) ≡ key ∷ [] = waived-in m waived key [] e ∙ ap (λ l. key ∷ l) (not-waived-nil m waived) in

@@ -28,7 +28,6 @@ use list::standing;
 use list::standing::Which;
 use walk::Found;
 use walk::Spot;
-use walk::answer::put;
 
 // What is the same for all findings of a rule: the map's resolution and number of records, the rule's id and its feature's bit, and how many findings
 // may be written.
@@ -78,8 +77,8 @@ fn sift(
             hidden: more,
         };
     }
-    put(found_ids, limit, live, id);
-    put(found_keys, limit, live, key);
+    slices::write_below(found_ids, limit, live, id);
+    slices::write_below(found_keys, limit, live, key);
     let more = live + 1;
     Sifting {
         passed,

@@ -1,8 +1,27 @@
 // Moves inside and between lent slices, which the edits are made of. The loops do nothing but move, since an edit moves most of a list.
 ghost use mathlib.Core.Path.{_≡_};
-ghost use Prim.Native.Nat.{_+_, _-_, _≤_};
-ghost use lib.ListN.{length, take, drop, replicate};
+ghost use mathlib.Core.Bool.{cond};
+ghost use Prim.Native.Nat.{_+_, _-_, _≤_, min};
+ghost use lib.ListN.{length, take, drop, replicate, set};
 ghost use lib.Seq.{sets};
+ghost use lib.Dec.{ltb};
+
+// Two slices that go together have room for as much as the shorter one: of two lengths the smaller.
+pub fn smaller(a: usize, b: usize) -> usize
+    ensures { λ r. ⌜ r ≡ min a b ⌝ }
+{
+    if a < b { a } else { b }
+}
+
+// Writes a number at its place, if that is below the limit: with the limit 0 answers are only counted.
+pub fn write_below(answer: &mut [u32], limit: usize, place: usize, number: u32)
+    requires { ⌜ limit ≤ length (now answer) ⌝ }
+    ensures { λ _. ⌜ now (answer .exit) ≡ cond (ltb place limit) (set (now (answer .entry)) place number) (now (answer .entry)) ⌝ }
+{
+    if place < limit {
+        answer[place] = number;
+    }
+}
 
 // The places from `at` on become what `from` has from `start` on, so many as `count` says.
 pub fn copy(from: &[u32], start: usize, count: usize, to: &mut [u32], at: usize)

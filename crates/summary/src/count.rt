@@ -11,22 +11,15 @@ ghost use Rattle.list.specs.Check.{oneSlot};
 ghost use Rattle.list.specs.Own.{OwnList, shownBy};
 ghost use Rattle.summary.specs.Count.{added, Room, NodeAt, NodeCounted};
 use list::check;
+use list::feature;
 use list::standing as search;
-
-// The feature of a leaf: the number of its one slot, which is one of 32.
-fn feature_of(bits: u32) -> usize
-    requires { ⌜ oneSlot bits ≡ true ⌝ }
-    ensures { λ r. ⌜ (r ≡ featureOf bits) × (r < 32) ⌝ }
-{
-    u32::trailing_zeros(bits) as usize
-}
 
 // A leaf adds its area to the counter of its feature.
 fn count_leaf(counts: &mut [u32; 32], bits: u32, area: u32)
     requires { ⌜ (oneSlot bits ≡ true) × Room (now counts) area ⌝ }
     ensures { λ _. ⌜ now (counts .exit) ≡ added (now (counts .entry)) (featureOf bits) area ⌝ }
 {
-    let feature = feature_of(bits);
+    let feature = feature::feature_of(bits);
     counts[feature] = counts[feature] + area;
 }
 

@@ -11,38 +11,38 @@ use lib.Seq.{sets, sets-eq}
 use lib.Dec.{ltb}
 use borrow.Author.Tests.{lt-ltb, le-ltb}
 use Rattle.definitions.specs.Buffer.{over}
-use Rattle.walk.specs.Given.{putAt, written}
+use Rattle.walk.specs.Given.{writtenAt, written}
 
 pub written-none : (limit : ℕ) (answer : List ℕ) (place : ℕ) → written limit answer place [] ≡ answer
 unfolding written
 written-none limit answer place = refl
 
 pub written-one : (limit : ℕ) (answer : List ℕ) (place key : ℕ) (keys : List ℕ)
-    → written limit answer place (key ∷ keys) ≡ written limit (putAt limit answer place key) (suc place) keys
+    → written limit answer place (key ∷ keys) ≡ written limit (writtenAt limit answer place key) (suc place) keys
 unfolding written
 written-one limit answer place key keys = refl
 
 -- the test of the limit decides
-pub put-below : (limit : ℕ) (answer : List ℕ) (place key : ℕ) → place < limit → putAt limit answer place key ≡ set answer place key
-put-below limit answer place key h = ap (λ t. cond t (set answer place key) answer) (lt-ltb place limit h)
+at-below : (limit : ℕ) (answer : List ℕ) (place key : ℕ) → place < limit → writtenAt limit answer place key ≡ set answer place key
+at-below limit answer place key h = ap (λ t. cond t (set answer place key) answer) (lt-ltb place limit h)
 
-pub put-past : (limit : ℕ) (answer : List ℕ) (place key : ℕ) → limit ≤ place → putAt limit answer place key ≡ answer
-put-past limit answer place key h = ap (λ t. cond t (set answer place key) answer) (le-ltb place limit h)
+at-past : (limit : ℕ) (answer : List ℕ) (place key : ℕ) → limit ≤ place → writtenAt limit answer place key ≡ answer
+at-past limit answer place key h = ap (λ t. cond t (set answer place key) answer) (le-ltb place limit h)
 
 length-cond : (t : Bool) (a b : List ℕ) → length a ≡ length b → length (cond t a b) ≡ length b
 length-cond true a b e = e
 length-cond false a b e = refl
 
 -- the answer keeps its length
-pub length-put : (limit : ℕ) (answer : List ℕ) (place key : ℕ) → length (putAt limit answer place key) ≡ length answer
-length-put limit answer place key = length-cond (ltb place limit) _ _ (length-set answer place key)
+pub length-written-at : (limit : ℕ) (answer : List ℕ) (place key : ℕ) → length (writtenAt limit answer place key) ≡ length answer
+length-written-at limit answer place key = length-cond (ltb place limit) _ _ (length-set answer place key)
 
 pub length-written : (limit : ℕ) (answer : List ℕ) (place : ℕ) (keys : List ℕ) → length (written limit answer place keys) ≡ length answer
 length-written limit answer place [] = ap length (written-none limit answer place)
 length-written limit answer place (key ∷ keys) =
     ap length (written-one limit answer place key keys)
-    ∙ length-written limit (putAt limit answer place key) (suc place) keys
-    ∙ length-put limit answer place key
+    ∙ length-written limit (writtenAt limit answer place key) (suc place) keys
+    ∙ length-written-at limit answer place key
 
 -- two runs, one after the other
 pub written-append : (limit : ℕ) (answer : List ℕ) (place : ℕ) (a b : List ℕ)
@@ -50,7 +50,7 @@ pub written-append : (limit : ℕ) (answer : List ℕ) (place : ℕ) (a b : List
 written-append limit answer place [] b = ap₂ (λ x i. written limit x i b) (sym (written-none limit answer place)) (sym (add-zero place))
 written-append limit answer place (key ∷ a) b =
     written-one limit answer place key (a ++ b)
-    ∙ written-append limit (putAt limit answer place key) (suc place) a b
+    ∙ written-append limit (writtenAt limit answer place key) (suc place) a b
     ∙ ap₂ (λ x i. written limit x i b) (sym (written-one limit answer place key a)) (omega arith)
 
 -- with the limit 0 nothing is written
@@ -58,7 +58,7 @@ pub written-nothing : (answer : List ℕ) (place : ℕ) (keys : List ℕ) → wr
 written-nothing answer place [] = written-none 0 answer place
 written-nothing answer place (key ∷ keys) =
     written-one 0 answer place key keys
-    ∙ ap (λ x. written 0 x (suc place) keys) (put-past 0 answer place key (omega arith))
+    ∙ ap (λ x. written 0 x (suc place) keys) (at-past 0 answer place key (omega arith))
     ∙ written-nothing answer (suc place) keys
 
 -- with a limit that reaches all is written
@@ -66,7 +66,7 @@ pub written-sets : (limit : ℕ) (answer : List ℕ) (place : ℕ) (keys : List 
 written-sets limit answer place [] h = written-none limit answer place
 written-sets limit answer place (key ∷ keys) h =
     written-one limit answer place key keys
-    ∙ ap (λ x. written limit x (suc place) keys) (put-below limit answer place key (omega arith))
+    ∙ ap (λ x. written limit x (suc place) keys) (at-below limit answer place key (omega arith))
     ∙ written-sets limit (set answer place key) (suc place) keys (omega arith)
 
 -- from place 0 on: the answer's first places, and those past them stay

@@ -13,10 +13,10 @@ keysWith bits [] = []
 keysWith bits (e ∷ l) = cond (eqb (e .value) bits) (e .key ∷ keysWith bits l) (keysWith bits l)
 
 -- one key is written at its place, if that is below the limit
-abbrev pub putAt : ℕ → List ℕ → ℕ → ℕ → List ℕ
-putAt limit answer place key = cond (ltb place limit) (set answer place key) answer
+abbrev pub writtenAt : ℕ → List ℕ → ℕ → ℕ → List ℕ
+writtenAt limit answer place key = cond (ltb place limit) (set answer place key) answer
 
 -- keys are written one after the other, as far as the limit lets
 unfoldable pub written : ℕ → List ℕ → ℕ → List ℕ → List ℕ
 written limit answer place [] = answer
-written limit answer place (key ∷ keys) = written limit (putAt limit answer place key) (suc place) keys
+written limit answer place (key ∷ keys) = written limit (writtenAt limit answer place key) (suc place) keys

@@ -5,7 +5,6 @@ ghost use Prim.Native.Nat.{_+_, _≤_};
 ghost use Rattle.keys.specs.Key.{rootKey};
 ghost use Rattle.walk.specs.Walk.{Stands, Small, isWithin, isApart, firstQuadrant, Follows};
 
-pub mod answer;
 pub mod bounds;
 
 use definitions::Window;

@@ -19,7 +19,6 @@ use keys::power;
 use list::standing;
 use walk::Found;
 use walk::Spot;
-use walk::answer::put;
 
 // Gives the keys of the records from one place up to another that have exactly the bit.
 fn gather_run(
@@ -40,7 +39,7 @@ fn gather_run(
     let mut i = first;
     while i < end {
         if bits[i] == bit {
-            put(answer, limit, given, keys[i]);
+            slices::write_below(answer, limit, given, keys[i]);
             given += 1;
         }
         i += 1;
@@ -69,7 +68,7 @@ fn gather_block(
 {
     let key = block.key;
     if bits[from] == bit {
-        put(answer, limit, count, key);
+        slices::write_below(answer, limit, count, key);
         return count + 1;
     }
     let step = block.step;

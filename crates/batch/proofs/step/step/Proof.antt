@@ -25,8 +25,8 @@ returns c = let s = start (c .before) in sym (step-stays (s .args .keys .now) (s
 reply-to-requires : tie.Need-reply-to-requires
 reply-to-requires c κs = fine c .list
 
-put-requires : tie.Need-put-requires
-put-requires c κs = let f = fine (c .before .before .before) in (omega (arith, f .roomRefusals), omega (arith, f .roomValues))
+give-reply-requires : tie.Need-give-reply-requires
+give-reply-requires c κs = let f = fine (c .before .before .before) in (omega (arith, f .roomRefusals), omega (arith, f .roomValues))
 
 add-st : tie.Need-add-st
 add-st c = record { fits = let h = fine (c .before .before .before .before .before .before .before .before) .roomRefusals in omega arith }
@@ -43,9 +43,9 @@ returns-2 c =
     let replied = put .before .before .before in
     let e = replied .before in
     let s = start (e .before) in
-    step-put (s .args .keys .now) (s .args .bits .now) (s .args .question) (progress s) (e .if1 .left) _ (replied .reply-to .ensures) _ _ (put .put .ensures .0) (put .put .ensures .1)
+    step-put (s .args .keys .now) (s .args .bits .now) (s .args .question) (progress s) (e .if1 .left) _ (replied .reply-to .ensures) _ _ (put .give-reply .ensures .0) (put .give-reply .ensures .1)
 
 pub step-spec : {M : Type 1} → statement M
 step-spec =
     tie.close
-    (tie.spec returns reply-to-requires put-requires add-st same-length same-length-2 returns-2)
+    (tie.spec returns reply-to-requires give-reply-requires add-st same-length same-length-2 returns-2)

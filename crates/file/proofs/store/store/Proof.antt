@@ -47,17 +47,17 @@ returns-2 c =
     let a = start (d .before) .args in
     no-room (a .m) (a .s) (a .keys .now) (a .bits .now) (a .n) (a .file .now) (passed d .sound) (passed d .list) _ (length-is (c .before)) (c .if2 .taken)
 
-cast-put : tie.Need-cast-put
-cast-put c =
+cast-write-head : tie.Need-cast-write-head
+cast-write-head c =
     let d = tested (c .before) in
     let a = start (d .before) .args in
     omega (arith, few (a .m) (a .s) (a .keys .now) (a .bits .now) (a .n) (a .file .now) (passed d .sound) (passed d .list))
 
-put-requires : tie.Need-put-requires
-put-requires c κs = search needs
+write-head-requires : tie.Need-write-head-requires
+write-head-requires c κs = search needs
 
-put-requires-2 : tie.Need-put-requires-2
-put-requires-2 c κs =
+write-records-requires : tie.Need-write-records-requires
+write-records-requires c κs =
     let b = c .before .before .before in
     let f = b .before .before in
     let l = f .before in
@@ -67,7 +67,7 @@ put-requires-2 c κs =
     record {
       in-keys = omega arith;
       in-bits = omega arith;
-      in-file = record { width-is = rw (l .before .width .ensures) (width-of (a .s)); there = omega (arith, f .if2 .left, l .length .ensures, b .put .kept) };
+      in-file = record { width-is = rw (l .before .width .ensures) (width-of (a .s)); there = omega (arith, f .if2 .left, l .length .ensures, b .write-head .kept) };
     }
 
 same-length : tie.Need-same-length
@@ -81,7 +81,7 @@ returns-3 c =
     let l = f .before in
     let d = tested l in
     let a = start (d .before) .args in
-    all-stored (a .m) (a .s) (a .keys .now) (a .bits .now) (a .n) (a .file .now) (passed d .sound) (passed d .list) _ _ _ _ (l .before .width .ensures) (length-is l) (f .if2 .left) (b .put .ensures) (w .put2 .ensures)
+    all-stored (a .m) (a .s) (a .keys .now) (a .bits .now) (a .n) (a .file .now) (passed d .sound) (passed d .list) _ _ _ _ (l .before .width .ensures) (length-is l) (f .if2 .left) (b .write-head .ensures) (w .write-records .ensures)
 
 pub store-spec : {M : Type 1} → statement M
 store-spec =
@@ -92,8 +92,8 @@ store-spec =
     width-requires
     length-requires
     returns-2
-    cast-put
-    put-requires
-    put-requires-2
+    cast-write-head
+    write-head-requires
+    write-records-requires
     same-length
     returns-3)

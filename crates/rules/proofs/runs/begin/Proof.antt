@@ -16,8 +16,8 @@ none-requires c κs = search needs
 own-rows-requires : tie.Need-own-rows-requires
 own-rows-requires c κs = good-level _ _ (zero-settings _ _ _ _ _ _ (sym (c .before .before .begin-refusal .ensures) ∙ c .if1 .taken))
 
-lesser-requires : tie.Need-lesser-requires
-lesser-requires c κs = search needs
+smaller-requires : tie.Need-smaller-requires
+smaller-requires c κs = search needs
 
 returns : tie.Need-returns
 returns c =
@@ -26,9 +26,9 @@ returns c =
     begun _ _ _ _ _ _ _ _ _ _ _ _ refusal
     (⊎-elim (λ w. w .2 ∙ w .1 .ensures ∙ own-looked _ _ _ _ _ _ _ _ _ _ (sym refusal ∙ w .0 .taken)) (λ w. w .1 ∙ l .none .ensures ∙ own-passed _ _ _ _ _ _ _ _ _ _ (λ e. w .0 .left (refusal ∙ e)))
     (c .before .before .if1 .came))
-    (c .lesser .ensures)
+    (c .smaller .ensures)
 
 pub begin-spec : {M : Type 1} → statement M
 begin-spec =
     tie.close
-    (tie.spec begin-refusal-requires none-requires own-rows-requires lesser-requires returns)
+    (tie.spec begin-refusal-requires none-requires own-rows-requires smaller-requires returns)

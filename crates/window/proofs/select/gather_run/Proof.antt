@@ -6,9 +6,9 @@ use mathlib.Core.List.{List, [], _∷_}
 use native.Mathlib.Numerals.{add-one}
 use native.Mathlib.Omega.{arith}
 use lib.ListN.{length}
-use Rattle.walk.specs.Given.{putAt, written}
+use Rattle.walk.specs.Given.{writtenAt, written}
 use Rattle.window.specs.Gather.{Gave}
-use Rattle.walk.proofs.Written.{written-none, written-one, length-put}
+use Rattle.walk.proofs.Written.{written-none, written-one, length-written-at}
 use Rattle.window.proofs.Run.{left, run-over, run-gives, run-passes}
 use Rattle.window.proofs.select.gather_run.Statement.{statement}
 use Rattle.window.proofs.select.gather_run.Tie as tie
@@ -41,7 +41,7 @@ module _ {whole : List ℕ} {limit count : ℕ} {answer₀ answer : List ℕ} {g
   -- a key is given
   gives : (key : ℕ) (more answer₁ : List ℕ) (given₁ : ℕ)
       → rest ≡ key ∷ more
-      → answer₁ ≡ putAt limit answer given key
+      → answer₁ ≡ writtenAt limit answer given key
       → given₁ ≡ given + 1
       → Passed whole limit count answer₀ answer₁ given₁ (i + 1) more
   gives key more answer₁ given₁ e f g =
@@ -51,7 +51,7 @@ module _ {whole : List ℕ} {limit count : ℕ} {answer₀ answer : List ℕ} {g
             ∙ sym (written-one limit answer given key more)
             ∙ ap (written limit answer given) (sym e)
             ∙ p .writes;
-        lengths = ap length f ∙ length-put limit answer given key ∙ p .lengths;
+        lengths = ap length f ∙ length-written-at limit answer given key ∙ p .lengths;
         bound = omega (arith, p .bound);
       }
 
@@ -78,18 +78,18 @@ mul-if1 c = omega (arith, c .loop-test .taken, entry (c .before) .pre .1, entry 
 shared-slice-read-if1 : tie.Need-shared-slice-read-if1 Inv-loop μ-loop
 shared-slice-read-if1 c = omega (arith, c .before .loop-test .taken, entry (c .before .before) .pre .1)
 
-mul-put : tie.Need-mul-put Inv-loop μ-loop
-mul-put c =
+mul-write-below : tie.Need-mul-write-below Inv-loop μ-loop
+mul-write-below c =
     let goes = c .before .before .before in
     omega (arith, goes .loop-test .taken, entry (goes .before) .pre .0, entry (goes .before) .good .0 .1)
 
-shared-slice-read-put : tie.Need-shared-slice-read-put Inv-loop μ-loop
-shared-slice-read-put c =
+shared-slice-read-write-below : tie.Need-shared-slice-read-write-below Inv-loop μ-loop
+shared-slice-read-write-below c =
     let goes = c .before .before .before .before in
     omega (arith, goes .loop-test .taken, entry (goes .before) .pre .0)
 
-put-requires : tie.Need-put-requires Inv-loop μ-loop
-put-requires c κs =
+write-below-requires : tie.Need-write-below-requires Inv-loop μ-loop
+write-below-requires c κs =
     let at = c .before .before .before .before .before in
     omega (arith, entry at .pre .2, at .loop .inv .lengths)
 
@@ -131,9 +131,9 @@ gather-run-spec =
     loop-holds
     mul-if1
     shared-slice-read-if1
-    mul-put
-    shared-slice-read-put
-    put-requires
+    mul-write-below
+    shared-slice-read-write-below
+    write-below-requires
     add-given
     add-i
     loop-less

@@ -1,11 +1,11 @@
--- `records::put` meets its contract: after each turn one record more is written.
+-- `records::write_records` meets its contract: after each turn one record more is written.
 use Prim.Native.Nat.{_-_}
 use native.Mathlib.Omega.{arith}
 use Rattle.file.specs.Room.{RoomFor}
 use Rattle.file.proofs.Laid.{laid-at, laid-same}
 use Rattle.file.proofs.RecordBytes.{Written, none-written, record-stored, all-written}
-use Rattle.file.proofs.records.put.Statement.{statement}
-use Rattle.file.proofs.records.put.Tie as tie
+use Rattle.file.proofs.records.write_records.Statement.{statement}
+use Rattle.file.proofs.records.write_records.Tie as tie
 
 abbrev Inv-loop : tie.InvT-loop
 Inv-loop width keys bits n file₀ i₀ file i = Written width keys bits n file₀ file i
@@ -59,8 +59,8 @@ same-length c = c .before .loop .inv .same
 returns : tie.Need-returns Inv-loop μ-loop
 returns c = all-written (c .before .loop .inv) (c .loop-test .left)
 
-pub put-spec : {M : Type 1} → statement M
-put-spec =
+pub write-records-spec : {M : Type 1} → statement M
+write-records-spec =
     tie.close
     (tie.spec
     Inv-loop

@@ -1,9 +1,9 @@
--- `mark::put` meets its contract: three stores of the three bytes.
+-- `mark::write_mark` meets its contract: three stores of the three bytes.
 use native.Mathlib.Omega.{arith}
 use lib.ListN.{length-set}
 use borrow.Author.Needs.{needs}
-use Rattle.file.proofs.mark.put.Statement.{statement}
-use Rattle.file.proofs.mark.put.Tie as tie
+use Rattle.file.proofs.mark.write_mark.Statement.{statement}
+use Rattle.file.proofs.mark.write_mark.Tie as tie
 
 array-read-file : tie.Need-array-read-file
 array-read-file c = search needs
@@ -29,8 +29,8 @@ same-length c = search needs
 returns : tie.Need-returns
 returns c = search needs
 
-pub put-spec : {M : Type 1} → statement M
-put-spec =
+pub write-mark-spec : {M : Type 1} → statement M
+write-mark-spec =
     tie.close
     (tie.spec
     array-read-file

@@ -1,15 +1,15 @@
--- `head::put` meets its contract: mark, version, m, s and n one after the other are the head.
+-- `head::write_head` meets its contract: mark, version, m, s and n one after the other are the head.
 use Prim.Native.Nat.{_≤_}
 use mathlib.Core.Path.{_≡_, _∙_}
 use native.Mathlib.Omega.{arith}
 use lib.ListN.{length, length-set}
 use borrow.Author.Needs.{needs}
 use Rattle.file.proofs.Stores.{head-stores}
-use Rattle.file.proofs.head.put.Statement.{statement}
-use Rattle.file.proofs.head.put.Tie as tie
+use Rattle.file.proofs.head.write_head.Statement.{statement}
+use Rattle.file.proofs.head.write_head.Tie as tie
 
-put-requires : tie.Need-put-requires
-put-requires c κs = search needs
+write-mark-requires : tie.Need-write-mark-requires
+write-mark-requires c κs = search needs
 
 version-requires : tie.Need-version-requires
 version-requires c κs = search needs
@@ -19,7 +19,7 @@ put-u16-requires c κs = search needs
 
 -- after the version the file is as long as it was
 versioned : (c : tie.After-slice-known3) → length (c .before .before .put-u16 .last .1 .0) ≡ length (c .before .before .before .before .before .before .before .before .before .before .args .file .now)
-versioned c = c .before .before .put-u16 .kept .1 .0 ∙ c .before .before .before .before .before .before .before .put .kept .0
+versioned c = c .before .before .put-u16 .kept .1 .0 ∙ c .before .before .before .before .before .before .before .write-mark .kept .0
 
 long : (c : tie.After-slice-known3) → 11 ≤ length (c .before .before .put-u16 .last .1 .0)
 long c = rw (versioned c) (c .before .before .before .before .before .before .before .before .before .before .pre)
@@ -47,15 +47,15 @@ returns c =
     let b = c .before .before in
     head-stores _ _ _ _ _ _ _ _
     (b .before .before .before .before .before .before .version .ensures)
-    (b .before .before .before .before .before .before .before .before .before .put .ensures)
+    (b .before .before .before .before .before .before .before .before .before .write-mark .ensures)
     (b .before .before .before .before .put-u16 .ensures)
     (b .put-u32 .ensures)
 
-pub put-spec : {M : Type 1} → statement M
-put-spec =
+pub write-head-spec : {M : Type 1} → statement M
+write-head-spec =
     tie.close
     (tie.spec
-    put-requires
+    write-mark-requires
     version-requires
     put-u16-requires
     cast-file

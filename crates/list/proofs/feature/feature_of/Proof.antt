@@ -1,9 +1,9 @@
--- `count::feature_of` meets its contract: below the one slot of a leaf stand as many zeros as its feature says.
+-- `feature::feature_of` meets its contract: below the one slot of a leaf stand as many zeros as its feature says.
 use native.Mathlib.Omega.{arith}
 use lib.Count.{trailing-le}
 use Rattle.list.proofs.Trailing.{feature-below, trailing-feature}
-use Rattle.summary.proofs.count.feature_of.Statement.{statement}
-use Rattle.summary.proofs.count.feature_of.Tie as tie
+use Rattle.list.proofs.feature.feature_of.Statement.{statement}
+use Rattle.list.proofs.feature.feature_of.Tie as tie
 
 cast-result : tie.Need-cast-result
 cast-result c = let h = trailing-le 32 (c .args .bits) in omega arith
