@@ -1,7 +1,5 @@
 pub mod Runs
-pub mod Squeezed
-pub mod KeyTail
-pub mod SqueezeLoop
+pub mod Forward
 pub mod Narrowed
 pub mod RenewLaws
 pub mod RenewSteps

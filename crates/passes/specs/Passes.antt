@@ -3,7 +3,7 @@ use Prim.Native.Nat.{ℕ, _+_, _-_, _^_, _≤_, _<_}
 use mathlib.Core.Bool.{true}
 use mathlib.Core.Path.{_≡_}
 use mathlib.Core.List.{List, _++_}
-use lib.ListN.{length, getD, set, drop}
+use lib.ListN.{length, getD, set, take, drop}
 use lib.Seq.{sets}
 use Rattle.keys.specs.Key.{validKey}
 use Rattle.keys.specs.Under.{Block}
@@ -12,7 +12,7 @@ use Rattle.definitions.specs.Picture.{Picture}
 use Rattle.definitions.specs.Bits.{bitsOf}
 use Rattle.definitions.specs.List.{Record, keysOf, valuesOf, listOf}
 use Rattle.definitions.specs.Read.{recordsOf}
-use Rattle.step.specs.Step.{Step, over, renewed, squeezed, pruned}
+use Rattle.step.specs.Step.{Step, over, pruned}
 
 -- from a place on a slice has these numbers
 pub record Showing (l bits : List ℕ) (at : ℕ) : Type 0 where
@@ -31,30 +31,11 @@ pub record BlockCounted (t : Step) (height row column : ℕ) (bits : List ℕ) (
   pub tallied : (p : Picture) (key : ℕ) → Showing (valuesOf (listOf p height row column key)) bits at → Tallied (over t p) height row column union count
   pub passed : (p : Picture) (key : ℕ) → Showing (valuesOf (listOf p height row column key)) bits at → next ≡ at + length (listOf p height row column key)
 
--- the bitstrings of the nodes of several features are renewed, the block's bits after the step and the place after its records are known
-pub record RenewedAt (t : Step) (p : Picture) (height row column key : ℕ) (before : List ℕ) (at : ℕ) (after : List ℕ) (union next : ℕ) : Type 0 where
-  pub union-is : union ≡ bitsOf (over t p) height row column
-  pub next-is : next ≡ at + length (listOf p height row column key)
-  pub bits-are : after ≡ sets before at (valuesOf (renewed p (over t p) height row column key))
-
--- that holds of whichever picture the bitstrings show
-pub record Renewed (t : Step) (height row column : ℕ) (before : List ℕ) (at : ℕ) (after : List ℕ) (union next : ℕ) : Type 0 where
-  pub holds : (p : Picture) (key : ℕ) → Showing (valuesOf (listOf p height row column key)) before at
-      → RenewedAt t p height row column key before at after union next
-
--- n records are there, with keys of blocks
-pub record There (m n : ℕ) (keys bits : List ℕ) : Type 0 where
-  pub deep : m ≤ 10
-  pub in-keys : n ≤ length keys
-  pub in-bits : n ≤ length bits
-  pub valid : (i : ℕ) → i < n → validKey m (getD keys i 0) ≡ true
-
--- the first r records are the n before, squeezed; the places past the n stay
-pub record IsSqueezed (m n : ℕ) (keys bits keys′ bits′ : List ℕ) (r : ℕ) : Type 0 where
-  pub few : r ≤ n
-  pub is : recordsOf keys′ bits′ r ≡ squeezed m 0 (recordsOf keys bits n)
-  pub past-keys : drop n keys′ ≡ drop n keys
-  pub past-bits : drop n bits′ ≡ drop n bits
+-- from a place on a slice has these numbers; what stands in front of them, and from `next` on, is as it was
+pub record Forward (new before : List ℕ) (place next : ℕ) (after : List ℕ) : Type 0 where
+  pub size : length after ≡ length before
+  pub front : take (place + length new) after ≡ take place before ++ new
+  pub behind : drop next after ≡ drop next before
 
 -- the records of a block are to be written before a place
 pub record WriteAsked (l : List Record) (key end : ℕ) (keys bits : List ℕ) : Type 0 where

@@ -2,6 +2,4 @@
 // leaf, and let every leaf grow to what the step makes of it. No stage needs more room than the list before or the list after.
 pub mod change;
 pub mod grow;
-pub mod renew;
-pub mod squeeze;
 pub mod tally;
