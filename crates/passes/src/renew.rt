@@ -1,7 +1,7 @@
 // The nodes of several features get the bits that they have after the step; keys and leaves stay as they are.
 ghost use mathlib.Core.Path.{_≡_};
 ghost use Rattle.step.specs.Deed.{Doable, stepOf};
-ghost use Rattle.passes.specs.Passes.{Shown, Renewed};
+ghost use Rattle.passes.specs.Passes.{ShownValues, Renewed};
 use crate::tally;
 use list::check;
 use step::deed;
@@ -26,7 +26,7 @@ pub fn renew(
     at: usize,
     bits: &mut [u32],
 ) -> Renewal
-    requires { ⌜ Doable m deed (now «log_keys») (now «log_values») × Shown m height row column key (now bits) at ⌝ }
+    requires { ⌜ Doable m deed (now «log_keys») (now «log_values») × ShownValues m height row column key (now bits) at ⌝ }
     ensures { λ r. ⌜ Renewed (stepOf m deed (now («log_keys» .entry)) (now («log_values» .entry))) height row column (now (bits .entry)) at (now (bits .exit)) (r .bits) (r .next) ⌝ }
 {
     let own = bits[at];

@@ -10,7 +10,7 @@ use borrow.Fn.PlainCycle.{Measures, is, falls, and}
 use Rattle.keys.proofs.Interval.{within}
 use Rattle.list.specs.Check.{oneSlot}
 use Rattle.step.specs.Deed.{stepOf, LeafAsked}
-use Rattle.passes.specs.Passes.{Shown}
+use Rattle.passes.specs.Passes.{ShownValues}
 use Rattle.step.specs.Step.{Step}
 use Rattle.step.proofs.QuarterSums.{divisible, narrow-room, lower-than}
 use Rattle.passes.proofs.Narrowed.{narrowed-renewed}
@@ -42,7 +42,7 @@ claims t = (has-one-slot.Asked, has-one-slot.Learnt, tally-leaf.Asked, tally-lea
 abbrev Start : ℕ → Type 0
 Start t = lts.Start (claims t) (given t) own.Post
 
-shown : (t : ℕ) (c : Start t) → Shown (c .args .m) (c .args .height) (c .args .row) (c .args .column) (c .args .key) (c .args .bits .now) (c .args .at)
+shown : (t : ℕ) (c : Start t) → ShownValues (c .args .m) (c .args .height) (c .args .row) (c .args .column) (c .args .key) (c .args .bits .now) (c .args .at)
 shown t c = c .pre .1 .1
 
 -- once the block is known to be a node
