@@ -23,7 +23,7 @@ use Rattle.laws.proofs.Records.{records-length, records-at, records-over}
 use Rattle.list.specs.Own.{OwnList, shownBy}
 use Rattle.list.proofs.Own.{own-keys, own-values, own-length}
 use Rattle.step.specs.Step.{Step, renewed, squeezed, pruned, over as stepOver}
-use Rattle.passes.specs.Passes.{Showing, Shown, There, IsSqueezed, Moved, Growing, GrowAsked, Grown, BlockCounted, Renewed}
+use Rattle.passes.specs.Passes.{ShowingValues, ShownValues, There, IsSqueezed, Moved, Growing, GrowAsked, Grown, BlockCounted, Renewed}
 use Rattle.passes.specs.Change.{zeroed}
 use Rattle.passes.proofs.Squeezed.{renewed-length, squeezed-list}
 use Rattle.passes.proofs.Assembled.{renewed-keys, replaced-longer, replaced-shorter}
@@ -57,10 +57,10 @@ list-valid p {m} (suc k) r c κ b =
     ))
 
 -- the whole list is shown from the first place on
-pub showing-whole : {m : ℕ} {keys bits : List ℕ} {n : ℕ} → OwnList m keys bits n → Showing (valuesOf (listOf (shownBy m keys bits n) m 0 0 0)) bits 0
+pub showing-whole : {m : ℕ} {keys bits : List ℕ} {n : ℕ} → OwnList m keys bits n → ShowingValues (valuesOf (listOf (shownBy m keys bits n) m 0 0 0)) bits 0
 showing-whole {bits = bits} {n} own = record { rest = drop n bits; is = sym (take-append-drop n bits) ∙ ap (λ l. l ++ drop n bits) (sym (own-values own)) }
 
-pub shown-whole : {m : ℕ} {keys bits : List ℕ} {n : ℕ} → m ≤ 10 → OwnList m keys bits n → Shown m m 0 0 0 bits 0
+pub shown-whole : {m : ℕ} {keys bits : List ℕ} {n : ℕ} → m ≤ 10 → OwnList m keys bits n → ShownValues m m 0 0 0 bits 0
 shown-whole {m} {keys} {bits} {n} deep own = record { picture = shownBy m keys bits n; deep = deep; block = here; shown = showing-whole own }
 
 -- a slice whose first places are stored anew

@@ -7,7 +7,7 @@ use native.Mathlib.Omega.{arith}
 use lib.ListN.{length, getD, take, drop, set, length-append, length-drop, length-set}
 use lib.Seq.{sets, length-sets, length-take-le, take-suc, take-set-lt, take-at, take-take, drop-set-lt, drop-drop, set-at}
 use Rattle.slices.proofs.Sets.{sets-parts}
-use Rattle.passes.specs.Passes.{Forward}
+use Rattle.passes.specs.Shrink.{Forward}
 use Rattle.passes.proofs.Runs.{drop-sets-after}
 
 -- what is the same from a place on is the same from a later one on

@@ -22,20 +22,20 @@ use Rattle.laws.proofs.ListOf.{list-one, list-node, list-first, length-node}
 use Rattle.list.specs.Check.{oneSlot}
 use Rattle.list.proofs.OneSlot.{slot-feature, slot-power}
 use Rattle.step.specs.Step.{Step, over, plain, renewed}
-use Rattle.passes.specs.Passes.{Showing, RenewedAt, Renewed}
+use Rattle.passes.specs.Passes.{ShowingValues, RenewedAt, Renewed}
 use Rattle.step.proofs.Pruned.{renewed-one, renewed-node, leaf-before}
 use Rattle.passes.proofs.Squeezed.{renewed-length}
 
 -- numbers shown from a place on
-pub showing-room : {v : ℕ} {l bits : List ℕ} {at : ℕ} → Showing (v ∷ l) bits at → at < length bits
+pub showing-room : {v : ℕ} {l bits : List ℕ} {at : ℕ} → ShowingValues (v ∷ l) bits at → at < length bits
 showing-room {v} {l} {bits} {at} s = let e = length-drop at bits in let f = ap length (s .is) in omega arith
 
-pub showing-first : {v : ℕ} {l bits : List ℕ} {at : ℕ} → Showing (v ∷ l) bits at → getD bits at 0 ≡ v
+pub showing-first : {v : ℕ} {l bits : List ℕ} {at : ℕ} → ShowingValues (v ∷ l) bits at → getD bits at 0 ≡ v
 showing-first {v} {l} {bits} {at} s =
     let e : at + 0 ≡ at = omega arith in
     ap (λ i. getD bits i 0) (sym e) ∙ sym (getD-drop at bits 0 0) ∙ ap (λ x. getD x 0 0) (s .is)
 
-pub showing-tail : {v : ℕ} {l bits : List ℕ} {at : ℕ} → Showing (v ∷ l) bits at → Showing l bits (at + 1)
+pub showing-tail : {v : ℕ} {l bits : List ℕ} {at : ℕ} → ShowingValues (v ∷ l) bits at → ShowingValues l bits (at + 1)
 showing-tail {v} {l} {bits} {at} s =
     record { rest = s .rest; is = ap (λ i. drop i bits) (add-one at) ∙ sym (drop-one bits at) ∙ ap (drop 1) (s .is) }
   where
@@ -45,10 +45,10 @@ showing-tail {v} {l} {bits} {at} s =
     drop-one (x ∷ b) zero = refl
     drop-one (x ∷ b) (suc n) = drop-one b n
 
-pub showing-left : (a b : List ℕ) {bits : List ℕ} {at : ℕ} → Showing (a ++ b) bits at → Showing a bits at
+pub showing-left : (a b : List ℕ) {bits : List ℕ} {at : ℕ} → ShowingValues (a ++ b) bits at → ShowingValues a bits at
 showing-left a b s = record { rest = b ++ s .rest; is = s .is ∙ append-assoc a b (s .rest) }
 
-pub showing-next : (a b : List ℕ) {bits : List ℕ} {at : ℕ} (new : List ℕ) → length new ≡ length a → Showing (a ++ b) bits at → Showing b (sets bits at new) (at + length a)
+pub showing-next : (a b : List ℕ) {bits : List ℕ} {at : ℕ} (new : List ℕ) → length new ≡ length a → ShowingValues (a ++ b) bits at → ShowingValues b (sets bits at new) (at + length a)
 showing-next a b {bits} {at} new e s =
     record {
       rest = s .rest;
@@ -69,9 +69,9 @@ four-values a b c d =
 
 -- one quadrant is renewed: what comes behind it is shown at the next place
 pub after-quadrant : (t : Step) (p : Picture) (k r c κ : ℕ) (others : List ℕ) {b b′ : List ℕ} {at union next : ℕ}
-    → Showing (valuesOf (listOf p k r c κ) ++ others) b at
+    → ShowingValues (valuesOf (listOf p k r c κ) ++ others) b at
     → RenewedAt t p k r c κ b at b′ union next
-    → Showing others b′ next
+    → ShowingValues others b′ next
 after-quadrant t p k r c κ others {b} {b′} {at} {union} {next} s h =
     rw (h .bits-are, h .next-is, ← length-map (listOf p k r c κ) (λ x. x .value))
     (showing-next (valuesOf (listOf p k r c κ)) others (valuesOf (renewed p (over t p) k r c κ)) (values-length p (over t p) k r c κ) s)
@@ -112,11 +112,11 @@ module _ (t : Step) (p : Picture) (k r c κ half : ℕ) (e : half ≡ 2 ^ k) (se
       ∙ ap (λ l. bitsOf p (suc k) r c ∷ l)
       (four-values (listOf p k r c (childKey κ k 1)) (listOf p k r (c + 2 ^ k) (childKey κ k 2)) (listOf p k (r + 2 ^ k) c (childKey κ k 3)) (listOf p k (r + 2 ^ k) (c + 2 ^ k) (childKey κ k 4))))
 
-  pub node-quadrants : {b : List ℕ} {at : ℕ} → Showing (valuesOf (listOf p (suc k) r c κ)) b at → Showing (V₁ ++ (V₂ ++ (V₃ ++ V₄))) b (at + 1)
+  pub node-quadrants : {b : List ℕ} {at : ℕ} → ShowingValues (valuesOf (listOf p (suc k) r c κ)) b at → ShowingValues (V₁ ++ (V₂ ++ (V₃ ++ V₄))) b (at + 1)
   node-quadrants s = showing-tail (rw values-node at s)
 
   module _ {b b₁ b₂ b₃ b₄ : List ℕ} {at n₁ n₂ n₃ n₄ u₁ u₂ u₃ u₄ : ℕ}
-      (s : Showing (valuesOf (listOf p (suc k) r c κ)) b at)
+      (s : ShowingValues (valuesOf (listOf p (suc k) r c κ)) b at)
       (h₁ : RenewedAt t p k r c (childKey κ k 1) b (at + 1) b₁ u₁ n₁)
       (h₂ : RenewedAt t p k r (c + half) (childKey κ k 2) b₁ n₁ b₂ u₂ n₂)
       (h₃ : RenewedAt t p k (r + half) c (childKey κ k 3) b₂ n₂ b₃ u₃ n₃)
@@ -185,7 +185,7 @@ module _ (t : Step) (p : Picture) (k r c κ half : ℕ) (e : half ≡ 2 ^ k) (se
 
 -- a leaf
 pub leaf-renewed : (t : Step) (p : Picture) (k r c κ : ℕ) {b : List ℕ} {at after : ℕ}
-    → Showing (valuesOf (listOf p k r c κ)) b at
+    → ShowingValues (valuesOf (listOf p k r c κ)) b at
     → oneSlot (getD b at 0) ≡ true
     → after ≡ bitsOf (over t (plain (featureOf (getD b at 0)))) k r c
     → RenewedAt t p k r c κ b at b after (at + 1)

@@ -24,7 +24,20 @@ pub fn length_after(
     requires { ⌜ Doable m deed (now «log_keys») (now «log_values») × (m ≤ 10) × OwnList m (now keys) (now bits) n ⌝ }
     ensures { λ r. ⌜ r ≡ length (listOfPicture m (over (stepOf m deed (now («log_keys» .entry)) (now («log_values» .entry))) (shownBy m (now (keys .entry)) (now (bits .entry)) n))) ⌝ }
 {
-    tally::tally_records(deed, log_keys, log_values, m, m, 0, 0, Key::ROOT, 0, bits)
+    tally::tally_records(
+            deed,
+            log_keys,
+            log_values,
+            m,
+            m,
+            0,
+            0,
+            Key::ROOT,
+            0,
+            keys,
+            bits,
+            n,
+        )
         .tally
         .count
 }

@@ -16,7 +16,7 @@ use Rattle.passes.proofs.GrowQuarters.{asked-some, asked-node, asks-se,
 use Rattle.passes.proofs.grow.grow.Reads as own
 use Rattle.passes.proofs.grow.grow.Kinds as kinds
 use Rattle.passes.proofs.grow.+grow.Lts-grow as lts
-use Rattle.passes.proofs.grow.write_leaf.Reads as write-leaf
+use Rattle.passes.proofs.spread.write_leaf.Reads as write-leaf
 use Rattle.passes.proofs.grow.write_own.Reads as write-own
 use Rattle.step.proofs.deed.narrow.Reads as narrow
 use Rattle.step.proofs.quarters.of.Reads as quarters

@@ -1,8 +1,8 @@
 -- `write_leaf` meets its contract: what the leaf grows to is counted, its own record is written, and behind it those below it, if there are any.
 use borrow.Author.Needs.{needs}
 use Rattle.passes.proofs.LeafWritten.{wl-low, wl-room, wl-one, wl-fits, wl-wrote, wl-sizes}
-use Rattle.passes.proofs.grow.write_leaf.Statement.{statement}
-use Rattle.passes.proofs.grow.write_leaf.Tie as tie
+use Rattle.passes.proofs.spread.write_leaf.Statement.{statement}
+use Rattle.passes.proofs.spread.write_leaf.Tie as tie
 
 tally-leaf-requires : tie.Need-tally-leaf-requires
 tally-leaf-requires c κs = search needs

@@ -15,15 +15,15 @@ use Rattle.step.proofs.LeafTally.{leaf-nw, leaf-ne, leaf-sw, leaf-se}
 use Rattle.passes.proofs.LeafWritten.{count-one}
 use Rattle.passes.proofs.Narrowed.{narrowed-fitting, narrowed-written}
 use Rattle.passes.proofs.SpreadSteps.{spreads-nw, spreads-ne, spreads-sw, spreads-se, spreads-four, spread-all}
-use Rattle.passes.proofs.grow.spread.Reads as own
-use Rattle.passes.proofs.grow.spread.Kinds as kinds
-use Rattle.passes.proofs.grow.+spread.Lts-spread as lts
+use Rattle.passes.proofs.spread.spread.Reads as own
+use Rattle.passes.proofs.spread.spread.Kinds as kinds
+use Rattle.passes.proofs.spread.+spread.Lts-spread as lts
 use Rattle.step.proofs.deed.narrow.Reads as narrow
 use Rattle.step.proofs.deed.settled.Reads as settled
 use Rattle.step.proofs.quarters.of.Reads as quarters
 use Rattle.build.proofs.write.write_four.Reads as write-four
-use Rattle.passes.proofs.grow.+spread.{statement}
-use Rattle.passes.proofs.grow.+spread.Tie.{close}
+use Rattle.passes.proofs.spread.+spread.{statement}
+use Rattle.passes.proofs.spread.+spread.Tie.{close}
 
 -- the measure is the height
 abbrev measure : Measures 4 kinds.ps ℕ
