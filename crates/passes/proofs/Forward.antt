@@ -1,20 +1,14 @@
 -- Numbers that are put forward in a slice, nearer to its start: one after the other they are one run, a number can be put in front of them, and a run can
 -- be moved as it is. Rests on the laws of lists.
-use Prim.Native.Nat.{ℕ, suc, _+_, _-_, _≤_, _<_}
+use Prim.Native.Nat.{ℕ, suc, _+_, _≤_, _<_}
 use mathlib.Core.Path.{_≡_, refl, sym, _∙_, ap}
 use mathlib.Core.List.{List, [], _∷_, _++_, append-assoc, append-nil}
 use native.Mathlib.Omega.{arith}
 use lib.ListN.{length, getD, take, drop, set, length-append, length-drop, length-set}
-use lib.Seq.{sets, length-sets, length-take-le, take-suc, take-set-lt, take-at, take-take, drop-set-lt, drop-drop, set-at}
+use lib.Seq.{sets, length-sets, length-take-le, take-suc, take-set-lt, take-at, take-take, drop-set-lt, set-at}
 use Rattle.slices.proofs.Sets.{sets-parts}
 use Rattle.passes.specs.Shrink.{Forward}
-use Rattle.passes.proofs.Runs.{drop-sets-after}
-
--- what is the same from a place on is the same from a later one on
-pub drop-later : (l l′ : List ℕ) (n n′ : ℕ) → n ≤ n′ → drop n l ≡ drop n l′ → drop n′ l ≡ drop n′ l′
-drop-later l l′ n n′ h e =
-    let s : n + (n′ - n) ≡ n′ = omega arith in
-    ap (λ i. drop i l) (sym s) ∙ sym (drop-drop (n′ - n) n l) ∙ ap (drop (n′ - n)) e ∙ drop-drop (n′ - n) n l′ ∙ ap (λ i. drop i l′) s
+use Rattle.passes.proofs.Runs.{drop-sets-after, drop-later}
 
 -- the first of the numbers
 forward-first : (a b : List ℕ) {l l′ : List ℕ} {i n : ℕ} → i ≤ length l → Forward (a ++ b) l i n l′ → Forward a l i n l′

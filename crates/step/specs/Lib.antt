@@ -1,5 +1,4 @@
 pub mod Quarters
 pub mod Step
-pub mod Meeting
 pub mod Runs
 pub mod Deed

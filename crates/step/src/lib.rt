@@ -3,6 +3,5 @@
 pub mod deed;
 mod entries;
 mod fill;
-pub mod meeting;
 pub mod quarters;
 pub mod run;
