@@ -19,7 +19,7 @@ use Rattle.log.specs.declared.entry.Entry.{Entry}
 use Rattle.log.specs.Entries.{lastEntry, run, contentPart}
 use Rattle.step.specs.declared.run.Run.{Run}
 use Rattle.step.specs.declared.meeting.Meeting.{Meeting}
-use Rattle.step.specs.declared.meeting.Meeting.the-variants.{Apart, Leaf, Content, Cut}
+use Rattle.step.specs.declared.meeting.Meeting.the-variants.{Leaf, Content, Cut}
 use Rattle.step.specs.Step.{Step, plain}
 
 -- a block, and what its pixels get
@@ -121,10 +121,10 @@ givenBy back ks vs κ e =
 unfoldable pub metBy : (m κ : ℕ) → (Entry → Meeting) → Entry → (others : Meeting) → Meeting
 metBy m κ gives e others = cond (inInterval m (e .key) κ) (gives e) (cond (inInterval m κ (e .key)) Cut others)
 
--- what a list of entries makes of it: nothing where all are apart from it
-unfoldable pub meetingBy : (m κ : ℕ) → (Entry → Meeting) → List Entry → Meeting
-meetingBy m κ gives [] = Apart
-meetingBy m κ gives (e ∷ es) = metBy m κ gives e (meetingBy m κ gives es)
+-- what a list of entries makes of it, where all others make something of it
+unfoldable pub meetingBy : (m : ℕ) (others : Meeting) (κ : ℕ) → (Entry → Meeting) → List Entry → Meeting
+meetingBy m others κ gives [] = others
+meetingBy m others κ gives (e ∷ es) = metBy m κ gives e (meetingBy m others κ gives es)
 
 -- an entry's content lies in the log, and its keys ascend from one at or before κ on
 pub record Held (e : Entry) (logKeys logValues : List ℕ) (κ : ℕ) : Type 0 where

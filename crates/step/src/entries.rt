@@ -7,6 +7,7 @@ ghost use lib.ListN.{length};
 ghost use Rattle.keys.specs.Block.{inInterval};
 ghost use Rattle.step.specs.Runs.{EntriesIn, Held, Asking, backBits, wholeOf, givenBy, metBy, meetingBy, lastOfRun, firstOfRun};
 ghost use Rattle.step.specs.Runs.{backStep, againStep};
+ghost use Rattle.step.specs.declared.meeting.Meeting.the-variants.{Apart};
 ghost use Rattle.step.specs.Meeting.{BlockAsked, Met};
 use crate::meeting::Meeting;
 use crate::run::Run;
@@ -98,7 +99,7 @@ fn met(
 // the block has to be asked.
 fn by_last(back: bool, run: Run, log_keys: &[u32], log_values: &[u32], m: u32, key: u32) -> Meeting
     requires { ⌜ (m ≤ 10) × EntriesIn m run (now «log_keys») (now «log_values») ⌝ }
-    ensures { λ r. ⌜ r ≡ meetingBy m key (givenBy back (now («log_keys» .entry)) (now («log_values» .entry)) key) (lastOfRun run (now («log_keys» .entry)) (now («log_values» .entry))) ⌝ }
+    ensures { λ r. ⌜ r ≡ meetingBy m Apart key (givenBy back (now («log_keys» .entry)) (now («log_values» .entry)) key) (lastOfRun run (now («log_keys» .entry)) (now («log_values» .entry))) ⌝ }
 {
     let start = run.start;
     let mut end = run.end;
@@ -121,7 +122,7 @@ fn by_last(back: bool, run: Run, log_keys: &[u32], log_values: &[u32], m: u32, k
 // The same where the first entry decides: what the later ones make of the block is what the earlier ones leave where they are apart from it.
 fn by_first(run: Run, log_keys: &[u32], log_values: &[u32], m: u32, key: u32) -> Meeting
     requires { ⌜ (m ≤ 10) × EntriesIn m run (now «log_keys») (now «log_values») ⌝ }
-    ensures { λ r. ⌜ r ≡ meetingBy m key (givenBy true (now («log_keys» .entry)) (now («log_values» .entry)) key) (firstOfRun run (now («log_keys» .entry)) (now («log_values» .entry))) ⌝ }
+    ensures { λ r. ⌜ r ≡ meetingBy m Apart key (givenBy true (now («log_keys» .entry)) (now («log_values» .entry)) key) (firstOfRun run (now («log_keys» .entry)) (now («log_values» .entry))) ⌝ }
 {
     let start = run.start;
     let mut end = run.end;
