@@ -34,11 +34,15 @@ pub record Replaced (t : Step) (logKeys logValues : List ℕ) (height row column
   pub in-values : start + count ≤ length logValues
   pub is : (p : Picture) → run logKeys logValues start count ≡ listOf (over t p) height row column key
 
-abbrev pub Met : (t : Step) (logKeys logValues : List ℕ) (height row column key : ℕ) → Meeting → Type 0
-Met t ks vs height row column key Apart = Untouched t height row column
-Met t ks vs height row column key (Leaf bits) = OneLeaf t height row column bits
-Met t ks vs height row column key (Content start count) = Replaced t ks vs height row column key start count
-Met t ks vs height row column key Cut = 0 < height
+-- by cases
+abbrev pub MetBy : (t : Step) (logKeys logValues : List ℕ) (height row column key : ℕ) → Meeting → Type 0
+MetBy t ks vs height row column key Apart = Untouched t height row column
+MetBy t ks vs height row column key (Leaf bits) = OneLeaf t height row column bits
+MetBy t ks vs height row column key (Content start count) = Replaced t ks vs height row column key start count
+MetBy t ks vs height row column key Cut = 0 < height
+
+pub record Met (t : Step) (logKeys logValues : List ℕ) (height row column key : ℕ) (meeting : Meeting) : Type 0 where
+  pub told : MetBy t logKeys logValues height row column key meeting
 
 -- one look does not tell what becomes of the block
 abbrev pub isCut : Meeting → Bool

@@ -1,10 +1,12 @@
-// A step as the passes are told it, and what it does to a leaf: the leaf stays one, or its quadrants have to be asked. The log goes with it, since a
-// deed that takes entries back, or paints them again, names them by their places there; the window's does not look at it.
+// A step as the passes are told it, and what it makes of a block. The log goes with it, since a deed that takes entries back, or paints them again, names
+// them by their places there; the window's does not look at it.
 ghost use mathlib.Core.Path.{_≡_};
 ghost use Prim.Native.Nat.{_+_, _^_, _≤_};
-ghost use Rattle.step.specs.Deed.{Doable, stepOf, LeafAsked, Settled, Narrowed};
+ghost use Rattle.step.specs.Deed.{Doable, stepOf, Narrowed};
+ghost use Rattle.step.specs.Meeting.{BlockAsked, Met};
 use crate::entries;
 use crate::fill;
+use crate::meeting::Meeting;
 use crate::run;
 use crate::run::Run;
 use definitions::Window;
@@ -17,30 +19,29 @@ pub enum Deed {
     Again(Run),
 }
 
-// The bits of a leaf after the step, where it stays a leaf; else 0.
-pub fn settled(
+// What the step makes of a block.
+pub fn meeting(
     deed: Deed,
     log_keys: &[u32],
     log_values: &[u32],
     m: u32,
-    own: u32,
     height: u32,
     row: u32,
     column: u32,
     key: u32,
-) -> u32
-    requires { ⌜ Doable m deed (now «log_keys») (now «log_values») × LeafAsked m own height row column key ⌝ }
-    ensures { λ r. ⌜ Settled (stepOf m deed (now («log_keys» .entry)) (now («log_values» .entry))) own height row column r ⌝ }
+) -> Meeting
+    requires { ⌜ Doable m deed (now «log_keys») (now «log_values») × BlockAsked m height row column key ⌝ }
+    ensures { λ r. ⌜ Met (stepOf m deed (now («log_keys» .entry)) (now («log_values» .entry))) (now («log_keys» .entry)) (now («log_values» .entry)) height row column key r ⌝ }
 {
     match deed {
         Deed::Fill(window, feature) => {
-            fill::settled(window, feature, m, own, height, row, column, key)
+            fill::meeting(window, feature, m, height, row, column, key)
         }
         Deed::Back(run) => {
-            entries::settled_back(run, log_keys, log_values, m, own, height, row, column, key)
+            entries::meeting_back(run, log_keys, log_values, m, height, row, column, key)
         }
         Deed::Again(run) => {
-            entries::settled_again(run, log_keys, log_values, m, own, height, row, column, key)
+            entries::meeting_again(run, log_keys, log_values, m, height, row, column, key)
         }
     }
 }

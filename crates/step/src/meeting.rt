@@ -17,7 +17,9 @@ pub fn is_cut(meeting: Meeting) -> bool
     ensures { λ r. ⌜ r ≡ isCut meeting ⌝ }
 {
     match meeting {
+        Meeting::Apart => false,
+        Meeting::Leaf(_) => false,
+        Meeting::Content(_, _) => false,
         Meeting::Cut => true,
-        _ => false,
     }
 }

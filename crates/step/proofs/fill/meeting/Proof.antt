@@ -1,11 +1,11 @@
--- `fill::settled` meets its contract.
+-- `fill::meeting` meets its contract.
 use mathlib.Core.Path.{sym, _∙_}
 use native.Mathlib.Omega.{arith}
 use borrow.Author.Needs.{needs}
 use Rattle.keys.proofs.Interval.{within}
 use Rattle.step.proofs.ByWindow.{small, out, in-all, in-part}
-use Rattle.step.proofs.fill.settled.Statement.{statement}
-use Rattle.step.proofs.fill.settled.Tie as tie
+use Rattle.step.proofs.fill.meeting.Statement.{statement}
+use Rattle.step.proofs.fill.meeting.Tie as tie
 
 power-of-two-requires : tie.Need-power-of-two-requires
 power-of-two-requires c κs = let a = c .pre .1 in let w = within (a .block) in omega (arith, w .height, a .deep)
@@ -35,8 +35,8 @@ returns-3 c =
     in-part (s .pre .0) (s .pre .1) (c .before .before .before .before .power-of-two .ensures) (sym (c .before .before .before .apart .ensures) ∙ c .before .before .if1 .left)
     (sym (c .before .within .ensures) ∙ c .if2 .left)
 
-pub settled-spec : {M : Type 1} → statement M
-settled-spec =
+pub meeting-spec : {M : Type 1} → statement M
+meeting-spec =
     tie.close
     (tie.spec
     power-of-two-requires
