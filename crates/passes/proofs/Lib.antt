@@ -1,6 +1,8 @@
 pub mod Runs
 pub mod FourParts
+pub mod ShownBlocks
 pub mod Forward
+pub mod ShrinkLaws
 pub mod Narrowed
 pub mod TallySteps
 pub mod SpreadSteps
