@@ -1,10 +1,7 @@
 pub mod Runs
-pub mod Squeezed
-pub mod KeyTail
-pub mod SqueezeLoop
+pub mod FourParts
+pub mod Forward
 pub mod Narrowed
-pub mod RenewLaws
-pub mod RenewSteps
 pub mod TallySteps
 pub mod SpreadSteps
 pub mod LeafWritten

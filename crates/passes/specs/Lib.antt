@@ -1,2 +1,3 @@
 pub mod Passes
+pub mod Shrink
 pub mod Change

@@ -1,21 +1,19 @@
 -- What the passes over the slices ask and leave. Only contracts need these. Rests on Step and on build's laws of a block.
 use Prim.Native.Nat.{ℕ, _+_, _-_, _^_, _≤_, _<_}
-use mathlib.Core.Bool.{true, false}
+use mathlib.Core.Bool.{false}
 use mathlib.Core.Path.{_≡_}
 use mathlib.Core.List.{List, _++_}
 use lib.ListN.{length, getD, set, take, drop}
 use lib.Seq.{sets}
-use Rattle.keys.specs.Key.{validKey}
 use Rattle.keys.specs.Under.{Block}
 use Rattle.list.specs.Among.{keysBelow}
 use Rattle.build.specs.BuildBlocks.{Tallied}
 use Rattle.build.specs.declared.count.Tally.{Tally}
 use Rattle.definitions.specs.Picture.{Picture}
-use Rattle.definitions.specs.Bits.{bitsOf}
 use Rattle.definitions.specs.List.{Record, keysOf, valuesOf, listOf}
 use Rattle.definitions.specs.Read.{recordsOf}
 use Rattle.laws.proofs.Ascending.{Ascending}
-use Rattle.step.specs.Step.{Step, over, renewed, squeezed, pruned}
+use Rattle.step.specs.Step.{Step, over, pruned}
 use Rattle.step.specs.Meeting.{isCut}
 use Rattle.step.specs.declared.meeting.Meeting.{Meeting}
 use Rattle.step.specs.declared.meeting.Meeting.the-variants.{Apart, Leaf, Content, Cut}
@@ -95,43 +93,6 @@ pub record Laid (meeting : Meeting) (own : ℕ) (logKeys logValues : List ℕ) (
   pub bits-are : bits′ ≡ laidOn meeting logValues place bits
   pub union-is : union ≡ knownOf meeting own 1 logValues .bits
   pub next-is : isCut meeting ≡ false → next ≡ place + knownOf meeting own 1 logValues .count
-
--- from a place on a slice has these numbers
-pub record ShowingValues (l bits : List ℕ) (at : ℕ) : Type 0 where
-  pub rest : List ℕ
-  pub is : drop at bits ≡ l ++ rest
-
--- from place `at` on the bitstrings are those of the list of a block of the map
-pub record ShownValues (m height row column key : ℕ) (bits : List ℕ) (at : ℕ) : Type 0 where
-  pub picture : Picture
-  pub deep : m ≤ 10
-  pub block : Block m height row column key
-  pub shown : ShowingValues (valuesOf (listOf picture height row column key)) bits at
-
--- the bitstrings of the nodes of several features are renewed, the block's bits after the step and the place after its records are known
-pub record RenewedAt (t : Step) (p : Picture) (height row column key : ℕ) (before : List ℕ) (at : ℕ) (after : List ℕ) (union next : ℕ) : Type 0 where
-  pub union-is : union ≡ bitsOf (over t p) height row column
-  pub next-is : next ≡ at + length (listOf p height row column key)
-  pub bits-are : after ≡ sets before at (valuesOf (renewed p (over t p) height row column key))
-
--- that holds of whichever picture the bitstrings show
-pub record Renewed (t : Step) (height row column : ℕ) (before : List ℕ) (at : ℕ) (after : List ℕ) (union next : ℕ) : Type 0 where
-  pub holds : (p : Picture) (key : ℕ) → ShowingValues (valuesOf (listOf p height row column key)) before at
-      → RenewedAt t p height row column key before at after union next
-
--- n records are there, with keys of blocks
-pub record There (m n : ℕ) (keys bits : List ℕ) : Type 0 where
-  pub deep : m ≤ 10
-  pub in-keys : n ≤ length keys
-  pub in-bits : n ≤ length bits
-  pub valid : (i : ℕ) → i < n → validKey m (getD keys i 0) ≡ true
-
--- the first r records are the n before, squeezed; the places past the n stay
-pub record IsSqueezed (m n : ℕ) (keys bits keys′ bits′ : List ℕ) (r : ℕ) : Type 0 where
-  pub few : r ≤ n
-  pub is : recordsOf keys′ bits′ r ≡ squeezed m 0 (recordsOf keys bits n)
-  pub past-keys : drop n keys′ ≡ drop n keys
-  pub past-bits : drop n bits′ ≡ drop n bits
 
 -- the records of a block are to be written before a place
 pub record WriteAsked (l : List Record) (key end : ℕ) (keys bits : List ℕ) : Type 0 where

@@ -6,10 +6,7 @@ ghost use Rattle.list.specs.Own.{OwnList, shownBy};
 ghost use Prim.Native.Nat.{_≤_};
 ghost use Rattle.step.specs.Step.{over};
 ghost use Rattle.step.specs.Deed.{Doable, stepOf};
-ghost use Rattle.passes.specs.Change.{Changeable, Changed, GivenUp, zeroed};
-use crate::grow;
-use crate::renew;
-use crate::squeeze;
+ghost use Rattle.passes.specs.Change.{GivenUp, zeroed};
 use crate::tally;
 use keys::Key;
 use step::deed::Deed;
@@ -57,36 +54,3 @@ fn give_up(keys: &mut [u32], bits: &mut [u32], n: usize, after: usize)
     }
 }
 
-// The list becomes that of the step over its picture.
-pub fn change(
-    deed: Deed,
-    log_keys: &[u32],
-    log_values: &[u32],
-    m: u32,
-    keys: &mut [u32],
-    bits: &mut [u32],
-    n: usize,
-    after: usize,
-)
-    requires { ⌜ Doable m deed (now «log_keys») (now «log_values») ⌝ }
-    requires { ⌜ Changeable (stepOf m deed (now «log_keys») (now «log_values»)) m (now keys) (now bits) n after ⌝ }
-    ensures { λ _. ⌜ Changed (stepOf m deed (now («log_keys» .entry)) (now («log_values» .entry))) m n (now (keys .entry)) (now (bits .entry)) (now (keys .exit)) (now (bits .exit)) ⌝ }
-{
-    renew::renew(deed, log_keys, log_values, m, m, 0, 0, Key::ROOT, 0, bits);
-    let left = squeeze::squeeze(m, keys, bits, n);
-    grow::grow(
-        deed,
-        log_keys,
-        log_values,
-        m,
-        m,
-        0,
-        0,
-        Key::ROOT,
-        left,
-        after,
-        keys,
-        bits,
-    );
-    give_up(keys, bits, n, after);
-}
