@@ -2,6 +2,7 @@ pub mod Runs
 pub mod FourParts
 pub mod Forward
 pub mod Narrowed
+pub mod ShownBlocks
 pub mod TallySteps
 pub mod SpreadSteps
 pub mod LeafWritten
