@@ -3,6 +3,7 @@ pub mod FourParts
 pub mod Forward
 pub mod Narrowed
 pub mod ShownBlocks
+pub mod BlockEnds
 pub mod TallySteps
 pub mod SpreadSteps
 pub mod LeafWritten
