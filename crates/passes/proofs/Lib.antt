@@ -4,6 +4,8 @@ pub mod ShownBlocks
 pub mod Forward
 pub mod ShrinkLaws
 pub mod Narrowed
+pub mod ShownBlocks
+pub mod BlockEnds
 pub mod TallySteps
 pub mod SpreadSteps
 pub mod LeafWritten

@@ -53,4 +53,3 @@ fn give_up(keys: &mut [u32], bits: &mut [u32], n: usize, after: usize)
         slices::clear(bits, after, n);
     }
 }
-

@@ -40,12 +40,8 @@ module _ (m : ℕ) (ks vs : List ℕ) {deed : Deed} where
       subst (λ x. Narrowed m past x (Fill w f) ks vs) (sym e) (record { doable = fill-known e d; same = same-itself m past (windowStep w f) })
 
   -- of a run the entries before it
-  pub back-narrowed : {run run′ : Run} {past past′ : ℕ} → deed ≡ Back run → past′ ≡ past → ShortRun m past′ run run′ ks vs → Narrowed m past deed (Back run′) ks vs
-  back-narrowed {run} {run′} {past} {past′} e f s =
-      subst (λ x. Narrowed m past x (Back run′) ks vs) (sym e)
-      (subst (λ y. Narrowed m y (Back run) (Back run′) ks vs) f (record { doable = s .entries; same = s .same-back }))
+  pub back-narrowed : {run run′ : Run} {past : ℕ} → deed ≡ Back run → ShortRun m past run run′ ks vs → Narrowed m past deed (Back run′) ks vs
+  back-narrowed {run} {run′} {past} e s = subst (λ x. Narrowed m past x (Back run′) ks vs) (sym e) (record { doable = s .entries; same = s .same-back })
 
-  pub again-narrowed : {run run′ : Run} {past past′ : ℕ} → deed ≡ Again run → past′ ≡ past → ShortRun m past′ run run′ ks vs → Narrowed m past deed (Again run′) ks vs
-  again-narrowed {run} {run′} {past} {past′} e f s =
-      subst (λ x. Narrowed m past x (Again run′) ks vs) (sym e)
-      (subst (λ y. Narrowed m y (Again run) (Again run′) ks vs) f (record { doable = s .entries; same = s .same-again }))
+  pub again-narrowed : {run run′ : Run} {past : ℕ} → deed ≡ Again run → ShortRun m past run run′ ks vs → Narrowed m past deed (Again run′) ks vs
+  again-narrowed {run} {run′} {past} e s = subst (λ x. Narrowed m past x (Again run′) ks vs) (sym e) (record { doable = s .entries; same = s .same-again })

@@ -10,7 +10,6 @@ use crate::meeting::Meeting;
 use crate::run;
 use crate::run::Run;
 use definitions::Window;
-use keys::power;
 
 // Every pixel of a window gets a feature; the entries of a run are taken back, last to first; or their blocks are painted again, first to last.
 pub enum Deed {
@@ -46,19 +45,7 @@ pub fn meeting(
     }
 }
 
-// As much of the step as concerns what lies before a key.
-pub fn narrow_to(deed: Deed, log_keys: &[u32], log_values: &[u32], m: u32, past: u32) -> Deed
-    requires { ⌜ Doable m deed (now «log_keys») (now «log_values») ⌝ }
-    ensures { λ r. ⌜ Narrowed m past deed r (now («log_keys» .entry)) (now («log_values» .entry)) ⌝ }
-{
-    match deed {
-        Deed::Fill(window, feature) => Deed::Fill(window, feature),
-        Deed::Back(run) => Deed::Back(run::before(m, log_keys, log_values, run, past)),
-        Deed::Again(run) => Deed::Again(run::before(m, log_keys, log_values, run, past)),
-    }
-}
-
-// As much as concerns a block and what lies before it in key order.
+// As much of the step as concerns a block and what lies before it in key order. A window is told as it is.
 pub fn narrow(
     deed: Deed,
     log_keys: &[u32],
@@ -70,6 +57,9 @@ pub fn narrow(
     requires { ⌜ Doable m deed (now «log_keys») (now «log_values») × (height ≤ 10) × (key + 5 ^ height ≤ 5 ^ 10) ⌝ }
     ensures { λ r. ⌜ Narrowed m (key + 5 ^ height) deed r (now («log_keys» .entry)) (now («log_values» .entry)) ⌝ }
 {
-    let past = key + power::power_of_five(height);
-    narrow_to(deed, log_keys, log_values, m, past)
+    match deed {
+        Deed::Fill(window, feature) => Deed::Fill(window, feature),
+        Deed::Back(run) => Deed::Back(run::up_to(m, log_keys, log_values, run, height, key)),
+        Deed::Again(run) => Deed::Again(run::up_to(m, log_keys, log_values, run, height, key)),
+    }
 }
