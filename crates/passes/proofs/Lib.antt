@@ -1,11 +1,11 @@
 pub mod Runs
 pub mod FourParts
-pub mod ShownBlocks
-pub mod Forward
-pub mod ShrinkLaws
 pub mod Narrowed
 pub mod ShownBlocks
 pub mod BlockEnds
+pub mod Forward
+pub mod ShrinkLaws
+pub mod ShrinkSteps
 pub mod TallySteps
 pub mod SpreadSteps
 pub mod LeafWritten

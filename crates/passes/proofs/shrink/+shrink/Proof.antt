@@ -1,839 +1,194 @@
-use Prim.Native.Nat.{ℕ, _<_}
+-- `shrink` meets its contract: a leaf by itself, a block that one look settles as it is, and else a node's quadrants one after the other and then its own
+-- record. The height falls at each call.
+use Prim.Native.Nat.{ℕ, _-_, _+_, _^_, _<_}
+use mathlib.Core.Path.{_≡_, sym, _∙_, ap}
+use mathlib.Core.Bool.{true, false}
+use native.Mathlib.Omega.{arith}
+use lib.ListN.{length, getD}
+use borrow.Author.Needs.{needs}
 use borrow.Fn.Kinds.{In}
 use borrow.Fn.PlainCycle.{Measures, is, falls, and}
-use Rattle.passes.proofs.shrink.shrink.Reads as shrink
-use Rattle.passes.proofs.shrink.shrink.Kinds as shrink-kinds
-use Rattle.passes.proofs.shrink.+shrink.Lts-shrink as shrink-lts
-use Rattle.keys.proofs.power.power_of_five.Reads as power-of-five-reads
-use Rattle.list.proofs.check.has_one_slot.Reads as has-one-slot-reads
-use Rattle.passes.proofs.block_end.block_end.Reads as block-end-reads
-use Rattle.passes.proofs.shrink.is_whole.Reads as is-whole-reads
-use Rattle.passes.proofs.shrink.keep.Reads as keep-reads
-use Rattle.passes.proofs.shrink.shrink_leaf.Reads as shrink-leaf-reads
-use Rattle.passes.proofs.shrink.shrink_own.Reads as shrink-own-reads
-use Rattle.step.proofs.deed.meeting.Reads as meeting-reads
-use Rattle.step.proofs.deed.narrow.Reads as narrow-reads
-use Rattle.step.proofs.quarters.of.Reads as of-reads
+use Rattle.definitions.specs.Bits.{unionOfFour}
+use Rattle.list.specs.Check.{oneSlot}
+use Rattle.step.specs.Step.{Step}
+use Rattle.step.specs.Deed.{stepOf}
+use Rattle.step.proofs.QuarterSums.{divisible, narrow-room, lower-than}
+use Rattle.passes.specs.Shrink.{ShrinkAsked}
+use Rattle.passes.proofs.Narrowed.{narrowed-shrinks}
+use Rattle.passes.proofs.ShrinkSteps.{positive, asks-nw, asks-ne, asks-sw, asks-se, asks-own, gives-node, asked-room, leaf-room, gives-leaf, asks-end, asks-keep, gives-whole}
+use Rattle.passes.proofs.shrink.shrink.Reads as own
+use Rattle.passes.proofs.shrink.shrink.Kinds as kinds
+use Rattle.passes.proofs.shrink.+shrink.Lts-shrink as lts
+use Rattle.list.proofs.check.has_one_slot.Reads as has-one-slot
+use Rattle.passes.proofs.shrink.shrink_leaf.Reads as shrink-leaf
+use Rattle.step.proofs.deed.narrow.Reads as narrow
+use Rattle.step.proofs.deed.meeting.Reads as meeting
+use Rattle.passes.proofs.shrink.is_whole.Reads as is-whole
+use Rattle.keys.proofs.power.power_of_five.Reads as power-of-five
+use Rattle.passes.proofs.block_end.block_end.Reads as block-end
+use Rattle.passes.proofs.shrink.keep.Reads as keep
+use Rattle.step.proofs.quarters.of.Reads as quarters
+use Rattle.passes.proofs.shrink.shrink_own.Reads as shrink-own
 use Rattle.passes.proofs.shrink.+shrink.{statement}
 use Rattle.passes.proofs.shrink.+shrink.Tie.{close}
 
-abbrev μ-shrink : Measures 4 shrink-kinds.ps ℕ
-μ-shrink κs a = ?
+-- the measure is the height
+abbrev measure : Measures 4 kinds.ps ℕ
+measure κs a = a .1 .1 .1 .1 .0
 
-abbrev shrink-at : ℕ → In 4 shrink-kinds.ps
-shrink-at t = and 4 shrink-kinds.ps (is 4 shrink-kinds.ps μ-shrink t) shrink.Pre
+abbrev given : ℕ → In 4 kinds.ps
+given t = and 4 kinds.ps (is 4 kinds.ps measure t) own.Pre
 
-abbrev shrink-below : ℕ → In 4 shrink-kinds.ps
-shrink-below t = and 4 shrink-kinds.ps (falls 4 shrink-kinds.ps _<_ μ-shrink t) shrink.Pre
+abbrev below : ℕ → In 4 kinds.ps
+below t = and 4 kinds.ps (falls 4 kinds.ps _<_ measure t) own.Pre
 
--- src/shrink.rt:155:15
-shrink-mul-own : (t : ℕ) → shrink-lts.Need-mul-own (
-  has-one-slot-reads.Asked,
-  has-one-slot-reads.Learnt,
-  shrink-leaf-reads.Asked,
-  shrink-leaf-reads.Learnt,
-  narrow-reads.Asked,
-  narrow-reads.Learnt,
-  meeting-reads.Asked,
-  meeting-reads.Learnt,
-  is-whole-reads.Asked,
-  is-whole-reads.Learnt,
-  power-of-five-reads.Asked,
-  power-of-five-reads.Learnt,
-  block-end-reads.Asked,
-  block-end-reads.Learnt,
-  keep-reads.Asked,
-  keep-reads.Learnt,
-  of-reads.Asked,
-  of-reads.Learnt,
-  shrink-below t,
-  shrink.Post,
-  shrink-own-reads.Asked,
-  shrink-own-reads.Learnt,
-) (shrink-at t) shrink.Post
-shrink-mul-own t c = ?
+abbrev claims : ℕ → lts.Claims
+claims t = (
+  has-one-slot.Asked,
+  has-one-slot.Learnt,
+  shrink-leaf.Asked,
+  shrink-leaf.Learnt,
+  narrow.Asked,
+  narrow.Learnt,
+  meeting.Asked,
+  meeting.Learnt,
+  is-whole.Asked,
+  is-whole.Learnt,
+  power-of-five.Asked,
+  power-of-five.Learnt,
+  block-end.Asked,
+  block-end.Learnt,
+  keep.Asked,
+  keep.Learnt,
+  quarters.Asked,
+  quarters.Learnt,
+  below t,
+  own.Post,
+  shrink-own.Asked,
+  shrink-own.Learnt,
+)
 
--- src/shrink.rt:155:15
-shrink-slice-read-own : (t : ℕ) → shrink-lts.Need-slice-read-own (
-  has-one-slot-reads.Asked,
-  has-one-slot-reads.Learnt,
-  shrink-leaf-reads.Asked,
-  shrink-leaf-reads.Learnt,
-  narrow-reads.Asked,
-  narrow-reads.Learnt,
-  meeting-reads.Asked,
-  meeting-reads.Learnt,
-  is-whole-reads.Asked,
-  is-whole-reads.Learnt,
-  power-of-five-reads.Asked,
-  power-of-five-reads.Learnt,
-  block-end-reads.Asked,
-  block-end-reads.Learnt,
-  keep-reads.Asked,
-  keep-reads.Learnt,
-  of-reads.Asked,
-  of-reads.Learnt,
-  shrink-below t,
-  shrink.Post,
-  shrink-own-reads.Asked,
-  shrink-own-reads.Learnt,
-) (shrink-at t) shrink.Post
-shrink-slice-read-own t c = ?
+abbrev Start : ℕ → Type 0
+Start t = lts.Start (claims t) (given t) own.Post
 
--- src/shrink.rt:156:8
-shrink-has-one-slot-requires : (t : ℕ) → shrink-lts.Need-has-one-slot-requires (
-  has-one-slot-reads.Asked,
-  has-one-slot-reads.Learnt,
-  shrink-leaf-reads.Asked,
-  shrink-leaf-reads.Learnt,
-  narrow-reads.Asked,
-  narrow-reads.Learnt,
-  meeting-reads.Asked,
-  meeting-reads.Learnt,
-  is-whole-reads.Asked,
-  is-whole-reads.Learnt,
-  power-of-five-reads.Asked,
-  power-of-five-reads.Learnt,
-  block-end-reads.Asked,
-  block-end-reads.Learnt,
-  keep-reads.Asked,
-  keep-reads.Learnt,
-  of-reads.Asked,
-  of-reads.Learnt,
-  shrink-below t,
-  shrink.Post,
-  shrink-own-reads.Asked,
-  shrink-own-reads.Learnt,
-) (shrink-at t) shrink.Post
-shrink-has-one-slot-requires t c κs = ?
+asked : (t : ℕ) (c : Start t) → ShrinkAsked (c .args .m) (c .args .height) (c .args .row) (c .args .column) (c .args .key) (c .args .keys .now) (c .args .bits .now) (c .args .at) (c .args .n) (c .args .place)
+asked t c = c .pre .1 .1
 
--- src/shrink.rt:157:9
-shrink-shrink-leaf-requires : (t : ℕ) → shrink-lts.Need-shrink-leaf-requires (
-  has-one-slot-reads.Asked,
-  has-one-slot-reads.Learnt,
-  shrink-leaf-reads.Asked,
-  shrink-leaf-reads.Learnt,
-  narrow-reads.Asked,
-  narrow-reads.Learnt,
-  meeting-reads.Asked,
-  meeting-reads.Learnt,
-  is-whole-reads.Asked,
-  is-whole-reads.Learnt,
-  power-of-five-reads.Asked,
-  power-of-five-reads.Learnt,
-  block-end-reads.Asked,
-  block-end-reads.Learnt,
-  keep-reads.Asked,
-  keep-reads.Learnt,
-  of-reads.Asked,
-  of-reads.Learnt,
-  shrink-below t,
-  shrink.Post,
-  shrink-own-reads.Asked,
-  shrink-own-reads.Learnt,
-) (shrink-at t) shrink.Post
-shrink-shrink-leaf-requires t c κs = ?
+mul-own : (t : ℕ) → lts.Need-mul-own (claims t) (given t) own.Post
+mul-own t c = ?
 
--- src/shrink.rt:157:9
-shrink-same-length : (t : ℕ) → shrink-lts.Need-same-length (
-  has-one-slot-reads.Asked,
-  has-one-slot-reads.Learnt,
-  shrink-leaf-reads.Asked,
-  shrink-leaf-reads.Learnt,
-  narrow-reads.Asked,
-  narrow-reads.Learnt,
-  meeting-reads.Asked,
-  meeting-reads.Learnt,
-  is-whole-reads.Asked,
-  is-whole-reads.Learnt,
-  power-of-five-reads.Asked,
-  power-of-five-reads.Learnt,
-  block-end-reads.Asked,
-  block-end-reads.Learnt,
-  keep-reads.Asked,
-  keep-reads.Learnt,
-  of-reads.Asked,
-  of-reads.Learnt,
-  shrink-below t,
-  shrink.Post,
-  shrink-own-reads.Asked,
-  shrink-own-reads.Learnt,
-) (shrink-at t) shrink.Post
-shrink-same-length t c = ?
+slice-read-own : (t : ℕ) → lts.Need-slice-read-own (claims t) (given t) own.Post
+slice-read-own t c = ?
 
--- src/shrink.rt:157:9
-shrink-same-length-2 : (t : ℕ) → shrink-lts.Need-same-length-2 (
-  has-one-slot-reads.Asked,
-  has-one-slot-reads.Learnt,
-  shrink-leaf-reads.Asked,
-  shrink-leaf-reads.Learnt,
-  narrow-reads.Asked,
-  narrow-reads.Learnt,
-  meeting-reads.Asked,
-  meeting-reads.Learnt,
-  is-whole-reads.Asked,
-  is-whole-reads.Learnt,
-  power-of-five-reads.Asked,
-  power-of-five-reads.Learnt,
-  block-end-reads.Asked,
-  block-end-reads.Learnt,
-  keep-reads.Asked,
-  keep-reads.Learnt,
-  of-reads.Asked,
-  of-reads.Learnt,
-  shrink-below t,
-  shrink.Post,
-  shrink-own-reads.Asked,
-  shrink-own-reads.Learnt,
-) (shrink-at t) shrink.Post
-shrink-same-length-2 t c = ?
+has-one-slot-requires : (t : ℕ) → lts.Need-has-one-slot-requires (claims t) (given t) own.Post
+has-one-slot-requires t c κs = search needs
 
--- src/shrink.rt:157:9
-shrink-returns : (t : ℕ) → shrink-lts.Need-returns (
-  has-one-slot-reads.Asked,
-  has-one-slot-reads.Learnt,
-  shrink-leaf-reads.Asked,
-  shrink-leaf-reads.Learnt,
-  narrow-reads.Asked,
-  narrow-reads.Learnt,
-  meeting-reads.Asked,
-  meeting-reads.Learnt,
-  is-whole-reads.Asked,
-  is-whole-reads.Learnt,
-  power-of-five-reads.Asked,
-  power-of-five-reads.Learnt,
-  block-end-reads.Asked,
-  block-end-reads.Learnt,
-  keep-reads.Asked,
-  keep-reads.Learnt,
-  of-reads.Asked,
-  of-reads.Learnt,
-  shrink-below t,
-  shrink.Post,
-  shrink-own-reads.Asked,
-  shrink-own-reads.Learnt,
-) (shrink-at t) shrink.Post
-shrink-returns t c = ?
+shrink-leaf-requires : (t : ℕ) → lts.Need-shrink-leaf-requires (claims t) (given t) own.Post
+shrink-leaf-requires t c κs = ?
 
--- src/shrink.rt:173:9
-shrink-narrow-requires : (t : ℕ) → shrink-lts.Need-narrow-requires (
-  has-one-slot-reads.Asked,
-  has-one-slot-reads.Learnt,
-  shrink-leaf-reads.Asked,
-  shrink-leaf-reads.Learnt,
-  narrow-reads.Asked,
-  narrow-reads.Learnt,
-  meeting-reads.Asked,
-  meeting-reads.Learnt,
-  is-whole-reads.Asked,
-  is-whole-reads.Learnt,
-  power-of-five-reads.Asked,
-  power-of-five-reads.Learnt,
-  block-end-reads.Asked,
-  block-end-reads.Learnt,
-  keep-reads.Asked,
-  keep-reads.Learnt,
-  of-reads.Asked,
-  of-reads.Learnt,
-  shrink-below t,
-  shrink.Post,
-  shrink-own-reads.Asked,
-  shrink-own-reads.Learnt,
-) (shrink-at t) shrink.Post
-shrink-narrow-requires t c κs = ?
+same-length : (t : ℕ) → lts.Need-same-length (claims t) (given t) own.Post
+same-length t c = search needs
 
--- src/shrink.rt:174:9
-shrink-meeting-requires : (t : ℕ) → shrink-lts.Need-meeting-requires (
-  has-one-slot-reads.Asked,
-  has-one-slot-reads.Learnt,
-  shrink-leaf-reads.Asked,
-  shrink-leaf-reads.Learnt,
-  narrow-reads.Asked,
-  narrow-reads.Learnt,
-  meeting-reads.Asked,
-  meeting-reads.Learnt,
-  is-whole-reads.Asked,
-  is-whole-reads.Learnt,
-  power-of-five-reads.Asked,
-  power-of-five-reads.Learnt,
-  block-end-reads.Asked,
-  block-end-reads.Learnt,
-  keep-reads.Asked,
-  keep-reads.Learnt,
-  of-reads.Asked,
-  of-reads.Learnt,
-  shrink-below t,
-  shrink.Post,
-  shrink-own-reads.Asked,
-  shrink-own-reads.Learnt,
-) (shrink-at t) shrink.Post
-shrink-meeting-requires t c κs = ?
+same-length-2 : (t : ℕ) → lts.Need-same-length-2 (claims t) (given t) own.Post
+same-length-2 t c = search needs
 
--- src/shrink.rt:175:8
-shrink-is-whole-requires : (t : ℕ) → shrink-lts.Need-is-whole-requires (
-  has-one-slot-reads.Asked,
-  has-one-slot-reads.Learnt,
-  shrink-leaf-reads.Asked,
-  shrink-leaf-reads.Learnt,
-  narrow-reads.Asked,
-  narrow-reads.Learnt,
-  meeting-reads.Asked,
-  meeting-reads.Learnt,
-  is-whole-reads.Asked,
-  is-whole-reads.Learnt,
-  power-of-five-reads.Asked,
-  power-of-five-reads.Learnt,
-  block-end-reads.Asked,
-  block-end-reads.Learnt,
-  keep-reads.Asked,
-  keep-reads.Learnt,
-  of-reads.Asked,
-  of-reads.Learnt,
-  shrink-below t,
-  shrink.Post,
-  shrink-own-reads.Asked,
-  shrink-own-reads.Learnt,
-) (shrink-at t) shrink.Post
-shrink-is-whole-requires t c κs = ?
+returns : (t : ℕ) → lts.Need-returns (claims t) (given t) own.Post
+returns t c = ?
 
--- src/shrink.rt:176:26
-shrink-power-of-five-requires : (t : ℕ) → shrink-lts.Need-power-of-five-requires (
-  has-one-slot-reads.Asked,
-  has-one-slot-reads.Learnt,
-  shrink-leaf-reads.Asked,
-  shrink-leaf-reads.Learnt,
-  narrow-reads.Asked,
-  narrow-reads.Learnt,
-  meeting-reads.Asked,
-  meeting-reads.Learnt,
-  is-whole-reads.Asked,
-  is-whole-reads.Learnt,
-  power-of-five-reads.Asked,
-  power-of-five-reads.Learnt,
-  block-end-reads.Asked,
-  block-end-reads.Learnt,
-  keep-reads.Asked,
-  keep-reads.Learnt,
-  of-reads.Asked,
-  of-reads.Learnt,
-  shrink-below t,
-  shrink.Post,
-  shrink-own-reads.Asked,
-  shrink-own-reads.Learnt,
-) (shrink-at t) shrink.Post
-shrink-power-of-five-requires t c κs = ?
+narrow-requires : (t : ℕ) → lts.Need-narrow-requires (claims t) (given t) own.Post
+narrow-requires t c κs = ?
 
--- src/shrink.rt:176:20
-shrink-add-past : (t : ℕ) → shrink-lts.Need-add-past (
-  has-one-slot-reads.Asked,
-  has-one-slot-reads.Learnt,
-  shrink-leaf-reads.Asked,
-  shrink-leaf-reads.Learnt,
-  narrow-reads.Asked,
-  narrow-reads.Learnt,
-  meeting-reads.Asked,
-  meeting-reads.Learnt,
-  is-whole-reads.Asked,
-  is-whole-reads.Learnt,
-  power-of-five-reads.Asked,
-  power-of-five-reads.Learnt,
-  block-end-reads.Asked,
-  block-end-reads.Learnt,
-  keep-reads.Asked,
-  keep-reads.Learnt,
-  of-reads.Asked,
-  of-reads.Learnt,
-  shrink-below t,
-  shrink.Post,
-  shrink-own-reads.Asked,
-  shrink-own-reads.Learnt,
-) (shrink-at t) shrink.Post
-shrink-add-past t c = ?
+meeting-requires : (t : ℕ) → lts.Need-meeting-requires (claims t) (given t) own.Post
+meeting-requires t c κs = ?
 
--- src/shrink.rt:177:13
-shrink-block-end-requires : (t : ℕ) → shrink-lts.Need-block-end-requires (
-  has-one-slot-reads.Asked,
-  has-one-slot-reads.Learnt,
-  shrink-leaf-reads.Asked,
-  shrink-leaf-reads.Learnt,
-  narrow-reads.Asked,
-  narrow-reads.Learnt,
-  meeting-reads.Asked,
-  meeting-reads.Learnt,
-  is-whole-reads.Asked,
-  is-whole-reads.Learnt,
-  power-of-five-reads.Asked,
-  power-of-five-reads.Learnt,
-  block-end-reads.Asked,
-  block-end-reads.Learnt,
-  keep-reads.Asked,
-  keep-reads.Learnt,
-  of-reads.Asked,
-  of-reads.Learnt,
-  shrink-below t,
-  shrink.Post,
-  shrink-own-reads.Asked,
-  shrink-own-reads.Learnt,
-) (shrink-at t) shrink.Post
-shrink-block-end-requires t c κs = ?
+is-whole-requires : (t : ℕ) → lts.Need-is-whole-requires (claims t) (given t) own.Post
+is-whole-requires t c κs = search needs
 
--- src/shrink.rt:178:9
-shrink-keep-requires : (t : ℕ) → shrink-lts.Need-keep-requires (
-  has-one-slot-reads.Asked,
-  has-one-slot-reads.Learnt,
-  shrink-leaf-reads.Asked,
-  shrink-leaf-reads.Learnt,
-  narrow-reads.Asked,
-  narrow-reads.Learnt,
-  meeting-reads.Asked,
-  meeting-reads.Learnt,
-  is-whole-reads.Asked,
-  is-whole-reads.Learnt,
-  power-of-five-reads.Asked,
-  power-of-five-reads.Learnt,
-  block-end-reads.Asked,
-  block-end-reads.Learnt,
-  keep-reads.Asked,
-  keep-reads.Learnt,
-  of-reads.Asked,
-  of-reads.Learnt,
-  shrink-below t,
-  shrink.Post,
-  shrink-own-reads.Asked,
-  shrink-own-reads.Learnt,
-) (shrink-at t) shrink.Post
-shrink-keep-requires t c κs = ?
+power-of-five-requires : (t : ℕ) → lts.Need-power-of-five-requires (claims t) (given t) own.Post
+power-of-five-requires t c κs = ?
 
--- src/shrink.rt:178:9
-shrink-same-length-3 : (t : ℕ) → shrink-lts.Need-same-length-3 (
-  has-one-slot-reads.Asked,
-  has-one-slot-reads.Learnt,
-  shrink-leaf-reads.Asked,
-  shrink-leaf-reads.Learnt,
-  narrow-reads.Asked,
-  narrow-reads.Learnt,
-  meeting-reads.Asked,
-  meeting-reads.Learnt,
-  is-whole-reads.Asked,
-  is-whole-reads.Learnt,
-  power-of-five-reads.Asked,
-  power-of-five-reads.Learnt,
-  block-end-reads.Asked,
-  block-end-reads.Learnt,
-  keep-reads.Asked,
-  keep-reads.Learnt,
-  of-reads.Asked,
-  of-reads.Learnt,
-  shrink-below t,
-  shrink.Post,
-  shrink-own-reads.Asked,
-  shrink-own-reads.Learnt,
-) (shrink-at t) shrink.Post
-shrink-same-length-3 t c = ?
+add-past : (t : ℕ) → lts.Need-add-past (claims t) (given t) own.Post
+add-past t c = ?
 
--- src/shrink.rt:178:9
-shrink-same-length-4 : (t : ℕ) → shrink-lts.Need-same-length-4 (
-  has-one-slot-reads.Asked,
-  has-one-slot-reads.Learnt,
-  shrink-leaf-reads.Asked,
-  shrink-leaf-reads.Learnt,
-  narrow-reads.Asked,
-  narrow-reads.Learnt,
-  meeting-reads.Asked,
-  meeting-reads.Learnt,
-  is-whole-reads.Asked,
-  is-whole-reads.Learnt,
-  power-of-five-reads.Asked,
-  power-of-five-reads.Learnt,
-  block-end-reads.Asked,
-  block-end-reads.Learnt,
-  keep-reads.Asked,
-  keep-reads.Learnt,
-  of-reads.Asked,
-  of-reads.Learnt,
-  shrink-below t,
-  shrink.Post,
-  shrink-own-reads.Asked,
-  shrink-own-reads.Learnt,
-) (shrink-at t) shrink.Post
-shrink-same-length-4 t c = ?
+block-end-requires : (t : ℕ) → lts.Need-block-end-requires (claims t) (given t) own.Post
+block-end-requires t c κs = ?
 
--- src/shrink.rt:178:9
-shrink-returns-2 : (t : ℕ) → shrink-lts.Need-returns-2 (
-  has-one-slot-reads.Asked,
-  has-one-slot-reads.Learnt,
-  shrink-leaf-reads.Asked,
-  shrink-leaf-reads.Learnt,
-  narrow-reads.Asked,
-  narrow-reads.Learnt,
-  meeting-reads.Asked,
-  meeting-reads.Learnt,
-  is-whole-reads.Asked,
-  is-whole-reads.Learnt,
-  power-of-five-reads.Asked,
-  power-of-five-reads.Learnt,
-  block-end-reads.Asked,
-  block-end-reads.Learnt,
-  keep-reads.Asked,
-  keep-reads.Learnt,
-  of-reads.Asked,
-  of-reads.Learnt,
-  shrink-below t,
-  shrink.Post,
-  shrink-own-reads.Asked,
-  shrink-own-reads.Learnt,
-) (shrink-at t) shrink.Post
-shrink-returns-2 t c = ?
+keep-requires : (t : ℕ) → lts.Need-keep-requires (claims t) (given t) own.Post
+keep-requires t c κs = ?
 
--- src/shrink.rt:180:9
-shrink-of-requires : (t : ℕ) → shrink-lts.Need-of-requires (
-  has-one-slot-reads.Asked,
-  has-one-slot-reads.Learnt,
-  shrink-leaf-reads.Asked,
-  shrink-leaf-reads.Learnt,
-  narrow-reads.Asked,
-  narrow-reads.Learnt,
-  meeting-reads.Asked,
-  meeting-reads.Learnt,
-  is-whole-reads.Asked,
-  is-whole-reads.Learnt,
-  power-of-five-reads.Asked,
-  power-of-five-reads.Learnt,
-  block-end-reads.Asked,
-  block-end-reads.Learnt,
-  keep-reads.Asked,
-  keep-reads.Learnt,
-  of-reads.Asked,
-  of-reads.Learnt,
-  shrink-below t,
-  shrink.Post,
-  shrink-own-reads.Asked,
-  shrink-own-reads.Learnt,
-) (shrink-at t) shrink.Post
-shrink-of-requires t c κs = ?
+same-length-3 : (t : ℕ) → lts.Need-same-length-3 (claims t) (given t) own.Post
+same-length-3 t c = search needs
 
--- src/shrink.rt:191:9
-shrink-add-shrink : (t : ℕ) → shrink-lts.Need-add-shrink (
-  has-one-slot-reads.Asked,
-  has-one-slot-reads.Learnt,
-  shrink-leaf-reads.Asked,
-  shrink-leaf-reads.Learnt,
-  narrow-reads.Asked,
-  narrow-reads.Learnt,
-  meeting-reads.Asked,
-  meeting-reads.Learnt,
-  is-whole-reads.Asked,
-  is-whole-reads.Learnt,
-  power-of-five-reads.Asked,
-  power-of-five-reads.Learnt,
-  block-end-reads.Asked,
-  block-end-reads.Learnt,
-  keep-reads.Asked,
-  keep-reads.Learnt,
-  of-reads.Asked,
-  of-reads.Learnt,
-  shrink-below t,
-  shrink.Post,
-  shrink-own-reads.Asked,
-  shrink-own-reads.Learnt,
-) (shrink-at t) shrink.Post
-shrink-add-shrink t c = ?
+same-length-4 : (t : ℕ) → lts.Need-same-length-4 (claims t) (given t) own.Post
+same-length-4 t c = search needs
 
--- src/shrink.rt:193:9
-shrink-add-shrink-2 : (t : ℕ) → shrink-lts.Need-add-shrink-2 (
-  has-one-slot-reads.Asked,
-  has-one-slot-reads.Learnt,
-  shrink-leaf-reads.Asked,
-  shrink-leaf-reads.Learnt,
-  narrow-reads.Asked,
-  narrow-reads.Learnt,
-  meeting-reads.Asked,
-  meeting-reads.Learnt,
-  is-whole-reads.Asked,
-  is-whole-reads.Learnt,
-  power-of-five-reads.Asked,
-  power-of-five-reads.Learnt,
-  block-end-reads.Asked,
-  block-end-reads.Learnt,
-  keep-reads.Asked,
-  keep-reads.Learnt,
-  of-reads.Asked,
-  of-reads.Learnt,
-  shrink-below t,
-  shrink.Post,
-  shrink-own-reads.Asked,
-  shrink-own-reads.Learnt,
-) (shrink-at t) shrink.Post
-shrink-add-shrink-2 t c = ?
+returns-2 : (t : ℕ) → lts.Need-returns-2 (claims t) (given t) own.Post
+returns-2 t c = ?
 
--- src/shrink.rt:182:9
-shrink-shrink-requires : (t : ℕ) → shrink-lts.Need-shrink-requires (
-  has-one-slot-reads.Asked,
-  has-one-slot-reads.Learnt,
-  shrink-leaf-reads.Asked,
-  shrink-leaf-reads.Learnt,
-  narrow-reads.Asked,
-  narrow-reads.Learnt,
-  meeting-reads.Asked,
-  meeting-reads.Learnt,
-  is-whole-reads.Asked,
-  is-whole-reads.Learnt,
-  power-of-five-reads.Asked,
-  power-of-five-reads.Learnt,
-  block-end-reads.Asked,
-  block-end-reads.Learnt,
-  keep-reads.Asked,
-  keep-reads.Learnt,
-  of-reads.Asked,
-  of-reads.Learnt,
-  shrink-below t,
-  shrink.Post,
-  shrink-own-reads.Asked,
-  shrink-own-reads.Learnt,
-) (shrink-at t) shrink.Post
-shrink-shrink-requires t c κs = ?
+of-requires : (t : ℕ) → lts.Need-of-requires (claims t) (given t) own.Post
+of-requires t c κs = ?
 
--- src/shrink.rt:197:9
-shrink-shrink-requires-2 : (t : ℕ) → shrink-lts.Need-shrink-requires-2 (
-  has-one-slot-reads.Asked,
-  has-one-slot-reads.Learnt,
-  shrink-leaf-reads.Asked,
-  shrink-leaf-reads.Learnt,
-  narrow-reads.Asked,
-  narrow-reads.Learnt,
-  meeting-reads.Asked,
-  meeting-reads.Learnt,
-  is-whole-reads.Asked,
-  is-whole-reads.Learnt,
-  power-of-five-reads.Asked,
-  power-of-five-reads.Learnt,
-  block-end-reads.Asked,
-  block-end-reads.Learnt,
-  keep-reads.Asked,
-  keep-reads.Learnt,
-  of-reads.Asked,
-  of-reads.Learnt,
-  shrink-below t,
-  shrink.Post,
-  shrink-own-reads.Asked,
-  shrink-own-reads.Learnt,
-) (shrink-at t) shrink.Post
-shrink-shrink-requires-2 t c κs = ?
+add-at : (t : ℕ) → lts.Need-add-shrink (claims t) (given t) own.Post
+add-at t c = ?
 
--- src/shrink.rt:212:9
-shrink-shrink-requires-3 : (t : ℕ) → shrink-lts.Need-shrink-requires-3 (
-  has-one-slot-reads.Asked,
-  has-one-slot-reads.Learnt,
-  shrink-leaf-reads.Asked,
-  shrink-leaf-reads.Learnt,
-  narrow-reads.Asked,
-  narrow-reads.Learnt,
-  meeting-reads.Asked,
-  meeting-reads.Learnt,
-  is-whole-reads.Asked,
-  is-whole-reads.Learnt,
-  power-of-five-reads.Asked,
-  power-of-five-reads.Learnt,
-  block-end-reads.Asked,
-  block-end-reads.Learnt,
-  keep-reads.Asked,
-  keep-reads.Learnt,
-  of-reads.Asked,
-  of-reads.Learnt,
-  shrink-below t,
-  shrink.Post,
-  shrink-own-reads.Asked,
-  shrink-own-reads.Learnt,
-) (shrink-at t) shrink.Post
-shrink-shrink-requires-3 t c κs = ?
+add-place : (t : ℕ) → lts.Need-add-shrink-2 (claims t) (given t) own.Post
+add-place t c = ?
 
--- src/shrink.rt:227:9
-shrink-shrink-requires-4 : (t : ℕ) → shrink-lts.Need-shrink-requires-4 (
-  has-one-slot-reads.Asked,
-  has-one-slot-reads.Learnt,
-  shrink-leaf-reads.Asked,
-  shrink-leaf-reads.Learnt,
-  narrow-reads.Asked,
-  narrow-reads.Learnt,
-  meeting-reads.Asked,
-  meeting-reads.Learnt,
-  is-whole-reads.Asked,
-  is-whole-reads.Learnt,
-  power-of-five-reads.Asked,
-  power-of-five-reads.Learnt,
-  block-end-reads.Asked,
-  block-end-reads.Learnt,
-  keep-reads.Asked,
-  keep-reads.Learnt,
-  of-reads.Asked,
-  of-reads.Learnt,
-  shrink-below t,
-  shrink.Post,
-  shrink-own-reads.Asked,
-  shrink-own-reads.Learnt,
-) (shrink-at t) shrink.Post
-shrink-shrink-requires-4 t c κs = ?
+nw-requires : (t : ℕ) → lts.Need-shrink-requires (claims t) (given t) own.Post
+nw-requires t c κs = ?
 
--- src/shrink.rt:244:5
-shrink-shrink-own-requires : (t : ℕ) → shrink-lts.Need-shrink-own-requires (
-  has-one-slot-reads.Asked,
-  has-one-slot-reads.Learnt,
-  shrink-leaf-reads.Asked,
-  shrink-leaf-reads.Learnt,
-  narrow-reads.Asked,
-  narrow-reads.Learnt,
-  meeting-reads.Asked,
-  meeting-reads.Learnt,
-  is-whole-reads.Asked,
-  is-whole-reads.Learnt,
-  power-of-five-reads.Asked,
-  power-of-five-reads.Learnt,
-  block-end-reads.Asked,
-  block-end-reads.Learnt,
-  keep-reads.Asked,
-  keep-reads.Learnt,
-  of-reads.Asked,
-  of-reads.Learnt,
-  shrink-below t,
-  shrink.Post,
-  shrink-own-reads.Asked,
-  shrink-own-reads.Learnt,
-) (shrink-at t) shrink.Post
-shrink-shrink-own-requires t c κs = ?
+ne-requires : (t : ℕ) → lts.Need-shrink-requires-2 (claims t) (given t) own.Post
+ne-requires t c κs = ?
 
--- src/shrink.rt:137:1
-shrink-same-length-5 : (t : ℕ) → shrink-lts.Need-same-length-5 (
-  has-one-slot-reads.Asked,
-  has-one-slot-reads.Learnt,
-  shrink-leaf-reads.Asked,
-  shrink-leaf-reads.Learnt,
-  narrow-reads.Asked,
-  narrow-reads.Learnt,
-  meeting-reads.Asked,
-  meeting-reads.Learnt,
-  is-whole-reads.Asked,
-  is-whole-reads.Learnt,
-  power-of-five-reads.Asked,
-  power-of-five-reads.Learnt,
-  block-end-reads.Asked,
-  block-end-reads.Learnt,
-  keep-reads.Asked,
-  keep-reads.Learnt,
-  of-reads.Asked,
-  of-reads.Learnt,
-  shrink-below t,
-  shrink.Post,
-  shrink-own-reads.Asked,
-  shrink-own-reads.Learnt,
-) (shrink-at t) shrink.Post
-shrink-same-length-5 t c = ?
+sw-requires : (t : ℕ) → lts.Need-shrink-requires-3 (claims t) (given t) own.Post
+sw-requires t c κs = ?
 
--- src/shrink.rt:137:1
-shrink-same-length-6 : (t : ℕ) → shrink-lts.Need-same-length-6 (
-  has-one-slot-reads.Asked,
-  has-one-slot-reads.Learnt,
-  shrink-leaf-reads.Asked,
-  shrink-leaf-reads.Learnt,
-  narrow-reads.Asked,
-  narrow-reads.Learnt,
-  meeting-reads.Asked,
-  meeting-reads.Learnt,
-  is-whole-reads.Asked,
-  is-whole-reads.Learnt,
-  power-of-five-reads.Asked,
-  power-of-five-reads.Learnt,
-  block-end-reads.Asked,
-  block-end-reads.Learnt,
-  keep-reads.Asked,
-  keep-reads.Learnt,
-  of-reads.Asked,
-  of-reads.Learnt,
-  shrink-below t,
-  shrink.Post,
-  shrink-own-reads.Asked,
-  shrink-own-reads.Learnt,
-) (shrink-at t) shrink.Post
-shrink-same-length-6 t c = ?
+se-requires : (t : ℕ) → lts.Need-shrink-requires-4 (claims t) (given t) own.Post
+se-requires t c κs = ?
 
--- src/shrink.rt:137:1
-shrink-returns-3 : (t : ℕ) → shrink-lts.Need-returns-3 (
-  has-one-slot-reads.Asked,
-  has-one-slot-reads.Learnt,
-  shrink-leaf-reads.Asked,
-  shrink-leaf-reads.Learnt,
-  narrow-reads.Asked,
-  narrow-reads.Learnt,
-  meeting-reads.Asked,
-  meeting-reads.Learnt,
-  is-whole-reads.Asked,
-  is-whole-reads.Learnt,
-  power-of-five-reads.Asked,
-  power-of-five-reads.Learnt,
-  block-end-reads.Asked,
-  block-end-reads.Learnt,
-  keep-reads.Asked,
-  keep-reads.Learnt,
-  of-reads.Asked,
-  of-reads.Learnt,
-  shrink-below t,
-  shrink.Post,
-  shrink-own-reads.Asked,
-  shrink-own-reads.Learnt,
-) (shrink-at t) shrink.Post
-shrink-returns-3 t c = ?
+shrink-own-requires : (t : ℕ) → lts.Need-shrink-own-requires (claims t) (given t) own.Post
+shrink-own-requires t c κs = ?
+
+same-length-5 : (t : ℕ) → lts.Need-same-length-5 (claims t) (given t) own.Post
+same-length-5 t c = ?
+
+same-length-6 : (t : ℕ) → lts.Need-same-length-6 (claims t) (given t) own.Post
+same-length-6 t c = ?
+
+returns-3 : (t : ℕ) → lts.Need-returns-3 (claims t) (given t) own.Post
+returns-3 t c = ?
 
 pub +shrink-spec : {M : Type 1} → statement M
-+shrink-spec = close μ-shrink λ t. shrink-lts.spec (
-  has-one-slot-reads.Asked,
-  has-one-slot-reads.Learnt,
-  shrink-leaf-reads.Asked,
-  shrink-leaf-reads.Learnt,
-  narrow-reads.Asked,
-  narrow-reads.Learnt,
-  meeting-reads.Asked,
-  meeting-reads.Learnt,
-  is-whole-reads.Asked,
-  is-whole-reads.Learnt,
-  power-of-five-reads.Asked,
-  power-of-five-reads.Learnt,
-  block-end-reads.Asked,
-  block-end-reads.Learnt,
-  keep-reads.Asked,
-  keep-reads.Learnt,
-  of-reads.Asked,
-  of-reads.Learnt,
-  shrink-below t,
-  shrink.Post,
-  shrink-own-reads.Asked,
-  shrink-own-reads.Learnt,
-)
-    (shrink-at t)
-    shrink.Post
-    (shrink-mul-own t)
-    (shrink-slice-read-own t)
-    (shrink-has-one-slot-requires t)
-    (shrink-shrink-leaf-requires t)
-    (shrink-same-length t)
-    (shrink-same-length-2 t)
-    (shrink-returns t)
-    (shrink-narrow-requires t)
-    (shrink-meeting-requires t)
-    (shrink-is-whole-requires t)
-    (shrink-power-of-five-requires t)
-    (shrink-add-past t)
-    (shrink-block-end-requires t)
-    (shrink-keep-requires t)
-    (shrink-same-length-3 t)
-    (shrink-same-length-4 t)
-    (shrink-returns-2 t)
-    (shrink-of-requires t)
-    (shrink-add-shrink t)
-    (shrink-add-shrink-2 t)
-    (shrink-shrink-requires t)
-    (shrink-shrink-requires-2 t)
-    (shrink-shrink-requires-3 t)
-    (shrink-shrink-requires-4 t)
-    (shrink-shrink-own-requires t)
-    (shrink-same-length-5 t)
-    (shrink-same-length-6 t)
-    (shrink-returns-3 t)
++shrink-spec =
+    close measure
+    λ t. lts.spec (claims t)
+    (given t)
+    own.Post
+    (mul-own t)
+    (slice-read-own t)
+    (has-one-slot-requires t)
+    (shrink-leaf-requires t)
+    (same-length t)
+    (same-length-2 t)
+    (returns t)
+    (narrow-requires t)
+    (meeting-requires t)
+    (is-whole-requires t)
+    (power-of-five-requires t)
+    (add-past t)
+    (block-end-requires t)
+    (keep-requires t)
+    (same-length-3 t)
+    (same-length-4 t)
+    (returns-2 t)
+    (of-requires t)
+    (add-at t)
+    (add-place t)
+    (nw-requires t)
+    (ne-requires t)
+    (sw-requires t)
+    (se-requires t)
+    (shrink-own-requires t)
+    (same-length-5 t)
+    (same-length-6 t)
+    (returns-3 t)
