@@ -169,35 +169,36 @@ module _ (t : Step) {m k r c κ at n place : ℕ} {ks bs : List ℕ} {q : Quarte
             holds = λ p s. rw up (all-four t p (k - 1) r c κ (above p s) (a .order) (several p s) g₁ g₂ g₃ g₄ o);
           }
 
--- a leaf and a block that one look settles
-module _ (t : Step) {m k r c κ at n place : ℕ} {ks bs : List ℕ} (a : ShrinkAsked m k r c κ ks bs at n place) where
+-- what is asked for a leaf, and for a block that one look settles
+module _ {m k r c κ at n place : ℕ} {ks bs : List ℕ} (a : ShrinkAsked m k r c κ ks bs at n place) where
   pub asked-room : (at < length ks) × (at < length bs)
   asked-room = let h = shown-some (a .shown .picture) k r c κ (a .shown .shown) in omega (arith, a .shown .shown .in-keys, a .shown .shown .in-bits)
 
   pub leaf-room : OneAsked ks bs at place
   leaf-room = let h = asked-room in record { order = a .order; in-keys = h .0; in-bits = h .1 }
 
-  pub gives-leaf : {ks′ bs′ : List ℕ} {union next place′ : ℕ} → oneSlot (getD bs at 0) ≡ true → LeafShrunk t (getD bs at 0) k r c κ ks bs at place ks′ bs′ union next place′
-      → Shrinks t k r c κ ks bs at n place ks′ bs′ union next place′
-  gives-leaf one x = record { holds = λ p s. single-left t p k r c κ (getD bs at 0) s (a .order) (shown-own p k r c κ s) one x }
-
   module _ {past : ℕ} (e : past ≡ κ + 5 ^ k) where
     pub asks-end : EndAsked ks at n past
     asks-end = end-asked (a .shown .picture) k r c κ (a .shown .shown) e
 
-    module _ {next : ℕ} (found : next ≡ at + keysBelow past (take (n - at) (drop at ks))) where
-      pub asks-keep : KeepAsked ks bs at next place
-      asks-keep =
-          let p = a .shown .picture in
-          let s = a .shown .shown in
-          let z = end-found p k r c κ s e in
-          let some = list-some p k r c κ in
-          let w = shown-within s some in
-          record { order = a .order; some = omega arith; in-keys = omega (arith, s .in-keys); in-bits = omega (arith, s .in-bits) }
+    pub asks-keep : {next : ℕ} → next ≡ at + keysBelow past (take (n - at) (drop at ks)) → KeepAsked ks bs at next place
+    asks-keep found =
+        let p = a .shown .picture in
+        let s = a .shown .shown in
+        let z = end-found p k r c κ s e in
+        let some = list-some p k r c κ in
+        let w = shown-within s some in
+        record { order = a .order; some = omega arith; in-keys = omega (arith, s .in-keys); in-bits = omega (arith, s .in-bits) }
 
-      pub gives-whole : {meeting : Meeting} {lks lvs ks′ bs′ : List ℕ} {union next′ place′ : ℕ} → Met t lks lvs k r c κ meeting → isWhole meeting ≡ true
-          → Kept meeting κ (getD bs at 0) ks bs at next place ks′ bs′ union next′ place′
-          → Shrinks t k r c κ ks bs at n place ks′ bs′ union next′ place′
-      gives-whole {meeting} h w x = record {
-        holds = λ p s. whole-left t p k r c κ s (a .order) (found ∙ ap (λ i. at + i) (end-found p k r c κ s e)) meeting h w (shown-own p k r c κ s) x;
-      }
+-- what they give
+module _ (t : Step) {m k r c κ at n place : ℕ} {ks bs ks′ bs′ : List ℕ} {union next′ place′ : ℕ} (a : ShrinkAsked m k r c κ ks bs at n place) where
+  pub gives-leaf : oneSlot (getD bs at 0) ≡ true → LeafShrunk t (getD bs at 0) k r c κ ks bs at place ks′ bs′ union next′ place′
+      → Shrinks t k r c κ ks bs at n place ks′ bs′ union next′ place′
+  gives-leaf one x = record { holds = λ p s. single-left t p k r c κ (getD bs at 0) s (a .order) (shown-own p k r c κ s) one x }
+
+  pub gives-whole : {past next : ℕ} {meeting : Meeting} {lks lvs : List ℕ} → past ≡ κ + 5 ^ k → next ≡ at + keysBelow past (take (n - at) (drop at ks))
+      → Met t lks lvs k r c κ meeting → isWhole meeting ≡ true → Kept meeting κ (getD bs at 0) ks bs at next place ks′ bs′ union next′ place′
+      → Shrinks t k r c κ ks bs at n place ks′ bs′ union next′ place′
+  gives-whole {meeting = meeting} e found h w x = record {
+    holds = λ p s. whole-left t p k r c κ s (a .order) (found ∙ ap (λ i. at + i) (end-found p k r c κ s e)) meeting h w (shown-own p k r c κ s) x;
+  }
