@@ -4,6 +4,7 @@ pub mod Forward
 pub mod Narrowed
 pub mod ShownBlocks
 pub mod BlockEnds
+pub mod Known
 pub mod TallySteps
 pub mod SpreadSteps
 pub mod LeafWritten
