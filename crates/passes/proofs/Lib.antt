@@ -6,6 +6,7 @@ pub mod BlockEnds
 pub mod Forward
 pub mod ShrinkLaws
 pub mod ShrinkSteps
+pub mod Known
 pub mod TallySteps
 pub mod SpreadSteps
 pub mod LeafWritten

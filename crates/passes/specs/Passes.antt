@@ -44,11 +44,8 @@ pub record BlockCounted (t : Step) (height row column key : ℕ) (keys bits : Li
   pub passed : (p : Picture) → ShowingBlock p height row column key keys bits at n → next ≡ at + length (listOf p height row column key)
 
 -- the content that a meeting names is there to be read
-abbrev pub Readable : Meeting → (logValues : List ℕ) → Type 0
-Readable Apart vs = Unit {0}
-Readable (Leaf bits) vs = Unit {0}
-Readable (Content start count) vs = start < length vs
-Readable Cut vs = Unit {0}
+pub record Readable (meeting : Meeting) (logValues : List ℕ) : Type 0 where
+  pub starts : (start count : ℕ) → meeting ≡ Content start count → start < length logValues
 
 -- the bits and the number of records of a block that has its own before the step; none where the quadrants have to be asked
 abbrev pub knownOf : Meeting → (own records : ℕ) (logValues : List ℕ) → Tally

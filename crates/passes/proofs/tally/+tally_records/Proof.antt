@@ -14,8 +14,10 @@ use Rattle.passes.specs.Passes.{Shown}
 use Rattle.step.specs.Step.{Step}
 use Rattle.step.proofs.QuarterSums.{divisible, narrow-room, lower-than}
 use Rattle.passes.proofs.Narrowed.{narrowed-counted}
-use Rattle.passes.proofs.RenewSteps.{asked-room, asked-positive}
-use Rattle.passes.proofs.TallySteps.{asks-nw, asks-ne, asks-sw, asks-se, gives-node, leaf-counted, counted-small, leaf-shown}
+use Rattle.passes.proofs.ShownBlocks.{shown-some, shown-positive}
+use Rattle.passes.proofs.BlockEnds.{end-asked}
+use Rattle.passes.proofs.Known.{met-readable}
+use Rattle.passes.proofs.TallySteps.{asks-nw, asks-ne, asks-sw, asks-se, gives-node, leaf-counted, over-counted, counted-small, leaf-shown}
 use Rattle.build.proofs.count.joined.Reads as joined
 use Rattle.passes.proofs.tally.tally_records.Reads as own
 use Rattle.passes.proofs.tally.tally_records.Kinds as kinds
@@ -23,26 +25,30 @@ use Rattle.passes.proofs.tally.+tally_records.Lts-tally_records as lts
 use Rattle.list.proofs.check.has_one_slot.Reads as has-one-slot
 use Rattle.passes.proofs.tally.tally_leaf.Reads as tally-leaf
 use Rattle.step.proofs.deed.narrow.Reads as narrow
+use Rattle.step.proofs.deed.meeting.Reads as meeting
+use Rattle.step.proofs.meeting.is_cut.Reads as is-cut
+use Rattle.keys.proofs.power.power_of_five.Reads as power-of-five
+use Rattle.passes.proofs.tally.pass_over.Reads as pass-over
 use Rattle.step.proofs.quarters.of.Reads as quarters
 use Rattle.passes.proofs.tally.+tally_records.{statement}
 use Rattle.passes.proofs.tally.+tally_records.Tie.{close}
 
-abbrev measure : Measures 3 kinds.ps ℕ
+abbrev measure : Measures 4 kinds.ps ℕ
 measure κs a = a .1 .1 .1 .1 .0
 
-abbrev given : ℕ → In 3 kinds.ps
-given t = and 3 kinds.ps (is 3 kinds.ps measure t) own.Pre
+abbrev given : ℕ → In 4 kinds.ps
+given t = and 4 kinds.ps (is 4 kinds.ps measure t) own.Pre
 
-abbrev below : ℕ → In 3 kinds.ps
-below t = and 3 kinds.ps (falls 3 kinds.ps _<_ measure t) own.Pre
+abbrev below : ℕ → In 4 kinds.ps
+below t = and 4 kinds.ps (falls 4 kinds.ps _<_ measure t) own.Pre
 
 abbrev claims : ℕ → lts.Claims
-claims t = (has-one-slot.Asked, has-one-slot.Learnt, tally-leaf.Asked, tally-leaf.Learnt, narrow.Asked, narrow.Learnt, quarters.Asked, quarters.Learnt, below t, own.Post, joined.Asked, joined.Learnt)
+claims t = (has-one-slot.Asked, has-one-slot.Learnt, tally-leaf.Asked, tally-leaf.Learnt, narrow.Asked, narrow.Learnt, meeting.Asked, meeting.Learnt, is-cut.Asked, is-cut.Learnt, power-of-five.Asked, power-of-five.Learnt, pass-over.Asked, pass-over.Learnt, quarters.Asked, quarters.Learnt, below t, own.Post, joined.Asked, joined.Learnt)
 
 abbrev Start : ℕ → Type 0
 Start t = lts.Start (claims t) (given t) own.Post
 
-shown : (t : ℕ) (c : Start t) → Shown (c .args .m) (c .args .height) (c .args .row) (c .args .column) (c .args .key) (c .args .bits .now) (c .args .at)
+shown : (t : ℕ) (c : Start t) → Shown (c .args .m) (c .args .height) (c .args .row) (c .args .column) (c .args .key) (c .args .keys .now) (c .args .bits .now) (c .args .at) (c .args .n)
 shown t c = c .pre .1 .1
 
 -- once the block is known to be a node
@@ -66,7 +72,7 @@ abbrev step : (t : ℕ) → Quartered t → Step
 step t c = stepOf (from-quarters t c .args .m) (c .before .narrow .result) (from-quarters t c .args .log-keys .now) (from-quarters t c .args .log-values .now)
 
 falling : (t : ℕ) (c : Quartered t) → c .of .result .height < t
-falling t c = lower-than _ _ _ (c .of .ensures) (asked-positive (shown t (from-quarters t c)) (node t (c .before .before))) (from-quarters t c .pre .0)
+falling t c = lower-than _ _ _ (c .of .ensures) (shown-positive (shown t (from-quarters t c)) (node t (c .before .before))) (from-quarters t c .pre .0)
 
 mul-own : (t : ℕ) → lts.Need-mul-own (claims t) (given t) own.Post
 mul-own t c = let h = asked-room (shown t (c .before .before .before)) in omega (arith, h)
@@ -90,7 +96,7 @@ narrow-requires : (t : ℕ) → lts.Need-narrow-requires (claims t) (given t) ow
 narrow-requires t c κs = let q = from-node t c in let n = narrow-room (shown t q .deep) (shown t q .block) in (q .pre .1 .0, n .0, n .1)
 
 of-requires : (t : ℕ) → lts.Need-of-requires (claims t) (given t) own.Post
-of-requires t c κs = let a = shown t (from-node t (c .before)) in divisible (a .deep) (a .block) (asked-positive a (node t (c .before)))
+of-requires t c κs = let a = shown t (from-node t (c .before)) in divisible (a .deep) (a .block) (shown-positive a (node t (c .before)))
 
 add-first : (t : ℕ) → lts.Need-add-tally-records (claims t) (given t) own.Post
 add-first t c = let h = asked-room (shown t (from-quarters t c)) in omega (arith, h, from-quarters t c .good)
