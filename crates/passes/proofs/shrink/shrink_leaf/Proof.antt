@@ -1,6 +1,4 @@
 -- `shrink_leaf` meets its contract: the leaf is counted, and one record is written.
-use mathlib.Core.Path.{refl, sym, _∙_, ap}
-use native.Mathlib.Omega.{arith}
 use borrow.Author.Needs.{needs}
 use Rattle.passes.proofs.ShrinkLaws.{leaf-shrunk}
 use Rattle.passes.proofs.shrink.shrink_leaf.Statement.{statement}
@@ -37,7 +35,7 @@ same-length-2 : tie.Need-same-length-2
 same-length-2 c = search needs
 
 returns : tie.Need-returns
-returns c = ?
+returns c = leaf-shrunk _ _ (c .before .before .before .before .before .before .pre .0 .1 .leaf) (c .before .tally-leaf .ensures) (c .bits-left .ensures)
 
 pub shrink-leaf-spec : {M : Type 1} → statement M
 shrink-leaf-spec =
