@@ -8,6 +8,7 @@ pub mod Known
 pub mod TallySteps
 pub mod SpreadSteps
 pub mod LeafWritten
+pub mod LaidContent
 pub mod Waiting
 pub mod PrunedBlock
 pub mod GrowSteps
