@@ -45,7 +45,7 @@ module _ {t : Step} {ks vs : List ℕ} {k r c κ start count : ℕ} (x : Replace
   content-first =
       ap (λ i. getD vs i 0) (sym (add-zero start))
       ∙ sym (getD-drop start vs 0 0)
-      ∙ sym (getD-take count (drop start vs) 0 0 (x .some))
+      ∙ sym (getD-take count (drop start vs) 0 0 (omega (arith, x .several)))
       ∙ ap (λ l. getD l 0 0) (sym (run-values ks vs start count there))
       ∙ ap (λ l. getD (valuesOf l) 0 0) (x .is p ∙ list-first (over t p) k r c κ .1)
 
@@ -66,7 +66,7 @@ known-tallied {t} {ks} {vs} {k} {r} {c} {κ} {own} {records} {meeting} {tally} p
 
 -- the content that a meeting names is there
 pub met-readable : {t : Step} {ks vs : List ℕ} {k r c κ : ℕ} {meeting : Meeting} → Met t ks vs k r c κ meeting → Readable meeting vs
-met-readable x = record { starts = λ start count e. let y = met-content x e in omega (arith, y .some, y .in-values) }
+met-readable x = record { starts = λ start count e. let y = met-content x e in omega (arith, y .several, y .in-values) }
 
 -- a leaf by its own bits
 pub leaf-bits : (own k r c : ℕ) → oneSlot own ≡ true → own ≡ bitsOf (plain (featureOf own)) k r c

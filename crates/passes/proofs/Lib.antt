@@ -10,6 +10,7 @@ pub mod Known
 pub mod TallySteps
 pub mod SpreadSteps
 pub mod LeafWritten
+pub mod LaidContent
 pub mod Waiting
 pub mod PrunedBlock
 pub mod GrowSteps

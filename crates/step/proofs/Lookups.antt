@@ -8,7 +8,7 @@ use native.Mathlib.Nat.{add-zero}
 use native.Mathlib.Omega.{arith}
 use lib.ListN.{length, getD, take, drop, length-drop}
 use lib.Dec.{eqb}
-use borrow.Author.Tests.{eqb-true}
+use borrow.Author.Tests.{eqb-true, eqb-false}
 use lib.Seq.{getD-take, getD-drop, length-take-le, take-all}
 use Rattle.keys.specs.Key.{heightOf}
 use Rattle.keys.specs.Block.{rowOf, columnOf, inInterval}
@@ -175,7 +175,7 @@ module _ {m s : ℕ} {ks vs : List ℕ} {start end : ℕ} (x : Ends m s ks vs st
           let held = last-held h in
           decide (eqb (last .count) 1)
           (λ i. rw i (record { told = covers-leaf t (pictureOf m content) over first-value (ap oneSlot first-value ∙ one-only (eqb-true (last .count) 1 i)) }))
-          (λ i. rw i (record { told = covers-list t (pictureOf m content) over (held .sorted .some) (held .in-keys) (held .in-values) own-list }))
+          (λ i. rw i (record { told = covers-list t (pictureOf m content) over (let n = held .sorted .some in let j = eqb-false (last .count) 1 i in omega arith) (held .in-keys) (held .in-values) own-list }))
 
     pub back-meets : Met t ks vs k r c κ (givenBy true ks vs κ last)
     unfolding givenBy

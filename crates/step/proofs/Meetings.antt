@@ -49,10 +49,10 @@ pub plain-bits : (f k r c : ℕ) → 2 ^ f ≡ bitsOf (plain f) k r c
 plain-bits f k r c = sym (bits-one (plain f) k r c (one-from (plain f) f k r c (λ a b w. refl)))
 
 -- a list that stands in the log
-pub covers-list : (t : Step) (q : Picture) {ks vs : List ℕ} {k r c κ start count : ℕ} → Covers t q k r c → 0 < count → start + count ≤ length ks → start + count ≤ length vs
+pub covers-list : (t : Step) (q : Picture) {ks vs : List ℕ} {k r c κ start count : ℕ} → Covers t q k r c → 1 < count → start + count ≤ length ks → start + count ≤ length vs
     → run ks vs start count ≡ listOf q k r c κ → Replaced t ks vs k r c κ start count
-covers-list t q {k = k} {r} {c} {κ} h some i j e = record {
-  some = some;
+covers-list t q {k = k} {r} {c} {κ} h several i j e = record {
+  several = several;
   in-keys = i;
   in-values = j;
   is = λ p. e ∙ list-agree q (over t p) k r c κ (covers-over t q p k r c h);
@@ -75,7 +75,7 @@ by-same : (t t′ : Step) (ks vs : List ℕ) (k r c κ : ℕ) (meeting : Meeting
 by-same t t′ ks vs k r c κ Apart h x = λ a b w. sym (h a b w .0) ∙ x a b w
 by-same t t′ ks vs k r c κ (Leaf bits) h x = λ p. tallied-agree (over t p) (over t′ p) (same-over t t′ p k r c h) (x p)
 by-same t t′ ks vs k r c κ (Content start count) h x = record {
-  some = x .some;
+  several = x .several;
   in-keys = x .in-keys;
   in-values = x .in-values;
   is = λ p. x .is p ∙ list-agree (over t p) (over t′ p) k r c κ (same-over t t′ p k r c h);

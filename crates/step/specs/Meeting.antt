@@ -27,9 +27,9 @@ Untouched t height row column = Every (λ a b. t .touches a b ≡ false) height 
 abbrev pub OneLeaf : (t : Step) (height row column bits : ℕ) → Type 0
 OneLeaf t height row column bits = (p : Picture) → Tallied (over t p) height row column bits 1
 
--- its list becomes the records of the log from a place on
+-- its list becomes the records of the log from a place on, two or more
 pub record Replaced (t : Step) (logKeys logValues : List ℕ) (height row column key start count : ℕ) : Type 0 where
-  pub some : 0 < count
+  pub several : 1 < count
   pub in-keys : start + count ≤ length logKeys
   pub in-values : start + count ≤ length logValues
   pub is : (p : Picture) → run logKeys logValues start count ≡ listOf (over t p) height row column key

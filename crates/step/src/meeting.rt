@@ -7,7 +7,7 @@ pub enum Meeting {
     Apart,
     // It becomes one leaf, with these bits.
     Leaf(u32),
-    // Its list becomes the records of the log from a place on, so many.
+    // Its list becomes the records of the log from a place on, so many, two or more.
     Content(usize, usize),
     // Its quadrants have to be asked.
     Cut,
