@@ -13,6 +13,7 @@ pub mod LeafWritten
 pub mod LaidContent
 pub mod Waiting
 pub mod PrunedBlock
+pub mod Sliding
 pub mod GrowSteps
 pub mod GrowQuarters
 pub mod Assembled
