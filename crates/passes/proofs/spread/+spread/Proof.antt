@@ -2,6 +2,8 @@
 use Prim.Native.Nat.{ℕ, suc, _+_, _-_, _*_, _^_, _≤_, _<_}
 use mathlib.Core.Path.{_≡_, refl, sym, _∙_, ap}
 use native.Mathlib.Omega.{arith}
+use borrow.Author.Needs.{needs}
+use borrow.Author.Tests.{not-true, not-false}
 use borrow.Fn.Kinds.{In}
 use borrow.Fn.PlainCycle.{Measures, is, falls, and}
 use Rattle.keys.proofs.Interval.{within}
@@ -12,14 +14,17 @@ use Rattle.step.specs.Step.{over, plain}
 use Rattle.step.specs.Deed.{stepOf, LeafAsked}
 use Rattle.step.proofs.QuarterSums.{divisible, narrow-room, lower-than}
 use Rattle.step.proofs.LeafTally.{leaf-nw, leaf-ne, leaf-sw, leaf-se}
-use Rattle.passes.proofs.LeafWritten.{count-one}
+use Rattle.step.proofs.Meetings.{met-cut}
+use Rattle.passes.proofs.LaidContent.{met-layable, laid-written}
 use Rattle.passes.proofs.Narrowed.{narrowed-fitting, narrowed-written}
 use Rattle.passes.proofs.SpreadSteps.{spreads-nw, spreads-ne, spreads-sw, spreads-se, spreads-four, spread-all}
 use Rattle.passes.proofs.spread.spread.Reads as own
 use Rattle.passes.proofs.spread.spread.Kinds as kinds
 use Rattle.passes.proofs.spread.+spread.Lts-spread as lts
 use Rattle.step.proofs.deed.narrow.Reads as narrow
-use Rattle.step.proofs.deed.settled.Reads as settled
+use Rattle.step.proofs.deed.meeting.Reads as meeting
+use Rattle.step.proofs.meeting.is_cut.Reads as is-cut
+use Rattle.passes.proofs.spread.lay.Reads as lay
 use Rattle.step.proofs.quarters.of.Reads as quarters
 use Rattle.build.proofs.write.write_four.Reads as write-four
 use Rattle.passes.proofs.spread.+spread.{statement}
@@ -36,7 +41,7 @@ abbrev below : ℕ → In 4 kinds.ps
 below t = and 4 kinds.ps (falls 4 kinds.ps _<_ measure t) own.Pre
 
 abbrev claims : ℕ → lts.Claims
-claims t = (narrow.Asked, narrow.Learnt, settled.Asked, settled.Learnt, quarters.Asked, quarters.Learnt, below t, own.Post, write-four.Asked, write-four.Learnt)
+claims t = (narrow.Asked, narrow.Learnt, meeting.Asked, meeting.Learnt, is-cut.Asked, is-cut.Learnt, lay.Asked, lay.Learnt, quarters.Asked, quarters.Learnt, below t, own.Post, write-four.Asked, write-four.Learnt)
 
 abbrev Start : ℕ → Type 0
 Start t = lts.Start (claims t) (given t) own.Post
@@ -52,26 +57,26 @@ abbrev Quartered : ℕ → Type 0
 Quartered t = lts.After-of (claims t) (given t) own.Post
 
 abbrev start : (t : ℕ) → Quartered t → Start t
-start t c = c .before .before .before .before .before .before .before .before
+start t c = c .before .before .before .before .before .before .before .before .before
 
 abbrev picture : (t : ℕ) → Quartered t → Picture
-picture t c = over (stepOf (start t c .args .m) (c .before .before .before .narrow .result) (start t c .args .log-keys .now) (start t c .args .log-values .now)) (plain (featureOf (start t c .args .own)))
+picture t c = over (stepOf (start t c .args .m) (c .before .before .before .before .narrow .result) (start t c .args .log-keys .now) (start t c .args .log-values .now)) (plain (featureOf (start t c .args .own)))
 
-positive : (t : ℕ) (c : Divided t) → 0 < c .before .before .before .before .before .before .before .args .height
-positive t c = c .before .settled .ensures .parts (c .if1 .left)
+positive : (t : ℕ) (c : Divided t) → 0 < c .before .before .before .before .before .before .before .before .args .height
+positive t c = met-cut (c .before .before .meeting .ensures) (sym (c .before .is-cut .ensures) ∙ not-false _ (c .if1 .left))
 
 -- once one, two, three and all quadrants are written, and the way back from there
 abbrev Once : ℕ → Type 0
-Once t = lts.After-slice-known4 (claims t) (given t) own.Post
+Once t = lts.After-slice-known6 (claims t) (given t) own.Post
 
 abbrev Twice : ℕ → Type 0
-Twice t = lts.After-slice-known6 (claims t) (given t) own.Post
+Twice t = lts.After-slice-known8 (claims t) (given t) own.Post
 
 abbrev Thrice : ℕ → Type 0
-Thrice t = lts.After-slice-known8 (claims t) (given t) own.Post
+Thrice t = lts.After-slice-known10 (claims t) (given t) own.Post
 
 abbrev All : ℕ → Type 0
-All t = lts.After-slice-known10 (claims t) (given t) own.Post
+All t = lts.After-slice-known12 (claims t) (given t) own.Post
 
 abbrev from-once : (t : ℕ) → Once t → Quartered t
 from-once t c = c .before .before .before .before .before .before .before
@@ -90,7 +95,7 @@ module _ (t : ℕ) (c : Quartered t) where
   has-quarters = positive t (c .before)
 
   room : Fitting (picture t c) (start t c .args .height) (start t c .args .row) (start t c .args .column) (start t c .args .key) (start t c .args .place) (start t c .args .keys .now) (start t c .args .bits .now)
-  room = narrowed-fitting (c .before .before .before .narrow .ensures .same) (leaf t (start t c) .block) (omega arith) _ (start t c .pre .1 .1)
+  room = narrowed-fitting (c .before .before .before .before .narrow .ensures .same) (leaf t (start t c) .block) (omega arith) _ (start t c .pre .1 .1)
 
   falling : c .of .result .height < t
   falling = lower-than _ _ _ (c .of .ensures) has-quarters (start t c .pre .0)
@@ -98,27 +103,44 @@ module _ (t : ℕ) (c : Quartered t) where
 narrow-requires : (t : ℕ) → lts.Need-narrow-requires (claims t) (given t) own.Post
 narrow-requires t c κs = let q = c .before .before .before .before in let n = narrow-room (leaf t q .deep) (leaf t q .block) in (q .pre .1 .0 .0, n .0, n .1)
 
-settled-requires : (t : ℕ) → lts.Need-settled-requires (claims t) (given t) own.Post
-settled-requires t c κs = (c .narrow .ensures .doable, leaf t (c .before .before .before .before .before))
+meeting-requires : (t : ℕ) → lts.Need-meeting-requires (claims t) (given t) own.Post
+meeting-requires t c κs = let a = leaf t (c .before .before .before .before .before) in (c .narrow .ensures .doable, record { deep = a .deep; block = a .block })
 
-add-first : (t : ℕ) → lts.Need-add-first (claims t) (given t) own.Post
-add-first t c = let f = c .before .before .before .before .before .before .pre .1 .1 in omega (arith, f .key-fits, f .place-fits)
+is-cut-requires : (t : ℕ) → lts.Need-is-cut-requires (claims t) (given t) own.Post
+is-cut-requires t c κs = search needs
+
+lay-requires : (t : ℕ) → lts.Need-lay-requires (claims t) (given t) own.Post
+lay-requires t c κs =
+    let x = c .before .before .before .before in
+    let q = x .before .before .before .before .before .before in
+    met-layable (x .meeting .ensures) _ (narrowed-fitting (x .before .narrow .ensures .same) (leaf t q .block) (omega arith) _ (q .pre .1 .1))
+
+same-length : (t : ℕ) → lts.Need-same-length (claims t) (given t) own.Post
+same-length t c = c .before .before .before .before .lay .kept .1 .1 .1 .1 .1 .0
+
+same-length-2 : (t : ℕ) → lts.Need-same-length-2 (claims t) (given t) own.Post
+same-length-2 t c = c .before .before .before .before .lay .kept .1 .1 .1 .1 .1 .1 .0
 
 returns : (t : ℕ) → lts.Need-returns (claims t) (given t) own.Post
 returns t c =
-    let q = c .before .before .before .before .before .before .before in
-    narrowed-written (c .before .before .narrow .ensures .same) (leaf t q .block) (omega arith) _
-    (count-one _ _ _ _ (c .before .settled .ensures .stays (c .if1 .taken)) refl)
+    let d = c .before .before .before .before .before .before .before in
+    let x = d .before .before in
+    let q = x .before .before .before .before .before .before in
+    narrowed-written (x .before .narrow .ensures .same) (leaf t q .block) (omega arith) _
+    (laid-written (leaf t q .leaf) (x .meeting .ensures) (sym (d .before .is-cut .ensures) ∙ not-true _ (d .if1 .taken)) (c .before .before .before .before .lay .ensures))
+
+add-first : (t : ℕ) → lts.Need-add-first (claims t) (given t) own.Post
+add-first t c = let f = c .before .before .before .before .before .before .before .before .pre .1 .1 in omega (arith, f .key-fits, f .place-fits)
 
 of-requires : (t : ℕ) → lts.Need-of-requires (claims t) (given t) own.Post
-of-requires t c κs = let a = leaf t (c .before .before .before .before .before .before .before) in divisible (a .deep) (a .block) (positive t c)
+of-requires t c κs = let a = leaf t (c .before .before .before .before .before .before .before .before) in divisible (a .deep) (a .block) (positive t c)
 
 nw-requires : (t : ℕ) → lts.Need-spread-requires (claims t) (given t) own.Post
 nw-requires t c κs =
     let d = c .before .before in (
       falling t d,
       (
-        (d .before .before .before .narrow .ensures .doable, leaf-nw (d .of .ensures) (leaf t (start t d)) (has-quarters t d)),
+        (d .before .before .before .before .narrow .ensures .doable, leaf-nw (d .of .ensures) (leaf t (start t d)) (has-quarters t d)),
         spreads-nw _ (d .of .ensures) (has-quarters t d) (room t d),
       ),
     )
@@ -129,7 +151,7 @@ ne-requires t c κs =
     let d = from-once t a in (
       falling t d,
       (
-        (d .before .before .before .narrow .ensures .doable, leaf-ne (d .of .ensures) (leaf t (start t d)) (has-quarters t d)),
+        (d .before .before .before .before .narrow .ensures .doable, leaf-ne (d .of .ensures) (leaf t (start t d)) (has-quarters t d)),
         spreads-ne _ (d .of .ensures) (has-quarters t d) (room t d) (a .before .before .before .before .spread .ensures),
       ),
     )
@@ -141,7 +163,7 @@ sw-requires t c κs =
     let d = from-once t a in (
       falling t d,
       (
-        (d .before .before .before .narrow .ensures .doable, leaf-sw (d .of .ensures) (leaf t (start t d)) (has-quarters t d)),
+        (d .before .before .before .before .narrow .ensures .doable, leaf-sw (d .of .ensures) (leaf t (start t d)) (has-quarters t d)),
         spreads-sw _ (d .of .ensures) (has-quarters t d) (room t d) (a .before .before .before .before .spread .ensures) (b .before .before .before .before .spread2 .ensures),
       ),
     )
@@ -154,7 +176,7 @@ se-requires t c κs =
     let d = from-once t a in (
       falling t d,
       (
-        (d .before .before .before .narrow .ensures .doable, leaf-se (d .of .ensures) (leaf t (start t d)) (has-quarters t d)),
+        (d .before .before .before .before .narrow .ensures .doable, leaf-se (d .of .ensures) (leaf t (start t d)) (has-quarters t d)),
         spreads-se _ (d .of .ensures) (has-quarters t d) (room t d) (a .before .before .before .before .spread .ensures) (b .before .before .before .before .spread2 .ensures) (g .before .before .before .before .spread3 .ensures),
       ),
     )
@@ -168,8 +190,8 @@ write-four-requires t c κs =
     let d = from-once t a in
     spreads-four _ (d .of .ensures) (has-quarters t d) (room t d) (a .before .before .before .before .spread .ensures) (b .before .before .before .before .spread2 .ensures) (g .before .before .before .before .spread3 .ensures) (h .before .before .before .before .spread4 .ensures)
 
-same-length : (t : ℕ) → lts.Need-same-length (claims t) (given t) own.Post
-same-length t c =
+same-length-3 : (t : ℕ) → lts.Need-same-length-3 (claims t) (given t) own.Post
+same-length-3 t c =
     let h = c .before .before .before .before .before .before .before in
     let g = from-all t h in
     let b = from-thrice t g in
@@ -180,8 +202,8 @@ same-length t c =
     ∙ b .before .before .before .before .spread2 .kept .1 .1 .1 .1 .1 .1 .1 .1 .1 .1 .0
     ∙ a .before .before .before .before .spread .kept .1 .1 .1 .1 .1 .1 .1 .1 .1 .1 .0
 
-same-length-2 : (t : ℕ) → lts.Need-same-length-2 (claims t) (given t) own.Post
-same-length-2 t c =
+same-length-4 : (t : ℕ) → lts.Need-same-length-4 (claims t) (given t) own.Post
+same-length-4 t c =
     let h = c .before .before .before .before .before .before .before in
     let g = from-all t h in
     let b = from-thrice t g in
@@ -199,7 +221,7 @@ returns-2 t c =
     let b = from-thrice t g in
     let a = from-twice t b in
     let d = from-once t a in
-    narrowed-written (d .before .before .before .narrow .ensures .same) (leaf t (start t d) .block) (omega arith) _
+    narrowed-written (d .before .before .before .before .narrow .ensures .same) (leaf t (start t d) .block) (omega arith) _
     (spread-all _ (d .of .ensures) (has-quarters t d) (room t d) (a .before .before .before .before .spread .ensures) (b .before .before .before .before .spread2 .ensures) (g .before .before .before .before .spread3 .ensures) (h .before .before .before .before .spread4 .ensures) (c .before .before .before .before .write-four .ensures))
 
 pub +spread-spec : {M : Type 1} → statement M
@@ -209,15 +231,19 @@ pub +spread-spec : {M : Type 1} → statement M
     (given t)
     own.Post
     (narrow-requires t)
-    (settled-requires t)
-    (add-first t)
+    (meeting-requires t)
+    (is-cut-requires t)
+    (lay-requires t)
+    (same-length t)
+    (same-length-2 t)
     (returns t)
+    (add-first t)
     (of-requires t)
     (nw-requires t)
     (ne-requires t)
     (sw-requires t)
     (se-requires t)
     (write-four-requires t)
-    (same-length t)
-    (same-length-2 t)
+    (same-length-3 t)
+    (same-length-4 t)
     (returns-2 t)
