@@ -1,9 +1,11 @@
 pub mod Runs
 pub mod FourParts
-pub mod Forward
 pub mod Narrowed
 pub mod ShownBlocks
 pub mod BlockEnds
+pub mod Forward
+pub mod ShrinkLaws
+pub mod ShrinkSteps
 pub mod Known
 pub mod TallySteps
 pub mod SpreadSteps
@@ -11,6 +13,7 @@ pub mod LeafWritten
 pub mod LaidContent
 pub mod Waiting
 pub mod PrunedBlock
+pub mod Sliding
 pub mod GrowSteps
 pub mod GrowQuarters
 pub mod Assembled

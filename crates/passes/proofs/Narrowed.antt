@@ -22,6 +22,7 @@ use Rattle.build.specs.BuildBlocks.{Tallied, Written, Fitting}
 use Rattle.step.specs.Step.{Step, over, pruned}
 use Rattle.step.specs.Deed.{SameBefore}
 use Rattle.passes.specs.Passes.{BlockCounted, Growing, GrowAsked, Grown}
+use Rattle.passes.specs.Shrink.{Shrinks}
 use Rattle.step.proofs.Pruned.{pruned-agree}
 
 module _ {m past k r c κ : ℕ} {t t′ : Step} (s : SameBefore m past t t′) (b : Block m k r c κ) (h : κ + 5 ^ k ≤ past) where
@@ -80,3 +81,19 @@ module _ {m past k r c κ : ℕ} {t t′ : Step} (s : SameBefore m past t t′) 
 
   pub narrowed-asked : {keys bits : List ℕ} {read write : ℕ} → GrowAsked t m k r c κ keys bits read write → GrowAsked t′ m k r c κ keys bits read write
   narrowed-asked a = record { picture = a .picture; deep = a .deep; block = b; growing = narrowed-growing (a .picture) (a .growing) }
+
+  -- what is left is the same
+  pub narrowed-shrinks : {keys bits keys′ bits′ : List ℕ} {at n place union next place′ : ℕ} → Shrinks t′ k r c κ keys bits at n place keys′ bits′ union next place′
+      → Shrinks t k r c κ keys bits at n place keys′ bits′ union next place′
+  narrowed-shrinks {place = place} x = record {
+    holds = λ p s.
+        let y = x .holds p s in
+        let same = pruned-agree p (over t′ p) (over t p) k r c κ (narrowed-agree p) in
+        record {
+          union-is = y .union-is ∙ bits-agree (over t′ p) (over t p) k r c (narrowed-agree p);
+          next-is = y .next-is;
+          place-is = y .place-is ∙ ap (λ l. place + length l) same;
+          keys-are = rw same at (y .keys-are);
+          bits-are = rw same at (y .bits-are);
+        };
+  }

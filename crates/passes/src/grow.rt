@@ -2,16 +2,12 @@
 ghost use mathlib.Core.Path.{_≡_};
 ghost use Rattle.step.specs.Deed.{Doable, stepOf};
 ghost use Rattle.passes.specs.Passes.{OwnAsked, OwnWritten, GrowAsked, Grown};
+use crate::slide;
+use crate::slide::Places;
 use crate::spread;
 use step::deed;
 use step::deed::Deed;
 use step::quarters;
-
-// Where the records that are still to grow end, and where those that have grown begin.
-pub struct Places {
-    pub read: usize,
-    pub write: usize,
-}
 
 // The own record of a node, which stays itself, goes before what its quadrants have grown to.
 fn write_own(key: u32, at: Places, keys: &mut [u32], bits: &mut [u32]) -> Places
@@ -27,7 +23,7 @@ fn write_own(key: u32, at: Places, keys: &mut [u32], bits: &mut [u32]) -> Places
 }
 
 // The records of a block, which end before one place, grow to end before another. The last of them has the block's own key exactly where it is the
-// only one, a leaf; of a node it lies under the last quadrant.
+// only one, a leaf; of a node it lies under the last quadrant. A node that stays as it is moves as a whole.
 pub fn grow(
     deed: Deed,
     log_keys: &[u32],
@@ -70,6 +66,10 @@ pub fn grow(
         };
     }
     let here = deed::narrow(deed, log_keys, log_values, m, height, key);
+    let met = deed::meeting(here, log_keys, log_values, m, height, row, column, key);
+    if slide::stays(met, read, write) {
+        return slide::slide(key, read, write, keys, bits);
+    }
     let four = quarters::of(height, row, column, key);
     let lower = four.height;
     let se = grow(

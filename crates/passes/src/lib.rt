@@ -4,5 +4,6 @@ mod block_end;
 pub mod change;
 pub mod grow;
 mod shrink;
+mod slide;
 pub mod spread;
 pub mod tally;

@@ -1,11 +1,13 @@
 // The list becomes what is left of it on the way to the list after the step, in one descent towards the front: a block of one feature after the step is one
 // record, a leaf that has to grow stays as it is, and the nodes have their new bits.
 ghost use mathlib.Core.Path.{_≡_};
-ghost use mathlib.Core.Bool.{true};
+ghost use mathlib.Core.Bool.{cond};
+ghost use lib.Dec.{eqb};
 ghost use Rattle.step.specs.Deed.{Doable, stepOf, LeafAsked};
 ghost use Rattle.passes.specs.Shrink.{ShrinkAsked, Shrinks, isWhole, KeepAsked, Kept, OneAsked, LeafShrunk, OwnShrunk};
 use crate::block_end;
 use crate::tally;
+use build::count::Tally;
 use keys::power;
 use list::check;
 use step::deed;
@@ -27,7 +29,8 @@ fn is_whole(meeting: Meeting) -> bool
     match meeting {
         Meeting::Apart => true,
         Meeting::Leaf(_) => true,
-        _ => false,
+        Meeting::Content(_, _) => false,
+        Meeting::Cut => false,
     }
 }
 
@@ -65,12 +68,24 @@ fn keep(
                 place: place + 1,
             }
         }
-        _ => Shrunk {
+        Meeting::Content(_, _) => Shrunk {
+            bits: own,
+            next,
+            place,
+        },
+        Meeting::Cut => Shrunk {
             bits: own,
             next,
             place,
         },
     }
+}
+
+// The bits of a leaf that is left: those after the step where it stays one record, else those before, since it has to grow.
+fn bits_left(own: u32, tally: Tally) -> u32
+    ensures { λ r. ⌜ r ≡ cond (eqb (tally .count) 1) (tally .bits) own ⌝ }
+{
+    if tally.count == 1 { tally.bits } else { own }
 }
 
 // A leaf after the step where it stays one; where it has to grow, the leaf before it.
@@ -94,9 +109,8 @@ fn shrink_leaf(
     ensures { λ r. ⌜ LeafShrunk (stepOf m deed (now («log_keys» .entry)) (now («log_values» .entry))) own height row column key (now (keys .entry)) (now (bits .entry)) at place (now (keys .exit)) (now (bits .exit)) (r .bits) (r .next) (r .place) ⌝ }
 {
     let tally = tally::tally_leaf(deed, log_keys, log_values, m, own, height, row, column, key);
-    let left = if tally.count == 1 { tally.bits } else { own };
     keys[place] = key;
-    bits[place] = left;
+    bits[place] = bits_left(own, tally);
     Shrunk {
         bits: tally.bits,
         next: at + 1,

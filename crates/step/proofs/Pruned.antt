@@ -150,23 +150,29 @@ module _ (p q : Picture) where
       (pruned-all k (r + 2 ^ k) (c + 2 ^ k) (childKey κ k 4) (omega arith))
       ∙ sym (list-node q k r c κ e)))
 
--- it comes from the pixels of the picture after alone
-pub pruned-agree : (p q q′ : Picture) (k r c κ : ℕ) → Agree q q′ k r c → pruned p q k r c κ ≡ pruned p q′ k r c κ
-pruned-agree p q q′ zero r c κ h =
+-- it comes from the pixels of the two pictures alone
+pub pruned-same : (p p′ q q′ : Picture) (k r c κ : ℕ) → Agree p p′ k r c → Agree q q′ k r c → pruned p q k r c κ ≡ pruned p′ q′ k r c κ
+pruned-same p p′ q q′ zero r c κ g h =
     pruned-one p q zero r c κ (one-pixel q r c)
     ∙ ap (λ b. recordOf κ b ∷ []) (bits-agree q q′ zero r c h)
-    ∙ sym (pruned-one p q′ zero r c κ (one-pixel q′ r c))
-pruned-agree p q q′ (suc k) r c κ h =
+    ∙ sym (pruned-one p′ q′ zero r c κ (one-pixel q′ r c))
+pruned-same p p′ q q′ (suc k) r c κ g h =
     let same = one-agree q q′ (suc k) r c h in
+    let leaf = one-agree p p′ (suc k) r c g in
     let own : recordOf κ (bitsOf q (suc k) r c) ≡ recordOf κ (bitsOf q′ (suc k) r c) = ap (recordOf κ) (bits-agree q q′ (suc k) r c h) in
     decide (oneFeature q (suc k) r c)
-    (λ e. pruned-one p q (suc k) r c κ e ∙ ap (λ x. x ∷ []) own ∙ sym (pruned-one p q′ (suc k) r c κ (sym same ∙ e)))
+    (λ e. pruned-one p q (suc k) r c κ e ∙ ap (λ x. x ∷ []) own ∙ sym (pruned-one p′ q′ (suc k) r c κ (sym same ∙ e)))
     (λ e. decide (oneFeature p (suc k) r c)
-    (λ f. pruned-leaf p q k r c κ e f ∙ sym (pruned-leaf p q′ k r c κ (sym same ∙ e) f))
+    (λ f. pruned-leaf p q k r c κ e f
+    ∙ ap (λ b. recordOf κ b ∷ []) (bits-agree p p′ (suc k) r c g)
+    ∙ sym (pruned-leaf p′ q′ k r c κ (sym same ∙ e) (sym leaf ∙ f)))
     (λ f. pruned-node p q k r c κ e f
     ∙ same-node own
-    (pruned-agree p q q′ k r c (childKey κ k 1) (agree-nw h))
-    (pruned-agree p q q′ k r (c + 2 ^ k) (childKey κ k 2) (agree-ne h))
-    (pruned-agree p q q′ k (r + 2 ^ k) c (childKey κ k 3) (agree-sw h))
-    (pruned-agree p q q′ k (r + 2 ^ k) (c + 2 ^ k) (childKey κ k 4) (agree-se h))
-    ∙ sym (pruned-node p q′ k r c κ (sym same ∙ e) f)))
+    (pruned-same p p′ q q′ k r c (childKey κ k 1) (agree-nw g) (agree-nw h))
+    (pruned-same p p′ q q′ k r (c + 2 ^ k) (childKey κ k 2) (agree-ne g) (agree-ne h))
+    (pruned-same p p′ q q′ k (r + 2 ^ k) c (childKey κ k 3) (agree-sw g) (agree-sw h))
+    (pruned-same p p′ q q′ k (r + 2 ^ k) (c + 2 ^ k) (childKey κ k 4) (agree-se g) (agree-se h))
+    ∙ sym (pruned-node p′ q′ k r c κ (sym same ∙ e) (sym leaf ∙ f))))
+
+pub pruned-agree : (p q q′ : Picture) (k r c κ : ℕ) → Agree q q′ k r c → pruned p q k r c κ ≡ pruned p q′ k r c κ
+pruned-agree p q q′ k r c κ h = pruned-same p p q q′ k r c κ (λ a b w. refl) h
