@@ -1,9 +1,9 @@
 -- Where the records of a block end: as many keys from its own on are below the number past it as its list has records. Rests on ShownBlocks and the laws of
 -- the searches.
 use Prim.Native.Nat.{ℕ, suc, _+_, _-_, _^_, _≤_, _<_}
-use mathlib.Core.Path.{_≡_, refl, sym, _∙_, ap}
-use mathlib.Core.Bool.{Bool, true, false}
-use mathlib.Core.List.{List, _∷_, _++_}
+use mathlib.Core.Path.{_≡_, sym, _∙_, ap}
+use mathlib.Core.Bool.{Bool}
+use mathlib.Core.List.{List, _++_}
 use native.Mathlib.Nat.{add-zero}
 use native.Mathlib.Omega.{arith}
 use lib.ListN.{length, getD, take, drop, length-append, length-drop}
@@ -13,11 +13,10 @@ use borrow.Author.Tests.{lt-ltb, le-ltb}
 use Rattle.keys.proofs.Powers.{five-pos}
 use Rattle.definitions.specs.Picture.{Picture}
 use Rattle.definitions.specs.List.{Record, keysOf, listOf}
-use Rattle.definitions.specs.Read.{paired, recordsOf}
 use Rattle.laws.proofs.Ascending.{Ascending, ascending-append}
 use Rattle.laws.proofs.Records.{paired-keys}
 use Rattle.laws.proofs.ListOf.{list-ascends}
-use Rattle.list.specs.Sorted.{Ascends, Sorted, Near}
+use Rattle.list.specs.Sorted.{Sorted, Near}
 use Rattle.list.specs.Among.{keysUpTo, keysBelow, placeAmong}
 use Rattle.list.proofs.Accepted.{keys-ascend}
 use Rattle.list.proofs.Count.{below-up-to}

@@ -1,6 +1,6 @@
 -- The records below a leaf, laid by its meeting with the step: a content is copied as it stands in the log, and otherwise there are none. Rests on Known and
 -- LeafWritten.
-use Prim.Native.Nat.{ℕ, _+_, _-_, _^_, _≤_, _<_}
+use Prim.Native.Nat.{ℕ, _+_, _-_, _≤_}
 use mathlib.Core.Path.{_≡_, refl, sym, _∙_, ap}
 use mathlib.Core.Bool.{true, false, true≢false}
 use mathlib.Core.List.{List, [], _∷_}
@@ -9,8 +9,8 @@ use lib.ListN.{length, getD, take, drop}
 use lib.Seq.{sets, drop-drop}
 use Rattle.keys.proofs.Cases.{decide}
 use Rattle.definitions.specs.Picture.{Picture, oneFeature}
-use Rattle.definitions.specs.Bits.{bitsOf, featureOf}
-use Rattle.definitions.specs.List.{Record, keysOf, valuesOf, listOf}
+use Rattle.definitions.specs.Bits.{featureOf}
+use Rattle.definitions.specs.List.{Record, keysOf, valuesOf}
 use Rattle.definitions.specs.Read.{room}
 use Rattle.laws.proofs.ListOf.{list-one}
 use Rattle.list.specs.Check.{oneSlot}
@@ -18,11 +18,11 @@ use Rattle.log.specs.Entries.{run}
 use Rattle.log.proofs.Places.{run-keys, run-values}
 use Rattle.build.specs.BuildBlocks.{Fitting, Written, below, Tallied}
 use Rattle.step.specs.Step.{Step, over, plain}
-use Rattle.step.specs.Meeting.{Replaced, MetBy, Met, isCut}
+use Rattle.step.specs.Meeting.{Replaced, Met, isCut}
 use Rattle.step.specs.declared.meeting.Meeting.{Meeting}
 use Rattle.step.specs.declared.meeting.Meeting.the-variants.{Apart, Leaf, Content, Cut}
 use Rattle.step.proofs.Meetings.{met-content}
-use Rattle.passes.specs.Passes.{knownOf, ContentFits, Layable, laidOn, Laid}
+use Rattle.passes.specs.Passes.{knownOf, ContentFits, Layable, Laid}
 use Rattle.passes.proofs.ShownBlocks.{drop-take}
 use Rattle.passes.proofs.Known.{content-count, content-first, known-tallied, leaf-bits, leaf-records}
 use Rattle.passes.proofs.LeafWritten.{count-one}

@@ -1,5 +1,4 @@
 // What a leaf grows to after the step: the records below it, and they and its own written before a place.
-ghost use mathlib.Core.Path.{_≡_};
 ghost use Rattle.definitions.specs.Bits.{featureOf};
 ghost use Rattle.definitions.specs.List.{listOf};
 ghost use Rattle.build.specs.BuildBlocks.{Fitting, Written};

@@ -1,7 +1,6 @@
 // Counting what a list becomes by a step, before anything is written: build's count, with the step over the list's own features as the picture.
 ghost use mathlib.Core.Path.{_≡_};
-ghost use Prim.Native.Nat.{_+_, _-_, _^_, _<_};
-ghost use lib.ListN.{length};
+ghost use Prim.Native.Nat.{_+_, _-_};
 ghost use Rattle.definitions.specs.Bits.{featureOf};
 ghost use Rattle.build.specs.BuildBlocks.{Tallied};
 ghost use Rattle.step.specs.Step.{plain, over};

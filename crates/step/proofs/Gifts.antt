@@ -1,13 +1,13 @@
 -- What a list of entries makes of a block: the first entry that is not apart from it decides. Rests on Meetings and the laws of keys.
-use Prim.Native.Nat.{ℕ, zero, suc, _+_, _^_, _≤_, _<_}
+use Prim.Native.Nat.{ℕ, zero, suc, _<_}
 use mathlib.Core.Path.{_≡_, refl, sym, _∙_, ap}
 use mathlib.Core.Bool.{true, false, _||_, true≢false}
 use mathlib.Core.List.{List, [], _∷_, map}
 use native.Mathlib.Omega.{arith}
 use Rattle.keys.specs.Key.{validKey, heightOf}
-use Rattle.keys.specs.Block.{inBlock, inInterval, rowOf, columnOf}
+use Rattle.keys.specs.Block.{inBlock, inInterval}
 use Rattle.keys.proofs.Cases.{decide, or-left}
-use Rattle.keys.specs.Under.{Block, Under}
+use Rattle.keys.specs.Under.{Block}
 use Rattle.keys.proofs.Valid.{valid-block}
 use Rattle.keys.proofs.Interval.{within, apart}
 use Rattle.keys.proofs.Powers.{five-pos}

@@ -1,26 +1,16 @@
 -- A leaf after the step, by its quadrants. Build's laws of counting a block serve, with the step over the leaf's feature as the picture.
-use Prim.Native.Nat.{ℕ, zero, suc, _+_, _-_, _*_, _^_, _≤_, _<_}
+use Prim.Native.Nat.{ℕ, suc, _+_, _-_, _^_, _<_}
 use native.Mathlib.Omega.{arith}
-use mathlib.Core.Path.{_≡_, refl, sym, _∙_, ap}
-use mathlib.Core.Bool.{Bool, true, false}
-use lib.ListN.{length}
-use Rattle.definitions.specs.Picture.{Picture, oneFeature}
-use Rattle.definitions.specs.Bits.{bitsOf, featureOf, unionOfFour}
-use Rattle.definitions.specs.List.{listOf}
-use Rattle.laws.proofs.Within.{Every, first-within}
-use Rattle.laws.proofs.Features.{one-from}
-use Rattle.laws.proofs.BitsOf.{bits-one}
-use Rattle.laws.proofs.ListOf.{list-one}
-use Rattle.list.specs.Check.{oneSlot}
-use Rattle.list.proofs.OneSlot.{slot-power}
+use mathlib.Core.Path.{_≡_, refl}
+use Rattle.definitions.specs.Picture.{Picture}
+use Rattle.definitions.specs.Bits.{unionOfFour}
 use Rattle.build.specs.BuildBlocks.{Tallied, Joined}
 use Rattle.build.proofs.CountBlock.{tallied-four}
-use Rattle.step.specs.Step.{Step, over, plain}
+use Rattle.step.specs.Step.{over}
 use Rattle.step.specs.Deed.{LeafAsked}
 use Rattle.step.specs.Quarters.{quartersOf}
 use Rattle.step.specs.declared.quarters.Quarters.{Quarters}
 use Rattle.step.proofs.QuarterSums.{block-nw, block-ne, block-sw, block-se}
-use Rattle.step.proofs.Pruned.{over-in, over-out}
 
 -- the quadrants of a leaf's block, as the code asks for them
 module _ {m own k r c κ : ℕ} {q : Quarters} (e : q ≡ quartersOf k r c κ) (a : LeafAsked m own k r c κ) (positive : 0 < k) where

@@ -1,5 +1,5 @@
 -- What a step does to the pixels, as the code is told it, and what the code answers about a block. Rests on Step and Runs.
-use Prim.Native.Nat.{ℕ, _+_, _^_, _≤_, _<_}
+use Prim.Native.Nat.{ℕ, _+_, _≤_, _<_}
 use mathlib.Core.Path.{_≡_}
 use mathlib.Core.Bool.{true}
 use mathlib.Core.List.{List}

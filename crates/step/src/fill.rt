@@ -1,5 +1,4 @@
 // What painting a window makes of a block: it lies apart from the window, or within it, or the window cuts it.
-ghost use mathlib.Core.Path.{_≡_};
 ghost use Rattle.step.specs.Deed.{Painting, WindowMet};
 ghost use Rattle.step.specs.Meeting.{BlockAsked};
 use crate::meeting::Meeting;

@@ -2,7 +2,6 @@
 ghost use mathlib.Core.Path.{_≡_};
 ghost use mathlib.Core.Bool.{true};
 ghost use Prim.Native.Nat.{_+_, _^_, _≤_};
-ghost use Rattle.keys.specs.Key.{slotLimit};
 ghost use Rattle.step.specs.Runs.{EntriesIn, Between, descends, lastFirst};
 ghost use Rattle.step.specs.Deed.{ShortRun};
 use keys::Key;

@@ -1,12 +1,11 @@
 -- `spread` meets its contract: the four quadrants one after the other, and then their own records. The height falls at each call.
-use Prim.Native.Nat.{ℕ, suc, _+_, _-_, _*_, _^_, _≤_, _<_}
-use mathlib.Core.Path.{_≡_, refl, sym, _∙_, ap}
+use Prim.Native.Nat.{ℕ, _+_, _<_}
+use mathlib.Core.Path.{sym, _∙_}
 use native.Mathlib.Omega.{arith}
 use borrow.Author.Needs.{needs}
 use borrow.Author.Tests.{not-true, not-false}
 use borrow.Fn.Kinds.{In}
 use borrow.Fn.PlainCycle.{Measures, is, falls, and}
-use Rattle.keys.proofs.Interval.{within}
 use Rattle.definitions.specs.Picture.{Picture}
 use Rattle.definitions.specs.Bits.{featureOf}
 use Rattle.build.specs.BuildBlocks.{Fitting}

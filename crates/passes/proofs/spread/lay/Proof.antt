@@ -1,5 +1,4 @@
 -- `lay` meets its contract, kind by kind.
-use mathlib.Core.Path.{sym, ap, _∙_}
 use native.Mathlib.Omega.{arith}
 use borrow.Author.Needs.{needs}
 use Rattle.passes.proofs.LaidContent.{laid-apart, laid-leaf, laid-content, laid-cut}

@@ -1,13 +1,12 @@
 -- `tally_leaf` meets its contract: the leaf stays one, or its quadrants are asked. The height falls at each call.
-use Prim.Native.Nat.{ℕ, _-_, _+_, _^_, _≤_, _<_}
-use mathlib.Core.Path.{_≡_, sym, _∙_, ap}
+use Prim.Native.Nat.{ℕ, _+_, _≤_, _<_}
+use mathlib.Core.Path.{sym, _∙_, ap}
 use native.Mathlib.Omega.{arith}
 use borrow.Author.Needs.{needs}
 use borrow.Author.Tests.{not-true, not-false}
 use borrow.Fn.Kinds.{In}
 use borrow.Fn.PlainCycle.{Measures, is, falls, and}
 use Rattle.keys.proofs.Interval.{within}
-use Rattle.keys.proofs.Powers.{five-le}
 use Rattle.build.proofs.CountBlock.{tallied-small}
 use Rattle.step.proofs.LeafTally.{leaf-nw, leaf-ne, leaf-sw, leaf-se, leaf-four}
 use Rattle.step.proofs.Meetings.{met-cut}

@@ -1,16 +1,16 @@
 -- `tally_records` meets its contract: a leaf by itself, a node by its quadrants one after the other. The height falls at each call.
-use Prim.Native.Nat.{ℕ, _-_, _+_, _^_, _≤_, _<_}
+use Prim.Native.Nat.{ℕ, _+_, _≤_, _<_}
 use mathlib.Core.Path.{_≡_, refl, sym, _∙_, ap}
 use mathlib.Core.Bool.{false}
 use native.Mathlib.Omega.{arith}
-use lib.ListN.{getD, length}
+use lib.ListN.{getD}
 use borrow.Author.Needs.{needs}
 use borrow.Author.Tests.{not-true}
 use borrow.Fn.Kinds.{In}
 use borrow.Fn.PlainCycle.{Measures, is, falls, and}
 use Rattle.keys.proofs.Interval.{within}
 use Rattle.list.specs.Check.{oneSlot}
-use Rattle.step.specs.Deed.{stepOf, LeafAsked}
+use Rattle.step.specs.Deed.{stepOf}
 use Rattle.passes.specs.Passes.{Shown}
 use Rattle.step.specs.Step.{Step}
 use Rattle.step.proofs.QuarterSums.{divisible, narrow-room, lower-than}
