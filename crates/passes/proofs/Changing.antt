@@ -1,71 +1,46 @@
--- The four passes one after the other, on the slices. Rests on Squeezed and Assembled.
-use Prim.Native.Nat.{ℕ, zero, suc, _+_, _-_, _^_, _≤_, _<_}
-use mathlib.Core.Path.{_≡_, sym, _∙_, ap, ap₂}
-use mathlib.Core.Bool.{true}
-use mathlib.Core.List.{List, [], _∷_, _++_}
-use native.Mathlib.Nat.{zero-add}
+-- The passes one after the other, on the slices. Rests on ShrinkSteps, GrowQuarters and Assembled.
+use Prim.Native.Nat.{ℕ, _+_, _-_, _^_, _≤_}
+use mathlib.Core.Path.{_≡_, refl, sym, _∙_, ap, ap₂}
+use mathlib.Core.List.{List, [], _∷_, _++_, append-nil}
+use native.Mathlib.Nat.{zero-add, le-refl}
 use native.Mathlib.Omega.{arith}
-use lib.ListN.{length, getD, take, drop, replicate, length-map, take-append-drop}
-use lib.Seq.{sets, drop-at, length-take-le}
-use Rattle.slices.proofs.Sets.{sets-parts}
-use Rattle.keys.specs.Key.{childKey, validKey}
-use Rattle.keys.proofs.Cases.{decide, split}
-use Rattle.keys.specs.Under.{Block, here, nw, ne, sw, se}
-use Rattle.keys.proofs.Under.{under-trans}
-use Rattle.keys.proofs.Valid.{block-valid}
-use Rattle.definitions.specs.Picture.{Picture, oneFeature}
-use Rattle.definitions.specs.List.{Record, recordOf, keysOf, valuesOf, listOf, listOfPicture}
-use Rattle.definitions.specs.Read.{room, recordsOf}
+use lib.ListN.{length, take, drop, replicate, length-map, length-append}
+use lib.Seq.{sets}
+use Rattle.slices.proofs.Sets.{sets-parts, sets-same}
+use Rattle.keys.proofs.Cases.{split}
+use Rattle.keys.specs.Under.{Block, here}
+use Rattle.definitions.specs.Picture.{Picture}
+use Rattle.definitions.specs.List.{Record, keysOf, valuesOf, listOf, listOfPicture}
+use Rattle.definitions.specs.Read.{room, paired, recordsOf}
 use Rattle.definitions.specs.Buffer.{over, replaced}
-use Rattle.laws.proofs.Features.{one-pixel}
-use Rattle.laws.proofs.ListOf.{list-one, list-node}
-use Rattle.laws.proofs.Records.{records-length, records-at, records-over}
+use Rattle.laws.proofs.Ascending.{Ascending, none}
+use Rattle.laws.proofs.Records.{records-length, records-keys, records-values, paired-back}
 use Rattle.list.specs.Own.{OwnList, shownBy}
-use Rattle.list.proofs.Own.{own-keys, own-values, own-length}
-use Rattle.step.specs.Step.{Step, renewed, squeezed, pruned, over as stepOver}
-use Rattle.passes.specs.Passes.{Showing, Shown, There, IsSqueezed, Moved, Growing, GrowAsked, Grown, BlockCounted, Renewed}
-use Rattle.passes.specs.Change.{zeroed}
-use Rattle.passes.proofs.Squeezed.{renewed-length, squeezed-list}
-use Rattle.passes.proofs.Assembled.{renewed-keys, replaced-longer, replaced-shorter}
-
--- every record's key is a block's
-abbrev pub AllValid : ℕ → List Record → Type 0
-AllValid m [] = Unit {0}
-AllValid m (x ∷ l) = (validKey m (x .key) ≡ true) × AllValid m l
-
-valid-append : (m : ℕ) (a b : List Record) → AllValid m a → AllValid m b → AllValid m (a ++ b)
-valid-append m [] b h i = i
-valid-append m (x ∷ a) b h i = (h .0, valid-append m a b (h .1) i)
-
-pub valid-at : (m : ℕ) (l : List Record) (i : ℕ) → AllValid m l → i < length l → validKey m (getD l i (recordOf 0 0) .key) ≡ true
-valid-at m [] i h j = absurd (omega arith)
-valid-at m (x ∷ l) zero h j = h .0
-valid-at m (x ∷ l) (suc i) h j = valid-at m l i (h .1) (omega arith)
-
--- so of a list
-pub list-valid : (p : Picture) {m : ℕ} (k r c κ : ℕ) → Block m k r c κ → AllValid m (listOf p k r c κ)
-list-valid p zero r c κ b = rw (list-one p zero r c κ (one-pixel p r c)) (block-valid b .valid, tt)
-list-valid p {m} (suc k) r c κ b =
-    decide (oneFeature p (suc k) r c)
-    (λ e. rw (list-one p (suc k) r c κ e) (block-valid b .valid, tt))
-    (λ e. rw (list-node p k r c κ e) (
-      block-valid b .valid,
-      valid-append m (listOf p k r c (childKey κ k 1)) _ (list-valid p k r c (childKey κ k 1) (under-trans b (nw here)))
-          (valid-append m (listOf p k r (c + 2 ^ k) (childKey κ k 2)) _ (list-valid p k r (c + 2 ^ k) (childKey κ k 2) (under-trans b (ne here)))
-          (valid-append m (listOf p k (r + 2 ^ k) c (childKey κ k 3)) _ (list-valid p k (r + 2 ^ k) c (childKey κ k 3) (under-trans b (sw here)))
-          (list-valid p k (r + 2 ^ k) (c + 2 ^ k) (childKey κ k 4) (under-trans b (se here))))),
-    ))
+use Rattle.list.proofs.Own.{own-length}
+use Rattle.step.specs.Step.{Step, pruned, over as stepOver}
+use Rattle.step.proofs.Pruned.{pruned-before, pruned-after, pruned-all}
+use Rattle.passes.specs.Passes.{ShowingBlock, Shown, Wrote, Growing, GrowAsked, Grown, BlockCounted}
+use Rattle.passes.specs.Shrink.{ShrinkAsked, ShrunkAt, Shrinks}
+use Rattle.passes.specs.Change.{zeroed, AllGrown}
+use Rattle.passes.proofs.Waiting.{ending-length}
+use Rattle.passes.proofs.Assembled.{replaced-longer, replaced-shorter}
 
 -- the whole list is shown from the first place on
-pub showing-whole : {m : ℕ} {keys bits : List ℕ} {n : ℕ} → OwnList m keys bits n → Showing (valuesOf (listOf (shownBy m keys bits n) m 0 0 0)) bits 0
-showing-whole {bits = bits} {n} own = record { rest = drop n bits; is = sym (take-append-drop n bits) ∙ ap (λ l. l ++ drop n bits) (sym (own-values own)) }
+pub showing-whole : {m : ℕ} {keys bits : List ℕ} {n : ℕ} → OwnList m keys bits n → ShowingBlock (shownBy m keys bits n) m 0 0 0 keys bits 0 n
+showing-whole {m} {keys} {bits} {n} own = record {
+  rest = [];
+  limit = 0 + 5 ^ m;
+  in-keys = omega (arith, own .fits);
+  in-bits = omega (arith, own .fits);
+  is = own .own ∙ sym (append-nil (listOf (shownBy m keys bits n) m 0 0 0));
+  behind = none (le-refl (0 + 5 ^ m));
+}
 
-pub shown-whole : {m : ℕ} {keys bits : List ℕ} {n : ℕ} → m ≤ 10 → OwnList m keys bits n → Shown m m 0 0 0 bits 0
+pub shown-whole : {m : ℕ} {keys bits : List ℕ} {n : ℕ} → m ≤ 10 → OwnList m keys bits n → Shown m m 0 0 0 keys bits 0 n
 shown-whole {m} {keys} {bits} {n} deep own = record { picture = shownBy m keys bits n; deep = deep; block = here; shown = showing-whole own }
 
--- a slice whose first places are stored anew
-over-same : (new old : List ℕ) (n : ℕ) → new ≡ take n old → n ≤ length old → over new old ≡ old
-over-same new old n e h = rw e (ap (λ i. take n old ++ drop i old) (length-take-le n old h) ∙ take-append-drop n old)
+pub shrink-whole : {m : ℕ} {keys bits : List ℕ} {n : ℕ} → m ≤ 10 → OwnList m keys bits n → ShrinkAsked m m 0 0 0 keys bits 0 n 0
+shrink-whole deep own = record { shown = shown-whole deep own; order = le-refl 0 }
 
 sets-over : (new old : List ℕ) → length new ≤ length old → sets old 0 new ≡ over new old
 sets-over new old h = sets-parts old 0 new (omega arith) ∙ ap (λ i. new ++ drop i old) (zero-add (length new))
@@ -83,108 +58,119 @@ all-replaced n after new between before e room h =
 pub nothing-given : (n after : ℕ) (l : List ℕ) → n ≤ after → l ≡ zeroed n after l
 nothing-given n after l h = let z : n - after ≡ 0 = omega arith in sym (ap (λ i. sets l after (replicate i 0)) z)
 
+-- all leaves have grown: by a descent, or there was none that has to
+module _ (t : Step) {m left after : ℕ} {keys bits : List ℕ} where
+  pub grown-all : {keys′ bits′ : List ℕ} {read write : ℕ} → Grown t m 0 0 0 keys bits left after keys′ bits′ read write → AllGrown t m left after keys bits keys′ bits′
+  grown-all {keys′} {bits′} {read} {write} g = record {
+    holds = λ p w.
+        let d = g .holds p w in
+        let e = d .wrote .start-is in
+        let h = w .waits .early in
+        let z : write ≡ 0 = omega arith in
+        rw z at (d .wrote);
+  }
+
+  pub grown-none : left ≡ after → AllGrown t m left after keys bits keys bits
+  grown-none same = record {
+    holds = λ p w.
+        let few = pruned-after p (stepOver t p) m 0 0 0 in
+        let two = ending-length (w .waits .ending) in
+        let size : length (pruned p (stepOver t p) m 0 0 0) ≡ length (listOf (stepOver t p) m 0 0 0) = omega (arith, w .waits .apart) in
+        let all = pruned-all p (stepOver t p) m 0 0 0 size in
+        let is : recordsOf keys bits left ≡ listOf (stepOver t p) m 0 0 0 = nothing-before (w .waits .ending .front) _ _ (omega (arith, w .waits .early)) (w .waits .ending .is) ∙ all in
+        record {
+          start-is = omega (arith, w .waits .early, w .waits .apart);
+          keys-are = as-it-is keys _ left (sym (ap keysOf (sym is) ∙ records-keys keys bits left (w .waits .ending .in-keys) (w .waits .ending .in-bits))) (w .waits .ending .in-keys);
+          bits-are = as-it-is bits _ left (sym (ap valuesOf (sym is) ∙ records-values keys bits left (w .waits .ending .in-keys) (w .waits .ending .in-bits))) (w .waits .ending .in-bits);
+        };
+  }
+    where
+      nothing-before : (front a b : List Record) → length front ≡ 0 → b ≡ front ++ a → b ≡ a
+      nothing-before [] a b e h = h
+      nothing-before (x ∷ front) a b e h = absurd (omega arith)
+
+      as-it-is : (l new : List ℕ) (n : ℕ) → take n l ≡ new → n ≤ length l → l ≡ sets l 0 new
+      as-it-is l new n e h = sym (ap (sets l 0) (sym e) ∙ sets-same l 0 n (omega arith))
+
 module _ (t : Step) {m : ℕ} {keys bits : List ℕ} {n : ℕ} (deep : m ≤ 10) (own : OwnList m keys bits n) where
   abbrev p : Picture
   p = shownBy m keys bits n
 
-  abbrev between : List Record
-  between = renewed p (stepOver t p) m 0 0 0
-
   -- how long the list becomes
-  pub length-told : {union count next : ℕ} → BlockCounted t m 0 0 bits 0 union count next → count ≡ length (listOfPicture m (stepOver t (shownBy m keys bits n)))
-  length-told x = x .tallied p 0 (showing-whole own) .count-is
+  pub length-told : {union count next : ℕ} → BlockCounted t m 0 0 0 keys bits 0 n union count next → count ≡ length (listOfPicture m (stepOver t (shownBy m keys bits n)))
+  length-told x = x .tallied p (showing-whole own) .count-is
 
-  between-length : length between ≡ n
-  between-length = renewed-length p (stepOver t p) m 0 0 0 ∙ own-length own
+  module _ {keys₁ bits₁ : List ℕ} {union next left : ℕ} (r : Shrinks t m 0 0 0 keys bits 0 n 0 keys₁ bits₁ union next left) where
+    shrunk : ShrunkAt t p m 0 0 0 keys bits 0 0 keys₁ bits₁ union next left
+    shrunk = r .holds p (showing-whole own)
 
-  between-keys : over (keysOf between) keys ≡ keys
-  between-keys = over-same (keysOf between) keys n (renewed-keys p (stepOver t p) m 0 0 0 ∙ own-keys own) (omega (arith, own .fits))
+    many : length (pruned p (stepOver t p) m 0 0 0) ≡ left
+    many = let s = shrunk in omega (arith, s .place-is)
 
-  key-valid : (i : ℕ) → i < n → validKey m (getD keys i 0) ≡ true
-  key-valid i h =
-      let e = records-at keys bits n (omega (arith, own .fits)) (omega (arith, own .fits)) i h in
-      let v = valid-at m (listOf p m 0 0 0) i (list-valid p m 0 0 0 here) (let l = own-length own in omega arith) in
-      let f : getD (listOf p m 0 0 0) i (recordOf 0 0) .key ≡ getD keys i 0 = ap (λ l. getD l i (recordOf 0 0) .key) (sym (own .own)) ∙ ap (λ x. x .key) e in
-      ap (validKey m) (sym f) ∙ v
+    few : left ≤ n
+    few = let e = many in let l = own-length own in let b = pruned-before p (stepOver t p) m 0 0 0 in omega arith
 
-  module _ {bits₁ : List ℕ} {union next : ℕ} (r : Renewed t m 0 0 bits 0 bits₁ union next) where
-    -- after the first pass
-    renewed-bits : bits₁ ≡ over (valuesOf between) bits
-    renewed-bits =
-        let l = between-length in
-        let v = length-map between (λ x. x .value) in
-        r .holds p 0 (showing-whole own) .bits-are ∙ sets-over (valuesOf between) bits (omega (arith, own .fits))
+    -- what is left
+    left-is : recordsOf keys₁ bits₁ left ≡ pruned p (stepOver t p) m 0 0 0
+    left-is =
+        let s = shrunk in
+        let a : 0 + length (keysOf (pruned p (stepOver t p) m 0 0 0)) ≡ left = let z = length-map (pruned p (stepOver t p) m 0 0 0) (λ x. x .key) in let e = many in omega arith in
+        let b : 0 + length (valuesOf (pruned p (stepOver t p) m 0 0 0)) ≡ left = let z = length-map (pruned p (stepOver t p) m 0 0 0) (λ x. x .value) in let e = many in omega arith in
+        ap₂ paired (ap (λ i. take i keys₁) (sym a) ∙ s .keys-are .front) (ap (λ i. take i bits₁) (sym b) ∙ s .bits-are .front)
+        ∙ paired-back (pruned p (stepOver t p) m 0 0 0)
 
-    renewed-records : recordsOf keys bits₁ n ≡ between
-    renewed-records = ap₂ (λ ks bs. recordsOf ks bs n) (sym between-keys) renewed-bits ∙ records-over between n keys bits between-length
+    next-is : next ≡ n
+    next-is = let s = shrunk in let l = own-length own in omega (arith, s .next-is)
 
-    past-first : drop n bits₁ ≡ drop n bits
-    past-first =
-        let l = between-length in
-        let v = length-map between (λ x. x .value) in
-        let e : length (valuesOf between) ≡ n = omega arith in
-        ap (drop n) renewed-bits ∙ ap (λ i. drop n (valuesOf between ++ drop i bits)) e ∙ drop-at (valuesOf between) (drop n bits) n e
+    past-keys : drop n keys₁ ≡ drop n keys
+    past-keys = rw (← next-is) (shrunk .keys-are .behind)
 
-    pub squeeze-asked : length bits₁ ≡ length bits → There m n keys bits₁
-    squeeze-asked same = record { deep = deep; in-keys = omega (arith, own .fits); in-bits = omega (arith, own .fits); valid = key-valid }
+    past-bits : drop n bits₁ ≡ drop n bits
+    past-bits = rw (← next-is) (shrunk .bits-are .behind)
 
-    module _ {keys₂ bits₂ : List ℕ} {left : ℕ} (q : IsSqueezed m n keys bits₁ keys₂ bits₂ left) where
-      -- after the second
-      left-is : recordsOf keys₂ bits₂ left ≡ pruned p (stepOver t p) m 0 0 0
-      left-is = q .is ∙ ap (squeezed m 0) renewed-records ∙ squeezed-list m p (stepOver t p)
+    module _ {after : ℕ} (after-is : after ≡ length (listOfPicture m (stepOver t (shownBy m keys bits n)))) (fits : after ≤ room keys bits) where
+      same-keys : length keys₁ ≡ length keys
+      same-keys = shrunk .keys-are .size
 
-      past-keys : drop n keys₂ ≡ drop n keys
-      past-keys = q .past-keys
+      same-bits : length bits₁ ≡ length bits
+      same-bits = shrunk .bits-are .size
 
-      past-bits : drop n bits₂ ≡ drop n bits
-      past-bits = q .past-bits ∙ past-first
+      inside : (left ≤ length keys₁) × (left ≤ length bits₁)
+      inside = let a = same-keys in let b = same-bits in let c = few in omega (arith, own .fits)
 
-      module _ {after : ℕ} (same-keys : length keys₂ ≡ length keys) (same-bits : length bits₂ ≡ length bits)
-          (after-is : after ≡ length (listOfPicture m (stepOver t (shownBy m keys bits n)))) (fits : after ≤ room keys bits) where
-        inside : (left ≤ length keys₂) × (left ≤ length bits₂)
-        inside = omega (arith, q .few, own .fits)
+      growing : Growing t p m 0 0 0 keys₁ bits₁ left after
+      growing =
+          let e = many in
+          let a = same-keys in
+          let b = same-bits in
+          record {
+            waits = record {
+              ending = record { front = []; in-keys = inside .0; in-bits = inside .1; is = left-is };
+              apart = omega arith;
+              early = omega arith;
+              in-keys = omega (arith, fits);
+              in-bits = omega (arith, fits);
+            };
+          }
 
-        many : length (pruned p (stepOver t p) m 0 0 0) ≡ left
-        many = ap length (sym left-is) ∙ records-length keys₂ bits₂ left (inside .0) (inside .1)
+      pub grow-asked : GrowAsked t m m 0 0 0 keys₁ bits₁ left after
+      grow-asked = record { picture = p; deep = deep; block = here; growing = growing }
 
-        growing : Growing t p m 0 0 0 keys₂ bits₂ left after
-        growing =
-            let e = many in
-            record {
-              waits = record {
-                ending = record { front = []; in-keys = inside .0; in-bits = inside .1; is = left-is };
-                apart = omega arith;
-                early = omega arith;
-                in-keys = omega (arith, fits);
-                in-bits = omega (arith, fits);
-              };
-            }
+      -- when all has grown, and when the places given up are zero
+      module _ {keys₂ bits₂ : List ℕ} (g : AllGrown t m left after keys₁ bits₁ keys₂ bits₂) where
+        grown : Wrote (listOf (stepOver t p) m 0 0 0) after keys₁ bits₁ keys₂ bits₂ 0
+        grown = g .holds p growing
 
-        pub grow-asked : GrowAsked t m m 0 0 0 keys₂ bits₂ left after
-        grow-asked = record { picture = p; deep = deep; block = here; growing = growing }
+        pub changed-keys : zeroed n after keys₂ ≡ replaced n (keysOf (listOfPicture m (stepOver t (shownBy m keys bits n)))) keys
+        changed-keys =
+            let l = length-map (listOf (stepOver t p) m 0 0 0) (λ x. x .key) in
+            let a = same-keys in
+            ap (zeroed n after) (grown .keys-are ∙ sets-over (keysOf (listOf (stepOver t p) m 0 0 0)) keys₁ (omega (arith, fits)))
+            ∙ all-replaced n after (keysOf (listOf (stepOver t p) m 0 0 0)) keys₁ keys (l ∙ sym after-is) (omega (arith, own .fits)) past-keys
 
-        -- after the third, and when the places given up are zero
-        module _ {keys₃ bits₃ : List ℕ} {read write : ℕ} (g : Grown t m 0 0 0 keys₂ bits₂ left after keys₃ bits₃ read write) where
-          moved : Moved (pruned p (stepOver t p) m 0 0 0) (listOf (stepOver t p) m 0 0 0) keys₂ bits₂ left after keys₃ bits₃ read write
-          moved = g .holds p growing
-
-          from-first : write ≡ 0
-          from-first = let d = moved in omega (arith, d .wrote .start-is)
-
-          pub changed-keys : zeroed n after keys₃ ≡ replaced n (keysOf (listOfPicture m (stepOver t (shownBy m keys bits n)))) keys
-          changed-keys =
-              let l = length-map (listOf (stepOver t p) m 0 0 0) (λ x. x .key) in
-              ap (zeroed n after)
-              (moved .wrote .keys-are
-              ∙ ap (λ i. sets keys₂ i (keysOf (listOf (stepOver t p) m 0 0 0))) from-first
-              ∙ sets-over (keysOf (listOf (stepOver t p) m 0 0 0)) keys₂ (omega (arith, fits)))
-              ∙ all-replaced n after (keysOf (listOf (stepOver t p) m 0 0 0)) keys₂ keys (l ∙ sym after-is) (omega (arith, own .fits)) past-keys
-
-          pub changed-bits : zeroed n after bits₃ ≡ replaced n (valuesOf (listOfPicture m (stepOver t (shownBy m keys bits n)))) bits
-          changed-bits =
-              let l = length-map (listOf (stepOver t p) m 0 0 0) (λ x. x .value) in
-              ap (zeroed n after)
-              (moved .wrote .bits-are
-              ∙ ap (λ i. sets bits₂ i (valuesOf (listOf (stepOver t p) m 0 0 0))) from-first
-              ∙ sets-over (valuesOf (listOf (stepOver t p) m 0 0 0)) bits₂ (omega (arith, fits)))
-              ∙ all-replaced n after (valuesOf (listOf (stepOver t p) m 0 0 0)) bits₂ bits (l ∙ sym after-is) (omega (arith, own .fits)) past-bits
+        pub changed-bits : zeroed n after bits₂ ≡ replaced n (valuesOf (listOfPicture m (stepOver t (shownBy m keys bits n)))) bits
+        changed-bits =
+            let l = length-map (listOf (stepOver t p) m 0 0 0) (λ x. x .value) in
+            let b = same-bits in
+            ap (zeroed n after) (grown .bits-are ∙ sets-over (valuesOf (listOf (stepOver t p) m 0 0 0)) bits₁ (omega (arith, fits)))
+            ∙ all-replaced n after (valuesOf (listOf (stepOver t p) m 0 0 0)) bits₁ bits (l ∙ sym after-is) (omega (arith, own .fits)) past-bits

@@ -17,11 +17,9 @@ use Rattle.laws.proofs.ListOf.{list-node, list-agree, length-node}
 use Rattle.build.proofs.CountBlock.{list-five}
 use Rattle.step.specs.Step.{Step, over, plain, pruned}
 use Rattle.step.specs.Deed.{LeafAsked}
-use Rattle.step.proofs.Pruned.{pruned-node}
+use Rattle.step.proofs.Pruned.{pruned-node, pruned-after}
 use Rattle.passes.specs.Passes.{WriteAsked, Wrote, Waiting, Moved, Growing, Grown, OwnAsked, OwnWritten}
-use Rattle.passes.proofs.Squeezed.{pruned-after}
-use Rattle.passes.proofs.Assembled.{four-keys}
-use Rattle.passes.proofs.RenewLaws.{four-values}
+use Rattle.passes.proofs.FourParts.{four-keys, four-values}
 use Rattle.passes.proofs.Waiting.{ending-at, waiting-at, ending-some, ending-last, waits-last, waits-rest, four-back}
 use Rattle.passes.proofs.PrunedBlock.{LeafLeft, NodeLeft, either-left, pruned-last, node-last}
 
@@ -111,7 +109,7 @@ module _ (t : Step) (p : Picture) {m : ℕ} (k r c κ : ℕ) (block : Block m (s
 
   waits-all : Waiting κ (((((own ∷ []) ++ P₁) ++ P₂) ++ P₃) ++ P₄) (1 + length L₁ + length L₂ + length L₃ + length L₄) ks bs read write
   waits-all =
-      let e : pruned p (over t p) (suc k) r c κ ≡ ((((own ∷ []) ++ P₁) ++ P₂) ++ P₃) ++ P₄ = pruned-node p (over t p) k r c κ before after ∙ shape own P₁ P₂ P₃ P₄ in
+      let e : pruned p (over t p) (suc k) r c κ ≡ ((((own ∷ []) ++ P₁) ++ P₂) ++ P₃) ++ P₄ = pruned-node p (over t p) k r c κ after before ∙ shape own P₁ P₂ P₃ P₄ in
       let n : length (listOf (over t p) (suc k) r c κ) ≡ 1 + length L₁ + length L₂ + length L₃ + length L₄ = let z = length-node (over t p) k r c κ after in omega arith in
       waiting-at e n (g .waits)
 
@@ -127,9 +125,9 @@ module _ (t : Step) (p : Picture) {m : ℕ} (k r c κ : ℕ) (block : Block m (s
 
   sizes : Sizes
   sizes = record {
-    few₁ = pruned-after t p (under-trans block (nw here));
-    few₂ = pruned-after t p (under-trans block (ne here));
-    few₃ = pruned-after t p (under-trans block (sw here));
+    few₁ = pruned-after p (over t p) k r c (childKey κ k 1);
+    few₂ = pruned-after p (over t p) k r (c + 2 ^ k) (childKey κ k 2);
+    few₃ = pruned-after p (over t p) k (r + 2 ^ k) c (childKey κ k 3);
     most₁ = list-five (over t p) k r c (childKey κ k 1);
     most₂ = list-five (over t p) k r (c + 2 ^ k) (childKey κ k 2);
     most₃ = list-five (over t p) k (r + 2 ^ k) c (childKey κ k 3);
@@ -241,7 +239,7 @@ module _ (t : Step) (p : Picture) {m : ℕ} (k r c κ : ℕ) (block : Block m (s
               let some = own-waits .some in
               let low = own-waits .apart in
               let n = length-node (over t p) k r c κ after in
-              let q : length (pruned p (over t p) (suc k) r c κ) ≡ suc (length P₁ + (length P₂ + (length P₃ + length P₄))) = ap length (pruned-node p (over t p) k r c κ before after) ∙ simp length-append in
+              let q : length (pruned p (over t p) (suc k) r c κ) ≡ suc (length P₁ + (length P₂ + (length P₃ + length P₄))) = ap length (pruned-node p (over t p) k r c κ after before) ∙ simp length-append in
               record {
                 passed = omega (arith, o .read-is, a .passed, b .passed, d .passed, f .passed);
                 wrote = record {

@@ -19,46 +19,11 @@ use Rattle.laws.proofs.Features.{one-agree, one-pixel}
 use Rattle.laws.proofs.BitsOf.{bits-agree}
 use Rattle.laws.proofs.ListOf.{list-agree}
 use Rattle.build.specs.BuildBlocks.{Tallied, Written, Fitting}
-use Rattle.step.specs.Step.{Step, over, renewed, pruned}
+use Rattle.step.specs.Step.{Step, over, pruned}
 use Rattle.step.specs.Deed.{SameBefore}
-use Rattle.passes.specs.Passes.{BlockCounted, Renewed, RenewedAt, Growing, GrowAsked, Grown}
-use Rattle.step.proofs.Pruned.{renewed-one, renewed-node, pruned-one, pruned-merged, pruned-node}
-
-same-node : {x x′ : Record} {a b c d a′ b′ c′ d′ : List Record} → x ≡ x′ → a ≡ a′ → b ≡ b′ → c ≡ c′ → d ≡ d′
-    → x ∷ (a ++ (b ++ (c ++ d))) ≡ x′ ∷ (a′ ++ (b′ ++ (c′ ++ d′)))
-same-node e f g h i = cc
-
--- the bits that nodes are renewed to come from the picture's pixels alone
-pub renewed-agree : (p q q′ : Picture) (k r c κ : ℕ) → Agree q q′ k r c → renewed p q k r c κ ≡ renewed p q′ k r c κ
-renewed-agree p q q′ zero r c κ h = renewed-one p q zero r c κ (one-pixel p r c) ∙ sym (renewed-one p q′ zero r c κ (one-pixel p r c))
-renewed-agree p q q′ (suc k) r c κ h =
-    decide (oneFeature p (suc k) r c)
-    (λ e. renewed-one p q (suc k) r c κ e ∙ sym (renewed-one p q′ (suc k) r c κ e))
-    (λ e. renewed-node p q k r c κ e
-    ∙ same-node (ap (recordOf κ) (bits-agree q q′ (suc k) r c h))
-    (renewed-agree p q q′ k r c (childKey κ k 1) (agree-nw h))
-    (renewed-agree p q q′ k r (c + 2 ^ k) (childKey κ k 2) (agree-ne h))
-    (renewed-agree p q q′ k (r + 2 ^ k) c (childKey κ k 3) (agree-sw h))
-    (renewed-agree p q q′ k (r + 2 ^ k) (c + 2 ^ k) (childKey κ k 4) (agree-se h))
-    ∙ sym (renewed-node p q′ k r c κ e))
-
--- and so does what squeezing leaves
-pub pruned-agree : (p q q′ : Picture) (k r c κ : ℕ) → Agree q q′ k r c → pruned p q k r c κ ≡ pruned p q′ k r c κ
-pruned-agree p q q′ zero r c κ h = pruned-one p q zero r c κ (one-pixel p r c) ∙ sym (pruned-one p q′ zero r c κ (one-pixel p r c))
-pruned-agree p q q′ (suc k) r c κ h =
-    let same = one-agree q q′ (suc k) r c h in
-    let own : recordOf κ (bitsOf q (suc k) r c) ≡ recordOf κ (bitsOf q′ (suc k) r c) = ap (recordOf κ) (bits-agree q q′ (suc k) r c h) in
-    decide (oneFeature p (suc k) r c)
-    (λ e. pruned-one p q (suc k) r c κ e ∙ sym (pruned-one p q′ (suc k) r c κ e))
-    (λ e. decide (oneFeature q (suc k) r c)
-    (λ f. pruned-merged p q k r c κ e f ∙ ap (λ x. x ∷ []) own ∙ sym (pruned-merged p q′ k r c κ e (sym same ∙ f)))
-    (λ f. pruned-node p q k r c κ e f
-    ∙ same-node own
-    (pruned-agree p q q′ k r c (childKey κ k 1) (agree-nw h))
-    (pruned-agree p q q′ k r (c + 2 ^ k) (childKey κ k 2) (agree-ne h))
-    (pruned-agree p q q′ k (r + 2 ^ k) c (childKey κ k 3) (agree-sw h))
-    (pruned-agree p q q′ k (r + 2 ^ k) (c + 2 ^ k) (childKey κ k 4) (agree-se h))
-    ∙ sym (pruned-node p q′ k r c κ e (sym same ∙ f))))
+use Rattle.passes.specs.Passes.{BlockCounted, Growing, GrowAsked, Grown}
+use Rattle.passes.specs.Shrink.{Shrinks}
+use Rattle.step.proofs.Pruned.{pruned-agree}
 
 module _ {m past k r c κ : ℕ} {t t′ : Step} (s : SameBefore m past t t′) (b : Block m k r c κ) (h : κ + 5 ^ k ≤ past) where
   -- on a block before that key the two steps over a picture agree
@@ -74,20 +39,8 @@ module _ {m past k r c κ : ℕ} {t t′ : Step} (s : SameBefore m past t t′) 
     count-is = x .count-is ∙ ap length (list-agree (over t′ p) (over t p) k r c 0 (narrowed-agree p));
   }
 
-  pub narrowed-counted : {bits : List ℕ} {at union count next : ℕ} → BlockCounted t′ k r c bits at union count next → BlockCounted t k r c bits at union count next
-  narrowed-counted x = record { tallied = λ p key s. narrowed-tallied p (x .tallied p key s); passed = x .passed }
-
-  -- what is to be renewed is the same
-  pub narrowed-renewed : {before after : List ℕ} {at union next : ℕ} → Renewed t′ k r c before at after union next → Renewed t k r c before at after union next
-  narrowed-renewed {before} {after} {at} {union} {next} x = record {
-    holds = λ p key s.
-        let y = x .holds p key s in
-        record {
-          union-is = y .union-is ∙ bits-agree (over t′ p) (over t p) k r c (narrowed-agree p);
-          next-is = y .next-is;
-          bits-are = y .bits-are ∙ ap (λ l. sets before at (valuesOf l)) (renewed-agree p (over t′ p) (over t p) k r c key (narrowed-agree p));
-        };
-  }
+  pub narrowed-counted : {keys bits : List ℕ} {at n union count next : ℕ} → BlockCounted t′ k r c κ keys bits at n union count next → BlockCounted t k r c κ keys bits at n union count next
+  narrowed-counted x = record { tallied = λ p s. narrowed-tallied p (x .tallied p s); passed = x .passed }
 
   -- what is to be written is the same, and so is the room that it needs
   pub narrowed-written : (p : Picture) {place union next : ℕ} {keys bits keys′ bits′ : List ℕ} → Written (over t′ p) k r c κ place keys bits keys′ bits′ union next
@@ -128,3 +81,19 @@ module _ {m past k r c κ : ℕ} {t t′ : Step} (s : SameBefore m past t t′) 
 
   pub narrowed-asked : {keys bits : List ℕ} {read write : ℕ} → GrowAsked t m k r c κ keys bits read write → GrowAsked t′ m k r c κ keys bits read write
   narrowed-asked a = record { picture = a .picture; deep = a .deep; block = b; growing = narrowed-growing (a .picture) (a .growing) }
+
+  -- what is left is the same
+  pub narrowed-shrinks : {keys bits keys′ bits′ : List ℕ} {at n place union next place′ : ℕ} → Shrinks t′ k r c κ keys bits at n place keys′ bits′ union next place′
+      → Shrinks t k r c κ keys bits at n place keys′ bits′ union next place′
+  narrowed-shrinks {place = place} x = record {
+    holds = λ p s.
+        let y = x .holds p s in
+        let same = pruned-agree p (over t′ p) (over t p) k r c κ (narrowed-agree p) in
+        record {
+          union-is = y .union-is ∙ bits-agree (over t′ p) (over t p) k r c (narrowed-agree p);
+          next-is = y .next-is;
+          place-is = y .place-is ∙ ap (λ l. place + length l) same;
+          keys-are = rw same at (y .keys-are);
+          bits-are = rw same at (y .bits-are);
+        };
+  }

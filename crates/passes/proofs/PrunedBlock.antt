@@ -1,4 +1,4 @@
--- What squeezing leaves of a block: one record, which is a leaf, or a node's own and those of its quadrants, of which the last lies past the block's
+-- What shrinking leaves of a block: one record, which is a leaf, or a node's own and those of its quadrants, of which the last lies past the block's
 -- key. Rests on Pruned.
 use Prim.Native.Nat.{ℕ, zero, suc, _+_, _^_, _≤_, _<_}
 use mathlib.Core.Path.{_≡_, refl, sym, _∙_, ap}
@@ -18,7 +18,7 @@ use Rattle.laws.proofs.BitsOf.{bits-one}
 use Rattle.list.specs.Check.{oneSlot}
 use Rattle.list.proofs.OneSlot.{power-slot}
 use Rattle.step.specs.Step.{Step, over, plain, pruned}
-use Rattle.step.proofs.Pruned.{pruned-one, pruned-merged, pruned-node, leaf-before, leaf-after}
+use Rattle.step.proofs.Pruned.{pruned-one, pruned-leaf, pruned-node, leaf-before, leaf-after}
 
 -- one record, whose feature is enough to know the step over the block
 pub record LeafLeft (t : Step) (p : Picture) (k r c κ : ℕ) : Type 0 where
@@ -42,14 +42,14 @@ leaf-of t p k r c κ g value e h is =
 -- one or the other
 pub either-left {ℓ} : {C : Type ℓ} (t : Step) (p : Picture) (k r c κ : ℕ) → (LeafLeft t p k r c κ → C) → (NodeLeft t p k r c → C) → C
 either-left t p zero r c κ leaf node =
-    let e = one-pixel p r c in
-    leaf (leaf-of t p zero r c κ (p r c) (bitsOf p zero r c) (bits-one p zero r c e) (leaf-before t p zero r c e) (pruned-one p (over t p) zero r c κ e))
+    let e = one-pixel (over t p) r c in
+    leaf (leaf-of t p zero r c κ (over t p r c) (bitsOf (over t p) zero r c) (bits-one (over t p) zero r c e) (leaf-after t p zero r c e) (pruned-one p (over t p) zero r c κ e))
 either-left t p (suc k) r c κ leaf node =
-    decide (oneFeature p (suc k) r c)
-    (λ e. leaf (leaf-of t p (suc k) r c κ (p r c) (bitsOf p (suc k) r c) (bits-one p (suc k) r c e) (leaf-before t p (suc k) r c e) (pruned-one p (over t p) (suc k) r c κ e)))
-    (λ e. decide (oneFeature (over t p) (suc k) r c)
-    (λ f. leaf (leaf-of t p (suc k) r c κ (over t p r c) (bitsOf (over t p) (suc k) r c) (bits-one (over t p) (suc k) r c f) (leaf-after t p (suc k) r c f) (pruned-merged p (over t p) k r c κ e f)))
-    (λ f. node (record { positive = omega arith; before = e; after = f })))
+    decide (oneFeature (over t p) (suc k) r c)
+    (λ e. leaf (leaf-of t p (suc k) r c κ (over t p r c) (bitsOf (over t p) (suc k) r c) (bits-one (over t p) (suc k) r c e) (leaf-after t p (suc k) r c e) (pruned-one p (over t p) (suc k) r c κ e)))
+    (λ e. decide (oneFeature p (suc k) r c)
+    (λ f. leaf (leaf-of t p (suc k) r c κ (p r c) (bitsOf p (suc k) r c) (bits-one p (suc k) r c f) (leaf-before t p (suc k) r c f) (pruned-leaf p (over t p) k r c κ e f)))
+    (λ f. node (record { positive = omega arith; before = f; after = e })))
 
 -- the last record of some, with a key that is not small
 pub record Last (lo : ℕ) (l : List Record) : Type 0 where
@@ -75,12 +75,12 @@ last-four x a b c d h s =
     (last-after a (b ++ (c ++ d)) (le-refl _) (last-after b (c ++ d) (le-refl _) (last-after c d h s)))
 
 pub pruned-last : (p q : Picture) (k r c κ : ℕ) → Last κ (pruned p q k r c κ)
-pruned-last p q zero r c κ = rw (pruned-one p q zero r c κ (one-pixel p r c)) (last-one κ (bitsOf p zero r c))
+pruned-last p q zero r c κ = rw (pruned-one p q zero r c κ (one-pixel q r c)) (last-one κ (bitsOf q zero r c))
 pruned-last p q (suc k) r c κ =
-    decide (oneFeature p (suc k) r c)
-    (λ e. rw (pruned-one p q (suc k) r c κ e) (last-one κ (bitsOf p (suc k) r c)))
-    (λ e. decide (oneFeature q (suc k) r c)
-    (λ f. rw (pruned-merged p q k r c κ e f) (last-one κ (bitsOf q (suc k) r c)))
+    decide (oneFeature q (suc k) r c)
+    (λ e. rw (pruned-one p q (suc k) r c κ e) (last-one κ (bitsOf q (suc k) r c)))
+    (λ e. decide (oneFeature p (suc k) r c)
+    (λ f. rw (pruned-leaf p q k r c κ e f) (last-one κ (bitsOf p (suc k) r c)))
     (λ f. rw (pruned-node p q k r c κ e f)
     (last-four (recordOf κ (bitsOf q (suc k) r c)) (pruned p q k r c (childKey κ k 1)) (pruned p q k r (c + 2 ^ k) (childKey κ k 2)) (pruned p q k (r + 2 ^ k) c (childKey κ k 3))
     (pruned p q k (r + 2 ^ k) (c + 2 ^ k) (childKey κ k 4)) (omega arith) (pruned-last p q k (r + 2 ^ k) (c + 2 ^ k) (childKey κ k 4)))))
@@ -90,6 +90,6 @@ pub node-last : (t : Step) (p : Picture) (k r c κ : ℕ) → NodeLeft t p k r c
 node-last t p zero r c κ n = absurd (omega (arith, n .positive))
 node-last t p (suc k) r c κ n =
     let z = one-le-pow k 5 (omega arith) in
-    rw (pruned-node p (over t p) k r c κ (n .before) (n .after))
+    rw (pruned-node p (over t p) k r c κ (n .after) (n .before))
     (last-four (recordOf κ (bitsOf (over t p) (suc k) r c)) (pruned p (over t p) k r c (childKey κ k 1)) (pruned p (over t p) k r (c + 2 ^ k) (childKey κ k 2)) (pruned p (over t p) k (r + 2 ^ k) c (childKey κ k 3))
     (pruned p (over t p) k (r + 2 ^ k) (c + 2 ^ k) (childKey κ k 4)) (omega arith) (pruned-last p (over t p) k (r + 2 ^ k) (c + 2 ^ k) (childKey κ k 4)))

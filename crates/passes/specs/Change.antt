@@ -4,11 +4,13 @@ use mathlib.Core.Path.{_≡_}
 use mathlib.Core.List.{List}
 use lib.ListN.{length, replicate}
 use lib.Seq.{sets}
-use Rattle.definitions.specs.List.{keysOf, valuesOf, listOfPicture}
+use Rattle.definitions.specs.Picture.{Picture}
+use Rattle.definitions.specs.List.{keysOf, valuesOf, listOf, listOfPicture}
 use Rattle.definitions.specs.Read.{room}
 use Rattle.definitions.specs.Buffer.{replaced}
 use Rattle.list.specs.Own.{OwnList, shownBy}
 use Rattle.step.specs.Step.{Step, over}
+use Rattle.passes.specs.Passes.{Growing, Wrote}
 
 -- the first n records are a list, and there is room for what it becomes
 pub record Changeable (t : Step) (m : ℕ) (keys bits : List ℕ) (n after : ℕ) : Type 0 where
@@ -30,3 +32,7 @@ pub record GivenUp (n after : ℕ) (keys bits : List ℕ) : Type 0 where
 -- the places from one up to another are zero
 abbrev pub zeroed : (n after : ℕ) → List ℕ → List ℕ
 zeroed n after l = sets l after (replicate (n - after) 0)
+
+-- of whichever picture the records are what is left, its list after the step stands from the first place on
+pub record AllGrown (t : Step) (m left after : ℕ) (keys bits keys′ bits′ : List ℕ) : Type 0 where
+  pub holds : (p : Picture) → Growing t p m 0 0 0 keys bits left after → Wrote (listOf (over t p) m 0 0 0) after keys bits keys′ bits′ 0

@@ -1,2 +1,4 @@
 pub mod Passes
+pub mod Shrink
+pub mod Slide
 pub mod Change

@@ -1,60 +1,95 @@
 -- What the passes over the slices ask and leave. Only contracts need these. Rests on Step and on build's laws of a block.
 use Prim.Native.Nat.{ℕ, _+_, _-_, _^_, _≤_, _<_}
-use mathlib.Core.Bool.{true}
+use mathlib.Core.Bool.{false}
 use mathlib.Core.Path.{_≡_}
 use mathlib.Core.List.{List, _++_}
-use lib.ListN.{length, getD, set, drop}
+use lib.ListN.{length, getD, set, take, drop}
 use lib.Seq.{sets}
-use Rattle.keys.specs.Key.{validKey}
 use Rattle.keys.specs.Under.{Block}
+use Rattle.list.specs.Among.{keysBelow}
 use Rattle.build.specs.BuildBlocks.{Tallied}
+use Rattle.build.specs.declared.count.Tally.{Tally}
 use Rattle.definitions.specs.Picture.{Picture}
-use Rattle.definitions.specs.Bits.{bitsOf}
 use Rattle.definitions.specs.List.{Record, keysOf, valuesOf, listOf}
 use Rattle.definitions.specs.Read.{recordsOf}
-use Rattle.step.specs.Step.{Step, over, renewed, squeezed, pruned}
+use Rattle.laws.proofs.Ascending.{Ascending}
+use Rattle.step.specs.Step.{Step, over, pruned}
+use Rattle.step.specs.Meeting.{isCut}
+use Rattle.step.specs.declared.meeting.Meeting.{Meeting}
+use Rattle.step.specs.declared.meeting.Meeting.the-variants.{Apart, Leaf, Content, Cut}
 
--- from a place on a slice has these numbers
-pub record Showing (l bits : List ℕ) (at : ℕ) : Type 0 where
-  pub rest : List ℕ
-  pub is : drop at bits ≡ l ++ rest
+-- from place `at` up to n the records are these, and others behind them, whose keys ascend from `past` on
+pub record Showing (l : List Record) (past : ℕ) (keys bits : List ℕ) (at n : ℕ) : Type 0 where
+  pub rest : List Record
+  pub limit : ℕ
+  pub in-keys : n ≤ length keys
+  pub in-bits : n ≤ length bits
+  pub is : drop at (recordsOf keys bits n) ≡ l ++ rest
+  pub behind : Ascending past limit rest
 
--- from place `at` on the bitstrings are those of the list of a block of the map
-pub record Shown (m height row column key : ℕ) (bits : List ℕ) (at : ℕ) : Type 0 where
+-- so of a picture's list of a block: what stands behind it has keys past the block's
+abbrev pub ShowingBlock : (p : Picture) (height row column key : ℕ) (keys bits : List ℕ) (at n : ℕ) → Type 0
+ShowingBlock p height row column key keys bits at n = Showing (listOf p height row column key) (key + 5 ^ height) keys bits at n
+
+-- from place `at` on, up to n, stands the list of a block of the map, of some picture
+pub record Shown (m height row column key : ℕ) (keys bits : List ℕ) (at n : ℕ) : Type 0 where
   pub picture : Picture
   pub deep : m ≤ 10
   pub block : Block m height row column key
-  pub shown : Showing (valuesOf (listOf picture height row column key)) bits at
+  pub shown : ShowingBlock picture height row column key keys bits at n
 
--- the bits and the number of records of a block after the step, and the place after its records before it, of whichever picture the bitstrings show
-pub record BlockCounted (t : Step) (height row column : ℕ) (bits : List ℕ) (at union count next : ℕ) : Type 0 where
-  pub tallied : (p : Picture) (key : ℕ) → Showing (valuesOf (listOf p height row column key)) bits at → Tallied (over t p) height row column union count
-  pub passed : (p : Picture) (key : ℕ) → Showing (valuesOf (listOf p height row column key)) bits at → next ≡ at + length (listOf p height row column key)
+-- the bits and the number of records of a block after the step, and the place after its records before it, of whichever picture is shown
+pub record BlockCounted (t : Step) (height row column key : ℕ) (keys bits : List ℕ) (at n union count next : ℕ) : Type 0 where
+  pub tallied : (p : Picture) → ShowingBlock p height row column key keys bits at n → Tallied (over t p) height row column union count
+  pub passed : (p : Picture) → ShowingBlock p height row column key keys bits at n → next ≡ at + length (listOf p height row column key)
 
--- the bitstrings of the nodes of several features are renewed, the block's bits after the step and the place after its records are known
-pub record RenewedAt (t : Step) (p : Picture) (height row column key : ℕ) (before : List ℕ) (at : ℕ) (after : List ℕ) (union next : ℕ) : Type 0 where
-  pub union-is : union ≡ bitsOf (over t p) height row column
-  pub next-is : next ≡ at + length (listOf p height row column key)
-  pub bits-are : after ≡ sets before at (valuesOf (renewed p (over t p) height row column key))
+-- the content that a meeting names is there to be read
+pub record Readable (meeting : Meeting) (logValues : List ℕ) : Type 0 where
+  pub starts : (start count : ℕ) → meeting ≡ Content start count → start < length logValues
 
--- that holds of whichever picture the bitstrings show
-pub record Renewed (t : Step) (height row column : ℕ) (before : List ℕ) (at : ℕ) (after : List ℕ) (union next : ℕ) : Type 0 where
-  pub holds : (p : Picture) (key : ℕ) → Showing (valuesOf (listOf p height row column key)) before at
-      → RenewedAt t p height row column key before at after union next
+-- the bits and the number of records of a block that has its own before the step; none where the quadrants have to be asked
+abbrev pub knownOf : Meeting → (own records : ℕ) (logValues : List ℕ) → Tally
+knownOf Apart own records vs = record { bits = own; count = records }
+knownOf (Leaf bits) own records vs = record { bits = bits; count = 1 }
+knownOf (Content start count) own records vs = record { bits = getD vs start 0; count = count }
+knownOf Cut own records vs = record { bits = 0; count = 0 }
 
--- n records are there, with keys of blocks
-pub record There (m n : ℕ) (keys bits : List ℕ) : Type 0 where
-  pub deep : m ≤ 10
-  pub in-keys : n ≤ length keys
-  pub in-bits : n ≤ length bits
-  pub valid : (i : ℕ) → i < n → validKey m (getD keys i 0) ≡ true
+-- the keys from a place up to n ascend, and the first of them is below a number
+pub record EndAsked (keys : List ℕ) (at n past : ℕ) : Type 0 where
+  pub some : at < n
+  pub room : n ≤ length keys
+  pub first : getD keys at 0 < past
+  pub ascend : (i j : ℕ) → at ≤ i → i < j → j < n → getD keys i 0 < getD keys j 0
 
--- the first r records are the n before, squeezed; the places past the n stay
-pub record IsSqueezed (m n : ℕ) (keys bits keys′ bits′ : List ℕ) (r : ℕ) : Type 0 where
-  pub few : r ≤ n
-  pub is : recordsOf keys′ bits′ r ≡ squeezed m 0 (recordsOf keys bits n)
-  pub past-keys : drop n keys′ ≡ drop n keys
-  pub past-bits : drop n bits′ ≡ drop n bits
+-- the place after the records with keys below a number, and what is known of so many records
+pub record PassedOver (meeting : Meeting) (own past at : ℕ) (keys : List ℕ) (n : ℕ) (logValues : List ℕ) (tally : Tally) (next : ℕ) : Type 0 where
+  pub next-is : next ≡ at + keysBelow past (take (n - at) (drop at keys))
+  pub tally-is : tally ≡ knownOf meeting own (next - at) logValues
+
+-- the records below a leaf, by its meeting: there is room for a content
+pub record ContentFits (logKeys logValues : List ℕ) (place : ℕ) (keys bits : List ℕ) (start count : ℕ) : Type 0 where
+  pub some : 0 < count
+  pub from-keys : start + count ≤ length logKeys
+  pub from-values : start + count ≤ length logValues
+  pub in-keys : place + count ≤ length keys
+  pub in-bits : place + count ≤ length bits
+
+pub record Layable (meeting : Meeting) (logKeys logValues : List ℕ) (place : ℕ) (keys bits : List ℕ) : Type 0 where
+  pub small : place ≤ 5 ^ 10
+  pub fits : (start count : ℕ) → meeting ≡ Content start count → ContentFits logKeys logValues place keys bits start count
+
+-- they are laid past the leaf's own place, and the next free place is known
+abbrev pub laidOn : Meeting → (log : List ℕ) (place : ℕ) → List ℕ → List ℕ
+laidOn Apart log place l = l
+laidOn (Leaf bits) log place l = l
+laidOn (Content start count) log place l = sets l (place + 1) (take (count - 1) (drop (start + 1) log))
+laidOn Cut log place l = l
+
+pub record Laid (meeting : Meeting) (own : ℕ) (logKeys logValues : List ℕ) (place : ℕ) (keys bits keys′ bits′ : List ℕ) (union next : ℕ) : Type 0 where
+  pub keys-are : keys′ ≡ laidOn meeting logKeys place keys
+  pub bits-are : bits′ ≡ laidOn meeting logValues place bits
+  pub union-is : union ≡ knownOf meeting own 1 logValues .bits
+  pub next-is : isCut meeting ≡ false → next ≡ place + knownOf meeting own 1 logValues .count
 
 -- the records of a block are to be written before a place
 pub record WriteAsked (l : List Record) (key end : ℕ) (keys bits : List ℕ) : Type 0 where

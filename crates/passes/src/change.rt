@@ -1,4 +1,4 @@
-// The whole change of a list by a step: how long it becomes, and the four passes.
+// The whole change of a list by a step: how long it becomes, and the passes.
 ghost use mathlib.Core.Path.{_≡_};
 ghost use Rattle.definitions.specs.List.{listOfPicture};
 ghost use lib.ListN.{length};
@@ -6,10 +6,10 @@ ghost use Rattle.list.specs.Own.{OwnList, shownBy};
 ghost use Prim.Native.Nat.{_≤_};
 ghost use Rattle.step.specs.Step.{over};
 ghost use Rattle.step.specs.Deed.{Doable, stepOf};
-ghost use Rattle.passes.specs.Change.{Changeable, Changed, GivenUp, zeroed};
+ghost use Rattle.passes.specs.Passes.{GrowAsked};
+ghost use Rattle.passes.specs.Change.{Changeable, Changed, AllGrown, GivenUp, zeroed};
 use crate::grow;
-use crate::renew;
-use crate::squeeze;
+use crate::shrink;
 use crate::tally;
 use keys::Key;
 use step::deed::Deed;
@@ -27,7 +27,20 @@ pub fn length_after(
     requires { ⌜ Doable m deed (now «log_keys») (now «log_values») × (m ≤ 10) × OwnList m (now keys) (now bits) n ⌝ }
     ensures { λ r. ⌜ r ≡ length (listOfPicture m (over (stepOf m deed (now («log_keys» .entry)) (now («log_values» .entry))) (shownBy m (now (keys .entry)) (now (bits .entry)) n))) ⌝ }
 {
-    tally::tally_records(deed, log_keys, log_values, m, m, 0, 0, Key::ROOT, 0, bits)
+    tally::tally_records(
+            deed,
+            log_keys,
+            log_values,
+            m,
+            m,
+            0,
+            0,
+            Key::ROOT,
+            0,
+            keys,
+            bits,
+            n,
+        )
         .tally
         .count
 }
@@ -42,6 +55,40 @@ fn give_up(keys: &mut [u32], bits: &mut [u32], n: usize, after: usize)
         slices::clear(keys, after, n);
         slices::clear(bits, after, n);
     }
+}
+
+// All leaves grow to what the step makes of them. Where the list is as long as it becomes there is none that has to.
+fn grow_all(
+    deed: Deed,
+    log_keys: &[u32],
+    log_values: &[u32],
+    m: u32,
+    left: usize,
+    after: usize,
+    keys: &mut [u32],
+    bits: &mut [u32],
+)
+    requires { ⌜ Doable m deed (now «log_keys») (now «log_values») ⌝ }
+    requires { ⌜ GrowAsked (stepOf m deed (now «log_keys») (now «log_values»)) m m 0 0 0 (now keys) (now bits) left after ⌝ }
+    ensures { λ _. ⌜ AllGrown (stepOf m deed (now («log_keys» .entry)) (now («log_values» .entry))) m left after (now (keys .entry)) (now (bits .entry)) (now (keys .exit)) (now (bits .exit)) ⌝ }
+{
+    if left == after {
+        return;
+    }
+    grow::grow(
+        deed,
+        log_keys,
+        log_values,
+        m,
+        m,
+        0,
+        0,
+        Key::ROOT,
+        left,
+        after,
+        keys,
+        bits,
+    );
 }
 
 // The list becomes that of the step over its picture.
@@ -59,9 +106,7 @@ pub fn change(
     requires { ⌜ Changeable (stepOf m deed (now «log_keys») (now «log_values»)) m (now keys) (now bits) n after ⌝ }
     ensures { λ _. ⌜ Changed (stepOf m deed (now («log_keys» .entry)) (now («log_values» .entry))) m n (now (keys .entry)) (now (bits .entry)) (now (keys .exit)) (now (bits .exit)) ⌝ }
 {
-    renew::renew(deed, log_keys, log_values, m, m, 0, 0, Key::ROOT, 0, bits);
-    let left = squeeze::squeeze(m, keys, bits, n);
-    grow::grow(
+    let shrunk = shrink::shrink(
         deed,
         log_keys,
         log_values,
@@ -70,10 +115,13 @@ pub fn change(
         0,
         0,
         Key::ROOT,
-        left,
-        after,
+        0,
+        n,
+        0,
         keys,
         bits,
     );
+    let left = shrunk.place;
+    grow_all(deed, log_keys, log_values, m, left, after, keys, bits);
     give_up(keys, bits, n, after);
 }

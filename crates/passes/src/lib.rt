@@ -1,7 +1,9 @@
-// A list changed by a step, as one change (document 02, item 10): count what the list becomes, renew the bits of its nodes, squeeze out what has become one
-// leaf, and let every leaf grow to what the step makes of it. No stage needs more room than the list before or the list after.
+// A list changed by a step, as one change (document 02, item 10): count what the list becomes, let it shrink where blocks become one leaf, and let every leaf
+// grow to what the step makes of it. No stage needs more room than the list before or the list after.
+mod block_end;
 pub mod change;
 pub mod grow;
-pub mod renew;
-pub mod squeeze;
+mod shrink;
+mod slide;
+pub mod spread;
 pub mod tally;

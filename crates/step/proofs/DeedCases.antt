@@ -1,13 +1,15 @@
--- A deed by its kind: what is known of it, what it makes of a leaf, and what is left of it before a key. Rests on ShortRuns.
+-- A deed by its kind: what is known of it, what it makes of a block, and what is left of it before a key. Rests on ShortRuns.
 use Prim.Native.Nat.{ℕ}
 use mathlib.Core.Path.{_≡_, sym, subst}
 use mathlib.Core.List.{List}
 use Rattle.definitions.specs.declared.Window.{Window}
 use Rattle.step.specs.declared.run.Run.{Run}
+use Rattle.step.specs.declared.meeting.Meeting.{Meeting}
 use Rattle.step.specs.declared.deed.Deed.{Deed}
 use Rattle.step.specs.declared.deed.Deed.the-variants.{Fill, Back, Again}
 use Rattle.step.specs.Runs.{EntriesIn, backStep, againStep}
-use Rattle.step.specs.Deed.{windowStep, Painting, stepOf, Doable, Settled, Narrowed, ShortRun}
+use Rattle.step.specs.Deed.{windowStep, Painting, WindowMet, stepOf, Doable, Narrowed, ShortRun}
+use Rattle.step.specs.Meeting.{Met}
 use Rattle.step.proofs.SameBefore.{same-itself}
 
 module _ (m : ℕ) (ks vs : List ℕ) {deed : Deed} where
@@ -21,15 +23,16 @@ module _ (m : ℕ) (ks vs : List ℕ) {deed : Deed} where
   pub again-known : {run : Run} → deed ≡ Again run → Doable m deed ks vs → EntriesIn m run ks vs
   again-known e d = subst (λ x. Doable m x ks vs) e d
 
-  -- what it makes of a leaf
-  pub fill-settled : {w : Window} {f own k r c bits : ℕ} → deed ≡ Fill w f → Settled (windowStep w f) own k r c bits → Settled (stepOf m deed ks vs) own k r c bits
-  fill-settled {own = own} {k} {r} {c} {bits} e s = subst (λ x. Settled (stepOf m x ks vs) own k r c bits) (sym e) s
+  -- what it makes of a block
+  module _ {k r c κ : ℕ} {meeting : Meeting} where
+    pub fill-met : {w : Window} {f : ℕ} → deed ≡ Fill w f → WindowMet w f k r c κ meeting → Met (stepOf m deed ks vs) ks vs k r c κ meeting
+    fill-met e s = subst (λ x. Met (stepOf m x ks vs) ks vs k r c κ meeting) (sym e) (s ks vs)
 
-  pub back-settled : {run : Run} {own k r c bits : ℕ} → deed ≡ Back run → Settled (backStep m run ks vs) own k r c bits → Settled (stepOf m deed ks vs) own k r c bits
-  back-settled {own = own} {k} {r} {c} {bits} e s = subst (λ x. Settled (stepOf m x ks vs) own k r c bits) (sym e) s
+    pub back-met : {run : Run} → deed ≡ Back run → Met (backStep m run ks vs) ks vs k r c κ meeting → Met (stepOf m deed ks vs) ks vs k r c κ meeting
+    back-met e s = subst (λ x. Met (stepOf m x ks vs) ks vs k r c κ meeting) (sym e) s
 
-  pub again-settled : {run : Run} {own k r c bits : ℕ} → deed ≡ Again run → Settled (againStep m run ks vs) own k r c bits → Settled (stepOf m deed ks vs) own k r c bits
-  again-settled {own = own} {k} {r} {c} {bits} e s = subst (λ x. Settled (stepOf m x ks vs) own k r c bits) (sym e) s
+    pub again-met : {run : Run} → deed ≡ Again run → Met (againStep m run ks vs) ks vs k r c κ meeting → Met (stepOf m deed ks vs) ks vs k r c κ meeting
+    again-met e s = subst (λ x. Met (stepOf m x ks vs) ks vs k r c κ meeting) (sym e) s
 
   -- what is left of it before a key: of a window all
   pub fill-narrowed : {w : Window} {f past : ℕ} → deed ≡ Fill w f → Doable m deed ks vs → Narrowed m past deed (Fill w f) ks vs
@@ -37,12 +40,8 @@ module _ (m : ℕ) (ks vs : List ℕ) {deed : Deed} where
       subst (λ x. Narrowed m past x (Fill w f) ks vs) (sym e) (record { doable = fill-known e d; same = same-itself m past (windowStep w f) })
 
   -- of a run the entries before it
-  pub back-narrowed : {run run′ : Run} {past past′ : ℕ} → deed ≡ Back run → past′ ≡ past → ShortRun m past′ run run′ ks vs → Narrowed m past deed (Back run′) ks vs
-  back-narrowed {run} {run′} {past} {past′} e f s =
-      subst (λ x. Narrowed m past x (Back run′) ks vs) (sym e)
-      (subst (λ y. Narrowed m y (Back run) (Back run′) ks vs) f (record { doable = s .entries; same = s .same-back }))
+  pub back-narrowed : {run run′ : Run} {past : ℕ} → deed ≡ Back run → ShortRun m past run run′ ks vs → Narrowed m past deed (Back run′) ks vs
+  back-narrowed {run} {run′} {past} e s = subst (λ x. Narrowed m past x (Back run′) ks vs) (sym e) (record { doable = s .entries; same = s .same-back })
 
-  pub again-narrowed : {run run′ : Run} {past past′ : ℕ} → deed ≡ Again run → past′ ≡ past → ShortRun m past′ run run′ ks vs → Narrowed m past deed (Again run′) ks vs
-  again-narrowed {run} {run′} {past} {past′} e f s =
-      subst (λ x. Narrowed m past x (Again run′) ks vs) (sym e)
-      (subst (λ y. Narrowed m y (Again run) (Again run′) ks vs) f (record { doable = s .entries; same = s .same-again }))
+  pub again-narrowed : {run run′ : Run} {past : ℕ} → deed ≡ Again run → ShortRun m past run run′ ks vs → Narrowed m past deed (Again run′) ks vs
+  again-narrowed {run} {run′} {past} e s = subst (λ x. Narrowed m past x (Again run′) ks vs) (sym e) (record { doable = s .entries; same = s .same-again })

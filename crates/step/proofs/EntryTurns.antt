@@ -1,23 +1,25 @@
--- One entry of a run after the other, from the last: what it makes of a leaf, and when those before it need not be asked. Rests on Chains and Turned.
+-- One entry of a run after the other, from the last: what it makes of a block, and when those before it need not be asked. Rests on Chains and Turned.
 use Prim.Native.Nat.{ℕ, _+_, _-_, _^_, _≤_, _<_}
 use mathlib.Core.Path.{_≡_, sym, _∙_, ap, ap₂, subst}
-use mathlib.Core.Bool.{Bool, true, false, cond, not, _&&_, true≢false}
+use mathlib.Core.Bool.{Bool, true, false, not, _&&_, true≢false}
 use mathlib.Core.List.{List, [], _∷_}
 use native.Mathlib.Omega.{arith}
+use lib.ListN.{getD}
 use lib.Dec.{leb, ltb}
-use borrow.Author.Tests.{le-leb, lt-leb, lt-ltb, le-ltb, not-true, not-false}
+use borrow.Author.Tests.{le-leb, lt-leb, lt-ltb, le-ltb, eq-eqb, ne-eqb, not-true, not-false}
 use Rattle.keys.specs.Key.{validKey, heightOf}
 use Rattle.keys.specs.Block.{inInterval}
 use Rattle.keys.proofs.Cases.{split}
 use Rattle.keys.proofs.Powers.{five-pos}
 use Rattle.definitions.specs.Read.{recordsOf}
 use Rattle.list.specs.Check.{oneSlot}
-use Rattle.list.proofs.OneSlot.{power-slot}
 use Rattle.log.specs.declared.entry.Entry.{Entry}
 use Rattle.log.specs.Entries.{lastEntry}
-use Rattle.step.specs.Runs.{lastFirst, firstFirst, descends, Between, EntriesIn, backBits, bitsBy, oneOrNone, metBy, settledBy, Held, Asking}
+use Rattle.step.specs.Runs.{lastFirst, firstFirst, descends, Between, EntriesIn, backBits, wholeOf, givenBy, metBy, meetingBy, Held, Asking}
+use Rattle.step.specs.declared.meeting.Meeting.{Meeting}
+use Rattle.step.specs.declared.meeting.Meeting.the-variants.{Leaf, Content, Cut}
 use Rattle.step.proofs.Chains.{last-none, first-onto, onto, onto-none, descends-none, descends-some, descends-first, descends-rest, last, run-ends, run-more, run-rest, last-valid, last-slot, last-within, last-less, between-rest}
-use Rattle.step.proofs.Turned.{settled-none, settled-some, settled-turn}
+use Rattle.step.proofs.Turned.{meeting-none, meeting-some, meeting-turn}
 use Rattle.step.proofs.Lookups.{last-held}
 
 -- a key in an interval, by the test of the code
@@ -46,48 +48,59 @@ not-holding m x κ h e =
     (λ lt. absurd (true≢false (sym (ap₂ (λ a b. a && b) (le-leb x κ h) (lt-ltb κ (x + 5 ^ heightOf m x) lt)) ∙ e)))
     (λ ge. ge)
 
--- what an entry gives a block that it holds: a feature's bits are one slot, a content's may be several
-module _ (back : Bool) (ks vs : List ℕ) (κ : ℕ) (e : Entry) (bits : ℕ) where
-  pub given-again : not back ≡ true → bits ≡ 2 ^ (e .feature) → bits ≡ oneOrNone (bitsBy back ks vs κ e)
-  given-again h is =
-      is
-      ∙ sym (ap (λ x. cond x (2 ^ (e .feature)) 0) (power-slot (e .feature)))
-      ∙ ap (λ b. oneOrNone (bitsBy b ks vs κ e)) (sym (not-true back h))
+-- what an entry makes of its own block: a leaf, or a content of several records
+module _ (vs : List ℕ) (e : Entry) where
+  pub whole-leaf : e .count ≡ 1 → Leaf (getD vs (e .start) 0) ≡ wholeOf vs e
+  unfolding wholeOf
+  whole-leaf h = rw (eq-eqb (e .count) 1 h)
 
-  pub given-one : not back ≡ false → bits ≡ backBits ks vs κ e → oneSlot bits ≡ true → bits ≡ oneOrNone (bitsBy back ks vs κ e)
-  given-one h is one =
-      is
-      ∙ sym (ap (λ x. cond x (backBits ks vs κ e) 0) (ap oneSlot (sym is) ∙ one))
-      ∙ ap (λ b. oneOrNone (bitsBy b ks vs κ e)) (sym (not-false back h))
+  pub whole-content : (e .count ≡ 1 → ⊥) → Content (e .start) (e .count) ≡ wholeOf vs e
+  unfolding wholeOf
+  whole-content h = rw (ne-eqb (e .count) 1 h)
 
-  pub given-none : not back ≡ false → bits ≡ backBits ks vs κ e → oneSlot bits ≡ false → 0 ≡ oneOrNone (bitsBy back ks vs κ e)
-  given-none h is several =
-      sym (ap (λ x. cond x (backBits ks vs κ e) 0) (ap oneSlot (sym is) ∙ several))
-      ∙ ap (λ b. oneOrNone (bitsBy b ks vs κ e)) (sym (not-false back h))
+-- what it makes of a block that its own holds
+module _ (back : Bool) (ks vs : List ℕ) (κ : ℕ) (e : Entry) where
+  pub given-again : not back ≡ true → (bits : ℕ) → bits ≡ 2 ^ (e .feature) → Leaf bits ≡ givenBy back ks vs κ e
+  unfolding givenBy
+  given-again h bits is = rw (not-true back h) (ap Leaf is)
 
--- what one entry makes of a leaf
-module _ (m κ : ℕ) (bits : Entry → ℕ) (e : Entry) (others : ℕ) where
-  pub met-holds : inInterval m (e .key) κ ≡ true → oneOrNone (bits e) ≡ metBy m κ bits e others
+  module _ (h : not back ≡ false) where
+    pub given-whole : e .key ≡ κ → wholeOf vs e ≡ givenBy back ks vs κ e
+    unfolding givenBy
+    given-whole i = rw (not-false back h, eq-eqb (e .key) κ i)
+
+    module _ (i : e .key ≡ κ → ⊥) (bits : ℕ) (is : bits ≡ backBits ks vs κ e) where
+      pub given-one : oneSlot bits ≡ true → Leaf bits ≡ givenBy back ks vs κ e
+      unfolding givenBy
+      given-one one = rw (not-false back h, ne-eqb (e .key) κ i, ← is, one)
+
+      pub given-cut : oneSlot bits ≡ false → Cut ≡ givenBy back ks vs κ e
+      unfolding givenBy
+      given-cut several = rw (not-false back h, ne-eqb (e .key) κ i, ← is, several)
+
+-- what one entry makes of a block
+module _ (m κ : ℕ) (gives : Entry → Meeting) (e : Entry) (others : Meeting) where
+  pub met-holds : inInterval m (e .key) κ ≡ true → gives e ≡ metBy m κ gives e others
   unfolding metBy
   met-holds h = rw h
 
-  pub met-parted : inInterval m (e .key) κ ≡ false → inInterval m κ (e .key) ≡ true → 0 ≡ metBy m κ bits e others
+  pub met-parted : inInterval m (e .key) κ ≡ false → inInterval m κ (e .key) ≡ true → Cut ≡ metBy m κ gives e others
   unfolding metBy
   met-parted h i = rw (h, i)
 
-  pub met-apart : inInterval m (e .key) κ ≡ false → inInterval m κ (e .key) ≡ false → others ≡ metBy m κ bits e others
+  pub met-apart : inInterval m (e .key) κ ≡ false → inInterval m κ (e .key) ≡ false → others ≡ metBy m κ gives e others
   unfolding metBy
   met-apart h i = rw (h, i)
 
--- entries that descend below a limit at or before a leaf's key are all apart from it
-pub none-met : (m own κ limit : ℕ) (bits : Entry → ℕ) (es : List Entry) → descends m limit es ≡ true → limit ≤ κ → settledBy m own κ bits es ≡ own
-none-met m own κ limit bits [] d h = settled-none m own κ bits
-none-met m own κ limit bits (e ∷ es) d h =
+-- entries that descend below a limit at or before a block's key are all apart from it
+pub none-met : (m : ℕ) (others : Meeting) (κ limit : ℕ) (gives : Entry → Meeting) (es : List Entry) → descends m limit es ≡ true → limit ≤ κ → meetingBy m others κ gives es ≡ others
+none-met m others κ limit gives [] d h = meeting-none m others κ gives
+none-met m others κ limit gives (e ∷ es) d h =
     let f = descends-first m limit e es d in
     let p = five-some (heightOf m (e .key)) in
-    settled-some m own κ bits e es
-    ∙ sym (met-apart m κ bits e (settledBy m own κ bits es) (ends-before m (e .key) κ (omega arith)) (sym (not-from m κ (e .key) (omega arith))))
-    ∙ none-met m own κ (e .key) bits es (descends-rest m limit e es d) (omega arith)
+    meeting-some m others κ gives e es
+    ∙ sym (met-apart m κ gives e (meetingBy m others κ gives es) (ends-before m (e .key) κ (omega arith)) (sym (not-from m κ (e .key) (omega arith))))
+    ∙ none-met m others κ (e .key) gives es (descends-rest m limit e es d) (omega arith)
   where
     five-some : (k : ℕ) → 0 < 5 ^ k
     five-some k = five-pos k
@@ -118,39 +131,39 @@ module _ {m start end : ℕ} {ks vs : List ℕ} (d : Between m start end ks vs) 
   pub turn-asking : (κ : ℕ) → Asking m e ks vs κ
   turn-asking κ = record { slot = turn-slot; held = turn-held κ }
 
-  -- the first decides: it has met the leaf, and those before it are left
-  pub first-turns : (answer answer′ κ : ℕ) (bits : Entry → ℕ) {whole : ℕ}
-      → settledBy m answer κ bits (firstFirst end ks vs start end []) ≡ whole
-      → answer′ ≡ metBy m κ bits e answer
-      → settledBy m answer′ κ bits (firstFirst (e .start) ks vs start (e .start) []) ≡ whole
-  first-turns answer answer′ κ bits inv is =
-      ap₂ (λ a l. settledBy m a κ bits l) is (first-onto (e .start) ks vs start (e .start) [])
-      ∙ settled-turn m answer κ bits e (lastFirst (e .start) ks vs start (e .start))
-      ∙ ap (λ l. settledBy m answer κ bits (onto l [])) (sym turn-more)
-      ∙ ap (settledBy m answer κ bits) (sym (first-onto end ks vs start end []))
+  -- the first decides: it has met the block, and those before it are left
+  pub first-turns : (answer answer′ : Meeting) (κ : ℕ) (gives : Entry → Meeting) {whole : Meeting}
+      → meetingBy m answer κ gives (firstFirst end ks vs start end []) ≡ whole
+      → answer′ ≡ metBy m κ gives e answer
+      → meetingBy m answer′ κ gives (firstFirst (e .start) ks vs start (e .start) []) ≡ whole
+  first-turns answer answer′ κ gives inv is =
+      ap₂ (λ a l. meetingBy m a κ gives l) is (first-onto (e .start) ks vs start (e .start) [])
+      ∙ meeting-turn m answer κ gives e (lastFirst (e .start) ks vs start (e .start))
+      ∙ ap (λ l. meetingBy m answer κ gives (onto l [])) (sym turn-more)
+      ∙ ap (meetingBy m answer κ gives) (sym (first-onto end ks vs start end []))
       ∙ inv
 
-  -- the last decides: it holds the leaf, or lies inside it, or those before it are asked
-  module _ (own κ : ℕ) (bits : Entry → ℕ) where
-    by-turn : settledBy m own κ bits (lastFirst end ks vs start end) ≡ metBy m κ bits e (settledBy m own κ bits (lastFirst (e .start) ks vs start (e .start)))
-    by-turn = ap (settledBy m own κ bits) turn-more ∙ settled-some m own κ bits e (lastFirst (e .start) ks vs start (e .start))
+  -- the last decides: it holds the block, or lies inside it, or those before it are asked
+  module _ (others : Meeting) (κ : ℕ) (gives : Entry → Meeting) where
+    by-turn : meetingBy m others κ gives (lastFirst end ks vs start end) ≡ metBy m κ gives e (meetingBy m others κ gives (lastFirst (e .start) ks vs start (e .start)))
+    by-turn = ap (meetingBy m others κ gives) turn-more ∙ meeting-some m others κ gives e (lastFirst (e .start) ks vs start (e .start))
 
-    pub last-holds : inInterval m (e .key) κ ≡ true → oneOrNone (bits e) ≡ settledBy m own κ bits (lastFirst end ks vs start end)
-    last-holds h = met-holds m κ bits e _ h ∙ sym by-turn
+    pub last-holds : inInterval m (e .key) κ ≡ true → gives e ≡ meetingBy m others κ gives (lastFirst end ks vs start end)
+    last-holds h = met-holds m κ gives e _ h ∙ sym by-turn
 
-    pub last-parted : inInterval m (e .key) κ ≡ false → inInterval m κ (e .key) ≡ true → 0 ≡ settledBy m own κ bits (lastFirst end ks vs start end)
-    last-parted h i = met-parted m κ bits e _ h i ∙ sym by-turn
+    pub last-parted : inInterval m (e .key) κ ≡ false → inInterval m κ (e .key) ≡ true → Cut ≡ meetingBy m others κ gives (lastFirst end ks vs start end)
+    last-parted h i = met-parted m κ gives e _ h i ∙ sym by-turn
 
     pub last-apart : inInterval m (e .key) κ ≡ false → inInterval m κ (e .key) ≡ false
-        → settledBy m own κ bits (lastFirst (e .start) ks vs start (e .start)) ≡ settledBy m own κ bits (lastFirst end ks vs start end)
-    last-apart h i = met-apart m κ bits e _ h i ∙ sym by-turn
+        → meetingBy m others κ gives (lastFirst (e .start) ks vs start (e .start)) ≡ meetingBy m others κ gives (lastFirst end ks vs start end)
+    last-apart h i = met-apart m κ gives e _ h i ∙ sym by-turn
 
-    -- of ordered ones none before one that ends before the leaf
+    -- of ordered ones none before one that ends before the block
     pub last-stops : descends m (5 ^ m) (lastFirst end ks vs start end) ≡ true → inInterval m (e .key) κ ≡ false → inInterval m κ (e .key) ≡ false → e .key < κ
-        → own ≡ settledBy m own κ bits (lastFirst end ks vs start end)
+        → others ≡ meetingBy m others κ gives (lastFirst end ks vs start end)
     last-stops o h i less =
         let all : descends m (5 ^ m) (e ∷ lastFirst (e .start) ks vs start (e .start)) ≡ true = sym (ap (descends m (5 ^ m)) turn-more) ∙ o in
-        sym (none-met m own κ (e .key) bits (lastFirst (e .start) ks vs start (e .start)) (descends-rest m (5 ^ m) e _ all) (omega arith)) ∙ last-apart h i
+        sym (none-met m others κ (e .key) gives (lastFirst (e .start) ks vs start (e .start)) (descends-rest m (5 ^ m) e _ all) (omega arith)) ∙ last-apart h i
 
   -- whether they descend, told by the last and those before it
   module _ (limit : ℕ) where
@@ -175,12 +188,12 @@ pub limit-is : (m limit : ℕ) (es : List Entry) → limit ≡ 5 ^ m → descend
 limit-is m limit es e = ap (λ x. descends m x es) e
 
 -- no entry is left
-pub last-over : (m own κ : ℕ) (bits : Entry → ℕ) (ks vs : List ℕ) (start end : ℕ) → end ≤ start → own ≡ settledBy m own κ bits (lastFirst end ks vs start end)
-last-over m own κ bits ks vs start end h = sym (ap (settledBy m own κ bits) (last-none end ks vs start end h) ∙ settled-none m own κ bits)
+pub last-over : (m : ℕ) (others : Meeting) (κ : ℕ) (gives : Entry → Meeting) (ks vs : List ℕ) (start end : ℕ) → end ≤ start → others ≡ meetingBy m others κ gives (lastFirst end ks vs start end)
+last-over m others κ gives ks vs start end h = sym (ap (meetingBy m others κ gives) (last-none end ks vs start end h) ∙ meeting-none m others κ gives)
 
-pub first-over : (m own κ : ℕ) (bits : Entry → ℕ) (ks vs : List ℕ) (start end : ℕ) → end ≤ start → own ≡ settledBy m own κ bits (firstFirst end ks vs start end [])
-first-over m own κ bits ks vs start end h =
-    sym (ap (settledBy m own κ bits) (first-onto end ks vs start end [] ∙ ap (λ l. onto l []) (last-none end ks vs start end h) ∙ onto-none []) ∙ settled-none m own κ bits)
+pub first-over : (m : ℕ) (others : Meeting) (κ : ℕ) (gives : Entry → Meeting) (ks vs : List ℕ) (start end : ℕ) → end ≤ start → others ≡ meetingBy m others κ gives (firstFirst end ks vs start end [])
+first-over m others κ gives ks vs start end h =
+    sym (ap (meetingBy m others κ gives) (first-onto end ks vs start end [] ∙ ap (λ l. onto l []) (last-none end ks vs start end h) ∙ onto-none []) ∙ meeting-none m others κ gives)
 
 pub descends-over : (m limit : ℕ) (ks vs : List ℕ) (start end : ℕ) → end ≤ start → true ≡ descends m limit (lastFirst end ks vs start end)
 descends-over m limit ks vs start end h = sym (ap (descends m limit) (last-none end ks vs start end h) ∙ descends-none m limit)

@@ -2,6 +2,7 @@ pub mod Pruned
 pub mod QuarterSums
 pub mod SameBefore
 pub mod LeafTally
+pub mod Meetings
 pub mod Gifts
 pub mod Chains
 pub mod Turned

@@ -1,32 +1,45 @@
--- What an entry of a run tells of a block: its content's bits, or its feature's. Rests on the lookup in a list and on Chains.
-use Prim.Native.Nat.{ℕ, _+_, _-_, _<_}
-use mathlib.Core.Path.{_≡_, sym, _∙_, ap, ap₂}
-use mathlib.Core.Bool.{true}
+-- What an entry of a run that is taken back makes of a block: by its content's bits there, or by the whole content. Rests on the lookup in a list and on
+-- Chains.
+use Prim.Native.Nat.{ℕ, zero, suc, _+_, _-_, _≤_, _<_}
+use mathlib.Core.Path.{_≡_, refl, sym, _∙_, ap, ap₂}
+use mathlib.Core.Bool.{true, false, cond, true≢false}
 use mathlib.Core.List.{List}
+use native.Mathlib.Nat.{add-zero}
 use native.Mathlib.Omega.{arith}
 use lib.ListN.{length, getD, take, drop, length-drop}
+use lib.Dec.{eqb}
+use borrow.Author.Tests.{eqb-true, eqb-false}
 use lib.Seq.{getD-take, getD-drop, length-take-le, take-all}
 use Rattle.keys.specs.Key.{heightOf}
 use Rattle.keys.specs.Block.{rowOf, columnOf, inInterval}
 use Rattle.keys.specs.Under.{Block}
-use Rattle.keys.proofs.Valid.{valid-block}
+use Rattle.keys.proofs.Cases.{decide}
+use Rattle.keys.proofs.Valid.{valid-block, block-valid, Is}
 use Rattle.keys.proofs.Ancestor.{interval-iff}
 use Rattle.keys.proofs.InBlock.{inInterval-iff}
+use Rattle.definitions.specs.Picture.{Picture, oneFeature}
 use Rattle.definitions.specs.Bits.{bitsOf}
 use Rattle.definitions.specs.List.{Record, keysOf, valuesOf, listOf}
 use Rattle.definitions.specs.Read.{recordsOf, pictureOf}
 use Rattle.definitions.specs.Standing.{placeOf}
 use Rattle.definitions.specs.Log.{lastContent}
-use Rattle.laws.proofs.Records.{paired-keys, paired-values}
-use Rattle.laws.proofs.ListOf.{list-first}
+use Rattle.laws.proofs.Records.{paired-keys, paired-values, paired-length}
+use Rattle.laws.proofs.Features.{one-pixel}
+use Rattle.laws.proofs.ListOf.{list-first, length-several}
+use Rattle.list.specs.Check.{oneSlot}
 use Rattle.list.specs.Among.{placeAmong}
 use Rattle.list.proofs.Accepted.{content-list, keys-ascend}
+use Rattle.list.proofs.OneSlot.{slot-feature}
 use Rattle.list.proofs.Among.{place-keys, place-below}
 use Rattle.list.proofs.Lookup.{lookup-value}
 use Rattle.log.specs.declared.entry.Entry.{Entry}
 use Rattle.log.specs.Entries.{lastEntry, run, contentPart}
 use Rattle.log.proofs.Last.{content-run, content-length, entry-places}
-use Rattle.step.specs.Runs.{contentIn, backGift, backBits, Held}
+use Rattle.step.specs.Step.{Step}
+use Rattle.step.specs.Meeting.{Met}
+use Rattle.step.specs.Runs.{contentIn, backBits, wholeOf, givenBy, Held}
+use Rattle.step.specs.declared.meeting.Meeting.the-variants.{Leaf, Cut}
+use Rattle.step.proofs.Meetings.{Covers, covers-leaf, covers-list, not-pixel}
 use Rattle.step.proofs.Chains.{Ends, ends-ended}
 
 -- the content as the code lends it, and as it is defined
@@ -42,6 +55,18 @@ module _ {e : Entry} {ks vs : List ℕ} {κ : ℕ} (h : Held e ks vs κ) where
 
   values-many : length values ≡ e .count
   values-many = let l = length-drop (e .start) vs in let a = h .in-values in length-take-le (e .count) (drop (e .start) vs) (omega arith)
+
+  -- it has so many records, and its first value is the one at its start
+  pub content-many : length (contentIn ks vs e) ≡ e .count
+  content-many = paired-length keys values (keys-many ∙ sym values-many) ∙ keys-many
+
+  pub first-of : getD (valuesOf (contentIn ks vs e)) 0 0 ≡ getD vs (e .start) 0
+  first-of =
+      let some = h .sorted .some in
+      ap (λ l. getD l 0 0) (paired-values keys values (keys-many ∙ sym values-many))
+      ∙ getD-take (e .count) (drop (e .start) vs) 0 0 (omega arith)
+      ∙ getD-drop (e .start) vs 0 0
+      ∙ ap (λ i. getD vs i 0) (add-zero (e .start))
 
   lent-keys : take (e .count) (contentPart e ks) ≡ keys
   lent-keys =
@@ -61,6 +86,10 @@ module _ {e : Entry} {ks vs : List ℕ} {κ : ℕ} (h : Held e ks vs κ) where
       ∙ sym (getD-take (e .count) (drop (e .start) vs) place 0 p)
       ∙ ap₂ (λ l i. getD l i 0) (sym (paired-values keys values (keys-many ∙ sym values-many))) same
 
+several-long : (p : Picture) (k r c κ : ℕ) → oneFeature p k r c ≡ false → 2 ≤ length (listOf p k r c κ)
+several-long p zero r c κ h = absurd (true≢false (sym (one-pixel p r c) ∙ h))
+several-long p (suc k) r c κ h = let l = length-several p k r c κ h in omega arith
+
 -- an entry at the end of the records
 module _ {m s : ℕ} {ks vs : List ℕ} {start end : ℕ} (x : Ends m s ks vs start end) where
   abbrev last : Entry
@@ -76,13 +105,6 @@ module _ {m s : ℕ} {ks vs : List ℕ} {start end : ℕ} (x : Ends m s ks vs st
   shown =
       let b = content-list m s (last .key) (lastContent (recordsOf ks vs end)) (x .ends .correct) in
       sym content-same ∙ b .is ∙ ap (λ l. listOf (pictureOf m l) (heightOf m (last .key)) (rowOf m (last .key)) (columnOf m (last .key)) (last .key)) content-same
-
-  -- the bits that it tells of a block which its own holds
-  pub back-told : {k r c κ : ℕ} → Block m k r c κ → inInterval m (last .key) κ ≡ true → backBits ks vs κ last ≡ bitsOf (backGift m ks vs last .content) k r c
-  back-told {k} {r} {c} {κ} b h =
-      let v = valid-block m (last .key) (x .ends .valid) in
-      ap (λ l. getD (valuesOf l) (placeOf κ l) 0) shown
-      ∙ lookup-value (pictureOf m content) (interval-iff v b .0 h)
 
   -- its content is there, and can be searched
   pub last-held : {κ : ℕ} → inInterval m (last .key) κ ≡ true → Held last ks vs κ
@@ -113,3 +135,48 @@ module _ {m s : ℕ} {ks vs : List ℕ} {start end : ℕ} (x : Ends m s ks vs st
           first = rw part (omega (arith, i .from));
         };
       }
+
+  -- what it makes of a block that its own holds: by the bits there, or, of its own block, by the whole content
+  module _ {k r c κ : ℕ} (b : Block m k r c κ) (h : inInterval m (last .key) κ ≡ true) (t : Step) (over : Covers t (pictureOf m content) k r c) where
+    bits-told : backBits ks vs κ last ≡ bitsOf (pictureOf m content) k r c
+    bits-told =
+        let v = valid-block m (last .key) (x .ends .valid) in
+        ap (λ l. getD (valuesOf l) (placeOf κ l) 0) shown ∙ lookup-value (pictureOf m content) (interval-iff v b .0 h)
+
+    by-bits : Met t ks vs k r c κ (cond (oneSlot (backBits ks vs κ last)) (Leaf (backBits ks vs κ last)) Cut)
+    by-bits =
+        decide (oneSlot (backBits ks vs κ last))
+        (λ i. rw i (record { told = covers-leaf t (pictureOf m content) over bits-told i }))
+        (λ i. rw i (record { told = not-pixel k r c (pictureOf m content) (ap oneSlot (sym bits-told) ∙ i) }))
+
+    module _ (same : last .key ≡ κ) where
+      own-list : content ≡ listOf (pictureOf m content) k r c κ
+      own-list =
+          let i = block-valid b in
+          let at : Is m k r c (last .key) = rw same i in
+          shown ∙ rw (at .height, at .row, at .column, same) refl
+
+      one-only : last .count ≡ 1 → oneSlot (bitsOf (pictureOf m content) k r c) ≡ true
+      one-only i =
+          let held = last-held h in
+          let size = keys-many held in
+          decide (oneFeature (pictureOf m content) k r c)
+          (λ e. slot-feature (pictureOf m content) k r c ∙ e)
+          (λ e. absurd (let n = several-long (pictureOf m content) k r c κ e in let l = ap length own-list in let z = content-many held in omega arith))
+
+      first-value : getD vs (last .start) 0 ≡ bitsOf (pictureOf m content) k r c
+      first-value =
+          let held = last-held h in
+          sym (first-of held) ∙ ap (λ l. getD (valuesOf l) 0 0) (own-list ∙ list-first (pictureOf m content) k r c κ .1)
+
+      by-whole : Met t ks vs k r c κ (wholeOf vs last)
+      unfolding wholeOf
+      by-whole =
+          let held = last-held h in
+          decide (eqb (last .count) 1)
+          (λ i. rw i (record { told = covers-leaf t (pictureOf m content) over first-value (ap oneSlot first-value ∙ one-only (eqb-true (last .count) 1 i)) }))
+          (λ i. rw i (record { told = covers-list t (pictureOf m content) over (let n = held .sorted .some in let j = eqb-false (last .count) 1 i in omega arith) (held .in-keys) (held .in-values) own-list }))
+
+    pub back-meets : Met t ks vs k r c κ (givenBy true ks vs κ last)
+    unfolding givenBy
+    back-meets = decide (eqb (last .key) κ) (λ i. rw i (by-whole (eqb-true (last .key) κ i))) (λ i. rw i by-bits)

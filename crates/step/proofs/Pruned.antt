@@ -1,65 +1,22 @@
--- The three passes give the list of the step over p. Rests on ListOf, BitsOf, OneSlot.
+-- A step over a leaf needs the leaf's feature alone, and the laws of what shrinking leaves of a list: it is the old list where the step touches nothing, it
+-- is no longer than either list, and where it is as long as the new one it is the new one. Rests on ListOf, BitsOf.
 use Prim.Native.Nat.{ℕ, zero, suc, _+_, _^_, _≤_, _<_}
 use mathlib.Core.Path.{_≡_, refl, sym, _∙_, ap}
 use mathlib.Core.Bool.{true, false, cond}
-use mathlib.Core.List.{List, [], _∷_, _++_, append-assoc, append-nil}
-use native.Mathlib.Nat.{le-refl, pow-suc, one-le-pow}
+use mathlib.Core.List.{List, [], _∷_, _++_}
+use native.Mathlib.Nat.{le-refl}
 use native.Mathlib.Omega.{arith}
 use lib.ListN.{length, length-append}
-use lib.Dec.{ltb}
-use borrow.Author.Tests.{lt-ltb, le-ltb}
-use Rattle.keys.specs.Key.{childKey, heightOf}
-use Rattle.keys.specs.Block.{rowOf, columnOf}
+use Rattle.keys.specs.Key.{childKey}
 use Rattle.keys.proofs.Cases.{decide}
-use Rattle.keys.specs.Under.{Block, Under, here, nw, ne, sw, se}
-use Rattle.keys.proofs.Under.{under-trans}
-use Rattle.keys.proofs.Valid.{block-valid}
 use Rattle.definitions.specs.Picture.{Picture, oneFeature}
-use Rattle.definitions.specs.Bits.{bitsOf, featureOf}
+use Rattle.definitions.specs.Bits.{bitsOf}
 use Rattle.definitions.specs.List.{Record, recordOf, listOf}
-use Rattle.laws.proofs.Within.{first-within, pixel-row, pixel-column}
-use Rattle.laws.proofs.Pixels.{Agree}
-use Rattle.laws.proofs.Features.{one-to, one-pixel}
-use Rattle.laws.proofs.FeatureOf.{feature-of-power}
-use Rattle.laws.proofs.BitsOf.{bits-one}
-use Rattle.laws.proofs.ListOf.{list-zero, list-leaf, list-node, list-one, list-agree, list-some}
-use Rattle.list.specs.Check.{oneSlot}
-use Rattle.list.proofs.OneSlot.{slot-feature, power-slot}
-use Rattle.step.specs.Step.{Step, over, plain, renewed, squeezed, pruned, expanded, grown}
-
--- the three equations of renewed and of pruned
-
-module _ (p q : Picture) where
-  pub renewed-one : (k r c κ : ℕ) → oneFeature p k r c ≡ true → renewed p q k r c κ ≡ recordOf κ (bitsOf p k r c) ∷ []
-  unfolding renewed
-  renewed-one zero r c κ e = refl
-  renewed-one (suc k) r c κ e = rw e
-
-  pub renewed-node : (k r c κ : ℕ) → oneFeature p (suc k) r c ≡ false
-      → renewed p q (suc k) r c κ ≡ recordOf κ (bitsOf q (suc k) r c)
-      ∷ (renewed p q k r c (childKey κ k 1)
-      ++ (renewed p q k r (c + 2 ^ k) (childKey κ k 2)
-      ++ (renewed p q k (r + 2 ^ k) c (childKey κ k 3) ++ renewed p q k (r + 2 ^ k) (c + 2 ^ k) (childKey κ k 4))))
-  unfolding renewed
-  renewed-node k r c κ e = rw e
-
-  pub pruned-one : (k r c κ : ℕ) → oneFeature p k r c ≡ true → pruned p q k r c κ ≡ recordOf κ (bitsOf p k r c) ∷ []
-  unfolding pruned
-  pruned-one zero r c κ e = refl
-  pruned-one (suc k) r c κ e = rw e
-
-  pub pruned-merged : (k r c κ : ℕ) → oneFeature p (suc k) r c ≡ false → oneFeature q (suc k) r c ≡ true
-      → pruned p q (suc k) r c κ ≡ recordOf κ (bitsOf q (suc k) r c) ∷ []
-  unfolding pruned
-  pruned-merged k r c κ e f = rw (e, f)
-
-  pub pruned-node : (k r c κ : ℕ) → oneFeature p (suc k) r c ≡ false → oneFeature q (suc k) r c ≡ false
-      → pruned p q (suc k) r c κ ≡ recordOf κ (bitsOf q (suc k) r c)
-      ∷ (pruned p q k r c (childKey κ k 1)
-      ++ (pruned p q k r (c + 2 ^ k) (childKey κ k 2)
-      ++ (pruned p q k (r + 2 ^ k) c (childKey κ k 3) ++ pruned p q k (r + 2 ^ k) (c + 2 ^ k) (childKey κ k 4))))
-  unfolding pruned
-  pruned-node k r c κ e f = rw (e, f)
+use Rattle.laws.proofs.Pixels.{Agree, agree-nw, agree-ne, agree-sw, agree-se}
+use Rattle.laws.proofs.Features.{one-to, one-pixel, one-agree}
+use Rattle.laws.proofs.BitsOf.{bits-one, bits-agree}
+use Rattle.laws.proofs.ListOf.{list-one, list-node, list-agree, list-some, length-node, length-several}
+use Rattle.step.specs.Step.{Step, over, plain, pruned}
 
 -- over at a pixel
 pub over-in : (t : Step) (p : Picture) (a b : ℕ) → t .touches a b ≡ true → over t p a b ≡ t .gives a b
@@ -84,75 +41,138 @@ leaf-after t p k r c e a b w =
     (λ h. over-in t (plain (over t p r c)) a b h ∙ sym (over-in t p a b h))
     (λ h. over-out t (plain (over t p r c)) a b h ∙ sym (one-to (over t p) k r c e a b w))
 
--- one record expanded
-pub expanded-leaf : (t : Step) {m k r c κ : ℕ} (g : ℕ) → Block m k r c κ → expanded t m (recordOf κ (2 ^ g)) ≡ listOf (over t (plain g)) k r c κ
-unfolding expanded
-expanded-leaf t {m} {k} {r} {c} {κ} g b =
-    let i = block-valid b in
-    rw (power-slot g, feature-of-power g, i .height, i .row, i .column)
+-- a block of one feature is one record, with its bits
+pub one-record : (q : Picture) (k r c κ : ℕ) → oneFeature q k r c ≡ true → recordOf κ (bitsOf q k r c) ∷ [] ≡ listOf q k r c κ
+one-record q k r c κ e = ap (λ b. recordOf κ b ∷ []) (bits-one q k r c e) ∙ sym (list-one q k r c κ e)
 
-pub expanded-node : (t : Step) (m : ℕ) (x : Record) → oneSlot (x .value) ≡ false → expanded t m x ≡ x ∷ []
-unfolding expanded
-expanded-node t m x e = rw e
+same-node : {x x′ : Record} {a b c d a′ b′ c′ d′ : List Record} → x ≡ x′ → a ≡ a′ → b ≡ b′ → c ≡ c′ → d ≡ d′
+    → x ∷ (a ++ (b ++ (c ++ d))) ≡ x′ ∷ (a′ ++ (b′ ++ (c′ ++ d′)))
+same-node e f g h i = cc
 
-pub grown-none : (t : Step) (m : ℕ) → grown t m [] ≡ []
-unfolding grown
-grown-none t m = refl
+module _ (p q : Picture) where
+  -- its three equations
+  pub pruned-one : (k r c κ : ℕ) → oneFeature q k r c ≡ true → pruned p q k r c κ ≡ recordOf κ (bitsOf q k r c) ∷ []
+  unfolding pruned
+  pruned-one zero r c κ e = refl
+  pruned-one (suc k) r c κ e = rw e
 
-pub grown-cons : (t : Step) (m : ℕ) (x : Record) (l : List Record) → grown t m (x ∷ l) ≡ expanded t m x ++ grown t m l
-unfolding grown
-grown-cons t m x l = refl
+  pub pruned-leaf : (k r c κ : ℕ) → oneFeature q (suc k) r c ≡ false → oneFeature p (suc k) r c ≡ true
+      → pruned p q (suc k) r c κ ≡ recordOf κ (bitsOf p (suc k) r c) ∷ []
+  unfolding pruned
+  pruned-leaf k r c κ e f = rw (e, f)
 
--- records are expanded each by itself
-pub grown-append : (t : Step) (m : ℕ) (a b : List Record) → grown t m (a ++ b) ≡ grown t m a ++ grown t m b
-grown-append t m [] b = sym (ap (λ l. l ++ b′) (grown-none t m))
-  where
-    b′ : List Record
-    b′ = grown t m b
-grown-append t m (x ∷ a) b =
-    grown-cons t m x (a ++ b)
-    ∙ ap (λ l. expanded t m x ++ l) (grown-append t m a b)
-    ∙ sym (append-assoc (expanded t m x) (grown t m a) (grown t m b))
-    ∙ sym (ap (λ l. l ++ grown t m b) (grown-cons t m x a))
+  pub pruned-node : (k r c κ : ℕ) → oneFeature q (suc k) r c ≡ false → oneFeature p (suc k) r c ≡ false
+      → pruned p q (suc k) r c κ ≡ recordOf κ (bitsOf q (suc k) r c)
+      ∷ (pruned p q k r c (childKey κ k 1)
+      ++ (pruned p q k r (c + 2 ^ k) (childKey κ k 2)
+      ++ (pruned p q k (r + 2 ^ k) c (childKey κ k 3) ++ pruned p q k (r + 2 ^ k) (c + 2 ^ k) (childKey κ k 4))))
+  unfolding pruned
+  pruned-node k r c κ e f = rw (e, f)
 
-pub grown-one : (t : Step) (m : ℕ) (x : Record) → grown t m (x ∷ []) ≡ expanded t m x
-grown-one t m x = grown-cons t m x [] ∙ ap (λ l. expanded t m x ++ l) (grown-none t m) ∙ append-nil (expanded t m x)
+  length-left : (k r c κ : ℕ) → oneFeature q (suc k) r c ≡ false → oneFeature p (suc k) r c ≡ false → length (pruned p q (suc k) r c κ)
+      ≡ suc (length (pruned p q k r c (childKey κ k 1))
+      + (length (pruned p q k r (c + 2 ^ k) (childKey κ k 2))
+      + (length (pruned p q k (r + 2 ^ k) c (childKey κ k 3)) + length (pruned p q k (r + 2 ^ k) (c + 2 ^ k) (childKey κ k 4)))))
+  length-left k r c κ e f = ap length (pruned-node k r c κ e f) ∙ simp length-append
 
-grown-four : (t : Step) (m : ℕ) (x : Record) (a b c d a′ b′ c′ d′ : List Record) → oneSlot (x .value) ≡ false
-    → grown t m a ≡ a′ → grown t m b ≡ b′ → grown t m c ≡ c′ → grown t m d ≡ d′
-    → grown t m (x ∷ (a ++ (b ++ (c ++ d)))) ≡ x ∷ (a′ ++ (b′ ++ (c′ ++ d′)))
-grown-four t m x a b c d a′ b′ c′ d′ e f g h i =
-    grown-cons t m x (a ++ (b ++ (c ++ d)))
-    ∙ ap (λ l. l ++ grown t m (a ++ (b ++ (c ++ d)))) (expanded-node t m x e)
-    ∙ ap (λ l. x ∷ l) (rw (grown-append t m a (b ++ (c ++ d)), grown-append t m b (c ++ d), grown-append t m c d, f, g, h, i))
+  -- where the two agree it is the list that was there
+  pub pruned-apart : (k r c κ : ℕ) → Agree p q k r c → pruned p q k r c κ ≡ listOf p k r c κ
+  pruned-apart k r c κ h = go k r c κ h ∙ sym (list-agree p q k r c κ h)
+    where
+      go : (k r c κ : ℕ) → Agree p q k r c → pruned p q k r c κ ≡ listOf q k r c κ
+      go zero r c κ h = pruned-one zero r c κ (one-pixel q r c) ∙ one-record q zero r c κ (one-pixel q r c)
+      go (suc k) r c κ h =
+          decide (oneFeature q (suc k) r c)
+          (λ e. pruned-one (suc k) r c κ e ∙ one-record q (suc k) r c κ e)
+          (λ e. pruned-node k r c κ e (one-agree p q (suc k) r c h ∙ e)
+          ∙ same-node refl
+          (go k r c (childKey κ k 1) (agree-nw h))
+          (go k r (c + 2 ^ k) (childKey κ k 2) (agree-ne h))
+          (go k (r + 2 ^ k) c (childKey κ k 3) (agree-sw h))
+          (go k (r + 2 ^ k) (c + 2 ^ k) (childKey κ k 4) (agree-se h))
+          ∙ sym (list-node q k r c κ e))
 
--- THE LAW: what is left of p's list, every record expanded by itself, is the list of the step over p
-pub grown-pruned : (t : Step) (p : Picture) {m k r c κ : ℕ} → Block m k r c κ → grown t m (pruned p (over t p) k r c κ) ≡ listOf (over t p) k r c κ
-grown-pruned t p {m} {k} {r} {c} {κ} b = go k r c κ b
-  where
-    leaf : (g k r c κ : ℕ) → Block m k r c κ → (bits : ℕ) → bits ≡ 2 ^ g → Agree (over t (plain g)) (over t p) k r c
-        → grown t m (recordOf κ bits ∷ []) ≡ listOf (over t p) k r c κ
-    leaf g k r c κ b bits e h =
-        ap (λ x. grown t m (recordOf κ x ∷ [])) e
-        ∙ grown-one t m (recordOf κ (2 ^ g))
-        ∙ expanded-leaf t g b
-        ∙ list-agree (over t (plain g)) (over t p) k r c κ h
+  -- it is no longer than the list before, and no longer than the list after
+  pub pruned-before : (k r c κ : ℕ) → length (pruned p q k r c κ) ≤ length (listOf p k r c κ)
+  pruned-before zero r c κ = let s = list-some p zero r c κ in let e = ap length (pruned-one zero r c κ (one-pixel q r c)) in omega arith
+  pruned-before (suc k) r c κ =
+      let s = list-some p (suc k) r c κ in
+      decide (oneFeature q (suc k) r c)
+      (λ e. let n = ap length (pruned-one (suc k) r c κ e) in omega arith)
+      (λ e. decide (oneFeature p (suc k) r c)
+      (λ f. let n = ap length (pruned-leaf k r c κ e f) in omega arith)
+      (λ f.
+      let n = length-left k r c κ e f in
+      let o = length-node p k r c κ f in
+      let n₁ = pruned-before k r c (childKey κ k 1) in
+      let n₂ = pruned-before k r (c + 2 ^ k) (childKey κ k 2) in
+      let n₃ = pruned-before k (r + 2 ^ k) c (childKey κ k 3) in
+      let n₄ = pruned-before k (r + 2 ^ k) (c + 2 ^ k) (childKey κ k 4) in
+      omega arith))
 
-    go : (k r c κ : ℕ) → Block m k r c κ → grown t m (pruned p (over t p) k r c κ) ≡ listOf (over t p) k r c κ
-    go zero r c κ b =
-        ap (grown t m) (pruned-one p (over t p) zero r c κ (one-pixel p r c))
-        ∙ leaf (p r c) zero r c κ b _ (bits-one p zero r c (one-pixel p r c)) (leaf-before t p zero r c (one-pixel p r c))
-    go (suc k) r c κ b =
-        decide (oneFeature p (suc k) r c)
-        (λ e. ap (grown t m) (pruned-one p (over t p) (suc k) r c κ e)
-        ∙ leaf (p r c) (suc k) r c κ b _ (bits-one p (suc k) r c e) (leaf-before t p (suc k) r c e))
-        (λ e. decide (oneFeature (over t p) (suc k) r c)
-        (λ f. ap (grown t m) (pruned-merged p (over t p) k r c κ e f)
-        ∙ leaf (over t p r c) (suc k) r c κ b _ (bits-one (over t p) (suc k) r c f) (leaf-after t p (suc k) r c f))
-        (λ f. ap (grown t m) (pruned-node p (over t p) k r c κ e f)
-        ∙ grown-four t m (recordOf κ (bitsOf (over t p) (suc k) r c)) _ _ _ _ _ _ _ _ (slot-feature (over t p) (suc k) r c ∙ f)
-        (go k r c (childKey κ k 1) (under-trans b (nw here)))
-        (go k r (c + 2 ^ k) (childKey κ k 2) (under-trans b (ne here)))
-        (go k (r + 2 ^ k) c (childKey κ k 3) (under-trans b (sw here)))
-        (go k (r + 2 ^ k) (c + 2 ^ k) (childKey κ k 4) (under-trans b (se here)))
-        ∙ sym (list-node (over t p) k r c κ f)))
+  pub pruned-after : (k r c κ : ℕ) → length (pruned p q k r c κ) ≤ length (listOf q k r c κ)
+  pruned-after zero r c κ = let s = list-some q zero r c κ in let e = ap length (pruned-one zero r c κ (one-pixel q r c)) in omega arith
+  pruned-after (suc k) r c κ =
+      let s = list-some q (suc k) r c κ in
+      decide (oneFeature q (suc k) r c)
+      (λ e. let n = ap length (pruned-one (suc k) r c κ e) in omega arith)
+      (λ e. decide (oneFeature p (suc k) r c)
+      (λ f. let n = ap length (pruned-leaf k r c κ e f) in omega arith)
+      (λ f.
+      let n = length-left k r c κ e f in
+      let o = length-node q k r c κ e in
+      let n₁ = pruned-after k r c (childKey κ k 1) in
+      let n₂ = pruned-after k r (c + 2 ^ k) (childKey κ k 2) in
+      let n₃ = pruned-after k (r + 2 ^ k) c (childKey κ k 3) in
+      let n₄ = pruned-after k (r + 2 ^ k) (c + 2 ^ k) (childKey κ k 4) in
+      omega arith))
+
+  -- where it is as long as the list after it is that list: nothing has to grow
+  pub pruned-all : (k r c κ : ℕ) → length (pruned p q k r c κ) ≡ length (listOf q k r c κ) → pruned p q k r c κ ≡ listOf q k r c κ
+  pruned-all zero r c κ h = pruned-one zero r c κ (one-pixel q r c) ∙ one-record q zero r c κ (one-pixel q r c)
+  pruned-all (suc k) r c κ h =
+      decide (oneFeature q (suc k) r c)
+      (λ e. pruned-one (suc k) r c κ e ∙ one-record q (suc k) r c κ e)
+      (λ e. decide (oneFeature p (suc k) r c)
+      (λ f. let n = ap length (pruned-leaf k r c κ e f) in let s = length-several q k r c κ e in absurd (omega arith))
+      (λ f.
+      let n = length-left k r c κ e f in
+      let o = length-node q k r c κ e in
+      let n₁ = pruned-after k r c (childKey κ k 1) in
+      let n₂ = pruned-after k r (c + 2 ^ k) (childKey κ k 2) in
+      let n₃ = pruned-after k (r + 2 ^ k) c (childKey κ k 3) in
+      let n₄ = pruned-after k (r + 2 ^ k) (c + 2 ^ k) (childKey κ k 4) in
+      pruned-node k r c κ e f
+      ∙ same-node refl
+      (pruned-all k r c (childKey κ k 1) (omega arith))
+      (pruned-all k r (c + 2 ^ k) (childKey κ k 2) (omega arith))
+      (pruned-all k (r + 2 ^ k) c (childKey κ k 3) (omega arith))
+      (pruned-all k (r + 2 ^ k) (c + 2 ^ k) (childKey κ k 4) (omega arith))
+      ∙ sym (list-node q k r c κ e)))
+
+-- it comes from the pixels of the two pictures alone
+pub pruned-same : (p p′ q q′ : Picture) (k r c κ : ℕ) → Agree p p′ k r c → Agree q q′ k r c → pruned p q k r c κ ≡ pruned p′ q′ k r c κ
+pruned-same p p′ q q′ zero r c κ g h =
+    pruned-one p q zero r c κ (one-pixel q r c)
+    ∙ ap (λ b. recordOf κ b ∷ []) (bits-agree q q′ zero r c h)
+    ∙ sym (pruned-one p′ q′ zero r c κ (one-pixel q′ r c))
+pruned-same p p′ q q′ (suc k) r c κ g h =
+    let same = one-agree q q′ (suc k) r c h in
+    let leaf = one-agree p p′ (suc k) r c g in
+    let own : recordOf κ (bitsOf q (suc k) r c) ≡ recordOf κ (bitsOf q′ (suc k) r c) = ap (recordOf κ) (bits-agree q q′ (suc k) r c h) in
+    decide (oneFeature q (suc k) r c)
+    (λ e. pruned-one p q (suc k) r c κ e ∙ ap (λ x. x ∷ []) own ∙ sym (pruned-one p′ q′ (suc k) r c κ (sym same ∙ e)))
+    (λ e. decide (oneFeature p (suc k) r c)
+    (λ f. pruned-leaf p q k r c κ e f
+    ∙ ap (λ b. recordOf κ b ∷ []) (bits-agree p p′ (suc k) r c g)
+    ∙ sym (pruned-leaf p′ q′ k r c κ (sym same ∙ e) (sym leaf ∙ f)))
+    (λ f. pruned-node p q k r c κ e f
+    ∙ same-node own
+    (pruned-same p p′ q q′ k r c (childKey κ k 1) (agree-nw g) (agree-nw h))
+    (pruned-same p p′ q q′ k r (c + 2 ^ k) (childKey κ k 2) (agree-ne g) (agree-ne h))
+    (pruned-same p p′ q q′ k (r + 2 ^ k) c (childKey κ k 3) (agree-sw g) (agree-sw h))
+    (pruned-same p p′ q q′ k (r + 2 ^ k) (c + 2 ^ k) (childKey κ k 4) (agree-se g) (agree-se h))
+    ∙ sym (pruned-node p′ q′ k r c κ (sym same ∙ e) (sym leaf ∙ f))))
+
+pub pruned-agree : (p q q′ : Picture) (k r c κ : ℕ) → Agree q q′ k r c → pruned p q k r c κ ≡ pruned p q′ k r c κ
+pruned-agree p q q′ k r c κ h = pruned-same p p q q′ k r c κ (λ a b w. refl) h

@@ -1,6 +1,6 @@
 -- The sums that tell the quadrants of a block are small, and they are the quadrants. Rests on the laws of powers.
 use Prim.Native.Nat.{ℕ, suc, _+_, _-_, _*_, _^_, _≤_, _<_}
-use mathlib.Core.Path.{_≡_, refl, sym, _∙_, ap}
+use mathlib.Core.Path.{_≡_, refl, _∙_, ap}
 use native.Mathlib.Nat.{pow-suc}
 use native.Mathlib.Omega.{arith}
 use Rattle.keys.specs.Key.{childKey}

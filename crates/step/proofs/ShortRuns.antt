@@ -1,5 +1,5 @@
 -- A run without its last entries does the same to every pixel before their keys. Rests on Chains and Turned.
-use Prim.Native.Nat.{ℕ, _≤_, _<_}
+use Prim.Native.Nat.{ℕ, _+_, _≤_, _<_}
 use mathlib.Core.Path.{_≡_, sym, _∙_, ap, subst}
 use mathlib.Core.Bool.{Bool, true, false, _||_}
 use mathlib.Core.List.{List, [], _∷_, map}
@@ -74,3 +74,7 @@ short-turns {m} {past} {start} {end} {ordered} {run} {ks} {vs} s some e found la
       same-again = same-then (s .same-again)
           (subst (λ l. SameBefore m past (giftsStep m (map againGift l)) (giftsStep m (map againGift es))) (sym parts) (less-last m past againGift again-key e v late es));
     }
+
+-- a key by another sum
+pub short-by : {m : ℕ} (key : ℕ) {step step′ : ℕ} {run run′ : Run} {ks vs : List ℕ} → step ≡ step′ → ShortRun m (key + step) run run′ ks vs → ShortRun m (key + step′) run run′ ks vs
+short-by {m} key {run = run} {run′} {ks} {vs} e s = subst (λ x. ShortRun m (key + x) run run′ ks vs) e s

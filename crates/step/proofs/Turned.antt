@@ -1,4 +1,4 @@
--- Entries in one order and in the other: what the pixels get, and what a leaf becomes. Rests on Gifts and Chains.
+-- Entries in one order and in the other: what the pixels get, and what is made of a block. Rests on Gifts and Chains.
 use Prim.Native.Nat.{ℕ, _+_, _^_, _≤_, _<_}
 use mathlib.Core.Path.{_≡_, refl, sym, _∙_, ap, ap₂}
 use mathlib.Core.Bool.{Bool, true, false, cond, _||_}
@@ -11,8 +11,10 @@ use Rattle.keys.proofs.Valid.{valid-block}
 use Rattle.keys.proofs.Pixel.{inside}
 use Rattle.keys.proofs.InBlock.{inBlock-iff}
 use Rattle.log.specs.declared.entry.Entry.{Entry}
-use Rattle.step.specs.Runs.{Gift, touched, given, giftsStep, metBy, settledBy, descends}
-use Rattle.step.proofs.Gifts.{touched-cons, touched-none, given-this, given-later, Same}
+use Rattle.step.specs.Runs.{Gift, touched, given, giftsStep, metBy, meetingBy, descends}
+use Rattle.step.specs.declared.meeting.Meeting.{Meeting}
+use Rattle.step.proofs.Gifts.{touched-cons, touched-none, given-this, given-later}
+use Rattle.step.proofs.Meetings.{Same}
 use Rattle.step.proofs.Chains.{onto, onto-some, descends-first, descends-rest}
 
 -- a pixel of a block has a key of its interval
@@ -26,31 +28,32 @@ pixel-keys m x a b valid h =
 pub pixel-before : (m x a b : ℕ) → validKey m x ≡ true → pixelKey m a b < x → inBlock m x a b ≡ false
 pixel-before m x a b valid h = decide (inBlock m x a b) (λ t. let k = pixel-keys m x a b valid t in absurd (omega arith)) (λ t. t)
 
--- the two ways to settle a leaf by entries
-pub settled-none : (m own κ : ℕ) (bits : Entry → ℕ) → settledBy m own κ bits [] ≡ own
-unfolding settledBy
-settled-none m own κ bits = refl
+-- no entry, and one more
+pub meeting-none : (m : ℕ) (others : Meeting) (κ : ℕ) (gives : Entry → Meeting) → meetingBy m others κ gives [] ≡ others
+unfolding meetingBy
+meeting-none m others κ gives = refl
 
-pub settled-some : (m own κ : ℕ) (bits : Entry → ℕ) (e : Entry) (es : List Entry) → settledBy m own κ bits (e ∷ es) ≡ metBy m κ bits e (settledBy m own κ bits es)
-unfolding settledBy
-settled-some m own κ bits e es = refl
+pub meeting-some : (m : ℕ) (others : Meeting) (κ : ℕ) (gives : Entry → Meeting) (e : Entry) (es : List Entry)
+    → meetingBy m others κ gives (e ∷ es) ≡ metBy m κ gives e (meetingBy m others κ gives es)
+unfolding meetingBy
+meeting-some m others κ gives e es = refl
 
--- what stands behind turned entries matters only by what it makes of the leaf
-pub settled-onto : (m own own′ κ : ℕ) (bits : Entry → ℕ) (es others others′ : List Entry) → settledBy m own κ bits others ≡ settledBy m own′ κ bits others′
-    → settledBy m own κ bits (onto es others) ≡ settledBy m own′ κ bits (onto es others′)
+-- what stands behind turned entries matters only by what it makes of the block
+pub meeting-onto : (m : ℕ) (x x′ : Meeting) (κ : ℕ) (gives : Entry → Meeting) (es others others′ : List Entry) → meetingBy m x κ gives others ≡ meetingBy m x′ κ gives others′
+    → meetingBy m x κ gives (onto es others) ≡ meetingBy m x′ κ gives (onto es others′)
 unfolding onto
-settled-onto m own own′ κ bits [] others others′ h = h
-settled-onto m own own′ κ bits (e ∷ es) others others′ h =
-    settled-onto m own own′ κ bits es (e ∷ others) (e ∷ others′)
-    (settled-some m own κ bits e others ∙ ap (metBy m κ bits e) h ∙ sym (settled-some m own′ κ bits e others′))
+meeting-onto m x x′ κ gives [] others others′ h = h
+meeting-onto m x x′ κ gives (e ∷ es) others others′ h =
+    meeting-onto m x x′ κ gives es (e ∷ others) (e ∷ others′)
+    (meeting-some m x κ gives e others ∙ ap (metBy m κ gives e) h ∙ sym (meeting-some m x′ κ gives e others′))
 
--- one entry taken off the end: it has met the leaf
-pub settled-turn : (m own κ : ℕ) (bits : Entry → ℕ) (e : Entry) (es : List Entry)
-    → settledBy m (metBy m κ bits e own) κ bits (onto es []) ≡ settledBy m own κ bits (onto (e ∷ es) [])
-settled-turn m own κ bits e es =
-    settled-onto m (metBy m κ bits e own) own κ bits es [] (e ∷ [])
-    (settled-none m (metBy m κ bits e own) κ bits ∙ sym (settled-some m own κ bits e [] ∙ ap (metBy m κ bits e) (settled-none m own κ bits)))
-    ∙ ap (settledBy m own κ bits) (sym (onto-some e es []))
+-- one entry taken off the end: it has met the block
+pub meeting-turn : (m : ℕ) (x : Meeting) (κ : ℕ) (gives : Entry → Meeting) (e : Entry) (es : List Entry)
+    → meetingBy m (metBy m κ gives e x) κ gives (onto es []) ≡ meetingBy m x κ gives (onto (e ∷ es) [])
+meeting-turn m x κ gives e es =
+    meeting-onto m (metBy m κ gives e x) x κ gives es [] (e ∷ [])
+    (meeting-none m (metBy m κ gives e x) κ gives ∙ sym (meeting-some m x κ gives e [] ∙ ap (metBy m κ gives e) (meeting-none m x κ gives)))
+    ∙ ap (meetingBy m x κ gives) (sym (onto-some e es []))
 
 -- entries with valid keys
 abbrev pub AllValid : (m : ℕ) → List Entry → Type 0

@@ -1,18 +1,18 @@
 -- What a step does to the pixels, as the code is told it, and what the code answers about a block. Rests on Step and Runs.
-use Prim.Native.Nat.{ℕ, _+_, _^_, _≤_, _<_}
+use Prim.Native.Nat.{ℕ, _+_, _≤_, _<_}
 use mathlib.Core.Path.{_≡_}
 use mathlib.Core.Bool.{true}
 use mathlib.Core.List.{List}
 use Rattle.keys.specs.Block.{pixelKey}
 use Rattle.keys.specs.Under.{Block}
-use Rattle.definitions.specs.Bits.{featureOf}
 use Rattle.definitions.specs.Window.{inWindow}
 use Rattle.definitions.specs.declared.Window.{Window}
 use Rattle.list.specs.Check.{oneSlot}
-use Rattle.build.specs.BuildBlocks.{Tallied}
-use Rattle.step.specs.Step.{Step, over, plain}
+use Rattle.step.specs.Step.{Step, plain}
+use Rattle.step.specs.Meeting.{Met}
 use Rattle.step.specs.Runs.{EntriesIn, backStep, againStep}
 use Rattle.step.specs.declared.run.Run.{Run}
+use Rattle.step.specs.declared.meeting.Meeting.{Meeting}
 use Rattle.step.specs.declared.deed.Deed.{Deed}
 use Rattle.step.specs.declared.deed.Deed.the-variants.{Fill, Back, Again}
 
@@ -25,6 +25,10 @@ pub record Painting (w : Window) (feature : ℕ) : Type 0 where
   pub low : w .row + w .height ≤ 1024
   pub narrow : w .column + w .width ≤ 1024
   pub slot : feature ≤ 31
+
+-- what it makes of a block, whatever log there is
+abbrev pub WindowMet : (w : Window) (feature height row column key : ℕ) → Meeting → Type 0
+WindowMet w f height row column key meeting = (ks vs : List ℕ) → Met (windowStep w f) ks vs height row column key meeting
 
 -- the step that a deed stands for
 abbrev pub stepOf : (m : ℕ) (deed : Deed) (logKeys logValues : List ℕ) → Step
@@ -43,11 +47,6 @@ pub record LeafAsked (m own height row column key : ℕ) : Type 0 where
   pub deep : m ≤ 10
   pub block : Block m height row column key
   pub leaf : oneSlot own ≡ true
-
--- the bits of the leaf after the step where it stays a leaf; 0 where the quadrants have to be asked
-pub record Settled (t : Step) (own height row column bits : ℕ) : Type 0 where
-  pub stays : (bits ≡ 0 → ⊥) → Tallied (over t (plain (featureOf own))) height row column bits 1
-  pub parts : bits ≡ 0 → 0 < height
 
 -- two steps do the same to every pixel whose key is below past
 pub record SameBefore (m past : ℕ) (t t′ : Step) : Type 0 where

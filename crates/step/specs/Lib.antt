@@ -1,4 +1,5 @@
 pub mod Quarters
 pub mod Step
+pub mod Meeting
 pub mod Runs
 pub mod Deed

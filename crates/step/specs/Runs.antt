@@ -5,7 +5,7 @@ use mathlib.Core.Path.{_≡_}
 use mathlib.Core.Bool.{Bool, true, false, cond, _||_, _&&_}
 use mathlib.Core.List.{List, [], _∷_, map}
 use lib.ListN.{length, getD}
-use lib.Dec.{leb}
+use lib.Dec.{leb, eqb}
 use Rattle.keys.specs.Key.{heightOf, slotLimit}
 use Rattle.keys.specs.Block.{inBlock, inInterval}
 use Rattle.definitions.specs.Picture.{Picture}
@@ -18,6 +18,8 @@ use Rattle.list.specs.Sorted.{Sorted}
 use Rattle.log.specs.declared.entry.Entry.{Entry}
 use Rattle.log.specs.Entries.{lastEntry, run, contentPart}
 use Rattle.step.specs.declared.run.Run.{Run}
+use Rattle.step.specs.declared.meeting.Meeting.{Meeting}
+use Rattle.step.specs.declared.meeting.Meeting.the-variants.{Leaf, Content, Cut}
 use Rattle.step.specs.Step.{Step, plain}
 
 -- a block, and what its pixels get
@@ -100,30 +102,29 @@ backStep m run ks vs = giftsStep m (map (backGift m ks vs) (firstOfRun run ks vs
 abbrev pub againStep : (m : ℕ) → Run → (logKeys logValues : List ℕ) → Step
 againStep m run ks vs = giftsStep m (map againGift (lastOfRun run ks vs))
 
--- what a list of entries makes of a leaf with the key κ: its own bits where all are apart from it, the bits of one feature, or 0 where the quadrants
--- have to be asked
-abbrev pub oneOrNone : ℕ → ℕ
-oneOrNone bits = cond (oneSlot bits) bits 0
-
--- what one entry makes of it, where the entries that it decides before make something of it
-unfoldable pub metBy : (m κ : ℕ) → (Entry → ℕ) → Entry → (others : ℕ) → ℕ
-metBy m κ bits e others = cond (inInterval m (e .key) κ) (oneOrNone (bits e)) (cond (inInterval m κ (e .key)) 0 others)
-
-unfoldable pub settledBy : (m own κ : ℕ) → (Entry → ℕ) → List Entry → ℕ
-settledBy m own κ bits [] = own
-settledBy m own κ bits (e ∷ es) = metBy m κ bits e (settledBy m own κ bits es)
-
 -- the bits of the block with the key κ in an entry's content: of the last record at or before it
 abbrev pub backBits : (logKeys logValues : List ℕ) (κ : ℕ) → Entry → ℕ
 backBits ks vs κ e = getD (valuesOf (contentIn ks vs e)) (placeOf κ (contentIn ks vs e)) 0
 
--- those of a feature
-abbrev pub againBits : Entry → ℕ
-againBits e = 2 ^ (e .feature)
+-- what an entry that is taken back makes of its own block
+unfoldable pub wholeOf : (logValues : List ℕ) → Entry → Meeting
+wholeOf vs e = cond (eqb (e .count) 1) (Leaf (getD vs (e .start) 0)) (Content (e .start) (e .count))
 
--- either, as the code is told
-abbrev pub bitsBy : (back : Bool) (logKeys logValues : List ℕ) (κ : ℕ) → Entry → ℕ
-bitsBy back ks vs κ e = cond back (backBits ks vs κ e) (againBits e)
+-- what an entry makes of a block with the key κ that its own holds, taken back or painted again
+unfoldable pub givenBy : (back : Bool) (logKeys logValues : List ℕ) (κ : ℕ) → Entry → Meeting
+givenBy back ks vs κ e =
+    cond back
+    (cond (eqb (e .key) κ) (wholeOf vs e) (cond (oneSlot (backBits ks vs κ e)) (Leaf (backBits ks vs κ e)) Cut))
+    (Leaf (2 ^ (e .feature)))
+
+-- what one entry makes of a block with the key κ, where the entries that it decides before make something of it
+unfoldable pub metBy : (m κ : ℕ) → (Entry → Meeting) → Entry → (others : Meeting) → Meeting
+metBy m κ gives e others = cond (inInterval m (e .key) κ) (gives e) (cond (inInterval m κ (e .key)) Cut others)
+
+-- what a list of entries makes of it, where all others make something of it
+unfoldable pub meetingBy : (m : ℕ) (others : Meeting) (κ : ℕ) → (Entry → Meeting) → List Entry → Meeting
+meetingBy m others κ gives [] = others
+meetingBy m others κ gives (e ∷ es) = metBy m κ gives e (meetingBy m others κ gives es)
 
 -- an entry's content lies in the log, and its keys ascend from one at or before κ on
 pub record Held (e : Entry) (logKeys logValues : List ℕ) (κ : ℕ) : Type 0 where

@@ -1,14 +1,14 @@
-// A step as the passes are told it, and what it does to a leaf: the leaf stays one, or its quadrants have to be asked. The log goes with it, since a
-// deed that takes entries back, or paints them again, names them by their places there; the window's does not look at it.
-ghost use mathlib.Core.Path.{_≡_};
+// A step as the passes are told it, and what it makes of a block. The log goes with it, since a deed that takes entries back, or paints them again, names
+// them by their places there; the window's does not look at it.
 ghost use Prim.Native.Nat.{_+_, _^_, _≤_};
-ghost use Rattle.step.specs.Deed.{Doable, stepOf, LeafAsked, Settled, Narrowed};
+ghost use Rattle.step.specs.Deed.{Doable, stepOf, Narrowed};
+ghost use Rattle.step.specs.Meeting.{BlockAsked, Met};
 use crate::entries;
 use crate::fill;
+use crate::meeting::Meeting;
 use crate::run;
 use crate::run::Run;
 use definitions::Window;
-use keys::power;
 
 // Every pixel of a window gets a feature; the entries of a run are taken back, last to first; or their blocks are painted again, first to last.
 pub enum Deed {
@@ -17,47 +17,34 @@ pub enum Deed {
     Again(Run),
 }
 
-// The bits of a leaf after the step, where it stays a leaf; else 0.
-pub fn settled(
+// What the step makes of a block.
+pub fn meeting(
     deed: Deed,
     log_keys: &[u32],
     log_values: &[u32],
     m: u32,
-    own: u32,
     height: u32,
     row: u32,
     column: u32,
     key: u32,
-) -> u32
-    requires { ⌜ Doable m deed (now «log_keys») (now «log_values») × LeafAsked m own height row column key ⌝ }
-    ensures { λ r. ⌜ Settled (stepOf m deed (now («log_keys» .entry)) (now («log_values» .entry))) own height row column r ⌝ }
+) -> Meeting
+    requires { ⌜ Doable m deed (now «log_keys») (now «log_values») × BlockAsked m height row column key ⌝ }
+    ensures { λ r. ⌜ Met (stepOf m deed (now («log_keys» .entry)) (now («log_values» .entry))) (now («log_keys» .entry)) (now («log_values» .entry)) height row column key r ⌝ }
 {
     match deed {
         Deed::Fill(window, feature) => {
-            fill::settled(window, feature, m, own, height, row, column, key)
+            fill::meeting(window, feature, m, height, row, column, key)
         }
         Deed::Back(run) => {
-            entries::settled_back(run, log_keys, log_values, m, own, height, row, column, key)
+            entries::meeting_back(run, log_keys, log_values, m, height, row, column, key)
         }
         Deed::Again(run) => {
-            entries::settled_again(run, log_keys, log_values, m, own, height, row, column, key)
+            entries::meeting_again(run, log_keys, log_values, m, height, row, column, key)
         }
     }
 }
 
-// As much of the step as concerns what lies before a key.
-pub fn narrow_to(deed: Deed, log_keys: &[u32], log_values: &[u32], m: u32, past: u32) -> Deed
-    requires { ⌜ Doable m deed (now «log_keys») (now «log_values») ⌝ }
-    ensures { λ r. ⌜ Narrowed m past deed r (now («log_keys» .entry)) (now («log_values» .entry)) ⌝ }
-{
-    match deed {
-        Deed::Fill(window, feature) => Deed::Fill(window, feature),
-        Deed::Back(run) => Deed::Back(run::before(m, log_keys, log_values, run, past)),
-        Deed::Again(run) => Deed::Again(run::before(m, log_keys, log_values, run, past)),
-    }
-}
-
-// As much as concerns a block and what lies before it in key order.
+// As much of the step as concerns a block and what lies before it in key order. A window is told as it is.
 pub fn narrow(
     deed: Deed,
     log_keys: &[u32],
@@ -69,6 +56,9 @@ pub fn narrow(
     requires { ⌜ Doable m deed (now «log_keys») (now «log_values») × (height ≤ 10) × (key + 5 ^ height ≤ 5 ^ 10) ⌝ }
     ensures { λ r. ⌜ Narrowed m (key + 5 ^ height) deed r (now («log_keys» .entry)) (now («log_values» .entry)) ⌝ }
 {
-    let past = key + power::power_of_five(height);
-    narrow_to(deed, log_keys, log_values, m, past)
+    match deed {
+        Deed::Fill(window, feature) => Deed::Fill(window, feature),
+        Deed::Back(run) => Deed::Back(run::up_to(m, log_keys, log_values, run, height, key)),
+        Deed::Again(run) => Deed::Again(run::up_to(m, log_keys, log_values, run, height, key)),
+    }
 }

@@ -1,12 +1,15 @@
-// What the entries of a run make of a leaf. Only keys are compared: an entry's block holds the leaf's, lies inside it, or is apart from it. A content
-// is never copied, it is asked for the bits of one block after the other.
+// What the entries of a run make of a block. Only keys are compared: an entry's block holds the other, lies inside it, or is apart from it. A content
+// is not looked through where it is the block's own: it is told by its place.
 ghost use mathlib.Core.Path.{_≡_};
 ghost use mathlib.Core.Bool.{true};
-ghost use Prim.Native.Nat.{_≤_};
+ghost use Prim.Native.Nat.{_≤_, _<_};
+ghost use lib.ListN.{length};
 ghost use Rattle.keys.specs.Block.{inInterval};
-ghost use Rattle.step.specs.Runs.{EntriesIn, Held, Asking, backBits, bitsBy, oneOrNone, metBy, settledBy, lastOfRun, firstOfRun};
+ghost use Rattle.step.specs.Runs.{EntriesIn, Held, Asking, backBits, wholeOf, givenBy, metBy, meetingBy, lastOfRun, firstOfRun};
 ghost use Rattle.step.specs.Runs.{backStep, againStep};
-ghost use Rattle.step.specs.Deed.{LeafAsked, Settled};
+ghost use Rattle.step.specs.declared.meeting.Meeting.the-variants.{Apart};
+ghost use Rattle.step.specs.Meeting.{BlockAsked, Met};
+use crate::meeting::Meeting;
 use crate::run::Run;
 use keys::Key;
 use keys::power;
@@ -39,53 +42,64 @@ fn content_bits(log_keys: &[u32], log_values: &[u32], asked: Entry, key: u32) ->
     log_values[start + place]
 }
 
-// The bits of a block that an entry's block holds: in the content where it is taken back, of the feature where it is painted again; 0 for several slots.
-fn given(back: bool, log_keys: &[u32], log_values: &[u32], asked: Entry, key: u32) -> u32
-    requires { ⌜ (asked .feature ≤ 31) × Held asked (now «log_keys») (now «log_values») key ⌝ }
-    ensures { λ r. ⌜ r ≡ oneOrNone (bitsBy back (now («log_keys» .entry)) (now («log_values» .entry)) key asked) ⌝ }
+// What an entry that is taken back makes of its own block: the content that it holds.
+fn whole(log_values: &[u32], asked: Entry) -> Meeting
+    requires { ⌜ asked .start < length (now «log_values») ⌝ }
+    ensures { λ r. ⌜ r ≡ wholeOf (now («log_values» .entry)) asked ⌝ }
 {
-    if !back {
-        return power::power_of_two(asked.feature);
+    let start = asked.start;
+    let count = asked.count;
+    if count == 1 {
+        return Meeting::Leaf(log_values[start]);
     }
-    let bits = content_bits(log_keys, log_values, asked, key);
-    if check::has_one_slot(bits) { bits } else { 0 }
+    Meeting::Content(start, count)
 }
 
-// What one entry makes of a leaf of which the entries that it decides before make the others' answer.
+// What an entry makes of a block that its own holds: by the content where it is taken back, of the feature where it is painted again.
+fn given(back: bool, log_keys: &[u32], log_values: &[u32], asked: Entry, key: u32) -> Meeting
+    requires { ⌜ (asked .feature ≤ 31) × Held asked (now «log_keys») (now «log_values») key ⌝ }
+    ensures { λ r. ⌜ r ≡ givenBy back (now («log_keys» .entry)) (now («log_values» .entry)) key asked ⌝ }
+{
+    if !back {
+        return Meeting::Leaf(power::power_of_two(asked.feature));
+    }
+    if asked.key == key {
+        return whole(log_values, asked);
+    }
+    let bits = content_bits(log_keys, log_values, asked, key);
+    if check::has_one_slot(bits) {
+        Meeting::Leaf(bits)
+    } else {
+        Meeting::Cut
+    }
+}
+
+// What one entry makes of a block of which the entries that it decides before make something.
 fn met(
-    back: bool,
     log_keys: &[u32],
     log_values: &[u32],
     m: u32,
     asked: Entry,
     key: u32,
-    others: u32,
-) -> u32
+    others: Meeting,
+) -> Meeting
     requires { ⌜ (m ≤ 10) × Asking m asked (now «log_keys») (now «log_values») key ⌝ }
-    ensures { λ r. ⌜ r ≡ metBy m key (bitsBy back (now («log_keys» .entry)) (now («log_values» .entry)) key) asked others ⌝ }
+    ensures { λ r. ⌜ r ≡ metBy m key (givenBy true (now («log_keys» .entry)) (now («log_values» .entry)) key) asked others ⌝ }
 {
     if holds(m, asked.key, key) {
-        return given(back, log_keys, log_values, asked, key);
+        return given(true, log_keys, log_values, asked, key);
     }
     if holds(m, key, asked.key) {
-        return 0;
+        return Meeting::Cut;
     }
     others
 }
 
-// What a run makes of a leaf where the last entry decides that is not apart from it. Where the entries are ordered, none before one that ends before
-// the leaf has to be asked.
-fn by_last(
-    back: bool,
-    run: Run,
-    log_keys: &[u32],
-    log_values: &[u32],
-    m: u32,
-    own: u32,
-    key: u32,
-) -> u32
+// What a run makes of a block where the last entry decides that is not apart from it. Where the entries are ordered, none before one that ends before
+// the block has to be asked.
+fn by_last(back: bool, run: Run, log_keys: &[u32], log_values: &[u32], m: u32, key: u32) -> Meeting
     requires { ⌜ (m ≤ 10) × EntriesIn m run (now «log_keys») (now «log_values») ⌝ }
-    ensures { λ r. ⌜ r ≡ settledBy m own key (bitsBy back (now («log_keys» .entry)) (now («log_values» .entry)) key) (lastOfRun run (now («log_keys» .entry)) (now («log_values» .entry))) ⌝ }
+    ensures { λ r. ⌜ r ≡ meetingBy m Apart key (givenBy back (now («log_keys» .entry)) (now («log_values» .entry)) key) (lastOfRun run (now («log_keys» .entry)) (now («log_values» .entry))) ⌝ }
 {
     let start = run.start;
     let mut end = run.end;
@@ -95,68 +109,66 @@ fn by_last(
             return given(back, log_keys, log_values, last, key);
         }
         if holds(m, key, last.key) {
-            return 0;
+            return Meeting::Cut;
         }
         if run.ordered && last.key < key {
-            return own;
+            return Meeting::Apart;
         }
         end = last.start;
     }
-    own
+    Meeting::Apart
 }
 
-// The same where the first entry decides: what the later ones make of the leaf is what the earlier ones leave where they are apart from it.
-fn by_first(run: Run, log_keys: &[u32], log_values: &[u32], m: u32, own: u32, key: u32) -> u32
+// The same where the first entry decides: what the later ones make of the block is what the earlier ones leave where they are apart from it.
+fn by_first(run: Run, log_keys: &[u32], log_values: &[u32], m: u32, key: u32) -> Meeting
     requires { ⌜ (m ≤ 10) × EntriesIn m run (now «log_keys») (now «log_values») ⌝ }
-    ensures { λ r. ⌜ r ≡ settledBy m own key (bitsBy true (now («log_keys» .entry)) (now («log_values» .entry)) key) (firstOfRun run (now («log_keys» .entry)) (now («log_values» .entry))) ⌝ }
+    ensures { λ r. ⌜ r ≡ meetingBy m Apart key (givenBy true (now («log_keys» .entry)) (now («log_values» .entry)) key) (firstOfRun run (now («log_keys» .entry)) (now («log_values» .entry))) ⌝ }
 {
     let start = run.start;
     let mut end = run.end;
-    let mut answer = own;
+    let mut answer = Meeting::Apart;
     while start < end {
         let last = entry::last_entry(log_keys, log_values, end);
-        answer = met(true, log_keys, log_values, m, last, key, answer);
+        answer = met(log_keys, log_values, m, last, key, answer);
         end = last.start;
     }
     answer
 }
 
-// The bits of a leaf after a run was taken back, where it stays a leaf; else 0. Ordered entries have no pixel of one another: any of them may decide.
-pub fn settled_back(
+// What a run that is taken back makes of a block. Ordered entries have no pixel of one another: any of them may decide.
+pub fn meeting_back(
     run: Run,
     log_keys: &[u32],
     log_values: &[u32],
     m: u32,
-    own: u32,
     height: u32,
     row: u32,
     column: u32,
     key: u32,
-) -> u32
-    requires { ⌜ EntriesIn m run (now «log_keys») (now «log_values») × LeafAsked m own height row column key ⌝ }
-    ensures { λ r. ⌜ Settled (backStep m run (now («log_keys» .entry)) (now («log_values» .entry))) own height row column r ⌝ }
+) -> Meeting
+    requires { ⌜ EntriesIn m run (now «log_keys») (now «log_values») × BlockAsked m height row column key ⌝ }
+    ensures { λ r. ⌜ Met (backStep m run (now («log_keys» .entry)) (now («log_values» .entry))) (now («log_keys» .entry)) (now («log_values» .entry)) height row column key r ⌝ }
 {
     let ordered = run.ordered;
     if ordered {
-        return by_last(true, run, log_keys, log_values, m, own, key);
+        return by_last(true, run, log_keys, log_values, m, key);
     }
-    by_first(run, log_keys, log_values, m, own, key)
+    by_first(run, log_keys, log_values, m, key)
 }
 
-// The same after it was painted again.
-pub fn settled_again(
+// The same of one that is painted again.
+pub fn meeting_again(
     run: Run,
     log_keys: &[u32],
     log_values: &[u32],
     m: u32,
-    own: u32,
     height: u32,
     row: u32,
     column: u32,
     key: u32,
-) -> u32
-    requires { ⌜ EntriesIn m run (now «log_keys») (now «log_values») × LeafAsked m own height row column key ⌝ }
-    ensures { λ r. ⌜ Settled (againStep m run (now («log_keys» .entry)) (now («log_values» .entry))) own height row column r ⌝ }
+) -> Meeting
+    requires { ⌜ EntriesIn m run (now «log_keys») (now «log_values») × BlockAsked m height row column key ⌝ }
+    ensures { λ r. ⌜ Met (againStep m run (now («log_keys» .entry)) (now («log_values» .entry))) (now («log_keys» .entry)) (now («log_values» .entry)) height row column key r ⌝ }
 {
-    by_last(false, run, log_keys, log_values, m, own, key)
+    by_last(false, run, log_keys, log_values, m, key)
 }

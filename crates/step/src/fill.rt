@@ -1,23 +1,23 @@
-// What painting a window does to a leaf: it lies apart from the window, or within it, or the window cuts it.
-ghost use mathlib.Core.Path.{_≡_};
-ghost use Rattle.step.specs.Deed.{windowStep, Painting, LeafAsked, Settled};
+// What painting a window makes of a block: it lies apart from the window, or within it, or the window cuts it.
+ghost use Rattle.step.specs.Deed.{Painting, WindowMet};
+ghost use Rattle.step.specs.Meeting.{BlockAsked};
+use crate::meeting::Meeting;
 use definitions::Window;
 use keys::power;
 use walk::Spot;
 
-// The bits of a leaf after the window was painted, where it stays a leaf; else 0.
-pub fn settled(
+// What the window makes of it, whatever log there is: none is looked at.
+pub fn meeting(
     window: Window,
     feature: u32,
     m: u32,
-    own: u32,
     height: u32,
     row: u32,
     column: u32,
     key: u32,
-) -> u32
-    requires { ⌜ Painting window feature × LeafAsked m own height row column key ⌝ }
-    ensures { λ r. ⌜ Settled (windowStep window feature) own height row column r ⌝ }
+) -> Meeting
+    requires { ⌜ Painting window feature × BlockAsked m height row column key ⌝ }
+    ensures { λ r. ⌜ WindowMet window feature height row column key r ⌝ }
 {
     let side = power::power_of_two(height);
     let spot = Spot {
@@ -28,10 +28,10 @@ pub fn settled(
         step: 0,
     };
     if walk::apart(spot, window) {
-        return own;
+        return Meeting::Apart;
     }
     if walk::within(spot, window) {
-        return power::power_of_two(feature);
+        return Meeting::Leaf(power::power_of_two(feature));
     }
-    0
+    Meeting::Cut
 }

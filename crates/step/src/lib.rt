@@ -3,5 +3,6 @@
 pub mod deed;
 mod entries;
 mod fill;
+pub mod meeting;
 pub mod quarters;
 pub mod run;

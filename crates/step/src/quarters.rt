@@ -1,6 +1,6 @@
 // The four quadrants of a block, told once for every function that goes down by them.
 ghost use mathlib.Core.Path.{_≡_};
-ghost use Prim.Native.Nat.{_+_, _^_, _≤_, _<_};
+ghost use Prim.Native.Nat.{_+_};
 ghost use Rattle.step.specs.Quarters.{Divisible, quartersOf};
 use keys::power;
 

@@ -1,8 +1,7 @@
 // A run of a log: the entries between two of its places. They are read from the end, since an entry's last records say where it begins.
 ghost use mathlib.Core.Path.{_≡_};
 ghost use mathlib.Core.Bool.{true};
-ghost use Prim.Native.Nat.{_≤_, _^_};
-ghost use Rattle.keys.specs.Key.{slotLimit};
+ghost use Prim.Native.Nat.{_+_, _^_, _≤_};
 ghost use Rattle.step.specs.Runs.{EntriesIn, Between, descends, lastFirst};
 ghost use Rattle.step.specs.Deed.{ShortRun};
 use keys::Key;
@@ -50,22 +49,19 @@ pub fn run_of(m: u32, log_keys: &[u32], log_values: &[u32], start: usize, end: u
     }
 }
 
-// The run without its last entries, as long as their keys are at or past a key: they have no pixel before it.
-pub fn before(m: u32, log_keys: &[u32], log_values: &[u32], run: Run, past: u32) -> Run
-    requires { ⌜ EntriesIn m run (now «log_keys») (now «log_values») ⌝ }
-    ensures { λ r. ⌜ ShortRun m past run r (now («log_keys» .entry)) (now («log_values» .entry)) ⌝ }
+// The run without its last entries, as long as their keys are past a block's: they have no pixel of it, nor of what lies before it.
+pub fn up_to(m: u32, log_keys: &[u32], log_values: &[u32], run: Run, height: u32, key: u32) -> Run
+    requires { ⌜ EntriesIn m run (now «log_keys») (now «log_values») × (height ≤ 10) × (key + 5 ^ height ≤ 5 ^ 10) ⌝ }
+    ensures { λ r. ⌜ ShortRun m (key + 5 ^ height) run r (now («log_keys» .entry)) (now («log_values» .entry)) ⌝ }
 {
+    let past = key + power::power_of_five(height);
     let start = run.start;
     let ordered = run.ordered;
     let mut end = run.end;
     while start < end {
         let last = entry::last_entry(log_keys, log_values, end);
         if last.key < past {
-            return Run {
-                start,
-                end,
-                ordered,
-            };
+            break;
         }
         end = last.start;
     }

@@ -2,33 +2,26 @@
 use mathlib.Core.Path.{_∙_}
 use native.Mathlib.Omega.{arith}
 use borrow.Author.Needs.{needs}
-use Rattle.passes.proofs.Changing.{shown-whole, squeeze-asked, grow-asked, changed-keys, changed-bits}
+use Rattle.passes.proofs.Changing.{shrink-whole, grow-asked, changed-keys, changed-bits}
 use Rattle.passes.proofs.change.change.Statement.{statement}
 use Rattle.passes.proofs.change.change.Tie as tie
 
-renew-requires : tie.Need-renew-requires
-renew-requires c κs = let s = c .before .before .before .before .before .pre in (s .0, shown-whole (s .1 .deep) (s .1 .own))
+shrink-requires : tie.Need-shrink-requires
+shrink-requires c κs = let s = c .before .before .before .before .before .before .pre in (s .0, shrink-whole (s .1 .deep) (s .1 .own))
 
-squeeze-requires : tie.Need-squeeze-requires
-squeeze-requires c κs =
-    let s = c .before .before .before .before .before .before .before .before .before .before .pre .1 in
-    squeeze-asked _ (s .deep) (s .own) (c .before .before .before .before .renew .ensures) (c .before .before .before .before .renew .kept .1 .1 .1 .1 .1 .1 .1 .1 .1 .0)
-
-grow-requires : tie.Need-grow-requires
-grow-requires c κs =
-    let s = c .before .before .before .before .before .before .before .before .before .before .before .before .before .before .before .before .before .pre in
-    let q = c .before .before .before .before .before .before .squeeze in
-    let r = c .before .before .before .before .before .before .before .before .before .before .before .renew in
-    (s .0, grow-asked _ (s .1 .deep) (s .1 .own) (r .ensures) (q .ensures) (q .kept .1 .0) (q .kept .1 .1 .0 ∙ r .kept .1 .1 .1 .1 .1 .1 .1 .1 .1 .0) (s .1 .after-is) (s .1 .fits))
+grow-all-requires : tie.Need-grow-all-requires
+grow-all-requires c κs =
+    let s = c .before .before .before .before .before .before .before .before .before .before .before .before .before .pre in
+    let r = c .before .before .before .before .before .before .shrink in
+    (s .0, grow-asked _ (s .1 .deep) (s .1 .own) (r .ensures) (s .1 .after-is) (s .1 .fits))
 
 give-up-requires : tie.Need-give-up-requires
 give-up-requires c κs =
-    let s = c .before .before .before .before .before .before .before .before .before .before .before .before .before .before .before .before .before .before .before .before .before .before .before .before .pre .1 in
-    let g = c .before .before .before .before .before .before .grow in
-    let q = c .before .before .before .before .before .before .before .before .before .before .before .before .before .squeeze in
-    let r = c .before .before .before .before .before .before .before .before .before .before .before .before .before .before .before .before .before .before .renew in
-    let e = g .kept .1 .1 .1 .1 .1 .1 .1 .1 .1 .1 .0 ∙ q .kept .1 .0 in
-    let f = g .kept .1 .1 .1 .1 .1 .1 .1 .1 .1 .1 .1 .0 ∙ (q .kept .1 .1 .0 ∙ r .kept .1 .1 .1 .1 .1 .1 .1 .1 .1 .0) in
+    let s = c .before .before .before .before .before .before .before .before .before .before .before .before .before .before .before .before .before .before .before .before .pre .1 in
+    let g = c .before .before .before .before .before .before .grow-all in
+    let r = c .before .before .before .before .before .before .before .before .before .before .before .before .before .shrink in
+    let e = g .kept .1 .1 .1 .1 .1 .1 .0 ∙ r .kept .1 .1 .1 .1 .1 .1 .1 .1 .1 .1 .1 .0 in
+    let f = g .kept .1 .1 .1 .1 .1 .1 .1 .0 ∙ r .kept .1 .1 .1 .1 .1 .1 .1 .1 .1 .1 .1 .1 .0 in
     record { in-keys = omega (arith, s .own .fits, e); in-bits = omega (arith, s .own .fits, f) }
 
 same-length : tie.Need-same-length
@@ -39,25 +32,21 @@ same-length-2 c = search needs
 
 returns : tie.Need-returns
 returns c =
-    let s = c .before .before .before .before .before .before .before .before .before .before .before .before .before .before .before .before .before .before .before .before .before .before .before .before .before .before .before .before .before .pre .1 in
+    let s = c .before .before .before .before .before .before .before .before .before .before .before .before .before .before .before .before .before .before .before .before .before .before .before .before .before .pre .1 in
     let u = c .before .before .before .before .give-up in
-    let g = c .before .before .before .before .before .before .before .before .before .before .before .grow in
-    let q = c .before .before .before .before .before .before .before .before .before .before .before .before .before .before .before .before .before .before .squeeze in
-    let r = c .before .before .before .before .before .before .before .before .before .before .before .before .before .before .before .before .before .before .before .before .before .before .before .renew in
-    let e = q .kept .1 .0 in
-    let f = q .kept .1 .1 .0 ∙ r .kept .1 .1 .1 .1 .1 .1 .1 .1 .1 .0 in
+    let g = c .before .before .before .before .before .before .before .before .before .before .before .grow-all in
+    let r = c .before .before .before .before .before .before .before .before .before .before .before .before .before .before .before .before .before .before .shrink in
     record {
-      keys-are = u .ensures .0 ∙ changed-keys _ (s .deep) (s .own) (r .ensures) (q .ensures) e f (s .after-is) (s .fits) (g .ensures);
-      bits-are = u .ensures .1 ∙ changed-bits _ (s .deep) (s .own) (r .ensures) (q .ensures) e f (s .after-is) (s .fits) (g .ensures);
+      keys-are = u .ensures .0 ∙ changed-keys _ (s .deep) (s .own) (r .ensures) (s .after-is) (s .fits) (g .ensures);
+      bits-are = u .ensures .1 ∙ changed-bits _ (s .deep) (s .own) (r .ensures) (s .after-is) (s .fits) (g .ensures);
     }
 
 pub change-spec : {M : Type 1} → statement M
 change-spec =
     tie.close
     (tie.spec
-    renew-requires
-    squeeze-requires
-    grow-requires
+    shrink-requires
+    grow-all-requires
     give-up-requires
     same-length
     same-length-2

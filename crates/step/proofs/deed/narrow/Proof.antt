@@ -1,25 +1,42 @@
--- `deed::narrow` meets its contract.
-use Prim.Native.Nat.{_+_}
-use mathlib.Core.Path.{subst}
+-- `deed::narrow` meets its contract, kind by kind.
 use borrow.Author.Needs.{needs}
-use Rattle.step.specs.Deed.{Narrowed}
+use Rattle.step.proofs.DeedCases.{back-known, again-known, fill-narrowed, back-narrowed, again-narrowed}
 use Rattle.step.proofs.deed.narrow.Statement.{statement}
 use Rattle.step.proofs.deed.narrow.Tie as tie
 
-power-of-five-requires : tie.Need-power-of-five-requires
-power-of-five-requires c κs = search needs
+enum-known-deed : tie.Need-enum-known-deed
+enum-known-deed c = search needs
 
-add-past : tie.Need-add-past
-add-past c = search needs
+enum-known-deed-2 : tie.Need-enum-known-deed-2
+enum-known-deed-2 c = search needs
 
-narrow-to-requires : tie.Need-narrow-to-requires
-narrow-to-requires c κs = search needs
+up-to-requires : tie.Need-up-to-requires
+up-to-requires c κs = let s = c .before .before .before .before .before in (back-known (s .args .m) (s .args .log-keys .now) (s .args .log-values .now) (c .before .deed2 .given .1) (s .pre .0), s .pre .1, s .pre .2)
+
+enum-known-deed-3 : tie.Need-enum-known-deed-3
+enum-known-deed-3 c = search needs
+
+up-to-requires-2 : tie.Need-up-to-requires-2
+up-to-requires-2 c κs = let s = c .before .before .before .before .before in (again-known (s .args .m) (s .args .log-keys .now) (s .args .log-values .now) (c .before .deed3 .given .1) (s .pre .0), s .pre .1, s .pre .2)
 
 returns : tie.Need-returns
-returns c =
-    let s = c .before .before .before .before in
-    subst (λ x. Narrowed (s .args .m) (s .args .key + x) (s .args .deed) (c .narrow-to .result) (s .args .log-keys .now) (s .args .log-values .now))
-    (c .before .power-of-five .ensures) (c .narrow-to .ensures)
+returns c = let s = c .before .before .before .before .before in fill-narrowed (s .args .m) (s .args .log-keys .now) (s .args .log-values .now) (c .before .deed .given .1) (s .pre .0)
+
+returns-2 : tie.Need-returns-2
+returns-2 c = let s = c .before .before .before .before .before .before in back-narrowed (s .args .m) (s .args .log-keys .now) (s .args .log-values .now) (c .before .before .deed2 .given .1) (c .up-to .ensures)
+
+returns-3 : tie.Need-returns-3
+returns-3 c = let s = c .before .before .before .before .before .before in again-narrowed (s .args .m) (s .args .log-keys .now) (s .args .log-values .now) (c .before .before .deed3 .given .1) (c .up-to2 .ensures)
 
 pub narrow-spec : {M : Type 1} → statement M
-narrow-spec = tie.close (tie.spec power-of-five-requires add-past narrow-to-requires returns)
+narrow-spec =
+    tie.close
+    (tie.spec
+    enum-known-deed
+    enum-known-deed-2
+    up-to-requires
+    enum-known-deed-3
+    up-to-requires-2
+    returns
+    returns-2
+    returns-3)

@@ -1,21 +1,22 @@
--- `by_first` meets its contract: what the entries from the end on make of the leaf is what those before leave where they are apart from it.
+-- `by_first` meets its contract: what the entries from the end on make of the block is what those before leave where they are apart from it.
 use mathlib.Core.Path.{_≡_, refl, _∙_}
 use mathlib.Core.Bool.{true}
 use mathlib.Core.List.{[]}
-use Rattle.step.specs.Runs.{Between, bitsBy, settledBy, firstFirst}
+use Rattle.step.specs.Runs.{Between, givenBy, meetingBy, firstFirst}
+use Rattle.step.specs.declared.meeting.Meeting.the-variants.{Apart}
 use Rattle.step.proofs.Chains.{run-ended}
 use Rattle.step.proofs.EntryTurns.{turn-less, turn-rest, turn-asking, first-turns, first-over}
 use Rattle.step.proofs.entries.by_first.Statement.{statement}
 use Rattle.step.proofs.entries.by_first.Tie as tie
 
 abbrev Inv-loop : tie.InvT-loop
-Inv-loop log-keys log-values m own key start end₀ answer₀ end answer =
+Inv-loop log-keys log-values m key start end₀ answer₀ end answer =
     Between m start end log-keys log-values
-    × (settledBy m answer key (bitsBy true log-keys log-values key) (firstFirst end log-keys log-values start end [])
-    ≡ settledBy m own key (bitsBy true log-keys log-values key) (firstFirst end₀ log-keys log-values start end₀ []))
+    × (meetingBy m answer key (givenBy true log-keys log-values key) (firstFirst end log-keys log-values start end [])
+    ≡ meetingBy m Apart key (givenBy true log-keys log-values key) (firstFirst end₀ log-keys log-values start end₀ []))
 
 abbrev μ-loop : tie.MeasureT-loop
-μ-loop log-keys log-values m own key start end₀ answer₀ end answer = end
+μ-loop log-keys log-values m key start end₀ answer₀ end answer = end
 
 loop-holds : tie.Need-loop-holds Inv-loop μ-loop
 loop-holds c = (c .before .before .pre .1 .between, refl)

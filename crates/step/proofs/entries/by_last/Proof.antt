@@ -1,20 +1,21 @@
--- `by_last` meets its contract: an entry that is apart from the leaf leaves it to those before it.
+-- `by_last` meets its contract: an entry that is apart from the block leaves it to those before it.
 use mathlib.Core.Path.{_≡_, refl, sym, _∙_}
 use borrow.Author.Tests.{ltb-true}
-use Rattle.step.specs.Runs.{EntriesIn, bitsBy, settledBy, lastFirst}
+use Rattle.step.specs.Runs.{EntriesIn, givenBy, meetingBy, lastFirst}
+use Rattle.step.specs.declared.meeting.Meeting.the-variants.{Apart}
 use Rattle.step.proofs.Chains.{run-ended}
 use Rattle.step.proofs.EntryTurns.{turn-less, turn-slot, turn-held, turn-entries, last-holds, last-parted, last-apart, last-stops, last-over}
 use Rattle.step.proofs.entries.by_last.Statement.{statement}
 use Rattle.step.proofs.entries.by_last.Tie as tie
 
 abbrev Inv-loop : tie.InvT-loop
-Inv-loop back run log-keys log-values m own key start end₀ end =
+Inv-loop back run log-keys log-values m key start end₀ end =
     EntriesIn m (record { start = start; end = end; ordered = run .ordered }) log-keys log-values
-    × (settledBy m own key (bitsBy back log-keys log-values key) (lastFirst end log-keys log-values start end)
-    ≡ settledBy m own key (bitsBy back log-keys log-values key) (lastFirst end₀ log-keys log-values start end₀))
+    × (meetingBy m Apart key (givenBy back log-keys log-values key) (lastFirst end log-keys log-values start end)
+    ≡ meetingBy m Apart key (givenBy back log-keys log-values key) (lastFirst end₀ log-keys log-values start end₀))
 
 abbrev μ-loop : tie.MeasureT-loop
-μ-loop back run log-keys log-values m own key start end₀ end = end
+μ-loop back run log-keys log-values m key start end₀ end = end
 
 loop-holds : tie.Need-loop-holds Inv-loop μ-loop
 loop-holds c = (c .before .before .pre .1, refl)

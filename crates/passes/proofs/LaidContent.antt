@@ -1,0 +1,129 @@
+-- The records below a leaf, laid by its meeting with the step: a content is copied as it stands in the log, and otherwise there are none. Rests on Known and
+-- LeafWritten.
+use Prim.Native.Nat.{ℕ, _+_, _-_, _≤_}
+use mathlib.Core.Path.{_≡_, refl, sym, _∙_, ap}
+use mathlib.Core.Bool.{true, false, true≢false}
+use mathlib.Core.List.{List, [], _∷_}
+use native.Mathlib.Omega.{arith}
+use lib.ListN.{length, getD, take, drop}
+use lib.Seq.{sets, drop-drop}
+use Rattle.keys.proofs.Cases.{decide}
+use Rattle.definitions.specs.Picture.{Picture, oneFeature}
+use Rattle.definitions.specs.Bits.{featureOf}
+use Rattle.definitions.specs.List.{Record, keysOf, valuesOf}
+use Rattle.definitions.specs.Read.{room}
+use Rattle.laws.proofs.ListOf.{list-one}
+use Rattle.list.specs.Check.{oneSlot}
+use Rattle.log.specs.Entries.{run}
+use Rattle.log.proofs.Places.{run-keys, run-values}
+use Rattle.build.specs.BuildBlocks.{Fitting, Written, below, Tallied}
+use Rattle.step.specs.Step.{Step, over, plain}
+use Rattle.step.specs.Meeting.{Replaced, Met, isCut}
+use Rattle.step.specs.declared.meeting.Meeting.{Meeting}
+use Rattle.step.specs.declared.meeting.Meeting.the-variants.{Apart, Leaf, Content, Cut}
+use Rattle.step.proofs.Meetings.{met-content}
+use Rattle.passes.specs.Passes.{knownOf, ContentFits, Layable, Laid}
+use Rattle.passes.proofs.ShownBlocks.{drop-take}
+use Rattle.passes.proofs.Known.{content-count, content-first, known-tallied, leaf-bits, leaf-records}
+use Rattle.passes.proofs.LeafWritten.{count-one}
+
+-- what was laid, kind by kind
+module _ {meeting : Meeting} (own : ℕ) (lk lv : List ℕ) (place : ℕ) (ks bs : List ℕ) where
+  pub laid-apart : meeting ≡ Apart → Laid meeting own lk lv place ks bs ks bs own (place + 1)
+  laid-apart e = rw e (record { keys-are = refl; bits-are = refl; union-is = refl; next-is = λ h. refl })
+
+  pub laid-leaf : {b : ℕ} → meeting ≡ Leaf b → Laid meeting own lk lv place ks bs ks bs b (place + 1)
+  laid-leaf e = rw e (record { keys-are = refl; bits-are = refl; union-is = refl; next-is = λ h. refl })
+
+  pub laid-cut : meeting ≡ Cut → Laid meeting own lk lv place ks bs ks bs 0 (place + 1)
+  laid-cut e = rw e (record { keys-are = refl; bits-are = refl; union-is = refl; next-is = λ h. absurd (true≢false h) })
+
+  pub laid-content : {start count : ℕ} {ks′ bs′ : List ℕ} → meeting ≡ Content start count
+      → ks′ ≡ sets ks (place + 1) (take (count - 1) (drop (start + 1) lk)) → bs′ ≡ sets bs (place + 1) (take (count - 1) (drop (start + 1) lv))
+      → Laid meeting own lk lv place ks bs ks′ bs′ (getD lv start 0) (place + count)
+  laid-content e i j = rw e (record { keys-are = i; bits-are = j; union-is = refl; next-is = λ h. refl })
+
+-- all but the first of some numbers
+keys-below : (l : List Record) → keysOf (drop 1 l) ≡ drop 1 (keysOf l)
+keys-below [] = refl
+keys-below (x ∷ l) = refl
+
+values-below : (l : List Record) → valuesOf (drop 1 l) ≡ drop 1 (valuesOf l)
+values-below [] = refl
+values-below (x ∷ l) = refl
+
+behind-first : (l : List ℕ) (start count : ℕ) → drop 1 (take count (drop start l)) ≡ take (count - 1) (drop (start + 1) l)
+behind-first l start count = drop-take 1 count (drop start l) ∙ ap (take (count - 1)) (drop-drop 1 start l)
+
+-- a content
+module _ {t : Step} {lk lv : List ℕ} {k r c κ start count : ℕ} (x : Replaced t lk lv k r c κ start count) (p : Picture) where
+  there : start + count ≤ room lk lv
+  there = omega (arith, x .in-keys, x .in-values)
+
+  content-several : oneFeature (over t p) k r c ≡ false
+  content-several =
+      decide (oneFeature (over t p) k r c)
+      (λ one. let e = content-count x p in let l = ap length (list-one (over t p) k r c κ one) in absurd (omega (arith, x .several)))
+      (λ several. several)
+
+  pub content-fits : {place : ℕ} {ks bs : List ℕ} → Fitting (over t p) k r c κ place ks bs → ContentFits lk lv place ks bs start count
+  content-fits f =
+      let e = content-count x p in
+      let i = f .keys-room content-several in
+      let j = f .bits-room content-several in
+      record {
+        some = omega (arith, x .several);
+        from-keys = x .in-keys;
+        from-values = x .in-values;
+        in-keys = omega arith;
+        in-bits = omega arith;
+      }
+
+  below-keys : keysOf (below (over t p) k r c κ) ≡ take (count - 1) (drop (start + 1) lk)
+  below-keys = ap (λ l. keysOf (drop 1 l)) (sym (x .is p)) ∙ keys-below (run lk lv start count) ∙ ap (drop 1) (run-keys lk lv start count there) ∙ behind-first lk start count
+
+  below-values : valuesOf (below (over t p) k r c κ) ≡ take (count - 1) (drop (start + 1) lv)
+  below-values = ap (λ l. valuesOf (drop 1 l)) (sym (x .is p)) ∙ values-below (run lk lv start count) ∙ ap (drop 1) (run-values lk lv start count there) ∙ behind-first lv start count
+
+  pub content-written : {place union next : ℕ} {ks bs ks′ bs′ : List ℕ}
+      → ks′ ≡ sets ks (place + 1) (take (count - 1) (drop (start + 1) lk)) → bs′ ≡ sets bs (place + 1) (take (count - 1) (drop (start + 1) lv))
+      → union ≡ getD lv start 0 → next ≡ place + count
+      → Written (over t p) k r c κ place ks bs ks′ bs′ union next
+  content-written {place} {ks = ks} {bs} i j u n = record {
+    union-is = u ∙ content-first x p;
+    next-is = n ∙ ap (λ l. place + l) (content-count x p);
+    keys-are = i ∙ ap (sets ks (place + 1)) (sym below-keys);
+    bits-are = j ∙ ap (sets bs (place + 1)) (sym below-values);
+  }
+
+-- a leaf is laid as its meeting tells
+module _ {t : Step} {lk lv : List ℕ} {k r c κ place : ℕ} {ks bs : List ℕ} {meeting : Meeting} (x : Met t lk lv k r c κ meeting) where
+  pub met-layable : (p : Picture) → Fitting (over t p) k r c κ place ks bs → Layable meeting lk lv place ks bs
+  met-layable p f = record {
+    small = omega (arith, f .key-fits, f .place-fits);
+    fits = λ start count e. content-fits (met-content x e) p f;
+  }
+
+-- nothing is laid below one record
+one-written : {q : Picture} {k r c b : ℕ} (κ place : ℕ) {ks bs ks′ bs′ : List ℕ} {union next : ℕ} → Tallied q k r c b 1 → ks′ ≡ ks → bs′ ≡ bs → union ≡ b → next ≡ place + 1
+    → Written q k r c κ place ks bs ks′ bs′ union next
+one-written κ place {ks} {bs} t e f g h = rw (e, f, g, h) (count-one κ place ks bs t refl)
+
+written-cases : (t : Step) (lk lv : List ℕ) (k r c κ place : ℕ) (ks bs ks′ bs′ : List ℕ) (own union next : ℕ) → oneSlot own ≡ true
+    → (meeting : Meeting) → Met t lk lv k r c κ meeting → isCut meeting ≡ false → Laid meeting own lk lv place ks bs ks′ bs′ union next
+    → Written (over t (plain (featureOf own))) k r c κ place ks bs ks′ bs′ union next
+written-cases t lk lv k r c κ place ks bs ks′ bs′ own union next one Apart x cut l =
+    one-written κ place (known-tallied {tally = knownOf Apart own 1 lv} (plain (featureOf own)) (leaf-bits own k r c one) (leaf-records (featureOf own) k r c κ) x cut refl)
+    (l .keys-are) (l .bits-are) (l .union-is) (l .next-is cut)
+written-cases t lk lv k r c κ place ks bs ks′ bs′ own union next one (Leaf b) x cut l =
+    one-written κ place (x .told (plain (featureOf own))) (l .keys-are) (l .bits-are) (l .union-is) (l .next-is cut)
+written-cases t lk lv k r c κ place ks bs ks′ bs′ own union next one (Content start count) x cut l =
+    content-written (x .told) (plain (featureOf own)) (l .keys-are) (l .bits-are) (l .union-is) (l .next-is cut)
+written-cases t lk lv k r c κ place ks bs ks′ bs′ own union next one Cut x cut l = absurd (true≢false cut)
+
+-- THE LAW
+pub laid-written : {t : Step} {lk lv : List ℕ} {k r c κ place own union next : ℕ} {ks bs ks′ bs′ : List ℕ} {meeting : Meeting} → oneSlot own ≡ true
+    → Met t lk lv k r c κ meeting → isCut meeting ≡ false → Laid meeting own lk lv place ks bs ks′ bs′ union next
+    → Written (over t (plain (featureOf own))) k r c κ place ks bs ks′ bs′ union next
+laid-written {t} {lk} {lv} {k} {r} {c} {κ} {place} {own} {union} {next} {ks} {bs} {ks′} {bs′} {meeting} one x cut l =
+    written-cases t lk lv k r c κ place ks bs ks′ bs′ own union next one meeting x cut l

@@ -1,0 +1,204 @@
+-- What the calls of `shrink` ask of one another, and what they give together. Rests on ShrinkLaws and ShownBlocks.
+use Prim.Native.Nat.{ℕ, zero, suc, _+_, _-_, _*_, _^_, _≤_, _<_}
+use mathlib.Core.Path.{_≡_, refl, sym, _∙_, ap}
+use mathlib.Core.Bool.{true, false}
+use mathlib.Core.List.{List, _++_}
+use native.Mathlib.Omega.{arith}
+use lib.ListN.{length, getD, take, drop}
+use Rattle.keys.specs.Key.{childKey}
+use Rattle.keys.specs.Under.{Block}
+use Rattle.definitions.specs.Picture.{Picture, oneFeature}
+use Rattle.definitions.specs.Bits.{bitsOf, unionOfFour}
+use Rattle.definitions.specs.List.{listOf}
+use Rattle.laws.proofs.ListOf.{list-some}
+use Rattle.list.specs.Check.{oneSlot}
+use Rattle.list.specs.Among.{keysBelow}
+use Rattle.step.specs.Step.{Step, over}
+use Rattle.step.specs.Meeting.{Met}
+use Rattle.step.specs.declared.meeting.Meeting.{Meeting}
+use Rattle.step.specs.Quarters.{quartersOf}
+use Rattle.step.specs.declared.quarters.Quarters.{Quarters}
+use Rattle.step.proofs.Pruned.{pruned-before}
+use Rattle.step.proofs.QuarterSums.{block-nw, block-ne, block-sw, block-se}
+use Rattle.passes.specs.Passes.{Showing, ShowingBlock, Shown, EndAsked}
+use Rattle.passes.specs.Shrink.{ShrinkAsked, ShrunkAt, Shrinks, KeepAsked, Kept, OneAsked, LeafShrunk, OwnShrunk, isWhole}
+use Rattle.passes.proofs.ShownBlocks.{showing-same, shown-some, shown-own, shown-several, shown-positive, L₁, L₂, L₃, L₄, End, node-quadrants, quadrant-nw, behind-nw, quadrant-ne, behind-ne, quadrant-sw, behind-sw, quadrant-se}
+use Rattle.passes.proofs.BlockEnds.{end-asked, end-found}
+use Rattle.passes.proofs.ShrinkLaws.{shown-within, single-left, whole-left, node-left}
+
+-- the quadrants of a node that is shown, each once those before it have shrunk
+module _ (t : Step) (p : Picture) (k r c κ : ℕ) {ks bs : List ℕ} {at n place : ℕ} (s : ShowingBlock p (suc k) r c κ ks bs at n) (order : place ≤ at)
+    (several : oneFeature p (suc k) r c ≡ false) where
+  all : Showing (L₁ p k r c κ ++ (L₂ p k r c κ ++ (L₃ p k r c κ ++ L₄ p k r c κ))) (End p k r c κ) ks bs (at + 1) n
+  all = node-quadrants p k r c κ several s
+
+  pub shows-nw : ShowingBlock p k r c (childKey κ k 1) ks bs (at + 1) n
+  shows-nw = quadrant-nw p k r c κ all
+
+  module _ {ks₁ bs₁ : List ℕ} {u₁ n₁ i₁ : ℕ} (h₁ : Shrinks t k r c (childKey κ k 1) ks bs (at + 1) n (place + 1) ks₁ bs₁ u₁ n₁ i₁) where
+    one : ShrunkAt t p k r c (childKey κ k 1) ks bs (at + 1) (place + 1) ks₁ bs₁ u₁ n₁ i₁
+    one = h₁ .holds p shows-nw
+
+    rest₁ : Showing (L₂ p k r c κ ++ (L₃ p k r c κ ++ L₄ p k r c κ)) (End p k r c κ) ks₁ bs₁ n₁ n
+    rest₁ = let o = one in showing-same (o .keys-are .size) (o .bits-are .size) (o .keys-are .behind) (o .bits-are .behind) (behind-nw p k r c κ (o .next-is) all)
+
+    pub order₁ : i₁ ≤ n₁
+    order₁ = let o = one in let b = pruned-before p (over t p) k r c (childKey κ k 1) in omega (arith, o .place-is, o .next-is)
+
+    pub shows-ne : ShowingBlock p k r (c + 2 ^ k) (childKey κ k 2) ks₁ bs₁ n₁ n
+    shows-ne = quadrant-ne p k r c κ rest₁
+
+    module _ {ks₂ bs₂ : List ℕ} {u₂ n₂ i₂ : ℕ} (h₂ : Shrinks t k r (c + 2 ^ k) (childKey κ k 2) ks₁ bs₁ n₁ n i₁ ks₂ bs₂ u₂ n₂ i₂) where
+      two : ShrunkAt t p k r (c + 2 ^ k) (childKey κ k 2) ks₁ bs₁ n₁ i₁ ks₂ bs₂ u₂ n₂ i₂
+      two = h₂ .holds p shows-ne
+
+      rest₂ : Showing (L₃ p k r c κ ++ L₄ p k r c κ) (End p k r c κ) ks₂ bs₂ n₂ n
+      rest₂ = let o = two in showing-same (o .keys-are .size) (o .bits-are .size) (o .keys-are .behind) (o .bits-are .behind) (behind-ne p k r c κ (o .next-is) rest₁)
+
+      pub order₂ : i₂ ≤ n₂
+      order₂ = let o = two in let h = order₁ in let b = pruned-before p (over t p) k r (c + 2 ^ k) (childKey κ k 2) in omega (arith, o .place-is, o .next-is)
+
+      pub shows-sw : ShowingBlock p k (r + 2 ^ k) c (childKey κ k 3) ks₂ bs₂ n₂ n
+      shows-sw = quadrant-sw p k r c κ rest₂
+
+      module _ {ks₃ bs₃ : List ℕ} {u₃ n₃ i₃ : ℕ} (h₃ : Shrinks t k (r + 2 ^ k) c (childKey κ k 3) ks₂ bs₂ n₂ n i₂ ks₃ bs₃ u₃ n₃ i₃) where
+        three : ShrunkAt t p k (r + 2 ^ k) c (childKey κ k 3) ks₂ bs₂ n₂ i₂ ks₃ bs₃ u₃ n₃ i₃
+        three = h₃ .holds p shows-sw
+
+        pub order₃ : i₃ ≤ n₃
+        order₃ = let o = three in let h = order₂ in let b = pruned-before p (over t p) k (r + 2 ^ k) c (childKey κ k 3) in omega (arith, o .place-is, o .next-is)
+
+        pub shows-se : ShowingBlock p k (r + 2 ^ k) (c + 2 ^ k) (childKey κ k 4) ks₃ bs₃ n₃ n
+        shows-se =
+            let o = three in
+            quadrant-se p k r c κ (showing-same (o .keys-are .size) (o .bits-are .size) (o .keys-are .behind) (o .bits-are .behind) (behind-sw p k r c κ (o .next-is) rest₂))
+
+        module _ {ks₄ bs₄ : List ℕ} {u₄ n₄ i₄ : ℕ} (h₄ : Shrinks t k (r + 2 ^ k) (c + 2 ^ k) (childKey κ k 4) ks₃ bs₃ n₃ n i₃ ks₄ bs₄ u₄ n₄ i₄) where
+          four : ShrunkAt t p k (r + 2 ^ k) (c + 2 ^ k) (childKey κ k 4) ks₃ bs₃ n₃ i₃ ks₄ bs₄ u₄ n₄ i₄
+          four = h₄ .holds p shows-se
+
+          pub own-room : OneAsked ks₄ bs₄ place place
+          own-room =
+              let some = shown-some p (suc k) r c κ s in
+              let a = one in
+              let b = two in
+              let d = three in
+              let f = four in
+              record {
+                order = omega arith;
+                in-keys = omega (arith, s .in-keys, a .keys-are .size, b .keys-are .size, d .keys-are .size, f .keys-are .size);
+                in-bits = omega (arith, s .in-bits, a .bits-are .size, b .bits-are .size, d .bits-are .size, f .bits-are .size);
+              }
+
+          pub all-four : {ks′ bs′ : List ℕ} {union next place′ : ℕ} → OwnShrunk κ (unionOfFour u₁ u₂ u₃ u₄) ks₄ bs₄ place n₄ i₄ ks′ bs′ union next place′
+              → ShrunkAt t p (suc k) r c κ ks bs at place ks′ bs′ union next place′
+          all-four o = node-left t p k r c κ s order several one two three four o
+
+-- the same as the code asks for it, the height given by the one below
+module _ (t : Step) {m k r c κ at n place : ℕ} {ks bs : List ℕ} {q : Quarters} (e : q ≡ quartersOf k r c κ) (a : ShrinkAsked m k r c κ ks bs at n place)
+    (node : oneSlot (getD bs at 0) ≡ false) where
+  pub positive : 0 < k
+  positive = shown-positive (a .shown) node
+
+  up : k ≡ suc (k - 1)
+  up = let h = positive in omega arith
+
+  first : childKey κ (k - 1) 1 ≡ κ + 5 ^ (k - 1)
+  first = omega arith
+
+  -- of whichever picture is shown
+  module _ (p : Picture) (s : ShowingBlock p k r c κ ks bs at n) where
+    pub above : ShowingBlock p (suc (k - 1)) r c κ ks bs at n
+    above = rw (← up) s
+
+    pub several : oneFeature p (suc (k - 1)) r c ≡ false
+    several = shown-several p (suc (k - 1)) r c κ above node
+
+  S : ShowingBlock (a .shown .picture) (suc (k - 1)) r c κ ks bs at n
+  S = above (a .shown .picture) (a .shown .shown)
+
+  N : oneFeature (a .shown .picture) (suc (k - 1)) r c ≡ false
+  N = several (a .shown .picture) (a .shown .shown)
+
+  pub asks-nw : ShrinkAsked m (q .height) r c (q .nw) ks bs (at + 1) n (place + 1)
+  asks-nw = record {
+    shown = record { picture = a .shown .picture; deep = a .shown .deep; block = block-nw e (a .shown .block) positive; shown = rw (e, ← first) (shows-nw t (a .shown .picture) (k - 1) r c κ S (a .order) N) };
+    order = omega (arith, a .order);
+  }
+
+  module _ {ks₁ bs₁ : List ℕ} {u₁ n₁ i₁ : ℕ} (h₁ : Shrinks t (q .height) r c (q .nw) ks bs (at + 1) n (place + 1) ks₁ bs₁ u₁ n₁ i₁) where
+    g₁ : Shrinks t (k - 1) r c (childKey κ (k - 1) 1) ks bs (at + 1) n (place + 1) ks₁ bs₁ u₁ n₁ i₁
+    g₁ = rw first (rw e at h₁)
+
+    pub asks-ne : ShrinkAsked m (q .height) r (q .right) (q .ne) ks₁ bs₁ n₁ n i₁
+    asks-ne = record {
+      shown = record { picture = a .shown .picture; deep = a .shown .deep; block = block-ne e (a .shown .block) positive; shown = rw e (shows-ne t (a .shown .picture) (k - 1) r c κ S (a .order) N g₁) };
+      order = order₁ t (a .shown .picture) (k - 1) r c κ S (a .order) N g₁;
+    }
+
+    module _ {ks₂ bs₂ : List ℕ} {u₂ n₂ i₂ : ℕ} (h₂ : Shrinks t (q .height) r (q .right) (q .ne) ks₁ bs₁ n₁ n i₁ ks₂ bs₂ u₂ n₂ i₂) where
+      g₂ : Shrinks t (k - 1) r (c + 2 ^ (k - 1)) (childKey κ (k - 1) 2) ks₁ bs₁ n₁ n i₁ ks₂ bs₂ u₂ n₂ i₂
+      g₂ = rw e at h₂
+
+      pub asks-sw : ShrinkAsked m (q .height) (q .down) c (q .sw) ks₂ bs₂ n₂ n i₂
+      asks-sw = record {
+        shown = record { picture = a .shown .picture; deep = a .shown .deep; block = block-sw e (a .shown .block) positive; shown = rw e (shows-sw t (a .shown .picture) (k - 1) r c κ S (a .order) N g₁ g₂) };
+        order = order₂ t (a .shown .picture) (k - 1) r c κ S (a .order) N g₁ g₂;
+      }
+
+      module _ {ks₃ bs₃ : List ℕ} {u₃ n₃ i₃ : ℕ} (h₃ : Shrinks t (q .height) (q .down) c (q .sw) ks₂ bs₂ n₂ n i₂ ks₃ bs₃ u₃ n₃ i₃) where
+        g₃ : Shrinks t (k - 1) (r + 2 ^ (k - 1)) c (childKey κ (k - 1) 3) ks₂ bs₂ n₂ n i₂ ks₃ bs₃ u₃ n₃ i₃
+        g₃ = rw e at h₃
+
+        pub asks-se : ShrinkAsked m (q .height) (q .down) (q .right) (q .se) ks₃ bs₃ n₃ n i₃
+        asks-se = record {
+          shown = record { picture = a .shown .picture; deep = a .shown .deep; block = block-se e (a .shown .block) positive; shown = rw e (shows-se t (a .shown .picture) (k - 1) r c κ S (a .order) N g₁ g₂ g₃) };
+          order = order₃ t (a .shown .picture) (k - 1) r c κ S (a .order) N g₁ g₂ g₃;
+        }
+
+        module _ {ks₄ bs₄ : List ℕ} {u₄ n₄ i₄ : ℕ} (h₄ : Shrinks t (q .height) (q .down) (q .right) (q .se) ks₃ bs₃ n₃ n i₃ ks₄ bs₄ u₄ n₄ i₄) where
+          g₄ : Shrinks t (k - 1) (r + 2 ^ (k - 1)) (c + 2 ^ (k - 1)) (childKey κ (k - 1) 4) ks₃ bs₃ n₃ n i₃ ks₄ bs₄ u₄ n₄ i₄
+          g₄ = rw e at h₄
+
+          pub asks-own : OneAsked ks₄ bs₄ place place
+          asks-own = own-room t (a .shown .picture) (k - 1) r c κ S (a .order) N g₁ g₂ g₃ g₄
+
+          pub gives-node : {ks′ bs′ : List ℕ} {union next place′ : ℕ} → OwnShrunk κ (unionOfFour u₁ u₂ u₃ u₄) ks₄ bs₄ place n₄ i₄ ks′ bs′ union next place′
+              → Shrinks t k r c κ ks bs at n place ks′ bs′ union next place′
+          gives-node o = record {
+            holds = λ p s. rw up (all-four t p (k - 1) r c κ (above p s) (a .order) (several p s) g₁ g₂ g₃ g₄ o);
+          }
+
+-- what is asked for a leaf, and for a block that one look settles
+module _ {m k r c κ at n place : ℕ} {ks bs : List ℕ} (a : ShrinkAsked m k r c κ ks bs at n place) where
+  pub asked-room : (at < length ks) × (at < length bs)
+  asked-room = let h = shown-some (a .shown .picture) k r c κ (a .shown .shown) in omega (arith, a .shown .shown .in-keys, a .shown .shown .in-bits)
+
+  pub leaf-room : OneAsked ks bs at place
+  leaf-room = let h = asked-room in record { order = a .order; in-keys = h .0; in-bits = h .1 }
+
+  module _ {past : ℕ} (e : past ≡ κ + 5 ^ k) where
+    pub asks-end : EndAsked ks at n past
+    asks-end = end-asked (a .shown .picture) k r c κ (a .shown .shown) e
+
+    pub asks-keep : {next : ℕ} → next ≡ at + keysBelow past (take (n - at) (drop at ks)) → KeepAsked ks bs at next place
+    asks-keep found =
+        let p = a .shown .picture in
+        let s = a .shown .shown in
+        let z = end-found p k r c κ s e in
+        let some = list-some p k r c κ in
+        let w = shown-within s some in
+        record { order = a .order; some = omega arith; in-keys = omega (arith, s .in-keys); in-bits = omega (arith, s .in-bits) }
+
+-- what they give
+module _ (t : Step) {m k r c κ at n place : ℕ} {ks bs ks′ bs′ : List ℕ} {union next′ place′ : ℕ} (a : ShrinkAsked m k r c κ ks bs at n place) where
+  pub gives-leaf : oneSlot (getD bs at 0) ≡ true → LeafShrunk t (getD bs at 0) k r c κ ks bs at place ks′ bs′ union next′ place′
+      → Shrinks t k r c κ ks bs at n place ks′ bs′ union next′ place′
+  gives-leaf one x = record { holds = λ p s. single-left t p k r c κ (getD bs at 0) s (a .order) (shown-own p k r c κ s) one x }
+
+  pub gives-whole : {past next : ℕ} {meeting : Meeting} {lks lvs : List ℕ} → past ≡ κ + 5 ^ k → next ≡ at + keysBelow past (take (n - at) (drop at ks))
+      → Met t lks lvs k r c κ meeting → isWhole meeting ≡ true → Kept meeting κ (getD bs at 0) ks bs at next place ks′ bs′ union next′ place′
+      → Shrinks t k r c κ ks bs at n place ks′ bs′ union next′ place′
+  gives-whole {meeting = meeting} e found h w x = record {
+    holds = λ p s. whole-left t p k r c κ s (a .order) (found ∙ ap (λ i. at + i) (end-found p k r c κ s e)) meeting h w (shown-own p k r c κ s) x;
+  }

@@ -1,0 +1,23 @@
+-- `grow_all` meets its contract: there is nothing to grow, or `grow` does it.
+use borrow.Author.Needs.{needs}
+use Rattle.passes.proofs.Changing.{grown-all, grown-none}
+use Rattle.passes.proofs.change.grow_all.Statement.{statement}
+use Rattle.passes.proofs.change.grow_all.Tie as tie
+
+returns : tie.Need-returns
+returns c = grown-none _ (c .if1 .taken)
+
+grow-requires : tie.Need-grow-requires
+grow-requires c κs = search needs
+
+same-length : tie.Need-same-length
+same-length c = search needs
+
+same-length-2 : tie.Need-same-length-2
+same-length-2 c = search needs
+
+returns-2 : tie.Need-returns-2
+returns-2 c = grown-all _ (c .before .before .before .before .grow .ensures)
+
+pub grow-all-spec : {M : Type 1} → statement M
+grow-all-spec = tie.close (tie.spec returns grow-requires same-length same-length-2 returns-2)

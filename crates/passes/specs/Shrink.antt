@@ -1,0 +1,102 @@
+-- What shrinking asks and leaves. Only contracts need these. Rests on Step and on what a list shows.
+use Prim.Native.Nat.{ℕ, _+_, _-_, _≤_, _<_}
+use mathlib.Core.Bool.{Bool, true, false, cond}
+use mathlib.Core.Path.{_≡_}
+use mathlib.Core.List.{List, [], _∷_, _++_}
+use lib.ListN.{length, set, take, drop}
+use lib.Seq.{sets}
+use Rattle.definitions.specs.Picture.{Picture}
+use Rattle.definitions.specs.Bits.{bitsOf, featureOf}
+use Rattle.definitions.specs.List.{Record, recordOf, keysOf, valuesOf, listOf}
+use Rattle.list.specs.Check.{oneSlot}
+use Rattle.step.specs.Step.{Step, over, plain, pruned}
+use Rattle.step.specs.declared.meeting.Meeting.{Meeting}
+use Rattle.step.specs.declared.meeting.Meeting.the-variants.{Apart, Leaf, Content, Cut}
+use Rattle.passes.specs.Passes.{Shown, ShowingBlock}
+
+-- from a place on a slice has these numbers; what stands in front of them, and from `next` on, is as it was
+pub record Forward (new before : List ℕ) (place next : ℕ) (after : List ℕ) : Type 0 where
+  pub size : length after ≡ length before
+  pub front : take (place + length new) after ≡ take place before ++ new
+  pub behind : drop next after ≡ drop next before
+
+-- the records of a block are to be put forward, at or before the place where they stand
+pub record ShrinkAsked (m height row column key : ℕ) (keys bits : List ℕ) (at n place : ℕ) : Type 0 where
+  pub shown : Shown m height row column key keys bits at n
+  pub order : place ≤ at
+
+-- what is left of them stands there, the block's bits after the step are known, and the places after the records read and written
+pub record ShrunkAt (t : Step) (p : Picture) (height row column key : ℕ) (keys bits : List ℕ) (at place : ℕ) (keys′ bits′ : List ℕ) (union next place′ : ℕ) : Type 0 where
+  pub union-is : union ≡ bitsOf (over t p) height row column
+  pub next-is : next ≡ at + length (listOf p height row column key)
+  pub place-is : place′ ≡ place + length (pruned p (over t p) height row column key)
+  pub keys-are : Forward (keysOf (pruned p (over t p) height row column key)) keys place next keys′
+  pub bits-are : Forward (valuesOf (pruned p (over t p) height row column key)) bits place next bits′
+
+-- that holds of whichever picture is shown
+pub record Shrinks (t : Step) (height row column key : ℕ) (keys bits : List ℕ) (at n place : ℕ) (keys′ bits′ : List ℕ) (union next place′ : ℕ) : Type 0 where
+  pub holds : (p : Picture) → ShowingBlock p height row column key keys bits at n → ShrunkAt t p height row column key keys bits at place keys′ bits′ union next place′
+
+-- one look tells that the block stays as it is or becomes one leaf
+abbrev pub isWhole : Meeting → Bool
+isWhole Apart = true
+isWhole (Leaf bits) = true
+isWhole (Content start count) = false
+isWhole Cut = false
+
+-- records from one place up to another are to be put forward
+pub record KeepAsked (keys bits : List ℕ) (at next place : ℕ) : Type 0 where
+  pub order : place ≤ at
+  pub some : at < next
+  pub in-keys : next ≤ length keys
+  pub in-bits : next ≤ length bits
+
+-- the records stand there as they were, or a leaf for them
+abbrev pub keptOn : Meeting → (x : ℕ → ℕ) (l : List ℕ) (at next place : ℕ) → List ℕ
+keptOn Apart x l at next place = sets l place (take (next - at) (drop at l))
+keptOn (Leaf bits) x l at next place = set l place (x bits)
+keptOn (Content start count) x l at next place = l
+keptOn Cut x l at next place = l
+
+abbrev pub keptBits : Meeting → (own : ℕ) → ℕ
+keptBits Apart own = own
+keptBits (Leaf bits) own = bits
+keptBits (Content start count) own = own
+keptBits Cut own = own
+
+abbrev pub keptPlace : Meeting → (at next place : ℕ) → ℕ
+keptPlace Apart at next place = place + (next - at)
+keptPlace (Leaf bits) at next place = place + 1
+keptPlace (Content start count) at next place = place
+keptPlace Cut at next place = place
+
+pub record Kept (meeting : Meeting) (key own : ℕ) (keys bits : List ℕ) (at next place : ℕ) (keys′ bits′ : List ℕ) (union next′ place′ : ℕ) : Type 0 where
+  pub union-is : union ≡ keptBits meeting own
+  pub next-is : next′ ≡ next
+  pub place-is : place′ ≡ keptPlace meeting at next place
+  pub keys-are : keys′ ≡ keptOn meeting (λ bits. key) keys at next place
+  pub bits-are : bits′ ≡ keptOn meeting (λ bits. bits) bits at next place
+
+-- there is room for one record
+pub record OneAsked (keys bits : List ℕ) (at place : ℕ) : Type 0 where
+  pub order : place ≤ at
+  pub in-keys : at < length keys
+  pub in-bits : at < length bits
+
+-- what is left of a leaf stands there: the leaf after the step, or the one before it where it has to grow
+pub record LeafShrunk (t : Step) (own height row column key : ℕ) (keys bits : List ℕ) (at place : ℕ) (keys′ bits′ : List ℕ) (union next place′ : ℕ) : Type 0 where
+  pub union-is : union ≡ bitsOf (over t (plain (featureOf own))) height row column
+  pub next-is : next ≡ at + 1
+  pub place-is : place′ ≡ place + 1
+  pub value : ℕ
+  pub left : pruned (plain (featureOf own)) (over t (plain (featureOf own))) height row column key ≡ recordOf key value ∷ []
+  pub keys-are : keys′ ≡ set keys place key
+  pub bits-are : bits′ ≡ set bits place value
+
+-- the own record of a node stands before what is left of its quadrants, or for them where it has one slot
+pub record OwnShrunk (key union : ℕ) (keys bits : List ℕ) (place next last : ℕ) (keys′ bits′ : List ℕ) (union′ next′ place′ : ℕ) : Type 0 where
+  pub union-is : union′ ≡ union
+  pub next-is : next′ ≡ next
+  pub place-is : place′ ≡ cond (oneSlot union) (place + 1) last
+  pub keys-are : keys′ ≡ set keys place key
+  pub bits-are : bits′ ≡ set bits place union

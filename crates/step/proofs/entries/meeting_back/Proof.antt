@@ -1,0 +1,20 @@
+-- `meeting_back` meets its contract.
+use borrow.Author.Needs.{needs}
+use Rattle.step.proofs.ByEntries.{back-by-first, back-by-last}
+use Rattle.step.proofs.entries.meeting_back.Statement.{statement}
+use Rattle.step.proofs.entries.meeting_back.Tie as tie
+
+by-last-requires : tie.Need-by-last-requires
+by-last-requires c κs = search needs
+
+returns : tie.Need-returns
+returns c = let s = c .before .before .before .before in back-by-last (s .pre .0) (s .pre .1) (c .before .if1 .taken) (c .by-last .ensures)
+
+by-first-requires : tie.Need-by-first-requires
+by-first-requires c κs = search needs
+
+returns-2 : tie.Need-returns-2
+returns-2 c = let s = c .before .before .before .before in back-by-first (s .pre .0) (s .pre .1) (c .by-first .ensures)
+
+pub meeting-back-spec : {M : Type 1} → statement M
+meeting-back-spec = tie.close (tie.spec by-last-requires returns by-first-requires returns-2)

@@ -1,0 +1,52 @@
+-- What is known of a block by its meeting with a step, whatever picture the step is done over. Rests on Step.
+use Prim.Native.Nat.{ℕ, _+_, _≤_, _<_}
+use mathlib.Core.Path.{_≡_}
+use mathlib.Core.Bool.{Bool, true, false}
+use mathlib.Core.List.{List}
+use lib.ListN.{length}
+use Rattle.keys.specs.Under.{Block}
+use Rattle.definitions.specs.Picture.{Picture}
+use Rattle.definitions.specs.List.{listOf}
+use Rattle.laws.proofs.Within.{Every}
+use Rattle.build.specs.BuildBlocks.{Tallied}
+use Rattle.log.specs.Entries.{run}
+use Rattle.step.specs.Step.{Step, over}
+use Rattle.step.specs.declared.meeting.Meeting.{Meeting}
+use Rattle.step.specs.declared.meeting.Meeting.the-variants.{Apart, Leaf, Content, Cut}
+
+-- a block of the map
+pub record BlockAsked (m height row column key : ℕ) : Type 0 where
+  pub deep : m ≤ 10
+  pub block : Block m height row column key
+
+-- the step touches none of its pixels
+abbrev pub Untouched : (t : Step) (height row column : ℕ) → Type 0
+Untouched t height row column = Every (λ a b. t .touches a b ≡ false) height row column
+
+-- it becomes one leaf with these bits
+abbrev pub OneLeaf : (t : Step) (height row column bits : ℕ) → Type 0
+OneLeaf t height row column bits = (p : Picture) → Tallied (over t p) height row column bits 1
+
+-- its list becomes the records of the log from a place on, two or more
+pub record Replaced (t : Step) (logKeys logValues : List ℕ) (height row column key start count : ℕ) : Type 0 where
+  pub several : 1 < count
+  pub in-keys : start + count ≤ length logKeys
+  pub in-values : start + count ≤ length logValues
+  pub is : (p : Picture) → run logKeys logValues start count ≡ listOf (over t p) height row column key
+
+-- by cases
+abbrev pub MetBy : (t : Step) (logKeys logValues : List ℕ) (height row column key : ℕ) → Meeting → Type 0
+MetBy t ks vs height row column key Apart = Untouched t height row column
+MetBy t ks vs height row column key (Leaf bits) = OneLeaf t height row column bits
+MetBy t ks vs height row column key (Content start count) = Replaced t ks vs height row column key start count
+MetBy t ks vs height row column key Cut = 0 < height
+
+pub record Met (t : Step) (logKeys logValues : List ℕ) (height row column key : ℕ) (meeting : Meeting) : Type 0 where
+  pub told : MetBy t logKeys logValues height row column key meeting
+
+-- one look does not tell what becomes of the block
+abbrev pub isCut : Meeting → Bool
+isCut Apart = false
+isCut (Leaf bits) = false
+isCut (Content start count) = false
+isCut Cut = true
