@@ -17,7 +17,7 @@ use Rattle.definitions.specs.Area.{pixelsWith, summaryOf}
 use Rattle.laws.proofs.PixelSums.{squared}
 use Rattle.walk.specs.Walk.{Stands}
 use Rattle.walk.specs.declared.Spot.{Spot}
-use Rattle.area.specs.Number.{numberOf}
+use Rattle.area.specs.Number.{summaryNumber}
 use Rattle.area.proofs.NumberOf.{number-count, number-room}
 
 module _ {m : ℕ} {t : Spot} (h : Stands m t) where
@@ -48,7 +48,7 @@ module _ {m : ℕ} {t : Spot} (h : Stands m t) where
       ap (λ x. oneFeature p x (rowOf m (t .key)) (columnOf m (t .key))) (i .height)
       ∙ ap₂ (λ x y. oneFeature p (h .height) x y) (i .row) (i .column)
 
-  module _ {s : ℕ} (p : Picture) {summary : List ℕ} (is : summary ≡ summaryOf m s p) (level : t .side * 4 ≡ 2 ^ m) (b : ℕ) (e : b ≡ numberOf t) {f : ℕ} (low : f < s) where
+  module _ {s : ℕ} (p : Picture) {summary : List ℕ} (is : summary ≡ summaryOf m s p) (level : t .side * 4 ≡ 2 ^ m) (b : ℕ) (e : b ≡ summaryNumber t) {f : ℕ} (low : f < s) where
     -- in the summary
     pub summary-has : getD summary (b * s + f) 0 ≡ pixelsWith p (heightOf m (t .key)) (rowOf m (t .key)) (columnOf m (t .key)) f
     summary-has = ap₂ (λ l x. getD l (x * s + f) 0) is e ∙ number-count h level s p f low

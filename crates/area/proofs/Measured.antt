@@ -21,7 +21,7 @@ use Rattle.walk.specs.Walk.{Stands, isApart}
 use Rattle.walk.specs.declared.Spot.{Spot}
 use Rattle.walk.proofs.SpotBits.{bitsAt}
 use Rattle.walk.proofs.Steps.{Parent, clear-first}
-use Rattle.area.specs.Overlap.{overlapOf, isWhole}
+use Rattle.area.specs.Overlap.{overlapOf, isSummed}
 use Rattle.area.specs.Tally.{MixedAt}
 use Rattle.area.proofs.AreaFrom.{areaFrom, area-first, area-end, area-most, area-clear, area-block}
 use Rattle.area.proofs.OverlapArea.{ownArea, own-apart, own-lacking, own-within, own-whole}
@@ -83,8 +83,8 @@ module _ (m : ℕ) (p : Picture) (w : Window) (f : ℕ) where
     measured-overlap e is more g = past more (g ∙ sym (own-whole p w f h e is))
 
     -- a block within the window adds its count
-    pub measured-whole : (side : ℕ) → isWhole side s w ≡ true
+    pub measured-whole : (side : ℕ) → isSummed side s w ≡ true
         → (more : ℕ) → more ≡ pixelsWith p (heightOf m (s .key)) (rowOf m (s .key)) (columnOf m (s .key)) f
         → Measured (pixels + more) (s .key + s .step)
-    unfolding isWhole
+    unfolding isSummed
     measured-whole side e more g = past more (g ∙ keyed h p f ∙ sym (own-within p w f h (and-right (leb (s .side * 4) side) _ e)))

@@ -18,7 +18,7 @@ use Rattle.definitions.specs.Area.{pixelsWith, summaryLevel, summaryHeight, sum
 use Rattle.laws.proofs.SummaryOf.{summary-length, summary-place}
 use Rattle.walk.specs.Walk.{Stands}
 use Rattle.walk.specs.declared.Spot.{Spot}
-use Rattle.area.specs.Number.{numberOf}
+use Rattle.area.specs.Number.{summaryNumber}
 
 -- a block under another that is lower lies at or under one of its quadrants, which a digit names
 record Below (k κ k′ r′ c′ κ′ : ℕ) : Type 0 where
@@ -120,8 +120,8 @@ module _ {m : ℕ} {t : Spot} (h : Stands m t) (level : t .side * 4 ≡ 2 ^ m) w
   digits : Digits (h .height) (t .key)
   digits = two-digits (rw two-down at (h .block))
 
-  number-is : numberOf t ≡ number (digits .first) (digits .second)
-  unfolding numberOf
+  number-is : summaryNumber t ≡ number (digits .first) (digits .second)
+  unfolding summaryNumber
   number-is = ap (λ x. (t .key / x / 5 - 1) * 4 + (t .key / x % 5 - 1)) (h .step) ∙ number-read digits
 
   pub digits-in : Read (t .key) (t .step)
@@ -138,35 +138,35 @@ module _ {m : ℕ} {t : Spot} (h : Stands m t) (level : t .side * 4 ≡ 2 ^ m) w
       }
 
   -- the number is that of a block of the summary
-  pub number-small : numberOf t < 16
+  pub number-small : summaryNumber t < 16
   number-small = let e = number-is in let f = number-few digits in omega arith
 
   summary-two : (summaryLevel m ≡ 2) × (summaryHeight m ≡ h .height)
   summary-two = let e = two-down in (omega arith, omega arith)
 
-  number-block : blockKey m (numberOf t) ≡ t .key
+  number-block : blockKey m (summaryNumber t) ≡ t .key
   unfolding blockKey
   number-block =
-      ap₂ (λ x y. keyBelow x y (numberOf t)) (summary-two .1) (summary-two .0) ∙ ap (keyBelow (h .height) 2) number-is ∙ number-key digits
+      ap₂ (λ x y. keyBelow x y (summaryNumber t)) (summary-two .1) (summary-two .0) ∙ ap (keyBelow (h .height) 2) number-is ∙ number-key digits
 
   -- so it is below the number of the summary's blocks
-  pub number-below : numberOf t < 4 ^ summaryLevel m
+  pub number-below : summaryNumber t < 4 ^ summaryLevel m
   number-below = rw (summary-two .0) number-small
 
   module _ (s : ℕ) (p : Picture) where
     -- the place of its number and a feature has the block's count
-    pub number-count : (f : ℕ) → f < s → getD (summaryOf m s p) (numberOf t * s + f) 0 ≡ pixelsWith p (heightOf m (t .key)) (rowOf m (t .key)) (columnOf m (t .key)) f
+    pub number-count : (f : ℕ) → f < s → getD (summaryOf m s p) (summaryNumber t * s + f) 0 ≡ pixelsWith p (heightOf m (t .key)) (rowOf m (t .key)) (columnOf m (t .key)) f
     number-count f low =
-        summary-place m s p (numberOf t) number-below f low
-        ∙ ap (λ x. pixelsWith p x (rowOf m (blockKey m (numberOf t))) (columnOf m (blockKey m (numberOf t))) f)
+        summary-place m s p (summaryNumber t) number-below f low
+        ∙ ap (λ x. pixelsWith p x (rowOf m (blockKey m (summaryNumber t))) (columnOf m (blockKey m (summaryNumber t))) f)
         (summary-two .1 ∙ sym (block-valid (h .block) .height))
         ∙ ap (λ x. pixelsWith p (heightOf m (t .key)) (rowOf m x) (columnOf m x) f) number-block
 
     -- and is one of the summary's places
-    pub number-room : (f : ℕ) → f < s → numberOf t * s + f < length (summaryOf m s p)
+    pub number-room : (f : ℕ) → f < s → summaryNumber t * s + f < length (summaryOf m s p)
     number-room f low =
         let e = summary-length m s p in
         let g : 4 ^ summaryLevel m * s ≡ 16 * s = ap (λ x. 4 ^ x * s) (summary-two .0) in
-        let a = mul-le-mul-right {m = suc (numberOf t)} {n = 16} s (let z = number-small in omega arith) in
-        let b = suc-mul (numberOf t) s in
+        let a = mul-le-mul-right {m = suc (summaryNumber t)} {n = 16} s (let z = number-small in omega arith) in
+        let b = suc-mul (summaryNumber t) s in
         omega arith

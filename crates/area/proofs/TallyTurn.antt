@@ -23,7 +23,7 @@ use Rattle.list.proofs.ShownQuadrants.{quadrantRow, quadrantColumn, Left, left-
 use Rattle.summary.specs.Count.{NodeAt}
 use Rattle.summary.proofs.CountTurn.{firstPixels, first-none, first-more, first-all, first-room, quarter-is, shown-node}
 use Rattle.area.specs.Tally.{BlockTallied, NodeTallied}
-use Rattle.area.specs.declared.tally.Tally.{Tally}
+use Rattle.area.specs.declared.tally.Measure.{Measure}
 
 -- what a leaf adds to the count of a feature whose bit is given
 leaf-tallied : {p : Picture} {k r c κ : ℕ} {bits : List ℕ} {at : ℕ} (s : ShownAt p k r c κ bits at) → oneSlot (getD bits at 0) ≡ true
@@ -36,7 +36,7 @@ leaf-tallied {p} {k} {r} {c} {bits = bits} {at} s leaf bit one =
     ∙ sym (pixels-none p k r c (leaf-one s leaf) (featureOf bit)
     (λ same. e (slot-power (getD bits at 0) leaf ∙ ap (λ x. 2 ^ x) (leaf-feature s leaf ∙ sym same) ∙ sym (slot-power bit one)))))
 
-node-tallied : {p : Picture} (k : ℕ) {r c κ : ℕ} {bits : List ℕ} {at area f : ℕ} {t : Tally}
+node-tallied : {p : Picture} (k : ℕ) {r c κ : ℕ} {bits : List ℕ} {at area f : ℕ} {t : Measure}
     → NodeTallied bits at area f t
     → ShownAt p k r c κ bits at
     → oneFeature p k r c ≡ false
@@ -46,7 +46,7 @@ node-tallied {p} zero {r} {c} x s several e = absurd (true≢false (sym (one-pix
 node-tallied {p} (suc k) {r} {c} {κ} x s several e = x .holds p k r c κ s several e
 
 -- of whichever block is shown and has several features
-pub shown-tallied : {p : Picture} {k r c κ : ℕ} {bits : List ℕ} {at area f : ℕ} {t : Tally}
+pub shown-tallied : {p : Picture} {k r c κ : ℕ} {bits : List ℕ} {at area f : ℕ} {t : Measure}
     → NodeTallied bits at area f t
     → ShownAt p k r c κ bits at
     → oneFeature p k r c ≡ false
@@ -76,7 +76,7 @@ reached-none bits at area f = record {
 
 module _ {bits : List ℕ} {at area f pixels next d : ℕ} (x : Reached bits at area f pixels next d) where
   -- one quadrant more
-  turned : (t : Tally) (pixels′ next′ : ℕ) → d < 4
+  turned : (t : Measure) (pixels′ next′ : ℕ) → d < 4
       → ((p : Picture) (k r c κ : ℕ)
       → ShownAt p k (quadrantRow d r (2 ^ k)) (quadrantColumn d c (2 ^ k)) (childKey κ k (suc d)) bits next
       → area / 4 ≡ 4 ^ k
@@ -95,7 +95,7 @@ module _ {bits : List ℕ} {at area f pixels next d : ℕ} (x : Reached bits at 
         };
   }
 
-  pub node-turn : (t : Tally) (pixels′ next′ : ℕ) → d < 4
+  pub node-turn : (t : Measure) (pixels′ next′ : ℕ) → d < 4
       → oneSlot (getD bits next 0) ≡ false
       → NodeTallied bits next (area / 4) f t
       → pixels′ ≡ pixels + t .pixels
@@ -133,7 +133,7 @@ module _ {bits : List ℕ} {at area f pixels next d : ℕ} (x : Reached bits at 
     child-asked e = shown-node (left-shown (now-passed .left) h) e (quarter-is area (node .height) (node .pixels))
 
     -- what the child gives is at most its pixels
-    pub child-most : (t : Tally) → oneSlot (getD bits next 0) ≡ false → NodeTallied bits next (area / 4) f t → t .pixels ≤ area / 4
+    pub child-most : (t : Measure) → oneSlot (getD bits next 0) ≡ false → NodeTallied bits next (area / 4) f t → t .pixels ≤ area / 4
     child-most t e y =
         let s = left-shown (now-passed .left) h in
         let q = quarter-is area (node .height) (node .pixels) in

@@ -26,9 +26,9 @@ use Rattle.summary.specs.Count.{NodeAt}
 use Rattle.summary.proofs.CountTurn.{shown-node}
 use Rattle.walk.specs.Walk.{Stands}
 use Rattle.walk.specs.declared.Spot.{Spot}
-use Rattle.area.specs.Number.{numberOf}
+use Rattle.area.specs.Number.{summaryNumber}
 use Rattle.area.specs.Tally.{NodeTallied, MixedAt, WholeAsked, WholeCounted}
-use Rattle.area.specs.declared.tally.Tally.{Tally}
+use Rattle.area.specs.declared.tally.Measure.{Measure}
 use Rattle.area.proofs.BlockCount.{key-valid, area-is, keyed-one, summary-has, summary-room}
 use Rattle.area.proofs.Looked.{place-yes, place-mixed}
 use Rattle.area.proofs.TallyTurn.{shown-tallied}
@@ -68,7 +68,7 @@ module _ {m : ℕ} {t : Spot} (h : Stands m t) where
 
   module _ {s : ℕ} {bits summary : List ℕ} {from f : ℕ} (low : f < s) where
     -- at the summary's level
-    module _ (level : t .side * 4 ≡ 2 ^ m) (b : ℕ) (e : b ≡ numberOf t) where
+    module _ (level : t .side * 4 ≡ 2 ^ m) (b : ℕ) (e : b ≡ summaryNumber t) where
       pub place-room : WholeAsked m s bits summary t from → b * s + f < length summary
       place-room x = summary-room h (x .picture) (x .summary-is) level b e low
 
@@ -76,7 +76,7 @@ module _ {m : ℕ} {t : Spot} (h : Stands m t) where
       place-counted = record { holds = λ p mixed is. summary-has h p is level b e low }
 
   -- and below it
-  pub tally-counted : {s : ℕ} {bits summary : List ℕ} {from : ℕ} (f bit : ℕ) → bit ≡ 2 ^ f → (y : Tally) → NodeTallied bits from (t .side * t .side) (featureOf bit) y
+  pub tally-counted : {s : ℕ} {bits summary : List ℕ} {from : ℕ} (f bit : ℕ) → bit ≡ 2 ^ f → (y : Measure) → NodeTallied bits from (t .side * t .side) (featureOf bit) y
       → WholeCounted m s bits summary t from f (y .pixels)
   tally-counted f bit is y x =
       record {

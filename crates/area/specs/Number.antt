@@ -3,5 +3,5 @@
 use Prim.Native.Nat.{ℕ, _+_, _-_, _*_, _/_, _%_}
 use Rattle.walk.specs.declared.Spot.{Spot}
 
-unfoldable pub numberOf : Spot → ℕ
-numberOf s = (s .key / s .step / 5 - 1) * 4 + (s .key / s .step % 5 - 1)
+unfoldable pub summaryNumber : Spot → ℕ
+summaryNumber s = (s .key / s .step / 5 - 1) * 4 + (s .key / s .step % 5 - 1)

@@ -23,5 +23,5 @@ unfoldable pub overlapOf : Spot → Window → ℕ
 overlapOf s w = common (s .row) (s .side) (w .row) (w .height) * common (s .column) (s .side) (w .column) (w .width)
 
 -- the block lies in the window, and is at the summary's level or below it, in a raster of the given side
-unfoldable pub isWhole : ℕ → Spot → Window → Bool
-isWhole side s w = leb (s .side * 4) side && isWithin s w
+unfoldable pub isSummed : ℕ → Spot → Window → Bool
+isSummed side s w = leb (s .side * 4) side && isWithin s w

@@ -12,15 +12,15 @@ use Rattle.definitions.specs.List.{listOf}
 use Rattle.definitions.specs.Area.{pixelsWith, summaryOf}
 use Rattle.list.specs.Shown.{ShownAt}
 use Rattle.walk.specs.declared.Spot.{Spot}
-use Rattle.area.specs.declared.tally.Tally.{Tally}
+use Rattle.area.specs.declared.tally.Measure.{Measure}
 
 -- the block's pixels of the feature, and the place after its list
-pub record BlockTallied (p : Picture) (k r c κ at f : ℕ) (t : Tally) : Type 0 where
+pub record BlockTallied (p : Picture) (k r c κ at f : ℕ) (t : Measure) : Type 0 where
   pub counted : t .pixels ≡ pixelsWith p k r c f
   pub ends : t .next ≡ at + length (listOf p k r c κ)
 
 -- that holds of whichever node of so many pixels the bitstrings show
-pub record NodeTallied (bits : List ℕ) (at area f : ℕ) (t : Tally) : Type 0 where
+pub record NodeTallied (bits : List ℕ) (at area f : ℕ) (t : Measure) : Type 0 where
   pub holds : (p : Picture) (k r c κ : ℕ)
       → ShownAt p (suc k) r c κ bits at
       → oneFeature p (suc k) r c ≡ false

@@ -7,20 +7,20 @@ ghost use Rattle.definitions.specs.Window.{isWindow};
 ghost use Rattle.definitions.specs.Area.{areaIn, summaryOf};
 ghost use Rattle.list.specs.Own.{OwnList, shownBy};
 ghost use Rattle.walk.specs.Walk.{Stands};
-ghost use Rattle.area.specs.Number.{numberOf};
+ghost use Rattle.area.specs.Number.{summaryNumber};
 ghost use Rattle.area.specs.Tally.{WholeAsked, WholeCounted};
 use crate::overlap;
 use crate::tally;
 use definitions::Window;
 use keys::power;
 use list::standing;
-use walk::Found;
+use walk::NextBlock;
 use walk::Spot;
 
 // The number of a block of level 2 in key order, by the first two digits of its key.
 fn number_of(m: u32, block: Spot) -> u32
     requires { ⌜ (m ≤ 10) × Stands m block × (block .side * 4 ≡ 2 ^ m) ⌝ }
-    ensures { λ r. ⌜ (r ≡ numberOf block) × (r < 16) ⌝ }
+    ensures { λ r. ⌜ (r ≡ summaryNumber block) × (r < 16) ⌝ }
 {
     let key = block.key;
     let step = block.step;
@@ -93,7 +93,7 @@ pub fn area_in(
             }
             spot = walk::first(spot);
         }
-        let Found::At(next) = walk::after(m, spot) else {
+        let NextBlock::At(next) = walk::after(m, spot) else {
             return pixels;
         };
         spot = next;

@@ -3,7 +3,7 @@ ghost use mathlib.Core.Path.{_≡_};
 ghost use mathlib.Core.Bool.{false};
 ghost use Prim.Native.Nat.{_+_, _-_, _≤_, min};
 ghost use Rattle.walk.specs.Walk.{Small, isApart};
-ghost use Rattle.area.specs.Overlap.{Crossing, common, overlapOf, isWhole};
+ghost use Rattle.area.specs.Overlap.{Crossing, common, overlapOf, isSummed};
 use definitions::Window;
 use walk::Spot;
 
@@ -47,7 +47,7 @@ pub fn overlap(spot: Spot, window: Window) -> u32
 // The block lies in the window, and is a block of the summary or lies in one.
 pub fn is_whole(side: u32, spot: Spot, window: Window) -> bool
     requires { ⌜ Small spot window ⌝ }
-    ensures { λ r. ⌜ r ≡ isWhole side spot window ⌝ }
+    ensures { λ r. ⌜ r ≡ isSummed side spot window ⌝ }
 {
     let own = spot.side;
     if side < own * 4 {

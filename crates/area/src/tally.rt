@@ -10,7 +10,7 @@ ghost use Rattle.area.specs.Tally.{NodeTallied};
 use list::check;
 
 // The pixels counted, and the place after the last record passed.
-pub struct Tally {
+pub struct Measure {
     pub pixels: u32,
     pub next: usize,
 }
@@ -24,7 +24,7 @@ fn leaf_pixels(bits: u32, bit: u32, area: u32) -> u32
 
 // The node whose record is at a place of the bitstrings, with so many pixels. A leaf among its children is counted here, so that only nodes are
 // called for.
-pub fn tally_node(bits: &[u32], bit: u32, at: usize, area: u32) -> Tally
+pub fn tally_node(bits: &[u32], bit: u32, at: usize, area: u32) -> Measure
     requires { ⌜ NodeAt (now bits) at area × (area ≤ 1048576) × (oneSlot bit ≡ true) ⌝ }
     ensures { λ r. ⌜ NodeTallied (now (bits .entry)) at area (featureOf bit) r ⌝ }
 {
@@ -45,5 +45,5 @@ pub fn tally_node(bits: &[u32], bit: u32, at: usize, area: u32) -> Tally
         }
         d += 1;
     }
-    Tally { pixels, next }
+    Measure { pixels, next }
 }

@@ -1,44 +1,41 @@
 -- What begins, runs over the questions and answers is document 02's batch: the answer and what the two slices hold afterwards. Rests on Fold and on
 -- definitions' First and Buffer.
-use Prim.Native.Nat.{ℕ, zero, suc, _+_, _≤_, min}
+use Prim.Native.Nat.{ℕ, zero, _+_, _≤_, min}
 use mathlib.Core.Path.{_≡_, refl, sym, ap, subst, _∙_}
-use mathlib.Core.Bool.{false}
 use mathlib.Core.List.{List, [], _∷_, map}
 use native.Mathlib.Numerals.{add-one}
-use native.Mathlib.Nat.{add-suc, add-zero}
+use native.Mathlib.Nat.{add-zero}
 use native.Mathlib.Omega.{arith}
 use lib.ListN.{length, set, length-map}
 use lib.Seq.{sets}
-use lib.Dec.{ltb}
 use borrow.Author.Tests.{not-false, ltb-false}
 use Rattle.keys.proofs.Cases.{equal}
 use Rattle.definitions.specs.Read.{room, isList}
-use Rattle.definitions.specs.Buffer.{over}
 use Rattle.definitions.specs.Calls.Batch.{refusalTo, valueTo, batchRefusal, batch, batchRefusals, batchValues}
 use Rattle.definitions.specs.declared.Question.{Question}
 use Rattle.definitions.specs.declared.Counted.{Counted}
 use Rattle.laws.proofs.First.{first-none, accepted-done, accepted-left}
 use Rattle.laws.proofs.Buffer.{sets-over}
-use Rattle.batch.specs.Run.{Accepted, Progress, progressOf, at, beginRefusal, beginOf, answered, stepOf, runOf, Ready, answerOf}
+use Rattle.batch.specs.Run.{Accepted, Answering, answeringOf, at, answeringRefusal, answeringBegins, answered, runOf, Ready, answeringEnds}
 use Rattle.batch.specs.declared.begin.State.{State}
 use Rattle.batch.proofs.Fold.{step-answers, step-stays, run-nil, run-cons}
 
 module _ (keys bits : List ℕ) where
   -- a refused batch stays as it is
-  pub run-refused : (questions : List Question) (p : Progress) → (p .state .refusal ≡ 0 → ⊥) → runOf keys bits questions p ≡ p
+  pub run-refused : (questions : List Question) (p : Answering) → (p .state .refusal ≡ 0 → ⊥) → runOf keys bits questions p ≡ p
   run-refused [] p h = run-nil keys bits p
   run-refused (q ∷ questions) p h =
       run-cons keys bits q questions p ∙ ap (runOf keys bits questions) (step-stays keys bits q p h) ∙ run-refused questions p h
 
   -- what the questions leave: one place after the other is written
-  abbrev ran : List Question → Progress → Progress
+  abbrev ran : List Question → Answering → Answering
   ran questions p =
-      progressOf
+      answeringOf
       (at (p .state .place + length questions) (p .state))
       (sets (p .refusals) (p .state .place) (map (refusalTo (p .state .m) (p .state .s) keys bits (p .state .n)) questions))
       (sets (p .values) (p .state .place) (map (valueTo (p .state .m) (p .state .s) keys bits (p .state .n)) questions))
 
-  progress : {a b : ℕ} {l l′ v v′ : List ℕ} (st : State) → a ≡ b → l ≡ l′ → v ≡ v′ → progressOf (at a st) l v ≡ progressOf (at b st) l′ v′
+  progress : {a b : ℕ} {l l′ v v′ : List ℕ} (st : State) → a ≡ b → l ≡ l′ → v ≡ v′ → answeringOf (at a st) l v ≡ answeringOf (at b st) l′ v′
   progress st e f g i =
       record {
         state = record { m = st .m; s = st .s; n = st .n; refusal = st .refusal; questions = st .questions; place = e i };
@@ -46,7 +43,7 @@ module _ (keys bits : List ℕ) where
         values = g i;
       }
 
-  pub run-answers : (questions : List Question) (p : Progress) → p .state .refusal ≡ 0 → runOf keys bits questions p ≡ ran questions p
+  pub run-answers : (questions : List Question) (p : Answering) → p .state .refusal ≡ 0 → runOf keys bits questions p ≡ ran questions p
   run-answers [] p e = run-nil keys bits p ∙ progress (p .state) (sym (add-zero (p .state .place))) refl refl
   run-answers (q ∷ questions) p e =
       run-cons keys bits q questions p
@@ -63,11 +60,11 @@ module _ (keys bits : List ℕ) where
 
 module _ (m s : ℕ) (keys bits : List ℕ) (n : ℕ) (questions : List Question) (refusals values : List ℕ) where
   abbrev start : State
-  start = beginOf m s keys bits n (length questions) (length refusals) (length values)
+  start = answeringBegins m s keys bits n (length questions) (length refusals) (length values)
 
   -- the state begins with the batch's refusal
   begins : start .refusal ≡ batchRefusal m s keys bits n questions refusals values
-  unfolding beginRefusal batchRefusal
+  unfolding answeringRefusal batchRefusal
   begins = refl
 
   passed : batchRefusal m s keys bits n questions refusals values ≡ 0 → Accepted m s keys bits n × (length questions ≤ min (length refusals) (length values))
@@ -77,9 +74,9 @@ module _ (m s : ℕ) (keys bits : List ℕ) (n : ℕ) (questions : List Question
       (record { settings = none .0; list = not-false (isList m s keys bits n) (none .1 .0) }, ltb-false (room refusals values) (length questions) (none .1 .1 .0))
 
   -- the questions may come
-  pub start-ready : (r : State) → r ≡ start → Ready keys bits (length questions) (progressOf r refusals values)
+  pub start-ready : (r : State) → r ≡ start → Ready keys bits (length questions) (answeringOf r refusals values)
   start-ready r e =
-      subst (λ st. Ready keys bits (length questions) (progressOf st refusals values)) (sym e)
+      subst (λ st. Ready keys bits (length questions) (answeringOf st refusals values)) (sym e)
       (record {
         fine = λ zero. let p = passed (sym begins ∙ zero) in
             record { list = p .0; roomRefusals = let h = p .1 in omega arith; roomValues = let h = p .1 in omega arith };
@@ -88,12 +85,12 @@ module _ (m s : ℕ) (keys bits : List ℕ) (n : ℕ) (questions : List Question
   -- the three calls that make a batch: it begins, runs over the questions, and answers
   pub record Made (begun done : State) (result : Counted) (after after′ : List ℕ) : Type 0 where
     pub begins-with : begun ≡ start
-    pub runs : progressOf done after after′ ≡ runOf keys bits questions (progressOf begun refusals values)
-    pub ends-with : result ≡ answerOf done
+    pub runs : answeringOf done after after′ ≡ runOf keys bits questions (answeringOf begun refusals values)
+    pub ends-with : result ≡ answeringEnds done
 
   -- only the place of the state changes, and the answer does not look at it
-  answer-batch : (place : ℕ) → answerOf (at place start) ≡ batch m s keys bits n questions refusals values
-  unfolding beginRefusal batchRefusal batch answerOf
+  answer-batch : (place : ℕ) → answeringEnds (at place start) ≡ batch m s keys bits n questions refusals values
+  unfolding answeringRefusal batchRefusal batch answeringEnds
   answer-batch place = refl
 
   refusals-over : batchRefusal m s keys bits n questions refusals values ≡ 0
@@ -127,18 +124,18 @@ module _ (m s : ℕ) (keys bits : List ℕ) (n : ℕ) (questions : List Question
       × (after′ ≡ batchValues m s keys bits n questions refusals values)
 
   -- what the progress at the end says
-  ends-at : (place : ℕ) (l l′ : List ℕ) {done : State} {result : Counted} {after after′ : List ℕ} → progressOf done after after′ ≡ progressOf (at place start) l l′
-      → result ≡ answerOf done
+  ends-at : (place : ℕ) (l l′ : List ℕ) {done : State} {result : Counted} {after after′ : List ℕ} → answeringOf done after after′ ≡ answeringOf (at place start) l l′
+      → result ≡ answeringEnds done
       → l ≡ batchRefusals m s keys bits n questions refusals values
       → l′ ≡ batchValues m s keys bits n questions refusals values
       → Promised result after after′
   ends-at place l l′ e answers f g =
-      (answers ∙ ap (λ p. answerOf (p .state)) e ∙ answer-batch place, ap (λ p. p .refusals) e ∙ f, ap (λ p. p .values) e ∙ g)
+      (answers ∙ ap (λ p. answeringEnds (p .state)) e ∙ answer-batch place, ap (λ p. p .refusals) e ∙ f, ap (λ p. p .values) e ∙ g)
 
   pub batch-law : {begun done : State} {result : Counted} {after after′ : List ℕ} → Made begun done result after after′ → Promised result after after′
   batch-law made =
-      let runs = made .runs ∙ ap (λ st. runOf keys bits questions (progressOf st refusals values)) (made .begins-with) in
+      let runs = made .runs ∙ ap (λ st. runOf keys bits questions (answeringOf st refusals values)) (made .begins-with) in
       equal (batchRefusal m s keys bits n questions refusals values) 0
-      (λ zero. ends-at _ _ _ (runs ∙ run-answers keys bits questions (progressOf start refusals values) (begins ∙ zero)) (made .ends-with) (refusals-over zero) (values-over zero))
-      (λ refused. ends-at 0 refusals values (runs ∙ run-refused keys bits questions (progressOf start refusals values) (λ z. refused (sym begins ∙ z))) (made .ends-with)
+      (λ zero. ends-at _ _ _ (runs ∙ run-answers keys bits questions (answeringOf start refusals values) (begins ∙ zero)) (made .ends-with) (refusals-over zero) (values-over zero))
+      (λ refused. ends-at 0 refusals values (runs ∙ run-refused keys bits questions (answeringOf start refusals values) (λ z. refused (sym begins ∙ z))) (made .ends-with)
       (refusals-stay refused) (values-stay refused))

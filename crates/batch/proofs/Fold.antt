@@ -6,53 +6,52 @@ use mathlib.Core.List.{List, [], _∷_}
 use native.Mathlib.Numerals.{add-one}
 use native.Mathlib.Omega.{arith}
 use lib.ListN.{length, getD, take, set, length-set}
-use lib.Dec.{eqb}
 use borrow.Author.Tests.{eq-eqb, ne-eqb}
 use Rattle.keys.proofs.Cases.{equal}
 use Rattle.definitions.specs.Calls.Batch.{refusalTo, valueTo}
 use Rattle.definitions.specs.declared.Question.{Question}
 use Rattle.laws.proofs.OneByOne.{noQuestion}
 use Rattle.batch.specs.declared.step.Reply.{Reply}
-use Rattle.batch.specs.Run.{Progress, progressOf, at, replyOf, answered, stepOf, runOf, Fine, Ready}
+use Rattle.batch.specs.Run.{Answering, answeringOf, at, replyOf, answered, stepOf, runOf, Ready}
 
 module _ (keys bits : List ℕ) where
-  abbrev first : ℕ → List Question → Progress → Progress
+  abbrev first : ℕ → List Question → Answering → Answering
   first i questions p = runOf keys bits (take i questions) p
 
   -- a batch that is not refused answers, and a refused one stays
-  pub step-answers : (q : Question) (p : Progress) → p .state .refusal ≡ 0 → stepOf keys bits q p ≡ answered keys bits q p
+  pub step-answers : (q : Question) (p : Answering) → p .state .refusal ≡ 0 → stepOf keys bits q p ≡ answered keys bits q p
   unfolding stepOf
   step-answers q p e = rw (eq-eqb (p .state .refusal) 0 e)
 
-  pub step-stays : (q : Question) (p : Progress) → (p .state .refusal ≡ 0 → ⊥) → stepOf keys bits q p ≡ p
+  pub step-stays : (q : Question) (p : Answering) → (p .state .refusal ≡ 0 → ⊥) → stepOf keys bits q p ≡ p
   unfolding stepOf
   step-stays q p h = rw (ne-eqb (p .state .refusal) 0 h)
 
   -- what is left when the reply is put at its place
-  pub step-put : (q : Question) (p : Progress) → p .state .refusal ≡ 0 → (reply : Reply) → reply ≡ replyOf (p .state .m) (p .state .s) keys bits (p .state .n) q
+  pub step-put : (q : Question) (p : Answering) → p .state .refusal ≡ 0 → (reply : Reply) → reply ≡ replyOf (p .state .m) (p .state .s) keys bits (p .state .n) q
       → (l v : List ℕ)
       → l ≡ set (p .refusals) (p .state .place) (reply .refusal)
       → v ≡ set (p .values) (p .state .place) (reply .value)
-      → progressOf (at (p .state .place + 1) (p .state)) l v ≡ stepOf keys bits q p
+      → answeringOf (at (p .state .place + 1) (p .state)) l v ≡ stepOf keys bits q p
   step-put q p e reply is l v f g =
       let refusals = f ∙ ap (λ r. set (p .refusals) (p .state .place) (r .refusal)) is in
       let values = g ∙ ap (λ r. set (p .values) (p .state .place) (r .value)) is in
-      (λ i. progressOf (at (p .state .place + 1) (p .state)) (refusals i) (values i)) ∙ sym (step-answers q p e)
+      (λ i. answeringOf (at (p .state .place + 1) (p .state)) (refusals i) (values i)) ∙ sym (step-answers q p e)
 
-  pub run-nil : (p : Progress) → runOf keys bits [] p ≡ p
+  pub run-nil : (p : Answering) → runOf keys bits [] p ≡ p
   unfolding runOf
   run-nil p = refl
 
-  pub run-cons : (q : Question) (questions : List Question) (p : Progress) → runOf keys bits (q ∷ questions) p ≡ runOf keys bits questions (stepOf keys bits q p)
+  pub run-cons : (q : Question) (questions : List Question) (p : Answering) → runOf keys bits (q ∷ questions) p ≡ runOf keys bits questions (stepOf keys bits q p)
   unfolding runOf
   run-cons q questions p = refl
 
   -- no question yet
-  pub run-none : (questions : List Question) (p : Progress) → p ≡ first 0 questions p
+  pub run-none : (questions : List Question) (p : Answering) → p ≡ first 0 questions p
   unfolding runOf
   run-none questions p = refl
 
-  take-next : (i : ℕ) (questions : List Question) (p : Progress) → i < length questions
+  take-next : (i : ℕ) (questions : List Question) (p : Answering) → i < length questions
       → stepOf keys bits (getD questions i noQuestion) (first i questions p) ≡ first (suc i) questions p
   unfolding runOf
   take-next i [] p h = absurd (omega arith)
@@ -60,20 +59,20 @@ module _ (keys bits : List ℕ) where
   take-next (suc i) (q ∷ questions) p h = take-next i questions (stepOf keys bits q p) (omega arith)
 
   -- one question more
-  pub run-next : (i : ℕ) (questions : List Question) (start p next : Progress) → i < length questions → p ≡ first i questions start
+  pub run-next : (i : ℕ) (questions : List Question) (start p next : Answering) → i < length questions → p ≡ first i questions start
       → next ≡ stepOf keys bits (getD questions i noQuestion) p
       → next ≡ first (i + 1) questions start
   run-next i questions start p next h is e =
       e ∙ ap (stepOf keys bits (getD questions i noQuestion)) is ∙ take-next i questions start h ∙ ap (λ j. first j questions start) (sym (add-one i))
 
   -- all questions
-  pub run-all : (questions : List Question) (p : Progress) → first (length questions) questions p ≡ runOf keys bits questions p
+  pub run-all : (questions : List Question) (p : Answering) → first (length questions) questions p ≡ runOf keys bits questions p
   unfolding runOf
   run-all [] p = refl
   run-all (q ∷ questions) p = run-all questions (stepOf keys bits q p)
 
   -- fewer questions need no more
-  pub ready-fewer : (fewer more : ℕ) (p : Progress) → fewer ≤ more → Ready keys bits more p → Ready keys bits fewer p
+  pub ready-fewer : (fewer more : ℕ) (p : Answering) → fewer ≤ more → Ready keys bits more p → Ready keys bits fewer p
   ready-fewer fewer more p h ready =
       record {
         fine = λ none. let f = ready .fine none in
@@ -84,7 +83,7 @@ module _ (keys bits : List ℕ) where
             };
       }
 
-  ready-answered : (more : ℕ) (q : Question) (p : Progress) → p .state .refusal ≡ 0 → Ready keys bits (suc more) p → Ready keys bits more (answered keys bits q p)
+  ready-answered : (more : ℕ) (q : Question) (p : Answering) → p .state .refusal ≡ 0 → Ready keys bits (suc more) p → Ready keys bits more (answered keys bits q p)
   ready-answered more q p none ready =
       let f = ready .fine none in
       let a = length-set (p .refusals) (p .state .place) (refusalTo (p .state .m) (p .state .s) keys bits (p .state .n) q) in
@@ -97,7 +96,7 @@ module _ (keys bits : List ℕ) where
         };
       }
 
-  pub ready-step : (more : ℕ) (q : Question) (p next : Progress) → next ≡ stepOf keys bits q p → Ready keys bits (suc more) p → Ready keys bits more next
+  pub ready-step : (more : ℕ) (q : Question) (p next : Answering) → next ≡ stepOf keys bits q p → Ready keys bits (suc more) p → Ready keys bits more next
   ready-step more q p next is ready =
       subst (Ready keys bits more) (sym is)
       (equal (p .state .refusal) 0

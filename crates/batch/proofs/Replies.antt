@@ -9,7 +9,7 @@ use Rattle.keys.proofs.Cases.{equal}
 use Rattle.definitions.specs.Window.{isWindow, existIn, reportIn}
 use Rattle.definitions.specs.Clip.{clippedWindow}
 use Rattle.definitions.specs.Calls.Report.{reportRefusal, report}
-use Rattle.definitions.specs.Calls.Exist.{existRefusal, exist}
+use Rattle.definitions.specs.Calls.Exist.{exist}
 use Rattle.definitions.specs.Calls.Batch.{refusalTo, valueTo}
 use Rattle.definitions.specs.declared.Window.{Window}
 use Rattle.definitions.specs.declared.Exists.{Exists}

@@ -19,7 +19,7 @@ use denote.Builtin.{u32}
 use denote.Laws.{Is}
 use denote.Steps.{owned}
 use denote.Struct.Laws as LL
-use Rattle.batch.specs.Run.{Progress, progressOf, Ready}
+use Rattle.batch.specs.Run.{Answering, answeringOf, Ready}
 use Rattle.batch.specs.declared.begin.State.{State}
 use Rattle.batch.proofs.begin.State as State
 use Rattle.batch.proofs.begin.State.Laws as State′
@@ -60,11 +60,11 @@ module _ (S : BatchSlices) where
   answers = answersOf (S .refusals) (S .values)
 
   -- a batch with so many questions to come may go on from the progress p
-  abbrev pub ReadyAt : ℕ → Progress → Type 0
+  abbrev pub ReadyAt : ℕ → Answering → Type 0
   ReadyAt more p = Ready (S .keys .x .now) (S .bits .x .now) more p
 
-  abbrev pub Result : Progress → Type 0
-  Result p = TwoGiven State.the-type State′.the-laws (S .refusals) (S .values) (λ r l l′. progressOf r l l′ ≡ p)
+  abbrev pub Result : Answering → Type 0
+  Result p = TwoGiven State.the-type State′.the-laws (S .refusals) (S .values) (λ r l l′. answeringOf r l l′ ≡ p)
 
   -- the slices that are read are had twice
   pub reads-twice : {M : Type 1} {𝓤 : URA M} {H : Heap 𝓤} {A : Atoms 𝓤} {K : Type 0} (W : Given 𝓤 H A) {Γ : List (Item 𝓤)} {G : Goal 𝓤 H} → K → Step K W (‵ reads ∷ ‵ reads ∷ Γ) G (‵ reads ∷ Γ) G

@@ -1,6 +1,6 @@
 -- The turns of the loop in `run`, as numbers and lists: before a turn the state and the two answer lists are those of a batch over the first i questions,
 -- and a step over the question at i makes them those of the next turn. Rests on Fold.
-use mathlib.Core.Path.{_≡_, refl, ap, subst, _∙_}
+use mathlib.Core.Path.{_≡_, refl, ap, _∙_}
 use Prim.Native.Nat.{ℕ, suc, _+_, _-_, _≤_, _<_}
 use native.Mathlib.Omega.{arith}
 use mathlib.Core.List.{List}
@@ -8,7 +8,7 @@ use lib.ListN.{length, getD, take}
 use denote.Laws.{Is}
 use Rattle.definitions.specs.declared.Question.{Question}
 use Rattle.laws.proofs.OneByOne.{noQuestion}
-use Rattle.batch.specs.Run.{Progress, progressOf, Ready, stepOf, runOf}
+use Rattle.batch.specs.Run.{Answering, answeringOf, Ready, stepOf, runOf}
 use Rattle.batch.specs.declared.begin.State.{State}
 use Rattle.batch.proofs.begin.State as State
 use Rattle.batch.proofs.Fold.{run-none, run-next, run-all, ready-fewer, ready-step}
@@ -22,24 +22,24 @@ module _ (S : BatchSlices) (questions : List Question) (start : State) where
   B = S .bits .x .now
 
   -- the progress at entry, and the progress of a batch over some questions
-  abbrev pub entry : Progress
-  entry = progressOf start (S .refusals .x .now) (S .values .x .now)
+  abbrev pub entry : Answering
+  entry = answeringOf start (S .refusals .x .now) (S .values .x .now)
 
-  abbrev pub ran : List Question → Progress
+  abbrev pub ran : List Question → Answering
   ran qs = runOf K B qs entry
 
   pub record Turn : Type 0 where
     pub i : ℕ
     pub small : i ≤ length questions
     pub found : Result S (ran (take i questions))
-    pub ready : Ready K B (length questions - i) (progressOf (found .result) (found .first) (found .second))
+    pub ready : Ready K B (length questions - i) (answeringOf (found .result) (found .first) (found .second))
 
   -- the question of a turn
   abbrev pub question : Turn → Question
   question t = getD questions (t .i) noQuestion
 
   abbrev pub Stepped : Turn → Type 0
-  Stepped t = Result S (stepOf K B (question t) (progressOf (t .found .result) (t .found .first) (t .found .second)))
+  Stepped t = Result S (stepOf K B (question t) (answeringOf (t .found .result) (t .found .first) (t .found .second)))
 
   abbrev pub first-turn : Is State.the-row start (stateVals start) → Ready K B (length questions) entry → Turn
   first-turn fits ready = record {
@@ -50,8 +50,8 @@ module _ (S : BatchSlices) (questions : List Question) (start : State) where
   }
 
   -- a question may come in a turn that is not the last
-  pub one-comes : (t : Turn) → t .i < length questions → Ready K B 1 (progressOf (t .found .result) (t .found .first) (t .found .second))
-  one-comes t more = ready-fewer K B 1 (length questions - t .i) (progressOf (t .found .result) (t .found .first) (t .found .second)) (omega arith) (t .ready)
+  pub one-comes : (t : Turn) → t .i < length questions → Ready K B 1 (answeringOf (t .found .result) (t .found .first) (t .found .second))
+  one-comes t more = ready-fewer K B 1 (length questions - t .i) (answeringOf (t .found .result) (t .found .first) (t .found .second)) (omega arith) (t .ready)
 
   abbrev pub next-turn : (t : Turn) → t .i < length questions → Stepped t → Turn
   next-turn t more x = record {
@@ -61,13 +61,13 @@ module _ (S : BatchSlices) (questions : List Question) (start : State) where
       result = x .result;
       first = x .first;
       second = x .second;
-      told = run-next K B (t .i) questions entry (progressOf (t .found .result) (t .found .first) (t .found .second)) (progressOf (x .result) (x .first) (x .second)) more (t .found .told) (x .told);
+      told = run-next K B (t .i) questions entry (answeringOf (t .found .result) (t .found .first) (t .found .second)) (answeringOf (x .result) (x .first) (x .second)) more (t .found .told) (x .told);
       first-length = x .first-length;
       second-length = x .second-length;
       fits = x .fits;
     };
-    ready = ready-step K B (length questions - (t .i + 1)) (question t) (progressOf (t .found .result) (t .found .first) (t .found .second)) (progressOf (x .result) (x .first) (x .second)) (x .told)
-        (ready-fewer K B (suc (length questions - (t .i + 1))) (length questions - t .i) (progressOf (t .found .result) (t .found .first) (t .found .second)) (omega arith) (t .ready));
+    ready = ready-step K B (length questions - (t .i + 1)) (question t) (answeringOf (t .found .result) (t .found .first) (t .found .second)) (answeringOf (x .result) (x .first) (x .second)) (x .told)
+        (ready-fewer K B (suc (length questions - (t .i + 1))) (length questions - t .i) (answeringOf (t .found .result) (t .found .first) (t .found .second)) (omega arith) (t .ready));
   }
 
   -- the turns, in the order of what is left
@@ -79,7 +79,7 @@ module _ (S : BatchSlices) (questions : List Question) (start : State) where
   nearer t more x = omega arith
 
   -- after the last turn the batch is over all questions
-  pub all-ran : (t : Turn) → length questions ≤ t .i → progressOf (t .found .result) (t .found .first) (t .found .second) ≡ ran questions
+  pub all-ran : (t : Turn) → length questions ≤ t .i → answeringOf (t .found .result) (t .found .first) (t .found .second) ≡ ran questions
   all-ran t over =
       let last : t .i ≡ length questions = omega (arith, t .small) in
       t .found .told ∙ ap (λ j. ran (take j questions)) last ∙ run-all K B questions entry

@@ -20,29 +20,29 @@ pub record Accepted (m s : ℕ) (keys bits : List ℕ) (n : ℕ) : Type 0 where
   pub list : isList m s keys bits n ≡ true
 
 -- the state, and what the two answer slices hold
-pub record Progress : Type 0 where
+pub record Answering : Type 0 where
   pub state : State
   pub refusals : List ℕ
   pub values : List ℕ
 
-abbrev pub progressOf : State → List ℕ → List ℕ → Progress
-progressOf state refusals values = record { state = state; refusals = refusals; values = values }
+abbrev pub answeringOf : State → List ℕ → List ℕ → Answering
+answeringOf state refusals values = record { state = state; refusals = refusals; values = values }
 
-unfoldable pub beginRefusal : ℕ → ℕ → List ℕ → List ℕ → ℕ → ℕ → ℕ → ℕ → ℕ
-beginRefusal m s keys bits n questions roomRefusals roomValues =
+unfoldable pub answeringRefusal : ℕ → ℕ → List ℕ → List ℕ → ℕ → ℕ → ℕ → ℕ → ℕ
+answeringRefusal m s keys bits n questions roomRefusals roomValues =
     first
     (badSettings m s gives 1
     ∷ noList m s keys bits n gives 4
     ∷ ltb (min roomRefusals roomValues) questions gives 12
     ∷ [])
 
-abbrev pub beginOf : ℕ → ℕ → List ℕ → List ℕ → ℕ → ℕ → ℕ → ℕ → State
-beginOf m s keys bits n questions roomRefusals roomValues =
+abbrev pub answeringBegins : ℕ → ℕ → List ℕ → List ℕ → ℕ → ℕ → ℕ → ℕ → State
+answeringBegins m s keys bits n questions roomRefusals roomValues =
     record {
       m = m;
       s = s;
       n = n;
-      refusal = beginRefusal m s keys bits n questions roomRefusals roomValues;
+      refusal = answeringRefusal m s keys bits n questions roomRefusals roomValues;
       questions = questions;
       place = 0;
     }
@@ -58,32 +58,32 @@ replyOf m s keys bits n q = record { refusal = refusalTo m s keys bits n q; valu
 
 module _ (keys bits : List ℕ) where
   -- the refusal and the value are written at the next place
-  abbrev pub answered : Question → Progress → Progress
+  abbrev pub answered : Question → Answering → Answering
   answered q p =
-      progressOf
+      answeringOf
       (at (p .state .place + 1) (p .state))
       (set (p .refusals) (p .state .place) (refusalTo (p .state .m) (p .state .s) keys bits (p .state .n) q))
       (set (p .values) (p .state .place) (valueTo (p .state .m) (p .state .s) keys bits (p .state .n) q))
 
   -- one question
-  unfoldable pub stepOf : Question → Progress → Progress
+  unfoldable pub stepOf : Question → Answering → Answering
   stepOf q p = cond (eqb (p .state .refusal) 0) (answered q p) p
 
   -- all questions
-  unfoldable pub runOf : List Question → Progress → Progress
+  unfoldable pub runOf : List Question → Answering → Answering
   runOf [] p = p
   runOf (q ∷ qs) p = runOf qs (stepOf q p)
 
   -- what a batch that is not refused stands on, with so many questions to come
-  pub record Fine (more : ℕ) (p : Progress) : Type 0 where
+  pub record Fine (more : ℕ) (p : Answering) : Type 0 where
     pub list : Accepted (p .state .m) (p .state .s) keys bits (p .state .n)
     pub roomRefusals : p .state .place + more ≤ length (p .refusals)
     pub roomValues : p .state .place + more ≤ length (p .values)
 
-  pub record Ready (more : ℕ) (p : Progress) : Type 0 where
+  pub record Ready (more : ℕ) (p : Answering) : Type 0 where
     pub fine : p .state .refusal ≡ 0 → Fine more p
 
 -- what the call answers
-unfoldable pub answerOf : State → Counted
-answerOf st =
+unfoldable pub answeringEnds : State → Counted
+answeringEnds st =
     record { refusal = st .refusal; count = accepted (st .refusal) (st .questions) (cond (eqb (st .refusal) 12) (st .questions) 0) }

@@ -1,6 +1,6 @@
 // How a batch begins, with its refusals decided, and what it answers in the end.
 ghost use mathlib.Core.Path.{_≡_};
-ghost use Rattle.batch.specs.Run.{beginRefusal, beginOf, answerOf};
+ghost use Rattle.batch.specs.Run.{answeringRefusal, answeringBegins, answeringEnds};
 use definitions::Counted;
 use list::refusal::first_refusal;
 
@@ -25,7 +25,7 @@ fn begin_refusal(
     room_refusals: usize,
     room_values: usize,
 ) -> u32
-    ensures { λ r. ⌜ r ≡ beginRefusal m s (now (keys .entry)) (now (bits .entry)) n questions «room_refusals» «room_values» ⌝ }
+    ensures { λ r. ⌜ r ≡ answeringRefusal m s (now (keys .entry)) (now (bits .entry)) n questions «room_refusals» «room_values» ⌝ }
 {
     let refusal = first_refusal(m, s, keys, bits, n);
     if refusal != 0 {
@@ -47,7 +47,7 @@ pub fn begin(
     room_refusals: usize,
     room_values: usize,
 ) -> State
-    ensures { λ r. ⌜ r ≡ beginOf m s (now (keys .entry)) (now (bits .entry)) n questions «room_refusals» «room_values» ⌝ }
+    ensures { λ r. ⌜ r ≡ answeringBegins m s (now (keys .entry)) (now (bits .entry)) n questions «room_refusals» «room_values» ⌝ }
 {
     let refusal = begin_refusal(m, s, keys, bits, n, questions, room_refusals, room_values);
     State {
@@ -62,7 +62,7 @@ pub fn begin(
 
 // With 12 the count is the number of places needed, which is the questions too.
 pub fn answer(state: State) -> Counted
-    ensures { λ r. ⌜ r ≡ answerOf state ⌝ }
+    ensures { λ r. ⌜ r ≡ answeringEnds state ⌝ }
 {
     let refusal = state.refusal as u64;
     let count = state.questions as u64;

@@ -2,7 +2,7 @@
 // hand.
 ghost use mathlib.Core.Path.{_≡_};
 ghost use lib.ListN.{length};
-ghost use Rattle.batch.specs.Run.{progressOf, Ready, runOf};
+ghost use Rattle.batch.specs.Run.{answeringOf, Ready, runOf};
 use crate::begin::State;
 use crate::step;
 use definitions::Question;
@@ -15,9 +15,9 @@ pub fn run(
     values: &mut [u32],
     state: State,
 ) -> State
-    requires { ⌜ Ready (now keys) (now bits) (length (now questions)) (progressOf state (now refusals) (now values)) ⌝ }
-    ensures { λ r. ⌜ progressOf r (now (refusals .exit)) (now (values .exit))
-        ≡ runOf (now (keys .entry)) (now (bits .entry)) (now (questions .entry)) (progressOf state (now (refusals .entry)) (now (values .entry))) ⌝ }
+    requires { ⌜ Ready (now keys) (now bits) (length (now questions)) (answeringOf state (now refusals) (now values)) ⌝ }
+    ensures { λ r. ⌜ answeringOf r (now (refusals .exit)) (now (values .exit))
+        ≡ runOf (now (keys .entry)) (now (bits .entry)) (now (questions .entry)) (answeringOf state (now (refusals .entry)) (now (values .entry))) ⌝ }
 {
     let mut st = state;
     let mut i: usize = 0;

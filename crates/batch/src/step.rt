@@ -3,7 +3,7 @@ ghost use mathlib.Core.Path.{_≡_};
 ghost use Prim.Native.Nat.{_≤_, _<_};
 ghost use lib.ListN.{length, set};
 ghost use Rattle.definitions.specs.Clip.{clippedWindow};
-ghost use Rattle.batch.specs.Run.{Accepted, replyOf, progressOf, Ready, stepOf};
+ghost use Rattle.batch.specs.Run.{Accepted, replyOf, answeringOf, Ready, stepOf};
 use crate::begin::State;
 use clipped::clip::clipped_window;
 use definitions::Question;
@@ -84,9 +84,9 @@ pub fn step(
     values: &mut [u32],
     state: State,
 ) -> State
-    requires { ⌜ Ready (now keys) (now bits) 1 (progressOf state (now refusals) (now values)) ⌝ }
-    ensures { λ r. ⌜ progressOf r (now (refusals .exit)) (now (values .exit))
-        ≡ stepOf (now (keys .entry)) (now (bits .entry)) question (progressOf state (now (refusals .entry)) (now (values .entry))) ⌝ }
+    requires { ⌜ Ready (now keys) (now bits) 1 (answeringOf state (now refusals) (now values)) ⌝ }
+    ensures { λ r. ⌜ answeringOf r (now (refusals .exit)) (now (values .exit))
+        ≡ stepOf (now (keys .entry)) (now (bits .entry)) question (answeringOf state (now (refusals .entry)) (now (values .entry))) ⌝ }
 {
     let place = state.place;
     if state.refusal != 0 {

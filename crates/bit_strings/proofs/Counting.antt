@@ -10,8 +10,8 @@ use lib.Seq.{drop-drop}
 use lib.Dec.{leb}
 use Rattle.definitions.specs.BitStrings.{bitsIn, anySet, isWhole, leftOver, reading, recordsFrom, isPair, recordsOfPair}
 use Rattle.definitions.specs.BitStrings.{runsOn, spareBitSet, whole}
-use Rattle.bit_strings.specs.Steps.{isSpare, passed, countOf}
-use Rattle.bit_strings.specs.declared.next.Passed.{Passed}
+use Rattle.bit_strings.specs.Steps.{isSpare, passed, pairLength}
+use Rattle.bit_strings.specs.declared.next.AfterBlock.{AfterBlock}
 use Rattle.bit_strings.proofs.NextBit.{drop-on}
 use Rattle.bit_strings.proofs.Passing.{GoesOn, step, reading-past, records-past}
 
@@ -41,17 +41,17 @@ pub counting-start : (m : ℕ) (nodes leaves : List ℕ) → Counting m nodes le
 unfolding isPair recordsOfPair
 counting-start m nodes leaves = record { below = omega arith; fewer = omega arith; near = omega arith; read = refl; records = omega arith }
 
-count-none : (m : ℕ) (nodes leaves : List ℕ) → isPair m nodes leaves ≡ false → 0 ≡ countOf m nodes leaves
-unfolding countOf
+count-none : (m : ℕ) (nodes leaves : List ℕ) → isPair m nodes leaves ≡ false → 0 ≡ pairLength m nodes leaves
+unfolding pairLength
 count-none m nodes leaves e = sym (ap (λ b. cond b (length (recordsOfPair m nodes leaves)) 0) e)
 
-count-some : (m : ℕ) (nodes leaves : List ℕ) (n : ℕ) → isPair m nodes leaves ≡ true → n ≡ length (recordsOfPair m nodes leaves) → n ≡ countOf m nodes leaves
-unfolding countOf
+count-some : (m : ℕ) (nodes leaves : List ℕ) (n : ℕ) → isPair m nodes leaves ≡ true → n ≡ length (recordsOfPair m nodes leaves) → n ≡ pairLength m nodes leaves
+unfolding pairLength
 count-some m nodes leaves n e f = f ∙ sym (ap (λ b. cond b (length (recordsOfPair m nodes leaves)) 0) e)
 
 module _ (m : ℕ) (nodes leaves : List ℕ) (key i j : ℕ) (c : Counting m nodes leaves key i j) where
-  module _ (inside : key < 5 ^ m) (p : Passed) (is : p ≡ passed m key (drop i (bitsIn nodes)) (drop j (bitsIn leaves))) where
-    pub counting-stuck : p .key ≡ 0 → 0 ≡ countOf m nodes leaves
+  module _ (inside : key < 5 ^ m) (p : AfterBlock) (is : p ≡ passed m key (drop i (bitsIn nodes)) (drop j (bitsIn leaves))) where
+    pub counting-stuck : p .key ≡ 0 → 0 ≡ pairLength m nodes leaves
     counting-stuck z =
         ⊎-elim
         (λ s. count-none m nodes leaves (sym (c .read) ∙ s .refused))
@@ -94,14 +94,14 @@ module _ (m : ℕ) (nodes leaves : List ℕ) (key i j : ℕ) (c : Counting m nod
         sym (ap isWhole (reading-past m key (drop i (bitsIn nodes)) (drop j (bitsIn leaves)) past) ∙ left-is (drop i (bitsIn nodes)) (drop j (bitsIn leaves)))
         ∙ c .read
 
-    pub counting-nodes : isSpare (drop i (bitsIn nodes)) ≡ false → 0 ≡ countOf m nodes leaves
+    pub counting-nodes : isSpare (drop i (bitsIn nodes)) ≡ false → 0 ≡ pairLength m nodes leaves
     counting-nodes e = count-none m nodes leaves (sym left ∙ ap (λ b. b && isSpare (drop j (bitsIn leaves))) e)
 
     module _ (first : isSpare (drop i (bitsIn nodes)) ≡ true) where
-      pub counting-leaves : isSpare (drop j (bitsIn leaves)) ≡ false → 0 ≡ countOf m nodes leaves
+      pub counting-leaves : isSpare (drop j (bitsIn leaves)) ≡ false → 0 ≡ pairLength m nodes leaves
       counting-leaves e = count-none m nodes leaves (sym left ∙ ap (λ b. b && isSpare (drop j (bitsIn leaves))) first ∙ e)
 
-      pub counting-end : isSpare (drop j (bitsIn leaves)) ≡ true → i ≡ countOf m nodes leaves
+      pub counting-end : isSpare (drop j (bitsIn leaves)) ≡ true → i ≡ pairLength m nodes leaves
       counting-end e =
           let none = ap length (records-past m key (drop i (bitsIn nodes)) (drop j (bitsIn leaves)) past) in
           let r = c .records in

@@ -22,39 +22,6 @@ next-cons [] e = absurd (omega arith)
 next-cons (true ∷ l) e = refl
 next-cons (false ∷ l) e = absurd (omega arith)
 
-next-zero : (l : List Bool) → nextBit l ≡ 0 → l ≡ false ∷ drop 1 l
-unfolding nextBit
-next-zero [] e = absurd (omega arith)
-next-zero (true ∷ l) e = absurd (omega arith)
-next-zero (false ∷ l) e = refl
-
--- a leaf comes next
-pub one-next : (l : List Bool) (i : ℕ) → nextBit (drop i l) ≡ 1 → drop i l ≡ true ∷ drop (i + 1) l
-one-next l i e = next-cons (drop i l) e ∙ ap (λ x. true ∷ x) (drop-on l i)
-
--- an inner node comes next
-pub zero-next : (l : List Bool) (i : ℕ) → nextBit (drop i l) ≡ 0 → drop i l ≡ false ∷ drop (i + 1) l
-zero-next l i e = next-zero (drop i l) e ∙ ap (λ x. false ∷ x) (drop-on l i)
-
--- nothing comes next
-pub none-next : (l : List Bool) → nextBit l ≡ 2 → l ≡ []
-unfolding nextBit
-none-next [] e = refl
-none-next (true ∷ l) e = absurd (omega arith)
-none-next (false ∷ l) e = absurd (omega arith)
-
-pub next-most : (l : List Bool) → nextBit l ≤ 2
-unfolding nextBit
-next-most [] = omega arith
-next-most (true ∷ l) = omega arith
-next-most (false ∷ l) = omega arith
-
--- some bit comes next
-pub some-next : (l : List Bool) → (nextBit l ≡ 2 → ⊥) → l ≡ getD l 0 false ∷ drop 1 l
-unfolding nextBit
-some-next [] h = absurd (h refl)
-some-next (b ∷ l) h = refl
-
 -- the first bit, zero where there is none
 pub next-first : (l : List Bool) → eqb (nextBit l) 1 ≡ getD l 0 false
 unfolding nextBit

@@ -2,7 +2,7 @@
 -- over does. Rests on NextBit and Levels.
 use Prim.Native.Nat.{ℕ, zero, suc, _+_, _/_, _^_, _≤_, _<_}
 use mathlib.Core.Path.{_≡_, refl, sym, ap, _∙_}
-use mathlib.Core.Bool.{Bool, true, false, not}
+use mathlib.Core.Bool.{Bool, true, false}
 use mathlib.Core.Logic.{_⊎_, inl, inr}
 use mathlib.Core.List.{List, [], _∷_}
 use native.Mathlib.Nat.{pow-suc, one-le-pow, pow-le-pow-right}
@@ -15,7 +15,7 @@ use Rattle.definitions.specs.List.{Record, recordOf}
 use Rattle.definitions.specs.BitStrings.{levelsBelow, keyAfter, fourEqual, isWhole, leftOver, reading, leafValue, innerValue, recordsFrom}
 use Rattle.definitions.specs.BitStrings.{endsEarly, tooDeep, equalSiblings}
 use Rattle.bit_strings.specs.Steps.{passed}
-use Rattle.bit_strings.specs.declared.next.Passed.{Passed}
+use Rattle.bit_strings.specs.declared.next.AfterBlock.{AfterBlock}
 use Rattle.bit_strings.proofs.Levels.{levels-most}
 
 -- ---- the next key lies beyond, and not far
@@ -106,7 +106,7 @@ module _ (m x : ℕ) (inside : x < 5 ^ m) where
 -- ---- what the code's step says
 
 -- the block was passed, and the rest decides
-pub record GoesOn (m x : ℕ) (nodes leaves : List Bool) (p : Passed) : Type 0 where
+pub record GoesOn (m x : ℕ) (nodes leaves : List Bool) (p : AfterBlock) : Type 0 where
   pub beyond : x < p .key
   pub near : p .key ≤ x + 5 ^ m
   pub one : p .leaf ≤ 1
@@ -114,7 +114,7 @@ pub record GoesOn (m x : ℕ) (nodes leaves : List Bool) (p : Passed) : Type 0 w
   pub records : length (recordsFrom m x nodes leaves) ≡ 1 + length (recordsFrom m (p .key) (drop 1 nodes) (drop (p .leaf) leaves))
 
 -- the block was not passed, and the pair is refused
-pub record Stuck (m x : ℕ) (nodes leaves : List Bool) (p : Passed) : Type 0 where
+pub record Stuck (m x : ℕ) (nodes leaves : List Bool) (p : AfterBlock) : Type 0 where
   pub zero-key : p .key ≡ 0
   pub refused : isWhole (reading m x nodes leaves) ≡ false
 

@@ -20,7 +20,7 @@ use Rattle.definitions.specs.Calls.ReadBitStrings.{readStringsRefusal, readStri
 use Rattle.definitions.specs.declared.Counted.{Counted}
 use Rattle.laws.proofs.First.{this, later, holds-first, none-first}
 use Rattle.list.proofs.Tests.{good-settings}
-use Rattle.bit_strings.specs.Steps.{countOf, Fits}
+use Rattle.bit_strings.specs.Steps.{pairLength, Fits}
 use Rattle.bit_strings.proofs.Passing.{step}
 
 -- a pair has at least the root's record
@@ -32,10 +32,10 @@ pair-some m nodes leaves e =
     (λ g. let r = g .records in omega arith)
     (step m 0 (bitsIn nodes) (bitsIn leaves) (one-le-pow m 5 (omega arith)))
 
-module _ (m : ℕ) (nodes leaves : List ℕ) (n : ℕ) (is : n ≡ countOf m nodes leaves) where
+module _ (m : ℕ) (nodes leaves : List ℕ) (n : ℕ) (is : n ≡ pairLength m nodes leaves) where
   -- none is counted where there is no pair
   pub no-pair : n ≡ 0 → isPair m nodes leaves ≡ false
-  unfolding countOf
+  unfolding pairLength
   no-pair z =
       decide (isPair m nodes leaves)
       (λ e. let h = pair-some m nodes leaves e in
@@ -45,12 +45,12 @@ module _ (m : ℕ) (nodes leaves : List ℕ) (n : ℕ) (is : n ≡ countOf m nod
 
   module _ (some : n ≡ 0 → ⊥) where
     pub a-pair : isPair m nodes leaves ≡ true
-    unfolding countOf
+    unfolding pairLength
     a-pair =
         decide (isPair m nodes leaves) (λ e. e) (λ e. absurd (some (is ∙ ap (λ b. cond b (length (recordsOfPair m nodes leaves)) 0) e)))
 
     pub many : n ≡ length (recordsOfPair m nodes leaves)
-    unfolding countOf
+    unfolding pairLength
     many = is ∙ ap (λ b. cond b (length (recordsOfPair m nodes leaves)) 0) a-pair
 
 module _ (m s : ℕ) (nodes leaves keys bits : List ℕ) where
@@ -85,7 +85,7 @@ module _ (m s : ℕ) (nodes leaves keys bits : List ℕ) where
     unfolding readStringsRefusal
     not-two e = by-number 23 (holds-first (later good (this (ap (λ b. not b || not (isPair m nodes leaves)) (ne-eqb s 2 e)) refl)))
 
-    module _ (two : s ≡ 2) (n : ℕ) (is : n ≡ countOf m nodes leaves) where
+    module _ (two : s ≡ 2) (n : ℕ) (is : n ≡ pairLength m nodes leaves) where
       by-pair : not (eqb s 2) || not (isPair m nodes leaves) ≡ not (isPair m nodes leaves)
       by-pair = ap (λ b. not b || not (isPair m nodes leaves)) (eq-eqb s 2 two)
 

@@ -1,6 +1,6 @@
 -- The list of a block of two features as a tree: one leaf, or an inner node and its four quadrants that are not alike. Every list of two features has
 -- such a shape, so a quarter of its nodes, rounded down, are inner. Rests on BitsOf and ListOf of the definitions.
-use Prim.Native.Nat.{ℕ, zero, suc, _+_, _*_, _/_, _^_, _<_}
+use Prim.Native.Nat.{ℕ, zero, suc, _+_, _*_, _^_, _<_}
 use mathlib.Core.Path.{_≡_, refl, sym, ap, _∙_}
 use mathlib.Core.Bool.{Bool, true, false, cond, not, false≢true}
 use mathlib.Core.List.{List, [], _∷_, _++_}

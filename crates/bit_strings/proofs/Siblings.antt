@@ -5,7 +5,6 @@ use mathlib.Core.Bool.{Bool, true, false, cond, true≢false}
 use mathlib.Core.Logic.{_⊎_, inl, inr, ⊎-elim}
 use mathlib.Core.List.{List, [], _∷_, _++_, append-assoc}
 use native.Mathlib.Omega.{arith}
-use Rattle.keys.proofs.Cases.{equal}
 use Rattle.definitions.specs.Bits.{hasSlot, unionOfFour}
 use Rattle.definitions.specs.List.{Record}
 use Rattle.definitions.specs.BitStrings.{nodeBits, leafBits, beginsWith, fourEqual}
@@ -103,9 +102,6 @@ inner-fourth nodes leaves = refl
 
 module _ {k κ₁ κ₂ κ₃ κ₄ v₁ v₂ v₃ v₄ : ℕ} {nw ne sw se : List Record} (a : Shape k κ₁ v₁ nw) (b : Shape k κ₂ v₂ ne) (c : Shape k κ₃ v₃ sw) (d : Shape k κ₄ v₄ se)
     (ns ls : List Bool) where
-  abbrev ns₄ : List Bool
-  ns₄ = four (nodeBits nw) (nodeBits ne) (nodeBits sw) (nodeBits se) ns
-
   abbrev ls₄ : List Bool
   ls₄ = four (leafBits nw) (leafBits ne) (leafBits sw) (leafBits se) ls
 

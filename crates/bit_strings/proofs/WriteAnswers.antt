@@ -15,7 +15,7 @@ use Rattle.definitions.specs.List.{Record, valuesOf}
 use Rattle.definitions.specs.Read.{room, recordsOf, isList, isListOfBlock}
 use Rattle.definitions.specs.Buffer.{over}
 use Rattle.definitions.specs.BitStrings.{isInner, nodeBits, leafBits, packedIn, bytesFor, packed}
-use Rattle.definitions.specs.Refusal.{_gives_, first, accepted, badSettings, noList}
+use Rattle.definitions.specs.Refusal.{first, accepted, badSettings, noList}
 use Rattle.definitions.specs.Calls.WriteBitStrings.{nodeString, leafString, writeStringsRefusal, writeStrings, writtenNodes, writtenLeaves}
 use Rattle.definitions.specs.declared.Strings.{Strings}
 use Rattle.laws.proofs.First.{this, later, holds-first, none-first, first-none, first-holds, holds-more}
@@ -24,7 +24,7 @@ use Rattle.laws.proofs.IsList.{ShowsBlock, block-list-to}
 use Rattle.list.proofs.Among.{values-of-records}
 use Rattle.bit_strings.specs.Strings.{bitOf, stringOf, earlyRefusal}
 use Rattle.bit_strings.proofs.Bitwise.{length-packed}
-use Rattle.bit_strings.proofs.Shape.{Shape, list-shape, nodes-many, leaves-many}
+use Rattle.bit_strings.proofs.Shape.{list-shape, nodes-many, leaves-many}
 
 -- ---- the strings, from the bitstrings alone
 

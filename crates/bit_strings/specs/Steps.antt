@@ -7,7 +7,7 @@ use lib.ListN.{length}
 use lib.Dec.{leb, eqb}
 use Rattle.definitions.specs.Read.{room}
 use Rattle.definitions.specs.BitStrings.{levelsBelow, keyAfter, fourEqual, anySet, isPair, recordsOfPair}
-use Rattle.bit_strings.specs.declared.next.Passed.{Passed}
+use Rattle.bit_strings.specs.declared.next.AfterBlock.{AfterBlock}
 
 -- the next bit of a string, and 2 where none is left
 unfoldable pub nextBit : List Bool → ℕ
@@ -19,11 +19,11 @@ unfoldable pub isSpare : List Bool → Bool
 isSpare l = not (leb 8 (length l)) && not (anySet l)
 
 -- no block can be passed
-abbrev pub stuck : Passed
+abbrev pub stuck : AfterBlock
 stuck = record { key = 0; leaf = 0 }
 
 -- past the block with the key x, where these bits come next
-unfoldable pub passed : ℕ → ℕ → List Bool → List Bool → Passed
+unfoldable pub passed : ℕ → ℕ → List Bool → List Bool → AfterBlock
 passed m x [] leaves = stuck
 passed m x (true ∷ nodes) [] = stuck
 passed m x (true ∷ nodes) (f ∷ leaves) = record { key = keyAfter m x true; leaf = 1 }
@@ -31,8 +31,8 @@ passed m x (false ∷ nodes) leaves =
     cond (eqb (levelsBelow m x) 0) stuck (cond (fourEqual nodes leaves) stuck (record { key = keyAfter m x false; leaf = 0 }))
 
 -- how many records a pair has, and 0 for what is none
-unfoldable pub countOf : ℕ → List ℕ → List ℕ → ℕ
-countOf m nodes leaves = cond (isPair m nodes leaves) (length (recordsOfPair m nodes leaves)) 0
+unfoldable pub pairLength : ℕ → List ℕ → List ℕ → ℕ
+pairLength m nodes leaves = cond (isPair m nodes leaves) (length (recordsOfPair m nodes leaves)) 0
 
 -- the n records of a pair have room in two slices
 pub record Fits (m : ℕ) (nodes leaves : List ℕ) (n : ℕ) (keys bits : List ℕ) : Type 0 where

@@ -1,11 +1,9 @@
 // The records of a pair go into two slices.
 ghost use mathlib.Core.Path.{_≡_};
 ghost use mathlib.Core.Bool.{cond};
-ghost use Prim.Native.Nat.{_≤_};
-ghost use lib.ListN.{length, drop};
+ghost use lib.ListN.{drop};
 ghost use lib.Dec.{eqb};
 ghost use Rattle.definitions.specs.List.{keysOf, valuesOf};
-ghost use Rattle.definitions.specs.Read.{room};
 ghost use Rattle.definitions.specs.Buffer.{over};
 ghost use Rattle.definitions.specs.BitStrings.{bitsIn, leafValue, innerValue, recordsOfPair};
 ghost use Rattle.bit_strings.specs.Steps.{Fits};

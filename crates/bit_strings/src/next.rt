@@ -40,12 +40,12 @@ pub fn key_after(m: u32, key: u32, leaf: u32) -> u32
 
 // Where reading goes on after a block: the next key, and 1 where a leaf was passed. The key is 0 where the bits end early, go too deep or
 // show four equal leaf siblings.
-pub struct Passed {
+pub struct AfterBlock {
     pub key: u32,
     pub leaf: u32,
 }
 
-pub fn pass(m: u32, key: u32, nodes: &[u8], leaves: &[u8], i: usize, j: usize) -> Passed
+pub fn pass(m: u32, key: u32, nodes: &[u8], leaves: &[u8], i: usize, j: usize) -> AfterBlock
     requires { ⌜ (m ≤ 10) × (key < 5 ^ m) × (i ≤ key) × (j ≤ i) ⌝ }
     ensures { λ r. ⌜ r ≡ passed m key (drop i (bitsIn (now (nodes .entry)))) (drop j (bitsIn (now (leaves .entry)))) ⌝ }
 {
@@ -53,23 +53,23 @@ pub fn pass(m: u32, key: u32, nodes: &[u8], leaves: &[u8], i: usize, j: usize) -
     let step = keys_in(m, key);
     if node == 1 {
         if bits::bit_at(leaves, j) == 2 {
-            return Passed { key: 0, leaf: 0 };
+            return AfterBlock { key: 0, leaf: 0 };
         }
-        return Passed {
+        return AfterBlock {
             key: key + step,
             leaf: 1,
         };
     }
     if node == 2 {
-        return Passed { key: 0, leaf: 0 };
+        return AfterBlock { key: 0, leaf: 0 };
     }
     if step == 1 {
-        return Passed { key: 0, leaf: 0 };
+        return AfterBlock { key: 0, leaf: 0 };
     }
     if bits::equal_siblings(nodes, leaves, i + 1, j) {
-        return Passed { key: 0, leaf: 0 };
+        return AfterBlock { key: 0, leaf: 0 };
     }
-    Passed {
+    AfterBlock {
         key: key + step / 5,
         leaf: 0,
     }

@@ -1,7 +1,7 @@
 // One string of a list, written byte by byte from the list's bitstrings.
 ghost use mathlib.Core.Path.{_≡_};
 ghost use Prim.Native.Nat.{_≤_};
-ghost use lib.ListN.{length, drop};
+ghost use lib.ListN.{length};
 ghost use Rattle.definitions.specs.Buffer.{over};
 ghost use Rattle.definitions.specs.BitStrings.{packedIn};
 ghost use Rattle.bit_strings.specs.Strings.{bitOf, stringOf, Picked, Filled};

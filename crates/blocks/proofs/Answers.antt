@@ -3,12 +3,11 @@ use Prim.Native.Nat.{ℕ, _^_, _≤_, _<_}
 use native.Mathlib.Omega.{arith}
 use mathlib.Core.Path.{_≡_, refl, sym, ap, _∙_}
 use mathlib.Core.Bool.{true, false, not, _||_}
-use lib.Dec.{leb, ltb}
+use lib.Dec.{leb}
 use borrow.Author.Tests.{lt-ltb, le-ltb, ltb-false, le-leb, lt-leb}
 use Rattle.keys.specs.Key.{validKey, levelOf}
 use Rattle.keys.specs.Block.{rowOf, columnOf, sideOf, keyAround}
 use Rattle.keys.proofs.Cases.{or-left, or-right}
-use Rattle.definitions.specs.Refusal.{first}
 use Rattle.definitions.specs.Calls.KeyAt.{keyAtRefusal, keyAt}
 use Rattle.definitions.specs.Calls.BlockOf.{blockOfRefusal, blockOf}
 use Rattle.definitions.specs.declared.Counted.{Counted}

@@ -2,7 +2,6 @@
 // is written, so the records are counted first where the room could be too little.
 ghost use mathlib.Core.Path.{_≡_};
 ghost use mathlib.Core.List.{[], _∷_};
-ghost use Prim.Native.Nat.{min};
 ghost use Rattle.definitions.specs.Refusal.{_gives_, first, badSettings, badLength, badPixel};
 ghost use Rattle.definitions.specs.Calls.Build.{build as built, buildKeys, buildBits};
 use definitions::Counted;

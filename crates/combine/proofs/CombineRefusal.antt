@@ -1,6 +1,6 @@
 -- The refusals of combining: the rows before 9 by the tests of the code, what is shown once they are passed, and what the call answers and leaves in
 -- each case. Rests on definitions' laws of tables, on the check of a list, and on Table.
-use Prim.Native.Nat.{ℕ, _*_, _≤_}
+use Prim.Native.Nat.{ℕ, _*_}
 use mathlib.Core.Path.{_≡_, refl, sym, ap, _∙_}
 use mathlib.Core.Bool.{Bool, true, false, cond, not, _||_}
 use mathlib.Core.List.{List, [], _∷_, _++_}
@@ -8,7 +8,7 @@ use native.Mathlib.Omega.{arith}
 use lib.Dec.{ltb, eqb}
 use lib.ListN.{length}
 use borrow.Author.Tests.{eqb-true, not-false}
-use Rattle.keys.proofs.Cases.{neither-left, neither-right, equal}
+use Rattle.keys.proofs.Cases.{neither-left, neither-right}
 use Rattle.definitions.specs.List.{keysOf, valuesOf}
 use Rattle.definitions.specs.Read.{room, isList}
 use Rattle.definitions.specs.Buffer.{over}
@@ -16,7 +16,7 @@ use Rattle.definitions.specs.Refusal.{Row, _gives_, first, accepted, badSetting
 use Rattle.definitions.specs.Combine.{combinedList, badClassTable}
 use Rattle.definitions.specs.Calls.Combine.{combination, combineRefusal, combine, combineKeys, combineBits}
 use Rattle.definitions.specs.declared.Counted.{Counted}
-use Rattle.laws.proofs.First.{NoneHolds, FirstHolds, first-none, first-holds, first-later, holds-first, holds-more, accepted-left}
+use Rattle.laws.proofs.First.{NoneHolds, first-none, first-holds, first-later, holds-first, holds-more, accepted-left}
 use Rattle.list.proofs.Accepted.{accepted as accepted-list}
 use Rattle.list.proofs.Own.{own-list}
 use Rattle.list.proofs.Tests.{GoodSettings, good-settings}

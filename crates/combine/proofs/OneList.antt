@@ -1,7 +1,7 @@
 -- One list while both are gone down: reading the record of a block leaves it at a leaf, which waits, or at a node, whose four quadrants follow one
 -- after the other. Rests on the list's Shown and ShownQuadrants.
-use Prim.Native.Nat.{ℕ, zero, suc, _+_, _^_, _<_}
-use mathlib.Core.Path.{_≡_, refl, sym, ap, _∙_}
+use Prim.Native.Nat.{ℕ, suc, _+_, _^_, _<_}
+use mathlib.Core.Path.{_≡_, sym, ap, _∙_}
 use mathlib.Core.Bool.{true, false, cond, true≢false}
 use mathlib.Core.List.{List}
 use native.Mathlib.Omega.{arith}
@@ -21,7 +21,7 @@ use Rattle.laws.proofs.ListOf.{list-one}
 use Rattle.list.specs.Check.{oneSlot}
 use Rattle.list.proofs.OneSlot.{none-slot}
 use Rattle.list.proofs.Shown.{slot-one, slot-feature, shown-value, node-several}
-use Rattle.list.proofs.ShownQuadrants.{quadrantRow, quadrantColumn, quadrantList, Left, left-all, left-shown, left-then, left-none}
+use Rattle.list.proofs.ShownQuadrants.{quadrantRow, quadrantColumn, Left, left-all, left-shown, left-then, left-none}
 use Rattle.combine.specs.Combining.{At, leafOf, Entered, passing}
 
 leaf-one : (b : ℕ) → oneSlot b ≡ true → leafOf b ≡ b

@@ -2,7 +2,7 @@
 ghost use mathlib.Core.Path.{_≡_};
 ghost use mathlib.Core.Bool.{true};
 ghost use Prim.Native.Nat.{_+_, _*_, _^_, _≤_, _<_};
-ghost use lib.ListN.{length, getD};
+ghost use lib.ListN.{length};
 ghost use Rattle.keys.specs.Key.{slotLimit};
 ghost use Rattle.definitions.specs.Bits.{featureOf};
 ghost use Rattle.definitions.specs.Combine.{classOf, badClassTable};

@@ -1,5 +1,4 @@
 // Counting the records of two combined lists, without writing any: one recursion over the blocks goes down both lists together.
-ghost use mathlib.Core.Path.{_≡_};
 ghost use Rattle.combine.specs.Combining.{Asked, BlockCounted};
 use crate::classes;
 use crate::cursor;

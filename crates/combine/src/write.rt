@@ -1,5 +1,4 @@
 // Writing the records of two combined lists: one recursion over the blocks goes down both lists together, and quadrants are merged by build's rule.
-ghost use mathlib.Core.Path.{_≡_};
 ghost use Rattle.combine.specs.Combining.{WriteAsked, Made};
 use crate::classes;
 use crate::cursor;

@@ -25,7 +25,7 @@ use Rattle.definitions.specs.Offices.{rowsIn, tableOf, rowsOf, rowsAscen
 use Rattle.definitions.specs.Calls.Load.{loadRefusal}
 use Rattle.definitions.specs.declared.Rule.{Rule}
 use Rattle.definitions.specs.declared.Found.{Found}
-use Rattle.definitions.proofs.Vectors.{tableWith, Row, row, Holds, key, slots, window, of-counted, of-edited, mapA, keysA, bitsA, unwritten}
+use Rattle.definitions.proofs.Vectors.{tableWith, Row, row, Holds, key, of-counted, of-edited, mapA, keysA, bitsA, unwritten}
 use Rattle.definitions.proofs.AreaVectors.{counted, summaryA}
 
 -- a yes or no, as 1 or 0

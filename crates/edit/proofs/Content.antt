@@ -13,7 +13,7 @@ use Rattle.definitions.specs.List.{Record, recordOf, listOf, listOfPicture}
 use Rattle.definitions.specs.Standing.{placeOf, partLength}
 use Rattle.definitions.specs.Edit.{contentOf}
 use Rattle.laws.proofs.Features.{one-under}
-use Rattle.put.specs.Family.{bitsAt}
+use Rattle.put.specs.Family.{blockBits}
 use Rattle.edit.specs.Content.{contentIn}
 use Rattle.put.proofs.Way.{Way, way-of, under-of}
 use Rattle.put.proofs.Context.{before, after, Open, spliced, context}
@@ -28,14 +28,14 @@ module _ (p : Picture) {m k r c κ : ℕ} (w : Way m 0 0 0 k r c κ) where
   content-listed : Open p w → contentIn m (listOf p m 0 0 0) κ ≡ listOf p k r c κ
   unfolding contentIn spliced
   content-listed o =
-      ap (λ t. cond t (take (partLength m κ (listOf p m 0 0 0)) (drop (placeOf κ (listOf p m 0 0 0)) (listOf p m 0 0 0))) (recordOf κ (bitsAt κ (listOf p m 0 0 0)) ∷ [])) (is-listed p w o)
+      ap (λ t. cond t (take (partLength m κ (listOf p m 0 0 0)) (drop (placeOf κ (listOf p m 0 0 0)) (listOf p m 0 0 0))) (recordOf κ (blockBits κ (listOf p m 0 0 0)) ∷ [])) (is-listed p w o)
       ∙ middle (before p w) (listOf p k r c κ) (after p w) (listOf p m 0 0 0) (placeOf κ (listOf p m 0 0 0)) (partLength m κ (listOf p m 0 0 0))
       (context p w o) (place-listed p w o) (part-listed p w o m (block-valid (under-of w) .height))
 
   content-inside : LeafAround p w → contentIn m (listOf p m 0 0 0) κ ≡ listOf p k r c κ
   unfolding contentIn
   content-inside x =
-      ap (λ t. cond t (take (partLength m κ (listOf p m 0 0 0)) (drop (placeOf κ (listOf p m 0 0 0)) (listOf p m 0 0 0))) (recordOf κ (bitsAt κ (listOf p m 0 0 0)) ∷ [])) (not-listed p x)
+      ap (λ t. cond t (take (partLength m κ (listOf p m 0 0 0)) (drop (placeOf κ (listOf p m 0 0 0)) (listOf p m 0 0 0))) (recordOf κ (blockBits κ (listOf p m 0 0 0)) ∷ [])) (not-listed p x)
       ∙ ap (λ b. recordOf κ b ∷ []) (bits-at p w)
       ∙ sym (list-bits p k r c κ (one-under p (under-of (x .under)) (x .one)))
 

@@ -19,10 +19,10 @@ use Rattle.laws.proofs.Records.{records-run}
 use Rattle.list.specs.Own.{OwnList, shownBy}
 use Rattle.list.proofs.Among.{values-of-records}
 use Rattle.list.proofs.Own.{own-length}
-use Rattle.put.specs.Family.{bitsAt}
+use Rattle.put.specs.Family.{blockBits}
 use Rattle.edit.specs.Content.{contentIn}
 use Rattle.log.specs.declared.entry.Entry.{Entry}
-use Rattle.log.specs.Entries.{run, Loggable, Logged}
+use Rattle.log.specs.Entries.{recordsFromPlace, Loggable, Logged}
 use Rattle.edit.specs.PaintCall.{Fresh}
 use Rattle.put.proofs.Places.{place-lt}
 use Rattle.edit.proofs.Gained.{gained-in}
@@ -59,7 +59,7 @@ module _ {m n : ℕ} {keys bits logKeys logValues : List ℕ} {new : Entry} (a :
       → gained m (recordsOf keys bits n) (new .key) (new .feature)
       ≡ closed (new .key)
       (cond t (take (partLength m (new .key) (recordsOf keys bits n)) (drop (placeOf (new .key) (recordsOf keys bits n)) (recordsOf keys bits n)))
-      (recordOf (new .key) (bitsAt (new .key) (recordsOf keys bits n)) ∷ []))
+      (recordOf (new .key) (blockBits (new .key) (recordsOf keys bits n)) ∷ []))
       (new .feature)
   unfolding contentIn
   content-by t e =
@@ -68,7 +68,7 @@ module _ {m n : ℕ} {keys bits logKeys logValues : List ℕ} {new : Entry} (a :
       (λ b.
       closed (new .key)
       (cond b (take (partLength m (new .key) (recordsOf keys bits n)) (drop (placeOf (new .key) (recordsOf keys bits n)) (recordsOf keys bits n)))
-      (recordOf (new .key) (bitsAt (new .key) (recordsOf keys bits n)) ∷ []))
+      (recordOf (new .key) (blockBits (new .key) (recordsOf keys bits n)) ∷ []))
       (new .feature))
       e
 
@@ -87,7 +87,7 @@ module _ {m n : ℕ} {keys bits logKeys logValues : List ℕ} {new : Entry} (a :
         let small = own-small (a .own) (a .deepest) in
         record { content-there = omega (arith, a .own .fits); fits = entry-fits; small = omega arith }
 
-    pub listed-entry : closed (new .key) (run keys bits place (new .count)) (new .feature) ≡ gained m (recordsOf keys bits n) (new .key) (new .feature)
+    pub listed-entry : closed (new .key) (recordsFromPlace keys bits place (new .count)) (new .feature) ≡ gained m (recordsOf keys bits n) (new .key) (new .feature)
     listed-entry =
         sym
         (content-by true listed
@@ -106,13 +106,13 @@ module _ {m n : ℕ} {keys bits logKeys logValues : List ℕ} {new : Entry} (a :
     pub inside-loggable : Loggable new (new .key ∷ []) (getD bits leaf 0 ∷ []) 0 logKeys logValues
     inside-loggable = let e = one in record { content-there = omega arith; fits = entry-fits; small = omega arith }
 
-    pub inside-entry : closed (new .key) (run (new .key ∷ []) (getD bits leaf 0 ∷ []) 0 (new .count)) (new .feature) ≡ gained m (recordsOf keys bits n) (new .key) (new .feature)
-    unfolding bitsAt paired
+    pub inside-entry : closed (new .key) (recordsFromPlace (new .key ∷ []) (getD bits leaf 0 ∷ []) 0 (new .count)) (new .feature) ≡ gained m (recordsOf keys bits n) (new .key) (new .feature)
+    unfolding blockBits paired
     inside-entry =
         let there = leaf-there in
-        let bits-are : bitsAt (new .key) (recordsOf keys bits n) ≡ getD bits leaf 0 =
+        let bits-are : blockBits (new .key) (recordsOf keys bits n) ≡ getD bits leaf 0 =
         ap₂ (λ l i. getD l i 0) (values-of-records keys bits n (a .own .fits)) (sym leaf-is) ∙ getD-take n bits leaf 0 there in
-        ap (λ c. closed (new .key) (run (new .key ∷ []) (getD bits leaf 0 ∷ []) 0 c) (new .feature)) one
+        ap (λ c. closed (new .key) (recordsFromPlace (new .key ∷ []) (getD bits leaf 0 ∷ []) 0 c) (new .feature)) one
         ∙ sym (content-by false inside ∙ ap (λ b. closed (new .key) (recordOf (new .key) b ∷ []) (new .feature)) bits-are)
 
 -- the same entry by another name

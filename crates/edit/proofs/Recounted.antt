@@ -24,7 +24,7 @@ use Rattle.definitions.specs.Area.{summaryLevel, summaryHeight, summaryLength, 
 use Rattle.laws.proofs.Pixels.{Agree}
 use Rattle.laws.proofs.SummaryOf.{counts-agree, summary-length, summary-block, summary-counts}
 use Rattle.list.specs.Own.{shownBy}
-use Rattle.summary.specs.Renew.{renewed}
+use Rattle.summary.specs.Renew.{blocksRenewed}
 use Rattle.summary.proofs.Renewed.{places-in}
 use Rattle.edit.specs.Recount.{Outdated}
 
@@ -88,8 +88,8 @@ module _ (m s : ℕ) (p : Picture) (old : List ℕ) (long : length old ≡ summa
     next = ap (λ n. n * s) (add-one b) ∙ suc-mul b s
 
     -- a block counted anew
-    pub counted-renewed : (after : List ℕ) → after ≡ renewed m s p b (b + 1) now → Counted m s p old after (b + 1)
-    unfolding renewed
+    pub counted-renewed : (after : List ℕ) → after ≡ blocksRenewed m s p b (b + 1) now → Counted m s p old after (b + 1)
+    unfolding blocksRenewed
     counted-renewed after is =
         let one : b + 1 - b ≡ 1 = omega arith in
         let here : (b + 1 - b) * s ≡ s = ap (λ n. n * s) one ∙ omega arith in

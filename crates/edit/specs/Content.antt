@@ -6,7 +6,7 @@ use mathlib.Core.List.{List, [], _∷_}
 use lib.ListN.{take, drop}
 use Rattle.definitions.specs.List.{Record, recordOf}
 use Rattle.definitions.specs.Standing.{placeOf, isListed, partLength}
-use Rattle.put.specs.Family.{bitsAt}
+use Rattle.put.specs.Family.{blockBits}
 
 unfoldable pub contentIn : ℕ → List Record → ℕ → List Record
-contentIn m l κ = cond (isListed κ l) (take (partLength m κ l) (drop (placeOf κ l) l)) (recordOf κ (bitsAt κ l) ∷ [])
+contentIn m l κ = cond (isListed κ l) (take (partLength m κ l) (drop (placeOf κ l) l)) (recordOf κ (blockBits κ l) ∷ [])

@@ -11,8 +11,8 @@ use Rattle.put.specs.declared.plan.Plan.{Plan}
 use Rattle.edit.specs.declared.decision.Decision.{Decision}
 use Rattle.edit.specs.declared.decision.Decision.the-variants.{Refused, Granted}
 
-unfoldable pub firstRefusal : (m s : ℕ) (keys bits : List ℕ) (n : ℕ) (summary logKeys logValues : List ℕ) (used inForce : ℕ) → ℕ
-firstRefusal m s keys bits n summary logKeys logValues used inForce =
+unfoldable pub editRefusal : (m s : ℕ) (keys bits : List ℕ) (n : ℕ) (summary logKeys logValues : List ℕ) (used inForce : ℕ) → ℕ
+editRefusal m s keys bits n summary logKeys logValues used inForce =
     first
     (badSettings m s gives 1
     ∷ noList m s keys bits n gives 4

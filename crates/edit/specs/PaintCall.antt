@@ -11,8 +11,7 @@ use Rattle.definitions.specs.List.{Record, recordOf, keysOf, valuesOf}
 use Rattle.definitions.specs.Read.{room, recordsOf}
 use Rattle.definitions.specs.Standing.{partLength}
 use Rattle.definitions.specs.Refusal.{_gives_, first}
-use Rattle.definitions.specs.Calls.Paint.{painted, gained, logged, paint, paintKeys, paintBits, paintSummary, paintLogKeys, paintLogValues}
-use Rattle.definitions.specs.declared.Edited.{Edited}
+use Rattle.definitions.specs.Calls.Paint.{painted, gained, logged}
 use Rattle.list.specs.Own.{OwnList}
 use Rattle.log.specs.declared.entry.Entry.{Entry}
 use Rattle.put.specs.Put.{planOf}

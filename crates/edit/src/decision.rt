@@ -1,6 +1,6 @@
 // What paint, take back and redo share: the refusals that they test first, and the decision that a call goes by.
 ghost use mathlib.Core.Path.{_≡_};
-ghost use Rattle.edit.specs.EditCallChecks.{firstRefusal};
+ghost use Rattle.edit.specs.EditCallChecks.{editRefusal};
 use list::check;
 use list::settings;
 use log::entry::Entry;
@@ -14,7 +14,7 @@ pub enum Decision {
 }
 
 // The refusals that the calls test first: 1, 4, 18, 5.
-pub fn first_refusal(
+pub fn edit_refusal(
     m: u32,
     s: u32,
     keys: &[u32],
@@ -26,7 +26,7 @@ pub fn first_refusal(
     used: usize,
     in_force: usize,
 ) -> u64
-    ensures { λ r. ⌜ r ≡ firstRefusal m s (now (keys .entry)) (now (bits .entry)) n (now (summary .entry))
+    ensures { λ r. ⌜ r ≡ editRefusal m s (now (keys .entry)) (now (bits .entry)) n (now (summary .entry))
         (now («log_keys» .entry)) (now («log_values» .entry)) used «in_force» ⌝ }
 {
     if settings::are_bad(m, s) {

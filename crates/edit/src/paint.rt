@@ -84,7 +84,7 @@ fn decide(
         (newEntry m (recordsOf (now (keys .entry)) (now (bits .entry)) n) «in_force» key feature)
         (paintPlan m (recordsOf (now (keys .entry)) (now (bits .entry)) n) key feature) ⌝ }
 {
-    let early = decision::first_refusal(
+    let early = decision::edit_refusal(
         m,
         s,
         keys,

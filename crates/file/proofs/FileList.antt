@@ -14,7 +14,7 @@ use Rattle.keys.proofs.Digits.{height-zero}
 use Rattle.definitions.specs.Read.{room, paired, recordsOf, isListOfBlock, isList}
 use Rattle.definitions.specs.File.{bitBytes, recordsInFile}
 use Rattle.laws.proofs.FileOf.{width-of}
-use Rattle.list.specs.Check.{oneSlot, placeOf, afterNode}
+use Rattle.list.specs.Check.{oneSlot, restPlace, afterNode}
 use Rattle.list.proofs.Turn.{step-fifth}
 use Rattle.list.proofs.Content.{Stand, Answer, no-records, other-key, large-bits, one-record, many-records, keys-length, root-valid, root-list}
 use Rattle.file.specs.Layout.{Laid, keyAt, bitsAt, recordsAt, keysAt, valuesAt}
@@ -89,5 +89,5 @@ module _ {m s n : ℕ} {file : List ℕ} (exact : Exact m s n file) (w : ℕ) (w
           node-root step place other step-is h =
               many-records stand s (key-is ∙ root) (rw bits-is small) place (ap oneSlot bits-is ∙ other)
               (h .1 m (step-is ∙ step-fifth m)
-              ∙ sym (λ i. placeOf (keys-length stand i) (afterNode (height-zero m i) rootKey (bits-is i) (drop 1 (records-are w n file i)))))
+              ∙ sym (λ i. restPlace (keys-length stand i) (afterNode (height-zero m i) rootKey (bits-is i) (drop 1 (records-are w n file i)))))
               ∙ list-is

@@ -10,7 +10,7 @@ use lib.Bits.{bitOr}
 use lib.ListN.{drop}
 use borrow.Author.Tests.{eqb-true, eqb-false}
 use Rattle.keys.proofs.Cases.{decide}
-use Rattle.list.specs.Check.{oneSlot, placeOf, afterNode}
+use Rattle.list.specs.Check.{oneSlot, restPlace, afterNode}
 use Rattle.list.proofs.Pixels.{too-few}
 use Rattle.list.proofs.Turn.{step-one}
 use Rattle.file.specs.Layout.{Laid, keyAt, bitsAt, recordsAt, keysAt, valuesAt}
@@ -19,7 +19,7 @@ use Rattle.file.proofs.FileTurn.{many, size, in-place, Answered, Passed
 -- what the function answers, of the file's records
 abbrev pub RightIn : ℕ → ℕ → List ℕ → ℕ → ℕ → ℕ → Bool → Type 0
 RightIn w n file first key own r =
-    (r ≡ true → first + 4 ≤ n) × (cond r (first + 4) 0 ≡ placeOf n (afterNode 1 key own (drop first (recordsAt w n file))))
+    (r ≡ true → first + 4 ≤ n) × (cond r (first + 4) 0 ≡ restPlace n (afterNode 1 key own (drop first (recordsAt w n file))))
 
 -- fewer than four records are left
 pub too-few-in : (w n : ℕ) (file : List ℕ) (first key own : ℕ) → n - first < 4 → RightIn w n file first key own false

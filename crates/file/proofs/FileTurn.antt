@@ -9,7 +9,7 @@ use lib.ListN.{length, getD, drop}
 use lib.Bits.{bitOr}
 use Rattle.definitions.specs.Read.{paired}
 use Rattle.laws.proofs.Records.{paired-back}
-use Rattle.list.specs.Check.{oneSlot, placeOf, afterNode, stepUnder}
+use Rattle.list.specs.Check.{oneSlot, restPlace, afterNode, stepUnder}
 use Rattle.list.proofs.Turn.{Answer, Passed, at-height, pixel, begins, ends, differs, short, other-key, wrong-child, goes-leaf, goes-node}
 use Rattle.file.specs.Layout.{Laid, keyAt, bitsAt, recordsAt, keysAt, valuesAt}
 use Rattle.file.proofs.ReadBytes.{key-read, value-read, keys-many, bits-many}
@@ -17,7 +17,7 @@ use Rattle.file.proofs.ReadBytes.{key-read, value-read, keys-many, bits
 -- what the function answers, of the file's records
 abbrev pub Answered : ℕ → ℕ → List ℕ → ℕ → ℕ → ℕ → ℕ → ℕ → Type 0
 Answered w n file first key own step r =
-    (r ≤ n) × ((k : ℕ) → step ≡ stepUnder k → r ≡ placeOf n (afterNode k key own (drop first (recordsAt w n file))))
+    (r ≤ n) × ((k : ℕ) → step ≡ stepUnder k → r ≡ restPlace n (afterNode k key own (drop first (recordsAt w n file))))
 
 -- 25 is the step under a block of height 3
 pub step-twenty-five : 25 ≡ stepUnder 3
@@ -38,9 +38,9 @@ in-file w n file = paired-back (recordsAt w n file)
 
 -- so the model's answer of the two slices is its answer of the file
 pub in-place : (w n : ℕ) (file : List ℕ) (first key own k : ℕ)
-    → placeOf (length (keysAt w n file)) (afterNode k key own (drop first (paired (keysAt w n file) (valuesAt w n file))))
-    ≡ placeOf n (afterNode k key own (drop first (recordsAt w n file)))
-in-place w n file first key own k i = placeOf (many w n file i) (afterNode k key own (drop first (in-file w n file i)))
+    → restPlace (length (keysAt w n file)) (afterNode k key own (drop first (paired (keysAt w n file) (valuesAt w n file))))
+    ≡ restPlace n (afterNode k key own (drop first (recordsAt w n file)))
+in-place w n file first key own k i = restPlace (many w n file i) (afterNode k key own (drop first (in-file w n file i)))
 
 module _ (w n : ℕ) (file : List ℕ) (first key own step r : ℕ) where
   answered : r ≤ n → Answer (keysAt w n file) (valuesAt w n file) first key own step r → Answered w n file first key own step r
@@ -50,7 +50,7 @@ module _ (w n : ℕ) (file : List ℕ) (first key own step r : ℕ) where
   answer h k e = h .1 k e ∙ sym (in-place w n file first key own k)
 
   -- an answer at one height is the answer for that height's step
-  pub at-height-in : (k : ℕ) → step ≡ stepUnder k → (r ≤ n) × (r ≡ placeOf n (afterNode k key own (drop first (recordsAt w n file))))
+  pub at-height-in : (k : ℕ) → step ≡ stepUnder k → (r ≤ n) × (r ≡ restPlace n (afterNode k key own (drop first (recordsAt w n file))))
       → Answered w n file first key own step r
   at-height-in k e h =
       answered (h .0) (at-height (keysAt w n file) (valuesAt w n file) first key own k step r e (h .1 ∙ sym (in-place w n file first key own k)))
@@ -120,7 +120,7 @@ module _ {w n : ℕ} {file : List ℕ} {first key own step next union digit : �
         -- what a function for one height alone answers of the child's block
         pub child-in : (k : ℕ) → step / 5 ≡ stepUnder k
             → (after : ℕ)
-            → (after ≤ n) × (after ≡ placeOf n (afterNode k x found (drop (next + 1) (recordsAt w n file))))
+            → (after ≤ n) × (after ≡ restPlace n (afterNode k x found (drop (next + 1) (recordsAt w n file))))
             → Answered w n file (next + 1) x found (step / 5) after
         child-in k e after h = at-height-in w n file (next + 1) x found (step / 5) after k e h
 

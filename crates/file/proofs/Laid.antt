@@ -40,11 +40,6 @@ pub fewer-there : {w : ℕ} → Width w → (i n k : ℕ) → i ≤ n → fileLe
 fewer-there two i n k h e = omega arith
 fewer-there four i n k h e = omega arith
 
--- there are fewer records than bytes
-pub fewer-than-bytes : {w : ℕ} → Width w → (n k : ℕ) → fileLength w n ≤ k → n + 11 ≤ k
-fewer-than-bytes two n k h = omega arith
-fewer-than-bytes four n k h = omega arith
-
 pub laid-at : {w n : ℕ} {file : List ℕ} → Laid w n file → (i : ℕ) → i < n → Laid w (i + 1) file
 laid-at {w} {n} {file} l i h = record {
   width-is = l .width-is;

@@ -7,7 +7,7 @@ ghost use lib.ListN.{drop};
 ghost use Rattle.keys.specs.Key.{rootKey};
 ghost use Rattle.definitions.specs.Read.{isListOfBlock};
 ghost use Rattle.definitions.specs.File.{recordsInFile};
-ghost use Rattle.list.specs.Check.{placeOf, afterNode, stepUnder};
+ghost use Rattle.list.specs.Check.{restPlace, afterNode, stepUnder};
 ghost use Rattle.file.specs.Layout.{recordsAt, Laid};
 ghost use Rattle.file.specs.Room.{Exact};
 use crate::bytes;
@@ -21,7 +21,7 @@ use list::check;
 fn four_pixels(file: &[u8], width: usize, n: usize, first: usize, key: u32, own: u32) -> bool
     requires { ⌜ Laid width n (now file) × (first ≤ n) × (key + 5 < 2 ^ 32) ⌝ }
     ensures { λ r. ⌜ (r ≡ true → first + 4 ≤ n)
-        × (cond r (first + 4) 0 ≡ placeOf n (afterNode 1 key own (drop first (recordsAt width n (now (file .entry)))))) ⌝ }
+        × (cond r (first + 4) 0 ≡ restPlace n (afterNode 1 key own (drop first (recordsAt width n (now (file .entry)))))) ⌝ }
 {
     if n - first < 4 {
         return false;
@@ -49,7 +49,7 @@ fn four_pixels(file: &[u8], width: usize, n: usize, first: usize, key: u32, own:
 fn after_sixteen(file: &[u8], width: usize, n: usize, first: usize, key: u32, own: u32) -> usize
     requires { ⌜ Laid width n (now file) × (first ≤ n) × (key + 25 < 2 ^ 32) ⌝ }
     ensures { λ r. ⌜ (r ≤ n)
-        × (r ≡ placeOf n (afterNode 2 key own (drop first (recordsAt width n (now (file .entry)))))) ⌝ }
+        × (r ≡ restPlace n (afterNode 2 key own (drop first (recordsAt width n (now (file .entry)))))) ⌝ }
 {
     let mut next = first;
     let mut union = 0;
@@ -80,7 +80,7 @@ fn after_sixteen(file: &[u8], width: usize, n: usize, first: usize, key: u32, ow
 fn after_sixty_four(file: &[u8], width: usize, n: usize, first: usize, key: u32, own: u32) -> usize
     requires { ⌜ Laid width n (now file) × (first ≤ n) × (key + 125 < 2 ^ 32) ⌝ }
     ensures { λ r. ⌜ (r ≤ n)
-        × (r ≡ placeOf n (afterNode 3 key own (drop first (recordsAt width n (now (file .entry)))))) ⌝ }
+        × (r ≡ restPlace n (afterNode 3 key own (drop first (recordsAt width n (now (file .entry)))))) ⌝ }
 {
     let mut next = first;
     let mut union = 0;
@@ -121,7 +121,7 @@ fn after_low(
     ensures { λ r. ⌜ (r ≤ n)
         × ((k : ℕ)
         → step ≡ stepUnder k
-        → r ≡ placeOf n (afterNode k key own (drop first (recordsAt width n (now (file .entry)))))) ⌝ }
+        → r ≡ restPlace n (afterNode k key own (drop first (recordsAt width n (now (file .entry)))))) ⌝ }
 {
     if step == 25 {
         return after_sixty_four(file, width, n, first, key, own);
@@ -154,7 +154,7 @@ fn after_node(
     ensures { λ r. ⌜ (r ≤ n)
         × ((k : ℕ)
         → step ≡ stepUnder k
-        → r ≡ placeOf n (afterNode k key own (drop first (recordsAt width n (now (file .entry)))))) ⌝ }
+        → r ≡ restPlace n (afterNode k key own (drop first (recordsAt width n (now (file .entry)))))) ⌝ }
 {
     if step < 26 {
         return after_low(file, width, n, first, key, own, step);

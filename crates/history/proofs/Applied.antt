@@ -1,7 +1,7 @@
 -- What a fit paint, its taking back and its redo make of a list that shows a picture: the list and the summary of the picture after the paint and the step of
 -- the one before it; the step taken back gives the former list and summary, and redone the later ones. Rests on Fit and the laws of reading a list.
 use Prim.Native.Nat.{ℕ, _≤_}
-use mathlib.Core.Path.{_≡_, sym, ap, _∙_}
+use mathlib.Core.Path.{_≡_, ap, _∙_}
 use mathlib.Core.Bool.{true}
 use mathlib.Core.List.{List, _++_}
 use Rattle.keys.specs.Key.{rootKey}

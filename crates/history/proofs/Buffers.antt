@@ -79,10 +79,6 @@ take-over place new old h =
     ∙ take-at (take place old ++ new) (drop (place + length new) old) (place + length new)
     (length-append (take place old) new ∙ ap (λ x. x + length new) (length-take-le place old h))
 
--- what was before the place stays
-pub take-before : (place : ℕ) (new old : List ℕ) → place ≤ length old → take place (overAt place new old) ≡ take place old
-take-before place new old h = take-at (take place old) (new ++ drop (place + length new) old) place (length-take-le place old h)
-
 -- what is past the places written stays
 pub drop-over : (place j : ℕ) (new old : List ℕ) → place ≤ length old → place + length new ≤ j → drop j (overAt place new old) ≡ drop j old
 drop-over place j new old h f =

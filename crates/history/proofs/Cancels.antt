@@ -12,7 +12,7 @@ use Rattle.definitions.specs.Read.{recordsOf}
 use Rattle.definitions.specs.Window.{featuresOfRows}
 use Rattle.definitions.specs.Area.{summaryOf}
 use Rattle.definitions.specs.Calls.Survey.{survey, surveyRefusal}
-use Rattle.history.specs.History.{Call, painting, takingBack, redoing, emptying, Buffers, Paint, Kept, nothing, withoutLatest, withNext, built, after, answer, run, keep, kept, drawn, logOf, logAfter, pictureLeft, rasterLeft}
+use Rattle.history.specs.History.{Call, painting, takingBack, redoing, emptying, Buffers, Paint, Kept, nothing, withoutLatest, withNext, built, after, answer, afterCalls, keep, kept, drawn, logOf, logAfter, pictureLeft, rasterLeft}
 use Rattle.history.specs.Claim.{backAnswer, redoAnswer}
 use Rattle.history.proofs.PaintStep.{paint-left}
 use Rattle.history.proofs.TakeBackStep.{back-left}
@@ -33,8 +33,8 @@ refused-left m s b emptying h = absurd (h (empty-answer m s b))
 
 -- the paints of a run that goes on begin where the first part ended
 pub kept-append : (m s : ℕ) (b : Buffers) (k : Kept) (calls more : List Call)
-    → kept m s b k (calls ++ more) ≡ kept m s (run m s b calls) (kept m s b k calls) more
-unfolding run kept
+    → kept m s b k (calls ++ more) ≡ kept m s (afterCalls m s b calls) (kept m s b k calls) more
+unfolding afterCalls kept
 kept-append m s b k [] more = refl
 kept-append m s b k (c ∷ calls) more = kept-append m s (after m s b c) (keep c (answer m s b c) k) calls more
 
@@ -83,37 +83,37 @@ module _ (m s : ℕ) (raster keys bits summary logKeys logValues : List ℕ) (ac
   abbrev keeps : List Call → Kept
   keeps calls = kept m s first nothing calls
 
-  one-more : (calls : List Call) (c : Call) → keeps (calls ++ (c ∷ [])) ≡ keep c (answer m s (run m s first calls) c) (keeps calls)
-  one-more calls c = kept-append m s first nothing calls (c ∷ []) ∙ kept-one m s (run m s first calls) (keeps calls) c
+  one-more : (calls : List Call) (c : Call) → keeps (calls ++ (c ∷ [])) ≡ keep c (answer m s (afterCalls m s first calls) c) (keeps calls)
+  one-more calls c = kept-append m s first nothing calls (c ∷ []) ∙ kept-one m s (afterCalls m s first calls) (keeps calls) c
 
   -- taking back undoes the latest paint held
   pub back-cancels : (calls : List Call) (x : Paint) (xs undone fixed : List Paint) → keeps calls ≡ record { held = x ∷ xs; undone = undone; fixed = fixed }
       → keeps (calls ++ (takingBack ∷ [])) ≡ record { held = xs; undone = x ∷ undone; fixed = fixed }
   back-cancels calls x xs undone fixed e =
-      let told : answer m s (run m s first calls) takingBack ≡ 0 =
+      let told : answer m s (afterCalls m s first calls) takingBack ≡ 0 =
       history m s raster keys bits summary logKeys logValues accept calls .back ∙ ap (λ k. backAnswer (k .held)) e ∙ held-zero x xs in
       one-more calls takingBack
-      ∙ ap (λ k. keep takingBack (answer m s (run m s first calls) takingBack) k) e
-      ∙ held-back x xs undone fixed (answer m s (run m s first calls) takingBack) told
+      ∙ ap (λ k. keep takingBack (answer m s (afterCalls m s first calls) takingBack) k) e
+      ∙ held-back x xs undone fixed (answer m s (afterCalls m s first calls) takingBack) told
 
   -- redo holds the next paint again, in its old position
   pub redo-restores : (calls : List Call) (held : List Paint) (x : Paint) (xs fixed : List Paint) → keeps calls ≡ record { held = held; undone = x ∷ xs; fixed = fixed }
       → keeps (calls ++ (redoing ∷ [])) ≡ record { held = x ∷ held; undone = xs; fixed = fixed }
   redo-restores calls held x xs fixed e =
-      let told : answer m s (run m s first calls) redoing ≡ 0 =
+      let told : answer m s (afterCalls m s first calls) redoing ≡ 0 =
       history m s raster keys bits summary logKeys logValues accept calls .again ∙ ap (λ k. redoAnswer (k .undone)) e ∙ undone-zero x xs in
       one-more calls redoing
-      ∙ ap (λ k. keep redoing (answer m s (run m s first calls) redoing) k) e
-      ∙ held-again held x xs fixed (answer m s (run m s first calls) redoing) told
+      ∙ ap (λ k. keep redoing (answer m s (afterCalls m s first calls) redoing) k) e
+      ∙ held-again held x xs fixed (answer m s (afterCalls m s first calls) redoing) told
 
   -- list, summary and the three counts are the same after both runs
   pub record Alike (calls calls′ : List Call) : Type 0 where
-    pub list : recordsOf (run m s first calls .keys) (run m s first calls .bits) (run m s first calls .n)
-        ≡ recordsOf (run m s first calls′ .keys) (run m s first calls′ .bits) (run m s first calls′ .n)
-    pub summaries : run m s first calls .summary ≡ run m s first calls′ .summary
-    pub lengths : run m s first calls .n ≡ run m s first calls′ .n
-    pub used : run m s first calls .used ≡ run m s first calls′ .used
-    pub in-force : run m s first calls .inForce ≡ run m s first calls′ .inForce
+    pub list : recordsOf (afterCalls m s first calls .keys) (afterCalls m s first calls .bits) (afterCalls m s first calls .n)
+        ≡ recordsOf (afterCalls m s first calls′ .keys) (afterCalls m s first calls′ .bits) (afterCalls m s first calls′ .n)
+    pub summaries : afterCalls m s first calls .summary ≡ afterCalls m s first calls′ .summary
+    pub lengths : afterCalls m s first calls .n ≡ afterCalls m s first calls′ .n
+    pub used : afterCalls m s first calls .used ≡ afterCalls m s first calls′ .used
+    pub in-force : afterCalls m s first calls .inForce ≡ afterCalls m s first calls′ .inForce
 
   -- as they are where both keep the same paints
   kept-alike : (calls calls′ : List Call) → keeps calls ≡ keeps calls′ → Alike calls calls′
@@ -154,18 +154,18 @@ module _ (m s : ℕ) (raster keys bits summary logKeys logValues : List ℕ) (ac
   undone = (calls ++ (painting x ∷ [])) ++ (takingBack ∷ [])
 
   -- an accepted paint that is taken back is the only one that can be redone, and leaves the other paints as they were
-  pub undone-kept : answer m s (run m s begin calls) (painting x) ≡ 0
+  pub undone-kept : answer m s (afterCalls m s begin calls) (painting x) ≡ 0
       → kept m s begin nothing undone
       ≡ record { held = kept m s begin nothing calls .held; undone = x ∷ []; fixed = kept m s begin nothing calls .fixed }
   undone-kept e =
       let k : Kept = kept m s begin nothing calls in
       back-cancels m s raster keys bits summary logKeys logValues accept (calls ++ (painting x ∷ [])) x (k .held) [] (k .fixed)
-      (one-more m s raster keys bits summary logKeys logValues accept calls (painting x) ∙ held-more x (answer m s (run m s begin calls) (painting x)) k e)
+      (one-more m s raster keys bits summary logKeys logValues accept calls (painting x) ∙ held-more x (answer m s (afterCalls m s begin calls) (painting x)) k e)
 
   -- and so the list
-  pub undone-list : answer m s (run m s begin calls) (painting x) ≡ 0
-      → recordsOf (run m s begin undone .keys) (run m s begin undone .bits) (run m s begin undone .n)
-      ≡ recordsOf (run m s begin calls .keys) (run m s begin calls .bits) (run m s begin calls .n)
+  pub undone-list : answer m s (afterCalls m s begin calls) (painting x) ≡ 0
+      → recordsOf (afterCalls m s begin undone .keys) (afterCalls m s begin undone .bits) (afterCalls m s begin undone .n)
+      ≡ recordsOf (afterCalls m s begin calls .keys) (afterCalls m s begin calls .bits) (afterCalls m s begin calls .n)
   undone-list e =
       history m s raster keys bits summary logKeys logValues accept undone .list
       ∙ ap (λ k. listOfRaster m (rasterLeft m raster k)) (undone-kept e)
@@ -173,7 +173,7 @@ module _ (m s : ℕ) (raster keys bits summary logKeys logValues : List ℕ) (ac
       ∙ sym (history m s raster keys bits summary logKeys logValues accept calls .list)
 
   -- and the summary
-  pub undone-summary : answer m s (run m s begin calls) (painting x) ≡ 0 → run m s begin undone .summary ≡ run m s begin calls .summary
+  pub undone-summary : answer m s (afterCalls m s begin calls) (painting x) ≡ 0 → afterCalls m s begin undone .summary ≡ afterCalls m s begin calls .summary
   undone-summary e =
       history m s raster keys bits summary logKeys logValues accept undone .summary-left
       ∙ ap (λ k. summaryOf m s (pictureLeft m raster k)) (undone-kept e)
@@ -181,9 +181,9 @@ module _ (m s : ℕ) (raster keys bits summary logKeys logValues : List ℕ) (ac
       ∙ sym (history m s raster keys bits summary logKeys logValues accept calls .summary-left)
 
   -- and the records in force
-  pub undone-log : answer m s (run m s begin calls) (painting x) ≡ 0
-      → recordsOf (run m s begin undone .logKeys) (run m s begin undone .logValues) (run m s begin undone .inForce)
-      ≡ recordsOf (run m s begin calls .logKeys) (run m s begin calls .logValues) (run m s begin calls .inForce)
+  pub undone-log : answer m s (afterCalls m s begin calls) (painting x) ≡ 0
+      → recordsOf (afterCalls m s begin undone .logKeys) (afterCalls m s begin undone .logValues) (afterCalls m s begin undone .inForce)
+      ≡ recordsOf (afterCalls m s begin calls .logKeys) (afterCalls m s begin calls .logValues) (afterCalls m s begin calls .inForce)
   undone-log e =
       history m s raster keys bits summary logKeys logValues accept undone .in-force
       ∙ ap (λ k. logOf m (drawn m (pictureOfRaster m raster) (k .fixed)) (k .held)) (undone-kept e)

@@ -2,7 +2,7 @@
 -- agreement and features below s, what it logs is a step, that step taken back gives the picture before it, and painted again the one after it. Each law is
 -- that of a block's paint or that of a window's. Rests on Drawn and on definitions' laws of groups.
 use Prim.Native.Nat.{ℕ, _≤_, _<_}
-use mathlib.Core.Path.{_≡_, refl, sym, ap, ap₂, _∙_}
+use mathlib.Core.Path.{_≡_, ap, ap₂, _∙_}
 use mathlib.Core.Bool.{true, false, cond}
 use mathlib.Core.List.{List, [], _++_}
 use native.Mathlib.Omega.{arith}
@@ -15,7 +15,7 @@ use Rattle.definitions.specs.List.{Record}
 use Rattle.definitions.specs.Edit.{paintIn, fillWindow, contentOf}
 use Rattle.definitions.specs.Window.{isWindow, largestBlocks}
 use Rattle.definitions.specs.declared.Window.{Window}
-use Rattle.definitions.specs.Log.{groupMark, closed, entryOf, grouped, entriesOf, groupOf, endsInMark, stepCount, stepEntries, putBack, paintAgain}
+use Rattle.definitions.specs.Log.{groupMark, entryOf, grouped, entriesOf, groupOf, endsInMark, stepCount, stepEntries, putBack, paintAgain}
 use Rattle.laws.proofs.Pixels.{Agree}
 use Rattle.laws.proofs.LastStep.{IsStep, single-mark, count-single, entries-single, group-count, group-entries}
 use Rattle.laws.proofs.LargestBlocks.{largest-in-order}

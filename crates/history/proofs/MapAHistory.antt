@@ -18,7 +18,7 @@ use Rattle.definitions.specs.Calls.Survey.{surveyRefusal, survey, surveyKeys, s
 use Rattle.definitions.specs.Calls.Paint.{painted, gained, paintRefusal, paint, paintKeys, paintBits, paintSummary, paintLogKeys, paintLogValues}
 use Rattle.definitions.specs.Calls.TakeBack.{restored, takeBackRefusal, forceBefore, takeBack, takeBackKeys, takeBackBits, takeBackSummary, takeBackLogKeys, takeBackLogValues}
 use Rattle.definitions.specs.Calls.Redo.{redone, redoRefusal, forceAfter, redo, redoKeys, redoBits, redoSummary, redoLogKeys, redoLogValues}
-use Rattle.history.specs.History.{Call, ofBlock, painting, takingBack, redoing, emptying, Buffers, nothing, withoutLatest, withNext, built, answer, after, run, keep, kept, applied, drawn, pictureLeft, rasterLeft}
+use Rattle.history.specs.History.{Call, ofBlock, painting, takingBack, redoing, emptying, Buffers, nothing, withoutLatest, withNext, built, answer, after, afterCalls, keep, kept, applied, drawn, pictureLeft, rasterLeft}
 
 -- the answers of a run of calls
 unfoldable pub answers : ℕ → ℕ → Buffers → List Call → List ℕ
@@ -60,7 +60,7 @@ record Gives : Type 0 where
   answered : answers 2 3 start calls ≡ 0 ∷ 8 ∷ 20 ∷ 0 ∷ 11 ∷ 0 ∷ 0 ∷ 9 ∷ 0 ∷ 20 ∷ 10 ∷ 0 ∷ 11 ∷ []
   paints : kept 2 3 start nothing calls ≡ record { held = []; undone = []; fixed = ofBlock 10 2 ∷ [] }
   raster : rasterLeft 2 mapA (kept 2 3 start nothing calls) ≡ 0 ∷ 0 ∷ 2 ∷ 2 ∷ 0 ∷ 0 ∷ 2 ∷ 2 ∷ 2 ∷ 2 ∷ 0 ∷ 0 ∷ 2 ∷ 2 ∷ 0 ∷ 0 ∷ []
-  buffers : run 2 3 start calls
+  buffers : afterCalls 2 3 start calls
       ≡ record {
         keys = 0 ∷ 5 ∷ 10 ∷ 15 ∷ 20 ∷ (replicate 4 0 ++ replicate 3 99);
         bits = 5 ∷ 1 ∷ 4 ∷ 4 ∷ 1 ∷ (replicate 4 0 ++ replicate 3 98);
@@ -73,7 +73,7 @@ record Gives : Type 0 where
       }
 
 gives : Gives
-unfolding answers answer after run kept keep withoutLatest withNext built applied drawn pictureLeft rasterLeft
+unfolding answers answer after afterCalls kept keep withoutLatest withNext built applied drawn pictureLeft rasterLeft
     validKey digitsOf digitsThenZeros onlyZeros levelOf digitsBeforeZero heightOf rowOf columnOf sideOf inBlock pixelKey
     everyPixel oneFeature featuresBelow bitsOf unionOfFour twosIn featureOf listOf
     paired valueAt pictureOf sameRecords isListOfBlock isList first badSettings badLength badPixel featuresOfRow featuresOfRows

@@ -19,7 +19,7 @@ use Rattle.definitions.specs.Calls.Paint.{painted, gained, paintRefusal, paint,
 use Rattle.definitions.specs.Calls.PaintWindow.{filled, groupGained, paintWindowRefusal, paintWindow, paintWindowKeys, paintWindowBits, paintWindowSummary, paintWindowLogKeys, paintWindowLogValues}
 use Rattle.definitions.specs.Calls.TakeBack.{restored, takeBackRefusal, forceBefore, takeBack, takeBackKeys, takeBackBits, takeBackSummary, takeBackLogKeys, takeBackLogValues}
 use Rattle.definitions.specs.Calls.Redo.{redone, redoRefusal, forceAfter, redo, redoKeys, redoBits, redoSummary, redoLogKeys, redoLogValues}
-use Rattle.history.specs.History.{Call, ofBlock, ofWindow, painting, takingBack, redoing, Buffers, nothing, withoutLatest, withNext, built, answer, after, run, keep, kept, applied, drawn, pictureLeft, rasterLeft}
+use Rattle.history.specs.History.{Call, ofBlock, ofWindow, painting, takingBack, redoing, Buffers, nothing, withoutLatest, withNext, built, answer, after, afterCalls, keep, kept, applied, drawn, pictureLeft, rasterLeft}
 use Rattle.history.proofs.MapAHistory.{answers, mapA, four}
 
 -- built in 12 places of the list, 48 of the summary, with 20 of the log
@@ -60,7 +60,7 @@ record Gives : Type 0 where
   answered : answers 2 3 start calls ≡ 9 ∷ 0 ∷ 6 ∷ 7 ∷ 10 ∷ 0 ∷ 11 ∷ 0 ∷ 20 ∷ 0 ∷ 0 ∷ 0 ∷ []
   paints : kept 2 3 start nothing calls ≡ record { held = []; undone = ofWindow strip 1 ∷ ofBlock 6 1 ∷ []; fixed = [] }
   raster : rasterLeft 2 mapA (kept 2 3 start nothing calls) ≡ mapA
-  buffers : run 2 3 start calls
+  buffers : afterCalls 2 3 start calls
       ≡ record {
         keys = 0 ∷ 5 ∷ 10 ∷ 11 ∷ 12 ∷ 13 ∷ 14 ∷ 15 ∷ 20 ∷ replicate 3 99;
         bits = 7 ∷ 1 ∷ 6 ∷ 2 ∷ 2 ∷ 2 ∷ 4 ∷ 4 ∷ 1 ∷ replicate 3 98;
@@ -73,7 +73,7 @@ record Gives : Type 0 where
       }
 
 gives : Gives
-unfolding answers answer after run kept keep withoutLatest withNext built applied drawn pictureLeft rasterLeft
+unfolding answers answer after afterCalls kept keep withoutLatest withNext built applied drawn pictureLeft rasterLeft
     validKey digitsOf digitsThenZeros onlyZeros levelOf digitsBeforeZero heightOf rowOf columnOf sideOf inBlock pixelKey
     everyPixel oneFeature featuresBelow bitsOf unionOfFour twosIn featureOf listOf
     paired valueAt pictureOf sameRecords isListOfBlock isList first badSettings badLength badPixel isWindow inWindow featuresOfRow featuresOfRows isInside largestFrom largestBlocks

@@ -1,29 +1,27 @@
 -- Isolation (document 02, item 9): in a table grown from empty by adding and removing at one m, an office's rows, the refusals of its calls and its findings are
 -- those of its own calls alone. Rests on OfficeShares.
-use Prim.Native.Nat.{ℕ, suc, _+_, _-_, _≤_, _<_, max}
+use Prim.Native.Nat.{ℕ, _+_, _-_, _≤_, _<_, max}
 use mathlib.Core.Path.{_≡_, refl, sym, ap, ap₂, subst, _∙_}
 use mathlib.Core.Logic.{_↔_}
-use mathlib.Core.Bool.{Bool, true, false, cond, not, _&&_, _||_, true≢false}
+use mathlib.Core.Bool.{true, false, cond, not}
 use mathlib.Core.List.{List, [], _∷_, _++_, map}
 use native.Mathlib.Omega.{arith}
-use lib.ListN.{length, take, drop, replicate, length-append, length-drop, length-map, length-replicate}
+use lib.ListN.{length, drop, replicate, length-append, length-drop, length-map, length-replicate}
 use lib.Dec.{leb, ltb, eqb}
-use borrow.Author.Tests.{eq-eqb, ne-eqb, le-leb, lt-leb, leb-true, leb-false, ltb-false, not-false}
+use borrow.Author.Tests.{eq-eqb, le-leb, leb-true, leb-false, ltb-false, not-false}
 use Rattle.keys.specs.Key.{deepestLevel, validKey}
-use Rattle.keys.proofs.Cases.{decide, split, equal, and-both}
+use Rattle.keys.proofs.Cases.{decide, equal, and-both}
 use Rattle.definitions.specs.Buffer.{over, replaced}
 use Rattle.definitions.specs.Refusal.{Row, _gives_, first, accepted, badKey}
 use Rattle.definitions.specs.Rules.{Finding}
-use Rattle.definitions.specs.Offices.{Waiver, waiverOf, waivedBy, Holds, badOffice, badTable, officeLimit, rowsIn, tableOf, rowsOf, rowsAscend, officesKnown, isSoundTable, isTable, rowKeysValid, isRow, added, removed}
+use Rattle.definitions.specs.Offices.{Waiver, waiverOf, waivedBy, Holds, badOffice, officeLimit, tableOf, rowsOf, isSoundTable, isTable, rowKeysValid, isRow, added, removed}
 use Rattle.definitions.specs.Calls.AddWaiver.{addRefusal, addWaiver, addOffices, addIds, addKeys}
 use Rattle.definitions.specs.Calls.RemoveWaiver.{removeRefusal, removeWaiver, removeOffices, removeIds, removeKeys}
-use Rattle.definitions.specs.Calls.Findings.{refusalWith, foundWith, idsWith, keysWith, findings, findingsIds, findingsKeys}
-use Rattle.definitions.specs.declared.Rule.{Rule}
 use Rattle.laws.proofs.First.{first-this, first-later, first-end, first-none, accepted-done, accepted-left}
 use Rattle.laws.proofs.RowPlaces.{table-length, table-made}
 use Rattle.laws.proofs.RowOrder.{added-ascend, removed-ascend}
-use Rattle.laws.proofs.Shares.{Sound, share-none, known-all}
-use Rattle.history.specs.OfficeRuns.{Table, Ask, refusalOf, afterAsk, afterAll, ownAsks, refusalsOf}
+use Rattle.laws.proofs.Shares.{Sound, known-all}
+use Rattle.history.specs.OfficeRuns.{Table, Ask, refusalOf, afterAsk}
 use Rattle.history.proofs.OfficeShares.{isFound, addedOwn, removedOwn, share-row, share-added, share-added-other, share-removed, share-removed-other, added-length, added-own-length, removed-length, removed-own-few, added-known, removed-known, added-valid, removed-valid}
 
 abbrev pub rowOfAsk : Ask → Waiver

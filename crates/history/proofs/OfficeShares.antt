@@ -1,13 +1,13 @@
 -- One office's share of a table, through a row more and a row less: its own calls do to the share what they would do to it alone, and the other office's calls
 -- leave it. Rests on RowOrder and Shares of definitions.
-use Prim.Native.Nat.{ℕ, suc, _+_, _≤_, _<_}
+use Prim.Native.Nat.{ℕ, suc, _≤_, _<_}
 use mathlib.Core.Path.{_≡_, refl, sym, ap, ap₂, _∙_}
 use mathlib.Core.Bool.{Bool, true, false, cond, not, _&&_, _||_, true≢false}
 use mathlib.Core.List.{List, [], _∷_}
 use native.Mathlib.Omega.{arith}
 use lib.ListN.{length}
-use lib.Dec.{ltb, eqb}
-use borrow.Author.Tests.{eq-eqb, ne-eqb, lt-ltb, le-ltb, eqb-true}
+use lib.Dec.{eqb}
+use borrow.Author.Tests.{eq-eqb, ne-eqb, lt-ltb, le-ltb}
 use Rattle.keys.specs.Key.{validKey}
 use Rattle.keys.proofs.Cases.{decide, split, equal, and-left, and-right, and-both}
 use Rattle.definitions.specs.Rules.{Finding, comesBefore}

@@ -8,14 +8,12 @@ use native.Mathlib.Omega.{arith}
 use lib.ListN.{length}
 use borrow.Author.Tests.{eq-eqb, ne-eqb}
 use Rattle.keys.proofs.Cases.{decide, equal}
-use Rattle.definitions.specs.Refusal.{accepted}
 use Rattle.definitions.specs.Rules.{Finding}
-use Rattle.definitions.specs.Offices.{Waiver, waivedBy, rowsIn, tableOf, rowsOf, rowsAscend, officesKnown, rowKeysValid, isTable, added, removed}
+use Rattle.definitions.specs.Offices.{waivedBy, rowsIn, tableOf, rowsOf, rowsAscend, officesKnown, rowKeysValid, isTable}
 use Rattle.definitions.specs.Calls.Findings.{foundWith, idsWith, keysWith, findings, findingsIds, findingsKeys}
 use Rattle.definitions.specs.declared.Rule.{Rule}
 use Rattle.laws.proofs.First.{accepted-done, accepted-left}
-use Rattle.laws.proofs.Shares.{share-none, known-all}
-use Rattle.laws.proofs.RowPlaces.{table-length}
+use Rattle.laws.proofs.Shares.{share-none}
 use Rattle.history.specs.OfficeRuns.{Table, Ask, refusalOf, afterAsk, afterAll, ownAsks, refusalsOf}
 use Rattle.history.proofs.OfficeShares.{addedOwn, removedOwn, share-added, share-added-other, share-removed, share-removed-other}
 use Rattle.history.proofs.OfficeIsolation.{rowOfAsk, tableIn, Grown, never-14, ownRefusal, ownAfter, refusal-own, stays, adds-row, removes-row}

@@ -28,7 +28,7 @@ use Rattle.history.proofs.Past as past
 use Rattle.history.proofs.Slices.{list-replaced, list-room}
 use Rattle.history.proofs.LogSlices.{log-counts, log-again}
 use Rattle.history.proofs.TakeBackStep.{withForce}
-use Rattle.history.proofs.Invariant.{now, Invariant, now-records, now-few, now-redo, now-is-list, now-is-summary, now-is-log, Keeps, same-keeps}
+use Rattle.history.proofs.Invariant.{Invariant, now-records, now-few, now-redo, now-is-list, now-is-summary, now-is-log, Keeps, same-keeps}
 
 -- the records to redo in these buffers
 abbrev redoIn : Buffers → List Record

@@ -18,7 +18,7 @@ use Rattle.laws.proofs.ListOf.{list-agree}
 use Rattle.laws.proofs.SummaryOf.{summary-agree}
 use Rattle.laws.proofs.RasterOf.{rasterOf, raster-length, raster-back, raster-good, length-from}
 use Rattle.laws.proofs.Built.{Builds, build-passed, build-accepted, build-count, build-summary, build-records}
-use Rattle.history.specs.History.{Call, painting, takingBack, redoing, emptying, Buffers, Kept, nothing, built, after, answer, run, keep, kept, longestList, longestLog, pictureLeft, rasterLeft}
+use Rattle.history.specs.History.{Call, painting, takingBack, redoing, emptying, Buffers, Kept, nothing, built, after, answer, afterCalls, keep, kept, longestList, longestLog, pictureLeft, rasterLeft}
 use Rattle.history.specs.Claim.{AsBuilt, History}
 use Rattle.history.proofs.Past.{past-legal}
 use Rattle.history.proofs.Slices.{list-longest, list-keys-length, list-bits-length}
@@ -57,14 +57,14 @@ joined before first next rest h j = omega arith
 -- a run of calls keeps the invariant
 pub run-holds : {m s : ℕ} {p : Picture} {keys bits logKeys logValues : List ℕ} {b : Buffers} {k : Kept} {inList inLog : ℕ} (calls : List Call)
     → Invariant m s p keys bits logKeys logValues b k inList inLog
-    → Invariant m s p keys bits logKeys logValues (run m s b calls) (kept m s b k calls)
+    → Invariant m s p keys bits logKeys logValues (afterCalls m s b calls) (kept m s b k calls)
     (max inList (longestList m s b calls)) (max inLog (longestLog m s b calls))
-unfolding run kept longestList longestLog
+unfolding afterCalls kept longestList longestLog
 run-holds {m} {s} {p} {keys} {bits} {logKeys} {logValues} {b} {k} {inList} {inLog} [] h =
     subst₂ (λ x y. Invariant m s p keys bits logKeys logValues b k x y) (list-longest (h .list)) (log-longest (h .log)) h
 run-holds {m} {s} {p} {keys} {bits} {logKeys} {logValues} {b} {k} {inList} {inLog} (c ∷ cs) h =
     let next : Buffers = after m s b c in
-    subst₂ (λ x y. Invariant m s p keys bits logKeys logValues (run m s next cs) (kept m s next (keep c (answer m s b c) k) cs) x y)
+    subst₂ (λ x y. Invariant m s p keys bits logKeys logValues (afterCalls m s next cs) (kept m s next (keep c (answer m s b c) k) cs) x y)
     (joined inList (b .n) (next .n) (longestList m s next cs) (h .list .short) (begins-list m s next cs))
     (joined inLog (b .used) (next .used) (longestLog m s next cs) (h .log .short) (begins-log m s next cs))
     (run-holds cs (call-keeps c h))
@@ -148,7 +148,7 @@ history m s raster keys bits summary logKeys logValues accepted calls =
     let first : Buffers = built m s raster keys bits summary logKeys logValues in
     let begins = begins-list m s first calls in
     let begins′ = begins-log m s first calls in
-    subst₂ (λ x y. AsBuilt m s raster keys bits summary logKeys logValues (run m s first calls) (kept m s first nothing calls) x y)
+    subst₂ (λ x y. AsBuilt m s raster keys bits summary logKeys logValues (afterCalls m s first calls) (kept m s first nothing calls) x y)
     (let e : max (first .n) (longestList m s first calls) ≡ longestList m s first calls = omega arith in e)
     (let e : max (first .used) (longestLog m s first calls) ≡ longestLog m s first calls = omega arith in e)
     (as-built raster summary (build-passed m s raster keys bits summary accepted .counted) (run-holds calls (build-holds m s raster keys bits summary accepted logKeys logValues)))

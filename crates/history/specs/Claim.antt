@@ -17,7 +17,7 @@ use Rattle.definitions.specs.declared.Window.{Window}
 use Rattle.definitions.specs.Log.{entryOf, groupOf, toRedo, noLog}
 use Rattle.definitions.specs.Refusal.{_gives_, first, badKey, badFeature}
 use Rattle.definitions.specs.Calls.Survey.{survey, surveyRefusal, surveyKeys, surveyBits, surveySummary}
-use Rattle.history.specs.History.{Call, painting, ofBlock, ofWindow, takingBack, redoing, Buffers, Paint, Kept, answer, built, run, longestList, longestLog, kept, nothing, drawn, logOf, logAfter, pictureLeft, rasterLeft}
+use Rattle.history.specs.History.{Call, painting, ofBlock, ofWindow, takingBack, redoing, Buffers, Paint, Kept, answer, built, afterCalls, longestList, longestLog, kept, nothing, drawn, logOf, logAfter, pictureLeft, rasterLeft}
 
 -- 11 where no paint is held, and else 0
 unfoldable pub backAnswer : (held : List Paint) → ℕ
@@ -106,4 +106,4 @@ pub record AsBuilt (m s : ℕ) (raster keys bits summary logKeys logValues : Lis
 abbrev pub History : (m s : ℕ) (raster keys bits summary logKeys logValues : List ℕ) (calls : List Call) → Type 0
 History m s raster keys bits summary logKeys logValues calls =
     let start = built m s raster keys bits summary logKeys logValues in
-    AsBuilt m s raster keys bits summary logKeys logValues (run m s start calls) (kept m s start nothing calls) (longestList m s start calls) (longestLog m s start calls)
+    AsBuilt m s raster keys bits summary logKeys logValues (afterCalls m s start calls) (kept m s start nothing calls) (longestList m s start calls) (longestLog m s start calls)

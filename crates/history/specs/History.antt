@@ -115,9 +115,9 @@ after m s b emptying =
     record { keys = b .keys; bits = b .bits; n = b .n; summary = b .summary; logKeys = b .logKeys; logValues = b .logValues; used = emptied .used; inForce = emptied .«in_force» }
 
 -- the buffers after a run of calls, the first call first
-unfoldable pub run : (m s : ℕ) (b : Buffers) (calls : List Call) → Buffers
-run m s b [] = b
-run m s b (c ∷ cs) = run m s (after m s b c) cs
+unfoldable pub afterCalls : (m s : ℕ) (b : Buffers) (calls : List Call) → Buffers
+afterCalls m s b [] = b
+afterCalls m s b (c ∷ cs) = afterCalls m s (after m s b c) cs
 
 -- the largest number of records that the list has in a run
 unfoldable pub longestList : (m s : ℕ) (b : Buffers) (calls : List Call) → ℕ

@@ -123,13 +123,6 @@ ancestor-iff {m} {k₁} {a} {k₂} {b} u v =
     )
 
 module _ (m a b : ℕ) (valid-a : validKey m a ≡ true) (valid-b : validKey m b ≡ true) where
-  -- containing by squares is containing by keys
-  pub contains-interval : contains m a b ≡ inInterval m a b
-  contains-interval =
-      let c = contains-iff (valid-block m a valid-a) (valid-block m b valid-b) in
-      let i = interval-iff (valid-block m a valid-a) (valid-block m b valid-b) in
-      same-test _ _ (λ t. i .1 (c .0 t)) (λ t. c .1 (i .0 t))
-
   -- a is an ancestor of b exactly when b's key is another in a's interval
   pub ancestor-interval-iff : (isAncestor m a b ≡ true) ↔ ((inInterval m a b ≡ true) × (a ≢ b))
   ancestor-interval-iff =

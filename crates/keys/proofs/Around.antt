@@ -2,10 +2,10 @@
 -- level has the pixel. Rests on Pixel, InBlock and ParentKey.
 use Prim.Native.Nat.{ℕ, suc, _+_, _-_, _^_, _≤_, _<_}
 use native.Mathlib.Omega.{arith}
-use mathlib.Core.Path.{_≡_, sym, ap, _∙_}
+use mathlib.Core.Path.{_≡_, _∙_}
 use mathlib.Core.Bool.{true}
-use Rattle.keys.specs.Key.{validKey, levelOf, heightOf, childKey}
-use Rattle.keys.specs.Block.{rowOf, columnOf, inBlock, pixelKey, keyAround}
+use Rattle.keys.specs.Key.{validKey, levelOf, childKey}
+use Rattle.keys.specs.Block.{inBlock, pixelKey, keyAround}
 use Rattle.keys.proofs.Cases.{split}
 use Rattle.keys.specs.Under.{Under, Block, here, nw, ne, sw, se}
 use Rattle.keys.proofs.Interval.{within}

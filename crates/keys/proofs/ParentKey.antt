@@ -1,6 +1,6 @@
 -- The parent's key: it is that of the block of which a block is a quadrant, the one ancestor that is a level up. Rests on Parent and Ancestor.
 use Prim.Native.Nat.{ℕ, zero, suc, _+_, _-_, _*_, _/_, _^_, _≤_, _<_}
-use native.Mathlib.Nat.{add-mul, mul-assoc, pow-suc, zero-div, zero-mul}
+use native.Mathlib.Nat.{add-mul, mul-assoc, pow-suc}
 use native.Mathlib.Omega.{arith}
 use mathlib.Core.Path.{_≡_, refl, sym, ap, _∙_}
 use mathlib.Core.Bool.{true}
@@ -23,13 +23,6 @@ pub record Digit (k κ κ′ : ℕ) : Type 0 where
   pub least : 1 ≤ digit
   pub most : digit ≤ 4
   pub key : κ′ ≡ childKey κ k digit
-
--- a quadrant's key is its parent's child
-pub digit-of : {k r c κ r′ c′ κ′ : ℕ} → Quadrant k r c κ r′ c′ κ′ → Digit k κ κ′
-digit-of is-nw = record { digit = 1; least = omega arith; most = omega arith; key = refl }
-digit-of is-ne = record { digit = 2; least = omega arith; most = omega arith; key = refl }
-digit-of is-sw = record { digit = 3; least = omega arith; most = omega arith; key = refl }
-digit-of is-se = record { digit = 4; least = omega arith; most = omega arith; key = refl }
 
 -- counted from the first key, the second is a multiple of 5 ^ k′
 pub record Multiple (k′ κ κ′ : ℕ) : Type 0 where
@@ -65,11 +58,6 @@ parent-key {k} {κ} {κ′} b q =
     let n = multiple b in
     let e = n .key in
     rw (block-valid (quadrant-of b q) .height) (cleared (5 ^ suc k) (n .times) κ′ (omega arith) (omega arith) ∙ omega arith)
-
--- the root's is the root
-pub parent-root : (m : ℕ) → parentKey m 0 ≡ 0
-unfolding parentKey
-parent-root m = rw (zero-div, zero-mul)
 
 -- p is the parent of κ: valid, an ancestor, one level up
 pub record IsParent (m p κ : ℕ) : Type 0 where

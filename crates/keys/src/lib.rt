@@ -14,7 +14,7 @@ pub struct Key {
 }
 
 // The square of a block: its first row and column, and its side.
-pub struct Block {
+pub struct Square {
     pub row: u32,
     pub column: u32,
     pub side: u32,
@@ -107,7 +107,7 @@ impl Key {
     }
 
     // The square that the key stands for.
-    pub fn block(self, m: u32) -> Block
+    pub fn block(self, m: u32) -> Square
         requires { ⌜ m ≤ 10 ⌝ }
         ensures { λ r. ⌜ (r .row ≡ rowOf m (self .number)) × (r .column ≡ columnOf m (self .number)) × (r .side ≡ sideOf m (self .number)) ⌝ }
     {
@@ -127,7 +127,7 @@ impl Key {
             rest = rest % step;
             i += 1;
         }
-        Block {
+        Square {
             row,
             column,
             side: whole,

@@ -2,8 +2,7 @@
 -- inside the window it is the block's count, in one outside it is 0. Rests on CountOf and WindowScan.
 use Prim.Native.Nat.{ℕ, _+_, _-_, _^_, _≤_}
 use mathlib.Core.Path.{_≡_, sym, _∙_, ap, ap₂}
-use mathlib.Core.Bool.{true, false, cond, _&&_}
-use native.Mathlib.Nat.{mul-zero}
+use mathlib.Core.Bool.{true, cond, _&&_}
 use native.Mathlib.Omega.{arith}
 use lib.Dec.{leb, eqb}
 use borrow.Author.Tests.{leb-true}
@@ -14,7 +13,7 @@ use Rattle.definitions.specs.Area.{areaIn, pixelsWith}
 use Rattle.definitions.specs.declared.Window.{Window}
 use Rattle.laws.proofs.Within.{Every}
 use Rattle.laws.proofs.WindowScan.{inside-window, window-inside}
-use Rattle.laws.proofs.PixelSums.{sumRows, sumPixels, sum-block, sum-same, sum-constant, InPart, rows-same, rows-inside}
+use Rattle.laws.proofs.PixelSums.{sumRows, sumPixels, sum-block, sum-same, InPart, rows-same, rows-inside}
 use Rattle.laws.proofs.CountOf.{oneAt, count-rows, pixels-sum}
 
 -- 1 at a pixel of the window that has the feature, 0 at another
@@ -70,8 +69,3 @@ module _ (p : Picture) (w : Window) (f : ℕ) where
   pub area-inside : (k r c : ℕ) → Every (λ a b. inWindow w a b ≡ true) k r c → sumPixels (oneInside p w f) k r c ≡ pixelsWith p k r c f
   area-inside k r c h =
       sum-same (oneInside p w f) (oneAt p f) k r c (λ a b i. ap (λ x. cond (x && eqb (p a b) f) 1 0) (h a b i)) ∙ sym (pixels-sum p f k r c)
-
-  -- in a block that has no pixel of the window there is none
-  pub area-outside : (k r c : ℕ) → Every (λ a b. inWindow w a b ≡ false) k r c → sumPixels (oneInside p w f) k r c ≡ 0
-  area-outside k r c h =
-      sum-constant (oneInside p w f) 0 k r c (λ a b i. ap (λ x. cond (x && eqb (p a b) f) 1 0) (h a b i)) ∙ mul-zero (4 ^ k)

@@ -7,7 +7,7 @@ use mathlib.Core.Logic.{_↔_}
 use native.Mathlib.Omega.{arith}
 use lib.Pow.{pow-lt, pow-mono}
 use borrow.Author.Tests.{eqb-true, eq-eqb}
-use Rattle.keys.proofs.Cases.{decide, split, same-test}
+use Rattle.keys.proofs.Cases.{split, same-test}
 use Rattle.keys.proofs.Pixel.{InSquare}
 use Rattle.definitions.specs.Picture.{Picture, oneFeature, featuresBelow}
 use Rattle.definitions.specs.Bits.{hasSlot, unionOfFour, bitsOf}
@@ -113,17 +113,6 @@ bits-several p k r c e =
       has-first = bits-from p k r c (x .row) (x .column) (x .within);
       has-second = bits-from p k r c r c (first-within k r c);
     }
-
--- a power of two has no two different slots
-pub power-not-two : (f : ℕ) → TwoSlots (2 ^ f) → ⊥
-power-not-two f t =
-    let one : f ≡ t .first = eqb-true _ _ (sym (slot-power f (t .first)) ∙ t .has-first) in
-    let two : f ≡ t .second = eqb-true _ _ (sym (slot-power f (t .second)) ∙ t .has-second) in
-    t .differ (sym one ∙ two)
-
--- a block with two different slots set has several features
-pub two-several : (p : Picture) (k r c : ℕ) → TwoSlots (bitsOf p k r c) → oneFeature p k r c ≡ false
-two-several p k r c t = decide (oneFeature p k r c) (λ e. absurd (power-not-two (p r c) (rw (bits-one p k r c e) at t))) (λ e. e)
 
 -- bits of features below s are below 2 ^ s
 pub bits-below : (s : ℕ) (p : Picture) (k r c : ℕ) → featuresBelow s p k r c ≡ true → bitsOf p k r c < 2 ^ s

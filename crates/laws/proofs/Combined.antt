@@ -1,14 +1,14 @@
 -- What it means to combine two pictures (document 02, item 13): the result shows at each pixel the class that the table names; equal inputs with a
 -- diagonal table, a table that looks at one side alone, inputs exchanged with the table transposed; its classes and its length. Rests on ListOf,
 -- ReadBack and IsList.
-use Prim.Native.Nat.{ℕ, zero, suc, _+_, _*_, _^_, _≤_, _<_}
+use Prim.Native.Nat.{ℕ, zero, suc, _+_, _*_, _^_, _<_}
 use mathlib.Core.Path.{_≡_, refl, sym, ap, _∙_}
 use mathlib.Core.Bool.{true, false, not, _&&_, true≢false}
 use mathlib.Core.List.{List}
 use native.Mathlib.Omega.{arith}
 use lib.Arith.{digits-lt}
 use lib.Dec.{leb, eqb}
-use lib.ListN.{length, getD}
+use lib.ListN.{length}
 use borrow.Author.Tests.{eqb-true, not-false}
 use Rattle.keys.specs.Key.{rootKey, childKey}
 use Rattle.keys.proofs.Cases.{decide, and-left, and-right, neither-left, neither-right}

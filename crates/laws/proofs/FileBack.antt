@@ -12,7 +12,7 @@ use lib.Dec.{eqb, ltb, lit<}
 use borrow.Author.Tests.{ltb-true, ltb-false, eqb-true, not-false}
 use Rattle.keys.proofs.Cases.{and-left, and-right, neither-left, neither-right}
 use Rattle.definitions.specs.File.{firstSlots, versionFor, bitBytes, bytesOf, numberAt, headOf, bytesOfRecords, fileOf, readRecords, recordsInFile, sameBytes, wrongMark, mark}
-use Rattle.definitions.specs.File.{mIn, sIn, nIn, versionIn, fileLength, tooShort, otherVersion, wrongVersion, badAtVersion, wrongSettings, wrongLength}
+use Rattle.definitions.specs.File.{mIn, sIn, nIn, versionIn, tooShort, otherVersion, wrongVersion, badAtVersion, wrongSettings, wrongLength}
 use Rattle.laws.proofs.FileBytes.{Bytes, bytes-take, bytes-drop, bytes-of-number, number-below}
 use Rattle.definitions.specs.Refusal.{badSettings}
 use Rattle.laws.proofs.FileOf.{first-version, second-version}

@@ -2,8 +2,8 @@
 -- division.
 use Prim.Native.Nat.{ℕ, zero, suc, _+_, _*_, _/_, _%_, _^_, _<_}
 use mathlib.Core.Path.{_≡_, refl, ap, ap₂, _∙_}
-use mathlib.Core.List.{List, [], _∷_, _++_}
-use native.Mathlib.Nat.{pow-succ', mul-assoc, mod-lt, mod-eq-of-lt, one-le-pow, zero-add, zero-mul, add-mul}
+use mathlib.Core.List.{List, [], _∷_}
+use native.Mathlib.Nat.{pow-succ', mul-assoc, mod-eq-of-lt, one-le-pow, zero-add, zero-mul, add-mul}
 use native.Mathlib.Omega.{arith}
 use lib.ListN.{length, getD, take, drop}
 use lib.Arith.{mod-mul, digits-lt, digits-div, digits-mod}
@@ -32,11 +32,6 @@ bytes-drop zero h = h
 bytes-drop (suc n) no-byte = no-byte
 bytes-drop (suc n) (byte b h) = bytes-drop n h
 
--- bytes, and then bytes
-pub bytes-append : {bs cs : List ℕ} → Bytes bs → Bytes cs → Bytes (bs ++ cs)
-bytes-append no-byte h = h
-bytes-append (byte b g) h = byte b (bytes-append g h)
-
 power-positive : (k : ℕ) → 0 < 256 ^ k
 power-positive k = one-le-pow k 256 (lit< tt)
 
@@ -45,12 +40,6 @@ pub length-bytes : (k x : ℕ) → length (bytesOf k x) ≡ k
 unfolding bytesOf
 length-bytes zero x = refl
 length-bytes (suc k) x = ap suc (length-bytes k x)
-
--- each of them is below 256
-pub bytes-below : (k x : ℕ) → Bytes (bytesOf k x)
-unfolding bytesOf
-bytes-below zero x = no-byte
-bytes-below (suc k) x = byte (mod-lt (x / 256 ^ k) (lit< tt)) (bytes-below k x)
 
 -- a number and then k bytes of another
 number-after-bytes : (k a x : ℕ) → numberAfter a (bytesOf k x) ≡ a * 256 ^ k + x % 256 ^ k

@@ -87,11 +87,3 @@ module _ {ℓ} {A : Type ℓ} where
   -- a refused call leaves what was there
   pub accepted-left : {refusal : ℕ} (done left : A) → (refusal ≡ 0 → ⊥) → accepted refusal done left ≡ left
   accepted-left {refusal} done left h = ap (λ test. cond test done left) (ne-eqb refusal 0 h)
-
-  -- where no test holds, the call gives what is done
-  pub none-accepted : (rows : List Row) (done left : A) → NoneHolds rows → accepted (first rows) done left ≡ done
-  none-accepted rows done left h = accepted-done done left (none-first rows h)
-
-  -- where a test holds, the call leaves what was there
-  pub holds-left : (k : ℕ) {rows : List Row} (done left : A) → (k ≡ 0 → ⊥) → FirstHolds k rows → accepted (first rows) done left ≡ left
-  holds-left k done left not-zero h = accepted-left done left (λ e. not-zero (sym (holds-first h) ∙ e))

@@ -10,7 +10,7 @@ use lib.ListN.{length, length-append}
 use borrow.Author.Tests.{eq-eqb, ne-eqb}
 use Rattle.keys.proofs.Cases.{equal}
 use Rattle.definitions.specs.List.{Record}
-use Rattle.definitions.specs.Log.{closingPlaces, groupMark, beforeStep, firstIn, firstStep}
+use Rattle.definitions.specs.Log.{groupMark, beforeStep, firstIn, firstStep}
 use Rattle.laws.proofs.LastStep.{IsStep, step-some, step-before, before-step-less}
 use Rattle.laws.proofs.SoundLog.{Steps, none, more}
 

@@ -3,7 +3,7 @@
 -- Rests on FileOf and the laws of tables.
 use Prim.Native.Nat.{ℕ, zero, suc, _+_, _*_, _≤_, _<_}
 use mathlib.Core.Path.{_≡_, refl, sym, ap, ap₂, _∙_}
-use mathlib.Core.Bool.{Bool, true, false, cond, not, _&&_, _||_}
+use mathlib.Core.Bool.{Bool, true, false, cond, not, _||_}
 use mathlib.Core.List.{List, [], _∷_, _++_, append-assoc}
 use native.Mathlib.Omega.{arith}
 use lib.ListN.{length, drop}
@@ -14,8 +14,8 @@ use Rattle.keys.proofs.Cases.{decide, equal, neither-right}
 use Rattle.definitions.specs.List.{Record, recordOf}
 use Rattle.definitions.specs.Read.{room, isListOfBlock}
 use Rattle.definitions.specs.Refusal.{Row, _gives_, first, badSettings}
-use Rattle.definitions.specs.File.{firstSlots, versionFor, bitBytes, bytesOf, numberAt, mark, headOf, bytesOfRecord, bytesOfRecords, fileOf, readRecords, recordsInFile}
-use Rattle.definitions.specs.File.{mIn, sIn, nIn, versionIn, fileLength, tooShort, wrongMark, otherVersion, wrongVersion, badAtVersion, wrongSettings, wrongLength}
+use Rattle.definitions.specs.File.{bitBytes, bytesOf, numberAt, mark, headOf, bytesOfRecords, fileOf, readRecords, recordsInFile}
+use Rattle.definitions.specs.File.{mIn, sIn, nIn, versionIn, fileLength, tooShort, wrongMark, otherVersion, badAtVersion, wrongLength}
 use Rattle.definitions.specs.Calls.Load.{loadRefusal}
 use Rattle.laws.proofs.First.{this, later, holds-first, first-this, first-later}
 use Rattle.laws.proofs.FileOf.{first-version, second-version, read-version, written-mark, written-not-short}

@@ -6,12 +6,12 @@ use mathlib.Core.Logic.{_↔_}
 use mathlib.Core.Bool.{true}
 use mathlib.Core.List.{List, [], _∷_, _++_, append-assoc, append-nil, List·Memᴰ, List·Memᴰ·head, List·Memᴰ·tail, List·Memᴰ·not-nil}
 use native.Mathlib.Omega.{arith}
-use lib.ListN.{length, take, drop, length-append, length-drop, length-take, take-append-drop}
+use lib.ListN.{length, take, drop, length-append, length-drop, take-append-drop}
 use lib.Seq.{take-append-le, drop-append-le, take-length, drop-length, length-take-le}
 use Rattle.keys.proofs.Cases.{equal}
 use Rattle.definitions.specs.List.{Record}
-use Rattle.definitions.specs.Log.{groupMark, closingPlaces, beforeStep, isSound}
-use Rattle.laws.proofs.LastStep.{IsStep, LastStep, last-step, step-some, step-before}
+use Rattle.definitions.specs.Log.{groupMark, beforeStep, isSound}
+use Rattle.laws.proofs.LastStep.{IsStep, LastStep, last-step, step-before}
 use Rattle.laws.proofs.SoundLog.{Steps, none, more, sound-steps, sound-exactly, sound-with, sound-last, sound-before, empty-sound}
 
 -- steps and then steps are steps

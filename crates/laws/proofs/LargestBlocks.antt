@@ -69,10 +69,6 @@ pub data BlocksInOrder (m : ℕ) : (from until : ℕ) → List ℕ → Type 0 wh
   block : {from until k r c κ : ℕ} {blocks : List ℕ} → from ≤ κ → Block m k r c κ → BlocksInOrder m (κ + 5 ^ k) until blocks
       → BlocksInOrder m from until (κ ∷ blocks)
 
-order-bounds : {m from until : ℕ} {blocks : List ℕ} → BlocksInOrder m from until blocks → from ≤ until
-order-bounds (no-block h) = h
-order-bounds (block {k = k} h b rest) = let e = order-bounds rest in omega arith
-
 order-widen : {m from until from′ until′ : ℕ} {blocks : List ℕ} → from′ ≤ from → until ≤ until′ → BlocksInOrder m from until blocks
     → BlocksInOrder m from′ until′ blocks
 order-widen {from′ = from′} {until′ = until′} a z (no-block h) = no-block {from = from′} {until = until′} (omega arith)

@@ -1,7 +1,7 @@
 -- The last of 32 slots (document 02, item 5): a block has slot 31 exactly when feature 31 occurs in it, and its file keeps the slot. Rests on BitsOf
 -- and FileBytes.
-use Prim.Native.Nat.{ℕ, _^_, _<_}
-use mathlib.Core.Path.{_≡_, ap, _∙_}
+use Prim.Native.Nat.{ℕ}
+use mathlib.Core.Path.{_≡_}
 use mathlib.Core.Logic.{_↔_}
 use mathlib.Core.Bool.{true}
 use Rattle.keys.specs.Key.{slotLimit}

@@ -1,7 +1,7 @@
 -- The last step of a log, a single entry or a group: a log passes the test of a last step exactly when it is what stands before it and then a step
 -- (document 02, item 10). The mark is no feature, so s is at most 255. Rests on LogEntries.
 use Prim.Native.Nat.{ℕ, zero, suc, _+_, _-_, _≤_, _<_}
-use mathlib.Core.Path.{_≡_, refl, sym, ap, ap₂, subst, _∙_}
+use mathlib.Core.Path.{_≡_, refl, sym, ap, ap₂, _∙_}
 use mathlib.Core.Bool.{Bool, true, false, cond, _&&_}
 use mathlib.Core.List.{List, [], _∷_, _++_, append-assoc}
 use native.Mathlib.Omega.{arith}
@@ -12,8 +12,8 @@ use Rattle.keys.specs.Key.{rootKey, validKey}
 use Rattle.keys.proofs.Cases.{decide, and-left, and-right, and-both}
 use Rattle.definitions.specs.List.{Record, recordOf}
 use Rattle.definitions.specs.Log.{closed, closingPlaces, groupMark, grouped, countRecord, lastRecord, lastKey, lastFeature, lastCount, beforeLast, lastContent, isContent, lastIsEntry, endsInMark, stepCount, stepEntries, beforeEntries, beforeStep, endsInEntries, lastIsGroup, lastIsStep}
-use Rattle.laws.proofs.LastEntry.{before-less, length-closed, length-with-entry, last-key, last-feature, before-last, two-count, two-last, two-front, log-with-two, log-with-entry}
-use Rattle.laws.proofs.LogEntries.{Entries, none, more, numberIn, EndsInEntry, ends-in-entry, entry-ends, with-entry-ends, entries-end, entries-before, LastEntries, last-entries}
+use Rattle.laws.proofs.LastEntry.{before-less, length-closed, last-feature, before-last, two-count, two-last, two-front, log-with-two, log-with-entry}
+use Rattle.laws.proofs.LogEntries.{Entries, numberIn, EndsInEntry, ends-in-entry, entry-ends, with-entry-ends, entries-end, entries-before, last-entries}
 
 -- records that are one step
 pub data IsStep (m s : ℕ) : List Record → Type 0 where

@@ -1,7 +1,7 @@
 -- Entries of a log, one after the other: what the test of a last entry says, and what the tests of so many entries at a log's end say (document 01, "Paint,
 -- take back, empty"; document 02, items 7 and 10). Rests on LastEntry.
 use Prim.Native.Nat.{ℕ, zero, suc, _+_, _-_, _≤_, _<_}
-use mathlib.Core.Path.{_≡_, refl, sym, ap, ap₂, subst, _∙_}
+use mathlib.Core.Path.{_≡_, refl, sym, ap, ap₂, _∙_}
 use mathlib.Core.Bool.{Bool, true, false, _&&_}
 use mathlib.Core.List.{List, [], _∷_, _++_, append-assoc, append-nil}
 use native.Mathlib.Omega.{arith}
@@ -96,12 +96,6 @@ with-entry-ends m s log content κ f valid correct below =
       valid = ap (λ x. validKey m x) (last-key log κ content f) ∙ valid;
       correct = ap₂ (λ x l. isContent m s x l) (last-key log κ content f) (last-content log κ content f) ∙ correct;
     }
-
--- with an entry behind them, entries are entries
-entries-with : (m s : ℕ) (log : List Record) → EndsInEntry m s log → Entries m s (beforeLast log) → Entries m s log
-entries-with m s log h e =
-    subst (λ l. Entries m s l) (sym (log-with-entry log (h .all-there) (h .one-key)))
-    (more e (lastKey log) (lastContent log) (lastFeature log) (h .valid) (h .correct) (h .below))
 
 -- how many they are
 abbrev pub numberIn : {m s : ℕ} {log : List Record} → Entries m s log → ℕ

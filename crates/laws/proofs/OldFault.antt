@@ -4,26 +4,18 @@ use Prim.Native.Nat.{ℕ, _+_}
 use mathlib.Core.Path.{_≡_, refl, ap, ap₂, _∙_}
 use mathlib.Core.Logic.{_↔_}
 use mathlib.Core.Bool.{Bool}
-use mathlib.Core.List.{List, [], _∷_, map, List·Memᴰ, List·Memᴰ·head, List·Memᴰ·tail, Memᴰ·append-left, Memᴰ·append-right}
+use mathlib.Core.List.{List, [], _∷_, map, List·Memᴰ}
 use lib.ListN.{length, take, length-map}
 use lib.Seq.{take-at}
 use Rattle.definitions.specs.Picture.{Picture}
 use Rattle.definitions.specs.Read.{recordsOf, pictureOf}
 use Rattle.definitions.specs.Buffer.{over}
-use Rattle.definitions.specs.Rules.{Finding, findingsOf, allFindings, waiversOf, liveOf}
+use Rattle.definitions.specs.Rules.{Finding, allFindings, waiversOf, liveOf}
 use Rattle.definitions.specs.Calls.Findings.{liveIn, hiddenIn, refusalWith, foundWith, idsWith, keysWith}
 use Rattle.definitions.specs.declared.Rule.{Rule}
 use Rattle.laws.proofs.First.{accepted-done}
 use Rattle.laws.proofs.Hidden.{WaivedBy, EveryPixelOf, LeftOver}
 use Rattle.laws.proofs.Waivers.{live-exactly, live-and-hidden}
-
--- a finding of one of the rules is among the findings of all
-pub finding-among : (m : ℕ) (p : Picture) {rules : List Rule} {rule : Rule} {x : Finding} → List·Memᴰ rule rules → List·Memᴰ x (findingsOf m p rule)
-    → List·Memᴰ x (allFindings m p rules)
-unfolding allFindings
-finding-among m p (List·Memᴰ·head {x = first} {xs = rules} e) h =
-    Memᴰ·append-left (allFindings m p rules) (rw e at h)
-finding-among m p (List·Memᴰ·tail {x = first} {xs = rules} i) h = Memᴰ·append-right (findingsOf m p first) (finding-among m p i h)
 
 module _ (m : ℕ) (rules : List Rule) (ws : List Finding) where
   -- the rules' findings in a picture, and those that the waivers do not hide

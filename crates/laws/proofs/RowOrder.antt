@@ -1,15 +1,15 @@
 -- Rows by office, id and key: that one comes before another, as facts on their numbers; that in an ascending table each comes before every later one; and so
 -- what a row more or less leaves of the order. Rests on nothing.
-use Prim.Native.Nat.{ℕ, _≤_, _<_}
-use mathlib.Core.Path.{_≡_, refl, sym, ap, _∙_}
+use Prim.Native.Nat.{_≤_}
+use mathlib.Core.Path.{_≡_, refl, sym, _∙_}
 use mathlib.Core.Logic.{⊎-elim}
-use mathlib.Core.Bool.{Bool, true, false, cond, _&&_, _||_, true≢false}
+use mathlib.Core.Bool.{Bool, true, false, _&&_, true≢false}
 use mathlib.Core.List.{List, [], _∷_}
 use native.Mathlib.Omega.{arith}
 use lib.Dec.{ltb, eqb}
-use borrow.Author.Tests.{ltb-true, eqb-true, lt-ltb, eq-eqb, ne-eqb}
+use borrow.Author.Tests.{ltb-true, eqb-true, lt-ltb, eq-eqb}
 use Rattle.keys.proofs.Cases.{decide, split, equal, and-left, and-right, and-both, or-either, or-left, or-right}
-use Rattle.definitions.specs.Rules.{Finding, comesBefore}
+use Rattle.definitions.specs.Rules.{comesBefore}
 use Rattle.definitions.specs.Offices.{Waiver, waivedBy, rowBefore, rowsAscend, sameRow, isRow, added, removed}
 use Rattle.laws.proofs.FindingOrder.{Earlier, test-earlier, earlier-test, earlier-on}
 

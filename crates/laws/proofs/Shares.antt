@@ -1,13 +1,13 @@
 -- The two offices' shares of a table: every row with a known office is in one of them, so together they are as many as the rows. Rests on nothing.
 use Prim.Native.Nat.{ℕ, suc, _+_, _≤_, _<_}
-use mathlib.Core.Path.{_≡_, refl, sym, ap, _∙_}
-use mathlib.Core.Bool.{Bool, true, false, not, _&&_, true≢false}
+use mathlib.Core.Path.{_≡_, refl, ap}
+use mathlib.Core.Bool.{true, not, _&&_}
 use mathlib.Core.List.{List, [], _∷_}
 use native.Mathlib.Omega.{arith}
 use lib.ListN.{length}
-use lib.Dec.{leb, ltb, eqb}
-use borrow.Author.Tests.{ltb-false, leb-true, eqb-true, lt-ltb, le-ltb, eq-eqb, ne-eqb, not-true}
-use Rattle.keys.proofs.Cases.{decide, split, equal, and-left, and-right, and-both, same-test}
+use lib.Dec.{leb, eqb}
+use borrow.Author.Tests.{ltb-false, leb-true, eqb-true, le-ltb, eq-eqb, ne-eqb, not-true}
+use Rattle.keys.proofs.Cases.{equal, and-left, and-right, same-test}
 use Rattle.definitions.specs.Offices.{Waiver, waivedBy, badOffice, officeLimit, rowsOf, rowsAscend, officesKnown, isSoundTable}
 
 -- a row of the office, and one of another

@@ -10,11 +10,10 @@ use native.Mathlib.Nat.{le-refl}
 use lib.ListN.{length, length-append}
 use borrow.Author.Tests.{eqb-true, ne-eqb}
 use Rattle.keys.proofs.Cases.{split, and-left, and-right, and-both}
-use Rattle.keys.specs.Key.{validKey}
 use Rattle.definitions.specs.List.{Record}
-use Rattle.definitions.specs.Log.{closed, closingPlaces, groupMark, isContent, endsInMark, beforeStep, lastIsEntry, lastIsStep, dividesIn, isSound}
+use Rattle.definitions.specs.Log.{groupMark, endsInMark, beforeStep, lastIsStep, dividesIn, isSound}
 use Rattle.laws.proofs.LogEntries.{EndsInEntry, ends-in-entry}
-use Rattle.laws.proofs.LastStep.{IsStep, single, LastStep, last-step, step-single, step-some, step-ends, step-before, before-step-less}
+use Rattle.laws.proofs.LastStep.{IsStep, last-step, step-single, step-some, step-ends, step-before, before-step-less}
 
 -- the records are steps, one after the other
 pub data Steps (m s : ℕ) : List Record → Type 0 where

@@ -1,8 +1,7 @@
 -- The summary block by block: at place b * s stand the s counts of block number b, whose key is that of the b-th block of the summary's level. Counts
 -- depend only on the block's pixels. Rests on CountOf and the laws of blocks.
-use Prim.Native.Nat.{ℕ, zero, suc, _+_, _-_, _*_, _/_, _%_, _^_, _≤_, _<_, min}
+use Prim.Native.Nat.{ℕ, zero, suc, _+_, _-_, _*_, _/_, _%_, _^_, _≤_, _<_}
 use mathlib.Core.Path.{_≡_, refl, sym, _∙_, ap, ap₂, subst}
-use mathlib.Core.Bool.{true}
 use mathlib.Core.List.{List, [], _∷_, _++_, append-assoc, append-nil}
 use native.Mathlib.Nat.{zero-mul, zero-add, add-zero, add-suc, suc-add, pow-suc, add-mul, mul-comm, mul-assoc, add-assoc, one-le-pow, div-add-mod', div-lt-iff-lt-mul, mod-lt}
 use native.Mathlib.Omega.{arith}

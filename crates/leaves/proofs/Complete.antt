@@ -14,8 +14,8 @@ use Rattle.keys.proofs.Cases.{split, equal}
 use Rattle.keys.specs.Under.{Block, here, nw, ne, sw, se}
 use Rattle.keys.proofs.Under.{under-trans}
 use Rattle.definitions.specs.Picture.{Picture, oneFeature}
-use Rattle.leaves.specs.Delivered.{endOf, Parted, leaf, four}
-use Rattle.leaves.proofs.EndOf.{endOfFour, end-leaf, end-four}
+use Rattle.leaves.specs.Delivered.{leavesEnd, Parted, leaf, four}
+use Rattle.leaves.proofs.EndOf.{end-leaf, end-four}
 use Rattle.leaves.proofs.Open.{Open, open-at, none-open, open-tail, open-pixel, open-child, open-end}
 
 -- the picture has the feature of each leaf in the whole of its block
@@ -26,8 +26,8 @@ module _ (m : ℕ) (p : Picture) (keys features : List ℕ) (shows : Shows m p k
   -- the leaves of a block begin at a place, and past them the others are read up to the block's end
   pub record Read (k r c κ at : ℕ) : Type 0 where
     pub parted : Parted p keys features k r c κ at
-    pub after : Open m (κ + 5 ^ k) (drop (endOf keys k κ at) keys)
-    pub last : endOf keys k κ at ≤ length keys
+    pub after : Open m (κ + 5 ^ k) (drop (leavesEnd keys k κ at) keys)
+    pub last : leavesEnd keys k κ at ≤ length keys
 
   there : {k r c κ at : ℕ} → Block m k r c κ → Open m κ (drop at keys) → at < length keys
   there {κ = κ} {at = at} b o =
@@ -65,13 +65,13 @@ module _ (m : ℕ) (p : Picture) (keys features : List ℕ) (shows : Shows m p k
       })
 
   -- the whole delivery
-  pub all-read : Open m 0 keys → Parted p keys features m 0 0 0 0 × (endOf keys m 0 0 ≡ length keys)
+  pub all-read : Open m 0 keys → Parted p keys features m 0 0 0 0 × (leavesEnd keys m 0 0 ≡ length keys)
   all-read o =
       let x = complete m 0 0 0 0 here o in
       let none = open-end (open-at (omega arith) refl (x .after)) in (
         x .parted,
-        split (endOf keys m 0 0) (length keys)
-            (λ low. absurd (not-nil (sym (drop-cons keys (endOf keys m 0 0) 0 low) ∙ none)))
+        split (leavesEnd keys m 0 0) (length keys)
+            (λ low. absurd (not-nil (sym (drop-cons keys (leavesEnd keys m 0 0) 0 low) ∙ none)))
             (λ high. omega (arith, x .last)),
       )
     where

@@ -2,21 +2,20 @@
 -- leaf's block the leaf's feature. Rests on Sound and Complete.
 use Prim.Native.Nat.{ℕ, zero, suc, _+_, _^_, _≤_, _<_}
 use mathlib.Core.Path.{_≡_, refl, sym, _∙_, ap}
-use mathlib.Core.Bool.{Bool, true, false, cond, not, _&&_, true≢false}
+use mathlib.Core.Bool.{true, false, not, _&&_, true≢false}
 use mathlib.Core.List.{List, [], _∷_, _++_, append-nil, List·Memᴰ, List·Memᴰ·head, List·Memᴰ·tail}
 use native.Mathlib.Nat.{le-of-suc-le-suc}
 use native.Mathlib.Omega.{arith}
 use lib.ListN.{length, getD, drop}
 use lib.Seq.{drop-length}
 use lib.Dec.{leb, eqb}
-use borrow.Author.Tests.{leb-true, eqb-true, eq-eqb, not-true, not-false}
+use borrow.Author.Tests.{leb-true, eqb-true, eq-eqb, not-true}
 use Rattle.keys.specs.Key.{validKey}
 use Rattle.keys.specs.Block.{inBlock}
 use Rattle.keys.proofs.Cases.{decide, and-left, and-right, and-both}
-use Rattle.keys.specs.Under.{Block, here}
+use Rattle.keys.specs.Under.{here}
 use Rattle.keys.proofs.Valid.{valid-below}
 use Rattle.keys.proofs.InBlock.{inBlock-iff, in-raster}
-use Rattle.definitions.specs.Picture.{Picture, oneFeature}
 use Rattle.definitions.specs.Read.{paired}
 use Rattle.definitions.specs.Leaves.{validKeys, ascendFrom, coverings, coverOnce, areLeaves, pictureOfLeaves}
 use Rattle.definitions.specs.Refusal.{badPixel}
@@ -24,9 +23,9 @@ use Rattle.laws.proofs.Within.{Every, first-within}
 use Rattle.laws.proofs.Pixels.{every-to, every-from}
 use Rattle.laws.proofs.Features.{one-from}
 use Rattle.laws.proofs.AscendingKeys.{AscendingKeys, no-key, key}
-use Rattle.leaves.specs.Delivered.{endOf, Parted}
+use Rattle.leaves.specs.Delivered.{leavesEnd, Parted}
 use Rattle.leaves.proofs.Tiles.{Tiles, tiles-ascend, ascend-test, tiles-valid, tiles-once}
-use Rattle.leaves.proofs.Sound.{Begins, sound}
+use Rattle.leaves.proofs.Sound.{sound}
 use Rattle.leaves.proofs.Open.{Open, once, cover-cons, cover-some}
 use Rattle.leaves.proofs.Complete.{Shows, all-read}
 
@@ -141,21 +140,21 @@ module _ (m s : ℕ) (keys features : List ℕ) where
     pub leaves-parted : Leaves m s keys features → Parted (pictureOfLeaves m (paired keys features)) keys features m 0 0 0 0
     leaves-parted l = all-read m (pictureOfLeaves m (paired keys features)) keys features (leaves-shows l) (open-leaves l) .0
 
-    pub leaves-end : Leaves m s keys features → endOf keys m 0 0 ≡ length keys
+    pub leaves-end : Leaves m s keys features → leavesEnd keys m 0 0 ≡ length keys
     leaves-end l = all-read m (pictureOfLeaves m (paired keys features)) keys features (leaves-shows l) (open-leaves l) .1
 
   -- where the raster's leaves end with the last, they tile the raster
-  end-tiles : endOf keys m 0 0 ≡ length keys → Tiles m 0 0 0 keys
+  end-tiles : leavesEnd keys m 0 0 ≡ length keys → Tiles m 0 0 0 keys
   end-tiles e =
       let b = sound keys m 0 0 0 0 (omega arith) in
       let f : keys ≡ b .run = b .splits ∙ ap (λ i. b .run ++ drop i keys) e ∙ ap (λ l. b .run ++ l) (drop-length keys) ∙ append-nil (b .run) in
       rw f (b .tiles)
 
-  pub end-leaves : endOf keys m 0 0 ≡ length keys → badPixel s features ≡ false → areLeaves m s keys features ≡ true
+  pub end-leaves : leavesEnd keys m 0 0 ≡ length keys → badPixel s features ≡ false → areLeaves m s keys features ≡ true
   end-leaves e h = leaves-from (tiles-leaves (end-tiles e) h)
 
   pub bad-leaves : badPixel s features ≡ true → areLeaves m s keys features ≡ false
   bad-leaves h = decide (areLeaves m s keys features) (λ e. absurd (true≢false (sym h ∙ leaves-to e .below))) (λ e. e)
 
-  pub other-leaves : length features ≡ length keys → (endOf keys m 0 0 ≡ length keys → ⊥) → areLeaves m s keys features ≡ false
+  pub other-leaves : length features ≡ length keys → (leavesEnd keys m 0 0 ≡ length keys → ⊥) → areLeaves m s keys features ≡ false
   other-leaves same n = decide (areLeaves m s keys features) (λ e. absurd (n (leaves-end same (leaves-to e)))) (λ e. e)

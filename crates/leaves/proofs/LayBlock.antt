@@ -1,16 +1,16 @@
 -- What the writing of a block's leaves asks and answers: where the next is the block, and by its quadrants. Rests on Quarters and on build's laws
 -- of writing.
-use Prim.Native.Nat.{ℕ, zero, suc, _+_, _-_, _*_, _^_, _≤_, _<_}
+use Prim.Native.Nat.{ℕ, suc, _+_, _-_, _*_, _^_, _≤_, _<_}
 use mathlib.Core.Path.{_≡_, refl, sym, _∙_, ap}
 use mathlib.Core.List.{List}
 use native.Mathlib.Omega.{arith}
 use lib.ListN.{length, getD}
 use Rattle.definitions.specs.Picture.{Picture}
 use Rattle.definitions.specs.Bits.{unionOfFour}
-use Rattle.build.specs.BuildBlocks.{Fitting, FourAsked, FourWritten, Written}
+use Rattle.build.specs.BuildBlocks.{FourAsked, FourWritten, Written}
 use Rattle.build.proofs.FittingBlock.{fits-nw, fits-ne, fits-sw, fits-se, fits-four}
 use Rattle.build.proofs.WrittenBlock.{written-one, written-quadrants}
-use Rattle.leaves.specs.Delivered.{endOf, Parted, leaf, four, Ready, Laid}
+use Rattle.leaves.specs.Delivered.{leavesEnd, Parted, leaf, four, Ready, Laid}
 use Rattle.leaves.proofs.EndOf.{end-leaf}
 use Rattle.leaves.proofs.Quarters.{Quarters, quarters, last-is, parted-there, parted-pixel}
 
@@ -36,17 +36,17 @@ module _ (leafKeys leafFeatures : List ℕ) where
     h = parted-there (a .parted)
 
     -- the block's four parts, of any picture that parts so
-    module _ {second third fourth : ℕ} (e₂ : second ≡ endOf leafKeys k (key + step) at) (e₃ : third ≡ endOf leafKeys k (key + 2 * step) second)
-        (e₄ : fourth ≡ endOf leafKeys k (key + 3 * step) third) where
+    module _ {second third fourth : ℕ} (e₂ : second ≡ leavesEnd leafKeys k (key + step) at) (e₃ : third ≡ leavesEnd leafKeys k (key + 2 * step) second)
+        (e₄ : fourth ≡ leavesEnd leafKeys k (key + 3 * step) third) where
       parts : {p : Picture} {r c : ℕ} → Parted p leafKeys leafFeatures (suc k) r c key at
           → Quarters p leafKeys leafFeatures k r c key step at second third fourth
       parts t = quarters leafKeys k key step at second third fourth g e₂ e₃ e₄ t n
 
     -- of the first part alone, before the others are known
     first-parts : Quarters (a .picture) leafKeys leafFeatures k (a .row) (a .column) key step at
-        (endOf leafKeys k (key + step) at)
-        (endOf leafKeys k (key + 2 * step) (endOf leafKeys k (key + step) at))
-        (endOf leafKeys k (key + 3 * step) (endOf leafKeys k (key + 2 * step) (endOf leafKeys k (key + step) at)))
+        (leavesEnd leafKeys k (key + step) at)
+        (leavesEnd leafKeys k (key + 2 * step) (leavesEnd leafKeys k (key + step) at))
+        (leavesEnd leafKeys k (key + 3 * step) (leavesEnd leafKeys k (key + 2 * step) (leavesEnd leafKeys k (key + step) at)))
     first-parts = parts refl refl refl (a .parted)
 
     pub ready-nw : Ready leafKeys leafFeatures k (key + step) at (place + 1) keys bits
@@ -65,8 +65,8 @@ module _ (leafKeys leafFeatures : List ℕ) where
 
       second-parts : Quarters (a .picture) leafKeys leafFeatures k (a .row) (a .column) key step at
           second
-          (endOf leafKeys k (key + 2 * step) second)
-          (endOf leafKeys k (key + 3 * step) (endOf leafKeys k (key + 2 * step) second))
+          (leavesEnd leafKeys k (key + 2 * step) second)
+          (leavesEnd leafKeys k (key + 3 * step) (leavesEnd leafKeys k (key + 2 * step) second))
       second-parts = parts (l₁ .end-is) refl refl (a .parted)
 
       pub ready-ne : Ready leafKeys leafFeatures k (key + 2 * step) second i₂ keys₁ bits₁
@@ -86,7 +86,7 @@ module _ (leafKeys leafFeatures : List ℕ) where
         third-parts : Quarters (a .picture) leafKeys leafFeatures k (a .row) (a .column) key step at
             second
             third
-            (endOf leafKeys k (key + 3 * step) third)
+            (leavesEnd leafKeys k (key + 3 * step) third)
         third-parts = parts (l₁ .end-is) (l₂ .end-is) refl (a .parted)
 
         pub ready-sw : Ready leafKeys leafFeatures k (key + 3 * step) third i₃ keys₂ bits₂

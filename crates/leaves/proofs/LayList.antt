@@ -1,13 +1,12 @@
 -- The list of a whole delivery: the root is ready, and the records below it with its own at place 0 are the list. Rests on Delivery and on build's
 -- laws of writing.
-use Prim.Native.Nat.{ℕ, _+_, _^_, _≤_, _<_}
+use Prim.Native.Nat.{ℕ, _^_, _≤_}
 use mathlib.Core.Path.{_≡_, refl, sym, _∙_, ap}
 use mathlib.Core.Bool.{true, false}
 use mathlib.Core.List.{List, _∷_, map}
 use native.Mathlib.Omega.{arith}
-use lib.ListN.{length, getD, set, length-map}
+use lib.ListN.{length, set, length-map}
 use lib.Seq.{sets}
-use Rattle.keys.specs.Key.{slotLimit}
 use Rattle.keys.proofs.Powers.{five-le}
 use Rattle.definitions.specs.Picture.{Picture}
 use Rattle.definitions.specs.Bits.{bitsOf}

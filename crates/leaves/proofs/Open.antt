@@ -1,23 +1,23 @@
 -- A delivery read up to a key: the leaves that are left ascend from that key and cover every pixel from there on once. What that says of the
 -- first of them, and how it goes on after it. Rests on the laws of blocks.
-use Prim.Native.Nat.{ℕ, zero, suc, _+_, _^_, _≤_, _<_}
+use Prim.Native.Nat.{ℕ, suc, _+_, _^_, _≤_, _<_}
 use mathlib.Core.Path.{_≡_, refl, sym, _∙_, ap}
-use mathlib.Core.Bool.{Bool, true, false, cond, true≢false}
+use mathlib.Core.Bool.{Bool, true, false, cond}
 use mathlib.Core.List.{List, [], _∷_, List·Memᴰ, List·Memᴰ·head, List·Memᴰ·tail, List·Memᴰ·cases-cons, List·Memᴰ·not-nil}
 use native.Mathlib.Omega.{arith}
 use mathlib.Core.Logic.{⊎-elim}
 use Rattle.keys.specs.Key.{childKey, validKey, heightOf}
 use Rattle.keys.specs.Block.{rowOf, columnOf, inBlock, pixelKey}
-use Rattle.keys.proofs.Cases.{decide, split, equal}
+use Rattle.keys.proofs.Cases.{decide, split}
 use Rattle.keys.proofs.Powers.{five-pos}
 use Rattle.keys.specs.Under.{Under, Block}
 use Rattle.keys.proofs.Interval.{within, nest, past-first-child}
 use Rattle.keys.proofs.Valid.{valid-block}
-use Rattle.keys.proofs.Pixel.{InSquare, InKeys, inside, back}
+use Rattle.keys.proofs.Pixel.{InKeys, inside}
 use Rattle.keys.proofs.InBlock.{inBlock-iff, inBlock-keys-iff, in-raster}
 use Rattle.definitions.specs.Leaves.{coverings}
 use Rattle.laws.proofs.Within.{first-within, under-within}
-use Rattle.laws.proofs.AscendingKeys.{AscendingKeys, no-key, key, ascending-bounds, ascending-member, ascending-rest}
+use Rattle.laws.proofs.AscendingKeys.{AscendingKeys, no-key, key, ascending-member, ascending-rest}
 
 -- a number counted once more where the test holds
 abbrev pub once : Bool → ℕ

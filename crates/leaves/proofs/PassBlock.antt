@@ -2,7 +2,6 @@
 -- Rests on Quarters and on build's laws of counting.
 use Prim.Native.Nat.{ℕ, zero, suc, _+_, _-_, _*_, _^_, _≤_, _<_}
 use mathlib.Core.Path.{_≡_, refl, sym, _∙_, ap}
-use mathlib.Core.Bool.{true, cond}
 use mathlib.Core.List.{List}
 use native.Mathlib.Nat.{pow-suc}
 use native.Mathlib.Omega.{arith}
@@ -14,9 +13,9 @@ use Rattle.definitions.specs.Bits.{unionOfFour}
 use Rattle.list.specs.Check.{oneSlot}
 use Rattle.build.specs.BuildBlocks.{Tallied, Joined}
 use Rattle.build.proofs.CountBlock.{tallied-pixel, tallied-one, tallied-four}
-use Rattle.leaves.specs.Delivered.{endOf, Parted, leaf, four, Passed}
+use Rattle.leaves.specs.Delivered.{Parted, leaf, four, Passed}
 use Rattle.leaves.proofs.EndOf.{end-none, end-leaf, end-other}
-use Rattle.leaves.proofs.Quarters.{Quarters, quarters, last-is, parted-there}
+use Rattle.leaves.proofs.Quarters.{quarters, last-is, parted-there}
 
 module _ (keys features : List ℕ) where
   pub passed-none : (k κ at : ℕ) → length keys ≤ at → Passed keys features k κ at (length keys + 1) 0 1

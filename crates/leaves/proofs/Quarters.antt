@@ -3,13 +3,12 @@
 use Prim.Native.Nat.{ℕ, zero, suc, _+_, _-_, _*_, _/_, _^_, _≤_, _<_}
 use mathlib.Core.Path.{_≡_, refl, sym, _∙_, ap}
 use mathlib.Core.List.{List}
-use native.Mathlib.Nat.{pow-suc}
 use native.Mathlib.Omega.{arith}
 use lib.ListN.{length, getD}
 use Rattle.keys.specs.Key.{childKey}
 use Rattle.definitions.specs.Picture.{Picture}
 use Rattle.build.proofs.BuildInside.{fifth-step}
-use Rattle.leaves.specs.Delivered.{endOf, Parted, leaf, four, Asked}
+use Rattle.leaves.specs.Delivered.{leavesEnd, Parted, leaf, four, Asked}
 use Rattle.leaves.proofs.EndOf.{end-four}
 
 -- a leaf is there
@@ -35,9 +34,9 @@ pub record Quarters (p : Picture) (keys features : List ℕ) (k r c key step at 
 
 -- the places where the quadrants' leaves begin
 module _ (keys : List ℕ) (k key step at second third fourth : ℕ) (g : step ≡ 5 ^ k)
-    (e₂ : second ≡ endOf keys k (key + step) at)
-    (e₃ : third ≡ endOf keys k (key + 2 * step) second)
-    (e₄ : fourth ≡ endOf keys k (key + 3 * step) third) where
+    (e₂ : second ≡ leavesEnd keys k (key + step) at)
+    (e₃ : third ≡ leavesEnd keys k (key + 2 * step) second)
+    (e₄ : fourth ≡ leavesEnd keys k (key + 3 * step) third) where
   key₁ : childKey key k 1 ≡ key + step
   key₁ = omega arith
 
@@ -50,23 +49,23 @@ module _ (keys : List ℕ) (k key step at second third fourth : ℕ) (g : step �
   key₄ : childKey key k 4 ≡ key + 4 * step
   key₄ = omega arith
 
-  second-is : endOf keys k (childKey key k 1) at ≡ second
-  second-is = ap (λ x. endOf keys k x at) key₁ ∙ sym e₂
+  second-is : leavesEnd keys k (childKey key k 1) at ≡ second
+  second-is = ap (λ x. leavesEnd keys k x at) key₁ ∙ sym e₂
 
-  third-is : endOf keys k (childKey key k 2) (endOf keys k (childKey key k 1) at) ≡ third
-  third-is = ap (λ x. endOf keys k x (endOf keys k (childKey key k 1) at)) key₂ ∙ ap (endOf keys k (key + 2 * step)) second-is ∙ sym e₃
+  third-is : leavesEnd keys k (childKey key k 2) (leavesEnd keys k (childKey key k 1) at) ≡ third
+  third-is = ap (λ x. leavesEnd keys k x (leavesEnd keys k (childKey key k 1) at)) key₂ ∙ ap (leavesEnd keys k (key + 2 * step)) second-is ∙ sym e₃
 
-  fourth-is : endOf keys k (childKey key k 3) (endOf keys k (childKey key k 2) (endOf keys k (childKey key k 1) at)) ≡ fourth
+  fourth-is : leavesEnd keys k (childKey key k 3) (leavesEnd keys k (childKey key k 2) (leavesEnd keys k (childKey key k 1) at)) ≡ fourth
   fourth-is =
-      ap (λ x. endOf keys k x (endOf keys k (childKey key k 2) (endOf keys k (childKey key k 1) at))) key₃
-      ∙ ap (endOf keys k (key + 3 * step)) third-is
+      ap (λ x. leavesEnd keys k x (leavesEnd keys k (childKey key k 2) (leavesEnd keys k (childKey key k 1) at))) key₃
+      ∙ ap (leavesEnd keys k (key + 3 * step)) third-is
       ∙ sym e₄
 
-  pub last-is : (last : ℕ) → at < length keys → (getD keys at 0 ≡ key → ⊥) → last ≡ endOf keys k (key + 4 * step) fourth → last ≡ endOf keys (suc k) key at
+  pub last-is : (last : ℕ) → at < length keys → (getD keys at 0 ≡ key → ⊥) → last ≡ leavesEnd keys k (key + 4 * step) fourth → last ≡ leavesEnd keys (suc k) key at
   last-is last h n e =
       e
-      ∙ ap (endOf keys k (key + 4 * step)) (sym fourth-is)
-      ∙ ap (λ x. endOf keys k x (endOf keys k (childKey key k 3) (endOf keys k (childKey key k 2) (endOf keys k (childKey key k 1) at)))) (sym key₄)
+      ∙ ap (leavesEnd keys k (key + 4 * step)) (sym fourth-is)
+      ∙ ap (λ x. leavesEnd keys k x (leavesEnd keys k (childKey key k 3) (leavesEnd keys k (childKey key k 2) (leavesEnd keys k (childKey key k 1) at)))) (sym key₄)
       ∙ sym (end-four keys k key at h n)
 
   pub quarters : {p : Picture} {features : List ℕ} {r c : ℕ} → Parted p keys features (suc k) r c key at → (getD keys at 0 ≡ key → ⊥)

@@ -1,9 +1,9 @@
 -- Document 02, item 3: the leaves of a list are a delivery that describes the list's raster, so reading what was written gives the list back; and
 -- deliveries of one raster give one list. Rests on Delivery and LeavesOf.
-use Prim.Native.Nat.{ℕ, _^_, _≤_, _<_}
+use Prim.Native.Nat.{ℕ, _≤_}
 use mathlib.Core.Path.{_≡_, refl, sym, _∙_, ap, ap₂}
 use mathlib.Core.Bool.{true, false}
-use mathlib.Core.List.{List, [], _∷_, List·Memᴰ, List·Memᴰ·head, List·Memᴰ·tail}
+use mathlib.Core.List.{List, _∷_, List·Memᴰ, List·Memᴰ·head, List·Memᴰ·tail}
 use native.Mathlib.Omega.{arith}
 use lib.ListN.{length, drop, length-map, length-append}
 use lib.Seq.{take-at}
@@ -11,8 +11,8 @@ use Rattle.keys.specs.Block.{inBlock}
 use Rattle.keys.proofs.Cases.{decide}
 use Rattle.keys.specs.Under.{here}
 use Rattle.definitions.specs.Picture.{Picture, featuresBelow}
-use Rattle.definitions.specs.List.{Record, listOf, listOfPicture, keysOf, valuesOf}
-use Rattle.definitions.specs.Read.{room, recordsOf, pictureOf, isList}
+use Rattle.definitions.specs.List.{Record, listOfPicture, keysOf, valuesOf}
+use Rattle.definitions.specs.Read.{room, recordsOf, isList}
 use Rattle.definitions.specs.Leaves.{coverings, areLeaves, isDelivery, leavesOf, pictureOfLeaves, pictureDelivered}
 use Rattle.definitions.specs.Buffer.{over}
 use Rattle.definitions.specs.Calls.ReadLeaves.{listDelivered}
@@ -24,9 +24,9 @@ use Rattle.list.specs.Own.{shownBy}
 use Rattle.list.proofs.Accepted.{accepted}
 use Rattle.list.proofs.Own.{own-list}
 use Rattle.leaves.proofs.Tiles.{tiles-once}
-use Rattle.leaves.proofs.Open.{once, cover-cons, cover-some}
+use Rattle.leaves.proofs.Open.{cover-cons, cover-some}
 use Rattle.leaves.proofs.Delivery.{tiles-leaves, leaves-from}
-use Rattle.leaves.proofs.LeavesOf.{leaves-tile, leaves-below, Found, leaves-found}
+use Rattle.leaves.proofs.LeavesOf.{leaves-tile, leaves-below, leaves-found}
 use Rattle.leaves.proofs.ReadAnswer.{delivery-full}
 
 value-here : (m : ℕ) (e : Record) (l : List Record) (row column : ℕ) → inBlock m (e .key) row column ≡ true → pictureOfLeaves m (e ∷ l) row column ≡ e .value

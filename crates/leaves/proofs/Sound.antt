@@ -1,6 +1,6 @@
 -- Where the leaves of a block end within the slice, they tile the block. Rests on EndOf and Tiles.
 use Prim.Native.Nat.{ℕ, zero, suc, _+_, _^_, _≤_, _<_}
-use mathlib.Core.Path.{_≡_, refl, sym, _∙_, ap, ap₂}
+use mathlib.Core.Path.{_≡_, sym, _∙_, ap, ap₂}
 use mathlib.Core.List.{List, [], _∷_, _++_, append-assoc}
 use native.Mathlib.Omega.{arith}
 use native.Mathlib.Numerals.{add-one}
@@ -8,7 +8,7 @@ use lib.ListN.{length, getD, drop}
 use lib.Seq.{drop-cons}
 use Rattle.keys.specs.Key.{childKey}
 use Rattle.keys.proofs.Cases.{equal}
-use Rattle.leaves.specs.Delivered.{endOf}
+use Rattle.leaves.specs.Delivered.{leavesEnd}
 use Rattle.leaves.proofs.EndOf.{endOfFour, end-leaf, end-other, end-four, end-there}
 use Rattle.leaves.proofs.Tiles.{Tiles, alone, parts}
 
@@ -16,7 +16,7 @@ use Rattle.leaves.proofs.Tiles.{Tiles, alone, parts}
 pub record Begins (keys : List ℕ) (k r c κ at : ℕ) : Type 0 where
   pub run : List ℕ
   pub tiles : Tiles k r c κ run
-  pub splits : drop at keys ≡ run ++ drop (endOf keys k κ at) keys
+  pub splits : drop at keys ≡ run ++ drop (leavesEnd keys k κ at) keys
 
 begins-leaf : (keys : List ℕ) (k r c κ at : ℕ) → at < length keys → getD keys at 0 ≡ κ → Begins keys k r c κ at
 begins-leaf keys k r c κ at h e = record {
@@ -30,9 +30,9 @@ regroup a b c d e = simp append-assoc
 
 begins-four : (keys : List ℕ) (k r c κ at : ℕ) → at < length keys → (getD keys at 0 ≡ κ → ⊥)
     → Begins keys k r c (childKey κ k 1) at
-    → Begins keys k r (c + 2 ^ k) (childKey κ k 2) (endOf keys k (childKey κ k 1) at)
-    → Begins keys k (r + 2 ^ k) c (childKey κ k 3) (endOf keys k (childKey κ k 2) (endOf keys k (childKey κ k 1) at))
-    → Begins keys k (r + 2 ^ k) (c + 2 ^ k) (childKey κ k 4) (endOf keys k (childKey κ k 3) (endOf keys k (childKey κ k 2) (endOf keys k (childKey κ k 1) at)))
+    → Begins keys k r (c + 2 ^ k) (childKey κ k 2) (leavesEnd keys k (childKey κ k 1) at)
+    → Begins keys k (r + 2 ^ k) c (childKey κ k 3) (leavesEnd keys k (childKey κ k 2) (leavesEnd keys k (childKey κ k 1) at))
+    → Begins keys k (r + 2 ^ k) (c + 2 ^ k) (childKey κ k 4) (leavesEnd keys k (childKey κ k 3) (leavesEnd keys k (childKey κ k 2) (leavesEnd keys k (childKey κ k 1) at)))
     → Begins keys (suc k) r c κ at
 begins-four keys k r c κ at h n x y z w = record {
   run = x .run ++ (y .run ++ (z .run ++ w .run));
@@ -43,7 +43,7 @@ begins-four keys k r c κ at h n x y z w = record {
       ∙ ap (λ i. (x .run ++ (y .run ++ (z .run ++ w .run))) ++ drop i keys) (sym (end-four keys k κ at h n));
 }
 
-pub sound : (keys : List ℕ) (k r c κ at : ℕ) → endOf keys k κ at ≤ length keys → Begins keys k r c κ at
+pub sound : (keys : List ℕ) (k r c κ at : ℕ) → leavesEnd keys k κ at ≤ length keys → Begins keys k r c κ at
 sound keys zero r c κ at fits =
     let h = end-there keys zero κ at fits in
     equal (getD keys at 0) κ (begins-leaf keys zero r c κ at h) (λ n. let e = end-other keys κ at h n in absurd (omega arith))
@@ -52,10 +52,10 @@ sound keys (suc k) r c κ at fits =
     equal (getD keys at 0) κ (begins-leaf keys (suc k) r c κ at h)
     (λ n.
     let e = end-four keys k κ at h n in
-    let i₁ = endOf keys k (childKey κ k 1) at in
-    let i₂ = endOf keys k (childKey κ k 2) i₁ in
-    let i₃ = endOf keys k (childKey κ k 3) i₂ in
-    let h₄ : endOf keys k (childKey κ k 4) i₃ ≤ length keys = omega arith in
+    let i₁ = leavesEnd keys k (childKey κ k 1) at in
+    let i₂ = leavesEnd keys k (childKey κ k 2) i₁ in
+    let i₃ = leavesEnd keys k (childKey κ k 3) i₂ in
+    let h₄ : leavesEnd keys k (childKey κ k 4) i₃ ≤ length keys = omega arith in
     let h₃ : i₃ < length keys = end-there keys k (childKey κ k 4) i₃ h₄ in
     let h₂ : i₂ < length keys = end-there keys k (childKey κ k 3) i₂ (omega arith) in
     let h₁ : i₁ < length keys = end-there keys k (childKey κ k 2) i₁ (omega arith) in

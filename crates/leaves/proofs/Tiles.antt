@@ -1,26 +1,25 @@
 -- Keys that tile a block: its own alone, or those that tile its four quadrants, one after the other. They are valid, ascend, and every pixel of the
 -- block lies in exactly one of their blocks. Rests on the laws of blocks.
-use Prim.Native.Nat.{ℕ, zero, suc, _+_, _*_, _^_, _≤_, _<_}
-use mathlib.Core.Path.{_≡_, refl, sym, _∙_, ap, ap₂}
-use mathlib.Core.Bool.{Bool, true, false, cond, true≢false}
+use Prim.Native.Nat.{ℕ, suc, _+_, _^_}
+use mathlib.Core.Path.{_≡_, refl}
+use mathlib.Core.Bool.{Bool, true, false, cond}
 use mathlib.Core.List.{List, [], _∷_, _++_}
 use native.Mathlib.Nat.{pow-suc}
 use native.Mathlib.Omega.{arith}
-use lib.ListN.{length, length-append}
 use lib.Dec.{leb}
-use borrow.Author.Tests.{le-leb, leb-true}
+use borrow.Author.Tests.{le-leb}
 use Rattle.keys.specs.Key.{childKey, validKey}
 use Rattle.keys.specs.Block.{inBlock}
 use Rattle.keys.proofs.Cases.{decide, and-left, and-right, and-both}
 use Rattle.keys.proofs.Powers.{five-pos}
-use Rattle.keys.specs.Under.{Under, Block, here, nw, ne, sw, se}
+use Rattle.keys.specs.Under.{Block, here, nw, ne, sw, se}
 use Rattle.keys.proofs.Under.{under-trans}
 use Rattle.keys.proofs.Valid.{block-valid}
 use Rattle.keys.proofs.Pixel.{InSquare}
 use Rattle.keys.proofs.InBlock.{inBlock-iff}
 use Rattle.definitions.specs.Leaves.{validKeys, ascendFrom, coverings}
 use Rattle.laws.proofs.Within.{within-cases}
-use Rattle.laws.proofs.AscendingKeys.{AscendingKeys, no-key, key, ascending-bounds, ascending-widen, ascending-append}
+use Rattle.laws.proofs.AscendingKeys.{AscendingKeys, no-key, key, ascending-widen, ascending-append}
 
 pub data Tiles : ℕ → ℕ → ℕ → ℕ → List ℕ → Type 0 where
   alone : {k r c κ : ℕ} → Tiles k r c κ (κ ∷ [])

@@ -1,13 +1,13 @@
 -- The answers of writing leaves: their number, the rows of its table of refusals, and what is given and left. Rests on LeavesOf.
-use Prim.Native.Nat.{ℕ, _+_, _-_, _*_, _/_, _≤_, _<_}
-use mathlib.Core.Path.{_≡_, refl, sym, _∙_, ap}
-use mathlib.Core.Bool.{true, false, cond, not}
-use mathlib.Core.List.{List, [], _∷_}
+use Prim.Native.Nat.{ℕ, _-_, _/_, _≤_, _<_}
+use mathlib.Core.Path.{_≡_, sym, _∙_, ap}
+use mathlib.Core.Bool.{true, false, cond}
+use mathlib.Core.List.{List}
 use native.Mathlib.Omega.{arith}
 use lib.ListN.{length}
 use lib.Dec.{eqb}
-use borrow.Author.Tests.{lt-ltb, le-ltb, eq-eqb, ne-eqb}
-use Rattle.definitions.specs.List.{keysOf, valuesOf, listOfPicture}
+use borrow.Author.Tests.{lt-ltb, le-ltb, ne-eqb}
+use Rattle.definitions.specs.List.{keysOf, valuesOf}
 use Rattle.definitions.specs.Read.{room, isList}
 use Rattle.definitions.specs.Leaves.{leavesOf}
 use Rattle.definitions.specs.Buffer.{over}

@@ -12,13 +12,13 @@ use Rattle.build.specs.BuildBlocks.{Tallied, Fitting, Written}
 
 -- the place after the leaves of the block of height k with key κ, the first of which is at a place; where its leaves are not there, a place more
 -- than there are
-unfoldable pub endOf : (keys : List ℕ) (k κ at : ℕ) → ℕ
-endOf keys zero κ at = cond (ltb at (length keys)) (cond (eqb (getD keys at 0) κ) (at + 1) (length keys + 1)) (length keys + 1)
-endOf keys (suc k) κ at =
+unfoldable pub leavesEnd : (keys : List ℕ) (k κ at : ℕ) → ℕ
+leavesEnd keys zero κ at = cond (ltb at (length keys)) (cond (eqb (getD keys at 0) κ) (at + 1) (length keys + 1)) (length keys + 1)
+leavesEnd keys (suc k) κ at =
     cond (ltb at (length keys))
     (cond (eqb (getD keys at 0) κ)
     (at + 1)
-    (endOf keys k (childKey κ k 4) (endOf keys k (childKey κ k 3) (endOf keys k (childKey κ k 2) (endOf keys k (childKey κ k 1) at)))))
+    (leavesEnd keys k (childKey κ k 4) (leavesEnd keys k (childKey κ k 3) (leavesEnd keys k (childKey κ k 2) (leavesEnd keys k (childKey κ k 1) at)))))
     (length keys + 1)
 
 -- from a place on stand the leaves of a block, each with the feature that the picture has in it
@@ -27,10 +27,10 @@ pub data Parted (p : Picture) (keys features : List ℕ) : ℕ → ℕ → ℕ �
       → Parted p keys features k r c κ at
   four : {k r c κ at : ℕ} → at < length keys → (getD keys at 0 ≡ κ → ⊥)
       → Parted p keys features k r c (childKey κ k 1) at
-      → Parted p keys features k r (c + 2 ^ k) (childKey κ k 2) (endOf keys k (childKey κ k 1) at)
-      → Parted p keys features k (r + 2 ^ k) c (childKey κ k 3) (endOf keys k (childKey κ k 2) (endOf keys k (childKey κ k 1) at))
+      → Parted p keys features k r (c + 2 ^ k) (childKey κ k 2) (leavesEnd keys k (childKey κ k 1) at)
+      → Parted p keys features k (r + 2 ^ k) c (childKey κ k 3) (leavesEnd keys k (childKey κ k 2) (leavesEnd keys k (childKey κ k 1) at))
       → Parted p keys features k (r + 2 ^ k) (c + 2 ^ k) (childKey κ k 4)
-      (endOf keys k (childKey κ k 3) (endOf keys k (childKey κ k 2) (endOf keys k (childKey κ k 1) at)))
+      (leavesEnd keys k (childKey κ k 3) (leavesEnd keys k (childKey κ k 2) (leavesEnd keys k (childKey κ k 1) at)))
       → Parted p keys features (suc k) r c κ at
 
 -- a block with its step, and leaves whose features are slots
@@ -43,7 +43,7 @@ pub record Asked (keys features : List ℕ) (height step key : ℕ) : Type 0 whe
 
 -- the leaves of a block were passed; where they are its leaves, these are its bits and its records
 pub record Passed (keys features : List ℕ) (height key at next bits count : ℕ) : Type 0 where
-  pub next-is : next ≡ endOf keys height key at
+  pub next-is : next ≡ leavesEnd keys height key at
   pub small : count ≤ 5 ^ height
   pub tally : (p : Picture) (r c : ℕ) → Parted p keys features height r c key at → Tallied p height r c bits count
 
@@ -57,6 +57,6 @@ pub record Ready (leafKeys leafFeatures : List ℕ) (height key at place : ℕ) 
 
 -- the leaves of a block were passed, and the records below it written
 pub record Laid (leafKeys leafFeatures : List ℕ) (height key at place : ℕ) (keys bits keys′ bits′ : List ℕ) (union next end : ℕ) : Type 0 where
-  pub end-is : end ≡ endOf leafKeys height key at
+  pub end-is : end ≡ leavesEnd leafKeys height key at
   pub written : (p : Picture) (r c : ℕ) → Parted p leafKeys leafFeatures height r c key at
       → Written p height r c key place keys bits keys′ bits′ union next

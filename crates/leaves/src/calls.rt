@@ -1,7 +1,6 @@
 // The two calls of leaf lists. They refuse by their tables, and require nothing.
 ghost use mathlib.Core.Path.{_≡_};
 ghost use mathlib.Core.Bool.{false, cond};
-ghost use Prim.Native.Nat.{min};
 ghost use lib.ListN.{length};
 ghost use Rattle.definitions.specs.Leaves.{isDelivery};
 ghost use Rattle.definitions.specs.Refusal.{badSettings};

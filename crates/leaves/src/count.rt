@@ -2,7 +2,6 @@
 // Nothing is written.
 ghost use mathlib.Core.Path.{_≡_};
 ghost use mathlib.Core.Bool.{false, cond};
-ghost use Prim.Native.Nat.{_≤_};
 ghost use lib.ListN.{length};
 ghost use Rattle.definitions.specs.List.{listOfPicture};
 ghost use Rattle.definitions.specs.Read.{paired};

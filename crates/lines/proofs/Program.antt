@@ -6,7 +6,7 @@ use mathlib.Core.List.{List}
 use native.Mathlib.Omega.{arith}
 use native.Mathlib.Nat.{le-of-eq}
 use lib.ListN.{length, take, drop, getD, replicate, length-drop, length-replicate, length-append, length-map}
-use lib.Seq.{take-all, take-at, length-take-le}
+use lib.Seq.{take-all, length-take-le}
 use Rattle.keys.specs.Key.{rootKey}
 use Rattle.definitions.specs.Picture.{pictureOfRaster}
 use Rattle.definitions.specs.List.{Record, listOfRaster, keysOf, valuesOf}
@@ -199,10 +199,6 @@ module _ {input keys bits out keys′ bits′ out′ : List ℕ} {r : ℕ} (p : 
   -- its part is as long as it says
   pub part-length : r ≡ length (take r out′)
   part-length = sym (length-take-le r out′ within)
-
-  -- and holds what the program prints for the input
-  pub first-bytes : take r out′ ≡ listed input
-  first-bytes = ap (take r) (p .bytes) ∙ take-at (listed input) _ r (sym (p .count))
 
 -- one result, and one final content of each slice, is possible
 pub printed-once : {input keys bits out k b o k′ b′ o′ : List ℕ} {r r′ : ℕ} → Printed input keys bits out k b o r

@@ -1,9 +1,9 @@
 -- What an accepted list gives a caller: it is the list of the picture that it shows, its records are there, its keys ascend in the map's interval,
 -- and its bits are below 2 ^ s. And the list of a picture is accepted. Rests on definitions' Records and ReadBack.
 use Prim.Native.Nat.{ℕ, zero, suc, _+_, _*_, _^_, _≤_, _<_}
-use mathlib.Core.Path.{_≡_, refl, sym, _∙_, ap, subst}
+use mathlib.Core.Path.{_≡_, sym, _∙_, ap, subst}
 use mathlib.Core.Bool.{true}
-use mathlib.Core.List.{List, [], _∷_, List·Memᴰ, List·Memᴰ·head, List·Memᴰ·tail}
+use mathlib.Core.List.{List}
 use native.Mathlib.Nat.{zero-add}
 use native.Mathlib.Omega.{arith}
 use lib.Dec.{leb}
@@ -13,18 +13,15 @@ use Rattle.keys.specs.Key.{rootKey, heightOf}
 use Rattle.keys.specs.Block.{rowOf, columnOf}
 use Rattle.keys.proofs.Cases.{and-left, and-right, and-both}
 use Rattle.definitions.specs.Picture.{Picture, featuresBelow}
-use Rattle.definitions.specs.List.{Record, keysOf, valuesOf, listOf, listOfPicture}
+use Rattle.definitions.specs.List.{Record, keysOf, listOf, listOfPicture}
 use Rattle.definitions.specs.Read.{room, recordsOf, pictureOf, sameRecords, isListOfBlock, isList}
 use Rattle.definitions.specs.Log.{isContent}
 use Rattle.definitions.specs.Edit.{contentOf}
-use Rattle.laws.proofs.Features.{below-under}
-use Rattle.laws.proofs.BitsOf.{bits-below}
 use Rattle.laws.proofs.Ascending.{Ascending, none, next, ascending-bounds}
-use Rattle.laws.proofs.ListOf.{list-first, list-ascends, list-some, list-most}
-use Rattle.laws.proofs.Listed.{listed-under, listed-to}
+use Rattle.laws.proofs.ListOf.{list-ascends, list-some, list-most}
 use Rattle.laws.proofs.ReadBack.{root-keys}
 use Rattle.laws.proofs.IsList.{same-to, list-passes}
-use Rattle.laws.proofs.Records.{records-length, key-at, value-at}
+use Rattle.laws.proofs.Records.{records-length}
 
 -- the records l are the list of the block of height k at row r and column c with key κ, as they show it
 pub record BlockList (m s k r c κ : ℕ) (l : List Record) : Type 0 where
@@ -75,23 +72,6 @@ keys-ascend zero (suc j) (next h a) u v = key-from j a (omega arith)
 keys-ascend (suc i) zero (next h a) u v = absurd (omega arith)
 keys-ascend (suc i) (suc j) (next h a) u v = keys-ascend i j a (omega arith) (omega arith)
 
--- what holds of every record's value holds at each place
-value-where : (P : ℕ → Type 0) (l : List Record) (i : ℕ) → ((x : Record) → List·Memᴰ x l → P (x .value)) → i < length l → P (getD (valuesOf l) i 0)
-value-where P [] i h v = absurd (omega arith)
-value-where P (x ∷ l) zero h v = h x (List·Memᴰ·head refl)
-value-where P (x ∷ l) (suc i) h v = value-where P l i (λ y m. h y (List·Memᴰ·tail m)) (omega arith)
-
--- the bits of a list's records are below 2 ^ s
-pub value-small : (s : ℕ) (p : Picture) (k r c κ i : ℕ) → featuresBelow s p k r c ≡ true → i < length (listOf p k r c κ)
-    → getD (valuesOf (listOf p k r c κ)) i 0 < 2 ^ s
-value-small s p k r c κ i below h = value-where (λ v. v < 2 ^ s) (listOf p k r c κ) i
-    (λ x m.
-    let of = listed-to p k r c κ x m in
-    let small = bits-below s p (of .height) (of .row) (of .column) (below-under s p (listed-under (of .listed)) below) in
-    let is = ap (λ y. y .value) (of .is) in
-    omega arith)
-    h
-
 -- the first n records are a list at m and s
 pub record Accepted (m s : ℕ) (K B : List ℕ) (n : ℕ) : Type 0 where
   pub in-keys : n ≤ length K
@@ -127,39 +107,3 @@ unfolding isList
 list-accepted m s p K B n in-keys in-bits below is =
     and-both (leb n (room K B)) (isListOfBlock m s m 0 0 rootKey (recordsOf K B n)) (le-leb n (room K B) (omega arith))
     (ap (isListOfBlock m s m 0 0 rootKey) is ∙ list-passes m s p m 0 0 rootKey (root-keys m) below)
-
--- of an accepted list, place by place
-module _ {m s : ℕ} {K B : List ℕ} {n : ℕ} (a : Accepted m s K B n) where
-  -- a smaller place has a smaller key
-  pub accepted-ascend : (i j : ℕ) → i < j → j < n → getD K i 0 < getD K j 0
-  accepted-ascend i j u v =
-      let size = records-length K B n (a .in-keys) (a .in-bits) in
-      let at-i = key-at K B n (a .in-keys) (a .in-bits) i (omega arith) in
-      let at-j = key-at K B n (a .in-keys) (a .in-bits) j v in
-      let h = keys-ascend i j (a .ascends) u (omega arith) in
-      omega arith
-
-  -- the keys are numbers of m digits
-  pub accepted-keys : (i : ℕ) → i < n → getD K i 0 < 5 ^ m
-  accepted-keys i v =
-      let size = records-length K B n (a .in-keys) (a .in-bits) in
-      let at-i = key-at K B n (a .in-keys) (a .in-bits) i v in
-      let h = key-below i (a .ascends) (omega arith) in
-      omega arith
-
-  -- the bits have slots below s
-  pub accepted-bits : (i : ℕ) → i < n → getD B i 0 < 2 ^ s
-  accepted-bits i v =
-      let p = pictureOf m (recordsOf K B n) in
-      let size = records-length K B n (a .in-keys) (a .in-bits) in
-      let same = ap length (a .is) in
-      let value : getD (valuesOf (listOfPicture m p)) i 0 ≡ getD B i 0 =
-      ap (λ l. getD (valuesOf l) i 0) (sym (a .is)) ∙ value-at K B n (a .in-keys) (a .in-bits) i v in
-      let h = value-small s p m 0 0 rootKey i (a .below) (omega arith) in
-      omega arith
-
-  -- the first record is the root's
-  pub accepted-first : getD K 0 0 ≡ rootKey
-  accepted-first =
-      let first = list-first (pictureOf m (recordsOf K B n)) m 0 0 rootKey in
-      sym (key-at K B n (a .in-keys) (a .in-bits) 0 (omega (arith, a .some))) ∙ ap (λ l. getD (keysOf l) 0 0) (a .is ∙ first .1)

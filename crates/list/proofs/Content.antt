@@ -17,7 +17,7 @@ use Rattle.definitions.specs.List.{Record}
 use Rattle.definitions.specs.Read.{room, paired, recordsOf, isList}
 use Rattle.definitions.specs.Log.{isContent}
 use Rattle.laws.proofs.Records.{paired-length}
-use Rattle.list.specs.Check.{oneSlot, Outcome, wrong, left, placeOf, afterOwn, afterNode}
+use Rattle.list.specs.Check.{oneSlot, Outcome, wrong, left, restPlace, afterOwn, afterNode}
 use Rattle.list.proofs.Children.{own-leaf, own-node}
 use Rattle.list.proofs.Places.{record-at}
 use Rattle.list.proofs.Accepts.{isWhole, accepts, accepts-content}
@@ -40,8 +40,8 @@ no-records m s κ K B n valid none =
     sym (ap (Answer m s κ K B) none ∙ ap (λ b. leb 0 (room K B) && b) (accepts-content m s κ [] valid) ∙ and-false (leb 0 (room K B)))
 
 -- the place after a node's records is the end exactly when none is left
-whole-place : (n : ℕ) (o : Outcome) → 0 < n → eqb (placeOf n o) n ≡ isWhole o
-unfolding placeOf isWhole
+whole-place : (n : ℕ) (o : Outcome) → 0 < n → eqb (restPlace n o) n ≡ isWhole o
+unfolding restPlace isWhole
 whole-place n wrong h = ne-eqb 0 n (omega arith)
 whole-place n (left l) h =
     decide (eqb (length l) 0)
@@ -109,11 +109,11 @@ module _ {m κ : ℕ} {K B : List ℕ} {n : ℕ} (st : Stand m κ K B n) where
 
       -- a node ends at the end
       pub many-records : (place : ℕ) → oneSlot (getD B 0 0) ≡ false
-          → place ≡ placeOf (length (take n K)) (afterNode (heightOf m κ) κ (getD B 0 0) after)
+          → place ≡ restPlace (length (take n K)) (afterNode (heightOf m κ) κ (getD B 0 0) after)
           → eqb place n ≡ Answer m s κ K B n
       many-records place other e =
           let o = afterNode (heightOf m κ) κ (getD B 0 0) after in
-          ap (λ x. eqb x n) (e ∙ ap (λ x. placeOf x o) keys-length)
+          ap (λ x. eqb x n) (e ∙ ap (λ x. restPlace x o) keys-length)
           ∙ whole-place n o (let z = st .some in omega arith)
           ∙ sym (first-right ∙ ap isWhole (own-node (afterNode (heightOf m κ)) κ (getD B 0 0) after other))
 

@@ -16,10 +16,9 @@ use Rattle.keys.proofs.Interval.{within}
 use Rattle.keys.proofs.Valid.{valid-block}
 use Rattle.definitions.specs.Picture.{Picture, oneFeature}
 use Rattle.definitions.specs.Bits.{bitsOf}
-use Rattle.definitions.specs.List.{Record, keysOf, listOf, listOfPicture}
+use Rattle.definitions.specs.List.{Record, keysOf, listOf}
 use Rattle.definitions.specs.Read.{recordsOf}
 use Rattle.definitions.specs.Standing.{placeOf, keyFound, isListed, recordsIn, standingOf, partLength}
-use Rattle.definitions.specs.declared.Standing.{Standing}
 use Rattle.definitions.specs.declared.Standing.the-variants.{Listed, Inside}
 use Rattle.laws.proofs.ListOf.{list-one, list-zero, list-node}
 use Rattle.list.specs.Check.{oneSlot}

@@ -1,6 +1,6 @@
 -- What a standing tells of the list of a picture (document 02, item 6): a listed block's number of records is the length of its list, which is the
 -- handed-back part's; the leaf's block contains the asked block, no other listed leaf does, and the level is that of the leaf's key. Rests on Fuller.
-use Prim.Native.Nat.{ℕ, _^_, _<_}
+use Prim.Native.Nat.{ℕ, _<_}
 use mathlib.Core.Path.{_≡_, sym, _∙_, ap, subst}
 use mathlib.Core.Bool.{true, false, true≢false}
 use mathlib.Core.Logic.{inr}
@@ -17,7 +17,6 @@ use Rattle.definitions.specs.Picture.{Picture, oneFeature}
 use Rattle.definitions.specs.List.{listOf, listOfPicture}
 use Rattle.definitions.specs.Standing.{placeOf, keyFound, isListed, standingOf, partLength}
 use Rattle.definitions.specs.declared.Standing.the-variants.{Listed, Inside}
-use Rattle.list.proofs.Placed.{Around}
 use Rattle.list.proofs.Lookup.{InLeaf, lookup-listed, lookup-inside, around-key}
 use Rattle.list.proofs.PartLength.{records-in}
 use Rattle.list.proofs.Fuller.{listed-numbers, inside-numbers, listed-part}

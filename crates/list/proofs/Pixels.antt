@@ -12,7 +12,7 @@ use Rattle.keys.proofs.Cases.{decide}
 use Rattle.definitions.specs.List.{Record, recordOf}
 use Rattle.definitions.specs.Read.{paired}
 use Rattle.laws.proofs.Records.{paired-length}
-use Rattle.list.specs.Check.{oneSlot, wrong, left, placeOf, afterChildren, afterNode}
+use Rattle.list.specs.Check.{oneSlot, wrong, left, restPlace, afterChildren, afterNode}
 use Rattle.list.proofs.Children.{own-leaf, own-node, node-zero, node-suc, children-none, children-from, children-short, children-other, children-wrong}
 use Rattle.list.proofs.Places.{record-at, place-of}
 
@@ -56,7 +56,7 @@ isPixel κ k bits = eqb k κ && oneSlot bits
 -- what the function answers: whether the next four records are the block's
 abbrev pub Right : List ℕ → List ℕ → ℕ → ℕ → ℕ → Bool → Type 0
 Right K B first κ own r =
-    (r ≡ true → first + 4 ≤ length K) × (cond r (first + 4) 0 ≡ placeOf (length K) (afterNode 1 κ own (drop first (paired K B))))
+    (r ≡ true → first + 4 ≤ length K) × (cond r (first + 4) 0 ≡ restPlace (length K) (afterNode 1 κ own (drop first (paired K B))))
 
 -- where the block does not end after four records, and where it does, the place
 pub right-false : (r : Bool) (place answer : ℕ) → r ≡ false → cond r place 0 ≡ answer → 0 ≡ answer
@@ -89,20 +89,20 @@ four-records κ own k₁ b₁ k₂ b₂ k₃ b₃ k₄ b₄ l =
     ∙ ap (λ u. cond t₁ (cond t₂ (cond t₃ (cond t₄ (cond (eqb (bitOr (bitOr (bitOr u b₂) b₃) b₄) own) (left l) wrong) wrong) wrong) wrong) wrong) (or-zero-l b₁)
     ∙ in-turn t₁ t₂ t₃ t₄ (eqb (bitOr (bitOr (bitOr b₁ b₂) b₃) b₄) own) (left l) wrong
 
-place-if : (n place : ℕ) (b : Bool) (l : List Record) → placeOf n (left l) ≡ place → placeOf n (cond b (left l) wrong) ≡ cond b place 0
-unfolding placeOf
+place-if : (n place : ℕ) (b : Bool) (l : List Record) → restPlace n (left l) ≡ place → restPlace n (cond b (left l) wrong) ≡ cond b place 0
+unfolding restPlace
 place-if n place false l e = refl
 place-if n place true l e = e
 
 module _ (K B : List ℕ) (first κ own : ℕ) (size : length K ≡ length B) where
   -- fewer than four records are left
   pub too-few : length K - first < 4 → Right K B first κ own false
-  unfolding placeOf
+  unfolding restPlace
   too-few h =
       let d = length-drop first (paired K B) in
       let n = paired-length K B size in (
         λ e. let z : _≡_ {A = ℕ} 0 1 = cc in omega arith,
-        sym (ap (placeOf (length K)) (node-suc 0 κ own (drop first (paired K B)) ∙ few-pixels κ 1 own 4 0 (drop first (paired K B)) (omega arith))),
+        sym (ap (restPlace (length K)) (node-suc 0 κ own (drop first (paired K B)) ∙ few-pixels κ 1 own 4 0 (drop first (paired K B)) (omega arith))),
       )
 
   -- the tests of the next four records
@@ -139,7 +139,7 @@ module _ (K B : List ℕ) (first κ own : ℕ) (size : length K ≡ length B) wh
     decides r e = (
       λ z. omega arith,
       ap (λ x. cond x (first + 4) 0) e
-          ∙ sym (ap (placeOf (length K)) (ap (afterNode 1 κ own) next-four ∙ four-records κ own _ _ _ _ _ _ _ _ (drop (first + 4) (paired K B)))
+          ∙ sym (ap (restPlace (length K)) (ap (afterNode 1 κ own) next-four ∙ four-records κ own _ _ _ _ _ _ _ _ (drop (first + 4) (paired K B)))
           ∙ place-if (length K) (first + 4) ((((nw && ne) && sw) && se) && eqb union own) (drop (first + 4) (paired K B))
           (place-of (paired K B) (first + 4) (length K) (sym (paired-length K B size)) (omega arith))),
     )

@@ -11,7 +11,7 @@ use Rattle.definitions.specs.List.{Record, recordOf}
 use Rattle.definitions.specs.Read.{paired}
 use Rattle.laws.proofs.ListOf.{list-first}
 use Rattle.laws.proofs.Records.{paired-length}
-use Rattle.list.specs.Check.{Outcome, wrong, left, placeOf, afterOwn, afterNode}
+use Rattle.list.specs.Check.{Outcome, wrong, left, restPlace, afterOwn, afterNode}
 use Rattle.list.proofs.Sound.{sound}
 
 records-from : (K B : List ℕ) (i : ℕ) → length K ≡ length B → i < length K → drop i (paired K B) ≡ recordOf (getD K i 0) (getD B i 0) ∷ drop (suc i) (paired K B)
@@ -32,8 +32,8 @@ pub records-end : (K B : List ℕ) (i : ℕ) → length K ≡ length B → lengt
 records-end K B i same h = let e = paired-length K B same in drop-of-length-le (paired K B) {i = i} (omega arith)
 
 -- a list from a place on is what is left at that place
-pub place-of : (l : List Record) (i n : ℕ) → n ≡ length l → i ≤ n → placeOf n (left (drop i l)) ≡ i
-unfolding placeOf
+pub place-of : (l : List Record) (i n : ℕ) → n ≡ length l → i ≤ n → restPlace n (left (drop i l)) ≡ i
+unfolding restPlace
 place-of l i n e h = let j = length-drop i l in omega arith
 
 -- what is left at the end of a list begins where the list's other records end
@@ -60,11 +60,11 @@ pub record Told (l : List Record) (outcome : Outcome) (place : ℕ) : Type 0 whe
   pub within : place ≤ length l
 
 pub told : (k κ bits : ℕ) (l : List Record) (i n : ℕ) → n ≡ length l → 0 < i → i ≤ n
-    → Told l (afterOwn (afterNode k) κ bits (drop i l)) (placeOf n (afterOwn (afterNode k) κ bits (drop i l)))
-unfolding placeOf
+    → Told l (afterOwn (afterNode k) κ bits (drop i l)) (restPlace n (afterOwn (afterNode k) κ bits (drop i l)))
+unfolding restPlace
 told k κ bits l i n size above within = go (afterOwn (afterNode k) κ bits (drop i l)) refl
   where
-    go : (o : Outcome) → afterOwn (afterNode k) κ bits (drop i l) ≡ o → Told l o (placeOf n o)
+    go : (o : Outcome) → afterOwn (afterNode k) κ bits (drop i l) ≡ o → Told l o (restPlace n o)
     go wrong e = record { refused = λ z. refl; passed = λ z. absurd (z refl); within = omega arith }
     go (left rest) e =
         let b = block-leaves k κ bits (drop i l) rest e in

@@ -15,7 +15,7 @@ use Rattle.keys.proofs.Powers.{five-pos, five-le}
 use Rattle.definitions.specs.List.{Record, recordOf}
 use Rattle.definitions.specs.Read.{paired}
 use Rattle.laws.proofs.Records.{paired-length}
-use Rattle.list.specs.Check.{oneSlot, Outcome, wrong, left, placeOf, afterOwn, afterChildren, afterNode, stepUnder}
+use Rattle.list.specs.Check.{oneSlot, Outcome, wrong, left, restPlace, afterOwn, afterChildren, afterNode, stepUnder}
 use Rattle.list.proofs.Children.{own-leaf, own-node, node-zero, node-suc, children-none, children-from, children-short, children-other, children-wrong}
 use Rattle.list.proofs.Places.{record-at, records-end, place-of, told}
 
@@ -67,13 +67,13 @@ step-down j step e = ap (λ x. x / 5) e ∙ step-fifth j
 
 -- what the function answers
 abbrev pub Answer : List ℕ → List ℕ → ℕ → ℕ → ℕ → ℕ → ℕ → Type 0
-Answer K B first key own step r = (k : ℕ) → step ≡ stepUnder k → r ≡ placeOf (length K) (afterNode k key own (drop first (paired K B)))
+Answer K B first key own step r = (k : ℕ) → step ≡ stepUnder k → r ≡ restPlace (length K) (afterNode k key own (drop first (paired K B)))
 
 -- an answer at one height is the answer for that height's step
 pub at-height : (K B : List ℕ) (first key own k step r : ℕ) → step ≡ stepUnder k
-    → r ≡ placeOf (length K) (afterNode k key own (drop first (paired K B)))
+    → r ≡ restPlace (length K) (afterNode k key own (drop first (paired K B)))
     → Answer K B first key own step r
-at-height K B first key own k step r e h j f = h ∙ ap (λ x. placeOf (length K) (afterNode x key own (drop first (paired K B)))) (step-same k j (sym e ∙ f))
+at-height K B first key own k step r e h j f = h ∙ ap (λ x. restPlace (length K) (afterNode x key own (drop first (paired K B)))) (step-same k j (sym e ∙ f))
 
 -- before the turn of a digit: the children before it have passed, and the others decide
 pub record Passed (K B : List ℕ) (first key own step next union digit : ℕ) : Type 0 where
@@ -88,10 +88,10 @@ pub record Passed (K B : List ℕ) (first key own step next union digit : ℕ) :
 
 -- a pixel has no children
 pub pixel : (K B : List ℕ) (first key own step : ℕ) → step < 25 → (step ≡ 5 → ⊥) → (step ≡ 1 → ⊥) → Answer K B first key own step 0
-unfolding placeOf
+unfolding restPlace
 pixel K B first key own step low five one k e =
-    sym (ap (λ j. placeOf (length K) (afterNode j key own (drop first (paired K B)))) (step-low k step e low five one)
-    ∙ ap (placeOf (length K)) (node-zero key own (drop first (paired K B))))
+    sym (ap (λ j. restPlace (length K) (afterNode j key own (drop first (paired K B)))) (step-low k step e low five one)
+    ∙ ap (restPlace (length K)) (node-zero key own (drop first (paired K B))))
 
 pub begins : (K B : List ℕ) (first key own step : ℕ) → (length K ≡ length B) × (first ≤ length K) × (key + 5 * step < 2 ^ 32) → (step ≡ 0 → ⊥)
     → Passed K B first key own step first 0 1
@@ -108,11 +108,11 @@ begins K B first key own step pre positive = record {
 module _ {K B : List ℕ} {first key own step next union digit : ℕ} (p : Passed K B first key own step next union digit) where
   -- the answer is that of the children which are left
   pub answer : (r : ℕ)
-      → ((j : ℕ) → step ≡ 5 ^ j → r ≡ placeOf (length K) (afterChildren (afterNode j) key step own (5 - digit) union (drop next (paired K B))))
+      → ((j : ℕ) → step ≡ 5 ^ j → r ≡ restPlace (length K) (afterChildren (afterNode j) key step own (5 - digit) union (drop next (paired K B))))
       → Answer K B first key own step r
   answer r h k e =
-      step-some (λ x. r ≡ placeOf (length K) (afterNode x key own (drop first (paired K B)))) k step e (p .positive)
-      (λ j f. h j f ∙ ap (placeOf (length K)) (sym (p .same j f)))
+      step-some (λ x. r ≡ restPlace (length K) (afterNode x key own (drop first (paired K B)))) k step e (p .positive)
+      (λ j f. h j f ∙ ap (restPlace (length K)) (sym (p .same j f)))
 
   -- at the end: the union must be the block's own bits
   module _ (end : 5 ≤ digit) where
@@ -123,12 +123,12 @@ module _ {K B : List ℕ} {first key own step next union digit : ℕ} (p : Passe
 
     pub ends : union ≡ own → Answer K B first key own step next
     ends e = answer next
-        (λ j f. sym (ap (placeOf (length K)) (none-left j ∙ ap (λ b. cond b (left (drop next (paired K B))) wrong) (eq-eqb union own e))
+        (λ j f. sym (ap (restPlace (length K)) (none-left j ∙ ap (λ b. cond b (left (drop next (paired K B))) wrong) (eq-eqb union own e))
         ∙ place-of (paired K B) next (length K) (sym (paired-length K B (p .size))) (p .within)))
 
     pub differs : (union ≡ own → ⊥) → Answer K B first key own step 0
-    unfolding placeOf
-    differs e = answer 0 (λ j f. sym (ap (placeOf (length K)) (none-left j ∙ ap (λ b. cond b (left (drop next (paired K B))) wrong) (ne-eqb union own e))))
+    unfolding restPlace
+    differs e = answer 0 (λ j f. sym (ap (restPlace (length K)) (none-left j ∙ ap (λ b. cond b (left (drop next (paired K B))) wrong) (ne-eqb union own e))))
 
   module _ (turn : digit < 5) where
     -- a child's key fits, with the interval of keys below it
@@ -142,8 +142,8 @@ module _ {K B : List ℕ} {first key own step next union digit : ℕ} (p : Passe
     -- the answer is 0 where the model says that the records are wrong
     fails : ((j : ℕ) → step ≡ 5 ^ j → afterChildren (afterNode j) key step own (suc (4 - digit)) union (drop next (paired K B)) ≡ wrong)
         → Answer K B first key own step 0
-    unfolding placeOf
-    fails h = answer 0 (λ j f. sym (ap (placeOf (length K)) (rest j (drop next (paired K B)) ∙ h j f)))
+    unfolding restPlace
+    fails h = answer 0 (λ j f. sym (ap (restPlace (length K)) (rest j (drop next (paired K B)) ∙ h j f)))
 
     -- no record is left
     pub short : length K ≤ next → Answer K B first key own step 0
@@ -176,7 +176,7 @@ module _ {K B : List ℕ} {first key own step next union digit : ℕ} (p : Passe
         -- what a function for one height alone answers of its block
         pub child-at : (k : ℕ) → step / 5 ≡ stepUnder k
             → (after : ℕ)
-            → after ≡ placeOf (length K) (afterNode k x (getD B next 0) (drop (next + 1) (paired K B)))
+            → after ≡ restPlace (length K) (afterNode k x (getD B next 0) (drop (next + 1) (paired K B)))
             → Answer K B (next + 1) x (getD B next 0) (step / 5) after
         child-at k e after h = at-height K B (next + 1) x (getD B next 0) k (step / 5) after e h
 
@@ -193,7 +193,7 @@ module _ {K B : List ℕ} {first key own step next union digit : ℕ} (p : Passe
             here j wrong
             (ap (λ y. afterChildren (afterNode j) key step own (suc (4 - digit)) union (recordOf y (getD B next 0) ∷ drop (next + 1) (paired K B))) child
             ∙ children-wrong (afterNode j) key step own (4 - digit) union (getD B next 0) (drop (next + 1) (paired K B)) x child-is
-            (t .refused (ap (placeOf (length K)) own-is ∙ sym (h j (step-down j step f)) ∙ none))))
+            (t .refused (ap (restPlace (length K)) own-is ∙ sym (h j (step-down j step f)) ∙ none))))
 
         -- its block ends before the place `after`, and the next digit's turn comes
         pub goes : (after : ℕ) → after ≤ length K
@@ -230,5 +230,5 @@ module _ {K B : List ℕ} {first key own step next union digit : ℕ} (p : Passe
             (λ j f.
             let own-is = own-node (afterNode j) x (getD B next 0) (drop (next + 1) (paired K B)) node in
             let t = told j x (getD B next 0) (paired K B) (next + 1) (length K) (sym (paired-length K B (p .size))) (omega arith) (omega arith) in
-            let place = h j (step-down j step f) ∙ ap (placeOf (length K)) (sym own-is) in
+            let place = h j (step-down j step f) ∙ ap (restPlace (length K)) (sym own-is) in
             t .passed (λ z. good (place ∙ z)) ∙ ap (λ y. left (drop y (paired K B))) (sym place))

@@ -23,9 +23,9 @@ andThen wrong more = wrong
 andThen (left l) more = more l
 
 -- the place among n records where those that are left begin, and 0 where the block's are wrong
-unfoldable pub placeOf : ℕ → Outcome → ℕ
-placeOf n wrong = 0
-placeOf n (left l) = n - length l
+unfoldable pub restPlace : ℕ → Outcome → ℕ
+restPlace n wrong = 0
+restPlace n (left l) = n - length l
 
 -- after a block's own record: of a leaf nothing more follows
 unfoldable pub afterOwn : (ℕ → ℕ → List Record → Outcome) → ℕ → ℕ → List Record → Outcome

@@ -8,7 +8,7 @@ ghost use lib.Dec.{leb, eqb};
 ghost use Rattle.keys.specs.Key.{slotLimit, validKey};
 ghost use Rattle.definitions.specs.Read.{room, paired, recordsOf, isList};
 ghost use Rattle.definitions.specs.Log.{isContent};
-ghost use Rattle.list.specs.Check.{oneSlot, placeOf, afterNode, stepUnder};
+ghost use Rattle.list.specs.Check.{oneSlot, restPlace, afterNode, stepUnder};
 use keys::Key;
 use keys::power;
 
@@ -35,7 +35,7 @@ fn four_pixels(keys: &[u32], bits: &[u32], first: usize, key: u32, own: u32) -> 
     requires { ⌜ (length (now keys) ≡ length (now bits)) × (first ≤ length (now keys)) × (key + 5 < 2 ^ 32) ⌝ }
     ensures { λ r. ⌜ (r ≡ true → first + 4 ≤ length (now (keys .entry)))
         × (cond r (first + 4) 0
-        ≡ placeOf (length (now (keys .entry))) (afterNode 1 key own (drop first (paired (now (keys .entry)) (now (bits .entry)))))) ⌝ }
+        ≡ restPlace (length (now (keys .entry))) (afterNode 1 key own (drop first (paired (now (keys .entry)) (now (bits .entry)))))) ⌝ }
 {
     if keys.len() - first < 4 {
         return false;
@@ -63,7 +63,7 @@ fn four_pixels(keys: &[u32], bits: &[u32], first: usize, key: u32, own: u32) -> 
 fn after_sixteen(keys: &[u32], bits: &[u32], first: usize, key: u32, own: u32) -> usize
     requires { ⌜ (length (now keys) ≡ length (now bits)) × (first ≤ length (now keys)) × (key + 25 < 2 ^ 32) ⌝ }
     ensures { λ r. ⌜ (r ≤ length (now (keys .entry)))
-        × (r ≡ placeOf (length (now (keys .entry))) (afterNode 2 key own (drop first (paired (now (keys .entry)) (now (bits .entry)))))) ⌝ }
+        × (r ≡ restPlace (length (now (keys .entry))) (afterNode 2 key own (drop first (paired (now (keys .entry)) (now (bits .entry)))))) ⌝ }
 {
     let mut next = first;
     let mut union = 0;
@@ -96,7 +96,7 @@ fn after_low(keys: &[u32], bits: &[u32], first: usize, key: u32, own: u32, step:
     ensures { λ r. ⌜ (r ≤ length (now (keys .entry)))
         × ((k : ℕ)
         → step ≡ stepUnder k
-        → r ≡ placeOf (length (now (keys .entry))) (afterNode k key own (drop first (paired (now (keys .entry)) (now (bits .entry)))))) ⌝ }
+        → r ≡ restPlace (length (now (keys .entry))) (afterNode k key own (drop first (paired (now (keys .entry)) (now (bits .entry)))))) ⌝ }
 {
     if step == 5 {
         return after_sixteen(keys, bits, first, key, own);
@@ -118,7 +118,7 @@ fn after_node(keys: &[u32], bits: &[u32], first: usize, key: u32, own: u32, step
     ensures { λ r. ⌜ (r ≤ length (now (keys .entry)))
         × ((k : ℕ)
         → step ≡ stepUnder k
-        → r ≡ placeOf (length (now (keys .entry))) (afterNode k key own (drop first (paired (now (keys .entry)) (now (bits .entry)))))) ⌝ }
+        → r ≡ restPlace (length (now (keys .entry))) (afterNode k key own (drop first (paired (now (keys .entry)) (now (bits .entry)))))) ⌝ }
 {
     if step < 25 {
         return after_low(keys, bits, first, key, own, step);

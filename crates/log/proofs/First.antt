@@ -1,10 +1,10 @@
 -- The walk back to the first step: what is passed leaves the first step what it is, and a step with nothing before it is the first. Rests on StepPlaces.
 use Prim.Native.Nat.{ℕ, _+_, _≤_, _<_}
-use mathlib.Core.Path.{_≡_, refl, sym, ap, _∙_, subst}
+use mathlib.Core.Path.{_≡_, refl, sym, ap, _∙_}
 use mathlib.Core.Bool.{true}
 use mathlib.Core.List.{List, _++_}
 use native.Mathlib.Omega.{arith}
-use lib.ListN.{length, take, length-append}
+use lib.ListN.{length, take}
 use lib.Seq.{take-length, take-append-le}
 use Rattle.keys.proofs.Cases.{equal}
 use Rattle.definitions.specs.List.{Record}

@@ -6,12 +6,12 @@ use mathlib.Core.Bool.{Bool, true, false, _&&_}
 use mathlib.Core.List.{List}
 use native.Mathlib.Omega.{arith}
 use lib.ListN.{length, getD, take}
-use lib.Dec.{leb, ltb, eqb}
+use lib.Dec.{ltb, eqb}
 use borrow.Author.Tests.{le-leb, lt-leb, eq-eqb, ne-eqb, lt-ltb, le-ltb}
 use Rattle.keys.specs.Key.{rootKey}
 use Rattle.definitions.specs.List.{Record}
 use Rattle.definitions.specs.Read.{recordsOf}
-use Rattle.definitions.specs.Log.{closingPlaces, countRecord, lastCount, endsInMark, stepCount, stepEntries, endsInEntries, lastIsEntry, lastIsGroup, lastIsStep}
+use Rattle.definitions.specs.Log.{closingPlaces, countRecord, endsInMark, stepCount, stepEntries, endsInEntries, lastIsGroup}
 use Rattle.laws.proofs.LastStep.{count-group, entries-group}
 use Rattle.laws.proofs.Records.{records-length, records-first}
 use Rattle.log.specs.Entries.{closingCount}

@@ -1,6 +1,6 @@
 -- The entries of a group by their places: between where the group starts and where its closing records stand there are so many entries as its number says.
 -- Rests on Walk and Group.
-use Prim.Native.Nat.{ℕ, zero, suc, _-_, _≤_, _<_}
+use Prim.Native.Nat.{ℕ, zero, suc, _-_, _≤_}
 use mathlib.Core.Path.{_≡_, refl, sym, ap, ap₂, _∙_, subst}
 use mathlib.Core.Bool.{Bool, true}
 use mathlib.Core.List.{List}
@@ -11,7 +11,7 @@ use Rattle.definitions.specs.List.{Record}
 use Rattle.definitions.specs.Read.{recordsOf}
 use Rattle.definitions.specs.Log.{closingPlaces, beforeLast, lastIsEntry, endsInMark, stepCount, stepEntries, beforeEntries, beforeStep, endsInEntries, lastIsStep}
 use Rattle.laws.proofs.LogEntries.{ends-in-entry}
-use Rattle.laws.proofs.LastStep.{count-group, entries-group, before-entries-less, EndsInGroup, ends-in-group}
+use Rattle.laws.proofs.LastStep.{count-group, entries-group, before-entries-less, ends-in-group}
 use Rattle.laws.proofs.Records.{records-length}
 use Rattle.log.specs.Entries.{lastEntry, Ended}
 use Rattle.log.specs.Steps.{EntriesBetween, none-between, one-between}

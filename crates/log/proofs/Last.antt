@@ -15,7 +15,7 @@ use Rattle.laws.proofs.LogEntries.{content-not-empty, EndsInEntry}
 use Rattle.laws.proofs.SoundLog.{sound-ends}
 use Rattle.laws.proofs.Records.{records-length, records-at, records-run}
 use Rattle.log.specs.declared.entry.Entry.{Entry}
-use Rattle.log.specs.Entries.{closingKey, closingFeature, closingCount, lastEntry, Ended, run}
+use Rattle.log.specs.Entries.{closingKey, closingFeature, closingCount, lastEntry, Ended, recordsFromPlace}
 
 -- the last record stands in the last place that is used
 pub last-record-at : (keys values : List ℕ) (used : ℕ) → used ≤ length keys → used ≤ length values → 0 < used
@@ -65,7 +65,7 @@ module _ {keys values : List ℕ} {used : ℕ} (e : Ended keys values used) wher
   entry-places = length-before log there ∙ size
 
   -- its content is a run of records
-  pub content-run : lastContent log ≡ run keys values (length (beforeLast log)) (lastCount log)
+  pub content-run : lastContent log ≡ recordsFromPlace keys values (length (beforeLast log)) (lastCount log)
   content-run =
       let all = entry-places in
       content-place log there ∙ records-run keys values used (length (beforeLast log)) (lastCount log) (omega arith)

@@ -13,7 +13,7 @@ use Rattle.definitions.specs.Log.{closingPlaces, lastCount, beforeLast, lastCon
 use Rattle.laws.proofs.LastEntry.{before-place}
 use Rattle.laws.proofs.Records.{paired-keys, paired-values, paired-length, records-first}
 use Rattle.log.specs.declared.entry.Entry.{Entry}
-use Rattle.log.specs.Entries.{lastEntry, Ended, run, contentPart}
+use Rattle.log.specs.Entries.{lastEntry, Ended, recordsFromPlace, contentPart}
 use Rattle.log.proofs.Last.{log, entry-places, content-run}
 
 -- a run that is there: its keys, its values, and how many records it has
@@ -24,13 +24,13 @@ module _ (keys values : List ℕ) (place count : ℕ) (fits : place + count ≤ 
   values-there : length (take count (drop place values)) ≡ count
   values-there = let e = length-drop place values in length-take-le count (drop place values) (omega arith)
 
-  pub run-keys : keysOf (run keys values place count) ≡ take count (drop place keys)
+  pub run-keys : keysOf (recordsFromPlace keys values place count) ≡ take count (drop place keys)
   run-keys = paired-keys _ _ (keys-there ∙ sym values-there)
 
-  pub run-values : valuesOf (run keys values place count) ≡ take count (drop place values)
+  pub run-values : valuesOf (recordsFromPlace keys values place count) ≡ take count (drop place values)
   run-values = paired-values _ _ (keys-there ∙ sym values-there)
 
-  pub run-length : length (run keys values place count) ≡ count
+  pub run-length : length (recordsFromPlace keys values place count) ≡ count
   run-length = paired-length _ _ (keys-there ∙ sym values-there) ∙ keys-there
 
 -- the last entry as it was found
@@ -54,8 +54,8 @@ module _ {keys values : List ℕ} {used : ℕ} (e : Ended keys values used) (las
       ∙ ap (λ n. take n (log e)) (sym start-is)
       ∙ records-first keys values used (last .start) (omega arith)
 
-  content-is : lastContent (log e) ≡ run keys values (last .start) (last .count)
-  content-is = content-run e ∙ sym (ap₂ (run keys values) start-is count-is)
+  content-is : lastContent (log e) ≡ recordsFromPlace keys values (last .start) (last .count)
+  content-is = content-run e ∙ sym (ap₂ (recordsFromPlace keys values) start-is count-is)
 
   -- the bits of its first record
   pub first-bits : 0 < last .count → getD (valuesOf (lastContent (log e))) 0 0 ≡ getD values (last .start) 0

@@ -1,7 +1,7 @@
 -- The last step of a log in two slices: what stands before it are the first records, and what a log that ends in a step says of the step that code finds.
 -- Rests on Places and Group.
 use Prim.Native.Nat.{ℕ, zero, suc, _-_, _≤_, _<_}
-use mathlib.Core.Path.{_≡_, refl, sym, ap, ap₂, _∙_}
+use mathlib.Core.Path.{_≡_, sym, ap, ap₂, _∙_}
 use mathlib.Core.Bool.{Bool, true, false, not}
 use mathlib.Core.List.{List}
 use native.Mathlib.Omega.{arith}
@@ -11,7 +11,7 @@ use borrow.Author.Tests.{not-true, not-false}
 use Rattle.keys.proofs.Cases.{decide}
 use Rattle.definitions.specs.List.{Record}
 use Rattle.definitions.specs.Read.{recordsOf}
-use Rattle.definitions.specs.Log.{closingPlaces, lastCount, beforeLast, endsInMark, stepCount, stepEntries, beforeEntries, beforeStep, endsInEntries, lastIsStep}
+use Rattle.definitions.specs.Log.{closingPlaces, lastCount, beforeLast, endsInMark, stepEntries, beforeEntries, beforeStep, endsInEntries}
 use Rattle.laws.proofs.LastEntry.{before-place}
 use Rattle.laws.proofs.LogEntries.{ends-in-entry}
 use Rattle.laws.proofs.LastStep.{entries-single, before-single, step-single, before-group, entries-group, before-entries-less, before-step-less, EndsInGroup, ends-in-group}
@@ -21,7 +21,6 @@ use Rattle.log.specs.declared.step.Step.{Step}
 use Rattle.log.specs.Entries.{closingCount, lastEntry, Ended}
 use Rattle.log.specs.Steps.{lastStep, EntriesLast, Stepped}
 use Rattle.log.proofs.Last.{last-count-at, entry-ended}
-use Rattle.log.proofs.Places.{start-is}
 use Rattle.log.proofs.GroupChecked.{entries-at}
 
 -- before entries stand the first records, so many as there are
@@ -59,12 +58,6 @@ module _ (keys values : List ℕ) (used : ℕ) (in-keys : used ≤ length keys) 
 
   pub step-start : last .start ≡ length (beforeStep l)
   step-start = ap (λ x. x .start) found
-
-  pub step-end : last .end ≡ length (stepEntries l)
-  step-end = ap (λ x. x .end) found
-
-  pub step-grouped : last .grouped ≡ endsInMark l
-  step-grouped = ap (λ x. x .grouped) found
 
   -- a step has places
   pub start-below : 0 < used → last .start < used

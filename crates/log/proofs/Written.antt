@@ -13,7 +13,7 @@ use Rattle.definitions.specs.Buffer.{overAt}
 use Rattle.definitions.specs.Log.{closed}
 use Rattle.laws.proofs.LastEntry.{length-closed}
 use Rattle.log.specs.declared.entry.Entry.{Entry}
-use Rattle.log.specs.Entries.{run, Loggable, Logged, Cleared}
+use Rattle.log.specs.Entries.{recordsFromPlace, Loggable, Logged, Cleared}
 use Rattle.log.proofs.Places.{run-keys, run-values, run-length}
 
 -- a run of so many numbers and two more, stored behind it
@@ -46,13 +46,13 @@ pub entry-written : {new : Entry} {keys bits : List ℕ} {place : ℕ} {old valu
     → values₁ ≡ sets values (new .start) (take (new .count) (drop place bits))
     → old′ ≡ set (set old₁ (new .start + new .count) (new .key)) (new .start + new .count + 1) (new .key)
     → values′ ≡ set (set values₁ (new .start + new .count) (new .count)) (new .start + new .count + 1) (new .feature)
-    → Logged (closed (new .key) (run keys bits place (new .count)) (new .feature)) (new .start) old values old′ values′ (new .start + new .count + 2)
+    → Logged (closed (new .key) (recordsFromPlace keys bits place (new .count)) (new .feature)) (new .start) old values old′ values′ (new .start + new .count + 2)
 entry-written {new} {keys} {bits} {place} {old} {values} {old₁} {values₁} {old′} {values′} can first second third fourth =
     let there = can .content-there in
     let fits = can .fits in
     let start : ℕ = new .start in
     let count : ℕ = new .count in
-    let content : List Record = run keys bits place count in
+    let content : List Record = recordsFromPlace keys bits place count in
     let size : length content ≡ count = run-length keys bits place count there in
     let a = length-map content (λ x. x .key) in
     let b = length-map content (λ x. x .value) in

@@ -37,8 +37,8 @@ pub record Ended (keys values : List ℕ) (used : ℕ) : Type 0 where
   pub all-there : lastCount (recordsOf keys values used) + closingPlaces ≤ used
 
 -- so many records of two slices as count says, from a place on
-abbrev pub run : List ℕ → List ℕ → ℕ → ℕ → List Record
-run keys bits place count = paired (take count (drop place keys)) (take count (drop place bits))
+abbrev pub recordsFromPlace : List ℕ → List ℕ → ℕ → ℕ → List Record
+recordsFromPlace keys bits place count = paired (take count (drop place keys)) (take count (drop place bits))
 
 -- the part of a slice of the log that an entry's content is lent as
 abbrev pub contentPart : Entry → List ℕ → List ℕ

@@ -4,7 +4,7 @@ ghost use Prim.Native.Nat.{_+_, _≤_, _<_, _^_};
 ghost use lib.ListN.{length};
 ghost use Rattle.definitions.specs.Read.{room, recordsOf};
 ghost use Rattle.definitions.specs.Log.{closed, closingPlaces};
-ghost use Rattle.log.specs.Entries.{closingCount, isClosed, lastEntry, Ended, run, Loggable, Logged, Cleared};
+ghost use Rattle.log.specs.Entries.{closingCount, isClosed, lastEntry, Ended, recordsFromPlace, Loggable, Logged, Cleared};
 
 // The block's key, the place in the log where the content starts, how many records that has, and the feature that the block was painted with.
 pub struct Entry {
@@ -74,7 +74,7 @@ pub fn write_entry(
     log_values: &mut [u32],
 ) -> usize
     requires { ⌜ Loggable new (now keys) (now bits) place (now «log_keys») (now «log_values») ⌝ }
-    ensures { λ r. ⌜ Logged (closed (new .key) (run (now (keys .entry)) (now (bits .entry)) place (new .count)) (new .feature)) (new .start)
+    ensures { λ r. ⌜ Logged (closed (new .key) (recordsFromPlace (now (keys .entry)) (now (bits .entry)) place (new .count)) (new .feature)) (new .start)
         (now («log_keys» .entry)) (now («log_values» .entry)) (now («log_keys» .exit)) (now («log_values» .exit)) r ⌝ }
 {
     let key = new.key;

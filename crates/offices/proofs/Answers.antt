@@ -1,7 +1,7 @@
 -- What adding and removing answer and leave: the result, and each of the three slices, where the call is refused and where it is done. Rests on Decided and
 -- Moved.
 use Prim.Native.Nat.{ℕ, _+_, _-_}
-use mathlib.Core.Path.{_≡_, refl, sym, ap, _∙_}
+use mathlib.Core.Path.{_≡_, sym, ap, _∙_}
 use mathlib.Core.Bool.{cond}
 use mathlib.Core.List.{List, map}
 use native.Mathlib.Omega.{arith}
@@ -14,7 +14,7 @@ use Rattle.definitions.specs.Calls.AddWaiver.{addRefusal, addWaiver, addOffices
 use Rattle.definitions.specs.Calls.RemoveWaiver.{removeRefusal, removeWaiver, removeOffices, removeIds, removeKeys}
 use Rattle.laws.proofs.First.{accepted-done, accepted-left}
 use Rattle.laws.proofs.RowPlaces.{table-length, table-offices, table-ids, table-keys}
-use Rattle.offices.specs.Place.{placeIn, opened, closed}
+use Rattle.offices.specs.Place.{rowPlace, opened, gapClosed}
 use Rattle.offices.specs.Refusal.{refusedWith}
 use Rattle.offices.proofs.Moved.{slice-added, slice-removed}
 use Rattle.offices.proofs.Decided.{add-passed, add-room, remove-passed, remove-place, remove-same, holds, places}
@@ -70,21 +70,21 @@ module _ (m office : ℕ) (offices ids waived : List ℕ) (rows id key : ℕ) wh
     unfolding addWaiver
     add-result = λ i. record { refusal = sym done i; count = sym (accepted-done {refusal = adding} (rows + 1) (cond (eqb adding 12) 257 0) done) i }
 
-    pub add-offices : opened rows (placeIn w t) office offices ≡ addOffices m office offices ids waived rows id key
+    pub add-offices : opened rows (rowPlace w t) office offices ≡ addOffices m office offices ids waived rows id key
     unfolding addOffices
     add-offices =
         let room = add-room m office offices ids waived rows id key done in
         let full = places m office offices ids waived rows id key (add-passed m office offices ids waived rows id key done) .all-offices in
         slice-added (λ x. x .office) w w t offices rows size (table-offices offices ids waived rows h) (omega arith) ∙ sym (accepted-done _ offices done)
 
-    pub add-ids : opened rows (placeIn w t) id ids ≡ addIds m office offices ids waived rows id key
+    pub add-ids : opened rows (rowPlace w t) id ids ≡ addIds m office offices ids waived rows id key
     unfolding addIds
     add-ids =
         let room = add-room m office offices ids waived rows id key done in
         let full = places m office offices ids waived rows id key (add-passed m office offices ids waived rows id key done) .all-ids in
         slice-added (λ x. x .id) w w t ids rows size (table-ids offices ids waived rows h) (omega arith) ∙ sym (accepted-done _ ids done)
 
-    pub add-keys : opened rows (placeIn w t) key waived ≡ addKeys m office offices ids waived rows id key
+    pub add-keys : opened rows (rowPlace w t) key waived ≡ addKeys m office offices ids waived rows id key
     unfolding addKeys
     add-keys =
         let room = add-room m office offices ids waived rows id key done in
@@ -102,21 +102,21 @@ module _ (m office : ℕ) (offices ids waived : List ℕ) (rows id key : ℕ) wh
     unfolding removeWaiver
     remove-result = λ i. record { refusal = sym done i; count = sym (accepted-done {refusal = removing} (rows - 1) 0 done) i }
 
-    pub remove-offices : closed rows (placeIn w t) offices ≡ removeOffices m office offices ids waived rows id key
+    pub remove-offices : gapClosed rows (rowPlace w t) offices ≡ removeOffices m office offices ids waived rows id key
     unfolding removeOffices
     remove-offices =
         slice-removed (λ x. x .office) w w t offices rows size′ (table-offices offices ids waived rows h′) (remove-place m office offices ids waived rows id key done)
         (remove-same m office offices ids waived rows id key done) (h′ .in-offices)
         ∙ sym (accepted-done _ offices done)
 
-    pub remove-ids : closed rows (placeIn w t) ids ≡ removeIds m office offices ids waived rows id key
+    pub remove-ids : gapClosed rows (rowPlace w t) ids ≡ removeIds m office offices ids waived rows id key
     unfolding removeIds
     remove-ids =
         slice-removed (λ x. x .id) w w t ids rows size′ (table-ids offices ids waived rows h′) (remove-place m office offices ids waived rows id key done)
         (remove-same m office offices ids waived rows id key done) (h′ .in-ids)
         ∙ sym (accepted-done _ ids done)
 
-    pub remove-keys : closed rows (placeIn w t) waived ≡ removeKeys m office offices ids waived rows id key
+    pub remove-keys : gapClosed rows (rowPlace w t) waived ≡ removeKeys m office offices ids waived rows id key
     unfolding removeKeys
     remove-keys =
         slice-removed (λ x. x .key) w w t waived rows size′ (table-keys offices ids waived rows h′) (remove-place m office offices ids waived rows id key done)

@@ -11,7 +11,7 @@ use Rattle.keys.proofs.Cases.{and-left, and-right}
 use Rattle.definitions.specs.Offices.{Waiver, Holds, tableOf, rowsOf, rowsAscend, officesKnown, isSoundTable, isTable}
 use Rattle.laws.proofs.RowPlaces.{table-length}
 use Rattle.laws.proofs.Shares.{Sound, is-sound, known-exactly}
-use Rattle.offices.specs.Place.{timesIn}
+use Rattle.offices.specs.Place.{officeTimes}
 use Rattle.offices.proofs.Counted.{times-share}
 
 -- four tests and a fifth
@@ -97,20 +97,20 @@ module _ (offices ids waived : List ℕ) (rows : ℕ) where
     pub out-of-order : rowsAscend t ≡ false → false ≡ isTable offices ids waived rows
     out-of-order e = sym (table-is ∙ ap (λ b. b && (officesKnown t && (few 0 && few 1))) e)
 
-    share : (office count : ℕ) → count ≡ timesIn office (take rows offices) → count ≡ length (rowsOf office t)
+    share : (office count : ℕ) → count ≡ officeTimes office (take rows offices) → count ≡ length (rowsOf office t)
     share office count e = e ∙ times-share office offices ids waived rows (places-hold places)
 
-    too-many : (office count : ℕ) → count ≡ timesIn office (take rows offices) → 256 < count → few office ≡ false
+    too-many : (office count : ℕ) → count ≡ officeTimes office (take rows offices) → 256 < count → few office ≡ false
     too-many office count e past = let f = share office count e in lt-leb (length (rowsOf office t)) 256 (omega arith)
 
-    pub zero-past : (count : ℕ) → count ≡ timesIn 0 (take rows offices) → 256 < count → false ≡ isTable offices ids waived rows
+    pub zero-past : (count : ℕ) → count ≡ officeTimes 0 (take rows offices) → 256 < count → false ≡ isTable offices ids waived rows
     zero-past count e past = sym (table-is ∙ second-fails (rowsAscend t) (officesKnown t) (few 0) (few 1) (too-many 0 count e past))
 
-    pub one-past : (count : ℕ) → count ≡ timesIn 1 (take rows offices) → 256 < count → false ≡ isTable offices ids waived rows
+    pub one-past : (count : ℕ) → count ≡ officeTimes 1 (take rows offices) → 256 < count → false ≡ isTable offices ids waived rows
     one-past count e past = sym (table-is ∙ third-fails (rowsAscend t) (officesKnown t) (few 0) (few 1) (too-many 1 count e past))
 
     -- all else holds: the offices decide
-    pub offices-decide : (a b : ℕ) → a ≡ timesIn 0 (take rows offices) → b ≡ timesIn 1 (take rows offices) → rowsAscend t ≡ true → a ≤ 256 → b ≤ 256
+    pub offices-decide : (a b : ℕ) → a ≡ officeTimes 0 (take rows offices) → b ≡ officeTimes 1 (take rows offices) → rowsAscend t ≡ true → a ≤ 256 → b ≤ 256
         → eqb (a + b) rows ≡ isTable offices ids waived rows
     offices-decide a b e f asc low high =
         let own = share 0 a e in

@@ -1,36 +1,35 @@
 -- How many rows an office has, counted in the slice of offices, place by place; and that each row comes before the next, place by place. Rests on RowPlaces
 -- of definitions.
-use Prim.Native.Nat.{ℕ, zero, suc, _+_, _-_, _≤_, _<_}
+use Prim.Native.Nat.{ℕ, suc, _+_, _-_, _≤_, _<_}
 use mathlib.Core.Path.{_≡_, refl, sym, ap, _∙_}
 use mathlib.Core.Bool.{true, false, _&&_}
 use mathlib.Core.List.{List, [], _∷_, map}
 use native.Mathlib.Numerals.{add-one}
 use native.Mathlib.Omega.{arith}
-use lib.ListN.{length, getD, take, drop, drop-of-length-le, length-take}
-use lib.Dec.{eqb}
+use lib.ListN.{length, getD, take, drop, drop-of-length-le}
 use lib.Seq.{length-take-le, drop-cons, getD-take}
 use borrow.Author.Tests.{eq-eqb, ne-eqb}
-use Rattle.keys.proofs.Cases.{decide, equal}
+use Rattle.keys.proofs.Cases.{equal}
 use Rattle.definitions.specs.Offices.{Waiver, rowAt, Holds, tableOf, rowsOf, rowBefore, rowsAscend}
-use Rattle.laws.proofs.RowPlaces.{table-length, table-drop, table-end, table-offices}
+use Rattle.laws.proofs.RowPlaces.{table-length, table-drop, table-offices}
 use Rattle.laws.proofs.Shares.{share-own, share-other, share-none}
-use Rattle.offices.specs.Place.{timesIn}
+use Rattle.offices.specs.Place.{officeTimes}
 
 -- ---- the count
-times-none : (office : ℕ) → timesIn office [] ≡ 0
-unfolding timesIn
+times-none : (office : ℕ) → officeTimes office [] ≡ 0
+unfolding officeTimes
 times-none office = refl
 
-times-own : (office x : ℕ) (l : List ℕ) → x ≡ office → timesIn office (x ∷ l) ≡ suc (timesIn office l)
-unfolding timesIn
+times-own : (office x : ℕ) (l : List ℕ) → x ≡ office → officeTimes office (x ∷ l) ≡ suc (officeTimes office l)
+unfolding officeTimes
 times-own office x l e = rw (eq-eqb x office e)
 
-times-other : (office x : ℕ) (l : List ℕ) → (x ≡ office → ⊥) → timesIn office (x ∷ l) ≡ timesIn office l
-unfolding timesIn
+times-other : (office x : ℕ) (l : List ℕ) → (x ≡ office → ⊥) → officeTimes office (x ∷ l) ≡ officeTimes office l
+unfolding officeTimes
 times-other office x l h = rw (ne-eqb x office h)
 
 -- an office has as many rows as its number is among the offices
-times-rows : (office : ℕ) (t : List Waiver) → timesIn office (map (λ w. w .office) t) ≡ length (rowsOf office t)
+times-rows : (office : ℕ) (t : List Waiver) → officeTimes office (map (λ w. w .office) t) ≡ length (rowsOf office t)
 times-rows office [] = times-none office ∙ sym (ap length (share-none office))
 times-rows office (w ∷ t) =
     equal (w .office) office
@@ -38,9 +37,9 @@ times-rows office (w ∷ t) =
     (λ h. times-other office (w .office) _ h ∙ times-rows office t ∙ sym (ap length (share-other office w t h)))
 
 pub times-share : (office : ℕ) (offices ids waived : List ℕ) (rows : ℕ) → Holds offices ids waived rows
-    → timesIn office (take rows offices) ≡ length (rowsOf office (tableOf offices ids waived rows))
+    → officeTimes office (take rows offices) ≡ length (rowsOf office (tableOf offices ids waived rows))
 times-share office offices ids waived rows h =
-    ap (timesIn office) (sym (table-offices offices ids waived rows h)) ∙ times-rows office (tableOf offices ids waived rows)
+    ap (officeTimes office) (sym (table-offices offices ids waived rows h)) ∙ times-rows office (tableOf offices ids waived rows)
 
 module _ (office : ℕ) (offices : List ℕ) (rows : ℕ) (fits : rows ≤ length offices) where
   abbrev l : List ℕ
@@ -50,7 +49,7 @@ module _ (office : ℕ) (offices : List ℕ) (rows : ℕ) (fits : rows ≤ lengt
   pub record Counting (i count : ℕ) : Type 0 where
     pub within : i ≤ rows
     pub few : count ≤ i
-    pub all : timesIn office l ≡ count + timesIn office (drop i l)
+    pub all : officeTimes office l ≡ count + officeTimes office (drop i l)
 
   pub count-begins : Counting 0 0
   count-begins = record { within = omega arith; few = omega arith; all = omega arith }
@@ -62,20 +61,20 @@ module _ (office : ℕ) (offices : List ℕ) (rows : ℕ) (fits : rows ≤ lengt
 
   pub count-found : (i count : ℕ) → i < rows → getD offices i 0 ≡ office → Counting i count → Counting (i + 1) (count + 1)
   count-found i count more e c =
-      let here = ap (timesIn office) (at-place i more) ∙ times-own office _ _ e in
-      let next = ap (λ j. timesIn office (drop j l)) (add-one i) in
+      let here = ap (officeTimes office) (at-place i more) ∙ times-own office _ _ e in
+      let next = ap (λ j. officeTimes office (drop j l)) (add-one i) in
       record { within = omega arith; few = omega (arith, c .few); all = omega (arith, c .all) }
 
   pub count-passed : (i count : ℕ) → i < rows → (getD offices i 0 ≡ office → ⊥) → Counting i count → Counting (i + 1) count
   count-passed i count more h c =
-      let here = ap (timesIn office) (at-place i more) ∙ times-other office _ _ h in
-      let next = ap (λ j. timesIn office (drop j l)) (add-one i) in
+      let here = ap (officeTimes office) (at-place i more) ∙ times-other office _ _ h in
+      let next = ap (λ j. officeTimes office (drop j l)) (add-one i) in
       record { within = omega arith; few = omega (arith, c .few); all = omega (arith, c .all) }
 
-  pub count-ends : (i count : ℕ) → rows ≤ i → Counting i count → count ≡ timesIn office l
+  pub count-ends : (i count : ℕ) → rows ≤ i → Counting i count → count ≡ officeTimes office l
   count-ends i count over c =
       let size = length-take-le rows offices fits in
-      let none = ap (timesIn office) (drop-of-length-le l {i = i} (omega arith)) ∙ times-none office in
+      let none = ap (officeTimes office) (drop-of-length-le l {i = i} (omega arith)) ∙ times-none office in
       omega (arith, c .all)
 
 -- ---- the order

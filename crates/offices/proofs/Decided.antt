@@ -1,25 +1,24 @@
 -- What adding and removing decide, test by test, and what an accepted call may build on. Rests on Checked and Place.
-use Prim.Native.Nat.{ℕ, suc, _+_, _≤_, _<_}
+use Prim.Native.Nat.{ℕ, _+_, _≤_, _<_}
 use mathlib.Core.Path.{_≡_, refl, sym, ap, ap₂, _∙_}
-use mathlib.Core.Bool.{Bool, true, false, cond, not, _&&_, true≢false}
-use mathlib.Core.List.{List, [], _∷_}
+use mathlib.Core.Bool.{true, false, not, _&&_}
+use mathlib.Core.List.{List, _∷_}
 use native.Mathlib.Omega.{arith}
-use lib.ListN.{length, getD, drop, List·getD-eq-default}
-use lib.Dec.{leb, ltb, eqb}
+use lib.ListN.{length, getD, List·getD-eq-default}
+use lib.Dec.{ltb}
 use lib.Seq.{getD-drop}
-use borrow.Author.Tests.{ltb-false, leb-false, ltb-true, le-leb, lt-leb, lt-ltb, le-ltb, eqb-true, not-true, not-false}
+use borrow.Author.Tests.{ltb-false, leb-false, ltb-true, le-leb, lt-leb, lt-ltb, le-ltb, not-false}
 use Rattle.keys.specs.Key.{deepestLevel, validKey}
 use Rattle.keys.proofs.Cases.{decide, split, equal, and-left, and-right}
-use Rattle.definitions.specs.Refusal.{Row, _gives_, first, accepted, badKey}
-use Rattle.definitions.specs.Offices.{Waiver, waiverOf, rowAt, Holds, tableOf, rowsOf, sameRow, isRow, isTable, badOffice, badTable, officeLimit}
+use Rattle.definitions.specs.Refusal.{Row, _gives_, first, badKey}
+use Rattle.definitions.specs.Offices.{Waiver, waiverOf, rowAt, Holds, tableOf, rowsOf, sameRow, isRow, isTable, badOffice, badTable}
 use Rattle.definitions.specs.Calls.AddWaiver.{addRefusal}
 use Rattle.definitions.specs.Calls.RemoveWaiver.{removeRefusal}
 use Rattle.laws.proofs.First.{first-this, first-later, first-end, first-none, first-holds, holds-first, holds-more, accepted-done, accepted-left}
 use Rattle.laws.proofs.RowPlaces.{table-length, table-drop}
 use Rattle.laws.proofs.Shares.{Sound, room-left}
-use Rattle.offices.specs.Place.{placeIn}
+use Rattle.offices.specs.Place.{rowPlace}
 use Rattle.offices.specs.Refusal.{tableRefusal, decidedOn}
-use Rattle.offices.specs.declared.calls.Decision.{Decision}
 use Rattle.offices.proofs.Place.{place-within, row-there}
 use Rattle.offices.proofs.Checked.{Places, table-places, table-holds, table-sound}
 
@@ -129,7 +128,7 @@ module _ (m office : ℕ) (offices ids waived : List ℕ) (rows id key : ℕ) wh
     size : length t ≡ rows
     size = table-length offices ids waived rows holds
 
-    pub place-low : placeIn w t ≤ rows
+    pub place-low : rowPlace w t ≤ rows
     place-low = let low = place-within w t in let e = size in omega arith
 
     -- the row at the place, whether there is one or not
@@ -143,9 +142,9 @@ module _ (m office : ℕ) (offices ids waived : List ℕ) (rows id key : ℕ) wh
         (λ high. List·getD-eq-default t (rowAt offices ids waived i) (let e = size in let z : length t ≤ i = omega arith in z))
 
     -- the row is in the table exactly where it stands at its place
-    pub there : ltb (placeIn w t) rows && sameRow (rowAt offices ids waived (placeIn w t)) w ≡ isRow w t
+    pub there : ltb (rowPlace w t) rows && sameRow (rowAt offices ids waived (rowPlace w t)) w ≡ isRow w t
     there =
-        let at = placeIn w t in
+        let at = rowPlace w t in
         sym
         (row-there w (rowAt offices ids waived at) t (sound .ascend)
         ∙ ap₂ (λ n r. ltb at n && sameRow r w) size (row-at at))
@@ -215,14 +214,14 @@ module _ (m office : ℕ) (offices ids waived : List ℕ) (rows id key : ℕ) wh
   remove-there e = let none = first-none _ refl e in not-false (isRow w t) (none .1 .1 .1 .1 .0)
 
   module _ (e : removing ≡ 0) where
-    stands : ltb (placeIn w t) (length t) && sameRow (getD t (placeIn w t) w) w ≡ true
+    stands : ltb (rowPlace w t) (length t) && sameRow (getD t (rowPlace w t) w) w ≡ true
     stands = sym (row-there w w t (sound (remove-passed e) .ascend)) ∙ remove-there e
 
-    pub remove-place : placeIn w t < rows
+    pub remove-place : rowPlace w t < rows
     remove-place =
-        let low = ltb-true (placeIn w t) (length t) (and-left (ltb (placeIn w t) (length t)) (sameRow (getD t (placeIn w t) w) w) stands) in
+        let low = ltb-true (rowPlace w t) (length t) (and-left (ltb (rowPlace w t) (length t)) (sameRow (getD t (rowPlace w t) w) w) stands) in
         let size = table-length offices ids waived rows (holds (remove-passed e)) in
         omega arith
 
-    pub remove-same : sameRow (getD t (placeIn w t) w) w ≡ true
-    remove-same = and-right (ltb (placeIn w t) (length t)) (sameRow (getD t (placeIn w t) w) w) stands
+    pub remove-same : sameRow (getD t (rowPlace w t) w) w ≡ true
+    remove-same = and-right (ltb (rowPlace w t) (length t)) (sameRow (getD t (rowPlace w t) w) w) stands

@@ -4,14 +4,13 @@ use Prim.Native.Nat.{ℕ, suc, _+_, _-_, _≤_, _<_, max}
 use mathlib.Core.Path.{_≡_, refl, sym, ap, ap₂, _∙_}
 use mathlib.Core.Bool.{true}
 use mathlib.Core.List.{List, [], _∷_, _++_, map, append-assoc}
-use native.Mathlib.Numerals.{add-one}
 use native.Mathlib.Omega.{arith}
-use lib.ListN.{length, getD, set, take, drop, replicate, length-take, length-drop, length-append, length-map, take-append-drop}
-use lib.Seq.{sets, take-take, drop-drop, take-add, take-at, drop-at, length-take-le}
+use lib.ListN.{length, getD, set, take, drop, replicate, length-drop, length-append}
+use lib.Seq.{sets, take-take, take-add, drop-at, length-take-le}
 use Rattle.slices.proofs.Sets.{sets-parts, sets-snoc}
 use Rattle.definitions.specs.Buffer.{over, replaced}
 use Rattle.definitions.specs.Offices.{Waiver, sameRow, added, removed}
-use Rattle.offices.specs.Place.{placeIn, opened, closed}
+use Rattle.offices.specs.Place.{rowPlace, opened, gapClosed}
 use Rattle.offices.proofs.Place.{place-within, added-at, removed-at}
 
 map-append : (f : Waiver → ℕ) (xs ys : List Waiver) → map f (xs ++ ys) ≡ map f xs ++ map f ys
@@ -50,7 +49,7 @@ module _ (l : List ℕ) (rows place number : ℕ) (low : place ≤ rows) (fits :
 
 module _ (l : List ℕ) (rows place : ℕ) (low : place < rows) (fits : rows ≤ length l) where
   -- a place is given up
-  pub closed-is : take place (take rows l) ++ drop (suc place) (take rows l) ++ (0 ∷ drop rows l) ≡ closed rows place l
+  pub closed-is : take place (take rows l) ++ drop (suc place) (take rows l) ++ (0 ∷ drop rows l) ≡ gapClosed rows place l
   closed-is =
       let next : suc place ≡ place + 1 = omega arith in
       let rest = length-drop (place + 1) l in
@@ -66,7 +65,7 @@ module _ (l : List ℕ) (rows place : ℕ) (low : place < rows) (fits : rows ≤
       ∙ sym (append-assoc (take place (take rows l)) (drop (suc place) (take rows l)) (0 ∷ drop rows l)))
 
   -- a store behind the run that was moved
-  pub closed-run : set (sets l place (take (rows - (place + 1)) (drop (place + 1) l))) (rows - 1) 0 ≡ closed rows place l
+  pub closed-run : set (sets l place (take (rows - (place + 1)) (drop (place + 1) l))) (rows - 1) 0 ≡ gapClosed rows place l
   closed-run =
       let rest = length-drop (place + 1) l in
       let run = length-take-le (rows - (place + 1)) (drop (place + 1) l) (omega arith) in
@@ -77,7 +76,7 @@ module _ (l : List ℕ) (rows place : ℕ) (low : place < rows) (fits : rows ≤
 -- ---- a slice of the table
 module _ (f : Waiver → ℕ) (w d : Waiver) (t : List Waiver) (l : List ℕ) (rows : ℕ) (size : length t ≡ rows) (is : map f t ≡ take rows l) where
   abbrev place : ℕ
-  place = placeIn w t
+  place = rowPlace w t
 
   map-added : map f (added w t) ≡ take place (take rows l) ++ (f w ∷ drop place (take rows l))
   map-added =
@@ -105,7 +104,7 @@ module _ (f : Waiver → ℕ) (w d : Waiver) (t : List Waiver) (l : List ℕ) (r
         ∙ ap₂ (λ a b. a ++ b) (map-take f place t ∙ ap (take place) is) (map-drop f (suc place) t ∙ ap (drop (suc place)) is)
 
     -- with a row less
-    pub slice-removed : rows ≤ length l → closed rows place l ≡ replaced rows (map f (removed w t)) l
+    pub slice-removed : rows ≤ length l → gapClosed rows place l ≡ replaced rows (map f (removed w t)) l
     slice-removed fits =
         let full = length-take-le rows l (omega arith) in
         let a = length-take-le place (take rows l) (omega arith) in

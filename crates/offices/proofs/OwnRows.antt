@@ -2,17 +2,16 @@
 -- Moved and Checked, and on RowOrder and Shares of definitions.
 use Prim.Native.Nat.{ℕ, zero, suc, _+_, _-_, _≤_, _<_}
 use mathlib.Core.Path.{_≡_, refl, sym, ap, ap₂, _∙_}
-use mathlib.Core.Bool.{Bool, true, false, cond, _&&_}
+use mathlib.Core.Bool.{true, false, cond, _&&_}
 use mathlib.Core.List.{List, [], _∷_, map}
 use native.Mathlib.Numerals.{add-one}
 use native.Mathlib.Omega.{arith}
 use lib.ListN.{length, getD, take, drop, drop-of-length-le}
-use lib.Dec.{eqb}
 use lib.Seq.{take-take, take-all, length-take-le, drop-cons, getD-take}
 use borrow.Author.Tests.{eq-eqb, ne-eqb}
 use Rattle.keys.specs.Key.{validKey}
-use Rattle.keys.proofs.Cases.{decide, equal, and-left, and-right, and-both}
-use Rattle.definitions.specs.Rules.{Finding, findingOf, waiversOf, comesBefore, findingsAscend}
+use Rattle.keys.proofs.Cases.{equal, and-both}
+use Rattle.definitions.specs.Rules.{findingOf, waiversOf, comesBefore, findingsAscend}
 use Rattle.definitions.specs.Offices.{Waiver, waivedBy, Holds, rowsIn, tableOf, rowsOf, rowsAscend, officesKnown, rowKeysValid, isTable}
 use Rattle.laws.proofs.FindingOrder.{earlier-test}
 use Rattle.laws.proofs.RowPlaces.{table-length, table-keys}

@@ -3,7 +3,7 @@ ghost use mathlib.Core.Path.{_≡_};
 ghost use Rattle.definitions.specs.Offices.{waiverOf, tableOf};
 ghost use Rattle.definitions.specs.Calls.AddWaiver.{addRefusal, addWaiver, addOffices, addIds, addKeys};
 ghost use Rattle.definitions.specs.Calls.RemoveWaiver.{removeRefusal, removeWaiver, removeOffices, removeIds, removeKeys};
-ghost use Rattle.offices.specs.Place.{placeIn};
+ghost use Rattle.offices.specs.Place.{rowPlace};
 ghost use Rattle.offices.specs.Refusal.{tableRefusal, decidedOn, refusedWith};
 use crate::check;
 use crate::rows;
@@ -36,7 +36,7 @@ fn table_refusal(
 }
 
 // What a call decides: its refusal, or 0 and the place of the row.
-pub struct Decision {
+pub struct RowDecision {
     pub refusal: u64,
     pub place: usize,
 }
@@ -51,28 +51,28 @@ fn to_add(
     rows: usize,
     id: u32,
     key: u32,
-) -> Decision
+) -> RowDecision
     ensures { λ r. ⌜ r ≡ decidedOn (addRefusal m office (now (offices .entry)) (now (ids .entry)) (now (waived .entry)) rows id key)
-        (placeIn (waiverOf office id key) (tableOf (now (offices .entry)) (now (ids .entry)) (now (waived .entry)) rows)) ⌝ }
+        (rowPlace (waiverOf office id key) (tableOf (now (offices .entry)) (now (ids .entry)) (now (waived .entry)) rows)) ⌝ }
 {
     let refusal = table_refusal(m, office, offices, ids, waived, rows, key);
     if refusal != 0 {
-        return Decision { refusal, place: 0 };
+        return RowDecision { refusal, place: 0 };
     }
     let place = rows::place_of(offices, ids, waived, rows, office, id, key);
     if rows::stands_at(offices, ids, waived, rows, place, office, id, key) {
-        return Decision {
+        return RowDecision {
             refusal: 22,
             place: 0,
         };
     }
     if check::LIMIT <= rows::count_of(offices, rows, office) {
-        return Decision {
+        return RowDecision {
             refusal: 12,
             place: 0,
         };
     }
-    Decision { refusal: 0, place }
+    RowDecision { refusal: 0, place }
 }
 
 // A row may be removed.
@@ -85,19 +85,19 @@ fn to_remove(
     rows: usize,
     id: u32,
     key: u32,
-) -> Decision
+) -> RowDecision
     ensures { λ r. ⌜ r ≡ decidedOn (removeRefusal m office (now (offices .entry)) (now (ids .entry)) (now (waived .entry)) rows id key)
-        (placeIn (waiverOf office id key) (tableOf (now (offices .entry)) (now (ids .entry)) (now (waived .entry)) rows)) ⌝ }
+        (rowPlace (waiverOf office id key) (tableOf (now (offices .entry)) (now (ids .entry)) (now (waived .entry)) rows)) ⌝ }
 {
     let refusal = table_refusal(m, office, offices, ids, waived, rows, key);
     if refusal != 0 {
-        return Decision { refusal, place: 0 };
+        return RowDecision { refusal, place: 0 };
     }
     let place = rows::place_of(offices, ids, waived, rows, office, id, key);
     if rows::stands_at(offices, ids, waived, rows, place, office, id, key) {
-        return Decision { refusal: 0, place };
+        return RowDecision { refusal: 0, place };
     }
-    Decision {
+    RowDecision {
         refusal: 22,
         place: 0,
     }

@@ -5,7 +5,7 @@ ghost use Prim.Native.Nat.{_+_, _≤_, _<_};
 ghost use lib.ListN.{length, take};
 ghost use lib.Dec.{ltb};
 ghost use Rattle.definitions.specs.Offices.{Holds, waiverOf, rowAt, rowBefore, sameRow, tableOf};
-ghost use Rattle.offices.specs.Place.{placeIn, timesIn, opened, closed};
+ghost use Rattle.offices.specs.Place.{rowPlace, officeTimes, opened, gapClosed};
 
 // The row at a place comes before this one.
 pub fn comes_before(
@@ -48,7 +48,7 @@ pub fn place_of(
     key: u32,
 ) -> usize
     requires { ⌜ Holds (now offices) (now ids) (now waived) rows ⌝ }
-    ensures { λ r. ⌜ r ≡ placeIn (waiverOf office id key) (tableOf (now (offices .entry)) (now (ids .entry)) (now (waived .entry)) rows) ⌝ }
+    ensures { λ r. ⌜ r ≡ rowPlace (waiverOf office id key) (tableOf (now (offices .entry)) (now (ids .entry)) (now (waived .entry)) rows) ⌝ }
 {
     let mut place = 0;
     while place < rows {
@@ -89,7 +89,7 @@ pub fn stands_at(
 // How many rows the office has.
 pub fn count_of(offices: &[u32], rows: usize, office: u32) -> usize
     requires { ⌜ rows ≤ length (now offices) ⌝ }
-    ensures { λ r. ⌜ r ≡ timesIn office (take rows (now (offices .entry))) ⌝ }
+    ensures { λ r. ⌜ r ≡ officeTimes office (take rows (now (offices .entry))) ⌝ }
 {
     let mut count = 0;
     let mut i = 0;
@@ -115,7 +115,7 @@ pub fn open(slice: &mut [u32], rows: usize, place: usize, number: u32)
 // The later rows' numbers come one place back, and the last place becomes zero.
 pub fn close(slice: &mut [u32], rows: usize, place: usize)
     requires { ⌜ (place < rows) × (rows ≤ length (now slice)) ⌝ }
-    ensures { λ _. ⌜ now (slice .exit) ≡ closed rows place (now (slice .entry)) ⌝ }
+    ensures { λ _. ⌜ now (slice .exit) ≡ gapClosed rows place (now (slice .entry)) ⌝ }
 {
     let next = place + 1;
     slices::shift(slice, next, rows - next, place);

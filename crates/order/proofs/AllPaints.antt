@@ -1,8 +1,8 @@
 -- In any order the raster is the first one with all the paints: each painted pixel has the feature of the one paint that has it in its block, and every
 -- other pixel stays. Rests on Swaps and Sheets.
-use Prim.Native.Nat.{ℕ, _^_, _≤_, _<_}
+use Prim.Native.Nat.{ℕ, _≤_}
 use mathlib.Core.Path.{_≡_, refl, sym, ap, _∙_}
-use mathlib.Core.Bool.{Bool, true, false, _&&_, _||_}
+use mathlib.Core.Bool.{true, false, _||_}
 use mathlib.Core.List.{List, [], _∷_}
 use native.Mathlib.Omega.{arith}
 use Rattle.keys.specs.Key.{validKey}
@@ -12,38 +12,37 @@ use Rattle.keys.proofs.Pixel.{InSquare}
 use Rattle.keys.proofs.InBlock.{inBlock-iff, in-raster}
 use Rattle.keys.proofs.Valid.{valid-block}
 use Rattle.definitions.specs.Picture.{Picture}
-use Rattle.definitions.specs.List.{listOfPicture}
 use Rattle.definitions.specs.Read.{pictureOf}
 use Rattle.definitions.specs.Edit.{paintIn}
-use Rattle.history.specs.History.{Buffers, run}
+use Rattle.history.specs.History.{Buffers, afterCalls}
 use Rattle.order.specs.Paint.{Paint}
 use Rattle.history.proofs.Content.{map-back}
 use Rattle.history.proofs.Drawn.{paint-inside, paint-outside}
 use Rattle.order.specs.Rearranged.{timesIn, Rearranged, Swapped}
-use Rattle.order.specs.Apart.{apart, apartFromAll, allApart, allValid, touched}
+use Rattle.order.specs.Apart.{apart, apartFromAll, allApart, allValid, inSomePaint}
 use Rattle.order.specs.Either.{asCalls, inFull, inTurn, pictureIn, AllPaints, afterPaints}
-use Rattle.order.proofs.Rearrangements.{times-none, Found, found, swapped-times, times-swapped}
+use Rattle.order.proofs.Rearrangements.{times-none, found, swapped-times, times-swapped}
 use Rattle.order.proofs.ApartBlocks.{apart-to, apart-disjoint}
 use Rattle.order.proofs.Swaps.{valid-swapped, apart-swapped, picture-either}
 use Rattle.order.proofs.Sheets.{in-full-valid, run-shows}
 
 -- a pixel that no paint has in its block stays
-stays : (m : ℕ) (p : Picture) (xs : List Paint) (row column : ℕ) → touched m xs row column ≡ false → inTurn m p xs row column ≡ p row column
-unfolding inTurn touched
+stays : (m : ℕ) (p : Picture) (xs : List Paint) (row column : ℕ) → inSomePaint m xs row column ≡ false → inTurn m p xs row column ≡ p row column
+unfolding inTurn inSomePaint
 stays m p [] row column e = refl
 stays m p (x ∷ xs) row column e =
-    stays m (paintIn m (x .key) (x .feature) p) xs row column (neither-right (inBlock m (x .key) row column) (touched m xs row column) e)
-    ∙ paint-outside m (x .key) (x .feature) p row column (neither-left (inBlock m (x .key) row column) (touched m xs row column) e)
+    stays m (paintIn m (x .key) (x .feature) p) xs row column (neither-right (inBlock m (x .key) row column) (inSomePaint m xs row column) e)
+    ∙ paint-outside m (x .key) (x .feature) p row column (neither-left (inBlock m (x .key) row column) (inSomePaint m xs row column) e)
 
 -- no paint that is apart from x has a pixel of x's block
 alone : (m : ℕ) (x : Paint) (xs : List Paint) (row column : ℕ) → validKey m (x .key) ≡ true → allValid m xs ≡ true → apartFromAll m x xs ≡ true
-    → inBlock m (x .key) row column ≡ true → touched m xs row column ≡ false
-unfolding allValid apartFromAll touched
+    → inBlock m (x .key) row column ≡ true → inSomePaint m xs row column ≡ false
+unfolding allValid apartFromAll inSomePaint
 alone m x [] row column v vs h e = refl
 alone m x (y ∷ ys) row column v vs h e =
     let valid = and-left (validKey m (y .key)) (allValid m ys) vs in
     let two = and-left (apart m x y) (apartFromAll m x ys) h in
-    ap (λ t. t || touched m ys row column) (apart-disjoint m (x .key) (y .key) v valid (apart-to m x y two) row column e)
+    ap (λ t. t || inSomePaint m ys row column) (apart-disjoint m (x .key) (y .key) v valid (apart-to m x y two) row column e)
     ∙ alone m x ys row column v (and-right (validKey m (y .key)) (allValid m ys) vs) (and-right (apart m x y) (apartFromAll m x ys) h) e
 
 -- where x comes first, and the others are apart from it, the pixels of its block have its feature
@@ -77,7 +76,7 @@ its-valid m x xs v comes =
 -- a run of paints, every pair apart, that is accepted in full leaves the first raster with all the paints
 pub all-paints : (m s : ℕ) (b : Buffers) (xs : List Paint) → allApart m xs ≡ true → inFull m s b xs ≡ true
     → AllPaints m xs (pictureIn m b) (pictureIn m (afterPaints m s b xs))
-unfolding asCalls run
+unfolding asCalls afterCalls
 all-paints m s b [] h i = record {
   inside = λ x comes row column e. let none = times-none x in absurd (omega arith);
   outside = λ row column low narrow e. refl;

@@ -1,5 +1,5 @@
 -- Blocks that are apart share no pixel, and valid blocks that share none are apart. Rests on the laws of blocks.
-use Prim.Native.Nat.{ℕ, _+_, _≤_}
+use Prim.Native.Nat.{ℕ}
 use mathlib.Core.Path.{_≡_, sym, ap, _∙_}
 use mathlib.Core.Bool.{Bool, true, false, not, _&&_, true≢false}
 use mathlib.Core.Logic.{_↔_, _≢_}
@@ -8,7 +8,7 @@ use lib.Dec.{eqb}
 use borrow.Author.Tests.{ne-eqb, eqb-false, not-true}
 use Rattle.keys.specs.Key.{validKey, heightOf}
 use Rattle.keys.specs.Block.{rowOf, columnOf, inBlock, isAncestor}
-use Rattle.keys.proofs.Cases.{decide, equal, and-left, and-right, and-both}
+use Rattle.keys.proofs.Cases.{decide, and-left, and-right, and-both}
 use Rattle.keys.proofs.Powers.{two-pos}
 use Rattle.keys.specs.Under.{Under}
 use Rattle.keys.proofs.Interval.{within, apart as by-keys}

@@ -19,7 +19,7 @@ use Rattle.definitions.specs.Edit.{put, paintIn, contentOf}
 use Rattle.definitions.specs.Log.{closed, entryOf, countRecord, lastRecord, lastKey, lastFeature, lastCount, beforeLast, lastContent, isContent, closes, lastIsEntry, endsInMark, stepCount, stepEntries, beforeEntries, beforeStep, lastIsStep, dividesIn, isSound, noLog}
 use Rattle.definitions.specs.Calls.Survey.{surveyRefusal, survey, surveyKeys, surveyBits, surveySummary}
 use Rattle.definitions.specs.Calls.Paint.{painted, gained, paintRefusal, paint, paintKeys, paintBits, paintSummary, paintLogKeys, paintLogValues}
-use Rattle.history.specs.History.{Buffers, built, answer, after, run}
+use Rattle.history.specs.History.{Buffers, built, answer, after, afterCalls}
 use Rattle.order.specs.Paint.{Paint}
 use Rattle.order.specs.Apart.{apart}
 use Rattle.order.specs.Either.{asCall, asCalls, SameSheet, afterPaints}
@@ -62,7 +62,7 @@ record Needed : Type 0 where
   room-of-log : Unlike 1 2 (four 5) (paintOf 1 1) (paintOf 4 1) true (0 ∷ 10 ∷ []) (0 ∷ 10 ∷ []) 5 5
 
 needed : Needed
-unfolding asCalls run answer after built apart isAncestor contains
+unfolding asCalls afterCalls answer after built apart isAncestor contains
     validKey digitsOf digitsThenZeros onlyZeros levelOf digitsBeforeZero heightOf rowOf columnOf sideOf inBlock pixelKey
     everyPixel oneFeature featuresBelow bitsOf unionOfFour twosIn featureOf listOf
     paired valueAt pictureOf sameRecords isListOfBlock isList first badSettings badLength badPixel featuresOfRow featuresOfRows

@@ -2,12 +2,12 @@
 -- Rests on Swaps and Sheets.
 use Prim.Native.Nat.{ℕ, _+_}
 use mathlib.Core.Path.{_≡_, refl, sym, ap, ap₂, _∙_}
-use mathlib.Core.Bool.{Bool, true, _&&_}
+use mathlib.Core.Bool.{true}
 use mathlib.Core.List.{List, [], _∷_}
 use native.Mathlib.Omega.{arith}
 use lib.ListN.{length}
 use Rattle.keys.specs.Key.{validKey, heightOf}
-use Rattle.keys.specs.Block.{rowOf, columnOf, inBlock}
+use Rattle.keys.specs.Block.{rowOf, columnOf}
 use Rattle.keys.proofs.Cases.{and-left, and-right}
 use Rattle.keys.proofs.InBlock.{inBlock-iff}
 use Rattle.keys.proofs.Valid.{valid-block}
@@ -17,14 +17,14 @@ use Rattle.definitions.specs.Edit.{paintIn, contentOf}
 use Rattle.definitions.specs.Log.{closed, entryOf}
 use Rattle.definitions.specs.Calls.Paint.{gained}
 use Rattle.laws.proofs.ListOf.{list-agree}
-use Rattle.history.specs.History.{Buffers, ofBlock, loggedBy, answer, after, run}
+use Rattle.history.specs.History.{Buffers, ofBlock, loggedBy, answer, after, afterCalls}
 use Rattle.order.specs.Paint.{Paint}
 use Rattle.history.proofs.Content.{gained-entry}
 use Rattle.history.proofs.Drawn.{paint-outside}
 use Rattle.history.proofs.PaintStep.{paint-done}
 use Rattle.order.specs.Rearranged.{Rearranged, Swapped, none, further, swap, and-then}
 use Rattle.order.specs.Apart.{apart, apartFromAll, allApart, allValid}
-use Rattle.order.specs.Either.{asCall, asCalls, inFull, listIn, pictureIn, afterPaints}
+use Rattle.order.specs.Either.{asCall, asCalls, inFull, recordsOn, pictureIn, afterPaints}
 use Rattle.order.proofs.Rearrangements.{times-swapped, not-none}
 use Rattle.order.proofs.ApartBlocks.{Disjoint, disjoint-flip, apart-to, apart-disjoint}
 use Rattle.order.proofs.Swaps.{valid-swapped, apart-swapped}
@@ -88,7 +88,7 @@ places-either m p xs ys r v h =
 
 module _ (m s : ℕ) where
   -- an accepted paint puts its entry in force
-  one-longer : (b : Buffers) (p : Picture) (x : Paint) → listIn b ≡ listOfPicture m p → answer m s b (asCall x) ≡ 0
+  one-longer : (b : Buffers) (p : Picture) (x : Paint) → recordsOn b ≡ listOfPicture m p → answer m s b (asCall x) ≡ 0
       → after m s b (asCall x) .inForce ≡ b .inForce + length (entryOf m p (x .key) (x .feature))
   unfolding loggedBy gained
   one-longer b p x e accepted =
@@ -97,9 +97,9 @@ module _ (m s : ℕ) where
       (ap (λ l. gained m l (x .key) (x .feature)) e ∙ gained-entry m (x .key) (x .feature) p (accepted-valid m s b x accepted))
 
   -- a run puts its entries in force
-  pub run-longer : (b : Buffers) (p : Picture) (xs : List Paint) → listIn b ≡ listOfPicture m p → inFull m s b xs ≡ true
+  pub run-longer : (b : Buffers) (p : Picture) (xs : List Paint) → recordsOn b ≡ listOfPicture m p → inFull m s b xs ≡ true
       → afterPaints m s b xs .inForce ≡ b .inForce + placesInTurn m p xs
-  unfolding asCalls run placesInTurn
+  unfolding asCalls afterCalls placesInTurn
   run-longer b p [] e h = omega arith
   run-longer b p (x ∷ xs) e h =
       let accepted = first-accepted m s b x xs h in

@@ -1,13 +1,13 @@
 -- After two orders that were accepted in full every further paint is answered alike: list, rooms and the log's length are the same. Rests on the history
 -- theorem, Theorem and LogLength.
 use Prim.Native.Nat.{ℕ, _+_}
-use mathlib.Core.Path.{_≡_, refl, sym, ap, ap₂, _∙_}
+use mathlib.Core.Path.{_≡_, sym, ap, ap₂, _∙_}
 use mathlib.Core.Bool.{true}
 use mathlib.Core.List.{List, [], _∷_}
 use lib.ListN.{length}
 use lib.Dec.{ltb}
 use borrow.Author.Tests.{not-false}
-use Rattle.keys.specs.Key.{rootKey, validKey}
+use Rattle.keys.specs.Key.{rootKey}
 use Rattle.keys.proofs.Cases.{decide}
 use Rattle.definitions.specs.Picture.{Picture}
 use Rattle.definitions.specs.List.{listOfPicture}

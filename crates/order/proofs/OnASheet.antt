@@ -7,7 +7,7 @@ use Rattle.definitions.specs.List.{listOfPicture}
 use Rattle.definitions.specs.Read.{pictureOf}
 use Rattle.definitions.specs.Calls.Survey.{surveyRefusal}
 use Rattle.laws.proofs.Pixels.{Agree}
-use Rattle.history.specs.History.{Call, Buffers, Kept, nothing, built, after, run, kept, longestList, longestLog}
+use Rattle.history.specs.History.{Call, Buffers, Kept, nothing, built, after, afterCalls, kept, longestList, longestLog}
 use Rattle.order.specs.Paint.{Paint}
 use Rattle.history.specs.Claim.{AsBuilt}
 use Rattle.history.proofs.Content.{map-back}
@@ -20,15 +20,15 @@ one-list m p q e row column square =
     sym (map-back m p row column square) ∙ ap (λ l. pictureOf m l row column) e ∙ map-back m q row column square
 
 -- a run that goes on begins where the first part ended
-run-append : (m s : ℕ) (b : Buffers) (calls more : List Call) → run m s b (calls ++ more) ≡ run m s (run m s b calls) more
-unfolding run
+run-append : (m s : ℕ) (b : Buffers) (calls more : List Call) → afterCalls m s b (calls ++ more) ≡ afterCalls m s (afterCalls m s b calls) more
+unfolding afterCalls
 run-append m s b [] more = refl
 run-append m s b (c ∷ calls) more = run-append m s (after m s b c) calls more
 
 module _ (m s : ℕ) (raster keys bits summary logKeys logValues : List ℕ) where
   -- the buffers after a build and any calls
   abbrev pub sheetAfter : List Call → Buffers
-  sheetAfter before = run m s (built m s raster keys bits summary logKeys logValues) before
+  sheetAfter before = afterCalls m s (built m s raster keys bits summary logKeys logValues) before
 
   -- the paints kept after these calls and a run of paints
   abbrev pub keptAfter : List Call → List Paint → Kept

@@ -1,8 +1,8 @@
 -- Whatever calls came before, a paint is answered the same, or accepted, or refused for want of room: so the order of paints matters to a refusal only by
 -- 10 and 9. Rests on the history theorem.
 use Prim.Native.Nat.{ℕ, _+_}
-use mathlib.Core.Path.{_≡_, refl, sym, ap, ap₂, _∙_}
-use mathlib.Core.Bool.{Bool, true, false, _&&_, _||_}
+use mathlib.Core.Path.{_≡_, sym, ap, ap₂, _∙_}
+use mathlib.Core.Bool.{Bool, true, _&&_}
 use mathlib.Core.List.{List, [], _∷_}
 use lib.ListN.{length}
 use lib.Dec.{ltb, eqb}
@@ -16,7 +16,7 @@ use Rattle.definitions.specs.Log.{entryOf}
 use Rattle.definitions.specs.Refusal.{Row, _gives_, first, badKey, badFeature}
 use Rattle.definitions.specs.Calls.Survey.{surveyRefusal}
 use Rattle.laws.proofs.First.{first-this, first-later, first-end}
-use Rattle.history.specs.History.{Call, Buffers, nothing, built, answer, run, kept, pictureLeft}
+use Rattle.history.specs.History.{Call, Buffers, nothing, built, answer, afterCalls, kept, pictureLeft}
 use Rattle.order.specs.Paint.{Paint}
 use Rattle.history.specs.Claim.{paintAnswer}
 use Rattle.history.proofs.Theorem.{history}
@@ -69,8 +69,8 @@ answers-differ m s p q inList inLog used used′ κ f =
 -- from an accepted build, a paint after any calls and the same paint after any others are answered the same, or differ by room alone
 pub refusals-differ : (m s : ℕ) (raster keys bits summary logKeys logValues : List ℕ) → surveyRefusal m s raster keys bits summary ≡ 0
     → (calls calls′ : List Call) (x : Paint)
-    → sameButRoom (answer m s (run m s (built m s raster keys bits summary logKeys logValues) calls) (asCall x))
-    (answer m s (run m s (built m s raster keys bits summary logKeys logValues) calls′) (asCall x))
+    → sameButRoom (answer m s (afterCalls m s (built m s raster keys bits summary logKeys logValues) calls) (asCall x))
+    (answer m s (afterCalls m s (built m s raster keys bits summary logKeys logValues) calls′) (asCall x))
     ≡ true
 refusals-differ m s raster keys bits summary logKeys logValues accepted calls calls′ x =
     let start : Buffers = built m s raster keys bits summary logKeys logValues in
@@ -78,4 +78,4 @@ refusals-differ m s raster keys bits summary logKeys logValues accepted calls ca
     let j = history m s raster keys bits summary logKeys logValues accepted calls′ in
     ap₂ sameButRoom (h .paints (x .key) (x .feature)) (j .paints (x .key) (x .feature))
     ∙ answers-differ m s (pictureLeft m raster (kept m s start nothing calls)) (pictureLeft m raster (kept m s start nothing calls′))
-    (room keys bits) (room logKeys logValues) (run m s start calls .inForce) (run m s start calls′ .inForce) (x .key) (x .feature)
+    (room keys bits) (room logKeys logValues) (afterCalls m s start calls .inForce) (afterCalls m s start calls′ .inForce) (x .key) (x .feature)

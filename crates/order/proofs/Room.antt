@@ -1,6 +1,6 @@
 -- Where one order is accepted in full, another can be refused by the list's room alone: the log's entries need as many places in any order. So where the
 -- list has room for any list, every order is accepted in full. Rests on the history theorem and LogLength.
-use Prim.Native.Nat.{ℕ, suc, _+_, _*_, _^_, _≤_, _<_}
+use Prim.Native.Nat.{ℕ, suc, _+_, _*_, _^_, _≤_}
 use mathlib.Core.Path.{_≡_, refl, sym, ap, subst, _∙_}
 use mathlib.Core.Bool.{Bool, true, false, not, _&&_}
 use mathlib.Core.List.{List, [], _∷_, _++_, append-assoc}
@@ -20,13 +20,13 @@ use Rattle.definitions.specs.Calls.Survey.{surveyRefusal}
 use Rattle.laws.proofs.First.{first-later, first-end}
 use Rattle.laws.proofs.ListOf.{list-most}
 use Rattle.laws.proofs.Pixels.{Agree}
-use Rattle.history.specs.History.{Call, Buffers, answer, after, run, pictureLeft}
+use Rattle.history.specs.History.{Call, Buffers, answer, after, afterCalls, pictureLeft}
 use Rattle.order.specs.Paint.{Paint}
 use Rattle.history.specs.Claim.{paintAnswer}
 use Rattle.history.proofs.Content.{entry-agree}
 use Rattle.order.specs.Rearranged.{timesIn, Rearranged, Swapped, none, further, swap, and-then}
 use Rattle.order.specs.Apart.{allApart}
-use Rattle.order.specs.Either.{asCall, asCalls, inFull, inTurn, listIn, afterPaints}
+use Rattle.order.specs.Either.{asCall, asCalls, inFull, inTurn, recordsOn, afterPaints}
 use Rattle.order.proofs.Rearrangements.{times-swapped}
 use Rattle.order.proofs.Sheets.{accepted-valid, accepted-below, first-accepted, rest-in-full, in-full-valid, run-list}
 use Rattle.order.proofs.LogLength.{placesInTurn, places-either, run-longer}
@@ -91,14 +91,14 @@ by-list m s p roomOfList roomOfLog inForce κ f key feature fits =
 
 -- a run with one paint more
 one-more : (m s : ℕ) (b : Buffers) (front : List Paint) (y : Paint) → afterPaints m s b (front ++ (y ∷ [])) ≡ after m s (afterPaints m s b front) (asCall y)
-unfolding asCalls run
+unfolding asCalls afterCalls
 one-more m s b [] y = refl
 one-more m s b (x ∷ front) y = one-more m s (after m s b (asCall x)) front y
 
 -- is accepted in full where the run is and then the paint
 in-full-more : (m s : ℕ) (b : Buffers) (front : List Paint) (y : Paint) → inFull m s b front ≡ true → answer m s (afterPaints m s b front) (asCall y) ≡ 0
     → inFull m s b (front ++ (y ∷ [])) ≡ true
-unfolding inFull asCalls run
+unfolding inFull asCalls afterCalls
 in-full-more m s b [] y h e = and-both (eqb (answer m s b (asCall y)) 0) true (eq-eqb _ 0 e) refl
 in-full-more m s b (x ∷ front) y h e =
     let next : Buffers = after m s b (asCall x) in
@@ -114,8 +114,8 @@ module _ (m s : ℕ) (raster keys bits summary logKeys logValues : List ℕ) (ac
   abbrev left : List Paint → Picture
   left xs = pictureLeft m raster (keptAfter m s raster keys bits summary logKeys logValues before xs)
 
-  first-list : listIn sheet ≡ listOfPicture m (left [])
-  unfolding asCalls run
+  first-list : recordsOn sheet ≡ listOfPicture m (left [])
+  unfolding asCalls afterCalls
   first-list = after-history m s raster keys bits summary logKeys logValues accepted before [] .picture
 
   left-agrees : (xs : List Paint) → inFull m s sheet xs ≡ true → Agree (left xs) (inTurn m (left []) xs) m 0 0
@@ -194,5 +194,5 @@ module _ (m s : ℕ) (raster keys bits summary logKeys logValues : List ℕ) (ac
 
     -- every order of the paints is accepted in full where one is, if the list has room for any list
     pub every-order : 4 ^ suc m ≤ 3 * room keys bits + 1 → (ys : List Paint) → Rearranged xs ys → inFull m s sheet ys ≡ true
-    unfolding inFull asCalls run
+    unfolding inFull asCalls afterCalls
     every-order ample ys r = rest-accepted ample [] ys r refl

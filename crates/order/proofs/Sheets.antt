@@ -7,10 +7,10 @@ use mathlib.Core.List.{List, [], _∷_}
 use lib.ListN.{length}
 use lib.Dec.{leb, ltb, eqb}
 use borrow.Author.Tests.{eqb-true, not-false}
-use Rattle.keys.specs.Key.{rootKey, validKey}
+use Rattle.keys.specs.Key.{validKey}
 use Rattle.keys.proofs.Cases.{and-left, and-right, and-both}
 use Rattle.definitions.specs.Picture.{Picture, featuresBelow}
-use Rattle.definitions.specs.List.{Record, listOf, listOfPicture}
+use Rattle.definitions.specs.List.{Record, listOfPicture}
 use Rattle.definitions.specs.Read.{room, recordsOf, pictureOf, sameRecords, isListOfBlock, isList}
 use Rattle.definitions.specs.Area.{summaryOf, noSummary}
 use Rattle.definitions.specs.Edit.{paintIn}
@@ -19,13 +19,13 @@ use Rattle.definitions.specs.Refusal.{Row, _gives_, badSettings, noList, badKey
 use Rattle.definitions.specs.Calls.Paint.{paintedPicture, painted, gained, paintRefusal, paint}
 use Rattle.laws.proofs.First.{first-none}
 use Rattle.laws.proofs.IsList.{same-to}
-use Rattle.history.specs.History.{Buffers, ofBlock, painting, applied, answer, after, run}
+use Rattle.history.specs.History.{Buffers, ofBlock, painting, applied, answer, after, afterCalls}
 use Rattle.order.specs.Paint.{Paint}
 use Rattle.history.proofs.Content.{painted-list, painted-summary}
 use Rattle.history.proofs.Shown.{shown-records, shown-replaced}
 use Rattle.history.proofs.PaintStep.{listAfter, paint-done}
 use Rattle.order.specs.Apart.{allValid}
-use Rattle.order.specs.Either.{asCall, asCalls, inFull, inTurn, listIn, pictureIn, SameSheet, afterPaints}
+use Rattle.order.specs.Either.{asCall, asCalls, inFull, inTurn, recordsOn, pictureIn, SameSheet, afterPaints}
 
 -- what an accepted paint has checked
 record Passed (m s : ℕ) (b : Buffers) (κ f : ℕ) : Type 0 where
@@ -43,8 +43,8 @@ passed m s b κ f e =
     ∷ noLog m s (b .logKeys) (b .logValues) (b .used) (b .inForce) gives 5
     ∷ badKey m κ gives 8
     ∷ badFeature s f gives 7
-    ∷ ltb (room (b .logKeys) (b .logValues)) (b .inForce + length (gained m (listIn b) κ f)) gives 10
-    ∷ ltb (room (b .keys) (b .bits)) (length (painted m (listIn b) κ f)) gives 9
+    ∷ ltb (room (b .logKeys) (b .logValues)) (b .inForce + length (gained m (recordsOn b) κ f)) gives 10
+    ∷ ltb (room (b .keys) (b .bits)) (length (painted m (recordsOn b) κ f)) gives 9
     ∷ [] in
     let none = first-none rows refl e in
     record { list = not-false _ (none .1 .0); valid = not-false _ (none .1 .1 .1 .1 .0); below = none .1 .1 .1 .1 .1 .0 }
@@ -62,7 +62,7 @@ shown-list m s keys bits n e =
 -- the list and the summary of a picture stand on the sheet
 pub record Shows (m s : ℕ) (b : Buffers) (p : Picture) : Type 0 where
   pub count : b .n ≡ length (listOfPicture m p)
-  pub list : listIn b ≡ listOfPicture m p
+  pub list : recordsOn b ≡ listOfPicture m p
   pub summary : b .summary ≡ summaryOf m s p
 
 -- sheets that show one picture have the same list and summary
@@ -75,7 +75,7 @@ shows-same m s b b′ p q h j e = record {
 
 module _ (m s : ℕ) where
   -- an accepted paint leaves the list and the summary of the painted picture
-  pub paint-shows : (b : Buffers) (p : Picture) (x : Paint) → listIn b ≡ listOfPicture m p → answer m s b (asCall x) ≡ 0
+  pub paint-shows : (b : Buffers) (p : Picture) (x : Paint) → recordsOn b ≡ listOfPicture m p → answer m s b (asCall x) ≡ 0
       → Shows m s (after m s b (asCall x)) (paintIn m (x .key) (x .feature) p)
   unfolding applied painted
   paint-shows b p x e accepted =
@@ -90,7 +90,7 @@ module _ (m s : ℕ) where
       })
 
   -- buffers that a paint was accepted on have the list of the picture that they show
-  pub accepted-list : (b : Buffers) (x : Paint) → answer m s b (asCall x) ≡ 0 → listIn b ≡ listOfPicture m (pictureIn m b)
+  pub accepted-list : (b : Buffers) (x : Paint) → answer m s b (asCall x) ≡ 0 → recordsOn b ≡ listOfPicture m (pictureIn m b)
   accepted-list b x e = shown-list m s (b .keys) (b .bits) (b .n) (passed m s b (x .key) (x .feature) e .list)
 
   -- and its key was valid
@@ -122,16 +122,16 @@ module _ (m s : ℕ) where
 
   -- a run on a sheet that shows a picture leaves one that shows the picture with the paints in turn
   more-shows : (b : Buffers) (p : Picture) (xs : List Paint) → Shows m s b p → inFull m s b xs ≡ true → Shows m s (afterPaints m s b xs) (inTurn m p xs)
-  unfolding asCalls run inTurn
+  unfolding asCalls afterCalls inTurn
   more-shows b p [] h e = h
   more-shows b p (x ∷ xs) h e =
       more-shows (after m s b (asCall x)) (paintIn m (x .key) (x .feature) p) xs
       (paint-shows b p x (h .list) (first-accepted b x xs e)) (rest-in-full b x xs e)
 
   -- a run on a picture's list leaves the list of the picture with the paints in turn
-  pub run-list : (b : Buffers) (p : Picture) (xs : List Paint) → listIn b ≡ listOfPicture m p → inFull m s b xs ≡ true
-      → listIn (afterPaints m s b xs) ≡ listOfPicture m (inTurn m p xs)
-  unfolding asCalls run inTurn
+  pub run-list : (b : Buffers) (p : Picture) (xs : List Paint) → recordsOn b ≡ listOfPicture m p → inFull m s b xs ≡ true
+      → recordsOn (afterPaints m s b xs) ≡ listOfPicture m (inTurn m p xs)
+  unfolding asCalls afterCalls inTurn
   run-list b p [] e h = e
   run-list b p (x ∷ xs) e h =
       run-list (after m s b (asCall x)) (paintIn m (x .key) (x .feature) p) xs (paint-shows b p x e (first-accepted b x xs h) .list) (rest-in-full b x xs h)
@@ -139,7 +139,7 @@ module _ (m s : ℕ) where
   -- a run of paints that is accepted in full, on any buffers, leaves the list and the summary of their picture with the paints in turn
   pub run-shows : (b : Buffers) (x : Paint) (xs : List Paint) → inFull m s b (x ∷ xs) ≡ true
       → Shows m s (afterPaints m s b (x ∷ xs)) (inTurn m (pictureIn m b) (x ∷ xs))
-  unfolding asCalls run inTurn
+  unfolding asCalls afterCalls inTurn
   run-shows b x xs h =
       let accepted = first-accepted b x xs h in
       more-shows (after m s b (asCall x)) (paintIn m (x .key) (x .feature) (pictureIn m b)) xs

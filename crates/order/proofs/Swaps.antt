@@ -2,8 +2,8 @@
 -- each pixel has after such a run. Rests on ApartBlocks and Rearrangements.
 use Prim.Native.Nat.{ℕ}
 use mathlib.Core.Path.{_≡_, refl, sym, ap, fun-ext, _∙_}
-use mathlib.Core.Bool.{Bool, true, false, _&&_, _||_}
-use mathlib.Core.List.{List, [], _∷_}
+use mathlib.Core.Bool.{Bool, true, _&&_}
+use mathlib.Core.List.{List, _∷_}
 use Rattle.keys.specs.Key.{validKey}
 use Rattle.keys.specs.Block.{inBlock}
 use Rattle.keys.proofs.Cases.{decide, and-left, and-right, and-both}
@@ -12,7 +12,7 @@ use Rattle.definitions.specs.Edit.{paintIn}
 use Rattle.order.specs.Paint.{Paint}
 use Rattle.history.proofs.Drawn.{paint-inside, paint-outside}
 use Rattle.order.specs.Rearranged.{Rearranged, Swapped, none, further, swap, and-then}
-use Rattle.order.specs.Apart.{apart, apartFromAll, allApart, allValid, touched}
+use Rattle.order.specs.Apart.{apart, apartFromAll, allApart, allValid}
 use Rattle.order.specs.Either.{inTurn}
 use Rattle.order.proofs.Rearrangements.{times-swapped}
 use Rattle.order.proofs.ApartBlocks.{apart-to, apart-flip, Disjoint, apart-disjoint}

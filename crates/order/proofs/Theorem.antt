@@ -2,7 +2,7 @@
 -- paints, by the definitions that paint's promise cites; then for the calls; then for any rearrangement of a run. Rests on Swaps and Sheets.
 use Prim.Native.Nat.{ℕ}
 use mathlib.Core.Path.{_≡_, refl, sym, ap, _∙_}
-use mathlib.Core.Bool.{Bool, true, _&&_}
+use mathlib.Core.Bool.{true, _&&_}
 use mathlib.Core.List.{List, [], _∷_}
 use lib.Dec.{eqb}
 use borrow.Author.Tests.{eq-eqb}
@@ -12,9 +12,8 @@ use Rattle.definitions.specs.Picture.{Picture}
 use Rattle.definitions.specs.List.{Record, listOfPicture}
 use Rattle.definitions.specs.Read.{pictureOf}
 use Rattle.definitions.specs.Area.{summaryOf}
-use Rattle.definitions.specs.Edit.{paintIn}
 use Rattle.definitions.specs.Calls.Paint.{paintedPicture, painted}
-use Rattle.history.specs.History.{Buffers, answer, after, run}
+use Rattle.history.specs.History.{Buffers, answer, after, afterCalls}
 use Rattle.order.specs.Paint.{Paint}
 use Rattle.history.proofs.Content.{painted-list, painted-summary}
 use Rattle.order.specs.Rearranged.{Rearranged, swap}
@@ -22,7 +21,7 @@ use Rattle.order.specs.Apart.{apart, apartFromAll, allApart}
 use Rattle.order.specs.Either.{asCall, asCalls, inFull, inTurn, pictureIn, SameSheet, afterPaints}
 use Rattle.order.proofs.Rearrangements.{not-none, swapped-times}
 use Rattle.order.proofs.Swaps.{two-swap, picture-either}
-use Rattle.order.proofs.Sheets.{Shows, shows-same, in-full-valid, run-shows}
+use Rattle.order.proofs.Sheets.{shows-same, in-full-valid, run-shows}
 
 -- ---- the definitions that paint's promise cites
 module _ (m s : ℕ) (x y : Paint) (valid-x : validKey m (x .key) ≡ true) (valid-y : validKey m (y .key) ≡ true) (h : apart m x y ≡ true) (l : List Record) where
@@ -84,6 +83,6 @@ module _ (m s : ℕ) (b : Buffers) where
       → answer m s b (asCall y) ≡ 0
       → answer m s (after m s b (asCall y)) (asCall x) ≡ 0
       → SameSheet (after m s (after m s b (asCall x)) (asCall y)) (after m s (after m s b (asCall y)) (asCall x))
-  unfolding asCalls run
+  unfolding asCalls afterCalls
   two-paints x y h x-first y-then y-first x-then =
       either-order m s b (x ∷ y ∷ []) (y ∷ x ∷ []) (swapped-times swap) (two-apart x y h) (two-in-full x y x-first y-then) (two-in-full y x y-first x-then)

@@ -26,6 +26,6 @@ allValid m [] = true
 allValid m (x ∷ xs) = validKey m (x .key) && allValid m xs
 
 -- some paint of the run has the pixel in its block
-unfoldable pub touched : ℕ → List Paint → (row column : ℕ) → Bool
-touched m [] row column = false
-touched m (x ∷ xs) row column = inBlock m (x .key) row column || touched m xs row column
+unfoldable pub inSomePaint : ℕ → List Paint → (row column : ℕ) → Bool
+inSomePaint m [] row column = false
+inSomePaint m (x ∷ xs) row column = inBlock m (x .key) row column || inSomePaint m xs row column

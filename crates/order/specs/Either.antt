@@ -10,10 +10,10 @@ use Rattle.definitions.specs.Picture.{Picture}
 use Rattle.definitions.specs.List.{Record}
 use Rattle.definitions.specs.Read.{recordsOf, pictureOf}
 use Rattle.definitions.specs.Edit.{paintIn}
-use Rattle.history.specs.History.{Call, ofBlock, painting, Buffers, answer, after, run}
+use Rattle.history.specs.History.{Call, ofBlock, painting, Buffers, answer, after, afterCalls}
 use Rattle.order.specs.Paint.{Paint}
 use Rattle.order.specs.Rearranged.{timesIn}
-use Rattle.order.specs.Apart.{touched}
+use Rattle.order.specs.Apart.{inSomePaint}
 
 -- a paint as a call
 abbrev pub asCall : Paint → Call
@@ -34,27 +34,27 @@ inTurn m p [] = p
 inTurn m p (x ∷ xs) = inTurn m (paintIn m (x .key) (x .feature) p) xs
 
 -- the records on a sheet
-abbrev pub listIn : Buffers → List Record
-listIn b = recordsOf (b .keys) (b .bits) (b .n)
+abbrev pub recordsOn : Buffers → List Record
+recordsOn b = recordsOf (b .keys) (b .bits) (b .n)
 
 -- the picture that they show
 abbrev pub pictureIn : ℕ → Buffers → Picture
-pictureIn m b = pictureOf m (listIn b)
+pictureIn m b = pictureOf m (recordsOn b)
 
 -- two sheets have the same list, with as many records, and the same summary
 pub record SameSheet (b b′ : Buffers) : Type 0 where
   pub count : b .n ≡ b′ .n
-  pub list : listIn b ≡ listIn b′
+  pub list : recordsOn b ≡ recordsOn b′
   pub summary : b .summary ≡ b′ .summary
 
 -- the buffers after the paints of a run
 abbrev pub afterPaints : ℕ → ℕ → Buffers → List Paint → Buffers
-afterPaints m s b xs = run m s b (asCalls xs)
+afterPaints m s b xs = afterCalls m s b (asCalls xs)
 
 -- the second picture is the first with all the paints: where a paint has a pixel in its block its feature, and the first picture's elsewhere
 pub record AllPaints (m : ℕ) (xs : List Paint) (p q : Picture) : Type 0 where
   pub inside : (x : Paint) → 1 ≤ timesIn x xs → (row column : ℕ) → inBlock m (x .key) row column ≡ true → q row column ≡ x .feature
-  pub outside : (row column : ℕ) → row < 2 ^ m → column < 2 ^ m → touched m xs row column ≡ false → q row column ≡ p row column
+  pub outside : (row column : ℕ) → row < 2 ^ m → column < 2 ^ m → inSomePaint m xs row column ≡ false → q row column ≡ p row column
 
 -- accepted, or refused for want of room in the log or in the list
 abbrev pub isOfRoom : ℕ → Bool

@@ -1,23 +1,23 @@
 -- The passes one after the other, on the slices. Rests on ShrinkSteps, GrowQuarters and Assembled.
 use Prim.Native.Nat.{ℕ, _+_, _-_, _^_, _≤_}
-use mathlib.Core.Path.{_≡_, refl, sym, _∙_, ap, ap₂}
+use mathlib.Core.Path.{_≡_, sym, _∙_, ap, ap₂}
 use mathlib.Core.List.{List, [], _∷_, _++_, append-nil}
 use native.Mathlib.Nat.{zero-add, le-refl}
 use native.Mathlib.Omega.{arith}
-use lib.ListN.{length, take, drop, replicate, length-map, length-append}
+use lib.ListN.{length, take, drop, replicate, length-map}
 use lib.Seq.{sets}
 use Rattle.slices.proofs.Sets.{sets-parts, sets-same}
 use Rattle.keys.proofs.Cases.{split}
-use Rattle.keys.specs.Under.{Block, here}
+use Rattle.keys.specs.Under.{here}
 use Rattle.definitions.specs.Picture.{Picture}
 use Rattle.definitions.specs.List.{Record, keysOf, valuesOf, listOf, listOfPicture}
 use Rattle.definitions.specs.Read.{room, paired, recordsOf}
 use Rattle.definitions.specs.Buffer.{over, replaced}
-use Rattle.laws.proofs.Ascending.{Ascending, none}
-use Rattle.laws.proofs.Records.{records-length, records-keys, records-values, paired-back}
+use Rattle.laws.proofs.Ascending.{none}
+use Rattle.laws.proofs.Records.{records-keys, records-values, paired-back}
 use Rattle.list.specs.Own.{OwnList, shownBy}
 use Rattle.list.proofs.Own.{own-length}
-use Rattle.step.specs.Step.{Step, pruned, over as stepOver}
+use Rattle.step.specs.Step.{Step, pruned, stepOver}
 use Rattle.step.proofs.Pruned.{pruned-before, pruned-after, pruned-all}
 use Rattle.passes.specs.Passes.{ShowingBlock, Shown, Wrote, Growing, GrowAsked, Grown, BlockCounted}
 use Rattle.passes.specs.Shrink.{ShrinkAsked, ShrunkAt, Shrinks}

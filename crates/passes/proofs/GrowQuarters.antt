@@ -1,16 +1,14 @@
 -- The steps of `grow` as the code asks for them, the quadrants told by their numbers. Rests on GrowSteps.
 use Prim.Native.Nat.{ℕ, suc, _+_, _-_, _^_, _<_}
-use mathlib.Core.Path.{_≡_, _∙_, ap}
+use mathlib.Core.Path.{_≡_}
 use mathlib.Core.Bool.{false}
 use mathlib.Core.List.{List}
 use native.Mathlib.Omega.{arith}
-use lib.ListN.{length, getD}
-use lib.Seq.{length-sets}
+use lib.ListN.{getD}
 use Rattle.keys.specs.Key.{childKey}
 use Rattle.keys.specs.Under.{Block}
 use Rattle.definitions.specs.Picture.{Picture, oneFeature}
-use Rattle.definitions.specs.List.{keysOf, valuesOf, listOf}
-use Rattle.step.specs.Step.{Step, over}
+use Rattle.step.specs.Step.{Step, stepOver}
 use Rattle.step.specs.Quarters.{quartersOf}
 use Rattle.step.specs.declared.quarters.Quarters.{Quarters}
 use Rattle.step.proofs.QuarterSums.{block-nw, block-ne, block-sw, block-se}
@@ -25,17 +23,6 @@ asked-some a = grow-some (a .growing)
 pub asked-node : {t : Step} {m k r c κ read write : ℕ} {ks bs : List ℕ} (a : GrowAsked t m k r c κ ks bs read write) → (getD ks (read - 1) 0 ≡ κ → ⊥)
     → NodeLeft t (a .picture) k r c
 asked-node a other = grows-node (a .growing) other
-
--- growing keeps the lengths
-pub grown-keys : {t : Step} {m k r c κ read write read′ write′ : ℕ} {ks bs ks′ bs′ : List ℕ} → GrowAsked t m k r c κ ks bs read write
-    → Grown t k r c κ ks bs read write ks′ bs′ read′ write′ → length ks′ ≡ length ks
-grown-keys {t} {k = k} {r} {c} {κ} {ks = ks} a h =
-    ap length (h .holds (a .picture) (a .growing) .wrote .keys-are) ∙ length-sets ks _ (keysOf (listOf (over t (a .picture)) k r c κ))
-
-pub grown-bits : {t : Step} {m k r c κ read write read′ write′ : ℕ} {ks bs ks′ bs′ : List ℕ} → GrowAsked t m k r c κ ks bs read write
-    → Grown t k r c κ ks bs read write ks′ bs′ read′ write′ → length bs′ ≡ length bs
-grown-bits {t} {k = k} {r} {c} {κ} {bs = bs} a h =
-    ap length (h .holds (a .picture) (a .growing) .wrote .bits-are) ∙ length-sets bs _ (valuesOf (listOf (over t (a .picture)) k r c κ))
 
 module _ (t : Step) {m k r c κ read write : ℕ} {ks bs : List ℕ} {q : Quarters} (e : q ≡ quartersOf k r c κ) (a : GrowAsked t m k r c κ ks bs read write)
     (other : getD ks (read - 1) 0 ≡ κ → ⊥) where
@@ -59,7 +46,7 @@ module _ (t : Step) {m k r c κ read write : ℕ} {ks bs : List ℕ} {q : Quarte
     pub before : oneFeature p (suc (k - 1)) r c ≡ false
     before = rw (← up) (grows-node g other .before)
 
-    pub after : oneFeature (over t p) (suc (k - 1)) r c ≡ false
+    pub after : oneFeature (stepOver t p) (suc (k - 1)) r c ≡ false
     after = rw (← up) (grows-node g other .after)
 
   G : Growing t (a .picture) (suc (k - 1)) r c κ ks bs read write
@@ -68,7 +55,7 @@ module _ (t : Step) {m k r c κ read write : ℕ} {ks bs : List ℕ} {q : Quarte
   B : oneFeature (a .picture) (suc (k - 1)) r c ≡ false
   B = before (a .picture) (a .growing)
 
-  A : oneFeature (over t (a .picture)) (suc (k - 1)) r c ≡ false
+  A : oneFeature (stepOver t (a .picture)) (suc (k - 1)) r c ≡ false
   A = after (a .picture) (a .growing)
 
   pub asks-se : GrowAsked t m (q .height) (q .down) (q .right) (q .se) ks bs read write

@@ -8,14 +8,13 @@ use native.Mathlib.Omega.{arith}
 use lib.ListN.{length, getD, length-append, length-map}
 use lib.Seq.{sets}
 use Rattle.keys.specs.Key.{childKey}
-use Rattle.keys.specs.Under.{Block, here, nw, ne, sw}
-use Rattle.keys.proofs.Under.{under-trans}
+use Rattle.keys.specs.Under.{Block}
 use Rattle.definitions.specs.Picture.{Picture, oneFeature}
 use Rattle.definitions.specs.Bits.{bitsOf, featureOf}
 use Rattle.definitions.specs.List.{Record, recordOf, keysOf, valuesOf, listOf}
 use Rattle.laws.proofs.ListOf.{list-node, list-agree, length-node}
 use Rattle.build.proofs.CountBlock.{list-five}
-use Rattle.step.specs.Step.{Step, over, plain, pruned}
+use Rattle.step.specs.Step.{Step, stepOver, plain, pruned}
 use Rattle.step.specs.Deed.{LeafAsked}
 use Rattle.step.proofs.Pruned.{pruned-node, pruned-after}
 use Rattle.passes.specs.Passes.{WriteAsked, Wrote, Waiting, Moved, Growing, Grown, OwnAsked, OwnWritten}
@@ -26,7 +25,7 @@ use Rattle.passes.proofs.PrunedBlock.{LeafLeft, NodeLeft, either-left, 
 -- the last key tells a leaf from a node
 module _ {t : Step} {p : Picture} {k r c κ : ℕ} {ks bs : List ℕ} {read write : ℕ} (g : Growing t p k r c κ ks bs read write) where
   pub grow-some : 0 < read
-  grow-some = let l = pruned-last p (over t p) k r c κ in ending-some (l .before) (l .last) (ending-at (l .is) (g .waits .ending))
+  grow-some = let l = pruned-last p (stepOver t p) k r c κ in ending-some (l .before) (l .last) (ending-at (l .is) (g .waits .ending))
 
   past-own : NodeLeft t p k r c → getD ks (read - 1) 0 ≡ κ → ⊥
   past-own n e =
@@ -48,16 +47,16 @@ module _ {t : Step} {p : Picture} {k r c κ : ℕ} {ks bs : List ℕ} {read writ
     value-is : getD bs (read - 1) 0 ≡ leaf .value
     value-is = ap (λ x. x .value) (ending-last [] (recordOf κ (leaf .value)) (ending-at (leaf .is) (g .waits .ending)))
 
-    list-same : listOf (over t (plain (featureOf (getD bs (read - 1) 0)))) k r c κ ≡ listOf (over t p) k r c κ
-    list-same = rw value-is (list-agree (over t (plain (featureOf (leaf .value)))) (over t p) k r c κ (leaf .same))
+    list-same : listOf (stepOver t (plain (featureOf (getD bs (read - 1) 0)))) k r c κ ≡ listOf (stepOver t p) k r c κ
+    list-same = rw value-is (list-agree (stepOver t (plain (featureOf (leaf .value)))) (stepOver t p) k r c κ (leaf .same))
 
-    single : length (pruned p (over t p) k r c κ) ≡ 1
+    single : length (pruned p (stepOver t p) k r c κ) ≡ 1
     single = ap length (leaf .is)
 
     pub leaf-asked : {m : ℕ} → m ≤ 10 → Block m k r c κ → LeafAsked m (getD bs (read - 1) 0) k r c κ
     leaf-asked deep b = record { deep = deep; block = b; leaf = rw value-is (leaf .one) }
 
-    pub leaf-writes : WriteAsked (listOf (over t (plain (featureOf (getD bs (read - 1) 0)))) k r c κ) κ write ks bs
+    pub leaf-writes : WriteAsked (listOf (stepOver t (plain (featureOf (getD bs (read - 1) 0)))) k r c κ) κ write ks bs
     leaf-writes =
         let s = single in
         let some = grow-some in
@@ -65,52 +64,52 @@ module _ {t : Step} {p : Picture} {k r c κ : ℕ} {ks bs : List ℕ} {read writ
         (record { low = omega (arith, g .waits .apart); early = g .waits .early; in-keys = g .waits .in-keys; in-bits = g .waits .in-bits })
 
     pub leaf-moved : {ks′ bs′ : List ℕ} {start : ℕ}
-        → Wrote (listOf (over t (plain (featureOf (getD bs (read - 1) 0)))) k r c κ) write ks bs ks′ bs′ start
-        → Moved (pruned p (over t p) k r c κ) (listOf (over t p) k r c κ) ks bs read write ks′ bs′ (read - 1) start
+        → Wrote (listOf (stepOver t (plain (featureOf (getD bs (read - 1) 0)))) k r c κ) write ks bs ks′ bs′ start
+        → Moved (pruned p (stepOver t p) k r c κ) (listOf (stepOver t p) k r c κ) ks bs read write ks′ bs′ (read - 1) start
     leaf-moved w = let s = single in let some = grow-some in record { passed = omega arith; wrote = rw list-same at w }
 
 pub leaf-grown : {t : Step} {k r c κ : ℕ} {ks bs ks′ bs′ : List ℕ} {read write start : ℕ} → getD ks (read - 1) 0 ≡ κ
-    → Wrote (listOf (over t (plain (featureOf (getD bs (read - 1) 0)))) k r c κ) write ks bs ks′ bs′ start
+    → Wrote (listOf (stepOver t (plain (featureOf (getD bs (read - 1) 0)))) k r c κ) write ks bs ks′ bs′ start
     → Grown t k r c κ ks bs read write ks′ bs′ (read - 1) start
 leaf-grown e w = record { holds = λ p g. leaf-moved g e w }
 
 -- a node
 module _ (t : Step) (p : Picture) {m : ℕ} (k r c κ : ℕ) (block : Block m (suc k) r c κ) {ks bs : List ℕ} {read write : ℕ} (g : Growing t p (suc k) r c κ ks bs read write)
-    (before : oneFeature p (suc k) r c ≡ false) (after : oneFeature (over t p) (suc k) r c ≡ false) where
+    (before : oneFeature p (suc k) r c ≡ false) (after : oneFeature (stepOver t p) (suc k) r c ≡ false) where
   abbrev own : Record
-  own = recordOf κ (bitsOf (over t p) (suc k) r c)
+  own = recordOf κ (bitsOf (stepOver t p) (suc k) r c)
 
   abbrev P₁ : List Record
-  P₁ = pruned p (over t p) k r c (childKey κ k 1)
+  P₁ = pruned p (stepOver t p) k r c (childKey κ k 1)
 
   abbrev P₂ : List Record
-  P₂ = pruned p (over t p) k r (c + 2 ^ k) (childKey κ k 2)
+  P₂ = pruned p (stepOver t p) k r (c + 2 ^ k) (childKey κ k 2)
 
   abbrev P₃ : List Record
-  P₃ = pruned p (over t p) k (r + 2 ^ k) c (childKey κ k 3)
+  P₃ = pruned p (stepOver t p) k (r + 2 ^ k) c (childKey κ k 3)
 
   abbrev P₄ : List Record
-  P₄ = pruned p (over t p) k (r + 2 ^ k) (c + 2 ^ k) (childKey κ k 4)
+  P₄ = pruned p (stepOver t p) k (r + 2 ^ k) (c + 2 ^ k) (childKey κ k 4)
 
   abbrev L₁ : List Record
-  L₁ = listOf (over t p) k r c (childKey κ k 1)
+  L₁ = listOf (stepOver t p) k r c (childKey κ k 1)
 
   abbrev L₂ : List Record
-  L₂ = listOf (over t p) k r (c + 2 ^ k) (childKey κ k 2)
+  L₂ = listOf (stepOver t p) k r (c + 2 ^ k) (childKey κ k 2)
 
   abbrev L₃ : List Record
-  L₃ = listOf (over t p) k (r + 2 ^ k) c (childKey κ k 3)
+  L₃ = listOf (stepOver t p) k (r + 2 ^ k) c (childKey κ k 3)
 
   abbrev L₄ : List Record
-  L₄ = listOf (over t p) k (r + 2 ^ k) (c + 2 ^ k) (childKey κ k 4)
+  L₄ = listOf (stepOver t p) k (r + 2 ^ k) (c + 2 ^ k) (childKey κ k 4)
 
   shape : (x : Record) (a b c d : List Record) → x ∷ (a ++ (b ++ (c ++ d))) ≡ ((((x ∷ []) ++ a) ++ b) ++ c) ++ d
   shape x a b c d = ap (λ l. x ∷ l) (sym (append-assoc (a ++ b) c d ∙ append-assoc a b (c ++ d)))
 
   waits-all : Waiting κ (((((own ∷ []) ++ P₁) ++ P₂) ++ P₃) ++ P₄) (1 + length L₁ + length L₂ + length L₃ + length L₄) ks bs read write
   waits-all =
-      let e : pruned p (over t p) (suc k) r c κ ≡ ((((own ∷ []) ++ P₁) ++ P₂) ++ P₃) ++ P₄ = pruned-node p (over t p) k r c κ after before ∙ shape own P₁ P₂ P₃ P₄ in
-      let n : length (listOf (over t p) (suc k) r c κ) ≡ 1 + length L₁ + length L₂ + length L₃ + length L₄ = let z = length-node (over t p) k r c κ after in omega arith in
+      let e : pruned p (stepOver t p) (suc k) r c κ ≡ ((((own ∷ []) ++ P₁) ++ P₂) ++ P₃) ++ P₄ = pruned-node p (stepOver t p) k r c κ after before ∙ shape own P₁ P₂ P₃ P₄ in
+      let n : length (listOf (stepOver t p) (suc k) r c κ) ≡ 1 + length L₁ + length L₂ + length L₃ + length L₄ = let z = length-node (stepOver t p) k r c κ after in omega arith in
       waiting-at e n (g .waits)
 
   -- a quadrant's records do not become fewer, and they are at most its keys
@@ -125,12 +124,12 @@ module _ (t : Step) (p : Picture) {m : ℕ} (k r c κ : ℕ) (block : Block m (s
 
   sizes : Sizes
   sizes = record {
-    few₁ = pruned-after p (over t p) k r c (childKey κ k 1);
-    few₂ = pruned-after p (over t p) k r (c + 2 ^ k) (childKey κ k 2);
-    few₃ = pruned-after p (over t p) k (r + 2 ^ k) c (childKey κ k 3);
-    most₁ = list-five (over t p) k r c (childKey κ k 1);
-    most₂ = list-five (over t p) k r (c + 2 ^ k) (childKey κ k 2);
-    most₃ = list-five (over t p) k (r + 2 ^ k) c (childKey κ k 3);
+    few₁ = pruned-after p (stepOver t p) k r c (childKey κ k 1);
+    few₂ = pruned-after p (stepOver t p) k r (c + 2 ^ k) (childKey κ k 2);
+    few₃ = pruned-after p (stepOver t p) k (r + 2 ^ k) c (childKey κ k 3);
+    most₁ = list-five (stepOver t p) k r c (childKey κ k 1);
+    most₂ = list-five (stepOver t p) k r (c + 2 ^ k) (childKey κ k 2);
+    most₃ = list-five (stepOver t p) k (r + 2 ^ k) c (childKey κ k 3);
     some = one-le-pow k 5 (omega arith);
   }
 
@@ -220,7 +219,7 @@ module _ (t : Step) (p : Picture) {m : ℕ} (k r c κ : ℕ) (block : Block m (s
               let d = rest₄ in
               record { some = ending-some [] own (d .ending); apart = omega (arith, d .apart); in-keys = d .in-keys; in-bits = d .in-bits }
 
-          own-bits : getD bs₄ (r₄ - 1) 0 ≡ bitsOf (over t p) (suc k) r c
+          own-bits : getD bs₄ (r₄ - 1) 0 ≡ bitsOf (stepOver t p) (suc k) r c
           own-bits = ap (λ x. x .value) (ending-last [] own (rest₄ .ending))
 
           keys-size : (l : List Record) → length (keysOf l) ≡ length l
@@ -230,7 +229,7 @@ module _ (t : Step) (p : Picture) {m : ℕ} (k r c κ : ℕ) (block : Block m (s
           values-size l = length-map l (λ x. x .value)
 
           pub node-moved : {ks′ bs′ : List ℕ} {r′ w′ : ℕ} → OwnWritten κ r₄ w₄ ks₄ bs₄ ks′ bs′ r′ w′
-              → Moved (pruned p (over t p) (suc k) r c κ) (listOf (over t p) (suc k) r c κ) ks bs read write ks′ bs′ r′ w′
+              → Moved (pruned p (stepOver t p) (suc k) r c κ) (listOf (stepOver t p) (suc k) r c κ) ks bs read write ks′ bs′ r′ w′
           node-moved {ks′} {bs′} {r′} {w′} o =
               let a = one in
               let b = two in
@@ -238,8 +237,8 @@ module _ (t : Step) (p : Picture) {m : ℕ} (k r c κ : ℕ) (block : Block m (s
               let f = four in
               let some = own-waits .some in
               let low = own-waits .apart in
-              let n = length-node (over t p) k r c κ after in
-              let q : length (pruned p (over t p) (suc k) r c κ) ≡ suc (length P₁ + (length P₂ + (length P₃ + length P₄))) = ap length (pruned-node p (over t p) k r c κ after before) ∙ simp length-append in
+              let n = length-node (stepOver t p) k r c κ after in
+              let q : length (pruned p (stepOver t p) (suc k) r c κ) ≡ suc (length P₁ + (length P₂ + (length P₃ + length P₄))) = ap length (pruned-node p (stepOver t p) k r c κ after before) ∙ simp length-append in
               record {
                 passed = omega (arith, o .read-is, a .passed, b .passed, d .passed, f .passed);
                 wrote = record {
@@ -247,13 +246,13 @@ module _ (t : Step) (p : Picture) {m : ℕ} (k r c κ : ℕ) (block : Block m (s
                   keys-are = four-back ks κ w₁ w₂ w₃ w₄ (keysOf L₁) (keysOf L₂) (keysOf L₃) (keysOf L₄) (a .wrote .keys-are) (b .wrote .keys-are) (d .wrote .keys-are) (f .wrote .keys-are) (o .keys-are)
                       (ap (λ i. w₂ + i) (keys-size L₃) ∙ b .wrote .start-is) (ap (λ i. w₃ + i) (keys-size L₂) ∙ d .wrote .start-is) (ap (λ i. w₄ + i) (keys-size L₁) ∙ f .wrote .start-is) (omega arith)
                       ∙ ap (λ l. sets ks (w₄ - 1) (κ ∷ l)) (sym (four-keys L₁ L₂ L₃ L₄))
-                      ∙ ap (λ l. sets ks (w₄ - 1) (keysOf l)) (sym (list-node (over t p) k r c κ after))
-                      ∙ ap (λ i. sets ks i (keysOf (listOf (over t p) (suc k) r c κ))) (sym (o .write-is));
+                      ∙ ap (λ l. sets ks (w₄ - 1) (keysOf l)) (sym (list-node (stepOver t p) k r c κ after))
+                      ∙ ap (λ i. sets ks i (keysOf (listOf (stepOver t p) (suc k) r c κ))) (sym (o .write-is));
                   bits-are = four-back bs (getD bs₄ (r₄ - 1) 0) w₁ w₂ w₃ w₄ (valuesOf L₁) (valuesOf L₂) (valuesOf L₃) (valuesOf L₄) (a .wrote .bits-are) (b .wrote .bits-are) (d .wrote .bits-are) (f .wrote .bits-are) (o .bits-are)
                       (ap (λ i. w₂ + i) (values-size L₃) ∙ b .wrote .start-is) (ap (λ i. w₃ + i) (values-size L₂) ∙ d .wrote .start-is) (ap (λ i. w₄ + i) (values-size L₁) ∙ f .wrote .start-is) (omega arith)
                       ∙ ap (λ v. sets bs (w₄ - 1) (v ∷ (valuesOf L₁ ++ (valuesOf L₂ ++ (valuesOf L₃ ++ valuesOf L₄))))) own-bits
-                      ∙ ap (λ l. sets bs (w₄ - 1) (bitsOf (over t p) (suc k) r c ∷ l)) (sym (four-values L₁ L₂ L₃ L₄))
-                      ∙ ap (λ l. sets bs (w₄ - 1) (valuesOf l)) (sym (list-node (over t p) k r c κ after))
-                      ∙ ap (λ i. sets bs i (valuesOf (listOf (over t p) (suc k) r c κ))) (sym (o .write-is));
+                      ∙ ap (λ l. sets bs (w₄ - 1) (bitsOf (stepOver t p) (suc k) r c ∷ l)) (sym (four-values L₁ L₂ L₃ L₄))
+                      ∙ ap (λ l. sets bs (w₄ - 1) (valuesOf l)) (sym (list-node (stepOver t p) k r c κ after))
+                      ∙ ap (λ i. sets bs i (valuesOf (listOf (stepOver t p) (suc k) r c κ))) (sym (o .write-is));
                 };
               }

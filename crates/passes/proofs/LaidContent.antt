@@ -14,10 +14,10 @@ use Rattle.definitions.specs.List.{Record, keysOf, valuesOf}
 use Rattle.definitions.specs.Read.{room}
 use Rattle.laws.proofs.ListOf.{list-one}
 use Rattle.list.specs.Check.{oneSlot}
-use Rattle.log.specs.Entries.{run}
+use Rattle.log.specs.Entries.{recordsFromPlace}
 use Rattle.log.proofs.Places.{run-keys, run-values}
 use Rattle.build.specs.BuildBlocks.{Fitting, Written, below, Tallied}
-use Rattle.step.specs.Step.{Step, over, plain}
+use Rattle.step.specs.Step.{Step, stepOver, plain}
 use Rattle.step.specs.Meeting.{Replaced, Met, isCut}
 use Rattle.step.specs.declared.meeting.Meeting.{Meeting}
 use Rattle.step.specs.declared.meeting.Meeting.the-variants.{Apart, Leaf, Content, Cut}
@@ -60,13 +60,13 @@ module _ {t : Step} {lk lv : List ℕ} {k r c κ start count : ℕ} (x : Replace
   there : start + count ≤ room lk lv
   there = omega (arith, x .in-keys, x .in-values)
 
-  content-several : oneFeature (over t p) k r c ≡ false
+  content-several : oneFeature (stepOver t p) k r c ≡ false
   content-several =
-      decide (oneFeature (over t p) k r c)
-      (λ one. let e = content-count x p in let l = ap length (list-one (over t p) k r c κ one) in absurd (omega (arith, x .several)))
+      decide (oneFeature (stepOver t p) k r c)
+      (λ one. let e = content-count x p in let l = ap length (list-one (stepOver t p) k r c κ one) in absurd (omega (arith, x .several)))
       (λ several. several)
 
-  pub content-fits : {place : ℕ} {ks bs : List ℕ} → Fitting (over t p) k r c κ place ks bs → ContentFits lk lv place ks bs start count
+  pub content-fits : {place : ℕ} {ks bs : List ℕ} → Fitting (stepOver t p) k r c κ place ks bs → ContentFits lk lv place ks bs start count
   content-fits f =
       let e = content-count x p in
       let i = f .keys-room content-several in
@@ -79,16 +79,16 @@ module _ {t : Step} {lk lv : List ℕ} {k r c κ start count : ℕ} (x : Replace
         in-bits = omega arith;
       }
 
-  below-keys : keysOf (below (over t p) k r c κ) ≡ take (count - 1) (drop (start + 1) lk)
-  below-keys = ap (λ l. keysOf (drop 1 l)) (sym (x .is p)) ∙ keys-below (run lk lv start count) ∙ ap (drop 1) (run-keys lk lv start count there) ∙ behind-first lk start count
+  below-keys : keysOf (below (stepOver t p) k r c κ) ≡ take (count - 1) (drop (start + 1) lk)
+  below-keys = ap (λ l. keysOf (drop 1 l)) (sym (x .is p)) ∙ keys-below (recordsFromPlace lk lv start count) ∙ ap (drop 1) (run-keys lk lv start count there) ∙ behind-first lk start count
 
-  below-values : valuesOf (below (over t p) k r c κ) ≡ take (count - 1) (drop (start + 1) lv)
-  below-values = ap (λ l. valuesOf (drop 1 l)) (sym (x .is p)) ∙ values-below (run lk lv start count) ∙ ap (drop 1) (run-values lk lv start count there) ∙ behind-first lv start count
+  below-values : valuesOf (below (stepOver t p) k r c κ) ≡ take (count - 1) (drop (start + 1) lv)
+  below-values = ap (λ l. valuesOf (drop 1 l)) (sym (x .is p)) ∙ values-below (recordsFromPlace lk lv start count) ∙ ap (drop 1) (run-values lk lv start count there) ∙ behind-first lv start count
 
   pub content-written : {place union next : ℕ} {ks bs ks′ bs′ : List ℕ}
       → ks′ ≡ sets ks (place + 1) (take (count - 1) (drop (start + 1) lk)) → bs′ ≡ sets bs (place + 1) (take (count - 1) (drop (start + 1) lv))
       → union ≡ getD lv start 0 → next ≡ place + count
-      → Written (over t p) k r c κ place ks bs ks′ bs′ union next
+      → Written (stepOver t p) k r c κ place ks bs ks′ bs′ union next
   content-written {place} {ks = ks} {bs} i j u n = record {
     union-is = u ∙ content-first x p;
     next-is = n ∙ ap (λ l. place + l) (content-count x p);
@@ -98,7 +98,7 @@ module _ {t : Step} {lk lv : List ℕ} {k r c κ start count : ℕ} (x : Replace
 
 -- a leaf is laid as its meeting tells
 module _ {t : Step} {lk lv : List ℕ} {k r c κ place : ℕ} {ks bs : List ℕ} {meeting : Meeting} (x : Met t lk lv k r c κ meeting) where
-  pub met-layable : (p : Picture) → Fitting (over t p) k r c κ place ks bs → Layable meeting lk lv place ks bs
+  pub met-layable : (p : Picture) → Fitting (stepOver t p) k r c κ place ks bs → Layable meeting lk lv place ks bs
   met-layable p f = record {
     small = omega (arith, f .key-fits, f .place-fits);
     fits = λ start count e. content-fits (met-content x e) p f;
@@ -111,7 +111,7 @@ one-written κ place {ks} {bs} t e f g h = rw (e, f, g, h) (count-one κ place k
 
 written-cases : (t : Step) (lk lv : List ℕ) (k r c κ place : ℕ) (ks bs ks′ bs′ : List ℕ) (own union next : ℕ) → oneSlot own ≡ true
     → (meeting : Meeting) → Met t lk lv k r c κ meeting → isCut meeting ≡ false → Laid meeting own lk lv place ks bs ks′ bs′ union next
-    → Written (over t (plain (featureOf own))) k r c κ place ks bs ks′ bs′ union next
+    → Written (stepOver t (plain (featureOf own))) k r c κ place ks bs ks′ bs′ union next
 written-cases t lk lv k r c κ place ks bs ks′ bs′ own union next one Apart x cut l =
     one-written κ place (known-tallied {tally = knownOf Apart own 1 lv} (plain (featureOf own)) (leaf-bits own k r c one) (leaf-records (featureOf own) k r c κ) x cut refl)
     (l .keys-are) (l .bits-are) (l .union-is) (l .next-is cut)
@@ -124,6 +124,6 @@ written-cases t lk lv k r c κ place ks bs ks′ bs′ own union next one Cut x 
 -- THE LAW
 pub laid-written : {t : Step} {lk lv : List ℕ} {k r c κ place own union next : ℕ} {ks bs ks′ bs′ : List ℕ} {meeting : Meeting} → oneSlot own ≡ true
     → Met t lk lv k r c κ meeting → isCut meeting ≡ false → Laid meeting own lk lv place ks bs ks′ bs′ union next
-    → Written (over t (plain (featureOf own))) k r c κ place ks bs ks′ bs′ union next
+    → Written (stepOver t (plain (featureOf own))) k r c κ place ks bs ks′ bs′ union next
 laid-written {t} {lk} {lv} {k} {r} {c} {κ} {place} {own} {union} {next} {ks} {bs} {ks′} {bs′} {meeting} one x cut l =
     written-cases t lk lv k r c κ place ks bs ks′ bs′ own union next one meeting x cut l

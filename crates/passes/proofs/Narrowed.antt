@@ -1,25 +1,21 @@
 -- A step of which only the pixels before a key are told does the same to every block before that key. Rests on the laws of pictures that agree.
-use Prim.Native.Nat.{ℕ, zero, suc, _+_, _^_, _≤_, _<_}
-use mathlib.Core.Path.{_≡_, sym, _∙_, ap, ap₂}
-use mathlib.Core.Bool.{cond, true, false}
-use mathlib.Core.List.{List, [], _∷_, _++_}
+use Prim.Native.Nat.{ℕ, _+_, _^_, _≤_}
+use mathlib.Core.Path.{sym, _∙_, ap, ap₂}
+use mathlib.Core.Bool.{cond}
+use mathlib.Core.List.{List}
 use native.Mathlib.Omega.{arith}
 use lib.ListN.{length, drop}
 use lib.Seq.{sets}
-use Rattle.keys.specs.Block.{pixelKey}
 use Rattle.keys.specs.Under.{Block}
 use Rattle.keys.proofs.Pixel.{inside}
-use Rattle.keys.specs.Key.{childKey}
-use Rattle.keys.proofs.Cases.{decide}
-use Rattle.definitions.specs.Picture.{Picture, oneFeature}
-use Rattle.definitions.specs.Bits.{bitsOf}
-use Rattle.definitions.specs.List.{Record, recordOf, keysOf, valuesOf, listOf}
-use Rattle.laws.proofs.Pixels.{Agree, agree-nw, agree-ne, agree-sw, agree-se}
-use Rattle.laws.proofs.Features.{one-agree, one-pixel}
+use Rattle.definitions.specs.Picture.{Picture}
+use Rattle.definitions.specs.List.{keysOf, valuesOf}
+use Rattle.laws.proofs.Pixels.{Agree}
+use Rattle.laws.proofs.Features.{one-agree}
 use Rattle.laws.proofs.BitsOf.{bits-agree}
 use Rattle.laws.proofs.ListOf.{list-agree}
 use Rattle.build.specs.BuildBlocks.{Tallied, Written, Fitting}
-use Rattle.step.specs.Step.{Step, over, pruned}
+use Rattle.step.specs.Step.{Step, stepOver}
 use Rattle.step.specs.Deed.{SameBefore}
 use Rattle.passes.specs.Passes.{BlockCounted, Growing, GrowAsked, Grown}
 use Rattle.passes.specs.Shrink.{Shrinks}
@@ -27,37 +23,37 @@ use Rattle.step.proofs.Pruned.{pruned-agree}
 
 module _ {m past k r c κ : ℕ} {t t′ : Step} (s : SameBefore m past t t′) (b : Block m k r c κ) (h : κ + 5 ^ k ≤ past) where
   -- on a block before that key the two steps over a picture agree
-  pub narrowed-agree : (p : Picture) → Agree (over t′ p) (over t p) k r c
-  unfolding over
+  pub narrowed-agree : (p : Picture) → Agree (stepOver t′ p) (stepOver t p) k r c
+  unfolding stepOver
   narrowed-agree p row column w =
       let i = inside b w in
       ap₂ (λ x y. cond x y (p row column)) (s .touches row column (omega (arith, i, h))) (s .gives row column (omega (arith, i, h)))
 
-  pub narrowed-tallied : (p : Picture) {bits count : ℕ} → Tallied (over t′ p) k r c bits count → Tallied (over t p) k r c bits count
+  pub narrowed-tallied : (p : Picture) {bits count : ℕ} → Tallied (stepOver t′ p) k r c bits count → Tallied (stepOver t p) k r c bits count
   narrowed-tallied p x = record {
-    bits-are = x .bits-are ∙ bits-agree (over t′ p) (over t p) k r c (narrowed-agree p);
-    count-is = x .count-is ∙ ap length (list-agree (over t′ p) (over t p) k r c 0 (narrowed-agree p));
+    bits-are = x .bits-are ∙ bits-agree (stepOver t′ p) (stepOver t p) k r c (narrowed-agree p);
+    count-is = x .count-is ∙ ap length (list-agree (stepOver t′ p) (stepOver t p) k r c 0 (narrowed-agree p));
   }
 
   pub narrowed-counted : {keys bits : List ℕ} {at n union count next : ℕ} → BlockCounted t′ k r c κ keys bits at n union count next → BlockCounted t k r c κ keys bits at n union count next
   narrowed-counted x = record { tallied = λ p s. narrowed-tallied p (x .tallied p s); passed = x .passed }
 
   -- what is to be written is the same, and so is the room that it needs
-  pub narrowed-written : (p : Picture) {place union next : ℕ} {keys bits keys′ bits′ : List ℕ} → Written (over t′ p) k r c κ place keys bits keys′ bits′ union next
-      → Written (over t p) k r c κ place keys bits keys′ bits′ union next
+  pub narrowed-written : (p : Picture) {place union next : ℕ} {keys bits keys′ bits′ : List ℕ} → Written (stepOver t′ p) k r c κ place keys bits keys′ bits′ union next
+      → Written (stepOver t p) k r c κ place keys bits keys′ bits′ union next
   narrowed-written p {place} {union} {next} {keys} {bits} {keys′} {bits′} x =
-      let same = list-agree (over t′ p) (over t p) k r c κ (narrowed-agree p) in
+      let same = list-agree (stepOver t′ p) (stepOver t p) k r c κ (narrowed-agree p) in
       record {
-        union-is = x .union-is ∙ bits-agree (over t′ p) (over t p) k r c (narrowed-agree p);
+        union-is = x .union-is ∙ bits-agree (stepOver t′ p) (stepOver t p) k r c (narrowed-agree p);
         next-is = x .next-is ∙ ap (λ l. place + length l) same;
         keys-are = x .keys-are ∙ ap (λ l. sets keys (place + 1) (keysOf (drop 1 l))) same;
         bits-are = x .bits-are ∙ ap (λ l. sets bits (place + 1) (valuesOf (drop 1 l))) same;
       }
 
-  pub narrowed-fitting : (p : Picture) {place : ℕ} {keys bits : List ℕ} → Fitting (over t p) k r c κ place keys bits → Fitting (over t′ p) k r c κ place keys bits
+  pub narrowed-fitting : (p : Picture) {place : ℕ} {keys bits : List ℕ} → Fitting (stepOver t p) k r c κ place keys bits → Fitting (stepOver t′ p) k r c κ place keys bits
   narrowed-fitting p {place} {keys} {bits} x =
-      let same = list-agree (over t′ p) (over t p) k r c κ (narrowed-agree p) in
-      let one = one-agree (over t′ p) (over t p) k r c (narrowed-agree p) in
+      let same = list-agree (stepOver t′ p) (stepOver t p) k r c κ (narrowed-agree p) in
+      let one = one-agree (stepOver t′ p) (stepOver t p) k r c (narrowed-agree p) in
       record {
         key-fits = x .key-fits;
         place-fits = x .place-fits;
@@ -68,7 +64,7 @@ module _ {m past k r c κ : ℕ} {t t′ : Step} (s : SameBefore m past t t′) 
   -- what waits to grow is the same, and so is what it grows to
   pub narrowed-growing : (p : Picture) {keys bits : List ℕ} {read write : ℕ} → Growing t p k r c κ keys bits read write → Growing t′ p k r c κ keys bits read write
   narrowed-growing p g = record {
-    waits = rw (pruned-agree p (over t′ p) (over t p) k r c κ (narrowed-agree p), list-agree (over t′ p) (over t p) k r c κ (narrowed-agree p)) (g .waits);
+    waits = rw (pruned-agree p (stepOver t′ p) (stepOver t p) k r c κ (narrowed-agree p), list-agree (stepOver t′ p) (stepOver t p) k r c κ (narrowed-agree p)) (g .waits);
   }
 
   pub narrowed-grown : {keys bits keys′ bits′ : List ℕ} {read write read′ write′ : ℕ} → Grown t′ k r c κ keys bits read write keys′ bits′ read′ write′
@@ -76,7 +72,7 @@ module _ {m past k r c κ : ℕ} {t t′ : Step} (s : SameBefore m past t t′) 
   narrowed-grown x = record {
     holds = λ p g.
         let y = x .holds p (narrowed-growing p g) in
-        rw (pruned-agree p (over t′ p) (over t p) k r c κ (narrowed-agree p), list-agree (over t′ p) (over t p) k r c κ (narrowed-agree p)) at y;
+        rw (pruned-agree p (stepOver t′ p) (stepOver t p) k r c κ (narrowed-agree p), list-agree (stepOver t′ p) (stepOver t p) k r c κ (narrowed-agree p)) at y;
   }
 
   pub narrowed-asked : {keys bits : List ℕ} {read write : ℕ} → GrowAsked t m k r c κ keys bits read write → GrowAsked t′ m k r c κ keys bits read write
@@ -88,9 +84,9 @@ module _ {m past k r c κ : ℕ} {t t′ : Step} (s : SameBefore m past t t′) 
   narrowed-shrinks {place = place} x = record {
     holds = λ p s.
         let y = x .holds p s in
-        let same = pruned-agree p (over t′ p) (over t p) k r c κ (narrowed-agree p) in
+        let same = pruned-agree p (stepOver t′ p) (stepOver t p) k r c κ (narrowed-agree p) in
         record {
-          union-is = y .union-is ∙ bits-agree (over t′ p) (over t p) k r c (narrowed-agree p);
+          union-is = y .union-is ∙ bits-agree (stepOver t′ p) (stepOver t p) k r c (narrowed-agree p);
           next-is = y .next-is;
           place-is = y .place-is ∙ ap (λ l. place + length l) same;
           keys-are = rw same at (y .keys-are);

@@ -17,24 +17,24 @@ use Rattle.laws.proofs.FeatureOf.{feature-of-power}
 use Rattle.laws.proofs.BitsOf.{bits-one}
 use Rattle.list.specs.Check.{oneSlot}
 use Rattle.list.proofs.OneSlot.{power-slot}
-use Rattle.step.specs.Step.{Step, over, plain, pruned}
+use Rattle.step.specs.Step.{Step, stepOver, plain, pruned}
 use Rattle.step.proofs.Pruned.{pruned-one, pruned-leaf, pruned-node, leaf-before, leaf-after}
 
 -- one record, whose feature is enough to know the step over the block
 pub record LeafLeft (t : Step) (p : Picture) (k r c κ : ℕ) : Type 0 where
   pub value : ℕ
-  pub is : pruned p (over t p) k r c κ ≡ recordOf κ value ∷ []
+  pub is : pruned p (stepOver t p) k r c κ ≡ recordOf κ value ∷ []
   pub one : oneSlot value ≡ true
-  pub same : Agree (over t (plain (featureOf value))) (over t p) k r c
+  pub same : Agree (stepOver t (plain (featureOf value))) (stepOver t p) k r c
 
 -- several features, before the step and after it
 pub record NodeLeft (t : Step) (p : Picture) (k r c : ℕ) : Type 0 where
   pub positive : 0 < k
   pub before : oneFeature p k r c ≡ false
-  pub after : oneFeature (over t p) k r c ≡ false
+  pub after : oneFeature (stepOver t p) k r c ≡ false
 
-leaf-of : (t : Step) (p : Picture) (k r c κ g value : ℕ) → value ≡ 2 ^ g → Agree (over t (plain g)) (over t p) k r c
-    → pruned p (over t p) k r c κ ≡ recordOf κ value ∷ [] → LeafLeft t p k r c κ
+leaf-of : (t : Step) (p : Picture) (k r c κ g value : ℕ) → value ≡ 2 ^ g → Agree (stepOver t (plain g)) (stepOver t p) k r c
+    → pruned p (stepOver t p) k r c κ ≡ recordOf κ value ∷ [] → LeafLeft t p k r c κ
 leaf-of t p k r c κ g value e h is =
     let f : featureOf value ≡ g = ap featureOf e ∙ feature-of-power g in
     record { value = value; is = is; one = ap oneSlot e ∙ power-slot g; same = rw f h }
@@ -42,13 +42,13 @@ leaf-of t p k r c κ g value e h is =
 -- one or the other
 pub either-left {ℓ} : {C : Type ℓ} (t : Step) (p : Picture) (k r c κ : ℕ) → (LeafLeft t p k r c κ → C) → (NodeLeft t p k r c → C) → C
 either-left t p zero r c κ leaf node =
-    let e = one-pixel (over t p) r c in
-    leaf (leaf-of t p zero r c κ (over t p r c) (bitsOf (over t p) zero r c) (bits-one (over t p) zero r c e) (leaf-after t p zero r c e) (pruned-one p (over t p) zero r c κ e))
+    let e = one-pixel (stepOver t p) r c in
+    leaf (leaf-of t p zero r c κ (stepOver t p r c) (bitsOf (stepOver t p) zero r c) (bits-one (stepOver t p) zero r c e) (leaf-after t p zero r c e) (pruned-one p (stepOver t p) zero r c κ e))
 either-left t p (suc k) r c κ leaf node =
-    decide (oneFeature (over t p) (suc k) r c)
-    (λ e. leaf (leaf-of t p (suc k) r c κ (over t p r c) (bitsOf (over t p) (suc k) r c) (bits-one (over t p) (suc k) r c e) (leaf-after t p (suc k) r c e) (pruned-one p (over t p) (suc k) r c κ e)))
+    decide (oneFeature (stepOver t p) (suc k) r c)
+    (λ e. leaf (leaf-of t p (suc k) r c κ (stepOver t p r c) (bitsOf (stepOver t p) (suc k) r c) (bits-one (stepOver t p) (suc k) r c e) (leaf-after t p (suc k) r c e) (pruned-one p (stepOver t p) (suc k) r c κ e)))
     (λ e. decide (oneFeature p (suc k) r c)
-    (λ f. leaf (leaf-of t p (suc k) r c κ (p r c) (bitsOf p (suc k) r c) (bits-one p (suc k) r c f) (leaf-before t p (suc k) r c f) (pruned-leaf p (over t p) k r c κ e f)))
+    (λ f. leaf (leaf-of t p (suc k) r c κ (p r c) (bitsOf p (suc k) r c) (bits-one p (suc k) r c f) (leaf-before t p (suc k) r c f) (pruned-leaf p (stepOver t p) k r c κ e f)))
     (λ f. node (record { positive = omega arith; before = f; after = e })))
 
 -- the last record of some, with a key that is not small
@@ -86,10 +86,10 @@ pruned-last p q (suc k) r c κ =
     (pruned p q k (r + 2 ^ k) (c + 2 ^ k) (childKey κ k 4)) (omega arith) (pruned-last p q k (r + 2 ^ k) (c + 2 ^ k) (childKey κ k 4)))))
 
 -- of a node it is past the block's own key
-pub node-last : (t : Step) (p : Picture) (k r c κ : ℕ) → NodeLeft t p k r c → Last (suc κ) (pruned p (over t p) k r c κ)
+pub node-last : (t : Step) (p : Picture) (k r c κ : ℕ) → NodeLeft t p k r c → Last (suc κ) (pruned p (stepOver t p) k r c κ)
 node-last t p zero r c κ n = absurd (omega (arith, n .positive))
 node-last t p (suc k) r c κ n =
     let z = one-le-pow k 5 (omega arith) in
-    rw (pruned-node p (over t p) k r c κ (n .after) (n .before))
-    (last-four (recordOf κ (bitsOf (over t p) (suc k) r c)) (pruned p (over t p) k r c (childKey κ k 1)) (pruned p (over t p) k r (c + 2 ^ k) (childKey κ k 2)) (pruned p (over t p) k (r + 2 ^ k) c (childKey κ k 3))
-    (pruned p (over t p) k (r + 2 ^ k) (c + 2 ^ k) (childKey κ k 4)) (omega arith) (pruned-last p (over t p) k (r + 2 ^ k) (c + 2 ^ k) (childKey κ k 4)))
+    rw (pruned-node p (stepOver t p) k r c κ (n .after) (n .before))
+    (last-four (recordOf κ (bitsOf (stepOver t p) (suc k) r c)) (pruned p (stepOver t p) k r c (childKey κ k 1)) (pruned p (stepOver t p) k r (c + 2 ^ k) (childKey κ k 2)) (pruned p (stepOver t p) k (r + 2 ^ k) c (childKey κ k 3))
+    (pruned p (stepOver t p) k (r + 2 ^ k) (c + 2 ^ k) (childKey κ k 4)) (omega arith) (pruned-last p (stepOver t p) k (r + 2 ^ k) (c + 2 ^ k) (childKey κ k 4)))

@@ -1,11 +1,11 @@
 -- A block that has shrunk: one that stays as it is, one that becomes a leaf, a leaf, and a node of which the quadrants have shrunk. Rests on Forward and
 -- Pruned.
 use Prim.Native.Nat.{ℕ, zero, suc, _+_, _-_, _^_, _≤_, _<_}
-use mathlib.Core.Path.{_≡_, refl, sym, _∙_, ap, ap₂, subst}
+use mathlib.Core.Path.{_≡_, refl, sym, _∙_, ap, subst}
 use mathlib.Core.Bool.{true, false, cond, true≢false}
 use mathlib.Core.List.{List, [], _∷_, _++_}
 use native.Mathlib.Omega.{arith}
-use lib.ListN.{length, getD, set, take, drop, length-append, length-drop, length-map}
+use lib.ListN.{length, set, take, drop, length-append, length-drop, length-map}
 use lib.Seq.{sets, take-at, length-take-le}
 use lib.Dec.{eqb}
 use borrow.Author.Tests.{eq-eqb, ne-eqb}
@@ -25,13 +25,13 @@ use Rattle.laws.proofs.Records.{records-length, records-run, paired-keys, paire
 use Rattle.list.specs.Check.{oneSlot}
 use Rattle.list.proofs.OneSlot.{slot-feature, slot-power}
 use Rattle.build.specs.BuildBlocks.{Tallied}
-use Rattle.step.specs.Step.{Step, over, plain, pruned}
+use Rattle.step.specs.Step.{Step, stepOver, plain, pruned}
 use Rattle.step.specs.Meeting.{Untouched, OneLeaf, Met}
 use Rattle.step.specs.declared.meeting.Meeting.{Meeting}
 use Rattle.step.specs.declared.meeting.Meeting.the-variants.{Apart, Leaf, Content, Cut}
 use Rattle.step.proofs.Pruned.{over-out, leaf-before, pruned-one, pruned-leaf, pruned-node, pruned-apart, pruned-same}
 use Rattle.passes.specs.Passes.{Showing, ShowingBlock}
-use Rattle.passes.specs.Shrink.{Forward, ShrunkAt, Kept, LeafShrunk, OwnShrunk, isWhole}
+use Rattle.passes.specs.Shrink.{Forward, ShrunkAt, Kept, LeafShrunk, OwnShrunk, isDecided}
 use Rattle.passes.proofs.FourParts.{four-keys, four-values}
 use Rattle.passes.proofs.Forward.{forward-four, forward-own, forward-alone, forward-one, forward-run}
 
@@ -63,8 +63,8 @@ forward-at e f g h = rw (e, f, g) at h
 
 -- one record is left
 module _ (t : Step) (p : Picture) (k r c κ : ℕ) {ks bs ks′ bs′ : List ℕ} {at n place union next place′ value : ℕ}
-    (s : ShowingBlock p k r c κ ks bs at n) (order : place ≤ at) (left : pruned p (over t p) k r c κ ≡ recordOf κ value ∷ []) where
-  pub one-left : union ≡ bitsOf (over t p) k r c → next ≡ at + length (listOf p k r c κ) → place′ ≡ place + 1 → ks′ ≡ set ks place κ → bs′ ≡ set bs place value
+    (s : ShowingBlock p k r c κ ks bs at n) (order : place ≤ at) (left : pruned p (stepOver t p) k r c κ ≡ recordOf κ value ∷ []) where
+  pub one-left : union ≡ bitsOf (stepOver t p) k r c → next ≡ at + length (listOf p k r c κ) → place′ ≡ place + 1 → ks′ ≡ set ks place κ → bs′ ≡ set bs place value
       → ShrunkAt t p k r c κ ks bs at place ks′ bs′ union next place′
   one-left u e f g h =
       let some = list-some p k r c κ in
@@ -84,13 +84,13 @@ module _ (t : Step) (p : Picture) (k r c κ : ℕ) {ks bs ks′ bs′ : List ℕ
       → ks′ ≡ sets ks place (take (next - at) (drop at ks)) → bs′ ≡ sets bs place (take (next - at) (drop at bs))
       → ShrunkAt t p k r c κ ks bs at place ks′ bs′ union next place′
   apart-left apart u f g h =
-      let same : Agree p (over t p) k r c = λ a b w. sym (over-out t p a b (apart a b w)) in
-      let is = pruned-apart p (over t p) k r c κ same in
+      let same : Agree p (stepOver t p) k r c = λ a b w. sym (over-out t p a b (apart a b w)) in
+      let is = pruned-apart p (stepOver t p) k r c κ same in
       let some = list-some p k r c κ in
       let w = shown-within s some in
       let count : next - at ≡ length (listOf p k r c κ) = omega arith in
       record {
-        union-is = u ∙ bits-agree p (over t p) k r c same;
+        union-is = u ∙ bits-agree p (stepOver t p) k r c same;
         next-is = next-is;
         place-is = f ∙ ap (λ x. place + x) count ∙ ap (λ l. place + length l) (sym is);
         keys-are = forward-at (shown-keys s some ∙ ap keysOf (sym is)) (sym next-is) (ap (λ x. sets ks place (take x (drop at ks))) (sym count) ∙ sym g)
@@ -103,15 +103,15 @@ module _ (t : Step) (p : Picture) (k r c κ : ℕ) {ks bs ks′ bs′ : List ℕ
   pub leaf-left : (bits : ℕ) → OneLeaf t k r c bits → union ≡ bits → place′ ≡ place + 1 → ks′ ≡ set ks place κ → bs′ ≡ set bs place bits
       → ShrunkAt t p k r c κ ks bs at place ks′ bs′ union next place′
   leaf-left bits one u f g h =
-      one-left t p k r c κ s order (pruned-one p (over t p) k r c κ (single k (one p .count-is))) (u ∙ one p .bits-are) next-is f g
+      one-left t p k r c κ s order (pruned-one p (stepOver t p) k r c κ (single k (one p .count-is))) (u ∙ one p .bits-are) next-is f g
       (h ∙ ap (set bs place) (one p .bits-are))
     where
-      single : (k : ℕ) → 1 ≡ length (listOf (over t p) k r c 0) → oneFeature (over t p) k r c ≡ true
-      single zero h = one-pixel (over t p) r c
-      single (suc k) h = decide (oneFeature (over t p) (suc k) r c) (λ one. one) (λ several. let n = length-several (over t p) k r c 0 several in absurd (omega arith))
+      single : (k : ℕ) → 1 ≡ length (listOf (stepOver t p) k r c 0) → oneFeature (stepOver t p) k r c ≡ true
+      single zero h = one-pixel (stepOver t p) r c
+      single (suc k) h = decide (oneFeature (stepOver t p) (suc k) r c) (λ one. one) (λ several. let n = length-several (stepOver t p) k r c 0 several in absurd (omega arith))
 
   -- either, by the meeting
-  pub whole-left : (meeting : Meeting) {own next′ : ℕ} {lks lvs : List ℕ} → Met t lks lvs k r c κ meeting → isWhole meeting ≡ true → own ≡ bitsOf p k r c
+  pub whole-left : (meeting : Meeting) {own next′ : ℕ} {lks lvs : List ℕ} → Met t lks lvs k r c κ meeting → isDecided meeting ≡ true → own ≡ bitsOf p k r c
       → Kept meeting κ own ks bs at next place ks′ bs′ union next′ place′
       → ShrunkAt t p k r c κ ks bs at place ks′ bs′ union next′ place′
   whole-left Apart m w o x = rw (x .next-is) (apart-left (m .told) (x .union-is ∙ o) (x .place-is) (x .keys-are) (x .bits-are))
@@ -124,8 +124,8 @@ pub single-left : (t : Step) (p : Picture) (k r c κ own : ℕ) {ks bs ks′ bs�
     → own ≡ bitsOf p k r c → oneSlot own ≡ true → LeafShrunk t own k r c κ ks bs at place ks′ bs′ union next place′
     → ShrunkAt t p k r c κ ks bs at place ks′ bs′ union next place′
 single-left t p k r c κ own {at = at} s order o one x =
-    one-left t p k r c κ s order (pruned-same p (plain (featureOf own)) (over t p) (over t (plain (featureOf own))) k r c κ plain-is over-is ∙ x .left)
-    (x .union-is ∙ sym (bits-agree (over t p) (over t (plain (featureOf own))) k r c over-is))
+    one-left t p k r c κ s order (pruned-same p (plain (featureOf own)) (stepOver t p) (stepOver t (plain (featureOf own))) k r c κ plain-is over-is ∙ x .left)
+    (x .union-is ∙ sym (bits-agree (stepOver t p) (stepOver t (plain (featureOf own))) k r c over-is))
     (x .next-is ∙ ap (λ l. at + length l) (sym (list-one p k r c κ uniform)))
     (x .place-is)
     (x .keys-are)
@@ -140,8 +140,8 @@ single-left t p k r c κ own {at = at} s order o one x =
     plain-is : Agree p (plain (featureOf own)) k r c
     plain-is a b w = one-to p k r c uniform a b w ∙ sym feature
 
-    over-is : Agree (over t p) (over t (plain (featureOf own))) k r c
-    over-is a b w = sym (leaf-before t p k r c uniform a b w) ∙ ap (λ g. over t (plain g) a b) (sym feature)
+    over-is : Agree (stepOver t p) (stepOver t (plain (featureOf own))) k r c
+    over-is a b w = sym (leaf-before t p k r c uniform a b w) ∙ ap (λ g. stepOver t (plain g) a b) (sym feature)
 
 -- what `keep` leaves, by the meeting
 pub kept-apart : (meeting : Meeting) {κ own : ℕ} {ks bs ks′ bs′ : List ℕ} {at next place : ℕ} → meeting ≡ Apart
@@ -166,29 +166,29 @@ module _ {κ union : ℕ} {ks bs : List ℕ} {place next last : ℕ} where
   own-several e = record { union-is = refl; next-is = refl; place-is = rw e refl; keys-are = refl; bits-are = refl }
 
 -- what is left of a leaf by itself: the leaf after the step where it stays one record, else the leaf before it
-leaf-value : (t : Step) (own : ℕ) {k r c κ bits count : ℕ} → oneSlot own ≡ true → Tallied (over t (plain (featureOf own))) k r c bits count
-    → pruned (plain (featureOf own)) (over t (plain (featureOf own))) k r c κ ≡ recordOf κ (cond (eqb count 1) bits own) ∷ []
+leaf-value : (t : Step) (own : ℕ) {k r c κ bits count : ℕ} → oneSlot own ≡ true → Tallied (stepOver t (plain (featureOf own))) k r c bits count
+    → pruned (plain (featureOf own)) (stepOver t (plain (featureOf own))) k r c κ ≡ recordOf κ (cond (eqb count 1) bits own) ∷ []
 leaf-value t own {k} {r} {c} {κ} {bits} {count} one x = go k x
   where
-    go : (k : ℕ) → Tallied (over t (plain (featureOf own))) k r c bits count
-        → pruned (plain (featureOf own)) (over t (plain (featureOf own))) k r c κ ≡ recordOf κ (cond (eqb count 1) bits own) ∷ []
+    go : (k : ℕ) → Tallied (stepOver t (plain (featureOf own))) k r c bits count
+        → pruned (plain (featureOf own)) (stepOver t (plain (featureOf own))) k r c κ ≡ recordOf κ (cond (eqb count 1) bits own) ∷ []
     go zero x =
-        let e : count ≡ 1 = x .count-is ∙ ap length (list-one (over t (plain (featureOf own))) zero r c 0 (one-pixel (over t (plain (featureOf own))) r c)) in
-        rw (eq-eqb count 1 e) (pruned-one (plain (featureOf own)) (over t (plain (featureOf own))) zero r c κ (one-pixel (over t (plain (featureOf own))) r c) ∙ ap (λ b. recordOf κ b ∷ []) (sym (x .bits-are)))
+        let e : count ≡ 1 = x .count-is ∙ ap length (list-one (stepOver t (plain (featureOf own))) zero r c 0 (one-pixel (stepOver t (plain (featureOf own))) r c)) in
+        rw (eq-eqb count 1 e) (pruned-one (plain (featureOf own)) (stepOver t (plain (featureOf own))) zero r c κ (one-pixel (stepOver t (plain (featureOf own))) r c) ∙ ap (λ b. recordOf κ b ∷ []) (sym (x .bits-are)))
     go (suc k) x =
-        decide (oneFeature (over t (plain (featureOf own))) (suc k) r c)
+        decide (oneFeature (stepOver t (plain (featureOf own))) (suc k) r c)
         (λ e.
-        let f : count ≡ 1 = x .count-is ∙ ap length (list-one (over t (plain (featureOf own))) (suc k) r c 0 e) in
-        rw (eq-eqb count 1 f) (pruned-one (plain (featureOf own)) (over t (plain (featureOf own))) (suc k) r c κ e ∙ ap (λ b. recordOf κ b ∷ []) (sym (x .bits-are))))
+        let f : count ≡ 1 = x .count-is ∙ ap length (list-one (stepOver t (plain (featureOf own))) (suc k) r c 0 e) in
+        rw (eq-eqb count 1 f) (pruned-one (plain (featureOf own)) (stepOver t (plain (featureOf own))) (suc k) r c κ e ∙ ap (λ b. recordOf κ b ∷ []) (sym (x .bits-are))))
         (λ e.
-        let n = length-several (over t (plain (featureOf own))) k r c 0 e in
+        let n = length-several (stepOver t (plain (featureOf own))) k r c 0 e in
         let uniform = one-from (plain (featureOf own)) (featureOf own) (suc k) r c (λ a b w. refl) in
         rw (ne-eqb count 1 (λ z. omega (arith, x .count-is)))
-        (pruned-leaf (plain (featureOf own)) (over t (plain (featureOf own))) k r c κ e uniform
+        (pruned-leaf (plain (featureOf own)) (stepOver t (plain (featureOf own))) k r c κ e uniform
         ∙ ap (λ b. recordOf κ b ∷ []) (bits-one (plain (featureOf own)) (suc k) r c uniform ∙ sym (slot-power own one))))
 
 pub leaf-shrunk : (t : Step) (own : ℕ) {k r c κ bits count value : ℕ} {ks bs : List ℕ} {at place : ℕ} → oneSlot own ≡ true
-    → Tallied (over t (plain (featureOf own))) k r c bits count → value ≡ cond (eqb count 1) bits own
+    → Tallied (stepOver t (plain (featureOf own))) k r c bits count → value ≡ cond (eqb count 1) bits own
     → LeafShrunk t own k r c κ ks bs at place (set ks place κ) (set bs place value) bits (at + 1) (place + 1)
 leaf-shrunk t own {κ = κ} {value = value} one x e = record {
   union-is = x .bits-are;
@@ -209,19 +209,19 @@ module _ (t : Step) (p : Picture) (k r c κ : ℕ) {ks bs ks₁ bs₁ ks₂ bs�
     (h₄ : ShrunkAt t p k (r + 2 ^ k) (c + 2 ^ k) (childKey κ k 4) ks₃ bs₃ n₃ i₃ ks₄ bs₄ u₄ n₄ i₄)
     (o : OwnShrunk κ (unionOfFour u₁ u₂ u₃ u₄) ks₄ bs₄ place n₄ i₄ ks′ bs′ union next place′) where
   P₁ : List Record
-  P₁ = pruned p (over t p) k r c (childKey κ k 1)
+  P₁ = pruned p (stepOver t p) k r c (childKey κ k 1)
 
   P₂ : List Record
-  P₂ = pruned p (over t p) k r (c + 2 ^ k) (childKey κ k 2)
+  P₂ = pruned p (stepOver t p) k r (c + 2 ^ k) (childKey κ k 2)
 
   P₃ : List Record
-  P₃ = pruned p (over t p) k (r + 2 ^ k) c (childKey κ k 3)
+  P₃ = pruned p (stepOver t p) k (r + 2 ^ k) c (childKey κ k 3)
 
   P₄ : List Record
-  P₄ = pruned p (over t p) k (r + 2 ^ k) (c + 2 ^ k) (childKey κ k 4)
+  P₄ = pruned p (stepOver t p) k (r + 2 ^ k) (c + 2 ^ k) (childKey κ k 4)
 
-  all-union : unionOfFour u₁ u₂ u₃ u₄ ≡ bitsOf (over t p) (suc k) r c
-  all-union = same-four (h₁ .union-is) (h₂ .union-is) (h₃ .union-is) (h₄ .union-is) ∙ sym (bits-suc (over t p) k r c)
+  all-union : unionOfFour u₁ u₂ u₃ u₄ ≡ bitsOf (stepOver t p) (suc k) r c
+  all-union = same-four (h₁ .union-is) (h₂ .union-is) (h₃ .union-is) (h₄ .union-is) ∙ sym (bits-suc (stepOver t p) k r c)
 
   next-place : next ≡ at + length (listOf p (suc k) r c κ)
   next-place = let l = length-node p k r c κ several in omega (arith, o .next-is, h₁ .next-is, h₂ .next-is, h₃ .next-is, h₄ .next-is)
@@ -249,16 +249,16 @@ module _ (t : Step) (p : Picture) (k r c κ : ℕ) {ks bs ks₁ bs₁ ks₂ bs�
       (h₂ .place-is ∙ ap (λ x. i₁ + x) (sym (length-map P₂ (λ x. x .value))))
       (h₃ .place-is ∙ ap (λ x. i₂ + x) (sym (length-map P₃ (λ x. x .value)))) up₁ up₂ up₃
 
-  quadrants : oneFeature (over t p) (suc k) r c ≡ false → pruned p (over t p) (suc k) r c κ ≡ recordOf κ (bitsOf (over t p) (suc k) r c) ∷ (P₁ ++ (P₂ ++ (P₃ ++ P₄)))
+  quadrants : oneFeature (stepOver t p) (suc k) r c ≡ false → pruned p (stepOver t p) (suc k) r c κ ≡ recordOf κ (bitsOf (stepOver t p) (suc k) r c) ∷ (P₁ ++ (P₂ ++ (P₃ ++ P₄)))
   unfolding P₁ P₂ P₃ P₄
-  quadrants more = pruned-node p (over t p) k r c κ more several
+  quadrants more = pruned-node p (stepOver t p) k r c κ more several
 
-  last : length (pruned p (over t p) (suc k) r c κ) ≡ suc (length P₁ + (length P₂ + (length P₃ + length P₄))) → i₄ ≡ place + length (pruned p (over t p) (suc k) r c κ)
+  last : length (pruned p (stepOver t p) (suc k) r c κ) ≡ suc (length P₁ + (length P₂ + (length P₃ + length P₄))) → i₄ ≡ place + length (pruned p (stepOver t p) (suc k) r c κ)
   unfolding P₁ P₂ P₃ P₄
   last size = omega (arith, size, h₁ .place-is, h₂ .place-is, h₃ .place-is, h₄ .place-is)
 
   pub node-left : ShrunkAt t p (suc k) r c κ ks bs at place ks′ bs′ union next place′
-  node-left = decide (oneFeature (over t p) (suc k) r c) merged kept
+  node-left = decide (oneFeature (stepOver t p) (suc k) r c) merged kept
     where
       inside : (place < n₄) × (place < length ks) × (place < length bs)
       inside =
@@ -267,26 +267,26 @@ module _ (t : Step) (p : Picture) (k r c κ : ℕ) {ks bs ks₁ bs₁ ks₂ bs�
           let z = next-place in
           omega (arith, o .next-is, s .in-keys, s .in-bits)
 
-      merged : oneFeature (over t p) (suc k) r c ≡ true → ShrunkAt t p (suc k) r c κ ks bs at place ks′ bs′ union next place′
+      merged : oneFeature (stepOver t p) (suc k) r c ≡ true → ShrunkAt t p (suc k) r c κ ks bs at place ks′ bs′ union next place′
       merged one =
-          let left = pruned-one p (over t p) (suc k) r c κ one in
+          let left = pruned-one p (stepOver t p) (suc k) r c κ one in
           record {
             union-is = o .union-is ∙ all-union;
             next-is = next-place;
-            place-is = o .place-is ∙ ap (λ x. cond x (place + 1) i₄) (ap oneSlot all-union ∙ slot-feature (over t p) (suc k) r c ∙ one) ∙ ap (λ l. place + length l) (sym left);
+            place-is = o .place-is ∙ ap (λ x. cond x (place + 1) i₄) (ap oneSlot all-union ∙ slot-feature (stepOver t p) (suc k) r c ∙ one) ∙ ap (λ l. place + length l) (sym left);
             keys-are = forward-at (sym (ap keysOf left)) (sym (o .next-is)) (sym (o .keys-are)) (forward-alone κ _ (inside .0) (inside .1) all-keys);
-            bits-are = forward-at (sym (ap valuesOf left)) (sym (o .next-is)) (sym (o .bits-are ∙ ap (set bs₄ place) all-union)) (forward-alone (bitsOf (over t p) (suc k) r c) _ (inside .0) (inside .2) all-values);
+            bits-are = forward-at (sym (ap valuesOf left)) (sym (o .next-is)) (sym (o .bits-are ∙ ap (set bs₄ place) all-union)) (forward-alone (bitsOf (stepOver t p) (suc k) r c) _ (inside .0) (inside .2) all-values);
           }
 
-      kept : oneFeature (over t p) (suc k) r c ≡ false → ShrunkAt t p (suc k) r c κ ks bs at place ks′ bs′ union next place′
+      kept : oneFeature (stepOver t p) (suc k) r c ≡ false → ShrunkAt t p (suc k) r c κ ks bs at place ks′ bs′ union next place′
       kept more =
-          let left : pruned p (over t p) (suc k) r c κ ≡ recordOf κ (bitsOf (over t p) (suc k) r c) ∷ (P₁ ++ (P₂ ++ (P₃ ++ P₄))) = quadrants more in
-          let size : length (pruned p (over t p) (suc k) r c κ) ≡ suc (length P₁ + (length P₂ + (length P₃ + length P₄))) = ap length left ∙ simp length-append in
+          let left : pruned p (stepOver t p) (suc k) r c κ ≡ recordOf κ (bitsOf (stepOver t p) (suc k) r c) ∷ (P₁ ++ (P₂ ++ (P₃ ++ P₄))) = quadrants more in
+          let size : length (pruned p (stepOver t p) (suc k) r c κ) ≡ suc (length P₁ + (length P₂ + (length P₃ + length P₄))) = ap length left ∙ simp length-append in
           record {
             union-is = o .union-is ∙ all-union;
             next-is = next-place;
-            place-is = o .place-is ∙ ap (λ x. cond x (place + 1) i₄) (ap oneSlot all-union ∙ slot-feature (over t p) (suc k) r c ∙ more) ∙ last size;
+            place-is = o .place-is ∙ ap (λ x. cond x (place + 1) i₄) (ap oneSlot all-union ∙ slot-feature (stepOver t p) (suc k) r c ∙ more) ∙ last size;
             keys-are = forward-at (sym (ap keysOf left ∙ ap (λ l. κ ∷ l) (four-keys P₁ P₂ P₃ P₄))) (sym (o .next-is)) (sym (o .keys-are)) (forward-own κ _ (inside .0) (inside .1) all-keys);
-            bits-are = forward-at (sym (ap valuesOf left ∙ ap (λ l. bitsOf (over t p) (suc k) r c ∷ l) (four-values P₁ P₂ P₃ P₄))) (sym (o .next-is)) (sym (o .bits-are ∙ ap (set bs₄ place) all-union))
-                (forward-own (bitsOf (over t p) (suc k) r c) _ (inside .0) (inside .2) all-values);
+            bits-are = forward-at (sym (ap valuesOf left ∙ ap (λ l. bitsOf (stepOver t p) (suc k) r c ∷ l) (four-values P₁ P₂ P₃ P₄))) (sym (o .next-is)) (sym (o .bits-are ∙ ap (set bs₄ place) all-union))
+                (forward-own (bitsOf (stepOver t p) (suc k) r c) _ (inside .0) (inside .2) all-values);
           }

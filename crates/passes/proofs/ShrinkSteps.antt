@@ -1,27 +1,25 @@
 -- What the calls of `shrink` ask of one another, and what they give together. Rests on ShrinkLaws and ShownBlocks.
-use Prim.Native.Nat.{ℕ, zero, suc, _+_, _-_, _*_, _^_, _≤_, _<_}
-use mathlib.Core.Path.{_≡_, refl, sym, _∙_, ap}
+use Prim.Native.Nat.{ℕ, suc, _+_, _-_, _^_, _≤_, _<_}
+use mathlib.Core.Path.{_≡_, _∙_, ap}
 use mathlib.Core.Bool.{true, false}
 use mathlib.Core.List.{List, _++_}
 use native.Mathlib.Omega.{arith}
 use lib.ListN.{length, getD, take, drop}
 use Rattle.keys.specs.Key.{childKey}
-use Rattle.keys.specs.Under.{Block}
 use Rattle.definitions.specs.Picture.{Picture, oneFeature}
-use Rattle.definitions.specs.Bits.{bitsOf, unionOfFour}
-use Rattle.definitions.specs.List.{listOf}
+use Rattle.definitions.specs.Bits.{unionOfFour}
 use Rattle.laws.proofs.ListOf.{list-some}
 use Rattle.list.specs.Check.{oneSlot}
 use Rattle.list.specs.Among.{keysBelow}
-use Rattle.step.specs.Step.{Step, over}
+use Rattle.step.specs.Step.{Step, stepOver}
 use Rattle.step.specs.Meeting.{Met}
 use Rattle.step.specs.declared.meeting.Meeting.{Meeting}
 use Rattle.step.specs.Quarters.{quartersOf}
 use Rattle.step.specs.declared.quarters.Quarters.{Quarters}
 use Rattle.step.proofs.Pruned.{pruned-before}
 use Rattle.step.proofs.QuarterSums.{block-nw, block-ne, block-sw, block-se}
-use Rattle.passes.specs.Passes.{Showing, ShowingBlock, Shown, EndAsked}
-use Rattle.passes.specs.Shrink.{ShrinkAsked, ShrunkAt, Shrinks, KeepAsked, Kept, OneAsked, LeafShrunk, OwnShrunk, isWhole}
+use Rattle.passes.specs.Passes.{Showing, ShowingBlock, EndAsked}
+use Rattle.passes.specs.Shrink.{ShrinkAsked, ShrunkAt, Shrinks, KeepAsked, Kept, OneAsked, LeafShrunk, OwnShrunk, isDecided}
 use Rattle.passes.proofs.ShownBlocks.{showing-same, shown-some, shown-own, shown-several, shown-positive, L₁, L₂, L₃, L₄, End, node-quadrants, quadrant-nw, behind-nw, quadrant-ne, behind-ne, quadrant-sw, behind-sw, quadrant-se}
 use Rattle.passes.proofs.BlockEnds.{end-asked, end-found}
 use Rattle.passes.proofs.ShrinkLaws.{shown-within, single-left, whole-left, node-left}
@@ -43,7 +41,7 @@ module _ (t : Step) (p : Picture) (k r c κ : ℕ) {ks bs : List ℕ} {at n plac
     rest₁ = let o = one in showing-same (o .keys-are .size) (o .bits-are .size) (o .keys-are .behind) (o .bits-are .behind) (behind-nw p k r c κ (o .next-is) all)
 
     pub order₁ : i₁ ≤ n₁
-    order₁ = let o = one in let b = pruned-before p (over t p) k r c (childKey κ k 1) in omega (arith, o .place-is, o .next-is)
+    order₁ = let o = one in let b = pruned-before p (stepOver t p) k r c (childKey κ k 1) in omega (arith, o .place-is, o .next-is)
 
     pub shows-ne : ShowingBlock p k r (c + 2 ^ k) (childKey κ k 2) ks₁ bs₁ n₁ n
     shows-ne = quadrant-ne p k r c κ rest₁
@@ -56,7 +54,7 @@ module _ (t : Step) (p : Picture) (k r c κ : ℕ) {ks bs : List ℕ} {at n plac
       rest₂ = let o = two in showing-same (o .keys-are .size) (o .bits-are .size) (o .keys-are .behind) (o .bits-are .behind) (behind-ne p k r c κ (o .next-is) rest₁)
 
       pub order₂ : i₂ ≤ n₂
-      order₂ = let o = two in let h = order₁ in let b = pruned-before p (over t p) k r (c + 2 ^ k) (childKey κ k 2) in omega (arith, o .place-is, o .next-is)
+      order₂ = let o = two in let h = order₁ in let b = pruned-before p (stepOver t p) k r (c + 2 ^ k) (childKey κ k 2) in omega (arith, o .place-is, o .next-is)
 
       pub shows-sw : ShowingBlock p k (r + 2 ^ k) c (childKey κ k 3) ks₂ bs₂ n₂ n
       shows-sw = quadrant-sw p k r c κ rest₂
@@ -66,7 +64,7 @@ module _ (t : Step) (p : Picture) (k r c κ : ℕ) {ks bs : List ℕ} {at n plac
         three = h₃ .holds p shows-sw
 
         pub order₃ : i₃ ≤ n₃
-        order₃ = let o = three in let h = order₂ in let b = pruned-before p (over t p) k (r + 2 ^ k) c (childKey κ k 3) in omega (arith, o .place-is, o .next-is)
+        order₃ = let o = three in let h = order₂ in let b = pruned-before p (stepOver t p) k (r + 2 ^ k) c (childKey κ k 3) in omega (arith, o .place-is, o .next-is)
 
         pub shows-se : ShowingBlock p k (r + 2 ^ k) (c + 2 ^ k) (childKey κ k 4) ks₃ bs₃ n₃ n
         shows-se =
@@ -197,7 +195,7 @@ module _ (t : Step) {m k r c κ at n place : ℕ} {ks bs ks′ bs′ : List ℕ}
   gives-leaf one x = record { holds = λ p s. single-left t p k r c κ (getD bs at 0) s (a .order) (shown-own p k r c κ s) one x }
 
   pub gives-whole : {past next : ℕ} {meeting : Meeting} {lks lvs : List ℕ} → past ≡ κ + 5 ^ k → next ≡ at + keysBelow past (take (n - at) (drop at ks))
-      → Met t lks lvs k r c κ meeting → isWhole meeting ≡ true → Kept meeting κ (getD bs at 0) ks bs at next place ks′ bs′ union next′ place′
+      → Met t lks lvs k r c κ meeting → isDecided meeting ≡ true → Kept meeting κ (getD bs at 0) ks bs at next place ks′ bs′ union next′ place′
       → Shrinks t k r c κ ks bs at n place ks′ bs′ union next′ place′
   gives-whole {meeting = meeting} e found h w x = record {
     holds = λ p s. whole-left t p k r c κ s (a .order) (found ∙ ap (λ i. at + i) (end-found p k r c κ s e)) meeting h w (shown-own p k r c κ s) x;

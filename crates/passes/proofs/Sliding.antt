@@ -1,20 +1,19 @@
 -- A block whose records stay as they are is moved before the place where what it becomes ends. Rests on Waiting, and on the ascending keys of a list.
-use Prim.Native.Nat.{ℕ, zero, suc, _+_, _-_, _^_, _≤_, _<_}
-use mathlib.Core.Path.{_≡_, refl, sym, _∙_, ap}
-use mathlib.Core.List.{List, [], _∷_, _++_, map-append}
+use Prim.Native.Nat.{ℕ, _+_, _-_, _≤_, _<_}
+use mathlib.Core.Path.{_≡_, sym, _∙_, ap}
+use mathlib.Core.List.{List, _++_, map-append}
 use native.Mathlib.Omega.{arith}
-use lib.ListN.{length, getD, take, drop, length-append, length-drop, length-map}
+use lib.ListN.{length, getD, take, drop, length-drop, length-map}
 use lib.Seq.{sets, length-take-le, take-length, drop-append-seam, getD-append-add}
 use Rattle.keys.proofs.Cases.{split}
 use Rattle.definitions.specs.Picture.{Picture}
-use Rattle.definitions.specs.Bits.{bitsOf}
-use Rattle.definitions.specs.List.{Record, recordOf, keysOf, valuesOf, listOf}
-use Rattle.definitions.specs.Read.{recordsOf, paired}
+use Rattle.definitions.specs.List.{Record, keysOf, valuesOf, listOf}
+use Rattle.definitions.specs.Read.{paired}
 use Rattle.laws.proofs.Pixels.{Agree}
 use Rattle.laws.proofs.ListOf.{list-first, list-some, list-ascends, list-agree}
 use Rattle.laws.proofs.Records.{key-at, records-run, paired-keys, paired-values}
 use Rattle.list.proofs.Accepted.{keys-ascend}
-use Rattle.step.specs.Step.{Step, over, pruned}
+use Rattle.step.specs.Step.{Step, stepOver, pruned}
 use Rattle.step.specs.Meeting.{Met}
 use Rattle.step.specs.declared.meeting.Meeting.{Meeting}
 use Rattle.step.specs.declared.meeting.Meeting.the-variants.{Apart}
@@ -111,27 +110,27 @@ list-start p k r c κ {ks} {bs} {read} e =
 
 -- such a block waits to be moved, and is moved
 module _ (t : Step) (p : Picture) (k r c κ : ℕ) {ks bs : List ℕ} {read write : ℕ} (g : Growing t p k r c κ ks bs read write)
-    (same : pruned p (over t p) k r c κ ≡ listOf (over t p) k r c κ) where
-  ending : Ending (listOf (over t p) k r c κ) ks bs read
+    (same : pruned p (stepOver t p) k r c κ ≡ listOf (stepOver t p) k r c κ) where
+  ending : Ending (listOf (stepOver t p) k r c κ) ks bs read
   ending = ending-at same (g .waits .ending)
 
   pub slides : SlideAsked κ read write ks bs
   slides =
       let n = ap length same in
       record {
-        asked = record { start = length (ending .front); at = list-start (over t p) k r c κ ending; room = ending .in-keys };
+        asked = record { start = length (ending .front); at = list-start (stepOver t p) k r c κ ending; room = ending .in-keys };
         apart = omega (arith, g .waits .apart);
         in-keys = g .waits .in-keys;
         in-bits = g .waits .in-bits;
       }
 
   pub slid-moved : {ks′ bs′ : List ℕ} {read′ write′ : ℕ} → Slid κ read write ks bs ks′ bs′ read′ write′
-      → Moved (pruned p (over t p) k r c κ) (listOf (over t p) k r c κ) ks bs read write ks′ bs′ read′ write′
+      → Moved (pruned p (stepOver t p) k r c κ) (listOf (stepOver t p) k r c κ) ks bs read write ks′ bs′ read′ write′
   slid-moved {ks′} {bs′} {read′} {write′} s =
       let a = all ending in
       let n = ap length same in
-      let at : read′ ≡ length (ending .front) = start-one (s .at) (list-start (over t p) k r c κ ending) in
-      let count : read - read′ ≡ length (listOf (over t p) k r c κ) = omega arith in
+      let at : read′ ≡ length (ending .front) = start-one (s .at) (list-start (stepOver t p) k r c κ ending) in
+      let count : read - read′ ≡ length (listOf (stepOver t p) k r c κ) = omega arith in
       record {
         passed = omega arith;
         wrote = record {
@@ -146,12 +145,12 @@ module _ (t : Step) (p : Picture) (k r c κ : ℕ) {ks bs : List ℕ} {read writ
 
 -- what is left of a block that stays is its list after the step
 stays-same : (t : Step) (p : Picture) (k r c κ : ℕ) {ks bs lks lvs : List ℕ} {read write : ℕ} {meeting : Meeting} → Growing t p k r c κ ks bs read write
-    → Met t lks lvs k r c κ meeting → Stays meeting read write → pruned p (over t p) k r c κ ≡ listOf (over t p) k r c κ
-stays-same t p k r c κ g m (level e) = pruned-all p (over t p) k r c κ (let few = pruned-after p (over t p) k r c κ in omega (arith, g .waits .apart))
+    → Met t lks lvs k r c κ meeting → Stays meeting read write → pruned p (stepOver t p) k r c κ ≡ listOf (stepOver t p) k r c κ
+stays-same t p k r c κ g m (level e) = pruned-all p (stepOver t p) k r c κ (let few = pruned-after p (stepOver t p) k r c κ in omega (arith, g .waits .apart))
 stays-same t p k r c κ {lks = lks} {lvs} g m (untouched e) =
     let told : Met t lks lvs k r c κ Apart = rw e at m in
-    let agree : Agree p (over t p) k r c = λ a b w. sym (over-out t p a b (told .told a b w)) in
-    pruned-apart p (over t p) k r c κ agree ∙ list-agree p (over t p) k r c κ agree
+    let agree : Agree p (stepOver t p) k r c = λ a b w. sym (over-out t p a b (told .told a b w)) in
+    pruned-apart p (stepOver t p) k r c κ agree ∙ list-agree p (stepOver t p) k r c κ agree
 
 module _ (t : Step) {k r c κ : ℕ} {ks bs lks lvs : List ℕ} {read write : ℕ} {meeting : Meeting} (h : Met t lks lvs k r c κ meeting) (s : Stays meeting read write) where
   pub asks-slide : {m : ℕ} → GrowAsked t m k r c κ ks bs read write → SlideAsked κ read write ks bs

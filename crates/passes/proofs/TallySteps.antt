@@ -16,7 +16,7 @@ use Rattle.list.specs.Check.{oneSlot}
 use Rattle.build.specs.BuildBlocks.{Tallied, Joined}
 use Rattle.build.specs.declared.count.Tally.{Tally}
 use Rattle.build.proofs.CountBlock.{tallied-four, tallied-small}
-use Rattle.step.specs.Step.{Step, over, plain}
+use Rattle.step.specs.Step.{Step, stepOver, plain}
 use Rattle.step.specs.Meeting.{Met, isCut}
 use Rattle.step.specs.declared.meeting.Meeting.{Meeting}
 use Rattle.step.specs.Quarters.{quartersOf}
@@ -56,8 +56,8 @@ module _ (t : Step) (p : Picture) (k r c κ : ℕ) {ks bs : List ℕ} {at n : �
         count-se = quadrant-se p k r c κ (behind-sw p k r c κ (h₃ .passed p count-sw) from-sw)
 
         module _ {u₄ m₄ n₄ : ℕ} (h₄ : BlockCounted t k (r + 2 ^ k) (c + 2 ^ k) (childKey κ k 4) ks bs n₃ n u₄ m₄ n₄) where
-          pub four-tallied : {u count : ℕ} → Joined (unionOfFour u₁ u₂ u₃ u₄) (m₁ + (m₂ + (m₃ + m₄))) u count → Tallied (over t p) (suc k) r c u count
-          four-tallied j = tallied-four (over t p) k (2 ^ k) r c refl (h₁ .tallied p count-nw) (h₂ .tallied p count-ne) (h₃ .tallied p count-sw) (h₄ .tallied p count-se) j
+          pub four-tallied : {u count : ℕ} → Joined (unionOfFour u₁ u₂ u₃ u₄) (m₁ + (m₂ + (m₃ + m₄))) u count → Tallied (stepOver t p) (suc k) r c u count
+          four-tallied j = tallied-four (stepOver t p) k (2 ^ k) r c refl (h₁ .tallied p count-nw) (h₂ .tallied p count-ne) (h₃ .tallied p count-sw) (h₄ .tallied p count-se) j
 
           pub four-passed : n₄ ≡ at + length (listOf p (suc k) r c κ)
           four-passed =
@@ -70,20 +70,20 @@ module _ (t : Step) (p : Picture) (k r c κ : ℕ) {ks bs : List ℕ} {at n : �
 
 -- a leaf
 pub leaf-counted : (t : Step) (k r c κ : ℕ) {ks bs : List ℕ} {at n union count : ℕ} → oneSlot (getD bs at 0) ≡ true
-    → Tallied (over t (plain (featureOf (getD bs at 0)))) k r c union count → BlockCounted t k r c κ ks bs at n union count (at + 1)
+    → Tallied (stepOver t (plain (featureOf (getD bs at 0)))) k r c union count → BlockCounted t k r c κ ks bs at n union count (at + 1)
 leaf-counted t k r c κ {ks} {bs} {at} {n} {union} {count} one told =
     record {
       tallied = λ p s. same p s (shown-one p k r c κ s one);
       passed = λ p s. ap (λ x. at + x) (sym (ap length (list-one p k r c κ (shown-one p k r c κ s one))));
     }
   where
-    same : (p : Picture) → ShowingBlock p k r c κ ks bs at n → oneFeature p k r c ≡ true → Tallied (over t p) k r c union count
+    same : (p : Picture) → ShowingBlock p k r c κ ks bs at n → oneFeature p k r c ≡ true → Tallied (stepOver t p) k r c union count
     same p s u =
         let g : featureOf (getD bs at 0) ≡ p r c = ap featureOf (shown-own p k r c κ s ∙ bits-one p k r c u) ∙ feature-of-power (p r c) in
         let h = leaf-before t p k r c u in
         record {
-          bits-are = told .bits-are ∙ ap (λ f. bitsOf (over t (plain f)) k r c) g ∙ bits-agree (over t (plain (p r c))) (over t p) k r c h;
-          count-is = told .count-is ∙ ap (λ f. length (listOf (over t (plain f)) k r c 0)) g ∙ ap length (list-agree (over t (plain (p r c))) (over t p) k r c 0 h);
+          bits-are = told .bits-are ∙ ap (λ f. bitsOf (stepOver t (plain f)) k r c) g ∙ bits-agree (stepOver t (plain (p r c))) (stepOver t p) k r c h;
+          count-is = told .count-is ∙ ap (λ f. length (listOf (stepOver t (plain f)) k r c 0)) g ∙ ap length (list-agree (stepOver t (plain (p r c))) (stepOver t p) k r c 0 h);
         }
 
 -- a block that is passed over

@@ -9,20 +9,20 @@ use Rattle.definitions.specs.List.{keysOf, valuesOf, listOf, listOfPicture}
 use Rattle.definitions.specs.Read.{room}
 use Rattle.definitions.specs.Buffer.{replaced}
 use Rattle.list.specs.Own.{OwnList, shownBy}
-use Rattle.step.specs.Step.{Step, over}
+use Rattle.step.specs.Step.{Step, stepOver}
 use Rattle.passes.specs.Passes.{Growing, Wrote}
 
 -- the first n records are a list, and there is room for what it becomes
 pub record Changeable (t : Step) (m : ℕ) (keys bits : List ℕ) (n after : ℕ) : Type 0 where
   pub deep : m ≤ 10
   pub own : OwnList m keys bits n
-  pub after-is : after ≡ length (listOfPicture m (over t (shownBy m keys bits n)))
+  pub after-is : after ≡ length (listOfPicture m (stepOver t (shownBy m keys bits n)))
   pub fits : after ≤ room keys bits
 
 -- the list of the step over the picture stands there; places given up are zero, and all others stay
 pub record Changed (t : Step) (m n : ℕ) (keys bits keys′ bits′ : List ℕ) : Type 0 where
-  pub keys-are : keys′ ≡ replaced n (keysOf (listOfPicture m (over t (shownBy m keys bits n)))) keys
-  pub bits-are : bits′ ≡ replaced n (valuesOf (listOfPicture m (over t (shownBy m keys bits n)))) bits
+  pub keys-are : keys′ ≡ replaced n (keysOf (listOfPicture m (stepOver t (shownBy m keys bits n)))) keys
+  pub bits-are : bits′ ≡ replaced n (valuesOf (listOfPicture m (stepOver t (shownBy m keys bits n)))) bits
 
 -- n places of both slices are there
 pub record GivenUp (n after : ℕ) (keys bits : List ℕ) : Type 0 where
@@ -35,4 +35,4 @@ zeroed n after l = sets l after (replicate (n - after) 0)
 
 -- of whichever picture the records are what is left, its list after the step stands from the first place on
 pub record AllGrown (t : Step) (m left after : ℕ) (keys bits keys′ bits′ : List ℕ) : Type 0 where
-  pub holds : (p : Picture) → Growing t p m 0 0 0 keys bits left after → Wrote (listOf (over t p) m 0 0 0) after keys bits keys′ bits′ 0
+  pub holds : (p : Picture) → Growing t p m 0 0 0 keys bits left after → Wrote (listOf (stepOver t p) m 0 0 0) after keys bits keys′ bits′ 0

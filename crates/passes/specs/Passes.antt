@@ -13,7 +13,7 @@ use Rattle.definitions.specs.Picture.{Picture}
 use Rattle.definitions.specs.List.{Record, keysOf, valuesOf, listOf}
 use Rattle.definitions.specs.Read.{recordsOf}
 use Rattle.laws.proofs.Ascending.{Ascending}
-use Rattle.step.specs.Step.{Step, over, pruned}
+use Rattle.step.specs.Step.{Step, stepOver, pruned}
 use Rattle.step.specs.Meeting.{isCut}
 use Rattle.step.specs.declared.meeting.Meeting.{Meeting}
 use Rattle.step.specs.declared.meeting.Meeting.the-variants.{Apart, Leaf, Content, Cut}
@@ -40,7 +40,7 @@ pub record Shown (m height row column key : ℕ) (keys bits : List ℕ) (at n : 
 
 -- the bits and the number of records of a block after the step, and the place after its records before it, of whichever picture is shown
 pub record BlockCounted (t : Step) (height row column key : ℕ) (keys bits : List ℕ) (at n union count next : ℕ) : Type 0 where
-  pub tallied : (p : Picture) → ShowingBlock p height row column key keys bits at n → Tallied (over t p) height row column union count
+  pub tallied : (p : Picture) → ShowingBlock p height row column key keys bits at n → Tallied (stepOver t p) height row column union count
   pub passed : (p : Picture) → ShowingBlock p height row column key keys bits at n → next ≡ at + length (listOf p height row column key)
 
 -- the content that a meeting names is there to be read
@@ -126,7 +126,7 @@ pub record Moved (l new : List Record) (keys bits : List ℕ) (read write : ℕ)
 
 -- what squeezing left of a block waits to grow
 pub record Growing (t : Step) (p : Picture) (height row column key : ℕ) (keys bits : List ℕ) (read write : ℕ) : Type 0 where
-  pub waits : Waiting key (pruned p (over t p) height row column key) (length (listOf (over t p) height row column key)) keys bits read write
+  pub waits : Waiting key (pruned p (stepOver t p) height row column key) (length (listOf (stepOver t p) height row column key)) keys bits read write
 
 -- so of a block of the map, and of some picture
 pub record GrowAsked (t : Step) (m height row column key : ℕ) (keys bits : List ℕ) (read write : ℕ) : Type 0 where
@@ -138,7 +138,7 @@ pub record GrowAsked (t : Step) (m height row column key : ℕ) (keys bits : Lis
 -- the block's list of the step over the picture stands there, of whichever picture it is
 pub record Grown (t : Step) (height row column key : ℕ) (keys bits : List ℕ) (read write : ℕ) (keys′ bits′ : List ℕ) (read′ write′ : ℕ) : Type 0 where
   pub holds : (p : Picture) → Growing t p height row column key keys bits read write
-      → Moved (pruned p (over t p) height row column key) (listOf (over t p) height row column key) keys bits read write keys′ bits′ read′ write′
+      → Moved (pruned p (stepOver t p) height row column key) (listOf (stepOver t p) height row column key) keys bits read write keys′ bits′ read′ write′
 
 -- the record before one place is to be moved before another, at or past it
 pub record OwnAsked (read write : ℕ) (keys bits : List ℕ) : Type 0 where

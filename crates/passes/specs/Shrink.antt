@@ -7,9 +7,9 @@ use lib.ListN.{length, set, take, drop}
 use lib.Seq.{sets}
 use Rattle.definitions.specs.Picture.{Picture}
 use Rattle.definitions.specs.Bits.{bitsOf, featureOf}
-use Rattle.definitions.specs.List.{Record, recordOf, keysOf, valuesOf, listOf}
+use Rattle.definitions.specs.List.{recordOf, keysOf, valuesOf, listOf}
 use Rattle.list.specs.Check.{oneSlot}
-use Rattle.step.specs.Step.{Step, over, plain, pruned}
+use Rattle.step.specs.Step.{Step, stepOver, plain, pruned}
 use Rattle.step.specs.declared.meeting.Meeting.{Meeting}
 use Rattle.step.specs.declared.meeting.Meeting.the-variants.{Apart, Leaf, Content, Cut}
 use Rattle.passes.specs.Passes.{Shown, ShowingBlock}
@@ -27,22 +27,22 @@ pub record ShrinkAsked (m height row column key : ℕ) (keys bits : List ℕ) (a
 
 -- what is left of them stands there, the block's bits after the step are known, and the places after the records read and written
 pub record ShrunkAt (t : Step) (p : Picture) (height row column key : ℕ) (keys bits : List ℕ) (at place : ℕ) (keys′ bits′ : List ℕ) (union next place′ : ℕ) : Type 0 where
-  pub union-is : union ≡ bitsOf (over t p) height row column
+  pub union-is : union ≡ bitsOf (stepOver t p) height row column
   pub next-is : next ≡ at + length (listOf p height row column key)
-  pub place-is : place′ ≡ place + length (pruned p (over t p) height row column key)
-  pub keys-are : Forward (keysOf (pruned p (over t p) height row column key)) keys place next keys′
-  pub bits-are : Forward (valuesOf (pruned p (over t p) height row column key)) bits place next bits′
+  pub place-is : place′ ≡ place + length (pruned p (stepOver t p) height row column key)
+  pub keys-are : Forward (keysOf (pruned p (stepOver t p) height row column key)) keys place next keys′
+  pub bits-are : Forward (valuesOf (pruned p (stepOver t p) height row column key)) bits place next bits′
 
 -- that holds of whichever picture is shown
 pub record Shrinks (t : Step) (height row column key : ℕ) (keys bits : List ℕ) (at n place : ℕ) (keys′ bits′ : List ℕ) (union next place′ : ℕ) : Type 0 where
   pub holds : (p : Picture) → ShowingBlock p height row column key keys bits at n → ShrunkAt t p height row column key keys bits at place keys′ bits′ union next place′
 
 -- one look tells that the block stays as it is or becomes one leaf
-abbrev pub isWhole : Meeting → Bool
-isWhole Apart = true
-isWhole (Leaf bits) = true
-isWhole (Content start count) = false
-isWhole Cut = false
+abbrev pub isDecided : Meeting → Bool
+isDecided Apart = true
+isDecided (Leaf bits) = true
+isDecided (Content start count) = false
+isDecided Cut = false
 
 -- records from one place up to another are to be put forward
 pub record KeepAsked (keys bits : List ℕ) (at next place : ℕ) : Type 0 where
@@ -85,11 +85,11 @@ pub record OneAsked (keys bits : List ℕ) (at place : ℕ) : Type 0 where
 
 -- what is left of a leaf stands there: the leaf after the step, or the one before it where it has to grow
 pub record LeafShrunk (t : Step) (own height row column key : ℕ) (keys bits : List ℕ) (at place : ℕ) (keys′ bits′ : List ℕ) (union next place′ : ℕ) : Type 0 where
-  pub union-is : union ≡ bitsOf (over t (plain (featureOf own))) height row column
+  pub union-is : union ≡ bitsOf (stepOver t (plain (featureOf own))) height row column
   pub next-is : next ≡ at + 1
   pub place-is : place′ ≡ place + 1
   pub value : ℕ
-  pub left : pruned (plain (featureOf own)) (over t (plain (featureOf own))) height row column key ≡ recordOf key value ∷ []
+  pub left : pruned (plain (featureOf own)) (stepOver t (plain (featureOf own))) height row column key ≡ recordOf key value ∷ []
   pub keys-are : keys′ ≡ set keys place key
   pub bits-are : bits′ ≡ set bits place value
 

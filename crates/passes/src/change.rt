@@ -4,7 +4,7 @@ ghost use Rattle.definitions.specs.List.{listOfPicture};
 ghost use lib.ListN.{length};
 ghost use Rattle.list.specs.Own.{OwnList, shownBy};
 ghost use Prim.Native.Nat.{_≤_};
-ghost use Rattle.step.specs.Step.{over};
+ghost use Rattle.step.specs.Step.{stepOver};
 ghost use Rattle.step.specs.Deed.{Doable, stepOf};
 ghost use Rattle.passes.specs.Passes.{GrowAsked};
 ghost use Rattle.passes.specs.Change.{Changeable, Changed, AllGrown, GivenUp, zeroed};
@@ -25,7 +25,7 @@ pub fn length_after(
     n: usize,
 ) -> usize
     requires { ⌜ Doable m deed (now «log_keys») (now «log_values») × (m ≤ 10) × OwnList m (now keys) (now bits) n ⌝ }
-    ensures { λ r. ⌜ r ≡ length (listOfPicture m (over (stepOf m deed (now («log_keys» .entry)) (now («log_values» .entry))) (shownBy m (now (keys .entry)) (now (bits .entry)) n))) ⌝ }
+    ensures { λ r. ⌜ r ≡ length (listOfPicture m (stepOver (stepOf m deed (now («log_keys» .entry)) (now («log_values» .entry))) (shownBy m (now (keys .entry)) (now (bits .entry)) n))) ⌝ }
 {
     tally::tally_records(
             deed,

@@ -1,5 +1,4 @@
 // Every leaf becomes what the step makes of its feature, from the last quadrant to the first, so that a block is known where its leaf is met.
-ghost use mathlib.Core.Path.{_≡_};
 ghost use Rattle.step.specs.Deed.{Doable, stepOf};
 ghost use Rattle.passes.specs.Passes.{OwnAsked, OwnWritten, GrowAsked, Grown};
 use crate::slide;

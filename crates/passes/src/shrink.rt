@@ -4,7 +4,7 @@ ghost use mathlib.Core.Path.{_≡_};
 ghost use mathlib.Core.Bool.{cond};
 ghost use lib.Dec.{eqb};
 ghost use Rattle.step.specs.Deed.{Doable, stepOf, LeafAsked};
-ghost use Rattle.passes.specs.Shrink.{ShrinkAsked, Shrinks, isWhole, KeepAsked, Kept, OneAsked, LeafShrunk, OwnShrunk};
+ghost use Rattle.passes.specs.Shrink.{ShrinkAsked, Shrinks, isDecided, KeepAsked, Kept, OneAsked, LeafShrunk, OwnShrunk};
 use crate::block_end;
 use crate::tally;
 use build::count::Tally;
@@ -23,8 +23,8 @@ pub struct Shrunk {
 }
 
 // The block stays as it is, or becomes one leaf.
-fn is_whole(meeting: Meeting) -> bool
-    ensures { λ r. ⌜ r ≡ isWhole meeting ⌝ }
+fn is_decided(meeting: Meeting) -> bool
+    ensures { λ r. ⌜ r ≡ isDecided meeting ⌝ }
 {
     match meeting {
         Meeting::Apart => true,
@@ -186,7 +186,7 @@ pub fn shrink(
     }
     let here = deed::narrow(deed, log_keys, log_values, m, height, key);
     let met = deed::meeting(here, log_keys, log_values, m, height, row, column, key);
-    if is_whole(met) {
+    if is_decided(met) {
         let past = key + power::power_of_five(height);
         let next = block_end::block_end(keys, at, n, past);
         return keep(met, key, own, at, next, place, keys, bits);

@@ -2,7 +2,7 @@
 ghost use Rattle.definitions.specs.Bits.{featureOf};
 ghost use Rattle.definitions.specs.List.{listOf};
 ghost use Rattle.build.specs.BuildBlocks.{Fitting, Written};
-ghost use Rattle.step.specs.Step.{plain, over};
+ghost use Rattle.step.specs.Step.{plain, stepOver};
 ghost use Rattle.step.specs.Deed.{Doable, stepOf, LeafAsked};
 ghost use Rattle.passes.specs.Passes.{WriteAsked, Wrote, Layable, Laid};
 use crate::tally;
@@ -68,8 +68,8 @@ fn spread(
     bits: &mut [u32],
 ) -> Below
     requires { ⌜ Doable m deed (now «log_keys») (now «log_values») × LeafAsked m own height row column key ⌝ }
-    requires { ⌜ Fitting (over (stepOf m deed (now «log_keys») (now «log_values»)) (plain (featureOf own))) height row column key place (now keys) (now bits) ⌝ }
-    ensures { λ r. ⌜ Written (over (stepOf m deed (now («log_keys» .entry)) (now («log_values» .entry))) (plain (featureOf own))) height row column key place (now (keys .entry)) (now (bits .entry)) (now (keys .exit)) (now (bits .exit)) (r .bits) (r .next) ⌝ }
+    requires { ⌜ Fitting (stepOver (stepOf m deed (now «log_keys») (now «log_values»)) (plain (featureOf own))) height row column key place (now keys) (now bits) ⌝ }
+    ensures { λ r. ⌜ Written (stepOver (stepOf m deed (now («log_keys» .entry)) (now («log_values» .entry))) (plain (featureOf own))) height row column key place (now (keys .entry)) (now (bits .entry)) (now (keys .exit)) (now (bits .exit)) (r .bits) (r .next) ⌝ }
 {
     let here = deed::narrow(deed, log_keys, log_values, m, height, key);
     let met = deed::meeting(here, log_keys, log_values, m, height, row, column, key);
@@ -157,8 +157,8 @@ pub fn write_leaf(
     bits: &mut [u32],
 ) -> usize
     requires { ⌜ Doable m deed (now «log_keys») (now «log_values») × LeafAsked m b height row column key ⌝ }
-    requires { ⌜ WriteAsked (listOf (over (stepOf m deed (now «log_keys») (now «log_values»)) (plain (featureOf b))) height row column key) key end (now keys) (now bits) ⌝ }
-    ensures { λ r. ⌜ Wrote (listOf (over (stepOf m deed (now («log_keys» .entry)) (now («log_values» .entry))) (plain (featureOf b))) height row column key) end (now (keys .entry)) (now (bits .entry)) (now (keys .exit)) (now (bits .exit)) r ⌝ }
+    requires { ⌜ WriteAsked (listOf (stepOver (stepOf m deed (now «log_keys») (now «log_values»)) (plain (featureOf b))) height row column key) key end (now keys) (now bits) ⌝ }
+    ensures { λ r. ⌜ Wrote (listOf (stepOver (stepOf m deed (now («log_keys» .entry)) (now («log_values» .entry))) (plain (featureOf b))) height row column key) end (now (keys .entry)) (now (bits .entry)) (now (keys .exit)) (now (bits .exit)) r ⌝ }
 {
     let tally = tally::tally_leaf(deed, log_keys, log_values, m, b, height, row, column, key);
     let start = end - tally.count;

@@ -3,7 +3,7 @@ ghost use mathlib.Core.Path.{_≡_};
 ghost use Prim.Native.Nat.{_+_, _-_};
 ghost use Rattle.definitions.specs.Bits.{featureOf};
 ghost use Rattle.build.specs.BuildBlocks.{Tallied};
-ghost use Rattle.step.specs.Step.{plain, over};
+ghost use Rattle.step.specs.Step.{plain, stepOver};
 ghost use Rattle.step.specs.Deed.{Doable, stepOf, LeafAsked};
 ghost use Rattle.passes.specs.Passes.{Shown, BlockCounted, EndAsked, Readable, knownOf, PassedOver};
 use crate::block_end;
@@ -49,7 +49,7 @@ pub fn tally_leaf(
     key: u32,
 ) -> Tally
     requires { ⌜ Doable m deed (now «log_keys») (now «log_values») × LeafAsked m own height row column key ⌝ }
-    ensures { λ r. ⌜ Tallied (over (stepOf m deed (now («log_keys» .entry)) (now («log_values» .entry))) (plain (featureOf own))) height row column (r .bits) (r .count) ⌝ }
+    ensures { λ r. ⌜ Tallied (stepOver (stepOf m deed (now («log_keys» .entry)) (now («log_values» .entry))) (plain (featureOf own))) height row column (r .bits) (r .count) ⌝ }
 {
     let here = deed::narrow(deed, log_keys, log_values, m, height, key);
     let met = deed::meeting(here, log_keys, log_values, m, height, row, column, key);

@@ -32,7 +32,7 @@ use Rattle.definitions.specs.declared.Counted.{Counted}
 use Rattle.definitions.proofs.Question as Question
 use Rattle.definitions.proofs.Counted as Counted
 use Rattle.definitions.proofs.Counted.Laws as Counted′
-use Rattle.batch.specs.Run.{progressOf, runOf, beginOf, answerOf}
+use Rattle.batch.specs.Run.{answeringOf, runOf, answeringBegins, answeringEnds}
 use Rattle.batch.specs.declared.begin.State.{State}
 use Rattle.batch.proofs.begin.State as State
 use Rattle.batch.proofs.begin.State.Laws as State′
@@ -70,11 +70,11 @@ run-passes questions S r = val questions ∷ val (S .keys) ∷ val (S .bits) ∷
 
 -- r is the state that `begin` makes
 abbrev pub Begun : Slice Question.the-row → BatchSlices → ℕ → ℕ → ℕ → State → Type 0
-Begun questions S m s n r = r ≡ beginOf m s (S .keys .x .now) (S .bits .x .now) n (length (questions .x .now)) (length (S .refusals .x .now)) (length (S .values .x .now))
+Begun questions S m s n r = r ≡ answeringBegins m s (S .keys .x .now) (S .bits .x .now) n (length (questions .x .now)) (length (S .refusals .x .now)) (length (S .values .x .now))
 
 -- what a run over the questions from the progress of r, l and l′ ends with
 abbrev pub Ran : Slice Question.the-row → BatchSlices → State → List ℕ → List ℕ → Type 0
-Ran questions S r l l′ = Result S (runOf (S .keys .x .now) (S .bits .x .now) (questions .x .now) (progressOf r l l′))
+Ran questions S r l l′ = Result S (runOf (S .keys .x .now) (S .bits .x .now) (questions .x .now) (answeringOf r l l′))
 
 module _ {M : Type 1} (𝓤 : URA M) (H : Heap 𝓤) (A : Atoms 𝓤) (W : Given 𝓤 H A) (mem : Memory → SProp 𝓤) (run : Routine → Fun 𝓤) (C : Calls 𝓤 H) (fm : FmC 𝓤 H (W .laws) C) where
   -- ---- answer: a state by value
@@ -85,11 +85,11 @@ module _ {M : Type 1} (𝓤 : URA M) (H : Heap 𝓤) (A : Atoms 𝓤) (W : Given
   asks-state r is = qed W (‵ ftrue ∷ []) ∵ nothing ! $ owned ! State.the-row (Is State.the-row) (LL.makes State.the-type State′.the-plain 𝓤 H A) r _ is $ fjoin ! $ nothing ! $ join ! $ frame ! $ done !
 
   module _ (known : Triple 𝓤 (C #answer) (Answer 𝓤 H A mem run)) (r : State) (is : Is State.the-row r (stateVals r)) where
-    pub answer-gives : Gives W C #answer (valOf r ∷ []) (‵ ftrue) (Returned Counted.the-type Counted′.the-laws (λ f. f ≡ answerOf r)) (λ x. LL.val Counted.the-type Counted′.the-laws (x .result)) (λ _. ‵ ftrue)
-    answer-gives = returns-struct 𝓤 H A W C fm #answer (valOf r ∷ []) Counted.the-type Counted′.the-laws (λ f. f ≡ answerOf r)
+    pub answer-gives : Gives W C #answer (valOf r ∷ []) (‵ ftrue) (Returned Counted.the-type Counted′.the-laws (λ f. f ≡ answeringEnds r)) (λ x. LL.val Counted.the-type Counted′.the-laws (x .result)) (λ _. ‵ ftrue)
+    answer-gives = returns-struct 𝓤 H A W C fm #answer (valOf r ∷ []) Counted.the-type Counted′.the-laws (λ f. f ≡ answeringEnds r)
         (λ f. ensured 𝓤 H A answer.ended (answer.clauses 𝓤 H A mem run) tt (r, tt) tt f) (‵ ftrue) (‵ ftrue)
         (via 𝓤 (state-asked r) (asks-state r is) (known ((tt, tt, tt, (r, tt), (stateVals r, tt)), tt)))
-        (λ f. exE 𝓤 _ (λ ws. snd∗ 𝓤 (sem 𝓤 H A (lasts answer.ended tt (r, tt) ws)) (fact 𝓤 (f ≡ answerOf r))))
+        (λ f. exE 𝓤 _ (λ ws. snd∗ 𝓤 (sem 𝓤 H A (lasts answer.ended tt (r, tt) ws)) (fact 𝓤 (f ≡ answeringEnds r))))
 
   module _ (questions : Slice Question.the-row) (S : BatchSlices) where
     -- ---- begin
@@ -172,7 +172,7 @@ module _ {M : Type 1} (𝓤 : URA M) (H : Heap 𝓤) (A : Atoms 𝓤) (W : Given
       back : (ν ν′ : ℕ) → ent 𝓤 (alive 𝓤 H A run′.signature (run-lifetimes ν ν′) (run-shares tt)) (mean 𝓤 H A (B ⊛ ‵ (flft (ν ∷ []) fullShare) ⊛ ‵ (flft (ν′ ∷ []) fullShare)))
       back ν ν′ = qed W (‵ (fsep (token questions) (call-tokens S ν ν′)) ∷ []) ∵ fsplit ! $ move ! (1 ∷ []) $ scatters S ν ν′ W ! $ move ! (3 ∷ 0 ∷ []) $ join ! $ done !
 
-      module _ (is : Is State.the-row r (stateVals r)) (ready : ReadyAt S (length (questions .x .now)) (progressOf r l l′))
+      module _ (is : Is State.the-row r (stateVals r)) (ready : ReadyAt S (length (questions .x .now)) (answeringOf r l l′))
           (len : length l ≡ length (S .refusals .x .now)) (len′ : length l′ ≡ length (S .values .x .now)) where
         asks-run : (ν ν′ : ℕ) (δ δ′ : GName) → ent 𝓤 (⋆ 𝓤 H A (Lending (S .refusals) (S .values) 𝓤 P l l′ ν ν′ δ δ′)) (Run 𝓤 H A mem run .pre (to-run ν ν′ δ δ′))
         asks-run ν ν′ δ δ′ =
@@ -182,6 +182,6 @@ module _ {M : Type 1} (𝓤 : URA M) (H : Heap 𝓤) (A : Atoms 𝓤) (W : Given
 
         pub run-gives : Gives W C #run (run-passes questions S r) (P ⊛ ‵ (answers S l l′)) (Ran questions S r l l′) (λ x. valOf (x .result)) (λ x. B ⊛ ‵ (answers S (x .first) (x .second)))
         run-gives = two-lent (S .refusals) (S .values) 𝓤 H A W C fm #run (run-passes questions S r) State.the-type State′.the-laws
-            (λ r′ z z′. progressOf r′ z z′ ≡ runOf (S .keys .x .now) (S .bits .x .now) (questions .x .now) (progressOf r l l′)) 3 Bound first-of second-of
+            (λ r′ z z′. answeringOf r′ z z′ ≡ runOf (S .keys .x .now) (S .bits .x .now) (questions .x .now) (answeringOf r l l′)) 3 Bound first-of second-of
             P B (λ ν ν′. alive 𝓤 H A run′.signature (run-lifetimes ν ν′) (run-shares tt)) l l′ len len′
             (λ ν ν′ δ δ′. via 𝓤 (Run 𝓤 H A mem run .pre (to-run ν ν′ δ δ′)) (asks-run ν ν′ δ δ′) (known (to-run ν ν′ δ δ′))) back

@@ -32,7 +32,7 @@ use Rattle.definitions.specs.declared.Found.{Found}
 use Rattle.definitions.proofs.Rule as Rule
 use Rattle.definitions.proofs.Found as Found
 use Rattle.definitions.proofs.Found.Laws as Found′
-use Rattle.rules.specs.Run.{progressOf, bounding, tableRun, beginOf, ownAt, nextOf, answerOf}
+use Rattle.rules.specs.Run.{progressOf, bounding, tableRun, beginOf, ownAt, afterRun, answerOf}
 use Rattle.rules.specs.declared.state.State.{State}
 use Rattle.rules.proofs.state.State as State
 use Rattle.rules.proofs.state.State.Laws as State′
@@ -94,11 +94,11 @@ module _ {M : Type 1} (𝓤 : URA M) (H : Heap 𝓤) (A : Atoms 𝓤) (W : Given
   asks-state r is = qed W (‵ ftrue ∷ []) ∵ nothing ! $ owned ! State.the-row (Is State.the-row) (LL.makes State.the-type State′.the-plain 𝓤 H A) r _ is $ fjoin ! $ nothing ! $ join ! $ frame ! $ done !
 
   module _ (known : Triple 𝓤 (C #next) (Next 𝓤 H A mem run)) (r : State) (is : Is State.the-row r (stateVals r)) where
-    pub next-gives : Gives W C #next (valOf r ∷ []) (‵ ftrue) (Returned State.the-type State′.the-laws (λ r′. r′ ≡ nextOf r)) (λ x. valOf (x .result)) (λ _. ‵ ftrue)
-    next-gives = returns-struct 𝓤 H A W C fm #next (valOf r ∷ []) State.the-type State′.the-laws (λ r′. r′ ≡ nextOf r)
+    pub next-gives : Gives W C #next (valOf r ∷ []) (‵ ftrue) (Returned State.the-type State′.the-laws (λ r′. r′ ≡ afterRun r)) (λ x. valOf (x .result)) (λ _. ‵ ftrue)
+    next-gives = returns-struct 𝓤 H A W C fm #next (valOf r ∷ []) State.the-type State′.the-laws (λ r′. r′ ≡ afterRun r)
         (λ r′. ensured 𝓤 H A next.ended (next.clauses 𝓤 H A mem run) tt (r, tt) tt r′) (‵ ftrue) (‵ ftrue)
         (via 𝓤 (state-asked r) (asks-state r is) (known ((tt, tt, tt, (r, tt), (stateVals r, tt)), tt)))
-        (λ r′. exE 𝓤 _ (λ ws. snd∗ 𝓤 (sem 𝓤 H A (lasts next.ended tt (r, tt) ws)) (fact 𝓤 (r′ ≡ nextOf r))))
+        (λ r′. exE 𝓤 _ (λ ws. snd∗ 𝓤 (sem 𝓤 H A (lasts next.ended tt (r, tt) ws)) (fact 𝓤 (r′ ≡ afterRun r))))
 
   module _ (known : Triple 𝓤 (C #answer) (Answer 𝓤 H A mem run)) (r : State) (is : Is State.the-row r (stateVals r)) where
     pub answer-gives : Gives W C #answer (valOf r ∷ []) (‵ ftrue) (Returned Found.the-type Found′.the-laws (λ f. f ≡ answerOf r)) (λ x. LL.val Found.the-type Found′.the-laws (x .result)) (λ _. ‵ ftrue)

@@ -14,7 +14,7 @@ use Rattle.definitions.specs.declared.Counted.{Counted}
 use Rattle.definitions.specs.declared.Window.{Window}
 use Rattle.definitions.specs.declared.Edited.{Edited}
 use Rattle.definitions.specs.declared.Emptied.{Emptied}
-use Rattle.history.specs.History.{Call, ofBlock, ofWindow, painting, takingBack, redoing, emptying, Buffers, built, answer, after, run, kept, nothing, longestList, longestLog}
+use Rattle.history.specs.History.{Call, ofBlock, ofWindow, painting, takingBack, redoing, emptying, Buffers, built, answer, after, afterCalls, kept, nothing, longestList, longestLog}
 use Rattle.history.specs.Claim.{AsBuilt}
 use Rattle.history.proofs.Theorem.{history}
 use Rattle.prowcurl.proofs.lists.hlq_build as build
@@ -186,12 +186,12 @@ pub data Ran (m s : ℕ) : Buffers → List Call → Buffers → Type 0 where
 
 -- they lead where the history's run leads
 module _ (m s : ℕ) where
-  further : {b b′ b″ : Buffers} {c : Call} {refusal : ℕ} (cs : List Call) → Steps m s b c refusal b′ → b″ ≡ run m s b′ cs → b″ ≡ run m s b (c ∷ cs)
-  unfolding run
-  further cs step rest = rest ∙ ap (λ (b : Buffers). run m s b cs) (step .left)
+  further : {b b′ b″ : Buffers} {c : Call} {refusal : ℕ} (cs : List Call) → Steps m s b c refusal b′ → b″ ≡ afterCalls m s b′ cs → b″ ≡ afterCalls m s b (c ∷ cs)
+  unfolding afterCalls
+  further cs step rest = rest ∙ ap (λ (b : Buffers). afterCalls m s b cs) (step .left)
 
-  pub ran-is : {b b′ : Buffers} {cs : List Call} → Ran m s b cs b′ → b′ ≡ run m s b cs
-  unfolding run
+  pub ran-is : {b b′ : Buffers} {cs : List Call} → Ran m s b cs b′ → b′ ≡ afterCalls m s b cs
+  unfolding afterCalls
   ran-is done = refl
   ran-is (by-paint {cs = cs} x κ f kept rest) = further cs (paint-step m s x κ f kept) (ran-is rest)
   ran-is (by-paint-window {cs = cs} x w f kept rest) = further cs (paint-window-step m s x w f kept) (ran-is rest)
@@ -252,5 +252,5 @@ module _ (m s : ℕ) (κs : Lfts 4) (raster keys bits summary : Slice) (r : Coun
       let claim : Buffers → Buffers → Type 0 = λ first last. AsBuilt m s (now raster) (now keys) (now bits) (now summary) logKeys logValues last
       (kept m s first nothing calls) (longestList m s first calls) (longestLog m s first calls) in
       subst (claim start) (sym (ran-is m s ran))
-      (subst (λ (first : Buffers). claim first (run m s first calls)) (sym (build-start h))
+      (subst (λ (first : Buffers). claim first (afterCalls m s first calls)) (sym (build-start h))
       (history m s (now raster) (now keys) (now bits) (now summary) logKeys logValues (sym (build-refusal h) ∙ passed) calls))

@@ -12,7 +12,7 @@ use Rattle.definitions.specs.List.{Record, recordOf, listOf, keysOf}
 use Rattle.definitions.specs.Standing.{placeOf}
 use Rattle.laws.proofs.Ascending.{Ascending, ascending-append, widen, ascending-rest}
 use Rattle.laws.proofs.ListOf.{list-first, list-one, list-ascends}
-use Rattle.put.specs.Family.{bitsAt}
+use Rattle.put.specs.Family.{blockBits}
 use Rattle.put.proofs.Places.{place-cut, bits-cut, key-cut}
 
 -- a block's list between records whose keys lie below the block's and at or above its end
@@ -31,7 +31,7 @@ module _ (p : Picture) (k r c κ : ℕ) {lo hi : ℕ} {a b : List Record} (low :
   place-own = rw (own-first .1) (place-cut (recordOf κ (bitsOf p k r c)) low (le-refl κ) (own-first .2))
 
   -- with the block's bits
-  pub bits-own : bitsAt κ (a ++ (listOf p k r c κ ++ b)) ≡ bitsOf p k r c
+  pub bits-own : blockBits κ (a ++ (listOf p k r c κ ++ b)) ≡ bitsOf p k r c
   bits-own = rw (own-first .1) (bits-cut (recordOf κ (bitsOf p k r c)) low (le-refl κ) (own-first .2))
 
   -- and the block's key
@@ -51,7 +51,7 @@ module _ (p : Picture) (k r c κ : ℕ) {lo hi : ℕ} {a b : List Record} (low :
     place-leaf = rw leaf-first (place-cut (recordOf κ (2 ^ p r c)) low from leaf-after)
 
     -- with its feature's slot
-    pub bits-leaf : bitsAt x (a ++ (listOf p k r c κ ++ b)) ≡ 2 ^ p r c
+    pub bits-leaf : blockBits x (a ++ (listOf p k r c κ ++ b)) ≡ 2 ^ p r c
     bits-leaf = rw leaf-first (bits-cut (recordOf κ (2 ^ p r c)) low from leaf-after)
 
     -- and its key

@@ -21,7 +21,7 @@ use Rattle.laws.proofs.BitsOf.{bits-one}
 use Rattle.laws.proofs.ListOf.{list-first, list-one, length-several}
 use Rattle.put.specs.Family.{around}
 use Rattle.put.specs.Climb.{climb}
-use Rattle.put.specs.Put.{isLeaf, firstBits, topFor, topOf, filling}
+use Rattle.put.specs.Put.{isOneRecord, firstBits, topFor, topOf, filling}
 use Rattle.put.proofs.Way.{Way, under-of, steps, steps-height}
 use Rattle.put.proofs.Outside.{Outside}
 use Rattle.put.proofs.Context.{Open, open-up}
@@ -37,13 +37,13 @@ pub first-bits : (p : Picture) (k r c κ : ℕ) → firstBits (listOf p k r c κ
 first-bits p k r c κ = ap firstBits (list-first p k r c κ .1)
 
 -- a list is one record exactly when the block has one feature
-pub leaf-one : (p : Picture) (k r c κ : ℕ) → isLeaf (listOf p k r c κ) ≡ oneFeature p k r c
-leaf-one p zero r c κ = ap isLeaf (list-one p zero r c κ (one-pixel p r c)) ∙ sym (one-pixel p r c)
+pub leaf-one : (p : Picture) (k r c κ : ℕ) → isOneRecord (listOf p k r c κ) ≡ oneFeature p k r c
+leaf-one p zero r c κ = ap isOneRecord (list-one p zero r c κ (one-pixel p r c)) ∙ sym (one-pixel p r c)
 leaf-one p (suc k) r c κ =
-    decide (oneFeature p (suc k) r c) (λ e. ap isLeaf (list-one p (suc k) r c κ e) ∙ sym e)
+    decide (oneFeature p (suc k) r c) (λ e. ap isOneRecord (list-one p (suc k) r c κ e) ∙ sym e)
     (λ e.
     let h = length-several p k r c κ e in
-    decide (isLeaf (listOf p (suc k) r c κ)) (λ t. absurd (let i = eqb-true (length (listOf p (suc k) r c κ)) 1 t in omega arith)) (λ t. t ∙ sym e))
+    decide (isOneRecord (listOf p (suc k) r c κ)) (λ t. absurd (let i = eqb-true (length (listOf p (suc k) r c κ)) 1 t in omega arith)) (λ t. t ∙ sym e))
 
 -- the list of a block of one feature, by its bits
 pub list-bits : (p : Picture) (k r c κ : ℕ) → oneFeature p k r c ≡ true → listOf p k r c κ ≡ recordOf κ (bitsOf p k r c) ∷ []
@@ -65,7 +65,7 @@ pub record Chosen (p′ : Picture) (m κ : ℕ) (l content : List Record) : Type
   pub kind : (key ≡ κ) ⊎ (oneFeature p′ height row column ≡ true)
 
 -- climbing goes from the block's height, with the levels above it
-pub top-leaf : (m κ : ℕ) (l content : List Record) (k n b : ℕ) → isLeaf content ≡ true → heightOf m κ ≡ k → n + k ≡ m → firstBits content ≡ b
+pub top-leaf : (m κ : ℕ) (l content : List Record) (k n b : ℕ) → isOneRecord content ≡ true → heightOf m κ ≡ k → n + k ≡ m → firstBits content ≡ b
     → topOf m l κ content ≡ climb l κ b n k
 unfolding topOf topFor
 top-leaf m κ l content k n b leaf height levels first =
@@ -74,18 +74,18 @@ top-leaf m κ l content k n b leaf height levels first =
     ∙ ap (λ u. climb l κ b u k) (omega arith)
 
 -- a content of several records fills its own block
-pub top-node : (m κ : ℕ) (l content : List Record) → isLeaf content ≡ false → topOf m l κ content ≡ heightOf m κ
+pub top-node : (m κ : ℕ) (l content : List Record) → isOneRecord content ≡ false → topOf m l κ content ≡ heightOf m κ
 unfolding topOf topFor
 top-node m κ l content e = rw e
 
 -- one record fills a block with the block's own key
-pub filling-leaf : (κ h x : ℕ) (content : List Record) → isLeaf content ≡ true → around h κ ≡ x → filling κ content h ≡ recordOf x (firstBits content) ∷ []
+pub filling-leaf : (κ h x : ℕ) (content : List Record) → isOneRecord content ≡ true → around h κ ≡ x → filling κ content h ≡ recordOf x (firstBits content) ∷ []
 unfolding filling
 filling-leaf κ h x content leaf e =
     ap (λ t. cond t (recordOf (around h κ) (firstBits content) ∷ []) content) leaf ∙ ap (λ y. recordOf y (firstBits content) ∷ []) e
 
 -- several records fill it as they are
-pub filling-node : (κ h : ℕ) (content : List Record) → isLeaf content ≡ false → filling κ content h ≡ content
+pub filling-node : (κ h : ℕ) (content : List Record) → isOneRecord content ≡ false → filling κ content h ≡ content
 unfolding filling
 filling-node κ h content e = rw e
 

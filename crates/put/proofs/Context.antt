@@ -1,7 +1,7 @@
 -- The context of a block in a list: before it the records of the blocks around it and the lists of the siblings before, after it the lists of
 -- the siblings after. The list is the block's own between the two, where every block around it has more than one feature. Rests on Siblings.
 use Prim.Native.Nat.{ℕ, suc, _+_, _^_}
-use mathlib.Core.Path.{_≡_, refl, sym, _∙_, ap, ap₂}
+use mathlib.Core.Path.{_≡_, sym, _∙_, ap}
 use mathlib.Core.Bool.{false}
 use mathlib.Core.List.{List, [], _∷_, _++_, append-assoc, append-nil}
 use native.Mathlib.Nat.{le-refl}
@@ -12,9 +12,8 @@ use Rattle.definitions.specs.Bits.{bitsOf}
 use Rattle.definitions.specs.List.{Record, recordOf, listOf}
 use Rattle.laws.proofs.Features.{several-above}
 use Rattle.laws.proofs.Ascending.{Ascending, none, next, ascending-append}
-use Rattle.put.proofs.Way.{Way, there, up, under-of}
-use Rattle.put.proofs.Outside.{Outside, outside-up}
-use Rattle.put.proofs.Siblings.{preceding, following, four-split, node-four, preceding-ascends, following-ascends, following-same}
+use Rattle.put.proofs.Way.{Way, there, up}
+use Rattle.put.proofs.Siblings.{preceding, following, four-split, node-four, preceding-ascends, following-ascends}
 
 -- the records before a block: of each block around it its own, and then the lists of the siblings before
 unfoldable pub before : Picture → {K R C Κ k r c κ : ℕ} → Way K R C Κ k r c κ → List Record
@@ -73,9 +72,3 @@ pub after-ascends : (p : Picture) {K R C Κ k r c κ : ℕ} (w : Way K R C Κ k 
 unfolding after
 after-ascends p {K = K} {Κ = Κ} there = none {lo = Κ + 5 ^ K} {hi = Κ + 5 ^ K} (le-refl (Κ + 5 ^ K))
 after-ascends p (up {k} {κ = κ} q w) = ascending-append {mid = κ + 5 ^ suc k} (following-ascends p q) (after-ascends p w)
-
--- two pictures that are equal outside a block have the same lists after it
-pub after-same : (p p′ : Picture) {m k r c κ : ℕ} (w : Way m 0 0 0 k r c κ) → Outside p p′ k r c → after p w ≡ after p′ w
-unfolding after
-after-same p p′ there h = refl
-after-same p p′ (up q w) h = ap₂ _++_ (following-same p p′ (under-of w) q h) (after-same p p′ w (outside-up (quadrant-under q) h))

@@ -16,7 +16,7 @@ use Rattle.definitions.specs.Edit.{put, contentOf}
 use Rattle.laws.proofs.ListOf.{list-first, list-ascends}
 use Rattle.laws.proofs.Ascending.{Ascending, widen}
 use Rattle.put.specs.Renew.{renew}
-use Rattle.put.specs.Put.{planOf, lengthAfter, exchanged, renewed, edited}
+use Rattle.put.specs.Put.{planOf, lengthAfter, exchanged, parentsRenewed, edited}
 use Rattle.put.specs.declared.plan.Plan.{Plan}
 use Rattle.put.proofs.Way.{way-of, steps-height}
 use Rattle.put.proofs.Put.{put-outside, put-content}
@@ -59,18 +59,18 @@ module _ (p p′ : Picture) {m κ : ℕ} {content : List Record} {plan : Plan} (
       ∙ value-seam (before p (s .way)) (recordOf (s .key) (bitsOf p′ (s .height) (s .row) (s .column))) _
 
   -- renewing makes the new list of it
-  pub renewed-is : renewed m (exchanged old-list κ content plan) κ plan ≡ listOf p′ m 0 0 0
-  unfolding renewed
+  pub renewed-is : parentsRenewed m (exchanged old-list κ content plan) κ plan ≡ listOf p′ m 0 0 0
+  unfolding parentsRenewed
   renewed-is =
       let levels = steps-height (s .way) in
-      ap (λ l. renewed m l κ plan) exchanged-is
+      ap (λ l. parentsRenewed m l κ plan) exchanged-is
       ∙ ap₂ (λ b h. renew (spliced p (s .way) new-own) κ b (m - h) h) first-new (s .height-is)
       ∙ ap (λ n. renew (spliced p (s .way) new-own) κ (bitsOf p′ (s .height) (s .row) (s .column)) n (s .height)) (omega arith)
       ∙ renew-all p p′ (s .way) (s .out) (s .new-opens) (s .holds)
 
   -- the keys are the new list's already before it
   pub exchanged-keys : keysOf (exchanged old-list κ content plan) ≡ keysOf (listOf p′ m 0 0 0)
-  unfolding renewed
+  unfolding parentsRenewed
   exchanged-keys = sym (renew-keys (exchanged old-list κ content plan) κ _ _ _) ∙ ap keysOf renewed-is
 
   -- so they ascend from the root's on, and places can be searched while bits are renewed
@@ -84,7 +84,7 @@ module _ (p p′ : Picture) {m κ : ℕ} {content : List Record} {plan : Plan} (
 
   -- the length is the new list's
   pub exchanged-length : length (exchanged old-list κ content plan) ≡ length (listOf p′ m 0 0 0)
-  unfolding renewed
+  unfolding parentsRenewed
   exchanged-length = sym (renew-length (exchanged old-list κ content plan) κ _ _ _) ∙ ap length renewed-is
 
   -- the old list's length by the site

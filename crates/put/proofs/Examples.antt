@@ -6,11 +6,11 @@ use Rattle.keys.specs.Block.{inInterval}
 use Rattle.definitions.specs.Bits.{unionOfFour}
 use Rattle.definitions.specs.List.{Record, recordOf}
 use Rattle.definitions.specs.Standing.{upTo, placeOf, isListed, recordsIn, partLength}
-use Rattle.put.specs.Family.{around, bitsAt, childBits, parentBits}
+use Rattle.put.specs.Family.{around, blockBits, childBits, parentBits}
 use Rattle.put.specs.Climb.{climb}
 use Rattle.put.specs.Plant.{digitAt, leaves, frontAt, backAt, front, back}
 use Rattle.put.specs.Renew.{setBits, renew}
-use Rattle.put.specs.Put.{topFor, topOf, planAt, planOf, lengthAfter, filling, inserted, exchanged, renewed, edited}
+use Rattle.put.specs.Put.{topFor, topOf, planAt, planOf, lengthAfter, filling, inserted, exchanged, parentsRenewed, edited}
 
 -- keys as numbers: 10 is 5, 20 is 10, 24 is 14, 33 is 18; bits with slot 0 worth 1
 abbrev mapA : List Record
@@ -55,5 +55,5 @@ pub record Rows : Type 0 where
   pub a11-length : lengthAfter mapA (recordOf 18 1 ∷ []) (planOf 2 mapA 18 (recordOf 18 1 ∷ [])) ≡ 13
 
 pub rows : Rows
-unfolding digitsOf digitsBeforeZero levelOf heightOf inInterval unionOfFour upTo placeOf isListed recordsIn partLength around bitsAt childBits parentBits climb digitAt leaves frontAt backAt front back setBits renew topFor topOf planAt planOf lengthAfter filling inserted exchanged renewed edited
+unfolding digitsOf digitsBeforeZero levelOf heightOf inInterval unionOfFour upTo placeOf isListed recordsIn partLength around blockBits childBits parentBits climb digitAt leaves frontAt backAt front back setBits renew topFor topOf planAt planOf lengthAfter filling inserted exchanged parentsRenewed edited
 rows = record { a9 = refl; a9-plan = refl; a10 = refl; a10-plan = refl; a11 = refl; a11-length = refl }

@@ -19,7 +19,7 @@ use Rattle.definitions.specs.Bits.{unionOfFour, bitsOf}
 use Rattle.definitions.specs.List.{Record, listOf}
 use Rattle.laws.proofs.Slots.{same-four}
 use Rattle.laws.proofs.BitsOf.{bits-suc, bits-agree}
-use Rattle.put.specs.Family.{around, bitsAt, childBits, parentBits}
+use Rattle.put.specs.Family.{around, blockBits, childBits, parentBits}
 use Rattle.put.proofs.Way.{Way, up, under-of}
 use Rattle.put.proofs.Outside.{Outside, agree-sibling}
 use Rattle.put.proofs.Standing.{bits-at}
@@ -40,7 +40,7 @@ keys-up u i = let w = within u in omega arith
 
 -- in the list l every quadrant but the one with key own has the picture's bits at its key
 abbrev pub OthersRead : Picture → List Record → ℕ → ℕ → ℕ → ℕ → ℕ → Type 0
-OthersRead p l own k r c κ = (r₂ c₂ κ₂ : ℕ) → Quadrant k r c κ r₂ c₂ κ₂ → (κ₂ ≡ own → ⊥) → bitsAt κ₂ l ≡ bitsOf p k r₂ c₂
+OthersRead p l own k r c κ = (r₂ c₂ κ₂ : ℕ) → Quadrant k r c κ r₂ c₂ κ₂ → (κ₂ ≡ own → ⊥) → blockBits κ₂ l ≡ bitsOf p k r₂ c₂
 
 -- so a child's bits are found: in hand for the quadrant itself, in the list for the others
 child-bits : (p : Picture) (l : List Record) {k r c κ r₁ c₁ κ₁ r₂ c₂ κ₂ : ℕ}
@@ -53,8 +53,8 @@ child-bits p l {k} {r₁ = r₁} {c₁} {κ₁} {r₂} {c₂} {κ₂} q others q
     equal κ₂ κ₁
     (λ e.
     let s = one-block (quadrant-under q) (quadrant-under q′) (sym e) in
-    ap (λ t. cond t (bitsOf p k r₁ c₁) (bitsAt κ₂ l)) (eq-eqb κ₂ κ₁ e) ∙ ap₂ (bitsOf p k) (s .rows) (s .columns))
-    (λ n. ap (λ t. cond t (bitsOf p k r₁ c₁) (bitsAt κ₂ l)) (ne-eqb κ₂ κ₁ n) ∙ others r₂ c₂ κ₂ q′ n)
+    ap (λ t. cond t (bitsOf p k r₁ c₁) (blockBits κ₂ l)) (eq-eqb κ₂ κ₁ e) ∙ ap₂ (bitsOf p k) (s .rows) (s .columns))
+    (λ n. ap (λ t. cond t (bitsOf p k r₁ c₁) (blockBits κ₂ l)) (ne-eqb κ₂ κ₁ n) ∙ others r₂ c₂ κ₂ q′ n)
 
 -- the bits of a parent, found from a key of the quadrant
 pub parent-bits : (p : Picture) (l : List Record) {m k r c κ r′ c′ κ′ x : ℕ}

@@ -19,7 +19,7 @@ use Rattle.laws.proofs.Slots.{same-four}
 use Rattle.list.specs.Sorted.{Sorted}
 use Rattle.list.specs.Among.{placeAmong}
 use Rattle.list.proofs.Among.{place-below, values-of-records, place-among}
-use Rattle.put.specs.Family.{around, bitsAt, childBits, parentBits, widerBits}
+use Rattle.put.specs.Family.{around, blockBits, childBits, parentBits, widerBits}
 
 -- keys in order that begin with the root's have a place for every key
 pub sorted-from : {keys : List ℕ} {n : ℕ} → Sorted keys n 0 → (x : ℕ) → Sorted keys n x
@@ -32,8 +32,8 @@ module _ (keys bits : List ℕ) (n x : ℕ) (fits : n ≤ length keys) (room : n
   place-read = is ∙ sym (place-among keys bits n (omega arith) x)
 
   -- the bits there are the block's
-  pub bits-read : place < n → getD bits place 0 ≡ bitsAt x (recordsOf keys bits n)
-  unfolding bitsAt
+  pub bits-read : place < n → getD bits place 0 ≡ blockBits x (recordsOf keys bits n)
+  unfolding blockBits
   bits-read h =
       sym (getD-take n bits place 0 h)
       ∙ ap₂ (λ l i. getD l i 0) (sym (values-of-records keys bits n (omega arith))) place-read
@@ -45,12 +45,12 @@ place-there s place is = let h = place-below s in omega arith
 -- the bits of a child: those in hand for the block itself
 pub child-own : (l : List Record) (own b x : ℕ) → x ≡ own → b ≡ childBits l own b x
 unfolding childBits
-child-own l own b x e = sym (ap (λ t. cond t b (bitsAt x l)) (eq-eqb x own e))
+child-own l own b x e = sym (ap (λ t. cond t b (blockBits x l)) (eq-eqb x own e))
 
 -- those of the list for the others
-pub child-other : (l : List Record) (own b x : ℕ) → (x ≡ own → ⊥) → bitsAt x l ≡ childBits l own b x
+pub child-other : (l : List Record) (own b x : ℕ) → (x ≡ own → ⊥) → blockBits x l ≡ childBits l own b x
 unfolding childBits
-child-other l own b x e = sym (ap (λ t. cond t b (bitsAt x l)) (ne-eqb x own e))
+child-other l own b x e = sym (ap (λ t. cond t b (blockBits x l)) (ne-eqb x own e))
 
 -- a block around a key, by its step
 module _ (key step h : ℕ) (is : step ≡ 5 ^ h) where

@@ -16,7 +16,7 @@ use Rattle.keys.specs.Block.{inInterval}
 use Rattle.definitions.specs.List.{Record, recordOf, keysOf, valuesOf}
 use Rattle.definitions.specs.Standing.{upTo, placeOf, recordsIn}
 use Rattle.laws.proofs.Ascending.{Ascending, none, next, ascending-bounds}
-use Rattle.put.specs.Family.{bitsAt}
+use Rattle.put.specs.Family.{blockBits}
 use Rattle.put.specs.Renew.{setBits}
 
 -- records of two lists are counted one after the other
@@ -89,8 +89,8 @@ module _ {lo hi x : ℕ} {a : List Record} (e : Record) {b : List Record} (low :
       omega arith
 
   -- the bits there are e's
-  pub bits-cut : bitsAt x (a ++ e ∷ b) ≡ e .value
-  unfolding bitsAt
+  pub bits-cut : blockBits x (a ++ e ∷ b) ≡ e .value
+  unfolding blockBits
   bits-cut = ap (λ i. getD (valuesOf (a ++ e ∷ b)) i 0) place-cut ∙ value-seam a e b
 
   -- the key there is e's

@@ -13,7 +13,7 @@ use Rattle.definitions.specs.Read.{recordsOf}
 use Rattle.list.specs.Own.{OwnList}
 use Rattle.list.proofs.Own.{own-length}
 use Rattle.put.specs.Climb.{climb}
-use Rattle.put.specs.Put.{isLeaf, firstBits, topOf, topFor, planAt, planOf, lengthAfter}
+use Rattle.put.specs.Put.{isOneRecord, firstBits, topOf, topFor, planAt, planOf, lengthAfter}
 use Rattle.put.specs.declared.plan.Plan.{Plan}
 use Rattle.put.proofs.Bounds.{climb-bounds}
 
@@ -43,7 +43,7 @@ pub top-fits : (m : ℕ) (l : List Record) (κ b : ℕ) (leaf : Bool) (top : ℕ
 top-fits m l κ b leaf top e deep = let h = top-bounds m l κ b leaf in omega arith
 
 -- what is told of a content is true: the plan is that of the content
-pub plan-for : (m : ℕ) (l : List Record) (κ : ℕ) (content : List Record) (leaf : Bool) (b : ℕ) → isLeaf content ≡ leaf → firstBits content ≡ b
+pub plan-for : (m : ℕ) (l : List Record) (κ : ℕ) (content : List Record) (leaf : Bool) (b : ℕ) → isOneRecord content ≡ leaf → firstBits content ≡ b
     → planAt m l κ (topFor m l κ leaf b) ≡ planOf m l κ content
 unfolding planOf topOf
 plan-for m l κ content leaf b e f = ap₂ (λ t x. planAt m l κ (topFor m l κ t x)) (sym e) (sym f)

@@ -21,7 +21,7 @@ use Rattle.laws.proofs.AscendingKeys.{ascending-places}
 use Rattle.list.specs.Sorted.{Sorted}
 use Rattle.list.specs.Own.{shownBy}
 use Rattle.put.specs.Renew.{renew}
-use Rattle.put.specs.Put.{lengthAfter, exchanged, renewed, edited}
+use Rattle.put.specs.Put.{lengthAfter, exchanged, parentsRenewed, edited}
 use Rattle.put.specs.declared.plan.Plan.{Plan}
 use Rattle.put.specs.Planting.{Deep}
 use Rattle.put.specs.Exchanging.{Exchangeable, Holds}
@@ -162,9 +162,9 @@ module _ {m : ℕ} {keys bits : List ℕ} {n κ : ℕ} {plan : Plan} {contentKey
 
     -- the edited list has as many
     pub edited-size : length (edited m listed κ content) ≡ after
-    unfolding edited renewed
+    unfolding edited parentsRenewed
     edited-size =
-        ap (λ q. length (renewed m (exchanged listed κ content q) κ q)) (sym (p .plan-is))
+        ap (λ q. length (parentsRenewed m (exchanged listed κ content q) κ q)) (sym (p .plan-is))
         ∙ renew-length (exchanged listed κ content plan) κ _ _ _
         ∙ exchanged-size
 
@@ -185,16 +185,16 @@ module _ {m : ℕ} {keys bits : List ℕ} {n κ : ℕ} {plan : Plan} {contentKey
 
       edited-by : renew (recordsOf keys₁ bits₁ after) κ (getD bits₁ (plan .start) 0) (m - (plan .top + plan .levels)) (plan .top + plan .levels)
           ≡ edited m listed κ content
-      unfolding edited renewed
+      unfolding edited parentsRenewed
       edited-by =
           ap₂ (λ l b. renew l κ b (m - (plan .top + plan .levels)) (plan .top + plan .levels))
           (held-records h after exchanged-size) (held-bits h after exchanged-size (plan .start) start-below)
-          ∙ ap (λ q. renewed m (exchanged listed κ content q) κ q) (p .plan-is)
+          ∙ ap (λ q. parentsRenewed m (exchanged listed κ content q) κ q) (p .plan-is)
 
       same-keys : keysOf (edited m listed κ content) ≡ keysOf (exchanged listed κ content plan)
-      unfolding edited renewed
+      unfolding edited parentsRenewed
       same-keys =
-          ap (λ q. keysOf (renewed m (exchanged listed κ content q) κ q)) (sym (p .plan-is)) ∙ renew-keys (exchanged listed κ content plan) κ _ _ _
+          ap (λ q. keysOf (parentsRenewed m (exchanged listed κ content q) κ q)) (sym (p .plan-is)) ∙ renew-keys (exchanged listed κ content plan) κ _ _ _
 
       -- once the bits are renewed, the slices hold the edited list
       pub put-held : {bits₂ : List ℕ}

@@ -13,7 +13,7 @@ use Rattle.definitions.specs.List.{Record, listOfPicture, keysOf}
 use Rattle.definitions.specs.Edit.{put, contentOf}
 use Rattle.laws.proofs.Ascending.{Ascending}
 use Rattle.laws.proofs.ListOf.{list-some}
-use Rattle.put.specs.Put.{isLeaf, firstBits, topFor, topOf, planAt, planOf, lengthAfter, exchanged}
+use Rattle.put.specs.Put.{isOneRecord, firstBits, topFor, topOf, planAt, planOf, lengthAfter, exchanged}
 use Rattle.put.specs.declared.plan.Plan.{Plan}
 use Rattle.put.proofs.Bounds.{climb-bounds}
 use Rattle.put.proofs.Edited.{put-site, exchanged-ascends, exchanged-first, exchanged-length, length-is, plan-fits, plan-levels}
@@ -33,7 +33,7 @@ pub top-low : (m κ : ℕ) (l content : List Record) → heightOf m κ ≤ topOf
 unfolding topOf topFor
 top-low m κ l content =
     let i = climb-bounds l κ (firstBits content) (m - heightOf m κ) (heightOf m κ) in
-    decide (isLeaf content) (λ t. rw t (i .0)) (λ t. rw t (omega arith))
+    decide (isOneRecord content) (λ t. rw t (i .0)) (λ t. rw t (omega arith))
 
 plan-top : (m κ : ℕ) (l content : List Record) → planOf m l κ content .top ≡ topOf m l κ content
 unfolding planOf planAt

@@ -14,7 +14,7 @@ use Rattle.definitions.specs.List.{Record, recordOf, listOf}
 use Rattle.definitions.specs.Standing.{placeOf}
 use Rattle.laws.proofs.Ascending.{Ascending, next, ascending-append}
 use Rattle.laws.proofs.ListOf.{list-ascends}
-use Rattle.put.specs.Family.{around, bitsAt, parentBits}
+use Rattle.put.specs.Family.{around, blockBits, parentBits}
 use Rattle.put.specs.Renew.{setBits, renew}
 use Rattle.put.proofs.Way.{Way, there, up, under-of, steps, steps-there, steps-up}
 use Rattle.put.proofs.Outside.{Outside, outside-up}
@@ -46,10 +46,10 @@ regroup a s own t b e = simp append-assoc
 -- the record of a block with any bits, and then the lists of its quadrants, between other records
 module _ (p : Picture) (k r c κ v : ℕ) {lo hi : ℕ} {a b : List Record} (low : Ascending lo κ a) (high : Ascending (κ + 5 ^ suc k) hi b) where
   -- each quadrant's bits are found at its key
-  quadrant-read : {r′ c′ κ′ : ℕ} → Quadrant k r c κ r′ c′ κ′ → bitsAt κ′ (a ++ (recordOf κ v ∷ fourLists p k r c κ ++ b)) ≡ bitsOf p k r′ c′
+  quadrant-read : {r′ c′ κ′ : ℕ} → Quadrant k r c κ r′ c′ κ′ → blockBits κ′ (a ++ (recordOf κ v ∷ fourLists p k r c κ ++ b)) ≡ bitsOf p k r′ c′
   quadrant-read {r′} {c′} {κ′} q =
-      ap (λ l. bitsAt κ′ (a ++ (recordOf κ v ∷ l ++ b))) (four-split p q)
-      ∙ ap (bitsAt κ′) (regroup a (preceding p q) (listOf p k r′ c′ κ′) (following p q) b (recordOf κ v))
+      ap (λ l. blockBits κ′ (a ++ (recordOf κ v ∷ l ++ b))) (four-split p q)
+      ∙ ap (blockBits κ′) (regroup a (preceding p q) (listOf p k r′ c′ κ′) (following p q) b (recordOf κ v))
       ∙ bits-own p k r′ c′ κ′ (ascending-append low (next (le-refl κ) (preceding-ascends p q))) (ascending-append (following-ascends p q) high)
 
   -- and the block's own record is set
@@ -58,7 +58,7 @@ module _ (p : Picture) (k r c κ v : ℕ) {lo hi : ℕ} {a b : List Record} (low
 
 -- the same in the context of a picture
 module _ (p p′ : Picture) {m k r c κ : ℕ} (w : Way m 0 0 0 (suc k) r c κ) (v : ℕ) where
-  context-read : {r′ c′ κ′ : ℕ} → Quadrant k r c κ r′ c′ κ′ → bitsAt κ′ (spliced p w (recordOf κ v ∷ fourLists p′ k r c κ)) ≡ bitsOf p′ k r′ c′
+  context-read : {r′ c′ κ′ : ℕ} → Quadrant k r c κ r′ c′ κ′ → blockBits κ′ (spliced p w (recordOf κ v ∷ fourLists p′ k r c κ)) ≡ bitsOf p′ k r′ c′
   unfolding spliced
   context-read q = quadrant-read p′ k r c κ v (before-ascends p w) (after-ascends p w) q
 
@@ -79,7 +79,7 @@ module _ (p p′ : Picture) {m k r c κ r′ c′ κ′ : ℕ} (q : Quadrant k r
   -- so the parent's new bits are found
   pub renew-bits : {x : ℕ} → InKeys k κ′ x → parentBits (spliced p (up q w) (listOf p′ k r′ c′ κ′)) x (bitsOf p′ k r′ c′) k ≡ bitsOf p′ (suc k) r c
   renew-bits i =
-      parent-bits p′ _ (under-of w) q i (λ r₂ c₂ κ₂ q′ other. ap (bitsAt κ₂) old-bits ∙ context-read p p′ w (bitsOf p (suc k) r c) q′)
+      parent-bits p′ _ (under-of w) q i (λ r₂ c₂ κ₂ q′ other. ap (blockBits κ₂) old-bits ∙ context-read p p′ w (bitsOf p (suc k) r c) q′)
 
   -- and set
   pub renew-set : {x : ℕ} → InKeys k κ′ x → oneFeature p′ (suc k) r c ≡ false

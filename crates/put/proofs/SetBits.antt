@@ -1,18 +1,13 @@
 -- What renewing bits leaves as it is: the keys, and so the number of records; and what it does to the bits. Rests on nothing.
 use Prim.Native.Nat.{ℕ, zero, suc}
-use mathlib.Core.Path.{_≡_, refl, _∙_, ap}
-use mathlib.Core.List.{List, [], _∷_, map}
-use lib.ListN.{length, getD, set, length-set, List·getD-map}
+use mathlib.Core.Path.{_≡_, refl, _∙_}
+use mathlib.Core.List.{List}
+use lib.ListN.{length, getD, length-set, List·getD-map}
 use lib.Seq.{map-set-same}
 use Rattle.definitions.specs.List.{Record, recordOf, keysOf}
 use Rattle.definitions.specs.Standing.{placeOf}
 use Rattle.put.specs.Family.{around, parentBits}
 use Rattle.put.specs.Renew.{setBits, renew}
-
-map-set : {B : Type 0} (f : Record → B) (l : List Record) (i : ℕ) (y : Record) → map f (set l i y) ≡ set (map f l) i (f y)
-map-set f [] i y = refl
-map-set f (x ∷ l) zero y = refl
-map-set f (x ∷ l) (suc i) y = ap (λ t. f x ∷ t) (map-set f l i y)
 
 -- setting bits leaves the keys
 pub set-keys : (l : List Record) (i b : ℕ) → keysOf (setBits l i b) ≡ keysOf l

@@ -18,7 +18,7 @@ use Rattle.definitions.specs.Bits.{bitsOf}
 use Rattle.definitions.specs.List.{Record, listOf, keysOf, valuesOf}
 use Rattle.definitions.specs.Standing.{placeOf, partLength}
 use Rattle.laws.proofs.ListOf.{list-one}
-use Rattle.put.specs.Family.{around, bitsAt}
+use Rattle.put.specs.Family.{around, blockBits}
 use Rattle.put.specs.Plant.{front, back}
 use Rattle.put.specs.Put.{firstBits, planAt, planOf, filling, inserted}
 use Rattle.put.specs.declared.plan.Plan.{Plan}
@@ -73,8 +73,8 @@ plan-levels : (m κ top x y : ℕ) (l : List Record) → around top κ ≡ x →
 unfolding planAt
 plan-levels m κ top x y l e f = ap (λ z. heightOf m (getD (keysOf l) (placeOf z l) 0) - top) e ∙ ap (λ z. heightOf m z - top) f
 
-plan-bits : (m κ top x : ℕ) (l : List Record) → around top κ ≡ x → getD (valuesOf l) (planAt m l κ top .start) 0 ≡ bitsAt x l
-unfolding bitsAt
+plan-bits : (m κ top x : ℕ) (l : List Record) → around top κ ≡ x → getD (valuesOf l) (planAt m l κ top .start) 0 ≡ blockBits x l
+unfolding blockBits
 plan-bits m κ top x l e = ap (λ i. getD (valuesOf l) i 0) (plan-start m κ top x l e)
 
 -- what is put in, for the plan's numbers

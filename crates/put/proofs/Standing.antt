@@ -21,7 +21,7 @@ use Rattle.laws.proofs.Within.{first-within, under-within}
 use Rattle.laws.proofs.Features.{one-to, one-under, several-above}
 use Rattle.laws.proofs.BitsOf.{bits-one}
 use Rattle.laws.proofs.ListOf.{list-ascends}
-use Rattle.put.specs.Family.{bitsAt}
+use Rattle.put.specs.Family.{blockBits}
 use Rattle.put.proofs.Way.{Way, there, up, under-of}
 use Rattle.put.proofs.Context.{before, after, Open, spliced, context, before-ascends, after-ascends}
 use Rattle.put.proofs.Places.{in-cut}
@@ -86,7 +86,7 @@ module _ (p : Picture) {K R C Κ k r c κ : ℕ} (w : Way K R C Κ k r c κ) (o 
   place-listed = rw shown (place-own p k r c κ (before-ascends p w) (after-ascends p w))
 
   -- the bits there are its own
-  pub bits-listed : bitsAt κ (listOf p K R C Κ) ≡ bitsOf p k r c
+  pub bits-listed : blockBits κ (listOf p K R C Κ) ≡ bitsOf p k r c
   bits-listed = rw shown (bits-own p k r c κ (before-ascends p w) (after-ascends p w))
 
   -- the key there is its own
@@ -119,7 +119,7 @@ module _ (p : Picture) {K R C Κ k r c κ : ℕ} {w : Way K R C Κ k r c κ} (x 
       rw around-leaf (place-leaf p (x .height) (x .row) (x .column) (x .key) (before-ascends p (x .way)) (after-ascends p (x .way)) (x .one) κ (i .0) (i .1))
 
   -- the bits there are the leaf's feature
-  pub bits-inside : bitsAt κ (listOf p K R C Κ) ≡ 2 ^ p (x .row) (x .column)
+  pub bits-inside : blockBits κ (listOf p K R C Κ) ≡ 2 ^ p (x .row) (x .column)
   bits-inside =
       let i = key-within (under-of (x .under)) in
       rw around-leaf (bits-leaf p (x .height) (x .row) (x .column) (x .key) (before-ascends p (x .way)) (after-ascends p (x .way)) (x .one) κ (i .0) (i .1))
@@ -149,10 +149,10 @@ leaf-several p p′ x o = go p′ (x .under) (x .first) (x .still p′ o)
     go p (up q w) h e = several-above p (under-of w) e
 
 -- the last record at or before a block's key has the block's bits
-pub bits-at : (p : Picture) {K R C Κ k r c κ : ℕ} → Way K R C Κ k r c κ → bitsAt κ (listOf p K R C Κ) ≡ bitsOf p k r c
+pub bits-at : (p : Picture) {K R C Κ k r c κ : ℕ} → Way K R C Κ k r c κ → blockBits κ (listOf p K R C Κ) ≡ bitsOf p k r c
 bits-at p {k = k} {r} {c} w = go p w (stands p w)
   where
-    go : (p : Picture) {K R C Κ k r c κ : ℕ} (w : Way K R C Κ k r c κ) → Stands p w → bitsAt κ (listOf p K R C Κ) ≡ bitsOf p k r c
+    go : (p : Picture) {K R C Κ k r c κ : ℕ} (w : Way K R C Κ k r c κ) → Stands p w → blockBits κ (listOf p K R C Κ) ≡ bitsOf p k r c
     go p w (listed o) = bits-listed p w o
     go p {k = k} {r} {c} w (inside x) =
         let u = under-of (x .under) in

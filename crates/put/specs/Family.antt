@@ -15,12 +15,12 @@ unfoldable pub around : ℕ → ℕ → ℕ
 around h κ = κ / 5 ^ h * 5 ^ h
 
 -- the bits of a block by the list: those of the last record at or before its key
-unfoldable pub bitsAt : ℕ → List Record → ℕ
-bitsAt x l = getD (valuesOf l) (placeOf x l) 0
+unfoldable pub blockBits : ℕ → List Record → ℕ
+blockBits x l = getD (valuesOf l) (placeOf x l) 0
 
 -- the bits of the child with key x, where the child with key own has got the bits b
 unfoldable pub childBits : List Record → ℕ → ℕ → ℕ → ℕ
-childBits l own b x = cond (eqb x own) b (bitsAt x l)
+childBits l own b x = cond (eqb x own) b (blockBits x l)
 
 -- the bits of the block of height h + 1 around κ, where the one of height h has got the bits b
 unfoldable pub parentBits : List Record → ℕ → ℕ → ℕ → ℕ

@@ -16,8 +16,8 @@ use Rattle.put.specs.Renew.{renew}
 use Rattle.put.specs.declared.plan.Plan.{Plan}
 
 -- the content is one record: the block gets one feature
-abbrev pub isLeaf : List Record → Bool
-isLeaf content = eqb (length content) 1
+abbrev pub isOneRecord : List Record → Bool
+isOneRecord content = eqb (length content) 1
 
 -- the bits of the block by its content
 abbrev pub firstBits : List Record → ℕ
@@ -29,7 +29,7 @@ unfoldable pub topFor : ℕ → List Record → ℕ → Bool → ℕ → ℕ
 topFor m l κ leaf b = cond leaf (climb l κ b (m - heightOf m κ) (heightOf m κ)) (heightOf m κ)
 
 unfoldable pub topOf : ℕ → List Record → ℕ → List Record → ℕ
-topOf m l κ content = topFor m l κ (isLeaf content) (firstBits content)
+topOf m l κ content = topFor m l κ (isOneRecord content) (firstBits content)
 
 -- the plan, whose numbers the code's struct names
 unfoldable pub planAt : ℕ → List Record → ℕ → ℕ → Plan
@@ -50,7 +50,7 @@ lengthAfter l content plan = length l - plan .old + (4 * plan .levels + length c
 
 -- what the filled block holds: one record with its own key, or the content as it is
 unfoldable pub filling : ℕ → List Record → ℕ → List Record
-filling κ content top = cond (isLeaf content) (recordOf (around top κ) (firstBits content) ∷ []) content
+filling κ content top = cond (isOneRecord content) (recordOf (around top κ) (firstBits content) ∷ []) content
 
 -- the bits of the record at the place where the exchange starts: of the leaf that is split
 abbrev pub bitsBefore : List Record → Plan → ℕ
@@ -67,10 +67,10 @@ unfoldable pub exchanged : List Record → ℕ → List Record → Plan → List
 exchanged l κ content plan = take (plan .start) l ++ (inserted l κ content plan ++ drop (plan .start + plan .old) l)
 
 -- and with the bits renewed of the blocks around those that were exchanged
-unfoldable pub renewed : ℕ → List Record → ℕ → Plan → List Record
-renewed m l κ plan =
+unfoldable pub parentsRenewed : ℕ → List Record → ℕ → Plan → List Record
+parentsRenewed m l κ plan =
     renew l κ (getD (valuesOf l) (plan .start) 0) (m - (plan .top + plan .levels)) (plan .top + plan .levels)
 
 -- the list after the content is put into the block with key κ
 unfoldable pub edited : ℕ → List Record → ℕ → List Record → List Record
-edited m l κ content = renewed m (exchanged l κ content (planOf m l κ content)) κ (planOf m l κ content)
+edited m l κ content = parentsRenewed m (exchanged l κ content (planOf m l κ content)) κ (planOf m l κ content)

@@ -4,7 +4,7 @@ ghost use Prim.Native.Nat.{_≤_, _<_, _^_};
 ghost use lib.ListN.{length};
 ghost use Rattle.definitions.specs.Read.{recordsOf};
 ghost use Rattle.list.specs.Sorted.{Sorted};
-ghost use Rattle.put.specs.Family.{bitsAt, childBits, widerBits};
+ghost use Rattle.put.specs.Family.{blockBits, childBits, widerBits};
 use keys::Key;
 use list::standing;
 
@@ -12,7 +12,7 @@ use list::standing;
 pub fn bits_at(keys: &[u32], bits: &[u32], n: usize, x: u32) -> u32
     requires { ⌜ Sorted (now keys) n x ⌝ }
     requires { ⌜ n ≤ length (now bits) ⌝ }
-    ensures { λ r. ⌜ r ≡ bitsAt x (recordsOf (now (keys .entry)) (now (bits .entry)) n) ⌝ }
+    ensures { λ r. ⌜ r ≡ blockBits x (recordsOf (now (keys .entry)) (now (bits .entry)) n) ⌝ }
 {
     let place = standing::place(keys, n, x);
     bits[place]

@@ -12,7 +12,7 @@ use lib.Dec.{leb, eqb}
 use borrow.Author.Tests.{leb-true, ltb-true, le-leb, lt-ltb, eq-eqb, eqb-true}
 use Rattle.keys.proofs.Cases.{decide, split, and-left, and-right, and-both, or-either, or-left, or-right, same-test}
 use Rattle.definitions.specs.Picture.{Picture}
-use Rattle.read.specs.Fill.{painted, inRun, inRectangle, rectanglePainted}
+use Rattle.read.specs.Fill.{filledBy, inRun, inRectangle, rectanglePainted}
 use Rattle.read.proofs.Painted.{painted-length, painted-join, painted-same, painted-none}
 
 pub record InRun (from until i : ℕ) : Type 0 where
@@ -114,7 +114,7 @@ unfolding rectanglePainted
 rectangle-none wide p r c side x = painted-none _ _ x (λ j. rectangle-empty r c side (j / wide) (j % wide))
 
 pub rectangle-row : (wide f r c side n from : ℕ) (x : List ℕ) → 0 < wide → c + side ≤ wide → from ≡ (r + n) * wide + c
-    → painted (inRun from (from + side)) (λ j. f) (rectanglePainted wide (λ a b. f) r c n side x) ≡ rectanglePainted wide (λ a b. f) r c (n + 1) side x
+    → filledBy (inRun from (from + side)) (λ j. f) (rectanglePainted wide (λ a b. f) r c n side x) ≡ rectanglePainted wide (λ a b. f) r c (n + 1) side x
 unfolding rectanglePainted
 rectangle-row wide f r c side n from x pos fits is =
     painted-join (λ j. inRectangle r c n side (j / wide) (j % wide)) (inRun from (from + side)) (λ j. f) x
@@ -181,7 +181,7 @@ four-painted wide p r c half side x halves =
     let ne : ℕ → Bool = λ i. inRectangle r (c + half) half half (i / wide) (i % wide) in
     let sw : ℕ → Bool = λ i. inRectangle (r + half) c half half (i / wide) (i % wide) in
     let se : ℕ → Bool = λ i. inRectangle (r + half) (c + half) half half (i / wide) (i % wide) in
-    ap (λ y. painted se v (painted sw v y)) (painted-join nw ne v x)
-    ∙ ap (painted se v) (painted-join (λ j. nw j || ne j) sw v x)
+    ap (λ y. filledBy se v (filledBy sw v y)) (painted-join nw ne v x)
+    ∙ ap (filledBy se v) (painted-join (λ j. nw j || ne j) sw v x)
     ∙ painted-join (λ j. nw j || ne j || sw j) se v x
     ∙ painted-same _ _ _ _ x (λ j. quadrants-test r c half side halves (j / wide) (j % wide)) (λ j h. refl)

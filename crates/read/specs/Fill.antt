@@ -14,8 +14,8 @@ unfoldable pub paintedFrom : (ℕ → Bool) → (ℕ → ℕ) → ℕ → List �
 paintedFrom test value i [] = []
 paintedFrom test value i (x ∷ xs) = cond (test i) (value i) x ∷ paintedFrom test value (suc i) xs
 
-abbrev pub painted : (ℕ → Bool) → (ℕ → ℕ) → List ℕ → List ℕ
-painted test value raster = paintedFrom test value 0 raster
+abbrev pub filledBy : (ℕ → Bool) → (ℕ → ℕ) → List ℕ → List ℕ
+filledBy test value raster = paintedFrom test value 0 raster
 
 -- the place lies in a run of places
 abbrev pub inRun : ℕ → ℕ → ℕ → Bool
@@ -28,7 +28,7 @@ inRectangle row column height width a b = inRun row (row + height) a && inRun co
 -- in a raster with rows of the given width, the rectangle gets the picture's features
 unfoldable pub rectanglePainted : ℕ → Picture → ℕ → ℕ → ℕ → ℕ → List ℕ → List ℕ
 rectanglePainted wide p row column height width raster =
-    painted (λ i. inRectangle row column height width (i / wide) (i % wide)) (λ i. p (i / wide) (i % wide)) raster
+    filledBy (λ i. inRectangle row column height width (i / wide) (i % wide)) (λ i. p (i / wide) (i % wide)) raster
 
 -- the quadrants of a block one after the other, numbered from 0: first row, first column, and first place in the raster
 unfoldable pub quadrantRow : ℕ → ℕ → ℕ → ℕ

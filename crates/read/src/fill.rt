@@ -8,7 +8,7 @@ ghost use Rattle.definitions.specs.Bits.{featureOf};
 ghost use Rattle.definitions.specs.Window.{featuresOfRows};
 ghost use Rattle.list.specs.Check.{oneSlot};
 ghost use Rattle.list.specs.Own.{OwnList, shownBy};
-ghost use Rattle.read.specs.Fill.{painted, inRun, rectanglePainted, cornerOf, ShowsNode, Filled};
+ghost use Rattle.read.specs.Fill.{filledBy, inRun, rectanglePainted, cornerOf, ShowsNode, Filled};
 use keys::power;
 use list::check;
 use list::feature;
@@ -23,7 +23,7 @@ fn feature_of(bits: u32) -> u8
 
 fn fill_row(raster: &mut [u8], from: usize, until: usize, feature: u8)
     requires { ⌜ (from ≤ until) × (until ≤ length (now raster)) ⌝ }
-    ensures { λ _. ⌜ now (raster .exit) ≡ painted (inRun from until) (λ i. feature) (now (raster .entry)) ⌝ }
+    ensures { λ _. ⌜ now (raster .exit) ≡ filledBy (inRun from until) (λ i. feature) (now (raster .entry)) ⌝ }
 {
     let mut i = from;
     while i < until {

@@ -1,13 +1,12 @@
 -- Entries written one behind the other into the log's two slices, and those of a block's quadrants. Rests on Relogging and LargestBlocks.
 use Prim.Native.Nat.{ℕ, _+_, _-_, _≤_, _<_}
-use mathlib.Core.Path.{_≡_, refl, sym, _∙_, ap, subst}
+use mathlib.Core.Path.{_≡_, sym, _∙_, ap}
 use mathlib.Core.Bool.{false}
 use mathlib.Core.List.{List, [], _∷_, _++_, map-append, append-assoc}
 use native.Mathlib.Omega.{arith}
 use lib.ListN.{length, take, drop, length-append, length-map, take-append-drop}
 use lib.Seq.{length-sets}
 use Rattle.slices.proofs.Sets.{sets-parts}
-use Rattle.keys.specs.Under.{Block}
 use Rattle.definitions.specs.Picture.{Picture}
 use Rattle.definitions.specs.List.{Record, keysOf, valuesOf}
 use Rattle.definitions.specs.Read.{room, recordsOf}

@@ -1,6 +1,6 @@
 -- The group of a window in the log's two slices: the entries of its largest blocks, and what closes them. Rests on EntriesLogged.
 use Prim.Native.Nat.{ℕ, _+_, _≤_}
-use mathlib.Core.Path.{_≡_, sym, _∙_, ap}
+use mathlib.Core.Path.{_≡_, ap}
 use mathlib.Core.List.{List, _++_}
 use native.Mathlib.Omega.{arith}
 use lib.ListN.{length, length-append}

@@ -2,7 +2,7 @@
 -- its quadrants; and how long their entries are. Rests on the pixels of a block and on the length of a content.
 use Prim.Native.Nat.{ℕ, zero, suc, _+_, _-_, _*_, _^_, _≤_, _<_}
 use mathlib.Core.Path.{_≡_, refl, sym, _∙_, ap, ap₂}
-use mathlib.Core.Bool.{true, false, true≢false}
+use mathlib.Core.Bool.{false, true≢false}
 use mathlib.Core.List.{List, [], _∷_, _++_, append-nil, append-assoc}
 use native.Mathlib.Omega.{arith}
 use native.Mathlib.Nat.{pow-suc, one-le-pow}
@@ -14,13 +14,12 @@ use Rattle.keys.specs.Under.{Block, here, nw, ne, sw, se}
 use Rattle.keys.proofs.Under.{under-trans}
 use Rattle.keys.proofs.Valid.{block-valid}
 use Rattle.definitions.specs.Picture.{Picture}
-use Rattle.definitions.specs.List.{Record}
 use Rattle.definitions.specs.Window.{inWindow, isInside, largestFrom}
 use Rattle.definitions.specs.declared.Window.{Window}
 use Rattle.definitions.specs.Edit.{contentOf}
 use Rattle.definitions.specs.Log.{closingPlaces, entryOf, entriesOf}
 use Rattle.laws.proofs.Within.{Every, first-within, every-nw, every-ne, every-sw, every-se}
-use Rattle.laws.proofs.Pixels.{every-to, every-from}
+use Rattle.laws.proofs.Pixels.{every-to}
 use Rattle.laws.proofs.LargestBlocks.{covered-one, covered-none, covered-part}
 use Rattle.laws.proofs.LastEntry.{length-closed}
 use Rattle.build.proofs.CountBlock.{list-five}

@@ -1,7 +1,7 @@
 -- The list with a window filled: what the step of the window makes of the list, and the summary after it. Rests on Changed.
-use Prim.Native.Nat.{ℕ, _+_, _^_, _≤_, _<_}
+use Prim.Native.Nat.{ℕ, _^_, _≤_, _<_}
 use mathlib.Core.Path.{_≡_, refl, sym, _∙_, ap}
-use mathlib.Core.Bool.{true, false, true≢false}
+use mathlib.Core.Bool.{true, true≢false}
 use mathlib.Core.List.{List}
 use native.Mathlib.Omega.{arith}
 use lib.ListN.{length}
@@ -10,16 +10,15 @@ use Rattle.keys.specs.Block.{inBlock}
 use Rattle.keys.specs.Under.{Block, here}
 use Rattle.keys.proofs.Valid.{block-valid}
 use Rattle.keys.proofs.InBlock.{inBlock-iff}
-use Rattle.definitions.specs.Picture.{Picture}
 use Rattle.definitions.specs.List.{listOfPicture}
 use Rattle.definitions.specs.Read.{room, recordsOf}
 use Rattle.definitions.specs.Edit.{fillWindow}
 use Rattle.definitions.specs.Area.{summaryOf}
 use Rattle.definitions.specs.declared.Window.{Window}
 use Rattle.definitions.specs.Calls.PaintWindow.{filledPicture, filled}
-use Rattle.list.specs.Own.{OwnList, shownBy}
+use Rattle.list.specs.Own.{shownBy}
 use Rattle.put.specs.Putting.{Replaced}
-use Rattle.step.specs.Step.{over}
+use Rattle.step.specs.Step.{stepOver}
 use Rattle.step.specs.Deed.{windowStep, Painting}
 use Rattle.passes.specs.Change.{Changeable, Changed}
 use Rattle.rectangle.specs.PaintWindowCall.{Fillable}
@@ -27,8 +26,8 @@ use Rattle.edit.specs.Recount.{Outdated}
 use Rattle.edit.proofs.Changed.{new-own, new-summary}
 
 -- the step of a window fills it
-pub step-fills : (m : ℕ) (keys bits : List ℕ) (n : ℕ) (w : Window) (f : ℕ) → listOfPicture m (over (windowStep w f) (shownBy m keys bits n)) ≡ filled m (recordsOf keys bits n) w f
-unfolding over fillWindow filled
+pub step-fills : (m : ℕ) (keys bits : List ℕ) (n : ℕ) (w : Window) (f : ℕ) → listOfPicture m (stepOver (windowStep w f) (shownBy m keys bits n)) ≡ filled m (recordsOf keys bits n) w f
+unfolding stepOver fillWindow filled
 step-fills m keys bits n w f = refl
 
 pub can-paint : {m : ℕ} {keys bits : List ℕ} {n : ℕ} {w : Window} {f : ℕ} → Fillable m keys bits n w f → Painting w f
@@ -41,7 +40,7 @@ module _ (m : ℕ) (keys bits : List ℕ) (n : ℕ) (w : Window) (f : ℕ) {afte
 
   pub change-fills : {keys′ bits′ : List ℕ} → after ≡ length (filled m (recordsOf keys bits n) w f) → Changed (windowStep w f) m n keys bits keys′ bits′
       → Replaced n (filled m (recordsOf keys bits n) w f) keys bits keys′ bits′ after
-  unfolding over fillWindow filled
+  unfolding stepOver fillWindow filled
   change-fills e c = record { length-is = e; keys-are = c .keys-are; values-are = c .bits-are }
 
 -- every pixel of the map lies in the root

@@ -11,8 +11,7 @@ use Rattle.definitions.specs.Read.{room}
 use Rattle.definitions.specs.Window.{largestBlocks}
 use Rattle.definitions.specs.declared.Window.{Window}
 use Rattle.definitions.specs.Refusal.{_gives_, first}
-use Rattle.definitions.specs.Calls.PaintWindow.{filled, groupGained, paintWindow, paintWindowKeys, paintWindowBits, paintWindowSummary, paintWindowLogKeys, paintWindowLogValues}
-use Rattle.definitions.specs.declared.Edited.{Edited}
+use Rattle.definitions.specs.Calls.PaintWindow.{filled, groupGained}
 use Rattle.rectangle.specs.WindowLogging.{Coverable}
 use Rattle.rectangle.specs.declared.paint_window.WindowPlan.{WindowPlan}
 

@@ -91,7 +91,7 @@ fn decide(
         (paintWindowRefusal m s (now (keys .entry)) (now (bits .entry)) n (now (summary .entry)) (now («log_keys» .entry)) (now («log_values» .entry)) used «in_force» window feature)
         m (recordsOf (now (keys .entry)) (now (bits .entry)) n) window feature r ⌝ }
 {
-    let early = decision::first_refusal(
+    let early = decision::edit_refusal(
         m,
         s,
         keys,

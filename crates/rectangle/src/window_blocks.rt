@@ -1,5 +1,4 @@
 // The largest blocks of a window, by the quadrants of the map: how a block lies to the window, and what their entries will need.
-ghost use mathlib.Core.Path.{_≡_};
 ghost use Rattle.keys.specs.Under.{Block};
 ghost use Rattle.definitions.specs.Window.{largestFrom};
 ghost use Rattle.list.specs.Own.{shownBy};

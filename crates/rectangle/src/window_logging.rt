@@ -1,5 +1,4 @@
 // What painting a window logs: a group, with an entry for each of the window's largest blocks. All contents are read off the list as it was.
-ghost use mathlib.Core.Path.{_≡_};
 ghost use Prim.Native.Nat.{_+_, _≤_};
 ghost use lib.ListN.{length};
 ghost use Rattle.definitions.specs.Read.{room, recordsOf};

@@ -1,12 +1,12 @@
 -- A group that is redone: what its run and the list ask for, and the call's answers. Rests on Applying, RedoPlan, RedoTable and RedoAnswers.
-use Prim.Native.Nat.{ℕ, _+_, _-_, _≤_, _<_}
+use Prim.Native.Nat.{ℕ, _+_, _-_, _≤_}
 use mathlib.Core.Path.{_≡_, refl, sym, _∙_, ap}
 use mathlib.Core.Bool.{true}
 use mathlib.Core.List.{List}
 use native.Mathlib.Omega.{arith}
 use lib.ListN.{length, take, drop, length-take}
 use Rattle.definitions.specs.List.{Record}
-use Rattle.definitions.specs.Read.{room, recordsOf}
+use Rattle.definitions.specs.Read.{recordsOf}
 use Rattle.definitions.specs.Log.{closingPlaces, endsInMark, stepCount, stepEntries, lastIsStep, firstStep, paintAgain, toRedo}
 use Rattle.definitions.specs.Calls.Redo.{redonePicture, redone}
 use Rattle.laws.proofs.LastStep.{entries-group, ends-in-group}

@@ -1,12 +1,12 @@
 -- The next step to redo as code finds it, and a redo of a single entry: its block is painted with its feature again. Rests on PaintPlan and on the laws of the
 -- log's first step.
-use Prim.Native.Nat.{ℕ, _+_, _-_, _≤_, _<_}
+use Prim.Native.Nat.{ℕ, _+_, _-_, _≤_}
 use mathlib.Core.Path.{_≡_, sym, _∙_, ap, ap₂, subst}
 use mathlib.Core.Bool.{true, false}
 use mathlib.Core.List.{List}
 use native.Mathlib.Omega.{arith}
 use lib.ListN.{length, take, drop, length-drop}
-use Rattle.keys.specs.Key.{slotLimit, validKey}
+use Rattle.keys.specs.Key.{validKey}
 use Rattle.definitions.specs.List.{Record, listOfPicture}
 use Rattle.definitions.specs.Read.{recordsOf, pictureOf}
 use Rattle.definitions.specs.Area.{summaryOf}

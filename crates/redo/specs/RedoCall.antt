@@ -11,18 +11,16 @@ use Rattle.definitions.specs.Read.{room}
 use Rattle.definitions.specs.Log.{firstStep}
 use Rattle.definitions.specs.Refusal.{_gives_, first}
 use Rattle.definitions.specs.Calls.Paint.{painted}
-use Rattle.definitions.specs.Calls.Redo.{redo, redoKeys, redoBits, redoSummary, redoLogKeys, redoLogValues}
-use Rattle.definitions.specs.declared.Edited.{Edited}
 use Rattle.log.specs.declared.entry.Entry.{Entry}
 use Rattle.log.specs.declared.step.Step.{Step}
 use Rattle.log.specs.Entries.{lastEntry}
 use Rattle.log.specs.Steps.{lastStep}
 use Rattle.log.proofs.Parts.{WholeLog}
-use Rattle.edit.specs.EditCallChecks.{firstRefusal}
+use Rattle.edit.specs.EditCallChecks.{editRefusal}
 
 -- what 1, 4, 18, 5 and 20 do not refuse
 pub record Redoable (m s : ℕ) (keys bits : List ℕ) (n : ℕ) (summary logKeys logValues : List ℕ) (used inForce : ℕ) : Type 0 where
-  pub passed : firstRefusal m s keys bits n summary logKeys logValues used inForce ≡ 0
+  pub passed : editRefusal m s keys bits n summary logKeys logValues used inForce ≡ 0
   pub some : inForce < used
 
 -- a log that is sound, at some m and s, and has records to redo

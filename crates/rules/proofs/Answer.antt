@@ -13,7 +13,7 @@ use Rattle.definitions.specs.declared.Rule.{Rule}
 use Rattle.definitions.specs.declared.Found.{Found}
 use Rattle.offices.specs.declared.own.Own.{Own}
 use Rattle.rules.specs.declared.state.State.{State}
-use Rattle.rules.specs.Run.{Progress, progressOf, bounding, restarting, ownPart, Fine, Ready, TableReady, runOf, tableRun, beginOf, ownAt, nextOf, answerOf}
+use Rattle.rules.specs.Run.{Progress, progressOf, bounding, restarting, ownPart, Fine, Ready, TableReady, runOf, tableRun, beginOf, ownAt, afterRun, answerOf}
 use Rattle.rules.proofs.NextCases.{next-stopped, next-faulty, next-left, next-counts, next-rests, next-full, next-writes}
 use Rattle.rules.proofs.Beginning.{below-zero, begin-ready}
 use Rattle.rules.proofs.TableRuns.{Same, same-on, next-same, ready-same, table-ready-run, table-run-same, table-run-from}
@@ -40,7 +40,7 @@ module _ (keys bits waiverIds waiverKeys : List ℕ) where
       }
 
   -- so the next run may begin, whichever it is
-  ready-next : (st : State) (l l′ : List ℕ) → Ready keys bits waiverIds waiverKeys (progressOf st l l′) → Ready keys bits waiverIds waiverKeys (progressOf (nextOf st) l l′)
+  ready-next : (st : State) (l l′ : List ℕ) → Ready keys bits waiverIds waiverKeys (progressOf st l l′) → Ready keys bits waiverIds waiverKeys (progressOf (afterRun st) l l′)
   ready-next st l l′ h =
       equal (st .refusal) 0
       (λ running.
@@ -78,12 +78,12 @@ module _ (keys bits waiverIds waiverKeys : List ℕ) where
 module _ (keys bits ids waived : List ℕ) where
   pub next-ready : (rules : List Rule) (p : Progress) (r r′ : State) (l l′ : List ℕ) → TableReady keys bits ids waived p
       → progressOf r l l′ ≡ tableRun keys bits ids waived rules p
-      → r′ ≡ nextOf r
+      → r′ ≡ afterRun r
       → TableReady keys bits ids waived (progressOf r′ l l′)
   next-ready rules p r r′ l l′ h e f =
       let ran : TableReady keys bits ids waived (progressOf r l l′) = rw e (table-ready-run keys bits ids waived rules p h) in
       rw f
-      (ready-same keys bits ids waived (progressOf r l l′) (progressOf (nextOf r) l l′) (next-same r) ran (ready-next keys bits (ownPart r ids) (ownPart r waived) r l l′ (ran .own)))
+      (ready-same keys bits ids waived (progressOf r l l′) (progressOf (afterRun r) l l′) (next-same r) ran (ready-next keys bits (ownPart r ids) (ownPart r waived) r l l′ (ran .own)))
 
 module _ (m s : ℕ) (keys bits : List ℕ) (n office : ℕ) (rules : List Rule) (offices ids waived : List ℕ) (rows : ℕ) (foundIds foundKeys : List ℕ) where
   abbrev own : Own
@@ -115,9 +115,9 @@ module _ (m s : ℕ) (keys bits : List ℕ) (n office : ℕ) (rules : List Rule)
   pub record Course (r₀ r₁ r₂ r₃ r₄ r₅ : State) (l₁ l₁′ l₃ l₃′ l₅ l₅′ : List ℕ) (f : Found) : Type 0 where
     pub begins : r₀ ≡ start
     pub checks : progressOf r₁ l₁ l₁′ ≡ run (progressOf r₀ foundIds foundKeys)
-    pub next : r₂ ≡ nextOf r₁
+    pub next : r₂ ≡ afterRun r₁
     pub counts : progressOf r₃ l₃ l₃′ ≡ run (progressOf r₂ l₁ l₁′)
-    pub last : r₄ ≡ nextOf r₃
+    pub last : r₄ ≡ afterRun r₃
     pub writes : progressOf r₅ l₅ l₅′ ≡ run (progressOf r₄ l₃ l₃′)
     pub answers : f ≡ answerOf r₅
 

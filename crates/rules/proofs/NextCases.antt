@@ -5,7 +5,7 @@ use mathlib.Core.Bool.{Bool, true, false, cond, _||_}
 use lib.Dec.{eqb, ltb}
 use borrow.Author.Tests.{eq-eqb, ne-eqb, lt-ltb, le-ltb}
 use Rattle.rules.specs.declared.state.State.{State}
-use Rattle.rules.specs.Run.{refusing, resting, restarting, nextOf, answerOf}
+use Rattle.rules.specs.Run.{refusing, resting, restarting, afterRun, answerOf}
 
 module _ {A : Type 0} (first second third fourth fifth : Bool) (stopped faulty counts rests full writes : A) where
   abbrev chain : A
@@ -39,39 +39,39 @@ module _ (st : State) where
   abbrev writing : State
   writing = restarting (st .room) st
 
-  pub next-stopped : (st .refusal ≡ 0 → ⊥) → nextOf st ≡ st
-  unfolding nextOf
+  pub next-stopped : (st .refusal ≡ 0 → ⊥) → afterRun st ≡ st
+  unfolding afterRun
   next-stopped h = chain-stopped running (st .faulty) left bounds past st (refusing 14 st) (restarting 0 st) (resting st) (refusing 12 st) writing (ne-eqb _ _ h)
 
   -- 14
-  pub next-faulty : st .refusal ≡ 0 → st .faulty ≡ true → nextOf st ≡ refusing 14 st
-  unfolding nextOf
+  pub next-faulty : st .refusal ≡ 0 → st .faulty ≡ true → afterRun st ≡ refusing 14 st
+  unfolding afterRun
   next-faulty e f = chain-faulty running (st .faulty) left bounds past st (refusing 14 st) (restarting 0 st) (resting st) (refusing 12 st) writing (eq-eqb _ _ e) f
 
-  pub next-left : st .refusal ≡ 0 → st .faulty ≡ false → st .passed < st .waivers → nextOf st ≡ refusing 14 st
-  unfolding nextOf
+  pub next-left : st .refusal ≡ 0 → st .faulty ≡ false → st .passed < st .waivers → afterRun st ≡ refusing 14 st
+  unfolding afterRun
   next-left e f g =
       chain-left running (st .faulty) left bounds past st (refusing 14 st) (restarting 0 st) (resting st) (refusing 12 st) writing (eq-eqb _ _ e) f (lt-ltb _ _ g)
 
   -- no waiver is wrong
   module _ (e : st .refusal ≡ 0) (f : st .faulty ≡ false) (g : st .waivers ≤ st .passed) where
-    right : nextOf st ≡ cond bounds (cond past (restarting 0 st) (resting st)) (cond past (refusing 12 st) writing)
-    unfolding nextOf
+    right : afterRun st ≡ cond bounds (cond past (restarting 0 st) (resting st)) (cond past (refusing 12 st) writing)
+    unfolding afterRun
     right =
         chain-right running (st .faulty) left bounds past st (refusing 14 st) (restarting 0 st) (resting st) (refusing 12 st) writing (eq-eqb _ _ e) f (le-ltb _ _ g)
 
     -- after the run that bounds
-    pub next-counts : st .mode ≡ 0 → st .room < st .live → nextOf st ≡ restarting 0 st
+    pub next-counts : st .mode ≡ 0 → st .room < st .live → afterRun st ≡ restarting 0 st
     next-counts h i = rw (right, eq-eqb (st .mode) 0 h, lt-ltb (st .room) (st .live) i)
 
-    pub next-rests : st .mode ≡ 0 → st .live ≤ st .room → nextOf st ≡ resting st
+    pub next-rests : st .mode ≡ 0 → st .live ≤ st .room → afterRun st ≡ resting st
     next-rests h i = rw (right, eq-eqb (st .mode) 0 h, le-ltb (st .room) (st .live) i)
 
     -- 12
-    pub next-full : (st .mode ≡ 0 → ⊥) → st .room < st .live → nextOf st ≡ refusing 12 st
+    pub next-full : (st .mode ≡ 0 → ⊥) → st .room < st .live → afterRun st ≡ refusing 12 st
     next-full h i = rw (right, ne-eqb (st .mode) 0 h, lt-ltb (st .room) (st .live) i)
 
-    pub next-writes : (st .mode ≡ 0 → ⊥) → st .live ≤ st .room → nextOf st ≡ writing
+    pub next-writes : (st .mode ≡ 0 → ⊥) → st .live ≤ st .room → afterRun st ≡ writing
     next-writes h i = rw (right, ne-eqb (st .mode) 0 h, le-ltb (st .room) (st .live) i)
 
   -- what is answered

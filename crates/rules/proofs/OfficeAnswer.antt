@@ -2,30 +2,28 @@
 -- gives with the table. Rests on Refusals and Beginning, and on OwnRows of the crate offices.
 use Prim.Native.Nat.{ℕ, _+_, _≤_}
 use mathlib.Core.Path.{_≡_, refl, sym, ap, ap₂, subst, _∙_}
-use mathlib.Core.Bool.{Bool, true, false, cond, not, _&&_, _||_, true≢false}
+use mathlib.Core.Bool.{Bool, true, false, not, _||_}
 use mathlib.Core.List.{List, [], _∷_}
 use native.Mathlib.Omega.{arith}
 use lib.ListN.{length, take, drop, length-drop}
 use lib.Seq.{length-take-le}
-use borrow.Author.Tests.{ltb-false, not-true, not-false}
+use borrow.Author.Tests.{ltb-false}
 use Rattle.keys.specs.Key.{validKey}
 use Rattle.keys.proofs.Cases.{decide, equal, and-left, and-right, and-both, or-left, or-right}
-use Rattle.definitions.specs.Read.{room, isList}
+use Rattle.definitions.specs.Read.{isList}
 use Rattle.definitions.specs.Refusal.{badSettings}
-use Rattle.definitions.specs.Rules.{Finding, waiversOf, findingsAscend, badWaivers}
+use Rattle.definitions.specs.Rules.{Finding, waiversOf, findingsAscend}
 use Rattle.definitions.specs.Offices.{Waiver, badOffice, tableOf, rowsOf, rowKeysValid, isTable}
-use Rattle.definitions.specs.Calls.Findings.{refusalWith, foundWith, idsWith, keysWith, findings, findingsIds, findingsKeys}
+use Rattle.definitions.specs.Calls.Findings.{refusalWith, foundWith, idsWith, keysWith}
 use Rattle.definitions.specs.declared.Rule.{Rule}
-use Rattle.definitions.specs.declared.Found.{Found}
 use Rattle.laws.proofs.Shares.{share-own, share-other, share-none}
-use Rattle.offices.specs.Own.{noRows, offsetOf, ownOf}
+use Rattle.offices.specs.Own.{noRows, ownOf}
 use Rattle.offices.specs.declared.own.Own.{Own}
 use Rattle.offices.proofs.OwnRows.{partOf, own-part, own-within, own-ascend, own-no-table, own-bad-key, own-found, rows-hold, rows-sound}
 use Rattle.rules.specs.Run.{keysValid, waiversGood, beginRefusal, ownAt}
-use Rattle.rules.proofs.WaiverPlaces.{waivers-length}
 use Rattle.rules.proofs.GoodRules.{goodFrom}
 use Rattle.rules.proofs.GoodWaivers.{good-none}
-use Rattle.rules.proofs.Beginning.{Fit, zero-office, zero-settings, zero-list, own-looked, own-passed, begin-other, begin-bad, begin-no-list, begin-good}
+use Rattle.rules.proofs.Beginning.{Fit, zero-office, zero-settings, zero-list, own-looked, own-passed, begin-good}
 use Rattle.rules.proofs.Refusals.{refusal-21, refusal-1, refusal-4, refusal-13, refusal-14, given-refused, ids-stay, keys-stay}
 
 -- ---- valid keys

@@ -4,11 +4,11 @@ use Prim.Native.Nat.{ℕ, _+_, _-_}
 use mathlib.Core.Path.{_≡_, refl, sym, ap, ap₂, _∙_, subst}
 use mathlib.Core.List.{List, [], _∷_}
 use native.Mathlib.Omega.{arith}
-use lib.ListN.{length, take, drop}
+use lib.ListN.{take, drop}
 use Rattle.keys.proofs.Cases.{decide, split, equal}
 use Rattle.definitions.specs.declared.Rule.{Rule}
 use Rattle.rules.specs.declared.state.State.{State}
-use Rattle.rules.specs.Run.{Progress, mayCome, ownPart, stepOf, runOf, tableStep, tableRun, Ready, TableReady, nextOf}
+use Rattle.rules.specs.Run.{Progress, mayCome, ownPart, stepOf, runOf, tableStep, tableRun, Ready, TableReady, afterRun}
 use Rattle.rules.proofs.Fold.{run-nil, run-cons}
 use Rattle.rules.proofs.StepCases.{isFaulty, step-stopped, step-rests, step-bad, step-faulty, step-good, served-bounds, served-gathers}
 use Rattle.rules.proofs.NextCases.{next-stopped, next-faulty, next-left, next-counts, next-rests, next-full, next-writes}
@@ -54,7 +54,7 @@ module _ (keys bits waiverIds waiverKeys : List ℕ) where
       (same-on (step-same rule p) (run-same rules (stepOf keys bits waiverIds waiverKeys rule p)))
 
 -- the next run has the same rows
-pub next-same : (st : State) → Same st (nextOf st)
+pub next-same : (st : State) → Same st (afterRun st)
 next-same st =
     equal (st .refusal) 0
     (λ running.

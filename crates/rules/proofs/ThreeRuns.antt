@@ -11,7 +11,7 @@ use Rattle.keys.proofs.Cases.{decide, split, equal}
 use Rattle.definitions.specs.declared.Rule.{Rule}
 use Rattle.offices.specs.declared.own.Own.{Own}
 use Rattle.rules.specs.declared.state.State.{State}
-use Rattle.rules.specs.Run.{Progress, progressOf, refusing, bounding, resting, restarting, runOf, beginOf, nextOf, answerOf}
+use Rattle.rules.specs.Run.{Progress, progressOf, refusing, bounding, resting, restarting, runOf, beginOf, afterRun, answerOf}
 use Rattle.rules.proofs.NextCases.{next-stopped, next-faulty, next-left, next-counts, next-rests, next-writes, answer-refused}
 use Rattle.rules.proofs.Beginning.{Fit, begin-not-full}
 use Rattle.rules.proofs.Quiet.{run-stopped, run-rests, quiet-ids, quiet-keys}
@@ -27,7 +27,7 @@ module _ (m s : ℕ) (keys bits : List ℕ) (n office : ℕ) (own : Own) (rules 
 
   -- the run after a run
   abbrev pub after : Progress → Progress
-  after p = progressOf (nextOf (p .state)) (p .ids) (p .keys)
+  after p = progressOf (afterRun (p .state)) (p .ids) (p .keys)
 
   -- after the run that checks
   abbrev pub checked : Progress
@@ -66,7 +66,7 @@ module _ (m s : ℕ) (keys bits : List ℕ) (n office : ℕ) (own : Own) (rules 
 
   module _ (fit : Fit m own waiverIds waiverKeys) where
     -- the state st, with nothing written, comes after the first run, and another with the same refusal after the counting run: both runs stop
-    module _ (c : ℕ) (not-zero : c ≡ 0 → ⊥) (not-full : c ≡ 12 → ⊥) (st st′ : State) (e : nextOf told ≡ st) (e′ : nextOf last ≡ st′) (is : st .refusal ≡ c) (is′ : st′ .refusal ≡ c) where
+    module _ (c : ℕ) (not-zero : c ≡ 0 → ⊥) (not-full : c ≡ 12 → ⊥) (st st′ : State) (e : afterRun told ≡ st) (e′ : afterRun last ≡ st′) (is : st .refusal ≡ c) (is′ : st′ .refusal ≡ c) where
       stay : (x : State) → x .refusal ≡ c → run (progressOf x ids foundKeys) ≡ progressOf x ids foundKeys
       stay x h = run-stopped keys bits waiverIds waiverKeys rules (progressOf x ids foundKeys) (λ z. not-zero (sym h ∙ z))
 
@@ -116,7 +116,7 @@ module _ (m s : ℕ) (keys bits : List ℕ) (n office : ℕ) (own : Own) (rules 
       -- the findings are counted, and written
       counts : told .room < told .live → Keeps third
       counts h =
-          let again : nextOf told ≡ start = next-counts told zero sound none refl h ∙ bounds .restarts ∙ same-start in
+          let again : afterRun told ≡ start = next-counts told zero sound none refl h ∙ bounds .restarts ∙ same-start in
           let is : third ≡ run (second m s keys bits n office own rules waiverIds waiverKeys ids foundKeys) =
           ap (λ p. run (after (run (after p)))) checked-is ∙ ap (λ x. run (after (run (progressOf x ids foundKeys)))) again in
           subst Keeps (sym is) (two-runs m s keys bits n office own rules waiverIds waiverKeys ids foundKeys fit)
@@ -129,7 +129,7 @@ module _ (m s : ℕ) (keys bits : List ℕ) (n office : ℕ) (own : Own) (rules 
           ap (λ p. run (after p)) checked-is
           ∙ ap (λ x. run (progressOf x ids foundKeys)) (next-rests told zero sound none refl h)
           ∙ run-rests keys bits waiverIds waiverKeys rules (progressOf idle ids foundKeys) zero refl in
-          let last-is : nextOf last ≡ restarting (last .room) last =
+          let last-is : afterRun last ≡ restarting (last .room) last =
           next-writes last zero sound none (λ e. let walks = bounds .walks in omega arith) (let low = bounds .enough in omega arith) in
           let is : third ≡ run (second m s keys bits n office own rules waiverIds waiverKeys ids foundKeys) =
           ap (λ p. run (after p)) passes

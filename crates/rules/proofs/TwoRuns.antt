@@ -19,7 +19,7 @@ use Rattle.offices.specs.declared.own.Own.{Own}
 use Rattle.walk.specs.Given.{written}
 use Rattle.walk.proofs.Written.{written-over}
 use Rattle.rules.specs.declared.state.State.{State}
-use Rattle.rules.specs.Run.{waiversBelow, waiversGood, Progress, progressOf, restarting, runOf, beginRefusal, beginOf, nextOf, answerOf}
+use Rattle.rules.specs.Run.{waiversBelow, waiversGood, Progress, progressOf, restarting, runOf, beginRefusal, beginOf, afterRun, answerOf}
 use Rattle.rules.proofs.WaiverPlaces.{waivers-length}
 use Rattle.rules.proofs.NextCases.{next-stopped, next-faulty, next-left, next-full, next-writes, answer-done, answer-full, answer-refused}
 use Rattle.rules.proofs.Beginning.{Fit, begin-other, begin-bad, begin-no-list, begin-good, below-zero}
@@ -54,7 +54,7 @@ module _ (m s : ℕ) (keys bits : List ℕ) (n office : ℕ) (own : Own) (rules 
   counted = run begun
 
   abbrev pub second : Progress
-  second = progressOf (nextOf (counted .state)) (counted .ids) (counted .keys)
+  second = progressOf (afterRun (counted .state)) (counted .ids) (counted .keys)
 
   -- what the call gives and leaves
   pub record Promised (p : Progress) : Type 0 where
@@ -72,7 +72,7 @@ module _ (m s : ℕ) (keys bits : List ℕ) (n office : ℕ) (own : Own) (rules 
   keys-quiet = quiet-keys keys bits waiverIds waiverKeys rules begun refl
 
   -- the writing run is refused before it begins
-  module _ (c : ℕ) (is : nextOf (counted .state) .refusal ≡ c) (not-zero : c ≡ 0 → ⊥) (said : refusal ≡ c) where
+  module _ (c : ℕ) (is : afterRun (counted .state) .refusal ≡ c) (not-zero : c ≡ 0 → ⊥) (said : refusal ≡ c) where
     stays : run second ≡ second
     stays = run-stopped keys bits waiverIds waiverKeys rules second (λ e. not-zero (sym is ∙ e))
 
@@ -87,7 +87,7 @@ module _ (m s : ℕ) (keys bits : List ℕ) (n office : ℕ) (own : Own) (rules 
 
     stopped : (c ≡ 12 → ⊥) → Promised (run second)
     stopped not-full =
-        let st = nextOf (counted .state) in
+        let st = afterRun (counted .state) in
         record {
           answered = ap (λ p. answerOf (p .state)) stays
               ∙ answer-refused st (λ e. not-zero (sym is ∙ e)) (λ e. not-full (sym is ∙ e))
@@ -186,7 +186,7 @@ module _ (m s : ℕ) (keys bits : List ℕ) (n office : ℕ) (own : Own) (rules 
               let stay = stays 12 is (λ e. omega arith) said in
               record {
                 answered = ap (λ p. answerOf (p .state)) stay
-                    ∙ answer-full (nextOf last) is
+                    ∙ answer-full (afterRun last) is
                     ∙ (λ i. record { refusal = is i; live = (ap (λ st. st .live) full ∙ live-last) i; hidden = 0 })
                     ∙ sym (given-full m s keys bits n office (not (own .good)) rules ws ids foundKeys said);
                 wroteIds = stopped-ids 12 is (λ e. omega arith) said;

@@ -1,5 +1,5 @@
 -- The waivers of two slices, place by place. Rests on nothing.
-use Prim.Native.Nat.{ℕ, zero, suc, _≤_, _<_, min}
+use Prim.Native.Nat.{ℕ, zero, suc, _<_, min}
 use mathlib.Core.Path.{_≡_, refl}
 use mathlib.Core.List.{List, [], _∷_}
 use native.Mathlib.Omega.{arith}
@@ -33,13 +33,3 @@ waivers-drop [] keys i h = absurd (omega arith)
 waivers-drop (id ∷ ids) [] i h = absurd (omega arith)
 waivers-drop (id ∷ ids) (κ ∷ keys) zero h = refl
 waivers-drop (id ∷ ids) (κ ∷ keys) (suc i) h = waivers-drop ids keys i (omega arith)
-
--- past the last there is none
-pub waivers-end : (ids keys : List ℕ) (i : ℕ) → room ids keys ≤ i → drop i (waiversOf ids keys) ≡ []
-unfolding waiversOf
-waivers-end [] keys zero h = refl
-waivers-end [] keys (suc i) h = refl
-waivers-end (id ∷ ids) [] zero h = refl
-waivers-end (id ∷ ids) [] (suc i) h = refl
-waivers-end (id ∷ ids) (κ ∷ keys) zero h = absurd (omega arith)
-waivers-end (id ∷ ids) (κ ∷ keys) (suc i) h = waivers-end ids keys i (omega arith)

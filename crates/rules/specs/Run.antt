@@ -286,8 +286,8 @@ ownAt m s keys bits n office offices ids waived rows =
     cond (eqb (beginRefusal office m s keys bits n) 0) (ownOf m office offices ids waived rows) (noRows true)
 
 -- a run is over: 14 is decided, and 12 where the findings were counted; then comes the run that counts, or that writes
-unfoldable pub nextOf : State → State
-nextOf st =
+unfoldable pub afterRun : State → State
+afterRun st =
     cond (eqb (st .refusal) 0)
     (cond (st .faulty || ltb (st .passed) (st .waivers)) (refusing 14 st)
     (cond (eqb (st .mode) 0)

@@ -1,7 +1,6 @@
 // The runs of findings: how the first begins, which run comes after a run, and what the last answers.
 ghost use mathlib.Core.Path.{_≡_};
-ghost use Prim.Native.Nat.{min};
-ghost use Rattle.rules.specs.Run.{bounding, beginRefusal, beginOf, ownAt, nextOf, answerOf};
+ghost use Rattle.rules.specs.Run.{bounding, beginRefusal, beginOf, ownAt, afterRun, answerOf};
 use crate::state;
 use crate::state::State;
 use definitions::Found;
@@ -61,7 +60,7 @@ pub fn begin(
 
 // A run is over: 14 is decided, and 12 where the findings were counted; then comes the run that counts, if the bound is past the room, or that writes.
 pub fn begin_next(state: State) -> State
-    ensures { λ r. ⌜ r ≡ nextOf state ⌝ }
+    ensures { λ r. ⌜ r ≡ afterRun state ⌝ }
 {
     let room = state.room;
     if state.refusal != 0 {

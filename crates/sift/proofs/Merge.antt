@@ -34,13 +34,6 @@ not-waived-append m waived (key ∷ a) b =
     (λ e. waived-out m waived key (a ++ b) e ∙ not-waived-append m waived a b ∙ ap (λ l. l ++ notWaived m waived b) (sym (waived-out m waived key a e)))
     (λ e. waived-in m waived key (a ++ b) e ∙ ap (λ l. key ∷ l) (not-waived-append m waived a b) ∙ ap (λ l. l ++ notWaived m waived b) (sym (waived-in m waived key a e)))
 
--- not more than are given
-pub not-waived-few : (m : ℕ) (waived given : List ℕ) → length (notWaived m waived given) ≤ length given
-not-waived-few m waived [] = let e = ap length (not-waived-nil m waived) in omega arith
-not-waived-few m waived (key ∷ given) =
-    let ih = not-waived-few m waived given in
-    decide (isCovered m waived key) (λ e. let f = ap length (waived-out m waived key given e) in omega arith) (λ e. let f = ap length (waived-in m waived key given e) in omega arith)
-
 -- ---- what is counted and written
 module _ (m limit id : ℕ) (waived : List ℕ) where
   abbrev same : List ℕ → List ℕ

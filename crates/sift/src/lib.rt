@@ -26,7 +26,7 @@ use definitions::Window;
 use keys::power;
 use list::standing;
 use list::standing::Which;
-use walk::Found;
+use walk::NextBlock;
 use walk::Spot;
 
 // What is the same for all findings of a rule: the map's resolution and number of records, the rule's id and its feature's bit, and how many findings
@@ -77,8 +77,8 @@ fn sift(
             hidden: more,
         };
     }
-    slices::write_below(found_ids, limit, live, id);
-    slices::write_below(found_keys, limit, live, key);
+    slices::write_within(found_ids, limit, live, id);
+    slices::write_within(found_keys, limit, live, key);
     let more = live + 1;
     Sifting {
         passed,
@@ -231,7 +231,7 @@ pub fn sift_rule(
             }
             spot = walk::first(spot);
         }
-        let Found::At(next) = walk::after(m, spot) else {
+        let NextBlock::At(next) = walk::after(m, spot) else {
             return st;
         };
         spot = next;

@@ -13,8 +13,8 @@ pub fn smaller(a: usize, b: usize) -> usize
     if a < b { a } else { b }
 }
 
-// Writes a number at its place, if that is below the limit: with the limit 0 answers are only counted.
-pub fn write_below(answer: &mut [u32], limit: usize, place: usize, number: u32)
+// Writes a number at its place, if that is within the limit: with the limit 0 answers are only counted.
+pub fn write_within(answer: &mut [u32], limit: usize, place: usize, number: u32)
     requires { ⌜ limit ≤ length (now answer) ⌝ }
     ensures { λ _. ⌜ now (answer .exit) ≡ cond (ltb place limit) (set (now (answer .entry)) place number) (now (answer .entry)) ⌝ }
 {

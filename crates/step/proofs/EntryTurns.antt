@@ -1,7 +1,7 @@
 -- One entry of a run after the other, from the last: what it makes of a block, and when those before it need not be asked. Rests on Chains and Turned.
 use Prim.Native.Nat.{ℕ, _+_, _-_, _^_, _≤_, _<_}
 use mathlib.Core.Path.{_≡_, sym, _∙_, ap, ap₂, subst}
-use mathlib.Core.Bool.{Bool, true, false, not, _&&_, true≢false}
+use mathlib.Core.Bool.{Bool, true, false, not, _&&_}
 use mathlib.Core.List.{List, [], _∷_}
 use native.Mathlib.Omega.{arith}
 use lib.ListN.{getD}
@@ -18,7 +18,7 @@ use Rattle.log.specs.Entries.{lastEntry}
 use Rattle.step.specs.Runs.{lastFirst, firstFirst, descends, Between, EntriesIn, backBits, wholeOf, givenBy, metBy, meetingBy, Held, Asking}
 use Rattle.step.specs.declared.meeting.Meeting.{Meeting}
 use Rattle.step.specs.declared.meeting.Meeting.the-variants.{Leaf, Content, Cut}
-use Rattle.step.proofs.Chains.{last-none, first-onto, onto, onto-none, descends-none, descends-some, descends-first, descends-rest, last, run-ends, run-more, run-rest, last-valid, last-slot, last-within, last-less, between-rest}
+use Rattle.step.proofs.Chains.{last-none, first-onto, onto, onto-none, descends-none, descends-some, descends-first, descends-rest, run-ends, run-more, run-rest, last-valid, last-slot, last-within, last-less, between-rest}
 use Rattle.step.proofs.Turned.{meeting-none, meeting-some, meeting-turn}
 use Rattle.step.proofs.Lookups.{last-held}
 
@@ -40,13 +40,6 @@ from-so m outer inner step height h e f =
 pub ends-before : (m x κ : ℕ) → x + 5 ^ heightOf m x ≤ κ → inInterval m x κ ≡ false
 unfolding inInterval
 ends-before m x κ h = rw (le-leb x κ (omega arith), le-ltb κ (x + 5 ^ heightOf m x) h)
-
-not-holding : (m x κ : ℕ) → x ≤ κ → inInterval m x κ ≡ false → x + 5 ^ heightOf m x ≤ κ
-unfolding inInterval
-not-holding m x κ h e =
-    split κ (x + 5 ^ heightOf m x)
-    (λ lt. absurd (true≢false (sym (ap₂ (λ a b. a && b) (le-leb x κ h) (lt-ltb κ (x + 5 ^ heightOf m x) lt)) ∙ e)))
-    (λ ge. ge)
 
 -- what an entry makes of its own block: a leaf, or a content of several records
 module _ (vs : List ℕ) (e : Entry) where

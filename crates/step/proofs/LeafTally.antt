@@ -6,7 +6,6 @@ use Rattle.definitions.specs.Picture.{Picture}
 use Rattle.definitions.specs.Bits.{unionOfFour}
 use Rattle.build.specs.BuildBlocks.{Tallied, Joined}
 use Rattle.build.proofs.CountBlock.{tallied-four}
-use Rattle.step.specs.Step.{over}
 use Rattle.step.specs.Deed.{LeafAsked}
 use Rattle.step.specs.Quarters.{quartersOf}
 use Rattle.step.specs.declared.quarters.Quarters.{Quarters}

@@ -33,11 +33,11 @@ use Rattle.list.proofs.OneSlot.{slot-feature}
 use Rattle.list.proofs.Among.{place-keys, place-below}
 use Rattle.list.proofs.Lookup.{lookup-value}
 use Rattle.log.specs.declared.entry.Entry.{Entry}
-use Rattle.log.specs.Entries.{lastEntry, run, contentPart}
+use Rattle.log.specs.Entries.{lastEntry, contentPart}
 use Rattle.log.proofs.Last.{content-run, content-length, entry-places}
 use Rattle.step.specs.Step.{Step}
 use Rattle.step.specs.Meeting.{Met}
-use Rattle.step.specs.Runs.{contentIn, backBits, wholeOf, givenBy, Held}
+use Rattle.step.specs.Runs.{contentOfEntry, backBits, wholeOf, givenBy, Held}
 use Rattle.step.specs.declared.meeting.Meeting.the-variants.{Leaf, Cut}
 use Rattle.step.proofs.Meetings.{Covers, covers-leaf, covers-list, not-pixel}
 use Rattle.step.proofs.Chains.{Ends, ends-ended}
@@ -57,10 +57,10 @@ module _ {e : Entry} {ks vs : List ℕ} {κ : ℕ} (h : Held e ks vs κ) where
   values-many = let l = length-drop (e .start) vs in let a = h .in-values in length-take-le (e .count) (drop (e .start) vs) (omega arith)
 
   -- it has so many records, and its first value is the one at its start
-  pub content-many : length (contentIn ks vs e) ≡ e .count
+  pub content-many : length (contentOfEntry ks vs e) ≡ e .count
   content-many = paired-length keys values (keys-many ∙ sym values-many) ∙ keys-many
 
-  pub first-of : getD (valuesOf (contentIn ks vs e)) 0 0 ≡ getD vs (e .start) 0
+  pub first-of : getD (valuesOf (contentOfEntry ks vs e)) 0 0 ≡ getD vs (e .start) 0
   first-of =
       let some = h .sorted .some in
       ap (λ l. getD l 0 0) (paired-values keys values (keys-many ∙ sym values-many))
@@ -80,8 +80,8 @@ module _ {e : Entry} {ks vs : List ℕ} {κ : ℕ} (h : Held e ks vs κ) where
   pub found-bits : (place : ℕ) → place ≡ placeAmong κ (take (e .count) (contentPart e ks)) → getD vs (e .start + place) 0 ≡ backBits ks vs κ e
   found-bits place is =
       let p = found-inside place is in
-      let same : place ≡ placeOf κ (contentIn ks vs e)
-      = is ∙ ap (placeAmong κ) (lent-keys ∙ sym (paired-keys keys values (keys-many ∙ sym values-many))) ∙ sym (place-keys κ (contentIn ks vs e)) in
+      let same : place ≡ placeOf κ (contentOfEntry ks vs e)
+      = is ∙ ap (placeAmong κ) (lent-keys ∙ sym (paired-keys keys values (keys-many ∙ sym values-many))) ∙ sym (place-keys κ (contentOfEntry ks vs e)) in
       sym (getD-drop (e .start) vs place 0)
       ∙ sym (getD-take (e .count) (drop (e .start) vs) place 0 p)
       ∙ ap₂ (λ l i. getD l i 0) (sym (paired-values keys values (keys-many ∙ sym values-many))) same
@@ -96,7 +96,7 @@ module _ {m s : ℕ} {ks vs : List ℕ} {start end : ℕ} (x : Ends m s ks vs st
   last = lastEntry (recordsOf ks vs end)
 
   abbrev content : List Record
-  content = contentIn ks vs last
+  content = contentOfEntry ks vs last
 
   content-same : lastContent (recordsOf ks vs end) ≡ content
   content-same = content-run (ends-ended x)

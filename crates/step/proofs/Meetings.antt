@@ -16,9 +16,9 @@ use Rattle.laws.proofs.BitsOf.{bits-agree, bits-one}
 use Rattle.laws.proofs.ListOf.{list-agree, list-one}
 use Rattle.list.specs.Check.{oneSlot}
 use Rattle.list.proofs.OneSlot.{slot-feature}
-use Rattle.log.specs.Entries.{run}
+use Rattle.log.specs.Entries.{recordsFromPlace}
 use Rattle.build.specs.BuildBlocks.{Tallied}
-use Rattle.step.specs.Step.{Step, over, plain}
+use Rattle.step.specs.Step.{Step, stepOver, plain}
 use Rattle.step.specs.Meeting.{Untouched, OneLeaf, Replaced, MetBy, Met, isCut}
 use Rattle.step.specs.declared.meeting.Meeting.{Meeting}
 use Rattle.step.specs.declared.meeting.Meeting.the-variants.{Apart, Leaf, Content, Cut}
@@ -35,13 +35,13 @@ tallied-agree p q {k} {r} {c} h t = record {
 abbrev pub Covers : (t : Step) (q : Picture) (k r c : ℕ) → Type 0
 Covers t q k r c = Every (λ a b. (t .touches a b ≡ true) × (t .gives a b ≡ q a b)) k r c
 
-pub covers-over : (t : Step) (q p : Picture) (k r c : ℕ) → Covers t q k r c → Agree q (over t p) k r c
+pub covers-over : (t : Step) (q p : Picture) (k r c : ℕ) → Covers t q k r c → Agree q (stepOver t p) k r c
 covers-over t q p k r c h a b w = sym (over-in t p a b (h a b w .0) ∙ h a b w .1)
 
 -- a block of one slot is one leaf
 pub covers-leaf : (t : Step) (q : Picture) {k r c bits : ℕ} → Covers t q k r c → bits ≡ bitsOf q k r c → oneSlot bits ≡ true → OneLeaf t k r c bits
 covers-leaf t q {k} {r} {c} h e one p =
-    tallied-agree q (over t p) (covers-over t q p k r c h)
+    tallied-agree q (stepOver t p) (covers-over t q p k r c h)
     (record { bits-are = e; count-is = sym (ap length (list-one q k r c 0 (sym (slot-feature q k r c) ∙ ap oneSlot (sym e) ∙ one))) })
 
 -- that of one feature everywhere
@@ -50,12 +50,12 @@ plain-bits f k r c = sym (bits-one (plain f) k r c (one-from (plain f) f k r c (
 
 -- a list that stands in the log
 pub covers-list : (t : Step) (q : Picture) {ks vs : List ℕ} {k r c κ start count : ℕ} → Covers t q k r c → 1 < count → start + count ≤ length ks → start + count ≤ length vs
-    → run ks vs start count ≡ listOf q k r c κ → Replaced t ks vs k r c κ start count
+    → recordsFromPlace ks vs start count ≡ listOf q k r c κ → Replaced t ks vs k r c κ start count
 covers-list t q {k = k} {r} {c} {κ} h several i j e = record {
   several = several;
   in-keys = i;
   in-values = j;
-  is = λ p. e ∙ list-agree q (over t p) k r c κ (covers-over t q p k r c h);
+  is = λ p. e ∙ list-agree q (stepOver t p) k r c κ (covers-over t q p k r c h);
 }
 
 -- a block of several features is no pixel
@@ -67,18 +67,18 @@ not-pixel (suc k) r c p h = omega arith
 abbrev pub Same : (t t′ : Step) (k r c : ℕ) → Type 0
 Same t t′ k r c = Every (λ a b. (t .touches a b ≡ t′ .touches a b) × (t .gives a b ≡ t′ .gives a b)) k r c
 
-pub same-over : (t t′ : Step) (p : Picture) (k r c : ℕ) → Same t t′ k r c → Agree (over t p) (over t′ p) k r c
-unfolding over
+pub same-over : (t t′ : Step) (p : Picture) (k r c : ℕ) → Same t t′ k r c → Agree (stepOver t p) (stepOver t′ p) k r c
+unfolding stepOver
 same-over t t′ p k r c h a b w = ap₂ (λ x y. cond x y (p a b)) (h a b w .0) (h a b w .1)
 
 by-same : (t t′ : Step) (ks vs : List ℕ) (k r c κ : ℕ) (meeting : Meeting) → Same t t′ k r c → MetBy t ks vs k r c κ meeting → MetBy t′ ks vs k r c κ meeting
 by-same t t′ ks vs k r c κ Apart h x = λ a b w. sym (h a b w .0) ∙ x a b w
-by-same t t′ ks vs k r c κ (Leaf bits) h x = λ p. tallied-agree (over t p) (over t′ p) (same-over t t′ p k r c h) (x p)
+by-same t t′ ks vs k r c κ (Leaf bits) h x = λ p. tallied-agree (stepOver t p) (stepOver t′ p) (same-over t t′ p k r c h) (x p)
 by-same t t′ ks vs k r c κ (Content start count) h x = record {
   several = x .several;
   in-keys = x .in-keys;
   in-values = x .in-values;
-  is = λ p. x .is p ∙ list-agree (over t p) (over t′ p) k r c κ (same-over t t′ p k r c h);
+  is = λ p. x .is p ∙ list-agree (stepOver t p) (stepOver t′ p) k r c κ (same-over t t′ p k r c h);
 }
 by-same t t′ ks vs k r c κ Cut h x = x
 
@@ -89,9 +89,6 @@ met-same {t} {t′} {ks} {vs} {k} {r} {c} {κ} {meeting} h x = record { told = b
 module _ {t : Step} {ks vs : List ℕ} {k r c κ : ℕ} {meeting : Meeting} (x : Met t ks vs k r c κ meeting) where
   pub met-apart : meeting ≡ Apart → Untouched t k r c
   met-apart e = subst (MetBy t ks vs k r c κ) e (x .told)
-
-  pub met-leaf : {bits : ℕ} → meeting ≡ Leaf bits → OneLeaf t k r c bits
-  met-leaf e = subst (MetBy t ks vs k r c κ) e (x .told)
 
   pub met-content : {start count : ℕ} → meeting ≡ Content start count → Replaced t ks vs k r c κ start count
   met-content e = subst (MetBy t ks vs k r c κ) e (x .told)

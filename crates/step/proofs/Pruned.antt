@@ -1,10 +1,9 @@
 -- A step over a leaf needs the leaf's feature alone, and the laws of what shrinking leaves of a list: it is the old list where the step touches nothing, it
 -- is no longer than either list, and where it is as long as the new one it is the new one. Rests on ListOf, BitsOf.
-use Prim.Native.Nat.{ℕ, zero, suc, _+_, _^_, _≤_, _<_}
+use Prim.Native.Nat.{ℕ, zero, suc, _+_, _^_, _≤_}
 use mathlib.Core.Path.{_≡_, refl, sym, _∙_, ap}
-use mathlib.Core.Bool.{true, false, cond}
+use mathlib.Core.Bool.{true, false}
 use mathlib.Core.List.{List, [], _∷_, _++_}
-use native.Mathlib.Nat.{le-refl}
 use native.Mathlib.Omega.{arith}
 use lib.ListN.{length, length-append}
 use Rattle.keys.specs.Key.{childKey}
@@ -16,30 +15,30 @@ use Rattle.laws.proofs.Pixels.{Agree, agree-nw, agree-ne, agree-sw, agree-se}
 use Rattle.laws.proofs.Features.{one-to, one-pixel, one-agree}
 use Rattle.laws.proofs.BitsOf.{bits-one, bits-agree}
 use Rattle.laws.proofs.ListOf.{list-one, list-node, list-agree, list-some, length-node, length-several}
-use Rattle.step.specs.Step.{Step, over, plain, pruned}
+use Rattle.step.specs.Step.{Step, stepOver, plain, pruned}
 
 -- over at a pixel
-pub over-in : (t : Step) (p : Picture) (a b : ℕ) → t .touches a b ≡ true → over t p a b ≡ t .gives a b
-unfolding over
+pub over-in : (t : Step) (p : Picture) (a b : ℕ) → t .touches a b ≡ true → stepOver t p a b ≡ t .gives a b
+unfolding stepOver
 over-in t p a b e = rw e
 
-pub over-out : (t : Step) (p : Picture) (a b : ℕ) → t .touches a b ≡ false → over t p a b ≡ p a b
-unfolding over
+pub over-out : (t : Step) (p : Picture) (a b : ℕ) → t .touches a b ≡ false → stepOver t p a b ≡ p a b
+unfolding stepOver
 over-out t p a b e = rw e
 
 -- a leaf's feature is enough to know the step over it: of a leaf before the step
-pub leaf-before : (t : Step) (p : Picture) (k r c : ℕ) → oneFeature p k r c ≡ true → Agree (over t (plain (p r c))) (over t p) k r c
+pub leaf-before : (t : Step) (p : Picture) (k r c : ℕ) → oneFeature p k r c ≡ true → Agree (stepOver t (plain (p r c))) (stepOver t p) k r c
 leaf-before t p k r c e a b w =
     decide (t .touches a b)
     (λ h. over-in t (plain (p r c)) a b h ∙ sym (over-in t p a b h))
     (λ h. over-out t (plain (p r c)) a b h ∙ sym (one-to p k r c e a b w) ∙ sym (over-out t p a b h))
 
 -- and of a leaf after it
-pub leaf-after : (t : Step) (p : Picture) (k r c : ℕ) → oneFeature (over t p) k r c ≡ true → Agree (over t (plain (over t p r c))) (over t p) k r c
+pub leaf-after : (t : Step) (p : Picture) (k r c : ℕ) → oneFeature (stepOver t p) k r c ≡ true → Agree (stepOver t (plain (stepOver t p r c))) (stepOver t p) k r c
 leaf-after t p k r c e a b w =
     decide (t .touches a b)
-    (λ h. over-in t (plain (over t p r c)) a b h ∙ sym (over-in t p a b h))
-    (λ h. over-out t (plain (over t p r c)) a b h ∙ sym (one-to (over t p) k r c e a b w))
+    (λ h. over-in t (plain (stepOver t p r c)) a b h ∙ sym (over-in t p a b h))
+    (λ h. over-out t (plain (stepOver t p r c)) a b h ∙ sym (one-to (stepOver t p) k r c e a b w))
 
 -- a block of one feature is one record, with its bits
 pub one-record : (q : Picture) (k r c κ : ℕ) → oneFeature q k r c ≡ true → recordOf κ (bitsOf q k r c) ∷ [] ≡ listOf q k r c κ

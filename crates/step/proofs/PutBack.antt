@@ -21,7 +21,7 @@ use Rattle.log.specs.Entries.{lastEntry}
 use Rattle.log.proofs.Last.{content-run}
 use Rattle.step.specs.declared.run.Run.{Run}
 use Rattle.step.specs.declared.deed.Deed.the-variants.{Back, Again}
-use Rattle.step.specs.Step.{over, plain}
+use Rattle.step.specs.Step.{stepOver, plain}
 use Rattle.step.specs.Deed.{stepOf}
 use Rattle.step.specs.Runs.{Gift, touched, giftsStep, backGift, againGift, lastFirst, firstFirst, Chain, done, more, EntriesIn, lastOfRun}
 use Rattle.step.proofs.Pruned.{over-in, over-out}
@@ -42,7 +42,7 @@ unfolding laid
 laid-none m p = refl
 
 -- that is the step of the gifts
-over-laid : (m : ℕ) (gs : List Gift) (p : Picture) (a b : ℕ) → over (giftsStep m gs) p a b ≡ laid m gs p a b
+over-laid : (m : ℕ) (gs : List Gift) (p : Picture) (a b : ℕ) → stepOver (giftsStep m gs) p a b ≡ laid m gs p a b
 over-laid m [] p a b = over-out (giftsStep m []) p a b (touched-none m a b) ∙ ap (λ q. q a b) (sym (laid-none m p))
 over-laid m (g ∷ gs) p a b =
     decide (inBlock m (g .key) a b)
@@ -138,22 +138,22 @@ chain-again {m} {s} {ks} {vs} {start} (more {end} some i j ends rest) p =
 module _ {m : ℕ} {run : Run} {ks vs : List ℕ} (d : EntriesIn m run ks vs) {count : ℕ} {log : List Record}
     (many : length (lastOfRun run ks vs) ≡ count) (is : log ≡ recordsOf ks vs (run .end)) where
   -- pixel by pixel
-  pub back-over : (p : Picture) (row column : ℕ) → over (stepOf m (Back run) ks vs) p row column ≡ putBack count m log p row column
+  pub back-over : (p : Picture) (row column : ℕ) → stepOver (stepOf m (Back run) ks vs) p row column ≡ putBack count m log p row column
   back-over p row column =
       over-laid m (map (backGift m ks vs) (firstFirst (run .end) ks vs (run .start) (run .end) [])) p row column
       ∙ ap (λ l. laid m (map (backGift m ks vs) l) p row column) (first-onto (run .end) ks vs (run .start) (run .end) [])
       ∙ ap (λ q. q row column) (chain-back (d .between .chain) p)
       ∙ ap₂ (λ n l. putBack n m l p row column) many (sym is)
 
-  pub again-over : (p : Picture) (row column : ℕ) → over (stepOf m (Again run) ks vs) p row column ≡ paintAgain count m log p row column
+  pub again-over : (p : Picture) (row column : ℕ) → stepOver (stepOf m (Again run) ks vs) p row column ≡ paintAgain count m log p row column
   again-over p row column =
       over-laid m (map againGift (lastOfRun run ks vs)) p row column
       ∙ ap (λ q. q row column) (chain-again (d .between .chain) p)
       ∙ ap₂ (λ n l. paintAgain n m l p row column) many (sym is)
 
   -- as pictures
-  pub back-picture : (p : Picture) → over (stepOf m (Back run) ks vs) p ≡ putBack count m log p
+  pub back-picture : (p : Picture) → stepOver (stepOf m (Back run) ks vs) p ≡ putBack count m log p
   back-picture p = fun-ext (λ row. fun-ext (λ column. back-over p row column))
 
-  pub again-picture : (p : Picture) → over (stepOf m (Again run) ks vs) p ≡ paintAgain count m log p
+  pub again-picture : (p : Picture) → stepOver (stepOf m (Again run) ks vs) p ≡ paintAgain count m log p
   again-picture p = fun-ext (λ row. fun-ext (λ column. again-over p row column))

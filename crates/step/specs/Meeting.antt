@@ -9,8 +9,8 @@ use Rattle.definitions.specs.Picture.{Picture}
 use Rattle.definitions.specs.List.{listOf}
 use Rattle.laws.proofs.Within.{Every}
 use Rattle.build.specs.BuildBlocks.{Tallied}
-use Rattle.log.specs.Entries.{run}
-use Rattle.step.specs.Step.{Step, over}
+use Rattle.log.specs.Entries.{recordsFromPlace}
+use Rattle.step.specs.Step.{Step, stepOver}
 use Rattle.step.specs.declared.meeting.Meeting.{Meeting}
 use Rattle.step.specs.declared.meeting.Meeting.the-variants.{Apart, Leaf, Content, Cut}
 
@@ -25,14 +25,14 @@ Untouched t height row column = Every (λ a b. t .touches a b ≡ false) height 
 
 -- it becomes one leaf with these bits
 abbrev pub OneLeaf : (t : Step) (height row column bits : ℕ) → Type 0
-OneLeaf t height row column bits = (p : Picture) → Tallied (over t p) height row column bits 1
+OneLeaf t height row column bits = (p : Picture) → Tallied (stepOver t p) height row column bits 1
 
 -- its list becomes the records of the log from a place on, two or more
 pub record Replaced (t : Step) (logKeys logValues : List ℕ) (height row column key start count : ℕ) : Type 0 where
   pub several : 1 < count
   pub in-keys : start + count ≤ length logKeys
   pub in-values : start + count ≤ length logValues
-  pub is : (p : Picture) → run logKeys logValues start count ≡ listOf (over t p) height row column key
+  pub is : (p : Picture) → recordsFromPlace logKeys logValues start count ≡ listOf (stepOver t p) height row column key
 
 -- by cases
 abbrev pub MetBy : (t : Step) (logKeys logValues : List ℕ) (height row column key : ℕ) → Meeting → Type 0

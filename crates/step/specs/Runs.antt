@@ -16,7 +16,7 @@ use Rattle.laws.proofs.LogEntries.{EndsInEntry}
 use Rattle.list.specs.Check.{oneSlot}
 use Rattle.list.specs.Sorted.{Sorted}
 use Rattle.log.specs.declared.entry.Entry.{Entry}
-use Rattle.log.specs.Entries.{lastEntry, run, contentPart}
+use Rattle.log.specs.Entries.{lastEntry, recordsFromPlace, contentPart}
 use Rattle.step.specs.declared.run.Run.{Run}
 use Rattle.step.specs.declared.meeting.Meeting.{Meeting}
 use Rattle.step.specs.declared.meeting.Meeting.the-variants.{Leaf, Content, Cut}
@@ -41,11 +41,11 @@ abbrev pub giftsStep : (m : ℕ) → List Gift → Step
 giftsStep m gs = record { touches = touched m gs; gives = given m gs }
 
 -- an entry that is taken back gives its block the content that it holds
-abbrev pub contentIn : (logKeys logValues : List ℕ) → Entry → List Record
-contentIn ks vs e = run ks vs (e .start) (e .count)
+abbrev pub contentOfEntry : (logKeys logValues : List ℕ) → Entry → List Record
+contentOfEntry ks vs e = recordsFromPlace ks vs (e .start) (e .count)
 
 abbrev pub backGift : (m : ℕ) (logKeys logValues : List ℕ) → Entry → Gift
-backGift m ks vs e = record { key = e .key; content = pictureOf m (contentIn ks vs e) }
+backGift m ks vs e = record { key = e .key; content = pictureOf m (contentOfEntry ks vs e) }
 
 -- an entry that is painted again gives it the feature
 abbrev pub againGift : Entry → Gift
@@ -83,28 +83,28 @@ pub record Between (m start end : ℕ) (logKeys logValues : List ℕ) : Type 0 w
   pub chain : Chain m s logKeys logValues start end
 
 -- so between those of a run; whether they descend is told for speed alone
-pub record EntriesIn (m : ℕ) (run : Run) (logKeys logValues : List ℕ) : Type 0 where
-  pub between : Between m (run .start) (run .end) logKeys logValues
-  pub told : run .ordered ≡ true → descends m (5 ^ m) (lastFirst (run .end) logKeys logValues (run .start) (run .end)) ≡ true
+pub record EntriesIn (m : ℕ) (recordsFromPlace : Run) (logKeys logValues : List ℕ) : Type 0 where
+  pub between : Between m (recordsFromPlace .start) (recordsFromPlace .end) logKeys logValues
+  pub told : recordsFromPlace .ordered ≡ true → descends m (5 ^ m) (lastFirst (recordsFromPlace .end) logKeys logValues (recordsFromPlace .start) (recordsFromPlace .end)) ≡ true
 
 -- the entries of a run, the last first and the first first
 abbrev pub lastOfRun : Run → (logKeys logValues : List ℕ) → List Entry
-lastOfRun run ks vs = lastFirst (run .end) ks vs (run .start) (run .end)
+lastOfRun recordsFromPlace ks vs = lastFirst (recordsFromPlace .end) ks vs (recordsFromPlace .start) (recordsFromPlace .end)
 
 abbrev pub firstOfRun : Run → (logKeys logValues : List ℕ) → List Entry
-firstOfRun run ks vs = firstFirst (run .end) ks vs (run .start) (run .end) []
+firstOfRun recordsFromPlace ks vs = firstFirst (recordsFromPlace .end) ks vs (recordsFromPlace .start) (recordsFromPlace .end) []
 
 -- the entries are taken back last to first, so of those that have a pixel the first decides
 abbrev pub backStep : (m : ℕ) → Run → (logKeys logValues : List ℕ) → Step
-backStep m run ks vs = giftsStep m (map (backGift m ks vs) (firstOfRun run ks vs))
+backStep m recordsFromPlace ks vs = giftsStep m (map (backGift m ks vs) (firstOfRun recordsFromPlace ks vs))
 
 -- they are painted again first to last, so the last decides
 abbrev pub againStep : (m : ℕ) → Run → (logKeys logValues : List ℕ) → Step
-againStep m run ks vs = giftsStep m (map againGift (lastOfRun run ks vs))
+againStep m recordsFromPlace ks vs = giftsStep m (map againGift (lastOfRun recordsFromPlace ks vs))
 
 -- the bits of the block with the key κ in an entry's content: of the last record at or before it
 abbrev pub backBits : (logKeys logValues : List ℕ) (κ : ℕ) → Entry → ℕ
-backBits ks vs κ e = getD (valuesOf (contentIn ks vs e)) (placeOf κ (contentIn ks vs e)) 0
+backBits ks vs κ e = getD (valuesOf (contentOfEntry ks vs e)) (placeOf κ (contentOfEntry ks vs e)) 0
 
 -- what an entry that is taken back makes of its own block
 unfoldable pub wholeOf : (logValues : List ℕ) → Entry → Meeting

@@ -36,9 +36,6 @@ module _ (m : ℕ) where
   pub step-one : m < 2 → 1 ≡ 5 ^ summaryHeight m
   step-one h = let l : summaryHeight m ≡ 0 = omega arith in sym (ap (λ x. 5 ^ x) l)
 
-  pub step-many : 2 ≤ m → 5 ^ (m - 2) ≡ 5 ^ summaryHeight m
-  step-many h = let l : m - 2 ≡ summaryHeight m = omega arith in ap (λ x. 5 ^ x) l
-
   module _ (side : ℕ) (e : side ≡ 2 ^ (m - 2)) (h : 2 ≤ m) where
     pub area-many : side * side ≡ 4 ^ summaryHeight m
     area-many = let l : m - 2 ≡ summaryHeight m = omega arith in ap (λ x. x * x) e ∙ squared (m - 2) ∙ ap (λ x. 4 ^ x) l

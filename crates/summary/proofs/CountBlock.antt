@@ -24,7 +24,7 @@ use Rattle.list.specs.Among.{placeAmong}
 use Rattle.list.specs.Shown.{ShownAt}
 use Rattle.list.proofs.Own.{own-place, own-bits}
 use Rattle.list.proofs.Shown.{slot-one, slot-several, slot-feature, block-shown}
-use Rattle.summary.specs.Count.{added, Room, NodeAt, NodeCounted}
+use Rattle.summary.specs.Count.{withPixels, Room, NodeAt, NodeCounted}
 use Rattle.summary.proofs.CountTurn.{added-length, leaf-added, shown-node, shown-counted}
 
 -- counters that are all 0 have room for a block of a map
@@ -65,14 +65,14 @@ module _ {m : ℕ} {keys bits : List ℕ} {n : ℕ} (o : OwnList m keys bits n) 
     -- the block has one feature
     pub leaf-counts : (counts : List ℕ)
         → oneSlot (getD bits found 0) ≡ true
-        → counts ≡ added (replicate 32 0) (featureOf (getD bits found 0)) area
+        → counts ≡ withPixels (replicate 32 0) (featureOf (getD bits found 0)) area
         → counts ≡ countsOf 32 (shownBy m keys bits n) (heightOf m key) (rowOf m key) (columnOf m key)
     leaf-counts counts slot e =
         let leaf = ap oneSlot (sym own-is) ∙ slot in
         raised (shownBy m keys bits n) (heightOf m key) (rowOf m key) (columnOf m key) counts
         (ap length e ∙ added-length (replicate 32 0) (featureOf (getD bits found 0)) area)
         (λ f i.
-        ap (λ l. getD l f 0) (e ∙ ap₂ (λ g a. added (replicate 32 0) g a) (ap featureOf own-is ∙ slot-feature _ (heightOf m key) (rowOf m key) (columnOf m key) leaf) pixels)
+        ap (λ l. getD l f 0) (e ∙ ap₂ (λ g a. withPixels (replicate 32 0) g a) (ap featureOf own-is ∙ slot-feature _ (heightOf m key) (rowOf m key) (columnOf m key) leaf) pixels)
         ∙ leaf-added (shownBy m keys bits n) (heightOf m key) (rowOf m key) (columnOf m key) (replicate 32 0) f (slot-one _ (heightOf m key) (rowOf m key) (columnOf m key) leaf) refl i)
 
     -- the block has several, so it is listed

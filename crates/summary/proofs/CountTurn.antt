@@ -20,7 +20,7 @@ use Rattle.list.specs.Check.{oneSlot}
 use Rattle.list.specs.Shown.{ShownAt}
 use Rattle.list.proofs.Shown.{shown-room, leaf-one, leaf-feature, leaf-length, node-several}
 use Rattle.list.proofs.ShownQuadrants.{quadrantRow, quadrantColumn, Left, left-all, left-shown, left-then, left-none}
-use Rattle.summary.specs.Count.{added, Room, NodeAt, BlockCounted, NodeCounted}
+use Rattle.summary.specs.Count.{withPixels, Room, NodeAt, BlockCounted, NodeCounted}
 
 -- the pixels of quadrant number d, and those of the first d quadrants
 abbrev pub quadrantPixels : Picture → ℕ → ℕ → ℕ → ℕ → ℕ → ℕ
@@ -57,17 +57,17 @@ module _ (p : Picture) (k r c f : ℕ) where
       let j = pow-suc 4 k in
       omega arith
 
-pub added-length : (counts : List ℕ) (f pixels : ℕ) → length (added counts f pixels) ≡ length counts
+pub added-length : (counts : List ℕ) (f pixels : ℕ) → length (withPixels counts f pixels) ≡ length counts
 added-length counts f pixels = length-set counts f (getD counts f 0 + pixels)
 
 -- a counter after a leaf of so many pixels was added
 pub leaf-added : (p : Picture) (k r c : ℕ) (counts : List ℕ) (f : ℕ) → oneFeature p k r c ≡ true → length counts ≡ 32 → f < 32
-    → getD (added counts (p r c) (4 ^ k)) f 0 ≡ getD counts f 0 + pixelsWith p k r c f
+    → getD (withPixels counts (p r c) (4 ^ k)) f 0 ≡ getD counts f 0 + pixelsWith p k r c f
 leaf-added p k r c counts f one long h =
     equal f (p r c)
     (λ e. let x = pixels-one p k r c one f e in
     let y = getD-set-same counts f (getD counts f 0 + 4 ^ k) 0 (omega arith) in
-    ap (λ g. getD (added counts g (4 ^ k)) f 0) (sym e) ∙ y ∙ ap (λ g. getD counts f 0 + g) (sym x))
+    ap (λ g. getD (withPixels counts g (4 ^ k)) f 0) (sym e) ∙ y ∙ ap (λ g. getD counts f 0 + g) (sym x))
     (λ e. getD-set-other counts (p r c) f (getD counts (p r c) 0 + 4 ^ k) 0 e
     ∙ sym (add-zero (getD counts f 0))
     ∙ ap (λ g. getD counts f 0 + g) (sym (pixels-none p k r c one f e)))
@@ -154,7 +154,7 @@ module _ {bits counts₀ : List ℕ} {at area : ℕ} {counts : List ℕ} {next d
   pub leaf-turn : (counts′ : List ℕ) (next′ : ℕ) → d < 4
       → length counts₀ ≡ 32
       → oneSlot (getD bits next 0) ≡ true
-      → counts′ ≡ added counts (featureOf (getD bits next 0)) (area / 4)
+      → counts′ ≡ withPixels counts (featureOf (getD bits next 0)) (area / 4)
       → next′ ≡ next + 1
       → Reached bits counts₀ at area counts′ next′ (d + 1)
   leaf-turn counts′ next′ h long leaf e one =
@@ -163,8 +163,8 @@ module _ {bits counts₀ : List ℕ} {at area : ℕ} {counts : List ℕ} {next d
       record {
         counts = λ f i.
             ap (λ l. getD l f 0) e
-            ∙ ap (λ g. getD (added counts g (area / 4)) f 0) (leaf-feature s leaf)
-            ∙ ap (λ a. getD (added counts (p (quadrantRow d r (2 ^ k)) (quadrantColumn d c (2 ^ k))) a) f 0) q
+            ∙ ap (λ g. getD (withPixels counts g (area / 4)) f 0) (leaf-feature s leaf)
+            ∙ ap (λ a. getD (withPixels counts (p (quadrantRow d r (2 ^ k)) (quadrantColumn d c (2 ^ k))) a) f 0) q
             ∙ leaf-added p k (quadrantRow d r (2 ^ k)) (quadrantColumn d c (2 ^ k)) counts f (leaf-one s leaf) (x .long ∙ long) i;
         ends = one ∙ ap (λ n. next + n) (sym (leaf-length s leaf));
       })

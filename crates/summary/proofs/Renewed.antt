@@ -3,7 +3,7 @@
 use Prim.Native.Nat.{ℕ, suc, _+_, _-_, _*_, _^_, _≤_, _<_}
 use mathlib.Core.Path.{_≡_, refl, sym, _∙_, ap, ap₂}
 use mathlib.Core.List.{List, _++_, append-nil}
-use native.Mathlib.Nat.{add-mul, suc-mul, zero-mul, one-mul, mul-le-mul-right}
+use native.Mathlib.Nat.{add-mul, suc-mul, zero-mul, mul-le-mul-right}
 use native.Mathlib.Omega.{arith}
 use lib.ListN.{length, take, drop, length-drop}
 use lib.Seq.{sets, length-sets, length-take-le, take-add, drop-drop, take-all, drop-length}
@@ -13,7 +13,7 @@ use Rattle.slices.proofs.Sets.{sets-join, sets-parts}
 use Rattle.definitions.specs.Picture.{Picture}
 use Rattle.definitions.specs.Area.{countsOf, summaryLevel, summaryHeight, summaryLength, summaryOf, blockKey}
 use Rattle.laws.proofs.SummaryOf.{counts-first, summary-length, summary-counts}
-use Rattle.summary.specs.Renew.{renewed, Renewable}
+use Rattle.summary.specs.Renew.{blocksRenewed, Renewable}
 use Rattle.summary.proofs.BlockNumbers.{number-most}
 
 -- a block's places are places of the summary
@@ -49,34 +49,23 @@ pub record Begun (m s : ℕ) (p : Picture) (from until : ℕ) (old now : List �
   pub above : from ≤ b
   pub within : b ≤ until
   pub long : length now ≡ length old
-  pub run : now ≡ renewed m s p from b old
+  pub run : now ≡ blocksRenewed m s p from b old
 
 module _ (m s : ℕ) (p : Picture) where
-  pub none-renewed : (from : ℕ) (old : List ℕ) → old ≡ renewed m s p from from old
-  unfolding renewed
+  pub none-renewed : (from : ℕ) (old : List ℕ) → old ≡ blocksRenewed m s p from from old
+  unfolding blocksRenewed
   none-renewed from old =
       let e : from - from ≡ 0 = omega arith in
       sym (ap (λ n. sets old (from * s) (take (n * s) (drop (from * s) (summaryOf m s p)))) e
       ∙ ap (λ n. sets old (from * s) (take n (drop (from * s) (summaryOf m s p)))) (zero-mul s))
-
-  pub renewed-length : (from until : ℕ) (old : List ℕ) → length (renewed m s p from until old) ≡ length old
-  unfolding renewed
-  renewed-length from until old = length-sets old (from * s) (take ((until - from) * s) (drop (from * s) (summaryOf m s p)))
-
-  -- one block alone
-  pub alone-renewed : (b : ℕ) (old : List ℕ) → renewed m s p b (b + 1) old ≡ sets old (b * s) (take s (drop (b * s) (summaryOf m s p)))
-  unfolding renewed
-  alone-renewed b old =
-      let one : b + 1 - b ≡ 1 = omega arith in
-      ap (λ n. sets old (b * s) (take n (drop (b * s) (summaryOf m s p)))) (ap (λ n. n * s) one ∙ one-mul s)
 
   -- at first none is
   pub renew-begins : (from until : ℕ) (old : List ℕ) → from ≤ until → Begun m s p from until old old from
   renew-begins from until old h = record { above = omega arith; within = h; long = refl; run = none-renewed from old }
 
   pub one-renewed : (from b : ℕ) (old : List ℕ) → from ≤ b → b < 4 ^ summaryLevel m
-      → sets (renewed m s p from b old) (b * s) (take s (drop (b * s) (summaryOf m s p))) ≡ renewed m s p from (b + 1) old
-  unfolding renewed
+      → sets (blocksRenewed m s p from b old) (b * s) (take s (drop (b * s) (summaryOf m s p))) ≡ blocksRenewed m s p from (b + 1) old
+  unfolding blocksRenewed
   one-renewed from b old h most =
       let j = b - from in
       let here : b * s ≡ from * s + j * s = ap (λ n. n * s) (back from b h) ∙ add-mul from (b - from) s in
@@ -112,8 +101,8 @@ module _ (m s : ℕ) (p : Picture) where
       }
 
   -- at the end all are
-  pub renew-ends : {from until : ℕ} {old now : List ℕ} {b : ℕ} → Begun m s p from until old now b → until ≤ b → now ≡ renewed m s p from until old
-  renew-ends {from} {until} {old} {now} {b} x h = let e : b ≡ until = omega (arith, x .within) in x .run ∙ ap (λ n. renewed m s p from n old) e
+  pub renew-ends : {from until : ℕ} {old now : List ℕ} {b : ℕ} → Begun m s p from until old now b → until ≤ b → now ≡ blocksRenewed m s p from until old
+  renew-ends {from} {until} {old} {now} {b} x h = let e : b ≡ until = omega (arith, x .within) in x .run ∙ ap (λ n. blocksRenewed m s p from n old) e
 
 whole : (new old : List ℕ) → length old ≡ length new → sets old 0 new ≡ new
 whole new old e =
@@ -121,8 +110,8 @@ whole new old e =
     sets-parts old 0 new (omega arith) ∙ ap (λ n. new ++ drop n old) all ∙ ap (λ l. new ++ l) (drop-length old) ∙ append-nil new
 
 -- all blocks counted anew are the summary
-pub all-renewed : (m s : ℕ) (p : Picture) (old : List ℕ) → length old ≡ summaryLength m s → renewed m s p 0 (4 ^ summaryLevel m) old ≡ summaryOf m s p
-unfolding renewed
+pub all-renewed : (m s : ℕ) (p : Picture) (old : List ℕ) → length old ≡ summaryLength m s → blocksRenewed m s p 0 (4 ^ summaryLevel m) old ≡ summaryOf m s p
+unfolding blocksRenewed
 all-renewed m s p old e =
     let size = summary-length m s p in
     let all : 4 ^ summaryLevel m - 0 ≡ 4 ^ summaryLevel m = omega arith in
@@ -132,6 +121,6 @@ all-renewed m s p old e =
 
 -- so filling leaves the summary
 pub filled : (m s : ℕ) (p : Picture) (old now : List ℕ) (blocks : ℕ) → blocks ≡ 4 ^ summaryLevel m → length old ≡ summaryLength m s
-    → now ≡ renewed m s p 0 blocks old
+    → now ≡ blocksRenewed m s p 0 blocks old
     → now ≡ summaryOf m s p
-filled m s p old now blocks e long is = is ∙ ap (λ n. renewed m s p 0 n old) e ∙ all-renewed m s p old long
+filled m s p old now blocks e long is = is ∙ ap (λ n. blocksRenewed m s p 0 n old) e ∙ all-renewed m s p old long

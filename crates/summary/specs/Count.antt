@@ -11,8 +11,8 @@ use Rattle.definitions.specs.Area.{pixelsWith}
 use Rattle.list.specs.Shown.{ShownAt}
 
 -- one counter is more by so many pixels
-abbrev pub added : List ℕ → ℕ → ℕ → List ℕ
-added counts f pixels = set counts f (getD counts f 0 + pixels)
+abbrev pub withPixels : List ℕ → ℕ → ℕ → List ℕ
+withPixels counts f pixels = set counts f (getD counts f 0 + pixels)
 
 -- there are 32 counters, and each can take so many pixels more
 pub record Room (counts : List ℕ) (area : ℕ) : Type 0 where

@@ -9,8 +9,8 @@ use Rattle.definitions.specs.Picture.{Picture}
 use Rattle.definitions.specs.Area.{summaryLevel, summaryLength, summaryOf}
 
 -- the places of the blocks from one number on, to another that is not among them, become those of the picture's summary; the others stay
-unfoldable pub renewed : ℕ → ℕ → Picture → ℕ → ℕ → List ℕ → List ℕ
-renewed m s p from until summary = sets summary (from * s) (take ((until - from) * s) (drop (from * s) (summaryOf m s p)))
+unfoldable pub blocksRenewed : ℕ → ℕ → Picture → ℕ → ℕ → List ℕ → List ℕ
+blocksRenewed m s p from until summary = sets summary (from * s) (take ((until - from) * s) (drop (from * s) (summaryOf m s p)))
 
 -- the blocks are blocks of the summary, and it has the right length
 pub record Renewable (m s from until : ℕ) (summary : List ℕ) : Type 0 where

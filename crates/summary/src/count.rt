@@ -9,7 +9,7 @@ ghost use Rattle.definitions.specs.Bits.{featureOf};
 ghost use Rattle.definitions.specs.Area.{countsOf};
 ghost use Rattle.list.specs.Check.{oneSlot};
 ghost use Rattle.list.specs.Own.{OwnList, shownBy};
-ghost use Rattle.summary.specs.Count.{added, Room, NodeAt, NodeCounted};
+ghost use Rattle.summary.specs.Count.{withPixels, Room, NodeAt, NodeCounted};
 use list::check;
 use list::feature;
 use list::standing as search;
@@ -17,7 +17,7 @@ use list::standing as search;
 // A leaf adds its area to the counter of its feature.
 fn count_leaf(counts: &mut [u32; 32], bits: u32, area: u32)
     requires { ⌜ (oneSlot bits ≡ true) × Room (now counts) area ⌝ }
-    ensures { λ _. ⌜ now (counts .exit) ≡ added (now (counts .entry)) (featureOf bits) area ⌝ }
+    ensures { λ _. ⌜ now (counts .exit) ≡ withPixels (now (counts .entry)) (featureOf bits) area ⌝ }
 {
     let feature = feature::feature_of(bits);
     counts[feature] = counts[feature] + area;

@@ -5,7 +5,7 @@ ghost use lib.ListN.{length};
 ghost use Rattle.keys.specs.Key.{slotLimit};
 ghost use Rattle.definitions.specs.Area.{summaryOf, summaryLength};
 ghost use Rattle.list.specs.Own.{OwnList, shownBy};
-ghost use Rattle.summary.specs.Renew.{renewed, Renewable};
+ghost use Rattle.summary.specs.Renew.{blocksRenewed, Renewable};
 use crate::blocks;
 use slices;
 
@@ -22,7 +22,7 @@ pub fn renew(
 )
     requires { ⌜ OwnList m (now keys) (now bits) n ⌝ }
     requires { ⌜ Renewable m s from until (now summary) ⌝ }
-    ensures { λ _. ⌜ now (summary .exit) ≡ renewed m s (shownBy m (now (keys .entry)) (now (bits .entry)) n) from until (now (summary .entry)) ⌝ }
+    ensures { λ _. ⌜ now (summary .exit) ≡ blocksRenewed m s (shownBy m (now (keys .entry)) (now (bits .entry)) n) from until (now (summary .entry)) ⌝ }
 {
     let slots = s as usize;
     let mut b = from;

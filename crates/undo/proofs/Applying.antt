@@ -1,6 +1,6 @@
 -- A deed done to a list and its summary: what there is no room for is left, and what is changed is the deed's picture. Rests on Changed.
 use Prim.Native.Nat.{ℕ, _≤_, _<_}
-use mathlib.Core.Path.{_≡_, refl, sym, _∙_, ap, subst}
+use mathlib.Core.Path.{_≡_, refl, subst}
 use mathlib.Core.List.{List}
 use native.Mathlib.Omega.{arith}
 use lib.ListN.{length}
@@ -12,7 +12,7 @@ use Rattle.definitions.specs.Area.{summaryOf}
 use Rattle.laws.proofs.LogEntries.{list-not-empty}
 use Rattle.list.specs.Own.{shownBy}
 use Rattle.put.specs.Putting.{Replaced}
-use Rattle.step.specs.Step.{Step, over}
+use Rattle.step.specs.Step.{Step, stepOver}
 use Rattle.passes.specs.Change.{Changeable, Changed}
 use Rattle.undo.specs.GroupCall.{Kept, Applied}
 use Rattle.edit.specs.Recount.{Outdated}
@@ -24,27 +24,27 @@ pub applied-full : (p : Picture) (m s n after : ℕ) (keys bits summary : List �
 applied-full p m s n after keys bits summary is h = record { full = λ z. (omega arith, refl, refl, refl); done = λ some. absurd (some refl) }
 
 module _ {t : Step} {m s n after : ℕ} {keys bits summary : List ℕ} (k : Kept m s keys bits n summary)
-    (is : after ≡ length (listOfPicture m (over t (shownBy m keys bits n)))) (fits : after ≤ room keys bits) where
+    (is : after ≡ length (listOfPicture m (stepOver t (shownBy m keys bits n)))) (fits : after ≤ room keys bits) where
   -- what changing asks
   pub can-change : Changeable t m keys bits n after
   can-change = record { deep = k .deep; own = k .own; after-is = is; fits = fits }
 
   module _ {keys′ bits′ : List ℕ} (made : Changed t m n keys bits keys′ bits′) where
-    stands : Replaced n (listOfPicture m (over t (shownBy m keys bits n))) keys bits keys′ bits′ after
+    stands : Replaced n (listOfPicture m (stepOver t (shownBy m keys bits n))) keys bits keys′ bits′ after
     stands = record { length-is = is; keys-are = made .keys-are; values-are = made .bits-are }
 
     -- what counting anew asks
     pub change-outdated : Outdated m s keys′ bits′ after summary rootKey
-    change-outdated = all-outdated m (over t (shownBy m keys bits n)) stands s (shownBy m keys bits n) summary (k .deep) (k .few) (k .counts)
+    change-outdated = all-outdated m (stepOver t (shownBy m keys bits n)) stands s (shownBy m keys bits n) summary (k .deep) (k .few) (k .counts)
 
     -- all is changed
     pub applied-done : (summary′ : List ℕ) → summary′ ≡ summaryOf m s (shownBy m keys′ bits′ after)
-        → Applied (over t (shownBy m keys bits n)) m s n keys bits summary keys′ bits′ summary′ after
+        → Applied (stepOver t (shownBy m keys bits n)) m s n keys bits summary keys′ bits′ summary′ after
     applied-done summary′ counted =
-        let some : 0 < length (listOfPicture m (over t (shownBy m keys bits n))) = list-not-empty (over t (shownBy m keys bits n)) m 0 0 rootKey in
+        let some : 0 < length (listOfPicture m (stepOver t (shownBy m keys bits n))) = list-not-empty (stepOver t (shownBy m keys bits n)) m 0 0 rootKey in
         record {
           full = λ z. absurd (omega arith);
-          done = λ some′. (omega arith, stands, all-counted m (over t (shownBy m keys bits n)) stands s summary′ counted);
+          done = λ some′. (omega arith, stands, all-counted m (stepOver t (shownBy m keys bits n)) stands s summary′ counted);
         }
 
 -- by another name of the picture

@@ -1,5 +1,5 @@
 -- The entries of a group as a run of crate step, and what the deed over them makes of a picture. Rests on log's GroupEntries and step's PutBack.
-use Prim.Native.Nat.{ℕ, suc, _-_, _≤_, _<_}
+use Prim.Native.Nat.{ℕ, suc, _-_, _≤_}
 use mathlib.Core.Path.{_≡_, sym, _∙_, ap, ap₂, subst}
 use mathlib.Core.List.{List}
 use native.Mathlib.Nat.{le-refl}
@@ -16,7 +16,7 @@ use Rattle.log.proofs.GroupChecked.{entries-at}
 use Rattle.log.proofs.GroupEntries.{group-between}
 use Rattle.step.specs.declared.run.Run.{Run}
 use Rattle.step.specs.declared.deed.Deed.the-variants.{Back, Again}
-use Rattle.step.specs.Step.{over}
+use Rattle.step.specs.Step.{stepOver}
 use Rattle.step.specs.Deed.{stepOf}
 use Rattle.step.specs.Runs.{lastFirst, Chain, done, more, Between, EntriesIn}
 use Rattle.step.proofs.Chains.{last-none, chain-more}
@@ -80,8 +80,8 @@ module _ {m : ℕ} {ks vs : List ℕ} {used : ℕ} (d : GroupLast m ks vs used) 
 
 -- the deeds over it
 module _ {m : ℕ} {run : Run} {ks vs : List ℕ} {log : List Record} (g : GroupRun m run ks vs log) where
-  pub group-back : (p : Picture) → over (stepOf m (Back run) ks vs) p ≡ putBack (stepCount log) m (stepEntries log) p
+  pub group-back : (p : Picture) → stepOver (stepOf m (Back run) ks vs) p ≡ putBack (stepCount log) m (stepEntries log) p
   group-back p = back-picture (g .entries) (g .many) (g .entries-are) p
 
-  pub group-again : (p : Picture) → over (stepOf m (Again run) ks vs) p ≡ paintAgain (stepCount log) m (stepEntries log) p
+  pub group-again : (p : Picture) → stepOver (stepOf m (Again run) ks vs) p ≡ paintAgain (stepCount log) m (stepEntries log) p
   group-again p = again-picture (g .entries) (g .many) (g .entries-are) p

@@ -1,13 +1,13 @@
 -- A group in force that is taken back: what its run and the list ask for, and the call's answers. Rests on Applying, TakingBackTable and TakingBackAnswers.
-use Prim.Native.Nat.{ℕ, _≤_, _<_}
+use Prim.Native.Nat.{ℕ, _≤_}
 use mathlib.Core.Path.{_≡_, refl, sym, _∙_}
 use mathlib.Core.Bool.{true}
 use mathlib.Core.List.{List}
 use native.Mathlib.Omega.{arith}
 use lib.ListN.{length}
-use Rattle.definitions.specs.Read.{room, recordsOf}
+use Rattle.definitions.specs.Read.{recordsOf}
 use Rattle.definitions.specs.Log.{endsInMark, beforeStep}
-use Rattle.definitions.specs.Calls.TakeBack.{restoredPicture, restored, takeBackRefusal}
+use Rattle.definitions.specs.Calls.TakeBack.{restoredPicture, restored}
 use Rattle.laws.proofs.SoundLog.{sound-last}
 use Rattle.laws.proofs.Records.{records-length}
 use Rattle.undo.specs.GroupCall.{GroupLast, Kept, Applied}

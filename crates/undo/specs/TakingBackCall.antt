@@ -12,17 +12,16 @@ use Rattle.definitions.specs.Read.{room, recordsOf, pictureOf}
 use Rattle.definitions.specs.Edit.{contentOf}
 use Rattle.definitions.specs.Log.{lastKey, lastCount, lastContent, endsInMark}
 use Rattle.definitions.specs.Refusal.{_gives_, first}
-use Rattle.definitions.specs.Calls.TakeBack.{restored, takeBack, takeBackKeys, takeBackBits, takeBackSummary, takeBackLogKeys, takeBackLogValues}
-use Rattle.definitions.specs.declared.Edited.{Edited}
+use Rattle.definitions.specs.Calls.TakeBack.{restored}
 use Rattle.list.specs.Own.{OwnList}
 use Rattle.log.specs.Entries.{Ended}
 use Rattle.put.specs.Put.{planOf}
 use Rattle.put.specs.declared.plan.Plan.{Plan}
-use Rattle.edit.specs.EditCallChecks.{firstRefusal}
+use Rattle.edit.specs.EditCallChecks.{editRefusal}
 
 -- what 1, 4, 18, 5 and 11 do not refuse
 pub record Takeable (m s : ℕ) (keys bits : List ℕ) (n : ℕ) (summary logKeys logValues : List ℕ) (used inForce : ℕ) : Type 0 where
-  pub passed : firstRefusal m s keys bits n summary logKeys logValues used inForce ≡ 0
+  pub passed : editRefusal m s keys bits n summary logKeys logValues used inForce ≡ 0
   pub some : 0 < inForce
 
 -- 9

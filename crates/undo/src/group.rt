@@ -1,9 +1,8 @@
 // A group of entries as one step of an edit: its entries in the log, and the whole change of the list and the summary, which is left alone where the list has no
 // room for the end result.
-ghost use mathlib.Core.Path.{_≡_};
 ghost use Rattle.definitions.specs.Read.{recordsOf};
 ghost use Rattle.list.specs.Own.{shownBy};
-ghost use Rattle.step.specs.Step.{over};
+ghost use Rattle.step.specs.Step.{stepOver};
 ghost use Rattle.step.specs.Deed.{Doable, stepOf};
 ghost use Rattle.undo.specs.GroupCall.{GroupLast, GroupRun, Kept, Applied};
 use edit::recount;
@@ -36,7 +35,7 @@ pub fn apply(
     log_values: &[u32],
 ) -> usize
     requires { ⌜ Doable m deed (now «log_keys») (now «log_values») × Kept m s (now keys) (now bits) n (now summary) ⌝ }
-    ensures { λ r. ⌜ Applied (over (stepOf m deed (now («log_keys» .entry)) (now («log_values» .entry))) (shownBy m (now (keys .entry)) (now (bits .entry)) n)) m s n
+    ensures { λ r. ⌜ Applied (stepOver (stepOf m deed (now («log_keys» .entry)) (now («log_values» .entry))) (shownBy m (now (keys .entry)) (now (bits .entry)) n)) m s n
         (now (keys .entry)) (now (bits .entry)) (now (summary .entry)) (now (keys .exit)) (now (bits .exit)) (now (summary .exit)) r ⌝ }
 {
     let after = change::length_after(deed, log_keys, log_values, m, keys, bits, n);

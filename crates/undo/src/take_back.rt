@@ -191,7 +191,7 @@ pub fn take_back(
     ensures { λ r. ⌜ TakenBack m s (now (keys .entry)) (now (bits .entry)) n (now (summary .entry)) (now («log_keys» .entry)) (now («log_values» .entry)) used «in_force»
         r (now (keys .exit)) (now (bits .exit)) (now (summary .exit)) (now («log_keys» .exit)) (now («log_values» .exit)) ⌝ }
 {
-    let early = decision::first_refusal(
+    let early = decision::edit_refusal(
         m,
         s,
         keys,

@@ -21,7 +21,7 @@ use Rattle.definitions.specs.Edit.{contentOf}
 use Rattle.laws.proofs.SelectMeans.{given-inside, given-feature, given-of, Selected, select-in-exactly}
 use Rattle.laws.proofs.SelectAscends.{select-in-ascends}
 use Rattle.walk.specs.declared.Spot.{Spot}
-use Rattle.walk.specs.Walk.{Stands, isWithin, isApart, Walking, FirstFrom}
+use Rattle.walk.specs.Walk.{Stands, isWithin, isApart, Walking}
 use Rattle.walk.specs.Given.{keysWith}
 use Rattle.walk.proofs.Lies.{InSpot, apart-pixel}
 use Rattle.walk.proofs.Steps.{Parent, nothing-between}
@@ -66,17 +66,6 @@ module _ (m : ℕ) (p : Picture) (w : Window) (f : ℕ) where
       let i = inside {row = t .row} {column = t .column} (t .under) (omega arith) in
       go (given-inside p w f (t .height) (t .row) (t .column) {row = t .row} {column = t .column} (t .given) (omega arith)) (i .from) (i .until)
 
-  -- a gap adds nothing
-  pub lower-clear : {x : ℕ} {s : Spot} → FirstFrom m w x s → lower x (selectIn m p w f) ≡ lower (s .key) (selectIn m p w f)
-  lower-clear {x} {s} g =
-      lower-gap x (s .key) (selectIn m p w f) (g .from)
-      (λ z i from before.
-      let t = select-in-exactly p w f m .0 i in
-      selected-pixel t
-      (λ in-window low high. split (pixelKey m (t .row) (t .column)) (s .key)
-      (λ missed. g .clear (t .row) (t .column) in-window (omega arith) missed)
-      (λ past. not-broken w (g .walking .parting) (t .under) (given-all p w f (t .height) (t .row) (t .column) (t .given)) before (omega arith))))
-
   -- a block without a pixel of the window that has the feature adds nothing
   lower-barren : {s : Spot} (h : Stands m s)
       → ((row column : ℕ) → InSpot s row column → inWindow w row column ≡ true → p row column ≡ f → ⊥)
@@ -114,12 +103,6 @@ module _ (m : ℕ) (p : Picture) (w : Window) (f : ℕ) where
       let all : AllInside w (h .height) (s .row) (s .column)
       = rw (same .heights, same .rows, same .columns) (given-all p w f (t .height) (t .row) (t .column) (t .given)) in
       true≢false (sym (all-within w {s = s} h all) ∙ e)))
-
-  -- what the walk finds next adds its leaves
-  pub below-block : {x : ℕ} {s : Spot} → FirstFrom m w x s
-      → lower (s .key + s .step) (selectIn m p w f) ≡ lower x (selectIn m p w f) ++ keysWith (2 ^ f) (contentOf m p (s .key))
-  below-block {s = s} g =
-      lower-block (g .walking) (g .within) ∙ ap (λ k. k ++ keysWith (2 ^ f) (contentOf m p (s .key))) (sym (lower-clear g))
 
   -- nothing is below the root
   pub below-none : (x : ℕ) → x ≡ 0 → lower x (selectIn m p w f) ≡ []

@@ -1,25 +1,20 @@
 -- The largest blocks of a window: what select gives of a blank picture. A block at which the walk can stand and that lies within the window is one
 -- of them, and each of them is such a block. Rests on Once and Lies.
-use Prim.Native.Nat.{ℕ, suc, _+_, _-_, _^_, _<_}
+use Prim.Native.Nat.{ℕ, _+_, _-_, _^_, _<_}
 use mathlib.Core.Path.{_≡_, refl}
 use mathlib.Core.Bool.{true}
 use mathlib.Core.List.{List}
 use native.Mathlib.Omega.{arith}
-use Rattle.keys.proofs.Cases.{decide}
-use Rattle.keys.proofs.Powers.{five-pos, two-pos}
+use Rattle.keys.proofs.Powers.{two-pos}
 use Rattle.keys.specs.Under.{Block}
-use Rattle.keys.proofs.Under.{quadrant-under}
-use Rattle.keys.proofs.Interval.{Same, within, nest}
-use Rattle.keys.proofs.Parent.{parent-cases, quadrant-after}
 use Rattle.definitions.specs.Picture.{Picture}
 use Rattle.definitions.specs.Window.{isGiven, selectIn}
 use Rattle.definitions.specs.declared.Window.{Window}
 use Rattle.laws.proofs.WindowScan.{inside-window}
-use Rattle.laws.proofs.SelectMeans.{given-inside, given-of, Largest, is-outer, has-parent, Selected}
+use Rattle.laws.proofs.SelectMeans.{given-inside, given-of}
 use Rattle.walk.specs.declared.Spot.{Spot}
-use Rattle.walk.specs.Walk.{Stands, isWithin, Parting, Walking}
+use Rattle.walk.specs.Walk.{Stands, isWithin, Parting}
 use Rattle.walk.proofs.Lies.{inside-within, within-pixel}
-use Rattle.walk.proofs.Once.{largest-alone}
 
 -- a picture of one feature
 abbrev pub blank : Picture
@@ -61,32 +56,3 @@ unfolding spot-stands
 not-broken {k = k} {r} {c} {κ} w h b e before after =
     let i = spot-stands b in
     h (spotOf k r c κ) i (all-within w {s = spotOf k r c κ} i e) before after
-
-root-largest : {m k r c κ : ℕ} (w : Window) → Same m 0 0 0 k r c κ → Largest blank w 0 m 0 0 0 k r c κ
-root-largest w e = rw (← e .heights, ← e .rows, ← e .columns, ← e .keys) is-outer
-
--- a block within the window at which the walk can stand is a largest block
-pub walking-largest : {m : ℕ} {w : Window} {s : Spot} → Walking m w s → isWithin s w ≡ true → Selected blank w 0 m 0 0 0 (s .key)
-walking-largest {m} {w} {s} h e =
-    let i = h .stands in
-    record {
-      height = i .height;
-      row = s .row;
-      column = s .column;
-      under = i .block;
-      given = within-all w {s = s} i e;
-      largest = parent-cases (i .block) (root-largest w)
-          (λ r₁ c₁ κ₁ u q. has-parent u q
-          (decide (isGiven blank w 0 (suc (i .height)) r₁ c₁)
-          (λ g.
-          let z = five-pos (i .height) in
-          let v = within (quadrant-under q) in
-          absurd (not-broken w (h .parting) u g (omega (arith, quadrant-after q)) (omega arith)))
-          (λ g. g)));
-    }
-
--- the walk can stand at each largest block
-pub largest-parting : {m x : ℕ} {w : Window} → Selected blank w 0 m 0 0 0 x → Parting m w x
-largest-parting {w = w} s t i e before after =
-    let same = largest-alone blank w 0 (s .largest) (i .block) (within-all w {s = t} i e) (nest (i .block) (s .under) (omega arith) (omega (arith, i .step))) in
-    omega arith

@@ -16,8 +16,8 @@ use Rattle.keys.proofs.Pixel.{back, pixel-block}
 use Rattle.definitions.specs.Window.{isWindow}
 use Rattle.definitions.specs.declared.Window.{Window}
 use Rattle.walk.specs.declared.Spot.{Spot}
-use Rattle.walk.specs.declared.Found.{Found}
-use Rattle.walk.specs.declared.Found.the-variants.{At, Gone}
+use Rattle.walk.specs.declared.NextBlock.{NextBlock}
+use Rattle.walk.specs.declared.NextBlock.the-variants.{At, Gone}
 use Rattle.walk.specs.Walk.{Stands, Follows, isWithin, isApart, firstQuadrant, Clear, Parting, Walking}
 use Rattle.walk.proofs.Lies.{within-inside, not-within, not-apart, InSpot, apart-pixel, window-pixel}
 
@@ -48,10 +48,6 @@ pub in-spot : {m : ℕ} {s : Spot} (row column : ℕ) → Stands m s → row < 2
 in-spot row column h low narrow from until =
     let i = back row column (h .block) low narrow (record { from = from; until = omega (arith, h .step) }) in
     omega (arith, h .side)
-
--- nothing is clear by itself
-pub clear-none : (m : ℕ) (w : Window) (x : ℕ) → Clear m w x x
-clear-none m w x row column i from until = omega arith
 
 -- a block apart from the window holds no pixel of it
 pub clear-apart : {m : ℕ} (w : Window) {s : Spot} → isWindow m w ≡ true → Stands m s → isApart s w ≡ true → Clear m w (s .key) (s .key + s .step)
@@ -132,10 +128,10 @@ parting-first {m} {w} {s} h p e t i f lo hi =
     not-within s w e (omega arith)))
 
 -- what follows is the block with that key, or the end
-pub follows-at : (m x : ℕ) (r : Found) (t : Spot) → Follows m x r → r ≡ At t → Stands m t × (t .key ≡ x)
+pub follows-at : (m x : ℕ) (r : NextBlock) (t : Spot) → Follows m x r → r ≡ At t → Stands m t × (t .key ≡ x)
 follows-at m x r t h e = subst (λ y. Follows m x y) e h
 
-pub follows-gone : (m x : ℕ) (r : Found) → Follows m x r → r ≡ Gone → x ≡ 5 ^ m
+pub follows-gone : (m x : ℕ) (r : NextBlock) → Follows m x r → r ≡ Gone → x ≡ 5 ^ m
 follows-gone m x r h e = subst (λ y. Follows m x y) e h
 
 -- after a block fewer keys are left

@@ -9,8 +9,8 @@ use Rattle.keys.specs.Under.{Block}
 use Rattle.definitions.specs.Window.{inWindow}
 use Rattle.definitions.specs.declared.Window.{Window}
 use Rattle.walk.specs.declared.Spot.{Spot}
-use Rattle.walk.specs.declared.Found.{Found}
-use Rattle.walk.specs.declared.Found.the-variants.{At, Gone}
+use Rattle.walk.specs.declared.NextBlock.{NextBlock}
+use Rattle.walk.specs.declared.NextBlock.the-variants.{At, Gone}
 
 -- the spot has the numbers of a block of the map
 pub record Stands (m : ℕ) (s : Spot) : Type 0 where
@@ -44,7 +44,7 @@ abbrev pub firstQuadrant : Spot → Spot
 firstQuadrant s = record { key = s .key + s .step / 5; row = s .row; column = s .column; side = s .side / 2; step = s .step / 5 }
 
 -- the block with key x, or the end of the map where x is the key after the last
-abbrev pub Follows : ℕ → ℕ → Found → Type 0
+abbrev pub Follows : ℕ → ℕ → NextBlock → Type 0
 Follows m x (At s) = Stands m s × (s .key ≡ x)
 Follows m x Gone = x ≡ 5 ^ m
 

@@ -21,7 +21,7 @@ pub struct Spot {
 }
 
 // A search gives a block, or comes to the end of the map.
-pub enum Found {
+pub enum NextBlock {
     At(Spot),
     Gone,
 }
@@ -104,7 +104,7 @@ pub fn apart(spot: Spot, window: Window) -> bool
 }
 
 // The block that comes after a block and all below it: the next quadrant of the parent, or what comes after the parent.
-pub fn after(m: u32, spot: Spot) -> Found
+pub fn after(m: u32, spot: Spot) -> NextBlock
     requires { ⌜ (m ≤ 10) × Stands m spot ⌝ }
     ensures { λ r. ⌜ Follows m (spot .key + spot .step) r ⌝ }
 {
@@ -117,7 +117,7 @@ pub fn after(m: u32, spot: Spot) -> Found
     let key = first_key + step;
     while side < whole {
         if column & side == 0 {
-            return Found::At(Spot {
+            return NextBlock::At(Spot {
                 key,
                 row,
                 column: column + side,
@@ -126,7 +126,7 @@ pub fn after(m: u32, spot: Spot) -> Found
             });
         }
         if row & side == 0 {
-            return Found::At(Spot {
+            return NextBlock::At(Spot {
                 key,
                 row: row + side,
                 column: column - side,
@@ -139,5 +139,5 @@ pub fn after(m: u32, spot: Spot) -> Found
         side = side * 2;
         step = step * 5;
     }
-    Found::Gone
+    NextBlock::Gone
 }

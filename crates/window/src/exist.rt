@@ -9,7 +9,7 @@ use definitions::Window;
 use keys::power;
 use list::standing;
 use list::standing::Which;
-use walk::Found;
+use walk::NextBlock;
 
 // Some pixel of the window has the feature: the walk is left at the first block that shows it. A block that lies in a leaf, or whose bits lack the
 // feature, is settled by its record, however the window cuts it; only a cut node with the feature and others is entered. Keys rise, so each search begins
@@ -51,7 +51,7 @@ pub fn exist_in(m: u32, keys: &[u32], bits: &[u32], n: usize, window: Window, fe
             }
             spot = walk::first(spot);
         }
-        let Found::At(next) = walk::after(m, spot) else {
+        let NextBlock::At(next) = walk::after(m, spot) else {
             break 'walk false;
         };
         spot = next;

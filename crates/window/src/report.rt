@@ -7,7 +7,7 @@ ghost use Rattle.list.specs.Own.{OwnList, shownBy};
 use definitions::Window;
 use list::check;
 use list::standing;
-use walk::Found;
+use walk::NextBlock;
 
 // The bitstring of all features in the window. A block's bits are those of the last record at or before its key, whether that is its own or the
 // leaf's around it. They settle the block where none is new, or it has one feature, or it lies within the window; only a cut node that may add a feature
@@ -40,7 +40,7 @@ pub fn report_in(m: u32, keys: &[u32], bits: &[u32], n: usize, window: Window) -
             }
             spot = walk::first(spot);
         }
-        let Found::At(next) = walk::after(m, spot) else {
+        let NextBlock::At(next) = walk::after(m, spot) else {
             return union;
         };
         spot = next;

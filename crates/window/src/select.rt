@@ -17,7 +17,7 @@ use definitions::Standing;
 use definitions::Window;
 use keys::power;
 use list::standing;
-use walk::Found;
+use walk::NextBlock;
 use walk::Spot;
 
 // Gives the keys of the records from one place up to another that have exactly the bit.
@@ -39,7 +39,7 @@ fn gather_run(
     let mut i = first;
     while i < end {
         if bits[i] == bit {
-            slices::write_below(answer, limit, given, keys[i]);
+            slices::write_within(answer, limit, given, keys[i]);
             given += 1;
         }
         i += 1;
@@ -68,7 +68,7 @@ fn gather_block(
 {
     let key = block.key;
     if bits[from] == bit {
-        slices::write_below(answer, limit, count, key);
+        slices::write_within(answer, limit, count, key);
         return count + 1;
     }
     let step = block.step;
@@ -125,7 +125,7 @@ pub fn gather(
             }
             spot = walk::first(spot);
         }
-        let Found::At(next) = walk::after(m, spot) else {
+        let NextBlock::At(next) = walk::after(m, spot) else {
             return count;
         };
         spot = next;

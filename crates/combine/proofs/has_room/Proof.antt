@@ -1,5 +1,4 @@
 -- `combine::has_room` meets its contract: the result has fewer records than the two lists together, and else they are counted.
-use Prim.Native.Nat.{_+_}
 use mathlib.Core.Path.{sym, ap}
 use native.Mathlib.Omega.{arith}
 use lib.Dec.{leb}

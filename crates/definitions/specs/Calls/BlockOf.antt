@@ -1,6 +1,6 @@
 -- Block of: the square and the level of a key. Refusals 1 (for m alone), 8.
 use Prim.Native.Nat.{ℕ}
-use mathlib.Core.List.{List, [], _∷_}
+use mathlib.Core.List.{[], _∷_}
 use lib.Dec.{ltb}
 use Rattle.keys.specs.Key.{deepestLevel, levelOf}
 use Rattle.keys.specs.Block.{rowOf, columnOf, sideOf}

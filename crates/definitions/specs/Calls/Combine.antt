@@ -8,7 +8,7 @@ use Rattle.definitions.specs.List.{Record, keysOf, valuesOf}
 use Rattle.definitions.specs.Read.{room, recordsOf}
 use Rattle.definitions.specs.Buffer.{over}
 use Rattle.definitions.specs.Combine.{combinedList, badClassTable}
-use Rattle.definitions.specs.Refusal.{Row, _gives_, first, accepted, badSettings, noList}
+use Rattle.definitions.specs.Refusal.{_gives_, first, accepted, badSettings, noList}
 use Rattle.definitions.specs.declared.Counted.{Counted}
 
 module _ (m₁ s₁ : ℕ) (keys₁ bits₁ : List ℕ) (n₁ m₂ s₂ : ℕ) (keys₂ bits₂ : List ℕ) (n₂ s₃ : ℕ) (table : List ℕ) where

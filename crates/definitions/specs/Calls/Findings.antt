@@ -7,7 +7,7 @@ use lib.Dec.{ltb, eqb}
 use Rattle.definitions.specs.Read.{room, recordsOf, pictureOf}
 use Rattle.definitions.specs.Buffer.{over}
 use Rattle.definitions.specs.Rules.{Finding, allFindings, liveOf, hiddenCount, badRules, badWaivers}
-use Rattle.definitions.specs.Offices.{Waiver, badOffice, badTable, tableOf, rowsOf, rowKeysValid}
+use Rattle.definitions.specs.Offices.{badOffice, badTable, tableOf, rowsOf, rowKeysValid}
 use Rattle.definitions.specs.Refusal.{_gives_, first, accepted, badSettings, noList}
 use Rattle.definitions.specs.declared.Rule.{Rule}
 use Rattle.definitions.specs.declared.Found.{Found}

@@ -1,7 +1,7 @@
 -- Key at: the key of the block of a level around a pixel. Refusals 1 (for m alone), 6 (no pixel of this raster), 8 (the level is above m).
 use Prim.Native.Nat.{ℕ, _^_}
 use mathlib.Core.Bool.{Bool, _||_}
-use mathlib.Core.List.{List, [], _∷_}
+use mathlib.Core.List.{[], _∷_}
 use lib.Dec.{leb, ltb}
 use Rattle.keys.specs.Key.{deepestLevel}
 use Rattle.keys.specs.Block.{keyAround}

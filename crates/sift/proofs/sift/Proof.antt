@@ -16,11 +16,11 @@ returns c =
     let settled = c .before .settle .ensures in
     record { counted = counted-hidden _ _ _ _ _ _ _ _ _ (sym (settled .hidden) ∙ c .if1 .taken) refl refl; passed = settled .passed }
 
-write-below-requires : tie.Need-write-below-requires
-write-below-requires c κs = search needs
+write-within-requires : tie.Need-write-within-requires
+write-within-requires c κs = search needs
 
-write-below-requires-2 : tie.Need-write-below-requires-2
-write-below-requires-2 c κs = search needs
+write-within-requires-2 : tie.Need-write-within-requires-2
+write-within-requires-2 c κs = search needs
 
 add-more-2 : tie.Need-add-more-2
 add-more-2 c = search needs
@@ -38,7 +38,7 @@ returns-2 c =
     let left = first .before .before in
     let settled = left .before .settle .ensures in
     record {
-      counted = counted-live _ _ _ _ _ _ _ _ _ _ _ (sym (settled .hidden) ∙ left .if1 .left) refl refl (first .write-below .ensures) (second .write-below2 .ensures);
+      counted = counted-live _ _ _ _ _ _ _ _ _ _ _ (sym (settled .hidden) ∙ left .if1 .left) refl refl (first .write-within .ensures) (second .write-within2 .ensures);
       passed = settled .passed;
     }
 
@@ -49,8 +49,8 @@ sift-spec =
     settle-requires
     add-more
     returns
-    write-below-requires
-    write-below-requires-2
+    write-within-requires
+    write-within-requires-2
     add-more-2
     same-length
     same-length-2

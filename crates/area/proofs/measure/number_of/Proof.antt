@@ -1,7 +1,7 @@
 -- `measure::number_of` meets its contract: both digits are 1 to 4.
 use mathlib.Core.Path.{refl}
 use native.Mathlib.Omega.{arith}
-use Rattle.area.specs.Number.{numberOf}
+use Rattle.area.specs.Number.{summaryNumber}
 use Rattle.area.proofs.NumberOf.{digits-in}
 use Rattle.area.proofs.measure.number_of.Statement.{statement}
 use Rattle.area.proofs.measure.number_of.Tie as tie
@@ -22,7 +22,7 @@ add-result : tie.Need-add-result
 add-result c = let d = digits-in (c .pre .1) (c .pre .2) in omega arith
 
 returns : tie.Need-returns
-unfolding numberOf
+unfolding summaryNumber
 returns c = let d = digits-in (c .pre .1) (c .pre .2) in (refl, omega arith)
 
 pub number-of-spec : {M : Type 1} → statement M

@@ -4,7 +4,7 @@ use mathlib.Core.Bool.{_&&_}
 use borrow.Author.Needs.{needs}
 use borrow.Author.Tests.{le-leb, lt-leb}
 use Rattle.walk.specs.Walk.{isWithin}
-use Rattle.area.specs.Overlap.{isWhole}
+use Rattle.area.specs.Overlap.{isSummed}
 use Rattle.area.proofs.overlap.is_whole.Statement.{statement}
 use Rattle.area.proofs.overlap.is_whole.Tie as tie
 
@@ -12,14 +12,14 @@ mul-if1 : tie.Need-mul-if1
 mul-if1 c = search needs
 
 returns : tie.Need-returns
-unfolding isWhole
+unfolding isSummed
 returns c = sym (ap (λ x. x && isWithin (c .before .args .spot) (c .before .args .window)) (lt-leb _ _ (c .if1 .taken)))
 
 within-requires : tie.Need-within-requires
 within-requires c κs = search needs
 
 returns-2 : tie.Need-returns-2
-unfolding isWhole
+unfolding isSummed
 returns-2 c =
     c .within .ensures ∙ sym (ap (λ x. x && isWithin (c .before .before .args .spot) (c .before .before .args .window)) (le-leb _ _ (c .before .if1 .left)))
 

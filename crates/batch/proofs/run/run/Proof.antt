@@ -45,7 +45,7 @@ use Rattle.keys.proofs.Cases.{split}
 use Rattle.definitions.specs.declared.Question.{Question}
 use Rattle.definitions.proofs.Question as Question
 use Rattle.definitions.proofs.Question.Laws as Question′
-use Rattle.batch.specs.Run.{progressOf, Ready}
+use Rattle.batch.specs.Run.{answeringOf, Ready}
 use Rattle.batch.specs.declared.begin.State.{State}
 use Rattle.batch.proofs.begin.State as State
 use Rattle.batch.proofs.begin.State.Laws as State′
@@ -207,7 +207,7 @@ module _ {M : Type 1} (𝓤 : URA M) (H : Heap 𝓤) (A : Atoms 𝓤) (W : Given
         ),
       ))
       (λ κs qs bounds a g are. needs 𝓤 (Ready (a .1 .0 .now) (a .1 .1 .0 .now) (length (a .0 .now))
-      (progressOf (a .1 .1 .1 .1 .1 .0) (a .1 .1 .1 .0 .now) (a .1 .1 .1 .1 .0 .now))) _ (λ ready.
+      (answeringOf (a .1 .1 .1 .1 .1 .0) (a .1 .1 .1 .0 .now) (a .1 .1 .1 .1 .0 .now))) _ (λ ready.
       walk 𝓤 H A W mem run (record { κ = κs .0; q = qs .0; x = a .0; room = are .0 .0 .1 }) (record {
         keys = record { κ = κs .1 .0; q = qs .1 .0; x = a .1 .0; room = are .1 .0 .0 .1 };
         bits = record { κ = κs .1 .1 .0; q = qs .1 .1 .0; x = a .1 .1 .0; room = are .1 .1 .0 .0 .1 };

@@ -1,5 +1,5 @@
 -- `classes::is_bad` meets its contract: its two tests are those of refusal 25.
-use mathlib.Core.Path.{sym, ap, _∙_}
+use mathlib.Core.Path.{_∙_}
 use native.Mathlib.Omega.{arith}
 use native.Mathlib.Nat.{mul-le-mul}
 use borrow.Author.Needs.{needs}

@@ -1,5 +1,5 @@
 -- `count::count_block` meets its contract: two leaves are one record, else the four quadrants' tallies are joined. The step falls at each call.
-use Prim.Native.Nat.{ℕ, _-_, _/_, _≤_, _<_}
+use Prim.Native.Nat.{ℕ, _-_, _/_, _<_}
 use native.Mathlib.Omega.{arith}
 use borrow.Fn.Kinds.{In}
 use borrow.Fn.PlainCycle.{Measures, is, falls, and}

@@ -12,24 +12,24 @@ use Rattle.edit.proofs.paint.decide.Statement.{statement}
 use Rattle.edit.proofs.paint.decide.Tie as tie
 
 -- the start, from the first refusal
-abbrev start : tie.After-first-refusal → tie.Start
+abbrev start : tie.After-edit-refusal → tie.Start
 start c = c .before .before .before .before .before .before
 
 -- 1, 4, 18 and 5 are passed
 passed : (c : tie.Else1)
     → (let a = start (c .before) .args in
     FirstPassed (a .m) (a .s) (a .keys .now) (a .bits .now) (a .n) (a .summary .now) (a .log-keys .now) (a .log-values .now) (a .used) (a .in-force))
-passed c = first-passed _ (c .before .first-refusal .ensures) (c .if1 .left)
+passed c = first-passed _ (c .before .edit-refusal .ensures) (c .if1 .left)
 
 -- the key is valid
 valid : (c : tie.Else2) → (let a = start (c .before .before .before) .args in validKey (a .m) (a .key) ≡ true)
 valid c = sym (c .before .is-valid .ensures) ∙ not-false _ (c .if2 .left)
 
-first-refusal-requires : tie.Need-first-refusal-requires
-first-refusal-requires c κs = search needs
+edit-refusal-requires : tie.Need-edit-refusal-requires
+edit-refusal-requires c κs = search needs
 
 returns : tie.Need-returns
-returns c = refuses _ _ _ _ (paint-early _ _ _ _ _ _ _ _ _ _ _ _ _ (c .before .first-refusal .ensures) (c .if1 .taken)) (c .if1 .taken)
+returns c = refuses _ _ _ _ (paint-early _ _ _ _ _ _ _ _ _ _ _ _ _ (c .before .edit-refusal .ensures) (c .if1 .taken)) (c .if1 .taken)
 
 is-valid-requires : tie.Need-is-valid-requires
 is-valid-requires c κs = passed-settings (passed c) .deep
@@ -56,7 +56,7 @@ pub decide-spec : {M : Type 1} → statement M
 decide-spec =
     tie.close
     (tie.spec
-    first-refusal-requires
+    edit-refusal-requires
     returns
     is-valid-requires
     returns-2

@@ -7,7 +7,7 @@ use mathlib.Core.List.{List}
 use native.Mathlib.Omega.{arith}
 use lib.ListN.{drop}
 use borrow.Author.Tests.{not-true, not-false}
-use Rattle.list.specs.Check.{placeOf, afterNode}
+use Rattle.list.specs.Check.{restPlace, afterNode}
 use Rattle.list.proofs.Turn.{step-five, child-fits}
 use Rattle.file.specs.Layout.{recordsAt}
 use Rattle.file.proofs.Laid.{laid-at}
@@ -85,7 +85,7 @@ after-sixteen-requires c κs =
 -- what the function of height 2 answers of a child that is a node
 after-child : (c : Found) (r : ℕ) → let e = there c in let l = e .before .before in let a = l .before .before .args in
     (r ≤ a .n)
-    × (r ≡ placeOf (a .n) (afterNode 2 (l .loop .child) (c .bits-at .result) (drop (l .loop .next + 1) (recordsAt (a .width) (a .n) (a .file .now)))))
+    × (r ≡ restPlace (a .n) (afterNode 2 (l .loop .child) (c .bits-at .result) (drop (l .loop .next + 1) (recordsAt (a .width) (a .n) (a .file .now)))))
     → Answered (a .width) (a .n) (a .file .now) (l .loop .next + 1) (a .key + l .loop .inv .digit * 25) (c .bits-at .result) 5 r
 after-child c r h =
     let e = there c in

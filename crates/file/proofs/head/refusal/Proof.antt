@@ -1,5 +1,4 @@
 -- `head::refusal` meets its contract: its tests are those of load's table, in the same order.
-use Prim.Native.Nat.{ℕ}
 use mathlib.Core.Path.{_≡_, sym, ap, ap₂, _∙_}
 use mathlib.Core.Bool.{false}
 use native.Mathlib.Omega.{arith}

@@ -1,5 +1,5 @@
 -- `Key::around` meets its contract: the quotient by the block's step, and back, makes the lower digits zeros.
-use Prim.Native.Nat.{ℕ, _-_, _*_, _/_, _^_}
+use Prim.Native.Nat.{ℕ, _-_, _*_, _/_}
 use mathlib.Core.Path.{ap₂}
 use native.Mathlib.Omega.{arith}
 use native.Mathlib.Nat.{div-mul-le-self}

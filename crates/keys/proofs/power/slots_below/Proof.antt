@@ -1,6 +1,6 @@
 -- `slots_below` meets its contract: from s = 32 on every number of 32 bits is below the power.
 use Prim.Native.Nat.{_^_, _≤_}
-use mathlib.Core.Path.{_≡_, sym, ap}
+use mathlib.Core.Path.{sym, ap}
 use native.Mathlib.Omega.{arith}
 use lib.Dec.{ltb}
 use lib.Pow.{pow-mono}

@@ -1,5 +1,5 @@
 -- `calls::delivered` meets its contract: the count is held against both slices, and then the leaves against the raster.
-use Prim.Native.Nat.{ℕ, _≤_}
+use Prim.Native.Nat.{_≤_}
 use mathlib.Core.Path.{_≡_, sym, _∙_, ap}
 use mathlib.Core.Bool.{cond}
 use native.Mathlib.Omega.{arith}

@@ -1,5 +1,5 @@
 -- `calls::read_leaves` meets its contract: the refusals in their order, and then the list of the delivery.
-use Prim.Native.Nat.{ℕ, _≤_}
+use Prim.Native.Nat.{_≤_}
 use mathlib.Core.Path.{_≡_, sym, _∙_}
 use mathlib.Core.Bool.{true, false}
 use native.Mathlib.Omega.{arith}

@@ -1,5 +1,5 @@
 -- `calls::write_leaves` meets its contract: the refusals in their order, and then the leaves of the list.
-use Prim.Native.Nat.{ℕ, _-_, _/_, _≤_}
+use Prim.Native.Nat.{_-_, _/_, _≤_}
 use mathlib.Core.Path.{_≡_}
 use native.Mathlib.Omega.{arith}
 use lib.ListN.{length}

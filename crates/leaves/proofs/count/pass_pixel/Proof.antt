@@ -1,5 +1,5 @@
 -- `count::pass_pixel` meets its contract: no leaf is left, the next is another, or it is the pixel.
-use mathlib.Core.Path.{_≡_, refl}
+use mathlib.Core.Path.{refl}
 use native.Mathlib.Omega.{arith}
 use Rattle.leaves.proofs.PassBlock.{passed-none, passed-leaf, passed-other}
 use Rattle.leaves.proofs.count.pass_pixel.Statement.{statement}

@@ -1,6 +1,6 @@
 -- `count::pass_quad` meets its contract: no leaf is left, the next is the block, or four pixels follow.
 use Prim.Native.Nat.{ℕ, _+_, _≤_}
-use mathlib.Core.Path.{_≡_, refl}
+use mathlib.Core.Path.{refl}
 use native.Mathlib.Omega.{arith}
 use Rattle.leaves.specs.Delivered.{Asked}
 use Rattle.leaves.proofs.Quarters.{asked-quadrant}

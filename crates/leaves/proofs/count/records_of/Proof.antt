@@ -1,12 +1,12 @@
 -- `count::records_of` meets its contract: the pass over the root's leaves, held against their number, is the test of a delivery.
-use mathlib.Core.Path.{_≡_, refl, sym, _∙_, ap}
-use mathlib.Core.Bool.{true, false, cond}
+use mathlib.Core.Path.{sym, _∙_, ap}
+use mathlib.Core.Bool.{cond}
 use native.Mathlib.Omega.{arith}
 use lib.ListN.{length}
 use borrow.Author.Needs.{needs}
 use Rattle.definitions.specs.List.{listOfPicture}
 use Rattle.definitions.specs.Read.{paired}
-use Rattle.definitions.specs.Leaves.{areLeaves, pictureOfLeaves}
+use Rattle.definitions.specs.Leaves.{pictureOfLeaves}
 use Rattle.list.proofs.Tests.{good-settings}
 use Rattle.leaves.proofs.Delivery.{leaves-to, leaves-parted, end-leaves, bad-leaves, other-leaves}
 use Rattle.leaves.proofs.LayList.{root-asked}

@@ -1,11 +1,11 @@
 -- `lay::lay_quad` meets its contract: the next leaf is the block, or four pixels and then their own records.
 use Prim.Native.Nat.{ℕ, _+_, _^_, _≤_, _<_}
 use mathlib.Core.List.{List}
-use mathlib.Core.Path.{_≡_, refl, sym, _∙_}
+use mathlib.Core.Path.{refl}
 use native.Mathlib.Omega.{arith}
 use lib.ListN.{length, getD}
 use Rattle.keys.specs.Key.{slotLimit}
-use Rattle.leaves.specs.Delivered.{Asked, Ready, Laid}
+use Rattle.leaves.specs.Delivered.{Ready, Laid}
 use Rattle.leaves.proofs.Quarters.{parted-there}
 use Rattle.leaves.proofs.LayBlock.{laid-leaf, laid-pixel, ready-place, ready-nw, ready-ne, ready-sw, ready-se, ready-four, laid-four}
 use Rattle.leaves.proofs.lay.lay_quad.Statement.{statement}

@@ -1,6 +1,6 @@
 -- `check::after_node` meets its contract: before each turn the children passed so far are those that the model has passed. It ends because a
 -- call for a child has a fifth of the step.
-use Prim.Native.Nat.{ℕ, _+_, _-_, _*_, _/_, _≤_, _<_}
+use Prim.Native.Nat.{ℕ, _+_, _-_, _/_, _≤_, _<_}
 use mathlib.Core.Path.{sym, _∙_}
 use mathlib.Core.Logic.{⊎-elim}
 use native.Mathlib.Omega.{arith}

@@ -1,8 +1,7 @@
 -- `refusal::first_refusal` meets its contract: its tests are the first two rows of the tables, in the same order. Rests on FirstRefusal.
-use mathlib.Core.Path.{_≡_, sym, ap, _∙_}
-use mathlib.Core.Bool.{false, not}
+use mathlib.Core.Path.{sym, ap, _∙_}
+use mathlib.Core.Bool.{not}
 use borrow.Author.Needs.{needs}
-use Rattle.definitions.specs.Refusal.{badSettings}
 use Rattle.list.proofs.Tests.{good-settings}
 use Rattle.list.proofs.FirstRefusal.{first-settings, first-no-list, first-good}
 use Rattle.list.proofs.refusal.first_refusal.Statement.{statement}

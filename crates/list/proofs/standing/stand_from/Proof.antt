@@ -1,7 +1,6 @@
 -- `standing::stand_from` meets its contract: which it is was found among the keys, and its numbers are the records of the block, or the key that was
 -- found and its level.
-use Prim.Native.Nat.{ℕ}
-use mathlib.Core.Path.{_≡_, sym, _∙_, ap}
+use mathlib.Core.Path.{sym, _∙_}
 use native.Mathlib.Omega.{arith}
 use borrow.Author.Needs.{needs}
 use Rattle.list.proofs.Own.{own-sorted}

@@ -4,7 +4,7 @@ use mathlib.Core.Path.{_≡_, sym, ap, _∙_}
 use native.Mathlib.Omega.{arith}
 use Rattle.definitions.specs.Offices.{waiverOf, tableOf}
 use Rattle.definitions.specs.Calls.AddWaiver.{addRefusal}
-use Rattle.offices.specs.Place.{placeIn, opened}
+use Rattle.offices.specs.Place.{rowPlace, opened}
 use borrow.Author.Needs.{needs}
 use Rattle.offices.proofs.Checked.{Places}
 use Rattle.offices.proofs.Decided.{decided-number, decided-place, add-passed, add-room, place-low, places}
@@ -20,7 +20,7 @@ done : (c : tie.Else1) → addRefusal (entry c .args .m) (entry c .args .office)
 done c = sym (ap (λ d. d .refusal) (c .before .before .to-add .ensures) ∙ decided-number _ _) ∙ c .if1 .left
 
 place-is : (c : tie.Else1) → c .before .before .to-add .result .place
-    ≡ placeIn (waiverOf (entry c .args .office) (entry c .args .id) (entry c .args .key)) (tableOf (entry c .args .offices .now) (entry c .args .ids .now) (entry c .args .waived .now) (entry c .args .rows))
+    ≡ rowPlace (waiverOf (entry c .args .office) (entry c .args .id) (entry c .args .key)) (tableOf (entry c .args .offices .now) (entry c .args .ids .now) (entry c .args .waived .now) (entry c .args .rows))
 place-is c = ap (λ d. d .place) (c .before .before .to-add .ensures) ∙ decided-place _ _ (done c)
 
 -- there is a place for the row in each slice

@@ -1,10 +1,10 @@
 -- `calls::remove_waiver` meets its contract: a place is given up in each of the three slices.
-use Prim.Native.Nat.{_≤_, _<_}
+use Prim.Native.Nat.{_<_}
 use mathlib.Core.Path.{_≡_, sym, ap, _∙_}
 use native.Mathlib.Omega.{arith}
 use Rattle.definitions.specs.Offices.{Holds, waiverOf, tableOf}
 use Rattle.definitions.specs.Calls.RemoveWaiver.{removeRefusal}
-use Rattle.offices.specs.Place.{placeIn, closed}
+use Rattle.offices.specs.Place.{rowPlace, gapClosed}
 use borrow.Author.Needs.{needs}
 use Rattle.offices.proofs.Decided.{decided-number, decided-place, remove-passed, remove-place, holds, never-full}
 use Rattle.offices.proofs.Answers.{remove-refused, remove-result, remove-offices, remove-ids, remove-keys}
@@ -19,7 +19,7 @@ done : (c : tie.Else1) → removeRefusal (entry c .args .m) (entry c .args .offi
 done c = sym (ap (λ d. d .refusal) (c .before .before .to-remove .ensures) ∙ decided-number _ _) ∙ c .if1 .left
 
 place-is : (c : tie.Else1) → c .before .before .to-remove .result .place
-    ≡ placeIn (waiverOf (entry c .args .office) (entry c .args .id) (entry c .args .key)) (tableOf (entry c .args .offices .now) (entry c .args .ids .now) (entry c .args .waived .now) (entry c .args .rows))
+    ≡ rowPlace (waiverOf (entry c .args .office) (entry c .args .id) (entry c .args .key)) (tableOf (entry c .args .offices .now) (entry c .args .ids .now) (entry c .args .waived .now) (entry c .args .rows))
 place-is c = ap (λ d. d .place) (c .before .before .to-remove .ensures) ∙ decided-place _ _ (done c)
 
 -- the row stands in each slice
@@ -80,9 +80,9 @@ returns-2 c =
     let a = entry at .args in
     let e = place-is at in (
       remove-result _ _ _ _ _ _ _ _ (done at),
-      c .before .before .before .before .before .before .before .before .before .before .close .ensures ∙ ap (λ i. closed (a .rows) i (a .offices .now)) e ∙ remove-offices _ _ _ _ _ _ _ _ (done at),
-      c .before .before .before .before .before .before .close2 .ensures ∙ ap (λ i. closed (a .rows) i (a .ids .now)) e ∙ remove-ids _ _ _ _ _ _ _ _ (done at),
-      c .before .before .close3 .ensures ∙ ap (λ i. closed (a .rows) i (a .waived .now)) e ∙ remove-keys _ _ _ _ _ _ _ _ (done at),
+      c .before .before .before .before .before .before .before .before .before .before .close .ensures ∙ ap (λ i. gapClosed (a .rows) i (a .offices .now)) e ∙ remove-offices _ _ _ _ _ _ _ _ (done at),
+      c .before .before .before .before .before .before .close2 .ensures ∙ ap (λ i. gapClosed (a .rows) i (a .ids .now)) e ∙ remove-ids _ _ _ _ _ _ _ _ (done at),
+      c .before .before .close3 .ensures ∙ ap (λ i. gapClosed (a .rows) i (a .waived .now)) e ∙ remove-keys _ _ _ _ _ _ _ _ (done at),
     )
 
 pub remove-waiver-spec : {M : Type 1} → statement M

@@ -1,10 +1,6 @@
 -- `give_up` meets its contract: where the list did not shrink there is nothing to clear.
 use Prim.Native.Nat.{_-_}
-use mathlib.Core.Path.{_≡_, refl, sym, ap}
-use mathlib.Core.List.{List}
 use native.Mathlib.Omega.{arith}
-use lib.ListN.{replicate}
-use lib.Seq.{sets}
 use borrow.Author.Needs.{needs}
 use Rattle.passes.proofs.Changing.{nothing-given}
 use Rattle.passes.proofs.change.give_up.Statement.{statement}

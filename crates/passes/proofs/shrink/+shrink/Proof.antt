@@ -2,9 +2,9 @@
 -- record. The height falls at each call.
 use Prim.Native.Nat.{ℕ, _-_, _+_, _^_, _<_}
 use mathlib.Core.Path.{_≡_, sym, _∙_, ap}
-use mathlib.Core.Bool.{true, false}
+use mathlib.Core.Bool.{false}
 use native.Mathlib.Omega.{arith}
-use lib.ListN.{length, getD}
+use lib.ListN.{getD}
 use borrow.Author.Needs.{needs}
 use borrow.Fn.Kinds.{In}
 use borrow.Fn.PlainCycle.{Measures, is, falls, and}
@@ -24,7 +24,7 @@ use Rattle.list.proofs.check.has_one_slot.Reads as has-one-slot
 use Rattle.passes.proofs.shrink.shrink_leaf.Reads as shrink-leaf
 use Rattle.step.proofs.deed.narrow.Reads as narrow
 use Rattle.step.proofs.deed.meeting.Reads as meeting
-use Rattle.passes.proofs.shrink.is_whole.Reads as is-whole
+use Rattle.passes.proofs.shrink.is_decided.Reads as is-decided
 use Rattle.keys.proofs.power.power_of_five.Reads as power-of-five
 use Rattle.passes.proofs.block_end.block_end.Reads as block-end
 use Rattle.passes.proofs.shrink.keep.Reads as keep
@@ -53,8 +53,8 @@ claims t = (
   narrow.Learnt,
   meeting.Asked,
   meeting.Learnt,
-  is-whole.Asked,
-  is-whole.Learnt,
+  is-decided.Asked,
+  is-decided.Learnt,
   power-of-five.Asked,
   power-of-five.Learnt,
   block-end.Asked,
@@ -134,8 +134,8 @@ narrow-requires t c κs = let s = from-node t c in let a = asked t s .shown in l
 meeting-requires : (t : ℕ) → lts.Need-meeting-requires (claims t) (given t) own.Post
 meeting-requires t c κs = let a = asked t (from-node t (c .before)) .shown in (c .narrow .ensures .doable, record { deep = a .deep; block = a .block })
 
-is-whole-requires : (t : ℕ) → lts.Need-is-whole-requires (claims t) (given t) own.Post
-is-whole-requires t c κs = search needs
+is-decided-requires : (t : ℕ) → lts.Need-is-decided-requires (claims t) (given t) own.Post
+is-decided-requires t c κs = search needs
 
 -- once the number past its keys is told
 abbrev Passing : ℕ → Type 0
@@ -170,7 +170,7 @@ returns-2 t c =
     let s = c .before .before .before .before .before .before .before .before .before .before .before .before .before .before .before .before .before .before .before .before .before in
     let d = c .before .before .before .before .before .before .before .before .before in
     narrowed-shrinks (d .before .before .before .before .narrow .ensures .same) (asked t s .shown .block) (omega arith)
-    (gives-whole (whole t d) (asked t s) (past t d) (c .before .before .before .before .before .before .before .block-end .ensures) (d .before .before .before .meeting .ensures) (sym (d .before .before .is-whole .ensures) ∙ d .before .if2 .taken) (c .before .before .before .before .keep .ensures))
+    (gives-whole (whole t d) (asked t s) (past t d) (c .before .before .before .before .before .before .before .block-end .ensures) (d .before .before .before .meeting .ensures) (sym (d .before .before .is-decided .ensures) ∙ d .before .if2 .taken) (c .before .before .before .before .keep .ensures))
 
 of-requires : (t : ℕ) → lts.Need-of-requires (claims t) (given t) own.Post
 of-requires t c κs = let a = asked t (from-node t (c .before .before .before .before)) in divisible (a .shown .deep) (a .shown .block) (shown-positive (a .shown) (node t (c .before .before .before .before)))
@@ -266,7 +266,7 @@ pub +shrink-spec : {M : Type 1} → statement M
     (returns t)
     (narrow-requires t)
     (meeting-requires t)
-    (is-whole-requires t)
+    (is-decided-requires t)
     (power-of-five-requires t)
     (add-past t)
     (block-end-requires t)

@@ -9,7 +9,7 @@ use borrow.Fn.PlainCycle.{Measures, is, falls, and}
 use Rattle.definitions.specs.Picture.{Picture}
 use Rattle.definitions.specs.Bits.{featureOf}
 use Rattle.build.specs.BuildBlocks.{Fitting}
-use Rattle.step.specs.Step.{over, plain}
+use Rattle.step.specs.Step.{stepOver, plain}
 use Rattle.step.specs.Deed.{stepOf, LeafAsked}
 use Rattle.step.proofs.QuarterSums.{divisible, narrow-room, lower-than}
 use Rattle.step.proofs.LeafTally.{leaf-nw, leaf-ne, leaf-sw, leaf-se}
@@ -59,7 +59,7 @@ abbrev start : (t : ℕ) → Quartered t → Start t
 start t c = c .before .before .before .before .before .before .before .before .before
 
 abbrev picture : (t : ℕ) → Quartered t → Picture
-picture t c = over (stepOf (start t c .args .m) (c .before .before .before .before .narrow .result) (start t c .args .log-keys .now) (start t c .args .log-values .now)) (plain (featureOf (start t c .args .own)))
+picture t c = stepOver (stepOf (start t c .args .m) (c .before .before .before .before .narrow .result) (start t c .args .log-keys .now) (start t c .args .log-values .now)) (plain (featureOf (start t c .args .own)))
 
 positive : (t : ℕ) (c : Divided t) → 0 < c .before .before .before .before .before .before .before .before .args .height
 positive t c = met-cut (c .before .before .meeting .ensures) (sym (c .before .is-cut .ensures) ∙ not-false _ (c .if1 .left))

@@ -19,7 +19,7 @@ use prog.Wp.{Heap, Env, Calls, Loops, WpFn, Tables}
 use ghost.Atoms.{Atoms}
 use contract.Monad.{Fun}
 use contract.Running.{givenOf, tables, tablesOf}
-use types.Kit.{Given, Item, ‵, atRet, runs, Sq, _$_, _∵_, !, qed, by, move, drop, group, split as parts, join}
+use types.Kit.{Given, Item, ‵, atRet, runs, Sq, _$_, _∵_, !, qed, by, move, drop, group, split as parts}
 use types.Part.{whole, sub, look-in}
 use types.Run.{look, init, stop, fld, from, load, of-opd, and-then, no-more, assigns, land, returns, enter, params1, pass1, pass0}
 use sound.WpLaws.{FmC, fmOf, WpFn-mono}
@@ -40,7 +40,7 @@ use Rattle.definitions.specs.declared.Found.{Found}
 use Rattle.definitions.proofs.Rule as Rule
 use Rattle.definitions.proofs.Found as Found
 use Rattle.definitions.proofs.Found.Laws as Found′
-use Rattle.rules.specs.Run.{progressOf, nextOf}
+use Rattle.rules.specs.Run.{progressOf, afterRun}
 use Rattle.rules.specs.declared.state.State.{State}
 use Rattle.rules.proofs.state.State as State
 use Rattle.rules.proofs.state.State.Laws as State′
@@ -108,7 +108,7 @@ module _ {M : Type 1} (𝓤 : URA M) (H : Heap 𝓤) (A : Atoms 𝓤) (W : Given
 
       -- what `begin_next` makes of the state r
       abbrev Nexts : State → Type 0
-      Nexts r = Returned State.the-type State′.the-laws (λ r′. r′ ≡ nextOf r)
+      Nexts r = Returned State.the-type State′.the-laws (λ r′. r′ ≡ afterRun r)
 
       -- the two lengths, and the answer slices as they were written again for a run
       abbrev lengths : List Content

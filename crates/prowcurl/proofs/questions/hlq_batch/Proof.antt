@@ -40,7 +40,7 @@ use Rattle.definitions.proofs.Counted as Counted
 use Rattle.definitions.proofs.Counted.Laws as Counted′
 use Rattle.batch.specs.declared.begin.State.{State}
 use Rattle.batch.proofs.begin.State as State
-use Rattle.lending.proofs.Locals.{Content, empty, holds, at, Addresses, envOf, Held, in-local, allocates, frees-all}
+use Rattle.lending.proofs.Locals.{empty, holds, at, Addresses, envOf, Held, in-local, allocates, frees-all}
 use Rattle.lending.proofs.Slices.{Slice, val, typed-slice, token, shared}
 use Rattle.lending.proofs.Reborrow.{reborrows}
 use Rattle.lending.proofs.Calling.{calls-giving}

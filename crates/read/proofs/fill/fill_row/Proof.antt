@@ -6,7 +6,7 @@ use native.Mathlib.Nat.{le-antisymm}
 use native.Mathlib.Omega.{arith}
 use lib.ListN.{length, set}
 use lib.Dec.{eqb}
-use Rattle.read.specs.Fill.{painted, inRun}
+use Rattle.read.specs.Fill.{filledBy, inRun}
 use Rattle.read.proofs.Painted.{painted-length, painted-join, painted-same, painted-none, set-painted}
 use Rattle.read.proofs.Rectangle.{run-empty, run-next}
 use Rattle.read.proofs.fill.fill_row.Statement.{statement}
@@ -15,7 +15,7 @@ use Rattle.read.proofs.fill.fill_row.Tie as tie
 record Passed (raster₀ : List ℕ) (from until feature : ℕ) (raster : List ℕ) (i : ℕ) : Type 0 where
   low : from ≤ i
   high : i ≤ until
-  done : raster ≡ painted (inRun from i) (λ j. feature) raster₀
+  done : raster ≡ filledBy (inRun from i) (λ j. feature) raster₀
 
 begins : (raster : List ℕ) (from until feature : ℕ) → from ≤ until → Passed raster from until feature raster from
 begins raster from until feature h =
@@ -32,13 +32,13 @@ module _ {raster₀ : List ℕ} {from until feature : ℕ} {raster : List ℕ} {
         low = omega arith;
         high = omega arith;
         done = set-painted feature i raster
-            ∙ ap (painted (λ j. eqb j i) (λ j. feature)) (p .done)
+            ∙ ap (filledBy (λ j. eqb j i) (λ j. feature)) (p .done)
             ∙ painted-join (inRun from i) (λ j. eqb j i) (λ j. feature) raster₀
             ∙ painted-same _ _ _ _ raster₀ (λ j. run-next from i j low) (λ j e. refl);
       }
 
-  ends : until ≤ i → raster ≡ painted (inRun from until) (λ j. feature) raster₀
-  ends h = p .done ∙ ap (λ n. painted (inRun from n) (λ j. feature) raster₀) (le-antisymm (p .high) h)
+  ends : until ≤ i → raster ≡ filledBy (inRun from until) (λ j. feature) raster₀
+  ends h = p .done ∙ ap (λ n. filledBy (inRun from n) (λ j. feature) raster₀) (le-antisymm (p .high) h)
 
 abbrev Inv-loop : tie.InvT-loop
 Inv-loop raster₀ from until feature i₀ raster i = Passed raster₀ from until feature raster i

@@ -5,7 +5,7 @@ use mathlib.Core.List.{List}
 use native.Mathlib.Nat.{le-antisymm, suc-mul, mul-le-mul-right, div-add-mod'}
 use native.Mathlib.Omega.{arith}
 use lib.ListN.{length}
-use Rattle.read.specs.Fill.{painted, inRun, rectanglePainted}
+use Rattle.read.specs.Fill.{filledBy, inRun, rectanglePainted}
 use Rattle.read.proofs.Rectangle.{rectangle-none, rectangle-row, rectangle-length}
 use Rattle.read.proofs.fill.fill_square.Statement.{statement}
 use Rattle.read.proofs.fill.fill_square.Tie as tie
@@ -49,7 +49,7 @@ module _ {raster₀ : List ℕ} {wide place side feature : ℕ} {raster : List �
         let f = p .next in
         omega arith
 
-    goes : (after : List ℕ) → after ≡ painted (inRun from (from + side)) (λ j. feature) raster → Passed raster₀ wide place side feature after (from + wide) (i + 1)
+    goes : (after : List ℕ) → after ≡ filledBy (inRun from (from + side)) (λ j. feature) raster → Passed raster₀ wide place side feature after (from + wide) (i + 1)
     goes after e =
         let f = suc-mul (place / wide + i) wide in
         let g : place / wide + (i + 1) ≡ suc (place / wide + i) = omega arith in
@@ -58,7 +58,7 @@ module _ {raster₀ : List ℕ} {wide place side feature : ℕ} {raster : List �
           high = omega arith;
           next = rw (g, f) (omega arith);
           done = e
-              ∙ ap (painted (inRun from (from + side)) (λ j. feature)) (p .done)
+              ∙ ap (filledBy (inRun from (from + side)) (λ j. feature)) (p .done)
               ∙ rectangle-row wide feature (place / wide) (place % wide) side i from raster₀ (a .2) (a .0) n;
         }
 

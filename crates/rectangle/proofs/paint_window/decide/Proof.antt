@@ -11,21 +11,21 @@ use Rattle.rectangle.proofs.paint_window.decide.Statement.{statement}
 use Rattle.rectangle.proofs.paint_window.decide.Tie as tie
 
 -- the start, from the first refusal
-abbrev start : tie.After-first-refusal → tie.Start
+abbrev start : tie.After-edit-refusal → tie.Start
 start c = c .before .before .before .before .before .before
 
 -- 1, 4, 18 and 5 are passed
 passed : (c : tie.Else1)
     → (let a = start (c .before) .args in
     FirstPassed (a .m) (a .s) (a .keys .now) (a .bits .now) (a .n) (a .summary .now) (a .log-keys .now) (a .log-values .now) (a .used) (a .in-force))
-passed c = first-passed _ (c .before .first-refusal .ensures) (c .if1 .left)
+passed c = first-passed _ (c .before .edit-refusal .ensures) (c .if1 .left)
 
 -- the window is one of the map
 good : (c : tie.Else2) → (let a = start (c .before .before .before) .args in isWindow (a .m) (a .window) ≡ true)
 good c = sym (c .before .is-window .ensures) ∙ not-false _ (c .if2 .left)
 
-first-refusal-requires : tie.Need-first-refusal-requires
-first-refusal-requires c κs = search needs
+edit-refusal-requires : tie.Need-edit-refusal-requires
+edit-refusal-requires c κs = search needs
 
 refused-requires : tie.Need-refused-requires
 refused-requires c κs = search needs
@@ -33,7 +33,7 @@ refused-requires c κs = search needs
 returns : tie.Need-returns
 returns c =
     let t = c .before in
-    window-refuses (c .refused .ensures) (window-early _ _ _ _ _ _ _ _ _ _ _ _ _ (t .before .first-refusal .ensures) (t .if1 .taken)) (t .if1 .taken)
+    window-refuses (c .refused .ensures) (window-early _ _ _ _ _ _ _ _ _ _ _ _ _ (t .before .edit-refusal .ensures) (t .if1 .taken)) (t .if1 .taken)
 
 is-window-requires : tie.Need-is-window-requires
 is-window-requires c κs = passed-settings (passed c) .deep
@@ -72,7 +72,7 @@ pub decide-spec : {M : Type 1} → statement M
 decide-spec =
     tie.close
     (tie.spec
-    first-refusal-requires
+    edit-refusal-requires
     refused-requires
     returns
     is-window-requires

@@ -1,6 +1,6 @@
 -- `need_below` meets its contract: none, the block itself, or what its quadrants need together. The height falls at each call.
-use Prim.Native.Nat.{ℕ, _-_, _+_, _^_, _≤_, _<_}
-use mathlib.Core.Path.{_≡_, sym, _∙_, ap}
+use Prim.Native.Nat.{ℕ, _-_, _+_, _≤_, _<_}
+use mathlib.Core.Path.{_≡_, ap}
 use mathlib.Core.Bool.{false}
 use native.Mathlib.Omega.{arith}
 use borrow.Fn.Kinds.{In}

@@ -1,6 +1,6 @@
 -- `log_blocks` meets its contract: nothing, the block's own entry, or the entries of the quadrants one behind the other. The height falls at each call.
-use Prim.Native.Nat.{ℕ, _+_, _≤_, _<_}
-use mathlib.Core.Path.{_≡_, sym, _∙_, ap}
+use Prim.Native.Nat.{ℕ, _+_, _<_}
+use mathlib.Core.Path.{_≡_, _∙_, ap}
 use mathlib.Core.Bool.{false}
 use mathlib.Core.List.{[], _∷_}
 use native.Mathlib.Omega.{arith}

@@ -10,14 +10,14 @@ use Rattle.redo.proofs.redo.redo.Statement.{statement}
 use Rattle.redo.proofs.redo.redo.Tie as tie
 
 -- the start, from the first refusal
-abbrev start : tie.After-first-refusal → tie.Start
+abbrev start : tie.After-edit-refusal → tie.Start
 start c = c .before .before .before .before .before .before .before .before .before .before .before
 
 -- the first rows are passed
 rows : (c : tie.Else1)
     → (let a = start (c .before) .args in
     FirstPassed (a .m) (a .s) (a .keys .now) (a .bits .now) (a .n) (a .summary .now) (a .log-keys .now) (a .log-values .now) (a .used) (a .in-force))
-rows c = first-passed _ (c .before .first-refusal .ensures) (c .if1 .left)
+rows c = first-passed _ (c .before .edit-refusal .ensures) (c .if1 .left)
 
 -- and 20 too
 redoable : (c : tie.Else2)
@@ -25,10 +25,10 @@ redoable : (c : tie.Else2)
     Redoable (a .m) (a .s) (a .keys .now) (a .bits .now) (a .n) (a .summary .now) (a .log-keys .now) (a .log-values .now) (a .used) (a .in-force))
 redoable c =
     let within = passed-log (rows (c .before)) .within in
-    record { passed = sym (c .before .before .first-refusal .ensures) ∙ c .before .if1 .left; some = let h = c .if2 .left in omega arith }
+    record { passed = sym (c .before .before .edit-refusal .ensures) ∙ c .before .if1 .left; some = let h = c .if2 .left in omega arith }
 
-first-refusal-requires : tie.Need-first-refusal-requires
-first-refusal-requires c κs = search needs
+edit-refusal-requires : tie.Need-edit-refusal-requires
+edit-refusal-requires c κs = search needs
 
 same-length : tie.Need-same-length
 same-length c = search needs
@@ -46,7 +46,7 @@ same-length-5 : tie.Need-same-length-5
 same-length-5 c = search needs
 
 returns : tie.Need-returns
-returns c = redo-refused _ _ _ _ _ _ _ _ _ _ _ (redo-early _ _ _ _ _ _ _ _ _ _ _ (c .before .first-refusal .ensures) (c .if1 .taken)) (c .if1 .taken)
+returns c = redo-refused _ _ _ _ _ _ _ _ _ _ _ (redo-early _ _ _ _ _ _ _ _ _ _ _ (c .before .edit-refusal .ensures) (c .if1 .taken)) (c .if1 .taken)
 
 same-length-6 : tie.Need-same-length-6
 same-length-6 c = search needs
@@ -91,7 +91,7 @@ pub redo-spec : {M : Type 1} → statement M
 redo-spec =
     tie.close
     (tie.spec
-    first-refusal-requires
+    edit-refusal-requires
     same-length
     same-length-2
     same-length-3

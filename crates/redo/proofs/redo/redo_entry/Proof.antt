@@ -1,8 +1,7 @@
 -- `redo::redo_entry` meets its contract: a refusal leaves all as it is; else the block is filled again, and the summary is counted anew.
-use Prim.Native.Nat.{_+_, _≤_}
+use Prim.Native.Nat.{_+_}
 use mathlib.Core.Path.{_≡_, sym, ap, _∙_}
 use native.Mathlib.Omega.{arith}
-use lib.ListN.{length}
 use Rattle.definitions.specs.Read.{recordsOf}
 use Rattle.definitions.specs.Log.{toRedo}
 use Rattle.definitions.specs.Calls.Redo.{redoRefusal}

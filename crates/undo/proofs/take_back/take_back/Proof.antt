@@ -10,17 +10,17 @@ use Rattle.undo.proofs.take_back.take_back.Statement.{statement}
 use Rattle.undo.proofs.take_back.take_back.Tie as tie
 
 -- the start, from the first refusal
-abbrev start : tie.After-first-refusal → tie.Start
+abbrev start : tie.After-edit-refusal → tie.Start
 start c = c .before .before .before .before .before .before .before .before .before .before .before
 
 -- the rows up to 11 are passed
 takeable : (c : tie.Else2)
     → (let a = start (c .before .before) .args in
     Takeable (a .m) (a .s) (a .keys .now) (a .bits .now) (a .n) (a .summary .now) (a .log-keys .now) (a .log-values .now) (a .used) (a .in-force))
-takeable c = record { passed = sym (c .before .before .first-refusal .ensures) ∙ c .before .if1 .left; some = let h = c .if2 .left in omega arith }
+takeable c = record { passed = sym (c .before .before .edit-refusal .ensures) ∙ c .before .if1 .left; some = let h = c .if2 .left in omega arith }
 
-first-refusal-requires : tie.Need-first-refusal-requires
-first-refusal-requires c κs = search needs
+edit-refusal-requires : tie.Need-edit-refusal-requires
+edit-refusal-requires c κs = search needs
 
 same-length : tie.Need-same-length
 same-length c = search needs
@@ -38,7 +38,7 @@ same-length-5 : tie.Need-same-length-5
 same-length-5 c = search needs
 
 returns : tie.Need-returns
-returns c = take-refused _ _ _ _ _ _ _ _ _ _ _ (take-early _ _ _ _ _ _ _ _ _ _ _ (c .before .first-refusal .ensures) (c .if1 .taken)) (c .if1 .taken)
+returns c = take-refused _ _ _ _ _ _ _ _ _ _ _ (take-early _ _ _ _ _ _ _ _ _ _ _ (c .before .edit-refusal .ensures) (c .if1 .taken)) (c .if1 .taken)
 
 same-length-6 : tie.Need-same-length-6
 same-length-6 c = search needs
@@ -57,7 +57,7 @@ same-length-10 c = search needs
 
 returns-2 : tie.Need-returns-2
 returns-2 c =
-    let rows = first-passed _ (c .before .before .first-refusal .ensures) (c .before .if1 .left) in
+    let rows = first-passed _ (c .before .before .edit-refusal .ensures) (c .before .if1 .left) in
     take-refused _ _ _ _ _ _ _ _ _ _ 11 (no-entry _ _ _ _ _ _ _ _ _ _ rows (c .if2 .taken)) (λ e. omega arith)
 
 take-step-back-requires : tie.Need-take-step-back-requires
@@ -85,7 +85,7 @@ pub take-back-spec : {M : Type 1} → statement M
 take-back-spec =
     tie.close
     (tie.spec
-    first-refusal-requires
+    edit-refusal-requires
     same-length
     same-length-2
     same-length-3

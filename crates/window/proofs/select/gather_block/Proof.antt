@@ -52,8 +52,8 @@ mul-if1 c = let s = c .before .before .before in omega (arith, from-there s, s .
 shared-slice-read-if1 : tie.Need-shared-slice-read-if1
 shared-slice-read-if1 c = from-there (c .before .before .before .before)
 
-write-below-requires : tie.Need-write-below-requires
-write-below-requires c κs = search needs
+write-within-requires : tie.Need-write-within-requires
+write-within-requires c κs = search needs
 
 add-result : tie.Need-add-result
 add-result c = search needs
@@ -64,7 +64,7 @@ same-length c = search needs
 returns : tie.Need-returns
 returns c =
     let pre = c .before .before .before .before .before .before .before .before .before .pre in
-    gives-one _ _ _ _ _ _ (alone-key (pre .2) (pre .1) _ _ (pre .3) (pre .4) (c .before .before .before .before .if1 .taken)) (c .before .before .write-below .ensures)
+    gives-one _ _ _ _ _ _ (alone-key (pre .2) (pre .1) _ _ (pre .3) (pre .4) (c .before .before .before .before .if1 .taken)) (c .before .before .write-within .ensures)
 
 stand-from-requires : tie.Need-stand-from-requires
 stand-from-requires c κs =
@@ -117,7 +117,7 @@ gather-block-spec =
     (tie.spec
     mul-if1
     shared-slice-read-if1
-    write-below-requires
+    write-within-requires
     add-result
     same-length
     returns

@@ -78,18 +78,18 @@ mul-if1 c = omega (arith, c .loop-test .taken, entry (c .before) .pre .1, entry 
 shared-slice-read-if1 : tie.Need-shared-slice-read-if1 Inv-loop μ-loop
 shared-slice-read-if1 c = omega (arith, c .before .loop-test .taken, entry (c .before .before) .pre .1)
 
-mul-write-below : tie.Need-mul-write-below Inv-loop μ-loop
-mul-write-below c =
+mul-write-within : tie.Need-mul-write-within Inv-loop μ-loop
+mul-write-within c =
     let goes = c .before .before .before in
     omega (arith, goes .loop-test .taken, entry (goes .before) .pre .0, entry (goes .before) .good .0 .1)
 
-shared-slice-read-write-below : tie.Need-shared-slice-read-write-below Inv-loop μ-loop
-shared-slice-read-write-below c =
+shared-slice-read-write-within : tie.Need-shared-slice-read-write-within Inv-loop μ-loop
+shared-slice-read-write-within c =
     let goes = c .before .before .before .before in
     omega (arith, goes .loop-test .taken, entry (goes .before) .pre .0)
 
-write-below-requires : tie.Need-write-below-requires Inv-loop μ-loop
-write-below-requires c κs =
+write-within-requires : tie.Need-write-within-requires Inv-loop μ-loop
+write-within-requires c κs =
     let at = c .before .before .before .before .before in
     omega (arith, entry at .pre .2, at .loop .inv .lengths)
 
@@ -131,9 +131,9 @@ gather-run-spec =
     loop-holds
     mul-if1
     shared-slice-read-if1
-    mul-write-below
-    shared-slice-read-write-below
-    write-below-requires
+    mul-write-within
+    shared-slice-read-write-within
+    write-within-requires
     add-given
     add-i
     loop-less

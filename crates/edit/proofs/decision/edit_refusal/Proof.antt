@@ -1,4 +1,4 @@
--- `decision::first_refusal` meets its contract: each way out answers what the table says there.
+-- `decision::edit_refusal` meets its contract: each way out answers what the table says there.
 use mathlib.Core.Path.{_≡_, refl, sym, ap, _∙_}
 use mathlib.Core.Bool.{Bool, true, false, not}
 use native.Mathlib.Omega.{arith}
@@ -10,8 +10,8 @@ use Rattle.list.specs.Own.{shownBy}
 use Rattle.list.proofs.Own.{own-list}
 use Rattle.list.proofs.Tests.{good-settings}
 use Rattle.edit.proofs.EditCallTables.{bad-settings, no-list, no-summary, no-log, all-passed}
-use Rattle.edit.proofs.decision.first_refusal.Statement.{statement}
-use Rattle.edit.proofs.decision.first_refusal.Tie as tie
+use Rattle.edit.proofs.decision.edit_refusal.Statement.{statement}
+use Rattle.edit.proofs.decision.edit_refusal.Tie as tie
 
 -- what the test of the summary tells, which has the answer the other way round
 told-wrong : (r bad : Bool) → r ≡ not bad → not r ≡ true → bad ≡ true
@@ -76,8 +76,8 @@ returns-5 c =
     let d = u .before .before in
     all-passed _ _ _ _ _ _ _ _ _ _ (good (d .before .before)) (listed d) (summed u) (sym (c .before .is-log .ensures) ∙ c .if4 .left)
 
-pub first-refusal-spec : {M : Type 1} → statement M
-first-refusal-spec =
+pub edit-refusal-spec : {M : Type 1} → statement M
+edit-refusal-spec =
     tie.close
     (tie.spec
     are-bad-requires
