@@ -21,7 +21,7 @@ use Rattle.build.specs.BuildBlocks.{Tallied}
 use Rattle.build.specs.declared.count.Tally.{Tally}
 use Rattle.build.proofs.CountBlock.{length-key}
 use Rattle.step.specs.Step.{Step, stepOver, plain}
-use Rattle.step.specs.Meeting.{Untouched, Replaced, MetBy, Met, isCut}
+use Rattle.step.specs.Meeting.{Untouched, ContentGiven, MetBy, Met, isCut}
 use Rattle.step.specs.declared.meeting.Meeting.{Meeting}
 use Rattle.step.specs.declared.meeting.Meeting.the-variants.{Apart, Leaf, Content, Cut}
 use Rattle.step.proofs.Pruned.{over-out}
@@ -33,7 +33,7 @@ pub untouched-agree : (t : Step) (p : Picture) (k r c : ℕ) → Untouched t k r
 untouched-agree t p k r c h a b w = sym (over-out t p a b (h a b w))
 
 -- the content that becomes its list: how many records it has, and the bits of the first
-module _ {t : Step} {ks vs : List ℕ} {k r c κ start count : ℕ} (x : Replaced t ks vs k r c κ start count) (p : Picture) where
+module _ {t : Step} {ks vs : List ℕ} {k r c κ start count : ℕ} (x : ContentGiven t ks vs k r c κ start count) (p : Picture) where
   there : start + count ≤ room ks vs
   there = omega (arith, x .in-keys, x .in-values)
 

@@ -18,7 +18,7 @@ use Rattle.log.specs.Entries.{recordsFromPlace}
 use Rattle.log.proofs.Places.{run-keys, run-values}
 use Rattle.build.specs.BuildBlocks.{Fitting, Written, below, Tallied}
 use Rattle.step.specs.Step.{Step, stepOver, plain}
-use Rattle.step.specs.Meeting.{Replaced, Met, isCut}
+use Rattle.step.specs.Meeting.{ContentGiven, Met, isCut}
 use Rattle.step.specs.declared.meeting.Meeting.{Meeting}
 use Rattle.step.specs.declared.meeting.Meeting.the-variants.{Apart, Leaf, Content, Cut}
 use Rattle.step.proofs.Meetings.{met-content}
@@ -56,7 +56,7 @@ behind-first : (l : List ℕ) (start count : ℕ) → drop 1 (take count (drop s
 behind-first l start count = drop-take 1 count (drop start l) ∙ ap (take (count - 1)) (drop-drop 1 start l)
 
 -- a content
-module _ {t : Step} {lk lv : List ℕ} {k r c κ start count : ℕ} (x : Replaced t lk lv k r c κ start count) (p : Picture) where
+module _ {t : Step} {lk lv : List ℕ} {k r c κ start count : ℕ} (x : ContentGiven t lk lv k r c κ start count) (p : Picture) where
   there : start + count ≤ room lk lv
   there = omega (arith, x .in-keys, x .in-values)
 

@@ -124,7 +124,7 @@ pub record Moved (l new : List Record) (keys bits : List ℕ) (read write : ℕ)
   pub passed : read′ + length l ≡ read
   pub wrote : Wrote new write keys bits keys′ bits′ write′
 
--- what squeezing left of a block waits to grow
+-- what shrinking left of a block waits to grow
 pub record Growing (t : Step) (p : Picture) (height row column key : ℕ) (keys bits : List ℕ) (read write : ℕ) : Type 0 where
   pub waits : Waiting key (pruned p (stepOver t p) height row column key) (length (listOf (stepOver t p) height row column key)) keys bits read write
 

@@ -1,4 +1,4 @@
--- How a block lies to a window, as it is told: by the window crate's tests of a block. Rests on LargestBlocks.
+-- How a block lies to a window, as it is told: by the walk's tests of a block. Rests on LargestBlocks.
 use Prim.Native.Nat.{ℕ, zero, suc, _+_, _-_, _^_, _<_}
 use mathlib.Core.Path.{_≡_, refl, sym, _∙_}
 use mathlib.Core.Bool.{true, false, true≢false}

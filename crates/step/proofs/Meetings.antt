@@ -19,7 +19,7 @@ use Rattle.list.proofs.OneSlot.{slot-feature}
 use Rattle.log.specs.Entries.{recordsFromPlace}
 use Rattle.build.specs.BuildBlocks.{Tallied}
 use Rattle.step.specs.Step.{Step, stepOver, plain}
-use Rattle.step.specs.Meeting.{Untouched, OneLeaf, Replaced, MetBy, Met, isCut}
+use Rattle.step.specs.Meeting.{Untouched, OneLeaf, ContentGiven, MetBy, Met, isCut}
 use Rattle.step.specs.declared.meeting.Meeting.{Meeting}
 use Rattle.step.specs.declared.meeting.Meeting.the-variants.{Apart, Leaf, Content, Cut}
 use Rattle.step.proofs.Pruned.{over-in}
@@ -50,7 +50,7 @@ plain-bits f k r c = sym (bits-one (plain f) k r c (one-from (plain f) f k r c (
 
 -- a list that stands in the log
 pub covers-list : (t : Step) (q : Picture) {ks vs : List ℕ} {k r c κ start count : ℕ} → Covers t q k r c → 1 < count → start + count ≤ length ks → start + count ≤ length vs
-    → recordsFromPlace ks vs start count ≡ listOf q k r c κ → Replaced t ks vs k r c κ start count
+    → recordsFromPlace ks vs start count ≡ listOf q k r c κ → ContentGiven t ks vs k r c κ start count
 covers-list t q {k = k} {r} {c} {κ} h several i j e = record {
   several = several;
   in-keys = i;
@@ -90,7 +90,7 @@ module _ {t : Step} {ks vs : List ℕ} {k r c κ : ℕ} {meeting : Meeting} (x :
   pub met-apart : meeting ≡ Apart → Untouched t k r c
   met-apart e = subst (MetBy t ks vs k r c κ) e (x .told)
 
-  pub met-content : {start count : ℕ} → meeting ≡ Content start count → Replaced t ks vs k r c κ start count
+  pub met-content : {start count : ℕ} → meeting ≡ Content start count → ContentGiven t ks vs k r c κ start count
   met-content e = subst (MetBy t ks vs k r c κ) e (x .told)
 
   pub met-cut : isCut meeting ≡ true → 0 < k

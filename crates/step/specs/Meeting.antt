@@ -28,7 +28,7 @@ abbrev pub OneLeaf : (t : Step) (height row column bits : ℕ) → Type 0
 OneLeaf t height row column bits = (p : Picture) → Tallied (stepOver t p) height row column bits 1
 
 -- its list becomes the records of the log from a place on, two or more
-pub record Replaced (t : Step) (logKeys logValues : List ℕ) (height row column key start count : ℕ) : Type 0 where
+pub record ContentGiven (t : Step) (logKeys logValues : List ℕ) (height row column key start count : ℕ) : Type 0 where
   pub several : 1 < count
   pub in-keys : start + count ≤ length logKeys
   pub in-values : start + count ≤ length logValues
@@ -38,7 +38,7 @@ pub record Replaced (t : Step) (logKeys logValues : List ℕ) (height row column
 abbrev pub MetBy : (t : Step) (logKeys logValues : List ℕ) (height row column key : ℕ) → Meeting → Type 0
 MetBy t ks vs height row column key Apart = Untouched t height row column
 MetBy t ks vs height row column key (Leaf bits) = OneLeaf t height row column bits
-MetBy t ks vs height row column key (Content start count) = Replaced t ks vs height row column key start count
+MetBy t ks vs height row column key (Content start count) = ContentGiven t ks vs height row column key start count
 MetBy t ks vs height row column key Cut = 0 < height
 
 pub record Met (t : Step) (logKeys logValues : List ℕ) (height row column key : ℕ) (meeting : Meeting) : Type 0 where

@@ -1,4 +1,4 @@
--- `window_blocks::lies` meets its contract: by the window crate's tests of a block.
+-- `window_blocks::lies` meets its contract: by the walk's tests of a block.
 use mathlib.Core.Path.{sym, _∙_}
 use borrow.Author.Needs.{needs}
 use Rattle.rectangle.proofs.WindowLies.{small, lies-apart, lies-within, lies-cut}
