@@ -27,10 +27,9 @@ pub not-from : (m outer inner : ℕ) → inner < outer → false ≡ inInterval 
 unfolding inInterval
 not-from m outer inner h = rw (lt-leb outer inner h)
 
-pub from-so : (m outer inner step height : ℕ) → outer ≤ inner → step ≡ 5 ^ height → height ≡ heightOf m outer → ltb (inner - outer) step ≡ inInterval m outer inner
+pub from-so : (m outer inner step : ℕ) → outer ≤ inner → step ≡ 5 ^ heightOf m outer → ltb (inner - outer) step ≡ inInterval m outer inner
 unfolding inInterval
-from-so m outer inner step height h e f =
-    let g : step ≡ 5 ^ heightOf m outer = e ∙ ap (λ x. 5 ^ x) f in
+from-so m outer inner step h e =
     rw (le-leb outer inner h)
     (split inner (outer + 5 ^ heightOf m outer)
     (λ lt. lt-ltb (inner - outer) step (omega arith) ∙ sym (lt-ltb inner (outer + 5 ^ heightOf m outer) lt))
@@ -129,7 +128,7 @@ module _ {m start end : ℕ} {ks vs : List ℕ} (d : Between m start end ks vs) 
   turn-held κ = subst (λ x. inInterval m (x .key) κ ≡ true → Held x ks vs κ) (sym found) (last-held (run-ends d some))
 
   pub turn-asking : (κ : ℕ) → Asking m e ks vs κ
-  turn-asking κ = record { slot = turn-slot; held = turn-held κ }
+  turn-asking κ = record { valid = turn-valid; slot = turn-slot; held = turn-held κ }
 
   -- the first decides: it has met the block, and those before it are left
   pub first-turns : (answer answer′ : Meeting) (κ : ℕ) (gives : Entry → Meeting) {whole : Meeting}

@@ -6,7 +6,7 @@ use mathlib.Core.Bool.{Bool, true, false, cond, _||_, _&&_}
 use mathlib.Core.List.{List, [], _∷_, map}
 use lib.ListN.{length, getD}
 use lib.Dec.{leb, eqb}
-use Rattle.keys.specs.Key.{heightOf, slotLimit}
+use Rattle.keys.specs.Key.{heightOf, validKey, slotLimit}
 use Rattle.keys.specs.Block.{inBlock, inInterval}
 use Rattle.definitions.specs.Picture.{Picture}
 use Rattle.definitions.specs.List.{Record, valuesOf}
@@ -132,8 +132,9 @@ pub record Held (e : Entry) (logKeys logValues : List ℕ) (κ : ℕ) : Type 0 w
   pub in-values : e .start + e .count ≤ length logValues
   pub sorted : Sorted (contentPart e logKeys) (e .count) κ
 
--- what an entry can be asked of a block with the key κ: its feature is a slot's, and where its block holds the other, its content is there
+-- what an entry can be asked of a block with the key κ: its key is valid, its feature is a slot's, and where its block holds the other, its content is there
 pub record Asking (m : ℕ) (e : Entry) (logKeys logValues : List ℕ) (κ : ℕ) : Type 0 where
+  pub valid : validKey m (e .key) ≡ true
   pub slot : e .feature ≤ 31
   pub held : inInterval m (e .key) κ ≡ true → Held e logKeys logValues κ
 

@@ -4,6 +4,7 @@ ghost use mathlib.Core.Path.{_≡_};
 ghost use mathlib.Core.Bool.{true};
 ghost use Prim.Native.Nat.{_≤_, _<_};
 ghost use lib.ListN.{length};
+ghost use Rattle.keys.specs.Key.{validKey};
 ghost use Rattle.keys.specs.Block.{inInterval};
 ghost use Rattle.step.specs.Runs.{EntriesIn, Held, Asking, backBits, wholeOf, givenBy, metBy, meetingBy, lastOfRun, firstOfRun};
 ghost use Rattle.step.specs.Runs.{backStep, againStep};
@@ -11,7 +12,7 @@ ghost use Rattle.step.specs.declared.meeting.Meeting.the-variants.{Apart
 ghost use Rattle.step.specs.Meeting.{BlockAsked, Met};
 use crate::meeting::Meeting;
 use crate::run::Run;
-use keys::Key;
+use crate::span;
 use keys::power;
 use list::check;
 use list::standing;
@@ -20,14 +21,13 @@ use log::entry::Entry;
 
 // The block with the first key is the one with the second, or holds it.
 fn holds(m: u32, outer: u32, inner: u32) -> bool
-    requires { ⌜ m ≤ 10 ⌝ }
+    requires { ⌜ (m ≤ 10) × (validKey m outer ≡ true) ⌝ }
     ensures { λ r. ⌜ r ≡ inInterval m outer inner ⌝ }
 {
     if inner < outer {
         return false;
     }
-    let step = power::power_of_five(Key { number: outer }.height(m));
-    inner - outer < step
+    inner - outer < span::keys_in(m, outer)
 }
 
 // The bits of a block in the content of an entry whose block holds it.
@@ -83,7 +83,7 @@ fn met(
     key: u32,
     others: Meeting,
 ) -> Meeting
-    requires { ⌜ (m ≤ 10) × Asking m asked (now «log_keys») (now «log_values») key ⌝ }
+    requires { ⌜ (m ≤ 10) × (validKey m key ≡ true) × Asking m asked (now «log_keys») (now «log_values») key ⌝ }
     ensures { λ r. ⌜ r ≡ metBy m key (givenBy true (now («log_keys» .entry)) (now («log_values» .entry)) key) asked others ⌝ }
 {
     if holds(m, asked.key, key) {
@@ -98,7 +98,7 @@ fn met(
 // What a run makes of a block where the last entry decides that is not apart from it. Where the entries are ordered, none before one that ends before
 // the block has to be asked.
 fn by_last(back: bool, run: Run, log_keys: &[u32], log_values: &[u32], m: u32, key: u32) -> Meeting
-    requires { ⌜ (m ≤ 10) × EntriesIn m run (now «log_keys») (now «log_values») ⌝ }
+    requires { ⌜ (m ≤ 10) × (validKey m key ≡ true) × EntriesIn m run (now «log_keys») (now «log_values») ⌝ }
     ensures { λ r. ⌜ r ≡ meetingBy m Apart key (givenBy back (now («log_keys» .entry)) (now («log_values» .entry)) key) (lastOfRun run (now («log_keys» .entry)) (now («log_values» .entry))) ⌝ }
 {
     let start = run.start;
@@ -121,7 +121,7 @@ fn by_last(back: bool, run: Run, log_keys: &[u32], log_values: &[u32], m: u32, k
 
 // The same where the first entry decides: what the later ones make of the block is what the earlier ones leave where they are apart from it.
 fn by_first(run: Run, log_keys: &[u32], log_values: &[u32], m: u32, key: u32) -> Meeting
-    requires { ⌜ (m ≤ 10) × EntriesIn m run (now «log_keys») (now «log_values») ⌝ }
+    requires { ⌜ (m ≤ 10) × (validKey m key ≡ true) × EntriesIn m run (now «log_keys») (now «log_values») ⌝ }
     ensures { λ r. ⌜ r ≡ meetingBy m Apart key (givenBy true (now («log_keys» .entry)) (now («log_values» .entry)) key) (firstOfRun run (now («log_keys» .entry)) (now («log_values» .entry))) ⌝ }
 {
     let start = run.start;

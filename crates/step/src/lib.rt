@@ -6,3 +6,4 @@ mod fill;
 pub mod meeting;
 pub mod quarters;
 pub mod run;
+mod span;

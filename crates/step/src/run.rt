@@ -4,7 +4,7 @@ ghost use mathlib.Core.Bool.{true};
 ghost use Prim.Native.Nat.{_+_, _^_, _≤_};
 ghost use Rattle.step.specs.Runs.{EntriesIn, Between, descends, lastFirst};
 ghost use Rattle.step.specs.Deed.{ShortRun};
-use keys::Key;
+use crate::span;
 use keys::power;
 use log::entry;
 
@@ -26,7 +26,7 @@ fn is_ordered(m: u32, log_keys: &[u32], log_values: &[u32], start: usize, end: u
     while start < left {
         let last = entry::last_entry(log_keys, log_values, left);
         let key = last.key;
-        let step = power::power_of_five(Key { number: key }.height(m));
+        let step = span::keys_in(m, key);
         if limit < key + step {
             return false;
         }

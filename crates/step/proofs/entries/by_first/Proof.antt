@@ -19,13 +19,13 @@ abbrev μ-loop : tie.MeasureT-loop
 μ-loop log-keys log-values m key start end₀ answer₀ end answer = end
 
 loop-holds : tie.Need-loop-holds Inv-loop μ-loop
-loop-holds c = (c .before .before .pre .1 .between, refl)
+loop-holds c = (c .before .before .pre .2 .between, refl)
 
 last-entry-requires : tie.Need-last-entry-requires Inv-loop μ-loop
 last-entry-requires c κs = run-ended (c .before .loop .inv .0) (c .loop-test .taken)
 
 met-requires : tie.Need-met-requires Inv-loop μ-loop
-met-requires c κs = (c .before .before .before .before .before .pre .0, turn-asking (c .before .before .loop .inv .0) (c .before .loop-test .taken) _ (c .last-entry .ensures) _)
+met-requires c κs = let s = c .before .before .before .before .before in (s .pre .0, s .pre .1, turn-asking (c .before .before .loop .inv .0) (c .before .loop-test .taken) _ (c .last-entry .ensures) _)
 
 loop-less : tie.Need-loop-less Inv-loop μ-loop
 loop-less c = turn-less (c .before .before .before .loop .inv .0) (c .before .before .loop-test .taken) _ (c .before .last-entry .ensures)

@@ -4,7 +4,7 @@ use borrow.Author.Tests.{ltb-true}
 use Rattle.step.specs.Runs.{EntriesIn, givenBy, meetingBy, lastFirst}
 use Rattle.step.specs.declared.meeting.Meeting.the-variants.{Apart}
 use Rattle.step.proofs.Chains.{run-ended}
-use Rattle.step.proofs.EntryTurns.{turn-less, turn-slot, turn-held, turn-entries, last-holds, last-parted, last-apart, last-stops, last-over}
+use Rattle.step.proofs.EntryTurns.{turn-less, turn-valid, turn-slot, turn-held, turn-entries, last-holds, last-parted, last-apart, last-stops, last-over}
 use Rattle.step.proofs.entries.by_last.Statement.{statement}
 use Rattle.step.proofs.entries.by_last.Tie as tie
 
@@ -18,13 +18,13 @@ abbrev μ-loop : tie.MeasureT-loop
 μ-loop back run log-keys log-values m key start end₀ end = end
 
 loop-holds : tie.Need-loop-holds Inv-loop μ-loop
-loop-holds c = (c .before .before .pre .1, refl)
+loop-holds c = (c .before .before .pre .2, refl)
 
 last-entry-requires : tie.Need-last-entry-requires Inv-loop μ-loop
 last-entry-requires c κs = run-ended (c .before .loop .inv .0 .between) (c .loop-test .taken)
 
 holds-requires : tie.Need-holds-requires Inv-loop μ-loop
-holds-requires c κs = c .before .before .before .before .before .pre .0
+holds-requires c κs = (c .before .before .before .before .before .pre .0, turn-valid (c .before .before .loop .inv .0 .between) (c .before .loop-test .taken) _ (c .last-entry .ensures))
 
 given-requires : tie.Need-given-requires Inv-loop μ-loop
 given-requires c κs =
@@ -41,7 +41,7 @@ returns c =
     c .given .ensures ∙ (last-holds (i .0 .between) t _ f _ _ _ (sym (c .before .before .holds .ensures) ∙ c .before .if1 .taken) ∙ i .1)
 
 holds-requires-2 : tie.Need-holds-requires-2 Inv-loop μ-loop
-holds-requires-2 c κs = c .before .before .before .before .before .before .before .pre .0
+holds-requires-2 c κs = let s = c .before .before .before .before .before .before .before in (s .pre .0, s .pre .1)
 
 returns-2 : tie.Need-returns-2 Inv-loop μ-loop
 returns-2 c =

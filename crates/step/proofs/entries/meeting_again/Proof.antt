@@ -1,11 +1,11 @@
 -- `meeting_again` meets its contract.
-use borrow.Author.Needs.{needs}
+use Rattle.keys.proofs.Valid.{block-valid}
 use Rattle.step.proofs.ByEntries.{again-by-last}
 use Rattle.step.proofs.entries.meeting_again.Statement.{statement}
 use Rattle.step.proofs.entries.meeting_again.Tie as tie
 
 by-last-requires : tie.Need-by-last-requires
-by-last-requires c κs = search needs
+by-last-requires c κs = let s = c .before .before in (s .pre .1 .deep, block-valid (s .pre .1 .block) .valid, s .pre .0)
 
 returns : tie.Need-returns
 returns c = let s = c .before .before .before in again-by-last (s .pre .0) (s .pre .1) (c .by-last .ensures)

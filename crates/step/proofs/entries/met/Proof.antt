@@ -9,7 +9,7 @@ holds-requires : tie.Need-holds-requires
 holds-requires c κs = search needs
 
 given-requires : tie.Need-given-requires
-given-requires c κs = let s = c .before .before .before .before in (s .pre .1 .slot, s .pre .1 .held (sym (c .before .holds .ensures) ∙ c .if1 .taken))
+given-requires c κs = let s = c .before .before .before .before in (s .pre .2 .slot, s .pre .2 .held (sym (c .before .holds .ensures) ∙ c .if1 .taken))
 
 returns : tie.Need-returns
 returns c = c .given .ensures ∙ met-holds _ _ _ _ _ (sym (c .before .before .holds .ensures) ∙ c .before .if1 .taken)

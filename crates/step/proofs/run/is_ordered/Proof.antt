@@ -1,12 +1,11 @@
 -- `is_ordered` meets its contract: after each turn the entries descend exactly when those that are left do.
 use Prim.Native.Nat.{_^_}
-use mathlib.Core.Path.{_≡_, _∙_, ap}
+use mathlib.Core.Path.{_≡_, _∙_}
 use native.Mathlib.Omega.{arith}
-use Rattle.keys.proofs.Powers.{height-le}
 use Rattle.keys.proofs.Powers.{five-le}
 use Rattle.step.specs.Runs.{Between, descends, lastFirst}
 use Rattle.step.proofs.Chains.{run-ended}
-use Rattle.step.proofs.EntryTurns.{limit-is, turn-less, turn-rest, turn-within, descends-on, descends-not, descends-over}
+use Rattle.step.proofs.EntryTurns.{limit-is, turn-less, turn-rest, turn-valid, turn-within, descends-on, descends-not, descends-over}
 use Rattle.step.proofs.run.is_ordered.Statement.{statement}
 use Rattle.step.proofs.run.is_ordered.Tie as tie
 
@@ -27,45 +26,39 @@ loop-holds c = (c .before .before .before .pre .1, limit-is _ _ _ (c .power-of-f
 last-entry-requires : tie.Need-last-entry-requires Inv-loop μ-loop
 last-entry-requires c κs = run-ended (c .before .loop .inv .0) (c .loop-test .taken)
 
-height-requires : tie.Need-height-requires Inv-loop μ-loop
-height-requires c κs = c .before .before .before .before .before .before .pre .0
-
-power-of-five-requires-2 : tie.Need-power-of-five-requires-2 Inv-loop μ-loop
-power-of-five-requires-2 c κs =
-    let s = c .before .before .before .before .before .before .before in
-    let h = height-le (s .args .m) (c .before .last-entry .result .key) in
-    let e = c .height .ensures in
-    omega (arith, s .pre .0)
+keys-in-requires : tie.Need-keys-in-requires Inv-loop μ-loop
+keys-in-requires c κs =
+    (c .before .before .before .before .before .before .pre .0, turn-valid (c .before .before .loop .inv .0) (c .before .loop-test .taken) _ (c .last-entry .ensures))
 
 add-if1 : tie.Need-add-if1 Inv-loop μ-loop
 add-if1 c =
-    let s = c .before .before .before .before .before .before .before .before in
-    let i = c .before .before .before .before .loop .inv in
-    let w = turn-within (i .0) (c .before .before .before .loop-test .taken) _ (c .before .before .last-entry .ensures) in
-    let step = c .power-of-five2 .ensures ∙ ap (λ x. 5 ^ x) (c .before .height .ensures) in
+    let s = c .before .before .before .before .before .before .before in
+    let i = c .before .before .before .loop .inv in
+    let w = turn-within (i .0) (c .before .before .loop-test .taken) _ (c .before .last-entry .ensures) in
+    let step = c .keys-in .ensures in
     let small = five-le 10 (s .pre .0) in
     record { fits = omega arith }
 
 returns : tie.Need-returns Inv-loop μ-loop
 returns c =
-    let i = c .before .before .before .before .before .loop .inv in
-    let step = c .before .power-of-five2 .ensures ∙ ap (λ x. 5 ^ x) (c .before .before .height .ensures) in
+    let i = c .before .before .before .before .loop .inv in
+    let step = c .before .keys-in .ensures in
     let past = c .if1 .taken in
-    descends-not (i .0) (c .before .before .before .before .loop-test .taken) _ (c .before .before .before .last-entry .ensures) _ (omega arith) ∙ i .1
+    descends-not (i .0) (c .before .before .before .loop-test .taken) _ (c .before .before .last-entry .ensures) _ (omega arith) ∙ i .1
 
 loop-less : tie.Need-loop-less Inv-loop μ-loop
 loop-less c =
-    let i = c .before .before .before .before .before .loop .inv in
-    let t = c .before .before .before .before .loop-test .taken in
-    let f = c .before .before .before .last-entry .ensures in
+    let i = c .before .before .before .before .loop .inv in
+    let t = c .before .before .before .loop-test .taken in
+    let f = c .before .before .last-entry .ensures in
     turn-less (i .0) t _ f
 
 loop-again : tie.Need-loop-again Inv-loop μ-loop
 loop-again c =
-    let i = c .before .before .before .before .before .loop .inv in
-    let t = c .before .before .before .before .loop-test .taken in
-    let f = c .before .before .before .last-entry .ensures in
-    let step = c .before .power-of-five2 .ensures ∙ ap (λ x. 5 ^ x) (c .before .before .height .ensures) in
+    let i = c .before .before .before .before .loop .inv in
+    let t = c .before .before .before .loop-test .taken in
+    let f = c .before .before .last-entry .ensures in
+    let step = c .before .keys-in .ensures in
     let past = c .if1 .left in
     (turn-rest (i .0) t _ f, descends-on (i .0) t _ f _ (omega arith) ∙ i .1)
 
@@ -81,8 +74,7 @@ is-ordered-spec =
     power-of-five-requires
     loop-holds
     last-entry-requires
-    height-requires
-    power-of-five-requires-2
+    keys-in-requires
     add-if1
     returns
     loop-less
