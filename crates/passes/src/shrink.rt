@@ -133,11 +133,12 @@ fn shrink_own(
 {
     keys[place] = key;
     bits[place] = union;
+    let alone = place + 1;
     if check::has_one_slot(union) {
         return Shrunk {
             bits: union,
             next,
-            place: place + 1,
+            place: alone,
         };
     }
     Shrunk {

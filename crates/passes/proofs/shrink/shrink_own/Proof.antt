@@ -17,11 +17,11 @@ mul-bits c = search needs
 slice-write-bits : tie.Need-slice-write-bits
 slice-write-bits c = search needs
 
+add-alone : tie.Need-add-alone
+add-alone c = search needs
+
 has-one-slot-requires : tie.Need-has-one-slot-requires
 has-one-slot-requires c κs = search needs
-
-add-alone : tie.Need-add-t12
-add-alone c = search needs
 
 same-length : tie.Need-same-length
 same-length c = search needs
@@ -49,8 +49,8 @@ shrink-own-spec =
     slice-write-keys
     mul-bits
     slice-write-bits
-    has-one-slot-requires
     add-alone
+    has-one-slot-requires
     same-length
     same-length-2
     returns
