@@ -3,17 +3,25 @@ ghost use mathlib.Core.Path.{_≡_};
 ghost use Prim.Native.Nat.{_≤_, _^_};
 ghost use lib.Dec.{ltb};
 
+// Twelve powers are all that keys need, so they are told and not worked out: the compiler makes a table of them.
 pub fn power_of_five(height: u32) -> u32
     requires { ⌜ height ≤ 11 ⌝ }
     ensures { λ r. ⌜ r ≡ 5 ^ height ⌝ }
 {
-    let mut power = 1;
-    let mut i = 0;
-    while i < height {
-        power = power * 5;
-        i += 1;
+    match height {
+        0 => 1,
+        1 => 5,
+        2 => 25,
+        3 => 125,
+        4 => 625,
+        5 => 3125,
+        6 => 15625,
+        7 => 78125,
+        8 => 390625,
+        9 => 1953125,
+        10 => 9765625,
+        _ => 48828125,
     }
-    power
 }
 
 pub fn power_of_two(height: u32) -> u32

@@ -31,10 +31,6 @@ pub chain-ends : {m s : ℕ} {ks vs : List ℕ} {start end : ℕ} → Chain m s 
 chain-ends done h = absurd (omega arith)
 chain-ends (more some a b e rest) h = record { in-keys = a; in-values = b; ends = e; rest = rest }
 
-pub chain-order : {m s : ℕ} {ks vs : List ℕ} {start end : ℕ} → Chain m s ks vs start end → start ≤ end
-chain-order done = le-refl _
-chain-order (more some a b e rest) = omega arith
-
 module _ {m s : ℕ} {ks vs : List ℕ} {start end : ℕ} (e : Ends m s ks vs start end) where
   pub ends-ended : Ended ks vs end
   ends-ended =

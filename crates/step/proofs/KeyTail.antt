@@ -1,14 +1,14 @@
 -- The zeros at the end of a valid key are its height, found digit by digit from the right. Rests on the keys' laws of parents.
 use Prim.Native.Nat.{ℕ, suc, _+_, _-_, _*_, _/_, _%_, _^_, _≤_, _<_}
 use mathlib.Core.Bool.{true}
-use mathlib.Core.Path.{_≡_, refl, sym, ap, _∙_}
+use mathlib.Core.Path.{_≡_, sym, ap, _∙_}
 use native.Mathlib.Nat.{pow-suc, add-mul, mul-assoc}
 use native.Mathlib.Omega.{arith}
 use Rattle.keys.specs.Key.{validKey, heightOf}
-use Rattle.keys.specs.Under.{Block, Quadrant, is-nw, is-ne, is-sw, is-se}
+use Rattle.keys.specs.Under.{Block}
 use Rattle.keys.proofs.Cases.{split}
 use Rattle.keys.proofs.Parent.{parent-cases}
-use Rattle.keys.proofs.ParentKey.{Digit, multiple}
+use Rattle.keys.proofs.ParentKey.{digit-of, multiple}
 use Rattle.keys.proofs.Powers.{height-le, five-le}
 use Rattle.keys.proofs.Valid.{valid-block}
 
@@ -18,13 +18,6 @@ pub record Tail (m κ height digits : ℕ) : Type 0 where
   pub times : ℕ
   pub is : digits ≡ times * 5 ^ (heightOf m κ - height)
   pub own : heightOf m κ < m → times % 5 ≡ 0 → ⊥
-
--- a quadrant's key is its parent's child
-digit-of : {k r c κ r′ c′ κ′ : ℕ} → Quadrant k r c κ r′ c′ κ′ → Digit k κ κ′
-digit-of is-nw = record { digit = 1; least = omega arith; most = omega arith; key = refl }
-digit-of is-ne = record { digit = 2; least = omega arith; most = omega arith; key = refl }
-digit-of is-sw = record { digit = 3; least = omega arith; most = omega arith; key = refl }
-digit-of is-se = record { digit = 4; least = omega arith; most = omega arith; key = refl }
 
 -- a key is its own digit and the digits above it, and then zeros
 record Whole (m k κ : ℕ) : Type 0 where
