@@ -8,7 +8,7 @@ use lib.Dec.{leb, ltb, eqb}
 use borrow.Author.Tests.{le-leb, lt-leb, lt-ltb, le-ltb}
 use Rattle.keys.specs.Block.{pixelKey}
 use Rattle.keys.proofs.Cases.{decide, split}
-use Rattle.keys.specs.Under.{Block}
+use Rattle.keys.specs.Under.{MapBlock}
 use Rattle.keys.proofs.Pixel.{InSquare, inside, back, pixelKey-lt}
 use Rattle.definitions.specs.Picture.{Picture}
 use Rattle.definitions.specs.Window.{isWindow, inWindow}
@@ -81,7 +81,7 @@ module _ (m : ℕ) (p : Picture) (w : Window) (f : ℕ) where
       (λ low. let a = within-low x y r c low in let b = none-from y r c low in omega arith)
       (λ past. let a = within-past x y r c past in let b = one-from y r c past in let d = one-from x r c (omega arith) in omega arith)
 
-  module _ {k r c κ : ℕ} (b : Block m k r c κ) where
+  module _ {k r c κ : ℕ} (b : MapBlock m k r c κ) where
     -- nothing of it lies outside the block
     only-block : (row column : ℕ) → InSquare m 0 0 row column → (InSquare k r c row column → ⊥) → oneWithin κ (κ + 5 ^ k) row column ≡ 0
     only-block row column i out =

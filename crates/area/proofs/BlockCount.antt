@@ -15,12 +15,12 @@ use Rattle.keys.proofs.Valid.{block-valid}
 use Rattle.definitions.specs.Picture.{Picture, oneFeature}
 use Rattle.definitions.specs.Area.{pixelsWith, summaryOf}
 use Rattle.laws.proofs.PixelSums.{squared}
-use Rattle.walk.specs.Walk.{Stands}
+use Rattle.walk.specs.Walk.{BlockSpot}
 use Rattle.walk.specs.declared.Spot.{Spot}
 use Rattle.area.specs.Number.{summaryNumber}
 use Rattle.area.proofs.NumberOf.{number-count, number-room}
 
-module _ {m : ℕ} {t : Spot} (h : Stands m t) where
+module _ {m : ℕ} {t : Spot} (h : BlockSpot m t) where
   -- no side is more than that of the largest raster
   pub side-most : m ≤ 10 → t .side ≤ 1024
   side-most deep = let v = within (h .block) in let two = two-le 10 deep in omega (arith, h .side)

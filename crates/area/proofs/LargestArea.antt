@@ -9,7 +9,7 @@ use lib.Dec.{eqb}
 use Rattle.keys.specs.Key.{heightOf, childKey}
 use Rattle.keys.specs.Block.{rowOf, columnOf}
 use Rattle.keys.proofs.Cases.{decide}
-use Rattle.keys.specs.Under.{here, nw, ne, sw, se, Block}
+use Rattle.keys.specs.Under.{here, nw, ne, sw, se, MapBlock}
 use Rattle.keys.proofs.Under.{under-trans}
 use Rattle.keys.proofs.Valid.{block-valid}
 use Rattle.definitions.specs.Picture.{Picture}
@@ -42,7 +42,7 @@ module _ (m : ℕ) (p : Picture) (f : ℕ) where
 
   module _ (w : Window) where
     -- a block that lies wholly in the window has its own count of the feature
-    whole : {k r c κ : ℕ} → Block m k r c κ → isGiven blank w 0 k r c ≡ true → featurePixels (κ ∷ []) ≡ sumPixels (oneInside p w f) k r c
+    whole : {k r c κ : ℕ} → MapBlock m k r c κ → isGiven blank w 0 k r c ≡ true → featurePixels (κ ∷ []) ≡ sumPixels (oneInside p w f) k r c
     unfolding featurePixels
     whole {k} {r} {c} {κ} b e =
         let i = block-valid b in
@@ -58,7 +58,7 @@ module _ (m : ℕ) (p : Picture) (f : ℕ) where
         (λ inside. absurd (let z : _≡_ {A = ℕ} 0 1 = cc in omega arith))
         (λ outside. sym (sum-zero (oneInside p w f) r c ∙ ap (λ x. cond (x && eqb (p r c) f) 1 0) outside))
 
-    under : (k : ℕ) {r c κ : ℕ} → Block m k r c κ → featurePixels (selectFrom blank w 0 k r c κ) ≡ sumPixels (oneInside p w f) k r c
+    under : (k : ℕ) {r c κ : ℕ} → MapBlock m k r c κ → featurePixels (selectFrom blank w 0 k r c κ) ≡ sumPixels (oneInside p w f) k r c
     unfolding selectFrom
     under zero {r} {c} b =
         decide (isGiven blank w 0 zero r c)

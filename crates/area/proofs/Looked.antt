@@ -8,7 +8,7 @@ use lib.ListN.{getD, take}
 use Rattle.definitions.specs.Bits.{hasSlot}
 use Rattle.list.specs.Own.{OwnList, shownBy}
 use Rattle.list.specs.Among.{placeAmong}
-use Rattle.walk.specs.Walk.{Stands}
+use Rattle.walk.specs.Walk.{BlockSpot}
 use Rattle.walk.specs.declared.Spot.{Spot}
 use Rattle.walk.proofs.Asked.{asked-place}
 use Rattle.walk.proofs.SpotBits.{bitsAt}
@@ -20,7 +20,7 @@ module _
     {n : ℕ}
     (o : OwnList m keys bits n)
     {s : Spot}
-    (h : Stands m s)
+    (h : BlockSpot m s)
     (f bit : ℕ)
     (is : bit ≡ 2 ^ f)
     (place : ℕ)

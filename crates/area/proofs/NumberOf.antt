@@ -10,13 +10,13 @@ use Rattle.keys.specs.Key.{childKey, heightOf}
 use Rattle.keys.specs.Block.{rowOf, columnOf}
 use Rattle.keys.proofs.Cases.{split}
 use Rattle.keys.proofs.Powers.{five-pos, two-pos, two-le}
-use Rattle.keys.specs.Under.{Under, here, nw, ne, sw, se, Block}
+use Rattle.keys.specs.Under.{Under, here, nw, ne, sw, se, MapBlock}
 use Rattle.keys.proofs.Interval.{within}
 use Rattle.keys.proofs.Valid.{block-valid}
 use Rattle.definitions.specs.Picture.{Picture}
 use Rattle.definitions.specs.Area.{pixelsWith, summaryLevel, summaryHeight, summaryOf, keyBelow, blockKey}
 use Rattle.laws.proofs.SummaryOf.{summary-length, summary-place}
-use Rattle.walk.specs.Walk.{Stands}
+use Rattle.walk.specs.Walk.{BlockSpot}
 use Rattle.walk.specs.declared.Spot.{Spot}
 use Rattle.area.specs.Number.{summaryNumber}
 
@@ -49,7 +49,7 @@ record Digits (k κ : ℕ) : Type 0 where
 joined : (i j u : ℕ) → 0 + i * (u * 5) + j * u ≡ (i * 5 + j) * u
 joined i j u = rw (add-mul (i * 5) j u, mul-assoc i 5 u, mul-comm 5 u) (omega arith)
 
-two-digits : {k r c κ : ℕ} → Block (suc (suc k)) k r c κ → Digits k κ
+two-digits : {k r c κ : ℕ} → MapBlock (suc (suc k)) k r c κ → Digits k κ
 two-digits {k} b =
     let x = below b (omega arith) in
     let y = below (x .under) (omega arith) in
@@ -113,7 +113,7 @@ pub record Read (key step : ℕ) : Type 0 where
   pub second-from : 1 ≤ key / step % 5
   pub second-to : key / step % 5 ≤ 4
 
-module _ {m : ℕ} {t : Spot} (h : Stands m t) (level : t .side * 4 ≡ 2 ^ m) where
+module _ {m : ℕ} {t : Spot} (h : BlockSpot m t) (level : t .side * 4 ≡ 2 ^ m) where
   two-down : m ≡ suc (suc (h .height))
   two-down = four-sides m (h .height) (ap (λ x. x * 4) (sym (h .side)) ∙ level)
 

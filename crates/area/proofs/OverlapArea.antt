@@ -18,7 +18,7 @@ use Rattle.laws.proofs.WindowScan.{inside-window, window-inside}
 use Rattle.laws.proofs.PixelSums.{sumRow, sumRows, sumPixels, sum-block, sum-same, InPart, rows-same, rows-cut, columns-cut}
 use Rattle.laws.proofs.CountOf.{oneAt, pixels-sum}
 use Rattle.laws.proofs.AreaOf.{oneInside}
-use Rattle.walk.specs.Walk.{Stands, isApart, isWithin}
+use Rattle.walk.specs.Walk.{BlockSpot, isApart, isWithin}
 use Rattle.walk.specs.declared.Spot.{Spot}
 use Rattle.walk.proofs.Lies.{InSpot, not-apart, apart-pixel, within-pixel}
 use Rattle.walk.proofs.SpotBits.{bitsAt, no-slot-pixel, whole-pixel}
@@ -97,7 +97,7 @@ module _ (first side start length : ℕ) where
   in-common : (a : ℕ) → InRun first side a → InRun start length a → InRun (first + before first start) (common first side start length) a
   in-common a i j = omega arith
 
-module _ (p : Picture) (w : Window) (f : ℕ) {m : ℕ} {s : Spot} (h : Stands m s) where
+module _ (p : Picture) (w : Window) (f : ℕ) {m : ℕ} {s : Spot} (h : BlockSpot m s) where
   in-spot-of : (row column : ℕ) → InSquare (h .height) (s .row) (s .column) row column → InSpot s row column
   in-spot-of row column i = omega (arith, h .side)
 

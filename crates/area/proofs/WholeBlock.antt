@@ -24,7 +24,7 @@ use Rattle.list.proofs.OneSlot.{power-slot}
 use Rattle.list.proofs.Shown.{leaf-one, block-shown}
 use Rattle.summary.specs.Count.{NodeAt}
 use Rattle.summary.proofs.CountTurn.{shown-node}
-use Rattle.walk.specs.Walk.{Stands}
+use Rattle.walk.specs.Walk.{BlockSpot}
 use Rattle.walk.specs.declared.Spot.{Spot}
 use Rattle.area.specs.Number.{summaryNumber}
 use Rattle.area.specs.Tally.{NodeTallied, MixedAt, WholeAsked, WholeCounted}
@@ -47,7 +47,7 @@ mixed-several p f k r c has other =
     (λ several. several)
 
 -- so the bitstrings show it where its record is
-pub mixed-at : {m : ℕ} {keys bits : List ℕ} {n : ℕ} (o : OwnList m keys bits n) {s : Spot} (h : Stands m s) (f bit : ℕ) → bit ≡ 2 ^ f
+pub mixed-at : {m : ℕ} {keys bits : List ℕ} {n : ℕ} (o : OwnList m keys bits n) {s : Spot} (h : BlockSpot m s) (f bit : ℕ) → bit ≡ 2 ^ f
     → (place : ℕ) → place ≡ placeAmong (s .key) (take n keys)
     → (bitAnd (getD bits place 0) bit ≡ 0 → ⊥)
     → (getD bits place 0 ≡ bit → ⊥)
@@ -58,7 +58,7 @@ mixed-at {m} {keys} {bits} {n} o {s} h f bit is place e some other =
     let several = keyed-one h (shownBy m keys bits n) ∙ mixed in
     record { shown = rw e (block-shown o (valid-block m (s .key) (key-valid h)) several); several = several }
 
-module _ {m : ℕ} {t : Spot} (h : Stands m t) where
+module _ {m : ℕ} {t : Spot} (h : BlockSpot m t) where
   module _ {p : Picture} {bits : List ℕ} {from : ℕ} (x : MixedAt m p bits t from) where
     mixed-slots : oneSlot (getD bits from 0) ≡ false
     mixed-slots = decide (oneSlot (getD bits from 0)) (λ e. absurd (true≢false (sym (leaf-one (x .shown) e) ∙ x .several))) (λ e. e)

@@ -6,7 +6,7 @@ ghost use Rattle.keys.specs.Key.{slotLimit};
 ghost use Rattle.definitions.specs.Window.{isWindow};
 ghost use Rattle.definitions.specs.Area.{areaIn, summaryOf};
 ghost use Rattle.list.specs.Own.{OwnList, shownBy};
-ghost use Rattle.walk.specs.Walk.{Stands};
+ghost use Rattle.walk.specs.Walk.{BlockSpot};
 ghost use Rattle.area.specs.Number.{summaryNumber};
 ghost use Rattle.area.specs.Tally.{WholeAsked, WholeCounted};
 use crate::overlap;
@@ -19,7 +19,7 @@ use walk::Spot;
 
 // The number of a block of level 2 in key order, by the first two digits of its key.
 fn number_of(m: u32, block: Spot) -> u32
-    requires { ⌜ (m ≤ 10) × Stands m block × (block .side * 4 ≡ 2 ^ m) ⌝ }
+    requires { ⌜ (m ≤ 10) × BlockSpot m block × (block .side * 4 ≡ 2 ^ m) ⌝ }
     ensures { λ r. ⌜ (r ≡ summaryNumber block) × (r < 16) ⌝ }
 {
     let key = block.key;
@@ -39,7 +39,7 @@ fn block_pixels(
     block: Spot,
     feature: u32,
 ) -> u32
-    requires { ⌜ (m ≤ 10) × (s ≤ slotLimit) × (feature < s) × Stands m block × WholeAsked m s (now bits) (now summary) block from ⌝ }
+    requires { ⌜ (m ≤ 10) × (s ≤ slotLimit) × (feature < s) × BlockSpot m block × WholeAsked m s (now bits) (now summary) block from ⌝ }
     ensures { λ r. ⌜ WholeCounted m s (now (bits .entry)) (now (summary .entry)) block from feature r ⌝ }
 {
     let side = block.side;

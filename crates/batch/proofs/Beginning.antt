@@ -9,7 +9,7 @@ use Rattle.laws.proofs.First.{this, none-first, holds-first, accepted-done, acc
 use Rattle.list.specs.First.{firstRefusal}
 use Rattle.list.proofs.FirstRefusal.{refused-first, passed-first}
 use Rattle.batch.specs.Run.{answeringRefusal, answeringBegins, answeringEnds}
-use Rattle.batch.specs.declared.begin.State.{State}
+use Rattle.batch.specs.declared.begin.BatchState.{BatchState}
 
 module _ (m s : ℕ) (keys bits : List ℕ) (n questions roomRefusals roomValues : ℕ) where
   -- 1 and 4
@@ -34,14 +34,14 @@ module _ (m s : ℕ) (keys bits : List ℕ) (n questions roomRefusals roomValues
 counted : {a b b′ : ℕ} → b ≡ b′ → _≡_ {A = Counted} (record { refusal = a; count = b }) (record { refusal = a; count = b′ })
 counted {a} e i = record { refusal = a; count = e i }
 
-pub answer-done : (st : State) → st .refusal ≡ 0 → record { refusal = st .refusal; count = st .questions } ≡ answeringEnds st
+pub answer-done : (st : BatchState) → st .refusal ≡ 0 → record { refusal = st .refusal; count = st .questions } ≡ answeringEnds st
 unfolding answeringEnds
 answer-done st e = counted (sym (accepted-done _ _ e))
 
-pub answer-full : (st : State) → (st .refusal ≡ 0 → ⊥) → st .refusal ≡ 12 → record { refusal = st .refusal; count = st .questions } ≡ answeringEnds st
+pub answer-full : (st : BatchState) → (st .refusal ≡ 0 → ⊥) → st .refusal ≡ 12 → record { refusal = st .refusal; count = st .questions } ≡ answeringEnds st
 unfolding answeringEnds
 answer-full st h e = counted (sym (accepted-left _ _ h ∙ ap (λ t. cond t (st .questions) 0) (eq-eqb (st .refusal) 12 e)))
 
-pub answer-refused : (st : State) → (st .refusal ≡ 0 → ⊥) → (st .refusal ≡ 12 → ⊥) → record { refusal = st .refusal; count = 0 } ≡ answeringEnds st
+pub answer-refused : (st : BatchState) → (st .refusal ≡ 0 → ⊥) → (st .refusal ≡ 12 → ⊥) → record { refusal = st .refusal; count = 0 } ≡ answeringEnds st
 unfolding answeringEnds
 answer-refused st h k = counted (sym (accepted-left _ _ h ∙ ap (λ t. cond t (st .questions) 0) (ne-eqb (st .refusal) 12 k)))

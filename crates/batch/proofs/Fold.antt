@@ -12,19 +12,19 @@ use Rattle.definitions.specs.Calls.Batch.{refusalTo, valueTo}
 use Rattle.definitions.specs.declared.Question.{Question}
 use Rattle.laws.proofs.OneByOne.{noQuestion}
 use Rattle.batch.specs.declared.step.Reply.{Reply}
-use Rattle.batch.specs.Run.{Answering, answeringOf, at, replyOf, answered, stepOf, runOf, Ready}
+use Rattle.batch.specs.Run.{Answering, answeringOf, at, replyOf, answered, batchStep, batchRun, BatchReady}
 
 module _ (keys bits : List ℕ) where
   abbrev first : ℕ → List Question → Answering → Answering
-  first i questions p = runOf keys bits (take i questions) p
+  first i questions p = batchRun keys bits (take i questions) p
 
   -- a batch that is not refused answers, and a refused one stays
-  pub step-answers : (q : Question) (p : Answering) → p .state .refusal ≡ 0 → stepOf keys bits q p ≡ answered keys bits q p
-  unfolding stepOf
+  pub step-answers : (q : Question) (p : Answering) → p .state .refusal ≡ 0 → batchStep keys bits q p ≡ answered keys bits q p
+  unfolding batchStep
   step-answers q p e = rw (eq-eqb (p .state .refusal) 0 e)
 
-  pub step-stays : (q : Question) (p : Answering) → (p .state .refusal ≡ 0 → ⊥) → stepOf keys bits q p ≡ p
-  unfolding stepOf
+  pub step-stays : (q : Question) (p : Answering) → (p .state .refusal ≡ 0 → ⊥) → batchStep keys bits q p ≡ p
+  unfolding batchStep
   step-stays q p h = rw (ne-eqb (p .state .refusal) 0 h)
 
   -- what is left when the reply is put at its place
@@ -32,47 +32,47 @@ module _ (keys bits : List ℕ) where
       → (l v : List ℕ)
       → l ≡ set (p .refusals) (p .state .place) (reply .refusal)
       → v ≡ set (p .values) (p .state .place) (reply .value)
-      → answeringOf (at (p .state .place + 1) (p .state)) l v ≡ stepOf keys bits q p
+      → answeringOf (at (p .state .place + 1) (p .state)) l v ≡ batchStep keys bits q p
   step-put q p e reply is l v f g =
       let refusals = f ∙ ap (λ r. set (p .refusals) (p .state .place) (r .refusal)) is in
       let values = g ∙ ap (λ r. set (p .values) (p .state .place) (r .value)) is in
       (λ i. answeringOf (at (p .state .place + 1) (p .state)) (refusals i) (values i)) ∙ sym (step-answers q p e)
 
-  pub run-nil : (p : Answering) → runOf keys bits [] p ≡ p
-  unfolding runOf
+  pub run-nil : (p : Answering) → batchRun keys bits [] p ≡ p
+  unfolding batchRun
   run-nil p = refl
 
-  pub run-cons : (q : Question) (questions : List Question) (p : Answering) → runOf keys bits (q ∷ questions) p ≡ runOf keys bits questions (stepOf keys bits q p)
-  unfolding runOf
+  pub run-cons : (q : Question) (questions : List Question) (p : Answering) → batchRun keys bits (q ∷ questions) p ≡ batchRun keys bits questions (batchStep keys bits q p)
+  unfolding batchRun
   run-cons q questions p = refl
 
   -- no question yet
   pub run-none : (questions : List Question) (p : Answering) → p ≡ first 0 questions p
-  unfolding runOf
+  unfolding batchRun
   run-none questions p = refl
 
   take-next : (i : ℕ) (questions : List Question) (p : Answering) → i < length questions
-      → stepOf keys bits (getD questions i noQuestion) (first i questions p) ≡ first (suc i) questions p
-  unfolding runOf
+      → batchStep keys bits (getD questions i noQuestion) (first i questions p) ≡ first (suc i) questions p
+  unfolding batchRun
   take-next i [] p h = absurd (omega arith)
   take-next zero (q ∷ questions) p h = refl
-  take-next (suc i) (q ∷ questions) p h = take-next i questions (stepOf keys bits q p) (omega arith)
+  take-next (suc i) (q ∷ questions) p h = take-next i questions (batchStep keys bits q p) (omega arith)
 
   -- one question more
   pub run-next : (i : ℕ) (questions : List Question) (start p next : Answering) → i < length questions → p ≡ first i questions start
-      → next ≡ stepOf keys bits (getD questions i noQuestion) p
+      → next ≡ batchStep keys bits (getD questions i noQuestion) p
       → next ≡ first (i + 1) questions start
   run-next i questions start p next h is e =
-      e ∙ ap (stepOf keys bits (getD questions i noQuestion)) is ∙ take-next i questions start h ∙ ap (λ j. first j questions start) (sym (add-one i))
+      e ∙ ap (batchStep keys bits (getD questions i noQuestion)) is ∙ take-next i questions start h ∙ ap (λ j. first j questions start) (sym (add-one i))
 
   -- all questions
-  pub run-all : (questions : List Question) (p : Answering) → first (length questions) questions p ≡ runOf keys bits questions p
-  unfolding runOf
+  pub run-all : (questions : List Question) (p : Answering) → first (length questions) questions p ≡ batchRun keys bits questions p
+  unfolding batchRun
   run-all [] p = refl
-  run-all (q ∷ questions) p = run-all questions (stepOf keys bits q p)
+  run-all (q ∷ questions) p = run-all questions (batchStep keys bits q p)
 
   -- fewer questions need no more
-  pub ready-fewer : (fewer more : ℕ) (p : Answering) → fewer ≤ more → Ready keys bits more p → Ready keys bits fewer p
+  pub ready-fewer : (fewer more : ℕ) (p : Answering) → fewer ≤ more → BatchReady keys bits more p → BatchReady keys bits fewer p
   ready-fewer fewer more p h ready =
       record {
         fine = λ none. let f = ready .fine none in
@@ -83,7 +83,7 @@ module _ (keys bits : List ℕ) where
             };
       }
 
-  ready-answered : (more : ℕ) (q : Question) (p : Answering) → p .state .refusal ≡ 0 → Ready keys bits (suc more) p → Ready keys bits more (answered keys bits q p)
+  ready-answered : (more : ℕ) (q : Question) (p : Answering) → p .state .refusal ≡ 0 → BatchReady keys bits (suc more) p → BatchReady keys bits more (answered keys bits q p)
   ready-answered more q p none ready =
       let f = ready .fine none in
       let a = length-set (p .refusals) (p .state .place) (refusalTo (p .state .m) (p .state .s) keys bits (p .state .n) q) in
@@ -96,9 +96,9 @@ module _ (keys bits : List ℕ) where
         };
       }
 
-  pub ready-step : (more : ℕ) (q : Question) (p next : Answering) → next ≡ stepOf keys bits q p → Ready keys bits (suc more) p → Ready keys bits more next
+  pub ready-step : (more : ℕ) (q : Question) (p next : Answering) → next ≡ batchStep keys bits q p → BatchReady keys bits (suc more) p → BatchReady keys bits more next
   ready-step more q p next is ready =
-      subst (Ready keys bits more) (sym is)
+      subst (BatchReady keys bits more) (sym is)
       (equal (p .state .refusal) 0
-      (λ none. subst (Ready keys bits more) (sym (step-answers q p none)) (ready-answered more q p none ready))
-      (λ refused. subst (Ready keys bits more) (sym (step-stays q p refused)) (ready-fewer more (suc more) p (omega arith) ready)))
+      (λ none. subst (BatchReady keys bits more) (sym (step-answers q p none)) (ready-answered more q p none ready))
+      (λ refused. subst (BatchReady keys bits more) (sym (step-stays q p refused)) (ready-fewer more (suc more) p (omega arith) ready)))

@@ -20,10 +20,10 @@ use Rattle.laws.proofs.OneByOne.{asks-exist, asks-report}
 use Rattle.list.specs.Own.{shownBy}
 use Rattle.window.proofs.Tables.{exist-goes-on, exist-feature, exist-none}
 use Rattle.window.proofs.Answers.{report-refused, report-found, exist-refused, exist-yes, exist-no}
-use Rattle.batch.specs.Run.{Accepted, replyOf}
+use Rattle.batch.specs.Run.{AcceptedMap, replyOf}
 use Rattle.batch.specs.declared.step.Reply.{Reply}
 
-module _ (m s : ℕ) (keys bits : List ℕ) (n : ℕ) (q : Question) (w : Window) (list : Accepted m s keys bits n)
+module _ (m s : ℕ) (keys bits : List ℕ) (n : ℕ) (q : Question) (w : Window) (list : AcceptedMap m s keys bits n)
     (is : w ≡ clippedWindow m (q .row) (q .column) (q .height) (q .width)) where
   -- past 1 and 4 the window decides
   window-six : isWindow m w ≡ false → reportRefusal m s keys bits n w ≡ 6

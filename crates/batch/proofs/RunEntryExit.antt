@@ -25,9 +25,9 @@ use denote.Struct.Laws as LL
 use denote.Triple.Entry.{Args, Vals, onEntry}
 use denote.Triple.Walked.{says, Stays, stay-dropped, stay-slice, walkOf, ends-at}
 use Rattle.definitions.proofs.Question as Question
-use Rattle.batch.specs.declared.begin.State.{State}
-use Rattle.batch.proofs.begin.State as State
-use Rattle.batch.proofs.begin.State.Laws as State′
+use Rattle.batch.specs.declared.begin.BatchState.{BatchState}
+use Rattle.batch.proofs.begin.BatchState as BatchState
+use Rattle.batch.proofs.begin.BatchState.Laws as State′
 use Rattle.lending.proofs.Chains.{chain, apart, together, after-nothing}
 use Rattle.lending.proofs.Slices.{Slice, val, token, shared, mutable}
 use Rattle.lending.proofs.TwoLent.{each-answer}
@@ -43,13 +43,13 @@ stayed = (
     stay-dropped (shrSliceOf (1 ∷ []) tt (plain (λ _. u32))) yes,
     (
       stay-dropped (shrSliceOf (2 ∷ []) tt (plain (λ _. u32))) yes,
-      (stay-slice (3 ∷ []) tt (plain (λ _. u32)), (stay-slice (4 ∷ []) tt (plain (λ _. u32)), (stay-dropped (plain (λ _. State.the-row)) yes, tt))),
+      (stay-slice (3 ∷ []) tt (plain (λ _. u32)), (stay-slice (4 ∷ []) tt (plain (λ _. u32)), (stay-dropped (plain (λ _. BatchState.the-row)) yes, tt))),
     ),
   ),
 )
 
 -- the machine values of the parameters
-abbrev pub machine : Slice Question.the-row → BatchSlices → State → List Val
+abbrev pub machine : Slice Question.the-row → BatchSlices → BatchState → List Val
 machine questions S state = val questions ∷ val (S .keys) ∷ val (S .bits) ∷ val (S .refusals) ∷ val (S .values) ∷ valOf state ∷ []
 
 -- of the questions the fractured borrow is enough
@@ -60,7 +60,7 @@ sharedQuestions questions = fshr-bor (questions .κ) (λ s. arr-parts (shares Qu
 abbrev pub held : {M : Type 1} (𝓤 : URA M) → Slice Question.the-row → BatchSlices → Item 𝓤
 held 𝓤 questions S = ‵ (sharedQuestions questions) ⊛ ‵ (token questions) ⊛ ‵ (reads S) ⊛ ‵ (tokens S) ⊛ ‵ (answers S (S .refusals .x .now) (S .values .x .now))
 
-module _ {M : Type 1} (𝓤 : URA M) (H : Heap 𝓤) (A : Atoms 𝓤) (W : Given 𝓤 H A) (mem : Memory → SProp 𝓤) (run : Routine → Fun 𝓤) (questions : Slice Question.the-row) (S : BatchSlices) (state : State) where
+module _ {M : Type 1} (𝓤 : URA M) (H : Heap 𝓤) (A : Atoms 𝓤) (W : Given 𝓤 H A) (mem : Memory → SProp 𝓤) (run : Routine → Fun 𝓤) (questions : Slice Question.the-row) (S : BatchSlices) (state : BatchState) where
   abbrev lifetimes : Lfts 5
   lifetimes = (questions .κ, (S .keys .κ, (S .bits .κ, (S .refusals .κ, (S .values .κ, tt)))))
 
@@ -87,7 +87,7 @@ module _ {M : Type 1} (𝓤 : URA M) (H : Heap 𝓤) (A : Atoms 𝓤) (W : Given
 
   abbrev each-parameter : List Fml
   each-parameter = shared questions ∷ shared (S .keys) ∷ shared (S .bits)
-      ∷ mutable (S .refusals) (S .refusals .x .now) ∷ mutable (S .values) (S .values .x .now) ∷ State.the-row .own state (stateVals state) ∷ []
+      ∷ mutable (S .refusals) (S .refusals .x .now) ∷ mutable (S .values) (S .values .x .now) ∷ BatchState.the-row .own state (stateVals state) ∷ []
 
   pub enters : ent 𝓤 AtEntry (mean 𝓤 H A (held 𝓤 questions S))
   enters =
@@ -115,4 +115,4 @@ module _ {M : Type 1} (𝓤 : URA M) (H : Heap 𝓤) (A : Atoms 𝓤) (W : Given
       move ! (6 ∷ 4 ∷ 5 ∷ 1 ∷ 3 ∷ []) $ together ! each-token-at-entry $ frame ! $
       -- [0 refusals; 1 values]: of the three parameters before them there is nothing, nor of the state
       nothing ! $ move ! (1 ∷ 2 ∷ 0 ∷ []) $ together ! (mutable (S .refusals) (t .found .first) ∷ mutable (S .values) (t .found .second) ∷ ftrue ∷ []) $ after-nothing ! 3 $ frame ! $
-      owned ! State.the-row (Is State.the-row) (LL.makes State.the-type State′.the-plain 𝓤 H A) (t .found .result) _ (t .found .fits) $ done !
+      owned ! BatchState.the-row (Is BatchState.the-row) (LL.makes BatchState.the-type State′.the-plain 𝓤 H A) (t .found .result) _ (t .found .fits) $ done !

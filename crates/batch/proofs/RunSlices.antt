@@ -19,10 +19,10 @@ use denote.Builtin.{u32}
 use denote.Laws.{Is}
 use denote.Steps.{owned}
 use denote.Struct.Laws as LL
-use Rattle.batch.specs.Run.{Answering, answeringOf, Ready}
-use Rattle.batch.specs.declared.begin.State.{State}
-use Rattle.batch.proofs.begin.State as State
-use Rattle.batch.proofs.begin.State.Laws as State′
+use Rattle.batch.specs.Run.{Answering, answeringOf, BatchReady}
+use Rattle.batch.specs.declared.begin.BatchState.{BatchState}
+use Rattle.batch.proofs.begin.BatchState as BatchState
+use Rattle.batch.proofs.begin.BatchState.Laws as State′
 use Rattle.lending.proofs.Chains.{chain, apart, together}
 use Rattle.lending.proofs.Slices.{Slice, token, shared, lent, copied}
 use Rattle.lending.proofs.TwoLent.{TwoGiven, answers as answersOf}
@@ -34,14 +34,14 @@ pub record BatchSlices : Type 0 where
   pub values : Slice u32
 
 -- the machine values of a state
-abbrev pub stateVals : State → List Val
-stateVals = LL.vals State.the-type State′.the-laws
+abbrev pub stateVals : BatchState → List Val
+stateVals = LL.vals BatchState.the-type State′.the-laws
 
-abbrev pub valOf : State → Val
-valOf = LL.val State.the-type State′.the-laws
+abbrev pub valOf : BatchState → Val
+valOf = LL.val BatchState.the-type State′.the-laws
 
-pub typed-state : {M : Type 1} {𝓤 : URA M} {H : Heap 𝓤} {A : Atoms 𝓤} (W : Given 𝓤 H A) (r : State) → Is State.the-row r (stateVals r) → T (hasTy State′.mir (valOf r)) × WT (valOf r)
-typed-state {𝓤 = 𝓤} {H = H} {A = A} W r is = LL.lawful State.the-type State′.the-laws 𝓤 H A W .typed r (stateVals r) is .0
+pub typed-state : {M : Type 1} {𝓤 : URA M} {H : Heap 𝓤} {A : Atoms 𝓤} (W : Given 𝓤 H A) (r : BatchState) → Is BatchState.the-row r (stateVals r) → T (hasTy State′.mir (valOf r)) × WT (valOf r)
+typed-state {𝓤 = 𝓤} {H = H} {A = A} W r is = LL.lawful BatchState.the-type State′.the-laws 𝓤 H A W .typed r (stateVals r) is .0
 
 module _ (S : BatchSlices) where
   abbrev pub each-read : List Fml
@@ -61,10 +61,10 @@ module _ (S : BatchSlices) where
 
   -- a batch with so many questions to come may go on from the progress p
   abbrev pub ReadyAt : ℕ → Answering → Type 0
-  ReadyAt more p = Ready (S .keys .x .now) (S .bits .x .now) more p
+  ReadyAt more p = BatchReady (S .keys .x .now) (S .bits .x .now) more p
 
   abbrev pub Result : Answering → Type 0
-  Result p = TwoGiven State.the-type State′.the-laws (S .refusals) (S .values) (λ r l l′. answeringOf r l l′ ≡ p)
+  Result p = TwoGiven BatchState.the-type State′.the-laws (S .refusals) (S .values) (λ r l l′. answeringOf r l l′ ≡ p)
 
   -- the slices that are read are had twice
   pub reads-twice : {M : Type 1} {𝓤 : URA M} {H : Heap 𝓤} {A : Atoms 𝓤} {K : Type 0} (W : Given 𝓤 H A) {Γ : List (Item 𝓤)} {G : Goal 𝓤 H} → K → Step K W (‵ reads ∷ ‵ reads ∷ Γ) G (‵ reads ∷ Γ) G
@@ -80,15 +80,15 @@ module _ (S : BatchSlices) where
     abbrev pub call-tokens : Fml
     call-tokens = chain each-call-token
 
-    abbrev pub each-passed : GName → GName → List ℕ → List ℕ → State → List Fml
-    each-passed δ δ′ l l′ r = shared (S .keys) ∷ shared (S .bits) ∷ lent (S .refusals) ν δ l ∷ lent (S .values) ν′ δ′ l′ ∷ State.the-row .own r (stateVals r) ∷ []
+    abbrev pub each-passed : GName → GName → List ℕ → List ℕ → BatchState → List Fml
+    each-passed δ δ′ l l′ r = shared (S .keys) ∷ shared (S .bits) ∷ lent (S .refusals) ν δ l ∷ lent (S .values) ν′ δ′ l′ ∷ BatchState.the-row .own r (stateVals r) ∷ []
 
     module _ {M : Type 1} {𝓤 : URA M} {H : Heap 𝓤} {A : Atoms 𝓤} {K : Type 0} (W : Given 𝓤 H A) {Γ : List (Item 𝓤)} {G : Goal 𝓤 H} where
-      pub gathers : K → (δ δ′ : GName) (l l′ : List ℕ) (r : State) → Is State.the-row r (stateVals r)
+      pub gathers : K → (δ δ′ : GName) (l l′ : List ℕ) (r : BatchState) → Is BatchState.the-row r (stateVals r)
           → Step K W (‵ call-tokens ∷ ‵ (chain (each-passed δ δ′ l l′ r)) ∷ Γ) G
           (‵ reads ∷ ‵ tokens ∷ ‵ (flft (ν ∷ []) fullShare) ∷ ‵ (flft (ν′ ∷ []) fullShare) ∷ ‵ (lent (S .refusals) ν δ l) ∷ ‵ (lent (S .values) ν′ δ′ l′) ∷ Γ) G
       gathers t δ δ′ l l′ r is = step (λ z.
-          apart t each-read $ owned t State.the-row (Is State.the-row) (LL.makes State.the-type State′.the-plain 𝓤 H A) r (stateVals r) is $
+          apart t each-read $ owned t BatchState.the-row (Is BatchState.the-row) (LL.makes BatchState.the-type State′.the-plain 𝓤 H A) r (stateVals r) is $
           -- [the state; keys, bits; the tokens; ν; ν′; refusals, values]
           move t (1 ∷ 2 ∷ 6 ∷ 7 ∷ 0 ∷ []) $ together t (each-passed δ δ′ l l′ r) $
           -- [what is passed; the tokens; ν; ν′]

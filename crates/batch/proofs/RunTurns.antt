@@ -8,13 +8,13 @@ use lib.ListN.{length, getD, take}
 use denote.Laws.{Is}
 use Rattle.definitions.specs.declared.Question.{Question}
 use Rattle.laws.proofs.OneByOne.{noQuestion}
-use Rattle.batch.specs.Run.{Answering, answeringOf, Ready, stepOf, runOf}
-use Rattle.batch.specs.declared.begin.State.{State}
-use Rattle.batch.proofs.begin.State as State
+use Rattle.batch.specs.Run.{Answering, answeringOf, BatchReady, batchStep, batchRun}
+use Rattle.batch.specs.declared.begin.BatchState.{BatchState}
+use Rattle.batch.proofs.begin.BatchState as BatchState
 use Rattle.batch.proofs.Fold.{run-none, run-next, run-all, ready-fewer, ready-step}
 use Rattle.batch.proofs.RunSlices.{BatchSlices, stateVals, Result}
 
-module _ (S : BatchSlices) (questions : List Question) (start : State) where
+module _ (S : BatchSlices) (questions : List Question) (start : BatchState) where
   abbrev K : List ℕ
   K = S .keys .x .now
 
@@ -26,22 +26,22 @@ module _ (S : BatchSlices) (questions : List Question) (start : State) where
   entry = answeringOf start (S .refusals .x .now) (S .values .x .now)
 
   abbrev pub ran : List Question → Answering
-  ran qs = runOf K B qs entry
+  ran qs = batchRun K B qs entry
 
   pub record Turn : Type 0 where
     pub i : ℕ
     pub small : i ≤ length questions
     pub found : Result S (ran (take i questions))
-    pub ready : Ready K B (length questions - i) (answeringOf (found .result) (found .first) (found .second))
+    pub ready : BatchReady K B (length questions - i) (answeringOf (found .result) (found .first) (found .second))
 
   -- the question of a turn
   abbrev pub question : Turn → Question
   question t = getD questions (t .i) noQuestion
 
   abbrev pub Stepped : Turn → Type 0
-  Stepped t = Result S (stepOf K B (question t) (answeringOf (t .found .result) (t .found .first) (t .found .second)))
+  Stepped t = Result S (batchStep K B (question t) (answeringOf (t .found .result) (t .found .first) (t .found .second)))
 
-  abbrev pub first-turn : Is State.the-row start (stateVals start) → Ready K B (length questions) entry → Turn
+  abbrev pub first-turn : Is BatchState.the-row start (stateVals start) → BatchReady K B (length questions) entry → Turn
   first-turn fits ready = record {
     i = 0;
     small = omega arith;
@@ -50,7 +50,7 @@ module _ (S : BatchSlices) (questions : List Question) (start : State) where
   }
 
   -- a question may come in a turn that is not the last
-  pub one-comes : (t : Turn) → t .i < length questions → Ready K B 1 (answeringOf (t .found .result) (t .found .first) (t .found .second))
+  pub one-comes : (t : Turn) → t .i < length questions → BatchReady K B 1 (answeringOf (t .found .result) (t .found .first) (t .found .second))
   one-comes t more = ready-fewer K B 1 (length questions - t .i) (answeringOf (t .found .result) (t .found .first) (t .found .second)) (omega arith) (t .ready)
 
   abbrev pub next-turn : (t : Turn) → t .i < length questions → Stepped t → Turn

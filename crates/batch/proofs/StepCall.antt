@@ -27,10 +27,10 @@ use denote.Triple.Walked.{says}
 use Rattle.definitions.specs.declared.Question.{Question}
 use Rattle.definitions.proofs.Question as Question
 use Rattle.definitions.proofs.Question.Laws as Question′
-use Rattle.batch.specs.Run.{answeringOf, stepOf}
-use Rattle.batch.specs.declared.begin.State.{State}
-use Rattle.batch.proofs.begin.State as State
-use Rattle.batch.proofs.begin.State.Laws as State′
+use Rattle.batch.specs.Run.{answeringOf, batchStep}
+use Rattle.batch.specs.declared.begin.BatchState.{BatchState}
+use Rattle.batch.proofs.begin.BatchState as BatchState
+use Rattle.batch.proofs.begin.BatchState.Laws as State′
 use Rattle.lending.proofs.Slices.{val, at-list}
 use Rattle.lending.proofs.Calling.{Gives}
 use Rattle.lending.proofs.TwoLent.{Lending, two-lent}
@@ -57,13 +57,13 @@ abbrev pub second-of : Bound → List ℕ
 second-of zs = zs .1 .1 .1 .1 .0
 
 -- the machine values that `step` is passed
-abbrev pub passes : BatchSlices → Question → State → List Val
+abbrev pub passes : BatchSlices → Question → BatchState → List Val
 passes S q r = LL.val Question.the-type Question′.the-laws q ∷ val (S .keys) ∷ val (S .bits) ∷ val (S .refusals) ∷ val (S .values) ∷ valOf r ∷ []
 
 module _ {M : Type 1} (𝓤 : URA M) (H : Heap 𝓤) (A : Atoms 𝓤) (W : Given 𝓤 H A) (mem : Memory → SProp 𝓤) (run : Routine → Fun 𝓤) (C : Calls 𝓤 H)
-    (fm : FmC 𝓤 H (W .laws) C) (known : Triple 𝓤 (C #step) (Step 𝓤 H A mem run)) (S : BatchSlices) (q : Question) (r : State) (l l′ : List ℕ) where
+    (fm : FmC 𝓤 H (W .laws) C) (known : Triple 𝓤 (C #step) (Step 𝓤 H A mem run)) (S : BatchSlices) (q : Question) (r : BatchState) (l l′ : List ℕ) where
   abbrev stepped : Type 0
-  stepped = Result S (stepOf (S .keys .x .now) (S .bits .x .now) q (answeringOf r l l′))
+  stepped = Result S (batchStep (S .keys .x .now) (S .bits .x .now) q (answeringOf r l l′))
 
   abbrev lifetimes : ℕ → ℕ → Lfts 4
   lifetimes ν ν′ = (S .keys .κ, (S .bits .κ, (ν ∷ [], (ν′ ∷ [], tt))))
@@ -83,7 +83,7 @@ module _ {M : Type 1} (𝓤 : URA M) (H : Heap 𝓤) (A : Atoms 𝓤) (W : Given
     tt,
   )
 
-  module _ (is-question : Is Question.the-row q (questionVals q)) (is-state : Is State.the-row r (stateVals r))
+  module _ (is-question : Is Question.the-row q (questionVals q)) (is-state : Is BatchState.the-row r (stateVals r))
       (ready : ReadyAt S 1 (answeringOf r l l′))
       (len : length l ≡ length (S .refusals .x .now)) (len′ : length l′ ≡ length (S .values .x .now)) where
     abbrev P : Item 𝓤
@@ -98,7 +98,7 @@ module _ {M : Type 1} (𝓤 : URA M) (H : Heap 𝓤) (A : Atoms 𝓤) (W : Given
     back ν ν′ = qed W (‵ (call-tokens S ν ν′) ∷ []) ∵ scatters S ν ν′ W ! $ done !
 
     pub step-gives : Gives W C #step (passes S q r) (P ⊛ ‵ (answers S l l′)) stepped (λ x. valOf (x .result)) (λ x. ‵ (tokens S) ⊛ ‵ (answers S (x .first) (x .second)))
-    step-gives = two-lent (S .refusals) (S .values) 𝓤 H A W C fm #step (passes S q r) State.the-type State′.the-laws
-        (λ r′ z z′. answeringOf r′ z z′ ≡ stepOf (S .keys .x .now) (S .bits .x .now) q (answeringOf r l l′)) 3 Bound first-of second-of
+    step-gives = two-lent (S .refusals) (S .values) 𝓤 H A W C fm #step (passes S q r) BatchState.the-type State′.the-laws
+        (λ r′ z z′. answeringOf r′ z z′ ≡ batchStep (S .keys .x .now) (S .bits .x .now) q (answeringOf r l l′)) 3 Bound first-of second-of
         P (‵ (tokens S)) (λ ν ν′. alive 𝓤 H A step.signature (lifetimes ν ν′) (sharesOf tt)) l l′ len len′
         (λ ν ν′ δ δ′. via 𝓤 (Step 𝓤 H A mem run .pre (to-step ν ν′ δ δ′)) (asks ν ν′ δ δ′) (known (to-step ν ν′ δ δ′))) back

@@ -11,21 +11,21 @@ use Rattle.definitions.specs.Refusal.{_gives_, first, accepted, badSettings, no
 use Rattle.definitions.specs.Calls.Batch.{refusalTo, valueTo}
 use Rattle.definitions.specs.declared.Question.{Question}
 use Rattle.definitions.specs.declared.Counted.{Counted}
-use Rattle.batch.specs.declared.begin.State.{State}
+use Rattle.batch.specs.declared.begin.BatchState.{BatchState}
 use Rattle.batch.specs.declared.step.Reply.{Reply}
 
 -- settings and list are accepted
-pub record Accepted (m s : ℕ) (keys bits : List ℕ) (n : ℕ) : Type 0 where
+pub record AcceptedMap (m s : ℕ) (keys bits : List ℕ) (n : ℕ) : Type 0 where
   pub settings : badSettings m s ≡ false
   pub list : isList m s keys bits n ≡ true
 
 -- the state, and what the two answer slices hold
 pub record Answering : Type 0 where
-  pub state : State
+  pub state : BatchState
   pub refusals : List ℕ
   pub values : List ℕ
 
-abbrev pub answeringOf : State → List ℕ → List ℕ → Answering
+abbrev pub answeringOf : BatchState → List ℕ → List ℕ → Answering
 answeringOf state refusals values = record { state = state; refusals = refusals; values = values }
 
 unfoldable pub answeringRefusal : ℕ → ℕ → List ℕ → List ℕ → ℕ → ℕ → ℕ → ℕ → ℕ
@@ -36,7 +36,7 @@ answeringRefusal m s keys bits n questions roomRefusals roomValues =
     ∷ ltb (min roomRefusals roomValues) questions gives 12
     ∷ [])
 
-abbrev pub answeringBegins : ℕ → ℕ → List ℕ → List ℕ → ℕ → ℕ → ℕ → ℕ → State
+abbrev pub answeringBegins : ℕ → ℕ → List ℕ → List ℕ → ℕ → ℕ → ℕ → ℕ → BatchState
 answeringBegins m s keys bits n questions roomRefusals roomValues =
     record {
       m = m;
@@ -48,7 +48,7 @@ answeringBegins m s keys bits n questions roomRefusals roomValues =
     }
 
 -- the same batch, with its next place
-abbrev pub at : ℕ → State → State
+abbrev pub at : ℕ → BatchState → BatchState
 at place st =
     record { m = st .m; s = st .s; n = st .n; refusal = st .refusal; questions = st .questions; place = place }
 
@@ -66,24 +66,24 @@ module _ (keys bits : List ℕ) where
       (set (p .values) (p .state .place) (valueTo (p .state .m) (p .state .s) keys bits (p .state .n) q))
 
   -- one question
-  unfoldable pub stepOf : Question → Answering → Answering
-  stepOf q p = cond (eqb (p .state .refusal) 0) (answered q p) p
+  unfoldable pub batchStep : Question → Answering → Answering
+  batchStep q p = cond (eqb (p .state .refusal) 0) (answered q p) p
 
   -- all questions
-  unfoldable pub runOf : List Question → Answering → Answering
-  runOf [] p = p
-  runOf (q ∷ qs) p = runOf qs (stepOf q p)
+  unfoldable pub batchRun : List Question → Answering → Answering
+  batchRun [] p = p
+  batchRun (q ∷ qs) p = batchRun qs (batchStep q p)
 
   -- what a batch that is not refused stands on, with so many questions to come
-  pub record Fine (more : ℕ) (p : Answering) : Type 0 where
-    pub list : Accepted (p .state .m) (p .state .s) keys bits (p .state .n)
+  pub record BatchFine (more : ℕ) (p : Answering) : Type 0 where
+    pub list : AcceptedMap (p .state .m) (p .state .s) keys bits (p .state .n)
     pub roomRefusals : p .state .place + more ≤ length (p .refusals)
     pub roomValues : p .state .place + more ≤ length (p .values)
 
-  pub record Ready (more : ℕ) (p : Answering) : Type 0 where
-    pub fine : p .state .refusal ≡ 0 → Fine more p
+  pub record BatchReady (more : ℕ) (p : Answering) : Type 0 where
+    pub fine : p .state .refusal ≡ 0 → BatchFine more p
 
 -- what the call answers
-unfoldable pub answeringEnds : State → Counted
+unfoldable pub answeringEnds : BatchState → Counted
 answeringEnds st =
     record { refusal = st .refusal; count = accepted (st .refusal) (st .questions) (cond (eqb (st .refusal) 12) (st .questions) 0) }

@@ -5,7 +5,7 @@ use definitions::Counted;
 use list::refusal::first_refusal;
 
 // Where a batch stands: the settings and the number of records, the refusal of the batch, or 0, how many questions there are, and the place of the next.
-pub struct State {
+pub struct BatchState {
     pub m: u32,
     pub s: u32,
     pub n: usize,
@@ -46,11 +46,11 @@ pub fn begin(
     questions: usize,
     room_refusals: usize,
     room_values: usize,
-) -> State
+) -> BatchState
     ensures { λ r. ⌜ r ≡ answeringBegins m s (now (keys .entry)) (now (bits .entry)) n questions «room_refusals» «room_values» ⌝ }
 {
     let refusal = begin_refusal(m, s, keys, bits, n, questions, room_refusals, room_values);
-    State {
+    BatchState {
         m,
         s,
         n,
@@ -61,7 +61,7 @@ pub fn begin(
 }
 
 // With 12 the count is the number of places needed, which is the questions too.
-pub fn answer(state: State) -> Counted
+pub fn answer(state: BatchState) -> Counted
     ensures { λ r. ⌜ r ≡ answeringEnds state ⌝ }
 {
     let refusal = state.refusal as u64;

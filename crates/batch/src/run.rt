@@ -2,8 +2,8 @@
 // hand.
 ghost use mathlib.Core.Path.{_≡_};
 ghost use lib.ListN.{length};
-ghost use Rattle.batch.specs.Run.{answeringOf, Ready, runOf};
-use crate::begin::State;
+ghost use Rattle.batch.specs.Run.{answeringOf, BatchReady, batchRun};
+use crate::begin::BatchState;
 use crate::step;
 use definitions::Question;
 
@@ -13,11 +13,11 @@ pub fn run(
     bits: &[u32],
     refusals: &mut [u32],
     values: &mut [u32],
-    state: State,
-) -> State
-    requires { ⌜ Ready (now keys) (now bits) (length (now questions)) (answeringOf state (now refusals) (now values)) ⌝ }
+    state: BatchState,
+) -> BatchState
+    requires { ⌜ BatchReady (now keys) (now bits) (length (now questions)) (answeringOf state (now refusals) (now values)) ⌝ }
     ensures { λ r. ⌜ answeringOf r (now (refusals .exit)) (now (values .exit))
-        ≡ runOf (now (keys .entry)) (now (bits .entry)) (now (questions .entry)) (answeringOf state (now (refusals .entry)) (now (values .entry))) ⌝ }
+        ≡ batchRun (now (keys .entry)) (now (bits .entry)) (now (questions .entry)) (answeringOf state (now (refusals .entry)) (now (values .entry))) ⌝ }
 {
     let mut st = state;
     let mut i: usize = 0;

@@ -3,8 +3,8 @@ ghost use mathlib.Core.Path.{_≡_};
 ghost use Prim.Native.Nat.{_≤_, _<_};
 ghost use lib.ListN.{length, set};
 ghost use Rattle.definitions.specs.Clip.{clippedWindow};
-ghost use Rattle.batch.specs.Run.{Accepted, replyOf, answeringOf, Ready, stepOf};
-use crate::begin::State;
+ghost use Rattle.batch.specs.Run.{AcceptedMap, replyOf, answeringOf, BatchReady, batchStep};
+use crate::begin::BatchState;
 use clipped::clip::clipped_window;
 use definitions::Question;
 use definitions::Window;
@@ -31,7 +31,7 @@ fn window_of(m: u32, question: Question) -> Window
 }
 
 fn reply_to(question: Question, m: u32, s: u32, keys: &[u32], bits: &[u32], n: usize) -> Reply
-    requires { ⌜ Accepted m s (now keys) (now bits) n ⌝ }
+    requires { ⌜ AcceptedMap m s (now keys) (now bits) n ⌝ }
     ensures { λ r. ⌜ r ≡ replyOf m s (now (keys .entry)) (now (bits .entry)) n question ⌝ }
 {
     let window = window_of(m, question);
@@ -82,11 +82,11 @@ pub fn step(
     bits: &[u32],
     refusals: &mut [u32],
     values: &mut [u32],
-    state: State,
-) -> State
-    requires { ⌜ Ready (now keys) (now bits) 1 (answeringOf state (now refusals) (now values)) ⌝ }
+    state: BatchState,
+) -> BatchState
+    requires { ⌜ BatchReady (now keys) (now bits) 1 (answeringOf state (now refusals) (now values)) ⌝ }
     ensures { λ r. ⌜ answeringOf r (now (refusals .exit)) (now (values .exit))
-        ≡ stepOf (now (keys .entry)) (now (bits .entry)) question (answeringOf state (now (refusals .entry)) (now (values .entry))) ⌝ }
+        ≡ batchStep (now (keys .entry)) (now (bits .entry)) question (answeringOf state (now (refusals .entry)) (now (values .entry))) ⌝ }
 {
     let place = state.place;
     if state.refusal != 0 {

@@ -11,7 +11,7 @@ use lib.Pow.{pow-mono}
 use lib.Seq.{getD-drop, drop-drop, paste, paste-suc, paste-zero, take-length}
 use Rattle.definitions.specs.Buffer.{over}
 use Rattle.definitions.specs.BitStrings.{highFirst, packedIn}
-use Rattle.bit_strings.specs.Strings.{stringOf, Picked, Filled}
+use Rattle.bit_strings.specs.Strings.{stringOf, Picked, ByteFilled}
 use Rattle.bit_strings.specs.declared.pack.Bit.{Bit}
 use Rattle.bit_strings.specs.declared.pack.Byte.{Byte}
 use Rattle.bit_strings.proofs.Packing.{stringFrom}
@@ -88,7 +88,7 @@ module _ (leaves : Bool) (values : List ℕ) (at byte place count : ℕ) (m : Ma
     pub byte-small : byte < 256
     byte-small = let h = m .small in let e = ap (λ k. 2 ^ k) eight in omega arith
 
-    pub making-end : Filled leaves values at (record { byte = byte; after = place })
+    pub making-end : ByteFilled leaves values at (record { byte = byte; after = place })
     making-end =
         let none : 8 - count ≡ 0 = omega arith in
         let e = ap (λ k. byte * 2 ^ k + highFirst k (stringFrom leaves values place)) none in
@@ -138,14 +138,14 @@ unfolding packedIn
 packed-suc n l = refl
 
 -- k bytes of the string are written
-pub record Written (leaves : Bool) (values : List ℕ) (count : ℕ) (out₀ out : List ℕ) (place k : ℕ) : Type 0 where
+pub record WrittenBytes (leaves : Bool) (values : List ℕ) (count : ℕ) (out₀ out : List ℕ) (place k : ℕ) : Type 0 where
   pub most : k ≤ count
   pub within : place ≤ length values
   pub same : length out ≡ length out₀
   pub rest : packedIn (count - k) (stringFrom leaves values place) ≡ drop k (packedIn count (stringOf leaves values))
   pub filled : out ≡ paste out₀ 0 (packedIn count (stringOf leaves values)) k
 
-pub written-start : (leaves : Bool) (values : List ℕ) (count : ℕ) (out : List ℕ) → Written leaves values count out out 0 0
+pub written-start : (leaves : Bool) (values : List ℕ) (count : ℕ) (out : List ℕ) → WrittenBytes leaves values count out out 0 0
 written-start leaves values count out = record {
   most = omega arith;
   within = omega arith;
@@ -154,8 +154,8 @@ written-start leaves values count out = record {
   filled = paste-zero out 0 (packedIn count (stringOf leaves values));
 }
 
-module _ {leaves : Bool} {values : List ℕ} {count : ℕ} {out₀ out : List ℕ} {place k : ℕ} (w : Written leaves values count out₀ out place k) where
-  pub written-turn : (b : Byte) → k < count → count ≤ length out₀ → Filled leaves values place b → Written leaves values count out₀ (set out k (b .byte)) (b .after) (k + 1)
+module _ {leaves : Bool} {values : List ℕ} {count : ℕ} {out₀ out : List ℕ} {place k : ℕ} (w : WrittenBytes leaves values count out₀ out place k) where
+  pub written-turn : (b : Byte) → k < count → count ≤ length out₀ → ByteFilled leaves values place b → WrittenBytes leaves values count out₀ (set out k (b .byte)) (b .after) (k + 1)
   written-turn b more room f =
       let all = packedIn count (stringOf leaves values) in
       let one : count - k ≡ suc (count - (k + 1)) = omega arith in

@@ -30,14 +30,14 @@ unfolding leftOver isSpare
 left-is ns ls = by-tests (leb 8 (length ns)) (leb 8 (length ls)) (anySet ns) (anySet ls)
 
 -- i blocks are read, j of them leaves, and the next one has the given key
-pub record Counting (m : ℕ) (nodes leaves : List ℕ) (key i j : ℕ) : Type 0 where
+pub record CountedPair (m : ℕ) (nodes leaves : List ℕ) (key i j : ℕ) : Type 0 where
   pub below : i ≤ key
   pub fewer : j ≤ i
   pub near : key ≤ 2 * 5 ^ m
   pub read : isWhole (reading m key (drop i (bitsIn nodes)) (drop j (bitsIn leaves))) ≡ isPair m nodes leaves
   pub records : i + length (recordsFrom m key (drop i (bitsIn nodes)) (drop j (bitsIn leaves))) ≡ length (recordsOfPair m nodes leaves)
 
-pub counting-start : (m : ℕ) (nodes leaves : List ℕ) → Counting m nodes leaves 0 0 0
+pub counting-start : (m : ℕ) (nodes leaves : List ℕ) → CountedPair m nodes leaves 0 0 0
 unfolding isPair recordsOfPair
 counting-start m nodes leaves = record { below = omega arith; fewer = omega arith; near = omega arith; read = refl; records = omega arith }
 
@@ -49,7 +49,7 @@ count-some : (m : ℕ) (nodes leaves : List ℕ) (n : ℕ) → isPair m nodes le
 unfolding pairLength
 count-some m nodes leaves n e f = f ∙ sym (ap (λ b. cond b (length (recordsOfPair m nodes leaves)) 0) e)
 
-module _ (m : ℕ) (nodes leaves : List ℕ) (key i j : ℕ) (c : Counting m nodes leaves key i j) where
+module _ (m : ℕ) (nodes leaves : List ℕ) (key i j : ℕ) (c : CountedPair m nodes leaves key i j) where
   module _ (inside : key < 5 ^ m) (p : AfterBlock) (is : p ≡ passed m key (drop i (bitsIn nodes)) (drop j (bitsIn leaves))) where
     pub counting-stuck : p .key ≡ 0 → 0 ≡ pairLength m nodes leaves
     counting-stuck z =
@@ -65,7 +65,7 @@ module _ (m : ℕ) (nodes leaves : List ℕ) (key i j : ℕ) (c : Counting m nod
         (λ g. rw is g)
         (step m key (drop i (bitsIn nodes)) (drop j (bitsIn leaves)) inside)
 
-    pub counting-turn : (p .key ≡ 0 → ⊥) → Counting m nodes leaves (p .key) (i + 1) (j + p .leaf)
+    pub counting-turn : (p .key ≡ 0 → ⊥) → CountedPair m nodes leaves (p .key) (i + 1) (j + p .leaf)
     counting-turn z =
         let g = counting-on z in
         let b = g .beyond in

@@ -7,7 +7,7 @@ use native.Mathlib.Nat.{pow-suc, one-le-pow, add-mul, mul-assoc, zero-mul, pow-l
 use native.Mathlib.Omega.{arith}
 use Rattle.keys.specs.Key.{validKey, heightOf, childKey}
 use Rattle.keys.proofs.Valid.{valid-block}
-use Rattle.keys.specs.Under.{Under, here, nw, ne, sw, se, Block}
+use Rattle.keys.specs.Under.{Under, here, nw, ne, sw, se, MapBlock}
 use Rattle.keys.proofs.Cases.{split}
 use Rattle.definitions.specs.BitStrings.{levelsBelow}
 use Rattle.bit_strings.proofs.Levels.{levels-more, levels-none}
@@ -79,7 +79,7 @@ under-place p (ne u) = under-place (child-place p 2 (omega arith) (omega arith))
 under-place p (sw u) = under-place (child-place p 3 (omega arith) (omega arith)) u
 under-place p (se u) = under-place (child-place p 4 (omega arith) (omega arith)) u
 
-pub block-levels : {m k r c κ : ℕ} → Block m k r c κ → levelsBelow m κ ≡ k
+pub block-levels : {m k r c κ : ℕ} → MapBlock m k r c κ → levelsBelow m κ ≡ k
 block-levels {m} b = under-place (root-place m) b .levels
 
 pub levels-height : (m κ : ℕ) → validKey m κ ≡ true → levelsBelow m κ ≡ heightOf m κ

@@ -27,7 +27,7 @@ pub record Picked (leaves : Bool) (values : List ℕ) (at : ℕ) (r : Bit) : Typ
   pub rest : stringOf leaves (drop (r .after) values) ≡ drop 1 (stringOf leaves (drop at values))
 
 -- the first eight bits, and the place where the string without them goes on
-pub record Filled (leaves : Bool) (values : List ℕ) (at : ℕ) (r : Byte) : Type 0 where
+pub record ByteFilled (leaves : Bool) (values : List ℕ) (at : ℕ) (r : Byte) : Type 0 where
   pub inside : r .after ≤ length values
   pub byte-is : r .byte ≡ highFirst 8 (stringOf leaves (drop at values))
   pub rest : stringOf leaves (drop (r .after) values) ≡ drop 8 (stringOf leaves (drop at values))

@@ -4,7 +4,7 @@ ghost use Prim.Native.Nat.{_≤_};
 ghost use lib.ListN.{length};
 ghost use Rattle.definitions.specs.Buffer.{over};
 ghost use Rattle.definitions.specs.BitStrings.{packedIn};
-ghost use Rattle.bit_strings.specs.Strings.{bitOf, stringOf, Picked, Filled};
+ghost use Rattle.bit_strings.specs.Strings.{bitOf, stringOf, Picked, ByteFilled};
 
 // The bit that a record has in the string of leaves or in that of nodes, and 2 where it has none.
 pub fn bit_of(value: u32, leaves: bool) -> u32
@@ -55,7 +55,7 @@ pub struct Byte {
 // The next eight bits as a byte, the first one high.
 pub fn next_byte(values: &[u32], at: usize, leaves: bool) -> Byte
     requires { ⌜ at ≤ length (now values) ⌝ }
-    ensures { λ r. ⌜ Filled leaves (now (values .entry)) at r ⌝ }
+    ensures { λ r. ⌜ ByteFilled leaves (now (values .entry)) at r ⌝ }
 {
     let mut byte: u32 = 0;
     let mut place = at;

@@ -11,7 +11,7 @@ use Rattle.definitions.specs.Picture.{Picture}
 use Rattle.laws.proofs.Features.{below-under}
 use Rattle.list.proofs.ShownQuadrants.{quadrantRow, quadrantColumn}
 use Rattle.combine.specs.Combining.{Entered, Seen, Passes, AllPass, Named}
-use Rattle.combine.proofs.OneList.{Quarters, quarters-all, quarter-at, quarter-next, quarters-none}
+use Rattle.combine.proofs.OneList.{WaitingQuarters, quarters-all, quarter-at, quarter-next, quarters-none}
 use Rattle.combine.proofs.TwoLeaves.{notBoth, not-pixel}
 
 -- the four quadrants, one after the other
@@ -20,10 +20,10 @@ module _ {p q : Picture} {k r c κ : ℕ} {bits₁ bits₂ : List ℕ} {step lea
   pub lower : step / 5 ≡ 5 ^ k
   lower = let e = pow-suc 5 k in omega (arith, s .step-is)
 
-  first-1 : Quarters p k r c κ bits₁ leaf₁ at₁ l₁ i₁ 0
+  first-1 : WaitingQuarters p k r c κ bits₁ leaf₁ at₁ l₁ i₁ 0
   first-1 = quarters-all (s .first-at) e₁
 
-  second-1 : Quarters q k r c κ bits₂ leaf₂ at₂ l₂ j₁ 0
+  second-1 : WaitingQuarters q k r c κ bits₂ leaf₂ at₂ l₂ j₁ 0
   second-1 = quarters-all (s .second-at) e₂
 
   pub nw-seen : Seen p q k r c (childKey κ k 1) bits₁ bits₂ (step / 5) l₁ i₁ l₂ j₁
@@ -31,11 +31,11 @@ module _ {p q : Picture} {k r c κ : ℕ} {bits₁ bits₂ : List ℕ} {step lea
   nw-seen = record { step-is = lower; first-at = quarter-at first-1 (omega arith) (nw here); second-at = quarter-at second-1 (omega arith) (nw here) }
 
   module _ {i₂ j₂ : ℕ} (h₁ : AllPass bits₁ bits₂ (step / 5) l₁ i₁ l₂ j₁ i₂ j₂) where
-    first-2 : Quarters p k r c κ bits₁ leaf₁ at₁ l₁ i₂ 1
+    first-2 : WaitingQuarters p k r c κ bits₁ leaf₁ at₁ l₁ i₂ 1
     unfolding quadrantRow quadrantColumn
     first-2 = quarter-next first-1 (omega arith) i₂ (h₁ p q k r c (childKey κ k 1) nw-seen .first-next)
 
-    second-2 : Quarters q k r c κ bits₂ leaf₂ at₂ l₂ j₂ 1
+    second-2 : WaitingQuarters q k r c κ bits₂ leaf₂ at₂ l₂ j₂ 1
     unfolding quadrantRow quadrantColumn
     second-2 = quarter-next second-1 (omega arith) j₂ (h₁ p q k r c (childKey κ k 1) nw-seen .second-next)
 
@@ -44,11 +44,11 @@ module _ {p q : Picture} {k r c κ : ℕ} {bits₁ bits₂ : List ℕ} {step lea
     ne-seen = record { step-is = lower; first-at = quarter-at first-2 (omega arith) (ne here); second-at = quarter-at second-2 (omega arith) (ne here) }
 
     module _ {i₃ j₃ : ℕ} (h₂ : AllPass bits₁ bits₂ (step / 5) l₁ i₂ l₂ j₂ i₃ j₃) where
-      first-3 : Quarters p k r c κ bits₁ leaf₁ at₁ l₁ i₃ 2
+      first-3 : WaitingQuarters p k r c κ bits₁ leaf₁ at₁ l₁ i₃ 2
       unfolding quadrantRow quadrantColumn
       first-3 = quarter-next first-2 (omega arith) i₃ (h₂ p q k r (c + 2 ^ k) (childKey κ k 2) ne-seen .first-next)
 
-      second-3 : Quarters q k r c κ bits₂ leaf₂ at₂ l₂ j₃ 2
+      second-3 : WaitingQuarters q k r c κ bits₂ leaf₂ at₂ l₂ j₃ 2
       unfolding quadrantRow quadrantColumn
       second-3 = quarter-next second-2 (omega arith) j₃ (h₂ p q k r (c + 2 ^ k) (childKey κ k 2) ne-seen .second-next)
 
@@ -57,11 +57,11 @@ module _ {p q : Picture} {k r c κ : ℕ} {bits₁ bits₂ : List ℕ} {step lea
       sw-seen = record { step-is = lower; first-at = quarter-at first-3 (omega arith) (sw here); second-at = quarter-at second-3 (omega arith) (sw here) }
 
       module _ {i₄ j₄ : ℕ} (h₃ : AllPass bits₁ bits₂ (step / 5) l₁ i₃ l₂ j₃ i₄ j₄) where
-        first-4 : Quarters p k r c κ bits₁ leaf₁ at₁ l₁ i₄ 3
+        first-4 : WaitingQuarters p k r c κ bits₁ leaf₁ at₁ l₁ i₄ 3
         unfolding quadrantRow quadrantColumn
         first-4 = quarter-next first-3 (omega arith) i₄ (h₃ p q k (r + 2 ^ k) c (childKey κ k 3) sw-seen .first-next)
 
-        second-4 : Quarters q k r c κ bits₂ leaf₂ at₂ l₂ j₄ 3
+        second-4 : WaitingQuarters q k r c κ bits₂ leaf₂ at₂ l₂ j₄ 3
         unfolding quadrantRow quadrantColumn
         second-4 = quarter-next second-3 (omega arith) j₄ (h₃ p q k (r + 2 ^ k) c (childKey κ k 3) sw-seen .second-next)
 

@@ -17,11 +17,11 @@ use Rattle.definitions.specs.Combine.{combinedList, badClassTable}
 use Rattle.definitions.specs.Calls.Combine.{combination, combineRefusal, combine, combineKeys, combineBits}
 use Rattle.definitions.specs.declared.Counted.{Counted}
 use Rattle.laws.proofs.First.{NoneHolds, first-none, first-holds, first-later, holds-first, holds-more, accepted-left}
-use Rattle.list.proofs.Accepted.{accepted as accepted-list}
+use Rattle.list.proofs.Accepted.{accepted-as-list}
 use Rattle.list.proofs.Own.{own-list}
 use Rattle.list.proofs.Tests.{GoodSettings, good-settings}
 use Rattle.build.proofs.RasterTests.{pixels-below}
-use Rattle.combine.specs.Ready.{earlyRows, Ready, resultOf, Answered}
+use Rattle.combine.specs.Ready.{earlyRows, CombineReady, resultOf, Answered}
 
 -- rows that do not hold are passed over
 none-then : (rows more : List Row) → NoneHolds rows → first (rows ++ more) ≡ first more
@@ -84,7 +84,7 @@ module _ (m₁ s₁ : ℕ) (keys₁ bits₁ : List ℕ) (n₁ m₂ s₂ : ℕ) (
       }
 
   -- then both lists and the table are as the work asks
-  pub ready : first early ≡ 0 → Ready m₁ keys₁ bits₁ n₁ keys₂ bits₂ n₂ table s₂
+  pub ready : first early ≡ 0 → CombineReady m₁ keys₁ bits₁ n₁ keys₂ bits₂ n₂ table s₂
   ready e =
       let p = passed e in
       let second = rw (sym (p .same)) at (p .second-list) in
@@ -101,8 +101,8 @@ module _ (m₁ s₁ : ℕ) (keys₁ bits₁ : List ℕ) (n₁ m₂ s₂ : ℕ) (
               let h = pixels-below s₃ table (p .settings .third-settings .some) (p .small) i in
               let j = p .settings .third-settings .few in
               omega arith;
-          firsts = accepted-list m₁ s₁ keys₁ bits₁ n₁ (p .first-list) .below;
-          seconds = accepted-list m₁ s₂ keys₂ bits₂ n₂ second .below;
+          firsts = accepted-as-list m₁ s₁ keys₁ bits₁ n₁ (p .first-list) .below;
+          seconds = accepted-as-list m₁ s₂ keys₂ bits₂ n₂ second .below;
         };
       }
 

@@ -17,12 +17,12 @@ use Rattle.build.specs.BuildBlocks.{Tallied, Joined, Fitting, Written, FourAske
 use Rattle.build.proofs.CountBlock.{tallied-four, tallied-small}
 use Rattle.build.proofs.WrittenBlock.{written-quadrants}
 use Rattle.build.proofs.FittingBlock.{fitting-at, fits-nw, fits-ne, fits-sw, fits-se, fits-four}
-use Rattle.combine.specs.Combining.{Entered, Seen, AllPass, Named, Asked, WriteAsked, BlockCounted, Made}
+use Rattle.combine.specs.Combining.{Entered, Seen, AllPass, Named, CombineAsked, CombineWriteAsked, CombinedCounted, Made}
 use Rattle.combine.proofs.TwoLeaves.{notBoth, not-pixel}
 use Rattle.combine.proofs.BothLists.{lower, nw-seen, ne-seen, sw-seen, se-seen, four-pass, seen-at, named-at, named-under, positive-height}
 
 -- a listed block has a record to read
-module _ {bits₁ bits₂ table : List ℕ} {s₂ step leaf₁ at₁ leaf₂ at₂ : ℕ} (a : Asked bits₁ bits₂ table s₂ step leaf₁ at₁ leaf₂ at₂) where
+module _ {bits₁ bits₂ table : List ℕ} {s₂ step leaf₁ at₁ leaf₂ at₂ : ℕ} (a : CombineAsked bits₁ bits₂ table s₂ step leaf₁ at₁ leaf₂ at₂) where
   pub first-room : leaf₁ ≡ 0 → at₁ < length bits₁
   first-room z = shown-room (a .seen .first-at .listed z)
 
@@ -30,7 +30,7 @@ module _ {bits₁ bits₂ table : List ℕ} {s₂ step leaf₁ at₁ leaf₂ at�
   second-room z = shown-room (a .seen .second-at .listed z)
 
 -- what the calls for the four quadrants ask
-module _ {bits₁ bits₂ table : List ℕ} {s₂ step leaf₁ at₁ leaf₂ at₂ l₁ i₁ l₂ j₁ : ℕ} (a : Asked bits₁ bits₂ table s₂ step leaf₁ at₁ leaf₂ at₂)
+module _ {bits₁ bits₂ table : List ℕ} {s₂ step leaf₁ at₁ leaf₂ at₂ l₁ i₁ l₂ j₁ : ℕ} (a : CombineAsked bits₁ bits₂ table s₂ step leaf₁ at₁ leaf₂ at₂)
     (e₁ : Entered bits₁ leaf₁ at₁ l₁ i₁) (e₂ : Entered bits₂ leaf₂ at₂ l₂ j₁) (n : notBoth l₁ l₂) where
   up : a .height ≡ suc (a .height - 1)
   up = let h = positive-height (a .height) (a .seen) e₁ e₂ n in omega arith
@@ -48,7 +48,7 @@ module _ {bits₁ bits₂ table : List ℕ} {s₂ step leaf₁ at₁ leaf₂ at�
   pub step-falls : step / 5 < step
   step-falls = let h = five-pos (a .height) in omega (arith, a .seen .step-is)
 
-  pub asks-nw : Asked bits₁ bits₂ table s₂ (step / 5) l₁ i₁ l₂ j₁
+  pub asks-nw : CombineAsked bits₁ bits₂ table s₂ (step / 5) l₁ i₁ l₂ j₁
   asks-nw = record {
     first = a .first;
     second = a .second;
@@ -62,7 +62,7 @@ module _ {bits₁ bits₂ table : List ℕ} {s₂ step leaf₁ at₁ leaf₂ at�
   }
 
   module _ {i₂ j₂ : ℕ} (h₁ : AllPass bits₁ bits₂ (step / 5) l₁ i₁ l₂ j₁ i₂ j₂) where
-    pub asks-ne : Asked bits₁ bits₂ table s₂ (step / 5) l₁ i₂ l₂ j₂
+    pub asks-ne : CombineAsked bits₁ bits₂ table s₂ (step / 5) l₁ i₂ l₂ j₂
     asks-ne = record {
       first = a .first;
       second = a .second;
@@ -76,7 +76,7 @@ module _ {bits₁ bits₂ table : List ℕ} {s₂ step leaf₁ at₁ leaf₂ at�
     }
 
     module _ {i₃ j₃ : ℕ} (h₂ : AllPass bits₁ bits₂ (step / 5) l₁ i₂ l₂ j₂ i₃ j₃) where
-      pub asks-sw : Asked bits₁ bits₂ table s₂ (step / 5) l₁ i₃ l₂ j₃
+      pub asks-sw : CombineAsked bits₁ bits₂ table s₂ (step / 5) l₁ i₃ l₂ j₃
       asks-sw = record {
         first = a .first;
         second = a .second;
@@ -90,7 +90,7 @@ module _ {bits₁ bits₂ table : List ℕ} {s₂ step leaf₁ at₁ leaf₂ at�
       }
 
       module _ {i₄ j₄ : ℕ} (h₃ : AllPass bits₁ bits₂ (step / 5) l₁ i₃ l₂ j₃ i₄ j₄) where
-        pub asks-se : Asked bits₁ bits₂ table s₂ (step / 5) l₁ i₄ l₂ j₄
+        pub asks-se : CombineAsked bits₁ bits₂ table s₂ (step / 5) l₁ i₄ l₂ j₄
         asks-se = record {
           first = a .first;
           second = a .second;
@@ -104,10 +104,10 @@ module _ {bits₁ bits₂ table : List ℕ} {s₂ step leaf₁ at₁ leaf₂ at�
         }
 
 -- the counts of the quadrants are small
-module _ {bits₁ bits₂ table : List ℕ} {s₂ step leaf₁ at₁ leaf₂ at₂ l₁ i₁ l₂ j₁ : ℕ} (a : Asked bits₁ bits₂ table s₂ step leaf₁ at₁ leaf₂ at₂)
+module _ {bits₁ bits₂ table : List ℕ} {s₂ step leaf₁ at₁ leaf₂ at₂ l₁ i₁ l₂ j₁ : ℕ} (a : CombineAsked bits₁ bits₂ table s₂ step leaf₁ at₁ leaf₂ at₂)
     (e₁ : Entered bits₁ leaf₁ at₁ l₁ i₁) (e₂ : Entered bits₂ leaf₂ at₂ l₂ j₁) (n : notBoth l₁ l₂) {i₂ j₂ i₃ j₃ i₄ j₄ i₅ j₅ u₁ u₂ u₃ u₄ m₁ m₂ m₃ m₄ : ℕ}
-    (h₁ : BlockCounted bits₁ bits₂ table s₂ (step / 5) l₁ i₁ l₂ j₁ u₁ m₁ i₂ j₂) (h₂ : BlockCounted bits₁ bits₂ table s₂ (step / 5) l₁ i₂ l₂ j₂ u₂ m₂ i₃ j₃)
-    (h₃ : BlockCounted bits₁ bits₂ table s₂ (step / 5) l₁ i₃ l₂ j₃ u₃ m₃ i₄ j₄) (h₄ : BlockCounted bits₁ bits₂ table s₂ (step / 5) l₁ i₄ l₂ j₄ u₄ m₄ i₅ j₅) where
+    (h₁ : CombinedCounted bits₁ bits₂ table s₂ (step / 5) l₁ i₁ l₂ j₁ u₁ m₁ i₂ j₂) (h₂ : CombinedCounted bits₁ bits₂ table s₂ (step / 5) l₁ i₂ l₂ j₂ u₂ m₂ i₃ j₃)
+    (h₃ : CombinedCounted bits₁ bits₂ table s₂ (step / 5) l₁ i₃ l₂ j₃ u₃ m₃ i₄ j₄) (h₄ : CombinedCounted bits₁ bits₂ table s₂ (step / 5) l₁ i₄ l₂ j₄ u₄ m₄ i₅ j₅) where
   pub four-small : (m₁ ≤ 5 ^ 9) × (m₂ ≤ 5 ^ 9) × (m₃ ≤ 5 ^ 9) × (m₄ ≤ 5 ^ 9)
   four-small =
       let s = seen a e₁ e₂ n in
@@ -120,7 +120,7 @@ module _ {bits₁ bits₂ table : List ℕ} {s₂ step leaf₁ at₁ leaf₂ at�
 
 -- what the calls that write the quadrants ask
 module _ {bits₁ bits₂ table : List ℕ} {s₂ step leaf₁ at₁ leaf₂ at₂ key place l₁ i₁ l₂ j₁ : ℕ} {keys bits : List ℕ}
-    (w : WriteAsked bits₁ bits₂ table s₂ step leaf₁ at₁ leaf₂ at₂ key place keys bits)
+    (w : CombineWriteAsked bits₁ bits₂ table s₂ step leaf₁ at₁ leaf₂ at₂ key place keys bits)
     (e₁ : Entered bits₁ leaf₁ at₁ l₁ i₁) (e₂ : Entered bits₂ leaf₂ at₂ l₂ j₁) (n : notBoth l₁ l₂) where
   abbrev picture : Picture
   picture = combined (w .asked .first) (w .asked .second) table s₂
@@ -137,7 +137,7 @@ module _ {bits₁ bits₂ table : List ℕ} {s₂ step leaf₁ at₁ leaf₂ at�
   pub keys-fit : key + 5 * (step / 5) ≤ 5 ^ 10
   keys-fit = let e = fifth in let g = pow-suc 5 k in omega (arith, fitting .key-fits)
 
-  pub writes-nw : WriteAsked bits₁ bits₂ table s₂ (step / 5) l₁ i₁ l₂ j₁ (key + step / 5) (place + 1) keys bits
+  pub writes-nw : CombineWriteAsked bits₁ bits₂ table s₂ (step / 5) l₁ i₁ l₂ j₁ (key + step / 5) (place + 1) keys bits
   unfolding asks-nw
   writes-nw = record {
     asked = asks-nw (w .asked) e₁ e₂ n;
@@ -148,7 +148,7 @@ module _ {bits₁ bits₂ table : List ℕ} {s₂ step leaf₁ at₁ leaf₂ at�
     w₁ : Written picture k (w .asked .row) (w .asked .column) (key + step / 5) (place + 1) keys bits keys₁ bits₁′ u₁ x₂
     w₁ = h₁ .written _ _ _ _ _ _ (nw-seen (seen (w .asked) e₁ e₂ n) e₁ e₂)
 
-    pub writes-ne : WriteAsked bits₁ bits₂ table s₂ (step / 5) l₁ i₂ l₂ j₂ (key + 2 * (step / 5)) x₂ keys₁ bits₁′
+    pub writes-ne : CombineWriteAsked bits₁ bits₂ table s₂ (step / 5) l₁ i₂ l₂ j₂ (key + 2 * (step / 5)) x₂ keys₁ bits₁′
     unfolding asks-ne
     writes-ne = record {
       asked = asks-ne (w .asked) e₁ e₂ n (h₁ .passes);
@@ -159,7 +159,7 @@ module _ {bits₁ bits₂ table : List ℕ} {s₂ step leaf₁ at₁ leaf₂ at�
       w₂ : Written picture k (w .asked .row) (w .asked .column + 2 ^ k) (key + 2 * (step / 5)) x₂ keys₁ bits₁′ keys₂ bits₂′ u₂ x₃
       w₂ = h₂ .written _ _ _ _ _ _ (ne-seen (seen (w .asked) e₁ e₂ n) e₁ e₂ (h₁ .passes))
 
-      pub writes-sw : WriteAsked bits₁ bits₂ table s₂ (step / 5) l₁ i₃ l₂ j₃ (key + 3 * (step / 5)) x₃ keys₂ bits₂′
+      pub writes-sw : CombineWriteAsked bits₁ bits₂ table s₂ (step / 5) l₁ i₃ l₂ j₃ (key + 3 * (step / 5)) x₃ keys₂ bits₂′
       unfolding asks-sw
       writes-sw = record {
         asked = asks-sw (w .asked) e₁ e₂ n (h₁ .passes) (h₂ .passes);
@@ -170,7 +170,7 @@ module _ {bits₁ bits₂ table : List ℕ} {s₂ step leaf₁ at₁ leaf₂ at�
         w₃ : Written picture k (w .asked .row + 2 ^ k) (w .asked .column) (key + 3 * (step / 5)) x₃ keys₂ bits₂′ keys₃ bits₃ u₃ x₄
         w₃ = h₃ .written _ _ _ _ _ _ (sw-seen (seen (w .asked) e₁ e₂ n) e₁ e₂ (h₁ .passes) (h₂ .passes))
 
-        pub writes-se : WriteAsked bits₁ bits₂ table s₂ (step / 5) l₁ i₄ l₂ j₄ (key + 4 * (step / 5)) x₄ keys₃ bits₃
+        pub writes-se : CombineWriteAsked bits₁ bits₂ table s₂ (step / 5) l₁ i₄ l₂ j₄ (key + 4 * (step / 5)) x₄ keys₃ bits₃
         unfolding asks-se
         writes-se = record {
           asked = asks-se (w .asked) e₁ e₂ n (h₁ .passes) (h₂ .passes) (h₃ .passes);
@@ -192,8 +192,8 @@ module _ {bits₁ bits₂ : List ℕ} {step leaf₁ at₁ leaf₂ at₂ l₁ i�
     all-pass p q zero r c κ s = absurd (not-pixel s e₁ e₂ n)
     all-pass p q (suc k) r c κ s = four-pass s e₁ e₂ h₁ h₂ h₃ h₄
 
-  module _ {table : List ℕ} {s₂ u₁ u₂ u₃ u₄ m₁ m₂ m₃ m₄ u m : ℕ} (h₁ : BlockCounted bits₁ bits₂ table s₂ (step / 5) l₁ i₁ l₂ j₁ u₁ m₁ i₂ j₂) (h₂ : BlockCounted bits₁ bits₂ table s₂ (step / 5) l₁ i₂ l₂ j₂ u₂ m₂ i₃ j₃)
-      (h₃ : BlockCounted bits₁ bits₂ table s₂ (step / 5) l₁ i₃ l₂ j₃ u₃ m₃ i₄ j₄) (h₄ : BlockCounted bits₁ bits₂ table s₂ (step / 5) l₁ i₄ l₂ j₄ u₄ m₄ i₅ j₅)
+  module _ {table : List ℕ} {s₂ u₁ u₂ u₃ u₄ m₁ m₂ m₃ m₄ u m : ℕ} (h₁ : CombinedCounted bits₁ bits₂ table s₂ (step / 5) l₁ i₁ l₂ j₁ u₁ m₁ i₂ j₂) (h₂ : CombinedCounted bits₁ bits₂ table s₂ (step / 5) l₁ i₂ l₂ j₂ u₂ m₂ i₃ j₃)
+      (h₃ : CombinedCounted bits₁ bits₂ table s₂ (step / 5) l₁ i₃ l₂ j₃ u₃ m₃ i₄ j₄) (h₄ : CombinedCounted bits₁ bits₂ table s₂ (step / 5) l₁ i₄ l₂ j₄ u₄ m₄ i₅ j₅)
       (joined : Joined (unionOfFour u₁ u₂ u₃ u₄) (m₁ + (m₂ + (m₃ + m₄))) u m) where
     all-tallied : (p q : Picture) (k r c κ : ℕ) → Seen p q k r c κ bits₁ bits₂ step leaf₁ at₁ leaf₂ at₂ → Tallied (combined p q table s₂) k r c u m
     all-tallied p q zero r c κ s = absurd (not-pixel s e₁ e₂ n)
@@ -205,7 +205,7 @@ module _ {bits₁ bits₂ : List ℕ} {step leaf₁ at₁ leaf₂ at₂ l₁ i�
         (h₄ .tallied p q k (r + 2 ^ k) (c + 2 ^ k) (childKey κ k 4) (se-seen s e₁ e₂ (h₁ .passes) (h₂ .passes) (h₃ .passes)))
         joined
 
-    pub node-counted : BlockCounted bits₁ bits₂ table s₂ step leaf₁ at₁ leaf₂ at₂ u m i₅ j₅
+    pub node-counted : CombinedCounted bits₁ bits₂ table s₂ step leaf₁ at₁ leaf₂ at₂ u m i₅ j₅
     node-counted = record { passes = all-pass (h₁ .passes) (h₂ .passes) (h₃ .passes) (h₄ .passes); tallied = all-tallied }
 
   module _ {table : List ℕ} {s₂ u₁ u₂ u₃ u₄ x₂ x₃ x₄ x₅ u x key place : ℕ} {keys bits keys₁ bits₁′ keys₂ bits₂′ keys₃ bits₃ keys₄ bits₄ keys₅ bits₅ : List ℕ}

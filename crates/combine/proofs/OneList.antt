@@ -91,12 +91,12 @@ module _ {p : Picture} {k r c κ : ℕ} {bits : List ℕ} {leaf at leaf′ at′
       (λ several. several))
 
 -- between the quadrants of a block: a leaf waits, and of a node the quadrants from one on follow
-pub record Quarters (p : Picture) (k r c κ : ℕ) (bits : List ℕ) (leaf₀ at₀ leaf at d : ℕ) : Type 0 where
+pub record WaitingQuarters (p : Picture) (k r c κ : ℕ) (bits : List ℕ) (leaf₀ at₀ leaf at d : ℕ) : Type 0 where
   pub waits : (leaf ≡ 0 → ⊥) → (leaf ≡ bitsOf p (suc k) r c) × ((oneSlot leaf ≡ true) × (at ≡ at₀ + passing p (suc k) r c κ leaf₀))
   pub follow : leaf ≡ 0 → (leaf₀ ≡ 0) × Left p k r c κ bits at₀ at d
 
 pub quarters-all : {p : Picture} {k r c κ : ℕ} {bits : List ℕ} {leaf₀ at₀ leaf at : ℕ} → At p (suc k) r c κ bits leaf₀ at₀ → Entered bits leaf₀ at₀ leaf at
-    → Quarters p k r c κ bits leaf₀ at₀ leaf at 0
+    → WaitingQuarters p k r c κ bits leaf₀ at₀ leaf at 0
 quarters-all {p} {k} {r} {c} {κ} {bits} {leaf₀} {at₀} {leaf} {at} a e = record {
   waits = λ h. let f = entered-leaf a e h in (f .0, (f .1, leaf-passed a e h));
   follow = λ z.
@@ -105,7 +105,7 @@ quarters-all {p} {k} {r} {c} {κ} {bits} {leaf₀} {at₀} {leaf} {at} a e = rec
       (y, rw one (left-all (a .listed y) (entered-several a e z)));
 }
 
-module _ {p : Picture} {k r c κ : ℕ} {bits : List ℕ} {leaf₀ at₀ leaf at d : ℕ} (x : Quarters p k r c κ bits leaf₀ at₀ leaf at d) where
+module _ {p : Picture} {k r c κ : ℕ} {bits : List ℕ} {leaf₀ at₀ leaf at d : ℕ} (x : WaitingQuarters p k r c κ bits leaf₀ at₀ leaf at d) where
   -- the list stands at the next quadrant
   pub quarter-at : d < 4 → Under (suc k) r c κ k (quadrantRow d r (2 ^ k)) (quadrantColumn d c (2 ^ k)) (childKey κ k (suc d))
       → At p k (quadrantRow d r (2 ^ k)) (quadrantColumn d c (2 ^ k)) (childKey κ k (suc d)) bits leaf at
@@ -121,7 +121,7 @@ module _ {p : Picture} {k r c κ : ℕ} {bits : List ℕ} {leaf₀ at₀ leaf at
   -- and once it is passed at the one after it
   pub quarter-next : d < 4 → (at′ : ℕ)
       → at′ ≡ at + passing p k (quadrantRow d r (2 ^ k)) (quadrantColumn d c (2 ^ k)) (childKey κ k (suc d)) leaf
-      → Quarters p k r c κ bits leaf₀ at₀ leaf at′ (d + 1)
+      → WaitingQuarters p k r c κ bits leaf₀ at₀ leaf at′ (d + 1)
   quarter-next h at′ e = record {
     waits = λ y.
         let w = x .waits y in

@@ -17,7 +17,7 @@ use Rattle.laws.proofs.Combined.{combined-is, combined-one}
 use Rattle.list.specs.Check.{oneSlot}
 use Rattle.build.proofs.CountBlock.{tallied-pixel, tallied-one}
 use Rattle.build.proofs.WrittenBlock.{written-one}
-use Rattle.combine.specs.Combining.{Entered, Seen, Passes, Named, BlockCounted, Made}
+use Rattle.combine.specs.Combining.{Entered, Seen, Passes, Named, CombinedCounted, Made}
 use Rattle.combine.proofs.OneList.{entered-leaf, entered-several, leaf-uniform, leaf-feature, leaf-passed}
 use Rattle.combine.proofs.Table.{named-place, named-class}
 
@@ -67,7 +67,7 @@ module _ {p q : Picture} {k r c κ : ℕ} {bits₁ bits₂ : List ℕ} {step lea
 -- what is counted, and what is written, of two leaves
 module _ {bits₁ bits₂ : List ℕ} {step leaf₁ at₁ leaf₂ at₂ l₁ i l₂ j b : ℕ} {table : List ℕ} {s₂ : ℕ}
     (e₁ : Entered bits₁ leaf₁ at₁ l₁ i) (e₂ : Entered bits₂ leaf₂ at₂ l₂ j) (t : bothLeaves l₁ l₂) (e : b ≡ 2 ^ classOf table s₂ (featureOf l₁) (featureOf l₂)) where
-  pub leaves-counted : BlockCounted bits₁ bits₂ table s₂ step leaf₁ at₁ leaf₂ at₂ b 1 i j
+  pub leaves-counted : CombinedCounted bits₁ bits₂ table s₂ step leaf₁ at₁ leaf₂ at₂ b 1 i j
   leaves-counted = record {
     passes = λ p q k r c κ s. leaves-pass s e₁ e₂ t;
     tallied = λ p q k r c κ s. tallied-one k (leaves-one s e₁ e₂ t table s₂) (tallied-pixel (combined p q table s₂) r c b (leaves-bits s e₁ e₂ t table s₂ b e));

@@ -20,10 +20,10 @@ use Rattle.build.specs.BuildBlocks.{Written}
 use Rattle.build.proofs.CountBlock.{list-five}
 use Rattle.build.proofs.FittingBlock.{keys-length, bits-length}
 use Rattle.build.proofs.BuildCall.{root-run}
-use Rattle.combine.specs.Combining.{Seen, Asked, WriteAsked, BlockCounted, Made}
-use Rattle.combine.specs.Ready.{Ready, resultOf, Answered}
+use Rattle.combine.specs.Combining.{Seen, CombineAsked, CombineWriteAsked, CombinedCounted, Made}
+use Rattle.combine.specs.Ready.{CombineReady, resultOf, Answered}
 
-module _ {m : ℕ} {keys₁ bits₁ : List ℕ} {n₁ : ℕ} {keys₂ bits₂ : List ℕ} {n₂ : ℕ} {table : List ℕ} {s₂ : ℕ} (y : Ready m keys₁ bits₁ n₁ keys₂ bits₂ n₂ table s₂) where
+module _ {m : ℕ} {keys₁ bits₁ : List ℕ} {n₁ : ℕ} {keys₂ bits₂ : List ℕ} {n₂ : ℕ} {table : List ℕ} {s₂ : ℕ} (y : CombineReady m keys₁ bits₁ n₁ keys₂ bits₂ n₂ table s₂) where
   -- the root is listed first in both
   root-seen : {step : ℕ} → step ≡ 5 ^ m → Seen (shownBy m keys₁ bits₁ n₁) (shownBy m keys₂ bits₂ n₂) m 0 0 0 bits₁ bits₂ step 0 0 0 0
   root-seen e = record {
@@ -32,7 +32,7 @@ module _ {m : ℕ} {keys₁ bits₁ : List ℕ} {n₁ : ℕ} {keys₂ bits₂ : 
     second-at = record { inside = λ h. absurd (h refl); listed = λ z. root-shown (y .second-own) };
   }
 
-  pub root-asked : {step : ℕ} → step ≡ 5 ^ m → Asked bits₁ bits₂ table s₂ step 0 0 0 0
+  pub root-asked : {step : ℕ} → step ≡ 5 ^ m → CombineAsked bits₁ bits₂ table s₂ step 0 0 0 0
   root-asked e = record {
     first = shownBy m keys₁ bits₁ n₁;
     second = shownBy m keys₂ bits₂ n₂;
@@ -45,7 +45,7 @@ module _ {m : ℕ} {keys₁ bits₁ : List ℕ} {n₁ : ℕ} {keys₂ bits₂ : 
     named = y .named;
   }
 
-  pub root-count : {step u n i j : ℕ} → step ≡ 5 ^ m → BlockCounted bits₁ bits₂ table s₂ step 0 0 0 0 u n i j
+  pub root-count : {step u n i j : ℕ} → step ≡ 5 ^ m → CombinedCounted bits₁ bits₂ table s₂ step 0 0 0 0 u n i j
       → n ≡ length (resultOf m keys₁ bits₁ n₁ keys₂ bits₂ n₂ table s₂)
   root-count e h = h .tallied _ _ _ _ _ _ (root-seen e) .count-is
 
@@ -74,7 +74,7 @@ module _ {m : ℕ} {keys₁ bits₁ : List ℕ} {n₁ : ℕ} {keys₂ bits₂ : 
     }
 
     module _ (fits : length (resultOf m keys₁ bits₁ n₁ keys₂ bits₂ n₂ table s₂) ≤ room keys bits) where
-      pub root-fits : {step : ℕ} → step ≡ 5 ^ m → WriteAsked bits₁ bits₂ table s₂ step 0 0 0 0 0 0 keys bits
+      pub root-fits : {step : ℕ} → step ≡ 5 ^ m → CombineWriteAsked bits₁ bits₂ table s₂ step 0 0 0 0 0 0 keys bits
       unfolding root-asked
       root-fits e = record {
         asked = root-asked e;

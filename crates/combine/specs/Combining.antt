@@ -56,7 +56,7 @@ pub record Named (p q : Picture) (k r c : ℕ) (table : List ℕ) (s₂ : ℕ) :
   pub seconds : featuresBelow s₂ q k r c ≡ true
 
 -- some block that both lists show, with a table for its classes
-pub record Asked (bits₁ bits₂ table : List ℕ) (s₂ step leaf₁ at₁ leaf₂ at₂ : ℕ) : Type 0 where
+pub record CombineAsked (bits₁ bits₂ table : List ℕ) (s₂ step leaf₁ at₁ leaf₂ at₂ : ℕ) : Type 0 where
   pub first : Picture
   pub second : Picture
   pub height : ℕ
@@ -68,8 +68,8 @@ pub record Asked (bits₁ bits₂ table : List ℕ) (s₂ step leaf₁ at₁ lea
   pub named : Named first second height row column table s₂
 
 -- and room for the records below it, as build asks for it
-pub record WriteAsked (bits₁ bits₂ table : List ℕ) (s₂ step leaf₁ at₁ leaf₂ at₂ key place : ℕ) (keys bits : List ℕ) : Type 0 where
-  pub asked : Asked bits₁ bits₂ table s₂ step leaf₁ at₁ leaf₂ at₂
+pub record CombineWriteAsked (bits₁ bits₂ table : List ℕ) (s₂ step leaf₁ at₁ leaf₂ at₂ key place : ℕ) (keys bits : List ℕ) : Type 0 where
+  pub asked : CombineAsked bits₁ bits₂ table s₂ step leaf₁ at₁ leaf₂ at₂
   pub fits : Fitting (combined (asked .first) (asked .second) table s₂) (asked .height) (asked .row) (asked .column) key place keys bits
 
 -- whichever pictures the two lists show at the block, these are the places after it
@@ -78,7 +78,7 @@ AllPass bits₁ bits₂ step leaf₁ at₁ leaf₂ at₂ next₁ next₂ =
     (p q : Picture) (k r c κ : ℕ) → Seen p q k r c κ bits₁ bits₂ step leaf₁ at₁ leaf₂ at₂ → Passes p q k r c κ leaf₁ at₁ leaf₂ at₂ next₁ next₂
 
 -- and these the bits and the number of records of the combined block
-pub record BlockCounted (bits₁ bits₂ table : List ℕ) (s₂ step leaf₁ at₁ leaf₂ at₂ union count next₁ next₂ : ℕ) : Type 0 where
+pub record CombinedCounted (bits₁ bits₂ table : List ℕ) (s₂ step leaf₁ at₁ leaf₂ at₂ union count next₁ next₂ : ℕ) : Type 0 where
   pub passes : AllPass bits₁ bits₂ step leaf₁ at₁ leaf₂ at₂ next₁ next₂
   pub tallied : (p q : Picture) (k r c κ : ℕ) → Seen p q k r c κ bits₁ bits₂ step leaf₁ at₁ leaf₂ at₂
       → Tallied (combined p q table s₂) k r c union count

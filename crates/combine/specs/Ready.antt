@@ -24,7 +24,7 @@ earlyRows m₁ s₁ keys₁ bits₁ n₁ m₂ s₂ keys₂ bits₂ n₂ s₃ tab
     ∷ []
 
 -- two accepted lists of one resolution, with a table for their classes
-pub record Ready (m : ℕ) (keys₁ bits₁ : List ℕ) (n₁ : ℕ) (keys₂ bits₂ : List ℕ) (n₂ : ℕ) (table : List ℕ) (s₂ : ℕ) : Type 0 where
+pub record CombineReady (m : ℕ) (keys₁ bits₁ : List ℕ) (n₁ : ℕ) (keys₂ bits₂ : List ℕ) (n₂ : ℕ) (table : List ℕ) (s₂ : ℕ) : Type 0 where
   pub deep : m ≤ 10
   pub first-own : OwnList m keys₁ bits₁ n₁
   pub second-own : OwnList m keys₂ bits₂ n₂

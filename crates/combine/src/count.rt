@@ -1,12 +1,12 @@
 // Counting the records of two combined lists, without writing any: one recursion over the blocks goes down both lists together.
-ghost use Rattle.combine.specs.Combining.{Asked, BlockCounted};
+ghost use Rattle.combine.specs.Combining.{CombineAsked, CombinedCounted};
 use crate::classes;
 use crate::cursor;
 use build::count;
 use build::count::Tally;
 
 // The tally of a combined block, and the places after the block in both lists.
-pub struct Counting {
+pub struct CombinedTally {
     pub tally: Tally,
     pub first: usize,
     pub second: usize,
@@ -23,16 +23,16 @@ pub fn count_block(
     at1: usize,
     leaf2: u32,
     at2: usize,
-) -> Counting
-    requires { ⌜ Asked (now bits1) (now bits2) (now table) s2 step leaf1 at1 leaf2 at2 ⌝ }
-    ensures { λ r. ⌜ BlockCounted (now (bits1 .entry)) (now (bits2 .entry)) (now (table .entry)) s2 step leaf1 at1 leaf2 at2 (r .tally .bits) (r .tally .count) (r .first) (r .second) ⌝ }
+) -> CombinedTally
+    requires { ⌜ CombineAsked (now bits1) (now bits2) (now table) s2 step leaf1 at1 leaf2 at2 ⌝ }
+    ensures { λ r. ⌜ CombinedCounted (now (bits1 .entry)) (now (bits2 .entry)) (now (table .entry)) s2 step leaf1 at1 leaf2 at2 (r .tally .bits) (r .tally .count) (r .first) (r .second) ⌝ }
 {
     let a = cursor::enter(bits1, leaf1, at1);
     let b = cursor::enter(bits2, leaf2, at2);
     if (a.leaf != 0) & (b.leaf != 0) {
         let bits = classes::class_bits(table, s2, a.leaf, b.leaf);
         let tally = Tally { bits, count: 1 };
-        return Counting {
+        return CombinedTally {
             tally,
             first: a.at,
             second: b.at,
@@ -76,7 +76,7 @@ pub fn count_block(
     let tally = count::joined(nw.tally, ne.tally, sw.tally, se.tally);
     let first = se.first;
     let second = se.second;
-    Counting {
+    CombinedTally {
         tally,
         first,
         second,

@@ -6,7 +6,7 @@ ghost use lib.ListN.{length};
 ghost use mathlib.Core.Bool.{_||_};
 ghost use Rattle.definitions.specs.Refusal.{first, badSettings};
 ghost use Rattle.definitions.specs.Calls.Combine.{combine as combination, combineKeys, combineBits};
-ghost use Rattle.combine.specs.Ready.{earlyRows, Ready, resultOf, Answered};
+ghost use Rattle.combine.specs.Ready.{earlyRows, CombineReady, resultOf, Answered};
 use definitions::Counted;
 use keys::Key;
 use keys::power;
@@ -80,7 +80,7 @@ fn has_room(
     s2: usize,
     room: usize,
 ) -> bool
-    requires { ⌜ Ready m (now keys1) (now bits1) n1 (now keys2) (now bits2) n2 (now table) s2 ⌝ }
+    requires { ⌜ CombineReady m (now keys1) (now bits1) n1 (now keys2) (now bits2) n2 (now table) s2 ⌝ }
     ensures { λ r. ⌜ r ≡ leb (length (resultOf m (now (keys1 .entry)) (now (bits1 .entry)) n1 (now (keys2 .entry)) (now (bits2 .entry)) n2 (now (table .entry)) s2)) room ⌝ }
 {
     if n1 + n2 - 1 <= room {
@@ -106,7 +106,7 @@ fn combine_ready(
     keys: &mut [u32],
     bits: &mut [u32],
 ) -> Counted
-    requires { ⌜ Ready m (now keys1) (now bits1) n1 (now keys2) (now bits2) n2 (now table) s2 ⌝ }
+    requires { ⌜ CombineReady m (now keys1) (now bits1) n1 (now keys2) (now bits2) n2 (now table) s2 ⌝ }
     ensures { λ r. ⌜ Answered (resultOf m (now (keys1 .entry)) (now (bits1 .entry)) n1 (now (keys2 .entry)) (now (bits2 .entry)) n2 (now (table .entry)) s2) (now (keys .entry)) (now (bits .entry)) (now (keys .exit)) (now (bits .exit)) (r .refusal) (r .count) ⌝ }
 {
     let room = slices::smaller(keys.len(), bits.len());

@@ -1,5 +1,5 @@
 // Writing the records of two combined lists: one recursion over the blocks goes down both lists together, and quadrants are merged by build's rule.
-ghost use Rattle.combine.specs.Combining.{WriteAsked, Made};
+ghost use Rattle.combine.specs.Combining.{CombineWriteAsked, Made};
 use crate::classes;
 use crate::cursor;
 use build::write;
@@ -29,7 +29,7 @@ pub fn write_block(
     keys: &mut [u32],
     bits: &mut [u32],
 ) -> Writing
-    requires { ⌜ WriteAsked (now bits1) (now bits2) (now table) s2 step leaf1 at1 leaf2 at2 key place (now keys) (now bits) ⌝ }
+    requires { ⌜ CombineWriteAsked (now bits1) (now bits2) (now table) s2 step leaf1 at1 leaf2 at2 key place (now keys) (now bits) ⌝ }
     ensures { λ r. ⌜ Made (now (bits1 .entry)) (now (bits2 .entry)) (now (table .entry)) s2 step leaf1 at1 leaf2 at2 key place (now (keys .entry)) (now (bits .entry)) (now (keys .exit)) (now (bits .exit)) (r .below .bits) (r .below .next) (r .first) (r .second) ⌝ }
 {
     let a = cursor::enter(bits1, leaf1, at1);

@@ -16,7 +16,7 @@ use Rattle.definitions.specs.Calls.FillSummary.{fillRefusal, filledSumma
 use Rattle.definitions.specs.Calls.Area.{areaRefusal, area}
 use Rattle.definitions.specs.declared.Window.{Window}
 use Rattle.definitions.specs.declared.Measured.{Measured}
-use Rattle.definitions.proofs.Vectors.{Row, row, Holds, key, window, mapA, keysA, bitsA, unwritten}
+use Rattle.definitions.proofs.Vectors.{VectorRow, row, Holds, key, window, mapA, keysA, bitsA, unwritten}
 
 abbrev pictureA : Picture
 pictureA = pictureOfRaster 2 mapA
@@ -52,7 +52,7 @@ of-measured r = r .refusal ∷ r .pixels ∷ []
 abbrev asked : ℕ → ℕ → ℕ → List ℕ → Window → ℕ → List ℕ
 asked m s n summary w f = of-measured (area m s (keysA 0) (bitsA 0) n summary w f)
 
-table : List Row
+table : List VectorRow
 table =
     -- the summary of Map A has 16 blocks of one pixel
     row (summaryOf 2 3 pictureA) summaryA

@@ -21,7 +21,7 @@ use Rattle.definitions.specs.Calls.Raster.{rasterRefusal, rasterPixels}
 use Rattle.definitions.specs.Calls.Paint.{painted}
 use Rattle.definitions.specs.Calls.Store.{stored, storeRefusal, store, storeFile}
 use Rattle.definitions.specs.Calls.Load.{loadRefusal, load, loadKeys, loadBits}
-use Rattle.definitions.proofs.Vectors.{Row, row, Holds, shown, window, of-counted, unwritten}
+use Rattle.definitions.proofs.Vectors.{VectorRow, row, Holds, shown, window, of-counted, unwritten}
 
 abbrev truth : Bool → ℕ
 truth b = cond b 1 0
@@ -53,7 +53,7 @@ fileBytes =
 abbrev judged : ℕ → ℕ → ℕ
 judged version s = loadRefusal (0x48 ∷ 0x4C ∷ 0x51 ∷ 0 ∷ version ∷ 0 ∷ s ∷ 0 ∷ 0 ∷ 0 ∷ 0 ∷ []) [] []
 
-table : List Row
+table : List VectorRow
 table =
     -- build: the list, and 33 slots are too many
     row (of-counted (build 1 32 pixels (unwritten 6) (unwritten 6))) (0 ∷ 5 ∷ [])

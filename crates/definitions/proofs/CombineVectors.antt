@@ -11,7 +11,7 @@ use Rattle.definitions.specs.Read.{paired, valueAt, pictureOf, sameRecor
 use Rattle.definitions.specs.Refusal.{first, badSettings, badPixel}
 use Rattle.definitions.specs.Combine.{combined, combinedList, badClassTable}
 use Rattle.definitions.specs.Calls.Combine.{combination, combineRefusal, combine, combineKeys, combineBits}
-use Rattle.definitions.proofs.Vectors.{Row, row, Holds, of-counted, keysA, bitsA, unwritten}
+use Rattle.definitions.proofs.Vectors.{VectorRow, row, Holds, of-counted, keysA, bitsA, unwritten}
 
 -- a map of side 2 with two features, and its list of five records
 abbrev keys : List ℕ
@@ -36,7 +36,7 @@ keysWith table = combineKeys 2 3 (keysA 0) (bitsA 0) 9 2 3 (keysA 0) (bitsA 0) 9
 abbrev bitsWith : List ℕ → List ℕ
 bitsWith table = combineBits 2 3 (keysA 0) (bitsA 0) 9 2 3 (keysA 0) (bitsA 0) 9 3 table (unwritten 10) (unwritten 11)
 
-table : List Row
+table : List VectorRow
 table =
     -- class a * 2 + b, and the second feature is 1 everywhere
     row (asked 1 2 5 1 2 1 4 four 5) (0 ∷ 5 ∷ [])

@@ -25,17 +25,17 @@ use Rattle.definitions.specs.Offices.{rowsIn, tableOf, rowsOf, rowsAscen
 use Rattle.definitions.specs.Calls.Load.{loadRefusal}
 use Rattle.definitions.specs.declared.Rule.{Rule}
 use Rattle.definitions.specs.declared.Found.{Found}
-use Rattle.definitions.proofs.Vectors.{tableWith, Row, row, Holds, key, of-counted, of-edited, mapA, keysA, bitsA, unwritten}
+use Rattle.definitions.proofs.Vectors.{tableWith, VectorRow, row, Holds, key, of-counted, of-edited, mapA, keysA, bitsA, unwritten}
 use Rattle.definitions.proofs.AreaVectors.{counted, summaryA}
 
 -- a yes or no, as 1 or 0
 abbrev truth : Bool → ℕ
 truth b = cond b 1 0
 
-abbrev says : Bool → ℕ → Row
+abbrev says : Bool → ℕ → VectorRow
 says computed said = row (truth computed ∷ []) (said ∷ [])
 
-abbrev gives : ℕ → ℕ → Row
+abbrev gives : ℕ → ℕ → VectorRow
 gives computed said = row (computed ∷ []) (said ∷ [])
 
 -- a file of eleven bytes: mark, version, m, s and n
@@ -45,7 +45,7 @@ head high low m s n = 0x48 ∷ 0x4C ∷ 0x51 ∷ high ∷ low ∷ m ∷ s ∷ n
 abbrev rule : ℕ → Rule
 rule id = record { id = id; row = 0; column = 0; height = 4; width = 4; feature = 2 }
 
-table : List Row
+table : List VectorRow
 table =
     -- keys: pixel (row 1, column 2) at m = 2 is 13; the largest at m = 10 is 9,765,624; at m = 0 the only one is 0
     row (pixelKey 2 1 2 ∷ digitsOf 2 13) (13 ∷ 2 ∷ 3 ∷ [])

@@ -16,13 +16,13 @@ use Rattle.definitions.specs.Edit.{put, paintIn, contentOf}
 use Rattle.definitions.specs.Log.{closed, entryOf, countRecord, lastRecord, lastKey, lastFeature, lastCount, beforeLast, lastContent, isContent, closes, lastIsEntry, dividesIn, isSound, noLog}
 use Rattle.definitions.specs.Rules.{findingsOf, allFindings, waiversOf, isWaivedAt, isHidden, liveOf, hiddenCount, isRule, allRules, idsAscend, badRules, findingsAscend, isRuleId, allWaivers, badWaivers}
 use Rattle.definitions.specs.Calls.Paint.{painted, gained, paintRefusal, paint, paintKeys, paintBits}
-use Rattle.definitions.specs.Calls.Findings.{liveIn, hiddenIn, refusalWith, foundWith, keysWith, findings, findingsKeys}
+use Rattle.definitions.specs.Calls.Findings.{liveIn, hiddenIn, refusalWith, foundWith, foundKeysWith, findings, findingsKeys}
 use Rattle.definitions.specs.Offices.{rowsIn, tableOf, rowsOf, rowsAscend, officesKnown, isSoundTable, isTable, rowKeysValid}
 use Rattle.definitions.specs.declared.Rule.{Rule}
 use Rattle.definitions.specs.declared.Found.{Found}
 use Rattle.definitions.specs.Area.{countOf, pixelsWith, countsFrom, summaryBelow, summaryOf, sameNumbers, noSummary}
 use Rattle.definitions.proofs.AreaVectors.{summaryA}
-use Rattle.definitions.proofs.Vectors.{tableWith, Row, row, Holds, key, of-edited, keysA, bitsA, unwritten}
+use Rattle.definitions.proofs.Vectors.{tableWith, VectorRow, row, Holds, key, of-edited, keysA, bitsA, unwritten}
 
 -- scrub anywhere, by two rules
 abbrev rule : ℕ → Rule
@@ -54,7 +54,7 @@ four = key (2 ∷ 1 ∷ []) ∷ key (2 ∷ 2 ∷ []) ∷ key (2 ∷ 3 ∷ []) �
 abbrev parent : ℕ
 parent = key (2 ∷ 0 ∷ [])
 
-table : List Row
+table : List VectorRow
 table =
     -- rule 7's three findings are waived, and the gap with them; rule 8 has no waiver and three findings
     row (of-found (before (7 ∷ 7 ∷ 7 ∷ 7 ∷ []) four)) (0 ∷ 3 ∷ 3 ∷ [])
@@ -95,5 +95,5 @@ unfolding
     findingsOf allFindings waiversOf isWaivedAt isHidden liveOf hiddenCount isRule allRules idsAscend badRules findingsAscend isRuleId allWaivers badWaivers
     painted gained paintRefusal paint paintKeys paintBits
     rowsIn tableOf rowsOf rowsAscend officesKnown isSoundTable isTable rowKeysValid
-    liveIn hiddenIn refusalWith foundWith keysWith tableWith
+    liveIn hiddenIn refusalWith foundWith foundKeysWith tableWith
 claim = refl

@@ -20,7 +20,7 @@ use Rattle.definitions.specs.Calls.Paint.{painted, gained, paintRefusal,
 use Rattle.definitions.specs.Calls.PaintWindow.{filled, groupGained, paintWindowRefusal, paintWindow, paintWindowKeys, paintWindowBits, paintWindowSummary, paintWindowLogKeys, paintWindowLogValues}
 use Rattle.definitions.specs.Calls.TakeBack.{restored, takeBackRefusal, forceBefore, takeBack, takeBackKeys, takeBackBits, takeBackSummary, takeBackLogKeys}
 use Rattle.definitions.specs.Calls.Redo.{redone, redoRefusal, forceAfter, redo, redoKeys, redoBits}
-use Rattle.definitions.proofs.Vectors.{Row, row, Holds, key, slots, window, of-edited, keysA, bitsA, unwritten}
+use Rattle.definitions.proofs.Vectors.{VectorRow, row, Holds, key, slots, window, of-edited, keysA, bitsA, unwritten}
 use Rattle.definitions.proofs.AreaVectors.{counted, summaryA}
 
 -- the window of rows 0 and 1, columns 1 to 3, has the largest blocks 12, 14 and 20; painted with 2 it leaves 0222, 0222, 2200, 2200
@@ -66,7 +66,7 @@ overlapKeys = key (2 ∷ 0 ∷ []) ∷ key (2 ∷ 0 ∷ []) ∷ key (2 ∷ 0 ∷
 abbrev overlapValues : List ℕ
 overlapValues = slots (1 ∷ 0 ∷ 0 ∷ []) ∷ 1 ∷ 2 ∷ slots (0 ∷ 1 ∷ 0 ∷ []) ∷ 1 ∷ 1 ∷ 2 ∷ 255 ∷ []
 
-table : List Row
+table : List VectorRow
 table =
     row (largestBlocks 2 (window 0 1 2 3)) (key (1 ∷ 2 ∷ []) ∷ key (1 ∷ 4 ∷ []) ∷ key (2 ∷ 0 ∷ []) ∷ [])
     -- painted, into exactly the nine places that the list has then; its first block alone would need thirteen

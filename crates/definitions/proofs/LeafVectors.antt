@@ -13,7 +13,7 @@ use Rattle.definitions.specs.Refusal.{first, badSettings, badPixel}
 use Rattle.definitions.specs.Leaves.{leavesOf, validKeys, ascendFrom, coverings, coverOnce, areLeaves, isDelivery, pictureOfLeaves}
 use Rattle.definitions.specs.Calls.ReadLeaves.{readLeavesRefusal, readLeaves, readLeavesKeys, readLeavesBits}
 use Rattle.definitions.specs.Calls.WriteLeaves.{writeLeavesRefusal, writeLeaves, writtenLeafKeys, writtenLeafFeatures}
-use Rattle.definitions.proofs.Vectors.{Row, row, Holds, key, of-counted, keysA, bitsA, unwritten}
+use Rattle.definitions.proofs.Vectors.{VectorRow, row, Holds, key, of-counted, keysA, bitsA, unwritten}
 
 -- a key of three digits, and one of two
 abbrev at3 : ℕ → ℕ → ℕ → ℕ
@@ -67,7 +67,7 @@ twos = 2 ∷ 2 ∷ 2 ∷ 2 ∷ 2 ∷ 2 ∷ 2 ∷ 2 ∷ 2 ∷ 2 ∷ 2 ∷ 2 ∷ 2
 abbrev asked : List ℕ → List ℕ → ℕ → List ℕ
 asked leafKeys leafFeatures leaves = of-counted (readLeaves 2 3 leafKeys leafFeatures leaves (unwritten 9) (unwritten 9))
 
-table : List Row
+table : List VectorRow
 table =
     -- document 000: read, and written again
     row (of-counted (readLeaves 3 4 figureKeys figureFeatures 16 (unwritten 22) (unwritten 21))) (0 ∷ 21 ∷ [])

@@ -19,7 +19,7 @@ use Rattle.definitions.specs.Calls.Report.{reportRefusal, report}
 use Rattle.definitions.specs.Calls.Select.{selected, selectRefusal, select, selectAnswer}
 use Rattle.definitions.specs.Calls.Paint.{painted, gained, paintRefusal, paint, paintKeys, paintBits, paintSummary, paintLogKeys, paintLogValues}
 use Rattle.definitions.specs.Calls.TakeBack.{restored, takeBackRefusal, forceBefore, takeBack, takeBackKeys, takeBackBits, takeBackSummary, takeBackLogKeys, takeBackLogValues}
-use Rattle.definitions.proofs.Vectors.{Row, row, Holds, key, slots, window, shown, of-exist, of-report, of-counted, of-edited, mapA, keysA, bitsA, unwritten}
+use Rattle.definitions.proofs.Vectors.{VectorRow, row, Holds, key, slots, window, shown, of-exist, of-report, of-counted, of-edited, mapA, keysA, bitsA, unwritten}
 use Rattle.definitions.proofs.AreaVectors.{counted, summaryA}
 
 -- m = 3: the leaves of section 2.2 of document 000 as a raster
@@ -78,7 +78,7 @@ paintedLogKeys = key (2 ∷ 4 ∷ []) ∷ key (2 ∷ 4 ∷ []) ∷ key (2 ∷ 4 
 abbrev paintedLogValues : List ℕ
 paintedLogValues = slots (0 ∷ 0 ∷ 1 ∷ []) ∷ 1 ∷ 1 ∷ 77 ∷ []
 
-table : List Row
+table : List VectorRow
 table =
     -- A1
     row (keysOf (listOfRaster 2 mapA)) (keysA 0)

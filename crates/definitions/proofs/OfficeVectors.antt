@@ -18,7 +18,7 @@ use Rattle.definitions.specs.Calls.Findings.{liveIn, hiddenIn, refusalWi
 use Rattle.definitions.specs.Calls.AddWaiver.{addRefusal, addOffices, addIds, addKeys}
 use Rattle.definitions.specs.Calls.RemoveWaiver.{removeRefusal, removeOffices, removeIds, removeKeys}
 use Rattle.definitions.specs.declared.Rule.{Rule}
-use Rattle.definitions.proofs.Vectors.{Row, row, Holds, unwritten, tableWith}
+use Rattle.definitions.proofs.Vectors.{VectorRow, row, Holds, unwritten, tableWith}
 
 -- a map of side 2 with two features
 abbrev keys : List ℕ
@@ -31,10 +31,10 @@ bits = 3 ∷ 1 ∷ 1 ∷ 1 ∷ 2 ∷ []
 abbrev rule : ℕ → Rule
 rule id = record { id = id; row = 0; column = 0; height = 2; width = 2; feature = 0 }
 
-abbrev gives : ℕ → ℕ → Row
+abbrev gives : ℕ → ℕ → VectorRow
 gives refusal number = row (refusal ∷ []) (number ∷ [])
 
-table : List Row
+table : List VectorRow
 table =
     -- the other office's ids are not asked for, its keys are
     gives (findingsRefusal 1 2 keys bits 5 1 (rule 7 ∷ []) (tableWith []) (tableWith (8 ∷ [])) (tableWith (0 ∷ [])) 1 (unwritten 9) (unwritten 9)) 0

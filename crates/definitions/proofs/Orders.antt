@@ -31,7 +31,7 @@ use Rattle.definitions.specs.Calls.Batch.{refusalTo, valueTo, batchRefus
 use Rattle.definitions.specs.Calls.Paint.{painted, gained, paintRefusal}
 use Rattle.definitions.specs.Calls.TakeBack.{restored, takeBackRefusal}
 use Rattle.definitions.specs.Calls.Redo.{redone, redoRefusal}
-use Rattle.definitions.specs.Calls.Findings.{liveIn, hiddenIn, refusalWith, foundWith, idsWith, keysWith, findingsRefusal, findings, findingsIds, findingsKeys}
+use Rattle.definitions.specs.Calls.Findings.{liveIn, hiddenIn, refusalWith, foundWith, idsWith, foundKeysWith, findingsRefusal, findings, findingsIds, findingsKeys}
 use Rattle.definitions.specs.Offices.{rowsIn, tableOf, rowsOf, rowsAscend, officesKnown, isSoundTable, isTable, rowKeysValid}
 use Rattle.definitions.specs.Calls.Store.{stored, storeRefusal, store, storeFile}
 use Rattle.definitions.specs.Calls.Load.{loadRefusal, load, loadKeys, loadBits}
@@ -39,7 +39,7 @@ use Rattle.definitions.specs.declared.Rule.{Rule}
 use Rattle.definitions.specs.declared.Question.{Question}
 use Rattle.definitions.specs.declared.Stands.{Stands}
 use Rattle.definitions.specs.declared.Found.{Found}
-use Rattle.definitions.proofs.Vectors.{tableWith, Row, row, Holds, key, window, of-counted, keysA, bitsA, unwritten}
+use Rattle.definitions.proofs.Vectors.{tableWith, VectorRow, row, Holds, key, window, of-counted, keysA, bitsA, unwritten}
 
 -- a map of side 2 with two features, and its list of five records
 abbrev pixels : List ℕ
@@ -123,10 +123,10 @@ fileWith markByte version s rest =
     ∷ rest
 
 -- the number that a call gives, and the one that document 01 says
-abbrev gives : ℕ → ℕ → Row
+abbrev gives : ℕ → ℕ → VectorRow
 gives computed said = row (computed ∷ []) (said ∷ [])
 
-table : List Row
+table : List VectorRow
 table =
     -- build: 1, 2, 3, 9
     gives (buildRefusal 1 0 pixels keys bits) 1
@@ -297,6 +297,6 @@ unfolding
     exist report notBefore overlapEnd overlapLength overlapWindow refusalTo valueTo batchRefusal batch batchRefusals batchValues
     painted gained paintRefusal restored takeBackRefusal redone redoRefusal
     rowsIn tableOf rowsOf rowsAscend officesKnown isSoundTable isTable rowKeysValid
-    liveIn hiddenIn refusalWith foundWith idsWith keysWith tableWith
+    liveIn hiddenIn refusalWith foundWith idsWith foundKeysWith tableWith
     stored storeRefusal store storeFile loadRefusal load loadKeys loadBits
 claim = refl

@@ -18,7 +18,7 @@ use Rattle.definitions.specs.Log.{closed, entryOf, countRecord, lastReco
 use Rattle.definitions.specs.Calls.Paint.{painted, gained, paintRefusal, paint, paintLogKeys, paintLogValues}
 use Rattle.definitions.specs.Calls.TakeBack.{restored, takeBackRefusal, forceBefore, takeBack, takeBackLogKeys}
 use Rattle.definitions.specs.Calls.Redo.{redone, redoRefusal, forceAfter, redo, redoKeys, redoBits, redoSummary, redoLogKeys, redoLogValues}
-use Rattle.definitions.proofs.Vectors.{Row, row, Holds, key, slots, of-edited, keysA, bitsA, unwritten}
+use Rattle.definitions.proofs.Vectors.{VectorRow, row, Holds, key, slots, of-edited, keysA, bitsA, unwritten}
 use Rattle.definitions.proofs.AreaVectors.{counted, summaryA}
 
 -- the list after A9's paint of 24 with 1
@@ -52,7 +52,7 @@ shortKeys = key (2 ∷ 4 ∷ []) ∷ key (2 ∷ 4 ∷ []) ∷ key (2 ∷ 4 ∷ [
 abbrev shortValues : List ℕ
 shortValues = slots (0 ∷ 0 ∷ 1 ∷ []) ∷ 1 ∷ 1 ∷ 0 ∷ 0 ∷ 0 ∷ 0 ∷ 77 ∷ 77 ∷ []
 
-table : List Row
+table : List VectorRow
 table =
     -- the entries of A9 and A12
     row (paintLogKeys 2 3 (keysA 1) (bitsA 1) 9 summaryA (unwritten 9) (unwritten 9) 0 0 (key (2 ∷ 4 ∷ [])) 1) logKeysP

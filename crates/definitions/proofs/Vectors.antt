@@ -12,11 +12,11 @@ use Rattle.definitions.specs.declared.Counted.{Counted}
 use Rattle.definitions.specs.declared.Edited.{Edited}
 
 -- A row: what the definitions compute, and what the document says, both as lists of numbers.
-pub record Row : Type 0 where
+pub record VectorRow : Type 0 where
   pub computed : List ℕ
   pub said : List ℕ
 
-abbrev pub row : List ℕ → List ℕ → Row
+abbrev pub row : List ℕ → List ℕ → VectorRow
 row computed said = record { computed = computed; said = said }
 
 -- a key by its digits, and a bitstring by its slots with slot 0 leftmost
@@ -91,5 +91,5 @@ abbrev pub unwritten : ℕ → List ℕ
 unwritten places = replicate places 77
 
 -- every row's two sides are the same
-abbrev pub Holds : List Row → Type 0
+abbrev pub Holds : List VectorRow → Type 0
 Holds rows = map (λ r. r .computed) rows ≡ map (λ r. r .said) rows

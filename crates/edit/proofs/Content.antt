@@ -17,7 +17,7 @@ use Rattle.put.specs.Family.{blockBits}
 use Rattle.edit.specs.Content.{contentIn}
 use Rattle.put.proofs.Way.{Way, way-of, under-of}
 use Rattle.put.proofs.Context.{before, after, Open, spliced, context}
-use Rattle.put.proofs.Standing.{LeafAround, Stands, listed, inside, stands, place-listed, is-listed, part-listed, not-listed, part-inside, bits-at}
+use Rattle.put.proofs.Standing.{LeafAround, ListedOrInside, listed, inside, stands, place-listed, is-listed, part-listed, not-listed, part-inside, bits-at}
 use Rattle.put.proofs.Choice.{list-bits}
 
 -- the records between two lists
@@ -39,11 +39,11 @@ module _ (p : Picture) {m k r c κ : ℕ} (w : Way m 0 0 0 k r c κ) where
       ∙ ap (λ b. recordOf κ b ∷ []) (bits-at p w)
       ∙ sym (list-bits p k r c κ (one-under p (under-of (x .under)) (x .one)))
 
-  content-at : Stands p w → contentIn m (listOf p m 0 0 0) κ ≡ listOf p k r c κ
+  content-at : ListedOrInside p w → contentIn m (listOf p m 0 0 0) κ ≡ listOf p k r c κ
   content-at (listed o) = content-listed o
   content-at (inside x) = content-inside x
 
-  part-at : Stands p w → partLength m κ (listOf p m 0 0 0) ≡ length (listOf p k r c κ)
+  part-at : ListedOrInside p w → partLength m κ (listOf p m 0 0 0) ≡ length (listOf p k r c κ)
   part-at (listed o) = part-listed p w o m (block-valid (under-of w) .height)
   part-at (inside x) = part-inside p x m ∙ sym (ap length (list-bits p k r c κ (one-under p (under-of (x .under)) (x .one))))
 

@@ -15,7 +15,7 @@ use Rattle.list.specs.Own.{OwnList, shownBy}
 use Rattle.put.specs.Put.{planOf, lengthAfter, edited}
 use Rattle.put.specs.Putting.{Puttable, Replaced}
 use Rattle.put.specs.declared.plan.Plan.{Plan}
-use Rattle.put.proofs.Ready.{Ready, ready-for}
+use Rattle.put.proofs.Ready.{PlanReady, ready-for}
 use Rattle.put.proofs.Edited.{edited-put, edited-length}
 use Rattle.put.proofs.PlanTop.{records-length, length-for}
 
@@ -30,9 +30,9 @@ pub record Planned (m : ℕ) (keys bits : List ℕ) (n κ : ℕ) (content new : 
   pub plan-is : plan ≡ planOf m (recordsOf keys bits n) κ content
 
 module _ {m n κ : ℕ} {keys bits : List ℕ} {content new : List Record} {plan : Plan} (a : Planned m keys bits n κ content new plan) where
-  ready : Ready m κ (recordsOf keys bits n) content plan
+  ready : PlanReady m κ (recordsOf keys bits n) content plan
   ready =
-      subst (Ready m κ (recordsOf keys bits n) content) (sym (a .plan-is))
+      subst (PlanReady m κ (recordsOf keys bits n) content) (sym (a .plan-is))
       (ready-for m κ (a .picture) (shownBy m keys bits n) (recordsOf keys bits n) content (a .valid) (a .own .own) (a .content-is))
 
   -- the records that it takes out are there

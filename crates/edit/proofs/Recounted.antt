@@ -56,16 +56,16 @@ part-kept new old at s e =
     ∙ ap (λ l. l ++ drop (at + s) old) (sym (take-add at s new))
 
 -- the places of the first b blocks are those of the picture's summary, the others as they were
-pub record Counted (m s : ℕ) (p : Picture) (old now : List ℕ) (b : ℕ) : Type 0 where
+pub record CountedUpTo (m s : ℕ) (p : Picture) (old now : List ℕ) (b : ℕ) : Type 0 where
   pub places : now ≡ take (b * s) (summaryOf m s p) ++ drop (b * s) old
 
 module _ (m s : ℕ) (p : Picture) (old : List ℕ) (long : length old ≡ summaryLength m s) where
   -- at first none is
-  pub counted-none : Counted m s p old old 0
+  pub counted-none : CountedUpTo m s p old old 0
   counted-none = record { places = sym (ap (λ n. take n (summaryOf m s p) ++ drop n old) (zero-mul s)) }
 
   -- the length stays
-  pub counted-long : {now : List ℕ} {b : ℕ} → b ≤ 4 ^ summaryLevel m → Counted m s p old now b → length now ≡ summaryLength m s
+  pub counted-long : {now : List ℕ} {b : ℕ} → b ≤ 4 ^ summaryLevel m → CountedUpTo m s p old now b → length now ≡ summaryLength m s
   counted-long {now} {b} h x =
       let room = mul-le-mul-right {m = b} {n = 4 ^ summaryLevel m} s h in
       let size = summary-length m s p in
@@ -75,7 +75,7 @@ module _ (m s : ℕ) (p : Picture) (old : List ℕ) (long : length old ≡ summa
       omega arith
 
   -- at the end all are
-  pub counted-all : {now : List ℕ} {b : ℕ} → b ≡ 4 ^ summaryLevel m → Counted m s p old now b → now ≡ summaryOf m s p
+  pub counted-all : {now : List ℕ} {b : ℕ} → b ≡ 4 ^ summaryLevel m → CountedUpTo m s p old now b → now ≡ summaryOf m s p
   counted-all {now} {b} e x =
       let all : b * s ≡ summaryLength m s = ap (λ n. n * s) e in
       let size = summary-length m s p in
@@ -83,12 +83,12 @@ module _ (m s : ℕ) (p : Picture) (old : List ℕ) (long : length old ≡ summa
       ∙ ap₂ (λ y z. y ++ z) (take-all (b * s) (summaryOf m s p) (omega arith)) (let over : length old ≤ b * s = omega arith in drop-of-length-le old over)
       ∙ append-nil (summaryOf m s p)
 
-  module _ {now : List ℕ} {b : ℕ} (h : b < 4 ^ summaryLevel m) (x : Counted m s p old now b) where
+  module _ {now : List ℕ} {b : ℕ} (h : b < 4 ^ summaryLevel m) (x : CountedUpTo m s p old now b) where
     next : (b + 1) * s ≡ b * s + s
     next = ap (λ n. n * s) (add-one b) ∙ suc-mul b s
 
     -- a block counted anew
-    pub counted-renewed : (after : List ℕ) → after ≡ blocksRenewed m s p b (b + 1) now → Counted m s p old after (b + 1)
+    pub counted-renewed : (after : List ℕ) → after ≡ blocksRenewed m s p b (b + 1) now → CountedUpTo m s p old after (b + 1)
     unfolding blocksRenewed
     counted-renewed after is =
         let one : b + 1 - b ≡ 1 = omega arith in
@@ -103,7 +103,7 @@ module _ (m s : ℕ) (p : Picture) (old : List ℕ) (long : length old ≡ summa
         }
 
     -- a block whose counts are as they were
-    pub counted-kept : take s (drop (b * s) (summaryOf m s p)) ≡ take s (drop (b * s) old) → Counted m s p old now (b + 1)
+    pub counted-kept : take s (drop (b * s) (summaryOf m s p)) ≡ take s (drop (b * s) old) → CountedUpTo m s p old now (b + 1)
     counted-kept same = record {
       places = x .places
           ∙ part-kept (summaryOf m s p) old (b * s) s same

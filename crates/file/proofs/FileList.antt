@@ -17,7 +17,7 @@ use Rattle.laws.proofs.FileOf.{width-of}
 use Rattle.list.specs.Check.{oneSlot, restPlace, afterNode}
 use Rattle.list.proofs.Turn.{step-fifth}
 use Rattle.list.proofs.Content.{Stand, Answer, no-records, other-key, large-bits, one-record, many-records, keys-length, root-valid, root-list}
-use Rattle.file.specs.Layout.{Laid, keyAt, bitsAt, recordsAt, keysAt, valuesAt}
+use Rattle.file.specs.Layout.{RecordsFit, fileKeyAt, fileBitsAt, recordsAt, keysAt, valuesAt}
 use Rattle.file.specs.Room.{Exact}
 use Rattle.file.proofs.ReadBytes.{key-read, value-read}
 use Rattle.file.proofs.FileTurn.{many, size, in-file, Answered}
@@ -49,7 +49,7 @@ module _ {m s n : ℕ} {file : List ℕ} (exact : Exact m s n file) (w : ℕ) (w
   none-in-file e = no-records m s rootKey (keysAt w n file) (valuesAt w n file) n (root-valid m) e ∙ list-is
 
   -- the file has room for its records
-  pub all-laid : Laid w n file
+  pub all-laid : RecordsFit w n file
   all-laid = let e = exact .ends in record { width-is = rw w-is (width-of s); there = rw w-is (omega arith) }
 
   module _ (some : n ≡ 0 → ⊥) where
@@ -62,7 +62,7 @@ module _ {m s n : ℕ} {file : List ℕ} (exact : Exact m s n file) (w : ℕ) (w
     pub first : 0 < n
     first = omega (arith, some)
 
-    module _ (κ : ℕ) (κ-is : κ ≡ keyAt w 0 file) where
+    module _ (κ : ℕ) (κ-is : κ ≡ fileKeyAt w 0 file) where
       key-is : getD (keysAt w n file) 0 0 ≡ κ
       key-is = key-read w n 0 file first ∙ sym κ-is
 
@@ -70,7 +70,7 @@ module _ {m s n : ℕ} {file : List ℕ} (exact : Exact m s n file) (w : ℕ) (w
       pub other-root : (κ ≡ rootKey → ⊥) → false ≡ isListOfBlock m s m 0 0 rootKey (recordsInFile file)
       other-root h = other-key stand s (λ e. h (sym key-is ∙ e)) ∙ list-is
 
-      module _ (root : κ ≡ rootKey) (own : ℕ) (own-is : own ≡ bitsAt w 0 file) where
+      module _ (root : κ ≡ rootKey) (own : ℕ) (own-is : own ≡ fileBitsAt w 0 file) where
         bits-is : getD (valuesAt w n file) 0 0 ≡ own
         bits-is = value-read w n 0 file first ∙ sym own-is
 

@@ -13,7 +13,7 @@ use Rattle.keys.proofs.Cases.{decide}
 use Rattle.list.specs.Check.{oneSlot, restPlace, afterNode}
 use Rattle.list.proofs.Pixels.{too-few}
 use Rattle.list.proofs.Turn.{step-one}
-use Rattle.file.specs.Layout.{Laid, keyAt, bitsAt, recordsAt, keysAt, valuesAt}
+use Rattle.file.specs.Layout.{RecordsFit, fileKeyAt, fileBitsAt, recordsAt, keysAt, valuesAt}
 use Rattle.file.proofs.FileTurn.{many, size, in-place, Answered, PassedIn, begins-in, ends-in, differs-in, other-key-in, wrong-child-in, leaf-in, pixel-in}
 
 -- what the function answers, of the file's records
@@ -35,7 +35,7 @@ pub record PixelsIn (w n : ℕ) (file : List ℕ) (first key own next union digi
   pub passed : PassedIn w n file first key own 1 next union digit
 
 -- none at first
-pub pixels-begin : (w n : ℕ) (file : List ℕ) (first key own : ℕ) → Laid w n file × (first ≤ n) × (key + 5 < 2 ^ 32) → 4 ≤ n - first
+pub pixels-begin : (w n : ℕ) (file : List ℕ) (first key own : ℕ) → RecordsFit w n file × (first ≤ n) × (key + 5 < 2 ^ 32) → 4 ≤ n - first
     → PixelsIn w n file first key own first 0 1
 pixels-begin w n file first key own pre h = record {
   four = omega (arith, pre .1);
@@ -60,12 +60,12 @@ module _ {w n : ℕ} {file : List ℕ} {first key own next union digit : ℕ} (p
     pub there : next < n
     there = let e = p .place in let f = p .four in omega arith
 
-    module _ (κ : ℕ) (κ-is : κ ≡ keyAt w next file) where
+    module _ (κ : ℕ) (κ-is : κ ≡ fileKeyAt w next file) where
       -- another key
       pub other-pixel : (κ ≡ key + digit → ⊥) → RightIn w n file first key own false
       other-pixel h = wrong-pixel (other-key-in (p .passed) turn there κ κ-is refl (λ e. h (omega arith)))
 
-      module _ (child : κ ≡ key + digit) (found : ℕ) (found-is : found ≡ bitsAt w next file) where
+      module _ (child : κ ≡ key + digit) (found : ℕ) (found-is : found ≡ fileBitsAt w next file) where
         child-is : κ ≡ key + digit * 1
         child-is = omega arith
 

@@ -11,7 +11,7 @@ use Rattle.definitions.specs.Read.{paired}
 use Rattle.laws.proofs.Records.{paired-back}
 use Rattle.list.specs.Check.{oneSlot, restPlace, afterNode, stepUnder}
 use Rattle.list.proofs.Turn.{Answer, Passed, at-height, pixel, begins, ends, differs, short, other-key, wrong-child, goes-leaf, goes-node}
-use Rattle.file.specs.Layout.{Laid, keyAt, bitsAt, recordsAt, keysAt, valuesAt}
+use Rattle.file.specs.Layout.{RecordsFit, fileKeyAt, fileBitsAt, recordsAt, keysAt, valuesAt}
 use Rattle.file.proofs.ReadBytes.{key-read, value-read, keys-many, bits-many}
 
 -- what the function answers, of the file's records
@@ -62,7 +62,7 @@ pixel-in w n file first key own step low five one =
 
 -- what has been passed before a turn, and that the records are there
 pub record PassedIn (w n : ℕ) (file : List ℕ) (first key own step next union digit : ℕ) : Type 0 where
-  pub laid : Laid w n file
+  pub laid : RecordsFit w n file
   pub reached : next ≤ n
   pub passed : Passed (keysAt w n file) (valuesAt w n file) first key own step next union digit
 
@@ -74,7 +74,7 @@ pub record ChildrenIn (w n : ℕ) (file : List ℕ) (first key own step next uni
 
 -- before the first turn nothing has been passed
 pub begins-in : (w n : ℕ) (file : List ℕ) (first key own step : ℕ)
-    → Laid w n file × (first ≤ n) × (key + 5 * step < 2 ^ 32) → (step ≡ 0 → ⊥)
+    → RecordsFit w n file × (first ≤ n) × (key + 5 * step < 2 ^ 32) → (step ≡ 0 → ⊥)
     → PassedIn w n file first key own step first 0 1
 begins-in w n file first key own step pre positive =
     let e = many w n file in
@@ -99,7 +99,7 @@ module _ {w n : ℕ} {file : List ℕ} {first key own step next union digit : �
         answered w n file first key own step 0 (omega arith) (short (p .passed) turn past)
 
     -- a record is left with the key κ, and x is the child's key
-    module _ (there : next < n) (κ : ℕ) (κ-is : κ ≡ keyAt w next file) {x : ℕ} (is : x ≡ key + digit * step) where
+    module _ (there : next < n) (κ : ℕ) (κ-is : κ ≡ fileKeyAt w next file) {x : ℕ} (is : x ≡ key + digit * step) where
       listed : next < length (keysAt w n file)
       listed = let e = many w n file in omega arith
 
@@ -110,7 +110,7 @@ module _ {w n : ℕ} {file : List ℕ} {first key own step next union digit : �
       pub other-key-in : (κ ≡ x → ⊥) → Answered w n file first key own step 0
       other-key-in h = answered w n file first key own step 0 (omega arith) (other-key (p .passed) turn listed is (λ e. h (key-is ∙ e)))
 
-      module _ (child : κ ≡ x) (found : ℕ) (found-is : found ≡ bitsAt w next file) where
+      module _ (child : κ ≡ x) (found : ℕ) (found-is : found ≡ fileBitsAt w next file) where
         child-is : getD (keysAt w n file) next 0 ≡ x
         child-is = sym key-is ∙ child
 

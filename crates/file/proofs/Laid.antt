@@ -8,7 +8,7 @@ use lib.Seq.{sets}
 use Rattle.definitions.specs.List.{recordOf}
 use Rattle.definitions.specs.File.{Width, two, four, fileLength, bytesOf, bytesOfRecord, numberAt}
 use Rattle.laws.proofs.FileBytes.{length-bytes}
-use Rattle.file.specs.Layout.{Laid}
+use Rattle.file.specs.Layout.{RecordsFit}
 use Rattle.file.proofs.Stores.{sets-append}
 
 -- a width that is not 2 is 4
@@ -40,14 +40,14 @@ pub fewer-there : {w : ℕ} → Width w → (i n k : ℕ) → i ≤ n → fileLe
 fewer-there two i n k h e = omega arith
 fewer-there four i n k h e = omega arith
 
-pub laid-at : {w n : ℕ} {file : List ℕ} → Laid w n file → (i : ℕ) → i < n → Laid w (i + 1) file
+pub laid-at : {w n : ℕ} {file : List ℕ} → RecordsFit w n file → (i : ℕ) → i < n → RecordsFit w (i + 1) file
 laid-at {w} {n} {file} l i h = record {
   width-is = l .width-is;
   there = fewer-there (l .width-is) (i + 1) n (length file) (omega arith) (l .there);
 }
 
 -- a file as long has as much room
-pub laid-same : {w n : ℕ} {old file : List ℕ} → Laid w n old → length file ≡ length old → Laid w n file
+pub laid-same : {w n : ℕ} {old file : List ℕ} → RecordsFit w n old → length file ≡ length old → RecordsFit w n file
 laid-same l e = record { width-is = l .width-is; there = let h = l .there in omega arith }
 
 -- a record stored as key and bitstring is the record's bytes

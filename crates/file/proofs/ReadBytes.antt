@@ -11,7 +11,7 @@ use Rattle.definitions.specs.List.{Record, recordOf}
 use Rattle.definitions.specs.Buffer.{over}
 use Rattle.definitions.specs.File.{numberAt, readRecords}
 use Rattle.laws.proofs.FileBack.{length-read}
-use Rattle.file.specs.Layout.{keyAt, bitsAt, recordsAt, keysAt, valuesAt}
+use Rattle.file.specs.Layout.{fileKeyAt, fileBitsAt, recordsAt, keysAt, valuesAt}
 use Rattle.file.specs.Room.{RoomFor}
 
 -- a number read some bytes on
@@ -53,14 +53,14 @@ none-read w file n keys bits = record {
 }
 
 -- key i is read where record i begins
-pub key-read : (w n i : ℕ) (file : List ℕ) → i < n → getD (keysAt w n file) i 0 ≡ keyAt w i file
+pub key-read : (w n i : ℕ) (file : List ℕ) → i < n → getD (keysAt w n file) i 0 ≡ fileKeyAt w i file
 key-read w n i file h =
     List·getD-map (λ x. x .key) (recordsAt w n file) i (recordOf 0 0)
     ∙ ap (λ x. x .key) (record-read w n i (drop 11 file) (recordOf 0 0) h)
     ∙ number-on 11 ((4 + w) * i) 4 file
 
 -- and its bitstring four bytes on
-pub value-read : (w n i : ℕ) (file : List ℕ) → i < n → getD (valuesAt w n file) i 0 ≡ bitsAt w i file
+pub value-read : (w n i : ℕ) (file : List ℕ) → i < n → getD (valuesAt w n file) i 0 ≡ fileBitsAt w i file
 value-read w n i file h =
     List·getD-map (λ x. x .value) (recordsAt w n file) i (recordOf 0 0)
     ∙ ap (λ x. x .value) (record-read w n i (drop 11 file) (recordOf 0 0) h)
@@ -84,7 +84,7 @@ one-more old new now′ i x h j e f =
 
 -- a turn of the loop that reads: one record more
 pub record-taken : {w : ℕ} {file : List ℕ} {n : ℕ} {keys₀ bits₀ keys bits : List ℕ} {i κ v : ℕ} → RoomFor w n keys₀ bits₀ file
-    → Read w file n keys₀ bits₀ keys bits i → i < n → κ ≡ keyAt w i file → v ≡ bitsAt w i file
+    → Read w file n keys₀ bits₀ keys bits i → i < n → κ ≡ fileKeyAt w i file → v ≡ fileBitsAt w i file
     → Read w file n keys₀ bits₀ (set keys i κ) (set bits i v) (i + 1)
 record-taken {w} {file} {n} {keys₀} {bits₀} {keys} {bits} {i} {κ} {v} room r h e f =
     let ks = keys-many w n file in

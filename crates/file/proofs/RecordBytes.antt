@@ -36,13 +36,13 @@ unfolding bytesOfRecords
 record-bytes-one w e = append-nil (bytesOfRecord w e)
 
 -- the first i records are in the file
-pub record Written (w : ℕ) (keys bits : List ℕ) (n : ℕ) (old file : List ℕ) (i : ℕ) : Type 0 where
+pub record WrittenRecords (w : ℕ) (keys bits : List ℕ) (n : ℕ) (old file : List ℕ) (i : ℕ) : Type 0 where
   pub most : i ≤ n
   pub same : length file ≡ length old
   pub written : file ≡ sets old 11 (bytesOfRecords w (recordsOf keys bits i))
 
 -- none is at first
-pub none-written : (w : ℕ) (keys bits : List ℕ) (n : ℕ) (old : List ℕ) → Written w keys bits n old old 0
+pub none-written : (w : ℕ) (keys bits : List ℕ) (n : ℕ) (old : List ℕ) → WrittenRecords w keys bits n old old 0
 unfolding paired bytesOfRecords
 none-written w keys bits n old = record { most = omega arith; same = refl; written = refl }
 
@@ -66,15 +66,15 @@ stored {w} width keys bits i old file h j e =
     ∙ ap (λ k. sets file k this) place)
 
 -- a turn of the loop that writes: record i stored after the first i makes the first i + 1
-pub record-stored : {w : ℕ} {keys bits : List ℕ} {n : ℕ} {old file whole : List ℕ} {i : ℕ} → RoomFor w n keys bits old → Written w keys bits n old file i
+pub record-stored : {w : ℕ} {keys bits : List ℕ} {n : ℕ} {old file whole : List ℕ} {i : ℕ} → RoomFor w n keys bits old → WrittenRecords w keys bits n old file i
     → i < n → whole ≡ sets file (fileLength w i) (bytesOfRecord w (recordOf (getD keys i 0) (getD bits i 0)))
-    → Written w keys bits n old whole (i + 1)
+    → WrittenRecords w keys bits n old whole (i + 1)
 record-stored {w} {keys} {bits} {n} {old} {file} {whole} {i} room r h e =
     let all = e ∙ stored (room .in-file .width-is) keys bits i old file (omega arith) (omega arith) (r .written) in
     record { most = omega arith; same = ap length all ∙ length-sets old 11 (bytesOfRecords w (recordsOf keys bits (i + 1))); written = all }
 
 -- all written
-pub all-written : {w : ℕ} {keys bits : List ℕ} {n : ℕ} {old file : List ℕ} {i : ℕ} → Written w keys bits n old file i → n ≤ i
+pub all-written : {w : ℕ} {keys bits : List ℕ} {n : ℕ} {old file : List ℕ} {i : ℕ} → WrittenRecords w keys bits n old file i → n ≤ i
     → file ≡ sets old 11 (bytesOfRecords w (recordsOf keys bits n))
 all-written {w} {keys} {bits} {n} {old} {file} {i} r h =
     let e : i ≡ n = omega arith in

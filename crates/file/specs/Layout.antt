@@ -7,11 +7,11 @@ use Rattle.definitions.specs.List.{Record, keysOf, valuesOf}
 use Rattle.definitions.specs.File.{Width, headLength, keyBytes, fileLength, numberAt, readRecords}
 
 -- key and bitstring of record i
-abbrev pub keyAt : ℕ → ℕ → List ℕ → ℕ
-keyAt width i file = numberAt (fileLength width i) keyBytes file
+abbrev pub fileKeyAt : ℕ → ℕ → List ℕ → ℕ
+fileKeyAt width i file = numberAt (fileLength width i) keyBytes file
 
-abbrev pub bitsAt : ℕ → ℕ → List ℕ → ℕ
-bitsAt width i file = numberAt (fileLength width i + keyBytes) width file
+abbrev pub fileBitsAt : ℕ → ℕ → List ℕ → ℕ
+fileBitsAt width i file = numberAt (fileLength width i + keyBytes) width file
 
 -- the first n records of a file, their keys and their bitstrings
 abbrev pub recordsAt : ℕ → ℕ → List ℕ → List Record
@@ -24,6 +24,6 @@ abbrev pub valuesAt : ℕ → ℕ → List ℕ → List ℕ
 valuesAt width n file = valuesOf (recordsAt width n file)
 
 -- the file has room for n records
-pub record Laid (width n : ℕ) (file : List ℕ) : Type 0 where
+pub record RecordsFit (width n : ℕ) (file : List ℕ) : Type 0 where
   pub width-is : Width width
   pub there : fileLength width n ≤ length file

@@ -6,12 +6,12 @@ use mathlib.Core.List.{List}
 use lib.ListN.{length}
 use Rattle.keys.specs.Key.{slotLimit}
 use Rattle.definitions.specs.File.{sIn, nIn, bitBytes, fileLength}
-use Rattle.file.specs.Layout.{Laid}
+use Rattle.file.specs.Layout.{RecordsFit}
 
 pub record RoomFor (width n : ℕ) (keys bits file : List ℕ) : Type 0 where
   pub in-keys : n ≤ length keys
   pub in-bits : n ≤ length bits
-  pub in-file : Laid width n file
+  pub in-file : RecordsFit width n file
 
 -- m and s are good settings, and the file's n records end where the file does
 pub record Exact (m s n : ℕ) (file : List ℕ) : Type 0 where

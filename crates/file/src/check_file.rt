@@ -8,7 +8,7 @@ ghost use Rattle.keys.specs.Key.{rootKey};
 ghost use Rattle.definitions.specs.Read.{isListOfBlock};
 ghost use Rattle.definitions.specs.File.{recordsInFile};
 ghost use Rattle.list.specs.Check.{restPlace, afterNode, stepUnder};
-ghost use Rattle.file.specs.Layout.{recordsAt, Laid};
+ghost use Rattle.file.specs.Layout.{recordsAt, RecordsFit};
 ghost use Rattle.file.specs.Room.{Exact};
 use crate::bytes;
 use crate::layout;
@@ -19,7 +19,7 @@ use list::check;
 // After the own record of a node of height 1: whether the next four records are its pixels. Heights 1 and 2 have functions of their own, as in
 // the check of two slices.
 fn four_pixels(file: &[u8], width: usize, n: usize, first: usize, key: u32, own: u32) -> bool
-    requires { ⌜ Laid width n (now file) × (first ≤ n) × (key + 5 < 2 ^ 32) ⌝ }
+    requires { ⌜ RecordsFit width n (now file) × (first ≤ n) × (key + 5 < 2 ^ 32) ⌝ }
     ensures { λ r. ⌜ (r ≡ true → first + 4 ≤ n)
         × (cond r (first + 4) 0 ≡ restPlace n (afterNode 1 key own (drop first (recordsAt width n (now (file .entry)))))) ⌝ }
 {
@@ -47,7 +47,7 @@ fn four_pixels(file: &[u8], width: usize, n: usize, first: usize, key: u32, own:
 
 // `after_node` at height 2. The loop counts by the child's key alone: so it is small enough for the compiler to make it once a width.
 fn after_sixteen(file: &[u8], width: usize, n: usize, first: usize, key: u32, own: u32) -> usize
-    requires { ⌜ Laid width n (now file) × (first ≤ n) × (key + 25 < 2 ^ 32) ⌝ }
+    requires { ⌜ RecordsFit width n (now file) × (first ≤ n) × (key + 25 < 2 ^ 32) ⌝ }
     ensures { λ r. ⌜ (r ≤ n)
         × (r ≡ restPlace n (afterNode 2 key own (drop first (recordsAt width n (now (file .entry)))))) ⌝ }
 {
@@ -78,7 +78,7 @@ fn after_sixteen(file: &[u8], width: usize, n: usize, first: usize, key: u32, ow
 
 // `after_node` at height 3: with one step and one call this loop, too, is small enough.
 fn after_sixty_four(file: &[u8], width: usize, n: usize, first: usize, key: u32, own: u32) -> usize
-    requires { ⌜ Laid width n (now file) × (first ≤ n) × (key + 125 < 2 ^ 32) ⌝ }
+    requires { ⌜ RecordsFit width n (now file) × (first ≤ n) × (key + 125 < 2 ^ 32) ⌝ }
     ensures { λ r. ⌜ (r ≤ n)
         × (r ≡ restPlace n (afterNode 3 key own (drop first (recordsAt width n (now (file .entry)))))) ⌝ }
 {
@@ -117,7 +117,7 @@ fn after_low(
     own: u32,
     step: u32,
 ) -> usize
-    requires { ⌜ Laid width n (now file) × (first ≤ n) × (step < 26) × (key + 5 * step < 2 ^ 32) ⌝ }
+    requires { ⌜ RecordsFit width n (now file) × (first ≤ n) × (step < 26) × (key + 5 * step < 2 ^ 32) ⌝ }
     ensures { λ r. ⌜ (r ≤ n)
         × ((k : ℕ)
         → step ≡ stepUnder k
@@ -150,7 +150,7 @@ fn after_node(
     own: u32,
     step: u32,
 ) -> usize
-    requires { ⌜ Laid width n (now file) × (first ≤ n) × (key + 5 * step < 2 ^ 32) ⌝ }
+    requires { ⌜ RecordsFit width n (now file) × (first ≤ n) × (key + 5 * step < 2 ^ 32) ⌝ }
     ensures { λ r. ⌜ (r ≤ n)
         × ((k : ℕ)
         → step ≡ stepUnder k

@@ -6,7 +6,7 @@ ghost use lib.ListN.{length};
 ghost use lib.Seq.{sets};
 ghost use Rattle.definitions.specs.List.{recordOf};
 ghost use Rattle.definitions.specs.File.{Width, versionFor, bitBytes, fileLength, bytesOfRecord, numberAt};
-ghost use Rattle.file.specs.Layout.{keyAt, bitsAt, Laid};
+ghost use Rattle.file.specs.Layout.{fileKeyAt, fileBitsAt, RecordsFit};
 use crate::bytes;
 
 // A file of version 1 has up to so many slots.
@@ -56,22 +56,22 @@ pub fn bits_behind(file: &[u8], width: usize, place: usize) -> u32
 }
 
 pub fn key_at(file: &[u8], width: usize, i: usize) -> u32
-    requires { ⌜ Laid width (i + 1) (now file) ⌝ }
-    ensures { λ r. ⌜ r ≡ keyAt width i (now (file .entry)) ⌝ }
+    requires { ⌜ RecordsFit width (i + 1) (now file) ⌝ }
+    ensures { λ r. ⌜ r ≡ fileKeyAt width i (now (file .entry)) ⌝ }
 {
     bytes::u32_at(file, length(width, i))
 }
 
 pub fn bits_at(file: &[u8], width: usize, i: usize) -> u32
-    requires { ⌜ Laid width (i + 1) (now file) ⌝ }
-    ensures { λ r. ⌜ r ≡ bitsAt width i (now (file .entry)) ⌝ }
+    requires { ⌜ RecordsFit width (i + 1) (now file) ⌝ }
+    ensures { λ r. ⌜ r ≡ fileBitsAt width i (now (file .entry)) ⌝ }
 {
     bits_behind(file, width, length(width, i))
 }
 
 // Record i.
 pub fn put_record(key: u32, bits: u32, file: &mut [u8], width: usize, i: usize)
-    requires { ⌜ Laid width (i + 1) (now file) ⌝ }
+    requires { ⌜ RecordsFit width (i + 1) (now file) ⌝ }
     ensures { λ _. ⌜ now (file .exit) ≡ sets (now (file .entry)) (fileLength width i) (bytesOfRecord width (recordOf key bits)) ⌝ }
 {
     let place = length(width, i);

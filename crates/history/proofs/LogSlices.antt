@@ -13,11 +13,11 @@ use Rattle.definitions.specs.Buffer.{overAt}
 use Rattle.definitions.specs.Log.{toRedo}
 use Rattle.definitions.specs.Calls.Paint.{logged}
 use Rattle.history.proofs.Buffers.{drop-over, length-over}
-use Rattle.history.proofs.Shown.{Shown, shown-records, shown-first, shown-logged, shown-none, shown-room}
+use Rattle.history.proofs.Shown.{ShownInSlices, shown-records, shown-first, shown-logged, shown-none, shown-room}
 
 -- lent logKeys and logValues, the slices hold the records in force and then those to redo, and past the longest log so far what was lent
 pub record HoldsLog (front back : List Record) (longest : ℕ) (logKeys logValues logKeys′ logValues′ : List ℕ) (used inForce : ℕ) : Type 0 where
-  pub shown : Shown (front ++ back) used logKeys′ logValues′
+  pub shown : ShownInSlices (front ++ back) used logKeys′ logValues′
   pub force : inForce ≡ length front
   pub short : used ≤ longest
   pub keys-length : length logKeys′ ≡ length logKeys

@@ -31,7 +31,7 @@ abbrev pub tableIn : Table → List Waiver
 tableIn T = tableOf (T .offices) (T .ids) (T .waived) (T .rows)
 
 -- ---- a table grown by these calls
-pub record Grown (m : ℕ) (T : Table) : Type 0 where
+pub record GrownTable (m : ℕ) (T : Table) : Type 0 where
   pub all-offices : length (T .offices) ≡ 512
   pub all-ids : length (T .ids) ≡ 512
   pub all-waived : length (T .waived) ≡ 512
@@ -40,7 +40,7 @@ pub record Grown (m : ℕ) (T : Table) : Type 0 where
   pub valid : rowKeysValid m (tableIn T) ≡ true
 
 -- 14 never comes
-pub never-14 : {m : ℕ} {T : Table} → Grown m T → isTable (T .offices) (T .ids) (T .waived) (T .rows) ≡ true
+pub never-14 : {m : ℕ} {T : Table} → GrownTable m T → isTable (T .offices) (T .ids) (T .waived) (T .rows) ≡ true
 unfolding isTable isSoundTable
 never-14 {m} {T} g =
     let t = tableIn T in
@@ -71,7 +71,7 @@ third-out : (a b c : Row) (rest : List Row) → c .test ≡ false → first (a �
 unfolding first
 third-out a b c rest e = ap (λ x. cond (a .test) (a .number) (cond (b .test) (b .number) x)) (first-later c rest e)
 
-module _ (m : ℕ) (T : Table) (g : Grown m T) where
+module _ (m : ℕ) (T : Table) (g : GrownTable m T) where
   abbrev t : List Waiver
   t = tableIn T
 
@@ -129,7 +129,7 @@ module _ (m : ℕ) (T : Table) (g : Grown m T) where
 
     -- what is left after an accepted call, and that the table has grown by it
     pub record Left (t′ : List Waiver) : Type 0 where
-      pub grown : Grown m (afterAsk m T a)
+      pub grown : GrownTable m (afterAsk m T a)
       pub table : tableIn (afterAsk m T a) ≡ t′
 
     -- a table written from the first place on
@@ -139,7 +139,7 @@ module _ (m : ℕ) (T : Table) (g : Grown m T) where
     written t′ x y z rows n p q r s v few e =
         let is = ap (tableOf (map (λ v. v .office) t′ ++ x) (map (λ v. v .id) t′ ++ y) (map (λ v. v .key) t′ ++ z)) n ∙ table-made t′ x y z in
         record {
-          grown = subst (Grown m) (sym e) (record {
+          grown = subst (GrownTable m) (sym e) (record {
             all-offices = p;
             all-ids = q;
             all-waived = r;

@@ -12,7 +12,7 @@ use Rattle.keys.specs.Key.{validKey}
 use Rattle.keys.proofs.Cases.{decide, split, equal, and-left, and-right, and-both}
 use Rattle.definitions.specs.Rules.{Finding, comesBefore}
 use Rattle.definitions.specs.Offices.{Waiver, waivedBy, badOffice, rowsOf, rowBefore, rowsAscend, officesKnown, rowKeysValid, sameRow, isRow, added, removed}
-use Rattle.laws.proofs.RowOrder.{After, no-row, next-row, ascend-after, ascend-rows, same-numbers}
+use Rattle.laws.proofs.RowOrder.{RowsAfter, no-row, next-row, ascend-after, ascend-rows, same-numbers}
 use Rattle.laws.proofs.Shares.{share-own, share-other, share-none}
 
 -- ---- a share by itself
@@ -58,7 +58,7 @@ share-row w (x ∷ t) =
     (λ h. ap (λ a. a || isRow w t) (row-other-office x w h) ∙ share-row w t ∙ sym (ap (isFound (waivedBy w)) (share-other (w .office) x t h)))
 
 -- ---- a row more
-none-later : (office : ℕ) (x : Waiver) (t : List Waiver) → office < x .office → After x t → rowsOf office t ≡ []
+none-later : (office : ℕ) (x : Waiver) (t : List Waiver) → office < x .office → RowsAfter x t → rowsOf office t ≡ []
 none-later office x [] low no-row = share-none office
 none-later office x (y ∷ t) low (next-row h r) =
     let up = h .offices in share-other office y t (λ e. omega arith) ∙ none-later office y t (omega arith) r

@@ -10,22 +10,22 @@ use borrow.Author.Tests.{eq-eqb, ne-eqb}
 use Rattle.keys.proofs.Cases.{decide, equal}
 use Rattle.definitions.specs.Rules.{Finding}
 use Rattle.definitions.specs.Offices.{waivedBy, rowsIn, tableOf, rowsOf, rowsAscend, officesKnown, rowKeysValid, isTable}
-use Rattle.definitions.specs.Calls.Findings.{foundWith, idsWith, keysWith, findings, findingsIds, findingsKeys}
+use Rattle.definitions.specs.Calls.Findings.{foundWith, idsWith, foundKeysWith, findings, findingsIds, findingsKeys}
 use Rattle.definitions.specs.declared.Rule.{Rule}
 use Rattle.laws.proofs.First.{accepted-done, accepted-left}
 use Rattle.laws.proofs.Shares.{share-none}
 use Rattle.history.specs.OfficeRuns.{Table, Ask, refusalOf, afterAsk, afterAll, ownAsks, refusalsOf}
 use Rattle.history.proofs.OfficeShares.{addedOwn, removedOwn, share-added, share-added-other, share-removed, share-removed-other}
-use Rattle.history.proofs.OfficeIsolation.{rowOfAsk, tableIn, Grown, never-14, ownRefusal, ownAfter, refusal-own, stays, adds-row, removes-row}
+use Rattle.history.proofs.OfficeIsolation.{rowOfAsk, tableIn, GrownTable, never-14, ownRefusal, ownAfter, refusal-own, stays, adds-row, removes-row}
 
 -- ---- one call
-module _ (m : ℕ) (T : Table) (g : Grown m T) (a : Ask) where
+module _ (m : ℕ) (T : Table) (g : GrownTable m T) (a : Ask) where
   -- the table is still one that has grown so
-  pub grows : Grown m (afterAsk m T a)
+  pub grows : GrownTable m (afterAsk m T a)
   grows =
       equal (refusalOf m T a) 0
       (λ done. decide (a .adds) (λ adds. adds-row m T g a adds done .grown) (λ removes. removes-row m T g a removes done .grown))
-      (λ refused. subst (Grown m) (sym (stays m T g a refused)) g)
+      (λ refused. subst (GrownTable m) (sym (stays m T g a refused)) g)
 
   -- another office's call leaves the share
   pub other-leaves : (office : ℕ) → (a .office ≡ office → ⊥) → rowsOf office (tableIn (afterAsk m T a)) ≡ rowsOf office (tableIn T)
@@ -69,12 +69,12 @@ module _ (m : ℕ) where
   ownRefusals share (a ∷ asks) = ownRefusal m share a ∷ ownRefusals (ownAfter m share a) asks
 
 module _ (m office : ℕ) where
-  pub all-grow : (T : Table) (asks : List Ask) → Grown m T → Grown m (afterAll m T asks)
+  pub all-grow : (T : Table) (asks : List Ask) → GrownTable m T → GrownTable m (afterAll m T asks)
   unfolding afterAll
   all-grow T [] g = g
   all-grow T (a ∷ asks) g = all-grow (afterAsk m T a) asks (grows m T g a)
 
-  rows-own : (T : Table) (asks : List Ask) → Grown m T → rowsOf office (tableIn (afterAll m T asks)) ≡ ownAll m (rowsOf office (tableIn T)) (ownAsks office asks)
+  rows-own : (T : Table) (asks : List Ask) → GrownTable m T → rowsOf office (tableIn (afterAll m T asks)) ≡ ownAll m (rowsOf office (tableIn T)) (ownAsks office asks)
   unfolding afterAll ownAsks ownAll
   rows-own T [] g = refl
   rows-own T (a ∷ asks) g =
@@ -88,7 +88,7 @@ module _ (m office : ℕ) where
       rest ∙ ap (λ s. ownAll m s (ownAsks office asks)) (other-leaves m T g a office other)
       ∙ sym (ap (λ b. ownAll m (rowsOf office (tableIn T)) (cond b (a ∷ ownAsks office asks) (ownAsks office asks))) (ne-eqb (a .office) office other)))
 
-  refusals-own : (T : Table) (asks : List Ask) → Grown m T → refusalsOf m office T asks ≡ ownRefusals m (rowsOf office (tableIn T)) (ownAsks office asks)
+  refusals-own : (T : Table) (asks : List Ask) → GrownTable m T → refusalsOf m office T asks ≡ ownRefusals m (rowsOf office (tableIn T)) (ownAsks office asks)
   unfolding refusalsOf ownAsks ownRefusals
   refusals-own T [] g = refl
   refusals-own T (a ∷ asks) g =
@@ -108,7 +108,7 @@ module _ (m office : ℕ) where
 
   -- ---- isolation
   -- two runs from tables that have grown so, in which the office has the same rows and makes the same calls
-  module _ (T U : Table) (asks asks′ : List Ask) (g : Grown m T) (h : Grown m U) (begin : rowsOf office (tableIn T) ≡ rowsOf office (tableIn U)) (agree : ownAsks office asks ≡ ownAsks office asks′) where
+  module _ (T U : Table) (asks asks′ : List Ask) (g : GrownTable m T) (h : GrownTable m U) (begin : rowsOf office (tableIn T) ≡ rowsOf office (tableIn U)) (agree : ownAsks office asks ≡ ownAsks office asks′) where
     -- leave it the same rows
     pub same-rows : rowsOf office (tableIn (afterAll m T asks)) ≡ rowsOf office (tableIn (afterAll m U asks′))
     same-rows = rows-own T asks g ∙ ap₂ (ownAll m) begin agree ∙ sym (rows-own U asks′ h)
@@ -123,7 +123,7 @@ module _ (m office : ℕ) where
     abbrev second : Table
     second = afterAll m U asks′
 
-    right : (X : Table) → Grown m X → not (isTable (X .offices) (X .ids) (X .waived) (X .rows)) || not (rowKeysValid m (tableIn X)) ≡ false
+    right : (X : Table) → GrownTable m X → not (isTable (X .offices) (X .ids) (X .waived) (X .rows)) || not (rowKeysValid m (tableIn X)) ≡ false
     right X k = ap₂ (λ a b. not a || not b) (never-14 k) (k .valid)
 
     -- and give it the same findings and counts, on any list and with any rules
@@ -135,7 +135,7 @@ module _ (m office : ℕ) where
         let e = right first (all-grow T asks g) ∙ sym (right second (all-grow U asks′ h)) in (
           ap₂ (λ x l. foundWith m s keys bits n office x rules l foundIds foundKeys) e same-rows,
           ap₂ (λ x l. idsWith m s keys bits n office x rules l foundIds foundKeys) e same-rows,
-          ap₂ (λ x l. keysWith m s keys bits n office x rules l foundIds foundKeys) e same-rows,
+          ap₂ (λ x l. foundKeysWith m s keys bits n office x rules l foundIds foundKeys) e same-rows,
         )
 
 -- ---- from the empty table
@@ -150,7 +150,7 @@ no-rows : (T : Table) → Empty T → tableIn T ≡ []
 unfolding tableOf rowsIn
 no-rows T e = ap (tableOf (T .offices) (T .ids) (T .waived)) (e .none)
 
-pub empty-grown : (m : ℕ) (T : Table) → Empty T → Grown m T
+pub empty-grown : (m : ℕ) (T : Table) → Empty T → GrownTable m T
 unfolding rowsAscend officesKnown rowKeysValid
 empty-grown m T e =
     let none = no-rows T e in
@@ -176,7 +176,7 @@ own-again office (a ∷ asks) =
 
 -- any calls of both offices in any order, refused ones included, against the office's own calls alone
 module _ (m office : ℕ) (T : Table) (e : Empty T) (asks : List Ask) where
-  g : Grown m T
+  g : GrownTable m T
   g = empty-grown m T e
 
   pub isolated-rows : rowsOf office (tableIn (afterAll m T asks)) ≡ rowsOf office (tableIn (afterAll m T (ownAsks office asks)))

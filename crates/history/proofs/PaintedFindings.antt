@@ -49,19 +49,19 @@ module _ (m s office : ℕ) (rules : List Rule) (offices tableIds waived : List 
   waivers = rowsOf office (tableOf offices tableIds waived rows)
 
   -- the call of findings is accepted on the list in the buffers
-  abbrev pub Accepted : Buffers → List ℕ → List ℕ → Type 0
-  Accepted b ids keys = findingsRefusal m s (b .keys) (b .bits) (b .n) office rules offices tableIds waived rows ids keys ≡ 0
+  abbrev pub FindingsAccepted : Buffers → List ℕ → List ℕ → Type 0
+  FindingsAccepted b ids keys = findingsRefusal m s (b .keys) (b .bits) (b .n) office rules offices tableIds waived rows ids keys ≡ 0
 
   -- the findings that it leaves in the answer slices
   abbrev pub given : Buffers → List ℕ → List ℕ → List Finding
   given b ids keys = answered m s (b .keys) (b .bits) (b .n) office (badTable offices tableIds waived rows || not (rowKeysValid m (tableOf offices tableIds waived rows))) rules waivers ids keys
 
   -- they are those of the picture that the waivers do not hide
-  given-live : (b : Buffers) (ids keys : List ℕ) → Accepted b ids keys → given b ids keys ≡ liveOf m waivers (allFindings m (shows m b) rules)
+  given-live : (b : Buffers) (ids keys : List ℕ) → FindingsAccepted b ids keys → given b ids keys ≡ liveOf m waivers (allFindings m (shows m b) rules)
   unfolding liveIn
   given-live b ids keys done = answered-live m s (b .keys) (b .bits) (b .n) office (badTable offices tableIds waived rows || not (rowKeysValid m (tableOf offices tableIds waived rows))) rules waivers ids keys done
 
-  module _ (b : Buffers) (y : Paint) (done : answer m s b (painting y) ≡ 0) (ids′ keys′ : List ℕ) (done′ : Accepted (after m s b (painting y)) ids′ keys′) where
+  module _ (b : Buffers) (y : Paint) (done : answer m s b (painting y) ≡ 0) (ids′ keys′ : List ℕ) (done′ : FindingsAccepted (after m s b (painting y)) ids′ keys′) where
     -- after an accepted paint those of the painted picture
     given-painted : given (after m s b (painting y)) ids′ keys′ ≡ liveOf m waivers (allFindings m (applied m y (shows m b)) rules)
     given-painted = given-live (after m s b (painting y)) ids′ keys′ done′ ∙ ap (liveOf m waivers) (painted-findings m s b y done rules)
@@ -74,7 +74,7 @@ module _ (m s office : ℕ) (rules : List Rule) (offices tableIds waived : List 
 
     -- The fault of the old program cannot happen: a finding that the paint leaves in place is given after it exactly when it was given before. So the
     -- waivers that hid it still do, and hide no other
-    pub given-as-before : (ids keys : List ℕ) → Accepted b ids keys
+    pub given-as-before : (ids keys : List ℕ) → FindingsAccepted b ids keys
         → {x : Finding} → List·Memᴰ x (allFindings m (shows m b) rules) → List·Memᴰ x (allFindings m (applied m y (shows m b)) rules)
         → List·Memᴰ x (given (after m s b (painting y)) ids′ keys′) ↔ List·Memᴰ x (given b ids keys)
     given-as-before ids keys done₀ before found =

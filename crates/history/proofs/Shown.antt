@@ -13,13 +13,13 @@ use Rattle.definitions.specs.Calls.Paint.{logged}
 use Rattle.laws.proofs.Records.{paired-back}
 
 -- the records are the first n of the two slices
-pub record Shown (l : List Record) (n : ℕ) (keys values : List ℕ) : Type 0 where
+pub record ShownInSlices (l : List Record) (n : ℕ) (keys values : List ℕ) : Type 0 where
   pub count : n ≡ length l
   pub in-keys : take n keys ≡ keysOf l
   pub in-values : take n values ≡ valuesOf l
 
 -- the first n records are those that are shown
-pub shown-records : {l : List Record} {n : ℕ} {keys values : List ℕ} → Shown l n keys values → recordsOf keys values n ≡ l
+pub shown-records : {l : List Record} {n : ℕ} {keys values : List ℕ} → ShownInSlices l n keys values → recordsOf keys values n ≡ l
 shown-records {l} h = ap₂ paired (h .in-keys) (h .in-values) ∙ paired-back l
 
 -- places that are all there lie within the slice
@@ -29,7 +29,7 @@ within-slice f l n slice e h =
     omega (arith, length-take n slice, length-map l f)
 
 -- they lie within the room
-pub shown-room : {l : List Record} {n : ℕ} {keys values : List ℕ} → Shown l n keys values → n ≤ room keys values
+pub shown-room : {l : List Record} {n : ℕ} {keys values : List ℕ} → ShownInSlices l n keys values → n ≤ room keys values
 shown-room {l} {n} {keys} {values} h =
     let a = within-slice (λ x. x .key) l n keys (h .count) (h .in-keys) in
     let b = within-slice (λ x. x .value) l n values (h .count) (h .in-values) in
@@ -40,7 +40,7 @@ take-new f l n slice = take-at (map f l) _ (length l) (length-map l f)
 
 -- a list that replaces another is shown
 pub shown-replaced : (n : ℕ) (l : List Record) (keys values : List ℕ)
-    → Shown l (length l) (replaced n (keysOf l) keys) (replaced n (valuesOf l) values)
+    → ShownInSlices l (length l) (replaced n (keysOf l) keys) (replaced n (valuesOf l) values)
 shown-replaced n l keys values = record {
   count = refl;
   in-keys = take-new (λ x. x .key) l n keys;
@@ -59,7 +59,7 @@ take-less f front back used k slice e h e′ =
     ∙ ap (λ l. take k l) (e′ ∙ map-append f front back)
     ∙ take-at (map f front) (map f back) k (length-map front f ∙ sym e)
 
-pub shown-first : (front back : List Record) {used : ℕ} {keys values : List ℕ} (k : ℕ) → k ≡ length front → Shown (front ++ back) used keys values → Shown front k keys values
+pub shown-first : (front back : List Record) {used : ℕ} {keys values : List ℕ} (k : ℕ) → k ≡ length front → ShownInSlices (front ++ back) used keys values → ShownInSlices front k keys values
 shown-first front back {used} {keys} {values} k e h =
     let both = length-append front back in
     let all = h .count in
@@ -84,8 +84,8 @@ take-more f log entry used count slice h e =
     ∙ sym (map-append f log entry)
 
 -- an entry written behind a log is shown with it
-pub shown-logged : {log : List Record} {count : ℕ} {keys values : List ℕ} (used : ℕ) (entry : List Record) → Shown log count keys values
-    → Shown (log ++ entry) (count + length entry) (logged used count (keysOf entry) keys) (logged used count (valuesOf entry) values)
+pub shown-logged : {log : List Record} {count : ℕ} {keys values : List ℕ} (used : ℕ) (entry : List Record) → ShownInSlices log count keys values
+    → ShownInSlices (log ++ entry) (count + length entry) (logged used count (keysOf entry) keys) (logged used count (valuesOf entry) values)
 shown-logged {log} {count} {keys} {values} used entry h =
     let inside = shown-room h in
     record {
@@ -95,5 +95,5 @@ shown-logged {log} {count} {keys} {values} used entry h =
     }
 
 -- no records are shown by any slices
-pub shown-none : (keys values : List ℕ) → Shown [] 0 keys values
+pub shown-none : (keys values : List ℕ) → ShownInSlices [] 0 keys values
 shown-none keys values = record { count = refl; in-keys = refl; in-values = refl }

@@ -9,7 +9,7 @@ use Rattle.definitions.specs.List.{Record, keysOf, valuesOf}
 use Rattle.definitions.specs.Read.{room}
 use Rattle.definitions.specs.Buffer.{over, replaced}
 use Rattle.history.proofs.Buffers.{length-replaced, over-replaced, replaced-again}
-use Rattle.history.proofs.Shown.{Shown, shown-replaced}
+use Rattle.history.proofs.Shown.{ShownInSlices, shown-replaced}
 
 -- lent keys and bits, the slices hold the list, then zeroes as far as a list ever went, and then what was lent
 pub record HoldsList (l : List Record) (longest : ℕ) (keys bits keys′ bits′ : List ℕ) (n : ℕ) : Type 0 where
@@ -25,7 +25,7 @@ keeps f l longest slice h j = let e = length-map l f in length-replaced longest 
 
 module _ {l : List Record} {longest : ℕ} {keys bits keys′ bits′ : List ℕ} {n : ℕ} (h : HoldsList l longest keys bits keys′ bits′ n) where
   -- the first n records are the list
-  pub list-shown : Shown l n keys′ bits′
+  pub list-shown : ShownInSlices l n keys′ bits′
   list-shown = rw (h .count, h .all-keys, h .all-bits) (shown-replaced longest l keys bits)
 
   -- the slice of keys keeps its length

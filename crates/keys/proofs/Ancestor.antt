@@ -10,7 +10,7 @@ use borrow.Author.Tests.{leb-true, ltb-true, eqb-false, le-leb, lt-ltb, le-ltb, 
 use Rattle.keys.specs.Key.{heightOf, validKey}
 use Rattle.keys.specs.Block.{sideOf, contains, isAncestor, inInterval}
 use Rattle.keys.proofs.Cases.{split, equal, and-left, and-right, and-both, same-test}
-use Rattle.keys.specs.Under.{Under, Block}
+use Rattle.keys.specs.Under.{Under, MapBlock}
 use Rattle.keys.proofs.Interval.{within, key-within, nest, apart}
 use Rattle.keys.proofs.Powers.{two-pos}
 use Rattle.keys.proofs.Valid.{Is, valid-block, block-valid}
@@ -18,7 +18,7 @@ use Rattle.keys.proofs.Pixel.{InSquare, inside}
 use Rattle.keys.proofs.InBlock.{inInterval-iff}
 
 -- the second square lies in the first
-pub record Holds (k₁ r₁ c₁ k₂ r₂ c₂ : ℕ) : Type 0 where
+pub record HoldsSquare (k₁ r₁ c₁ k₂ r₂ c₂ : ℕ) : Type 0 where
   pub top : r₁ ≤ r₂
   pub bottom : r₂ + 2 ^ k₂ ≤ r₁ + 2 ^ k₁
   pub left : c₁ ≤ c₂
@@ -30,9 +30,9 @@ height-of-side k₁ k₂ le = split k₂ k₁ (λ lt. absurd (let p = pow-lt lt 
 
 -- a block whose square lies in another's lies under it
 pub holds-under : {m k₁ r₁ c₁ κ₁ k₂ r₂ c₂ κ₂ : ℕ}
-    → Block m k₁ r₁ c₁ κ₁
-    → Block m k₂ r₂ c₂ κ₂
-    → Holds k₁ r₁ c₁ k₂ r₂ c₂
+    → MapBlock m k₁ r₁ c₁ κ₁
+    → MapBlock m k₂ r₂ c₂ κ₂
+    → HoldsSquare k₁ r₁ c₁ k₂ r₂ c₂
     → Under k₁ r₁ c₁ κ₁ k₂ r₂ c₂ κ₂
 holds-under {k₁} {r₁} {c₁} {k₂} {r₂} {c₂} a b h =
     let p = two-pos k₂ in
@@ -50,13 +50,13 @@ holds-under {k₁} {r₁} {c₁} {k₂} {r₂} {c₂} a b h =
     (λ after. absurd (omega arith))
 
 -- the square of a block lies in that of any block that it lies under
-pub under-holds : {k₁ r₁ c₁ κ₁ k₂ r₂ c₂ κ₂ : ℕ} → Under k₁ r₁ c₁ κ₁ k₂ r₂ c₂ κ₂ → Holds k₁ r₁ c₁ k₂ r₂ c₂
+pub under-holds : {k₁ r₁ c₁ κ₁ k₂ r₂ c₂ κ₂ : ℕ} → Under k₁ r₁ c₁ κ₁ k₂ r₂ c₂ κ₂ → HoldsSquare k₁ r₁ c₁ k₂ r₂ c₂
 under-holds u = let w = within u in omega arith
 
 abbrev holdsTest : ℕ → ℕ → ℕ → ℕ → ℕ → ℕ → Bool
 holdsTest k₁ r₁ c₁ k₂ r₂ c₂ = leb r₁ r₂ && leb (r₂ + 2 ^ k₂) (r₁ + 2 ^ k₁) && (leb c₁ c₂ && leb (c₂ + 2 ^ k₂) (c₁ + 2 ^ k₁))
 
-holds-true : (k₁ r₁ c₁ k₂ r₂ c₂ : ℕ) → holdsTest k₁ r₁ c₁ k₂ r₂ c₂ ≡ true → Holds k₁ r₁ c₁ k₂ r₂ c₂
+holds-true : (k₁ r₁ c₁ k₂ r₂ c₂ : ℕ) → holdsTest k₁ r₁ c₁ k₂ r₂ c₂ ≡ true → HoldsSquare k₁ r₁ c₁ k₂ r₂ c₂
 holds-true k₁ r₁ c₁ k₂ r₂ c₂ e =
     let rows = and-left (leb r₁ r₂ && leb (r₂ + 2 ^ k₂) (r₁ + 2 ^ k₁)) _ e in
     let columns = and-right (leb r₁ r₂ && leb (r₂ + 2 ^ k₂) (r₁ + 2 ^ k₁)) _ e in
@@ -67,7 +67,7 @@ holds-true k₁ r₁ c₁ k₂ r₂ c₂ e =
       right = leb-true _ _ (and-right (leb c₁ c₂) _ columns);
     }
 
-true-holds : (k₁ r₁ c₁ k₂ r₂ c₂ : ℕ) → Holds k₁ r₁ c₁ k₂ r₂ c₂ → holdsTest k₁ r₁ c₁ k₂ r₂ c₂ ≡ true
+true-holds : (k₁ r₁ c₁ k₂ r₂ c₂ : ℕ) → HoldsSquare k₁ r₁ c₁ k₂ r₂ c₂ → holdsTest k₁ r₁ c₁ k₂ r₂ c₂ ≡ true
 true-holds k₁ r₁ c₁ k₂ r₂ c₂ h =
     and-both _ _ (and-both _ _ (le-leb _ _ (h .top)) (le-leb _ _ (h .bottom))) (and-both _ _ (le-leb _ _ (h .left)) (le-leb _ _ (h .right)))
 
@@ -76,7 +76,7 @@ unfolding contains sideOf
 holds-test i j = rw (i .row, i .column, i .height, j .row, j .column, j .height)
 
 -- block a contains block b exactly when b lies under a
-pub contains-iff : {m k₁ r₁ c₁ a k₂ r₂ c₂ b : ℕ} → Block m k₁ r₁ c₁ a → Block m k₂ r₂ c₂ b → (contains m a b ≡ true) ↔ Under k₁ r₁ c₁ a k₂ r₂ c₂ b
+pub contains-iff : {m k₁ r₁ c₁ a k₂ r₂ c₂ b : ℕ} → MapBlock m k₁ r₁ c₁ a → MapBlock m k₂ r₂ c₂ b → (contains m a b ≡ true) ↔ Under k₁ r₁ c₁ a k₂ r₂ c₂ b
 contains-iff {k₁} {r₁} {c₁} {k₂} {r₂} {c₂} u v =
     let e = holds-test (block-valid u) (block-valid v) in (
       (λ t. holds-under u v (holds-true k₁ r₁ c₁ k₂ r₂ c₂ (sym e ∙ t))),
@@ -84,7 +84,7 @@ contains-iff {k₁} {r₁} {c₁} {k₂} {r₂} {c₂} u v =
     )
 
 -- b's key is in a's interval exactly when b lies under a
-pub interval-iff : {m k₁ r₁ c₁ a k₂ r₂ c₂ b : ℕ} → Block m k₁ r₁ c₁ a → Block m k₂ r₂ c₂ b → (inInterval m a b ≡ true) ↔ Under k₁ r₁ c₁ a k₂ r₂ c₂ b
+pub interval-iff : {m k₁ r₁ c₁ a k₂ r₂ c₂ b : ℕ} → MapBlock m k₁ r₁ c₁ a → MapBlock m k₂ r₂ c₂ b → (inInterval m a b ≡ true) ↔ Under k₁ r₁ c₁ a k₂ r₂ c₂ b
 interval-iff {b} u v = (
   (λ t. let i = inInterval-iff b u .0 t in nest u v (i .from) (i .until)),
   (λ w. let i = key-within w in inInterval-iff b u .1 (omega arith)),
@@ -103,8 +103,8 @@ under-lower {k₁} {k₂} u other =
 
 -- block a is an ancestor of block b exactly when b lies under a and is another
 pub ancestor-iff : {m k₁ r₁ c₁ a k₂ r₂ c₂ b : ℕ}
-    → Block m k₁ r₁ c₁ a
-    → Block m k₂ r₂ c₂ b
+    → MapBlock m k₁ r₁ c₁ a
+    → MapBlock m k₂ r₂ c₂ b
     → (isAncestor m a b ≡ true) ↔ (Under k₁ r₁ c₁ a k₂ r₂ c₂ b × (a ≢ b))
 unfolding isAncestor sideOf
 ancestor-iff {m} {k₁} {a} {k₂} {b} u v =

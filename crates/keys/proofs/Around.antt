@@ -7,7 +7,7 @@ use mathlib.Core.Bool.{true}
 use Rattle.keys.specs.Key.{validKey, levelOf, childKey}
 use Rattle.keys.specs.Block.{inBlock, pixelKey, keyAround}
 use Rattle.keys.proofs.Cases.{split}
-use Rattle.keys.specs.Under.{Under, Block, here, nw, ne, sw, se}
+use Rattle.keys.specs.Under.{Under, MapBlock, here, nw, ne, sw, se}
 use Rattle.keys.proofs.Interval.{within}
 use Rattle.keys.proofs.Valid.{valid-block, block-valid, block-level}
 use Rattle.keys.proofs.Pixel.{InKeys, pixel-block, inside}
@@ -15,27 +15,27 @@ use Rattle.keys.proofs.InBlock.{inBlock-iff}
 use Rattle.keys.proofs.ParentKey.{multiple, cleared}
 
 -- a block of height h under the first, which the second lies under
-pub data Between (k r c κ h k′ r′ c′ κ′ : ℕ) : Type 0 where
-  between : {r₁ c₁ κ₁ : ℕ} → Under k r c κ h r₁ c₁ κ₁ → Under h r₁ c₁ κ₁ k′ r′ c′ κ′ → Between k r c κ h k′ r′ c′ κ′
+pub data BetweenBlocks (k r c κ h k′ r′ c′ κ′ : ℕ) : Type 0 where
+  between : {r₁ c₁ κ₁ : ℕ} → Under k r c κ h r₁ c₁ κ₁ → Under h r₁ c₁ κ₁ k′ r′ c′ κ′ → BetweenBlocks k r c κ h k′ r′ c′ κ′
 
 -- the outer block itself, where it has the height
-outer : {k r c κ k′ r′ c′ κ′ : ℕ} (h : ℕ) → h ≡ k → Under k r c κ k′ r′ c′ κ′ → Between k r c κ h k′ r′ c′ κ′
+outer : {k r c κ k′ r′ c′ κ′ : ℕ} (h : ℕ) → h ≡ k → Under k r c κ k′ r′ c′ κ′ → BetweenBlocks k r c κ h k′ r′ c′ κ′
 outer {k} {r} {c} {κ} {k′} {r′} {c′} {κ′} h e u = rw e (between here u)
 
-between-nw : {k r c κ h k′ r′ c′ κ′ : ℕ} → Between k r c (childKey κ k 1) h k′ r′ c′ κ′ → Between (suc k) r c κ h k′ r′ c′ κ′
+between-nw : {k r c κ h k′ r′ c′ κ′ : ℕ} → BetweenBlocks k r c (childKey κ k 1) h k′ r′ c′ κ′ → BetweenBlocks (suc k) r c κ h k′ r′ c′ κ′
 between-nw (between u v) = between (nw u) v
 
-between-ne : {k r c κ h k′ r′ c′ κ′ : ℕ} → Between k r (c + 2 ^ k) (childKey κ k 2) h k′ r′ c′ κ′ → Between (suc k) r c κ h k′ r′ c′ κ′
+between-ne : {k r c κ h k′ r′ c′ κ′ : ℕ} → BetweenBlocks k r (c + 2 ^ k) (childKey κ k 2) h k′ r′ c′ κ′ → BetweenBlocks (suc k) r c κ h k′ r′ c′ κ′
 between-ne (between u v) = between (ne u) v
 
-between-sw : {k r c κ h k′ r′ c′ κ′ : ℕ} → Between k (r + 2 ^ k) c (childKey κ k 3) h k′ r′ c′ κ′ → Between (suc k) r c κ h k′ r′ c′ κ′
+between-sw : {k r c κ h k′ r′ c′ κ′ : ℕ} → BetweenBlocks k (r + 2 ^ k) c (childKey κ k 3) h k′ r′ c′ κ′ → BetweenBlocks (suc k) r c κ h k′ r′ c′ κ′
 between-sw (between u v) = between (sw u) v
 
-between-se : {k r c κ h k′ r′ c′ κ′ : ℕ} → Between k (r + 2 ^ k) (c + 2 ^ k) (childKey κ k 4) h k′ r′ c′ κ′ → Between (suc k) r c κ h k′ r′ c′ κ′
+between-se : {k r c κ h k′ r′ c′ κ′ : ℕ} → BetweenBlocks k (r + 2 ^ k) (c + 2 ^ k) (childKey κ k 4) h k′ r′ c′ κ′ → BetweenBlocks (suc k) r c κ h k′ r′ c′ κ′
 between-se (between u v) = between (se u) v
 
 -- at every height from the inner block's to the outer's there is one
-pub at-height : {k r c κ k′ r′ c′ κ′ : ℕ} (h : ℕ) → Under k r c κ k′ r′ c′ κ′ → k′ ≤ h → h ≤ k → Between k r c κ h k′ r′ c′ κ′
+pub at-height : {k r c κ k′ r′ c′ κ′ : ℕ} (h : ℕ) → Under k r c κ k′ r′ c′ κ′ → k′ ≤ h → h ≤ k → BetweenBlocks k r c κ h k′ r′ c′ κ′
 at-height {k} h here low high = outer h (omega arith) here
 at-height h (nw {k} u) low high = split k h (λ top. outer h (omega arith) (nw u)) (λ down. between-nw (at-height h u low down))
 at-height h (ne {k} u) low high = split k h (λ top. outer h (omega arith) (ne u)) (λ down. between-ne (at-height h u low down))
@@ -44,7 +44,7 @@ at-height h (se {k} u) low high = split k h (λ top. outer h (omega arith) (se u
 
 -- the key of a block around a pixel is the pixel's, its digits below the block's level made zeros
 pub around-is : {m k r c κ : ℕ} (level row column : ℕ)
-    → Block m k r c κ
+    → MapBlock m k r c κ
     → m - level ≡ k
     → InKeys k κ (pixelKey m row column)
     → keyAround m level row column ≡ κ
@@ -60,7 +60,7 @@ pub record Around (m level row column κ : ℕ) : Type 0 where
   pub level-is : levelOf m κ ≡ level
   pub has : inBlock m κ row column ≡ true
 
-around-between : {m level row column : ℕ} → level ≤ m → Between m 0 0 0 (m - level) 0 row column (pixelKey m row column)
+around-between : {m level row column : ℕ} → level ≤ m → BetweenBlocks m 0 0 0 (m - level) 0 row column (pixelKey m row column)
     → Around m level row column (keyAround m level row column)
 around-between {m} {level} {row} {column} low (between {r₁} {c₁} {κ₁} b u) =
     let w = within u in

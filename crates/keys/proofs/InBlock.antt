@@ -10,7 +10,7 @@ use borrow.Author.Tests.{leb-true, ltb-true, le-leb, lt-ltb}
 use Rattle.keys.specs.Key.{validKey}
 use Rattle.keys.specs.Block.{sideOf, inBlock, inInterval, pixelKey}
 use Rattle.keys.proofs.Cases.{and-left, and-right, and-both, same-test}
-use Rattle.keys.specs.Under.{Block}
+use Rattle.keys.specs.Under.{MapBlock}
 use Rattle.keys.proofs.Interval.{within}
 use Rattle.keys.proofs.Valid.{Is, valid-block, block-valid}
 use Rattle.keys.proofs.Pixel.{InSquare, InKeys, inside, back}
@@ -38,13 +38,13 @@ unfolding inBlock sideOf
 square-test row column i = rw (i .row, i .column, i .height)
 
 -- a pixel is in a block exactly when it lies in the block's square
-pub inBlock-iff : {m k r c κ : ℕ} (row column : ℕ) → Block m k r c κ → (inBlock m κ row column ≡ true) ↔ InSquare k r c row column
+pub inBlock-iff : {m k r c κ : ℕ} (row column : ℕ) → MapBlock m k r c κ → (inBlock m κ row column ≡ true) ↔ InSquare k r c row column
 inBlock-iff {k} {r} {c} row column b =
     let e = square-test row column (block-valid b) in
     ((λ t. square-true k r c row column (sym e ∙ t)), (λ s. e ∙ true-square k r c row column s))
 
 -- a number is in a block's interval exactly when it lies between the block's key and the key after it
-pub inInterval-iff : {m k r c κ : ℕ} (x : ℕ) → Block m k r c κ → (inInterval m κ x ≡ true) ↔ InKeys k κ x
+pub inInterval-iff : {m k r c κ : ℕ} (x : ℕ) → MapBlock m k r c κ → (inInterval m κ x ≡ true) ↔ InKeys k κ x
 unfolding inInterval
 inInterval-iff {κ} x b =
     rw (block-valid b .height) (
@@ -53,12 +53,12 @@ inInterval-iff {κ} x b =
     )
 
 -- a pixel in a block's square is one of the raster
-pub in-raster : {m k r c κ row column : ℕ} → Block m k r c κ → InSquare k r c row column → (row < 2 ^ m) × (column < 2 ^ m)
+pub in-raster : {m k r c κ row column : ℕ} → MapBlock m k r c κ → InSquare k r c row column → (row < 2 ^ m) × (column < 2 ^ m)
 in-raster b s = let w = within b in omega arith
 
 -- a pixel of the raster is in a block exactly when its key is in the block's interval
 pub inBlock-keys-iff : {m k r c κ : ℕ} (row column : ℕ)
-    → Block m k r c κ
+    → MapBlock m k r c κ
     → row < 2 ^ m
     → column < 2 ^ m
     → (inBlock m κ row column ≡ true) ↔ InKeys k κ (pixelKey m row column)

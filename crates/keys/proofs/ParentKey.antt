@@ -9,7 +9,7 @@ use lib.Pow.{pow-add}
 use lib.Arith.{digits-div}
 use Rattle.keys.specs.Key.{levelOf, heightOf, validKey, childKey, parentKey}
 use Rattle.keys.specs.Block.{isAncestor}
-use Rattle.keys.specs.Under.{Under, Block, here, nw, ne, sw, se, Quadrant, is-nw, is-ne, is-sw, is-se}
+use Rattle.keys.specs.Under.{Under, MapBlock, here, nw, ne, sw, se, Quadrant, is-nw, is-ne, is-sw, is-se}
 use Rattle.keys.proofs.Under.{quadrant-under}
 use Rattle.keys.proofs.Interval.{within, under-height, key-within, apart}
 use Rattle.keys.proofs.Powers.{five-pos}
@@ -58,7 +58,7 @@ cleared s q y from until =
     ap (λ x. x / s * s) e ∙ ap (λ x. x * s) (digits-div q (omega arith))
 
 -- the parent's key of a quadrant is that of its block
-pub parent-key : {m k r c κ r′ c′ κ′ : ℕ} → Block m (suc k) r c κ → Quadrant k r c κ r′ c′ κ′ → parentKey m κ′ ≡ κ
+pub parent-key : {m k r c κ r′ c′ κ′ : ℕ} → MapBlock m (suc k) r c κ → Quadrant k r c κ r′ c′ κ′ → parentKey m κ′ ≡ κ
 unfolding parentKey
 parent-key {k} {κ} {κ′} b q =
     let w = key-within (quadrant-under q) in
@@ -73,7 +73,7 @@ pub record IsParent (m p κ : ℕ) : Type 0 where
   pub level : levelOf m κ ≡ suc (levelOf m p)
 
 -- a block is the parent of its quadrants
-pub quadrant-parent : {m k r c κ r′ c′ κ′ : ℕ} → Block m (suc k) r c κ → Quadrant k r c κ r′ c′ κ′ → IsParent m κ κ′
+pub quadrant-parent : {m k r c κ r′ c′ κ′ : ℕ} → MapBlock m (suc k) r c κ → Quadrant k r c κ r′ c′ κ′ → IsParent m κ κ′
 quadrant-parent {k} b q =
     let after = quadrant-after q in
     let p = five-pos k in
@@ -94,8 +94,8 @@ parent-is m κ valid other =
 -- two blocks of one height that a third lies under have one key
 one-above : {m k₁ r₁ c₁ κ₁ k₂ r₂ c₂ κ₂ k′ r′ c′ κ′ : ℕ}
     → k₁ ≡ k₂
-    → Block m k₁ r₁ c₁ κ₁
-    → Block m k₂ r₂ c₂ κ₂
+    → MapBlock m k₁ r₁ c₁ κ₁
+    → MapBlock m k₂ r₂ c₂ κ₂
     → Under k₁ r₁ c₁ κ₁ k′ r′ c′ κ′
     → Under k₂ r₂ c₂ κ₂ k′ r′ c′ κ′
     → κ₁ ≡ κ₂
@@ -133,12 +133,12 @@ child-of k r c κ (suc (suc (suc zero))) least most = is-child is-sw
 child-of k r c κ (suc (suc (suc (suc zero)))) least most = is-child is-se
 child-of k r c κ (suc (suc (suc (suc (suc d))))) least most = absurd (omega arith)
 
-from-child : {m k r c κ d : ℕ} → Block m (suc k) r c κ → Child k r c κ d → (validKey m (childKey κ k d) ≡ true) × (parentKey m (childKey κ k d) ≡ κ)
+from-child : {m k r c κ d : ℕ} → MapBlock m (suc k) r c κ → Child k r c κ d → (validKey m (childKey κ k d) ≡ true) × (parentKey m (childKey κ k d) ≡ κ)
 from-child b (is-child q) = (block-valid (quadrant-of b q) .valid, parent-key b q)
 
 -- a child's key by a digit from 1 to 4 is valid, and its parent's key leads back
 pub child-valid : {m k r c κ : ℕ} (d : ℕ)
-    → Block m (suc k) r c κ
+    → MapBlock m (suc k) r c κ
     → 1 ≤ d
     → d ≤ 4
     → (validKey m (childKey κ k d) ≡ true) × (parentKey m (childKey κ k d) ≡ κ)

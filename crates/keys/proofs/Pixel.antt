@@ -8,7 +8,7 @@ use borrow.Author.Tests.{lt-ltb, le-ltb}
 use Rattle.keys.specs.Key.{childKey}
 use Rattle.keys.specs.Block.{pixelKey}
 use Rattle.keys.proofs.Cases.{split}
-use Rattle.keys.specs.Under.{Under, Block, here, nw, ne, sw, se}
+use Rattle.keys.specs.Under.{Under, MapBlock, here, nw, ne, sw, se}
 use Rattle.keys.proofs.Under.{under-trans}
 use Rattle.keys.proofs.Interval.{same-block, within, nest, one-block}
 
@@ -85,7 +85,7 @@ pixel-under (suc k) row column r c κ low narrow =
     (omega arith))
 
 -- a pixel of the raster is a block of height 0
-pub pixel-block : (m row column : ℕ) → row < 2 ^ m → column < 2 ^ m → Block m 0 row column (pixelKey m row column)
+pub pixel-block : (m row column : ℕ) → row < 2 ^ m → column < 2 ^ m → MapBlock m 0 row column (pixelKey m row column)
 pixel-block m row column low narrow = same-block (pixel-under m row column 0 0 0 low narrow) (omega arith)
 
 -- the key of a block of height 0 is that of its pixel
@@ -117,7 +117,7 @@ pixel-key {r} {c} {r′} {c′} (se {k} u) =
 
 -- a pixel's key counted from the root, and counted from a block that it lies in
 pub pixel-in-block : {m k r c κ : ℕ} (row column : ℕ)
-    → Block m k r c κ
+    → MapBlock m k r c κ
     → row < 2 ^ k
     → column < 2 ^ k
     → pixelKey m (r + row) (c + column) ≡ κ + pixelKey k row column
@@ -139,7 +139,7 @@ pub record InKeys (k κ x : ℕ) : Type 0 where
   pub until : x < κ + 5 ^ k
 
 -- a pixel in a block's square has its key in the block's interval
-pub inside : {m k r c κ row column : ℕ} → Block m k r c κ → InSquare k r c row column → InKeys k κ (pixelKey m row column)
+pub inside : {m k r c κ row column : ℕ} → MapBlock m k r c κ → InSquare k r c row column → InKeys k κ (pixelKey m row column)
 inside {m} {k} {r} {c} {κ} {row} {column} b s =
     let e = pixel-in-block (row - r) (column - c) b (omega arith) (omega arith) in
     let f : pixelKey m (r + (row - r)) (c + (column - c)) ≡ pixelKey m row column = ap₂ (pixelKey m) (omega arith) (omega arith) in
@@ -148,7 +148,7 @@ inside {m} {k} {r} {c} {κ} {row} {column} b s =
 
 -- and back: a pixel of the raster whose key lies in a block's interval lies in the block's square
 pub back : {m k r c κ : ℕ} (row column : ℕ)
-    → Block m k r c κ
+    → MapBlock m k r c κ
     → row < 2 ^ m
     → column < 2 ^ m
     → InKeys k κ (pixelKey m row column)

@@ -11,7 +11,7 @@ use borrow.Author.Tests.{ltb-true, lt-ltb}
 use Rattle.keys.specs.Key.{digitsOf, digitsThenZeros, levelOf, heightOf, validKey, childKey}
 use Rattle.keys.specs.Block.{isSouth, isEast, rowOf, columnOf}
 use Rattle.keys.proofs.Cases.{equal, and-left, and-right, and-both}
-use Rattle.keys.specs.Under.{Under, Block, here, nw, ne, sw, se}
+use Rattle.keys.specs.Under.{Under, MapBlock, here, nw, ne, sw, se}
 use Rattle.keys.proofs.Interval.{same-block}
 use Rattle.keys.proofs.Powers.{five-pos}
 use Rattle.keys.proofs.Digits.{split-digit, validDigits, row-suc, column-suc, height-digit, valid-digit, valid-zero, zeros, zeros-only, row-zero, column-zero, height-zero, level-height}
@@ -68,14 +68,14 @@ valid-under (suc k) x below valid r c κ =
     (reads-sum k (s .digit) (s .rest) r c κ (s .is-digit) (s .is-rest) (ap (validDigits (suc k)) (sym (s .sum)) ∙ valid) (valid-under k (s .rest) (s .is-rest)))
 
 -- a valid key is a block's
-pub valid-block : (m κ : ℕ) → validKey m κ ≡ true → Block m (heightOf m κ) (rowOf m κ) (columnOf m κ) κ
+pub valid-block : (m κ : ℕ) → validKey m κ ≡ true → MapBlock m (heightOf m κ) (rowOf m κ) (columnOf m κ) κ
 unfolding validKey
 valid-block m κ valid =
     let below = ltb-true κ (5 ^ m) (and-left _ _ valid) in
     same-block (valid-under m κ below (and-right (ltb κ (5 ^ m)) _ valid) 0 0 0) (omega arith)
 
 -- the digits of κ′ - κ say where the second block lies in the first
-pub record Named (k r c κ k′ r′ c′ κ′ : ℕ) : Type 0 where
+pub record NamedByDigits (k r c κ k′ r′ c′ κ′ : ℕ) : Type 0 where
   pub rest : ℕ
   pub below : rest < 5 ^ k
   pub valid : validDigits k rest ≡ true
@@ -96,8 +96,8 @@ named-digit : {k r c κ r₁ c₁ k′ r′ c′ κ′ : ℕ} (d : ℕ)
     → (d ≡ 0 → ⊥)
     → r + cond (isSouth d) (2 ^ k) 0 ≡ r₁
     → c + cond (isEast d) (2 ^ k) 0 ≡ c₁
-    → Named k r₁ c₁ (childKey κ k d) k′ r′ c′ κ′
-    → Named (suc k) r c κ k′ r′ c′ κ′
+    → NamedByDigits k r₁ c₁ (childKey κ k d) k′ r′ c′ κ′
+    → NamedByDigits (suc k) r c κ k′ r′ c′ κ′
 named-digit {k} d small other south east n =
     let p = digits-lt {m = 5} small (n .below) in
     let e = pow-suc 5 k in
@@ -114,7 +114,7 @@ named-digit {k} d small other south east n =
     }
 
 -- a block under another is named by valid digits
-pub named : {k r c κ k′ r′ c′ κ′ : ℕ} → Under k r c κ k′ r′ c′ κ′ → Named k r c κ k′ r′ c′ κ′
+pub named : {k r c κ k′ r′ c′ κ′ : ℕ} → Under k r c κ k′ r′ c′ κ′ → NamedByDigits k r c κ k′ r′ c′ κ′
 named {k} here =
     record {
       rest = 0;
@@ -137,17 +137,17 @@ pub record Is (m k r c κ : ℕ) : Type 0 where
   pub row : rowOf m κ ≡ r
   pub column : columnOf m κ ≡ c
 
-rest-is : {m k r c κ : ℕ} (n : Named m 0 0 0 k r c κ) → Is m k r c (n .rest)
+rest-is : {m k r c κ : ℕ} (n : NamedByDigits m 0 0 0 k r c κ) → Is m k r c (n .rest)
 unfolding validKey
 rest-is n =
     record { valid = and-both _ _ (lt-ltb _ _ (n .below)) (n .valid); height = n .height; row = omega arith; column = omega arith }
 
 -- a block's key is valid, and its digits give the block
-pub block-valid : {m k r c κ : ℕ} → Block m k r c κ → Is m k r c κ
+pub block-valid : {m k r c κ : ℕ} → MapBlock m k r c κ → Is m k r c κ
 block-valid {m} {k} {r} {c} {κ} b = let n = named b in let e : n .rest ≡ κ = omega arith in subst (λ x. Is m k r c x) e (rest-is n)
 
 -- a block's level and its height together are m
-pub block-level : {m k r c κ : ℕ} → Block m k r c κ → levelOf m κ + k ≡ m
+pub block-level : {m k r c κ : ℕ} → MapBlock m k r c κ → levelOf m κ + k ≡ m
 block-level {m} {κ} b = let e = level-height m κ in let f = block-valid b .height in omega arith
 
 -- a valid key is below 5 ^ m

@@ -12,8 +12,8 @@ pub data Under : ℕ → ℕ → ℕ → ℕ → ℕ → ℕ → ℕ → ℕ →
   se : {k r c κ k′ r′ c′ κ′ : ℕ} → Under k (r + 2 ^ k) (c + 2 ^ k) (childKey κ k 4) k′ r′ c′ κ′ → Under (suc k) r c κ k′ r′ c′ κ′
 
 -- a block of the map: it lies under the root
-abbrev pub Block : ℕ → ℕ → ℕ → ℕ → ℕ → Type 0
-Block m k r c κ = Under m 0 0 0 k r c κ
+abbrev pub MapBlock : ℕ → ℕ → ℕ → ℕ → ℕ → Type 0
+MapBlock m k r c κ = Under m 0 0 0 k r c κ
 
 -- Quadrant k r c κ r′ c′ κ′: the block (k r′ c′ κ′) is a quadrant of (suc k r c κ), its parent
 pub data Quadrant : ℕ → ℕ → ℕ → ℕ → ℕ → ℕ → ℕ → Type 0 where

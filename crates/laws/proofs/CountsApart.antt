@@ -7,7 +7,7 @@ use mathlib.Core.Logic.{_⊎_, ⊎-elim}
 use native.Mathlib.Omega.{arith}
 use Rattle.keys.specs.Block.{inBlock}
 use Rattle.keys.proofs.Cases.{decide}
-use Rattle.keys.specs.Under.{Block}
+use Rattle.keys.specs.Under.{MapBlock}
 use Rattle.keys.proofs.Pixel.{inside}
 use Rattle.keys.proofs.InBlock.{inBlock-iff}
 use Rattle.definitions.specs.Picture.{Picture}
@@ -22,7 +22,7 @@ use Rattle.laws.proofs.CountOf.{pixels-agree}
 abbrev pub Apart : ℕ → ℕ → ℕ → ℕ → Type 0
 Apart k κ k′ κ′ = (κ + 5 ^ k ≤ κ′) ⊎ (κ′ + 5 ^ k′ ≤ κ)
 
-module _ {m k r c κ k′ r′ c′ κ′ : ℕ} (b : Block m k r c κ) (b′ : Block m k′ r′ c′ κ′) (apart : Apart k κ k′ κ′) where
+module _ {m k r c κ k′ r′ c′ κ′ : ℕ} (b : MapBlock m k r c κ) (b′ : MapBlock m k′ r′ c′ κ′) (apart : Apart k κ k′ κ′) where
   -- no pixel of the one is a pixel of the other
   none-inside : Every (λ row column. inBlock m κ row column ≡ false) k′ r′ c′
   none-inside row column w =

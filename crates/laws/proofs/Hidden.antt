@@ -12,7 +12,7 @@ use borrow.Author.Tests.{eqb-true, eq-eqb, leb-true, le-leb, lt-ltb}
 use Rattle.keys.specs.Key.{heightOf, childKey}
 use Rattle.keys.specs.Block.{rowOf, columnOf, sideOf, inBlock, contains}
 use Rattle.keys.proofs.Cases.{decide, and-left, and-right, and-both, or-either, or-left, or-right, same-test}
-use Rattle.keys.specs.Under.{Block, here, nw, ne, sw, se}
+use Rattle.keys.specs.Under.{MapBlock, here, nw, ne, sw, se}
 use Rattle.keys.proofs.Under.{under-trans}
 use Rattle.keys.proofs.Valid.{block-valid}
 use Rattle.keys.proofs.Pixel.{InSquare}
@@ -156,11 +156,11 @@ formerly-hides m ws x e = equal-hides m (formerly-waiver ws x e)
 
 -- ---- several smaller ones
 -- by the numbers of the block
-by-block : {m k r c κ : ℕ} (ws : List Finding) (id : ℕ) → Block m k r c κ → isHidden m ws (findingOf id κ) ≡ everyPixel (isWaivedAt m ws id) k r c
+by-block : {m k r c κ : ℕ} (ws : List Finding) (id : ℕ) → MapBlock m k r c κ → isHidden m ws (findingOf id κ) ≡ everyPixel (isWaivedAt m ws id) k r c
 unfolding isHidden
 by-block ws id b = let i = block-valid b in rw (i .height, i .row, i .column)
 
-module _ {m k r c κ : ℕ} (ws : List Finding) (id : ℕ) (b : Block m (suc k) r c κ) where
+module _ {m k r c κ : ℕ} (ws : List Finding) (id : ℕ) (b : MapBlock m (suc k) r c κ) where
   -- a block is hidden exactly when its four quadrants are
   pub hidden-four : isHidden m ws (findingOf id κ)
       ≡ allFour (isHidden m ws (findingOf id (childKey κ k 1))) (isHidden m ws (findingOf id (childKey κ k 2)))

@@ -10,7 +10,7 @@ use lib.Dec.{eqb}
 use borrow.Author.Tests.{eq-eqb}
 use Rattle.keys.specs.Key.{rootKey, childKey, validKey}
 use Rattle.keys.proofs.Cases.{decide}
-use Rattle.keys.specs.Under.{here, nw, ne, sw, se, Block}
+use Rattle.keys.specs.Under.{here, nw, ne, sw, se, MapBlock}
 use Rattle.keys.proofs.Under.{under-trans}
 use Rattle.keys.proofs.Valid.{block-valid}
 use Rattle.definitions.specs.Window.{inWindow, isGiven, selectFrom, selectIn, isInside, largestFrom, largestBlocks}
@@ -66,7 +66,7 @@ covered-part w k r c κ e = rw e
 -- blocks of the map in key order, and apart: each begins where the one before it has ended, or later
 pub data BlocksInOrder (m : ℕ) : (from until : ℕ) → List ℕ → Type 0 where
   no-block : {from until : ℕ} → from ≤ until → BlocksInOrder m from until []
-  block : {from until k r c κ : ℕ} {blocks : List ℕ} → from ≤ κ → Block m k r c κ → BlocksInOrder m (κ + 5 ^ k) until blocks
+  block : {from until k r c κ : ℕ} {blocks : List ℕ} → from ≤ κ → MapBlock m k r c κ → BlocksInOrder m (κ + 5 ^ k) until blocks
       → BlocksInOrder m from until (κ ∷ blocks)
 
 order-widen : {m from until from′ until′ : ℕ} {blocks : List ℕ} → from′ ≤ from → until ≤ until′ → BlocksInOrder m from until blocks
@@ -79,11 +79,11 @@ order-append : {m from mid until : ℕ} {a b : List ℕ} → BlocksInOrder m fro
 order-append {until = until} (no-block h) t = order-widen h (omega arith) t
 order-append (block h b s) t = block h b (order-append s t)
 
-one-in-order : {m k r c κ : ℕ} → Block m k r c κ → BlocksInOrder m κ (κ + 5 ^ k) (κ ∷ [])
+one-in-order : {m k r c κ : ℕ} → MapBlock m k r c κ → BlocksInOrder m κ (κ + 5 ^ k) (κ ∷ [])
 one-in-order {k = k} {κ = κ} b = block {from = κ} {κ = κ} (omega arith) b (no-block {from = κ + 5 ^ k} {until = κ + 5 ^ k} (omega arith))
 
 -- the largest blocks under a block of the map stand in order
-largest-order : {m : ℕ} (w : Window) (k : ℕ) {r c κ : ℕ} → Block m k r c κ → BlocksInOrder m κ (κ + 5 ^ k) (largestFrom w k r c κ)
+largest-order : {m : ℕ} (w : Window) (k : ℕ) {r c κ : ℕ} → MapBlock m k r c κ → BlocksInOrder m κ (κ + 5 ^ k) (largestFrom w k r c κ)
 largest-order w zero {r} {c} {κ} b =
     decide (isInside w 0 r c)
     (λ e. rw (covered-one w 0 r c κ e) (one-in-order b))

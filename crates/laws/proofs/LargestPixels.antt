@@ -11,7 +11,7 @@ use borrow.Author.Tests.{leb-true}
 use Rattle.keys.specs.Key.{rootKey, childKey}
 use Rattle.keys.specs.Block.{inBlock, pixelKey}
 use Rattle.keys.proofs.Cases.{decide, and-left, and-right, or-either, or-left, or-right, same-test}
-use Rattle.keys.specs.Under.{here, nw, ne, sw, se, Block}
+use Rattle.keys.specs.Under.{here, nw, ne, sw, se, MapBlock}
 use Rattle.keys.proofs.Under.{under-trans}
 use Rattle.keys.proofs.Pixel.{InSquare, inside}
 use Rattle.keys.proofs.InBlock.{inBlock-iff}
@@ -57,7 +57,7 @@ some-of-four m a b c d row column in-a in-b in-c in-d =
     some-either m a (b ++ (c ++ d)) row column in-a (some-either m b (c ++ d) row column in-b (some-either m c d row column in-c in-d))
 
 -- one block alone: a pixel of it, and that a pixel of a block in the window lies there
-itself : {m k r c κ : ℕ} → Block m k r c κ → (row column : ℕ) → InSquare k r c row column → inSome m (κ ∷ []) row column ≡ true
+itself : {m k r c κ : ℕ} → MapBlock m k r c κ → (row column : ℕ) → InSquare k r c row column → inSome m (κ ∷ []) row column ≡ true
 unfolding inSome
 itself {m} {κ = κ} b row column i = or-left (inBlock m κ row column) false (inBlock-iff row column b .1 i)
 
@@ -65,7 +65,7 @@ or-false : (a : Bool) → a || false ≡ a
 or-false true = refl
 or-false false = refl
 
-covered-inside : {m k r c κ : ℕ} (w : Window) → Block m k r c κ → (row column : ℕ) → isInside w k r c ≡ true → inSome m (κ ∷ []) row column ≡ true
+covered-inside : {m k r c κ : ℕ} (w : Window) → MapBlock m k r c κ → (row column : ℕ) → isInside w k r c ≡ true → inSome m (κ ∷ []) row column ≡ true
     → inWindow w row column ≡ true
 unfolding isInside inSome
 covered-inside {m} {k} {r} {c} {κ} w b row column e h =
@@ -76,7 +76,7 @@ unfolding isInside
 pixel-covered w r c h = every-from (inWindow w) 0 r c (λ row column i. ap₂ (inWindow w) (pixel-row i) (pixel-column i) ∙ h)
 
 -- a pixel of one of the largest blocks lies in the window
-all-inside : {m : ℕ} (w : Window) (k : ℕ) {r c κ : ℕ} → Block m k r c κ → (row column : ℕ) → inSome m (largestFrom w k r c κ) row column ≡ true
+all-inside : {m : ℕ} (w : Window) (k : ℕ) {r c κ : ℕ} → MapBlock m k r c κ → (row column : ℕ) → inSome m (largestFrom w k r c κ) row column ≡ true
     → inWindow w row column ≡ true
 all-inside {m} w zero {r} {c} {κ} b row column h =
     decide (isInside w 0 r c)
@@ -94,7 +94,7 @@ all-inside {m} w (suc k) {r} {c} {κ} b row column h =
     (rw (covered-part w k r c κ e) at h))
 
 -- a pixel of the window in a block of the map lies in one of the largest blocks under it
-all-covered : {m : ℕ} (w : Window) (k : ℕ) {r c κ : ℕ} → Block m k r c κ → (row column : ℕ) → InSquare k r c row column → inWindow w row column ≡ true
+all-covered : {m : ℕ} (w : Window) (k : ℕ) {r c κ : ℕ} → MapBlock m k r c κ → (row column : ℕ) → InSquare k r c row column → inWindow w row column ≡ true
     → inSome m (largestFrom w k r c κ) row column ≡ true
 all-covered {m} w zero {r} {c} {κ} b row column i h =
     decide (isInside w 0 r c)

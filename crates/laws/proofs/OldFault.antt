@@ -11,7 +11,7 @@ use Rattle.definitions.specs.Picture.{Picture}
 use Rattle.definitions.specs.Read.{recordsOf, pictureOf}
 use Rattle.definitions.specs.Buffer.{over}
 use Rattle.definitions.specs.Rules.{Finding, allFindings, waiversOf, liveOf}
-use Rattle.definitions.specs.Calls.Findings.{liveIn, hiddenIn, refusalWith, foundWith, idsWith, keysWith}
+use Rattle.definitions.specs.Calls.Findings.{liveIn, hiddenIn, refusalWith, foundWith, idsWith, foundKeysWith}
 use Rattle.definitions.specs.declared.Rule.{Rule}
 use Rattle.laws.proofs.First.{accepted-done}
 use Rattle.laws.proofs.Hidden.{WaivedBy, EveryPixelOf, LeftOver}
@@ -56,11 +56,11 @@ module _ (m s : ℕ) (keys bits : List ℕ) (n office : ℕ) (wrong : Bool) (rul
   answered =
       waiversOf
       (take (foundWith m s keys bits n office wrong rules waivers foundIds foundKeys .live) (idsWith m s keys bits n office wrong rules waivers foundIds foundKeys))
-      (take (foundWith m s keys bits n office wrong rules waivers foundIds foundKeys .live) (keysWith m s keys bits n office wrong rules waivers foundIds foundKeys))
+      (take (foundWith m s keys bits n office wrong rules waivers foundIds foundKeys .live) (foundKeysWith m s keys bits n office wrong rules waivers foundIds foundKeys))
 
   -- an accepted call leaves there the live findings
   pub answered-live : refusalWith m s keys bits n office wrong rules waivers foundIds foundKeys ≡ 0 → answered ≡ liveIn m keys bits n rules waivers
-  unfolding foundWith idsWith keysWith
+  unfolding foundWith idsWith foundKeysWith
   answered-live done =
       let xs = liveIn m keys bits n rules waivers in
       let count = accepted-done (length xs) _ done in

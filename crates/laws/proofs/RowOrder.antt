@@ -14,11 +14,11 @@ use Rattle.definitions.specs.Offices.{Waiver, waivedBy, rowBefore, rowsAscend, 
 use Rattle.laws.proofs.FindingOrder.{Earlier, test-earlier, earlier-test, earlier-on}
 
 -- the one comes before the other
-pub record Before (a b : Waiver) : Type 0 where
+pub record RowBefore (a b : Waiver) : Type 0 where
   pub offices : a .office ≤ b .office
   pub own : a .office ≡ b .office → Earlier (waivedBy a) (waivedBy b)
 
-pub test-before : (a b : Waiver) → rowBefore a b ≡ true → Before a b
+pub test-before : (a b : Waiver) → rowBefore a b ≡ true → RowBefore a b
 test-before a b e =
     ⊎-elim
     (λ (h : ltb (a .office) (b .office) ≡ true). let low = ltb-true (a .office) (b .office) h in record { offices = omega arith; own = λ same. absurd (omega arith) })
@@ -28,7 +28,7 @@ test-before a b e =
     record { offices = omega arith; own = λ also. low })
     (or-either (ltb (a .office) (b .office)) (eqb (a .office) (b .office) && comesBefore (waivedBy a) (waivedBy b)) e)
 
-pub before-test : (a b : Waiver) → Before a b → rowBefore a b ≡ true
+pub before-test : (a b : Waiver) → RowBefore a b → rowBefore a b ≡ true
 before-test a b h =
     split (a .office) (b .office)
     (λ low. or-left (ltb (a .office) (b .office)) (eqb (a .office) (b .office) && comesBefore (waivedBy a) (waivedBy b)) (lt-ltb (a .office) (b .office) low))
@@ -39,7 +39,7 @@ before-test a b h =
     (and-both (eqb (a .office) (b .office)) (comesBefore (waivedBy a) (waivedBy b)) (eq-eqb (a .office) (b .office) same) (earlier-test (waivedBy a) (waivedBy b) (h .own same))))
 
 -- what comes before one that comes before a third comes before the third
-pub before-on : {a b c : Waiver} → Before a b → Before b c → Before a c
+pub before-on : {a b c : Waiver} → RowBefore a b → RowBefore b c → RowBefore a c
 before-on {a} {b} {c} f g =
     let i = f .offices in
     let j = g .offices in
@@ -64,18 +64,18 @@ not-true-false true h = absurd (h refl)
 not-true-false false h = refl
 
 -- none comes before the same row, whichever is named first
-pub before-other : (a b : Waiver) → Before a b → sameRow a b ≡ false
+pub before-other : (a b : Waiver) → RowBefore a b → sameRow a b ≡ false
 before-other a b h = not-true-false (sameRow a b) (λ e.
     let same = same-numbers a b e in let low = h .own (same .0) .keys (same .1) in let keys = same .2 in omega arith)
 
-pub after-other : (a b : Waiver) → Before a b → sameRow b a ≡ false
+pub after-other : (a b : Waiver) → RowBefore a b → sameRow b a ≡ false
 after-other a b h = not-true-false (sameRow b a) (λ e.
     let same = same-numbers b a e in let low = h .own (sym (same .0)) .keys (sym (same .1)) in let keys = same .2 in omega arith)
 
 -- of two rows that are not the same one comes before the other
-pub before-or-after : (a b : Waiver) → rowBefore a b ≡ false → sameRow a b ≡ false → Before b a
+pub before-or-after : (a b : Waiver) → rowBefore a b ≡ false → sameRow a b ≡ false → RowBefore b a
 before-or-after a b not-before not-same =
-    let no-before : Before a b → ⊥ = λ h. true≢false (sym (before-test a b h) ∙ not-before) in
+    let no-before : RowBefore a b → ⊥ = λ h. true≢false (sym (before-test a b h) ∙ not-before) in
     let high : b .office ≤ a .office =
     split (a .office) (b .office) (λ low. absurd (no-before (record { offices = omega arith; own = λ e. absurd (omega arith) }))) (λ h. h) in
     record {
@@ -95,17 +95,17 @@ before-or-after a b not-before not-same =
 
 -- ---- a table in order
 -- each comes after the row, and before the next
-pub data After : Waiver → List Waiver → Type 0 where
-  no-row : {w : Waiver} → After w []
-  next-row : {w x : Waiver} {t : List Waiver} → Before w x → After x t → After w (x ∷ t)
+pub data RowsAfter : Waiver → List Waiver → Type 0 where
+  no-row : {w : Waiver} → RowsAfter w []
+  next-row : {w x : Waiver} {t : List Waiver} → RowBefore w x → RowsAfter x t → RowsAfter w (x ∷ t)
 
-pub ascend-after : (x : Waiver) (t : List Waiver) → rowsAscend (x ∷ t) ≡ true → After x t
+pub ascend-after : (x : Waiver) (t : List Waiver) → rowsAscend (x ∷ t) ≡ true → RowsAfter x t
 unfolding rowsAscend
 ascend-after x [] e = no-row
 ascend-after x (y ∷ t) e =
     next-row (test-before x y (and-left (rowBefore x y) (rowsAscend (y ∷ t)) e)) (ascend-after y t (and-right (rowBefore x y) (rowsAscend (y ∷ t)) e))
 
-pub after-ascend : {x : Waiver} {t : List Waiver} → After x t → rowsAscend (x ∷ t) ≡ true
+pub after-ascend : {x : Waiver} {t : List Waiver} → RowsAfter x t → rowsAscend (x ∷ t) ≡ true
 unfolding rowsAscend
 after-ascend no-row = refl
 after-ascend (next-row {w} {x} {t} h r) = and-both (rowBefore w x) (rowsAscend (x ∷ t)) (before-test w x h) (after-ascend r)
@@ -117,18 +117,18 @@ ascend-rows x [] e = refl
 ascend-rows x (y ∷ t) e = and-right (rowBefore x y) (rowsAscend (y ∷ t)) e
 
 -- a row before the first comes before all
-pub after-on : {v w : Waiver} {t : List Waiver} → Before v w → After w t → After v t
+pub after-on : {v w : Waiver} {t : List Waiver} → RowBefore v w → RowsAfter w t → RowsAfter v t
 after-on h no-row = no-row
 after-on h (next-row g r) = next-row (before-on h g) r
 
 -- none of them is the same row
-pub not-after : (w : Waiver) (t : List Waiver) → After w t → isRow w t ≡ false
+pub not-after : (w : Waiver) (t : List Waiver) → RowsAfter w t → isRow w t ≡ false
 unfolding isRow
 not-after w [] no-row = refl
 not-after w (x ∷ t) (next-row h r) = rw (after-other w x h) (not-after w t (after-on h r))
 
 -- ---- a row more
-after-added : {v w : Waiver} {t : List Waiver} → Before v w → After v t → isRow w t ≡ false → After v (added w t)
+after-added : {v w : Waiver} {t : List Waiver} → RowBefore v w → RowsAfter v t → isRow w t ≡ false → RowsAfter v (added w t)
 unfolding added isRow
 after-added h no-row new = next-row h no-row
 after-added {v} {w} h (next-row {x = x} {t = t} g r) new =
@@ -147,7 +147,7 @@ added-ascend w (x ∷ t) asc new =
     (λ e. rw e (after-ascend (next-row (before-or-after x w e (not-true-false (sameRow x w) (λ there. true≢false (sym (or-left (sameRow x w) (isRow w t) there) ∙ new)))) r)))
 
 -- ---- a row less
-after-removed : {v : Waiver} (w : Waiver) {t : List Waiver} → After v t → After v (removed w t)
+after-removed : {v : Waiver} (w : Waiver) {t : List Waiver} → RowsAfter v t → RowsAfter v (removed w t)
 unfolding removed
 after-removed w no-row = no-row
 after-removed w (next-row {x = x} {t = t} h r) = decide (sameRow x w) (λ e. rw e (after-on h r)) (λ e. rw e (next-row h (after-removed w r)))

@@ -8,7 +8,7 @@ use native.Mathlib.Omega.{arith}
 use lib.Dec.{eqb}
 use Rattle.keys.specs.Key.{heightOf, childKey}
 use Rattle.keys.proofs.Cases.{decide}
-use Rattle.keys.specs.Under.{here, nw, ne, sw, se, Block}
+use Rattle.keys.specs.Under.{here, nw, ne, sw, se, MapBlock}
 use Rattle.keys.proofs.Under.{under-trans}
 use Rattle.keys.proofs.Valid.{block-valid}
 use Rattle.definitions.specs.Picture.{Picture}
@@ -38,7 +38,7 @@ four-append m a b c d =
 
 module _ (p : Picture) (w : Window) (f : ℕ) where
   -- a block that is given has its pixels, all of them in the window and with the feature
-  given-area : {m k r c κ : ℕ} → Block m k r c κ → isGiven p w f k r c ≡ true → pixelsOf m (κ ∷ []) ≡ sumPixels (oneInside p w f) k r c
+  given-area : {m k r c κ : ℕ} → MapBlock m k r c κ → isGiven p w f k r c ≡ true → pixelsOf m (κ ∷ []) ≡ sumPixels (oneInside p w f) k r c
   unfolding isGiven pixelsOf
   given-area {m} {k} {r} {c} {κ} b e =
       add-zero (4 ^ heightOf m κ)
@@ -52,7 +52,7 @@ module _ (p : Picture) (w : Window) (f : ℕ) where
   unfolding isGiven pixelsOf
   pixel-area m r c e = sym (sum-zero (oneInside p w f) r c ∙ ap (λ x. cond x 1 0) (sym (every-zero (λ x y. inWindow w x y && eqb (p x y) f) r c) ∙ e))
 
-  select-area : {m : ℕ} (k : ℕ) {r c κ : ℕ} → Block m k r c κ → pixelsOf m (selectFrom p w f k r c κ) ≡ sumPixels (oneInside p w f) k r c
+  select-area : {m : ℕ} (k : ℕ) {r c κ : ℕ} → MapBlock m k r c κ → pixelsOf m (selectFrom p w f k r c κ) ≡ sumPixels (oneInside p w f) k r c
   unfolding selectFrom
   select-area {m} zero {r} {c} b =
       decide (isGiven p w f zero r c)

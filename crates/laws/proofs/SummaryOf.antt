@@ -9,7 +9,7 @@ use lib.ListN.{length, getD, take, drop, length-append}
 use lib.Seq.{take-at, drop-at, getD-take, getD-drop}
 use Rattle.keys.specs.Key.{childKey}
 use Rattle.keys.specs.Block.{rowOf, columnOf}
-use Rattle.keys.specs.Under.{Under, here, nw, ne, sw, se, Block}
+use Rattle.keys.specs.Under.{Under, here, nw, ne, sw, se, MapBlock}
 use Rattle.keys.proofs.Under.{under-trans}
 use Rattle.keys.proofs.Interval.{same-key}
 use Rattle.keys.proofs.Valid.{block-valid}
@@ -164,7 +164,7 @@ module _ (s : ℕ) (p : Picture) (k : ℕ) where
   part-of d r c κ (suc (suc (suc (suc q)))) h = absurd (omega arith)
 
   -- block number b: its counts in the summary, and its key
-  pub record BlockIn (d r c κ b : ℕ) : Type 0 where
+  pub record CountedBlock (d r c κ b : ℕ) : Type 0 where
     pub row : ℕ
     pub column : ℕ
     pub before : List ℕ
@@ -173,7 +173,7 @@ module _ (s : ℕ) (p : Picture) (k : ℕ) where
     pub long : length before ≡ b * s
     pub under : Under (k + d) r c κ k row column (κ + keyBelow k d b)
 
-  in-part : {d r c κ b : ℕ} (q : PartOf d r c κ (b / 4 ^ d)) → BlockIn d (q .row) (q .column) (childKey κ (k + d) (b / 4 ^ d + 1)) (b % 4 ^ d) → BlockIn (suc d) r c κ b
+  in-part : {d r c κ b : ℕ} (q : PartOf d r c κ (b / 4 ^ d)) → CountedBlock d (q .row) (q .column) (childKey κ (k + d) (b / 4 ^ d + 1)) (b % 4 ^ d) → CountedBlock (suc d) r c κ b
   unfolding keyBelow
   in-part {d} {r} {c} {κ} {b} q x = record {
     row = x .row;
@@ -185,7 +185,7 @@ module _ (s : ℕ) (p : Picture) (k : ℕ) where
     under = rw (add-suc k d) (same-key (under-trans (q .under) (x .under)) (add-assoc κ ((b / 4 ^ d + 1) * 5 ^ (k + d)) (keyBelow k d (b % 4 ^ d))));
   }
 
-  block-in : (d r c κ b : ℕ) → b < 4 ^ d → BlockIn d r c κ b
+  block-in : (d r c κ b : ℕ) → b < 4 ^ d → CountedBlock d r c κ b
   unfolding keyBelow
   block-in zero r c κ b h = record {
     row = r;
@@ -212,15 +212,15 @@ module _ (m s : ℕ) (p : Picture) where
   summary-length = below-length s p (summaryHeight m) (summaryLevel m) 0 0
 
   module _ (b : ℕ) (h : b < 4 ^ summaryLevel m) where
-    found : BlockIn s p (summaryHeight m) (summaryLevel m) 0 0 0 b
+    found : CountedBlock s p (summaryHeight m) (summaryLevel m) 0 0 0 b
     found = block-in s p (summaryHeight m) (summaryLevel m) 0 0 0 b h
 
-    found-block : Block m (summaryHeight m) (found .row) (found .column) (blockKey m b)
+    found-block : MapBlock m (summaryHeight m) (found .row) (found .column) (blockKey m b)
     unfolding blockKey
     found-block = rw heights at (same-key (found .under) (zero-add _))
 
     -- it is a block of the map, and has the summary's height
-    pub summary-block : Block m (summaryHeight m) (rowOf m (blockKey m b)) (columnOf m (blockKey m b)) (blockKey m b)
+    pub summary-block : MapBlock m (summaryHeight m) (rowOf m (blockKey m b)) (columnOf m (blockKey m b)) (blockKey m b)
     summary-block = let i = block-valid found-block in rw (i .row, i .column) found-block
 
     -- its counts stand from place b * s on

@@ -8,7 +8,7 @@ use native.Mathlib.Omega.{arith}
 use Rattle.keys.specs.Key.{heightOf}
 use Rattle.keys.specs.Block.{rowOf, columnOf, inBlock, pixelKey}
 use Rattle.keys.proofs.Cases.{decide}
-use Rattle.keys.specs.Under.{Block}
+use Rattle.keys.specs.Under.{MapBlock}
 use Rattle.keys.proofs.Pixel.{inside}
 use Rattle.keys.proofs.InBlock.{inBlock-iff, in-raster}
 use Rattle.keys.proofs.Valid.{block-valid}
@@ -75,7 +75,7 @@ window-in-turn m w f p row column i =
     ∙ ap (λ t. cond t f (p row column)) (largest-pixels m w row column (omega arith) (omega arith)))
 
 -- the entry of a block depends on its pixels alone
-entry-same : {m k r c κ : ℕ} (f : ℕ) (p q : Picture) → Block m k r c κ → Agree p q k r c → entryOf m p κ f ≡ entryOf m q κ f
+entry-same : {m k r c κ : ℕ} (f : ℕ) (p q : Picture) → MapBlock m k r c κ → Agree p q k r c → entryOf m p κ f ≡ entryOf m q κ f
 unfolding entryOf contentOf
 entry-same {m} {k} {r} {c} {κ} f p q b same =
     let is = block-valid b in
@@ -95,7 +95,7 @@ entries-past {m} f p q (block {k = k} {r = r} {c = c} {κ = κ} h b rest) same =
     (entries-past f p q rest (λ row column low narrow past. same row column low narrow (omega arith)))
 
 -- a paint of a block leaves the pixels past it
-paint-past : {m k r c κ : ℕ} (f : ℕ) (p : Picture) → Block m k r c κ → (row column : ℕ) → κ + 5 ^ k ≤ pixelKey m row column
+paint-past : {m k r c κ : ℕ} (f : ℕ) (p : Picture) → MapBlock m k r c κ → (row column : ℕ) → κ + 5 ^ k ≤ pixelKey m row column
     → p row column ≡ paintIn m κ f p row column
 paint-past {m} {k} {r} {c} {κ} f p b row column past =
     sym (paint-pixel m κ f p row column

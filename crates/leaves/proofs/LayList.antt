@@ -21,13 +21,13 @@ use Rattle.build.specs.BuildBlocks.{below, Written}
 use Rattle.build.proofs.RasterTests.{pixels-below}
 use Rattle.build.proofs.WriteBlock.{sets-front}
 use Rattle.build.proofs.WrittenBlock.{own-first}
-use Rattle.leaves.specs.Delivered.{Asked, Ready, Laid}
+use Rattle.leaves.specs.Delivered.{LeavesAsked, LayAsked, BlockLaid}
 use Rattle.leaves.proofs.Delivery.{leaves-to, leaves-parted}
 
 -- the root is asked for by its step
 pub root-asked : (m s step : ℕ) (keys features : List ℕ) → badSettings m s ≡ false → length features ≡ length keys → badPixel s features ≡ false
     → step ≡ 5 ^ m
-    → Asked keys features m step 0
+    → LeavesAsked keys features m step 0
 root-asked m s step keys features good same below e =
     let g = good-settings m s good in
     record {
@@ -56,7 +56,7 @@ module _ (m s : ℕ) (leafKeys leafFeatures keys bits : List ℕ) (same : length
   abbrev pub delivered : Picture
   delivered = pictureOfLeaves m (paired leafKeys leafFeatures)
 
-  pub root-ready : badSettings m s ≡ false → length (listOfPicture m delivered) ≤ room keys bits → Ready leafKeys leafFeatures m 0 0 0 keys bits
+  pub root-ready : badSettings m s ≡ false → length (listOfPicture m delivered) ≤ room keys bits → LayAsked leafKeys leafFeatures m 0 0 0 keys bits
   root-ready good fits = record {
     picture = delivered;
     row = 0;
@@ -70,7 +70,7 @@ module _ (m s : ℕ) (leafKeys leafFeatures keys bits : List ℕ) (same : length
     };
   }
 
-  module _ {keys′ bits′ : List ℕ} {b next end : ℕ} (l : Laid leafKeys leafFeatures m 0 0 0 keys bits keys′ bits′ b next end)
+  module _ {keys′ bits′ : List ℕ} {b next end : ℕ} (l : BlockLaid leafKeys leafFeatures m 0 0 0 keys bits keys′ bits′ b next end)
       (fits : length (listOfPicture m delivered) ≤ room keys bits) where
     pub root-written : Written delivered m 0 0 0 0 keys bits keys′ bits′ b next
     root-written = l .written delivered 0 0 (leaves-parted m s leafKeys leafFeatures same (leaves-to m s leafKeys leafFeatures are))

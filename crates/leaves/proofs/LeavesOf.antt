@@ -11,7 +11,7 @@ use borrow.Author.Tests.{lt-leb}
 use Rattle.keys.specs.Key.{childKey}
 use Rattle.keys.specs.Block.{inBlock}
 use Rattle.keys.proofs.Cases.{decide}
-use Rattle.keys.specs.Under.{Block, here, nw, ne, sw, se}
+use Rattle.keys.specs.Under.{MapBlock, here, nw, ne, sw, se}
 use Rattle.keys.proofs.Under.{under-trans}
 use Rattle.keys.proofs.Pixel.{InSquare}
 use Rattle.keys.proofs.InBlock.{inBlock-iff}
@@ -128,24 +128,24 @@ module _ (p : Picture) where
       omega arith)
 
   -- a leaf has the pixel, and its feature
-  pub record Found (m : ℕ) (l : List Record) (a b : ℕ) : Type 0 where
+  pub record LeafFound (m : ℕ) (l : List Record) (a b : ℕ) : Type 0 where
     pub leaf : Record
     pub among : List·Memᴰ leaf l
     pub has : inBlock m (leaf .key) a b ≡ true
     pub feature : leaf .value ≡ p a b
 
-  found-left : {m a b : ℕ} (l l′ : List Record) → Found m l a b → Found m (l ++ l′) a b
+  found-left : {m a b : ℕ} (l l′ : List Record) → LeafFound m l a b → LeafFound m (l ++ l′) a b
   found-left l l′ f = record { leaf = f .leaf; among = Memᴰ·append-left l′ (f .among); has = f .has; feature = f .feature }
 
-  found-right : {m a b : ℕ} (l l′ : List Record) → Found m l′ a b → Found m (l ++ l′) a b
+  found-right : {m a b : ℕ} (l l′ : List Record) → LeafFound m l′ a b → LeafFound m (l ++ l′) a b
   found-right l l′ f = record { leaf = f .leaf; among = Memᴰ·append-right l (f .among); has = f .has; feature = f .feature }
 
-  found-one : {m k r c κ a b : ℕ} → Block m k r c κ → InSquare k r c a b → oneFeature p k r c ≡ true → Found m (leavesAt k r c κ) a b
+  found-one : {m k r c κ a b : ℕ} → MapBlock m k r c κ → InSquare k r c a b → oneFeature p k r c ≡ true → LeafFound m (leavesAt k r c κ) a b
   found-one {k = k} {r = r} {c = c} {κ = κ} {a = a} {b = b} u w e =
       rw (leaves-one k r c κ e)
       (record { leaf = recordOf κ (p r c); among = List·Memᴰ·head refl; has = inBlock-iff a b u .1 w; feature = sym (one-to p k r c e a b w) })
 
-  pub leaves-found : {m : ℕ} (k r c κ a b : ℕ) → Block m k r c κ → InSquare k r c a b → Found m (leavesAt k r c κ) a b
+  pub leaves-found : {m : ℕ} (k r c κ a b : ℕ) → MapBlock m k r c κ → InSquare k r c a b → LeafFound m (leavesAt k r c κ) a b
   leaves-found zero r c κ a b u w = found-one u w (one-pixel p r c)
   leaves-found (suc k) r c κ a b u w =
       decide (oneFeature p (suc k) r c) (found-one u w)

@@ -10,7 +10,7 @@ use Rattle.keys.specs.Key.{childKey, validKey, heightOf}
 use Rattle.keys.specs.Block.{rowOf, columnOf, inBlock, pixelKey}
 use Rattle.keys.proofs.Cases.{decide, split}
 use Rattle.keys.proofs.Powers.{five-pos}
-use Rattle.keys.specs.Under.{Under, Block}
+use Rattle.keys.specs.Under.{Under, MapBlock}
 use Rattle.keys.proofs.Interval.{within, nest, past-first-child}
 use Rattle.keys.proofs.Valid.{valid-block}
 use Rattle.keys.proofs.Pixel.{InKeys, inside}
@@ -42,12 +42,12 @@ cover-some m row column (List·Memᴰ·tail {x = y} {xs = l} n) h =
     omega arith
 
 -- some block of the list has the pixel
-pub record Covering (m : ℕ) (l : List ℕ) (row column : ℕ) : Type 0 where
+pub record CoveringLeaf (m : ℕ) (l : List ℕ) (row column : ℕ) : Type 0 where
   pub leaf : ℕ
   pub among : List·Memᴰ leaf l
   pub has : inBlock m leaf row column ≡ true
 
-pub cover-one : (m : ℕ) (l : List ℕ) (row column : ℕ) → coverings m l row column ≡ 1 → Covering m l row column
+pub cover-one : (m : ℕ) (l : List ℕ) (row column : ℕ) → coverings m l row column ≡ 1 → CoveringLeaf m l row column
 cover-one m [] row column e = let f = cover-nil m row column in absurd (omega arith)
 cover-one m (x ∷ l) row column e =
     decide (inBlock m x row column)
@@ -77,15 +77,15 @@ pub open-at : {m κ κ′ : ℕ} {l l′ : List ℕ} → κ ≡ κ′ → l ≡ 
 open-at e f o = rw (← e, ← f) o
 
 -- the key of a leaf that is left is that of a block
-leaf-block : {m κ x : ℕ} {l : List ℕ} → Open m κ l → List·Memᴰ x l → Block m (heightOf m x) (rowOf m x) (columnOf m x) x
+leaf-block : {m κ x : ℕ} {l : List ℕ} → Open m κ l → List·Memᴰ x l → MapBlock m (heightOf m x) (rowOf m x) (columnOf m x) x
 leaf-block {m} {x = x} o n = valid-block m x (o .valid x n)
 
 -- where a block begins at the key, its first pixel lies in a leaf that is left, whose key is at or past the block's and within its interval
-module _ {m k r c κ : ℕ} {l : List ℕ} (b : Block m k r c κ) (o : Open m κ l) where
+module _ {m k r c κ : ℕ} {l : List ℕ} (b : MapBlock m k r c κ) (o : Open m κ l) where
   first-key : InKeys k κ (pixelKey m r c)
   first-key = inside b (first-within k r c)
 
-  pub open-around : Covering m l r c
+  pub open-around : CoveringLeaf m l r c
   open-around = let i = in-raster b (first-within k r c) in cover-one m l r c (o .covers r c (i .0) (i .1) (first-key .from))
 
   pub around-below : open-around .leaf < κ + 5 ^ k
@@ -94,11 +94,11 @@ module _ {m k r c κ : ℕ} {l : List ℕ} (b : Block m k r c κ) (o : Open m κ
       let j = inBlock-keys-iff r c (leaf-block o (open-around .among)) (i .0) (i .1) .0 (open-around .has) in
       omega (arith, j .from, first-key .until)
 
-pub none-open : {m k r c κ : ℕ} → Block m k r c κ → Open m κ [] → ⊥
+pub none-open : {m k r c κ : ℕ} → MapBlock m k r c κ → Open m κ [] → ⊥
 none-open b o = List·Memᴰ·not-nil (open-around b o .among)
 
 -- the first leaf that is left, at a block that begins at the key
-module _ {m k r c κ x : ℕ} {l : List ℕ} (b : Block m k r c κ) (o : Open m κ (x ∷ l)) where
+module _ {m k r c κ x : ℕ} {l : List ℕ} (b : MapBlock m k r c κ) (o : Open m κ (x ∷ l)) where
   head-from : κ ≤ x
   head-from = ascending-member (o .ascends) (List·Memᴰ·head refl) .0
 
@@ -145,11 +145,11 @@ module _ {m k r c κ x : ℕ} {l : List ℕ} (b : Block m k r c κ) (o : Open m 
   }
 
 -- the first leaf at a pixel is the pixel
-pub open-pixel : {m r c κ x : ℕ} {l : List ℕ} → Block m 0 r c κ → Open m κ (x ∷ l) → x ≡ κ
+pub open-pixel : {m r c κ x : ℕ} {l : List ℕ} → MapBlock m 0 r c κ → Open m κ (x ∷ l) → x ≡ κ
 open-pixel {m} {x = x} b o = let w = within (head-under b o) in let h = five-pos (heightOf m x) in omega arith
 
 -- where it is not the block itself, the leaves are read up to the block's first quadrant
-pub open-child : {m k r c κ x : ℕ} {l : List ℕ} → Block m (suc k) r c κ → Open m κ (x ∷ l) → (x ≡ κ → ⊥) → Open m (childKey κ k 1) (x ∷ l)
+pub open-child : {m k r c κ x : ℕ} {l : List ℕ} → MapBlock m (suc k) r c κ → Open m κ (x ∷ l) → (x ≡ κ → ⊥) → Open m (childKey κ k 1) (x ∷ l)
 open-child {m} {k} {κ = κ} {x = x} {l = l} b o n =
     let w = within (head-under b o) in
     let h : childKey κ k 1 ≤ x = past-first-child (head-under b o) (omega arith) in

@@ -71,13 +71,13 @@ leaves-first keys bits i n h =
     omega arith
 
 -- the leaves of the first i records are picked
-pub record Picked (keys bits : List ℕ) (n : ℕ) (leafKeys₀ leafFeatures₀ leafKeys leafFeatures : List ℕ) (at i : ℕ) : Type 0 where
+pub record PickedLeaves (keys bits : List ℕ) (n : ℕ) (leafKeys₀ leafFeatures₀ leafKeys leafFeatures : List ℕ) (at i : ℕ) : Type 0 where
   pub within : i ≤ n
   pub at-is : at ≡ length (leavesOf (recordsOf keys bits i))
   pub keys-are : leafKeys ≡ sets leafKeys₀ 0 (keysOf (leavesOf (recordsOf keys bits i)))
   pub features-are : leafFeatures ≡ sets leafFeatures₀ 0 (valuesOf (leavesOf (recordsOf keys bits i)))
 
-pub picks-begin : (keys bits : List ℕ) (n : ℕ) (leafKeys leafFeatures : List ℕ) → Picked keys bits n leafKeys leafFeatures leafKeys leafFeatures 0 0
+pub picks-begin : (keys bits : List ℕ) (n : ℕ) (leafKeys leafFeatures : List ℕ) → PickedLeaves keys bits n leafKeys leafFeatures leafKeys leafFeatures 0 0
 unfolding paired leavesOf
 picks-begin keys bits n leafKeys leafFeatures = record { within = omega arith; at-is = refl; keys-are = refl; features-are = refl }
 
@@ -91,7 +91,7 @@ more-run f a b l₀ l l′ at e g h =
     ∙ ap (sets l₀ 0) (sym (map-append f a b))
 
 module _ {keys bits : List ℕ} {n : ℕ} {leafKeys₀ leafFeatures₀ leafKeys leafFeatures : List ℕ} {at i : ℕ}
-    (p : Picked keys bits n leafKeys₀ leafFeatures₀ leafKeys leafFeatures at i) where
+    (p : PickedLeaves keys bits n leafKeys₀ leafFeatures₀ leafKeys leafFeatures at i) where
   pub keys-as-long : length leafKeys ≡ length leafKeys₀
   keys-as-long = ap length (p .keys-are) ∙ length-sets leafKeys₀ 0 (keysOf (leavesOf (recordsOf keys bits i)))
 
@@ -111,7 +111,7 @@ module _ {keys bits : List ℕ} {n : ℕ} {leafKeys₀ leafFeatures₀ leafKeys 
 
     pub picks-go-on : i < n → {leafKeys′ leafFeatures′ : List ℕ} {next : ℕ}
         → Added (getD keys i 0) (getD bits i 0) at leafKeys leafFeatures leafKeys′ leafFeatures′ next
-        → Picked keys bits n leafKeys₀ leafFeatures₀ leafKeys′ leafFeatures′ next (i + 1)
+        → PickedLeaves keys bits n leafKeys₀ leafFeatures₀ leafKeys′ leafFeatures′ next (i + 1)
     picks-go-on h {leafKeys′} {leafFeatures′} {next} a =
         let e = leaves-more keys bits i (omega arith) in
         let one = picked (getD keys i 0) (getD bits i 0) in

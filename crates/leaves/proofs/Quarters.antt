@@ -8,7 +8,7 @@ use lib.ListN.{length, getD}
 use Rattle.keys.specs.Key.{childKey}
 use Rattle.definitions.specs.Picture.{Picture}
 use Rattle.build.proofs.BuildInside.{fifth-step}
-use Rattle.leaves.specs.Delivered.{leavesEnd, Parted, leaf, four, Asked}
+use Rattle.leaves.specs.Delivered.{leavesEnd, Parted, leaf, four, LeavesAsked}
 use Rattle.leaves.proofs.EndOf.{end-four}
 
 -- a leaf is there
@@ -26,7 +26,7 @@ pub parted-at : {p : Picture} {keys features : List ℕ} {k r c κ at k′ κ′
     → Parted p keys features k′ r c κ′ at′
 parted-at e f g t = rw (← e, ← f, ← g) t
 
-pub record Quarters (p : Picture) (keys features : List ℕ) (k r c key step at second third fourth : ℕ) : Type 0 where
+pub record PartedQuarters (p : Picture) (keys features : List ℕ) (k r c key step at second third fourth : ℕ) : Type 0 where
   pub nw : Parted p keys features k r c (key + step) at
   pub ne : Parted p keys features k r (c + 2 ^ k) (key + 2 * step) second
   pub sw : Parted p keys features k (r + 2 ^ k) c (key + 3 * step) third
@@ -69,7 +69,7 @@ module _ (keys : List ℕ) (k key step at second third fourth : ℕ) (g : step �
       ∙ sym (end-four keys k key at h n)
 
   pub quarters : {p : Picture} {features : List ℕ} {r c : ℕ} → Parted p keys features (suc k) r c key at → (getD keys at 0 ≡ key → ⊥)
-      → Quarters p keys features k r c key step at second third fourth
+      → PartedQuarters p keys features k r c key step at second third fourth
   quarters (leaf h e o f) n = absurd (n e)
   quarters (four h m x y z w) n = record {
     nw = parted-at refl key₁ refl x;
@@ -83,16 +83,16 @@ pub step-below : {height step : ℕ} → 0 < height → step ≡ 5 ^ height → 
 step-below {height} h e = let f = fifth-step height h in omega arith
 
 -- what is asked of a block is given for its quadrants
-pub asked-quadrant : {keys features : List ℕ} {height step key : ℕ} → Asked keys features height step key → 0 < height
+pub asked-quadrant : {keys features : List ℕ} {height step key : ℕ} → LeavesAsked keys features height step key → 0 < height
     → (κ : ℕ) → κ ≤ key + 4 * (step / 5)
-    → Asked keys features (height - 1) (step / 5) κ
+    → LeavesAsked keys features (height - 1) (step / 5) κ
 asked-quadrant {height = height} {step = step} a h κ low =
     let f = fifth-step height h in
     let s = step-below h (a .step-is) in
     record { deep = omega (arith, a .deep); step-is = s; key-fits = omega (arith, a .key-fits); same = a .same; few = a .few }
 
 -- what is asked of a block of 2 by 2 pixels
-pub asked-one : {keys features : List ℕ} {height step key : ℕ} → height ≡ 1 → Asked keys features height step key → Asked keys features 1 5 key
+pub asked-one : {keys features : List ℕ} {height step key : ℕ} → height ≡ 1 → LeavesAsked keys features height step key → LeavesAsked keys features 1 5 key
 asked-one e a =
     let b = rw e at a in
     record { deep = b .deep; step-is = refl; key-fits = b .key-fits; same = b .same; few = b .few }

@@ -21,7 +21,7 @@ use Rattle.laws.proofs.Pixels.{Agree}
 use Rattle.laws.proofs.ListOf.{list-agree}
 use Rattle.laws.proofs.Records.{records-over}
 use Rattle.list.specs.Own.{shownBy}
-use Rattle.list.proofs.Accepted.{accepted}
+use Rattle.list.proofs.Accepted.{accepted-as-list}
 use Rattle.list.proofs.Own.{own-list}
 use Rattle.leaves.proofs.Tiles.{tiles-once}
 use Rattle.leaves.proofs.Open.{cover-cons, cover-some}
@@ -97,7 +97,7 @@ module _ (m s : ℕ) (keys bits : List ℕ) (n : ℕ) (is : isList m s keys bits
       delivery-full m s (over (keysOf l) leafKeys) (over (valuesOf l) leafFeatures) (length l) (omega arith)
       ∙ ap₂ (areLeaves m s) (take-at (keysOf l) (drop (length (keysOf l)) leafKeys) (length l) a) (take-at (valuesOf l) (drop (length (valuesOf l)) leafFeatures) (length l) b)
       ∙ ap (λ k. areLeaves m s (keysOf k) (valuesOf k)) shown
-      ∙ written-leaves m (shownBy m keys bits n) s (accepted m s keys bits n is .below)
+      ∙ written-leaves m (shownBy m keys bits n) s (accepted-as-list m s keys bits n is .below)
 
   pub trip-list : listDelivered m (over (keysOf (leavesIn keys bits n)) leafKeys) (over (valuesOf (leavesIn keys bits n)) leafFeatures) (length (leavesIn keys bits n))
       ≡ recordsOf keys bits n

@@ -12,7 +12,7 @@ use Rattle.keys.specs.Key.{childKey, validKey}
 use Rattle.keys.specs.Block.{inBlock}
 use Rattle.keys.proofs.Cases.{decide, and-left, and-right, and-both}
 use Rattle.keys.proofs.Powers.{five-pos}
-use Rattle.keys.specs.Under.{Block, here, nw, ne, sw, se}
+use Rattle.keys.specs.Under.{MapBlock, here, nw, ne, sw, se}
 use Rattle.keys.proofs.Under.{under-trans}
 use Rattle.keys.proofs.Valid.{block-valid}
 use Rattle.keys.proofs.Pixel.{InSquare}
@@ -59,7 +59,7 @@ unfolding validKeys
 valid-one m κ h = and-both (validKey m κ) true h refl
 
 -- they are valid
-pub tiles-valid : {m k r c κ : ℕ} {l : List ℕ} → Block m k r c κ → Tiles k r c κ l → validKeys m l ≡ true
+pub tiles-valid : {m k r c κ : ℕ} {l : List ℕ} → MapBlock m k r c κ → Tiles k r c κ l → validKeys m l ≡ true
 tiles-valid {m} {κ} b alone = valid-one m κ (block-valid b .valid)
 tiles-valid {m} b (parts {a = a} {b = a₂} {d = a₃} {e = a₄} x y z w) =
     valid-append m a _ (tiles-valid (under-trans b (nw here)) x)
@@ -85,7 +85,7 @@ coverings-one m κ row column true e = rw e
 coverings-one m κ row column false e = rw e
 
 -- a pixel outside the block lies in none of them
-pub tiles-outside : {m k r c κ : ℕ} {l : List ℕ} (row column : ℕ) → Block m k r c κ → Tiles k r c κ l → (InSquare k r c row column → ⊥)
+pub tiles-outside : {m k r c κ : ℕ} {l : List ℕ} (row column : ℕ) → MapBlock m k r c κ → Tiles k r c κ l → (InSquare k r c row column → ⊥)
     → coverings m l row column ≡ 0
 tiles-outside {m} {κ = κ} row column b alone out =
     decide (inBlock m κ row column) (λ t. absurd (out (inBlock-iff row column b .0 t))) (λ t. coverings-one m κ row column false t)
@@ -99,7 +99,7 @@ tiles-outside {m} {r = r} {c = c} {κ = κ} row column b (parts {k = k} {a = a�
     omega arith
 
 -- a pixel of the block lies in exactly one
-pub tiles-once : {m k r c κ : ℕ} {l : List ℕ} (row column : ℕ) → Block m k r c κ → Tiles k r c κ l → InSquare k r c row column
+pub tiles-once : {m k r c κ : ℕ} {l : List ℕ} (row column : ℕ) → MapBlock m k r c κ → Tiles k r c κ l → InSquare k r c row column
     → coverings m l row column ≡ 1
 tiles-once {m} {κ = κ} row column b alone i = coverings-one m κ row column true (inBlock-iff row column b .1 i)
 tiles-once {m} {r = r} {c = c} {κ = κ} row column b (parts {k = k} {a = a₁} {b = a₂} {d = a₃} {e = a₄} x y z w) i =

@@ -34,7 +34,7 @@ pub data Parted (p : Picture) (keys features : List ℕ) : ℕ → ℕ → ℕ �
       → Parted p keys features (suc k) r c κ at
 
 -- a block with its step, and leaves whose features are slots
-pub record Asked (keys features : List ℕ) (height step key : ℕ) : Type 0 where
+pub record LeavesAsked (keys features : List ℕ) (height step key : ℕ) : Type 0 where
   pub deep : height ≤ 10
   pub step-is : step ≡ 5 ^ height
   pub key-fits : key + 5 ^ height ≤ 5 ^ 10
@@ -42,13 +42,13 @@ pub record Asked (keys features : List ℕ) (height step key : ℕ) : Type 0 whe
   pub few : (i : ℕ) → getD features i 0 < slotLimit
 
 -- the leaves of a block were passed; where they are its leaves, these are its bits and its records
-pub record Passed (keys features : List ℕ) (height key at next bits count : ℕ) : Type 0 where
+pub record LeavesPassed (keys features : List ℕ) (height key at next bits count : ℕ) : Type 0 where
   pub next-is : next ≡ leavesEnd keys height key at
   pub small : count ≤ 5 ^ height
   pub tally : (p : Picture) (r c : ℕ) → Parted p keys features height r c key at → Tallied p height r c bits count
 
 -- the leaves of a block begin at a place, and there is room for the records below it
-pub record Ready (leafKeys leafFeatures : List ℕ) (height key at place : ℕ) (keys bits : List ℕ) : Type 0 where
+pub record LayAsked (leafKeys leafFeatures : List ℕ) (height key at place : ℕ) (keys bits : List ℕ) : Type 0 where
   pub picture : Picture
   pub row : ℕ
   pub column : ℕ
@@ -56,7 +56,7 @@ pub record Ready (leafKeys leafFeatures : List ℕ) (height key at place : ℕ) 
   pub fits : Fitting picture height row column key place keys bits
 
 -- the leaves of a block were passed, and the records below it written
-pub record Laid (leafKeys leafFeatures : List ℕ) (height key at place : ℕ) (keys bits keys′ bits′ : List ℕ) (union next end : ℕ) : Type 0 where
+pub record BlockLaid (leafKeys leafFeatures : List ℕ) (height key at place : ℕ) (keys bits keys′ bits′ : List ℕ) (union next end : ℕ) : Type 0 where
   pub end-is : end ≡ leavesEnd leafKeys height key at
   pub written : (p : Picture) (r c : ℕ) → Parted p leafKeys leafFeatures height r c key at
       → Written p height r c key place keys bits keys′ bits′ union next

@@ -7,7 +7,7 @@ ghost use Rattle.definitions.specs.List.{listOfPicture};
 ghost use Rattle.definitions.specs.Read.{paired};
 ghost use Rattle.definitions.specs.Leaves.{areLeaves, pictureOfLeaves};
 ghost use Rattle.definitions.specs.Refusal.{badSettings};
-ghost use Rattle.leaves.specs.Delivered.{Asked, Passed};
+ghost use Rattle.leaves.specs.Delivered.{LeavesAsked, LeavesPassed};
 use crate::features;
 use build::count;
 use build::count::Tally;
@@ -23,8 +23,8 @@ pub struct Pass {
 
 // A pixel: the next leaf is the pixel.
 fn pass_pixel(keys: &[u32], features: &[u32], key: u32, at: usize) -> Pass
-    requires { ⌜ Asked (now keys) (now features) 0 1 key ⌝ }
-    ensures { λ r. ⌜ Passed (now (keys .entry)) (now (features .entry)) 0 key at (r .next) (r .bits) (r .count) ⌝ }
+    requires { ⌜ LeavesAsked (now keys) (now features) 0 1 key ⌝ }
+    ensures { λ r. ⌜ LeavesPassed (now (keys .entry)) (now (features .entry)) 0 key at (r .next) (r .bits) (r .count) ⌝ }
 {
     if keys.len() <= at {
         return Pass {
@@ -49,8 +49,8 @@ fn pass_pixel(keys: &[u32], features: &[u32], key: u32, at: usize) -> Pass
 
 // A block of 2 by 2 pixels, with no recursive call: most blocks of a delivery in parts are of this size.
 fn pass_quad(keys: &[u32], features: &[u32], key: u32, at: usize) -> Pass
-    requires { ⌜ Asked (now keys) (now features) 1 5 key ⌝ }
-    ensures { λ r. ⌜ Passed (now (keys .entry)) (now (features .entry)) 1 key at (r .next) (r .bits) (r .count) ⌝ }
+    requires { ⌜ LeavesAsked (now keys) (now features) 1 5 key ⌝ }
+    ensures { λ r. ⌜ LeavesPassed (now (keys .entry)) (now (features .entry)) 1 key at (r .next) (r .bits) (r .count) ⌝ }
 {
     if keys.len() <= at {
         return Pass {
@@ -101,8 +101,8 @@ fn pass_quad(keys: &[u32], features: &[u32], key: u32, at: usize) -> Pass
 // A block: the next leaf is the block itself, or its quadrants' leaves follow one after the other. Where a leaf is wrong, all that is asked
 // afterwards finds no leaf left, so each leaf is looked at no more often than it is deep.
 fn pass_block(keys: &[u32], features: &[u32], height: u32, step: u32, key: u32, at: usize) -> Pass
-    requires { ⌜ Asked (now keys) (now features) height step key ⌝ }
-    ensures { λ r. ⌜ Passed (now (keys .entry)) (now (features .entry)) height key at (r .next) (r .bits) (r .count) ⌝ }
+    requires { ⌜ LeavesAsked (now keys) (now features) height step key ⌝ }
+    ensures { λ r. ⌜ LeavesPassed (now (keys .entry)) (now (features .entry)) height key at (r .next) (r .bits) (r .count) ⌝ }
 {
     if height == 1 {
         return pass_quad(keys, features, key, at);

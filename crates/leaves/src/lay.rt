@@ -10,7 +10,7 @@ ghost use Rattle.definitions.specs.Read.{room, paired};
 ghost use Rattle.definitions.specs.Leaves.{areLeaves, pictureOfLeaves};
 ghost use Rattle.definitions.specs.Buffer.{over};
 ghost use Rattle.definitions.specs.Refusal.{badSettings};
-ghost use Rattle.leaves.specs.Delivered.{Asked, Ready, Laid};
+ghost use Rattle.leaves.specs.Delivered.{LeavesAsked, LayAsked, BlockLaid};
 use build::write;
 use build::write::Below;
 use keys::Key;
@@ -45,8 +45,8 @@ fn lay_quad(
     keys: &mut [u32],
     bits: &mut [u32],
 ) -> Lain
-    requires { ⌜ Asked (now «leaf_keys») (now «leaf_features») 1 5 key × Ready (now «leaf_keys») (now «leaf_features») 1 key at place (now keys) (now bits) ⌝ }
-    ensures { λ r. ⌜ Laid (now («leaf_keys» .entry)) (now («leaf_features» .entry)) 1 key at place (now (keys .entry)) (now (bits .entry)) (now (keys .exit)) (now (bits .exit)) (r .bits) (r .next) (r .end) ⌝ }
+    requires { ⌜ LeavesAsked (now «leaf_keys») (now «leaf_features») 1 5 key × LayAsked (now «leaf_keys») (now «leaf_features») 1 key at place (now keys) (now bits) ⌝ }
+    ensures { λ r. ⌜ BlockLaid (now («leaf_keys» .entry)) (now («leaf_features» .entry)) 1 key at place (now (keys .entry)) (now (bits .entry)) (now (keys .exit)) (now (bits .exit)) (r .bits) (r .next) (r .end) ⌝ }
 {
     if leaf_keys[at] == key {
         return lay_pixel(leaf_features, at, place);
@@ -100,8 +100,8 @@ fn lay_below(
     keys: &mut [u32],
     bits: &mut [u32],
 ) -> Lain
-    requires { ⌜ Asked (now «leaf_keys») (now «leaf_features») height step key × Ready (now «leaf_keys») (now «leaf_features») height key at place (now keys) (now bits) ⌝ }
-    ensures { λ r. ⌜ Laid (now («leaf_keys» .entry)) (now («leaf_features» .entry)) height key at place (now (keys .entry)) (now (bits .entry)) (now (keys .exit)) (now (bits .exit)) (r .bits) (r .next) (r .end) ⌝ }
+    requires { ⌜ LeavesAsked (now «leaf_keys») (now «leaf_features») height step key × LayAsked (now «leaf_keys») (now «leaf_features») height key at place (now keys) (now bits) ⌝ }
+    ensures { λ r. ⌜ BlockLaid (now («leaf_keys» .entry)) (now («leaf_features» .entry)) height key at place (now (keys .entry)) (now (bits .entry)) (now (keys .exit)) (now (bits .exit)) (r .bits) (r .next) (r .end) ⌝ }
 {
     if height == 1 {
         return lay_quad(leaf_keys, leaf_features, key, at, place, keys, bits);

@@ -7,7 +7,7 @@ use native.Mathlib.Omega.{arith}
 use lib.ListN.{length, drop, set, length-append}
 use lib.Seq.{sets, length-sets, sets-eq}
 use Rattle.definitions.specs.Buffer.{over}
-use Rattle.lines.specs.Put.{Put, Room}
+use Rattle.lines.specs.Put.{Put, BytesFit}
 
 -- two runs of stores, one after the other, are one
 pub sets-append : (l : List ℕ) (i : ℕ) (us vs : List ℕ) → sets (sets l i us) (i + length us) vs ≡ sets l i (us ++ vs)
@@ -61,14 +61,14 @@ module _ {whole : List ℕ} {start : ℕ} {old later : List ℕ} {place : ℕ} w
   same-length g = ap length (g .put .content) ∙ length-sets old start (g .done)
 
   -- where the whole has room, what remains has
-  pub room : (remaining : List ℕ) → Going whole remaining start old later place → Room whole start old → Room remaining place later
+  pub room : (remaining : List ℕ) → Going whole remaining start old later place → BytesFit whole start old → BytesFit remaining place later
   room remaining g h =
       let l = ap length (g .splits) ∙ length-append (g .done) remaining in
       let k = same-length g in
       record { fits = omega (arith, g .put .after) }
 
   -- and so has its next piece
-  pub piece-room : (piece rest : List ℕ) → Going whole (piece ++ rest) start old later place → Room whole start old → Room piece place later
+  pub piece-room : (piece rest : List ℕ) → Going whole (piece ++ rest) start old later place → BytesFit whole start old → BytesFit piece place later
   piece-room piece rest g h =
       let q = room (piece ++ rest) g h in
       let l = length-append piece rest in
@@ -80,7 +80,7 @@ pub finishes : {whole : List ℕ} {start : ℕ} {old later : List ℕ} {place : 
 finishes piece g p = ends (goes piece (renamed g (sym (append-nil piece))) p)
 
 -- bytes from the first place on: they, and then the places past them
-pub put-over : (bytes old later : List ℕ) (next : ℕ) → Room bytes 0 old → Put bytes 0 old later next → later ≡ over bytes old
+pub put-over : (bytes old later : List ℕ) (next : ℕ) → BytesFit bytes 0 old → Put bytes 0 old later next → later ≡ over bytes old
 put-over bytes old later next h p =
     p .content ∙ sets-eq bytes old 0 (h .fits) ∙ ap (λ (k : ℕ). bytes ++ drop k old) (zero-add (length bytes))
 

@@ -83,11 +83,11 @@ build-digit m s raster keys bits =
     (λ g. rw g (decide (ltb (room keys bits) (length (listOfRaster m raster))) (λ h. rw h (omega arith)) (λ h. rw h (omega arith))))))))
 
 -- what an accepted build says of its settings and of its list
-pub record Accepted (m s : ℕ) (raster keys bits : List ℕ) : Type 0 where
+pub record AcceptedBuild (m s : ℕ) (raster keys bits : List ℕ) : Type 0 where
   pub slots : s ≤ slotLimit
   pub fits : length (listOfRaster m raster) ≤ room keys bits
 
-pub build-accepted : (m s : ℕ) (raster keys bits : List ℕ) → buildRefusal m s raster keys bits ≡ 0 → Accepted m s raster keys bits
+pub build-accepted : (m s : ℕ) (raster keys bits : List ℕ) → buildRefusal m s raster keys bits ≡ 0 → AcceptedBuild m s raster keys bits
 unfolding buildRefusal badSettings
 build-accepted m s raster keys bits e =
     let rows = first-none

@@ -19,7 +19,7 @@ use Rattle.laws.proofs.First.{accepted-done, accepted-left}
 use Rattle.laws.proofs.ListOf.{list-ascends}
 use Rattle.laws.proofs.Records.{records-over}
 use Rattle.definitions.specs.Listing.{largestResolution, recordRoom, mOf, sOf, rasterOf, buildRefuses, listingRefusal, listing, refusalLine, listed, listedKeys, listedBits}
-use Rattle.lines.specs.Put.{Put, Room, Records}
+use Rattle.lines.specs.Put.{Put, BytesFit, Records}
 use Rattle.lines.specs.Lent.{longestListing, Lent, Printed}
 use Rattle.lines.proofs.Going.{put-over, put-length}
 use Rattle.lines.proofs.Records.{written-key}
@@ -40,11 +40,11 @@ own-room =
     }
 
 -- a refusal has room
-pub refusal-room : {keys bits out : List ℕ} → Lent keys bits out → (k : ℕ) → k < 10 → Room (refusalLine k) 0 out
+pub refusal-room : {keys bits out : List ℕ} → Lent keys bits out → (k : ℕ) → k < 10 → BytesFit (refusalLine k) 0 out
 refusal-room lent k h = let l = refusal-length k h in record { fits = omega (arith, lent .out-room) }
 
 -- bytes that stand from the first place on are printed
-printed : {input bytes keys bits out keys′ bits′ out′ : List ℕ} {r : ℕ} → Put bytes 0 out out′ r → Room bytes 0 out → listed input ≡ bytes
+printed : {input bytes keys bits out keys′ bits′ out′ : List ℕ} {r : ℕ} → Put bytes 0 out out′ r → BytesFit bytes 0 out → listed input ≡ bytes
     → keys′ ≡ listedKeys input keys → bits′ ≡ listedBits input bits → Printed input keys bits out keys′ bits′ out′ r
 printed {bytes = bytes} {out = out} {out′ = out′} {r} put room e k b =
     record {
@@ -109,7 +109,7 @@ module _ {input keys bits out : List ℕ} (lent : Lent keys bits out) {m s : ℕ
     same-refusal = refusal-as-built ∙ sym (t .refusal-is)
 
     -- build refuses: its number has room
-    pub build-refusal-room : Room (refusalLine refusal) 0 out
+    pub build-refusal-room : BytesFit (refusalLine refusal) 0 out
     build-refusal-room =
         let d = build-digit m s raster keys bits in
         refusal-room lent refusal (omega (arith, t .refusal-is))
@@ -171,7 +171,7 @@ module _ {input keys bits out : List ℕ} (lent : Lent keys bits out) {m s : ℕ
           }
 
       -- their listing has room
-      pub listing-room : Room (listing m s (recordsOf keys′ bits′ count)) 0 out
+      pub listing-room : BytesFit (listing m s (recordsOf keys′ bits′ count)) 0 out
       listing-room =
           let a = build-accepted m s raster keys bits accepts in
           let l = listing-length m s (reads .small) (a .slots) list few in

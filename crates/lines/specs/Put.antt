@@ -11,7 +11,7 @@ pub record Put (bytes : List ℕ) (place : ℕ) (old later : List ℕ) (next : �
   pub after : next ≡ place + length bytes
 
 -- the bytes have room from a place on
-pub record Room (bytes : List ℕ) (place : ℕ) (old : List ℕ) : Type 0 where
+pub record BytesFit (bytes : List ℕ) (place : ℕ) (old : List ℕ) : Type 0 where
   pub fits : place + length bytes ≤ length old
 
 -- n records stand in the two slices, with keys of m digits

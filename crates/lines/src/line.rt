@@ -3,7 +3,7 @@ ghost use mathlib.Core.Path.{_≡_};
 ghost use Prim.Native.Nat.{_≤_, _<_, _^_};
 ghost use Rattle.definitions.specs.List.{recordOf};
 ghost use Rattle.definitions.specs.Listing.{digitsText, keyText, slotsText, lineOf};
-ghost use Rattle.lines.specs.Put.{Put, Room};
+ghost use Rattle.lines.specs.Put.{Put, BytesFit};
 use crate::text;
 use keys::power;
 
@@ -15,7 +15,7 @@ fn wide(x: u32) -> u64
 
 // The digits of a key, the highest first.
 fn put_digits(m: u32, key: u32, out: &mut [u8], place: usize) -> usize
-    requires { ⌜ (m ≤ 10) × (key < 5 ^ m) × Room (digitsText m key) place (now out) ⌝ }
+    requires { ⌜ (m ≤ 10) × (key < 5 ^ m) × BytesFit (digitsText m key) place (now out) ⌝ }
     ensures { λ r. ⌜ Put (digitsText m key) place (now (out .entry)) (now (out .exit)) r ⌝ }
 {
     let mut next = place;
@@ -32,7 +32,7 @@ fn put_digits(m: u32, key: u32, out: &mut [u8], place: usize) -> usize
 }
 
 fn put_key(m: u32, key: u32, out: &mut [u8], place: usize) -> usize
-    requires { ⌜ (m ≤ 10) × (key < 5 ^ m) × Room (keyText m key) place (now out) ⌝ }
+    requires { ⌜ (m ≤ 10) × (key < 5 ^ m) × BytesFit (keyText m key) place (now out) ⌝ }
     ensures { λ r. ⌜ Put (keyText m key) place (now (out .entry)) (now (out .exit)) r ⌝ }
 {
     if m == 0 {
@@ -43,7 +43,7 @@ fn put_key(m: u32, key: u32, out: &mut [u8], place: usize) -> usize
 
 // A character 0 or 1 for each slot, from slot 0 on.
 fn put_slots(s: u32, bits: u32, out: &mut [u8], place: usize) -> usize
-    requires { ⌜ Room (slotsText s bits) place (now out) ⌝ }
+    requires { ⌜ BytesFit (slotsText s bits) place (now out) ⌝ }
     ensures { λ r. ⌜ Put (slotsText s bits) place (now (out .entry)) (now (out .exit)) r ⌝ }
 {
     let mut next = place;
@@ -58,7 +58,7 @@ fn put_slots(s: u32, bits: u32, out: &mut [u8], place: usize) -> usize
 }
 
 pub fn put_line(m: u32, s: u32, key: u32, bits: u32, out: &mut [u8], place: usize) -> usize
-    requires { ⌜ (m ≤ 10) × (key < 5 ^ m) × Room (lineOf m s (recordOf key bits)) place (now out) ⌝ }
+    requires { ⌜ (m ≤ 10) × (key < 5 ^ m) × BytesFit (lineOf m s (recordOf key bits)) place (now out) ⌝ }
     ensures { λ r. ⌜ Put (lineOf m s (recordOf key bits)) place (now (out .entry)) (now (out .exit)) r ⌝ }
 {
     let blank = put_key(m, key, out, place);

@@ -1,13 +1,13 @@
 // What is printed of an accepted input and of a refused one.
 ghost use Rattle.definitions.specs.Read.{recordsOf};
 ghost use Rattle.definitions.specs.Listing.{headLine, linesOf, listing, refusalLine};
-ghost use Rattle.lines.specs.Put.{Put, Room, Records};
+ghost use Rattle.lines.specs.Put.{Put, BytesFit, Records};
 use crate::line;
 use crate::text;
 
 // The line with m, s and n.
 pub fn put_head(m: u32, s: u32, n: usize, out: &mut [u8]) -> usize
-    requires { ⌜ Room (headLine m s n) 0 (now out) ⌝ }
+    requires { ⌜ BytesFit (headLine m s n) 0 (now out) ⌝ }
     ensures { λ r. ⌜ Put (headLine m s n) 0 (now (out .entry)) (now (out .exit)) r ⌝ }
 {
     let second = text::put_number_then(m as u64, b' ', out, 0);
@@ -17,7 +17,7 @@ pub fn put_head(m: u32, s: u32, n: usize, out: &mut [u8]) -> usize
 
 // The line of a refused input.
 pub fn put_refusal(number: u64, out: &mut [u8]) -> usize
-    requires { ⌜ Room (refusalLine number) 0 (now out) ⌝ }
+    requires { ⌜ BytesFit (refusalLine number) 0 (now out) ⌝ }
     ensures { λ r. ⌜ Put (refusalLine number) 0 (now (out .entry)) (now (out .exit)) r ⌝ }
 {
     let place = text::put_text(b"refused ", out, 0);
@@ -34,7 +34,7 @@ fn put_lines(
     out: &mut [u8],
     place: usize,
 ) -> usize
-    requires { ⌜ Records m (now keys) (now bits) n × Room (linesOf m s (recordsOf (now keys) (now bits) n)) place (now out) ⌝ }
+    requires { ⌜ Records m (now keys) (now bits) n × BytesFit (linesOf m s (recordsOf (now keys) (now bits) n)) place (now out) ⌝ }
     ensures { λ r. ⌜ Put (linesOf m s (recordsOf (now (keys .entry)) (now (bits .entry)) n)) place (now (out .entry)) (now (out .exit)) r ⌝ }
 {
     let mut next = place;
@@ -50,7 +50,7 @@ fn put_lines(
 
 // The lines of an accepted input.
 pub fn put_listing(m: u32, s: u32, keys: &[u32], bits: &[u32], n: usize, out: &mut [u8]) -> usize
-    requires { ⌜ Records m (now keys) (now bits) n × Room (listing m s (recordsOf (now keys) (now bits) n)) 0 (now out) ⌝ }
+    requires { ⌜ Records m (now keys) (now bits) n × BytesFit (listing m s (recordsOf (now keys) (now bits) n)) 0 (now out) ⌝ }
     ensures { λ r. ⌜ Put (listing m s (recordsOf (now (keys .entry)) (now (bits .entry)) n)) 0 (now (out .entry)) (now (out .exit)) r ⌝ }
 {
     let place = put_head(m, s, n, out);

@@ -2,10 +2,10 @@
 ghost use Prim.Native.Nat.{_<_};
 ghost use mathlib.Core.List.{[], _∷_, _++_};
 ghost use Rattle.definitions.specs.Listing.{characterOf, decimal};
-ghost use Rattle.lines.specs.Put.{Put, Room};
+ghost use Rattle.lines.specs.Put.{Put, BytesFit};
 
 pub fn put_byte(byte: u8, out: &mut [u8], place: usize) -> usize
-    requires { ⌜ Room (byte ∷ []) place (now out) ⌝ }
+    requires { ⌜ BytesFit (byte ∷ []) place (now out) ⌝ }
     ensures { λ r. ⌜ Put (byte ∷ []) place (now (out .entry)) (now (out .exit)) r ⌝ }
 {
     out[place] = byte;
@@ -14,7 +14,7 @@ pub fn put_byte(byte: u8, out: &mut [u8], place: usize) -> usize
 
 // The character of a digit.
 pub fn put_digit(digit: u64, out: &mut [u8], place: usize) -> usize
-    requires { ⌜ (digit < 10) × Room (characterOf digit ∷ []) place (now out) ⌝ }
+    requires { ⌜ (digit < 10) × BytesFit (characterOf digit ∷ []) place (now out) ⌝ }
     ensures { λ r. ⌜ Put (characterOf digit ∷ []) place (now (out .entry)) (now (out .exit)) r ⌝ }
 {
     put_byte(48 + digit as u8, out, place)
@@ -22,7 +22,7 @@ pub fn put_digit(digit: u64, out: &mut [u8], place: usize) -> usize
 
 // A number in decimal: the digits of its tenth, then its last digit.
 pub fn put_number(x: u64, out: &mut [u8], place: usize) -> usize
-    requires { ⌜ Room (decimal x) place (now out) ⌝ }
+    requires { ⌜ BytesFit (decimal x) place (now out) ⌝ }
     ensures { λ r. ⌜ Put (decimal x) place (now (out .entry)) (now (out .exit)) r ⌝ }
 {
     if x < 10 {
@@ -34,7 +34,7 @@ pub fn put_number(x: u64, out: &mut [u8], place: usize) -> usize
 
 // A number, and then the byte that parts it from what follows.
 pub fn put_number_then(x: u64, byte: u8, out: &mut [u8], place: usize) -> usize
-    requires { ⌜ Room (decimal x ++ (byte ∷ [])) place (now out) ⌝ }
+    requires { ⌜ BytesFit (decimal x ++ (byte ∷ [])) place (now out) ⌝ }
     ensures { λ r. ⌜ Put (decimal x ++ (byte ∷ [])) place (now (out .entry)) (now (out .exit)) r ⌝ }
 {
     let end = put_number(x, out, place);
@@ -42,7 +42,7 @@ pub fn put_number_then(x: u64, byte: u8, out: &mut [u8], place: usize) -> usize
 }
 
 pub fn put_text(text: &[u8], out: &mut [u8], place: usize) -> usize
-    requires { ⌜ Room (now text) place (now out) ⌝ }
+    requires { ⌜ BytesFit (now text) place (now out) ⌝ }
     ensures { λ r. ⌜ Put (now (text .entry)) place (now (out .entry)) (now (out .exit)) r ⌝ }
 {
     let mut next = place;

@@ -73,7 +73,7 @@ keys-ascend (suc i) zero (next h a) u v = absurd (omega arith)
 keys-ascend (suc i) (suc j) (next h a) u v = keys-ascend i j a (omega arith) (omega arith)
 
 -- the first n records are a list at m and s
-pub record Accepted (m s : ℕ) (K B : List ℕ) (n : ℕ) : Type 0 where
+pub record AcceptedList (m s : ℕ) (K B : List ℕ) (n : ℕ) : Type 0 where
   pub in-keys : n ≤ length K
   pub in-bits : n ≤ length B
   pub some : 1 ≤ n
@@ -82,9 +82,9 @@ pub record Accepted (m s : ℕ) (K B : List ℕ) (n : ℕ) : Type 0 where
   pub below : featuresBelow s (pictureOf m (recordsOf K B n)) m 0 0 ≡ true
   pub ascends : Ascending 0 (5 ^ m) (recordsOf K B n)
 
-pub accepted : (m s : ℕ) (K B : List ℕ) (n : ℕ) → isList m s K B n ≡ true → Accepted m s K B n
+pub accepted-as-list : (m s : ℕ) (K B : List ℕ) (n : ℕ) → isList m s K B n ≡ true → AcceptedList m s K B n
 unfolding isList
-accepted m s K B n e =
+accepted-as-list m s K B n e =
     let l = recordsOf K B n in
     let fits = leb-true n (room K B) (and-left (leb n (room K B)) (isListOfBlock m s m 0 0 rootKey l) e) in
     let b = block-list m s m 0 0 rootKey l (and-right (leb n (room K B)) (isListOfBlock m s m 0 0 rootKey l) e) in

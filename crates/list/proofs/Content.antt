@@ -11,7 +11,7 @@ use borrow.Author.Tests.{lt-ltb, le-ltb, eqb-true, eq-eqb, ne-eqb, eqb-false, le
 use Rattle.keys.specs.Key.{rootKey, validKey, heightOf}
 use Rattle.keys.proofs.Cases.{decide}
 use Rattle.keys.proofs.Digits.{row-zero, column-zero, height-zero}
-use Rattle.keys.specs.Under.{Block, here}
+use Rattle.keys.specs.Under.{MapBlock, here}
 use Rattle.keys.proofs.Valid.{block-valid}
 use Rattle.definitions.specs.List.{Record}
 use Rattle.definitions.specs.Read.{room, paired, recordsOf, isList}
@@ -119,7 +119,7 @@ module _ {m κ : ℕ} {K B : List ℕ} {n : ℕ} (st : Stand m κ K B n) where
 
 -- the root's block is the map
 pub root-valid : (m : ℕ) → validKey m rootKey ≡ true
-root-valid m = let root : Block m m 0 0 rootKey = here in block-valid root .valid
+root-valid m = let root : MapBlock m m 0 0 rootKey = here in block-valid root .valid
 
 root-answer : (m s : ℕ) (K B : List ℕ) (n : ℕ) → Answer m s rootKey K B n ≡ isList m s K B n
 unfolding isContent isList

@@ -11,7 +11,7 @@ use Rattle.keys.specs.Key.{levelOf, heightOf}
 use Rattle.keys.specs.Block.{rowOf, columnOf}
 use Rattle.keys.proofs.Cases.{decide}
 use Rattle.keys.proofs.Powers.{five-pos, five-le}
-use Rattle.keys.specs.Under.{Block}
+use Rattle.keys.specs.Under.{MapBlock}
 use Rattle.keys.proofs.Interval.{within}
 use Rattle.keys.proofs.Valid.{valid-block}
 use Rattle.definitions.specs.Picture.{Picture, oneFeature}
@@ -83,7 +83,7 @@ near-root o κ = let s = own-sorted o κ in record { room = omega (arith, s .som
 
 -- a block of an accepted list
 module _ {m : ℕ} {keys bits : List ℕ} {n κ : ℕ} (b : BlockIn m keys bits n κ) where
-  block : Block m (heightOf m κ) (rowOf m κ) (columnOf m κ) κ
+  block : MapBlock m (heightOf m κ) (rowOf m κ) (columnOf m κ) κ
   block = valid-block m κ (b .valid)
 
   keys-are : keysOf (recordsOf keys bits n) ≡ take n keys

@@ -22,10 +22,10 @@ use Rattle.laws.proofs.BitsOf.{bits-one}
 use Rattle.laws.proofs.Ascending.{ascending-rest}
 use Rattle.laws.proofs.ListOf.{list-first, list-one, list-ascends}
 use Rattle.list.proofs.Counted.{counted, up-to-counted, counted-none, counted-yes, counted-append, counted-all, counted-out}
-use Rattle.list.proofs.Placed.{Placed, Around, around}
+use Rattle.list.proofs.Placed.{PartOfList, ListedAround, around}
 
 -- the count over a list in which another is placed
-pub counted-placed : (test : ℕ → Bool) {p : Picture} {k r c κ k′ r′ c′ κ′ : ℕ} (a : Placed p k r c κ k′ r′ c′ κ′)
+pub counted-placed : (test : ℕ → Bool) {p : Picture} {k r c κ k′ r′ c′ κ′ : ℕ} (a : PartOfList p k r c κ k′ r′ c′ κ′)
     → counted test (listOf p k r c κ) ≡ counted test (a .before) + (counted test (listOf p k′ r′ c′ κ′) + counted test (a .after))
 counted-placed test {k′ = k′} a =
     ap (counted test) (a .splits) ∙ counted-append test (a .before) _ ∙ ap (λ x. counted test (a .before) + x) (counted-append test _ (a .after))
@@ -46,7 +46,7 @@ leaf-only p k r c κ x one h =
     ∙ counted-yes (λ y. leb y x) (recordOf κ (2 ^ p r c)) [] (le-leb κ x h)
     ∙ ap suc (counted-none (λ y. leb y x))
 
-module _ {p : Picture} {k r c κ k′ r′ c′ κ′ : ℕ} (a : Around p k r c κ k′ r′ c′ κ′) where
+module _ {p : Picture} {k r c κ k′ r′ c′ κ′ : ℕ} (a : ListedAround p k r c κ k′ r′ c′ κ′) where
   one-up-to : upTo κ′ (listOf p (a .height) (a .row) (a .column) (a .at)) ≡ 1
   one-up-to = go (a .which)
     where
@@ -99,7 +99,7 @@ lookup-value p u = around-value (around p u)
 
 -- a listed block's list stands in the list from the block's place on
 pub record AtPlace (p : Picture) (k r c κ k′ r′ c′ κ′ x : ℕ) : Type 0 where
-  pub placed : Placed p k r c κ k′ r′ c′ κ′
+  pub placed : PartOfList p k r c κ k′ r′ c′ κ′
   pub place : placeOf x (listOf p k r c κ) ≡ length (placed .before)
 
 same-place : {p : Picture} {k r c κ k₁ r₁ c₁ κ₁ k′ r′ c′ κ′ x : ℕ} → Same k₁ r₁ c₁ κ₁ k′ r′ c′ κ′ → AtPlace p k r c κ k₁ r₁ c₁ κ₁ x → AtPlace p k r c κ k′ r′ c′ κ′ x
@@ -122,7 +122,7 @@ pub data Looked (p : Picture) (k r c κ k′ r′ c′ κ′ : ℕ) : Type 0 whe
   is-listed : isListed κ′ (listOf p k r c κ) ≡ true → AtPlace p k r c κ k′ r′ c′ κ′ κ′ → Looked p k r c κ k′ r′ c′ κ′
   is-inside : isListed κ′ (listOf p k r c κ) ≡ false → InLeaf p k r c κ k′ r′ c′ κ′ → Looked p k r c κ k′ r′ c′ κ′
 
-module _ {p : Picture} {k r c κ k′ r′ c′ κ′ : ℕ} (a : Around p k r c κ k′ r′ c′ κ′) where
+module _ {p : Picture} {k r c κ k′ r′ c′ κ′ : ℕ} (a : ListedAround p k r c κ k′ r′ c′ κ′) where
   around-listed : isListed κ′ (listOf p k r c κ) ≡ eqb (a .at) κ′
   unfolding isListed
   around-listed = ap (λ x. eqb x κ′) (around-key a)

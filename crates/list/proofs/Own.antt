@@ -6,7 +6,7 @@ use mathlib.Core.Bool.{true, false}
 use mathlib.Core.List.{List}
 use native.Mathlib.Omega.{arith}
 use lib.ListN.{length, getD, take}
-use Rattle.keys.specs.Under.{Block}
+use Rattle.keys.specs.Under.{MapBlock}
 use Rattle.definitions.specs.Bits.{bitsOf}
 use Rattle.definitions.specs.List.{keysOf, valuesOf, listOfPicture}
 use Rattle.definitions.specs.Read.{recordsOf, isList}
@@ -18,7 +18,7 @@ use Rattle.list.specs.Sorted.{Ascends, Sorted, Near}
 use Rattle.list.specs.Among.{keysUpTo, keysBelow, placeAmong, whichAmong, placeIn}
 use Rattle.list.specs.declared.standing.Which.{Which}
 use Rattle.list.specs.declared.standing.Which.the-variants.{Listed, Inside}
-use Rattle.list.proofs.Accepted.{accepted, keys-ascend}
+use Rattle.list.proofs.Accepted.{accepted-as-list, keys-ascend}
 use Rattle.list.proofs.Count.{counted-before}
 use Rattle.list.proofs.Among.{found-some, place-below, keys-of-records, values-of-records, place-among, among-place, which-listed, which-inside}
 use Rattle.list.proofs.Lookup.{lookup-value}
@@ -26,7 +26,7 @@ use Rattle.list.proofs.PartLength.{part-some, part-end}
 
 -- what the test of a list says
 pub own-list : (m s : ℕ) (keys bits : List ℕ) (n : ℕ) → isList m s keys bits n ≡ true → OwnList m keys bits n
-own-list m s keys bits n e = let a = accepted m s keys bits n e in record { fits = omega (arith, a .in-keys, a .in-bits); own = a .is }
+own-list m s keys bits n e = let a = accepted-as-list m s keys bits n e in record { fits = omega (arith, a .in-keys, a .in-bits); own = a .is }
 
 module _ {m : ℕ} {keys bits : List ℕ} {n : ℕ} (o : OwnList m keys bits n) where
   pub own-keys : keysOf (listOfPicture m (shownBy m keys bits n)) ≡ take n keys
@@ -94,7 +94,7 @@ module _ {m : ℕ} {keys bits : List ℕ} {n : ℕ} (o : OwnList m keys bits n) 
   own-inside κ place e = which-inside κ _ place (own-which κ ∙ sym e)
 
   -- of a block of the map: the bitstring at its place is its own, and the part that holds it ends with the keys below the end of its interval
-  module _ {k r c κ : ℕ} (b : Block m k r c κ) where
+  module _ {k r c κ : ℕ} (b : MapBlock m k r c κ) where
     pub own-bits : getD bits (placeAmong κ (take n keys)) 0 ≡ bitsOf (shownBy m keys bits n) k r c
     own-bits =
         sym (value-at keys bits n in-keys in-bits (placeAmong κ (take n keys)) (own-place κ))

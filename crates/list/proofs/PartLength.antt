@@ -12,7 +12,7 @@ use Rattle.keys.specs.Key.{rootKey}
 use Rattle.keys.specs.Block.{inInterval}
 use Rattle.keys.proofs.Cases.{decide}
 use Rattle.keys.proofs.Powers.{five-pos}
-use Rattle.keys.specs.Under.{Block}
+use Rattle.keys.specs.Under.{MapBlock}
 use Rattle.keys.proofs.Pixel.{InKeys}
 use Rattle.keys.proofs.InBlock.{inInterval-iff}
 use Rattle.keys.proofs.Interval.{within}
@@ -22,11 +22,11 @@ use Rattle.definitions.specs.Standing.{placeOf, isListed, recordsIn, partLength
 use Rattle.laws.proofs.ListOf.{list-one, list-ascends, list-some}
 use Rattle.list.specs.Among.{keysBelow}
 use Rattle.list.proofs.Counted.{counted, below-counted, records-counted, counted-none, counted-yes, counted-all, counted-out}
-use Rattle.list.proofs.Placed.{Placed}
+use Rattle.list.proofs.Placed.{PartOfList}
 use Rattle.list.proofs.Lookup.{counted-placed, Looked, is-listed, is-inside, lookup, lookup-listed}
 
 -- in a map of side 2 ^ m a block's key interval holds its own records alone
-module _ {m k r c κ : ℕ} (b : Block m k r c κ) where
+module _ {m k r c κ : ℕ} (b : MapBlock m k r c κ) where
   interval-yes : (x : ℕ) → κ ≤ x → x < κ + 5 ^ k → inInterval m κ x ≡ true
   interval-yes x h j = inInterval-iff x b .1 (record { from = h; until = j })
 
@@ -34,7 +34,7 @@ module _ {m k r c κ : ℕ} (b : Block m k r c κ) where
   interval-no x h = decide (inInterval m κ x) (λ e. absurd (h (inInterval-iff x b .0 e))) (λ e. e)
 
   -- the number of records in the interval of a block whose list is placed in the list is that list's length
-  pub records-in-placed : {p : Picture} {k₀ r₀ c₀ κ₀ : ℕ} → Placed p k₀ r₀ c₀ κ₀ k r c κ → recordsIn m κ (listOf p k₀ r₀ c₀ κ₀) ≡ length (listOf p k r c κ)
+  pub records-in-placed : {p : Picture} {k₀ r₀ c₀ κ₀ : ℕ} → PartOfList p k₀ r₀ c₀ κ₀ k r c κ → recordsIn m κ (listOf p k₀ r₀ c₀ κ₀) ≡ length (listOf p k r c κ)
   records-in-placed {p} {k₀} {r₀} {c₀} {κ₀} a =
       let t = inInterval m κ in
       let all = counted-placed t a in
@@ -45,7 +45,7 @@ module _ {m k r c κ : ℕ} (b : Block m k r c κ) where
       omega arith
 
 -- how many records a list has before the end of a block's interval: those up to the end of the block's list
-below-placed : {p : Picture} {k r c κ k′ r′ c′ κ′ : ℕ} (a : Placed p k r c κ k′ r′ c′ κ′) (x : ℕ) → κ′ < x → x ≤ κ′ + 5 ^ k′ → counted (λ y. ltb y x) (listOf p k′ r′ c′ κ′) ≡ length (listOf p k′ r′ c′ κ′)
+below-placed : {p : Picture} {k r c κ k′ r′ c′ κ′ : ℕ} (a : PartOfList p k r c κ k′ r′ c′ κ′) (x : ℕ) → κ′ < x → x ≤ κ′ + 5 ^ k′ → counted (λ y. ltb y x) (listOf p k′ r′ c′ κ′) ≡ length (listOf p k′ r′ c′ κ′)
     → keysBelow x (keysOf (listOf p k r c κ)) ≡ length (a .before) + length (listOf p k′ r′ c′ κ′)
 below-placed {p} {k} {r} {c} {κ} a x low high own =
     let t : ℕ → Bool = λ y. ltb y x in
@@ -59,7 +59,7 @@ leaf-below : (p : Picture) (k r c κ x : ℕ) → oneFeature p k r c ≡ true �
 leaf-below p k r c κ x one h =
     rw (list-one p k r c κ one) (counted-yes (λ y. ltb y x) (recordOf κ (2 ^ p r c)) [] (lt-ltb κ x h) ∙ ap suc (counted-none (λ y. ltb y x)))
 
-module _ (p : Picture) {m k r c κ : ℕ} (b : Block m k r c κ) where
+module _ (p : Picture) {m k r c κ : ℕ} (b : MapBlock m k r c κ) where
   -- the number of records that a listed block and all below it have
   pub records-in : isListed κ (listOfPicture m p) ≡ true → recordsIn m κ (listOfPicture m p) ≡ length (listOf p k r c κ)
   records-in e = records-in-placed b (lookup-listed p b e .placed)

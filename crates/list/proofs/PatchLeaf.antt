@@ -9,7 +9,7 @@ use lib.ListN.{length}
 use Rattle.keys.specs.Key.{rootKey, levelOf, heightOf, validKey}
 use Rattle.keys.specs.Block.{rowOf, columnOf, contains, isAncestor}
 use Rattle.keys.proofs.Cases.{equal}
-use Rattle.keys.specs.Under.{Under, Block}
+use Rattle.keys.specs.Under.{Under, MapBlock}
 use Rattle.keys.proofs.Interval.{key-within, same-key}
 use Rattle.keys.proofs.Valid.{valid-block, block-valid}
 use Rattle.keys.proofs.Ancestor.{contains-iff, ancestor-iff}
@@ -28,7 +28,7 @@ pub record IsLeaf (m : ℕ) (p : Picture) (leaf : ℕ) : Type 0 where
   pub one : oneFeature p (heightOf m leaf) (rowOf m leaf) (columnOf m leaf) ≡ true
 
 -- the key that stands last before a block that lies in a listed leaf is the leaf's
-in-leaf : {p : Picture} {m k r c κ : ℕ} → Block m k r c κ → (x : InLeaf p m 0 0 rootKey k r c κ) → keyFound κ (listOfPicture m p) ≡ x .at
+in-leaf : {p : Picture} {m k r c κ : ℕ} → MapBlock m k r c κ → (x : InLeaf p m 0 0 rootKey k r c κ) → keyFound κ (listOfPicture m p) ≡ x .at
 in-leaf b x =
     around-key (record {
       height = x .height;
@@ -42,7 +42,7 @@ in-leaf b x =
     })
 
 module _ (m : ℕ) (p : Picture) (κ : ℕ) (valid : validKey m κ ≡ true) where
-  block : Block m (heightOf m κ) (rowOf m κ) (columnOf m κ) κ
+  block : MapBlock m (heightOf m κ) (rowOf m κ) (columnOf m κ) κ
   block = valid-block m κ valid
 
   -- a listed block: as many records as its list and its part have
@@ -82,7 +82,7 @@ module _ (m : ℕ) (p : Picture) (κ : ℕ) (valid : validKey m κ ≡ true) whe
     leaf-is : leaf ≡ looked .at
     leaf-is = numbers .2 ∙ in-leaf block looked
 
-    around-it : Block m (looked .height) (looked .row) (looked .column) leaf
+    around-it : MapBlock m (looked .height) (looked .row) (looked .column) leaf
     around-it = same-key (looked .under) (sym leaf-is)
 
     -- the leaf's block contains the asked block, which is smaller

@@ -20,14 +20,14 @@ use Rattle.laws.proofs.Ascending.{Ascending, none, widen, ascending-one, ascend
 use Rattle.laws.proofs.ListOf.{list-node, list-ascends}
 
 -- the list of the second block is a part of the first's, and the keys around it are outside its interval
-pub record Placed (p : Picture) (k r c κ k′ r′ c′ κ′ : ℕ) : Type 0 where
+pub record PartOfList (p : Picture) (k r c κ k′ r′ c′ κ′ : ℕ) : Type 0 where
   pub before : List Record
   pub after : List Record
   pub splits : listOf p k r c κ ≡ before ++ (listOf p k′ r′ c′ κ′ ++ after)
   pub keys-before : Ascending κ κ′ before
   pub keys-after : Ascending (κ′ + 5 ^ k′) (κ + 5 ^ k) after
 
-pub placed-here : (p : Picture) (k r c κ : ℕ) → Placed p k r c κ k r c κ
+pub placed-here : (p : Picture) (k r c κ : ℕ) → PartOfList p k r c κ k r c κ
 placed-here p k r c κ =
     record {
       before = [];
@@ -41,7 +41,7 @@ join-parts : (l a b x c d y : List Record) → l ≡ a ++ (y ++ b) → y ≡ c +
 join-parts l a b x c d y e f = e ∙ ap (λ z. a ++ (z ++ b)) f ∙ simp append-assoc
 
 -- a part of a part is a part
-pub placed-trans : {p : Picture} {k r c κ k₁ r₁ c₁ κ₁ k₂ r₂ c₂ κ₂ : ℕ} → Placed p k r c κ k₁ r₁ c₁ κ₁ → Placed p k₁ r₁ c₁ κ₁ k₂ r₂ c₂ κ₂ → Placed p k r c κ k₂ r₂ c₂ κ₂
+pub placed-trans : {p : Picture} {k r c κ k₁ r₁ c₁ κ₁ k₂ r₂ c₂ κ₂ : ℕ} → PartOfList p k r c κ k₁ r₁ c₁ κ₁ → PartOfList p k₁ r₁ c₁ κ₁ k₂ r₂ c₂ κ₂ → PartOfList p k r c κ k₂ r₂ c₂ κ₂
 placed-trans {p} {k₂ = k₂} {r₂} {c₂} {κ₂} u v =
     record {
       before = u .before ++ v .before;
@@ -107,11 +107,11 @@ placed-in : {p : Picture} {k r c κ r′ c′ κ′ : ℕ} (before after : List 
     → listOf p (suc k) r c κ ≡ before ++ (listOf p k r′ c′ κ′ ++ after)
     → Ascending κ κ′ before
     → Ascending (κ′ + 5 ^ k) (κ + 5 ^ k * 5) after
-    → Placed p (suc k) r c κ k r′ c′ κ′
+    → PartOfList p (suc k) r c κ k r′ c′ κ′
 placed-in {k = k} before after e u v = record { before = before; after = after; splits = e; keys-before = u; keys-after = rw (pow-suc 5 k) v }
 
 -- the list of a quadrant stands in the list of its parent, if that has several features
-pub placed-quadrant : (p : Picture) {k r c κ r′ c′ κ′ : ℕ} → oneFeature p (suc k) r c ≡ false → Quadrant k r c κ r′ c′ κ′ → Placed p (suc k) r c κ k r′ c′ κ′
+pub placed-quadrant : (p : Picture) {k r c κ r′ c′ κ′ : ℕ} → oneFeature p (suc k) r c ≡ false → Quadrant k r c κ r′ c′ κ′ → PartOfList p (suc k) r c κ k r′ c′ κ′
 placed-quadrant p several (is-nw {k} {r} {c} {κ}) =
     placed-in (recordOf κ (bitsOf p (suc k) r c) ∷ [])
     (listOf p k r (c + 2 ^ k) (childKey κ k 2) ++ (listOf p k (r + 2 ^ k) c (childKey κ k 3) ++ listOf p k (r + 2 ^ k) (c + 2 ^ k) (childKey κ k 4)))
@@ -140,18 +140,18 @@ placed-quadrant p several (is-se {k} {r} {c} {κ}) =
     (none (omega arith))
 
 -- the listed block at or around a block: it is the block itself, or a leaf whose key comes before the block's
-pub record Around (p : Picture) (k r c κ k′ r′ c′ κ′ : ℕ) : Type 0 where
+pub record ListedAround (p : Picture) (k r c κ k′ r′ c′ κ′ : ℕ) : Type 0 where
   pub height : ℕ
   pub row : ℕ
   pub column : ℕ
   pub at : ℕ
-  pub placed : Placed p k r c κ height row column at
+  pub placed : PartOfList p k r c κ height row column at
   pub under : Under k r c κ height row column at
   pub holds : Under height row column at k′ r′ c′ κ′
   pub which : Same height row column at k′ r′ c′ κ′ ⊎ ((oneFeature p height row column ≡ true) × (at < κ′))
 
 -- what is listed at or around a block in the list of a quadrant is so in the list of the parent
-around-quadrant : {p : Picture} {k r c κ r₁ c₁ κ₁ k′ r′ c′ κ′ : ℕ} → oneFeature p (suc k) r c ≡ false → Quadrant k r c κ r₁ c₁ κ₁ → Around p k r₁ c₁ κ₁ k′ r′ c′ κ′ → Around p (suc k) r c κ k′ r′ c′ κ′
+around-quadrant : {p : Picture} {k r c κ r₁ c₁ κ₁ k′ r′ c′ κ′ : ℕ} → oneFeature p (suc k) r c ≡ false → Quadrant k r c κ r₁ c₁ κ₁ → ListedAround p k r₁ c₁ κ₁ k′ r′ c′ κ′ → ListedAround p (suc k) r c κ k′ r′ c′ κ′
 around-quadrant {p} several q a =
     record {
       height = a .height;
@@ -165,15 +165,15 @@ around-quadrant {p} several q a =
     }
 
 -- a leaf is listed around all blocks under it
-around-leaf : {p : Picture} {k r c κ k′ r′ c′ κ′ : ℕ} → oneFeature p k r c ≡ true → Under k r c κ k′ r′ c′ κ′ → κ < κ′ → Around p k r c κ k′ r′ c′ κ′
+around-leaf : {p : Picture} {k r c κ k′ r′ c′ κ′ : ℕ} → oneFeature p k r c ≡ true → Under k r c κ k′ r′ c′ κ′ → κ < κ′ → ListedAround p k r c κ k′ r′ c′ κ′
 around-leaf {p} {k} {r} {c} {κ} one u h =
     record { height = k; row = r; column = c; at = κ; placed = placed-here p k r c κ; under = here; holds = u; which = inr (one, h) }
 
-around-step : {p : Picture} {k r c κ r₁ c₁ κ₁ k′ r′ c′ κ′ : ℕ} → Quadrant k r c κ r₁ c₁ κ₁ → Under (suc k) r c κ k′ r′ c′ κ′ → κ < κ′ → Around p k r₁ c₁ κ₁ k′ r′ c′ κ′ → Around p (suc k) r c κ k′ r′ c′ κ′
+around-step : {p : Picture} {k r c κ r₁ c₁ κ₁ k′ r′ c′ κ′ : ℕ} → Quadrant k r c κ r₁ c₁ κ₁ → Under (suc k) r c κ k′ r′ c′ κ′ → κ < κ′ → ListedAround p k r₁ c₁ κ₁ k′ r′ c′ κ′ → ListedAround p (suc k) r c κ k′ r′ c′ κ′
 around-step {p} {k} {r} {c} q u h a = decide (oneFeature p (suc k) r c) (λ one. around-leaf one u h) (λ several. around-quadrant several q a)
 
 -- every block under another has a listed block at or around it
-pub around : (p : Picture) {k r c κ k′ r′ c′ κ′ : ℕ} → Under k r c κ k′ r′ c′ κ′ → Around p k r c κ k′ r′ c′ κ′
+pub around : (p : Picture) {k r c κ k′ r′ c′ κ′ : ℕ} → Under k r c κ k′ r′ c′ κ′ → ListedAround p k r c κ k′ r′ c′ κ′
 around p (here {k} {r} {c} {κ}) =
     record { height = k; row = r; column = c; at = κ; placed = placed-here p k r c κ; under = here; holds = here; which = inl (omega arith) }
 around p (nw {k} u) = let w = key-within u in let e = five-pos k in around-step is-nw (nw u) (omega arith) (around p u)

@@ -8,7 +8,7 @@ use native.Mathlib.Omega.{arith}
 use lib.ListN.{length, getD, take, drop, length-drop, length-map, take-append-drop}
 use lib.Seq.{getD-drop, drop-at}
 use Rattle.keys.proofs.Cases.{decide}
-use Rattle.keys.specs.Under.{Block}
+use Rattle.keys.specs.Under.{MapBlock}
 use Rattle.definitions.specs.Picture.{Picture, oneFeature}
 use Rattle.definitions.specs.Bits.{bitsOf, featureOf}
 use Rattle.definitions.specs.List.{Record, valuesOf, listOf, listOfPicture}
@@ -94,7 +94,7 @@ module _ {m : ℕ} {keys bits : List ℕ} {n : ℕ} (o : OwnList m keys bits n) 
   pub root-shown : ShownAt (shownBy m keys bits n) m 0 0 0 bits 0
   root-shown = record { rest = drop n bits; values = own-bits-are }
 
-  module _ {k r c κ : ℕ} (b : Block m k r c κ) (several : oneFeature (shownBy m keys bits n) k r c ≡ false) where
+  module _ {k r c κ : ℕ} (b : MapBlock m k r c κ) (several : oneFeature (shownBy m keys bits n) k r c ≡ false) where
     -- a block of several features is listed, since a leaf around it would have one
     several-listed : isListed κ (listOfPicture m (shownBy m keys bits n)) ≡ true
     several-listed =

@@ -19,13 +19,13 @@ use Rattle.list.proofs.Joined.{joined, joined-bits, joined-list}
 use Rattle.list.proofs.Children.{wrong-not-left, left-inj, own-leaf, own-node, node-zero, node-suc, FourChildren, children-four, four-lists}
 
 -- a record with the key κ and the bits, and the records below it, are the list of some picture at the block, and then rest
-pub record Shown (k r c κ bits : ℕ) (below rest : List Record) : Type 0 where
+pub record ShownRecord (k r c κ bits : ℕ) (below rest : List Record) : Type 0 where
   pub picture : Picture
   pub bits-are : bitsOf picture k r c ≡ bits
   pub is : recordOf κ bits ∷ below ≡ listOf picture k r c κ ++ rest
 
 -- a leaf
-leaf-shown : (k r c κ bits : ℕ) (rest : List Record) → oneSlot bits ≡ true → Shown k r c κ bits rest rest
+leaf-shown : (k r c κ bits : ℕ) (rest : List Record) → oneSlot bits ≡ true → ShownRecord k r c κ bits rest rest
 leaf-shown k r c κ bits rest one =
     let f = featureOf bits in
     let p : Picture = λ row column. f in
@@ -46,11 +46,11 @@ in-turn a b c d l₄ e f g h =
 node-shown : (k r c κ bits : ℕ) (below rest : List Record)
     → oneSlot bits ≡ false
     → (f : FourChildren (afterNode k) κ (5 ^ k) bits below rest)
-    → Shown k r c (childKey κ k 1) (f .bits-nw) (f .below-nw) (f .after-nw)
-    → Shown k r (c + 2 ^ k) (childKey κ k 2) (f .bits-ne) (f .below-ne) (f .after-ne)
-    → Shown k (r + 2 ^ k) c (childKey κ k 3) (f .bits-sw) (f .below-sw) (f .after-sw)
-    → Shown k (r + 2 ^ k) (c + 2 ^ k) (childKey κ k 4) (f .bits-se) (f .below-se) rest
-    → Shown (suc k) r c κ bits below rest
+    → ShownRecord k r c (childKey κ k 1) (f .bits-nw) (f .below-nw) (f .after-nw)
+    → ShownRecord k r (c + 2 ^ k) (childKey κ k 2) (f .bits-ne) (f .below-ne) (f .after-ne)
+    → ShownRecord k (r + 2 ^ k) c (childKey κ k 3) (f .bits-sw) (f .below-sw) (f .after-sw)
+    → ShownRecord k (r + 2 ^ k) (c + 2 ^ k) (childKey κ k 4) (f .bits-se) (f .below-se) rest
+    → ShownRecord (suc k) r c κ bits below rest
 node-shown k r c κ bits below rest other f nw ne sw se =
     let p = joined k r c (nw .picture) (ne .picture) (sw .picture) (se .picture) in
     let b : bitsOf p (suc k) r c ≡ bits =
@@ -80,7 +80,7 @@ node-children k κ bits below rest other e =
     children-four (afterNode k) κ (5 ^ k) bits below rest (sym (own-node (afterNode (suc k)) κ bits below other ∙ node-suc k κ bits below) ∙ e)
 
 -- records that pass are the list of some picture, at any row and column
-pub sound : (k r c κ bits : ℕ) (below rest : List Record) → afterOwn (afterNode k) κ bits below ≡ left rest → Shown k r c κ bits below rest
+pub sound : (k r c κ bits : ℕ) (below rest : List Record) → afterOwn (afterNode k) κ bits below ≡ left rest → ShownRecord k r c κ bits below rest
 sound zero r c κ bits below rest e =
     decide (oneSlot bits)
     (λ one. rw (left-inj (sym (own-leaf (afterNode zero) κ bits below one) ∙ e)) (leaf-shown zero r c κ bits rest one))

@@ -14,7 +14,7 @@ use Rattle.laws.proofs.LastStep.{step-ends, step-before, before-step-less}
 use Rattle.laws.proofs.SoundLog.{Steps, none, more, sound-steps, sound-last, sound-before}
 use Rattle.laws.proofs.FirstStep.{first-is-last, first-before}
 use Rattle.laws.proofs.Records.{records-length}
-use Rattle.log.specs.declared.step.Step.{Step}
+use Rattle.log.specs.declared.step.LogStep.{LogStep}
 use Rattle.log.specs.Steps.{lastStep, Stepped, Divided}
 use Rattle.log.proofs.StepPlaces.{start-below, before-step-is}
 
@@ -34,13 +34,13 @@ divided-stepped {keys} {values} {used} d =
 -- the walk stands at the step that starts at start and has all the records up to end
 pub record Walk (keys values : List ℕ) (used end start : ℕ) : Type 0 where
   pub left : Divided keys values end
-  pub last : Step
+  pub last : LogStep
   pub found : last ≡ lastStep (recordsOf keys values end)
   pub start-is : start ≡ last .start
   pub same : firstStep (recordsOf keys values used) ≡ firstStep (recordsOf keys values end)
 
 -- at first that is the last step
-pub walk-begins : {keys values : List ℕ} {used : ℕ} (last : Step) → Divided keys values used → last ≡ lastStep (recordsOf keys values used)
+pub walk-begins : {keys values : List ℕ} {used : ℕ} (last : LogStep) → Divided keys values used → last ≡ lastStep (recordsOf keys values used)
     → Walk keys values used used (last .start)
 walk-begins last d found = record { left = d; last = last; found = found; start-is = refl; same = refl }
 
@@ -73,7 +73,7 @@ module _ {keys values : List ℕ} {used end start : ℕ} (w : Walk keys values u
   start-length = w .start-is ∙ ap (λ x. x .start) (w .found)
 
   -- the walk goes on to the step before
-  pub walk-turns : (last : Step) → 0 < start → last ≡ lastStep (recordsOf keys values start) → Walk keys values used start (last .start)
+  pub walk-turns : (last : LogStep) → 0 < start → last ≡ lastStep (recordsOf keys values start) → Walk keys values used start (last .start)
   walk-turns last some found =
       let e = start-length in
       record {
@@ -85,7 +85,7 @@ module _ {keys values : List ℕ} {used end start : ℕ} (w : Walk keys values u
       }
 
   -- with nothing before, it is the first
-  pub walk-ends : (last : Step) → start ≤ 0 → last ≡ lastStep (recordsOf keys values end) → last ≡ lastStep (firstStep (recordsOf keys values used))
+  pub walk-ends : (last : LogStep) → start ≤ 0 → last ≡ lastStep (recordsOf keys values end) → last ≡ lastStep (firstStep (recordsOf keys values used))
   walk-ends last bare found =
       let e = start-length in
       found ∙ ap lastStep (sym (w .same ∙ first-is-last (recordsOf keys values end) (omega arith)))

@@ -12,7 +12,7 @@ use Rattle.definitions.specs.Log.{endsInMark, beforeStep, lastIsEntry, lastIsGr
 use Rattle.laws.proofs.LastStep.{step-single, step-group}
 use Rattle.laws.proofs.SoundLog.{empty-sound, sound-step}
 use Rattle.laws.proofs.Records.{records-length}
-use Rattle.log.specs.declared.step.Step.{Step}
+use Rattle.log.specs.declared.step.LogStep.{LogStep}
 use Rattle.log.specs.Steps.{lastStep, Stepped}
 use Rattle.log.proofs.StepPlaces.{start-below, before-step-is}
 
@@ -64,7 +64,7 @@ module _ {m s : ℕ} {keys values : List ℕ} {used end : ℕ} (p : Passed m s k
         pub stepped : Stepped keys values end
         stepped = record { m = m; s = s; in-keys = omega arith; in-values = omega arith; step = step }
 
-        module _ (last : Step) (found : last ≡ lastStep (recordsOf keys values end)) where
+        module _ (last : LogStep) (found : last ≡ lastStep (recordsOf keys values end)) where
           -- it has places
           pub falls : last .start < end
           falls = start-below keys values end (stepped .in-keys) (stepped .in-values) last found some

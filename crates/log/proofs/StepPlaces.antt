@@ -17,7 +17,7 @@ use Rattle.laws.proofs.LogEntries.{ends-in-entry}
 use Rattle.laws.proofs.LastStep.{entries-single, before-single, step-single, before-group, entries-group, before-entries-less, before-step-less, EndsInGroup, ends-in-group}
 use Rattle.laws.proofs.Records.{records-length, records-first}
 use Rattle.log.specs.declared.entry.Entry.{Entry}
-use Rattle.log.specs.declared.step.Step.{Step}
+use Rattle.log.specs.declared.step.LogStep.{LogStep}
 use Rattle.log.specs.Entries.{closingCount, lastEntry, Ended}
 use Rattle.log.specs.Steps.{lastStep, EntriesLast, Stepped}
 use Rattle.log.proofs.Last.{last-count-at, entry-ended}
@@ -51,7 +51,7 @@ before-step-place log =
     same ∙ before-place log ∙ ap (λ x. take (length x) log) (sym same))
 
 -- the last step as it was found
-module _ (keys values : List ℕ) (used : ℕ) (in-keys : used ≤ length keys) (in-values : used ≤ length values) (last : Step)
+module _ (keys values : List ℕ) (used : ℕ) (in-keys : used ≤ length keys) (in-values : used ≤ length values) (last : LogStep)
     (found : last ≡ lastStep (recordsOf keys values used)) where
   abbrev l : List Record
   l = recordsOf keys values used
@@ -96,7 +96,7 @@ module _ {keys values : List ℕ} {used : ℕ} (d : Stepped keys values used) wh
         entry-ended (d .in-keys) (d .in-values) (ends-in-entry (d .m) (d .s) log (sym (step-single log single (d .m) (d .s)) ∙ d .step))
 
     -- it is the step
-    pub single-found : (last : Entry) → last ≡ lastEntry log → _≡_ {A = Step} (record { start = last .start; end = used; grouped = false }) (lastStep log)
+    pub single-found : (last : Entry) → last ≡ lastEntry log → _≡_ {A = LogStep} (record { start = last .start; end = used; grouped = false }) (lastStep log)
     single-found last found =
         let start : last .start ≡ length (beforeStep log) = ap (λ x. x .start) found ∙ ap length (sym (before-single log single)) in
         let end : used ≡ length (stepEntries log) = sym (ap length (entries-single log single) ∙ size) in
@@ -134,7 +134,7 @@ module _ {keys values : List ℕ} {used : ℕ} (d : Stepped keys values used) wh
 
       -- they are the step
       pub group-found : (first : ℕ) → first ≡ length (beforeEntries count (recordsOf keys values (used - closingPlaces)))
-          → _≡_ {A = Step} (record { start = first; end = used - closingPlaces; grouped = true }) (lastStep log)
+          → _≡_ {A = LogStep} (record { start = first; end = used - closingPlaces; grouped = true }) (lastStep log)
       group-found first is =
           let in-keys = d .in-keys in
           let in-values = d .in-values in

@@ -8,11 +8,11 @@ use Rattle.definitions.specs.List.{Record}
 use Rattle.definitions.specs.Read.{recordsOf}
 use Rattle.definitions.specs.Log.{endsInMark, stepEntries, beforeStep, endsInEntries, lastIsStep, isSound}
 use Rattle.laws.proofs.LogEntries.{EndsInEntry}
-use Rattle.log.specs.declared.step.Step.{Step}
+use Rattle.log.specs.declared.step.LogStep.{LogStep}
 use Rattle.log.specs.Entries.{lastEntry}
 
 -- the last step of a log: the places where its entries start and end, and whether it is a group, which two records close
-abbrev pub lastStep : List Record → Step
+abbrev pub lastStep : List Record → LogStep
 lastStep log = record { start = length (beforeStep log); end = length (stepEntries log); grouped = endsInMark log }
 
 -- the used records are there, and end in so many entries, at some m and s

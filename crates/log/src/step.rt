@@ -9,7 +9,7 @@ ghost use Rattle.log.specs.Steps.{lastStep, EntriesLast, Stepped, Divide
 use crate::entry;
 
 // The places in the log where the step's entries start and end, and whether it is a group.
-pub struct Step {
+pub struct LogStep {
     pub start: usize,
     pub end: usize,
     pub grouped: bool,
@@ -45,13 +45,13 @@ fn entries_start(keys: &[u32], values: &[u32], used: usize, count: usize) -> usi
 }
 
 // The last step of the used records.
-pub fn last_step(keys: &[u32], values: &[u32], used: usize) -> Step
+pub fn last_step(keys: &[u32], values: &[u32], used: usize) -> LogStep
     requires { ⌜ Stepped (now keys) (now values) used ⌝ }
     ensures { λ r. ⌜ r ≡ lastStep (recordsOf (now (keys .entry)) (now (values .entry)) used) ⌝ }
 {
     if !ends_in_mark(keys, values, used) {
         let start = entry::last_entry(keys, values, used).start;
-        return Step {
+        return LogStep {
             start,
             end: used,
             grouped: false,
@@ -60,7 +60,7 @@ pub fn last_step(keys: &[u32], values: &[u32], used: usize) -> Step
     let end = used - 2;
     let count = entry::last_count(values, used);
     let start = entries_start(keys, values, end, count);
-    Step {
+    LogStep {
         start,
         end,
         grouped: true,
@@ -68,7 +68,7 @@ pub fn last_step(keys: &[u32], values: &[u32], used: usize) -> Step
 }
 
 // The first step of the used records. It is found from the end: one step after the other, until none stands before.
-pub fn first_step(keys: &[u32], values: &[u32], used: usize) -> Step
+pub fn first_step(keys: &[u32], values: &[u32], used: usize) -> LogStep
     requires { ⌜ Divided (now keys) (now values) used ⌝ }
     ensures { λ r. ⌜ r ≡ lastStep (firstStep (recordsOf (now (keys .entry)) (now (values .entry)) used)) ⌝ }
 {

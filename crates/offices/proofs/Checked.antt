@@ -53,13 +53,13 @@ module _ (offices ids waived : List ℕ) (rows : ℕ) where
   no-places e = sym (table-two ∙ ap (λ b. b && isSoundTable t) e)
 
   -- every slice has 512 places
-  pub record Places : Type 0 where
+  pub record TablePlaces : Type 0 where
     pub all-offices : length offices ≡ 512
     pub all-ids : length ids ≡ 512
     pub all-waived : length waived ≡ 512
     pub few : rows ≤ 512
 
-  pub has-all : hasPlaces ≡ true → Places
+  pub has-all : hasPlaces ≡ true → TablePlaces
   has-all e =
       let a = eqb (length offices) 512 in
       let b = eqb (length ids) 512 in
@@ -77,7 +77,7 @@ module _ (offices ids waived : List ℕ) (rows : ℕ) where
   places-hold e = let p = has-all e in record { in-offices = omega (arith, p .all-offices, p .few); in-ids = omega (arith, p .all-ids, p .few); in-waived = omega (arith, p .all-waived, p .few) }
 
   -- an accepted table has its places and is sound
-  pub table-places : isTable offices ids waived rows ≡ true → Places
+  pub table-places : isTable offices ids waived rows ≡ true → TablePlaces
   table-places e = has-all (and-left hasPlaces (isSoundTable t) (sym table-two ∙ e))
 
   pub table-holds : isTable offices ids waived rows ≡ true → Holds offices ids waived rows

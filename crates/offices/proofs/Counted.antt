@@ -46,12 +46,12 @@ module _ (office : ℕ) (offices : List ℕ) (rows : ℕ) (fits : rows ≤ lengt
   l = take rows offices
 
   -- so many were found in the places passed
-  pub record Counting (i count : ℕ) : Type 0 where
+  pub record OfficeCounting (i count : ℕ) : Type 0 where
     pub within : i ≤ rows
     pub few : count ≤ i
     pub all : officeTimes office l ≡ count + officeTimes office (drop i l)
 
-  pub count-begins : Counting 0 0
+  pub count-begins : OfficeCounting 0 0
   count-begins = record { within = omega arith; few = omega arith; all = omega arith }
 
   at-place : (i : ℕ) → i < rows → drop i l ≡ getD offices i 0 ∷ drop (suc i) l
@@ -59,19 +59,19 @@ module _ (office : ℕ) (offices : List ℕ) (rows : ℕ) (fits : rows ≤ lengt
       let size = length-take-le rows offices fits in
       drop-cons l i 0 (omega arith) ∙ ap (λ x. x ∷ drop (suc i) l) (getD-take rows offices i 0 more)
 
-  pub count-found : (i count : ℕ) → i < rows → getD offices i 0 ≡ office → Counting i count → Counting (i + 1) (count + 1)
+  pub count-found : (i count : ℕ) → i < rows → getD offices i 0 ≡ office → OfficeCounting i count → OfficeCounting (i + 1) (count + 1)
   count-found i count more e c =
       let here = ap (officeTimes office) (at-place i more) ∙ times-own office _ _ e in
       let next = ap (λ j. officeTimes office (drop j l)) (add-one i) in
       record { within = omega arith; few = omega (arith, c .few); all = omega (arith, c .all) }
 
-  pub count-passed : (i count : ℕ) → i < rows → (getD offices i 0 ≡ office → ⊥) → Counting i count → Counting (i + 1) count
+  pub count-passed : (i count : ℕ) → i < rows → (getD offices i 0 ≡ office → ⊥) → OfficeCounting i count → OfficeCounting (i + 1) count
   count-passed i count more h c =
       let here = ap (officeTimes office) (at-place i more) ∙ times-other office _ _ h in
       let next = ap (λ j. officeTimes office (drop j l)) (add-one i) in
       record { within = omega arith; few = omega (arith, c .few); all = omega (arith, c .all) }
 
-  pub count-ends : (i count : ℕ) → rows ≤ i → Counting i count → count ≡ officeTimes office l
+  pub count-ends : (i count : ℕ) → rows ≤ i → OfficeCounting i count → count ≡ officeTimes office l
   count-ends i count over c =
       let size = length-take-le rows offices fits in
       let none = ap (officeTimes office) (drop-of-length-le l {i = i} (omega arith)) ∙ times-none office in
@@ -95,11 +95,11 @@ module _ (offices ids waived : List ℕ) (rows : ℕ) (h : Holds offices ids wai
   table = tableOf offices ids waived rows
 
   -- the rows from place i on decide, of which the one before it is known
-  pub record Ascending (next : ℕ) : Type 0 where
+  pub record RowsDecide (next : ℕ) : Type 0 where
     pub begun : 1 ≤ next
     pub rest : rowsAscend table ≡ rowsAscend (drop (next - 1) table)
 
-  pub order-begins : Ascending 1
+  pub order-begins : RowsDecide 1
   order-begins = record { begun = omega arith; rest = refl }
 
   two-rows : (next : ℕ) → 1 ≤ next → next < rows → drop (next - 1) table ≡ rowAt offices ids waived (next - 1) ∷ (rowAt offices ids waived next ∷ drop (suc next) table)
@@ -108,7 +108,7 @@ module _ (offices ids waived : List ℕ) (rows : ℕ) (h : Holds offices ids wai
       table-drop offices ids waived rows (next - 1) h (omega arith)
       ∙ ap (λ l. rowAt offices ids waived (next - 1) ∷ l) (ap (λ i. drop i table) e ∙ table-drop offices ids waived rows next h more)
 
-  asked : (next : ℕ) → next < rows → (a : Ascending next)
+  asked : (next : ℕ) → next < rows → (a : RowsDecide next)
       → rowsAscend table ≡ rowBefore (rowAt offices ids waived (next - 1)) (rowAt offices ids waived next) && rowsAscend (drop next table)
   asked next more a =
       a .rest
@@ -116,10 +116,10 @@ module _ (offices ids waived : List ℕ) (rows : ℕ) (h : Holds offices ids wai
       ∙ ascend-two _ _ _
       ∙ ap (λ l. rowBefore (rowAt offices ids waived (next - 1)) (rowAt offices ids waived next) && rowsAscend l) (sym (table-drop offices ids waived rows next h more))
 
-  pub order-fails : (next : ℕ) → next < rows → Ascending next → rowBefore (rowAt offices ids waived (next - 1)) (rowAt offices ids waived next) ≡ false → false ≡ rowsAscend table
+  pub order-fails : (next : ℕ) → next < rows → RowsDecide next → rowBefore (rowAt offices ids waived (next - 1)) (rowAt offices ids waived next) ≡ false → false ≡ rowsAscend table
   order-fails next more a e = sym (asked next more a ∙ ap (λ b. b && rowsAscend (drop next table)) e)
 
-  pub order-goes-on : (next : ℕ) → next < rows → Ascending next → rowBefore (rowAt offices ids waived (next - 1)) (rowAt offices ids waived next) ≡ true → Ascending (next + 1)
+  pub order-goes-on : (next : ℕ) → next < rows → RowsDecide next → rowBefore (rowAt offices ids waived (next - 1)) (rowAt offices ids waived next) ≡ true → RowsDecide (next + 1)
   order-goes-on next more a e =
       let back : next ≡ next + 1 - 1 = omega arith in
       record {
@@ -132,7 +132,7 @@ module _ (offices ids waived : List ℕ) (rows : ℕ) (h : Holds offices ids wai
   few-ascend (w ∷ []) few = ascend-one w
   few-ascend (w ∷ (x ∷ t)) few = absurd (omega arith)
 
-  pub order-ends : (next : ℕ) → rows ≤ next → Ascending next → true ≡ rowsAscend table
+  pub order-ends : (next : ℕ) → rows ≤ next → RowsDecide next → true ≡ rowsAscend table
   order-ends next over a =
       let size = table-length offices ids waived rows h in
       let left = lib.ListN.length-drop (next - 1) table in

@@ -20,7 +20,7 @@ use Rattle.laws.proofs.Shares.{Sound, room-left}
 use Rattle.offices.specs.Place.{rowPlace}
 use Rattle.offices.specs.Refusal.{tableRefusal, decidedOn}
 use Rattle.offices.proofs.Place.{place-within, row-there}
-use Rattle.offices.proofs.Checked.{Places, table-places, table-holds, table-sound}
+use Rattle.offices.proofs.Checked.{TablePlaces, table-places, table-holds, table-sound}
 
 -- a decision, field by field
 pub decided-refused : (refusal place c : ℕ) → refusal ≡ c → (c ≡ 0 → ⊥) → record { refusal = c; place = 0 } ≡ decidedOn refusal place
@@ -119,7 +119,7 @@ module _ (m office : ℕ) (offices ids waived : List ℕ) (rows id key : ℕ) wh
     pub sound : Sound t
     sound = table-sound offices ids waived rows is-table
 
-    pub places : Places offices ids waived rows
+    pub places : TablePlaces offices ids waived rows
     places = table-places offices ids waived rows is-table
 
     pub one-of-two : office ≤ 1

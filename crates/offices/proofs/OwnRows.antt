@@ -15,7 +15,7 @@ use Rattle.definitions.specs.Rules.{findingOf, waiversOf, comesBefore, findings
 use Rattle.definitions.specs.Offices.{Waiver, waivedBy, Holds, rowsIn, tableOf, rowsOf, rowsAscend, officesKnown, rowKeysValid, isTable}
 use Rattle.laws.proofs.FindingOrder.{earlier-test}
 use Rattle.laws.proofs.RowPlaces.{table-length, table-keys}
-use Rattle.laws.proofs.RowOrder.{After, no-row, next-row, ascend-after, ascend-rows, after-on}
+use Rattle.laws.proofs.RowOrder.{RowsAfter, no-row, next-row, ascend-after, ascend-rows, after-on}
 use Rattle.laws.proofs.Shares.{Sound, share-own, share-other, share-none, known-all, known-first, known-rest}
 use Rattle.offices.specs.Own.{keysIn, noRows, offsetOf, ownOf}
 use Rattle.offices.specs.declared.own.Own.{Own}
@@ -24,7 +24,7 @@ use Rattle.offices.proofs.Checked.{table-holds, table-sound}
 
 -- ---- they stand together
 -- no row of an earlier office comes later
-none-later : (office : ℕ) (x : Waiver) (t : List Waiver) → office < x .office → After x t → rowsOf office t ≡ []
+none-later : (office : ℕ) (x : Waiver) (t : List Waiver) → office < x .office → RowsAfter x t → rowsOf office t ≡ []
 none-later office x [] low no-row = share-none office
 none-later office x (y ∷ t) low (next-row h r) =
     let up = h .offices in share-other office y t (λ e. omega arith) ∙ none-later office y t (omega arith) r
@@ -181,7 +181,7 @@ module _ (offices ids waived : List ℕ) (rows : ℕ) (is : isTable offices ids 
   rows-sound = sound
 
 -- ---- in order, with valid keys
-own-after : (office : ℕ) (x : Waiver) (t : List Waiver) → x .office ≡ office → After x t → findingsAscend (waivedBy x ∷ rowsOf office t) ≡ true
+own-after : (office : ℕ) (x : Waiver) (t : List Waiver) → x .office ≡ office → RowsAfter x t → findingsAscend (waivedBy x ∷ rowsOf office t) ≡ true
 unfolding findingsAscend
 own-after office x [] e no-row = ap (λ l. findingsAscend (waivedBy x ∷ l)) (share-none office)
 own-after office x (y ∷ t) e (next-row h r) =

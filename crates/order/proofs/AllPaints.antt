@@ -15,7 +15,7 @@ use Rattle.definitions.specs.Picture.{Picture}
 use Rattle.definitions.specs.Read.{pictureOf}
 use Rattle.definitions.specs.Edit.{paintIn}
 use Rattle.history.specs.History.{Buffers, afterCalls}
-use Rattle.order.specs.Paint.{Paint}
+use Rattle.order.specs.Paint.{BlockPaint}
 use Rattle.history.proofs.Content.{map-back}
 use Rattle.history.proofs.Drawn.{paint-inside, paint-outside}
 use Rattle.order.specs.Rearranged.{timesIn, Rearranged, Swapped}
@@ -27,7 +27,7 @@ use Rattle.order.proofs.Swaps.{valid-swapped, apart-swapped, picture-ei
 use Rattle.order.proofs.Sheets.{in-full-valid, run-shows}
 
 -- a pixel that no paint has in its block stays
-stays : (m : ℕ) (p : Picture) (xs : List Paint) (row column : ℕ) → inSomePaint m xs row column ≡ false → inTurn m p xs row column ≡ p row column
+stays : (m : ℕ) (p : Picture) (xs : List BlockPaint) (row column : ℕ) → inSomePaint m xs row column ≡ false → inTurn m p xs row column ≡ p row column
 unfolding inTurn inSomePaint
 stays m p [] row column e = refl
 stays m p (x ∷ xs) row column e =
@@ -35,7 +35,7 @@ stays m p (x ∷ xs) row column e =
     ∙ paint-outside m (x .key) (x .feature) p row column (neither-left (inBlock m (x .key) row column) (inSomePaint m xs row column) e)
 
 -- no paint that is apart from x has a pixel of x's block
-alone : (m : ℕ) (x : Paint) (xs : List Paint) (row column : ℕ) → validKey m (x .key) ≡ true → allValid m xs ≡ true → apartFromAll m x xs ≡ true
+alone : (m : ℕ) (x : BlockPaint) (xs : List BlockPaint) (row column : ℕ) → validKey m (x .key) ≡ true → allValid m xs ≡ true → apartFromAll m x xs ≡ true
     → inBlock m (x .key) row column ≡ true → inSomePaint m xs row column ≡ false
 unfolding allValid apartFromAll inSomePaint
 alone m x [] row column v vs h e = refl
@@ -46,7 +46,7 @@ alone m x (y ∷ ys) row column v vs h e =
     ∙ alone m x ys row column v (and-right (validKey m (y .key)) (allValid m ys) vs) (and-right (apart m x y) (apartFromAll m x ys) h) e
 
 -- where x comes first, and the others are apart from it, the pixels of its block have its feature
-first-wins : (m : ℕ) (p : Picture) (x : Paint) (xs : List Paint) (row column : ℕ) → allValid m (x ∷ xs) ≡ true → allApart m (x ∷ xs) ≡ true
+first-wins : (m : ℕ) (p : Picture) (x : BlockPaint) (xs : List BlockPaint) (row column : ℕ) → allValid m (x ∷ xs) ≡ true → allApart m (x ∷ xs) ≡ true
     → inBlock m (x .key) row column ≡ true → inTurn m p (x ∷ xs) row column ≡ x .feature
 unfolding inTurn allValid allApart
 first-wins m p x xs row column v h e =
@@ -56,7 +56,7 @@ first-wins m p x xs row column v h e =
     ∙ paint-inside m (x .key) (x .feature) p row column e
 
 -- and so wherever it comes
-pub wins : (m : ℕ) (p : Picture) (x : Paint) (xs : List Paint) (row column : ℕ) → allValid m xs ≡ true → allApart m xs ≡ true → 1 ≤ timesIn x xs
+pub wins : (m : ℕ) (p : Picture) (x : BlockPaint) (xs : List BlockPaint) (row column : ℕ) → allValid m xs ≡ true → allApart m xs ≡ true → 1 ≤ timesIn x xs
     → inBlock m (x .key) row column ≡ true → inTurn m p xs row column ≡ x .feature
 wins m p x xs row column v h comes e =
     let at = found x xs comes in
@@ -66,7 +66,7 @@ wins m p x xs row column v h comes e =
     ∙ first-wins m p x (at .rest) row column (valid-swapped m d v) (apart-swapped m d h) e
 
 -- a valid block of a run
-its-valid : (m : ℕ) (x : Paint) (xs : List Paint) → allValid m xs ≡ true → 1 ≤ timesIn x xs → validKey m (x .key) ≡ true
+its-valid : (m : ℕ) (x : BlockPaint) (xs : List BlockPaint) → allValid m xs ≡ true → 1 ≤ timesIn x xs → validKey m (x .key) ≡ true
 unfolding allValid
 its-valid m x xs v comes =
     let at = found x xs comes in
@@ -74,7 +74,7 @@ its-valid m x xs v comes =
     and-left (validKey m (x .key)) (allValid m (at .rest)) (valid-swapped m d v)
 
 -- a run of paints, every pair apart, that is accepted in full leaves the first raster with all the paints
-pub all-paints : (m s : ℕ) (b : Buffers) (xs : List Paint) → allApart m xs ≡ true → inFull m s b xs ≡ true
+pub all-paints : (m s : ℕ) (b : Buffers) (xs : List BlockPaint) → allApart m xs ≡ true → inFull m s b xs ≡ true
     → AllPaints m xs (pictureIn m b) (pictureIn m (afterPaints m s b xs))
 unfolding asCalls afterCalls
 all-paints m s b [] h i = record {

@@ -16,7 +16,7 @@ use Rattle.keys.proofs.Valid.{valid-block}
 use Rattle.keys.proofs.Pixel.{InSquare, inside}
 use Rattle.keys.proofs.InBlock.{inBlock-iff}
 use Rattle.keys.proofs.Ancestor.{ancestor-iff}
-use Rattle.order.specs.Paint.{Paint}
+use Rattle.order.specs.Paint.{BlockPaint}
 use Rattle.order.specs.Apart.{apart}
 
 -- what being apart says of two keys
@@ -25,7 +25,7 @@ pub record ApartKeys (m a b : ℕ) : Type 0 where
   pub above : isAncestor m a b ≡ false
   pub below : isAncestor m b a ≡ false
 
-pub apart-to : (m : ℕ) (x y : Paint) → apart m x y ≡ true → ApartKeys m (x .key) (y .key)
+pub apart-to : (m : ℕ) (x y : BlockPaint) → apart m x y ≡ true → ApartKeys m (x .key) (y .key)
 unfolding apart
 apart-to m x y e =
     let a : Bool = not (eqb (x .key) (y .key)) in
@@ -38,7 +38,7 @@ apart-to m x y e =
       below = not-true _ (and-right b c rest);
     }
 
-pub apart-from : (m : ℕ) (x y : Paint) → ApartKeys m (x .key) (y .key) → apart m x y ≡ true
+pub apart-from : (m : ℕ) (x y : BlockPaint) → ApartKeys m (x .key) (y .key) → apart m x y ≡ true
 unfolding apart
 apart-from m x y h =
     and-both (not (eqb (x .key) (y .key))) (not (isAncestor m (x .key) (y .key)) && not (isAncestor m (y .key) (x .key)))
@@ -46,7 +46,7 @@ apart-from m x y h =
     (and-both (not (isAncestor m (x .key) (y .key))) (not (isAncestor m (y .key) (x .key))) (ap not (h .above)) (ap not (h .below)))
 
 -- being apart goes both ways
-pub apart-flip : (m : ℕ) (x y : Paint) → apart m x y ≡ true → apart m y x ≡ true
+pub apart-flip : (m : ℕ) (x y : BlockPaint) → apart m x y ≡ true → apart m y x ≡ true
 apart-flip m x y e =
     let h = apart-to m x y e in
     apart-from m y x (record { other = λ same. h .other (sym same); above = h .below; below = h .above })
@@ -102,7 +102,7 @@ not-above m a b valid-a valid-b h =
     (λ e. e)
 
 -- paints of blocks are apart exactly when no pixel is in both blocks
-pub apart-means : (m : ℕ) (x y : Paint) → validKey m (x .key) ≡ true → validKey m (y .key) ≡ true → (apart m x y ≡ true) ↔ Disjoint m (x .key) (y .key)
+pub apart-means : (m : ℕ) (x y : BlockPaint) → validKey m (x .key) ≡ true → validKey m (y .key) ≡ true → (apart m x y ≡ true) ↔ Disjoint m (x .key) (y .key)
 apart-means m x y valid-x valid-y = (
   (λ e. apart-disjoint m (x .key) (y .key) valid-x valid-y (apart-to m x y e)),
   (λ h. apart-from m x y (record {

@@ -20,20 +20,20 @@ use Rattle.definitions.specs.Log.{closed, entryOf, countRecord, lastRecord, las
 use Rattle.definitions.specs.Calls.Survey.{surveyRefusal, survey, surveyKeys, surveyBits, surveySummary}
 use Rattle.definitions.specs.Calls.Paint.{painted, gained, paintRefusal, paint, paintKeys, paintBits, paintSummary, paintLogKeys, paintLogValues}
 use Rattle.history.specs.History.{Buffers, built, answer, after, afterCalls}
-use Rattle.order.specs.Paint.{Paint}
+use Rattle.order.specs.Paint.{BlockPaint}
 use Rattle.order.specs.Apart.{apart}
 use Rattle.order.specs.Either.{asCall, asCalls, SameSheet, afterPaints}
 
-abbrev paintOf : ℕ → ℕ → Paint
+abbrev paintOf : ℕ → ℕ → BlockPaint
 paintOf κ f = record { key = κ; feature = f }
 
 -- the refusal numbers of two paints, one after the other
-abbrev answersTo : ℕ → ℕ → Buffers → Paint → Paint → List ℕ
+abbrev answersTo : ℕ → ℕ → Buffers → BlockPaint → BlockPaint → List ℕ
 answersTo m s b x y = answer m s b (asCall x) ∷ answer m s (after m s b (asCall x)) (asCall y) ∷ []
 
 -- what comes of two paints on a sheet in either order: whether they are apart, the answers and the numbers of records of each order, and that the
 -- sheets are not the same
-record Unlike (m s : ℕ) (b : Buffers) (x y : Paint) (isApart : Bool) (answers answers′ : List ℕ) (n n′ : ℕ) : Type 0 where
+record Unlike (m s : ℕ) (b : Buffers) (x y : BlockPaint) (isApart : Bool) (answers answers′ : List ℕ) (n n′ : ℕ) : Type 0 where
   apartness : apart m x y ≡ isApart
   answered : answersTo m s b x y ≡ answers
   answered′ : answersTo m s b y x ≡ answers′

@@ -18,7 +18,7 @@ use Rattle.definitions.specs.Log.{closed, entryOf}
 use Rattle.definitions.specs.Calls.Paint.{gained}
 use Rattle.laws.proofs.ListOf.{list-agree}
 use Rattle.history.specs.History.{Buffers, ofBlock, loggedBy, answer, after, afterCalls}
-use Rattle.order.specs.Paint.{Paint}
+use Rattle.order.specs.Paint.{BlockPaint}
 use Rattle.history.proofs.Content.{gained-entry}
 use Rattle.history.proofs.Drawn.{paint-outside}
 use Rattle.history.proofs.PaintStep.{paint-done}
@@ -40,17 +40,17 @@ entry-stays m a f b g p valid h =
     (λ row column square. paint-outside m a f p row column (disjoint-flip m a b h row column (inBlock-iff row column block .1 square))))
 
 -- the places of the entries of a run, each of the picture that it found
-unfoldable pub placesInTurn : ℕ → Picture → List Paint → ℕ
+unfoldable pub placesInTurn : ℕ → Picture → List BlockPaint → ℕ
 placesInTurn m p [] = 0
 placesInTurn m p (x ∷ xs) = length (entryOf m p (x .key) (x .feature)) + placesInTurn m (paintIn m (x .key) (x .feature) p) xs
 
 -- the same, each of the first picture
-unfoldable pub placesAtOnce : ℕ → Picture → List Paint → ℕ
+unfoldable pub placesAtOnce : ℕ → Picture → List BlockPaint → ℕ
 placesAtOnce m p [] = 0
 placesAtOnce m p (x ∷ xs) = length (entryOf m p (x .key) (x .feature)) + placesAtOnce m p xs
 
 -- a paint leaves the places of paints that are apart from it
-places-stay : (m : ℕ) (p : Picture) (x : Paint) (xs : List Paint) → validKey m (x .key) ≡ true → allValid m xs ≡ true → apartFromAll m x xs ≡ true
+places-stay : (m : ℕ) (p : Picture) (x : BlockPaint) (xs : List BlockPaint) → validKey m (x .key) ≡ true → allValid m xs ≡ true → apartFromAll m x xs ≡ true
     → placesAtOnce m (paintIn m (x .key) (x .feature) p) xs ≡ placesAtOnce m p xs
 unfolding placesAtOnce allValid apartFromAll
 places-stay m p x [] v vs h = refl
@@ -61,7 +61,7 @@ places-stay m p x (y ∷ ys) v vs h =
     (places-stay m p x ys v (and-right (validKey m (y .key)) (allValid m ys) vs) (and-right (apart m x y) (apartFromAll m x ys) h))
 
 -- so the picture that an entry found does not tell in its length
-in-turn-at-once : (m : ℕ) (p : Picture) (xs : List Paint) → allValid m xs ≡ true → allApart m xs ≡ true → placesInTurn m p xs ≡ placesAtOnce m p xs
+in-turn-at-once : (m : ℕ) (p : Picture) (xs : List BlockPaint) → allValid m xs ≡ true → allApart m xs ≡ true → placesInTurn m p xs ≡ placesAtOnce m p xs
 unfolding placesInTurn placesAtOnce allValid allApart
 in-turn-at-once m p [] v h = refl
 in-turn-at-once m p (x ∷ xs) v h =
@@ -72,7 +72,7 @@ in-turn-at-once m p (x ∷ xs) v h =
     ∙ places-stay m p x xs valid rest (and-left (apartFromAll m x xs) (allApart m xs) h))
 
 -- and no more does the order
-places-swapped : (m : ℕ) (p : Picture) {xs ys : List Paint} → Swapped xs ys → placesAtOnce m p xs ≡ placesAtOnce m p ys
+places-swapped : (m : ℕ) (p : Picture) {xs ys : List BlockPaint} → Swapped xs ys → placesAtOnce m p xs ≡ placesAtOnce m p ys
 unfolding placesAtOnce
 places-swapped m p none = refl
 places-swapped m p (further {x = x} d) = ap (λ n. length (entryOf m p (x .key) (x .feature)) + n) (places-swapped m p d)
@@ -80,7 +80,7 @@ places-swapped m p (swap {x = x} {y = y} {xs = xs}) = omega arith
 places-swapped m p (and-then d e) = places-swapped m p d ∙ places-swapped m p e
 
 -- so a rearrangement of paints, every pair apart, needs as many places
-pub places-either : (m : ℕ) (p : Picture) (xs ys : List Paint) → Rearranged xs ys → allValid m xs ≡ true → allApart m xs ≡ true
+pub places-either : (m : ℕ) (p : Picture) (xs ys : List BlockPaint) → Rearranged xs ys → allValid m xs ≡ true → allApart m xs ≡ true
     → placesInTurn m p xs ≡ placesInTurn m p ys
 places-either m p xs ys r v h =
     let d = times-swapped xs ys r in
@@ -88,7 +88,7 @@ places-either m p xs ys r v h =
 
 module _ (m s : ℕ) where
   -- an accepted paint puts its entry in force
-  one-longer : (b : Buffers) (p : Picture) (x : Paint) → recordsOn b ≡ listOfPicture m p → answer m s b (asCall x) ≡ 0
+  one-longer : (b : Buffers) (p : Picture) (x : BlockPaint) → recordsOn b ≡ listOfPicture m p → answer m s b (asCall x) ≡ 0
       → after m s b (asCall x) .inForce ≡ b .inForce + length (entryOf m p (x .key) (x .feature))
   unfolding loggedBy gained
   one-longer b p x e accepted =
@@ -97,7 +97,7 @@ module _ (m s : ℕ) where
       (ap (λ l. gained m l (x .key) (x .feature)) e ∙ gained-entry m (x .key) (x .feature) p (accepted-valid m s b x accepted))
 
   -- a run puts its entries in force
-  pub run-longer : (b : Buffers) (p : Picture) (xs : List Paint) → recordsOn b ≡ listOfPicture m p → inFull m s b xs ≡ true
+  pub run-longer : (b : Buffers) (p : Picture) (xs : List BlockPaint) → recordsOn b ≡ listOfPicture m p → inFull m s b xs ≡ true
       → afterPaints m s b xs .inForce ≡ b .inForce + placesInTurn m p xs
   unfolding asCalls afterCalls placesInTurn
   run-longer b p [] e h = omega arith
@@ -108,7 +108,7 @@ module _ (m s : ℕ) where
       omega arith
 
   -- any rearrangement of paints, every pair apart, leaves as many places in force, where both orders are accepted in full
-  pub either-log-length : (b : Buffers) (xs ys : List Paint) → Rearranged xs ys → allApart m xs ≡ true → inFull m s b xs ≡ true → inFull m s b ys ≡ true
+  pub either-log-length : (b : Buffers) (xs ys : List BlockPaint) → Rearranged xs ys → allApart m xs ≡ true → inFull m s b xs ≡ true → inFull m s b ys ≡ true
       → afterPaints m s b xs .inForce ≡ afterPaints m s b ys .inForce
   either-log-length b [] [] r h i j = refl
   either-log-length b [] (y ∷ ys) r h i j = absurd (not-none y ys r)

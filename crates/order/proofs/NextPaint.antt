@@ -20,7 +20,7 @@ use Rattle.laws.proofs.First.{first-this}
 use Rattle.laws.proofs.ListOf.{list-agree}
 use Rattle.laws.proofs.Pixels.{Agree}
 use Rattle.history.specs.History.{Call, Buffers, answer, pictureLeft}
-use Rattle.order.specs.Paint.{Paint}
+use Rattle.order.specs.Paint.{BlockPaint}
 use Rattle.history.specs.Claim.{paintAnswer}
 use Rattle.history.proofs.Content.{entry-agree}
 use Rattle.history.proofs.Drawn.{paint-agree}
@@ -52,9 +52,9 @@ answer-agree m s p q roomOfList roomOfLog inForce κ f h =
 
 module _ (m s : ℕ) (raster keys bits summary logKeys logValues : List ℕ) (accepted : surveyRefusal m s raster keys bits summary ≡ 0) (before : List Call) where
   -- after two orders that were accepted in full every further paint is answered alike
-  pub next-alike : (xs ys : List Paint) → Rearranged xs ys → allApart m xs ≡ true → inFull m s (sheetAfter m s raster keys bits summary logKeys logValues before) xs ≡ true
+  pub next-alike : (xs ys : List BlockPaint) → Rearranged xs ys → allApart m xs ≡ true → inFull m s (sheetAfter m s raster keys bits summary logKeys logValues before) xs ≡ true
       → inFull m s (sheetAfter m s raster keys bits summary logKeys logValues before) ys ≡ true
-      → (x : Paint)
+      → (x : BlockPaint)
       → answer m s (afterPaints m s (sheetAfter m s raster keys bits summary logKeys logValues before) xs) (asCall x)
       ≡ answer m s (afterPaints m s (sheetAfter m s raster keys bits summary logKeys logValues before) ys) (asCall x)
   next-alike xs ys r h i j x =

@@ -8,7 +8,7 @@ use Rattle.definitions.specs.Read.{pictureOf}
 use Rattle.definitions.specs.Calls.Survey.{surveyRefusal}
 use Rattle.laws.proofs.Pixels.{Agree}
 use Rattle.history.specs.History.{Call, Buffers, Kept, nothing, built, after, afterCalls, kept, longestList, longestLog}
-use Rattle.order.specs.Paint.{Paint}
+use Rattle.order.specs.Paint.{BlockPaint}
 use Rattle.history.specs.Claim.{AsBuilt}
 use Rattle.history.proofs.Content.{map-back}
 use Rattle.history.proofs.Theorem.{history}
@@ -31,11 +31,11 @@ module _ (m s : ℕ) (raster keys bits summary logKeys logValues : List ℕ) whe
   sheetAfter before = afterCalls m s (built m s raster keys bits summary logKeys logValues) before
 
   -- the paints kept after these calls and a run of paints
-  abbrev pub keptAfter : List Call → List Paint → Kept
+  abbrev pub keptAfter : List Call → List BlockPaint → Kept
   keptAfter before xs = kept m s (built m s raster keys bits summary logKeys logValues) nothing (before ++ asCalls xs)
 
   -- the history theorem, of a run of paints on the sheet
-  pub after-history : surveyRefusal m s raster keys bits summary ≡ 0 → (before : List Call) (xs : List Paint)
+  pub after-history : surveyRefusal m s raster keys bits summary ≡ 0 → (before : List Call) (xs : List BlockPaint)
       → AsBuilt m s raster keys bits summary logKeys logValues (afterPaints m s (sheetAfter before) xs) (keptAfter before xs)
       (longestList m s (built m s raster keys bits summary logKeys logValues) (before ++ asCalls xs))
       (longestLog m s (built m s raster keys bits summary logKeys logValues) (before ++ asCalls xs))

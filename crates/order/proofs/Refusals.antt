@@ -17,7 +17,7 @@ use Rattle.definitions.specs.Refusal.{Row, _gives_, first, badKey, badFeature}
 use Rattle.definitions.specs.Calls.Survey.{surveyRefusal}
 use Rattle.laws.proofs.First.{first-this, first-later, first-end}
 use Rattle.history.specs.History.{Call, Buffers, nothing, built, answer, afterCalls, kept, pictureLeft}
-use Rattle.order.specs.Paint.{Paint}
+use Rattle.order.specs.Paint.{BlockPaint}
 use Rattle.history.specs.Claim.{paintAnswer}
 use Rattle.history.proofs.Theorem.{history}
 use Rattle.order.specs.Either.{asCall, isOfRoom, sameButRoom}
@@ -68,7 +68,7 @@ answers-differ m s p q inList inLog used used′ κ f =
 
 -- from an accepted build, a paint after any calls and the same paint after any others are answered the same, or differ by room alone
 pub refusals-differ : (m s : ℕ) (raster keys bits summary logKeys logValues : List ℕ) → surveyRefusal m s raster keys bits summary ≡ 0
-    → (calls calls′ : List Call) (x : Paint)
+    → (calls calls′ : List Call) (x : BlockPaint)
     → sameButRoom (answer m s (afterCalls m s (built m s raster keys bits summary logKeys logValues) calls) (asCall x))
     (answer m s (afterCalls m s (built m s raster keys bits summary logKeys logValues) calls′) (asCall x))
     ≡ true

@@ -21,7 +21,7 @@ use Rattle.laws.proofs.First.{first-later, first-end}
 use Rattle.laws.proofs.ListOf.{list-most}
 use Rattle.laws.proofs.Pixels.{Agree}
 use Rattle.history.specs.History.{Call, Buffers, answer, after, afterCalls, pictureLeft}
-use Rattle.order.specs.Paint.{Paint}
+use Rattle.order.specs.Paint.{BlockPaint}
 use Rattle.history.specs.Claim.{paintAnswer}
 use Rattle.history.proofs.Content.{entry-agree}
 use Rattle.order.specs.Rearranged.{timesIn, Rearranged, Swapped, none, further, swap, and-then}
@@ -33,14 +33,14 @@ use Rattle.order.proofs.LogLength.{placesInTurn, places-either, run-lon
 use Rattle.order.proofs.OnASheet.{one-list, sheetAfter, keptAfter, after-history}
 
 -- a paint that is not refused by its own key and feature
-abbrev good : ℕ → ℕ → Paint → Bool
+abbrev good : ℕ → ℕ → BlockPaint → Bool
 good m s x = validKey m (x .key) && not (badFeature s (x .feature))
 
-unfoldable allGood : ℕ → ℕ → List Paint → Bool
+unfoldable allGood : ℕ → ℕ → List BlockPaint → Bool
 allGood m s [] = true
 allGood m s (x ∷ xs) = good m s x && allGood m s xs
 
-good-swapped : (m s : ℕ) {xs ys : List Paint} → Swapped xs ys → allGood m s xs ≡ true → allGood m s ys ≡ true
+good-swapped : (m s : ℕ) {xs ys : List BlockPaint} → Swapped xs ys → allGood m s xs ≡ true → allGood m s ys ≡ true
 unfolding allGood
 good-swapped m s none h = h
 good-swapped m s (further {x = x} {xs = xs} {ys = ys} d) h =
@@ -52,12 +52,12 @@ good-swapped m s (swap {x = x} {y = y} {xs = xs}) h =
 good-swapped m s (and-then d e) h = good-swapped m s e (good-swapped m s d h)
 
 -- wherever it comes in the run
-good-at : (m s : ℕ) (front : List Paint) (y : Paint) (back : List Paint) → allGood m s (front ++ (y ∷ back)) ≡ true → good m s y ≡ true
+good-at : (m s : ℕ) (front : List BlockPaint) (y : BlockPaint) (back : List BlockPaint) → allGood m s (front ++ (y ∷ back)) ≡ true → good m s y ≡ true
 unfolding allGood
 good-at m s [] y back h = and-left (good m s y) (allGood m s back) h
 good-at m s (x ∷ front) y back h = good-at m s front y back (and-right (good m s x) (allGood m s (front ++ (y ∷ back))) h)
 
-in-full-good : (m s : ℕ) (b : Buffers) (xs : List Paint) → inFull m s b xs ≡ true → allGood m s xs ≡ true
+in-full-good : (m s : ℕ) (b : Buffers) (xs : List BlockPaint) → inFull m s b xs ≡ true → allGood m s xs ≡ true
 unfolding allGood
 in-full-good m s b [] h = refl
 in-full-good m s b (x ∷ xs) h =
@@ -67,13 +67,13 @@ in-full-good m s b (x ∷ xs) h =
     (in-full-good m s (after m s b (asCall x)) xs (rest-in-full m s b x xs h))
 
 -- the places of a run are those of its two parts
-places-append : (m : ℕ) (p : Picture) (front back : List Paint) → placesInTurn m p (front ++ back) ≡ placesInTurn m p front + placesInTurn m (inTurn m p front) back
+places-append : (m : ℕ) (p : Picture) (front back : List BlockPaint) → placesInTurn m p (front ++ back) ≡ placesInTurn m p front + placesInTurn m (inTurn m p front) back
 unfolding placesInTurn inTurn
 places-append m p [] back = omega arith
 places-append m p (x ∷ front) back = let e = places-append m (paintIn m (x .key) (x .feature) p) front back in omega arith
 
 -- the first paint of a run needs no more than the run
-first-places : (m : ℕ) (p : Picture) (y : Paint) (back : List Paint) → length (entryOf m p (y .key) (y .feature)) ≤ placesInTurn m p (y ∷ back)
+first-places : (m : ℕ) (p : Picture) (y : BlockPaint) (back : List BlockPaint) → length (entryOf m p (y .key) (y .feature)) ≤ placesInTurn m p (y ∷ back)
 unfolding placesInTurn
 first-places m p y back = omega arith
 
@@ -90,13 +90,13 @@ by-list m s p roomOfList roomOfLog inForce κ f key feature fits =
     first-later _ _ key ∙ first-later _ _ feature ∙ first-later _ _ (le-ltb roomOfLog (inForce + length (entryOf m p κ f)) fits)
 
 -- a run with one paint more
-one-more : (m s : ℕ) (b : Buffers) (front : List Paint) (y : Paint) → afterPaints m s b (front ++ (y ∷ [])) ≡ after m s (afterPaints m s b front) (asCall y)
+one-more : (m s : ℕ) (b : Buffers) (front : List BlockPaint) (y : BlockPaint) → afterPaints m s b (front ++ (y ∷ [])) ≡ after m s (afterPaints m s b front) (asCall y)
 unfolding asCalls afterCalls
 one-more m s b [] y = refl
 one-more m s b (x ∷ front) y = one-more m s (after m s b (asCall x)) front y
 
 -- is accepted in full where the run is and then the paint
-in-full-more : (m s : ℕ) (b : Buffers) (front : List Paint) (y : Paint) → inFull m s b front ≡ true → answer m s (afterPaints m s b front) (asCall y) ≡ 0
+in-full-more : (m s : ℕ) (b : Buffers) (front : List BlockPaint) (y : BlockPaint) → inFull m s b front ≡ true → answer m s (afterPaints m s b front) (asCall y) ≡ 0
     → inFull m s b (front ++ (y ∷ [])) ≡ true
 unfolding inFull asCalls afterCalls
 in-full-more m s b [] y h e = and-both (eqb (answer m s b (asCall y)) 0) true (eq-eqb _ 0 e) refl
@@ -111,20 +111,20 @@ module _ (m s : ℕ) (raster keys bits summary logKeys logValues : List ℕ) (ac
   sheet = sheetAfter m s raster keys bits summary logKeys logValues before
 
   -- the picture after a run of paints on the sheet
-  abbrev left : List Paint → Picture
+  abbrev left : List BlockPaint → Picture
   left xs = pictureLeft m raster (keptAfter m s raster keys bits summary logKeys logValues before xs)
 
   first-list : recordsOn sheet ≡ listOfPicture m (left [])
   unfolding asCalls afterCalls
   first-list = after-history m s raster keys bits summary logKeys logValues accepted before [] .picture
 
-  left-agrees : (xs : List Paint) → inFull m s sheet xs ≡ true → Agree (left xs) (inTurn m (left []) xs) m 0 0
+  left-agrees : (xs : List BlockPaint) → inFull m s sheet xs ≡ true → Agree (left xs) (inTurn m (left []) xs) m 0 0
   left-agrees xs h =
       one-list m (left xs) (inTurn m (left []) xs)
       (sym (after-history m s raster keys bits summary logKeys logValues accepted before xs .picture) ∙ run-list m s sheet (left []) xs first-list h)
 
   -- the log is within its room
-  log-fits : (xs : List Paint) → afterPaints m s sheet xs .inForce ≤ room logKeys logValues
+  log-fits : (xs : List BlockPaint) → afterPaints m s sheet xs .inForce ≤ room logKeys logValues
   unfolding noLog
   log-fits xs =
       let a = after-history m s raster keys bits summary logKeys logValues accepted before xs in
@@ -140,9 +140,9 @@ module _ (m s : ℕ) (raster keys bits summary logKeys logValues : List ℕ) (ac
       let f = a .logValues-length in
       omega arith
 
-  module _ (xs : List Paint) (h : allApart m xs ≡ true) (i : inFull m s sheet xs ≡ true) where
+  module _ (xs : List BlockPaint) (h : allApart m xs ≡ true) (i : inFull m s sheet xs ≡ true) where
     -- the entry of a paint of another order has room in the log
-    entry-fits : (front : List Paint) (y : Paint) (back : List Paint) → Rearranged xs (front ++ (y ∷ back)) → inFull m s sheet front ≡ true → validKey m (y .key) ≡ true
+    entry-fits : (front : List BlockPaint) (y : BlockPaint) (back : List BlockPaint) → Rearranged xs (front ++ (y ∷ back)) → inFull m s sheet front ≡ true → validKey m (y .key) ≡ true
         → afterPaints m s sheet front .inForce + length (entryOf m (left front) (y .key) (y .feature)) ≤ room logKeys logValues
     entry-fits front y back r j valid =
         let p : Picture = left [] in
@@ -158,7 +158,7 @@ module _ (m s : ℕ) (raster keys bits summary logKeys logValues : List ℕ) (ac
         omega arith
 
     -- a paint of another order, after others of it that were accepted, is answered by the list's room alone
-    pub only-nine : (front : List Paint) (y : Paint) (back : List Paint) → Rearranged xs (front ++ (y ∷ back)) → inFull m s sheet front ≡ true
+    pub only-nine : (front : List BlockPaint) (y : BlockPaint) (back : List BlockPaint) → Rearranged xs (front ++ (y ∷ back)) → inFull m s sheet front ≡ true
         → answer m s (afterPaints m s sheet front) (asCall y)
         ≡ first (listRow (room keys bits) (length (listOfPicture m (paintIn m (y .key) (y .feature) (left front)))) ∷ [])
     only-nine front y back r j =
@@ -170,7 +170,7 @@ module _ (m s : ℕ) (raster keys bits summary logKeys logValues : List ℕ) (ac
         (ap not valid) (not-true _ below) (entry-fits front y back r j valid)
 
     -- where the list has room for any list it is accepted
-    next-accepted : 4 ^ suc m ≤ 3 * room keys bits + 1 → (front : List Paint) (y : Paint) (back : List Paint) → Rearranged xs (front ++ (y ∷ back))
+    next-accepted : 4 ^ suc m ≤ 3 * room keys bits + 1 → (front : List BlockPaint) (y : BlockPaint) (back : List BlockPaint) → Rearranged xs (front ++ (y ∷ back))
         → inFull m s sheet front ≡ true
         → answer m s (afterPaints m s sheet front) (asCall y) ≡ 0
     next-accepted ample front y back r j =
@@ -181,7 +181,7 @@ module _ (m s : ℕ) (raster keys bits summary logKeys logValues : List ℕ) (ac
         ∙ first-end
 
     -- the rest of another order is accepted, after as much of it as was accepted
-    rest-accepted : 4 ^ suc m ≤ 3 * room keys bits + 1 → (front back : List Paint) → Rearranged xs (front ++ back) → inFull m s sheet front ≡ true
+    rest-accepted : 4 ^ suc m ≤ 3 * room keys bits + 1 → (front back : List BlockPaint) → Rearranged xs (front ++ back) → inFull m s sheet front ≡ true
         → inFull m s (afterPaints m s sheet front) back ≡ true
     unfolding inFull
     rest-accepted ample front [] r j = refl
@@ -193,6 +193,6 @@ module _ (m s : ℕ) (raster keys bits summary logKeys logValues : List ℕ) (ac
         (rest-accepted ample (front ++ (y ∷ [])) back (λ z. r z ∙ ap (timesIn z) (sym (append-assoc front (y ∷ []) back))) (in-full-more m s sheet front y j e)))
 
     -- every order of the paints is accepted in full where one is, if the list has room for any list
-    pub every-order : 4 ^ suc m ≤ 3 * room keys bits + 1 → (ys : List Paint) → Rearranged xs ys → inFull m s sheet ys ≡ true
+    pub every-order : 4 ^ suc m ≤ 3 * room keys bits + 1 → (ys : List BlockPaint) → Rearranged xs ys → inFull m s sheet ys ≡ true
     unfolding inFull asCalls afterCalls
     every-order ample ys r = rest-accepted ample [] ys r refl

@@ -20,7 +20,7 @@ use Rattle.definitions.specs.Calls.Paint.{paintedPicture, painted, gained, pain
 use Rattle.laws.proofs.First.{first-none}
 use Rattle.laws.proofs.IsList.{same-to}
 use Rattle.history.specs.History.{Buffers, ofBlock, painting, applied, answer, after, afterCalls}
-use Rattle.order.specs.Paint.{Paint}
+use Rattle.order.specs.Paint.{BlockPaint}
 use Rattle.history.proofs.Content.{painted-list, painted-summary}
 use Rattle.history.proofs.Shown.{shown-records, shown-replaced}
 use Rattle.history.proofs.PaintStep.{listAfter, paint-done}
@@ -60,13 +60,13 @@ shown-list m s keys bits n e =
     same-to l own (and-left (sameRecords l own) below (and-right (leb n (room keys bits)) (sameRecords l own && below) e))
 
 -- the list and the summary of a picture stand on the sheet
-pub record Shows (m s : ℕ) (b : Buffers) (p : Picture) : Type 0 where
+pub record SheetShows (m s : ℕ) (b : Buffers) (p : Picture) : Type 0 where
   pub count : b .n ≡ length (listOfPicture m p)
   pub list : recordsOn b ≡ listOfPicture m p
   pub summary : b .summary ≡ summaryOf m s p
 
 -- sheets that show one picture have the same list and summary
-pub shows-same : (m s : ℕ) (b b′ : Buffers) (p q : Picture) → Shows m s b p → Shows m s b′ q → p ≡ q → SameSheet b b′
+pub shows-same : (m s : ℕ) (b b′ : Buffers) (p q : Picture) → SheetShows m s b p → SheetShows m s b′ q → p ≡ q → SameSheet b b′
 shows-same m s b b′ p q h j e = record {
   count = h .count ∙ ap (λ r. length (listOfPicture m r)) e ∙ sym (j .count);
   list = h .list ∙ ap (listOfPicture m) e ∙ sym (j .list);
@@ -75,44 +75,44 @@ shows-same m s b b′ p q h j e = record {
 
 module _ (m s : ℕ) where
   -- an accepted paint leaves the list and the summary of the painted picture
-  pub paint-shows : (b : Buffers) (p : Picture) (x : Paint) → recordsOn b ≡ listOfPicture m p → answer m s b (asCall x) ≡ 0
-      → Shows m s (after m s b (asCall x)) (paintIn m (x .key) (x .feature) p)
+  pub paint-shows : (b : Buffers) (p : Picture) (x : BlockPaint) → recordsOn b ≡ listOfPicture m p → answer m s b (asCall x) ≡ 0
+      → SheetShows m s (after m s b (asCall x)) (paintIn m (x .key) (x .feature) p)
   unfolding applied painted
   paint-shows b p x e accepted =
       let κ : ℕ = x .key in
       let f : ℕ = x .feature in
       let l : List Record = listAfter m b (ofBlock κ f) in
       let is : l ≡ listOfPicture m (paintIn m κ f p) = ap (λ l′. painted m l′ κ f) e ∙ painted-list m κ f p in
-      subst (λ b′. Shows m s b′ (paintIn m κ f p)) (sym (paint-done m s b (ofBlock κ f) accepted)) (record {
+      subst (λ b′. SheetShows m s b′ (paintIn m κ f p)) (sym (paint-done m s b (ofBlock κ f) accepted)) (record {
         count = ap length is;
         list = shown-records (shown-replaced (b .n) l (b .keys) (b .bits)) ∙ is;
         summary = ap (λ l′. summaryOf m s (paintedPicture m l′ κ f)) e ∙ painted-summary m s κ f p;
       })
 
   -- buffers that a paint was accepted on have the list of the picture that they show
-  pub accepted-list : (b : Buffers) (x : Paint) → answer m s b (asCall x) ≡ 0 → recordsOn b ≡ listOfPicture m (pictureIn m b)
+  pub accepted-list : (b : Buffers) (x : BlockPaint) → answer m s b (asCall x) ≡ 0 → recordsOn b ≡ listOfPicture m (pictureIn m b)
   accepted-list b x e = shown-list m s (b .keys) (b .bits) (b .n) (passed m s b (x .key) (x .feature) e .list)
 
   -- and its key was valid
-  pub accepted-valid : (b : Buffers) (x : Paint) → answer m s b (asCall x) ≡ 0 → validKey m (x .key) ≡ true
+  pub accepted-valid : (b : Buffers) (x : BlockPaint) → answer m s b (asCall x) ≡ 0 → validKey m (x .key) ≡ true
   accepted-valid b x e = passed m s b (x .key) (x .feature) e .valid
 
   -- and its feature below s
-  pub accepted-below : (b : Buffers) (x : Paint) → answer m s b (asCall x) ≡ 0 → badFeature s (x .feature) ≡ false
+  pub accepted-below : (b : Buffers) (x : BlockPaint) → answer m s b (asCall x) ≡ 0 → badFeature s (x .feature) ≡ false
   accepted-below b x e = passed m s b (x .key) (x .feature) e .below
 
   -- the first paint of a run that is accepted in full is accepted
-  pub first-accepted : (b : Buffers) (x : Paint) (xs : List Paint) → inFull m s b (x ∷ xs) ≡ true → answer m s b (asCall x) ≡ 0
+  pub first-accepted : (b : Buffers) (x : BlockPaint) (xs : List BlockPaint) → inFull m s b (x ∷ xs) ≡ true → answer m s b (asCall x) ≡ 0
   unfolding inFull
   first-accepted b x xs h = eqb-true _ 0 (and-left (eqb (answer m s b (asCall x)) 0) (inFull m s (after m s b (asCall x)) xs) h)
 
   -- and so is the rest of the run
-  pub rest-in-full : (b : Buffers) (x : Paint) (xs : List Paint) → inFull m s b (x ∷ xs) ≡ true → inFull m s (after m s b (asCall x)) xs ≡ true
+  pub rest-in-full : (b : Buffers) (x : BlockPaint) (xs : List BlockPaint) → inFull m s b (x ∷ xs) ≡ true → inFull m s (after m s b (asCall x)) xs ≡ true
   unfolding inFull
   rest-in-full b x xs h = and-right (eqb (answer m s b (asCall x)) 0) (inFull m s (after m s b (asCall x)) xs) h
 
   -- its blocks are blocks
-  pub in-full-valid : (b : Buffers) (xs : List Paint) → inFull m s b xs ≡ true → allValid m xs ≡ true
+  pub in-full-valid : (b : Buffers) (xs : List BlockPaint) → inFull m s b xs ≡ true → allValid m xs ≡ true
   unfolding allValid
   in-full-valid b [] h = refl
   in-full-valid b (x ∷ xs) h =
@@ -121,7 +121,7 @@ module _ (m s : ℕ) where
       (in-full-valid (after m s b (asCall x)) xs (rest-in-full b x xs h))
 
   -- a run on a sheet that shows a picture leaves one that shows the picture with the paints in turn
-  more-shows : (b : Buffers) (p : Picture) (xs : List Paint) → Shows m s b p → inFull m s b xs ≡ true → Shows m s (afterPaints m s b xs) (inTurn m p xs)
+  more-shows : (b : Buffers) (p : Picture) (xs : List BlockPaint) → SheetShows m s b p → inFull m s b xs ≡ true → SheetShows m s (afterPaints m s b xs) (inTurn m p xs)
   unfolding asCalls afterCalls inTurn
   more-shows b p [] h e = h
   more-shows b p (x ∷ xs) h e =
@@ -129,7 +129,7 @@ module _ (m s : ℕ) where
       (paint-shows b p x (h .list) (first-accepted b x xs e)) (rest-in-full b x xs e)
 
   -- a run on a picture's list leaves the list of the picture with the paints in turn
-  pub run-list : (b : Buffers) (p : Picture) (xs : List Paint) → recordsOn b ≡ listOfPicture m p → inFull m s b xs ≡ true
+  pub run-list : (b : Buffers) (p : Picture) (xs : List BlockPaint) → recordsOn b ≡ listOfPicture m p → inFull m s b xs ≡ true
       → recordsOn (afterPaints m s b xs) ≡ listOfPicture m (inTurn m p xs)
   unfolding asCalls afterCalls inTurn
   run-list b p [] e h = e
@@ -137,8 +137,8 @@ module _ (m s : ℕ) where
       run-list (after m s b (asCall x)) (paintIn m (x .key) (x .feature) p) xs (paint-shows b p x e (first-accepted b x xs h) .list) (rest-in-full b x xs h)
 
   -- a run of paints that is accepted in full, on any buffers, leaves the list and the summary of their picture with the paints in turn
-  pub run-shows : (b : Buffers) (x : Paint) (xs : List Paint) → inFull m s b (x ∷ xs) ≡ true
-      → Shows m s (afterPaints m s b (x ∷ xs)) (inTurn m (pictureIn m b) (x ∷ xs))
+  pub run-shows : (b : Buffers) (x : BlockPaint) (xs : List BlockPaint) → inFull m s b (x ∷ xs) ≡ true
+      → SheetShows m s (afterPaints m s b (x ∷ xs)) (inTurn m (pictureIn m b) (x ∷ xs))
   unfolding asCalls afterCalls inTurn
   run-shows b x xs h =
       let accepted = first-accepted b x xs h in

@@ -9,7 +9,7 @@ use Rattle.keys.specs.Block.{inBlock}
 use Rattle.keys.proofs.Cases.{decide, and-left, and-right, and-both}
 use Rattle.definitions.specs.Picture.{Picture}
 use Rattle.definitions.specs.Edit.{paintIn}
-use Rattle.order.specs.Paint.{Paint}
+use Rattle.order.specs.Paint.{BlockPaint}
 use Rattle.history.proofs.Drawn.{paint-inside, paint-outside}
 use Rattle.order.specs.Rearranged.{Rearranged, Swapped, none, further, swap, and-then}
 use Rattle.order.specs.Apart.{apart, apartFromAll, allApart, allValid}
@@ -35,7 +35,7 @@ paints-swap m a f b g p h = fun-ext (λ row. fun-ext (λ column. at-pixel row co
         ∙ sym (paint-outside m a f (paintIn m b g p) row column o ∙ paint-outside m b g p row column o′)))
 
 -- a swap keeps the blocks of a run valid
-pub valid-swapped : (m : ℕ) {xs ys : List Paint} → Swapped xs ys → allValid m xs ≡ true → allValid m ys ≡ true
+pub valid-swapped : (m : ℕ) {xs ys : List BlockPaint} → Swapped xs ys → allValid m xs ≡ true → allValid m ys ≡ true
 unfolding allValid
 valid-swapped m none h = h
 valid-swapped m (further {x = x} {xs = xs} {ys = ys} d) h =
@@ -50,7 +50,7 @@ valid-swapped m (swap {x = x} {y = y} {xs = xs}) h =
 valid-swapped m (and-then d e) h = valid-swapped m e (valid-swapped m d h)
 
 -- and a paint apart from all of it
-from-all-swapped : (m : ℕ) (z : Paint) {xs ys : List Paint} → Swapped xs ys → apartFromAll m z xs ≡ true → apartFromAll m z ys ≡ true
+from-all-swapped : (m : ℕ) (z : BlockPaint) {xs ys : List BlockPaint} → Swapped xs ys → apartFromAll m z xs ≡ true → apartFromAll m z ys ≡ true
 unfolding apartFromAll
 from-all-swapped m z none h = h
 from-all-swapped m z (further {x = x} {xs = xs} {ys = ys} d) h =
@@ -66,13 +66,13 @@ from-all-swapped m z (swap {x = x} {y = y} {xs = xs}) h =
 from-all-swapped m z (and-then d e) h = from-all-swapped m z e (from-all-swapped m z d h)
 
 -- what a run of apart paints says of its first two
-record FirstTwo (m : ℕ) (x y : Paint) (xs : List Paint) : Type 0 where
+record FirstTwo (m : ℕ) (x y : BlockPaint) (xs : List BlockPaint) : Type 0 where
   two : apart m x y ≡ true
   first : apartFromAll m x xs ≡ true
   second : apartFromAll m y xs ≡ true
   rest : allApart m xs ≡ true
 
-two-to : (m : ℕ) (x y : Paint) (xs : List Paint) → allApart m (x ∷ y ∷ xs) ≡ true → FirstTwo m x y xs
+two-to : (m : ℕ) (x y : BlockPaint) (xs : List BlockPaint) → allApart m (x ∷ y ∷ xs) ≡ true → FirstTwo m x y xs
 unfolding allApart apartFromAll
 two-to m x y xs h =
     let front : Bool = apart m x y && apartFromAll m x xs in
@@ -86,7 +86,7 @@ two-to m x y xs h =
       rest = and-right (apartFromAll m y xs) (allApart m xs) b;
     }
 
-two-from : (m : ℕ) (x y : Paint) (xs : List Paint) → FirstTwo m x y xs → allApart m (x ∷ y ∷ xs) ≡ true
+two-from : (m : ℕ) (x y : BlockPaint) (xs : List BlockPaint) → FirstTwo m x y xs → allApart m (x ∷ y ∷ xs) ≡ true
 unfolding allApart apartFromAll
 two-from m x y xs h =
     and-both (apart m x y && apartFromAll m x xs) (apartFromAll m y xs && allApart m xs)
@@ -94,7 +94,7 @@ two-from m x y xs h =
     (and-both (apartFromAll m y xs) (allApart m xs) (h .second) (h .rest))
 
 -- a rearrangement keeps every pair apart
-pub apart-swapped : (m : ℕ) {xs ys : List Paint} → Swapped xs ys → allApart m xs ≡ true → allApart m ys ≡ true
+pub apart-swapped : (m : ℕ) {xs ys : List BlockPaint} → Swapped xs ys → allApart m xs ≡ true → allApart m ys ≡ true
 unfolding allApart
 apart-swapped m none h = h
 apart-swapped m (further {x = x} {xs = xs} {ys = ys} d) h =
@@ -107,17 +107,17 @@ apart-swapped m (swap {x = x} {y = y} {xs = xs}) h =
 apart-swapped m (and-then d e) h = apart-swapped m e (apart-swapped m d h)
 
 -- two valid paints that are apart leave the same picture in either order
-pub two-swap : (m : ℕ) (x y : Paint) (p : Picture) → validKey m (x .key) ≡ true → validKey m (y .key) ≡ true → apart m x y ≡ true
+pub two-swap : (m : ℕ) (x y : BlockPaint) (p : Picture) → validKey m (x .key) ≡ true → validKey m (y .key) ≡ true → apart m x y ≡ true
     → paintIn m (y .key) (y .feature) (paintIn m (x .key) (x .feature) p) ≡ paintIn m (x .key) (x .feature) (paintIn m (y .key) (y .feature) p)
 two-swap m x y p valid-x valid-y h =
     paints-swap m (x .key) (x .feature) (y .key) (y .feature) p (apart-disjoint m (x .key) (y .key) valid-x valid-y (apart-to m x y h))
 
-rest-apart : (m : ℕ) (x : Paint) (xs : List Paint) → allApart m (x ∷ xs) ≡ true → allApart m xs ≡ true
+rest-apart : (m : ℕ) (x : BlockPaint) (xs : List BlockPaint) → allApart m (x ∷ xs) ≡ true → allApart m xs ≡ true
 unfolding allApart
 rest-apart m x xs h = and-right (apartFromAll m x xs) (allApart m xs) h
 
 -- so any rearrangement of a run of them does, by swaps
-swapped-picture : (m : ℕ) {xs ys : List Paint} → Swapped xs ys → allValid m xs ≡ true → allApart m xs ≡ true → (p : Picture) → inTurn m p xs ≡ inTurn m p ys
+swapped-picture : (m : ℕ) {xs ys : List BlockPaint} → Swapped xs ys → allValid m xs ≡ true → allApart m xs ≡ true → (p : Picture) → inTurn m p xs ≡ inTurn m p ys
 unfolding inTurn allValid
 swapped-picture m none v h p = refl
 swapped-picture m (further {x = x} {xs = xs} d) v h p =
@@ -129,5 +129,5 @@ swapped-picture m (swap {x = x} {y = y} {xs = xs}) v h p =
 swapped-picture m (and-then d e) v h p = swapped-picture m d v h p ∙ swapped-picture m e (valid-swapped m d v) (apart-swapped m d h) p
 
 -- and by how often each paint comes
-pub picture-either : (m : ℕ) (xs ys : List Paint) → Rearranged xs ys → allValid m xs ≡ true → allApart m xs ≡ true → (p : Picture) → inTurn m p xs ≡ inTurn m p ys
+pub picture-either : (m : ℕ) (xs ys : List BlockPaint) → Rearranged xs ys → allValid m xs ≡ true → allApart m xs ≡ true → (p : Picture) → inTurn m p xs ≡ inTurn m p ys
 picture-either m xs ys r v h p = swapped-picture m (times-swapped xs ys r) v h p

@@ -14,7 +14,7 @@ use Rattle.definitions.specs.Read.{pictureOf}
 use Rattle.definitions.specs.Area.{summaryOf}
 use Rattle.definitions.specs.Calls.Paint.{paintedPicture, painted}
 use Rattle.history.specs.History.{Buffers, answer, after, afterCalls}
-use Rattle.order.specs.Paint.{Paint}
+use Rattle.order.specs.Paint.{BlockPaint}
 use Rattle.history.proofs.Content.{painted-list, painted-summary}
 use Rattle.order.specs.Rearranged.{Rearranged, swap}
 use Rattle.order.specs.Apart.{apart, apartFromAll, allApart}
@@ -24,7 +24,7 @@ use Rattle.order.proofs.Swaps.{two-swap, picture-either}
 use Rattle.order.proofs.Sheets.{shows-same, in-full-valid, run-shows}
 
 -- ---- the definitions that paint's promise cites
-module _ (m s : ℕ) (x y : Paint) (valid-x : validKey m (x .key) ≡ true) (valid-y : validKey m (y .key) ≡ true) (h : apart m x y ≡ true) (l : List Record) where
+module _ (m s : ℕ) (x y : BlockPaint) (valid-x : validKey m (x .key) ≡ true) (valid-y : validKey m (y .key) ≡ true) (h : apart m x y ≡ true) (l : List Record) where
   abbrev first : Picture
   first = paintedPicture m l (x .key) (x .feature)
 
@@ -54,7 +54,7 @@ same-itself : (b : Buffers) → SameSheet b b
 same-itself b = record { count = refl; list = refl; summary = refl }
 
 -- any rearrangement of a run of paints, every pair apart, leaves the same list and summary, where both orders are accepted in full
-pub either-order : (m s : ℕ) (b : Buffers) (xs ys : List Paint) → Rearranged xs ys → allApart m xs ≡ true → inFull m s b xs ≡ true → inFull m s b ys ≡ true
+pub either-order : (m s : ℕ) (b : Buffers) (xs ys : List BlockPaint) → Rearranged xs ys → allApart m xs ≡ true → inFull m s b xs ≡ true → inFull m s b ys ≡ true
     → SameSheet (afterPaints m s b xs) (afterPaints m s b ys)
 either-order m s b [] [] r h i j = same-itself (afterPaints m s b [])
 either-order m s b [] (y ∷ ys) r h i j = absurd (not-none y ys r)
@@ -66,18 +66,18 @@ either-order m s b (x ∷ xs) (y ∷ ys) r h i j =
 
 module _ (m s : ℕ) (b : Buffers) where
   -- two accepted paints are a run
-  two-in-full : (x y : Paint) → answer m s b (asCall x) ≡ 0 → answer m s (after m s b (asCall x)) (asCall y) ≡ 0 → inFull m s b (x ∷ y ∷ []) ≡ true
+  two-in-full : (x y : BlockPaint) → answer m s b (asCall x) ≡ 0 → answer m s (after m s b (asCall x)) (asCall y) ≡ 0 → inFull m s b (x ∷ y ∷ []) ≡ true
   unfolding inFull
   two-in-full x y i j =
       and-both (eqb (answer m s b (asCall x)) 0) (eqb (answer m s (after m s b (asCall x)) (asCall y)) 0 && true)
       (eq-eqb _ 0 i) (and-both (eqb (answer m s (after m s b (asCall x)) (asCall y)) 0) true (eq-eqb _ 0 j) refl)
 
-  two-apart : (x y : Paint) → apart m x y ≡ true → allApart m (x ∷ y ∷ []) ≡ true
+  two-apart : (x y : BlockPaint) → apart m x y ≡ true → allApart m (x ∷ y ∷ []) ≡ true
   unfolding allApart apartFromAll
   two-apart x y h = and-both (apart m x y && true) true (and-both (apart m x y) true h refl) refl
 
   -- two paints that are apart, each order accepted, leave the same list and summary
-  pub two-paints : (x y : Paint) → apart m x y ≡ true
+  pub two-paints : (x y : BlockPaint) → apart m x y ≡ true
       → answer m s b (asCall x) ≡ 0
       → answer m s (after m s b (asCall x)) (asCall y) ≡ 0
       → answer m s b (asCall y) ≡ 0

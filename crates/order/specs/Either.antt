@@ -11,25 +11,25 @@ use Rattle.definitions.specs.List.{Record}
 use Rattle.definitions.specs.Read.{recordsOf, pictureOf}
 use Rattle.definitions.specs.Edit.{paintIn}
 use Rattle.history.specs.History.{Call, ofBlock, painting, Buffers, answer, after, afterCalls}
-use Rattle.order.specs.Paint.{Paint}
+use Rattle.order.specs.Paint.{BlockPaint}
 use Rattle.order.specs.Rearranged.{timesIn}
 use Rattle.order.specs.Apart.{inSomePaint}
 
 -- a paint as a call
-abbrev pub asCall : Paint → Call
+abbrev pub asCall : BlockPaint → Call
 asCall x = painting (ofBlock (x .key) (x .feature))
 
-unfoldable pub asCalls : List Paint → List Call
+unfoldable pub asCalls : List BlockPaint → List Call
 asCalls [] = []
 asCalls (x ∷ xs) = asCall x ∷ asCalls xs
 
 -- every paint of the run is accepted, the first paint first
-unfoldable pub inFull : ℕ → ℕ → Buffers → List Paint → Bool
+unfoldable pub inFull : ℕ → ℕ → Buffers → List BlockPaint → Bool
 inFull m s b [] = true
 inFull m s b (x ∷ xs) = eqb (answer m s b (asCall x)) 0 && inFull m s (after m s b (asCall x)) xs
 
 -- a picture with the paints of a run, the first paint first
-unfoldable pub inTurn : ℕ → Picture → List Paint → Picture
+unfoldable pub inTurn : ℕ → Picture → List BlockPaint → Picture
 inTurn m p [] = p
 inTurn m p (x ∷ xs) = inTurn m (paintIn m (x .key) (x .feature) p) xs
 
@@ -48,12 +48,12 @@ pub record SameSheet (b b′ : Buffers) : Type 0 where
   pub summary : b .summary ≡ b′ .summary
 
 -- the buffers after the paints of a run
-abbrev pub afterPaints : ℕ → ℕ → Buffers → List Paint → Buffers
+abbrev pub afterPaints : ℕ → ℕ → Buffers → List BlockPaint → Buffers
 afterPaints m s b xs = afterCalls m s b (asCalls xs)
 
 -- the second picture is the first with all the paints: where a paint has a pixel in its block its feature, and the first picture's elsewhere
-pub record AllPaints (m : ℕ) (xs : List Paint) (p q : Picture) : Type 0 where
-  pub inside : (x : Paint) → 1 ≤ timesIn x xs → (row column : ℕ) → inBlock m (x .key) row column ≡ true → q row column ≡ x .feature
+pub record AllPaints (m : ℕ) (xs : List BlockPaint) (p q : Picture) : Type 0 where
+  pub inside : (x : BlockPaint) → 1 ≤ timesIn x xs → (row column : ℕ) → inBlock m (x .key) row column ≡ true → q row column ≡ x .feature
   pub outside : (row column : ℕ) → row < 2 ^ m → column < 2 ^ m → inSomePaint m xs row column ≡ false → q row column ≡ p row column
 
 -- accepted, or refused for want of room in the log or in the list

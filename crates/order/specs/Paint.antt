@@ -1,6 +1,6 @@
 -- A paint of a single block, as the crews send them in (document 02, item 14). Rests on nothing.
 use Prim.Native.Nat.{ℕ}
 
-pub record Paint : Type 0 where
+pub record BlockPaint : Type 0 where
   pub key : ℕ
   pub feature : ℕ

@@ -19,7 +19,7 @@ use Rattle.list.specs.Own.{OwnList, shownBy}
 use Rattle.list.proofs.Own.{own-length}
 use Rattle.step.specs.Step.{Step, pruned, stepOver}
 use Rattle.step.proofs.Pruned.{pruned-before, pruned-after, pruned-all}
-use Rattle.passes.specs.Passes.{ShowingBlock, Shown, Wrote, Growing, GrowAsked, Grown, BlockCounted}
+use Rattle.passes.specs.Passes.{ShowingBlock, Shown, WroteBefore, Growing, GrowAsked, Grown, StepCounted}
 use Rattle.passes.specs.Shrink.{ShrinkAsked, ShrunkAt, Shrinks}
 use Rattle.passes.specs.Change.{zeroed, AllGrown}
 use Rattle.passes.proofs.Waiting.{ending-length}
@@ -97,7 +97,7 @@ module _ (t : Step) {m : ℕ} {keys bits : List ℕ} {n : ℕ} (deep : m ≤ 10)
   p = shownBy m keys bits n
 
   -- how long the list becomes
-  pub length-told : {union count next : ℕ} → BlockCounted t m 0 0 0 keys bits 0 n union count next → count ≡ length (listOfPicture m (stepOver t (shownBy m keys bits n)))
+  pub length-told : {union count next : ℕ} → StepCounted t m 0 0 0 keys bits 0 n union count next → count ≡ length (listOfPicture m (stepOver t (shownBy m keys bits n)))
   length-told x = x .tallied p (showing-whole own) .count-is
 
   module _ {keys₁ bits₁ : List ℕ} {union next left : ℕ} (r : Shrinks t m 0 0 0 keys bits 0 n 0 keys₁ bits₁ union next left) where
@@ -158,7 +158,7 @@ module _ (t : Step) {m : ℕ} {keys bits : List ℕ} {n : ℕ} (deep : m ≤ 10)
 
       -- when all has grown, and when the places given up are zero
       module _ {keys₂ bits₂ : List ℕ} (g : AllGrown t m left after keys₁ bits₁ keys₂ bits₂) where
-        grown : Wrote (listOf (stepOver t p) m 0 0 0) after keys₁ bits₁ keys₂ bits₂ 0
+        grown : WroteBefore (listOf (stepOver t p) m 0 0 0) after keys₁ bits₁ keys₂ bits₂ 0
         grown = g .holds p growing
 
         pub changed-keys : zeroed n after keys₂ ≡ replaced n (keysOf (listOfPicture m (stepOver t (shownBy m keys bits n)))) keys

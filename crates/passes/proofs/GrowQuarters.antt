@@ -6,7 +6,7 @@ use mathlib.Core.List.{List}
 use native.Mathlib.Omega.{arith}
 use lib.ListN.{getD}
 use Rattle.keys.specs.Key.{childKey}
-use Rattle.keys.specs.Under.{Block}
+use Rattle.keys.specs.Under.{MapBlock}
 use Rattle.definitions.specs.Picture.{Picture, oneFeature}
 use Rattle.step.specs.Step.{Step, stepOver}
 use Rattle.step.specs.Quarters.{quartersOf}
@@ -32,7 +32,7 @@ module _ (t : Step) {m k r c κ read write : ℕ} {ks bs : List ℕ} {q : Quarte
   up : k ≡ suc (k - 1)
   up = let h = positive in omega arith
 
-  block : Block m (suc (k - 1)) r c κ
+  block : MapBlock m (suc (k - 1)) r c κ
   block = rw (← up) (a .block)
 
   first : childKey κ (k - 1) 1 ≡ κ + 5 ^ (k - 1)

@@ -8,7 +8,7 @@ use native.Mathlib.Omega.{arith}
 use lib.ListN.{length, getD, length-append, length-map}
 use lib.Seq.{sets}
 use Rattle.keys.specs.Key.{childKey}
-use Rattle.keys.specs.Under.{Block}
+use Rattle.keys.specs.Under.{MapBlock}
 use Rattle.definitions.specs.Picture.{Picture, oneFeature}
 use Rattle.definitions.specs.Bits.{bitsOf, featureOf}
 use Rattle.definitions.specs.List.{Record, recordOf, keysOf, valuesOf, listOf}
@@ -17,7 +17,7 @@ use Rattle.build.proofs.CountBlock.{list-five}
 use Rattle.step.specs.Step.{Step, stepOver, plain, pruned}
 use Rattle.step.specs.Deed.{LeafAsked}
 use Rattle.step.proofs.Pruned.{pruned-node, pruned-after}
-use Rattle.passes.specs.Passes.{WriteAsked, Wrote, Waiting, Moved, Growing, Grown, OwnAsked, OwnWritten}
+use Rattle.passes.specs.Passes.{WriteAsked, WroteBefore, Waiting, Moved, Growing, Grown, OwnAsked, OwnWritten}
 use Rattle.passes.proofs.FourParts.{four-keys, four-values}
 use Rattle.passes.proofs.Waiting.{ending-at, waiting-at, ending-some, ending-last, waits-last, waits-rest, four-back}
 use Rattle.passes.proofs.PrunedBlock.{LeafLeft, NodeLeft, either-left, pruned-last, node-last}
@@ -53,7 +53,7 @@ module _ {t : Step} {p : Picture} {k r c κ : ℕ} {ks bs : List ℕ} {read writ
     single : length (pruned p (stepOver t p) k r c κ) ≡ 1
     single = ap length (leaf .is)
 
-    pub leaf-asked : {m : ℕ} → m ≤ 10 → Block m k r c κ → LeafAsked m (getD bs (read - 1) 0) k r c κ
+    pub leaf-asked : {m : ℕ} → m ≤ 10 → MapBlock m k r c κ → LeafAsked m (getD bs (read - 1) 0) k r c κ
     leaf-asked deep b = record { deep = deep; block = b; leaf = rw value-is (leaf .one) }
 
     pub leaf-writes : WriteAsked (listOf (stepOver t (plain (featureOf (getD bs (read - 1) 0)))) k r c κ) κ write ks bs
@@ -64,17 +64,17 @@ module _ {t : Step} {p : Picture} {k r c κ : ℕ} {ks bs : List ℕ} {read writ
         (record { low = omega (arith, g .waits .apart); early = g .waits .early; in-keys = g .waits .in-keys; in-bits = g .waits .in-bits })
 
     pub leaf-moved : {ks′ bs′ : List ℕ} {start : ℕ}
-        → Wrote (listOf (stepOver t (plain (featureOf (getD bs (read - 1) 0)))) k r c κ) write ks bs ks′ bs′ start
+        → WroteBefore (listOf (stepOver t (plain (featureOf (getD bs (read - 1) 0)))) k r c κ) write ks bs ks′ bs′ start
         → Moved (pruned p (stepOver t p) k r c κ) (listOf (stepOver t p) k r c κ) ks bs read write ks′ bs′ (read - 1) start
     leaf-moved w = let s = single in let some = grow-some in record { passed = omega arith; wrote = rw list-same at w }
 
 pub leaf-grown : {t : Step} {k r c κ : ℕ} {ks bs ks′ bs′ : List ℕ} {read write start : ℕ} → getD ks (read - 1) 0 ≡ κ
-    → Wrote (listOf (stepOver t (plain (featureOf (getD bs (read - 1) 0)))) k r c κ) write ks bs ks′ bs′ start
+    → WroteBefore (listOf (stepOver t (plain (featureOf (getD bs (read - 1) 0)))) k r c κ) write ks bs ks′ bs′ start
     → Grown t k r c κ ks bs read write ks′ bs′ (read - 1) start
 leaf-grown e w = record { holds = λ p g. leaf-moved g e w }
 
 -- a node
-module _ (t : Step) (p : Picture) {m : ℕ} (k r c κ : ℕ) (block : Block m (suc k) r c κ) {ks bs : List ℕ} {read write : ℕ} (g : Growing t p (suc k) r c κ ks bs read write)
+module _ (t : Step) (p : Picture) {m : ℕ} (k r c κ : ℕ) (block : MapBlock m (suc k) r c κ) {ks bs : List ℕ} {read write : ℕ} (g : Growing t p (suc k) r c κ ks bs read write)
     (before : oneFeature p (suc k) r c ≡ false) (after : oneFeature (stepOver t p) (suc k) r c ≡ false) where
   abbrev own : Record
   own = recordOf κ (bitsOf (stepOver t p) (suc k) r c)

@@ -22,25 +22,25 @@ use Rattle.step.specs.Meeting.{ContentGiven, Met, isCut}
 use Rattle.step.specs.declared.meeting.Meeting.{Meeting}
 use Rattle.step.specs.declared.meeting.Meeting.the-variants.{Apart, Leaf, Content, Cut}
 use Rattle.step.proofs.Meetings.{met-content}
-use Rattle.passes.specs.Passes.{knownOf, ContentFits, Layable, Laid}
+use Rattle.passes.specs.Passes.{knownOf, ContentFits, Layable, LeafLaid}
 use Rattle.passes.proofs.ShownBlocks.{drop-take}
 use Rattle.passes.proofs.Known.{content-count, content-first, known-tallied, leaf-bits, leaf-records}
 use Rattle.passes.proofs.LeafWritten.{count-one}
 
 -- what was laid, kind by kind
 module _ {meeting : Meeting} (own : ℕ) (lk lv : List ℕ) (place : ℕ) (ks bs : List ℕ) where
-  pub laid-apart : meeting ≡ Apart → Laid meeting own lk lv place ks bs ks bs own (place + 1)
+  pub laid-apart : meeting ≡ Apart → LeafLaid meeting own lk lv place ks bs ks bs own (place + 1)
   laid-apart e = rw e (record { keys-are = refl; bits-are = refl; union-is = refl; next-is = λ h. refl })
 
-  pub laid-leaf : {b : ℕ} → meeting ≡ Leaf b → Laid meeting own lk lv place ks bs ks bs b (place + 1)
+  pub laid-leaf : {b : ℕ} → meeting ≡ Leaf b → LeafLaid meeting own lk lv place ks bs ks bs b (place + 1)
   laid-leaf e = rw e (record { keys-are = refl; bits-are = refl; union-is = refl; next-is = λ h. refl })
 
-  pub laid-cut : meeting ≡ Cut → Laid meeting own lk lv place ks bs ks bs 0 (place + 1)
+  pub laid-cut : meeting ≡ Cut → LeafLaid meeting own lk lv place ks bs ks bs 0 (place + 1)
   laid-cut e = rw e (record { keys-are = refl; bits-are = refl; union-is = refl; next-is = λ h. absurd (true≢false h) })
 
   pub laid-content : {start count : ℕ} {ks′ bs′ : List ℕ} → meeting ≡ Content start count
       → ks′ ≡ sets ks (place + 1) (take (count - 1) (drop (start + 1) lk)) → bs′ ≡ sets bs (place + 1) (take (count - 1) (drop (start + 1) lv))
-      → Laid meeting own lk lv place ks bs ks′ bs′ (getD lv start 0) (place + count)
+      → LeafLaid meeting own lk lv place ks bs ks′ bs′ (getD lv start 0) (place + count)
   laid-content e i j = rw e (record { keys-are = i; bits-are = j; union-is = refl; next-is = λ h. refl })
 
 -- all but the first of some numbers
@@ -110,7 +110,7 @@ one-written : {q : Picture} {k r c b : ℕ} (κ place : ℕ) {ks bs ks′ bs′ 
 one-written κ place {ks} {bs} t e f g h = rw (e, f, g, h) (count-one κ place ks bs t refl)
 
 written-cases : (t : Step) (lk lv : List ℕ) (k r c κ place : ℕ) (ks bs ks′ bs′ : List ℕ) (own union next : ℕ) → oneSlot own ≡ true
-    → (meeting : Meeting) → Met t lk lv k r c κ meeting → isCut meeting ≡ false → Laid meeting own lk lv place ks bs ks′ bs′ union next
+    → (meeting : Meeting) → Met t lk lv k r c κ meeting → isCut meeting ≡ false → LeafLaid meeting own lk lv place ks bs ks′ bs′ union next
     → Written (stepOver t (plain (featureOf own))) k r c κ place ks bs ks′ bs′ union next
 written-cases t lk lv k r c κ place ks bs ks′ bs′ own union next one Apart x cut l =
     one-written κ place (known-tallied {tally = knownOf Apart own 1 lv} (plain (featureOf own)) (leaf-bits own k r c one) (leaf-records (featureOf own) k r c κ) x cut refl)
@@ -123,7 +123,7 @@ written-cases t lk lv k r c κ place ks bs ks′ bs′ own union next one Cut x 
 
 -- THE LAW
 pub laid-written : {t : Step} {lk lv : List ℕ} {k r c κ place own union next : ℕ} {ks bs ks′ bs′ : List ℕ} {meeting : Meeting} → oneSlot own ≡ true
-    → Met t lk lv k r c κ meeting → isCut meeting ≡ false → Laid meeting own lk lv place ks bs ks′ bs′ union next
+    → Met t lk lv k r c κ meeting → isCut meeting ≡ false → LeafLaid meeting own lk lv place ks bs ks′ bs′ union next
     → Written (stepOver t (plain (featureOf own))) k r c κ place ks bs ks′ bs′ union next
 laid-written {t} {lk} {lv} {k} {r} {c} {κ} {place} {own} {union} {next} {ks} {bs} {ks′} {bs′} {meeting} one x cut l =
     written-cases t lk lv k r c κ place ks bs ks′ bs′ own union next one meeting x cut l

@@ -17,10 +17,10 @@ use Rattle.slices.proofs.Sets.{sets-front, sets-cons}
 use Rattle.build.specs.BuildBlocks.{Written, Fitting, below, Tallied}
 use Rattle.build.proofs.WrittenBlock.{own-first, below-one}
 use Rattle.build.proofs.CountBlock.{length-key}
-use Rattle.keys.specs.Under.{Block}
+use Rattle.keys.specs.Under.{MapBlock}
 use Rattle.keys.proofs.Interval.{within}
 use Rattle.keys.proofs.Powers.{five-le}
-use Rattle.passes.specs.Passes.{Wrote, WriteAsked}
+use Rattle.passes.specs.Passes.{WroteBefore, WriteAsked}
 
 -- a block of one feature has nothing written below it
 pub written-one : (p : Picture) (k r c κ place union next : ℕ) (keys bits : List ℕ) → oneFeature p k r c ≡ true → union ≡ bitsOf p k r c → next ≡ place + 1
@@ -44,7 +44,7 @@ count-one {p} {k} {r} {c} {bits} {count} κ place keys values t e =
     single (suc k) h = decide (oneFeature p (suc k) r c) (λ one. one) (λ several. let n = length-several p k r c 0 several in absurd (omega arith))
 
 -- a leaf of the list, as the code comes to it
-module _ {p : Picture} {m height row column key end : ℕ} {ks bs : List ℕ} (deep : m ≤ 10) (block : Block m height row column key)
+module _ {p : Picture} {m height row column key end : ℕ} {ks bs : List ℕ} (deep : m ≤ 10) (block : MapBlock m height row column key)
     (a : WriteAsked (listOf p height row column key) key end ks bs) {union count : ℕ} (y : Tallied p height row column union count) where
   counted : count ≡ length (listOf p height row column key)
   counted = y .count-is ∙ length-key p height row column 0 key
@@ -56,7 +56,7 @@ module _ {p : Picture} {m height row column key end : ℕ} {ks bs : List ℕ} (d
   wl-room = let e = counted in let s = list-some p height row column key in omega (arith, a .low, a .in-keys, a .in-bits)
 
   -- a leaf that stays one record
-  pub wl-one : count ≡ 1 → Wrote (listOf p height row column key) end ks bs (set ks (end - count) key) (set bs (end - count) union) (end - count)
+  pub wl-one : count ≡ 1 → WroteBefore (listOf p height row column key) end ks bs (set ks (end - count) key) (set bs (end - count) union) (end - count)
   wl-one one =
       let e = counted in
       let w = count-one key (end - count) ks bs y one in
@@ -87,7 +87,7 @@ module _ {p : Picture} {m height row column key end : ℕ} {ks bs : List ℕ} (d
 
   pub wl-wrote : {ks′ bs′ : List ℕ} {bits next : ℕ}
       → Written p height row column key (end - count) (set ks (end - count) key) (set bs (end - count) union) ks′ bs′ bits next
-      → Wrote (listOf p height row column key) end ks bs ks′ bs′ (end - count)
+      → WroteBefore (listOf p height row column key) end ks bs ks′ bs′ (end - count)
   wl-wrote w =
       let e = counted in
       record {

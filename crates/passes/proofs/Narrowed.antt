@@ -6,7 +6,7 @@ use mathlib.Core.List.{List}
 use native.Mathlib.Omega.{arith}
 use lib.ListN.{length, drop}
 use lib.Seq.{sets}
-use Rattle.keys.specs.Under.{Block}
+use Rattle.keys.specs.Under.{MapBlock}
 use Rattle.keys.proofs.Pixel.{inside}
 use Rattle.definitions.specs.Picture.{Picture}
 use Rattle.definitions.specs.List.{keysOf, valuesOf}
@@ -17,11 +17,11 @@ use Rattle.laws.proofs.ListOf.{list-agree}
 use Rattle.build.specs.BuildBlocks.{Tallied, Written, Fitting}
 use Rattle.step.specs.Step.{Step, stepOver}
 use Rattle.step.specs.Deed.{SameBefore}
-use Rattle.passes.specs.Passes.{BlockCounted, Growing, GrowAsked, Grown}
+use Rattle.passes.specs.Passes.{StepCounted, Growing, GrowAsked, Grown}
 use Rattle.passes.specs.Shrink.{Shrinks}
 use Rattle.step.proofs.Pruned.{pruned-agree}
 
-module _ {m past k r c κ : ℕ} {t t′ : Step} (s : SameBefore m past t t′) (b : Block m k r c κ) (h : κ + 5 ^ k ≤ past) where
+module _ {m past k r c κ : ℕ} {t t′ : Step} (s : SameBefore m past t t′) (b : MapBlock m k r c κ) (h : κ + 5 ^ k ≤ past) where
   -- on a block before that key the two steps over a picture agree
   pub narrowed-agree : (p : Picture) → Agree (stepOver t′ p) (stepOver t p) k r c
   unfolding stepOver
@@ -35,7 +35,7 @@ module _ {m past k r c κ : ℕ} {t t′ : Step} (s : SameBefore m past t t′) 
     count-is = x .count-is ∙ ap length (list-agree (stepOver t′ p) (stepOver t p) k r c 0 (narrowed-agree p));
   }
 
-  pub narrowed-counted : {keys bits : List ℕ} {at n union count next : ℕ} → BlockCounted t′ k r c κ keys bits at n union count next → BlockCounted t k r c κ keys bits at n union count next
+  pub narrowed-counted : {keys bits : List ℕ} {at n union count next : ℕ} → StepCounted t′ k r c κ keys bits at n union count next → StepCounted t k r c κ keys bits at n union count next
   narrowed-counted x = record { tallied = λ p s. narrowed-tallied p (x .tallied p s); passed = x .passed }
 
   -- what is to be written is the same, and so is the room that it needs

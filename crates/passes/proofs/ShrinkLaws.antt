@@ -31,7 +31,7 @@ use Rattle.step.specs.declared.meeting.Meeting.{Meeting}
 use Rattle.step.specs.declared.meeting.Meeting.the-variants.{Apart, Leaf, Content, Cut}
 use Rattle.step.proofs.Pruned.{over-out, leaf-before, pruned-one, pruned-leaf, pruned-node, pruned-apart, pruned-same}
 use Rattle.passes.specs.Passes.{Showing, ShowingBlock}
-use Rattle.passes.specs.Shrink.{Forward, ShrunkAt, Kept, LeafShrunk, OwnShrunk, isDecided}
+use Rattle.passes.specs.Shrink.{Forward, ShrunkAt, KeptForward, LeafShrunk, OwnShrunk, isDecided}
 use Rattle.passes.proofs.FourParts.{four-keys, four-values}
 use Rattle.passes.proofs.Forward.{forward-four, forward-own, forward-alone, forward-one, forward-run}
 
@@ -112,7 +112,7 @@ module _ (t : Step) (p : Picture) (k r c κ : ℕ) {ks bs ks′ bs′ : List ℕ
 
   -- either, by the meeting
   pub whole-left : (meeting : Meeting) {own next′ : ℕ} {lks lvs : List ℕ} → Met t lks lvs k r c κ meeting → isDecided meeting ≡ true → own ≡ bitsOf p k r c
-      → Kept meeting κ own ks bs at next place ks′ bs′ union next′ place′
+      → KeptForward meeting κ own ks bs at next place ks′ bs′ union next′ place′
       → ShrunkAt t p k r c κ ks bs at place ks′ bs′ union next′ place′
   whole-left Apart m w o x = rw (x .next-is) (apart-left (m .told) (x .union-is ∙ o) (x .place-is) (x .keys-are) (x .bits-are))
   whole-left (Leaf bits) m w o x = rw (x .next-is) (leaf-left bits (m .told) (x .union-is) (x .place-is) (x .keys-are) (x .bits-are))
@@ -146,15 +146,15 @@ single-left t p k r c κ own {at = at} s order o one x =
 -- what `keep` leaves, by the meeting
 pub kept-apart : (meeting : Meeting) {κ own : ℕ} {ks bs ks′ bs′ : List ℕ} {at next place : ℕ} → meeting ≡ Apart
     → ks′ ≡ sets ks place (take (next - at) (drop at ks)) → bs′ ≡ sets bs place (take (next - at) (drop at bs))
-    → Kept meeting κ own ks bs at next place ks′ bs′ own next (place + (next - at))
+    → KeptForward meeting κ own ks bs at next place ks′ bs′ own next (place + (next - at))
 kept-apart meeting {κ} {own} {ks} {bs} {ks′} {bs′} {at} {next} {place} e g h =
-    subst (λ x. Kept x κ own ks bs at next place ks′ bs′ own next (place + (next - at))) (sym e)
+    subst (λ x. KeptForward x κ own ks bs at next place ks′ bs′ own next (place + (next - at))) (sym e)
     (record { union-is = refl; next-is = refl; place-is = refl; keys-are = g; bits-are = h })
 
 pub kept-leaf : (meeting : Meeting) {κ own bits : ℕ} {ks bs : List ℕ} {at next place : ℕ} → meeting ≡ Leaf bits
-    → Kept meeting κ own ks bs at next place (set ks place κ) (set bs place bits) bits next (place + 1)
+    → KeptForward meeting κ own ks bs at next place (set ks place κ) (set bs place bits) bits next (place + 1)
 kept-leaf meeting {κ} {own} {bits} {ks} {bs} {at} {next} {place} e =
-    subst (λ x. Kept x κ own ks bs at next place (set ks place κ) (set bs place bits) bits next (place + 1)) (sym e)
+    subst (λ x. KeptForward x κ own ks bs at next place (set ks place κ) (set bs place bits) bits next (place + 1)) (sym e)
     (record { union-is = refl; next-is = refl; place-is = refl; keys-are = refl; bits-are = refl })
 
 -- what `shrink_own` leaves, by the slots of the union

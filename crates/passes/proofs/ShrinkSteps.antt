@@ -19,7 +19,7 @@ use Rattle.step.specs.declared.quarters.Quarters.{Quarters}
 use Rattle.step.proofs.Pruned.{pruned-before}
 use Rattle.step.proofs.QuarterSums.{block-nw, block-ne, block-sw, block-se}
 use Rattle.passes.specs.Passes.{Showing, ShowingBlock, EndAsked}
-use Rattle.passes.specs.Shrink.{ShrinkAsked, ShrunkAt, Shrinks, KeepAsked, Kept, OneAsked, LeafShrunk, OwnShrunk, isDecided}
+use Rattle.passes.specs.Shrink.{ShrinkAsked, ShrunkAt, Shrinks, KeepAsked, KeptForward, OneAsked, LeafShrunk, OwnShrunk, isDecided}
 use Rattle.passes.proofs.ShownBlocks.{showing-same, shown-some, shown-own, shown-several, shown-positive, L₁, L₂, L₃, L₄, End, node-quadrants, quadrant-nw, behind-nw, quadrant-ne, behind-ne, quadrant-sw, behind-sw, quadrant-se}
 use Rattle.passes.proofs.BlockEnds.{end-asked, end-found}
 use Rattle.passes.proofs.ShrinkLaws.{shown-within, single-left, whole-left, node-left}
@@ -195,7 +195,7 @@ module _ (t : Step) {m k r c κ at n place : ℕ} {ks bs ks′ bs′ : List ℕ}
   gives-leaf one x = record { holds = λ p s. single-left t p k r c κ (getD bs at 0) s (a .order) (shown-own p k r c κ s) one x }
 
   pub gives-whole : {past next : ℕ} {meeting : Meeting} {lks lvs : List ℕ} → past ≡ κ + 5 ^ k → next ≡ at + keysBelow past (take (n - at) (drop at ks))
-      → Met t lks lvs k r c κ meeting → isDecided meeting ≡ true → Kept meeting κ (getD bs at 0) ks bs at next place ks′ bs′ union next′ place′
+      → Met t lks lvs k r c κ meeting → isDecided meeting ≡ true → KeptForward meeting κ (getD bs at 0) ks bs at next place ks′ bs′ union next′ place′
       → Shrinks t k r c κ ks bs at n place ks′ bs′ union next′ place′
   gives-whole {meeting = meeting} e found h w x = record {
     holds = λ p s. whole-left t p k r c κ s (a .order) (found ∙ ap (λ i. at + i) (end-found p k r c κ s e)) meeting h w (shown-own p k r c κ s) x;

@@ -24,7 +24,7 @@ use Rattle.step.specs.declared.quarters.Quarters.{Quarters}
 use Rattle.step.proofs.QuarterSums.{block-nw, block-ne, block-sw, block-se}
 use Rattle.step.specs.Deed.{LeafAsked}
 use Rattle.step.proofs.Pruned.{leaf-before}
-use Rattle.passes.specs.Passes.{Showing, ShowingBlock, Shown, BlockCounted, PassedOver}
+use Rattle.passes.specs.Passes.{Showing, ShowingBlock, Shown, StepCounted, PassedOver}
 use Rattle.passes.proofs.ShownBlocks.{L₁, L₂, L₃, L₄, End, shown-own, shown-one, shown-several, shown-positive, node-quadrants, quadrant-nw, quadrant-ne, quadrant-sw, quadrant-se, behind-nw, behind-ne, behind-sw}
 use Rattle.passes.proofs.BlockEnds.{end-found}
 use Rattle.passes.proofs.Known.{known-tallied}
@@ -37,25 +37,25 @@ module _ (t : Step) (p : Picture) (k r c κ : ℕ) {ks bs : List ℕ} {at n : �
   pub count-nw : ShowingBlock p k r c (childKey κ k 1) ks bs (at + 1) n
   count-nw = quadrant-nw p k r c κ all
 
-  module _ {u₁ m₁ n₁ : ℕ} (h₁ : BlockCounted t k r c (childKey κ k 1) ks bs (at + 1) n u₁ m₁ n₁) where
+  module _ {u₁ m₁ n₁ : ℕ} (h₁ : StepCounted t k r c (childKey κ k 1) ks bs (at + 1) n u₁ m₁ n₁) where
     from-ne : Showing (L₂ p k r c κ ++ (L₃ p k r c κ ++ L₄ p k r c κ)) (End p k r c κ) ks bs n₁ n
     from-ne = behind-nw p k r c κ (h₁ .passed p count-nw) all
 
     pub count-ne : ShowingBlock p k r (c + 2 ^ k) (childKey κ k 2) ks bs n₁ n
     count-ne = quadrant-ne p k r c κ from-ne
 
-    module _ {u₂ m₂ n₂ : ℕ} (h₂ : BlockCounted t k r (c + 2 ^ k) (childKey κ k 2) ks bs n₁ n u₂ m₂ n₂) where
+    module _ {u₂ m₂ n₂ : ℕ} (h₂ : StepCounted t k r (c + 2 ^ k) (childKey κ k 2) ks bs n₁ n u₂ m₂ n₂) where
       from-sw : Showing (L₃ p k r c κ ++ L₄ p k r c κ) (End p k r c κ) ks bs n₂ n
       from-sw = behind-ne p k r c κ (h₂ .passed p count-ne) from-ne
 
       pub count-sw : ShowingBlock p k (r + 2 ^ k) c (childKey κ k 3) ks bs n₂ n
       count-sw = quadrant-sw p k r c κ from-sw
 
-      module _ {u₃ m₃ n₃ : ℕ} (h₃ : BlockCounted t k (r + 2 ^ k) c (childKey κ k 3) ks bs n₂ n u₃ m₃ n₃) where
+      module _ {u₃ m₃ n₃ : ℕ} (h₃ : StepCounted t k (r + 2 ^ k) c (childKey κ k 3) ks bs n₂ n u₃ m₃ n₃) where
         pub count-se : ShowingBlock p k (r + 2 ^ k) (c + 2 ^ k) (childKey κ k 4) ks bs n₃ n
         count-se = quadrant-se p k r c κ (behind-sw p k r c κ (h₃ .passed p count-sw) from-sw)
 
-        module _ {u₄ m₄ n₄ : ℕ} (h₄ : BlockCounted t k (r + 2 ^ k) (c + 2 ^ k) (childKey κ k 4) ks bs n₃ n u₄ m₄ n₄) where
+        module _ {u₄ m₄ n₄ : ℕ} (h₄ : StepCounted t k (r + 2 ^ k) (c + 2 ^ k) (childKey κ k 4) ks bs n₃ n u₄ m₄ n₄) where
           pub four-tallied : {u count : ℕ} → Joined (unionOfFour u₁ u₂ u₃ u₄) (m₁ + (m₂ + (m₃ + m₄))) u count → Tallied (stepOver t p) (suc k) r c u count
           four-tallied j = tallied-four (stepOver t p) k (2 ^ k) r c refl (h₁ .tallied p count-nw) (h₂ .tallied p count-ne) (h₃ .tallied p count-sw) (h₄ .tallied p count-se) j
 
@@ -70,7 +70,7 @@ module _ (t : Step) (p : Picture) (k r c κ : ℕ) {ks bs : List ℕ} {at n : �
 
 -- a leaf
 pub leaf-counted : (t : Step) (k r c κ : ℕ) {ks bs : List ℕ} {at n union count : ℕ} → oneSlot (getD bs at 0) ≡ true
-    → Tallied (stepOver t (plain (featureOf (getD bs at 0)))) k r c union count → BlockCounted t k r c κ ks bs at n union count (at + 1)
+    → Tallied (stepOver t (plain (featureOf (getD bs at 0)))) k r c union count → StepCounted t k r c κ ks bs at n union count (at + 1)
 leaf-counted t k r c κ {ks} {bs} {at} {n} {union} {count} one told =
     record {
       tallied = λ p s. same p s (shown-one p k r c κ s one);
@@ -90,7 +90,7 @@ leaf-counted t k r c κ {ks} {bs} {at} {n} {union} {count} one told =
 pub over-counted : {t : Step} {ks vs keys bs : List ℕ} {k r c κ at n own past next : ℕ} {meeting : Meeting} {tally : Tally}
     → Met t ks vs k r c κ meeting → isCut meeting ≡ false → own ≡ getD bs at 0 → past ≡ κ + 5 ^ k
     → PassedOver meeting own past at keys n vs tally next
-    → BlockCounted t k r c κ keys bs at n (tally .bits) (tally .count) next
+    → StepCounted t k r c κ keys bs at n (tally .bits) (tally .count) next
 over-counted {t} {ks} {vs} {keys} {bs} {k} {r} {c} {κ} {at} {n} {own} {past} {next} x cut is e h =
     record {
       tallied = λ p s. known-tallied p (is ∙ shown-own p k r c κ s) (let z = ends p s in omega arith) x cut (h .tally-is);
@@ -125,8 +125,8 @@ module _ (t : Step) {m k r c κ at n : ℕ} {ks bs : List ℕ} {q : Quarters} (e
     shown = rw (e, ← first) (count-nw t (a .picture) (k - 1) r c κ shown several);
   }
 
-  module _ {u₁ m₁ n₁ : ℕ} (h₁ : BlockCounted t (q .height) r c (q .nw) ks bs (at + 1) n u₁ m₁ n₁) where
-    g₁ : BlockCounted t (k - 1) r c (childKey κ (k - 1) 1) ks bs (at + 1) n u₁ m₁ n₁
+  module _ {u₁ m₁ n₁ : ℕ} (h₁ : StepCounted t (q .height) r c (q .nw) ks bs (at + 1) n u₁ m₁ n₁) where
+    g₁ : StepCounted t (k - 1) r c (childKey κ (k - 1) 1) ks bs (at + 1) n u₁ m₁ n₁
     g₁ = rw (e, ← first) at h₁
 
     pub asks-ne : Shown m (q .height) r (q .right) (q .ne) ks bs n₁ n
@@ -137,8 +137,8 @@ module _ (t : Step) {m k r c κ at n : ℕ} {ks bs : List ℕ} {q : Quarters} (e
       shown = rw e (count-ne t (a .picture) (k - 1) r c κ shown several g₁);
     }
 
-    module _ {u₂ m₂ n₂ : ℕ} (h₂ : BlockCounted t (q .height) r (q .right) (q .ne) ks bs n₁ n u₂ m₂ n₂) where
-      g₂ : BlockCounted t (k - 1) r (c + 2 ^ (k - 1)) (childKey κ (k - 1) 2) ks bs n₁ n u₂ m₂ n₂
+    module _ {u₂ m₂ n₂ : ℕ} (h₂ : StepCounted t (q .height) r (q .right) (q .ne) ks bs n₁ n u₂ m₂ n₂) where
+      g₂ : StepCounted t (k - 1) r (c + 2 ^ (k - 1)) (childKey κ (k - 1) 2) ks bs n₁ n u₂ m₂ n₂
       g₂ = rw e at h₂
 
       pub asks-sw : Shown m (q .height) (q .down) c (q .sw) ks bs n₂ n
@@ -149,8 +149,8 @@ module _ (t : Step) {m k r c κ at n : ℕ} {ks bs : List ℕ} {q : Quarters} (e
         shown = rw e (count-sw t (a .picture) (k - 1) r c κ shown several g₁ g₂);
       }
 
-      module _ {u₃ m₃ n₃ : ℕ} (h₃ : BlockCounted t (q .height) (q .down) c (q .sw) ks bs n₂ n u₃ m₃ n₃) where
-        g₃ : BlockCounted t (k - 1) (r + 2 ^ (k - 1)) c (childKey κ (k - 1) 3) ks bs n₂ n u₃ m₃ n₃
+      module _ {u₃ m₃ n₃ : ℕ} (h₃ : StepCounted t (q .height) (q .down) c (q .sw) ks bs n₂ n u₃ m₃ n₃) where
+        g₃ : StepCounted t (k - 1) (r + 2 ^ (k - 1)) c (childKey κ (k - 1) 3) ks bs n₂ n u₃ m₃ n₃
         g₃ = rw e at h₃
 
         pub asks-se : Shown m (q .height) (q .down) (q .right) (q .se) ks bs n₃ n
@@ -161,11 +161,11 @@ module _ (t : Step) {m k r c κ at n : ℕ} {ks bs : List ℕ} {q : Quarters} (e
           shown = rw e (count-se t (a .picture) (k - 1) r c κ shown several g₁ g₂ g₃);
         }
 
-        pub gives-node : {u₄ m₄ n₄ u count : ℕ} → BlockCounted t (q .height) (q .down) (q .right) (q .se) ks bs n₃ n u₄ m₄ n₄
+        pub gives-node : {u₄ m₄ n₄ u count : ℕ} → StepCounted t (q .height) (q .down) (q .right) (q .se) ks bs n₃ n u₄ m₄ n₄
             → Joined (unionOfFour u₁ u₂ u₃ u₄) (m₁ + (m₂ + (m₃ + m₄))) u count
-            → BlockCounted t k r c κ ks bs at n u count n₄
+            → StepCounted t k r c κ ks bs at n u count n₄
         gives-node {u₄} {m₄} {n₄} {u} {count} h₄ j =
-            let g₄ : BlockCounted t (k - 1) (r + 2 ^ (k - 1)) (c + 2 ^ (k - 1)) (childKey κ (k - 1) 4) ks bs n₃ n u₄ m₄ n₄ = rw e at h₄ in
+            let g₄ : StepCounted t (k - 1) (r + 2 ^ (k - 1)) (c + 2 ^ (k - 1)) (childKey κ (k - 1) 4) ks bs n₃ n u₄ m₄ n₄ = rw e at h₄ in
             record {
               tallied = λ p s.
                   let s′ : ShowingBlock p (suc (k - 1)) r c κ ks bs at n = rw (← up) s in
@@ -180,5 +180,5 @@ pub leaf-shown : {m k r c κ at n : ℕ} {ks bs : List ℕ} → Shown m k r c κ
 leaf-shown a own one = record { deep = a .deep; block = a .block; leaf = one }
 
 -- what a call asks for its tallies
-pub counted-small : {t : Step} {m k r c κ at n u count next : ℕ} {ks bs : List ℕ} → Shown m k r c κ ks bs at n → BlockCounted t k r c κ ks bs at n u count next → k ≤ 9 → count ≤ 5 ^ 9
+pub counted-small : {t : Step} {m k r c κ at n u count next : ℕ} {ks bs : List ℕ} → Shown m k r c κ ks bs at n → StepCounted t k r c κ ks bs at n u count next → k ≤ 9 → count ≤ 5 ^ 9
 counted-small a h low = tallied-small (h .tallied (a .picture) (a .shown)) low

@@ -10,7 +10,7 @@ use Rattle.definitions.specs.Read.{room}
 use Rattle.definitions.specs.Buffer.{replaced}
 use Rattle.list.specs.Own.{OwnList, shownBy}
 use Rattle.step.specs.Step.{Step, stepOver}
-use Rattle.passes.specs.Passes.{Growing, Wrote}
+use Rattle.passes.specs.Passes.{Growing, WroteBefore}
 
 -- the first n records are a list, and there is room for what it becomes
 pub record Changeable (t : Step) (m : ℕ) (keys bits : List ℕ) (n after : ℕ) : Type 0 where
@@ -35,4 +35,4 @@ zeroed n after l = sets l after (replicate (n - after) 0)
 
 -- of whichever picture the records are what is left, its list after the step stands from the first place on
 pub record AllGrown (t : Step) (m left after : ℕ) (keys bits keys′ bits′ : List ℕ) : Type 0 where
-  pub holds : (p : Picture) → Growing t p m 0 0 0 keys bits left after → Wrote (listOf (stepOver t p) m 0 0 0) after keys bits keys′ bits′ 0
+  pub holds : (p : Picture) → Growing t p m 0 0 0 keys bits left after → WroteBefore (listOf (stepOver t p) m 0 0 0) after keys bits keys′ bits′ 0

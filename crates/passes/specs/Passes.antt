@@ -5,7 +5,7 @@ use mathlib.Core.Path.{_≡_}
 use mathlib.Core.List.{List, _++_}
 use lib.ListN.{length, getD, set, take, drop}
 use lib.Seq.{sets}
-use Rattle.keys.specs.Under.{Block}
+use Rattle.keys.specs.Under.{MapBlock}
 use Rattle.list.specs.Among.{keysBelow}
 use Rattle.build.specs.BuildBlocks.{Tallied}
 use Rattle.build.specs.declared.count.Tally.{Tally}
@@ -35,11 +35,11 @@ ShowingBlock p height row column key keys bits at n = Showing (listOf p height r
 pub record Shown (m height row column key : ℕ) (keys bits : List ℕ) (at n : ℕ) : Type 0 where
   pub picture : Picture
   pub deep : m ≤ 10
-  pub block : Block m height row column key
+  pub block : MapBlock m height row column key
   pub shown : ShowingBlock picture height row column key keys bits at n
 
 -- the bits and the number of records of a block after the step, and the place after its records before it, of whichever picture is shown
-pub record BlockCounted (t : Step) (height row column key : ℕ) (keys bits : List ℕ) (at n union count next : ℕ) : Type 0 where
+pub record StepCounted (t : Step) (height row column key : ℕ) (keys bits : List ℕ) (at n union count next : ℕ) : Type 0 where
   pub tallied : (p : Picture) → ShowingBlock p height row column key keys bits at n → Tallied (stepOver t p) height row column union count
   pub passed : (p : Picture) → ShowingBlock p height row column key keys bits at n → next ≡ at + length (listOf p height row column key)
 
@@ -85,7 +85,7 @@ laidOn (Leaf bits) log place l = l
 laidOn (Content start count) log place l = sets l (place + 1) (take (count - 1) (drop (start + 1) log))
 laidOn Cut log place l = l
 
-pub record Laid (meeting : Meeting) (own : ℕ) (logKeys logValues : List ℕ) (place : ℕ) (keys bits keys′ bits′ : List ℕ) (union next : ℕ) : Type 0 where
+pub record LeafLaid (meeting : Meeting) (own : ℕ) (logKeys logValues : List ℕ) (place : ℕ) (keys bits keys′ bits′ : List ℕ) (union next : ℕ) : Type 0 where
   pub keys-are : keys′ ≡ laidOn meeting logKeys place keys
   pub bits-are : bits′ ≡ laidOn meeting logValues place bits
   pub union-is : union ≡ knownOf meeting own 1 logValues .bits
@@ -99,7 +99,7 @@ pub record WriteAsked (l : List Record) (key end : ℕ) (keys bits : List ℕ) :
   pub in-bits : end ≤ length bits
 
 -- they stand before that place, and all other places are as they were
-pub record Wrote (l : List Record) (end : ℕ) (keys bits keys′ bits′ : List ℕ) (start : ℕ) : Type 0 where
+pub record WroteBefore (l : List Record) (end : ℕ) (keys bits keys′ bits′ : List ℕ) (start : ℕ) : Type 0 where
   pub start-is : start + length l ≡ end
   pub keys-are : keys′ ≡ sets keys start (keysOf l)
   pub bits-are : bits′ ≡ sets bits start (valuesOf l)
@@ -122,7 +122,7 @@ pub record Waiting (key : ℕ) (l : List Record) (count : ℕ) (keys bits : List
 -- they are passed, and others stand before `write`
 pub record Moved (l new : List Record) (keys bits : List ℕ) (read write : ℕ) (keys′ bits′ : List ℕ) (read′ write′ : ℕ) : Type 0 where
   pub passed : read′ + length l ≡ read
-  pub wrote : Wrote new write keys bits keys′ bits′ write′
+  pub wrote : WroteBefore new write keys bits keys′ bits′ write′
 
 -- what shrinking left of a block waits to grow
 pub record Growing (t : Step) (p : Picture) (height row column key : ℕ) (keys bits : List ℕ) (read write : ℕ) : Type 0 where
@@ -132,7 +132,7 @@ pub record Growing (t : Step) (p : Picture) (height row column key : ℕ) (keys 
 pub record GrowAsked (t : Step) (m height row column key : ℕ) (keys bits : List ℕ) (read write : ℕ) : Type 0 where
   pub picture : Picture
   pub deep : m ≤ 10
-  pub block : Block m height row column key
+  pub block : MapBlock m height row column key
   pub growing : Growing t picture height row column key keys bits read write
 
 -- the block's list of the step over the picture stands there, of whichever picture it is

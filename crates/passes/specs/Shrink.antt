@@ -70,7 +70,7 @@ keptPlace (Leaf bits) at next place = place + 1
 keptPlace (Content start count) at next place = place
 keptPlace Cut at next place = place
 
-pub record Kept (meeting : Meeting) (key own : ℕ) (keys bits : List ℕ) (at next place : ℕ) (keys′ bits′ : List ℕ) (union next′ place′ : ℕ) : Type 0 where
+pub record KeptForward (meeting : Meeting) (key own : ℕ) (keys bits : List ℕ) (at next place : ℕ) (keys′ bits′ : List ℕ) (union next′ place′ : ℕ) : Type 0 where
   pub union-is : union ≡ keptBits meeting own
   pub next-is : next′ ≡ next
   pub place-is : place′ ≡ keptPlace meeting at next place

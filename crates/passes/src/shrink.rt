@@ -4,7 +4,7 @@ ghost use mathlib.Core.Path.{_≡_};
 ghost use mathlib.Core.Bool.{cond};
 ghost use lib.Dec.{eqb};
 ghost use Rattle.step.specs.Deed.{Doable, stepOf, LeafAsked};
-ghost use Rattle.passes.specs.Shrink.{ShrinkAsked, Shrinks, isDecided, KeepAsked, Kept, OneAsked, LeafShrunk, OwnShrunk};
+ghost use Rattle.passes.specs.Shrink.{ShrinkAsked, Shrinks, isDecided, KeepAsked, KeptForward, OneAsked, LeafShrunk, OwnShrunk};
 use crate::block_end;
 use crate::tally;
 use build::count::Tally;
@@ -46,7 +46,7 @@ fn keep(
     bits: &mut [u32],
 ) -> Shrunk
     requires { ⌜ KeepAsked (now keys) (now bits) at next place ⌝ }
-    ensures { λ r. ⌜ Kept meeting key own (now (keys .entry)) (now (bits .entry)) at next place (now (keys .exit)) (now (bits .exit)) (r .bits) (r .next) (r .place) ⌝ }
+    ensures { λ r. ⌜ KeptForward meeting key own (now (keys .entry)) (now (bits .entry)) at next place (now (keys .exit)) (now (bits .exit)) (r .bits) (r .next) (r .place) ⌝ }
 {
     match meeting {
         Meeting::Apart => {

@@ -4,7 +4,7 @@ ghost use Rattle.definitions.specs.List.{listOf};
 ghost use Rattle.build.specs.BuildBlocks.{Fitting, Written};
 ghost use Rattle.step.specs.Step.{plain, stepOver};
 ghost use Rattle.step.specs.Deed.{Doable, stepOf, LeafAsked};
-ghost use Rattle.passes.specs.Passes.{WriteAsked, Wrote, Layable, Laid};
+ghost use Rattle.passes.specs.Passes.{WriteAsked, WroteBefore, Layable, LeafLaid};
 use crate::tally;
 use build::write;
 use build::write::Below;
@@ -25,7 +25,7 @@ fn lay(
     bits: &mut [u32],
 ) -> Below
     requires { ⌜ Layable meeting (now «log_keys») (now «log_values») place (now keys) (now bits) ⌝ }
-    ensures { λ r. ⌜ Laid meeting own (now («log_keys» .entry)) (now («log_values» .entry)) place (now (keys .entry)) (now (bits .entry)) (now (keys .exit)) (now (bits .exit)) (r .bits) (r .next) ⌝ }
+    ensures { λ r. ⌜ LeafLaid meeting own (now («log_keys» .entry)) (now («log_values» .entry)) place (now (keys .entry)) (now (bits .entry)) (now (keys .exit)) (now (bits .exit)) (r .bits) (r .next) ⌝ }
 {
     let first = place + 1;
     match meeting {
@@ -158,7 +158,7 @@ pub fn write_leaf(
 ) -> usize
     requires { ⌜ Doable m deed (now «log_keys») (now «log_values») × LeafAsked m b height row column key ⌝ }
     requires { ⌜ WriteAsked (listOf (stepOver (stepOf m deed (now «log_keys») (now «log_values»)) (plain (featureOf b))) height row column key) key end (now keys) (now bits) ⌝ }
-    ensures { λ r. ⌜ Wrote (listOf (stepOver (stepOf m deed (now («log_keys» .entry)) (now («log_values» .entry))) (plain (featureOf b))) height row column key) end (now (keys .entry)) (now (bits .entry)) (now (keys .exit)) (now (bits .exit)) r ⌝ }
+    ensures { λ r. ⌜ WroteBefore (listOf (stepOver (stepOf m deed (now («log_keys» .entry)) (now («log_values» .entry))) (plain (featureOf b))) height row column key) end (now (keys .entry)) (now (bits .entry)) (now (keys .exit)) (now (bits .exit)) r ⌝ }
 {
     let tally = tally::tally_leaf(deed, log_keys, log_values, m, b, height, row, column, key);
     let start = end - tally.count;

@@ -5,7 +5,7 @@ ghost use Rattle.definitions.specs.Bits.{featureOf};
 ghost use Rattle.build.specs.BuildBlocks.{Tallied};
 ghost use Rattle.step.specs.Step.{plain, stepOver};
 ghost use Rattle.step.specs.Deed.{Doable, stepOf, LeafAsked};
-ghost use Rattle.passes.specs.Passes.{Shown, BlockCounted, EndAsked, Readable, knownOf, PassedOver};
+ghost use Rattle.passes.specs.Passes.{Shown, StepCounted, EndAsked, Readable, knownOf, PassedOver};
 use crate::block_end;
 use build::count;
 use build::count::Tally;
@@ -106,7 +106,7 @@ pub fn tally_leaf(
 }
 
 // A block's bits and number of records after the step, and the place after its records before it.
-pub struct Passed {
+pub struct PassedBlock {
     pub tally: Tally,
     pub next: usize,
 }
@@ -120,12 +120,12 @@ fn pass_over(
     keys: &[u32],
     n: usize,
     log_values: &[u32],
-) -> Passed
+) -> PassedBlock
     requires { ⌜ Readable meeting (now «log_values») × EndAsked (now keys) at n past ⌝ }
     ensures { λ r. ⌜ PassedOver meeting own past at (now (keys .entry)) n (now («log_values» .entry)) (r .tally) (r .next) ⌝ }
 {
     let next = block_end::block_end(keys, at, n, past);
-    Passed {
+    PassedBlock {
         tally: known(meeting, own, next - at, log_values),
         next,
     }
@@ -145,14 +145,14 @@ pub fn tally_records(
     keys: &[u32],
     bits: &[u32],
     n: usize,
-) -> Passed
+) -> PassedBlock
     requires { ⌜ Doable m deed (now «log_keys») (now «log_values») × Shown m height row column key (now keys) (now bits) at n ⌝ }
-    ensures { λ r. ⌜ BlockCounted (stepOf m deed (now («log_keys» .entry)) (now («log_values» .entry))) height row column key (now (keys .entry)) (now (bits .entry)) at n (r .tally .bits) (r .tally .count) (r .next) ⌝ }
+    ensures { λ r. ⌜ StepCounted (stepOf m deed (now («log_keys» .entry)) (now («log_values» .entry))) height row column key (now (keys .entry)) (now (bits .entry)) at n (r .tally .bits) (r .tally .count) (r .next) ⌝ }
 {
     let own = bits[at];
     if check::has_one_slot(own) {
         let tally = tally_leaf(deed, log_keys, log_values, m, own, height, row, column, key);
-        return Passed {
+        return PassedBlock {
             tally,
             next: at + 1,
         };
@@ -226,5 +226,5 @@ pub fn tally_records(
     );
     let tally = count::joined(nw.tally, ne.tally, sw.tally, se.tally);
     let next = se.next;
-    Passed { tally, next }
+    PassedBlock { tally, next }
 }

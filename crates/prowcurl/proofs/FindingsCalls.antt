@@ -33,9 +33,9 @@ use Rattle.definitions.proofs.Rule as Rule
 use Rattle.definitions.proofs.Found as Found
 use Rattle.definitions.proofs.Found.Laws as Found′
 use Rattle.rules.specs.Run.{progressOf, bounding, tableRun, beginOf, ownAt, afterRun, answerOf}
-use Rattle.rules.specs.declared.state.State.{State}
-use Rattle.rules.proofs.state.State as State
-use Rattle.rules.proofs.state.State.Laws as State′
+use Rattle.rules.specs.declared.state.RunState.{RunState}
+use Rattle.rules.proofs.state.RunState as RunState
+use Rattle.rules.proofs.state.RunState.Laws as State′
 use Rattle.lending.proofs.Chains.{chain, apart}
 use Rattle.lending.proofs.Slices.{Slice, val, token, shared, at-list, copied}
 use Rattle.lending.proofs.Calling.{Gives, Returned, returns-struct}
@@ -69,11 +69,11 @@ abbrev pub begin-passes : RunSlices → Slice u32 → ℕ → ℕ → ℕ → �
 begin-passes S offices m s n office rows = vint w32 m ∷ vint w32 s ∷ val (S .keys) ∷ val (S .bits) ∷ vint w64 n ∷ vint w32 office ∷ val offices ∷ val (S .waiver-ids) ∷ val (S .waiver-keys)
     ∷ vint w64 rows ∷ vint w64 (length (S .found-ids .x .now)) ∷ vint w64 (length (S .found-keys .x .now)) ∷ []
 
-abbrev pub run-passes : Slice Rule.the-row → RunSlices → State → List Val
+abbrev pub run-passes : Slice Rule.the-row → RunSlices → RunState → List Val
 run-passes rules S r = val rules ∷ val (S .keys) ∷ val (S .bits) ∷ val (S .waiver-ids) ∷ val (S .waiver-keys) ∷ val (S .found-ids) ∷ val (S .found-keys) ∷ valOf r ∷ []
 
 -- r is the state that `begin` makes
-abbrev pub Begun : RunSlices → Slice u32 → ℕ → ℕ → ℕ → ℕ → ℕ → State → Type 0
+abbrev pub Begun : RunSlices → Slice u32 → ℕ → ℕ → ℕ → ℕ → ℕ → RunState → Type 0
 Begun S offices m s n office rows r = r ≡ bounding 0 (beginOf m s (S .keys .x .now) (S .bits .x .now) n office
     (ownAt m s (S .keys .x .now) (S .bits .x .now) n office (offices .x .now) (S .waiver-ids .x .now) (S .waiver-keys .x .now) rows) (length (S .found-ids .x .now)) (length (S .found-keys .x .now)))
 
@@ -82,25 +82,25 @@ abbrev pub each-begin-token : RunSlices → Slice u32 → List Fml
 each-begin-token S offices = token (S .keys) ∷ token (S .bits) ∷ token offices ∷ token (S .waiver-ids) ∷ token (S .waiver-keys) ∷ []
 
 -- what a run over the rules from the progress of r, l and l′ ends with
-abbrev pub Ran : Slice Rule.the-row → RunSlices → State → List ℕ → List ℕ → Type 0
+abbrev pub Ran : Slice Rule.the-row → RunSlices → RunState → List ℕ → List ℕ → Type 0
 Ran rules S r l l′ = Result S (tableRun (S .keys .x .now) (S .bits .x .now) (S .waiver-ids .x .now) (S .waiver-keys .x .now) (rules .x .now) (progressOf r l l′))
 
 module _ {M : Type 1} (𝓤 : URA M) (H : Heap 𝓤) (A : Atoms 𝓤) (W : Given 𝓤 H A) (mem : Memory → SProp 𝓤) (run : Routine → Fun 𝓤) (C : Calls 𝓤 H) (fm : FmC 𝓤 H (W .laws) C) where
   -- ---- begin_next and answer: a state by value
-  abbrev state-asked : State → SProp 𝓤
-  state-asked r = sep 𝓤 (sep 𝓤 (emp 𝓤) (sem 𝓤 H A (fsep (State.the-row .own r (stateVals r)) ftrue))) (emp 𝓤)
+  abbrev state-asked : RunState → SProp 𝓤
+  state-asked r = sep 𝓤 (sep 𝓤 (emp 𝓤) (sem 𝓤 H A (fsep (RunState.the-row .own r (stateVals r)) ftrue))) (emp 𝓤)
 
-  asks-state : (r : State) → Is State.the-row r (stateVals r) → ent 𝓤 (emp 𝓤) (state-asked r)
-  asks-state r is = qed W (‵ ftrue ∷ []) ∵ nothing ! $ owned ! State.the-row (Is State.the-row) (LL.makes State.the-type State′.the-plain 𝓤 H A) r _ is $ fjoin ! $ nothing ! $ join ! $ frame ! $ done !
+  asks-state : (r : RunState) → Is RunState.the-row r (stateVals r) → ent 𝓤 (emp 𝓤) (state-asked r)
+  asks-state r is = qed W (‵ ftrue ∷ []) ∵ nothing ! $ owned ! RunState.the-row (Is RunState.the-row) (LL.makes RunState.the-type State′.the-plain 𝓤 H A) r _ is $ fjoin ! $ nothing ! $ join ! $ frame ! $ done !
 
-  module _ (known : Triple 𝓤 (C #next) (Next 𝓤 H A mem run)) (r : State) (is : Is State.the-row r (stateVals r)) where
-    pub next-gives : Gives W C #next (valOf r ∷ []) (‵ ftrue) (Returned State.the-type State′.the-laws (λ r′. r′ ≡ afterRun r)) (λ x. valOf (x .result)) (λ _. ‵ ftrue)
-    next-gives = returns-struct 𝓤 H A W C fm #next (valOf r ∷ []) State.the-type State′.the-laws (λ r′. r′ ≡ afterRun r)
+  module _ (known : Triple 𝓤 (C #next) (Next 𝓤 H A mem run)) (r : RunState) (is : Is RunState.the-row r (stateVals r)) where
+    pub next-gives : Gives W C #next (valOf r ∷ []) (‵ ftrue) (Returned RunState.the-type State′.the-laws (λ r′. r′ ≡ afterRun r)) (λ x. valOf (x .result)) (λ _. ‵ ftrue)
+    next-gives = returns-struct 𝓤 H A W C fm #next (valOf r ∷ []) RunState.the-type State′.the-laws (λ r′. r′ ≡ afterRun r)
         (λ r′. ensured 𝓤 H A next.ended (next.clauses 𝓤 H A mem run) tt (r, tt) tt r′) (‵ ftrue) (‵ ftrue)
         (via 𝓤 (state-asked r) (asks-state r is) (known ((tt, tt, tt, (r, tt), (stateVals r, tt)), tt)))
         (λ r′. exE 𝓤 _ (λ ws. snd∗ 𝓤 (sem 𝓤 H A (lasts next.ended tt (r, tt) ws)) (fact 𝓤 (r′ ≡ afterRun r))))
 
-  module _ (known : Triple 𝓤 (C #answer) (Answer 𝓤 H A mem run)) (r : State) (is : Is State.the-row r (stateVals r)) where
+  module _ (known : Triple 𝓤 (C #answer) (Answer 𝓤 H A mem run)) (r : RunState) (is : Is RunState.the-row r (stateVals r)) where
     pub answer-gives : Gives W C #answer (valOf r ∷ []) (‵ ftrue) (Returned Found.the-type Found′.the-laws (λ f. f ≡ answerOf r)) (λ x. LL.val Found.the-type Found′.the-laws (x .result)) (λ _. ‵ ftrue)
     answer-gives = returns-struct 𝓤 H A W C fm #answer (valOf r ∷ []) Found.the-type Found′.the-laws (λ f. f ≡ answerOf r)
         (λ f. ensured 𝓤 H A answer.ended (answer.clauses 𝓤 H A mem run) tt (r, tt) tt f) (‵ ftrue) (‵ ftrue)
@@ -173,14 +173,14 @@ module _ {M : Type 1} (𝓤 : URA M) (H : Heap 𝓤) (A : Atoms 𝓤) (W : Given
           -- [0 m; 1 s; 2 n; 3 office; 4 rows; 5 and 6 the two lengths; 7 nothing; 8 keys; 9 bits; 10 waiver_ids; 11 waiver_keys; 12 offices; 13 the tokens]
           move ! (13 ∷ 0 ∷ 1 ∷ 8 ∷ 9 ∷ 2 ∷ 3 ∷ 12 ∷ 10 ∷ 11 ∷ 4 ∷ 5 ∷ 6 ∷ 7 ∷ []) $ group ! 14 $ frame ! $ done !
 
-      pub begin-gives : Gives W C #begin (begin-passes S offices m s n office rows) taken (Returned State.the-type State′.the-laws (Begun S offices m s n office rows)) (λ x. valOf (x .result)) (λ _. given-back)
-      begin-gives = returns-struct 𝓤 H A W C fm #begin (begin-passes S offices m s n office rows) State.the-type State′.the-laws (Begun S offices m s n office rows)
+      pub begin-gives : Gives W C #begin (begin-passes S offices m s n office rows) taken (Returned RunState.the-type State′.the-laws (Begun S offices m s n office rows)) (λ x. valOf (x .result)) (λ _. given-back)
+      begin-gives = returns-struct 𝓤 H A W C fm #begin (begin-passes S offices m s n office rows) RunState.the-type State′.the-laws (Begun S offices m s n office rows)
           (λ r. ensured 𝓤 H A begin.ended (begin.clauses 𝓤 H A mem run) begin-lifetimes begin-args tt r)
           taken given-back (via 𝓤 (Begin 𝓤 H A mem run .pre to-begin) asks-begin (known to-begin))
           (λ r. exE 𝓤 _ (λ ws. snd∗ 𝓤 (sem 𝓤 H A (lasts begin.ended begin-lifetimes begin-args ws)) (fact 𝓤 (Begun S offices m s n office rows r))))
 
     -- ---- run
-    module _ (known : Triple 𝓤 (C #run) (Run 𝓤 H A mem run)) (rules : Slice Rule.the-row) (r : State) (l l′ : List ℕ) where
+    module _ (known : Triple 𝓤 (C #run) (Run 𝓤 H A mem run)) (rules : Slice Rule.the-row) (r : RunState) (l l′ : List ℕ) where
       abbrev run-lifetimes : ℕ → ℕ → Lfts 7
       run-lifetimes ν ν′ = (rules .κ, (S .keys .κ, (S .bits .κ, (S .waiver-ids .κ, (S .waiver-keys .κ, (ν ∷ [], (ν′ ∷ [], tt)))))))
 
@@ -208,7 +208,7 @@ module _ {M : Type 1} (𝓤 : URA M) (H : Heap 𝓤) (A : Atoms 𝓤) (W : Given
       back : (ν ν′ : ℕ) → ent 𝓤 (alive 𝓤 H A run′.signature (run-lifetimes ν ν′) (run-shares tt)) (mean 𝓤 H A (B ⊛ ‵ (flft (ν ∷ []) fullShare) ⊛ ‵ (flft (ν′ ∷ []) fullShare)))
       back ν ν′ = qed W (‵ (fsep (token rules) (call-tokens S ν ν′)) ∷ []) ∵ fsplit ! $ move ! (1 ∷ []) $ scatters S ν ν′ W ! $ move ! (3 ∷ 0 ∷ []) $ join ! $ done !
 
-      module _ (is : Is State.the-row r (stateVals r)) (ready : ReadyAt S (progressOf r l l′))
+      module _ (is : Is RunState.the-row r (stateVals r)) (ready : ReadyAt S (progressOf r l l′))
           (len : length l ≡ length (S .found-ids .x .now)) (len′ : length l′ ≡ length (S .found-keys .x .now)) where
         asks-run : (ν ν′ : ℕ) (δ δ′ : GName) → ent 𝓤 (⋆ 𝓤 H A (Lending 𝓤 P S l l′ ν ν′ δ δ′)) (Run 𝓤 H A mem run .pre (to-run ν ν′ δ δ′))
         asks-run ν ν′ δ δ′ =

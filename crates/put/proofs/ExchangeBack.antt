@@ -10,7 +10,7 @@ use lib.Seq.{sets}
 use Rattle.keys.proofs.Cases.{split}
 use Rattle.definitions.specs.List.{Record, keysOf, valuesOf}
 use Rattle.put.specs.Plant.{digitAt, leaves, backAt, back}
-use Rattle.put.specs.Planting.{Wrote, Roomy, Deep}
+use Rattle.put.specs.Planting.{WroteFrom, Roomy, Deep}
 use Rattle.put.proofs.Field.{back-suc}
 use Rattle.put.proofs.ExchangeLevel.{back-at-length, back-at, write-two, wrote-keys, wrote-bits}
 use Rattle.put.proofs.ExchangeFront.{TurnLevel, level-of}
@@ -19,7 +19,7 @@ use Rattle.put.proofs.ExchangeFront.{TurnLevel, level-of}
 pub record Backing (keys₀ bits₀ : List ℕ) (at key low levels g : ℕ) (keys bits : List ℕ) (done step place : ℕ) : Type 0 where
   pub within : done ≤ levels
   pub power : step ≡ 5 ^ (low + done)
-  pub wrote : Wrote (back key g low done) at keys₀ bits₀ keys bits place
+  pub wrote : WroteFrom (back key g low done) at keys₀ bits₀ keys bits place
 
 -- at the start none is
 pub back-begins : (keys bits : List ℕ) (at key low levels g step : ℕ) → step ≡ 5 ^ low → Backing keys bits at key low levels g keys bits 0 step at
@@ -72,7 +72,7 @@ module _ {keys₀ bits₀ : List ℕ} {at key low levels g : ℕ} {keys bits : L
   pub back-turns : (h : done < levels) (digit r : ℕ) (keys′ bits′ : List ℕ)
       → TurnLevel key (low + done) (step * 5) step place keys bits (4 - digitAt (low + done) key)
       → digit ≡ digitAt (low + done) key
-      → Wrote (leaves g (key / (step * 5) * (step * 5)) (low + done) (4 - digit) (digit + 1)) place keys bits keys′ bits′ r
+      → WroteFrom (leaves g (key / (step * 5) * (step * 5)) (low + done) (4 - digit) (digit + 1)) place keys bits keys′ bits′ r
       → Backing keys₀ bits₀ at key low levels g keys′ bits′ (done + 1) (step * 5) r
   back-turns more digit r keys′ bits′ l is w =
       let parent : ℕ = key / (step * 5) * (step * 5) in
@@ -101,8 +101,8 @@ module _ {keys₀ bits₀ : List ℕ} {at key low levels g : ℕ} {keys bits : L
       }
 
   -- all levels are
-  pub back-ends : levels ≤ done → Wrote (back key g low levels) at keys₀ bits₀ keys bits place
+  pub back-ends : levels ≤ done → WroteFrom (back key g low levels) at keys₀ bits₀ keys bits place
   back-ends h =
       let within = p .within in
       let e : done ≡ levels = omega arith in
-      subst (λ n. Wrote (back key g low n) at keys₀ bits₀ keys bits place) e (p .wrote)
+      subst (λ n. WroteFrom (back key g low n) at keys₀ bits₀ keys bits place) e (p .wrote)

@@ -17,7 +17,7 @@ use Rattle.put.specs.Family.{around}
 use Rattle.put.specs.Plant.{digitAt, frontAt, backAt, front, back}
 use Rattle.put.specs.Put.{firstBits, filling, inserted, bitsBefore}
 use Rattle.put.specs.declared.plan.Plan.{Plan}
-use Rattle.put.specs.Planting.{Wrote, Deep}
+use Rattle.put.specs.Planting.{WroteFrom, Deep}
 use Rattle.put.specs.Exchanging.{insertedFor}
 use Rattle.put.proofs.Field.{front-suc, back-suc, level-length}
 use Rattle.put.proofs.FamilyRead.{around-own}
@@ -42,7 +42,7 @@ filling-length κ content top =
 module _ (κ top at : ℕ) (keys bits contentKeys contentBits : List ℕ) (count : ℕ) (fits : count ≤ room contentKeys contentBits) where
   -- the filling of one record is written
   pub filling-wrote-one : (step : ℕ) → count ≡ 1 → step ≡ 5 ^ top
-      → Wrote (filling κ (recordsOf contentKeys contentBits count) top) at keys bits (set keys at (κ / step * step)) (set bits at (getD contentBits 0 0)) (at + count)
+      → WroteFrom (filling κ (recordsOf contentKeys contentBits count) top) at keys bits (set keys at (κ / step * step)) (set bits at (getD contentBits 0 0)) (at + count)
   filling-wrote-one step one power =
       let size = records-length contentKeys contentBits count (omega arith) (omega arith) in
       let is = filling-one κ (recordsOf contentKeys contentBits count) top (omega arith) in
@@ -55,7 +55,7 @@ module _ (κ top at : ℕ) (keys bits contentKeys contentBits : List ℕ) (count
 
   -- and any other
   pub filling-wrote-more : (keys′ bits′ : List ℕ) → (count ≡ 1 → ⊥) → keys′ ≡ sets keys at (take count contentKeys) → bits′ ≡ sets bits at (take count contentBits)
-      → Wrote (filling κ (recordsOf contentKeys contentBits count) top) at keys bits keys′ bits′ (at + count)
+      → WroteFrom (filling κ (recordsOf contentKeys contentBits count) top) at keys bits keys′ bits′ (at + count)
   filling-wrote-more keys′ bits′ more e f =
       let size = records-length contentKeys contentBits count (omega arith) (omega arith) in
       let is = filling-more κ (recordsOf contentKeys contentBits count) top (λ one. more (omega arith)) in
@@ -67,8 +67,8 @@ module _ (κ top at : ℕ) (keys bits contentKeys contentBits : List ℕ) (count
       }
 
 -- records written one after the other
-pub wrote-join : {s t : List Record} {at i j : ℕ} {keys bits keys′ bits′ keys″ bits″ : List ℕ} → Wrote s at keys bits keys′ bits′ i → Wrote t i keys′ bits′ keys″ bits″ j
-    → Wrote (s ++ t) at keys bits keys″ bits″ j
+pub wrote-join : {s t : List Record} {at i j : ℕ} {keys bits keys′ bits′ keys″ bits″ : List ℕ} → WroteFrom s at keys bits keys′ bits′ i → WroteFrom t i keys′ bits′ keys″ bits″ j
+    → WroteFrom (s ++ t) at keys bits keys″ bits″ j
 wrote-join {s} {t} {at} {i} {keys = keys} {bits} v w =
     let e = v .end in
     let f = w .end in
@@ -117,13 +117,13 @@ inserted-for l κ content plan g e =
 -- the three runs are all that is put in
 pub inserted-wrote : {keys bits keys₁ bits₁ keys₂ bits₂ keys₃ bits₃ : List ℕ} {i j r : ℕ} (g v κ : ℕ) (content : List Record) (plan : Plan) (s : ℕ)
     → v ≡ bitOr g (firstBits content)
-    → Wrote (front κ g v (plan .top) (plan .levels)) (plan .start) keys bits keys₁ bits₁ i
-    → Wrote (filling κ content (plan .top)) i keys₁ bits₁ keys₂ bits₂ j
-    → Wrote (back κ g (plan .top) (plan .levels)) j keys₂ bits₂ keys₃ bits₃ r
+    → WroteFrom (front κ g v (plan .top) (plan .levels)) (plan .start) keys bits keys₁ bits₁ i
+    → WroteFrom (filling κ content (plan .top)) i keys₁ bits₁ keys₂ bits₂ j
+    → WroteFrom (back κ g (plan .top) (plan .levels)) j keys₂ bits₂ keys₃ bits₃ r
     → r ≡ s
-    → Wrote (insertedFor g κ content plan) (plan .start) keys bits keys₃ bits₃ s
+    → WroteFrom (insertedFor g κ content plan) (plan .start) keys bits keys₃ bits₃ s
 unfolding insertedFor
 inserted-wrote {keys} {bits} {keys₃ = keys₃} {bits₃} {r = r} g v κ content plan s e a b c last =
-    subst (λ x. Wrote (front κ g x (plan .top) (plan .levels) ++ (filling κ content (plan .top) ++ back κ g (plan .top) (plan .levels))) (plan .start) keys bits keys₃ bits₃ s) e
-    (subst (λ x. Wrote (front κ g v (plan .top) (plan .levels) ++ (filling κ content (plan .top) ++ back κ g (plan .top) (plan .levels))) (plan .start) keys bits keys₃ bits₃ x) last
+    subst (λ x. WroteFrom (front κ g x (plan .top) (plan .levels) ++ (filling κ content (plan .top) ++ back κ g (plan .top) (plan .levels))) (plan .start) keys bits keys₃ bits₃ s) e
+    (subst (λ x. WroteFrom (front κ g v (plan .top) (plan .levels) ++ (filling κ content (plan .top) ++ back κ g (plan .top) (plan .levels))) (plan .start) keys bits keys₃ bits₃ x) last
     (wrote-join a (wrote-join b c)))

@@ -11,7 +11,7 @@ use Rattle.keys.proofs.Powers.{five-pos, five-le}
 use Rattle.definitions.specs.List.{Record, recordOf, keysOf, valuesOf}
 use Rattle.put.specs.Family.{around}
 use Rattle.put.specs.Plant.{digitAt, leaves, frontAt, front}
-use Rattle.put.specs.Planting.{Wrote, Roomy, Deep}
+use Rattle.put.specs.Planting.{WroteFrom, Roomy, Deep}
 use Rattle.put.proofs.Field.{front-suc}
 use Rattle.put.proofs.FamilyRead.{around-parent}
 use Rattle.put.proofs.ExchangeLevel.{front-at-length, front-at, write-three, wrote-keys, wrote-bits}
@@ -105,7 +105,7 @@ module _ {keys₀ bits₀ : List ℕ} {at key low levels g v : ℕ} {keys bits :
   pub front-turns : (h : 0 < left) (before r : ℕ) (keys′ bits′ : List ℕ)
       → TurnLevel key (low + (left - 1)) wide (wide / 5) place keys bits (digitAt (low + (left - 1)) key)
       → before ≡ digitAt (low + (left - 1)) key - 1
-      → Wrote (leaves g (key / wide * wide) (low + (left - 1)) before 1) (place + 1) (set keys place (key / wide * wide)) (set bits place v) keys′ bits′ r
+      → WroteFrom (leaves g (key / wide * wide) (low + (left - 1)) before 1) (place + 1) (set keys place (key / wide * wide)) (set bits place v) keys′ bits′ r
       → Fronting keys₀ bits₀ at key low levels g v keys′ bits′ (left - 1) (wide / 5) r
   front-turns more before r keys′ bits′ l is w =
       let h : ℕ = low + (left - 1) in
@@ -137,7 +137,7 @@ module _ {keys₀ bits₀ : List ℕ} {at key low levels g v : ℕ} {keys bits :
       }
 
   -- none is left: all are written
-  pub front-ends : left ≤ 0 → Wrote (front key g v low levels) at keys₀ bits₀ keys bits place
+  pub front-ends : left ≤ 0 → WroteFrom (front key g v low levels) at keys₀ bits₀ keys bits place
   front-ends h =
       let none : front key g v low left ≡ [] = ap (front key g v low) (omega arith) ∙ front-none key g v low in
       let e = ap length none in

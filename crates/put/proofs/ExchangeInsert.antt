@@ -15,8 +15,8 @@ use Rattle.list.proofs.Among.{keys-of-records, values-of-records}
 use Rattle.put.specs.Plant.{front, back}
 use Rattle.put.specs.Put.{filling, inserted, exchanged}
 use Rattle.put.specs.declared.plan.Plan.{Plan}
-use Rattle.put.specs.Planting.{Wrote, Roomy}
-use Rattle.put.specs.Exchanging.{insertedFor, Fillable, Insertable, Exchangeable, Holds}
+use Rattle.put.specs.Planting.{WroteFrom, Roomy}
+use Rattle.put.specs.Exchanging.{insertedFor, Copyable, Insertable, Exchangeable, SlicesHold}
 use Rattle.put.proofs.ByKeys.{exchanged-as-keys, exchanged-as-values}
 use Rattle.put.proofs.ExchangeLevel.{wrote-keys, wrote-bits}
 use Rattle.put.proofs.ExchangeFilling.{level-places, inserted-length, inserted-for, inserted-wrote}
@@ -31,9 +31,9 @@ module _ {keys bits : List ℕ} {κ : ℕ} {plan : Plan} {contentKeys contentBit
       let f = i .fits in
       record { in-keys = omega arith; in-bits = omega arith }
 
-  module _ {keys₁ bits₁ : List ℕ} {at : ℕ} (w : Wrote (front κ g v (plan .top) (plan .levels)) (plan .start) keys bits keys₁ bits₁ at) where
+  module _ {keys₁ bits₁ : List ℕ} {at : ℕ} (w : WroteFrom (front κ g v (plan .top) (plan .levels)) (plan .start) keys bits keys₁ bits₁ at) where
     -- then for the content
-    pub insert-filling : Fillable at keys₁ bits₁ contentKeys contentBits count
+    pub insert-filling : Copyable at keys₁ bits₁ contentKeys contentBits count
     insert-filling =
         let p = level-places g v (i .deep) in
         let f = i .fits in
@@ -43,7 +43,7 @@ module _ {keys bits : List ℕ} {κ : ℕ} {plan : Plan} {contentKeys contentBit
         record { some = i .some; content-fits = i .content-fits; fits = omega arith }
 
     module _ {keys₂ bits₂ : List ℕ}
-        (u : Wrote (filling κ (recordsOf contentKeys contentBits count) (plan .top)) at keys₁ bits₁ keys₂ bits₂ (at + count)) where
+        (u : WroteFrom (filling κ (recordsOf contentKeys contentBits count) (plan .top)) at keys₁ bits₁ keys₂ bits₂ (at + count)) where
       -- and then for the records after it
       pub insert-back : Roomy (back κ g (plan .top) (plan .levels)) (at + count) keys₂ bits₂
       insert-back =
@@ -58,8 +58,8 @@ module _ {keys bits : List ℕ} {κ : ℕ} {plan : Plan} {contentKeys contentBit
 
       -- all of it is put in
       pub insert-done : {keys₃ bits₃ : List ℕ} {r : ℕ} → v ≡ bitOr g (getD contentBits 0 0)
-          → Wrote (back κ g (plan .top) (plan .levels)) (at + count) keys₂ bits₂ keys₃ bits₃ r
-          → Wrote (insertedFor g κ (recordsOf contentKeys contentBits count) plan) (plan .start) keys bits keys₃ bits₃ (plan .start + (4 * plan .levels + count))
+          → WroteFrom (back κ g (plan .top) (plan .levels)) (at + count) keys₂ bits₂ keys₃ bits₃ r
+          → WroteFrom (insertedFor g κ (recordsOf contentKeys contentBits count) plan) (plan .start) keys bits keys₃ bits₃ (plan .start + (4 * plan .levels + count))
       insert-done is t =
           let p = level-places g v (i .deep) in
           let e = w .end in
@@ -96,8 +96,8 @@ module _ {keys bits : List ℕ} {n κ : ℕ} {plan : Plan} {contentKeys contentB
   pub exchange-done : {keys₁ bits₁ keys₂ bits₂ : List ℕ}
       → keys₁ ≡ sets keys (plan .start + (4 * plan .levels + count)) (take (n - (plan .start + plan .old)) (drop (plan .start + plan .old) keys))
       → bits₁ ≡ sets bits (plan .start + (4 * plan .levels + count)) (take (n - (plan .start + plan .old)) (drop (plan .start + plan .old) bits))
-      → Wrote (insertedFor (getD bits (plan .start) 0) κ content plan) (plan .start) keys₁ bits₁ keys₂ bits₂ (plan .start + (4 * plan .levels + count))
-      → Holds (exchanged list κ content plan) keys bits keys₂ bits₂
+      → WroteFrom (insertedFor (getD bits (plan .start) 0) κ content plan) (plan .start) keys₁ bits₁ keys₂ bits₂ (plan .start + (4 * plan .levels + count))
+      → SlicesHold (exchanged list κ content plan) keys bits keys₂ bits₂
   exchange-done {keys₁} {bits₁} e f w =
       let within = i .within in
       let fits = i .list-fits in

@@ -11,7 +11,7 @@ use Rattle.definitions.specs.List.{Record, recordOf, keysOf, valuesOf}
 use Rattle.slices.proofs.Sets.{sets-cons, sets-join}
 use Rattle.put.specs.Family.{around}
 use Rattle.put.specs.Plant.{digitAt, leaves, frontAt, backAt}
-use Rattle.put.specs.Planting.{Wrote}
+use Rattle.put.specs.Planting.{WroteFrom}
 use Rattle.put.proofs.Field.{leaves-length}
 use Rattle.put.proofs.FamilyRead.{around-own, around-parent}
 
@@ -70,7 +70,7 @@ write-two f l place r s t is =
     ∙ ap (sets l place) (sym (map-append f s t))
 
 -- slices keep their lengths where records are written
-module _ {l : List Record} {at : ℕ} {keys bits keys′ bits′ : List ℕ} {r : ℕ} (w : Wrote l at keys bits keys′ bits′ r) where
+module _ {l : List Record} {at : ℕ} {keys bits keys′ bits′ : List ℕ} {r : ℕ} (w : WroteFrom l at keys bits keys′ bits′ r) where
   -- that of the keys
   pub wrote-keys : length keys′ ≡ length keys
   wrote-keys = ap length (w .in-keys) ∙ length-sets keys at (keysOf l)

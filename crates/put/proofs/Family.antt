@@ -8,7 +8,7 @@ use native.Mathlib.Omega.{arith}
 use borrow.Author.Tests.{eq-eqb, ne-eqb}
 use Rattle.keys.specs.Key.{childKey}
 use Rattle.keys.proofs.Cases.{equal}
-use Rattle.keys.specs.Under.{Under, Block, Quadrant, is-nw, is-ne, is-sw, is-se}
+use Rattle.keys.specs.Under.{Under, MapBlock, Quadrant, is-nw, is-ne, is-sw, is-se}
 use Rattle.keys.proofs.Under.{quadrant-under}
 use Rattle.keys.proofs.Interval.{within, one-block}
 use Rattle.keys.proofs.Parent.{quadrant-of}
@@ -25,7 +25,7 @@ use Rattle.put.proofs.Outside.{Outside, agree-sibling}
 use Rattle.put.proofs.Standing.{bits-at}
 
 -- the block of its height around a key of its interval is that block
-pub around-is : {m k r c κ x : ℕ} → Block m k r c κ → InKeys k κ x → around k x ≡ κ
+pub around-is : {m k r c κ x : ℕ} → MapBlock m k r c κ → InKeys k κ x → around k x ≡ κ
 unfolding around
 around-is {k = k} {x = x} b i =
     let n = multiple b in
@@ -58,7 +58,7 @@ child-bits p l {k} {r₁ = r₁} {c₁} {κ₁} {r₂} {c₂} {κ₂} q others q
 
 -- the bits of a parent, found from a key of the quadrant
 pub parent-bits : (p : Picture) (l : List Record) {m k r c κ r′ c′ κ′ x : ℕ}
-    → Block m (suc k) r c κ
+    → MapBlock m (suc k) r c κ
     → (q : Quadrant k r c κ r′ c′ κ′)
     → InKeys k κ′ x
     → OthersRead p l κ′ k r c κ

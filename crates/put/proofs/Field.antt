@@ -7,7 +7,7 @@ use mathlib.Core.List.{List, [], _∷_, _++_, append-assoc, append-nil}
 use native.Mathlib.Omega.{arith}
 use lib.Bits.{bitOr, or-self}
 use lib.ListN.{length, length-append}
-use Rattle.keys.specs.Under.{Under, Block, Quadrant, is-nw, is-ne, is-sw, is-se}
+use Rattle.keys.specs.Under.{Under, MapBlock, Quadrant, is-nw, is-ne, is-sw, is-se}
 use Rattle.keys.proofs.Under.{quadrant-under, under-trans}
 use Rattle.keys.proofs.Pixel.{InKeys}
 use Rattle.definitions.specs.Picture.{Picture, oneFeature}
@@ -84,7 +84,7 @@ or-again g b = sym (or-assoc g g b) ∙ ap (λ x. bitOr x b) (or-self g)
 
 -- one level more
 pub planted-up : (p : Picture) {x g v k n : ℕ} {content : List Record} {m h r c κ r′ c′ κ′ : ℕ}
-    → Block m (suc h) r c κ
+    → MapBlock m (suc h) r c κ
     → (q : Quadrant h r c κ r′ c′ κ′)
     → InKeys h κ′ x
     → OthersAre p g κ′ h r c κ
@@ -116,7 +116,7 @@ planted-up p {x} {g} {v} {k} {n} {content} {h = h} {r} {c} {κ} {r′} {c′} {�
 -- in a leaf of the old picture, the quadrants beside the changed one are leaves of its feature
 pub field-others : (p p′ : Picture) {m h r c κ k r₁ c₁ κ₁ r₂ c₂ κ₂ : ℕ}
     → oneFeature p h r c ≡ true
-    → Block m h r c κ
+    → MapBlock m h r c κ
     → Under h r c κ (suc k) r₁ c₁ κ₁
     → Quadrant k r₁ c₁ κ₁ r₂ c₂ κ₂
     → Outside p p′ k r₂ c₂
@@ -132,7 +132,7 @@ field-others p p′ {h = h} {r} {c} {k = k} one b u q out r₃ c₃ κ₃ q′ o
 -- all levels up to the leaf
 pub planted-all : (p p′ : Picture) {m H R C Κ x v k n : ℕ} {content : List Record} {h r c κ : ℕ}
     → oneFeature p H R C ≡ true
-    → Block m H R C Κ
+    → MapBlock m H R C Κ
     → (w : Way H R C Κ h r c κ)
     → Outside p p′ h r c
     → Open p′ w

@@ -4,7 +4,7 @@ use Prim.Native.Nat.{ℕ, suc, _+_, _^_, _≤_}
 use mathlib.Core.Path.{_≡_}
 use mathlib.Core.Logic.{_⊎_, inl, inr}
 use native.Mathlib.Omega.{arith}
-use Rattle.keys.specs.Under.{Under, Block, Quadrant}
+use Rattle.keys.specs.Under.{Under, MapBlock, Quadrant}
 use Rattle.keys.proofs.Under.{quadrant-under}
 use Rattle.keys.proofs.Interval.{within, apart}
 use Rattle.keys.proofs.Pixel.{InSquare, InKeys, inside}
@@ -27,8 +27,8 @@ Apart k κ k′ κ′ = (κ + 5 ^ k ≤ κ′) ⊎ (κ′ + 5 ^ k′ ≤ κ)
 
 -- blocks whose keys do not meet have no pixel in common
 pub apart-pixels : {m k r c κ k′ r′ c′ κ′ a b : ℕ}
-    → Block m k r c κ
-    → Block m k′ r′ c′ κ′
+    → MapBlock m k r c κ
+    → MapBlock m k′ r′ c′ κ′
     → Apart k κ k′ κ′
     → InSquare k r c a b
     → InSquare k′ r′ c′ a b
@@ -41,8 +41,8 @@ apart-pixels u v d w w′ = go d (inside u w) (inside v w′)
 
 -- pictures that are equal outside a block agree on every block that does not meet it
 pub agree-apart : {p q : Picture} {m k r c κ k′ r′ c′ κ′ : ℕ}
-    → Block m k r c κ
-    → Block m k′ r′ c′ κ′
+    → MapBlock m k r c κ
+    → MapBlock m k′ r′ c′ κ′
     → Apart k κ k′ κ′
     → Outside p q k r c
     → Agree p q k′ r′ c′
@@ -63,7 +63,7 @@ quadrants-apart q q′ other =
 
 -- a quadrant and its siblings: pictures that are equal outside a quadrant agree on every other quadrant of its block
 pub agree-sibling : {p p′ : Picture} {m k r c κ r₁ c₁ κ₁ r₂ c₂ κ₂ : ℕ}
-    → Block m (suc k) r c κ
+    → MapBlock m (suc k) r c κ
     → Quadrant k r c κ r₁ c₁ κ₁
     → Quadrant k r c κ r₂ c₂ κ₂
     → (κ₂ ≡ κ₁ → ⊥)

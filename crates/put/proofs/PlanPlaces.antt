@@ -44,7 +44,7 @@ module _ {m n : ℕ} {keys bits : List ℕ} (own : OwnList m keys bits n) where
       ∙ ap (keysBelow (x + step)) records-keys
 
 -- the block of height top around a key, with its step
-pub record Filled (m key top step : ℕ) : Type 0 where
+pub record FilledBlock (m key top step : ℕ) : Type 0 where
   pub deep : m ≤ 10
   pub valid : validKey m key ≡ true
   pub low : heightOf m key ≤ top
@@ -52,12 +52,12 @@ pub record Filled (m key top step : ℕ) : Type 0 where
   pub power : step ≡ 5 ^ top
 
 -- where the height is that of the filled block
-pub filled-by : {m key top step : ℕ} (l : List Record) (leaf : Bool) (b : ℕ) → m ≤ 10 → validKey m key ≡ true → top ≡ topFor m l key leaf b → step ≡ 5 ^ top → Filled m key top step
+pub filled-by : {m key top step : ℕ} (l : List Record) (leaf : Bool) (b : ℕ) → m ≤ 10 → validKey m key ≡ true → top ≡ topFor m l key leaf b → step ≡ 5 ^ top → FilledBlock m key top step
 filled-by {m} {key} l leaf b deep valid e power =
     let h = top-bounds m l key b leaf in
     record { deep = deep; valid = valid; low = omega arith; high = omega arith; power = power }
 
-module _ {m key top step : ℕ} (f : Filled m key top step) where
+module _ {m key top step : ℕ} (f : FilledBlock m key top step) where
   -- its key
   pub filled-is : key / step * step ≡ around top key
   filled-is = around-own key step top (f .power)
@@ -113,7 +113,7 @@ unfolding heightOf
 height-is m κ level e = ap (λ x. m - x) e
 
 -- the plan by where the filled block stands
-module _ {m n key top step : ℕ} {keys bits : List ℕ} (own : OwnList m keys bits n) (f : Filled m key top step) where
+module _ {m n key top step : ℕ} {keys bits : List ℕ} (own : OwnList m keys bits n) (f : FilledBlock m key top step) where
   -- it is a block of the list
   pub filled-asked : BlockIn m keys bits n (key / step * step)
   filled-asked = record { deepest = f .deep; own = own; valid = filled-valid f }

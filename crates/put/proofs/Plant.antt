@@ -8,7 +8,7 @@ use native.Mathlib.Nat.{mul-div-cancel}
 use native.Mathlib.Omega.{arith}
 use lib.Bits.{bitOr, or-comm, or-self}
 use Rattle.keys.proofs.Powers.{five-pos}
-use Rattle.keys.specs.Under.{Block, Quadrant, is-nw, is-ne, is-sw, is-se}
+use Rattle.keys.specs.Under.{MapBlock, Quadrant, is-nw, is-ne, is-sw, is-se}
 use Rattle.keys.proofs.Under.{quadrant-under}
 use Rattle.keys.proofs.Parent.{quadrant-of}
 use Rattle.keys.proofs.Pixel.{InKeys}
@@ -35,7 +35,7 @@ digit-key is-sw = omega arith
 digit-key is-se = omega arith
 
 -- it is found from any key of the quadrant
-pub digit-at : {m k r c κ r′ c′ κ′ x : ℕ} → Block m (suc k) r c κ → (q : Quadrant k r c κ r′ c′ κ′) → InKeys k κ′ x → digitAt k x ≡ digitIn q
+pub digit-at : {m k r c κ r′ c′ κ′ x : ℕ} → MapBlock m (suc k) r c κ → (q : Quadrant k r c κ r′ c′ κ′) → InKeys k κ′ x → digitAt k x ≡ digitIn q
 unfolding digitAt
 digit-at {k = k} b q i =
     ap₂ (λ u v. (u - v) / 5 ^ k) (around-is (quadrant-of b q) i) (around-is b (keys-up (quadrant-under q) i))
@@ -109,7 +109,7 @@ planted-bits p g (is-se {k} {r} {c}) h =
     ∙ one-se g (bitsOf p k (r + 2 ^ k) (c + 2 ^ k))
 
 -- one level: the block's record, leaves, the one quadrant's list, leaves
-pub planted-level : (p : Picture) (g : ℕ) {m k r c κ r′ c′ κ′ x : ℕ} → Block m (suc k) r c κ → (q : Quadrant k r c κ r′ c′ κ′) → InKeys k κ′ x
+pub planted-level : (p : Picture) (g : ℕ) {m k r c κ r′ c′ κ′ x : ℕ} → MapBlock m (suc k) r c κ → (q : Quadrant k r c κ r′ c′ κ′) → InKeys k κ′ x
     → OthersAre p g κ′ k r c κ
     → oneFeature p (suc k) r c ≡ false
     → listOf p (suc k) r c κ ≡ frontAt x g (bitsOf p (suc k) r c) k ++ (listOf p k r′ c′ κ′ ++ backAt x g k)

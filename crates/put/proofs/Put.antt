@@ -6,7 +6,7 @@ use mathlib.Core.Bool.{true}
 use Rattle.keys.specs.Key.{validKey, heightOf}
 use Rattle.keys.specs.Block.{rowOf, columnOf, inBlock}
 use Rattle.keys.proofs.Cases.{decide}
-use Rattle.keys.specs.Under.{Block}
+use Rattle.keys.specs.Under.{MapBlock}
 use Rattle.keys.proofs.Valid.{valid-block}
 use Rattle.keys.proofs.InBlock.{inBlock-iff}
 use Rattle.definitions.specs.Picture.{Picture}
@@ -17,11 +17,11 @@ use Rattle.laws.proofs.Put.{put-in, put-out}
 use Rattle.put.proofs.Outside.{Outside}
 
 -- inside the block put agrees with the new picture
-pub put-inside : {m k r c κ : ℕ} (q p : Picture) → Block m k r c κ → Agree (put m κ q p) q k r c
+pub put-inside : {m k r c κ : ℕ} (q p : Picture) → MapBlock m k r c κ → Agree (put m κ q p) q k r c
 put-inside {m} {κ = κ} q p u a b w = put-in m κ q p a b (inBlock-iff a b u .1 w)
 
 -- outside the block it is equal to the old one
-pub put-outside : {m k r c κ : ℕ} (q p : Picture) → Block m k r c κ → Outside p (put m κ q p) k r c
+pub put-outside : {m k r c κ : ℕ} (q p : Picture) → MapBlock m k r c κ → Outside p (put m κ q p) k r c
 put-outside {m} {κ = κ} q p u a b w =
     decide (inBlock m κ a b) (λ e. absurd (w (inBlock-iff a b u .0 e))) (λ e. sym (put-out m κ q p a b e))
 

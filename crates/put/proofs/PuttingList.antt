@@ -24,16 +24,16 @@ use Rattle.put.specs.Renew.{renew}
 use Rattle.put.specs.Put.{lengthAfter, exchanged, parentsRenewed, edited}
 use Rattle.put.specs.declared.plan.Plan.{Plan}
 use Rattle.put.specs.Planting.{Deep}
-use Rattle.put.specs.Exchanging.{Exchangeable, Holds}
+use Rattle.put.specs.Exchanging.{Exchangeable, SlicesHold}
 use Rattle.put.specs.Putting.{Puttable, Replaced}
 use Rattle.put.proofs.Bounds.{level, level-digit}
 use Rattle.put.proofs.ByKeys.{ascending-to}
 use Rattle.put.proofs.SetBits.{renew-keys, renew-length}
-use Rattle.put.proofs.Ready.{Ready, ready-for}
+use Rattle.put.proofs.Ready.{PlanReady, ready-for}
 use Rattle.put.proofs.PuttingSlice.{length-over, over-again, over-kept, over-cleared}
 
 -- slices that hold a list
-module _ {l : List Record} {keys bits keys′ bits′ : List ℕ} (h : Holds l keys bits keys′ bits′) (n : ℕ) (size : length l ≡ n) where
+module _ {l : List Record} {keys bits keys′ bits′ : List ℕ} (h : SlicesHold l keys bits keys′ bits′) (n : ℕ) (size : length l ≡ n) where
   -- its records are read from them
   pub held-records : recordsOf keys′ bits′ n ≡ l
   held-records = ap₂ (λ a b. recordsOf a b n) (h .keys-are) (h .values-are) ∙ records-over l n keys bits size
@@ -87,9 +87,9 @@ module _ {m : ℕ} {keys bits : List ℕ} {n κ : ℕ} {plan : Plan} {contentKey
   content = recordsOf contentKeys contentBits count
 
   -- the plan is ready
-  pub put-ready : Ready m κ listed content plan
+  pub put-ready : PlanReady m κ listed content plan
   put-ready =
-      subst (Ready m κ listed content) (sym (p .plan-is))
+      subst (PlanReady m κ listed content) (sym (p .plan-is))
       (ready-for m κ (p .picture) (shownBy m keys bits n) listed content (p .valid) (p .own .own) (p .content-is))
 
   list-length : length listed ≡ n
@@ -169,7 +169,7 @@ module _ {m : ℕ} {keys bits : List ℕ} {n κ : ℕ} {plan : Plan} {contentKey
         ∙ exchanged-size
 
     -- after the exchange
-    module _ {keys₁ bits₁ : List ℕ} (h : Holds (exchanged listed κ content plan) keys bits keys₁ bits₁) where
+    module _ {keys₁ bits₁ : List ℕ} (h : SlicesHold (exchanged listed κ content plan) keys bits keys₁ bits₁) where
       -- keys can be searched
       pub put-sorted : Sorted keys₁ after 0
       put-sorted =
@@ -199,7 +199,7 @@ module _ {m : ℕ} {keys bits : List ℕ} {n κ : ℕ} {plan : Plan} {contentKey
       -- once the bits are renewed, the slices hold the edited list
       pub put-held : {bits₂ : List ℕ}
           → bits₂ ≡ over (valuesOf (renew (recordsOf keys₁ bits₁ after) κ (getD bits₁ (plan .start) 0) (m - (plan .top + plan .levels)) (plan .top + plan .levels))) bits₁
-          → Holds (edited m listed κ content) keys bits keys₁ bits₂
+          → SlicesHold (edited m listed κ content) keys bits keys₁ bits₂
       put-held e =
           let a = exchanged-size in
           let b = edited-size in
@@ -213,7 +213,7 @@ module _ {m : ℕ} {keys bits : List ℕ} {n κ : ℕ} {plan : Plan} {contentKey
                 ∙ over-again (valuesOf (edited m listed κ content)) (valuesOf (exchanged listed κ content plan)) bits (omega arith);
           }
 
-    module _ {keys₂ bits₂ : List ℕ} (h : Holds (edited m listed κ content) keys bits keys₂ bits₂) where
+    module _ {keys₂ bits₂ : List ℕ} (h : SlicesHold (edited m listed κ content) keys bits keys₂ bits₂) where
       -- a list that is not shorter than before is done
       pub put-kept : n ≤ after → Replaced n (edited m listed κ content) keys bits keys₂ bits₂ after
       put-kept longer =

@@ -18,7 +18,7 @@ use Rattle.put.specs.declared.plan.Plan.{Plan}
 use Rattle.put.proofs.Bounds.{climb-bounds}
 use Rattle.put.proofs.Edited.{put-site, exchanged-ascends, exchanged-first, exchanged-length, length-is, plan-fits, plan-levels}
 
-pub record Ready (m κ : ℕ) (l content : List Record) (plan : Plan) : Type 0 where
+pub record PlanReady (m κ : ℕ) (l content : List Record) (plan : Plan) : Type 0 where
   pub low : heightOf m κ ≤ plan .top
   pub high : plan .top + plan .levels ≤ m
   pub some : 1 ≤ plan .old
@@ -41,7 +41,7 @@ plan-top m κ l content = refl
 
 -- a plan for the list of a picture and a content of the block is ready
 pub ready : (m κ : ℕ) (q p : Picture) → validKey m κ ≡ true
-    → Ready m κ (listOfPicture m p) (contentOf m q κ) (planOf m (listOfPicture m p) κ (contentOf m q κ))
+    → PlanReady m κ (listOfPicture m p) (contentOf m q κ) (planOf m (listOfPicture m p) κ (contentOf m q κ))
 ready m κ q p valid =
     let s = put-site m κ q p valid in
     let e = plan-top m κ (listOfPicture m p) (contentOf m q κ) in
@@ -61,6 +61,6 @@ ready m κ q p valid =
 
 -- the same for any list and content that are such
 pub ready-for : (m κ : ℕ) (q p : Picture) (l content : List Record) → validKey m κ ≡ true → l ≡ listOfPicture m p → content ≡ contentOf m q κ
-    → Ready m κ l content (planOf m l κ content)
+    → PlanReady m κ l content (planOf m l κ content)
 ready-for m κ q p l content valid list is =
-    subst₂ (λ a b. Ready m κ a b (planOf m a κ b)) (sym list) (sym is) (ready m κ q p valid)
+    subst₂ (λ a b. PlanReady m κ a b (planOf m a κ b)) (sym list) (sym is) (ready m κ q p valid)

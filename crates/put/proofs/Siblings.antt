@@ -7,7 +7,7 @@ use native.Mathlib.Nat.{pow-suc}
 use native.Mathlib.Omega.{arith}
 use Rattle.keys.specs.Key.{childKey}
 use Rattle.keys.proofs.Powers.{five-pos}
-use Rattle.keys.specs.Under.{Block, Quadrant, is-nw, is-ne, is-sw, is-se}
+use Rattle.keys.specs.Under.{MapBlock, Quadrant, is-nw, is-ne, is-sw, is-se}
 use Rattle.definitions.specs.Picture.{Picture, oneFeature}
 use Rattle.definitions.specs.Bits.{bitsOf}
 use Rattle.definitions.specs.List.{Record, recordOf, listOf}
@@ -94,13 +94,13 @@ following-ascends p (is-sw {k} {r} {c} {κ}) =
 following-ascends p (is-se {k} {r} {c} {κ}) = let e = pow-suc 5 k in none {lo = childKey κ k 4 + 5 ^ k} {hi = κ + 5 ^ suc k} (omega arith)
 
 -- two pictures that are equal outside a quadrant, on the others
-module _ (p p′ : Picture) {m k r c κ r₁ c₁ κ₁ : ℕ} (b : Block m (suc k) r c κ) (q : Quadrant k r c κ r₁ c₁ κ₁) (h : Outside p p′ k r₁ c₁) where
+module _ (p p′ : Picture) {m k r c κ r₁ c₁ κ₁ : ℕ} (b : MapBlock m (suc k) r c κ) (q : Quadrant k r c κ r₁ c₁ κ₁) (h : Outside p p′ k r₁ c₁) where
   -- the list of another quadrant is the same
   pub list-sibling : {r₂ c₂ κ₂ : ℕ} → Quadrant k r c κ r₂ c₂ κ₂ → (κ₂ ≡ κ₁ → ⊥) → listOf p k r₂ c₂ κ₂ ≡ listOf p′ k r₂ c₂ κ₂
   list-sibling {r₂} {c₂} {κ₂} q′ other = list-agree p p′ k r₂ c₂ κ₂ (agree-sibling b q q′ other h)
 
 -- the lists before the quadrant are the same
-pub preceding-same : (p p′ : Picture) {m k r c κ r′ c′ κ′ : ℕ} → Block m (suc k) r c κ → (q : Quadrant k r c κ r′ c′ κ′) → Outside p p′ k r′ c′ → preceding p q ≡ preceding p′ q
+pub preceding-same : (p p′ : Picture) {m k r c κ r′ c′ κ′ : ℕ} → MapBlock m (suc k) r c κ → (q : Quadrant k r c κ r′ c′ κ′) → Outside p p′ k r′ c′ → preceding p q ≡ preceding p′ q
 unfolding preceding
 preceding-same p p′ b is-nw h = refl
 preceding-same p p′ b (is-ne {k}) h = let e = five-pos k in list-sibling p p′ b is-ne h is-nw (omega arith)
@@ -112,7 +112,7 @@ preceding-same p p′ b (is-se {k}) h =
     (ap₂ _++_ (list-sibling p p′ b is-se h is-ne (omega arith)) (list-sibling p p′ b is-se h is-sw (omega arith)))
 
 -- and those after it
-pub following-same : (p p′ : Picture) {m k r c κ r′ c′ κ′ : ℕ} → Block m (suc k) r c κ → (q : Quadrant k r c κ r′ c′ κ′) → Outside p p′ k r′ c′ → following p q ≡ following p′ q
+pub following-same : (p p′ : Picture) {m k r c κ r′ c′ κ′ : ℕ} → MapBlock m (suc k) r c κ → (q : Quadrant k r c κ r′ c′ κ′) → Outside p p′ k r′ c′ → following p q ≡ following p′ q
 unfolding following
 following-same p p′ b (is-nw {k}) h =
     let e = five-pos k in
@@ -124,7 +124,7 @@ following-same p p′ b (is-sw {k}) h = let e = five-pos k in list-sibling p p�
 following-same p p′ b is-se h = refl
 
 -- the four lists of the second picture, by those of the first beside the one quadrant where they differ
-pub four-mixed : (p p′ : Picture) {m k r c κ r′ c′ κ′ : ℕ} → Block m (suc k) r c κ → (q : Quadrant k r c κ r′ c′ κ′) → Outside p p′ k r′ c′
+pub four-mixed : (p p′ : Picture) {m k r c κ r′ c′ κ′ : ℕ} → MapBlock m (suc k) r c κ → (q : Quadrant k r c κ r′ c′ κ′) → Outside p p′ k r′ c′
     → preceding p q ++ (listOf p′ k r′ c′ κ′ ++ following p q) ≡ fourLists p′ k r c κ
 four-mixed p p′ {k = k} {r′ = r′} {c′} {κ′} b q h =
     ap₂ (λ x y. x ++ (listOf p′ k r′ c′ κ′ ++ y)) (preceding-same p p′ b q h) (following-same p p′ b q h) ∙ sym (four-split p′ q)

@@ -25,7 +25,7 @@ use Rattle.put.specs.declared.plan.Plan.{Plan}
 use Rattle.put.proofs.Way.{Way, there, up, under-of, steps, steps-up, steps-height}
 use Rattle.put.proofs.Outside.{Outside, outside-up}
 use Rattle.put.proofs.Context.{before, Open, open-up}
-use Rattle.put.proofs.Standing.{LeafAround, Stands, listed, inside, stands, place-listed, key-listed, part-listed, place-inside, bits-inside, key-inside, part-inside, leaf-several}
+use Rattle.put.proofs.Standing.{LeafAround, ListedOrInside, listed, inside, stands, place-listed, key-listed, part-listed, place-inside, bits-inside, key-inside, part-inside, leaf-several}
 use Rattle.put.proofs.Family.{around-is, keys-up}
 use Rattle.put.proofs.Field.{Planted, planted-none, planted-all, planted-length}
 use Rattle.put.proofs.Inside.{inside-own, same-list}
@@ -199,7 +199,7 @@ module _ (p p′ : Picture) {m k r c κ : ℕ} (w : Way m 0 0 0 k r c κ) (out :
         split-own = λ some. top ∙ one-block (under-of (y .way)) (under-of w) key .heights ∙ sym (block-valid (under-of w) .height);
       }
 
-  site-at : Stands p (y .way) → Site p p′ m κ content (planAt m (listOf p m 0 0 0) κ (y .height))
+  site-at : ListedOrInside p (y .way) → Site p p′ m κ content (planAt m (listOf p m 0 0 0) κ (y .height))
   site-at (listed o) = site-listed o
   site-at (inside x) = site-inside x
 

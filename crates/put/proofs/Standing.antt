@@ -41,11 +41,11 @@ pub record LeafAround (p : Picture) {K R C Κ k r c κ : ℕ} (w : Way K R C Κ 
   pub still : (p′ : Picture) → Open p′ w → Open p′ under
 
 -- the block is listed or lies inside a leaf
-pub data Stands (p : Picture) {K R C Κ k r c κ : ℕ} (w : Way K R C Κ k r c κ) : Type 0 where
-  listed : Open p w → Stands p w
-  inside : LeafAround p w → Stands p w
+pub data ListedOrInside (p : Picture) {K R C Κ k r c κ : ℕ} (w : Way K R C Κ k r c κ) : Type 0 where
+  listed : Open p w → ListedOrInside p w
+  inside : LeafAround p w → ListedOrInside p w
 
-stands-up : (p : Picture) {K R C Κ k r c κ r′ c′ κ′ : ℕ} (q : Quadrant k r c κ r′ c′ κ′) (w : Way K R C Κ (suc k) r c κ) → Stands p w → Stands p (up q w)
+stands-up : (p : Picture) {K R C Κ k r c κ r′ c′ κ′ : ℕ} (q : Quadrant k r c κ r′ c′ κ′) (w : Way K R C Κ (suc k) r c κ) → ListedOrInside p w → ListedOrInside p (up q w)
 stands-up p {k = k} {r} {c} {κ} q w (listed o) =
     let h = quadrant-after q in
     let i = five-pos k in
@@ -71,7 +71,7 @@ stands-up p {k = k} q w (inside x) =
     })
 
 -- every block does
-pub stands : (p : Picture) {K R C Κ k r c κ : ℕ} (w : Way K R C Κ k r c κ) → Stands p w
+pub stands : (p : Picture) {K R C Κ k r c κ : ℕ} (w : Way K R C Κ k r c κ) → ListedOrInside p w
 stands p there = listed tt
 stands p (up q w) = stands-up p q w (stands p w)
 
@@ -152,7 +152,7 @@ leaf-several p p′ x o = go p′ (x .under) (x .first) (x .still p′ o)
 pub bits-at : (p : Picture) {K R C Κ k r c κ : ℕ} → Way K R C Κ k r c κ → blockBits κ (listOf p K R C Κ) ≡ bitsOf p k r c
 bits-at p {k = k} {r} {c} w = go p w (stands p w)
   where
-    go : (p : Picture) {K R C Κ k r c κ : ℕ} (w : Way K R C Κ k r c κ) → Stands p w → blockBits κ (listOf p K R C Κ) ≡ bitsOf p k r c
+    go : (p : Picture) {K R C Κ k r c κ : ℕ} (w : Way K R C Κ k r c κ) → ListedOrInside p w → blockBits κ (listOf p K R C Κ) ≡ bitsOf p k r c
     go p w (listed o) = bits-listed p w o
     go p {k = k} {r} {c} w (inside x) =
         let u = under-of (x .under) in

@@ -18,7 +18,7 @@ insertedFor g κ content plan =
     ++ (filling κ content (plan .top) ++ back κ g (plan .top) (plan .levels))
 
 -- a content of so many records lies in two slices, and there is room for it from a place on in two others
-pub record Fillable (at : ℕ) (keys bits contentKeys contentBits : List ℕ) (count : ℕ) : Type 0 where
+pub record Copyable (at : ℕ) (keys bits contentKeys contentBits : List ℕ) (count : ℕ) : Type 0 where
   pub some : 1 ≤ count
   pub content-fits : count ≤ room contentKeys contentBits
   pub fits : at + count ≤ room keys bits
@@ -41,6 +41,6 @@ pub record Exchangeable (keys bits : List ℕ) (n κ : ℕ) (plan : Plan) (conte
   pub fits : n - plan .old + (4 * plan .levels + count) ≤ room keys bits
 
 -- two slices begin with the records of a list, and the places past it are as they were
-pub record Holds (l : List Record) (keys bits keys′ bits′ : List ℕ) : Type 0 where
+pub record SlicesHold (l : List Record) (keys bits keys′ bits′ : List ℕ) : Type 0 where
   pub keys-are : keys′ ≡ over (keysOf l) keys
   pub values-are : bits′ ≡ over (valuesOf l) bits

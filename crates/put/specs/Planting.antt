@@ -7,7 +7,7 @@ use lib.Seq.{sets}
 use Rattle.definitions.specs.List.{Record, keysOf, valuesOf}
 use Rattle.put.specs.Plant.{digitAt}
 
-pub record Wrote (l : List Record) (at : ℕ) (keys bits keys′ bits′ : List ℕ) (r : ℕ) : Type 0 where
+pub record WroteFrom (l : List Record) (at : ℕ) (keys bits keys′ bits′ : List ℕ) (r : ℕ) : Type 0 where
   pub end : r ≡ at + length l
   pub in-keys : keys′ ≡ sets keys at (keysOf l)
   pub in-bits : bits′ ≡ sets bits at (valuesOf l)

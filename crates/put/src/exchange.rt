@@ -2,8 +2,8 @@
 ghost use Prim.Native.Nat.{_+_, _*_, _≤_, _<_, _^_};
 ghost use Rattle.definitions.specs.Read.{recordsOf};
 ghost use Rattle.put.specs.Put.{filling, exchanged};
-ghost use Rattle.put.specs.Planting.{Wrote};
-ghost use Rattle.put.specs.Exchanging.{insertedFor, Fillable, Insertable, Exchangeable, Holds};
+ghost use Rattle.put.specs.Planting.{WroteFrom};
+ghost use Rattle.put.specs.Exchanging.{insertedFor, Copyable, Insertable, Exchangeable, SlicesHold};
 use crate::plan::Plan;
 use crate::planted;
 use keys::power;
@@ -21,8 +21,8 @@ fn write_filling(
     count: usize,
 )
     requires { ⌜ (key < 5 ^ 10) × (top ≤ 10) ⌝ }
-    requires { ⌜ Fillable at (now keys) (now bits) (now «content_keys») (now «content_bits») count ⌝ }
-    ensures { λ _. ⌜ Wrote (filling key (recordsOf (now («content_keys» .entry)) (now («content_bits» .entry)) count) top) at
+    requires { ⌜ Copyable at (now keys) (now bits) (now «content_keys») (now «content_bits») count ⌝ }
+    ensures { λ _. ⌜ WroteFrom (filling key (recordsOf (now («content_keys» .entry)) (now («content_bits» .entry)) count) top) at
         (now (keys .entry)) (now (bits .entry)) (now (keys .exit)) (now (bits .exit)) (at + count) ⌝ }
 {
     if count == 1 {
@@ -47,7 +47,7 @@ fn insert(
     count: usize,
 )
     requires { ⌜ Insertable (now keys) (now bits) key plan (now «content_keys») (now «content_bits») count ⌝ }
-    ensures { λ _. ⌜ Wrote (insertedFor g key (recordsOf (now («content_keys» .entry)) (now («content_bits» .entry)) count) plan) (plan .start)
+    ensures { λ _. ⌜ WroteFrom (insertedFor g key (recordsOf (now («content_keys» .entry)) (now («content_bits» .entry)) count) plan) (plan .start)
         (now (keys .entry)) (now (bits .entry)) (now (keys .exit)) (now (bits .exit)) (plan .start + (4 * plan .levels + count)) ⌝ }
 {
     let top = plan.top;
@@ -71,7 +71,7 @@ pub fn exchange(
     count: usize,
 )
     requires { ⌜ Exchangeable (now keys) (now bits) n key plan (now «content_keys») (now «content_bits») count ⌝ }
-    ensures { λ _. ⌜ Holds (exchanged (recordsOf (now (keys .entry)) (now (bits .entry)) n) key
+    ensures { λ _. ⌜ SlicesHold (exchanged (recordsOf (now (keys .entry)) (now (bits .entry)) n) key
         (recordsOf (now («content_keys» .entry)) (now («content_bits» .entry)) count) plan)
         (now (keys .entry)) (now (bits .entry)) (now (keys .exit)) (now (bits .exit)) ⌝ }
 {

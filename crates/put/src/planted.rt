@@ -3,7 +3,7 @@ ghost use mathlib.Core.Path.{_≡_};
 ghost use Prim.Native.Nat.{ℕ, _+_, _*_, _≤_, _<_, _^_};
 ghost use lib.ListN.{length};
 ghost use Rattle.put.specs.Plant.{digitAt, leaves, front, back};
-ghost use Rattle.put.specs.Planting.{Wrote, Roomy, Deep};
+ghost use Rattle.put.specs.Planting.{WroteFrom, Roomy, Deep};
 use keys::power;
 
 // So many leaves with bits g from a place on: the quadrants of the block with key parent, from one digit on, each at its step.
@@ -19,7 +19,7 @@ fn write_leaves(
 ) -> usize
     requires { ⌜ (at + count ≤ length (now keys)) × (at + count ≤ length (now bits)) × (first + count ≤ 5) × (parent < 5 ^ 10) × (step ≤ 5 ^ 9) ⌝ }
     ensures { λ r. ⌜ ((h : ℕ) → step ≡ 5 ^ h
-        → Wrote (leaves g parent h count first) at (now (keys .entry)) (now (bits .entry)) (now (keys .exit)) (now (bits .exit)) r) ⌝ }
+        → WroteFrom (leaves g parent h count first) at (now (keys .entry)) (now (bits .entry)) (now (keys .exit)) (now (bits .exit)) r) ⌝ }
 {
     let mut done: u32 = 0;
     let mut place = at;
@@ -55,7 +55,7 @@ pub fn write_front(
 ) -> usize
     requires { ⌜ Deep key low levels ⌝ }
     requires { ⌜ Roomy (front key g v low levels) at (now keys) (now bits) ⌝ }
-    ensures { λ r. ⌜ Wrote (front key g v low levels) at (now (keys .entry)) (now (bits .entry)) (now (keys .exit)) (now (bits .exit)) r ⌝ }
+    ensures { λ r. ⌜ WroteFrom (front key g v low levels) at (now (keys .entry)) (now (bits .entry)) (now (keys .exit)) (now (bits .exit)) r ⌝ }
 {
     let mut left = levels;
     let mut wide = power::power_of_five(low + levels);
@@ -85,7 +85,7 @@ pub fn write_back(
 ) -> usize
     requires { ⌜ Deep key low levels ⌝ }
     requires { ⌜ Roomy (back key g low levels) at (now keys) (now bits) ⌝ }
-    ensures { λ r. ⌜ Wrote (back key g low levels) at (now (keys .entry)) (now (bits .entry)) (now (keys .exit)) (now (bits .exit)) r ⌝ }
+    ensures { λ r. ⌜ WroteFrom (back key g low levels) at (now (keys .entry)) (now (bits .entry)) (now (keys .exit)) (now (bits .exit)) r ⌝ }
 {
     let mut done: u32 = 0;
     let mut step = power::power_of_five(low);

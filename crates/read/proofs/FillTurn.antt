@@ -15,7 +15,7 @@ use Rattle.definitions.specs.Picture.{Picture, oneFeature}
 use Rattle.definitions.specs.Bits.{featureOf}
 use Rattle.definitions.specs.List.{valuesOf, listOf}
 use Rattle.list.specs.Check.{oneSlot}
-use Rattle.read.specs.Fill.{rectanglePainted, quadrantRow, quadrantColumn, cornerOf, Shows, ShowsNode, BlockFilled, Filled}
+use Rattle.read.specs.Fill.{rectanglePainted, quadrantRow, quadrantColumn, cornerOf, Shows, ShowsNode, BlockFilled, NodeFilled}
 use Rattle.read.proofs.Rectangle.{rectangle-length}
 use Rattle.read.proofs.Quadrants.{quadrantList, listsFrom, quadrantPainted, paintsFrom, lists-all, paints-all, Passed, Opened, open-next}
 use Rattle.read.proofs.Shown.{shows-room, shows-square, leaf-length, leaf-painted, node-asked, node-filled}
@@ -195,7 +195,7 @@ module _ {bits raster₀ : List ℕ} {at wide place side : ℕ} {raster : List �
       → d < 4
       → corner ≡ cornerOf d place (side / 2) (side / 2 * wide)
       → oneSlot (getD bits next 0) ≡ false
-      → Filled bits next wide corner (side / 2) raster after next′
+      → NodeFilled bits next wide corner (side / 2) raster after next′
       → after′ ≡ after
       → next″ ≡ next′
       → Reached bits raster₀ at wide place side after′ next″ (d + 1)
@@ -203,13 +203,13 @@ module _ {bits raster₀ : List ℕ} {at wide place side : ℕ} {raster : List �
       record {
         most = omega arith;
         passed = λ p k r c κ s several.
-            let g : Filled bits next wide (cornerOf d place (side / 2) (side / 2 * wide)) (side / 2) raster after next′ = rw (← is) f in
+            let g : NodeFilled bits next wide (cornerOf d place (side / 2) (side / 2 * wide)) (side / 2) raster after next′ = rw (← is) f in
             let b = node-filled g (child h s several) node in
             turn-painted h s several after′ next″ (same ∙ b .pixels) (same′ ∙ b .ends);
       }
 
   -- after four turns the node is filled
-  pub reached-all : 4 ≤ d → Filled bits at wide place side raster₀ raster next
+  pub reached-all : 4 ≤ d → NodeFilled bits at wide place side raster₀ raster next
   reached-all h = record { holds = λ p k r c κ s several. all-passed (x .passed p k r c κ s several) (omega (arith, x .most)) }
 
   -- what the code may do at a turn, since the bitstrings show some node

@@ -17,7 +17,7 @@ use Rattle.definitions.specs.Calls.Raster.{rasterRefusal, rasterPixels}
 use Rattle.laws.proofs.ListOf.{list-agree}
 use Rattle.laws.proofs.ReadBack.{picture-back}
 use Rattle.laws.proofs.RasterOf.{rasterOf, rows-at, raster-length, raster-back, length-to}
-use Rattle.list.proofs.Accepted.{accepted}
+use Rattle.list.proofs.Accepted.{accepted-as-list}
 use Rattle.list.proofs.Tests.{raster-passed}
 use Rattle.laws.proofs.Built.{build-passed, build-records}
 
@@ -75,4 +75,4 @@ module _ (m s : ℕ) (keys bits : List ℕ) (n : ℕ) (pixels : List ℕ) (done 
       rw (eq-eqb _ 0 done)
       (list-agree (pictureOfRaster m (rasterOf m (pictureOf m (recordsOf keys bits n)))) (pictureOf m (recordsOf keys bits n)) m 0 0 0
       (raster-back m (pictureOf m (recordsOf keys bits n)))
-      ∙ sym (accepted m s keys bits n (raster-passed m s keys bits n pixels done .list) .is))
+      ∙ sym (accepted-as-list m s keys bits n (raster-passed m s keys bits n pixels done .list) .is))

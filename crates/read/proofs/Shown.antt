@@ -18,7 +18,7 @@ use Rattle.laws.proofs.FeatureOf.{feature-of-power}
 use Rattle.laws.proofs.BitsOf.{bits-one, power-one}
 use Rattle.laws.proofs.ListOf.{list-first, list-one}
 use Rattle.list.specs.Check.{oneSlot}
-use Rattle.read.specs.Fill.{rectanglePainted, Shows, ShowsNode, BlockFilled, Filled}
+use Rattle.read.specs.Fill.{rectanglePainted, Shows, ShowsNode, BlockFilled, NodeFilled}
 use Rattle.list.proofs.OneSlot.{slot-power, power-slot}
 use Rattle.read.proofs.Rectangle.{InRectangle, rectangle-same}
 
@@ -88,7 +88,7 @@ node-from {p} zero {r} {c} s several = absurd (true≢false (sym (one-pixel p r 
 node-from {p} (suc k) {r} {c} {κ} s several = record { picture = p; height = k; row = r; column = c; key = κ; shows = s; several = several }
 
 filled-from : {p : Picture} (k : ℕ) {r c κ : ℕ} {bits : List ℕ} {at wide place side : ℕ} {before after : List ℕ} {next : ℕ}
-    → Filled bits at wide place side before after next
+    → NodeFilled bits at wide place side before after next
     → Shows p k r c κ bits at wide place side (length before)
     → oneFeature p k r c ≡ false
     → BlockFilled p k r c κ at wide side before after next
@@ -99,7 +99,7 @@ pub node-asked : {p : Picture} {k r c κ : ℕ} {bits : List ℕ} {at wide place
 node-asked {k = k} s e = node-from k s (node-several s e)
 
 pub node-filled : {p : Picture} {k r c κ : ℕ} {bits : List ℕ} {at wide place side : ℕ} {before after : List ℕ} {next : ℕ}
-    → Filled bits at wide place side before after next
+    → NodeFilled bits at wide place side before after next
     → Shows p k r c κ bits at wide place side (length before)
     → oneSlot (getD bits at 0) ≡ false
     → BlockFilled p k r c κ at wide side before after next

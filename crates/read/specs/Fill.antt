@@ -73,7 +73,7 @@ pub record BlockFilled (p : Picture) (k r c κ at wide side : ℕ) (before after
   pub ends : next ≡ at + length (listOf p k r c κ)
 
 -- that holds of whichever block of several features the bitstrings show
-pub record Filled (bits : List ℕ) (at wide place side : ℕ) (before after : List ℕ) (next : ℕ) : Type 0 where
+pub record NodeFilled (bits : List ℕ) (at wide place side : ℕ) (before after : List ℕ) (next : ℕ) : Type 0 where
   pub holds : (p : Picture) (k r c κ : ℕ)
       → Shows p (suc k) r c κ bits at wide place side (length before)
       → oneFeature p (suc k) r c ≡ false

@@ -8,7 +8,7 @@ ghost use Rattle.definitions.specs.Bits.{featureOf};
 ghost use Rattle.definitions.specs.Window.{featuresOfRows};
 ghost use Rattle.list.specs.Check.{oneSlot};
 ghost use Rattle.list.specs.Own.{OwnList, shownBy};
-ghost use Rattle.read.specs.Fill.{filledBy, inRun, rectanglePainted, cornerOf, ShowsNode, Filled};
+ghost use Rattle.read.specs.Fill.{filledBy, inRun, rectanglePainted, cornerOf, ShowsNode, NodeFilled};
 use keys::power;
 use list::check;
 use list::feature;
@@ -74,7 +74,7 @@ fn fill_node(
     side: usize,
 ) -> usize
     requires { ⌜ ShowsNode (now bits) at wide place side (length (now raster)) ⌝ }
-    ensures { λ r. ⌜ Filled (now (bits .entry)) at wide place side (now (raster .entry)) (now (raster .exit)) r ⌝ }
+    ensures { λ r. ⌜ NodeFilled (now (bits .entry)) at wide place side (now (raster .entry)) (now (raster .exit)) r ⌝ }
 {
     let half = side / 2;
     let south = half * wide;

@@ -16,7 +16,7 @@ use Rattle.definitions.specs.declared.Window.{Window}
 use Rattle.definitions.specs.Refusal.{Row, _gives_, first, badFeature}
 use Rattle.definitions.specs.Calls.PaintWindow.{filled, groupGained, paintWindowRefusal}
 use Rattle.laws.proofs.First.{this, later, holds-first, none-first, first-none}
-use Rattle.walk.proofs.Lies.{accepted}
+use Rattle.walk.proofs.Lies.{accepted-window}
 use Rattle.edit.specs.EditCallChecks.{editRefusal}
 use Rattle.rectangle.specs.WindowLogging.{FreshGroup}
 use Rattle.rectangle.specs.PaintWindowCall.{Fillable, windowRoomRefusal, WindowDecided}
@@ -101,7 +101,7 @@ module _ (m s : ℕ) (keys bits : List ℕ) (n : ℕ) (summary logKeys logValues
         pub passed-fillable : Fillable m keys bits n w f
         passed-fillable =
             let settings = passed-settings p in
-            let a = accepted m w good in
+            let a = accepted-window m w good in
             let two = two-le 10 (settings .deep) in
             record {
               list = record { deep = settings .deep; own = passed-own p; low = omega (arith, a .rows); narrow = omega (arith, a .columns) };

@@ -10,7 +10,7 @@ use lib.ListN.{length, length-append}
 use Rattle.keys.specs.Key.{childKey, heightOf}
 use Rattle.keys.specs.Block.{rowOf, columnOf}
 use Rattle.keys.proofs.Cases.{decide}
-use Rattle.keys.specs.Under.{Block, here, nw, ne, sw, se}
+use Rattle.keys.specs.Under.{MapBlock, here, nw, ne, sw, se}
 use Rattle.keys.proofs.Under.{under-trans}
 use Rattle.keys.proofs.Valid.{block-valid}
 use Rattle.definitions.specs.Picture.{Picture}
@@ -97,7 +97,7 @@ module _ (m : ℕ) (p : Picture) (f : ℕ) where
       omega arith
 
   -- a block's entry has at most three times as many places as the block has keys
-  entry-few : {k r c κ : ℕ} → Block m k r c κ → length (entryOf m p κ f) ≤ 3 * 5 ^ k
+  entry-few : {k r c κ : ℕ} → MapBlock m k r c κ → length (entryOf m p κ f) ≤ 3 * 5 ^ k
   unfolding contentOf
   entry-few {k} {r} {c} {κ} b =
       let g = entry-length κ in
@@ -107,7 +107,7 @@ module _ (m : ℕ) (p : Picture) (f : ℕ) where
       omega arith
 
   -- and so have the entries of the largest blocks in it
-  pub entries-few : (w : Window) (k : ℕ) {r c κ : ℕ} → Block m k r c κ → length (entriesOf m p (largestFrom w k r c κ) f) ≤ 3 * 5 ^ k
+  pub entries-few : (w : Window) (k : ℕ) {r c κ : ℕ} → MapBlock m k r c κ → length (entriesOf m p (largestFrom w k r c κ) f) ≤ 3 * 5 ^ k
   entries-few w zero {r} {c} {κ} b =
       decide (isInside w zero r c)
       (λ e. let x = ap length (ap (λ l. entriesOf m p l f) (covered-one w zero r c κ e) ∙ entries-one κ) in let y = entry-few b in omega arith)

@@ -7,7 +7,7 @@ use native.Mathlib.Omega.{arith}
 use lib.ListN.{length}
 use Rattle.keys.specs.Key.{slotLimit, rootKey, validKey}
 use Rattle.keys.specs.Block.{inBlock}
-use Rattle.keys.specs.Under.{Block, here}
+use Rattle.keys.specs.Under.{MapBlock, here}
 use Rattle.keys.proofs.Valid.{block-valid}
 use Rattle.keys.proofs.InBlock.{inBlock-iff}
 use Rattle.definitions.specs.List.{listOfPicture}
@@ -51,7 +51,7 @@ in-root m row column h j = inBlock-iff row column here .1 (omega arith)
 module _ (s : ℕ) {m n : ℕ} {w : Window} {f : ℕ} {keys bits keys′ bits′ : List ℕ} {after : ℕ} (a : Fillable m keys bits n w f)
     (made : Replaced n (filled m (recordsOf keys bits n) w f) keys bits keys′ bits′ after) where
   root-valid : validKey m rootKey ≡ true
-  root-valid = let root : Block m m 0 0 0 = here in block-valid root .valid
+  root-valid = let root : MapBlock m m 0 0 0 = here in block-valid root .valid
 
   pub window-outdated : (summary : List ℕ) → s ≤ slotLimit → summary ≡ summaryOf m s (shownBy m keys bits n) → Outdated m s keys′ bits′ after summary rootKey
   unfolding filled

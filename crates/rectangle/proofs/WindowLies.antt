@@ -7,7 +7,7 @@ use native.Mathlib.Omega.{arith}
 use Rattle.keys.proofs.Cases.{decide}
 use Rattle.keys.proofs.Interval.{within}
 use Rattle.keys.proofs.Powers.{two-le, two-pos}
-use Rattle.keys.specs.Under.{Block}
+use Rattle.keys.specs.Under.{MapBlock}
 use Rattle.definitions.specs.Window.{inWindow, isInside}
 use Rattle.definitions.specs.declared.Window.{Window}
 use Rattle.laws.proofs.Pixels.{every-to, every-from}
@@ -23,7 +23,7 @@ abbrev pub spotAt : (row column side : ℕ) → Spot
 spotAt row column side = record { key = 0; row = row; column = column; side = side; step = 0 }
 
 -- a block and a window of the map have small numbers
-pub placed : {m : ℕ} {keys bits : List ℕ} {n : ℕ} {w : Window} {k r c κ : ℕ} → Coverable m keys bits n w → Block m k r c κ → Placed w k r c
+pub placed : {m : ℕ} {keys bits : List ℕ} {n : ℕ} {w : Window} {k r c κ : ℕ} → Coverable m keys bits n w → MapBlock m k r c κ → Placed w k r c
 placed a b =
     let i = within b in
     let two = two-le 10 (a .deep) in

@@ -6,7 +6,7 @@ use mathlib.Core.List.{List, [], _∷_, _++_}
 use native.Mathlib.Omega.{arith}
 use lib.ListN.{length, length-append}
 use Rattle.keys.specs.Key.{validKey}
-use Rattle.keys.specs.Under.{Block}
+use Rattle.keys.specs.Under.{MapBlock}
 use Rattle.keys.proofs.Powers.{five-le}
 use Rattle.definitions.specs.Picture.{Picture}
 use Rattle.definitions.specs.Read.{recordsOf}
@@ -68,7 +68,7 @@ pub needs-four : (m : ℕ) (p : Picture) (w : Window) (r c κ : ℕ) {k : ℕ} {
 needs-four m p w r c κ e positive cut nw ne sw se = rw (largest-quarters w r c κ e positive cut) (needs-runs m p _ _ _ _ nw ne sw se)
 
 -- what a block needs is little
-pub needs-few : (m : ℕ) (p : Picture) (w : Window) (r c κ : ℕ) {k number places : ℕ} → k ≤ 10 → Block m k r c κ → NeededFor m p (largestFrom w k r c κ) number places
+pub needs-few : (m : ℕ) (p : Picture) (w : Window) (r c κ : ℕ) {k number places : ℕ} → k ≤ 10 → MapBlock m k r c κ → NeededFor m p (largestFrom w k r c κ) number places
     → (number ≤ 29296875) × (places ≤ 29296875)
 needs-few m p w r c κ {k} deep b a =
     let e = a .number-is in

@@ -4,7 +4,7 @@ use mathlib.Core.Path.{_≡_}
 use mathlib.Core.Bool.{false}
 use mathlib.Core.List.{List, [], _∷_}
 use lib.ListN.{length}
-use Rattle.keys.specs.Under.{Block}
+use Rattle.keys.specs.Under.{MapBlock}
 use Rattle.definitions.specs.Picture.{Picture}
 use Rattle.definitions.specs.List.{Record}
 use Rattle.definitions.specs.Read.{room, recordsOf}
@@ -47,7 +47,7 @@ entriesBelow m p w f height row column key = entriesOf m p (largestFrom w height
 -- the log has room for them from a place on
 pub record Enterable (m : ℕ) (keys bits : List ℕ) (n : ℕ) (w : Window) (f height row column key place : ℕ) (logKeys logValues : List ℕ) : Type 0 where
   pub list : Coverable m keys bits n w
-  pub block : Block m height row column key
+  pub block : MapBlock m height row column key
   pub fits : place + length (entriesBelow m (shownBy m keys bits n) w f height row column key) ≤ room logKeys logValues
 
 -- the number of the largest blocks is known, and the log has room for the window's group

@@ -1,5 +1,5 @@
 // The largest blocks of a window, by the quadrants of the map: how a block lies to the window, and what their entries will need.
-ghost use Rattle.keys.specs.Under.{Block};
+ghost use Rattle.keys.specs.Under.{MapBlock};
 ghost use Rattle.definitions.specs.Window.{largestFrom};
 ghost use Rattle.list.specs.Own.{shownBy};
 ghost use Rattle.rectangle.specs.WindowLogging.{Placed, Lies, Coverable, NeededFor};
@@ -50,7 +50,7 @@ pub fn need_below(
     column: u32,
     key: u32,
 ) -> Needed
-    requires { ⌜ Coverable m (now keys) (now bits) n window × Block m height row column key ⌝ }
+    requires { ⌜ Coverable m (now keys) (now bits) n window × MapBlock m height row column key ⌝ }
     ensures { λ r. ⌜ NeededFor m (shownBy m (now (keys .entry)) (now (bits .entry)) n) (largestFrom window height row column key) (r .number) (r .places) ⌝ }
 {
     let told = lies(window, height, row, column);

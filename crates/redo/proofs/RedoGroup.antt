@@ -11,7 +11,7 @@ use Rattle.definitions.specs.Log.{closingPlaces, endsInMark, stepCount, stepEnt
 use Rattle.definitions.specs.Calls.Redo.{redonePicture, redone}
 use Rattle.laws.proofs.LastStep.{entries-group, ends-in-group}
 use Rattle.list.specs.Own.{shownBy}
-use Rattle.undo.specs.GroupCall.{GroupLast, Kept, Applied}
+use Rattle.undo.specs.GroupCall.{GroupLast, WithSummary, Applied}
 use Rattle.definitions.specs.Calls.Redo.{Redone}
 use Rattle.redo.specs.RedoCall.{Redoable, LogToRedo}
 use Rattle.edit.proofs.EditCallTables.{passed-settings, passed-own, passed-summary}
@@ -30,7 +30,7 @@ module _ {m s : ℕ} {keys bits : List ℕ} {n : ℕ} {summary logKeys logValues
   log = to-redo m s keys bits n summary logKeys logValues used inForce t
 
   -- the list and its summary
-  pub redo-kept : Kept m s keys bits n summary
+  pub redo-kept : WithSummary m s keys bits n summary
   redo-kept =
       let rows = redo-first-rows m s keys bits n summary logKeys logValues used inForce t in
       let few = passed-settings rows .few in

@@ -19,7 +19,7 @@ use Rattle.laws.proofs.LastStep.{count-single, entries-single, step-single}
 use Rattle.laws.proofs.Records.{records-length, records-first}
 use Rattle.list.specs.Own.{OwnList, shownBy}
 use Rattle.log.specs.declared.entry.Entry.{Entry}
-use Rattle.log.specs.declared.step.Step.{Step}
+use Rattle.log.specs.declared.step.LogStep.{LogStep}
 use Rattle.log.specs.Entries.{lastEntry, Ended}
 use Rattle.log.specs.Steps.{Divided}
 use Rattle.log.proofs.First.{FirstOf, first-sound}
@@ -58,7 +58,7 @@ module _ {keys values : List ℕ} {used inForce : ℕ} (d : LogToRedo keys value
       }
 
   -- the step that was found among them as they are lent
-  pub step-found : (next : Step)
+  pub step-found : (next : LogStep)
       → next ≡ nextStep (recordsOf (take (used - inForce) (drop inForce keys)) (take (used - inForce) (drop inForce values)) (used - inForce))
       → next ≡ nextStep (toRedo keys values used inForce)
   step-found next is = is ∙ ap nextStep part-is
@@ -149,13 +149,13 @@ redo-paints m l entry next same plan size found fits =
     (found ∙ sym (ap (λ x. paintPlan m l (x .key) (x .feature)) same), omega arith)
 
 -- the step that was found, by its kind
-pub next-single : (steps : List Record) (next : Step) → next ≡ nextStep steps → next .grouped ≡ false
+pub next-single : (steps : List Record) (next : LogStep) → next ≡ nextStep steps → next .grouped ≡ false
     → (endsInMark (firstStep steps) ≡ false) × (next .end ≡ length (firstStep steps))
 next-single steps next is e =
     let single : endsInMark (firstStep steps) ≡ false = sym (ap (λ x. x .grouped) is) ∙ e in
     (single, ap (λ x. x .end) is ∙ ap length (entries-single (firstStep steps) single))
 
-pub next-group : (steps : List Record) (next : Step) → next ≡ nextStep steps → next .grouped ≡ true
+pub next-group : (steps : List Record) (next : LogStep) → next ≡ nextStep steps → next .grouped ≡ true
     → (endsInMark (firstStep steps) ≡ true) × (next .end ≡ length (stepEntries (firstStep steps)))
 next-group steps next is e = (sym (ap (λ x. x .grouped) is) ∙ e, ap (λ x. x .end) is)
 

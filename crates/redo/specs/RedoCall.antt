@@ -12,7 +12,7 @@ use Rattle.definitions.specs.Log.{firstStep}
 use Rattle.definitions.specs.Refusal.{_gives_, first}
 use Rattle.definitions.specs.Calls.Paint.{painted}
 use Rattle.log.specs.declared.entry.Entry.{Entry}
-use Rattle.log.specs.declared.step.Step.{Step}
+use Rattle.log.specs.declared.step.LogStep.{LogStep}
 use Rattle.log.specs.Entries.{lastEntry}
 use Rattle.log.specs.Steps.{lastStep}
 use Rattle.log.proofs.Parts.{WholeLog}
@@ -32,7 +32,7 @@ pub record LogToRedo (logKeys logValues : List ℕ) (used inForce : ℕ) : Type 
   pub some : inForce < used
 
 -- the first of the steps to redo, by its places among them
-abbrev pub nextStep : List Record → Step
+abbrev pub nextStep : List Record → LogStep
 nextStep steps = lastStep (firstStep steps)
 
 -- its entry, where it is a single one

@@ -19,11 +19,11 @@ use keys::power;
 use log::entry;
 use log::entry::Entry;
 use log::step as steps;
-use log::step::Step;
+use log::step::LogStep;
 use put::plan;
 
 // The first of the steps to redo, by its places among them.
-fn next_step(log_keys: &[u32], log_values: &[u32], used: usize, in_force: usize) -> Step
+fn next_step(log_keys: &[u32], log_values: &[u32], used: usize, in_force: usize) -> LogStep
     requires { ⌜ LogToRedo (now «log_keys») (now «log_values») used «in_force» ⌝ }
     ensures { λ r. ⌜ r ≡ nextStep (toRedo (now («log_keys» .entry)) (now («log_values» .entry)) used «in_force») ⌝ }
 {

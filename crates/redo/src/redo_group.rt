@@ -5,7 +5,7 @@ ghost use lib.ListN.{length};
 ghost use Rattle.definitions.specs.Read.{recordsOf};
 ghost use Rattle.definitions.specs.Log.{endsInMark, stepCount, stepEntries, firstStep, paintAgain, toRedo};
 ghost use Rattle.list.specs.Own.{shownBy};
-ghost use Rattle.undo.specs.GroupCall.{GroupLast, Kept, Applied};
+ghost use Rattle.undo.specs.GroupCall.{GroupLast, WithSummary, Applied};
 ghost use Rattle.definitions.specs.Calls.Redo.{Redone};
 ghost use Rattle.redo.specs.RedoCall.{Redoable};
 use definitions::Edited;
@@ -24,7 +24,7 @@ fn paint_again(
     log_values: &[u32],
     used: usize,
 ) -> usize
-    requires { ⌜ GroupLast m (now «log_keys») (now «log_values») used × Kept m s (now keys) (now bits) n (now summary) ⌝ }
+    requires { ⌜ GroupLast m (now «log_keys») (now «log_values») used × WithSummary m s (now keys) (now bits) n (now summary) ⌝ }
     ensures { λ r. ⌜ Applied
         (paintAgain (stepCount (recordsOf (now («log_keys» .entry)) (now («log_values» .entry)) used)) m
         (stepEntries (recordsOf (now («log_keys» .entry)) (now («log_values» .entry)) used)) (shownBy m (now (keys .entry)) (now (bits .entry)) n)) m s n

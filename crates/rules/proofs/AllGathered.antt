@@ -15,8 +15,8 @@ use Rattle.definitions.specs.declared.Rule.{Rule}
 use Rattle.laws.proofs.Waivers.{live-none, live-hidden, live-kept}
 use Rattle.walk.specs.Given.{written}
 use Rattle.walk.proofs.Written.{written-none, written-append}
-use Rattle.rules.specs.declared.state.State.{State}
-use Rattle.rules.specs.Run.{waiversBelow, Progress, progressOf, counting, picture, isUnknown, gathered, runOf}
+use Rattle.rules.specs.declared.state.RunState.{RunState}
+use Rattle.rules.specs.Run.{waiversBelow, Progress, progressOf, counting, picture, isUnknown, gathered, rulesRun}
 use Rattle.rules.proofs.Fold.{run-nil, run-cons}
 use Rattle.rules.proofs.StepCases.{step-gathers}
 use Rattle.rules.proofs.GoodRules.{goodFrom, good-first, good-rest}
@@ -53,7 +53,7 @@ map-append f [] ys = refl
 map-append f (x ∷ xs) ys = ap (λ l. f x ∷ l) (map-append f xs ys)
 
 -- two progresses with the same numbers
-same-progress : (st : State) {next next′ passed passed′ live live′ hidden hidden′ : ℕ} {ids ids′ keys keys′ : List ℕ}
+same-progress : (st : RunState) {next next′ passed passed′ live live′ hidden hidden′ : ℕ} {ids ids′ keys keys′ : List ℕ}
     → next ≡ next′
     → passed ≡ passed′
     → live ≡ live′
@@ -68,10 +68,10 @@ module _ (keys bits waiverIds waiverKeys : List ℕ) where
   ws = waiversOf waiverIds waiverKeys
 
   -- the live findings of the rules, and how many are hidden
-  abbrev liveAll : State → List Rule → List Finding
+  abbrev liveAll : RunState → List Rule → List Finding
   liveAll st rules = liveOf (st .m) ws (allFindings (st .m) (picture keys bits waiverIds waiverKeys st) rules)
 
-  abbrev hiddenAll : State → List Rule → ℕ
+  abbrev hiddenAll : RunState → List Rule → ℕ
   hiddenAll st rules = hiddenCount (st .m) ws (allFindings (st .m) (picture keys bits waiverIds waiverKeys st) rules)
 
   abbrev pub allGathered : List Rule → Progress → Progress
@@ -98,7 +98,7 @@ module _ (keys bits waiverIds waiverKeys : List ℕ) where
 
   -- one rule, and then the others
   module _ (rule : Rule) (rules : List Rule) (p : Progress) where
-    abbrev st : State
+    abbrev st : RunState
     st = p .state
 
     abbrev found : List Finding
@@ -137,7 +137,7 @@ module _ (keys bits waiverIds waiverKeys : List ℕ) where
       → p .state .passed ≡ waiversBelow (p .state .next) ws
       → goodFrom (p .state .m) (p .state .s) (p .state .next) rules ≡ true
       → knownFrom ws (p .state .next) rules ≡ true
-      → runOf keys bits waiverIds waiverKeys rules p ≡ allGathered rules p
+      → rulesRun keys bits waiverIds waiverKeys rules p ≡ allGathered rules p
   run-gathered [] p zero walks sound passed good known = run-nil keys bits waiverIds waiverKeys p ∙ none-gathered p passed
   run-gathered (rule ∷ rules) p zero walks sound passed good known =
       let st = p .state in
@@ -145,7 +145,7 @@ module _ (keys bits waiverIds waiverKeys : List ℕ) where
       let test = not (ltb (waiversBelow (st .next) ws) (waiversBelow (rule .id) ws)) in
       let seen : isUnknown keys bits waiverIds waiverKeys rule st ≡ false = not-true (ltb (waiversBelow (st .next) ws) (waiversBelow (rule .id) ws)) (and-left test (knownFrom ws (rule .id + 1) rules) k) in
       run-cons keys bits waiverIds waiverKeys rule rules p
-      ∙ ap (runOf keys bits waiverIds waiverKeys rules)
+      ∙ ap (rulesRun keys bits waiverIds waiverKeys rules)
       (step-gathers keys bits waiverIds waiverKeys rule p zero walks (good-first (st .m) (st .s) (st .next) rule rules good) (neither (st .faulty) _ sound seen))
       ∙ run-gathered rules (gathered keys bits waiverIds waiverKeys rule p) zero walks sound refl (good-rest (st .m) (st .s) (st .next) rule rules good) (and-right test (knownFrom ws (rule .id + 1) rules) k)
       ∙ next-gathered rule rules p

@@ -12,8 +12,8 @@ use Rattle.definitions.specs.Calls.Findings.{findings, findingsIds, findingsKey
 use Rattle.definitions.specs.declared.Rule.{Rule}
 use Rattle.definitions.specs.declared.Found.{Found}
 use Rattle.offices.specs.declared.own.Own.{Own}
-use Rattle.rules.specs.declared.state.State.{State}
-use Rattle.rules.specs.Run.{Progress, progressOf, bounding, restarting, ownPart, Fine, Ready, TableReady, runOf, tableRun, beginOf, ownAt, afterRun, answerOf}
+use Rattle.rules.specs.declared.state.RunState.{RunState}
+use Rattle.rules.specs.Run.{Progress, progressOf, bounding, restarting, ownPart, RulesFine, RulesReady, TableReady, rulesRun, tableRun, beginOf, ownAt, afterRun, answerOf}
 use Rattle.rules.proofs.NextCases.{next-stopped, next-faulty, next-left, next-counts, next-rests, next-full, next-writes}
 use Rattle.rules.proofs.Beginning.{below-zero, begin-ready}
 use Rattle.rules.proofs.TableRuns.{Same, same-on, next-same, ready-same, table-ready-run, table-run-same, table-run-from}
@@ -22,8 +22,8 @@ use Rattle.rules.proofs.ThreeRuns.{after, three-runs}
 
 module _ (keys bits waiverIds waiverKeys : List ℕ) where
   -- where a run ended, one that goes through the rules again may begin
-  fine-restarted : (limit : ℕ) (st : State) (l l′ : List ℕ) → Fine keys bits waiverIds waiverKeys (progressOf st l l′) → st .faulty ≡ false → limit ≤ st .room
-      → Fine keys bits waiverIds waiverKeys (progressOf (restarting limit st) l l′)
+  fine-restarted : (limit : ℕ) (st : RunState) (l l′ : List ℕ) → RulesFine keys bits waiverIds waiverKeys (progressOf st l l′) → st .faulty ≡ false → limit ≤ st .room
+      → RulesFine keys bits waiverIds waiverKeys (progressOf (restarting limit st) l l′)
   fine-restarted limit st l l′ f sound low =
       record {
         level = f .level;
@@ -40,7 +40,7 @@ module _ (keys bits waiverIds waiverKeys : List ℕ) where
       }
 
   -- so the next run may begin, whichever it is
-  ready-next : (st : State) (l l′ : List ℕ) → Ready keys bits waiverIds waiverKeys (progressOf st l l′) → Ready keys bits waiverIds waiverKeys (progressOf (afterRun st) l l′)
+  ready-next : (st : RunState) (l l′ : List ℕ) → RulesReady keys bits waiverIds waiverKeys (progressOf st l l′) → RulesReady keys bits waiverIds waiverKeys (progressOf (afterRun st) l l′)
   ready-next st l l′ h =
       equal (st .refusal) 0
       (λ running.
@@ -76,7 +76,7 @@ module _ (keys bits waiverIds waiverKeys : List ℕ) where
       (λ stopped. rw (next-stopped st stopped) h)
 
 module _ (keys bits ids waived : List ℕ) where
-  pub next-ready : (rules : List Rule) (p : Progress) (r r′ : State) (l l′ : List ℕ) → TableReady keys bits ids waived p
+  pub next-ready : (rules : List Rule) (p : Progress) (r r′ : RunState) (l l′ : List ℕ) → TableReady keys bits ids waived p
       → progressOf r l l′ ≡ tableRun keys bits ids waived rules p
       → r′ ≡ afterRun r
       → TableReady keys bits ids waived (progressOf r′ l l′)
@@ -89,11 +89,11 @@ module _ (m s : ℕ) (keys bits : List ℕ) (n office : ℕ) (rules : List Rule)
   abbrev own : Own
   own = ownAt m s keys bits n office offices ids waived rows
 
-  abbrev start : State
+  abbrev start : RunState
   start = bounding 0 (beginOf m s keys bits n office own (length foundIds) (length foundKeys))
 
   -- the first run may begin
-  pub checking-ready : (r₀ : State) → r₀ ≡ start → TableReady keys bits ids waived (progressOf r₀ foundIds foundKeys)
+  pub checking-ready : (r₀ : RunState) → r₀ ≡ start → TableReady keys bits ids waived (progressOf r₀ foundIds foundKeys)
   unfolding beginOf
   checking-ready r₀ e =
       let within = own-at-within m s keys bits n office offices ids waived rows in
@@ -109,10 +109,10 @@ module _ (m s : ℕ) (keys bits : List ℕ) (n office : ℕ) (rules : List Rule)
   run = tableRun keys bits ids waived rules
 
   abbrev runOwn : Progress → Progress
-  runOwn = runOf keys bits (ownPart start ids) (ownPart start waived) rules
+  runOwn = rulesRun keys bits (ownPart start ids) (ownPart start waived) rules
 
   -- the states and the answer slices along the call: what begins, what the first run leaves, what begins after it, and so on to the answer
-  pub record Course (r₀ r₁ r₂ r₃ r₄ r₅ : State) (l₁ l₁′ l₃ l₃′ l₅ l₅′ : List ℕ) (f : Found) : Type 0 where
+  pub record Course (r₀ r₁ r₂ r₃ r₄ r₅ : RunState) (l₁ l₁′ l₃ l₃′ l₅ l₅′ : List ℕ) (f : Found) : Type 0 where
     pub begins : r₀ ≡ start
     pub checks : progressOf r₁ l₁ l₁′ ≡ run (progressOf r₀ foundIds foundKeys)
     pub next : r₂ ≡ afterRun r₁
@@ -126,7 +126,7 @@ module _ (m s : ℕ) (keys bits : List ℕ) (n office : ℕ) (rules : List Rule)
   runs-own p same = table-run-from keys bits ids waived rules p same
 
   -- the call gives and leaves what the documents say
-  pub findings-law : {r₀ r₁ r₂ r₃ r₄ r₅ : State} {l₁ l₁′ l₃ l₃′ l₅ l₅′ : List ℕ} {f : Found} → Course r₀ r₁ r₂ r₃ r₄ r₅ l₁ l₁′ l₃ l₃′ l₅ l₅′ f
+  pub findings-law : {r₀ r₁ r₂ r₃ r₄ r₅ : RunState} {l₁ l₁′ l₃ l₃′ l₅ l₅′ : List ℕ} {f : Found} → Course r₀ r₁ r₂ r₃ r₄ r₅ l₁ l₁′ l₃ l₃′ l₅ l₅′ f
       → (f ≡ findings m s keys bits n office rules offices ids waived rows foundIds foundKeys)
       × (l₅ ≡ findingsIds m s keys bits n office rules offices ids waived rows foundIds foundKeys)
       × (l₅′ ≡ findingsKeys m s keys bits n office rules offices ids waived rows foundIds foundKeys)

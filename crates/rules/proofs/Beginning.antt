@@ -15,8 +15,8 @@ use Rattle.list.specs.First.{firstRefusal}
 use Rattle.list.proofs.FirstRefusal.{first-settings, first-no-list, first-good}
 use Rattle.offices.specs.Own.{noRows, ownOf}
 use Rattle.offices.specs.declared.own.Own.{Own}
-use Rattle.rules.specs.declared.state.State.{State}
-use Rattle.rules.specs.Run.{waiversGood, waiversBelow, progressOf, bounding, beginRefusal, beginOf, ownAt, Ready}
+use Rattle.rules.specs.declared.state.RunState.{RunState}
+use Rattle.rules.specs.Run.{waiversGood, waiversBelow, progressOf, bounding, beginRefusal, beginOf, ownAt, RulesReady}
 use Rattle.rules.proofs.Settings.{good-level, good-slots}
 
 -- no waiver has an id below 0
@@ -80,7 +80,7 @@ module _ (office m s : ℕ) (keys bits : List ℕ) (n : ℕ) where
   own-passed offices ids waived rows h = sym (ap (λ b. cond b (ownOf m office offices ids waived rows) (noRows true)) (ne-eqb (beginRefusal office m s keys bits n) 0 h))
 
   module _ (own : Own) (roomIds roomKeys : ℕ) where
-    abbrev start : State
+    abbrev start : RunState
     start = beginOf m s keys bits n office own roomIds roomKeys
 
     -- field by field
@@ -93,7 +93,7 @@ module _ (office m s : ℕ) (keys bits : List ℕ) (n : ℕ) where
 
     -- the first run may begin
     pub begin-ready : (waiverIds waiverKeys ids foundKeys : List ℕ) → Fit m own waiverIds waiverKeys → roomIds ≡ length ids → roomKeys ≡ length foundKeys
-        → Ready keys bits waiverIds waiverKeys (progressOf (bounding 0 start) ids foundKeys)
+        → RulesReady keys bits waiverIds waiverKeys (progressOf (bounding 0 start) ids foundKeys)
     unfolding beginOf
     begin-ready waiverIds waiverKeys ids foundKeys fit e f =
         record {

@@ -13,8 +13,8 @@ use Rattle.definitions.specs.Rules.{findingOf, windowOfRule, findingsOf, waiver
 use Rattle.definitions.specs.declared.Rule.{Rule}
 use Rattle.laws.proofs.Waivers.{live-and-hidden}
 use Rattle.walk.proofs.Few.{select-few}
-use Rattle.rules.specs.declared.state.State.{State}
-use Rattle.rules.specs.Run.{Progress, progressOf, refusing, faultyFrom, bounding, restarting, pixelsOf, mayCome, picture, findingsAt, gathered, stepOf, runOf}
+use Rattle.rules.specs.declared.state.RunState.{RunState}
+use Rattle.rules.specs.Run.{Progress, progressOf, refusing, faultyFrom, bounding, restarting, pixelsOf, mayCome, picture, findingsAt, gathered, ruleStep, rulesRun}
 use Rattle.rules.proofs.Fold.{run-nil, run-cons}
 use Rattle.rules.proofs.StepCases.{isFaulty, step-stopped, step-bad, step-faulty, step-good, step-gathers, served-bounds, walks-on}
 
@@ -28,13 +28,13 @@ findings-bounded m p rule =
 
 module _ (keys bits waiverIds waiverKeys : List ℕ) where
   abbrev run : List Rule → Progress → Progress
-  run = runOf keys bits waiverIds waiverKeys
+  run = rulesRun keys bits waiverIds waiverKeys
 
   abbrev step : Rule → Progress → Progress
-  step = stepOf keys bits waiverIds waiverKeys
+  step = ruleStep keys bits waiverIds waiverKeys
 
   -- of a run that counts, from p to q, beside one that bounds and ends with the state st
-  pub record Bounded (p q : Progress) (st : State) : Type 0 where
+  pub record Bounded (p q : Progress) (st : RunState) : Type 0 where
     pub bound : ℕ
     pub same : st ≡ bounding bound (q .state)
     pub enough : q .state .live ≤ bound
@@ -51,7 +51,7 @@ module _ (keys bits waiverIds waiverKeys : List ℕ) where
     not-full : (p .state .refusal ≡ 12 → ⊥) → q .state .refusal ≡ 12 → ⊥
 
   -- the live findings of one rule are not more than the window's pixels
-  few-live : (rule : Rule) (st : State) → length (liveOf (st .m) (waiversOf waiverIds waiverKeys) (findingsAt keys bits waiverIds waiverKeys rule st)) ≤ pixelsOf rule
+  few-live : (rule : Rule) (st : RunState) → length (liveOf (st .m) (waiversOf waiverIds waiverKeys) (findingsAt keys bits waiverIds waiverKeys rule st)) ≤ pixelsOf rule
   few-live rule st =
       let found = findingsAt keys bits waiverIds waiverKeys rule st in
       let few = findings-bounded (st .m) (picture keys bits waiverIds waiverKeys st) rule in

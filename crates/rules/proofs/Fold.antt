@@ -6,7 +6,7 @@ use native.Mathlib.Numerals.{add-one}
 use native.Mathlib.Omega.{arith}
 use lib.ListN.{length, getD, take}
 use Rattle.definitions.specs.declared.Rule.{Rule}
-use Rattle.rules.specs.Run.{Progress, stepOf, runOf, tableStep, tableRun}
+use Rattle.rules.specs.Run.{Progress, ruleStep, rulesRun, tableStep, tableRun}
 
 -- a rule to stand where there is none
 abbrev pub noRule : Rule
@@ -14,15 +14,15 @@ noRule = record { id = 0; row = 0; column = 0; height = 0; width = 0; feature = 
 
 module _ (keys bits waiverIds waiverKeys : List ℕ) where
   abbrev step : Rule → Progress → Progress
-  step = stepOf keys bits waiverIds waiverKeys
+  step = ruleStep keys bits waiverIds waiverKeys
 
-  pub run-nil : (p : Progress) → runOf keys bits waiverIds waiverKeys [] p ≡ p
-  unfolding runOf
+  pub run-nil : (p : Progress) → rulesRun keys bits waiverIds waiverKeys [] p ≡ p
+  unfolding rulesRun
   run-nil p = refl
 
   pub run-cons : (rule : Rule) (rules : List Rule) (p : Progress)
-      → runOf keys bits waiverIds waiverKeys (rule ∷ rules) p ≡ runOf keys bits waiverIds waiverKeys rules (step rule p)
-  unfolding runOf
+      → rulesRun keys bits waiverIds waiverKeys (rule ∷ rules) p ≡ rulesRun keys bits waiverIds waiverKeys rules (step rule p)
+  unfolding rulesRun
   run-cons rule rules p = refl
 
 -- over a table

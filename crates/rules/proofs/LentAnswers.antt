@@ -21,9 +21,9 @@ use denote.Slice.{finally}
 use denote.Steps.{only, facts, heard}
 use denote.Struct.Laws as LL
 use Rattle.rules.specs.Run.{Progress, progressOf}
-use Rattle.rules.specs.declared.state.State.{State}
-use Rattle.rules.proofs.state.State as State
-use Rattle.rules.proofs.state.State.Laws as State′
+use Rattle.rules.specs.declared.state.RunState.{RunState}
+use Rattle.rules.proofs.state.RunState as RunState
+use Rattle.rules.proofs.state.RunState.Laws as State′
 use Rattle.lending.proofs.Chains.{chain, apart, together}
 use Rattle.lending.proofs.Slices.{lent, kept, lends, gets-back}
 use Rattle.lending.proofs.Calling.{gave, Gives}
@@ -48,7 +48,7 @@ module _ {M : Type 1} (𝓤 : URA M) (H : Heap 𝓤) (A : Atoms 𝓤) (W : Given
   each-last δ δ′ zs = ftrue ∷ ftrue ∷ ftrue ∷ ftrue ∷ ftrue ∷ Last δ l (zs .1 .1 .1 .1 .1 .0) ∷ Last δ′ l′ (zs .1 .1 .1 .1 .1 .1 .0) ∷ ftrue ∷ []
 
   abbrev pub post : ℕ → ℕ → GName → GName → Val → Item 𝓤
-  post ν ν′ δ δ′ w = later (some (λ (r : State). (raw (T ν ν′) ⊛ ‵ (State.the-row .own r (w ∷ [])))
+  post ν ν′ δ δ′ w = later (some (λ (r : RunState). (raw (T ν ν′) ⊛ ‵ (RunState.the-row .own r (w ∷ [])))
       ⊛ some (λ (zs : Bound). ‵ (chain (each-last δ δ′ zs)) ⊛ raw (fact 𝓤 (progressOf r (zs .1 .1 .1 .1 .1 .0) (zs .1 .1 .1 .1 .1 .1 .0) ≡ p)))))
 
   abbrev val : Result S p → Val
@@ -68,7 +68,7 @@ module _ {M : Type 1} (𝓤 : URA M) (H : Heap 𝓤) (A : Atoms 𝓤) (W : Given
       -- of the parameters at exit there are the last elements of the two answer slices, and that they are as many
       apart ! (each-last δ δ′ zs) $ move ! (5 ∷ []) $ fsplit ! $ move ! (1 ∷ []) $ feqL ! (λ as-many. move ! (6 ∷ []) $ fsplit ! $ move ! (1 ∷ []) $ feqL ! (λ as-many′.
       -- [the last keys; the last ids; six times nothing; the tokens and the state; what is kept of found_ids, of found_keys]
-      move ! (8 ∷ []) $ split ! $ move ! (1 ∷ []) $ facts ! State.the-row (Is State.the-row) (shows 𝓤 H A State.the-row) r (w ∷ []) (λ is.
+      move ! (8 ∷ []) $ split ! $ move ! (1 ∷ []) $ facts ! RunState.the-row (Is RunState.the-row) (shows 𝓤 H A RunState.the-row) r (w ∷ []) (λ is.
       use1 W (B ⊛ ‵ (flft (ν ∷ []) fullShare) ⊛ ‵ (flft (ν′ ∷ []) fullShare)) (tokens-back ν ν′) $ split ! $ move ! (1 ∷ []) $ split ! $
       -- [ν; ν′; B; the last keys; the last ids; six times nothing; what is kept of found_ids, of found_keys]
       move ! (0 ∷ 11 ∷ 4 ∷ []) $ gets-back (S .found-ids) W ! tt ν δ l (zs .1 .1 .1 .1 .1 .0) len as-many $ move ! (2 ∷ 11 ∷ 4 ∷ []) $
@@ -81,8 +81,8 @@ module _ {M : Type 1} (𝓤 : URA M) (H : Heap 𝓤) (A : Atoms 𝓤) (W : Given
         comes-to = e;
         ids-length = as-many ∙ len;
         keys-length = as-many′ ∙ len′;
-        fits = LL.owes State.the-type State′.the-laws r (LL.owed State.the-type State′.the-laws r (w ∷ []) is);
-      }) $ check ! (ap only (LL.tells State.the-type State′.the-laws r (w ∷ []) is)) $ done !))))))
+        fits = LL.owes RunState.the-type State′.the-laws r (LL.owed RunState.the-type State′.the-laws r (w ∷ []) is);
+      }) $ check ! (ap only (LL.tells RunState.the-type State′.the-laws r (w ∷ []) is)) $ done !))))))
 
   pub lent-answers : ((ν ν′ : ℕ) (δ δ′ : GName) → ent 𝓤 (⋆ 𝓤 H A (Lending 𝓤 P S l l′ ν ν′ δ δ′)) (C f vs (λ w. mean 𝓤 H A (post ν ν′ δ δ′ w))))
       → ((ν ν′ : ℕ) → ent 𝓤 (T ν ν′) (mean 𝓤 H A (B ⊛ ‵ (flft (ν ∷ []) fullShare) ⊛ ‵ (flft (ν′ ∷ []) fullShare))))

@@ -4,7 +4,7 @@ use mathlib.Core.Path.{_≡_}
 use mathlib.Core.Bool.{Bool, true, false, cond, _||_}
 use lib.Dec.{eqb, ltb}
 use borrow.Author.Tests.{eq-eqb, ne-eqb, lt-ltb, le-ltb}
-use Rattle.rules.specs.declared.state.State.{State}
+use Rattle.rules.specs.declared.state.RunState.{RunState}
 use Rattle.rules.specs.Run.{refusing, resting, restarting, afterRun, answerOf}
 
 module _ {A : Type 0} (first second third fourth fifth : Bool) (stopped faulty counts rests full writes : A) where
@@ -23,7 +23,7 @@ module _ {A : Type 0} (first second third fourth fifth : Bool) (stopped faulty c
   chain-right : first ≡ true → second ≡ false → third ≡ false → chain ≡ cond fourth (cond fifth counts rests) (cond fifth full writes)
   chain-right e f g = rw (e, f, g)
 
-module _ (st : State) where
+module _ (st : RunState) where
   abbrev running : Bool
   running = eqb (st .refusal) 0
 
@@ -36,7 +36,7 @@ module _ (st : State) where
   abbrev past : Bool
   past = ltb (st .room) (st .live)
 
-  abbrev writing : State
+  abbrev writing : RunState
   writing = restarting (st .room) st
 
   pub next-stopped : (st .refusal ≡ 0 → ⊥) → afterRun st ≡ st

@@ -14,7 +14,7 @@ use Rattle.definitions.specs.Read.{isList}
 use Rattle.definitions.specs.Refusal.{badSettings}
 use Rattle.definitions.specs.Rules.{Finding, waiversOf, findingsAscend}
 use Rattle.definitions.specs.Offices.{Waiver, badOffice, tableOf, rowsOf, rowKeysValid, isTable}
-use Rattle.definitions.specs.Calls.Findings.{refusalWith, foundWith, idsWith, keysWith}
+use Rattle.definitions.specs.Calls.Findings.{refusalWith, foundWith, idsWith, foundKeysWith}
 use Rattle.definitions.specs.declared.Rule.{Rule}
 use Rattle.laws.proofs.Shares.{share-own, share-other, share-none}
 use Rattle.offices.specs.Own.{noRows, ownOf}
@@ -126,7 +126,7 @@ module _ (m s : ℕ) (keys bits : List ℕ) (n office : ℕ) (rules : List Rule)
   Alike wrong ws wrong′ ws′ =
       (foundWith m s keys bits n office wrong rules ws foundIds foundKeys ≡ foundWith m s keys bits n office wrong′ rules ws′ foundIds foundKeys)
       × (idsWith m s keys bits n office wrong rules ws foundIds foundKeys ≡ idsWith m s keys bits n office wrong′ rules ws′ foundIds foundKeys)
-      × (keysWith m s keys bits n office wrong rules ws foundIds foundKeys ≡ keysWith m s keys bits n office wrong′ rules ws′ foundIds foundKeys)
+      × (foundKeysWith m s keys bits n office wrong rules ws foundIds foundKeys ≡ foundKeysWith m s keys bits n office wrong′ rules ws′ foundIds foundKeys)
 
   -- two calls that are refused with the same number give the same
   both-refused : (wrong wrong′ : Bool) (ws ws′ : List Finding) (c : ℕ) → refusal wrong ws ≡ c → refusal wrong′ ws′ ≡ c → (c ≡ 0 → ⊥) → (c ≡ 12 → ⊥) → Alike wrong ws wrong′ ws′

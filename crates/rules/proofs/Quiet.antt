@@ -6,7 +6,7 @@ use Rattle.keys.proofs.Cases.{decide, equal}
 use Rattle.definitions.specs.declared.Rule.{Rule}
 use Rattle.walk.specs.Given.{written}
 use Rattle.walk.proofs.Written.{written-nothing}
-use Rattle.rules.specs.Run.{Progress, mayCome, stepOf, runOf}
+use Rattle.rules.specs.Run.{Progress, mayCome, ruleStep, rulesRun}
 use Rattle.rules.proofs.Fold.{run-nil, run-cons}
 use Rattle.rules.proofs.StepCases.{isFaulty, step-stopped, step-rests, step-bad, step-faulty, step-good, served-bounds, served-gathers}
 
@@ -18,10 +18,10 @@ record Quiet (p q : Progress) : Type 0 where
 
 module _ (keys bits waiverIds waiverKeys : List ℕ) where
   abbrev step : Rule → Progress → Progress
-  step = stepOf keys bits waiverIds waiverKeys
+  step = ruleStep keys bits waiverIds waiverKeys
 
   abbrev run : List Rule → Progress → Progress
-  run = runOf keys bits waiverIds waiverKeys
+  run = rulesRun keys bits waiverIds waiverKeys
 
   -- a refused run
   pub run-stopped : (rules : List Rule) (p : Progress) → (p .state .refusal ≡ 0 → ⊥) → run rules p ≡ p

@@ -17,10 +17,10 @@ use Rattle.definitions.specs.Rules.{findingOf, windowOfRule, findingsOf, waiver
 use Rattle.definitions.specs.declared.Rule.{Rule}
 use Rattle.laws.proofs.SelectAscends.{select-in-ascends}
 use Rattle.laws.proofs.Waivers.{live-and-hidden}
-use Rattle.walk.proofs.Lies.{accepted}
+use Rattle.walk.proofs.Lies.{accepted-window}
 use Rattle.walk.proofs.Lower.{ascending-length}
 use Rattle.walk.proofs.Written.{length-written}
-use Rattle.rules.specs.Run.{Progress, pixelsOf, mayCome, picture, findingsAt, gathered, bounded, stepOf, runOf, Fine, Ready}
+use Rattle.rules.specs.Run.{Progress, pixelsOf, mayCome, picture, findingsAt, gathered, bounded, ruleStep, rulesRun, RulesFine, RulesReady}
 use Rattle.rules.proofs.Fold.{run-nil, run-cons}
 use Rattle.rules.proofs.StepCases.{isFaulty, step-stopped, step-rests, step-bad, step-faulty, step-good, served-bounds, served-gathers}
 
@@ -45,13 +45,13 @@ good-feature m s rule e = ltb-true (rule .feature) s (and-right (isWindow m (win
 -- so its window is not larger than the largest raster
 pub rule-small : (m s : ℕ) (rule : Rule) → m ≤ 10 → isRule m s rule ≡ true → (rule .height ≤ 1024) × (rule .width ≤ 1024)
 rule-small m s rule low e =
-    let a = accepted m (windowOfRule rule) (good-window m s rule e) in
+    let a = accepted-window m (windowOfRule rule) (good-window m s rule e) in
     let two = two-le 10 low in
     (omega (arith, a .rows), omega (arith, a .columns))
 
 module _ (keys bits waiverIds waiverKeys : List ℕ) where
   abbrev Is : Progress → Type 0
-  Is = Ready keys bits waiverIds waiverKeys
+  Is = RulesReady keys bits waiverIds waiverKeys
 
   -- the least id that may come is at most the rule's
   pub next-low : (rule : Rule) (p : Progress) → mayCome rule (p .state) ≡ true → p .state .next ≤ rule .id
@@ -61,8 +61,8 @@ module _ (keys bits waiverIds waiverKeys : List ℕ) where
   rule-good rule p e = and-right (leb (p .state .next) (rule .id)) (isRule (p .state .m) (p .state .s) rule) e
 
   -- gathering keeps it
-  fine-gathered : (rule : Rule) (p : Progress) → p .state .next ≤ rule .id → Fine keys bits waiverIds waiverKeys p
-      → Fine keys bits waiverIds waiverKeys (gathered keys bits waiverIds waiverKeys rule p)
+  fine-gathered : (rule : Rule) (p : Progress) → p .state .next ≤ rule .id → RulesFine keys bits waiverIds waiverKeys p
+      → RulesFine keys bits waiverIds waiverKeys (gathered keys bits waiverIds waiverKeys rule p)
   fine-gathered rule p low f =
       let ws = waiversOf waiverIds waiverKeys in
       let found = findingsAt keys bits waiverIds waiverKeys rule (p .state) in
@@ -86,8 +86,8 @@ module _ (keys bits waiverIds waiverKeys : List ℕ) where
       }
 
   -- and so does bounding
-  fine-bounded : (rule : Rule) (p : Progress) → p .state .next ≤ rule .id → isRule (p .state .m) (p .state .s) rule ≡ true → Fine keys bits waiverIds waiverKeys p
-      → Fine keys bits waiverIds waiverKeys (bounded keys bits waiverIds waiverKeys rule p)
+  fine-bounded : (rule : Rule) (p : Progress) → p .state .next ≤ rule .id → isRule (p .state .m) (p .state .s) rule ≡ true → RulesFine keys bits waiverIds waiverKeys p
+      → RulesFine keys bits waiverIds waiverKeys (bounded keys bits waiverIds waiverKeys rule p)
   fine-bounded rule p low good f =
       let small = rule-small (p .state .m) (p .state .s) rule (f .level) good in
       let few : pixelsOf rule ≤ 1024 * 1024 = mul-le-mul (small .0) (small .1) in
@@ -106,7 +106,7 @@ module _ (keys bits waiverIds waiverKeys : List ℕ) where
       }
 
   -- a rule keeps it
-  pub ready-step : (rule : Rule) (p next : Progress) → next ≡ stepOf keys bits waiverIds waiverKeys rule p → Is p → Is next
+  pub ready-step : (rule : Rule) (p next : Progress) → next ≡ ruleStep keys bits waiverIds waiverKeys rule p → Is p → Is next
   ready-step rule p next e h =
       equal (p .state .refusal) 0
       (λ zero.
@@ -147,8 +147,8 @@ module _ (keys bits waiverIds waiverKeys : List ℕ) where
       (λ stopped. rw (e ∙ step-stopped keys bits waiverIds waiverKeys rule p stopped) h)
 
   -- and so does a run
-  pub ready-run : (rules : List Rule) (p : Progress) → Is p → Is (runOf keys bits waiverIds waiverKeys rules p)
+  pub ready-run : (rules : List Rule) (p : Progress) → Is p → Is (rulesRun keys bits waiverIds waiverKeys rules p)
   ready-run [] p h = rw (run-nil keys bits waiverIds waiverKeys p) h
   ready-run (rule ∷ rules) p h =
       rw (run-cons keys bits waiverIds waiverKeys rule rules p)
-      (ready-run rules (stepOf keys bits waiverIds waiverKeys rule p) (ready-step rule p (stepOf keys bits waiverIds waiverKeys rule p) refl h))
+      (ready-run rules (ruleStep keys bits waiverIds waiverKeys rule p) (ready-step rule p (ruleStep keys bits waiverIds waiverKeys rule p) refl h))

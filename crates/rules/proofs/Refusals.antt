@@ -15,7 +15,7 @@ use Rattle.definitions.specs.Buffer.{over}
 use Rattle.definitions.specs.Rules.{Finding, isRuleId, allWaivers, findingsAscend, badRules, badWaivers}
 use Rattle.definitions.specs.Offices.{badOffice}
 use Rattle.definitions.specs.Refusal.{Row, _gives_, first, badSettings, noList}
-use Rattle.definitions.specs.Calls.Findings.{liveIn, hiddenIn, refusalWith, foundWith, idsWith, keysWith}
+use Rattle.definitions.specs.Calls.Findings.{liveIn, hiddenIn, refusalWith, foundWith, idsWith, foundKeysWith}
 use Rattle.definitions.specs.declared.Rule.{Rule}
 use Rattle.definitions.specs.declared.Found.{Found}
 use Rattle.laws.proofs.First.{first-this, first-later, first-end, accepted-done, accepted-left}
@@ -161,14 +161,14 @@ module _ (m s : ℕ) (keys bits : List ℕ) (n office : ℕ) (wrong : Bool) (rul
   unfolding idsWith
   ids-stay h = accepted-left (over (map (λ x. x .id) live) ids) ids h
 
-  pub keys-stay : (refusal ≡ 0 → ⊥) → keysWith m s keys bits n office wrong rules ws ids foundKeys ≡ foundKeys
-  unfolding keysWith
+  pub keys-stay : (refusal ≡ 0 → ⊥) → foundKeysWith m s keys bits n office wrong rules ws ids foundKeys ≡ foundKeys
+  unfolding foundKeysWith
   keys-stay h = accepted-left (over (map (λ x. x .key) live) foundKeys) foundKeys h
 
   pub ids-written : refusal ≡ 0 → idsWith m s keys bits n office wrong rules ws ids foundKeys ≡ over (map (λ x. x .id) live) ids
   unfolding idsWith
   ids-written e = accepted-done (over (map (λ x. x .id) live) ids) ids e
 
-  pub keys-written : refusal ≡ 0 → keysWith m s keys bits n office wrong rules ws ids foundKeys ≡ over (map (λ x. x .key) live) foundKeys
-  unfolding keysWith
+  pub keys-written : refusal ≡ 0 → foundKeysWith m s keys bits n office wrong rules ws ids foundKeys ≡ over (map (λ x. x .key) live) foundKeys
+  unfolding foundKeysWith
   keys-written e = accepted-done (over (map (λ x. x .key) live) foundKeys) foundKeys e

@@ -9,7 +9,7 @@ use lib.Dec.{ltb}
 use Rattle.keys.proofs.Cases.{decide, or-left}
 use Rattle.definitions.specs.Rules.{Finding, waiversOf}
 use Rattle.definitions.specs.declared.Rule.{Rule}
-use Rattle.rules.specs.Run.{waiversBelow, Progress, progressOf, refusing, faultyFrom, mayCome, isUnknown, gathered, runOf}
+use Rattle.rules.specs.Run.{waiversBelow, Progress, progressOf, refusing, faultyFrom, mayCome, isUnknown, gathered, rulesRun}
 use Rattle.rules.proofs.Fold.{run-nil, run-cons}
 use Rattle.rules.proofs.StepCases.{isFaulty, step-bad, step-faulty, step-gathers, walks-on}
 use Rattle.rules.proofs.GoodRules.{goodFrom, good-none, good-first, good-rest, not-good}
@@ -26,7 +26,7 @@ module _ (keys bits waiverIds waiverKeys : List ℕ) where
   ws = waiversOf waiverIds waiverKeys
 
   abbrev run : List Rule → Progress → Progress
-  run = runOf keys bits waiverIds waiverKeys
+  run = rulesRun keys bits waiverIds waiverKeys
 
   abbrev goodAt : Progress → List Rule → Bool
   goodAt p rules = goodFrom (p .state .m) (p .state .s) (p .state .next) rules

@@ -25,9 +25,9 @@ use denote.Struct.Laws as LL
 use denote.Triple.Entry.{Args, Vals, onEntry}
 use denote.Triple.Walked.{says, Stays, stay-dropped, stay-slice, walkOf, ends-at}
 use Rattle.definitions.proofs.Rule as Rule
-use Rattle.rules.specs.declared.state.State.{State}
-use Rattle.rules.proofs.state.State as State
-use Rattle.rules.proofs.state.State.Laws as State′
+use Rattle.rules.specs.declared.state.RunState.{RunState}
+use Rattle.rules.proofs.state.RunState as RunState
+use Rattle.rules.proofs.state.RunState.Laws as State′
 use Rattle.lending.proofs.Chains.{chain, apart, together, after-nothing}
 use Rattle.lending.proofs.Slices.{Slice, val, token, shared, mutable}
 use Rattle.rules.proofs.RunSlices.{RunSlices, stateVals, valOf, reads, tokens, answers, each-read, each-token, each-answer}
@@ -46,7 +46,7 @@ stayed = (
         stay-dropped (shrSliceOf (3 ∷ []) tt (plain (λ _. u32))) yes,
         (
           stay-dropped (shrSliceOf (4 ∷ []) tt (plain (λ _. u32))) yes,
-          (stay-slice (5 ∷ []) tt (plain (λ _. u32)), (stay-slice (6 ∷ []) tt (plain (λ _. u32)), (stay-dropped (plain (λ _. State.the-row)) yes, tt))),
+          (stay-slice (5 ∷ []) tt (plain (λ _. u32)), (stay-slice (6 ∷ []) tt (plain (λ _. u32)), (stay-dropped (plain (λ _. RunState.the-row)) yes, tt))),
         ),
       ),
     ),
@@ -54,7 +54,7 @@ stayed = (
 )
 
 -- the machine values of the parameters
-abbrev pub machine : Slice Rule.the-row → RunSlices → State → List Val
+abbrev pub machine : Slice Rule.the-row → RunSlices → RunState → List Val
 machine rules S state = val rules ∷ val (S .keys) ∷ val (S .bits) ∷ val (S .waiver-ids) ∷ val (S .waiver-keys) ∷ val (S .found-ids) ∷ val (S .found-keys) ∷ valOf state ∷ []
 
 -- of the rules the fractured borrow is enough
@@ -65,7 +65,7 @@ sharedRules rules = fshr-bor (rules .κ) (λ s. arr-parts (shares Rule.the-row) 
 abbrev pub held : {M : Type 1} (𝓤 : URA M) → Slice Rule.the-row → RunSlices → Item 𝓤
 held 𝓤 rules S = ‵ (sharedRules rules) ⊛ ‵ (token rules) ⊛ ‵ (reads S) ⊛ ‵ (tokens S) ⊛ ‵ (answers S (S .found-ids .x .now) (S .found-keys .x .now))
 
-module _ {M : Type 1} (𝓤 : URA M) (H : Heap 𝓤) (A : Atoms 𝓤) (W : Given 𝓤 H A) (mem : Memory → SProp 𝓤) (run : Routine → Fun 𝓤) (rules : Slice Rule.the-row) (S : RunSlices) (state : State) where
+module _ {M : Type 1} (𝓤 : URA M) (H : Heap 𝓤) (A : Atoms 𝓤) (W : Given 𝓤 H A) (mem : Memory → SProp 𝓤) (run : Routine → Fun 𝓤) (rules : Slice Rule.the-row) (S : RunSlices) (state : RunState) where
   abbrev lifetimes : Lfts 7
   lifetimes = (rules .κ, (S .keys .κ, (S .bits .κ, (S .waiver-ids .κ, (S .waiver-keys .κ, (S .found-ids .κ, (S .found-keys .κ, tt)))))))
 
@@ -92,7 +92,7 @@ module _ {M : Type 1} (𝓤 : URA M) (H : Heap 𝓤) (A : Atoms 𝓤) (W : Given
 
   abbrev each-parameter : List Fml
   each-parameter = shared rules ∷ shared (S .keys) ∷ shared (S .bits) ∷ shared (S .waiver-ids) ∷ shared (S .waiver-keys)
-      ∷ mutable (S .found-ids) (S .found-ids .x .now) ∷ mutable (S .found-keys) (S .found-keys .x .now) ∷ State.the-row .own state (stateVals state) ∷ []
+      ∷ mutable (S .found-ids) (S .found-ids .x .now) ∷ mutable (S .found-keys) (S .found-keys .x .now) ∷ RunState.the-row .own state (stateVals state) ∷ []
 
   pub enters : ent 𝓤 AtEntry (mean 𝓤 H A (held 𝓤 rules S))
   enters =
@@ -120,4 +120,4 @@ module _ {M : Type 1} (𝓤 : URA M) (H : Heap 𝓤) (A : Atoms 𝓤) (W : Given
       move ! (8 ∷ 4 ∷ 5 ∷ 6 ∷ 7 ∷ 1 ∷ 3 ∷ []) $ together ! each-token-at-entry $ frame ! $
       -- [0 found_ids; 1 found_keys]: of the five parameters before them there is nothing, nor of the state
       nothing ! $ move ! (1 ∷ 2 ∷ 0 ∷ []) $ together ! (mutable (S .found-ids) (t .found .ids) ∷ mutable (S .found-keys) (t .found .keys) ∷ ftrue ∷ []) $ after-nothing ! 5 $ frame ! $
-      owned ! State.the-row (Is State.the-row) (LL.makes State.the-type State′.the-plain 𝓤 H A) (t .found .state) _ (t .found .fits) $ done !
+      owned ! RunState.the-row (Is RunState.the-row) (LL.makes RunState.the-type State′.the-plain 𝓤 H A) (t .found .state) _ (t .found .fits) $ done !

@@ -22,9 +22,9 @@ use denote.Laws.{Is}
 use denote.Steps.{owned}
 use denote.Struct.Laws as LL
 use Rattle.rules.specs.Run.{Progress, progressOf, TableReady}
-use Rattle.rules.specs.declared.state.State.{State}
-use Rattle.rules.proofs.state.State as State
-use Rattle.rules.proofs.state.State.Laws as State′
+use Rattle.rules.specs.declared.state.RunState.{RunState}
+use Rattle.rules.proofs.state.RunState as RunState
+use Rattle.rules.proofs.state.RunState.Laws as State′
 use Rattle.lending.proofs.Chains.{chain, apart, together}
 use Rattle.lending.proofs.Slices.{Slice, token, shared, mutable, lent, copied}
 
@@ -37,14 +37,14 @@ pub record RunSlices : Type 0 where
   pub found-keys : Slice u32
 
 -- the machine values of a state
-abbrev pub stateVals : State → List Val
-stateVals = LL.vals State.the-type State′.the-laws
+abbrev pub stateVals : RunState → List Val
+stateVals = LL.vals RunState.the-type State′.the-laws
 
-abbrev pub valOf : State → Val
-valOf = LL.val State.the-type State′.the-laws
+abbrev pub valOf : RunState → Val
+valOf = LL.val RunState.the-type State′.the-laws
 
-pub typed-state : {M : Type 1} {𝓤 : URA M} {H : Heap 𝓤} {A : Atoms 𝓤} (W : Given 𝓤 H A) (r : State) → Is State.the-row r (stateVals r) → T (hasTy State′.mir (valOf r)) × WT (valOf r)
-typed-state {𝓤 = 𝓤} {H = H} {A = A} W r is = LL.lawful State.the-type State′.the-laws 𝓤 H A W .typed r (stateVals r) is .0
+pub typed-state : {M : Type 1} {𝓤 : URA M} {H : Heap 𝓤} {A : Atoms 𝓤} (W : Given 𝓤 H A) (r : RunState) → Is RunState.the-row r (stateVals r) → T (hasTy State′.mir (valOf r)) × WT (valOf r)
+typed-state {𝓤 = 𝓤} {H = H} {A = A} W r is = LL.lawful RunState.the-type State′.the-laws 𝓤 H A W .typed r (stateVals r) is .0
 
 module _ (S : RunSlices) where
   abbrev pub each-read : List Fml
@@ -70,13 +70,13 @@ module _ (S : RunSlices) where
   ReadyAt p = TableReady (S .keys .x .now) (S .bits .x .now) (S .waiver-ids .x .now) (S .waiver-keys .x .now) p
 
   pub record Result (p : Progress) : Type 0 where
-    pub state : State
+    pub state : RunState
     pub ids : List ℕ
     pub keys : List ℕ
     pub comes-to : progressOf state ids keys ≡ p
     pub ids-length : length ids ≡ length (S .found-ids .x .now)
     pub keys-length : length keys ≡ length (S .found-keys .x .now)
-    pub fits : Is State.the-row state (stateVals state)
+    pub fits : Is RunState.the-row state (stateVals state)
 
   -- the slices that are read are had twice
   pub reads-twice : {M : Type 1} {𝓤 : URA M} {H : Heap 𝓤} {A : Atoms 𝓤} {K : Type 0} (W : Given 𝓤 H A) {Γ : List (Item 𝓤)} {G : Goal 𝓤 H} → K → Step K W (‵ reads ∷ ‵ reads ∷ Γ) G (‵ reads ∷ Γ) G
@@ -92,16 +92,16 @@ module _ (S : RunSlices) where
     abbrev pub call-tokens : Fml
     call-tokens = chain each-call-token
 
-    abbrev pub each-passed : GName → GName → List ℕ → List ℕ → State → List Fml
+    abbrev pub each-passed : GName → GName → List ℕ → List ℕ → RunState → List Fml
     each-passed δ δ′ l l′ r = shared (S .keys) ∷ shared (S .bits) ∷ shared (S .waiver-ids) ∷ shared (S .waiver-keys)
-        ∷ lent (S .found-ids) ν δ l ∷ lent (S .found-keys) ν′ δ′ l′ ∷ State.the-row .own r (stateVals r) ∷ []
+        ∷ lent (S .found-ids) ν δ l ∷ lent (S .found-keys) ν′ δ′ l′ ∷ RunState.the-row .own r (stateVals r) ∷ []
 
     module _ {M : Type 1} {𝓤 : URA M} {H : Heap 𝓤} {A : Atoms 𝓤} {K : Type 0} (W : Given 𝓤 H A) {Γ : List (Item 𝓤)} {G : Goal 𝓤 H} where
-      pub gathers : K → (δ δ′ : GName) (l l′ : List ℕ) (r : State) → Is State.the-row r (stateVals r)
+      pub gathers : K → (δ δ′ : GName) (l l′ : List ℕ) (r : RunState) → Is RunState.the-row r (stateVals r)
           → Step K W (‵ call-tokens ∷ ‵ (chain (each-passed δ δ′ l l′ r)) ∷ Γ) G
           (‵ reads ∷ ‵ tokens ∷ ‵ (flft (ν ∷ []) fullShare) ∷ ‵ (flft (ν′ ∷ []) fullShare) ∷ ‵ (lent (S .found-ids) ν δ l) ∷ ‵ (lent (S .found-keys) ν′ δ′ l′) ∷ Γ) G
       gathers t δ δ′ l l′ r is = step (λ z.
-          apart t each-read $ owned t State.the-row (Is State.the-row) (LL.makes State.the-type State′.the-plain 𝓤 H A) r (stateVals r) is $
+          apart t each-read $ owned t RunState.the-row (Is RunState.the-row) (LL.makes RunState.the-type State′.the-plain 𝓤 H A) r (stateVals r) is $
           -- [the state; keys, bits, waiver_ids, waiver_keys; the tokens; ν; ν′; found_ids, found_keys]
           move t (1 ∷ 2 ∷ 3 ∷ 4 ∷ 8 ∷ 9 ∷ 0 ∷ []) $ together t (each-passed δ δ′ l l′ r) $
           -- [what is passed; the tokens; ν; ν′]

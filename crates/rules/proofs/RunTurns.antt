@@ -8,13 +8,13 @@ use lib.ListN.{length, getD, take}
 use denote.Laws.{Is}
 use Rattle.definitions.specs.declared.Rule.{Rule}
 use Rattle.rules.specs.Run.{Progress, progressOf, TableReady, tableStep, tableRun}
-use Rattle.rules.specs.declared.state.State.{State}
-use Rattle.rules.proofs.state.State as State
+use Rattle.rules.specs.declared.state.RunState.{RunState}
+use Rattle.rules.proofs.state.RunState as RunState
 use Rattle.rules.proofs.Fold.{noRule, run-none, run-next, run-all}
 use Rattle.rules.proofs.TableRuns.{table-ready-step}
 use Rattle.rules.proofs.RunSlices.{RunSlices, stateVals, Result}
 
-module _ (S : RunSlices) (rules : List Rule) (start : State) where
+module _ (S : RunSlices) (rules : List Rule) (start : RunState) where
   abbrev K : List ℕ
   K = S .keys .x .now
 
@@ -47,7 +47,7 @@ module _ (S : RunSlices) (rules : List Rule) (start : State) where
   abbrev pub Stepped : Turn → Type 0
   Stepped t = Result S (tableStep K B WI WK (rule t) (progressOf (t .found .state) (t .found .ids) (t .found .keys)))
 
-  abbrev pub first-turn : Is State.the-row start (stateVals start) → TableReady K B WI WK entry → Turn
+  abbrev pub first-turn : Is RunState.the-row start (stateVals start) → TableReady K B WI WK entry → Turn
   first-turn fits ready = record {
     i = 0;
     small = omega arith;

@@ -28,8 +28,8 @@ use Rattle.definitions.specs.declared.Rule.{Rule}
 use Rattle.definitions.proofs.Rule as Rule
 use Rattle.definitions.proofs.Rule.Laws as Rule′
 use Rattle.rules.specs.Run.{progressOf, tableStep}
-use Rattle.rules.specs.declared.state.State.{State}
-use Rattle.rules.proofs.state.State as State
+use Rattle.rules.specs.declared.state.RunState.{RunState}
+use Rattle.rules.proofs.state.RunState as RunState
 use Rattle.lending.proofs.Slices.{val, at-list}
 use Rattle.lending.proofs.Calling.{Gives}
 use Rattle.rules.proofs.RunSlices.{RunSlices, stateVals, valOf, reads, tokens, answers, ReadyAt, Result, call-tokens, gathers, scatters}
@@ -46,11 +46,11 @@ abbrev pub Step : {M : Type 1} (𝓤 : URA M) (H : Heap 𝓤) (A : Atoms 𝓤) (
 Step 𝓤 H A mem run = tripleOf 𝓤 H A step.signature (step.spec 𝓤 H A mem run)
 
 -- the machine values that `step` is passed
-abbrev pub passes : RunSlices → Rule → State → List Val
+abbrev pub passes : RunSlices → Rule → RunState → List Val
 passes S rule r = LL.val Rule.the-type Rule′.the-laws rule ∷ val (S .keys) ∷ val (S .bits) ∷ val (S .waiver-ids) ∷ val (S .waiver-keys) ∷ val (S .found-ids) ∷ val (S .found-keys) ∷ valOf r ∷ []
 
 module _ {M : Type 1} (𝓤 : URA M) (H : Heap 𝓤) (A : Atoms 𝓤) (W : Given 𝓤 H A) (mem : Memory → SProp 𝓤) (run : Routine → Fun 𝓤) (C : Calls 𝓤 H)
-    (fm : FmC 𝓤 H (W .laws) C) (known : Triple 𝓤 (C #step) (Step 𝓤 H A mem run)) (S : RunSlices) (rule : Rule) (r : State) (l l′ : List ℕ) where
+    (fm : FmC 𝓤 H (W .laws) C) (known : Triple 𝓤 (C #step) (Step 𝓤 H A mem run)) (S : RunSlices) (rule : Rule) (r : RunState) (l l′ : List ℕ) where
   abbrev stepped : Type 0
   stepped = Result S (tableStep (S .keys .x .now) (S .bits .x .now) (S .waiver-ids .x .now) (S .waiver-keys .x .now) rule (progressOf r l l′))
 
@@ -72,7 +72,7 @@ module _ {M : Type 1} (𝓤 : URA M) (H : Heap 𝓤) (A : Atoms 𝓤) (W : Given
     tt,
   )
 
-  module _ (is-rule : Is Rule.the-row rule (ruleVals rule)) (is-state : Is State.the-row r (stateVals r))
+  module _ (is-rule : Is Rule.the-row rule (ruleVals rule)) (is-state : Is RunState.the-row r (stateVals r))
       (ready : ReadyAt S (progressOf r l l′))
       (len : length l ≡ length (S .found-ids .x .now)) (len′ : length l′ ≡ length (S .found-keys .x .now)) where
     abbrev P : Item 𝓤

@@ -8,7 +8,7 @@ use native.Mathlib.Omega.{arith}
 use lib.Dec.{eqb}
 use borrow.Author.Tests.{eq-eqb, ne-eqb}
 use Rattle.definitions.specs.declared.Rule.{Rule}
-use Rattle.rules.specs.Run.{Progress, progressOf, refusing, faultyFrom, mayCome, isUnknown, gathered, bounded, served, stepOf}
+use Rattle.rules.specs.Run.{Progress, progressOf, refusing, faultyFrom, mayCome, isUnknown, gathered, bounded, served, ruleStep}
 
 -- what a chain of three tests gives
 module _ {A : Type 0} (first second third : Bool) (stopped bad faulty good : A) where
@@ -29,7 +29,7 @@ module _ {A : Type 0} (first second third : Bool) (stopped bad faulty good : A) 
 
 module _ (keys bits waiverIds waiverKeys : List ℕ) (rule : Rule) (p : Progress) where
   abbrev step : Progress
-  step = stepOf keys bits waiverIds waiverKeys rule p
+  step = ruleStep keys bits waiverIds waiverKeys rule p
 
   -- a waiver is wrong
   abbrev pub isFaulty : Bool
@@ -52,12 +52,12 @@ module _ (keys bits waiverIds waiverKeys : List ℕ) (rule : Rule) (p : Progress
 
   -- a refused run stays as it is
   pub step-stopped : (p .state .refusal ≡ 0 → ⊥) → step ≡ p
-  unfolding stepOf
+  unfolding ruleStep
   step-stopped h = chain-stopped going (mayCome rule (p .state)) isFaulty p bad faulty good (rw (ne-eqb (p .state .refusal) 0 h))
 
   -- and so does one that passes over all rules
   pub step-rests : p .state .refusal ≡ 0 → p .state .mode ≡ 2 → step ≡ p
-  unfolding stepOf
+  unfolding ruleStep
   step-rests e f =
       chain-stopped going (mayCome rule (p .state)) isFaulty p bad faulty good (rw (eq-eqb (p .state .refusal) 0 e, eq-eqb (p .state .mode) 2 f))
 
@@ -65,17 +65,17 @@ module _ (keys bits waiverIds waiverKeys : List ℕ) (rule : Rule) (p : Progress
   module _ (zero : p .state .refusal ≡ 0) (on : p .state .mode ≡ 2 → ⊥) where
     -- 13
     pub step-bad : mayCome rule (p .state) ≡ false → step ≡ bad
-    unfolding stepOf
+    unfolding ruleStep
     step-bad f = chain-bad going (mayCome rule (p .state)) isFaulty p bad faulty good (goes zero on) f
 
     -- only the rules are looked at
     pub step-faulty : mayCome rule (p .state) ≡ true → isFaulty ≡ true → step ≡ faulty
-    unfolding stepOf
+    unfolding ruleStep
     step-faulty f g = chain-faulty going (mayCome rule (p .state)) isFaulty p bad faulty good (goes zero on) f g
 
     -- the rule is served
     pub step-good : mayCome rule (p .state) ≡ true → isFaulty ≡ false → step ≡ good
-    unfolding stepOf
+    unfolding ruleStep
     step-good f g = chain-good going (mayCome rule (p .state)) isFaulty p bad faulty good (goes zero on) f g
 
   -- its findings are bounded, or gathered

@@ -15,7 +15,7 @@ use Rattle.definitions.specs.Covered.{waivedKeys}
 use Rattle.list.specs.Own.{OwnList}
 use Rattle.list.proofs.Own.{own-list}
 use Rattle.walk.specs.Given.{written}
-use Rattle.rules.specs.declared.state.State.{State}
+use Rattle.rules.specs.declared.state.RunState.{RunState}
 use Rattle.sift.specs.declared.Sifting.{Sifting}
 use Rattle.sift.specs.Sift.{notWaived, SiftReady, Sifted}
 use Rattle.rules.specs.Run.{Progress, progressOf, waiversBelow, counting, picture, findingsAt, gathered, served}
@@ -41,7 +41,7 @@ module _ (keys bits waiverIds waiverKeys : List ℕ) (rule : Rule) (p : Progress
   abbrev ws : List Finding
   ws = waiversOf waiverIds waiverKeys
 
-  abbrev st : State
+  abbrev st : RunState
   st = p .state
 
   asc : findingsAscend ws ≡ true
@@ -109,7 +109,7 @@ module _ (keys bits waiverIds waiverKeys : List ℕ) (rule : Rule) (p : Progress
     counts-small fits = let low = next-low keys bits waiverIds waiverKeys rule p (g .may) in omega (arith, g .fine .small)
 
     -- where the run only bounds
-    pub widened-served : st .mode ≡ 0 → {r : Sifting} {after : State} → r ≡ widened rule at → after ≡ counting (rule .id + 1) end (r .live) (r .hidden) st
+    pub widened-served : st .mode ≡ 0 → {r : Sifting} {after : RunState} → r ≡ widened rule at → after ≡ counting (rule .id + 1) end (r .live) (r .hidden) st
         → progressOf after (p .ids) (p .keys) ≡ served keys bits waiverIds waiverKeys rule p
     widened-served bounds {r} e f =
         ap (λ a. progressOf a (p .ids) (p .keys)) f
@@ -157,7 +157,7 @@ module _ (keys bits waiverIds waiverKeys : List ℕ) (rule : Rule) (p : Progress
           s .counted .wroteKeys
           ∙ ap (written (st .limit) (p .keys) (st .live)) (keys-of (rule .id) live ∙ ap (map (λ x. x .key)) live-is)
 
-      sifted-gathered : {after : State} → after ≡ counting (rule .id + 1) end (r .live) (r .hidden) st
+      sifted-gathered : {after : RunState} → after ≡ counting (rule .id + 1) end (r .live) (r .hidden) st
           → progressOf after ids′ keys′ ≡ gathered keys bits waiverIds waiverKeys rule p
       sifted-gathered e =
           ap (λ a. progressOf a ids′ keys′) e
@@ -166,6 +166,6 @@ module _ (keys bits waiverIds waiverKeys : List ℕ) (rule : Rule) (p : Progress
           ∙ ap₂ (λ a b. progressOf (gathered keys bits waiverIds waiverKeys rule p .state) a b) wrote-ids wrote-keys
 
       -- where it walks
-      pub sifted-served : (st .mode ≡ 0 → ⊥) → {after : State} → after ≡ counting (rule .id + 1) end (r .live) (r .hidden) st
+      pub sifted-served : (st .mode ≡ 0 → ⊥) → {after : RunState} → after ≡ counting (rule .id + 1) end (r .live) (r .hidden) st
           → progressOf after ids′ keys′ ≡ served keys bits waiverIds waiverKeys rule p
       sifted-served walks e = sifted-gathered e ∙ sym (served-gathers keys bits waiverIds waiverKeys rule p walks)

@@ -11,7 +11,7 @@ use Rattle.keys.proofs.Cases.{split}
 use Rattle.definitions.specs.Window.{isWindow}
 use Rattle.definitions.specs.Rules.{windowOfRule, isRule}
 use Rattle.definitions.specs.declared.Rule.{Rule}
-use Rattle.rules.specs.declared.state.State.{State}
+use Rattle.rules.specs.declared.state.RunState.{RunState}
 use Rattle.rules.specs.Run.{mayCome}
 use Rattle.rules.specs.Step.{OwnFrom, OwnEnd}
 
@@ -28,7 +28,7 @@ others-hold : (a b c : Bool) → a ≡ true → c ≡ true → b ≡ a && (b && 
 others-hold a true c e f = rw (e, f)
 others-hold a false c e f = rw e
 
-module _ (rule : Rule) (st : State) where
+module _ (rule : Rule) (st : RunState) where
   pub may-low : rule .id < st .next → false ≡ mayCome rule st
   unfolding isRule
   may-low h = first-fails (leb (st .next) (rule .id)) (isWindow (st .m) (windowOfRule rule)) (ltb (rule .feature) (st .s)) (lt-leb _ _ h)

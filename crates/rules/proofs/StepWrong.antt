@@ -7,8 +7,8 @@ use lib.ListN.{getD}
 use lib.Dec.{ltb}
 use Rattle.definitions.specs.Rules.{waiversOf}
 use Rattle.definitions.specs.declared.Rule.{Rule}
-use Rattle.rules.specs.declared.state.State.{State}
-use Rattle.rules.specs.Run.{Progress, waiversBelow, mayCome, isUnknown, Fine}
+use Rattle.rules.specs.declared.state.RunState.{RunState}
+use Rattle.rules.specs.Run.{Progress, waiversBelow, mayCome, isUnknown, RulesFine}
 use Rattle.rules.specs.Step.{Gatherable}
 use Rattle.rules.proofs.GoodWaivers.{good-in-order}
 use Rattle.rules.proofs.StepCases.{isFaulty}
@@ -26,8 +26,8 @@ neither-right : (a b : Bool) → a || b ≡ false → b ≡ false
 neither-right true b e = absurd (true≢false e)
 neither-right false b e = e
 
-module _ (keys bits waiverIds waiverKeys : List ℕ) (rule : Rule) (p : Progress) (f : Fine keys bits waiverIds waiverKeys p) where
-  abbrev st : State
+module _ (keys bits waiverIds waiverKeys : List ℕ) (rule : Rule) (p : Progress) (f : RulesFine keys bits waiverIds waiverKeys p) where
+  abbrev st : RunState
   st = p .state
 
   abbrev unknown : Bool

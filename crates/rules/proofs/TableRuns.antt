@@ -7,27 +7,27 @@ use native.Mathlib.Omega.{arith}
 use lib.ListN.{take, drop}
 use Rattle.keys.proofs.Cases.{decide, split, equal}
 use Rattle.definitions.specs.declared.Rule.{Rule}
-use Rattle.rules.specs.declared.state.State.{State}
-use Rattle.rules.specs.Run.{Progress, mayCome, ownPart, stepOf, runOf, tableStep, tableRun, Ready, TableReady, afterRun}
+use Rattle.rules.specs.declared.state.RunState.{RunState}
+use Rattle.rules.specs.Run.{Progress, mayCome, ownPart, ruleStep, rulesRun, tableStep, tableRun, RulesReady, TableReady, afterRun}
 use Rattle.rules.proofs.Fold.{run-nil, run-cons}
 use Rattle.rules.proofs.StepCases.{isFaulty, step-stopped, step-rests, step-bad, step-faulty, step-good, served-bounds, served-gathers}
 use Rattle.rules.proofs.NextCases.{next-stopped, next-faulty, next-left, next-counts, next-rests, next-full, next-writes}
 use Rattle.rules.proofs.Ready.{ready-step, ready-run}
 
 -- the rows stand where they stood
-pub record Same (a b : State) : Type 0 where
+pub record Same (a b : RunState) : Type 0 where
   pub offset : b .offset ≡ a .offset
   pub count : b .waivers ≡ a .waivers
 
 -- so the parts are the same
-same-part : {a b : State} → Same a b → (l : List ℕ) → ownPart b l ≡ ownPart a l
+same-part : {a b : RunState} → Same a b → (l : List ℕ) → ownPart b l ≡ ownPart a l
 same-part e l = ap₂ (λ n i. take n (drop i l)) (e .count) (e .offset)
 
-pub same-on : {a b c : State} → Same a b → Same b c → Same a c
+pub same-on : {a b c : RunState} → Same a b → Same b c → Same a c
 same-on e f = record { offset = f .offset ∙ e .offset; count = f .count ∙ e .count }
 
 module _ (keys bits waiverIds waiverKeys : List ℕ) where
-  step-same : (rule : Rule) (p : Progress) → Same (p .state) (stepOf keys bits waiverIds waiverKeys rule p .state)
+  step-same : (rule : Rule) (p : Progress) → Same (p .state) (ruleStep keys bits waiverIds waiverKeys rule p .state)
   step-same rule p =
       equal (p .state .refusal) 0
       (λ running.
@@ -47,14 +47,14 @@ module _ (keys bits waiverIds waiverKeys : List ℕ) where
       (λ bad. rw (step-bad keys bits waiverIds waiverKeys rule p running on bad) (record { offset = refl; count = refl }))))
       (λ stopped. rw (step-stopped keys bits waiverIds waiverKeys rule p stopped) (record { offset = refl; count = refl }))
 
-  run-same : (rules : List Rule) (p : Progress) → Same (p .state) (runOf keys bits waiverIds waiverKeys rules p .state)
+  run-same : (rules : List Rule) (p : Progress) → Same (p .state) (rulesRun keys bits waiverIds waiverKeys rules p .state)
   run-same [] p = rw (run-nil keys bits waiverIds waiverKeys p) (record { offset = refl; count = refl })
   run-same (rule ∷ rules) p =
       rw (run-cons keys bits waiverIds waiverKeys rule rules p)
-      (same-on (step-same rule p) (run-same rules (stepOf keys bits waiverIds waiverKeys rule p)))
+      (same-on (step-same rule p) (run-same rules (ruleStep keys bits waiverIds waiverKeys rule p)))
 
 -- the next run has the same rows
-pub next-same : (st : State) → Same st (afterRun st)
+pub next-same : (st : RunState) → Same st (afterRun st)
 next-same st =
     equal (st .refusal) 0
     (λ running.
@@ -74,32 +74,32 @@ next-same st =
     (λ stopped. rw (next-stopped st stopped) (record { offset = refl; count = refl }))
 
 module _ (keys bits ids waived : List ℕ) where
-  abbrev part : State → List ℕ → List ℕ → Type 0
+  abbrev part : RunState → List ℕ → List ℕ → Type 0
   part st a b = (ownPart st ids ≡ a) × (ownPart st waived ≡ b)
 
   -- a run over the table is one over the office's rows
-  run-is : (rules : List Rule) (p : Progress) (a b : List ℕ) → part (p .state) a b → tableRun keys bits ids waived rules p ≡ runOf keys bits a b rules p
+  run-is : (rules : List Rule) (p : Progress) (a b : List ℕ) → part (p .state) a b → tableRun keys bits ids waived rules p ≡ rulesRun keys bits a b rules p
   unfolding tableRun tableStep
   run-is [] p a b h = sym (run-nil keys bits a b p)
   run-is (rule ∷ rules) p a b h =
-      let one : tableStep keys bits ids waived rule p ≡ stepOf keys bits a b rule p = ap₂ (λ x y. stepOf keys bits x y rule p) (h .0) (h .1) in
+      let one : tableStep keys bits ids waived rule p ≡ ruleStep keys bits a b rule p = ap₂ (λ x y. ruleStep keys bits x y rule p) (h .0) (h .1) in
       let same = step-same keys bits a b rule p in
       ap (tableRun keys bits ids waived rules) one
-      ∙ run-is rules (stepOf keys bits a b rule p) a b (same-part same ids ∙ h .0, same-part same waived ∙ h .1)
+      ∙ run-is rules (ruleStep keys bits a b rule p) a b (same-part same ids ∙ h .0, same-part same waived ∙ h .1)
       ∙ sym (run-cons keys bits a b rule rules p)
 
-  pub table-run-is : (rules : List Rule) (p : Progress) → tableRun keys bits ids waived rules p ≡ runOf keys bits (ownPart (p .state) ids) (ownPart (p .state) waived) rules p
+  pub table-run-is : (rules : List Rule) (p : Progress) → tableRun keys bits ids waived rules p ≡ rulesRun keys bits (ownPart (p .state) ids) (ownPart (p .state) waived) rules p
   table-run-is rules p = run-is rules p (ownPart (p .state) ids) (ownPart (p .state) waived) (refl, refl)
 
   -- from a state with the same rows
-  pub table-run-from : {st : State} (rules : List Rule) (p : Progress) → Same st (p .state) → tableRun keys bits ids waived rules p ≡ runOf keys bits (ownPart st ids) (ownPart st waived) rules p
+  pub table-run-from : {st : RunState} (rules : List Rule) (p : Progress) → Same st (p .state) → tableRun keys bits ids waived rules p ≡ rulesRun keys bits (ownPart st ids) (ownPart st waived) rules p
   table-run-from {st} rules p same = run-is rules p (ownPart st ids) (ownPart st waived) (same-part same ids, same-part same waived)
 
   pub table-run-same : (rules : List Rule) (p : Progress) → Same (p .state) (tableRun keys bits ids waived rules p .state)
   table-run-same rules p = rw (table-run-is rules p) (run-same keys bits (ownPart (p .state) ids) (ownPart (p .state) waived) rules p)
 
   -- what a run stands on, where the rows stay
-  pub ready-same : (p q : Progress) → Same (p .state) (q .state) → TableReady keys bits ids waived p → Ready keys bits (ownPart (p .state) ids) (ownPart (p .state) waived) q
+  pub ready-same : (p q : Progress) → Same (p .state) (q .state) → TableReady keys bits ids waived p → RulesReady keys bits (ownPart (p .state) ids) (ownPart (p .state) waived) q
       → TableReady keys bits ids waived q
   ready-same p q same h own =
       let a = same .offset in
@@ -107,7 +107,7 @@ module _ (keys bits ids waived : List ℕ) where
       record {
         in-ids = omega (arith, h .in-ids);
         in-waived = omega (arith, h .in-waived);
-        own = subst (λ x. Ready keys bits x (ownPart (q .state) waived) q) (sym (same-part same ids)) (subst (λ y. Ready keys bits (ownPart (p .state) ids) y q) (sym (same-part same waived)) own);
+        own = subst (λ x. RulesReady keys bits x (ownPart (q .state) waived) q) (sym (same-part same ids)) (subst (λ y. RulesReady keys bits (ownPart (p .state) ids) y q) (sym (same-part same waived)) own);
       }
 
   pub table-ready-step : (rule : Rule) (p next : Progress) → next ≡ tableStep keys bits ids waived rule p → TableReady keys bits ids waived p → TableReady keys bits ids waived next
@@ -125,17 +125,17 @@ module _ (keys bits ids waived : List ℕ) where
       ready-same p (tableRun keys bits ids waived rules p) (table-run-same rules p) h (rw (table-run-is rules p) (ready-run keys bits a b rules p (h .own)))
 
   -- the part as a step cuts it out, from its first place to its end
-  abbrev pub between : State → List ℕ → List ℕ
+  abbrev pub between : RunState → List ℕ → List ℕ
   between st l = take (st .offset + st .waivers - st .offset) (drop (st .offset) l)
 
-  between-is : (st : State) (l : List ℕ) → between st l ≡ ownPart st l
+  between-is : (st : RunState) (l : List ℕ) → between st l ≡ ownPart st l
   between-is st l = let e : st .offset + st .waivers - st .offset ≡ st .waivers = omega arith in ap (λ n. take n (drop (st .offset) l)) e
 
-  pub ready-cut : (p : Progress) → TableReady keys bits ids waived p → Ready keys bits (between (p .state) ids) (between (p .state) waived) p
+  pub ready-cut : (p : Progress) → TableReady keys bits ids waived p → RulesReady keys bits (between (p .state) ids) (between (p .state) waived) p
   ready-cut p h =
-      subst (λ x. Ready keys bits x (between (p .state) waived) p) (sym (between-is (p .state) ids))
-      (subst (λ y. Ready keys bits (ownPart (p .state) ids) y p) (sym (between-is (p .state) waived)) (h .own))
+      subst (λ x. RulesReady keys bits x (between (p .state) waived) p) (sym (between-is (p .state) ids))
+      (subst (λ y. RulesReady keys bits (ownPart (p .state) ids) y p) (sym (between-is (p .state) waived)) (h .own))
 
-  pub step-cut : (rule : Rule) (p : Progress) → stepOf keys bits (between (p .state) ids) (between (p .state) waived) rule p ≡ tableStep keys bits ids waived rule p
+  pub step-cut : (rule : Rule) (p : Progress) → ruleStep keys bits (between (p .state) ids) (between (p .state) waived) rule p ≡ tableStep keys bits ids waived rule p
   unfolding tableStep
-  step-cut rule p = ap₂ (λ x y. stepOf keys bits x y rule p) (between-is (p .state) ids) (between-is (p .state) waived)
+  step-cut rule p = ap₂ (λ x y. ruleStep keys bits x y rule p) (between-is (p .state) ids) (between-is (p .state) waived)

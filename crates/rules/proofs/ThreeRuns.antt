@@ -10,8 +10,8 @@ use lib.ListN.{length}
 use Rattle.keys.proofs.Cases.{decide, split, equal}
 use Rattle.definitions.specs.declared.Rule.{Rule}
 use Rattle.offices.specs.declared.own.Own.{Own}
-use Rattle.rules.specs.declared.state.State.{State}
-use Rattle.rules.specs.Run.{Progress, progressOf, refusing, bounding, resting, restarting, runOf, beginOf, afterRun, answerOf}
+use Rattle.rules.specs.declared.state.RunState.{RunState}
+use Rattle.rules.specs.Run.{Progress, progressOf, refusing, bounding, resting, restarting, rulesRun, beginOf, afterRun, answerOf}
 use Rattle.rules.proofs.NextCases.{next-stopped, next-faulty, next-left, next-counts, next-rests, next-writes, answer-refused}
 use Rattle.rules.proofs.Beginning.{Fit, begin-not-full}
 use Rattle.rules.proofs.Quiet.{run-stopped, run-rests, quiet-ids, quiet-keys}
@@ -20,9 +20,9 @@ use Rattle.rules.proofs.TwoRuns.{counted, second, Promised, ids-quiet, 
 
 module _ (m s : ℕ) (keys bits : List ℕ) (n office : ℕ) (own : Own) (rules : List Rule) (waiverIds waiverKeys ids foundKeys : List ℕ) where
   abbrev run : Progress → Progress
-  run = runOf keys bits waiverIds waiverKeys rules
+  run = rulesRun keys bits waiverIds waiverKeys rules
 
-  abbrev start : State
+  abbrev start : RunState
   start = beginOf m s keys bits n office own (length ids) (length foundKeys)
 
   -- the run after a run
@@ -36,7 +36,7 @@ module _ (m s : ℕ) (keys bits : List ℕ) (n office : ℕ) (own : Own) (rules 
   abbrev Keeps : Progress → Type 0
   Keeps = Promised m s keys bits n office own rules waiverIds waiverKeys ids foundKeys
 
-  abbrev last : State
+  abbrev last : RunState
   last = counted m s keys bits n office own rules waiverIds waiverKeys ids foundKeys .state
 
   bounds : Bounded keys bits waiverIds waiverKeys (progressOf start ids foundKeys) (run (progressOf start ids foundKeys)) (checked .state)
@@ -48,7 +48,7 @@ module _ (m s : ℕ) (keys bits : List ℕ) (n office : ℕ) (own : Own) (rules 
   start-not-full = begin-not-full office m s keys bits n
 
   -- the state after the run that checks is that after a counting run, but for the counts
-  abbrev told : State
+  abbrev told : RunState
   told = bounding (bounds .bound) last
 
   checked-is : checked ≡ progressOf told ids foundKeys
@@ -66,8 +66,8 @@ module _ (m s : ℕ) (keys bits : List ℕ) (n office : ℕ) (own : Own) (rules 
 
   module _ (fit : Fit m own waiverIds waiverKeys) where
     -- the state st, with nothing written, comes after the first run, and another with the same refusal after the counting run: both runs stop
-    module _ (c : ℕ) (not-zero : c ≡ 0 → ⊥) (not-full : c ≡ 12 → ⊥) (st st′ : State) (e : afterRun told ≡ st) (e′ : afterRun last ≡ st′) (is : st .refusal ≡ c) (is′ : st′ .refusal ≡ c) where
-      stay : (x : State) → x .refusal ≡ c → run (progressOf x ids foundKeys) ≡ progressOf x ids foundKeys
+    module _ (c : ℕ) (not-zero : c ≡ 0 → ⊥) (not-full : c ≡ 12 → ⊥) (st st′ : RunState) (e : afterRun told ≡ st) (e′ : afterRun last ≡ st′) (is : st .refusal ≡ c) (is′ : st′ .refusal ≡ c) where
+      stay : (x : RunState) → x .refusal ≡ c → run (progressOf x ids foundKeys) ≡ progressOf x ids foundKeys
       stay x h = run-stopped keys bits waiverIds waiverKeys rules (progressOf x ids foundKeys) (λ z. not-zero (sym h ∙ z))
 
       both-stop : Keeps third
@@ -78,7 +78,7 @@ module _ (m s : ℕ) (keys bits : List ℕ) (n office : ℕ) (own : Own) (rules 
           let there : run (second m s keys bits n office own rules waiverIds waiverKeys ids foundKeys) ≡ progressOf st′ ids foundKeys =
           ap (λ p. run (after p)) counted-is ∙ ap (λ x. run (progressOf x ids foundKeys)) e′ ∙ stay st′ is′ in
           let two = subst Keeps there (two-runs m s keys bits n office own rules waiverIds waiverKeys ids foundKeys fit) in
-          let answers : (x : State) → x .refusal ≡ c → answerOf x ≡ record { refusal = c; live = 0; hidden = 0 } =
+          let answers : (x : RunState) → x .refusal ≡ c → answerOf x ≡ record { refusal = c; live = 0; hidden = 0 } =
           λ x h. answer-refused x (λ z. not-zero (sym h ∙ z)) (λ z. not-full (sym h ∙ z)) ∙ ap (λ k. record { refusal = k; live = 0; hidden = 0 }) h in
           subst Keeps (sym here) (record { answered = answers st is ∙ sym (answers st′ is′) ∙ two .answered; wroteIds = two .wroteIds; wroteKeys = two .wroteKeys })
 
@@ -124,7 +124,7 @@ module _ (m s : ℕ) (keys bits : List ℕ) (n office : ℕ) (own : Own) (rules 
       -- or written at once
       writes : told .live ≤ told .room → Keeps third
       writes h =
-          let idle : State = resting told in
+          let idle : RunState = resting told in
           let passes : run (after checked) ≡ progressOf idle ids foundKeys =
           ap (λ p. run (after p)) checked-is
           ∙ ap (λ x. run (progressOf x ids foundKeys)) (next-rests told zero sound none refl h)

@@ -13,13 +13,13 @@ use Rattle.definitions.specs.Buffer.{over}
 use Rattle.definitions.specs.Rules.{Finding, allFindings, waiversOf, liveOf, hiddenCount, badWaivers}
 use Rattle.definitions.specs.Offices.{badOffice}
 use Rattle.definitions.specs.Refusal.{badSettings}
-use Rattle.definitions.specs.Calls.Findings.{liveIn, hiddenIn, refusalWith, foundWith, idsWith, keysWith}
+use Rattle.definitions.specs.Calls.Findings.{liveIn, hiddenIn, refusalWith, foundWith, idsWith, foundKeysWith}
 use Rattle.definitions.specs.declared.Rule.{Rule}
 use Rattle.offices.specs.declared.own.Own.{Own}
 use Rattle.walk.specs.Given.{written}
 use Rattle.walk.proofs.Written.{written-over}
-use Rattle.rules.specs.declared.state.State.{State}
-use Rattle.rules.specs.Run.{waiversBelow, waiversGood, Progress, progressOf, restarting, runOf, beginRefusal, beginOf, afterRun, answerOf}
+use Rattle.rules.specs.declared.state.RunState.{RunState}
+use Rattle.rules.specs.Run.{waiversBelow, waiversGood, Progress, progressOf, restarting, rulesRun, beginRefusal, beginOf, afterRun, answerOf}
 use Rattle.rules.proofs.WaiverPlaces.{waivers-length}
 use Rattle.rules.proofs.NextCases.{next-stopped, next-faulty, next-left, next-full, next-writes, answer-done, answer-full, answer-refused}
 use Rattle.rules.proofs.Beginning.{Fit, begin-other, begin-bad, begin-no-list, begin-good, below-zero}
@@ -35,7 +35,7 @@ module _ (m s : ℕ) (keys bits : List ℕ) (n office : ℕ) (own : Own) (rules 
   ws = waiversOf waiverIds waiverKeys
 
   abbrev run : Progress → Progress
-  run = runOf keys bits waiverIds waiverKeys rules
+  run = rulesRun keys bits waiverIds waiverKeys rules
 
   abbrev live : List Finding
   live = liveIn m keys bits n rules (waiversOf waiverIds waiverKeys)
@@ -43,7 +43,7 @@ module _ (m s : ℕ) (keys bits : List ℕ) (n office : ℕ) (own : Own) (rules 
   abbrev refusal : ℕ
   refusal = refusalWith m s keys bits n office (not (own .good)) rules (waiversOf waiverIds waiverKeys) ids foundKeys
 
-  abbrev start : State
+  abbrev start : RunState
   start = beginOf m s keys bits n office own (length ids) (length foundKeys)
 
   abbrev begun : Progress
@@ -60,7 +60,7 @@ module _ (m s : ℕ) (keys bits : List ℕ) (n office : ℕ) (own : Own) (rules 
   pub record Promised (p : Progress) : Type 0 where
     pub answered : answerOf (p .state) ≡ foundWith m s keys bits n office (not (own .good)) rules (waiversOf waiverIds waiverKeys) ids foundKeys
     pub wroteIds : p .ids ≡ idsWith m s keys bits n office (not (own .good)) rules (waiversOf waiverIds waiverKeys) ids foundKeys
-    pub wroteKeys : p .keys ≡ keysWith m s keys bits n office (not (own .good)) rules (waiversOf waiverIds waiverKeys) ids foundKeys
+    pub wroteKeys : p .keys ≡ foundKeysWith m s keys bits n office (not (own .good)) rules (waiversOf waiverIds waiverKeys) ids foundKeys
 
   -- the counting run writes nothing
   pub ids-quiet : counted .ids ≡ ids
@@ -82,7 +82,7 @@ module _ (m s : ℕ) (keys bits : List ℕ) (n office : ℕ) (own : Own) (rules 
     stopped-ids : run second .ids ≡ idsWith m s keys bits n office (not (own .good)) rules (waiversOf waiverIds waiverKeys) ids foundKeys
     stopped-ids = ap (λ p. p .ids) stays ∙ ids-quiet ∙ sym (ids-stay m s keys bits n office (not (own .good)) rules ws ids foundKeys not-done)
 
-    stopped-keys : run second .keys ≡ keysWith m s keys bits n office (not (own .good)) rules (waiversOf waiverIds waiverKeys) ids foundKeys
+    stopped-keys : run second .keys ≡ foundKeysWith m s keys bits n office (not (own .good)) rules (waiversOf waiverIds waiverKeys) ids foundKeys
     stopped-keys = ap (λ p. p .keys) stays ∙ keys-quiet ∙ sym (keys-stay m s keys bits n office (not (own .good)) rules ws ids foundKeys not-done)
 
     stopped : (c ≡ 12 → ⊥) → Promised (run second)
@@ -141,7 +141,7 @@ module _ (m s : ℕ) (keys bits : List ℕ) (n office : ℕ) (own : Own) (rules 
             good
             known
 
-        abbrev last : State
+        abbrev last : RunState
         last = counted .state
 
         zero-last : last .refusal ≡ 0

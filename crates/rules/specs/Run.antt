@@ -17,7 +17,7 @@ use Rattle.list.specs.First.{firstRefusal}
 use Rattle.offices.specs.Own.{noRows, ownOf}
 use Rattle.offices.specs.declared.own.Own.{Own}
 use Rattle.walk.specs.Given.{written}
-use Rattle.rules.specs.declared.state.State.{State}
+use Rattle.rules.specs.declared.state.RunState.{RunState}
 
 -- how many waivers have a rule's id below x
 unfoldable pub waiversBelow : ℕ → List Finding → ℕ
@@ -35,135 +35,59 @@ waiversGood m waivers = findingsAscend waivers && keysValid m waivers
 
 -- the state, and what the two answer slices hold
 pub record Progress : Type 0 where
-  pub state : State
+  pub state : RunState
   pub ids : List ℕ
   pub keys : List ℕ
 
-abbrev pub progressOf : State → List ℕ → List ℕ → Progress
+abbrev pub progressOf : RunState → List ℕ → List ℕ → Progress
 progressOf state ids keys = record { state = state; ids = ids; keys = keys }
 
--- the run is refused with the number
-abbrev pub refusing : ℕ → State → State
-refusing number st =
+-- the same run, of which only what moves is told: settings, records, rows and room stay
+abbrev pub moved : (st : RunState) (mode refusal next : ℕ) (faulty : Bool) (passed limit live hidden : ℕ) → RunState
+moved st mode refusal next faulty passed limit live hidden =
     record {
       m = st .m;
       s = st .s;
       n = st .n;
-      mode = st .mode;
-      refusal = number;
-      next = st .next;
-      faulty = st .faulty;
-      offset = st .offset;
-      waivers = st .waivers;
-      passed = st .passed;
-      limit = st .limit;
-      room = st .room;
-      live = st .live;
-      hidden = st .hidden;
-    }
-
--- a waiver is wrong: from here on only the rules are looked at
-abbrev pub faultyFrom : ℕ → State → State
-faultyFrom next st =
-    record {
-      m = st .m;
-      s = st .s;
-      n = st .n;
-      mode = st .mode;
-      refusal = st .refusal;
+      mode = mode;
+      refusal = refusal;
       next = next;
-      faulty = true;
-      offset = st .offset;
-      waivers = st .waivers;
-      passed = st .passed;
-      limit = st .limit;
-      room = st .room;
-      live = st .live;
-      hidden = st .hidden;
-    }
-
--- the rule's findings are counted
-abbrev pub counting : ℕ → ℕ → ℕ → ℕ → State → State
-counting next passed live hidden st =
-    record {
-      m = st .m;
-      s = st .s;
-      n = st .n;
-      mode = st .mode;
-      refusal = st .refusal;
-      next = next;
-      faulty = st .faulty;
+      faulty = faulty;
       offset = st .offset;
       waivers = st .waivers;
       passed = passed;
-      limit = st .limit;
+      limit = limit;
       room = st .room;
       live = live;
       hidden = hidden;
     }
 
+-- the run is refused with the number
+abbrev pub refusing : (number : ℕ) (st : RunState) → RunState
+refusing number st = moved st (st .mode) number (st .next) (st .faulty) (st .passed) (st .limit) (st .live) (st .hidden)
+
+-- a waiver is wrong: from here on only the rules are looked at
+abbrev pub faultyFrom : (next : ℕ) (st : RunState) → RunState
+faultyFrom next st = moved st (st .mode) (st .refusal) next true (st .passed) (st .limit) (st .live) (st .hidden)
+
+-- the rule's findings are counted
+abbrev pub counting : (next passed live hidden : ℕ) (st : RunState) → RunState
+counting next passed live hidden st = moved st (st .mode) (st .refusal) next (st .faulty) passed (st .limit) live hidden
+
 -- the same run, which only bounds the number of findings, by the number so far
-abbrev pub bounding : ℕ → State → State
-bounding live st =
-    record {
-      m = st .m;
-      s = st .s;
-      n = st .n;
-      mode = 0;
-      refusal = st .refusal;
-      next = st .next;
-      faulty = st .faulty;
-      offset = st .offset;
-      waivers = st .waivers;
-      passed = st .passed;
-      limit = st .limit;
-      room = st .room;
-      live = live;
-      hidden = 0;
-    }
+abbrev pub bounding : (live : ℕ) (st : RunState) → RunState
+bounding live st = moved st 0 (st .refusal) (st .next) (st .faulty) (st .passed) (st .limit) live 0
 
 -- a run that passes over all rules
-abbrev pub resting : State → State
-resting st =
-    record {
-      m = st .m;
-      s = st .s;
-      n = st .n;
-      mode = 2;
-      refusal = st .refusal;
-      next = st .next;
-      faulty = st .faulty;
-      offset = st .offset;
-      waivers = st .waivers;
-      passed = st .passed;
-      limit = st .limit;
-      room = st .room;
-      live = st .live;
-      hidden = st .hidden;
-    }
+abbrev pub resting : (st : RunState) → RunState
+resting st = moved st 2 (st .refusal) (st .next) (st .faulty) (st .passed) (st .limit) (st .live) (st .hidden)
 
 -- a run that goes through the rules from the first, and writes up to the limit
-abbrev pub restarting : ℕ → State → State
-restarting limit st =
-    record {
-      m = st .m;
-      s = st .s;
-      n = st .n;
-      mode = 1;
-      refusal = 0;
-      next = 0;
-      faulty = false;
-      offset = st .offset;
-      waivers = st .waivers;
-      passed = 0;
-      limit = limit;
-      room = st .room;
-      live = 0;
-      hidden = 0;
-    }
+abbrev pub restarting : (limit : ℕ) (st : RunState) → RunState
+restarting limit st = moved st 1 0 0 false 0 limit 0 0
 
 -- the rule has the least id that may come, or a larger one, and is good
-abbrev pub mayCome : Rule → State → Bool
+abbrev pub mayCome : Rule → RunState → Bool
 mayCome rule st = leb (st .next) (rule .id) && isRule (st .m) (st .s) rule
 
 -- how many pixels the rule's window has
@@ -174,14 +98,14 @@ module _ (keys bits waiverIds waiverKeys : List ℕ) where
   abbrev waivers : List Finding
   waivers = waiversOf waiverIds waiverKeys
 
-  abbrev pub picture : State → Picture
+  abbrev pub picture : RunState → Picture
   picture st = pictureOf (st .m) (recordsOf keys bits (st .n))
 
   -- some waiver's id is past the rules before this one, and before this one's
-  abbrev pub isUnknown : Rule → State → Bool
+  abbrev pub isUnknown : Rule → RunState → Bool
   isUnknown rule st = ltb (waiversBelow (st .next) waivers) (waiversBelow (rule .id) waivers)
 
-  abbrev pub findingsAt : Rule → State → List Finding
+  abbrev pub findingsAt : Rule → RunState → List Finding
   findingsAt rule st = findingsOf (st .m) (picture st) rule
 
   -- the rule's findings that its waivers do not hide are counted and written, the others counted
@@ -207,8 +131,8 @@ module _ (keys bits waiverIds waiverKeys : List ℕ) where
   served rule p = cond (eqb (p .state .mode) 0) (bounded rule p) (gathered rule p)
 
   -- one rule
-  unfoldable pub stepOf : Rule → Progress → Progress
-  stepOf rule p =
+  unfoldable pub ruleStep : Rule → Progress → Progress
+  ruleStep rule p =
       cond (eqb (p .state .refusal) 0 && not (eqb (p .state .mode) 2))
       (cond (mayCome rule (p .state))
       (cond (p .state .faulty || isUnknown rule (p .state))
@@ -218,12 +142,12 @@ module _ (keys bits waiverIds waiverKeys : List ℕ) where
       p
 
   -- all rules
-  unfoldable pub runOf : List Rule → Progress → Progress
-  runOf [] p = p
-  runOf (rule ∷ rules) p = runOf rules (stepOf rule p)
+  unfoldable pub rulesRun : List Rule → Progress → Progress
+  rulesRun [] p = p
+  rulesRun (rule ∷ rules) p = rulesRun rules (ruleStep rule p)
 
   -- what a run that is not refused stands on
-  pub record Fine (p : Progress) : Type 0 where
+  pub record RulesFine (p : Progress) : Type 0 where
     pub level : p .state .m ≤ 10
     pub slots : p .state .s ≤ slotLimit
     pub list : isList (p .state .m) (p .state .s) keys bits (p .state .n) ≡ true
@@ -236,17 +160,17 @@ module _ (keys bits waiverIds waiverKeys : List ℕ) where
     pub passed : p .state .faulty ≡ false → p .state .passed ≡ waiversBelow (p .state .next) waivers
     pub small : p .state .live + p .state .hidden ≤ p .state .next * 9765625
 
-  pub record Ready (p : Progress) : Type 0 where
-    pub fine : p .state .refusal ≡ 0 → Fine p
+  pub record RulesReady (p : Progress) : Type 0 where
+    pub fine : p .state .refusal ≡ 0 → RulesFine p
 
 -- the part of a slice of the table that the asking office's rows take
-abbrev pub ownPart : State → List ℕ → List ℕ
+abbrev pub ownPart : RunState → List ℕ → List ℕ
 ownPart st l = take (st .waivers) (drop (st .offset) l)
 
 module _ (keys bits ids waived : List ℕ) where
   -- one rule against the asking office's rows
   unfoldable pub tableStep : Rule → Progress → Progress
-  tableStep rule p = stepOf keys bits (ownPart (p .state) ids) (ownPart (p .state) waived) rule p
+  tableStep rule p = ruleStep keys bits (ownPart (p .state) ids) (ownPart (p .state) waived) rule p
 
   unfoldable pub tableRun : List Rule → Progress → Progress
   tableRun [] p = p
@@ -255,13 +179,13 @@ module _ (keys bits ids waived : List ℕ) where
   pub record TableReady (p : Progress) : Type 0 where
     pub in-ids : p .state .offset + p .state .waivers ≤ length ids
     pub in-waived : p .state .offset + p .state .waivers ≤ length waived
-    pub own : Ready keys bits (ownPart (p .state) ids) (ownPart (p .state) waived) p
+    pub own : RulesReady keys bits (ownPart (p .state) ids) (ownPart (p .state) waived) p
 
 -- how a counting run begins: with the refusals 21, 1 and 4 decided, and whether the table is wrong by itself
 unfoldable pub beginRefusal : ℕ → ℕ → ℕ → List ℕ → List ℕ → ℕ → ℕ
 beginRefusal office m s keys bits n = cond (badOffice office) 21 (firstRefusal m s keys bits n)
 
-unfoldable pub beginOf : ℕ → ℕ → List ℕ → List ℕ → ℕ → ℕ → Own → ℕ → ℕ → State
+unfoldable pub beginOf : ℕ → ℕ → List ℕ → List ℕ → ℕ → ℕ → Own → ℕ → ℕ → RunState
 beginOf m s keys bits n office own roomIds roomKeys =
     record {
       m = m;
@@ -286,7 +210,7 @@ ownAt m s keys bits n office offices ids waived rows =
     cond (eqb (beginRefusal office m s keys bits n) 0) (ownOf m office offices ids waived rows) (noRows true)
 
 -- a run is over: 14 is decided, and 12 where the findings were counted; then comes the run that counts, or that writes
-unfoldable pub afterRun : State → State
+unfoldable pub afterRun : RunState → RunState
 afterRun st =
     cond (eqb (st .refusal) 0)
     (cond (st .faulty || ltb (st .passed) (st .waivers)) (refusing 14 st)
@@ -296,7 +220,7 @@ afterRun st =
     st
 
 -- what the call answers
-unfoldable pub answerOf : State → Found
+unfoldable pub answerOf : RunState → Found
 answerOf st =
     record {
       refusal = st .refusal;

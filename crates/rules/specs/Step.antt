@@ -6,7 +6,7 @@ use mathlib.Core.List.{List}
 use lib.ListN.{getD}
 use Rattle.definitions.specs.declared.Rule.{Rule}
 use Rattle.sift.specs.declared.Sifting.{Sifting}
-use Rattle.rules.specs.Run.{Progress, Fine, pixelsOf, mayCome, isUnknown}
+use Rattle.rules.specs.Run.{Progress, RulesFine, pixelsOf, mayCome, isUnknown}
 
 -- the waivers from a place to another have no larger id than the rule
 pub record OwnFrom (waiverIds : List ℕ) (from count id place : ℕ) : Type 0 where
@@ -21,7 +21,7 @@ pub record OwnEnd (waiverIds : List ℕ) (from count id place : ℕ) : Type 0 wh
 
 -- the run is not refused, the rule may come, and no waiver is wrong
 pub record Gatherable (keys bits waiverIds waiverKeys : List ℕ) (rule : Rule) (p : Progress) : Type 0 where
-  pub fine : Fine keys bits waiverIds waiverKeys p
+  pub fine : RulesFine keys bits waiverIds waiverKeys p
   pub may : mayCome rule (p .state) ≡ true
   pub right : p .state .faulty ≡ false
   pub known : isUnknown keys bits waiverIds waiverKeys rule (p .state) ≡ false

@@ -3,7 +3,7 @@
 ghost use mathlib.Core.Path.{_≡_};
 ghost use Rattle.rules.specs.Run.{progressOf, TableReady, tableRun};
 use crate::one_rule;
-use crate::state::State;
+use crate::state::RunState;
 use definitions::Rule;
 
 pub fn run(
@@ -14,8 +14,8 @@ pub fn run(
     waiver_keys: &[u32],
     found_ids: &mut [u32],
     found_keys: &mut [u32],
-    state: State,
-) -> State
+    state: RunState,
+) -> RunState
     requires { ⌜ TableReady (now keys) (now bits) (now «waiver_ids») (now «waiver_keys») (progressOf state (now «found_ids») (now «found_keys»)) ⌝ }
     ensures { λ r. ⌜ progressOf r (now («found_ids» .exit)) (now («found_keys» .exit))
         ≡ tableRun (now (keys .entry)) (now (bits .entry)) (now («waiver_ids» .entry)) (now («waiver_keys» .entry)) (now (rules .entry))

@@ -1,10 +1,10 @@
 // One rule of a run: whether it may come, whether a waiver is wrong, and else its findings against its waivers, which stand one after the other.
 ghost use mathlib.Core.Path.{_≡_};
 ghost use Prim.Native.Nat.{_^_, _≤_};
-ghost use Rattle.rules.specs.Run.{progressOf, mayCome, served, Ready, stepOf, TableReady, tableStep};
+ghost use Rattle.rules.specs.Run.{progressOf, mayCome, served, RulesReady, ruleStep, TableReady, tableStep};
 ghost use Rattle.rules.specs.Step.{Gatherable, widened};
 use crate::state;
-use crate::state::State;
+use crate::state::RunState;
 use crate::waivers;
 use definitions::Rule;
 use definitions::Window;
@@ -12,7 +12,7 @@ use sift::Sifting;
 use walk::bounds;
 
 // The rule's id is not below the least that may come, and the rule is good.
-fn may_come(rule: Rule, state: State) -> bool
+fn may_come(rule: Rule, state: RunState) -> bool
     requires { ⌜ state .m ≤ 10 ⌝ }
     ensures { λ r. ⌜ r ≡ mayCome rule state ⌝ }
 {
@@ -52,8 +52,8 @@ fn gather(
     waiver_keys: &[u32],
     found_ids: &mut [u32],
     found_keys: &mut [u32],
-    state: State,
-) -> State
+    state: RunState,
+) -> RunState
     requires { ⌜ Gatherable (now keys) (now bits) (now «waiver_ids») (now «waiver_keys») rule (progressOf state (now «found_ids») (now «found_keys»)) ⌝ }
     ensures { λ r. ⌜ progressOf r (now («found_ids» .exit)) (now («found_keys» .exit))
         ≡ served (now (keys .entry)) (now (bits .entry)) (now («waiver_ids» .entry)) (now («waiver_keys» .entry)) rule
@@ -96,11 +96,11 @@ fn own_step(
     waiver_keys: &[u32],
     found_ids: &mut [u32],
     found_keys: &mut [u32],
-    state: State,
-) -> State
-    requires { ⌜ Ready (now keys) (now bits) (now «waiver_ids») (now «waiver_keys») (progressOf state (now «found_ids») (now «found_keys»)) ⌝ }
+    state: RunState,
+) -> RunState
+    requires { ⌜ RulesReady (now keys) (now bits) (now «waiver_ids») (now «waiver_keys») (progressOf state (now «found_ids») (now «found_keys»)) ⌝ }
     ensures { λ r. ⌜ progressOf r (now («found_ids» .exit)) (now («found_keys» .exit))
-        ≡ stepOf (now (keys .entry)) (now (bits .entry)) (now («waiver_ids» .entry)) (now («waiver_keys» .entry)) rule
+        ≡ ruleStep (now (keys .entry)) (now (bits .entry)) (now («waiver_ids» .entry)) (now («waiver_keys» .entry)) rule
         (progressOf state (now («found_ids» .entry)) (now («found_keys» .entry))) ⌝ }
 {
     let id = rule.id;
@@ -138,8 +138,8 @@ pub fn step(
     waiver_keys: &[u32],
     found_ids: &mut [u32],
     found_keys: &mut [u32],
-    state: State,
-) -> State
+    state: RunState,
+) -> RunState
     requires { ⌜ TableReady (now keys) (now bits) (now «waiver_ids») (now «waiver_keys») (progressOf state (now «found_ids») (now «found_keys»)) ⌝ }
     ensures { λ r. ⌜ progressOf r (now («found_ids» .exit)) (now («found_keys» .exit))
         ≡ tableStep (now (keys .entry)) (now (bits .entry)) (now («waiver_ids» .entry)) (now («waiver_keys» .entry)) rule

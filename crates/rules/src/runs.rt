@@ -2,7 +2,7 @@
 ghost use mathlib.Core.Path.{_≡_};
 ghost use Rattle.rules.specs.Run.{bounding, beginRefusal, beginOf, ownAt, afterRun, answerOf};
 use crate::state;
-use crate::state::State;
+use crate::state::RunState;
 use definitions::Found;
 use list::refusal::first_refusal;
 use offices::own;
@@ -31,7 +31,7 @@ pub fn begin(
     rows: usize,
     room_ids: usize,
     room_keys: usize,
-) -> State
+) -> RunState
     ensures { λ r. ⌜ r ≡ bounding 0 (beginOf m s (now (keys .entry)) (now (bits .entry)) n office
         (ownAt m s (now (keys .entry)) (now (bits .entry)) n office (now (offices .entry)) (now (ids .entry)) (now (waived .entry)) rows) «room_ids» «room_keys») ⌝ }
 {
@@ -40,7 +40,7 @@ pub fn begin(
     if refusal == 0 {
         own = own::own_rows(m, office, offices, ids, waived, rows);
     }
-    State {
+    RunState {
         m,
         s,
         n,
@@ -59,7 +59,7 @@ pub fn begin(
 }
 
 // A run is over: 14 is decided, and 12 where the findings were counted; then comes the run that counts, if the bound is past the room, or that writes.
-pub fn begin_next(state: State) -> State
+pub fn begin_next(state: RunState) -> RunState
     ensures { λ r. ⌜ r ≡ afterRun state ⌝ }
 {
     let room = state.room;
@@ -85,7 +85,7 @@ pub fn begin_next(state: State) -> State
 }
 
 // With 12 live is the number of places needed, and hidden is 0.
-pub fn answer(state: State) -> Found
+pub fn answer(state: RunState) -> Found
     ensures { λ r. ⌜ r ≡ answerOf state ⌝ }
 {
     let refusal = state.refusal;

@@ -15,7 +15,7 @@ pub const RESTING: u32 = 2;
 // Where a run over the rules stands: the settings and the number of records; which of the three runs it is; the refusal, or 0; the least id that the next rule may have;
 // whether a waiver is wrong; where the asking office's rows begin, how many they are and how many are passed; how many findings may be written, and how many have room; and how many
 // were live and hidden. A run that bounds has in `live` a number that the live findings do not exceed.
-pub struct State {
+pub struct RunState {
     pub m: u32,
     pub s: u32,
     pub n: usize,
@@ -33,7 +33,7 @@ pub struct State {
 }
 
 // The run is refused.
-pub fn refused(state: State, number: u64) -> State
+pub fn refused(state: RunState, number: u64) -> RunState
     ensures { λ r. ⌜ r ≡ refusing number state ⌝ }
 {
     let mut st = state;
@@ -42,7 +42,7 @@ pub fn refused(state: State, number: u64) -> State
 }
 
 // A waiver is wrong: from here on only the rules are looked at.
-pub fn faulty_from(state: State, next: u64) -> State
+pub fn faulty_from(state: RunState, next: u64) -> RunState
     ensures { λ r. ⌜ r ≡ faultyFrom next state ⌝ }
 {
     let mut st = state;
@@ -52,7 +52,7 @@ pub fn faulty_from(state: State, next: u64) -> State
 }
 
 // The rule's findings are counted.
-pub fn counted(state: State, next: u64, passed: usize, sifted: Sifting) -> State
+pub fn counted(state: RunState, next: u64, passed: usize, sifted: Sifting) -> RunState
     ensures { λ r. ⌜ r ≡ counting next passed (sifted .live) (sifted .hidden) state ⌝ }
 {
     let mut st = state;
@@ -64,7 +64,7 @@ pub fn counted(state: State, next: u64, passed: usize, sifted: Sifting) -> State
 }
 
 // The next run has nothing to count: the bound is within the room.
-pub fn rested(state: State) -> State
+pub fn rested(state: RunState) -> RunState
     ensures { λ r. ⌜ r ≡ resting state ⌝ }
 {
     let mut st = state;
@@ -73,10 +73,10 @@ pub fn rested(state: State) -> State
 }
 
 // The rules are gone through from the first again, and up to the limit findings are written.
-pub fn restarted(state: State, limit: usize) -> State
+pub fn restarted(state: RunState, limit: usize) -> RunState
     ensures { λ r. ⌜ r ≡ restarting limit state ⌝ }
 {
-    State {
+    RunState {
         m: state.m,
         s: state.s,
         n: state.n,

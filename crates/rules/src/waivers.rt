@@ -5,10 +5,10 @@ ghost use Prim.Native.Nat.{_≤_};
 ghost use lib.ListN.{length, getD};
 ghost use lib.Dec.{ltb};
 ghost use Rattle.rules.specs.Step.{OwnEnd};
-use crate::state::State;
+use crate::state::RunState;
 
 // A waiver is wrong: it was so before, or the first that is not passed has an id that no rule has.
-pub fn waiver_is_wrong(id: u32, waiver_ids: &[u32], state: State) -> bool
+pub fn waiver_is_wrong(id: u32, waiver_ids: &[u32], state: RunState) -> bool
     requires { ⌜ state .waivers ≤ length (now «waiver_ids») ⌝ }
     ensures { λ r. ⌜ r ≡ state .faulty || ltb (state .passed) (state .waivers) && ltb (getD (now («waiver_ids» .entry)) (state .passed) 0) id ⌝ }
 {

@@ -17,7 +17,7 @@ use Rattle.list.specs.declared.standing.Which.{Which}
 use Rattle.list.specs.declared.standing.Which.the-variants.{Listed as ListedAt, Inside as InsideAt}
 use Rattle.list.proofs.Among.{among-place}
 use Rattle.walk.specs.declared.Spot.{Spot}
-use Rattle.walk.specs.Walk.{Stands}
+use Rattle.walk.specs.Walk.{BlockSpot}
 use Rattle.walk.specs.Given.{keysWith}
 use Rattle.walk.proofs.Asked.{asked-list, asked-from, asked-one}
 use Rattle.walk.proofs.Content.{with-none, with-give, with-pass, content-list, one-key, one-nothing}
@@ -43,7 +43,7 @@ module _
     {n : ℕ}
     (o : OwnList m keys bits n)
     {s : Spot}
-    (h : Stands m s)
+    (h : BlockSpot m s)
     (bit : ℕ)
     (which : Which)
     (place : ℕ)

@@ -11,7 +11,7 @@ use Rattle.keys.specs.Key.{validKey}
 use Rattle.keys.specs.Block.{pixelKey, inBlock, inInterval}
 use Rattle.keys.proofs.Cases.{decide, split, or-left, or-right, same-test}
 use Rattle.keys.proofs.Powers.{five-pos}
-use Rattle.keys.specs.Under.{Block}
+use Rattle.keys.specs.Under.{MapBlock}
 use Rattle.keys.proofs.Interval.{within, nest}
 use Rattle.keys.proofs.Valid.{valid-block, block-valid}
 use Rattle.keys.proofs.Pixel.{InSquare, inside}
@@ -20,7 +20,7 @@ use Rattle.definitions.specs.Picture.{everyPixel}
 use Rattle.laws.proofs.Within.{first-within}
 use Rattle.laws.proofs.Pixels.{every-to, every-from}
 use Rattle.definitions.specs.Covered.{inSome, isCovered}
-use Rattle.sift.specs.Covering.{endOf, firstPixel, nextOver, nextOf, further, furthestOf, startOf, Waived, none, one, Before, no-waiver, waiver}
+use Rattle.sift.specs.Covering.{endOf, firstPixel, nextOver, nextOf, further, furthestOf, startOf, Waived, none, one, AllBefore, no-waiver, waiver}
 use Rattle.sift.proofs.FirstPixel.{first-from, first-at, first-past, past-end, PixelAt, lands}
 
 -- steps of the fold
@@ -121,7 +121,7 @@ module _ (m row column : ℕ) (low : row < 2 ^ m) (narrow : column < 2 ^ m) wher
       ∙ missed t (nextOver m next w) (is ∙ step)
 
 -- what is left among a block's keys is a pixel of the block
-pub left-pixel : {m k r c κ lo : ℕ} {ws : List ℕ} → Block m k r c κ → Waived m lo ws → (next : ℕ) → κ ≤ next
+pub left-pixel : {m k r c κ lo : ℕ} {ws : List ℕ} → MapBlock m k r c κ → Waived m lo ws → (next : ℕ) → κ ≤ next
     → (next < κ + 5 ^ k → PixelAt k r c m next)
     → nextOf m next ws < κ + 5 ^ k
     → PixelAt k r c m (nextOf m next ws)
@@ -140,7 +140,7 @@ left-pixel {m} {k} {r} {c} {κ} b (one {w = w} {ws} lo v t) next from here′ un
     (λ e. let o = over-no m next w e in subst (λ (x : ℕ). PixelAt k r c m x) (sym o) (here′ (omega arith))))
     (omega arith))
 
-module _ {m k r c κ : ℕ} (b : Block m k r c κ) where
+module _ {m k r c κ : ℕ} (b : MapBlock m k r c κ) where
   -- the definition, by the block's own numbers
   covered-scan : (ws : List ℕ) → isCovered m ws κ ≡ everyPixel (inSome m ws) k r c
   unfolding isCovered
@@ -234,9 +234,9 @@ pub waived-right : {m lo : ℕ} (a b : List ℕ) → Waived m lo (a ++ b) → Wa
 waived-right [] b t = t
 waived-right {lo = lo} (w ∷ a) b (one low v t) = waived-lower {lo = suc w} {lo′ = lo} (omega arith) (waived-right a b t)
 
-module _ {m k r c κ : ℕ} (b : Block m k r c κ) where
+module _ {m k r c κ : ℕ} (b : MapBlock m k r c κ) where
   -- an earlier waiver that reaches the block's end has its pixels
-  reached-holds : {x : ℕ} {ws : List ℕ} (rest : List ℕ) → Reaches m x ws → Before κ ws → κ + 5 ^ k ≤ x → (row column : ℕ) → InSquare k r c row column → inSome m (ws ++ rest) row column ≡ true
+  reached-holds : {x : ℕ} {ws : List ℕ} (rest : List ℕ) → Reaches m x ws → AllBefore κ ws → κ + 5 ^ k ≤ x → (row column : ℕ) → InSquare k r c row column → inSome m (ws ++ rest) row column ≡ true
   reached-holds rest (at-first {w} {ws} v e) (waiver before all) far row column i =
       let q = in-raster b i in
       let x = inside b i in
@@ -247,7 +247,7 @@ module _ {m k r c κ : ℕ} (b : Block m k r c κ) where
       some-cons m w (ws ++ rest) row column ∙ or-right (inBlock m w row column) (inSome m (ws ++ rest) row column) (reached-holds rest t all far row column i)
 
   -- one that does not reach it ends before the block
-  furthest-before : {lo : ℕ} {ws : List ℕ} → Waived m lo ws → Before κ ws → (far : ℕ) → far ≤ κ → furthestOf m far ws < κ + 5 ^ k → furthestOf m far ws ≤ κ
+  furthest-before : {lo : ℕ} {ws : List ℕ} → Waived m lo ws → AllBefore κ ws → (far : ℕ) → far ≤ κ → furthestOf m far ws < κ + 5 ^ k → furthestOf m far ws ≤ κ
   furthest-before none no-waiver far h short = let e = furthest-none m far in omega arith
   furthest-before (one {w = w} {ws} low v t) (waiver before all) far h short =
       let e = furthest-cons m far w ws in
@@ -261,7 +261,7 @@ module _ {m k r c κ : ℕ} (b : Block m k r c κ) where
       omega arith
 
   -- the merge: with the furthest end of the waivers before, and what is left over the others
-  pub covered-merge : {lo : ℕ} (before rest : List ℕ) → Waived m lo (before ++ rest) → Before κ before
+  pub covered-merge : {lo : ℕ} (before rest : List ℕ) → Waived m lo (before ++ rest) → AllBefore κ before
       → isCovered m (before ++ rest) κ ≡ leb (κ + 5 ^ k) (nextOf m (startOf m (furthestOf m 0 before) κ) rest)
   unfolding startOf
   covered-merge before rest t all =

@@ -9,7 +9,7 @@ use Rattle.keys.specs.Key.{heightOf, validKey}
 use Rattle.keys.specs.Block.{pixelKey}
 use Rattle.keys.proofs.Cases.{split}
 use Rattle.keys.proofs.Powers.{two-pos}
-use Rattle.keys.specs.Under.{Under, Block, here, nw, ne, sw, se}
+use Rattle.keys.specs.Under.{Under, MapBlock, here, nw, ne, sw, se}
 use Rattle.keys.proofs.Interval.{Next, at-end, at-block, key-within, nest, next-block, within}
 use Rattle.keys.proofs.Valid.{valid-block, block-valid}
 use Rattle.keys.proofs.Pixel.{InSquare, pixel-zero, pixel-nw, pixelKey-lt, pixel-block, pixel-in-block}
@@ -33,7 +33,7 @@ first-least (sw {k} u) = let e = first-suc k in let h = pixelKey-lt k 0 0 in let
 first-least (se {k} u) = let e = first-suc k in let h = pixelKey-lt k 0 0 in let w = key-within u in omega arith
 
 -- the first pixel of a block of the map, by its key
-pub first-key : {m k r c κ : ℕ} → Block m k r c κ → firstPixel m κ ≡ κ + pixelKey k 0 0
+pub first-key : {m k r c κ : ℕ} → MapBlock m k r c κ → firstPixel m κ ≡ κ + pixelKey k 0 0
 unfolding firstPixel
 first-key {κ = κ} b = ap (λ j. κ + pixelKey j 0 0) (block-valid b .height)
 
@@ -42,7 +42,7 @@ unfolding firstPixel
 first-from m κ = omega arith
 
 -- it is the pixel at the block's row and column
-pub first-at : {m k r c κ : ℕ} → Block m k r c κ → pixelKey m r c ≡ firstPixel m κ
+pub first-at : {m k r c κ : ℕ} → MapBlock m k r c κ → pixelKey m r c ≡ firstPixel m κ
 first-at {m} {k} {r} {c} b =
     let e = pixel-in-block 0 0 b (two-pos k) (two-pos k) in
     let f = first-key b in
@@ -50,11 +50,11 @@ first-at {m} {k} {r} {c} b =
     omega arith
 
 -- and lies among the block's keys
-pub first-until : {m k r c κ : ℕ} → Block m k r c κ → firstPixel m κ < κ + 5 ^ k
+pub first-until : {m k r c κ : ℕ} → MapBlock m k r c κ → firstPixel m κ < κ + 5 ^ k
 first-until {k = k} b = let e = first-key b in let h = pixelKey-lt k 0 0 in omega arith
 
 -- a pixel at or past a block's key is at or past its first pixel
-pub first-past : {m k r c κ : ℕ} (row column : ℕ) → Block m k r c κ → row < 2 ^ m → column < 2 ^ m → κ ≤ pixelKey m row column → firstPixel m κ ≤ pixelKey m row column
+pub first-past : {m k r c κ : ℕ} (row column : ℕ) → MapBlock m k r c κ → row < 2 ^ m → column < 2 ^ m → κ ≤ pixelKey m row column → firstPixel m κ ≤ pixelKey m row column
 first-past {m} {k} {κ = κ} row column b low narrow past =
     let e = first-key b in
     split (pixelKey m row column) (κ + 5 ^ k)
@@ -82,7 +82,7 @@ pub record PixelAt (k r c m x : ℕ) : Type 0 where
   pub key : pixelKey m row column ≡ x
 
 -- if the first pixel of what follows a block is among another's keys, it is that one's pixel
-end-lands : {m k r c κ j x : ℕ} → Block m k r c κ → Next m 0 0 0 j x → κ ≤ x → firstPixel m x < κ + 5 ^ k → PixelAt k r c m (firstPixel m x)
+end-lands : {m k r c κ j x : ℕ} → MapBlock m k r c κ → Next m 0 0 0 j x → κ ≤ x → firstPixel m x < κ + 5 ^ k → PixelAt k r c m (firstPixel m x)
 end-lands {m} {x = x} b (at-end e) from until = let w = within b in let h = first-from m x in absurd (omega arith)
 end-lands {m} {x = x} b (at-block {k₁} {r₁} {c₁} d high) from until =
     let h = first-from m x in
@@ -90,5 +90,5 @@ end-lands {m} {x = x} b (at-block {k₁} {r₁} {c₁} d high) from until =
     let z = two-pos k₁ in
     record { row = r₁; column = c₁; inside = omega arith; key = first-at d }
 
-pub lands : {m k r c κ : ℕ} (w : ℕ) → Block m k r c κ → validKey m w ≡ true → κ ≤ endOf m w → firstPixel m (endOf m w) < κ + 5 ^ k → PixelAt k r c m (firstPixel m (endOf m w))
+pub lands : {m k r c κ : ℕ} (w : ℕ) → MapBlock m k r c κ → validKey m w ≡ true → κ ≤ endOf m w → firstPixel m (endOf m w) < κ + 5 ^ k → PixelAt k r c m (firstPixel m (endOf m w))
 lands {m} w b v from until = end-lands b (after m w v) from until

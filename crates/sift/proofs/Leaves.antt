@@ -8,7 +8,7 @@ use mathlib.Core.List.{List, [], _∷_, List·Memᴰ, List·Memᴰ·head, List·
 use lib.ListN.{length, getD, drop}
 use Rattle.keys.specs.Key.{validKey, heightOf, rootKey}
 use Rattle.keys.proofs.Cases.{split}
-use Rattle.keys.specs.Under.{Under, Block, Quadrant, here, nw, ne, sw, se, is-nw, is-ne, is-sw, is-se}
+use Rattle.keys.specs.Under.{Under, MapBlock, Quadrant, here, nw, ne, sw, se, is-nw, is-ne, is-sw, is-se}
 use Rattle.keys.proofs.Under.{quadrant-under}
 use Rattle.keys.proofs.Interval.{within, key-within, nest}
 use Rattle.keys.proofs.Valid.{valid-block, block-valid}
@@ -22,7 +22,7 @@ use Rattle.list.specs.Own.{OwnList, shownBy}
 use Rattle.list.proofs.OneSlot.{slot-feature}
 use Rattle.list.proofs.Own.{own-ascends}
 use Rattle.walk.specs.declared.Spot.{Spot}
-use Rattle.walk.specs.Walk.{Stands}
+use Rattle.walk.specs.Walk.{BlockSpot}
 use Rattle.walk.proofs.RecordsFrom.{records-drop}
 use Rattle.sift.specs.Covering.{endOf}
 
@@ -47,7 +47,7 @@ quadrant-gap is-sw (se u) after before = let i = key-within u in absurd (omega a
 quadrant-gap is-se (se u) after before = let i = key-within u in absurd (omega arith)
 
 -- no listed block lies inside a block of one feature
-listed-past : {p : Picture} {m k r c κ k′ r′ c′ κ′ : ℕ} → Block m k r c κ → oneFeature p k r c ≡ true → Listed p m 0 0 rootKey k′ r′ c′ κ′ → κ < κ′ → κ + 5 ^ k ≤ κ′
+listed-past : {p : Picture} {m k r c κ k′ r′ c′ κ′ : ℕ} → MapBlock m k r c κ → oneFeature p k r c ≡ true → Listed p m 0 0 rootKey k′ r′ c′ κ′ → κ < κ′ → κ + 5 ^ k ≤ κ′
 listed-past b one itself after = absurd (omega arith)
 listed-past {p} {k = k} {κ = κ} b one (child {k′ = k′} {κ₁ = κ₁} {κ′ = κ′} u q several) after =
     let up = key-within (quadrant-under q) in
@@ -64,7 +64,7 @@ member-drop [] (suc i) h = absurd (List·Memᴰ·not-nil h)
 member-drop (y ∷ l) (suc i) h = List·Memᴰ·tail (member-drop l i h)
 
 -- the end of the block where the walk stands
-pub spot-end : {m : ℕ} {s : Spot} → Stands m s → endOf m (s .key) ≡ s .key + s .step
+pub spot-end : {m : ℕ} {s : Spot} → BlockSpot m s → endOf m (s .key) ≡ s .key + s .step
 spot-end {s = s} h = ap (λ k. s .key + 5 ^ k) (block-valid (h .block) .height) ∙ ap (λ x. s .key + x) (sym (h .step))
 
 module _ {m : ℕ} {keys bits : List ℕ} {n : ℕ} (o : OwnList m keys bits n) where
@@ -84,7 +84,7 @@ module _ {m : ℕ} {keys bits : List ℕ} {n : ℕ} (o : OwnList m keys bits n) 
   record-valid i h = let x = record-at i h in ap (λ e. validKey m (e .key)) (x .is) ∙ block-valid (listed-under (x .listed)) .valid
 
   -- a record that begins inside a block ends inside it
-  pub record-within : {k r c κ : ℕ} → Block m k r c κ → (i : ℕ) → i < n → κ ≤ getD keys i 0 → getD keys i 0 < κ + 5 ^ k → endOf m (getD keys i 0) ≤ κ + 5 ^ k
+  pub record-within : {k r c κ : ℕ} → MapBlock m k r c κ → (i : ℕ) → i < n → κ ≤ getD keys i 0 → getD keys i 0 < κ + 5 ^ k → endOf m (getD keys i 0) ≤ κ + 5 ^ k
   record-within b i h from until = let w = within (nest b (valid-block m (getD keys i 0) (record-valid i h)) from until) in omega arith
 
   -- the records after a leaf begin at its end or later

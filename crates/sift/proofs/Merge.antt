@@ -10,7 +10,7 @@ use Rattle.definitions.specs.Covered.{isCovered}
 use Rattle.walk.specs.Given.{writtenAt, written}
 use Rattle.walk.proofs.Written.{written-none, written-one, written-append, length-written}
 use Rattle.sift.specs.declared.Sifting.{Sifting}
-use Rattle.sift.specs.Covering.{Passed}
+use Rattle.sift.specs.Covering.{WaiversPassed}
 use Rattle.sift.specs.Sift.{notWaived, SiftReady, FindingsCounted, Sifted}
 use Rattle.sift.proofs.Settling.{passed-widen}
 
@@ -120,7 +120,7 @@ module _ (m limit id : ℕ) (waived : List ℕ) where
     counted-sum = let x = c .live in let y = c .hidden in omega arith
 
     -- so sifting may go on, with a larger bound
-    pub still-ready : {most x : ℕ} (more y : ℕ) → SiftReady m limit waived at ids keys most x → Passed m waived (r .passed) (r .furthest) y → most + length given ≤ more
+    pub still-ready : {most x : ℕ} (more y : ℕ) → SiftReady m limit waived at ids keys most x → WaiversPassed m waived (r .passed) (r .furthest) y → most + length given ≤ more
         → SiftReady m limit waived r ids′ keys′ more y
     still-ready more y s passed h =
         record {
@@ -140,7 +140,7 @@ sifted-append m limit id waived a b at r₁ r₂ ids ids₁ ids₂ keys keys₁ 
     record { counted = counted-append m limit id waived a b at r₁ r₂ ids ids₁ ids₂ keys keys₁ keys₂ (f .counted) (g .counted); passed = g .passed }
 
 -- nothing was sifted, and the waivers passed stay
-pub sifted-none : (m limit id : ℕ) (waived given : List ℕ) (at : Sifting) (ids keys : List ℕ) (x : ℕ) → given ≡ [] → Passed m waived (at .passed) (at .furthest) x
+pub sifted-none : (m limit id : ℕ) (waived given : List ℕ) (at : Sifting) (ids keys : List ℕ) (x : ℕ) → given ≡ [] → WaiversPassed m waived (at .passed) (at .furthest) x
     → Sifted m limit id waived given at at ids ids keys keys x
 sifted-none m limit id waived given at ids keys x e passed = record { counted = counted-none m limit id waived given at ids keys e; passed = passed }
 

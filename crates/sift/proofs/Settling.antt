@@ -13,7 +13,7 @@ use Rattle.keys.specs.Key.{validKey, heightOf}
 use Rattle.keys.proofs.Powers.{five-pos}
 use Rattle.keys.proofs.Valid.{valid-block}
 use Rattle.definitions.specs.Covered.{isCovered}
-use Rattle.sift.specs.Covering.{endOf, firstPixel, nextOver, nextOf, further, furthestOf, startOf, Waived, none, one, Before, no-waiver, waiver, Passed}
+use Rattle.sift.specs.Covering.{endOf, firstPixel, nextOver, nextOf, further, furthestOf, startOf, Waived, none, one, AllBefore, no-waiver, waiver, WaiversPassed}
 use Rattle.sift.proofs.FirstPixel.{first-until}
 use Rattle.sift.proofs.OneWaiver.{start-short}
 use Rattle.sift.proofs.Covered.{next-none, next-cons, furthest-none, furthest-cons, waived-right, covered-merge, covered-stop}
@@ -35,29 +35,29 @@ furthest-more m far w [] = furthest-cons m far w [] ∙ furthest-none m (further
 furthest-more m far w (v ∷ ws) =
     furthest-cons m far v (ws ++ (w ∷ [])) ∙ furthest-more m (further far (endOf m v)) w ws ∙ ap (λ x. further x (endOf m w)) (sym (furthest-cons m far v ws))
 
-before-more : {x w : ℕ} {ws : List ℕ} → Before x ws → w < x → Before x (ws ++ (w ∷ []))
+before-more : {x w : ℕ} {ws : List ℕ} → AllBefore x ws → w < x → AllBefore x (ws ++ (w ∷ []))
 before-more no-waiver h = waiver h no-waiver
 before-more (waiver g t) h = waiver g (before-more t h)
 
-before-later : {x y : ℕ} {ws : List ℕ} → x ≤ y → Before x ws → Before y ws
+before-later : {x y : ℕ} {ws : List ℕ} → x ≤ y → AllBefore x ws → AllBefore y ws
 before-later h no-waiver = no-waiver
 before-later {y = y} h (waiver {w} g t) = let i : w < y = omega arith in waiver i (before-later h t)
 
 -- passed before x, and so before a later one
-pub passed-widen : {m : ℕ} {waived : List ℕ} {place far x : ℕ} (y : ℕ) → Passed m waived place far x → x ≤ y → Passed m waived place far y
+pub passed-widen : {m : ℕ} {waived : List ℕ} {place far x : ℕ} (y : ℕ) → WaiversPassed m waived place far x → x ≤ y → WaiversPassed m waived place far y
 passed-widen y p h = record { room = p .room; before = before-later h (p .before); furthest = p .furthest }
 
 -- none is passed at the start
-pub none-passed : (m : ℕ) (waived : List ℕ) (x : ℕ) → Passed m waived 0 0 x
+pub none-passed : (m : ℕ) (waived : List ℕ) (x : ℕ) → WaiversPassed m waived 0 0 x
 none-passed m waived x = record { room = omega arith; before = no-waiver; furthest = sym (furthest-none m 0) }
 
 -- along the slice: the waivers before the place are passed, and what is left over the rest is what it was at the start
 pub record Going (m : ℕ) (waived : List ℕ) (first from end place far next : ℕ) : Type 0 where
-  pub passed : Passed m waived place far end
+  pub passed : WaiversPassed m waived place far end
   pub left : nextOf m next (drop place waived) ≡ nextOf m first (drop from waived)
 
 module _ {m : ℕ} (waived : List ℕ) where
-  pub begins : {from far : ℕ} (key first next end : ℕ) → next ≡ first → key ≤ end → Passed m waived from far key → Going m waived first from end from far next
+  pub begins : {from far : ℕ} (key first next end : ℕ) → next ≡ first → key ≤ end → WaiversPassed m waived from far key → Going m waived first from end from far next
   begins {from} key first next end e h p =
       record {
         passed = passed-widen end p h;
@@ -74,14 +74,14 @@ module _ {m : ℕ} (waived : List ℕ) where
       record {
         passed = record {
           room = omega arith;
-          before = subst (λ (l : List ℕ). Before end l) (sym took) (before-more (g .passed .before) below);
+          before = subst (λ (l : List ℕ). AllBefore end l) (sym took) (before-more (g .passed .before) below);
           furthest = e ∙ ap (λ x. further x (endOf m w)) (g .passed .furthest) ∙ sym (ap (furthestOf m 0) took ∙ furthest-more m 0 w (take place waived));
         };
         left = ap (λ x. nextOf m x (drop (place + 1) waived)) f ∙ sym (next-cons m next w (drop (place + 1) waived)) ∙ ap (nextOf m next) (sym rest) ∙ g .left;
       }
 
   -- what is left past the end of the block says whether it is covered
-  pub settled : {from far₀ place far next : ℕ} (key : ℕ) → validKey m key ≡ true → Waived m 0 waived → Passed m waived from far₀ key
+  pub settled : {from far₀ place far next : ℕ} (key : ℕ) → validKey m key ≡ true → Waived m 0 waived → WaiversPassed m waived from far₀ key
       → Going m waived (startOf m far₀ key) from (endOf m key) place far next
       → Waived m (endOf m key) (drop place waived)
       → leb (endOf m key) next ≡ isCovered m waived key
@@ -94,7 +94,7 @@ module _ {m : ℕ} (waived : List ℕ) where
       ∙ ap (λ l. isCovered m l key) (take-append-drop from waived)
 
   -- where no waiver is left and none that is passed reaches the block, it is not covered
-  pub settled-past : {from far : ℕ} (key : ℕ) → validKey m key ≡ true → Waived m 0 waived → Passed m waived from far key → length waived ≤ from → far ≤ key
+  pub settled-past : {from far : ℕ} (key : ℕ) → validKey m key ≡ true → Waived m 0 waived → WaiversPassed m waived from far key → length waived ≤ from → far ≤ key
       → isCovered m waived key ≡ false
   settled-past {from} {far} key v t p past low =
       let end = endOf m key in

@@ -45,17 +45,17 @@ pub data Waived (m : ℕ) : ℕ → List ℕ → Type 0 where
   one : {lo w : ℕ} {ws : List ℕ} → lo ≤ w → validKey m w ≡ true → Waived m (suc w) ws → Waived m lo (w ∷ ws)
 
 -- every waiver begins before x
-pub data Before (x : ℕ) : List ℕ → Type 0 where
-  no-waiver : Before x []
-  waiver : {w : ℕ} {ws : List ℕ} → w < x → Before x ws → Before x (w ∷ ws)
+pub data AllBefore (x : ℕ) : List ℕ → Type 0 where
+  no-waiver : AllBefore x []
+  waiver : {w : ℕ} {ws : List ℕ} → w < x → AllBefore x ws → AllBefore x (w ∷ ws)
 
 -- the waivers before a place begin before x, and far is their furthest end
-pub record Passed (m : ℕ) (waived : List ℕ) (place far x : ℕ) : Type 0 where
+pub record WaiversPassed (m : ℕ) (waived : List ℕ) (place far x : ℕ) : Type 0 where
   pub room : place ≤ length waived
-  pub before : Before x (take place waived)
+  pub before : AllBefore x (take place waived)
   pub furthest : far ≡ furthestOf m 0 (take place waived)
 
 -- a block is settled: whether the waivers cover it, and how far they are passed then
 pub record Settles (m : ℕ) (waived : List ℕ) (key : ℕ) (r : Settled) : Type 0 where
   pub hidden : r .hidden ≡ isCovered m waived key
-  pub passed : Passed m waived (r .passed) (r .furthest) (endOf m key)
+  pub passed : WaiversPassed m waived (r .passed) (r .furthest) (endOf m key)

@@ -9,7 +9,7 @@ use lib.Dec.{ltb, eqb}
 use Rattle.definitions.specs.List.{Record}
 use Rattle.definitions.specs.Covered.{isCovered}
 use Rattle.walk.specs.Given.{written}
-use Rattle.sift.specs.Covering.{endOf, Waived, Passed}
+use Rattle.sift.specs.Covering.{endOf, Waived, WaiversPassed}
 use Rattle.sift.specs.declared.Sifting.{Sifting}
 
 -- the keys of the records with exactly the given bits, before the first record whose key is at or past the end
@@ -29,7 +29,7 @@ pub record SiftReady (m limit : ℕ) (waived : List ℕ) (at : Sifting) (ids key
   pub limitKeys : limit ≤ length keys
   pub counts : at .live + at .hidden ≤ most
   pub waivers : Waived m 0 waived
-  pub passed : Passed m waived (at .passed) (at .furthest) x
+  pub passed : WaiversPassed m waived (at .passed) (at .furthest) x
 
 -- the same for a run along records: x is at or before the end, and at or before the keys that are still to come; no record that begins before the end
 -- ends after it
@@ -50,4 +50,4 @@ pub record FindingsCounted (m limit id : ℕ) (waived given : List ℕ) (at r : 
 -- and the waivers passed begin before x
 pub record Sifted (m limit id : ℕ) (waived given : List ℕ) (at r : Sifting) (ids ids′ keys keys′ : List ℕ) (x : ℕ) : Type 0 where
   pub counted : FindingsCounted m limit id waived given at r ids ids′ keys keys′
-  pub passed : Passed m waived (r .passed) (r .furthest) x
+  pub passed : WaiversPassed m waived (r .passed) (r .furthest) x

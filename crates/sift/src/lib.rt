@@ -13,7 +13,7 @@ ghost use Rattle.definitions.specs.Rules.{windowOfRule};
 ghost use Rattle.list.specs.Check.{oneSlot};
 ghost use Rattle.list.specs.Own.{OwnList, shownBy};
 ghost use Rattle.list.specs.Sorted.{Near};
-ghost use Rattle.walk.specs.Walk.{Stands};
+ghost use Rattle.walk.specs.Walk.{BlockSpot};
 ghost use Rattle.walk.specs.Given.{keysWith};
 ghost use Rattle.sift.specs.Sift.{keysUntil};
 ghost use Rattle.sift.specs.Covering.{endOf};
@@ -135,7 +135,7 @@ fn sift_block(
     found_keys: &mut [u32],
     at: Sifting,
 ) -> Sifting
-    requires { ⌜ (job .m ≤ 10) × Stands (job .m) block × OwnList (job .m) (now keys) (now bits) (job .n)
+    requires { ⌜ (job .m ≤ 10) × BlockSpot (job .m) block × OwnList (job .m) (now keys) (now bits) (job .n)
         × Near (now keys) (job .n) from (block .key) × (oneSlot (job .bit) ≡ true)
         × SiftReady (job .m) (job .limit) (now waived) at (now «found_ids») (now «found_keys») (2 ^ 60) (block .key) ⌝ }
     ensures { λ r. ⌜ Sifted (job .m) (job .limit) (job .id) (now (waived .entry))

@@ -5,7 +5,7 @@ ghost use mathlib.Core.Bool.{true};
 ghost use Prim.Native.Nat.{_≤_};
 ghost use lib.ListN.{length};
 ghost use Rattle.keys.specs.Key.{validKey};
-ghost use Rattle.sift.specs.Covering.{endOf, firstPixel, nextOver, further, startOf, Waived, Passed, Settles};
+ghost use Rattle.sift.specs.Covering.{endOf, firstPixel, nextOver, further, startOf, Waived, WaiversPassed, Settles};
 use keys::Key;
 use keys::power;
 
@@ -82,7 +82,7 @@ fn cover(m: u32, waiver: u32, at: Covering) -> Covering
 
 // One block: passes the waivers that begin before its end.
 fn merge(m: u32, waived: &[u32], key: u32, from: usize, furthest: u32) -> Settled
-    requires { ⌜ (m ≤ 10) × (validKey m key ≡ true) × Waived m 0 (now waived) × Passed m (now waived) from furthest key ⌝ }
+    requires { ⌜ (m ≤ 10) × (validKey m key ≡ true) × Waived m 0 (now waived) × WaiversPassed m (now waived) from furthest key ⌝ }
     ensures { λ r. ⌜ Settles m (now (waived .entry)) key r ⌝ }
 {
     let end = end_of(m, key);
@@ -120,7 +120,7 @@ fn are_past(waived: &[u32], key: u32, from: usize, furthest: u32) -> bool
 
 // One block: where the waivers are past it nothing is worked out.
 pub fn settle(m: u32, waived: &[u32], key: u32, from: usize, furthest: u32) -> Settled
-    requires { ⌜ (m ≤ 10) × (validKey m key ≡ true) × Waived m 0 (now waived) × Passed m (now waived) from furthest key ⌝ }
+    requires { ⌜ (m ≤ 10) × (validKey m key ≡ true) × Waived m 0 (now waived) × WaiversPassed m (now waived) from furthest key ⌝ }
     ensures { λ r. ⌜ Settles m (now (waived .entry)) key r ⌝ }
 {
     if are_past(waived, key, from, furthest) {

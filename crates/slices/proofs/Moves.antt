@@ -28,18 +28,18 @@ run-length : (from : List ℕ) (start count : ℕ) → start + count ≤ length 
 run-length from start count h = let rest = length-drop start from in length-take-le count (drop start from) (omega arith)
 
 -- from the front on: i places of `from` have gone into `to`
-pub record Moved (from : List ℕ) (start count : ℕ) (to : List ℕ) (at : ℕ) (now : List ℕ) (i : ℕ) : Type 0 where
+pub record MovedSoFar (from : List ℕ) (start count : ℕ) (to : List ℕ) (at : ℕ) (now : List ℕ) (i : ℕ) : Type 0 where
   pub within : i ≤ count
   pub size : length now ≡ length to
   pub run : now ≡ sets to at (take i (drop start from))
 
 -- at first none has
-pub move-begins : (from : List ℕ) (start count : ℕ) (to : List ℕ) (at : ℕ) → Moved from start count to at to 0
+pub move-begins : (from : List ℕ) (start count : ℕ) (to : List ℕ) (at : ℕ) → MovedSoFar from start count to at to 0
 move-begins from start count to at = record { within = omega arith; size = refl; run = refl }
 
-module _ {from : List ℕ} {start count : ℕ} {to : List ℕ} {at : ℕ} {now : List ℕ} {i : ℕ} (p : Moved from start count to at now i) where
+module _ {from : List ℕ} {start count : ℕ} {to : List ℕ} {at : ℕ} {now : List ℕ} {i : ℕ} (p : MovedSoFar from start count to at now i) where
   -- a turn moves the next
-  pub move-turns : start + count ≤ length from → i < count → Moved from start count to at (set now (at + i) (getD from (start + i) 0)) (i + 1)
+  pub move-turns : start + count ≤ length from → i < count → MovedSoFar from start count to at (set now (at + i) (getD from (start + i) 0)) (i + 1)
   move-turns h more =
       let moved = run-length from start i (omega arith) in
       record {
@@ -55,14 +55,14 @@ module _ {from : List ℕ} {start count : ℕ} {to : List ℕ} {at : ℕ} {now :
   move-ends h = let e : i ≡ count = omega arith in p .run ∙ ap (λ n. sets to at (take n (drop start from))) e
 
 -- inside one slice towards the front: the place that is read is one that no turn has written
-pub slide-turns : {slice : List ℕ} {start count at : ℕ} {now : List ℕ} {i : ℕ} → Moved slice start count slice at now i
+pub slide-turns : {slice : List ℕ} {start count at : ℕ} {now : List ℕ} {i : ℕ} → MovedSoFar slice start count slice at now i
     → at ≤ start → start + count ≤ length slice → i < count
-    → Moved slice start count slice at (set now (at + i) (getD now (start + i) 0)) (i + 1)
+    → MovedSoFar slice start count slice at (set now (at + i) (getD now (start + i) 0)) (i + 1)
 slide-turns {slice} {start} {count} {at} {now} {i} p low h more =
     let moved = run-length slice start i (omega arith) in
     let there : getD now (start + i) 0 ≡ getD slice (start + i) 0
     = ap (λ r. getD r (start + i) 0) (p .run) ∙ getD-sets-after slice at (take i (drop start slice)) (start + i) 0 (omega arith) in
-    subst (λ x. Moved slice start count slice at (set now (at + i) x) (i + 1)) (sym there) (move-turns p h more)
+    subst (λ x. MovedSoFar slice start count slice at (set now (at + i) x) (i + 1)) (sym there) (move-turns p h more)
 
 -- what stays where it is is not moved at all
 pub not-moved : (slice : List ℕ) (start count at : ℕ) → start ≡ at → start + count ≤ length slice → slice ≡ sets slice at (take count (drop start slice))
@@ -116,14 +116,14 @@ module _ {slice : List ℕ} {start count at : ℕ} {now : List ℕ} {i : ℕ} (p
       p .run ∙ ap₂ (λ a b. sets slice a (take (count - i) (drop b slice))) to from ∙ ap (λ n. sets slice at (take n (drop start slice))) all
 
 -- the places before i are zero, from `from` on
-pub record Cleared (slice : List ℕ) (from end : ℕ) (now : List ℕ) (i : ℕ) : Type 0 where
+pub record ZeroBefore (slice : List ℕ) (from end : ℕ) (now : List ℕ) (i : ℕ) : Type 0 where
   pub above : from ≤ i
   pub within : i ≤ end
   pub size : length now ≡ length slice
   pub run : now ≡ sets slice from (replicate (i - from) 0)
 
 -- at first none is
-pub clear-begins : (slice : List ℕ) (from end : ℕ) → from ≤ end → Cleared slice from end slice from
+pub clear-begins : (slice : List ℕ) (from end : ℕ) → from ≤ end → ZeroBefore slice from end slice from
 clear-begins slice from end h =
     let none : 0 ≡ from - from = omega arith in
     record { above = omega arith; within = h; size = refl; run = ap (λ n. sets slice from (replicate n 0)) none }
@@ -141,9 +141,9 @@ behind from i h = omega arith
 one-more : (from i : ℕ) → from ≤ i → i - from + 1 ≡ i + 1 - from
 one-more from i h = omega arith
 
-module _ {slice : List ℕ} {from end : ℕ} {now : List ℕ} {i : ℕ} (p : Cleared slice from end now i) where
+module _ {slice : List ℕ} {from end : ℕ} {now : List ℕ} {i : ℕ} (p : ZeroBefore slice from end now i) where
   -- a turn makes the next zero
-  pub clear-turns : i < end → Cleared slice from end (set now i 0) (i + 1)
+  pub clear-turns : i < end → ZeroBefore slice from end (set now i 0) (i + 1)
   clear-turns more =
       record {
         above = omega arith;

@@ -7,7 +7,7 @@ use native.Mathlib.Omega.{arith}
 use Rattle.keys.specs.Key.{validKey, heightOf}
 use Rattle.keys.specs.Block.{inBlock, inInterval}
 use Rattle.keys.proofs.Cases.{decide, or-left}
-use Rattle.keys.specs.Under.{Block}
+use Rattle.keys.specs.Under.{MapBlock}
 use Rattle.keys.proofs.Valid.{valid-block}
 use Rattle.keys.proofs.Interval.{within, apart}
 use Rattle.keys.proofs.Powers.{five-pos}
@@ -40,7 +40,7 @@ unfolding given
 given-later m g gs a b h = rw h
 
 -- an entry apart from the block has none of its pixels
-pub apart-none : (m : ℕ) {k r c κ : ℕ} (x : ℕ) → Block m k r c κ → validKey m x ≡ true → inInterval m x κ ≡ false → inInterval m κ x ≡ false
+pub apart-none : (m : ℕ) {k r c κ : ℕ} (x : ℕ) → MapBlock m k r c κ → validKey m x ≡ true → inInterval m x κ ≡ false → inInterval m κ x ≡ false
     → Every (λ a b. inBlock m x a b ≡ false) k r c
 apart-none m {k} {r} {c} {κ} x u valid e f a b w =
     decide (inBlock m x a b)
@@ -56,7 +56,7 @@ apart-none m {k} {r} {c} {κ} x u valid e f a b w =
     (λ t. t)
 
 -- a block that holds another is no pixel
-higher : {m : ℕ} (k r c κ x : ℕ) → Block m k r c κ → validKey m x ≡ true → inInterval m x κ ≡ false → inInterval m κ x ≡ true → 0 < k
+higher : {m : ℕ} (k r c κ x : ℕ) → MapBlock m k r c κ → validKey m x ≡ true → inInterval m x κ ≡ false → inInterval m κ x ≡ true → 0 < k
 higher {m} zero r c κ x u valid h i =
     let z = five-pos (heightOf m x) in
     let v = valid-block m x valid in
@@ -77,7 +77,7 @@ module _ (m : ℕ) (gift : Entry → Gift) (same-key : (e : Entry) → gift e .k
   key-valid : {k r c κ : ℕ} (e : Entry) → Tells k r c κ e → validKey m (gift e .key) ≡ true
   key-valid e tells = ap (validKey m) (same-key e) ∙ tells .valid
 
-  module _ {k r c κ : ℕ} (u : Block m k r c κ) where
+  module _ {k r c κ : ℕ} (u : MapBlock m k r c κ) where
     module _ (e : Entry) (es : List Entry) (tells : Tells k r c κ e) where
       -- the entry's block holds this one
       holds : inInterval m (e .key) κ ≡ true → Met (giftsStep m (gift e ∷ map gift es)) ks vs k r c κ (gives e)

@@ -5,7 +5,7 @@ use mathlib.Core.Path.{_≡_, sym, ap, _∙_}
 use native.Mathlib.Nat.{pow-suc, add-mul, mul-assoc}
 use native.Mathlib.Omega.{arith}
 use Rattle.keys.specs.Key.{validKey, heightOf}
-use Rattle.keys.specs.Under.{Block}
+use Rattle.keys.specs.Under.{MapBlock}
 use Rattle.keys.proofs.Cases.{split}
 use Rattle.keys.proofs.Parent.{parent-cases}
 use Rattle.keys.proofs.ParentKey.{digit-of, multiple}
@@ -25,7 +25,7 @@ record Whole (m k κ : ℕ) : Type 0 where
   is : κ ≡ times * 5 ^ k
   own : k < m → times % 5 ≡ 0 → ⊥
 
-block-whole : {m k r c κ : ℕ} → Block m k r c κ → Whole m k κ
+block-whole : {m k r c κ : ℕ} → MapBlock m k r c κ → Whole m k κ
 block-whole {m} {k} {r} {c} {κ} b =
     parent-cases b
     (λ same. record { times = 0; is = omega (arith, same .keys); own = λ h. absurd (omega (arith, same .heights, h)) })

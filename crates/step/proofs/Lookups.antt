@@ -12,7 +12,7 @@ use borrow.Author.Tests.{eqb-true, eqb-false}
 use lib.Seq.{getD-take, getD-drop, length-take-le, take-all}
 use Rattle.keys.specs.Key.{heightOf}
 use Rattle.keys.specs.Block.{rowOf, columnOf, inInterval}
-use Rattle.keys.specs.Under.{Block}
+use Rattle.keys.specs.Under.{MapBlock}
 use Rattle.keys.proofs.Cases.{decide}
 use Rattle.keys.proofs.Valid.{valid-block, block-valid, Is}
 use Rattle.keys.proofs.Ancestor.{interval-iff}
@@ -137,7 +137,7 @@ module _ {m s : ℕ} {ks vs : List ℕ} {start end : ℕ} (x : Ends m s ks vs st
       }
 
   -- what it makes of a block that its own holds: by the bits there, or, of its own block, by the whole content
-  module _ {k r c κ : ℕ} (b : Block m k r c κ) (h : inInterval m (last .key) κ ≡ true) (t : Step) (over : Covers t (pictureOf m content) k r c) where
+  module _ {k r c κ : ℕ} (b : MapBlock m k r c κ) (h : inInterval m (last .key) κ ≡ true) (t : Step) (over : Covers t (pictureOf m content) k r c) where
     bits-told : backBits ks vs κ last ≡ bitsOf (pictureOf m content) k r c
     bits-told =
         let v = valid-block m (last .key) (x .ends .valid) in

@@ -4,7 +4,7 @@ use mathlib.Core.Path.{_≡_, refl, _∙_, ap}
 use native.Mathlib.Nat.{pow-suc}
 use native.Mathlib.Omega.{arith}
 use Rattle.keys.specs.Key.{childKey}
-use Rattle.keys.specs.Under.{Block, here, nw, ne, sw, se}
+use Rattle.keys.specs.Under.{MapBlock, here, nw, ne, sw, se}
 use Rattle.keys.proofs.Under.{under-trans}
 use Rattle.keys.proofs.Interval.{within}
 use Rattle.keys.proofs.Powers.{two-le, five-le}
@@ -34,7 +34,7 @@ module _ {height row column key half step : ℕ} (d : Divisible height row colum
   are-quarters = rw (e, f) refl
 
 -- a block of the map that is no pixel has quadrants
-pub divisible : {m k r c κ : ℕ} → m ≤ 10 → Block m k r c κ → 0 < k → Divisible k r c κ
+pub divisible : {m k r c κ : ℕ} → m ≤ 10 → MapBlock m k r c κ → 0 < k → Divisible k r c κ
 divisible deep b positive =
     let w = within b in
     let two = two-le 10 deep in
@@ -48,24 +48,24 @@ divisible deep b positive =
     }
 
 -- the quadrants are blocks of the map
-module _ {m k r c κ : ℕ} {q : Quarters} (e : q ≡ quartersOf k r c κ) (b : Block m k r c κ) (positive : 0 < k) where
-  block : Block m (suc (k - 1)) r c κ
+module _ {m k r c κ : ℕ} {q : Quarters} (e : q ≡ quartersOf k r c κ) (b : MapBlock m k r c κ) (positive : 0 < k) where
+  block : MapBlock m (suc (k - 1)) r c κ
   block = let up : k ≡ suc (k - 1) = omega arith in rw (← up) b
 
-  pub block-nw : Block m (q .height) r c (q .nw)
+  pub block-nw : MapBlock m (q .height) r c (q .nw)
   block-nw = let first : childKey κ (k - 1) 1 ≡ κ + 5 ^ (k - 1) = omega arith in rw (e, ← first) (under-trans block (nw here))
 
-  pub block-ne : Block m (q .height) r (q .right) (q .ne)
+  pub block-ne : MapBlock m (q .height) r (q .right) (q .ne)
   block-ne = rw e (under-trans block (ne here))
 
-  pub block-sw : Block m (q .height) (q .down) c (q .sw)
+  pub block-sw : MapBlock m (q .height) (q .down) c (q .sw)
   block-sw = rw e (under-trans block (sw here))
 
-  pub block-se : Block m (q .height) (q .down) (q .right) (q .se)
+  pub block-se : MapBlock m (q .height) (q .down) (q .right) (q .se)
   block-se = rw e (under-trans block (se here))
 
 -- a block's keys end within the map's
-pub narrow-room : {m k r c κ : ℕ} → m ≤ 10 → Block m k r c κ → (k ≤ 10) × (κ + 5 ^ k ≤ 5 ^ 10)
+pub narrow-room : {m k r c κ : ℕ} → m ≤ 10 → MapBlock m k r c κ → (k ≤ 10) × (κ + 5 ^ k ≤ 5 ^ 10)
 narrow-room deep b = let w = within b in let five = five-le 10 deep in omega (arith, w .height, w .until)
 
 -- the quadrants are lower

@@ -4,7 +4,7 @@ use mathlib.Core.Path.{_≡_}
 use mathlib.Core.Bool.{true}
 use mathlib.Core.List.{List}
 use Rattle.keys.specs.Block.{pixelKey}
-use Rattle.keys.specs.Under.{Block}
+use Rattle.keys.specs.Under.{MapBlock}
 use Rattle.definitions.specs.Window.{inWindow}
 use Rattle.definitions.specs.declared.Window.{Window}
 use Rattle.list.specs.Check.{oneSlot}
@@ -45,7 +45,7 @@ Doable m (Again run) ks vs = EntriesIn m run ks vs
 -- a leaf's block of the map
 pub record LeafAsked (m own height row column key : ℕ) : Type 0 where
   pub deep : m ≤ 10
-  pub block : Block m height row column key
+  pub block : MapBlock m height row column key
   pub leaf : oneSlot own ≡ true
 
 -- two steps do the same to every pixel whose key is below past

@@ -4,7 +4,7 @@ use mathlib.Core.Path.{_≡_}
 use mathlib.Core.Bool.{Bool, true, false}
 use mathlib.Core.List.{List}
 use lib.ListN.{length}
-use Rattle.keys.specs.Under.{Block}
+use Rattle.keys.specs.Under.{MapBlock}
 use Rattle.definitions.specs.Picture.{Picture}
 use Rattle.definitions.specs.List.{listOf}
 use Rattle.laws.proofs.Within.{Every}
@@ -17,7 +17,7 @@ use Rattle.step.specs.declared.meeting.Meeting.the-variants.{Apart, Leaf
 -- a block of the map
 pub record BlockAsked (m height row column key : ℕ) : Type 0 where
   pub deep : m ≤ 10
-  pub block : Block m height row column key
+  pub block : MapBlock m height row column key
 
 -- the step touches none of its pixels
 abbrev pub Untouched : (t : Step) (height row column : ℕ) → Type 0

@@ -12,7 +12,7 @@ use lib.Seq.{ext-getD}
 use Rattle.keys.specs.Key.{validKey, heightOf}
 use Rattle.keys.specs.Block.{rowOf, columnOf}
 use Rattle.keys.proofs.Powers.{height-le}
-use Rattle.keys.specs.Under.{Block}
+use Rattle.keys.specs.Under.{MapBlock}
 use Rattle.keys.proofs.Valid.{valid-block}
 use Rattle.definitions.specs.Picture.{Picture}
 use Rattle.definitions.specs.Bits.{bitsOf, featureOf}
@@ -24,11 +24,11 @@ use Rattle.list.specs.Among.{placeAmong}
 use Rattle.list.specs.Shown.{ShownAt}
 use Rattle.list.proofs.Own.{own-place, own-bits}
 use Rattle.list.proofs.Shown.{slot-one, slot-several, slot-feature, block-shown}
-use Rattle.summary.specs.Count.{withPixels, Room, NodeAt, NodeCounted}
+use Rattle.summary.specs.Count.{withPixels, CountersFit, NodeAt, NodeCounted}
 use Rattle.summary.proofs.CountTurn.{added-length, leaf-added, shown-node, shown-counted}
 
 -- counters that are all 0 have room for a block of a map
-pub room-at-first : (m key area : ℕ) → m ≤ 10 → area ≡ 4 ^ heightOf m key → Room (replicate 32 0) area
+pub room-at-first : (m key area : ℕ) → m ≤ 10 → area ≡ 4 ^ heightOf m key → CountersFit (replicate 32 0) area
 room-at-first m key area deep e = record {
   long = length-replicate {A = ℕ} 32 0;
   fits = λ f h.
@@ -56,7 +56,7 @@ module _ {m : ℕ} {keys bits : List ℕ} {n : ℕ} (o : OwnList m keys bits n) 
   place-room = let h = own-place o key in let k = o .fits in omega arith
 
   module _ (valid : validKey m key ≡ true) {area : ℕ} (pixels : area ≡ 4 ^ heightOf m key) where
-    block : Block m (heightOf m key) (rowOf m key) (columnOf m key) key
+    block : MapBlock m (heightOf m key) (rowOf m key) (columnOf m key) key
     block = valid-block m key valid
 
     own-is : getD bits found 0 ≡ bitsOf (shownBy m keys bits n) (heightOf m key) (rowOf m key) (columnOf m key)

@@ -20,7 +20,7 @@ use Rattle.list.specs.Check.{oneSlot}
 use Rattle.list.specs.Shown.{ShownAt}
 use Rattle.list.proofs.Shown.{shown-room, leaf-one, leaf-feature, leaf-length, node-several}
 use Rattle.list.proofs.ShownQuadrants.{quadrantRow, quadrantColumn, Left, left-all, left-shown, left-then, left-none}
-use Rattle.summary.specs.Count.{withPixels, Room, NodeAt, BlockCounted, NodeCounted}
+use Rattle.summary.specs.Count.{withPixels, CountersFit, NodeAt, BlockCounted, NodeCounted}
 
 -- the pixels of quadrant number d, and those of the first d quadrants
 abbrev pub quadrantPixels : Picture → ℕ → ℕ → ℕ → ℕ → ℕ → ℕ
@@ -199,7 +199,7 @@ module _ {bits counts₀ : List ℕ} {at area : ℕ} {counts : List ℕ} {next d
     pub next-room : next < length bits
     next-room = shown-room (left-shown (now-passed .left) h)
 
-    pub counts-room : Room counts₀ area → Room counts (area / 4)
+    pub counts-room : CountersFit counts₀ area → CountersFit counts (area / 4)
     counts-room room = record {
       long = x .long ∙ room .long;
       fits = λ f i.

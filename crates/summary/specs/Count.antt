@@ -15,7 +15,7 @@ abbrev pub withPixels : List ℕ → ℕ → ℕ → List ℕ
 withPixels counts f pixels = set counts f (getD counts f 0 + pixels)
 
 -- there are 32 counters, and each can take so many pixels more
-pub record Room (counts : List ℕ) (area : ℕ) : Type 0 where
+pub record CountersFit (counts : List ℕ) (area : ℕ) : Type 0 where
   pub long : length counts ≡ 32
   pub fits : (f : ℕ) → f < 32 → getD counts f 0 + area < 2 ^ 32
 

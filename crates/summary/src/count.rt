@@ -9,14 +9,14 @@ ghost use Rattle.definitions.specs.Bits.{featureOf};
 ghost use Rattle.definitions.specs.Area.{countsOf};
 ghost use Rattle.list.specs.Check.{oneSlot};
 ghost use Rattle.list.specs.Own.{OwnList, shownBy};
-ghost use Rattle.summary.specs.Count.{withPixels, Room, NodeAt, NodeCounted};
+ghost use Rattle.summary.specs.Count.{withPixels, CountersFit, NodeAt, NodeCounted};
 use list::check;
 use list::feature;
 use list::standing as search;
 
 // A leaf adds its area to the counter of its feature.
 fn count_leaf(counts: &mut [u32; 32], bits: u32, area: u32)
-    requires { ⌜ (oneSlot bits ≡ true) × Room (now counts) area ⌝ }
+    requires { ⌜ (oneSlot bits ≡ true) × CountersFit (now counts) area ⌝ }
     ensures { λ _. ⌜ now (counts .exit) ≡ withPixels (now (counts .entry)) (featureOf bits) area ⌝ }
 {
     let feature = feature::feature_of(bits);
@@ -26,7 +26,7 @@ fn count_leaf(counts: &mut [u32; 32], bits: u32, area: u32)
 // The node whose record is at a place of the bitstrings, with so many pixels: its four children follow. A leaf among them is counted here, so that
 // only nodes are called for. The place after the node's last record is given back.
 fn count_node(bits: &[u32], counts: &mut [u32; 32], at: usize, area: u32) -> usize
-    requires { ⌜ NodeAt (now bits) at area × Room (now counts) area ⌝ }
+    requires { ⌜ NodeAt (now bits) at area × CountersFit (now counts) area ⌝ }
     ensures { λ r. ⌜ NodeCounted (now (bits .entry)) at area (now (counts .entry)) (now (counts .exit)) r ⌝ }
 {
     let quarter = area / 4;

@@ -14,7 +14,7 @@ use Rattle.list.specs.Own.{shownBy}
 use Rattle.put.specs.Putting.{Replaced}
 use Rattle.step.specs.Step.{Step, stepOver}
 use Rattle.passes.specs.Change.{Changeable, Changed}
-use Rattle.undo.specs.GroupCall.{Kept, Applied}
+use Rattle.undo.specs.GroupCall.{WithSummary, Applied}
 use Rattle.edit.specs.Recount.{Outdated}
 use Rattle.edit.proofs.Changed.{all-outdated, all-counted}
 
@@ -23,7 +23,7 @@ pub applied-full : (p : Picture) (m s n after : ℕ) (keys bits summary : List �
     → Applied p m s n keys bits summary keys bits summary 0
 applied-full p m s n after keys bits summary is h = record { full = λ z. (omega arith, refl, refl, refl); done = λ some. absurd (some refl) }
 
-module _ {t : Step} {m s n after : ℕ} {keys bits summary : List ℕ} (k : Kept m s keys bits n summary)
+module _ {t : Step} {m s n after : ℕ} {keys bits summary : List ℕ} (k : WithSummary m s keys bits n summary)
     (is : after ≡ length (listOfPicture m (stepOver t (shownBy m keys bits n)))) (fits : after ≤ room keys bits) where
   -- what changing asks
   pub can-change : Changeable t m keys bits n after

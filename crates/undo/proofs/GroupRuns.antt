@@ -10,7 +10,7 @@ use Rattle.definitions.specs.List.{Record}
 use Rattle.definitions.specs.Read.{recordsOf}
 use Rattle.definitions.specs.Log.{closingPlaces, stepCount, stepEntries, beforeStep, putBack, paintAgain}
 use Rattle.laws.proofs.Records.{records-length}
-use Rattle.log.specs.declared.step.Step.{Step}
+use Rattle.log.specs.declared.step.LogStep.{LogStep}
 use Rattle.log.specs.Steps.{lastStep, Stepped, EntriesBetween, none-between, one-between}
 use Rattle.log.proofs.GroupChecked.{entries-at}
 use Rattle.log.proofs.GroupEntries.{group-between}
@@ -45,7 +45,7 @@ module _ {m : ℕ} {ks vs : List ℕ} {used : ℕ} (d : GroupLast m ks vs used) 
   between = group-between m (d .s) ks vs used (d .in-keys) (d .in-values) (d .step) (d .mark)
 
   -- the step that was found
-  module _ (last : Step) (found : last ≡ lastStep (recordsOf ks vs used)) where
+  module _ (last : LogStep) (found : last ≡ lastStep (recordsOf ks vs used)) where
     start-is : last .start ≡ length (beforeStep log)
     start-is = ap (λ x. x .start) found
 

@@ -10,7 +10,7 @@ use Rattle.definitions.specs.Log.{endsInMark, beforeStep}
 use Rattle.definitions.specs.Calls.TakeBack.{restoredPicture, restored}
 use Rattle.laws.proofs.SoundLog.{sound-last}
 use Rattle.laws.proofs.Records.{records-length}
-use Rattle.undo.specs.GroupCall.{GroupLast, Kept, Applied}
+use Rattle.undo.specs.GroupCall.{GroupLast, WithSummary, Applied}
 use Rattle.definitions.specs.Calls.TakeBack.{TakenBack}
 use Rattle.undo.specs.TakingBackCall.{Takeable}
 use Rattle.edit.proofs.EditCallTables.{passed-settings, passed-own, passed-summary, passed-log}
@@ -20,7 +20,7 @@ use Rattle.undo.proofs.TakingBackAnswers.{take-refused, take-done}
 module _ {m s : ℕ} {keys bits : List ℕ} {n : ℕ} {summary logKeys logValues : List ℕ} {used inForce : ℕ}
     (t : Takeable m s keys bits n summary logKeys logValues used inForce) where
   -- the list and its summary
-  pub take-kept : Kept m s keys bits n summary
+  pub take-kept : WithSummary m s keys bits n summary
   take-kept =
       let rows = take-first m s keys bits n summary logKeys logValues used inForce t in
       let few = passed-settings rows .few in

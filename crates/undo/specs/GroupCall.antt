@@ -33,7 +33,7 @@ pub record GroupRun (m : ℕ) (run : Run) (logKeys logValues : List ℕ) (log : 
   pub many : length (lastOfRun run logKeys logValues) ≡ stepCount log
 
 -- an accepted list, and its summary
-pub record Kept (m s : ℕ) (keys bits : List ℕ) (n : ℕ) (summary : List ℕ) : Type 0 where
+pub record WithSummary (m s : ℕ) (keys bits : List ℕ) (n : ℕ) (summary : List ℕ) : Type 0 where
   pub deep : m ≤ 10
   pub few : s ≤ slotLimit
   pub own : OwnList m keys bits n

@@ -4,7 +4,7 @@ ghost use Rattle.definitions.specs.Read.{recordsOf};
 ghost use Rattle.list.specs.Own.{shownBy};
 ghost use Rattle.step.specs.Step.{stepOver};
 ghost use Rattle.step.specs.Deed.{Doable, stepOf};
-ghost use Rattle.undo.specs.GroupCall.{GroupLast, GroupRun, Kept, Applied};
+ghost use Rattle.undo.specs.GroupCall.{GroupLast, GroupRun, WithSummary, Applied};
 use edit::recount;
 use log::step as steps;
 use passes::change;
@@ -34,7 +34,7 @@ pub fn apply(
     log_keys: &[u32],
     log_values: &[u32],
 ) -> usize
-    requires { ⌜ Doable m deed (now «log_keys») (now «log_values») × Kept m s (now keys) (now bits) n (now summary) ⌝ }
+    requires { ⌜ Doable m deed (now «log_keys») (now «log_values») × WithSummary m s (now keys) (now bits) n (now summary) ⌝ }
     ensures { λ r. ⌜ Applied (stepOver (stepOf m deed (now («log_keys» .entry)) (now («log_values» .entry))) (shownBy m (now (keys .entry)) (now (bits .entry)) n)) m s n
         (now (keys .entry)) (now (bits .entry)) (now (summary .entry)) (now (keys .exit)) (now (bits .exit)) (now (summary .exit)) r ⌝ }
 {

@@ -9,7 +9,7 @@ use lib.ListN.{getD, take}
 use lib.Seq.{getD-take}
 use borrow.Author.Tests.{eqb-true}
 use Rattle.keys.specs.Key.{rootKey}
-use Rattle.keys.specs.Under.{Block}
+use Rattle.keys.specs.Under.{MapBlock}
 use Rattle.definitions.specs.Picture.{oneFeature}
 use Rattle.definitions.specs.Bits.{bitsOf}
 use Rattle.definitions.specs.List.{keysOf, listOfPicture}
@@ -25,7 +25,7 @@ use Rattle.list.proofs.Lookup.{lookup-listed, lookup-inside, AtPlace}
 use Rattle.list.proofs.Own.{own-keys, own-place, own-bits, own-found, own-listed, own-inside, own-near}
 
 -- the place is one of the list's, and has the block's bits
-pub record Asked (m : ℕ) (keys bits : List ℕ) (n k r c place : ℕ) : Type 0 where
+pub record PlaceAsked (m : ℕ) (keys bits : List ℕ) (n k r c place : ℕ) : Type 0 where
   pub room : place < n
   pub value : getD bits place 0 ≡ bitsOf (shownBy m keys bits n) k r c
 
@@ -42,14 +42,14 @@ module _ {m : ℕ} {keys bits : List ℕ} {n : ℕ} (o : OwnList m keys bits n) 
   near-which κ which is = near-place κ (placeIn which) (ap placeIn is ∙ among-place κ (take n keys))
 
   -- at the place of the last key at or before a block's are the block's bits
-  pub asked-place : {k r c κ : ℕ} → Block m k r c κ → (place : ℕ) → place ≡ placeAmong κ (take n keys) → Asked m keys bits n k r c place
+  pub asked-place : {k r c κ : ℕ} → MapBlock m k r c κ → (place : ℕ) → place ≡ placeAmong κ (take n keys) → PlaceAsked m keys bits n k r c place
   asked-place {κ = κ} b place e =
       let low = own-place o κ in
       record { room = omega arith; value = ap (λ x. getD bits x 0) e ∙ own-bits o b }
 
-  module _ {k r c κ : ℕ} (b : Block m k r c κ) (which : Which) (place : ℕ) (is : which ≡ whichAmong κ (take n keys)) where
+  module _ {k r c κ : ℕ} (b : MapBlock m k r c κ) (which : Which) (place : ℕ) (is : which ≡ whichAmong κ (take n keys)) where
     -- the record of a listed block is its own
-    pub asked-listed : which ≡ Listed place → Asked m keys bits n k r c place
+    pub asked-listed : which ≡ Listed place → PlaceAsked m keys bits n k r c place
     asked-listed e = let f = own-found o b (Listed place) (sym e ∙ is) in record { room = f .0; value = f .1 }
 
     -- its whole list stands from there on
@@ -71,7 +71,7 @@ module _ {m : ℕ} {keys bits : List ℕ} {n : ℕ} (o : OwnList m keys bits n) 
         ∙ eqb-true _ κ (l .0)
 
     -- the leaf around a block that is not listed has the block's one bit
-    pub asked-inside : which ≡ Inside place → Asked m keys bits n k r c place
+    pub asked-inside : which ≡ Inside place → PlaceAsked m keys bits n k r c place
     asked-inside e = let f = own-found o b (Inside place) (sym e ∙ is) in record { room = f .0; value = f .1 }
 
     pub asked-one : which ≡ Inside place → oneFeature (shownBy m keys bits n) k r c ≡ true

@@ -21,7 +21,7 @@ use Rattle.definitions.specs.Edit.{contentOf}
 use Rattle.laws.proofs.SelectMeans.{given-inside, given-feature, given-of, Selected, select-in-exactly}
 use Rattle.laws.proofs.SelectAscends.{select-in-ascends}
 use Rattle.walk.specs.declared.Spot.{Spot}
-use Rattle.walk.specs.Walk.{Stands, isWithin, isApart, Walking}
+use Rattle.walk.specs.Walk.{BlockSpot, isWithin, isApart, Walking}
 use Rattle.walk.specs.Given.{keysWith}
 use Rattle.walk.proofs.Lies.{InSpot, apart-pixel}
 use Rattle.walk.proofs.Steps.{Parent, nothing-between}
@@ -67,7 +67,7 @@ module _ (m : ℕ) (p : Picture) (w : Window) (f : ℕ) where
       go (given-inside p w f (t .height) (t .row) (t .column) {row = t .row} {column = t .column} (t .given) (omega arith)) (i .from) (i .until)
 
   -- a block without a pixel of the window that has the feature adds nothing
-  lower-barren : {s : Spot} (h : Stands m s)
+  lower-barren : {s : Spot} (h : BlockSpot m s)
       → ((row column : ℕ) → InSpot s row column → inWindow w row column ≡ true → p row column ≡ f → ⊥)
       → lower (s .key) (selectIn m p w f) ≡ lower (s .key + s .step) (selectIn m p w f)
   lower-barren {s} h barren =
@@ -81,16 +81,16 @@ module _ (m : ℕ) (p : Picture) (w : Window) (f : ℕ) where
       (given-feature p w f (t .height) (t .row) (t .column) {row = t .row} {column = t .column} (t .given) (omega arith)))
 
   -- so does one apart from the window
-  pub lower-apart : {s : Spot} → Stands m s → isApart s w ≡ true → lower (s .key) (selectIn m p w f) ≡ lower (s .key + s .step) (selectIn m p w f)
+  pub lower-apart : {s : Spot} → BlockSpot m s → isApart s w ≡ true → lower (s .key) (selectIn m p w f) ≡ lower (s .key + s .step) (selectIn m p w f)
   lower-apart {s} h e = lower-barren h (λ row column i j has. apart-pixel s w row column e i j)
 
   -- and one whose bits lack the feature
-  pub lower-lacking : {s : Spot} (h : Stands m s) → hasSlot (bitsAt p h) f ≡ false
+  pub lower-lacking : {s : Spot} (h : BlockSpot m s) → hasSlot (bitsAt p h) f ≡ false
       → lower (s .key) (selectIn m p w f) ≡ lower (s .key + s .step) (selectIn m p w f)
   lower-lacking h none = lower-barren h (λ row column i j has. no-slot-pixel p f h row column none i has)
 
   -- and so does the way to the first quadrant of a block that the window cuts
-  pub lower-enter : {s : Spot} (h : Stands m s) → Parent m s → isWithin s w ≡ false
+  pub lower-enter : {s : Spot} (h : BlockSpot m s) → Parent m s → isWithin s w ≡ false
       → lower (s .key) (selectIn m p w f) ≡ lower (s .key + s .step / 5) (selectIn m p w f)
   lower-enter {s} h q e =
       lower-gap (s .key) (s .key + s .step / 5) (selectIn m p w f) (omega arith)

@@ -16,7 +16,7 @@ use Rattle.laws.proofs.ListOf.{list-one}
 use Rattle.list.specs.Own.{OwnList, shownBy}
 use Rattle.list.specs.Among.{placeAmong}
 use Rattle.walk.specs.declared.Spot.{Spot}
-use Rattle.walk.specs.Walk.{Stands}
+use Rattle.walk.specs.Walk.{BlockSpot}
 use Rattle.walk.specs.Given.{keysWith}
 use Rattle.walk.proofs.Asked.{asked-place}
 
@@ -41,12 +41,12 @@ with-append bits (e ∷ a) b =
     (λ other. with-pass bits e (a ++ b) other ∙ with-append bits a b ∙ ap (λ l. l ++ keysWith bits b) (sym (with-pass bits e a other)))
 
 -- the content of the spot's block is its list
-pub content-list : (p : Picture) {m : ℕ} {s : Spot} (h : Stands m s) → contentOf m p (s .key) ≡ listOf p (h .height) (s .row) (s .column) (s .key)
+pub content-list : (p : Picture) {m : ℕ} {s : Spot} (h : BlockSpot m s) → contentOf m p (s .key) ≡ listOf p (h .height) (s .row) (s .column) (s .key)
 unfolding contentOf
 content-list p h = let i = block-valid (h .block) in rw (i .height, i .row, i .column)
 
 -- a block of one feature is one record with the bits at its place, and is given where those are the bits
-module _ {m : ℕ} {keys bits : List ℕ} {n : ℕ} (o : OwnList m keys bits n) {s : Spot} (h : Stands m s) (bit place : ℕ) (is : place ≡ placeAmong (s .key) (take n keys)) where
+module _ {m : ℕ} {keys bits : List ℕ} {n : ℕ} (o : OwnList m keys bits n) {s : Spot} (h : BlockSpot m s) (bit place : ℕ) (is : place ≡ placeAmong (s .key) (take n keys)) where
   module _ (one : oneFeature (shownBy m keys bits n) (h .height) (s .row) (s .column) ≡ true) where
     one-content : contentOf m (shownBy m keys bits n) (s .key) ≡ recordOf (s .key) (getD bits place 0) ∷ []
     one-content =

@@ -6,14 +6,14 @@ use mathlib.Core.Bool.{true}
 use mathlib.Core.List.{List}
 use native.Mathlib.Omega.{arith}
 use Rattle.keys.proofs.Powers.{two-pos}
-use Rattle.keys.specs.Under.{Block}
+use Rattle.keys.specs.Under.{MapBlock}
 use Rattle.definitions.specs.Picture.{Picture}
 use Rattle.definitions.specs.Window.{isGiven, selectIn}
 use Rattle.definitions.specs.declared.Window.{Window}
 use Rattle.laws.proofs.WindowScan.{inside-window}
 use Rattle.laws.proofs.SelectMeans.{given-inside, given-of}
 use Rattle.walk.specs.declared.Spot.{Spot}
-use Rattle.walk.specs.Walk.{Stands, isWithin, Parting}
+use Rattle.walk.specs.Walk.{BlockSpot, isWithin, Parting}
 use Rattle.walk.proofs.Lies.{inside-within, within-pixel}
 
 -- a picture of one feature
@@ -28,7 +28,7 @@ largestBlocks m w = selectIn m blank w 0
 abbrev pub spotOf : ℕ → ℕ → ℕ → ℕ → Spot
 spotOf k r c κ = record { key = κ; row = r; column = c; side = 2 ^ k; step = 5 ^ k }
 
-pub spot-stands : {m k r c κ : ℕ} → Block m k r c κ → Stands m (spotOf k r c κ)
+pub spot-stands : {m k r c κ : ℕ} → MapBlock m k r c κ → BlockSpot m (spotOf k r c κ)
 spot-stands {k = k} b = record { height = k; block = b; side = refl; step = refl }
 
 -- all pixels of the block lie in the window
@@ -36,12 +36,12 @@ abbrev pub AllInside : Window → ℕ → ℕ → ℕ → Type 0
 AllInside w k r c = isGiven blank w 0 k r c ≡ true
 
 -- a block whose rows and columns are the window's has its pixels there
-pub within-all : {m : ℕ} (w : Window) {s : Spot} (h : Stands m s) → isWithin s w ≡ true → AllInside w (h .height) (s .row) (s .column)
+pub within-all : {m : ℕ} (w : Window) {s : Spot} (h : BlockSpot m s) → isWithin s w ≡ true → AllInside w (h .height) (s .row) (s .column)
 within-all w {s} h e =
     given-of blank w 0 (h .height) (s .row) (s .column) (λ row column i. (within-pixel s w row column e (omega (arith, h .side)), refl))
 
 -- a block whose pixels lie in the window has its rows and columns there: those of its first and of its last pixel
-pub all-within : {m : ℕ} (w : Window) {s : Spot} (h : Stands m s) → AllInside w (h .height) (s .row) (s .column) → isWithin s w ≡ true
+pub all-within : {m : ℕ} (w : Window) {s : Spot} (h : BlockSpot m s) → AllInside w (h .height) (s .row) (s .column) → isWithin s w ≡ true
 all-within w {s} h e =
     let some = two-pos (h .height) in
     let first = inside-window w _ _ (given-inside blank w 0 (h .height) (s .row) (s .column) {row = s .row} {column = s .column} e (omega arith)) in
@@ -51,7 +51,7 @@ all-within w {s} h e =
     inside-within s w (omega (arith, h .side))
 
 -- a block with all its pixels in the window begins or ends at a key where the walk can stand, or lies to one side of it
-pub not-broken : {m k r c κ : ℕ} (w : Window) {x : ℕ} → Parting m w x → Block m k r c κ → AllInside w k r c → κ < x → x < κ + 5 ^ k → ⊥
+pub not-broken : {m k r c κ : ℕ} (w : Window) {x : ℕ} → Parting m w x → MapBlock m k r c κ → AllInside w k r c → κ < x → x < κ + 5 ^ k → ⊥
 unfolding spot-stands
 not-broken {k = k} {r} {c} {κ} w h b e before after =
     let i = spot-stands b in

@@ -12,16 +12,16 @@ use Rattle.definitions.specs.Window.{isWindow, inWindow}
 use Rattle.definitions.specs.declared.Window.{Window}
 use Rattle.laws.proofs.WindowScan.{inside-window, window-inside}
 use Rattle.walk.specs.declared.Spot.{Spot}
-use Rattle.walk.specs.Walk.{Stands, Small, isWithin, isApart}
+use Rattle.walk.specs.Walk.{BlockSpot, Small, isWithin, isApart}
 
 -- the block's rows and columns are the window's
-pub record Inside (s : Spot) (w : Window) : Type 0 where
+pub record SpotInside (s : Spot) (w : Window) : Type 0 where
   pub top : w .row ≤ s .row
   pub bottom : s .row + s .side ≤ w .row + w .height
   pub left : w .column ≤ s .column
   pub right : s .column + s .side ≤ w .column + w .width
 
-pub within-inside : (s : Spot) (w : Window) → isWithin s w ≡ true → Inside s w
+pub within-inside : (s : Spot) (w : Window) → isWithin s w ≡ true → SpotInside s w
 unfolding isWithin
 within-inside s w e =
     let rows = and-left (leb (w .row) (s .row) && leb (s .row + s .side) (w .row + w .height)) _ e in
@@ -33,12 +33,12 @@ within-inside s w e =
       right = leb-true _ _ (and-right (leb (w .column) (s .column)) _ columns);
     }
 
-pub inside-within : (s : Spot) (w : Window) → Inside s w → isWithin s w ≡ true
+pub inside-within : (s : Spot) (w : Window) → SpotInside s w → isWithin s w ≡ true
 unfolding isWithin
 inside-within s w h =
     and-both _ _ (and-both _ _ (le-leb _ _ (h .top)) (le-leb _ _ (h .bottom))) (and-both _ _ (le-leb _ _ (h .left)) (le-leb _ _ (h .right)))
 
-pub not-within : (s : Spot) (w : Window) → isWithin s w ≡ false → Inside s w → ⊥
+pub not-within : (s : Spot) (w : Window) → isWithin s w ≡ false → SpotInside s w → ⊥
 not-within s w e h = true≢false (sym (inside-within s w h) ∙ e)
 
 -- the block and the window have rows and columns in common
@@ -82,15 +82,15 @@ pub within-pixel : (s : Spot) (w : Window) (row column : ℕ) → isWithin s w �
 within-pixel s w row column e i = let h = within-inside s w e in window-inside w row column (omega arith)
 
 -- a window of the map in numbers
-pub record Accepted (m : ℕ) (w : Window) : Type 0 where
+pub record AcceptedWindow (m : ℕ) (w : Window) : Type 0 where
   pub some-row : 1 ≤ w .height
   pub some-column : 1 ≤ w .width
   pub rows : w .row + w .height ≤ 2 ^ m
   pub columns : w .column + w .width ≤ 2 ^ m
 
-pub accepted : (m : ℕ) (w : Window) → isWindow m w ≡ true → Accepted m w
+pub accepted-window : (m : ℕ) (w : Window) → isWindow m w ≡ true → AcceptedWindow m w
 unfolding isWindow
-accepted m w e =
+accepted-window m w e =
     let sizes = and-left (leb 1 (w .height) && leb 1 (w .width)) _ e in
     let ends = and-right (leb 1 (w .height) && leb 1 (w .width)) _ e in
     record {
@@ -100,23 +100,23 @@ accepted m w e =
       columns = leb-true _ _ (and-right (leb (w .row + w .height) (2 ^ m)) _ ends);
     }
 
-pub window-accepted : (m : ℕ) (w : Window) → Accepted m w → isWindow m w ≡ true
+pub window-accepted : (m : ℕ) (w : Window) → AcceptedWindow m w → isWindow m w ≡ true
 unfolding isWindow
 window-accepted m w h =
     and-both _ _ (and-both _ _ (le-leb _ _ (h .some-row)) (le-leb _ _ (h .some-column))) (and-both _ _ (le-leb _ _ (h .rows)) (le-leb _ _ (h .columns)))
 
 -- a window that cannot be one of the map is none
-pub no-window : (m : ℕ) (w : Window) → (Accepted m w → ⊥) → isWindow m w ≡ false
-no-window m w h = decide (isWindow m w) (λ e. absurd (h (accepted m w e))) (λ e. e)
+pub no-window : (m : ℕ) (w : Window) → (AcceptedWindow m w → ⊥) → isWindow m w ≡ false
+no-window m w h = decide (isWindow m w) (λ e. absurd (h (accepted-window m w e))) (λ e. e)
 
 -- the pixels of a window of the map are pixels of the map
 pub window-pixel : (m : ℕ) (w : Window) (row column : ℕ) → isWindow m w ≡ true → inWindow w row column ≡ true → (row < 2 ^ m) × (column < 2 ^ m)
-window-pixel m w row column e i = let h = accepted m w e in let j = inside-window w row column i in omega arith
+window-pixel m w row column e i = let h = accepted-window m w e in let j = inside-window w row column i in omega arith
 
 -- blocks and windows of a map have small numbers
-pub small : (m : ℕ) (s : Spot) (w : Window) → m ≤ 10 → isWindow m w ≡ true → Stands m s → Small s w
+pub small : (m : ℕ) (s : Spot) (w : Window) → m ≤ 10 → isWindow m w ≡ true → BlockSpot m s → Small s w
 small m s w low e h =
-    let a = accepted m w e in
+    let a = accepted-window m w e in
     let b = within (h .block) in
     let two = two-le 10 low in
     omega (arith, h .side)
@@ -129,9 +129,9 @@ pub record Shared (s : Spot) (w : Window) : Type 0 where
   pub in-window : inWindow w row column ≡ true
 
 -- a block that does not lie apart from the window has one
-pub meets-pixel : {m : ℕ} (w : Window) {s : Spot} → isWindow m w ≡ true → Stands m s → isApart s w ≡ false → Shared s w
+pub meets-pixel : {m : ℕ} (w : Window) {s : Spot} → isWindow m w ≡ true → BlockSpot m s → isApart s w ≡ false → Shared s w
 meets-pixel {m} w {s} good h e =
-    let a = accepted m w good in
+    let a = accepted-window m w good in
     let two = two-pos (h .height) in
     let j = not-apart s w e in
     let row = w .row + (s .row - w .row) in

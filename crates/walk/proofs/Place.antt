@@ -6,7 +6,7 @@ use native.Mathlib.Nat.{pow-suc, mul-assoc, mul-comm, add-mul, one-mul, zero-mul
 use native.Mathlib.Omega.{arith}
 use lib.Bits.{bitAnd, and-shifted, and-block, and-self, and-zero-r}
 use lib.Pow.{pow-pos, pow-lt}
-use Rattle.keys.specs.Under.{Under, Block, here, nw, ne, sw, se, Quadrant, is-nw, is-ne, is-sw, is-se}
+use Rattle.keys.specs.Under.{Under, MapBlock, here, nw, ne, sw, se, Quadrant, is-nw, is-ne, is-sw, is-se}
 use Rattle.keys.proofs.Interval.{same-block, within}
 use Rattle.keys.proofs.Parent.{parent-cases, quadrant-of}
 
@@ -42,10 +42,10 @@ aligned-column (sw u) h = aligned-column u (aligned-half _ _ h)
 aligned-column (se u) h = aligned-column u (aligned-more _ _ h)
 
 -- the row and the column of a block of the map are multiples of its side
-pub block-row : {m k r c κ : ℕ} → Block m k r c κ → Aligned k r
+pub block-row : {m k r c κ : ℕ} → MapBlock m k r c κ → Aligned k r
 block-row b = aligned-row b (0, sym (zero-mul _))
 
-pub block-column : {m k r c κ : ℕ} → Block m k r c κ → Aligned k c
+pub block-column : {m k r c κ : ℕ} → MapBlock m k r c κ → Aligned k c
 block-column b = aligned-column b (0, sym (zero-mul _))
 
 -- in a multiple of twice the side the bit of the side is not set
@@ -68,7 +68,7 @@ not-clear : (k x : ℕ) → Aligned (suc k) x → bitAnd (x + 2 ^ k) (2 ^ k) ≡
 not-clear k x h e = let p = pow-pos k in let q = bit-set k x h in omega arith
 
 -- the block after one in the west: to the east of it
-east-of : {m k r₁ c₁ κ₁ r c κ : ℕ} → Block m (suc k) r₁ c₁ κ₁ → Quadrant k r₁ c₁ κ₁ r c κ → bitAnd c (2 ^ k) ≡ 0 → Block m k r (c + 2 ^ k) (κ + 5 ^ k)
+east-of : {m k r₁ c₁ κ₁ r c κ : ℕ} → MapBlock m (suc k) r₁ c₁ κ₁ → Quadrant k r₁ c₁ κ₁ r c κ → bitAnd c (2 ^ k) ≡ 0 → MapBlock m k r (c + 2 ^ k) (κ + 5 ^ k)
 east-of b is-nw e = same-block (quadrant-of b is-ne) (omega arith)
 east-of b (is-ne {k} {c = c}) e = absurd (not-clear k c (block-column b) e)
 east-of b is-sw e = same-block (quadrant-of b is-se) (omega arith)
@@ -77,9 +77,9 @@ east-of b (is-se {k} {c = c}) e = absurd (not-clear k c (block-column b) e)
 -- the block after one in the north-east: the one in the south-west
 pub record SouthWest (m k r c κ : ℕ) : Type 0 where
   pub room : 2 ^ k ≤ c
-  pub block : Block m k (r + 2 ^ k) (c - 2 ^ k) (κ + 5 ^ k)
+  pub block : MapBlock m k (r + 2 ^ k) (c - 2 ^ k) (κ + 5 ^ k)
 
-south-west-of : {m k r₁ c₁ κ₁ r c κ : ℕ} → Block m (suc k) r₁ c₁ κ₁ → Quadrant k r₁ c₁ κ₁ r c κ
+south-west-of : {m k r₁ c₁ κ₁ r c κ : ℕ} → MapBlock m (suc k) r₁ c₁ κ₁ → Quadrant k r₁ c₁ κ₁ r c κ
     → (bitAnd c (2 ^ k) ≡ 0 → ⊥)
     → bitAnd r (2 ^ k) ≡ 0
     → SouthWest m k r c κ
@@ -94,9 +94,9 @@ pub record SouthEast (m k r c κ : ℕ) : Type 0 where
   pub columns : 2 ^ k ≤ c
   pub parent : ℕ
   pub ends : parent + 5 ^ suc k ≡ κ + 5 ^ k
-  pub block : Block m (suc k) (r - 2 ^ k) (c - 2 ^ k) parent
+  pub block : MapBlock m (suc k) (r - 2 ^ k) (c - 2 ^ k) parent
 
-south-east-of : {m k r₁ c₁ κ₁ r c κ : ℕ} → Block m (suc k) r₁ c₁ κ₁ → Quadrant k r₁ c₁ κ₁ r c κ
+south-east-of : {m k r₁ c₁ κ₁ r c κ : ℕ} → MapBlock m (suc k) r₁ c₁ κ₁ → Quadrant k r₁ c₁ κ₁ r c κ
     → (bitAnd c (2 ^ k) ≡ 0 → ⊥)
     → (bitAnd r (2 ^ k) ≡ 0 → ⊥)
     → SouthEast m k r c κ
@@ -107,9 +107,9 @@ south-east-of b (is-se {k} {κ = κ}) e f =
     let p = pow-suc 5 k in
     record { rows = omega arith; columns = omega arith; parent = κ; ends = omega arith; block = same-block b (omega arith) }
 
-module _ {m k r c κ : ℕ} (b : Block m k r c κ) (low : k < m) where
+module _ {m k r c κ : ℕ} (b : MapBlock m k r c κ) (low : k < m) where
   -- a block in the west is followed by the one to its east
-  pub goes-east : bitAnd c (2 ^ k) ≡ 0 → Block m k r (c + 2 ^ k) (κ + 5 ^ k)
+  pub goes-east : bitAnd c (2 ^ k) ≡ 0 → MapBlock m k r (c + 2 ^ k) (κ + 5 ^ k)
   goes-east e = parent-cases b (λ s. absurd (omega arith)) (λ r₁ c₁ κ₁ u q. east-of u q e)
 
   -- one in the north-east by that in the south-west
@@ -121,5 +121,5 @@ module _ {m k r c κ : ℕ} (b : Block m k r c κ) (low : k < m) where
   goes-up e f = parent-cases b (λ s. absurd (omega arith)) (λ r₁ c₁ κ₁ u q. south-east-of u q e f)
 
 -- a block as high as the map is the root
-pub as-high : {m k r c κ : ℕ} → Block m k r c κ → m ≤ k → (k ≡ m) × (κ ≡ 0)
+pub as-high : {m k r c κ : ℕ} → MapBlock m k r c κ → m ≤ k → (k ≡ m) × (κ ≡ 0)
 as-high b high = let w = within b in parent-cases b (λ s. (omega arith, omega arith)) (λ r₁ c₁ κ₁ u q. let v = within u in absurd (omega arith))

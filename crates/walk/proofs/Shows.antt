@@ -15,8 +15,8 @@ use Rattle.list.specs.Among.{placeAmong, whichAmong}
 use Rattle.list.specs.declared.standing.Which.{Which}
 use Rattle.list.specs.declared.standing.Which.the-variants.{Listed, Inside}
 use Rattle.walk.specs.declared.Spot.{Spot}
-use Rattle.walk.specs.Walk.{Stands}
-use Rattle.walk.proofs.Asked.{Asked, asked-place, asked-listed, asked-inside, asked-one}
+use Rattle.walk.specs.Walk.{BlockSpot}
+use Rattle.walk.proofs.Asked.{PlaceAsked, asked-place, asked-listed, asked-inside, asked-one}
 use Rattle.walk.proofs.Slot.{bit-zero, bit-some}
 use Rattle.walk.proofs.SpotBits.{bitsAt}
 
@@ -26,14 +26,14 @@ module _
     {n : ℕ}
     (o : OwnList m keys bits n)
     {s : Spot}
-    (h : Stands m s)
+    (h : BlockSpot m s)
     (f bit : ℕ)
     (is-bit : bit ≡ 2 ^ f)
     (which : Which)
     (place : ℕ)
     (is : which ≡ whichAmong (s .key) (take n keys))
   where
-    shared : Asked m keys bits n (h .height) (s .row) (s .column) place → bitAnd (bitsAt (shownBy m keys bits n) h) (2 ^ f) ≡ bitAnd (getD bits place 0) bit
+    shared : PlaceAsked m keys bits n (h .height) (s .row) (s .column) place → bitAnd (bitsAt (shownBy m keys bits n) h) (2 ^ f) ≡ bitAnd (getD bits place 0) bit
     shared a = ap (λ x. bitAnd x (2 ^ f)) (sym (a .value)) ∙ ap (bitAnd (getD bits place 0)) (sym is-bit)
 
     -- a listed block without the bit
@@ -62,7 +62,7 @@ module _
     leaf-whole e same = sym (asked-inside o (h .block) which place is e .value) ∙ same ∙ is-bit
 
 -- a block without the bit, looked up by its place alone
-pub place-no : {m : ℕ} {keys bits : List ℕ} {n : ℕ} (o : OwnList m keys bits n) {s : Spot} (h : Stands m s) (f bit : ℕ) → bit ≡ 2 ^ f
+pub place-no : {m : ℕ} {keys bits : List ℕ} {n : ℕ} (o : OwnList m keys bits n) {s : Spot} (h : BlockSpot m s) (f bit : ℕ) → bit ≡ 2 ^ f
     → (place : ℕ) → place ≡ placeAmong (s .key) (take n keys) → bitAnd (getD bits place 0) bit ≡ 0
     → hasSlot (bitsAt (shownBy m keys bits n) h) f ≡ false
 place-no {bits = bits} o h f bit is place e none =

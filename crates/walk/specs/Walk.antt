@@ -5,7 +5,7 @@ use mathlib.Core.Path.{_≡_}
 use mathlib.Core.Bool.{Bool, true, _&&_, _||_}
 use lib.Dec.{leb}
 use Rattle.keys.specs.Block.{pixelKey}
-use Rattle.keys.specs.Under.{Block}
+use Rattle.keys.specs.Under.{MapBlock}
 use Rattle.definitions.specs.Window.{inWindow}
 use Rattle.definitions.specs.declared.Window.{Window}
 use Rattle.walk.specs.declared.Spot.{Spot}
@@ -13,9 +13,9 @@ use Rattle.walk.specs.declared.NextBlock.{NextBlock}
 use Rattle.walk.specs.declared.NextBlock.the-variants.{At, Gone}
 
 -- the spot has the numbers of a block of the map
-pub record Stands (m : ℕ) (s : Spot) : Type 0 where
+pub record BlockSpot (m : ℕ) (s : Spot) : Type 0 where
   pub height : ℕ
-  pub block : Block m height (s .row) (s .column) (s .key)
+  pub block : MapBlock m height (s .row) (s .column) (s .key)
   pub side : s .side ≡ 2 ^ height
   pub step : s .step ≡ 5 ^ height
 
@@ -45,7 +45,7 @@ firstQuadrant s = record { key = s .key + s .step / 5; row = s .row; column = s 
 
 -- the block with key x, or the end of the map where x is the key after the last
 abbrev pub Follows : ℕ → ℕ → NextBlock → Type 0
-Follows m x (At s) = Stands m s × (s .key ≡ x)
+Follows m x (At s) = BlockSpot m s × (s .key ≡ x)
 Follows m x Gone = x ≡ 5 ^ m
 
 -- no pixel of the window has its key from x on and below y
@@ -54,11 +54,11 @@ Clear m w x y = (row column : ℕ) → inWindow w row column ≡ true → x ≤ 
 
 -- no block within the window begins before the key and ends after it
 abbrev pub Parting : ℕ → Window → ℕ → Type 0
-Parting m w x = (s : Spot) → Stands m s → isWithin s w ≡ true → s .key < x → x < s .key + s .step → ⊥
+Parting m w x = (s : Spot) → BlockSpot m s → isWithin s w ≡ true → s .key < x → x < s .key + s .step → ⊥
 
 -- a block at which the walk can stand: it lies inside no block that the walk should have given
 pub record Walking (m : ℕ) (w : Window) (s : Spot) : Type 0 where
-  pub stands : Stands m s
+  pub stands : BlockSpot m s
   pub parting : Parting m w (s .key)
 
 -- the first largest block of the window from the key x on

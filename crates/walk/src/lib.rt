@@ -3,7 +3,7 @@
 ghost use mathlib.Core.Path.{_≡_};
 ghost use Prim.Native.Nat.{_+_, _≤_};
 ghost use Rattle.keys.specs.Key.{rootKey};
-ghost use Rattle.walk.specs.Walk.{Stands, Small, isWithin, isApart, firstQuadrant, Follows};
+ghost use Rattle.walk.specs.Walk.{BlockSpot, Small, isWithin, isApart, firstQuadrant, Follows};
 
 pub mod bounds;
 
@@ -29,7 +29,7 @@ pub enum NextBlock {
 // The walk begins at the root.
 pub fn start(m: u32) -> Spot
     requires { ⌜ m ≤ 10 ⌝ }
-    ensures { λ r. ⌜ Stands m r × (r .key ≡ rootKey) ⌝ }
+    ensures { λ r. ⌜ BlockSpot m r × (r .key ≡ rootKey) ⌝ }
 {
     Spot {
         key: Key::ROOT,
@@ -105,7 +105,7 @@ pub fn apart(spot: Spot, window: Window) -> bool
 
 // The block that comes after a block and all below it: the next quadrant of the parent, or what comes after the parent.
 pub fn after(m: u32, spot: Spot) -> NextBlock
-    requires { ⌜ (m ≤ 10) × Stands m spot ⌝ }
+    requires { ⌜ (m ≤ 10) × BlockSpot m spot ⌝ }
     ensures { λ r. ⌜ Follows m (spot .key + spot .step) r ⌝ }
 {
     let whole = power::power_of_two(m);

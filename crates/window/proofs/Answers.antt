@@ -57,12 +57,12 @@ module _ (m s : ℕ) (keys bits : List ℕ) (n : ℕ) (w : Window) where
 
     module _ (answer : List ℕ) where
       -- what a call of select gives and leaves
-      pub record Answered (r : Counted) (after : List ℕ) : Type 0 where
+      pub record SelectAnswered (r : Counted) (after : List ℕ) : Type 0 where
         pub result : r ≡ select m s keys bits n w f answer
         pub left : after ≡ selectAnswer m s keys bits n w f answer
 
       -- a refused call counts nothing and leaves the answer
-      pub select-refused : (r : ℕ) → r ≡ existRefusal m s keys bits n w f → (r ≡ 0 → ⊥) → Answered (record { refusal = r; count = 0 }) answer
+      pub select-refused : (r : ℕ) → r ≡ existRefusal m s keys bits n w f → (r ≡ 0 → ⊥) → SelectAnswered (record { refusal = r; count = 0 }) answer
       unfolding select selectAnswer
       select-refused r is h =
           let e = select-goes-on m s keys bits n w f answer r is h in
@@ -79,7 +79,7 @@ module _ (m s : ℕ) (keys bits : List ℕ) (n : ℕ) (w : Window) where
         -- enough room: the keys
         select-all : length (selectIn m (shownBy m keys bits n) w f) ≤ length answer → (limit count : ℕ) (before last : List ℕ) → before ≡ answer
             → length (selectIn m (shownBy m keys bits n) w f) ≤ limit → Gave (selectIn m (shownBy m keys bits n) w f) limit 0 before last count
-            → Answered (record { refusal = 0; count = count }) last
+            → SelectAnswered (record { refusal = 0; count = count }) last
         unfolding select selectAnswer selected
         select-all room limit count before last same reach gave =
             let l = selectIn m (shownBy m keys bits n) w f in
@@ -95,7 +95,7 @@ module _ (m s : ℕ) (keys bits : List ℕ) (n : ℕ) (w : Window) where
         -- room for every pixel of the window is enough
         pub select-at-once : w .height * w .width ≤ length answer → (count : ℕ) (last : List ℕ)
             → Gave (selectIn m (shownBy m keys bits n) w f) (length answer) 0 answer last count
-            → Answered (record { refusal = 0; count = count }) last
+            → SelectAnswered (record { refusal = 0; count = count }) last
         select-at-once room count last gave =
             let few = select-few (shownBy m keys bits n) w f m in
             select-all (omega arith) (length answer) count answer last refl (omega arith) gave
@@ -110,7 +110,7 @@ module _ (m s : ℕ) (keys bits : List ℕ) (n : ℕ) (w : Window) where
           needed-length = gave .counted ∙ omega arith
 
           -- too little room: the places needed
-          pub select-twelve : length answer < needed → Answered (record { refusal = 12; count = needed }) after
+          pub select-twelve : length answer < needed → SelectAnswered (record { refusal = 12; count = needed }) after
           unfolding select selectAnswer
           select-twelve short =
               let e = select-short m s keys bits n w f answer none (let l = needed-length in omega arith) in
@@ -121,5 +121,5 @@ module _ (m s : ℕ) (keys bits : List ℕ) (n : ℕ) (w : Window) where
               }
 
           pub select-written : needed ≤ length answer → (count : ℕ) (last : List ℕ) → Gave (selectIn m (shownBy m keys bits n) w f) needed 0 after last count
-              → Answered (record { refusal = 0; count = count }) last
+              → SelectAnswered (record { refusal = 0; count = count }) last
           select-written room count last wrote = select-all (omega (arith, gave .counted)) needed count after last counting-leaves (omega (arith, gave .counted)) wrote

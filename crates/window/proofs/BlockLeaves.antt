@@ -24,13 +24,13 @@ use Rattle.list.proofs.Own.{own-length}
 use Rattle.list.proofs.Shown.{slot-one}
 use Rattle.list.proofs.Fuller.{listed-numbers}
 use Rattle.walk.specs.declared.Spot.{Spot}
-use Rattle.walk.specs.Walk.{Stands}
+use Rattle.walk.specs.Walk.{BlockSpot}
 use Rattle.walk.specs.Given.{keysWith}
 use Rattle.walk.proofs.Asked.{asked-place}
 use Rattle.walk.proofs.Content.{content-list, one-key, one-nothing}
 
 -- a block of one feature is given where its bits are those at its place
-module _ {m : ℕ} {keys bits : List ℕ} {n : ℕ} (o : OwnList m keys bits n) {s : Spot} (h : Stands m s) (bit place : ℕ) (is : place ≡ placeAmong (s .key) (take n keys)) where
+module _ {m : ℕ} {keys bits : List ℕ} {n : ℕ} (o : OwnList m keys bits n) {s : Spot} (h : BlockSpot m s) (bit place : ℕ) (is : place ≡ placeAmong (s .key) (take n keys)) where
   -- where one slot alone is there, the block has one feature
   pub alone-key : oneSlot bit ≡ true → getD bits place 0 ≡ bit → keysWith bit (contentOf m (shownBy m keys bits n) (s .key)) ≡ s .key ∷ []
   alone-key slot same =
@@ -44,7 +44,7 @@ module _ {m : ℕ} {keys bits : List ℕ} {n : ℕ} (o : OwnList m keys bits n) 
       one-nothing o h bit place is (one-under (shownBy m keys bits n) (i .holds) (i .one)) other
 
 -- a listed block's records, by the numbers of its standing
-module _ {m : ℕ} {keys bits : List ℕ} {n : ℕ} (o : OwnList m keys bits n) {s : Spot} (h : Stands m s) (place records : ℕ)
+module _ {m : ℕ} {keys bits : List ℕ} {n : ℕ} (o : OwnList m keys bits n) {s : Spot} (h : BlockSpot m s) (place records : ℕ)
     (is : standingOf m (s .key) (recordsOf keys bits n) ≡ Listed place records) where
   numbers : (isListed (s .key) (recordsOf keys bits n) ≡ true) × (place ≡ placeOf (s .key) (recordsOf keys bits n)) × (records ≡ recordsIn m (s .key) (recordsOf keys bits n))
   numbers = listed-numbers m (s .key) (recordsOf keys bits n) place records is

@@ -21,7 +21,7 @@ use Rattle.laws.proofs.WindowScan.{PixelWith, report-exactly}
 use Rattle.list.specs.Check.{oneSlot}
 use Rattle.list.proofs.OneSlot.{slot-power}
 use Rattle.walk.specs.declared.Spot.{Spot}
-use Rattle.walk.specs.Walk.{Stands, isWithin, isApart, Clear}
+use Rattle.walk.specs.Walk.{BlockSpot, isWithin, isApart, Clear}
 use Rattle.walk.proofs.Lies.{InSpot, within-pixel, window-pixel, meets-pixel}
 use Rattle.walk.proofs.Steps.{in-spot}
 use Rattle.walk.proofs.SpotBits.{bitsAt, whole-pixel}
@@ -46,7 +46,7 @@ module _ (m : ℕ) (p : Picture) (w : Window) where
         every = λ row column i before. split (pixelKey m row column) x (g .every row column i) (λ past. absurd (c row column i past before));
       }
 
-  module _ {s : Spot} (good : isWindow m w ≡ true) (h : Stands m s) where
+  module _ {s : Spot} (good : isWindow m w ≡ true) (h : BlockSpot m s) where
     -- a slot of a block within the window belongs to a pixel of the window
     block-only : isWithin s w ≡ true → (i : ℕ) → hasSlot (bitsAt p h) i ≡ true → PixelWith p w i
     block-only e i has =

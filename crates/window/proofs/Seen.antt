@@ -15,7 +15,7 @@ use Rattle.definitions.specs.declared.Window.{Window}
 use Rattle.laws.proofs.BitsOf.{bits-to}
 use Rattle.laws.proofs.WindowScan.{exist-exactly}
 use Rattle.walk.specs.declared.Spot.{Spot}
-use Rattle.walk.specs.Walk.{Stands, isWithin, isApart, Clear}
+use Rattle.walk.specs.Walk.{BlockSpot, isWithin, isApart, Clear}
 use Rattle.walk.proofs.Lies.{InSpot, within-pixel, window-pixel, meets-pixel}
 use Rattle.walk.proofs.Steps.{in-spot}
 use Rattle.walk.proofs.SpotBits.{bitsAt, no-slot-pixel, whole-pixel}
@@ -33,7 +33,7 @@ module _ (m : ℕ) (p : Picture) (w : Window) (f : ℕ) where
   unseen-clear x y u c row column i has before = split (pixelKey m row column) x (u row column i has) (λ past. c row column i past before)
 
   -- past a block that does not show the feature
-  pub unseen-block : {s : Spot} → isWindow m w ≡ true → (h : Stands m s) → hasSlot (bitsAt p h) f ≡ false → Unseen (s .key) → Unseen (s .key + s .step)
+  pub unseen-block : {s : Spot} → isWindow m w ≡ true → (h : BlockSpot m s) → hasSlot (bitsAt p h) f ≡ false → Unseen (s .key) → Unseen (s .key + s .step)
   unseen-block {s} good h none u row column i has before =
       split (pixelKey m row column) (s .key) (u row column i has)
       (λ past.
@@ -41,14 +41,14 @@ module _ (m : ℕ) (p : Picture) (w : Window) (f : ℕ) where
       no-slot-pixel p f h row column none (in-spot row column h (q .0) (q .1) past before) has)
 
   -- a block within the window that shows it
-  pub seen-block : {s : Spot} (h : Stands m s) → isWithin s w ≡ true → hasSlot (bitsAt p h) f ≡ true → existIn p w f ≡ true
+  pub seen-block : {s : Spot} (h : BlockSpot m s) → isWithin s w ≡ true → hasSlot (bitsAt p h) f ≡ true → existIn p w f ≡ true
   seen-block {s} h e has =
       let x = bits-to p (h .height) (s .row) (s .column) f has in
       let i : InSpot s (x .row) (x .column) = let v = x .within in omega (arith, h .side) in
       exist-exactly p w f .1 (record { row = x .row; column = x .column; inside = within-pixel s w (x .row) (x .column) e i; feature = x .holds })
 
   -- a block of this feature alone that meets the window
-  pub seen-whole : {s : Spot} → isWindow m w ≡ true → (h : Stands m s) → isApart s w ≡ false → bitsAt p h ≡ 2 ^ f → existIn p w f ≡ true
+  pub seen-whole : {s : Spot} → isWindow m w ≡ true → (h : BlockSpot m s) → isApart s w ≡ false → bitsAt p h ≡ 2 ^ f → existIn p w f ≡ true
   seen-whole {s} good h e is =
       let x = meets-pixel w good h e in
       exist-exactly p w f .1 (record { row = x .row; column = x .column; inside = x .in-window; feature = whole-pixel p f h (x .row) (x .column) is (x .in-spot) })

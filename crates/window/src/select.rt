@@ -10,7 +10,7 @@ ghost use Rattle.definitions.specs.Window.{isWindow, selectIn};
 ghost use Rattle.list.specs.Own.{OwnList, shownBy};
 ghost use Rattle.list.specs.Check.{oneSlot};
 ghost use Rattle.list.specs.Among.{placeAmong};
-ghost use Rattle.walk.specs.Walk.{Stands};
+ghost use Rattle.walk.specs.Walk.{BlockSpot};
 ghost use Rattle.walk.specs.Given.{keysWith};
 ghost use Rattle.window.specs.Gather.{Gave};
 use definitions::Standing;
@@ -61,7 +61,7 @@ fn gather_block(
     limit: usize,
     count: usize,
 ) -> usize
-    requires { ⌜ (m ≤ 10) × Stands m block × OwnList m (now keys) (now bits) n × (from ≡ placeAmong (block .key) (take n (now keys)))
+    requires { ⌜ (m ≤ 10) × BlockSpot m block × OwnList m (now keys) (now bits) n × (from ≡ placeAmong (block .key) (take n (now keys)))
         × (oneSlot bit ≡ true) × (limit ≤ length (now answer)) × (count ≤ 9765625) ⌝ }
     ensures { λ r. ⌜ Gave (keysWith bit (contentOf m (shownBy m (now (keys .entry)) (now (bits .entry)) n) (block .key)))
         limit count (now (answer .entry)) (now (answer .exit)) r ⌝ }

@@ -46,8 +46,8 @@ module _ (m s : ℕ) (keys bits : List ℕ) (n office : ℕ) (wrong : Bool) (rul
   unfoldable pub idsWith : List ℕ
   idsWith = accepted refusalWith (over (map (λ x. x .id) (liveIn m keys bits n rules waivers)) foundIds) foundIds
 
-  unfoldable pub keysWith : List ℕ
-  keysWith = accepted refusalWith (over (map (λ x. x .key) (liveIn m keys bits n rules waivers)) foundKeys) foundKeys
+  unfoldable pub foundKeysWith : List ℕ
+  foundKeysWith = accepted refusalWith (over (map (λ x. x .key) (liveIn m keys bits n rules waivers)) foundKeys) foundKeys
 
 -- the waivers are the asking office's rows, which are checked as document 01 says; the table and the keys are checked for all rows
 module _ (m s : ℕ) (keys bits : List ℕ) (n office : ℕ) (rules : List Rule) (offices ids waived : List ℕ) (rows : ℕ) (foundIds foundKeys : List ℕ) where
@@ -67,4 +67,4 @@ module _ (m s : ℕ) (keys bits : List ℕ) (n office : ℕ) (rules : List Rule)
   findingsIds = idsWith m s keys bits n office wrong rules own foundIds foundKeys
 
   abbrev pub findingsKeys : List ℕ
-  findingsKeys = keysWith m s keys bits n office wrong rules own foundIds foundKeys
+  findingsKeys = foundKeysWith m s keys bits n office wrong rules own foundIds foundKeys

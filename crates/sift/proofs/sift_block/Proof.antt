@@ -7,7 +7,7 @@ use lib.ListN.{length, getD}
 use borrow.Author.Needs.{needs}
 use Rattle.keys.proofs.Cases.{split}
 use Rattle.keys.proofs.Powers.{five-le}
-use Rattle.keys.specs.Under.{Block}
+use Rattle.keys.specs.Under.{MapBlock}
 use Rattle.keys.proofs.Valid.{block-valid}
 use Rattle.list.specs.declared.standing.Which.the-variants.{Inside}
 use Rattle.list.specs.Own.{OwnList}
@@ -27,7 +27,7 @@ use Rattle.sift.proofs.sift_block.Tie as tie
 run-ready : {m limit : ℕ} {waived : List ℕ} {at : Sifting} {ids keys : List ℕ} {most k r c key : ℕ} {recordKeys bits : List ℕ} {n : ℕ} (first end : ℕ)
     → SiftReady m limit waived at ids keys most key
     → OwnList m recordKeys bits n
-    → Block m k r c key
+    → MapBlock m k r c key
     → getD recordKeys first 0 ≡ key
     → end ≡ key + 5 ^ k
     → RunReady m limit waived at ids keys most recordKeys n first end

@@ -20,7 +20,7 @@ use Rattle.list.specs.Sorted.{Near}
 use Rattle.list.proofs.OneSlot.{power-slot}
 use Rattle.list.proofs.Own.{own-sorted}
 use Rattle.walk.specs.declared.Spot.{Spot}
-use Rattle.walk.specs.Walk.{Stands, Walking, isWithin, isApart}
+use Rattle.walk.specs.Walk.{BlockSpot, Walking, isWithin, isApart}
 use Rattle.walk.specs.Given.{keysWith}
 use Rattle.walk.proofs.Lies.{small}
 use Rattle.walk.proofs.Steps.{some-keys, cut-parent, follows-at, follows-gone, walking-root, walking-after, rises}
@@ -110,7 +110,7 @@ module _ (m : ℕ) (p : Picture) (w : Window) (f limit id : ℕ) (waived : List 
         (omega arith)
 
     -- on to the block that follows
-    goes-on : {records : List ℕ} {n : ℕ} (from : ℕ) {s : Spot} (t : Spot) → Walking m w s → Near records n from (s .key) → Stands m t → t .key ≡ s .key + s .step
+    goes-on : {records : List ℕ} {n : ℕ} (from : ℕ) {s : Spot} (t : Spot) → Walking m w s → Near records n from (s .key) → BlockSpot m t → t .key ≡ s .key + s .step
         → Below m p w f limit id waived at st ids₀ ids keys₀ keys (s .key + s .step)
         → Going m p w f limit id waived at st ids₀ ids keys₀ keys records n from t
     goes-on from t h near i e b =
@@ -125,7 +125,7 @@ abbrev entry : tie.At-loop2 Inv-loop2 μ-loop2 Inv-loop μ-loop → tie.Start In
 entry c = c .before .before .before .before .before .before .before .before .before
 
 -- where the walk stands there
-abbrev stands-at : (c : tie.At-loop2 Inv-loop2 μ-loop2 Inv-loop μ-loop) → Stands (entry c .args .m) (c .loop2 .spot)
+abbrev stands-at : (c : tie.At-loop2 Inv-loop2 μ-loop2 Inv-loop μ-loop) → BlockSpot (entry c .args .m) (c .loop2 .spot)
 stands-at c = c .loop2 .inv .descent .walking .stands
 
 abbrev picture : tie.Start Inv-loop2 μ-loop2 Inv-loop μ-loop → Picture
@@ -287,7 +287,7 @@ turn c = c .before .before .before
 
 -- the block that follows
 follows : (c : tie.After-next Inv-loop2 μ-loop2 Inv-loop μ-loop)
-    → Stands (entry (turn c .before .before) .args .m) (c .next .given .0 .0)
+    → BlockSpot (entry (turn c .before .before) .args .m) (c .next .given .0 .0)
     × (c .next .given .0 .0 .key ≡ turn c .before .before .loop2 .spot .key + turn c .before .before .loop2 .spot .step)
 follows c = follows-at _ _ _ _ (c .before .before .after .ensures) (c .next .given .1)
 

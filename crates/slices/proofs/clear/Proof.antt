@@ -1,12 +1,12 @@
 -- `clear` meets its contract: before i all places from `from` on are zero.
 use Prim.Native.Nat.{_-_}
 use native.Mathlib.Omega.{arith}
-use Rattle.slices.proofs.Moves.{Cleared, clear-begins, clear-turns, clear-ends}
+use Rattle.slices.proofs.Moves.{ZeroBefore, clear-begins, clear-turns, clear-ends}
 use Rattle.slices.proofs.clear.Statement.{statement}
 use Rattle.slices.proofs.clear.Tie as tie
 
 abbrev Inv-loop : tie.InvT-loop
-Inv-loop slice₀ from end i₀ slice i = Cleared slice₀ from end slice i
+Inv-loop slice₀ from end i₀ slice i = ZeroBefore slice₀ from end slice i
 
 abbrev μ-loop : tie.MeasureT-loop
 μ-loop slice₀ from end i₀ slice i = end - i

@@ -1,12 +1,12 @@
 -- `copy` meets its contract: after each turn one place more is moved.
 use Prim.Native.Nat.{_-_}
 use native.Mathlib.Omega.{arith}
-use Rattle.slices.proofs.Moves.{Moved, move-begins, move-turns, move-ends}
+use Rattle.slices.proofs.Moves.{MovedSoFar, move-begins, move-turns, move-ends}
 use Rattle.slices.proofs.copy.Statement.{statement}
 use Rattle.slices.proofs.copy.Tie as tie
 
 abbrev Inv-loop : tie.InvT-loop
-Inv-loop from start count to₀ at done₀ to done = Moved from start count to₀ at to done
+Inv-loop from start count to₀ at done₀ to done = MovedSoFar from start count to₀ at to done
 
 abbrev μ-loop : tie.MeasureT-loop
 μ-loop from start count to₀ at done₀ to done = count - done

@@ -1,12 +1,12 @@
 -- `shift_down` meets its contract: after i turns the first i places are moved, and no place was written before it was read.
 use Prim.Native.Nat.{_-_}
 use native.Mathlib.Omega.{arith}
-use Rattle.slices.proofs.Moves.{Moved, move-begins, slide-turns, move-ends}
+use Rattle.slices.proofs.Moves.{MovedSoFar, move-begins, slide-turns, move-ends}
 use Rattle.slices.proofs.shift_down.Statement.{statement}
 use Rattle.slices.proofs.shift_down.Tie as tie
 
 abbrev Inv-loop : tie.InvT-loop
-Inv-loop slice₀ from count to i₀ slice i = Moved slice₀ from count slice₀ to slice i
+Inv-loop slice₀ from count to i₀ slice i = MovedSoFar slice₀ from count slice₀ to slice i
 
 abbrev μ-loop : tie.MeasureT-loop
 μ-loop slice₀ from count to i₀ slice i = count - i

@@ -8,10 +8,10 @@ use lib.Bits.{bitAnd}
 use lib.Pow.{pow-pos, pow-mono, pow-lt}
 use Rattle.keys.proofs.Cases.{split}
 use Rattle.keys.proofs.Powers.{five-le, two-le}
-use Rattle.keys.specs.Under.{Block}
+use Rattle.keys.specs.Under.{MapBlock}
 use Rattle.keys.proofs.Interval.{within, same-block}
 use Rattle.walk.specs.declared.Spot.{Spot}
-use Rattle.walk.specs.Walk.{Stands}
+use Rattle.walk.specs.Walk.{BlockSpot}
 use Rattle.walk.proofs.Place.{goes-east, goes-south-west, goes-up, as-high, SouthWest, SouthEast}
 use Rattle.walk.proofs.after.Statement.{statement}
 use Rattle.walk.proofs.after.Tie as tie
@@ -20,7 +20,7 @@ use Rattle.walk.proofs.after.Tie as tie
 record Climb (m key row column side step : ℕ) : Type 0 where
   height : ℕ
   own : ℕ
-  block : Block m height row column own
+  block : MapBlock m height row column own
   ends : own + 5 ^ height ≡ key
   sides : side ≡ 2 ^ height
   steps : step ≡ 5 ^ height
@@ -31,7 +31,7 @@ Inv-loop m whole row₀ column₀ side₀ step₀ first-key key row column side 
 abbrev μ-loop : tie.MeasureT-loop
 μ-loop m whole row₀ column₀ side₀ step₀ first-key key row column side step = whole - side
 
-begins : (m : ℕ) (s : Spot) → Stands m s → Climb m (s .key + s .step) (s .row) (s .column) (s .side) (s .step)
+begins : (m : ℕ) (s : Spot) → BlockSpot m s → Climb m (s .key + s .step) (s .row) (s .column) (s .side) (s .step)
 begins m s h =
     record { height = h .height; own = s .key; block = h .block; ends = omega (arith, h .step); sides = h .side; steps = h .step }
 
@@ -64,7 +64,7 @@ module _ {m key row column side step : ℕ} (p : Climb m key row column side ste
   set x n e = n (ap (bitAnd x) (p .sides) ∙ e)
 
   -- in the west: the block to the east follows
-  east : bitAnd column side ≡ 0 → Stands m (record { key = key; row = row; column = column + side; side = side; step = step })
+  east : bitAnd column side ≡ 0 → BlockSpot m (record { key = key; row = row; column = column + side; side = side; step = step })
   east e =
       record {
         height = p .height;
@@ -78,7 +78,7 @@ module _ {m key row column side step : ℕ} (p : Climb m key row column side ste
     south-west : bitAnd row side ≡ 0 → SouthWest m (p .height) row column (p .own)
     south-west f = goes-south-west (p .block) low (set column e) (clear row f)
 
-    west : bitAnd row side ≡ 0 → Stands m (record { key = key; row = row + side; column = column - side; side = side; step = step })
+    west : bitAnd row side ≡ 0 → BlockSpot m (record { key = key; row = row + side; column = column - side; side = side; step = step })
     west f =
         record {
           height = p .height;

@@ -18,24 +18,24 @@ use Rattle.list.specs.Own.{shownBy}
 use Rattle.list.specs.Sorted.{Near}
 use Rattle.list.proofs.Own.{own-sorted}
 use Rattle.walk.specs.declared.Spot.{Spot}
-use Rattle.walk.specs.Walk.{Stands, isApart, firstQuadrant}
+use Rattle.walk.specs.Walk.{BlockSpot, isApart, firstQuadrant}
 use Rattle.walk.proofs.Lies.{small}
 use Rattle.walk.proofs.Steps.{Parent, some-keys, first-stands, follows-at, follows-gone, rises}
 use Rattle.list.proofs.Fuller.{near-root}
-use Rattle.walk.proofs.Asked.{Asked, asked-place, near-later, near-place}
+use Rattle.walk.proofs.Asked.{PlaceAsked, asked-place, near-later, near-place}
 use Rattle.walk.proofs.Shows.{place-no}
 use Rattle.area.specs.Tally.{MixedAt}
 use Rattle.area.proofs.WholeBlock.{mixed-at}
 use Rattle.area.proofs.Looked.{place-alone}
-use Rattle.area.proofs.Measured.{Measured, measured-none, measured-end, measured-most, measured-enter, measured-apart, measured-lacking, measured-overlap, measured-whole, mixed-parent}
+use Rattle.area.proofs.Measured.{MeasuredSoFar, measured-none, measured-end, measured-most, measured-enter, measured-apart, measured-lacking, measured-overlap, measured-whole, mixed-parent}
 use Rattle.area.proofs.measure.area_in.Statement.{statement}
 use Rattle.area.proofs.measure.area_in.Tie as tie
 
 record Going (m : ℕ) (p : Picture) (w : Window) (f pixels : ℕ) (keys : List ℕ) (n from x : ℕ) (s : Spot) : Type 0 where
-  stands : Stands m s
+  stands : BlockSpot m s
   rise : x ≤ s .key
   near : Near keys n from (s .key)
-  measured : Measured m p w f pixels (s .key)
+  measured : MeasuredSoFar m p w f pixels (s .key)
 
 abbrev Inv-loop2 : tie.InvT-loop2
 Inv-loop2 m s keys bits n summary window feature bit side pixels₀ spot₀ from₀ pixels spot from = Going m (shownBy m keys bits n) window feature pixels keys n from (spot₀ .key) spot
@@ -62,16 +62,16 @@ module _ {m : ℕ} (p : Picture) (w : Window) (f pixels : ℕ) (keys : List ℕ)
       }
 
   -- on to the block that follows
-  goes-on : (from before x : ℕ) (t : Spot) → Near keys n from before → before ≤ x → Stands m t → t .key ≡ x → Measured m p w f pixels x → Going m p w f pixels keys n from (t .key) t
+  goes-on : (from before x : ℕ) (t : Spot) → Near keys n from before → before ≤ x → BlockSpot m t → t .key ≡ x → MeasuredSoFar m p w f pixels x → Going m p w f pixels keys n from (t .key) t
   goes-on from before x t near later h e u =
-      record { stands = h; rise = omega arith; near = near-later near _ (omega arith); measured = subst (λ (y : ℕ). Measured m p w f pixels y) (sym e) u }
+      record { stands = h; rise = omega arith; near = near-later near _ (omega arith); measured = subst (λ (y : ℕ). MeasuredSoFar m p w f pixels y) (sym e) u }
 
 -- what was counted, by its name in the code
-named : {m : ℕ} {p : Picture} {w : Window} {f x pixels : ℕ} (u : ℕ) → u ≡ pixels → Measured m p w f pixels x → Measured m p w f u x
+named : {m : ℕ} {p : Picture} {w : Window} {f x pixels : ℕ} (u : ℕ) → u ≡ pixels → MeasuredSoFar m p w f pixels x → MeasuredSoFar m p w f u x
 named u e g = record { adds-up = omega (arith, g .adds-up) }
 
 -- no count passes what a number of the code holds
-fits : {m : ℕ} {p : Picture} {w : Window} {f pixels x : ℕ} → m ≤ 10 → isWindow m w ≡ true → Measured m p w f pixels x → Fits w32 pixels
+fits : {m : ℕ} {p : Picture} {w : Window} {f pixels x : ℕ} → m ≤ 10 → isWindow m w ≡ true → MeasuredSoFar m p w f pixels x → Fits w32 pixels
 fits deep good t = let h = measured-most _ _ _ _ _ _ deep good t in omega arith
 
 -- the entry of the function, from the head of the inner loop
@@ -91,7 +91,7 @@ meets c = sym (c .before .before .apart .ensures) ∙ c .before .if1 .left
 
 -- the record where the block stands
 asked : (c : tie.After-place-from Inv-loop2 μ-loop2 Inv-loop μ-loop)
-    → Asked (entry (head c) .args .m) (entry (head c) .args .keys .now) (entry (head c) .args .bits .now) (entry (head c) .args .n)
+    → PlaceAsked (entry (head c) .args .m) (entry (head c) .args .keys .now) (entry (head c) .args .bits .now) (entry (head c) .args .n)
     (head c .loop2 .inv .stands .height) (head c .loop2 .spot .row) (head c .loop2 .spot .column) (c .place-from .result)
 asked c = asked-place (entry (head c) .pre .0 .4) (head c .loop2 .inv .stands .block) _ (c .place-from .ensures)
 
@@ -209,7 +209,7 @@ enum-told c = search needs
 
 -- whichever way a turn ended, what the block adds is counted
 passed : (c : tie.Joined1 Inv-loop2 μ-loop2 Inv-loop μ-loop)
-    → Measured (entry (c .before .before) .args .m) (shownBy (entry (c .before .before) .args .m) (entry (c .before .before) .args .keys .now) (entry (c .before .before) .args .bits .now) (entry (c .before .before) .args .n)) (entry (c .before .before) .args .window) (entry (c .before .before) .args .feature) (c .if1 .pixels)
+    → MeasuredSoFar (entry (c .before .before) .args .m) (shownBy (entry (c .before .before) .args .m) (entry (c .before .before) .args .keys .now) (entry (c .before .before) .args .bits .now) (entry (c .before .before) .args .n)) (entry (c .before .before) .args .window) (entry (c .before .before) .args .feature) (c .if1 .pixels)
     (c .before .before .loop2 .spot .key + c .before .before .loop2 .spot .step)
 passed c =
     let at = c .before .before in
@@ -238,7 +238,7 @@ returns c = measured-end _ _ _ _ _ _ (follows-gone _ _ _ (c .before .before .aft
 
 -- the block that follows
 follows : (c : tie.After-next Inv-loop2 μ-loop2 Inv-loop μ-loop)
-    → Stands (entry (c .before .before .before .before .before) .args .m) (c .next .given .0 .0)
+    → BlockSpot (entry (c .before .before .before .before .before) .args .m) (c .next .given .0 .0)
     × (c .next .given .0 .0 .key ≡ c .before .before .before .before .before .loop2 .spot .key + c .before .before .before .before .before .loop2 .spot .step)
 follows c = follows-at _ _ _ _ (c .before .before .after .ensures) (c .next .given .1)
 

@@ -45,10 +45,10 @@ use Rattle.keys.proofs.Cases.{split}
 use Rattle.definitions.specs.declared.Question.{Question}
 use Rattle.definitions.proofs.Question as Question
 use Rattle.definitions.proofs.Question.Laws as Question′
-use Rattle.batch.specs.Run.{answeringOf, Ready}
-use Rattle.batch.specs.declared.begin.State.{State}
-use Rattle.batch.proofs.begin.State as State
-use Rattle.batch.proofs.begin.State.Laws as State′
+use Rattle.batch.specs.Run.{answeringOf, BatchReady}
+use Rattle.batch.specs.declared.begin.BatchState.{BatchState}
+use Rattle.batch.proofs.begin.BatchState as BatchState
+use Rattle.batch.proofs.begin.BatchState.Laws as State′
 use Rattle.laws.proofs.OneByOne.{noQuestion}
 use Rattle.lending.proofs.Locals.{Content, empty, holds, at, Addresses, envOf, Held, in-local, allocates, frees-all}
 use Rattle.lending.proofs.Slices.{Slice, val, typed-slice, token}
@@ -70,8 +70,8 @@ use Rattle.batch.proofs.run.run.Code.Mir as mir
 questionTells : Tells Question.the-row (Is Question.the-row) questionVals
 questionTells = LL.tells Question.the-type Question′.the-laws
 
-module _ {M : Type 1} (𝓤 : URA M) (H : Heap 𝓤) (A : Atoms 𝓤) (W : Given 𝓤 H A) (mem : Memory → SProp 𝓤) (run : Routine → Fun 𝓤) (questions : Slice Question.the-row) (S : BatchSlices) (state : State)
-    (fits : Is State.the-row state (stateVals state)) (ready : ReadyAt S (length (questions .x .now)) (entry S (questions .x .now) state))
+module _ {M : Type 1} (𝓤 : URA M) (H : Heap 𝓤) (A : Atoms 𝓤) (W : Given 𝓤 H A) (mem : Memory → SProp 𝓤) (run : Routine → Fun 𝓤) (questions : Slice Question.the-row) (S : BatchSlices) (state : BatchState)
+    (fits : Is BatchState.the-row state (stateVals state)) (ready : ReadyAt S (length (questions .x .now)) (entry S (questions .x .now) state))
     (𝓣 : Tables 𝓤 H) (known : Triple 𝓤 (𝓣 .C #step) (Step 𝓤 H A mem run)) where
   abbrev Turns : Type 0
   Turns = Turn S (questions .x .now) state
@@ -202,11 +202,11 @@ module _ {M : Type 1} (𝓤 : URA M) (H : Heap 𝓤) (A : Atoms 𝓤) (W : Given
           shr-slice-tells (named 1) (κs .1 .0) u32,
           (
             shr-slice-tells (named 2) (κs .1 .1 .0) u32,
-            (mut-slice-tells (named 3) (κs .1 .1 .1 .0) u32, (mut-slice-tells (named 4) (κs .1 .1 .1 .1 .0) u32, (LL.tells State.the-type State′.the-laws, tt))),
+            (mut-slice-tells (named 3) (κs .1 .1 .1 .0) u32, (mut-slice-tells (named 4) (κs .1 .1 .1 .1 .0) u32, (LL.tells BatchState.the-type State′.the-laws, tt))),
           ),
         ),
       ))
-      (λ κs qs bounds a g are. needs 𝓤 (Ready (a .1 .0 .now) (a .1 .1 .0 .now) (length (a .0 .now))
+      (λ κs qs bounds a g are. needs 𝓤 (BatchReady (a .1 .0 .now) (a .1 .1 .0 .now) (length (a .0 .now))
       (answeringOf (a .1 .1 .1 .1 .1 .0) (a .1 .1 .1 .0 .now) (a .1 .1 .1 .1 .0 .now))) _ (λ ready.
       walk 𝓤 H A W mem run (record { κ = κs .0; q = qs .0; x = a .0; room = are .0 .0 .1 }) (record {
         keys = record { κ = κs .1 .0; q = qs .1 .0; x = a .1 .0; room = are .1 .0 .0 .1 };
@@ -223,8 +223,8 @@ module _ {M : Type 1} (𝓤 : URA M) (H : Heap 𝓤) (A : Atoms 𝓤) (W : Given
       questions-go : Goes 𝓤 H A W 5 (shrSliceOf (0 ∷ []) tt (plain (λ _. Question.the-row))) yes (stay-dropped (shrSliceOf (0 ∷ []) tt (plain (λ _. Question.the-row))) yes)
       questions-go = goes-dropped 𝓤 H A W 5 (shrSliceOf (0 ∷ []) tt (plain (λ _. Question.the-row))) yes (λ κs x f. refl)
 
-      state-goes : Goes 𝓤 H A W 5 (plain (λ _. State.the-row)) yes (stay-dropped (plain (λ _. State.the-row)) yes)
-      state-goes = goes-dropped 𝓤 H A W 5 (plain (λ _. State.the-row)) yes (λ κs x f. refl)
+      state-goes : Goes 𝓤 H A W 5 (plain (λ _. BatchState.the-row)) yes (stay-dropped (plain (λ _. BatchState.the-row)) yes)
+      state-goes = goes-dropped 𝓤 H A W 5 (plain (λ _. BatchState.the-row)) yes (λ κs x f. refl)
 
       shared-goes : (j : ℕ) (ok : AllWithin 5 (j ∷ [])) → Goes 𝓤 H A W 5 (shrSliceOf (j ∷ []) ok (plain (λ _. u32))) yes (stay-dropped (shrSliceOf (j ∷ []) ok (plain (λ _. u32))) yes)
       shared-goes j ok = goes-dropped 𝓤 H A W 5 (shrSliceOf (j ∷ []) ok (plain (λ _. u32))) yes (λ κs x f. refl)

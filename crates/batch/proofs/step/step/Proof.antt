@@ -2,7 +2,7 @@
 use mathlib.Core.Path.{sym}
 use native.Mathlib.Omega.{arith}
 use borrow.Author.Needs.{needs}
-use Rattle.batch.specs.Run.{Answering, answeringOf, Fine}
+use Rattle.batch.specs.Run.{Answering, answeringOf, BatchFine}
 use Rattle.batch.proofs.Fold.{step-stays, step-put}
 use Rattle.batch.proofs.step.step.Statement.{statement}
 use Rattle.batch.proofs.step.step.Tie as tie
@@ -16,7 +16,7 @@ abbrev progress : tie.Start → Answering
 progress s = answeringOf (s .args .state) (s .args .refusals .now) (s .args .values .now)
 
 -- the batch is not refused
-fine : (c : tie.Else1) → (let s = start (c .before) in Fine (s .args .keys .now) (s .args .bits .now) 1 (progress s))
+fine : (c : tie.Else1) → (let s = start (c .before) in BatchFine (s .args .keys .now) (s .args .bits .now) 1 (progress s))
 fine c = start (c .before) .pre .fine (c .if1 .left)
 
 returns : tie.Need-returns

@@ -1,5 +1,5 @@
 -- `check::count_records` meets its contract: what is left decides as the whole does, and past the last block what is left over.
-use Rattle.bit_strings.proofs.Counting.{Counting, counting-start, counting-stuck, counting-on, counting-turn, counting-nodes, counting-leaves, counting-end}
+use Rattle.bit_strings.proofs.Counting.{CountedPair, counting-start, counting-stuck, counting-on, counting-turn, counting-nodes, counting-leaves, counting-end}
 use borrow.Author.Tests.{not-true, not-false}
 use mathlib.Core.Path.{sym, _∙_}
 use Prim.Native.Nat.{_-_}
@@ -9,7 +9,7 @@ use Rattle.bit_strings.proofs.check.count_records.Statement.{statement}
 use Rattle.bit_strings.proofs.check.count_records.Tie as tie
 
 abbrev Inv-loop : tie.InvT-loop
-Inv-loop m nodes leaves end key₀ i₀ j₀ key i j = Counting m nodes leaves key i j
+Inv-loop m nodes leaves end key₀ i₀ j₀ key i j = CountedPair m nodes leaves key i j
 
 abbrev μ-loop : tie.MeasureT-loop
 μ-loop m nodes leaves end key₀ i₀ j₀ key i j = end - key

@@ -1,5 +1,5 @@
 -- `pack::pack` meets its contract: after each turn one byte more is written.
-use Rattle.bit_strings.proofs.Bitwise.{Written, written-start, written-turn, written-end}
+use Rattle.bit_strings.proofs.Bitwise.{WrittenBytes, written-start, written-turn, written-end}
 use Prim.Native.Nat.{_-_}
 use native.Mathlib.Omega.{arith}
 use borrow.Author.Needs.{needs}
@@ -7,7 +7,7 @@ use Rattle.bit_strings.proofs.pack.pack.Statement.{statement}
 use Rattle.bit_strings.proofs.pack.pack.Tie as tie
 
 abbrev Inv-loop : tie.InvT-loop
-Inv-loop values leaves count out₀ place₀ k₀ out place k = Written leaves values count out₀ out place k
+Inv-loop values leaves count out₀ place₀ k₀ out place k = WrittenBytes leaves values count out₀ out place k
 
 abbrev μ-loop : tie.MeasureT-loop
 μ-loop values leaves count out₀ place₀ k₀ out place k = count - k

@@ -3,7 +3,7 @@ use Prim.Native.Nat.{ℕ, _-_, _/_, _<_}
 use native.Mathlib.Omega.{arith}
 use borrow.Fn.Kinds.{In}
 use borrow.Fn.PlainCycle.{Measures, is, falls, and}
-use Rattle.combine.specs.Combining.{Asked}
+use Rattle.combine.specs.Combining.{CombineAsked}
 use Rattle.combine.proofs.TwoLeaves.{leaves-slots, leaves-named, leaves-counted}
 use Rattle.combine.proofs.FourCalls.{first-room, second-room, step-falls, asks-nw, asks-ne, asks-sw, asks-se, four-small, node-counted}
 use Rattle.combine.proofs.count.count_block.Reads as own
@@ -54,7 +54,7 @@ returns t c =
     (c .class-bits .ensures)
 
 module _ (t : ℕ) (c : Open t) where
-  asked : Asked (start t c .args .bits1 .now) (start t c .args .bits2 .now) (start t c .args .table .now) (start t c .args .s2) (start t c .args .step)
+  asked : CombineAsked (start t c .args .bits1 .now) (start t c .args .bits2 .now) (start t c .args .table .now) (start t c .args .s2) (start t c .args .step)
       (start t c .args .leaf1) (start t c .args .at1) (start t c .args .leaf2) (start t c .args .at2)
   asked = start t c .pre .1
 

@@ -5,7 +5,7 @@ use mathlib.Core.Path.{_∙_}
 use native.Mathlib.Omega.{arith}
 use borrow.Fn.Kinds.{In}
 use borrow.Fn.PlainCycle.{Measures, is, falls, and}
-use Rattle.combine.specs.Combining.{WriteAsked}
+use Rattle.combine.specs.Combining.{CombineWriteAsked}
 use Rattle.combine.proofs.TwoLeaves.{leaves-slots, leaves-named, leaves-made}
 use Rattle.combine.proofs.FourCalls.{first-room, second-room, step-falls, keys-fit, writes-nw, writes-ne, writes-sw, writes-se, four-asked, node-made}
 use Rattle.combine.proofs.write.write_block.Reads as own
@@ -82,7 +82,7 @@ returns : (t : ℕ) → lts.Need-returns (claims t) (given t) own.Post
 returns t c = leaves-made (c .before .before .before .before .before .enter .ensures) (c .before .before .before .before .enter2 .ensures) (c .before .if1 .taken) (c .class-bits .ensures) _ _ _ _
 
 module _ (t : ℕ) (c : Open t) where
-  asked : WriteAsked (start t c .args .bits1 .now) (start t c .args .bits2 .now) (start t c .args .table .now) (start t c .args .s2) (start t c .args .step)
+  asked : CombineWriteAsked (start t c .args .bits1 .now) (start t c .args .bits2 .now) (start t c .args .table .now) (start t c .args .s2) (start t c .args .step)
       (start t c .args .leaf1) (start t c .args .at1) (start t c .args .leaf2) (start t c .args .at2) (start t c .args .key) (start t c .args .place)
       (start t c .args .keys .now) (start t c .args .bits .now)
   asked = start t c .pre .1

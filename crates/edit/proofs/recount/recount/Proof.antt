@@ -9,7 +9,7 @@ use Rattle.keys.specs.Key.{validKey, heightOf}
 use Rattle.keys.proofs.Powers.{five-le, height-le}
 use Rattle.keys.proofs.Valid.{valid-below}
 use Rattle.list.specs.Own.{shownBy}
-use Rattle.edit.proofs.Recounted.{Counted, counted-none, counted-long, counted-all, counted-renewed, counted-kept, outdated-long, test-apart}
+use Rattle.edit.proofs.Recounted.{CountedUpTo, counted-none, counted-long, counted-all, counted-renewed, counted-kept, outdated-long, test-apart}
 use Rattle.edit.proofs.recount.recount.Statement.{statement}
 use Rattle.edit.proofs.recount.recount.Tie as tie
 
@@ -22,7 +22,7 @@ end-small m κ height step deep valid e f =
     omega arith
 
 abbrev Inv-loop : tie.InvT-loop
-Inv-loop m s keys bits n summary₀ key end blocks b₀ summary b = (b ≤ blocks) × Counted m s (shownBy m keys bits n) summary₀ summary b
+Inv-loop m s keys bits n summary₀ key end blocks b₀ summary b = (b ≤ blocks) × CountedUpTo m s (shownBy m keys bits n) summary₀ summary b
 
 abbrev μ-loop : tie.MeasureT-loop
 μ-loop m s keys bits n summary₀ key end blocks b₀ summary b = blocks - b
@@ -87,7 +87,7 @@ loop-again c =
           counted-renewed (start .args .m) (start .args .s) shown old long (omega (arith, l .before .number-of .ensures)) (l .loop .inv .1) _
           (w .5 ∙ w .2 .ensures))
           (λ w.
-          subst (λ now. Counted (start .args .m) (start .args .s) shown old now (l .loop .b + 1)) (sym (w .1))
+          subst (λ now. CountedUpTo (start .args .m) (start .args .s) shown old now (l .loop .b + 1)) (sym (w .1))
           (counted-kept (start .args .m) (start .args .s) shown old long (omega (arith, l .before .number-of .ensures)) (l .loop .inv .1)
           (test-apart (start .pre) (l .loop .b) (omega (arith, l .before .number-of .ensures)) _ _
           (ap (λ x. start .args .key + x) (l .before .before .power-of-five .ensures ∙ ap (λ x. 5 ^ x) (l .before .before .before .height .ensures)))

@@ -6,7 +6,7 @@ use lib.ListN.{length}
 use borrow.Author.Needs.{needs}
 use borrow.Author.Tests.{not-true, not-false}
 use Rattle.definitions.specs.File.{fileLength}
-use Rattle.file.specs.Layout.{keyAt, bitsAt}
+use Rattle.file.specs.Layout.{fileKeyAt, fileBitsAt}
 use Rattle.file.proofs.Laid.{laid-at, record-ends, number-here}
 use Rattle.file.proofs.FilePixels.{PixelsIn, too-few-in, pixels-begin, pixels-end, there, other-pixel, node-pixel, leaf-pixel}
 use Rattle.file.proofs.check_file.four_pixels.Statement.{statement}
@@ -37,11 +37,11 @@ whole c =
 
 -- its key and its bits
 key-is : (c : tie.After-u32-at Inv-loop μ-loop) → let l = c .before .before .before in let a = l .before .before .before .args in
-    c .u32-at .result ≡ keyAt (a .width) (l .loop .next) (a .file .now)
+    c .u32-at .result ≡ fileKeyAt (a .width) (l .loop .next) (a .file .now)
 key-is c = number-here _ _ _ _ _ _ (c .before .place .ensures) refl (c .u32-at .ensures)
 
 bits-are : (c : Found) → let l = turn c .before in let a = l .before .before .before .args in
-    c .bits-behind .result ≡ bitsAt (a .width) (l .loop .next) (a .file .now)
+    c .bits-behind .result ≡ fileBitsAt (a .width) (l .loop .next) (a .file .now)
 bits-are c = number-here _ _ _ _ _ _ (ap (λ (k : ℕ). k + 4) (c .before .before .before .place .ensures)) refl (c .bits-behind .ensures)
 
 sub-if1 : tie.Need-sub-if1 Inv-loop μ-loop

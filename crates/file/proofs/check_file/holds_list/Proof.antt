@@ -5,7 +5,7 @@ use native.Mathlib.Omega.{arith}
 use borrow.Author.Tests.{ltb-true, ltb-false, not-true, not-false}
 use borrow.Author.Needs.{needs}
 use Rattle.keys.proofs.Powers.{five-le}
-use Rattle.file.specs.Layout.{Laid}
+use Rattle.file.specs.Layout.{RecordsFit}
 use Rattle.file.proofs.Laid.{laid-at}
 use Rattle.file.proofs.FileList.{none-in-file, all-laid, first, other-root, large-root, leaf-root, node-root}
 use Rattle.file.proofs.check_file.holds_list.Statement.{statement}
@@ -21,7 +21,7 @@ width-requires c κs = search needs
 abbrev start : tie.After-width → tie.Start
 start w = w .before .before .before
 
-laid : (w : tie.After-width) → Laid (w .width .result) (start w .args .n) (start w .args .file .now)
+laid : (w : tie.After-width) → RecordsFit (w .width .result) (start w .args .n) (start w .args .file .now)
 laid w = all-laid (start w .pre) _ (w .width .ensures)
 
 some : (w : tie.After-width) → 0 < start w .args .n

@@ -3,12 +3,12 @@ use Prim.Native.Nat.{_-_}
 use native.Mathlib.Omega.{arith}
 use Rattle.file.specs.Room.{RoomFor}
 use Rattle.file.proofs.Laid.{laid-at, laid-same}
-use Rattle.file.proofs.RecordBytes.{Written, none-written, record-stored, all-written}
+use Rattle.file.proofs.RecordBytes.{WrittenRecords, none-written, record-stored, all-written}
 use Rattle.file.proofs.records.write_records.Statement.{statement}
 use Rattle.file.proofs.records.write_records.Tie as tie
 
 abbrev Inv-loop : tie.InvT-loop
-Inv-loop width keys bits n file₀ i₀ file i = Written width keys bits n file₀ file i
+Inv-loop width keys bits n file₀ i₀ file i = WrittenRecords width keys bits n file₀ file i
 
 abbrev μ-loop : tie.MeasureT-loop
 μ-loop width keys bits n file₀ i₀ file i = n - i

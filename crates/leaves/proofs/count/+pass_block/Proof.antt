@@ -5,7 +5,7 @@ use native.Mathlib.Omega.{arith}
 use borrow.Fn.Kinds.{In}
 use borrow.Fn.PlainCycle.{Measures, is, falls, and}
 use Rattle.build.proofs.BuildInside.{one-above, fifth-step}
-use Rattle.leaves.specs.Delivered.{Asked}
+use Rattle.leaves.specs.Delivered.{LeavesAsked}
 use Rattle.leaves.proofs.Quarters.{step-below, asked-quadrant, asked-one}
 use Rattle.leaves.proofs.PassBlock.{passed-none, passed-leaf, passed-other, passed-four, passed-at, passed-small}
 use Rattle.leaves.proofs.count.pass_block.Reads as own
@@ -49,7 +49,7 @@ module _ (t : ℕ) (c : High t) where
 
   quadrant : (κ : ℕ) → κ ≤ start t c .args .key + 4 * (start t c .args .step / 5)
       → (start t c .args .height - 1 < t)
-      × Asked (start t c .args .keys .now) (start t c .args .features .now) (start t c .args .height - 1) (start t c .args .step / 5) κ
+      × LeavesAsked (start t c .args .keys .now) (start t c .args .features .now) (start t c .args .height - 1) (start t c .args .step / 5) κ
   quadrant κ low = let p = positive in (omega (arith, start t c .pre .0), asked-quadrant (start t c .pre .1) p κ low)
 
 quad-requires : (t : ℕ) → lts.Need-pass-quad-requires (claims t) (given t) own.Post

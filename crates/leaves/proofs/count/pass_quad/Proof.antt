@@ -2,7 +2,7 @@
 use Prim.Native.Nat.{ℕ, _+_, _≤_}
 use mathlib.Core.Path.{refl}
 use native.Mathlib.Omega.{arith}
-use Rattle.leaves.specs.Delivered.{Asked}
+use Rattle.leaves.specs.Delivered.{LeavesAsked}
 use Rattle.leaves.proofs.Quarters.{asked-quadrant}
 use Rattle.leaves.proofs.PassBlock.{passed-none, passed-leaf, passed-four, passed-small}
 use Rattle.leaves.proofs.count.pass_quad.Statement.{statement}
@@ -11,7 +11,7 @@ use Rattle.leaves.proofs.count.pass_quad.Tie as tie
 abbrev start : tie.Else2 → tie.Start
 start c = c .before .before .before .before .before
 
-pixel : (c : tie.Else2) (κ : ℕ) → κ ≤ start c .args .key + 4 → Asked (start c .args .keys .now) (start c .args .features .now) 0 1 κ
+pixel : (c : tie.Else2) (κ : ℕ) → κ ≤ start c .args .key + 4 → LeavesAsked (start c .args .keys .now) (start c .args .features .now) 0 1 κ
 pixel c κ low = asked-quadrant (start c .pre) (omega arith) κ low
 
 none-place : tie.Need-add-t21

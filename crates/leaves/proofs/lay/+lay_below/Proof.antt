@@ -6,7 +6,7 @@ use native.Mathlib.Omega.{arith}
 use borrow.Fn.Kinds.{In}
 use borrow.Fn.PlainCycle.{Measures, is, falls, and}
 use Rattle.build.proofs.BuildInside.{one-above, fifth-step}
-use Rattle.leaves.specs.Delivered.{Asked, Ready}
+use Rattle.leaves.specs.Delivered.{LeavesAsked, LayAsked}
 use Rattle.leaves.proofs.Quarters.{parted-there, parted-high, step-below, asked-quadrant, asked-one}
 use Rattle.leaves.proofs.LayBlock.{laid-leaf, ready-nw, ready-ne, ready-sw, ready-se, ready-four, laid-four, ready-at, laid-at}
 use Rattle.leaves.proofs.lay.lay_below.Reads as own
@@ -76,14 +76,14 @@ module _ (t : ℕ) (c : High t) where
       let s = step-is in
       omega (arith, start t c .pre .1 .0 .key-fits)
 
-  ready : Ready (start t c .args .leaf-keys .now) (start t c .args .leaf-features .now) (suc (start t c .args .height - 1)) (start t c .args .key) (start t c .args .at) (start t c .args .place) (start t c .args .keys .now) (start t c .args .bits .now)
+  ready : LayAsked (start t c .args .leaf-keys .now) (start t c .args .leaf-features .now) (suc (start t c .args .height - 1)) (start t c .args .key) (start t c .args .at) (start t c .args .place) (start t c .args .keys .now) (start t c .args .bits .now)
   ready = ready-at (sym (one-above positive)) (start t c .pre .1 .1)
 
   falling : start t c .args .height - 1 < t
   falling = let p = positive in omega (arith, start t c .pre .0)
 
   quadrant : (κ : ℕ) → κ ≤ start t c .args .key + 4 * (start t c .args .step / 5)
-      → Asked (start t c .args .leaf-keys .now) (start t c .args .leaf-features .now) (start t c .args .height - 1) (start t c .args .step / 5) κ
+      → LeavesAsked (start t c .args .leaf-keys .now) (start t c .args .leaf-features .now) (start t c .args .height - 1) (start t c .args .step / 5) κ
   quadrant κ low = asked-quadrant (start t c .pre .1 .0) positive κ low
 
 quad-requires : (t : ℕ) → lts.Need-lay-quad-requires (claims t) (given t) own.Post

@@ -5,7 +5,7 @@ use mathlib.Core.Path.{refl}
 use native.Mathlib.Omega.{arith}
 use lib.ListN.{length, getD}
 use Rattle.keys.specs.Key.{slotLimit}
-use Rattle.leaves.specs.Delivered.{Ready, Laid}
+use Rattle.leaves.specs.Delivered.{LayAsked, BlockLaid}
 use Rattle.leaves.proofs.Quarters.{parted-there}
 use Rattle.leaves.proofs.LayBlock.{laid-leaf, laid-pixel, ready-place, ready-nw, ready-ne, ready-sw, ready-se, ready-four, laid-four}
 use Rattle.leaves.proofs.lay.lay_quad.Statement.{statement}
@@ -22,7 +22,7 @@ leafFeatures c = start c .args .leaf-features .now
 
 -- what a call for a pixel that is ready asks
 pixel : (s : tie.Start) {k κ at place : ℕ} {keys bits : List ℕ}
-    → Ready (s .args .leaf-keys .now) (s .args .leaf-features .now) k κ at place keys bits
+    → LayAsked (s .args .leaf-keys .now) (s .args .leaf-features .now) k κ at place keys bits
     → (at < length (s .args .leaf-features .now)) × (getD (s .args .leaf-features .now) at 0 < slotLimit) × (place ≤ 5 ^ 10)
 pixel s {at = at} a =
     let h = parted-there (a .parted) in
@@ -33,28 +33,28 @@ module _ (c : tie.After-lay-pixel2) where
   abbrev high : tie.Else1
   high = c .before
 
-  first : Laid (leafKeys high) (leafFeatures high) 0 (start high .args .key + 1) (start high .args .at) (start high .args .place + 1) (start high .args .keys .now) (start high .args .bits .now) (start high .args .keys .now) (start high .args .bits .now) (c .lay-pixel2 .result .bits) (c .lay-pixel2 .result .next) (c .lay-pixel2 .result .end)
+  first : BlockLaid (leafKeys high) (leafFeatures high) 0 (start high .args .key + 1) (start high .args .at) (start high .args .place + 1) (start high .args .keys .now) (start high .args .bits .now) (start high .args .keys .now) (start high .args .bits .now) (c .lay-pixel2 .result .bits) (c .lay-pixel2 .result .next) (c .lay-pixel2 .result .end)
   first = laid-pixel (ready-nw _ _ 0 _ 1 _ _ refl (high .if1 .left) (start high .pre .1)) (c .lay-pixel2 .ensures)
 
 module _ (c : tie.After-lay-pixel3) where
   abbrev high₂ : tie.Else1
   high₂ = c .before .before
 
-  second : Laid (leafKeys high₂) (leafFeatures high₂) 0 (start high₂ .args .key + 2) (c .before .lay-pixel2 .result .end) (c .before .lay-pixel2 .result .next) (start high₂ .args .keys .now) (start high₂ .args .bits .now) (start high₂ .args .keys .now) (start high₂ .args .bits .now) (c .lay-pixel3 .result .bits) (c .lay-pixel3 .result .next) (c .lay-pixel3 .result .end)
+  second : BlockLaid (leafKeys high₂) (leafFeatures high₂) 0 (start high₂ .args .key + 2) (c .before .lay-pixel2 .result .end) (c .before .lay-pixel2 .result .next) (start high₂ .args .keys .now) (start high₂ .args .bits .now) (start high₂ .args .keys .now) (start high₂ .args .bits .now) (c .lay-pixel3 .result .bits) (c .lay-pixel3 .result .next) (c .lay-pixel3 .result .end)
   second = laid-pixel (ready-ne _ _ 0 _ 1 _ _ refl (high₂ .if1 .left) (start high₂ .pre .1) (first (c .before))) (c .lay-pixel3 .ensures)
 
 module _ (c : tie.After-lay-pixel4) where
   abbrev high₃ : tie.Else1
   high₃ = c .before .before .before
 
-  third : Laid (leafKeys high₃) (leafFeatures high₃) 0 (start high₃ .args .key + 3) (c .before .lay-pixel3 .result .end) (c .before .lay-pixel3 .result .next) (start high₃ .args .keys .now) (start high₃ .args .bits .now) (start high₃ .args .keys .now) (start high₃ .args .bits .now) (c .lay-pixel4 .result .bits) (c .lay-pixel4 .result .next) (c .lay-pixel4 .result .end)
+  third : BlockLaid (leafKeys high₃) (leafFeatures high₃) 0 (start high₃ .args .key + 3) (c .before .lay-pixel3 .result .end) (c .before .lay-pixel3 .result .next) (start high₃ .args .keys .now) (start high₃ .args .bits .now) (start high₃ .args .keys .now) (start high₃ .args .bits .now) (c .lay-pixel4 .result .bits) (c .lay-pixel4 .result .next) (c .lay-pixel4 .result .end)
   third = laid-pixel (ready-sw _ _ 0 _ 1 _ _ refl (high₃ .if1 .left) (start high₃ .pre .1) (first (c .before .before)) (second (c .before))) (c .lay-pixel4 .ensures)
 
 module _ (c : tie.After-lay-pixel5) where
   abbrev high₄ : tie.Else1
   high₄ = c .before .before .before .before
 
-  fourth : Laid (leafKeys high₄) (leafFeatures high₄) 0 (start high₄ .args .key + 4) (c .before .lay-pixel4 .result .end) (c .before .lay-pixel4 .result .next) (start high₄ .args .keys .now) (start high₄ .args .bits .now) (start high₄ .args .keys .now) (start high₄ .args .bits .now) (c .lay-pixel5 .result .bits) (c .lay-pixel5 .result .next) (c .lay-pixel5 .result .end)
+  fourth : BlockLaid (leafKeys high₄) (leafFeatures high₄) 0 (start high₄ .args .key + 4) (c .before .lay-pixel4 .result .end) (c .before .lay-pixel4 .result .next) (start high₄ .args .keys .now) (start high₄ .args .bits .now) (start high₄ .args .keys .now) (start high₄ .args .bits .now) (c .lay-pixel5 .result .bits) (c .lay-pixel5 .result .next) (c .lay-pixel5 .result .end)
   fourth = laid-pixel (ready-se _ _ 0 _ 1 _ _ refl (high₄ .if1 .left) (start high₄ .pre .1) (first (c .before .before .before)) (second (c .before .before)) (third (c .before))) (c .lay-pixel5 .ensures)
 
 read-byte : tie.Need-mul-if1

@@ -1,12 +1,12 @@
 -- `pick::pick` meets its contract: after each turn the leaves of the records passed are written, one after the other.
 use Prim.Native.Nat.{_-_}
 use native.Mathlib.Omega.{arith}
-use Rattle.leaves.proofs.Picking.{Picked, picks-begin, picks-fit, picks-go-on, picks-end, keys-as-long, features-as-long}
+use Rattle.leaves.proofs.Picking.{PickedLeaves, picks-begin, picks-fit, picks-go-on, picks-end, keys-as-long, features-as-long}
 use Rattle.leaves.proofs.pick.pick.Statement.{statement}
 use Rattle.leaves.proofs.pick.pick.Tie as tie
 
 abbrev Inv-loop : tie.InvT-loop
-Inv-loop keys bits n leaf-keys₀ leaf-features₀ at₀ i₀ leaf-keys leaf-features at i = Picked keys bits n leaf-keys₀ leaf-features₀ leaf-keys leaf-features at i
+Inv-loop keys bits n leaf-keys₀ leaf-features₀ at₀ i₀ leaf-keys leaf-features at i = PickedLeaves keys bits n leaf-keys₀ leaf-features₀ leaf-keys leaf-features at i
 
 abbrev μ-loop : tie.MeasureT-loop
 μ-loop keys bits n leaf-keys₀ leaf-features₀ at₀ i₀ leaf-keys leaf-features at i = n - i

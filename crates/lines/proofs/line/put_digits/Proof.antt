@@ -9,7 +9,7 @@ use Rattle.keys.specs.Key.{digitsOf}
 use Rattle.keys.proofs.Powers.{five-pos}
 use Rattle.keys.proofs.Descent.{power-down, power-whole}
 use Rattle.definitions.specs.Listing.{characterOf, digitsText}
-use Rattle.lines.specs.Put.{Put, Room}
+use Rattle.lines.specs.Put.{Put, BytesFit}
 use Rattle.lines.proofs.Going.{Going}
 use Rattle.lines.proofs.Going as going
 use Rattle.lines.proofs.Pieces.{digits-piece}
@@ -57,7 +57,7 @@ module _ {m key start : ℕ} {old out : List ℕ} {next rest step i : ℕ} (p : 
       piece =
           digits-piece m i rest (step / 5) h down ∙ ap (λ (x : ℕ). characterOf x ∷ digitsText (m - (i + 1)) (rest % (step / 5))) (sym e)
 
-      fits : Room (digitsText m key) start old → (d < 10) × Room (characterOf d ∷ []) next out
+      fits : BytesFit (digitsText m key) start old → (d < 10) × BytesFit (characterOf d ∷ []) next out
       fits r = let f = is-digit in (omega arith, going.piece-room (characterOf d ∷ []) _ (going.renamed (p .going) piece) r)
 
       goes : {later : List ℕ} {last : ℕ} → Put (characterOf d ∷ []) next out later last

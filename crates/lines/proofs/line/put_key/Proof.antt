@@ -5,7 +5,7 @@ use mathlib.Core.Bool.{Bool, cond}
 use mathlib.Core.List.{List, [], _∷_}
 use borrow.Author.Tests.{eq-eqb, ne-eqb}
 use Rattle.definitions.specs.Listing.{dash, digitsText, keyText}
-use Rattle.lines.specs.Put.{Put, Room}
+use Rattle.lines.specs.Put.{Put, BytesFit}
 use Rattle.lines.proofs.Going.{kept}
 use Rattle.lines.proofs.line.put_key.Statement.{statement}
 use Rattle.lines.proofs.line.put_key.Tie as tie
@@ -21,8 +21,8 @@ unfolding keyText
 some m key h = ap (λ (b : Bool). cond b (dash ∷ []) (digitsText m key)) (ne-eqb m 0 h)
 
 -- the same bytes have the same room, and stand the same
-same-room : (x y : List ℕ) (place : ℕ) (old : List ℕ) → x ≡ y → Room x place old → Room y place old
-same-room x y place old e r = subst (λ (l : List ℕ). Room l place old) e r
+same-room : (x y : List ℕ) (place : ℕ) (old : List ℕ) → x ≡ y → BytesFit x place old → BytesFit y place old
+same-room x y place old e r = subst (λ (l : List ℕ). BytesFit l place old) e r
 
 same-put : {x y : List ℕ} {place : ℕ} {old later : List ℕ} {next : ℕ} → x ≡ y → Put y place old later next → Put x place old later next
 same-put {place = place} {old} {later} {next} e p = subst (λ (l : List ℕ). Put l place old later next) (sym e) p

@@ -4,7 +4,7 @@ use mathlib.Core.Path.{_∙_}
 use mathlib.Core.List.{List, [], _∷_, _++_}
 use Rattle.definitions.specs.List.{recordOf}
 use Rattle.definitions.specs.Listing.{blank, lineEnd, keyText, slotsText, lineOf}
-use Rattle.lines.specs.Put.{Put, Room}
+use Rattle.lines.specs.Put.{Put, BytesFit}
 use Rattle.lines.proofs.Going.{Going, kept}
 use Rattle.lines.proofs.Going as going
 use Rattle.lines.proofs.line.put_line.Statement.{statement}
@@ -24,28 +24,28 @@ module _ (m s key bits start : ℕ) (old : List ℕ) where
   unfolding lineOf
   at-key = going.begins _ start old
 
-  key-room : Room whole start old → Room (keyText m key) start old
+  key-room : BytesFit whole start old → BytesFit (keyText m key) start old
   key-room r = going.piece-room (keyText m key) _ at-key r
 
   module _ {a : List ℕ} {i : ℕ} (one : Put (keyText m key) start old a i) where
     at-blank : Going whole ((blank ∷ []) ++ slots s bits) start old a i
     at-blank = going.goes (keyText m key) at-key one
 
-    blank-room : Room whole start old → Room (blank ∷ []) i a
+    blank-room : BytesFit whole start old → BytesFit (blank ∷ []) i a
     blank-room r = going.piece-room (blank ∷ []) _ at-blank r
 
     module _ {b : List ℕ} {j : ℕ} (two : Put (blank ∷ []) i a b j) where
       at-slots : Going whole (slots s bits) start old b j
       at-slots = going.goes (blank ∷ []) at-blank two
 
-      slots-room : Room whole start old → Room (slotsText s bits) j b
+      slots-room : BytesFit whole start old → BytesFit (slotsText s bits) j b
       slots-room r = going.piece-room (slotsText s bits) _ at-slots r
 
       module _ {d : List ℕ} {k : ℕ} (three : Put (slotsText s bits) j b d k) where
         at-end : Going whole end start old d k
         at-end = going.goes (slotsText s bits) at-slots three
 
-        end-room : Room whole start old → Room end k d
+        end-room : BytesFit whole start old → BytesFit end k d
         end-room r = going.room end at-end r
 
         ends : {e : List ℕ} {n : ℕ} → Put end k d e n → Put whole start old e n

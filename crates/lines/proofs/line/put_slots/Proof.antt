@@ -5,7 +5,7 @@ use mathlib.Core.List.{List, [], _∷_, _++_}
 use native.Mathlib.Omega.{arith}
 use native.Mathlib.Nat.{div-one}
 use Rattle.definitions.specs.Listing.{characterOf, slotsFrom, slotsText}
-use Rattle.lines.specs.Put.{Put, Room}
+use Rattle.lines.specs.Put.{Put, BytesFit}
 use Rattle.lines.proofs.Going.{Going}
 use Rattle.lines.proofs.Going as going
 use Rattle.lines.proofs.Pieces.{slots-piece, slots-down}
@@ -38,7 +38,7 @@ module _ {s bits start : ℕ} {old out : List ℕ} {next rest i : ℕ} (p : Pass
     piece =
         slots-piece s i bits rest h (p .shifted) ∙ ap (λ (x : ℕ). characterOf x ∷ slotsFrom (i + 1) (s - (i + 1)) bits) (sym e)
 
-    fits : Room (slotsText s bits) start old → (d < 10) × Room (characterOf d ∷ []) next out
+    fits : BytesFit (slotsText s bits) start old → (d < 10) × BytesFit (characterOf d ∷ []) next out
     fits r = (omega arith, going.piece-room (characterOf d ∷ []) _ (going.renamed (p .going) piece) r)
 
     goes : {later : List ℕ} {last : ℕ} → Put (characterOf d ∷ []) next out later last → Passed s bits start old later last (rest / 2) (i + 1)

@@ -3,7 +3,7 @@ use Prim.Native.Nat.{ℕ}
 use mathlib.Core.Path.{_≡_, sym, ap, _∙_}
 use mathlib.Core.List.{List, [], _∷_, _++_, append-assoc}
 use Rattle.definitions.specs.Listing.{blank, lineEnd, decimal, headLine}
-use Rattle.lines.specs.Put.{Put, Room}
+use Rattle.lines.specs.Put.{Put, BytesFit}
 use Rattle.lines.proofs.Going.{Going, kept}
 use Rattle.lines.proofs.Going as going
 use Rattle.lines.proofs.listing.put_head.Statement.{statement}
@@ -26,21 +26,21 @@ module _ (m s n : ℕ) (old : List ℕ) where
   at-m : Going (headLine m s n) (part m ++ (part s ++ end n)) 0 old old 0
   at-m = going.renamed (going.begins _ 0 old) (three m s n)
 
-  m-room : Room (headLine m s n) 0 old → Room (part m) 0 old
+  m-room : BytesFit (headLine m s n) 0 old → BytesFit (part m) 0 old
   m-room r = going.piece-room (part m) _ at-m r
 
   module _ {a : List ℕ} {i : ℕ} (one : Put (part m) 0 old a i) where
     at-s : Going (headLine m s n) (part s ++ end n) 0 old a i
     at-s = going.goes (part m) at-m one
 
-    s-room : Room (headLine m s n) 0 old → Room (part s) i a
+    s-room : BytesFit (headLine m s n) 0 old → BytesFit (part s) i a
     s-room r = going.piece-room (part s) _ at-s r
 
     module _ {b : List ℕ} {j : ℕ} (two : Put (part s) i a b j) where
       at-n : Going (headLine m s n) (end n) 0 old b j
       at-n = going.goes (part s) at-s two
 
-      n-room : Room (headLine m s n) 0 old → Room (end n) j b
+      n-room : BytesFit (headLine m s n) 0 old → BytesFit (end n) j b
       n-room r = going.room (end n) at-n r
 
       ends : {d : List ℕ} {k : ℕ} → Put (end n) j b d k → Put (headLine m s n) 0 old d k

@@ -7,7 +7,7 @@ use lib.ListN.{drop, getD}
 use Rattle.definitions.specs.List.{recordOf}
 use Rattle.definitions.specs.Read.{recordsOf}
 use Rattle.definitions.specs.Listing.{lineOf, linesOf}
-use Rattle.lines.specs.Put.{Put, Room, Records}
+use Rattle.lines.specs.Put.{Put, BytesFit, Records}
 use Rattle.lines.proofs.Going.{Going}
 use Rattle.lines.proofs.Going as going
 use Rattle.lines.proofs.Records.{lines-piece, lines-none}
@@ -43,7 +43,7 @@ module _ {m s : ℕ} {keys bits : List ℕ} {n start : ℕ} {old out : List ℕ}
     at-line : Going (linesOf m s (recordsOf keys bits n)) (line ++ left m s keys bits n (i + 1)) start old out next
     at-line = going.renamed (p .going) (lines-piece keys bits n i h (r .keys-hold) (r .bits-hold) m s)
 
-    asked : Room (linesOf m s (recordsOf keys bits n)) start old → (m ≤ 10) × (getD keys i 0 < 5 ^ m) × Room line next out
+    asked : BytesFit (linesOf m s (recordsOf keys bits n)) start old → (m ≤ 10) × (getD keys i 0 < 5 ^ m) × BytesFit line next out
     asked room = (r .resolution, r .digits i h, going.piece-room line _ at-line room)
 
     goes : {later : List ℕ} {last : ℕ} → Put line next out later last → Passed m s keys bits n start old later last (i + 1)

@@ -5,7 +5,7 @@ use mathlib.Core.List.{List, _++_}
 use Rattle.definitions.specs.Read.{recordsOf}
 use Rattle.laws.proofs.Records.{records-length}
 use Rattle.definitions.specs.Listing.{headLine, linesOf, listing}
-use Rattle.lines.specs.Put.{Put, Room, Records}
+use Rattle.lines.specs.Put.{Put, BytesFit, Records}
 use Rattle.lines.proofs.Going.{Going, kept}
 use Rattle.lines.proofs.Going as going
 use Rattle.lines.proofs.listing.put_listing.Statement.{statement}
@@ -25,14 +25,14 @@ module _ (m s : ℕ) (keys bits : List ℕ) (n : ℕ) (old : List ℕ) (r : Reco
   at-head : Going whole (headLine m s n ++ lines) 0 old old 0
   at-head = going.renamed (going.begins _ 0 old) parts
 
-  head-room : Room whole 0 old → Room (headLine m s n) 0 old
+  head-room : BytesFit whole 0 old → BytesFit (headLine m s n) 0 old
   head-room room = going.piece-room (headLine m s n) lines at-head room
 
   module _ {a : List ℕ} {i : ℕ} (one : Put (headLine m s n) 0 old a i) where
     at-lines : Going whole lines 0 old a i
     at-lines = going.goes (headLine m s n) at-head one
 
-    lines-room : Room whole 0 old → Room lines i a
+    lines-room : BytesFit whole 0 old → BytesFit lines i a
     lines-room room = going.room lines at-lines room
 
     ends : {b : List ℕ} {j : ℕ} → Put lines i a b j → Put whole 0 old b j

@@ -4,7 +4,7 @@ use mathlib.Core.Path.{_∙_}
 use mathlib.Core.List.{List, [], _∷_, _++_}
 use borrow.Author.Needs.{needs}
 use Rattle.definitions.specs.Listing.{blank, lineEnd, refused, decimal, refusalLine}
-use Rattle.lines.specs.Put.{Put, Room}
+use Rattle.lines.specs.Put.{Put, BytesFit}
 use Rattle.lines.proofs.Going.{Going, kept}
 use Rattle.lines.proofs.Going as going
 use Rattle.lines.proofs.listing.put_refusal.Statement.{statement}
@@ -21,14 +21,14 @@ module _ (number : ℕ) (old : List ℕ) where
   unfolding refusalLine
   at-word = going.begins _ 0 old
 
-  word-room : Room (refusalLine number) 0 old → Room word 0 old
+  word-room : BytesFit (refusalLine number) 0 old → BytesFit word 0 old
   word-room r = going.piece-room word (end number) at-word r
 
   module _ {a : List ℕ} {i : ℕ} (one : Put word 0 old a i) where
     at-number : Going (refusalLine number) (end number) 0 old a i
     at-number = going.goes word at-word one
 
-    number-room : Room (refusalLine number) 0 old → Room (end number) i a
+    number-room : BytesFit (refusalLine number) 0 old → BytesFit (end number) i a
     number-room r = going.room (end number) at-number r
 
     ends : {b : List ℕ} {j : ℕ} → Put (end number) i a b j → Put (refusalLine number) 0 old b j

@@ -7,7 +7,7 @@ use lib.ListN.{length}
 use borrow.Fn.Kinds.{In}
 use borrow.Fn.PlainCycle.{Measures, is, falls, and}
 use Rattle.definitions.specs.Listing.{characterOf, decimal}
-use Rattle.lines.specs.Put.{Put, Room}
+use Rattle.lines.specs.Put.{Put, BytesFit}
 use Rattle.lines.proofs.Going.{Going}
 use Rattle.lines.proofs.Going as going
 use Rattle.lines.proofs.Pieces.{decimal-digit, decimal-tenth}
@@ -32,7 +32,7 @@ claims t = (put-digit-reads.Asked, put-digit-reads.Learnt, below t, put-number.P
 
 module _ (x start : ℕ) (old : List ℕ) where
   -- below ten
-  one : x < 10 → Room (decimal x) start old → (x < 10) × Room (characterOf x ∷ []) start old
+  one : x < 10 → BytesFit (decimal x) start old → (x < 10) × BytesFit (characterOf x ∷ []) start old
   one h r = let l = ap length (decimal-digit x h) in (h, record { fits = omega arith })
 
   digit : x < 10 → {later : List ℕ} {next : ℕ} → Put (characterOf x ∷ []) start old later next → Put (decimal x) start old later next
@@ -42,14 +42,14 @@ module _ (x start : ℕ) (old : List ℕ) where
     starts : Going (decimal x) (decimal (x / 10) ++ (characterOf (x % 10) ∷ [])) start old old start
     starts = going.renamed (going.begins _ start old) (decimal-tenth x h)
 
-    tenth-fits : (t : ℕ) → x ≡ t → Room (decimal x) start old → (x / 10 < t) × Room (decimal (x / 10)) start old
+    tenth-fits : (t : ℕ) → x ≡ t → BytesFit (decimal x) start old → (x / 10 < t) × BytesFit (decimal (x / 10)) start old
     tenth-fits t e r = (omega arith, going.piece-room (decimal (x / 10)) _ starts r)
 
     module _ {later : List ℕ} {last : ℕ} (put : Put (decimal (x / 10)) start old later last) where
       goes : Going (decimal x) (characterOf (x % 10) ∷ []) start old later last
       goes = going.goes _ starts put
 
-      last-fits : Room (decimal x) start old → (x % 10 < 10) × Room (characterOf (x % 10) ∷ []) last later
+      last-fits : BytesFit (decimal x) start old → (x % 10 < 10) × BytesFit (characterOf (x % 10) ∷ []) last later
       last-fits r = (omega arith, going.room _ goes r)
 
       ends : {final : List ℕ} {next : ℕ} → Put (characterOf (x % 10) ∷ []) last later final next → Put (decimal x) start old final next

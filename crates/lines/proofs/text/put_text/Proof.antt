@@ -6,7 +6,7 @@ use native.Mathlib.Omega.{arith}
 use native.Mathlib.Numerals.{add-one}
 use lib.ListN.{length, drop, getD, drop-of-length-le}
 use lib.Seq.{drop-cons}
-use Rattle.lines.specs.Put.{Put, Room}
+use Rattle.lines.specs.Put.{Put, BytesFit}
 use Rattle.lines.proofs.Going.{Going}
 use Rattle.lines.proofs.Going as going
 use Rattle.lines.proofs.text.put_text.Statement.{statement}
@@ -30,7 +30,7 @@ module _ {text : List ℕ} {start : ℕ} {old out : List ℕ} {next i : ℕ} (p 
     piece : drop i text ≡ (getD text i 0 ∷ []) ++ drop (i + 1) text
     piece = drop-cons text i 0 h ∙ ap (λ (k : ℕ). getD text i 0 ∷ drop k text) (sym (add-one i))
 
-    fits : Room text start old → Room (getD text i 0 ∷ []) next out
+    fits : BytesFit text start old → BytesFit (getD text i 0 ∷ []) next out
     fits r = going.piece-room _ _ (going.renamed (p .going) piece) r
 
     goes : {later : List ℕ} {last : ℕ} → Put (getD text i 0 ∷ []) next out later last → Passed text start old later last (i + 1)

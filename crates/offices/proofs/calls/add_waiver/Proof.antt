@@ -6,7 +6,7 @@ use Rattle.definitions.specs.Offices.{waiverOf, tableOf}
 use Rattle.definitions.specs.Calls.AddWaiver.{addRefusal}
 use Rattle.offices.specs.Place.{rowPlace, opened}
 use borrow.Author.Needs.{needs}
-use Rattle.offices.proofs.Checked.{Places}
+use Rattle.offices.proofs.Checked.{TablePlaces}
 use Rattle.offices.proofs.Decided.{decided-number, decided-place, add-passed, add-room, place-low, places}
 use Rattle.offices.proofs.Answers.{add-refused, add-result, add-offices, add-ids, add-keys}
 use Rattle.offices.proofs.calls.add_waiver.Statement.{statement}
@@ -24,7 +24,7 @@ place-is : (c : tie.Else1) → c .before .before .to-add .result .place
 place-is c = ap (λ d. d .place) (c .before .before .to-add .ensures) ∙ decided-place _ _ (done c)
 
 -- there is a place for the row in each slice
-fits : (c : tie.Else1) → (c .before .before .to-add .result .place ≤ entry c .args .rows) × (entry c .args .rows < 512) × Places (entry c .args .offices .now) (entry c .args .ids .now) (entry c .args .waived .now) (entry c .args .rows)
+fits : (c : tie.Else1) → (c .before .before .to-add .result .place ≤ entry c .args .rows) × (entry c .args .rows < 512) × TablePlaces (entry c .args .offices .now) (entry c .args .ids .now) (entry c .args .waived .now) (entry c .args .rows)
 fits c =
     let p = add-passed _ _ _ _ _ _ _ _ (done c) in
     let at = place-is c in

@@ -5,12 +5,12 @@ use native.Mathlib.Omega.{arith}
 use borrow.Author.Tests.{not-true, not-false}
 use Rattle.definitions.specs.Offices.{Holds}
 use borrow.Author.Needs.{needs}
-use Rattle.offices.proofs.Counted.{Ascending, order-begins, order-fails, order-goes-on, order-ends}
+use Rattle.offices.proofs.Counted.{RowsDecide, order-begins, order-fails, order-goes-on, order-ends}
 use Rattle.offices.proofs.check.rows_ascend.Statement.{statement}
 use Rattle.offices.proofs.check.rows_ascend.Tie as tie
 
 abbrev Inv-loop : tie.InvT-loop
-Inv-loop offices ids waived rows i₀ i = (h : Holds offices ids waived rows) → Ascending offices ids waived rows h i
+Inv-loop offices ids waived rows i₀ i = (h : Holds offices ids waived rows) → RowsDecide offices ids waived rows h i
 
 abbrev μ-loop : tie.MeasureT-loop
 μ-loop offices ids waived rows i₀ i = rows - i
@@ -20,7 +20,7 @@ abbrev entry : tie.At-loop Inv-loop μ-loop → tie.Start Inv-loop μ-loop
 entry c = c .before .before .before .before
 
 -- what is known there
-at-head : (c : tie.At-loop Inv-loop μ-loop) → Ascending (entry c .args .offices .now) (entry c .args .ids .now) (entry c .args .waived .now) (entry c .args .rows) (entry c .pre) (c .loop .i)
+at-head : (c : tie.At-loop Inv-loop μ-loop) → RowsDecide (entry c .args .offices .now) (entry c .args .ids .now) (entry c .args .waived .now) (entry c .args .rows) (entry c .pre) (c .loop .i)
 at-head c = c .loop .inv (entry c .pre)
 
 loop-holds : tie.Need-loop-holds Inv-loop μ-loop

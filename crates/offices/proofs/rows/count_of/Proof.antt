@@ -4,12 +4,12 @@ use mathlib.Core.Logic.{⊎-elim}
 use native.Mathlib.Omega.{arith}
 use lib.ListN.{length}
 use borrow.Author.Needs.{needs}
-use Rattle.offices.proofs.Counted.{Counting, count-begins, count-found, count-passed, count-ends}
+use Rattle.offices.proofs.Counted.{OfficeCounting, count-begins, count-found, count-passed, count-ends}
 use Rattle.offices.proofs.rows.count_of.Statement.{statement}
 use Rattle.offices.proofs.rows.count_of.Tie as tie
 
 abbrev Inv-loop : tie.InvT-loop
-Inv-loop offices rows office count₀ i₀ count i = (h : rows ≤ length offices) → Counting office offices rows h i count
+Inv-loop offices rows office count₀ i₀ count i = (h : rows ≤ length offices) → OfficeCounting office offices rows h i count
 
 abbrev μ-loop : tie.MeasureT-loop
 μ-loop offices rows office count₀ i₀ count i = rows - i

@@ -41,9 +41,9 @@ use Rattle.definitions.proofs.Rule as Rule
 use Rattle.definitions.proofs.Found as Found
 use Rattle.definitions.proofs.Found.Laws as Found′
 use Rattle.rules.specs.Run.{progressOf, afterRun}
-use Rattle.rules.specs.declared.state.State.{State}
-use Rattle.rules.proofs.state.State as State
-use Rattle.rules.proofs.state.State.Laws as State′
+use Rattle.rules.specs.declared.state.RunState.{RunState}
+use Rattle.rules.proofs.state.RunState as RunState
+use Rattle.rules.proofs.state.RunState.Laws as State′
 use Rattle.lending.proofs.Locals.{Content, empty, holds, at, Addresses, envOf, Held, in-local, allocates, frees-all}
 use Rattle.lending.proofs.Slices.{Slice, val, typed-slice, token, shared}
 use Rattle.lending.proofs.Chains.{apart, together}
@@ -107,8 +107,8 @@ module _ {M : Type 1} (𝓤 : URA M) (H : Heap 𝓤) (A : Atoms 𝓤) (W : Given
           ∷ holds (val (S .waiver-ids)) ∷ holds (val (S .waiver-keys)) ∷ holds (vint w64 rows) ∷ holds (val (S .found-ids)) ∷ holds (val (S .found-keys)) ∷ cs)
 
       -- what `begin_next` makes of the state r
-      abbrev Nexts : State → Type 0
-      Nexts r = Returned State.the-type State′.the-laws (λ r′. r′ ≡ afterRun r)
+      abbrev Nexts : RunState → Type 0
+      Nexts r = Returned RunState.the-type State′.the-laws (λ r′. r′ ≡ afterRun r)
 
       -- the two lengths, and the answer slices as they were written again for a run
       abbrev lengths : List Content
@@ -118,7 +118,7 @@ module _ {M : Type 1} (𝓤 : URA M) (H : Heap 𝓤) (A : Atoms 𝓤) (W : Given
       written-again = holds (vptr (S .found-ids .x .ptr .0) (S .found-ids .x .ptr .1)) ∷ holds (val (S .found-ids)) ∷ holds (vptr (S .found-keys .x .ptr .0) (S .found-keys .x .ptr .1)) ∷ holds (val (S .found-keys)) ∷ []
 
       -- the state that `begin` made is r₀
-      module _ (r₀ : State) (is₀ : Is State.the-row r₀ (stateVals r₀)) (e₀ : Begun S offices m s n office rows r₀) where
+      module _ (r₀ : RunState) (is₀ : Is RunState.the-row r₀ (stateVals r₀)) (e₀ : Begun S offices m s n office rows r₀) where
         ready₀ : ReadyAt S (progressOf r₀ ids keys)
         ready₀ = checking-ready m s K B n office (rules .x .now) (offices .x .now) WI WK rows ids keys r₀ e₀
 

@@ -38,8 +38,8 @@ use denote.Triple.Walked.{stay-dropped, Goes, Silent, goes-dropped, goes-slice, 
 use Rattle.definitions.proofs.Question as Question
 use Rattle.definitions.proofs.Counted as Counted
 use Rattle.definitions.proofs.Counted.Laws as Counted′
-use Rattle.batch.specs.declared.begin.State.{State}
-use Rattle.batch.proofs.begin.State as State
+use Rattle.batch.specs.declared.begin.BatchState.{BatchState}
+use Rattle.batch.proofs.begin.BatchState as BatchState
 use Rattle.lending.proofs.Locals.{empty, holds, at, Addresses, envOf, Held, in-local, allocates, frees-all}
 use Rattle.lending.proofs.Slices.{Slice, val, typed-slice, token, shared}
 use Rattle.lending.proofs.Reborrow.{reborrows}
@@ -81,14 +81,14 @@ module _ {M : Type 1} (𝓤 : URA M) (H : Heap 𝓤) (A : Atoms 𝓤) (W : Given
       En = envOf 𝓤 H (code.function .locals) l
 
       -- what is held when `begin` has made the state r
-      abbrev After : State → List (Item 𝓤)
+      abbrev After : BatchState → List (Item 𝓤)
       After r = ‵ (shared questions) ∷ ‵ (token questions) ∷ ‵ (reads S) ∷ ‵ (tokens S) ∷ ‵ (answers S refusals values)
           ∷ Held 𝓤 H En (empty ∷ holds (vint w32 m) ∷ holds (vint w32 s) ∷ holds (val (S .keys)) ∷ holds (val (S .bits)) ∷ holds (vint w64 n) ∷ holds (val questions)
           ∷ holds (val (S .refusals)) ∷ holds (val (S .values)) ∷ holds (valOf r) ∷ empty
           ∷ holds (vint w64 (length (questions .x .now))) ∷ holds (vint w64 (length refusals)) ∷ holds (vint w64 (length values)) ∷ [])
 
       -- the run over the questions, and the answer
-      asks : (r : State) → Is State.the-row r (stateVals r) → Begun questions S m s n r → Sq W (After r) (runs C Λ En mir.t-5 (atRet En Post))
+      asks : (r : BatchState) → Is BatchState.the-row r (stateVals r) → Begun questions S m s n r → Sq W (After r) (runs C Λ En mir.t-5 (atRet En Post))
       asks r is begun =
           -- let asked = run::run(questions, keys, bits, refusals, values, begun)
           reborrows ! (at 5 7) (at 5 14) (at 5 15) refl refl refl (tt, tt) refl refl refl (typed-slice (S .refusals)) $

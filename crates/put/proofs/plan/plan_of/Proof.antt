@@ -4,13 +4,13 @@ use native.Mathlib.Omega.{arith}
 use Rattle.list.proofs.Own.{own-sorted}
 use Rattle.list.proofs.Fuller.{near-root}
 use Rattle.put.proofs.PlanTop.{top-fits}
-use Rattle.put.proofs.PlanPlaces.{Filled, filled-by, filled-until, filled-step, filled-asked, key-below, plan-listed, plan-high, plan-inside}
+use Rattle.put.proofs.PlanPlaces.{FilledBlock, filled-by, filled-until, filled-step, filled-asked, key-below, plan-listed, plan-high, plan-inside}
 use borrow.Author.Needs.{needs}
 use Rattle.put.proofs.plan.plan_of.Statement.{statement}
 use Rattle.put.proofs.plan.plan_of.Tie as tie
 
 -- what holds once the step is known
-at-power : (c : tie.After-power-of-five) → Filled (c .before .before .before .before .args .m) (c .before .before .before .before .args .key) (c .before .top-of .result) (c .power-of-five .result)
+at-power : (c : tie.After-power-of-five) → FilledBlock (c .before .before .before .before .args .m) (c .before .before .before .before .args .key) (c .before .top-of .result) (c .power-of-five .result)
 at-power c = let start = c .before .before .before .before in filled-by _ _ _ (start .pre .0 .0) (start .pre .0 .1) (c .before .top-of .ensures) (c .power-of-five .ensures)
 
 top-of-requires : tie.Need-top-of-requires

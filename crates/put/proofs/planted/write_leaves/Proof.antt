@@ -9,7 +9,7 @@ use lib.ListN.{length, set, length-set}
 use lib.Seq.{sets}
 use Rattle.definitions.specs.List.{keysOf, valuesOf}
 use Rattle.put.specs.Plant.{leaves}
-use Rattle.put.specs.Planting.{Wrote}
+use Rattle.put.specs.Planting.{WroteFrom}
 use Rattle.put.proofs.Field.{leaves-length}
 use Rattle.put.proofs.planted.write_leaves.Statement.{statement}
 use Rattle.put.proofs.planted.write_leaves.Tie as tie
@@ -70,7 +70,7 @@ module _ {keys₀ bits₀ : List ℕ} {at parent step first count g : ℕ} {keys
       next : first + (done + 1) ≡ suc (first + done)
       next = omega arith
 
-  ends : count ≤ done → (h : ℕ) → step ≡ 5 ^ h → Wrote (leaves g parent h count first) at keys₀ bits₀ keys bits place
+  ends : count ≤ done → (h : ℕ) → step ≡ 5 ^ h → WroteFrom (leaves g parent h count first) at keys₀ bits₀ keys bits place
   unfolding leaves
   ends over h e =
       let none : count - done ≡ 0 = omega arith in

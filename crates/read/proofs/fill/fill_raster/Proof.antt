@@ -11,7 +11,7 @@ use Rattle.definitions.specs.Bits.{featureOf}
 use Rattle.definitions.specs.Window.{featuresOfRows}
 use Rattle.list.specs.Check.{oneSlot}
 use Rattle.list.specs.Own.{OwnList, shownBy}
-use Rattle.read.specs.Fill.{rectanglePainted, Shows, Filled}
+use Rattle.read.specs.Fill.{rectanglePainted, Shows, NodeFilled}
 use Rattle.list.proofs.Own.{own-values}
 use Rattle.read.proofs.Shown.{shows-room, shows-square, leaf-painted, node-asked, node-filled}
 use Rattle.read.proofs.Rows.{whole-painted}
@@ -54,7 +54,7 @@ module _ {m : ℕ} {keys bits : List ℕ} {n : ℕ} (o : OwnList m keys bits n) 
 
     node-end : (next : ℕ)
         → oneSlot (getD bits 0 0) ≡ false
-        → Filled bits 0 side 0 side before after next
+        → NodeFilled bits 0 side 0 side before after next
         → after ≡ featuresOfRows (shownBy m keys bits n) 0 0 (2 ^ m) (2 ^ m)
     node-end next node f =
         let s : Shows (shownBy m keys bits n) m 0 0 rootKey bits 0 side 0 side (length before) = rw is root-shows in

@@ -46,9 +46,9 @@ use Rattle.definitions.specs.declared.Rule.{Rule}
 use Rattle.definitions.proofs.Rule as Rule
 use Rattle.definitions.proofs.Rule.Laws as Rule′
 use Rattle.rules.specs.Run.{progressOf, TableReady}
-use Rattle.rules.specs.declared.state.State.{State}
-use Rattle.rules.proofs.state.State as State
-use Rattle.rules.proofs.state.State.Laws as State′
+use Rattle.rules.specs.declared.state.RunState.{RunState}
+use Rattle.rules.proofs.state.RunState as RunState
+use Rattle.rules.proofs.state.RunState.Laws as State′
 use Rattle.rules.proofs.Fold.{noRule}
 use Rattle.lending.proofs.Locals.{Content, empty, holds, at, Addresses, envOf, Held, in-local, allocates, frees-all}
 use Rattle.lending.proofs.Slices.{Slice, val, typed-slice, token}
@@ -70,8 +70,8 @@ use Rattle.rules.proofs.all_rules.run.Code.Mir as mir
 ruleTells : Tells Rule.the-row (Is Rule.the-row) ruleVals
 ruleTells = LL.tells Rule.the-type Rule′.the-laws
 
-module _ {M : Type 1} (𝓤 : URA M) (H : Heap 𝓤) (A : Atoms 𝓤) (W : Given 𝓤 H A) (mem : Memory → SProp 𝓤) (run : Routine → Fun 𝓤) (rules : Slice Rule.the-row) (S : RunSlices) (state : State)
-    (fits : Is State.the-row state (stateVals state)) (ready : ReadyAt S (entry S (rules .x .now) state))
+module _ {M : Type 1} (𝓤 : URA M) (H : Heap 𝓤) (A : Atoms 𝓤) (W : Given 𝓤 H A) (mem : Memory → SProp 𝓤) (run : Routine → Fun 𝓤) (rules : Slice Rule.the-row) (S : RunSlices) (state : RunState)
+    (fits : Is RunState.the-row state (stateVals state)) (ready : ReadyAt S (entry S (rules .x .now) state))
     (𝓣 : Tables 𝓤 H) (known : Triple 𝓤 (𝓣 .C #step) (Step 𝓤 H A mem run)) where
   abbrev Turns : Type 0
   Turns = Turn S (rules .x .now) state
@@ -208,7 +208,7 @@ module _ {M : Type 1} (𝓤 : URA M) (H : Heap 𝓤) (A : Atoms 𝓤) (W : Given
               shr-slice-tells (named 3) (κs .1 .1 .1 .0) u32,
               (
                 shr-slice-tells (named 4) (κs .1 .1 .1 .1 .0) u32,
-                (mut-slice-tells (named 5) (κs .1 .1 .1 .1 .1 .0) u32, (mut-slice-tells (named 6) (κs .1 .1 .1 .1 .1 .1 .0) u32, (LL.tells State.the-type State′.the-laws, tt))),
+                (mut-slice-tells (named 5) (κs .1 .1 .1 .1 .1 .0) u32, (mut-slice-tells (named 6) (κs .1 .1 .1 .1 .1 .1 .0) u32, (LL.tells RunState.the-type State′.the-laws, tt))),
               ),
             ),
           ),
@@ -233,8 +233,8 @@ module _ {M : Type 1} (𝓤 : URA M) (H : Heap 𝓤) (A : Atoms 𝓤) (W : Given
       rules-go : Goes 𝓤 H A W 7 (shrSliceOf (0 ∷ []) tt (plain (λ _. Rule.the-row))) yes (stay-dropped (shrSliceOf (0 ∷ []) tt (plain (λ _. Rule.the-row))) yes)
       rules-go = goes-dropped 𝓤 H A W 7 (shrSliceOf (0 ∷ []) tt (plain (λ _. Rule.the-row))) yes (λ κs x f. refl)
 
-      state-goes : Goes 𝓤 H A W 7 (plain (λ _. State.the-row)) yes (stay-dropped (plain (λ _. State.the-row)) yes)
-      state-goes = goes-dropped 𝓤 H A W 7 (plain (λ _. State.the-row)) yes (λ κs x f. refl)
+      state-goes : Goes 𝓤 H A W 7 (plain (λ _. RunState.the-row)) yes (stay-dropped (plain (λ _. RunState.the-row)) yes)
+      state-goes = goes-dropped 𝓤 H A W 7 (plain (λ _. RunState.the-row)) yes (λ κs x f. refl)
 
       shared-goes : (j : ℕ) (ok : AllWithin 7 (j ∷ [])) → Goes 𝓤 H A W 7 (shrSliceOf (j ∷ []) ok (plain (λ _. u32))) yes (stay-dropped (shrSliceOf (j ∷ []) ok (plain (λ _. u32))) yes)
       shared-goes j ok = goes-dropped 𝓤 H A W 7 (shrSliceOf (j ∷ []) ok (plain (λ _. u32))) yes (λ κs x f. refl)

@@ -5,7 +5,7 @@ use mathlib.Core.Bool.{true}
 use native.Mathlib.Omega.{arith}
 use borrow.Author.Needs.{needs}
 use borrow.Author.Tests.{not-true, not-false}
-use Rattle.rules.specs.Run.{Progress, progressOf, mayCome, Fine}
+use Rattle.rules.specs.Run.{Progress, progressOf, mayCome, RulesFine}
 use Rattle.rules.proofs.StepCases.{isFaulty, step-stopped, step-rests, step-bad, step-faulty, step-good}
 use Rattle.rules.proofs.StepWrong.{wrong-is, gatherable}
 use Rattle.rules.proofs.one_rule.own_step.Statement.{statement}
@@ -22,7 +22,7 @@ progress s = progressOf (s .args .state) (s .args .found-ids .now) (s .args .fou
 -- the run is not refused
 fine : (c : tie.Else1)
     → (let s = entry (c .before) in
-    Fine (s .args .keys .now) (s .args .bits .now) (s .args .waiver-ids .now) (s .args .waiver-keys .now) (progress s))
+    RulesFine (s .args .keys .now) (s .args .bits .now) (s .args .waiver-ids .now) (s .args .waiver-keys .now) (progress s))
 fine c = entry (c .before) .pre .fine (c .if1 .left)
 
 -- and passes over no rule, from there to the entry

@@ -8,7 +8,7 @@ use borrow.Author.Tests.{leb-true, le-leb}
 use Rattle.keys.proofs.Cases.{same-test}
 use Rattle.definitions.specs.Window.{isWindow}
 use Rattle.definitions.specs.declared.Window.{Window}
-use Rattle.walk.proofs.Lies.{accepted, window-accepted, no-window}
+use Rattle.walk.proofs.Lies.{accepted-window, window-accepted, no-window}
 use Rattle.walk.proofs.bounds.is_window.Statement.{statement}
 use Rattle.walk.proofs.bounds.is_window.Tie as tie
 
@@ -17,7 +17,7 @@ last : (m : ℕ) (w : Window) (side : ℕ) → side ≡ 2 ^ m → (w .height ≡
     → leb (w .column) (side - w .width) ≡ isWindow m w
 last m w side e some-row some-column high low wide =
     same-test (leb (w .column) (side - w .width)) (isWindow m w) (λ h. let j = leb-true (w .column) (side - w .width) h in window-accepted m w (omega arith))
-    (λ h. let a = accepted m w h in le-leb (w .column) (side - w .width) (omega arith))
+    (λ h. let a = accepted-window m w h in le-leb (w .column) (side - w .width) (omega arith))
 
 power-of-two-requires : tie.Need-power-of-two-requires
 power-of-two-requires c κs = search needs

@@ -12,7 +12,7 @@ use Rattle.definitions.specs.Calls.Exist.{existRefusal}
 use Rattle.definitions.specs.Window.{isWindow}
 use Rattle.list.specs.Own.{OwnList}
 use Rattle.list.proofs.Own.{own-list}
-use Rattle.walk.proofs.Lies.{accepted}
+use Rattle.walk.proofs.Lies.{accepted-window}
 use Rattle.window.proofs.Tables.{exist-passed, exist-below}
 use Rattle.window.proofs.Answers.{select-refused, select-at-once, select-twelve, select-written, counting-leaves}
 use Rattle.window.proofs.calls.select.Statement.{statement}
@@ -48,7 +48,7 @@ returns c = let a = select-refused _ _ _ _ _ _ _ _ _ (c .before .feature-refusal
 pixels-of-requires : tie.Need-pixels-of-requires
 pixels-of-requires c κs =
     let a = asks c in
-    let w = accepted _ _ (a .1) in
+    let w = accepted-window _ _ (a .1) in
     let two = two-le 10 (a .0) in
     omega arith
 

@@ -11,7 +11,7 @@ use Rattle.list.specs.declared.standing.Which.the-variants.{Listed, Inside}
 use Rattle.list.specs.Own.{shownBy}
 use Rattle.list.specs.Sorted.{Near}
 use Rattle.list.proofs.Own.{own-sorted}
-use Rattle.walk.specs.Walk.{Stands, isApart}
+use Rattle.walk.specs.Walk.{BlockSpot, isApart}
 use Rattle.walk.proofs.Lies.{small}
 use Rattle.walk.proofs.Steps.{Parent, few-keys, clear-apart, clear-first, cut-parent, first-less, follows-at, follows-gone}
 use Rattle.walk.proofs.Asked.{asked-listed, asked-inside, near-which}
@@ -42,7 +42,7 @@ Turn = tie.At-loop Inv-loop μ-loop Inv-walk μ-walk
 abbrev entry : Turn → tie.Start Inv-loop μ-loop Inv-walk μ-walk
 entry c = c .before .before .before .before .before .before
 
-abbrev stands : (c : Turn) → Stands (entry c .args .m) (c .loop .spot)
+abbrev stands : (c : Turn) → BlockSpot (entry c .args .m) (c .loop .spot)
 stands c = c .loop .inv .0 .stands
 
 -- nothing is seen below a key
@@ -216,7 +216,7 @@ abbrev turn : tie.After-next Inv-loop μ-loop Inv-walk μ-walk → Turn
 turn c = c .before .before .before .before .before
 
 follows : (c : tie.After-next Inv-loop μ-loop Inv-walk μ-walk)
-    → Stands (entry (turn c) .args .m) (c .next .given .0 .0) × (c .next .given .0 .0 .key ≡ turn c .loop .spot .key + turn c .loop .spot .step)
+    → BlockSpot (entry (turn c) .args .m) (c .next .given .0 .0) × (c .next .given .0 .0 .key ≡ turn c .loop .spot .key + turn c .loop .spot .step)
 follows c = follows-at _ _ _ _ (c .before .before .after .ensures) (c .next .given .1)
 
 walk-less : tie.Need-walk-less Inv-loop μ-loop Inv-walk μ-walk

@@ -13,10 +13,10 @@ use Rattle.list.specs.Own.{shownBy}
 use Rattle.list.specs.Sorted.{Near}
 use Rattle.list.specs.Among.{placeAmong}
 use Rattle.list.proofs.Own.{own-sorted}
-use Rattle.walk.specs.Walk.{Stands, isApart}
+use Rattle.walk.specs.Walk.{BlockSpot, isApart}
 use Rattle.walk.proofs.Lies.{small}
 use Rattle.walk.proofs.Steps.{Parent, few-keys, clear-apart, clear-first, cut-parent, first-less, follows-at, follows-gone}
-use Rattle.walk.proofs.Asked.{Asked, asked-place, near-place}
+use Rattle.walk.proofs.Asked.{PlaceAsked, asked-place, near-place}
 use Rattle.walk.proofs.Going.{Going, going-root, going-first, going-on, going-less}
 use Rattle.window.proofs.Gathered.{Gathered, gathered-none, gathered-clear, gathered-block, gathered-whole, gathered-nothing, gathered-end}
 use Rattle.window.proofs.report.report_in.Statement.{statement}
@@ -47,7 +47,7 @@ Turn = tie.At-loop2 Inv-loop2 μ-loop2 Inv-loop μ-loop
 abbrev entry : Turn → tie.Start Inv-loop2 μ-loop2 Inv-loop μ-loop
 entry c = c .before .before .before .before .before
 
-abbrev stands : (c : Turn) → Stands (entry c .args .m) (c .loop2 .spot)
+abbrev stands : (c : Turn) → BlockSpot (entry c .args .m) (c .loop2 .spot)
 stands c = c .loop2 .inv .0 .stands
 
 -- what is gathered below a key
@@ -62,7 +62,7 @@ NearAt c from = Near (entry c .args .keys .now) (entry c .args .n) from (c .loop
 
 -- the record where the turn's block stands
 asked : (c : Turn) (place : ℕ) → place ≡ placeAmong (c .loop2 .spot .key) (take (entry c .args .n) (entry c .args .keys .now))
-    → Asked (entry c .args .m) (entry c .args .keys .now) (entry c .args .bits .now) (entry c .args .n) (stands c .height) (c .loop2 .spot .row)
+    → PlaceAsked (entry c .args .m) (entry c .args .keys .now) (entry c .args .bits .now) (entry c .args .n) (stands c .height) (c .loop2 .spot .row)
     (c .loop2 .spot .column) place
 asked c place e = asked-place (entry c .pre .2) (stands c .block) place e
 
@@ -180,7 +180,7 @@ abbrev turn : tie.After-next Inv-loop2 μ-loop2 Inv-loop μ-loop → Turn
 turn c = c .before .before .before .before .before
 
 follows : (c : tie.After-next Inv-loop2 μ-loop2 Inv-loop μ-loop)
-    → Stands (entry (turn c) .args .m) (c .next .given .0 .0) × (c .next .given .0 .0 .key ≡ turn c .loop2 .spot .key + turn c .loop2 .spot .step)
+    → BlockSpot (entry (turn c) .args .m) (c .next .given .0 .0) × (c .next .given .0 .0 .key ≡ turn c .loop2 .spot .key + turn c .loop2 .spot .step)
 follows c = follows-at _ _ _ _ (c .before .before .after .ensures) (c .next .given .1)
 
 loop-less : tie.Need-loop-less Inv-loop2 μ-loop2 Inv-loop μ-loop

@@ -17,7 +17,7 @@ use Rattle.list.specs.Check.{oneSlot}
 use Rattle.list.specs.Sorted.{Near}
 use Rattle.list.proofs.OneSlot.{power-slot}
 use Rattle.list.proofs.Own.{own-sorted}
-use Rattle.walk.specs.Walk.{Stands, Walking, isWithin, isApart}
+use Rattle.walk.specs.Walk.{BlockSpot, Walking, isWithin, isApart}
 use Rattle.walk.specs.Given.{keysWith}
 use Rattle.window.specs.Gather.{Gave}
 use Rattle.walk.proofs.Lies.{small}
@@ -64,7 +64,7 @@ Turn = tie.At-loop2 Inv-loop2 μ-loop2 Inv-loop μ-loop
 abbrev entry : Turn → tie.Start Inv-loop2 μ-loop2 Inv-loop μ-loop
 entry c = c .before .before .before .before .before .before .before
 
-abbrev stands : (c : Turn) → Stands (entry c .args .m) (c .loop2 .spot)
+abbrev stands : (c : Turn) → BlockSpot (entry c .args .m) (c .loop2 .spot)
 stands c = c .loop2 .inv .0 .stands
 
 -- what is taken below a key
@@ -225,7 +225,7 @@ abbrev turn : tie.After-next Inv-loop2 μ-loop2 Inv-loop μ-loop → Turn
 turn c = c .before .before .before .before .before
 
 follows : (c : tie.After-next Inv-loop2 μ-loop2 Inv-loop μ-loop)
-    → Stands (entry (turn c) .args .m) (c .next .given .0 .0) × (c .next .given .0 .0 .key ≡ turn c .loop2 .spot .key + turn c .loop2 .spot .step)
+    → BlockSpot (entry (turn c) .args .m) (c .next .given .0 .0) × (c .next .given .0 .0 .key ≡ turn c .loop2 .spot .key + turn c .loop2 .spot .step)
 follows c = follows-at _ _ _ _ (c .before .before .after .ensures) (c .next .given .1)
 
 loop-less : tie.Need-loop-less Inv-loop2 μ-loop2 Inv-loop μ-loop
