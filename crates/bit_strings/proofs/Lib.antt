@@ -3,7 +3,6 @@ mod Rows
 -- bits and bytes, and from key to key
 pub mod Bytes
 pub mod NextBit
-pub mod Levels
 -- writing: the strings of a list
 pub mod Packing
 pub mod Bitwise

@@ -1,52 +1,50 @@
 -- Reading block by block: where the code is stuck the pair is refused, where it passes a block the rest decides, and past the last block what is left
--- over does. Rests on NextBit and Levels.
+-- over does. Rests on NextBit and on the keys' laws of zeros.
 use Prim.Native.Nat.{ℕ, zero, suc, _+_, _/_, _^_, _≤_, _<_}
 use mathlib.Core.Path.{_≡_, refl, sym, ap, _∙_}
 use mathlib.Core.Bool.{Bool, true, false}
 use mathlib.Core.Logic.{_⊎_, inl, inr}
 use mathlib.Core.List.{List, [], _∷_}
-use native.Mathlib.Nat.{pow-suc, one-le-pow, pow-le-pow-right}
+use native.Mathlib.Nat.{pow-suc, one-le-pow}
 use native.Mathlib.Omega.{arith}
 use lib.ListN.{length, drop}
 use lib.Dec.{leb, eqb}
 use borrow.Author.Tests.{eq-eqb, ne-eqb, le-leb, lt-leb}
+use Rattle.keys.specs.Key.{zerosAtEnd}
 use Rattle.keys.proofs.Cases.{decide, equal}
+use Rattle.keys.proofs.LastZeros.{keys-most}
 use Rattle.definitions.specs.List.{Record, recordOf}
-use Rattle.definitions.specs.BitStrings.{levelsBelow, keyAfter, fourEqual, isWhole, leftOver, reading, leafValue, innerValue, recordsFrom}
+use Rattle.definitions.specs.BitStrings.{keyAfter, fourEqual, isWhole, leftOver, reading, leafValue, innerValue, recordsFrom}
 use Rattle.definitions.specs.BitStrings.{endsEarly, tooDeep, equalSiblings}
 use Rattle.bit_strings.specs.Steps.{passed}
 use Rattle.bit_strings.specs.declared.next.AfterBlock.{AfterBlock}
-use Rattle.bit_strings.proofs.Levels.{levels-most}
 
 -- ---- the next key lies beyond, and not far
 
 fifth : (k : ℕ) → 5 ^ suc k / 5 ≡ 5 ^ k
 fifth k = let e = pow-suc 5 k in omega arith
 
-pub step-most : (m x : ℕ) → 5 ^ levelsBelow m x ≤ 5 ^ m
-step-most m x = pow-le-pow-right {n = 5} (omega arith) (levels-most m x)
-
-pub after-leaf : (m x : ℕ) → keyAfter m x true ≡ x + 5 ^ levelsBelow m x
+pub after-leaf : (m x : ℕ) → keyAfter m x true ≡ x + 5 ^ zerosAtEnd m x
 unfolding keyAfter
 after-leaf m x = refl
 
-pub after-inner : (m x : ℕ) → keyAfter m x false ≡ x + 5 ^ levelsBelow m x / 5
+pub after-inner : (m x : ℕ) → keyAfter m x false ≡ x + 5 ^ zerosAtEnd m x / 5
 unfolding keyAfter
 after-inner m x = refl
 
 pub leaf-beyond : (m x : ℕ) → x < keyAfter m x true
-leaf-beyond m x = let e = after-leaf m x in let h = one-le-pow (levelsBelow m x) 5 (omega arith) in omega arith
+leaf-beyond m x = let e = after-leaf m x in let h = one-le-pow (zerosAtEnd m x) 5 (omega arith) in omega arith
 
 positive : (k : ℕ) → (k ≡ 0 → ⊥) → 1 ≤ 5 ^ k / 5
 positive zero h = absurd (h refl)
 positive (suc k) h = let e = fifth k in let o = one-le-pow k 5 (omega arith) in omega arith
 
-pub inner-beyond : (m x : ℕ) → (levelsBelow m x ≡ 0 → ⊥) → x < keyAfter m x false
-inner-beyond m x h = let e = after-inner m x in let p = positive (levelsBelow m x) h in omega arith
+pub inner-beyond : (m x : ℕ) → (zerosAtEnd m x ≡ 0 → ⊥) → x < keyAfter m x false
+inner-beyond m x h = let e = after-inner m x in let p = positive (zerosAtEnd m x) h in omega arith
 
 pub after-near : (m x : ℕ) (leaf : Bool) → keyAfter m x leaf ≤ x + 5 ^ m
-after-near m x true = let e = after-leaf m x in let s = step-most m x in omega arith
-after-near m x false = let e = after-inner m x in let s = step-most m x in omega arith
+after-near m x true = let e = after-leaf m x in let s = keys-most m x in omega arith
+after-near m x false = let e = after-inner m x in let s = keys-most m x in omega arith
 
 -- ---- one block
 
@@ -80,18 +78,18 @@ module _ (m x : ℕ) (inside : x < 5 ^ m) where
   unfolding reading
   reading-leaf nodes f leaves = rw not-past refl
 
-  pub reading-deep : (nodes leaves : List Bool) → levelsBelow m x ≡ 0 → reading m x (false ∷ nodes) leaves ≡ tooDeep
+  pub reading-deep : (nodes leaves : List Bool) → zerosAtEnd m x ≡ 0 → reading m x (false ∷ nodes) leaves ≡ tooDeep
   unfolding reading
-  reading-deep nodes leaves e = rw (not-past, eq-eqb (levelsBelow m x) 0 e) refl
+  reading-deep nodes leaves e = rw (not-past, eq-eqb (zerosAtEnd m x) 0 e) refl
 
-  pub reading-equal : (nodes leaves : List Bool) → (levelsBelow m x ≡ 0 → ⊥) → fourEqual nodes leaves ≡ true → reading m x (false ∷ nodes) leaves ≡ equalSiblings
+  pub reading-equal : (nodes leaves : List Bool) → (zerosAtEnd m x ≡ 0 → ⊥) → fourEqual nodes leaves ≡ true → reading m x (false ∷ nodes) leaves ≡ equalSiblings
   unfolding reading
-  reading-equal nodes leaves e f = rw (not-past, ne-eqb (levelsBelow m x) 0 e, f) refl
+  reading-equal nodes leaves e f = rw (not-past, ne-eqb (zerosAtEnd m x) 0 e, f) refl
 
-  pub reading-inner : (nodes leaves : List Bool) → (levelsBelow m x ≡ 0 → ⊥) → fourEqual nodes leaves ≡ false
+  pub reading-inner : (nodes leaves : List Bool) → (zerosAtEnd m x ≡ 0 → ⊥) → fourEqual nodes leaves ≡ false
       → reading m x (false ∷ nodes) leaves ≡ reading m (keyAfter m x false) nodes leaves
   unfolding reading
-  reading-inner nodes leaves e f = rw (not-past, ne-eqb (levelsBelow m x) 0 e, f) refl
+  reading-inner nodes leaves e f = rw (not-past, ne-eqb (zerosAtEnd m x) 0 e, f) refl
 
   pub records-leaf : (nodes leaves : List Bool)
       → recordsFrom m x (true ∷ nodes) leaves ≡ recordOf x (leafValue leaves) ∷ recordsFrom m (keyAfter m x true) nodes (drop 1 leaves)
@@ -134,17 +132,17 @@ step m x (true ∷ nodes) (f ∷ leaves) h = inr (record {
   records = more (records-leaf m x h nodes (f ∷ leaves));
 })
 step m x (false ∷ nodes) leaves h =
-    equal (levelsBelow m x) 0
+    equal (zerosAtEnd m x) 0
     (λ e. inl (record {
-      zero-key = rw (eq-eqb (levelsBelow m x) 0 e) refl;
+      zero-key = rw (eq-eqb (zerosAtEnd m x) 0 e) refl;
       refused = ap isWhole (reading-deep m x h nodes leaves e);
     }))
     (λ e. decide (fourEqual nodes leaves)
     (λ f. inl (record {
-      zero-key = rw (ne-eqb (levelsBelow m x) 0 e, f) refl;
+      zero-key = rw (ne-eqb (zerosAtEnd m x) 0 e, f) refl;
       refused = ap isWhole (reading-equal m x h nodes leaves e f);
     }))
-    (λ f. inr (rw (ne-eqb (levelsBelow m x) 0 e, f) (record {
+    (λ f. inr (rw (ne-eqb (zerosAtEnd m x) 0 e, f) (record {
       beyond = inner-beyond m x e;
       near = after-near m x false;
       one = omega arith;
@@ -154,7 +152,7 @@ step m x (false ∷ nodes) leaves h =
 
 -- ---- the next key, as the code adds it
 
-module _ (m x step leaf : ℕ) (is : step ≡ 5 ^ levelsBelow m x) where
+module _ (m x step leaf : ℕ) (is : step ≡ 5 ^ zerosAtEnd m x) where
   pub key-leaf : leaf ≡ 1 → x + step ≡ keyAfter m x (eqb leaf 1)
   key-leaf e = ap (λ k. x + k) is ∙ sym (ap (keyAfter m x) (eq-eqb leaf 1 e) ∙ after-leaf m x)
 

@@ -3,10 +3,11 @@
 use Prim.Native.Nat.{ℕ}
 use mathlib.Core.Path.{_≡_, refl}
 use mathlib.Core.List.{List, [], _∷_}
+use Rattle.keys.specs.Key.{zerosAtEnd}
 use Rattle.definitions.specs.Picture.{everyPixel, oneFeature, featuresBelow}
 use Rattle.definitions.specs.Bits.{unionOfFour, bitsOf, featureOf, twosIn}
 use Rattle.definitions.specs.List.{listOf, listOfRaster, keysOf, valuesOf}
-use Rattle.definitions.specs.BitStrings.{isInner, nodeBits, leafBits, highFirst, packedIn, packed, bitsOfByte, bitsIn, levelsBelow, keyAfter}
+use Rattle.definitions.specs.BitStrings.{isInner, nodeBits, leafBits, highFirst, packedIn, packed, bitsOfByte, bitsIn, keyAfter}
 use Rattle.definitions.specs.BitStrings.{beginsWith, fourEqual, anySet, leftOver, reading, recordsFrom, recordsOfPair, isWhole, isPair}
 use Rattle.definitions.specs.BitStrings.{Reading, whole, endsEarly, runsOn, tooDeep, spareBitSet, equalSiblings}
 use Rattle.definitions.specs.Refusal.{first, badSettings}
@@ -36,13 +37,13 @@ written = (refl, refl)
 pub read-back : (readAs 2 sheetNodes sheetLeaves ≡ whole)
     × (keysOf (recordsOfPair 2 sheetNodes sheetLeaves) ≡ 0 ∷ 5 ∷ 10 ∷ 11 ∷ 12 ∷ 13 ∷ 14 ∷ 15 ∷ 20 ∷ [])
     × (valuesOf (recordsOfPair 2 sheetNodes sheetLeaves) ≡ 3 ∷ 1 ∷ 3 ∷ 2 ∷ 2 ∷ 2 ∷ 1 ∷ 2 ∷ 2 ∷ [])
-unfolding bitsOfByte bitsIn levelsBelow keyAfter beginsWith fourEqual anySet leftOver reading recordsFrom recordsOfPair
+unfolding bitsOfByte bitsIn zerosAtEnd keyAfter beginsWith fourEqual anySet leftOver reading recordsFrom recordsOfPair
 read-back = (refl, refl, refl)
 
 -- one pixel of feature 1
 pub one-pixel : (packed (nodeBits (listOfRaster 0 (1 ∷ []))) ≡ 0x80 ∷ []) × (packed (leafBits (listOfRaster 0 (1 ∷ []))) ≡ 0x80 ∷ [])
     × (readAs 0 (0x80 ∷ []) (0x80 ∷ []) ≡ whole)
-unfolding listOf bitsOf isInner nodeBits leafBits highFirst packedIn packed bitsOfByte bitsIn levelsBelow keyAfter anySet leftOver reading
+unfolding listOf bitsOf isInner nodeBits leafBits highFirst packedIn packed bitsOfByte bitsIn zerosAtEnd keyAfter anySet leftOver reading
 one-pixel = (refl, refl, refl)
 
 -- each reason alone: the nodes or the leaves end early; a byte too many of either; deeper than m; a spare bit set in either; four equal siblings
@@ -51,7 +52,7 @@ pub reasons : (readAs 2 (0x5F ∷ []) sheetLeaves ≡ endsEarly) × (readAs 2 sh
     × (readAs 1 sheetNodes sheetLeaves ≡ tooDeep)
     × (readAs 2 (0x5F ∷ 0x81 ∷ []) sheetLeaves ≡ spareBitSet) × (readAs 2 sheetNodes (0x77 ∷ []) ≡ spareBitSet)
     × (readAs 1 (0x78 ∷ []) (0x00 ∷ []) ≡ equalSiblings) × (readAs 1 (0x78 ∷ []) (0xF0 ∷ []) ≡ equalSiblings)
-unfolding bitsOfByte bitsIn levelsBelow keyAfter beginsWith fourEqual anySet leftOver reading
+unfolding bitsOfByte bitsIn zerosAtEnd keyAfter beginsWith fourEqual anySet leftOver reading
 reasons = (refl, refl, refl, refl, refl, refl, refl, refl, refl, refl)
 
 -- the order on reading: each number alone, and each two neighbours at once
@@ -60,7 +61,7 @@ pub order : (readStringsRefusal 2 2 sheetNodes sheetLeaves (0 ∷ []) (0 ∷ [])
     × (readStringsRefusal 2 2 sheetNodes [] [] [] ≡ 23)
     × (readStringsRefusal 11 3 sheetNodes [] [] [] ≡ 1)
     × (readStringsRefusal 0 2 (0x80 ∷ []) (0x80 ∷ []) (0 ∷ []) (0 ∷ []) ≡ 0)
-unfolding readStringsRefusal first badSettings isPair isWhole bitsOfByte bitsIn levelsBelow keyAfter beginsWith fourEqual anySet leftOver reading recordsFrom recordsOfPair
+unfolding readStringsRefusal first badSettings isPair isWhole bitsOfByte bitsIn zerosAtEnd keyAfter beginsWith fourEqual anySet leftOver reading recordsFrom recordsOfPair
 order = (refl, refl, refl, refl, refl)
 
 -- the order on writing, on a map of one pixel of feature 0: each number alone, and each two neighbours at once

@@ -7,7 +7,8 @@ use native.Mathlib.Nat.{pow-suc}
 use native.Mathlib.Omega.{arith}
 use lib.ListN.{drop}
 use borrow.Author.Tests.{eq-eqb, ne-eqb}
-use Rattle.definitions.specs.BitStrings.{levelsBelow, fourEqual}
+use Rattle.keys.specs.Key.{zerosAtEnd}
+use Rattle.definitions.specs.BitStrings.{fourEqual}
 use Rattle.bit_strings.specs.Steps.{nextBit, stuck, passed}
 use Rattle.bit_strings.proofs.Passing.{after-leaf, after-inner}
 
@@ -18,7 +19,7 @@ power-one (suc k) e = let p = pow-suc 5 k in absurd (omega arith)
 power-more : (k : ℕ) → (5 ^ k ≡ 1 → ⊥) → k ≡ 0 → ⊥
 power-more k e z = e (ap (λ j. 5 ^ j) z)
 
-module _ (m x step : ℕ) (is : step ≡ 5 ^ levelsBelow m x) where
+module _ (m x step : ℕ) (is : step ≡ 5 ^ zerosAtEnd m x) where
   pub pass-no-leaf : (nodes leaves : List Bool) → nextBit nodes ≡ 1 → nextBit leaves ≡ 2 → stuck ≡ passed m x nodes leaves
   unfolding passed nextBit
   pass-no-leaf [] leaves e f = refl
@@ -44,7 +45,7 @@ module _ (m x step : ℕ) (is : step ≡ 5 ^ levelsBelow m x) where
   unfolding passed nextBit
   pass-deep [] leaves e f one = refl
   pass-deep (true ∷ nodes) leaves e f one = absurd (e refl)
-  pass-deep (false ∷ nodes) leaves e f one = rw (eq-eqb (levelsBelow m x) 0 (power-one (levelsBelow m x) (sym is ∙ one))) refl
+  pass-deep (false ∷ nodes) leaves e f one = rw (eq-eqb (zerosAtEnd m x) 0 (power-one (zerosAtEnd m x) (sym is ∙ one))) refl
 
   pub pass-equal : (nodes leaves : List Bool) → (nextBit nodes ≡ 1 → ⊥) → (nextBit nodes ≡ 2 → ⊥) → (step ≡ 1 → ⊥)
       → fourEqual (drop 1 nodes) leaves ≡ true → stuck ≡ passed m x nodes leaves
@@ -52,7 +53,7 @@ module _ (m x step : ℕ) (is : step ≡ 5 ^ levelsBelow m x) where
   pass-equal [] leaves e f more four = refl
   pass-equal (true ∷ nodes) leaves e f more four = absurd (e refl)
   pass-equal (false ∷ nodes) leaves e f more four =
-      rw (ne-eqb (levelsBelow m x) 0 (power-more (levelsBelow m x) (λ one. more (is ∙ one))), four) refl
+      rw (ne-eqb (zerosAtEnd m x) 0 (power-more (zerosAtEnd m x) (λ one. more (is ∙ one))), four) refl
 
   pub pass-inner : (nodes leaves : List Bool) → (nextBit nodes ≡ 1 → ⊥) → (nextBit nodes ≡ 2 → ⊥) → (step ≡ 1 → ⊥)
       → fourEqual (drop 1 nodes) leaves ≡ false → record { key = x + step / 5; leaf = 0 } ≡ passed m x nodes leaves
@@ -60,5 +61,5 @@ module _ (m x step : ℕ) (is : step ≡ 5 ^ levelsBelow m x) where
   pass-inner [] leaves e f more four = absurd (f refl)
   pass-inner (true ∷ nodes) leaves e f more four = absurd (e refl)
   pass-inner (false ∷ nodes) leaves e f more four =
-      rw (ne-eqb (levelsBelow m x) 0 (power-more (levelsBelow m x) (λ one. more (is ∙ one))), four)
+      rw (ne-eqb (zerosAtEnd m x) 0 (power-more (zerosAtEnd m x) (λ one. more (is ∙ one))), four)
       (sym (λ i. record { key = (after-inner m x ∙ ap (λ k. x + k / 5) (sym is)) i; leaf = 0 }))

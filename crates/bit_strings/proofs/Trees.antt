@@ -6,10 +6,10 @@ use mathlib.Core.Bool.{Bool, true, false, cond, false≢true}
 use mathlib.Core.List.{List, [], _∷_, _++_, append-assoc}
 use native.Mathlib.Nat.{pow-suc, one-le-pow, suc-mul}
 use native.Mathlib.Omega.{arith}
-use Rattle.keys.specs.Key.{childKey}
+use Rattle.keys.specs.Key.{childKey, zerosAtEnd}
 use Rattle.keys.proofs.Cases.{decide}
 use Rattle.definitions.specs.List.{Record, recordOf}
-use Rattle.definitions.specs.BitStrings.{nodeBits, leafBits, levelsBelow, keyAfter, fourEqual, isWhole, reading, recordsFrom}
+use Rattle.definitions.specs.BitStrings.{nodeBits, leafBits, keyAfter, fourEqual, isWhole, reading, recordsFrom}
 use Rattle.definitions.specs.BitStrings.{endsEarly, tooDeep, equalSiblings}
 use Rattle.bit_strings.proofs.Passing.{after-leaf, after-inner, reading-none, reading-no-leaf, reading-leaf, reading-deep, reading-equal, reading-inner, records-leaf, records-inner}
 use Rattle.bit_strings.proofs.Shape.{Shape, leaf, node, nodes-leaf, nodes-inner, leaves-leaf, leaves-inner, nodes-none, leaves-none}
@@ -30,7 +30,7 @@ inner-key {m} {k} {κ} p =
 inside : {m k κ : ℕ} → Place m k κ → κ < 5 ^ m
 inside {m} {k} {κ} p = let r = p .room in let o = one-le-pow k 5 (omega arith) in omega arith
 
-not-lowest : {m k κ : ℕ} → Place m (suc k) κ → levelsBelow m κ ≡ 0 → ⊥
+not-lowest : {m k κ : ℕ} → Place m (suc k) κ → zerosAtEnd m κ ≡ 0 → ⊥
 not-lowest p e = let l = p .levels in omega arith
 
 key-on : (κ k d e : ℕ) → e ≡ suc d → childKey κ k d + 5 ^ k ≡ childKey κ k e

@@ -5,8 +5,9 @@ use mathlib.Core.Bool.{Bool, true, false, cond, not, _&&_}
 use mathlib.Core.List.{List, [], _∷_}
 use lib.ListN.{length}
 use lib.Dec.{leb, eqb}
+use Rattle.keys.specs.Key.{zerosAtEnd}
 use Rattle.definitions.specs.Read.{room}
-use Rattle.definitions.specs.BitStrings.{levelsBelow, keyAfter, fourEqual, anySet, isPair, recordsOfPair}
+use Rattle.definitions.specs.BitStrings.{keyAfter, fourEqual, anySet, isPair, recordsOfPair}
 use Rattle.bit_strings.specs.declared.next.AfterBlock.{AfterBlock}
 
 -- the next bit of a string, and 2 where none is left
@@ -28,7 +29,7 @@ passed m x [] leaves = stuck
 passed m x (true ∷ nodes) [] = stuck
 passed m x (true ∷ nodes) (f ∷ leaves) = record { key = keyAfter m x true; leaf = 1 }
 passed m x (false ∷ nodes) leaves =
-    cond (eqb (levelsBelow m x) 0) stuck (cond (fourEqual nodes leaves) stuck (record { key = keyAfter m x false; leaf = 0 }))
+    cond (eqb (zerosAtEnd m x) 0) stuck (cond (fourEqual nodes leaves) stuck (record { key = keyAfter m x false; leaf = 0 }))
 
 -- how many records a pair has, and 0 for what is none
 unfoldable pub pairLength : ℕ → List ℕ → List ℕ → ℕ

@@ -3,35 +3,17 @@ ghost use mathlib.Core.Path.{_≡_};
 ghost use Prim.Native.Nat.{_+_, _≤_, _<_, _^_};
 ghost use lib.ListN.{drop};
 ghost use lib.Dec.{eqb};
-ghost use Rattle.definitions.specs.BitStrings.{bitsIn, levelsBelow, keyAfter};
+ghost use Rattle.definitions.specs.BitStrings.{bitsIn, keyAfter};
 ghost use Rattle.bit_strings.specs.Steps.{passed};
 use crate::bits;
-
-// How many keys the block with the given key has, its own and those below it: five to the power of its height.
-pub fn keys_in(m: u32, key: u32) -> u32
-    requires { ⌜ m ≤ 10 ⌝ }
-    ensures { λ r. ⌜ r ≡ 5 ^ levelsBelow m key ⌝ }
-{
-    let mut height = 0;
-    let mut digits = key;
-    let mut step = 1;
-    while height < m {
-        if digits % 5 != 0 {
-            return step;
-        }
-        digits = digits / 5;
-        step = step * 5;
-        height += 1;
-    }
-    step
-}
+use keys::zeros;
 
 // The key after a leaf (1) or an inner node (0).
 pub fn key_after(m: u32, key: u32, leaf: u32) -> u32
     requires { ⌜ (m ≤ 10) × (key < 5 ^ m) ⌝ }
     ensures { λ r. ⌜ r ≡ keyAfter m key (eqb leaf 1) ⌝ }
 {
-    let step = keys_in(m, key);
+    let step = zeros::keys_in(m, key);
     if leaf == 1 {
         return key + step;
     }
@@ -50,7 +32,7 @@ pub fn pass(m: u32, key: u32, nodes: &[u8], leaves: &[u8], i: usize, j: usize) -
     ensures { λ r. ⌜ r ≡ passed m key (drop i (bitsIn (now (nodes .entry)))) (drop j (bitsIn (now (leaves .entry)))) ⌝ }
 {
     let node = bits::bit_at(nodes, i);
-    let step = keys_in(m, key);
+    let step = zeros::keys_in(m, key);
     if node == 1 {
         if bits::bit_at(leaves, j) == 2 {
             return AfterBlock { key: 0, leaf: 0 };

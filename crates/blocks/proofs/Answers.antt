@@ -4,7 +4,7 @@ use native.Mathlib.Omega.{arith}
 use mathlib.Core.Path.{_≡_, refl, sym, ap, _∙_}
 use mathlib.Core.Bool.{true, false, not, _||_}
 use lib.Dec.{leb}
-use borrow.Author.Tests.{lt-ltb, le-ltb, ltb-false, le-leb, lt-leb}
+use borrow.Author.Tests.{lt-ltb, le-ltb, ltb-false, le-leb, lt-leb, not-false}
 use Rattle.keys.specs.Key.{validKey, levelOf}
 use Rattle.keys.specs.Block.{rowOf, columnOf, sideOf, keyAround}
 use Rattle.keys.proofs.Cases.{or-left, or-right}
@@ -73,9 +73,9 @@ module _ (m κ : ℕ) where
   unfolding blockOfRefusal
   a-key deep h = sym (none-first _ (le-ltb 10 m deep, (ap not h, tt)))
 
-  pub block-passed : blockOfRefusal m κ ≡ 0 → m ≤ 10
+  pub block-passed : blockOfRefusal m κ ≡ 0 → (m ≤ 10) × (validKey m κ ≡ true)
   unfolding blockOfRefusal
-  block-passed e = ltb-false 10 m (first-none _ refl e .0)
+  block-passed e = let h = first-none _ refl e in (ltb-false 10 m (h .0), not-false (validKey m κ) (h .1 .0))
 
   pub block-refused : (r : ℕ) → r ≡ blockOfRefusal m κ → (r ≡ 0 → ⊥) → record { refusal = r; row = 0; column = 0; side = 0; level = 0 } ≡ blockOf m κ
   unfolding blockOf

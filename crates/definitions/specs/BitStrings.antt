@@ -1,11 +1,11 @@
 -- A list of two features as a pair of bit strings (document 02, item 12): in key order one bit a node, 0 inner and 1 leaf, and apart from it one
 -- bit a leaf, its feature. Both are packed from the high bit, with spare bits zero. Rests on List and Bits.
-use Prim.Native.Nat.{ℕ, zero, suc, _+_, _/_, _%_, _^_}
+use Prim.Native.Nat.{ℕ, zero, suc, _+_, _/_, _^_}
 use mathlib.Core.Bool.{Bool, true, false, cond, not, _&&_, _||_}
 use mathlib.Core.List.{List, [], _∷_, _++_}
 use lib.ListN.{length, getD, drop}
 use lib.Dec.{leb, eqb}
-use Rattle.keys.specs.Key.{rootKey}
+use Rattle.keys.specs.Key.{rootKey, zerosAtEnd}
 use Rattle.definitions.specs.Bits.{hasSlot}
 use Rattle.definitions.specs.List.{Record, recordOf}
 
@@ -50,14 +50,9 @@ unfoldable pub bitsIn : (bytes : List ℕ) → List Bool
 bitsIn [] = []
 bitsIn (byte ∷ bytes) = bitsOfByte 8 byte ++ bitsIn bytes
 
--- how many levels lie below the block with the key x: the zeros at the end of its m digits
-unfoldable pub levelsBelow : (m x : ℕ) → ℕ
-levelsBelow zero x = 0
-levelsBelow (suc m) x = cond (eqb (x % 5) 0) (suc (levelsBelow m (x / 5))) 0
-
 -- the next key in key order: after a leaf the block that follows it, after an inner node its first child
 unfoldable pub keyAfter : (m x : ℕ) (leaf : Bool) → ℕ
-keyAfter m x leaf = x + cond leaf (5 ^ levelsBelow m x) (5 ^ levelsBelow m x / 5)
+keyAfter m x leaf = x + cond leaf (5 ^ zerosAtEnd m x) (5 ^ zerosAtEnd m x / 5)
 
 -- the string begins with k bits equal to b
 unfoldable pub beginsWith : (k : ℕ) (b : Bool) (l : List Bool) → Bool
@@ -104,7 +99,7 @@ reading m x (true ∷ nodes) (f ∷ leaves) =
 reading m x (false ∷ nodes) leaves =
     cond (leb (5 ^ m) x)
     (leftOver (false ∷ nodes) leaves)
-    (cond (eqb (levelsBelow m x) 0)
+    (cond (eqb (zerosAtEnd m x) 0)
     tooDeep
     (cond (fourEqual nodes leaves) equalSiblings (reading m (keyAfter m x false) nodes leaves)))
 

@@ -7,8 +7,7 @@ ghost use lib.Dec.{ltb};
 ghost use Rattle.definitions.specs.Area.{summaryLevel, summaryHeight, summaryOf, blockKey};
 ghost use Rattle.list.specs.Own.{shownBy};
 ghost use Rattle.edit.specs.Recount.{Outdated};
-use keys::Key;
-use keys::power;
+use keys::zeros;
 use summary::blocks;
 use summary::renew;
 
@@ -21,8 +20,7 @@ fn touches(m: u32, b: usize, key: u32, end: u32) -> bool
     if end <= other {
         return false;
     }
-    let step = power::power_of_five(Key { number: other }.height(m));
-    key < other + step
+    key < other + zeros::keys_in(m, other)
 }
 
 // The list is already changed, in one block alone; the summary still has the counts from before.
@@ -30,7 +28,7 @@ pub fn recount(m: u32, s: u32, keys: &[u32], bits: &[u32], n: usize, summary: &m
     requires { ⌜ Outdated m s (now keys) (now bits) n (now summary) key ⌝ }
     ensures { λ _. ⌜ now (summary .exit) ≡ summaryOf m s (shownBy m (now (keys .entry)) (now (bits .entry)) n) ⌝ }
 {
-    let end = key + power::power_of_five(Key { number: key }.height(m));
+    let end = key + zeros::keys_in(m, key);
     let blocks = blocks::number_of(m);
     let mut b = 0;
     while b < blocks {

@@ -6,7 +6,6 @@ use native.Mathlib.Omega.{arith}
 use mathlib.Core.Path.{_≡_, refl, sym, ap, ap₂, _∙_}
 use mathlib.Core.Bool.{Bool, true, cond, _&&_}
 use mathlib.Core.List.{_∷_}
-use mathlib.Core.Logic.{_↔_}
 use lib.Dec.{eqb}
 use lib.Arith.{digits-div, digits-mod}
 use borrow.Author.Tests.{eqb-true, eq-eqb, ne-eqb}
@@ -96,10 +95,6 @@ zeros-only (suc k) x below e =
     let g = eqb-true (s .digit) 0 (and-left _ _ f) in
     let h = zeros-only k (s .rest) (s .is-rest) (and-right (eqb (s .digit) 0) _ f) in
     s .sum ∙ ap₂ (λ d y. d * 5 ^ k + y) g h ∙ sym (no-digits k)
-
--- the digits are zeros exactly when the number is
-pub zeros-iff : (k x : ℕ) → x < 5 ^ k → (onlyZeros (digitsOf k x) ≡ true) ↔ (x ≡ 0)
-zeros-iff k x below = (zeros-only k x below, (λ e. ap (λ y. onlyZeros (digitsOf k y)) e ∙ zeros k))
 
 -- the root's first row is 0
 pub row-zero : (k : ℕ) → rowOf k 0 ≡ 0

@@ -5,7 +5,10 @@ pub mod Interval
 pub mod Parent
 pub mod Digits
 pub mod Descent
+pub mod FromRight
+pub mod LastDigit
 pub mod Valid
+pub mod LastZeros
 pub mod Pixel
 pub mod InBlock
 pub mod Ancestor

@@ -17,20 +17,6 @@ use Rattle.keys.proofs.Parent.{quadrant-of, quadrant-after, parent-case
 use Rattle.keys.proofs.Valid.{valid-block, block-valid, block-level}
 use Rattle.keys.proofs.Ancestor.{ancestor-iff}
 
--- the second key is the first's child by a digit from 1 to 4
-pub record Digit (k κ κ′ : ℕ) : Type 0 where
-  pub digit : ℕ
-  pub least : 1 ≤ digit
-  pub most : digit ≤ 4
-  pub key : κ′ ≡ childKey κ k digit
-
--- a quadrant's key is its parent's child
-pub digit-of : {k r c κ r′ c′ κ′ : ℕ} → Quadrant k r c κ r′ c′ κ′ → Digit k κ κ′
-digit-of is-nw = record { digit = 1; least = omega arith; most = omega arith; key = refl }
-digit-of is-ne = record { digit = 2; least = omega arith; most = omega arith; key = refl }
-digit-of is-sw = record { digit = 3; least = omega arith; most = omega arith; key = refl }
-digit-of is-se = record { digit = 4; least = omega arith; most = omega arith; key = refl }
-
 -- counted from the first key, the second is a multiple of 5 ^ k′
 pub record Multiple (k′ κ κ′ : ℕ) : Type 0 where
   pub times : ℕ

@@ -47,6 +47,11 @@ levelOf m κ = digitsBeforeZero (digitsOf m κ)
 unfoldable pub heightOf : (m κ : ℕ) → ℕ
 heightOf m κ = m - levelOf m κ
 
+-- how many zeros stand at the end of the m digits: as many as a valid key's block has levels below it
+unfoldable pub zerosAtEnd : (m κ : ℕ) → ℕ
+zerosAtEnd zero κ = 0
+zerosAtEnd (suc k) κ = cond (eqb (κ % 5) 0) (suc (zerosAtEnd k (κ / 5))) 0
+
 -- the child that has height k: digit 1 NW, 2 NE, 3 SW, 4 SE
 abbrev pub childKey : (κ k digit : ℕ) → ℕ
 childKey κ k digit = κ + digit * 5 ^ k

@@ -1,12 +1,14 @@
 // Keys of blocks (document 01, "Keys"): the key type's constants, child and parent, level, validity, the block of a key and the key of a pixel.
 // Only crates above this one call these functions; what they require is shown there.
 ghost use mathlib.Core.Path.{_≡_};
+ghost use mathlib.Core.Bool.{true};
 ghost use Prim.Native.Nat.{_+_, _*_, _/_, _^_, _≤_, _<_};
 ghost use Rattle.keys.specs.Key.{validKey, levelOf, heightOf};
 ghost use Rattle.keys.specs.Block.{rowOf, columnOf, sideOf, pixelKey, keyAround};
 
 pub mod power;
 pub mod quadrant;
+pub mod zeros;
 
 // A block's number: m digits in base 5.
 pub struct Key {
@@ -52,7 +54,8 @@ impl Key {
         Key::enclosing(key, step * 5)
     }
 
-    // How many digits stand before the first zero, read from the left as on paper. The key 24 of Figure 2 of document 000 is the number 14, at m = 2:
+    // How many digits stand before the first zero, read from the left as on paper, since document 02, item 4, asks for it. The key 24 of Figure 2 of document
+    // 000 is the number 14, at m = 2:
     //     14 / 5 is 2 and 4 is left:  the first digit is 2, so the level is at least 1;
     //      4 / 1 is 4 and 0 is left:  the second digit is 4, so the level is at least 2;
     //      no digit is left:          the level is 2. (Of 20, the number 10, the second digit is 0, and the level is 1.)
@@ -75,56 +78,45 @@ impl Key {
         level
     }
 
-    // The number of levels below the block.
+    // The number of levels below the block: as many as zeros stand at the end of its key.
     pub fn height(self, m: u32) -> u32
-        requires { ⌜ m ≤ 10 ⌝ }
+        requires { ⌜ (m ≤ 10) × (validKey m (self .number) ≡ true) ⌝ }
         ensures { λ r. ⌜ r ≡ heightOf m (self .number) ⌝ }
     {
-        let level = self.level(m);
-        if m < level { 0 } else { m - level }
+        zeros::at_end(m, self.number).count
     }
 
-    // Some digits from 1 to 4 and then zeros.
+    // Some digits from 1 to 4 and then zeros. The root's digits, zeros alone, need not be read.
     pub fn is_valid(self, m: u32) -> bool
         requires { ⌜ m ≤ 10 ⌝ }
         ensures { λ r. ⌜ r ≡ validKey m (self .number) ⌝ }
     {
-        let mut rest = self.number;
-        let mut step = power::power_of_five(m);
-        if step <= rest {
+        if self.number == 0 {
+            return true;
+        }
+        if power::power_of_five(m) <= self.number {
             return false;
         }
-        let mut i = 0;
-        while i < m {
-            step = step / 5;
-            if rest < step {
-                return rest == 0;
-            }
-            rest = rest % step;
-            i += 1;
-        }
-        true
+        zeros::only_at_end(m, self.number)
     }
 
-    // The square that the key stands for.
+    // The square that the key stands for. Its digits are read from the right: to divide by five is a multiplication, to divide by the step of a level is not.
     pub fn block(self, m: u32) -> Square
-        requires { ⌜ m ≤ 10 ⌝ }
+        requires { ⌜ (m ≤ 10) × (validKey m (self .number) ≡ true) ⌝ }
         ensures { λ r. ⌜ (r .row ≡ rowOf m (self .number)) × (r .column ≡ columnOf m (self .number)) × (r .side ≡ sideOf m (self .number)) ⌝ }
     {
         let whole = power::power_of_two(self.height(m));
         let mut rest = self.number;
-        let mut step = power::power_of_five(m);
-        let mut side = power::power_of_two(m);
+        let mut side = 1;
         let mut row = 0;
         let mut column = 0;
         let mut i = 0;
         while i < m {
-            step = step / 5;
-            side = side / 2;
-            let digit = rest / step;
+            let digit = rest % 5;
             row += quadrant::southward(digit, side);
             column += quadrant::eastward(digit, side);
-            rest = rest % step;
+            rest = rest / 5;
+            side = side * 2;
             i += 1;
         }
         Square {

@@ -109,10 +109,6 @@ module _ {m : ℕ} {keys bits : List ℕ} {n κ : ℕ} (b : BlockIn m keys bits 
       let p = five-pos (heightOf m κ) in
       omega arith
 
-  -- the height can be had, and its step
-  pub height-small : heightOf m κ ≤ 10
-  height-small = let w = within block in omega (arith, b .deepest)
-
   module _ (place : ℕ) (is : place ≡ placeOf κ (recordsOf keys bits n)) where
     among : place ≡ placeAmong κ (take n keys)
     among = is ∙ sym place-is

@@ -11,6 +11,7 @@ ghost use Rattle.definitions.specs.Log.{isContent};
 ghost use Rattle.list.specs.Check.{oneSlot, restPlace, afterNode, stepUnder};
 use keys::Key;
 use keys::power;
+use keys::zeros;
 
 // Exactly one slot is set: the record is a leaf's.
 pub fn has_one_slot(bits: u32) -> bool
@@ -178,8 +179,7 @@ pub fn is_content(m: u32, s: u32, keys: &[u32], bits: &[u32], n: usize, key: u32
     if has_one_slot(own) {
         return n == 1;
     }
-    let block = Key { number: key };
-    let step = power::power_of_five(block.height(m)) / 5;
+    let step = zeros::keys_in(m, key) / 5;
     after_node(&keys[..n], &bits[..n], 1, key, own, step) == n
 }
 

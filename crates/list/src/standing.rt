@@ -12,7 +12,7 @@ ghost use Rattle.list.specs.Among.{keysUpTo, placeAmong, whichAmong};
 use crate::check;
 use definitions::Standing;
 use keys::Key;
-use keys::power;
+use keys::zeros;
 
 // How many of the first n keys are at or before x: the answer lies from low to high, and each turn halves what is left.
 fn up_to(keys: &[u32], n: usize, x: u32) -> usize
@@ -156,6 +156,6 @@ pub fn stand(m: u32, keys: &[u32], bits: &[u32], n: usize, key: u32) -> Standing
     requires { ⌜ BlockIn m (now keys) (now bits) n key ⌝ }
     ensures { λ r. ⌜ r ≡ standingOf m key (recordsOf (now (keys .entry)) (now (bits .entry)) n) ⌝ }
 {
-    let step = power::power_of_five(Key { number: key }.height(m));
+    let step = zeros::keys_in(m, key);
     stand_from(m, keys, bits, n, 0, key, step)
 }

@@ -46,7 +46,7 @@ pub fn climb(m: u32, keys: &[u32], bits: &[u32], n: usize, key: u32, b: u32, low
 
 // The height of the block around key that is filled: its own, or where climbing ends for a content of one record.
 fn top_of(m: u32, keys: &[u32], bits: &[u32], n: usize, key: u32, leaf: bool, first: u32) -> u32
-    requires { ⌜ (m ≤ 10) × (key < 5 ^ 10) ⌝ }
+    requires { ⌜ (m ≤ 10) × (validKey m key ≡ true) ⌝ }
     requires { ⌜ Sorted (now keys) n 0 ⌝ }
     requires { ⌜ n ≤ length (now bits) ⌝ }
     ensures { λ r. ⌜ r ≡ topFor m (recordsOf (now (keys .entry)) (now (bits .entry)) n) key leaf first ⌝ }

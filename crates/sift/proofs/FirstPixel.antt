@@ -8,6 +8,7 @@ use mathlib.Core.Bool.{true}
 use Rattle.keys.specs.Key.{heightOf, validKey}
 use Rattle.keys.specs.Block.{pixelKey}
 use Rattle.keys.proofs.Cases.{split}
+use Rattle.keys.proofs.LastZeros.{zeros-height}
 use Rattle.keys.proofs.Powers.{two-pos}
 use Rattle.keys.specs.Under.{Under, MapBlock, here, nw, ne, sw, se}
 use Rattle.keys.proofs.Interval.{Next, at-end, at-block, key-within, nest, next-block, within}
@@ -35,7 +36,7 @@ first-least (se {k} u) = let e = first-suc k in let h = pixelKey-lt k 0 0 in let
 -- the first pixel of a block of the map, by its key
 pub first-key : {m k r c κ : ℕ} → MapBlock m k r c κ → firstPixel m κ ≡ κ + pixelKey k 0 0
 unfolding firstPixel
-first-key {κ = κ} b = ap (λ j. κ + pixelKey j 0 0) (block-valid b .height)
+first-key {m} {κ = κ} b = ap (λ j. κ + pixelKey j 0 0) (zeros-height m κ (block-valid b .valid) ∙ block-valid b .height)
 
 pub first-from : (m κ : ℕ) → κ ≤ firstPixel m κ
 unfolding firstPixel

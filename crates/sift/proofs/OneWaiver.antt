@@ -4,8 +4,8 @@ use native.Mathlib.Omega.{arith}
 use mathlib.Core.Path.{_≡_, sym}
 use mathlib.Core.Bool.{true}
 use borrow.Author.Tests.{le-leb, lt-leb}
-use Rattle.keys.specs.Key.{heightOf, validKey}
-use Rattle.keys.proofs.Powers.{five-le, height-le}
+use Rattle.keys.specs.Key.{zerosAtEnd, validKey}
+use Rattle.keys.proofs.Powers.{five-le}
 use Rattle.keys.proofs.Interval.{within}
 use Rattle.keys.proofs.Valid.{valid-block}
 use Rattle.sift.specs.Covering.{endOf, firstPixel, nextOver, further, startOf}
@@ -18,18 +18,14 @@ further-yes a b h = rw (le-leb a b h)
 pub further-no : (a b : ℕ) → b < a → a ≡ further a b
 further-no a b h = rw (lt-leb a b h)
 
--- a power of five of a map's height is small
-pub power-small : (m κ : ℕ) → m ≤ 10 → 5 ^ heightOf m κ ≤ 9765625
-power-small m κ low = let h = height-le m κ in five-le 10 (omega arith)
-
 -- a block ends within the map
 pub end-small : (m κ : ℕ) → m ≤ 10 → validKey m κ ≡ true → endOf m κ ≤ 9765625
 end-small m κ low v = let w = within (valid-block m κ v) in let five = five-le 10 low in omega arith
 
 -- a quarter of a power of five less one is the key of its first pixel
-pub first-quarter : (m κ step : ℕ) → step ≡ 5 ^ heightOf m κ → κ + (step - 1) / 4 ≡ firstPixel m κ
+pub first-quarter : (m κ step : ℕ) → step ≡ 5 ^ zerosAtEnd m κ → κ + (step - 1) / 4 ≡ firstPixel m κ
 unfolding firstPixel
-first-quarter m κ step e = let f = first-four (heightOf m κ) in omega arith
+first-quarter m κ step e = let f = first-four (zerosAtEnd m κ) in omega arith
 
 module _ (m next w : ℕ) (v : validKey m w ≡ true) where
   pub over-early : next < w → next ≡ nextOver m next w

@@ -6,7 +6,7 @@ use mathlib.Core.Bool.{true, cond}
 use mathlib.Core.List.{List, [], _∷_}
 use lib.ListN.{length, take}
 use lib.Dec.{leb}
-use Rattle.keys.specs.Key.{validKey, heightOf}
+use Rattle.keys.specs.Key.{validKey, heightOf, zerosAtEnd}
 use Rattle.keys.specs.Block.{pixelKey, inInterval}
 use Rattle.definitions.specs.Covered.{isCovered}
 use Rattle.sift.specs.declared.waivers.Settled.{Settled}
@@ -15,9 +15,9 @@ use Rattle.sift.specs.declared.waivers.Settled.{Settled}
 abbrev pub endOf : ℕ → ℕ → ℕ
 endOf m κ = κ + 5 ^ heightOf m κ
 
--- the key of the first pixel of the block with this key
+-- the key of the first pixel of the block with this key: for every zero at its end the first quadrant
 unfoldable pub firstPixel : ℕ → ℕ → ℕ
-firstPixel m κ = κ + pixelKey (heightOf m κ) 0 0
+firstPixel m κ = κ + pixelKey (zerosAtEnd m κ) 0 0
 
 -- the first pixel that is left: past the waiver, where the waiver has the pixel that was left before
 unfoldable pub nextOver : ℕ → ℕ → ℕ → ℕ

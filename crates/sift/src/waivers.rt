@@ -6,8 +6,7 @@ ghost use Prim.Native.Nat.{_≤_};
 ghost use lib.ListN.{length};
 ghost use Rattle.keys.specs.Key.{validKey};
 ghost use Rattle.sift.specs.Covering.{endOf, firstPixel, nextOver, further, startOf, Waived, WaiversPassed, Settles};
-use keys::Key;
-use keys::power;
+use keys::zeros;
 
 // The furthest end of the waivers passed, and the first pixel of the block that is left.
 pub struct Covering {
@@ -24,11 +23,10 @@ pub struct Settled {
 
 // The key after a block's last.
 fn end_of(m: u32, key: u32) -> u32
-    requires { ⌜ (m ≤ 10) × (key ≤ 9765625) ⌝ }
+    requires { ⌜ (m ≤ 10) × (validKey m key ≡ true) ⌝ }
     ensures { λ r. ⌜ r ≡ endOf m key ⌝ }
 {
-    let block = Key { number: key };
-    key + power::power_of_five(block.height(m))
+    key + zeros::keys_in(m, key)
 }
 
 // The key of a block's first pixel: every digit that is 0 made 1.
@@ -36,9 +34,7 @@ fn first_pixel(m: u32, key: u32) -> u32
     requires { ⌜ (m ≤ 10) × (key ≤ 9765625) ⌝ }
     ensures { λ r. ⌜ r ≡ firstPixel m key ⌝ }
 {
-    let block = Key { number: key };
-    let step = power::power_of_five(block.height(m));
-    key + (step - 1) / 4
+    key + (zeros::keys_in(m, key) - 1) / 4
 }
 
 fn larger(a: u32, b: u32) -> u32
@@ -50,7 +46,7 @@ fn larger(a: u32, b: u32) -> u32
 // Where a block begins: past its end if an earlier waiver reaches that, and else at its first pixel. The map's resolution is for the contract alone, so that
 // the block's height is not worked out again.
 fn start(m: u32, key: u32, end: u32, furthest: u32) -> u32
-    requires { ⌜ end ≡ endOf m key ⌝ }
+    requires { ⌜ (validKey m key ≡ true) × (end ≡ endOf m key) ⌝ }
     ensures { λ r. ⌜ r ≡ startOf m furthest key ⌝ }
 {
     if end <= furthest {

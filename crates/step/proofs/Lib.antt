@@ -1,7 +1,6 @@
 pub mod Pruned
 pub mod QuarterSums
 pub mod SameBefore
-pub mod KeyTail
 pub mod LeafTally
 pub mod Meetings
 pub mod Gifts

@@ -12,8 +12,8 @@ ghost use Rattle.step.specs.declared.meeting.Meeting.the-variants.{Apart
 ghost use Rattle.step.specs.Meeting.{BlockAsked, Met};
 use crate::meeting::Meeting;
 use crate::run::Run;
-use crate::span;
 use keys::power;
+use keys::zeros;
 use list::check;
 use list::standing;
 use log::entry;
@@ -27,7 +27,7 @@ fn holds(m: u32, outer: u32, inner: u32) -> bool
     if inner < outer {
         return false;
     }
-    inner - outer < span::keys_in(m, outer)
+    inner - outer < zeros::keys_in(m, outer)
 }
 
 // The bits of a block in the content of an entry whose block holds it.

@@ -6,4 +6,3 @@ mod fill;
 pub mod meeting;
 pub mod quarters;
 pub mod run;
-mod span;

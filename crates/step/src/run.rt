@@ -4,8 +4,8 @@ ghost use mathlib.Core.Bool.{true};
 ghost use Prim.Native.Nat.{_+_, _^_, _≤_};
 ghost use Rattle.step.specs.Runs.{EntriesIn, Between, descends, lastFirst};
 ghost use Rattle.step.specs.Deed.{ShortRun};
-use crate::span;
 use keys::power;
+use keys::zeros;
 use log::entry;
 
 // Where the entries start and end. Of ordered ones each block ends at or before the next one's key, so none has a pixel of another; a search among them
@@ -26,7 +26,7 @@ fn is_ordered(m: u32, log_keys: &[u32], log_values: &[u32], start: usize, end: u
     while start < left {
         let last = entry::last_entry(log_keys, log_values, left);
         let key = last.key;
-        let step = span::keys_in(m, key);
+        let step = zeros::keys_in(m, key);
         if limit < key + step {
             return false;
         }

@@ -15,7 +15,7 @@ block-requires : tie.Need-block-requires
 block-requires c κs = block-passed _ _ (sym (c .before .block-of-refusal .ensures) ∙ c .if1 .left)
 
 level-requires : tie.Need-level-requires
-level-requires c κs = block-passed _ _ (sym (c .before .before .block-of-refusal .ensures) ∙ c .before .if1 .left)
+level-requires c κs = block-passed _ _ (sym (c .before .before .block-of-refusal .ensures) ∙ c .before .if1 .left) .0
 
 cast-t8 : tie.Need-cast-t8
 cast-t8 c = search needs

@@ -1,6 +1,7 @@
 -- `next::key_after` meets its contract: the two ways of going on.
-use Rattle.bit_strings.proofs.Passing.{step-most, key-leaf, key-inner}
-use Rattle.bit_strings.proofs.Levels.{power-small}
+use Rattle.bit_strings.proofs.Passing.{key-leaf, key-inner}
+use Rattle.keys.proofs.LastZeros.{keys-most}
+use Rattle.keys.proofs.Powers.{five-le}
 use native.Mathlib.Omega.{arith}
 use borrow.Author.Needs.{needs}
 use Rattle.bit_strings.proofs.next.key_after.Statement.{statement}
@@ -12,8 +13,8 @@ keys-in-requires c κs = search needs
 add-result : tie.Need-add-result
 add-result c =
     let s = c .before .before in
-    let h = power-small (s .args .m) (s .pre .0) in
-    omega (arith, step-most (s .args .m) (s .args .key), c .before .keys-in .ensures, s .pre .1)
+    let h = five-le 10 (s .pre .0) in
+    omega (arith, keys-most (s .args .m) (s .args .key), c .before .keys-in .ensures, s .pre .1)
 
 returns : tie.Need-returns
 returns c = key-leaf _ _ _ _ (c .before .keys-in .ensures) (c .if1 .taken)
@@ -21,8 +22,8 @@ returns c = key-leaf _ _ _ _ (c .before .keys-in .ensures) (c .if1 .taken)
 add-result-2 : tie.Need-add-result-2
 add-result-2 c =
     let s = c .before .before in
-    let h = power-small (s .args .m) (s .pre .0) in
-    omega (arith, step-most (s .args .m) (s .args .key), c .before .keys-in .ensures, s .pre .1)
+    let h = five-le 10 (s .pre .0) in
+    omega (arith, keys-most (s .args .m) (s .args .key), c .before .keys-in .ensures, s .pre .1)
 
 returns-2 : tie.Need-returns-2
 returns-2 c = key-inner _ _ _ _ (c .before .keys-in .ensures) (c .if1 .left)

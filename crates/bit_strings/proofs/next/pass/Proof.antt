@@ -1,8 +1,8 @@
 -- `next::pass` meets its contract: each way out is one of the model.
 use Rattle.bit_strings.proofs.Stepping.{pass-no-leaf, pass-leaf, pass-none, pass-deep, pass-equal, pass-inner}
-use Rattle.bit_strings.proofs.Passing.{step-most}
 use Rattle.bit_strings.proofs.NextBit.{drop-on}
-use Rattle.bit_strings.proofs.Levels.{power-small}
+use Rattle.keys.proofs.LastZeros.{keys-most}
+use Rattle.keys.proofs.Powers.{five-le}
 use Rattle.definitions.specs.BitStrings.{bitsIn, fourEqual}
 use lib.ListN.{drop}
 use mathlib.Core.Path.{sym, _∙_, ap}
@@ -29,8 +29,8 @@ add-t10 : tie.Need-add-t10
 add-t10 c =
     let k = c .before .before .before in
     let s = k .before .before .before .before in
-    let h = power-small (s .args .m) (s .pre .0) in
-    omega (arith, step-most (s .args .m) (s .args .key), k .keys-in .ensures, s .pre .1)
+    let h = five-le 10 (s .pre .0) in
+    omega (arith, keys-most (s .args .m) (s .args .key), k .keys-in .ensures, s .pre .1)
 
 returns-2 : tie.Need-returns-2
 returns-2 c =
@@ -50,13 +50,13 @@ returns-4 c =
 add-equal-siblings : tie.Need-add-equal-siblings
 add-equal-siblings c =
     let s = c .before .before .before .before .before .before .before in
-    let h = power-small (s .args .m) (s .pre .0) in
+    let h = five-le 10 (s .pre .0) in
     omega (arith, s .pre .1, s .pre .2)
 
 equal-siblings-requires : tie.Need-equal-siblings-requires
 equal-siblings-requires c κs =
     let s = c .before .before .before .before .before .before .before in
-    let h = power-small (s .args .m) (s .pre .0) in
+    let h = five-le 10 (s .pre .0) in
     (omega (arith, s .pre .1, s .pre .2), omega (arith, s .pre .1, s .pre .2, s .pre .3))
 
 returns-5 : tie.Need-returns-5
@@ -74,8 +74,8 @@ add-t15 : tie.Need-add-t15
 add-t15 c =
     let k = c .before .before .before .before .before in
     let s = k .before .before .before .before in
-    let h = power-small (s .args .m) (s .pre .0) in
-    omega (arith, step-most (s .args .m) (s .args .key), k .keys-in .ensures, s .pre .1)
+    let h = five-le 10 (s .pre .0) in
+    omega (arith, keys-most (s .args .m) (s .args .key), k .keys-in .ensures, s .pre .1)
 
 returns-6 : tie.Need-returns-6
 returns-6 c =

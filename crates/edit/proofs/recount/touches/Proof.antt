@@ -6,7 +6,8 @@ use native.Mathlib.Omega.{arith}
 use lib.Dec.{ltb}
 use borrow.Author.Tests.{le-ltb, lt-ltb}
 use borrow.Author.Needs.{needs}
-use Rattle.keys.specs.Key.{heightOf}
+use Rattle.keys.specs.Key.{zerosAtEnd}
+use Rattle.keys.proofs.LastZeros.{keys-height}
 use Rattle.keys.proofs.Powers.{five-le}
 use Rattle.keys.proofs.Valid.{valid-below}
 use Rattle.definitions.specs.Area.{summaryLevel, summaryHeight, blockKey}
@@ -15,8 +16,9 @@ use Rattle.edit.proofs.recount.touches.Statement.{statement}
 use Rattle.edit.proofs.recount.touches.Tie as tie
 
 -- the key that was found ends its interval a step on
-height-is : (m b other height : ℕ) → b < 4 ^ summaryLevel m → other ≡ blockKey m b → height ≡ heightOf m other → height ≡ summaryHeight m
-height-is m b other height h e f = f ∙ ap (heightOf m) e ∙ key-height m b h
+step-is : (m b other step : ℕ) → b < 4 ^ summaryLevel m → other ≡ blockKey m b → step ≡ 5 ^ zerosAtEnd m other → step ≡ 5 ^ summaryHeight m
+step-is m b other step h e f =
+    f ∙ ap (λ x. 5 ^ zerosAtEnd m x) e ∙ keys-height m (blockKey m b) (key-valid m b h) ∙ ap (λ k. 5 ^ k) (key-height m b h)
 
 -- and that end is small
 end-small : (m b other step : ℕ) → m ≤ 10 → b < 4 ^ summaryLevel m → other ≡ blockKey m b → step ≡ 5 ^ summaryHeight m → other + step < 2 ^ 32
@@ -42,34 +44,24 @@ key-of-requires c κs = search needs
 returns : tie.Need-returns
 returns c = none-touch _ _ _ _ _ (c .before .key-of .ensures) (c .if1 .taken)
 
-height-requires : tie.Need-height-requires
-height-requires c κs = search needs
-
-power-of-five-requires : tie.Need-power-of-five-requires
-power-of-five-requires c κs =
-    let found = c .before .before in
-    let start = found .before in
-    let e = height-is (start .args .m) (start .args .b) _ _ (start .pre .1) (found .key-of .ensures) (c .height .ensures) in
-    omega (arith, start .pre .0)
+keys-in-requires : tie.Need-keys-in-requires
+keys-in-requires c κs = search needs
 
 add-result : tie.Need-add-result
 add-result c =
-    let found = c .before .before .before in
+    let found = c .before .before in
     let start = found .before in
-    record {
-      fits =
-          end-small (start .args .m) (start .args .b) _ _ (start .pre .0) (start .pre .1) (found .key-of .ensures)
-          (c .power-of-five .ensures ∙ ap (λ x. 5 ^ x) (height-is (start .args .m) (start .args .b) _ _ (start .pre .1) (found .key-of .ensures) (c .before .height .ensures)));
-    }
+    let is = step-is (start .args .m) (start .args .b) _ _ (start .pre .1) (found .key-of .ensures) (c .keys-in .ensures) in
+    record { fits = end-small (start .args .m) (start .args .b) _ _ (start .pre .0) (start .pre .1) (found .key-of .ensures) is }
 
 returns-2 : tie.Need-returns-2
 returns-2 c =
-    let found = c .before .before .before in
+    let found = c .before .before in
     let start = found .before in
-    then-touch (start .args .m) (start .args .b) _ _ _ _ (found .key-of .ensures) (c .before .before .if1 .left)
-    (c .power-of-five .ensures ∙ ap (λ x. 5 ^ x) (height-is (start .args .m) (start .args .b) _ _ (start .pre .1) (found .key-of .ensures) (c .before .height .ensures)))
+    then-touch (start .args .m) (start .args .b) _ _ _ _ (found .key-of .ensures) (c .before .if1 .left)
+    (step-is (start .args .m) (start .args .b) _ _ (start .pre .1) (found .key-of .ensures) (c .keys-in .ensures))
 
 pub touches-spec : {M : Type 1} → statement M
 touches-spec =
     tie.close
-    (tie.spec key-of-requires returns height-requires power-of-five-requires add-result returns-2)
+    (tie.spec key-of-requires returns keys-in-requires add-result returns-2)

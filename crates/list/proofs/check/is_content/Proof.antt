@@ -6,6 +6,7 @@ use native.Mathlib.Omega.{arith}
 use borrow.Author.Tests.{ltb-true, ltb-false, not-true, not-false}
 use borrow.Author.Needs.{needs}
 use Rattle.keys.specs.Key.{validKey, heightOf}
+use Rattle.keys.proofs.LastZeros.{keys-height}
 use Rattle.keys.proofs.Powers.{five-le, height-le}
 use Rattle.keys.proofs.Valid.{valid-below}
 use Rattle.list.specs.Check.{stepUnder}
@@ -15,17 +16,14 @@ use Rattle.list.proofs.check.is_content.Statement.{statement}
 use Rattle.list.proofs.check.is_content.Tie as tie
 
 -- the step of the block's children, and that keys in the block's interval fit
-step-is : (m κ height power : ℕ) → height ≡ heightOf m κ → power ≡ 5 ^ height → power / 5 ≡ stepUnder (heightOf m κ)
-step-is m κ height power h p = ap (λ x. x / 5) (p ∙ ap (λ k. 5 ^ k) h) ∙ step-fifth (heightOf m κ)
+step-is : (m κ power : ℕ) → power ≡ 5 ^ heightOf m κ → power / 5 ≡ stepUnder (heightOf m κ)
+step-is m κ power p = ap (λ x. x / 5) p ∙ step-fifth (heightOf m κ)
 
-height-fits : (m κ height : ℕ) → m ≤ 10 → height ≡ heightOf m κ → height ≤ 10
-height-fits m κ height top h = let z = height-le m κ in omega arith
-
-keys-fit : (m κ height power : ℕ) → m ≤ 10 → validKey m κ ≡ true → height ≡ heightOf m κ → power ≡ 5 ^ height → κ + 5 * (power / 5) < 4294967296
-keys-fit m κ height power top valid h p =
+keys-fit : (m κ power : ℕ) → m ≤ 10 → validKey m κ ≡ true → power ≡ 5 ^ heightOf m κ → κ + 5 * (power / 5) < 4294967296
+keys-fit m κ power top valid p =
     let x = valid-below m κ valid in
     let y = five-le 10 top in
-    let z = five-le 10 (height-fits m κ height top h) in
+    let z = five-le m (height-le m κ) in
     omega arith
 
 returns : tie.Need-returns
@@ -80,42 +78,36 @@ returns-6 c =
     one-record (there (d .before .before)) (d .before .before .before .before .before .before .before .args .s) (d .if4 .left) (ltb-true _ _ (sym (b .before .slots-below .ensures) ∙ not-false _ (b .if5 .left)))
     (sym (c .before .has-one-slot .ensures) ∙ c .if6 .taken)
 
-height-requires : tie.Need-height-requires
-height-requires c κs = search needs
-
-power-of-five-requires : tie.Need-power-of-five-requires
-power-of-five-requires c κs =
-    let start = c .before .before .before .before .before .before .before .before .before .before .before .before .before in
-    let z = height-fits (start .args .m) (start .args .key) (c .height .result) (start .pre .0) (c .height .ensures) in
-    omega arith
+keys-in-requires : tie.Need-keys-in-requires
+keys-in-requires c κs = search needs
 
 slice-aggregate-after-node : tie.Need-slice-aggregate-after-node
-slice-aggregate-after-node c = sym (keys-length (there (c .before .before .before .before .before .before .before .before .before .before)))
+slice-aggregate-after-node c = sym (keys-length (there (c .before .before .before .before .before .before .before .before .before)))
 
 slice-aggregate-after-node-2 : tie.Need-slice-aggregate-after-node-2
-slice-aggregate-after-node-2 c = sym (bits-length (there (c .before .before .before .before .before .before .before .before .before .before .before)))
+slice-aggregate-after-node-2 c = sym (bits-length (there (c .before .before .before .before .before .before .before .before .before .before)))
 
 after-node-requires : tie.Need-after-node-requires
 after-node-requires c κs =
-    let st = there (c .before .before .before .before .before .before .before .before .before .before .before) in
-    let start = c .before .before .before .before .before .before .before .before .before .before .before .before .before .before .before .before in
+    let st = there (c .before .before .before .before .before .before .before .before .before .before) in
+    let start = c .before .before .before .before .before .before .before .before .before .before .before .before .before .before .before in
     let h = keys-length st in
     let z = st .some in (
       h ∙ sym (bits-length st),
       omega arith,
-      keys-fit (start .args .m) (start .args .key) (c .before .before .before .height .result) (c .before .before .power-of-five .result) (start .pre .0) (st .valid) (c .before .before .before .height .ensures) (c .before .before .power-of-five .ensures),
+      keys-fit (start .args .m) (start .args .key) (c .before .before .keys-in .result) (start .pre .0) (st .valid) (c .before .before .keys-in .ensures ∙ keys-height _ _ (st .valid)),
     )
 
 returns-7 : tie.Need-returns-7
 returns-7 c =
-    let e′ = c .before .before .before .before in
-    let e = e′ .before in
+    let e = c .before .before .before .before in
     let b = e .before .before in
     let d = b .before .before .before in
-    many-records (there (d .before .before)) (d .before .before .before .before .before .before .before .args .s) (d .if4 .left) (ltb-true _ _ (sym (b .before .slots-below .ensures) ∙ not-false _ (b .if5 .left)))
+    let st = there (d .before .before) in
+    many-records st (d .before .before .before .before .before .before .before .args .s) (d .if4 .left) (ltb-true _ _ (sym (b .before .slots-below .ensures) ∙ not-false _ (b .if5 .left)))
     (c .after-node .result)
     (sym (e .before .has-one-slot .ensures) ∙ e .if6 .left)
-    (c .after-node .ensures .1 _ (step-is _ _ _ _ (e′ .height .ensures) (c .before .before .before .power-of-five .ensures)))
+    (c .after-node .ensures .1 _ (step-is _ _ _ (c .before .before .before .keys-in .ensures ∙ keys-height _ _ (st .valid))))
 
 pub is-content-spec : {M : Type 1} → statement M
 is-content-spec =
@@ -131,8 +123,7 @@ is-content-spec =
     returns-5
     has-one-slot-requires
     returns-6
-    height-requires
-    power-of-five-requires
+    keys-in-requires
     slice-aggregate-after-node
     slice-aggregate-after-node-2
     after-node-requires

@@ -4,7 +4,7 @@ use native.Mathlib.Omega.{arith}
 use Rattle.list.proofs.Own.{own-sorted}
 use Rattle.list.proofs.Fuller.{near-root}
 use Rattle.put.proofs.PlanTop.{top-fits}
-use Rattle.put.proofs.PlanPlaces.{FilledBlock, filled-by, filled-until, filled-step, filled-asked, key-below, plan-listed, plan-high, plan-inside}
+use Rattle.put.proofs.PlanPlaces.{FilledBlock, filled-by, filled-until, filled-step, filled-asked, plan-listed, plan-high, plan-inside}
 use borrow.Author.Needs.{needs}
 use Rattle.put.proofs.plan.plan_of.Statement.{statement}
 use Rattle.put.proofs.plan.plan_of.Tie as tie
@@ -16,7 +16,7 @@ at-power c = let start = c .before .before .before .before in filled-by _ _ _ (s
 top-of-requires : tie.Need-top-of-requires
 top-of-requires c κs =
     let start = c .before .before in
-    ((start .pre .0 .0, key-below (start .pre .0 .0) (start .pre .0 .1)), (own-sorted (start .pre .1) 0, omega (arith, start .pre .1 .fits)))
+    (start .pre .0, (own-sorted (start .pre .1) 0, omega (arith, start .pre .1 .fits)))
 
 power-of-five-requires : tie.Need-power-of-five-requires
 power-of-five-requires c κs = top-fits _ _ _ _ _ _ (c .top-of .ensures) (c .before .before .before .pre .0 .0)

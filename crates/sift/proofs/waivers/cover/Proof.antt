@@ -2,15 +2,13 @@
 use mathlib.Core.Path.{_≡_, ap, _∙_}
 use native.Mathlib.Omega.{arith}
 use borrow.Author.Needs.{needs}
-use Rattle.keys.proofs.Powers.{five-le}
-use Rattle.keys.proofs.Valid.{valid-below}
 use Rattle.sift.specs.Covering.{further, endOf, firstPixel}
 use Rattle.sift.proofs.OneWaiver.{end-small, over-early, over-late, over-in}
 use Rattle.sift.proofs.waivers.cover.Statement.{statement}
 use Rattle.sift.proofs.waivers.cover.Tie as tie
 
 end-of-requires : tie.Need-end-of-requires
-end-of-requires c κs = let v = valid-below _ _ (c .pre .1) in let five = five-le 10 (c .pre .0) in (c .pre .0, omega arith)
+end-of-requires c κs = search needs
 
 larger-requires : tie.Need-larger-requires
 larger-requires c κs = search needs

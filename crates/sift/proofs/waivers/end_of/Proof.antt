@@ -1,30 +1,25 @@
--- `waivers::end_of` meets its contract. Rests on the powers.
-use mathlib.Core.Path.{_≡_, ap, _∙_}
+-- `waivers::end_of` meets its contract: the zeros at the end of a valid key tell how many keys its block has.
 use Prim.Native.Nat.{_+_, _^_}
+use mathlib.Core.Path.{_≡_, ap, _∙_}
 use native.Mathlib.Omega.{arith}
 use borrow.Author.Needs.{needs}
 use Rattle.keys.specs.Key.{heightOf}
-use Rattle.keys.proofs.Powers.{height-le}
-use Rattle.sift.proofs.OneWaiver.{power-small}
+use Rattle.keys.proofs.LastZeros.{keys-height}
+use Rattle.sift.proofs.OneWaiver.{end-small}
 use Rattle.sift.proofs.waivers.end_of.Statement.{statement}
 use Rattle.sift.proofs.waivers.end_of.Tie as tie
 
-height-requires : tie.Need-height-requires
-height-requires c κs = search needs
+keys-in-requires : tie.Need-keys-in-requires
+keys-in-requires c κs = search needs
 
-power-of-five-requires : tie.Need-power-of-five-requires
-power-of-five-requires c κs =
-    let h = height-le (c .before .args .m) (c .before .args .key) in
-    omega (arith, c .before .pre .0, c .height .ensures)
-
-power : (c : tie.After-power-of-five) → c .power-of-five .result ≡ 5 ^ heightOf (c .before .before .args .m) (c .before .before .args .key)
-power c = c .power-of-five .ensures ∙ ap (λ k. 5 ^ k) (c .before .height .ensures)
+power : (c : tie.After-keys-in) → c .keys-in .result ≡ 5 ^ heightOf (c .before .args .m) (c .before .args .key)
+power c = c .keys-in .ensures ∙ keys-height _ _ (c .before .pre .1)
 
 add-result : tie.Need-add-result
-add-result c = let s = power-small (c .before .before .args .m) (c .before .before .args .key) (c .before .before .pre .0) in omega (arith, power c, c .before .before .pre .1)
+add-result c = let small = end-small _ _ (c .before .pre .0) (c .before .pre .1) in omega (arith, power c)
 
 returns : tie.Need-returns
-returns c = ap (λ x. c .before .before .args .key + x) (power c)
+returns c = ap (λ x. c .before .args .key + x) (power c)
 
 pub end-of-spec : {M : Type 1} → statement M
-end-of-spec = tie.close (tie.spec height-requires power-of-five-requires add-result returns)
+end-of-spec = tie.close (tie.spec keys-in-requires add-result returns)

@@ -5,8 +5,6 @@ use mathlib.Core.Path.{_≡_, ap, _∙_, refl}
 use mathlib.Core.Logic.{⊎-elim}
 use lib.ListN.{length}
 use lib.Dec.{leb}
-use Rattle.keys.proofs.Powers.{five-le}
-use Rattle.keys.proofs.Valid.{valid-below}
 use Rattle.sift.specs.Covering.{endOf, startOf}
 use Rattle.sift.proofs.Settling.{Going, begins, goes, settled, none-left, late-left, waived-at}
 use Rattle.sift.proofs.waivers.merge.Statement.{statement}
@@ -26,14 +24,10 @@ ends : (c : tie.At-loop Inv-loop μ-loop) → c .before .before .end-of .result 
 ends c = c .before .before .end-of .ensures
 
 end-of-requires : tie.Need-end-of-requires Inv-loop μ-loop
-end-of-requires c κs =
-    let start = c .before in
-    let v = valid-below _ _ (start .pre .1) in
-    let five = five-le 10 (start .pre .0) in
-    (start .pre .0, omega arith)
+end-of-requires c κs = (c .before .pre .0, c .before .pre .1)
 
 start-requires : tie.Need-start-requires Inv-loop μ-loop
-start-requires c κs = c .end-of .ensures
+start-requires c κs = (c .before .before .pre .1, c .end-of .ensures)
 
 loop-holds : tie.Need-loop-holds Inv-loop μ-loop
 loop-holds c =

@@ -2,6 +2,8 @@
 use Prim.Native.Nat.{_^_}
 use mathlib.Core.Path.{_≡_, _∙_}
 use native.Mathlib.Omega.{arith}
+use Rattle.keys.specs.Key.{heightOf}
+use Rattle.keys.proofs.LastZeros.{keys-height}
 use Rattle.keys.proofs.Powers.{five-le}
 use Rattle.step.specs.Runs.{Between, descends, lastFirst}
 use Rattle.step.proofs.Chains.{run-ended}
@@ -27,22 +29,27 @@ last-entry-requires : tie.Need-last-entry-requires Inv-loop μ-loop
 last-entry-requires c κs = run-ended (c .before .loop .inv .0) (c .loop-test .taken)
 
 keys-in-requires : tie.Need-keys-in-requires Inv-loop μ-loop
-keys-in-requires c κs =
-    (c .before .before .before .before .before .before .pre .0, turn-valid (c .before .before .loop .inv .0) (c .before .loop-test .taken) _ (c .last-entry .ensures))
+keys-in-requires c κs = c .before .before .before .before .before .before .pre .0
+
+-- the step is the block's number of keys
+step-is : (c : tie.After-keys-in Inv-loop μ-loop) → c .keys-in .result ≡ 5 ^ heightOf (c .before .before .before .before .before .before .before .args .m) (c .before .last-entry .result .key)
+step-is c =
+    let t = turn-valid (c .before .before .before .loop .inv .0) (c .before .before .loop-test .taken) _ (c .before .last-entry .ensures) in
+    c .keys-in .ensures ∙ keys-height _ _ t
 
 add-if1 : tie.Need-add-if1 Inv-loop μ-loop
 add-if1 c =
     let s = c .before .before .before .before .before .before .before in
     let i = c .before .before .before .loop .inv in
     let w = turn-within (i .0) (c .before .before .loop-test .taken) _ (c .before .last-entry .ensures) in
-    let step = c .keys-in .ensures in
+    let step = step-is c in
     let small = five-le 10 (s .pre .0) in
     record { fits = omega arith }
 
 returns : tie.Need-returns Inv-loop μ-loop
 returns c =
     let i = c .before .before .before .before .loop .inv in
-    let step = c .before .keys-in .ensures in
+    let step = step-is (c .before) in
     let past = c .if1 .taken in
     descends-not (i .0) (c .before .before .before .loop-test .taken) _ (c .before .before .last-entry .ensures) _ (omega arith) ∙ i .1
 
@@ -58,7 +65,7 @@ loop-again c =
     let i = c .before .before .before .before .loop .inv in
     let t = c .before .before .before .loop-test .taken in
     let f = c .before .before .last-entry .ensures in
-    let step = c .before .keys-in .ensures in
+    let step = step-is (c .before) in
     let past = c .if1 .left in
     (turn-rest (i .0) t _ f, descends-on (i .0) t _ f _ (omega arith) ∙ i .1)
 
