@@ -7,10 +7,12 @@ use mathlib.Core.List.{List, [], _∷_}
 use native.Mathlib.Omega.{arith}
 use lib.ListN.{length, getD, take, drop}
 use lib.Seq.{getD-take}
+use Rattle.keys.proofs.Cases.{decide}
 use Rattle.keys.proofs.Powers.{five-le}
 use Rattle.definitions.specs.List.{Record, recordOf}
 use Rattle.definitions.specs.Read.{room, paired, recordsOf}
-use Rattle.definitions.specs.Standing.{placeOf, isListed, recordsIn, partLength}
+use Rattle.definitions.specs.Standing.{placeOf, isListed, standingOf, partLength}
+use Rattle.definitions.specs.declared.Standing.{Standing}
 use Rattle.definitions.specs.Log.{closed, closingPlaces}
 use Rattle.definitions.specs.Calls.Paint.{gained}
 use Rattle.laws.proofs.Ascending.{Ascending, none, next}
@@ -19,8 +21,10 @@ use Rattle.laws.proofs.Records.{records-run}
 use Rattle.list.specs.Own.{OwnList, shownBy}
 use Rattle.list.proofs.Among.{values-of-records}
 use Rattle.list.proofs.Own.{own-length}
+use Rattle.list.proofs.Fuller.{listed-standing, inside-standing, listed-part, inside-part}
 use Rattle.put.specs.Family.{blockBits}
-use Rattle.edit.specs.Content.{contentIn}
+use Rattle.edit.specs.Content.{contentIn, formerBy, formerOf}
+use Rattle.edit.specs.declared.logging.Former.{Former}
 use Rattle.log.specs.declared.entry.Entry.{Entry}
 use Rattle.log.specs.Entries.{recordsFromPlace, Loggable, Logged}
 use Rattle.edit.specs.PaintCall.{Fresh}
@@ -51,6 +55,15 @@ module _ {m n : ℕ} {keys bits : List ℕ} (own : OwnList m keys bits n) where
       let f = records-length own in
       let h = place-lt x (recordsOf keys bits n) (omega arith) in
       omega arith
+
+-- what a standing tells of the content
+pub former-stands : (m κ : ℕ) (l : List Record) {standing : Standing} {former : Former} → standing ≡ standingOf m κ l → former ≡ formerBy standing → former ≡ formerOf m κ l
+former-stands m κ l e f =
+    f
+    ∙ ap formerBy e
+    ∙ decide (isListed κ l)
+    (λ t. ap formerBy (sym (listed-standing m κ l t)) ∙ (λ i. record { listed = sym t i; place = placeOf κ l; count = sym (listed-part m κ l t) i }))
+    (λ t. ap formerBy (sym (inside-standing m κ l t)) ∙ (λ i. record { listed = sym t i; place = placeOf κ l; count = sym (inside-part m κ l t) i }))
 
 -- a new entry
 module _ {m n : ℕ} {keys bits logKeys logValues : List ℕ} {new : Entry} (a : Fresh m keys bits n new logKeys logValues) where
@@ -100,8 +113,7 @@ module _ {m n : ℕ} {keys bits logKeys logValues : List ℕ} {new : Entry} (a :
     leaf-there = let h = own-place (a .own) (new .key) in omega arith
 
     one : new .count ≡ 1
-    unfolding partLength
-    one = a .whole ∙ ap (λ b. cond b (recordsIn m (new .key) (recordsOf keys bits n)) 1) inside
+    one = a .whole ∙ inside-part m (new .key) (recordsOf keys bits n) inside
 
     pub inside-loggable : Loggable new (new .key ∷ []) (getD bits leaf 0 ∷ []) 0 logKeys logValues
     inside-loggable = let e = one in record { content-there = omega arith; fits = entry-fits; small = omega arith }

@@ -1,26 +1,68 @@
-// What a paint logs: the block's former content. Its length decides refusal 10 before anything is written.
+// What a paint logs: the block's former content. Where it stands in the list is looked for here; its length decides refusal 10 before anything is written.
 ghost use mathlib.Core.Path.{_≡_};
-ghost use Prim.Native.Nat.{_≤_};
+ghost use Prim.Native.Nat.{_≤_, _^_};
+ghost use Rattle.keys.specs.Key.{heightOf};
 ghost use Rattle.definitions.specs.Read.{room, recordsOf};
-ghost use Rattle.definitions.specs.Standing.{partLength};
 ghost use Rattle.definitions.specs.Calls.Paint.{gained};
 ghost use Rattle.list.specs.Own.{BlockIn};
+ghost use Rattle.list.specs.Sorted.{Near};
 ghost use Rattle.log.specs.Entries.{Logged};
+ghost use Rattle.edit.specs.Content.{formerBy, formerOf};
 ghost use Rattle.edit.specs.PaintCall.{Fresh, Relogged};
 use definitions::Standing;
 use list::standing;
 use log::entry;
 use log::entry::Entry;
 
-// How many records the content has: those of a listed block, or one.
-pub fn content_length(m: u32, keys: &[u32], bits: &[u32], n: usize, key: u32) -> usize
-    requires { ⌜ BlockIn m (now keys) (now bits) n key ⌝ }
-    ensures { λ r. ⌜ r ≡ partLength m key (recordsOf (now (keys .entry)) (now (bits .entry)) n) ⌝ }
+// A block's former content: the list has it from a place on, so many records; or the block lies inside the leaf at the place, and its content is one
+// record, which the list does not have.
+pub struct Former {
+    pub listed: bool,
+    pub place: usize,
+    pub count: usize,
+}
+
+fn by_standing(standing: Standing) -> Former
+    ensures { λ r. ⌜ r ≡ formerBy standing ⌝ }
 {
-    match standing::stand(m, keys, bits, n, key) {
-        Standing::Listed(place, records) => records,
-        Standing::Inside(place, leaf, level) => 1,
+    match standing {
+        Standing::Listed(place, records) => Former {
+            listed: true,
+            place,
+            count: records,
+        },
+        Standing::Inside(place, leaf, level) => Former {
+            listed: false,
+            place,
+            count: 1,
+        },
     }
+}
+
+// The content of a block, looked for from a place on, where step is the number of its keys.
+pub fn content_from(
+    m: u32,
+    keys: &[u32],
+    bits: &[u32],
+    n: usize,
+    from: usize,
+    key: u32,
+    step: u32,
+) -> Former
+    requires { ⌜ BlockIn m (now keys) (now bits) n key × (step ≡ 5 ^ heightOf m key) × Near (now keys) n from key ⌝ }
+    ensures { λ r. ⌜ r ≡ formerOf m key (recordsOf (now (keys .entry)) (now (bits .entry)) n) ⌝ }
+{
+    let standing = standing::stand_from(m, keys, bits, n, from, key, step);
+    by_standing(standing)
+}
+
+// The same, where neither a place nor the step is known yet.
+pub fn content_of(m: u32, keys: &[u32], bits: &[u32], n: usize, key: u32) -> Former
+    requires { ⌜ BlockIn m (now keys) (now bits) n key ⌝ }
+    ensures { λ r. ⌜ r ≡ formerOf m key (recordsOf (now (keys .entry)) (now (bits .entry)) n) ⌝ }
+{
+    let standing = standing::stand(m, keys, bits, n, key);
+    by_standing(standing)
 }
 
 // Writes the new entry: a listed block's records, or one record with the block's own key and the bits of the leaf around it. Gives the number of
@@ -30,27 +72,24 @@ pub fn log_content(
     keys: &[u32],
     bits: &[u32],
     n: usize,
+    former: Former,
     new: Entry,
     log_keys: &mut [u32],
     log_values: &mut [u32],
 ) -> usize
-    requires { ⌜ Fresh m (now keys) (now bits) n new (now «log_keys») (now «log_values») ⌝ }
+    requires { ⌜ Fresh m (now keys) (now bits) n new (now «log_keys») (now «log_values») × (former ≡ formerOf m (new .key) (recordsOf (now keys) (now bits) n)) ⌝ }
     ensures { λ r. ⌜ Logged (gained m (recordsOf (now (keys .entry)) (now (bits .entry)) n) (new .key) (new .feature)) (new .start)
         (now («log_keys» .entry)) (now («log_values» .entry)) (now («log_keys» .exit)) (now («log_values» .exit)) r ⌝ }
 {
+    let place = former.place;
+    if former.listed {
+        return entry::write_entry(new, keys, bits, place, log_keys, log_values);
+    }
     let key = new.key;
-    let standing = standing::stand(m, keys, bits, n, key);
-    let Standing::Listed(place, records) = standing else {
-        let Standing::Inside(around, leaf, level) = standing else {
-            // A standing is one of the two: never reached.
-            return 0;
-        };
-        let value = bits[around];
-        let content_keys = [key];
-        let content_bits = [value];
-        return entry::write_entry(new, &content_keys, &content_bits, 0, log_keys, log_values);
-    };
-    entry::write_entry(new, keys, bits, place, log_keys, log_values)
+    let value = bits[place];
+    let content_keys = [key];
+    let content_bits = [value];
+    entry::write_entry(new, &content_keys, &content_bits, 0, log_keys, log_values)
 }
 
 // Writes the new entry over the entries that could be redone: what was used past it becomes zero. Gives the number of records used then.
@@ -68,7 +107,8 @@ pub fn log_paint(
     ensures { λ r. ⌜ Relogged (gained m (recordsOf (now (keys .entry)) (now (bits .entry)) n) (new .key) (new .feature)) (new .start) used
         (now («log_keys» .entry)) (now («log_values» .entry)) (now («log_keys» .exit)) (now («log_values» .exit)) r ⌝ }
 {
-    let end = log_content(m, keys, bits, n, new, log_keys, log_values);
+    let former = content_of(m, keys, bits, n, new.key);
+    let end = log_content(m, keys, bits, n, former, new, log_keys, log_values);
     entry::clear_from(log_keys, log_values, end, used);
     end
 }

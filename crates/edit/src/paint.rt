@@ -39,7 +39,8 @@ fn decide_room(
         (newEntry m (recordsOf (now (keys .entry)) (now (bits .entry)) n) «in_force» key feature)
         (paintPlan m (recordsOf (now (keys .entry)) (now (bits .entry)) n) key feature) ⌝ }
 {
-    let count = logging::content_length(m, keys, bits, n, key);
+    let former = logging::content_of(m, keys, bits, n, key);
+    let count = former.count;
     let logged = in_force + entry::places(count);
     if log_keys.len() < logged {
         return Decision::Refused(10);

@@ -13,6 +13,7 @@ use Rattle.definitions.specs.declared.Window.{Window}
 use Rattle.definitions.specs.Log.{entriesOf}
 use Rattle.definitions.specs.Calls.PaintWindow.{groupGained}
 use Rattle.list.specs.Own.{OwnList, shownBy}
+use Rattle.list.specs.Sorted.{Near}
 
 -- a block and a window whose numbers are those of a map
 pub record Placed (w : Window) (height row column : ℕ) : Type 0 where
@@ -34,6 +35,11 @@ pub record Coverable (m : ℕ) (keys bits : List ℕ) (n : ℕ) (w : Window) : T
   pub own : OwnList m keys bits n
   pub low : w .row + w .height ≤ 1024
   pub narrow : w .column + w .width ≤ 1024
+
+-- the number of a block's keys, and a place from which it can be looked for
+pub record Sought (keys : List ℕ) (n height key step from : ℕ) : Type 0 where
+  pub step-is : step ≡ 5 ^ height
+  pub near : Near keys n from key
 
 -- the number of the blocks, and the places that their entries take, whatever they are painted with
 pub record NeededFor (m : ℕ) (p : Picture) (blocks : List ℕ) (number places : ℕ) : Type 0 where

@@ -18,13 +18,13 @@ use Rattle.edit.proofs.paint.decide_room.Statement.{statement}
 use Rattle.edit.proofs.paint.decide_room.Tie as tie
 
 -- the start, from the content's length
-abbrev start : tie.After-content-length → tie.Start
+abbrev start : tie.After-content-of → tie.Start
 start c = c .before .before .before .before .before
 
 -- the content's length
-count-is : (c : tie.After-content-length)
-    → (let a = start c .args in c .content-length .result ≡ partLength (a .m) (a .key) (recordsOf (a .keys .now) (a .bits .now) (a .n)))
-count-is c = c .content-length .ensures
+count-is : (c : tie.After-content-of)
+    → (let a = start c .args in c .content-of .result .count ≡ partLength (a .m) (a .key) (recordsOf (a .keys .now) (a .bits .now) (a .n)))
+count-is c = ap (λ x. x .count) (c .content-of .ensures)
 
 -- the places that the entry takes
 places-is : (c : tie.After-places)
@@ -57,8 +57,8 @@ after-is c =
     let s = start (c .before .before .before .before .before .before) in
     c .length-after .ensures ∙ length-told (paint-planned (s .pre .0) (plan-is (c .before))) 1 refl
 
-content-length-requires : tie.Need-content-length-requires
-content-length-requires c κs =
+content-of-requires : tie.Need-content-of-requires
+content-of-requires c κs =
     let s = c .before .before .before .before in
     record { deepest = s .pre .0 .deepest; own = s .pre .0 .own; valid = s .pre .0 .valid }
 
@@ -110,7 +110,7 @@ pub decide-room-spec : {M : Type 1} → statement M
 decide-room-spec =
     tie.close
     (tie.spec
-    content-length-requires
+    content-of-requires
     places-requires
     add-logged
     returns

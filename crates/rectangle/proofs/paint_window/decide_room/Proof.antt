@@ -9,6 +9,7 @@ use Rattle.definitions.specs.Log.{closingPlaces}
 use Rattle.definitions.specs.Calls.PaintWindow.{groupGained}
 use Rattle.rectangle.proofs.GroupLogged.{group-length, root-number}
 use Rattle.rectangle.proofs.WindowNeeds.{needs-few}
+use Rattle.rectangle.proofs.WindowSearch.{sought-root}
 use Rattle.rectangle.proofs.PaintWindowTable.{window-refuses, log-full, list-full, room-enough}
 use borrow.Author.Needs.{needs}
 use Rattle.rectangle.proofs.paint_window.decide_room.Statement.{statement}
@@ -16,11 +17,11 @@ use Rattle.rectangle.proofs.paint_window.decide_room.Tie as tie
 
 -- the start, from what the blocks need
 abbrev start : tie.After-need-below → tie.Start
-start c = c .before .before .before .before .before
+start c = c .before .before .before .before .before .before
 
 -- that is little
 few : (c : tie.After-need-below) → c .need-below .result .places ≤ 29296875
-few c = needs-few _ _ _ _ _ _ (start c .pre .0 .list .deep) here (c .need-below .ensures) .1
+few c = needs-few _ _ _ _ _ _ (start c .pre .0 .list .deep) here (c .need-below .ensures .0) .1
 
 -- the places used with the group
 logged-is : (c : tie.After-places)
@@ -30,15 +31,20 @@ logged-is c =
     let a = start (c .before) .args in
     ap (λ x. a .in-force + x)
     (c .places .ensures
-    ∙ ap (λ x. x + closingPlaces) (c .before .need-below .ensures .places-are (a .feature))
+    ∙ ap (λ x. x + closingPlaces) (c .before .need-below .ensures .0 .places-are (a .feature))
     ∙ sym (group-length (a .m) (a .keys .now) (a .bits .now) (a .n) (a .window) (a .feature)))
 
 -- there is room for them
 log-fits : (c : tie.Else2) → (let d = c .before .before in let a = start (d .before) .args in a .in-force + d .places .result ≤ room (a .log-keys .now) (a .log-values .now))
 log-fits c = omega (arith, c .before .if1 .left, c .if2 .left)
 
+power-of-five-requires : tie.Need-power-of-five-requires
+power-of-five-requires c κs = search needs
+
 need-below-requires : tie.Need-need-below-requires
-need-below-requires c κs = (c .before .before .before .before .pre .0 .list, here)
+need-below-requires c κs =
+    let a = c .before .before .before .before .before .pre .0 .list in
+    (a, here, sought-root (a .own) (c .power-of-five .ensures))
 
 places-requires : tie.Need-places-requires
 places-requires c κs = omega (arith, few c)
@@ -92,7 +98,7 @@ returns-5 c =
     let needed = d .before .before .before in
     record {
       refusal-is = room-enough _ _ _ _ _ _ _ _ _ _ (logged-is (d .before .before)) _ (after .length-filled .ensures) (log-fits d) (omega (arith, c .before .if3 .left, c .if4 .left));
-      number-is = λ z. root-number _ _ (needed .need-below .ensures .number-is);
+      number-is = λ z. root-number _ _ (needed .need-below .ensures .0 .number-is);
       after-is = λ z. after .length-filled .ensures;
     }
 
@@ -100,6 +106,7 @@ pub decide-room-spec : {M : Type 1} → statement M
 decide-room-spec =
     tie.close
     (tie.spec
+    power-of-five-requires
     need-below-requires
     places-requires
     add-logged

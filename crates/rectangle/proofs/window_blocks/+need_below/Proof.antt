@@ -1,5 +1,6 @@
--- `need_below` meets its contract: none, the block itself, or what its quadrants need together. The height falls at each call.
-use Prim.Native.Nat.{ℕ, _-_, _+_, _≤_, _<_}
+-- `need_below` meets its contract: none, the block itself, or what its quadrants need together, each looked for from where the last one was found.
+-- The height falls at each call.
+use Prim.Native.Nat.{ℕ, _≤_, _<_}
 use mathlib.Core.Path.{_≡_, ap}
 use mathlib.Core.Bool.{false}
 use native.Mathlib.Omega.{arith}
@@ -12,10 +13,11 @@ use Rattle.step.proofs.QuarterSums.{divisible, lower-than, block-nw, block-ne, 
 use Rattle.edit.proofs.ContentLength.{part-there}
 use Rattle.rectangle.proofs.WindowLies.{placed}
 use Rattle.rectangle.proofs.WindowNeeds.{needs-none, needs-one, needs-four, needs-few}
+use Rattle.rectangle.proofs.WindowSearch.{sought-block, found-after, sought-after, sought-nw, sought-ne, sought-sw, sought-se, sought-end}
 use Rattle.rectangle.proofs.window_blocks.need_below.Reads as own
 use Rattle.rectangle.proofs.window_blocks.need_below.Kinds as kinds
 use Rattle.rectangle.proofs.window_blocks.+need_below.Lts-need_below as lts
-use Rattle.edit.proofs.logging.content_length.Reads as content-length
+use Rattle.edit.proofs.logging.content_from.Reads as content-from
 use Rattle.rectangle.proofs.window_blocks.lies.Reads as lies
 use Rattle.log.proofs.entry.places.Reads as places
 use Rattle.step.proofs.quarters.of.Reads as quarters
@@ -32,30 +34,35 @@ abbrev below : ℕ → In 2 kinds.ps
 below t = and 2 kinds.ps (falls 2 kinds.ps _<_ measure t) own.Pre
 
 abbrev claims : ℕ → lts.Claims
-claims t = (lies.Asked, lies.Learnt, content-length.Asked, content-length.Learnt, places.Asked, places.Learnt, quarters.Asked, quarters.Learnt, below t, own.Post)
+claims t = (lies.Asked, lies.Learnt, content-from.Asked, content-from.Learnt, places.Asked, places.Learnt, quarters.Asked, quarters.Learnt, below t, own.Post)
 
 lies-requires : (t : ℕ) → lts.Need-lies-requires (claims t) (given t) own.Post
 lies-requires t c κs = let a = c .before .before .pre .1 in placed (a .0) (a .1)
 
 returns : (t : ℕ) → lts.Need-returns (claims t) (given t) own.Post
-returns t c = needs-none _ _ (c .before .lies .ensures .none (c .if1 .taken) _)
+returns t c =
+    let s = c .before .before .before .before in
+    (needs-none _ _ (c .before .lies .ensures .none (c .if1 .taken) _), sought-after (s .pre .1 .2))
 
-content-length-requires : (t : ℕ) → lts.Need-content-length-requires (claims t) (given t) own.Post
-content-length-requires t c κs =
-    let a = c .before .before .before .before .before .pre .1 in
-    record { deepest = a .0 .deep; own = a .0 .own; valid = block-valid (a .1) .valid }
+content-from-requires : (t : ℕ) → lts.Need-content-from-requires (claims t) (given t) own.Post
+content-from-requires t c κs = let a = c .before .before .before .before .before .pre .1 in sought-block (a .0) (a .1) (a .2)
 
 places-requires : (t : ℕ) → lts.Need-places-requires (claims t) (given t) own.Post
 places-requires t c κs =
     let s = c .before .before .before .before .before .before in
     let a = s .pre .1 in
-    omega (arith, c .content-length .ensures, part-there (a .0 .own) _ (block-valid (a .1) .valid), a .0 .own .fits, s .good)
+    let count = ap (λ x. x .count) (c .content-from .ensures) in
+    omega (arith, count, part-there (a .0 .own) _ (block-valid (a .1) .valid), a .0 .own .fits, s .good)
 
 returns-2 : (t : ℕ) → lts.Need-returns-2 (claims t) (given t) own.Post
 returns-2 t c =
     let then = c .before .before in
     let a = then .before .before .before .before .before .pre .1 in
-    needs-one (a .0 .own) _ (block-valid (a .1) .valid) (then .before .before .lies .ensures .one (then .if2 .taken) _) (c .before .content-length .ensures) (c .places .ensures)
+    let b = sought-block (a .0) (a .1) (a .2) .0 in
+    let found = c .before .content-from .ensures in (
+      needs-one (a .0 .own) _ (b .valid) (then .before .before .lies .ensures .one (then .if2 .taken) _) (ap (λ x. x .count) found) (c .places .ensures),
+      found-after b found _,
+    )
 
 -- once the quadrants have to be asked, once they are told, and once all are asked
 abbrev Divided : ℕ → Type 0
@@ -84,16 +91,16 @@ falling : (t : ℕ) (c : Quartered t) → c .of .result .height < t
 falling t c = lower-than _ _ _ (c .of .ensures) (cut t (c .before) .0) (start t c .pre .0)
 
 nw-requires : (t : ℕ) → lts.Need-need-below-requires (claims t) (given t) own.Post
-nw-requires t c κs = let a = start t c .pre .1 in (falling t c, (a .0, block-nw (c .of .ensures) (a .1) (cut t (c .before) .0)))
+nw-requires t c κs = let a = start t c .pre .1 in (falling t c, (a .0, block-nw (c .of .ensures) (a .1) (cut t (c .before) .0), sought-nw (a .2) _ _ (c .of .ensures)))
 
 ne-requires : (t : ℕ) → lts.Need-need-below-requires-2 (claims t) (given t) own.Post
-ne-requires t c κs = let q = c .before in let a = start t q .pre .1 in (falling t q, (a .0, block-ne (q .of .ensures) (a .1) (cut t (q .before) .0)))
+ne-requires t c κs = let q = c .before in let a = start t q .pre .1 in (falling t q, (a .0, block-ne (q .of .ensures) (a .1) (cut t (q .before) .0), sought-ne (a .2) _ _ (q .of .ensures) (c .need-below .ensures .1)))
 
 sw-requires : (t : ℕ) → lts.Need-need-below-requires-3 (claims t) (given t) own.Post
-sw-requires t c κs = let q = c .before .before in let a = start t q .pre .1 in (falling t q, (a .0, block-sw (q .of .ensures) (a .1) (cut t (q .before) .0)))
+sw-requires t c κs = let q = c .before .before in let a = start t q .pre .1 in (falling t q, (a .0, block-sw (q .of .ensures) (a .1) (cut t (q .before) .0), sought-sw (a .2) _ _ (q .of .ensures) (c .need-below2 .ensures .1)))
 
 se-requires : (t : ℕ) → lts.Need-need-below-requires-4 (claims t) (given t) own.Post
-se-requires t c κs = let q = c .before .before .before in let a = start t q .pre .1 in (falling t q, (a .0, block-se (q .of .ensures) (a .1) (cut t (q .before) .0)))
+se-requires t c κs = let q = c .before .before .before in let a = start t q .pre .1 in (falling t q, (a .0, block-se (q .of .ensures) (a .1) (cut t (q .before) .0), sought-se (a .2) _ _ (q .of .ensures) (c .need-below3 .ensures .1)))
 
 -- what each of the four needs is little
 module _ (t : ℕ) (c : All t) where
@@ -108,33 +115,33 @@ module _ (t : ℕ) (c : All t) where
       omega (arith, e, w .height, a .0 .deep)
 
   few-nw : (c .before .before .before .need-below .result .number ≤ 29296875) × (c .before .before .before .need-below .result .places ≤ 29296875)
-  few-nw = let q = quartered in needs-few _ _ _ _ _ _ low (block-nw (q .of .ensures) (start t q .pre .1 .1) (cut t (q .before) .0)) (c .before .before .before .need-below .ensures)
+  few-nw = let q = quartered in needs-few _ _ _ _ _ _ low (block-nw (q .of .ensures) (start t q .pre .1 .1) (cut t (q .before) .0)) (c .before .before .before .need-below .ensures .0)
 
   few-ne : (c .before .before .need-below2 .result .number ≤ 29296875) × (c .before .before .need-below2 .result .places ≤ 29296875)
-  few-ne = let q = quartered in needs-few _ _ _ _ _ _ low (block-ne (q .of .ensures) (start t q .pre .1 .1) (cut t (q .before) .0)) (c .before .before .need-below2 .ensures)
+  few-ne = let q = quartered in needs-few _ _ _ _ _ _ low (block-ne (q .of .ensures) (start t q .pre .1 .1) (cut t (q .before) .0)) (c .before .before .need-below2 .ensures .0)
 
   few-sw : (c .before .need-below3 .result .number ≤ 29296875) × (c .before .need-below3 .result .places ≤ 29296875)
-  few-sw = let q = quartered in needs-few _ _ _ _ _ _ low (block-sw (q .of .ensures) (start t q .pre .1 .1) (cut t (q .before) .0)) (c .before .need-below3 .ensures)
+  few-sw = let q = quartered in needs-few _ _ _ _ _ _ low (block-sw (q .of .ensures) (start t q .pre .1 .1) (cut t (q .before) .0)) (c .before .need-below3 .ensures .0)
 
   few-se : (c .need-below4 .result .number ≤ 29296875) × (c .need-below4 .result .places ≤ 29296875)
-  few-se = let q = quartered in needs-few _ _ _ _ _ _ low (block-se (q .of .ensures) (start t q .pre .1 .1) (cut t (q .before) .0)) (c .need-below4 .ensures)
+  few-se = let q = quartered in needs-few _ _ _ _ _ _ low (block-se (q .of .ensures) (start t q .pre .1 .1) (cut t (q .before) .0)) (c .need-below4 .ensures .0)
 
-add-two : (t : ℕ) → lts.Need-add-t20 (claims t) (given t) own.Post
+add-two : (t : ℕ) → lts.Need-add-t22 (claims t) (given t) own.Post
 add-two t c = let d = c .before .before in omega (arith, few-nw t d .0, few-ne t d .0)
 
-add-three : (t : ℕ) → lts.Need-add-t21 (claims t) (given t) own.Post
+add-three : (t : ℕ) → lts.Need-add-t23 (claims t) (given t) own.Post
 add-three t c = let d = c .before .before .before in omega (arith, few-nw t d .0, few-ne t d .0, few-sw t d .0)
 
-add-four : (t : ℕ) → lts.Need-add-t22 (claims t) (given t) own.Post
+add-four : (t : ℕ) → lts.Need-add-t24 (claims t) (given t) own.Post
 add-four t c = let d = c .before .before .before .before in omega (arith, few-nw t d .0, few-ne t d .0, few-sw t d .0, few-se t d .0)
 
-add-two-places : (t : ℕ) → lts.Need-add-t23 (claims t) (given t) own.Post
+add-two-places : (t : ℕ) → lts.Need-add-t25 (claims t) (given t) own.Post
 add-two-places t c = let d = c .before .before .before .before .before .before in omega (arith, few-nw t d .1, few-ne t d .1)
 
-add-three-places : (t : ℕ) → lts.Need-add-t24 (claims t) (given t) own.Post
+add-three-places : (t : ℕ) → lts.Need-add-t26 (claims t) (given t) own.Post
 add-three-places t c = let d = c .before .before .before .before .before .before .before in omega (arith, few-nw t d .1, few-ne t d .1, few-sw t d .1)
 
-add-four-places : (t : ℕ) → lts.Need-add-t25 (claims t) (given t) own.Post
+add-four-places : (t : ℕ) → lts.Need-add-t27 (claims t) (given t) own.Post
 add-four-places t c = let d = c .before .before .before .before .before .before .before .before in omega (arith, few-nw t d .1, few-ne t d .1, few-sw t d .1, few-se t d .1)
 
 returns-3 : (t : ℕ) → lts.Need-returns-3 (claims t) (given t) own.Post
@@ -142,11 +149,14 @@ returns-3 t c =
     let d = c .before .before .before .before .before .before .before .before in
     let q = quartered t d in
     let h = cut t (q .before) in
-    needs-four _ _ _ _ _ _ (q .of .ensures) (h .0) (h .1)
-    (d .before .before .before .need-below .ensures)
-    (d .before .before .need-below2 .ensures)
-    (d .before .need-below3 .ensures)
-    (d .need-below4 .ensures)
+    let a = start t q .pre .1 in (
+      needs-four _ _ _ _ _ _ (q .of .ensures) (h .0) (h .1)
+          (d .before .before .before .need-below .ensures .0)
+          (d .before .before .need-below2 .ensures .0)
+          (d .before .need-below3 .ensures .0)
+          (d .need-below4 .ensures .0),
+      sought-end (a .2) _ _ (q .of .ensures) (h .0) (d .need-below4 .ensures .1),
+    )
 
 pub +need-below-spec : {M : Type 1} → statement M
 +need-below-spec =
@@ -156,7 +166,7 @@ pub +need-below-spec : {M : Type 1} → statement M
     own.Post
     (lies-requires t)
     (returns t)
-    (content-length-requires t)
+    (content-from-requires t)
     (places-requires t)
     (returns-2 t)
     (of-requires t)

@@ -1,5 +1,6 @@
--- `log_blocks` meets its contract: nothing, the block's own entry, or the entries of the quadrants one behind the other. The height falls at each call.
-use Prim.Native.Nat.{ℕ, _+_, _<_}
+-- `log_blocks` meets its contract: nothing, the block's own entry, or the entries of the quadrants one behind the other, each block looked for from
+-- where the last one was found. The height falls at each call.
+use Prim.Native.Nat.{ℕ, _<_}
 use mathlib.Core.Path.{_≡_, _∙_, ap}
 use mathlib.Core.Bool.{false}
 use mathlib.Core.List.{[], _∷_}
@@ -7,7 +8,6 @@ use native.Mathlib.Omega.{arith}
 use borrow.Fn.Kinds.{In}
 use borrow.Fn.PlainCycle.{Measures, is, falls, and}
 use lib.ListN.{length}
-use Rattle.keys.proofs.Valid.{block-valid}
 use Rattle.definitions.specs.Read.{recordsOf}
 use Rattle.definitions.specs.Window.{isInside, largestFrom}
 use Rattle.definitions.specs.Calls.Paint.{gained}
@@ -16,6 +16,7 @@ use Rattle.rectangle.specs.WindowLogging.{entriesBelow}
 use Rattle.step.proofs.QuarterSums.{divisible, lower-than}
 use Rattle.edit.proofs.ContentStands.{logged-same}
 use Rattle.rectangle.proofs.WindowLies.{placed}
+use Rattle.rectangle.proofs.WindowSearch.{sought-block, sought-after, sought-nw, sought-ne, sought-sw, sought-se, sought-end}
 use Rattle.rectangle.proofs.EntriesLogged.{no-entry, one-entry, enter-nw, enter-ne, enter-sw, enter-se, entered}
 use Rattle.rectangle.proofs.window_logging.log_blocks.Reads as own
 use Rattle.rectangle.proofs.window_logging.log_blocks.Kinds as kinds
@@ -43,10 +44,12 @@ abbrev Start : ℕ → Type 0
 Start t = lts.Start (claims t) (given t) own.Post
 
 lies-requires : (t : ℕ) → lts.Need-lies-requires (claims t) (given t) own.Post
-lies-requires t c κs = let a = c .before .before .before .before .pre .1 in placed (a .list) (a .block)
+lies-requires t c κs = let a = c .before .before .before .before .pre .1 .0 in placed (a .list) (a .block)
 
 returns : (t : ℕ) → lts.Need-returns (claims t) (given t) own.Post
-returns t c = no-entry _ _ _ _ _ _ _ _ _ _ _ (c .before .lies .ensures .none (c .if1 .taken) _)
+returns t c =
+    let s = c .before .before .before .before .before .before in
+    (no-entry _ _ _ _ _ _ _ _ _ _ _ (c .before .lies .ensures .none (c .if1 .taken) _), sought-after (s .pre .1 .1))
 
 -- once the block is known to be one of the largest
 abbrev Whole : ℕ → Type 0
@@ -70,19 +73,19 @@ log-block-requires t c κs =
     let s = d .before .before .before .before .before .before .before in
     let a = s .pre .1 in
     let e = ap length (entry-is t d) in
-    (record { deepest = a .list .deep; own = a .list .own; valid = block-valid (a .block) .valid }, omega (arith, e, a .fits))
+    (sought-block (a .0 .list) (a .0 .block) (a .1), omega (arith, e, a .0 .fits))
 
 same-length : (t : ℕ) → lts.Need-same-length (claims t) (given t) own.Post
-same-length t c = c .before .before .before .before .log-block .kept .1 .1 .1 .1 .1 .1 .1 .0
+same-length t c = c .before .before .before .before .log-block .kept .1 .1 .1 .1 .1 .1 .1 .1 .1 .0
 
 same-length-2 : (t : ℕ) → lts.Need-same-length-2 (claims t) (given t) own.Post
-same-length-2 t c = c .before .before .before .before .log-block .kept .1 .1 .1 .1 .1 .1 .1 .1 .0
+same-length-2 t c = c .before .before .before .before .log-block .kept .1 .1 .1 .1 .1 .1 .1 .1 .1 .1 .0
 
 returns-2 : (t : ℕ) → lts.Need-returns-2 (claims t) (given t) own.Post
 returns-2 t c =
     let done = c .before .before .before .before in
     let d = done .before .before .before in
-    logged-same (entry-is t d) (done .log-block .ensures)
+    (logged-same (entry-is t d) (done .log-block .ensures .0), done .log-block .ensures .1)
 
 -- once the quadrants have to be asked, and once they are told
 abbrev Divided : ℕ → Type 0
@@ -99,7 +102,7 @@ cut : (t : ℕ) (c : Divided t)
 cut t c = c .before .before .lies .ensures .parts (c .before .if1 .left) (c .if2 .left)
 
 of-requires : (t : ℕ) → lts.Need-of-requires (claims t) (given t) own.Post
-of-requires t c κs = let a = c .before .before .before .before .before .before .before .pre .1 in divisible (a .list .deep) (a .block) (cut t c .0)
+of-requires t c κs = let a = c .before .before .before .before .before .before .before .pre .1 .0 in divisible (a .list .deep) (a .block) (cut t c .0)
 
 -- once one, two, three and all quadrants are logged, and the way back from there
 abbrev Once : ℕ → Type 0
@@ -127,14 +130,17 @@ nw-requires : (t : ℕ) → lts.Need-log-blocks-requires (claims t) (given t) ow
 nw-requires t c κs =
     let d = c .before .before in
     let h = cut t (d .before) in
-    (falling t d, enter-nw (start t d .pre .1) (d .of .ensures) (h .0) (h .1))
+    let p = start t d .pre .1 in
+    (falling t d, (enter-nw (p .0) (d .of .ensures) (h .0) (h .1), sought-nw (p .1) _ _ (d .of .ensures)))
 
 ne-requires : (t : ℕ) → lts.Need-log-blocks-requires-2 (claims t) (given t) own.Post
 ne-requires t c κs =
     let a = c .before .before in
     let d = from-once t a in
     let h = cut t (d .before) in
-    (falling t d, enter-ne (start t d .pre .1) (d .of .ensures) (h .0) (h .1) (a .before .before .before .before .log-blocks .ensures))
+    let p = start t d .pre .1 in
+    let one = a .before .before .before .before .log-blocks .ensures in
+    (falling t d, (enter-ne (p .0) (d .of .ensures) (h .0) (h .1) (one .0), sought-ne (p .1) _ _ (d .of .ensures) (one .1)))
 
 sw-requires : (t : ℕ) → lts.Need-log-blocks-requires-3 (claims t) (given t) own.Post
 sw-requires t c κs =
@@ -142,7 +148,9 @@ sw-requires t c κs =
     let a = from-twice t b in
     let d = from-once t a in
     let h = cut t (d .before) in
-    (falling t d, enter-sw (start t d .pre .1) (d .of .ensures) (h .0) (h .1) (a .before .before .before .before .log-blocks .ensures) (b .before .before .before .before .log-blocks2 .ensures))
+    let p = start t d .pre .1 in
+    let two = b .before .before .before .before .log-blocks2 .ensures in
+    (falling t d, (enter-sw (p .0) (d .of .ensures) (h .0) (h .1) (a .before .before .before .before .log-blocks .ensures .0) (two .0), sought-sw (p .1) _ _ (d .of .ensures) (two .1)))
 
 se-requires : (t : ℕ) → lts.Need-log-blocks-requires-4 (claims t) (given t) own.Post
 se-requires t c κs =
@@ -150,9 +158,14 @@ se-requires t c κs =
     let b = from-thrice t g in
     let a = from-twice t b in
     let d = from-once t a in
-    let h = cut t (d .before) in (
+    let h = cut t (d .before) in
+    let p = start t d .pre .1 in
+    let three = g .before .before .before .before .log-blocks3 .ensures in (
       falling t d,
-      enter-se (start t d .pre .1) (d .of .ensures) (h .0) (h .1) (a .before .before .before .before .log-blocks .ensures) (b .before .before .before .before .log-blocks2 .ensures) (g .before .before .before .before .log-blocks3 .ensures),
+      (
+        enter-se (p .0) (d .of .ensures) (h .0) (h .1) (a .before .before .before .before .log-blocks .ensures .0) (b .before .before .before .before .log-blocks2 .ensures .0) (three .0),
+        sought-se (p .1) _ _ (d .of .ensures) (three .1),
+      ),
     )
 
 same-length-3 : (t : ℕ) → lts.Need-same-length-3 (claims t) (given t) own.Post
@@ -160,20 +173,20 @@ same-length-3 t c =
     let g = c .before .before .before .before .before .before .before in
     let b = from-thrice t g in
     let a = from-twice t b in
-    c .before .before .before .before .log-blocks4 .kept .1 .1 .1 .1 .1 .1 .1 .1 .1 .1 .1 .0
-    ∙ g .before .before .before .before .log-blocks3 .kept .1 .1 .1 .1 .1 .1 .1 .1 .1 .1 .1 .0
-    ∙ b .before .before .before .before .log-blocks2 .kept .1 .1 .1 .1 .1 .1 .1 .1 .1 .1 .1 .0
-    ∙ a .before .before .before .before .log-blocks .kept .1 .1 .1 .1 .1 .1 .1 .1 .1 .1 .1 .0
+    c .before .before .before .before .log-blocks4 .kept .1 .1 .1 .1 .1 .1 .1 .1 .1 .1 .1 .1 .1 .0
+    ∙ g .before .before .before .before .log-blocks3 .kept .1 .1 .1 .1 .1 .1 .1 .1 .1 .1 .1 .1 .1 .0
+    ∙ b .before .before .before .before .log-blocks2 .kept .1 .1 .1 .1 .1 .1 .1 .1 .1 .1 .1 .1 .1 .0
+    ∙ a .before .before .before .before .log-blocks .kept .1 .1 .1 .1 .1 .1 .1 .1 .1 .1 .1 .1 .1 .0
 
 same-length-4 : (t : ℕ) → lts.Need-same-length-4 (claims t) (given t) own.Post
 same-length-4 t c =
     let g = c .before .before .before .before .before .before .before in
     let b = from-thrice t g in
     let a = from-twice t b in
-    c .before .before .before .before .log-blocks4 .kept .1 .1 .1 .1 .1 .1 .1 .1 .1 .1 .1 .1 .0
-    ∙ g .before .before .before .before .log-blocks3 .kept .1 .1 .1 .1 .1 .1 .1 .1 .1 .1 .1 .1 .0
-    ∙ b .before .before .before .before .log-blocks2 .kept .1 .1 .1 .1 .1 .1 .1 .1 .1 .1 .1 .1 .0
-    ∙ a .before .before .before .before .log-blocks .kept .1 .1 .1 .1 .1 .1 .1 .1 .1 .1 .1 .1 .0
+    c .before .before .before .before .log-blocks4 .kept .1 .1 .1 .1 .1 .1 .1 .1 .1 .1 .1 .1 .1 .1 .0
+    ∙ g .before .before .before .before .log-blocks3 .kept .1 .1 .1 .1 .1 .1 .1 .1 .1 .1 .1 .1 .1 .1 .0
+    ∙ b .before .before .before .before .log-blocks2 .kept .1 .1 .1 .1 .1 .1 .1 .1 .1 .1 .1 .1 .1 .1 .0
+    ∙ a .before .before .before .before .log-blocks .kept .1 .1 .1 .1 .1 .1 .1 .1 .1 .1 .1 .1 .1 .1 .0
 
 returns-3 : (t : ℕ) → lts.Need-returns-3 (claims t) (given t) own.Post
 returns-3 t c =
@@ -182,7 +195,11 @@ returns-3 t c =
     let a = from-twice t b in
     let d = from-once t a in
     let h = cut t (d .before) in
-    entered (start t d .pre .1) (d .of .ensures) (h .0) (h .1) (a .before .before .before .before .log-blocks .ensures) (b .before .before .before .before .log-blocks2 .ensures) (g .before .before .before .before .log-blocks3 .ensures) (c .before .before .before .before .log-blocks4 .ensures)
+    let p = start t d .pre .1 in
+    let four = c .before .before .before .before .log-blocks4 .ensures in (
+      entered (p .0) (d .of .ensures) (h .0) (h .1) (a .before .before .before .before .log-blocks .ensures .0) (b .before .before .before .before .log-blocks2 .ensures .0) (g .before .before .before .before .log-blocks3 .ensures .0) (four .0),
+      sought-end (p .1) _ _ (d .of .ensures) (h .0) (four .1),
+    )
 
 pub +log-blocks-spec : {M : Type 1} → statement M
 +log-blocks-spec =
