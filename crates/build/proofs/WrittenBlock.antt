@@ -60,7 +60,7 @@ module _ (f : Record → ℕ) where
       ∙ map-four (listOf p k r c (childKey κ k 1)) (listOf p k r (c + 2 ^ k) (childKey κ k 2)) (listOf p k (r + 2 ^ k) c (childKey κ k 3)) (listOf p k (r + 2 ^ k) (c + 2 ^ k) (childKey κ k 4))
       ∙ same-lists (map-own p k r c (childKey κ k 1)) (map-own p k r (c + 2 ^ k) (childKey κ k 2)) (map-own p k (r + 2 ^ k) c (childKey κ k 3)) (map-own p k (r + 2 ^ k) (c + 2 ^ k) (childKey κ k 4))
 
-  length-run : (p : Picture) (k r c κ : ℕ) → length (listOf p k r c κ) ≡ suc (length (map f (below p k r c κ)))
+  pub length-run : (p : Picture) (k r c κ : ℕ) → length (listOf p k r c κ) ≡ suc (length (map f (below p k r c κ)))
   length-run p k r c κ = length-below p k r c κ ∙ ap suc (sym (length-map (below p k r c κ) f))
 
   -- the runs below four quadrants and the quadrants' own records are the run below the block
@@ -109,10 +109,10 @@ written-pixel p r c κ place b n keys bits e h = written-one p 0 r c κ place b 
 
 -- where a block of one feature was written nothing changed
 module _ {p : Picture} {k r c κ place : ℕ} {keys bits keys′ bits′ : List ℕ} {b n : ℕ} (w : Written p k r c κ place keys bits keys′ bits′ b n) (one : oneFeature p k r c ≡ true) where
-  keys-stay : keys′ ≡ keys
+  pub keys-stay : keys′ ≡ keys
   keys-stay = w .keys-are ∙ ap (λ l. sets keys (place + 1) (map (λ x. x .key) l)) (below-one p k r c κ one)
 
-  bits-stay : bits′ ≡ bits
+  pub bits-stay : bits′ ≡ bits
   bits-stay = w .bits-are ∙ ap (λ l. sets bits (place + 1) (map (λ x. x .value) l)) (below-one p k r c κ one)
 
 same-set : (l : List ℕ) (i₁ i₂ i₃ i₄ : ℕ) {w x y z w′ x′ y′ z′ : ℕ} → w ≡ w′ → x ≡ x′ → y ≡ y′ → z ≡ z′ → fourSet l i₁ i₂ i₃ i₄ w x y z ≡ fourSet l i₁ i₂ i₃ i₄ w′ x′ y′ z′

@@ -8,8 +8,10 @@ pub mod ShrinkLaws
 pub mod ShrinkSteps
 pub mod Known
 pub mod TallySteps
-pub mod SpreadSteps
 pub mod LeafWritten
+pub mod WrittenBackward
+pub mod SpreadSteps
+pub mod SpreadQuarters
 pub mod LaidContent
 pub mod Waiting
 pub mod PrunedBlock

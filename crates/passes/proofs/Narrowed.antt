@@ -1,6 +1,6 @@
 -- A step of which only the pixels before a key are told does the same to every block before that key. Rests on the laws of pictures that agree.
-use Prim.Native.Nat.{ℕ, _+_, _^_, _≤_}
-use mathlib.Core.Path.{sym, _∙_, ap, ap₂}
+use Prim.Native.Nat.{ℕ, _+_, _-_, _^_, _≤_}
+use mathlib.Core.Path.{refl, sym, _∙_, ap, ap₂}
 use mathlib.Core.Bool.{cond}
 use mathlib.Core.List.{List}
 use native.Mathlib.Omega.{arith}
@@ -14,10 +14,10 @@ use Rattle.laws.proofs.Pixels.{Agree}
 use Rattle.laws.proofs.Features.{one-agree}
 use Rattle.laws.proofs.BitsOf.{bits-agree}
 use Rattle.laws.proofs.ListOf.{list-agree}
-use Rattle.build.specs.BuildBlocks.{Tallied, Written, Fitting}
+use Rattle.build.specs.BuildBlocks.{Tallied}
 use Rattle.step.specs.Step.{Step, stepOver}
 use Rattle.step.specs.Deed.{SameBefore}
-use Rattle.passes.specs.Passes.{StepCounted, Growing, GrowAsked, Grown}
+use Rattle.passes.specs.Passes.{StepCounted, FittingBefore, WrittenBefore, Growing, GrowAsked, Grown}
 use Rattle.passes.specs.Shrink.{Shrinks}
 use Rattle.step.proofs.Pruned.{pruned-agree}
 
@@ -39,26 +39,29 @@ module _ {m past k r c κ : ℕ} {t t′ : Step} (s : SameBefore m past t t′) 
   narrowed-counted x = record { tallied = λ p s. narrowed-tallied p (x .tallied p s); passed = x .passed }
 
   -- what is to be written is the same, and so is the room that it needs
-  pub narrowed-written : (p : Picture) {place union next : ℕ} {keys bits keys′ bits′ : List ℕ} → Written (stepOver t′ p) k r c κ place keys bits keys′ bits′ union next
-      → Written (stepOver t p) k r c κ place keys bits keys′ bits′ union next
-  narrowed-written p {place} {union} {next} {keys} {bits} {keys′} {bits′} x =
+  pub narrowed-written : (p : Picture) {end union place : ℕ} {keys bits keys′ bits′ : List ℕ} → WrittenBefore (stepOver t′ p) k r c κ end keys bits keys′ bits′ union place
+      → WrittenBefore (stepOver t p) k r c κ end keys bits keys′ bits′ union place
+  narrowed-written p {end} {union} {place} {keys} {bits} {keys′} {bits′} x =
       let same = list-agree (stepOver t′ p) (stepOver t p) k r c κ (narrowed-agree p) in
       record {
-        union-is = x .union-is ∙ bits-agree (stepOver t′ p) (stepOver t p) k r c (narrowed-agree p);
-        next-is = x .next-is ∙ ap (λ l. place + length l) same;
-        keys-are = x .keys-are ∙ ap (λ l. sets keys (place + 1) (keysOf (drop 1 l))) same;
-        bits-are = x .bits-are ∙ ap (λ l. sets bits (place + 1) (valuesOf (drop 1 l))) same;
+        place-is = x .place-is ∙ ap (λ l. end - length l) same;
+        written = record {
+          union-is = x .written .union-is ∙ bits-agree (stepOver t′ p) (stepOver t p) k r c (narrowed-agree p);
+          next-is = refl;
+          keys-are = x .written .keys-are ∙ ap (λ l. sets keys (place + 1) (keysOf (drop 1 l))) same;
+          bits-are = x .written .bits-are ∙ ap (λ l. sets bits (place + 1) (valuesOf (drop 1 l))) same;
+        };
       }
 
-  pub narrowed-fitting : (p : Picture) {place : ℕ} {keys bits : List ℕ} → Fitting (stepOver t p) k r c κ place keys bits → Fitting (stepOver t′ p) k r c κ place keys bits
-  narrowed-fitting p {place} {keys} {bits} x =
+  pub narrowed-fitting : (p : Picture) {end : ℕ} {keys bits : List ℕ} → FittingBefore (stepOver t p) k r c κ end keys bits → FittingBefore (stepOver t′ p) k r c κ end keys bits
+  narrowed-fitting p x =
       let same = list-agree (stepOver t′ p) (stepOver t p) k r c κ (narrowed-agree p) in
       let one = one-agree (stepOver t′ p) (stepOver t p) k r c (narrowed-agree p) in
       record {
-        key-fits = x .key-fits;
-        place-fits = x .place-fits;
-        keys-room = λ several. rw same (x .keys-room (sym one ∙ several));
-        bits-room = λ several. rw same (x .bits-room (sym one ∙ several));
+        small = x .small;
+        low = λ several. rw same (x .low (sym one ∙ several));
+        keys-room = λ several. x .keys-room (sym one ∙ several);
+        bits-room = λ several. x .bits-room (sym one ∙ several);
       }
 
   -- what waits to grow is the same, and so is what it grows to

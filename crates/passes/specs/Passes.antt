@@ -1,15 +1,16 @@
 -- What the passes over the slices ask and leave. Only contracts need these. Rests on Step and on build's laws of a block.
 use Prim.Native.Nat.{ℕ, _+_, _-_, _^_, _≤_, _<_}
-use mathlib.Core.Bool.{false}
+use mathlib.Core.Bool.{false, cond}
 use mathlib.Core.Path.{_≡_}
 use mathlib.Core.List.{List, _++_}
 use lib.ListN.{length, getD, set, take, drop}
 use lib.Seq.{sets}
 use Rattle.keys.specs.Under.{MapBlock}
 use Rattle.list.specs.Among.{keysBelow}
-use Rattle.build.specs.BuildBlocks.{Tallied}
+use Rattle.list.specs.Check.{oneSlot}
+use Rattle.build.specs.BuildBlocks.{Tallied, FourAsked, FourWritten, Written}
 use Rattle.build.specs.declared.count.Tally.{Tally}
-use Rattle.definitions.specs.Picture.{Picture}
+use Rattle.definitions.specs.Picture.{Picture, oneFeature}
 use Rattle.definitions.specs.List.{Record, keysOf, valuesOf, listOf}
 use Rattle.definitions.specs.Read.{recordsOf}
 use Rattle.laws.proofs.Ascending.{Ascending}
@@ -66,30 +67,53 @@ pub record PassedOver (meeting : Meeting) (own past at : ℕ) (keys : List ℕ) 
   pub next-is : next ≡ at + keysBelow past (take (n - at) (drop at keys))
   pub tally-is : tally ≡ knownOf meeting own (next - at) logValues
 
+-- a block whose records are to end before a place has room for them; a block of one feature has nothing written below it, and needs none
+pub record FittingBefore (p : Picture) (height row column key end : ℕ) (keys bits : List ℕ) : Type 0 where
+  pub small : end ≤ 5 ^ 10
+  pub low : oneFeature p height row column ≡ false → length (listOf p height row column key) ≤ end
+  pub keys-room : oneFeature p height row column ≡ false → end ≤ length keys
+  pub bits-room : oneFeature p height row column ≡ false → end ≤ length bits
+
+-- the records below a block stand before that place, and the place of its own is known; where there is none, which is 0 here, nothing was written
+pub record WrittenBefore (p : Picture) (height row column key end : ℕ) (keys bits keys′ bits′ : List ℕ) (union place : ℕ) : Type 0 where
+  pub place-is : place ≡ end - length (listOf p height row column key)
+  pub written : Written p height row column key place keys bits keys′ bits′ union (place + length (listOf p height row column key))
+
 -- the records below a leaf, by its meeting: there is room for a content
-pub record ContentFits (logKeys logValues : List ℕ) (place : ℕ) (keys bits : List ℕ) (start count : ℕ) : Type 0 where
+pub record ContentFits (logKeys logValues : List ℕ) (end : ℕ) (keys bits : List ℕ) (start count : ℕ) : Type 0 where
   pub some : 0 < count
   pub from-keys : start + count ≤ length logKeys
   pub from-values : start + count ≤ length logValues
-  pub in-keys : place + count ≤ length keys
-  pub in-bits : place + count ≤ length bits
+  pub low : count ≤ end
+  pub in-keys : end ≤ length keys
+  pub in-bits : end ≤ length bits
 
-pub record Layable (meeting : Meeting) (logKeys logValues : List ℕ) (place : ℕ) (keys bits : List ℕ) : Type 0 where
-  pub small : place ≤ 5 ^ 10
-  pub fits : (start count : ℕ) → meeting ≡ Content start count → ContentFits logKeys logValues place keys bits start count
+pub record Layable (meeting : Meeting) (logKeys logValues : List ℕ) (end : ℕ) (keys bits : List ℕ) : Type 0 where
+  pub fits : (start count : ℕ) → meeting ≡ Content start count → ContentFits logKeys logValues end keys bits start count
 
--- they are laid past the leaf's own place, and the next free place is known
+-- they are laid past the leaf's own place, and that place is known
 abbrev pub laidOn : Meeting → (log : List ℕ) (place : ℕ) → List ℕ → List ℕ
 laidOn Apart log place l = l
 laidOn (Leaf bits) log place l = l
 laidOn (Content start count) log place l = sets l (place + 1) (take (count - 1) (drop (start + 1) log))
 laidOn Cut log place l = l
 
-pub record LeafLaid (meeting : Meeting) (own : ℕ) (logKeys logValues : List ℕ) (place : ℕ) (keys bits keys′ bits′ : List ℕ) (union next : ℕ) : Type 0 where
+pub record LeafLaid (meeting : Meeting) (own : ℕ) (logKeys logValues : List ℕ) (end : ℕ) (keys bits keys′ bits′ : List ℕ) (union place : ℕ) : Type 0 where
   pub keys-are : keys′ ≡ laidOn meeting logKeys place keys
   pub bits-are : bits′ ≡ laidOn meeting logValues place bits
   pub union-is : union ≡ knownOf meeting own 1 logValues .bits
-  pub next-is : isCut meeting ≡ false → next ≡ place + knownOf meeting own 1 logValues .count
+  pub place-is : isCut meeting ≡ false → place ≡ end - knownOf meeting own 1 logValues .count
+
+-- where four quadrants have several features together, their own places are in order, and one is free before them
+pub record SettleAsked (key step first second third fourth union : ℕ) (keys bits : List ℕ) : Type 0 where
+  pub some : oneSlot union ≡ false → 0 < first
+  pub asked : oneSlot union ≡ false → FourAsked key step (first - 1) union second third fourth keys bits
+
+-- their own records stand there, and the block's own place is known: before them, or before the end where it has nothing below it
+pub record FourSettled (key step end nw ne sw se first second third fourth : ℕ) (keys bits keys′ bits′ : List ℕ) (union place : ℕ) : Type 0 where
+  pub next : ℕ
+  pub written : FourWritten key step (first - 1) nw ne sw se second third fourth end keys bits keys′ bits′ union next
+  pub place-is : place ≡ cond (oneSlot union) (end - 1) (first - 1)
 
 -- the records of a block are to be written before a place
 pub record WriteAsked (l : List Record) (key end : ℕ) (keys bits : List ℕ) : Type 0 where

@@ -1,18 +1,32 @@
-// What a leaf grows to after the step: the records below it, and they and its own written before a place.
-ghost use Rattle.definitions.specs.Bits.{featureOf};
+// What a leaf grows to after the step, written before a place in one descent from the last quadrant to the first: the records below it, and then its own.
+ghost use mathlib.Core.Path.{_≡_};
+ghost use Prim.Native.Nat.{_-_};
+ghost use Rattle.definitions.specs.Bits.{featureOf, unionOfFour};
 ghost use Rattle.definitions.specs.List.{listOf};
-ghost use Rattle.build.specs.BuildBlocks.{Fitting, Written};
 ghost use Rattle.step.specs.Step.{plain, stepOver};
 ghost use Rattle.step.specs.Deed.{Doable, stepOf, LeafAsked};
-ghost use Rattle.passes.specs.Passes.{WriteAsked, WroteBefore, Layable, LeafLaid};
-use crate::tally;
+ghost use Rattle.passes.specs.Passes.{WriteAsked, WroteBefore, FittingBefore, WrittenBefore, Layable, LeafLaid, SettleAsked, FourSettled};
 use build::write;
 use build::write::Below;
+use list::check;
 use step::deed;
 use step::deed::Deed;
 use step::meeting;
 use step::meeting::Meeting;
 use step::quarters;
+
+// The bits of a block, and the place of its own record.
+pub struct Foremost {
+    pub bits: u32,
+    pub place: usize,
+}
+
+// The place before another. Before the first there is none, and a block that is told so has nothing to write.
+fn one_before(end: usize) -> usize
+    ensures { λ r. ⌜ r ≡ end - 1 ⌝ }
+{
+    if end == 0 { 0 } else { end - 1 }
+}
 
 // The records below a leaf whose quadrants need not be asked: a content's are copied, and otherwise there are none.
 fn lay(
@@ -20,39 +34,89 @@ fn lay(
     own: u32,
     log_keys: &[u32],
     log_values: &[u32],
-    place: usize,
+    end: usize,
     keys: &mut [u32],
     bits: &mut [u32],
-) -> Below
-    requires { ⌜ Layable meeting (now «log_keys») (now «log_values») place (now keys) (now bits) ⌝ }
-    ensures { λ r. ⌜ LeafLaid meeting own (now («log_keys» .entry)) (now («log_values» .entry)) place (now (keys .entry)) (now (bits .entry)) (now (keys .exit)) (now (bits .exit)) (r .bits) (r .next) ⌝ }
+) -> Foremost
+    requires { ⌜ Layable meeting (now «log_keys») (now «log_values») end (now keys) (now bits) ⌝ }
+    ensures { λ r. ⌜ LeafLaid meeting own (now («log_keys» .entry)) (now («log_values» .entry)) end (now (keys .entry)) (now (bits .entry)) (now (keys .exit)) (now (bits .exit)) (r .bits) (r .place) ⌝ }
 {
-    let first = place + 1;
+    let alone = one_before(end);
     match meeting {
-        Meeting::Apart => Below {
+        Meeting::Apart => Foremost {
             bits: own,
-            next: first,
+            place: alone,
         },
-        Meeting::Leaf(b) => Below {
+        Meeting::Leaf(b) => Foremost {
             bits: b,
-            next: first,
+            place: alone,
         },
         Meeting::Content(start, count) => {
+            let place = end - count;
+            let first = place + 1;
             slices::copy(log_keys, start + 1, count - 1, keys, first);
             slices::copy(log_values, start + 1, count - 1, bits, first);
-            Below {
+            Foremost {
                 bits: log_values[start],
-                next: place + count,
+                place,
             }
         }
-        Meeting::Cut => Below {
+        Meeting::Cut => Foremost {
             bits: 0,
-            next: first,
+            place: alone,
         },
     }
 }
 
-// Writes the records below a leaf after the step, and not its own.
+// The own records of four quadrants, where the four have several features together; else nothing was written, and nothing is.
+fn settle_four(
+    key: u32,
+    step: u32,
+    end: usize,
+    nw: Foremost,
+    ne: Foremost,
+    sw: Foremost,
+    se: Foremost,
+    keys: &mut [u32],
+    bits: &mut [u32],
+) -> Foremost
+    requires { ⌜ SettleAsked key step (nw .place) (ne .place) (sw .place) (se .place) (unionOfFour (nw .bits) (ne .bits) (sw .bits) (se .bits)) (now keys) (now bits) ⌝ }
+    ensures { λ r. ⌜ FourSettled key step end (nw .bits) (ne .bits) (sw .bits) (se .bits) (nw .place) (ne .place) (sw .place) (se .place) (now (keys .entry)) (now (bits .entry)) (now (keys .exit)) (now (bits .exit)) (r .bits) (r .place) ⌝ }
+{
+    let north = nw.bits | ne.bits;
+    let south = sw.bits | se.bits;
+    let union = north | south;
+    if check::has_one_slot(union) {
+        return Foremost {
+            bits: union,
+            place: one_before(end),
+        };
+    }
+    let place = nw.place - 1;
+    let first = Below {
+        bits: nw.bits,
+        next: ne.place,
+    };
+    let second = Below {
+        bits: ne.bits,
+        next: sw.place,
+    };
+    let third = Below {
+        bits: sw.bits,
+        next: se.place,
+    };
+    let fourth = Below {
+        bits: se.bits,
+        next: end,
+    };
+    let wrote = write::write_four(key, step, place, first, second, third, fourth, keys, bits);
+    Foremost {
+        bits: wrote.bits,
+        place,
+    }
+}
+
+// Writes the records below a leaf after the step, and not its own: only its parent knows whether it is listed.
 fn spread(
     deed: Deed,
     log_keys: &[u32],
@@ -63,67 +127,21 @@ fn spread(
     row: u32,
     column: u32,
     key: u32,
-    place: usize,
+    end: usize,
     keys: &mut [u32],
     bits: &mut [u32],
-) -> Below
+) -> Foremost
     requires { ⌜ Doable m deed (now «log_keys») (now «log_values») × LeafAsked m own height row column key ⌝ }
-    requires { ⌜ Fitting (stepOver (stepOf m deed (now «log_keys») (now «log_values»)) (plain (featureOf own))) height row column key place (now keys) (now bits) ⌝ }
-    ensures { λ r. ⌜ Written (stepOver (stepOf m deed (now («log_keys» .entry)) (now («log_values» .entry))) (plain (featureOf own))) height row column key place (now (keys .entry)) (now (bits .entry)) (now (keys .exit)) (now (bits .exit)) (r .bits) (r .next) ⌝ }
+    requires { ⌜ FittingBefore (stepOver (stepOf m deed (now «log_keys») (now «log_values»)) (plain (featureOf own))) height row column key end (now keys) (now bits) ⌝ }
+    ensures { λ r. ⌜ WrittenBefore (stepOver (stepOf m deed (now («log_keys» .entry)) (now («log_values» .entry))) (plain (featureOf own))) height row column key end (now (keys .entry)) (now (bits .entry)) (now (keys .exit)) (now (bits .exit)) (r .bits) (r .place) ⌝ }
 {
     let here = deed::narrow(deed, log_keys, log_values, m, height, key);
     let met = deed::meeting(here, log_keys, log_values, m, height, row, column, key);
     if !meeting::is_cut(met) {
-        return lay(met, own, log_keys, log_values, place, keys, bits);
+        return lay(met, own, log_keys, log_values, end, keys, bits);
     }
-    let first = place + 1;
     let four = quarters::of(height, row, column, key);
     let lower = four.height;
-    let nw = spread(
-        here,
-        log_keys,
-        log_values,
-        m,
-        own,
-        lower,
-        row,
-        column,
-        four.nw,
-        first,
-        keys,
-        bits,
-    );
-    let second = nw.next;
-    let ne = spread(
-        here,
-        log_keys,
-        log_values,
-        m,
-        own,
-        lower,
-        row,
-        four.right,
-        four.ne,
-        second,
-        keys,
-        bits,
-    );
-    let third = ne.next;
-    let sw = spread(
-        here,
-        log_keys,
-        log_values,
-        m,
-        own,
-        lower,
-        four.down,
-        column,
-        four.sw,
-        third,
-        keys,
-        bits,
-    );
-    let fourth = sw.next;
     let se = spread(
         here,
         log_keys,
@@ -134,14 +152,56 @@ fn spread(
         four.down,
         four.right,
         four.se,
-        fourth,
+        end,
         keys,
         bits,
     );
-    write::write_four(key, four.step, place, nw, ne, sw, se, keys, bits)
+    let sw = spread(
+        here,
+        log_keys,
+        log_values,
+        m,
+        own,
+        lower,
+        four.down,
+        column,
+        four.sw,
+        se.place,
+        keys,
+        bits,
+    );
+    let ne = spread(
+        here,
+        log_keys,
+        log_values,
+        m,
+        own,
+        lower,
+        row,
+        four.right,
+        four.ne,
+        sw.place,
+        keys,
+        bits,
+    );
+    let nw = spread(
+        here,
+        log_keys,
+        log_values,
+        m,
+        own,
+        lower,
+        row,
+        column,
+        four.nw,
+        ne.place,
+        keys,
+        bits,
+    );
+    settle_four(key, four.step, end, nw, ne, sw, se, keys, bits)
 }
 
-// What a leaf grows to, written before a place; the first of its places is given back. Most leaves stay one record, and need not be asked twice.
+// What a leaf grows to, written before a place; the first of its places is given back.
 pub fn write_leaf(
     deed: Deed,
     log_keys: &[u32],
@@ -160,14 +220,7 @@ pub fn write_leaf(
     requires { ⌜ WriteAsked (listOf (stepOver (stepOf m deed (now «log_keys») (now «log_values»)) (plain (featureOf b))) height row column key) key end (now keys) (now bits) ⌝ }
     ensures { λ r. ⌜ WroteBefore (listOf (stepOver (stepOf m deed (now («log_keys» .entry)) (now («log_values» .entry))) (plain (featureOf b))) height row column key) end (now (keys .entry)) (now (bits .entry)) (now (keys .exit)) (now (bits .exit)) r ⌝ }
 {
-    let tally = tally::tally_leaf(deed, log_keys, log_values, m, b, height, row, column, key);
-    let start = end - tally.count;
-    keys[start] = key;
-    bits[start] = tally.bits;
-    if tally.count == 1 {
-        return start;
-    }
-    spread(
+    let grown = spread(
         deed,
         log_keys,
         log_values,
@@ -177,9 +230,12 @@ pub fn write_leaf(
         row,
         column,
         key,
-        start,
+        end,
         keys,
         bits,
     );
+    let start = grown.place;
+    keys[start] = key;
+    bits[start] = grown.bits;
     start
 }

@@ -1,5 +1,5 @@
--- `spread` meets its contract: the four quadrants one after the other, and then their own records. The height falls at each call.
-use Prim.Native.Nat.{ℕ, _+_, _<_}
+-- `spread` meets its contract: the four quadrants from the last to the first, and then their own records. The height falls at each call.
+use Prim.Native.Nat.{ℕ, _<_}
 use mathlib.Core.Path.{sym, _∙_}
 use native.Mathlib.Omega.{arith}
 use borrow.Author.Needs.{needs}
@@ -8,15 +8,15 @@ use borrow.Fn.Kinds.{In}
 use borrow.Fn.PlainCycle.{Measures, is, falls, and}
 use Rattle.definitions.specs.Picture.{Picture}
 use Rattle.definitions.specs.Bits.{featureOf}
-use Rattle.build.specs.BuildBlocks.{Fitting}
 use Rattle.step.specs.Step.{stepOver, plain}
 use Rattle.step.specs.Deed.{stepOf, LeafAsked}
+use Rattle.passes.specs.Passes.{FittingBefore}
 use Rattle.step.proofs.QuarterSums.{divisible, narrow-room, lower-than}
 use Rattle.step.proofs.LeafTally.{leaf-nw, leaf-ne, leaf-sw, leaf-se}
 use Rattle.step.proofs.Meetings.{met-cut}
 use Rattle.passes.proofs.LaidContent.{met-layable, laid-written}
 use Rattle.passes.proofs.Narrowed.{narrowed-fitting, narrowed-written}
-use Rattle.passes.proofs.SpreadSteps.{spreads-nw, spreads-ne, spreads-sw, spreads-se, spreads-four, spread-all}
+use Rattle.passes.proofs.SpreadQuarters.{spreads-se, spreads-sw, spreads-ne, spreads-nw, spreads-four, spread-all}
 use Rattle.passes.proofs.spread.spread.Reads as own
 use Rattle.passes.proofs.spread.spread.Kinds as kinds
 use Rattle.passes.proofs.spread.+spread.Lts-spread as lts
@@ -25,7 +25,7 @@ use Rattle.step.proofs.deed.meeting.Reads as meeting
 use Rattle.step.proofs.meeting.is_cut.Reads as is-cut
 use Rattle.passes.proofs.spread.lay.Reads as lay
 use Rattle.step.proofs.quarters.of.Reads as quarters
-use Rattle.build.proofs.write.write_four.Reads as write-four
+use Rattle.passes.proofs.spread.settle_four.Reads as settle-four
 use Rattle.passes.proofs.spread.+spread.{statement}
 use Rattle.passes.proofs.spread.+spread.Tie.{close}
 
@@ -40,7 +40,7 @@ abbrev below : ℕ → In 4 kinds.ps
 below t = and 4 kinds.ps (falls 4 kinds.ps _<_ measure t) own.Pre
 
 abbrev claims : ℕ → lts.Claims
-claims t = (narrow.Asked, narrow.Learnt, meeting.Asked, meeting.Learnt, is-cut.Asked, is-cut.Learnt, lay.Asked, lay.Learnt, quarters.Asked, quarters.Learnt, below t, own.Post, write-four.Asked, write-four.Learnt)
+claims t = (narrow.Asked, narrow.Learnt, meeting.Asked, meeting.Learnt, is-cut.Asked, is-cut.Learnt, lay.Asked, lay.Learnt, quarters.Asked, quarters.Learnt, below t, own.Post, settle-four.Asked, settle-four.Learnt)
 
 abbrev Start : ℕ → Type 0
 Start t = lts.Start (claims t) (given t) own.Post
@@ -93,7 +93,7 @@ module _ (t : ℕ) (c : Quartered t) where
   has-quarters : 0 < start t c .args .height
   has-quarters = positive t (c .before)
 
-  room : Fitting (picture t c) (start t c .args .height) (start t c .args .row) (start t c .args .column) (start t c .args .key) (start t c .args .place) (start t c .args .keys .now) (start t c .args .bits .now)
+  room : FittingBefore (picture t c) (start t c .args .height) (start t c .args .row) (start t c .args .column) (start t c .args .key) (start t c .args .end) (start t c .args .keys .now) (start t c .args .bits .now)
   room = narrowed-fitting (c .before .before .before .before .narrow .ensures .same) (leaf t (start t c) .block) (omega arith) _ (start t c .pre .1 .1)
 
   falling : c .of .result .height < t
@@ -128,66 +128,64 @@ returns t c =
     narrowed-written (x .before .narrow .ensures .same) (leaf t q .block) (omega arith) _
     (laid-written (leaf t q .leaf) (x .meeting .ensures) (sym (d .before .is-cut .ensures) ∙ not-true _ (d .if1 .taken)) (c .before .before .before .before .lay .ensures))
 
-add-first : (t : ℕ) → lts.Need-add-first (claims t) (given t) own.Post
-add-first t c = let f = c .before .before .before .before .before .before .before .before .pre .1 .1 in omega (arith, f .key-fits, f .place-fits)
-
 of-requires : (t : ℕ) → lts.Need-of-requires (claims t) (given t) own.Post
 of-requires t c κs = let a = leaf t (c .before .before .before .before .before .before .before .before) in divisible (a .deep) (a .block) (positive t c)
 
-nw-requires : (t : ℕ) → lts.Need-spread-requires (claims t) (given t) own.Post
-nw-requires t c κs =
+se-requires : (t : ℕ) → lts.Need-spread-requires (claims t) (given t) own.Post
+se-requires t c κs =
     let d = c .before .before in (
       falling t d,
       (
-        (d .before .before .before .before .narrow .ensures .doable, leaf-nw (d .of .ensures) (leaf t (start t d)) (has-quarters t d)),
-        spreads-nw _ (d .of .ensures) (has-quarters t d) (room t d),
+        (d .before .before .before .before .narrow .ensures .doable, leaf-se (d .of .ensures) (leaf t (start t d)) (has-quarters t d)),
+        spreads-se _ (d .of .ensures) (has-quarters t d) (room t d),
       ),
     )
 
-ne-requires : (t : ℕ) → lts.Need-spread-requires-2 (claims t) (given t) own.Post
-ne-requires t c κs =
+sw-requires : (t : ℕ) → lts.Need-spread-requires-2 (claims t) (given t) own.Post
+sw-requires t c κs =
     let a = c .before .before in
     let d = from-once t a in (
       falling t d,
       (
-        (d .before .before .before .before .narrow .ensures .doable, leaf-ne (d .of .ensures) (leaf t (start t d)) (has-quarters t d)),
-        spreads-ne _ (d .of .ensures) (has-quarters t d) (room t d) (a .before .before .before .before .spread .ensures),
+        (d .before .before .before .before .narrow .ensures .doable, leaf-sw (d .of .ensures) (leaf t (start t d)) (has-quarters t d)),
+        spreads-sw _ (d .of .ensures) (has-quarters t d) (room t d) (a .before .before .before .before .spread .ensures),
       ),
     )
 
-sw-requires : (t : ℕ) → lts.Need-spread-requires-3 (claims t) (given t) own.Post
-sw-requires t c κs =
+ne-requires : (t : ℕ) → lts.Need-spread-requires-3 (claims t) (given t) own.Post
+ne-requires t c κs =
     let b = c .before .before in
     let a = from-twice t b in
     let d = from-once t a in (
       falling t d,
       (
-        (d .before .before .before .before .narrow .ensures .doable, leaf-sw (d .of .ensures) (leaf t (start t d)) (has-quarters t d)),
-        spreads-sw _ (d .of .ensures) (has-quarters t d) (room t d) (a .before .before .before .before .spread .ensures) (b .before .before .before .before .spread2 .ensures),
+        (d .before .before .before .before .narrow .ensures .doable, leaf-ne (d .of .ensures) (leaf t (start t d)) (has-quarters t d)),
+        spreads-ne _ (d .of .ensures) (has-quarters t d) (room t d) (a .before .before .before .before .spread .ensures) (b .before .before .before .before .spread2 .ensures),
       ),
     )
 
-se-requires : (t : ℕ) → lts.Need-spread-requires-4 (claims t) (given t) own.Post
-se-requires t c κs =
+nw-requires : (t : ℕ) → lts.Need-spread-requires-4 (claims t) (given t) own.Post
+nw-requires t c κs =
     let g = c .before .before in
     let b = from-thrice t g in
     let a = from-twice t b in
     let d = from-once t a in (
       falling t d,
       (
-        (d .before .before .before .before .narrow .ensures .doable, leaf-se (d .of .ensures) (leaf t (start t d)) (has-quarters t d)),
-        spreads-se _ (d .of .ensures) (has-quarters t d) (room t d) (a .before .before .before .before .spread .ensures) (b .before .before .before .before .spread2 .ensures) (g .before .before .before .before .spread3 .ensures),
+        (d .before .before .before .before .narrow .ensures .doable, leaf-nw (d .of .ensures) (leaf t (start t d)) (has-quarters t d)),
+        spreads-nw _ (d .of .ensures) (has-quarters t d) (room t d) (a .before .before .before .before .spread .ensures) (b .before .before .before .before .spread2 .ensures) (g .before .before .before .before .spread3 .ensures),
       ),
     )
 
-write-four-requires : (t : ℕ) → lts.Need-write-four-requires (claims t) (given t) own.Post
-write-four-requires t c κs =
+settle-four-requires : (t : ℕ) → lts.Need-settle-four-requires (claims t) (given t) own.Post
+settle-four-requires t c κs =
     let h = c .before .before in
     let g = from-all t h in
     let b = from-thrice t g in
     let a = from-twice t b in
     let d = from-once t a in
-    spreads-four _ (d .of .ensures) (has-quarters t d) (room t d) (a .before .before .before .before .spread .ensures) (b .before .before .before .before .spread2 .ensures) (g .before .before .before .before .spread3 .ensures) (h .before .before .before .before .spread4 .ensures)
+    let x = leaf t (start t d) in
+    spreads-four _ (d .of .ensures) (has-quarters t d) (room t d) (a .before .before .before .before .spread .ensures) (b .before .before .before .before .spread2 .ensures) (g .before .before .before .before .spread3 .ensures) (h .before .before .before .before .spread4 .ensures) (narrow-room (x .deep) (x .block) .1)
 
 same-length-3 : (t : ℕ) → lts.Need-same-length-3 (claims t) (given t) own.Post
 same-length-3 t c =
@@ -195,7 +193,7 @@ same-length-3 t c =
     let g = from-all t h in
     let b = from-thrice t g in
     let a = from-twice t b in
-    c .before .before .before .before .write-four .kept .1 .1 .1 .1 .1 .1 .1 .0
+    c .before .before .before .before .settle-four .kept .1 .1 .1 .1 .1 .1 .1 .0
     ∙ h .before .before .before .before .spread4 .kept .1 .1 .1 .1 .1 .1 .1 .1 .1 .1 .0
     ∙ g .before .before .before .before .spread3 .kept .1 .1 .1 .1 .1 .1 .1 .1 .1 .1 .0
     ∙ b .before .before .before .before .spread2 .kept .1 .1 .1 .1 .1 .1 .1 .1 .1 .1 .0
@@ -207,7 +205,7 @@ same-length-4 t c =
     let g = from-all t h in
     let b = from-thrice t g in
     let a = from-twice t b in
-    c .before .before .before .before .write-four .kept .1 .1 .1 .1 .1 .1 .1 .1 .0
+    c .before .before .before .before .settle-four .kept .1 .1 .1 .1 .1 .1 .1 .1 .0
     ∙ h .before .before .before .before .spread4 .kept .1 .1 .1 .1 .1 .1 .1 .1 .1 .1 .1 .0
     ∙ g .before .before .before .before .spread3 .kept .1 .1 .1 .1 .1 .1 .1 .1 .1 .1 .1 .0
     ∙ b .before .before .before .before .spread2 .kept .1 .1 .1 .1 .1 .1 .1 .1 .1 .1 .1 .0
@@ -221,7 +219,7 @@ returns-2 t c =
     let a = from-twice t b in
     let d = from-once t a in
     narrowed-written (d .before .before .before .before .narrow .ensures .same) (leaf t (start t d) .block) (omega arith) _
-    (spread-all _ (d .of .ensures) (has-quarters t d) (room t d) (a .before .before .before .before .spread .ensures) (b .before .before .before .before .spread2 .ensures) (g .before .before .before .before .spread3 .ensures) (h .before .before .before .before .spread4 .ensures) (c .before .before .before .before .write-four .ensures))
+    (spread-all _ (d .of .ensures) (has-quarters t d) (room t d) (a .before .before .before .before .spread .ensures) (b .before .before .before .before .spread2 .ensures) (g .before .before .before .before .spread3 .ensures) (h .before .before .before .before .spread4 .ensures) (c .before .before .before .before .settle-four .ensures))
 
 pub +spread-spec : {M : Type 1} → statement M
 +spread-spec =
@@ -236,13 +234,12 @@ pub +spread-spec : {M : Type 1} → statement M
     (same-length t)
     (same-length-2 t)
     (returns t)
-    (add-first t)
     (of-requires t)
-    (nw-requires t)
-    (ne-requires t)
-    (sw-requires t)
     (se-requires t)
-    (write-four-requires t)
+    (sw-requires t)
+    (ne-requires t)
+    (nw-requires t)
+    (settle-four-requires t)
     (same-length-3 t)
     (same-length-4 t)
     (returns-2 t)

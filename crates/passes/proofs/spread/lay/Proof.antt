@@ -5,8 +5,8 @@ use Rattle.passes.proofs.LaidContent.{laid-apart, laid-leaf, laid-conte
 use Rattle.passes.proofs.spread.lay.Statement.{statement}
 use Rattle.passes.proofs.spread.lay.Tie as tie
 
-add-first : tie.Need-add-first
-add-first c = search needs
+one-before-requires : tie.Need-one-before-requires
+one-before-requires c κs = search needs
 
 enum-told : tie.Need-enum-told
 enum-told c = search needs
@@ -17,41 +17,44 @@ enum-known-meeting c = search needs
 enum-known-meeting-2 : tie.Need-enum-known-meeting-2
 enum-known-meeting-2 c = search needs
 
+sub-place : tie.Need-sub-place
+sub-place c = let s = c .before .before .before .before .before .before .before .before in let f = s .pre .fits _ _ (c .before .meeting2 .given .1) in f .low
+
+add-first : tie.Need-add-first
+add-first c = let s = c .before .before .before .before .before .before .before .before in let f = s .pre .fits _ _ (c .before .meeting2 .given .1) in record { fits = omega (arith, f .some, f .low, f .in-keys, s .good) }
+
 add-copy : tie.Need-add-copy
-add-copy c = let s = c .before .before .before .before .before .before .before in let f = s .pre .fits _ _ (c .before .meeting2 .given .1) in record { fits = omega (arith, f .some, f .from-keys, s .good) }
+add-copy c = let s = c .before .before .before .before .before .before .before .before in let f = s .pre .fits _ _ (c .before .meeting2 .given .1) in record { fits = omega (arith, f .some, f .from-keys, s .good) }
 
 sub-copy : tie.Need-sub-copy
-sub-copy c = let s = c .before .before .before .before .before .before .before in let f = s .pre .fits _ _ (c .before .meeting2 .given .1) in omega (arith, f .some)
+sub-copy c = let s = c .before .before .before .before .before .before .before .before in let f = s .pre .fits _ _ (c .before .meeting2 .given .1) in f .some
 
 copy-requires : tie.Need-copy-requires
-copy-requires c κs = let s = c .before .before .before .before .before .before .before .before in let f = s .pre .fits _ _ (c .before .before .meeting2 .given .1) in (omega (arith, f .some, f .from-keys), omega (arith, f .some, f .in-keys))
+copy-requires c κs = let s = c .before .before .before .before .before .before .before .before .before in let f = s .pre .fits _ _ (c .before .before .meeting2 .given .1) in (omega (arith, f .some, f .from-keys), omega (arith, f .some, f .low, f .in-keys))
 
 add-copy-2 : tie.Need-add-copy-2
-add-copy-2 c = let s = c .before .before .before .before .before .before .before .before .before .before .before in let f = s .pre .fits _ _ (c .before .before .before .before .before .meeting2 .given .1) in record { fits = omega (arith, f .some, f .from-keys, s .good) }
+add-copy-2 c = let s = c .before .before .before .before .before .before .before .before .before .before .before .before in let f = s .pre .fits _ _ (c .before .before .before .before .before .meeting2 .given .1) in record { fits = omega (arith, f .some, f .from-keys, s .good) }
 
 sub-copy-2 : tie.Need-sub-copy-2
-sub-copy-2 c = let s = c .before .before .before .before .before .before .before .before .before .before .before in let f = s .pre .fits _ _ (c .before .before .before .before .before .meeting2 .given .1) in omega (arith, f .some)
+sub-copy-2 c = let s = c .before .before .before .before .before .before .before .before .before .before .before .before in let f = s .pre .fits _ _ (c .before .before .before .before .before .meeting2 .given .1) in f .some
 
 copy-requires-2 : tie.Need-copy-requires-2
-copy-requires-2 c κs = let s = c .before .before .before .before .before .before .before .before .before .before .before .before in let f = s .pre .fits _ _ (c .before .before .before .before .before .before .meeting2 .given .1) in (omega (arith, f .some, f .from-values), omega (arith, f .some, f .in-bits))
+copy-requires-2 c κs = let s = c .before .before .before .before .before .before .before .before .before .before .before .before .before in let f = s .pre .fits _ _ (c .before .before .before .before .before .before .meeting2 .given .1) in (omega (arith, f .some, f .from-values), omega (arith, f .some, f .low, f .in-bits))
 
-mul-t15 : tie.Need-mul-t15
-mul-t15 c = let s = c .before .before .before .before .before .before .before .before .before .before .before .before .before .before .before in let f = s .pre .fits _ _ (c .before .before .before .before .before .before .before .before .before .meeting2 .given .1) in record { fits = omega (arith, f .some, f .from-values, s .good) }
+mul-t17 : tie.Need-mul-t17
+mul-t17 c = let s = c .before .before .before .before .before .before .before .before .before .before .before .before .before .before .before .before in let f = s .pre .fits _ _ (c .before .before .before .before .before .before .before .before .before .meeting2 .given .1) in record { fits = omega (arith, f .some, f .from-values, s .good) }
 
-shared-slice-read-t21 : tie.Need-shared-slice-read-t21
-shared-slice-read-t21 c = let s = c .before .before .before .before .before .before .before .before .before .before .before .before .before .before .before .before in let f = s .pre .fits _ _ (c .before .before .before .before .before .before .before .before .before .before .meeting2 .given .1) in omega (arith, f .some, f .from-values)
-
-add-t14 : tie.Need-add-t14
-add-t14 c = let s = c .before .before .before .before .before .before .before .before .before .before .before .before .before .before .before .before in let f = s .pre .fits _ _ (c .before .before .before .before .before .before .before .before .before .before .meeting2 .given .1) in record { fits = omega (arith, f .in-keys, s .good) }
+shared-slice-read-t23 : tie.Need-shared-slice-read-t23
+shared-slice-read-t23 c = let s = c .before .before .before .before .before .before .before .before .before .before .before .before .before .before .before .before .before in let f = s .pre .fits _ _ (c .before .before .before .before .before .before .before .before .before .before .meeting2 .given .1) in omega (arith, f .some, f .from-values)
 
 enum-told-2 : tie.Need-enum-told-2
 enum-told-2 c = search needs
 
 returns : tie.Need-returns
-returns c = laid-apart _ _ _ _ _ _ (c .enum-told .given .1)
+returns c = laid-apart _ _ _ _ _ _ (c .enum-told .given .1) (c .before .before .one-before .ensures)
 
 returns-2 : tie.Need-returns-2
-returns-2 c = laid-leaf _ _ _ _ _ _ (c .before .meeting .given .1)
+returns-2 c = laid-leaf _ _ _ _ _ _ (c .before .meeting .given .1) (c .before .before .before .one-before .ensures)
 
 same-length : tie.Need-same-length
 same-length c = search needs
@@ -69,19 +72,20 @@ pub lay-spec : {M : Type 1} → statement M
 lay-spec =
     tie.close
     (tie.spec
-    add-first
+    one-before-requires
     enum-told
     enum-known-meeting
     enum-known-meeting-2
+    sub-place
+    add-first
     add-copy
     sub-copy
     copy-requires
     add-copy-2
     sub-copy-2
     copy-requires-2
-    mul-t15
-    shared-slice-read-t21
-    add-t14
+    mul-t17
+    shared-slice-read-t23
     enum-told-2
     returns
     returns-2

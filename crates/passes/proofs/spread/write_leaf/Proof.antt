@@ -1,26 +1,27 @@
--- `write_leaf` meets its contract: what the leaf grows to is counted, its own record is written, and behind it those below it, if there are any.
+-- `write_leaf` meets its contract: the records below the leaf are written, and its own in front of them.
 use borrow.Author.Needs.{needs}
-use Rattle.passes.proofs.LeafWritten.{wl-low, wl-room, wl-one, wl-fits, wl-wrote, wl-sizes}
+use Rattle.passes.proofs.LeafWritten.{leaf-fits, leaf-room, leaf-wrote}
 use Rattle.passes.proofs.spread.write_leaf.Statement.{statement}
 use Rattle.passes.proofs.spread.write_leaf.Tie as tie
 
-tally-leaf-requires : tie.Need-tally-leaf-requires
-tally-leaf-requires c κs = search needs
+-- once the records below are written
+abbrev start : tie.After-slice-known4 → tie.Start
+start c = c .before .before .before .before .before .before .before .before .before .before .before
 
-sub-start : tie.Need-sub-start
-sub-start c = let s = c .before .before .before .before .before .before .pre in wl-low (s .0 .1 .deep) (s .0 .1 .block) (s .1) (c .before .tally-leaf .ensures)
+spread-requires : tie.Need-spread-requires
+spread-requires c κs = let s = c .before .before .before .before .before .before .pre in (s .0, leaf-fits (s .1) (s .0 .1 .deep) (s .0 .1 .block))
 
 mul-keys : tie.Need-mul-keys
 mul-keys c = search needs
 
 slice-write-keys : tie.Need-slice-write-keys
-slice-write-keys c = let s = c .before .before .before .before .before .before .pre in wl-room (s .0 .1 .deep) (s .0 .1 .block) (s .1) (c .before .tally-leaf .ensures) .0
+slice-write-keys c = leaf-room (start c .pre .1) (c .before .before .before .before .spread .ensures) .0
 
 mul-bits : tie.Need-mul-bits
 mul-bits c = search needs
 
 slice-write-bits : tie.Need-slice-write-bits
-slice-write-bits c = let s = c .before .before .before .before .before .before .pre in wl-room (s .0 .1 .deep) (s .0 .1 .block) (s .1) (c .before .tally-leaf .ensures) .1
+slice-write-bits c = leaf-room (start c .pre .1) (c .before .before .before .before .spread .ensures) .1
 
 same-length : tie.Need-same-length
 same-length c = search needs
@@ -29,36 +30,17 @@ same-length-2 : tie.Need-same-length-2
 same-length-2 c = search needs
 
 returns : tie.Need-returns
-returns c = let s = c .before .before .before .before .before .before .before .before .pre in wl-one (s .0 .1 .deep) (s .0 .1 .block) (s .1) (c .before .before .before .tally-leaf .ensures) (c .if1 .taken)
-
-spread-requires : tie.Need-spread-requires
-spread-requires c κs = let s = c .before .before .before .before .before .before .before .before .before .before .pre in (s .0, wl-fits (s .0 .1 .deep) (s .0 .1 .block) (s .1) (c .before .before .before .before .before .tally-leaf .ensures))
-
-same-length-3 : tie.Need-same-length-3
-same-length-3 c = let s = c .before .before .before .before .before .before .before .before .before .before .before .before .before .before .before .pre in wl-sizes (s .0 .1 .deep) (s .0 .1 .block) (s .1) (c .before .before .before .before .before .before .before .before .before .before .tally-leaf .ensures) (c .before .before .before .before .spread .ensures) .0
-
-same-length-4 : tie.Need-same-length-4
-same-length-4 c = let s = c .before .before .before .before .before .before .before .before .before .before .before .before .before .before .before .pre in wl-sizes (s .0 .1 .deep) (s .0 .1 .block) (s .1) (c .before .before .before .before .before .before .before .before .before .before .tally-leaf .ensures) (c .before .before .before .before .spread .ensures) .1
-
-returns-2 : tie.Need-returns-2
-returns-2 c =
-    let s = c .before .before .before .before .before .before .before .before .before .before .before .before .before .before .before .pre in
-    wl-wrote (s .0 .1 .deep) (s .0 .1 .block) (s .1) (c .before .before .before .before .before .before .before .before .before .before .tally-leaf .ensures) (c .before .before .before .before .spread .ensures)
+returns c = leaf-wrote (start c .pre .1) (c .before .before .before .before .spread .ensures)
 
 pub write-leaf-spec : {M : Type 1} → statement M
 write-leaf-spec =
     tie.close
     (tie.spec
-    tally-leaf-requires
-    sub-start
+    spread-requires
     mul-keys
     slice-write-keys
     mul-bits
     slice-write-bits
     same-length
     same-length-2
-    returns
-    spread-requires
-    same-length-3
-    same-length-4
-    returns-2)
+    returns)
