@@ -25,17 +25,25 @@ pub struct Former {
 fn by_standing(standing: Standing) -> Former
     ensures { λ r. ⌜ r ≡ formerBy standing ⌝ }
 {
-    match standing {
-        Standing::Listed(place, records) => Former {
-            listed: true,
-            place,
-            count: records,
-        },
-        Standing::Inside(place, leaf, level) => Former {
+    let Standing::Listed(place, records) = standing else {
+        let Standing::Inside(around, leaf, level) = standing else {
+            // A standing is one of the two: never reached.
+            return Former {
+                listed: false,
+                place: 0,
+                count: 0,
+            };
+        };
+        return Former {
             listed: false,
-            place,
+            place: around,
             count: 1,
-        },
+        };
+    };
+    Former {
+        listed: true,
+        place,
+        count: records,
     }
 }
 

@@ -1,11 +1,14 @@
 -- The passes one after the other, on the slices. Rests on ShrinkSteps, GrowQuarters and Assembled.
-use Prim.Native.Nat.{ℕ, _+_, _-_, _^_, _≤_}
+use Prim.Native.Nat.{ℕ, _+_, _-_, _*_, _/_, _^_, _≤_}
 use mathlib.Core.Path.{_≡_, sym, _∙_, ap, ap₂}
+use mathlib.Core.Bool.{true}
 use mathlib.Core.List.{List, [], _∷_, _++_, append-nil}
 use native.Mathlib.Nat.{zero-add, le-refl}
 use native.Mathlib.Omega.{arith}
 use lib.ListN.{length, take, drop, replicate, length-map}
 use lib.Seq.{sets}
+use lib.Dec.{leb}
+use borrow.Author.Tests.{le-leb}
 use Rattle.slices.proofs.Sets.{sets-parts, sets-same}
 use Rattle.keys.proofs.Cases.{split}
 use Rattle.keys.specs.Under.{here}
@@ -17,6 +20,7 @@ use Rattle.laws.proofs.Ascending.{none}
 use Rattle.laws.proofs.Records.{records-keys, records-values, paired-back}
 use Rattle.list.specs.Own.{OwnList, shownBy}
 use Rattle.list.proofs.Own.{own-length}
+use Rattle.build.proofs.CountBlock.{most-records}
 use Rattle.step.specs.Step.{Step, pruned, stepOver}
 use Rattle.step.proofs.Pruned.{pruned-before, pruned-after, pruned-all}
 use Rattle.passes.specs.Passes.{ShowingBlock, Shown, WroteBefore, Growing, GrowAsked, Grown, StepCounted}
@@ -41,6 +45,10 @@ shown-whole {m} {keys} {bits} {n} deep own = record { picture = shownBy m keys b
 
 pub shrink-whole : {m : ℕ} {keys bits : List ℕ} {n : ℕ} → m ≤ 10 → OwnList m keys bits n → ShrinkAsked m m 0 0 0 keys bits 0 n 0
 shrink-whole deep own = record { shown = shown-whole deep own; order = le-refl 0 }
+
+-- where the longest list of so many pixels fits, any list does
+pub any-fits : (q : Picture) (m : ℕ) {pixels room least : ℕ} → pixels ≡ 4 ^ m → room ≡ least → (4 * pixels - 1) / 3 ≤ room → leb (length (listOfPicture m q)) least ≡ true
+any-fits q m {pixels} {least = least} e f h = let n = most-records q m 0 0 0 pixels e in le-leb (length (listOfPicture m q)) least (omega arith)
 
 sets-over : (new old : List ℕ) → length new ≤ length old → sets old 0 new ≡ over new old
 sets-over new old h = sets-parts old 0 new (omega arith) ∙ ap (λ i. new ++ drop i old) (zero-add (length new))
@@ -100,8 +108,8 @@ module _ (t : Step) {m : ℕ} {keys bits : List ℕ} {n : ℕ} (deep : m ≤ 10)
   pub length-told : {union count next : ℕ} → StepCounted t m 0 0 0 keys bits 0 n union count next → count ≡ length (listOfPicture m (stepOver t (shownBy m keys bits n)))
   length-told x = x .tallied p (showing-whole own) .count-is
 
-  module _ {keys₁ bits₁ : List ℕ} {union next left : ℕ} (r : Shrinks t m 0 0 0 keys bits 0 n 0 keys₁ bits₁ union next left) where
-    shrunk : ShrunkAt t p m 0 0 0 keys bits 0 0 keys₁ bits₁ union next left
+  module _ {keys₁ bits₁ : List ℕ} {union after next left : ℕ} (r : Shrinks t m 0 0 0 keys bits 0 n 0 keys₁ bits₁ union after next left) where
+    shrunk : ShrunkAt t p m 0 0 0 keys bits 0 0 keys₁ bits₁ union after next left
     shrunk = r .holds p (showing-whole own)
 
     many : length (pruned p (stepOver t p) m 0 0 0) ≡ left
@@ -128,7 +136,10 @@ module _ (t : Step) {m : ℕ} {keys bits : List ℕ} {n : ℕ} (deep : m ≤ 10)
     past-bits : drop n bits₁ ≡ drop n bits
     past-bits = rw (← next-is) (shrunk .bits-are .behind)
 
-    module _ {after : ℕ} (after-is : after ≡ length (listOfPicture m (stepOver t (shownBy m keys bits n)))) (fits : after ≤ room keys bits) where
+    pub after-is : after ≡ length (listOfPicture m (stepOver t (shownBy m keys bits n)))
+    after-is = shrunk .tallied .count-is
+
+    module _ (fits : length (listOfPicture m (stepOver t (shownBy m keys bits n))) ≤ room keys bits) where
       same-keys : length keys₁ ≡ length keys
       same-keys = shrunk .keys-are .size
 
@@ -141,6 +152,7 @@ module _ (t : Step) {m : ℕ} {keys bits : List ℕ} {n : ℕ} (deep : m ≤ 10)
       growing : Growing t p m 0 0 0 keys₁ bits₁ left after
       growing =
           let e = many in
+          let f = after-is in
           let a = same-keys in
           let b = same-bits in
           record {

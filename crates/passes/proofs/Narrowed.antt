@@ -82,14 +82,14 @@ module _ {m past k r c κ : ℕ} {t t′ : Step} (s : SameBefore m past t t′) 
   narrowed-asked a = record { picture = a .picture; deep = a .deep; block = b; growing = narrowed-growing (a .picture) (a .growing) }
 
   -- what is left is the same
-  pub narrowed-shrinks : {keys bits keys′ bits′ : List ℕ} {at n place union next place′ : ℕ} → Shrinks t′ k r c κ keys bits at n place keys′ bits′ union next place′
-      → Shrinks t k r c κ keys bits at n place keys′ bits′ union next place′
+  pub narrowed-shrinks : {keys bits keys′ bits′ : List ℕ} {at n place union count next place′ : ℕ} → Shrinks t′ k r c κ keys bits at n place keys′ bits′ union count next place′
+      → Shrinks t k r c κ keys bits at n place keys′ bits′ union count next place′
   narrowed-shrinks {place = place} x = record {
     holds = λ p s.
         let y = x .holds p s in
         let same = pruned-agree p (stepOver t′ p) (stepOver t p) k r c κ (narrowed-agree p) in
         record {
-          union-is = y .union-is ∙ bits-agree (stepOver t′ p) (stepOver t p) k r c (narrowed-agree p);
+          tallied = narrowed-tallied p (y .tallied);
           next-is = y .next-is;
           place-is = y .place-is ∙ ap (λ l. place + length l) same;
           keys-are = rw same at (y .keys-are);

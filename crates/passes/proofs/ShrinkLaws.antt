@@ -15,23 +15,24 @@ use Rattle.definitions.specs.Picture.{Picture, oneFeature}
 use Rattle.definitions.specs.Bits.{bitsOf, featureOf, unionOfFour}
 use Rattle.definitions.specs.List.{Record, recordOf, keysOf, valuesOf, listOf}
 use Rattle.definitions.specs.Read.{paired, recordsOf}
-use Rattle.laws.proofs.Slots.{same-four}
 use Rattle.laws.proofs.Pixels.{Agree}
 use Rattle.laws.proofs.Features.{one-to, one-from, one-pixel}
 use Rattle.laws.proofs.FeatureOf.{feature-of-power}
-use Rattle.laws.proofs.BitsOf.{bits-one, bits-agree, bits-suc}
+use Rattle.laws.proofs.BitsOf.{bits-one}
 use Rattle.laws.proofs.ListOf.{list-one, list-some, length-several, length-node}
 use Rattle.laws.proofs.Records.{records-length, records-run, paired-keys, paired-values}
 use Rattle.list.specs.Check.{oneSlot}
 use Rattle.list.proofs.OneSlot.{slot-feature, slot-power}
-use Rattle.build.specs.BuildBlocks.{Tallied}
+use Rattle.build.specs.BuildBlocks.{Tallied, Joined}
+use Rattle.build.proofs.CountBlock.{tallied-four}
 use Rattle.step.specs.Step.{Step, stepOver, plain, pruned}
-use Rattle.step.specs.Meeting.{Untouched, OneLeaf, Met}
+use Rattle.step.specs.Meeting.{Untouched, OneLeaf, Met, isCut}
 use Rattle.step.specs.declared.meeting.Meeting.{Meeting}
 use Rattle.step.specs.declared.meeting.Meeting.the-variants.{Apart, Leaf, Content, Cut}
-use Rattle.step.proofs.Pruned.{over-out, leaf-before, pruned-one, pruned-leaf, pruned-node, pruned-apart, pruned-same}
+use Rattle.step.proofs.Pruned.{leaf-before, pruned-one, pruned-leaf, pruned-node, pruned-apart, pruned-same}
 use Rattle.passes.specs.Passes.{Showing, ShowingBlock}
 use Rattle.passes.specs.Shrink.{Forward, ShrunkAt, KeptForward, LeafShrunk, OwnShrunk, isDecided}
+use Rattle.passes.proofs.Known.{untouched-agree}
 use Rattle.passes.proofs.FourParts.{four-keys, four-values}
 use Rattle.passes.proofs.Forward.{forward-four, forward-own, forward-alone, forward-one, forward-run}
 
@@ -62,15 +63,15 @@ forward-at : {new new′ before after after′ : List ℕ} {place next next′ :
 forward-at e f g h = rw (e, f, g) at h
 
 -- one record is left
-module _ (t : Step) (p : Picture) (k r c κ : ℕ) {ks bs ks′ bs′ : List ℕ} {at n place union next place′ value : ℕ}
+module _ (t : Step) (p : Picture) (k r c κ : ℕ) {ks bs ks′ bs′ : List ℕ} {at n place union count next place′ value : ℕ}
     (s : ShowingBlock p k r c κ ks bs at n) (order : place ≤ at) (left : pruned p (stepOver t p) k r c κ ≡ recordOf κ value ∷ []) where
-  pub one-left : union ≡ bitsOf (stepOver t p) k r c → next ≡ at + length (listOf p k r c κ) → place′ ≡ place + 1 → ks′ ≡ set ks place κ → bs′ ≡ set bs place value
-      → ShrunkAt t p k r c κ ks bs at place ks′ bs′ union next place′
-  one-left u e f g h =
+  pub one-left : Tallied (stepOver t p) k r c union count → next ≡ at + length (listOf p k r c κ) → place′ ≡ place + 1 → ks′ ≡ set ks place κ → bs′ ≡ set bs place value
+      → ShrunkAt t p k r c κ ks bs at place ks′ bs′ union count next place′
+  one-left told e f g h =
       let some = list-some p k r c κ in
       let w = shown-within s some in
       record {
-        union-is = u;
+        tallied = told;
         next-is = e;
         place-is = f ∙ ap (λ l. place + length l) (sym left);
         keys-are = forward-at (sym (ap keysOf left)) refl (sym g) (forward-one κ (omega arith) (omega (arith, s .in-keys)));
@@ -78,32 +79,31 @@ module _ (t : Step) (p : Picture) (k r c κ : ℕ) {ks bs ks′ bs′ : List ℕ
       }
 
 -- a block that the step does not touch stays as it is
-module _ (t : Step) (p : Picture) (k r c κ : ℕ) {ks bs ks′ bs′ : List ℕ} {at n place union next place′ : ℕ}
-    (s : ShowingBlock p k r c κ ks bs at n) (order : place ≤ at) (next-is : next ≡ at + length (listOf p k r c κ)) where
-  pub apart-left : Untouched t k r c → union ≡ bitsOf p k r c → place′ ≡ place + (next - at)
+module _ (t : Step) (p : Picture) (k r c κ : ℕ) {ks bs ks′ bs′ : List ℕ} {at n place union count next place′ : ℕ}
+    (s : ShowingBlock p k r c κ ks bs at n) (order : place ≤ at) (told : Tallied (stepOver t p) k r c union count) (next-is : next ≡ at + length (listOf p k r c κ)) where
+  pub apart-left : Untouched t k r c → place′ ≡ place + (next - at)
       → ks′ ≡ sets ks place (take (next - at) (drop at ks)) → bs′ ≡ sets bs place (take (next - at) (drop at bs))
-      → ShrunkAt t p k r c κ ks bs at place ks′ bs′ union next place′
-  apart-left apart u f g h =
-      let same : Agree p (stepOver t p) k r c = λ a b w. sym (over-out t p a b (apart a b w)) in
-      let is = pruned-apart p (stepOver t p) k r c κ same in
+      → ShrunkAt t p k r c κ ks bs at place ks′ bs′ union count next place′
+  apart-left apart f g h =
+      let is = pruned-apart p (stepOver t p) k r c κ (untouched-agree t p k r c apart) in
       let some = list-some p k r c κ in
       let w = shown-within s some in
-      let count : next - at ≡ length (listOf p k r c κ) = omega arith in
+      let many : next - at ≡ length (listOf p k r c κ) = omega arith in
       record {
-        union-is = u ∙ bits-agree p (stepOver t p) k r c same;
+        tallied = told;
         next-is = next-is;
-        place-is = f ∙ ap (λ x. place + x) count ∙ ap (λ l. place + length l) (sym is);
-        keys-are = forward-at (shown-keys s some ∙ ap keysOf (sym is)) (sym next-is) (ap (λ x. sets ks place (take x (drop at ks))) (sym count) ∙ sym g)
+        place-is = f ∙ ap (λ x. place + x) many ∙ ap (λ l. place + length l) (sym is);
+        keys-are = forward-at (shown-keys s some ∙ ap keysOf (sym is)) (sym next-is) (ap (λ x. sets ks place (take x (drop at ks))) (sym many) ∙ sym g)
             (forward-run ks at (length (listOf p k r c κ)) place order (omega (arith, s .in-keys)));
-        bits-are = forward-at (shown-values s some ∙ ap valuesOf (sym is)) (sym next-is) (ap (λ x. sets bs place (take x (drop at bs))) (sym count) ∙ sym h)
+        bits-are = forward-at (shown-values s some ∙ ap valuesOf (sym is)) (sym next-is) (ap (λ x. sets bs place (take x (drop at bs))) (sym many) ∙ sym h)
             (forward-run bs at (length (listOf p k r c κ)) place order (omega (arith, s .in-bits)));
       }
 
   -- one that becomes a leaf is one record
-  pub leaf-left : (bits : ℕ) → OneLeaf t k r c bits → union ≡ bits → place′ ≡ place + 1 → ks′ ≡ set ks place κ → bs′ ≡ set bs place bits
-      → ShrunkAt t p k r c κ ks bs at place ks′ bs′ union next place′
-  leaf-left bits one u f g h =
-      one-left t p k r c κ s order (pruned-one p (stepOver t p) k r c κ (single k (one p .count-is))) (u ∙ one p .bits-are) next-is f g
+  pub leaf-left : (bits : ℕ) → OneLeaf t k r c bits → place′ ≡ place + 1 → ks′ ≡ set ks place κ → bs′ ≡ set bs place bits
+      → ShrunkAt t p k r c κ ks bs at place ks′ bs′ union count next place′
+  leaf-left bits one f g h =
+      one-left t p k r c κ s order (pruned-one p (stepOver t p) k r c κ (single k (one p .count-is))) told next-is f g
       (h ∙ ap (set bs place) (one p .bits-are))
     where
       single : (k : ℕ) → 1 ≡ length (listOf (stepOver t p) k r c 0) → oneFeature (stepOver t p) k r c ≡ true
@@ -111,59 +111,65 @@ module _ (t : Step) (p : Picture) (k r c κ : ℕ) {ks bs ks′ bs′ : List ℕ
       single (suc k) h = decide (oneFeature (stepOver t p) (suc k) r c) (λ one. one) (λ several. let n = length-several (stepOver t p) k r c 0 several in absurd (omega arith))
 
   -- either, by the meeting
-  pub whole-left : (meeting : Meeting) {own next′ : ℕ} {lks lvs : List ℕ} → Met t lks lvs k r c κ meeting → isDecided meeting ≡ true → own ≡ bitsOf p k r c
-      → KeptForward meeting κ own ks bs at next place ks′ bs′ union next′ place′
-      → ShrunkAt t p k r c κ ks bs at place ks′ bs′ union next′ place′
-  whole-left Apart m w o x = rw (x .next-is) (apart-left (m .told) (x .union-is ∙ o) (x .place-is) (x .keys-are) (x .bits-are))
-  whole-left (Leaf bits) m w o x = rw (x .next-is) (leaf-left bits (m .told) (x .union-is) (x .place-is) (x .keys-are) (x .bits-are))
-  whole-left (Content start count) m w o x = absurd (true≢false (sym w))
-  whole-left Cut m w o x = absurd (true≢false (sym w))
+  pub whole-left : (meeting : Meeting) {lks lvs : List ℕ} → Met t lks lvs k r c κ meeting → isDecided meeting ≡ true
+      → KeptForward meeting κ ks bs at next place ks′ bs′ place′
+      → ShrunkAt t p k r c κ ks bs at place ks′ bs′ union count next place′
+  whole-left Apart m w x = apart-left (m .told) (x .place-is) (x .keys-are) (x .bits-are)
+  whole-left (Leaf bits) m w x = leaf-left bits (m .told) (x .place-is) (x .keys-are) (x .bits-are)
+  whole-left (Content start count) m w x = absurd (true≢false (sym w))
+  whole-left Cut m w x = absurd (true≢false (sym w))
 
--- a leaf
-pub single-left : (t : Step) (p : Picture) (k r c κ own : ℕ) {ks bs ks′ bs′ : List ℕ} {at n place union next place′ : ℕ} → ShowingBlock p k r c κ ks bs at n → place ≤ at
-    → own ≡ bitsOf p k r c → oneSlot own ≡ true → LeafShrunk t own k r c κ ks bs at place ks′ bs′ union next place′
-    → ShrunkAt t p k r c κ ks bs at place ks′ bs′ union next place′
-single-left t p k r c κ own {at = at} s order o one x =
-    one-left t p k r c κ s order (pruned-same p (plain (featureOf own)) (stepOver t p) (stepOver t (plain (featureOf own))) k r c κ plain-is over-is ∙ x .left)
-    (x .union-is ∙ sym (bits-agree (stepOver t p) (stepOver t (plain (featureOf own))) k r c over-is))
-    (x .next-is ∙ ap (λ l. at + length l) (sym (list-one p k r c κ uniform)))
-    (x .place-is)
-    (x .keys-are)
-    (x .bits-are)
-  where
-    uniform : oneFeature p k r c ≡ true
-    uniform = sym (slot-feature p k r c) ∙ ap oneSlot (sym o) ∙ one
+  -- a leaf
+  pub single-left : (own : ℕ) → own ≡ bitsOf p k r c → oneSlot own ≡ true → LeafShrunk t own k r c κ ks bs at place ks′ bs′ union count next place′
+      → ShrunkAt t p k r c κ ks bs at place ks′ bs′ union count next place′
+  single-left own o one x =
+      one-left t p k r c κ s order (pruned-same p (plain (featureOf own)) (stepOver t p) (stepOver t (plain (featureOf own))) k r c κ plain-is over-is ∙ x .left)
+      told
+      next-is
+      (x .place-is)
+      (x .keys-are)
+      (x .bits-are)
+    where
+      uniform : oneFeature p k r c ≡ true
+      uniform = sym (slot-feature p k r c) ∙ ap oneSlot (sym o) ∙ one
 
-    feature : featureOf own ≡ p r c
-    feature = ap featureOf (o ∙ bits-one p k r c uniform) ∙ feature-of-power (p r c)
+      feature : featureOf own ≡ p r c
+      feature = ap featureOf (o ∙ bits-one p k r c uniform) ∙ feature-of-power (p r c)
 
-    plain-is : Agree p (plain (featureOf own)) k r c
-    plain-is a b w = one-to p k r c uniform a b w ∙ sym feature
+      plain-is : Agree p (plain (featureOf own)) k r c
+      plain-is a b w = one-to p k r c uniform a b w ∙ sym feature
 
-    over-is : Agree (stepOver t p) (stepOver t (plain (featureOf own))) k r c
-    over-is a b w = sym (leaf-before t p k r c uniform a b w) ∙ ap (λ g. stepOver t (plain g) a b) (sym feature)
+      over-is : Agree (stepOver t p) (stepOver t (plain (featureOf own))) k r c
+      over-is a b w = sym (leaf-before t p k r c uniform a b w) ∙ ap (λ g. stepOver t (plain g) a b) (sym feature)
+
+-- a meeting that decides has no quadrants to be asked
+pub decided-whole : (meeting : Meeting) → isDecided meeting ≡ true → isCut meeting ≡ false
+decided-whole Apart w = refl
+decided-whole (Leaf bits) w = refl
+decided-whole (Content start count) w = refl
+decided-whole Cut w = absurd (true≢false (sym w))
 
 -- what `keep` leaves, by the meeting
-pub kept-apart : (meeting : Meeting) {κ own : ℕ} {ks bs ks′ bs′ : List ℕ} {at next place : ℕ} → meeting ≡ Apart
+pub kept-apart : (meeting : Meeting) {κ : ℕ} {ks bs ks′ bs′ : List ℕ} {at next place : ℕ} → meeting ≡ Apart
     → ks′ ≡ sets ks place (take (next - at) (drop at ks)) → bs′ ≡ sets bs place (take (next - at) (drop at bs))
-    → KeptForward meeting κ own ks bs at next place ks′ bs′ own next (place + (next - at))
-kept-apart meeting {κ} {own} {ks} {bs} {ks′} {bs′} {at} {next} {place} e g h =
-    subst (λ x. KeptForward x κ own ks bs at next place ks′ bs′ own next (place + (next - at))) (sym e)
-    (record { union-is = refl; next-is = refl; place-is = refl; keys-are = g; bits-are = h })
+    → KeptForward meeting κ ks bs at next place ks′ bs′ (place + (next - at))
+kept-apart meeting {κ} {ks} {bs} {ks′} {bs′} {at} {next} {place} e g h =
+    subst (λ x. KeptForward x κ ks bs at next place ks′ bs′ (place + (next - at))) (sym e)
+    (record { place-is = refl; keys-are = g; bits-are = h })
 
-pub kept-leaf : (meeting : Meeting) {κ own bits : ℕ} {ks bs : List ℕ} {at next place : ℕ} → meeting ≡ Leaf bits
-    → KeptForward meeting κ own ks bs at next place (set ks place κ) (set bs place bits) bits next (place + 1)
-kept-leaf meeting {κ} {own} {bits} {ks} {bs} {at} {next} {place} e =
-    subst (λ x. KeptForward x κ own ks bs at next place (set ks place κ) (set bs place bits) bits next (place + 1)) (sym e)
-    (record { union-is = refl; next-is = refl; place-is = refl; keys-are = refl; bits-are = refl })
+pub kept-leaf : (meeting : Meeting) {κ bits : ℕ} {ks bs : List ℕ} {at next place : ℕ} → meeting ≡ Leaf bits
+    → KeptForward meeting κ ks bs at next place (set ks place κ) (set bs place bits) (place + 1)
+kept-leaf meeting {κ} {bits} {ks} {bs} {at} {next} {place} e =
+    subst (λ x. KeptForward x κ ks bs at next place (set ks place κ) (set bs place bits) (place + 1)) (sym e)
+    (record { place-is = refl; keys-are = refl; bits-are = refl })
 
 -- what `shrink_own` leaves, by the slots of the union
-module _ {κ union : ℕ} {ks bs : List ℕ} {place next last : ℕ} where
-  pub own-one : oneSlot union ≡ true → OwnShrunk κ union ks bs place next last (set ks place κ) (set bs place union) union next (place + 1)
-  own-one e = record { union-is = refl; next-is = refl; place-is = rw e refl; keys-are = refl; bits-are = refl }
+module _ {κ union : ℕ} {ks bs : List ℕ} {place last : ℕ} where
+  pub own-one : oneSlot union ≡ true → OwnShrunk κ union ks bs place last (set ks place κ) (set bs place union) (place + 1)
+  own-one e = record { place-is = rw e refl; keys-are = refl; bits-are = refl }
 
-  pub own-several : oneSlot union ≡ false → OwnShrunk κ union ks bs place next last (set ks place κ) (set bs place union) union next last
-  own-several e = record { union-is = refl; next-is = refl; place-is = rw e refl; keys-are = refl; bits-are = refl }
+  pub own-several : oneSlot union ≡ false → OwnShrunk κ union ks bs place last (set ks place κ) (set bs place union) last
+  own-several e = record { place-is = rw e refl; keys-are = refl; bits-are = refl }
 
 -- what is left of a leaf by itself: the leaf after the step where it stays one record, else the leaf before it
 leaf-value : (t : Step) (own : ℕ) {k r c κ bits count : ℕ} → oneSlot own ≡ true → Tallied (stepOver t (plain (featureOf own))) k r c bits count
@@ -189,9 +195,9 @@ leaf-value t own {k} {r} {c} {κ} {bits} {count} one x = go k x
 
 pub leaf-shrunk : (t : Step) (own : ℕ) {k r c κ bits count value : ℕ} {ks bs : List ℕ} {at place : ℕ} → oneSlot own ≡ true
     → Tallied (stepOver t (plain (featureOf own))) k r c bits count → value ≡ cond (eqb count 1) bits own
-    → LeafShrunk t own k r c κ ks bs at place (set ks place κ) (set bs place value) bits (at + 1) (place + 1)
+    → LeafShrunk t own k r c κ ks bs at place (set ks place κ) (set bs place value) bits count (at + 1) (place + 1)
 leaf-shrunk t own {κ = κ} {value = value} one x e = record {
-  union-is = x .bits-are;
+  tallied = x;
   next-is = refl;
   place-is = refl;
   value = value;
@@ -201,13 +207,14 @@ leaf-shrunk t own {κ = κ} {value = value} one x e = record {
 }
 
 -- a node: its quadrants have shrunk, and its own record stands before them, or for them
-module _ (t : Step) (p : Picture) (k r c κ : ℕ) {ks bs ks₁ bs₁ ks₂ bs₂ ks₃ bs₃ ks₄ bs₄ ks′ bs′ : List ℕ} {at n place u₁ u₂ u₃ u₄ n₁ n₂ n₃ n₄ i₁ i₂ i₃ i₄ union next place′ : ℕ}
+module _ (t : Step) (p : Picture) (k r c κ : ℕ) {ks bs ks₁ bs₁ ks₂ bs₂ ks₃ bs₃ ks₄ bs₄ ks′ bs′ : List ℕ} {at n place u₁ u₂ u₃ u₄ m₁ m₂ m₃ m₄ n₁ n₂ n₃ n₄ i₁ i₂ i₃ i₄ union count place′ : ℕ}
     (s : ShowingBlock p (suc k) r c κ ks bs at n) (order : place ≤ at) (several : oneFeature p (suc k) r c ≡ false)
-    (h₁ : ShrunkAt t p k r c (childKey κ k 1) ks bs (at + 1) (place + 1) ks₁ bs₁ u₁ n₁ i₁)
-    (h₂ : ShrunkAt t p k r (c + 2 ^ k) (childKey κ k 2) ks₁ bs₁ n₁ i₁ ks₂ bs₂ u₂ n₂ i₂)
-    (h₃ : ShrunkAt t p k (r + 2 ^ k) c (childKey κ k 3) ks₂ bs₂ n₂ i₂ ks₃ bs₃ u₃ n₃ i₃)
-    (h₄ : ShrunkAt t p k (r + 2 ^ k) (c + 2 ^ k) (childKey κ k 4) ks₃ bs₃ n₃ i₃ ks₄ bs₄ u₄ n₄ i₄)
-    (o : OwnShrunk κ (unionOfFour u₁ u₂ u₃ u₄) ks₄ bs₄ place n₄ i₄ ks′ bs′ union next place′) where
+    (h₁ : ShrunkAt t p k r c (childKey κ k 1) ks bs (at + 1) (place + 1) ks₁ bs₁ u₁ m₁ n₁ i₁)
+    (h₂ : ShrunkAt t p k r (c + 2 ^ k) (childKey κ k 2) ks₁ bs₁ n₁ i₁ ks₂ bs₂ u₂ m₂ n₂ i₂)
+    (h₃ : ShrunkAt t p k (r + 2 ^ k) c (childKey κ k 3) ks₂ bs₂ n₂ i₂ ks₃ bs₃ u₃ m₃ n₃ i₃)
+    (h₄ : ShrunkAt t p k (r + 2 ^ k) (c + 2 ^ k) (childKey κ k 4) ks₃ bs₃ n₃ i₃ ks₄ bs₄ u₄ m₄ n₄ i₄)
+    (j : Joined (unionOfFour u₁ u₂ u₃ u₄) (m₁ + (m₂ + (m₃ + m₄))) union count)
+    (o : OwnShrunk κ union ks₄ bs₄ place i₄ ks′ bs′ place′) where
   P₁ : List Record
   P₁ = pruned p (stepOver t p) k r c (childKey κ k 1)
 
@@ -220,11 +227,11 @@ module _ (t : Step) (p : Picture) (k r c κ : ℕ) {ks bs ks₁ bs₁ ks₂ bs�
   P₄ : List Record
   P₄ = pruned p (stepOver t p) k (r + 2 ^ k) (c + 2 ^ k) (childKey κ k 4)
 
-  all-union : unionOfFour u₁ u₂ u₃ u₄ ≡ bitsOf (stepOver t p) (suc k) r c
-  all-union = same-four (h₁ .union-is) (h₂ .union-is) (h₃ .union-is) (h₄ .union-is) ∙ sym (bits-suc (stepOver t p) k r c)
+  told : Tallied (stepOver t p) (suc k) r c union count
+  told = tallied-four (stepOver t p) k (2 ^ k) r c refl (h₁ .tallied) (h₂ .tallied) (h₃ .tallied) (h₄ .tallied) j
 
-  next-place : next ≡ at + length (listOf p (suc k) r c κ)
-  next-place = let l = length-node p k r c κ several in omega (arith, o .next-is, h₁ .next-is, h₂ .next-is, h₃ .next-is, h₄ .next-is)
+  next-place : n₄ ≡ at + length (listOf p (suc k) r c κ)
+  next-place = let l = length-node p k r c κ several in omega (arith, h₁ .next-is, h₂ .next-is, h₃ .next-is, h₄ .next-is)
 
   up₁ : n₁ ≤ n₂
   up₁ = omega (arith, h₂ .next-is)
@@ -257,7 +264,7 @@ module _ (t : Step) (p : Picture) (k r c κ : ℕ) {ks bs ks₁ bs₁ ks₂ bs�
   unfolding P₁ P₂ P₃ P₄
   last size = omega (arith, size, h₁ .place-is, h₂ .place-is, h₃ .place-is, h₄ .place-is)
 
-  pub node-left : ShrunkAt t p (suc k) r c κ ks bs at place ks′ bs′ union next place′
+  pub node-left : ShrunkAt t p (suc k) r c κ ks bs at place ks′ bs′ union count n₄ place′
   node-left = decide (oneFeature (stepOver t p) (suc k) r c) merged kept
     where
       inside : (place < n₄) × (place < length ks) × (place < length bs)
@@ -265,28 +272,28 @@ module _ (t : Step) (p : Picture) (k r c κ : ℕ) {ks bs ks₁ bs₁ ks₂ bs�
           let some = list-some p (suc k) r c κ in
           let w = shown-within s some in
           let z = next-place in
-          omega (arith, o .next-is, s .in-keys, s .in-bits)
+          omega (arith, s .in-keys, s .in-bits)
 
-      merged : oneFeature (stepOver t p) (suc k) r c ≡ true → ShrunkAt t p (suc k) r c κ ks bs at place ks′ bs′ union next place′
+      merged : oneFeature (stepOver t p) (suc k) r c ≡ true → ShrunkAt t p (suc k) r c κ ks bs at place ks′ bs′ union count n₄ place′
       merged one =
           let left = pruned-one p (stepOver t p) (suc k) r c κ one in
           record {
-            union-is = o .union-is ∙ all-union;
+            tallied = told;
             next-is = next-place;
-            place-is = o .place-is ∙ ap (λ x. cond x (place + 1) i₄) (ap oneSlot all-union ∙ slot-feature (stepOver t p) (suc k) r c ∙ one) ∙ ap (λ l. place + length l) (sym left);
-            keys-are = forward-at (sym (ap keysOf left)) (sym (o .next-is)) (sym (o .keys-are)) (forward-alone κ _ (inside .0) (inside .1) all-keys);
-            bits-are = forward-at (sym (ap valuesOf left)) (sym (o .next-is)) (sym (o .bits-are ∙ ap (set bs₄ place) all-union)) (forward-alone (bitsOf (stepOver t p) (suc k) r c) _ (inside .0) (inside .2) all-values);
+            place-is = o .place-is ∙ ap (λ x. cond x (place + 1) i₄) (ap oneSlot (told .bits-are) ∙ slot-feature (stepOver t p) (suc k) r c ∙ one) ∙ ap (λ l. place + length l) (sym left);
+            keys-are = forward-at (sym (ap keysOf left)) refl (sym (o .keys-are)) (forward-alone κ _ (inside .0) (inside .1) all-keys);
+            bits-are = forward-at (sym (ap valuesOf left)) refl (sym (o .bits-are ∙ ap (set bs₄ place) (told .bits-are))) (forward-alone (bitsOf (stepOver t p) (suc k) r c) _ (inside .0) (inside .2) all-values);
           }
 
-      kept : oneFeature (stepOver t p) (suc k) r c ≡ false → ShrunkAt t p (suc k) r c κ ks bs at place ks′ bs′ union next place′
+      kept : oneFeature (stepOver t p) (suc k) r c ≡ false → ShrunkAt t p (suc k) r c κ ks bs at place ks′ bs′ union count n₄ place′
       kept more =
           let left : pruned p (stepOver t p) (suc k) r c κ ≡ recordOf κ (bitsOf (stepOver t p) (suc k) r c) ∷ (P₁ ++ (P₂ ++ (P₃ ++ P₄))) = quadrants more in
           let size : length (pruned p (stepOver t p) (suc k) r c κ) ≡ suc (length P₁ + (length P₂ + (length P₃ + length P₄))) = ap length left ∙ simp length-append in
           record {
-            union-is = o .union-is ∙ all-union;
+            tallied = told;
             next-is = next-place;
-            place-is = o .place-is ∙ ap (λ x. cond x (place + 1) i₄) (ap oneSlot all-union ∙ slot-feature (stepOver t p) (suc k) r c ∙ more) ∙ last size;
-            keys-are = forward-at (sym (ap keysOf left ∙ ap (λ l. κ ∷ l) (four-keys P₁ P₂ P₃ P₄))) (sym (o .next-is)) (sym (o .keys-are)) (forward-own κ _ (inside .0) (inside .1) all-keys);
-            bits-are = forward-at (sym (ap valuesOf left ∙ ap (λ l. bitsOf (stepOver t p) (suc k) r c ∷ l) (four-values P₁ P₂ P₃ P₄))) (sym (o .next-is)) (sym (o .bits-are ∙ ap (set bs₄ place) all-union))
+            place-is = o .place-is ∙ ap (λ x. cond x (place + 1) i₄) (ap oneSlot (told .bits-are) ∙ slot-feature (stepOver t p) (suc k) r c ∙ more) ∙ last size;
+            keys-are = forward-at (sym (ap keysOf left ∙ ap (λ l. κ ∷ l) (four-keys P₁ P₂ P₃ P₄))) refl (sym (o .keys-are)) (forward-own κ _ (inside .0) (inside .1) all-keys);
+            bits-are = forward-at (sym (ap valuesOf left ∙ ap (λ l. bitsOf (stepOver t p) (suc k) r c ∷ l) (four-values P₁ P₂ P₃ P₄))) refl (sym (o .bits-are ∙ ap (set bs₄ place) (told .bits-are)))
                 (forward-own (bitsOf (stepOver t p) (suc k) r c) _ (inside .0) (inside .2) all-values);
           }

@@ -1,16 +1,20 @@
--- What the calls of `shrink` ask of one another, and what they give together. Rests on ShrinkLaws and ShownBlocks.
+-- What the calls of `shrink` ask of one another, and what they give together. Rests on ShrinkLaws, ShownBlocks and TallySteps.
 use Prim.Native.Nat.{ℕ, suc, _+_, _-_, _^_, _≤_, _<_}
-use mathlib.Core.Path.{_≡_, _∙_, ap}
+use mathlib.Core.Path.{_≡_, refl, _∙_}
 use mathlib.Core.Bool.{true, false}
 use mathlib.Core.List.{List, _++_}
 use native.Mathlib.Omega.{arith}
 use lib.ListN.{length, getD, take, drop}
 use Rattle.keys.specs.Key.{childKey}
+use Rattle.keys.proofs.Interval.{within}
 use Rattle.definitions.specs.Picture.{Picture, oneFeature}
 use Rattle.definitions.specs.Bits.{unionOfFour}
 use Rattle.laws.proofs.ListOf.{list-some}
 use Rattle.list.specs.Check.{oneSlot}
 use Rattle.list.specs.Among.{keysBelow}
+use Rattle.build.specs.BuildBlocks.{Joined}
+use Rattle.build.specs.declared.count.Tally.{Tally}
+use Rattle.build.proofs.CountBlock.{tallied-small}
 use Rattle.step.specs.Step.{Step, stepOver}
 use Rattle.step.specs.Meeting.{Met}
 use Rattle.step.specs.declared.meeting.Meeting.{Meeting}
@@ -18,11 +22,12 @@ use Rattle.step.specs.Quarters.{quartersOf}
 use Rattle.step.specs.declared.quarters.Quarters.{Quarters}
 use Rattle.step.proofs.Pruned.{pruned-before}
 use Rattle.step.proofs.QuarterSums.{block-nw, block-ne, block-sw, block-se}
-use Rattle.passes.specs.Passes.{Showing, ShowingBlock, EndAsked}
+use Rattle.passes.specs.Passes.{Showing, ShowingBlock, StepCounted, EndAsked, PassedOver}
 use Rattle.passes.specs.Shrink.{ShrinkAsked, ShrunkAt, Shrinks, KeepAsked, KeptForward, OneAsked, LeafShrunk, OwnShrunk, isDecided}
 use Rattle.passes.proofs.ShownBlocks.{showing-same, shown-some, shown-own, shown-several, shown-positive, L₁, L₂, L₃, L₄, End, node-quadrants, quadrant-nw, behind-nw, quadrant-ne, behind-ne, quadrant-sw, behind-sw, quadrant-se}
 use Rattle.passes.proofs.BlockEnds.{end-asked, end-found}
-use Rattle.passes.proofs.ShrinkLaws.{shown-within, single-left, whole-left, node-left}
+use Rattle.passes.proofs.TallySteps.{leaf-counted, over-counted}
+use Rattle.passes.proofs.ShrinkLaws.{shown-within, single-left, whole-left, node-left, decided-whole}
 
 -- the quadrants of a node that is shown, each once those before it have shrunk
 module _ (t : Step) (p : Picture) (k r c κ : ℕ) {ks bs : List ℕ} {at n place : ℕ} (s : ShowingBlock p (suc k) r c κ ks bs at n) (order : place ≤ at)
@@ -33,8 +38,8 @@ module _ (t : Step) (p : Picture) (k r c κ : ℕ) {ks bs : List ℕ} {at n plac
   pub shows-nw : ShowingBlock p k r c (childKey κ k 1) ks bs (at + 1) n
   shows-nw = quadrant-nw p k r c κ all
 
-  module _ {ks₁ bs₁ : List ℕ} {u₁ n₁ i₁ : ℕ} (h₁ : Shrinks t k r c (childKey κ k 1) ks bs (at + 1) n (place + 1) ks₁ bs₁ u₁ n₁ i₁) where
-    one : ShrunkAt t p k r c (childKey κ k 1) ks bs (at + 1) (place + 1) ks₁ bs₁ u₁ n₁ i₁
+  module _ {ks₁ bs₁ : List ℕ} {u₁ m₁ n₁ i₁ : ℕ} (h₁ : Shrinks t k r c (childKey κ k 1) ks bs (at + 1) n (place + 1) ks₁ bs₁ u₁ m₁ n₁ i₁) where
+    one : ShrunkAt t p k r c (childKey κ k 1) ks bs (at + 1) (place + 1) ks₁ bs₁ u₁ m₁ n₁ i₁
     one = h₁ .holds p shows-nw
 
     rest₁ : Showing (L₂ p k r c κ ++ (L₃ p k r c κ ++ L₄ p k r c κ)) (End p k r c κ) ks₁ bs₁ n₁ n
@@ -46,8 +51,8 @@ module _ (t : Step) (p : Picture) (k r c κ : ℕ) {ks bs : List ℕ} {at n plac
     pub shows-ne : ShowingBlock p k r (c + 2 ^ k) (childKey κ k 2) ks₁ bs₁ n₁ n
     shows-ne = quadrant-ne p k r c κ rest₁
 
-    module _ {ks₂ bs₂ : List ℕ} {u₂ n₂ i₂ : ℕ} (h₂ : Shrinks t k r (c + 2 ^ k) (childKey κ k 2) ks₁ bs₁ n₁ n i₁ ks₂ bs₂ u₂ n₂ i₂) where
-      two : ShrunkAt t p k r (c + 2 ^ k) (childKey κ k 2) ks₁ bs₁ n₁ i₁ ks₂ bs₂ u₂ n₂ i₂
+    module _ {ks₂ bs₂ : List ℕ} {u₂ m₂ n₂ i₂ : ℕ} (h₂ : Shrinks t k r (c + 2 ^ k) (childKey κ k 2) ks₁ bs₁ n₁ n i₁ ks₂ bs₂ u₂ m₂ n₂ i₂) where
+      two : ShrunkAt t p k r (c + 2 ^ k) (childKey κ k 2) ks₁ bs₁ n₁ i₁ ks₂ bs₂ u₂ m₂ n₂ i₂
       two = h₂ .holds p shows-ne
 
       rest₂ : Showing (L₃ p k r c κ ++ L₄ p k r c κ) (End p k r c κ) ks₂ bs₂ n₂ n
@@ -59,8 +64,8 @@ module _ (t : Step) (p : Picture) (k r c κ : ℕ) {ks bs : List ℕ} {at n plac
       pub shows-sw : ShowingBlock p k (r + 2 ^ k) c (childKey κ k 3) ks₂ bs₂ n₂ n
       shows-sw = quadrant-sw p k r c κ rest₂
 
-      module _ {ks₃ bs₃ : List ℕ} {u₃ n₃ i₃ : ℕ} (h₃ : Shrinks t k (r + 2 ^ k) c (childKey κ k 3) ks₂ bs₂ n₂ n i₂ ks₃ bs₃ u₃ n₃ i₃) where
-        three : ShrunkAt t p k (r + 2 ^ k) c (childKey κ k 3) ks₂ bs₂ n₂ i₂ ks₃ bs₃ u₃ n₃ i₃
+      module _ {ks₃ bs₃ : List ℕ} {u₃ m₃ n₃ i₃ : ℕ} (h₃ : Shrinks t k (r + 2 ^ k) c (childKey κ k 3) ks₂ bs₂ n₂ n i₂ ks₃ bs₃ u₃ m₃ n₃ i₃) where
+        three : ShrunkAt t p k (r + 2 ^ k) c (childKey κ k 3) ks₂ bs₂ n₂ i₂ ks₃ bs₃ u₃ m₃ n₃ i₃
         three = h₃ .holds p shows-sw
 
         pub order₃ : i₃ ≤ n₃
@@ -71,8 +76,8 @@ module _ (t : Step) (p : Picture) (k r c κ : ℕ) {ks bs : List ℕ} {at n plac
             let o = three in
             quadrant-se p k r c κ (showing-same (o .keys-are .size) (o .bits-are .size) (o .keys-are .behind) (o .bits-are .behind) (behind-sw p k r c κ (o .next-is) rest₂))
 
-        module _ {ks₄ bs₄ : List ℕ} {u₄ n₄ i₄ : ℕ} (h₄ : Shrinks t k (r + 2 ^ k) (c + 2 ^ k) (childKey κ k 4) ks₃ bs₃ n₃ n i₃ ks₄ bs₄ u₄ n₄ i₄) where
-          four : ShrunkAt t p k (r + 2 ^ k) (c + 2 ^ k) (childKey κ k 4) ks₃ bs₃ n₃ i₃ ks₄ bs₄ u₄ n₄ i₄
+        module _ {ks₄ bs₄ : List ℕ} {u₄ m₄ n₄ i₄ : ℕ} (h₄ : Shrinks t k (r + 2 ^ k) (c + 2 ^ k) (childKey κ k 4) ks₃ bs₃ n₃ n i₃ ks₄ bs₄ u₄ m₄ n₄ i₄) where
+          four : ShrunkAt t p k (r + 2 ^ k) (c + 2 ^ k) (childKey κ k 4) ks₃ bs₃ n₃ i₃ ks₄ bs₄ u₄ m₄ n₄ i₄
           four = h₄ .holds p shows-se
 
           pub own-room : OneAsked ks₄ bs₄ place place
@@ -88,9 +93,10 @@ module _ (t : Step) (p : Picture) (k r c κ : ℕ) {ks bs : List ℕ} {at n plac
                 in-bits = omega (arith, s .in-bits, a .bits-are .size, b .bits-are .size, d .bits-are .size, f .bits-are .size);
               }
 
-          pub all-four : {ks′ bs′ : List ℕ} {union next place′ : ℕ} → OwnShrunk κ (unionOfFour u₁ u₂ u₃ u₄) ks₄ bs₄ place n₄ i₄ ks′ bs′ union next place′
-              → ShrunkAt t p (suc k) r c κ ks bs at place ks′ bs′ union next place′
-          all-four o = node-left t p k r c κ s order several one two three four o
+          pub all-four : {ks′ bs′ : List ℕ} {union count place′ : ℕ} → Joined (unionOfFour u₁ u₂ u₃ u₄) (m₁ + (m₂ + (m₃ + m₄))) union count
+              → OwnShrunk κ union ks₄ bs₄ place i₄ ks′ bs′ place′
+              → ShrunkAt t p (suc k) r c κ ks bs at place ks′ bs′ union count n₄ place′
+          all-four j o = node-left t p k r c κ s order several one two three four j o
 
 -- the same as the code asks for it, the height given by the one below
 module _ (t : Step) {m k r c κ at n place : ℕ} {ks bs : List ℕ} {q : Quarters} (e : q ≡ quartersOf k r c κ) (a : ShrinkAsked m k r c κ ks bs at n place)
@@ -124,8 +130,8 @@ module _ (t : Step) {m k r c κ at n place : ℕ} {ks bs : List ℕ} {q : Quarte
     order = omega (arith, a .order);
   }
 
-  module _ {ks₁ bs₁ : List ℕ} {u₁ n₁ i₁ : ℕ} (h₁ : Shrinks t (q .height) r c (q .nw) ks bs (at + 1) n (place + 1) ks₁ bs₁ u₁ n₁ i₁) where
-    g₁ : Shrinks t (k - 1) r c (childKey κ (k - 1) 1) ks bs (at + 1) n (place + 1) ks₁ bs₁ u₁ n₁ i₁
+  module _ {ks₁ bs₁ : List ℕ} {u₁ m₁ n₁ i₁ : ℕ} (h₁ : Shrinks t (q .height) r c (q .nw) ks bs (at + 1) n (place + 1) ks₁ bs₁ u₁ m₁ n₁ i₁) where
+    g₁ : Shrinks t (k - 1) r c (childKey κ (k - 1) 1) ks bs (at + 1) n (place + 1) ks₁ bs₁ u₁ m₁ n₁ i₁
     g₁ = rw first (rw e at h₁)
 
     pub asks-ne : ShrinkAsked m (q .height) r (q .right) (q .ne) ks₁ bs₁ n₁ n i₁
@@ -134,8 +140,8 @@ module _ (t : Step) {m k r c κ at n place : ℕ} {ks bs : List ℕ} {q : Quarte
       order = order₁ t (a .shown .picture) (k - 1) r c κ S (a .order) N g₁;
     }
 
-    module _ {ks₂ bs₂ : List ℕ} {u₂ n₂ i₂ : ℕ} (h₂ : Shrinks t (q .height) r (q .right) (q .ne) ks₁ bs₁ n₁ n i₁ ks₂ bs₂ u₂ n₂ i₂) where
-      g₂ : Shrinks t (k - 1) r (c + 2 ^ (k - 1)) (childKey κ (k - 1) 2) ks₁ bs₁ n₁ n i₁ ks₂ bs₂ u₂ n₂ i₂
+    module _ {ks₂ bs₂ : List ℕ} {u₂ m₂ n₂ i₂ : ℕ} (h₂ : Shrinks t (q .height) r (q .right) (q .ne) ks₁ bs₁ n₁ n i₁ ks₂ bs₂ u₂ m₂ n₂ i₂) where
+      g₂ : Shrinks t (k - 1) r (c + 2 ^ (k - 1)) (childKey κ (k - 1) 2) ks₁ bs₁ n₁ n i₁ ks₂ bs₂ u₂ m₂ n₂ i₂
       g₂ = rw e at h₂
 
       pub asks-sw : ShrinkAsked m (q .height) (q .down) c (q .sw) ks₂ bs₂ n₂ n i₂
@@ -144,8 +150,8 @@ module _ (t : Step) {m k r c κ at n place : ℕ} {ks bs : List ℕ} {q : Quarte
         order = order₂ t (a .shown .picture) (k - 1) r c κ S (a .order) N g₁ g₂;
       }
 
-      module _ {ks₃ bs₃ : List ℕ} {u₃ n₃ i₃ : ℕ} (h₃ : Shrinks t (q .height) (q .down) c (q .sw) ks₂ bs₂ n₂ n i₂ ks₃ bs₃ u₃ n₃ i₃) where
-        g₃ : Shrinks t (k - 1) (r + 2 ^ (k - 1)) c (childKey κ (k - 1) 3) ks₂ bs₂ n₂ n i₂ ks₃ bs₃ u₃ n₃ i₃
+      module _ {ks₃ bs₃ : List ℕ} {u₃ m₃ n₃ i₃ : ℕ} (h₃ : Shrinks t (q .height) (q .down) c (q .sw) ks₂ bs₂ n₂ n i₂ ks₃ bs₃ u₃ m₃ n₃ i₃) where
+        g₃ : Shrinks t (k - 1) (r + 2 ^ (k - 1)) c (childKey κ (k - 1) 3) ks₂ bs₂ n₂ n i₂ ks₃ bs₃ u₃ m₃ n₃ i₃
         g₃ = rw e at h₃
 
         pub asks-se : ShrinkAsked m (q .height) (q .down) (q .right) (q .se) ks₃ bs₃ n₃ n i₃
@@ -154,17 +160,30 @@ module _ (t : Step) {m k r c κ at n place : ℕ} {ks bs : List ℕ} {q : Quarte
           order = order₃ t (a .shown .picture) (k - 1) r c κ S (a .order) N g₁ g₂ g₃;
         }
 
-        module _ {ks₄ bs₄ : List ℕ} {u₄ n₄ i₄ : ℕ} (h₄ : Shrinks t (q .height) (q .down) (q .right) (q .se) ks₃ bs₃ n₃ n i₃ ks₄ bs₄ u₄ n₄ i₄) where
-          g₄ : Shrinks t (k - 1) (r + 2 ^ (k - 1)) (c + 2 ^ (k - 1)) (childKey κ (k - 1) 4) ks₃ bs₃ n₃ n i₃ ks₄ bs₄ u₄ n₄ i₄
+        module _ {ks₄ bs₄ : List ℕ} {u₄ m₄ n₄ i₄ : ℕ} (h₄ : Shrinks t (q .height) (q .down) (q .right) (q .se) ks₃ bs₃ n₃ n i₃ ks₄ bs₄ u₄ m₄ n₄ i₄) where
+          g₄ : Shrinks t (k - 1) (r + 2 ^ (k - 1)) (c + 2 ^ (k - 1)) (childKey κ (k - 1) 4) ks₃ bs₃ n₃ n i₃ ks₄ bs₄ u₄ m₄ n₄ i₄
           g₄ = rw e at h₄
 
           pub asks-own : OneAsked ks₄ bs₄ place place
           asks-own = own-room t (a .shown .picture) (k - 1) r c κ S (a .order) N g₁ g₂ g₃ g₄
 
-          pub gives-node : {ks′ bs′ : List ℕ} {union next place′ : ℕ} → OwnShrunk κ (unionOfFour u₁ u₂ u₃ u₄) ks₄ bs₄ place n₄ i₄ ks′ bs′ union next place′
-              → Shrinks t k r c κ ks bs at n place ks′ bs′ union next place′
-          gives-node o = record {
-            holds = λ p s. rw up (all-four t p (k - 1) r c κ (above p s) (a .order) (several p s) g₁ g₂ g₃ g₄ o);
+          -- what joining the four asks
+          pub asks-joined : (m₁ ≤ 5 ^ 9) × (m₂ ≤ 5 ^ 9) × (m₃ ≤ 5 ^ 9) × (m₄ ≤ 5 ^ 9)
+          asks-joined =
+              let w = within (a .shown .block) in
+              let low : k - 1 ≤ 9 = omega (arith, w .height, a .shown .deep) in
+              let p = a .shown .picture in (
+                tallied-small (one t p (k - 1) r c κ S (a .order) N g₁ .tallied) low,
+                tallied-small (two t p (k - 1) r c κ S (a .order) N g₁ g₂ .tallied) low,
+                tallied-small (three t p (k - 1) r c κ S (a .order) N g₁ g₂ g₃ .tallied) low,
+                tallied-small (four t p (k - 1) r c κ S (a .order) N g₁ g₂ g₃ g₄ .tallied) low,
+              )
+
+          pub gives-node : {ks′ bs′ : List ℕ} {union count place′ : ℕ} → Joined (unionOfFour u₁ u₂ u₃ u₄) (m₁ + (m₂ + (m₃ + m₄))) union count
+              → OwnShrunk κ union ks₄ bs₄ place i₄ ks′ bs′ place′
+              → Shrinks t k r c κ ks bs at n place ks′ bs′ union count n₄ place′
+          gives-node j o = record {
+            holds = λ p s. rw up (all-four t p (k - 1) r c κ (above p s) (a .order) (several p s) g₁ g₂ g₃ g₄ j o);
           }
 
 -- what is asked for a leaf, and for a block that one look settles
@@ -189,14 +208,19 @@ module _ {m k r c κ at n place : ℕ} {ks bs : List ℕ} (a : ShrinkAsked m k r
         record { order = a .order; some = omega arith; in-keys = omega (arith, s .in-keys); in-bits = omega (arith, s .in-bits) }
 
 -- what they give
-module _ (t : Step) {m k r c κ at n place : ℕ} {ks bs ks′ bs′ : List ℕ} {union next′ place′ : ℕ} (a : ShrinkAsked m k r c κ ks bs at n place) where
-  pub gives-leaf : oneSlot (getD bs at 0) ≡ true → LeafShrunk t (getD bs at 0) k r c κ ks bs at place ks′ bs′ union next′ place′
-      → Shrinks t k r c κ ks bs at n place ks′ bs′ union next′ place′
-  gives-leaf one x = record { holds = λ p s. single-left t p k r c κ (getD bs at 0) s (a .order) (shown-own p k r c κ s) one x }
+module _ (t : Step) {m k r c κ at n place : ℕ} {ks bs ks′ bs′ : List ℕ} {next place′ : ℕ} (a : ShrinkAsked m k r c κ ks bs at n place) where
+  pub gives-leaf : {union count : ℕ} → oneSlot (getD bs at 0) ≡ true → LeafShrunk t (getD bs at 0) k r c κ ks bs at place ks′ bs′ union count next place′
+      → Shrinks t k r c κ ks bs at n place ks′ bs′ union count next place′
+  gives-leaf {union} {count} one x =
+      let told : StepCounted t k r c κ ks bs at n union count (at + 1) = leaf-counted t k r c κ one (x .tallied) in
+      record {
+        holds = λ p s. single-left t p k r c κ s (a .order) (told .tallied p s) (x .next-is ∙ told .passed p s) (getD bs at 0) (shown-own p k r c κ s) one x;
+      }
 
-  pub gives-whole : {past next : ℕ} {meeting : Meeting} {lks lvs : List ℕ} → past ≡ κ + 5 ^ k → next ≡ at + keysBelow past (take (n - at) (drop at ks))
-      → Met t lks lvs k r c κ meeting → isDecided meeting ≡ true → KeptForward meeting κ (getD bs at 0) ks bs at next place ks′ bs′ union next′ place′
-      → Shrinks t k r c κ ks bs at n place ks′ bs′ union next′ place′
-  gives-whole {meeting = meeting} e found h w x = record {
-    holds = λ p s. whole-left t p k r c κ s (a .order) (found ∙ ap (λ i. at + i) (end-found p k r c κ s e)) meeting h w (shown-own p k r c κ s) x;
-  }
+  pub gives-whole : {past : ℕ} {meeting : Meeting} {tally : Tally} {lks lvs : List ℕ} → past ≡ κ + 5 ^ k
+      → Met t lks lvs k r c κ meeting → isDecided meeting ≡ true → PassedOver meeting (getD bs at 0) past at ks n lvs tally next
+      → KeptForward meeting κ ks bs at next place ks′ bs′ place′
+      → Shrinks t k r c κ ks bs at n place ks′ bs′ (tally .bits) (tally .count) next place′
+  gives-whole {meeting = meeting} {tally} e h w over x =
+      let told : StepCounted t k r c κ ks bs at n (tally .bits) (tally .count) next = over-counted h (decided-whole meeting w) refl e over in
+      record { holds = λ p s. whole-left t p k r c κ s (a .order) (told .tallied p s) (told .passed p s) meeting h w x }

@@ -13,14 +13,14 @@ use Rattle.step.specs.Step.{Step, stepOver}
 use Rattle.passes.specs.Passes.{Growing, WroteBefore}
 
 -- the first n records are a list, and there is room for what it becomes
-pub record Changeable (t : Step) (m : ℕ) (keys bits : List ℕ) (n after : ℕ) : Type 0 where
+pub record Changeable (t : Step) (m : ℕ) (keys bits : List ℕ) (n : ℕ) : Type 0 where
   pub deep : m ≤ 10
   pub own : OwnList m keys bits n
-  pub after-is : after ≡ length (listOfPicture m (stepOver t (shownBy m keys bits n)))
-  pub fits : after ≤ room keys bits
+  pub fits : length (listOfPicture m (stepOver t (shownBy m keys bits n))) ≤ room keys bits
 
--- the list of the step over the picture stands there; places given up are zero, and all others stay
-pub record Changed (t : Step) (m n : ℕ) (keys bits keys′ bits′ : List ℕ) : Type 0 where
+-- the list of the step over the picture stands there, and its length is told; places given up are zero, and all others stay
+pub record Changed (t : Step) (m n : ℕ) (keys bits keys′ bits′ : List ℕ) (after : ℕ) : Type 0 where
+  pub length-is : after ≡ length (listOfPicture m (stepOver t (shownBy m keys bits n)))
   pub keys-are : keys′ ≡ replaced n (keysOf (listOfPicture m (stepOver t (shownBy m keys bits n)))) keys
   pub bits-are : bits′ ≡ replaced n (valuesOf (listOfPicture m (stepOver t (shownBy m keys bits n)))) bits
 

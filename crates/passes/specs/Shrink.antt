@@ -6,9 +6,10 @@ use mathlib.Core.List.{List, [], _∷_, _++_}
 use lib.ListN.{length, set, take, drop}
 use lib.Seq.{sets}
 use Rattle.definitions.specs.Picture.{Picture}
-use Rattle.definitions.specs.Bits.{bitsOf, featureOf}
+use Rattle.definitions.specs.Bits.{featureOf}
 use Rattle.definitions.specs.List.{recordOf, keysOf, valuesOf, listOf}
 use Rattle.list.specs.Check.{oneSlot}
+use Rattle.build.specs.BuildBlocks.{Tallied}
 use Rattle.step.specs.Step.{Step, stepOver, plain, pruned}
 use Rattle.step.specs.declared.meeting.Meeting.{Meeting}
 use Rattle.step.specs.declared.meeting.Meeting.the-variants.{Apart, Leaf, Content, Cut}
@@ -25,17 +26,17 @@ pub record ShrinkAsked (m height row column key : ℕ) (keys bits : List ℕ) (a
   pub shown : Shown m height row column key keys bits at n
   pub order : place ≤ at
 
--- what is left of them stands there, the block's bits after the step are known, and the places after the records read and written
-pub record ShrunkAt (t : Step) (p : Picture) (height row column key : ℕ) (keys bits : List ℕ) (at place : ℕ) (keys′ bits′ : List ℕ) (union next place′ : ℕ) : Type 0 where
-  pub union-is : union ≡ bitsOf (stepOver t p) height row column
+-- what is left of them stands there, the block's bits and its number of records after the step are known, and the places after the records read and written
+pub record ShrunkAt (t : Step) (p : Picture) (height row column key : ℕ) (keys bits : List ℕ) (at place : ℕ) (keys′ bits′ : List ℕ) (union count next place′ : ℕ) : Type 0 where
+  pub tallied : Tallied (stepOver t p) height row column union count
   pub next-is : next ≡ at + length (listOf p height row column key)
   pub place-is : place′ ≡ place + length (pruned p (stepOver t p) height row column key)
   pub keys-are : Forward (keysOf (pruned p (stepOver t p) height row column key)) keys place next keys′
   pub bits-are : Forward (valuesOf (pruned p (stepOver t p) height row column key)) bits place next bits′
 
 -- that holds of whichever picture is shown
-pub record Shrinks (t : Step) (height row column key : ℕ) (keys bits : List ℕ) (at n place : ℕ) (keys′ bits′ : List ℕ) (union next place′ : ℕ) : Type 0 where
-  pub holds : (p : Picture) → ShowingBlock p height row column key keys bits at n → ShrunkAt t p height row column key keys bits at place keys′ bits′ union next place′
+pub record Shrinks (t : Step) (height row column key : ℕ) (keys bits : List ℕ) (at n place : ℕ) (keys′ bits′ : List ℕ) (union count next place′ : ℕ) : Type 0 where
+  pub holds : (p : Picture) → ShowingBlock p height row column key keys bits at n → ShrunkAt t p height row column key keys bits at place keys′ bits′ union count next place′
 
 -- one look tells that the block stays as it is or becomes one leaf
 abbrev pub isDecided : Meeting → Bool
@@ -58,21 +59,13 @@ keptOn (Leaf bits) x l at next place = set l place (x bits)
 keptOn (Content start count) x l at next place = l
 keptOn Cut x l at next place = l
 
-abbrev pub keptBits : Meeting → (own : ℕ) → ℕ
-keptBits Apart own = own
-keptBits (Leaf bits) own = bits
-keptBits (Content start count) own = own
-keptBits Cut own = own
-
 abbrev pub keptPlace : Meeting → (at next place : ℕ) → ℕ
 keptPlace Apart at next place = place + (next - at)
 keptPlace (Leaf bits) at next place = place + 1
 keptPlace (Content start count) at next place = place
 keptPlace Cut at next place = place
 
-pub record KeptForward (meeting : Meeting) (key own : ℕ) (keys bits : List ℕ) (at next place : ℕ) (keys′ bits′ : List ℕ) (union next′ place′ : ℕ) : Type 0 where
-  pub union-is : union ≡ keptBits meeting own
-  pub next-is : next′ ≡ next
+pub record KeptForward (meeting : Meeting) (key : ℕ) (keys bits : List ℕ) (at next place : ℕ) (keys′ bits′ : List ℕ) (place′ : ℕ) : Type 0 where
   pub place-is : place′ ≡ keptPlace meeting at next place
   pub keys-are : keys′ ≡ keptOn meeting (λ bits. key) keys at next place
   pub bits-are : bits′ ≡ keptOn meeting (λ bits. bits) bits at next place
@@ -84,8 +77,8 @@ pub record OneAsked (keys bits : List ℕ) (at place : ℕ) : Type 0 where
   pub in-bits : at < length bits
 
 -- what is left of a leaf stands there: the leaf after the step, or the one before it where it has to grow
-pub record LeafShrunk (t : Step) (own height row column key : ℕ) (keys bits : List ℕ) (at place : ℕ) (keys′ bits′ : List ℕ) (union next place′ : ℕ) : Type 0 where
-  pub union-is : union ≡ bitsOf (stepOver t (plain (featureOf own))) height row column
+pub record LeafShrunk (t : Step) (own height row column key : ℕ) (keys bits : List ℕ) (at place : ℕ) (keys′ bits′ : List ℕ) (union count next place′ : ℕ) : Type 0 where
+  pub tallied : Tallied (stepOver t (plain (featureOf own))) height row column union count
   pub next-is : next ≡ at + 1
   pub place-is : place′ ≡ place + 1
   pub value : ℕ
@@ -94,9 +87,7 @@ pub record LeafShrunk (t : Step) (own height row column key : ℕ) (keys bits : 
   pub bits-are : bits′ ≡ set bits place value
 
 -- the own record of a node stands before what is left of its quadrants, or for them where it has one slot
-pub record OwnShrunk (key union : ℕ) (keys bits : List ℕ) (place next last : ℕ) (keys′ bits′ : List ℕ) (union′ next′ place′ : ℕ) : Type 0 where
-  pub union-is : union′ ≡ union
-  pub next-is : next′ ≡ next
+pub record OwnShrunk (key union : ℕ) (keys bits : List ℕ) (place last : ℕ) (keys′ bits′ : List ℕ) (place′ : ℕ) : Type 0 where
   pub place-is : place′ ≡ cond (oneSlot union) (place + 1) last
   pub keys-are : keys′ ≡ set keys place key
   pub bits-are : bits′ ≡ set bits place union

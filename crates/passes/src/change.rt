@@ -1,7 +1,9 @@
-// The whole change of a list by a step: how long it becomes, and the passes.
+// The whole change of a list by a step: whether there is room for what it becomes, and the passes.
 ghost use mathlib.Core.Path.{_≡_};
 ghost use Rattle.definitions.specs.List.{listOfPicture};
 ghost use lib.ListN.{length};
+ghost use lib.Dec.{leb};
+ghost use Rattle.definitions.specs.Read.{room};
 ghost use Rattle.list.specs.Own.{OwnList, shownBy};
 ghost use Prim.Native.Nat.{_≤_};
 ghost use Rattle.step.specs.Step.{stepOver};
@@ -12,10 +14,11 @@ use crate::grow;
 use crate::shrink;
 use crate::tally;
 use keys::Key;
+use keys::power;
 use step::deed::Deed;
 
 // How many records the list has after the step.
-pub fn length_after(
+fn length_after(
     deed: Deed,
     log_keys: &[u32],
     log_values: &[u32],
@@ -43,6 +46,30 @@ pub fn length_after(
         )
         .tally
         .count
+}
+
+// The list after the step fits into both slices. It is counted only where the longest list of such a map would not fit.
+pub fn has_room(
+    deed: Deed,
+    log_keys: &[u32],
+    log_values: &[u32],
+    m: u32,
+    keys: &[u32],
+    bits: &[u32],
+    n: usize,
+) -> bool
+    requires { ⌜ Doable m deed (now «log_keys») (now «log_values») × (m ≤ 10) × OwnList m (now keys) (now bits) n ⌝ }
+    ensures { λ r. ⌜ r ≡ leb (length (listOfPicture m (stepOver (stepOf m deed (now («log_keys» .entry)) (now («log_values» .entry))) (shownBy m (now (keys .entry)) (now (bits .entry)) n)))) (room (now (keys .entry)) (now (bits .entry))) ⌝ }
+{
+    let room = slices::smaller(keys.len(), bits.len());
+    let side = power::power_of_two(m) as usize;
+    let pixels = side * side;
+    let most = (4 * pixels - 1) / 3;
+    if most <= room {
+        return true;
+    }
+    let after = length_after(deed, log_keys, log_values, m, keys, bits, n);
+    after <= room
 }
 
 // The places that a shorter list gives up become zero.
@@ -91,7 +118,7 @@ fn grow_all(
     );
 }
 
-// The list becomes that of the step over its picture.
+// The list becomes that of the step over its picture. Gives its number of records, which shrinking tells.
 pub fn change(
     deed: Deed,
     log_keys: &[u32],
@@ -100,11 +127,10 @@ pub fn change(
     keys: &mut [u32],
     bits: &mut [u32],
     n: usize,
-    after: usize,
-)
+) -> usize
     requires { ⌜ Doable m deed (now «log_keys») (now «log_values») ⌝ }
-    requires { ⌜ Changeable (stepOf m deed (now «log_keys») (now «log_values»)) m (now keys) (now bits) n after ⌝ }
-    ensures { λ _. ⌜ Changed (stepOf m deed (now («log_keys» .entry)) (now («log_values» .entry))) m n (now (keys .entry)) (now (bits .entry)) (now (keys .exit)) (now (bits .exit)) ⌝ }
+    requires { ⌜ Changeable (stepOf m deed (now «log_keys») (now «log_values»)) m (now keys) (now bits) n ⌝ }
+    ensures { λ r. ⌜ Changed (stepOf m deed (now («log_keys» .entry)) (now («log_values» .entry))) m n (now (keys .entry)) (now (bits .entry)) (now (keys .exit)) (now (bits .exit)) r ⌝ }
 {
     let shrunk = shrink::shrink(
         deed,
@@ -122,6 +148,8 @@ pub fn change(
         bits,
     );
     let left = shrunk.place;
+    let after = shrunk.tally.count;
     grow_all(deed, log_keys, log_values, m, left, after, keys, bits);
     give_up(keys, bits, n, after);
+    after
 }

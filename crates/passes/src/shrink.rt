@@ -1,12 +1,12 @@
 // The list becomes what is left of it on the way to the list after the step, in one descent towards the front: a block of one feature after the step is one
-// record, a leaf that has to grow stays as it is, and the nodes have their new bits.
+// record, a leaf that has to grow stays as it is, and the nodes have their new bits. The descent counts the list after the step, which grows out of what is left.
 ghost use mathlib.Core.Path.{_≡_};
 ghost use mathlib.Core.Bool.{cond};
 ghost use lib.Dec.{eqb};
 ghost use Rattle.step.specs.Deed.{Doable, stepOf, LeafAsked};
 ghost use Rattle.passes.specs.Shrink.{ShrinkAsked, Shrinks, isDecided, KeepAsked, KeptForward, OneAsked, LeafShrunk, OwnShrunk};
-use crate::block_end;
 use crate::tally;
+use build::count;
 use build::count::Tally;
 use keys::power;
 use list::check;
@@ -15,9 +15,9 @@ use step::deed::Deed;
 use step::meeting::Meeting;
 use step::quarters;
 
-// A block's bits after the step, and the places after its records before it and after what is left of them.
+// A block's bits and its number of records after the step, and the places after its records before it and after what is left of them.
 pub struct Shrunk {
-    pub bits: u32,
+    pub tally: Tally,
     pub next: usize,
     pub place: usize,
 }
@@ -34,50 +34,33 @@ fn is_decided(meeting: Meeting) -> bool
     }
 }
 
-// The records of a block that stays as it is, or a leaf for them.
+// The records of a block that stays as it is, or a leaf for them. Gives the place after them.
 fn keep(
     meeting: Meeting,
     key: u32,
-    own: u32,
     at: usize,
     next: usize,
     place: usize,
     keys: &mut [u32],
     bits: &mut [u32],
-) -> Shrunk
+) -> usize
     requires { ⌜ KeepAsked (now keys) (now bits) at next place ⌝ }
-    ensures { λ r. ⌜ KeptForward meeting key own (now (keys .entry)) (now (bits .entry)) at next place (now (keys .exit)) (now (bits .exit)) (r .bits) (r .next) (r .place) ⌝ }
+    ensures { λ r. ⌜ KeptForward meeting key (now (keys .entry)) (now (bits .entry)) at next place (now (keys .exit)) (now (bits .exit)) r ⌝ }
 {
     match meeting {
         Meeting::Apart => {
             let count = next - at;
             slices::shift(keys, at, count, place);
             slices::shift(bits, at, count, place);
-            Shrunk {
-                bits: own,
-                next,
-                place: place + count,
-            }
+            place + count
         }
         Meeting::Leaf(after) => {
             keys[place] = key;
             bits[place] = after;
-            Shrunk {
-                bits: after,
-                next,
-                place: place + 1,
-            }
+            place + 1
         }
-        Meeting::Content(_, _) => Shrunk {
-            bits: own,
-            next,
-            place,
-        },
-        Meeting::Cut => Shrunk {
-            bits: own,
-            next,
-            place,
-        },
+        Meeting::Content(_, _) => place,
+        Meeting::Cut => place,
     }
 }
 
@@ -106,46 +89,37 @@ fn shrink_leaf(
 ) -> Shrunk
     requires { ⌜ Doable m deed (now «log_keys») (now «log_values») × LeafAsked m own height row column key ⌝ }
     requires { ⌜ OneAsked (now keys) (now bits) at place ⌝ }
-    ensures { λ r. ⌜ LeafShrunk (stepOf m deed (now («log_keys» .entry)) (now («log_values» .entry))) own height row column key (now (keys .entry)) (now (bits .entry)) at place (now (keys .exit)) (now (bits .exit)) (r .bits) (r .next) (r .place) ⌝ }
+    ensures { λ r. ⌜ LeafShrunk (stepOf m deed (now («log_keys» .entry)) (now («log_values» .entry))) own height row column key (now (keys .entry)) (now (bits .entry)) at place (now (keys .exit)) (now (bits .exit)) (r .tally .bits) (r .tally .count) (r .next) (r .place) ⌝ }
 {
     let tally = tally::tally_leaf(deed, log_keys, log_values, m, own, height, row, column, key);
     keys[place] = key;
     bits[place] = bits_left(own, tally);
     Shrunk {
-        bits: tally.bits,
+        tally,
         next: at + 1,
         place: place + 1,
     }
 }
 
-// The own record of a node, once its quadrants have shrunk: they are dropped where all of them have the same feature.
+// The own record of a node, once its quadrants have shrunk: they are dropped where all of them have the same feature. Gives the place after what is left.
 fn shrink_own(
     key: u32,
     union: u32,
     place: usize,
-    next: usize,
     last: usize,
     keys: &mut [u32],
     bits: &mut [u32],
-) -> Shrunk
+) -> usize
     requires { ⌜ OneAsked (now keys) (now bits) place place ⌝ }
-    ensures { λ r. ⌜ OwnShrunk key union (now (keys .entry)) (now (bits .entry)) place next last (now (keys .exit)) (now (bits .exit)) (r .bits) (r .next) (r .place) ⌝ }
+    ensures { λ r. ⌜ OwnShrunk key union (now (keys .entry)) (now (bits .entry)) place last (now (keys .exit)) (now (bits .exit)) r ⌝ }
 {
     keys[place] = key;
     bits[place] = union;
     let alone = place + 1;
     if check::has_one_slot(union) {
-        return Shrunk {
-            bits: union,
-            next,
-            place: alone,
-        };
+        return alone;
     }
-    Shrunk {
-        bits: union,
-        next,
-        place: last,
-    }
+    last
 }
 
 // The records of a block, which stand from one place on, shrink to stand from another on, at or before it.
@@ -165,7 +139,7 @@ pub fn shrink(
     bits: &mut [u32],
 ) -> Shrunk
     requires { ⌜ Doable m deed (now «log_keys») (now «log_values») × ShrinkAsked m height row column key (now keys) (now bits) at n place ⌝ }
-    ensures { λ r. ⌜ Shrinks (stepOf m deed (now («log_keys» .entry)) (now («log_values» .entry))) height row column key (now (keys .entry)) (now (bits .entry)) at n place (now (keys .exit)) (now (bits .exit)) (r .bits) (r .next) (r .place) ⌝ }
+    ensures { λ r. ⌜ Shrinks (stepOf m deed (now («log_keys» .entry)) (now («log_values» .entry))) height row column key (now (keys .entry)) (now (bits .entry)) at n place (now (keys .exit)) (now (bits .exit)) (r .tally .bits) (r .tally .count) (r .next) (r .place) ⌝ }
 {
     let own = bits[at];
     if check::has_one_slot(own) {
@@ -189,8 +163,15 @@ pub fn shrink(
     let met = deed::meeting(here, log_keys, log_values, m, height, row, column, key);
     if is_decided(met) {
         let past = key + power::power_of_five(height);
-        let next = block_end::block_end(keys, at, n, past);
-        return keep(met, key, own, at, next, place, keys, bits);
+        let passed = tally::pass_over(met, own, past, at, keys, n, log_values);
+        let tally = passed.tally;
+        let next = passed.next;
+        let kept = keep(met, key, at, next, place, keys, bits);
+        return Shrunk {
+            tally,
+            next,
+            place: kept,
+        };
     }
     let four = quarters::of(height, row, column, key);
     let lower = four.height;
@@ -254,7 +235,12 @@ pub fn shrink(
         keys,
         bits,
     );
-    let north = nw.bits | ne.bits;
-    let south = sw.bits | se.bits;
-    shrink_own(key, north | south, place, se.next, se.place, keys, bits)
+    let tally = count::joined(nw.tally, ne.tally, sw.tally, se.tally);
+    let next = se.next;
+    let left = shrink_own(key, tally.bits, place, se.place, keys, bits);
+    Shrunk {
+        tally,
+        next,
+        place: left,
+    }
 }

@@ -1,4 +1,4 @@
-// Counting what a list becomes by a step, before anything is written: build's count, with the step over the list's own features as the picture.
+// Counting what a list becomes by a step, with nothing written: build's count, with the step over the list's own features as the picture.
 ghost use mathlib.Core.Path.{_≡_};
 ghost use Prim.Native.Nat.{_+_, _-_};
 ghost use Rattle.definitions.specs.Bits.{featureOf};
@@ -112,7 +112,7 @@ pub struct PassedBlock {
 }
 
 // A node whose quadrants need not be asked: the place after its records is looked for, not walked to.
-fn pass_over(
+pub fn pass_over(
     meeting: Meeting,
     own: u32,
     past: u32,

@@ -6,8 +6,8 @@ use mathlib.Core.Bool.{true, false, not}
 use mathlib.Core.List.{List, [], _∷_}
 use native.Mathlib.Omega.{arith}
 use lib.ListN.{length}
-use lib.Dec.{ltb}
-use borrow.Author.Tests.{lt-ltb, le-ltb, ltb-false, le-leb, lt-leb, leb-false, not-false}
+use lib.Dec.{ltb, leb}
+use borrow.Author.Tests.{lt-ltb, le-ltb, ltb-false, le-leb, lt-leb, leb-true, leb-false, not-false}
 use Rattle.keys.proofs.Powers.{two-le}
 use Rattle.definitions.specs.List.{Record}
 use Rattle.definitions.specs.Read.{room, recordsOf}
@@ -24,17 +24,12 @@ use Rattle.rectangle.specs.declared.paint_window.WindowPlan.{WindowPlan}
 use Rattle.edit.proofs.EditCallTables.{firstRows, FirstPassed, early-first, rest-first, passed-none, passed-settings, passed-own, passed-used}
 
 -- a refusal decides
-pub window-refuses : {k refusal m : ℕ} {l : List Record} {w : Window} {f : ℕ} {r : WindowPlan} → r .refusal ≡ k → k ≡ refusal → (k ≡ 0 → ⊥) → WindowDecided refusal m l w f r
-window-refuses e g not-zero = record {
-  refusal-is = e ∙ g;
-  number-is = λ z. absurd (not-zero (sym e ∙ z));
-  after-is = λ z. absurd (not-zero (sym e ∙ z));
-}
+pub window-refuses : {k refusal m : ℕ} {w : Window} {r : WindowPlan} → r .refusal ≡ k → k ≡ refusal → (k ≡ 0 → ⊥) → WindowDecided refusal m w r
+window-refuses e g not-zero = record { refusal-is = e ∙ g; number-is = λ z. absurd (not-zero (sym e ∙ z)) }
 
 -- the same by another name of the refusal
-pub window-decided-as : {refusal refusal′ m : ℕ} {l : List Record} {w : Window} {f : ℕ} {r : WindowPlan} → refusal ≡ refusal′ → WindowDecided refusal m l w f r
-    → WindowDecided refusal′ m l w f r
-window-decided-as e d = record { refusal-is = d .refusal-is ∙ e; number-is = d .number-is; after-is = d .after-is }
+pub window-decided-as : {refusal refusal′ m : ℕ} {w : Window} {r : WindowPlan} → refusal ≡ refusal′ → WindowDecided refusal m w r → WindowDecided refusal′ m w r
+window-decided-as e d = record { refusal-is = d .refusal-is ∙ e; number-is = d .number-is }
 
 -- the rows about room: the first that holds
 module _ (m : ℕ) (l : List Record) (keys bits logKeys logValues : List ℕ) (inForce : ℕ) (w : Window) (f : ℕ) where
@@ -45,19 +40,19 @@ module _ (m : ℕ) (l : List Record) (keys bits logKeys logValues : List ℕ) (i
     unfolding windowRoomRefusal
     log-full h = sym (holds-first (this (lt-ltb (room logKeys logValues) (inForce + length (groupGained m l w f)) (omega arith)) refl))
 
-    module _ (after : ℕ) (after-is : after ≡ length (filled m l w f)) (log-fits : logged ≤ room logKeys logValues) where
+    module _ (log-fits : logged ≤ room logKeys logValues) where
       log-passes : ltb (room logKeys logValues) (inForce + length (groupGained m l w f)) ≡ false
       log-passes = le-ltb (room logKeys logValues) (inForce + length (groupGained m l w f)) (omega arith)
 
       -- 9
-      pub list-full : room keys bits < after → 9 ≡ windowRoomRefusal m l keys bits logKeys logValues inForce w f
+      pub list-full : leb (length (filled m l w f)) (room keys bits) ≡ false → 9 ≡ windowRoomRefusal m l keys bits logKeys logValues inForce w f
       unfolding windowRoomRefusal
-      list-full h = sym (holds-first (later log-passes (this (lt-ltb (room keys bits) (length (filled m l w f)) (omega arith)) refl)))
+      list-full h = sym (holds-first (later log-passes (this (lt-ltb (room keys bits) (length (filled m l w f)) (leb-false _ _ h)) refl)))
 
       -- neither
-      pub room-enough : after ≤ room keys bits → 0 ≡ windowRoomRefusal m l keys bits logKeys logValues inForce w f
+      pub room-enough : leb (length (filled m l w f)) (room keys bits) ≡ true → 0 ≡ windowRoomRefusal m l keys bits logKeys logValues inForce w f
       unfolding windowRoomRefusal
-      room-enough h = sym (none-first _ (log-passes, (le-ltb (room keys bits) (length (filled m l w f)) (omega arith), tt)))
+      room-enough h = sym (none-first _ (log-passes, (le-ltb (room keys bits) (length (filled m l w f)) (leb-true _ _ h), tt)))
 
 module _ (m s : ℕ) (keys bits : List ℕ) (n : ℕ) (summary logKeys logValues : List ℕ) (used inForce : ℕ) (w : Window) (f : ℕ) where
   -- the rows about room

@@ -1,6 +1,6 @@
 -- The list with a window filled: what the step of the window makes of the list, and the summary after it. Rests on Changed.
 use Prim.Native.Nat.{ℕ, _^_, _≤_, _<_}
-use mathlib.Core.Path.{_≡_, refl, sym, _∙_, ap}
+use mathlib.Core.Path.{_≡_, refl, sym, _∙_}
 use mathlib.Core.Bool.{true, true≢false}
 use mathlib.Core.List.{List}
 use native.Mathlib.Omega.{arith}
@@ -33,15 +33,14 @@ step-fills m keys bits n w f = refl
 pub can-paint : {m : ℕ} {keys bits : List ℕ} {n : ℕ} {w : Window} {f : ℕ} → Fillable m keys bits n w f → Painting w f
 can-paint a = record { low = a .list .low; narrow = a .list .narrow; slot = let h = a .slot in omega arith }
 
-module _ (m : ℕ) (keys bits : List ℕ) (n : ℕ) (w : Window) (f : ℕ) {after : ℕ} where
-  pub can-change : Fillable m keys bits n w f → after ≡ length (filled m (recordsOf keys bits n) w f) → after ≤ room keys bits
-      → Changeable (windowStep w f) m keys bits n after
-  can-change a e h = record { deep = a .list .deep; own = a .list .own; after-is = e ∙ sym (ap length (step-fills m keys bits n w f)); fits = h }
+module _ (m : ℕ) (keys bits : List ℕ) (n : ℕ) (w : Window) (f : ℕ) where
+  pub can-change : Fillable m keys bits n w f → length (filled m (recordsOf keys bits n) w f) ≤ room keys bits → Changeable (windowStep w f) m keys bits n
+  can-change a h = record { deep = a .list .deep; own = a .list .own; fits = rw (step-fills m keys bits n w f) h }
 
-  pub change-fills : {keys′ bits′ : List ℕ} → after ≡ length (filled m (recordsOf keys bits n) w f) → Changed (windowStep w f) m n keys bits keys′ bits′
+  pub change-fills : {keys′ bits′ : List ℕ} {after : ℕ} → Changed (windowStep w f) m n keys bits keys′ bits′ after
       → Replaced n (filled m (recordsOf keys bits n) w f) keys bits keys′ bits′ after
   unfolding stepOver fillWindow filled
-  change-fills e c = record { length-is = e; keys-are = c .keys-are; values-are = c .bits-are }
+  change-fills c = record { length-is = c .length-is; keys-are = c .keys-are; values-are = c .bits-are }
 
 -- every pixel of the map lies in the root
 in-root : (m row column : ℕ) → row < 2 ^ m → column < 2 ^ m → inBlock m rootKey row column ≡ true

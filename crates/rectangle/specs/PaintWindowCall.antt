@@ -28,8 +28,7 @@ windowRoomRefusal m l keys bits logKeys logValues inForce w f =
     ∷ ltb (room keys bits) (length (filled m l w f)) gives 9
     ∷ [])
 
--- the refusal, and where it is 0 the number of entries and the length of the list afterwards
-pub record WindowDecided (refusal m : ℕ) (l : List Record) (w : Window) (f : ℕ) (r : WindowPlan) : Type 0 where
+-- the refusal, and where it is 0 the number of entries
+pub record WindowDecided (refusal m : ℕ) (w : Window) (r : WindowPlan) : Type 0 where
   pub refusal-is : r .refusal ≡ refusal
   pub number-is : r .refusal ≡ 0 → r .number ≡ length (largestBlocks m w)
-  pub after-is : r .refusal ≡ 0 → r .after ≡ length (filled m l w f)

@@ -2,6 +2,7 @@
 ghost use mathlib.Core.Path.{_≡_};
 ghost use Prim.Native.Nat.{_≤_};
 ghost use lib.ListN.{length};
+ghost use lib.Dec.{leb};
 ghost use Rattle.definitions.specs.Read.{room, recordsOf};
 ghost use Rattle.definitions.specs.Calls.PaintWindow.{filled};
 ghost use Rattle.put.specs.Putting.{Replaced};
@@ -10,8 +11,8 @@ use definitions::Window;
 use passes::change;
 use step::deed::Deed;
 
-// How many records the list will have.
-pub fn length_filled(
+// The list will fit into both slices.
+pub fn has_room(
     m: u32,
     keys: &[u32],
     bits: &[u32],
@@ -20,15 +21,15 @@ pub fn length_filled(
     log_values: &[u32],
     window: Window,
     feature: u32,
-) -> usize
+) -> bool
     requires { ⌜ Fillable m (now keys) (now bits) n window feature ⌝ }
-    ensures { λ r. ⌜ r ≡ length (filled m (recordsOf (now (keys .entry)) (now (bits .entry)) n) window feature) ⌝ }
+    ensures { λ r. ⌜ r ≡ leb (length (filled m (recordsOf (now (keys .entry)) (now (bits .entry)) n) window feature)) (room (now (keys .entry)) (now (bits .entry))) ⌝ }
 {
     let deed = Deed::Fill(window, feature);
-    change::length_after(deed, log_keys, log_values, m, keys, bits, n)
+    change::has_room(deed, log_keys, log_values, m, keys, bits, n)
 }
 
-// The list becomes the filled one, which has so many records as was told before.
+// The list becomes the filled one. Gives its number of records.
 pub fn fill_window(
     m: u32,
     keys: &mut [u32],
@@ -38,13 +39,11 @@ pub fn fill_window(
     log_values: &[u32],
     window: Window,
     feature: u32,
-    after: usize,
-)
-    requires { ⌜ Fillable m (now keys) (now bits) n window feature ⌝ }
-    requires { ⌜ (after ≡ length (filled m (recordsOf (now keys) (now bits) n) window feature)) × (after ≤ room (now keys) (now bits)) ⌝ }
-    ensures { λ _. ⌜ Replaced n (filled m (recordsOf (now (keys .entry)) (now (bits .entry)) n) window feature)
-        (now (keys .entry)) (now (bits .entry)) (now (keys .exit)) (now (bits .exit)) after ⌝ }
+) -> usize
+    requires { ⌜ Fillable m (now keys) (now bits) n window feature × (length (filled m (recordsOf (now keys) (now bits) n) window feature) ≤ room (now keys) (now bits)) ⌝ }
+    ensures { λ r. ⌜ Replaced n (filled m (recordsOf (now (keys .entry)) (now (bits .entry)) n) window feature)
+        (now (keys .entry)) (now (bits .entry)) (now (keys .exit)) (now (bits .exit)) r ⌝ }
 {
     let deed = Deed::Fill(window, feature);
-    change::change(deed, log_keys, log_values, m, keys, bits, n, after);
+    change::change(deed, log_keys, log_values, m, keys, bits, n)
 }

@@ -17,21 +17,16 @@ use keys::power;
 use log::group;
 use walk::bounds;
 
-// The refusal; where it is 0, the number of entries that the group will have, and the number of records that the list will have.
+// The refusal; where it is 0, the number of entries that the group will have.
 pub struct WindowPlan {
     pub refusal: u64,
     pub number: u32,
-    pub after: usize,
 }
 
 fn refused(refusal: u64) -> WindowPlan
     ensures { λ r. ⌜ r .refusal ≡ refusal ⌝ }
 {
-    WindowPlan {
-        refusal,
-        number: 0,
-        after: 0,
-    }
+    WindowPlan { refusal, number: 0 }
 }
 
 // 10 and 9: the log has room for the group, and the list for what it becomes.
@@ -49,7 +44,7 @@ fn decide_room(
     requires { ⌜ (Fillable m (now keys) (now bits) n window feature) × («in_force» ≤ room (now «log_keys») (now «log_values»)) ⌝ }
     ensures { λ r. ⌜ WindowDecided
         (windowRoomRefusal m (recordsOf (now (keys .entry)) (now (bits .entry)) n) (now (keys .entry)) (now (bits .entry)) (now («log_keys» .entry)) (now («log_values» .entry)) «in_force» window feature)
-        m (recordsOf (now (keys .entry)) (now (bits .entry)) n) window feature r ⌝ }
+        m window r ⌝ }
 {
     let step = power::power_of_five(m);
     let needed = window_blocks::need_below(m, keys, bits, n, window, m, 0, 0, Key::ROOT, step, 0);
@@ -60,17 +55,13 @@ fn decide_room(
     if log_values.len() < logged {
         return refused(10);
     }
-    let after = filling::length_filled(m, keys, bits, n, log_keys, log_values, window, feature);
-    if keys.len() < after {
-        return refused(9);
-    }
-    if bits.len() < after {
+    let fits = filling::has_room(m, keys, bits, n, log_keys, log_values, window, feature);
+    if !fits {
         return refused(9);
     }
     WindowPlan {
         refusal: 0,
         number: needed.number,
-        after,
     }
 }
 
@@ -91,7 +82,7 @@ fn decide(
 ) -> WindowPlan
     ensures { λ r. ⌜ WindowDecided
         (paintWindowRefusal m s (now (keys .entry)) (now (bits .entry)) n (now (summary .entry)) (now («log_keys» .entry)) (now («log_values» .entry)) used «in_force» window feature)
-        m (recordsOf (now (keys .entry)) (now (bits .entry)) n) window feature r ⌝ }
+        m window r ⌝ }
 {
     let early = decision::edit_refusal(
         m,
@@ -169,7 +160,6 @@ pub fn paint_window(
         };
     }
     let number = plan.number;
-    let after = plan.after;
     let logged = window_logging::log_window(
         m,
         keys,
@@ -183,17 +173,7 @@ pub fn paint_window(
         used,
         in_force,
     );
-    filling::fill_window(
-        m,
-        keys,
-        bits,
-        n,
-        log_keys,
-        log_values,
-        window,
-        feature,
-        after,
-    );
+    let after = filling::fill_window(m, keys, bits, n, log_keys, log_values, window, feature);
     recount::recount(m, s, keys, bits, after, summary, Key::ROOT);
     Edited {
         refusal: 0,

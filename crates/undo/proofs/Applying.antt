@@ -1,9 +1,12 @@
 -- A deed done to a list and its summary: what there is no room for is left, and what is changed is the deed's picture. Rests on Changed.
-use Prim.Native.Nat.{ℕ, _≤_, _<_}
+use Prim.Native.Nat.{ℕ, _<_}
 use mathlib.Core.Path.{_≡_, refl, subst}
+use mathlib.Core.Bool.{true, false}
 use mathlib.Core.List.{List}
 use native.Mathlib.Omega.{arith}
 use lib.ListN.{length}
+use lib.Dec.{leb}
+use borrow.Author.Tests.{leb-true, leb-false}
 use Rattle.keys.specs.Key.{rootKey}
 use Rattle.definitions.specs.Picture.{Picture}
 use Rattle.definitions.specs.List.{listOfPicture}
@@ -19,19 +22,19 @@ use Rattle.edit.specs.Recount.{Outdated}
 use Rattle.edit.proofs.Changed.{all-outdated, all-counted}
 
 -- no room
-pub applied-full : (p : Picture) (m s n after : ℕ) (keys bits summary : List ℕ) → after ≡ length (listOfPicture m p) → room keys bits < after
+pub applied-full : (p : Picture) (m s n : ℕ) (keys bits summary : List ℕ) → leb (length (listOfPicture m p)) (room keys bits) ≡ false
     → Applied p m s n keys bits summary keys bits summary 0
-applied-full p m s n after keys bits summary is h = record { full = λ z. (omega arith, refl, refl, refl); done = λ some. absurd (some refl) }
+applied-full p m s n keys bits summary h = record { full = λ z. (leb-false _ _ h, refl, refl, refl); done = λ some. absurd (some refl) }
 
-module _ {t : Step} {m s n after : ℕ} {keys bits summary : List ℕ} (k : WithSummary m s keys bits n summary)
-    (is : after ≡ length (listOfPicture m (stepOver t (shownBy m keys bits n)))) (fits : after ≤ room keys bits) where
+module _ {t : Step} {m s n : ℕ} {keys bits summary : List ℕ} (k : WithSummary m s keys bits n summary)
+    (fits : leb (length (listOfPicture m (stepOver t (shownBy m keys bits n)))) (room keys bits) ≡ true) where
   -- what changing asks
-  pub can-change : Changeable t m keys bits n after
-  can-change = record { deep = k .deep; own = k .own; after-is = is; fits = fits }
+  pub can-change : Changeable t m keys bits n
+  can-change = record { deep = k .deep; own = k .own; fits = leb-true _ _ fits }
 
-  module _ {keys′ bits′ : List ℕ} (made : Changed t m n keys bits keys′ bits′) where
+  module _ {keys′ bits′ : List ℕ} {after : ℕ} (made : Changed t m n keys bits keys′ bits′ after) where
     stands : Replaced n (listOfPicture m (stepOver t (shownBy m keys bits n))) keys bits keys′ bits′ after
-    stands = record { length-is = is; keys-are = made .keys-are; values-are = made .bits-are }
+    stands = record { length-is = made .length-is; keys-are = made .keys-are; values-are = made .bits-are }
 
     -- what counting anew asks
     pub change-outdated : Outdated m s keys′ bits′ after summary rootKey
@@ -43,8 +46,8 @@ module _ {t : Step} {m s n after : ℕ} {keys bits summary : List ℕ} (k : With
     applied-done summary′ counted =
         let some : 0 < length (listOfPicture m (stepOver t (shownBy m keys bits n))) = list-not-empty (stepOver t (shownBy m keys bits n)) m 0 0 rootKey in
         record {
-          full = λ z. absurd (omega arith);
-          done = λ some′. (omega arith, stands, all-counted m (stepOver t (shownBy m keys bits n)) stands s summary′ counted);
+          full = λ z. absurd (omega (arith, made .length-is));
+          done = λ some′. (leb-true _ _ fits, stands, all-counted m (stepOver t (shownBy m keys bits n)) stands s summary′ counted);
         }
 
 -- by another name of the picture

@@ -38,14 +38,11 @@ pub fn apply(
     ensures { λ r. ⌜ Applied (stepOver (stepOf m deed (now («log_keys» .entry)) (now («log_values» .entry))) (shownBy m (now (keys .entry)) (now (bits .entry)) n)) m s n
         (now (keys .entry)) (now (bits .entry)) (now (summary .entry)) (now (keys .exit)) (now (bits .exit)) (now (summary .exit)) r ⌝ }
 {
-    let after = change::length_after(deed, log_keys, log_values, m, keys, bits, n);
-    if keys.len() < after {
+    let fits = change::has_room(deed, log_keys, log_values, m, keys, bits, n);
+    if !fits {
         return 0;
     }
-    if bits.len() < after {
-        return 0;
-    }
-    change::change(deed, log_keys, log_values, m, keys, bits, n, after);
+    let after = change::change(deed, log_keys, log_values, m, keys, bits, n);
     recount::recount(m, s, keys, bits, after, summary, 0);
     after
 }

@@ -2,7 +2,7 @@
 use mathlib.Core.Path.{_∙_}
 use native.Mathlib.Omega.{arith}
 use borrow.Author.Needs.{needs}
-use Rattle.passes.proofs.Changing.{shrink-whole, grow-asked, changed-keys, changed-bits}
+use Rattle.passes.proofs.Changing.{shrink-whole, grow-asked, after-is, changed-keys, changed-bits}
 use Rattle.passes.proofs.change.change.Statement.{statement}
 use Rattle.passes.proofs.change.change.Tie as tie
 
@@ -13,7 +13,7 @@ grow-all-requires : tie.Need-grow-all-requires
 grow-all-requires c κs =
     let s = c .before .before .before .before .before .before .before .before .before .before .before .before .before .pre in
     let r = c .before .before .before .before .before .before .shrink in
-    (s .0, grow-asked _ (s .1 .deep) (s .1 .own) (r .ensures) (s .1 .after-is) (s .1 .fits))
+    (s .0, grow-asked _ (s .1 .deep) (s .1 .own) (r .ensures) (s .1 .fits))
 
 give-up-requires : tie.Need-give-up-requires
 give-up-requires c κs =
@@ -37,8 +37,9 @@ returns c =
     let g = c .before .before .before .before .before .before .before .before .before .before .before .grow-all in
     let r = c .before .before .before .before .before .before .before .before .before .before .before .before .before .before .before .before .before .before .shrink in
     record {
-      keys-are = u .ensures .0 ∙ changed-keys _ (s .deep) (s .own) (r .ensures) (s .after-is) (s .fits) (g .ensures);
-      bits-are = u .ensures .1 ∙ changed-bits _ (s .deep) (s .own) (r .ensures) (s .after-is) (s .fits) (g .ensures);
+      length-is = after-is _ (s .deep) (s .own) (r .ensures);
+      keys-are = u .ensures .0 ∙ changed-keys _ (s .deep) (s .own) (r .ensures) (s .fits) (g .ensures);
+      bits-are = u .ensures .1 ∙ changed-bits _ (s .deep) (s .own) (r .ensures) (s .fits) (g .ensures);
     }
 
 pub change-spec : {M : Type 1} → statement M

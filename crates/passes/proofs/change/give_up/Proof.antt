@@ -1,6 +1,4 @@
 -- `give_up` meets its contract: where the list did not shrink there is nothing to clear.
-use Prim.Native.Nat.{_-_}
-use native.Mathlib.Omega.{arith}
 use borrow.Author.Needs.{needs}
 use Rattle.passes.proofs.Changing.{nothing-given}
 use Rattle.passes.proofs.change.give_up.Statement.{statement}

@@ -1,6 +1,6 @@
 -- `shrink` meets its contract: a leaf by itself, a block that one look settles as it is, and else a node's quadrants one after the other and then its own
 -- record. The height falls at each call.
-use Prim.Native.Nat.{ℕ, _-_, _+_, _^_, _<_}
+use Prim.Native.Nat.{ℕ, _+_, _^_, _<_}
 use mathlib.Core.Path.{_≡_, sym, _∙_, ap}
 use mathlib.Core.Bool.{false}
 use native.Mathlib.Omega.{arith}
@@ -8,7 +8,6 @@ use lib.ListN.{getD}
 use borrow.Author.Needs.{needs}
 use borrow.Fn.Kinds.{In}
 use borrow.Fn.PlainCycle.{Measures, is, falls, and}
-use Rattle.definitions.specs.Bits.{unionOfFour}
 use Rattle.list.specs.Check.{oneSlot}
 use Rattle.step.specs.Step.{Step}
 use Rattle.step.specs.Deed.{stepOf}
@@ -16,7 +15,8 @@ use Rattle.step.proofs.QuarterSums.{divisible, narrow-room, lower-than}
 use Rattle.passes.specs.Shrink.{ShrinkAsked}
 use Rattle.passes.proofs.Narrowed.{narrowed-shrinks}
 use Rattle.passes.proofs.ShownBlocks.{shown-positive}
-use Rattle.passes.proofs.ShrinkSteps.{positive, asks-nw, asks-ne, asks-sw, asks-se, asks-own, gives-node, asked-room, leaf-room, gives-leaf, asks-end, asks-keep, gives-whole}
+use Rattle.passes.proofs.Known.{met-readable}
+use Rattle.passes.proofs.ShrinkSteps.{positive, asks-nw, asks-ne, asks-sw, asks-se, asks-joined, asks-own, gives-node, asked-room, leaf-room, gives-leaf, asks-end, asks-keep, gives-whole}
 use Rattle.passes.proofs.shrink.shrink.Reads as own
 use Rattle.passes.proofs.shrink.shrink.Kinds as kinds
 use Rattle.passes.proofs.shrink.+shrink.Lts-shrink as lts
@@ -26,9 +26,10 @@ use Rattle.step.proofs.deed.narrow.Reads as narrow
 use Rattle.step.proofs.deed.meeting.Reads as meeting
 use Rattle.passes.proofs.shrink.is_decided.Reads as is-decided
 use Rattle.keys.proofs.power.power_of_five.Reads as power-of-five
-use Rattle.passes.proofs.block_end.block_end.Reads as block-end
+use Rattle.passes.proofs.tally.pass_over.Reads as pass-over
 use Rattle.passes.proofs.shrink.keep.Reads as keep
 use Rattle.step.proofs.quarters.of.Reads as quarters
+use Rattle.build.proofs.count.joined.Reads as joined
 use Rattle.passes.proofs.shrink.shrink_own.Reads as shrink-own
 use Rattle.passes.proofs.shrink.+shrink.{statement}
 use Rattle.passes.proofs.shrink.+shrink.Tie.{close}
@@ -57,14 +58,16 @@ claims t = (
   is-decided.Learnt,
   power-of-five.Asked,
   power-of-five.Learnt,
-  block-end.Asked,
-  block-end.Learnt,
+  pass-over.Asked,
+  pass-over.Learnt,
   keep.Asked,
   keep.Learnt,
   quarters.Asked,
   quarters.Learnt,
   below t,
   own.Post,
+  joined.Asked,
+  joined.Learnt,
   shrink-own.Asked,
   shrink-own.Learnt,
 )
@@ -153,11 +156,15 @@ power-of-five-requires t c κs = let a = asked t (c .before .before .before .bef
 add-past : (t : ℕ) → lts.Need-add-past (claims t) (given t) own.Post
 add-past t c = let a = asked t (c .before .before .before .before .before .before .before .before .before .before .before .before) .shown in let n = narrow-room (a .deep) (a .block) in omega (arith, n .1, c .power-of-five .ensures)
 
-block-end-requires : (t : ℕ) → lts.Need-block-end-requires (claims t) (given t) own.Post
-block-end-requires t c κs = asks-end (asked t (c .before .before .before .before .before .before .before .before .before .before .before .before .before)) (past t (c .before))
+pass-over-requires : (t : ℕ) → lts.Need-pass-over-requires (claims t) (given t) own.Post
+pass-over-requires t c κs =
+    let d = c .before in
+    (met-readable (d .before .before .before .meeting .ensures), asks-end (asked t (d .before .before .before .before .before .before .before .before .before .before .before .before)) (past t d))
 
 keep-requires : (t : ℕ) → lts.Need-keep-requires (claims t) (given t) own.Post
-keep-requires t c κs = asks-keep (asked t (c .before .before .before .before .before .before .before .before .before .before .before .before .before .before .before .before)) (past t (c .before .before .before .before)) (c .before .before .block-end .ensures)
+keep-requires t c κs =
+    let d = c .before .before .before .before .before in
+    asks-keep (asked t (d .before .before .before .before .before .before .before .before .before .before .before .before)) (past t d) (c .before .before .before .pass-over .ensures .next-is)
 
 same-length-3 : (t : ℕ) → lts.Need-same-length-3 (claims t) (given t) own.Post
 same-length-3 t c = search needs
@@ -167,10 +174,10 @@ same-length-4 t c = search needs
 
 returns-2 : (t : ℕ) → lts.Need-returns-2 (claims t) (given t) own.Post
 returns-2 t c =
-    let s = c .before .before .before .before .before .before .before .before .before .before .before .before .before .before .before .before .before .before .before .before .before in
-    let d = c .before .before .before .before .before .before .before .before .before in
+    let d = c .before .before .before .before .before .before .before .before .before .before in
+    let s = d .before .before .before .before .before .before .before .before .before .before .before .before in
     narrowed-shrinks (d .before .before .before .before .narrow .ensures .same) (asked t s .shown .block) (omega arith)
-    (gives-whole (whole t d) (asked t s) (past t d) (c .before .before .before .before .before .before .before .block-end .ensures) (d .before .before .before .meeting .ensures) (sym (d .before .before .is-decided .ensures) ∙ d .before .if2 .taken) (c .before .before .before .before .keep .ensures))
+    (gives-whole (whole t d) (asked t s) (past t d) (d .before .before .before .meeting .ensures) (sym (d .before .before .is-decided .ensures) ∙ d .before .if2 .taken) (c .before .before .before .before .before .before .before .before .pass-over .ensures) (c .before .before .before .before .keep .ensures))
 
 of-requires : (t : ℕ) → lts.Need-of-requires (claims t) (given t) own.Post
 of-requires t c κs = let a = asked t (from-node t (c .before .before .before .before)) in divisible (a .shown .deep) (a .shown .block) (shown-positive (a .shown) (node t (c .before .before .before .before)))
@@ -207,9 +214,17 @@ se-requires t c κs =
     let d = a .before .before .before .before .before .before .before in
     (falling t d, (d .before .before .before .before .narrow .ensures .doable, asks-se (step t d) (d .of .ensures) (asked t (start t d)) (node t (to-node t d)) (a .before .before .before .before .shrink .ensures) (e .before .before .before .before .shrink2 .ensures) (f .before .before .before .before .shrink3 .ensures)))
 
+joined-requires : (t : ℕ) → lts.Need-joined-requires (claims t) (given t) own.Post
+joined-requires t g κs =
+    let f = g .before .before .before .before .before .before .before in
+    let e = f .before .before .before .before .before .before .before in
+    let a = e .before .before .before .before .before .before .before in
+    let d = a .before .before .before .before .before .before .before in
+    asks-joined (step t d) (d .of .ensures) (asked t (start t d)) (node t (to-node t d)) (a .before .before .before .before .shrink .ensures) (e .before .before .before .before .shrink2 .ensures) (f .before .before .before .before .shrink3 .ensures) (g .before .before .before .before .shrink4 .ensures)
+
 shrink-own-requires : (t : ℕ) → lts.Need-shrink-own-requires (claims t) (given t) own.Post
 shrink-own-requires t c κs =
-    let g = c .before .before .before .before .before .before in
+    let g = c .before .before .before in
     let f = g .before .before .before .before .before .before .before in
     let e = f .before .before .before .before .before .before .before in
     let a = e .before .before .before .before .before .before .before in
@@ -218,11 +233,11 @@ shrink-own-requires t c κs =
 
 same-length-5 : (t : ℕ) → lts.Need-same-length-5 (claims t) (given t) own.Post
 same-length-5 t c =
-    let g = c .before .before .before .before .before .before .before .before .before .before .before in
+    let g = c .before .before .before .before .before .before .before .before in
     let f = g .before .before .before .before .before .before .before in
     let e = f .before .before .before .before .before .before .before in
     let a = e .before .before .before .before .before .before .before in
-    c .before .before .before .before .shrink-own .kept .1 .1 .1 .1 .1 .0
+    c .before .before .before .before .shrink-own .kept .1 .1 .1 .1 .0
     ∙ g .before .before .before .before .shrink4 .kept .1 .1 .1 .1 .1 .1 .1 .1 .1 .1 .1 .0
     ∙ f .before .before .before .before .shrink3 .kept .1 .1 .1 .1 .1 .1 .1 .1 .1 .1 .1 .0
     ∙ e .before .before .before .before .shrink2 .kept .1 .1 .1 .1 .1 .1 .1 .1 .1 .1 .1 .0
@@ -230,26 +245,25 @@ same-length-5 t c =
 
 same-length-6 : (t : ℕ) → lts.Need-same-length-6 (claims t) (given t) own.Post
 same-length-6 t c =
-    let g = c .before .before .before .before .before .before .before .before .before .before .before in
+    let g = c .before .before .before .before .before .before .before .before in
     let f = g .before .before .before .before .before .before .before in
     let e = f .before .before .before .before .before .before .before in
     let a = e .before .before .before .before .before .before .before in
-    c .before .before .before .before .shrink-own .kept .1 .1 .1 .1 .1 .1 .0
+    c .before .before .before .before .shrink-own .kept .1 .1 .1 .1 .1 .0
     ∙ g .before .before .before .before .shrink4 .kept .1 .1 .1 .1 .1 .1 .1 .1 .1 .1 .1 .1 .0
     ∙ f .before .before .before .before .shrink3 .kept .1 .1 .1 .1 .1 .1 .1 .1 .1 .1 .1 .1 .0
     ∙ e .before .before .before .before .shrink2 .kept .1 .1 .1 .1 .1 .1 .1 .1 .1 .1 .1 .1 .0
     ∙ a .before .before .before .before .shrink .kept .1 .1 .1 .1 .1 .1 .1 .1 .1 .1 .1 .1 .0
 
 returns-3 : (t : ℕ) → lts.Need-returns-3 (claims t) (given t) own.Post
-unfolding unionOfFour
 returns-3 t c =
-    let g = c .before .before .before .before .before .before .before .before .before .before .before in
+    let g = c .before .before .before .before .before .before .before .before in
     let f = g .before .before .before .before .before .before .before in
     let e = f .before .before .before .before .before .before .before in
     let a = e .before .before .before .before .before .before .before in
     let d = a .before .before .before .before .before .before .before in
     narrowed-shrinks (d .before .before .before .before .narrow .ensures .same) (asked t (start t d) .shown .block) (omega arith)
-    (gives-node (step t d) (d .of .ensures) (asked t (start t d)) (node t (to-node t d)) (a .before .before .before .before .shrink .ensures) (e .before .before .before .before .shrink2 .ensures) (f .before .before .before .before .shrink3 .ensures) (g .before .before .before .before .shrink4 .ensures) (c .before .before .before .before .shrink-own .ensures))
+    (gives-node (step t d) (d .of .ensures) (asked t (start t d)) (node t (to-node t d)) (a .before .before .before .before .shrink .ensures) (e .before .before .before .before .shrink2 .ensures) (f .before .before .before .before .shrink3 .ensures) (g .before .before .before .before .shrink4 .ensures) (c .before .before .before .before .before .before .before .joined .ensures) (c .before .before .before .before .shrink-own .ensures))
 
 pub +shrink-spec : {M : Type 1} → statement M
 +shrink-spec =
@@ -269,7 +283,7 @@ pub +shrink-spec : {M : Type 1} → statement M
     (is-decided-requires t)
     (power-of-five-requires t)
     (add-past t)
-    (block-end-requires t)
+    (pass-over-requires t)
     (keep-requires t)
     (same-length-3 t)
     (same-length-4 t)
@@ -281,6 +295,7 @@ pub +shrink-spec : {M : Type 1} → statement M
     (ne-requires t)
     (sw-requires t)
     (se-requires t)
+    (joined-requires t)
     (shrink-own-requires t)
     (same-length-5 t)
     (same-length-6 t)

@@ -16,7 +16,7 @@ shift-requires c κs = search needs
 shift-requires-2 : tie.Need-shift-requires-2
 shift-requires-2 c κs = search needs
 
-add-apart : tie.Need-add-t17
+add-apart : tie.Need-add-result
 add-apart c = search needs
 
 enum-known-meeting : tie.Need-enum-known-meeting
@@ -34,7 +34,7 @@ mul-bits c = search needs
 slice-write-bits : tie.Need-slice-write-bits
 slice-write-bits c = search needs
 
-add-leaf : tie.Need-add-t18
+add-leaf : tie.Need-add-result-2
 add-leaf c = search needs
 
 enum-told-2 : tie.Need-enum-told-2

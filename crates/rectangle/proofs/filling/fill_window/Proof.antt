@@ -7,7 +7,7 @@ use Rattle.rectangle.proofs.filling.fill_window.Tie as tie
 change-requires : tie.Need-change-requires
 change-requires c κs =
     let s = c .before .before .before .before .before .before in
-    (can-paint (s .pre .0), can-change _ _ _ _ _ _ (s .pre .0) (s .pre .1 .0) (s .pre .1 .1))
+    (can-paint (s .pre .0), can-change _ _ _ _ _ _ (s .pre .0) (s .pre .1))
 
 same-length : tie.Need-same-length
 same-length c = search needs
@@ -16,10 +16,7 @@ same-length-2 : tie.Need-same-length-2
 same-length-2 c = search needs
 
 returns : tie.Need-returns
-returns c =
-    let done = c .before .before .before .before in
-    let s = done .before .before .before .before .before .before .before in
-    change-fills _ _ _ _ _ _ (s .pre .1 .0) (done .change .ensures)
+returns c = change-fills _ _ _ _ _ _ (c .before .before .before .before .change .ensures)
 
 pub fill-window-spec : {M : Type 1} → statement M
 fill-window-spec = tie.close (tie.spec change-requires same-length same-length-2 returns)

@@ -3,6 +3,7 @@ use Prim.Native.Nat.{_+_, _≤_}
 use mathlib.Core.Path.{_≡_, sym, ap, _∙_}
 use native.Mathlib.Omega.{arith}
 use lib.ListN.{length}
+use borrow.Author.Tests.{not-true, not-false}
 use Rattle.keys.specs.Under.{here}
 use Rattle.definitions.specs.Read.{room, recordsOf}
 use Rattle.definitions.specs.Log.{closingPlaces}
@@ -66,40 +67,28 @@ returns-2 : tie.Need-returns-2
 returns-2 c =
     window-refuses (c .refused2 .ensures) (log-full _ _ _ _ _ _ _ _ _ _ (logged-is (c .before .before .before)) (omega (arith, c .before .if2 .taken))) (λ e. omega arith)
 
-length-filled-requires : tie.Need-length-filled-requires
-length-filled-requires c κs = search needs
+has-room-requires : tie.Need-has-room-requires
+has-room-requires c κs = search needs
 
 refused-requires-3 : tie.Need-refused-requires-3
 refused-requires-3 c κs = search needs
 
 returns-3 : tie.Need-returns-3
 returns-3 c =
-    let after = c .before .before in
-    let d = after .before in
+    let asked = c .before .before in
+    let d = asked .before in
     window-refuses (c .refused3 .ensures)
-    (list-full _ _ _ _ _ _ _ _ _ _ (logged-is (d .before .before)) _ (after .length-filled .ensures) (log-fits d) (omega (arith, c .before .if3 .taken)))
+    (list-full _ _ _ _ _ _ _ _ _ _ (logged-is (d .before .before)) (log-fits d) (sym (asked .has-room .ensures) ∙ not-true _ (c .before .if3 .taken)))
     (λ e. omega arith)
-
-refused-requires-4 : tie.Need-refused-requires-4
-refused-requires-4 c κs = search needs
 
 returns-4 : tie.Need-returns-4
 returns-4 c =
-    let after = c .before .before .before in
-    let d = after .before in
-    window-refuses (c .refused4 .ensures)
-    (list-full _ _ _ _ _ _ _ _ _ _ (logged-is (d .before .before)) _ (after .length-filled .ensures) (log-fits d) (omega (arith, c .before .if4 .taken)))
-    (λ e. omega arith)
-
-returns-5 : tie.Need-returns-5
-returns-5 c =
-    let after = c .before .before in
-    let d = after .before in
+    let asked = c .before in
+    let d = asked .before in
     let needed = d .before .before .before in
     record {
-      refusal-is = room-enough _ _ _ _ _ _ _ _ _ _ (logged-is (d .before .before)) _ (after .length-filled .ensures) (log-fits d) (omega (arith, c .before .if3 .left, c .if4 .left));
+      refusal-is = room-enough _ _ _ _ _ _ _ _ _ _ (logged-is (d .before .before)) (log-fits d) (sym (asked .has-room .ensures) ∙ not-false _ (c .if3 .left));
       number-is = λ z. root-number _ _ (needed .need-below .ensures .0 .number-is);
-      after-is = λ z. after .length-filled .ensures;
     }
 
 pub decide-room-spec : {M : Type 1} → statement M
@@ -114,9 +103,7 @@ decide-room-spec =
     returns
     refused-requires-2
     returns-2
-    length-filled-requires
+    has-room-requires
     refused-requires-3
     returns-3
-    refused-requires-4
-    returns-4
-    returns-5)
+    returns-4)

@@ -55,10 +55,8 @@ log-window-requires c κs =
 
 fill-window-requires : tie.Need-fill-window-requires
 fill-window-requires c κs =
-    let d = c .before .before .before .before .before .before .before .before .before .before .before .before .before in
-    let p = passed d in
-    let e = d .before .decide .ensures .after-is (d .if1 .left) in
-    (window-fillable p, (e, omega (arith, e, p .list-fits)))
+    let p = passed (c .before .before .before .before .before .before .before .before .before .before .before .before .before) in
+    (window-fillable p, p .list-fits)
 
 recount-requires : tie.Need-recount-requires
 recount-requires c κs =
