@@ -1,14 +1,17 @@
 -- The zeros at the end of a key: found digit by digit, and as many as a valid key's block has levels below it. Rests on LastDigit.
-use Prim.Native.Nat.{ℕ, zero, suc, _+_, _-_, _/_, _%_, _^_, _≤_, _<_}
+use Prim.Native.Nat.{ℕ, zero, suc, _+_, _-_, _*_, _/_, _%_, _^_, _≤_, _<_}
 use mathlib.Core.Path.{_≡_, refl, sym, ap, _∙_}
 use mathlib.Core.Bool.{true}
+use native.Mathlib.Nat.{pow-suc}
 use native.Mathlib.Omega.{arith}
+use lib.Dec.{lit<}
+use lib.Arith.{mod-mul}
 use borrow.Author.Tests.{eq-eqb, ne-eqb, eqb-true}
 use Rattle.keys.specs.Key.{zerosAtEnd, validKey, levelOf, heightOf}
 use Rattle.keys.proofs.Cases.{equal}
 use Rattle.keys.proofs.Digits.{level-most}
 use Rattle.keys.proofs.LastDigit.{valid-last-zero, valid-last-digit, level-last-zero, full-last-digit}
-use Rattle.keys.proofs.Powers.{five-le}
+use Rattle.keys.proofs.Powers.{five-le, five-pos}
 use Rattle.keys.proofs.Valid.{valid-below}
 
 pub zeros-more : (k κ : ℕ) → κ % 5 ≡ 0 → zerosAtEnd (suc k) κ ≡ suc (zerosAtEnd k (κ / 5))
@@ -40,6 +43,19 @@ pub zeros-root : (m : ℕ) → zerosAtEnd m 0 ≡ m
 unfolding zerosAtEnd
 zeros-root zero = refl
 zeros-root (suc m) = ap suc (zeros-root m)
+
+-- and a number is a multiple of the power that goes with them
+pub zeros-divide : (k κ : ℕ) → κ % 5 ^ zerosAtEnd k κ ≡ 0
+zeros-divide zero κ = ap (λ n. κ % 5 ^ n) (no-digits-left κ) ∙ omega arith
+zeros-divide (suc k) κ =
+    equal (κ % 5) 0
+    (λ e.
+    let i = zeros-divide k (κ / 5) in
+    ap (λ n. κ % 5 ^ n) (zeros-more k κ e)
+    ∙ ap (λ x. κ % x) (pow-suc 5 (zerosAtEnd k (κ / 5)))
+    ∙ mod-mul κ {m = 5 ^ zerosAtEnd k (κ / 5)} {c = 5} (five-pos (zerosAtEnd k (κ / 5))) (lit< tt)
+    ∙ omega (arith, ap (λ x. x * 5) i))
+    (λ e. ap (λ n. κ % 5 ^ n) (zeros-none (suc k) κ e) ∙ omega arith)
 
 -- ---- found digit by digit
 

@@ -101,16 +101,19 @@ impl Key {
     }
 
     // The square that the key stands for. Its digits are read from the right: to divide by five is a multiplication, to divide by the step of a level is not.
+    // The zeros at the end move nothing, so the reading begins past them.
     pub fn block(self, m: u32) -> Square
         requires { ⌜ (m ≤ 10) × (validKey m (self .number) ≡ true) ⌝ }
         ensures { λ r. ⌜ (r .row ≡ rowOf m (self .number)) × (r .column ≡ columnOf m (self .number)) × (r .side ≡ sideOf m (self .number)) ⌝ }
     {
-        let whole = power::power_of_two(self.height(m));
-        let mut rest = self.number;
-        let mut side = 1;
+        let number = self.number;
+        let end = zeros::at_end(m, number);
+        let whole = power::power_of_two(end.count);
+        let mut rest = number / end.power;
+        let mut side = whole;
         let mut row = 0;
         let mut column = 0;
-        let mut i = 0;
+        let mut i = end.count;
         while i < m {
             let digit = rest % 5;
             row += quadrant::southward(digit, side);

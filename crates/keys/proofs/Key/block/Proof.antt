@@ -5,9 +5,12 @@ use mathlib.Core.Bool.{Bool, cond}
 use native.Mathlib.Omega.{arith}
 use native.Mathlib.Nat.{pow-suc, mod-eq-of-lt}
 use native.Mathlib.Numerals.{add-one}
+use Rattle.keys.specs.Key.{zerosAtEnd}
 use Rattle.keys.specs.Block.{rowOf, columnOf, sideOf, isSouth, isEast}
 use Rattle.keys.proofs.Cases.{decide}
-use Rattle.keys.proofs.Powers.{two-le, height-le}
+use Rattle.keys.proofs.Powers.{two-le, two-pos, five-pos}
+use Rattle.keys.proofs.Digits.{row-zero, column-zero}
+use Rattle.keys.proofs.LastZeros.{zeros-most, zeros-divide, zeros-height}
 use Rattle.keys.proofs.FromRight.{digits-before, row-right, column-right}
 use Rattle.keys.proofs.Valid.{valid-below}
 use Rattle.keys.proofs.Key.block.Statement.{statement}
@@ -23,22 +26,24 @@ record Passed (m κ rest side row column i : ℕ) : Type 0 where
   column-found : column ≡ columnOf i (κ % 5 ^ i)
 
 abbrev Inv-loop : tie.InvT-loop
-Inv-loop m whole rest₀ side₀ row₀ column₀ i₀ rest side row column i = Passed m rest₀ rest side row column i
+Inv-loop m number whole rest₀ side₀ row₀ column₀ i₀ rest side row column i = Passed m number rest side row column i
 
 abbrev μ-loop : tie.MeasureT-loop
-μ-loop m whole rest₀ side₀ row₀ column₀ i₀ rest side row column i = m - i
+μ-loop m number whole rest₀ side₀ row₀ column₀ i₀ rest side row column i = m - i
 
-begins : (m κ : ℕ) → Passed m κ κ 1 0 0 0
-unfolding rowOf columnOf
-begins m κ =
+-- past the zeros, which move nothing
+begins : (m κ count power side : ℕ) → count ≡ zerosAtEnd m κ → power ≡ 5 ^ zerosAtEnd m κ → side ≡ 2 ^ count → Passed m κ (κ / power) side 0 0 count
+begins m κ count power side e f g =
+    let none : κ % 5 ^ count ≡ 0 = ap (λ n. κ % 5 ^ n) e ∙ zeros-divide m κ in
+    let some = two-pos count in
     record {
-      within = omega arith;
-      left = omega arith;
-      sides = refl;
+      within = omega (arith, zeros-most m κ);
+      left = ap (λ x. κ / x) (f ∙ sym (ap (λ n. 5 ^ n) e));
+      sides = g;
       row-small = omega arith;
       column-small = omega arith;
-      row-found = refl;
-      column-found = refl;
+      row-found = sym (ap (rowOf count) none ∙ row-zero count);
+      column-found = sym (ap (columnOf count) none ∙ column-zero count);
     }
 
 -- a digit adds a side at most
@@ -81,16 +86,24 @@ ends {m} {κ} {i = i} p h below =
       column-is = p .column-found ∙ ap (λ k. columnOf k (κ % 5 ^ k)) all ∙ ap (columnOf m) (mod-eq-of-lt below);
     }
 
-height-requires : tie.Need-height-requires Inv-loop μ-loop
-height-requires c κs = c .pre
+at-end-requires : tie.Need-at-end-requires Inv-loop μ-loop
+at-end-requires c κs = c .pre .0
 
 power-of-two-requires : tie.Need-power-of-two-requires Inv-loop μ-loop
 power-of-two-requires c κs =
-    let h = height-le (c .before .args .m) (c .before .args .self .number) in
-    omega (arith, c .before .pre .0, c .height .ensures)
+    let h = zeros-most (c .before .args .m) (c .before .args .self .number) in
+    omega (arith, c .before .pre .0, c .at-end .ensures .0)
+
+div-rest : tie.Need-div-rest Inv-loop μ-loop
+div-rest c =
+    let start = c .before .before .before in
+    let some = five-pos (zerosAtEnd (start .args .m) (start .args .self .number)) in
+    omega (arith, c .before .before .at-end .ensures .1)
 
 loop-holds : tie.Need-loop-holds Inv-loop μ-loop
-loop-holds c = begins _ _
+loop-holds c =
+    let found = c .before .before .at-end .ensures in
+    begins (c .before .before .before .args .m) (c .before .before .before .args .self .number) _ _ _ (found .0) (found .1) (c .before .power-of-two .ensures)
 
 southward-requires : tie.Need-southward-requires Inv-loop μ-loop
 southward-requires c κs = tt
@@ -99,7 +112,7 @@ add-row : tie.Need-add-row Inv-loop μ-loop
 add-row c =
     let l = c .before .before .loop in
     let q = at-most (c .southward .result) (isSouth (l .rest % 5)) (l .side) (c .southward .ensures) in
-    let t = room (l .inv) (c .before .loop-test .taken) (c .before .before .before .before .before .pre .0) in
+    let t = room (l .inv) (c .before .loop-test .taken) (c .before .before .before .before .before .before .pre .0) in
     omega (arith, l .inv .row-small)
 
 eastward-requires : tie.Need-eastward-requires Inv-loop μ-loop
@@ -109,17 +122,17 @@ add-column : tie.Need-add-column Inv-loop μ-loop
 add-column c =
     let l = c .before .before .before .loop in
     let q = at-most (c .eastward .result) (isEast (l .rest % 5)) (l .side) (c .eastward .ensures) in
-    let t = room (l .inv) (c .before .before .loop-test .taken) (c .before .before .before .before .before .before .pre .0) in
+    let t = room (l .inv) (c .before .before .loop-test .taken) (c .before .before .before .before .before .before .before .pre .0) in
     omega (arith, l .inv .column-small)
 
 mul-side : tie.Need-mul-side Inv-loop μ-loop
 mul-side c =
     let l = c .before .before .before .loop in
-    let t = room (l .inv) (c .before .before .loop-test .taken) (c .before .before .before .before .before .before .pre .0) in
+    let t = room (l .inv) (c .before .before .loop-test .taken) (c .before .before .before .before .before .before .before .pre .0) in
     omega arith
 
 add-i : tie.Need-add-i Inv-loop μ-loop
-add-i c = omega (arith, c .before .before .loop-test .taken, c .before .before .before .before .before .before .pre .0)
+add-i c = omega (arith, c .before .before .loop-test .taken, c .before .before .before .before .before .before .before .pre .0)
 
 loop-less : tie.Need-loop-less Inv-loop μ-loop
 loop-less c = omega (arith, c .before .before .loop-test .taken)
@@ -131,11 +144,13 @@ loop-again c =
 returns : tie.Need-returns Inv-loop μ-loop
 unfolding sideOf
 returns c =
-    let start = c .before .before .before in
-    let f = ends (c .before .loop .inv) (c .loop-test .left) (valid-below _ _ (start .before .pre .1)) in
-    (f .row-is, f .column-is, c .before .before .power-of-two .ensures ∙ ap (λ k. 2 ^ k) (start .height .ensures))
+    let told = c .before .before .before in
+    let found = told .before in
+    let start = found .before in
+    let f = ends (c .before .loop .inv) (c .loop-test .left) (valid-below _ _ (start .pre .1)) in
+    (f .row-is, f .column-is, told .power-of-two .ensures ∙ ap (λ k. 2 ^ k) (found .at-end .ensures .0 ∙ zeros-height _ _ (start .pre .1)))
 
 pub block-spec : {M : Type 1} → statement M
 block-spec =
     tie.close
-    (tie.spec Inv-loop μ-loop height-requires power-of-two-requires loop-holds southward-requires add-row eastward-requires add-column mul-side add-i loop-less loop-again returns)
+    (tie.spec Inv-loop μ-loop at-end-requires power-of-two-requires div-rest loop-holds southward-requires add-row eastward-requires add-column mul-side add-i loop-less loop-again returns)
