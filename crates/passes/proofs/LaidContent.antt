@@ -7,6 +7,7 @@ use mathlib.Core.List.{List, [], _∷_}
 use native.Mathlib.Omega.{arith}
 use lib.ListN.{length, getD, take, drop}
 use lib.Seq.{sets, drop-drop}
+use Rattle.slices.proofs.Parts.{drop-take}
 use Rattle.keys.proofs.Cases.{decide}
 use Rattle.definitions.specs.Picture.{Picture, oneFeature}
 use Rattle.definitions.specs.Bits.{featureOf}
@@ -23,7 +24,6 @@ use Rattle.step.specs.declared.meeting.Meeting.{Meeting}
 use Rattle.step.specs.declared.meeting.Meeting.the-variants.{Apart, Leaf, Content, Cut}
 use Rattle.step.proofs.Meetings.{met-content}
 use Rattle.passes.specs.Passes.{knownOf, FittingBefore, WrittenBefore, ContentFits, Layable, LeafLaid}
-use Rattle.passes.proofs.ShownBlocks.{drop-take}
 use Rattle.passes.proofs.Known.{content-count, content-first, known-tallied, leaf-bits, leaf-records}
 use Rattle.passes.proofs.LeafWritten.{before-one, single}
 

@@ -7,8 +7,9 @@ use mathlib.Core.List.{List, [], _∷_, _++_, append-assoc}
 use native.Mathlib.Nat.{add-zero, pow-suc}
 use native.Mathlib.Omega.{arith}
 use lib.ListN.{length, getD, take, drop, length-append, length-drop}
-use lib.Seq.{drop-drop, drop-at, getD-drop, take-nil}
+use lib.Seq.{drop-drop, drop-at, getD-drop}
 use Rattle.keys.specs.Key.{childKey}
+use Rattle.slices.proofs.Parts.{drop-take}
 use Rattle.definitions.specs.Picture.{Picture, oneFeature}
 use Rattle.definitions.specs.Bits.{bitsOf}
 use Rattle.definitions.specs.List.{Record, recordOf, listOf}
@@ -20,13 +21,6 @@ use Rattle.laws.proofs.ListOf.{list-node, list-first, list-ascends}
 use Rattle.list.specs.Check.{oneSlot}
 use Rattle.list.proofs.OneSlot.{slot-feature}
 use Rattle.passes.specs.Passes.{Showing, ShowingBlock, Shown}
-
--- from a place on, of the first n
-pub drop-take {ℓ} : {A : Type ℓ} (i n : ℕ) (l : List A) → drop i (take n l) ≡ take (n - i) (drop i l)
-drop-take zero n l = let same : n ≡ n - 0 = omega arith in ap (λ k. take k l) same
-drop-take (suc i) zero l = let none : 0 ≡ 0 - suc i = omega arith in ap (λ k. take k (drop (suc i) l)) none
-drop-take (suc i) (suc n) [] = sym (take-nil (suc n - suc i))
-drop-take (suc i) (suc n) (x ∷ l) = let same : n - i ≡ suc n - suc i = omega arith in drop-take i n l ∙ ap (λ k. take k (drop i l)) same
 
 pub drop-records : (ks bs : List ℕ) (at n : ℕ) → drop at (recordsOf ks bs n) ≡ paired (take (n - at) (drop at ks)) (take (n - at) (drop at bs))
 drop-records ks bs at n = drop-paired at (take n ks) (take n bs) ∙ ap₂ paired (drop-take at n ks) (drop-take at n bs)

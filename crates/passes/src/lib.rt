@@ -1,5 +1,5 @@
-// A list changed by a step, as one change (document 02, item 10): count what the list becomes, let it shrink where blocks become one leaf, and let every leaf
-// grow to what the step makes of it. No stage needs more room than the list before or the list after.
+// A list changed by a step, as one change (document 02, item 10): let it shrink where blocks become one leaf, and let every leaf grow to what the step makes of
+// it. What it becomes is counted before where there might not be room for it. No stage needs more room than the list before or the list after.
 mod block_end;
 pub mod change;
 pub mod grow;

@@ -1,19 +1,13 @@
 -- One slice in which the tail was moved and new values were written before it: it begins with the exchanged values. Rests on the laws of slices.
-use Prim.Native.Nat.{ℕ, zero, suc, _+_, _-_, _≤_}
+use Prim.Native.Nat.{ℕ, _+_, _-_, _≤_}
 use mathlib.Core.Path.{_≡_, sym, _∙_, ap, ap₂}
-use mathlib.Core.List.{List, [], _∷_, _++_, append-assoc}
+use mathlib.Core.List.{List, _++_, append-assoc}
 use native.Mathlib.Omega.{arith}
 use lib.ListN.{length, take, drop, length-append, length-drop}
-use lib.Seq.{sets, take-nil, take-take, length-take-le}
+use lib.Seq.{sets, take-take, length-take-le}
 use Rattle.definitions.specs.Buffer.{over}
+use Rattle.slices.proofs.Parts.{drop-take}
 use Rattle.slices.proofs.Sets.{sets-join-back, sets-parts}
-
--- so many values dropped off the first n
-drop-take : (i n : ℕ) (l : List ℕ) → drop i (take n l) ≡ take (n - i) (drop i l)
-drop-take zero n l = let same : n ≡ n - 0 = omega arith in ap (λ k. take k l) same
-drop-take (suc i) zero l = let none : 0 ≡ 0 - suc i = omega arith in ap (λ k. take k (drop (suc i) l)) none
-drop-take (suc i) (suc n) [] = sym (take-nil (suc n - suc i))
-drop-take (suc i) (suc n) (x ∷ l) = let same : n - i ≡ suc n - suc i = omega arith in drop-take i n l ∙ ap (λ k. take k (drop i l)) same
 
 -- the values new stand where some of the first n were, and the others of those n after them
 abbrev pub traded : List ℕ → ℕ → ℕ → ℕ → List ℕ → List ℕ
