@@ -1,5 +1,5 @@
 -- A batch over the first questions, question by question: one more question is one more step, and all questions are the whole run; what it stands on is
--- kept, with one question less to come. Rests on nothing.
+-- kept, with one question less to come. Rests on keys' Cases and laws' OneByOne.
 use Prim.Native.Nat.{ℕ, zero, suc, _+_, _≤_, _<_}
 use mathlib.Core.Path.{_≡_, refl, sym, ap, subst, _∙_}
 use mathlib.Core.List.{List, [], _∷_}

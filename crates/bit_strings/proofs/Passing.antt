@@ -1,5 +1,5 @@
 -- Reading block by block: where the code is stuck the pair is refused, where it passes a block the rest decides, and past the last block what is left
--- over does. Rests on NextBit and on the keys' laws of zeros.
+-- over does. Rests on the keys' laws of zeros.
 use Prim.Native.Nat.{ℕ, zero, suc, _+_, _/_, _^_, _≤_, _<_}
 use mathlib.Core.Path.{_≡_, refl, sym, ap, _∙_}
 use mathlib.Core.Bool.{Bool, true, false}

@@ -1,5 +1,5 @@
 -- The answers of writing bit strings, one for each way out of the code: its result and what it leaves in the two byte slices. Rests on the laws of
--- tables, Packing and Shape.
+-- tables, Bitwise and Shape.
 use Prim.Native.Nat.{ℕ, _+_, _-_, _*_, _/_, _≤_}
 use mathlib.Core.Path.{_≡_, refl, sym, ap, ap₂, _∙_}
 use mathlib.Core.Bool.{Bool, true, false, cond, not, _||_}

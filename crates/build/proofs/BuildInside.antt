@@ -1,4 +1,4 @@
--- A block of a raster: its quadrants lie in the raster too, and the place of a pixel is a place of the raster. Rests on nothing.
+-- A block of a raster: its quadrants lie in the raster too, and the place of a pixel is a place of the raster. Rests on the definitions alone.
 use Prim.Native.Nat.{ℕ, zero, suc, _+_, _-_, _*_, _^_, _≤_, _<_}
 use mathlib.Core.Path.{_≡_, refl, ap, _∙_, sym}
 use mathlib.Core.List.{List}

@@ -1,5 +1,5 @@
 -- Refusals of build: the table of its tests, what it answers and leaves in each case, and what holds once the first three are passed.
--- Rests on nothing.
+-- Rests on the definitions alone.
 use Prim.Native.Nat.{ℕ, _*_, _^_, _≤_, _<_}
 use mathlib.Core.Path.{_≡_, refl, sym, _∙_, ap}
 use mathlib.Core.Bool.{Bool, true, false, cond, not}

@@ -1,4 +1,4 @@
--- Refusals 2 and 3, as the code tests them: what the scan of the pixels has found so far, and what an accepted raster is like. Rests on nothing.
+-- Refusals 2 and 3, as the code tests them: what the scan of the pixels has found so far, and what an accepted raster is like. Rests on keys' Cases.
 use Prim.Native.Nat.{ℕ, zero, suc, _+_, _≤_, _<_}
 use mathlib.Core.Path.{_≡_, refl, sym, _∙_, ap}
 use mathlib.Core.Bool.{Bool, true, false, _||_}

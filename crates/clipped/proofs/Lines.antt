@@ -1,4 +1,5 @@
--- Signed lines by cases of their sign, and what a local of the code, which keeps the bits, says of the line. Assumes nothing.
+-- Signed lines by cases of their sign, and what a local of the code, which keeps the bits, says of the line. Rests on the definition of a clipped
+-- window and on laws' Overlap.
 use Prim.Native.Nat.{ℕ, suc, _≤_, _^_}
 use mathlib.Core.Path.{_≡_, refl, sym, ap, _∙_}
 use mathlib.Core.Bool.{true, false}

@@ -1,5 +1,5 @@
 -- The refusals of combining: the rows before 9 by the tests of the code, what is shown once they are passed, and what the call answers and leaves in
--- each case. Rests on definitions' laws of tables, on the check of a list, and on Table.
+-- each case. Rests on laws' First, on the check of a list, and on build's RasterTests.
 use Prim.Native.Nat.{ℕ, _*_}
 use mathlib.Core.Path.{_≡_, refl, sym, ap, _∙_}
 use mathlib.Core.Bool.{Bool, true, false, cond, not, _||_}

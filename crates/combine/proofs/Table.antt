@@ -1,4 +1,4 @@
--- The table of classes: refusal 25 by the tests of the code, and that two classes of a block have a place in the table. Rests on nothing.
+-- The table of classes: refusal 25 by the tests of the code, and that two classes of a block have a place in the table. Rests on laws' Within and Features.
 use Prim.Native.Nat.{ℕ, _+_, _*_, _<_}
 use mathlib.Core.Path.{_≡_}
 use mathlib.Core.Bool.{true}

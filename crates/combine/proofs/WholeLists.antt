@@ -1,5 +1,5 @@
 -- Both whole lists: they stand at the root, the combined list has fewer records than the two together, and the records below the root with the
--- root's own are the list. Rests on BothLists, on definitions' Combined and on build's BuildCall.
+-- root's own are the list. Rests on laws' Combined, list's Shown and build's BuildCall.
 use Prim.Native.Nat.{ℕ, _+_, _^_, _≤_, _<_}
 use mathlib.Core.Path.{_≡_, refl, sym, ap, _∙_}
 use mathlib.Core.Bool.{cond}

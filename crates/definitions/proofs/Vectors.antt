@@ -1,5 +1,5 @@
 -- The vocabulary of the tables of vectors: a row, keys by their digits, bitstrings by their slots, and Map A of document 01 as a raster and as a
--- list in two slices. Assumes nothing.
+-- list in two slices. Rests on the shapes of records and answers, and on no law.
 use Prim.Native.Nat.{ℕ, _+_, _-_, _*_}
 use mathlib.Core.Path.{_≡_}
 use mathlib.Core.List.{List, [], _∷_, _++_, map}

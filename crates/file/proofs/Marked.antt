@@ -1,4 +1,4 @@
--- The mark is tested byte by byte. Assumes nothing.
+-- The mark is tested byte by byte. Rests on the definition of a file's mark.
 use Prim.Native.Nat.{ℕ, _≤_}
 use mathlib.Core.Path.{_≡_, refl, sym, _∙_}
 use mathlib.Core.Bool.{true, not, _&&_, and-true}

@@ -1,4 +1,4 @@
--- Powers of five and of two: none is 0, and they stay small at the levels that a map has. Assumes nothing.
+-- Powers of five and of two: none is 0, and they stay small at the levels that a map has. Rests on Key, for the height of a block.
 use Prim.Native.Nat.{ℕ, _+_, _-_, _*_, _^_, _≤_, _<_}
 use mathlib.Core.Path.{_≡_, sym, ap, _∙_}
 use native.Mathlib.Omega.{arith}

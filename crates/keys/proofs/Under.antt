@@ -1,4 +1,4 @@
--- Blocks at or under others: under is transitive, and a quadrant lies under its parent. Rests on nothing.
+-- Blocks at or under others: under is transitive, and a quadrant lies under its parent. Rests on the definitions alone.
 use Prim.Native.Nat.{ℕ, suc}
 use Rattle.keys.specs.Under.{Under, here, nw, ne, sw, se, Quadrant, is-nw, is-ne, is-sw, is-se}
 

@@ -1,5 +1,5 @@
 -- Records whose keys ascend strictly between two bounds: the type, with laws to widen the bounds, to join two such lists and to find where the
--- key of a record lies. Rests on nothing.
+-- key of a record lies. Rests on the definitions alone.
 use Prim.Native.Nat.{ℕ, suc, _+_, _*_, _≤_, _<_}
 use mathlib.Core.Path.{_≡_, sym, _∙_, ap}
 use mathlib.Core.List.{List, [], _∷_, _++_, List·Memᴰ, List·Memᴰ·head, List·Memᴰ·tail}

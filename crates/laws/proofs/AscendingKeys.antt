@@ -1,4 +1,4 @@
--- Strictly ascending keys between two bounds: each stands once, and a list of them is settled by its members. Rests on nothing.
+-- Strictly ascending keys between two bounds: each stands once, and a list of them is settled by its members. Rests on keys' Cases.
 use Prim.Native.Nat.{ℕ, zero, suc, _≤_, _<_}
 use mathlib.Core.Path.{_≡_, refl, sym, ap₂}
 use mathlib.Core.Logic.{⊎-elim}

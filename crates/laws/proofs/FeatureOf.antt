@@ -1,4 +1,4 @@
--- The feature of a leaf's bitstring: of 2 ^ f it is f, so different features have different bitstrings. Rests on nothing.
+-- The feature of a leaf's bitstring: of 2 ^ f it is f, so different features have different bitstrings. Rests on the definitions alone.
 use Prim.Native.Nat.{ℕ, zero, suc, _/_, _%_, _^_, _<_}
 use mathlib.Core.Path.{_≡_, refl, sym, _∙_, ap}
 use mathlib.Core.Bool.{false}

@@ -1,4 +1,4 @@
--- Put at a pixel: inside the block the new feature, outside it the old one. Rests on nothing.
+-- Put at a pixel: inside the block the new feature, outside it the old one. Rests on the definitions alone.
 use Prim.Native.Nat.{ℕ}
 use mathlib.Core.Path.{_≡_}
 use mathlib.Core.Bool.{true, false}

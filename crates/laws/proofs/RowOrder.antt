@@ -1,5 +1,5 @@
 -- Rows by office, id and key: that one comes before another, as facts on their numbers; that in an ascending table each comes before every later one; and so
--- what a row more or less leaves of the order. Rests on nothing.
+-- what a row more or less leaves of the order. Rests on FindingOrder and keys' Cases.
 use Prim.Native.Nat.{_≤_}
 use mathlib.Core.Path.{_≡_, refl, sym, _∙_}
 use mathlib.Core.Logic.{⊎-elim}

@@ -1,4 +1,4 @@
--- The comparison of two lists of numbers is equality, and refusal 18 is given exactly where the summary is not the picture's. Rests on nothing.
+-- The comparison of two lists of numbers is equality, and refusal 18 is given exactly where the summary is not the picture's. Rests on keys' Cases.
 use Prim.Native.Nat.{ℕ}
 use mathlib.Core.Path.{_≡_, refl, sym, _∙_, ap, ap₂}
 use mathlib.Core.Bool.{true, false, not, true≢false}

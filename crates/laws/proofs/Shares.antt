@@ -1,4 +1,4 @@
--- The two offices' shares of a table: every row with a known office is in one of them, so together they are as many as the rows. Rests on nothing.
+-- The two offices' shares of a table: every row with a known office is in one of them, so together they are as many as the rows. Rests on keys' Cases.
 use Prim.Native.Nat.{ℕ, suc, _+_, _≤_, _<_}
 use mathlib.Core.Path.{_≡_, refl, ap}
 use mathlib.Core.Bool.{true, not, _&&_}

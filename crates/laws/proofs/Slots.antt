@@ -1,4 +1,4 @@
--- Slots of bitstrings: those of a union and of a power of two; numbers with the same slots are equal. Rests on nothing.
+-- Slots of bitstrings: those of a union and of a power of two; numbers with the same slots are equal. Rests on keys' Cases.
 use Prim.Native.Nat.{ℕ, zero, suc, _+_, _*_, _/_, _%_, _^_, max, _≤_, _<_}
 use mathlib.Core.Path.{_≡_, refl, sym, _∙_, ap, ap₂}
 use mathlib.Core.Bool.{Bool, true, false, _||_, false≢true}

@@ -1,5 +1,5 @@
 -- The summary's places of one feature add up to the feature's pixels: of the whole raster over all blocks, and of a block of the map over the
--- summary's blocks that lie under it. Rests on SummaryOf, CountsApart and AreaOf.
+-- summary's blocks that lie under it. Rests on SummaryOf, CountsApart and AreasAddUp.
 use Prim.Native.Nat.{ℕ, zero, suc, _+_, _*_, _^_, _<_}
 use mathlib.Core.Path.{_≡_, refl, sym, _∙_, ap, ap₂}
 use mathlib.Core.Bool.{true}

@@ -1,5 +1,5 @@
 -- The pixels of a block: those whose row and column lie in its square. A pixel of a block lies in one of its quadrants, and what holds at
--- every pixel of the four quadrants holds at every pixel of the block. Rests on the keys' `InSquare`.
+-- every pixel of the four quadrants holds at every pixel of the block. Rests on keys' Pixel.
 use Prim.Native.Nat.{ℕ, zero, suc, _+_, _^_, _<_}
 use mathlib.Core.Path.{_≡_}
 use native.Mathlib.Nat.{pow-suc}

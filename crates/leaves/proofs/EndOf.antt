@@ -1,4 +1,4 @@
--- Where the leaves of a block end: the equations of endOf, by whether a leaf is there and by its key. Rests on nothing.
+-- Where the leaves of a block end: the equations of endOf, by whether a leaf is there and by its key. Rests on keys' Cases.
 use Prim.Native.Nat.{ℕ, zero, suc, _+_, _≤_, _<_}
 use mathlib.Core.Path.{_≡_}
 use mathlib.Core.List.{List}

@@ -1,5 +1,5 @@
 -- The answers of reading leaves: whether so many leaves are a delivery, the rows of its table of refusals, and what is given and left. Rests on
--- Delivery.
+-- laws' First and ListOf.
 use Prim.Native.Nat.{ℕ, _≤_, _<_}
 use mathlib.Core.Path.{_≡_, sym, _∙_, ap}
 use mathlib.Core.Bool.{true, false, cond}

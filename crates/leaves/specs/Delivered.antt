@@ -1,5 +1,5 @@
 -- What the passes over a delivery ask and answer, for the contracts of src/ alone: where the leaves of a block end, how a picture parts into them,
--- and what is counted and written of a block. Rests on Leaves and on the frame of build.
+-- and what is counted and written of a block. Rests on the frame of build.
 use Prim.Native.Nat.{ℕ, zero, suc, _+_, _^_, _≤_, _<_}
 use mathlib.Core.Path.{_≡_}
 use mathlib.Core.Bool.{true, cond}

@@ -1,4 +1,4 @@
--- The model of the check, step by step: what it says of a child that passes, and that a child that passes leaves the others. Rests on nothing.
+-- The model of the check, step by step: what it says of a child that passes, and that a child that passes leaves the others. Rests on keys' Cases and laws' Slots.
 use Prim.Native.Nat.{ℕ, zero, suc, _+_, _-_, _*_, _^_}
 use mathlib.Core.Path.{_≡_, refl, sym, _∙_, ap}
 use mathlib.Core.Bool.{true, false, cond}

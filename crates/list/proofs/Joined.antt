@@ -1,4 +1,4 @@
--- Four pictures, one for each quadrant of a block, joined into one. Its list is that of a node where it has several features. Rests on nothing.
+-- Four pictures, one for each quadrant of a block, joined into one. Its list is that of a node where it has several features. Rests on laws' Pixels, Slots, BitsOf and ListOf.
 use Prim.Native.Nat.{ℕ, suc, _+_, _^_}
 use mathlib.Core.Path.{_≡_, _∙_}
 use mathlib.Core.Bool.{false, cond}

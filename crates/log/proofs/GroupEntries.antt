@@ -1,5 +1,5 @@
 -- The entries of a group by their places: between where the group starts and where its closing records stand there are so many entries as its number says.
--- Rests on Walk and Group.
+-- Rests on Last, Places and GroupChecked.
 use Prim.Native.Nat.{ℕ, zero, suc, _-_, _≤_}
 use mathlib.Core.Path.{_≡_, refl, sym, ap, ap₂, _∙_, subst}
 use mathlib.Core.Bool.{Bool, true}

@@ -1,5 +1,5 @@
 -- The last step of a log in two slices: what stands before it are the first records, and what a log that ends in a step says of the step that code finds.
--- Rests on Places and Group.
+-- Rests on Last and GroupChecked.
 use Prim.Native.Nat.{ℕ, zero, suc, _-_, _≤_, _<_}
 use mathlib.Core.Path.{_≡_, sym, ap, ap₂, _∙_}
 use mathlib.Core.Bool.{Bool, true, false, not}

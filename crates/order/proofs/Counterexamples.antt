@@ -1,5 +1,5 @@
 -- Each hypothesis is needed, by computation: paints of one block, paints of which one block contains the other, and an order that is refused for want
--- of room, in the list or in the log, leave other lists. Rests on nothing.
+-- of room, in the list or in the log, leave other lists. Rests on the definitions alone.
 use Prim.Native.Nat.{ℕ}
 use mathlib.Core.Path.{_≡_, refl, ap}
 use mathlib.Core.Bool.{Bool, true, false}

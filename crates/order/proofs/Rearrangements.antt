@@ -1,4 +1,4 @@
--- A rearrangement is what one thinks: each paint as often in both runs exactly when swaps of neighbours lead from one to the other. Rests on nothing.
+-- A rearrangement is what one thinks: each paint as often in both runs exactly when swaps of neighbours lead from one to the other. Rests on keys' Cases.
 use Prim.Native.Nat.{_+_, _≤_}
 use mathlib.Core.Path.{_≡_, refl, sym, ap, _∙_}
 use mathlib.Core.Bool.{true, cond}

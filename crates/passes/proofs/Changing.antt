@@ -1,4 +1,4 @@
--- The passes one after the other, on the slices. Rests on ShrinkSteps, GrowQuarters and Assembled.
+-- The passes one after the other, on the slices. Rests on Waiting, Assembled and step's Pruned.
 use Prim.Native.Nat.{ℕ, _+_, _-_, _*_, _/_, _^_, _≤_}
 use mathlib.Core.Path.{_≡_, sym, _∙_, ap, ap₂}
 use mathlib.Core.Bool.{true}

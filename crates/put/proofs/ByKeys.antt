@@ -1,4 +1,4 @@
--- Records ascend exactly when their keys do; and the keys and the bits of a list in which records were exchanged. Rests on nothing.
+-- Records ascend exactly when their keys do; and the keys and the bits of a list in which records were exchanged. Rests on laws' Ascending and AscendingKeys.
 use Prim.Native.Nat.{ℕ, zero, suc, _+_}
 use mathlib.Core.Path.{_≡_, refl, _∙_, ap, ap₂}
 use mathlib.Core.List.{List, [], _∷_, _++_, map, map-append}

@@ -1,4 +1,4 @@
--- What renewing bits leaves as it is: the keys, and so the number of records; and what it does to the bits. Rests on nothing.
+-- What renewing bits leaves as it is: the keys, and so the number of records; and what it does to the bits. Rests on the definitions alone.
 use Prim.Native.Nat.{ℕ, zero, suc}
 use mathlib.Core.Path.{_≡_, refl, _∙_}
 use mathlib.Core.List.{List}

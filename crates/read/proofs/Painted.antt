@@ -1,5 +1,5 @@
 -- A raster painted at the places that pass a test: what stands at a place, painting twice, and equal tests and values give equal rasters. One
--- store paints one place. Rests on nothing.
+-- store paints one place. Rests on keys' Cases.
 use Prim.Native.Nat.{ℕ, zero, suc, _+_, _≤_, _<_}
 use mathlib.Core.Path.{_≡_, refl, sym, _∙_, ap, ap₂}
 use mathlib.Core.Bool.{Bool, true, false, cond, _||_}

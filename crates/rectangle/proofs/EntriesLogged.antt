@@ -1,4 +1,4 @@
--- Entries written one behind the other into the log's two slices, and those of a block's quadrants. Rests on Relogging and LargestBlocks.
+-- Entries written one behind the other into the log's two slices, and those of a block's quadrants. Rests on WindowEntries and edit's Relogging.
 use Prim.Native.Nat.{ℕ, _+_, _-_, _≤_, _<_}
 use mathlib.Core.Path.{_≡_, sym, _∙_, ap}
 use mathlib.Core.Bool.{false}

@@ -1,4 +1,4 @@
--- What the entries of a window's largest blocks need, none, one block's, and those of the quadrants together. Rests on LargestBlocks and Gained.
+-- What the entries of a window's largest blocks need, none, one block's, and those of the quadrants together. Rests on WindowEntries and edit's ContentLength.
 use Prim.Native.Nat.{ℕ, _+_, _≤_, _<_}
 use mathlib.Core.Path.{_≡_, sym, _∙_, ap}
 use mathlib.Core.Bool.{true, false}

@@ -1,5 +1,5 @@
 -- What the functions of redo ask and leave: a call that the rows before the last have passed, the records to redo, the next entry and its plan where it is a
--- single one, and the call's promise. Only contracts need these. Rests on Redo of the definitions.
+-- single one, and the call's promise. Only contracts need these. Rests on the definitions of a log and on log's Parts.
 use Prim.Native.Nat.{ℕ, _≤_, _<_}
 use mathlib.Core.Path.{_≡_}
 use mathlib.Core.List.{List, [], _∷_}

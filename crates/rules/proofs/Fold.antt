@@ -1,4 +1,4 @@
--- A run over the rules, rule by rule; and over a table a run over the first rules: one more rule is one more step, and all rules are the whole run. Rests on nothing.
+-- A run over the rules, rule by rule; and over a table a run over the first rules: one more rule is one more step, and all rules are the whole run. Rests on the definitions alone.
 use Prim.Native.Nat.{ℕ, zero, suc, _+_, _<_}
 use mathlib.Core.Path.{_≡_, refl, sym, ap, _∙_}
 use mathlib.Core.List.{List, [], _∷_}

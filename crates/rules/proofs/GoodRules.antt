@@ -1,4 +1,4 @@
--- Rules whose ids ascend from a least id on, each good: rule by rule what refusal 13 says of all. Rests on nothing.
+-- Rules whose ids ascend from a least id on, each good: rule by rule what refusal 13 says of all. Rests on keys' Cases.
 use Prim.Native.Nat.{ℕ, _+_, _≤_}
 use mathlib.Core.Path.{_≡_, refl, sym, ap, _∙_}
 use mathlib.Core.Bool.{Bool, true, false, not, _&&_}

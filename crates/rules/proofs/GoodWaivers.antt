@@ -1,4 +1,4 @@
--- The test of the waivers by themselves, waiver by waiver: the order to the next, and the key. Rests on nothing.
+-- The test of the waivers by themselves, waiver by waiver: the order to the next, and the key. Rests on keys' Cases.
 use Prim.Native.Nat.{ℕ}
 use mathlib.Core.Path.{_≡_, refl, ap₂}
 use mathlib.Core.Bool.{Bool, true, _&&_}

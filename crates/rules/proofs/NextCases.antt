@@ -1,4 +1,4 @@
--- Which run comes after a run, case by case, and what a run answers. Rests on nothing.
+-- Which run comes after a run, case by case, and what a run answers. Rests on the definitions alone.
 use Prim.Native.Nat.{_≤_, _<_}
 use mathlib.Core.Path.{_≡_}
 use mathlib.Core.Bool.{Bool, true, false, cond, _||_}

@@ -1,4 +1,4 @@
--- Good settings: at most ten levels and at most sixteen slots. Rests on nothing.
+-- Good settings: at most ten levels and at most sixteen slots. Rests on the definitions alone.
 use Prim.Native.Nat.{ℕ, _≤_}
 use mathlib.Core.Path.{_≡_, refl}
 use mathlib.Core.Bool.{Bool, true, false, _||_}

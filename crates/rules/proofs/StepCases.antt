@@ -1,5 +1,5 @@
 -- What one rule does to a run, case by case: the run is refused already or passes over all rules, the rule is bad, a waiver is wrong, or the rule's findings
--- are gathered or bounded. Rests on nothing.
+-- are gathered or bounded. Rests on the definitions alone.
 use Prim.Native.Nat.{ℕ, _+_}
 use mathlib.Core.Path.{_≡_, _∙_}
 use mathlib.Core.Bool.{Bool, true, false, cond, not, _&&_, _||_}

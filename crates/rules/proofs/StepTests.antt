@@ -1,4 +1,4 @@
--- Whether a rule may come, and where its waivers end, by the tests that the code makes in turn. Rests on nothing.
+-- Whether a rule may come, and where its waivers end, by the tests that the code makes in turn. Rests on keys' Cases.
 use Prim.Native.Nat.{ℕ, _+_, _≤_, _<_}
 use mathlib.Core.Path.{_≡_, refl, sym, subst}
 use mathlib.Core.Bool.{Bool, true, false, _&&_}

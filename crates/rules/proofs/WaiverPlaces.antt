@@ -1,4 +1,4 @@
--- The waivers of two slices, place by place. Rests on nothing.
+-- The waivers of two slices, place by place. Rests on the definitions alone.
 use Prim.Native.Nat.{ℕ, zero, suc, _<_, min}
 use mathlib.Core.Path.{_≡_, refl}
 use mathlib.Core.List.{List, [], _∷_}

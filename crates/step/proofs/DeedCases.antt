@@ -1,4 +1,4 @@
--- A deed by its kind: what is known of it, what it makes of a block, and what is left of it before a key. Rests on ShortRuns.
+-- A deed by its kind: what is known of it, what it makes of a block, and what is left of it before a key. Rests on SameBefore.
 use Prim.Native.Nat.{ℕ}
 use mathlib.Core.Path.{_≡_, sym, subst}
 use mathlib.Core.List.{List}

@@ -1,4 +1,4 @@
--- The last count entries of a log as a run: where they start, and how many they are. Rests on Chains.
+-- The last count entries of a log as a run: where they start, and how many they are. Rests on the definitions alone.
 use Prim.Native.Nat.{ℕ}
 use mathlib.Core.Path.{_≡_}
 use mathlib.Core.List.{List}

@@ -1,4 +1,4 @@
--- A step does before any key what it does itself. Rests on nothing.
+-- A step does before any key what it does itself. Rests on the definitions alone.
 use Prim.Native.Nat.{ℕ}
 use mathlib.Core.Path.{refl}
 use Rattle.step.specs.Step.{Step}

@@ -1,4 +1,4 @@
--- A group in force that is taken back: what its run and the list ask for, and the call's answers. Rests on Applying, TakingBackTable and TakingBackAnswers.
+-- A group in force that is taken back: what its run and the list ask for, and the call's answers. Rests on TakingBackTable and TakingBackAnswers.
 use Prim.Native.Nat.{ℕ, _≤_}
 use mathlib.Core.Path.{_≡_, refl, sym, _∙_}
 use mathlib.Core.Bool.{true}

@@ -1,5 +1,5 @@
 -- The largest blocks of a window: what select gives of a blank picture. A block at which the walk can stand and that lies within the window is one
--- of them, and each of them is such a block. Rests on Once and Lies.
+-- of them, and each of them is such a block. Rests on Lies and laws' SelectMeans.
 use Prim.Native.Nat.{ℕ, _+_, _-_, _^_, _<_}
 use mathlib.Core.Path.{_≡_, refl}
 use mathlib.Core.Bool.{true}

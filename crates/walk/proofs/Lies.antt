@@ -1,4 +1,4 @@
--- How a block lies to a window, in numbers: the tests isWithin and isApart of a spot, and what they say of the window's pixels. Rests on nothing.
+-- How a block lies to a window, in numbers: the tests isWithin and isApart of a spot, and what they say of the window's pixels. Rests on keys' Cases, Powers and Interval and laws' WindowScan.
 use Prim.Native.Nat.{ℕ, _+_, _-_, _^_, _≤_, _<_}
 use mathlib.Core.Path.{_≡_, sym, _∙_}
 use mathlib.Core.Bool.{true, false, _||_, _&&_, true≢false}

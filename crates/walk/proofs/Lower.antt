@@ -1,5 +1,5 @@
 -- The keys of a list that are below a bound: of two lists, of keys that are all below or all at or past it, and of two bounds with no key between
--- them. Rests on nothing.
+-- them. Rests on keys' Cases and laws' AscendingKeys.
 use Prim.Native.Nat.{ℕ, _+_, _≤_, _<_}
 use mathlib.Core.Path.{_≡_, refl, sym, _∙_, ap, ap₂}
 use mathlib.Core.Bool.{cond}

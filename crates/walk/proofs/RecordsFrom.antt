@@ -1,4 +1,4 @@
--- The records from a place on: the one at the place and those after it, and none past the last. Rests on nothing.
+-- The records from a place on: the one at the place and those after it, and none past the last. Rests on the definitions alone.
 use Prim.Native.Nat.{ℕ, zero, suc, _≤_, _<_}
 use mathlib.Core.Path.{_≡_, refl}
 use mathlib.Core.List.{List, [], _∷_}

@@ -1,4 +1,4 @@
--- `waivers::cover` meets its contract. Rests on Step.
+-- `waivers::cover` meets its contract. Rests on OneWaiver.
 use mathlib.Core.Path.{_≡_, ap, _∙_}
 use native.Mathlib.Omega.{arith}
 use borrow.Author.Needs.{needs}

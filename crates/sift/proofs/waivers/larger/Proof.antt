@@ -1,4 +1,4 @@
--- `waivers::larger` meets its contract. Assumes nothing.
+-- `waivers::larger` meets its contract. Rests on OneWaiver.
 use Rattle.sift.proofs.OneWaiver.{further-yes, further-no}
 use Rattle.sift.proofs.waivers.larger.Statement.{statement}
 use Rattle.sift.proofs.waivers.larger.Tie as tie
