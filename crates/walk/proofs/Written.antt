@@ -1,5 +1,5 @@
 -- Writing keys one after the other, as far as a limit lets: one key, two runs, none with the limit 0, and all with a limit that reaches. Rests on
--- nothing.
+-- the definitions alone.
 use Prim.Native.Nat.{ℕ, suc, _+_, _≤_, _<_}
 use mathlib.Core.Path.{_≡_, refl, sym, _∙_, ap, ap₂}
 use mathlib.Core.Bool.{Bool, true, false, cond}
