@@ -511,8 +511,11 @@ static void blocks(void) {
     printf("\nblocks at m = %d\n", M);
     COMPARE("key at", 9, 1000, sink += hlq_key_at(M, (uint32_t)again, 1023 - (uint32_t)again % 1024, 9).count,
             sink += plain_key_at(M, (uint32_t)again, 1023 - (uint32_t)again % 1024, 9));
-    COMPARE("block of", 9, 1000, sink += hlq_block_of(M, 2441406 - 5 * (uint32_t)(again % 2)).row,
-            sink += plain_block_of(M, 2441406 - 5 * (uint32_t)(again % 2)).row);
+    /* the keys 1111111111 and 1111111112 in base 5, and 1110000000 and 1120000000 */
+    COMPARE("block of a pixel's key", 9, 1000, sink += hlq_block_of(M, 2441406 + (uint32_t)(again % 2)).row,
+            sink += plain_block_of(M, 2441406 + (uint32_t)(again % 2)).row);
+    COMPARE("block of a key of level 3", 9, 1000, sink += hlq_block_of(M, 2421875 + 78125 * (uint32_t)(again % 2)).row,
+            sink += plain_block_of(M, 2421875 + 78125 * (uint32_t)(again % 2)).row);
 }
 
 int main(void) {
