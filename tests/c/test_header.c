@@ -10,6 +10,7 @@
 static_assert(HLQ_INTERFACE == 13, "the interface's number");
 static_assert(HLQ_DEEPEST_M == 10 && HLQ_MOST_SLOTS == 32, "the limits of documents 01 and 02");
 static_assert(HLQ_LISTED == 1 && HLQ_INSIDE == 2, "the kinds");
+static_assert(HLQ_TABLE_PLACES == 512 && HLQ_OFFICE_ROWS == 256, "the table of two offices");
 static_assert(HLQ_GROUP_MARK == 255 && HLQ_GROUP_MARK >= HLQ_MOST_SLOTS, "the mark, which is no feature");
 static_assert(HLQ_ACCEPTED == 0 && HLQ_SETTINGS == 1 && HLQ_RASTER_LENGTH == 2 && HLQ_PIXEL == 3 && HLQ_LIST == 4 &&
                   HLQ_LOG == 5 && HLQ_WINDOW == 6 && HLQ_FEATURE == 7 && HLQ_KEY == 8 && HLQ_LIST_ROOM == 9 &&
