@@ -15,19 +15,7 @@ if [ "$kind" = native ] || [ "$(uname -m)" = x86_64 ]; then
     fi
 else
     root=$PWD/target/amd64
-    if [ ! -e "$root/done" ]; then
-        echo "unpacking libpng-dev, libnetpbm-dev and zlib1g-dev for amd64 below target/" >&2
-        rm -rf "$root"
-        mkdir -p "$root/lists/partial" "$root/cache/archives/partial"
-        : >"$root/status" # apt's own folders, so that nothing is changed for the machine
-        amd64="-o APT::Architecture=amd64 -o APT::Architectures=amd64 -o APT::Sandbox::User=root"
-        amd64="$amd64 -o Dir::State::lists=$root/lists -o Dir::State::status=$root/status -o Dir::Cache=$root/cache"
-        apt-get $amd64 -qq update >&2
-        (cd "$root" && apt-get $amd64 -qq download libnetpbm-dev libpng-dev zlib1g-dev >&2)
-        for package in "$root"/*.deb; do dpkg -x "$package" "$root"; done
-        rm -rf "$root"/lists "$root"/cache "$root"/*.deb
-        touch "$root/done"
-    fi
+    tools/unpack-amd64 target/amd64 alone libnetpbm-dev libpng-dev zlib1g-dev
     library_flags="-isystem $root/usr/include -L$root/usr/lib/x86_64-linux-gnu"
     # Debian's libm.a for cross compilers is a script that names files of an x86-64 machine: name its archives instead
     . tools/x86-64.sh
