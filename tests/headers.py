@@ -1,15 +1,18 @@
 #!/usr/bin/env python3
 """Every file of definitions, proofs and code opens with a comment, and what it says it rests on is what it imports.
 
-A name with a capital behind "Rests on" is a module that the file imports; "nothing" is said only where it imports
-nothing of the project. tests/headers.py looks at crates/; tests/headers.py --self-test shows that a false header is
-found."""
+A name with a capital behind "Rests on" is a module that the file imports, and one behind a crate's name, as in "laws'
+First and Records", is a module that it imports from that crate; "nothing" is said only where it imports nothing of the
+project. tests/headers.py looks at crates/; tests/headers.py --self-test shows that a false header is found."""
 import pathlib
 import re
 import sys
 
 ROOT = pathlib.Path(__file__).resolve().parent.parent / "crates"
+CRATES = {path.name for path in ROOT.iterdir()}
 NOT_MODULES = {"Rattle"}
+# a crate in the genitive, and the modules behind it up to the next word that is none
+OF_CRATE = re.compile(r"\b([a-z_]+)'s? ((?:[A-Z]\w*(?:, and |, | and )?)+)")
 
 
 def header(text, mark):
@@ -36,6 +39,11 @@ def faults(text, mark):
         for name in re.findall(r"\b[A-Z]\w+", rests):
             if name not in modules | NOT_MODULES:
                 found.append(f"it does not import {name}")
+    for crate, names in OF_CRATE.findall(told):
+        for name in re.findall(r"[A-Z]\w*", names):
+            # from its own crate or another: Rattle.laws.proofs.First, Rattle.laws.proofs.First
+            if crate in CRATES and not any(re.match(rf"Rattle.{crate}[.·].*\b{name}\b", path) for path in imports):
+                found.append(f"it does not import {name} from {crate}")
     return found
 
 
@@ -45,6 +53,12 @@ def self_test():
     assert faults("-- A law. Rests on nothing.\nuse Rattle.keys.specs.Key.{validKey}\n", "--")
     assert not faults("-- A law. Rests on nothing.\nuse Prim.Native.Nat.{ℕ}\n", "--")
     assert faults("use Prim.Native.Nat.{ℕ}\n", "--") and faults("mod block_end;\n", "//")
+    of_laws = "use Rattle.laws.proofs.First.{first-zero}\nuse Rattle.laws.proofs.Records.{paired}\n"
+    assert not faults("-- A law. Rests on laws' First and Records.\n" + of_laws, "--")
+    assert faults("-- A law. Rests on definitions' First.\n" + of_laws, "--")
+    assert faults("-- A law. Rests on laws' First and on\n-- definitions' Records.\n" + of_laws, "--")
+    assert faults("-- A law. Rests on laws' First,\n-- Buffer and Records.\n" + of_laws, "--")
+    assert not faults("-- Document 01's Map A. Rests on laws' First.\n" + of_laws, "--")
     print("a false header is found")
 
 

@@ -1,4 +1,4 @@
--- The area of a feature in a window is what the window's largest blocks have of it together. Rests on definitions' AreaOf and on window's Largest.
+-- The area of a feature in a window is what the window's largest blocks have of it together. Rests on laws' AreaOf and on walk's Largest.
 use Prim.Native.Nat.{ℕ, zero, suc, _+_, _^_}
 use mathlib.Core.Path.{_≡_, sym, _∙_, ap}
 use mathlib.Core.Bool.{true, false, cond, _&&_}

@@ -1,5 +1,5 @@
 -- What begins, runs over the questions and answers is document 02's batch: the answer and what the two slices hold afterwards. Rests on Fold and on
--- definitions' First and Buffer.
+-- laws' First and Buffer.
 use Prim.Native.Nat.{ℕ, zero, _+_, _≤_, min}
 use mathlib.Core.Path.{_≡_, refl, sym, ap, subst, _∙_}
 use mathlib.Core.List.{List, [], _∷_, map}

@@ -1,5 +1,5 @@
 -- A batch is as good as its questions asked alone: in an accepted batch the answer at a question's place is that of the clipped call on the same list.
--- Rests on definitions' OneByOne.
+-- Rests on laws' OneByOne.
 use Prim.Native.Nat.{ℕ, zero, suc, _≤_, _<_}
 use mathlib.Core.Path.{_≡_, refl, ap, _∙_}
 use mathlib.Core.List.{List, [], _∷_, map}

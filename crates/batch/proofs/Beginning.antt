@@ -1,4 +1,4 @@
--- How a batch begins, by the rows of its table, and what it answers, by its refusal. Rests on definitions' First and list's FirstRefusal.
+-- How a batch begins, by the rows of its table, and what it answers, by its refusal. Rests on laws' First and list's FirstRefusal.
 use Prim.Native.Nat.{ℕ, _≤_, _<_, min}
 use mathlib.Core.Path.{_≡_, refl, sym, ap, _∙_}
 use mathlib.Core.Bool.{cond}

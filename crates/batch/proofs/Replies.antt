@@ -1,5 +1,5 @@
 -- What one question is answered on an accepted list, by its window, what it asks and its feature. Rests on window's Tables and Answers, and on
--- definitions' OneByOne.
+-- laws' OneByOne.
 use Prim.Native.Nat.{ℕ, _≤_, _<_}
 use mathlib.Core.Path.{_≡_, refl, sym, ap, _∙_}
 use mathlib.Core.Bool.{true, false, not}

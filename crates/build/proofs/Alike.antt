@@ -1,5 +1,5 @@
 -- Blocks whose pixels are alike, by their places in the raster: a block has one feature where each pixel that lies some rows and columns further
--- than its first has that feature. Rests on the definitions' Features.
+-- than its first has that feature. Rests on laws' Features.
 use Prim.Native.Nat.{ℕ, zero, suc, _+_, _-_, _*_, _^_, _<_}
 use mathlib.Core.Path.{_≡_, refl, sym, ap, ap₂, _∙_}
 use mathlib.Core.Bool.{true, _&&_}

@@ -1,6 +1,6 @@
 -- The list after a content was put into a block: an accepted list of the changed picture, whose summary is to be counted anew in that block alone; and after a
 -- change all over, whose summary is to be counted anew in the root's block.
--- Rests on definitions' ReadBack and SummaryOf.
+-- Rests on laws' ReadBack and SummaryOf.
 use Prim.Native.Nat.{ℕ, _^_, _≤_, _<_}
 use mathlib.Core.Path.{_≡_, sym, _∙_, ap, ap₂}
 use mathlib.Core.Bool.{true, true≢false}

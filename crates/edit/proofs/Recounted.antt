@@ -1,5 +1,5 @@
 -- Counting anew after an edit: a block of the summary that the edited block does not touch keeps its counts, and the places of the blocks passed are
--- those of the new picture. Rests on definitions' SummaryOf, keys' InBlock and summary's Renewed.
+-- those of the new picture. Rests on laws' SummaryOf, keys' InBlock and summary's Renewed.
 use Prim.Native.Nat.{ℕ, _+_, _-_, _*_, _^_, _≤_, _<_}
 use mathlib.Core.Path.{_≡_, refl, sym, _∙_, ap, ap₂}
 use mathlib.Core.Logic.{_⊎_, inl, inr, ⊎-elim}

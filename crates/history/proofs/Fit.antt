@@ -1,6 +1,6 @@
 -- Paints that are fit: of a block of the map or of a window of the raster, with a feature below s. All that a history needs to know of a paint: it keeps
 -- agreement and features below s, what it logs is a step, that step taken back gives the picture before it, and painted again the one after it. Each law is
--- that of a block's paint or that of a window's. Rests on Drawn and on definitions' laws of groups.
+-- that of a block's paint or that of a window's. Rests on Drawn, and of groups on laws' GroupStep and GroupBack.
 use Prim.Native.Nat.{ℕ, _≤_, _<_}
 use mathlib.Core.Path.{_≡_, ap, ap₂, _∙_}
 use mathlib.Core.Bool.{true, false, cond}

@@ -1,5 +1,5 @@
 -- Findings after an accepted paint, of a block or of a window: they are those of the painted picture, each given exactly when some pixel of it is waived nowhere; so one that the
--- paint leaves in place is given afterwards exactly when it was given before. Rests on PaintStep and on definitions' OldFault.
+-- paint leaves in place is given afterwards exactly when it was given before. Rests on PaintStep and on laws' OldFault.
 use Prim.Native.Nat.{ℕ}
 use mathlib.Core.Path.{_≡_, ap, _∙_}
 use mathlib.Core.Logic.{_↔_}

@@ -1,5 +1,5 @@
 -- What an accepted list gives a caller: it is the list of the picture that it shows, its records are there, its keys ascend in the map's interval,
--- and its bits are below 2 ^ s. And the list of a picture is accepted. Rests on definitions' Records and ReadBack.
+-- and its bits are below 2 ^ s. And the list of a picture is accepted. Rests on laws' Records and ReadBack.
 use Prim.Native.Nat.{ℕ, zero, suc, _+_, _*_, _^_, _≤_, _<_}
 use mathlib.Core.Path.{_≡_, sym, _∙_, ap, subst}
 use mathlib.Core.Bool.{true}

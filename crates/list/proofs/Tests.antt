@@ -1,5 +1,5 @@
 -- The tests of the tables of refusals that begin with 1 and 4: what settings that are not refused say, and what an accepted call of standing, part
--- and raster has passed. A table with known tests gives its number by definitions' law `holds-first`, or 0 by `none-first`.
+-- and raster has passed. A table with known tests gives its number by the law `holds-first` of First, or 0 by `none-first`.
 use Prim.Native.Nat.{ℕ, _*_, _^_, _≤_}
 use mathlib.Core.Path.{_≡_, refl}
 use mathlib.Core.Bool.{true, false, _||_}

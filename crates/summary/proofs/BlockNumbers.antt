@@ -1,5 +1,5 @@
 -- The numbers of a summary's blocks: how many there are at each m, how many pixels each has, and the key of each as the code works it out. Rests on
--- definitions' SummaryOf.
+-- laws' SummaryOf.
 use Prim.Native.Nat.{ℕ, _+_, _-_, _*_, _/_, _%_, _^_, _≤_, _<_}
 use mathlib.Core.Path.{_≡_, sym, _∙_, ap, ap₂}
 use mathlib.Core.Bool.{true}

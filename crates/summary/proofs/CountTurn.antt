@@ -1,5 +1,5 @@
 -- A turn of the count over a node's quadrants: a leaf or a node among them adds the quadrant's pixels, and after four turns the node is counted. Rests
--- on list's ShownQuadrants and definitions' CountOf.
+-- on list's ShownQuadrants and laws' CountOf.
 use Prim.Native.Nat.{ℕ, zero, suc, _+_, _*_, _/_, _^_, _≤_, _<_}
 use mathlib.Core.Path.{_≡_, refl, sym, _∙_, ap}
 use mathlib.Core.Bool.{true, false, true≢false}

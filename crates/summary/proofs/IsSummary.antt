@@ -1,4 +1,4 @@
--- The check of a summary: the blocks passed so far are right, and a wrong length or a wrong block is refusal 18. Rests on Renewed and definitions'
+-- The check of a summary: the blocks passed so far are right, and a wrong length or a wrong block is refusal 18. Rests on Renewed and laws'
 -- SameNumbers.
 use Prim.Native.Nat.{ℕ, _+_, _*_, _^_, _≤_, _<_}
 use mathlib.Core.Path.{_≡_, sym, _∙_, ap, ap₂}

@@ -1,5 +1,5 @@
 -- The blocks of a summary one after the other: where each has its places, that those hold its counts, and that a run of blocks counted anew is
--- longer by one block after each turn. Rests on definitions' SummaryOf and slices' Sets.
+-- longer by one block after each turn. Rests on laws' SummaryOf and slices' Sets.
 use Prim.Native.Nat.{ℕ, suc, _+_, _-_, _*_, _^_, _≤_, _<_}
 use mathlib.Core.Path.{_≡_, refl, sym, _∙_, ap, ap₂}
 use mathlib.Core.List.{List, _++_, append-nil}

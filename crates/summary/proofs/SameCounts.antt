@@ -1,4 +1,4 @@
--- Comparing the first s counters with the s places of a block, one after the other: all are equal, or one differs. Rests on definitions' SameNumbers.
+-- Comparing the first s counters with the s places of a block, one after the other: all are equal, or one differs. Rests on laws' SameNumbers.
 use Prim.Native.Nat.{ℕ, _+_, _≤_, _<_}
 use mathlib.Core.Path.{_≡_, sym, _∙_, ap}
 use mathlib.Core.Bool.{true, false}

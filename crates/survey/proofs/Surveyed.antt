@@ -1,5 +1,5 @@
 -- The answers of survey: its table of refusals, what a refused call leaves, that the list just written is an accepted one which shows the raster's
--- picture, and so that its summary is the raster's. Rests on definitions' First, Records, ReadBack and SummaryOf.
+-- picture, and so that its summary is the raster's. Rests on laws' First, Records, ReadBack and SummaryOf.
 use Prim.Native.Nat.{ℕ}
 use mathlib.Core.Path.{_≡_, refl, sym, _∙_, ap, ap₂}
 use mathlib.Core.List.{List, [], _∷_}
