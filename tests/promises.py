@@ -21,6 +21,8 @@ import sys
 from collections import namedtuple
 from functools import lru_cache
 
+from boundary import HEADER, read_header
+
 ROOT = pathlib.Path(__file__).resolve().parent.parent
 CRATES = ROOT / "crates"
 NAME = re.compile(r"(?<![\w`/])[a-z0-9]+(?:_[a-z0-9]+)+(?![\w/(])")
@@ -237,8 +239,7 @@ def faults(text, demanded, declared, edits):
 
 
 def everything():
-    header = re.sub(r"/\*.*?\*/", "", (ROOT / "include/prowcurl.h").read_text(), flags=re.S)
-    declared = re.findall(r"^\w+ (hlq_\w+)\(", re.sub(r"^static inline .*", "", header, flags=re.M), flags=re.M)
+    declared = list(read_header(HEADER.read_text()).calls)
     edits = {}
     for path in sorted(CRATES.glob("*/must-fail/*.edit")):
         edit = read_edit(path)
