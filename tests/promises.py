@@ -40,7 +40,7 @@ def functions_of(path):
             kind = found.group(1)
             continue
         indent = found.group(2)
-        body = re.compile(rf"^{indent}\{{$|\)(?: -> \S+)? \{{$", re.M).search(text, found.end())
+        body = re.compile(rf"^{indent}\{{$|\)(?: -> [^{{]+)? \{{$", re.M).search(text, found.end())
         end = re.compile(rf"^{indent}\}}$", re.M).search(text, body.end()).end()
         yield Function(crate, path, kind if indent else "", found.group(3), found.start(), end,
                        text[found.start():body.start()], text[body.start():end])
