@@ -176,15 +176,16 @@ def reach(functions, names):
 Edit = namedtuple("Edit", "file old fault")
 
 
-def read_edit(path):
-    lines = path.read_text().split("\n")
+def read_edit(text, crate):
+    """The edit that a text says, of a crate's folder."""
+    lines = text.split("\n")
     if not re.match(r"# \S", lines[0]):
         return Edit(None, "", "no comment says what is wrong")
     file = text = first = old = None
     for line in lines[1:]:
         kind, _, rest = line.partition(": ")
         if kind == "file":
-            file = path.parent.parent / rest
+            file = crate / rest
             if rest.split("/")[0] not in ("src", "specs") or not file.exists():
                 return Edit(None, "", f"{rest} is no file of src or specs")
             text = file.read_text()
@@ -242,7 +243,7 @@ def everything():
     declared = list(read_header(HEADER.read_text()).calls)
     edits = {}
     for path in sorted(CRATES.glob("*/must-fail/*.edit")):
-        edit = read_edit(path)
+        edit = read_edit(path.read_text(), path.parent.parent)
         edits[path.stem] = edit._replace(fault="two edits have this name") if path.stem in edits else edit
     demanded = bare_names((ROOT / "docs/DEMANDS.md").read_text())
     return (ROOT / "docs/PROMISES.md").read_text(), demanded, declared, edits
@@ -272,9 +273,11 @@ def self_test():
         row = next(line for line in moved.split("\n") if line.startswith("| ") and f"`{call}`" in line)
         changes.append((f"{name} stands at {call}", moved.replace(row, row + f" {name} |"), demanded, declared, edits))
     changes.append(("the demands name an edit that is gone", text, demanded + ["no_such_edit"], declared, edits))
-    for name in ("no comment says what is wrong", "it replaces nothing"):
-        some = sorted(edits)[0]
-        changes.append((name, text, demanded, declared, {**edits, some: edits[some]._replace(fault=name)}))
+    for bad in ("file: src/lib.rt\nold: if digit == 0 {\nnew: if digit == 1 {", "# nothing\nfile: src/lib.rt",
+                "# often\nfile: src/lib.rt\nold: step\nnew: stop", "# never\nfile: src/lib.rt\nold: stop\nnew: step",
+                "# no file\nfile: src/none.rt\nold: a\nnew: b", "# a proof\nfile: proofs/Lib.antt\nold: a\nnew: b"):
+        edit = read_edit(bad, CRATES / "keys")
+        changes.append((f"an edit that says {bad!r}", text, demanded, declared, {**edits, "five_digits_valid": edit}))
     missed = [what for what, *changed in changes if not list(faults(*changed))]
     for what in missed:
         print(f"not found: {what}")
