@@ -23,6 +23,14 @@ pub fn has_one_slot(bits: u32) -> bool
     bits & (bits - 1) == 0
 }
 
+// The same of bits that are known not to be 0, as those of a list are: one test tells.
+pub fn is_leaf(bits: u32) -> bool
+    requires { ⌜ 0 < bits ⌝ }
+    ensures { λ r. ⌜ r ≡ oneSlot bits ⌝ }
+{
+    bits & (bits - 1) == 0
+}
+
 // Four bitstrings have one slot each. A number without its last slot is 0 if it has no other: of the four what is left is joined, so one test tells.
 fn have_one_slot(a: u32, b: u32, c: u32, d: u32) -> bool
     ensures { λ r. ⌜ r ≡ ((oneSlot a && oneSlot b) && oneSlot c) && oneSlot d ⌝ }

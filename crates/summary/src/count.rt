@@ -23,14 +23,6 @@ fn count_leaf(counts: &mut [u32; 32], bits: u32, area: u32)
     counts[feature] = counts[feature] + area;
 }
 
-// A leaf has one slot. The bits of a shown block are not 0, so one test tells.
-fn is_leaf(found: u32) -> bool
-    requires { ⌜ 0 < found ⌝ }
-    ensures { λ r. ⌜ r ≡ oneSlot found ⌝ }
-{
-    found & (found - 1) == 0
-}
-
 // The node of four pixels whose record is at a place of the bitstrings. Nearly all nodes have four or sixteen pixels, so these have functions of their own,
 // without recursion. All four leaves are read before a counter is written: so the machine need not wait between them.
 fn count_pixels(bits: &[u32], counts: &mut [u32; 32], at: usize)
@@ -56,7 +48,7 @@ fn count_sixteen(bits: &[u32], counts: &mut [u32; 32], at: usize) -> usize
     let mut d: u32 = 0;
     while d < 4 {
         let found = bits[next];
-        if is_leaf(found) {
+        if check::is_leaf(found) {
             count_leaf(counts, found, 4);
             next += 1;
         } else {
@@ -78,7 +70,7 @@ fn count_node(bits: &[u32], counts: &mut [u32; 32], at: usize, area: u32) -> usi
     let mut d: u32 = 0;
     while d < 4 {
         let found = bits[next];
-        if is_leaf(found) {
+        if check::is_leaf(found) {
             count_leaf(counts, found, quarter);
             next += 1;
         } else if quarter == 16 {

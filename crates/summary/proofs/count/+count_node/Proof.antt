@@ -10,7 +10,7 @@ use Rattle.summary.proofs.CountTurn.{Reached, reached-none, reached-all
 use Rattle.summary.proofs.count.count_node.Reads as own
 use Rattle.summary.proofs.count.count_node.Kinds as kinds
 use Rattle.summary.proofs.count.+count_node.Lts-count_node as lts
-use Rattle.summary.proofs.count.is_leaf.Reads as is-leaf-reads
+use Rattle.list.proofs.check.is_leaf.Reads as is-leaf-reads
 use Rattle.summary.proofs.count.count_leaf.Reads as count-leaf-reads
 use Rattle.summary.proofs.count.count_sixteen.Reads as count-sixteen-reads
 use Rattle.summary.proofs.count.+count_node.{statement}
