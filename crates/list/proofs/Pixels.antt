@@ -28,6 +28,29 @@ either-way : {A : Type 0} (b : Bool) (x : A) → cond b x x ≡ x
 either-way false x = refl
 either-way true x = refl
 
+-- the tests of four records, each of its key and its slots: the four keys first, then the slots
+swapped : (a b c d : Bool) → (a && b) && (c && d) ≡ (a && c) && (b && d)
+swapped false b c d = refl
+swapped true false false d = refl
+swapped true false true d = refl
+swapped true true false d = refl
+swapped true true true d = refl
+
+last-first : (a b c : Bool) → (a && b) && c ≡ a && (c && b)
+last-first false b c = refl
+last-first true false false = refl
+last-first true false true = refl
+last-first true true false = refl
+last-first true true true = refl
+
+four-apart : (k₁ s₁ k₂ s₂ k₃ s₃ k₄ s₄ u : Bool)
+    → ((((k₁ && s₁) && (k₂ && s₂)) && (k₃ && s₃)) && (k₄ && s₄)) && u ≡ (((k₁ && k₂) && k₃) && k₄) && (u && (((s₁ && s₂) && s₃) && s₄))
+four-apart k₁ s₁ k₂ s₂ k₃ s₃ k₄ s₄ u =
+    ap (λ b. ((b && (k₃ && s₃)) && (k₄ && s₄)) && u) (swapped k₁ s₁ k₂ s₂)
+    ∙ ap (λ b. (b && (k₄ && s₄)) && u) (swapped (k₁ && k₂) (s₁ && s₂) k₃ s₃)
+    ∙ ap (λ b. b && u) (swapped ((k₁ && k₂) && k₃) ((s₁ && s₂) && s₃) k₄ s₄)
+    ∙ last-first (((k₁ && k₂) && k₃) && k₄) (((s₁ && s₂) && s₃) && s₄) u
+
 module _ (κ step own : ℕ) where
   -- the next child must be a leaf
   next-pixel : (j union k bits : ℕ) (l : List Record)
@@ -144,17 +167,30 @@ module _ (K B : List ℕ) (first κ own : ℕ) (size : length K ≡ length B) wh
           (place-of (paired K B) (first + 4) (length K) (sym (paired-length K B size)) (omega arith))),
     )
 
-    pub nw-wrong : nw ≡ false → Right K B first κ own false
-    nw-wrong h₁ = decides false (rw h₁)
+    -- the keys of the four, and their slots
+    abbrev pub keysRight : Bool
+    keysRight = ((eqb (getD K first 0) (κ + 1) && eqb (getD K (first + 1) 0) (κ + 2)) && eqb (getD K (first + 2) 0) (κ + 3)) && eqb (getD K (first + 3) 0) (κ + 4)
 
-    pub ne-wrong : nw ≡ true → ne ≡ false → Right K B first κ own false
-    ne-wrong h₁ h₂ = decides false (rw (h₁, h₂))
+    abbrev pub slotsRight : Bool
+    slotsRight = ((oneSlot (getD B first 0) && oneSlot (getD B (first + 1) 0)) && oneSlot (getD B (first + 2) 0)) && oneSlot (getD B (first + 3) 0)
 
-    pub sw-wrong : nw ≡ true → ne ≡ true → sw ≡ false → Right K B first κ own false
-    sw-wrong h₁ h₂ h₃ = decides false (rw (h₁, h₂, h₃))
+    apart : (((nw && ne) && sw) && se) && eqb union own ≡ keysRight && (eqb union own && slotsRight)
+    apart = four-apart
+        (eqb (getD K first 0) (κ + 1))
+        (oneSlot (getD B first 0))
+        (eqb (getD K (first + 1) 0) (κ + 2))
+        (oneSlot (getD B (first + 1) 0))
+        (eqb (getD K (first + 2) 0) (κ + 3))
+        (oneSlot (getD B (first + 2) 0))
+        (eqb (getD K (first + 3) 0) (κ + 4))
+        (oneSlot (getD B (first + 3) 0))
+        (eqb union own)
 
-    pub se-wrong : nw ≡ true → ne ≡ true → sw ≡ true → se ≡ false → Right K B first κ own false
-    se-wrong h₁ h₂ h₃ h₄ = decides false (rw (h₁, h₂, h₃, h₄))
+    pub keys-wrong : keysRight ≡ false → Right K B first κ own false
+    keys-wrong e = decides false (sym (apart ∙ ap (λ b. b && (eqb union own && slotsRight)) e))
 
-    pub all-leaves : nw ≡ true → ne ≡ true → sw ≡ true → se ≡ true → Right K B first κ own (eqb union own)
-    all-leaves h₁ h₂ h₃ h₄ = decides (eqb union own) (rw (h₁, h₂, h₃, h₄))
+    pub union-wrong : keysRight ≡ true → eqb union own ≡ false → Right K B first κ own false
+    union-wrong e h = decides false (sym (apart ∙ ap (λ b. b && (eqb union own && slotsRight)) e ∙ ap (λ b. b && slotsRight) h))
+
+    pub slots-decide : (r : Bool) → keysRight ≡ true → eqb union own ≡ true → r ≡ slotsRight → Right K B first κ own r
+    slots-decide r e h is = decides r (is ∙ sym (apart ∙ ap (λ b. b && (eqb union own && slotsRight)) e ∙ ap (λ b. b && slotsRight) h))

@@ -3,7 +3,7 @@
 ghost use mathlib.Core.Path.{_≡_};
 ghost use mathlib.Core.Bool.{true, cond, _&&_};
 ghost use Prim.Native.Nat.{ℕ, _+_, _*_, _^_, _≤_, _<_};
-ghost use lib.ListN.{length, drop};
+ghost use lib.ListN.{length, getD, drop};
 ghost use lib.Dec.{leb, eqb};
 ghost use Rattle.keys.specs.Key.{slotLimit, validKey};
 ghost use Rattle.definitions.specs.Read.{room, paired, recordsOf, isList};
@@ -23,15 +23,41 @@ pub fn has_one_slot(bits: u32) -> bool
     bits & (bits - 1) == 0
 }
 
-// A record is the leaf with the given key.
-pub fn is_leaf(key: u32, bits: u32, leaf: u32) -> bool
-    ensures { λ r. ⌜ r ≡ eqb key leaf && oneSlot bits ⌝ }
+// The same of bits that are known not to be 0, as those of a list are: one test tells.
+pub fn is_leaf(bits: u32) -> bool
+    requires { ⌜ 0 < bits ⌝ }
+    ensures { λ r. ⌜ r ≡ oneSlot bits ⌝ }
 {
-    (key == leaf) & has_one_slot(bits)
+    bits & (bits - 1) == 0
+}
+
+// Four bitstrings have one slot each. A number without its last slot is 0 if it has no other: of the four what is left is joined, so one test tells.
+fn have_one_slot(a: u32, b: u32, c: u32, d: u32) -> bool
+    ensures { λ r. ⌜ r ≡ ((oneSlot a && oneSlot b) && oneSlot c) && oneSlot d ⌝ }
+{
+    if (a == 0) | (b == 0) | (c == 0) | (d == 0) {
+        return false;
+    }
+    (a & (a - 1)) | (b & (b - 1)) | (c & (c - 1)) | (d & (d - 1)) == 0
+}
+
+// The next four keys are those of the children of a node of height 1.
+fn are_pixels(keys: &[u32], first: usize, key: u32) -> bool
+    requires { ⌜ (first + 4 ≤ length (now keys)) × (key + 5 < 2 ^ 32) ⌝ }
+    ensures { λ r. ⌜ r ≡ ((eqb (getD (now (keys .entry)) first 0) (key + 1) && eqb (getD (now (keys .entry)) (first + 1) 0) (key + 2))
+        && eqb (getD (now (keys .entry)) (first + 2) 0) (key + 3))
+        && eqb (getD (now (keys .entry)) (first + 3) 0) (key + 4) ⌝ }
+{
+    let nw = keys[first];
+    let ne = keys[first + 1];
+    let sw = keys[first + 2];
+    let se = keys[first + 3];
+    (nw == key + 1) & (ne == key + 2) & (sw == key + 3) & (se == key + 4)
 }
 
 // After the own record of a node of height 1: whether the next four records are its pixels. Nearly all nodes are at heights 1 and 2, so these
-// have functions of their own, without recursion. The answer is no place: so the machine need not wait for the tests to know where to read on.
+// have functions of their own, without recursion. The four are tested together, which is less to do than one after the other. The answer is no place: so
+// the machine need not wait for the tests to know where to read on.
 fn four_pixels(keys: &[u32], bits: &[u32], first: usize, key: u32, own: u32) -> bool
     requires { ⌜ (length (now keys) ≡ length (now bits)) × (first ≤ length (now keys)) × (key + 5 < 2 ^ 32) ⌝ }
     ensures { λ r. ⌜ (r ≡ true → first + 4 ≤ length (now (keys .entry)))
@@ -41,23 +67,17 @@ fn four_pixels(keys: &[u32], bits: &[u32], first: usize, key: u32, own: u32) -> 
     if keys.len() - first < 4 {
         return false;
     }
+    if !are_pixels(keys, first, key) {
+        return false;
+    }
     let a = bits[first];
-    if !is_leaf(keys[first], a, key + 1) {
-        return false;
-    }
     let b = bits[first + 1];
-    if !is_leaf(keys[first + 1], b, key + 2) {
-        return false;
-    }
     let c = bits[first + 2];
-    if !is_leaf(keys[first + 2], c, key + 3) {
-        return false;
-    }
     let d = bits[first + 3];
-    if !is_leaf(keys[first + 3], d, key + 4) {
+    if (a | b | c | d) != own {
         return false;
     }
-    (a | b | c | d) == own
+    have_one_slot(a, b, c, d)
 }
 
 // `after_node` at height 2.

@@ -11,6 +11,7 @@ use lib.ListN.{length, getD, drop, length-map}
 use lib.Seq.{drop-drop, drop-at}
 use lib.Pow.{pow-pos}
 use Rattle.keys.specs.Key.{childKey}
+use Rattle.keys.proofs.Cases.{decide}
 use Rattle.definitions.specs.Picture.{Picture, oneFeature}
 use Rattle.definitions.specs.Bits.{featureOf}
 use Rattle.definitions.specs.List.{valuesOf, listOf}
@@ -18,7 +19,7 @@ use Rattle.list.specs.Check.{oneSlot}
 use Rattle.read.specs.Fill.{rectanglePainted, quadrantRow, quadrantColumn, cornerOf, Shows, ShowsNode, BlockFilled, NodeFilled}
 use Rattle.read.proofs.Rectangle.{rectangle-length}
 use Rattle.read.proofs.Quadrants.{quadrantList, listsFrom, quadrantPainted, paintsFrom, lists-all, paints-all, Passed, Opened, open-next}
-use Rattle.read.proofs.Shown.{shows-room, shows-square, leaf-length, leaf-painted, node-asked, node-filled}
+use Rattle.read.proofs.Shown.{shows-room, shows-slots, shows-square, leaf-length, leaf-painted, node-asked, node-filled}
 
 -- the corner of a quadrant, by its row and column
 corner-is : (d r c wide half : ℕ) → cornerOf d (r * wide + c) half (half * wide) ≡ quadrantRow d r half * wide + quadrantColumn d c half
@@ -191,19 +192,21 @@ module _ {bits raster₀ : List ℕ} {at wide place side : ℕ} {raster : List �
             (one ∙ ap (λ n. next + n) (sym (leaf-length q leaf)));
       }
 
-  pub node-turn : (corner : ℕ) (after after′ : List ℕ) (next′ next″ : ℕ)
+  -- the node's side may be known by another number
+  pub node-turn : (corner half : ℕ) (after after′ : List ℕ) (next′ next″ : ℕ)
       → d < 4
       → corner ≡ cornerOf d place (side / 2) (side / 2 * wide)
+      → side / 2 ≡ half
       → oneSlot (getD bits next 0) ≡ false
-      → NodeFilled bits next wide corner (side / 2) raster after next′
+      → NodeFilled bits next wide corner half raster after next′
       → after′ ≡ after
       → next″ ≡ next′
       → Reached bits raster₀ at wide place side after′ next″ (d + 1)
-  node-turn corner after after′ next′ next″ h is node f same same′ =
+  node-turn corner half after after′ next′ next″ h is half-known node f same same′ =
       record {
         most = omega arith;
         passed = λ p k r c κ s several.
-            let g : NodeFilled bits next wide (cornerOf d place (side / 2) (side / 2 * wide)) (side / 2) raster after next′ = rw (← is) f in
+            let g : NodeFilled bits next wide (cornerOf d place (side / 2) (side / 2 * wide)) (side / 2) raster after next′ = rw (← is, half-known) f in
             let b = node-filled g (child h s several) node in
             turn-painted h s several after′ next″ (same ∙ b .pixels) (same′ ∙ b .ends);
       }
@@ -220,6 +223,19 @@ module _ {bits raster₀ : List ℕ} {at wide place side : ℕ} {raster : List �
     module _ (h : d < 4) where
       pub next-room : next < length bits
       next-room = shows-room (child h (e .shows) (e .several))
+
+      pub next-slots : 0 < getD bits next 0
+      next-slots = shows-slots (child h (e .shows) (e .several))
+
+      -- a quadrant of side 1 is a leaf: a node has a longer side
+      pub pixel-leaf : side ≡ 2 → oneSlot (getD bits next 0) ≡ true
+      pixel-leaf is =
+          decide (oneSlot (getD bits next 0)) (λ t. t)
+          (λ f. let n = node-asked (child h (e .shows) (e .several)) f in
+          let long = n .shows .sides in
+          let g = pow-suc 2 (n .height) in
+          let i = pow-pos (n .height) in
+          absurd (omega arith))
 
       pub leaf-asked : (corner : ℕ) → corner ≡ cornerOf d place (side / 2) (side / 2 * wide) → (corner % wide + side / 2 ≤ wide) × ((corner / wide + side / 2) * wide ≤ length raster) × (0 < wide)
       leaf-asked corner is = rw is (shows-square (child h (e .shows) (e .several)))

@@ -13,9 +13,11 @@ use Rattle.keys.proofs.Cases.{decide}
 use Rattle.definitions.specs.Picture.{Picture, oneFeature}
 use Rattle.definitions.specs.Bits.{bitsOf, featureOf}
 use Rattle.definitions.specs.List.{valuesOf, listOf}
+use Rattle.laws.proofs.Within.{first-within}
+use Rattle.laws.proofs.Slots.{slot-le}
 use Rattle.laws.proofs.Features.{one-to, one-pixel}
 use Rattle.laws.proofs.FeatureOf.{feature-of-power}
-use Rattle.laws.proofs.BitsOf.{bits-one, power-one}
+use Rattle.laws.proofs.BitsOf.{bits-one, bits-from, power-one}
 use Rattle.laws.proofs.ListOf.{list-first, list-one}
 use Rattle.list.specs.Check.{oneSlot}
 use Rattle.read.specs.Fill.{rectanglePainted, Shows, ShowsNode, BlockFilled, NodeFilled}
@@ -104,3 +106,11 @@ pub node-filled : {p : Picture} {k r c κ : ℕ} {bits : List ℕ} {at wide plac
     → oneSlot (getD bits at 0) ≡ false
     → BlockFilled p k r c κ at wide side before after next
 node-filled {k = k} f s e = filled-from k f s (node-several s e)
+
+-- a shown block has a slot, since its first pixel has a feature
+pub shows-slots : {p : Picture} {k r c κ : ℕ} {bits : List ℕ} {at wide place side long : ℕ} → Shows p k r c κ bits at wide place side long → 0 < getD bits at 0
+shows-slots {p} {k} {r} {c} s =
+    let e = shows-value s in
+    let b = slot-le (bitsOf p k r c) (p r c) (bits-from p k r c r c (first-within k r c)) in
+    let g = pow-pos (p r c) in
+    omega arith

@@ -7,18 +7,22 @@ use mathlib.Core.List.{List}
 use native.Mathlib.Nat.{pow-suc, suc-mul, add-zero, mul-le-mul-right, one-le-pow}
 use native.Mathlib.Numerals.{add-one}
 use native.Mathlib.Omega.{arith}
+use lib.Pow.{pow-pos}
 use lib.ListN.{length, getD, length-set}
 use lib.Seq.{getD-set-same, getD-set-other}
 use Rattle.keys.specs.Key.{childKey}
-use Rattle.keys.proofs.Cases.{equal}
+use Rattle.keys.proofs.Cases.{decide, equal}
 use Rattle.definitions.specs.Picture.{Picture, oneFeature}
-use Rattle.definitions.specs.Bits.{featureOf}
+use Rattle.definitions.specs.Bits.{bitsOf, featureOf}
 use Rattle.definitions.specs.Area.{pixelsWith}
+use Rattle.laws.proofs.Within.{first-within}
+use Rattle.laws.proofs.Slots.{slot-le}
+use Rattle.laws.proofs.BitsOf.{bits-from}
 use Rattle.laws.proofs.Features.{one-pixel}
 use Rattle.laws.proofs.CountOf.{pixels-quadrants, pixels-most, pixels-one, pixels-none}
 use Rattle.list.specs.Check.{oneSlot}
 use Rattle.list.specs.Shown.{ShownAt}
-use Rattle.list.proofs.Shown.{shown-room, leaf-one, leaf-feature, leaf-length, node-several}
+use Rattle.list.proofs.Shown.{shown-value, shown-room, leaf-one, leaf-feature, leaf-length, node-several}
 use Rattle.list.proofs.ShownQuadrants.{quadrantRow, quadrantColumn, Left, left-all, left-shown, left-then, left-none}
 use Rattle.summary.specs.Count.{withPixels, CountersFit, NodeAt, BlockCounted, NodeCounted}
 
@@ -98,6 +102,14 @@ pub shown-counted : {p : Picture} {k r c κ : ℕ} {bits : List ℕ} {at area : 
     → BlockCounted p k r c κ at before after next
 shown-counted {k = k} x s e h = node-counted k x s (node-several s e) h
 
+-- a shown block has a slot, since its first pixel has a feature
+shown-slots : {p : Picture} {k r c κ : ℕ} {bits : List ℕ} {at : ℕ} → ShownAt p k r c κ bits at → 0 < getD bits at 0
+shown-slots {p} {k} {r} {c} s =
+    let e = shown-value s in
+    let b = slot-le (bitsOf p k r c) (p r c) (bits-from p k r c r c (first-within k r c)) in
+    let g = pow-pos (p r c) in
+    omega arith
+
 -- after some turns: the quadrants that are left follow, and the counters have the pixels of those before
 pub record Passed (p : Picture) (k r c κ : ℕ) (bits : List ℕ) (at : ℕ) (counts₀ counts : List ℕ) (next d : ℕ) : Type 0 where
   pub left : Left p k r c κ bits at next d
@@ -169,14 +181,16 @@ module _ {bits counts₀ : List ℕ} {at area : ℕ} {counts : List ℕ} {next d
         ends = one ∙ ap (λ n. next + n) (sym (leaf-length s leaf));
       })
 
-  pub node-turn : (counts′ counts″ : List ℕ) (next′ next″ : ℕ) → d < 4
+  -- the node's pixels may be known by another number
+  pub node-turn : (counts′ counts″ : List ℕ) (next′ next″ quarter : ℕ) → d < 4
+      → area / 4 ≡ quarter
       → oneSlot (getD bits next 0) ≡ false
-      → NodeCounted bits next (area / 4) counts counts′ next′
+      → NodeCounted bits next quarter counts counts′ next′
       → counts″ ≡ counts′
       → next″ ≡ next′
       → Reached bits counts₀ at area counts″ next″ (d + 1)
-  node-turn counts′ counts″ next′ next″ h node y same same′ =
-      rw (same, same′) (turned counts′ next′ h (y .long) (λ p k r c κ s q. shown-counted y s node q))
+  node-turn counts′ counts″ next′ next″ quarter h is node y same same′ =
+      rw (same, same′) (turned counts′ next′ h (y .long) (λ p k r c κ s q. shown-counted y s node (sym is ∙ q)))
 
   -- after four turns the node is counted
   pub reached-all : 4 ≤ d → NodeCounted bits at area counts₀ counts next
@@ -211,8 +225,21 @@ module _ {bits counts₀ : List ℕ} {at area : ℕ} {counts : List ℕ} {next d
           omega arith;
     }
 
+    pub next-slots : 0 < getD bits next 0
+    next-slots = shown-slots (left-shown (now-passed .left) h)
+
     pub child-asked : oneSlot (getD bits next 0) ≡ false → NodeAt bits next (area / 4)
     child-asked e = shown-node (left-shown (now-passed .left) h) e (quarter-is area (node .height) (node .pixels))
+
+    -- a quarter of four pixels is a leaf: a node has more than one pixel
+    pub pixel-leaf : area ≡ 4 → oneSlot (getD bits next 0) ≡ true
+    pixel-leaf e =
+        decide (oneSlot (getD bits next 0)) (λ t. t)
+        (λ f. let n = child-asked f in
+        let is = n .pixels in
+        let g = pow-suc 4 (n .height) in
+        let i = one-le-pow (n .height) 4 (omega arith) in
+        absurd (omega arith))
 
 -- a quarter of the pixels is less
 pub less : (area t : ℕ) {bits : List ℕ} {at : ℕ} → area ≡ t → NodeAt bits at area → area / 4 < t

@@ -1,4 +1,5 @@
 pub mod CountTurn
+pub mod FourPixels
 pub mod CountBlock
 pub mod BlockNumbers
 pub mod SameCounts

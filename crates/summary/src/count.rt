@@ -2,7 +2,7 @@
 // else four children follow.
 ghost use mathlib.Core.Path.{_≡_};
 ghost use mathlib.Core.Bool.{true};
-ghost use Prim.Native.Nat.{_^_, _≤_, _<_};
+ghost use Prim.Native.Nat.{_+_, _^_, _≤_, _<_};
 ghost use Rattle.keys.specs.Key.{validKey, heightOf};
 ghost use Rattle.keys.specs.Block.{rowOf, columnOf};
 ghost use Rattle.definitions.specs.Bits.{featureOf};
@@ -23,8 +23,44 @@ fn count_leaf(counts: &mut [u32; 32], bits: u32, area: u32)
     counts[feature] = counts[feature] + area;
 }
 
-// The node whose record is at a place of the bitstrings, with so many pixels: its four children follow. A leaf among them is counted here, so that
-// only nodes are called for. The place after the node's last record is given back.
+// The node of four pixels whose record is at a place of the bitstrings. Nearly all nodes have four or sixteen pixels, so these have functions of their own,
+// without recursion. All four leaves are read before a counter is written: so the machine need not wait between them.
+fn count_pixels(bits: &[u32], counts: &mut [u32; 32], at: usize)
+    requires { ⌜ NodeAt (now bits) at 4 × CountersFit (now counts) 4 ⌝ }
+    ensures { λ _. ⌜ NodeCounted (now (bits .entry)) at 4 (now (counts .entry)) (now (counts .exit)) (at + 5) ⌝ }
+{
+    let nw = bits[at + 1];
+    let ne = bits[at + 2];
+    let sw = bits[at + 3];
+    let se = bits[at + 4];
+    count_leaf(counts, nw, 1);
+    count_leaf(counts, ne, 1);
+    count_leaf(counts, sw, 1);
+    count_leaf(counts, se, 1);
+}
+
+// The same of sixteen pixels. The place after the node's last record is given back.
+fn count_sixteen(bits: &[u32], counts: &mut [u32; 32], at: usize) -> usize
+    requires { ⌜ NodeAt (now bits) at 16 × CountersFit (now counts) 16 ⌝ }
+    ensures { λ r. ⌜ NodeCounted (now (bits .entry)) at 16 (now (counts .entry)) (now (counts .exit)) r ⌝ }
+{
+    let mut next = at + 1;
+    let mut d: u32 = 0;
+    while d < 4 {
+        let found = bits[next];
+        if check::is_leaf(found) {
+            count_leaf(counts, found, 4);
+            next += 1;
+        } else {
+            count_pixels(bits, counts, next);
+            next += 5;
+        }
+        d += 1;
+    }
+    next
+}
+
+// The same of any number of pixels. A leaf among the four children is counted here, so that only nodes are called for.
 fn count_node(bits: &[u32], counts: &mut [u32; 32], at: usize, area: u32) -> usize
     requires { ⌜ NodeAt (now bits) at area × CountersFit (now counts) area ⌝ }
     ensures { λ r. ⌜ NodeCounted (now (bits .entry)) at area (now (counts .entry)) (now (counts .exit)) r ⌝ }
@@ -34,9 +70,11 @@ fn count_node(bits: &[u32], counts: &mut [u32; 32], at: usize, area: u32) -> usi
     let mut d: u32 = 0;
     while d < 4 {
         let found = bits[next];
-        if check::has_one_slot(found) {
+        if check::is_leaf(found) {
             count_leaf(counts, found, quarter);
             next += 1;
+        } else if quarter == 16 {
+            next = count_sixteen(bits, counts, next);
         } else {
             next = count_node(bits, counts, next, quarter);
         }

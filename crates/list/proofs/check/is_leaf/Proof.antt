@@ -1,15 +1,14 @@
--- `check::is_leaf` meets its contract.
-use mathlib.Core.Path.{ap}
-use mathlib.Core.Bool.{_&&_}
-use lib.Dec.{eqb}
+-- `check::is_leaf` meets its contract: a number that is not 0 is a power of two exactly when it shares no slot with the number before it.
+use native.Mathlib.Omega.{arith}
+use Rattle.list.proofs.OneSlot.{clear-slot}
 use Rattle.list.proofs.check.is_leaf.Statement.{statement}
 use Rattle.list.proofs.check.is_leaf.Tie as tie
 
-has-one-slot-requires : tie.Need-has-one-slot-requires
-has-one-slot-requires c κs = tt
+sub-result : tie.Need-sub-result
+sub-result c = omega arith
 
 returns : tie.Need-returns
-returns c = ap (λ b. eqb (c .before .args .key) (c .before .args .leaf) && b) (c .has-one-slot .ensures)
+returns c = clear-slot (c .args .bits) (c .pre)
 
 pub is-leaf-spec : {M : Type 1} → statement M
-is-leaf-spec = tie.close (tie.spec has-one-slot-requires returns)
+is-leaf-spec = tie.close (tie.spec sub-result returns)

@@ -1,6 +1,6 @@
 -- `fill::fill_node` meets its contract: after each turn the quadrants that are left, once painted, make the node's picture. The side falls.
 use Prim.Native.Nat.{ℕ, suc, _-_, _/_, _<_}
-use mathlib.Core.Path.{_≡_, sym, _∙_}
+use mathlib.Core.Path.{_≡_, refl, sym, _∙_}
 use mathlib.Core.Logic.{⊎-elim}
 use native.Mathlib.Omega.{arith}
 use lib.Pow.{pow-pos}
@@ -8,16 +8,17 @@ use mathlib.Core.List.{List}
 use Rattle.definitions.specs.Picture.{Picture}
 use Rattle.read.specs.Fill.{Shows}
 use Rattle.read.proofs.Shown.{shows-room}
-use Rattle.read.proofs.FillTurn.{Reached, reached-none, reached-long, reached-all, south-fits, corner-fits, next-room, leaf-asked, child-asked, leaf-turn, node-turn}
+use Rattle.read.proofs.FillTurn.{Reached, reached-none, reached-long, reached-all, south-fits, corner-fits, next-room, next-slots, leaf-asked, child-asked, leaf-turn, node-turn}
 use borrow.Fn.Kinds.{In}
 use borrow.Fn.PlainCycle.{Measures, is, falls, and}
 use Rattle.read.proofs.fill.fill_node.Reads as own
 use Rattle.read.proofs.fill.fill_node.Kinds as kinds
 use Rattle.read.proofs.fill.+fill_node.Lts-fill_node as lts
-use Rattle.list.proofs.check.has_one_slot.Reads as has-one-slot-reads
+use Rattle.list.proofs.check.is_leaf.Reads as is-leaf-reads
 use Rattle.read.proofs.fill.corner_of.Reads as corner-of-reads
 use Rattle.read.proofs.fill.feature_of.Reads as feature-of-reads
 use Rattle.read.proofs.fill.fill_square.Reads as fill-square-reads
+use Rattle.read.proofs.fill.fill_sixty_four.Reads as fill-sixty-four-reads
 use Rattle.read.proofs.fill.+fill_node.{statement}
 use Rattle.read.proofs.fill.+fill_node.Tie.{close}
 
@@ -36,12 +37,14 @@ abbrev claims : ℕ → lts.Claims
 claims t = (
   corner-of-reads.Asked,
   corner-of-reads.Learnt,
-  has-one-slot-reads.Asked,
-  has-one-slot-reads.Learnt,
+  is-leaf-reads.Asked,
+  is-leaf-reads.Learnt,
   feature-of-reads.Asked,
   feature-of-reads.Learnt,
   fill-square-reads.Asked,
   fill-square-reads.Learnt,
+  fill-sixty-four-reads.Asked,
+  fill-sixty-four-reads.Learnt,
   below t,
   own.Post,
 )
@@ -79,11 +82,13 @@ shared-slice-read-found t c =
     let l = c .before .before .before in
     next-room (l .loop .inv) (l .before .before .before .pre .1) (omega (arith, c .before .before .loop-test .taken))
 
-has-one-slot-requires : (t : ℕ) → lts.Need-has-one-slot-requires (claims t) (given t) own.Post Inv-loop μ-loop
-has-one-slot-requires t c κs = tt
+is-leaf-requires : (t : ℕ) → lts.Need-is-leaf-requires (claims t) (given t) own.Post Inv-loop μ-loop
+is-leaf-requires t c κs =
+    let l = c .before .before .before in
+    next-slots (l .loop .inv) (l .before .before .before .pre .1) (omega (arith, c .before .before .loop-test .taken))
 
 feature-of-requires : (t : ℕ) → lts.Need-feature-of-requires (claims t) (given t) own.Post Inv-loop μ-loop
-feature-of-requires t c κs = sym (c .before .before .has-one-slot .ensures) ∙ c .before .if1 .taken
+feature-of-requires t c κs = sym (c .before .before .is-leaf .ensures) ∙ c .before .if1 .taken
 
 fill-square-requires : (t : ℕ) → lts.Need-fill-square-requires (claims t) (given t) own.Post Inv-loop μ-loop
 fill-square-requires t c κs =
@@ -96,11 +101,19 @@ add-next-2 t c =
     let h = next-room (l .loop .inv) (l .before .before .before .pre .1) (omega (arith, c .before .before .before .before .before .before .before .before .before .loop-test .taken)) in
     omega (arith, l .before .before .before .good)
 
+fill-sixty-four-requires : (t : ℕ) → lts.Need-fill-sixty-four-requires (claims t) (given t) own.Post Inv-loop μ-loop
+fill-sixty-four-requires t c κs =
+    let k = c .before .before .before in
+    let l = k .before .before .before .before in
+    rw (c .before .if2 .taken) at
+    (child-asked (l .loop .inv) (l .before .before .before .pre .1) (omega (arith, k .before .before .before .loop-test .taken)) _ (k .before .before .corner-of .ensures) (sym (k .is-leaf .ensures) ∙ c .before .before .if1 .left))
+
 fill-node-requires : (t : ℕ) → lts.Need-fill-node-requires (claims t) (given t) own.Post Inv-loop μ-loop
 fill-node-requires t c κs =
-    let l = c .before .before .before .before .before .before in
+    let k = c .before .before .before in
+    let l = k .before .before .before .before in
     let e = l .before .before .before .pre in
-    (less _ t (e .0) (e .1 .shows), child-asked (l .loop .inv) (e .1) (omega (arith, c .before .before .before .before .before .loop-test .taken)) _ (c .before .before .before .before .corner-of .ensures) (sym (c .before .before .has-one-slot .ensures) ∙ c .before .if1 .left))
+    (less _ t (e .0) (e .1 .shows), child-asked (l .loop .inv) (e .1) (omega (arith, k .before .before .before .loop-test .taken)) _ (k .before .before .corner-of .ensures) (sym (k .is-leaf .ensures) ∙ c .before .before .if1 .left))
 
 add-d : (t : ℕ) → lts.Need-add-d (claims t) (given t) own.Post Inv-loop μ-loop
 add-d t c = omega (arith, c .before .before .before .before .loop-test .taken)
@@ -113,10 +126,12 @@ loop-again t c =
     let l = c .before .before .before .before .before in
     let h = c .before .before .before .before .loop-test .taken in
     let corner = c .before .before .before .corner-of .ensures in
-    let slot = c .before .has-one-slot .ensures in
+    let slot = c .before .is-leaf .ensures in
     ⊎-elim
     (λ w. leaf-turn (l .loop .inv) _ _ _ _ (omega (arith, h)) corner (sym slot ∙ w .0 .taken) (w .2 .ensures) (w .6 ∙ w .3 .ensures) (w .7))
-    (λ w. node-turn (l .loop .inv) _ _ _ _ _ (omega (arith, h)) corner (sym slot ∙ w .0 .left) (w .2 .ensures) (w .5) (w .6))
+    (⊎-elim
+    (λ w. node-turn (l .loop .inv) _ _ _ _ _ _ (omega (arith, h)) corner (w .1 .taken) (sym slot ∙ w .0 .left) (w .3 .ensures) (w .6) (w .7))
+    (λ w. node-turn (l .loop .inv) _ _ _ _ _ _ (omega (arith, h)) corner refl (sym slot ∙ w .0 .left) (w .3 .ensures) (w .6) (w .7)))
     (c .if1 .came)
 
 same-length : (t : ℕ) → lts.Need-same-length (claims t) (given t) own.Post Inv-loop μ-loop
@@ -137,10 +152,11 @@ pub +fill-node-spec : {M : Type 1} → statement M
     (corner-of-requires t)
     (mul-found t)
     (shared-slice-read-found t)
-    (has-one-slot-requires t)
+    (is-leaf-requires t)
     (feature-of-requires t)
     (fill-square-requires t)
     (add-next-2 t)
+    (fill-sixty-four-requires t)
     (fill-node-requires t)
     (add-d t)
     (loop-less t)

@@ -1,17 +1,18 @@
 -- `count::count_node` meets its contract: after each turn the counters have the pixels of the quadrants passed. The area falls.
 use Prim.Native.Nat.{ℕ, _-_, _<_}
-use mathlib.Core.Path.{sym, _∙_}
+use mathlib.Core.Path.{refl, sym, _∙_}
 use mathlib.Core.Logic.{⊎-elim}
 use native.Mathlib.Omega.{arith}
 use borrow.Fn.Kinds.{In}
 use borrow.Fn.PlainCycle.{Measures, is, falls, and}
 use Rattle.list.proofs.Shown.{shown-room}
-use Rattle.summary.proofs.CountTurn.{Reached, reached-none, reached-all, next-room, counts-room, child-asked, leaf-turn, node-turn, less}
+use Rattle.summary.proofs.CountTurn.{Reached, reached-none, reached-all, next-room, next-slots, counts-room, child-asked, leaf-turn, node-turn, less}
 use Rattle.summary.proofs.count.count_node.Reads as own
 use Rattle.summary.proofs.count.count_node.Kinds as kinds
 use Rattle.summary.proofs.count.+count_node.Lts-count_node as lts
-use Rattle.list.proofs.check.has_one_slot.Reads as has-one-slot-reads
+use Rattle.list.proofs.check.is_leaf.Reads as is-leaf-reads
 use Rattle.summary.proofs.count.count_leaf.Reads as count-leaf-reads
+use Rattle.summary.proofs.count.count_sixteen.Reads as count-sixteen-reads
 use Rattle.summary.proofs.count.+count_node.{statement}
 use Rattle.summary.proofs.count.+count_node.Tie.{close}
 
@@ -27,10 +28,12 @@ below t = and 2 kinds.ps (falls 2 kinds.ps _<_ μ t) own.Pre
 -- what the callees promise, and this function itself below the measure t
 abbrev claims : ℕ → lts.Claims
 claims t = (
-  has-one-slot-reads.Asked,
-  has-one-slot-reads.Learnt,
+  is-leaf-reads.Asked,
+  is-leaf-reads.Learnt,
   count-leaf-reads.Asked,
   count-leaf-reads.Learnt,
+  count-sixteen-reads.Asked,
+  count-sixteen-reads.Learnt,
   below t,
   own.Post,
 )
@@ -58,14 +61,16 @@ shared-slice-read-found t c =
     let l = c .before .before in
     next-room (l .loop .inv) (l .before .before .pre .1 .0) (omega (arith, c .before .loop-test .taken))
 
-has-one-slot-requires : (t : ℕ) → lts.Need-has-one-slot-requires (claims t) (given t) own.Post Inv-loop μ-loop
-has-one-slot-requires t c κs = tt
+is-leaf-requires : (t : ℕ) → lts.Need-is-leaf-requires (claims t) (given t) own.Post Inv-loop μ-loop
+is-leaf-requires t c κs =
+    let l = c .before .before in
+    next-slots (l .loop .inv) (l .before .before .pre .1 .0) (omega (arith, c .before .loop-test .taken))
 
 count-leaf-requires : (t : ℕ) → lts.Need-count-leaf-requires (claims t) (given t) own.Post Inv-loop μ-loop
 count-leaf-requires t c κs =
     let l = c .before .before .before .before .before in
     let e = l .before .before .pre .1 in
-    (sym (c .before .before .has-one-slot .ensures) ∙ c .before .if1 .taken, counts-room (l .loop .inv) (e .0) (omega (arith, c .before .before .before .before .loop-test .taken)) (e .1))
+    (sym (c .before .before .is-leaf .ensures) ∙ c .before .if1 .taken, counts-room (l .loop .inv) (e .0) (omega (arith, c .before .before .before .before .loop-test .taken)) (e .1))
 
 add-next-2 : (t : ℕ) → lts.Need-add-next-2 (claims t) (given t) own.Post Inv-loop μ-loop
 add-next-2 t c =
@@ -73,13 +78,23 @@ add-next-2 t c =
     let h = next-room (l .loop .inv) (l .before .before .pre .1 .0) (omega (arith, c .before .before .before .before .before .loop-test .taken)) in
     omega (arith, l .before .before .good)
 
+count-sixteen-requires : (t : ℕ) → lts.Need-count-sixteen-requires (claims t) (given t) own.Post Inv-loop μ-loop
+count-sixteen-requires t c κs =
+    let l = c .before .before .before .before .before .before in
+    let e = l .before .before .pre .1 in
+    let h = c .before .before .before .before .before .loop-test .taken in
+    let quarter = c .before .if2 .taken in (
+      rw quarter at (child-asked (l .loop .inv) (e .0) (omega (arith, h)) (sym (c .before .before .before .is-leaf .ensures) ∙ c .before .before .if1 .left)),
+      rw quarter at (counts-room (l .loop .inv) (e .0) (omega (arith, h)) (e .1)),
+    )
+
 count-node-requires : (t : ℕ) → lts.Need-count-node-requires (claims t) (given t) own.Post Inv-loop μ-loop
 count-node-requires t c κs =
-    let l = c .before .before .before .before .before in
+    let l = c .before .before .before .before .before .before in
     let e = l .before .before .pre in
-    let h = c .before .before .before .before .loop-test .taken in (
+    let h = c .before .before .before .before .before .loop-test .taken in (
       less _ t (e .0) (e .1 .0),
-      (child-asked (l .loop .inv) (e .1 .0) (omega (arith, h)) (sym (c .before .before .has-one-slot .ensures) ∙ c .before .if1 .left), counts-room (l .loop .inv) (e .1 .0) (omega (arith, h)) (e .1 .1)),
+      (child-asked (l .loop .inv) (e .1 .0) (omega (arith, h)) (sym (c .before .before .before .is-leaf .ensures) ∙ c .before .before .if1 .left), counts-room (l .loop .inv) (e .1 .0) (omega (arith, h)) (e .1 .1)),
     )
 
 add-d : (t : ℕ) → lts.Need-add-d (claims t) (given t) own.Post Inv-loop μ-loop
@@ -92,10 +107,12 @@ loop-again : (t : ℕ) → lts.Need-loop-again (claims t) (given t) own.Post Inv
 loop-again t c =
     let l = c .before .before .before .before in
     let h = c .before .before .before .loop-test .taken in
-    let slot = c .before .has-one-slot .ensures in
+    let slot = c .before .is-leaf .ensures in
     ⊎-elim
     (λ w. leaf-turn (l .loop .inv) _ _ (omega (arith, h)) (l .before .before .pre .1 .1 .long) (sym slot ∙ w .0 .taken) (w .3 ∙ w .2 .ensures) (w .4))
-    (λ w. node-turn (l .loop .inv) _ _ _ _ (omega (arith, h)) (sym slot ∙ w .0 .left) (w .2 .ensures) (w .3) (w .4))
+    (⊎-elim
+    (λ w. node-turn (l .loop .inv) _ _ _ _ _ (omega (arith, h)) (w .1 .taken) (sym slot ∙ w .0 .left) (w .3 .ensures) (w .4) (w .5))
+    (λ w. node-turn (l .loop .inv) _ _ _ _ _ (omega (arith, h)) refl (sym slot ∙ w .0 .left) (w .3 .ensures) (w .4) (w .5)))
     (c .if1 .came)
 
 returns : (t : ℕ) → lts.Need-returns (claims t) (given t) own.Post Inv-loop μ-loop
@@ -111,9 +128,10 @@ pub +count-node-spec : {M : Type 1} → statement M
     (loop-holds t)
     (mul-found t)
     (shared-slice-read-found t)
-    (has-one-slot-requires t)
+    (is-leaf-requires t)
     (count-leaf-requires t)
     (add-next-2 t)
+    (count-sixteen-requires t)
     (count-node-requires t)
     (add-d t)
     (loop-less t)

@@ -1,0 +1,51 @@
+-- `fill::fill_row_of_four` meets its contract: after each turn the places passed have the feature.
+use Prim.Native.Nat.{_+_, _-_}
+use native.Mathlib.Omega.{arith}
+use Rattle.read.proofs.Filling.{PlacesPassed, places-begin, place-is, places-long, place-goes, places-end}
+use Rattle.read.proofs.fill.fill_row_of_four.Statement.{statement}
+use Rattle.read.proofs.fill.fill_row_of_four.Tie as tie
+
+abbrev Inv-loop : tie.InvT-loop
+Inv-loop raster₀ from feature i₀ raster i = PlacesPassed raster₀ from (from + 4) feature raster (from + i)
+
+abbrev μ-loop : tie.MeasureT-loop
+μ-loop raster₀ from feature i₀ raster i = 4 - i
+
+loop-holds : tie.Need-loop-holds Inv-loop μ-loop
+loop-holds c = place-is (omega arith) (places-begin _ _ _ _ (omega arith))
+
+add-raster : tie.Need-add-raster Inv-loop μ-loop
+add-raster c = omega (arith, c .before .before .good)
+
+slice-write-raster : tie.Need-slice-write-raster Inv-loop μ-loop
+slice-write-raster c = let e = places-long (c .before .loop .inv) in omega (arith, c .before .before .pre)
+
+add-i : tie.Need-add-i Inv-loop μ-loop
+add-i c = omega arith
+
+loop-less : tie.Need-loop-less Inv-loop μ-loop
+loop-less c = omega arith
+
+loop-again : tie.Need-loop-again Inv-loop μ-loop
+loop-again c = place-is (omega arith) (place-goes (c .before .loop .inv) (omega (arith, c .loop-test .taken)))
+
+same-length : tie.Need-same-length Inv-loop μ-loop
+same-length c = places-long (c .before .loop .inv)
+
+returns : tie.Need-returns Inv-loop μ-loop
+returns c = places-end (c .before .loop .inv) (omega (arith, c .loop-test .left))
+
+pub fill-row-of-four-spec : {M : Type 1} → statement M
+fill-row-of-four-spec =
+    tie.close
+    (tie.spec
+    Inv-loop
+    μ-loop
+    loop-holds
+    add-raster
+    slice-write-raster
+    add-i
+    loop-less
+    loop-again
+    same-length
+    returns)
