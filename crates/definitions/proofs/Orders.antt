@@ -22,6 +22,8 @@ use Rattle.definitions.specs.Rules.{findingsOf, allFindings, waiversOf, 
 use Rattle.definitions.specs.File.{bytesOf, numberAfter, numberOf, versionFor, bitBytes, bytesOfRecords, headOf, fileOf, numberAt, readRecords, recordsInFile, sameBytes, wrongMark, otherVersion, badAtVersion}
 use Rattle.definitions.specs.Calls.Build.{buildRefusal}
 use Rattle.definitions.specs.Calls.Survey.{surveyRefusal}
+use Rattle.definitions.specs.Calls.BlockOf.{blockOfRefusal}
+use Rattle.definitions.specs.Calls.KeyAt.{keyAtRefusal}
 use Rattle.definitions.specs.Calls.Raster.{rasterRefusal, rasterPixels}
 use Rattle.definitions.specs.Calls.Standing.{standingRefusal, standing}
 use Rattle.definitions.specs.Calls.Part.{part, partSpan}
@@ -114,6 +116,15 @@ table =
     ∷ gives (surveyRefusal 1 2 pixels keys (unwritten 4) (unwritten 7)) 18
     ∷ gives (surveyRefusal 1 2 pixels keys (unwritten 4) (unwritten 8)) 9
     ∷ gives (surveyRefusal 1 2 pixels keys bits (unwritten 8)) 0
+    -- block of: 1 (for m alone), 8; key at: 1 (for m alone), 6, 8
+    ∷ gives (blockOfRefusal 11 5) 1
+    ∷ gives (blockOfRefusal 1 5) 8
+    ∷ gives (blockOfRefusal 1 4) 0
+    ∷ gives (keyAtRefusal 11 2048 0 12) 1
+    ∷ gives (keyAtRefusal 1 0 2 2) 6
+    ∷ gives (keyAtRefusal 1 2 0 2) 6
+    ∷ gives (keyAtRefusal 1 1 1 2) 8
+    ∷ gives (keyAtRefusal 1 1 1 1) 0
     -- raster from list: 1, 4, 2
     ∷ gives (rasterRefusal 1 0 keys bits 4 pixels) 1
     ∷ gives (rasterRefusal 1 2 keys bits 4 []) 4
@@ -269,7 +280,7 @@ unfolding
     closed entryOf countRecord lastRecord lastKey lastFeature lastCount beforeLast lastContent isContent closes lastIsEntry endsInMark stepCount stepEntries beforeEntries beforeStep endsInEntries lastIsGroup lastIsStep dividesIn isSound putBack paintAgain firstIn firstStep noLog
     findingsOf allFindings waiversOf isWaivedAt isHidden liveOf hiddenCount isRule allRules idsAscend badRules findingsAscend isRuleId allWaivers badWaivers
     bytesOf numberAfter numberOf versionFor bitBytes bytesOfRecords headOf fileOf numberAt readRecords recordsInFile sameBytes wrongMark otherVersion badAtVersion
-    buildRefusal surveyRefusal rasterRefusal rasterPixels standingRefusal standing part partSpan existRefusal reportRefusal selected selectRefusal select
+    buildRefusal surveyRefusal blockOfRefusal keyAtRefusal rasterRefusal rasterPixels standingRefusal standing part partSpan existRefusal reportRefusal selected selectRefusal select
     exist report notBefore overlapEnd overlapLength overlapWindow refusalTo valueTo batchRefusal batch batchRefusals batchValues
     painted gained paintRefusal restored takeBackRefusal redone redoRefusal
     rowsIn tableOf rowsOf rowsAscend officesKnown isSoundTable isTable rowKeysValid
