@@ -1,5 +1,6 @@
--- Thirty-two classes (document 02, item 5): a map of classes 0 and 31 at s = 32 through build, check, raster, the queries, the summary, a paint and its
--- file, and the file's versions with the slots around their limits. One table under one claim, proved by computation.
+-- Thirty-two classes (document 02, item 5): a map of classes 0 and 31 at s = 32 through build, check, raster, the queries, the summary, leaf lists, a paint
+-- with its log, its taking back and its redo, and its file; and the file's versions with the slots around their limits. One table under one claim, proved by
+-- computation.
 use Prim.Native.Nat.{ℕ}
 use mathlib.Core.Path.{refl}
 use mathlib.Core.Bool.{Bool, cond}
@@ -13,15 +14,21 @@ use Rattle.definitions.specs.List.{listOf}
 use Rattle.definitions.specs.Read.{recordsOf, paired, valueAt, pictureOf, sameRecords, isListOfBlock, isList}
 use Rattle.definitions.specs.Refusal.{first, badSettings, badLength, badPixel}
 use Rattle.definitions.specs.Window.{isWindow, inWindow, featuresOfRow, featuresOfRows, featuresIn, occurs, unionOf, existIn, reportIn, isGiven, selectFrom, selectIn}
-use Rattle.definitions.specs.Area.{countOf, areaIn, pixelsWith, countsFrom, summaryBelow, summaryOf}
-use Rattle.definitions.specs.Edit.{put, paintIn}
+use Rattle.definitions.specs.Area.{countOf, areaIn, pixelsWith, countsFrom, summaryBelow, summaryOf, sameNumbers, noSummary}
+use Rattle.definitions.specs.Edit.{put, paintIn, contentOf}
+use Rattle.definitions.specs.Leaves.{leavesOf, validKeys, ascendFrom, coverings, coverOnce, areLeaves, isDelivery, pictureOfLeaves}
+use Rattle.definitions.specs.Log.{closed, entryOf, countRecord, lastRecord, lastKey, lastFeature, lastCount, beforeLast, lastContent, isContent, closes, lastIsEntry, endsInMark, stepCount, stepEntries, beforeEntries, beforeStep, endsInEntries, lastIsGroup, lastIsStep, dividesIn, isSound, putBack, paintAgain, firstIn, firstStep, noLog}
 use Rattle.definitions.specs.File.{bytesOf, numberAfter, numberOf, versionFor, bitBytes, bytesOfRecords, headOf, fileOf, numberAt, readRecords, recordsInFile, sameBytes, wrongMark, otherVersion, badAtVersion}
 use Rattle.definitions.specs.Calls.Build.{buildRefusal, build, buildKeys, buildBits}
 use Rattle.definitions.specs.Calls.Raster.{rasterRefusal, rasterPixels}
-use Rattle.definitions.specs.Calls.Paint.{painted}
+use Rattle.definitions.specs.Calls.ReadLeaves.{readLeavesRefusal, readLeaves, readLeavesKeys, readLeavesBits}
+use Rattle.definitions.specs.Calls.WriteLeaves.{writeLeavesRefusal, writeLeaves, writtenLeafKeys, writtenLeafFeatures}
+use Rattle.definitions.specs.Calls.Paint.{painted, gained, paintRefusal, paint, paintKeys, paintBits, paintSummary, paintLogKeys, paintLogValues}
+use Rattle.definitions.specs.Calls.TakeBack.{restored, takeBackRefusal, forceBefore, takeBack, takeBackKeys, takeBackBits, takeBackSummary}
+use Rattle.definitions.specs.Calls.Redo.{redone, redoRefusal, forceAfter, redo, redoKeys, redoBits, redoSummary}
 use Rattle.definitions.specs.Calls.Store.{stored, storeRefusal, store, storeFile}
 use Rattle.definitions.specs.Calls.Load.{loadRefusal, load, loadKeys, loadBits}
-use Rattle.definitions.proofs.Vectors.{VectorRow, row, Holds, shown, window, of-counted, unwritten}
+use Rattle.definitions.proofs.Vectors.{VectorRow, row, Holds, shown, window, of-counted, of-edited, unwritten}
 
 abbrev truth : Bool → ℕ
 truth b = cond b 1 0
@@ -39,6 +46,36 @@ keys = 0 ∷ 1 ∷ 2 ∷ 3 ∷ 4 ∷ []
 
 abbrev bits : List ℕ
 bits = 0x80000001 ∷ 1 ∷ last ∷ last ∷ 1 ∷ []
+
+-- its leaves
+abbrev leafKeys : List ℕ
+leafKeys = 1 ∷ 2 ∷ 3 ∷ 4 ∷ []
+
+-- the whole map painted with class 31: the one record in five places, and the log's entry, the former list before its closing records
+abbrev keysP : List ℕ
+keysP = 0 ∷ 0 ∷ 0 ∷ 0 ∷ 0 ∷ []
+
+abbrev bitsP : List ℕ
+bitsP = last ∷ 0 ∷ 0 ∷ 0 ∷ 0 ∷ []
+
+abbrev logKeysP : List ℕ
+logKeysP = keys ++ (0 ∷ 0 ∷ 77 ∷ [])
+
+abbrev logValuesP : List ℕ
+logValuesP = bits ++ (5 ∷ 31 ∷ 77 ∷ [])
+
+-- the counts of a pixel of class 0, and of one of class 31
+abbrev zeroth : List ℕ
+zeroth = 1 ∷ replicate 31 0
+
+abbrev thirtyFirst : List ℕ
+thirtyFirst = replicate 31 0 ++ (1 ∷ [])
+
+abbrev summary : List ℕ
+summary = zeroth ++ (thirtyFirst ++ (thirtyFirst ++ zeroth))
+
+abbrev summaryP : List ℕ
+summaryP = thirtyFirst ++ (thirtyFirst ++ (thirtyFirst ++ thirtyFirst))
 
 abbrev fileBytes : List ℕ
 fileBytes =
@@ -71,10 +108,37 @@ table =
     ∷ row (selectIn 1 picture (window 0 0 2 2) 31) (2 ∷ 3 ∷ [])
     ∷ row (areaIn picture (window 0 0 2 2) 31 ∷ areaIn picture (window 0 0 2 1) 31 ∷ []) (2 ∷ 1 ∷ [])
     -- the summary: 32 counts a pixel
-    ∷ row (summaryOf 1 32 picture) (zeroth ++ (thirtyFirst ++ (thirtyFirst ++ zeroth)))
+    ∷ row (summaryOf 1 32 picture) summary
     -- a paint with class 31
     ∷ row (shown (painted 1 (recordsOf keys bits 5) 0 31)) (0 ∷ last ∷ [])
     ∷ row (shown (painted 1 (recordsOf keys bits 5) 1 31)) (0 ∷ 0x80000001 ∷ 1 ∷ last ∷ 2 ∷ last ∷ 3 ∷ last ∷ 4 ∷ 1 ∷ [])
+    -- leaf lists: class 31 is delivered and written; 31 slots have no class 31
+    ∷ row (of-counted (readLeaves 1 32 leafKeys pixels 4 (unwritten 5) (unwritten 6))) (0 ∷ 5 ∷ [])
+    ∷ row (readLeavesKeys 1 32 leafKeys pixels 4 (unwritten 5) (unwritten 6)) keys
+    ∷ row (readLeavesBits 1 32 leafKeys pixels 4 (unwritten 5) (unwritten 6)) (bits ++ unwritten 1)
+    ∷ row (of-counted (readLeaves 1 31 leafKeys pixels 4 (unwritten 5) (unwritten 6))) (19 ∷ 0 ∷ [])
+    ∷ row (of-counted (writeLeaves 1 32 keys bits 5 (unwritten 4) (unwritten 5))) (0 ∷ 4 ∷ [])
+    ∷ row (writtenLeafKeys 1 32 keys bits 5 (unwritten 4) (unwritten 5)) leafKeys
+    ∷ row (writtenLeafFeatures 1 32 keys bits 5 (unwritten 4) (unwritten 5)) (pixels ++ unwritten 1)
+    -- the log: the former content with class 31 in it, and the painted feature 31
+    ∷ row (of-edited (paint 1 32 keys bits 5 summary (unwritten 8) (unwritten 8) 0 0 0 31)) (0 ∷ 1 ∷ 7 ∷ 7 ∷ [])
+    ∷ row (paintKeys 1 32 keys bits 5 summary (unwritten 8) (unwritten 8) 0 0 0 31) keysP
+    ∷ row (paintBits 1 32 keys bits 5 summary (unwritten 8) (unwritten 8) 0 0 0 31) bitsP
+    ∷ row (paintSummary 1 32 keys bits 5 summary (unwritten 8) (unwritten 8) 0 0 0 31) summaryP
+    ∷ row (paintLogKeys 1 32 keys bits 5 summary (unwritten 8) (unwritten 8) 0 0 0 31) logKeysP
+    ∷ row (paintLogValues 1 32 keys bits 5 summary (unwritten 8) (unwritten 8) 0 0 0 31) logValuesP
+    -- it is a log of 32 slots, and not of 31; feature 32 is none
+    ∷ row (truth (noLog 1 32 logKeysP logValuesP 7 7) ∷ truth (noLog 1 31 logKeysP logValuesP 7 7) ∷ []) (0 ∷ 1 ∷ [])
+    ∷ row (of-edited (paint 1 32 keys bits 5 summary (unwritten 8) (unwritten 8) 0 0 0 32)) (7 ∷ 0 ∷ 0 ∷ 0 ∷ [])
+    -- taken back, and redone
+    ∷ row (of-edited (takeBack 1 32 keysP bitsP 1 summaryP logKeysP logValuesP 7 7)) (0 ∷ 5 ∷ 7 ∷ 0 ∷ [])
+    ∷ row (takeBackKeys 1 32 keysP bitsP 1 summaryP logKeysP logValuesP 7 7) keys
+    ∷ row (takeBackBits 1 32 keysP bitsP 1 summaryP logKeysP logValuesP 7 7) bits
+    ∷ row (takeBackSummary 1 32 keysP bitsP 1 summaryP logKeysP logValuesP 7 7) summary
+    ∷ row (of-edited (redo 1 32 keys bits 5 summary logKeysP logValuesP 7 0)) (0 ∷ 1 ∷ 7 ∷ 7 ∷ [])
+    ∷ row (redoKeys 1 32 keys bits 5 summary logKeysP logValuesP 7 0) keysP
+    ∷ row (redoBits 1 32 keys bits 5 summary logKeysP logValuesP 7 0) bitsP
+    ∷ row (redoSummary 1 32 keys bits 5 summary logKeysP logValuesP 7 0) summaryP
     -- the file, byte for byte, and the list of the file
     ∷ row (of-counted (store 1 32 keys bits 5 (unwritten 50))) (12 ∷ 51 ∷ [])
     ∷ row (storeFile 1 32 keys bits 5 (unwritten 52)) (fileBytes ++ unwritten 1)
@@ -89,12 +153,6 @@ table =
     picture : ℕ → ℕ → ℕ
     picture = pictureOfRaster 1 pixels
 
-    zeroth : List ℕ
-    zeroth = 1 ∷ replicate 31 0
-
-    thirtyFirst : List ℕ
-    thirtyFirst = replicate 31 0 ++ (1 ∷ [])
-
 claim : Holds table
 unfolding
     table
@@ -103,9 +161,14 @@ unfolding
     paired valueAt pictureOf sameRecords isListOfBlock isList
     first badSettings badLength badPixel
     isWindow inWindow featuresOfRow featuresOfRows featuresIn occurs unionOf existIn reportIn isGiven selectFrom selectIn
-    countOf areaIn pixelsWith countsFrom summaryBelow summaryOf
-    put paintIn
+    countOf areaIn pixelsWith countsFrom summaryBelow summaryOf sameNumbers noSummary
+    put paintIn contentOf
+    leavesOf validKeys ascendFrom coverings coverOnce areLeaves isDelivery pictureOfLeaves
+    closed entryOf countRecord lastRecord lastKey lastFeature lastCount beforeLast lastContent isContent closes lastIsEntry endsInMark stepCount stepEntries beforeEntries beforeStep endsInEntries lastIsGroup lastIsStep dividesIn isSound putBack paintAgain firstIn firstStep noLog
     bytesOf numberAfter numberOf versionFor bitBytes bytesOfRecords headOf fileOf numberAt readRecords recordsInFile sameBytes wrongMark otherVersion badAtVersion
-    buildRefusal build buildKeys buildBits rasterRefusal rasterPixels painted
+    buildRefusal build buildKeys buildBits rasterRefusal rasterPixels
+    readLeavesRefusal readLeaves readLeavesKeys readLeavesBits writeLeavesRefusal writeLeaves writtenLeafKeys writtenLeafFeatures
+    painted gained paintRefusal paint paintKeys paintBits paintSummary paintLogKeys paintLogValues
+    restored takeBackRefusal forceBefore takeBack takeBackKeys takeBackBits takeBackSummary redone redoRefusal forceAfter redo redoKeys redoBits redoSummary
     stored storeRefusal store storeFile loadRefusal load loadKeys loadBits
 claim = refl

@@ -82,6 +82,14 @@ table =
     -- 6 where 8 stood, before 7
     ∷ row (of-edited (paintWindow 2 3 (keysA 0) (bitsA 0) 9 summaryA (unwritten 16) (unwritten 16) 0 0 (window 0 1 2 4) 3)) (6 ∷ 0 ∷ 0 ∷ 0 ∷ [])
     ∷ row (of-edited (paintWindow 2 3 (keysA 0) (bitsA 0) 9 summaryA (unwritten 16) (unwritten 16) 0 0 (window 0 1 2 3) 3)) (7 ∷ 0 ∷ 0 ∷ 0 ∷ [])
+    -- 1 before 4, 4 before 18, 18 before 5, 5 before 6, 7 before 10, 10 before 9, and 9
+    ∷ row (of-edited (paintWindow 2 0 (keysA 0) (bitsA 0) 8 summaryA (unwritten 16) (unwritten 16) 0 0 (window 0 1 2 3) 2)) (1 ∷ 0 ∷ 0 ∷ 0 ∷ [])
+    ∷ row (of-edited (paintWindow 2 3 (keysA 0) (bitsA 0) 8 [] (unwritten 16) (unwritten 16) 0 0 (window 0 1 2 3) 2)) (4 ∷ 0 ∷ 0 ∷ 0 ∷ [])
+    ∷ row (of-edited (paintWindow 2 3 (keysA 0) (bitsA 0) 9 [] (unwritten 16) (unwritten 16) 4 4 (window 0 1 2 3) 2)) (18 ∷ 0 ∷ 0 ∷ 0 ∷ [])
+    ∷ row (of-edited (paintWindow 2 3 (keysA 0) (bitsA 0) 9 summaryA (unwritten 16) (unwritten 16) 4 4 (window 0 1 2 4) 2)) (5 ∷ 0 ∷ 0 ∷ 0 ∷ [])
+    ∷ row (of-edited (paintWindow 2 3 (keysA 0) (bitsA 0) 9 summaryA (unwritten 14) (unwritten 14) 0 0 (window 0 1 2 3) 3)) (7 ∷ 0 ∷ 0 ∷ 0 ∷ [])
+    ∷ row (of-edited (paintWindow 2 3 (keysA 0) (bitsA 0) 9 summaryA (unwritten 4) (unwritten 5) 0 0 (window 0 1 1 1) 2)) (10 ∷ 0 ∷ 0 ∷ 0 ∷ [])
+    ∷ row (of-edited (paintWindow 2 3 (keysA 0) (bitsA 0) 9 summaryA (unwritten 5) (unwritten 5) 0 0 (window 0 1 1 1) 2)) (9 ∷ 0 ∷ 0 ∷ 0 ∷ [])
     -- taken back whole, and redone whole, in the same nine places
     ∷ row (of-edited (takeBack 2 3 keysW bitsW 9 summaryW logKeysW logValuesW 15 15)) (0 ∷ 9 ∷ 15 ∷ 0 ∷ [])
     ∷ row (takeBackKeys 2 3 keysW bitsW 9 summaryW logKeysW logValuesW 15 15) (keysA 0)

@@ -11,3 +11,4 @@ mod GroupVectors
 mod ListingVectors
 mod CombineVectors
 mod OfficeVectors
+mod FullOffice

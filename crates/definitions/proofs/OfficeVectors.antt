@@ -1,5 +1,5 @@
 -- The table of two offices: each refusal of adding and removing alone and each two neighbours at once, tables damaged in one way, what the calls leave in
--- the slices. One table under one claim, proved by computation.
+-- the slices (12, and an office above 256, are in FullOffice). One table under one claim, proved by computation.
 use Prim.Native.Nat.{ℕ}
 use mathlib.Core.Path.{refl}
 use mathlib.Core.List.{List, [], _∷_}
@@ -51,6 +51,8 @@ table =
     ∷ gives (addRefusal 1 0 (tableWith []) (tableWith (7 ∷ [])) (tableWith (1 ∷ [])) 1 7 5) 8
     ∷ gives (addRefusal 1 0 (tableWith []) (tableWith (7 ∷ [])) (tableWith (1 ∷ [])) 1 7 1) 22
     ∷ gives (addRefusal 1 1 (tableWith []) (tableWith (7 ∷ [])) (tableWith (1 ∷ [])) 1 7 1) 0
+    -- 8 before 22: the row is there, and its key is of no block
+    ∷ gives (addRefusal 1 0 (tableWith []) (tableWith (7 ∷ [])) (tableWith (5 ∷ [])) 1 7 5) 8
     -- remove: 21, 1, 14, 8, 22
     ∷ gives (removeRefusal 11 2 [] [] [] 0 7 1) 21
     ∷ gives (removeRefusal 11 1 [] [] [] 0 7 1) 1

@@ -2,7 +2,7 @@
 -- standing, part, findings and the file answer on Map A. One table under one claim, proved by computation.
 use Prim.Native.Nat.{ℕ}
 use mathlib.Core.Path.{refl}
-use mathlib.Core.List.{List, [], _∷_}
+use mathlib.Core.List.{List, [], _∷_, _++_}
 use lib.IntN.{negsuc}
 use lib.ListN.{length}
 use Rattle.keys.specs.Key.{validKey, digitsOf, digitsThenZeros, onlyZeros, levelOf, digitsBeforeZero, heightOf}
@@ -21,6 +21,9 @@ use Rattle.definitions.specs.Log.{closed, entryOf, countRecord, lastReco
 use Rattle.definitions.specs.Rules.{findingsOf, allFindings, waiversOf, isWaivedAt, isHidden, liveOf, hiddenCount, isRule, allRules, idsAscend, badRules, findingsAscend, isRuleId, allWaivers, badWaivers}
 use Rattle.definitions.specs.File.{bytesOf, numberAfter, numberOf, versionFor, bitBytes, bytesOfRecords, headOf, fileOf, numberAt, readRecords, recordsInFile, sameBytes, wrongMark, otherVersion, badAtVersion}
 use Rattle.definitions.specs.Calls.Build.{buildRefusal}
+use Rattle.definitions.specs.Calls.Survey.{surveyRefusal}
+use Rattle.definitions.specs.Calls.BlockOf.{blockOfRefusal}
+use Rattle.definitions.specs.Calls.KeyAt.{keyAtRefusal}
 use Rattle.definitions.specs.Calls.Raster.{rasterRefusal, rasterPixels}
 use Rattle.definitions.specs.Calls.Standing.{standingRefusal, standing}
 use Rattle.definitions.specs.Calls.Part.{part, partSpan}
@@ -80,47 +83,12 @@ rule id height feature = record { id = id; row = 0; column = 0; height = height;
 -- a file of the list, with its mark, version, slots and length as given
 abbrev fileWith : ℕ → ℕ → ℕ → List ℕ → List ℕ
 fileWith markByte version s rest =
-    0x48
-    ∷ 0x4C
-    ∷ markByte
-    ∷ 0
-    ∷ version
-    ∷ 1
-    ∷ s
-    ∷ 0
-    ∷ 0
-    ∷ 0
-    ∷ 5
-    ∷ 0
-    ∷ 0
-    ∷ 0
-    ∷ 0
-    ∷ 0
-    ∷ 3
-    ∷ 0
-    ∷ 0
-    ∷ 0
-    ∷ 1
-    ∷ 0
-    ∷ 1
-    ∷ 0
-    ∷ 0
-    ∷ 0
-    ∷ 2
-    ∷ 0
-    ∷ 1
-    ∷ 0
-    ∷ 0
-    ∷ 0
-    ∷ 3
-    ∷ 0
-    ∷ 1
-    ∷ 0
-    ∷ 0
-    ∷ 0
-    ∷ 4
-    ∷ 0
-    ∷ rest
+    (0x48 ∷ 0x4C ∷ markByte ∷ 0 ∷ version ∷ 1 ∷ s ∷ 0 ∷ 0 ∷ 0 ∷ 5 ∷ [])
+    ++ ((0 ∷ 0 ∷ 0 ∷ 0 ∷ 0 ∷ 3 ∷ [])
+    ++ ((0 ∷ 0 ∷ 0 ∷ 1 ∷ 0 ∷ 1 ∷ [])
+    ++ ((0 ∷ 0 ∷ 0 ∷ 2 ∷ 0 ∷ 1 ∷ [])
+    ++ ((0 ∷ 0 ∷ 0 ∷ 3 ∷ 0 ∷ 1 ∷ [])
+    ++ (0 ∷ 0 ∷ 0 ∷ 4 ∷ 0 ∷ rest)))))
 
 -- the number that a call gives, and the one that document 01 says
 abbrev gives : ℕ → ℕ → VectorRow
@@ -138,6 +106,25 @@ table =
     ∷ gives (buildRefusal 1 1 pixels keys []) 3
     ∷ gives (buildRefusal 1 2 pixels keys (unwritten 4)) 9
     ∷ gives (buildRefusal 1 2 pixels keys bits) 0
+    -- build with its summary: 1, 2, 3, 18, 9
+    ∷ gives (surveyRefusal 1 0 (0 ∷ pixels) keys bits summary) 1
+    ∷ gives (surveyRefusal 1 1 (0 ∷ pixels) keys bits summary) 2
+    ∷ gives (surveyRefusal 1 1 pixels keys bits (unwritten 4)) 3
+    ∷ gives (surveyRefusal 1 1 pixels keys bits summary) 3
+    ∷ gives (surveyRefusal 1 2 pixels keys bits (unwritten 7)) 18
+    ∷ gives (surveyRefusal 1 2 pixels keys bits (unwritten 9)) 18
+    ∷ gives (surveyRefusal 1 2 pixels keys (unwritten 4) (unwritten 7)) 18
+    ∷ gives (surveyRefusal 1 2 pixels keys (unwritten 4) (unwritten 8)) 9
+    ∷ gives (surveyRefusal 1 2 pixels keys bits (unwritten 8)) 0
+    -- block of: 1 (for m alone), 8; key at: 1 (for m alone), 6, 8
+    ∷ gives (blockOfRefusal 11 5) 1
+    ∷ gives (blockOfRefusal 1 5) 8
+    ∷ gives (blockOfRefusal 1 4) 0
+    ∷ gives (keyAtRefusal 11 2048 0 12) 1
+    ∷ gives (keyAtRefusal 1 0 2 2) 6
+    ∷ gives (keyAtRefusal 1 2 0 2) 6
+    ∷ gives (keyAtRefusal 1 1 1 2) 8
+    ∷ gives (keyAtRefusal 1 1 1 1) 0
     -- raster from list: 1, 4, 2
     ∷ gives (rasterRefusal 1 0 keys bits 4 pixels) 1
     ∷ gives (rasterRefusal 1 2 keys bits 4 []) 4
@@ -293,7 +280,7 @@ unfolding
     closed entryOf countRecord lastRecord lastKey lastFeature lastCount beforeLast lastContent isContent closes lastIsEntry endsInMark stepCount stepEntries beforeEntries beforeStep endsInEntries lastIsGroup lastIsStep dividesIn isSound putBack paintAgain firstIn firstStep noLog
     findingsOf allFindings waiversOf isWaivedAt isHidden liveOf hiddenCount isRule allRules idsAscend badRules findingsAscend isRuleId allWaivers badWaivers
     bytesOf numberAfter numberOf versionFor bitBytes bytesOfRecords headOf fileOf numberAt readRecords recordsInFile sameBytes wrongMark otherVersion badAtVersion
-    buildRefusal rasterRefusal rasterPixels standingRefusal standing part partSpan existRefusal reportRefusal selected selectRefusal select
+    buildRefusal surveyRefusal blockOfRefusal keyAtRefusal rasterRefusal rasterPixels standingRefusal standing part partSpan existRefusal reportRefusal selected selectRefusal select
     exist report notBefore overlapEnd overlapLength overlapWindow refusalTo valueTo batchRefusal batch batchRefusals batchValues
     painted gained paintRefusal restored takeBackRefusal redone redoRefusal
     rowsIn tableOf rowsOf rowsAscend officesKnown isSoundTable isTable rowKeysValid

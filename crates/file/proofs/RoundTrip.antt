@@ -15,6 +15,7 @@ use Rattle.definitions.specs.File.{bitBytes, fileOf, mIn, sIn, nIn, recordsInFi
 use Rattle.definitions.specs.Refusal.{badSettings}
 use Rattle.definitions.specs.Calls.Store.{stored, storeRefusal, store, storeFile}
 use Rattle.definitions.specs.Calls.Load.{loadRefusal, load, loadKeys, loadBits}
+use Rattle.laws.proofs.Buffer.{past-over}
 use Rattle.laws.proofs.FileBytes.{Bytes}
 use Rattle.laws.proofs.FileOf.{read-m, read-s, read-n, read-records, written-mark, written-version, written-settings, written-length, written-not-short}
 use Rattle.laws.proofs.FileBack.{length-read, settings-good, file-back}
@@ -22,7 +23,7 @@ use Rattle.laws.proofs.Records.{records-length, records-over}
 use Rattle.list.proofs.Tests.{good-settings}
 use Rattle.file.proofs.Accepted.{StoreAccepted, store-accepted, store-accepts, store-count, store-leaves, LoadAccepted, load-accepted, load-accepts, load-gives, load-leaves}
 use Rattle.file.proofs.Fits.{list-parts, list-whole, list-fits, list-short}
-use Rattle.file.proofs.SliceRecords.{past-over, over-room}
+use Rattle.file.proofs.SliceRecords.{over-room}
 
 -- as many records are in a file as it says
 in-file : (file : List ℕ) → length (recordsInFile file) ≡ nIn file

@@ -1,17 +1,12 @@
--- Records laid over two slices: the places past them stay, and the room is kept. Rests on the laws of lists.
+-- Records laid over two slices keep the room. Rests on the laws of lists.
 use Prim.Native.Nat.{ℕ, _≤_}
-use mathlib.Core.Path.{_≡_, ap, _∙_}
+use mathlib.Core.Path.{_≡_}
 use mathlib.Core.List.{List}
 use native.Mathlib.Omega.{arith}
 use lib.ListN.{length, length-map, length-append, drop}
-use lib.Seq.{drop-at}
 use Rattle.definitions.specs.List.{Record, keysOf, valuesOf}
 use Rattle.definitions.specs.Read.{room}
 use Rattle.definitions.specs.Buffer.{over}
-
--- the places past what is laid over a slice stay
-pub past-over : (new old : List ℕ) (n : ℕ) → length new ≡ n → drop n (over new old) ≡ drop n old
-past-over new old n e = drop-at new (drop (length new) old) n e ∙ ap (λ k. drop k old) e
 
 -- what has room keeps it
 pub over-room : (l : List Record) (n : ℕ) (keys bits : List ℕ) → length l ≡ n → n ≤ room keys bits → n ≤ room (over (keysOf l) keys) (over (valuesOf l) bits)

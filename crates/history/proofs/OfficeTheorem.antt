@@ -150,6 +150,10 @@ no-rows : (T : Table) → Empty T → tableIn T ≡ []
 unfolding tableOf rowsIn
 no-rows T e = ap (tableOf (T .offices) (T .ids) (T .waived)) (e .none)
 
+-- so neither office has any
+pub empty-share : (office : ℕ) (T : Table) → Empty T → rowsOf office (tableIn T) ≡ []
+empty-share office T e = ap (rowsOf office) (no-rows T e) ∙ share-none office
+
 pub empty-grown : (m : ℕ) (T : Table) → Empty T → GrownTable m T
 unfolding rowsAscend officesKnown rowKeysValid
 empty-grown m T e =

@@ -82,7 +82,7 @@ pub second-file-refused : (m s : ℕ) (l : List Record) (keys bits : List ℕ) �
 second-file-refused m s l keys bits many =
     second-refused (fileOf m s l) keys bits (written-not-short m s l) (written-mark m s l) (read-version m s l ∙ second-version s many .0)
 
-same-records : (n : ℕ) (bytes : List ℕ) → readRecords 2 n bytes ≡ formerRecords n bytes
+pub same-records : (n : ℕ) (bytes : List ℕ) → readRecords 2 n bytes ≡ formerRecords n bytes
 unfolding readRecords formerRecords
 same-records zero bytes = refl
 same-records (suc n) bytes = ap (λ l. recordOf (numberAt 0 4 bytes) (numberAt 4 2 bytes) ∷ l) (same-records n (drop 6 bytes))

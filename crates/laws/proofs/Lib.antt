@@ -29,6 +29,8 @@ pub mod SummaryAddsUp
 pub mod CountsApart
 pub mod SelectArea
 pub mod SummaryPlaces
+pub mod SummaryKeys
+pub mod AreaAnswers
 pub mod Overlap
 pub mod ClippedCalls
 pub mod OneByOne
@@ -55,6 +57,7 @@ pub mod FileOf
 pub mod FileBack
 pub mod First
 pub mod FormerFile
+pub mod FormerLoad
 pub mod LastSlot
 pub mod Combined
 pub mod Records

@@ -18,3 +18,4 @@ pub mod Picking
 pub mod ReadAnswer
 pub mod WriteAnswer
 pub mod RoundTrip
+pub mod ReadWritten

@@ -2,6 +2,8 @@
 pub mod Uniqueness
 pub mod OneAnswer
 pub mod HistorySteps
+pub mod OfficeSteps
+pub mod AreaCalls
 -- findings, walked by hand
 pub mod FindingsCalls
 pub mod FindingsEntryExit

@@ -189,11 +189,11 @@ remove-waiver-one =
     by-equations (λ x. (one (x .kept .0) (x .kept′ .0), (one (x .kept .1) (x .kept′ .1), (one (x .kept .2) (x .kept′ .2), one (x .kept .3) (x .kept′ .3)))))
 
 -- findings: it is proved by hand, so its contract is read here, in the way that Rattle itself reads the others
-abbrev findings-read : (κs : Lfts 8) (lent : Args findings.signature κs) (r : Res findings.signature κs) (s : AtExit findings.ended κs)
+abbrev pub findings-read : (κs : Lfts 8) (lent : Args findings.signature κs) (r : Res findings.signature κs) (s : AtExit findings.ended κs)
     → Read (λ w. emp (w .𝓤)) no-know (λ w. findings.clauses (w .𝓤) (w .H) (w .𝓖 .A) (w .𝓜 .mem) (w .𝓡 .run) κs lent .ensures tt r s)
 findings-read κs lent r s = all-models _ (λ w. r-last _) (λ w. refl) (λ w. refl) (λ w. refl)
 
-abbrev findings-learnt : Promise findings.ended
+abbrev pub findings-learnt : Promise findings.ended
 findings-learnt κs lent r s = AllOf (findings-read κs lent r s .tells)
 
 pub findings-one : OneAnswer findings.ended findings-learnt
