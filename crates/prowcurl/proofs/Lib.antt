@@ -2,6 +2,7 @@
 pub mod Uniqueness
 pub mod OneAnswer
 pub mod HistorySteps
+pub mod RestSteps
 -- findings, walked by hand
 pub mod FindingsCalls
 pub mod FindingsEntryExit

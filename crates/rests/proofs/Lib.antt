@@ -1,0 +1,10 @@
+pub mod Moved
+pub mod RestStep
+pub mod Run
+pub mod Begun
+pub mod Theorem
+pub mod ByFile
+pub mod Exactly
+pub mod Unseen
+pub mod MapARests
+pub mod ShownLeft
