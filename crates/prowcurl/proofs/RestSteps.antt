@@ -16,7 +16,7 @@ use Rattle.definitions.specs.declared.Loaded.{Loaded}
 use Rattle.definitions.specs.declared.Done.{Done}
 use Rattle.definitions.specs.declared.Emptied.{Emptied}
 use Rattle.history.specs.History.{Call, Buffers, afterCalls}
-use Rattle.rests.specs.Rests.{Event, calling, resting, restingShort, Rested, LentSlices, Reached, begins, afterEvent, afterEvents, AllMay}
+use Rattle.rests.specs.Events.{Event, calling, resting, restingShort, Rested, LentSlices, Reached, begins, afterEvent, afterEvents, AllMay}
 use Rattle.rests.specs.AsLeft.{AsLeft}
 use Rattle.rests.specs.Starts.{HasList, rasterShown, found, filledFrom}
 use Rattle.rests.specs.ByFile.{RestCalls}

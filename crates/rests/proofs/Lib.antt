@@ -3,8 +3,11 @@ pub mod RestStep
 pub mod Run
 pub mod Begun
 pub mod Theorem
-pub mod ByFile
 pub mod Exactly
+pub mod Given
+pub mod FromCalls
+pub mod ByFile
+pub mod CallsRest
 pub mod Unseen
-pub mod MapARests
-pub mod ShownLeft
+pub mod RasterShown
+mod MapARests

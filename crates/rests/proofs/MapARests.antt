@@ -1,5 +1,6 @@
--- Map A over three nights, by computation: the first rest leads to slices that just hold the list, and there taking back is refused with 9; the second leads to larger ones, and
--- there it is accepted, and redo after it; the third leaves the paint that could be redone behind, and redo is refused with 20. So less room does count. Rests on nothing but the definitions.
+-- Map A over three nights, by computation: the first rest leads to slices that just hold the list, and there taking back is refused with 9; the second
+-- to larger ones, and there it is accepted, and redo after it; the third leaves the paint that could be redone behind, and redo is refused with 20. Rests
+-- on History and Events.
 use Prim.Native.Nat.{ℕ}
 use mathlib.Core.Path.{_≡_, refl}
 use mathlib.Core.List.{List, [], _∷_, _++_}
@@ -22,7 +23,7 @@ use Rattle.definitions.specs.Calls.TakeBack.{restored, takeBackRefusal, forceBe
 use Rattle.definitions.specs.Calls.Redo.{redone, redoRefusal, forceAfter, redo, redoKeys, redoBits, redoSummary, redoLogKeys, redoLogValues}
 use Rattle.history.specs.History.{ofBlock, painting, takingBack, redoing, Buffers, withoutLatest, withNext, built, answer, after, keep, applied, drawn, pictureLeft, rasterLeft}
 use Rattle.history.proofs.MapAHistory.{mapA, four}
-use Rattle.rests.specs.Rests.{Event, calling, resting, restingShort, Reached, builtInto, afterEvent, afterEvents, AllMay}
+use Rattle.rests.specs.Events.{Event, calling, resting, restingShort, Reached, builtInto, afterEvent, afterEvents, AllMay}
 
 -- the answers to the calls among events
 unfoldable answersTo : ℕ → ℕ → Reached → List Event → List ℕ
@@ -86,9 +87,11 @@ record Gives : Type 0 where
   raster : rasterLeft 2 mapA (afterEvents 2 3 start events .paints) ≡ mapA
   keys : afterEvents 2 3 start events .buffers .keys ≡ 0 ∷ 5 ∷ 10 ∷ 11 ∷ 12 ∷ 13 ∷ 14 ∷ 15 ∷ 20 ∷ []
   largest : afterEvents 2 3 start events .largest ≡ 12
+  -- and the rests may happen
+  may : AllMay 2 3 start events
 
 gives : Gives
-unfolding answersTo afterEvent afterEvents answer after keep withoutLatest withNext built applied drawn pictureLeft rasterLeft
+unfolding answersTo AllMay afterEvent afterEvents answer after keep withoutLatest withNext built applied drawn pictureLeft rasterLeft
     validKey digitsOf digitsThenZeros onlyZeros levelOf digitsBeforeZero heightOf rowOf columnOf sideOf inBlock pixelKey
     everyPixel oneFeature featuresBelow bitsOf unionOfFour twosIn featureOf listOf
     paired valueAt pictureOf sameRecords isListOfBlock isList first badSettings badLength badPixel featuresOfRow featuresOfRows
@@ -98,18 +101,24 @@ unfolding answersTo afterEvent afterEvents answer after keep withoutLatest withN
     surveyRefusal survey surveyKeys surveyBits surveySummary painted gained paintRefusal paint paintKeys paintBits paintSummary paintLogKeys paintLogValues
     restored takeBackRefusal forceBefore takeBack takeBackKeys takeBackBits takeBackSummary takeBackLogKeys takeBackLogValues
     redone redoRefusal forceAfter redo redoKeys redoBits redoSummary redoLogKeys redoLogValues
-gives = record { answered = refl; paints = refl; raster = refl; keys = refl; largest = refl }
-
--- the rests may happen
-may : AllMay 2 3 start events
-unfolding AllMay afterEvent afterEvents answer after keep withoutLatest withNext built applied drawn pictureLeft rasterLeft
-    validKey digitsOf digitsThenZeros onlyZeros levelOf digitsBeforeZero heightOf rowOf columnOf sideOf inBlock pixelKey
-    everyPixel oneFeature featuresBelow bitsOf unionOfFour twosIn featureOf listOf
-    paired valueAt pictureOf sameRecords isListOfBlock isList first badSettings badLength badPixel featuresOfRow featuresOfRows
-    countOf pixelsWith countsFrom summaryBelow summaryOf sameNumbers noSummary put paintIn contentOf
-    closed entryOf countRecord lastRecord lastKey lastFeature lastCount beforeLast lastContent isContent closes lastIsEntry
-    endsInMark stepCount stepEntries beforeEntries beforeStep lastIsStep dividesIn isSound firstIn firstStep putBack paintAgain noLog
-    surveyRefusal survey surveyKeys surveyBits surveySummary painted gained paintRefusal paint paintKeys paintBits paintSummary paintLogKeys paintLogValues
-    restored takeBackRefusal forceBefore takeBack takeBackKeys takeBackBits takeBackSummary takeBackLogKeys takeBackLogValues
-    redone redoRefusal forceAfter redo redoKeys redoBits redoSummary redoLogKeys redoLogValues
-may = (tt, (record { count = refl; fits = omega arith; records = refl; counted = refl; used = refl; force = refl; log-fits = omega arith; log-records = refl }, (tt, (record { count = refl; fits = omega arith; records = refl; counted = refl; used = refl; force = refl; log-fits = omega arith; log-records = refl }, (tt, (tt, (tt, (tt, (record { count = refl; fits = omega arith; records = refl; counted = refl; used = refl; force = refl; log-fits = omega arith; log-records = refl }, (tt, tt))))))))))
+gives =
+    record {
+      answered = refl;
+      paints = refl;
+      raster = refl;
+      keys = refl;
+      largest = refl;
+      may = (
+        tt,
+        (
+          record { count = refl; fits = omega arith; records = refl; counted = refl; log = record { fits = omega arith; records = refl }; used = refl; force = refl },
+          (
+            tt,
+            (
+              record { count = refl; fits = omega arith; records = refl; counted = refl; log = record { fits = omega arith; records = refl }; used = refl; force = refl },
+              (tt, (tt, (tt, (tt, (record { count = refl; fits = omega arith; records = refl; counted = refl; log = record { fits = omega arith; records = refl }; used = refl; force = refl }, (tt, tt)))))),
+            ),
+          ),
+        ),
+      );
+    }

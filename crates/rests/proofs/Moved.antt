@@ -1,4 +1,5 @@
--- Records that stand first in slices: what a list and a log hold in slices into which they were brought, whatever stands past them. Rests on history's slices.
+-- Records that stand first in slices: slices into which a list or a log was brought hold it, whatever stands past it. Rests on history's Slices and
+-- LogSlices.
 use Prim.Native.Nat.{ℕ, _≤_}
 use mathlib.Core.Path.{_≡_, refl, sym, ap, _∙_}
 use mathlib.Core.List.{List, _++_}

@@ -1,5 +1,5 @@
--- A rest keeps the invariant: in the slices that it leads to, list, summary and log are as before, with every step or without those to redo. What had room
--- before has room in the larger of the old and the new slices. Rests on Moved and history's Invariant.
+-- A rest keeps the invariant: in the slices that it leads to, list, summary and log are as before, with every step or without those to redo. What had
+-- room before has room in the larger of the old and the new slices. Rests on Moved and history's Invariant.
 use Prim.Native.Nat.{ℕ, _≤_, max}
 use mathlib.Core.Path.{_≡_, sym, ap, _∙_}
 use mathlib.Core.List.{List, [], _++_, append-nil}
@@ -16,7 +16,7 @@ use Rattle.history.proofs.Past.{Legal, Past, start, later, Future, no-more, nex
 use Rattle.history.proofs.Slices.{HoldsList}
 use Rattle.history.proofs.LogSlices.{HoldsLog}
 use Rattle.history.proofs.Invariant.{ground, now, Invariant, now-records, now-force}
-use Rattle.rests.specs.Rests.{Rested, withoutUndone}
+use Rattle.rests.specs.Events.{Rested, withoutUndone}
 use Rattle.rests.proofs.Moved.{shown-there, list-there, log-there}
 
 -- what has room has more room
@@ -52,7 +52,7 @@ module _ {m s size : ℕ} {p : Picture} {keys bits logKeys logValues : List ℕ}
   rested-log : (back : List Record) → recordsOf (b .logKeys) (b .logValues) brought ≡ logOf m (ground m p k) (k .held) ++ back
       → HoldsLog (logOf m (ground m p k) (k .held)) back (to .used) (to .logKeys) (to .logValues) (to .logKeys) (to .logValues) (to .used) (to .inForce)
   rested-log back e =
-      rw (r .used) (log-there (shown-there brought (to .logKeys) (to .logValues) (r .log-fits) (r .log-records ∙ e)) (r .force ∙ h .log .force))
+      rw (r .used) (log-there (shown-there brought (to .logKeys) (to .logValues) (r .log .fits) (r .log .records ∙ e)) (r .force ∙ h .log .force))
 
 -- a rest that brings along all records of the log keeps the invariant
 pub rest-keeps : {m s size : ℕ} {p : Picture} {keys bits logKeys logValues : List ℕ} {b : Buffers} {k : Kept} {inList inLog : ℕ}

@@ -1,5 +1,5 @@
--- A history with rests keeps the invariant: every call and every rest does. Where no rest leads to slices with less room, no slices had more room than those
--- lent last; and events that are calls alone are a history's run. Rests on RestStep and history's Theorem.
+-- A history with rests keeps the invariant: every call and every rest does. Where no rest leads to slices with less room, no slices had more room than
+-- those lent last; and events that are calls alone are a history's run. Rests on RestStep and history's Theorem.
 use Prim.Native.Nat.{ℕ, _≤_}
 use mathlib.Core.Path.{_≡_, refl}
 use mathlib.Core.Bool.{false}
@@ -7,14 +7,14 @@ use mathlib.Core.List.{List, [], _∷_, _++_, map}
 use native.Mathlib.Omega.{arith}
 use borrow.Author.Tests.{eq-eqb}
 use Rattle.definitions.specs.Picture.{Picture}
-use Rattle.definitions.specs.Read.{room, recordsOf, pictureOf}
+use Rattle.definitions.specs.Read.{recordsOf, pictureOf}
 use Rattle.definitions.specs.Area.{summaryOf, badSummaryLength}
 use Rattle.laws.proofs.SummaryOf.{summary-length}
-use Rattle.history.specs.History.{Call, afterCalls, kept}
+use Rattle.history.specs.History.{Call, Buffers, afterCalls, kept}
 use Rattle.history.proofs.Invariant.{Invariant}
 use Rattle.history.proofs.Theorem.{call-keeps}
-use Rattle.rests.specs.Rests.{Event, calling, resting, restingShort, MayHappen, Reached, afterEvent, afterEvents, AllMay}
-use Rattle.rests.specs.Starts.{KeepsRoom, AllKeepRoom}
+use Rattle.rests.specs.Events.{Event, calling, resting, restingShort, Rested, MayHappen, Reached, listRoom, afterEvent, afterEvents, AllMay}
+use Rattle.rests.specs.Roomy.{KeepsRoom, AllKeepRoom}
 use Rattle.rests.proofs.RestStep.{rest-keeps, short-keeps}
 
 -- the invariant holds in the slices lent last, and their summary has its length
@@ -26,20 +26,16 @@ pub record Stands (m s : ℕ) (p : Picture) (t : Reached) : Type 0 where
 pub own-length : (m s : ℕ) (p : Picture) (summary : List ℕ) → summary ≡ summaryOf m s p → badSummaryLength m s summary ≡ false
 own-length m s p summary e = rw (e, eq-eqb _ _ (summary-length m s p))
 
+-- and so has one that a rest filled
+rested-length : {m s : ℕ} {b : Buffers} {brought : ℕ} {to : Buffers} → Rested m s b brought to → badSummaryLength m s (to .summary) ≡ false
+rested-length {m} {s} {to = to} r = own-length m s (pictureOf m (recordsOf (to .keys) (to .bits) (to .n))) (to .summary) (r .counted)
+
 -- every event that may happen keeps it
 pub event-keeps : {m s : ℕ} {p : Picture} {t : Reached} (e : Event) → MayHappen m s (t .buffers) e → Stands m s p t → Stands m s p (afterEvent m s t e)
 unfolding afterEvent
 event-keeps (calling c) may h = record { holds = call-keeps c (h .holds); sized = h .sized }
-event-keeps {m} {s} (resting to) may h =
-    record {
-      holds = rest-keeps (h .holds) to may;
-      sized = own-length m s (pictureOf m (recordsOf (to .keys) (to .bits) (to .n))) (to .summary) (may .counted);
-    }
-event-keeps {m} {s} (restingShort to) may h =
-    record {
-      holds = short-keeps (h .holds) to may;
-      sized = own-length m s (pictureOf m (recordsOf (to .keys) (to .bits) (to .n))) (to .summary) (may .counted);
-    }
+event-keeps (resting to) may h = record { holds = rest-keeps (h .holds) to may; sized = rested-length may }
+event-keeps (restingShort to) may h = record { holds = short-keeps (h .holds) to may; sized = rested-length may }
 
 -- and so does every run of them
 pub events-keep : {m s : ℕ} {p : Picture} {t : Reached} (es : List Event) → AllMay m s t es → Stands m s p t → Stands m s p (afterEvents m s t es)
@@ -49,7 +45,7 @@ events-keep (e ∷ es) may h = events-keep es (may .1) (event-keeps e (may .0) h
 
 -- no slices had more room than those lent last
 abbrev pub Largest : Reached → Type 0
-Largest t = t .largest ≤ room (t .lent .keys) (t .lent .bits)
+Largest t = t .largest ≤ listRoom (t .lent)
 
 event-largest : (m s : ℕ) (t : Reached) (e : Event) → KeepsRoom t e → Largest t → Largest (afterEvent m s t e)
 unfolding afterEvent

@@ -1,6 +1,6 @@
--- Histories with rests: after any run of calls and rests from an accepted build, or from any list with its summary, with an empty log, the buffers are as claimed; where
--- no rest led to slices with less room, they are as demand 3 claims of the slices lent last. Rests on Run and Begun.
-use Prim.Native.Nat.{ℕ, _≤_}
+-- Histories with rests: after any run of calls and rests from an accepted build, or from any list with its summary, with an empty log, the buffers are as
+-- claimed; where no rest led to slices with less room, they are as demand 3 claims of the slices lent last. Rests on Run and Begun.
+use Prim.Native.Nat.{ℕ}
 use mathlib.Core.Path.{_≡_, sym, ap, _∙_}
 use mathlib.Core.List.{List}
 use native.Mathlib.Nat.{le-refl}
@@ -13,7 +13,6 @@ use Rattle.definitions.specs.Area.{summaryOf}
 use Rattle.definitions.specs.Calls.Survey.{surveyRefusal}
 use Rattle.laws.proofs.Built.{build-accepted, build-count, build-summary, build-records}
 use Rattle.history.specs.History.{Buffers, Kept, pictureLeft, rasterLeft}
-use Rattle.history.specs.Claim.{AsBuilt}
 use Rattle.history.proofs.Slices.{list-keys-length, list-bits-length}
 use Rattle.history.proofs.LogSlices.{log-counts}
 use Rattle.history.proofs.Invariant.{now-records, now-force, now-redo, now-is-list, now-is-summary, now-is-log}
@@ -21,10 +20,11 @@ use Rattle.history.proofs.PaintAnswer.{paint-answer, window-answer}
 use Rattle.history.proofs.TakeBackStep.{back-answer-in}
 use Rattle.history.proofs.RedoStep.{redo-answer-in}
 use Rattle.history.proofs.Theorem.{left-is, left-list, left-summary, left-builds, as-built}
-use Rattle.rests.specs.Rests.{Event, LentSlices, Reached, builtInto, afterEvents, AllMay}
+use Rattle.rests.specs.Events.{Event, LentSlices, listRoom, Reached, builtInto, afterEvents, AllMay}
 use Rattle.rests.specs.AsLeft.{AsLeft}
-use Rattle.rests.specs.Starts.{HasList, rasterShown, found, AllKeepRoom}
-use Rattle.rests.proofs.Run.{Stands, events-keep, events-largest}
+use Rattle.rests.specs.Starts.{HasList, rasterShown, found, GoodStart}
+use Rattle.rests.specs.Roomy.{AllKeepRoom, AsBuiltLast}
+use Rattle.rests.proofs.Run.{Stands, events-keep, Largest, events-largest}
 use Rattle.rests.proofs.Begun.{built-stands, list-stands}
 
 -- where the invariant holds the buffers are as claimed
@@ -77,17 +77,11 @@ across-rests m s raster lent e es may =
     as-left raster (afterEvents m s (builtInto m s raster lent) es) (events-keep es may (built-stands m s raster lent e))
 
 -- from any list with its summary and an empty log, by the raster that the list shows
-pub from-a-list : (m s : ℕ) (b : Buffers) → HasList m s b → (es : List Event) → AllMay m s (found b) es → AsLeft m s (rasterShown m b) (afterEvents m s (found b) es)
+pub from-a-list : (m s : ℕ) (b : Buffers) → HasList m s b → GoodStart m s b
 from-a-list m s b h es may = as-left (rasterShown m b) (afterEvents m s (found b) es) (events-keep es may (list-stands m s b h))
 
--- demand 3's claim, of the slices lent last
-abbrev pub AsBuiltLast : (m s : ℕ) (raster : List ℕ) → Reached → Type 0
-AsBuiltLast m s raster t =
-    AsBuilt m s raster (t .lent .keys) (t .lent .bits) (t .lent .summary) (t .lent .logKeys) (t .lent .logValues) (t .buffers) (t .paints) (t .inList) (t .inLog)
-
--- it holds where no slices had more room than those lent last
-pub as-built-last : {m s : ℕ} (raster : List ℕ) (t : Reached) → Stands m s (pictureOfRaster m raster) t → t .largest ≤ room (t .lent .keys) (t .lent .bits)
-    → AsBuiltLast m s raster t
+-- where no slices had more room than those lent last, demand 3's own claim holds
+pub as-built-last : {m s : ℕ} (raster : List ℕ) (t : Reached) → Stands m s (pictureOfRaster m raster) t → Largest t → AsBuiltLast m s raster t
 as-built-last raster t stands large = as-built raster (t .lent .summary) (stands .sized) (stands .holds) large
 
 -- so after rests none of which led to slices with less room: taking back is then refused with 11 alone, and redo with 20 alone
@@ -98,7 +92,7 @@ pub across-roomy-rests : (m s : ℕ) (raster : List ℕ) (lent : LentSlices) →
     → AsBuiltLast m s raster (afterEvents m s (builtInto m s raster lent) es)
 across-roomy-rests m s raster lent e es may more =
     as-built-last raster (afterEvents m s (builtInto m s raster lent) es) (events-keep es may (built-stands m s raster lent e))
-    (events-largest m s (builtInto m s raster lent) es more (le-refl (room (lent .keys) (lent .bits))))
+    (events-largest m s (builtInto m s raster lent) es more (le-refl (listRoom lent)))
 
 pub from-a-list-roomy : (m s : ℕ) (b : Buffers) → HasList m s b → (es : List Event) → AllMay m s (found b) es → AllKeepRoom m s (found b) es
     → AsBuiltLast m s (rasterShown m b) (afterEvents m s (found b) es)

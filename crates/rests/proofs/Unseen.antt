@@ -1,5 +1,5 @@
--- Nobody sees the rests: two histories that stand with the same paints in slices with as much room answer every call alike, and so a history whose rests bring all along and
--- lead to slices with as much room leaves what the same calls leave without the rests. Rests on Run.
+-- Nobody sees the rests: two histories that stand with the same paints in slices with as much room answer every call alike, and so a history whose rests
+-- bring all along and lead to slices with as much room leaves what the same calls leave without them. Rests on Run and Begun.
 use Prim.Native.Nat.{ℕ, _+_}
 use mathlib.Core.Path.{_≡_, refl, sym, ap, ap₂, _∙_}
 use mathlib.Core.List.{List, [], _∷_}
@@ -15,7 +15,7 @@ use Rattle.history.proofs.Invariant.{ground, now, now-records, now-force, now-r
 use Rattle.history.proofs.PaintAnswer.{paint-answer, window-answer}
 use Rattle.history.proofs.TakeBackStep.{back-answer-in}
 use Rattle.history.proofs.RedoStep.{redo-answer-in}
-use Rattle.rests.specs.Rests.{Event, calling, resting, restingShort, MayHappen, LentSlices, Reached, builtInto, afterEvent, afterEvents, AllMay}
+use Rattle.rests.specs.Events.{Event, calling, resting, restingShort, MayHappen, LentSlices, Reached, builtInto, afterEvent, afterEvents, AllMay}
 use Rattle.rests.specs.Starts.{HasList, found}
 use Rattle.rests.specs.Unseen.{withoutRests, AsRoomy, AllSameRoom, Alike}
 use Rattle.rests.proofs.Run.{Stands, event-keeps}

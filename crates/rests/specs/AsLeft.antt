@@ -1,5 +1,5 @@
--- What is claimed of a history with rests, of the buffers that it leaves and the slices that were lent last: what demand 3 claims of a history in the slices that
--- build was lent, but that taking back and redo may be refused with 9 where these slices have less room than earlier ones had. Rests on Rests and Claim.
+-- What is claimed of a history with rests, of the buffers that it leaves and the slices that were lent last. It is demand 3's record field by field, but
+-- for taking back and redo: they may be refused with 9 where these slices have less room than earlier ones had. Rests on Events and Claim.
 use Prim.Native.Nat.{ℕ, _+_}
 use mathlib.Core.Path.{_≡_}
 use mathlib.Core.Bool.{true, false}
@@ -7,7 +7,7 @@ use mathlib.Core.List.{List}
 use lib.ListN.{length, drop}
 use Rattle.definitions.specs.Picture.{pictureOfRaster}
 use Rattle.definitions.specs.List.{listOfPicture, listOfRaster, keysOf, valuesOf}
-use Rattle.definitions.specs.Read.{room, recordsOf, pictureOf, isList}
+use Rattle.definitions.specs.Read.{recordsOf, pictureOf, isList}
 use Rattle.definitions.specs.Buffer.{replaced}
 use Rattle.definitions.specs.Area.{summaryOf, noSummary}
 use Rattle.definitions.specs.declared.Window.{Window}
@@ -15,7 +15,7 @@ use Rattle.definitions.specs.Log.{toRedo, noLog}
 use Rattle.definitions.specs.Calls.Survey.{survey, surveyRefusal, surveyKeys, surveyBits, surveySummary}
 use Rattle.history.specs.History.{painting, ofBlock, ofWindow, takingBack, redoing, Buffers, Kept, answer, drawn, logOf, logAfter, pictureLeft, rasterLeft}
 use Rattle.history.specs.Claim.{backAnswerIn, redoAnswerIn, paintAnswer, paintWindowAnswer}
-use Rattle.rests.specs.Rests.{LentSlices, Reached}
+use Rattle.rests.specs.Events.{LentSlices, listRoom, logRoom, Reached}
 
 -- lent are the slices lent last; the history left b, keeps the paints k, and had at most so many records in the list and in the log of these slices
 pub record LeftIn (m s : ℕ) (raster : List ℕ) (lent : LentSlices) (b : Buffers) (k : Kept) (inList inLog : ℕ) : Type 0 where
@@ -51,15 +51,15 @@ pub record LeftIn (m s : ℕ) (raster : List ℕ) (lent : LentSlices) (b : Buffe
   pub force-count : b .inForce ≡ length (logOf m (drawn m (pictureOfRaster m raster) (k .fixed)) (k .held))
   pub used-count : b .used ≡ b .inForce + length (logAfter m (pictureLeft m raster k) (k .undone))
   -- taking back is refused with 11 exactly when no paint is held, and else with 9 exactly when the list before the latest paint has no room
-  pub back : answer m s b takingBack ≡ backAnswerIn m (drawn m (pictureOfRaster m raster) (k .fixed)) (room (lent .keys) (lent .bits)) (k .held)
+  pub back : answer m s b takingBack ≡ backAnswerIn m (drawn m (pictureOfRaster m raster) (k .fixed)) (listRoom lent) (k .held)
   -- redo is refused with 20 exactly when no paint is there to redo, and else with 9 exactly when the list with the next one has no room
-  pub again : answer m s b redoing ≡ redoAnswerIn m (pictureLeft m raster k) (room (lent .keys) (lent .bits)) (k .undone)
+  pub again : answer m s b redoing ≡ redoAnswerIn m (pictureLeft m raster k) (listRoom lent) (k .undone)
   -- paint is refused only by key, feature or room
   pub paints : (κ f : ℕ) → answer m s b (painting (ofBlock κ f))
-      ≡ paintAnswer m s (pictureLeft m raster k) (room (lent .keys) (lent .bits)) (room (lent .logKeys) (lent .logValues)) (b .inForce) κ f
+      ≡ paintAnswer m s (pictureLeft m raster k) (listRoom lent) (logRoom lent) (b .inForce) κ f
   -- a paint of a window only by window, feature or room
   pub window-paints : (w : Window) (f : ℕ) → answer m s b (painting (ofWindow w f))
-      ≡ paintWindowAnswer m s (pictureLeft m raster k) (room (lent .keys) (lent .bits)) (room (lent .logKeys) (lent .logValues)) (b .inForce) w f
+      ≡ paintWindowAnswer m s (pictureLeft m raster k) (listRoom lent) (logRoom lent) (b .inForce) w f
   -- the slices keep their lengths
   pub keys-length : length (b .keys) ≡ length (lent .keys)
   pub bits-length : length (b .bits) ≡ length (lent .bits)

@@ -1,11 +1,10 @@
--- A rest by the library's own calls: the list is stored into a file, the file is loaded into other slices, and their summary is filled; the records of the log, for which
--- the library has no file, are laid over other slices by the caller. Rests on Rests.
+-- A rest by the library's own calls: the list is stored into a file, the file is loaded into other slices, and their summary is filled. The log's records
+-- are brought beside it. Rests on Events.
 use Prim.Native.Nat.{ℕ, _≤_}
 use mathlib.Core.Path.{_≡_}
 use mathlib.Core.Bool.{false}
 use mathlib.Core.List.{List}
 use lib.ListN.{length, take}
-use Rattle.definitions.specs.Read.{room}
 use Rattle.definitions.specs.Buffer.{over}
 use Rattle.definitions.specs.Area.{badSummaryLength}
 use Rattle.definitions.specs.Calls.Store.{stored, storeRefusal, store, storeFile}
@@ -15,7 +14,7 @@ use Rattle.definitions.specs.declared.Counted.{Counted}
 use Rattle.definitions.specs.declared.Loaded.{Loaded}
 use Rattle.definitions.specs.declared.Done.{Done}
 use Rattle.history.specs.History.{Buffers}
-use Rattle.rests.specs.Rests.{Rested, LentSlices}
+use Rattle.rests.specs.Events.{Rested, LentSlices, slicesOf, listRoom, logRoom}
 
 -- the bytes that store leaves in a buffer, as many as it says
 unfoldable pub fileFrom : (m s : ℕ) (b : Buffers) (buffer : List ℕ) → List ℕ
@@ -36,32 +35,31 @@ loadedWith m s file lent logKeys logValues used inForce =
       inForce = inForce;
     }
 
--- beside so many records of the log of b, laid over the slices lent
-abbrev pub loadedInto : (m s : ℕ) (b : Buffers) (brought : ℕ) (file : List ℕ) → LentSlices → Buffers
-loadedInto m s b brought file lent =
-    loadedWith m s file lent (over (take brought (b .logKeys)) (lent .logKeys)) (over (take brought (b .logValues)) (lent .logValues)) brought (b .inForce)
+-- where store, load and fill lead from b, with so many records of its log laid over the slices lent
+abbrev pub leadsTo : (m s : ℕ) (b : Buffers) (brought : ℕ) (buffer : List ℕ) → LentSlices → Buffers
+leadsTo m s b brought buffer lent =
+    loadedWith m s (fileFrom m s b buffer) lent (over (take brought (b .logKeys)) (lent .logKeys)) (over (take brought (b .logValues)) (lent .logValues)) brought (b .inForce)
 
 -- there is room: in the buffer for the file, in the slices for the list and for so many records of the log, and the summary has its length
 pub record RoomToRest (m s : ℕ) (b : Buffers) (brought : ℕ) (buffer : List ℕ) (lent : LentSlices) : Type 0 where
   pub in-buffer : length (stored m s (b .keys) (b .bits) (b .n)) ≤ length buffer
-  pub in-list : b .n ≤ room (lent .keys) (lent .bits)
+  pub in-list : b .n ≤ listRoom lent
   pub in-summary : badSummaryLength m s (lent .summary) ≡ false
-  pub in-log : brought ≤ room (lent .logKeys) (lent .logValues)
+  pub in-log : brought ≤ logRoom lent
 
--- store, load and fill are accepted, load gives m, s and n back, and what they leave are buffers that a rest may lead to
+-- store, load and fill are accepted, load gives m, s and n back, what they leave are buffers that a rest may lead to, and the slices have the room that
+-- they had when they were lent
 pub record RestsByFile (m s : ℕ) (b : Buffers) (brought : ℕ) (buffer : List ℕ) (lent : LentSlices) : Type 0 where
   pub stored : storeRefusal m s (b .keys) (b .bits) (b .n) buffer ≡ 0
   pub loaded : load (fileFrom m s b buffer) (lent .keys) (lent .bits) ≡ record { refusal = 0; m = m; s = s; n = b .n }
-  pub filled : fillRefusal m s (loadKeys (fileFrom m s b buffer) (lent .keys) (lent .bits)) (loadBits (fileFrom m s b buffer) (lent .keys) (lent .bits))
-      (load (fileFrom m s b buffer) (lent .keys) (lent .bits) .n) (lent .summary)
-      ≡ 0
-  pub rested : Rested m s b brought (loadedInto m s b brought (fileFrom m s b buffer) lent)
-  -- the slices have the room that they had when they were lent
-  pub list-room : room (loadKeys (fileFrom m s b buffer) (lent .keys) (lent .bits)) (loadBits (fileFrom m s b buffer) (lent .keys) (lent .bits)) ≡ room (lent .keys) (lent .bits)
-  pub log-room : room (over (take brought (b .logKeys)) (lent .logKeys)) (over (take brought (b .logValues)) (lent .logValues)) ≡ room (lent .logKeys) (lent .logValues)
+  pub filled :
+      fillRefusal m s (leadsTo m s b brought buffer lent .keys) (leadsTo m s b brought buffer lent .bits) (leadsTo m s b brought buffer lent .n) (lent .summary) ≡ 0
+  pub rested : Rested m s b brought (leadsTo m s b brought buffer lent)
+  pub list-room : listRoom (slicesOf (leadsTo m s b brought buffer lent)) ≡ listRoom lent
+  pub log-room : logRoom (slicesOf (leadsTo m s b brought buffer lent)) ≡ logRoom lent
 
--- what is known of the calls of a rest, by their promises: store is lent the list of b and a buffer, load the file that store left and the slices lent, and fill what load
--- left; all three are accepted
+-- what is known of the calls of a rest by their promises: store was lent the list of b and a buffer, load the file that store left and the slices lent,
+-- and fill what load left; all three are accepted
 pub record RestCalls (m s : ℕ) (b : Buffers) (buffer : List ℕ) (lent : LentSlices) : Type 0 where
   pub stored : Counted
   pub buffer′ : List ℕ

@@ -1,22 +1,27 @@
--- Where histories with rests begin beside an accepted build: any buffers with a list, its summary and an empty log, as a load, a reading of leaves or of bit strings or a
--- combining of lists leaves them. The raster is then the one that the list shows. And rests that never lead to slices with less room. Rests on Rests.
-use Prim.Native.Nat.{ℕ, _^_, _≤_}
+-- Where histories with rests begin beside an accepted build: any buffers with a list, its summary and an empty log. The raster is then the one that the
+-- list shows. Rests on Events and AsLeft.
+use Prim.Native.Nat.{ℕ, _^_}
 use mathlib.Core.Path.{_≡_}
 use mathlib.Core.Bool.{true, false}
-use mathlib.Core.List.{List, [], _∷_}
+use mathlib.Core.List.{List}
 use Rattle.definitions.specs.Window.{featuresOfRows}
-use Rattle.definitions.specs.Read.{room, recordsOf, pictureOf, isList}
+use Rattle.definitions.specs.Read.{recordsOf, pictureOf, isList}
 use Rattle.definitions.specs.Area.{noSummary}
 use Rattle.definitions.specs.Refusal.{badSettings}
 use Rattle.definitions.specs.Calls.FillSummary.{filledSummary}
 use Rattle.definitions.specs.Calls.Empty.{emptied}
 use Rattle.history.specs.History.{Buffers}
-use Rattle.rests.specs.Rests.{Event, calling, resting, restingShort, Reached, begins, slicesOf, afterEvent}
+use Rattle.rests.specs.Events.{Event, Reached, begins, slicesOf, afterEvents, AllMay}
+use Rattle.rests.specs.AsLeft.{AsLeft}
 
--- a list and its summary, at good settings, and an empty log: refusals 1, 4 and 18 do not come
-pub record HasList (m s : ℕ) (b : Buffers) : Type 0 where
+-- a list at good settings: refusals 1 and 4 do not come
+pub record GivesList (m s : ℕ) (keys bits : List ℕ) (n : ℕ) : Type 0 where
   pub settings : badSettings m s ≡ false
-  pub is-list : isList m s (b .keys) (b .bits) (b .n) ≡ true
+  pub is-list : isList m s keys bits n ≡ true
+
+-- with its summary, so that 18 does not come, and an empty log
+pub record HasList (m s : ℕ) (b : Buffers) : Type 0 where
+  pub gives : GivesList m s (b .keys) (b .bits) (b .n)
   pub is-summary : noSummary m s (pictureOf m (recordsOf (b .keys) (b .bits) (b .n))) (b .summary) ≡ false
   pub none-used : b .used ≡ 0
   pub none-in-force : b .inForce ≡ 0
@@ -43,13 +48,6 @@ filledFrom m s keys bits n summary logKeys logValues =
       inForce = emptied .«in_force»;
     }
 
--- an event that leads to no slices with less room for a list
-abbrev pub KeepsRoom : (t : Reached) → Event → Type 0
-KeepsRoom t (calling c) = Unit
-KeepsRoom t (resting to) = room (t .lent .keys) (t .lent .bits) ≤ room (to .keys) (to .bits)
-KeepsRoom t (restingShort to) = room (t .lent .keys) (t .lent .bits) ≤ room (to .keys) (to .bits)
-
--- events none of which does
-unfoldable pub AllKeepRoom : (m s : ℕ) (t : Reached) → List Event → Type 0
-AllKeepRoom m s t [] = Unit
-AllKeepRoom m s t (e ∷ es) = KeepsRoom t e × AllKeepRoom m s (afterEvent m s t e) es
+-- as good a start as a build: after any calls and rests from there the buffers are as claimed
+abbrev pub GoodStart : (m s : ℕ) (b : Buffers) → Type 0
+GoodStart m s b = (es : List Event) → AllMay m s (found b) es → AsLeft m s (rasterShown m b) (afterEvents m s (found b) es)

@@ -1,12 +1,12 @@
--- A history with rests beside the same calls without the rests: where every rest brings all along and leads to slices with as much room as before, nobody sees the
--- rests. Rests on Rests.
+-- A history with rests beside the same calls without them: what is asked of rests that nobody is to see, and what it means that nobody sees them. Rests
+-- on Events.
 use Prim.Native.Nat.{ℕ}
 use mathlib.Core.Path.{_≡_}
 use mathlib.Core.List.{List, [], _∷_}
-use Rattle.definitions.specs.Read.{room, recordsOf}
+use Rattle.definitions.specs.Read.{recordsOf}
 use Rattle.definitions.specs.Log.{toRedo}
 use Rattle.history.specs.History.{Call, Buffers, answer}
-use Rattle.rests.specs.Rests.{Event, calling, resting, restingShort, Reached, afterEvent}
+use Rattle.rests.specs.Events.{Event, calling, resting, restingShort, Reached, listRoom, logRoom, afterEvent}
 
 -- the events without the rests
 unfoldable pub withoutRests : List Event → List Event
@@ -17,8 +17,8 @@ withoutRests (restingShort to ∷ es) = withoutRests es
 
 -- the slices have as much room for the list and for the log
 pub record AsRoomy (t u : Reached) : Type 0 where
-  pub for-list : room (t .lent .keys) (t .lent .bits) ≡ room (u .lent .keys) (u .lent .bits)
-  pub for-log : room (t .lent .logKeys) (t .lent .logValues) ≡ room (u .lent .logKeys) (u .lent .logValues)
+  pub for-list : listRoom (t .lent) ≡ listRoom (u .lent)
+  pub for-log : logRoom (t .lent) ≡ logRoom (u .lent)
 
 -- an event that brings all along and leads to slices with as much room
 abbrev pub SameRoom : (m s : ℕ) (t : Reached) → Event → Type 0
@@ -26,6 +26,7 @@ SameRoom m s t (calling c) = Unit
 SameRoom m s t (resting to) = AsRoomy (afterEvent m s t (resting to)) t
 SameRoom m s t (restingShort to) = ⊥
 
+-- events each of which does
 unfoldable pub AllSameRoom : (m s : ℕ) (t : Reached) → List Event → Type 0
 AllSameRoom m s t [] = Unit
 AllSameRoom m s t (e ∷ es) = SameRoom m s t e × AllSameRoom m s (afterEvent m s t e) es

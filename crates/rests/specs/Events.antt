@@ -1,5 +1,5 @@
--- Histories that outlive the process: calls as in a history, and between them rests, in which list, summary and log come into other slices. A rest is told by
--- the buffers that it leads to; which buffers those may be, the summary filled afresh, the log brought along whole or without the steps to redo. Rests on History.
+-- Histories that outlive the process: calls as in a history, and between them rests, in which list, summary and log come into other slices. A rest is
+-- told by the buffers that it leads to: the same list, its summary filled afresh, the log whole or without the steps to redo. Rests on History.
 use Prim.Native.Nat.{ℕ, _≤_, max}
 use mathlib.Core.Path.{_≡_}
 use mathlib.Core.List.{List, [], _∷_}
@@ -13,17 +13,21 @@ pub data Event : Type 0 where
   resting : (to : Buffers) → Event
   restingShort : (to : Buffers) → Event
 
--- from b, with so many records of the log brought along, to these buffers: the first n records are the same, the summary is theirs, the first records of the log
--- are the same, and as many are in force; the slices are of any lengths that hold them, and hold anything past them
+-- so many first records of a log stand first in other slices, which are long enough
+pub record LogBrought (logKeys logValues : List ℕ) (brought : ℕ) (logKeys′ logValues′ : List ℕ) : Type 0 where
+  pub fits : brought ≤ room logKeys′ logValues′
+  pub records : recordsOf logKeys′ logValues′ brought ≡ recordsOf logKeys logValues brought
+
+-- from b, with so many records of the log brought along, to these buffers: the first n records are the same, the summary is theirs, and as many records
+-- of the log are in force; the slices have any lengths that hold them, and anything past them
 pub record Rested (m s : ℕ) (b : Buffers) (brought : ℕ) (to : Buffers) : Type 0 where
   pub count : to .n ≡ b .n
   pub fits : b .n ≤ room (to .keys) (to .bits)
   pub records : recordsOf (to .keys) (to .bits) (b .n) ≡ recordsOf (b .keys) (b .bits) (b .n)
   pub counted : to .summary ≡ summaryOf m s (pictureOf m (recordsOf (to .keys) (to .bits) (to .n)))
+  pub log : LogBrought (b .logKeys) (b .logValues) brought (to .logKeys) (to .logValues)
   pub used : to .used ≡ brought
   pub force : to .inForce ≡ b .inForce
-  pub log-fits : brought ≤ room (to .logKeys) (to .logValues)
-  pub log-records : recordsOf (to .logKeys) (to .logValues) brought ≡ recordsOf (b .logKeys) (b .logValues) brought
 
 -- an event that may happen: any call, and a rest that brings along all records of the log, or those in force
 abbrev pub MayHappen : (m s : ℕ) (b : Buffers) → Event → Type 0
@@ -43,6 +47,14 @@ pub record LentSlices : Type 0 where
 abbrev pub slicesOf : Buffers → LentSlices
 slicesOf b = record { keys = b .keys; bits = b .bits; summary = b .summary; logKeys = b .logKeys; logValues = b .logValues }
 
+-- for how many records of a list they have room
+abbrev pub listRoom : LentSlices → ℕ
+listRoom lent = room (lent .keys) (lent .bits)
+
+-- and for how many of a log
+abbrev pub logRoom : LentSlices → ℕ
+logRoom lent = room (lent .logKeys) (lent .logValues)
+
 -- where a history stands: the buffers, the paints, the slices lent last, how many records list and log had at most in these slices, and for how many
 -- records of a list there was room at most, in these or in earlier slices
 pub record Reached : Type 0 where
@@ -55,7 +67,7 @@ pub record Reached : Type 0 where
 
 -- where it stands with no paints yet
 abbrev pub begins : LentSlices → Buffers → Reached
-begins lent b = record { buffers = b; paints = nothing; lent = lent; inList = b .n; inLog = b .used; largest = room (lent .keys) (lent .bits) }
+begins lent b = record { buffers = b; paints = nothing; lent = lent; inList = b .n; inLog = b .used; largest = listRoom lent }
 
 -- after build into these slices, with an empty log
 abbrev pub builtInto : (m s : ℕ) (raster : List ℕ) → LentSlices → Reached
