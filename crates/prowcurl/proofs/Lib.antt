@@ -3,6 +3,7 @@ pub mod Uniqueness
 pub mod OneAnswer
 pub mod HistorySteps
 pub mod RestSteps
+pub mod RestHistory
 -- findings, walked by hand
 pub mod FindingsCalls
 pub mod FindingsEntryExit

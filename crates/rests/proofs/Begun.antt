@@ -1,6 +1,6 @@
 -- Where histories with rests begin: the invariant holds after an accepted build, and of any buffers with a list, its summary and an empty log, by the
 -- raster that the list shows. Rests on Run and Moved.
-use Prim.Native.Nat.{ℕ, _≤_}
+use Prim.Native.Nat.{ℕ}
 use mathlib.Core.Path.{_≡_, refl, sym, ap, subst, _∙_}
 use mathlib.Core.List.{List, []}
 use native.Mathlib.Nat.{le-refl}

@@ -2,20 +2,20 @@
 -- leave, with the log laid beside it, are buffers that a rest may lead to. Rests on Given, the claim AsLeft and file's RoundTrip.
 use Prim.Native.Nat.{ℕ, _≤_, min}
 use mathlib.Core.Path.{_≡_, refl, sym, ap, ap₂, subst₂, _∙_}
-use mathlib.Core.Bool.{Bool, true, false, _&&_}
+use mathlib.Core.Bool.{Bool, false, _&&_}
 use mathlib.Core.List.{List}
 use native.Mathlib.Omega.{arith}
-use lib.ListN.{length, take, drop, length-append, length-drop}
+use lib.ListN.{length, take, drop}
 use lib.Seq.{length-take-le, take-at}
 use lib.Dec.{leb}
 use borrow.Author.Tests.{leb-true, not-false}
 use Rattle.keys.proofs.Cases.{and-left, and-right}
-use Rattle.definitions.specs.Read.{room, paired, recordsOf, isList}
+use Rattle.definitions.specs.Read.{room, paired, recordsOf}
 use Rattle.definitions.specs.Buffer.{over}
 use Rattle.definitions.specs.File.{nIn}
 use Rattle.definitions.specs.Log.{isSound, toRedo, noLog}
 use Rattle.definitions.specs.Calls.Store.{storeRefusal}
-use Rattle.definitions.specs.Calls.Load.{loadRefusal, load, loadKeys, loadBits}
+use Rattle.definitions.specs.Calls.Load.{loadRefusal, load}
 use Rattle.definitions.specs.Calls.FillSummary.{fillRefusal}
 use Rattle.laws.proofs.Built.{build-passed}
 use Rattle.list.proofs.Accepted.{accepted-as-list}

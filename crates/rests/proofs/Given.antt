@@ -1,7 +1,7 @@
 -- Lists that calls give: an accepted load, a reading of leaves or of bit strings and a combining leave a list at good settings, and of such a list filling
 -- the summary is accepted. Rests on the laws of those calls, and on Starts.
 use Prim.Native.Nat.{ℕ, _+_, _≤_, _<_, min}
-use mathlib.Core.Path.{_≡_, refl, sym, ap, ap₂, _∙_}
+use mathlib.Core.Path.{_≡_, refl, ap, ap₂, _∙_}
 use mathlib.Core.Bool.{true, false, not, _||_}
 use mathlib.Core.List.{List, [], _∷_}
 use native.Mathlib.Omega.{arith}
@@ -11,7 +11,7 @@ use borrow.Author.Tests.{leb-false, ltb-false, eqb-true, eq-eqb, not-false}
 use Rattle.keys.specs.Key.{rootKey}
 use Rattle.keys.specs.Block.{inBlock}
 use Rattle.keys.proofs.Cases.{decide, neither-left, neither-right}
-use Rattle.definitions.specs.Picture.{Picture, featuresBelow}
+use Rattle.definitions.specs.Picture.{featuresBelow}
 use Rattle.definitions.specs.List.{Record, keysOf, valuesOf}
 use Rattle.definitions.specs.Read.{room, recordsOf, pictureOf, isListOfBlock, isList}
 use Rattle.definitions.specs.Leaves.{isDelivery, pictureOfLeaves, pictureDelivered}
@@ -20,7 +20,7 @@ use Rattle.definitions.specs.Combine.{badClassTable}
 use Rattle.definitions.specs.Buffer.{over}
 use Rattle.definitions.specs.Area.{summaryOf, badSummaryLength}
 use Rattle.definitions.specs.File.{bitBytes, mIn, sIn, nIn, recordsInFile}
-use Rattle.definitions.specs.Refusal.{accepted, badSettings, badPixel, noList}
+use Rattle.definitions.specs.Refusal.{accepted, badSettings, badPixel}
 use Rattle.definitions.specs.Calls.Load.{loadRefusal, load, loadKeys, loadBits}
 use Rattle.definitions.specs.Calls.ReadLeaves.{listDelivered, readLeavesRefusal, readLeaves, readLeavesKeys, readLeavesBits}
 use Rattle.definitions.specs.Calls.ReadBitStrings.{readStringsRefusal, readStrings, readKeys, readBits}
