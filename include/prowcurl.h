@@ -360,7 +360,8 @@ hlq_edited hlq_paint_window(uint32_t m, uint32_t s,
  * the new raster.
  * Refusals: HLQ_SETTINGS, HLQ_LIST, HLQ_SUMMARY, HLQ_LOG, HLQ_LOG_EMPTY, HLQ_LIST_ROOM, in this
  * order.
- * HLQ_LIST_ROOM is about the end result alone, and comes only with a log from another map. */
+ * HLQ_LIST_ROOM is about the end result alone. With the map's own log it comes only where the list
+ * lies in less room than it once had, as it may after hlq_load. */
 hlq_edited hlq_take_back(uint32_t m, uint32_t s,
                          uint32_t *keys, size_t keys_len, uint32_t *bits, size_t bits_len, size_t n,
                          uint32_t *summary, size_t summary_len,
@@ -373,7 +374,7 @@ hlq_edited hlq_take_back(uint32_t m, uint32_t s,
  * over the step. The summary must be the list's, and becomes that of the new raster.
  * Refusals: HLQ_SETTINGS, HLQ_LIST, HLQ_SUMMARY, HLQ_LOG, HLQ_NO_REDO, HLQ_LIST_ROOM, in this
  * order.
- * HLQ_LIST_ROOM is about the end result alone, and comes only with a log from another map. */
+ * HLQ_LIST_ROOM as in hlq_take_back. */
 hlq_edited hlq_redo(uint32_t m, uint32_t s,
                     uint32_t *keys, size_t keys_len, uint32_t *bits, size_t bits_len, size_t n,
                     uint32_t *summary, size_t summary_len,
@@ -432,7 +433,9 @@ hlq_counted hlq_store(uint32_t m, uint32_t s,
                       size_t n, uint8_t *file, size_t file_len);
 
 /* LOAD. The list of a file in places 0 to n - 1 of keys and bits; all other places stay. Files of
- * both versions are read.
+ * both versions are read. hlq_fill_summary then fills its summary. Whoever goes on with its log
+ * lends as much room as the list had before, or HLQ_MOST_RECORDS(m) places: in less, hlq_take_back
+ * and hlq_redo are refused with HLQ_LIST_ROOM where the list that they lead to does not fit.
  * Refusals: HLQ_FILE_LENGTH (under 11 bytes), HLQ_FILE_MARK, HLQ_FILE_VERSION, HLQ_SETTINGS,
  * HLQ_FILE_LENGTH (for the number of records that it names), HLQ_LIST (the file's own records),
  * HLQ_LIST_ROOM, in this order. */

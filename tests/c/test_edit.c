@@ -1,7 +1,7 @@
 /* Paint, paint window, take back, redo and empty against the reference, over long random histories: after every step
  * list and summary are compared with a fresh build, the log with a model of it, record by record, and the model says
- * when taking back and redo must be refused. Tight rooms, damaged logs and counts, logs from another map, wrong
- * summaries. */
+ * when taking back and redo must be refused. The histories rest: the list is stored, and loaded into slices with more
+ * room or with less. Tight rooms, damaged logs and counts, logs from another map, wrong summaries. */
 #include "survey.h"
 
 #include <stdlib.h>
@@ -20,8 +20,51 @@ static int paint_one(survey *a, model *l, uint8_t *raster, int whole) {
     return 1;
 }
 
+/* A rest: the list is stored, and loaded into other buffers with so much room, their summary is filled, and the log's
+ * used records are brought along. */
+static void rest(survey *a, size_t room) {
+    size_t length = HLQ_FILE_BYTES(a->n, a->s);
+    uint8_t *file = room_for(length);
+    survey b = *a;
+    b.keys = lend(room, 4), b.bits = lend(room + below(3), 4), b.summary = lend(a->summary.len, 4);
+    b.log_keys = lend(a->log_keys.len, 4), b.log_values = lend(a->log_values.len, 4);
+    hlq_counted stored = hlq_store(a->m, a->s, start(a->keys), a->keys.len, start(a->bits), a->bits.len, a->n,
+                                   file, length);
+    must(stored.refusal == 0 && stored.count == length, "the list of a history is stored");
+    hlq_loaded loaded = hlq_load(file, length, start(b.keys), b.keys.len, start(b.bits), b.bits.len);
+    must(loaded.refusal == 0 && loaded.m == a->m && loaded.s == a->s && loaded.n == a->n, "and loaded");
+    hlq_done filled = hlq_fill_summary(b.m, b.s, start(b.keys), b.keys.len, start(b.bits), b.bits.len, b.n,
+                                       start(b.summary), b.summary.len);
+    must(filled.refusal == 0, "and its summary filled");
+    memcpy(start(b.log_keys), start(a->log_keys), 4 * a->used);
+    memcpy(start(b.log_values), start(a->log_values), 4 * a->used);
+    free(file);
+    free_survey(a);
+    *a = b;
+}
+
+/* Map A, block 24 painted with 1, at rest: the list has 5 records and had 9, so in fewer than 9 places taking back is
+ * refused, with the map's own log. */
+static void map_a_rests(void) {
+    static const uint8_t map_a[] = { 0, 0, 1, 1, 0, 0, 1, 2, 2, 2, 0, 0, 2, 2, 0, 0 };
+    for (size_t room = 5; room <= 9; room++) {
+        survey a = new_survey(2, 3, map_a, 9, 3);
+        must(paint(&a, 14, 1) == 0 && a.n == 5 && a.used == 3, "Map A, 24 painted with 1");
+        rest(&a, room);
+        must(take_back(&a) == (room < 9 ? HLQ_LIST_ROOM : HLQ_ACCEPTED), "Map A is taken back in 9 places alone");
+        must(redo(&a) == (room < 9 ? HLQ_NO_REDO : HLQ_ACCEPTED), "and then redone");
+        free_survey(&a);
+    }
+}
+
+/* What an edit that leads to a raster must be refused with, in a list's room. */
+static uint64_t fits(uint32_t m, const uint8_t *raster, size_t room) {
+    return records_of(m, raster, 0) > room ? HLQ_LIST_ROOM : HLQ_ACCEPTED;
+}
+
 /* Demand 3: the rasters of the history in a row, with a place that paint and redo move on and taking back moves back;
- * the row begins anew when the log is emptied, and ends with an accepted paint. */
+ * the row begins anew when the log is emptied, and ends with an accepted paint, or with a rest that leaves the steps to
+ * redo behind. */
 static void history(uint32_t m, uint32_t steps, uint32_t kind, uint32_t tight) {
     size_t pixels = (size_t)1 << 2 * m, most = HLQ_MOST_RECORDS(m);
     uint32_t s = 1 + below(m <= 3 ? 4 : HLQ_MOST_SLOTS);
@@ -29,11 +72,11 @@ static void history(uint32_t m, uint32_t steps, uint32_t kind, uint32_t tight) {
     size_t at = 0, last = 0;
     rasters[0] = room_for(pixels);
     fill_raster(rasters[0], m, s, kind);
-    size_t n = records_of(m, rasters[0], 0);
-    survey a = new_survey(m, s, rasters[0], tight ? n + below(2 * m + 6) : most, tight ? 3 + below(40) : 4 * most + 64);
+    size_t n = records_of(m, rasters[0], 0), room = tight ? n + below(2 * m + 6) : most;
+    survey a = new_survey(m, s, rasters[0], room, tight ? 3 + below(40) : 4 * most + 64);
     model l = new_model(&a, steps);
     for (uint32_t i = 0; i < steps; i++) {
-        uint32_t what = below(40);
+        uint32_t what = below(41);
         if (what < 20) {
             uint8_t *next = room_for(pixels);
             memcpy(next, rasters[at], pixels);
@@ -43,14 +86,24 @@ static void history(uint32_t m, uint32_t steps, uint32_t kind, uint32_t tight) {
             } else free(next);
         } else if (what < 31) {
             uint64_t refusal = take_back(&a);
-            must(refusal == (at == 0 ? HLQ_LOG_EMPTY : HLQ_ACCEPTED),
-                 "taking back is refused exactly when no paint is in force");
+            must(refusal == (at == 0 ? HLQ_LOG_EMPTY : fits(m, rasters[at - 1], room)),
+                 "taking back is refused exactly when no paint is in force, or a rest led to less room");
             if (refusal == 0) at--, l.in_force--;
         } else if (what < 39) {
             uint64_t refusal = redo(&a);
-            must(refusal == (at == last ? HLQ_NO_REDO : HLQ_ACCEPTED),
-                 "redo is refused exactly when no paint is there to redo");
+            must(refusal == (at == last ? HLQ_NO_REDO : fits(m, rasters[at + 1], room)),
+                 "redo is refused exactly when no paint is there to redo, or a rest led to less room");
             if (refusal == 0) at++, l.in_force++;
+        } else if (what == 39) {
+            if (below(3) == 0) {
+                a.used = a.in_force, l.count = l.in_force;
+                while (last > at) free(rasters[last--]);
+            }
+            uint32_t next = below(3);
+            room = next == 0 ? most : next == 1 ? room + below(3) : a.n + below(6);
+            rest(&a, room);
+            give_back(l.keys), give_back(l.values);
+            l.keys = copy_of(a.log_keys), l.values = copy_of(a.log_values);
         } else {
             hlq_emptied emptied = hlq_empty();
             must(emptied.used == 0 && emptied.in_force == 0, "an emptied log has no used places and none in force");
@@ -150,6 +203,7 @@ static void other_logs(uint32_t m) {
 }
 
 int main(void) {
+    map_a_rests();
     for (uint32_t m = 0; m <= 6; m++)
         for (uint32_t i = 0; i < SOME(m <= 4 ? 24u : 6u); i++) {
             seed(5000 * m + i);

@@ -134,7 +134,7 @@ one-list m l l′ e f p q = sym (written-read m l e) ∙ ap₂ (recordsOfPair m)
 
 -- ---- reading and then writing
 
-module _ (m : ℕ) (nodes leaves : List ℕ) (good-nodes : Bytes nodes) (good-leaves : Bytes leaves) (pair : isPair m nodes leaves ≡ true) where
+module _ (m : ℕ) (nodes leaves : List ℕ) (pair : isPair m nodes leaves ≡ true) where
   whole-read : isWhole (reading m 0 (bitsIn nodes) (bitsIn leaves)) ≡ true
   unfolding isPair
   whole-read = pair
@@ -165,21 +165,22 @@ module _ (m : ℕ) (nodes leaves : List ℕ) (good-nodes : Bytes nodes) (good-le
       (record { picture = s .picture; below = below-bits 2 (s .picture) m 0 0 (omega arith); is = records-are ∙ s .is })
 
   -- and writes back as the bytes
-  pub read-nodes : packed (nodeBits (recordsOfPair m nodes leaves)) ≡ nodes
-  read-nodes =
-      ap (λ l. packed (nodeBits l)) records-are
-      ∙ packed-back good-nodes (nodeBits (block .list)) (block .more-nodes) (block .nodes) (and-left (isSpare (block .more-nodes)) (isSpare (block .more-leaves)) spares)
+  module _ (good-nodes : Bytes nodes) (good-leaves : Bytes leaves) where
+    pub read-nodes : packed (nodeBits (recordsOfPair m nodes leaves)) ≡ nodes
+    read-nodes =
+        ap (λ l. packed (nodeBits l)) records-are
+        ∙ packed-back good-nodes (nodeBits (block .list)) (block .more-nodes) (block .nodes) (and-left (isSpare (block .more-nodes)) (isSpare (block .more-leaves)) spares)
 
-  pub read-leaves : packed (leafBits (recordsOfPair m nodes leaves)) ≡ leaves
-  read-leaves =
-      ap (λ l. packed (leafBits l)) records-are
-      ∙ packed-back good-leaves (leafBits (block .list)) (block .more-leaves) (block .leaves) (and-right (isSpare (block .more-nodes)) (isSpare (block .more-leaves)) spares)
+    pub read-leaves : packed (leafBits (recordsOfPair m nodes leaves)) ≡ leaves
+    read-leaves =
+        ap (λ l. packed (leafBits l)) records-are
+        ∙ packed-back good-leaves (leafBits (block .list)) (block .more-leaves) (block .leaves) (and-right (isSpare (block .more-nodes)) (isSpare (block .more-leaves)) spares)
 
 -- so two accepted pairs with the same list are the same
 pub one-pair : (m : ℕ) (nodes leaves nodes′ leaves′ : List ℕ) → Bytes nodes → Bytes leaves → Bytes nodes′ → Bytes leaves′
     → isPair m nodes leaves ≡ true → isPair m nodes′ leaves′ ≡ true
     → recordsOfPair m nodes leaves ≡ recordsOfPair m nodes′ leaves′ → (nodes ≡ nodes′) × (leaves ≡ leaves′)
 one-pair m nodes leaves nodes′ leaves′ a b c d p q e = (
-  sym (read-nodes m nodes leaves a b p) ∙ ap (λ l. packed (nodeBits l)) e ∙ read-nodes m nodes′ leaves′ c d q,
-  sym (read-leaves m nodes leaves a b p) ∙ ap (λ l. packed (leafBits l)) e ∙ read-leaves m nodes′ leaves′ c d q,
+  sym (read-nodes m nodes leaves p a b) ∙ ap (λ l. packed (nodeBits l)) e ∙ read-nodes m nodes′ leaves′ q c d,
+  sym (read-leaves m nodes leaves p a b) ∙ ap (λ l. packed (leafBits l)) e ∙ read-leaves m nodes′ leaves′ q c d,
 )

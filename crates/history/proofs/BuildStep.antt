@@ -3,6 +3,7 @@
 use Prim.Native.Nat.{ℕ}
 use mathlib.Core.Path.{_≡_, sym, ap, _∙_, subst}
 use mathlib.Core.List.{List, []}
+use native.Mathlib.Nat.{le-refl}
 use lib.ListN.{length}
 use Rattle.definitions.specs.Picture.{Picture, pictureOfRaster}
 use Rattle.definitions.specs.List.{listOfRaster, keysOf, valuesOf}
@@ -37,7 +38,7 @@ module _ (m s : ℕ) (raster keys bits summary : List ℕ) (e : surveyRefusal m 
 
   -- the invariant holds
   pub build-holds : (logKeys logValues : List ℕ)
-      → Invariant m s (pictureOfRaster m raster) keys bits logKeys logValues (built m s raster keys bits summary logKeys logValues) nothing
+      → Invariant m s (room keys bits) (pictureOfRaster m raster) keys bits logKeys logValues (built m s raster keys bits summary logKeys logValues) nothing
       (built m s raster keys bits summary logKeys logValues .n) (built m s raster keys bits summary logKeys logValues .used)
   build-holds logKeys logValues =
       let p : Picture = pictureOfRaster m raster in
@@ -48,6 +49,7 @@ module _ (m s : ℕ) (raster keys bits summary : List ℕ) (e : surveyRefusal m 
         list = rw (drawn-none m (drawn m p []), drawn-none m p) (list-built (listOfRaster m raster) keys bits (passed .fits));
         counts = sym (ap (summaryOf m s) (drawn-none m (drawn m p []) ∙ drawn-none m p));
         log = rw (log-none m (drawn m p []), after-none m (drawn m (drawn m p []) [])) (log-empty logKeys logValues);
+        roomy = le-refl (room keys bits);
         past =
             start
             (subst (λ q. Legal m s (room keys bits) q) (sym (drawn-none m p))

@@ -3,7 +3,6 @@ use Prim.Native.Nat.{ℕ}
 use mathlib.Core.Path.{_≡_, sym, ap, _∙_, subst}
 use mathlib.Core.List.{List, [], _++_}
 use Rattle.definitions.specs.Picture.{Picture}
-use Rattle.definitions.specs.Read.{room}
 use Rattle.definitions.specs.Area.{summaryOf}
 use Rattle.history.specs.History.{Buffers, Kept, emptying, drawn, after, answer, keep}
 use Rattle.history.proofs.Drawn.{drawn-none, drawn-append}
@@ -17,16 +16,17 @@ pub ground-emptied : (m : ℕ) (p : Picture) (k : Kept) → drawn m p (k .held +
 ground-emptied m p k = drawn-append m p (k .held) (k .fixed)
 
 -- emptying keeps the invariant
-pub empty-keeps : {m s : ℕ} {p : Picture} {keys bits logKeys logValues : List ℕ} {b : Buffers} {k : Kept} {inList inLog : ℕ}
-    → Invariant m s p keys bits logKeys logValues b k inList inLog
-    → Keeps m s p keys bits logKeys logValues b k inList inLog emptying
+pub empty-keeps : {m s size : ℕ} {p : Picture} {keys bits logKeys logValues : List ℕ} {b : Buffers} {k : Kept} {inList inLog : ℕ}
+    → Invariant m s size p keys bits logKeys logValues b k inList inLog
+    → Keeps m s size p keys bits logKeys logValues b k inList inLog emptying
 unfolding after answer keep
-empty-keeps {m} {s} {p} {keys} {bits} {b = b} {k = k} {inList = inList} h = record {
+empty-keeps {m} {s} {size} {p} {b = b} {k = k} {inList = inList} h = record {
   settings = h .settings;
   list =
       rw (drawn-none m (drawn m p (k .held ++ k .fixed)), ground-emptied m p k, ← list-longest (h .list)) (h .list);
   counts = h .counts ∙ sym (ap (summaryOf m s) (drawn-none m (drawn m p (k .held ++ k .fixed)) ∙ ground-emptied m p k));
   log = rw (log-none m (drawn m p (k .held ++ k .fixed)), after-none m (drawn m (drawn m p (k .held ++ k .fixed)) [])) (log-emptied (h .log));
-  past = start (subst (λ q. Legal m s (room keys bits) q) (sym (ground-emptied m p k)) (past-legal (h .past)));
+  roomy = h .roomy;
+  past = start (subst (λ q. Legal m s size q) (sym (ground-emptied m p k)) (past-legal (h .past)));
   future = no-more;
 }

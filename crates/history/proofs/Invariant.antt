@@ -34,19 +34,20 @@ ground m p k = drawn m p (k .fixed)
 abbrev pub now : ℕ → Picture → Kept → Picture
 now m p k = drawn m (ground m p k) (k .held)
 
--- build was lent keys and bits for the picture p, and the log logKeys and logValues; the buffers are b, the paints k, and the list and the log had
--- at most so many records
-pub record Invariant (m s : ℕ) (p : Picture) (keys bits logKeys logValues : List ℕ) (b : Buffers) (k : Kept) (inList inLog : ℕ) : Type 0 where
+-- the slices lent last are keys and bits, and for the log logKeys and logValues; the first picture is p, the buffers are b, the paints k, and the list and
+-- the log had at most so many records in these slices; in no slices was there room for more than size records
+pub record Invariant (m s size : ℕ) (p : Picture) (keys bits logKeys logValues : List ℕ) (b : Buffers) (k : Kept) (inList inLog : ℕ) : Type 0 where
   pub settings : badSettings m s ≡ false
   pub list : HoldsList (listOfPicture m (now m p k)) inList keys bits (b .keys) (b .bits) (b .n)
   pub counts : b .summary ≡ summaryOf m s (now m p k)
   pub log : HoldsLog (logOf m (ground m p k) (k .held)) (logAfter m (now m p k) (k .undone)) inLog logKeys logValues
       (b .logKeys) (b .logValues) (b .used) (b .inForce)
-  pub past : Past m s (room keys bits) (ground m p k) (k .held)
-  pub future : Future m s (room keys bits) (now m p k) (k .undone)
+  pub roomy : room keys bits ≤ size
+  pub past : Past m s size (ground m p k) (k .held)
+  pub future : Future m s size (now m p k) (k .undone)
 
-module _ {m s : ℕ} {p : Picture} {keys bits logKeys logValues : List ℕ} {b : Buffers} {k : Kept} {inList inLog : ℕ}
-    (h : Invariant m s p keys bits logKeys logValues b k inList inLog) where
+module _ {m s size : ℕ} {p : Picture} {keys bits logKeys logValues : List ℕ} {b : Buffers} {k : Kept} {inList inLog : ℕ}
+    (h : Invariant m s size p keys bits logKeys logValues b k inList inLog) where
   -- the first n records are the list of the picture now
   pub now-records : recordsOf (b .keys) (b .bits) (b .n) ≡ listOfPicture m (now m p k)
   now-records = shown-records (list-shown (h .list))
@@ -98,16 +99,16 @@ module _ {m s : ℕ} {p : Picture} {keys bits logKeys logValues : List ℕ} {b :
       (ap (λ l. isSound m s l) now-redo ∙ future-sound now-few (past-legal (h .past) .below) (h .future)))
 
 -- the call c keeps the invariant
-abbrev pub Keeps : ℕ → ℕ → Picture → List ℕ → List ℕ → List ℕ → List ℕ → Buffers → Kept → ℕ → ℕ → Call → Type 0
-Keeps m s p keys bits logKeys logValues b k inList inLog c =
-    Invariant m s p keys bits logKeys logValues (after m s b c) (keep c (answer m s b c) k)
+abbrev pub Keeps : ℕ → ℕ → ℕ → Picture → List ℕ → List ℕ → List ℕ → List ℕ → Buffers → Kept → ℕ → ℕ → Call → Type 0
+Keeps m s size p keys bits logKeys logValues b k inList inLog c =
+    Invariant m s size p keys bits logKeys logValues (after m s b c) (keep c (answer m s b c) k)
     (max inList (after m s b c .n)) (max inLog (after m s b c .used))
 
 -- a call that leaves buffers and paints as they are keeps it
-pub same-keeps : {m s : ℕ} {p : Picture} {keys bits logKeys logValues : List ℕ} {b : Buffers} {k : Kept} {inList inLog : ℕ} (c : Call)
+pub same-keeps : {m s size : ℕ} {p : Picture} {keys bits logKeys logValues : List ℕ} {b : Buffers} {k : Kept} {inList inLog : ℕ} (c : Call)
     → after m s b c ≡ b
     → keep c (answer m s b c) k ≡ k
-    → Invariant m s p keys bits logKeys logValues b k inList inLog
-    → Keeps m s p keys bits logKeys logValues b k inList inLog c
-same-keeps {m} {s} {p} {keys} {bits} {logKeys} {logValues} {b} {k} {inList} {inLog} c e f h =
+    → Invariant m s size p keys bits logKeys logValues b k inList inLog
+    → Keeps m s size p keys bits logKeys logValues b k inList inLog c
+same-keeps {m} {s} {size} {p} {keys} {bits} {logKeys} {logValues} {b} {k} {inList} {inLog} c e f h =
     rw (e, f, ← list-longest (h .list), ← log-longest (h .log)) h

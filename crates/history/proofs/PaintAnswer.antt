@@ -53,8 +53,8 @@ module _ (m s : ℕ) (b : Buffers) (settings : badSettings m s ≡ false) (list 
   unfolding answer paintWindow paintWindowRefusal filled groupGained applied loggedBy
   window-past-four w f = first-later _ _ settings ∙ first-later _ _ list ∙ first-later _ _ counts ∙ first-later _ _ log
 
-module _ {m s : ℕ} {p : Picture} {keys bits logKeys logValues : List ℕ} {b : Buffers} {k : Kept} {inList inLog : ℕ}
-    (h : Invariant m s p keys bits logKeys logValues b k inList inLog) where
+module _ {m s size : ℕ} {p : Picture} {keys bits logKeys logValues : List ℕ} {b : Buffers} {k : Kept} {inList inLog : ℕ}
+    (h : Invariant m s size p keys bits logKeys logValues b k inList inLog) where
   -- for a fit paint the rows of room are told by the picture now
   rooms-now : (x : Paint) → Fit m s x
       → first (rooms (room (b .keys) (b .bits)) (room (b .logKeys) (b .logValues)) (b .inForce) (stepIn m b x) (listAfter m b x))

@@ -3,6 +3,7 @@
 use Prim.Native.Nat.{ℕ, _+_, _≤_, max}
 use mathlib.Core.Path.{_≡_, refl, sym, ap, ap₂, _∙_}
 use mathlib.Core.List.{List, [], _∷_}
+use native.Mathlib.Omega.{arith}
 use lib.ListN.{length}
 use lib.Dec.{ltb}
 use borrow.Author.Tests.{ne-eqb, eq-eqb, leb-false, ltb-false, not-false}
@@ -118,8 +119,8 @@ module _ (m s : ℕ) (b : Buffers) where
   unfolding keep
   keep-done x k e = rw (eq-eqb _ 0 e)
 
-module _ {m s : ℕ} {p : Picture} {keys bits logKeys logValues : List ℕ} {b : Buffers} {k : Kept} {inList inLog : ℕ}
-    (x : Paint) (h : Invariant m s p keys bits logKeys logValues b k inList inLog) where
+module _ {m s size : ℕ} {p : Picture} {keys bits logKeys logValues : List ℕ} {b : Buffers} {k : Kept} {inList inLog : ℕ}
+    (x : Paint) (h : Invariant m s size p keys bits logKeys logValues b k inList inLog) where
   -- the list that a paint makes is that of the picture with it
   pub list-now : listAfter m b x ≡ listOfPicture m (applied m x (now m p k))
   list-now = ap (λ l. listOfPicture m (applied m x (pictureOf m l))) (now-records h) ∙ applied-list m x (now m p k)
@@ -132,8 +133,8 @@ module _ {m s : ℕ} {p : Picture} {keys bits logKeys logValues : List ℕ} {b :
   pub step-now : Fit m s x → stepIn m b x ≡ loggedBy m (now m p k) x
   step-now fit = ap (λ l. loggedBy m (pictureOf m l) x) (now-records h) ∙ gained-step (now m p k) fit
 
-module _ {m s : ℕ} {p : Picture} {keys bits logKeys logValues : List ℕ} {b : Buffers} {k : Kept} {inList inLog : ℕ}
-    (x : Paint) (h : Invariant m s p keys bits logKeys logValues b k inList inLog) (e : answer m s b (painting x) ≡ 0) where
+module _ {m s size : ℕ} {p : Picture} {keys bits logKeys logValues : List ℕ} {b : Buffers} {k : Kept} {inList inLog : ℕ}
+    (x : Paint) (h : Invariant m s size p keys bits logKeys logValues b k inList inLog) (e : answer m s b (painting x) ≡ 0) where
   -- the list afterwards is that of the picture with the paint
   list-is : listAfter m b x ≡ listOfPicture m (drawn m (ground m p k) (x ∷ k .held))
   list-is = list-now x h ∙ ap (λ q. listOfPicture m q) (sym (drawn-latest m (ground m p k) x (k .held)))
@@ -144,34 +145,39 @@ module _ {m s : ℕ} {p : Picture} {keys bits logKeys logValues : List ℕ} {b :
   step-is : stepIn m b x ≡ loggedBy m (now m p k) x
   step-is = step-now x h (passed m s b x e .fit)
 
+  -- the list has room
+  list-fits : length (listOfPicture m (drawn m (ground m p k) (x ∷ k .held))) ≤ room keys bits
+  list-fits = rw (← list-is, ← list-room (h .list)) (passed m s b x e .listRoom)
+
   -- the picture with the paint is legal
-  legal-after : Legal m s (room keys bits) (drawn m (ground m p k) (x ∷ k .held))
+  legal-after : Legal m s size (drawn m (ground m p k) (x ∷ k .held))
   legal-after = record {
     below =
         rw (drawn-latest m (ground m p k) x (k .held))
         (applied-below (now m p k) (passed m s b x e .fit) (past-legal (h .past) .below));
-    fits = rw (← list-is, ← list-room (h .list)) (passed m s b x e .listRoom);
+    fits = let f = list-fits in let g = h .roomy in omega arith;
   }
 
   -- the buffers with its list and step keep the invariant
-  paint-holds : Invariant m s p keys bits logKeys logValues
+  paint-holds : Invariant m s size p keys bits logKeys logValues
       (withStep b (listOfPicture m (drawn m (ground m p k) (x ∷ k .held))) (summaryOf m s (drawn m (ground m p k) (x ∷ k .held))) (loggedBy m (now m p k) x))
       (record { held = x ∷ k .held; undone = []; fixed = k .fixed })
       (max inList (length (listOfPicture m (drawn m (ground m p k) (x ∷ k .held)))))
       (max inLog (b .inForce + length (loggedBy m (now m p k) x)))
   paint-holds = record {
     settings = h .settings;
-    list = list-replaced (listOfPicture m (drawn m (ground m p k) (x ∷ k .held))) (h .list) (legal-after .fits);
+    list = list-replaced (listOfPicture m (drawn m (ground m p k) (x ∷ k .held))) (h .list) list-fits;
     counts = refl;
     log =
         rw (log-latest m (ground m p k) x (k .held), after-none m (drawn m (ground m p k) (x ∷ k .held)))
         (log-gains (h .log) (loggedBy m (now m p k) x) (rw step-is at (passed m s b x e .logRoom)));
+    roomy = h .roomy;
     past = later (h .past) x (passed m s b x e .fit) legal-after;
     future = no-more;
   }
 
   -- an accepted paint keeps the invariant
-  accepted-keeps : Keeps m s p keys bits logKeys logValues b k inList inLog (painting x)
+  accepted-keeps : Keeps m s size p keys bits logKeys logValues b k inList inLog (painting x)
   accepted-keeps =
       rw (
         keep-done m s b x k e,
@@ -182,9 +188,9 @@ module _ {m s : ℕ} {p : Picture} {keys bits logKeys logValues : List ℕ} {b :
       paint-holds
 
 -- a paint keeps the invariant
-pub paint-keeps : {m s : ℕ} {p : Picture} {keys bits logKeys logValues : List ℕ} {b : Buffers} {k : Kept} {inList inLog : ℕ} (x : Paint)
-    → Invariant m s p keys bits logKeys logValues b k inList inLog
-    → Keeps m s p keys bits logKeys logValues b k inList inLog (painting x)
+pub paint-keeps : {m s size : ℕ} {p : Picture} {keys bits logKeys logValues : List ℕ} {b : Buffers} {k : Kept} {inList inLog : ℕ} (x : Paint)
+    → Invariant m s size p keys bits logKeys logValues b k inList inLog
+    → Keeps m s size p keys bits logKeys logValues b k inList inLog (painting x)
 paint-keeps {m} {s} {b = b} {k = k} x h =
     equal (answer m s b (painting x)) 0
     (λ done. accepted-keeps x h done)

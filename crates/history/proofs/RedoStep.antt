@@ -1,13 +1,15 @@
--- A redo in a history: its answer is 20 where no paint is there to redo and 0 otherwise, it holds the next paint again, and the invariant is kept.
+-- A redo in a history: its answer is 20 where no paint is there to redo, 9 where slices lent later have no room for the list with the next one, and 0
+-- otherwise; it holds the next paint again, and the invariant is kept.
 -- Rests on Invariant and Applied.
-use Prim.Native.Nat.{ℕ, _+_, _≤_, max}
+use Prim.Native.Nat.{ℕ, _+_, _≤_, _<_, max}
 use mathlib.Core.Path.{_≡_, refl, sym, ap, ap₂, _∙_}
 use mathlib.Core.Bool.{true, false, not}
 use mathlib.Core.List.{List, [], _∷_, _++_}
 use native.Mathlib.Omega.{arith}
 use lib.ListN.{length, length-append}
 use lib.Dec.{ltb, eqb}
-use borrow.Author.Tests.{ne-eqb, eq-eqb, le-ltb}
+use borrow.Author.Tests.{ne-eqb, eq-eqb, lt-ltb, le-ltb}
+use Rattle.keys.proofs.Cases.{split}
 use Rattle.definitions.specs.Picture.{Picture, featuresBelow}
 use Rattle.definitions.specs.List.{Record, listOfPicture}
 use Rattle.definitions.specs.Read.{room, recordsOf, pictureOf}
@@ -19,7 +21,7 @@ use Rattle.laws.proofs.First.{this, later, holds-first, none-first}
 use Rattle.laws.proofs.LastStep.{step-some}
 use Rattle.laws.proofs.SoundLog.{Steps}
 use Rattle.history.specs.History.{Buffers, Paint, Kept, redoing, withNext, applied, loggedBy, drawn, logOf, logAfter, after, answer, keep}
-use Rattle.history.specs.Claim.{redoAnswer}
+use Rattle.history.specs.Claim.{redoAnswer, redoAnswerIn}
 use Rattle.history.proofs.Drawn.{drawn-latest}
 use Rattle.history.proofs.Fit.{Fit, step-is}
 use Rattle.history.proofs.Applied.{first-next, redone-list, redone-summary}
@@ -77,6 +79,17 @@ module _ (m s : ℕ) (b : Buffers) where
   unfolding answer redo redoRefusal
   some-undone settings list counts log some fits = none-first rows (settings, (list, (counts, (log, (ne-eqb _ _ some, (le-ltb _ _ fits, tt))))))
 
+  -- with some to redo, and no room for the list, it gives 9
+  no-room : badSettings m s ≡ false → noList m s (b .keys) (b .bits) (b .n) ≡ false
+      → noSummary m s (pictureOf m (recordsOf (b .keys) (b .bits) (b .n))) (b .summary) ≡ false
+      → noLog m s (b .logKeys) (b .logValues) (b .used) (b .inForce) ≡ false
+      → (b .inForce ≡ b .used → ⊥)
+      → room (b .keys) (b .bits) < length (listAfter m b)
+      → answer m s b redoing ≡ 9
+  unfolding answer redo redoRefusal
+  no-room settings list counts log some long =
+      holds-first {rows = rows} (later settings (later list (later counts (later log (later (ne-eqb _ _ some) (this (lt-ltb _ _ long) refl))))))
+
   -- an accepted redo writes its list and its summary and leaves the log
   redo-done : answer m s b redoing ≡ 0 → after m s b redoing ≡ withForce b (listAfter m b) (summaryAfter m s b) (reached b)
   unfolding answer after redo redoKeys redoBits redoSummary redoLogKeys redoLogValues forceAfter
@@ -98,8 +111,8 @@ module _ (m s : ℕ) (b : Buffers) where
   unfolding keep withNext
   keep-done held x xs fixed e = rw (eq-eqb _ 0 e)
 
-module _ {m s : ℕ} {p : Picture} {keys bits logKeys logValues : List ℕ} {b : Buffers} {inList inLog : ℕ} (held : List Paint) (x : Paint) (xs fixed : List Paint)
-    (h : Invariant m s p keys bits logKeys logValues b (record { held = held; undone = x ∷ xs; fixed = fixed }) inList inLog) where
+module _ {m s size : ℕ} {p : Picture} {keys bits logKeys logValues : List ℕ} {b : Buffers} {inList inLog : ℕ} (held : List Paint) (x : Paint) (xs fixed : List Paint)
+    (h : Invariant m s size p keys bits logKeys logValues b (record { held = held; undone = x ∷ xs; fixed = fixed }) inList inLog) where
   -- the picture now, and with the paint redone
   abbrev before : Picture
   before = drawn m (drawn m p fixed) held
@@ -141,68 +154,99 @@ module _ {m s : ℕ} {p : Picture} {keys bits logKeys logValues : List ℕ} {b :
   reached-is : reached b ≡ b .inForce + length step
   reached-is = ap (λ l. b .inForce + length (firstStep l)) redo-is ∙ ap (λ l. b .inForce + length l) (first-next before (now-few h) next-fit before-below rest-steps)
 
-  -- that list has room, as it had then: refusal 9 does not come
-  painted-fits : length (listOfPicture m painted) ≤ room keys bits
+  -- that list had room in some slices
+  painted-fits : length (listOfPicture m painted) ≤ size
   painted-fits = future-legal (h .future) .fits
 
-  -- where a paint is undone redo is accepted
-  undone-accepted : answer m s b redoing ≡ 0
-  undone-accepted =
+  -- where a paint is undone, and the list with it has no room, redo is refused with 9
+  undone-refused : room keys bits < length (listOfPicture m painted) → answer m s b redoing ≡ 9
+  undone-refused long =
       let counts = log-counts (h .log) in
       let size = ap length (after-next m before x xs) ∙ length-append step rest in
       let some = step-some (step-is before next-fit before-below) in
-      some-undone m s b (h .settings) (ap not (now-is-list h)) (now-is-summary h) (now-is-log h) (λ e. omega arith) (rw (list-is, list-room (h .list)) painted-fits)
+      no-room m s b (h .settings) (ap not (now-is-list h)) (now-is-summary h) (now-is-log h) (λ e. omega arith) (rw (list-is, list-room (h .list)) long)
+
+  -- where it has room redo is accepted
+  undone-accepted : length (listOfPicture m painted) ≤ room keys bits → answer m s b redoing ≡ 0
+  undone-accepted fits =
+      let counts = log-counts (h .log) in
+      let size = ap length (after-next m before x xs) ∙ length-append step rest in
+      let some = step-some (step-is before next-fit before-below) in
+      some-undone m s b (h .settings) (ap not (now-is-list h)) (now-is-summary h) (now-is-log h) (λ e. omega arith) (rw (list-is, list-room (h .list)) fits)
 
   -- the buffers with that list keep the invariant
-  redo-holds : Invariant m s p keys bits logKeys logValues
+  redo-holds : length (listOfPicture m painted) ≤ room keys bits
+      → Invariant m s size p keys bits logKeys logValues
       (withForce b (listOfPicture m painted) (summaryOf m s painted) (b .inForce + length step))
       (record { held = x ∷ held; undone = xs; fixed = fixed })
       (max inList (length (listOfPicture m painted)))
       (max inLog (b .used))
-  redo-holds =
+  redo-holds fits =
       let same : drawn m (drawn m p fixed) (x ∷ held) ≡ painted = drawn-latest m (drawn m p fixed) x held in
       record {
         settings = h .settings;
-        list = rw same (list-replaced (listOfPicture m painted) (h .list) painted-fits);
+        list = rw same (list-replaced (listOfPicture m painted) (h .list) fits);
         counts = ap (summaryOf m s) (sym same);
         log = rw (same, log-latest m (drawn m p fixed) x held)
             (log-again (logOf m (drawn m p fixed) held) step rest (rw (after-next m before x xs) at (h .log)));
+        roomy = h .roomy;
         past = past.later (h .past) x next-fit (rw same (future-legal (h .future)));
         future = rw same (future-after (h .future));
       }
 
-  undone-keeps : Keeps m s p keys bits logKeys logValues b (record { held = held; undone = x ∷ xs; fixed = fixed }) inList inLog redoing
-  undone-keeps =
+  accepted-keeps : length (listOfPicture m painted) ≤ room keys bits
+      → Keeps m s size p keys bits logKeys logValues b (record { held = held; undone = x ∷ xs; fixed = fixed }) inList inLog redoing
+  accepted-keeps fits =
       rw (
-        keep-done m s b held x xs fixed undone-accepted,
-        redo-done m s b undone-accepted
+        keep-done m s b held x xs fixed (undone-accepted fits),
+        redo-done m s b (undone-accepted fits)
             ∙ ap₂ (λ l n. withForce b l (summaryAfter m s b) n) list-is reached-is
             ∙ ap (λ counts. withForce b (listOfPicture m painted) counts (b .inForce + length step)) summary-is,
       )
-      redo-holds
+      (redo-holds fits)
+
+  undone-keeps : Keeps m s size p keys bits logKeys logValues b (record { held = held; undone = x ∷ xs; fixed = fixed }) inList inLog redoing
+  undone-keeps =
+      split (room keys bits) (length (listOfPicture m painted))
+      (λ long.
+      let refused : answer m s b redoing ≡ 0 → ⊥ = λ e. (let a = undone-refused long in omega arith) in
+      same-keeps redoing (redo-left m s b refused) (keep-left m s b (record { held = held; undone = x ∷ xs; fixed = fixed }) refused) h)
+      (λ fits. accepted-keeps fits)
 
 -- where no paint is undone the answer is 20
-none-answer : {m s : ℕ} {p : Picture} {keys bits logKeys logValues : List ℕ} {b : Buffers} {held fixed : List Paint} {inList inLog : ℕ}
-    → Invariant m s p keys bits logKeys logValues b (record { held = held; undone = []; fixed = fixed }) inList inLog
+none-answer : {m s size : ℕ} {p : Picture} {keys bits logKeys logValues : List ℕ} {b : Buffers} {held fixed : List Paint} {inList inLog : ℕ}
+    → Invariant m s size p keys bits logKeys logValues b (record { held = held; undone = []; fixed = fixed }) inList inLog
     → answer m s b redoing ≡ 20
 none-answer {m} {s} {p} {b = b} {held = held} {fixed = fixed} h =
     let counts = log-counts (h .log) in
     let none = ap length (after-none m (drawn m (drawn m p fixed) held)) in
     none-undone m s b (h .settings) (ap not (now-is-list h)) (now-is-summary h) (now-is-log h) (omega arith)
 
-module _ {m s : ℕ} {p : Picture} {keys bits logKeys logValues : List ℕ} {b : Buffers} {inList inLog : ℕ} where
-  -- redo is refused, with 20, exactly when no paint is there to redo
+module _ {m s size : ℕ} {p : Picture} {keys bits logKeys logValues : List ℕ} {b : Buffers} {inList inLog : ℕ} where
+  -- redo is refused, with 20, exactly when no paint is there to redo, and else with 9 exactly when the list with the next one has no room
+  pub redo-answer-in : (held undone fixed : List Paint)
+      → Invariant m s size p keys bits logKeys logValues b (record { held = held; undone = undone; fixed = fixed }) inList inLog
+      → answer m s b redoing ≡ redoAnswerIn m (drawn m (drawn m p fixed) held) (room keys bits) undone
+  unfolding redoAnswerIn
+  redo-answer-in held [] fixed h = none-answer h
+  redo-answer-in held (x ∷ xs) fixed h =
+      split (room keys bits) (length (listOfPicture m (applied m x (drawn m (drawn m p fixed) held))))
+      (λ long. rw (lt-ltb _ _ long) (undone-refused held x xs fixed h long))
+      (λ fits. rw (le-ltb _ _ fits) (undone-accepted held x xs fixed h fits))
+
+  -- where no slices had more room it is refused only with 20, exactly when no paint is there to redo
   pub redo-answer : (held undone fixed : List Paint)
-      → Invariant m s p keys bits logKeys logValues b (record { held = held; undone = undone; fixed = fixed }) inList inLog
+      → Invariant m s size p keys bits logKeys logValues b (record { held = held; undone = undone; fixed = fixed }) inList inLog
+      → size ≤ room keys bits
       → answer m s b redoing ≡ redoAnswer undone
   unfolding redoAnswer
-  redo-answer held [] fixed h = none-answer h
-  redo-answer held (x ∷ xs) fixed h = undone-accepted held x xs fixed h
+  redo-answer held [] fixed h large = none-answer h
+  redo-answer held (x ∷ xs) fixed h large = undone-accepted held x xs fixed h (let f = painted-fits held x xs fixed h in omega arith)
 
   -- a redo keeps the invariant
   pub redo-keeps : (held undone fixed : List Paint)
-      → Invariant m s p keys bits logKeys logValues b (record { held = held; undone = undone; fixed = fixed }) inList inLog
-      → Keeps m s p keys bits logKeys logValues b (record { held = held; undone = undone; fixed = fixed }) inList inLog redoing
+      → Invariant m s size p keys bits logKeys logValues b (record { held = held; undone = undone; fixed = fixed }) inList inLog
+      → Keeps m s size p keys bits logKeys logValues b (record { held = held; undone = undone; fixed = fixed }) inList inLog redoing
   redo-keeps held [] fixed h =
       let refused : answer m s b redoing ≡ 0 → ⊥ = λ e. (let a = none-answer h in omega arith) in
       same-keeps redoing (redo-left m s b refused) (keep-left m s b (record { held = held; undone = []; fixed = fixed }) refused) h

@@ -1,13 +1,15 @@
--- A taking back in a history: its answer is 11 where no paint is held and 0 otherwise, it undoes the latest paint held, and the invariant is kept.
+-- A taking back in a history: its answer is 11 where no paint is held, 9 where slices lent later have no room for the list before the latest paint, and 0
+-- otherwise; it undoes the latest paint held, and the invariant is kept.
 -- Rests on Invariant and Applied.
-use Prim.Native.Nat.{ℕ, _≤_, max}
+use Prim.Native.Nat.{ℕ, _≤_, _<_, max}
 use mathlib.Core.Path.{_≡_, refl, ap, ap₂, _∙_}
 use mathlib.Core.Bool.{true, false, not}
 use mathlib.Core.List.{List, [], _∷_, _++_}
 use native.Mathlib.Omega.{arith}
 use lib.ListN.{length}
 use lib.Dec.{ltb, eqb}
-use borrow.Author.Tests.{ne-eqb, eq-eqb, le-ltb}
+use borrow.Author.Tests.{ne-eqb, eq-eqb, lt-ltb, le-ltb}
+use Rattle.keys.proofs.Cases.{split}
 use Rattle.definitions.specs.Picture.{Picture, featuresBelow}
 use Rattle.definitions.specs.List.{Record, listOfPicture, keysOf, valuesOf}
 use Rattle.definitions.specs.Read.{room, recordsOf, pictureOf}
@@ -18,7 +20,7 @@ use Rattle.definitions.specs.Refusal.{Row, _gives_, badSettings, noList}
 use Rattle.definitions.specs.Calls.TakeBack.{restoredPicture, restored, forceBefore, takeBackRefusal, takeBack, takeBackKeys, takeBackBits, takeBackSummary, takeBackLogKeys, takeBackLogValues}
 use Rattle.laws.proofs.First.{this, later, holds-first, none-first}
 use Rattle.history.specs.History.{Buffers, Paint, Kept, takingBack, withoutLatest, applied, loggedBy, drawn, logOf, logAfter, after, answer, keep}
-use Rattle.history.specs.Claim.{backAnswer}
+use Rattle.history.specs.Claim.{backAnswer, backAnswerIn}
 use Rattle.history.proofs.Drawn.{drawn-latest}
 use Rattle.history.proofs.Fit.{Fit}
 use Rattle.history.proofs.Applied.{restored-list, restored-summary, without-step}
@@ -84,6 +86,17 @@ module _ (m s : ℕ) (b : Buffers) where
   unfolding answer takeBack takeBackRefusal
   some-held settings list counts log some fits = none-first rows (settings, (list, (counts, (log, (ne-eqb _ 0 some, (le-ltb _ _ fits, tt))))))
 
+  -- with some in force, and no room for the list, it gives 9
+  no-room : badSettings m s ≡ false → noList m s (b .keys) (b .bits) (b .n) ≡ false
+      → noSummary m s (pictureOf m (recordsOf (b .keys) (b .bits) (b .n))) (b .summary) ≡ false
+      → noLog m s (b .logKeys) (b .logValues) (b .used) (b .inForce) ≡ false
+      → (b .inForce ≡ 0 → ⊥)
+      → room (b .keys) (b .bits) < length (listAfter m b)
+      → answer m s b takingBack ≡ 9
+  unfolding answer takeBack takeBackRefusal
+  no-room settings list counts log some long =
+      holds-first {rows = rows} (later settings (later list (later counts (later log (later (ne-eqb _ 0 some) (this (lt-ltb _ _ long) refl))))))
+
   -- an accepted taking back writes its list and its summary and leaves the log
   back-done : answer m s b takingBack ≡ 0 → after m s b takingBack ≡ withForce b (listAfter m b) (summaryAfter m s b) (before b)
   unfolding answer after takeBack takeBackKeys takeBackBits takeBackSummary takeBackLogKeys takeBackLogValues forceBefore
@@ -105,8 +118,8 @@ module _ (m s : ℕ) (b : Buffers) where
   unfolding keep withoutLatest
   keep-done x xs undone fixed e = rw (eq-eqb _ 0 e)
 
-module _ {m s : ℕ} {p : Picture} {keys bits logKeys logValues : List ℕ} {b : Buffers} {inList inLog : ℕ} (x : Paint) (xs undone fixed : List Paint)
-    (h : Invariant m s p keys bits logKeys logValues b (record { held = x ∷ xs; undone = undone; fixed = fixed }) inList inLog) where
+module _ {m s size : ℕ} {p : Picture} {keys bits logKeys logValues : List ℕ} {b : Buffers} {inList inLog : ℕ} (x : Paint) (xs undone fixed : List Paint)
+    (h : Invariant m s size p keys bits logKeys logValues b (record { held = x ∷ xs; undone = undone; fixed = fixed }) inList inLog) where
   -- the picture before the latest paint
   abbrev former : Picture
   former = drawn m (drawn m p fixed) xs
@@ -142,67 +155,97 @@ module _ {m s : ℕ} {p : Picture} {keys bits logKeys logValues : List ℕ} {b :
   before-is : before b ≡ length formerLog
   before-is = ap (λ log. length (beforeStep log)) log-is ∙ ap length (without-step former (now-few h) latest-fit former-below formerLog)
 
-  -- that list has room, as it had then: refusal 9 does not come
-  former-fits : length (listOfPicture m former) ≤ room keys bits
+  -- that list had room in some slices
+  former-fits : length (listOfPicture m former) ≤ size
   former-fits = past-legal (past-before (h .past)) .fits
 
-  -- where a paint is held taking back is accepted
-  held-accepted : answer m s b takingBack ≡ 0
-  held-accepted =
+  -- where a paint is held, and the list before it has no room, taking back is refused with 9
+  held-refused : room keys bits < length (listOfPicture m former) → answer m s b takingBack ≡ 9
+  held-refused long =
       let count = h .log .force in
       let some = log-some x xs (h .past) in
-      some-held m s b (h .settings) (ap not (now-is-list h)) (now-is-summary h) (now-is-log h) (λ e. omega arith) (rw (list-is, list-room (h .list)) former-fits)
+      no-room m s b (h .settings) (ap not (now-is-list h)) (now-is-summary h) (now-is-log h) (λ e. omega arith) (rw (list-is, list-room (h .list)) long)
+
+  -- where it has room taking back is accepted
+  held-accepted : length (listOfPicture m former) ≤ room keys bits → answer m s b takingBack ≡ 0
+  held-accepted fits =
+      let count = h .log .force in
+      let some = log-some x xs (h .past) in
+      some-held m s b (h .settings) (ap not (now-is-list h)) (now-is-summary h) (now-is-log h) (λ e. omega arith) (rw (list-is, list-room (h .list)) fits)
 
   -- the buffers with that list and log keep the invariant
-  back-holds : Invariant m s p keys bits logKeys logValues
+  back-holds : length (listOfPicture m former) ≤ room keys bits
+      → Invariant m s size p keys bits logKeys logValues
       (withForce b (listOfPicture m former) (summaryOf m s former) (length formerLog))
       (record { held = xs; undone = x ∷ undone; fixed = fixed })
       (max inList (length (listOfPicture m former)))
       (max inLog (b .used))
-  back-holds = record {
+  back-holds fits = record {
     settings = h .settings;
-    list = list-replaced (listOfPicture m former) (h .list) former-fits;
+    list = list-replaced (listOfPicture m former) (h .list) fits;
     counts = refl;
     log =
         rw (after-next m former x undone)
         (log-back formerLog (loggedBy m former x) (logAfter m (applied m x former) undone)
         (rw (log-latest m (drawn m p fixed) x xs, drawn-latest m (drawn m p fixed) x xs) at (h .log)));
+    roomy = h .roomy;
     past = past-before (h .past);
     future =
         next x (past-fit (h .past)) (rw (drawn-latest m (drawn m p fixed) x xs) at (past-legal (h .past)))
         (rw (drawn-latest m (drawn m p fixed) x xs) at (h .future));
   }
 
-  held-keeps : Keeps m s p keys bits logKeys logValues b (record { held = x ∷ xs; undone = undone; fixed = fixed }) inList inLog takingBack
-  held-keeps =
+  accepted-keeps : length (listOfPicture m former) ≤ room keys bits
+      → Keeps m s size p keys bits logKeys logValues b (record { held = x ∷ xs; undone = undone; fixed = fixed }) inList inLog takingBack
+  accepted-keeps fits =
       rw (
-        keep-done m s b x xs undone fixed held-accepted,
-        back-done m s b held-accepted
+        keep-done m s b x xs undone fixed (held-accepted fits),
+        back-done m s b (held-accepted fits)
             ∙ ap₂ (λ l n. withForce b l (summaryAfter m s b) n) list-is before-is
             ∙ ap (λ counts. withForce b (listOfPicture m former) counts (length formerLog)) summary-is,
       )
-      back-holds
+      (back-holds fits)
+
+  held-keeps : Keeps m s size p keys bits logKeys logValues b (record { held = x ∷ xs; undone = undone; fixed = fixed }) inList inLog takingBack
+  held-keeps =
+      split (room keys bits) (length (listOfPicture m former))
+      (λ long.
+      let refused : answer m s b takingBack ≡ 0 → ⊥ = λ e. (let a = held-refused long in omega arith) in
+      same-keeps takingBack (back-left m s b refused) (keep-left m s b (record { held = x ∷ xs; undone = undone; fixed = fixed }) refused) h)
+      (λ fits. accepted-keeps fits)
 
 -- where no paint is held the answer is 11
-none-answer : {m s : ℕ} {p : Picture} {keys bits logKeys logValues : List ℕ} {b : Buffers} {undone fixed : List Paint} {inList inLog : ℕ}
-    → Invariant m s p keys bits logKeys logValues b (record { held = []; undone = undone; fixed = fixed }) inList inLog
+none-answer : {m s size : ℕ} {p : Picture} {keys bits logKeys logValues : List ℕ} {b : Buffers} {undone fixed : List Paint} {inList inLog : ℕ}
+    → Invariant m s size p keys bits logKeys logValues b (record { held = []; undone = undone; fixed = fixed }) inList inLog
     → answer m s b takingBack ≡ 11
 none-answer {m} {s} {p} {b = b} {fixed = fixed} h =
     none-held m s b (h .settings) (ap not (now-is-list h)) (now-is-summary h) (now-is-log h) (h .log .force ∙ ap length (log-none m (drawn m p fixed)))
 
-module _ {m s : ℕ} {p : Picture} {keys bits logKeys logValues : List ℕ} {b : Buffers} {inList inLog : ℕ} where
-  -- taking back is refused, with 11, exactly when no paint is held
+module _ {m s size : ℕ} {p : Picture} {keys bits logKeys logValues : List ℕ} {b : Buffers} {inList inLog : ℕ} where
+  -- taking back is refused, with 11, exactly when no paint is held, and else with 9 exactly when the list before the latest paint has no room
+  pub back-answer-in : (held undone fixed : List Paint)
+      → Invariant m s size p keys bits logKeys logValues b (record { held = held; undone = undone; fixed = fixed }) inList inLog
+      → answer m s b takingBack ≡ backAnswerIn m (drawn m p fixed) (room keys bits) held
+  unfolding backAnswerIn
+  back-answer-in [] undone fixed h = none-answer h
+  back-answer-in (x ∷ xs) undone fixed h =
+      split (room keys bits) (length (listOfPicture m (drawn m (drawn m p fixed) xs)))
+      (λ long. rw (lt-ltb _ _ long) (held-refused x xs undone fixed h long))
+      (λ fits. rw (le-ltb _ _ fits) (held-accepted x xs undone fixed h fits))
+
+  -- where no slices had more room it is refused only with 11, exactly when no paint is held
   pub back-answer : (held undone fixed : List Paint)
-      → Invariant m s p keys bits logKeys logValues b (record { held = held; undone = undone; fixed = fixed }) inList inLog
+      → Invariant m s size p keys bits logKeys logValues b (record { held = held; undone = undone; fixed = fixed }) inList inLog
+      → size ≤ room keys bits
       → answer m s b takingBack ≡ backAnswer held
   unfolding backAnswer
-  back-answer [] undone fixed h = none-answer h
-  back-answer (x ∷ xs) undone fixed h = held-accepted x xs undone fixed h
+  back-answer [] undone fixed h large = none-answer h
+  back-answer (x ∷ xs) undone fixed h large = held-accepted x xs undone fixed h (let f = former-fits x xs undone fixed h in omega arith)
 
   -- a taking back keeps the invariant
   pub back-keeps : (held undone fixed : List Paint)
-      → Invariant m s p keys bits logKeys logValues b (record { held = held; undone = undone; fixed = fixed }) inList inLog
-      → Keeps m s p keys bits logKeys logValues b (record { held = held; undone = undone; fixed = fixed }) inList inLog takingBack
+      → Invariant m s size p keys bits logKeys logValues b (record { held = held; undone = undone; fixed = fixed }) inList inLog
+      → Keeps m s size p keys bits logKeys logValues b (record { held = held; undone = undone; fixed = fixed }) inList inLog takingBack
   back-keeps [] undone fixed h =
       let refused : answer m s b takingBack ≡ 0 → ⊥ = λ e. (let a = none-answer h in omega arith) in
       same-keeps takingBack (back-left m s b refused) (keep-left m s b (record { held = []; undone = undone; fixed = fixed }) refused) h

@@ -11,6 +11,7 @@ use lib.ListN.{length}
 use Rattle.keys.specs.Key.{rootKey}
 use Rattle.definitions.specs.Picture.{Picture, pictureOfRaster}
 use Rattle.definitions.specs.List.{listOfPicture, listOfRaster, keysOf, valuesOf}
+use Rattle.definitions.specs.Read.{room}
 use Rattle.definitions.specs.Buffer.{replaced}
 use Rattle.definitions.specs.Area.{summaryOf, badSummaryLength}
 use Rattle.definitions.specs.Calls.Survey.{surveyRefusal}
@@ -32,9 +33,9 @@ use Rattle.history.proofs.RedoStep.{redo-answer, redo-keeps}
 use Rattle.history.proofs.EmptyStep.{ground-emptied, empty-keeps}
 
 -- every call keeps the invariant
-pub call-keeps : {m s : ℕ} {p : Picture} {keys bits logKeys logValues : List ℕ} {b : Buffers} {k : Kept} {inList inLog : ℕ} (c : Call)
-    → Invariant m s p keys bits logKeys logValues b k inList inLog
-    → Keeps m s p keys bits logKeys logValues b k inList inLog c
+pub call-keeps : {m s size : ℕ} {p : Picture} {keys bits logKeys logValues : List ℕ} {b : Buffers} {k : Kept} {inList inLog : ℕ} (c : Call)
+    → Invariant m s size p keys bits logKeys logValues b k inList inLog
+    → Keeps m s size p keys bits logKeys logValues b k inList inLog c
 call-keeps (painting x) h = paint-keeps x h
 call-keeps {k = k} takingBack h = back-keeps (k .held) (k .undone) (k .fixed) h
 call-keeps {k = k} redoing h = redo-keeps (k .held) (k .undone) (k .fixed) h
@@ -55,16 +56,16 @@ joined : (before first next rest : ℕ) → first ≤ before → next ≤ rest �
 joined before first next rest h j = omega arith
 
 -- a run of calls keeps the invariant
-pub run-holds : {m s : ℕ} {p : Picture} {keys bits logKeys logValues : List ℕ} {b : Buffers} {k : Kept} {inList inLog : ℕ} (calls : List Call)
-    → Invariant m s p keys bits logKeys logValues b k inList inLog
-    → Invariant m s p keys bits logKeys logValues (afterCalls m s b calls) (kept m s b k calls)
+pub run-holds : {m s size : ℕ} {p : Picture} {keys bits logKeys logValues : List ℕ} {b : Buffers} {k : Kept} {inList inLog : ℕ} (calls : List Call)
+    → Invariant m s size p keys bits logKeys logValues b k inList inLog
+    → Invariant m s size p keys bits logKeys logValues (afterCalls m s b calls) (kept m s b k calls)
     (max inList (longestList m s b calls)) (max inLog (longestLog m s b calls))
 unfolding afterCalls kept longestList longestLog
-run-holds {m} {s} {p} {keys} {bits} {logKeys} {logValues} {b} {k} {inList} {inLog} [] h =
-    subst₂ (λ x y. Invariant m s p keys bits logKeys logValues b k x y) (list-longest (h .list)) (log-longest (h .log)) h
-run-holds {m} {s} {p} {keys} {bits} {logKeys} {logValues} {b} {k} {inList} {inLog} (c ∷ cs) h =
+run-holds {m} {s} {size} {p} {keys} {bits} {logKeys} {logValues} {b} {k} {inList} {inLog} [] h =
+    subst₂ (λ x y. Invariant m s size p keys bits logKeys logValues b k x y) (list-longest (h .list)) (log-longest (h .log)) h
+run-holds {m} {s} {size} {p} {keys} {bits} {logKeys} {logValues} {b} {k} {inList} {inLog} (c ∷ cs) h =
     let next : Buffers = after m s b c in
-    subst₂ (λ x y. Invariant m s p keys bits logKeys logValues (afterCalls m s next cs) (kept m s next (keep c (answer m s b c) k) cs) x y)
+    subst₂ (λ x y. Invariant m s size p keys bits logKeys logValues (afterCalls m s next cs) (kept m s next (keep c (answer m s b c) k) cs) x y)
     (joined inList (b .n) (next .n) (longestList m s next cs) (h .list .short) (begins-list m s next cs))
     (joined inLog (b .used) (next .used) (longestLog m s next cs) (h .log .short) (begins-log m s next cs))
     (run-holds cs (call-keeps c h))
@@ -82,16 +83,16 @@ left-list m raster k =
     list-agree (pictureOfRaster m (rasterOf m q)) q m 0 0 rootKey (raster-back m q) ∙ ap (λ q′. listOfPicture m q′) (left-is m raster k)
 
 -- and so their summaries
-left-summary : (m s : ℕ) (raster : List ℕ) (k : Kept) → summaryOf m s (pictureOfRaster m (rasterLeft m raster k)) ≡ summaryOf m s (pictureLeft m raster k)
+pub left-summary : (m s : ℕ) (raster : List ℕ) (k : Kept) → summaryOf m s (pictureOfRaster m (rasterLeft m raster k)) ≡ summaryOf m s (pictureLeft m raster k)
 unfolding rasterLeft
 left-summary m s raster k =
     let q : Picture = pictureLeft m raster k in
     summary-agree m s (pictureOfRaster m (rasterOf m q)) q (raster-back m q)
 
-module _ {m s : ℕ} (raster summary : List ℕ) (counted : badSummaryLength m s summary ≡ false) {keys bits logKeys logValues : List ℕ} {b : Buffers} {k : Kept} {inList inLog : ℕ}
-    (h : Invariant m s (pictureOfRaster m raster) keys bits logKeys logValues b k inList inLog) where
+module _ {m s size : ℕ} (raster summary : List ℕ) (counted : badSummaryLength m s summary ≡ false) {keys bits logKeys logValues : List ℕ} {b : Buffers} {k : Kept} {inList inLog : ℕ}
+    (h : Invariant m s size (pictureOfRaster m raster) keys bits logKeys logValues b k inList inLog) where
   -- build takes the raster left
-  left-builds : Builds m s (rasterLeft m raster k) keys bits summary
+  pub left-builds : Builds m s (rasterLeft m raster k) keys bits summary
   unfolding rasterLeft
   left-builds =
       let q : Picture = pictureLeft m raster k in
@@ -101,12 +102,13 @@ module _ {m s : ℕ} (raster summary : List ℕ) (counted : badSummaryLength m s
         sized = length-from m (rasterOf m q) (raster-length m q);
         below = raster-good m s q (rw (left-is m raster k) (legal .below));
         counted = counted;
-        fits = rw (left-list m raster k) (legal .fits);
+        fits = rw (left-list m raster k) (let e = h .list .count in let f = h .list .short in let g = h .list .fits in omega arith);
       }
 
   -- the buffers are as demand 3 claims
-  pub as-built : AsBuilt m s raster keys bits summary logKeys logValues b k inList inLog
-  as-built =
+  pub as-built : size ≤ room keys bits
+      → AsBuilt m s raster keys bits summary logKeys logValues b k inList inLog
+  as-built large =
       let list = left-list m raster k in
       let fresh = build-accepted m s (rasterLeft m raster k) keys bits summary left-builds in
       let counts : b .summary ≡ summaryOf m s (pictureLeft m raster k) = h .counts ∙ ap (summaryOf m s) (sym (left-is m raster k)) in
@@ -129,8 +131,8 @@ module _ {m s : ℕ} (raster summary : List ℕ) (counted : badSummaryLength m s
         redoable = rw (left-is m raster k) (now-redo h);
         force-count = h .log .force;
         used-count = rw (left-is m raster k) (log-counts (h .log));
-        back = back-answer (k .held) (k .undone) (k .fixed) h;
-        again = redo-answer (k .held) (k .undone) (k .fixed) h;
+        back = back-answer (k .held) (k .undone) (k .fixed) h large;
+        again = redo-answer (k .held) (k .undone) (k .fixed) h large;
         paints = λ κ f. rw (left-is m raster k) (paint-answer h κ f);
         window-paints = λ w f. rw (left-is m raster k) (window-answer h w f);
         keys-length = list-keys-length (h .list);
@@ -151,4 +153,4 @@ history m s raster keys bits summary logKeys logValues accepted calls =
     subst₂ (λ x y. AsBuilt m s raster keys bits summary logKeys logValues (afterCalls m s first calls) (kept m s first nothing calls) x y)
     (let e : max (first .n) (longestList m s first calls) ≡ longestList m s first calls = omega arith in e)
     (let e : max (first .used) (longestLog m s first calls) ≡ longestLog m s first calls = omega arith in e)
-    (as-built raster summary (build-passed m s raster keys bits summary accepted .counted) (run-holds calls (build-holds m s raster keys bits summary accepted logKeys logValues)))
+    (as-built raster summary (build-passed m s raster keys bits summary accepted .counted) (run-holds calls (build-holds m s raster keys bits summary accepted logKeys logValues)) (le-refl (room keys bits)))

@@ -2,7 +2,7 @@
 -- exactly when no paint is held, and redo exactly when none is there to redo. Rests on History.
 use Prim.Native.Nat.{ℕ, _+_}
 use mathlib.Core.Path.{_≡_}
-use mathlib.Core.Bool.{true, false}
+use mathlib.Core.Bool.{true, false, cond}
 use mathlib.Core.List.{List, [], _∷_}
 use lib.ListN.{length, drop}
 use lib.Dec.{ltb}
@@ -17,7 +17,7 @@ use Rattle.definitions.specs.declared.Window.{Window}
 use Rattle.definitions.specs.Log.{entryOf, groupOf, toRedo, noLog}
 use Rattle.definitions.specs.Refusal.{_gives_, first, badKey, badFeature}
 use Rattle.definitions.specs.Calls.Survey.{survey, surveyRefusal, surveyKeys, surveyBits, surveySummary}
-use Rattle.history.specs.History.{Call, painting, ofBlock, ofWindow, takingBack, redoing, Buffers, Paint, Kept, answer, built, afterCalls, longestList, longestLog, kept, nothing, drawn, logOf, logAfter, pictureLeft, rasterLeft}
+use Rattle.history.specs.History.{Call, painting, ofBlock, ofWindow, takingBack, redoing, Buffers, Paint, Kept, answer, built, afterCalls, longestList, longestLog, kept, nothing, applied, drawn, logOf, logAfter, pictureLeft, rasterLeft}
 
 -- 11 where no paint is held, and else 0
 unfoldable pub backAnswer : (held : List Paint) → ℕ
@@ -28,6 +28,17 @@ backAnswer (x ∷ xs) = 0
 unfoldable pub redoAnswer : (undone : List Paint) → ℕ
 redoAnswer [] = 20
 redoAnswer (x ∷ xs) = 0
+
+-- the same in slices that may have less room than others had before them: where a paint is held, 9 if the list without the latest one has no room; the
+-- paints are held on p
+unfoldable pub backAnswerIn : (m : ℕ) (p : Picture) (roomOfList : ℕ) (held : List Paint) → ℕ
+backAnswerIn m p roomOfList [] = 11
+backAnswerIn m p roomOfList (x ∷ xs) = cond (ltb roomOfList (length (listOfPicture m (drawn m p xs)))) 9 0
+
+-- likewise where a paint is there to redo, 9 if the list with the next one has no room; the picture now is p
+unfoldable pub redoAnswerIn : (m : ℕ) (p : Picture) (roomOfList : ℕ) (undone : List Paint) → ℕ
+redoAnswerIn m p roomOfList [] = 20
+redoAnswerIn m p roomOfList (x ∷ xs) = cond (ltb roomOfList (length (listOfPicture m (applied m x p)))) 9 0
 
 -- a paint is refused by its own key and feature, by the log's room for the entry, or by the list's room for the list of the painted picture, in
 -- this order; roomOfList and roomOfLog are places, inForce counts the records in force

@@ -4,6 +4,8 @@ pub mod OneAnswer
 pub mod HistorySteps
 pub mod OfficeSteps
 pub mod AreaCalls
+pub mod RestSteps
+pub mod RestHistory
 -- findings, walked by hand
 pub mod FindingsCalls
 pub mod FindingsEntryExit
