@@ -1,0 +1,108 @@
+-- What the clipped calls answer on the sheets of the ground, put together. Only accepted answers count: a sheet without a pixel of the window is refused
+-- with 6, and counts as nothing. Rests on Together and on the clipped calls.
+use Prim.Native.Nat.{ℕ, _<_, _≤_}
+use mathlib.Core.Path.{_≡_}
+use mathlib.Core.Bool.{Bool, true, false, cond, _&&_}
+use mathlib.Core.List.{List, []}
+use lib.ListN.{take}
+use lib.Dec.{eqb}
+use Rattle.definitions.specs.Picture.{Picture}
+use Rattle.definitions.specs.List.{listOfPicture}
+use Rattle.definitions.specs.Read.{room, recordsOf}
+use Rattle.definitions.specs.Area.{summaryOf}
+use Rattle.definitions.specs.Refusal.{accepted, badSettings}
+use Rattle.definitions.specs.Calls.Clipped.{existClipped, reportClipped, areaClipped, selectClipped, selectAnswerClipped}
+use Rattle.definitions.specs.declared.Window.{Window}
+use Rattle.definitions.specs.declared.Exists.{Exists}
+use Rattle.definitions.specs.declared.Reported.{Reported}
+use Rattle.definitions.specs.declared.Measured.{Measured}
+use Rattle.definitions.specs.declared.Counted.{Counted}
+use Rattle.sheets.specs.Ground.{Ground, inGround, sheetsFor, firstLine, sheetPicture, onSheet, meetsSheet}
+use Rattle.sheets.specs.Together.{someSheet, unionSheets, sumSheets, inBlocksFrom}
+
+-- the buffers of a sheet
+pub record Sheet : Type 0 where
+  pub keys : List ℕ
+  pub bits : List ℕ
+  pub n : ℕ
+  pub summary : List ℕ
+
+-- a sheet's buffers hold the list and the summary of a picture
+pub record SheetHolds (m s : ℕ) (p : Picture) (a : Sheet) : Type 0 where
+  pub fits : a .n ≤ room (a .keys) (a .bits)
+  pub list : recordsOf (a .keys) (a .bits) (a .n) ≡ listOfPicture m p
+  pub summary : a .summary ≡ summaryOf m s p
+
+-- good settings, and the ground and a filler with features below s: so that a sheet's list is one
+pub record GroundFits (m s : ℕ) (g : Ground) (filler : ℕ) : Type 0 where
+  pub settings : badSettings m s ≡ false
+  pub features : (row column : ℕ) → inGround g row column ≡ true → g .picture row column < s
+  pub filler-below : filler < s
+
+-- each sheet of the ground holds its own picture's
+abbrev pub AllHold : (m s : ℕ) (g : Ground) (filler : ℕ) (sheets : ℕ → ℕ → Sheet) → Type 0
+AllHold m s g filler sheets =
+    (i j : ℕ) → i < sheetsFor m (g .rows) → j < sheetsFor m (g .columns) → SheetHolds m s (sheetPicture m g filler i j) (sheets i j)
+
+-- each sheet that has a pixel of the window does
+abbrev pub MetHold : (m s : ℕ) (g : Ground) (filler : ℕ) (sheets : ℕ → ℕ → Sheet) (w : Window) → Type 0
+MetHold m s g filler sheets w =
+    (i j : ℕ) → i < sheetsFor m (g .rows) → j < sheetsFor m (g .columns) → meetsSheet m w i j ≡ true
+    → SheetHolds m s (sheetPicture m g filler i j) (sheets i j)
+
+-- the calls on sheet (i, j): row and column counted from the sheet's first
+module _ (m s : ℕ) (a : Sheet) (w : Window) (i j : ℕ) where
+  abbrev pub existOn : (f : ℕ) → Exists
+  existOn f = existClipped m s (a .keys) (a .bits) (a .n) (onSheet (w .row) (firstLine m i)) (onSheet (w .column) (firstLine m j)) (w .height) (w .width) f
+
+  abbrev pub reportOn : Reported
+  reportOn = reportClipped m s (a .keys) (a .bits) (a .n) (onSheet (w .row) (firstLine m i)) (onSheet (w .column) (firstLine m j)) (w .height) (w .width)
+
+  abbrev pub areaOn : (f : ℕ) → Measured
+  areaOn f =
+      areaClipped m s (a .keys) (a .bits) (a .n) (a .summary) (onSheet (w .row) (firstLine m i)) (onSheet (w .column) (firstLine m j)) (w .height) (w .width) f
+
+  abbrev pub selectOn : (f : ℕ) (answer : List ℕ) → Counted
+  selectOn f answer =
+      selectClipped m s (a .keys) (a .bits) (a .n) (onSheet (w .row) (firstLine m i)) (onSheet (w .column) (firstLine m j)) (w .height) (w .width) f answer
+
+  abbrev pub selectAnswerOn : (f : ℕ) (answer : List ℕ) → List ℕ
+  selectAnswerOn f answer =
+      selectAnswerClipped m s (a .keys) (a .bits) (a .n) (onSheet (w .row) (firstLine m i)) (onSheet (w .column) (firstLine m j)) (w .height) (w .width) f answer
+
+module _ (m s : ℕ) (g : Ground) (sheets : ℕ → ℕ → Sheet) (w : Window) where
+  -- some sheet's accepted answer is yes
+  unfoldable pub existTogether : (f : ℕ) → Bool
+  existTogether f = someSheet m g (λ i j. eqb (existOn m s (sheets i j) w i j f .refusal) 0 && eqb (existOn m s (sheets i j) w i j f .yes) 1)
+
+  -- the union of the accepted reports
+  unfoldable pub reportTogether : ℕ
+  reportTogether = unionSheets m g (λ i j. accepted (reportOn m s (sheets i j) w i j .refusal) (reportOn m s (sheets i j) w i j .bits) 0)
+
+  -- the sum of the accepted areas
+  unfoldable pub areaTogether : (f : ℕ) → ℕ
+  areaTogether f = sumSheets m g (λ i j. accepted (areaOn m s (sheets i j) w i j f .refusal) (areaOn m s (sheets i j) w i j f .pixels) 0)
+
+  -- no sheet's select is refused for want of room in its answer
+  abbrev pub AllHaveRoom : (f : ℕ) (answers : ℕ → ℕ → List ℕ) → Type 0
+  AllHaveRoom f answers =
+      (i j : ℕ) → i < sheetsFor m (g .rows) → j < sheetsFor m (g .columns) → selectOn m s (sheets i j) w i j f (answers i j) .refusal ≡ 12 → ⊥
+
+  -- a pixel lies in a block that some sheet's accepted select has written into its answer
+  unfoldable pub selectTogether : (f : ℕ) (answers : ℕ → ℕ → List ℕ) (row column : ℕ) → Bool
+  selectTogether f answers row column =
+      someSheet m g (λ i j. inBlocksFrom m
+      (accepted (selectOn m s (sheets i j) w i j f (answers i j) .refusal)
+      (take (selectOn m s (sheets i j) w i j f (answers i j) .count) (selectAnswerOn m s (sheets i j) w i j f (answers i j)))
+      [])
+      (firstLine m i) (firstLine m j) row column)
+
+  -- the same where only those sheets are asked that have a pixel of the window
+  unfoldable pub existAsked : (f : ℕ) → Bool
+  existAsked f = someSheet m g (λ i j. meetsSheet m w i j && eqb (existOn m s (sheets i j) w i j f .yes) 1)
+
+  unfoldable pub reportAsked : ℕ
+  reportAsked = unionSheets m g (λ i j. cond (meetsSheet m w i j) (reportOn m s (sheets i j) w i j .bits) 0)
+
+  unfoldable pub areaAsked : (f : ℕ) → ℕ
+  areaAsked f = sumSheets m g (λ i j. cond (meetsSheet m w i j) (areaOn m s (sheets i j) w i j f .pixels) 0)
