@@ -1,5 +1,6 @@
 pub mod Lines
 pub mod Below
+pub mod BlockLists
 pub mod GridSums
 pub mod NoPixels
 pub mod SheetPixels
@@ -8,8 +9,16 @@ pub mod SheetArea
 pub mod SheetExist
 pub mod SheetSelect
 pub mod NoFiller
+pub mod ClippedGround
+pub mod SumsFit
 pub mod SheetCalls
 pub mod SheetsTogether
 pub mod SheetsAsked
+pub mod DraggedGround
 pub mod BuiltSheets
+pub mod GroundPaints
+pub mod SheetLogs
+pub mod SheetPaints
+pub mod SheetTakenBack
+pub mod PaintedSheets
 mod Example

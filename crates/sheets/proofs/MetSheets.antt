@@ -1,19 +1,21 @@
 -- Which sheets have a pixel of the window, by their first lines: on those the clipped window is a window of the sheet, on the others it is none, which gives 6.
 -- Rests on SheetPixels.
 use Prim.Native.Nat.{ℕ, _+_, _-_, _^_, _<_, _≤_, max}
-use mathlib.Core.Path.{_≡_, ap}
-use mathlib.Core.Bool.{Bool, true, not, _&&_}
+use mathlib.Core.Path.{_≡_, ap, _∙_}
+use mathlib.Core.Bool.{Bool, true, false, not, _&&_}
 use native.Mathlib.Omega.{arith}
 use lib.Dec.{leb, ltb}
 use lib.Pow.{pow-pos}
 use borrow.Author.Tests.{leb-true, le-leb, ltb-true, lt-ltb}
 use Rattle.keys.proofs.Cases.{decide, and-left, and-right, and-both, same-test}
-use Rattle.definitions.specs.Window.{isWindow}
+use Rattle.definitions.specs.Window.{isWindow, inWindow}
 use Rattle.definitions.specs.declared.Window.{Window}
+use Rattle.laws.proofs.Within.{Every}
 use Rattle.laws.proofs.WindowScan.{inside-window, window-inside}
 use Rattle.laws.proofs.AreaOf.{window-bounds}
-use Rattle.sheets.specs.Ground.{firstLine, seenFrom, sheetWindow, meets, meetsSheet}
-use Rattle.sheets.proofs.SheetPixels.{SeenPixel, seen-to, seen-from, six-none}
+use Rattle.sheets.specs.Ground.{Ground, firstLine, seenFrom, sheetPicture, sheetWindow, meets, meetsSheet}
+use Rattle.sheets.specs.Calls.{GroundFits}
+use Rattle.sheets.proofs.SheetPixels.{SeenPixel, seen-to, seen-from, six-none, cut-below}
 
 -- a common line, counted from the first
 record Meeting (start length first side : ℕ) : Type 0 where
@@ -81,3 +83,16 @@ module _ (m : ℕ) (w : Window) (top left : ℕ) where
 pub window-met : (m : ℕ) (w : Window) (i j : ℕ) → isWindow m (sheetWindow m w i j) ≡ meetsSheet m w i j
 unfolding meetsSheet
 window-met m w i j = same-test _ _ (met-to m w (firstLine m i) (firstLine m j)) (met-from m w (firstLine m i) (firstLine m j))
+
+-- on such a sheet the first pixel of the clipped window is a pixel of the window
+pub met-first : (m : ℕ) (w : Window) (i j : ℕ) → meetsSheet m w i j ≡ true
+    → SeenPixel m w (firstLine m i) (firstLine m j) (sheetWindow m w i j .row) (sheetWindow m w i j .column)
+met-first m w i j e = first-seen m w (firstLine m i) (firstLine m j) (window-met m w i j ∙ e)
+
+-- another sheet has none of its pixels
+pub not-met : (m : ℕ) (w : Window) (i j : ℕ) → meetsSheet m w i j ≡ false → (r c : ℕ) → inWindow (sheetWindow m w i j) r c ≡ true → ⊥
+not-met m w i j e = six-none m w (firstLine m i) (firstLine m j) (ap not (window-met m w i j ∙ e))
+
+-- the features of a sheet are below s
+pub sheet-below : {m s : ℕ} {g : Ground} {filler : ℕ} → GroundFits m s g filler → (i j : ℕ) → Every (λ r c. sheetPicture m g filler i j r c < s) m 0 0
+sheet-below {m} {s} {g} {filler} fits i j r c _ = cut-below g filler (firstLine m i) (firstLine m j) s (fits .features) (fits .filler-below) r c

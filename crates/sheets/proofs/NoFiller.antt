@@ -4,7 +4,7 @@ use mathlib.Core.Path.{_≡_, sym, _∙_}
 use mathlib.Core.Bool.{true}
 use Rattle.definitions.specs.declared.Window.{Window}
 use Rattle.sheets.specs.Ground.{Ground, insideGround}
-use Rattle.sheets.specs.Together.{existSheets, reportSheets, areaSheets, selectSheets}
+use Rattle.sheets.specs.Together.{inSheetBlocks, existSheets, reportSheets, areaSheets, selectSheets}
 use Rattle.sheets.proofs.SheetArea.{area-sheets}
 use Rattle.sheets.proofs.SheetExist.{exist-sheets, report-sheets}
 use Rattle.sheets.proofs.SheetSelect.{select-sheets}
@@ -19,5 +19,6 @@ module _ (m : ℕ) (g : Ground) (filler filler′ : ℕ) (w : Window) (lies : in
   pub area-filler : (f : ℕ) → areaSheets m g filler w f ≡ areaSheets m g filler′ w f
   area-filler f = area-sheets m g filler w f lies ∙ sym (area-sheets m g filler′ w f lies)
 
-  pub select-filler : (f row column : ℕ) → selectSheets m g filler w f row column ≡ selectSheets m g filler′ w f row column
-  select-filler f row column = select-sheets m g filler w lies f row column ∙ sym (select-sheets m g filler′ w lies f row column)
+  -- the blocks have the same pixels
+  pub select-filler : (f row column : ℕ) → inSheetBlocks m (selectSheets m g filler w f) row column ≡ inSheetBlocks m (selectSheets m g filler′ w f) row column
+  select-filler f row column = select-sheets m g filler w f lies row column ∙ sym (select-sheets m g filler′ w f lies row column)

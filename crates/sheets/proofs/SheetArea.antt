@@ -10,29 +10,18 @@ use Rattle.definitions.specs.Picture.{Picture}
 use Rattle.definitions.specs.Window.{isWindow, inWindow, featuresIn}
 use Rattle.definitions.specs.Area.{areaIn}
 use Rattle.definitions.specs.declared.Window.{Window}
-use Rattle.laws.proofs.WindowScan.{inside-window, window-inside}
-use Rattle.laws.proofs.PixelSums.{sumRows, InPart, rows-same, rows-inside}
+use Rattle.laws.proofs.PixelSums.{sumRows, rows-same, rows-nothing, rows-inside}
 use Rattle.laws.proofs.CountOf.{oneAt, count-rows}
-use Rattle.laws.proofs.AreaOf.{oneInside, window-bounds}
+use Rattle.laws.proofs.AreaOf.{oneInside, inside-one, outside-none, window-bounds}
 use Rattle.sheets.specs.Ground.{Ground, insideGround, sheetsFor, firstLine, cutAt, seenFrom}
 use Rattle.sheets.specs.Together.{areaSheets}
 use Rattle.sheets.proofs.NoPixels.{area-none}
 use Rattle.sheets.proofs.Lines.{covered}
 use Rattle.sheets.proofs.Below.{sum-below-same}
-use Rattle.sheets.proofs.GridSums.{rows-moved, rows-nothing, cells}
+use Rattle.sheets.proofs.GridSums.{rows-moved, cells}
 use Rattle.sheets.proofs.SheetPixels.{six-none, within-ground, has-same}
 
 module _ (p : Picture) (w : Window) (f : ℕ) where
-  part-inside : (a b : ℕ) → InPart (w .row) (w .column) (w .width) (w .height) a b → inWindow w a b ≡ true
-  part-inside a b i = window-inside w a b (record { from-row = i .from-row; to-row = i .to-row; from-column = i .from-column; to-column = i .to-column })
-
-  outside-none : (a b : ℕ) → (InPart (w .row) (w .column) (w .width) (w .height) a b → ⊥) → oneInside p w f a b ≡ 0
-  outside-none a b out =
-      decide (inWindow w a b)
-      (λ e. let i = inside-window w a b e in
-      absurd (out (record { from-row = i .from-row; to-row = i .to-row; from-column = i .from-column; to-column = i .to-column })))
-      (λ e. ap (λ x. cond (x && eqb (p a b) f) 1 0) e)
-
   -- the area is a sum over the window's pixels
   area-rows : areaIn p w f ≡ sumRows (oneAt p f) (w .row) (w .column) (w .width) (w .height)
   unfolding areaIn featuresIn
@@ -44,9 +33,9 @@ module _ (p : Picture) (w : Window) (f : ℕ) where
       let right : width ≡ w .column + (w .width + (width - (w .column + w .width))) = omega arith in
       let down : height ≡ w .row + (w .height + (height - (w .row + w .height))) = omega arith in
       area-rows
-      ∙ sym (rows-same (oneInside p w f) (oneAt p f) (w .row) (w .column) (w .width) (w .height)
-      (λ a b i. ap (λ x. cond (x && eqb (p a b) f) 1 0) (part-inside a b i)))
-      ∙ sym (rows-inside (oneInside p w f) (w .row) (w .column) (w .width) (w .height) (width - (w .column + w .width)) (height - (w .row + w .height)) outside-none)
+      ∙ sym (rows-same (oneInside p w f) (oneAt p f) (w .row) (w .column) (w .width) (w .height) (inside-one p w f))
+      ∙ sym (rows-inside (oneInside p w f) (w .row) (w .column) (w .width) (w .height) (width - (w .column + w .width)) (height - (w .row + w .height))
+      (outside-none p w f))
       ∙ sym (ap₂ (λ x y. sumRows (oneInside p w f) 0 0 x y) right down)
 
   -- without a pixel of the window that sum is 0

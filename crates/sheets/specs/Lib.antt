@@ -1,3 +1,4 @@
 pub mod Ground
 pub mod Together
 pub mod Calls
+pub mod Paints

@@ -2,11 +2,11 @@
 -- level of pictures. Rests on Ground.
 use Prim.Native.Nat.{ℕ, zero, suc, _+_, _-_, _*_, _^_}
 use mathlib.Core.Bool.{Bool, false, _&&_, _||_}
-use mathlib.Core.List.{List, [], _++_, map}
+use mathlib.Core.List.{List, [], _∷_, _++_, map}
 use lib.Bits.{bitOr}
 use lib.Dec.{leb}
+use Rattle.keys.specs.Block.{inBlock}
 use Rattle.definitions.specs.Window.{existIn, reportIn, selectIn}
-use Rattle.definitions.specs.Covered.{inSome}
 use Rattle.definitions.specs.Area.{areaIn}
 use Rattle.definitions.specs.declared.Window.{Window}
 use Rattle.laws.proofs.AreasAddUp.{sumBelow}
@@ -55,9 +55,17 @@ module _ (m : ℕ) (g : Ground) where
   unfoldable pub blockNumber : (b : SheetBlock) → ℕ
   blockNumber b = (b .down * sheetsFor m (g .columns) + b .across) * 5 ^ m + b .key
 
--- a pixel of the ground lies in one of the blocks of the sheet that begins at a row and a column
-unfoldable pub inBlocksFrom : (m : ℕ) (blocks : List ℕ) (top left row column : ℕ) → Bool
-inBlocksFrom m blocks top left row column = leb top row && leb left column && inSome m blocks (row - top) (column - left)
+-- a pixel of the ground lies in the block
+unfoldable pub inSheetBlock : (m : ℕ) (b : SheetBlock) (row column : ℕ) → Bool
+inSheetBlock m b row column =
+    leb (firstLine m (b .down)) row
+    && leb (firstLine m (b .across)) column
+    && inBlock m (b .key) (row - firstLine m (b .down)) (column - firstLine m (b .across))
+
+-- it lies in one of the blocks
+unfoldable pub inSheetBlocks : (m : ℕ) (blocks : List SheetBlock) (row column : ℕ) → Bool
+inSheetBlocks m [] row column = false
+inSheetBlocks m (b ∷ blocks) row column = inSheetBlock m b row column || inSheetBlocks m blocks row column
 
 module _ (m : ℕ) (g : Ground) (filler : ℕ) (w : Window) where
   unfoldable pub existSheets : (f : ℕ) → Bool
@@ -69,11 +77,6 @@ module _ (m : ℕ) (g : Ground) (filler : ℕ) (w : Window) where
   unfoldable pub areaSheets : (f : ℕ) → ℕ
   areaSheets f = sumSheets m g (λ i j. areaIn (sheetPicture m g filler i j) (sheetWindow m w i j) f)
 
-  -- a pixel of the ground lies in a block that select gives on some sheet
-  unfoldable pub selectSheets : (f row column : ℕ) → Bool
-  selectSheets f row column =
-      someSheet m g (λ i j. inBlocksFrom m (selectIn m (sheetPicture m g filler i j) (sheetWindow m w i j) f) (firstLine m i) (firstLine m j) row column)
-
-  -- all blocks that select gives, sheet after sheet
-  unfoldable pub blockSheets : (f : ℕ) → List SheetBlock
-  blockSheets f = listSheets m g (λ i j. blocksOn i j (selectIn m (sheetPicture m g filler i j) (sheetWindow m w i j) f))
+  -- the blocks that select gives, sheet after sheet
+  unfoldable pub selectSheets : (f : ℕ) → List SheetBlock
+  selectSheets f = listSheets m g (λ i j. blocksOn i j (selectIn m (sheetPicture m g filler i j) (sheetWindow m w i j) f))
