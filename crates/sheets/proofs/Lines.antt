@@ -12,22 +12,22 @@ use Rattle.keys.proofs.Cases.{split}
 use Rattle.laws.proofs.Overlap.{Common, before-none, before-some, from-none, from-some, not-before-zero, not-before-line}
 use Rattle.sheets.specs.Ground.{sheetsFor, firstLine, onSheet}
 
--- the sheets reach to the last line
-pub covered : (m lines : ℕ) → lines ≤ sheetsFor m lines * 2 ^ m
-unfolding sheetsFor
-covered m lines =
-    let t = pow-pos m in
-    let e = div-add-mod' (lines + (2 ^ m - 1)) (2 ^ m) in
-    let h = mod-lt (lines + (2 ^ m - 1)) (pow-pos m) in
-    omega arith
-
--- and each sheet has a line
+-- each sheet has a line of the ground
 pub each-needed : (m lines i : ℕ) → i < sheetsFor m lines → firstLine m i < lines
 unfolding sheetsFor
 each-needed m lines i h =
     let t = pow-pos m in
     let e = le-div-iff-mul-le (pow-pos m) .0 h in
     let s = suc-mul i (2 ^ m) in
+    omega arith
+
+-- and they reach to the last line
+pub covered : (m lines : ℕ) → lines ≤ sheetsFor m lines * 2 ^ m
+unfolding sheetsFor
+covered m lines =
+    let t = pow-pos m in
+    let e = div-add-mod' (lines + (2 ^ m - 1)) (2 ^ m) in
+    let h = mod-lt (lines + (2 ^ m - 1)) (pow-pos m) in
     omega arith
 
 -- a line on its sheet
