@@ -1,9 +1,10 @@
 -- By computation: ground of 3 rows and 5 columns on six sheets of side 2, its answers and refusals; a window over its edge; a paint over four sheets and its taking
--- back, each in an order of its own; and that filler counts where a window reaches over the edge and is not clipped. Rests on the definitions alone.
+-- back, each in an order of its own; five steps of two paints; and that filler counts where a window reaches over the edge and is not clipped. Rests on the
+-- definitions alone.
 use Prim.Native.Nat.{ℕ, _+_, _*_}
 use mathlib.Core.Path.{_≡_, refl}
 use mathlib.Core.Bool.{true, false}
-use mathlib.Core.List.{[], _∷_, map}
+use mathlib.Core.List.{List, [], _∷_, map}
 use lib.IntN.{pos, negsuc}
 use lib.ListN.{getD, replicate}
 use Rattle.keys.specs.Key.{validKey, digitsOf, digitsThenZeros, onlyZeros, levelOf, digitsBeforeZero, heightOf}
@@ -17,7 +18,7 @@ use Rattle.definitions.specs.Window.{windowAt, isWindow, inWindow, featuresOfRo
 use Rattle.definitions.specs.Area.{countOf, areaIn, pixelsWith, countsFrom, summaryBelow, summaryOf, sameNumbers, noSummary}
 use Rattle.definitions.specs.Clip.{notBefore, overlapEnd, overlapLength, overlapWindow}
 use Rattle.definitions.specs.Edit.{put, paintIn, fillWindow, contentOf}
-use Rattle.definitions.specs.Log.{closed, entryOf, grouped, entriesOf, groupOf, countRecord, lastRecord, lastKey, lastFeature, lastCount, beforeLast, lastContent, isContent, closes, lastIsEntry, endsInMark, stepCount, stepEntries, beforeEntries, beforeStep, endsInEntries, lastIsGroup, lastIsStep, dividesIn, isSound, putBack, noLog}
+use Rattle.definitions.specs.Log.{closed, entryOf, grouped, entriesOf, groupOf, countRecord, lastRecord, lastKey, lastFeature, lastCount, beforeLast, lastContent, isContent, closes, lastIsEntry, endsInMark, stepCount, stepEntries, beforeEntries, beforeStep, endsInEntries, lastIsGroup, lastIsStep, dividesIn, isSound, firstIn, firstStep, putBack, paintAgain, noLog}
 use Rattle.definitions.specs.Calls.Survey.{surveyRefusal, survey, surveyKeys, surveyBits, surveySummary}
 use Rattle.definitions.specs.Calls.Exist.{existRefusal, exist}
 use Rattle.definitions.specs.Calls.Report.{reportRefusal, report}
@@ -25,14 +26,16 @@ use Rattle.definitions.specs.Calls.Area.{areaRefusal, area}
 use Rattle.definitions.specs.Calls.Select.{selected, selectRefusal, select, selectAnswer}
 use Rattle.definitions.specs.Calls.PaintWindow.{filled, groupGained, paintWindowRefusal, paintWindow, paintWindowKeys, paintWindowBits, paintWindowSummary, paintWindowLogKeys, paintWindowLogValues}
 use Rattle.definitions.specs.Calls.TakeBack.{restored, takeBackRefusal, forceBefore, takeBack, takeBackKeys, takeBackBits, takeBackSummary, takeBackLogKeys, takeBackLogValues}
+use Rattle.definitions.specs.Calls.Redo.{redone, redoRefusal, forceAfter, redo, redoKeys, redoBits, redoSummary, redoLogKeys, redoLogValues}
 use Rattle.definitions.specs.declared.Window.{Window}
 use Rattle.laws.proofs.AreasAddUp.{sumBelow}
 use Rattle.laws.proofs.RasterOf.{rasterOf}
-use Rattle.history.specs.History.{Buffers, built, answer, after, takingBack}
+use Rattle.history.specs.History.{Call, Buffers, built, answer, after, afterCalls, takingBack, redoing}
 use Rattle.sheets.specs.Ground.{Ground, inGround, insideGround, groundWindow, isEmpty, sheetsFor, cutAt, onSheet, sheetPicture, meets, meetsSheet}
 use Rattle.sheets.specs.Together.{SheetBlock, someBelow, unionBelow, listBelow, blockNumber, areaSheets}
 use Rattle.sheets.specs.Calls.{areaOn, selectOn, existTogether, reportTogether, areaTogether, selectTogether, areaAsked, selectAsked, placesAsked}
 use Rattle.sheets.specs.Paints.{paintOn, takeBackOn, SheetPlace, isAmong, eachOnce, afterSheets}
+use Rattle.sheets.specs.Steps.{GroundPaint, GroundStep, paintStep, backStep, redoStep, lastBack, nextAgain, keepStep, keptSteps, ofFirst, stepCalls, runCalls, allAccepted}
 
 -- rows 00112, 01122, 22101
 abbrev ground : Ground
@@ -44,7 +47,7 @@ ground = record {
 
 -- its sheets, each built in buffers that are just long enough, with filler 0 and an empty log
 abbrev sheets : ℕ → ℕ → Buffers
-sheets i j = built 1 3 (rasterOf 1 (sheetPicture 1 ground 0 i j)) (replicate 5 99) (replicate 5 98) (replicate 12 97) (replicate 12 96) (replicate 12 95)
+sheets i j = built 1 3 (rasterOf 1 (sheetPicture 1 ground 0 i j)) (replicate 5 99) (replicate 5 98) (replicate 12 97) (replicate 16 96) (replicate 16 95)
 
 -- rows 1 and 2, columns 1 to 3: 112 and 210; it meets four of the six sheets
 abbrev asked : Window
@@ -153,6 +156,37 @@ paints = record {
   ones-back = refl;
   twos-back = refl;
 }
+
+-- two paints with sheet (0, 1) in common; both are taken back, and the first is redone
+abbrev one : GroundPaint
+one = record { row = pos 1; column = pos 1; height = 2; width = 3; feature = 0 }
+
+abbrev two : GroundPaint
+two = record { row = negsuc 0; column = pos 3; height = 3; width = 6; feature = 1 }
+
+abbrev steps : List GroundStep
+steps = paintStep one ∷ paintStep two ∷ backStep ∷ backStep ∷ redoStep ∷ []
+
+abbrev calls : ℕ → ℕ → List Call
+calls i j = runCalls 1 ground i j steps (record { held = []; undone = [] })
+
+abbrev left : ℕ → ℕ → Buffers
+left i j = afterCalls 1 3 (sheets i j) (calls i j)
+
+-- rows 00112, 00002, 20001 again
+record Steps : Type 0 where
+  paints-kept : keptSteps steps (record { held = []; undone = [] }) ≡ record { held = one ∷ []; undone = two ∷ [] }
+  -- a sheet gets the calls of the paints that meet it
+  calls-both : calls 0 1 ≡ paintOn 1 asked 0 0 1 ∷ paintOn 1 (windowAt 0 3 2 2) 1 0 1 ∷ takingBack ∷ takingBack ∷ redoing ∷ []
+  calls-second : calls 0 2 ≡ paintOn 1 (windowAt 0 3 2 2) 1 0 2 ∷ takingBack ∷ []
+  none-refused : allAccepted 1 3 (sheets 0 1) (calls 0 1) ≡ true
+  zeros : areaTogether 1 3 ground left whole 0 ≡ 9
+  ones : areaTogether 1 3 ground left whole 1 ≡ 3
+  twos : areaTogether 1 3 ground left whole 2 ≡ 3
+
+steps-leave : Steps
+unfolding groundWindow meets meetsSheet keptSteps keepStep lastBack nextAgain ofFirst stepCalls runCalls allAccepted afterCalls sheetsFor inGround cutAt onSheet sumBelow areaTogether built answer after validKey heightOf levelOf digitsOf onlyZeros digitsThenZeros digitsBeforeZero rowOf columnOf sideOf inBlock pixelKey everyPixel oneFeature featuresBelow bitsOf unionOfFour twosIn featureOf listOf paired valueAt pictureOf sameRecords isListOfBlock isList first badSettings badLength badPixel isWindow inWindow featuresOfRow featuresOfRows featuresIn isInside largestFrom largestBlocks countOf areaIn pixelsWith countsFrom summaryBelow summaryOf sameNumbers noSummary notBefore overlapEnd overlapLength overlapWindow put paintIn fillWindow contentOf closed entryOf grouped entriesOf groupOf countRecord lastRecord lastKey lastFeature lastCount beforeLast lastContent isContent closes lastIsEntry endsInMark stepCount stepEntries beforeEntries beforeStep endsInEntries lastIsGroup lastIsStep dividesIn isSound firstIn firstStep putBack paintAgain noLog surveyRefusal survey surveyKeys surveyBits surveySummary areaRefusal area filled groupGained paintWindowRefusal paintWindow paintWindowKeys paintWindowBits paintWindowSummary paintWindowLogKeys paintWindowLogValues restored takeBackRefusal forceBefore takeBack takeBackKeys takeBackBits takeBackSummary takeBackLogKeys takeBackLogValues redone redoRefusal forceAfter redo redoKeys redoBits redoSummary redoLogKeys redoLogValues
+steps-leave = record { paints-kept = refl; calls-both = refl; calls-second = refl; none-refused = refl; zeros = refl; ones = refl; twos = refl }
 
 -- row 2, and one row past the ground's last; columns 0 and 1
 abbrev over-edge : Window

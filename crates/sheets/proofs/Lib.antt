@@ -21,4 +21,6 @@ pub mod SheetLogs
 pub mod SheetPaints
 pub mod SheetTakenBack
 pub mod PaintedSheets
+pub mod StepCalls
+pub mod GroundSteps
 mod Example
