@@ -1,5 +1,5 @@
--- Select on the sheets: a pixel of the ground lies in a block that some sheet gives exactly when it lies in the ground's window and has the feature. Rests on
--- SheetExist and on what select means.
+-- Select on the sheets: which blocks are given, in what order and how many; and a pixel of the ground lies in one of them exactly when it lies in the ground's
+-- window and has the feature. Rests on SheetExist, BlockLists and on what select means.
 use Prim.Native.Nat.{ℕ, zero, suc, _+_, _-_, _*_, _^_, _<_}
 use mathlib.Core.Path.{_≡_, refl, sym, ap, ap₂, _∙_}
 use mathlib.Core.Logic.{_↔_}
@@ -15,17 +15,18 @@ use Rattle.keys.proofs.Cases.{decide, and-left, and-right, and-both, same-test}
 use Rattle.keys.proofs.Under.{under-trans}
 use Rattle.keys.proofs.Pixel.{InSquare}
 use Rattle.keys.proofs.InBlock.{inBlock-iff, in-raster}
-use Rattle.definitions.specs.Picture.{Picture}
+use Rattle.definitions.specs.Picture.{Picture, everyPixel}
 use Rattle.definitions.specs.Window.{inWindow, isGiven, selectFrom, selectIn}
 use Rattle.definitions.specs.declared.Window.{Window}
 use Rattle.laws.proofs.Within.{within-cases, pixel-row, pixel-column}
+use Rattle.laws.proofs.Pixels.{every-same}
 use Rattle.laws.proofs.AscendingKeys.{AscendingKeys}
 use Rattle.laws.proofs.SelectAscends.{select-in-ascends}
 use Rattle.laws.proofs.SelectMeans.{given-inside, given-feature, given-of, select-given, select-over, select-in-exactly}
 use Rattle.sheets.specs.Ground.{Ground, insideGround, sheetsFor, firstLine, cutAt, seenFrom, sheetPicture, sheetWindow}
 use Rattle.sheets.specs.Together.{SheetBlock, sumSheets, blockNumber, inSheetBlock, inSheetBlocks, selectSheets}
 use Rattle.sheets.proofs.BlockLists.{FromSheet, blocks-exactly, blocks-length, blocks-ascend, HasPixel, has-pixel, pixel-has}
-use Rattle.sheets.proofs.SheetPixels.{seen-to, no-filler}
+use Rattle.sheets.proofs.SheetPixels.{seen-to, no-filler, has-same}
 use Rattle.sheets.proofs.SheetExist.{FoundOn, found-on}
 
 -- a block of the list that has the pixel
@@ -107,6 +108,14 @@ module _ (m : ℕ) (g : Ground) (filler : ℕ) (w : Window) (f : ℕ) where
   pub select-count : length (selectSheets m g filler w f) ≡ sumSheets m g (λ i j. length (selectIn m (sheetPicture m g filler i j) (sheetWindow m w i j) f))
   unfolding selectSheets
   select-count = blocks-length m g given
+
+  -- what a sheet gives, by the ground's own pixels: every pixel of the block lies in the ground's window and has the feature
+  pub given-ground : insideGround g w ≡ true → (top left : ℕ) {k r c κ : ℕ} → MapBlock m k r c κ
+      → isGiven (cutAt g filler top left) (seenFrom m w top left) f k r c
+      ≡ everyPixel (λ a b. inWindow w (top + a) (left + b) && eqb (g .picture (top + a) (left + b)) f) k r c
+  unfolding isGiven
+  given-ground lies top left {k} {r} {c} b =
+      every-same _ _ k r c (λ a d i. let x = in-raster b i in has-same g filler top left w lies m a d f (x .0) (x .1))
 
   module _ (lies : insideGround g w ≡ true) (row column : ℕ) where
     -- a pixel in a block that a sheet gives
