@@ -20,17 +20,17 @@ use Rattle.sheets.proofs.SheetPixels.{within-ground}
 use Rattle.sheets.proofs.MetSheets.{met-first, not-met}
 use Rattle.sheets.proofs.SheetExist.{found-on}
 
--- the clipped lines end with the ground
+-- the lines that are left end with the ground
 ends-inside : (start : ℤ) (length side : ℕ) → min (notBefore start) side + overlapLength start length side ≤ side
 unfolding overlapLength overlapEnd
 ends-inside start length side = omega arith
 
--- where a line is clipped the first is the dragged one's own
+-- where some are left, the first is the dragged window's own or the ground's first
 begins : (start : ℤ) (length side : ℕ) → 1 ≤ overlapLength start length side → min (notBefore start) side ≡ notBefore start
 unfolding overlapLength overlapEnd
 begins start length side h = omega arith
 
--- so a clipped line is one that the overlap has, and the other way
+-- so the lines left are those of the overlap
 clipped-common : (start : ℤ) (length side line : ℕ) → min (notBefore start) side ≤ line → line < min (notBefore start) side + overlapLength start length side
     → Common start length side line
 clipped-common start length side line from to =

@@ -1,6 +1,6 @@
 -- Rows and columns of the ground on its sheets: each lies on one sheet, and the lines of a clipped window are those of the ground's window that lie on
 -- the sheet. Rests on the laws of the overlap.
-use Prim.Native.Nat.{ℕ, suc, _+_, _-_, _*_, _/_, _%_, _^_, _<_, _≤_}
+use Prim.Native.Nat.{ℕ, suc, _+_, _-_, _*_, _/_, _%_, _^_, _<_, _≤_, max, min}
 use mathlib.Core.Path.{_≡_, sym, ap, subst, _∙_}
 use native.Mathlib.Nat.{div-add-mod', mod-lt, div-lt-iff-lt-mul, le-div-iff-mul-le, suc-mul, mul-add-div-right, div-eq-of-lt, add-zero}
 use native.Mathlib.Omega.{arith}
@@ -9,6 +9,7 @@ use lib.Signed.{mag}
 use lib.Pow.{pow-pos}
 use borrow.Author.Tests.{lt-ltb, le-ltb}
 use Rattle.keys.proofs.Cases.{split}
+use Rattle.definitions.specs.Clip.{notBefore, overlapLength}
 use Rattle.laws.proofs.Overlap.{Common, before-none, before-some, from-none, from-some, not-before-zero, not-before-line}
 use Rattle.sheets.specs.Ground.{sheetsFor, firstLine, onSheet}
 
@@ -108,6 +109,34 @@ seen-common start first length side r x =
     split start first
     (λ h. subst (λ z. Common z length side r) (sym (on-before start first h)) (seen-before start first length side r h x))
     (λ h. subst (λ z. Common z length side r) (sym (on-from start first h)) (seen-from start first length side r h x))
+
+-- where the overlap begins on the sheet, and how long it is, by numbers that are not negative
+pub on-start : (start first : ℕ) → notBefore (onSheet start first) ≡ max start first - first
+on-start start first =
+    split start first
+    (λ h. ap notBefore (on-before start first h) ∙ not-before-zero (first - suc start) ∙ omega arith)
+    (λ h. ap notBefore (on-from start first h) ∙ not-before-line (start - first) ∙ omega arith)
+
+shifted : (end first side : ℕ) → min (end - first) side ≡ min end (first + side) - first
+shifted end first side = omega arith
+
+pub on-length : (start first length side : ℕ) → overlapLength (onSheet start first) length side ≡ min (start + length) (first + side) - max start first
+on-length start first length side =
+    split start first
+    (λ h. ap (λ z. overlapLength z length side) (on-before start first h)
+    ∙ split (first - suc start) length
+    (λ l.
+    let later : first ≡ max start first = omega arith in
+    let left : length - (first - suc start) - 1 ≡ start + length - first = omega arith in
+    before-some (first - suc start) length side l
+    ∙ ap (λ x. min x side) left
+    ∙ shifted (start + length) first side
+    ∙ ap (λ x. min (start + length) (first + side) - x) later)
+    (λ l. before-none (first - suc start) length side l ∙ omega arith))
+    (λ h. ap (λ z. overlapLength z length side) (on-from start first h)
+    ∙ split (start - first) side
+    (λ l. from-some (start - first) length side l ∙ omega arith)
+    (λ l. from-none (start - first) length side l ∙ omega arith))
 
 -- where the ground's lines fit 31 bits, they fit an i32 on every sheet
 pub on-fits : (start first : ℕ) → start < 2 ^ 31 → first ≤ 2 ^ 31 → mag (onSheet start first) < 2 ^ 31

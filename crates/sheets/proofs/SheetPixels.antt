@@ -1,6 +1,6 @@
 -- A sheet's pixels: one lies in the clipped window exactly when the ground's pixel lies in the ground's window, and there it has the ground's feature and
 -- no filler. Rests on Lines.
-use Prim.Native.Nat.{ℕ, _+_, _^_, _<_, _≤_}
+use Prim.Native.Nat.{ℕ, _+_, _-_, _^_, _<_, _≤_, max, min}
 use mathlib.Core.Path.{_≡_, sym, ap, _∙_}
 use mathlib.Core.Bool.{true, false, cond, _&&_}
 use native.Mathlib.Omega.{arith}
@@ -8,18 +8,31 @@ use lib.Dec.{leb, ltb, eqb}
 use borrow.Author.Tests.{leb-true, lt-ltb}
 use Rattle.keys.proofs.Cases.{decide, and-left, and-right, and-both, same-test}
 use Rattle.definitions.specs.Clip.{overlapWindow}
-use Rattle.definitions.specs.Window.{inWindow, badWindow}
+use Rattle.definitions.specs.Window.{windowAt, inWindow, badWindow}
 use Rattle.definitions.specs.declared.Window.{Window}
 use Rattle.laws.proofs.WindowScan.{inside-window, window-inside}
 use Rattle.laws.proofs.Overlap.{clipped-pixels, six-exactly}
 use Rattle.sheets.specs.Ground.{Ground, inGround, insideGround, cutAt, onSheet, seenFrom}
-use Rattle.sheets.proofs.Lines.{common-seen, seen-common}
+use Rattle.sheets.proofs.Lines.{on-start, on-length, common-seen, seen-common}
 
 -- a pixel of the clipped window: the ground's pixel is one of the window, and it lies on the sheet
 pub record SeenPixel (m : ℕ) (w : Window) (top left r c : ℕ) : Type 0 where
   pub inside : inWindow w (top + r) (left + c) ≡ true
   pub row-on : r < 2 ^ m
   pub column-on : c < 2 ^ m
+
+-- the clipped window by numbers that are not negative, as the strict calls take them
+pub seen-window : (m : ℕ) (w : Window) (top left : ℕ)
+    → seenFrom m w top left
+    ≡ windowAt (max (w .row) top - top) (max (w .column) left - left)
+    (min (w .row + w .height) (top + 2 ^ m) - max (w .row) top) (min (w .column + w .width) (left + 2 ^ m) - max (w .column) left)
+unfolding overlapWindow
+seen-window m w top left = λ i. record {
+  row = on-start (w .row) top i;
+  column = on-start (w .column) left i;
+  height = on-length (w .row) top (w .height) (2 ^ m) i;
+  width = on-length (w .column) left (w .width) (2 ^ m) i;
+}
 
 module _ (m : ℕ) (w : Window) (top left : ℕ) where
   pub seen-to : (r c : ℕ) → inWindow (seenFrom m w top left) r c ≡ true → SeenPixel m w top left r c

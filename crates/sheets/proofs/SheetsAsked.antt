@@ -4,7 +4,7 @@ use mathlib.Core.Path.{_≡_, sym, ap, _∙_}
 use mathlib.Core.Bool.{true, false, cond, _&&_}
 use mathlib.Core.List.{List, []}
 use lib.ListN.{length}
-use lib.Dec.{eqb}
+use lib.Dec.{ltb, eqb}
 use borrow.Author.Tests.{lt-leb}
 use Rattle.keys.proofs.Cases.{decide}
 use Rattle.definitions.specs.Picture.{Picture}
@@ -22,7 +22,7 @@ use Rattle.sheets.proofs.MetSheets.{window-met, not-met, sheet-below}
 use Rattle.sheets.proofs.SheetArea.{area-sheets}
 use Rattle.sheets.proofs.SheetExist.{exist-sheets, report-sheets}
 use Rattle.sheets.proofs.SheetSelect.{select-count}
-use Rattle.sheets.proofs.SheetCalls.{exist-plain, report-plain, area-plain, select-places, select-plain}
+use Rattle.sheets.proofs.SheetCalls.{exist-refused, report-refused, area-refused, select-refused, exist-plain, report-plain, area-plain, select-places, select-plain}
 
 module _ (m s : ℕ) (g : Ground) (filler : ℕ) (fits : GroundFits m s g filler) (sheets : ℕ → ℕ → Buffers) (w : Window) (hold : MetHold m s g filler sheets w) where
   module _ (i j : ℕ) (down : i < sheetsFor m (g .rows)) (across : j < sheetsFor m (g .columns)) where
@@ -31,6 +31,28 @@ module _ (m s : ℕ) (g : Ground) (filler : ℕ) (fits : GroundFits m s g filler
 
     abbrev u : Window
     u = sheetWindow m w i j
+
+    -- on such a sheet the calls are accepted, but for select with too few places in its answer, which gives 12
+    module _ (e : meetsSheet m w i j ≡ true) where
+      pub exist-accepted : (f : ℕ) → f < s → existOn m s (sheets i j) w i j f .refusal ≡ 0
+      exist-accepted f h =
+          exist-refused m s p (sheets i j) (fits .settings) (sheet-below fits i j) (hold i j down across e) u f (lt-leb s f h)
+          ∙ ap (λ x. cond x 0 6) (window-met m w i j ∙ e)
+
+      pub report-accepted : reportOn m s (sheets i j) w i j .refusal ≡ 0
+      report-accepted =
+          report-refused m s p (sheets i j) (fits .settings) (sheet-below fits i j) (hold i j down across e) u ∙ ap (λ x. cond x 0 6) (window-met m w i j ∙ e)
+
+      pub area-accepted : (f : ℕ) → f < s → areaOn m s (sheets i j) w i j f .refusal ≡ 0
+      area-accepted f h =
+          area-refused m s p (sheets i j) (fits .settings) (sheet-below fits i j) (hold i j down across e) u f (lt-leb s f h)
+          ∙ ap (λ x. cond x 0 6) (window-met m w i j ∙ e)
+
+      pub select-accepted : (f : ℕ) → f < s → (answer : List ℕ) → selectOn m s (sheets i j) w i j f answer .refusal
+          ≡ cond (ltb (length answer) (length (selectIn m (sheetPicture m g filler i j) (sheetWindow m w i j) f))) 12 0
+      select-accepted f h answer =
+          select-refused m s p (sheets i j) (fits .settings) (sheet-below fits i j) (hold i j down across e) u f answer (lt-leb s f h)
+          ∙ ap (λ x. cond x (cond (ltb (length answer) (length (selectIn m p u f))) 12 0) 6) (window-met m w i j ∙ e)
 
     exist-cell : (f : ℕ) → badFeature s f ≡ false → meetsSheet m w i j && eqb (existOn m s (sheets i j) w i j f .yes) 1 ≡ existIn p u f
     exist-cell f h =
