@@ -40,12 +40,13 @@ window-bounds m w e =
     }
 
 module _ (p : Picture) (w : Window) (f : ℕ) where
-  inside-one : (a b : ℕ) → InPart (w .row) (w .column) (w .width) (w .height) a b → oneInside p w f a b ≡ oneAt p f a b
+  -- in the window the feature alone counts, and outside it nothing
+  pub inside-one : (a b : ℕ) → InPart (w .row) (w .column) (w .width) (w .height) a b → oneInside p w f a b ≡ oneAt p f a b
   inside-one a b i =
       ap (λ x. cond (x && eqb (p a b) f) 1 0)
       (window-inside w a b (record { from-row = i .from-row; to-row = i .to-row; from-column = i .from-column; to-column = i .to-column }))
 
-  outside-none : (a b : ℕ) → (InPart (w .row) (w .column) (w .width) (w .height) a b → ⊥) → oneInside p w f a b ≡ 0
+  pub outside-none : (a b : ℕ) → (InPart (w .row) (w .column) (w .width) (w .height) a b → ⊥) → oneInside p w f a b ≡ 0
   outside-none a b out =
       decide (inWindow w a b)
       (λ e. let i = inside-window w a b e in

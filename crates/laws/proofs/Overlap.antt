@@ -67,7 +67,7 @@ ends-before : (before length line : ℕ) → length ≤ before → pos line <ℤ
 ends-before before length line h l = (rw (lt-ltb length (suc before) (omega arith)) at l) .lt
 
 -- a line of the overlap was dragged over and lies in the raster
-common-dragged : (start : ℤ) (length side line : ℕ) → Common start length side line → Dragged start length line × (line < side)
+pub common-dragged : (start : ℤ) (length side line : ℕ) → Common start length side line → Dragged start length line × (line < side)
 common-dragged (pos first) length side line h =
     split first side
     (λ l.
@@ -91,7 +91,7 @@ common-dragged (negsuc before) length side line h =
     (λ l. let e = before-none before length side l in let z = not-before-zero before in let g = h .to in absurd (omega arith))
 
 -- and the other way
-dragged-common : (start : ℤ) (length side line : ℕ) → Dragged start length line → line < side → Common start length side line
+pub dragged-common : (start : ℤ) (length side line : ℕ) → Dragged start length line → line < side → Common start length side line
 dragged-common (pos first) length side line h l =
     let x = leb-true first line (is-true (leb first line) (h .from .le)) in
     let y = ltb-true line (first + length) (is-true (ltb line (first + length)) (h .to .lt)) in

@@ -149,7 +149,8 @@ unfolding sumRows
 nothing-rows r c width zero = refl
 nothing-rows r c width (suc height) = let e = nothing-row r c width in let f = nothing-rows (suc r) c width height in omega arith
 
-rows-nothing : (g : ℕ → ℕ → ℕ) (r c width height : ℕ) → ((a b : ℕ) → InPart r c width height a b → g a b ≡ 0) → sumRows g r c width height ≡ 0
+-- where nothing is added, the sum is 0
+pub rows-nothing : (g : ℕ → ℕ → ℕ) (r c width height : ℕ) → ((a b : ℕ) → InPart r c width height a b → g a b ≡ 0) → sumRows g r c width height ≡ 0
 rows-nothing g r c width height e = rows-same g (λ a b. 0) r c width height e ∙ nothing-rows r c width height
 
 -- where nothing is added outside a rectangle, the sum over a larger one is the rectangle's

@@ -1,0 +1,26 @@
+pub mod Lines
+pub mod Below
+pub mod BlockLists
+pub mod GridSums
+pub mod NoPixels
+pub mod SheetPixels
+pub mod MetSheets
+pub mod SheetArea
+pub mod SheetExist
+pub mod SheetSelect
+pub mod NoFiller
+pub mod ClippedGround
+pub mod SumsFit
+pub mod SheetCalls
+pub mod SheetsTogether
+pub mod SheetsAsked
+pub mod DraggedGround
+pub mod BuiltSheets
+pub mod GroundPaints
+pub mod SheetLogs
+pub mod SheetPaints
+pub mod SheetTakenBack
+pub mod PaintedSheets
+pub mod StepCalls
+pub mod GroundSteps
+mod Example

@@ -1,0 +1,204 @@
+-- A paint of a window on one sheet: what its answer is, and that an accepted paint leaves the list and the summary of the painted picture and puts its group
+-- behind a sound log. Rests on SheetCalls, SheetLogs and on the history's laws of paints.
+use Prim.Native.Nat.{ℕ, _+_, _<_, _≤_}
+use mathlib.Core.Path.{_≡_, refl, sym, ap, ap₂, subst, _∙_}
+use mathlib.Core.Bool.{true, false}
+use mathlib.Core.List.{List, [], _∷_, _++_}
+use native.Mathlib.Omega.{arith}
+use lib.ListN.{length, drop, length-map}
+use lib.Seq.{drop-length}
+use lib.Dec.{ltb}
+use borrow.Author.Tests.{leb-false, ltb-false, not-false}
+use Rattle.keys.specs.Key.{rootKey}
+use Rattle.definitions.specs.Picture.{Picture}
+use Rattle.definitions.specs.List.{Record, listOfPicture, keysOf, valuesOf}
+use Rattle.definitions.specs.Read.{room, recordsOf, pictureOf}
+use Rattle.definitions.specs.Area.{summaryOf, noSummary}
+use Rattle.definitions.specs.Window.{isWindow, badWindow, largestBlocks}
+use Rattle.definitions.specs.Edit.{fillWindow}
+use Rattle.definitions.specs.Log.{grouped, groupOf, isSound, noLog}
+use Rattle.definitions.specs.Refusal.{Row, _gives_, first, badSettings, noList, badFeature}
+use Rattle.definitions.specs.Calls.PaintWindow.{filled, groupGained, paintWindowRefusal, paintWindow}
+use Rattle.definitions.specs.declared.Window.{Window}
+use Rattle.laws.proofs.First.{first-none, first-later}
+use Rattle.laws.proofs.Within.{Every}
+use Rattle.laws.proofs.Pixels.{Agree}
+use Rattle.laws.proofs.Features.{below-from}
+use Rattle.laws.proofs.ListOf.{list-agree}
+use Rattle.laws.proofs.SummaryOf.{summary-agree}
+use Rattle.laws.proofs.Records.{records-length}
+use Rattle.laws.proofs.LargestBlocks.{largest-in-order}
+use Rattle.laws.proofs.WindowPaint.{entries-past}
+use Rattle.laws.proofs.LastStep.{IsStep}
+use Rattle.laws.proofs.SoundLog.{sound-with, empty-sound}
+use Rattle.history.specs.History.{Buffers, ofWindow, painting, applied, loggedBy, answer, after}
+use Rattle.history.specs.Claim.{paintWindowAnswer}
+use Rattle.history.proofs.Buffers.{length-replaced}
+use Rattle.history.proofs.Shown.{ShownInSlices, shown-records, shown-room, shown-replaced, shown-logged}
+use Rattle.history.proofs.Content.{map-back}
+use Rattle.history.proofs.Fit.{Fit, window-fit, step-is}
+use Rattle.history.proofs.Applied.{applied-list, applied-summary}
+use Rattle.history.proofs.PaintStep.{withStep, paint-done}
+use Rattle.sheets.specs.Calls.{SheetHolds}
+use Rattle.sheets.specs.Paints.{HasLog}
+use Rattle.sheets.proofs.SheetCalls.{has-list, has-summary}
+use Rattle.sheets.proofs.SheetLogs.{few, SoundLog, log-to, log-from, in-slices}
+
+-- pictures that agree on the raster are held alike
+pub holds-agree : {m s : ℕ} {b : Buffers} (p q : Picture) → Agree p q m 0 0 → SheetHolds m s p b → SheetHolds m s q b
+holds-agree {m} {s} p q same holds = record {
+  fits = holds .fits;
+  list = holds .list ∙ list-agree p q m 0 0 rootKey same;
+  summary = holds .summary ∙ summary-agree m s p q same;
+}
+
+module _ (m s : ℕ) (p : Picture) (b : Buffers) (settings : badSettings m s ≡ false) (below : Every (λ r c. p r c < s) m 0 0) (holds : SheetHolds m s p b)
+    (w : Window) (f : ℕ) where
+  -- the list that the paint makes is that of the painted picture
+  list-is : filled m (recordsOf (b .keys) (b .bits) (b .n)) w f ≡ listOfPicture m (fillWindow w f p)
+  unfolding filled applied
+  list-is = ap (λ l. filled m l w f) (holds .list) ∙ applied-list m (ofWindow w f) p
+
+  -- and its group that of the picture before
+  group-is : groupGained m (recordsOf (b .keys) (b .bits) (b .n)) w f ≡ groupOf m p w f
+  unfolding groupGained groupOf
+  group-is =
+      ap (λ l. groupGained m l w f) (holds .list)
+      ∙ ap (λ entries. grouped entries (length (largestBlocks m w)))
+      (entries-past f (pictureOf m (listOfPicture m p)) p (largest-in-order m w) (λ row column low narrow past. map-back m p row column (omega arith)))
+
+  -- with a sound log a paint is refused only by its window, its feature, the log's room for the group and the list's room for the painted picture's list
+  pub paint-answer : HasLog m s b
+      → answer m s b (painting (ofWindow w f)) ≡ paintWindowAnswer m s p (room (b .keys) (b .bits)) (room (b .logKeys) (b .logValues)) (b .inForce) w f
+  unfolding answer paintWindow paintWindowRefusal paintWindowAnswer
+  paint-answer log =
+      first-later _ _ settings
+      ∙ first-later _ _ (has-list m s p b settings below holds)
+      ∙ first-later _ _ (has-summary m s p b settings below holds)
+      ∙ first-later _ _ log
+      ∙ ap₂ (λ step l. first
+      (badWindow m w gives 6
+      ∷ badFeature s f gives 7
+      ∷ ltb (room (b .logKeys) (b .logValues)) (b .inForce + length step) gives 10
+      ∷ ltb (room (b .keys) (b .bits)) (length l) gives 9
+      ∷ []))
+      group-is list-is
+
+  -- what an accepted paint has passed
+  record Passed : Type 0 where
+    log : HasLog m s b
+    window : isWindow m w ≡ true
+    feature : f < s
+    log-room : b .inForce + length (groupGained m (recordsOf (b .keys) (b .bits) (b .n)) w f) ≤ room (b .logKeys) (b .logValues)
+    list-room : length (filled m (recordsOf (b .keys) (b .bits) (b .n)) w f) ≤ room (b .keys) (b .bits)
+
+  module _ (done : answer m s b (painting (ofWindow w f)) ≡ 0) where
+    passed : Passed
+    unfolding answer paintWindow paintWindowRefusal
+    passed =
+        let l : List Record = recordsOf (b .keys) (b .bits) (b .n) in
+        let rows : List Row =
+        badSettings m s gives 1
+        ∷ noList m s (b .keys) (b .bits) (b .n) gives 4
+        ∷ noSummary m s (pictureOf m l) (b .summary) gives 18
+        ∷ noLog m s (b .logKeys) (b .logValues) (b .used) (b .inForce) gives 5
+        ∷ badWindow m w gives 6
+        ∷ badFeature s f gives 7
+        ∷ ltb (room (b .logKeys) (b .logValues)) (b .inForce + length (groupGained m l w f)) gives 10
+        ∷ ltb (room (b .keys) (b .bits)) (length (filled m l w f)) gives 9
+        ∷ [] in
+        let none = first-none rows refl done in
+        record {
+          log = none .1 .1 .1 .0;
+          window = not-false _ (none .1 .1 .1 .1 .0);
+          feature = leb-false s f (none .1 .1 .1 .1 .1 .0);
+          log-room = ltb-false _ _ (none .1 .1 .1 .1 .1 .1 .0);
+          list-room = ltb-false _ _ (none .1 .1 .1 .1 .1 .1 .1 .0);
+        }
+
+    fit : Fit m s (ofWindow w f)
+    fit = window-fit w f (passed .window) (passed .feature)
+
+    -- the buffers after it
+    abbrev painted : Buffers
+    painted = withStep b (listOfPicture m (fillWindow w f p)) (summaryOf m s (fillWindow w f p)) (groupOf m p w f)
+
+    painted-is : after m s b (painting (ofWindow w f)) ≡ painted
+    unfolding applied loggedBy filled groupGained
+    painted-is =
+        paint-done m s b (ofWindow w f) done
+        ∙ ap₂ (λ l step. withStep b l (summaryOf m s (fillWindow w f (pictureOf m (recordsOf (b .keys) (b .bits) (b .n))))) step) list-is group-is
+        ∙ ap (λ counts. withStep b (listOfPicture m (fillWindow w f p)) counts (groupOf m p w f))
+        (ap (λ l. summaryOf m s (fillWindow w f (pictureOf m l))) (holds .list) ∙ applied-summary m s (ofWindow w f) p)
+
+    painted-holds : SheetHolds m s (fillWindow w f p) painted
+    painted-holds =
+        let shown = shown-replaced (b .n) (listOfPicture m (fillWindow w f p)) (b .keys) (b .bits) in
+        record { fits = shown-room shown; list = shown-records shown; summary = refl }
+
+    -- an accepted paint leaves the list and the summary of the painted picture
+    pub paint-holds : SheetHolds m s (fillWindow w f p) (after m s b (painting (ofWindow w f)))
+    paint-holds = subst (λ c. SheetHolds m s (fillWindow w f p) c) (sym painted-is) painted-holds
+
+    -- the log before, in its slices
+    log-shown : ShownInSlices (recordsOf (b .logKeys) (b .logValues) (b .inForce)) (b .inForce) (b .logKeys) (b .logValues)
+    log-shown =
+        let sound = log-to m s b (passed .log) in
+        let a = sound .there in
+        let c = sound .within in
+        in-slices (b .logKeys) (b .logValues) (b .inForce) (omega arith)
+
+    group-step : IsStep m s (groupOf m p w f)
+    unfolding loggedBy
+    group-step = step-is p fit (below-from s p m 0 0 below)
+
+    -- the group stands behind it
+    log-after : ShownInSlices (recordsOf (b .logKeys) (b .logValues) (b .inForce) ++ groupOf m p w f) (painted .inForce) (painted .logKeys) (painted .logValues)
+    log-after = shown-logged (b .used) (groupOf m p w f) log-shown
+
+    painted-log : SoundLog m s painted
+    painted-log =
+        let all = shown-records log-after in
+        let within = shown-room log-after in
+        let size = records-length (painted .logKeys) (painted .logValues) (painted .inForce) (omega arith) (omega arith) in
+        let force = recordsOf (b .logKeys) (b .logValues) (b .inForce) in
+        record {
+          there = within;
+          within = omega arith;
+          force = ap (isSound m s) all ∙ sound-with force (few m s settings) (log-to m s b (passed .log) .force) group-step;
+          redo = ap (λ n. isSound m s (drop n (recordsOf (painted .logKeys) (painted .logValues) (painted .inForce)))) (sym size)
+              ∙ ap (isSound m s) (drop-length (recordsOf (painted .logKeys) (painted .logValues) (painted .inForce)))
+              ∙ empty-sound m s;
+        }
+
+    -- it leaves a sound log
+    pub paint-has-log : HasLog m s (after m s b (painting (ofWindow w f)))
+    paint-has-log = subst (λ c. HasLog m s c) (sym painted-is) (log-from m s painted painted-log)
+
+    -- the records in force are those before and the group of the picture before
+    pub paint-log : recordsOf (after m s b (painting (ofWindow w f)) .logKeys) (after m s b (painting (ofWindow w f)) .logValues) (after m s b (painting (ofWindow w f)) .inForce)
+        ≡ recordsOf (b .logKeys) (b .logValues) (b .inForce) ++ groupOf m p w f
+    paint-log =
+        subst (λ c. recordsOf (c .logKeys) (c .logValues) (c .inForce) ≡ recordsOf (b .logKeys) (b .logValues) (b .inForce) ++ groupOf m p w f) (sym painted-is)
+        (shown-records log-after)
+
+    -- the list before has room in the slices after it, which keep their lengths
+    pub paint-room : length (listOfPicture m p) ≤ room (after m s b (painting (ofWindow w f)) .keys) (after m s b (painting (ofWindow w f)) .bits)
+    paint-room =
+        let l : List Record = listOfPicture m (fillWindow w f p) in
+        let fits = holds .fits in
+        let count : length (listOfPicture m p) ≡ b .n = ap length (sym (holds .list)) ∙ records-length (b .keys) (b .bits) (b .n) (omega arith) (omega arith) in
+        let size = ap length list-is in
+        let enough = passed .list-room in
+        let a = length-map l (λ x. x .key) in
+        let c = length-map l (λ x. x .value) in
+        let keys = length-replaced (b .n) (keysOf l) (b .keys) (omega arith) (omega arith) in
+        let bits = length-replaced (b .n) (valuesOf l) (b .bits) (omega arith) (omega arith) in
+        subst (λ c. length (listOfPicture m p) ≤ room (c .keys) (c .bits)) (sym painted-is) (omega arith)
+
+    -- and it was a window of the sheet, with a feature below s
+    pub paint-window : isWindow m w ≡ true
+    paint-window = passed .window
+
+    pub paint-feature : f < s
+    paint-feature = passed .feature
