@@ -20,10 +20,16 @@ pub fn store(
     ensures { λ _. ⌜ now (file .exit) ≡ storeLogFile m s (now (keys .entry)) (now (values .entry)) used «in_force» (now (file .entry)) ⌝ }
 {
     if settings::are_bad(m, s) {
-        return Counted { refusal: 1, count: 0 };
+        return Counted {
+            refusal: 1,
+            count: 0,
+        };
     }
     if !log::is_log(m, s, keys, values, used, in_force) {
-        return Counted { refusal: 5, count: 0 };
+        return Counted {
+            refusal: 5,
+            count: 0,
+        };
     }
     let needed = head::bytes_for(used);
     if (file.len() as u64) < needed {
