@@ -143,6 +143,13 @@ module _ (m s : ℕ) (p : Picture) (b : Buffers) (settings : badSettings m s ≡
       ∙ append-assoc front (groupOf m p w f) (drop (b .inForce) all) in
       ap (drop (length front)) two ∙ drop-seam front (groupOf m p w f ++ drop (b .inForce) all)
 
+  pub back-to-redo : toRedo (after m s b takingBack .logKeys) (after m s b takingBack .logValues) (after m s b takingBack .used) (after m s b takingBack .inForce)
+      ≡ groupOf m p w f ++ toRedo (b .logKeys) (b .logValues) (b .used) (b .inForce)
+  back-to-redo =
+      subst
+      (λ c. toRedo (c .logKeys) (c .logValues) (c .used) (c .inForce) ≡ groupOf m p w f ++ toRedo (b .logKeys) (b .logValues) (b .used) (b .inForce))
+      (sym taken-is) redo-left
+
   -- so the log is sound, and what was taken back can be redone
   pub back-has-log : HasLog m s (after m s b takingBack)
   back-has-log =
