@@ -1,5 +1,5 @@
--- A paint of a window redone on one sheet: where its group is the next step to redo, redo is accepted and leaves the list and the summary of the painted picture,
--- with the group in force again. Rests on SheetLogs and on the history's laws of paints.
+-- A paint of a window redone on one sheet: where it is the next step to redo, redo is accepted and leaves the list and the summary of the painted picture, and
+-- the paint as the last step in force. Rests on SheetLogs and on the history's laws of paints.
 use Prim.Native.Nat.{ℕ, _+_, _<_, _≤_}
 use mathlib.Core.Path.{_≡_, refl, sym, ap, ap₂, subst, _∙_}
 use mathlib.Core.Bool.{true, false}
@@ -12,7 +12,6 @@ use Rattle.definitions.specs.Picture.{Picture, featuresBelow}
 use Rattle.definitions.specs.List.{Record, listOfPicture}
 use Rattle.definitions.specs.Read.{room, recordsOf}
 use Rattle.definitions.specs.Area.{summaryOf}
-use Rattle.definitions.specs.Window.{isWindow}
 use Rattle.definitions.specs.Edit.{fillWindow}
 use Rattle.definitions.specs.Log.{groupOf, firstStep, isSound, toRedo}
 use Rattle.definitions.specs.Refusal.{badSettings}
@@ -23,54 +22,58 @@ use Rattle.laws.proofs.Within.{Every}
 use Rattle.laws.proofs.Features.{below-from}
 use Rattle.laws.proofs.Records.{records-length, records-first}
 use Rattle.laws.proofs.LastStep.{IsStep, step-some}
-use Rattle.laws.proofs.SoundLog.{Steps, sound-with, sound-exactly}
+use Rattle.laws.proofs.SoundLog.{Steps, sound-steps, sound-with}
 use Rattle.history.specs.History.{Buffers, redoing, applied, loggedBy, answer, after}
 use Rattle.history.proofs.Shown.{shown-records, shown-room, shown-replaced}
 use Rattle.history.proofs.Fit.{window-fit, step-is}
 use Rattle.history.proofs.Applied.{first-next, redone-list, redone-summary}
 use Rattle.history.proofs.TakeBackStep.{withForce}
 use Rattle.sheets.specs.Calls.{SheetHolds}
-use Rattle.sheets.specs.Paints.{HasLog}
+use Rattle.sheets.specs.Paints.{LastStepOn, NextStepOn}
 use Rattle.sheets.proofs.SheetCalls.{has-list, has-summary}
-use Rattle.sheets.proofs.SheetLogs.{few, log-to, log-from}
+use Rattle.sheets.proofs.SheetLogs.{few, log-to, log-from, room-kept, held-fits}
 
 module _ (m s : ℕ) (p : Picture) (b : Buffers) (settings : badSettings m s ≡ false) (below : Every (λ r c. p r c < s) m 0 0) (w : Window) (f : ℕ)
-    (good : isWindow m w ≡ true) (small : f < s) (holds : SheetHolds m s p b) (log : HasLog m s b) (later : List Record) (steps : Steps m s later)
-    (redo-is : toRedo (b .logKeys) (b .logValues) (b .used) (b .inForce) ≡ groupOf m p w f ++ later)
-    (fits : length (listOfPicture m (fillWindow w f p)) ≤ room (b .keys) (b .bits)) where
+    (holds : SheetHolds m s p b) (next : NextStepOn m s p w f b) where
+  abbrev later : List Record
+  later = next .later
+
+  steps : Steps m s later
+  steps = sound-steps m s later (next .later-sound)
+
   legal : featuresBelow s p m 0 0 ≡ true
   legal = below-from s p m 0 0 below
 
   step : IsStep m s (groupOf m p w f)
   unfolding loggedBy
-  step = step-is p (window-fit w f good small) legal
+  step = step-is p (window-fit w f (next .window) (next .feature)) legal
 
   -- the first step to redo is the group
   next-is : firstStep (toRedo (b .logKeys) (b .logValues) (b .used) (b .inForce)) ≡ groupOf m p w f
   unfolding loggedBy
-  next-is = ap firstStep redo-is ∙ first-next p (few m s settings) (window-fit w f good small) legal steps
+  next-is = ap firstStep (next .to-redo) ∙ first-next p (few m s settings) (window-fit w f (next .window) (next .feature)) legal steps
 
   -- the list and the summary that it leaves are those of the painted picture
   again-list : redone m (recordsOf (b .keys) (b .bits) (b .n)) (toRedo (b .logKeys) (b .logValues) (b .used) (b .inForce)) ≡ listOfPicture m (fillWindow w f p)
   unfolding applied loggedBy
-  again-list = ap₂ (redone m) (holds .list) redo-is ∙ redone-list p (few m s settings) (window-fit w f good small) legal steps
+  again-list = ap₂ (redone m) (holds .list) (next .to-redo) ∙ redone-list p (few m s settings) (window-fit w f (next .window) (next .feature)) legal steps
 
   again-summary : summaryOf m s (redonePicture m (recordsOf (b .keys) (b .bits) (b .n)) (toRedo (b .logKeys) (b .logValues) (b .used) (b .inForce)))
       ≡ summaryOf m s (fillWindow w f p)
   unfolding applied loggedBy
   again-summary =
-      ap₂ (λ l records. summaryOf m s (redonePicture m l records)) (holds .list) redo-is
-      ∙ redone-summary p (few m s settings) (window-fit w f good small) legal steps
+      ap₂ (λ l records. summaryOf m s (redonePicture m l records)) (holds .list) (next .to-redo)
+      ∙ redone-summary p (few m s settings) (window-fit w f (next .window) (next .feature)) legal steps
 
   -- how many records are used
   used-count : b .used ≡ b .inForce + (length (groupOf m p w f) + length later)
   used-count =
-      let sound = log-to m s b log in
+      let sound = log-to m s b (next .sound) in
       let a = sound .there in
       let c = sound .within in
       let all = records-length (b .logKeys) (b .logValues) (b .used) (omega arith) (omega arith) in
       let behind = length-drop (b .inForce) (recordsOf (b .logKeys) (b .logValues) (b .used)) in
-      let parts = ap length redo-is ∙ length-append (groupOf m p w f) later in
+      let parts = ap length (next .to-redo) ∙ length-append (groupOf m p w f) later in
       omega arith
 
   -- redo is accepted
@@ -81,11 +84,15 @@ module _ (m s : ℕ) (p : Picture) (b : Buffers) (settings : badSettings m s ≡
       let count = used-count in
       let l : List Record = redone m (recordsOf (b .keys) (b .bits) (b .n)) (toRedo (b .logKeys) (b .logValues) (b .used) (b .inForce)) in
       let size = ap length again-list in
+      let fits = next .fits in
       let enough : length l ≤ room (b .keys) (b .bits) = omega arith in
-      none-first _
-      (settings,
-      (has-list m s p b settings below holds,
-      (has-summary m s p b settings below holds, (log, (ne-eqb (b .inForce) (b .used) (λ e. omega arith), (le-ltb _ _ enough, tt))))))
+      none-first _ (
+        settings,
+        (
+          has-list m s p b settings below holds,
+          (has-summary m s p b settings below holds, (next .sound, (ne-eqb (b .inForce) (b .used) (λ e. omega arith), (le-ltb _ _ enough, tt)))),
+        ),
+      )
 
   abbrev again : Buffers
   again = withForce b (listOfPicture m (fillWindow w f p)) (summaryOf m s (fillWindow w f p)) (b .inForce + length (groupOf m p w f))
@@ -116,7 +123,7 @@ module _ (m s : ℕ) (p : Picture) (b : Buffers) (settings : badSettings m s ≡
 
   front-count : length front ≡ b .inForce
   front-count =
-      let sound = log-to m s b log in
+      let sound = log-to m s b (next .sound) in
       let a = sound .there in
       let c = sound .within in
       records-length (b .logKeys) (b .logValues) (b .inForce) (omega arith) (omega arith)
@@ -126,7 +133,7 @@ module _ (m s : ℕ) (p : Picture) (b : Buffers) (settings : badSettings m s ≡
   all-is =
       let all : List Record = recordsOf (b .logKeys) (b .logValues) (b .used) in
       sym (take-append-drop (b .inForce) all)
-      ∙ ap₂ (λ x y. x ++ y) (records-first (b .logKeys) (b .logValues) (b .used) (b .inForce) (log-to m s b log .within)) redo-is
+      ∙ ap₂ (λ x y. x ++ y) (records-first (b .logKeys) (b .logValues) (b .used) (b .inForce) (log-to m s b (next .sound) .within)) (next .to-redo)
       ∙ sym (append-assoc front (groupOf m p w f) later)
 
   reached : length (front ++ groupOf m p w f) ≡ b .inForce + length (groupOf m p w f)
@@ -139,24 +146,27 @@ module _ (m s : ℕ) (p : Picture) (b : Buffers) (settings : badSettings m s ≡
       ∙ ap₂ take (sym reached) all-is
       ∙ take-append-seam (front ++ groupOf m p w f) later
 
-  -- the group is in force again
-  pub again-log : recordsOf (after m s b redoing .logKeys) (after m s b redoing .logValues) (after m s b redoing .inForce)
-      ≡ recordsOf (b .logKeys) (b .logValues) (b .inForce) ++ groupOf m p w f
-  again-log = subst (λ c. recordsOf (c .logKeys) (c .logValues) (c .inForce) ≡ front ++ groupOf m p w f) (sym again-is) force-left
-
   later-left : toRedo (b .logKeys) (b .logValues) (b .used) (b .inForce + length (groupOf m p w f)) ≡ later
   later-left = ap₂ drop (sym reached) all-is ∙ drop-at (front ++ groupOf m p w f) later (length (front ++ groupOf m p w f)) refl
 
-  -- and the log is sound
-  pub again-has-log : HasLog m s (after m s b redoing)
-  again-has-log =
-      let sound = log-to m s b log in
+  -- the paint is the last step in force again
+  pub again-last : LastStepOn m s p w f (after m s b redoing)
+  again-last =
+      let sound = log-to m s b (next .sound) in
       let a = sound .there in
       let count = used-count in
-      subst (λ c. HasLog m s c) (sym again-is)
-      (log-from m s again (record {
-        there = a;
-        within = omega arith;
-        force = ap (isSound m s) force-left ∙ sound-with front (few m s settings) (sound .force) step;
-        redo = ap (isSound m s) later-left ∙ sound-exactly m s later (few m s settings) .1 steps;
-      }))
+      let kept = room-kept (b .n) (listOfPicture m (fillWindow w f p)) (b .keys) (b .bits) (holds .fits) (next .fits) in
+      let own = held-fits holds in
+      subst (λ c. LastStepOn m s p w f c) (sym again-is) (record {
+        window = next .window;
+        feature = next .feature;
+        sound = log-from m s again (record {
+          there = a;
+          within = omega arith;
+          force = ap (isSound m s) force-left ∙ sound-with front (few m s settings) (sound .force) step;
+          redo = ap (isSound m s) later-left ∙ next .later-sound;
+        });
+        before = front;
+        in-force = force-left;
+        fits = omega arith;
+      })
