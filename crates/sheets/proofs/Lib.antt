@@ -20,6 +20,7 @@ pub mod GroundPaints
 pub mod SheetLogs
 pub mod SheetPaints
 pub mod SheetTakenBack
+pub mod SheetRedone
 pub mod PaintedSheets
 pub mod StepCalls
 pub mod GroundSteps

@@ -2,6 +2,7 @@
 -- the sheet. Rests on the laws of the overlap.
 use Prim.Native.Nat.{ℕ, suc, _+_, _-_, _*_, _/_, _%_, _^_, _<_, _≤_, max, min}
 use mathlib.Core.Path.{_≡_, sym, ap, subst, _∙_}
+use mathlib.Core.Bool.{cond}
 use native.Mathlib.Nat.{div-add-mod', mod-lt, div-lt-iff-lt-mul, le-div-iff-mul-le, suc-mul, mul-add-div-right, div-eq-of-lt, add-zero}
 use native.Mathlib.Omega.{arith}
 use lib.IntN.{pos, negsuc}
@@ -59,11 +60,11 @@ pub record Seen (start first length side r : ℕ) : Type 0 where
 
 on-before : (start first : ℕ) → start < first → onSheet start first ≡ negsuc (first - suc start)
 unfolding onSheet
-on-before start first h = rw (lt-ltb start first h)
+on-before start first h = ap (λ t. cond t (negsuc (first - suc start)) (pos (start - first))) (lt-ltb start first h)
 
 on-from : (start first : ℕ) → first ≤ start → onSheet start first ≡ pos (start - first)
 unfolding onSheet
-on-from start first h = rw (le-ltb start first h)
+on-from start first h = ap (λ t. cond t (negsuc (first - suc start)) (pos (start - first))) (le-ltb start first h)
 
 before-seen : (start first length side r : ℕ) → start < first → Common (negsuc (first - suc start)) length side r → Seen start first length side r
 before-seen start first length side r h x =

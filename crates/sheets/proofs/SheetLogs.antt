@@ -1,19 +1,25 @@
--- The log of a sheet: what refusal 5 asks of it, part by part, and its records in their slices. Rests on the laws of records.
+-- The slices of a sheet: what refusal 5 asks of its log, part by part, its records in their slices, and the room of the list's. Rests on the laws of records.
 use Prim.Native.Nat.{ℕ, _≤_}
 use mathlib.Core.Path.{_≡_, sym, ap}
 use mathlib.Core.Bool.{Bool, true, false, not, _&&_, _||_}
 use mathlib.Core.List.{List}
 use native.Mathlib.Omega.{arith}
+use lib.ListN.{length, length-map}
 use lib.Dec.{leb, ltb, eqb}
 use borrow.Author.Tests.{le-leb, leb-true, ltb-false, not-false}
 use Rattle.keys.specs.Key.{deepestLevel, slotLimit}
 use Rattle.keys.proofs.Cases.{and-left, and-right, and-both, neither-right}
+use Rattle.definitions.specs.Picture.{Picture}
+use Rattle.definitions.specs.List.{Record, listOfPicture, keysOf, valuesOf}
 use Rattle.definitions.specs.Read.{room, recordsOf}
+use Rattle.definitions.specs.Buffer.{replaced}
 use Rattle.definitions.specs.Log.{groupMark, isSound, toRedo, noLog}
 use Rattle.definitions.specs.Refusal.{badSettings}
 use Rattle.laws.proofs.Records.{records-length, records-keys, records-values}
 use Rattle.history.specs.History.{Buffers}
+use Rattle.history.proofs.Buffers.{length-replaced}
 use Rattle.history.proofs.Shown.{ShownInSlices}
+use Rattle.sheets.specs.Calls.{SheetHolds}
 use Rattle.sheets.specs.Paints.{HasLog}
 
 -- the mark of a group is no feature
@@ -71,3 +77,21 @@ in-slices keys values n h = record {
   in-keys = sym (records-keys keys values n (omega arith) (omega arith));
   in-values = sym (records-values keys values n (omega arith) (omega arith));
 }
+
+-- slices keep their room where a list that has room replaces another
+pub room-kept : (n : ℕ) (l : List Record) (keys bits : List ℕ) → n ≤ room keys bits → length l ≤ room keys bits
+    → room (replaced n (keysOf l) keys) (replaced n (valuesOf l) bits) ≡ room keys bits
+room-kept n l keys bits h j =
+    let a = length-map l (λ x. x .key) in
+    let b = length-map l (λ x. x .value) in
+    let c = length-replaced n (keysOf l) keys (omega arith) (omega arith) in
+    let d = length-replaced n (valuesOf l) bits (omega arith) (omega arith) in
+    omega arith
+
+-- a list that is held has room, in as many places as it is counted
+pub held-fits : {m s : ℕ} {p : Picture} {b : Buffers} → SheetHolds m s p b → length (listOfPicture m p) ≤ room (b .keys) (b .bits)
+held-fits {m} {p = p} {b = b} holds =
+    let fits = holds .fits in
+    let count = records-length (b .keys) (b .bits) (b .n) (omega arith) (omega arith) in
+    let same = ap length (holds .list) in
+    omega arith

@@ -5,13 +5,13 @@ use mathlib.Core.Path.{_≡_, refl, sym, ap, ap₂, subst, _∙_}
 use mathlib.Core.Bool.{true, false}
 use mathlib.Core.List.{List, [], _∷_, _++_}
 use native.Mathlib.Omega.{arith}
-use lib.ListN.{length, drop, length-map}
+use lib.ListN.{length, drop}
 use lib.Seq.{drop-length}
 use lib.Dec.{ltb}
 use borrow.Author.Tests.{leb-false, ltb-false, not-false}
 use Rattle.keys.specs.Key.{rootKey}
 use Rattle.definitions.specs.Picture.{Picture}
-use Rattle.definitions.specs.List.{Record, listOfPicture, keysOf, valuesOf}
+use Rattle.definitions.specs.List.{Record, listOfPicture}
 use Rattle.definitions.specs.Read.{room, recordsOf, pictureOf}
 use Rattle.definitions.specs.Area.{summaryOf, noSummary}
 use Rattle.definitions.specs.Window.{isWindow, badWindow, largestBlocks}
@@ -33,16 +33,15 @@ use Rattle.laws.proofs.LastStep.{IsStep}
 use Rattle.laws.proofs.SoundLog.{sound-with, empty-sound}
 use Rattle.history.specs.History.{Buffers, ofWindow, painting, applied, loggedBy, answer, after}
 use Rattle.history.specs.Claim.{paintWindowAnswer}
-use Rattle.history.proofs.Buffers.{length-replaced}
 use Rattle.history.proofs.Shown.{ShownInSlices, shown-records, shown-room, shown-replaced, shown-logged}
 use Rattle.history.proofs.Content.{map-back}
 use Rattle.history.proofs.Fit.{Fit, window-fit, step-is}
 use Rattle.history.proofs.Applied.{applied-list, applied-summary}
 use Rattle.history.proofs.PaintStep.{withStep, paint-done}
 use Rattle.sheets.specs.Calls.{SheetHolds}
-use Rattle.sheets.specs.Paints.{HasLog}
+use Rattle.sheets.specs.Paints.{HasLog, LastStepOn}
 use Rattle.sheets.proofs.SheetCalls.{has-list, has-summary}
-use Rattle.sheets.proofs.SheetLogs.{few, SoundLog, log-to, log-from, in-slices}
+use Rattle.sheets.proofs.SheetLogs.{few, SoundLog, log-to, log-from, in-slices, room-kept, held-fits}
 
 -- pictures that agree on the raster are held alike
 pub holds-agree : {m s : ℕ} {b : Buffers} (p q : Picture) → Agree p q m 0 0 → SheetHolds m s p b → SheetHolds m s q b
@@ -171,34 +170,22 @@ module _ (m s : ℕ) (p : Picture) (b : Buffers) (settings : badSettings m s ≡
               ∙ empty-sound m s;
         }
 
-    -- it leaves a sound log
-    pub paint-has-log : HasLog m s (after m s b (painting (ofWindow w f)))
-    paint-has-log = subst (λ c. HasLog m s c) (sym painted-is) (log-from m s painted painted-log)
-
-    -- the records in force are those before and the group of the picture before
-    pub paint-log : recordsOf (after m s b (painting (ofWindow w f)) .logKeys) (after m s b (painting (ofWindow w f)) .logValues) (after m s b (painting (ofWindow w f)) .inForce)
-        ≡ recordsOf (b .logKeys) (b .logValues) (b .inForce) ++ groupOf m p w f
-    paint-log =
-        subst (λ c. recordsOf (c .logKeys) (c .logValues) (c .inForce) ≡ recordsOf (b .logKeys) (b .logValues) (b .inForce) ++ groupOf m p w f) (sym painted-is)
-        (shown-records log-after)
-
-    -- the list before has room in the slices after it, which keep their lengths
-    pub paint-room : length (listOfPicture m p) ≤ room (after m s b (painting (ofWindow w f)) .keys) (after m s b (painting (ofWindow w f)) .bits)
-    paint-room =
-        let l : List Record = listOfPicture m (fillWindow w f p) in
-        let fits = holds .fits in
-        let count : length (listOfPicture m p) ≡ b .n = ap length (sym (holds .list)) ∙ records-length (b .keys) (b .bits) (b .n) (omega arith) (omega arith) in
+    -- the paint is now the last step in force: its group of the picture before stands behind the records that were in force
+    pub paint-last : LastStepOn m s p w f (after m s b (painting (ofWindow w f)))
+    paint-last =
         let size = ap length list-is in
         let enough = passed .list-room in
-        let a = length-map l (λ x. x .key) in
-        let c = length-map l (λ x. x .value) in
-        let keys = length-replaced (b .n) (keysOf l) (b .keys) (omega arith) (omega arith) in
-        let bits = length-replaced (b .n) (valuesOf l) (b .bits) (omega arith) (omega arith) in
-        subst (λ c. length (listOfPicture m p) ≤ room (c .keys) (c .bits)) (sym painted-is) (omega arith)
+        let kept = room-kept (b .n) (listOfPicture m (fillWindow w f p)) (b .keys) (b .bits) (holds .fits) (omega arith) in
+        let own = held-fits holds in
+        subst (λ c. LastStepOn m s p w f c) (sym painted-is) (record {
+          window = passed .window;
+          feature = passed .feature;
+          sound = log-from m s painted painted-log;
+          before = recordsOf (b .logKeys) (b .logValues) (b .inForce);
+          in-force = shown-records log-after;
+          fits = omega arith;
+        })
 
-    -- and it was a window of the sheet, with a feature below s
+    -- so it was a window of the sheet
     pub paint-window : isWindow m w ≡ true
     paint-window = passed .window
-
-    pub paint-feature : f < s
-    paint-feature = passed .feature

@@ -1,5 +1,5 @@
--- A paint of a window taken back on one sheet: where its group is the last step in force, taking back is accepted and leaves the list and the summary of the
--- picture before the paint, with the records in force before it. Rests on SheetPaints and on the history's laws of paints.
+-- A paint of a window taken back on one sheet: where it is the last step in force, taking back is accepted and leaves the list and the summary of the picture
+-- before the paint, the records in force before it, and the paint as the next step to redo. Rests on SheetLogs and on the history's laws of paints.
 use Prim.Native.Nat.{ℕ, _+_, _<_, _≤_}
 use mathlib.Core.Path.{_≡_, refl, sym, ap, ap₂, subst, _∙_}
 use mathlib.Core.Bool.{true, false}
@@ -12,7 +12,6 @@ use Rattle.definitions.specs.Picture.{Picture, featuresBelow}
 use Rattle.definitions.specs.List.{Record, listOfPicture}
 use Rattle.definitions.specs.Read.{room, recordsOf}
 use Rattle.definitions.specs.Area.{summaryOf}
-use Rattle.definitions.specs.Window.{isWindow}
 use Rattle.definitions.specs.Edit.{fillWindow}
 use Rattle.definitions.specs.Log.{groupOf, beforeStep, isSound, toRedo}
 use Rattle.definitions.specs.Refusal.{badSettings}
@@ -25,58 +24,59 @@ use Rattle.laws.proofs.Records.{records-length, records-first}
 use Rattle.laws.proofs.LastStep.{IsStep, step-some}
 use Rattle.laws.proofs.SoundLog.{none, more, sound-steps, sound-exactly, sound-before}
 use Rattle.laws.proofs.InForce.{steps-append}
-use Rattle.history.specs.History.{Buffers, ofWindow, painting, takingBack, applied, loggedBy, answer, after}
+use Rattle.history.specs.History.{Buffers, takingBack, applied, loggedBy, answer, after}
 use Rattle.history.proofs.Shown.{shown-records, shown-room, shown-replaced}
 use Rattle.history.proofs.Drawn.{fill-below}
 use Rattle.history.proofs.Fit.{window-fit, step-is}
 use Rattle.history.proofs.Applied.{restored-list, restored-summary, without-step}
 use Rattle.history.proofs.TakeBackStep.{withForce}
 use Rattle.sheets.specs.Calls.{SheetHolds}
-use Rattle.sheets.specs.Paints.{HasLog}
+use Rattle.sheets.specs.Paints.{LastStepOn, NextStepOn}
 use Rattle.sheets.proofs.SheetCalls.{has-list, has-summary}
-use Rattle.sheets.proofs.SheetLogs.{few, log-to, log-from}
-use Rattle.sheets.proofs.SheetPaints.{paint-holds, paint-has-log, paint-log, paint-room, paint-window, paint-feature}
+use Rattle.sheets.proofs.SheetLogs.{few, log-to, log-from, room-kept, held-fits}
 
 -- what stands behind a part of a list
 drop-seam : (xs ys : List Record) → drop (length xs) (xs ++ ys) ≡ ys
 drop-seam xs ys = drop-at xs ys (length xs) refl
 
 module _ (m s : ℕ) (p : Picture) (b : Buffers) (settings : badSettings m s ≡ false) (below : Every (λ r c. p r c < s) m 0 0) (w : Window) (f : ℕ)
-    (good : isWindow m w ≡ true) (small : f < s) (holds : SheetHolds m s (fillWindow w f p) b) (log : HasLog m s b) (front : List Record)
-    (log-is : recordsOf (b .logKeys) (b .logValues) (b .inForce) ≡ front ++ groupOf m p w f) (fits : length (listOfPicture m p) ≤ room (b .keys) (b .bits)) where
+    (holds : SheetHolds m s (fillWindow w f p) b) (last : LastStepOn m s p w f b) where
+  abbrev front : List Record
+  front = last .before
+
   legal : featuresBelow s p m 0 0 ≡ true
   legal = below-from s p m 0 0 below
 
   painted-below : Every (λ r c. fillWindow w f p r c < s) m 0 0
-  painted-below = below-to s (fillWindow w f p) m 0 0 (fill-below s w f p m 0 0 small legal)
+  painted-below = below-to s (fillWindow w f p) m 0 0 (fill-below s w f p m 0 0 (last .feature) legal)
 
   step : IsStep m s (groupOf m p w f)
   unfolding loggedBy
-  step = step-is p (window-fit w f good small) legal
+  step = step-is p (window-fit w f (last .window) (last .feature)) legal
 
   -- the list and the summary that it leaves are those of the picture before the paint
   back-list : restored m (recordsOf (b .keys) (b .bits) (b .n)) (recordsOf (b .logKeys) (b .logValues) (b .inForce)) ≡ listOfPicture m p
   unfolding applied loggedBy
-  back-list = ap₂ (restored m) (holds .list) log-is ∙ restored-list p (few m s settings) (window-fit w f good small) legal front
+  back-list = ap₂ (restored m) (holds .list) (last .in-force) ∙ restored-list p (few m s settings) (window-fit w f (last .window) (last .feature)) legal front
 
   back-summary : summaryOf m s (restoredPicture m (recordsOf (b .keys) (b .bits) (b .n)) (recordsOf (b .logKeys) (b .logValues) (b .inForce))) ≡ summaryOf m s p
   unfolding applied loggedBy
   back-summary =
-      ap₂ (λ l records. summaryOf m s (restoredPicture m l records)) (holds .list) log-is
-      ∙ restored-summary p (few m s settings) (window-fit w f good small) legal front
+      ap₂ (λ l records. summaryOf m s (restoredPicture m l records)) (holds .list) (last .in-force)
+      ∙ restored-summary p (few m s settings) (window-fit w f (last .window) (last .feature)) legal front
 
   -- the records in force without the group
   back-force : beforeStep (recordsOf (b .logKeys) (b .logValues) (b .inForce)) ≡ front
   unfolding loggedBy
-  back-force = ap beforeStep log-is ∙ without-step p (few m s settings) (window-fit w f good small) legal front
+  back-force = ap beforeStep (last .in-force) ∙ without-step p (few m s settings) (window-fit w f (last .window) (last .feature)) legal front
 
   -- how many are in force
   force-count : b .inForce ≡ length front + length (groupOf m p w f)
   force-count =
-      let sound = log-to m s b log in
+      let sound = log-to m s b (last .sound) in
       let a = sound .there in
       let c = sound .within in
-      sym (records-length (b .logKeys) (b .logValues) (b .inForce) (omega arith) (omega arith)) ∙ ap length log-is ∙ length-append front (groupOf m p w f)
+      sym (records-length (b .logKeys) (b .logValues) (b .inForce) (omega arith) (omega arith)) ∙ ap length (last .in-force) ∙ length-append front (groupOf m p w f)
 
   -- taking back is accepted
   pub back-accepted : answer m s b takingBack ≡ 0
@@ -86,6 +86,7 @@ module _ (m s : ℕ) (p : Picture) (b : Buffers) (settings : badSettings m s ≡
       let count = force-count in
       let l : List Record = restored m (recordsOf (b .keys) (b .bits) (b .n)) (recordsOf (b .logKeys) (b .logValues) (b .inForce)) in
       let size = ap length back-list in
+      let fits = last .fits in
       let enough : length l ≤ room (b .keys) (b .bits) = omega arith in
       none-first _ (
         settings,
@@ -93,7 +94,7 @@ module _ (m s : ℕ) (p : Picture) (b : Buffers) (settings : badSettings m s ≡
           has-list m s (fillWindow w f p) b settings painted-below holds,
           (
             has-summary m s (fillWindow w f p) b settings painted-below holds,
-            (log, (ne-eqb (b .inForce) 0 (λ e. omega arith), (le-ltb _ _ enough, tt))),
+            (last .sound, (ne-eqb (b .inForce) 0 (λ e. omega arith), (le-ltb _ _ enough, tt))),
           ),
         ),
       )
@@ -126,7 +127,7 @@ module _ (m s : ℕ) (p : Picture) (b : Buffers) (settings : badSettings m s ≡
   front-left =
       let count = force-count in
       sym (records-first (b .logKeys) (b .logValues) (b .inForce) (length front) (omega arith))
-      ∙ ap (take (length front)) log-is
+      ∙ ap (take (length front)) (last .in-force)
       ∙ take-append-seam front (groupOf m p w f)
 
   pub back-log : recordsOf (after m s b takingBack .logKeys) (after m s b takingBack .logValues) (after m s b takingBack .inForce) ≡ front
@@ -136,50 +137,36 @@ module _ (m s : ℕ) (p : Picture) (b : Buffers) (settings : badSettings m s ≡
   redo-left : toRedo (b .logKeys) (b .logValues) (b .used) (length front) ≡ groupOf m p w f ++ toRedo (b .logKeys) (b .logValues) (b .used) (b .inForce)
   redo-left =
       let all : List Record = recordsOf (b .logKeys) (b .logValues) (b .used) in
-      let sound = log-to m s b log in
+      let sound = log-to m s b (last .sound) in
       let two : all ≡ front ++ (groupOf m p w f ++ drop (b .inForce) all) =
       sym (take-append-drop (b .inForce) all)
-      ∙ ap (λ l. l ++ drop (b .inForce) all) (records-first (b .logKeys) (b .logValues) (b .used) (b .inForce) (sound .within) ∙ log-is)
+      ∙ ap (λ l. l ++ drop (b .inForce) all) (records-first (b .logKeys) (b .logValues) (b .used) (b .inForce) (sound .within) ∙ (last .in-force))
       ∙ append-assoc front (groupOf m p w f) (drop (b .inForce) all) in
       ap (drop (length front)) two ∙ drop-seam front (groupOf m p w f ++ drop (b .inForce) all)
 
-  -- so the log is sound, and what was taken back can be redone
-  pub back-has-log : HasLog m s (after m s b takingBack)
-  back-has-log =
-      let sound = log-to m s b log in
+  -- the paint is now the next step to redo
+  pub back-next : NextStepOn m s p w f (after m s b takingBack)
+  back-next =
+      let sound = log-to m s b (last .sound) in
       let a = sound .there in
       let c = sound .within in
       let some = step-some step in
       let count = force-count in
       let size = records-length (b .logKeys) (b .logValues) (b .inForce) (omega arith) (omega arith) in
-      subst (λ c. HasLog m s c) (sym taken-is)
-      (log-from m s taken (record {
-        there = a;
-        within = omega arith;
-        force = ap (isSound m s) (front-left ∙ sym back-force) ∙ sound-before m s _ (sound .force) (omega arith);
-        redo = ap (isSound m s) redo-left
-            ∙ sound-exactly m s _ (few m s settings) .1 (steps-append (more none step) (sound-steps m s _ (sound .redo)));
-      }))
-
--- so an accepted paint is taken back by the next call: the sheet is as before it, and so are the records in force
-module _ (m s : ℕ) (p : Picture) (b : Buffers) (settings : badSettings m s ≡ false) (below : Every (λ r c. p r c < s) m 0 0) (holds : SheetHolds m s p b)
-    (w : Window) (f : ℕ) (done : answer m s b (painting (ofWindow w f)) ≡ 0) where
-  abbrev after-paint : Buffers
-  after-paint = after m s b (painting (ofWindow w f))
-
-  abbrev former : List Record
-  former = recordsOf (b .logKeys) (b .logValues) (b .inForce)
-
-  pub then-accepted : answer m s (after m s b (painting (ofWindow w f))) takingBack ≡ 0
-  then-accepted =
-      back-accepted m s p after-paint settings below w f
-      (paint-window m s p b settings below holds w f done) (paint-feature m s p b settings below holds w f done)
-      (paint-holds m s p b settings below holds w f done) (paint-has-log m s p b settings below holds w f done)
-      former (paint-log m s p b settings below holds w f done) (paint-room m s p b settings below holds w f done)
-
-  pub then-holds : SheetHolds m s p (after m s (after m s b (painting (ofWindow w f))) takingBack)
-  then-holds =
-      back-holds m s p after-paint settings below w f
-      (paint-window m s p b settings below holds w f done) (paint-feature m s p b settings below holds w f done)
-      (paint-holds m s p b settings below holds w f done) (paint-has-log m s p b settings below holds w f done)
-      former (paint-log m s p b settings below holds w f done) (paint-room m s p b settings below holds w f done)
+      let kept = room-kept (b .n) (listOfPicture m p) (b .keys) (b .bits) (holds .fits) (last .fits) in
+      let own = held-fits holds in
+      subst (λ c. NextStepOn m s p w f c) (sym taken-is) (record {
+        window = last .window;
+        feature = last .feature;
+        sound = log-from m s taken (record {
+          there = a;
+          within = omega arith;
+          force = ap (isSound m s) (front-left ∙ sym back-force) ∙ sound-before m s _ (sound .force) (omega arith);
+          redo = ap (isSound m s) redo-left
+              ∙ sound-exactly m s _ (few m s settings) .1 (steps-append (more none step) (sound-steps m s _ (sound .redo)));
+        });
+        later = toRedo (b .logKeys) (b .logValues) (b .used) (b .inForce);
+        later-sound = sound .redo;
+        to-redo = redo-left;
+        fits = omega arith;
+      })

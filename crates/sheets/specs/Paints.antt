@@ -1,15 +1,20 @@
--- A paint of a window over the sheets that it meets: on each of them its overlap is painted, as one step of that sheet's log, in any order of the sheets; and the
--- taking back of it. Rests on Ground and on the history's calls.
-use Prim.Native.Nat.{ℕ, _<_}
+-- A paint of a window over the sheets that it meets: on each of them its overlap is painted, as one step of that sheet's log, in any order of the sheets; its
+-- taking back and its redo, where it is the last step in force, or the next to redo, on each of them. Rests on Ground and on the history's calls.
+use Prim.Native.Nat.{ℕ, _<_, _≤_}
 use mathlib.Core.Path.{_≡_}
 use mathlib.Core.Bool.{Bool, true, false, cond, not, _&&_, _||_}
-use mathlib.Core.List.{List, [], _∷_}
+use mathlib.Core.List.{List, [], _∷_, _++_}
+use lib.ListN.{length}
 use lib.Dec.{eqb}
+use Rattle.definitions.specs.Picture.{Picture}
+use Rattle.definitions.specs.List.{Record, listOfPicture}
+use Rattle.definitions.specs.Read.{room, recordsOf}
+use Rattle.definitions.specs.Window.{isWindow}
 use Rattle.definitions.specs.Edit.{fillWindow}
-use Rattle.definitions.specs.Log.{noLog}
+use Rattle.definitions.specs.Log.{groupOf, isSound, toRedo, noLog}
 use Rattle.definitions.specs.declared.Window.{Window}
-use Rattle.history.specs.History.{Call, Buffers, ofWindow, painting, takingBack, answer, after}
-use Rattle.sheets.specs.Ground.{Ground, sheetsFor, sheetWindow, meetsSheet}
+use Rattle.history.specs.History.{Call, Buffers, ofWindow, painting, takingBack, redoing, answer, after}
+use Rattle.sheets.specs.Ground.{Ground, sheetsFor, sheetPicture, sheetWindow, meetsSheet}
 
 -- the ground after a window of it is painted with f
 abbrev pub paintedGround : (w : Window) (f : ℕ) (g : Ground) → Ground
@@ -22,6 +27,9 @@ paintOn m w f i j = painting (ofWindow (sheetWindow m w i j) f)
 -- the same call on each sheet that is called
 abbrev pub takeBackOn : (i j : ℕ) → Call
 takeBackOn i j = takingBack
+
+abbrev pub redoOn : (i j : ℕ) → Call
+redoOn i j = redoing
 
 -- the place of a sheet among the sheets
 pub record SheetPlace : Type 0 where
@@ -70,3 +78,33 @@ MetAccept m s g w f sheets =
 -- a sheet's log is sound: refusal 5 does not come
 abbrev pub HasLog : (m s : ℕ) (b : Buffers) → Type 0
 HasLog m s b = noLog m s (b .logKeys) (b .logValues) (b .used) (b .inForce) ≡ false
+
+-- the paint of a window with f on a picture is the last step in force of a sheet's sound log, and the list before it has room
+pub record LastStepOn (m s : ℕ) (p : Picture) (w : Window) (f : ℕ) (b : Buffers) : Type 0 where
+  pub window : isWindow m w ≡ true
+  pub feature : f < s
+  pub sound : HasLog m s b
+  pub before : List Record
+  pub in-force : recordsOf (b .logKeys) (b .logValues) (b .inForce) ≡ before ++ groupOf m p w f
+  pub fits : length (listOfPicture m p) ≤ room (b .keys) (b .bits)
+
+-- it is the next step to redo, and the list with it has room
+pub record NextStepOn (m s : ℕ) (p : Picture) (w : Window) (f : ℕ) (b : Buffers) : Type 0 where
+  pub window : isWindow m w ≡ true
+  pub feature : f < s
+  pub sound : HasLog m s b
+  pub later : List Record
+  pub later-sound : isSound m s later ≡ true
+  pub to-redo : toRedo (b .logKeys) (b .logValues) (b .used) (b .inForce) ≡ groupOf m p w f ++ later
+  pub fits : length (listOfPicture m (fillWindow w f p)) ≤ room (b .keys) (b .bits)
+
+-- it is so on each sheet that has a pixel of the window, of that sheet's picture and overlap
+abbrev pub MetLast : (m s : ℕ) (g : Ground) (filler : ℕ) (w : Window) (f : ℕ) (sheets : ℕ → ℕ → Buffers) → Type 0
+MetLast m s g filler w f sheets =
+    (i j : ℕ) → i < sheetsFor m (g .rows) → j < sheetsFor m (g .columns) → meetsSheet m w i j ≡ true
+    → LastStepOn m s (sheetPicture m g filler i j) (sheetWindow m w i j) f (sheets i j)
+
+abbrev pub MetNext : (m s : ℕ) (g : Ground) (filler : ℕ) (w : Window) (f : ℕ) (sheets : ℕ → ℕ → Buffers) → Type 0
+MetNext m s g filler w f sheets =
+    (i j : ℕ) → i < sheetsFor m (g .rows) → j < sheetsFor m (g .columns) → meetsSheet m w i j ≡ true
+    → NextStepOn m s (sheetPicture m g filler i j) (sheetWindow m w i j) f (sheets i j)
