@@ -12,17 +12,17 @@ static size_t n;
 static void tap(uint32_t row, uint32_t column) {
     static const char *const classes[S] = { "ballast", "drain", "scrub" };
     printf("row %u, column %u: ", row, column);
-    hlq_counted pixel = hlq_key_at(M, row, column, M);
+    hlq_keyed pixel = hlq_key_at(M, row, column, M);
     if (pixel.refusal) {
         puts(hlq_refusal_text(pixel.refusal));
         return;
     }
-    hlq_stands at = hlq_standing(M, S, keys, ROOM, bits, ROOM, n, (uint32_t)pixel.count);
+    hlq_stands at = hlq_standing(M, S, keys, ROOM, bits, ROOM, n, (uint32_t)pixel.key);
     if (at.refusal) {
         puts(hlq_refusal_text(at.refusal));
         return;
     }
-    uint32_t patch = (uint32_t)(at.kind == HLQ_LISTED ? pixel.count : at.leaf);
+    uint32_t patch = (uint32_t)(at.kind == HLQ_LISTED ? pixel.key : at.leaf);
     unsigned level = (unsigned)(at.kind == HLQ_LISTED ? M : at.level), class = 0;
     while (bits[at.place] >> class != 1) class++; /* a leaf has one slot */
     printf("patch %u%u%u, level %u, %s\n", patch / 25, patch / 5 % 5, patch % 5, level, classes[class]);

@@ -11,7 +11,7 @@ uint32_t ref_pixel_key(uint32_t m, uint32_t row, uint32_t column);
 /* The block of a valid key. */
 void ref_block(uint32_t m, uint32_t key, uint32_t *row, uint32_t *column, uint32_t *side);
 
-hlq_counted ref_key_at(uint32_t m, uint32_t row, uint32_t column, uint32_t level);
+hlq_keyed ref_key_at(uint32_t m, uint32_t row, uint32_t column, uint32_t level);
 hlq_block ref_block_of(uint32_t m, uint32_t key);
 hlq_counted ref_build(uint32_t m, uint32_t s,
                       const uint8_t *raster, size_t raster_len,
