@@ -7,7 +7,7 @@
 #include <stdlib.h>
 #include <string.h>
 
-static_assert(HLQ_INTERFACE == 13, "the interface's number");
+static_assert(HLQ_INTERFACE == 14, "the interface's number");
 static_assert(HLQ_DEEPEST_M == 10 && HLQ_MOST_SLOTS == 32, "the limits of documents 01 and 02");
 static_assert(HLQ_LISTED == 1 && HLQ_INSIDE == 2, "the kinds");
 static_assert(HLQ_TABLE_PLACES == 512 && HLQ_OFFICE_ROWS == 256, "the table of two offices");
