@@ -6,6 +6,10 @@
 #include "prowcurl.h"
 #include "reference.h"
 
+#ifdef __cplusplus
+extern "C" {
+#endif
+
 /* Fewer rounds where each is slow, as under a sanitizer. */
 #ifdef FEWER_ROUNDS
 #define SOME(rounds) ((rounds) / 8 + 1)
@@ -98,5 +102,9 @@ uint32_t random_key(uint32_t m);
 void expect_pairs(call which, uint32_t mask);
 /* Prints the numbers of comparisons and of pairs of a call and its refusal. */
 int finish(const char *name);
+
+#ifdef __cplusplus
+}
+#endif
 
 #endif
