@@ -2,7 +2,6 @@
  * the reference's call with the counts kept by hand. Results, counts and every byte must be the same, refused calls
  * included. Sheets are laid out at every m and s in exactly the bytes asked, and a history is run by this layer beside
  * one by the raw calls. Compiles as C++17 too. */
-#include "prowcurl_sheet.h"
 #include "support.h"
 
 #include <stdio.h>
@@ -16,12 +15,6 @@
 #define TABLE_OF(t) (t)->offices, HLQ_TABLE_PLACES, (t)->ids, HLQ_TABLE_PLACES, (t)->waived, HLQ_TABLE_PLACES
 #define WINDOW_OF(w) (w).row, (w).column, (w).height, (w).width
 
-/* A sheet, and the lent memory that it lies in. */
-typedef struct {
-    lent memory;
-    hlq_sheet sheet;
-} laid;
-
 static unsigned accepted[CALLS], refused[CALLS];
 
 static void note(call which, hlq_refusal got, uint64_t expected) {
@@ -29,26 +22,6 @@ static void note(call which, hlq_refusal got, uint64_t expected) {
     same_results(which, number, &number, &expected, sizeof number);
     if (got) refused[which]++;
     else accepted[which]++;
-}
-
-static laid lay(uint32_t m, uint32_t s, size_t log_room) {
-    laid a;
-    a.memory = lend(HLQ_SHEET_NUMBERS(m, s, log_room), sizeof(uint32_t));
-    must(hlq_sheet_in(start(a.memory), hlq_sheet_bytes(m, s, log_room), m, s, log_room, &a.sheet) == HLQ_ACCEPTED,
-         "a sheet is laid out");
-    return a;
-}
-
-static laid copy(const laid *a) {
-    laid b = *a;
-    b.memory = copy_of(a->memory);
-    uint32_t *from = (uint32_t *)start(a->memory), *to = (uint32_t *)start(b.memory);
-    b.sheet.list.keys = to + (a->sheet.list.keys - from);
-    b.sheet.list.bits = to + (a->sheet.list.bits - from);
-    b.sheet.summary = to + (a->sheet.summary - from);
-    b.sheet.log_keys = to + (a->sheet.log_keys - from);
-    b.sheet.log_values = to + (a->sheet.log_values - from);
-    return b;
 }
 
 static int same_counts(const hlq_sheet *a, const hlq_sheet *b) {
@@ -89,7 +62,7 @@ static void made_by_hand(hlq_sheet *b, uint64_t m, uint64_t s, uint64_t n) {
 }
 
 static void try_build(laid *a, const uint8_t *raster, size_t pixels) {
-    laid b = copy(a);
+    laid b = copy_of_sheet(a);
     hlq_refusal got = hlq_sheet_build(&a->sheet, raster, pixels);
     hlq_list *list = &b.sheet.list;
     hlq_counted c = ref_build(list->m, list->s, raster, pixels, list->keys, list->room, list->bits, list->room,
@@ -102,7 +75,7 @@ static void try_build(laid *a, const uint8_t *raster, size_t pixels) {
 static void try_load(laid *a, const uint8_t *file, size_t bytes) {
     enum { MOST = HLQ_MOST_RECORDS(HLQ_DEEPEST_M) };
     static uint32_t keys[MOST], bits[MOST];
-    laid b = copy(a);
+    laid b = copy_of_sheet(a);
     hlq_refusal got = hlq_sheet_load(&a->sheet, file, bytes);
     hlq_loaded l = ref_load(file, bytes, keys, MOST, bits, MOST);
     uint64_t expected = l.refusal;
@@ -129,7 +102,7 @@ static void try_store(const laid *a, size_t room) {
     same_buffers("a file", file, other);
     must(hlq_sheet_store(&a->sheet, (uint8_t *)start(file), room, NULL) == got, "stored without a count");
     if (!got) {
-        laid b = lay(a->sheet.list.m, a->sheet.list.s, 0);
+        laid b = lay_sheet(a->sheet.list.m, a->sheet.list.s, 0);
         try_load(&b, (const uint8_t *)start(file), count - (below(4) == 0));
         ((uint8_t *)start(file))[below(11)] = (uint8_t)below(256);
         try_load(&b, (const uint8_t *)start(file), count);
@@ -247,10 +220,10 @@ static void try_leaves(const laid *a, size_t room) {
     same_buffers("the features of leaves", features, other_features);
     must(hlq_sheet_write_leaves(&a->sheet, leaf_keys, leaf_features, room, NULL) == got, "leaves without a count");
     if (!got) {
-        laid to = lay(a->sheet.list.m, a->sheet.list.s, 3);
+        laid to = lay_sheet(a->sheet.list.m, a->sheet.list.s, 3);
         to.sheet.used = 2; /* the log of another map, which is emptied with an accepted reading alone */
         if (below(3) == 0) leaf_features[below((uint32_t)count)] = a->sheet.list.s;
-        laid b = copy(&to);
+        laid b = copy_of_sheet(&to);
         hlq_list *list = &b.sheet.list;
         got = hlq_sheet_read_leaves(&to.sheet, leaf_keys, leaf_features, count);
         c = ref_read_leaves(list->m, list->s, leaf_keys, count, leaf_features, count, count, list->keys, list->room,
@@ -278,10 +251,10 @@ static void try_bit_strings(const laid *a, size_t short_of) {
     same_buffers("the string of leaves", leaf_bits, other_leaves);
     must(hlq_sheet_write_bit_strings(&a->sheet, node, nodes, leaf, leaves, NULL, NULL) == got, "without their bytes");
     if (!got) {
-        laid to = lay(a->sheet.list.m, 2, 3);
+        laid to = lay_sheet(a->sheet.list.m, 2, 3);
         to.sheet.used = 2;
         if (below(3) == 0) node[0] ^= 0x10;
-        laid b = copy(&to);
+        laid b = copy_of_sheet(&to);
         hlq_list *list = &b.sheet.list;
         got = hlq_sheet_read_bit_strings(&to.sheet, node, nodes, leaf, leaves);
         hlq_counted c = ref_read_bit_strings(list->m, list->s, node, nodes, leaf, leaves, list->keys, list->room,
@@ -299,7 +272,7 @@ static void try_combine(const laid *a, const laid *b) {
     size_t entries = (size_t)s1 * s2;
     uint8_t *table = (uint8_t *)room_for(entries);
     for (size_t i = 0; i < entries; i++) table[i] = (uint8_t)below(s3);
-    laid to = lay(below(3) && m > 0 ? m - below(2) : m + below(2), s3, 2), other = copy(&to);
+    laid to = lay_sheet(below(3) && m > 0 ? m - below(2) : m + below(2), s3, 2), other = copy_of_sheet(&to);
     hlq_refusal got = hlq_sheet_combine(&a->sheet, &b->sheet, table, entries - (below(6) == 0 ? 1 : 0), &to.sheet);
     hlq_list *list = &other.sheet.list;
     size_t given = got == HLQ_CLASS_TABLE ? entries - 1 : entries;
@@ -314,13 +287,13 @@ static void try_combine(const laid *a, const laid *b) {
 
 static void try_fill_summary(laid *a) {
     for (size_t i = 0; i < a->sheet.summary_room; i++) a->sheet.summary[i] = below(9);
-    laid b = copy(a);
+    laid b = copy_of_sheet(a);
     hlq_refusal got = hlq_sheet_fill_summary(&a->sheet);
     settle(CALL_FILL_SUMMARY, got, ref_fill_summary(LIST_OF(&b.sheet), SUMMARY_OF(&b.sheet)).refusal, a, &b);
 }
 
 static void try_edit(laid *a, call which, uint32_t key, hlq_window w, uint32_t feature) {
-    laid b = copy(a);
+    laid b = copy_of_sheet(a);
     hlq_sheet *sheet = &b.sheet;
     hlq_edited e;
     hlq_refusal got;
@@ -422,7 +395,7 @@ static void every_call(uint32_t m, uint32_t s) {
     size_t pixels = (size_t)1 << 2 * m;
     uint8_t *raster = (uint8_t *)room_for(pixels);
     fill_raster(raster, m, s, below(5));
-    laid a = lay(m, s, below(3) ? 4 * HLQ_MOST_RECORDS(m) : below(9)), second = lay(m, 1 + below(HLQ_MOST_SLOTS), 0);
+    laid a = lay_sheet(m, s, below(3) ? 4 * HLQ_MOST_RECORDS(m) : below(9)), second = lay_sheet(m, 1 + below(HLQ_MOST_SLOTS), 0);
     for (int round = 0; round < 3; round++) {
         if (round == 1) {
             try_build(&a, raster, pixels - (below(2) ? 1 : 0));
@@ -456,7 +429,7 @@ static void every_call(uint32_t m, uint32_t s) {
 /* One leaf of a map of many slots fits any list's room, and its summary does not fit a sheet of few. */
 static void summary_too_small(void) {
     uint8_t raster[16] = { 0 }, file[HLQ_FILE_BYTES(1, 9)];
-    laid wide = lay(2, 9, 0), narrow = lay(2, 8, 4), deep = lay(HLQ_DEEPEST_M, HLQ_MOST_SLOTS, 0);
+    laid wide = lay_sheet(2, 9, 0), narrow = lay_sheet(2, 8, 4), deep = lay_sheet(HLQ_DEEPEST_M, HLQ_MOST_SLOTS, 0);
     try_build(&wide, raster, 16), try_build(&narrow, raster, 16);
     must(hlq_sheet_paint(&narrow.sheet, 0, 1) == HLQ_ACCEPTED, "a log that a refused load leaves");
     must(hlq_sheet_store(&wide.sheet, file, sizeof file, NULL) == HLQ_ACCEPTED, "one leaf is stored");
@@ -590,7 +563,7 @@ static void history(uint32_t m, uint32_t s, size_t log_room) {
     size_t pixels = (size_t)1 << 2 * m, places = HLQ_SUMMARY_PLACES(m, s), most = HLQ_MOST_RECORDS(m);
     must(pixels <= sizeof raster, "a small map");
     fill_raster(raster, m, s, 1);
-    laid a = lay(m, s, log_room), b = copy(&a);
+    laid a = lay_sheet(m, s, log_room), b = copy_of_sheet(&a);
     uint32_t *keys = (uint32_t *)start(b.memory), *bits = keys + most, *summary = bits + most;
     uint32_t *log_keys = summary + places, *log_values = log_keys + log_room;
     size_t n = (size_t)hlq_build(m, s, raster, pixels, keys, most, bits, most, summary, places).count;
@@ -613,7 +586,7 @@ static void history(uint32_t m, uint32_t s, size_t log_room) {
         must(a.sheet.list.n == n && a.sheet.used == used && a.sheet.in_force == in_force, "both have the same counts");
         same_buffers("two histories", a.memory, b.memory);
         if (step % 500 == 0) { /* and the sheet is a fresh build of what it shows */
-            laid c = lay(m, s, 0);
+            laid c = lay_sheet(m, s, 0);
             must(hlq_sheet_raster(&a.sheet, seen, pixels) == HLQ_ACCEPTED, "the history's raster");
             must(hlq_sheet_build(&c.sheet, seen, pixels) == HLQ_ACCEPTED && c.sheet.list.n == n, "a fresh build");
             must(memcmp(c.sheet.list.keys, keys, n * 4) == 0 && memcmp(c.sheet.list.bits, bits, n * 4) == 0 &&
