@@ -74,9 +74,10 @@ typedef struct {
 
 /* MEMORY
  *
- * A sheet laid out at m and s has room for every list of that m: no edit of it is ever refused with
- * HLQ_LIST_ROOM. Its log has the room that you say, 0 for a sheet that is only asked. The memory is
- * an array of uint32_t, or hlq_sheet_bytes(m, s, log_room) bytes from elsewhere:
+ * A sheet laid out at m and s has room for every list of that m: as long as it holds no deeper map,
+ * no edit of it is refused with HLQ_LIST_ROOM. Its log has the room that you say, 0 for a sheet
+ * that is only asked. The memory is an array of uint32_t, or hlq_sheet_bytes(m, s, log_room) bytes
+ * from elsewhere:
  *
  *     static uint32_t memory[HLQ_SHEET_NUMBERS(M, S, LOG_ROOM)];
  */
@@ -176,9 +177,9 @@ HLQ_LOOK hlq_refusal hlq_key_read(uint32_t m, const char *text, uint32_t *key) {
     (sheet)->list.m, (sheet)->list.s, HLQ_SLICES_(sheet, (sheet)->list.room), (sheet)->list.n
 #define HLQ_SLICES_(sheet, room) (sheet)->list.keys, room, (sheet)->list.bits, room
 #define HLQ_SUMMARY_(sheet) (sheet)->summary, hlq_summary_places_(sheet)
-#define HLQ_LOG_(sheet)                                                                     \
-    (sheet)->log_keys, (sheet)->log_room, (sheet)->log_values, (sheet)->log_room, (sheet)->used, \
-        (sheet)->in_force
+#define HLQ_LOG_(sheet) \
+    (sheet)->log_keys, (sheet)->log_room, (sheet)->log_values, (sheet)->log_room, \
+        (sheet)->used, (sheet)->in_force
 #define HLQ_TABLE_(table) \
     (table)->offices, HLQ_TABLE_PLACES, (table)->ids, HLQ_TABLE_PLACES, (table)->waived, \
         HLQ_TABLE_PLACES
@@ -244,10 +245,13 @@ HLQ_LOOK hlq_refusal hlq_sheet_build(hlq_sheet *sheet, const uint8_t *raster, si
 }
 
 /* LOAD. The sheet takes the m and s of the file. HLQ_LIST_ROOM also where its summary has too
- * little room for these; a sheet laid out at HLQ_DEEPEST_M and HLQ_MOST_SLOTS loads every file, and
- * hlq_file_settings says at what m and s to lay one out. */
+ * little room for these. A sheet laid out at the m and s that hlq_file_settings gives holds the
+ * file; one laid out at HLQ_DEEPEST_M and HLQ_MOST_SLOTS holds any. */
+enum { HLQ_FILE_HEAD_ = HLQ_FILE_BYTES(0, 1), HLQ_FILE_M_ = 5, HLQ_FILE_S_ = 6 };
+
 HLQ_LOOK hlq_refusal hlq_sheet_load(hlq_sheet *sheet, const uint8_t *file, size_t file_len) {
-    size_t room = file_len < 11 ? 0 : hlq_room_(sheet, file[5], file[6]);
+    size_t room = file_len < HLQ_FILE_HEAD_ ? 0 : hlq_room_(sheet, file[HLQ_FILE_M_],
+                                                            file[HLQ_FILE_S_]);
     hlq_loaded loaded = hlq_load(file, file_len, HLQ_SLICES_(sheet, room));
     return hlq_made_(sheet, loaded.refusal, loaded.m, loaded.s, loaded.n);
 }
@@ -259,8 +263,8 @@ HLQ_LOOK hlq_refusal hlq_file_settings(const uint8_t *file, size_t file_len, uin
     uint32_t no_room; /* so that a good file is refused last, with HLQ_LIST_ROOM */
     uint64_t refusal = hlq_load(file, file_len, &no_room, 0, &no_room, 0).refusal;
     int good = refusal == HLQ_LIST_ROOM;
-    if (m) *m = good ? file[5] : 0;
-    if (s) *s = good ? file[6] : 0;
+    if (m) *m = good ? file[HLQ_FILE_M_] : 0;
+    if (s) *s = good ? file[HLQ_FILE_S_] : 0;
     return good ? HLQ_ACCEPTED : (hlq_refusal)refusal;
 }
 
@@ -284,8 +288,9 @@ HLQ_LOOK hlq_refusal hlq_sheet_read_bit_strings(hlq_sheet *sheet,
     return hlq_made_(sheet, read.refusal, list->m, list->s, read.count);
 }
 
-/* COMBINE. Into a third sheet, whose s is the number of the table's classes, and which takes the m
- * of the two. HLQ_LIST_ROOM also where its summary has too little room for that m. */
+/* COMBINE. Into a third sheet, with memory of its own. Its s is the number of the table's classes,
+ * and it takes the m of the two. HLQ_LIST_ROOM also where its summary has too little room for that
+ * m. */
 HLQ_LOOK hlq_refusal hlq_sheet_combine(const hlq_sheet *first, const hlq_sheet *second,
                                        const uint8_t *table, size_t table_len, hlq_sheet *third) {
     uint32_t m = first->list.m, s = third->list.s;

@@ -395,7 +395,8 @@ static void every_call(uint32_t m, uint32_t s) {
     size_t pixels = (size_t)1 << 2 * m;
     uint8_t *raster = (uint8_t *)room_for(pixels);
     fill_raster(raster, m, s, below(5));
-    laid a = lay_sheet(m, s, below(3) ? 4 * HLQ_MOST_RECORDS(m) : below(9)), second = lay_sheet(m, 1 + below(HLQ_MOST_SLOTS), 0);
+    laid a = lay_sheet(m, s, below(3) ? 4 * HLQ_MOST_RECORDS(m) : below(9));
+    laid second = lay_sheet(m, 1 + below(HLQ_MOST_SLOTS), 0);
     for (int round = 0; round < 3; round++) {
         if (round == 1) {
             try_build(&a, raster, pixels - (below(2) ? 1 : 0));
