@@ -499,7 +499,7 @@ static void layout(void) {
     must(hlq_sheet_bytes(0, 1, most) / 4 == HLQ_SHEET_NUMBERS(0, 1, most), "the longest log that can be counted");
     must(hlq_sheet_bytes(0, 1, most + 1) == 0 && hlq_sheet_bytes(0, 1, SIZE_MAX) == 0, "a log beyond all memory");
     must(hlq_sheet_in(memory, SIZE_MAX, 0, 1, SIZE_MAX, &a) == HLQ_LIST_ROOM, "which is refused");
-    hlq_table t;
+    hlq_table t = { NULL, NULL, NULL, 0 };
     uint8_t *table = (uint8_t *)room_for(hlq_table_bytes());
     must(hlq_table_in(table, hlq_table_bytes() - 1, &t) == HLQ_WAIVERS, "a table with a byte too few");
     must(hlq_table_in(table + 1, hlq_table_bytes(), &t) == HLQ_WAIVERS, "a misaligned table is refused");
