@@ -525,7 +525,7 @@ static void combining(const char *first, int first_kind, const char *second, int
 
 static void blocks(void) {
     printf("\nblocks at m = %d\n", M);
-    COMPARE("key at", 9, 1000, sink += hlq_key_at(M, (uint32_t)again, 1023 - (uint32_t)again % 1024, 9).count,
+    COMPARE("key at", 9, 1000, sink += hlq_key_at(M, (uint32_t)again, 1023 - (uint32_t)again % 1024, 9).key,
             sink += plain_key_at(M, (uint32_t)again, 1023 - (uint32_t)again % 1024, 9));
     /* the keys 1111111111 and 1111111112 in base 5, and 1110000000 and 1120000000 */
     COMPARE("block of a pixel's key", 9, 1000, sink += hlq_block_of(M, 2441406 + (uint32_t)(again % 2)).row,

@@ -1,6 +1,7 @@
 /* prowcurl.h: a raster of ground classes as a sorted list of quadtree nodes (the hybrid linear
  * quadtree of Nardelli and Proietti), which answers window queries, takes edits that can be taken
- * back and redone, runs rules with waivers, and is stored in a file.
+ * back and redone, runs rules with waivers, and is stored in a file. These are the proved calls;
+ * prowcurl_sheet.h is a layer over them for programs that people write.
  *
  * CONVENTIONS
  *
@@ -102,7 +103,7 @@ enum {
     HLQ_INSIDE = 2  /* it lies inside the leaf at `place`, with the key `leaf` and that `level` */
 };
 
-enum {
+typedef enum {
     HLQ_ACCEPTED = 0,
     HLQ_SETTINGS = 1,      /* m above HLQ_DEEPEST_M, or s 0 or above HLQ_MOST_SLOTS (above 16 in a
                               file of version 1) */
@@ -134,7 +135,7 @@ enum {
     HLQ_BIT_STRINGS = 23,  /* s is not 2, or what is to be read is no pair of bit strings */
     HLQ_RESOLUTION = 24,   /* the two lists to combine have different m */
     HLQ_CLASS_TABLE = 25   /* the table's length is not s1 * s2, or an entry is s3 or more */
-};
+} hlq_refusal;
 
 /* The words for a refusal, for a message to people. */
 static inline const char *hlq_refusal_text(uint64_t refusal) {
@@ -171,6 +172,7 @@ static inline const char *hlq_refusal_text(uint64_t refusal) {
 
 typedef struct { uint64_t refusal; } hlq_done;
 typedef struct { uint64_t refusal, count; } hlq_counted;      /* with HLQ_ANSWER_ROOM: count */
+typedef struct { uint64_t refusal, key; } hlq_keyed;
 typedef struct { uint64_t refusal, kind, place, records, leaf, level; } hlq_stands;
 typedef struct { uint64_t refusal, row, column, side, level; } hlq_block;
 typedef struct { uint64_t start, length; } hlq_span;          /* both 0 for an empty part */
@@ -190,11 +192,16 @@ typedef struct {
     uint32_t height, width, feature;
 } hlq_question;
 
-/* KEY AT. The key of the block of this level around a pixel, in count: level m is the pixel itself,
- * level 0 the whole map.
+/* INTERFACE. The HLQ_INTERFACE of the library that the program runs with: another number than that
+ * of the header that it was compiled with tells of another library.
+ * Refusals: none. */
+uint32_t hlq_interface(void);
+
+/* KEY AT. The key of the block of this level around a pixel: level m is the pixel itself, level 0
+ * the whole map.
  * Refusals: HLQ_SETTINGS (m alone), HLQ_WINDOW (no pixel of the raster), HLQ_KEY (the level is
  * above m), in this order. */
-hlq_counted hlq_key_at(uint32_t m, uint32_t row, uint32_t column, uint32_t level);
+hlq_keyed hlq_key_at(uint32_t m, uint32_t row, uint32_t column, uint32_t level);
 
 /* BLOCK OF. The first row and column of the block with this key, its side in pixels, and its level.
  * Refusals: HLQ_SETTINGS (m alone), HLQ_KEY, in this order. */

@@ -158,11 +158,11 @@ void run_at(const arguments *a) {
     map list = load_map(a->words[0]);
     uint32_t row = number_of(a->words[1], "ROW"), column = number_of(a->words[2], "COLUMN"), class = 0;
     char key[KEY_TEXT];
-    hlq_counted pixel = hlq_key_at(list.m, row, column, list.m);
+    hlq_keyed pixel = hlq_key_at(list.m, row, column, list.m);
     accept_or_end(pixel.refusal, NULL);
-    hlq_stands at = hlq_standing(list.m, list.s, LIST_OF(&list), list.n, (uint32_t)pixel.count);
+    hlq_stands at = hlq_standing(list.m, list.s, LIST_OF(&list), list.n, (uint32_t)pixel.key);
     accept_or_end(at.refusal, NULL);
-    uint32_t patch = (uint32_t)(at.kind == HLQ_LISTED ? pixel.count : at.leaf);
+    uint32_t patch = (uint32_t)(at.kind == HLQ_LISTED ? pixel.key : at.leaf);
     while (list.bits[at.place] >> class != 1) class++; /* a leaf has one slot */
     hlq_block block = hlq_block_of(list.m, patch);
     key_text(list.m, patch, key);

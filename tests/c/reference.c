@@ -170,10 +170,10 @@ static uint8_t *raster_of(uint32_t m, uint32_t s, const uint32_t *keys, size_t k
 }
 
 /* The block of the level that has the pixel is looked for among all of that level's squares, by going down. */
-hlq_counted ref_key_at(uint32_t m, uint32_t row, uint32_t column, uint32_t level) {
-    if (m > DEEPEST) return (hlq_counted){ 1, 0 };
-    if (row >> m || column >> m) return (hlq_counted){ 6, 0 };
-    if (level > m) return (hlq_counted){ 8, 0 };
+hlq_keyed ref_key_at(uint32_t m, uint32_t row, uint32_t column, uint32_t level) {
+    if (m > DEEPEST) return (hlq_keyed){ 1, 0 };
+    if (row >> m || column >> m) return (hlq_keyed){ 6, 0 };
+    if (level > m) return (hlq_keyed){ 8, 0 };
     uint32_t key = 0;
     for (uint32_t d = 1; d <= level; d++)
         for (uint32_t digit = 1; digit <= 4; digit++) {
@@ -184,7 +184,7 @@ hlq_counted ref_key_at(uint32_t m, uint32_t row, uint32_t column, uint32_t level
                 break;
             }
         }
-    return (hlq_counted){ 0, key };
+    return (hlq_keyed){ 0, key };
 }
 
 hlq_block ref_block_of(uint32_t m, uint32_t key) {

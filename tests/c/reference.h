@@ -5,13 +5,17 @@
 
 #include "prowcurl.h"
 
+#ifdef __cplusplus
+extern "C" {
+#endif
+
 uint32_t ref_power(uint32_t base, uint32_t exponent);
 int ref_key_is_valid(uint32_t m, uint32_t key);
 uint32_t ref_pixel_key(uint32_t m, uint32_t row, uint32_t column);
 /* The block of a valid key. */
 void ref_block(uint32_t m, uint32_t key, uint32_t *row, uint32_t *column, uint32_t *side);
 
-hlq_counted ref_key_at(uint32_t m, uint32_t row, uint32_t column, uint32_t level);
+hlq_keyed ref_key_at(uint32_t m, uint32_t row, uint32_t column, uint32_t level);
 hlq_block ref_block_of(uint32_t m, uint32_t key);
 hlq_counted ref_build(uint32_t m, uint32_t s,
                       const uint8_t *raster, size_t raster_len,
@@ -135,5 +139,9 @@ hlq_counted ref_read_bit_strings(uint32_t m, uint32_t s,
                                  const uint8_t *node_bits, size_t node_bits_len,
                                  const uint8_t *leaf_bits, size_t leaf_bits_len,
                                  uint32_t *keys, size_t keys_len, uint32_t *bits, size_t bits_len);
+
+#ifdef __cplusplus
+}
+#endif
 
 #endif

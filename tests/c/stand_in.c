@@ -16,7 +16,9 @@
 #define TAKE_DRAGGED int32_t row, int32_t column, uint32_t height, uint32_t width
 #define WINDOW row, column, height, width
 
-hlq_counted hlq_key_at(uint32_t m, uint32_t row, uint32_t column, uint32_t level) {
+uint32_t hlq_interface(void) { return HLQ_INTERFACE; }
+
+hlq_keyed hlq_key_at(uint32_t m, uint32_t row, uint32_t column, uint32_t level) {
     return ref_key_at(m, row, column, level);
 }
 

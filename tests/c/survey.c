@@ -139,7 +139,7 @@ size_t largest_blocks(uint32_t m, window w, uint32_t *blocks) {
                 uint32_t parent = 2 * side;
                 if (!lies_in(w, r, c, side)) continue;
                 if (level > 0 && lies_in(w, r / parent * parent, c / parent * parent, parent)) continue;
-                blocks[count++] = (uint32_t)ref_key_at(m, r, c, level).count;
+                blocks[count++] = (uint32_t)ref_key_at(m, r, c, level).key;
             }
     qsort(blocks, count, sizeof *blocks, by_key);
     return count;

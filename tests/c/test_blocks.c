@@ -3,7 +3,7 @@
 #include "support.h"
 
 static void try_pixel(uint32_t m, uint32_t row, uint32_t column, uint32_t level) {
-    hlq_counted a = hlq_key_at(m, row, column, level), b = ref_key_at(m, row, column, level);
+    hlq_keyed a = hlq_key_at(m, row, column, level), b = ref_key_at(m, row, column, level);
     same_results(CALL_KEY_AT, b.refusal, &a, &b, sizeof a);
 }
 

@@ -33,7 +33,8 @@ static_assert(HLQ_FILE_BYTES(0xFFFFFFFFu, 16) == 25769803781u && HLQ_FILE_BYTES(
 static_assert(HLQ_LOG_FILE_BYTES(0) == 23 && HLQ_LOG_FILE_BYTES(3) == 47 && HLQ_LOG_FILE_BYTES(1 + 1) == 39 &&
                   2 * HLQ_LOG_FILE_BYTES(0) == 46 && HLQ_LOG_FILE_BYTES(0xFFFFFFFFu) == 34359738383u,
               "the bytes of a log's file");
-static_assert(sizeof(hlq_done) == 8 && sizeof(hlq_counted) == 16 && sizeof(hlq_stands) == 48 &&
+static_assert(sizeof(hlq_done) == 8 && sizeof(hlq_counted) == 16 && sizeof(hlq_keyed) == 16 &&
+                  sizeof(hlq_block) == 40 && sizeof(hlq_measured) == 16 && sizeof(hlq_stands) == 48 &&
                   sizeof(hlq_span) == 16 && sizeof(hlq_exists) == 16 && sizeof(hlq_reported) == 16 &&
                   sizeof(hlq_edited) == 32 && sizeof(hlq_emptied) == 16 && sizeof(hlq_found) == 24 &&
                   sizeof(hlq_loaded) == 32 && sizeof(hlq_loaded_log) == 40 && sizeof(hlq_strings) == 24 &&
@@ -124,6 +125,7 @@ static void words(void) {
 }
 
 int main(void) {
+    must(hlq_interface() == HLQ_INTERFACE, "header and library have one interface");
     for (uint32_t m = 0; m <= HLQ_DEEPEST_M; m++) macros_meet_calls(m);
     limits();
     group();

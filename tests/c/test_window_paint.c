@@ -131,7 +131,7 @@ static uint32_t next_key(uint32_t m, uint32_t last) {
     if (pick == 2) level += below(m - level + 1);
     if (pick == 3) w.column ^= w.width % (1u << m);
     if (pick > 3) return random_key(m);
-    return (uint32_t)ref_key_at(m, w.row, w.column, level).count;
+    return (uint32_t)ref_key_at(m, w.row, w.column, level).key;
 }
 
 /* Entries of any blocks of any rasters, and the records that close the last of them, so many, to a group. */
