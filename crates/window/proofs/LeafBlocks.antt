@@ -56,9 +56,9 @@ module _ (m : ℕ) (p : Picture) (w : Window) (f : ℕ) where
   one-leaf {s} h all =
       let has : (row column : ℕ) → InSquare (h .height) (s .row) (s .column) row column → p row column ≡ f
       = λ row column i.
-          let x = inside {row = row} {column = column} (h .block) i in
-          let v = within (h .block) in
-          all row column (omega arith) (omega arith) (x .from) (omega (arith, h .step, x .until)) in
+      let x = inside {row = row} {column = column} (h .block) i in
+      let v = within (h .block) in
+      all row column (omega arith) (omega arith) (x .from) (omega (arith, h .step, x .until)) in
       let one = one-from p f (h .height) (s .row) (s .column) has in
       let same = has (s .row) (s .column) (first-within (h .height) (s .row) (s .column)) in
       ap (keysWith (2 ^ f)) (content-list p h ∙ list-one p (h .height) (s .row) (s .column) (s .key) one)
