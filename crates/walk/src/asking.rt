@@ -44,16 +44,25 @@ pub fn ask(m: u32, keys: &[u32], bits: &[u32], n: usize, from: usize, spot: Spot
 {
     let key = spot.key;
     let step = spot.step;
-    match standing::stand_from(m, keys, bits, n, from, key, step) {
-        Standing::Listed(place, records) => Told {
-            place,
-            last: place + (records - 1),
-            whole: spot,
-        },
-        Standing::Inside(place, leaf, level) => Told {
-            place,
-            last: place,
+    let standing = standing::stand_from(m, keys, bits, n, from, key, step);
+    let Standing::Listed(place, records) = standing else {
+        let Standing::Inside(around, leaf, level) = standing else {
+            // A standing is one of the two: never reached.
+            return Told {
+                place: 0,
+                last: 0,
+                whole: spot,
+            };
+        };
+        return Told {
+            place: around,
+            last: around,
             whole: leaf_of(m, leaf, level),
-        },
+        };
+    };
+    Told {
+        place,
+        last: place + (records - 1),
+        whole: spot,
     }
 }
