@@ -27,7 +27,7 @@ use Rattle.edit.specs.Content.{contentIn, formerBy, formerOf}
 use Rattle.edit.specs.declared.logging.Former.{Former}
 use Rattle.log.specs.declared.entry.Entry.{Entry}
 use Rattle.log.specs.Entries.{recordsFromPlace, Loggable, Logged}
-use Rattle.edit.specs.PaintCall.{Fresh}
+use Rattle.edit.specs.PaintCall.{Fresh, newEntry}
 use Rattle.put.proofs.Places.{place-lt}
 use Rattle.edit.proofs.Gained.{gained-in}
 use Rattle.put.proofs.PlanTop.{records-length}
@@ -132,3 +132,7 @@ pub logged-same : {entry entry′ : List Record} {start : ℕ} {keys values keys
     → Logged entry start keys values keys′ values′ next
     → Logged entry′ start keys values keys′ values′ next
 logged-same {start = start} {keys} {values} {keys′} {values′} {next} e w = subst (λ x. Logged x start keys values keys′ values′ next) e w
+
+-- the former content of the block of a new entry
+pub former-named : (m start κ f : ℕ) (l : List Record) {new : Entry} {former : Former} → new ≡ newEntry m l start κ f → former ≡ formerOf m κ l → former ≡ formerOf m (new .key) l
+former-named m start κ f l e h = h ∙ ap (λ x. formerOf m (x .key) l) (sym e)

@@ -4,6 +4,7 @@ pub mod ContentLength
 pub mod ContentStands
 pub mod EditCallTables
 pub mod Decided
+pub mod PaintDecided
 pub mod Recounted
 pub mod Changed
 pub mod Planned

@@ -10,6 +10,9 @@ use Rattle.log.specs.declared.entry.Entry.{Entry}
 use Rattle.put.specs.declared.plan.Plan.{Plan}
 use Rattle.edit.specs.declared.decision.Decision.{Decision}
 use Rattle.edit.specs.declared.decision.Decision.the-variants.{Refused, Granted}
+use Rattle.edit.specs.declared.decision.PaintDecision.{PaintDecision}
+use Rattle.edit.specs.declared.decision.PaintDecision.the-variants.{Refused as PaintRefused, Granted as PaintGranted}
+use Rattle.edit.specs.declared.logging.Former.{Former}
 
 unfoldable pub editRefusal : (m s : ℕ) (keys bits : List ℕ) (n : ℕ) (summary logKeys logValues : List ℕ) (used inForce : ℕ) → ℕ
 editRefusal m s keys bits n summary logKeys logValues used inForce =
@@ -23,3 +26,7 @@ editRefusal m s keys bits n summary logKeys logValues used inForce =
 -- a call with this refusal is refused, or granted where that is 0
 unfoldable pub decided : ℕ → Entry → Plan → Decision
 decided refusal entry plan = accepted refusal (Granted entry plan) (Refused refusal)
+
+-- and a paint
+unfoldable pub paintDecided : ℕ → Entry → Former → Plan → PaintDecision
+paintDecided refusal entry former plan = accepted refusal (PaintGranted entry former plan) (PaintRefused refusal)

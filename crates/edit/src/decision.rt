@@ -1,16 +1,23 @@
-// What paint, take back and redo share: the refusals that they test first, and the decision that a call goes by.
+// What paint, take back and redo share: the refusals that they test first, and the decisions that the calls go by.
 ghost use mathlib.Core.Path.{_≡_};
 ghost use Rattle.edit.specs.EditCallChecks.{editRefusal};
+use crate::logging::Former;
 use list::check;
 use list::settings;
 use log::entry::Entry;
 use put::plan::Plan;
 use summary::check as counts;
 
-// An edit is refused, or it goes by an entry of the log, which it writes, takes back or redoes, and by a plan for the list.
+// An edit is refused, or it goes by an entry of the log, which it takes back or redoes, and by a plan for the list.
 pub enum Decision {
     Refused(u64),
     Granted(Entry, Plan),
+}
+
+// A paint is refused, or it goes by the entry that it logs, by where the block's former content stands, and by a plan for the list.
+pub enum PaintDecision {
+    Refused(u64),
+    Granted(Entry, Former, Plan),
 }
 
 // The refusals that the calls test first: 1, 4, 18, 5.

@@ -1,4 +1,4 @@
-// What a paint logs: the block's former content. Where it stands in the list is looked for here; its length decides refusal 10 before anything is written.
+// What a paint logs: the block's former content, as the block's standing tells it. Its length decides refusal 10 before anything is written.
 ghost use mathlib.Core.Path.{_≡_};
 ghost use Prim.Native.Nat.{_≤_, _^_};
 ghost use Rattle.keys.specs.Key.{heightOf};
@@ -22,7 +22,7 @@ pub struct Former {
     pub count: usize,
 }
 
-fn by_standing(standing: Standing) -> Former
+pub fn by_standing(standing: Standing) -> Former
     ensures { λ r. ⌜ r ≡ formerBy standing ⌝ }
 {
     let Standing::Listed(place, records) = standing else {
@@ -64,15 +64,6 @@ pub fn content_from(
     by_standing(standing)
 }
 
-// The same, where neither a place nor the step is known yet.
-pub fn content_of(m: u32, keys: &[u32], bits: &[u32], n: usize, key: u32) -> Former
-    requires { ⌜ BlockIn m (now keys) (now bits) n key ⌝ }
-    ensures { λ r. ⌜ r ≡ formerOf m key (recordsOf (now (keys .entry)) (now (bits .entry)) n) ⌝ }
-{
-    let standing = standing::stand(m, keys, bits, n, key);
-    by_standing(standing)
-}
-
 // Writes the new entry: a listed block's records, or one record with the block's own key and the bits of the leaf around it. Gives the number of
 // records used then.
 pub fn log_content(
@@ -106,16 +97,17 @@ pub fn log_paint(
     keys: &[u32],
     bits: &[u32],
     n: usize,
+    former: Former,
     new: Entry,
     log_keys: &mut [u32],
     log_values: &mut [u32],
     used: usize,
 ) -> usize
-    requires { ⌜ (Fresh m (now keys) (now bits) n new (now «log_keys») (now «log_values»)) × (used ≤ room (now «log_keys») (now «log_values»)) ⌝ }
+    requires { ⌜ (Fresh m (now keys) (now bits) n new (now «log_keys») (now «log_values»)) × (used ≤ room (now «log_keys») (now «log_values»))
+        × (former ≡ formerOf m (new .key) (recordsOf (now keys) (now bits) n)) ⌝ }
     ensures { λ r. ⌜ Relogged (gained m (recordsOf (now (keys .entry)) (now (bits .entry)) n) (new .key) (new .feature)) (new .start) used
         (now («log_keys» .entry)) (now («log_values» .entry)) (now («log_keys» .exit)) (now («log_values» .exit)) r ⌝ }
 {
-    let former = content_of(m, keys, bits, n, new.key);
     let end = log_content(m, keys, bits, n, former, new, log_keys, log_values);
     entry::clear_from(log_keys, log_values, end, used);
     end

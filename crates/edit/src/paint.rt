@@ -5,23 +5,26 @@ ghost use lib.ListN.{length};
 ghost use Rattle.definitions.specs.Read.{room, recordsOf};
 ghost use Rattle.definitions.specs.Calls.Paint.{painted, paintRefusal};
 ghost use Rattle.put.specs.Putting.{Replaced};
-ghost use Rattle.edit.specs.EditCallChecks.{decided};
+ghost use Rattle.edit.specs.Content.{formerOf};
+ghost use Rattle.edit.specs.EditCallChecks.{paintDecided};
 ghost use Rattle.definitions.specs.Calls.Paint.{Painted};
 ghost use Rattle.edit.specs.PaintCall.{roomRefusal, Paintable, newEntry, paintPlan};
 use crate::decision;
-use crate::decision::Decision;
+use crate::decision::PaintDecision;
 use crate::logging;
 use crate::recount;
 use definitions::Edited;
 use keys::Key;
 use keys::power;
+use list::standing;
 use log::entry;
 use log::entry::Entry;
 use put::plan;
 use put::plan::Plan;
 use put::putting;
 
-// 10 and 9: the log has room for the entry, and the list for what it becomes.
+// 10 and 9: the log has room for the entry, and the list for what it becomes. Where the block stands is looked for here alone: the log and the plan go by
+// it.
 fn decide_room(
     m: u32,
     keys: &[u32],
@@ -32,29 +35,32 @@ fn decide_room(
     in_force: usize,
     key: u32,
     feature: u32,
-) -> Decision
+) -> PaintDecision
     requires { ⌜ (Paintable m (now keys) (now bits) n key feature) × («in_force» ≤ room (now «log_keys») (now «log_values»)) ⌝ }
-    ensures { λ r. ⌜ r ≡ decided (roomRefusal m (recordsOf (now (keys .entry)) (now (bits .entry)) n) (now (keys .entry)) (now (bits .entry))
+    ensures { λ r. ⌜ r ≡ paintDecided (roomRefusal m (recordsOf (now (keys .entry)) (now (bits .entry)) n) (now (keys .entry)) (now (bits .entry))
         (now («log_keys» .entry)) (now («log_values» .entry)) «in_force» key feature)
         (newEntry m (recordsOf (now (keys .entry)) (now (bits .entry)) n) «in_force» key feature)
+        (formerOf m key (recordsOf (now (keys .entry)) (now (bits .entry)) n))
         (paintPlan m (recordsOf (now (keys .entry)) (now (bits .entry)) n) key feature) ⌝ }
 {
-    let former = logging::content_of(m, keys, bits, n, key);
+    let standing = standing::stand(m, keys, bits, n, key);
+    let former = logging::by_standing(standing);
     let count = former.count;
     let logged = in_force + entry::places(count);
     if log_keys.len() < logged {
-        return Decision::Refused(10);
+        return PaintDecision::Refused(10);
     }
     if log_values.len() < logged {
-        return Decision::Refused(10);
+        return PaintDecision::Refused(10);
     }
-    let found = plan::plan_of(m, keys, bits, n, key, true, power::power_of_two(feature));
+    let bit = power::power_of_two(feature);
+    let found = plan::plan_by(m, keys, bits, n, key, true, bit, standing);
     let after = plan::length_after(n, 1, found);
     if keys.len() < after {
-        return Decision::Refused(9);
+        return PaintDecision::Refused(9);
     }
     if bits.len() < after {
-        return Decision::Refused(9);
+        return PaintDecision::Refused(9);
     }
     let new = Entry {
         key,
@@ -62,10 +68,10 @@ fn decide_room(
         count,
         feature,
     };
-    Decision::Granted(new, found)
+    PaintDecision::Granted(new, former, found)
 }
 
-// The first refusal of a paint that applies, or the entry that it logs and its plan.
+// The first refusal of a paint that applies, or what it goes by.
 fn decide(
     m: u32,
     s: u32,
@@ -79,10 +85,11 @@ fn decide(
     in_force: usize,
     key: u32,
     feature: u32,
-) -> Decision
-    ensures { λ r. ⌜ r ≡ decided
+) -> PaintDecision
+    ensures { λ r. ⌜ r ≡ paintDecided
         (paintRefusal m s (now (keys .entry)) (now (bits .entry)) n (now (summary .entry)) (now («log_keys» .entry)) (now («log_values» .entry)) used «in_force» key feature)
         (newEntry m (recordsOf (now (keys .entry)) (now (bits .entry)) n) «in_force» key feature)
+        (formerOf m key (recordsOf (now (keys .entry)) (now (bits .entry)) n))
         (paintPlan m (recordsOf (now (keys .entry)) (now (bits .entry)) n) key feature) ⌝ }
 {
     let early = decision::edit_refusal(
@@ -98,14 +105,14 @@ fn decide(
         in_force,
     );
     if early != 0 {
-        return Decision::Refused(early);
+        return PaintDecision::Refused(early);
     }
     let block = Key { number: key };
     if !block.is_valid(m) {
-        return Decision::Refused(8);
+        return PaintDecision::Refused(8);
     }
     if s <= feature {
-        return Decision::Refused(7);
+        return PaintDecision::Refused(7);
     }
     decide_room(
         m,
@@ -185,7 +192,7 @@ pub fn paint(
         feature,
     );
     match decision {
-        Decision::Refused(refusal) => {
+        PaintDecision::Refused(refusal) => {
             return Edited {
                 refusal,
                 n: 0,
@@ -193,8 +200,18 @@ pub fn paint(
                 in_force: 0,
             };
         }
-        Decision::Granted(new, found) => {
-            let logged = logging::log_paint(m, keys, bits, n, new, log_keys, log_values, used);
+        PaintDecision::Granted(new, former, found) => {
+            let logged = logging::log_paint(
+                m,
+                keys,
+                bits,
+                n,
+                former,
+                new,
+                log_keys,
+                log_values,
+                used,
+            );
             let after = fill(m, keys, bits, n, key, feature, found);
             recount::recount(m, s, keys, bits, after, summary, key);
             return Edited {

@@ -1,23 +1,20 @@
 -- The place of a key among keys: what the search finds is the place among the first n keys, and on the records of two slices that is the place of
--- document 01; so is whether the key is listed there. Rests on Count.
+-- document 01. Rests on Count.
 use Prim.Native.Nat.{ℕ, zero, suc, _+_, _-_, _≤_, _<_}
-use mathlib.Core.Path.{_≡_, refl, sym, _∙_, ap}
-use mathlib.Core.Bool.{Bool, true, false, cond}
+use mathlib.Core.Path.{_≡_, refl, _∙_, ap}
+use mathlib.Core.Bool.{cond}
 use mathlib.Core.List.{List, [], _∷_}
 use native.Mathlib.Omega.{arith}
 use lib.ListN.{length, getD, take, length-take}
-use lib.Seq.{getD-take}
-use lib.Dec.{leb, eqb}
-use borrow.Author.Tests.{eq-eqb, ne-eqb}
-use Rattle.keys.proofs.Cases.{decide, split}
+use lib.Dec.{leb}
+use Rattle.keys.proofs.Cases.{split}
 use Rattle.definitions.specs.List.{Record, keysOf, valuesOf}
 use Rattle.definitions.specs.Read.{room, recordsOf}
-use Rattle.definitions.specs.Standing.{upTo, placeOf, isListed}
+use Rattle.definitions.specs.Standing.{upTo, placeOf}
 use Rattle.laws.proofs.Records.{records-keys, records-values}
-use Rattle.list.specs.Sorted.{Sorted}
-use Rattle.list.specs.Among.{keysUpTo, placeAmong, whichAmong, placeIn}
-use Rattle.list.specs.declared.standing.Which.the-variants.{Listed, Inside}
-use Rattle.list.proofs.Count.{up-to-none, up-to-one, up-to-skip}
+use Rattle.list.specs.Sorted.{Ascends, Sorted}
+use Rattle.list.specs.Among.{keysUpTo, placeAmong}
+use Rattle.list.proofs.Count.{up-to-none, up-to-one, up-to-skip, count-at}
 
 -- at most all keys are at or before x
 pub up-to-most : (x : ℕ) (keys : List ℕ) → keysUpTo x keys ≤ length keys
@@ -53,18 +50,10 @@ module _ {keys : List ℕ} {n key : ℕ} (s : Sorted keys n key) where
       let most = found-most s (keysUpTo key (take n keys)) refl in
       omega arith
 
-  module _ (place : ℕ) (is : place ≡ placeAmong key (take n keys)) where
-    found-key : getD (take n keys) place 0 ≡ getD keys place 0
-    found-key = let h = place-below in getD-take n keys place 0 (omega arith)
-
-    -- the key itself stands there, or not
-    pub found-listed : getD keys place 0 ≡ key → Listed place ≡ whichAmong key (take n keys)
-    unfolding whichAmong
-    found-listed e = rw (← is, eq-eqb _ _ (found-key ∙ e))
-
-    pub found-inside : (getD keys place 0 ≡ key → ⊥) → Inside place ≡ whichAmong key (take n keys)
-    unfolding whichAmong
-    found-inside e = rw (← is, ne-eqb _ _ (λ f. e (sym found-key ∙ f)))
+-- and that of a key which is there
+pub place-at : {keys : List ℕ} {n : ℕ} → Ascends keys n → (i x : ℕ) → i < n → getD keys i 0 ≡ x → i ≡ placeAmong x (take n keys)
+unfolding placeAmong
+place-at {keys} {n} a i x there same = let e = count-at a i x there same in omega arith
 
 -- records counted are keys counted
 pub up-to-keys : (x : ℕ) (l : List Record) → upTo x l ≡ keysUpTo x (keysOf l)
@@ -87,22 +76,3 @@ module _ (keys bits : List ℕ) (n : ℕ) (fits : n ≤ room keys bits) where
   -- the place in the records is the place among the first n keys
   pub place-among : (κ : ℕ) → placeOf κ (recordsOf keys bits n) ≡ placeAmong κ (take n keys)
   place-among κ = place-keys κ (recordsOf keys bits n) ∙ ap (placeAmong κ) keys-of-records
-
--- the place is among the keys
-pub among-place : (κ : ℕ) (keys : List ℕ) → placeIn (whichAmong κ keys) ≡ placeAmong κ keys
-unfolding whichAmong
-among-place κ keys = decide (eqb (getD keys (placeAmong κ keys) 0) κ) (λ e. rw e) (λ e. rw e)
-
--- which it is among the keys of a list is what the list's test says
-module _ (κ : ℕ) (l : List Record) where
-  by-test : (t : Bool) → isListed κ l ≡ t → whichAmong κ (keysOf l) ≡ cond t (Listed (placeOf κ l)) (Inside (placeOf κ l))
-  unfolding isListed whichAmong
-  by-test t e = rw (← place-keys κ l, e)
-
-  pub which-listed : (place : ℕ) → whichAmong κ (keysOf l) ≡ Listed place → (isListed κ l ≡ true) × (placeOf κ l ≡ place)
-  which-listed place e =
-      decide (isListed κ l) (λ t. let f = by-test true t in (t, cc)) (λ t. let f = by-test false t in let z : _≡_ {A = ℕ} 0 1 = cc in absurd (omega arith))
-
-  pub which-inside : (place : ℕ) → whichAmong κ (keysOf l) ≡ Inside place → (isListed κ l ≡ false) × (placeOf κ l ≡ place)
-  which-inside place e =
-      decide (isListed κ l) (λ t. let f = by-test true t in let z : _≡_ {A = ℕ} 0 1 = cc in absurd (omega arith)) (λ t. let f = by-test false t in (t, cc))

@@ -41,6 +41,13 @@ count-up-to (κ ∷ keys) (suc n) x (suc r) room most before after =
     up-to-one x κ (take n keys) (before 0 (omega arith))
     ∙ ap suc (count-up-to keys n x r (omega arith) (omega arith) (λ i h. before (suc i) (omega arith)) (λ i h j. after (suc i) (omega arith) (omega arith)))
 
+-- so where x itself stands, it and the keys before it are counted
+pub count-at : {keys : List ℕ} {n : ℕ} → Ascends keys n → (i x : ℕ) → i < n → getD keys i 0 ≡ x → keysUpTo x (take n keys) ≡ suc i
+count-at {keys} {n} a i x there same =
+    count-up-to keys n x (suc i) (a .room) (omega arith)
+    (λ j h. split j i (λ lt. let e = a .ascend j i lt there in omega arith) (λ ge. let e : i ≡ j = omega arith in rw (← e) (omega arith)))
+    (λ j h k. let e = a .ascend i j (omega arith) k in omega arith)
+
 -- the keys below the number after x are those at or before x
 pub below-up-to : (x : ℕ) (keys : List ℕ) → keysBelow (suc x) keys ≡ keysUpTo x keys
 unfolding keysUpTo keysBelow

@@ -7,12 +7,13 @@ use mathlib.Core.List.{List}
 use native.Mathlib.Omega.{arith}
 use lib.ListN.{length, getD, take}
 use lib.Seq.{getD-take}
-use Rattle.keys.specs.Key.{levelOf, heightOf}
+use borrow.Author.Tests.{eq-eqb, ne-eqb}
+use Rattle.keys.specs.Key.{rootKey, levelOf, heightOf}
 use Rattle.keys.specs.Block.{rowOf, columnOf}
 use Rattle.keys.proofs.Cases.{decide}
 use Rattle.keys.proofs.Powers.{five-pos, five-le}
-use Rattle.keys.specs.Under.{MapBlock}
-use Rattle.keys.proofs.Interval.{within}
+use Rattle.keys.specs.Under.{MapBlock, here}
+use Rattle.keys.proofs.Interval.{within, one-block}
 use Rattle.keys.proofs.Valid.{valid-block}
 use Rattle.definitions.specs.Picture.{Picture, oneFeature}
 use Rattle.definitions.specs.Bits.{bitsOf}
@@ -24,12 +25,11 @@ use Rattle.laws.proofs.ListOf.{list-one, list-zero, list-node}
 use Rattle.list.specs.Check.{oneSlot}
 use Rattle.list.specs.Own.{OwnList, BlockIn, shownBy}
 use Rattle.list.specs.Sorted.{Near}
-use Rattle.list.specs.Among.{keysUpTo, keysBelow, placeAmong, whichAmong}
-use Rattle.list.specs.declared.standing.Which.the-variants.{Listed as ListedAt, Inside as InsideAt}
+use Rattle.list.specs.Among.{keysUpTo, keysBelow, placeAmong}
 use Rattle.list.proofs.Count.{below-up-to}
-use Rattle.list.proofs.Among.{keys-of-records, place-among, which-listed, which-inside}
+use Rattle.list.proofs.Among.{keys-of-records, place-among}
 use Rattle.list.proofs.PartLength.{records-in}
-use Rattle.list.proofs.Own.{own-sorted, own-place, own-near, own-bits, own-part}
+use Rattle.list.proofs.Own.{own-length, own-sorted, own-place, own-near, own-bits, own-part}
 use Rattle.list.proofs.Shown.{slot-one, slot-several}
 
 -- the standing in a list, by the list's test
@@ -92,14 +92,9 @@ module _ {m : ℕ} {keys bits : List ℕ} {n κ : ℕ} (b : BlockIn m keys bits 
   place-is : placeAmong κ (take n keys) ≡ placeOf κ (recordsOf keys bits n)
   place-is = sym (place-among keys bits n (b .own .fits) κ)
 
-  -- which was found is what the records say
-  pub found-listed : (place : ℕ) → whichAmong κ (take n keys) ≡ ListedAt place
-      → (isListed κ (recordsOf keys bits n) ≡ true) × (place ≡ placeOf κ (recordsOf keys bits n))
-  found-listed place e = let f = which-listed κ (recordsOf keys bits n) place (ap (whichAmong κ) keys-are ∙ e) in (f .0, sym (f .1))
-
-  pub found-inside : (place : ℕ) → whichAmong κ (take n keys) ≡ InsideAt place
-      → (isListed κ (recordsOf keys bits n) ≡ false) × (place ≡ placeOf κ (recordsOf keys bits n))
-  found-inside place e = let f = which-inside κ (recordsOf keys bits n) place (ap (whichAmong κ) keys-are ∙ e) in (f .0, sym (f .1))
+  -- the place that was found is the records'
+  pub found-place : (place : ℕ) → place ≡ placeAmong κ (take n keys) → place ≡ placeOf κ (recordsOf keys bits n)
+  found-place place e = e ∙ place-is
 
   -- the interval of its keys ends within the largest map's
   pub step-fits : (step : ℕ) → step ≡ 5 ^ heightOf m κ → (1 ≤ step) × (κ + step ≤ 5 ^ 10)
@@ -127,6 +122,15 @@ module _ {m : ℕ} {keys bits : List ℕ} {n κ : ℕ} (b : BlockIn m keys bits 
     pub key-there : getD keys place 0 ≡ keyFound κ (recordsOf keys bits n)
     key-there = sym (getD-take n keys place 0 there) ∙ ap₂ (λ l i. getD l i 0) (sym keys-are) is
 
+    -- is the block's own where it is listed, and else another
+    pub own-key : getD keys place 0 ≡ κ → isListed κ (recordsOf keys bits n) ≡ true
+    unfolding isListed
+    own-key e = eq-eqb _ κ (sym key-there ∙ e)
+
+    pub other-key : (getD keys place 0 ≡ κ → ⊥) → isListed κ (recordsOf keys bits n) ≡ false
+    unfolding isListed
+    other-key e = ne-eqb _ κ (λ f. e (key-there ∙ f))
+
     -- and the bits, which are the block's
     pub bits-there : getD bits place 0 ≡ bitsOf (shownBy m keys bits n) (heightOf m κ) (rowOf m κ) (columnOf m κ)
     bits-there = ap (λ i. getD bits i 0) among ∙ own-bits (b .own) block
@@ -139,12 +143,20 @@ module _ {m : ℕ} {keys bits : List ℕ} {n κ : ℕ} (b : BlockIn m keys bits 
         let f = ap (λ i. getD keys i 0) e in
         record { room = there; before = omega (arith, h .before) }
 
-    -- a listed leaf has one record
+    -- the records of a listed block
     module _ (listed : isListed κ (recordsOf keys bits n) ≡ true) where
       records-are : recordsIn m κ (recordsOf keys bits n) ≡ length (listOf (shownBy m keys bits n) (heightOf m κ) (rowOf m κ) (columnOf m κ) κ)
       records-are =
           ap (recordsIn m κ) (b .own .own) ∙ records-in (shownBy m keys bits n) block (ap (isListed κ) (sym (b .own .own)) ∙ listed)
 
+      -- the root has all records
+      pub root-records : κ ≡ rootKey → n ≡ recordsIn m κ (recordsOf keys bits n)
+      root-records root =
+          let same = one-block block here root in
+          let p = shownBy m keys bits n in
+          sym (own-length (b .own)) ∙ sym (records-are ∙ rw (same .heights, same .rows, same .columns, root) refl)
+
+      -- a listed leaf has one
       pub leaf-records : oneSlot (getD bits place 0) ≡ true → 1 ≡ recordsIn m κ (recordsOf keys bits n)
       leaf-records one =
           let p = shownBy m keys bits n in

@@ -2,7 +2,7 @@
 -- the part that holds it. Rests on Accepted, Among, Lookup and PartLength.
 use Prim.Native.Nat.{ℕ, _+_, _-_, _^_, _≤_, _<_}
 use mathlib.Core.Path.{_≡_, refl, sym, _∙_, ap}
-use mathlib.Core.Bool.{true, false}
+use mathlib.Core.Bool.{true}
 use mathlib.Core.List.{List}
 use native.Mathlib.Omega.{arith}
 use lib.ListN.{length, getD, take}
@@ -10,17 +10,15 @@ use Rattle.keys.specs.Under.{MapBlock}
 use Rattle.definitions.specs.Bits.{bitsOf}
 use Rattle.definitions.specs.List.{keysOf, valuesOf, listOfPicture}
 use Rattle.definitions.specs.Read.{recordsOf, isList}
-use Rattle.definitions.specs.Standing.{placeOf, isListed, partLength}
+use Rattle.definitions.specs.Standing.{placeOf, partLength}
 use Rattle.laws.proofs.ListOf.{list-ascends, list-first, list-some}
 use Rattle.laws.proofs.Records.{records-length, key-at, value-at}
 use Rattle.list.specs.Own.{OwnList, shownBy}
 use Rattle.list.specs.Sorted.{Ascends, Sorted, Near}
-use Rattle.list.specs.Among.{keysUpTo, keysBelow, placeAmong, whichAmong, placeIn}
-use Rattle.list.specs.declared.standing.Which.{Which}
-use Rattle.list.specs.declared.standing.Which.the-variants.{Listed, Inside}
+use Rattle.list.specs.Among.{keysUpTo, keysBelow, placeAmong}
 use Rattle.list.proofs.Accepted.{accepted-as-list, keys-ascend}
 use Rattle.list.proofs.Count.{counted-before}
-use Rattle.list.proofs.Among.{found-some, place-below, keys-of-records, values-of-records, place-among, among-place, which-listed, which-inside}
+use Rattle.list.proofs.Among.{found-some, place-below, keys-of-records, values-of-records, place-among}
 use Rattle.list.proofs.Lookup.{lookup-value}
 use Rattle.list.proofs.PartLength.{part-some, part-end}
 
@@ -81,18 +79,6 @@ module _ {m : ℕ} {keys bits : List ℕ} {n : ℕ} (o : OwnList m keys bits n) 
       let room = own-place κ in
       record { room = room; before = counted-before own-ascends κ (keysUpTo κ (take n keys) - 1) (omega arith) }
 
-  -- what was found among the keys, as it is in the list
-  own-which : (κ : ℕ) → whichAmong κ (keysOf (listOfPicture m (shownBy m keys bits n))) ≡ whichAmong κ (take n keys)
-  own-which κ = ap (whichAmong κ) own-keys
-
-  pub own-listed : (κ place : ℕ) → Listed place ≡ whichAmong κ (take n keys)
-      → (isListed κ (listOfPicture m (shownBy m keys bits n)) ≡ true) × (placeOf κ (listOfPicture m (shownBy m keys bits n)) ≡ place)
-  own-listed κ place e = which-listed κ _ place (own-which κ ∙ sym e)
-
-  pub own-inside : (κ place : ℕ) → Inside place ≡ whichAmong κ (take n keys)
-      → (isListed κ (listOfPicture m (shownBy m keys bits n)) ≡ false) × (placeOf κ (listOfPicture m (shownBy m keys bits n)) ≡ place)
-  own-inside κ place e = which-inside κ _ place (own-which κ ∙ sym e)
-
   -- of a block of the map: the bitstring at its place is its own, and the part that holds it ends with the keys below the end of its interval
   module _ {k r c κ : ℕ} (b : MapBlock m k r c κ) where
     pub own-bits : getD bits (placeAmong κ (take n keys)) 0 ≡ bitsOf (shownBy m keys bits n) k r c
@@ -101,12 +87,6 @@ module _ {m : ℕ} {keys bits : List ℕ} {n : ℕ} (o : OwnList m keys bits n) 
         ∙ ap (λ i. getD (valuesOf (recordsOf keys bits n)) i 0) (sym (place-among keys bits n (o .fits) κ))
         ∙ ap (λ l. getD (valuesOf l) (placeOf κ l) 0) (o .own)
         ∙ lookup-value (shownBy m keys bits n) b
-
-    -- so whichever it is, the bitstring at its place is the block's
-    pub own-found : (x : Which) → x ≡ whichAmong κ (take n keys) → (placeIn x < n) × (getD bits (placeIn x) 0 ≡ bitsOf (shownBy m keys bits n) k r c)
-    own-found x e =
-        let f = ap placeIn e ∙ among-place κ (take n keys) in
-        (rw f (own-place κ), ap (λ i. getD bits i 0) f ∙ own-bits)
 
     pub own-part-some : 1 ≤ partLength m κ (recordsOf keys bits n)
     own-part-some = rw (o .own) (part-some (shownBy m keys bits n) b)

@@ -28,7 +28,7 @@ pub record IsLeaf (m : ℕ) (p : Picture) (leaf : ℕ) : Type 0 where
   pub one : oneFeature p (heightOf m leaf) (rowOf m leaf) (columnOf m leaf) ≡ true
 
 -- the key that stands last before a block that lies in a listed leaf is the leaf's
-in-leaf : {p : Picture} {m k r c κ : ℕ} → MapBlock m k r c κ → (x : InLeaf p m 0 0 rootKey k r c κ) → keyFound κ (listOfPicture m p) ≡ x .at
+pub in-leaf : {p : Picture} {m k r c κ : ℕ} → MapBlock m k r c κ → (x : InLeaf p m 0 0 rootKey k r c κ) → keyFound κ (listOfPicture m p) ≡ x .at
 in-leaf b x =
     around-key (record {
       height = x .height;

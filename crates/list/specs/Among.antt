@@ -1,12 +1,9 @@
 -- Which key stands last at or before another among keys alone, as the searches of the code see it: the twins of upTo and placeOf without the
--- bitstrings, and what a walk asks. Only contracts need them; proofs/Among.antt has the laws that connect them.
+-- bitstrings. Only contracts need them; proofs/Among.antt has the laws that connect them.
 use Prim.Native.Nat.{ℕ, _+_, _-_}
 use mathlib.Core.Bool.{cond}
 use mathlib.Core.List.{List, [], _∷_}
-use lib.ListN.{getD}
-use lib.Dec.{leb, ltb, eqb}
-use Rattle.list.specs.declared.standing.Which.{Which}
-use Rattle.list.specs.declared.standing.Which.the-variants.{Listed, Inside}
+use lib.Dec.{leb, ltb}
 
 -- how many keys are at or before x
 unfoldable pub keysUpTo : ℕ → List ℕ → ℕ
@@ -21,12 +18,3 @@ keysBelow x (κ ∷ keys) = cond (ltb κ x) 1 0 + keysBelow x keys
 -- the place of the last key at or before κ
 unfoldable pub placeAmong : ℕ → List ℕ → ℕ
 placeAmong κ keys = keysUpTo κ keys - 1
-
--- which it is, listed or inside a leaf, and the place
-unfoldable pub whichAmong : ℕ → List ℕ → Which
-whichAmong κ keys =
-    cond (eqb (getD keys (placeAmong κ keys) 0) κ) (Listed (placeAmong κ keys)) (Inside (placeAmong κ keys))
-
-abbrev pub placeIn : Which → ℕ
-placeIn (Listed place) = place
-placeIn (Inside place) = place

@@ -8,7 +8,7 @@ ghost use Rattle.definitions.specs.Read.{recordsOf};
 ghost use Rattle.definitions.specs.Standing.{placeOf, isListed, recordsIn, standingOf};
 ghost use Rattle.list.specs.Sorted.{Ascends, Sorted, Near};
 ghost use Rattle.list.specs.Own.{BlockIn};
-ghost use Rattle.list.specs.Among.{keysUpTo, placeAmong, whichAmong};
+ghost use Rattle.list.specs.Among.{keysUpTo, placeAmong};
 use crate::check;
 use definitions::Standing;
 use keys::Key;
@@ -71,36 +71,23 @@ pub fn place(keys: &[u32], n: usize, x: u32) -> usize
     up_to(keys, n, x) - 1
 }
 
-// The same, looked for from a place on.
+// The same, looked for from a place on. A walk in key order asks most often for the very next key: that is looked at first.
 pub fn place_from(keys: &[u32], n: usize, from: usize, x: u32) -> usize
     requires { ⌜ Sorted (now keys) n x × Near (now keys) n from x ⌝ }
     ensures { λ r. ⌜ r ≡ placeAmong x (take n (now (keys .entry))) ⌝ }
 {
+    let next = from + 1;
+    if next < n {
+        let key = keys[next];
+        if key == x {
+            return next;
+        }
+    }
     up_to_from(keys, n, from, x) - 1
 }
 
-// Which it is, listed or inside a leaf, and the place: all that a walk asks of a block. It is the first half of a standing, and asks the keys alone.
-pub enum Which {
-    Listed(usize),
-    Inside(usize),
-}
-
-// Which it is for a key, looked for from a place on.
-pub fn which_from(keys: &[u32], n: usize, from: usize, key: u32) -> Which
-    requires { ⌜ Sorted (now keys) n key × Near (now keys) n from key ⌝ }
-    ensures { λ r. ⌜ r ≡ whichAmong key (take n (now (keys .entry))) ⌝ }
-{
-    let place = place_from(keys, n, from, key);
-    let found = keys[place];
-    if found == key {
-        Which::Listed(place)
-    } else {
-        Which::Inside(place)
-    }
-}
-
-// How many records a listed block and all below it take, where step is the number of keys of its interval: of a leaf 1 and of a node of four pixels 5,
-// without a search; the last record of a larger node is looked for from its own on.
+// How many records a listed block and all below it take, where step is the number of keys of its interval: of the root all, of a leaf 1 and of a node of
+// four pixels 5, without a search; the last record of another node is looked for from its own on.
 fn records_from(
     m: u32,
     keys: &[u32],
@@ -114,6 +101,9 @@ fn records_from(
         × (isListed key (recordsOf (now keys) (now bits) n) ≡ true) × (place ≡ placeOf key (recordsOf (now keys) (now bits) n)) ⌝ }
     ensures { λ r. ⌜ r ≡ recordsIn m key (recordsOf (now (keys .entry)) (now (bits .entry)) n) ⌝ }
 {
+    if key == Key::ROOT {
+        return n;
+    }
     let own = bits[place];
     if check::has_one_slot(own) {
         return 1;
@@ -138,17 +128,14 @@ pub fn stand_from(
     requires { ⌜ BlockIn m (now keys) (now bits) n key × (step ≡ 5 ^ heightOf m key) × Near (now keys) n from key ⌝ }
     ensures { λ r. ⌜ r ≡ standingOf m key (recordsOf (now (keys .entry)) (now (bits .entry)) n) ⌝ }
 {
-    match which_from(keys, n, from, key) {
-        Which::Listed(place) => {
-            let records = records_from(m, keys, bits, n, place, key, step);
-            Standing::Listed(place, records)
-        }
-        Which::Inside(place) => {
-            let leaf = keys[place];
-            let level = Key { number: leaf }.level(m);
-            Standing::Inside(place, leaf, level)
-        }
+    let place = place_from(keys, n, from, key);
+    let found = keys[place];
+    if found == key {
+        let records = records_from(m, keys, bits, n, place, key, step);
+        return Standing::Listed(place, records);
     }
+    let level = Key { number: found }.level(m);
+    Standing::Inside(place, found, level)
 }
 
 // The same, where neither a place nor the step is known yet.

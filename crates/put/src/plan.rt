@@ -3,10 +3,11 @@ ghost use mathlib.Core.Path.{_≡_};
 ghost use mathlib.Core.Bool.{true};
 ghost use Prim.Native.Nat.{_+_, _-_, _*_, _≤_, _<_, _^_};
 ghost use lib.ListN.{length};
-ghost use Rattle.keys.specs.Key.{validKey};
+ghost use Rattle.keys.specs.Key.{validKey, heightOf};
 ghost use Rattle.definitions.specs.Read.{recordsOf};
+ghost use Rattle.definitions.specs.Standing.{standingOf};
 ghost use Rattle.list.specs.Sorted.{Sorted};
-ghost use Rattle.list.specs.Own.{OwnList};
+ghost use Rattle.list.specs.Own.{OwnList, BlockIn};
 ghost use Rattle.put.specs.Climb.{climb as climbed};
 ghost use Rattle.put.specs.Put.{topFor, planAt};
 use crate::parents;
@@ -58,8 +59,66 @@ fn top_of(m: u32, keys: &[u32], bits: &[u32], n: usize, key: u32, leaf: bool, fi
     low
 }
 
-// The plan for a content of which it is known whether it is one record, and its first bits: where the filled block stands says which records are
-// exchanged, and how far the leaf around it is split.
+// Where the filled block stands: as was told, where it is the block itself. Another one lies around that, and merging fills it: its record comes before all
+// that was looked at, so it is looked for anew.
+fn filled_standing(
+    m: u32,
+    keys: &[u32],
+    bits: &[u32],
+    n: usize,
+    key: u32,
+    standing: Standing,
+    filled: u32,
+    step: u32,
+) -> Standing
+    requires { ⌜ standing ≡ standingOf m key (recordsOf (now keys) (now bits) n) ⌝ }
+    requires { ⌜ BlockIn m (now keys) (now bits) n filled × (step ≡ 5 ^ heightOf m filled) ⌝ }
+    ensures { λ r. ⌜ r ≡ standingOf m filled (recordsOf (now (keys .entry)) (now (bits .entry)) n) ⌝ }
+{
+    if filled == key {
+        return standing;
+    }
+    standing::stand_from(m, keys, bits, n, 0, filled, step)
+}
+
+// The plan for a content of which it is known whether it is one record, and its first bits, where the standing of the block is known too: where the filled
+// block stands says which records are exchanged, and how far the leaf around it is split.
+pub fn plan_by(
+    m: u32,
+    keys: &[u32],
+    bits: &[u32],
+    n: usize,
+    key: u32,
+    leaf: bool,
+    first: u32,
+    standing: Standing,
+) -> Plan
+    requires { ⌜ (m ≤ 10) × (validKey m key ≡ true) ⌝ }
+    requires { ⌜ OwnList m (now keys) (now bits) n ⌝ }
+    requires { ⌜ standing ≡ standingOf m key (recordsOf (now keys) (now bits) n) ⌝ }
+    ensures { λ r. ⌜ r ≡ planAt m (recordsOf (now (keys .entry)) (now (bits .entry)) n) key
+        (topFor m (recordsOf (now (keys .entry)) (now (bits .entry)) n) key leaf first) ⌝ }
+{
+    let top = top_of(m, keys, bits, n, key, leaf, first);
+    let step = power::power_of_five(top);
+    let filled = key / step * step;
+    match filled_standing(m, keys, bits, n, key, standing, filled, step) {
+        Standing::Listed(start, old) => Plan {
+            top,
+            start,
+            old,
+            levels: 0,
+        },
+        Standing::Inside(start, around, level) => Plan {
+            top,
+            start,
+            old: 1,
+            levels: m - level - top,
+        },
+    }
+}
+
+// The same, where the standing is not known yet.
 pub fn plan_of(
     m: u32,
     keys: &[u32],
@@ -74,23 +133,8 @@ pub fn plan_of(
     ensures { λ r. ⌜ r ≡ planAt m (recordsOf (now (keys .entry)) (now (bits .entry)) n) key
         (topFor m (recordsOf (now (keys .entry)) (now (bits .entry)) n) key leaf first) ⌝ }
 {
-    let top = top_of(m, keys, bits, n, key, leaf, first);
-    let step = power::power_of_five(top);
-    let filled = key / step * step;
-    match standing::stand_from(m, keys, bits, n, 0, filled, step) {
-        Standing::Listed(start, old) => Plan {
-            top,
-            start,
-            old,
-            levels: 0,
-        },
-        Standing::Inside(start, around, level) => Plan {
-            top,
-            start,
-            old: 1,
-            levels: m - level - top,
-        },
-    }
+    let standing = standing::stand(m, keys, bits, n, key);
+    plan_by(m, keys, bits, n, key, leaf, first, standing)
 }
 
 // How many records the list has afterwards, for a content of so many records.

@@ -1,25 +1,33 @@
 -- The leaves of a block with given bits, as sifting finds them: a run along a listed block's records up to its last key, and the block itself where it
 -- lies inside such a leaf. Rests on Asked, Until and the laws of lists.
-use Prim.Native.Nat.{ℕ, _+_, _^_}
+use Prim.Native.Nat.{ℕ, _+_, _^_, _≤_, _<_}
 use mathlib.Core.Path.{_≡_, sym, _∙_, ap}
+use mathlib.Core.Bool.{true, false}
 use mathlib.Core.List.{List, [], _∷_, _++_}
 use lib.ListN.{getD, take, drop}
 use lib.Seq.{drop-at}
+use borrow.Author.Tests.{eqb-true}
+use Rattle.keys.specs.Key.{rootKey}
 use Rattle.keys.proofs.Cases.{equal}
+use Rattle.keys.proofs.Valid.{block-valid}
+use Rattle.definitions.specs.Picture.{oneFeature}
 use Rattle.definitions.specs.List.{Record, listOf}
 use Rattle.definitions.specs.Read.{recordsOf}
+use Rattle.definitions.specs.Standing.{placeOf, keyFound, isListed, recordsIn, standingOf}
+use Rattle.definitions.specs.declared.Standing.the-variants.{Listed, Inside}
 use Rattle.definitions.specs.Edit.{contentOf}
+use Rattle.laws.proofs.Features.{one-under}
 use Rattle.laws.proofs.Ascending.{Ascending, none, next, ascending-bounds}
 use Rattle.laws.proofs.ListOf.{list-ascends}
 use Rattle.list.specs.Own.{OwnList, shownBy}
-use Rattle.list.specs.Among.{placeAmong, whichAmong, placeIn}
-use Rattle.list.specs.declared.standing.Which.{Which}
-use Rattle.list.specs.declared.standing.Which.the-variants.{Listed as ListedAt, Inside as InsideAt}
-use Rattle.list.proofs.Among.{among-place}
+use Rattle.list.specs.Among.{placeAmong}
+use Rattle.list.proofs.Among.{place-among}
+use Rattle.list.proofs.Lookup.{AtPlace, lookup-listed, lookup-inside}
+use Rattle.list.proofs.Fuller.{listed-numbers, inside-numbers, key-there}
 use Rattle.walk.specs.declared.Spot.{Spot}
 use Rattle.walk.specs.Walk.{BlockSpot}
 use Rattle.walk.specs.Given.{keysWith}
-use Rattle.walk.proofs.Asked.{asked-list, asked-from, asked-one}
+use Rattle.walk.proofs.Asked.{asked-place}
 use Rattle.walk.proofs.Content.{with-none, with-give, with-pass, content-list, one-key, one-nothing}
 use Rattle.sift.specs.Sift.{keysUntil}
 use Rattle.sift.proofs.Until.{until-none, until-stop, until-give, until-pass}
@@ -41,42 +49,65 @@ module _
     {m : ℕ}
     {keys bits : List ℕ}
     {n : ℕ}
+    (low : m ≤ 10)
     (o : OwnList m keys bits n)
     {s : Spot}
     (h : BlockSpot m s)
     (bit : ℕ)
-    (which : Which)
     (place : ℕ)
-    (is : which ≡ whichAmong (s .key) (take n keys))
   where
-    -- the records from a listed block's place on are its own, and then those past its keys
-    from-place : (e : which ≡ ListedAt place)
-        → drop place (recordsOf keys bits n)
-        ≡ listOf (shownBy m keys bits n) (h .height) (s .row) (s .column) (s .key) ++ asked-list o (h .block) which place is e .placed .after
-    from-place e =
-        let a = asked-list o (h .block) which place is e in
-        ap (drop place) (o .own ∙ a .placed .splits)
-        ∙ drop-at (a .placed .before) _ place (sym (asked-from o (h .block) which place is e ∙ a .place))
+    -- a listed block, by its standing
+    module _ (records : ℕ) (is : standingOf m (s .key) (recordsOf keys bits n) ≡ Listed place records) where
+      numbers : (isListed (s .key) (recordsOf keys bits n) ≡ true)
+          × (place ≡ placeOf (s .key) (recordsOf keys bits n))
+          × (records ≡ recordsIn m (s .key) (recordsOf keys bits n))
+      numbers = listed-numbers m (s .key) (recordsOf keys bits n) place records is
 
-    -- of a listed block the run along its records gives the leaves
-    pub listed-keys : (end : ℕ) → end ≡ s .key + s .step → which ≡ ListedAt place
-        → keysUntil end bit (drop place (recordsOf keys bits n)) ≡ keysWith bit (contentOf m (shownBy m keys bits n) (s .key))
-    listed-keys end f e =
-        let p = shownBy m keys bits n in
-        let a = asked-list o (h .block) which place is e in
-        let g : end ≡ s .key + 5 ^ h .height = f ∙ ap (λ x. s .key + x) (h .step) in
-        ap (keysUntil end bit) (from-place e)
-        ∙ ap (λ x. keysUntil x bit (listOf p (h .height) (s .row) (s .column) (s .key) ++ a .placed .after)) g
-        ∙ until-with (s .key + 5 ^ h .height) bit _ _ (list-ascends p (h .height) (s .row) (s .column) (s .key)) (a .placed .keys-after)
-        ∙ ap (keysWith bit) (sym (content-list p h))
+      at-place : AtPlace (shownBy m keys bits n) m 0 0 rootKey (h .height) (s .row) (s .column) (s .key) (s .key)
+      at-place = lookup-listed (shownBy m keys bits n) (h .block) (ap (isListed (s .key)) (sym (o .own)) ∙ numbers .0)
 
-    leaf-at : which ≡ InsideAt place → place ≡ placeAmong (s .key) (take n keys)
-    leaf-at e = ap placeIn (sym e ∙ is) ∙ among-place (s .key) (take n keys)
+      -- its key is there
+      pub listed-key : getD keys place 0 ≡ s .key
+      unfolding isListed
+      listed-key =
+          key-there (record { deepest = low; own = o; valid = block-valid (h .block) .valid }) place (numbers .1) ∙ eqb-true (keyFound (s .key) (recordsOf keys bits n)) (s .key) (numbers .0)
 
-    -- a block inside a leaf with the bits is given itself
-    pub leaf-key : which ≡ InsideAt place → getD bits place 0 ≡ bit → keysWith bit (contentOf m (shownBy m keys bits n) (s .key)) ≡ s .key ∷ []
-    leaf-key e same = one-key o h bit place (leaf-at e) (asked-one o (h .block) which place is e) same
+      -- the records from its place on are its own, and then those past its keys
+      from-place : drop place (recordsOf keys bits n) ≡ listOf (shownBy m keys bits n) (h .height) (s .row) (s .column) (s .key) ++ at-place .placed .after
+      from-place =
+          ap (drop place) (o .own ∙ at-place .placed .splits)
+          ∙ drop-at (at-place .placed .before) _ place (sym (numbers .1 ∙ ap (placeOf (s .key)) (o .own) ∙ at-place .place))
 
-    -- and one inside another leaf gives nothing
-    pub leaf-nothing : which ≡ InsideAt place → (getD bits place 0 ≡ bit → ⊥) → keysWith bit (contentOf m (shownBy m keys bits n) (s .key)) ≡ []
-    leaf-nothing e other = one-nothing o h bit place (leaf-at e) (asked-one o (h .block) which place is e) other
+      -- so the run along its records gives the leaves
+      pub listed-keys : (end : ℕ) → end ≡ s .key + s .step
+          → keysUntil end bit (drop place (recordsOf keys bits n)) ≡ keysWith bit (contentOf m (shownBy m keys bits n) (s .key))
+      listed-keys end f =
+          let p = shownBy m keys bits n in
+          let g : end ≡ s .key + 5 ^ h .height = f ∙ ap (λ x. s .key + x) (h .step) in
+          ap (keysUntil end bit) from-place
+          ∙ ap (λ x. keysUntil x bit (listOf p (h .height) (s .row) (s .column) (s .key) ++ at-place .placed .after)) g
+          ∙ until-with (s .key + 5 ^ h .height) bit _ _ (list-ascends p (h .height) (s .row) (s .column) (s .key)) (at-place .placed .keys-after)
+          ∙ ap (keysWith bit) (sym (content-list p h))
+
+    -- a block inside a leaf
+    module _ (leaf level : ℕ) (is : standingOf m (s .key) (recordsOf keys bits n) ≡ Inside place leaf level) where
+      inside : (isListed (s .key) (recordsOf keys bits n) ≡ false) × (place ≡ placeAmong (s .key) (take n keys))
+      inside =
+          let f = inside-numbers m (s .key) (recordsOf keys bits n) place leaf level is in
+          (f .0, f .1 ∙ place-among keys bits n (o .fits) (s .key))
+
+      one : oneFeature (shownBy m keys bits n) (h .height) (s .row) (s .column) ≡ true
+      one =
+          let i = lookup-inside (shownBy m keys bits n) (h .block) (ap (isListed (s .key)) (sym (o .own)) ∙ inside .0) in
+          one-under (shownBy m keys bits n) (i .holds) (i .one)
+
+      pub leaf-there : place < n
+      leaf-there = asked-place o (h .block) place (inside .1) .room
+
+      -- with the bits is given itself
+      pub leaf-key : getD bits place 0 ≡ bit → keysWith bit (contentOf m (shownBy m keys bits n) (s .key)) ≡ s .key ∷ []
+      leaf-key same = one-key o h bit place (inside .1) one same
+
+      -- and one inside another leaf gives nothing
+      pub leaf-nothing : (getD bits place 0 ≡ bit → ⊥) → keysWith bit (contentOf m (shownBy m keys bits n) (s .key)) ≡ []
+      leaf-nothing other = one-nothing o h bit place (inside .1) one other

@@ -11,7 +11,7 @@ use Rattle.definitions.specs.declared.Window.{Window}
 use Rattle.list.specs.Sorted.{Near}
 use Rattle.walk.specs.declared.Spot.{Spot}
 use Rattle.walk.specs.Walk.{Walking, isWithin, firstQuadrant}
-use Rattle.walk.proofs.Lower.{lower}
+use Rattle.walk.specs.Given.{lower}
 use Rattle.walk.proofs.Steps.{Parent, first-stands, parting-first}
 use Rattle.walk.proofs.Asked.{near-later}
 use Rattle.walk.proofs.Below.{lower-enter}

@@ -22,10 +22,10 @@ ghost use Rattle.sift.specs.Sift.{SiftReady, RunReady, Sifted};
 pub mod waivers;
 
 use definitions::Rule;
+use definitions::Standing;
 use definitions::Window;
 use keys::power;
 use list::standing;
-use list::standing::Which;
 use walk::NextBlock;
 use walk::Spot;
 
@@ -146,12 +146,13 @@ fn sift_block(
     let bit = job.bit;
     let key = block.key;
     let step = block.step;
-    let which = standing::which_from(keys, n, from, key);
-    let Which::Listed(place) = which else {
-        let Which::Inside(leaf) = which else {
+    let standing = standing::stand_from(job.m, keys, bits, n, from, key, step);
+    let Standing::Listed(place, records) = standing else {
+        let Standing::Inside(around, leaf, level) = standing else {
+            // A standing is one of the two: never reached.
             return at;
         };
-        if bits[leaf] == bit {
+        if bits[around] == bit {
             return sift(job, key, waived, found_ids, found_keys, at);
         }
         return at;

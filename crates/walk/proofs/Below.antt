@@ -22,11 +22,11 @@ use Rattle.laws.proofs.SelectMeans.{given-inside, given-feature, given-of, Sele
 use Rattle.laws.proofs.SelectAscends.{select-in-ascends}
 use Rattle.walk.specs.declared.Spot.{Spot}
 use Rattle.walk.specs.Walk.{BlockSpot, isWithin, isApart, Walking}
-use Rattle.walk.specs.Given.{keysWith}
+use Rattle.walk.specs.Given.{keysWith, lower}
 use Rattle.walk.proofs.Lies.{InSpot, apart-pixel}
 use Rattle.walk.proofs.Steps.{Parent, nothing-between}
 use Rattle.walk.proofs.SpotBits.{bitsAt, no-slot-pixel}
-use Rattle.walk.proofs.Lower.{lower, lower-all, lower-none, lower-gap, lower-length, ascending-length}
+use Rattle.walk.proofs.Lower.{lower-all, lower-none, lower-gap, lower-length, ascending-length}
 use Rattle.walk.proofs.Largest.{blank, AllInside, within-all, all-within, not-broken}
 use Rattle.walk.proofs.Skip.{Alone, select-skip}
 use Rattle.walk.proofs.LeafKeys.{leaves-selected}
@@ -66,28 +66,28 @@ module _ (m : ℕ) (p : Picture) (w : Window) (f : ℕ) where
       let i = inside {row = t .row} {column = t .column} (t .under) (omega arith) in
       go (given-inside p w f (t .height) (t .row) (t .column) {row = t .row} {column = t .column} (t .given) (omega arith)) (i .from) (i .until)
 
-  -- a block without a pixel of the window that has the feature adds nothing
-  lower-barren : {s : Spot} (h : BlockSpot m s)
+  -- a block without a pixel of the window that has the feature adds nothing, from any of its keys on
+  lower-barren : {s : Spot} (h : BlockSpot m s) (x : ℕ) → (s .key ≤ x) × (x ≤ s .key + s .step)
       → ((row column : ℕ) → InSpot s row column → inWindow w row column ≡ true → p row column ≡ f → ⊥)
-      → lower (s .key) (selectIn m p w f) ≡ lower (s .key + s .step) (selectIn m p w f)
-  lower-barren {s} h barren =
-      lower-gap (s .key) (s .key + s .step) (selectIn m p w f) (omega arith)
+      → lower x (selectIn m p w f) ≡ lower (s .key + s .step) (selectIn m p w f)
+  lower-barren {s} h x inside barren =
+      lower-gap x (s .key + s .step) (selectIn m p w f) (inside .1)
       (λ z i from before.
       let t = select-in-exactly p w f m .0 i in
       let some = two-pos (t .height) in
-      let v = within (nest (h .block) (t .under) from (omega (arith, h .step))) in
+      let v = within (nest (h .block) (t .under) (omega (arith, inside .0)) (omega (arith, h .step))) in
       barren (t .row) (t .column) (omega (arith, h .side))
       (given-inside p w f (t .height) (t .row) (t .column) {row = t .row} {column = t .column} (t .given) (omega arith))
       (given-feature p w f (t .height) (t .row) (t .column) {row = t .row} {column = t .column} (t .given) (omega arith)))
 
   -- so does one apart from the window
   pub lower-apart : {s : Spot} → BlockSpot m s → isApart s w ≡ true → lower (s .key) (selectIn m p w f) ≡ lower (s .key + s .step) (selectIn m p w f)
-  lower-apart {s} h e = lower-barren h (λ row column i j has. apart-pixel s w row column e i j)
+  lower-apart {s} h e = lower-barren h (s .key) (omega arith, omega arith) (λ row column i j has. apart-pixel s w row column e i j)
 
   -- and one whose bits lack the feature
-  pub lower-lacking : {s : Spot} (h : BlockSpot m s) → hasSlot (bitsAt p h) f ≡ false
-      → lower (s .key) (selectIn m p w f) ≡ lower (s .key + s .step) (selectIn m p w f)
-  lower-lacking h none = lower-barren h (λ row column i j has. no-slot-pixel p f h row column none i has)
+  pub lower-lacking : {s : Spot} (h : BlockSpot m s) (x : ℕ) → (s .key ≤ x) × (x ≤ s .key + s .step) → hasSlot (bitsAt p h) f ≡ false
+      → lower x (selectIn m p w f) ≡ lower (s .key + s .step) (selectIn m p w f)
+  lower-lacking h x inside none = lower-barren h x inside (λ row column i j has. no-slot-pixel p f h row column none i has)
 
   -- and so does the way to the first quadrant of a block that the window cuts
   pub lower-enter : {s : Spot} (h : BlockSpot m s) → Parent m s → isWithin s w ≡ false

@@ -1,5 +1,5 @@
--- Where a walk stands that asks the list: at a block, from a key on, with a place from which the next search can begin. Keys only rise, so the place that
--- one search ends at serves for the next. Rests on Steps and Asked.
+-- Where a walk stands that asks the list: at a block, from a key on, with a place from which the next search can begin. Keys only rise, so the place of a
+-- block that is entered serves for its first quadrant, and the last record of one that is passed for what follows. Rests on Steps, Asked and Told.
 use Prim.Native.Nat.{ℕ, _+_, _-_, _^_, _≤_, _<_}
 use mathlib.Core.Path.{_≡_}
 use mathlib.Core.List.{List}
@@ -7,10 +7,13 @@ use native.Mathlib.Omega.{arith}
 use Rattle.list.specs.Own.{OwnList}
 use Rattle.list.specs.Sorted.{Near}
 use Rattle.walk.specs.declared.Spot.{Spot}
+use Rattle.walk.specs.declared.asking.Told.{Told}
 use Rattle.walk.specs.Walk.{BlockSpot, firstQuadrant}
+use Rattle.walk.specs.Asked.{Tells}
 use Rattle.walk.proofs.Steps.{Parent, some-keys, first-stands, rises}
 use Rattle.list.proofs.Fuller.{near-root}
 use Rattle.walk.proofs.Asked.{near-later}
+use Rattle.walk.proofs.Told.{told-holds, told-beyond}
 
 pub record Going (m : ℕ) (keys : List ℕ) (n from x : ℕ) (s : Spot) : Type 0 where
   pub stands : BlockSpot m s
@@ -26,12 +29,36 @@ pub going-first : {m : ℕ} {keys : List ℕ} {n from x : ℕ} {s : Spot} → Go
     → Going m keys n place x (firstQuadrant s)
 going-first g q place near = record { stands = first-stands q; rise = omega (arith, g .rise); near = near-later near _ (omega arith) }
 
+-- a block is passed, with all below it: from where the search goes on
+pub record Past (m : ℕ) (keys : List ℕ) (n from x : ℕ) (s : Spot) : Type 0 where
+  pub stands : BlockSpot m s
+  pub beyond : x < s .key + s .step
+  pub near : Near keys n from (s .key + s .step)
+
+-- one that was not asked for
+pub past-unasked : {m : ℕ} {keys : List ℕ} {n from x : ℕ} {s : Spot} → Going m keys n from x s → Past m keys n from x s
+past-unasked {s = s} g =
+    let k = some-keys (g .stands) in
+    record { stands = g .stands; beyond = omega (arith, g .rise); near = near-later (g .near) _ (omega arith) }
+
+-- or the whole block that was told
+pub past-told : {m : ℕ} {keys bits : List ℕ} {n from x : ℕ} {s : Spot} {told : Told} → m ≤ 10 → OwnList m keys bits n → Going m keys n from x s
+    → Tells m keys bits n s told
+    → Past m keys n (told .last) x (told .whole)
+past-told low o g t =
+    let k = some-keys (g .stands) in
+    record {
+      stands = t .whole;
+      beyond = omega (arith, g .rise, told-holds low o (g .stands) t);
+      near = told-beyond low o (g .stands) t;
+    }
+
 -- on to the block that follows
-pub going-on : {m : ℕ} {keys : List ℕ} {n from : ℕ} (s t : Spot) → Near keys n from (s .key) → BlockSpot m t → t .key ≡ s .key + s .step
+pub going-on : {m : ℕ} {keys : List ℕ} {n from x : ℕ} {s : Spot} → Past m keys n from x s → (t : Spot) → BlockSpot m t → t .key ≡ s .key + s .step
     → Going m keys n from (t .key) t
-going-on s t near h e = record { stands = h; rise = omega arith; near = near-later near _ (omega arith) }
+going-on {keys = keys} {n} {from} p t h e = record { stands = h; rise = omega arith; near = rw e (p .near) }
 
 -- after which fewer keys are left than at the block of the turn
-pub going-less : {m : ℕ} {keys : List ℕ} {n from : ℕ} {s₀ s : Spot} → BlockSpot m s₀ → Going m keys n from (s₀ .key) s → (x : ℕ) → x ≡ s .key + s .step
+pub going-less : {m : ℕ} {keys : List ℕ} {n from : ℕ} {s₀ s : Spot} → BlockSpot m s₀ → Past m keys n from (s₀ .key) s → (x : ℕ) → x ≡ s .key + s .step
     → 5 ^ m - x < 5 ^ m - s₀ .key
-going-less h g x e = let k = some-keys (g .stands) in rises h x (omega (arith, g .rise))
+going-less h p x e = rises h x (omega (arith, p .beyond))

@@ -5,6 +5,7 @@ pub mod Steps
 -- what the list says where the walk stands
 pub mod SpotBits
 pub mod Asked
+pub mod Told
 pub mod Going
 pub mod Slot
 pub mod Shows

@@ -2,18 +2,13 @@
 -- them. Rests on keys' Cases and laws' AscendingKeys.
 use Prim.Native.Nat.{ℕ, _+_, _≤_, _<_}
 use mathlib.Core.Path.{_≡_, refl, sym, _∙_, ap, ap₂}
-use mathlib.Core.Bool.{cond}
 use mathlib.Core.List.{List, [], _∷_, _++_, List·Memᴰ, List·Memᴰ·head, List·Memᴰ·tail, append-assoc, append-nil}
 use native.Mathlib.Omega.{arith}
 use lib.ListN.{length}
-use lib.Dec.{ltb}
 use borrow.Author.Tests.{lt-ltb, le-ltb}
 use Rattle.keys.proofs.Cases.{split}
+use Rattle.walk.specs.Given.{lower}
 use Rattle.laws.proofs.AscendingKeys.{AscendingKeys, no-key, key, ascending-bounds}
-
-unfoldable pub lower : ℕ → List ℕ → List ℕ
-lower x [] = []
-lower x (y ∷ l) = cond (ltb y x) (y ∷ lower x l) (lower x l)
 
 lower-nil : (x : ℕ) → lower x [] ≡ []
 unfolding lower

@@ -16,7 +16,8 @@ use Rattle.definitions.specs.declared.Window.{Window}
 use Rattle.laws.proofs.AscendingKeys.{AscendingKeys, ascending-append, ascending-widen}
 use Rattle.laws.proofs.SelectMeans.{select-quadrants}
 use Rattle.laws.proofs.SelectAscends.{select-ascends}
-use Rattle.walk.proofs.Lower.{lower, lower-all, lower-none, lower-first, lower-later}
+use Rattle.walk.specs.Given.{lower}
+use Rattle.walk.proofs.Lower.{lower-all, lower-none, lower-first, lower-later}
 
 module _ (p : Picture) (w : Window) (f : ℕ) where
   -- no block from the first down to the second, the second set aside, is given

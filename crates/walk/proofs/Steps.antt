@@ -67,6 +67,18 @@ parting-after {s} h t i e lo hi =
     (λ past. omega (arith, h .stands .step))
     (λ past. omega (arith, i .step, some-keys (h .stands)))
 
+-- or after a block around it
+pub parting-whole : {m : ℕ} {w : Window} {s v : Spot} → Walking m w s → BlockSpot m v → v .key ≤ s .key → s .key + s .step ≤ v .key + v .step → Parting m w (v .key + v .step)
+parting-whole {s = s} {v = v} h j from until t i e lo hi =
+    apart (j .block) (i .block)
+    (λ u. let x = within u in omega (arith, j .step, i .step))
+    (λ u. let x = within u in
+    split (t .key) (s .key)
+    (λ before. h .parting t i e before (omega (arith, some-keys (h .stands))))
+    (λ after. let same = one-side {s = s} {t = t} (h .stands) i (omega arith) in omega (arith, some-keys (h .stands))))
+    (λ past. omega (arith, j .step))
+    (λ past. omega (arith, i .step, some-keys (h .stands)))
+
 -- a block with its quadrants
 pub record Parent (m : ℕ) (s : Spot) : Type 0 where
   pub height : ℕ
@@ -145,3 +157,7 @@ walking-root m w s h e = record { stands = h; parting = λ t i f before after. o
 -- and goes on after each block
 pub walking-after : {m : ℕ} {w : Window} {s : Spot} → Walking m w s → (t : Spot) → BlockSpot m t → t .key ≡ s .key + s .step → Walking m w t
 walking-after {m} {w} h t i e = record { stands = i; parting = subst (λ (y : ℕ). Parting m w y) (sym e) (parting-after h) }
+
+pub walking-whole : {m : ℕ} {w : Window} {s v : Spot} → Walking m w s → BlockSpot m v → (v .key ≤ s .key) × (s .key + s .step ≤ v .key + v .step)
+    → (t : Spot) → BlockSpot m t → t .key ≡ v .key + v .step → Walking m w t
+walking-whole {m} {w} h j holds t i e = record { stands = i; parting = subst (λ (y : ℕ). Parting m w y) (sym e) (parting-whole h j (holds .0) (holds .1)) }

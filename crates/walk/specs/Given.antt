@@ -20,3 +20,8 @@ writtenAt limit answer place key = cond (ltb place limit) (set answer place key)
 unfoldable pub written : ℕ → List ℕ → ℕ → List ℕ → List ℕ
 written limit answer place [] = answer
 written limit answer place (key ∷ keys) = written limit (writtenAt limit answer place key) (suc place) keys
+
+-- the keys of a list that are below a bound
+unfoldable pub lower : ℕ → List ℕ → List ℕ
+lower x [] = []
+lower x (y ∷ l) = cond (ltb y x) (y ∷ lower x l) (lower x l)

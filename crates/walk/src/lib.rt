@@ -5,6 +5,7 @@ ghost use Prim.Native.Nat.{_+_, _≤_};
 ghost use Rattle.keys.specs.Key.{rootKey};
 ghost use Rattle.walk.specs.Walk.{BlockSpot, Small, isWithin, isApart, firstQuadrant, Follows};
 
+pub mod asking;
 pub mod bounds;
 
 use definitions::Window;

@@ -9,3 +9,4 @@ pub mod Taken
 pub mod Tables
 pub mod Answers
 pub mod WindowLaws
+pub mod LeafBlocks

@@ -1,7 +1,7 @@
 -- Exist on the walk: no pixel of the window with the feature lies before the key where the walk stands. A block that does not show the feature keeps
 -- this past its end. One that shows it within the window settles the answer, and so does one of this feature alone that meets the window. Rests on Steps
 -- and the meaning of exist.
-use Prim.Native.Nat.{ℕ, _+_, _^_, _<_}
+use Prim.Native.Nat.{ℕ, _+_, _^_, _≤_, _<_}
 use mathlib.Core.Path.{_≡_}
 use mathlib.Core.Bool.{true, false}
 use native.Mathlib.Omega.{arith}
@@ -31,6 +31,9 @@ module _ (m : ℕ) (p : Picture) (w : Window) (f : ℕ) where
 
   pub unseen-clear : (x y : ℕ) → Unseen x → Clear m w x y → Unseen y
   unseen-clear x y u c row column i has before = split (pixelKey m row column) x (u row column i has) (λ past. c row column i past before)
+
+  pub unseen-lower : (x y : ℕ) → y ≤ x → Unseen x → Unseen y
+  unseen-lower x y h u row column i has before = u row column i has (omega arith)
 
   -- past a block that does not show the feature
   pub unseen-block : {s : Spot} → isWindow m w ≡ true → (h : BlockSpot m s) → hasSlot (bitsAt p h) f ≡ false → Unseen (s .key) → Unseen (s .key + s .step)

@@ -11,10 +11,9 @@ use Rattle.definitions.specs.declared.Window.{Window}
 use Rattle.definitions.specs.Edit.{contentOf}
 use Rattle.walk.specs.declared.Spot.{Spot}
 use Rattle.walk.specs.Walk.{Walking, isWithin}
-use Rattle.walk.specs.Given.{keysWith, written}
-use Rattle.window.specs.Gather.{Gave}
+use Rattle.walk.specs.Given.{keysWith, written, lower}
+use Rattle.window.specs.Gather.{Gave, GaveFrom}
 use Rattle.walk.proofs.Written.{written-none, written-append, length-written}
-use Rattle.walk.proofs.Lower.{lower}
 use Rattle.walk.proofs.Below.{lower-block, below-none, below-all, below-few}
 
 module _ (m : ℕ) (p : Picture) (w : Window) (f : ℕ) where
@@ -53,19 +52,24 @@ module _ (m : ℕ) (p : Picture) (w : Window) (f : ℕ) where
     pub taken-pass : (y : ℕ) → lower x (selectIn m p w f) ≡ lower y (selectIn m p w f) → Taken limit answer₀ answer count y
     taken-pass y e = record { counted = t .counted ∙ ap length e; wrote = t .wrote ∙ ap (written limit answer₀ 0) e }
 
+  -- what was given adds itself
+  pub taken-more : {limit : ℕ} {answer₀ answer : List ℕ} {count x y : ℕ} → Taken limit answer₀ answer count x → (answer₁ : List ℕ) (r : ℕ)
+      → GaveFrom m p w f x y limit count answer answer₁ r
+      → Taken limit answer₀ answer₁ r y
+  taken-more {limit} {answer₀} {x = x} t answer₁ r g =
+      let l = lower x (selectIn m p w f) in
+      record {
+        counted = let n = ap length (g .adds) in let a = length-append l (g .more) in omega (arith, t .counted, g .gave .counted);
+        wrote = g .gave .wrote
+            ∙ ap₂ (λ a i. written limit a i (g .more)) (t .wrote) (t .counted ∙ omega arith)
+            ∙ sym (written-append limit answer₀ 0 l (g .more))
+            ∙ ap (written limit answer₀ 0) (sym (g .adds));
+      }
+
   -- a largest block adds what it gives
   pub taken-block : {limit : ℕ} {answer₀ answer : List ℕ} {count : ℕ} {s : Spot} → Walking m w s → isWithin s w ≡ true
       → Taken limit answer₀ answer count (s .key) → (answer₁ : List ℕ) (r : ℕ)
       → Gave (keysWith (2 ^ f) (contentOf m p (s .key))) limit count answer answer₁ r
       → Taken limit answer₀ answer₁ r (s .key + s .step)
-  taken-block {limit} {answer₀} {s = s} h e t answer₁ r gave =
-      let l = lower (s .key) (selectIn m p w f) in
-      let more = keysWith (2 ^ f) (contentOf m p (s .key)) in
-      let adds = lower-block m p w f h e in
-      record {
-        counted = let n = ap length adds in let a = length-append l more in omega (arith, t .counted, gave .counted);
-        wrote = gave .wrote
-            ∙ ap₂ (λ a i. written limit a i more) (t .wrote) (t .counted ∙ omega arith)
-            ∙ sym (written-append limit answer₀ 0 l more)
-            ∙ ap (written limit answer₀ 0) (sym adds);
-      }
+  taken-block {s = s} h e t answer₁ r gave =
+      taken-more t answer₁ r (record { more = keysWith (2 ^ f) (contentOf m p (s .key)); adds = lower-block m p w f h e; gave = gave })

@@ -4,14 +4,31 @@ ghost use mathlib.Core.Bool.{true};
 ghost use Prim.Native.Nat.{_≤_};
 ghost use Rattle.definitions.specs.Window.{isWindow, reportIn};
 ghost use Rattle.list.specs.Own.{OwnList, shownBy};
+ghost use Rattle.walk.specs.Walk.{Small};
+ghost use Rattle.window.specs.Settled.{settles};
 use definitions::Window;
 use list::check;
-use list::standing;
 use walk::NextBlock;
+use walk::Spot;
+use walk::asking;
 
-// The bitstring of all features in the window. A block's bits are those of the last record at or before its key, whether that is its own or the
-// leaf's around it. They settle the block where none is new, or it has one feature, or it lies within the window; only a cut node that may add a feature
-// is entered. Keys rise, so each search begins where the last one ended.
+// A block's bits settle it: none is new, or it has one feature, or all of it lies within the window.
+fn is_settled(union: u32, found: u32, spot: Spot, window: Window) -> bool
+    requires { ⌜ Small spot window ⌝ }
+    ensures { λ r. ⌜ r ≡ settles union found spot window ⌝ }
+{
+    if union | found == union {
+        return true;
+    }
+    if check::has_one_slot(found) {
+        return true;
+    }
+    walk::within(spot, window)
+}
+
+// The bitstring of all features in the window. A block's bits are those of the record where it stands, its own or the leaf's around it. They settle the
+// block, or the whole leaf, where none is new, or it has one feature, or it lies within the window; only a cut node that may add a feature is entered.
+// Keys rise, so each search begins at the record of the block that was entered, or at the last one of what was passed.
 pub fn report_in(m: u32, keys: &[u32], bits: &[u32], n: usize, window: Window) -> u32
     requires { ⌜ (m ≤ 10) × (isWindow m window ≡ true) × OwnList m (now keys) (now bits) n ⌝ }
     ensures { λ r. ⌜ r ≡ reportIn (shownBy m (now (keys .entry)) (now (bits .entry)) n) window ⌝ }
@@ -24,20 +41,16 @@ pub fn report_in(m: u32, keys: &[u32], bits: &[u32], n: usize, window: Window) -
             if walk::apart(spot, window) {
                 break;
             }
-            let key = spot.key;
-            from = standing::place_from(keys, n, from, key);
-            let found = bits[from];
-            if union | found == union {
-                break;
-            }
-            if check::has_one_slot(found) {
+            let told = asking::ask(m, keys, bits, n, from, spot);
+            let place = told.place;
+            let found = bits[place];
+            if is_settled(union, found, spot, window) {
                 union = union | found;
+                spot = told.whole;
+                from = told.last;
                 break;
             }
-            if walk::within(spot, window) {
-                union = union | found;
-                break;
-            }
+            from = place;
             spot = walk::first(spot);
         }
         let NextBlock::At(next) = walk::after(m, spot) else {

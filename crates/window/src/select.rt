@@ -2,23 +2,19 @@
 ghost use mathlib.Core.Path.{_≡_};
 ghost use mathlib.Core.Bool.{true};
 ghost use Prim.Native.Nat.{_≤_, _<_};
-ghost use lib.ListN.{length, take, drop};
+ghost use lib.ListN.{length, drop};
 ghost use Rattle.keys.specs.Key.{slotLimit};
-ghost use Rattle.definitions.specs.Edit.{contentOf};
 ghost use Rattle.definitions.specs.Read.{recordsOf};
 ghost use Rattle.definitions.specs.Window.{isWindow, selectIn};
 ghost use Rattle.list.specs.Own.{OwnList, shownBy};
-ghost use Rattle.list.specs.Check.{oneSlot};
-ghost use Rattle.list.specs.Among.{placeAmong};
-ghost use Rattle.walk.specs.Walk.{BlockSpot};
+ghost use Rattle.walk.specs.Walk.{Walking, isWithin};
 ghost use Rattle.walk.specs.Given.{keysWith};
-ghost use Rattle.window.specs.Gather.{Gave};
-use definitions::Standing;
+ghost use Rattle.window.specs.Gather.{Gave, InLeaf, GaveLeaf, Onward};
 use definitions::Window;
 use keys::power;
-use list::standing;
 use walk::NextBlock;
 use walk::Spot;
+use walk::asking;
 
 // Gives the keys of the records from one place up to another that have exactly the bit.
 fn gather_run(
@@ -47,50 +43,60 @@ fn gather_run(
     given
 }
 
-// Gives the leaves of a block that have exactly the feature's bit, where the last record at or before its key is known: the block itself where that
-// record has the bit alone, whether it is the block's own or that of the leaf around it; else those of its records, if it is listed.
-fn gather_block(
+// The block that follows on a walk that asks no list: the first quadrant of one that the window cuts, or what comes after one that it holds or that lies
+// apart from it.
+fn onward(m: u32, window: Window, spot: Spot, held: bool) -> NextBlock
+    requires { ⌜ (m ≤ 10) × (isWindow m window ≡ true) × Walking m window spot × (held ≡ isWithin spot window) ⌝ }
+    ensures { λ r. ⌜ Onward m window spot r ⌝ }
+{
+    if held {
+        return walk::after(m, spot);
+    }
+    if walk::apart(spot, window) {
+        return walk::after(m, spot);
+    }
+    let quadrant = walk::first(spot);
+    NextBlock::At(quadrant)
+}
+
+// Gives the largest blocks of the window in a leaf of the feature, from a block of it on: the standing told the leaf, so the list is not asked again.
+fn gather_leaf(
     m: u32,
-    keys: &[u32],
-    bits: &[u32],
-    n: usize,
-    from: usize,
-    block: Spot,
-    bit: u32,
+    window: Window,
+    leaf: Spot,
+    first: Spot,
     answer: &mut [u32],
     limit: usize,
     count: usize,
 ) -> usize
-    requires { ⌜ (m ≤ 10) × BlockSpot m block × OwnList m (now keys) (now bits) n × (from ≡ placeAmong (block .key) (take n (now keys)))
-        × (oneSlot bit ≡ true) × (limit ≤ length (now answer)) × (count ≤ 9765625) ⌝ }
-    ensures { λ r. ⌜ Gave (keysWith bit (contentOf m (shownBy m (now (keys .entry)) (now (bits .entry)) n) (block .key)))
-        limit count (now (answer .entry)) (now (answer .exit)) r ⌝ }
+    requires { ⌜ (m ≤ 10) × (isWindow m window ≡ true) × InLeaf m window leaf first × (limit ≤ length (now answer)) × (count ≤ 9765625) ⌝ }
+    ensures { λ r. ⌜ GaveLeaf m window leaf first limit count (now (answer .entry)) (now (answer .exit)) r ⌝ }
 {
-    let key = block.key;
-    if bits[from] == bit {
-        slices::write_within(answer, limit, count, key);
-        return count + 1;
+    let leaf_key = leaf.key;
+    let end = leaf_key + leaf.step;
+    let mut given = count;
+    let mut spot = first;
+    loop {
+        let held = walk::within(spot, window);
+        let key = spot.key;
+        if held {
+            slices::write_within(answer, limit, given, key);
+            given += 1;
+        }
+        let NextBlock::At(next) = onward(m, window, spot, held) else {
+            return given;
+        };
+        if end <= next.key {
+            return given;
+        }
+        spot = next;
     }
-    let step = block.step;
-    let standing = standing::stand_from(m, keys, bits, n, from, key, step);
-    let Standing::Listed(place, records) = standing else {
-        // Inside a leaf of another feature.
-        return count;
-    };
-    gather_run(
-        keys,
-        bits,
-        place,
-        place + records,
-        bit,
-        answer,
-        limit,
-        count,
-    )
 }
 
 // Gives the keys that select gives: counts them all, and writes those whose places are below the limit. A block without the feature is passed, whatever
-// lies below it. A leaf that the window cuts is entered like a node, since what select gives of it are the largest blocks within the window.
+// lies below it, and so is the whole leaf around it. Of a leaf of the feature the largest blocks within the window are given, and of a node within it the
+// leaves among its records; only a cut node is entered. Each search begins at the record of the block that was entered, or at the last one of what was
+// passed.
 pub fn gather(
     m: u32,
     keys: &[u32],
@@ -114,15 +120,29 @@ pub fn gather(
             if walk::apart(spot, window) {
                 break;
             }
-            let key = spot.key;
-            from = standing::place_from(keys, n, from, key);
-            if bits[from] & bit == 0 {
+            let told = asking::ask(m, keys, bits, n, from, spot);
+            let place = told.place;
+            let last = told.last;
+            let whole = told.whole;
+            let found = bits[place];
+            if found & bit == 0 {
+                spot = whole;
+                from = last;
+                break;
+            }
+            if found == bit {
+                count = gather_leaf(m, window, whole, spot, answer, limit, count);
+                spot = whole;
+                from = last;
                 break;
             }
             if walk::within(spot, window) {
-                count = gather_block(m, keys, bits, n, from, spot, bit, answer, limit, count);
+                count = gather_run(keys, bits, place, last + 1, bit, answer, limit, count);
+                spot = whole;
+                from = last;
                 break;
             }
+            from = place;
             spot = walk::first(spot);
         }
         let NextBlock::At(next) = walk::after(m, spot) else {

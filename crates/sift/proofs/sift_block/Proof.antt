@@ -9,12 +9,13 @@ use Rattle.keys.proofs.Cases.{split}
 use Rattle.keys.proofs.Powers.{five-le}
 use Rattle.keys.specs.Under.{MapBlock}
 use Rattle.keys.proofs.Valid.{block-valid}
-use Rattle.list.specs.declared.standing.Which.the-variants.{Inside}
+use Rattle.definitions.specs.Read.{recordsOf}
+use Rattle.definitions.specs.Standing.{standingOf}
+use Rattle.definitions.specs.declared.Standing.the-variants.{Inside}
 use Rattle.list.specs.Own.{OwnList}
-use Rattle.list.proofs.Own.{own-sorted, own-ascends}
+use Rattle.list.proofs.Own.{own-ascends}
 use Rattle.walk.proofs.Steps.{some-keys}
-use Rattle.walk.proofs.Asked.{asked-key, asked-inside}
-use Rattle.sift.proofs.BlockLeaves.{listed-keys, leaf-key, leaf-nothing}
+use Rattle.sift.proofs.BlockLeaves.{listed-key, listed-keys, leaf-there, leaf-key, leaf-nothing}
 use Rattle.sift.specs.declared.Sifting.{Sifting}
 use Rattle.sift.specs.Sift.{SiftReady, RunReady}
 use Rattle.sift.proofs.Settling.{passed-widen}
@@ -44,42 +45,45 @@ run-ready {m} {k = k} {key = key} {recordKeys} {n = n} first end s o b e is =
     }
 
 -- where the block was asked for, from where it is known how it stands
-abbrev asks-leaf : tie.After-known-told3 → tie.After-which-from
+abbrev asks-leaf : tie.After-known-told3 → tie.After-stand-from
 asks-leaf c = c .before .before .before .before .before .before
 
-abbrev asks-listed : tie.After-known-told → tie.After-which-from
+abbrev asks-listed : tie.After-known-told → tie.After-stand-from
 asks-listed c = c .before .before .before
 
-abbrev entry : tie.After-which-from → tie.Start
+abbrev entry : tie.After-stand-from → tie.Start
 entry c = c .before .before .before .before .before .before
 
-stands-inside : (c : tie.After-known-told3) → asks-leaf c .which-from .result ≡ Inside (c .before .which3 .given .0 .0)
-stands-inside c = c .before .before .before .before .which2 .given .1 ∙ c .before .which3 .given .1
+stands-inside : (c : tie.After-known-told3)
+    → (let a = entry (asks-leaf c) .args in let g = c .before .standing3 .given .0 in standingOf (a .job .m) (a .block .key) (recordsOf (a .keys .now) (a .bits .now) (a .job .n)) ≡ Inside (g .0) (g .1 .0) (g .1 .1 .0))
+stands-inside c = sym (asks-leaf c .stand-from .ensures) ∙ c .before .before .before .before .standing2 .given .1 ∙ c .before .standing3 .given .1
 
-leaf-place : (c : tie.After-known-told3) → c .before .which3 .given .0 .0 < length (entry (asks-leaf c) .args .bits .now)
+leaf-place : (c : tie.After-known-told3) → c .before .standing3 .given .0 .0 < length (entry (asks-leaf c) .args .bits .now)
 leaf-place c =
     let pre = entry (asks-leaf c) .pre in
-    let a = asked-inside (pre .2) (pre .1 .block) _ _ (asks-leaf c .which-from .ensures) (stands-inside c) in
-    omega (arith, pre .2 .fits, a .room)
+    omega (arith, pre .2 .fits, leaf-there (pre .0) (pre .2) (pre .1) (entry (asks-leaf c) .args .job .bit) _ _ _ (stands-inside c))
 
-which-from-requires : tie.Need-which-from-requires
-which-from-requires c κs = let pre = c .before .before .before .before .before .pre in (own-sorted (pre .2) _, pre .3)
+stand-from-requires : tie.Need-stand-from-requires
+stand-from-requires c κs =
+    let pre = c .before .before .before .before .before .pre in
+    let is = block-valid (pre .1 .block) in
+    (record { deepest = pre .0; own = pre .2; valid = is .valid }, pre .1 .step ∙ ap (λ k. 5 ^ k) (sym (is .height)), pre .3)
 
-enum-known-which : tie.Need-enum-known-which
-enum-known-which c = search needs
+enum-known-standing : tie.Need-enum-known-standing
+enum-known-standing c = search needs
 
-enum-known-which-2 : tie.Need-enum-known-which-2
-enum-known-which-2 c = search needs
+enum-known-standing-2 : tie.Need-enum-known-standing-2
+enum-known-standing-2 c = search needs
 
-enum-known-which-3 : tie.Need-enum-known-which-3
-enum-known-which-3 c = search needs
+enum-known-standing-3 : tie.Need-enum-known-standing-3
+enum-known-standing-3 c = search needs
 
 enum-told : tie.Need-enum-told
 enum-told c = search needs
 
 returns : tie.Need-returns
 returns c =
-    let inside = c .before .before .before .which2 .given .1 in
+    let inside = c .before .before .before .standing2 .given .1 in
     let listed = c .enum-told .given .1 in
     absurd (let z : _≡_ {A = ℕ} 0 1 = cc in omega arith)
 
@@ -107,7 +111,7 @@ returns-2 c =
     let leaf = sifted .before .before .before .before .before in
     let pre = entry (asks-leaf leaf) .pre in
     sifted-as _ _ _ _ _ _ _ _ _ _ _ _ _ _ (sifted .sift .ensures)
-    (sym (leaf-key (pre .2) (pre .1) _ _ _ (asks-leaf leaf .which-from .ensures) (stands-inside leaf) (sifted .before .before .before .if1 .taken)))
+    (sym (leaf-key (pre .0) (pre .2) (pre .1) _ _ _ _ (stands-inside leaf) (sifted .before .before .before .if1 .taken)))
     (let e = spot-end (pre .1) in omega arith)
 
 returns-3 : tie.Need-returns-3
@@ -115,7 +119,7 @@ returns-3 c =
     let leaf = c .before .before in
     let pre = entry (asks-leaf leaf) .pre in
     sifted-none _ _ _ _ _ _ _ _ _
-    (leaf-nothing (pre .2) (pre .1) _ _ _ (asks-leaf leaf .which-from .ensures) (stands-inside leaf) (c .if1 .left))
+    (leaf-nothing (pre .0) (pre .2) (pre .1) _ _ _ _ (stands-inside leaf) (c .if1 .left))
     (passed-widen _ (pre .5 .passed) (omega arith))
 
 add-sift-run : tie.Need-add-sift-run
@@ -134,7 +138,7 @@ sift-run-requires c κs =
       own,
       pre .4,
       run-ready _ _ (pre .5) own (pre .1 .block)
-          (asked-key own (pre .1 .block) _ _ (asks-listed listed .which-from .ensures) (listed .before .which .given .1))
+          (listed-key (pre .0) own (pre .1) (entry (asks-listed listed) .args .job .bit) _ _ (sym (asks-listed listed .stand-from .ensures) ∙ listed .before .standing .given .1))
           (ap (λ x. entry (asks-listed listed) .args .block .key + x) (pre .1 .step)),
     )
 
@@ -150,17 +154,17 @@ returns-4 c =
     let listed = run .before .before .before in
     let pre = entry (asks-listed listed) .pre in
     sifted-as _ _ _ _ _ _ _ _ _ _ _ _ _ _ (run .sift-run .ensures)
-    (listed-keys (pre .2) (pre .1) _ _ _ (asks-listed listed .which-from .ensures) _ refl (listed .before .which .given .1))
+    (listed-keys (pre .0) (pre .2) (pre .1) _ _ _ (sym (asks-listed listed .stand-from .ensures) ∙ listed .before .standing .given .1) _ refl)
     (omega arith)
 
 pub sift-block-spec : {M : Type 1} → statement M
 sift-block-spec =
     tie.close
     (tie.spec
-    which-from-requires
-    enum-known-which
-    enum-known-which-2
-    enum-known-which-3
+    stand-from-requires
+    enum-known-standing
+    enum-known-standing-2
+    enum-known-standing-3
     enum-told
     returns
     mul-if1

@@ -21,13 +21,12 @@ use Rattle.list.proofs.OneSlot.{power-slot}
 use Rattle.list.proofs.Own.{own-sorted}
 use Rattle.walk.specs.declared.Spot.{Spot}
 use Rattle.walk.specs.Walk.{BlockSpot, Walking, isWithin, isApart}
-use Rattle.walk.specs.Given.{keysWith}
+use Rattle.walk.specs.Given.{keysWith, lower}
 use Rattle.walk.proofs.Lies.{small}
 use Rattle.walk.proofs.Steps.{some-keys, cut-parent, follows-at, follows-gone, walking-root, walking-after, rises}
 use Rattle.list.proofs.Fuller.{near-root}
 use Rattle.walk.proofs.Asked.{asked-place, near-later, near-place}
 use Rattle.walk.proofs.Shows.{place-no}
-use Rattle.walk.proofs.Lower.{lower}
 use Rattle.walk.proofs.Below.{lower-apart, lower-lacking, lower-block, below-none, below-all, below-few}
 use Rattle.sift.proofs.Descent.{Descent, descent-begins, descent-enters}
 use Rattle.sift.specs.declared.Sifting.{Sifting}
@@ -257,7 +256,7 @@ passed c =
     (passes _ _ _ _ _ _ _ b _ (lower-apart _ _ _ _ (stands-at at) (sym (c .before .apart .ensures) ∙ w .0 .taken)) (omega arith)))
     (⊎-elim
     (λ w. named _ _ _ _ _ _ _ _ _ _ (w .4) (w .5) (w .6)
-    (passes _ _ _ _ _ _ _ b _ (lower-lacking _ _ _ _ (stands-at at) (place-no (entry at .pre .3) (stands-at at) _ _ bit _ (w .1 .ensures) (w .3 .taken))) (omega arith)))
+    (passes _ _ _ _ _ _ _ b _ (lower-lacking _ _ _ _ (stands-at at) _ (omega arith, omega arith) (place-no (entry at .pre .3) (stands-at at) _ _ bit _ (w .1 .ensures) (w .3 .taken))) (omega arith)))
     (λ w. named _ _ _ _ _ _ _ _ _ _ (w .13) (w .14) (w .15)
     (adds _ _ _ _ _ _ _ (at .loop2 .inv .descent .walking) (sym (w .4 .ensures) ∙ w .5 .taken) b _ bit _ _ _ (w .8 .ensures))))
     (c .if1 .came)

@@ -4,7 +4,7 @@ use mathlib.Core.Bool.{true}
 use native.Mathlib.Omega.{arith}
 use borrow.Author.Tests.{not-true, not-false}
 use Rattle.keys.specs.Key.{validKey}
-use Rattle.edit.proofs.Decided.{refuses, decided-as}
+use Rattle.edit.proofs.PaintDecided.{refuses, decided-as}
 use Rattle.edit.proofs.EditCallTables.{FirstPassed, first-passed, passed-settings, passed-force}
 use Rattle.edit.proofs.PaintTable.{paint-early, bad-key, bad-feature, room-decides, passed-paintable}
 use borrow.Author.Needs.{needs}
@@ -29,16 +29,16 @@ edit-refusal-requires : tie.Need-edit-refusal-requires
 edit-refusal-requires c κs = search needs
 
 returns : tie.Need-returns
-returns c = refuses _ _ _ _ (paint-early _ _ _ _ _ _ _ _ _ _ _ _ _ (c .before .edit-refusal .ensures) (c .if1 .taken)) (c .if1 .taken)
+returns c = refuses _ _ _ _ _ (paint-early _ _ _ _ _ _ _ _ _ _ _ _ _ (c .before .edit-refusal .ensures) (c .if1 .taken)) (c .if1 .taken)
 
 is-valid-requires : tie.Need-is-valid-requires
 is-valid-requires c κs = passed-settings (passed c) .deep
 
 returns-2 : tie.Need-returns-2
-returns-2 c = refuses _ _ 8 _ (bad-key _ _ _ _ _ _ _ _ _ _ _ _ (passed (c .before .before)) (sym (c .before .is-valid .ensures) ∙ not-true _ (c .if2 .taken))) (λ e. omega arith)
+returns-2 c = refuses _ _ _ 8 _ (bad-key _ _ _ _ _ _ _ _ _ _ _ _ (passed (c .before .before)) (sym (c .before .is-valid .ensures) ∙ not-true _ (c .if2 .taken))) (λ e. omega arith)
 
 returns-3 : tie.Need-returns-3
-returns-3 c = let d = c .before in refuses _ _ 7 _ (bad-feature _ _ _ _ _ _ _ _ _ _ _ _ (passed (d .before .before)) (valid d) (c .if3 .taken)) (λ e. omega arith)
+returns-3 c = let d = c .before in refuses _ _ _ 7 _ (bad-feature _ _ _ _ _ _ _ _ _ _ _ _ (passed (d .before .before)) (valid d) (c .if3 .taken)) (λ e. omega arith)
 
 decide-room-requires : tie.Need-decide-room-requires
 decide-room-requires c κs =
@@ -50,7 +50,7 @@ returns-4 : tie.Need-returns-4
 returns-4 c =
     let e = c .before in
     let d = e .before in
-    decided-as _ _ _ _ (c .decide-room .ensures) _ (room-decides _ _ _ _ _ _ _ _ _ _ _ _ (passed (d .before .before)) (valid d) (e .if3 .left) _ refl)
+    decided-as _ _ _ _ _ (c .decide-room .ensures) _ (room-decides _ _ _ _ _ _ _ _ _ _ _ _ (passed (d .before .before)) (valid d) (e .if3 .left) _ refl)
 
 pub decide-spec : {M : Type 1} → statement M
 decide-spec =

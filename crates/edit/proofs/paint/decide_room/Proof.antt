@@ -8,7 +8,9 @@ use Rattle.definitions.specs.Standing.{partLength}
 use Rattle.definitions.specs.Log.{closingPlaces}
 use Rattle.definitions.specs.Calls.Paint.{painted, gained}
 use Rattle.edit.specs.PaintCall.{paintPlan}
-use Rattle.edit.proofs.Decided.{refuses, grants}
+use Rattle.edit.proofs.PaintDecided.{refuses, grants}
+use Rattle.edit.specs.Content.{formerOf}
+use Rattle.edit.proofs.ContentStands.{former-stands}
 use Rattle.edit.proofs.ContentLength.{part-there, gained-size}
 use Rattle.edit.proofs.Planned.{old-there, few-levels, length-told}
 use Rattle.edit.proofs.PaintPlan.{paint-found, paint-planned, entry-found}
@@ -18,13 +20,18 @@ use Rattle.edit.proofs.paint.decide_room.Statement.{statement}
 use Rattle.edit.proofs.paint.decide_room.Tie as tie
 
 -- the start, from the content's length
-abbrev start : tie.After-content-of → tie.Start
-start c = c .before .before .before .before .before
+abbrev start : tie.After-by-standing → tie.Start
+start c = c .before .before .before .before .before .before
 
--- the content's length
-count-is : (c : tie.After-content-of)
-    → (let a = start c .args in c .content-of .result .count ≡ partLength (a .m) (a .key) (recordsOf (a .keys .now) (a .bits .now) (a .n)))
-count-is c = ap (λ x. x .count) (c .content-of .ensures)
+-- the former content
+former-is : (c : tie.After-by-standing)
+    → (let a = start c .args in c .by-standing .result ≡ formerOf (a .m) (a .key) (recordsOf (a .keys .now) (a .bits .now) (a .n)))
+former-is c = former-stands _ _ _ (c .before .stand .ensures) (c .by-standing .ensures)
+
+-- its length
+count-is : (c : tie.After-by-standing)
+    → (let a = start c .args in c .by-standing .result .count ≡ partLength (a .m) (a .key) (recordsOf (a .keys .now) (a .bits .now) (a .n)))
+count-is c = ap (λ x. x .count) (former-is c)
 
 -- the places that the entry takes
 places-is : (c : tie.After-places)
@@ -44,10 +51,10 @@ log-fits : (c : tie.Else2) → (let d = c .before .before in let a = start (d .b
 log-fits c = omega (arith, c .before .if1 .left, c .if2 .left)
 
 -- the plan
-plan-is : (c : tie.After-plan-of)
+plan-is : (c : tie.After-plan-by)
     → (let a = start (c .before .before .before .before .before) .args in
-    c .plan-of .result ≡ paintPlan (a .m) (recordsOf (a .keys .now) (a .bits .now) (a .n)) (a .key) (a .feature))
-plan-is c = paint-found _ _ _ _ _ _ (c .before .power-of-two .ensures) (c .plan-of .ensures)
+    c .plan-by .result ≡ paintPlan (a .m) (recordsOf (a .keys .now) (a .bits .now) (a .n)) (a .key) (a .feature))
+plan-is c = paint-found _ _ _ _ _ _ (c .before .power-of-two .ensures) (c .plan-by .ensures)
 
 -- the length afterwards
 after-is : (c : tie.After-length-after)
@@ -57,10 +64,13 @@ after-is c =
     let s = start (c .before .before .before .before .before .before) in
     c .length-after .ensures ∙ length-told (paint-planned (s .pre .0) (plan-is (c .before))) 1 refl
 
-content-of-requires : tie.Need-content-of-requires
-content-of-requires c κs =
+stand-requires : tie.Need-stand-requires
+stand-requires c κs =
     let s = c .before .before .before .before in
     record { deepest = s .pre .0 .deepest; own = s .pre .0 .own; valid = s .pre .0 .valid }
+
+by-standing-requires : tie.Need-by-standing-requires
+by-standing-requires c κs = search needs
 
 places-requires : tie.Need-places-requires
 places-requires c κs =
@@ -73,16 +83,19 @@ add-logged c =
     omega (arith, places-is c, part-there (s .pre .0 .own) _ (s .pre .0 .valid), s .pre .1, s .pre .0 .own .fits, s .good)
 
 returns : tie.Need-returns
-returns c = refuses _ _ 10 _ (log-full _ _ _ _ _ _ _ _ _ _ (logged-is (c .before)) (omega arith)) (λ e. omega arith)
+returns c = refuses _ _ _ 10 _ (log-full _ _ _ _ _ _ _ _ _ _ (logged-is (c .before)) (omega arith)) (λ e. omega arith)
 
 returns-2 : tie.Need-returns-2
-returns-2 c = refuses _ _ 10 _ (log-full _ _ _ _ _ _ _ _ _ _ (logged-is (c .before .before)) (omega arith)) (λ e. omega arith)
+returns-2 c = refuses _ _ _ 10 _ (log-full _ _ _ _ _ _ _ _ _ _ (logged-is (c .before .before)) (omega arith)) (λ e. omega arith)
 
 power-of-two-requires : tie.Need-power-of-two-requires
 power-of-two-requires c κs = search needs
 
-plan-of-requires : tie.Need-plan-of-requires
-plan-of-requires c κs = search needs
+plan-by-requires : tie.Need-plan-by-requires
+plan-by-requires c κs =
+    let b = c .before .before .before .before in
+    let s = start b in
+    ((s .pre .0 .deepest, s .pre .0 .valid), (s .pre .0 .own, b .before .stand .ensures))
 
 length-after-requires : tie.Need-length-after-requires
 length-after-requires c κs =
@@ -93,30 +106,31 @@ length-after-requires c κs =
 returns-3 : tie.Need-returns-3
 returns-3 c =
     let d = c .before .before .before .before in
-    refuses _ _ 9 _ (list-full _ _ _ _ _ _ _ _ _ _ (logged-is (d .before .before)) _ (after-is (c .before)) (log-fits d) (omega arith)) (λ e. omega arith)
+    refuses _ _ _ 9 _ (list-full _ _ _ _ _ _ _ _ _ _ (logged-is (d .before .before)) _ (after-is (c .before)) (log-fits d) (omega arith)) (λ e. omega arith)
 
 returns-4 : tie.Need-returns-4
 returns-4 c =
     let d = c .before .before .before .before .before in
-    refuses _ _ 9 _ (list-full _ _ _ _ _ _ _ _ _ _ (logged-is (d .before .before)) _ (after-is (c .before .before)) (log-fits d) (omega arith)) (λ e. omega arith)
+    refuses _ _ _ 9 _ (list-full _ _ _ _ _ _ _ _ _ _ (logged-is (d .before .before)) _ (after-is (c .before .before)) (log-fits d) (omega arith)) (λ e. omega arith)
 
 returns-5 : tie.Need-returns-5
 returns-5 c =
     let d = c .before .before .before .before .before in
-    grants _ _ _ _ _ (room-enough _ _ _ _ _ _ _ _ _ _ (logged-is (d .before .before)) _ (after-is (c .before .before)) (log-fits d) (omega arith))
-    (entry-found _ _ _ _ _ _ (count-is (d .before .before .before))) (plan-is (c .before .before .before))
+    grants _ _ _ _ _ _ _ (room-enough _ _ _ _ _ _ _ _ _ _ (logged-is (d .before .before)) _ (after-is (c .before .before)) (log-fits d) (omega arith))
+    (entry-found _ _ _ _ _ _ (count-is (d .before .before .before))) (former-is (d .before .before .before)) (plan-is (c .before .before .before))
 
 pub decide-room-spec : {M : Type 1} → statement M
 decide-room-spec =
     tie.close
     (tie.spec
-    content-of-requires
+    stand-requires
+    by-standing-requires
     places-requires
     add-logged
     returns
     returns-2
     power-of-two-requires
-    plan-of-requires
+    plan-by-requires
     length-after-requires
     returns-3
     returns-4

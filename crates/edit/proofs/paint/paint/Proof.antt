@@ -3,8 +3,10 @@ use mathlib.Core.Path.{_≡_}
 use native.Mathlib.Omega.{arith}
 use Rattle.definitions.specs.Read.{recordsOf}
 use Rattle.definitions.specs.Calls.Paint.{paintRefusal}
+use Rattle.edit.specs.Content.{formerOf}
 use Rattle.edit.specs.PaintCall.{newEntry, paintPlan}
-use Rattle.edit.proofs.Decided.{refused, granted}
+use Rattle.edit.proofs.ContentStands.{former-named}
+use Rattle.edit.proofs.PaintDecided.{refused, granted}
 use Rattle.edit.proofs.EditCallTables.{passed-settings, passed-summary, passed-used}
 use Rattle.edit.proofs.PaintPlan.{paint-outdated, paint-counted}
 use Rattle.edit.proofs.PaintTable.{PaintPassed, paint-passed, paint-paintable, paint-fresh}
@@ -17,13 +19,14 @@ use Rattle.edit.proofs.paint.paint.Tie as tie
 abbrev start : tie.After-decide → tie.Start
 start c = c .before .before .before .before .before .before .before .before .before .before .before
 
--- nothing refuses it, and it goes by its entry and its plan
+-- nothing refuses it, and it goes by its entry, the former content and its plan
 goes : (c : tie.After-known-told2)
     → (let a = start (c .before .before .before) .args in
     (paintRefusal (a .m) (a .s) (a .keys .now) (a .bits .now) (a .n) (a .summary .now) (a .log-keys .now) (a .log-values .now) (a .used) (a .in-force) (a .key) (a .feature) ≡ 0)
     × (c .before .decision2 .given .0 .0 ≡ newEntry (a .m) (recordsOf (a .keys .now) (a .bits .now) (a .n)) (a .in-force) (a .key) (a .feature))
-    × (c .before .decision2 .given .0 .1 .0 ≡ paintPlan (a .m) (recordsOf (a .keys .now) (a .bits .now) (a .n)) (a .key) (a .feature)))
-goes c = granted _ _ _ _ (c .before .before .before .decide .ensures) _ _ (c .before .decision2 .given .1)
+    × (c .before .decision2 .given .0 .1 .0 ≡ formerOf (a .m) (a .key) (recordsOf (a .keys .now) (a .bits .now) (a .n)))
+    × (c .before .decision2 .given .0 .1 .1 .0 ≡ paintPlan (a .m) (recordsOf (a .keys .now) (a .bits .now) (a .n)) (a .key) (a .feature)))
+goes c = granted _ _ _ _ _ (c .before .before .before .decide .ensures) _ _ _ (c .before .decision2 .given .1)
 
 -- so it has passed every row
 passed : (c : tie.After-known-told2)
@@ -54,7 +57,7 @@ same-length-5 c = search needs
 
 returns : tie.Need-returns
 returns c =
-    let told = refused _ _ _ _ (c .before .before .before .decide .ensures) _ (c .before .decision .given .1) in
+    let told = refused _ _ _ _ _ (c .before .before .before .decide .ensures) _ (c .before .decision .given .1) in
     paint-refused _ _ _ _ _ _ _ _ _ _ _ _ _ (told .0) (told .1)
 
 enum-known-decision-2 : tie.Need-enum-known-decision-2
@@ -63,13 +66,13 @@ enum-known-decision-2 c = search needs
 log-paint-requires : tie.Need-log-paint-requires
 log-paint-requires c κs =
     let d = c .before .before .before .before in
-    (paint-fresh _ (goes d .1) (passed d), passed-used (passed d .first-rows))
+    (paint-fresh _ (goes d .1) (passed d), passed-used (passed d .first-rows), former-named _ _ _ _ _ (goes d .1) (goes d .2))
 
 fill-requires : tie.Need-fill-requires
 fill-requires c κs =
     let d = c .before .before .before .before .before .before .before .before .before .before .before in
     let p = passed d in
-    (paint-paintable p, (goes d .2, p .list-fits))
+    (paint-paintable p, (goes d .3, p .list-fits))
 
 recount-requires : tie.Need-recount-requires
 recount-requires c κs =

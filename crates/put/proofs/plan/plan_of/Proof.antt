@@ -1,82 +1,16 @@
--- `plan::plan_of` meets its contract: the numbers of the plan are those of the filled block's standing.
-use mathlib.Core.Path.{sym, _∙_}
-use native.Mathlib.Omega.{arith}
-use Rattle.list.proofs.Own.{own-sorted}
-use Rattle.list.proofs.Fuller.{near-root}
-use Rattle.put.proofs.PlanTop.{top-fits}
-use Rattle.put.proofs.PlanPlaces.{FilledBlock, filled-by, filled-until, filled-step, filled-asked, plan-listed, plan-high, plan-inside}
+-- `plan::plan_of` meets its contract: by the standing that it asks for.
 use borrow.Author.Needs.{needs}
 use Rattle.put.proofs.plan.plan_of.Statement.{statement}
 use Rattle.put.proofs.plan.plan_of.Tie as tie
 
--- what holds once the step is known
-at-power : (c : tie.After-power-of-five) → FilledBlock (c .before .before .before .before .args .m) (c .before .before .before .before .args .key) (c .before .top-of .result) (c .power-of-five .result)
-at-power c = let start = c .before .before .before .before in filled-by _ _ _ (start .pre .0 .0) (start .pre .0 .1) (c .before .top-of .ensures) (c .power-of-five .ensures)
+stand-requires : tie.Need-stand-requires
+stand-requires c κs = let s = c .before .before in record { deepest = s .pre .0 .0; own = s .pre .1; valid = s .pre .0 .1 }
 
-top-of-requires : tie.Need-top-of-requires
-top-of-requires c κs =
-    let start = c .before .before in
-    (start .pre .0, (own-sorted (start .pre .1) 0, omega (arith, start .pre .1 .fits)))
-
-power-of-five-requires : tie.Need-power-of-five-requires
-power-of-five-requires c κs = top-fits _ _ _ _ _ _ (c .top-of .ensures) (c .before .before .before .pre .0 .0)
-
-div-filled : tie.Need-div-filled
-div-filled c = filled-until (at-power c) .0
-
-mul-filled : tie.Need-mul-filled
-mul-filled c = let h = filled-until (at-power c) in omega arith
-
-stand-from-requires : tie.Need-stand-from-requires
-stand-from-requires c κs =
-    let own = c .before .before .before .before .pre .1 in
-    let f = at-power c in
-    (filled-asked own f, filled-step f, near-root own _)
-
-enum-known-start : tie.Need-enum-known-start
-enum-known-start c = search needs
-
-enum-known-start-2 : tie.Need-enum-known-start-2
-enum-known-start-2 c = search needs
-
--- where the standing was asked for, from where it is taken apart
-abbrev own-from : tie.After-stand-from → tie.Start
-own-from c = c .before .before .before .before .before
-
-sub-t19 : tie.Need-sub-t19
-sub-t19 c =
-    let asks = c .before .before .before in
-    plan-high (own-from asks .pre .1) (at-power (asks .before)) _ _ _ (sym (asks .stand-from .ensures) ∙ c .before .start2 .given .1) .0
-
-sub-t20 : tie.Need-sub-t20
-sub-t20 c =
-    let asks = c .before .before .before in
-    plan-high (own-from asks .pre .1) (at-power (asks .before)) _ _ _ (sym (asks .stand-from .ensures) ∙ c .before .start2 .given .1) .1
+plan-by-requires : tie.Need-plan-by-requires
+plan-by-requires c κs = let s = c .before .before .before in (s .pre .0, (s .pre .1, c .stand .ensures))
 
 returns : tie.Need-returns
-returns c =
-    let asks = c .before .before .before in
-    plan-listed (own-from asks .pre .1) (at-power (asks .before)) _ _ _ _ (sym (asks .stand-from .ensures) ∙ c .before .start .given .1)
-    (asks .before .before .top-of .ensures)
-
-returns-2 : tie.Need-returns-2
-returns-2 c =
-    let asks = c .before .before .before in
-    plan-inside (own-from asks .pre .1) (at-power (asks .before)) _ _ _ (sym (asks .stand-from .ensures) ∙ c .before .start2 .given .1) _ _
-    (asks .before .before .top-of .ensures)
+returns c = c .plan-by .ensures
 
 pub plan-of-spec : {M : Type 1} → statement M
-plan-of-spec =
-    tie.close
-    (tie.spec
-    top-of-requires
-    power-of-five-requires
-    div-filled
-    mul-filled
-    stand-from-requires
-    enum-known-start
-    enum-known-start-2
-    sub-t19
-    sub-t20
-    returns
-    returns-2)
+plan-of-spec = tie.close (tie.spec stand-requires plan-by-requires returns)
