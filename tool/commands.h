@@ -19,6 +19,15 @@ void run_select(const arguments *a);
 void run_areas(const arguments *a);
 void run_batch(const arguments *a);
 
+void run_paint(const arguments *a);
+void run_undo(const arguments *a);
+void run_redo(const arguments *a);
+void run_forget(const arguments *a);
+void run_steps(const arguments *a);
+
+void run_change(const arguments *a);
+void run_export(const arguments *a);
+
 void run_help(const arguments *a);
 
 /* What several of them use. */

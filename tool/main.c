@@ -54,6 +54,26 @@ const command commands[] = {
     { "batch", 2, 2, ASKS, run_batch, "batch LINE QUESTIONS.csv", "ask many windows at once",
       "QUESTIONS.csv has the columns ask (exist or report), row, column, height, width and class; a report needs no\n"
       "class. A window that is refused is answered with the refusal, and stops no other." },
+    { "paint", 2, 6, IN_WINDOW | BIT(BY), run_paint, "paint LINE WINDOW CLASS | paint LINE BLOCK CLASS",
+      "give a window or a block a class, as one step",
+      "All sheets that it meets change together or not at all. BLOCK is i.j:KEY as 'at' and 'select' give it, and on a\n"
+      "line of one sheet the key alone. What could be redone no longer can." },
+    { "undo", 1, 1, ASKS, run_undo, "undo LINE", "take the latest step back", "It can be redone." },
+    { "redo", 1, 1, ASKS, run_redo, "redo LINE", "put back what was taken back last",
+      "There is nothing to redo after a new paint." },
+    { "steps", 1, 1, ASKS, run_steps, "steps LINE", "tell who edited what and when",
+      "All steps since the survey came, or since 'forget'; those that are not done were taken back, and can be redone." },
+    { "forget", 1, 1, ASKS, run_forget, "forget LINE", "empty the log of edits",
+      "The survey stays as it is, and earlier steps can no longer be taken back or redone." },
+    { "change", 4, 4, ALWAYS | BIT(AS) | BIT(TAKEN) | BIT(ELSE), run_change, "change LINE OLD NEW TABLE.csv [--as NAME]",
+      "combine two surveys into a third",
+      "TABLE.csv has the columns old, new and class: the class of a pixel that had the class old and has new. Pairs that\n"
+      "it does not name get the class of --else. The new survey is then the one that commands speak of." },
+    { "export", 3, 3, ASKS | BIT(SHEET) | BIT(CLASS) | BIT(FORCE), run_export,
+      "export LINE pgm|grid|tif OUT | export LINE leaves|bits|hlq OUT --sheet I.J", "write a survey or a sheet to a file",
+      "The survey's pixels as a PGM, an ESRI ASCII grid with its coordinates, or a GeoTIFF (by GDAL). A sheet as leaves (a\n"
+      "CSV of key and class), as the two bit strings OUT.nodes and OUT.leaves, which want two classes or --class, or as the\n"
+      "library's file. - is standard output." },
     { "help", 0, 1, BIT(HELP), run_help, "help [COMMAND]", "tell of the commands, or of one",
       "The manual page prowcurl(1) has the formats of the files." },
     { 0 },

@@ -88,6 +88,12 @@ void pixel_of(const line *l, const arguments *a, int at, uint32_t *row, uint32_t
 
 walk sheets_of(line *l, window w) { return (walk){ .l = l, .w = w, .i = w.row >> l->m, .j = w.column >> l->m }; }
 
+walk sheets_to_paint(line *l, window w) {
+    walk r = sheets_of(l, w);
+    r.to_paint = 1;
+    return r;
+}
+
 int next_sheet(walk *r) {
     uint32_t m = r->l->m, last_i = (r->w.row + r->w.height - 1) >> m, last_j = (r->w.column + r->w.width - 1) >> m;
     if (r->begun) {
@@ -97,7 +103,7 @@ int next_sheet(walk *r) {
     r->begun = 1;
     if (r->j > last_j) r->j = r->w.column >> m, r->i++;
     if (r->i > last_i) return 0;
-    r->sheet = read_sheet(r->l, r->i, r->j);
+    r->sheet = r->to_paint ? read_sheet_to_paint(r->l, r->i, r->j) : read_sheet(r->l, r->i, r->j);
     return 1;
 }
 

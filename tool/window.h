@@ -32,11 +32,13 @@ typedef struct {
     line *l;
     window w;
     uint32_t i, j;
-    int begun;
+    int begun, to_paint;
     sheet sheet;
 } walk;
 
 walk sheets_of(line *l, window w);
+/* The same, with room for one more paint in each sheet's log. */
+walk sheets_to_paint(line *l, window w);
 int next_sheet(walk *r);
 
 /* The window as the clipped calls take it on a sheet: its row and column there, as signed numbers. */
