@@ -286,10 +286,11 @@ static void add_survey(const arguments *a, line *l, const char *name) {
     if (l->rows) same_grid(l, &s, s.epsg ? s.epsg : l->srs); /* said before the long way; said again at its end */
     begin_new_sheets(l);
     cut(&in);
+    end_survey(&s);
     commit_line(l);
     uint64_t bytes = move_in(l, &s, name, day_given(a));
-    close_survey(&s);
     answer_survey(a, l, name, bytes);
+    give_back_survey(&s);
     give_back_classes(&in.classes);
 }
 
