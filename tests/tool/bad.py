@@ -65,7 +65,7 @@ SURVEYS = [  # content, words of the message
 
 def test_surveys(tool):
     before = tool.read("a.gpkg")
-    tool("init", "bad.gpkg", "--side", 32)
+    tool("init", "bad.gpkg", "--side", 64)
     for content, says in SURVEYS:
         tool.write("bad", content)
         tool("add", "bad.gpkg", "bad", status=DATA, says=says)
@@ -87,7 +87,7 @@ def test_surveys(tool):
     tool("add", "a.gpkg", "a.pgm", "--as", "", status=USAGE, says="--as")
     tool("add", "a.gpkg", "a.pgm", "--as", "b", "--cell", 0, status=USAGE, says="--cell")
     must(tool.read("a.gpkg") == before, "a refused survey changes the line")
-    tool("add", "bad.gpkg", tool.write("wide.pgm", pgm([[1] * 1048576])))  # the widest there is
+    tool("add", "bad.gpkg", tool.write("wide.pgm", pgm([[0] * 1048576])))  # the widest there is
     must(tool.json("areas", "bad.gpkg", 0, 1048575, 9, 9)["total_pixels"] == 1, "the widest survey")
 
 
