@@ -21,8 +21,8 @@ _prowcurl() {
         --office) words="0 1" ;;
         --side) words="1 2 4 8 16 32 64 128 256 512 1024" ;;
         --survey) words=$("$program" info "${COMP_WORDS[2]-}" --csv 2>/dev/null | sed -n '2,$s/,.*//p') ;;
-        --scale | --slots | --nodata | --filler | --class | --else | --note | --wait | --as | --taken | --cell | --west | \
-            --north | --sheet | --by) return ;;
+        --scale | --slots | --nodata | --filler | --class | --else | --note | --wait | --as | --taken | --cell | \
+            --west | --north | --sheet | --by) return ;;
     esac
     if [ -n "$words" ]; then mapfile -t COMPREPLY < <(compgen -W "$words" -- "$word")
     else mapfile -t COMPREPLY < <(compgen -f -- "$word"); fi

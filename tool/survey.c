@@ -171,7 +171,8 @@ static void read_grid_head(survey *s, grid_head *h, char word[WORD]) {
         next_word(s, value);
         if (!is_decimal(value, &number)) fail(STATUS_DATA, "%s: '%s' has no number after it", s->path, word);
         if (!take_head(h, word, number)) fail(STATUS_DATA, "%s: '%s' is no word of an ESRI ASCII grid", s->path, word);
-        if ((is_word(word, "ncols") || is_word(word, "nrows")) && (number < 0 || number > 1e15 || number != (double)(long long)number))
+        int counts = is_word(word, "ncols") || is_word(word, "nrows");
+        if (counts && (number < 0 || number > 1e15 || number != (double)(long long)number))
             fail(STATUS_DATA, "%s: %s is %s", s->path, word, value);
     }
 }

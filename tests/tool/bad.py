@@ -78,7 +78,8 @@ def test_surveys(tool):
     tool("add", "bad.gpkg", "holes", "--nodata", 77, status=7)
     for day in ("31.5.2026", "2026-13-01", "2026-01-32", "", "2026-1-1", "x"):
         tool("add", "bad.gpkg", "holes", "--taken", day, status=USAGE, says="--taken")
-    tool("add", "a.gpkg", tool.write("other.pgm", pgm(patches(ROWS, COLUMNS + 1, 1))), status=DATA, says="but the line has")
+    tool.write("other.pgm", pgm(patches(ROWS, COLUMNS + 1, 1)))
+    tool("add", "a.gpkg", "other.pgm", status=DATA, says="but the line has")
     tool.write("other.asc", grid(GROUND, 1, 0))
     tool("add", "a.gpkg", "other.asc", status=DATA, says="its north-west corner is")
     tool.write("other.asc", grid(GROUND, 0, 0, 2))
@@ -92,7 +93,8 @@ def test_surveys(tool):
 
 
 def translated(tool, name, *words):
-    subprocess.run(["gdal_translate", "-q", *words, "g.asc", name], cwd=tool.folder, check=True, stderr=subprocess.DEVNULL)
+    subprocess.run(["gdal_translate", "-q", *words, "g.asc", name], cwd=tool.folder, check=True,
+                   stderr=subprocess.DEVNULL)
 
 
 def test_gdal(tool):
@@ -109,9 +111,10 @@ def test_gdal(tool):
             ("south.tif", ["-a_ullr", "0", "0", "2", "2"], "not north up")):
         translated(tool, name, *words)
         if name == "turned.vrt":
-            text = tool.read(name).decode().replace("0.0000000000000000e+00,  2.0", "1.0,  2.0")
-            tool.write(name, text.replace("<GeoTransform>  0.0000000000000000e+00,  1.0000000000000000e+00,  0.0000000000000000e+00",
-                                          "<GeoTransform>  0.0,  1.0,  0.5"))
+            head, _, rest = tool.read(name).decode().partition("<GeoTransform>")
+            numbers, _, rest = rest.partition("</GeoTransform>")
+            must(numbers.count(",") == 5, "a VRT's place")
+            tool.write(name, f"{head}<GeoTransform>0.0, 1.0, 0.5, 2.0, 0.5, -1.0</GeoTransform>{rest}")
         tool("add", "g.gpkg", name, status=DATA, says=says)
     translated(tool, "byte.tif", "-ot", "Byte", "-a_nodata", "none", "-co", "NBITS=4")
     tool("add", "g.gpkg", "byte.tif")
@@ -300,9 +303,10 @@ def test_words_in_tables(tool):
 
     rules, waivers = "id,row,column,height,width,class\n", "office,rule,sheet,key\n"
     bad("rules", rules + "1,0,0,4,4,1\n", USAGE, "--office 0 or --office 1 is missing")
-    bad("rules", rules + "1,0,0,4,4,1\n1,0,0,4,4,2\n", 13, "t.csv, line 3: rule 1 of office 0 stands twice", "--office", 0)
-    bad("rules", rules + "1,0,0,4,4,1\n2,9,0,3,4,2\n", 13, "line 3, rule 2: its window reaches over the survey's southern",
-        "--office", 0)
+    bad("rules", rules + "1,0,0,4,4,1\n1,0,0,4,4,2\n", 13, "t.csv, line 3: rule 1 of office 0 stands twice", "--office",
+        0)
+    bad("rules", rules + "1,0,0,4,4,1\n2,9,0,3,4,2\n", 13,
+        "line 3, rule 2: its window reaches over the survey's southern", "--office", 0)
     bad("rules", rules + "2,0,5,3,4,2\n", 13, "eastern edge", "--office", 0)
     bad("rules", rules + "2,0,0,0,4,2\n", 13, "no pixel", "--office", 0)
     bad("rules", rules + "2,0,0,1,4,31\n", 13, "no such class", "--office", 0)
@@ -403,12 +407,13 @@ def test_read_only(tool):
         done = subprocess.run(tool.program + command.replace("L", "a.gpkg").split(), cwd=tool.folder, env=tool.env,
                               capture_output=True, **extra)
         must(done.returncode == CANNOT_CREATE and done.stderr.startswith(b"prowcurl: "), f"read-only: {done}")
-    done = subprocess.run(tool.program + ["areas", "a.gpkg"], cwd=tool.folder, env=tool.env, capture_output=True, **extra)
+    done = subprocess.run(tool.program + ["areas", "a.gpkg"], cwd=tool.folder, env=tool.env, capture_output=True,
+                          **extra)
     must(done.returncode == 0, f"a read-only line is not read: {done}")
     os.chmod(tool.path("a.gpkg"), 0o666)
     if extra:  # the folder is root's: there is no place for a journal
-        done = subprocess.run(tool.program + ["paint", "a.gpkg", "0", "0", "1", "1", "1"], cwd=tool.folder, env=tool.env,
-                              capture_output=True, **extra)
+        done = subprocess.run(tool.program + ["paint", "a.gpkg", "0", "0", "1", "1", "1"], cwd=tool.folder,
+                              env=tool.env, capture_output=True, **extra)
         must(done.returncode in (66, 73) and done.stderr.startswith(b"prowcurl: "), f"a read-only folder: {done}")
 
 
@@ -450,7 +455,8 @@ def main():
         for test in (test_anything, test_tables, test_words_in_tables, test_windows, test_outputs, test_command_lines,
                      test_read_only):
             test(tool)
-        print(f"bad files and command lines: {tool.runs} runs, each ended as it should; {changed} bytes of a sheet changed")
+        print(f"bad files and command lines: {tool.runs} runs, each ended as it should; {changed} bytes of a sheet "
+              "changed")
         must(tool.runs > 400, "hardly anything was run")
 
 
