@@ -117,11 +117,8 @@ static char *name_of(const char *wkt) {
     return end ? text_of("%.*s", (int)(end - begin - 1), begin + 1) : text_of("unnamed");
 }
 
-static void take_system(survey *s, json_t *told, const char *in) {
-    const char *wkt = json_string_value(json_object_get(json_object_get(told, "coordinateSystem"), "wkt"));
-    if (!wkt || !*wkt) return;
-    s->epsg = epsg_of(wkt);
-    s->srs_name = name_of(wkt);
+/* The definition, as a GeoPackage wants it. */
+static void take_definition(survey *s, const char *in) {
     const char *words[] = { "gdalsrsinfo", "--single-line", "-o", "wkt1", in, NULL };
     run_or_end(words, s->path);
     char *name = text_of("%s/out", folder());
@@ -131,6 +128,33 @@ static void take_system(survey *s, json_t *told, const char *in) {
     while (end > begin && strchr(" \r\n", end[-1])) *--end = 0;
     memmove(s->definition, begin, strlen(begin) + 1);
     free(name);
+}
+
+static void take_system(survey *s, json_t *told, const char *in) {
+    const char *wkt = json_string_value(json_object_get(json_object_get(told, "coordinateSystem"), "wkt"));
+    if (!wkt || !*wkt) return;
+    s->epsg = epsg_of(wkt);
+    s->srs_name = name_of(wkt);
+    take_definition(s, in);
+}
+
+/* Such a file has seldom a number, so GDAL looks for the system that it tells; one that it does not know is kept by its
+ * definition alone. */
+void take_prj(survey *s, const char *path) {
+    char *in = plain_name(path), *name = text_of("%s/out", folder());
+    const char *words[] = { "gdalsrsinfo", "-o", "epsg", in, NULL };
+    size_t length;
+    run_or_end(words, path);
+    char *told = (char *)read_file(name, 1 << 20, &length), *mark = strstr(told, "EPSG:");
+    long number = mark ? strtol(mark + 5, NULL, 10) : 0;
+    s->epsg = number > 0 ? number : 0;
+    char *known = text_of("EPSG:%ld", s->epsg);
+    take_definition(s, s->epsg ? known : in);
+    s->srs_name = name_of(s->definition);
+    free(known);
+    free(told);
+    free(name);
+    free(in);
 }
 
 /* One band of numbers. Bytes stay bytes; wider numbers become floating ones, which hold every class and what stands for
