@@ -1,33 +1,25 @@
-/* Answers as text, CSV or JSON, written as they come. */
+/* Answers as text, CSV or JSON, written as they come: jansson writes each fact and each row. */
+#define _DEFAULT_SOURCE
 #include "answer.h"
 
+#include "table.h"
 #include "tool.h"
 
+#include <jansson.h>
 #include <stdlib.h>
 #include <string.h>
 
-typedef enum { AS_TEXT, AS_CSV, AS_JSON } form;
-
 static struct {
-    form as;
+    answer_form as;
+    FILE *to;
     int members, tables;         /* how many facts and tables of the answer are out */
     const column *columns;       /* of the table that is being written */
     int count, at, rows, silent; /* its columns, the next one, its rows so far; a second table as CSV is silent */
+    json_t *row;                 /* that is being put together */
     char *names, *values;        /* the facts as two lines of CSV, until a table comes */
+    size_t names_length, values_length;
+    FILE *names_file, *values_file;
 } out;
-
-void write_csv_field(FILE *file, const char *field) {
-    if (!strpbrk(field, ",\"\r\n") && *field != ' ') {
-        fputs(field, file);
-        return;
-    }
-    fputc('"', file);
-    for (; *field; field++) {
-        if (*field == '"') fputc('"', file);
-        fputc(*field, file);
-    }
-    fputc('"', file);
-}
 
 /* How many bytes of UTF-8 stand at the front, 0 where it is none. */
 static int utf8_bytes(const unsigned char *text) {
@@ -36,204 +28,219 @@ static int utf8_bytes(const unsigned char *text) {
     return more + 1;
 }
 
-static void write_json_text(const char *words) {
-    putchar('"');
-    for (const unsigned char *c = (const unsigned char *)words; *c;) {
+/* A name out of a file may hold anything, and JSON may not: a byte that is no UTF-8 becomes a question mark. */
+static json_t *json_text(const char *words) {
+    json_t *text = json_string(words);
+    if (text) return text;
+    char *clean = text_of("%s", words);
+    for (unsigned char *c = (unsigned char *)clean; *c;) {
         int bytes = utf8_bytes(c);
-        if (bytes == 0) {
-            fputs("\\ufffd", stdout); /* a name out of a file may hold anything; JSON may not */
-            c++;
-        } else if (*c < ' ' || *c == '"' || *c == '\\' || *c == 127) {
-            printf("\\u%04x", *c++);
-        } else {
-            fwrite(c, 1, (size_t)bytes, stdout);
-            c += bytes;
-        }
+        if (bytes == 0) *c = '?';
+        c += bytes ? bytes : 1;
     }
-    putchar('"');
+    text = json_string(clean);
+    for (unsigned char *c = (unsigned char *)clean; !text && *c; c++) if (*c >= 0x80) *c = '?'; /* a surrogate */
+    if (!text) text = json_string(clean);
+    free(clean);
+    return text;
+}
+
+static void write_json(json_t *value) {
+    if (!value) fail(STATUS_MEMORY, "no memory for the answer");
+    json_dumpf(value, out.to, JSON_ENCODE_ANY | JSON_REAL_PRECISION(15));
+    json_decref(value);
 }
 
 /* For people the names have blanks. */
 static void write_spaced(const char *name) {
-    for (; *name; name++) putchar(*name == '_' ? ' ' : *name);
+    for (; *name; name++) fputc(*name == '_' ? ' ' : *name, out.to);
 }
 
 void answer_begin(const arguments *a) {
+    answer_to(stdout, a->given[OPTION_JSON] ? ANSWER_JSON : a->given[OPTION_CSV] ? ANSWER_CSV : ANSWER_TEXT);
+}
+
+void answer_to(FILE *file, answer_form as) {
     memset(&out, 0, sizeof out);
-    out.as = a->given[OPTION_JSON] ? AS_JSON : a->given[OPTION_CSV] ? AS_CSV : AS_TEXT;
-    if (out.as == AS_JSON) putchar('{');
+    out.as = as, out.to = file;
+    if (out.as == ANSWER_JSON) fputc('{', out.to);
+    if (out.as != ANSWER_CSV) return;
+    out.names_file = open_memstream(&out.names, &out.names_length);
+    out.values_file = open_memstream(&out.values, &out.values_length);
+    if (!out.names_file || !out.values_file) fail(STATUS_MEMORY, "no memory for the answer");
 }
 
 static void flush(void) {
-    if (fflush(stdout) != 0 || ferror(stdout)) fail(STATUS_IO, "the answer cannot be written");
+    if (fflush(out.to) != 0 || ferror(out.to)) fail(STATUS_IO, "the answer cannot be written");
 }
 
 void answer_end(void) {
-    if (out.as == AS_JSON) puts("}");
-    if (out.as == AS_CSV && out.tables == 0 && out.names) printf("%s\n%s\n", out.names, out.values);
-    free(out.names);
-    free(out.values);
-    out.names = out.values = NULL;
+    if (out.as == ANSWER_JSON) fputs("}\n", out.to);
+    if (out.as == ANSWER_CSV) {
+        fclose(out.names_file);
+        fclose(out.values_file);
+        if (out.tables == 0 && out.members) fprintf(out.to, "%s\n%s\n", out.names, out.values);
+        free(out.names);
+        free(out.values);
+    }
     flush();
 }
 
-/* Adds a field to a line of CSV that is kept. */
-static char *with_field(char *line, const char *field) {
-    int quoted = strpbrk(field, ",\"\r\n") != NULL;
-    size_t length = line ? strlen(line) + 1 : 0;
-    line = more_room_for(line, length + 2 * strlen(field) + 4, 1);
-    char *end = line + length;
-    if (length) end[-1] = ',';
-    if (quoted) *end++ = '"';
-    for (; *field; field++) {
-        if (*field == '"') *end++ = '"';
-        *end++ = *field;
-    }
-    if (quoted) *end++ = '"';
-    *end = 0;
-    return line;
-}
-
-/* A fact; `bare` is one that JSON has without quotes. */
-static void fact(const char *name, const char *value, int bare) {
-    if (out.as == AS_TEXT) {
+/* A fact: `text` for people and CSV, `value` for JSON, which is given back. */
+static void fact(const char *name, const char *text, json_t *value) {
+    int first = out.members++ == 0;
+    if (out.as == ANSWER_TEXT) {
         write_spaced(name);
-        printf("%*s %s\n", (int)strlen(name) < 20 ? 20 - (int)strlen(name) : 1, "", value);
-    } else if (out.as == AS_CSV) {
-        out.names = with_field(out.names, name);
-        out.values = with_field(out.values, value);
+        fprintf(out.to, "%*s %s\n", (int)strlen(name) < 20 ? 20 - (int)strlen(name) : 1, "", text);
+    } else if (out.as == ANSWER_CSV) {
+        fprintf(out.names_file, "%s%s", first ? "" : ",", name);
+        if (!first) fputc(',', out.values_file);
+        write_csv_field(out.values_file, text);
     } else {
-        printf("%s\"%s\": ", out.members++ ? ",\n " : "", name);
-        if (bare) fputs(value, stdout);
-        else write_json_text(value);
+        fprintf(out.to, "%s\"%s\": ", first ? "" : ",\n ", name);
+        write_json(json_incref(value));
     }
+    json_decref(value);
 }
 
 /* The numbers of the slots that are set. */
-static void classes_text(uint64_t bits, char text[128]) {
+static json_t *classes_json(uint64_t bits) {
+    json_t *list = json_array();
+    for (int f = 0; f < HLQ_MOST_SLOTS; f++) if (bits >> f & 1) json_array_append_new(list, json_integer(f));
+    return list;
+}
+
+static const char *classes_text(uint64_t bits, char text[128]) {
     char *end = text;
-    if (out.as == AS_JSON) *end++ = '[';
-    const char *between = "";
-    for (int f = 0; f < HLQ_MOST_SLOTS; f++) {
-        if (!(bits >> f & 1)) continue;
-        end += sprintf(end, "%s%d", between, f);
-        between = out.as == AS_JSON ? ", " : " ";
-    }
-    if (out.as == AS_JSON) *end++ = ']';
     *end = 0;
+    for (int f = 0; f < HLQ_MOST_SLOTS; f++)
+        if (bits >> f & 1) end += sprintf(end, "%s%d", end > text ? " " : "", f);
+    return text;
+}
+
+/* People get two places, CSV all that there is. */
+static const char *decimal_text(double number, char text[400]) {
+    snprintf(text, 400, out.as == ANSWER_TEXT ? "%.2f" : "%.15g", number);
+    return text;
+}
+
+static const char *number_text(int64_t number, char text[32]) {
+    snprintf(text, 32, "%lld", (long long)number);
+    return text;
 }
 
 void fact_number(const char *name, uint64_t number) {
     char text[32];
-    snprintf(text, sizeof text, "%llu", (unsigned long long)number);
-    fact(name, text, 1);
-}
-
-/* People get two places, programs all that there is. */
-static void decimal_text(double number, char text[400]) {
-    snprintf(text, 400, out.as == AS_TEXT ? "%.2f" : "%.15g", number);
+    fact(name, number_text((int64_t)number, text), json_integer((json_int_t)number));
 }
 
 void fact_decimal(const char *name, double number) {
     char text[400];
-    decimal_text(number, text);
-    fact(name, text, 1);
+    fact(name, decimal_text(number, text), json_real(number));
 }
 
-void fact_words(const char *name, const char *words) { fact(name, words, 0); }
-
-static const char *truth_text(int truth) {
-    if (out.as == AS_JSON) return truth ? "true" : "false";
-    return truth ? "yes" : "no";
+void fact_exact(const char *name, double number) {
+    char text[40];
+    snprintf(text, sizeof text, "%.15g", number);
+    fact(name, text, json_real(number));
 }
 
-void fact_truth(const char *name, int truth) { fact(name, truth_text(truth), 1); }
+void fact_words(const char *name, const char *words) { fact(name, words, json_text(words)); }
+void fact_truth(const char *name, int truth) { fact(name, truth ? "yes" : "no", json_boolean(truth)); }
 
 void fact_classes(const char *name, uint64_t bits) {
     char text[128];
-    classes_text(bits, text);
-    fact(name, text, 1);
+    fact(name, classes_text(bits, text), classes_json(bits));
+}
+
+void fact_nothing(const char *name) { fact(name, "", json_null()); }
+
+static void write_heads(void) {
+    for (int i = 0; i < out.count; i++) {
+        int wide = out.columns[i].width, pad = abs(wide) - (int)strlen(out.columns[i].name);
+        if (out.as == ANSWER_CSV) {
+            fprintf(out.to, "%s%s", i ? "," : "", out.columns[i].name);
+            continue;
+        }
+        if (i) fputs("  ", out.to);
+        if (wide > 0 && pad > 0) fprintf(out.to, "%*s", pad, "");
+        write_spaced(out.columns[i].name);
+        if (wide < 0 && pad > 0 && i + 1 < out.count) fprintf(out.to, "%*s", pad, "");
+    }
+    fputc('\n', out.to);
 }
 
 void table_begin(const char *name, const column *columns, int count) {
     out.columns = columns, out.count = count, out.at = 0, out.rows = 0;
-    out.silent = out.as == AS_CSV && out.tables > 0;
+    out.silent = out.as == ANSWER_CSV && out.tables > 0;
     out.tables++;
-    if (out.as == AS_JSON) {
-        printf("%s\"%s\": [", out.members++ ? ",\n " : "", name);
-        return;
-    }
-    for (int i = 0; i < count && !out.silent; i++) {
-        if (out.as == AS_CSV) {
-            printf("%s%s", i ? "," : "", columns[i].name);
-            continue;
-        }
-        int pad = abs(columns[i].width) - (int)strlen(columns[i].name);
-        if (i) fputs("  ", stdout);
-        if (columns[i].width > 0 && pad > 0) printf("%*s", pad, "");
-        write_spaced(columns[i].name);
-        if (columns[i].width < 0 && pad > 0 && i + 1 < count) printf("%*s", pad, "");
-    }
-    if (!out.silent) putchar('\n');
+    if (out.as == ANSWER_JSON) fprintf(out.to, "%s\"%s\": [", out.members++ ? ",\n " : "", name);
+    else if (!out.silent) write_heads();
 }
 
 void table_end(void) {
-    if (out.as == AS_JSON) fputs("]", stdout);
+    if (out.as == ANSWER_JSON) fputs("]", out.to);
+}
+
+static void json_cell(json_t *value, int last) {
+    if (out.at == 0) out.row = json_object();
+    json_object_set_new(out.row, out.columns[out.at].name, value);
+    if (!last) return;
+    fputs(out.rows ? ",\n  " : "\n  ", out.to);
+    write_json(out.row);
+    out.row = NULL;
+}
+
+static void text_cell(const char *text, int last) {
+    int wide = out.columns[out.at].width;
+    if (out.at) fputs("  ", out.to);
+    if (last && wide < 0) fputs(text, out.to);
+    else fprintf(out.to, "%*s", wide, text);
 }
 
 /* A cell; after the last one of a row comes the next row. */
-static void cell(const char *text, int bare) {
-    const column *c = &out.columns[out.at];
+static void cell(const char *text, json_t *value) {
     int last = out.at + 1 == out.count;
-    if (out.as == AS_JSON) {
-        fputs(out.at ? ", " : out.rows ? ",\n  {" : "\n  {", stdout);
-        printf("\"%s\": ", c->name);
-        if (bare) fputs(text, stdout);
-        else write_json_text(text);
-        if (last) putchar('}');
-    } else if (!out.silent && out.as == AS_CSV) {
-        if (out.at) putchar(',');
-        write_csv_field(stdout, text);
-        if (last) putchar('\n');
-    } else if (!out.silent) {
-        if (out.at) fputs("  ", stdout);
-        if (last && c->width < 0) fputs(text, stdout);
-        else printf("%*s", c->width, text);
-        if (last) putchar('\n');
+    if (out.as == ANSWER_JSON) {
+        json_cell(value, last);
+    } else {
+        json_decref(value);
+        if (!out.silent && out.as == ANSWER_CSV) {
+            if (out.at) fputc(',', out.to);
+            write_csv_field(out.to, text);
+        } else if (!out.silent) {
+            text_cell(text, last);
+        }
+        if (last && !out.silent) fputc('\n', out.to);
     }
     out.at = last ? 0 : out.at + 1;
     if (last) out.rows++;
-    if (last && ferror(stdout)) flush();
+    if (last && ferror(out.to)) flush();
 }
 
 void cell_number(uint64_t number) {
     char text[32];
-    snprintf(text, sizeof text, "%llu", (unsigned long long)number);
-    cell(text, 1);
+    cell(number_text((int64_t)number, text), json_integer((json_int_t)number));
 }
 
 void cell_signed(int64_t number) {
     char text[32];
-    snprintf(text, sizeof text, "%lld", (long long)number);
-    cell(text, 1);
+    cell(number_text(number, text), json_integer(number));
 }
 
 void cell_decimal(double number) {
     char text[400];
-    decimal_text(number, text);
-    cell(text, 1);
+    cell(decimal_text(number, text), json_real(number));
 }
 
-void cell_words(const char *words) { cell(words, 0); }
-
-void cell_truth(int truth) { cell(truth_text(truth), 1); }
+void cell_words(const char *words) { cell(words, json_text(words)); }
+void cell_truth(int truth) { cell(truth ? "yes" : "no", json_boolean(truth)); }
 
 void cell_classes(uint64_t bits) {
     char text[128];
-    classes_text(bits, text);
-    cell(text, 1);
+    cell(classes_text(bits, text), classes_json(bits));
 }
 
-void cell_nothing(void) { cell(out.as == AS_JSON ? "null" : "", 1); }
+void cell_nothing(void) { cell("", json_null()); }
 
-int answer_is_json(void) { return out.as == AS_JSON; }
+int answer_is_json(void) { return out.as == ANSWER_JSON; }

@@ -7,6 +7,7 @@
 
 #include <stdio.h>
 
+
 /* A width below 0 puts the text at the left, as printf has it. */
 typedef struct {
     const char *name;
@@ -16,13 +17,19 @@ typedef struct {
 /* An answer is begun, its facts and tables follow, and it is ended. As CSV the first table is all that is shown, or
  * the facts where there is none. */
 void answer_begin(const arguments *a);
+/* The same into a file, in this form whatever the command line says. */
+typedef enum { ANSWER_TEXT, ANSWER_CSV, ANSWER_JSON } answer_form;
+void answer_to(FILE *file, answer_form as);
 void answer_end(void);
 
 void fact_number(const char *name, uint64_t number);
 void fact_decimal(const char *name, double number);
+/* A measure of which people want all places too, as a coordinate. */
+void fact_exact(const char *name, double number);
 void fact_words(const char *name, const char *words);
 void fact_truth(const char *name, int truth);
 void fact_classes(const char *name, uint64_t bits);
+void fact_nothing(const char *name);
 
 /* A table; after its last column a row ends by itself. */
 void table_begin(const char *name, const column *columns, int count);
@@ -37,8 +44,5 @@ void cell_nothing(void);
 
 /* Rows that only people want, as a total is: nothing as JSON. */
 int answer_is_json(void);
-
-/* A field as CSV wants it, quoted where it must be. */
-void write_csv_field(FILE *file, const char *field);
 
 #endif

@@ -1,32 +1,72 @@
-/* batch: many windows of one map, which the library checks once. */
+/* batch: many windows of one survey. Each sheet is read once and asked all questions that meet it in one call. */
 #define _DEFAULT_SOURCE
 #include "answer.h"
+#include "classes.h"
 #include "commands.h"
-#include "tool.h"
+#include "window.h"
 
 #include <stdlib.h>
 #include <string.h>
 #include <time.h>
 #include <unistd.h>
 
-static hlq_question *read_questions(const csv *file, const class_names *classes) {
-    size_t ask = column_of(file, "ask"), top = column_of(file, "row"), left = column_of(file, "column");
-    size_t height = column_of(file, "height"), width = column_of(file, "width"), class = column_of(file, "class");
-    hlq_question *questions = room_for(file->rows, sizeof *questions);
-    for (size_t row = 0; row < file->rows; row++) {
-        hlq_question *q = &questions[row];
-        const char *word = field_at(file, row, ask);
-        if (strcmp(word, "exist") != 0 && strcmp(word, "report") != 0)
-            fail(STATUS_DATA, "%s, line %zu, column ask: '%s' is neither exist nor report", file->path,
-                 file->lines[row], word);
-        q->report = strcmp(word, "report") == 0;
-        q->row = (int32_t)number_at(file, row, top, INT32_MIN, INT32_MAX);
-        q->column = (int32_t)number_at(file, row, left, INT32_MIN, INT32_MAX);
-        q->height = (uint32_t)number_at(file, row, height, 0, UINT32_MAX);
-        q->width = (uint32_t)number_at(file, row, width, 0, UINT32_MAX);
-        if (!q->report) q->feature = class_at(classes, file, row, class);
-    }
+/* A question with its window clipped to the survey, and its answer so far. */
+typedef struct {
+    window w;
+    uint32_t report, class, refusal, value;
+} question;
+
+static void read_question(question *q, const line *l, const class_names *classes, const csv *file, size_t row,
+                          const size_t columns[6]) {
+    const char *word = field_at(file, row, columns[0]);
+    if (strcmp(word, "exist") != 0 && strcmp(word, "report") != 0)
+        fail(STATUS_DATA, "%s, line %zu, column ask: '%s' is neither exist nor report", file->path, file->lines[row],
+             word);
+    q->report = strcmp(word, "report") == 0;
+    long long top = number_at(file, row, columns[1], INT32_MIN, INT32_MAX);
+    long long left = number_at(file, row, columns[2], INT32_MIN, INT32_MAX);
+    uint64_t height = (uint64_t)number_at(file, row, columns[3], 0, UINT32_MAX);
+    uint64_t width = (uint64_t)number_at(file, row, columns[4], 0, UINT32_MAX);
+    if (!q->report) q->class = class_at(classes, file, row, columns[5]);
+    if (!clip_window(l, top, left, height, width, &q->w)) q->refusal = HLQ_WINDOW;
+    else if (!q->report && q->class >= l->slots) q->refusal = HLQ_FEATURE;
+}
+
+static question *read_questions(const line *l, const class_names *classes, const csv *file) {
+    static const char *const names[] = { "ask", "row", "column", "height", "width", "class" };
+    size_t columns[6];
+    for (int i = 0; i < 6; i++) columns[i] = column_of(file, names[i]);
+    question *questions = room_for(file->rows, sizeof *questions);
+    for (size_t row = 0; row < file->rows; row++) read_question(&questions[row], l, classes, file, row, columns);
     return questions;
+}
+
+static int meets(const line *l, const question *q, uint32_t i, uint32_t j) {
+    if (q->refusal) return 0;
+    return i >= q->w.row >> l->m && i <= (q->w.row + q->w.height - 1) >> l->m && j >= q->w.column >> l->m &&
+           j <= (q->w.column + q->w.width - 1) >> l->m;
+}
+
+/* What the questions that meet one sheet get from it. */
+static void ask_sheet(line *l, uint32_t i, uint32_t j, question *questions, size_t count, hlq_question *asked,
+                      uint32_t *refusals, uint32_t *values) {
+    size_t used = 0, at = 0;
+    for (size_t q = 0; q < count; q++) used += (size_t)meets(l, &questions[q], i, j);
+    if (used == 0) return;
+    sheet s = read_sheet(l, i, j);
+    for (size_t q = 0; q < count; q++) {
+        if (!meets(l, &questions[q], i, j)) continue;
+        hlq_dragged w = on_sheet(&s, questions[q].w);
+        asked[at++] = (hlq_question){ questions[q].report, w.row, w.column, w.height, w.width, questions[q].class };
+    }
+    accept_or_end(hlq_sheet_batch(&s.map, asked, used, refusals, values), NULL);
+    at = 0;
+    for (size_t q = 0; q < count; q++) {
+        if (!meets(l, &questions[q], i, j)) continue;
+        accept_or_end(refusals[at], "a question that was clipped to the survey");
+        questions[q].value |= values[at++];
+    }
+    give_back_sheet(&s);
 }
 
 static double now(void) {
@@ -35,65 +75,59 @@ static double now(void) {
     return (double)t.tv_sec + (double)t.tv_nsec * 1e-9;
 }
 
-static void ask(const map *list, const hlq_question *questions, size_t count, uint32_t *refusals, uint32_t *values) {
-    hlq_counted asked = hlq_batch(list->m, list->s, LIST_OF(list), list->n, questions, count, refusals, count, values,
-                                  count);
-    accept_or_end(asked.refusal, NULL);
-}
-
-/* In one call where nobody looks on. On a terminal in parts, each twice the last until one takes a fifth of a second,
- * so that a line can tell how far it is; it comes after a second. */
-static void ask_all(const map *list, const hlq_question *questions, size_t count, uint32_t *refusals,
-                    uint32_t *values) {
-    int watched = isatty(STDERR_FILENO), told = 0;
+/* On a terminal a line tells how far it is; it comes after a second. */
+static void ask_all(line *l, question *questions, size_t count) {
+    hlq_question *asked = room_for(count, sizeof *asked);
+    uint32_t *refusals = room_for(count, sizeof *refusals), *values = room_for(count, sizeof *values);
+    uint32_t done = 0, all = sheet_rows(l) * sheet_columns(l);
+    int told = 0;
     double begun = now();
-    size_t part = watched ? 1024 : count;
-    for (size_t done = 0; done < count;) {
-        size_t next = count - done < part ? count - done : part;
-        double before = now();
-        ask(list, questions + done, next, refusals + done, values + done);
-        done += next;
-        if (now() - before < 0.2) part *= 2;
-        if (!watched || now() - begun < 1) continue;
-        fprintf(stderr, "\r%zu of %zu questions, %d %%", done, count, (int)((double)done / (double)count * 100));
-        told = 1;
+    for (uint32_t i = 0; i < sheet_rows(l); i++) {
+        for (uint32_t j = 0; j < sheet_columns(l); j++) {
+            ask_sheet(l, i, j, questions, count, asked, refusals, values);
+            done++;
+            if (!isatty(STDERR_FILENO) || now() - begun < 1) continue;
+            fprintf(stderr, "\r%u of %u sheets, %u %%", done, all, (uint32_t)((uint64_t)done * 100 / all));
+            told = 1;
+        }
     }
     if (told) fputs("\r\033[K", stderr);
+    free(asked);
+    free(refusals);
+    free(values);
 }
 
-static void write_answers(const arguments *a, const csv *file, const hlq_question *questions, const uint32_t *refusals,
-                          const uint32_t *values) {
+static void write_answers(const arguments *a, const csv *file, const question *questions) {
     static const column columns[] = { { "line", 6 }, { "ask", -6 }, { "refusal", 7 }, { "exists", -6 },
                                       { "classes", -12 }, { "words", -10 } };
     answer_begin(a);
     fact_number("questions", file->rows);
     table_begin("answers", columns, 6);
     for (size_t i = 0; i < file->rows; i++) {
+        const question *q = &questions[i];
         cell_number(file->lines[i]);
-        cell_words(questions[i].report ? "report" : "exist");
-        cell_number(refusals[i]);
-        if (refusals[i] || questions[i].report) cell_nothing();
-        else cell_truth(values[i] != 0);
-        if (refusals[i] || !questions[i].report) cell_nothing();
-        else cell_classes(values[i]);
-        cell_words(refusals[i] ? hlq_refusal_text(refusals[i]) : "");
+        cell_words(q->report ? "report" : "exist");
+        cell_number(q->refusal);
+        if (q->refusal || q->report) cell_nothing();
+        else cell_truth(q->value != 0);
+        if (q->refusal || !q->report) cell_nothing();
+        else cell_classes(q->value);
+        cell_words(q->refusal ? hlq_refusal_text(q->refusal) : "");
     }
     table_end();
     answer_end();
 }
 
 void run_batch(const arguments *a) {
-    class_names classes = read_classes(a);
-    map list = load_map(a->words[0]);
+    line l = open_line(a, TO_READ);
+    need_survey(&l);
+    class_names classes = read_classes(&l);
     csv file = read_csv(a->words[1]);
-    hlq_question *questions = read_questions(&file, &classes);
-    uint32_t *refusals = room_for(file.rows, sizeof *refusals), *values = room_for(file.rows, sizeof *values);
-    ask_all(&list, questions, file.rows, refusals, values);
-    write_answers(a, &file, questions, refusals, values);
+    question *questions = read_questions(&l, &classes, &file);
+    ask_all(&l, questions, file.rows);
+    write_answers(a, &file, questions);
     free(questions);
-    free(refusals);
-    free(values);
     give_back_csv(&file);
-    give_back_map(&list);
     give_back_classes(&classes);
+    close_line(&l);
 }

@@ -3,50 +3,42 @@
 #define COMMANDS_H
 
 #include "arguments.h"
-#include "classes.h"
-#include "map_file.h"
+#include "line.h"
 
-void run_build(const arguments *a);
-void run_raster(const arguments *a);
+void run_init(const arguments *a);
+void run_add(const arguments *a);
 void run_info(const arguments *a);
-void run_list(const arguments *a);
 void run_check(const arguments *a);
-void run_at(const arguments *a);
+void run_set(const arguments *a);
+void run_get(const arguments *a);
 
+void run_at(const arguments *a);
 void run_report(const arguments *a);
 void run_exist(const arguments *a);
 void run_select(const arguments *a);
 void run_areas(const arguments *a);
 void run_batch(const arguments *a);
 
-void run_findings(const arguments *a);
-void run_waive(const arguments *a);
-void run_unwaive(const arguments *a);
-
 void run_paint(const arguments *a);
-void run_paint_window(const arguments *a);
 void run_undo(const arguments *a);
 void run_redo(const arguments *a);
 void run_forget(const arguments *a);
+void run_steps(const arguments *a);
 
-void run_leaves(const arguments *a);
-void run_bits(const arguments *a);
 void run_change(const arguments *a);
+void run_export(const arguments *a);
 
 void run_help(const arguments *a);
 
-/* A window of the command line: four words from words[at] on. Where it is not strict it may reach over the edge. */
-typedef struct {
-    int strict;
-    int32_t row, column;          /* where it is clipped */
-    uint32_t top, left;           /* where it is strict */
-    uint32_t height, width;
-} window;
-
-window window_of(const arguments *a, int at, int strict);
-int is_strict(const arguments *a);
-
-/* After an edit: the new counts are taken over, map and log kept, and the answer given. */
-void finish_edit(sheet *s, const arguments *a, hlq_edited edited);
+/* What several of them use. */
+uint32_t resolution_of(const char *text);
+/* This moment, like 2026-05-31T12:00:00Z, in memory of its own. */
+char *now_text(void);
+/* --taken, or "". */
+const char *day_given(const arguments *a);
+void need_free_name(line *l, const char *name);
+/* The table temp.new_sheets, and a transaction to fill it, without a lock on the line. */
+void begin_new_sheets(line *l);
+void answer_survey(const arguments *a, const line *l, const char *name, uint64_t bytes);
 
 #endif

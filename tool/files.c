@@ -1,28 +1,17 @@
-/* Files read whole, locked, and replaced. A file is never written in place: its new content goes to PATH.new, is
- * written through to the disk, and is then renamed. */
+/* Files read whole, and outputs that are written beside their place and renamed. */
 #define _DEFAULT_SOURCE
 #include "files.h"
 
 #include "tool.h"
 
+#include <dirent.h>
 #include <errno.h>
 #include <fcntl.h>
-#include <limits.h>
 #include <stdlib.h>
 #include <string.h>
-#include <sys/file.h>
+#include <strings.h>
 #include <sys/stat.h>
-#include <time.h>
 #include <unistd.h>
-
-#ifdef PROWCURL_CRASH_POINTS
-#include <signal.h>
-void crash_point(void) {
-    static int points;
-    const char *at = getenv("PROWCURL_CRASH");
-    if (at && ++points == atoi(at)) raise(SIGKILL);
-}
-#endif
 
 uint8_t *read_file(const char *path, size_t most, size_t *length) {
     FILE *file = strcmp(path, "-") == 0 ? stdin : fopen(path, "rb");
@@ -45,180 +34,199 @@ uint8_t *read_file(const char *path, size_t most, size_t *length) {
 
 int file_exists(const char *path) { return access(path, F_OK) == 0; }
 
-char *real_path(const char *path) {
+/* What the tool removes where it ends: outputs that are not whole, and the folder for other programs' files. */
+static struct {
+    char *names[8];
+    char *folder;
+    int registered;
+} litter;
+
+static void remove_folder(const char *folder) {
+    DIR *files = opendir(folder);
+    for (struct dirent *entry; files && (entry = readdir(files));) {
+        char *name = text_of("%s/%s", folder, entry->d_name);
+        if (strcmp(entry->d_name, ".") != 0 && strcmp(entry->d_name, "..") != 0) unlink(name);
+        free(name);
+    }
+    if (files) closedir(files);
+    rmdir(folder);
+}
+
+static void remove_litter(void) {
+    for (int i = 0; i < 8; i++) {
+        if (litter.names[i]) unlink(litter.names[i]);
+        free(litter.names[i]);
+        litter.names[i] = NULL;
+    }
+    if (litter.folder) remove_folder(litter.folder);
+    free(litter.folder);
+    litter.folder = NULL;
+}
+
+static void clean_at_the_end(void) {
+    if (!litter.registered) litter.registered = atexit(remove_litter) == 0;
+}
+
+static void note_litter(const char *name) {
+    clean_at_the_end();
+    for (int i = 0; i < 8; i++) {
+        if (litter.names[i]) continue;
+        litter.names[i] = text_of("%s", name);
+        return;
+    }
+}
+
+static void no_litter(const char *name) {
+    for (int i = 0; i < 8; i++) {
+        if (!litter.names[i] || strcmp(litter.names[i], name) != 0) continue;
+        free(litter.names[i]);
+        litter.names[i] = NULL;
+        return;
+    }
+}
+
+char *temporary_folder(void) {
+    const char *below = getenv("TMPDIR");
+    char *name = text_of("%s/prowcurl-XXXXXX", below && *below ? below : "/tmp");
+    if (!mkdtemp(name)) fail(STATUS_CANNOT_CREATE, "%s: %s", name, strerror(errno));
+    clean_at_the_end();
+    free(litter.folder);
+    litter.folder = text_of("%s", name);
+    return name;
+}
+
+/* Whether two names lead to one file. */
+static int same_file(const char *a, const char *b) {
+    struct stat one, two;
+    return stat(a, &one) == 0 && stat(b, &two) == 0 && one.st_ino == two.st_ino && one.st_dev == two.st_dev;
+}
+
+static int begins_with(const uint8_t *head, size_t length, const char *mark, size_t mark_length) {
+    return length >= mark_length && strncasecmp((const char *)head, mark, mark_length) == 0;
+}
+
+/* Bit strings have no mark, so a file is never known to be one. */
+static int is_of_kind(const uint8_t *head, size_t length, kind what) {
+    switch (what) {
+    case KIND_PGM: return begins_with(head, length, "P5", 2) || begins_with(head, length, "P2", 2);
+    case KIND_GRID: return begins_with(head, length, "ncols", 5);
+    case KIND_TIF: return length >= 4 && (memcmp(head, "II*\0", 4) == 0 || memcmp(head, "MM\0*", 4) == 0 ||
+                                          memcmp(head, "II+\0", 4) == 0 || memcmp(head, "MM\0+", 4) == 0);
+    case KIND_PNG: return length >= 4 && memcmp(head, "\x89PNG", 4) == 0;
+    case KIND_HTML: return begins_with(head, length, "<!doctype html", 14);
+    case KIND_JSON: return begins_with(head, length, "{", 1);
+    case KIND_CSV:
+        return begins_with(head, length, "class,", 6) || begins_with(head, length, "office,", 7) ||
+               begins_with(head, length, "key,", 4);
+    case KIND_HLQ: return length >= 3 && memcmp(head, "HLQ", 3) == 0;
+    default: return 0;
+    }
+}
+
+static const char *words_for(kind what) {
+    static const char *const words[] = { "a PGM", "an ESRI grid", "a GeoTIFF", "a PNG", "a page", "GeoJSON",
+                                         "such a CSV", "a map file", "bit strings" };
+    return words[what];
+}
+
+/* An output may replace an older one of its kind, and an empty file. */
+static void must_be_of_kind(const char *path, kind what) {
+    uint8_t head[16] = { 0 };
+    FILE *file = fopen(path, "rb");
+    if (!file) fail(STATUS_CANNOT_CREATE, "%s: %s", path, strerror(errno));
+    size_t length = fread(head, 1, sizeof head, file);
+    fclose(file);
+    if (length > 0 && !is_of_kind(head, length, what))
+        fail(STATUS_CANNOT_CREATE, "%s is there, and is not %s; --force replaces it", path, words_for(what));
+}
+
+/* The output's own word is among the words: so it counts how many lead to it. */
+void may_replace(const arguments *a, const char *path, kind what) {
+    struct stat there;
+    if (strcmp(path, "-") == 0 || stat(path, &there) != 0) return;
+    if (!S_ISREG(there.st_mode))
+        fail(STATUS_CANNOT_CREATE, "%s is no regular file; - is standard output", path);
+    for (int i = 0; i < a->count; i++)
+        if (a->words[i] != path && same_file(a->words[i], path))
+            fail(STATUS_CANNOT_CREATE, "%s is an input of this command, and would be lost", path);
+    for (int o = 0; o < OPTIONS; o++)
+        if (a->given[o] && a->given[o][0] && a->given[o][0] != path && same_file(a->given[o][0], path))
+            fail(STATUS_CANNOT_CREATE, "%s is an input of this command, and would be lost", path);
+    if (!a->given[OPTION_FORCE]) must_be_of_kind(path, what);
+}
+
+/* Beside the place where a link leads, so that the link stays one. */
+output begin_output(const char *path) {
     char *real = realpath(path, NULL);
-    return real ? real : text_of("%s", path);
+    output o = { .path = real ? real : text_of("%s", path) };
+    o.name = text_of("%s.%ld.new", o.path, (long)getpid());
+    if (unlink(o.name) != 0 && errno != ENOENT) fail(STATUS_CANNOT_CREATE, "%s: %s", path, strerror(errno));
+    note_litter(o.name);
+    return o;
 }
 
-/* Tries for a lock until the seconds are over. */
-static void lock_within(int file, int kind, double seconds, const char *path) {
-    const struct timespec pause = { 0, 10 * 1000 * 1000 };
-    for (double waited = 0; flock(file, kind | LOCK_NB) != 0; waited += 0.01) {
-        if (errno != EWOULDBLOCK && errno != EINTR) fail(STATUS_IO, "%s: no lock: %s", path, strerror(errno));
-        if (waited >= seconds) fail(STATUS_BUSY, "%s is being edited by another process", path);
-        nanosleep(&pause, NULL);
-    }
+output open_output(const char *path) {
+    if (strcmp(path, "-") == 0) return (output){ .path = text_of("-"), .file = stdout };
+    output o = begin_output(path);
+    int file = open(o.name, O_RDWR | O_CREAT | O_EXCL | O_CLOEXEC, 0666);
+    o.file = file < 0 ? NULL : fdopen(file, "w+b");
+    if (!o.file) fail(STATUS_CANNOT_CREATE, "%s: %s", path, strerror(errno));
+    return o;
 }
 
-/* Whether the name still leads to the file: a writer may have replaced it while we waited. */
-static int still_named(int file, const char *path) {
-    struct stat ours, named;
-    return fstat(file, &ours) == 0 && stat(path, &named) == 0 && ours.st_ino == named.st_ino &&
-           ours.st_dev == named.st_dev;
-}
-
-int lock_file(const char *path, int exclusive, double seconds) {
-    for (;;) {
-        int file = open(path, O_RDONLY | O_CLOEXEC);
-        if (file < 0 && errno == ENOENT) return -1;
-        if (file < 0) fail(STATUS_NO_INPUT, "%s: %s", path, strerror(errno));
-        lock_within(file, exclusive ? LOCK_EX : LOCK_SH, seconds, path);
-        if (still_named(file, path)) return file;
-        close(file);
-    }
-}
-
-/* The new files that are removed where the tool ends before they are put in place. */
-static char *new_files[4];
-static int new_count;
-
-static void remove_new_files(void) {
-    while (new_count > 0) {
-        unlink(new_files[--new_count]);
-        free(new_files[new_count]);
-    }
-}
-
-void keep_new_files(void) {
-    while (new_count > 0) free(new_files[--new_count]);
-}
-
-static void note_new_file(char *path) {
-    static int registered;
-    if (!registered) registered = atexit(remove_new_files) == 0;
-    if (new_count < 4) new_files[new_count++] = path;
-}
-
-/* The new file is locked before it gets its name, so that nobody edits the map between the two renames of a pair. */
-static int create_locked(const char *path, double seconds) {
-    for (;;) {
-        int file = open(path, O_RDWR | O_CREAT | O_CLOEXEC, 0666);
-        if (file < 0) fail(STATUS_CANNOT_CREATE, "%s: %s", path, strerror(errno));
-        lock_within(file, LOCK_EX, seconds, path);
-        if (still_named(file, path)) {
-            if (ftruncate(file, 0) != 0) fail(STATUS_IO, "%s: %s", path, strerror(errno));
-            return file;
-        }
-        close(file);
-    }
-}
-
-static void write_all(int file, const uint8_t *bytes, size_t length, const char *path) {
-    while (length > 0) {
-        ssize_t put = write(file, bytes, length);
-        if (put < 0 && errno == EINTR) continue;
-        if (put < 0) fail(STATUS_IO, "%s: %s", path, strerror(errno));
-        bytes += put, length -= (size_t)put;
-    }
-}
-
-int write_new(const char *path, const uint8_t *bytes, size_t length, double seconds) {
-    struct stat old;
-    char *name = text_of("%s.new", path);
-    int file = create_locked(name, seconds);
-    note_new_file(name);
-    crash_point();
-    if (stat(path, &old) == 0 && fchmod(file, old.st_mode & 07777) != 0)
-        fail(STATUS_CANNOT_CREATE, "%s: %s", name, strerror(errno));
-    write_all(file, bytes, length / 2, name);
-    crash_point();
-    write_all(file, bytes + length / 2, length - length / 2, name);
-    crash_point();
-    if (fsync(file) != 0) fail(STATUS_IO, "%s: %s", name, strerror(errno));
-    crash_point();
-    return file;
-}
-
-void sync_folder(const char *path) {
-    char *folder = text_of("%s", path);
-    char *slash = strrchr(folder, '/');
+/* The names of the folder written through to the disk; some network folders know no fsync. */
+static void sync_folder(const char *path) {
+    char *folder = text_of("%s", path), *slash = strrchr(folder, '/');
     if (slash) slash[slash == folder] = 0; /* the root keeps its slash */
     int file = open(slash ? folder : ".", O_RDONLY | O_DIRECTORY | O_CLOEXEC);
-    if (file < 0 || (fsync(file) != 0 && errno != EINVAL)) /* some network folders know no fsync */
-        fail(STATUS_IO, "the folder of %s: %s", path, strerror(errno));
-    close(file);
-    free(folder);
-    crash_point();
-}
-
-void put_in_place(const char *path) {
-    char *name = text_of("%s.new", path);
-    if (rename(name, path) != 0) fail(STATUS_IO, "%s: %s", path, strerror(errno));
-    free(name);
-    crash_point();
-    sync_folder(path);
-}
-
-/* Whoever makes a file holds PATH.new, and whoever edits it needs PATH: so while we hold the one, and there is not the
- * other, nobody else is at work. */
-int put_if_free(const char *path, const uint8_t *bytes, size_t length, const char *stale, double seconds) {
-    int file = write_new(path, bytes, length, seconds);
-    int is_free = !file_exists(path);
-    if (is_free) {
-        unlink(stale);
-        keep_new_files();
-        put_in_place(path);
-    } else {
-        remove_new_files();
+    if (file >= 0) {
+        fsync(file);
+        close(file);
     }
+    free(folder);
+}
+
+static void write_through(output *o) {
+    if (o->file && fflush(o->file) != 0) fail(STATUS_IO, "%s: %s", o->path, strerror(errno));
+    int file = o->file ? dup(fileno(o->file)) : open(o->name, O_RDWR | O_CLOEXEC);
+    struct stat old;
+    if (file < 0) fail(STATUS_IO, "%s: %s", o->path, strerror(errno));
+    if (stat(o->path, &old) == 0) {
+        if (fchown(file, (uid_t)-1, old.st_gid) != 0)
+            fail(STATUS_CANNOT_CREATE, "%s: its group cannot be kept: %s", o->path, strerror(errno));
+        if (fchmod(file, old.st_mode & 07777) != 0)
+            fail(STATUS_CANNOT_CREATE, "%s: its mode cannot be kept: %s", o->path, strerror(errno));
+    }
+    int failed = (o->file && ferror(o->file)) || fsync(file) != 0;
+    if (failed) fail(STATUS_IO, "%s: %s", o->path, strerror(errno));
     close(file);
-    return is_free;
+    if (o->file && fclose(o->file) != 0) fail(STATUS_IO, "%s: %s", o->path, strerror(errno));
 }
 
-void replace_one(const char *path, const uint8_t *bytes, size_t length, double seconds) {
-    int file = write_new(path, bytes, length, seconds);
-    keep_new_files();
-    put_in_place(path);
-    close(file);
+static void give_back_output(output *o) {
+    if (o->name) no_litter(o->name);
+    free(o->name);
+    free(o->path);
 }
 
-/* The rename of the map is the step that counts. Before it the map is the old one, and the log beside it fits; after
- * it the map is the new one, and the log that fits is either still PATH.log.new, from where the next one who opens
- * the map takes it, or in its place. The folder is synced between, so that the disk has no other order. */
-void replace_pair(const char *map_path, const uint8_t *map, size_t map_length, const uint8_t *log, size_t log_length,
-                  double seconds) {
-    char *log_path = text_of("%s.log", map_path);
-    int map_file = map ? write_new(map_path, map, map_length, seconds) : -1;
-    int log_file = write_new(log_path, log, log_length, seconds);
-    sync_folder(map_path);
-    keep_new_files();
-    if (map) put_in_place(map_path);
-    put_in_place(log_path);
-    if (map) close(map_file);
-    close(log_file);
-    free(log_path);
+void end_output(output *o) {
+    if (o->file == stdout) {
+        if (fflush(stdout) != 0 || ferror(stdout)) fail(STATUS_IO, "the answer cannot be written");
+    } else {
+        write_through(o);
+        if (rename(o->name, o->path) != 0) fail(STATUS_CANNOT_CREATE, "%s: %s", o->path, strerror(errno));
+        sync_folder(o->path);
+    }
+    give_back_output(o);
 }
 
-/* link() gives the name only where it is free, and the file behind it is written by then. */
-void create_if_missing(const char *path, const char *text) {
-    if (file_exists(path)) return;
-    char *name = text_of("%s.%ld", path, (long)getpid());
-    int file = open(name, O_RDWR | O_CREAT | O_EXCL | O_CLOEXEC, 0666);
-    if (file < 0) fail(STATUS_CANNOT_CREATE, "%s: %s", path, strerror(errno));
-    write_all(file, (const uint8_t *)text, strlen(text), name);
-    if (fsync(file) != 0) fail(STATUS_IO, "%s: %s", name, strerror(errno));
-    int linked = link(name, path) == 0 || errno == EEXIST;
-    int error = errno;
-    unlink(name);
-    if (!linked) fail(STATUS_CANNOT_CREATE, "%s: %s", path, strerror(error));
-    sync_folder(path);
-    close(file);
-    free(name);
-}
-
-void write_file(const char *path, const uint8_t *bytes, size_t length) {
-    FILE *file = fopen(path, "wb");
-    if (!file) fail(STATUS_CANNOT_CREATE, "%s: %s", path, strerror(errno));
-    size_t put = fwrite(bytes, 1, length, file);
-    if (fclose(file) != 0 || put != length) fail(STATUS_IO, "%s: %s", path, strerror(errno));
+/* link() gives a name only where it is free. Where a file system has no links, a look before the rename must do. */
+void end_output_if_free(output *o) {
+    write_through(o);
+    int linked = link(o->name, o->path) == 0;
+    if (!linked && errno != EEXIST && !file_exists(o->path)) linked = rename(o->name, o->path) == 0;
+    else if (linked) unlink(o->name);
+    if (!linked) fail(STATUS_CANNOT_CREATE, "%s: %s", o->path, file_exists(o->path) ? "is there" : strerror(errno));
+    sync_folder(o->path);
+    give_back_output(o);
 }

@@ -1,49 +1,42 @@
-/* Files: read whole, locked against a second writer, and replaced so that a crash leaves the old or the new content.
- * docs/TOOL.md has the argument. */
+/* Files: read whole; and written beside their place and renamed, whole or not at all, so that an output never replaces
+ * what it should not. */
 #ifndef FILES_H
 #define FILES_H
 
+#include "arguments.h"
+
 #include <stddef.h>
 #include <stdint.h>
+#include <stdio.h>
 
 /* The bytes of a file (- is standard input), at most `most` and one more, so that a caller sees that it is too long; a
  * zero follows them. Ends where the file cannot be read. */
 uint8_t *read_file(const char *path, size_t most, size_t *length);
 int file_exists(const char *path);
-/* The path without links, so that a replacement lands where the file lies; the same path where there is no file. */
-char *real_path(const char *path);
 
-/* A lock on the file that has this name now, for writers (exclusive) or readers; -1 where there is no such file. Ends
- * where another process keeps it for longer than `seconds`. Closing the descriptor lets it go. */
-int lock_file(const char *path, int exclusive, double seconds);
+/* What a command writes, told from the first bytes of a file; a file of another kind is replaced only with --force. */
+typedef enum { KIND_PGM, KIND_GRID, KIND_TIF, KIND_PNG, KIND_HTML, KIND_JSON, KIND_CSV, KIND_HLQ, KIND_BITS } kind;
 
-/* PATH.new with this content, written through to the disk and locked; gives its descriptor. */
-int write_new(const char *path, const uint8_t *bytes, size_t length, double seconds);
-/* The names of the folder written through to the disk. */
-void sync_folder(const char *path);
-/* PATH.new becomes PATH. */
-void put_in_place(const char *path);
-/* New files that were not put in place are removed when the tool ends; from here on they stay. */
-void keep_new_files(void);
+/* An output on its way: `name` stands beside `path`, and is removed where the tool ends before it is whole. */
+typedef struct {
+    char *path, *name;
+    FILE *file; /* NULL where another program writes it; standard output for - */
+} output;
 
-/* A first file of this name, after what was left at `stale` is removed; 0 where there is one meanwhile. */
-int put_if_free(const char *path, const uint8_t *bytes, size_t length, const char *stale, double seconds);
-/* One file replaced, and a map with its log: map is NULL where only the log changes. */
-void replace_one(const char *path, const uint8_t *bytes, size_t length, double seconds);
-void replace_pair(const char *map_path, const uint8_t *map, size_t map_length, const uint8_t *log, size_t log_length,
-                  double seconds);
+/* Ends where PATH leads to one of the command's inputs (its words and the values of its options), to something that is
+ * no regular file, or to a file of another kind without --force. - passes. */
+void may_replace(const arguments *a, const char *path, kind what);
 
-/* A file with this text, whole from its first moment, where there is none. */
-void create_if_missing(const char *path, const char *text);
+/* The name alone, for a program that makes the file itself. */
+output begin_output(const char *path);
+/* The name and an open file; - is standard output. */
+output open_output(const char *path);
+/* The file is written through to the disk, gets group and mode of what it replaces, and its place. */
+void end_output(output *o);
+/* The same, where nothing may stand at that place: ends where something does. */
+void end_output_if_free(output *o);
 
-/* A file that nobody edits: bit strings. */
-void write_file(const char *path, const uint8_t *bytes, size_t length);
-
-/* In the tests' build the process kills itself at the crash point that PROWCURL_CRASH numbers. */
-#ifdef PROWCURL_CRASH_POINTS
-void crash_point(void);
-#else
-#define crash_point() ((void)0)
-#endif
+/* A folder below the temporary one, which is removed with its files when the tool ends. */
+char *temporary_folder(void);
 
 #endif

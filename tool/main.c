@@ -1,93 +1,84 @@
-/* prowcurl: the day's work on a map of ground classes, on files. Everything that is said about a map is the library's
- * answer; this is also the model of how a program should use it. */
+/* prowcurl: the day's work on a line of ground classes, in one file. Everything that is said about the ground is the
+ * library's answer; this is also the model of how a program should use it. */
 #include "commands.h"
 #include "tool.h"
 
 #include <stdlib.h>
 #include <string.h>
 
-#define BIT(o) ((uint32_t)1 << OPTION_##o)
-#define ALWAYS (BIT(JSON) | BIT(CSV) | BIT(HELP))
-#define NAMED (ALWAYS | BIT(CLASSES))
-#define MAKES (NAMED | BIT(FORCE) | BIT(WAIT))
-#define EDITS (NAMED | BIT(WAIT))
+#define BIT(o) ((uint64_t)1 << OPTION_##o)
+#define ALWAYS (BIT(JSON) | BIT(CSV) | BIT(HELP) | BIT(WAIT))
+#define ASKS (ALWAYS | BIT(SURVEY))
+#define IN_WINDOW (ASKS | BIT(BOX) | BIT(STRICT))
 
 static const char window_text[] =
-    "The window has its first pixel at ROW and COLUMN. It may reach over the edge, with negative numbers too, and\n"
-    "what lies outside is left out; with --strict such a window is refused.";
+    "WINDOW is ROW COLUMN HEIGHT WIDTH in the survey's rows and columns, or --box: the pixels whose centres lie in\n"
+    "it. It may reach over the edge, with negative numbers too, and what lies outside is left out; with --strict\n"
+    "such a window is refused.";
 
 const command commands[] = {
-    { "build", 2, 2, MAKES | BIT(SLOTS) | BIT(NODATA), run_build, "build SURVEY MAP.hlq [--classes FILE | --slots S]",
-      "make a map of a survey",
-      "SURVEY is an 8-bit grey PGM (P5 or P2) or an ESRI ASCII grid, square, with a side that is a power of two up to\n"
-      "1024; - is standard input. Its numbers are the classes, 0 to 31; a column grey in --classes gives classes to\n"
-      "other greys. How many classes the map has is said by --slots, else by the highest of --classes, else by the\n"
-      "PGM's maxval where that is below 32, else by the highest number in the survey." },
-    { "raster", 2, 2, ALWAYS, run_raster, "raster MAP.hlq OUT.pgm", "write the map's pixels as a PGM",
-      "The greys are the classes, and the maxval is the highest class that the map could have, so that 'build' makes\n"
-      "the same map of it. - is standard output." },
-    { "info", 1, 1, ALWAYS | BIT(WAIT), run_info, "info MAP.hlq", "say how large a map is and what its log holds",
-      "The classes are those that occur. The log is that of the edits, in MAP.hlq.log." },
-    { "list", 1, 2, ALWAYS, run_list, "list MAP.hlq [KEY]", "print the records of a map",
-      "Each record is a block: its key, one digit a level (1 NW, 2 NE, 3 SW, 4 SE), and the classes in it. With KEY\n"
-      "only the records of that block are printed, or that of the leaf around it." },
-    { "check", 1, 1, ALWAYS | BIT(WAIT), run_check, "check MAP.hlq", "check a map and its log",
-      "The file is loaded, which checks every record; its raster is built again and must give the same list; the log\n"
-      "must fit the map and be sound. Where that is not so, the exit status is the refusal's number, or 65." },
-    { "at", 3, 3, NAMED, run_at, "at MAP.hlq ROW COLUMN", "name the patch at a pixel",
-      "Key, level and class of the largest block of one class around the pixel, and where it lies." },
-    { "report", 5, 5, NAMED | BIT(STRICT), run_report, "report MAP.hlq ROW COLUMN HEIGHT WIDTH",
-      "list the classes in a window", window_text },
-    { "exist", 6, 6, NAMED | BIT(STRICT), run_exist, "exist MAP.hlq ROW COLUMN HEIGHT WIDTH CLASS",
-      "say whether a class is in a window", window_text },
-    { "select", 6, 6, NAMED | BIT(STRICT), run_select, "select MAP.hlq ROW COLUMN HEIGHT WIDTH CLASS",
+    { "init", 1, 1, ALWAYS | BIT(CLASSES) | BIT(SIDE) | BIT(SLOTS) | BIT(FILLER), run_init,
+      "init LINE [--classes FILE] [--side 1024]", "make a line",
+      "LINE is a new file, a GeoPackage, which other programs read too. A survey is cut into sheets of --side. How\n"
+      "many classes a line has is said by --slots, else by the highest of --classes, else it is 32." },
+    { "add", 2, 2,
+      ALWAYS | BIT(AS) | BIT(TAKEN) | BIT(NODATA) | BIT(FILLER) | BIT(CELL) | BIT(WEST) | BIT(NORTH), run_add,
+      "add LINE SURVEY [--as NAME] [--taken DATE] [--nodata CLASS]", "add a survey to a line",
+      "SURVEY is an 8-bit grey PGM, an ESRI ASCII grid (- is standard input for these two), whatever GDAL reads, such\n"
+      "as a GeoTIFF, or a map of the first version, MAP.hlq with its log. It has up to 1048576 rows and columns. Its\n"
+      "numbers are the classes, unless the classes of the line have greys. Coordinates, cell size and coordinate\n"
+      "system come along. A second survey must lie on the same grid; the one added last is the one that commands\n"
+      "speak of." },
+    { "info", 1, 1, ASKS, run_info, "info LINE", "say what is in a line",
+      "Rows, columns, sheets, coordinates, surveys; and how many steps can be taken back and redone." },
+    { "check", 1, 1, ALWAYS, run_check, "check LINE", "check a whole line",
+      "The database's own check; every sheet's digest and list, whose raster is built again and must give the same\n"
+      "list; every log, whose steps are taken back in memory. Where something is wrong, the exit status is the\n"
+      "refusal's number, or 65." },
+    { "set", 3, 3, ALWAYS | BIT(OFFICE) | BIT(BY), run_set,
+      "set LINE classes|rules|prices|waivers FILE.csv [--office N]",
+      "take classes, rules, prices or waivers from a CSV",
+      "The rows of the file take the place of those that are there, all of them or none. Rules and waivers are those\n"
+      "of an office: of --office, or of the column office, where the rows of both offices are replaced. A rule that\n"
+      "has waivers cannot go before these." },
+    { "get", 2, 3, ALWAYS | BIT(OFFICE) | BIT(FORCE), run_get,
+      "get LINE classes|rules|prices|waivers [FILE.csv] [--office N]", "write them as a CSV",
+      "To standard output, or to a file, which 'set' takes back." },
+    { "at", 1, 3, ASKS | BIT(XY), run_at, "at LINE ROW COLUMN | at LINE --xy X Y", "name the class at a pixel",
+      "The largest block of one class around the pixel: its sheet and key, its level, its class, and where it lies." },
+    { "report", 1, 5, IN_WINDOW, run_report, "report LINE WINDOW", "list the classes in a window", window_text },
+    { "exist", 2, 6, IN_WINDOW, run_exist, "exist LINE WINDOW CLASS", "say whether a class is in a window",
+      window_text },
+    { "select", 2, 6, IN_WINDOW, run_select, "select LINE WINDOW CLASS",
       "list the largest blocks of a class in a window", window_text },
-    { "areas", 1, 5, NAMED | BIT(STRICT) | BIT(METRES) | BIT(PRICES), run_areas,
-      "areas MAP.hlq [ROW COLUMN HEIGHT WIDTH] [--metres PER-PIXEL] [--prices FILE]",
-      "measure each class: pixels, square metres, price",
-      "Without a window the whole map is measured. --metres is the side of a pixel, and prices are those of a square\n"
-      "metre." },
-    { "batch", 2, 2, NAMED, run_batch, "batch MAP.hlq QUESTIONS.csv", "ask many windows at once",
+    { "areas", 1, 5, IN_WINDOW, run_areas, "areas LINE [WINDOW]", "measure each class: pixels, square metres, price",
+      "Without a window the whole survey is measured. The size of a pixel and the prices, which are those of a square\n"
+      "metre, are the line's." },
+    { "batch", 2, 2, ASKS, run_batch, "batch LINE QUESTIONS.csv", "ask many windows at once",
       "QUESTIONS.csv has the columns ask (exist or report), row, column, height, width and class; a report needs no\n"
       "class. A window that is refused is answered with the refusal, and stops no other." },
-    { "findings", 1, 1,
-      NAMED | BIT(RULES) | BIT(WAIVERS) | BIT(OFFICE) | BIT(ALL) | BIT(PICTURE) | BIT(SCALE) | BIT(WINDOWS),
-      run_findings, "findings MAP.hlq --rules FILE [--waivers FILE] [--office 0|1] [--picture OUT.png]",
-      "run rules over a map, with waivers",
-      "A rule says that a class must not be in a window; its findings are the largest blocks of the class there. A\n"
-      "finding is hidden where the office has waived every pixel of it for this rule. The ids of the rules ascend." },
-    { "waive", 3, 3, EDITS | BIT(WAIVERS) | BIT(OFFICE) | BIT(NOTE), run_waive,
-      "waive MAP.hlq RULE KEY --waivers FILE [--office 0|1] [--note TEXT]", "waive a rule's findings in a block",
-      "The row goes into the file at its place; the file is made where there is none. Its rows stand by office, rule\n"
-      "and key, and further columns are kept." },
-    { "unwaive", 3, 3, EDITS | BIT(WAIVERS) | BIT(OFFICE), run_unwaive,
-      "unwaive MAP.hlq RULE KEY --waivers FILE [--office 0|1]", "take a waiver out of the file",
-      "The row must be there." },
-    { "paint", 3, 3, EDITS, run_paint, "paint MAP.hlq KEY CLASS", "give a block a class",
-      "The edit goes into the log MAP.hlq.log, and what could be redone no longer can. Map and log are replaced\n"
-      "together. KEY is the block's digits as 'at' and 'select' give them, 0 for the whole map, or @ and its number." },
-    { "paint-window", 6, 6, EDITS, run_paint_window, "paint-window MAP.hlq ROW COLUMN HEIGHT WIDTH CLASS",
-      "give a window a class, as one edit", "The window must lie in the map. One 'undo' takes all of it back." },
-    { "undo", 1, 1, EDITS, run_undo, "undo MAP.hlq", "take the latest edit back", "It can be redone." },
-    { "redo", 1, 1, EDITS, run_redo, "redo MAP.hlq", "put back what was taken back last",
+    { "paint", 2, 6, IN_WINDOW | BIT(BY), run_paint, "paint LINE WINDOW CLASS | paint LINE BLOCK CLASS",
+      "give a window or a block a class, as one step",
+      "All sheets that it meets change together or not at all. BLOCK is i.j:KEY as 'at' and 'select' give it, and on\n"
+      "a line of one sheet the key alone. What could be redone no longer can." },
+    { "undo", 1, 1, ASKS, run_undo, "undo LINE", "take the latest step back", "It can be redone." },
+    { "redo", 1, 1, ASKS, run_redo, "redo LINE", "put back what was taken back last",
       "There is nothing to redo after a new paint." },
-    { "forget", 1, 1, EDITS, run_forget, "forget MAP.hlq", "empty the log of edits",
-      "The map stays as it is, and earlier edits can no longer be taken back or redone. A damaged log, or that of\n"
-      "another map, is replaced too." },
-    { "leaves", 1, 2, MAKES | BIT(READ) | BIT(SIDE) | BIT(SLOTS), run_leaves,
-      "leaves MAP.hlq [--csv] | leaves --read LEAVES.csv MAP.hlq --side N [--slots S]",
-      "write a map as leaves, or make one of leaves",
-      "LEAVES.csv has the columns key and class: blocks in ascending order that cover the map once. What comes in\n"
-      "parts is merged." },
-    { "bits", 3, 3, MAKES | BIT(READ) | BIT(SIDE) | BIT(CLASS), run_bits,
-      "bits MAP.hlq NODES LEAVES [--class CLASS] | bits --read NODES LEAVES MAP.hlq --side N",
-      "write a map of two classes as bit strings, or read them",
-      "NODES has one bit a node and LEAVES one a leaf; docs/BIT-STRINGS.md reads them by hand. With --class a map of\n"
-      "any classes is written: that class is 1, and all others are 0." },
-    { "change", 4, 4, MAKES | BIT(SLOTS) | BIT(ELSE), run_change, "change OLD.hlq NEW.hlq TABLE.csv OUT.hlq",
-      "combine two maps into a map of changes",
+    { "steps", 1, 1, ASKS, run_steps, "steps LINE", "tell who edited what and when",
+      "All steps since the survey came, or since 'forget'; those that are not done were taken back, and can be\n"
+      "redone." },
+    { "forget", 1, 1, ASKS, run_forget, "forget LINE", "empty the log of edits",
+      "The survey stays as it is, and earlier steps can no longer be taken back or redone." },
+    { "change", 4, 4, ALWAYS | BIT(AS) | BIT(TAKEN) | BIT(ELSE), run_change,
+      "change LINE OLD NEW TABLE.csv [--as NAME]", "combine two surveys into a third",
       "TABLE.csv has the columns old, new and class: the class of a pixel that had the class old and has new. Pairs\n"
-      "that it does not name get the class of --else." },
+      "that it does not name get the class of --else. The new survey is then the one that commands speak of." },
+    { "export", 3, 3, ASKS | BIT(SHEET) | BIT(CLASS) | BIT(FORCE), run_export,
+      "export LINE pgm|grid|tif OUT | export LINE leaves|bits|hlq OUT --sheet I.J",
+      "write a survey or a sheet to a file",
+      "The survey's pixels as a PGM, an ESRI ASCII grid with its coordinates, or a GeoTIFF (by GDAL). A sheet as\n"
+      "leaves (a CSV of key and class), as the two bit strings OUT.nodes and OUT.leaves, which want two classes or\n"
+      "--class, or as the library's file. - is standard output." },
     { "help", 0, 1, BIT(HELP), run_help, "help [COMMAND]", "tell of the commands, or of one",
       "The manual page prowcurl(1) has the formats of the files." },
     { 0 },

@@ -1,111 +1,132 @@
-/* report, exist, select: what is in a window. */
+/* at, report, exist, select: what is at a pixel and in a window, over all sheets that it meets. */
 #include "answer.h"
+#include "classes.h"
 #include "commands.h"
-#include "tool.h"
+#include "window.h"
 
 #include <stdlib.h>
 
-/* A number that the call's type cannot hold lies far outside every raster, and is no window of it. */
-static void within(long long number, long long least, long long most) {
-    if (number < least || number > most) accept_or_end(HLQ_WINDOW, NULL);
-}
-
-int is_strict(const arguments *a) { return a->given[OPTION_STRICT] != NULL; }
-
-window window_of(const arguments *a, int at, int strict) {
-    window w = { .strict = strict };
-    long long row = signed_number_of(a->words[at], "ROW"), column = signed_number_of(a->words[at + 1], "COLUMN");
-    w.height = number_of(a->words[at + 2], "HEIGHT"), w.width = number_of(a->words[at + 3], "WIDTH");
-    if (w.strict) {
-        within(row, 0, UINT32_MAX), within(column, 0, UINT32_MAX);
-        w.top = (uint32_t)row, w.left = (uint32_t)column;
-    } else {
-        within(row, INT32_MIN, INT32_MAX), within(column, INT32_MIN, INT32_MAX);
-        w.row = (int32_t)row, w.column = (int32_t)column;
-    }
-    return w;
+void run_at(const arguments *a) {
+    line l = open_line(a, TO_READ);
+    class_names classes = read_classes(&l);
+    uint32_t row, column, class = 0, inside = side_of(&l) - 1;
+    char sheet_name[BLOCK_TEXT], key[KEY_TEXT], name[BLOCK_TEXT];
+    pixel_of(&l, a, 1, &row, &column);
+    sheet s = read_sheet(&l, row >> l.m, column >> l.m);
+    hlq_keyed pixel = hlq_key_at(l.m, row & inside, column & inside, l.m);
+    accept_or_end(pixel.refusal, NULL);
+    hlq_stands at;
+    accept_or_end(hlq_sheet_standing(&s.map, (uint32_t)pixel.key, &at), NULL);
+    block b = { s.i, s.j, (uint32_t)(at.kind == HLQ_LISTED ? pixel.key : at.leaf) };
+    while (s.map.list.bits[at.place] >> class != 1) class++; /* a leaf has one slot */
+    square q = square_of(&l, b);
+    key_text(l.m, b.key, key);
+    sheet_text(b.i, b.j, sheet_name);
+    block_text(&l, b, name);
+    answer_begin(a);
+    fact_words("sheet", sheet_name);
+    fact_words("key", key);
+    fact_words("block", name);
+    fact_number("level", q.level);
+    fact_number("class", class);
+    fact_words("name", classes.names[class]);
+    fact_number("row", q.row);
+    fact_number("column", q.column);
+    fact_number("side", q.side);
+    fact_exact("x", x_of(&l, column + 0.5));
+    fact_exact("y", y_of(&l, row + 0.5));
+    answer_end();
+    give_back_sheet(&s);
+    give_back_classes(&classes);
+    close_line(&l);
 }
 
 void run_report(const arguments *a) {
     static const column columns[] = { { "class", 5 }, { "name", -8 } };
-    class_names classes = read_classes(a);
-    map list = load_map(a->words[0]);
-    window w = window_of(a, 1, is_strict(a));
-    hlq_reported seen =
-        w.strict ? hlq_report(list.m, list.s, LIST_OF(&list), list.n, w.top, w.left, w.height, w.width)
-                 : hlq_report_clipped(list.m, list.s, LIST_OF(&list), list.n, w.row, w.column, w.height, w.width);
-    accept_or_end(seen.refusal, NULL);
+    line l = open_line(a, TO_READ);
+    class_names classes = read_classes(&l);
+    window w = window_of(&l, a, 1);
+    uint32_t seen = 0, bits;
+    for (walk r = sheets_of(&l, w); next_sheet(&r); seen |= bits)
+        accept_or_end(hlq_sheet_report_clipped(&r.sheet.map, on_sheet(&r.sheet, w), &bits), NULL);
     answer_begin(a);
     table_begin("classes", columns, 2);
-    for (uint32_t f = 0; f < list.s; f++) {
-        if (!(seen.bits >> f & 1)) continue;
+    for (uint32_t f = 0; f < l.slots; f++) {
+        if (!(seen >> f & 1)) continue;
         cell_number(f);
         cell_words(classes.names[f]);
     }
     table_end();
     answer_end();
-    give_back_map(&list);
     give_back_classes(&classes);
+    close_line(&l);
+}
+
+/* The word after the window. */
+static uint32_t class_after_window(const class_names *classes, const arguments *a) {
+    int at = 1 + window_words(a);
+    if (a->count != at + 1) fail(STATUS_USAGE, "'prowcurl %s' wants a window and a class", a->command);
+    return class_of(classes, a->words[at], "CLASS");
 }
 
 void run_exist(const arguments *a) {
-    class_names classes = read_classes(a);
-    map list = load_map(a->words[0]);
-    window w = window_of(a, 1, is_strict(a));
-    uint32_t class = class_of(&classes, a->words[5], "CLASS");
-    hlq_exists seen =
-        w.strict ? hlq_exist(list.m, list.s, LIST_OF(&list), list.n, w.top, w.left, w.height, w.width, class)
-                 : hlq_exist_clipped(list.m, list.s, LIST_OF(&list), list.n, w.row, w.column, w.height, w.width, class);
-    accept_or_end(seen.refusal, NULL);
+    line l = open_line(a, TO_READ);
+    class_names classes = read_classes(&l);
+    window w = window_of(&l, a, 1);
+    uint32_t class = class_after_window(&classes, a);
+    int seen = 0, yes;
+    for (walk r = sheets_of(&l, w); next_sheet(&r); seen |= yes)
+        accept_or_end(hlq_sheet_exist_clipped(&r.sheet.map, on_sheet(&r.sheet, w), class, &yes), NULL);
     answer_begin(a);
-    fact_truth("exists", seen.yes != 0);
+    fact_truth("exists", seen);
     answer_end();
-    give_back_map(&list);
     give_back_classes(&classes);
+    close_line(&l);
 }
 
-static hlq_counted selected(const map *list, window w, uint32_t class, uint32_t *keys, size_t room) {
-    if (w.strict)
-        return hlq_select(list->m, list->s, LIST_OF(list), list->n, w.top, w.left, w.height, w.width, class, keys,
-                          room);
-    return hlq_select_clipped(list->m, list->s, LIST_OF(list), list->n, w.row, w.column, w.height, w.width, class, keys,
-                              room);
+/* The blocks of one sheet, after those that are there. The first call asks how much room the answer needs. */
+static void select_on(block_list *found, const sheet *s, window w, uint32_t class) {
+    uint32_t none;
+    size_t count;
+    hlq_refusal needed = hlq_sheet_select_clipped(&s->map, on_sheet(s, w), class, &none, 0, &count);
+    if (needed != HLQ_ANSWER_ROOM) accept_or_end(needed, NULL);
+    uint32_t *keys = room_for(count, sizeof *keys);
+    accept_or_end(hlq_sheet_select_clipped(&s->map, on_sheet(s, w), class, keys, count, &count), NULL);
+    for (size_t i = 0; i < count; i++) add_block(found, (block){ s->i, s->j, keys[i] });
+    free(keys);
 }
 
-/* The first call asks how much room the answer needs. */
-static uint32_t *blocks_of(const map *list, window w, uint32_t class, size_t *count) {
-    uint32_t none[1];
-    hlq_counted needed = selected(list, w, class, none, 0);
-    if (needed.refusal != HLQ_ANSWER_ROOM) accept_or_end(needed.refusal, NULL);
-    uint32_t *keys = room_for((size_t)needed.count, sizeof *keys);
-    hlq_counted got = selected(list, w, class, keys, (size_t)needed.count);
-    accept_or_end(got.refusal, NULL);
-    *count = (size_t)got.count;
-    return keys;
+block_list select_blocks(line *l, window w, uint32_t class) {
+    block_list found = { 0 };
+    for (walk r = sheets_of(l, w); next_sheet(&r);) select_on(&found, &r.sheet, w, class);
+    return found;
 }
 
 void run_select(const arguments *a) {
-    static const column columns[] = { { "key", -10 }, { "level", 5 }, { "row", 5 }, { "column", 6 }, { "side", 5 } };
-    class_names classes = read_classes(a);
-    map list = load_map(a->words[0]);
-    size_t count;
-    uint32_t *keys = blocks_of(&list, window_of(a, 1, is_strict(a)), class_of(&classes, a->words[5], "CLASS"), &count);
+    static const column columns[] = { { "sheet", -7 }, { "key", -10 }, { "level", 5 }, { "row", 7 }, { "column", 7 },
+                                      { "side", 5 } };
+    line l = open_line(a, TO_READ);
+    class_names classes = read_classes(&l);
+    window w = window_of(&l, a, 1);
+    block_list found = select_blocks(&l, w, class_after_window(&classes, a));
     answer_begin(a);
-    fact_number("blocks", count);
-    table_begin("found", columns, 5);
-    for (size_t i = 0; i < count; i++) {
-        char key[KEY_TEXT];
-        hlq_block block = hlq_block_of(list.m, keys[i]);
-        key_text(list.m, keys[i], key);
+    fact_number("blocks", found.count);
+    table_begin("found", columns, 6);
+    for (size_t i = 0; i < found.count; i++) {
+        char name[BLOCK_TEXT], key[KEY_TEXT];
+        square q = square_of(&l, found.at[i]);
+        sheet_text(found.at[i].i, found.at[i].j, name);
+        key_text(l.m, found.at[i].key, key);
+        cell_words(name);
         cell_words(key);
-        cell_number(block.level);
-        cell_number(block.row);
-        cell_number(block.column);
-        cell_number(block.side);
+        cell_number(q.level);
+        cell_number(q.row);
+        cell_number(q.column);
+        cell_number(q.side);
     }
     table_end();
     answer_end();
-    free(keys);
-    give_back_map(&list);
+    free(found.at);
     give_back_classes(&classes);
+    close_line(&l);
 }

@@ -1,250 +1,257 @@
-/* Surveys: PGM by netpbm's library, ESRI ASCII grids by hand, since they are words and numbers. */
+/* Surveys read row by row: PGM by netpbm's library, ESRI ASCII grids by hand, since they are words and numbers. */
 #define _DEFAULT_SOURCE
 #include "survey.h"
 
 #include "files.h"
+#include "line.h"
 #include "tool.h"
 
 #include <ctype.h>
 #include <errno.h>
 #include <netpbm/pgm.h>
+#include <stdarg.h>
 #include <stdlib.h>
 #include <string.h>
+#include <sys/stat.h>
 
-enum { MOST_SURVEY_BYTES = 1 << 26 };
+_Noreturn void fail_in_survey(const survey *s, uint32_t row, uint32_t column, const char *format, ...) {
+    char words[400];
+    va_list rest;
+    va_start(rest, format);
+    vsnprintf(words, sizeof words, format, rest);
+    va_end(rest);
+    fail(STATUS_DATA, "%s, row %u, column %u: %s", s->path, row, column, words);
+}
 
-/* What is being read, for the messages of netpbm's library and ours. */
+static void check_size(const survey *s, unsigned long long columns, unsigned long long rows) {
+    if (columns == 0 || rows == 0) fail(STATUS_DATA, "%s has no pixel", s->path);
+    if (columns > MOST_SIDE_OF_SURVEY || rows > MOST_SIDE_OF_SURVEY)
+        fail(STATUS_DATA, "%s: %llu columns and %llu rows: a survey has up to %d of each", s->path, columns, rows,
+             MOST_SIDE_OF_SURVEY);
+}
+
+enum { WORD = 64 };
+
+/* The next word, or "" at the end of the file; one that is too long is cut, and is no number. */
+static void next_word(survey *s, char word[WORD]) {
+    int c, length = 0;
+    while ((c = getc(s->file)) != EOF && isspace(c)) continue;
+    for (; c != EOF && !isspace(c); c = getc(s->file)) {
+        if (c == 0) fail(STATUS_DATA, "%s: neither a PGM nor an ESRI ASCII grid, and holds a zero byte", s->path);
+        if (length < WORD - 1) word[length++] = (char)c;
+    }
+    word[length] = 0;
+    if (ferror(s->file)) fail(STATUS_IO, "%s: %s", s->path, strerror(errno));
+}
+
+/* PGM. netpbm's library tells its errors to a function of ours, which does not come back; `at` is where it reads. */
 static struct {
-    const char *path;
-    const class_names *classes;
-    const char *nodata;
-    uint32_t slots;   /* 0 where the survey decides */
-    uint32_t highest; /* class so far */
+    const survey *s;
     long long row, column;
-} reading;
+} at;
 
-uint32_t resolution_of(unsigned long long side, const char *what, int status) {
-    for (uint32_t m = 0; m <= HLQ_DEEPEST_M; m++) if (side == 1ull << m) return m;
-    fail(status, "%s: a side of %llu pixels is not a power of two up to %d", what, side, 1 << HLQ_DEEPEST_M);
-}
-
-uint32_t slots_of(const char *text) {
-    long long slots;
-    if (!is_number(text, 1, HLQ_MOST_SLOTS, &slots))
-        fail(STATUS_USAGE, "--slots: '%s' is not a whole number from 1 to %d", text, HLQ_MOST_SLOTS);
-    return (uint32_t)slots;
-}
-
-static uint32_t resolution_for(unsigned long long columns, unsigned long long rows) {
-    if (columns != rows)
-        fail(STATUS_DATA, "%s: %llu columns and %llu rows are not a square", reading.path, columns, rows);
-    return resolution_of(columns, reading.path, STATUS_DATA);
-}
-
-/* A class at the pixel that is being read, or the end. */
-static uint8_t checked_class(unsigned long class) {
-    uint32_t limit = reading.slots ? reading.slots : HLQ_MOST_SLOTS;
-    if (class >= limit)
-        fail(STATUS_DATA, "%s, row %lld, column %lld: %lu is no class: they go from 0 to %u%s", reading.path,
-             reading.row, reading.column, class, limit - 1,
-             reading.classes->count ? "" : " (a column grey in --classes gives classes to other greys)");
-    if (class > reading.highest) reading.highest = (uint32_t)class;
-    return (uint8_t)class;
-}
-
-static uint8_t class_of_grey(unsigned long grey) {
-    const class_names *c = reading.classes;
-    if (!c->has_greys) return checked_class(grey);
-    if (grey > 255 || c->of_grey[grey] == NO_CLASS)
-        fail(STATUS_DATA, "%s, row %lld, column %lld: no class of --classes has the grey %lu", reading.path,
-             reading.row, reading.column, grey);
-    return checked_class(c->of_grey[grey]);
-}
-
-/* netpbm's library tells its errors to this function, which does not come back. */
 static void end_of_netpbm(const char *words) {
-    if (reading.row < 0) fail(STATUS_DATA, "%s: %s", reading.path, words);
-    if (reading.column < 0) fail(STATUS_DATA, "%s, row %lld: %s", reading.path, reading.row, words);
-    fail(STATUS_DATA, "%s, row %lld, column %lld: %s", reading.path, reading.row, reading.column, words);
+    if (at.row < 0) fail(STATUS_DATA, "%s: %s", at.s->path, words);
+    if (at.column < 0) fail(STATUS_DATA, "%s, row %lld: %s", at.s->path, at.row, words);
+    fail(STATUS_DATA, "%s, row %lld, column %lld: %s", at.s->path, at.row, at.column, words);
 }
 
 static void hear_nothing(const char *words) { (void)words; }
 
 /* netpbm's library does not say at which pixel a file ends, so the bytes that a P5 still has are counted first. */
-static void look_for_the_end(FILE *file, unsigned long side, size_t length) {
-    unsigned long left = (unsigned long)length - (unsigned long)ftell(file);
-    if (left < side * side)
-        fail(STATUS_DATA, "%s, row %lu, column %lu: the file ends here", reading.path, left / side, left % side);
+static void look_for_the_end(const survey *s) {
+    struct stat file;
+    off_t begun = ftello(s->file);
+    if (begun < 0 || fstat(fileno(s->file), &file) != 0 || !S_ISREG(file.st_mode)) return;
+    uint64_t left = (uint64_t)(file.st_size - begun), wanted = (uint64_t)s->rows * s->columns;
+    if (left < wanted)
+        fail_in_survey(s, (uint32_t)(left / s->columns), (uint32_t)(left % s->columns), "the file ends here");
+    if (left > wanted) fail(STATUS_DATA, "%s: more follows the last pixel", s->path);
 }
 
-/* The whole row at once for P5, pixel by pixel for P2, so that a bad number is found at its pixel. The library is told
- * 255 for the maxval, and the file's own is compared here, where the pixel is known. */
-static void read_pgm_row(FILE *file, gray *greys, int columns, int format) {
-    reading.column = -1;
-    if (format == RPGM_FORMAT) pgm_readpgmrow(file, greys, columns, 255, format);
-    for (int i = 0; i < columns && format != RPGM_FORMAT; i++) {
-        reading.column = i;
-        pgm_readpgmrow(file, greys + i, 1, 255, format);
+/* A P5 by the library. It is told 255 for the maxval, and the file's own is compared here, where the pixel is known. */
+static void read_raw_row(survey *s, int *values) {
+    gray *greys = (gray *)values; /* of the same size, and 255 at most */
+    at.s = s, at.row = s->row, at.column = -1;
+    pgm_readpgmrow(s->file, greys, (int)s->columns, 255, RPGM_FORMAT);
+    for (uint32_t i = 0; i < s->columns; i++)
+        if (greys[i] > s->maxval)
+            fail_in_survey(s, s->row, i, "grey %u is above the file's maxval %u", greys[i], s->maxval);
+    s->row++;
+}
+
+/* A P2 by hand: the library wants something after the last number, where people often have nothing. */
+static void read_plain_row(survey *s, int *values) {
+    char word[WORD];
+    for (uint32_t i = 0; i < s->columns; i++) {
+        long long grey;
+        next_word(s, word);
+        if (*word == 0) fail_in_survey(s, s->row, i, "the file ends here");
+        if (!is_number(word, 0, UINT32_MAX, &grey)) fail_in_survey(s, s->row, i, "'%s' is not a grey", word);
+        if (grey > s->maxval)
+            fail_in_survey(s, s->row, i, "grey %lld is above the file's maxval %u", grey, s->maxval);
+        values[i] = (int)grey;
     }
+    s->row++;
 }
 
-static void read_pgm_pixels(FILE *file, survey *s, int columns, gray maxval, int format, size_t length) {
-    gray *greys = room_for((size_t)columns, sizeof *greys);
-    if (format == RPGM_FORMAT) look_for_the_end(file, (unsigned long)columns, length);
-    for (int row = 0; row < columns; row++) {
-        reading.row = row;
-        read_pgm_row(file, greys, columns, format);
-        for (int i = 0; i < columns; i++) {
-            reading.column = i;
-            if (greys[i] > maxval)
-                fail(STATUS_DATA, "%s, row %d, column %d: grey %u is above the file's maxval %u", reading.path, row, i,
-                     greys[i], maxval);
-            s->pixels[(size_t)row * (size_t)columns + (size_t)i] = class_of_grey(greys[i]);
-        }
-    }
-    free(greys);
-    int next;
-    while ((next = getc(file)) != EOF)
-        if (format == RPGM_FORMAT || !isspace(next))
-            fail(STATUS_DATA, "%s: more follows the last pixel", reading.path);
-}
-
-static void begin_netpbm(void) {
-    reading.row = reading.column = -1;
+static void open_pgm(survey *s) {
+    int columns, rows, format;
+    gray maxval;
+    at.s = s, at.row = at.column = -1;
     pm_init("prowcurl", 0);
     pm_setusererrormsgfn(end_of_netpbm);
     pm_setusermessagefn(hear_nothing);
-}
-
-/* The bytes as a file in memory. A newline is put after them, since the library wants one after the last number of a
- * P2, where people often have none; a P5 is told to end before it. */
-static survey read_pgm(uint8_t *bytes, size_t length) {
-    int columns, rows, format;
-    gray maxval;
-    survey s = { 0 };
-    bytes[length] = '\n';
-    FILE *file = fmemopen(bytes, bytes[1] == '2' ? length + 1 : length, "rb");
-    if (!file) fail(STATUS_MEMORY, "%s: %s", reading.path, strerror(errno));
-    begin_netpbm();
-    pgm_readpgminit(file, &columns, &rows, &maxval, &format);
+    pgm_readpgminit(s->file, &columns, &rows, &maxval, &format);
     if (format != PGM_FORMAT && format != RPGM_FORMAT)
-        fail(STATUS_DATA, "%s: not a grey PGM: it should begin with P5 or P2", reading.path);
-    if (maxval > 255) fail(STATUS_DATA, "%s: greys up to %u: not an 8-bit PGM", reading.path, maxval);
-    s.m = resolution_for((unsigned)columns, (unsigned)rows);
-    s.pixels = room_for((size_t)1 << 2 * s.m, 1);
-    if (reading.slots == 0 && maxval < HLQ_MOST_SLOTS && !reading.classes->has_greys) s.s = maxval + 1;
-    read_pgm_pixels(file, &s, columns, maxval, format, length);
-    fclose(file);
-    return s;
+        fail(STATUS_DATA, "%s: not a grey PGM: it should begin with P5 or P2", s->path);
+    if (maxval > 255) fail(STATUS_DATA, "%s: greys up to %u: not an 8-bit PGM", s->path, maxval);
+    check_size(s, columns < 0 ? 0 : (unsigned)columns, rows < 0 ? 0 : (unsigned)rows);
+    s->columns = (uint32_t)columns, s->rows = (uint32_t)rows;
+    s->format = (unsigned)format, s->maxval = maxval;
+    s->read_row = format == RPGM_FORMAT ? read_raw_row : read_plain_row;
+    if (format == RPGM_FORMAT) look_for_the_end(s);
 }
 
-/* The next word of a grid, or NULL at its end. */
-static char *next_word(char **text) {
-    char *word = *text + strspn(*text, " \t\r\n");
-    char *end = word + strcspn(word, " \t\r\n");
-    *text = *end ? end + 1 : end;
-    *end = 0;
-    return *word ? word : NULL;
+/* ESRI ASCII grids: words with a number each, then the cells row by row from the north. */
+static int value_of_cell(survey *s, const char *word, uint32_t column) {
+    double value;
+    if (*word == 0) fail_in_survey(s, s->row, column, "the file ends here");
+    if (!is_decimal(word, &value)) fail_in_survey(s, s->row, column, "'%s' is not a number", word);
+    if (s->has_nodata && value == s->nodata) return NO_DATA;
+    if (value < 0 || value > 255 || value != (double)(unsigned)value)
+        fail_in_survey(s, s->row, column, "%s is no class: they go from 0 to %d", word, HLQ_MOST_SLOTS - 1);
+    return (int)value;
 }
 
-typedef struct {
-    unsigned long long columns, rows;
-    double nodata;
-} grid_head;
+static void read_grid_row(survey *s, int *values) {
+    char word[WORD];
+    for (uint32_t i = 0; i < s->columns; i++) {
+        if (s->row == 0 && i == 0 && s->bits) { /* the first cell was read with the head */
+            s->bits = 0;
+            values[0] = (int)s->format;
+            continue;
+        }
+        next_word(s, word);
+        values[i] = value_of_cell(s, word, i);
+    }
+    s->row++;
+}
 
 static int is_word(const char *word, const char *wanted) {
     while (*word && tolower((unsigned char)*word) == *wanted) word++, wanted++;
     return *word == 0 && *wanted == 0;
 }
 
-/* The words before the first number: ncols, nrows and others, each with a value. Gives the first cell. */
-static char *read_grid_head(char **text, grid_head *head) {
-    static const char *const others[] = { "xllcorner", "yllcorner", "xllcenter", "yllcenter", "cellsize", "dx", "dy" };
-    char *word;
-    while ((word = next_word(text)) && isalpha((unsigned char)*word)) {
-        char *value = next_word(text);
+typedef struct {
+    double columns, rows, west, south, cell, dx, dy, nodata;
+    int corner_x, corner_y; /* 1 where west is an edge, 2 where it is a centre */
+} grid_head;
+
+/* One word of the head with its number; 0 where it is none of a grid's. */
+static int take_head(grid_head *h, const char *word, double number) {
+    if (is_word(word, "ncols")) h->columns = number;
+    else if (is_word(word, "nrows")) h->rows = number;
+    else if (is_word(word, "xllcorner")) h->west = number, h->corner_x = 1;
+    else if (is_word(word, "xllcenter")) h->west = number, h->corner_x = 2;
+    else if (is_word(word, "yllcorner")) h->south = number, h->corner_y = 1;
+    else if (is_word(word, "yllcenter")) h->south = number, h->corner_y = 2;
+    else if (is_word(word, "cellsize")) h->cell = number;
+    else if (is_word(word, "dx")) h->dx = number;
+    else if (is_word(word, "dy")) h->dy = number;
+    else if (is_word(word, "nodata_value")) h->nodata = number;
+    else return 0;
+    return 1;
+}
+
+/* The words before the first number. Gives the first cell. */
+static void read_grid_head(survey *s, grid_head *h, char word[WORD]) {
+    for (next_word(s, word); isalpha((unsigned char)*word); next_word(s, word)) {
+        char value[WORD];
         double number;
-        if (!value || !is_decimal(value, &number))
-            fail(STATUS_DATA, "%s: '%s' has no number after it", reading.path, word);
-        int known = is_word(word, "nodata_value");
-        if (known) head->nodata = number;
-        for (size_t i = 0; i < sizeof others / sizeof *others; i++) known |= is_word(word, others[i]);
-        if (is_word(word, "ncols") || is_word(word, "nrows")) {
-            if (number < 1 || number > 1e9 || number != (double)(unsigned long long)number)
-                fail(STATUS_DATA, "%s: %s is %s", reading.path, word, value);
-            *(is_word(word, "ncols") ? &head->columns : &head->rows) = (unsigned long long)number;
-        } else if (!known) {
-            fail(STATUS_DATA, "%s: '%s' is no word of an ESRI ASCII grid", reading.path, word);
-        }
+        next_word(s, value);
+        if (!is_decimal(value, &number)) fail(STATUS_DATA, "%s: '%s' has no number after it", s->path, word);
+        if (!take_head(h, word, number)) fail(STATUS_DATA, "%s: '%s' is no word of an ESRI ASCII grid", s->path, word);
+        int counts = is_word(word, "ncols") || is_word(word, "nrows");
+        if (counts && (number < 0 || number > 1e15 || number != (double)(long long)number))
+            fail(STATUS_DATA, "%s: %s is %s", s->path, word, value);
     }
-    return word;
 }
 
-static uint8_t class_of_cell(const char *word, double nodata) {
-    double value;
-    if (!is_decimal(word, &value))
-        fail(STATUS_DATA, "%s, row %lld, column %lld: '%s' is not a number", reading.path, reading.row, reading.column,
-             word);
-    if (value == nodata) {
-        if (reading.nodata) return checked_class(class_of(reading.classes, reading.nodata, "--nodata"));
-        fail(STATUS_DATA, "%s, row %lld, column %lld: no data; --nodata CLASS gives it a class", reading.path,
-             reading.row, reading.column);
-    }
-    if (value < 0 || value > 255 || value != (double)(unsigned)value)
-        fail(STATUS_DATA, "%s, row %lld, column %lld: %s is no class: they go from 0 to %d", reading.path, reading.row,
-             reading.column, word, HLQ_MOST_SLOTS - 1);
-    return class_of_grey((unsigned long)value);
+static void place_grid(survey *s, const grid_head *h) {
+    if (h->dx != h->dy) fail(STATUS_DATA, "%s: the cells are not square: %.15g by %.15g", s->path, h->dx, h->dy);
+    s->cell = h->cell != 0 ? h->cell : h->dx;
+    s->has_cell = h->cell != 0 || h->dx != 0;
+    if (s->has_cell && !(s->cell > 0)) fail(STATUS_DATA, "%s: cellsize is %.15g", s->path, s->cell);
+    if (!s->has_cell) s->cell = 1;
+    s->has_place = h->corner_x && h->corner_y;
+    if (!s->has_place) return;
+    s->west = h->west - (h->corner_x == 2 ? s->cell / 2 : 0);
+    s->north = h->south - (h->corner_y == 2 ? s->cell / 2 : 0) + s->rows * s->cell;
 }
 
-static survey read_grid(char *bytes, size_t length) {
-    char *text = bytes;
-    if (memchr(bytes, 0, length)) fail(STATUS_DATA, "%s: neither a PGM nor an ESRI ASCII grid", reading.path);
-    grid_head head = { 0, 0, -9999 };
-    survey s = { 0 };
-    char *word = read_grid_head(&text, &head);
-    if (!head.columns || !head.rows) fail(STATUS_DATA, "%s: a grid begins with ncols and nrows", reading.path);
-    s.m = resolution_for(head.columns, head.rows);
-    s.pixels = room_for((size_t)1 << 2 * s.m, 1);
-    for (size_t i = 0; i < (size_t)1 << 2 * s.m; i++, word = next_word(&text)) {
-        reading.row = (long long)(i >> s.m), reading.column = (long long)(i - ((i >> s.m) << s.m));
-        if (!word)
-            fail(STATUS_DATA, "%s, row %lld, column %lld: the file ends here", reading.path, reading.row,
-                 reading.column);
-        s.pixels[i] = class_of_cell(word, head.nodata);
+/* GRID.prj, beside GRID.asc, is where its coordinate system stands. */
+static void look_for_prj(survey *s) {
+    const char *dot = strrchr(s->path, '.'), *slash = strrchr(s->path, '/');
+    if (!dot || (slash && dot < slash)) return;
+    char *beside = text_of("%.*s.prj", (int)(dot - s->path), s->path);
+    if (file_exists(beside)) take_prj(s, beside);
+    free(beside);
+}
+
+static void open_grid(survey *s) {
+    grid_head h = { .columns = -1, .rows = -1, .nodata = -9999 };
+    char word[WORD];
+    read_grid_head(s, &h, word);
+    if (h.columns < 0 || h.rows < 0) fail(STATUS_DATA, "%s: a grid begins with ncols and nrows", s->path);
+    check_size(s, (unsigned long long)h.columns, (unsigned long long)h.rows);
+    s->columns = (uint32_t)h.columns, s->rows = (uint32_t)h.rows;
+    s->nodata = h.nodata, s->has_nodata = 1;
+    place_grid(s, &h);
+    look_for_prj(s);
+    s->format = (unsigned)value_of_cell(s, word, 0), s->bits = 1;
+    s->read_row = read_grid_row;
+}
+
+int is_old_map(const char *path) {
+    char mark[3] = "";
+    FILE *file = strcmp(path, "-") == 0 ? NULL : fopen(path, "rb");
+    size_t length = file ? fread(mark, 1, 3, file) : 0;
+    if (file) fclose(file);
+    return length == 3 && memcmp(mark, "HLQ", 3) == 0;
+}
+
+survey open_survey(const char *path) {
+    survey s = { .path = path, .cell = 1 };
+    int from_input = strcmp(path, "-") == 0;
+    struct stat there;
+    s.file = from_input ? stdin : fopen(path, "rb");
+    if (!s.file) fail(STATUS_NO_INPUT, "%s: %s", path, strerror(errno));
+    if (fstat(fileno(s.file), &there) == 0 && S_ISDIR(there.st_mode))
+        fail(STATUS_NO_INPUT, "%s: %s", path, strerror(EISDIR));
+    int first = getc(s.file);
+    if (first == EOF) fail(STATUS_DATA, "%s is empty", path);
+    ungetc(first, s.file);
+    if (first == 'P') {
+        open_pgm(&s);
+    } else if (first == 'n' || first == 'N') {
+        open_grid(&s);
+    } else {
+        if (from_input) fail(STATUS_DATA, "%s: neither a PGM nor an ESRI ASCII grid", path);
+        fclose(s.file);
+        return open_gdal_survey(path);
     }
-    if (word) fail(STATUS_DATA, "%s: more follows the last cell", reading.path);
     return s;
 }
 
-survey read_survey(const arguments *a, const char *path, const class_names *classes) {
-    memset(&reading, 0, sizeof reading);
-    reading.path = path, reading.classes = classes, reading.nodata = a->given[OPTION_NODATA];
-    if (a->given[OPTION_SLOTS]) reading.slots = slots_of(a->given[OPTION_SLOTS]);
-    else reading.slots = classes->count;
-    size_t length;
-    uint8_t *bytes = read_file(path, MOST_SURVEY_BYTES, &length);
-    if (length > MOST_SURVEY_BYTES) fail(STATUS_DATA, "%s is longer than %d bytes", path, MOST_SURVEY_BYTES);
-    if (length == 0) fail(STATUS_DATA, "%s is empty", path);
-    if (!isalpha(bytes[0])) fail(STATUS_DATA, "%s: neither a PGM nor an ESRI ASCII grid", path);
-    survey s = bytes[0] == 'P' ? read_pgm(bytes, length) : read_grid((char *)bytes, length);
-    free(bytes);
-    if (reading.slots) s.s = reading.slots;
-    else if (s.s == 0) s.s = reading.highest + 1;
-    return s;
+void end_survey(survey *s) {
+    for (int next; (next = getc(s->file)) != EOF;)
+        if (s->format == RPGM_FORMAT || !isspace(next))
+            fail(STATUS_DATA, "%s: more follows the last %s", s->path, s->read_row == read_grid_row ? "cell" : "pixel");
+    if (s->file != stdin) fclose(s->file);
 }
 
-void write_pgm(const char *path, const uint8_t *pixels, uint32_t side, uint32_t s) {
-    FILE *file = strcmp(path, "-") == 0 ? stdout : fopen(path, "wb");
-    if (!file) fail(STATUS_CANNOT_CREATE, "%s: %s", path, strerror(errno));
-    gray *greys = room_for(side, sizeof *greys), maxval = s > 1 ? s - 1 : 1; /* a PGM has no maxval of 0 */
-    reading.path = path;
-    begin_netpbm();
-    pgm_writepgminit(file, (int)side, (int)side, maxval, 0);
-    for (uint32_t row = 0; row < side; row++) {
-        for (uint32_t i = 0; i < side; i++) greys[i] = pixels[(size_t)row * side + i];
-        pgm_writepgmrow(file, greys, (int)side, maxval, 0);
-    }
-    free(greys);
-    if (fflush(file) != 0 || ferror(file)) fail(STATUS_IO, "%s: %s", path, strerror(errno));
-    if (file != stdout && fclose(file) != 0) fail(STATUS_IO, "%s: %s", path, strerror(errno));
+void give_back_survey(survey *s) {
+    free(s->srs_name);
+    free(s->definition);
 }

@@ -11,7 +11,7 @@ enum {
     STATUS_USAGE = 64,         /* the command line is wrong */
     STATUS_DATA = 65,          /* a file holds what it should not */
     STATUS_NO_INPUT = 66,      /* a file cannot be opened */
-    STATUS_NOT_THERE = 70,     /* the library that the tool was built with has no such call */
+    STATUS_MISSING = 69,       /* a program that the tool calls is not there */
     STATUS_MEMORY = 71,        /* no memory */
     STATUS_CANNOT_CREATE = 73, /* a file cannot be made, or would be lost */
     STATUS_IO = 74,            /* reading or writing failed */

@@ -1,25 +1,22 @@
-/* The table of waivers that two offices share, in a file. */
+/* Waivers: rows of an office for a rule and a block of a sheet, which the library's own calls judge. */
 #ifndef WAIVERS_H
 #define WAIVERS_H
 
-#include "csv.h"
-#include "prowcurl.h"
+#include "window.h"
 
+/* A table of waivers in memory, as the library takes it. */
 typedef struct {
-    uint32_t offices[HLQ_TABLE_PLACES], ids[HLQ_TABLE_PLACES], waived[HLQ_TABLE_PLACES];
-    size_t rows;
+    uint32_t memory[HLQ_TABLE_NUMBERS];
+    hlq_table table;
 } waiver_table;
 
-#define TABLE_OF(t) \
-    (t)->offices, HLQ_TABLE_PLACES, (t)->ids, HLQ_TABLE_PLACES, (t)->waived, HLQ_TABLE_PLACES
+/* The waivers of both offices on a sheet, each put in by the library's call. */
+waiver_table *read_waivers(line *l, uint32_t i, uint32_t j);
 
-/* A row of the file. */
-typedef struct {
-    uint32_t office, id, key;
-} waiver;
-
-waiver waiver_at(const csv *file, size_t row, uint32_t m);
-/* Every row of the file put into the table, in whatever order the file has them. */
-void read_waivers(waiver_table *table, const csv *file, uint32_t m);
+/* A row more or less. They give the refusal: 21 no office, 8 no key, 22 the row is there or is not, 12 the office has
+ * 256 rows on that sheet, 14 the office has no such rule. Nothing is changed where it is not 0. */
+hlq_refusal add_waiver(line *l, uint32_t office, uint32_t rule, block b, const char *note, const char *by,
+                       const char *at);
+hlq_refusal remove_waiver(line *l, uint32_t office, uint32_t rule, block b);
 
 #endif

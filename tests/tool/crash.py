@@ -1,244 +1,256 @@
 #!/usr/bin/env python3
-"""Edits that are killed, and edits at the same time: crash.py PROGRAM.. The program is built with crash points. After
-every kill the map and its log must be the old ones or the new ones, both whole, and go on to work."""
-import fcntl
+"""Edits that are killed, that find the disk full, and that meet each other: crash.py PROGRAM FAULTS.so. Whatever
+happens, a line is in the state before the edit or after it, whole."""
 import os
 import random
-import resource
 import shutil
+import sqlite3
 import subprocess
 import sys
 import time
 
 from support import Tool, fail, must, patches, pgm, work_folder
 
-SIDE = 64
-EDITS = 300
+SIDE, ROWS, COLUMNS = 32, 90, 40  # three sheets down, two across
+EDITS = 150
+FAULTS = ""
 
 
-def state_of(tool, name="a.hlq"):
-    """What a reader sees: the map's bytes, and what the log is good for. Ends where they do not fit."""
-    tool("check", name)
-    info = tool.json("info", name)
-    return tool.read(name), info["log_records"], info["can_undo"], info["can_redo"]
+def state_of(tool, line="a.gpkg"):
+    """All that can be asked: every survey's pixels, the steps, the tables. The line must be sound."""
+    tool("check", line)
+    surveys = [survey["name"] for survey in tool.json("info", line)["surveys"]]
+    pixels = [tool("export", line, "pgm", "-", "--survey", name, text=False) for name in surveys]
+    steps = [tool("steps", line, "--csv", "--survey", name) for name in surveys]
+    return tuple(pixels + steps + [tool("get", line, table) for table in ("classes", "rules", "waivers")])
 
 
 def copied(tool, folder):
-    """The same files in another folder."""
     shutil.rmtree(folder, ignore_errors=True)
     shutil.copytree(tool.folder, folder)
     other = Tool(tool.program, folder)
+    other.env = tool.env
     return other
 
 
-def killed_at(tool, point, words):
-    env = dict(tool.env, PROWCURL_CRASH=str(point))
-    done = subprocess.run(tool.program + words, cwd=tool.folder, env=env, capture_output=True)
-    must(done.returncode in (0, -9), f"{words} at crash point {point}: {done.returncode} {done.stderr}")
-    return done.returncode == -9
+def with_fault(tool, fault, words):
+    """Runs the command with a fault; gives its status and what it said."""
+    env = dict(tool.env, LD_PRELOAD=FAULTS, PROWCURL_FAULT=fault)
+    done = subprocess.run(tool.program + [str(word) for word in words], cwd=tool.folder, env=env, capture_output=True)
+    tool.runs += 1
+    return done.returncode, done.stderr.decode()
 
 
-def at_every_point(tool, folder, words):
-    """The command killed at each of its crash points in turn. Gives how many there are."""
-    old = state_of(tool)
+def without_words(state):
+    """Steps say when: two runs of one edit differ there alone."""
+    return tuple(part if isinstance(part, bytes) else "".join(
+        ",".join(field for field in line.split(",") if not field.endswith("Z")) for line in part.splitlines())
+        for part in state)
+
+
+def at_every_call(tool, folder, words):
+    """The command killed at each call that changes a file, and with no room from each write on."""
+    old = without_words(state_of(tool))
     done = copied(tool, folder + "/done")
-    done(*words)
-    new, point, seen = state_of(done), 1, set()
-    while True:
+    must(with_fault(done, f"count:{folder}/calls", words)[0] == 0, f"{words} does not go")
+    new = without_words(state_of(done))
+    with open(folder + "/calls") as file:
+        calls = int(file.read())
+    must(calls > 5, f"{words}: the faults are not at work")
+    seen = set()
+    for call in range(1, calls + 1):
         other = copied(tool, folder + "/other")
-        if not killed_at(other, point, words):
-            must(state_of(other) == new, f"{words} without a crash")
-            break
-        now = state_of(other)
-        must(now in (old, new), f"{words} killed at point {point}: neither the old nor the new state")
+        status, _ = with_fault(other, f"kill:{call}", words)
+        must(status == -9, f"{words}: call {call} of {calls} was not killed")
+        now = without_words(state_of(other))
+        must(now in (old, new), f"{words} killed at call {call}: neither the old nor the new state")
         seen.add(now == new)
-        point += 1
-        again = copied(other, folder + "/again")  # a second crash, and then an edit that is let through
-        killed_at(again, 1 + point % 9, ["paint", "a.hlq", "440000", "3"])
-        state_of(again)
-        other("paint", "a.hlq", "110000", 4)
-        other("undo", "a.hlq")
-        must(other.read("a.hlq") == now[0], f"{words} killed at point {point}: what follows is wrong")
-    must(seen == {False, True} or old[0] == new[0], f"{words}: crash points on both sides are wanted")
-    return point - 1
-
-
-def has_window_paints(tool):
-    return int(tool("--version").split()[-1]) >= 13
-
-
-def test_points(tool, folder):
-    points = 0
-    tool.write("b.pgm", pgm(patches(SIDE, 4)))
-    patch = tool.json("at", "a.hlq", 9, 9)  # a first edit that changes no pixel: there is no log yet
-    words = ["paint", "a.hlq", patch["key"], str(patch["class"])]
-    points += at_every_point(tool, folder, words)
-    tool(*words)
-    if has_window_paints(tool):
-        words = ["paint-window", "a.hlq", "5", "7", "20", "31", "2"]
-        points += at_every_point(tool, folder, words)
-        tool(*words)
-    for words in (["paint", "a.hlq", "100000", "1"], ["paint", "a.hlq", "100000", "1"], ["undo", "a.hlq"],
-                  ["paint", "a.hlq", "231000", "3"], ["undo", "a.hlq"], ["redo", "a.hlq"],
-                  ["build", "b.pgm", "a.hlq", "--force", "--slots", "5"], ["paint", "a.hlq", "0", "2"],
-                  ["forget", "a.hlq"]):
-        points += at_every_point(tool, folder, words)
-        tool(*words)
-    return points
-
-
-def test_waivers(tool, folder):
-    """The same for a file of waivers."""
-    tool("waive", "a.hlq", 1, "100000", "--waivers", "w.csv")
-    words = ["waive", "a.hlq", "1", "200000", "--waivers", "w.csv", "--note", "two"]
-    old = tool.read("w.csv")
-    done = copied(tool, folder + "/done")
-    done(*words)
-    point = 1
-    while True:
+        other("paint", "a.gpkg", 0, 0, 2, 2, 3)  # and the next one goes
+    must(old == new or seen >= {False}, f"{words}: no call before the edit counts")
+    for write in range(1, calls + 1, 1 + calls // 12):
         other = copied(tool, folder + "/other")
-        if not killed_at(other, point, words):
-            break
-        must(other.read("w.csv") in (old, done.read("w.csv")), f"waivers killed at point {point}")
-        other("waive", "a.hlq", 1, "300000", "--waivers", "w.csv")
-        point += 1
-    return point - 1
+        status, said = with_fault(other, f"full:{write}", words)
+        now = without_words(state_of(other))
+        if status == 0:  # so many writes it has not
+            must(now == new, f"{words}: full disk at write {write} was not told")
+            continue
+        must(status in (73, 74) and said.startswith("prowcurl: "), f"{words}, full at write {write}: {status} {said}")
+        must(now == old, f"{words}: a full disk at write {write} changed something")
+        no_litter(other)
+    return calls
 
 
-def random_edit(numbers, windows):
+def test_calls(tool, folder):
+    calls = 0
+    tool.write("r.csv", "id,row,column,height,width,class\n1,0,0,9,9,1\n")
+    for words in (["paint", "a.gpkg", 10, 5, 75, 20, 2], ["undo", "a.gpkg"], ["redo", "a.gpkg"],
+                  ["set", "a.gpkg", "rules", "r.csv", "--office", 0], ["add", "a.gpkg", "b.pgm"]):
+        calls += at_every_call(tool, folder, words)
+        tool(*words)
+    return calls
+
+
+def test_outputs(tool, folder):
+    """An output that is killed or finds no room leaves what was there."""
+    tool("export", "a.gpkg", "pgm", "out.pgm", "--survey", "b")
+    old = tool.read("out.pgm")
+    os.chmod(tool.path("out.pgm"), 0o640)
+    words = ["export", "a.gpkg", "pgm", "out.pgm", "--survey", "a"]
+    done = copied(tool, folder + "/done")
+    with_fault(done, f"count:{folder}/calls", words)
+    new = done.read("out.pgm")
+    must(new != old and os.stat(done.path("out.pgm")).st_mode & 0o777 == 0o640, "the mode is kept")
+    with open(folder + "/calls") as file:
+        calls = int(file.read())
+    for call in range(1, calls + 1):
+        for fault in ("kill", "full"):
+            other = copied(tool, folder + "/other")
+            status, said = with_fault(other, f"{fault}:{call}", words)
+            must(other.read("out.pgm") in (old, new), f"an output with {fault}:{call} is neither old nor new")
+            must(fault == "kill" or status == 0 or (status == 74 and said.startswith("prowcurl: ")), f"{status} {said}")
+            must(status != 74 or other.read("out.pgm") == old, "a failed output replaces")
+
+
+def random_edit(numbers):
     kind = numbers.random()
-    if windows and kind > 0.8:
-        row, column = numbers.randrange(SIDE), numbers.randrange(SIDE)
-        height, width = numbers.randrange(SIDE - row) + 1, numbers.randrange(SIDE - column) + 1
-        return ["paint-window", "a.hlq", *map(str, (row, column, height, width, numbers.randrange(5)))]
-    if kind < 0.2:
-        return ["undo", "a.hlq"]
-    if kind < 0.35:
-        return ["redo", "a.hlq"]
-    level = numbers.randrange(1, 7)
-    key = "".join(numbers.choice("1234") for _ in range(level)) + "0" * (6 - level)
-    return ["paint", "a.hlq", key, str(numbers.randrange(5))]
-
-
-def killed_after(tool, words, seconds):
-    """Starts the command and kills it after so many seconds; gives its status."""
-    running = subprocess.Popen(tool.program + words, cwd=tool.folder, env=tool.env, stdout=subprocess.DEVNULL,
-                               stderr=subprocess.DEVNULL)
-    time.sleep(seconds)
-    running.kill()
-    return running.wait()
+    if kind < 0.25:
+        return ["undo", "a.gpkg"]
+    if kind < 0.4:
+        return ["redo", "a.gpkg"]
+    row, column = numbers.randrange(ROWS), numbers.randrange(COLUMNS)
+    return ["paint", "a.gpkg", *map(str, (row, column, numbers.randrange(1, ROWS), numbers.randrange(1, 30),
+                                          numbers.randrange(5)))]
 
 
 def test_random_kills(tool, folder):
     numbers = random.Random(28)
-    original, killed, went_through, lasts = tool.read("a.hlq"), 0, 0, 0.01
-    old, windows = state_of(tool), has_window_paints(tool)
+    original, killed, went_through, lasts = state_of(tool)[0], 0, 0, 0.01
+    old = without_words(state_of(tool))
     for _ in range(EDITS):
-        words = random_edit(numbers, windows)
+        words = random_edit(numbers)
         done = copied(tool, folder + "/done")
         before = time.monotonic()
         refusal = subprocess.run(done.program + words, cwd=done.folder, env=done.env, capture_output=True).returncode
         lasts = 0.8 * lasts + 0.2 * (time.monotonic() - before)
         must(refusal in (0, 11, 20), f"{words}: {refusal}")
-        new = state_of(done)
-        status = killed_after(tool, words, numbers.uniform(0, 1.3 * lasts))
-        now = state_of(tool)
+        new = without_words(state_of(done))
+        running = subprocess.Popen(tool.program + words, cwd=tool.folder, env=tool.env, stdout=subprocess.DEVNULL,
+                                   stderr=subprocess.DEVNULL)
+        time.sleep(numbers.uniform(0, 1.3 * lasts))
+        running.kill()
+        status, now = running.wait(), without_words(state_of(tool))
         must(status in (-9, refusal), f"{words}: status {status}")
         must(now == new if status == refusal else now in (old, new), f"{words} killed: a state that is neither")
         killed += status == -9
         went_through += status == -9 and now == new != old
         old = now
     undone = 0
-    while tool.json("info", "a.hlq")["can_undo"]:
-        tool("undo", "a.hlq")
+    while tool.json("info", "a.gpkg")["undo"]:
+        tool("undo", "a.gpkg")
         undone += 1
-    must(tool.read("a.hlq") == original, "all edits taken back do not give the map as it was")
+    must(state_of(tool)[0] == original, "all edits taken back do not give the survey as it was")
     return f"{EDITS} edits, {killed} of them killed, {went_through} of these after they counted; {undone} taken back"
 
 
-def test_two_writers(tool):
-    """Writers at the same time wait for each other; a reader always sees a map that fits its log."""
-    tool("forget", "a.hlq")
-    original = tool.read("a.hlq")
-    script = 'for i in 1 2 3 4 5 6 7 8; do "$@" paint a.hlq ${0}${0}${i:0:0}0000 $((i % 5)) || exit; done'
-    writers = [subprocess.Popen(["bash", "-c", script, str(n)] + tool.program, cwd=tool.folder, env=tool.env,
-                                stdout=subprocess.DEVNULL) for n in (1, 2, 3)]
-    reads = 0
-    while any(writer.poll() is None for writer in writers):
-        tool("check", "a.hlq")
-        reads += 1
-    must(all(writer.returncode == 0 for writer in writers), "a writer failed")
-    for _ in range(24):
-        tool("undo", "a.hlq")
-    tool("undo", "a.hlq", status=11)
-    must(tool.read("a.hlq") == original, "an edit of two writers is lost")
-    with open(tool.path("a.hlq"), "rb") as held:
-        fcntl.flock(held, fcntl.LOCK_EX)
-        tool("paint", "a.hlq", "100000", 1, "--wait", 0, status=75, says="is being edited by another process")
-        tool("undo", "a.hlq", "--wait", "0.05", status=75)
-        tool("report", "a.hlq", 0, 0, 4, 4)  # a question waits for nobody
-    tool("paint", "a.hlq", "100000", 1, "--wait", 0)
-    waive = ["bash", "-c", 'for k in 1 2 3 4; do "$@" waive a.hlq $0 ${k}00000 --waivers both.csv || exit; done']
-    writers = [subprocess.Popen(waive + [str(n)] + tool.program, cwd=tool.folder, env=tool.env,
-                                stdout=subprocess.DEVNULL) for n in (1, 2, 3)]
-    must(all(writer.wait() == 0 for writer in writers), "a writer of waivers failed")
-    must(len(tool.read("both.csv").splitlines()) == 13, "a waiver of two writers is lost")
+def at_once(tool, count, script):
+    return [subprocess.Popen(["bash", "-c", script, str(n)] + tool.program, cwd=tool.folder, env=tool.env,
+                             stdout=subprocess.DEVNULL) for n in range(count)]
+
+
+def test_writers(tool):
+    """Writers at the same time wait for each other, and readers see a whole state; nothing is lost."""
+    tool("forget", "a.gpkg")
+    original, reads = state_of(tool)[0], 0
+    for count in (2, 5):
+        before = tool.json("info", "a.gpkg")["undo"]
+        script = 'for i in 1 2 3 4 5; do "$@" paint a.gpkg $((i * 9 + $0)) $0 50 9 $((i % 5)) --wait 60 || exit; done'
+        writers = at_once(tool, count, script)
+        while any(writer.poll() is None for writer in writers):
+            tool("areas", "a.gpkg", "--wait", 60)
+            reads += 1
+        must(all(writer.returncode == 0 for writer in writers), f"{count} writers: one failed")
+        must(tool.json("info", "a.gpkg")["undo"] == before + 5 * count, f"{count} writers: an edit is lost")
+    tool("check", "a.gpkg")
+    for _ in range(35):
+        tool("undo", "a.gpkg")
+    must(state_of(tool)[0] == original, "an edit of several writers is lost")
+    adders = at_once(tool, 3, '"$@" add a.gpkg b.pgm --as s$0 --wait 60')
+    must(all(adder.wait() == 0 for adder in adders), "surveys added at once")
+    makers = at_once(tool, 4, '"$@" init f.gpkg --side 32 2>/dev/null')
+    must(sorted(maker.wait() for maker in makers) == [0, 73, 73, 73], "a line that four make at once")
+    tool("check", "f.gpkg")
     return reads
 
 
-def test_first_builds(tool):
-    """A map that several make at once, and edit at once: a log is never lost, and none is left beside another map."""
-    script = '"$@" build a.pgm f.hlq --slots 5 && "$@" paint f.hlq ${0}00000 1'
-    for _ in range(12):
-        for name in ("f.hlq", "f.hlq.log"):
-            if os.path.exists(tool.path(name)):
-                os.remove(tool.path(name))
-        makers = [subprocess.Popen(["bash", "-c", script, str(n)] + tool.program, cwd=tool.folder, env=tool.env,
-                                   stdout=subprocess.DEVNULL, stderr=subprocess.PIPE) for n in (1, 2, 3, 4)]
-        ends = [(maker.communicate()[1], maker.returncode) for maker in makers]
-        must(all(status in (0, 73) for _, status in ends), f"builds at once: {ends}")
-        must([status for _, status in ends].count(0) >= 1, "nobody has made the map")
-        tool("check", "f.hlq")
-        tool("undo", "f.hlq")
+def test_locks(tool):
+    """Another program holds the line."""
+    base = sqlite3.connect(tool.path("a.gpkg"), isolation_level=None)
+    base.execute("BEGIN IMMEDIATE")
+    tool("paint", "a.gpkg", 0, 0, 1, 1, 1, "--wait", 0, status=75, says="another program is writing it")
+    tool("undo", "a.gpkg", "--wait", "0.05", status=75)
+    tool("report", "a.gpkg", 0, 0, 4, 4, "--wait", 0)  # a question waits for nobody who has not yet written
+    base.execute("ROLLBACK")
+    base.execute("BEGIN EXCLUSIVE")
+    tool("report", "a.gpkg", 0, 0, 4, 4, "--wait", 0, status=75)
+    base.execute("ROLLBACK")
+    base.close()
+    tool("paint", "a.gpkg", 0, 0, 1, 1, 1, "--wait", 0)
 
 
-def test_full_disk(tool, folder):
-    """Files may not grow past some bytes: a write fails, and everything stays as it was."""
-    tool("paint", "a.hlq", 0, 2)
-    old, done = state_of(tool), copied(tool, folder + "/done")
-    done("undo", "a.hlq")
-    sizes = [os.path.getsize(done.path(name)) for name in ("a.hlq", "a.hlq.log")]
-    for most in (0, 1, min(sizes) - 1, max(sizes) - 1):  # the last lets one of the two files through
-        def limit(most=most):
-            resource.setrlimit(resource.RLIMIT_FSIZE, (most, most))
-        # not restored, the signal for a file that is too long stays ignored, as Python has it, and the write fails
-        done = subprocess.run(tool.program + ["undo", "a.hlq"], cwd=tool.folder, env=tool.env, preexec_fn=limit,
-                              stdout=subprocess.DEVNULL, stderr=subprocess.PIPE, restore_signals=False)
-        must(done.returncode == 74 and done.stderr.startswith(b"prowcurl: "), f"no room for {most} bytes: {done}")
-        must(state_of(tool) == old, "a failed write changes something")
-        no_litter(tool)
-    tool("undo", "a.hlq")
+def test_two_users(tool):
+    """Two users of one group: a writer of the one is killed, and the other goes on; the group stays."""
+    if os.getuid() != 0:
+        return "not as root: two users were not tried"
+    folder = tool.folder
+    os.chmod(os.path.dirname(folder), 0o755)
+    os.chown(folder, 60001, 60100)
+    os.chmod(folder, 0o2775)
+    for name in os.listdir(folder):
+        os.chown(os.path.join(folder, name), 60001, 60100)
+        os.chmod(os.path.join(folder, name), 0o664)
+
+    def run(user, words, fault=None):
+        env = dict(tool.env, **({"LD_PRELOAD": FAULTS, "PROWCURL_FAULT": fault} if fault else {}))
+        return subprocess.run(tool.program + words, cwd=folder, env=env, capture_output=True, user=user, group=60100,
+                              extra_groups=[60100], umask=0o002).returncode
+
+    for call in (3, 6, 9, 12):
+        must(run(60001, ["paint", "a.gpkg", "0", "0", "80", "30", str(call % 5)], f"kill:{call}") == -9, "not killed")
+        must(run(60002, ["paint", "a.gpkg", "0", "0", "9", "9", "1"]) == 0, f"the other user, after a kill at {call}")
+    tool("export", "a.gpkg", "pgm", "theirs.pgm", "--survey", "b")
+    os.chown(tool.path("theirs.pgm"), 60001, 60100)
+    os.chmod(tool.path("theirs.pgm"), 0o664)
+    must(run(60002, ["export", "a.gpkg", "pgm", "theirs.pgm"]) == 0, "the other user's output")
+    must(os.stat(tool.path("theirs.pgm")).st_gid == 60100, "the group of an output is kept")
+    must(os.stat(tool.path("a.gpkg")).st_gid == 60100, "the group of the line is kept")
+    tool("check", "a.gpkg")
+    return "two users of one group: one killed four times, the other went on"
 
 
 def no_litter(tool):
-    left = [name for name in os.listdir(tool.folder) if name.endswith(".new")]
+    left = [name for name in os.listdir(tool.folder) if name.endswith((".new", "-journal"))]
     must(not left, f"left behind: {left}")
 
 
 def main():
+    global FAULTS
+    FAULTS = os.path.abspath(sys.argv[-1])
     with work_folder() as folder:
         os.mkdir(folder + "/work")
-        tool = Tool(sys.argv[1:], folder + "/work")
-        tool("build", tool.write("a.pgm", pgm(patches(SIDE, 1))), "a.hlq", "--slots", 5)
-        points = test_points(tool, folder) + test_waivers(tool, folder)
-        print(f"crash points: {points}, each left the old or the new state whole")
-        tool("build", "a.pgm", "a.hlq", "--slots", 5, "--force")
+        tool = Tool(sys.argv[1:-1], folder + "/work")
+        tool.env["TMPDIR"] = tool.env["SQLITE_TMPDIR"] = "/tmp"
+        tool("init", "a.gpkg", "--side", SIDE, "--slots", 5)
+        tool("add", "a.gpkg", tool.write("a.pgm", pgm(patches(ROWS, COLUMNS, 1))))
+        tool.write("b.pgm", pgm(patches(ROWS, COLUMNS, 4)))
+        calls = test_calls(tool, folder)
+        test_outputs(tool, folder)
+        print(f"killed at each of {calls} calls, and with a full disk: the old or the new state, whole")
         print(f"kills at random: {test_random_kills(tool, folder)}")
-        reads = test_two_writers(tool)
-        test_first_builds(tool)
-        test_full_disk(tool, folder)
+        reads = test_writers(tool)
+        test_locks(tool)
         no_litter(tool)
-        print(f"three writers at once: nothing lost, {reads} checks meanwhile were sound")
+        print(f"two and five writers at once: nothing lost, {reads} answers meanwhile")
+        print(test_two_users(tool))
         if tool.runs < 100:
             fail("hardly anything was run")
 

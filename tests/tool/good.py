@@ -2,133 +2,161 @@
 """Every command on good files, compared with what a scan of the survey's pixels says: good.py PROGRAM.."""
 import csv
 import io
+import os
+import random
+import sqlite3
 import struct
+import subprocess
 import sys
-import zlib
 
-from support import CLASSES, Tool, must, patches, pgm, pixels_of, work_folder
+from support import (CLASSES, Tool, grid, must, patches, pgm, pixels_of, plain_pgm, seen_in, square_of, work_folder)
 
-SIDE = 16
-ROWS = patches(SIDE, 3)
 CLASS_FILE = ('class,name,colour\r\n0,field,#dfe8c8\r\n1,"ballast, old",#bdb5a8\r\n2,track,\r\n'
               '3,"a ""drain""",#6fa8dc\r\n4,scrub,#4f8a3c\r\n')
-WINDOWS = [(0, 0, 16, 16), (3, 2, 5, 7), (-4, -1, 6, 3), (12, 9, 40, 4294967295), (15, 15, 1, 1)]
+SIDE, ROWS, COLUMNS = 16, 50, 37  # four sheets down and three across, none of the last ones full
+GROUND = patches(ROWS, COLUMNS, 3)
+WEST, SOUTH, CELL = 500000, 5600000, 0.5
+NORTH = SOUTH + ROWS * CELL
 
 
-def seen_in(rows, top, left, height, width):
-    return [
-        rows[r][c]
-        for r in range(max(top, 0), min(top + height, len(rows)))
-        for c in range(max(left, 0), min(left + width, len(rows)))
-    ]
+def pixels(tool, line, *more):
+    return pixels_of(tool("export", line, "pgm", "-", *more, text=False))
 
 
-def square_of(key):
-    """Row, column and side of a key's digits."""
-    row, column, side = 0, 0, SIDE
-    for digit in key.rstrip("0"):
-        side //= 2
-        row += side * (int(digit) > 2)
-        column += side * (int(digit) % 2 == 0)
-    return row, column, side
+def with_gdal(tool, rows, name, *more):
+    """A GeoTIFF of these rows, by GDAL alone."""
+    tool.write("for-gdal.asc", grid(rows, WEST, SOUTH, CELL, "NODATA_value -9999\n"))
+    subprocess.run(["gdal_translate", "-q", "-a_srs", "EPSG:25832", *more, "for-gdal.asc", "./" + name],
+                   cwd=tool.folder, check=True)
+    return name
 
 
-def test_build(tool):
+def test_surveys(tool):
+    """The same ground in every form, of every shape."""
     tool.write("classes.csv", CLASS_FILE)
-    tool.write("a.pgm", pgm(ROWS))
-    made = tool.json("build", "a.pgm", "a.hlq", "--classes", "classes.csv")
-    must(made["side"] == SIDE and made["slots"] == CLASSES, "build's answer")
-    tool("raster", "a.hlq", "back.pgm")
-    must(pixels_of(tool.read("back.pgm")) == ROWS, "the raster is another")
-    must(pixels_of(tool("raster", "a.hlq", "-", text=False)) == ROWS, "the raster on standard output is another")
-    tool("build", "back.pgm", "again.hlq")  # the maxval says how many classes there are
-    must(tool.read("again.hlq") == tool.read("a.hlq"), "built from its own raster the map is another")
-    plain = f"P2 # a comment\n{SIDE} {SIDE}\n4\n" + "\n".join(" ".join(map(str, row)) for row in ROWS)
-    for survey in (plain, grid(ROWS, ""), grid(ROWS, ".0").replace("\n", "\r\n")):
-        tool.write("other", survey)
-        tool("build", "other", "other.hlq", "--slots=5")
-        must(tool.read("other.hlq") == tool.read("a.hlq"), "another form of survey gives another map")
-    tool("build", "-", "other.hlq", "--slots", 5, stdin=pgm(ROWS))
-    must(tool.read("other.hlq") == tool.read("a.hlq"), "standard input gives another map")
-    tool.write("greys.csv", "grey,class,name\n0,0,none\n127,1,some\n255,2,all\n")
-    tool.write("grey.pgm", pgm([[0, 127], [255, 255]]))
-    tool("build", "grey.pgm", "grey.hlq", "--classes", "greys.csv")
-    must(pixels_of(tool("raster", "grey.hlq", "-", text=False)) == [[0, 1], [2, 2]], "greys are not mapped")
-    holes = grid([[1, 0], [0, 1]], "").replace("yllcorner 0", "yllcorner 0\nNODATA_value 0")
-    tool.write("holes", holes)
-    tool("build", "holes", "holes.hlq", "--nodata", 3)
-    must(pixels_of(tool("raster", "holes.hlq", "-", text=False)) == [[1, 3], [3, 1]], "no data has no class")
+    for rows, columns, side in ((1, 1, 16), (1, 37, 16), (50, 3, 16), (16, 16, 16), (17, 33, 16), (50, 37, 1024)):
+        ground = patches(rows, columns, rows)
+        tool("init", "s.gpkg", "--classes", "classes.csv", "--side", side)
+        tool.write("s.pgm", pgm(ground))
+        made = tool.json("add", "s.gpkg", "s.pgm")
+        sheets = -(-rows // side) * -(-columns // side)
+        must((made["rows"], made["columns"], made["sheets"]) == (rows, columns, sheets), "add's answer")
+        must(pixels(tool, "s.gpkg") == ground, f"{rows} by {columns}: other pixels come out")
+        for form, content in (("plain", plain_pgm(ground)), ("grid", grid(ground, 0, 0)),
+                              ("crlf", grid(ground, after=".0").replace("\n", "\r\n"))):
+            tool.write("other", content)
+            tool("add", "s.gpkg", "other", "--as", form)
+            must(pixels(tool, "s.gpkg") == ground, f"{rows} by {columns} as {form}: other pixels come out")
+        tool("check", "s.gpkg")
+        os.remove(tool.path("s.gpkg"))
 
 
-def grid(rows, after):
-    lines = [" ".join(f"{cell}{after}" for cell in row) for row in rows]
-    return f"ncols {len(rows)}\nNROWS {len(rows)}\nxllcorner 0\nyllcorner 0\ncellsize 0.5\n" + "\n".join(lines) + "\n"
+def test_coordinates(tool):
+    """The line of the other tests, from a GeoTIFF; and again from a grid, from standard input and with greys."""
+    tool("init", "a.gpkg", "--classes", "classes.csv", "--side", SIDE)
+    must(tool.json("info", "a.gpkg")["surveys"] == [], "no survey yet")
+    with_gdal(tool, GROUND, "-a.tif", "-ot", "Int16")
+    tool("add", "a.gpkg", "-a.tif", "--as", "spring", "--taken", "2026-05-31")
+    info = tool.json("info", "a.gpkg")
+    must([info[name] for name in ("rows", "columns", "side", "sheets", "slots", "cell", "west", "north", "undo")] ==
+         [ROWS, COLUMNS, SIDE, 12, CLASSES, CELL, WEST, NORTH, 0], f"info: {info}")
+    must(info["surveys"] == [{"name": "spring", "taken": "2026-05-31"}] and "25832" in info["system"], "info: surveys")
+    must(pixels(tool, "a.gpkg") == GROUND, "the GeoTIFF's pixels")
+    other = patches(ROWS, COLUMNS, 8)
+    tool("add", "a.gpkg", "-", "--as", "autumn", stdin=grid(other, WEST, SOUTH, CELL).encode())
+    tool("init", "p.gpkg")
+    tool.write("p.asc", grid(other, WEST, SOUTH, CELL))
+    subprocess.run("gdalsrsinfo -o wkt1 EPSG:25832 >p.prj", shell=True, cwd=tool.folder, check=True)
+    tool("add", "p.gpkg", "p.asc")
+    must("25832" in tool.json("info", "p.gpkg")["system"], "the coordinate system beside a grid")
+    must(pixels(tool, "a.gpkg") == other and pixels(tool, "a.gpkg", "--survey", "spring") == GROUND, "two surveys")
+    tool("export", "a.gpkg", "grid", "out.asc")
+    head = dict(line.split() for line in tool.read("out.asc").decode().splitlines()[:5])
+    must((float(head["xllcorner"]), float(head["yllcorner"]), float(head["cellsize"])) == (WEST, SOUTH, CELL), "grid")
+    tool("export", "a.gpkg", "tif", "out.tif")
+    subprocess.run("gdal_translate -q -of AAIGrid out.tif again.asc".split(), cwd=tool.folder, check=True)
+    told = subprocess.run(["gdalinfo", "out.tif"], cwd=tool.folder, capture_output=True, check=True).stdout.decode()
+    must("25832" in told and f"Origin = ({WEST}.0" in told, "the GeoTIFF's place")
+    tool("add", "a.gpkg", "again.asc", "--as", "again")
+    must(pixels(tool, "a.gpkg") == other, "there and back by GDAL")
+    tool.write("greys.csv", "grey,class,name\n0,0,none\n127 126,1,some\n255,2,all\n")
+    tool("init", "g.gpkg", "--classes", "greys.csv")
+    tool.write("grey.pgm", pgm([[0, 127], [126, 255]]))
+    tool("add", "g.gpkg", "grey.pgm", "--cell", "0.25")
+    must(pixels(tool, "g.gpkg") == [[0, 1], [1, 2]] and tool.json("info", "g.gpkg")["cell"] == 0.25, "greys")
+    tool("init", "n.gpkg")
+    tool.write("holes", grid([[1, 0], [0, 1]], more="NODATA_value 0\n"))
+    tool("add", "n.gpkg", "holes", "--nodata", 3)
+    must(pixels(tool, "n.gpkg") == [[1, 3], [3, 1]], "no data has no class")
 
 
-def test_map(tool):
-    info = tool.json("info", "a.hlq")
-    must(info["classes"] == sorted(set(sum(ROWS, []))) and info["log"] == "none", "info")
-    records = tool.json("list", "a.hlq")["records"]
-    must(len(records) == info["records"], "list and info differ")
-    for record in records:
-        row, column, side = square_of(record["key"])
-        must((row, column, side) == (record["row"], record["column"], record["side"]), "a record's square")
-        must(record["classes"] == sorted(set(seen_in(ROWS, row, column, side, side))), "a record's classes")
-    for key in ("0", "1000", "4100", "2340", "1111"):
-        part = tool.json("list", "a.hlq", key)["records"]
-        below = [record for record in records if record["key"].startswith(key.rstrip("0"))]
-        around = [record for record in records if key.startswith(record["key"].rstrip("0"))][-1:]
-        listed = key == "0" or any(record["key"] == key for record in records)
-        must(part == (below if listed else around), f"the records of block {key}")
-    must(tool.json("check", "a.hlq")["map"] == "sound", "check")
-    for row, column in ((0, 0), (7, 9), (15, 15)):
-        at = tool.json("at", "a.hlq", row, column, "--classes", "classes.csv")
-        must(at["class"] == ROWS[row][column], "at: the class")
-        must(at["row"] <= row < at["row"] + at["side"] and at["column"] <= column < at["column"] + at["side"], "at")
-        must(square_of(at["key"]) == (at["row"], at["column"], at["side"]), "at: the key")
+def windows(numbers, count):
+    """Windows within, over every edge, and over all."""
+    yield from ((0, 0, ROWS, COLUMNS), (-4, -1, 6, 3), (40, 30, 4294967295, 4294967295), (ROWS - 1, COLUMNS - 1, 1, 1))
+    for _ in range(count):
+        yield (numbers.randrange(-9, ROWS), numbers.randrange(-9, COLUMNS), numbers.randrange(10, 40),
+               numbers.randrange(10, 30))
+
+
+def box_of(top, left, height, width):
+    """A box that has just the centres of these pixels."""
+    return (WEST + left * CELL + 0.1, NORTH - (top + height) * CELL + 0.1, WEST + (left + width) * CELL - 0.1,
+            NORTH - top * CELL - 0.1)
+
+
+def test_select(tool, window, f, count):
+    found = tool.json("select", "a.gpkg", *window, f, "--survey", "spring")
+    must(found["blocks"] == len(found["found"]), "select's number")
+    pixels_found = set()
+    for entry in found["found"]:
+        i, j = map(int, entry["sheet"].split("."))
+        row, column, side = square_of(entry["key"], SIDE)
+        must((entry["row"], entry["column"], entry["side"]) == (row + i * SIDE, column + j * SIDE, side), "its square")
+        square = {(entry["row"] + r, entry["column"] + c) for r in range(side) for c in range(side)}
+        must(not square & pixels_found, "two blocks overlap")
+        must(all(r < ROWS and c < COLUMNS and GROUND[r][c] == f for r, c in square), "a block of another class")
+        pixels_found |= square
+    must(len(pixels_found) == count, f"select {window} {f}")
 
 
 def test_windows(tool):
-    for window in WINDOWS:
-        seen = seen_in(ROWS, *window)
-        report = tool.json("report", "a.hlq", *window)["classes"]
+    numbers = random.Random(5)
+    for window in windows(numbers, 8):
+        seen = seen_in(GROUND, *window)
+        report = tool.json("report", "a.gpkg", *window, "--survey", "spring")["classes"]
         must([entry["class"] for entry in report] == sorted(set(seen)), f"report {window}")
-        rows = list(csv.DictReader(io.StringIO(tool("areas", "a.hlq", *window, "--metres", 2, "--csv"))))
-        for f in range(CLASSES):
-            must(tool.json("exist", "a.hlq", *window, f)["exists"] == (f in seen), f"exist {window} {f}")
-            must(int(rows[f]["pixels"]) == seen.count(f), f"areas {window} {f}")
-            must(float(rows[f]["square_metres"]) == 4 * seen.count(f), f"metres {window} {f}")
-            found = tool.json("select", "a.hlq", *window, f)["found"]
-            must(sum(entry["side"] ** 2 for entry in found) == seen.count(f), f"select {window} {f}")
-        inside = window[0] >= 0 and window[1] >= 0 and window[0] + window[2] <= SIDE and window[1] + window[3] <= SIDE
-        tool("report", "a.hlq", *window, "--strict", status=0 if inside else 6)
-        tool("exist", "a.hlq", *window, 1, "--strict", status=0 if inside else 6)
-        tool("select", "a.hlq", *window, 1, "--strict", status=0 if inside else 6)
-        tool("areas", "a.hlq", *window, "--strict", status=0 if inside else 6)
-    must(tool.json("exist", "a.hlq", 0, 0, 16, 16, "scrub", "--classes", "classes.csv")["exists"], "a class by name")
-
-
-def test_prices(tool):
-    tool.write("prices.csv", '"class",price\n"ballast, old",2.5\n3,10\n')
-    areas = tool.json("areas", "a.hlq", "--classes", "classes.csv", "--prices", "prices.csv", "--metres", "0.5")
-    pixels = sum(ROWS, [])
-    money = 0.25 * (2.5 * pixels.count(1) + 10 * pixels.count(3))
-    must(abs(areas["total_price"] - money) < 0.01 and areas["total_pixels"] == 256, "the total price")
-    must(areas["areas"][0]["price"] is None and areas["areas"][1]["name"] == "ballast, old", "names and prices")
-    must("ballast, old" in tool("areas", "a.hlq", "--classes", "classes.csv"), "a table for people")
+        rows = list(csv.DictReader(io.StringIO(tool("areas", "a.gpkg", *window, "--survey", "spring", "--csv"))))
+        must([int(row["pixels"]) for row in rows[:-1]] == [seen.count(f) for f in range(CLASSES)], f"areas {window}")
+        must(float(rows[-1]["square_metres"]) == CELL * CELL * len(seen), f"metres {window}")
+        f = numbers.randrange(CLASSES)
+        must(tool.json("exist", "a.gpkg", *window, f, "--survey", "spring")["exists"] == (f in seen), f"exist {window}")
+        test_select(tool, window, f, seen.count(f))
+        inside = min(window[:2]) >= 0 and window[0] + window[2] <= ROWS and window[1] + window[3] <= COLUMNS
+        tool("report", "a.gpkg", *window, "--strict", status=0 if inside else 6)
+        boxed = tool.json("areas", "a.gpkg", "--survey", "spring", "--box", *box_of(*window))
+        must([entry["pixels"] for entry in boxed["areas"]] == [seen.count(f) for f in range(CLASSES)], f"box {window}")
+        must(boxed["total_pixels"] == len(seen), "the total")
+    for row, column in ((0, 0), (15, 16), (ROWS - 1, COLUMNS - 1)):
+        at = tool.json("at", "a.gpkg", row, column, "--survey", "spring")
+        must(at["class"] == GROUND[row][column], "at: the class")
+        must(at["row"] <= row < at["row"] + at["side"] and at["column"] <= column < at["column"] + at["side"], "at")
+        same = tool.json("at", "a.gpkg", "--survey", "spring", "--xy", at["x"], at["y"])
+        must(same == at and at["block"] == f"{at['sheet']}:{at['key']}", "at: by coordinates")
+    must(tool.json("exist", "a.gpkg", 0, 0, 16, 16, "field")["exists"] in (True, False), "a class by name")
 
 
 def test_batch(tool):
+    numbers = random.Random(6)
     lines = ["class,ask,row,column,height,width"]
-    for window in WINDOWS + [(50, 50, 2, 2)]:
+    for window in list(windows(numbers, 12)) + [(ROWS, 0, 2, 2), (-3, 0, 3, 9), (0, 0, 0, 4)]:
         lines += [f"{f},exist,{','.join(map(str, window))}" for f in (0, 4, 9)]
         lines.append(f",report,{','.join(map(str, window))}")
     tool.write("questions.csv", "\r\n".join(lines))
-    answers = tool.json("batch", "a.hlq", "questions.csv")["answers"]
+    answers = tool.json("batch", "a.gpkg", "questions.csv", "--survey", "spring")["answers"]
     must(len(answers) == len(lines) - 1, "as many answers as questions")
     for line, answer in zip(lines[1:], answers):
         f, ask, *window = line.split(",")
-        seen = seen_in(ROWS, *map(int, window))
+        seen = seen_in(GROUND, *map(int, window))
         refusal = 6 if not seen else 7 if f == "9" else 0
         must(answer["refusal"] == refusal and bool(answer["words"]) == bool(refusal), f"{line}: the refusal")
         if not refusal and ask == "report":
@@ -136,166 +164,173 @@ def test_batch(tool):
         elif not refusal:
             must(answer["exists"] == (int(f) in seen), f"{line}: whether it exists")
     tool.write("none.csv", "ask,row,column,height,width,class\n")
-    must(tool.json("batch", "a.hlq", "none.csv")["answers"] == [], "no questions")
+    must(tool.json("batch", "a.gpkg", "none.csv")["answers"] == [], "no questions")
 
 
-def decoded(png):
-    """The palette and the rows of a PNG of 8-bit palette numbers."""
-    at, data, palette = 8, b"", b""
-    while at < len(png):
-        length, kind = struct.unpack(">I4s", png[at : at + 8])
-        body = png[at + 8 : at + 8 + length]
-        at += 12 + length
-        if kind == b"IHDR":
-            width, height, depth, colours = struct.unpack(">IIBB", body[:10])
-        palette = body if kind == b"PLTE" else palette
-        data += body if kind == b"IDAT" else b""
-    must((depth, colours) == (8, 3) and width == height, "the picture's form")
-    data, rows, last = zlib.decompress(data), [], bytes(width)
-    for y in range(height):
-        line, row = data[y * (width + 1) : (y + 1) * (width + 1)], []
-        for x, byte in enumerate(line[1:]):
-            left, up, corner = row[x - 1] if x else 0, last[x], last[x - 1] if x else 0
-            guess = left + up - corner
-            paeth = min((left, up, corner), key=lambda c: abs(guess - c))
-            row.append((byte + (0, left, up, (left + up) // 2, paeth)[line[0]]) % 256)
-        last = bytes(row)
-        rows.append(row)
-    return palette, rows
-
-
-def test_findings(tool):
-    rules = [(1, 0, 0, 16, 16, 4), (5, 2, 2, 9, 12, 3), (4294967295, 0, 0, 4, 4, 0)]
-    tool.write("rules.csv", "\ufeffid,row,column,height,width,class,name,by\n" + "".join(
-        f'{",".join(map(str, rule))},"rule, ""{rule[0]}""\nin two lines",me\n' for rule in rules))
-    alone = tool.json("findings", "a.hlq", "--rules", "rules.csv")
-    must(alone["live"] == len(alone["findings"]) > 0 and alone["hidden"] == 0, "findings without waivers")
-    must(alone["findings"][0]["name"] == 'rule, "1"\nin two lines', "a quoted name")
-    for rule in rules:
-        area = sum(found["side"] ** 2 for found in alone["findings"] if found["rule"] == rule[0])
-        must(area == seen_in(ROWS, *rule[1:5]).count(rule[5]), f"the findings of rule {rule[0]}")
-    keys = [found["key"] for found in alone["findings"] if found["rule"] == 1]
-    for key in reversed(keys[:3]):
-        tool("waive", "a.hlq", 1, key, "--waivers", "w.csv", "--note", 'he said, "fine"')
-    tool("waive", "a.hlq", 1, keys[3], "--waivers", "w.csv", "--office", 1)
-    tool("waive", "a.hlq", 1, keys[3], "--waivers", "w.csv", "--office", 1, status=22)
-    rows = list(csv.reader(io.StringIO(tool.read("w.csv").decode())))
-    must(rows[0] == ["office", "rule", "key", "note"] and rows[1:] == sorted(rows[1:]), "the waivers are not in order")
-    must(rows[1][3] == 'he said, "fine"' and len(rows) == 5, "the waivers' rows")
-    waived = tool.json("findings", "a.hlq", "--rules", "rules.csv", "--waivers", "w.csv", "--office", 0, "--all",
-                       "--picture", "p.png", "--scale", 4)
-    must(waived["hidden"] == 3 and waived["live"] == alone["live"] - 3, "three are waived")
-    hidden = [found["key"] for found in waived["findings"] if found["state"] == "hidden"]
-    must(sorted(hidden) == sorted(keys[:3]), "the hidden findings are others")
-    test_picture(tool, waived["findings"])
-    other = tool.json("findings", "a.hlq", "--rules", "rules.csv", "--waivers", "w.csv", "--office", 1)
-    must(other["hidden"] == 1 and len(other["findings"]) == other["live"], "the other office")
-    tool("unwaive", "a.hlq", 1, keys[0], "--waivers", "w.csv")
-    tool("unwaive", "a.hlq", 1, keys[0], "--waivers", "w.csv", status=22)
-    must(len(tool.read("w.csv").decode().splitlines()) == 4, "a waiver is taken out")
-    table = list(csv.DictReader(io.StringIO(tool("findings", "a.hlq", "--rules", "rules.csv", "--csv"))))
-    must([row["key"] for row in table] == [found["key"] for found in alone["findings"]], "findings as CSV")
-
-
-def test_picture(tool, findings):
-    palette, points = decoded(tool.read("p.png"))
-    must(len(points) == 4 * SIDE, "the picture's side")
-    red, grey = [palette[3 * i : 3 * i + 3] for i in (32, 33)]
-    must(red[0] > 200 > 50 > red[1] and grey[0] == grey[1] == grey[2], "red and grey")
-    framed = {}
-    for state in ("hidden", "live"):  # live ones are drawn last
-        for found in (found for found in findings if found["state"] == state):
-            framed[found["row"], found["column"]] = 32 if state == "live" else 33
-    for (row, column), colour in framed.items():
-        must(points[4 * row][4 * column] in (32, colour), "a frame's corner")
-    bare = [(r, c) for r in range(SIDE) for c in range(SIDE) if ROWS[r][c] in (1, 2)]
-    must(all(points[4 * r + 1][4 * c + 1] == ROWS[r][c] for r, c in bare), "the ground's colours")
+def painted(ground, window, f):
+    top, left, height, width = window
+    return [[f if top <= r < top + height and left <= c < left + width else value for c, value in enumerate(row)]
+            for r, row in enumerate(ground)]
 
 
 def test_edits(tool):
-    tool.write("e.hlq", tool.read("a.hlq"))
-    before = tool.read("e.hlq")
-    key = tool.json("at", "e.hlq", 0, 0)["key"]
-    tool("undo", "e.hlq", status=11)
-    tool("redo", "e.hlq", status=20)
-    must(tool.json("paint", "e.hlq", key, 4)["can_undo"], "paint")
-    tool("paint", "e.hlq", 0, "scrub", "--classes", "classes.csv")
-    must(pixels_of(tool("raster", "e.hlq", "-", text=False)) == [[4] * SIDE] * SIDE, "the whole map painted")
-    tool("paint", "e.hlq", "@0", 4)  # changes no pixel, and is logged too
-    for _ in range(3):
-        tool("check", "e.hlq")
-        last = tool.json("undo", "e.hlq")
-    must(tool.read("e.hlq") == before and not last["can_undo"] and last["can_redo"], "all taken back")
-    tool("redo", "e.hlq")
-    painted = pixels_of(tool("raster", "e.hlq", "-", text=False))
-    row, column, side = square_of(key)
-    must(all(painted[r][c] == (4 if r < row + side and c < column + side else ROWS[r][c])
-             for r in range(SIDE) for c in range(SIDE)), "redone")
-    must(not tool.json("forget", "e.hlq")["can_undo"], "forget")
-    tool("undo", "e.hlq", status=11)
-    tool("build", "a.pgm", "e.hlq", status=73, says="--force")
-    tool("build", "a.pgm", "e.hlq", "--force", "--classes", "classes.csv")
-    must(tool.read("e.hlq") == before and tool.json("info", "e.hlq")["log"] == "fits the map", "built over")
+    """A random run of edits beside a scan that keeps every state."""
+    numbers = random.Random(11)
+    states, done = [pixels(tool, "a.gpkg")], 0  # all states up to the last that can be redone, and where we stand
+    tool("undo", "a.gpkg", status=11)
+    tool("redo", "a.gpkg", status=20)
+    for turn in range(24):
+        kind = numbers.random()
+        if kind < 0.3:
+            answer = tool("undo", "a.gpkg", "--json", status=0 if done else 11)
+            done -= done > 0
+        elif kind < 0.5:
+            answer = tool("redo", "a.gpkg", "--json", status=0 if done + 1 < len(states) else 20)
+            done += done + 1 < len(states)
+        elif kind < 0.65:
+            at = tool.json("at", "a.gpkg", numbers.randrange(ROWS), numbers.randrange(COLUMNS))
+            window = (at["row"], at["column"], at["side"], at["side"])
+            answer = tool("paint", "a.gpkg", at["block"], turn % CLASSES, "--by", "crew 4", "--json")
+            states, done = states[: done + 1] + [painted(states[done], window, turn % CLASSES)], done + 1
+        else:
+            window = next(w for w in iter(lambda: list(windows(numbers, 1))[-1], None) if seen_in(GROUND, *w))
+            words = ("--box", *box_of(*window)) if turn % 2 else window
+            answer = tool("paint", "a.gpkg", *words, turn % CLASSES, "--json")
+            states, done = states[: done + 1] + [painted(states[done], window, turn % CLASSES)], done + 1
+        must(pixels(tool, "a.gpkg") == states[done], f"turn {turn}: other pixels")
+        if answer:
+            must(f'"undo": {done},' in answer and f'"redo": {len(states) - 1 - done}}}' in answer, f"counts: {answer}")
+    steps = tool.json("steps", "a.gpkg")
+    must((steps["undo"], steps["redo"]) == (done, len(states) - 1 - done), "steps: the counts")
+    must([step["done"] for step in steps["steps"]] == [True] * steps["undo"] + [False] * steps["redo"], "steps: done")
+    must(all(step["by"] and step["at"].endswith("Z") for step in steps["steps"]), "steps: who and when")
+    tool("check", "a.gpkg")
+    while done:
+        tool("undo", "a.gpkg")
+        done -= 1
+    must(pixels(tool, "a.gpkg") == states[0] and pixels(tool, "a.gpkg", "--survey", "spring") == GROUND, "all back")
+    must(tool.json("forget", "a.gpkg")["undo"] == 0, "forget")
+    tool("redo", "a.gpkg", status=20)
+    tool("check", "a.gpkg")
 
 
-def test_window_paint(tool, interface):
-    tool.write("e.hlq", tool.read("a.hlq"))
-    if interface < 13:
-        tool("paint-window", "e.hlq", 3, 2, 5, 7, 4, status=70, says="has no window paints")
-        return
-    tool("forget", "e.hlq")
-    tool("paint-window", "e.hlq", 3, 2, 5, 7, 4)
-    wanted = [[4 if 3 <= r < 8 and 2 <= c < 9 else ROWS[r][c] for c in range(SIDE)] for r in range(SIDE)]
-    must(pixels_of(tool("raster", "e.hlq", "-", text=False)) == wanted, "the window is painted")
-    tool("check", "e.hlq")
-    tool("undo", "e.hlq")
-    must(tool.read("e.hlq") == tool.read("a.hlq"), "one undo takes all of it back")
-    tool("redo", "e.hlq")
-    must(pixels_of(tool("raster", "e.hlq", "-", text=False)) == wanted, "the window is redone")
-    tool("paint-window", "e.hlq", 3, 2, 5, 70, 4, status=6)
-    tool("paint-window", "e.hlq", -1, 2, 5, 7, 4, status=6)
-    tool("paint-window", "e.hlq", 3, 2, 5, 7, 5, status=7)
+def test_tables(tool):
+    """Rules, prices and waivers in and out, by office."""
+    tool.write("prices.csv", '"class",price\n"ballast, old",2.5\n3,10\n')
+    tool("set", "a.gpkg", "prices", "prices.csv")
+    areas = tool.json("areas", "a.gpkg", "--survey", "spring")
+    flat = sum(GROUND, [])
+    must(abs(areas["total_price"] - CELL**2 * (2.5 * flat.count(1) + 10 * flat.count(3))) < 0.01, "the total price")
+    must(areas["areas"][0]["price"] is None and areas["areas"][1]["name"] == "ballast, old", "names and prices")
+    tool.write("rules.csv", "id,row,column,height,width,class,name\n7,0,0,50,37,4,\"no, \"\"scrub\"\"\nat all\"\n"
+               "2,3,3,9,9,field,<b>é\n")
+    tool("set", "a.gpkg", "rules", "rules.csv", "--office", 0)
+    tool("set", "a.gpkg", "rules", "rules.csv", "--office", 1)
+    got = list(csv.DictReader(io.StringIO(tool("get", "a.gpkg", "rules", "--office", 1))))
+    must([row["id"] for row in got] == ["2", "7"] and got[1]["name"] == 'no, "scrub"\nat all', "rules")
+    must(tool.json("get", "a.gpkg", "rules")["rules"][0]["name"] == "<b>é", "rules as JSON")
+    tool.write("waivers.csv", "office,rule,sheet,key,note\n1,7,1.2,1000,\"he said, \"\"fine\"\"\"\n0,2,0.0,0,\n")
+    tool("set", "a.gpkg", "waivers", "waivers.csv", "--by", "office")
+    for table in ("classes", "rules", "prices", "waivers"):
+        tool("get", "a.gpkg", table, "kept.csv")
+        content = tool.read("kept.csv")
+        tool("set", "a.gpkg", table, "kept.csv")
+        tool("get", "a.gpkg", table, "kept.csv")
+        must(tool.read("kept.csv") == content and len(content.splitlines()) > 2, f"{table} there and back")
+    tool.write("more.csv", CLASS_FILE + "9,ice,\r\n")
+    tool("set", "a.gpkg", "classes", "more.csv")
+    must(tool.json("info", "a.gpkg")["slots"] == 10, "more classes, more slots")
+    must(pixels(tool, "a.gpkg", "--survey", "spring") == GROUND, "more slots leave the pixels")
+    tool("paint", "a.gpkg", 0, 0, 1, 1, "ice")
+    tool("undo", "a.gpkg")
+    tool("check", "a.gpkg")
 
 
-def test_exchange(tool):
-    leaves = tool("leaves", "a.hlq", "--csv")
-    tool.write("leaves.csv", leaves)
-    tool("leaves", "--read", "leaves.csv", "l.hlq", "--side", SIDE, "--slots", CLASSES)
-    must(tool.read("l.hlq") == tool.read("a.hlq"), "the map of its own leaves")
-    tool("bits", "a.hlq", "nodes", "leaves", status=23)
-    tool("bits", "a.hlq", "nodes", "leaves", "--class", 4)
-    tool("bits", "--read", "nodes", "leaves", "b.hlq", "--side", SIDE)
-    two = [[int(cell == 4) for cell in row] for row in ROWS]
-    must(pixels_of(tool("raster", "b.hlq", "-", text=False)) == two, "the bit strings' map")
-    tool.write("new.pgm", pgm(patches(SIDE, 8)))
-    tool("build", "new.pgm", "new.hlq", "--slots", CLASSES)
-    tool.write("table.csv", "old,new,class\n" + "".join(f"{f},{f},0\n" for f in range(CLASSES)) + "3,4,2\n")
-    tool("change", "a.hlq", "new.hlq", "table.csv", "c.hlq", "--else", 1)
-    pairs = [list(zip(*rows)) for rows in zip(ROWS, patches(SIDE, 8))]
-    wanted = [[0 if a == b else 2 if (a, b) == (3, 4) else 1 for a, b in row] for row in pairs]
-    must(pixels_of(tool("raster", "c.hlq", "-", text=False)) == wanted, "the map of changes")
-    tool("change", "a.hlq", "new.hlq", "table.csv", "c.hlq", status=65, says="pair 0, 1 is missing")
+def test_change(tool):
+    other = pixels(tool, "a.gpkg", "--survey", "autumn")
+    numbers = random.Random(2)
+    table = {(old, new): numbers.randrange(CLASSES) for old in range(CLASSES) for new in range(CLASSES)}
+    del table[0, 0]
+    tool.write("table.csv", "old,new,class\n" + "".join(f"{a},{b},{c}\n" for (a, b), c in table.items()))
+    tool("change", "a.gpkg", "spring", "autumn", "table.csv", status=65, says="the pair 0, 0 is missing")
+    tool("change", "a.gpkg", "spring", "autumn", "table.csv", "--else", 2, "--as", "summer")
+    wanted = [[table.get(pair, 2) for pair in zip(*rows)] for rows in zip(GROUND, other)]
+    must(pixels(tool, "a.gpkg", "--survey", "summer") == wanted, "change")
+    tool("check", "a.gpkg")
 
 
-def test_help(tool):
-    overview = tool("help")
-    names = [line.split()[0] for line in overview.splitlines() if line.startswith("  ")]
-    for name in names:
-        must(tool("help", name).startswith(f"usage: prowcurl {name}"), f"help {name}")
-        must(tool(name, "--help") == tool("help", name), f"{name} --help")
-    return names
+def test_sheets(tool):
+    """A sheet as leaves, bit strings and the library's file."""
+    written = tool("export", "a.gpkg", "leaves", "-", "--sheet", "1.2", "--survey", "spring")
+    leaves = list(csv.DictReader(io.StringIO(written)))
+    for leaf in leaves:
+        row, column, side = square_of(leaf["key"], SIDE)
+        seen = set(seen_in(GROUND, row + SIDE, column + 2 * SIDE, side, side))
+        must(seen <= {int(leaf["class"])}, "a leaf of another class")
+    must(sum(square_of(leaf["key"], SIDE)[2] ** 2 for leaf in leaves) == SIDE**2, "the leaves cover the sheet")
+    tool("export", "a.gpkg", "bits", "bits", "--sheet", "0.0", "--class", 4, "--survey", "spring")
+    must(os.path.getsize(tool.path("bits.nodes")) > 0 and os.path.getsize(tool.path("bits.leaves")) > 0, "bit strings")
+    tool("export", "a.gpkg", "hlq", "sheet.hlq", "--sheet", "0.0", "--survey", "spring")
+    must(tool.read("sheet.hlq")[:3] == b"HLQ", "the library's file")
+
+
+def fnv(content):
+    digest = 14695981039346656037
+    for byte in content:
+        digest = (digest ^ byte) * 1099511628211 % 2**64
+    return digest
+
+
+def test_old_map(tool):
+    """A map of the first version with its log: what a sheet holds, written as that version wrote it."""
+    tool("init", "o.gpkg", "--side", 16, "--slots", 5)
+    ground = patches(16, 16, 4)
+    tool("add", "o.gpkg", tool.write("o.pgm", pgm(ground)))
+    tool("paint", "o.gpkg", 2, 3, 5, 7, 4)
+    tool("paint", "o.gpkg", "1000", 2)
+    tool("undo", "o.gpkg")
+    tool("export", "o.gpkg", "hlq", "old.hlq")
+    with sqlite3.connect(tool.path("o.gpkg")) as base:
+        log = base.execute("SELECT log_keys, log_values, used, in_force FROM sheets").fetchone()
+    keys, values, used, in_force = log
+    map_bytes = tool.read("old.hlq")
+    log = b"HLQLOG1\n" + struct.pack("<QQQQ", fnv(map_bytes), len(map_bytes), used, in_force)
+    log += b"".join(keys[i : i + 4] + values[i : i + 4] for i in range(0, 4 * used, 4))
+    tool.write("old.hlq.log", log + struct.pack("<Q", fnv(log)))
+    tool("init", "n2.gpkg")
+    tool("add", "n2.gpkg", "old.hlq", "--cell", "0.5")
+    info = tool.json("info", "n2.gpkg")
+    must([info[name] for name in ("rows", "side", "cell", "undo", "redo")] == [16, 16, 0.5, 1, 1], f"old map: {info}")
+    must(pixels(tool, "n2.gpkg") == painted(ground, (2, 3, 5, 7), 4), "the old map's pixels")
+    tool("undo", "n2.gpkg")
+    must(pixels(tool, "n2.gpkg") == ground, "an old step taken back")
+    tool("redo", "n2.gpkg")
+    tool("redo", "n2.gpkg")
+    must(pixels(tool, "n2.gpkg") == painted(painted(ground, (2, 3, 5, 7), 4), (0, 0, 8, 8), 2), "old steps redone")
+    tool("check", "n2.gpkg")
+
+
+def test_geopackage(tool):
+    """Other programs read the file."""
+    told = subprocess.run(["ogrinfo", "-so", "a.gpkg", "rules"], cwd=tool.folder, capture_output=True).stdout.decode()
+    must("Feature Count: 4" in told and "height" in told, f"ogrinfo: {told}")
+    with sqlite3.connect(tool.path("a.gpkg")) as base:
+        must(base.execute("PRAGMA application_id").fetchone() == (0x47504B47,), "the mark of a GeoPackage")
+        must(base.execute("PRAGMA user_version").fetchone() == (10300,), "its version")
+        names = {row[0] for row in base.execute("SELECT table_name FROM gpkg_contents")}
+        must(names >= {"ground", "windows", "findings", "classes", "rules", "waivers"}, "its layers")
+        must(base.execute("PRAGMA journal_mode").fetchone() == ("delete",), "its journal")
 
 
 def main():
     with work_folder() as folder:
         tool = Tool(sys.argv[1:], folder)
-        interface = int(tool("--version").split()[-1])
-        for test in (test_build, test_map, test_windows, test_prices, test_batch, test_findings, test_edits):
+        for test in (test_surveys, test_coordinates, test_windows, test_batch, test_edits, test_tables, test_change,
+                     test_sheets, test_old_map, test_geopackage):
             test(tool)
-        test_window_paint(tool, interface)
-        test_exchange(tool)
-        names = test_help(tool)
-        print(f"good files: {tool.runs} runs of {len(names)} commands as expected")
+        must(not [name for name in os.listdir(folder) if name.endswith((".new", "-journal"))], "something is left")
+        print(f"good files: {tool.runs} runs as expected")
+        must(tool.runs > 150, "hardly anything was run")
 
 
 if __name__ == "__main__":

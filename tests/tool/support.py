@@ -65,28 +65,57 @@ def must(truth, words):
         fail(words)
 
 
-def patches(side, seed, classes=CLASSES):
+def patches(rows, columns, seed, classes=CLASSES):
     """Rows of classes: rectangles over each other."""
     numbers = random.Random(seed)
-    rows = [[0] * side for _ in range(side)]
+    ground = [[0] * columns for _ in range(rows)]
     for _ in range(12):
-        top, left, what = numbers.randrange(side), numbers.randrange(side), numbers.randrange(classes)
-        height, width = numbers.randrange(1, side // 2 + 2), numbers.randrange(1, side // 2 + 2)
-        for row in rows[top : top + height]:
+        top, left, what = numbers.randrange(rows), numbers.randrange(columns), numbers.randrange(classes)
+        height, width = numbers.randrange(1, rows // 2 + 2), numbers.randrange(1, columns // 2 + 2)
+        for row in ground[top : top + height]:
             row[left : left + width] = [what] * len(row[left : left + width])
-    return rows
+    return ground
 
 
 def pgm(rows, maxval=255):
     return b"P5\n%d %d\n%d\n" % (len(rows[0]), len(rows), maxval) + b"".join(bytes(row) for row in rows)
 
 
+def plain_pgm(rows):
+    lines = "\n".join(" ".join(map(str, row)) for row in rows)
+    return f"P2 # a comment\n{len(rows[0])} {len(rows)}\n31\n{lines}\n"
+
+
+def grid(rows, west=0, south=0, cell=1, more="", after=""):
+    """An ESRI ASCII grid."""
+    lines = "\n".join(" ".join(f"{value}{after}" for value in row) for row in rows)
+    return (f"ncols {len(rows[0])}\nNROWS {len(rows)}\nxllcorner {west}\nyllcorner {south}\ncellsize {cell}\n{more}"
+            f"{lines}\n")
+
+
 def pixels_of(content):
     """The rows of a P5 that the tool wrote."""
     mark, size, _, data = content.split(b"\n", 3)
     must(mark == b"P5", "not a P5")
-    side = int(size.split()[0])
-    return [list(data[i : i + side]) for i in range(0, side * side, side)]
+    width, height = map(int, size.split())
+    must(len(data) == width * height, "a P5 of another length")
+    return [list(data[i : i + width]) for i in range(0, width * height, width)]
+
+
+def seen_in(rows, top, left, height, width):
+    """The pixels of a window that may reach over the edge: the scan that every answer is held against."""
+    left, right = max(left, 0), max(left + width, 0)
+    return [value for row in rows[max(top, 0) : max(top + height, 0)] for value in row[left:right]]
+
+
+def square_of(key, side):
+    """Row, column and side of a key's digits on a sheet of this side."""
+    row, column = 0, 0
+    for digit in key.rstrip("0"):
+        side //= 2
+        row += side * (int(digit) > 2)
+        column += side * (int(digit) % 2 == 0)
+    return row, column, side
 
 
 def work_folder():

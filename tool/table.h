@@ -1,13 +1,14 @@
 /* Files of comma separated values: a first line with the names of the columns, in any order, then rows. Fields may be
  * quoted, lines may end as on any system, and further columns are passed over. Everything that is wrong is said with
  * the line where it stands. */
-#ifndef CSV_H
-#define CSV_H
+#ifndef TABLE_H
+#define TABLE_H
 
 #include <stddef.h>
+#include <stdio.h>
 
 typedef struct {
-    char *path, *text;
+    char *path;
     size_t columns, rows;
     char **names;  /* of the columns */
     char **fields; /* row by row */
@@ -21,6 +22,7 @@ void give_back_csv(csv *c);
 size_t column_of(const csv *c, const char *name);
 size_t column_if_any(const csv *c, const char *name);
 
+/* A column that is not there has empty fields. */
 const char *field_at(const csv *c, size_t row, size_t column);
 /* A whole number within the bounds, or the end. */
 long long number_at(const csv *c, size_t row, size_t column, long long least, long long most);
@@ -28,5 +30,8 @@ double decimal_at(const csv *c, size_t row, size_t column);
 
 /* "FILE, line N", for messages. */
 char *where_in(const csv *c, size_t row);
+
+/* A field as CSV wants it, quoted where it must be. */
+void write_csv_field(FILE *file, const char *field);
 
 #endif
