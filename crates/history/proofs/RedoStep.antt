@@ -155,7 +155,7 @@ module _ {m s size : ℕ} {p : Picture} {keys bits logKeys logValues : List ℕ}
   reached-is = ap (λ l. b .inForce + length (firstStep l)) redo-is ∙ ap (λ l. b .inForce + length l) (first-next before (now-few h) next-fit before-below rest-steps)
 
   -- that list had room in some slices
-  pub painted-fits : length (listOfPicture m painted) ≤ size
+  painted-fits : length (listOfPicture m painted) ≤ size
   painted-fits = future-legal (h .future) .fits
 
   -- where a paint is undone, and the list with it has no room, redo is refused with 9

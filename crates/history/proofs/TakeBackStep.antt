@@ -156,7 +156,7 @@ module _ {m s size : ℕ} {p : Picture} {keys bits logKeys logValues : List ℕ}
   before-is = ap (λ log. length (beforeStep log)) log-is ∙ ap length (without-step former (now-few h) latest-fit former-below formerLog)
 
   -- that list had room in some slices
-  pub former-fits : length (listOfPicture m former) ≤ size
+  former-fits : length (listOfPicture m former) ≤ size
   former-fits = past-legal (past-before (h .past)) .fits
 
   -- where a paint is held, and the list before it has no room, taking back is refused with 9

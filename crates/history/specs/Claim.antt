@@ -29,12 +29,13 @@ unfoldable pub redoAnswer : (undone : List Paint) → ℕ
 redoAnswer [] = 20
 redoAnswer (x ∷ xs) = 0
 
--- in slices with less room than others had before them: 9 where the list without the latest paint has no room; the paints are held on p
+-- the same in slices that may have less room than others had before them: where a paint is held, 9 if the list without the latest one has no room; the
+-- paints are held on p
 unfoldable pub backAnswerIn : (m : ℕ) (p : Picture) (roomOfList : ℕ) (held : List Paint) → ℕ
 backAnswerIn m p roomOfList [] = 11
 backAnswerIn m p roomOfList (x ∷ xs) = cond (ltb roomOfList (length (listOfPicture m (drawn m p xs)))) 9 0
 
--- likewise 9 where the list with the next paint has no room; the picture now is p
+-- likewise where a paint is there to redo, 9 if the list with the next one has no room; the picture now is p
 unfoldable pub redoAnswerIn : (m : ℕ) (p : Picture) (roomOfList : ℕ) (undone : List Paint) → ℕ
 redoAnswerIn m p roomOfList [] = 20
 redoAnswerIn m p roomOfList (x ∷ xs) = cond (ltb roomOfList (length (listOfPicture m (applied m x p)))) 9 0

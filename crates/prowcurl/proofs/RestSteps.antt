@@ -96,9 +96,8 @@ module _ (m s : ℕ) (x : Rest) where
   abbrev fillLent : Args fill.signature (x .κs₃)
   fillLent = (m, (s, (x .keys₃, (x .bits₃, (x .loaded .n, (x .summary₃, tt))))))
 
-  -- the three calls keep their contracts and are accepted, load is lent the bytes that store left, fill what load left, and so many records of the log
-  -- were brought along
-  pub record KeepsRest (brought : ℕ) : Type 0 where
+  -- the three calls keep their contracts and are accepted, load is lent the bytes that store left, and fill what load left
+  pub record KeepsCalls : Type 0 where
     pub store : store-reads.Learnt (x .κs) storeLent (x .stored) (atExit store.ended (x .κs) storeLent (tt, (tt, (tt, (tt, (tt, (x .buffer′, tt)))))))
     pub store-passed : x .stored .refusal ≡ 0
     pub same-file : now (x .file) ≡ take (x .stored .count) (x .buffer′)
@@ -108,11 +107,16 @@ module _ (m s : ℕ) (x : Rest) where
     pub same-bits : now (x .bits₃) ≡ x .bits′
     pub fill : fill-reads.Learnt (x .κs₃) fillLent (x .filled) (atExit fill.ended (x .κs₃) fillLent (tt, (tt, (tt, (tt, (tt, (x .summary′, tt)))))))
     pub fill-passed : x .filled .refusal ≡ 0
+
+  -- and so many records of the log were brought along
+  pub record KeepsRest (brought : ℕ) : Type 0 where
+    pub calls : KeepsCalls
     pub log : LogBrought (x .logKeys) (x .logValues) brought (x .logKeys′) (x .logValues′)
 
   -- they lead where a rest may lead
   pub rest-step : (brought : ℕ) → KeepsRest brought → Rested m s (leaves x) brought (comes x brought)
-  rest-step brought h =
+  rest-step brought kept =
+      let h = kept .calls in
       let lent : LentSlices = record { keys = now (x .keys₂); bits = now (x .bits₂); summary = now (x .summary₃); logKeys = x .logKeys′; logValues = x .logValues′ } in
       let calls : RestCalls m s (leaves x) (now (x .buffer)) lent =
       record {
@@ -136,4 +140,4 @@ module _ (m s : ℕ) (x : Rest) where
         fill-leaves = h .fill .1 ∙ (λ i. filledSummary m s (h .same-keys i) (h .same-bits i) (x .loaded .n) (now (x .summary₃)));
         fill-passed = h .fill-passed;
       } in
-      calls-rest calls (x .logKeys′) (x .logValues′) brought (h .log)
+      calls-rest calls (x .logKeys′) (x .logValues′) brought (kept .log)
