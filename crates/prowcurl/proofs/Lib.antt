@@ -4,6 +4,7 @@ pub mod OneAnswer
 pub mod HistorySteps
 pub mod RestSteps
 pub mod RestHistory
+pub mod RestLog
 -- findings, walked by hand
 pub mod FindingsCalls
 pub mod FindingsEntryExit
