@@ -12,3 +12,6 @@ pub mod HeadAnswers
 pub mod LogAccepted
 pub mod StoreAnswers
 pub mod LoadAnswers
+-- the round trip
+pub mod LogFileOf
+pub mod LogRoundTrip
