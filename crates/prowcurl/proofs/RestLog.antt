@@ -55,7 +55,7 @@ module _ (m s : ℕ) (y : LogRest) where
     pub same-file : now (y .file) ≡ take (y .stored .count) (y .buffer′)
     pub load : load-reads.Learnt (y .κs₂) loadLogLent (y .loaded) (atExit load.ended (y .κs₂) loadLogLent (tt, (y .logKeys′, (y .logValues′, tt))))
     pub load-passed : y .loaded .refusal ≡ 0
-    pub machine : MachineLog (now (y .logKeys)) (now (y .logValues)) (y .brought) (y .inForce)
+    pub machine : MachineLog (now (y .logKeys)) (now (y .logValues)) (y .brought)
 
   module _ (h : KeepsLogCalls) where
     -- store is accepted as the definition is
@@ -64,29 +64,46 @@ module _ (m s : ℕ) (y : LogRest) where
     stored-well = sym (ap (λ (r : Counted). r .refusal) (h .store .0)) ∙ h .store-passed
 
     -- the file is what it leaves
-    file-is : now (y .file)
-        ≡ take (storeLog m s (now (y .logKeys)) (now (y .logValues)) (y .brought) (y .inForce) (now (y .buffer)) .count)
+    abbrev storedFile : List ℕ
+    storedFile =
+        take (storeLog m s (now (y .logKeys)) (now (y .logValues)) (y .brought) (y .inForce) (now (y .buffer)) .count)
         (storeLogFile m s (now (y .logKeys)) (now (y .logValues)) (y .brought) (y .inForce) (now (y .buffer)))
+
+    file-is : now (y .file) ≡ storedFile
     file-is = h .same-file ∙ (λ i. take (h .store .0 i .count) (h .store .1 i))
 
     loaded-well : loadLogRefusal (now (y .file)) (now (y .logKeys₂)) (now (y .logValues₂)) ≡ 0
     unfolding loadLog
     loaded-well = sym (ap (λ (r : LoadedLog). r .refusal) (h .load .0)) ∙ h .load-passed
 
+    -- what the definitions say of their own file holds of the one that was loaded
+    of-file : (Holds : List ℕ → Type 0)
+        → (loadLogRefusal storedFile (now (y .logKeys₂)) (now (y .logValues₂)) ≡ 0 → Holds storedFile)
+        → Holds (now (y .file))
+    of-file Holds h₂ =
+        subst Holds (sym file-is) (h₂ (ap (λ (f : List ℕ). loadLogRefusal f (now (y .logKeys₂)) (now (y .logValues₂))) (sym file-is) ∙ loaded-well))
+
     -- so the log is brought along
     pub log-step : LogBrought (now (y .logKeys)) (now (y .logValues)) (y .brought) (y .logKeys′) (y .logValues′)
     log-step =
-        let brings : (f : List ℕ) → f
-        ≡ take (storeLog m s (now (y .logKeys)) (now (y .logValues)) (y .brought) (y .inForce) (now (y .buffer)) .count)
-        (storeLogFile m s (now (y .logKeys)) (now (y .logValues)) (y .brought) (y .inForce) (now (y .buffer)))
-        → loadLogRefusal f (now (y .logKeys₂)) (now (y .logValues₂)) ≡ 0
-        → LogBrought (now (y .logKeys)) (now (y .logValues)) (y .brought) (loadLogKeys f (now (y .logKeys₂)) (now (y .logValues₂)))
-        (loadLogValues f (now (y .logKeys₂)) (now (y .logValues₂))) =
-        λ f e passed.
-        rw e
+        rw (h .load .1 .0, h .load .1 .1)
+        (of-file
+        (λ (f : List ℕ).
+        LogBrought (now (y .logKeys)) (now (y .logValues)) (y .brought) (loadLogKeys f (now (y .logKeys₂)) (now (y .logValues₂)))
+        (loadLogValues f (now (y .logKeys₂)) (now (y .logValues₂))))
         (log-brought m s (now (y .logKeys)) (now (y .logValues)) (y .brought) (y .inForce) (now (y .buffer)) stored-well (h .machine) (now (y .logKeys₂))
-        (now (y .logValues₂)) (rw (← e) passed)) in
-        rw (h .load .1 .0, h .load .1 .1) (brings (now (y .file)) file-is loaded-well)
+        (now (y .logValues₂))))
+
+    -- with both counts
+    pub counts-step : (y .loaded .used ≡ y .brought) × (y .loaded .«in_force» ≡ y .inForce)
+    counts-step =
+        rw (h .load .0)
+        (of-file
+        (λ (f : List ℕ).
+        (loadLog f (now (y .logKeys₂)) (now (y .logValues₂)) .used ≡ y .brought)
+        × (loadLog f (now (y .logKeys₂)) (now (y .logValues₂)) .«in_force» ≡ y .inForce))
+        (counts-brought m s (now (y .logKeys)) (now (y .logValues)) (y .brought) (y .inForce) (now (y .buffer)) stored-well (h .machine) (now (y .logKeys₂))
+        (now (y .logValues₂))))
 
 -- a rest by the five calls: nothing is left to ask, where the log that was stored is that of the rest, and it goes on with what was loaded
 pub rest-by-files : (m s : ℕ) (x : Rest) (y : LogRest) → KeepsCalls m s x → KeepsLogCalls m s y → x .logKeys ≡ now (y .logKeys) → x .logValues ≡ now (y .logValues)
