@@ -350,6 +350,21 @@ static void files(uint32_t s, size_t n) {
             sink += plain_load(file, other_keys, other_bits));
 }
 
+/* The log of one paint of the whole map: its entry has every record of the list. */
+static void log_files(uint32_t s, size_t n) {
+    size_t used = n + 2, room = HLQ_LOG_FILE_BYTES(MOST + 2);
+    memcpy(log_keys, keys, 4 * n), memcpy(log_values, bits, 4 * n);
+    log_keys[n] = log_keys[n + 1] = 0, log_values[n] = (uint32_t)n, log_values[n + 1] = 0;
+    COMPARE("store log", 5, 1,
+            sink += hlq_store_log(M, s, log_keys, used, log_values, used, used, used, file, room).count,
+            sink += plain_store_log(M, s, log_keys, log_values, used, used, file));
+    COMPARE("load log", 5, 1,
+            sink += hlq_load_log(file, HLQ_LOG_FILE_BYTES(used), plain_log_keys, used, plain_log_values, used).used,
+            sink += plain_load_log(file, plain_log_keys, plain_log_values));
+    if (memcmp(log_keys, plain_log_keys, 4 * used) != 0 || memcmp(log_values, plain_log_values, 4 * used) != 0)
+        printf("THE TWO DIFFER\n");
+}
+
 /* Few classes and many, on noise of all of them: what a class more costs, and files of both versions. */
 static void classes(uint32_t s) {
     size_t places = HLQ_SUMMARY_PLACES(M, s);
@@ -365,6 +380,7 @@ static void classes(uint32_t s) {
         plain_fill_summary(M, s, keys, bits, n, other_summary);
     });
     files(s, n);
+    log_files(s, n);
 }
 
 /* Each pixel of the raster as a leaf of its own, in key order. */
@@ -520,7 +536,7 @@ static void blocks(void) {
 
 int main(void) {
     static const char *const kinds[] = { "uniform", "patchy", "noisy" };
-    file = malloc(HLQ_FILE_BYTES(MOST, HLQ_MOST_SLOTS));
+    file = malloc(HLQ_LOG_FILE_BYTES(MOST + 2)); /* the longest file of all */
     if (!file) return 1;
     printf("%-36s %14s %14s %8s\n", "call", "library ns", "plain C ns", "ratio");
     blocks();

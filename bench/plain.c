@@ -1020,6 +1020,27 @@ size_t plain_load(const uint8_t *file, uint32_t *keys, uint32_t *bits) {
     return plain_is_list(file[5], file[6], keys, bits, n) ? n : 0;
 }
 
+/* Both check the log; loading does so in the slices, once all is read. */
+size_t plain_store_log(uint32_t m, uint32_t s, const uint32_t *log_keys, const uint32_t *log_values, size_t used,
+                       size_t in_force, uint8_t *file) {
+    uint8_t head[23] = { 'H', 'L', 'G', 0, 1, (uint8_t)m, (uint8_t)s };
+    if (!plain_log_is_sound(m, s, log_keys, log_values, used, in_force)) return 0;
+    put_four(head + 7, (uint32_t)((uint64_t)used >> 32)), put_four(head + 11, (uint32_t)used);
+    put_four(head + 15, (uint32_t)((uint64_t)in_force >> 32)), put_four(head + 19, (uint32_t)in_force);
+    memcpy(file, head, 23);
+    for (size_t i = 0; i < used; i++)
+        put_four(file + 23 + 8 * i, log_keys[i]), put_four(file + 27 + 8 * i, log_values[i]);
+    return 23 + 8 * used;
+}
+
+size_t plain_load_log(const uint8_t *file, uint32_t *log_keys, uint32_t *log_values) {
+    size_t used = (size_t)four_at(file + 7) << 32 | four_at(file + 11);
+    size_t in_force = (size_t)four_at(file + 15) << 32 | four_at(file + 19);
+    for (size_t i = 0; i < used; i++)
+        log_keys[i] = four_at(file + 23 + 8 * i), log_values[i] = four_at(file + 27 + 8 * i);
+    return plain_log_is_sound(file[5], file[6], log_keys, log_values, used, in_force) ? used : 0;
+}
+
 /* ---- leaf lists: a pass that checks and counts, and one that writes, each by the blocks that the leaves must be; four
  * pixels without a call */
 

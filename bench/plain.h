@@ -66,6 +66,9 @@ size_t plain_remove_waiver(uint32_t office, uint32_t *offices, uint32_t *ids, ui
                            uint32_t id, uint32_t key);
 size_t plain_store(uint32_t m, uint32_t s, const uint32_t *keys, const uint32_t *bits, size_t n, uint8_t *file);
 size_t plain_load(const uint8_t *file, uint32_t *keys, uint32_t *bits);
+size_t plain_store_log(uint32_t m, uint32_t s, const uint32_t *log_keys, const uint32_t *log_values, size_t used,
+                       size_t in_force, uint8_t *file);
+size_t plain_load_log(const uint8_t *file, uint32_t *log_keys, uint32_t *log_values);
 /* The list of a delivery, or 0 where it is none or the room too little; and the leaves of a list. */
 size_t plain_read_leaves(uint32_t m, uint32_t s, const uint32_t *leaf_keys, const uint32_t *leaf_features,
                          size_t leaves, uint32_t *keys, uint32_t *bits, size_t room);

@@ -11,7 +11,7 @@ enum { PLACES = HLQ_SUMMARY_PLACES(M, CLASSES), METRES = 4 }; /* a pixel is 2 by
 enum { BALLAST, DRAIN, SCRUB, PATH };
 
 /* A header of another interface, or a sheet too large for it, stops the compiler and not the crew. */
-_Static_assert(HLQ_INTERFACE == 13, "written for interface 13 of the library");
+_Static_assert(HLQ_INTERFACE == 14, "written for interface 14 of the library");
 _Static_assert(M <= HLQ_DEEPEST_M && CLASSES <= HLQ_MOST_SLOTS, "the sheet is within the library's limits");
 
 static const char signs[CLASSES + 1] = ".~#=";

@@ -458,8 +458,7 @@ hlq_counted hlq_store_log(uint32_t m, uint32_t s,
                           size_t used, size_t in_force, uint8_t *file, size_t file_len);
 
 /* LOAD LOG. The log of a file in places 0 to used - 1 of log_keys and log_values; all other places
- * stay. The log is as sound as the call that stored it found it, at the m and s that are given
- * back; that it is the log of your list is for you to know.
+ * stay. It is a log at the m and s that are given back; that it is your list's is for you to know.
  * Refusals: HLQ_FILE_LENGTH (under 23 bytes), HLQ_FILE_MARK, HLQ_FILE_VERSION, HLQ_SETTINGS,
  * HLQ_FILE_LENGTH (for the number of records that it names), HLQ_LOG (the file's own records and
  * counts, at its own m and s), HLQ_LOG_ROOM, in this order. */

@@ -8,7 +8,7 @@ use native.Mathlib.Omega.{arith}
 use lib.ListN.{length, drop}
 use borrow.Author.Tests.{le-leb}
 use Rattle.keys.specs.Key.{validKey}
-use Rattle.definitions.specs.Read.{room, recordsOf}
+use Rattle.definitions.specs.Read.{room}
 use Rattle.definitions.specs.File.{four}
 use Rattle.definitions.specs.Log.{closingPlaces, lastContent, isContent, lastIsEntry}
 use Rattle.definitions.specs.LogFile.{valueBytes}
@@ -19,10 +19,10 @@ use Rattle.log.specs.Entries.{isClosed, lastEntry, Ended, recordsFromPlace, con
 use Rattle.log.proofs.Last.{content-run}
 use Rattle.log.proofs.Places.{start-is, count-is, places-are, lent-length, lent-content}
 use Rattle.log.proofs.Tests.{content-decides}
-use Rattle.log_file.specs.Records.{placesIn, keysIn, valuesIn, logIn}
-use Rattle.log_file.proofs.InBytes.{keys-size, in-places, laid-first, places-after, run-in}
+use Rattle.log_file.specs.Records.{placesIn, keysInBytes, valuesInBytes, logIn}
+use Rattle.log_file.proofs.InBytes.{in-places, laid-first, places-after, run-in}
 
-module _ (bytes : List ℕ) {used : ℕ} (e : Ended (keysIn bytes) (valuesIn bytes) used) (last : Entry) (found : last ≡ lastEntry (logIn bytes used)) where
+module _ (bytes : List ℕ) {used : ℕ} (e : Ended (keysInBytes bytes) (valuesInBytes bytes) used) (last : Entry) (found : last ≡ lastEntry (logIn bytes used)) where
   -- it ends before what closes it, among the places
   pub among : last .start + (last .count + closingPlaces) ≤ placesIn bytes
   among = let all = places-are e last found in let h = in-places bytes (e .in-keys) in omega arith
@@ -44,7 +44,7 @@ module _ (bytes : List ℕ) {used : ℕ} (e : Ended (keysIn bytes) (valuesIn byt
   content-is =
       let h = among in
       run-in bytes (last .start) (last .count) (omega arith)
-      ∙ ap₂ (recordsFromPlace (keysIn bytes) (valuesIn bytes)) (start-is e last found) (count-is e last found)
+      ∙ ap₂ (recordsFromPlace (keysInBytes bytes) (valuesInBytes bytes)) (start-is e last found) (count-is e last found)
       ∙ sym (content-run e)
 
   -- and decide
@@ -52,10 +52,10 @@ module _ (bytes : List ℕ) {used : ℕ} (e : Ended (keysIn bytes) (valuesIn byt
       → r ≡ isContent m s (last .key) (recordsAt valueBytes (last .count) (drop (8 * last .start) bytes))
       → r ≡ lastIsEntry m s (logIn bytes used)
   content-tells m s shut r valid told =
-      let a = lent-length e last found (keysIn bytes) (e .in-keys) in
-      let b = lent-length e last found (valuesIn bytes) (e .in-values) in
+      let a = lent-length e last found (keysInBytes bytes) (e .in-keys) in
+      let b = lent-length e last found (valuesInBytes bytes) (e .in-values) in
       content-decides e m s shut last found r valid
       (told
       ∙ sym (ap₂ (λ b l. b && isContent m s (last .key) l)
-      (le-leb (last .count) (room (contentPart last (keysIn bytes)) (contentPart last (valuesIn bytes))) (omega arith))
+      (le-leb (last .count) (room (contentPart last (keysInBytes bytes)) (contentPart last (valuesInBytes bytes))) (omega arith))
       (lent-content e last found ∙ sym content-is)))

@@ -7,7 +7,6 @@ use native.Mathlib.Omega.{arith}
 use lib.ListN.{length, getD, take, drop, length-drop}
 use lib.Seq.{ext-getD, length-take-le, getD-take, getD-drop, drop-drop}
 use Rattle.definitions.specs.List.{Record, recordOf}
-use Rattle.definitions.specs.Read.{paired}
 use Rattle.definitions.specs.File.{four, numberAt, readRecords}
 use Rattle.definitions.specs.LogFile.{valueBytes}
 use Rattle.laws.proofs.FileBack.{length-read}
@@ -15,27 +14,27 @@ use Rattle.laws.proofs.Records.{paired-back, take-paired, drop-paired}
 use Rattle.file.specs.Layout.{RecordsFit, fileKeyAt, fileBitsAt, recordsAt, keysAt, valuesAt}
 use Rattle.file.proofs.ReadBytes.{number-on, record-read, key-read, value-read, keys-many, bits-many}
 use Rattle.log.specs.Entries.{recordsFromPlace}
-use Rattle.log_file.specs.Records.{placesIn, keysIn, valuesIn}
+use Rattle.log_file.specs.Records.{placesIn, keysInBytes, valuesInBytes}
 
 -- as many keys as places, and as many values
-pub keys-size : (bytes : List ℕ) → length (keysIn bytes) ≡ placesIn bytes
-unfolding keysIn
+pub keys-size : (bytes : List ℕ) → length (keysInBytes bytes) ≡ placesIn bytes
+unfolding keysInBytes
 keys-size bytes = keys-many valueBytes (placesIn bytes) bytes
 
-pub values-size : (bytes : List ℕ) → length (valuesIn bytes) ≡ placesIn bytes
-unfolding valuesIn
+pub values-size : (bytes : List ℕ) → length (valuesInBytes bytes) ≡ placesIn bytes
+unfolding valuesInBytes
 values-size bytes = bits-many valueBytes (placesIn bytes) bytes
 
 -- so what is among the places is in both slices
 module _ (bytes : List ℕ) {used : ℕ} (there : used ≤ placesIn bytes) where
-  pub in-keys : used ≤ length (keysIn bytes)
+  pub in-keys : used ≤ length (keysInBytes bytes)
   in-keys = let e = keys-size bytes in omega arith
 
-  pub in-values : used ≤ length (valuesIn bytes)
+  pub in-values : used ≤ length (valuesInBytes bytes)
   in-values = let e = values-size bytes in omega arith
 
 -- and the other way round
-pub in-places : (bytes : List ℕ) {used : ℕ} → used ≤ length (keysIn bytes) → used ≤ placesIn bytes
+pub in-places : (bytes : List ℕ) {used : ℕ} → used ≤ length (keysInBytes bytes) → used ≤ placesIn bytes
 in-places bytes h = let e = keys-size bytes in omega arith
 
 -- the first places lie there whole
@@ -44,12 +43,12 @@ unfolding placesIn
 laid-first bytes n some there = record { width-is = four; there = omega arith }
 
 -- the key and the value at a place
-pub key-in : (bytes : List ℕ) (i : ℕ) → i < placesIn bytes → fileKeyAt valueBytes i bytes ≡ getD (keysIn bytes) i 0
-unfolding keysIn
+pub key-in : (bytes : List ℕ) (i : ℕ) → i < placesIn bytes → fileKeyAt valueBytes i bytes ≡ getD (keysInBytes bytes) i 0
+unfolding keysInBytes
 key-in bytes i h = sym (key-read valueBytes (placesIn bytes) i bytes h)
 
-pub value-in : (bytes : List ℕ) (i : ℕ) → i < placesIn bytes → fileBitsAt valueBytes i bytes ≡ getD (valuesIn bytes) i 0
-unfolding valuesIn
+pub value-in : (bytes : List ℕ) (i : ℕ) → i < placesIn bytes → fileBitsAt valueBytes i bytes ≡ getD (valuesInBytes bytes) i 0
+unfolding valuesInBytes
 value-in bytes i h = sym (value-read valueBytes (placesIn bytes) i bytes h)
 
 -- the places from one on
@@ -61,36 +60,36 @@ module _ (bytes : List ℕ) (k : ℕ) (there : k ≤ placesIn bytes) where
   place-after : (i : ℕ) → 8 * k + (11 + 8 * i) ≡ 11 + 8 * (k + i)
   place-after i = omega arith
 
-  pub keys-after : keysIn (drop (8 * k) bytes) ≡ drop k (keysIn bytes)
+  pub keys-after : keysInBytes (drop (8 * k) bytes) ≡ drop k (keysInBytes bytes)
   keys-after =
       let a = keys-size (drop (8 * k) bytes) in
       let b = keys-size bytes in
-      let d = length-drop k (keysIn bytes) in
+      let d = length-drop k (keysInBytes bytes) in
       let p = places-after in
-      ext-getD 0 (keysIn (drop (8 * k) bytes)) (drop k (keysIn bytes)) (omega arith)
+      ext-getD 0 (keysInBytes (drop (8 * k) bytes)) (drop k (keysInBytes bytes)) (omega arith)
       (λ i h.
       sym (key-in (drop (8 * k) bytes) i (omega arith))
       ∙ number-on (8 * k) (11 + 8 * i) 4 bytes
       ∙ ap (λ q. numberAt q 4 bytes) (place-after i)
       ∙ key-in bytes (k + i) (omega arith)
-      ∙ sym (getD-drop k (keysIn bytes) i 0))
+      ∙ sym (getD-drop k (keysInBytes bytes) i 0))
 
   value-after : (i : ℕ) → 8 * k + (11 + 8 * i + 4) ≡ 11 + 8 * (k + i) + 4
   value-after i = omega arith
 
-  pub values-after : valuesIn (drop (8 * k) bytes) ≡ drop k (valuesIn bytes)
+  pub values-after : valuesInBytes (drop (8 * k) bytes) ≡ drop k (valuesInBytes bytes)
   values-after =
       let a = values-size (drop (8 * k) bytes) in
       let b = values-size bytes in
-      let d = length-drop k (valuesIn bytes) in
+      let d = length-drop k (valuesInBytes bytes) in
       let p = places-after in
-      ext-getD 0 (valuesIn (drop (8 * k) bytes)) (drop k (valuesIn bytes)) (omega arith)
+      ext-getD 0 (valuesInBytes (drop (8 * k) bytes)) (drop k (valuesInBytes bytes)) (omega arith)
       (λ i h.
       sym (value-in (drop (8 * k) bytes) i (omega arith))
       ∙ number-on (8 * k) (11 + 8 * i + 4) 4 bytes
       ∙ ap (λ q. numberAt q 4 bytes) (value-after i)
       ∙ value-in bytes (k + i) (omega arith)
-      ∙ sym (getD-drop k (valuesIn bytes) i 0))
+      ∙ sym (getD-drop k (valuesInBytes bytes) i 0))
 
 -- records read from a place on are a run of all
 run-read : (n start count : ℕ) (bs : List ℕ) → start + count ≤ n → readRecords 4 count (drop (8 * start) bs) ≡ take count (drop start (readRecords 4 n bs))
@@ -113,8 +112,8 @@ run-read n start count bs h =
 
 -- so the records from a place on are those of the keys and values there
 pub run-in : (bytes : List ℕ) (start count : ℕ) → start + count ≤ placesIn bytes
-    → recordsAt valueBytes count (drop (8 * start) bytes) ≡ recordsFromPlace (keysIn bytes) (valuesIn bytes) start count
-unfolding keysIn valuesIn
+    → recordsAt valueBytes count (drop (8 * start) bytes) ≡ recordsFromPlace (keysInBytes bytes) (valuesInBytes bytes) start count
+unfolding keysInBytes valuesInBytes
 run-in bytes start count h =
     let n = placesIn bytes in
     let all : List Record = readRecords 4 n (drop 11 bytes) in

@@ -6,15 +6,15 @@ use Rattle.definitions.specs.Log.{closingPlaces}
 use Rattle.log.specs.declared.entry.Entry.{Entry}
 use Rattle.log.specs.Entries.{closingKey, closingFeature, closingCount, lastEntry, Ended}
 use Rattle.log.proofs.Last.{last-found}
-use Rattle.log_file.specs.Records.{keysIn, valuesIn, logIn}
+use Rattle.log_file.specs.Records.{keysInBytes, valuesInBytes, logIn}
 
 -- the numbers that were read make the last entry
-pub entry-read : (bytes : List ℕ) {used : ℕ} → Ended (keysIn bytes) (valuesIn bytes) used
-    → (key count taken feature : ℕ) → key ≡ closingKey (keysIn bytes) used → count ≡ closingCount (valuesIn bytes) used → taken ≡ count + closingPlaces
-    → feature ≡ closingFeature (valuesIn bytes) used
+pub entry-read : (bytes : List ℕ) {used : ℕ} → Ended (keysInBytes bytes) (valuesInBytes bytes) used
+    → (key count taken feature : ℕ) → key ≡ closingKey (keysInBytes bytes) used → count ≡ closingCount (valuesInBytes bytes) used → taken ≡ count + closingPlaces
+    → feature ≡ closingFeature (valuesInBytes bytes) used
     → _≡_ {A = Entry} (record { key = key; start = used - taken; count = count; feature = feature }) (lastEntry (logIn bytes used))
 entry-read bytes {used} e key count taken feature key-is read taken-is feature-is =
     let same : _≡_ {A = Entry} (record { key = key; start = used - taken; count = count; feature = feature })
-    (record { key = closingKey (keysIn bytes) used; start = used - taken; count = count; feature = closingFeature (valuesIn bytes) used })
+    (record { key = closingKey (keysInBytes bytes) used; start = used - taken; count = count; feature = closingFeature (valuesInBytes bytes) used })
     = λ i. record { key = key-is i; start = used - taken; count = count; feature = feature-is i } in
     same ∙ last-found e count taken read taken-is

@@ -1,5 +1,5 @@
 -- The answers of load, one for each way out of the code: the number that its table gives, its result, and what it leaves in the two slices. Rests on the laws
--- of tables, InBytes and HeadAnswers.
+-- of tables, Lent, HeadAnswers and LogAccepted.
 use Prim.Native.Nat.{ℕ, _-_, _≤_, _<_}
 use mathlib.Core.Path.{_≡_, refl, sym, ap, ap₂, _∙_}
 use mathlib.Core.Bool.{true, false}
@@ -21,7 +21,7 @@ use Rattle.laws.proofs.First.{this, later, holds-first, accepted-left}
 use Rattle.file.specs.Layout.{recordsAt, keysAt, valuesAt}
 use Rattle.file.specs.Room.{RoomFor}
 use Rattle.log_file.specs.Head.{logHeadRefusal}
-use Rattle.log_file.specs.Records.{placesIn, keysIn, valuesIn}
+use Rattle.log_file.specs.Records.{placesIn, keysInBytes, valuesInBytes}
 use Rattle.log_file.proofs.Lent.{rest-lent}
 use Rattle.log_file.proofs.HeadAnswers.{HeadAccepted, head-accepted}
 use Rattle.log_file.proofs.LogAccepted.{LoadAccepted, load-accepted, load-accepts}
@@ -32,12 +32,12 @@ module _ (file : List ℕ) (exact : length file ≡ logFileLength (usedIn file))
   unfolding placesIn
   places-are = let e = length-drop 12 file in omega arith
 
-  keys-are : keysIn (drop 12 file) ≡ keysOf (logRecordsIn file)
-  unfolding keysIn logRecordsIn
+  keys-are : keysInBytes (drop 12 file) ≡ keysOf (logRecordsIn file)
+  unfolding keysInBytes logRecordsIn
   keys-are = ap₂ (λ n bs. keysOf (readRecords 4 n bs)) places-are (drop-drop 11 12 file)
 
-  values-are : valuesIn (drop 12 file) ≡ valuesOf (logRecordsIn file)
-  unfolding valuesIn logRecordsIn
+  values-are : valuesInBytes (drop 12 file) ≡ valuesOf (logRecordsIn file)
+  unfolding valuesInBytes logRecordsIn
   values-are = ap₂ (λ n bs. valuesOf (readRecords 4 n bs)) places-are (drop-drop 11 12 file)
 
   -- the used records lie there
@@ -46,10 +46,10 @@ module _ (file : List ℕ) (exact : length file ≡ logFileLength (usedIn file))
 
   -- whether they are a log is whether the file's are
   pub log-is : (m s used inForce : ℕ) → m ≡ mIn file → s ≡ sIn file → used ≡ usedIn file → inForce ≡ inForceIn file
-      → noLog m s (keysIn (take (length file - 12) (drop 12 file))) (valuesIn (take (length file - 12) (drop 12 file))) used inForce ≡ noLogIn file
+      → noLog m s (keysInBytes (take (length file - 12) (drop 12 file))) (valuesInBytes (take (length file - 12) (drop 12 file))) used inForce ≡ noLogIn file
   unfolding noLogIn
   log-is m s used inForce m-is s-is used-is force-is =
-      ap (λ l. noLog m s (keysIn l) (valuesIn l) used inForce) (rest-lent file 12)
+      ap (λ l. noLog m s (keysInBytes l) (valuesInBytes l) used inForce) (rest-lent file 12)
       ∙ (λ i. noLog (m-is i) (s-is i) (keys-are i) (values-are i) (used-is i) (force-is i))
 
 -- the table, once the head is accepted and the counts are read

@@ -9,7 +9,7 @@ use lib.Seq.{take-all}
 use Rattle.definitions.specs.Read.{paired, recordsOf}
 use Rattle.definitions.specs.Log.{isSound, noLog}
 use Rattle.log.proofs.Parts.{back-decides}
-use Rattle.log_file.specs.Records.{placesIn, keysIn, valuesIn, logIn}
+use Rattle.log_file.specs.Records.{placesIn, keysInBytes, valuesInBytes, logIn}
 use Rattle.log_file.proofs.Lent.{rest-lent}
 use Rattle.log_file.proofs.InBytes.{in-keys, in-values, places-after, keys-after, values-after}
 
@@ -27,16 +27,16 @@ module _ (m s : ℕ) (bytes : List ℕ) (used inForce : ℕ) (there : used ≤ p
   part-again l = sym (take-all (used - inForce) (take (used - inForce) (drop inForce l)) (let e = length-take (used - inForce) (drop inForce l) in omega arith))
 
   rest-is : logIn (drop (8 * inForce) bytes) (used - inForce)
-      ≡ recordsOf (take (used - inForce) (drop inForce (keysIn bytes))) (take (used - inForce) (drop inForce (valuesIn bytes))) (used - inForce)
+      ≡ recordsOf (take (used - inForce) (drop inForce (keysInBytes bytes))) (take (used - inForce) (drop inForce (valuesInBytes bytes))) (used - inForce)
   rest-is =
       ap₂ paired
-      (ap (take (used - inForce)) (keys-after bytes inForce (omega arith)) ∙ part-again (keysIn bytes))
-      (ap (take (used - inForce)) (values-after bytes inForce (omega arith)) ∙ part-again (valuesIn bytes))
+      (ap (take (used - inForce)) (keys-after bytes inForce (omega arith)) ∙ part-again (keysInBytes bytes))
+      (ap (take (used - inForce)) (values-after bytes inForce (omega arith)) ∙ part-again (valuesInBytes bytes))
 
   -- they decide
   pub rest-decides : (q r : Bool) → q ≡ isSound m s (logIn bytes inForce) → not q ≡ false
       → r ≡ isSound m s (logIn (take (length bytes - 8 * inForce) (drop (8 * inForce) bytes)) (used - inForce))
-      → not r ≡ noLog m s (keysIn bytes) (valuesIn bytes) used inForce
+      → not r ≡ noLog m s (keysInBytes bytes) (valuesInBytes bytes) used inForce
   rest-decides q r is good told =
-      back-decides m s (keysIn bytes) (valuesIn bytes) used inForce (in-keys bytes there) (in-values bytes there) within q r is good
+      back-decides m s (keysInBytes bytes) (valuesInBytes bytes) used inForce (in-keys bytes there) (in-values bytes there) within q r is good
       (told ∙ ap (λ l. isSound m s (logIn l (used - inForce))) (rest-lent bytes (8 * inForce)) ∙ ap (isSound m s) rest-is)

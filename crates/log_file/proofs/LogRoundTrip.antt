@@ -2,18 +2,18 @@
 -- one log has one file, and neither call takes the other kind of file. Rests on LogAccepted, LogFileOf and the laws of files.
 use Prim.Native.Nat.{ℕ, _^_, _≤_, _<_}
 use mathlib.Core.Path.{_≡_, refl, sym, ap, ap₂, _∙_}
-use mathlib.Core.Bool.{Bool, true, false, not, _&&_}
+use mathlib.Core.Bool.{true, false, not, _&&_}
 use mathlib.Core.List.{List}
 use native.Mathlib.Omega.{arith}
 use lib.ListN.{length, length-map, take, drop}
 use lib.Seq.{take-all, take-append-seam}
 use lib.Dec.{leb}
-use borrow.Author.Tests.{le-leb, le-ltb, lt-ltb, ltb-false}
+use borrow.Author.Tests.{le-leb, le-ltb, lt-ltb}
 use Rattle.keys.proofs.Cases.{and-both}
 use Rattle.definitions.specs.List.{Record, keysOf, valuesOf}
 use Rattle.definitions.specs.Read.{room, paired, recordsOf}
 use Rattle.definitions.specs.Buffer.{over}
-use Rattle.definitions.specs.File.{mIn, sIn, bytesOf, headOf, fileOf, sameBytes, wrongMark}
+use Rattle.definitions.specs.File.{mIn, sIn, headOf, fileOf, sameBytes, wrongMark}
 use Rattle.definitions.specs.Log.{isSound, toRedo, noLog}
 use Rattle.definitions.specs.LogFile.{logHeadOf, logFileOf, usedIn, inForceIn, logRecordsIn, wrongLogMark, noLogIn}
 use Rattle.definitions.specs.Refusal.{badSettings}
@@ -27,7 +27,7 @@ use Rattle.laws.proofs.Records.{paired-back, records-length, records-first, rec
 use Rattle.list.proofs.Tests.{good-settings}
 use Rattle.file.proofs.SliceRecords.{past-over, over-room}
 use Rattle.log.proofs.Parts.{WholeLog, whole-log}
-use Rattle.log_file.proofs.LogAccepted.{StoreAccepted, store-accepted, store-accepts, store-count, store-leaves, LoadAccepted, load-accepted, load-accepts, load-gives, load-leaves}
+use Rattle.log_file.proofs.LogAccepted.{store-accepted, store-accepts, store-count, store-leaves, load-accepted, load-accepts, load-gives, load-leaves}
 use Rattle.log_file.proofs.LogFileOf.{Words, words-fit, read-m, read-s, read-used, read-in-force, written-mark, written-version, length-file, written-length, written-not-short, read-records, file-back}
 
 -- a log is whole by its four tests

@@ -14,12 +14,12 @@ unfoldable pub placesIn : (bytes : List ℕ) → ℕ
 placesIn bytes = (length bytes - headLength) / recordLength valueBytes
 
 -- their keys and their values
-unfoldable pub keysIn : (bytes : List ℕ) → List ℕ
-keysIn bytes = keysAt valueBytes (placesIn bytes) bytes
+unfoldable pub keysInBytes : (bytes : List ℕ) → List ℕ
+keysInBytes bytes = keysAt valueBytes (placesIn bytes) bytes
 
-unfoldable pub valuesIn : (bytes : List ℕ) → List ℕ
-valuesIn bytes = valuesAt valueBytes (placesIn bytes) bytes
+unfoldable pub valuesInBytes : (bytes : List ℕ) → List ℕ
+valuesInBytes bytes = valuesAt valueBytes (placesIn bytes) bytes
 
 -- the first of them
 abbrev pub logIn : (bytes : List ℕ) (used : ℕ) → List Record
-logIn bytes used = recordsOf (keysIn bytes) (valuesIn bytes) used
+logIn bytes used = recordsOf (keysInBytes bytes) (valuesInBytes bytes) used

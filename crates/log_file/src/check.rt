@@ -4,7 +4,7 @@ ghost use mathlib.Core.Bool.{true, not};
 ghost use Prim.Native.Nat.{_≤_};
 ghost use Rattle.keys.specs.Key.{slotLimit};
 ghost use Rattle.definitions.specs.Log.{lastIsEntry, endsInMark, endsInEntries, lastIsGroup, lastIsStep, isSound, noLog};
-ghost use Rattle.log_file.specs.Records.{placesIn, keysIn, valuesIn, logIn};
+ghost use Rattle.log_file.specs.Records.{placesIn, keysInBytes, valuesInBytes, logIn};
 use crate::entry;
 use crate::step;
 use file::check_file;
@@ -94,7 +94,7 @@ fn is_sound(m: u32, s: u32, bytes: &[u8], used: usize) -> bool
 // Those in force are the first of the used records, and both they and the others divide into steps.
 pub fn is_log(m: u32, s: u32, bytes: &[u8], used: usize, in_force: usize) -> bool
     requires { ⌜ (m ≤ 10) × (s ≤ slotLimit) × (used ≤ placesIn (now bytes)) ⌝ }
-    ensures { λ r. ⌜ not r ≡ noLog m s (keysIn (now (bytes .entry))) (valuesIn (now (bytes .entry))) used «in_force» ⌝ }
+    ensures { λ r. ⌜ not r ≡ noLog m s (keysInBytes (now (bytes .entry))) (valuesInBytes (now (bytes .entry))) used «in_force» ⌝ }
 {
     if used < in_force {
         return false;

@@ -4,7 +4,7 @@ ghost use Prim.Native.Nat.{_≤_, _<_, _^_};
 ghost use lib.ListN.{getD};
 ghost use Rattle.definitions.specs.Log.{closingPlaces};
 ghost use Rattle.log.specs.Entries.{closingCount, isClosed, lastEntry, Ended};
-ghost use Rattle.log_file.specs.Records.{placesIn, keysIn, valuesIn, logIn};
+ghost use Rattle.log_file.specs.Records.{placesIn, keysInBytes, valuesInBytes, logIn};
 use file::layout;
 use log::entry;
 use log::entry::Entry;
@@ -12,14 +12,14 @@ use log::entry::Entry;
 // The key and the value of record i.
 pub fn key_at(bytes: &[u8], i: usize) -> u32
     requires { ⌜ i < placesIn (now bytes) ⌝ }
-    ensures { λ r. ⌜ r ≡ getD (keysIn (now (bytes .entry))) i 0 ⌝ }
+    ensures { λ r. ⌜ r ≡ getD (keysInBytes (now (bytes .entry))) i 0 ⌝ }
 {
     layout::key_at(bytes, 4, i)
 }
 
 pub fn value_at(bytes: &[u8], i: usize) -> u32
     requires { ⌜ i < placesIn (now bytes) ⌝ }
-    ensures { λ r. ⌜ r ≡ getD (valuesIn (now (bytes .entry))) i 0 ⌝ }
+    ensures { λ r. ⌜ r ≡ getD (valuesInBytes (now (bytes .entry))) i 0 ⌝ }
 {
     layout::bits_at(bytes, 4, i)
 }
@@ -27,7 +27,7 @@ pub fn value_at(bytes: &[u8], i: usize) -> u32
 // The number of content records that the last entry claims to have.
 pub fn last_count(bytes: &[u8], used: usize) -> usize
     requires { ⌜ (closingPlaces ≤ used) × (used ≤ placesIn (now bytes)) ⌝ }
-    ensures { λ r. ⌜ (r ≡ closingCount (valuesIn (now (bytes .entry))) used) × (r < 2 ^ 32) ⌝ }
+    ensures { λ r. ⌜ (r ≡ closingCount (valuesInBytes (now (bytes .entry))) used) × (r < 2 ^ 32) ⌝ }
 {
     value_at(bytes, used - 2) as usize
 }
@@ -52,7 +52,7 @@ pub fn is_closed(s: u32, bytes: &[u8], used: usize) -> bool
 
 // The last entry of the used records.
 pub fn last_entry(bytes: &[u8], used: usize) -> Entry
-    requires { ⌜ Ended (keysIn (now bytes)) (valuesIn (now bytes)) used ⌝ }
+    requires { ⌜ Ended (keysInBytes (now bytes)) (valuesInBytes (now bytes)) used ⌝ }
     ensures { λ r. ⌜ r ≡ lastEntry (logIn (now (bytes .entry)) used) ⌝ }
 {
     let count = last_count(bytes, used);

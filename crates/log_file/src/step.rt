@@ -4,7 +4,7 @@ ghost use Prim.Native.Nat.{_≤_};
 ghost use lib.ListN.{length};
 ghost use Rattle.definitions.specs.Log.{endsInMark, beforeEntries};
 ghost use Rattle.log.specs.Steps.{lastStep, EntriesLast, Stepped};
-ghost use Rattle.log_file.specs.Records.{placesIn, keysIn, valuesIn, logIn};
+ghost use Rattle.log_file.specs.Records.{placesIn, keysInBytes, valuesInBytes, logIn};
 use crate::entry;
 use log::step::LogStep;
 
@@ -24,7 +24,7 @@ pub fn ends_in_mark(bytes: &[u8], used: usize) -> bool
 
 // The place where the last entries start, so many as count says.
 fn entries_start(bytes: &[u8], used: usize, count: usize) -> usize
-    requires { ⌜ EntriesLast count (keysIn (now bytes)) (valuesIn (now bytes)) used ⌝ }
+    requires { ⌜ EntriesLast count (keysInBytes (now bytes)) (valuesInBytes (now bytes)) used ⌝ }
     ensures { λ r. ⌜ r ≡ length (beforeEntries count (logIn (now (bytes .entry)) used)) ⌝ }
 {
     let mut start = used;
@@ -38,7 +38,7 @@ fn entries_start(bytes: &[u8], used: usize, count: usize) -> usize
 
 // The last step of the used records.
 pub fn last_step(bytes: &[u8], used: usize) -> LogStep
-    requires { ⌜ Stepped (keysIn (now bytes)) (valuesIn (now bytes)) used ⌝ }
+    requires { ⌜ Stepped (keysInBytes (now bytes)) (valuesInBytes (now bytes)) used ⌝ }
     ensures { λ r. ⌜ r ≡ lastStep (logIn (now (bytes .entry)) used) ⌝ }
 {
     if !ends_in_mark(bytes, used) {

@@ -1,13 +1,13 @@
 -- `check::ends_in_entries` meets its contract: after each turn the records end in the entries exactly when those that are left end in the others.
 use native.Mathlib.Omega.{arith}
 use Rattle.log.proofs.Walk.{PassedEntries, check-all, all-passed, one-fails, one-ended, one-passed}
-use Rattle.log_file.specs.Records.{keysIn, valuesIn}
-use Rattle.log_file.proofs.InBytes.{in-keys, in-values, in-places}
+use Rattle.log_file.specs.Records.{keysInBytes, valuesInBytes}
+use Rattle.log_file.proofs.InBytes.{in-keys, in-values}
 use Rattle.log_file.proofs.check.ends_in_entries.Statement.{statement}
 use Rattle.log_file.proofs.check.ends_in_entries.Tie as tie
 
 abbrev Inv-loop : tie.InvT-loop
-Inv-loop m s bytes used count end₀ left₀ end left = PassedEntries count m s (keysIn bytes) (valuesIn bytes) used end left
+Inv-loop m s bytes used count end₀ left₀ end left = PassedEntries count m s (keysInBytes bytes) (valuesInBytes bytes) used end left
 
 abbrev μ-loop : tie.MeasureT-loop
 μ-loop m s bytes used count end₀ left₀ end left = left

@@ -11,7 +11,7 @@ use Rattle.definitions.specs.Log.{isContent}
 use Rattle.file.specs.Layout.{recordsAt}
 use Rattle.log.specs.Entries.{isClosed, Ended}
 use Rattle.log.proofs.Tests.{closed-ended, not-closed, not-valid}
-use Rattle.log_file.specs.Records.{keysIn, valuesIn, logIn}
+use Rattle.log_file.specs.Records.{keysInBytes, valuesInBytes, logIn}
 use Rattle.log_file.proofs.InBytes.{in-keys, in-values}
 use Rattle.log_file.proofs.Lent.{rest-lent}
 use Rattle.log_file.proofs.EntryContent.{begins, content-laid, content-tells}
@@ -27,7 +27,7 @@ shut : (c : tie.Else1) → (let a = start c .args in isClosed (a .s) (logIn (a .
 shut c = sym (c .before .is-closed .ensures) ∙ not-false _ (c .if1 .left)
 
 -- so it is all there
-ended : (c : tie.Else1) → (let a = start c .args in Ended (keysIn (a .bytes .now)) (valuesIn (a .bytes .now)) (a .used))
+ended : (c : tie.Else1) → (let a = start c .args in Ended (keysInBytes (a .bytes .now)) (valuesInBytes (a .bytes .now)) (a .used))
 ended c = closed-ended _ _ _ _ (in-keys _ (start c .pre .2)) (in-values _ (start c .pre .2)) (shut c)
 
 -- the key is valid

@@ -1,13 +1,13 @@
 -- `check::is_sound` meets its contract: after each turn the records are sound exactly when those that are left are.
 use native.Mathlib.Omega.{arith}
 use Rattle.log.proofs.Sound.{Passed, begins, ends, stops, stepped, falls, turns}
-use Rattle.log_file.specs.Records.{keysIn, valuesIn}
-use Rattle.log_file.proofs.InBytes.{in-keys, in-values, in-places}
+use Rattle.log_file.specs.Records.{keysInBytes, valuesInBytes}
+use Rattle.log_file.proofs.InBytes.{in-keys, in-values}
 use Rattle.log_file.proofs.check.is_sound.Statement.{statement}
 use Rattle.log_file.proofs.check.is_sound.Tie as tie
 
 abbrev Inv-loop : tie.InvT-loop
-Inv-loop m s bytes used end₀ end = Passed m s (keysIn bytes) (valuesIn bytes) used end
+Inv-loop m s bytes used end₀ end = Passed m s (keysInBytes bytes) (valuesInBytes bytes) used end
 
 abbrev μ-loop : tie.MeasureT-loop
 μ-loop m s bytes used end₀ end = end

@@ -1,6 +1,4 @@
 -- `head::is_length_for` meets its contract: what is left past the head is whole records, so many as are asked for.
-use mathlib.Core.Path.{sym}
-use native.Mathlib.Omega.{arith}
 use borrow.Author.Needs.{needs}
 use Rattle.log_file.proofs.HeadBytes.{no-whole-records, records-tell}
 use Rattle.log_file.proofs.head.is_length_for.Statement.{statement}

@@ -1,12 +1,12 @@
 -- `step::entries_start` meets its contract: after each turn what stands before the entries is what stands before those that are left.
 use native.Mathlib.Omega.{arith}
 use Rattle.log.proofs.Walk.{Walked, walk-all, walked-all, walk-ended, walk-on}
-use Rattle.log_file.specs.Records.{keysIn, valuesIn}
+use Rattle.log_file.specs.Records.{keysInBytes, valuesInBytes}
 use Rattle.log_file.proofs.step.entries_start.Statement.{statement}
 use Rattle.log_file.proofs.step.entries_start.Tie as tie
 
 abbrev Inv-loop : tie.InvT-loop
-Inv-loop bytes used count start₀ left₀ start left = Walked count (keysIn bytes) (valuesIn bytes) used start left
+Inv-loop bytes used count start₀ left₀ start left = Walked count (keysInBytes bytes) (valuesInBytes bytes) used start left
 
 abbrev μ-loop : tie.MeasureT-loop
 μ-loop bytes used count start₀ left₀ start left = left
