@@ -1,7 +1,7 @@
 /* Paint, paint window, take back, redo and empty against the reference, over long random histories: after every step
  * list and summary are compared with a fresh build, the log with a model of it, record by record, and the model says
- * when taking back and redo must be refused. The histories rest: the list is stored, and loaded into slices with more
- * room or with less. Tight rooms, damaged logs and counts, logs from another map, wrong summaries. */
+ * when taking back and redo must be refused. The histories rest: list and log are stored, and loaded into slices with
+ * more room for the list or with less. Tight rooms, damaged logs and counts, logs from another map, wrong summaries. */
 #include "survey.h"
 
 #include <stdlib.h>
@@ -20,11 +20,11 @@ static int paint_one(survey *a, model *l, uint8_t *raster, int whole) {
     return 1;
 }
 
-/* A rest: the list is stored, and loaded into other buffers with so much room, their summary is filled, and the log's
- * used records are brought along. */
+/* A rest: the list is stored, and loaded into other buffers with so much room, their summary is filled, and the log is
+ * stored and loaded. */
 static void rest(survey *a, size_t room) {
-    size_t length = HLQ_FILE_BYTES(a->n, a->s);
-    uint8_t *file = room_for(length);
+    size_t length = HLQ_FILE_BYTES(a->n, a->s), log_length = HLQ_LOG_FILE_BYTES(a->used);
+    uint8_t *file = room_for(length), *log_file = room_for(log_length);
     survey b = *a;
     b.keys = lend(room, 4), b.bits = lend(room + below(3), 4), b.summary = lend(a->summary.len, 4);
     b.log_keys = lend(a->log_keys.len, 4), b.log_values = lend(a->log_values.len, 4);
@@ -36,9 +36,13 @@ static void rest(survey *a, size_t room) {
     hlq_done filled = hlq_fill_summary(b.m, b.s, start(b.keys), b.keys.len, start(b.bits), b.bits.len, b.n,
                                        start(b.summary), b.summary.len);
     must(filled.refusal == 0, "and its summary filled");
-    memcpy(start(b.log_keys), start(a->log_keys), 4 * a->used);
-    memcpy(start(b.log_values), start(a->log_values), 4 * a->used);
-    free(file);
+    stored = hlq_store_log(a->m, a->s, start(a->log_keys), a->log_keys.len, start(a->log_values), a->log_values.len,
+                           a->used, a->in_force, log_file, log_length);
+    must(stored.refusal == 0 && stored.count == log_length, "its log is stored");
+    hlq_loaded_log log = hlq_load_log(log_file, log_length, start(b.log_keys), b.log_keys.len, start(b.log_values),
+                                      b.log_values.len);
+    must(log.refusal == 0 && log.used == a->used && log.in_force == a->in_force, "and loaded");
+    free(file), free(log_file);
     free_survey(a);
     *a = b;
 }

@@ -6,6 +6,7 @@ pub mod OfficeSteps
 pub mod AreaCalls
 pub mod RestSteps
 pub mod RestHistory
+pub mod RestLog
 -- findings, walked by hand
 pub mod FindingsCalls
 pub mod FindingsEntryExit

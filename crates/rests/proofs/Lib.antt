@@ -8,6 +8,7 @@ pub mod Given
 pub mod FromCalls
 pub mod ByFile
 pub mod CallsRest
+pub mod LogByFile
 pub mod Unseen
 pub mod RasterShown
 mod MapARests
