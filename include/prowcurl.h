@@ -87,6 +87,9 @@ extern "C" {
 /* The bytes of the file of a list of n records: a record takes 6, and above 16 slots 8. */
 #define HLQ_FILE_BYTES(n, s) (11 + ((s) > 16 ? 8 : 6) * (size_t)(n))
 
+/* The bytes of the file of a log with so many used records. */
+#define HLQ_LOG_FILE_BYTES(used) (23 + 8 * (size_t)(used))
+
 /* The bytes of the two bit strings of a list of n records: one bit a node, one bit a leaf. */
 #define HLQ_NODE_STRING_BYTES(n) (((size_t)(n) + 7) / 8)
 #define HLQ_LEAF_STRING_BYTES(n) (((size_t)(n) - (size_t)(n) / 4 + 7) / 8)
@@ -119,9 +122,10 @@ typedef enum {
     HLQ_ANSWER_ROOM = 12,  /* the answer exceeds its room; the places needed are returned */
     HLQ_RULES = 13,        /* rule ids not strictly ascending, or a bad window or feature */
     HLQ_WAIVERS = 14,      /* not a table of waivers, a bad key, or an id of no rule */
-    HLQ_FILE_LENGTH = 15,  /* the file has under 11 bytes, or a wrong length */
-    HLQ_FILE_MARK = 16,    /* the file does not begin with HLQ */
-    HLQ_FILE_VERSION = 17, /* the file's version is neither 1 nor 2, or is 2 with s up to 16 */
+    HLQ_FILE_LENGTH = 15,  /* the file has under 11 bytes (a log's under 23), or a wrong length */
+    HLQ_FILE_MARK = 16,    /* the file does not begin with HLQ (a log's with HLG) */
+    HLQ_FILE_VERSION = 17, /* the file's version is neither 1 nor 2, or is 2 with s up to 16 (a
+                              log's is not 1) */
     HLQ_SUMMARY = 18,      /* the summary has a wrong length, or does not hold this map's counts */
     HLQ_LEAVES = 19,       /* the count exceeds the leaves' slices, or the leaves are not ascending
                               valid keys that cover the raster once, with features below s */
@@ -152,7 +156,7 @@ static inline const char *hlq_refusal_text(uint64_t refusal) {
     case HLQ_RULES: return "a bad rule, or rules not ascending";
     case HLQ_WAIVERS: return "a bad waiver, or not a table of waivers";
     case HLQ_FILE_LENGTH: return "the file has a wrong length";
-    case HLQ_FILE_MARK: return "not a file of a list";
+    case HLQ_FILE_MARK: return "another kind of file";
     case HLQ_FILE_VERSION: return "a file of another version";
     case HLQ_SUMMARY: return "not the summary of the list";
     case HLQ_LEAVES: return "not the leaves of a raster";
@@ -179,6 +183,7 @@ typedef struct { uint64_t refusal, n, used, in_force; } hlq_edited;
 typedef struct { uint64_t used, in_force; } hlq_emptied;
 typedef struct { uint64_t refusal, live, hidden; } hlq_found; /* with HLQ_ANSWER_ROOM: live */
 typedef struct { uint64_t refusal, m, s, n; } hlq_loaded;
+typedef struct { uint64_t refusal, m, s, used, in_force; } hlq_loaded_log;
 typedef struct { uint64_t refusal, node_bytes, leaf_bytes; } hlq_strings; /* as hlq_counted */
 typedef struct { uint32_t id, row, column, height, width, feature; } hlq_rule;
 typedef struct {
@@ -445,6 +450,26 @@ hlq_counted hlq_store(uint32_t m, uint32_t s,
  * HLQ_LIST_ROOM, in this order. */
 hlq_loaded hlq_load(const uint8_t *file, size_t file_len,
                     uint32_t *keys, size_t keys_len, uint32_t *bits, size_t bits_len);
+
+/* STORE LOG. The file of the log in bytes 0 to count - 1; all other bytes stay. It has the used
+ * records and both counts, with m and s, and a mark that no list's file has:
+ * HLQ_LOG_FILE_BYTES(used) bytes. (With HLQ_ANSWER_ROOM a number that 64 bits do not hold is told
+ * as UINT64_MAX; no memory has so many bytes.)
+ * Refusals: HLQ_SETTINGS, HLQ_LOG, HLQ_ANSWER_ROOM, in this order. */
+hlq_counted hlq_store_log(uint32_t m, uint32_t s,
+                          const uint32_t *log_keys, size_t log_keys_len,
+                          const uint32_t *log_values, size_t log_values_len,
+                          size_t used, size_t in_force, uint8_t *file, size_t file_len);
+
+/* LOAD LOG. The log of a file in places 0 to used - 1 of log_keys and log_values; all other places
+ * stay. The log is as sound as the call that stored it found it, at the m and s that are given
+ * back; that it is the log of your list is for you to know.
+ * Refusals: HLQ_FILE_LENGTH (under 23 bytes), HLQ_FILE_MARK, HLQ_FILE_VERSION, HLQ_SETTINGS,
+ * HLQ_FILE_LENGTH (for the number of records that it names), HLQ_LOG (the file's own records and
+ * counts, at its own m and s), HLQ_LOG_ROOM, in this order. */
+hlq_loaded_log hlq_load_log(const uint8_t *file, size_t file_len,
+                            uint32_t *log_keys, size_t log_keys_len,
+                            uint32_t *log_values, size_t log_values_len);
 
 /* READ LEAVES. The first `leaves` places of leaf_keys and leaf_features are a delivery. The list of
  * the raster that it describes is written to places 0 to count - 1 of keys and bits; all other

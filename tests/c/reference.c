@@ -962,7 +962,7 @@ hlq_found ref_findings(uint32_t m, uint32_t s, const uint32_t *keys, size_t keys
 }
 
 /* So many bytes of a number, the highest first. */
-static uint8_t *put_number(uint8_t *at, size_t width, uint32_t x) {
+static uint8_t *put_number(uint8_t *at, size_t width, uint64_t x) {
     for (size_t b = width; b > 0; b--) *at++ = (uint8_t)(x >> 8 * (b - 1));
     return at;
 }
@@ -1018,6 +1018,58 @@ hlq_loaded ref_load(const uint8_t *file, size_t file_len, uint32_t *keys, size_t
     }
     free(raster);
     free_records(&l);
+    return answer;
+}
+
+hlq_counted ref_store_log(uint32_t m, uint32_t s, const uint32_t *log_keys, size_t log_keys_len,
+                          const uint32_t *log_values, size_t log_values_len, size_t used, size_t in_force,
+                          uint8_t *file, size_t file_len) {
+    log_step last, next;
+    if (settings_are_bad(m, s)) return (hlq_counted){ 1, 0 };
+    if (!log_is_sound(m, s, log_keys, log_values, shorter(log_keys_len, log_values_len), used, in_force, &last, &next))
+        return (hlq_counted){ 5, 0 };
+    if (file_len < 23 + 8 * used) return (hlq_counted){ 12, 23 + 8 * used };
+    memcpy(file, "HLG", 3);
+    uint8_t *at = put_number(file + 3, 2, 1);
+    at = put_number(at, 1, m);
+    at = put_number(at, 1, s);
+    at = put_number(at, 8, used);
+    at = put_number(at, 8, in_force);
+    for (size_t i = 0; i < used; i++) {
+        at = put_number(at, 4, log_keys[i]);
+        at = put_number(at, 4, log_values[i]);
+    }
+    return (hlq_counted){ 0, 23 + 8 * used };
+}
+
+static uint64_t count_at(const uint8_t *at) { return (uint64_t)number_at(at, 4) << 32 | number_at(at + 4, 4); }
+
+hlq_loaded_log ref_load_log(const uint8_t *file, size_t file_len, uint32_t *log_keys, size_t log_keys_len,
+                            uint32_t *log_values, size_t log_values_len) {
+    if (file_len < 23) return (hlq_loaded_log){ 15, 0, 0, 0, 0 };
+    if (memcmp(file, "HLG", 3) != 0) return (hlq_loaded_log){ 16, 0, 0, 0, 0 };
+    if (number_at(file + 3, 2) != 1) return (hlq_loaded_log){ 17, 0, 0, 0, 0 };
+    uint32_t m = file[5], s = file[6];
+    if (settings_are_bad(m, s)) return (hlq_loaded_log){ 1, 0, 0, 0, 0 };
+    uint64_t used = count_at(file + 7), in_force = count_at(file + 15);
+    if (used > file_len || file_len != 23 + 8 * used) return (hlq_loaded_log){ 15, 0, 0, 0, 0 };
+    uint32_t *keys = calloc(used + 1, sizeof *keys), *values = calloc(used + 1, sizeof *values);
+    if (!keys || !values) abort();
+    for (size_t i = 0; i < used; i++) {
+        keys[i] = number_at(file + 23 + 8 * i, 4);
+        values[i] = number_at(file + 27 + 8 * i, 4);
+    }
+    log_step last, next;
+    hlq_loaded_log answer = { 5, 0, 0, 0, 0 };
+    int sound = log_is_sound(m, s, keys, values, used, used, in_force, &last, &next);
+    if (sound && used > shorter(log_keys_len, log_values_len)) answer.refusal = 10;
+    else if (sound) {
+        memcpy(log_keys, keys, used * sizeof *keys);
+        memcpy(log_values, values, used * sizeof *values);
+        answer = (hlq_loaded_log){ 0, m, s, used, in_force };
+    }
+    free(keys);
+    free(values);
     return answer;
 }
 

@@ -118,6 +118,11 @@ hlq_counted ref_store(uint32_t m, uint32_t s,
                       size_t n, uint8_t *file, size_t file_len);
 hlq_loaded ref_load(const uint8_t *file, size_t file_len,
                     uint32_t *keys, size_t keys_len, uint32_t *bits, size_t bits_len);
+hlq_counted ref_store_log(uint32_t m, uint32_t s, const uint32_t *log_keys, size_t log_keys_len,
+                          const uint32_t *log_values, size_t log_values_len, size_t used, size_t in_force,
+                          uint8_t *file, size_t file_len);
+hlq_loaded_log ref_load_log(const uint8_t *file, size_t file_len, uint32_t *log_keys, size_t log_keys_len,
+                            uint32_t *log_values, size_t log_values_len);
 hlq_counted ref_read_leaves(uint32_t m, uint32_t s,
                             const uint32_t *leaf_keys, size_t leaf_keys_len,
                             const uint32_t *leaf_features, size_t leaf_features_len, size_t leaves,

@@ -116,6 +116,17 @@ hlq_counted hlq_store(uint32_t m, uint32_t s, TAKE_CONST_LIST, size_t n, uint8_t
 
 hlq_loaded hlq_load(const uint8_t *file, size_t file_len, TAKE_LIST) { return ref_load(file, file_len, LIST); }
 
+hlq_counted hlq_store_log(uint32_t m, uint32_t s, const uint32_t *log_keys, size_t log_keys_len,
+                          const uint32_t *log_values, size_t log_values_len, size_t used, size_t in_force,
+                          uint8_t *file, size_t file_len) {
+    return ref_store_log(m, s, log_keys, log_keys_len, log_values, log_values_len, used, in_force, file, file_len);
+}
+
+hlq_loaded_log hlq_load_log(const uint8_t *file, size_t file_len, uint32_t *log_keys, size_t log_keys_len,
+                            uint32_t *log_values, size_t log_values_len) {
+    return ref_load_log(file, file_len, log_keys, log_keys_len, log_values, log_values_len);
+}
+
 hlq_counted hlq_read_leaves(uint32_t m, uint32_t s, const uint32_t *leaf_keys, size_t leaf_keys_len,
                             const uint32_t *leaf_features, size_t leaf_features_len, size_t leaves, TAKE_LIST) {
     return ref_read_leaves(m, s, leaf_keys, leaf_keys_len, leaf_features, leaf_features_len, leaves, LIST);

@@ -30,12 +30,15 @@ static_assert(HLQ_FILE_BYTES(0, 1) == 11 && HLQ_FILE_BYTES(9, 16) == 65 && HLQ_F
               "the bytes of a file");
 static_assert(HLQ_FILE_BYTES(0xFFFFFFFFu, 16) == 25769803781u && HLQ_FILE_BYTES(0xFFFFFFFFu, 32) == 34359738371u,
               "no wrapping at 32 bits");
+static_assert(HLQ_LOG_FILE_BYTES(0) == 23 && HLQ_LOG_FILE_BYTES(3) == 47 && HLQ_LOG_FILE_BYTES(1 + 1) == 39 &&
+                  2 * HLQ_LOG_FILE_BYTES(0) == 46 && HLQ_LOG_FILE_BYTES(0xFFFFFFFFu) == 34359738383u,
+              "the bytes of a log's file");
 static_assert(sizeof(hlq_done) == 8 && sizeof(hlq_counted) == 16 && sizeof(hlq_keyed) == 16 &&
                   sizeof(hlq_block) == 40 && sizeof(hlq_measured) == 16 && sizeof(hlq_stands) == 48 &&
                   sizeof(hlq_span) == 16 && sizeof(hlq_exists) == 16 && sizeof(hlq_reported) == 16 &&
                   sizeof(hlq_edited) == 32 && sizeof(hlq_emptied) == 16 && sizeof(hlq_found) == 24 &&
-                  sizeof(hlq_loaded) == 32 && sizeof(hlq_strings) == 24 && sizeof(hlq_rule) == 24 &&
-                  sizeof(hlq_question) == 24,
+                  sizeof(hlq_loaded) == 32 && sizeof(hlq_loaded_log) == 40 && sizeof(hlq_strings) == 24 &&
+                  sizeof(hlq_rule) == 24 && sizeof(hlq_question) == 24,
               "the structs have no gaps");
 
 enum { MOST = HLQ_MOST_RECORDS(HLQ_DEEPEST_M) };
@@ -102,6 +105,13 @@ static void group(void) {
     must(painted.refusal == HLQ_ACCEPTED && painted.n == 1 && painted.used == 8, "a strip of two pixels is painted");
     must(log_keys[6] == 0 && log_values[6] == 2 && log_keys[7] == 0 && log_values[7] == HLQ_GROUP_MARK,
          "its two entries are a group");
+    size_t bytes = HLQ_LOG_FILE_BYTES(8);
+    hlq_counted stored = hlq_store_log(1, 1, log_keys, 8, log_values, 8, 8, 8, file, bytes - 1);
+    must(stored.refusal == HLQ_ANSWER_ROOM && stored.count == bytes, "a byte too few for the log");
+    stored = hlq_store_log(1, 1, log_keys, 8, log_values, 8, 8, 8, file, bytes);
+    must(stored.refusal == HLQ_ACCEPTED && stored.count == bytes, "HLQ_LOG_FILE_BYTES holds the log's file");
+    hlq_loaded_log loaded = hlq_load_log(file, bytes, log_keys, 8, log_values, 8);
+    must(loaded.refusal == HLQ_ACCEPTED && loaded.used == 8 && loaded.in_force == 8, "and gives it back");
 }
 
 static void words(void) {

@@ -19,7 +19,7 @@ enum {
     STACK = 1 << 18
 };
 
-static uint8_t raster[PIXELS], back[PIXELS], file[HLQ_FILE_BYTES(MOST, S)];
+static uint8_t raster[PIXELS], back[PIXELS], file[HLQ_FILE_BYTES(MOST, S)], log_file[HLQ_LOG_FILE_BYTES(LOG)];
 static uint32_t keys[MOST], bits[MOST], log_keys[LOG], log_values[LOG], answer[PIXELS], found_ids[PIXELS];
 static uint32_t summary[PLACES], leaf_keys[PIXELS], leaf_features[PIXELS];
 static size_t n, used, in_force, leaves, two;
@@ -139,6 +139,12 @@ static void call_remove_waiver(void) {
 }
 static void call_store(void) { refusal = hlq_store(M, S, keys, MOST, bits, MOST, n, file, sizeof file).refusal; }
 static void call_load(void) { refusal = hlq_load(file, HLQ_FILE_BYTES(n, S), keys, MOST, bits, MOST).refusal; }
+static void call_store_log(void) {
+    refusal = hlq_store_log(M, S, log_keys, LOG, log_values, LOG, used, in_force, log_file, sizeof log_file).refusal;
+}
+static void call_load_log(void) {
+    refusal = hlq_load_log(log_file, HLQ_LOG_FILE_BYTES(used), log_keys, LOG, log_values, LOG).refusal;
+}
 static void call_write_leaves(void) {
     hlq_counted w = hlq_write_leaves(M, S, keys, MOST, bits, MOST, n, leaf_keys, PIXELS, leaf_features, PIXELS);
     refusal = w.refusal, leaves = w.count;
@@ -165,7 +171,8 @@ typedef struct {
 
 enum { INTERFACE, KEY_AT, BLOCK_OF, BUILD, RASTER, STANDING, PART, EXIST, REPORT, SELECT, FILL_SUMMARY, AREA,
        EXIST_CLIPPED, REPORT_CLIPPED, SELECT_CLIPPED, AREA_CLIPPED, BATCH, PAINT, PAINT_WINDOW, TAKE_BACK, REDO, EMPTY,
-       ADD_WAIVER, FINDINGS, REMOVE_WAIVER, STORE, LOAD, WRITE_LEAVES, READ_LEAVES, WRITE, READ, COMBINE, CALLS };
+       ADD_WAIVER, FINDINGS, REMOVE_WAIVER, STORE, LOAD, STORE_LOG, LOAD_LOG, WRITE_LEAVES, READ_LEAVES, WRITE, READ,
+       COMBINE, CALLS };
 static call calls[CALLS] = {
     { "interface", call_interface, 0 },
     { "key_at", call_key_at, 0 },       { "block_of", call_block_of, 0 }, { "build", call_build, 0 },
@@ -180,6 +187,7 @@ static call calls[CALLS] = {
     { "empty", call_empty, 0 },
     { "add_waiver", call_add_waiver, 0 }, { "findings", call_findings, 0 },
     { "remove_waiver", call_remove_waiver, 0 },   { "store", call_store, 0 },       { "load", call_load, 0 },
+    { "store_log", call_store_log, 0 }, { "load_log", call_load_log, 0 },
     { "write_leaves", call_write_leaves, 0 }, { "read_leaves", call_read_leaves, 0 },
     { "write_bit_strings", call_write, 0 },       { "read_bit_strings", call_read, 0 },
     { "combine", call_combine, 0 },
@@ -229,6 +237,12 @@ static void two_features(void) {
     two = hlq_build(M, 2, back, PIXELS, two_keys, MOST, two_bits, MOST, two_summary, TWO_PLACES).count;
 }
 
+/* The log into a file and back. */
+static void log_there_and_back(uint8_t pattern) {
+    measure(STORE_LOG, pattern);
+    measure(LOAD_LOG, pattern);
+}
+
 /* A window painted, taken back, redone and taken back. */
 static void paint_window(uint32_t a, uint32_t b, uint32_t c, uint32_t d, uint8_t pattern) {
     row = a, column = b, height = c, width = d, feature = 7;
@@ -236,6 +250,7 @@ static void paint_window(uint32_t a, uint32_t b, uint32_t c, uint32_t d, uint8_t
     measure(TAKE_BACK, pattern);
     measure(REDO, pattern);
     measure(TAKE_BACK, pattern);
+    log_there_and_back(pattern);
 }
 
 static void every_call(uint8_t pattern) {
@@ -271,6 +286,7 @@ static void every_call(uint8_t pattern) {
         measure(TAKE_BACK, pattern);
         measure(REDO, pattern);
         measure(TAKE_BACK, pattern);
+        log_there_and_back(pattern);
     }
     /* windows, of which the first has blocks of every size */
     paint_window(1, 1, EDGE - 2, EDGE - 2, pattern);
@@ -284,6 +300,7 @@ static void every_call(uint8_t pattern) {
         key = blocks[i], feature = (uint32_t)i;
         measure(PAINT, pattern);
     }
+    log_there_and_back(pattern);
     for (size_t i = 0; i < 4; i++) measure(TAKE_BACK, pattern);
 }
 

@@ -8,6 +8,7 @@ mod FourWaivers
 mod ClassVectors
 mod RedoVectors
 mod GroupVectors
+mod LogFileVectors
 mod ListingVectors
 mod CombineVectors
 mod OfficeVectors

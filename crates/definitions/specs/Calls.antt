@@ -24,6 +24,8 @@ pub mod AddWaiver
 pub mod RemoveWaiver
 pub mod Store
 pub mod Load
+pub mod StoreLog
+pub mod LoadLog
 pub mod ReadLeaves
 pub mod WriteLeaves
 pub mod WriteBitStrings

@@ -15,6 +15,7 @@ pub mod Covered
 pub mod Combine
 pub mod Offices
 pub mod File
+pub mod LogFile
 pub mod Leaves
 pub mod BitStrings
 pub mod Listing

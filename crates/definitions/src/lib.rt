@@ -127,6 +127,15 @@ pub struct Loaded {
     pub n: u64,
 }
 
+#[repr(C)]
+pub struct LoadedLog {
+    pub refusal: u64,
+    pub m: u64,
+    pub s: u64,
+    pub used: u64,
+    pub in_force: u64,
+}
+
 // The bytes of a pair of bit strings.
 #[repr(C)]
 pub struct Strings {

@@ -1,15 +1,16 @@
--- Numbers in two and in four bytes: what their stores leave, and what reading them gives. Rests on the laws of lists.
+-- Numbers in two, four and eight bytes: what their stores leave, and what reading them gives. Rests on Stores.
 use Prim.Native.Nat.{ℕ, suc, _+_, _*_, _/_, _%_, _≤_, _<_}
-use mathlib.Core.Path.{_≡_, sym, ap₂}
-use mathlib.Core.List.{List}
+use mathlib.Core.Path.{_≡_, sym, ap, ap₂, _∙_}
+use mathlib.Core.List.{List, [], _∷_, _++_}
 use native.Mathlib.Nat.{div-one}
 use native.Mathlib.Numerals.{add-one}
 use native.Mathlib.Omega.{arith}
 use lib.ListN.{length, getD, set}
 use lib.Seq.{sets, drop-cons}
 use Rattle.definitions.specs.File.{bytesOf, numberAfter, numberOf, numberAt}
-use Rattle.laws.proofs.FileBytes.{bytes-at-places}
+use Rattle.laws.proofs.FileBytes.{bytes-at-places, length-bytes}
 use Rattle.laws.proofs.FileBack.{number-at-below}
+use Rattle.file.proofs.Stores.{sets-append}
 
 -- two stores put a number's last two bytes at a place
 pub put-two : (l : List ℕ) (place x : ℕ) → set (set l place (x / 256 % 256)) (place + 1) (x % 256) ≡ sets l place (bytesOf 2 x)
@@ -26,6 +27,35 @@ put-four l place x =
     let third : place + 2 ≡ suc (suc place) = omega arith in
     let fourth : place + 3 ≡ suc (suc (suc place)) = omega arith in
     rw (second, third, fourth, div-one x)
+
+-- a byte of the upper half, and one of the lower half
+upper : (x : ℕ)
+    → (x / 72057594037927936 % 256 ≡ x / 4294967296 / 16777216 % 256) × (x / 281474976710656 % 256 ≡ x / 4294967296 / 65536 % 256)
+    × (x / 1099511627776 % 256 ≡ x / 4294967296 / 256 % 256) × (x / 4294967296 % 256 ≡ x / 4294967296 / 1 % 256)
+upper x = (omega arith, omega arith, omega arith, omega arith)
+
+lower : (x : ℕ)
+    → (x / 16777216 % 256 ≡ x % 4294967296 / 16777216 % 256) × (x / 65536 % 256 ≡ x % 4294967296 / 65536 % 256)
+    × (x / 256 % 256 ≡ x % 4294967296 / 256 % 256) × (x / 1 % 256 ≡ x % 4294967296 / 1 % 256)
+lower x = (omega arith, omega arith, omega arith, omega arith)
+
+-- a number in eight bytes: those of its upper half, and then those of its lower half
+halves : (x : ℕ) → bytesOf 8 x ≡ bytesOf 4 (x / 4294967296) ++ bytesOf 4 (x % 4294967296)
+unfolding bytesOf
+halves x =
+    let a = upper x in
+    let b = lower x in
+    λ i. a .0 i ∷ a .1 i ∷ a .2 i ∷ a .3 i ∷ b .0 i ∷ b .1 i ∷ b .2 i ∷ b .3 i ∷ []
+
+-- two stores of four bytes put it at a place
+pub put-eight : (l : List ℕ) (place x : ℕ) (first whole : List ℕ) → first ≡ sets l place (bytesOf 4 (x / 4294967296))
+    → whole ≡ sets first (place + 4) (bytesOf 4 (x % 4294967296)) → whole ≡ sets l place (bytesOf 8 x)
+put-eight l place x first whole e f =
+    f
+    ∙ ap (λ u. sets u (place + 4) (bytesOf 4 (x % 4294967296))) e
+    ∙ ap (λ k. sets (sets l place (bytesOf 4 (x / 4294967296))) (place + k) (bytesOf 4 (x % 4294967296))) (sym (length-bytes 4 (x / 4294967296)))
+    ∙ sym (sets-append l place (bytesOf 4 (x / 4294967296)) (bytesOf 4 (x % 4294967296)))
+    ∙ ap (sets l place) (sym (halves x))
 
 -- a byte is a number in one byte
 pub number-one : (place : ℕ) (file : List ℕ) → place < length file → numberAt place 1 file ≡ getD file place 0
@@ -49,6 +79,25 @@ number-four place file h =
       drop-cons file (suc place) 0 (omega arith),
       drop-cons file (suc (suc place)) 0 (omega arith),
       drop-cons file (suc (suc (suc place))) 0 (omega arith),
+    )
+    (omega arith)
+
+-- a number in eight bytes is that in the first four and that in the last four
+pub number-eight : (place : ℕ) (file : List ℕ) → place + 8 ≤ length file
+    → numberAt place 8 file ≡ numberAt place 4 file * 4294967296 + numberAt (place + 4) 4 file
+unfolding numberAt numberOf numberAfter
+number-eight place file h =
+    let fifth : place + 4 ≡ suc (suc (suc (suc place))) = omega arith in
+    rw (
+      fifth,
+      drop-cons file place 0 (omega arith),
+      drop-cons file (suc place) 0 (omega arith),
+      drop-cons file (suc (suc place)) 0 (omega arith),
+      drop-cons file (suc (suc (suc place))) 0 (omega arith),
+      drop-cons file (suc (suc (suc (suc place)))) 0 (omega arith),
+      drop-cons file (suc (suc (suc (suc (suc place))))) 0 (omega arith),
+      drop-cons file (suc (suc (suc (suc (suc (suc place)))))) 0 (omega arith),
+      drop-cons file (suc (suc (suc (suc (suc (suc (suc place))))))) 0 (omega arith),
     )
     (omega arith)
 

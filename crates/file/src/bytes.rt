@@ -24,6 +24,14 @@ pub fn put_u32(x: u32, file: &mut [u8], place: usize)
     file[place + 3] = (x % 256) as u8;
 }
 
+pub fn put_u64(x: u64, file: &mut [u8], place: usize)
+    requires { ⌜ place + 8 ≤ length (now file) ⌝ }
+    ensures { λ _. ⌜ now (file .exit) ≡ sets (now (file .entry)) place (bytesOf 8 x) ⌝ }
+{
+    put_u32((x / 4294967296) as u32, file, place);
+    put_u32((x % 4294967296) as u32, file, place + 4);
+}
+
 pub fn u8_at(file: &[u8], place: usize) -> u32
     requires { ⌜ place < length (now file) ⌝ }
     ensures { λ r. ⌜ r ≡ numberAt place 1 (now (file .entry)) ⌝ }
@@ -47,4 +55,13 @@ pub fn u32_at(file: &[u8], place: usize) -> u32
     let low = u16_at(file, place + 2);
     let high = u16_at(file, place);
     high * 65536 + low
+}
+
+pub fn u64_at(file: &[u8], place: usize) -> u64
+    requires { ⌜ place + 8 ≤ length (now file) ⌝ }
+    ensures { λ r. ⌜ r ≡ numberAt place 8 (now (file .entry)) ⌝ }
+{
+    let low = u32_at(file, place + 4) as u64;
+    let high = u32_at(file, place) as u64;
+    high * 4294967296 + low
 }

@@ -4,9 +4,10 @@ ghost use mathlib.Core.Path.{_≡_};
 ghost use mathlib.Core.Bool.{true, cond};
 ghost use Prim.Native.Nat.{ℕ, _+_, _*_, _^_, _≤_, _<_};
 ghost use lib.ListN.{drop};
-ghost use Rattle.keys.specs.Key.{rootKey};
+ghost use Rattle.keys.specs.Key.{rootKey, slotLimit, validKey};
 ghost use Rattle.definitions.specs.Read.{isListOfBlock};
 ghost use Rattle.definitions.specs.File.{recordsInFile};
+ghost use Rattle.definitions.specs.Log.{isContent};
 ghost use Rattle.list.specs.Check.{restPlace, afterNode, stepUnder};
 ghost use Rattle.file.specs.Layout.{recordsAt, RecordsFit};
 ghost use Rattle.file.specs.Room.{Exact};
@@ -14,6 +15,7 @@ use crate::bytes;
 use crate::layout;
 use keys::Key;
 use keys::power;
+use keys::zeros;
 use list::check;
 
 // After the own record of a node of height 1: whether the next four records are its pixels. Heights 1 and 2 have functions of their own, as in
@@ -189,16 +191,15 @@ fn after_node(
     if union == own { next } else { 0 }
 }
 
-// The n records of a file of their length are a raster's list at m and s.
-pub fn holds_list(file: &[u8], m: u32, s: u32, n: usize) -> bool
-    requires { ⌜ Exact m s n (now file) ⌝ }
-    ensures { λ r. ⌜ r ≡ isListOfBlock m s m 0 0 rootKey (recordsInFile (now (file .entry))) ⌝ }
+// The first n records of a file are the list of the block with the given key at m and s.
+pub fn holds_block(file: &[u8], width: usize, n: usize, m: u32, s: u32, key: u32) -> bool
+    requires { ⌜ RecordsFit width n (now file) × (m ≤ 10) × (s ≤ slotLimit) × (validKey m key ≡ true) ⌝ }
+    ensures { λ r. ⌜ r ≡ isContent m s key (recordsAt width n (now (file .entry))) ⌝ }
 {
     if n == 0 {
         return false;
     }
-    let width = layout::width(s);
-    if layout::key_at(file, width, 0) != Key::ROOT {
+    if layout::key_at(file, width, 0) != key {
         return false;
     }
     let own = layout::bits_at(file, width, 0);
@@ -208,6 +209,14 @@ pub fn holds_list(file: &[u8], m: u32, s: u32, n: usize) -> bool
     if check::has_one_slot(own) {
         return n == 1;
     }
-    let step = power::power_of_five(m) / 5;
-    after_node(file, width, n, 1, Key::ROOT, own, step) == n
+    let step = zeros::keys_in(m, key) / 5;
+    after_node(file, width, n, 1, key, own, step) == n
+}
+
+// The n records of a file of their length are a raster's list at m and s.
+pub fn holds_list(file: &[u8], m: u32, s: u32, n: usize) -> bool
+    requires { ⌜ Exact m s n (now file) ⌝ }
+    ensures { λ r. ⌜ r ≡ isListOfBlock m s m 0 0 rootKey (recordsInFile (now (file .entry))) ⌝ }
+{
+    holds_block(file, layout::width(s), n, m, s, Key::ROOT)
 }

@@ -57,7 +57,8 @@ pub length-file : (m s : ℕ) (l : List Record) → length (fileOf m s l) ≡ fi
 unfolding fileOf headOf bytesOf
 length-file m s l = let e = length-records (width-of s) l in omega arith
 
-read-written : {width : ℕ} → Width width → {l : List Record} → FitsFile width l → readRecords width (length l) (bytesOfRecords width l) ≡ l
+-- records that fit, written and read again
+pub read-written : {width : ℕ} → Width width → {l : List Record} → FitsFile width l → readRecords width (length l) (bytesOfRecords width l) ≡ l
 unfolding readRecords bytesOfRecords numberAt bytesOf
 read-written w no-record = refl
 read-written two (fits {e} {l} hk hv h) = λ i. recordOf (number-of-bytes 4 (e .key) hk i) (number-of-bytes 2 (e .value) hv i) ∷ read-written two h i

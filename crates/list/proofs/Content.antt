@@ -1,5 +1,5 @@
 -- The answers of the check of a block's list in two slices, one for each way out of the code. Rests on Accepts and Places.
-use Prim.Native.Nat.{ℕ, _-_, _^_, _≤_, _<_}
+use Prim.Native.Nat.{ℕ, _+_, _-_, _*_, _/_, _^_, _≤_, _<_}
 use mathlib.Core.Path.{_≡_, sym, _∙_, ap, ap₂}
 use mathlib.Core.Bool.{Bool, true, false, _&&_, and-false}
 use mathlib.Core.List.{List, []}
@@ -12,19 +12,32 @@ use Rattle.keys.specs.Key.{rootKey, validKey, heightOf}
 use Rattle.keys.proofs.Cases.{decide}
 use Rattle.keys.proofs.Digits.{row-zero, column-zero, height-zero}
 use Rattle.keys.specs.Under.{MapBlock, here}
-use Rattle.keys.proofs.Valid.{block-valid}
+use Rattle.keys.proofs.Powers.{five-le, height-le}
+use Rattle.keys.proofs.Valid.{block-valid, valid-below}
 use Rattle.definitions.specs.List.{Record}
 use Rattle.definitions.specs.Read.{room, paired, recordsOf, isList}
 use Rattle.definitions.specs.Log.{isContent}
 use Rattle.laws.proofs.Records.{paired-length}
-use Rattle.list.specs.Check.{oneSlot, Outcome, wrong, left, restPlace, afterOwn, afterNode}
+use Rattle.list.specs.Check.{oneSlot, Outcome, wrong, left, restPlace, afterOwn, afterNode, stepUnder}
 use Rattle.list.proofs.Children.{own-leaf, own-node}
 use Rattle.list.proofs.Places.{record-at}
+use Rattle.list.proofs.Turn.{step-fifth}
 use Rattle.list.proofs.Accepts.{isWhole, accepts, accepts-content}
 
 -- what the check promises
 abbrev pub Answer : ℕ → ℕ → ℕ → List ℕ → List ℕ → ℕ → Bool
 Answer m s κ K B n = leb n (room K B) && isContent m s κ (recordsOf K B n)
+
+-- the step of the block's children, and that keys in the block's interval fit
+pub step-is : (m κ power : ℕ) → power ≡ 5 ^ heightOf m κ → power / 5 ≡ stepUnder (heightOf m κ)
+step-is m κ power p = ap (λ x. x / 5) p ∙ step-fifth (heightOf m κ)
+
+pub keys-fit : (m κ power : ℕ) → m ≤ 10 → validKey m κ ≡ true → power ≡ 5 ^ heightOf m κ → κ + 5 * (power / 5) < 4294967296
+keys-fit m κ power top valid p =
+    let x = valid-below m κ valid in
+    let y = five-le 10 top in
+    let z = five-le m (height-le m κ) in
+    omega arith
 
 -- where a slice is too short
 pub short-keys : (m s κ : ℕ) (K B : List ℕ) (n : ℕ) → length K < n → false ≡ Answer m s κ K B n

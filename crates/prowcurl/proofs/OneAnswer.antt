@@ -55,6 +55,10 @@ use Rattle.prowcurl.proofs.files.hlq_store as store
 use Rattle.prowcurl.proofs.files.hlq_store.Reads as store-reads
 use Rattle.prowcurl.proofs.files.hlq_load as load
 use Rattle.prowcurl.proofs.files.hlq_load.Reads as load-reads
+use Rattle.prowcurl.proofs.files.hlq_store_log as store-log
+use Rattle.prowcurl.proofs.files.hlq_store_log.Reads as store-log-reads
+use Rattle.prowcurl.proofs.files.hlq_load_log as load-log
+use Rattle.prowcurl.proofs.files.hlq_load_log.Reads as load-log-reads
 use Rattle.prowcurl.proofs.deliveries.hlq_read_leaves as read-leaves
 use Rattle.prowcurl.proofs.deliveries.hlq_read_leaves.Reads as read-leaves-reads
 use Rattle.prowcurl.proofs.deliveries.hlq_write_leaves as write-leaves
@@ -170,6 +174,12 @@ store-one = by-equations (λ x. two (x .kept) (x .kept′))
 
 pub load-one : OneAnswer load.ended load-reads.Learnt
 load-one = by-equations (λ x. three (x .kept) (x .kept′))
+
+pub store-log-one : OneAnswer store-log.ended store-log-reads.Learnt
+store-log-one = by-equations (λ x. two (x .kept) (x .kept′))
+
+pub load-log-one : OneAnswer load-log.ended load-log-reads.Learnt
+load-log-one = by-equations (λ x. three (x .kept) (x .kept′))
 
 -- leaf lists
 pub read-leaves-one : OneAnswer read-leaves.ended read-leaves-reads.Learnt

@@ -1,30 +1,12 @@
 -- `check::is_content` meets its contract: each way out answers what the definition does there.
-use Prim.Native.Nat.{ℕ, _+_, _*_, _/_, _^_, _≤_, _<_}
-use mathlib.Core.Path.{_≡_, sym, _∙_, ap}
-use mathlib.Core.Bool.{true}
+use mathlib.Core.Path.{sym, _∙_}
 use native.Mathlib.Omega.{arith}
 use borrow.Author.Tests.{ltb-true, ltb-false, not-true, not-false}
 use borrow.Author.Needs.{needs}
-use Rattle.keys.specs.Key.{validKey, heightOf}
 use Rattle.keys.proofs.LastZeros.{keys-height}
-use Rattle.keys.proofs.Powers.{five-le, height-le}
-use Rattle.keys.proofs.Valid.{valid-below}
-use Rattle.list.specs.Check.{stepUnder}
-use Rattle.list.proofs.Turn.{step-fifth}
-use Rattle.list.proofs.Content.{Stand, keys-length, bits-length, short-keys, short-bits, no-records, other-key, large-bits, one-record, many-records}
+use Rattle.list.proofs.Content.{step-is, keys-fit, Stand, keys-length, bits-length, short-keys, short-bits, no-records, other-key, large-bits, one-record, many-records}
 use Rattle.list.proofs.check.is_content.Statement.{statement}
 use Rattle.list.proofs.check.is_content.Tie as tie
-
--- the step of the block's children, and that keys in the block's interval fit
-step-is : (m κ power : ℕ) → power ≡ 5 ^ heightOf m κ → power / 5 ≡ stepUnder (heightOf m κ)
-step-is m κ power p = ap (λ x. x / 5) p ∙ step-fifth (heightOf m κ)
-
-keys-fit : (m κ power : ℕ) → m ≤ 10 → validKey m κ ≡ true → power ≡ 5 ^ heightOf m κ → κ + 5 * (power / 5) < 4294967296
-keys-fit m κ power top valid p =
-    let x = valid-below m κ valid in
-    let y = five-le 10 top in
-    let z = five-le m (height-le m κ) in
-    omega arith
 
 returns : tie.Need-returns
 returns c =
