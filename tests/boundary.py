@@ -176,7 +176,7 @@ def differences(header, sources):
 STANDS_FOR = {
     "keys_len": {"room", "hlq_room_"}, "bits_len": {"room", "hlq_room_"}, "summary_len": {"hlq_summary_places_"},
     "log_keys_len": {"log_room"}, "log_values_len": {"log_room"},
-    "offices_len": {"HLQ_TABLE_PLACES"}, "ids_len": {"HLQ_TABLE_PLACES"}, "waived_len": {"HLQ_TABLE_PLACES"},
+    "offices_len": {"places"}, "ids_len": {"places"}, "waived_len": {"places"},
     "leaf_keys_len": {"leaves", "leaves_len"}, "leaf_features_len": {"leaves", "leaves_len"},
     "refusals_len": {"questions_len"}, "values_len": {"questions_len"},
     "found_ids_len": {"found_len"}, "found_keys_len": {"found_len"},

@@ -486,6 +486,42 @@ static void summary_too_small(void) {
     give_back(wide.memory), give_back(narrow.memory), give_back(deep.memory);
 }
 
+/* On a sheet that was refused every call is refused, whatever it is given. */
+static void no_sheet(hlq_sheet a) {
+    uint8_t file[HLQ_FILE_BYTES(1, 1)] = { 'H', 'L', 'Q', 0, 1, 0, 1, 0, 0, 0, 1, 0, 0, 0, 0, 0, 1 }, pixel = 0;
+    uint32_t numbers[HLQ_TABLE_NUMBERS], none = 0;
+    hlq_window w = { 0, 0, 1, 1 };
+    hlq_rule rule = { 1, 0, 0, 1, 1, 0 };
+    hlq_table t;
+    must(hlq_table_in(numbers, sizeof numbers, &t) == HLQ_ACCEPTED, "a table");
+    must(hlq_sheet_build(&a, &pixel, 1) == HLQ_SETTINGS && hlq_sheet_load(&a, file, sizeof file) == HLQ_LIST_ROOM &&
+             hlq_sheet_read_leaves(&a, &none, &none, 1) == HLQ_SETTINGS &&
+             hlq_sheet_read_bit_strings(&a, &pixel, 1, &pixel, 1) == HLQ_SETTINGS &&
+             hlq_sheet_combine(&a, &a, &pixel, 1, &a) == HLQ_SETTINGS,
+         "no map is made in a refused sheet");
+    must(hlq_sheet_raster(&a, &pixel, 1) == HLQ_SETTINGS && hlq_sheet_part(&a, 0, NULL, NULL) == HLQ_SETTINGS &&
+             hlq_sheet_area(&a, w, 0, NULL) == HLQ_SETTINGS && hlq_sheet_store(&a, file, 1, NULL) == HLQ_SETTINGS,
+         "nor asked of it");
+    must(hlq_sheet_paint(&a, 0, 0) == HLQ_SETTINGS && hlq_sheet_take_back(&a) == HLQ_SETTINGS &&
+             hlq_sheet_redo(&a) == HLQ_SETTINGS && hlq_sheet_add_waiver(&a, 0, &t, 1, 0) == HLQ_SETTINGS &&
+             hlq_sheet_findings(&a, 0, &rule, 1, &t, &none, &none, 1, NULL, NULL) == HLQ_SETTINGS,
+         "nor is it edited");
+}
+
+/* A table that was refused takes no row and hides nothing. */
+static void no_table(hlq_table *t) {
+    uint8_t pixel = 0;
+    uint32_t none = 0;
+    hlq_rule rule = { 1, 0, 0, 1, 1, 0 };
+    laid a = lay_sheet(0, 1, 0);
+    try_build(&a, &pixel, 1);
+    must(hlq_sheet_add_waiver(&a.sheet, 0, t, 1, 0) == HLQ_WAIVERS &&
+             hlq_sheet_remove_waiver(&a.sheet, 0, t, 1, 0) == HLQ_WAIVERS &&
+             hlq_sheet_findings(&a.sheet, 0, &rule, 1, t, &none, &none, 1, NULL, NULL) == HLQ_WAIVERS,
+         "a refused table is none");
+    give_back(a.memory);
+}
+
 /* Exactly the bytes asked, where an address checker sees each byte more; one less; memory that begins amiss. */
 static void laid_out(uint32_t m, uint32_t s, size_t log_room) {
     size_t bytes = hlq_sheet_bytes(m, s, log_room), places = HLQ_SUMMARY_PLACES(m, s);
@@ -493,13 +529,12 @@ static void laid_out(uint32_t m, uint32_t s, size_t log_room) {
     uint8_t *memory = (uint8_t *)room_for(bytes + 3);
     uint8_t *exact = (uint8_t *)realloc(memory, bytes);
     must(exact != NULL, "memory");
-    hlq_sheet a, before;
-    memset(&a, 0x5A, sizeof a), before = a;
+    hlq_sheet a;
     must(hlq_sheet_in(exact, bytes - 1, m, s, log_room, &a) == HLQ_LIST_ROOM, "a byte too few");
     must(hlq_sheet_in(NULL, bytes, m, s, log_room, &a) == HLQ_LIST_ROOM, "no memory");
     for (size_t i = 1; i < sizeof(uint32_t); i++)
         must(hlq_sheet_in(exact + i, bytes, m, s, log_room, &a) == HLQ_LIST_ROOM, "misaligned memory is refused");
-    must(memcmp(&a, &before, sizeof a) == 0, "a refused sheet is not written");
+    no_sheet(a);
     must(hlq_sheet_in(exact, bytes, m, s, log_room, &a) == HLQ_ACCEPTED, "the bytes asked are enough");
     uint32_t *next = (uint32_t *)(void *)exact;
     must(a.list.keys == next && a.list.bits == (next += a.list.room) && a.summary == (next += a.list.room) &&
@@ -543,6 +578,7 @@ static void layout(void) {
     must(hlq_table_in(table, hlq_table_bytes() - 1, &t) == HLQ_WAIVERS, "a table with a byte too few");
     must(hlq_table_in(table + 1, hlq_table_bytes(), &t) == HLQ_WAIVERS, "a misaligned table is refused");
     must(hlq_table_in(NULL, hlq_table_bytes(), &t) == HLQ_WAIVERS, "a table in no memory");
+    no_table(&t);
     must(hlq_table_in(table, hlq_table_bytes(), &t) == HLQ_ACCEPTED && t.rows == 0, "a table without rows");
     must((uint8_t *)(t.waived + HLQ_TABLE_PLACES) == table + hlq_table_bytes(), "in exactly its bytes");
     memset(t.offices, 0, hlq_table_bytes());
