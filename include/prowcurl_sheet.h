@@ -122,8 +122,8 @@ static inline void hlq_lay_(uint32_t *next, uint32_t m, uint32_t s, size_t room,
 /* A sheet laid into memory, without a map: its counts are 0, and until a map is made in it every
  * question is refused with HLQ_LIST. No byte of the memory is written. Misaligned memory is
  * refused; malloc's is aligned, and null, where it had none, is refused too. A refused sheet has no
- * memory, and every call on it is refused: hlq_sheet_load with HLQ_LIST_ROOM, the others with
- * HLQ_SETTINGS.
+ * memory, and every call on it is refused: hlq_sheet_load with HLQ_LIST_ROOM, hlq_sheet_load_log
+ * with HLQ_LOG, the others with HLQ_SETTINGS.
  * Refusals: HLQ_SETTINGS, HLQ_LIST_ROOM (memory is null, not aligned for uint32_t, or has under
  * hlq_sheet_bytes(m, s, log_room) bytes), in this order. */
 HLQ_LOOK hlq_refusal hlq_sheet_in(void *memory, size_t bytes, uint32_t m, uint32_t s,
