@@ -122,8 +122,8 @@ static inline void hlq_lay_(uint32_t *next, uint32_t m, uint32_t s, size_t room,
 /* A sheet laid into memory, without a map: its counts are 0, and until a map is made in it every
  * question is refused with HLQ_LIST. No byte of the memory is written. Misaligned memory is
  * refused; malloc's is aligned, and null, where it had none, is refused too. A refused sheet has no
- * memory, and every call on it is refused: hlq_sheet_load with HLQ_LIST_ROOM, the others with
- * HLQ_SETTINGS.
+ * memory, and every call on it is refused: hlq_sheet_load with HLQ_LIST_ROOM, hlq_sheet_load_log
+ * with HLQ_LOG, the others with HLQ_SETTINGS.
  * Refusals: HLQ_SETTINGS, HLQ_LIST_ROOM (memory is null, not aligned for uint32_t, or has under
  * hlq_sheet_bytes(m, s, log_room) bytes), in this order. */
 HLQ_LOOK hlq_refusal hlq_sheet_in(void *memory, size_t bytes, uint32_t m, uint32_t s,
@@ -422,6 +422,34 @@ HLQ_LOOK hlq_refusal hlq_sheet_write_bit_strings(const hlq_sheet *sheet,
     if (node_bytes) *node_bytes = (size_t)written.node_bytes;
     if (leaf_bytes) *leaf_bytes = (size_t)written.leaf_bytes;
     return (hlq_refusal)written.refusal;
+}
+
+/* LOGS IN FILES, so that a sheet may rest: store the map and its log, lay out a sheet that has room
+ * for both, load the map, and then its log. */
+
+/* STORE LOG. HLQ_LOG_FILE_BYTES(sheet->used) bytes hold the file. */
+HLQ_LOOK hlq_refusal hlq_sheet_store_log(const hlq_sheet *sheet, uint8_t *file, size_t file_len,
+                                         size_t *count) {
+    hlq_counted stored = hlq_store_log(sheet->list.m, sheet->list.s, HLQ_LOG_(sheet),
+                                       file, file_len);
+    return hlq_give_(stored.refusal, stored.count, count);
+}
+
+/* LOAD LOG. The sheet takes over both counts. HLQ_LOG also where the file's m or s is not the
+ * sheet's. */
+HLQ_LOOK hlq_refusal hlq_sheet_load_log(hlq_sheet *sheet, const uint8_t *file, size_t file_len) {
+    int alike = file_len >= HLQ_LOG_FILE_BYTES(0) && file[HLQ_FILE_M_] == sheet->list.m &&
+                file[HLQ_FILE_S_] == sheet->list.s;
+    size_t log_room = alike ? sheet->log_room : 0;
+    hlq_loaded_log loaded = hlq_load_log(file, file_len, sheet->log_keys, log_room,
+                                         sheet->log_values, log_room);
+    if (loaded.refusal != HLQ_ACCEPTED && loaded.refusal != HLQ_LOG_ROOM) alike = 1;
+    if (!alike) return HLQ_LOG;
+    if (loaded.refusal == HLQ_ACCEPTED) {
+        sheet->used = (size_t)loaded.used;
+        sheet->in_force = (size_t)loaded.in_force;
+    }
+    return (hlq_refusal)loaded.refusal;
 }
 
 /* MAPS ARE EDITED: an accepted edit gives the sheet its new counts, a refused one leaves them. */

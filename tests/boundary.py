@@ -6,7 +6,7 @@ alone.
                                   types, order), every struct with its fields, the limits of m and s, the interface's
                                   number, and the order of the refusals at each call, which is the table in
                                   crates/definitions/specs/Calls. And prowcurl_sheet.h against the header: a call on a
-                                  sheet for every call that takes a list or a table, which hands on the right slices in
+                                  sheet for every call that takes a list, a log or a table, which hands on the right slices in
                                   the right order, has the arguments in the same order, and whose refusal is looked at
   tests/boundary.py --archive A   the header against the archive: it defines the declared calls and no other hlq_ name,
                                   wants the symbols that the header names, and has no data that two calls could share
@@ -199,7 +199,7 @@ def sheet_differences(header, text):
             found.append(f"{name}: nobody warns where its refusal is not looked at")
     for name, (result, parameters) in header.calls.items():
         names = [parameter for _, parameter in parameters]
-        if not {"keys", "keys1", "offices"} & set(names) and name != "hlq_empty":
+        if not {"keys", "keys1", "offices", "log_keys"} & set(names) and name != "hlq_empty":
             continue
         layered = name.replace("hlq_", "hlq_sheet_", 1)
         if layered not in functions:

@@ -30,6 +30,8 @@ void ignore_all(hlq_sheet *a, hlq_table *t, hlq_window w, hlq_dragged d, uint32_
     hlq_sheet_batch(a, NULL, 0, numbers, numbers);
     hlq_sheet_write_leaves(a, numbers, numbers, 1, NULL);
     hlq_sheet_write_bit_strings(a, bytes, 1, bytes, 1, NULL, NULL);
+    hlq_sheet_store_log(a, bytes, 1, NULL);
+    hlq_sheet_load_log(a, bytes, 1);
     hlq_sheet_paint(a, 0, 0);
     hlq_sheet_paint_window(a, w, 0);
     hlq_sheet_take_back(a);

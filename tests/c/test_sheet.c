@@ -314,11 +314,50 @@ static void try_edit(laid *a, call which, uint32_t key, hlq_window w, uint32_t f
     settle(which, got, e.refusal, a, &b);
 }
 
+/* The reference loads into room for any log; a sheet wants a log of its own m and s. */
+static void try_load_log(laid *a, const uint8_t *file, size_t bytes) {
+    laid b = copy_of_sheet(a);
+    uint32_t *keys = (uint32_t *)room_for(bytes), *values = (uint32_t *)room_for(bytes);
+    hlq_refusal got = hlq_sheet_load_log(&a->sheet, file, bytes);
+    hlq_loaded_log l = ref_load_log(file, bytes, keys, bytes / 4, values, bytes / 4);
+    uint64_t expected = l.refusal;
+    if (!expected && (l.m != b.sheet.list.m || l.s != b.sheet.list.s)) expected = HLQ_LOG;
+    if (!expected && l.used > b.sheet.log_room) expected = HLQ_LOG_ROOM;
+    if (!expected) {
+        memcpy(b.sheet.log_keys, keys, (size_t)l.used * sizeof *keys);
+        memcpy(b.sheet.log_values, values, (size_t)l.used * sizeof *values);
+        b.sheet.used = (size_t)l.used, b.sheet.in_force = (size_t)l.in_force;
+    }
+    settle(CALL_LOAD_LOG, got, expected, a, &b);
+    free(keys), free(values);
+}
+
+static void try_log(const laid *a) {
+    size_t bytes = HLQ_LOG_FILE_BYTES(a->sheet.used), room = bytes - (below(5) == 0), count = 99;
+    lent file = lend(room, 1), other = copy_of(file);
+    uint8_t *log = (uint8_t *)start(file);
+    hlq_refusal got = hlq_sheet_store_log(&a->sheet, log, room, &count);
+    hlq_counted c = ref_store_log(a->sheet.list.m, a->sheet.list.s, LOG_OF(&a->sheet), (uint8_t *)start(other), room);
+    note(CALL_STORE_LOG, got, c.refusal);
+    must(count == c.count, "the bytes of a log's file");
+    same_buffers("a log's file", file, other);
+    must(hlq_sheet_store_log(&a->sheet, log, room, NULL) == got, "a log stored without a count");
+    if (!got) {
+        laid b = lay_sheet(a->sheet.list.m, a->sheet.list.s, a->sheet.used - (a->sheet.used > 0 && below(4) == 0));
+        try_load_log(&b, log, count - (below(6) == 0));
+        if (below(2)) log[3 + below(6)] = (uint8_t)below(12); /* version, m, s, or a count */
+        try_load_log(&b, log, count);
+        give_back(b.memory);
+    }
+    give_back(file), give_back(other);
+}
+
 static void try_edits(laid *a) {
     static const call edits[] = { CALL_PAINT, CALL_PAINT, CALL_PAINT_WINDOW, CALL_TAKE_BACK, CALL_REDO };
     uint32_t m = a->sheet.list.m;
     for (int i = 0; i < 24; i++)
         try_edit(a, edits[below(5)], below(8) ? random_key(m) : below(0xFFFFFFFFu), some_window(m), some_feature(a));
+    try_log(a);
     hlq_sheet_empty(&a->sheet);
     must(a->sheet.used == 0 && a->sheet.in_force == 0, "an emptied log");
     hlq_window whole = { 0, 0, 1u << m, 1u << m };
