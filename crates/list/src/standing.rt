@@ -71,11 +71,16 @@ pub fn place(keys: &[u32], n: usize, x: u32) -> usize
     up_to(keys, n, x) - 1
 }
 
-// The same, looked for from a place on. A walk in key order asks most often for the very next key: that is looked at first.
+// The same, looked for from a place on. A walk in key order asks most often for the key that stands there, or for the very next one: these are looked at
+// first.
 pub fn place_from(keys: &[u32], n: usize, from: usize, x: u32) -> usize
     requires { ⌜ Sorted (now keys) n x × Near (now keys) n from x ⌝ }
     ensures { λ r. ⌜ r ≡ placeAmong x (take n (now (keys .entry))) ⌝ }
 {
+    let own = keys[from];
+    if own == x {
+        return from;
+    }
     let next = from + 1;
     if next < n {
         let key = keys[next];

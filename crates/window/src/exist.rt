@@ -7,12 +7,13 @@ ghost use Rattle.definitions.specs.Window.{isWindow, existIn};
 ghost use Rattle.list.specs.Own.{OwnList, shownBy};
 use definitions::Window;
 use keys::power;
+use list::standing;
 use walk::NextBlock;
 use walk::asking;
 
-// Some pixel of the window has the feature: the walk is left at the first block that shows it. A block that lies in a leaf, or whose bits lack the
-// feature, is settled by its record, however the window cuts it, and so is the whole leaf; only a cut node with the feature and others is entered. Keys
-// rise, so each search begins at the record of the block that was entered, or at the last one of what was passed.
+// Some pixel of the window has the feature: the walk is left at the first block that shows it. A block of one feature, or whose bits lack the one asked
+// for, is settled by its record, however the window cuts it; only a cut node with the feature and others is entered. What is passed is passed by its
+// standing, a leaf whole: the end of a node is worth a search there, since the next one begins at it.
 pub fn exist_in(m: u32, keys: &[u32], bits: &[u32], n: usize, window: Window, feature: u32) -> bool
     requires { ⌜ (m ≤ 10) × (isWindow m window ≡ true) × (feature < slotLimit) × OwnList m (now keys) (now bits) n ⌝ }
     ensures { λ r. ⌜ r ≡ existIn (shownBy m (now (keys .entry)) (now (bits .entry)) n) window feature ⌝ }
@@ -25,10 +26,11 @@ pub fn exist_in(m: u32, keys: &[u32], bits: &[u32], n: usize, window: Window, fe
             if walk::apart(spot, window) {
                 break;
             }
-            let told = asking::ask(m, keys, bits, n, from, spot);
-            let place = told.place;
+            let key = spot.key;
+            let place = standing::place_from(keys, n, from, key);
             let found = bits[place];
             if found & bit == 0 {
+                let told = asking::ask(m, keys, bits, n, place, spot);
                 spot = told.whole;
                 from = told.last;
                 break;

@@ -8,6 +8,7 @@ ghost use Rattle.walk.specs.Walk.{Small};
 ghost use Rattle.window.specs.Settled.{settles};
 use definitions::Window;
 use list::check;
+use list::standing;
 use walk::NextBlock;
 use walk::Spot;
 use walk::asking;
@@ -26,9 +27,9 @@ fn is_settled(union: u32, found: u32, spot: Spot, window: Window) -> bool
     walk::within(spot, window)
 }
 
-// The bitstring of all features in the window. A block's bits are those of the record where it stands, its own or the leaf's around it. They settle the
-// block, or the whole leaf, where none is new, or it has one feature, or it lies within the window; only a cut node that may add a feature is entered.
-// Keys rise, so each search begins at the record of the block that was entered, or at the last one of what was passed.
+// The bitstring of all features in the window. A block's bits are those of the last record at or before its key, its own or the leaf's around it. Where
+// they settle it, the block is passed by its standing, a leaf whole, and the next search begins at the end that this tells; only a cut node that may add
+// a feature is entered.
 pub fn report_in(m: u32, keys: &[u32], bits: &[u32], n: usize, window: Window) -> u32
     requires { ⌜ (m ≤ 10) × (isWindow m window ≡ true) × OwnList m (now keys) (now bits) n ⌝ }
     ensures { λ r. ⌜ r ≡ reportIn (shownBy m (now (keys .entry)) (now (bits .entry)) n) window ⌝ }
@@ -41,11 +42,12 @@ pub fn report_in(m: u32, keys: &[u32], bits: &[u32], n: usize, window: Window) -
             if walk::apart(spot, window) {
                 break;
             }
-            let told = asking::ask(m, keys, bits, n, from, spot);
-            let place = told.place;
+            let key = spot.key;
+            let place = standing::place_from(keys, n, from, key);
             let found = bits[place];
             if is_settled(union, found, spot, window) {
                 union = union | found;
+                let told = asking::ask(m, keys, bits, n, place, spot);
                 spot = told.whole;
                 from = told.last;
                 break;

@@ -1,17 +1,19 @@
 -- `exist::exist_in` meets its contract: where the walk stands, no pixel of the window with the feature lies before the key. Within a turn it goes
 -- down to a block that lies apart from the window or that its record settles; the key rises from turn to turn.
 use Prim.Native.Nat.{ℕ, _+_, _-_, _^_, _<_}
-use mathlib.Core.Path.{_≡_, sym, _∙_}
+use mathlib.Core.Path.{_≡_, sym, _∙_, ap}
 use mathlib.Core.Bool.{false}
 use mathlib.Core.Logic.{⊎-elim}
 use native.Mathlib.Omega.{arith}
-use lib.ListN.{length}
+use lib.ListN.{length, getD}
 use borrow.Author.Needs.{needs}
 use Rattle.list.specs.Own.{shownBy}
+use Rattle.list.proofs.Own.{own-sorted}
 use Rattle.walk.specs.Walk.{BlockSpot, isApart}
 use Rattle.walk.proofs.Lies.{small}
 use Rattle.walk.proofs.Steps.{Parent, few-keys, clear-apart, clear-first, cut-parent, first-less, follows-at, follows-gone}
-use Rattle.walk.proofs.Told.{told-bits, told-value, told-near, told-holds, told-whole}
+use Rattle.walk.proofs.Asked.{PlaceAsked, asked-place, near-place}
+use Rattle.walk.proofs.Told.{told-place, told-holds, told-whole}
 use Rattle.walk.proofs.Going.{Going, Past, going-root, going-first, past-unasked, past-told, going-on, going-less}
 use Rattle.window.proofs.Seen.{Unseen, unseen-none, unseen-clear, unseen-lower, unseen-block, seen-block, seen-whole, unseen-end}
 use Rattle.walk.proofs.Shows.{bits-no, bits-yes, bits-alone}
@@ -63,12 +65,12 @@ loop-holds c = c .walk .inv
 apart-requires : tie.Need-apart-requires Inv-loop μ-loop Inv-walk μ-walk
 apart-requires c κs = small _ _ _ (entry c .pre .0) (entry c .pre .1) (stands c)
 
-ask-requires : tie.Need-ask-requires Inv-loop μ-loop Inv-walk μ-walk
-ask-requires c κs = let at = c .before .before in let s = entry at in (s .pre .0, stands at, s .pre .3, at .loop .inv .0 .near)
+place-from-requires : tie.Need-place-from-requires Inv-loop μ-loop Inv-walk μ-walk
+place-from-requires c κs = let at = c .before .before in (own-sorted (entry at .pre .3) _, at .loop .inv .0 .near)
 
 -- a block that was asked for, and the head of its turn
 abbrev Asks : Type 0
-Asks = tie.After-ask Inv-loop μ-loop Inv-walk μ-walk
+Asks = tie.After-place-from Inv-loop μ-loop Inv-walk μ-walk
 
 abbrev head : Asks → Turn
 head c = c .before .before .before
@@ -78,14 +80,26 @@ meets : (c : Asks) → isApart (head c .loop .spot) (entry (head c) .args .windo
 meets c = sym (c .before .before .apart .ensures) ∙ c .before .if1 .left
 
 -- its bits
-in-bits : (c : Asks) → c .ask .result .place < length (entry (head c) .args .bits .now)
-in-bits c = let at = head c in told-bits (entry at .pre .0) (entry at .pre .3) (stands at) (c .ask .ensures)
+found : (c : Asks)
+    → (let at = head c in PlaceAsked (entry at .args .m) (entry at .args .keys .now) (entry at .args .bits .now) (entry at .args .n) (stands at .height) (at .loop .spot .row)
+    (at .loop .spot .column) (c .place-from .result))
+found c = let at = head c in asked-place (entry at .pre .3) (stands at .block) _ (c .place-from .ensures)
+
+in-bits : (c : Asks) → c .place-from .result < length (entry (head c) .args .bits .now)
+in-bits c = omega (arith, found c .room, entry (head c) .pre .3 .fits)
 
 mul-found : tie.Need-mul-found Inv-loop μ-loop Inv-walk μ-walk
 mul-found c = omega (arith, in-bits c, entry (head c) .good .1 .1 .0 .1)
 
 shared-slice-read-found : tie.Need-shared-slice-read-found Inv-loop μ-loop Inv-walk μ-walk
 shared-slice-read-found c = in-bits (c .before)
+
+-- a block that lacks the feature is passed by its standing
+ask-requires : tie.Need-ask-requires Inv-loop μ-loop Inv-walk μ-walk
+ask-requires c κs =
+    let asks = c .before .before in
+    let at = head asks in
+    (entry at .pre .0, stands at, entry at .pre .3, near-place (entry at .pre .3) _ _ (asks .place-from .ensures))
 
 -- from where a block has the feature and others
 abbrev looked : tie.Else3 Inv-loop μ-loop Inv-walk μ-walk → Asks
@@ -111,7 +125,7 @@ loop-again c =
     let asks = looked (c .before .before .before) in
     let at = head asks in
     let parent = entered (c .before) in
-    let near = told-near (entry at .pre .0) (entry at .pre .3) (stands at) (asks .ask .ensures) in
+    let near = near-place (entry at .pre .3) _ _ (asks .place-from .ensures) in
     rw (c .first .ensures)
     (going-first (at .loop .inv .0) parent _ near, unseen-clear _ _ _ _ _ _ (at .loop .inv .1) (clear-first _ (entry at .pre .1) parent))
 
@@ -125,7 +139,7 @@ past : (c : Ended)
 past c =
     let at = c .before .before in
     ⊎-elim (λ w. rw (w .1, w .2) (past-unasked (at .loop .inv .0)))
-    (λ w. rw (w .5, w .6) (past-told (entry at .pre .0) (entry at .pre .3) (at .loop .inv .0) (w .1 .ensures)))
+    (λ w. rw (w .6, w .7) (past-told (entry at .pre .0) (entry at .pre .3) (at .loop .inv .0) (w .4 .ensures)))
     (c .if1 .came)
 
 -- it holds no pixel of the window with the feature
@@ -139,9 +153,10 @@ passed c =
     let bit = at .before .before .before .power-of-two .ensures in
     ⊎-elim (λ w. rw (w .1) (unseen-clear _ _ _ _ _ _ unseen (clear-apart _ good (stands at) (sym (c .before .apart .ensures) ∙ w .0 .taken))))
     (λ w.
-    let told = w .1 .ensures in
-    let none = bits-no _ (told .whole) _ _ bit _ (told-whole low own (stands at) told) (w .3 .taken) in
-    rw (w .5) (unseen-block _ _ _ _ good (told .whole) none (unseen-lower _ _ _ _ _ _ (told-holds low own (stands at) told .0) unseen)))
+    let told = w .4 .ensures in
+    let place = told-place low own (stands at) told ∙ sym (w .1 .ensures) in
+    let none = bits-no _ (told .whole) _ _ bit _ (ap (λ i. getD (entry at .args .bits .now) i 0) (sym place) ∙ told-whole low own (stands at) told) (w .3 .taken) in
+    rw (w .6) (unseen-block _ _ _ _ good (told .whole) none (unseen-lower _ _ _ _ _ _ (told-holds low own (stands at) told .0) unseen)))
     (c .if1 .came)
 
 after-requires : tie.Need-after-requires Inv-loop μ-loop Inv-walk μ-walk
@@ -177,7 +192,7 @@ returns c =
     let asks = c .before .before .before in
     let at = head asks in
     let bit = at .before .before .before .power-of-two .ensures in
-    let whole = bits-alone _ (stands at) _ _ bit _ (told-value (entry at .pre .0) (entry at .pre .3) (stands at) (asks .ask .ensures)) (c .if3 .taken) in
+    let whole = bits-alone _ (stands at) _ _ bit _ (found asks .value) (c .if3 .taken) in
     sym (seen-whole _ _ _ _ (entry at .pre .1) (stands at) (meets asks) whole)
 
 returns-2 : tie.Need-returns-2 Inv-loop μ-loop Inv-walk μ-walk
@@ -186,7 +201,7 @@ returns-2 c =
     let at = head asks in
     let bit = at .before .before .before .power-of-two .ensures in
     let some = c .before .before .before .if2 .left in
-    let shows = bits-yes _ (stands at) _ _ bit _ (told-value (entry at .pre .0) (entry at .pre .3) (stands at) (asks .ask .ensures)) some in
+    let shows = bits-yes _ (stands at) _ _ bit _ (found asks .value) some in
     sym (seen-block _ _ _ _ (stands at) (sym (c .before .within .ensures) ∙ c .if4 .taken) shows)
 
 returns-3 : tie.Need-returns-3 Inv-loop μ-loop Inv-walk μ-walk
@@ -205,9 +220,10 @@ exist-in-spec =
     walk-holds
     loop-holds
     apart-requires
-    ask-requires
+    place-from-requires
     mul-found
     shared-slice-read-found
+    ask-requires
     within-requires
     first-requires
     loop-less

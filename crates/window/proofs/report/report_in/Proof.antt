@@ -1,17 +1,19 @@
 -- `report::report_in` meets its contract: where the walk stands, the union has the slots of the window's pixels before the key, and no others. Within a
 -- turn it goes down to a block that lies apart from the window or that its record settles; the key rises from turn to turn.
 use Prim.Native.Nat.{ℕ, _+_, _-_, _^_, _<_}
-use mathlib.Core.Path.{_≡_, sym, _∙_}
+use mathlib.Core.Path.{_≡_, sym, _∙_, ap}
 use mathlib.Core.Bool.{false}
 use mathlib.Core.Logic.{⊎-elim}
 use native.Mathlib.Omega.{arith}
-use lib.ListN.{length}
+use lib.ListN.{length, getD}
 use borrow.Author.Needs.{needs}
 use Rattle.list.specs.Own.{shownBy}
+use Rattle.list.proofs.Own.{own-sorted}
 use Rattle.walk.specs.Walk.{BlockSpot, isApart}
 use Rattle.walk.proofs.Lies.{small}
 use Rattle.walk.proofs.Steps.{Parent, few-keys, clear-apart, clear-first, cut-parent, first-less, follows-at, follows-gone}
-use Rattle.walk.proofs.Told.{told-bits, told-value, told-near, told-holds, told-whole}
+use Rattle.walk.proofs.Asked.{asked-place, near-place}
+use Rattle.walk.proofs.Told.{told-place, told-holds, told-whole}
 use Rattle.walk.proofs.Going.{Going, Past, going-root, going-first, past-unasked, past-told, going-on, going-less}
 use Rattle.window.proofs.Gathered.{Gathered, gathered-none, gathered-clear, gathered-settled, not-settled, gathered-end}
 use Rattle.window.proofs.report.report_in.Statement.{statement}
@@ -49,7 +51,7 @@ GatheredAt c union x =
 
 -- where a block is looked up, and the head of its turn
 abbrev Asks : Type 0
-Asks = tie.After-ask Inv-loop2 μ-loop2 Inv-loop μ-loop
+Asks = tie.After-place-from Inv-loop2 μ-loop2 Inv-loop μ-loop
 
 abbrev head : Asks → Turn
 head c = c .before .before .before
@@ -58,8 +60,8 @@ head c = c .before .before .before
 meets : (c : Asks) → isApart (head c .loop2 .spot) (entry (head c) .args .window) ≡ false
 meets c = sym (c .before .before .apart .ensures) ∙ c .before .if1 .left
 
-in-bits : (c : Asks) → c .ask .result .place < length (entry (head c) .args .bits .now)
-in-bits c = let at = head c in told-bits (entry at .pre .0) (entry at .pre .2) (stands at) (c .ask .ensures)
+in-bits : (c : Asks) → c .place-from .result < length (entry (head c) .args .bits .now)
+in-bits c = let at = head c in omega (arith, asked-place (entry at .pre .2) (stands at .block) _ (c .place-from .ensures) .room, entry at .pre .2 .fits)
 
 start-requires : tie.Need-start-requires Inv-loop2 μ-loop2 Inv-loop μ-loop
 start-requires c κs = c .before .before .pre .0
@@ -73,8 +75,8 @@ loop2-holds c = c .loop .inv
 apart-requires : tie.Need-apart-requires Inv-loop2 μ-loop2 Inv-loop μ-loop
 apart-requires c κs = small _ _ _ (entry c .pre .0) (entry c .pre .1) (stands c)
 
-ask-requires : tie.Need-ask-requires Inv-loop2 μ-loop2 Inv-loop μ-loop
-ask-requires c κs = let at = c .before .before in let s = entry at in (s .pre .0, stands at, s .pre .2, at .loop2 .inv .0 .near)
+place-from-requires : tie.Need-place-from-requires Inv-loop2 μ-loop2 Inv-loop μ-loop
+place-from-requires c κs = let at = c .before .before in (own-sorted (entry at .pre .2) _, at .loop2 .inv .0 .near)
 
 mul-found : tie.Need-mul-found Inv-loop2 μ-loop2 Inv-loop μ-loop
 mul-found c = omega (arith, in-bits c, entry (head c) .good .1 .1 .0 .1)
@@ -84,6 +86,13 @@ shared-slice-read-found c = in-bits (c .before)
 
 is-settled-requires : tie.Need-is-settled-requires Inv-loop2 μ-loop2 Inv-loop μ-loop
 is-settled-requires c κs = let at = head (c .before) in small _ _ _ (entry at .pre .0) (entry at .pre .1) (stands at)
+
+-- a block that its bits settle is passed by its standing
+ask-requires : tie.Need-ask-requires Inv-loop2 μ-loop2 Inv-loop μ-loop
+ask-requires c κs =
+    let asks = c .before .before .before in
+    let at = head asks in
+    (entry at .pre .0, stands at, entry at .pre .2, near-place (entry at .pre .2) _ _ (asks .place-from .ensures))
 
 -- a cut block that may add a feature, from where it was looked up
 abbrev looked : tie.Else2 Inv-loop2 μ-loop2 Inv-loop μ-loop → Asks
@@ -106,7 +115,7 @@ loop2-again c =
     let asks = looked (c .before) in
     let at = head asks in
     let parent = entered (c .before) in
-    let near = told-near (entry at .pre .0) (entry at .pre .2) (stands at) (asks .ask .ensures) in
+    let near = near-place (entry at .pre .2) _ _ (asks .place-from .ensures) in
     rw (c .first .ensures)
     (going-first (at .loop2 .inv .0) parent _ near, gathered-clear _ _ _ _ _ _ (at .loop2 .inv .1) (clear-first _ (entry at .pre .1) parent))
 
@@ -120,7 +129,7 @@ past : (c : Ended)
 past c =
     let at = c .before .before in
     ⊎-elim (λ w. rw (w .2, w .3) (past-unasked (at .loop2 .inv .0)))
-    (λ w. rw (w .7, w .8) (past-told (entry at .pre .0) (entry at .pre .2) (at .loop2 .inv .0) (w .1 .ensures)))
+    (λ w. rw (w .8, w .9) (past-told (entry at .pre .0) (entry at .pre .2) (at .loop2 .inv .0) (w .5 .ensures)))
     (c .if1 .came)
 
 -- the union has what it adds
@@ -134,10 +143,12 @@ passed c =
     let apart = c .before .apart .ensures in
     ⊎-elim (λ w. rw (w .1, w .2) (gathered-clear _ _ _ _ _ _ g (clear-apart _ good (stands at) (sym apart ∙ w .0 .taken))))
     (λ w.
-    let told = w .1 .ensures in
-    rw (w .6, w .7)
-    (gathered-settled _ _ _ good (stands at) (told .whole) (told-holds low own (stands at) told .0) _ _ (told-value low own (stands at) told)
-    (told-whole low own (stands at) told) g (sym apart ∙ w .0 .left) (sym (w .3 .ensures) ∙ w .4 .taken)))
+    let told = w .5 .ensures in
+    let place = told-place low own (stands at) told ∙ sym (w .1 .ensures) in
+    let all = ap (λ i. getD (entry at .args .bits .now) i 0) (sym place) ∙ told-whole low own (stands at) told in
+    rw (w .7, w .8)
+    (gathered-settled _ _ _ good (stands at) (told .whole) (told-holds low own (stands at) told .0) _ _ (asked-place own (stands at .block) _ (w .1 .ensures) .value)
+    all g (sym apart ∙ w .0 .left) (sym (w .3 .ensures) ∙ w .4 .taken)))
     (c .if1 .came)
 
 after-requires : tie.Need-after-requires Inv-loop2 μ-loop2 Inv-loop μ-loop
@@ -183,10 +194,11 @@ report-in-spec =
     loop-holds
     loop2-holds
     apart-requires
-    ask-requires
+    place-from-requires
     mul-found
     shared-slice-read-found
     is-settled-requires
+    ask-requires
     first-requires
     loop2-less
     loop2-again
