@@ -325,10 +325,13 @@ def test_geopackage(tool):
 def main():
     with work_folder() as folder:
         tool = Tool(sys.argv[1:], folder)
+        tool.env["TMPDIR"] = tool.path("temporary")
+        os.mkdir(tool.env["TMPDIR"])
         for test in (test_surveys, test_coordinates, test_windows, test_batch, test_edits, test_tables, test_change,
                      test_sheets, test_old_map, test_geopackage):
             test(tool)
         must(not [name for name in os.listdir(folder) if name.endswith((".new", "-journal"))], "something is left")
+        must(os.listdir(tool.env["TMPDIR"]) == [], "something is left in the temporary folder")
         print(f"good files: {tool.runs} runs as expected")
         must(tool.runs > 150, "hardly anything was run")
 
