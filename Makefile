@@ -20,7 +20,7 @@ tool: lib
 	@tools/build-tool target/tool/prowcurl
 	@echo "target/tool/prowcurl"
 
-# The tool on the sample line: its map, findings, areas and picture, in target/line.
+# The tool on the sample line: a survey on six sheets, its areas, an edit and its undo, in target/line.
 line: tool
 	@tools/need python3 python3
 	@tools/show-line target/tool/prowcurl target/line
@@ -65,7 +65,13 @@ install: shared install-tool
 install-tool: tool
 	install -d $(DESTDIR)$(PREFIX)/bin $(DESTDIR)$(PREFIX)/share/man/man1 \
 	    $(DESTDIR)$(PREFIX)/share/bash-completion/completions
+ifeq ($(shell uname -m),x86_64)
 	install -m 755 target/tool/prowcurl $(DESTDIR)$(PREFIX)/bin/
+else
+	install -d $(DESTDIR)$(PREFIX)/libexec/prowcurl
+	install -m 755 target/tool/prowcurl $(DESTDIR)$(PREFIX)/libexec/prowcurl/
+	install -m 755 tools/emulated-tool.sh $(DESTDIR)$(PREFIX)/bin/prowcurl
+endif
 	install -m 644 tool/prowcurl.1 $(DESTDIR)$(PREFIX)/share/man/man1/
 	install -m 644 tool/prowcurl.bash $(DESTDIR)$(PREFIX)/share/bash-completion/completions/prowcurl
 

@@ -263,8 +263,8 @@ static uint64_t move_in(line *l, const survey *s, const char *name, const char *
     take_place(l, s);
     run_sql(l, "INSERT INTO surveys (name, taken) VALUES (?, ?)", "tt", name, taken);
     int64_t id = sqlite3_last_insert_rowid(l->db);
-    run_sql(l, "INSERT INTO sheets SELECT ?, sheet_row, sheet_column, list, log_keys, log_values, used, in_force, digest"
-               " FROM temp.new_sheets", "i", id);
+    run_sql(l, "INSERT INTO sheets SELECT ?, sheet_row, sheet_column, list, log_keys, log_values, used, in_force,"
+               " digest FROM temp.new_sheets", "i", id);
     uint64_t bytes = (uint64_t)number_from_sql(l, 0, "SELECT sum(length(list)) FROM temp.new_sheets", "");
     commit_line(l);
     return bytes;
@@ -286,10 +286,11 @@ static void add_survey(const arguments *a, line *l, const char *name) {
     if (l->rows) same_grid(l, &s, s.epsg ? s.epsg : l->srs); /* said before the long way; said again at its end */
     begin_new_sheets(l);
     cut(&in);
+    end_survey(&s);
     commit_line(l);
     uint64_t bytes = move_in(l, &s, name, day_given(a));
-    close_survey(&s);
     answer_survey(a, l, name, bytes);
+    give_back_survey(&s);
     give_back_classes(&in.classes);
 }
 

@@ -62,7 +62,8 @@ void run_areas(const arguments *a) {
     line l = open_line(a, TO_READ);
     class_names classes = read_classes(&l);
     need_survey(&l);
-    if (a->given[OPTION_BOX] && a->count > 1) fail(STATUS_USAGE, "--box and ROW COLUMN HEIGHT WIDTH exclude each other");
+    if (a->given[OPTION_BOX] && a->count > 1)
+        fail(STATUS_USAGE, "--box and ROW COLUMN HEIGHT WIDTH exclude each other");
     window w = a->count > 1 || a->given[OPTION_BOX] ? window_of(&l, a, 1) : whole_survey(&l);
     uint64_t pixels[HLQ_MOST_SLOTS] = { 0 }, total = 0;
     double metres = l.cell * l.cell, money = 0;

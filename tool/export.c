@@ -1,4 +1,5 @@
-/* export: a survey's pixels as a PGM, an ESRI grid or a GeoTIFF; a sheet as leaves, bit strings or the library's file. */
+/* export: a survey's pixels as a PGM, an ESRI grid or a GeoTIFF; a sheet as leaves, bit strings or the library's
+ * file. */
 #define _DEFAULT_SOURCE
 #include "answer.h"
 #include "classes.h"
@@ -63,8 +64,8 @@ static void take_grid_row(const uint8_t *classes, uint32_t columns, void *with) 
 }
 
 static void write_grid(line *l, FILE *file) {
-    fprintf(file, "ncols %u\nnrows %u\nxllcorner %.15g\nyllcorner %.15g\ncellsize %.15g\n", l->columns, l->rows, l->west,
-            y_of(l, l->rows), l->cell);
+    fprintf(file, "ncols %u\nnrows %u\nxllcorner %.15g\nyllcorner %.15g\ncellsize %.15g\n", l->columns, l->rows,
+            l->west, y_of(l, l->rows), l->cell);
     each_row(l, take_grid_row, file);
 }
 
@@ -94,7 +95,8 @@ static char *system_text(line *l) {
 }
 
 static void write_tif(line *l, const char *name) {
-    char *folder = temporary_folder(), *raw = text_of("%s/survey.bil", folder), *head = text_of("%s/survey.hdr", folder);
+    char *folder = temporary_folder();
+    char *raw = text_of("%s/survey.bil", folder), *head = text_of("%s/survey.hdr", folder);
     FILE *file = new_file(head);
     fprintf(file, "BYTEORDER I\nLAYOUT BIL\nNROWS %u\nNCOLS %u\nNBANDS 1\nNBITS 8\nBANDROWBYTES %u\nTOTALROWBYTES %u\n"
                   "PIXELTYPE UNSIGNEDINT\nULXMAP %.17g\nULYMAP %.17g\nXDIM %.17g\nYDIM %.17g\n", l->rows, l->columns,
@@ -175,8 +177,8 @@ static void export_sheet(const arguments *a, line *l, const char *form, const ch
     class_names classes = read_classes(l);
     sheet s = sheet_given(l, a);
     if (strcmp(form, "bits") == 0) {
-        sheet two = a->given[OPTION_CLASS] ? two_classes_of(&s, class_of(&classes, value_of(a, OPTION_CLASS), "--class"))
-                                           : (sheet){ 0 };
+        const char *class = value_of(a, OPTION_CLASS);
+        sheet two = class ? two_classes_of(&s, class_of(&classes, class, "--class")) : (sheet){ 0 };
         write_bits(a, two.memory ? &two : &s, path);
         give_back_sheet(&two);
     } else {

@@ -191,13 +191,28 @@ static void write_rules(const line *l, const findings *f, const class_names *c, 
     table_end();
 }
 
-static void write_patches(const line *l, const findings *f, const class_names *c, int hidden_too) {
+static void write_box(const line *l, const patch *p) {
+    cell_number(p->top);
+    cell_number(p->left);
+    cell_number(p->bottom);
+    cell_number(p->right);
+    cell_decimal(x_of(l, p->left));
+    cell_decimal(y_of(l, p->bottom));
+    cell_decimal(x_of(l, p->right));
+    cell_decimal(y_of(l, p->top));
+}
+
+/* For people, whose lines are short, a patch has the coordinates of its middle in place of its box. */
+static void write_patches(const line *l, const findings *f, const class_names *c, int hidden_too, int for_people) {
     static const column columns[] = { { "rule", 6 },   { "class", -10 },         { "state", -6 },  { "row", 6 },
                                       { "column", 6 }, { "pixels", 8 },          { "square_metres", 13 },
                                       { "blocks", 6 }, { "top", 6 },             { "left", 6 },    { "bottom", 6 },
                                       { "right", 6 },  { "west", 12 },           { "south", 12 },  { "east", 12 },
                                       { "north", 12 } };
-    table_begin("patches", columns, 16);
+    static const column short_ones[] = { { "rule", 6 },   { "class", -10 },           { "state", -6 },  { "row", 6 },
+                                         { "column", 6 }, { "pixels", 8 },            { "square_metres", 13 },
+                                         { "blocks", 6 }, { "middle_x", 12 },         { "middle_y", 12 } };
+    table_begin("patches", for_people ? short_ones : columns, for_people ? 10 : 16);
     for (size_t i = 0; i < f->patch_count; i++) {
         const patch *p = &f->patches[i];
         if (!p->live && !hidden_too) continue;
@@ -209,14 +224,12 @@ static void write_patches(const line *l, const findings *f, const class_names *c
         cell_number(p->pixels);
         cell_decimal((double)p->pixels * l->cell * l->cell);
         cell_number(p->blocks);
-        cell_number(p->top);
-        cell_number(p->left);
-        cell_number(p->bottom);
-        cell_number(p->right);
-        cell_decimal(x_of(l, p->left));
-        cell_decimal(y_of(l, p->bottom));
-        cell_decimal(x_of(l, p->right));
-        cell_decimal(y_of(l, p->top));
+        if (for_people) {
+            cell_decimal(x_of(l, (p->left + p->right) / 2.0));
+            cell_decimal(y_of(l, (p->top + p->bottom) / 2.0));
+        } else {
+            write_box(l, p);
+        }
     }
     table_end();
 }
@@ -271,7 +284,7 @@ static void write_answer(const arguments *a, const line *l, const findings *f, c
     answer_begin(a);
     write_totals(l, f, c, totals);
     if (!a->given[OPTION_CSV]) write_rules(l, f, c, totals);
-    if (!a->given[OPTION_CSV] || !blocks) write_patches(l, f, c, all);
+    if (!a->given[OPTION_CSV] || !blocks) write_patches(l, f, c, all, !a->given[OPTION_CSV] && !a->given[OPTION_JSON]);
     if (blocks) write_blocks(l, f, c, all);
     answer_end();
     free(totals);

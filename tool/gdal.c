@@ -150,7 +150,8 @@ static void take_band(survey *s, json_t *told) {
 
 static void read_gdal_row(survey *s, int *values) {
     size_t size = s->bits / 8;
-    uint8_t *bytes = (uint8_t *)values + (sizeof *values - size) * s->columns; /* read to the end, used from the front */
+    /* read to the end of the row's room, and used from the front */
+    uint8_t *bytes = (uint8_t *)values + (sizeof *values - size) * s->columns;
     if (fread(bytes, size, s->columns, s->file) != s->columns)
         fail_in_survey(s, s->row, 0, "what gdal_translate wrote ends here");
     for (uint32_t i = 0; i < s->columns; i++) {

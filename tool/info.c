@@ -24,7 +24,8 @@ static void write_system(line *l) {
     sqlite3_stmt *row = ask_sql(l, "SELECT srs_name, organization, organization_coordsys_id FROM gpkg_spatial_ref_sys"
                                    " WHERE srs_id = ?", "i", l->srs);
     if (!next_row(l, row)) fail(STATUS_DATA, "%s: its coordinate system is missing", l->path);
-    char *words = l->srs < 0 ? text_of("none") : text_of("%s (%s:%s)", text_at(row, 0), text_at(row, 1), text_at(row, 2));
+    char *words = l->srs < 0 ? text_of("none")
+                             : text_of("%s (%s:%s)", text_at(row, 0), text_at(row, 1), text_at(row, 2));
     leave(row);
     fact_words("system", words);
     free(words);
@@ -86,7 +87,8 @@ static void check_log(line *l, int64_t survey, sheet *a, const char *what) {
 static void check_database(line *l) {
     sqlite3_stmt *row = ask_sql(l, "PRAGMA integrity_check(1)", "");
     while (next_row(l, row))
-        if (strcmp(text_at(row, 0), "ok") != 0) fail(STATUS_DATA, "%s: the database is damaged: %s", l->path, text_at(row, 0));
+        if (strcmp(text_at(row, 0), "ok") != 0)
+            fail(STATUS_DATA, "%s: the database is damaged: %s", l->path, text_at(row, 0));
     row = ask_sql(l, "PRAGMA foreign_key_check", "");
     while (next_row(l, row))
         fail(STATUS_DATA, "%s, table %s, row %s: names a row of table %s that is not there", l->path, text_at(row, 0),

@@ -26,7 +26,8 @@ typedef struct {
 typedef enum { TO_READ, TO_FILL, TO_WRITE } purpose;
 
 /* A line that is there. From here to close_line all is read from one state of it. TO_WRITE locks out other writers
- * (BEGIN IMMEDIATE), waiting as long as --wait says; TO_FILL is for who reads first and writes later. Sets the survey of --survey, else the one that was added last. */
+ * (BEGIN IMMEDIATE), waiting as long as --wait says; TO_FILL is for who reads first and writes later. Sets the survey
+ * of --survey, else the one that was added last. */
 line open_line(const arguments *a, purpose why);
 /* Ends a command that needs a survey where there is none. */
 void need_survey(const line *l);

@@ -30,8 +30,8 @@ static const char geopackage[] =
     "AUTHORITY[\"EPSG\",\"7030\"]],AUTHORITY[\"EPSG\",\"6326\"]],PRIMEM[\"Greenwich\",0,AUTHORITY[\"EPSG\",\"8901\"]],"
     "UNIT[\"degree\",0.0174532925199433,AUTHORITY[\"EPSG\",\"9122\"]],AUTHORITY[\"EPSG\",\"4326\"]]', 'WGS 84');";
 
-/* The layers. A table that GIS programs list as attributes wants a number for its key, so where ours has several columns
- * they are unique beside it. */
+/* The layers. A table that GIS programs list as attributes wants a number for its key, so where ours has several
+ * columns they are unique beside it. */
 static const char layers[] =
     "CREATE TABLE ground (id INTEGER PRIMARY KEY AUTOINCREMENT, zoom_level INTEGER NOT NULL,"
     " tile_column INTEGER NOT NULL, tile_row INTEGER NOT NULL, tile_data BLOB NOT NULL,"

@@ -12,40 +12,43 @@
 #define IN_WINDOW (ASKS | BIT(BOX) | BIT(STRICT))
 
 static const char window_text[] =
-    "WINDOW is ROW COLUMN HEIGHT WIDTH in the survey's rows and columns, or --box: the pixels whose centres lie in it. It\n"
-    "may reach over the edge, with negative numbers too, and what lies outside is left out; with --strict such a window\n"
-    "is refused.";
+    "WINDOW is ROW COLUMN HEIGHT WIDTH in the survey's rows and columns, or --box: the pixels whose centres lie in\n"
+    "it. It may reach over the edge, with negative numbers too, and what lies outside is left out; with --strict\n"
+    "such a window is refused.";
 
 const command commands[] = {
     { "init", 1, 1, ALWAYS | BIT(CLASSES) | BIT(SIDE) | BIT(SLOTS) | BIT(FILLER), run_init,
       "init LINE [--classes FILE] [--side 1024]", "make a line",
-      "LINE is a new file, a GeoPackage, which other programs read too. A survey is cut into sheets of --side. How many\n"
-      "classes a line has is said by --slots, else by the highest of --classes, else it is 32." },
+      "LINE is a new file, a GeoPackage, which other programs read too. A survey is cut into sheets of --side. How\n"
+      "many classes a line has is said by --slots, else by the highest of --classes, else it is 32." },
     { "add", 2, 2,
       ALWAYS | BIT(AS) | BIT(TAKEN) | BIT(NODATA) | BIT(FILLER) | BIT(CELL) | BIT(WEST) | BIT(NORTH), run_add,
       "add LINE SURVEY [--as NAME] [--taken DATE] [--nodata CLASS]", "add a survey to a line",
-      "SURVEY is an 8-bit grey PGM, an ESRI ASCII grid (- is standard input for these two), whatever GDAL reads, such as\n"
-      "a GeoTIFF, or a map of the first version, MAP.hlq with its log. It has up to 1048576 rows and columns. Its numbers\n"
-      "are the classes, unless the classes of the line have greys. Coordinates, cell size and coordinate system come\n"
-      "along. A second survey must lie on the same grid; the one added last is the one that commands speak of." },
+      "SURVEY is an 8-bit grey PGM, an ESRI ASCII grid (- is standard input for these two), whatever GDAL reads, such\n"
+      "as a GeoTIFF, or a map of the first version, MAP.hlq with its log. It has up to 1048576 rows and columns. Its\n"
+      "numbers are the classes, unless the classes of the line have greys. Coordinates, cell size and coordinate\n"
+      "system come along. A second survey must lie on the same grid; the one added last is the one that commands\n"
+      "speak of." },
     { "info", 1, 1, ASKS, run_info, "info LINE", "say what is in a line",
       "Rows, columns, sheets, coordinates, surveys; and how many steps can be taken back and redone." },
     { "check", 1, 1, ALWAYS, run_check, "check LINE", "check a whole line",
-      "The database's own check; every sheet's digest and list, whose raster is built again and must give the same list;\n"
-      "every log, whose steps are taken back in memory. Where something is wrong, the exit status is the refusal's\n"
-      "number, or 65." },
+      "The database's own check; every sheet's digest and list, whose raster is built again and must give the same\n"
+      "list; every log, whose steps are taken back in memory. Where something is wrong, the exit status is the\n"
+      "refusal's number, or 65." },
     { "set", 3, 3, ALWAYS | BIT(OFFICE) | BIT(BY), run_set,
-      "set LINE classes|rules|prices|waivers FILE.csv [--office N]", "take classes, rules, prices or waivers from a CSV",
-      "The rows of the file take the place of those that are there, all of them or none. Rules and waivers are those of an\n"
-      "office: of --office, or of the column office, where the rows of both offices are replaced. A rule that has waivers\n"
-      "cannot go before these." },
+      "set LINE classes|rules|prices|waivers FILE.csv [--office N]",
+      "take classes, rules, prices or waivers from a CSV",
+      "The rows of the file take the place of those that are there, all of them or none. Rules and waivers are those\n"
+      "of an office: of --office, or of the column office, where the rows of both offices are replaced. A rule that\n"
+      "has waivers cannot go before these." },
     { "get", 2, 3, ALWAYS | BIT(OFFICE) | BIT(FORCE), run_get,
       "get LINE classes|rules|prices|waivers [FILE.csv] [--office N]", "write them as a CSV",
       "To standard output, or to a file, which 'set' takes back." },
     { "at", 1, 3, ASKS | BIT(XY), run_at, "at LINE ROW COLUMN | at LINE --xy X Y", "name the class at a pixel",
       "The largest block of one class around the pixel: its sheet and key, its level, its class, and where it lies." },
     { "report", 1, 5, IN_WINDOW, run_report, "report LINE WINDOW", "list the classes in a window", window_text },
-    { "exist", 2, 6, IN_WINDOW, run_exist, "exist LINE WINDOW CLASS", "say whether a class is in a window", window_text },
+    { "exist", 2, 6, IN_WINDOW, run_exist, "exist LINE WINDOW CLASS", "say whether a class is in a window",
+      window_text },
     { "select", 2, 6, IN_WINDOW, run_select, "select LINE WINDOW CLASS",
       "list the largest blocks of a class in a window", window_text },
     { "areas", 1, 5, IN_WINDOW, run_areas, "areas LINE [WINDOW]", "measure each class: pixels, square metres, price",
@@ -74,24 +77,26 @@ const command commands[] = {
       "The layers ground (a tile a sheet), windows and findings (of both offices) of the file itself." },
     { "paint", 2, 6, IN_WINDOW | BIT(BY), run_paint, "paint LINE WINDOW CLASS | paint LINE BLOCK CLASS",
       "give a window or a block a class, as one step",
-      "All sheets that it meets change together or not at all. BLOCK is i.j:KEY as 'at' and 'select' give it, and on a\n"
-      "line of one sheet the key alone. What could be redone no longer can." },
+      "All sheets that it meets change together or not at all. BLOCK is i.j:KEY as 'at' and 'select' give it, and on\n"
+      "a line of one sheet the key alone. What could be redone no longer can." },
     { "undo", 1, 1, ASKS, run_undo, "undo LINE", "take the latest step back", "It can be redone." },
     { "redo", 1, 1, ASKS, run_redo, "redo LINE", "put back what was taken back last",
       "There is nothing to redo after a new paint." },
     { "steps", 1, 1, ASKS, run_steps, "steps LINE", "tell who edited what and when",
-      "All steps since the survey came, or since 'forget'; those that are not done were taken back, and can be redone." },
+      "All steps since the survey came, or since 'forget'; those that are not done were taken back, and can be\n"
+      "redone." },
     { "forget", 1, 1, ASKS, run_forget, "forget LINE", "empty the log of edits",
       "The survey stays as it is, and earlier steps can no longer be taken back or redone." },
-    { "change", 4, 4, ALWAYS | BIT(AS) | BIT(TAKEN) | BIT(ELSE), run_change, "change LINE OLD NEW TABLE.csv [--as NAME]",
-      "combine two surveys into a third",
-      "TABLE.csv has the columns old, new and class: the class of a pixel that had the class old and has new. Pairs that\n"
-      "it does not name get the class of --else. The new survey is then the one that commands speak of." },
+    { "change", 4, 4, ALWAYS | BIT(AS) | BIT(TAKEN) | BIT(ELSE), run_change,
+      "change LINE OLD NEW TABLE.csv [--as NAME]", "combine two surveys into a third",
+      "TABLE.csv has the columns old, new and class: the class of a pixel that had the class old and has new. Pairs\n"
+      "that it does not name get the class of --else. The new survey is then the one that commands speak of." },
     { "export", 3, 3, ASKS | BIT(SHEET) | BIT(CLASS) | BIT(FORCE), run_export,
-      "export LINE pgm|grid|tif OUT | export LINE leaves|bits|hlq OUT --sheet I.J", "write a survey or a sheet to a file",
-      "The survey's pixels as a PGM, an ESRI ASCII grid with its coordinates, or a GeoTIFF (by GDAL). A sheet as leaves (a\n"
-      "CSV of key and class), as the two bit strings OUT.nodes and OUT.leaves, which want two classes or --class, or as the\n"
-      "library's file. - is standard output." },
+      "export LINE pgm|grid|tif OUT | export LINE leaves|bits|hlq OUT --sheet I.J",
+      "write a survey or a sheet to a file",
+      "The survey's pixels as a PGM, an ESRI ASCII grid with its coordinates, or a GeoTIFF (by GDAL). A sheet as\n"
+      "leaves (a CSV of key and class), as the two bit strings OUT.nodes and OUT.leaves, which want two classes or\n"
+      "--class, or as the library's file. - is standard output." },
     { "help", 0, 1, BIT(HELP), run_help, "help [COMMAND]", "tell of the commands, or of one",
       "The manual page prowcurl(1) has the formats of the files." },
     { 0 },

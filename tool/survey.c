@@ -29,6 +29,20 @@ static void check_size(const survey *s, unsigned long long columns, unsigned lon
              MOST_SIDE_OF_SURVEY);
 }
 
+enum { WORD = 64 };
+
+/* The next word, or "" at the end of the file; one that is too long is cut, and is no number. */
+static void next_word(survey *s, char word[WORD]) {
+    int c, length = 0;
+    while ((c = getc(s->file)) != EOF && isspace(c)) continue;
+    for (; c != EOF && !isspace(c); c = getc(s->file)) {
+        if (c == 0) fail(STATUS_DATA, "%s: neither a PGM nor an ESRI ASCII grid, and holds a zero byte", s->path);
+        if (length < WORD - 1) word[length++] = (char)c;
+    }
+    word[length] = 0;
+    if (ferror(s->file)) fail(STATUS_IO, "%s: %s", s->path, strerror(errno));
+}
+
 /* PGM. netpbm's library tells its errors to a function of ours, which does not come back; `at` is where it reads. */
 static struct {
     const survey *s;
@@ -54,20 +68,29 @@ static void look_for_the_end(const survey *s) {
     if (left > wanted) fail(STATUS_DATA, "%s: more follows the last pixel", s->path);
 }
 
-/* The whole row at once for P5, pixel by pixel for P2, so that a bad number is found at its pixel. The library is told
- * 255 for the maxval, and the file's own is compared here, where the pixel is known. */
-static void read_pgm_row(survey *s, int *values) {
+/* A P5 by the library. It is told 255 for the maxval, and the file's own is compared here, where the pixel is known. */
+static void read_raw_row(survey *s, int *values) {
     gray *greys = (gray *)values; /* of the same size, and 255 at most */
-    int format = (int)s->format, columns = (int)s->columns;
     at.s = s, at.row = s->row, at.column = -1;
-    if (format == RPGM_FORMAT) pgm_readpgmrow(s->file, greys, columns, 255, format);
-    for (int i = 0; i < columns && format != RPGM_FORMAT; i++) {
-        at.column = i;
-        pgm_readpgmrow(s->file, greys + i, 1, 255, format);
-    }
-    for (int i = 0; i < columns; i++)
+    pgm_readpgmrow(s->file, greys, (int)s->columns, 255, RPGM_FORMAT);
+    for (uint32_t i = 0; i < s->columns; i++)
         if (greys[i] > s->maxval)
-            fail_in_survey(s, s->row, (uint32_t)i, "grey %u is above the file's maxval %u", greys[i], s->maxval);
+            fail_in_survey(s, s->row, i, "grey %u is above the file's maxval %u", greys[i], s->maxval);
+    s->row++;
+}
+
+/* A P2 by hand: the library wants something after the last number, where people often have nothing. */
+static void read_plain_row(survey *s, int *values) {
+    char word[WORD];
+    for (uint32_t i = 0; i < s->columns; i++) {
+        long long grey;
+        next_word(s, word);
+        if (*word == 0) fail_in_survey(s, s->row, i, "the file ends here");
+        if (!is_number(word, 0, UINT32_MAX, &grey)) fail_in_survey(s, s->row, i, "'%s' is not a grey", word);
+        if (grey > s->maxval)
+            fail_in_survey(s, s->row, i, "grey %lld is above the file's maxval %u", grey, s->maxval);
+        values[i] = (int)grey;
+    }
     s->row++;
 }
 
@@ -85,25 +108,11 @@ static void open_pgm(survey *s) {
     check_size(s, columns < 0 ? 0 : (unsigned)columns, rows < 0 ? 0 : (unsigned)rows);
     s->columns = (uint32_t)columns, s->rows = (uint32_t)rows;
     s->format = (unsigned)format, s->maxval = maxval;
-    s->read_row = read_pgm_row;
+    s->read_row = format == RPGM_FORMAT ? read_raw_row : read_plain_row;
     if (format == RPGM_FORMAT) look_for_the_end(s);
 }
 
 /* ESRI ASCII grids: words with a number each, then the cells row by row from the north. */
-enum { WORD = 64 };
-
-/* The next word, or "" at the end of the file; one that is too long is cut, and is no number. */
-static void next_word(survey *s, char word[WORD]) {
-    int c, length = 0;
-    while ((c = getc(s->file)) != EOF && isspace(c)) continue;
-    for (; c != EOF && !isspace(c); c = getc(s->file)) {
-        if (c == 0) fail(STATUS_DATA, "%s: neither a PGM nor an ESRI ASCII grid, and holds a zero byte", s->path);
-        if (length < WORD - 1) word[length++] = (char)c;
-    }
-    word[length] = 0;
-    if (ferror(s->file)) fail(STATUS_IO, "%s: %s", s->path, strerror(errno));
-}
-
 static int value_of_cell(survey *s, const char *word, uint32_t column) {
     double value;
     if (*word == 0) fail_in_survey(s, s->row, column, "the file ends here");
@@ -162,7 +171,8 @@ static void read_grid_head(survey *s, grid_head *h, char word[WORD]) {
         next_word(s, value);
         if (!is_decimal(value, &number)) fail(STATUS_DATA, "%s: '%s' has no number after it", s->path, word);
         if (!take_head(h, word, number)) fail(STATUS_DATA, "%s: '%s' is no word of an ESRI ASCII grid", s->path, word);
-        if ((is_word(word, "ncols") || is_word(word, "nrows")) && (number < 0 || number > 1e15 || number != (double)(long long)number))
+        int counts = is_word(word, "ncols") || is_word(word, "nrows");
+        if (counts && (number < 0 || number > 1e15 || number != (double)(long long)number))
             fail(STATUS_DATA, "%s: %s is %s", s->path, word, value);
     }
 }
@@ -223,11 +233,14 @@ survey open_survey(const char *path) {
     return s;
 }
 
-void close_survey(survey *s) {
+void end_survey(survey *s) {
     for (int next; (next = getc(s->file)) != EOF;)
         if (s->format == RPGM_FORMAT || !isspace(next))
             fail(STATUS_DATA, "%s: more follows the last %s", s->path, s->read_row == read_grid_row ? "cell" : "pixel");
     if (s->file != stdin) fclose(s->file);
+}
+
+void give_back_survey(survey *s) {
     free(s->srs_name);
     free(s->definition);
 }

@@ -32,8 +32,9 @@ struct survey {
 
 /* Opens it and reads its head. - is standard input, for PGM and grids. */
 survey open_survey(const char *path);
-/* After the last row: ends where more follows. */
-void close_survey(survey *s);
+/* After the last row, and before anything counts: ends where more follows. */
+void end_survey(survey *s);
+void give_back_survey(survey *s);
 
 /* 1 where a file of the first version stands there: a map with the mark HLQ. */
 int is_old_map(const char *path);

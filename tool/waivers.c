@@ -41,7 +41,7 @@ hlq_refusal remove_waiver(line *l, uint32_t office, uint32_t rule, block b) {
     hlq_refusal refusal = hlq_sheet_remove_waiver(&of_line, office, &w->table, rule, b.key);
     free(w);
     if (!refusal)
-        run_sql(l, "DELETE FROM waivers WHERE office = ? AND rule = ? AND sheet_row = ? AND sheet_column = ? AND key = ?",
-                "iiiii", (int64_t)office, (int64_t)rule, (int64_t)b.i, (int64_t)b.j, (int64_t)b.key);
+        run_sql(l, "DELETE FROM waivers WHERE office = ? AND rule = ? AND sheet_row = ? AND sheet_column = ?"
+                   " AND key = ?", "iiiii", (int64_t)office, (int64_t)rule, (int64_t)b.i, (int64_t)b.j, (int64_t)b.key);
     return refusal;
 }

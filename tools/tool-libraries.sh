@@ -1,6 +1,6 @@
 # Sourced by tools/build-tool, from the repository's folder. The tool wants SQLite, jansson, libcsv, xxhash, netpbm's
-# library and libpng, for the machine that its code is for, and GDAL's programs for the machine that it runs on. Sets, for
-# the kind in $kind,
+# library and libpng, for the machine that its code is for, and GDAL's programs for the machine that it runs on. Sets,
+# for the kind in $kind,
 #   library_flags   where their headers and archives lie
 #   libraries       what to link
 # kind=native: what cc makes, with this machine's packages. kind=x86-64: what the archive is; on another machine the

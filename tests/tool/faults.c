@@ -1,6 +1,6 @@
 /* Faults for the tests of the tool, put before the C library by LD_PRELOAD: PROWCURL_FAULT=kill:N kills the process at
- * its N-th call that changes a file, a write after its first half; full:N has every write from the N-th on find the disk
- * full. Without it, or with count:FILE, calls are counted, and their number goes into the file at the end. */
+ * its N-th call that changes a file, a write after its first half; full:N has every write from the N-th on find the
+ * disk full; count:FILE has the number of such calls written into the file at the end. */
 #define _GNU_SOURCE
 #include <dlfcn.h>
 #include <errno.h>
@@ -34,7 +34,9 @@ static int fault(int writes, void (*half)(int, const void *, size_t, off_t), int
 
 #define REAL(name, ...) (((__typeof__(&name))dlsym(RTLD_NEXT, #name))(__VA_ARGS__))
 
-static void half_pwrite(int file, const void *bytes, size_t length, off_t at) { (void)!REAL(pwrite, file, bytes, length, at); }
+static void half_pwrite(int file, const void *bytes, size_t length, off_t at) {
+    (void)!REAL(pwrite, file, bytes, length, at);
+}
 static void half_write(int file, const void *bytes, size_t length, off_t at) {
     (void)at;
     (void)!REAL(write, file, bytes, length);
@@ -58,7 +60,9 @@ ssize_t write(int file, const void *bytes, size_t length) {
 int fsync(int file) { return fault(0, NULL, file, NULL, 0, 0) ? -1 : REAL(fsync, file); }
 int fdatasync(int file) { return fault(0, NULL, file, NULL, 0, 0) ? -1 : REAL(fdatasync, file); }
 int ftruncate(int file, off_t length) { return fault(0, NULL, file, NULL, 0, 0) ? -1 : REAL(ftruncate, file, length); }
-int ftruncate64(int file, off64_t length) { return fault(0, NULL, file, NULL, 0, 0) ? -1 : REAL(ftruncate64, file, length); }
+int ftruncate64(int file, off64_t length) {
+    return fault(0, NULL, file, NULL, 0, 0) ? -1 : REAL(ftruncate64, file, length);
+}
 int unlink(const char *name) { return fault(0, NULL, -1, NULL, 0, 0) ? -1 : REAL(unlink, name); }
 int rename(const char *from, const char *to) { return fault(0, NULL, -1, NULL, 0, 0) ? -1 : REAL(rename, from, to); }
 int link(const char *from, const char *to) { return fault(0, NULL, -1, NULL, 0, 0) ? -1 : REAL(link, from, to); }

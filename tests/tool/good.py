@@ -26,8 +26,8 @@ def pixels(tool, line, *more):
 def with_gdal(tool, rows, name, *more):
     """A GeoTIFF of these rows, by GDAL alone."""
     tool.write("for-gdal.asc", grid(rows, WEST, SOUTH, CELL, "NODATA_value -9999\n"))
-    subprocess.run(["gdal_translate", "-q", "-a_srs", "EPSG:25832", *more, "for-gdal.asc", "./" + name], cwd=tool.folder,
-                   check=True)
+    subprocess.run(["gdal_translate", "-q", "-a_srs", "EPSG:25832", *more, "for-gdal.asc", "./" + name],
+                   cwd=tool.folder, check=True)
     return name
 
 
@@ -217,8 +217,8 @@ def test_tables(tool):
     flat = sum(GROUND, [])
     must(abs(areas["total_price"] - CELL**2 * (2.5 * flat.count(1) + 10 * flat.count(3))) < 0.01, "the total price")
     must(areas["areas"][0]["price"] is None and areas["areas"][1]["name"] == "ballast, old", "names and prices")
-    rules = "id,row,column,height,width,class,name\n7,0,0,50,37,4,\"no, \"\"scrub\"\"\nat all\"\n2,3,3,9,9,field,<b>é\n"
-    tool.write("rules.csv", rules)
+    tool.write("rules.csv", "id,row,column,height,width,class,name\n7,0,0,50,37,4,\"no, \"\"scrub\"\"\nat all\"\n"
+               "2,3,3,9,9,field,<b>é\n")
     tool("set", "a.gpkg", "rules", "rules.csv", "--office", 0)
     tool("set", "a.gpkg", "rules", "rules.csv", "--office", 1)
     got = list(csv.DictReader(io.StringIO(tool("get", "a.gpkg", "rules", "--office", 1))))
@@ -256,7 +256,8 @@ def test_change(tool):
 
 def test_sheets(tool):
     """A sheet as leaves, bit strings and the library's file."""
-    leaves = list(csv.DictReader(io.StringIO(tool("export", "a.gpkg", "leaves", "-", "--sheet", "1.2", "--survey", "spring"))))
+    written = tool("export", "a.gpkg", "leaves", "-", "--sheet", "1.2", "--survey", "spring")
+    leaves = list(csv.DictReader(io.StringIO(written)))
     for leaf in leaves:
         row, column, side = square_of(leaf["key"], SIDE)
         seen = set(seen_in(GROUND, row + SIDE, column + 2 * SIDE, side, side))
@@ -285,7 +286,8 @@ def test_old_map(tool):
     tool("undo", "o.gpkg")
     tool("export", "o.gpkg", "hlq", "old.hlq")
     with sqlite3.connect(tool.path("o.gpkg")) as base:
-        keys, values, used, in_force = base.execute("SELECT log_keys, log_values, used, in_force FROM sheets").fetchone()
+        log = base.execute("SELECT log_keys, log_values, used, in_force FROM sheets").fetchone()
+    keys, values, used, in_force = log
     map_bytes = tool.read("old.hlq")
     log = b"HLQLOG1\n" + struct.pack("<QQQQ", fnv(map_bytes), len(map_bytes), used, in_force)
     log += b"".join(keys[i : i + 4] + values[i : i + 4] for i in range(0, 4 * used, 4))
@@ -293,7 +295,7 @@ def test_old_map(tool):
     tool("init", "n2.gpkg")
     tool("add", "n2.gpkg", "old.hlq", "--cell", "0.5")
     info = tool.json("info", "n2.gpkg")
-    must((info["rows"], info["side"], info["cell"], info["undo"], info["redo"]) == (16, 16, 0.5, 1, 1), f"old map: {info}")
+    must([info[name] for name in ("rows", "side", "cell", "undo", "redo")] == [16, 16, 0.5, 1, 1], f"old map: {info}")
     must(pixels(tool, "n2.gpkg") == painted(ground, (2, 3, 5, 7), 4), "the old map's pixels")
     tool("undo", "n2.gpkg")
     must(pixels(tool, "n2.gpkg") == ground, "an old step taken back")

@@ -104,7 +104,8 @@ def pixels_of(content):
 
 def seen_in(rows, top, left, height, width):
     """The pixels of a window that may reach over the edge: the scan that every answer is held against."""
-    return [value for row in rows[max(top, 0) : max(top + height, 0)] for value in row[max(left, 0) : max(left + width, 0)]]
+    left, right = max(left, 0), max(left + width, 0)
+    return [value for row in rows[max(top, 0) : max(top + height, 0)] for value in row[left:right]]
 
 
 def square_of(key, side):
