@@ -75,6 +75,10 @@ const command commands[] = {
       "The waiver of a block, those that meet a patch, or those that lie in a window." },
     { "publish", 1, 1, ASKS, run_publish, "publish LINE", "write the layers for GIS programs anew",
       "The layers ground (a tile a sheet), windows and findings (of both offices) of the file itself." },
+    { "page", 2, 2, ASKS | BIT(OFFICE) | BIT(FORCE), run_page, "page LINE OUT.html [--office 0|1]",
+      "write a page for the foreman: pictures, patches, areas, waivers, steps",
+      "One file, which needs no network: a browser shows it, sorts and filters the patches, and prints it. - is standard\n"
+      "output." },
     { "paint", 2, 6, IN_WINDOW | BIT(BY), run_paint, "paint LINE WINDOW CLASS | paint LINE BLOCK CLASS",
       "give a window or a block a class, as one step",
       "All sheets that it meets change together or not at all. BLOCK is i.j:KEY as 'at' and 'select' give it, and on\n"
