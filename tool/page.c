@@ -234,7 +234,7 @@ static text_box box_for(const text_boxes *taken, const patch *x, window w, doubl
 static void write_number(const page *p, size_t place, window w, double letter, text_boxes *taken) {
     const patch *x = &p->f->patches[place];
     char *number = text_of("%zu", place + 1);
-    text_box b = box_for(taken, x, w, letter * 0.68 * (double)strlen(number), letter);
+    text_box b = box_for(taken, x, w, letter * (0.68 * (double)strlen(number) + 0.3), letter); /* and a gap */
     if (taken->count < MOST_BOXES) taken->at[taken->count++] = b;
     fprintf(p->to, "<text class=\"number %s\" data-patch=\"%zu\" x=\"%.2f\" y=\"%.2f\" font-size=\"%.2f\">%s</text>\n",
             state_of(x->live), place + 1, b.x, b.y + letter * 0.84, letter, number);
@@ -440,7 +440,7 @@ static void write_waivers(const page *p) {
         write_between(p->to, "<tr><td class=\"n\">", text_at(row, 0), "</td>");
         write_between(p->to, "<td class=\"name\">", text_at(row, 1), "</td>");
         write_between(p->to, "<td>", text_at(row, 2), "</td>");
-        write_between(p->to, "<td>", text_at(row, 3), "</td>");
+        write_between(p->to, "<td class=\"when\">", text_at(row, 3), "</td>");
         fprintf(p->to, "<td>%s</td><td class=\"n\">%u</td><td class=\"n\">%u</td><td class=\"n\">%u</td></tr>\n", name,
                 q.row, q.column, q.side);
     }
@@ -457,7 +457,7 @@ static void write_steps(const page *p) {
         write_between(p->to, "<tr><td class=\"n\">", text_at(row, 0), "</td>");
         write_between(p->to, "<td class=\"name\">", text_at(row, 1), "</td>");
         write_between(p->to, "<td>", text_at(row, 2), "</td>");
-        write_between(p->to, "<td>", text_at(row, 3), "</td>");
+        write_between(p->to, "<td class=\"when\">", text_at(row, 3), "</td>");
         fprintf(p->to, "<td>%s</td></tr>\n", sqlite3_column_int(row, 4) ? "yes" : "no, taken back");
     }
     fprintf(p->to, "</tbody></table></div>%s</section>\n", steps ? "" : "<p>Nothing.</p>");
