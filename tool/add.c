@@ -248,7 +248,7 @@ void answer_survey(const arguments *a, const line *l, const char *name, uint64_t
     fact_number("rows", l->rows);
     fact_number("columns", l->columns);
     fact_number("sheets", (uint64_t)sheet_rows(l) * sheet_columns(l));
-    fact_decimal("cell", l->cell);
+    fact_exact("cell", l->cell);
     fact_number("bytes", records);
     answer_end();
 }

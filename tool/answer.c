@@ -150,6 +150,12 @@ void fact_decimal(const char *name, double number) {
     fact(name, decimal_text(number, text), json_real(number));
 }
 
+void fact_exact(const char *name, double number) {
+    char text[40];
+    snprintf(text, sizeof text, "%.15g", number);
+    fact(name, text, json_real(number));
+}
+
 void fact_words(const char *name, const char *words) { fact(name, words, json_text(words)); }
 void fact_truth(const char *name, int truth) { fact(name, truth ? "yes" : "no", json_boolean(truth)); }
 

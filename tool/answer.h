@@ -24,6 +24,8 @@ void answer_end(void);
 
 void fact_number(const char *name, uint64_t number);
 void fact_decimal(const char *name, double number);
+/* A measure of which people want all places too, as a coordinate. */
+void fact_exact(const char *name, double number);
 void fact_words(const char *name, const char *words);
 void fact_truth(const char *name, int truth);
 void fact_classes(const char *name, uint64_t bits);

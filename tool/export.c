@@ -95,7 +95,7 @@ static char *system_text(line *l) {
 }
 
 static void write_tif(line *l, const char *name) {
-    char *folder = temporary_folder();
+    const char *folder = temporary_folder();
     char *raw = text_of("%s/survey.bil", folder), *head = text_of("%s/survey.hdr", folder);
     FILE *file = new_file(head);
     fprintf(file, "BYTEORDER I\nLAYOUT BIL\nNROWS %u\nNCOLS %u\nNBANDS 1\nNBITS 8\nBANDROWBYTES %u\nTOTALROWBYTES %u\n"
@@ -108,7 +108,6 @@ static void write_tif(line *l, const char *name) {
     char *srs = system_text(l);
     translate(raw, name, "GTiff", srs);
     free(srs);
-    free(folder);
     free(raw);
     free(head);
 }

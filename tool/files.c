@@ -85,14 +85,13 @@ static void no_litter(const char *name) {
     }
 }
 
-char *temporary_folder(void) {
+const char *temporary_folder(void) {
     const char *below = getenv("TMPDIR");
+    if (litter.folder) return litter.folder;
     char *name = text_of("%s/prowcurl-XXXXXX", below && *below ? below : "/tmp");
     if (!mkdtemp(name)) fail(STATUS_CANNOT_CREATE, "%s: %s", name, strerror(errno));
     clean_at_the_end();
-    free(litter.folder);
-    litter.folder = text_of("%s", name);
-    return name;
+    return litter.folder = name;
 }
 
 /* Whether two names lead to one file. */

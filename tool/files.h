@@ -36,7 +36,7 @@ void end_output(output *o);
 /* The same, where nothing may stand at that place: ends where something does. */
 void end_output_if_free(output *o);
 
-/* A folder below the temporary one, which is removed with its files when the tool ends. */
-char *temporary_folder(void);
+/* A folder below the temporary one, the same at every call, which is removed with its files when the tool ends. */
+const char *temporary_folder(void);
 
 #endif

@@ -18,19 +18,12 @@
 
 extern char **environ;
 
-/* The folder of this run. */
-static const char *folder(void) {
-    static char *made;
-    if (!made) made = temporary_folder();
-    return made;
-}
-
 /* A name that begins with a dash would be an option. */
 static char *plain_name(const char *path) { return text_of("%s%s", *path == '-' ? "./" : "", path); }
 
 /* The first line that the program said, for a message. */
 static void first_words(char words[300]) {
-    char *name = text_of("%s/err", folder());
+    char *name = text_of("%s/err", temporary_folder());
     FILE *file = fopen(name, "r");
     words[0] = 0;
     if (file && !fgets(words, 300, file)) words[0] = 0;
@@ -43,7 +36,7 @@ static void first_words(char words[300]) {
  * missing, but lets it end with 127. Gives its status. */
 static int run_program(const char *const *words) {
     posix_spawn_file_actions_t files;
-    char *out = text_of("%s/out", folder()), *err = text_of("%s/err", folder());
+    char *out = text_of("%s/out", temporary_folder()), *err = text_of("%s/err", temporary_folder());
     pid_t child;
     int status = 0;
     posix_spawn_file_actions_init(&files);
@@ -117,20 +110,44 @@ static char *name_of(const char *wkt) {
     return end ? text_of("%.*s", (int)(end - begin - 1), begin + 1) : text_of("unnamed");
 }
 
-static void take_system(survey *s, json_t *told, const char *in) {
-    const char *wkt = json_string_value(json_object_get(json_object_get(told, "coordinateSystem"), "wkt"));
-    if (!wkt || !*wkt) return;
-    s->epsg = epsg_of(wkt);
-    s->srs_name = name_of(wkt);
+/* The definition, as a GeoPackage wants it. */
+static void take_definition(survey *s, const char *in) {
     const char *words[] = { "gdalsrsinfo", "--single-line", "-o", "wkt1", in, NULL };
     run_or_end(words, s->path);
-    char *name = text_of("%s/out", folder());
+    char *name = text_of("%s/out", temporary_folder());
     size_t length;
     s->definition = (char *)read_file(name, 1 << 20, &length);
     char *begin = s->definition + strspn(s->definition, " \r\n"), *end = begin + strlen(begin);
     while (end > begin && strchr(" \r\n", end[-1])) *--end = 0;
     memmove(s->definition, begin, strlen(begin) + 1);
     free(name);
+}
+
+static void take_system(survey *s, json_t *told, const char *in) {
+    const char *wkt = json_string_value(json_object_get(json_object_get(told, "coordinateSystem"), "wkt"));
+    if (!wkt || !*wkt) return;
+    s->epsg = epsg_of(wkt);
+    s->srs_name = name_of(wkt);
+    take_definition(s, in);
+}
+
+/* Such a file has seldom a number, so GDAL looks for the system that it tells; one that it does not know is kept by its
+ * definition alone. */
+void take_prj(survey *s, const char *path) {
+    char *in = plain_name(path), *name = text_of("%s/out", temporary_folder());
+    const char *words[] = { "gdalsrsinfo", "-o", "epsg", in, NULL };
+    size_t length;
+    run_or_end(words, path);
+    char *told = (char *)read_file(name, 1 << 20, &length), *mark = strstr(told, "EPSG:");
+    long number = mark ? strtol(mark + 5, NULL, 10) : 0;
+    s->epsg = number > 0 ? number : 0;
+    char *known = text_of("EPSG:%ld", s->epsg);
+    take_definition(s, s->epsg ? known : in);
+    s->srs_name = name_of(s->definition);
+    free(known);
+    free(told);
+    free(name);
+    free(in);
 }
 
 /* One band of numbers. Bytes stay bytes; wider numbers become floating ones, which hold every class and what stands for
@@ -182,7 +199,8 @@ static void look_at_head(const survey *s, const char *name) {
 
 survey open_gdal_survey(const char *path) {
     survey s = { .path = path, .cell = 1 };
-    char *in = plain_name(path), *out = text_of("%s/out", folder()), *raw = text_of("%s/raw.bil", folder());
+    char *in = plain_name(path), *out = text_of("%s/out", temporary_folder());
+    char *raw = text_of("%s/raw.bil", temporary_folder());
     const char *ask[] = { "gdalinfo", "-json", in, NULL };
     run_or_end(ask, path);
     json_error_t error;
@@ -195,7 +213,7 @@ survey open_gdal_survey(const char *path) {
                             "-co", "NBITS=8", in, raw, NULL };
     if (s.bits != 8) bring[6] = in, bring[7] = raw, bring[8] = NULL;
     run_or_end(bring, path);
-    char *head = text_of("%s/raw.hdr", folder());
+    char *head = text_of("%s/raw.hdr", temporary_folder());
     look_at_head(&s, head);
     s.file = fopen(raw, "rb");
     if (!s.file) fail(STATUS_IO, "%s: gdal_translate wrote nothing", path);

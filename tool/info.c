@@ -41,9 +41,9 @@ void run_info(const arguments *a) {
     fact_number("sheets", (uint64_t)sheet_rows(&l) * sheet_columns(&l));
     fact_number("slots", l.slots);
     fact_number("filler", l.filler);
-    fact_decimal("cell", l.cell);
-    fact_decimal("west", l.west);
-    fact_decimal("north", l.north);
+    fact_exact("cell", l.cell);
+    fact_exact("west", l.west);
+    fact_exact("north", l.north);
     write_system(&l);
     if (l.survey) fact_words("survey", l.survey_name);
     else fact_nothing("survey");

@@ -33,8 +33,8 @@ void run_at(const arguments *a) {
     fact_number("row", q.row);
     fact_number("column", q.column);
     fact_number("side", q.side);
-    fact_decimal("x", x_of(&l, column + 0.5));
-    fact_decimal("y", y_of(&l, row + 0.5));
+    fact_exact("x", x_of(&l, column + 0.5));
+    fact_exact("y", y_of(&l, row + 0.5));
     answer_end();
     give_back_sheet(&s);
     give_back_classes(&classes);

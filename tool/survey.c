@@ -2,6 +2,7 @@
 #define _DEFAULT_SOURCE
 #include "survey.h"
 
+#include "files.h"
 #include "line.h"
 #include "tool.h"
 
@@ -189,6 +190,15 @@ static void place_grid(survey *s, const grid_head *h) {
     s->north = h->south - (h->corner_y == 2 ? s->cell / 2 : 0) + s->rows * s->cell;
 }
 
+/* GRID.prj, beside GRID.asc, is where its coordinate system stands. */
+static void look_for_prj(survey *s) {
+    const char *dot = strrchr(s->path, '.'), *slash = strrchr(s->path, '/');
+    if (!dot || (slash && dot < slash)) return;
+    char *beside = text_of("%.*s.prj", (int)(dot - s->path), s->path);
+    if (file_exists(beside)) take_prj(s, beside);
+    free(beside);
+}
+
 static void open_grid(survey *s) {
     grid_head h = { .columns = -1, .rows = -1, .nodata = -9999 };
     char word[WORD];
@@ -198,6 +208,7 @@ static void open_grid(survey *s) {
     s->columns = (uint32_t)h.columns, s->rows = (uint32_t)h.rows;
     s->nodata = h.nodata, s->has_nodata = 1;
     place_grid(s, &h);
+    look_for_prj(s);
     s->format = (unsigned)value_of_cell(s, word, 0), s->bits = 1;
     s->read_row = read_grid_row;
 }

@@ -45,6 +45,8 @@ _Noreturn void fail_in_survey(const survey *s, uint32_t row, uint32_t column, co
 
 /* gdal.c */
 survey open_gdal_survey(const char *path);
+/* The coordinate system of a grid, from the file of it that stands beside the grid. */
+void take_prj(survey *s, const char *path);
 /* FROM in the format of GDAL's driver OUT, by gdal_translate with further words; the coordinate system of EPSG's number
  * is put onto it where that is not 0. */
 void translate(const char *from, const char *to, const char *driver, const char *srs);

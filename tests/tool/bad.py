@@ -169,7 +169,7 @@ def test_no_lines(tool):
         tool(*command.replace("L", "nothing.gpkg").split(), status=NO_INPUT, says="'prowcurl init' makes a line")
         any_end(tool, command.replace("L", ".").split())
     tool("init", "a.gpkg", status=CANNOT_CREATE, says="is there")
-    tool("init", "no/folder.gpkg", status=NO_INPUT)
+    tool("init", "no/folder.gpkg", status=CANNOT_CREATE)
 
 
 def sheets_changed(tool, sql, *values):

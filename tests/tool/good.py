@@ -64,6 +64,11 @@ def test_coordinates(tool):
     must(pixels(tool, "a.gpkg") == GROUND, "the GeoTIFF's pixels")
     other = patches(ROWS, COLUMNS, 8)
     tool("add", "a.gpkg", "-", "--as", "autumn", stdin=grid(other, WEST, SOUTH, CELL).encode())
+    tool("init", "p.gpkg")
+    tool.write("p.asc", grid(other, WEST, SOUTH, CELL))
+    subprocess.run("gdalsrsinfo -o wkt1 EPSG:25832 >p.prj", shell=True, cwd=tool.folder, check=True)
+    tool("add", "p.gpkg", "p.asc")
+    must("25832" in tool.json("info", "p.gpkg")["system"], "the coordinate system beside a grid")
     must(pixels(tool, "a.gpkg") == other and pixels(tool, "a.gpkg", "--survey", "spring") == GROUND, "two surveys")
     tool("export", "a.gpkg", "grid", "out.asc")
     head = dict(line.split() for line in tool.read("out.asc").decode().splitlines()[:5])
@@ -320,10 +325,13 @@ def test_geopackage(tool):
 def main():
     with work_folder() as folder:
         tool = Tool(sys.argv[1:], folder)
+        tool.env["TMPDIR"] = tool.path("temporary")
+        os.mkdir(tool.env["TMPDIR"])
         for test in (test_surveys, test_coordinates, test_windows, test_batch, test_edits, test_tables, test_change,
                      test_sheets, test_old_map, test_geopackage):
             test(tool)
         must(not [name for name in os.listdir(folder) if name.endswith((".new", "-journal"))], "something is left")
+        must(os.listdir(tool.env["TMPDIR"]) == [], "something is left in the temporary folder")
         print(f"good files: {tool.runs} runs as expected")
         must(tool.runs > 150, "hardly anything was run")
 
