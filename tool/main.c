@@ -91,6 +91,12 @@ const command commands[] = {
       "redone." },
     { "forget", 1, 1, ASKS, run_forget, "forget LINE", "empty the log of edits",
       "The survey stays as it is, and earlier steps can no longer be taken back or redone." },
+    { "adopt", 3, 3, ASKS | BIT(SHEET) | BIT(BY), run_adopt, "adopt LINE OLD.hlq PLACES.csv [--sheet I.J]",
+      "take over waivers that were kept by place",
+      "The former checker kept a waiver by the place of its record in the list: PLACES.csv has the columns office, rule and\n"
+      "place, counted from 0, and if wanted note. OLD.hlq is the map of that day, which lies at the survey's first corner or\n"
+      "at that of --sheet. Each becomes a waiver of its block, all or none. The answer names for each the block that it was\n"
+      "given for, and what stands at that place in today's list." },
     { "change", 4, 4, ALWAYS | BIT(AS) | BIT(TAKEN) | BIT(ELSE), run_change,
       "change LINE OLD NEW TABLE.csv [--as NAME]", "combine two surveys into a third",
       "TABLE.csv has the columns old, new and class: the class of a pixel that had the class old and has new. Pairs\n"

@@ -72,38 +72,16 @@ static int64_t rows_of(line *l, uint32_t office) {
     return number_from_sql(l, 0, "SELECT count(*) FROM waivers WHERE office = ?", "i", (int64_t)office);
 }
 
-static int is_there(line *l, const asked *q, block b) {
-    return number_from_sql(l, 0, "SELECT count(*) FROM waivers WHERE office = ? AND rule = ? AND sheet_row = ? AND"
-                                 " sheet_column = ? AND key = ?", "iiiii", (int64_t)q->office, (int64_t)q->id,
-                           (int64_t)b.i, (int64_t)b.j, (int64_t)b.key) != 0;
-}
-
-/* Before anything is added: whether each sheet has room for its blocks, which come sheet by sheet. */
-static void must_fit(line *l, const asked *q, const block_list *blocks) {
-    for (size_t i = 0, next; i < blocks->count; i = next) {
-        block b = blocks->at[i];
-        int64_t rows = number_from_sql(l, 0, "SELECT count(*) FROM waivers WHERE office = ? AND sheet_row = ? AND"
-                                             " sheet_column = ?", "iii", (int64_t)q->office, (int64_t)b.i,
-                                       (int64_t)b.j), more = 0;
-        for (next = i; next < blocks->count && blocks->at[next].i == b.i && blocks->at[next].j == b.j; next++)
-            more += !is_there(l, q, blocks->at[next]);
-        if (rows + more > HLQ_OFFICE_ROWS)
-            fail(HLQ_ANSWER_ROOM, "sheet %u.%u needs %lld rows of office %u, which has %lld there and may have %d;"
-                                  " nothing was added: refused, %d: %s", b.i, b.j, (long long)(rows + more), q->office,
-                 (long long)rows, HLQ_OFFICE_ROWS, HLQ_ANSWER_ROOM, hlq_refusal_text(HLQ_ANSWER_ROOM));
-    }
-}
-
-static uint64_t add_all(line *l, const asked *q, const arguments *a, const block_list *blocks, int new_ones_alone) {
+/* A block that is waived already is refused; of a patch or a window only the new ones are added. */
+static uint64_t add_all(line *l, const asked *q, const arguments *a, const block_list *blocks) {
     char *who = editor_of(a), *when = now_text();
-    const char *note = value_of(a, OPTION_NOTE);
-    uint64_t added = 0;
-    must_fit(l, q, blocks);
-    for (size_t i = 0; i < blocks->count; i++) {
-        if (new_ones_alone && is_there(l, q, blocks->at[i])) continue;
-        accept_or_end(add_waiver(l, q->office, q->id, blocks->at[i], note ? note : "", who, when), a->words[2]);
-        added++;
-    }
+    const char *note = value_of(a, OPTION_NOTE) ? value_of(a, OPTION_NOTE) : "";
+    waiver *rows = room_for(blocks->count, sizeof *rows);
+    for (size_t i = 0; i < blocks->count; i++)
+        rows[i] = (waiver){ q->office, q->id, blocks->at[i], note, who, when, is_block(a) ? a->words[2] : NULL };
+    uint64_t added = add_waivers(l, rows, blocks->count);
+    if (is_block(a) && !added) accept_or_end(HLQ_ROW, a->words[2]);
+    free(rows);
     free(who);
     free(when);
     return added;
@@ -136,7 +114,7 @@ void run_waive(const arguments *a) {
     } else {
         blocks = blocks_of_window(&l, &q, window_of(&l, a, 2));
     }
-    uint64_t added = add_all(&l, &q, a, &blocks, !is_block(a));
+    uint64_t added = add_all(&l, &q, a, &blocks);
     free(blocks.at);
     answer_rows(a, &l, &q, "added", added);
 }
