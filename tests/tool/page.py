@@ -209,6 +209,7 @@ def test_picture(tool):
 def main():
     for program, package in (("chromium", "chromium"), ("pdftotext", "poppler-utils"), ("pngtopnm", "netpbm")):
         subprocess.run([os.path.join(ROOT, "tools", "need"), program, package], check=True)
+    subprocess.run([os.path.join(ROOT, "tools", "choose-colours"), "--check"], check=True)
     with work_folder() as folder:
         tool = Tool(sys.argv[1:], folder)
         name = test_reader(tool)
