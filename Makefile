@@ -8,12 +8,12 @@
 interface := $(shell sed -n 's/^.define HLQ_INTERFACE //p' include/prowcurl.h)
 soname := libprowcurl.so.$(interface)
 
-# target/staticlib/libprowcurl.a and target/include/prowcurl.h
+# target/staticlib/libprowcurl.a, target/include/prowcurl.h, and prowcurl_sheet.h beside it
 lib:
 	rt staticlib prowcurl
 	@mkdir -p target/include
-	@cp include/prowcurl.h target/include/
-	@echo "target/staticlib/libprowcurl.a, target/include/prowcurl.h"
+	@cp include/prowcurl.h include/prowcurl_sheet.h target/include/
+	@echo "target/staticlib/libprowcurl.a, target/include/prowcurl.h, target/include/prowcurl_sheet.h"
 
 # The command-line tool, target/tool/prowcurl: docs/TOOL.md.
 tool: lib
@@ -50,12 +50,12 @@ bench: lib
 shared: lib
 	@tools/link-shared target/shared/$(soname)
 
-# Header, archive, shared library and a pkg-config file below PREFIX, and the tool with its manual page and completion;
+# Headers, archive, shared library and a pkg-config file below PREFIX, and the tool with its manual page and completion;
 # DESTDIR stands before it where the files are only gathered.
 PREFIX ?= /usr/local
 install: shared install-tool
 	install -d $(DESTDIR)$(PREFIX)/include $(DESTDIR)$(PREFIX)/lib/pkgconfig
-	install -m 644 include/prowcurl.h $(DESTDIR)$(PREFIX)/include/
+	install -m 644 include/prowcurl.h include/prowcurl_sheet.h $(DESTDIR)$(PREFIX)/include/
 	install -m 644 target/staticlib/libprowcurl.a $(DESTDIR)$(PREFIX)/lib/
 	install -m 755 target/shared/$(soname) $(DESTDIR)$(PREFIX)/lib/
 	ln -sf $(soname) $(DESTDIR)$(PREFIX)/lib/libprowcurl.so

@@ -1,11 +1,11 @@
 /* Last year against this year, for planners: two surveys of one sheet are combined through a table of change classes,
  * such as scrub on what was drain, and the area of each change class is asked. */
-#include "prowcurl.h"
+#include "prowcurl_sheet.h"
 
 #include <stdio.h>
 #include <string.h>
 
-enum { M = 3, EDGE = 1 << M, PIXELS = EDGE * EDGE, ROOM = HLQ_MOST_RECORDS(M), METRES = 4 }; /* a pixel: 2 m by 2 m */
+enum { M = 3, EDGE = 1 << M, PIXELS = EDGE * EDGE, METRES = 4 }; /* a pixel: 2 m by 2 m */
 
 /* The classes of the ground: last year's survey did not yet tell signals, this year's does. */
 enum { BALLAST, DRAIN, SCRUB, LAST_YEAR, SIGNAL = LAST_YEAR, THIS_YEAR };
@@ -21,19 +21,13 @@ static const char *const last_year[EDGE] = { "----ss--", "----ss--", "dddddddd",
 static const char *const this_year[EDGE] = { "--------", "----ss--", "ddddssdd", "ddddssdd",
                                              "----ss--", "----!---", "ss------", "ss------" };
 
-/* One survey as a list. */
-typedef struct {
-    uint32_t keys[ROOM], bits[ROOM];
-    size_t n;
-} sheet;
+static uint32_t memory[3][HLQ_SHEET_NUMBERS(M, CHANGES, 0)]; /* each holds a sheet of up to so many classes */
 
-static sheet survey(uint32_t s, const char *const *rows) {
-    static uint8_t raster[PIXELS];
-    uint32_t summary[HLQ_SUMMARY_PLACES(M, THIS_YEAR)];
-    sheet a;
+static hlq_refusal survey(uint32_t s, const char *const *rows, void *room, hlq_sheet *sheet) {
+    uint8_t raster[PIXELS];
     for (size_t i = 0; i < PIXELS; i++) raster[i] = (uint8_t)(strchr(letters, rows[i / EDGE][i % EDGE]) - letters);
-    a.n = hlq_build(M, s, raster, PIXELS, a.keys, ROOM, a.bits, ROOM, summary, HLQ_SUMMARY_PLACES(M, s)).count;
-    return a;
+    hlq_refusal refusal = hlq_sheet_in(room, sizeof *memory, M, s, 0, sheet);
+    return refusal ? refusal : hlq_sheet_build(sheet, raster, PIXELS);
 }
 
 static uint8_t change(uint32_t before, uint32_t after) {
@@ -43,29 +37,28 @@ static uint8_t change(uint32_t before, uint32_t after) {
 }
 
 int main(void) {
-    sheet a = survey(LAST_YEAR, last_year), b = survey(THIS_YEAR, this_year), c;
+    hlq_sheet before, after, changed;
     uint8_t table[LAST_YEAR * THIS_YEAR], map[PIXELS];
     for (uint32_t i = 0; i < sizeof table; i++) table[i] = change(i / THIS_YEAR, i % THIS_YEAR);
-    hlq_counted made = hlq_combine(M, LAST_YEAR, a.keys, ROOM, a.bits, ROOM, a.n, M, THIS_YEAR, b.keys, ROOM, b.bits,
-                                   ROOM, b.n, CHANGES, table, sizeof table, c.keys, ROOM, c.bits, ROOM);
-    if (made.refusal) return puts(hlq_refusal_text(made.refusal)), 1;
-    c.n = made.count;
-    printf("last year %zu records, this year %zu, their changes %zu\n", a.n, b.n, c.n);
+    hlq_refusal refusal = survey(LAST_YEAR, last_year, memory[0], &before);
+    if (!refusal) refusal = survey(THIS_YEAR, this_year, memory[1], &after);
+    if (!refusal) refusal = hlq_sheet_in(memory[2], sizeof *memory, M, CHANGES, 0, &changed);
+    if (!refusal) refusal = hlq_sheet_combine(&before, &after, table, sizeof table, &changed);
+    if (!refusal) refusal = hlq_sheet_raster(&changed, map, PIXELS);
+    if (refusal) return puts(hlq_refusal_text(refusal)), 1;
 
-    hlq_raster(M, CHANGES, c.keys, ROOM, c.bits, ROOM, c.n, map, PIXELS);
+    printf("last year %zu records, this year %zu, their changes %zu\n", before.list.n, after.list.n, changed.list.n);
     for (int r = 0; r < EDGE; r++) {
         printf("  %s   %s   ", last_year[r], this_year[r]);
         for (int column = 0; column < EDGE; column++) putchar('0' + map[r * EDGE + column]);
         putchar('\n');
     }
-
-    uint32_t summary[HLQ_SUMMARY_PLACES(M, CHANGES)];
-    size_t places = HLQ_SUMMARY_PLACES(M, CHANGES);
-    hlq_done filled = hlq_fill_summary(M, CHANGES, c.keys, ROOM, c.bits, ROOM, c.n, summary, places);
-    if (filled.refusal) return puts(hlq_refusal_text(filled.refusal)), 1;
     for (uint32_t f = 0; f < CHANGES; f++) {
-        hlq_measured all = hlq_area(M, CHANGES, c.keys, ROOM, c.bits, ROOM, c.n, summary, places, 0, 0, EDGE, EDGE, f);
-        printf("%u %-24s %4llu square metres\n", f, changes[f], (unsigned long long)all.pixels * METRES);
+        hlq_window whole = { 0, 0, EDGE, EDGE };
+        uint64_t pixels;
+        refusal = hlq_sheet_area(&changed, whole, f, &pixels);
+        if (refusal) return puts(hlq_refusal_text(refusal)), 1;
+        printf("%u %-24s %4llu square metres\n", f, changes[f], (unsigned long long)pixels * METRES);
     }
     return 0;
 }

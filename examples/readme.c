@@ -1,53 +1,72 @@
-/* The example of the README: a list is built, a block is looked up in it, a window is asked, a rule is run with a
+/* The example of the README: a sheet is built, a block is looked up in it, a window is asked, a rule is run with a
  * waiver, and a paint is taken back and redone. */
-#include "prowcurl.h"
+#include "prowcurl_sheet.h"
 
 #include <stdio.h>
+#include <stdlib.h>
 
-typedef unsigned long long number;
+/* Goes on where a call was accepted; else says why it was not, and ends. */
+static void must(hlq_refusal refusal) {
+    if (refusal == HLQ_ACCEPTED) return;
+    puts(hlq_refusal_text(refusal));
+    exit(1);
+}
 
 int main(void) {
-    enum { M = 2, S = 3, ROOM = HLQ_MOST_RECORDS(M), PLACES = HLQ_SUMMARY_PLACES(M, S), LOG = 8 };
-    static const uint8_t raster[16] = { 0, 0, 1, 1, 0, 0, 1, 2, 2, 2, 0, 0, 2, 2, 0, 0 };
-    uint32_t keys[ROOM], bits[ROOM], summary[PLACES], answer[16];
-    hlq_counted built = hlq_build(M, S, raster, 16, keys, ROOM, bits, ROOM, summary, PLACES);
-    if (built.refusal) return puts(hlq_refusal_text(built.refusal)), 1;
-    size_t n = built.count;
+    enum { M = 2, S = 3, LOG = 8, SOME = 16 }; /* 4 by 4 pixels, features 0 to 2; room for steps and for answers */
+    static const uint8_t raster[] = { 0, 0, 1, 1,
+                                      0, 0, 1, 2,
+                                      2, 2, 0, 0,
+                                      2, 2, 0, 0 };
+    static uint32_t memory[HLQ_SHEET_NUMBERS(M, S, LOG)], rows[HLQ_TABLE_NUMBERS], ids[SOME], keys[SOME];
+    if (hlq_interface() != HLQ_INTERFACE) return puts("this is the library of another header"), 1;
 
-    hlq_stands at = hlq_standing(M, S, keys, ROOM, bits, ROOM, n, 1 * 5 + 1); /* block 11 */
+    hlq_sheet sheet;
+    must(hlq_sheet_in(memory, sizeof memory, M, S, LOG, &sheet));
+    must(hlq_sheet_build(&sheet, raster, sizeof raster));
+
+    uint32_t key;
+    hlq_stands at;
+    must(hlq_key_read(M, "11", &key));
+    must(hlq_sheet_standing(&sheet, key, &at));
     const char *how = at.kind == HLQ_LISTED ? "listed at" : "inside the leaf at";
-    printf("%zu records; block 11 is %s place %llu\n", n, how, (number)at.place);
+    printf("%zu records; block 11 is %s place %llu\n", sheet.list.n, how, (unsigned long long)at.place);
 
-    /* the window from row 0, column 1, 2 rows high and 3 columns wide */
-    hlq_exists any = hlq_exist(M, S, keys, ROOM, bits, ROOM, n, 0, 1, 2, 3, 2);
-    printf("feature 2 there: %s\n", any.yes ? "yes" : "no");
-    hlq_measured some = hlq_area(M, S, keys, ROOM, bits, ROOM, n, summary, PLACES, 0, 1, 2, 3, 1);
-    printf("pixels of feature 1 there: %llu\n", (number)some.pixels);
-    hlq_counted found = hlq_select(M, S, keys, ROOM, bits, ROOM, n, 0, 1, 2, 3, 1, answer, 16); /* blocks 21, 22, 23 */
+    hlq_window window = { 0, 1, 2, 3 }; /* from row 0, column 1: 2 rows high and 3 columns wide */
+    int yes;
+    uint64_t pixels;
+    must(hlq_sheet_exist(&sheet, window, 2, &yes));
+    must(hlq_sheet_area(&sheet, window, 1, &pixels));
+    printf("feature 2 there: %s\n", yes ? "yes" : "no");
+    printf("pixels of feature 1 there: %llu\n", (unsigned long long)pixels);
+
+    size_t count;
+    uint32_t slots;
+    char text[HLQ_KEY_TEXT];
+    must(hlq_sheet_select(&sheet, window, 1, keys, SOME, &count));
     printf("feature 1 there:");
-    for (size_t i = 0; i < found.count; i++) printf(" %u%u", answer[i] / 5, answer[i] % 5);
-    printf("\nslots there: %llu\n", (number)hlq_report(M, S, keys, ROOM, bits, ROOM, n, 0, 1, 2, 3).bits);
+    for (size_t i = 0; i < count; i++) {
+        must(hlq_key_text(M, keys[i], text));
+        printf(" %s", text);
+    }
+    must(hlq_sheet_report(&sheet, window, &slots));
+    printf("\nslots there: %u\n", slots);
 
-    static const hlq_rule rules[1] = { { 7, 0, 0, 4, 4, 2 } }; /* rule 7: no feature 2 in the whole map */
-    uint32_t offices[HLQ_TABLE_PLACES], ids[HLQ_TABLE_PLACES], waived[HLQ_TABLE_PLACES], found_ids[16];
-    hlq_counted rows = hlq_add_waiver(M, 0, offices, HLQ_TABLE_PLACES, ids, HLQ_TABLE_PLACES, waived, HLQ_TABLE_PLACES,
-                                      0, 7, 2 * 5 + 4); /* but in block 24 office 0 accepts it */
-    hlq_found f = hlq_findings(M, S, keys, ROOM, bits, ROOM, n, 0, rules, 1, offices, HLQ_TABLE_PLACES,
-                               ids, HLQ_TABLE_PLACES, waived, HLQ_TABLE_PLACES, rows.count,
-                               found_ids, 16, answer, 16);
-    printf("%llu live, of rule %u in block %u%u; ", (number)f.live, found_ids[0], answer[0] / 5, answer[0] % 5);
-    printf("%llu hidden\n", (number)f.hidden);
+    hlq_table waivers;
+    hlq_rule rule = { 7, 0, 0, 4, 4, 2 }; /* rule 7: no feature 2 in the whole map; in block 24 office 0 accepts it */
+    size_t live, hidden;
+    must(hlq_table_in(rows, sizeof rows, &waivers));
+    must(hlq_key_read(M, "24", &key));
+    must(hlq_sheet_add_waiver(&sheet, 0, &waivers, 7, key));
+    must(hlq_sheet_findings(&sheet, 0, &rule, 1, &waivers, ids, keys, SOME, &live, &hidden));
+    must(hlq_key_text(M, keys[0], text));
+    printf("%zu live, of rule %u in block %s; %zu hidden\n", live, ids[0], text, hidden);
 
-    uint32_t log_keys[LOG], log_values[LOG];
-    hlq_edited e = hlq_paint(M, S, keys, ROOM, bits, ROOM, n, summary, PLACES, log_keys, LOG, log_values, LOG, 0, 0,
-                             2 * 5 + 4, 1);
-    if (e.refusal) return puts(hlq_refusal_text(e.refusal)), 1;
-    printf("block 24 painted with feature 1: %llu records\n", (number)e.n);
-    e = hlq_take_back(M, S, keys, ROOM, bits, ROOM, e.n, summary, PLACES, log_keys, LOG, log_values, LOG, e.used,
-                      e.in_force);
-    printf("taken back: %llu records\n", (number)e.n);
-    e = hlq_redo(M, S, keys, ROOM, bits, ROOM, e.n, summary, PLACES, log_keys, LOG, log_values, LOG, e.used,
-                 e.in_force);
-    printf("and redone: %llu records\n", (number)e.n);
+    must(hlq_sheet_paint(&sheet, key, 1));
+    printf("block 24 painted with feature 1: %zu records\n", sheet.list.n);
+    must(hlq_sheet_take_back(&sheet));
+    printf("taken back: %zu records\n", sheet.list.n);
+    must(hlq_sheet_redo(&sheet));
+    printf("and redone: %zu records\n", sheet.list.n);
     return 0;
 }

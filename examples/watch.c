@@ -1,23 +1,28 @@
 /* Three lookouts watch one map at once: each is a thread that asks about its own part of the same list, on a stack that
  * has no more than the system and a call of the library need. Then the night run asks a few windows in one batch. */
 #define _XOPEN_SOURCE 700
-#include "prowcurl.h"
+#include "prowcurl_sheet.h"
 
 #include <limits.h>
 #include <pthread.h>
 #include <stdio.h>
 
-enum { M = 3, S = 2, EDGE = 1 << M, ROOM = HLQ_MOST_RECORDS(M), LOOKOUTS = 3 };
+enum { M = 3, S = 2, EDGE = 1 << M, LOOKOUTS = 3 };
 
 /* Written before the lookouts start, and only read while they watch. */
-static uint32_t keys[ROOM], bits[ROOM], summary[HLQ_SUMMARY_PLACES(M, S)];
-static size_t n;
+static uint32_t memory[HLQ_SHEET_NUMBERS(M, S, 0)];
+static hlq_sheet sheet;
 
-typedef struct { uint32_t row, height; hlq_counted seen; uint32_t blocks[EDGE * EDGE]; } lookout;
+typedef struct {
+    hlq_window window;
+    hlq_refusal refusal;
+    size_t count;
+    uint32_t blocks[EDGE * EDGE];
+} lookout;
 
 static void *watch(void *given) {
     lookout *l = given;
-    l->seen = hlq_select(M, S, keys, ROOM, bits, ROOM, n, l->row, 0, l->height, EDGE, 1, l->blocks, EDGE * EDGE);
+    l->refusal = hlq_sheet_select(&sheet, l->window, 1, l->blocks, EDGE * EDGE, &l->count);
     return NULL;
 }
 
@@ -31,17 +36,16 @@ static int night_run(void) {
     };
     enum { QUESTIONS = sizeof questions / sizeof *questions };
     uint32_t refusals[QUESTIONS], values[QUESTIONS];
-    hlq_counted asked = hlq_batch(M, S, keys, ROOM, bits, ROOM, n, questions, QUESTIONS,
-                                  refusals, QUESTIONS, values, QUESTIONS);
-    if (asked.refusal) return puts(hlq_refusal_text(asked.refusal)), 1;
-    for (size_t i = 0; i < asked.count; i++)
+    hlq_refusal refusal = hlq_sheet_batch(&sheet, questions, QUESTIONS, refusals, values);
+    if (refusal) return puts(hlq_refusal_text(refusal)), 1;
+    for (size_t i = 0; i < QUESTIONS; i++)
         printf("%s at row %d, column %d: %s, %u\n", questions[i].report ? "report" : "exist", questions[i].row,
                questions[i].column, hlq_refusal_text(refusals[i]), values[i]);
     return 0;
 }
 
 int main(void) {
-    static const uint8_t sheet[EDGE * EDGE + 1] = "00000000"
+    static const uint8_t drawn[EDGE * EDGE + 1] = "00000000"
                                                   "01100000"
                                                   "01100000"
                                                   "00000011"
@@ -50,16 +54,15 @@ int main(void) {
                                                   "11110000"
                                                   "11110000";
     static lookout lookouts[LOOKOUTS] = {
-        { .row = 0, .height = 3 },
-        { .row = 3, .height = 2 },
-        { .row = 5, .height = 3 },
+        { .window = { 0, 0, 3, EDGE } },
+        { .window = { 3, 0, 2, EDGE } },
+        { .window = { 5, 0, 3, EDGE } },
     };
     uint8_t raster[EDGE * EDGE];
-    for (size_t i = 0; i < sizeof raster; i++) raster[i] = (uint8_t)(sheet[i] - '0');
-    hlq_counted built = hlq_build(M, S, raster, sizeof raster, keys, ROOM, bits, ROOM,
-                                  summary, HLQ_SUMMARY_PLACES(M, S));
-    if (built.refusal) return puts(hlq_refusal_text(built.refusal)), 1;
-    n = built.count;
+    for (size_t i = 0; i < sizeof raster; i++) raster[i] = (uint8_t)(drawn[i] - '0');
+    hlq_refusal refusal = hlq_sheet_in(memory, sizeof memory, M, S, 0, &sheet);
+    if (!refusal) refusal = hlq_sheet_build(&sheet, raster, sizeof raster);
+    if (refusal) return puts(hlq_refusal_text(refusal)), 1;
 
     pthread_attr_t small;
     pthread_t threads[LOOKOUTS];
@@ -69,9 +72,13 @@ int main(void) {
     for (int i = 0; i < LOOKOUTS; i++) {
         lookout *l = &lookouts[i];
         if (pthread_join(threads[i], NULL) != 0) return 1;
-        printf("rows %u to %u: %s, blocks", l->row, l->row + l->height - 1, hlq_refusal_text(l->seen.refusal));
-        for (size_t j = 0; j < l->seen.count; j++)
-            printf(" %u%u%u", l->blocks[j] / 25, l->blocks[j] / 5 % 5, l->blocks[j] % 5);
+        printf("rows %u to %u: %s, blocks", l->window.row, l->window.row + l->window.height - 1,
+               hlq_refusal_text(l->refusal));
+        for (size_t j = 0; j < l->count; j++) {
+            char text[HLQ_KEY_TEXT];
+            if (hlq_key_text(M, l->blocks[j], text)) return 1;
+            printf(" %s", text);
+        }
         printf("\n");
     }
     pthread_attr_destroy(&small);

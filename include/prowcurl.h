@@ -1,6 +1,7 @@
 /* prowcurl.h: a raster of ground classes as a sorted list of quadtree nodes (the hybrid linear
  * quadtree of Nardelli and Proietti), which answers window queries, takes edits that can be taken
- * back and redone, runs rules with waivers, and is stored in a file.
+ * back and redone, runs rules with waivers, and is stored in a file. These are the proved calls;
+ * prowcurl_sheet.h is a layer over them for programs that people write.
  *
  * CONVENTIONS
  *

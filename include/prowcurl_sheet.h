@@ -16,7 +16,7 @@
  * go together. The rest comes through pointers at the end: each gets the field of that name, which
  * is 0 where the call was refused, save with HLQ_ANSWER_ROOM, where it is the number of places
  * needed. Such a pointer may be null where you do not want the number. A refused call changes no
- * sheet, no table and no lent buffer.
+ * sheet, no table and no lent buffer; only those that lay out a sheet or a table differ.
  *
  * What makes a map (hlq_sheet_build, _load, _read_leaves, _read_bit_strings, _combine) fills the
  * summary and empties the log, and an edit takes over the counts where it was accepted. So a sheet
@@ -65,18 +65,19 @@ typedef struct {
 typedef struct { uint32_t row, column, height, width; } hlq_window;
 typedef struct { int32_t row, column; uint32_t height, width; } hlq_dragged;
 
-/* A table of waivers: each slice has HLQ_TABLE_PLACES places, of which the first `rows` are in
- * use. */
+/* A table of waivers: each slice has `places` places, HLQ_TABLE_PLACES, of which the first `rows`
+ * are in use. */
 typedef struct {
     uint32_t *offices, *ids, *waived;
-    size_t rows;
+    size_t places, rows;
 } hlq_table;
 
 /* MEMORY
  *
- * A sheet laid out at m and s has room for every list of that m: no edit of it is ever refused with
- * HLQ_LIST_ROOM. Its log has the room that you say, 0 for a sheet that is only asked. The memory is
- * an array of uint32_t, or hlq_sheet_bytes(m, s, log_room) bytes from elsewhere:
+ * A sheet laid out at m and s has room for every list of that m: as long as it holds no deeper map,
+ * no edit of it is refused with HLQ_LIST_ROOM. Its log has the room that you say, 0 for a sheet
+ * that is only asked. The memory is an array of uint32_t, or hlq_sheet_bytes(m, s, log_room) bytes
+ * from elsewhere:
  *
  *     static uint32_t memory[HLQ_SHEET_NUMBERS(M, S, LOG_ROOM)];
  */
@@ -101,42 +102,54 @@ static inline int hlq_holds_(const void *memory, size_t bytes, size_t needed) {
     return memory && (uintptr_t)memory % sizeof(uint32_t) == 0 && bytes >= needed;
 }
 
+static inline void hlq_lay_(uint32_t *next, uint32_t m, uint32_t s, size_t room, size_t places,
+                            size_t log_room, hlq_sheet *sheet) {
+    sheet->list.m = m;
+    sheet->list.s = s;
+    sheet->list.room = room;
+    sheet->list.n = 0;
+    sheet->list.keys = next;
+    sheet->list.bits = next += room;
+    sheet->summary = next += room;
+    sheet->summary_room = places;
+    sheet->log_keys = next += places;
+    sheet->log_values = next + log_room;
+    sheet->log_room = log_room;
+    sheet->used = 0;
+    sheet->in_force = 0;
+}
+
 /* A sheet laid into memory, without a map: its counts are 0, and until a map is made in it every
  * question is refused with HLQ_LIST. No byte of the memory is written. Misaligned memory is
- * refused; malloc's is aligned, and null, where it had none, is refused too.
+ * refused; malloc's is aligned, and null, where it had none, is refused too. A refused sheet has no
+ * memory, and every call on it is refused: hlq_sheet_load with HLQ_LIST_ROOM, the others with
+ * HLQ_SETTINGS.
  * Refusals: HLQ_SETTINGS, HLQ_LIST_ROOM (memory is null, not aligned for uint32_t, or has under
  * hlq_sheet_bytes(m, s, log_room) bytes), in this order. */
 HLQ_LOOK hlq_refusal hlq_sheet_in(void *memory, size_t bytes, uint32_t m, uint32_t s,
                                   size_t log_room, hlq_sheet *sheet) {
-    if (m > HLQ_DEEPEST_M || s == 0 || s > HLQ_MOST_SLOTS) return HLQ_SETTINGS;
     size_t needed = hlq_sheet_bytes(m, s, log_room);
-    if (needed == 0 || !hlq_holds_(memory, bytes, needed)) return HLQ_LIST_ROOM;
-    sheet->list.m = m;
-    sheet->list.s = s;
-    sheet->list.room = HLQ_MOST_RECORDS(m);
-    sheet->list.n = 0;
-    sheet->list.keys = (uint32_t *)memory;
-    sheet->list.bits = sheet->list.keys + sheet->list.room;
-    sheet->summary = sheet->list.bits + sheet->list.room;
-    sheet->summary_room = HLQ_SUMMARY_PLACES(m, s);
-    sheet->log_keys = sheet->summary + sheet->summary_room;
-    sheet->log_values = sheet->log_keys + log_room;
-    sheet->log_room = log_room;
-    sheet->used = 0;
-    sheet->in_force = 0;
+    if (needed == 0 || !hlq_holds_(memory, bytes, needed)) {
+        hlq_lay_((uint32_t *)(void *)sheet, HLQ_DEEPEST_M + 1, 0, 0, 0, 0, sheet);
+        return hlq_sheet_bytes(m, s, 0) == 0 ? HLQ_SETTINGS : HLQ_LIST_ROOM;
+    }
+    hlq_lay_((uint32_t *)memory, m, s, HLQ_MOST_RECORDS(m), HLQ_SUMMARY_PLACES(m, s), log_room,
+             sheet);
     return HLQ_ACCEPTED;
 }
 
-/* A table laid into memory, without rows.
+/* A table laid into memory, without rows. A refused table has no memory, and every call that takes
+ * it is refused with HLQ_WAIVERS.
  * Refusals: HLQ_WAIVERS (memory is null, not aligned for uint32_t, or has under hlq_table_bytes()
  * bytes). */
 HLQ_LOOK hlq_refusal hlq_table_in(void *memory, size_t bytes, hlq_table *table) {
-    if (!hlq_holds_(memory, bytes, hlq_table_bytes())) return HLQ_WAIVERS;
-    table->offices = (uint32_t *)memory;
-    table->ids = table->offices + HLQ_TABLE_PLACES;
-    table->waived = table->ids + HLQ_TABLE_PLACES;
+    int holds = hlq_holds_(memory, bytes, hlq_table_bytes());
+    table->places = holds ? HLQ_TABLE_PLACES : 0;
+    table->offices = (uint32_t *)(holds ? memory : (void *)table);
+    table->ids = table->offices + table->places;
+    table->waived = table->ids + table->places;
     table->rows = 0;
-    return HLQ_ACCEPTED;
+    return holds ? HLQ_ACCEPTED : HLQ_WAIVERS;
 }
 
 /* KEYS AS TEXT
@@ -176,12 +189,12 @@ HLQ_LOOK hlq_refusal hlq_key_read(uint32_t m, const char *text, uint32_t *key) {
     (sheet)->list.m, (sheet)->list.s, HLQ_SLICES_(sheet, (sheet)->list.room), (sheet)->list.n
 #define HLQ_SLICES_(sheet, room) (sheet)->list.keys, room, (sheet)->list.bits, room
 #define HLQ_SUMMARY_(sheet) (sheet)->summary, hlq_summary_places_(sheet)
-#define HLQ_LOG_(sheet)                                                                     \
-    (sheet)->log_keys, (sheet)->log_room, (sheet)->log_values, (sheet)->log_room, (sheet)->used, \
-        (sheet)->in_force
+#define HLQ_LOG_(sheet) \
+    (sheet)->log_keys, (sheet)->log_room, (sheet)->log_values, (sheet)->log_room, \
+        (sheet)->used, (sheet)->in_force
 #define HLQ_TABLE_(table) \
-    (table)->offices, HLQ_TABLE_PLACES, (table)->ids, HLQ_TABLE_PLACES, (table)->waived, \
-        HLQ_TABLE_PLACES
+    (table)->offices, (table)->places, (table)->ids, (table)->places, \
+        (table)->waived, (table)->places
 #define HLQ_WINDOW_(window) (window).row, (window).column, (window).height, (window).width
 
 /* The summary's length; in a sheet made by hand that has no room for it, one that is refused. */
@@ -244,10 +257,13 @@ HLQ_LOOK hlq_refusal hlq_sheet_build(hlq_sheet *sheet, const uint8_t *raster, si
 }
 
 /* LOAD. The sheet takes the m and s of the file. HLQ_LIST_ROOM also where its summary has too
- * little room for these; a sheet laid out at HLQ_DEEPEST_M and HLQ_MOST_SLOTS loads every file, and
- * hlq_file_settings says at what m and s to lay one out. */
+ * little room for these. A sheet laid out at the m and s that hlq_file_settings gives holds the
+ * file; one laid out at HLQ_DEEPEST_M and HLQ_MOST_SLOTS holds any. */
+enum { HLQ_FILE_HEAD_ = HLQ_FILE_BYTES(0, 1), HLQ_FILE_M_ = 5, HLQ_FILE_S_ = 6 };
+
 HLQ_LOOK hlq_refusal hlq_sheet_load(hlq_sheet *sheet, const uint8_t *file, size_t file_len) {
-    size_t room = file_len < 11 ? 0 : hlq_room_(sheet, file[5], file[6]);
+    size_t room = file_len < HLQ_FILE_HEAD_ ? 0 : hlq_room_(sheet, file[HLQ_FILE_M_],
+                                                            file[HLQ_FILE_S_]);
     hlq_loaded loaded = hlq_load(file, file_len, HLQ_SLICES_(sheet, room));
     return hlq_made_(sheet, loaded.refusal, loaded.m, loaded.s, loaded.n);
 }
@@ -259,8 +275,8 @@ HLQ_LOOK hlq_refusal hlq_file_settings(const uint8_t *file, size_t file_len, uin
     uint32_t no_room; /* so that a good file is refused last, with HLQ_LIST_ROOM */
     uint64_t refusal = hlq_load(file, file_len, &no_room, 0, &no_room, 0).refusal;
     int good = refusal == HLQ_LIST_ROOM;
-    if (m) *m = good ? file[5] : 0;
-    if (s) *s = good ? file[6] : 0;
+    if (m) *m = good ? file[HLQ_FILE_M_] : 0;
+    if (s) *s = good ? file[HLQ_FILE_S_] : 0;
     return good ? HLQ_ACCEPTED : (hlq_refusal)refusal;
 }
 
@@ -284,8 +300,9 @@ HLQ_LOOK hlq_refusal hlq_sheet_read_bit_strings(hlq_sheet *sheet,
     return hlq_made_(sheet, read.refusal, list->m, list->s, read.count);
 }
 
-/* COMBINE. Into a third sheet, whose s is the number of the table's classes, and which takes the m
- * of the two. HLQ_LIST_ROOM also where its summary has too little room for that m. */
+/* COMBINE. Into a third sheet, with memory of its own. Its s is the number of the table's classes,
+ * and it takes the m of the two. HLQ_LIST_ROOM also where its summary has too little room for that
+ * m. */
 HLQ_LOOK hlq_refusal hlq_sheet_combine(const hlq_sheet *first, const hlq_sheet *second,
                                        const uint8_t *table, size_t table_len, hlq_sheet *third) {
     uint32_t m = first->list.m, s = third->list.s;

@@ -1,14 +1,18 @@
 #!/usr/bin/env python3
-"""Holds include/prowcurl.h against what it declares, so that neither can change alone.
+"""Holds include/prowcurl.h against what it declares, and include/prowcurl_sheet.h against it, so that none can change
+alone.
 
   tests/boundary.py               the header against the sources: every call with its result and its parameters (names,
-                                  types, order), every struct with its fields, the limits of m and s, and the order of
-                                  the refusals at each call, which is the table in crates/definitions/specs/Calls
+                                  types, order), every struct with its fields, the limits of m and s, the interface's
+                                  number, and the order of the refusals at each call, which is the table in
+                                  crates/definitions/specs/Calls. And prowcurl_sheet.h against the header: a call on a
+                                  sheet for every call that takes a list or a table, which hands on the right slices in
+                                  the right order, has the arguments in the same order, and whose refusal is looked at
   tests/boundary.py --archive A   the header against the archive: it defines the declared calls and no other hlq_ name,
                                   wants the symbols that the header names, and has no data that two calls could share
   tests/boundary.py --shared S    the header against the shared library: it exports the declared calls alone
   tests/boundary.py --self-test   makes every small change of one side alone: a name, a type, an order, an item more or
-                                  less, in every call, struct, limit and table; each must be found
+                                  less, in every call, struct, limit and table, in every call on a sheet; each must be found
 
 A slice of Rattle is a pointer and a length in C: x: &[u32] is const uint32_t *x, size_t x_len.
 """
@@ -22,9 +26,12 @@ from pathlib import Path
 
 ROOT = Path(__file__).resolve().parent.parent
 HEADER = ROOT / "include" / "prowcurl.h"
+SHEET = ROOT / "include" / "prowcurl_sheet.h"
 NUMBERS = {"u8": "uint8_t", "u16": "uint16_t", "u32": "uint32_t", "u64": "uint64_t", "usize": "size_t",
            "i8": "int8_t", "i16": "int16_t", "i32": "int32_t", "i64": "int64_t"}
 LIMITS = {"HLQ_DEEPEST_M": "DEEPEST_LEVEL", "HLQ_MOST_SLOTS": "SLOT_LIMIT"}
+# What the archive promises to give as its interface, in the contract of the crate prowcurl.
+INTERFACE = r"fn hlq_interface\(\) -> u32\s+ensures \{ λ r\. ⌜ r ≡ (\d+) ⌝ \}"
 
 # calls: name to (result, [(type, name)]); structs: name to [(type, field)]; limits: name to number;
 # refusals: call to its refusal numbers in order
@@ -37,12 +44,13 @@ class Unreadable(Exception):
 
 def read_header(text):
     refusals = refusals_of_header(text)
-    limits = {name: int(value) for name, value in re.findall(r"#define (\w+) (\d+)\b", text) if name in LIMITS}
+    limits = {name: int(value) for name, value in re.findall(r"#define (\w+) (\d+)\b", text)
+              if name in LIMITS or name == "HLQ_INTERFACE"}
     text = re.sub(r"/\*.*?\*/", " ", text, flags=re.S)
     text = re.sub(r"^\s*#.*$", "", text, flags=re.M)
     text = re.sub(r'extern "C" \{', "", text)
     text = re.sub(r"static inline [^{]*\{.*?^\}", "", text, flags=re.S | re.M)
-    text = re.sub(r"\benum \{.*?\};", "", text, flags=re.S)
+    text = re.sub(r"\b(typedef )?enum \{.*?\}( \w+)?;", "", text, flags=re.S)
     structs = {}
     for body, name in re.findall(r"typedef struct \{(.*?)\} (\w+);", text, flags=re.S):
         fields = []
@@ -107,6 +115,10 @@ def read_sources(prowcurl, definitions, keys, tables):
     structs = {name: fields for name, fields in structs.items() if name in reached}
     constants = dict(re.findall(r"pub const (\w+): u32 = (\d+);", keys))
     limits = {name: int(constants[source]) for name, source in LIMITS.items()}
+    promised = re.search(INTERFACE, prowcurl)
+    if not promised:
+        raise Unreadable("the crate prowcurl promises no number of the interface")
+    limits["HLQ_INTERFACE"] = int(promised.group(1))
     refusals = {}
     for name in calls:
         # a clipped call has the table of the strict one
@@ -159,6 +171,114 @@ def differences(header, sources):
     return found
 
 
+# prowcurl_sheet.h. Which argument stands for which parameter of the raw call: by default the one of its name, or a
+# field of that name; these are the others. A trailing underscore is of names that the header keeps to itself.
+STANDS_FOR = {
+    "keys_len": {"room", "hlq_room_"}, "bits_len": {"room", "hlq_room_"}, "summary_len": {"hlq_summary_places_"},
+    "log_keys_len": {"log_room"}, "log_values_len": {"log_room"},
+    "offices_len": {"places"}, "ids_len": {"places"}, "waived_len": {"places"},
+    "leaf_keys_len": {"leaves", "leaves_len"}, "leaf_features_len": {"leaves", "leaves_len"},
+    "refusals_len": {"questions_len"}, "values_len": {"questions_len"},
+    "found_ids_len": {"found_len"}, "found_keys_len": {"found_len"},
+}
+# Where a parameter of a call on a sheet belongs among those of the raw call, if not by its name.
+BELONGS = {"sheet": "", "first": "", "second": "m2", "third": "keys3", "window": "row", "table": "offices",
+           "leaves_len": "leaf_features_len", "found_len": "found_keys_len"}
+OWNERS = {"1": "first", "2": "second", "3": "third"}
+
+
+def sheet_differences(header, text):
+    found = []
+    text = re.sub(r"/\*.*?\*/", " ", text, flags=re.S).replace("\\\n", " ")
+    macros = {name: ([word.strip() for word in taken.split(",")], body.strip())
+              for name, taken, body in re.findall(r"#define (HLQ_\w+_)\(([^)]*)\)(.*)", text)}
+    functions = {name: (before, taken, body) for before, name, taken, body in
+                 re.findall(r"^(\w[\w ]*) (hlq_\w+)\((.*?)\) \{(.*?)(?:^\}| \}$)", text, flags=re.S | re.M)}
+    for name, (before, _, _) in functions.items():
+        if before != "HLQ_LOOK hlq_refusal" and "hlq_refusal" in before and not name.endswith("_"):
+            found.append(f"{name}: nobody warns where its refusal is not looked at")
+    for name, (result, parameters) in header.calls.items():
+        names = [parameter for _, parameter in parameters]
+        if not {"keys", "keys1", "offices"} & set(names) and name != "hlq_empty":
+            continue
+        layered = name.replace("hlq_", "hlq_sheet_", 1)
+        if layered not in functions:
+            found.append(f"{layered}: not in prowcurl_sheet.h")
+            continue
+        _, taken, body = functions[layered]
+        found += [f"{layered}: {why}" for why in misplaced(names, header.structs.get(result, []), taken)]
+        calls = [body[place.end():] for place in re.finditer(rf"\b{name}\(", body)]
+        if len(calls) != 1:
+            found.append(f"{layered}: calls {name} {len(calls)} times")
+            continue
+        handed = split_arguments(expanded(up_to_its_end(calls[0]), macros))
+        found += [f"{layered}: {why}" for why in mishanded(names, handed)]
+    return found
+
+
+# The text up to the parenthesis that closes what was opened before it.
+def up_to_its_end(text):
+    depth = 1
+    for place, sign in enumerate(text):
+        depth += {"(": 1, ")": -1}.get(sign, 0)
+        if depth == 0:
+            return text[:place]
+    raise Unreadable("prowcurl_sheet.h has a call without its end")
+
+
+def split_arguments(text):
+    items, depth = [""], 0
+    for sign in text:
+        depth += {"(": 1, ")": -1}.get(sign, 0)
+        if sign == "," and depth == 0:
+            items.append("")
+        else:
+            items[-1] += sign
+    return [" ".join(item.split()) for item in items if item.strip()]
+
+
+def expanded(text, macros):
+    found = re.search(r"\b(HLQ_\w+_)\(", text)
+    if not found or found.group(1) not in macros:
+        return text
+    inner = up_to_its_end(text[found.end():])
+    words, body = macros[found.group(1)]
+    for word, given in zip(words, split_arguments(inner)):
+        body = re.sub(rf"\b{word}\b(?!_)", lambda _: given, body)
+    return expanded(text[:found.start()] + body + text[found.end() + len(inner) + 1:], macros)
+
+
+# What is handed on is what the raw call's parameter means.
+def mishanded(names, handed):
+    if len(handed) != len(names):
+        return [f"hands on {len(handed)} arguments for {len(names)} parameters: {', '.join(handed)}"]
+    wrong = []
+    for name, given in zip(names, handed):
+        plain = re.sub(r"\d(?=$|_len$)", "", name)
+        number = re.search(r"\d(?=$|_len$)", name)
+        words = re.findall(r"\w+", given)
+        word = words[0] if re.match(r"\w+\(", given) else words[-1]
+        if word not in STANDS_FOR.get(plain, {plain}):
+            wrong.append(f"hands on {given} for {name}")
+        elif number and len(words) > 1 and OWNERS[number.group(0)] not in words:
+            wrong.append(f"hands on {given} for {name}, which is the {OWNERS[number.group(0)]} list's")
+    return wrong
+
+
+# The parameters of a call on a sheet come in the raw call's order, and its results after them in theirs.
+def misplaced(names, fields, taken):
+    order = [""] + [name for name in names if name not in ("keys", "bits")]
+    order += [field for _, field in fields] + ["stands"]
+    places = []
+    for parameter in split_arguments(taken):
+        word = re.findall(r"\w+", parameter)[-1]
+        word = word if word in order else BELONGS.get(word, word)
+        if word not in order:
+            return [f"takes {word}, which the raw call neither takes nor gives"]
+        places.append(order.index(word))
+    return [] if places == sorted(set(places)) else ["takes its arguments in another order than the raw call"]
+
+
 def joined(folder):
     return "\n".join(path.read_text() for path in sorted(folder.rglob("*.rt")))
 
@@ -169,7 +289,7 @@ def texts():
     # C's build is the survey of the definitions: a list with its summary. Their build, the list alone, is no call of C's.
     tables = {"Build" if path.stem == "Survey" else path.stem: path.read_text()
               for path in sorted((crates / "definitions/specs/Calls").glob("*.antt")) if path.stem != "Build"}
-    return {"header": HEADER.read_text(), "prowcurl": joined(crates / "prowcurl/src"),
+    return {"header": HEADER.read_text(), "sheet": SHEET.read_text(), "prowcurl": joined(crates / "prowcurl/src"),
             "definitions": joined(crates / "definitions/src"), "keys": joined(crates / "keys/src"), "tables": tables}
 
 
@@ -181,12 +301,14 @@ def compare(t):
 
 def check_sources():
     header, sources, found = compare(texts())
+    found += sheet_differences(header, texts()["sheet"])
     if not header.calls or not header.structs or not sources.refusals:
         found.append("no calls, no structs or no tables of refusals were found at all")
     for line in found:
         print(line)
     unlike = sorted(set(sources.calls) - set(sources.refusals))
-    print(f"{len(header.calls)} calls and {len(header.structs)} structs of the header against the sources, and the "
+    print(f"{len(header.calls)} calls and {len(header.structs)} structs of the header against the sources, the calls "
+          f"on a sheet against the header, and the "
           f"order of refusals at {len(sources.refusals)} calls (no table: {', '.join(unlike)})")
     return not found
 
@@ -231,21 +353,22 @@ def check_shared(library):
 
 # The self-test: every small change of one side that can be made by rule, one at a time.
 def self_test():
-    if compare(texts())[2]:
-        print("header and sources differ as they stand")
+    header, _, found = compare(texts())
+    if found or sheet_differences(header, texts()["sheet"]):
+        print("headers and sources differ as they stand")
         return False
     made, missed = 0, []
     for where, text in changes(texts()):
         made += 1
         try:
-            found = compare({**texts(), where: text})[2]
+            found = sheet_differences(header, text) if where == "sheet" else compare({**texts(), where: text})[2]
         except Unreadable as why:
             found = [why]
         if not found:
             missed.append(f"a change of the {where} that is not found: {first_difference(texts()[where], text)}")
     for line in missed:
         print(line)
-    print(f"{made} changes of the header alone or of the sources alone, {made - len(missed)} found")
+    print(f"{made} changes of one header alone or of the sources alone, {made - len(missed)} found")
     return made > 0 and not missed
 
 
@@ -271,7 +394,7 @@ def changes(t):
         for changed in changed_lists(items, "uint64_t more", [
                 lambda item: item + "_renamed", lambda item: re.sub(number, "int16_t", item, count=1)]):
             yield "header", replace(f"typedef struct {{ {'; '.join(changed)}; }} {found.group(2)};")
-    for name in LIMITS:
+    for name in [*LIMITS, "HLQ_INTERFACE"]:
         yield "header", re.sub(rf"(#define {name} \d+)", r"\g<1>0", t["header"])
     for found in re.finditer(r"Refusals: (HLQ_[^.]*)in\s+(?:\* )?this", t["header"]):
         for changed in changed_lists(re.findall(r"HLQ_\w+", found.group(1)), "HLQ_LOG", []):
@@ -279,6 +402,9 @@ def changes(t):
             yield "header", t["header"][:found.start(1)] + said + t["header"][found.end(1):]
     for refusal in sorted(set().union(*read_header(t["header"]).refusals.values())):
         yield "header", re.sub(rf"(\bHLQ_\w+) = {refusal}\b", r"\1 = 99", t["header"])
+
+    yield "prowcurl", re.sub(INTERFACE, lambda found: found.group(0).replace("≡ ", "≡ 9"), t["prowcurl"])
+    yield from changed_sheets(t["sheet"])
 
     rattle = r"\b[ui](8|16|32|64|size)\b|\[[A-Z]\w+\]"
     for found in re.finditer(r'pub extern "C" fn (\w+)\((.*?)\) -> (\w+)', t["prowcurl"], flags=re.S):
@@ -308,6 +434,36 @@ def changes(t):
     for name, table in t["tables"].items():
         for row in re.finditer(r"gives (\d+)", table):
             yield "tables", {**t["tables"], name: table[:row.start()] + "gives 99" + table[row.end():]}
+
+
+# The calls on a sheet: one taken away or renamed, its warning, its parameters, what it hands on, and the macros of it.
+def changed_sheets(text):
+    for found in re.finditer(r"^(HLQ_LOOK hlq_refusal|static inline void) (hlq_sheet_\w+)\((.*?)\) \{.*?^\}", text,
+                             flags=re.S | re.M):
+        before, name, taken = found.groups()
+        raw = name.replace("hlq_sheet_", "hlq_", 1)
+        call = re.search(rf"\b{raw}\(", found.group(0))
+        if not call:
+            continue # what lays out memory
+        replace = lambda by: ("sheet", text[:found.start()] + by + text[found.end():])
+        yield replace("")
+        yield replace(found.group(0).replace(name, name + "_renamed", 1))
+        yield replace(found.group(0).replace(raw + "(", raw + "_renamed("))
+        if before.startswith("HLQ_LOOK"):
+            yield replace(found.group(0).replace("HLQ_LOOK", "static inline", 1))
+        items = split_arguments(taken)
+        for changed in changed_lists(items, "uint32_t more", []):
+            if len(changed) >= len(items): # what is no longer taken the compiler misses
+                yield replace(found.group(0).replace(taken, ", ".join(changed), 1))
+        inner = up_to_its_end(found.group(0)[call.end():])
+        hands_on = lambda by: found.group(0)[:call.end()] + by + found.group(0)[call.end() + len(inner):]
+        for changed in changed_lists(split_arguments(inner), "more", [
+                lambda item: item if item.endswith(")") else item + "_renamed"]):
+            yield replace(hands_on(", ".join(changed)))
+    for found in re.finditer(r"#define (HLQ_\w+_)\(([^)]*)\)((?:.*\\\n)*.*)", text):
+        name, taken, body = found.groups()
+        for changed in changed_lists(split_arguments(body.replace("\\\n", " ")), "more", []):
+            yield "sheet", text[:found.start()] + f"#define {name}({taken}) {', '.join(changed)}" + text[found.end():]
 
 
 # Each item left out, changed in each way, or exchanged with the next, and one item more.

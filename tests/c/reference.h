@@ -5,6 +5,10 @@
 
 #include "prowcurl.h"
 
+#ifdef __cplusplus
+extern "C" {
+#endif
+
 uint32_t ref_power(uint32_t base, uint32_t exponent);
 int ref_key_is_valid(uint32_t m, uint32_t key);
 uint32_t ref_pixel_key(uint32_t m, uint32_t row, uint32_t column);
@@ -130,5 +134,9 @@ hlq_counted ref_read_bit_strings(uint32_t m, uint32_t s,
                                  const uint8_t *node_bits, size_t node_bits_len,
                                  const uint8_t *leaf_bits, size_t leaf_bits_len,
                                  uint32_t *keys, size_t keys_len, uint32_t *bits, size_t bits_len);
+
+#ifdef __cplusplus
+}
+#endif
 
 #endif

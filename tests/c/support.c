@@ -78,6 +78,26 @@ void *start(lent b) { return b.whole + GUARD * b.size; }
 
 void give_back(lent b) { free(b.whole); }
 
+laid lay_sheet(uint32_t m, uint32_t s, size_t log_room) {
+    laid a;
+    a.memory = lend(HLQ_SHEET_NUMBERS(m, s, log_room), sizeof(uint32_t));
+    must(hlq_sheet_in(start(a.memory), hlq_sheet_bytes(m, s, log_room), m, s, log_room, &a.sheet) == HLQ_ACCEPTED,
+         "a sheet is laid out");
+    return a;
+}
+
+laid copy_of_sheet(const laid *a) {
+    laid b = *a;
+    b.memory = copy_of(a->memory);
+    uint32_t *from = start(a->memory), *to = start(b.memory);
+    b.sheet.list.keys = to + (a->sheet.list.keys - from);
+    b.sheet.list.bits = to + (a->sheet.list.bits - from);
+    b.sheet.summary = to + (a->sheet.summary - from);
+    b.sheet.log_keys = to + (a->sheet.log_keys - from);
+    b.sheet.log_values = to + (a->sheet.log_values - from);
+    return b;
+}
+
 void same_buffers(const char *what, lent library, lent reference) {
     comparisons++;
     if (memcmp(library.whole, reference.whole, (library.len + 2 * GUARD) * library.size) != 0) fail(what);

@@ -3,8 +3,12 @@
 #ifndef SUPPORT_H
 #define SUPPORT_H
 
-#include "prowcurl.h"
+#include "prowcurl_sheet.h"
 #include "reference.h"
+
+#ifdef __cplusplus
+extern "C" {
+#endif
 
 /* Fewer rounds where each is slow, as under a sanitizer. */
 #ifdef FEWER_ROUNDS
@@ -77,6 +81,15 @@ void same_buffers(const char *what, lent library, lent reference);
 /* Fails the run where two results differ; counts the call and its refusal. */
 void same_results(call which, uint64_t refusal, const void *library, const void *reference, size_t size);
 
+/* A sheet, and the lent memory that it lies in. */
+typedef struct {
+    lent memory;
+    hlq_sheet sheet;
+} laid;
+
+laid lay_sheet(uint32_t m, uint32_t s, size_t log_room);
+laid copy_of_sheet(const laid *a);
+
 /* A raster of a kind: 0 one feature, 1 patches, 2 noise, 3 noise in one quadrant, 4 a few odd pixels. */
 void fill_raster(uint8_t *raster, uint32_t m, uint32_t s, uint32_t kind);
 
@@ -98,5 +111,9 @@ uint32_t random_key(uint32_t m);
 void expect_pairs(call which, uint32_t mask);
 /* Prints the numbers of comparisons and of pairs of a call and its refusal. */
 int finish(const char *name);
+
+#ifdef __cplusplus
+}
+#endif
 
 #endif

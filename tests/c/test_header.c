@@ -7,7 +7,7 @@
 #include <stdlib.h>
 #include <string.h>
 
-static_assert(HLQ_INTERFACE == 13, "the interface's number");
+static_assert(HLQ_INTERFACE == 14, "the interface's number");
 static_assert(HLQ_DEEPEST_M == 10 && HLQ_MOST_SLOTS == 32, "the limits of documents 01 and 02");
 static_assert(HLQ_LISTED == 1 && HLQ_INSIDE == 2, "the kinds");
 static_assert(HLQ_TABLE_PLACES == 512 && HLQ_OFFICE_ROWS == 256, "the table of two offices");
@@ -30,7 +30,8 @@ static_assert(HLQ_FILE_BYTES(0, 1) == 11 && HLQ_FILE_BYTES(9, 16) == 65 && HLQ_F
               "the bytes of a file");
 static_assert(HLQ_FILE_BYTES(0xFFFFFFFFu, 16) == 25769803781u && HLQ_FILE_BYTES(0xFFFFFFFFu, 32) == 34359738371u,
               "no wrapping at 32 bits");
-static_assert(sizeof(hlq_done) == 8 && sizeof(hlq_counted) == 16 && sizeof(hlq_stands) == 48 &&
+static_assert(sizeof(hlq_done) == 8 && sizeof(hlq_counted) == 16 && sizeof(hlq_keyed) == 16 &&
+                  sizeof(hlq_block) == 40 && sizeof(hlq_measured) == 16 && sizeof(hlq_stands) == 48 &&
                   sizeof(hlq_span) == 16 && sizeof(hlq_exists) == 16 && sizeof(hlq_reported) == 16 &&
                   sizeof(hlq_edited) == 32 && sizeof(hlq_emptied) == 16 && sizeof(hlq_found) == 24 &&
                   sizeof(hlq_loaded) == 32 && sizeof(hlq_strings) == 24 && sizeof(hlq_rule) == 24 &&
@@ -114,6 +115,7 @@ static void words(void) {
 }
 
 int main(void) {
+    must(hlq_interface() == HLQ_INTERFACE, "header and library have one interface");
     for (uint32_t m = 0; m <= HLQ_DEEPEST_M; m++) macros_meet_calls(m);
     limits();
     group();

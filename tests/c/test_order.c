@@ -11,44 +11,16 @@
 enum { MOST_PAINTS = 24, ORDERS = 6 };
 
 typedef struct {
-    uint32_t m, s;
-    lent keys, bits, summary, log_keys, log_values;
-    size_t n, used, in_force;
-} sheet;
-
-typedef struct {
     uint32_t key, feature, row, column, side;
 } painting;
 
 static unsigned long in_full, refused, only_some, unlike;
 
-static sheet new_sheet(uint32_t m, uint32_t s, const uint8_t *raster, size_t room, size_t log_room) {
-    sheet a = { m, s, lend(room, 4), lend(room + below(3), 4), lend(HLQ_SUMMARY_PLACES(m, s), 4),
-                lend(log_room + below(3), 4), lend(log_room, 4), 0, 0, 0 };
-    hlq_counted c = hlq_build(m, s, raster, (size_t)1 << 2 * m, start(a.keys), a.keys.len, start(a.bits), a.bits.len,
-                              start(a.summary), a.summary.len);
-    must(c.refusal == 0, "the sheet is built");
-    a.n = c.count;
+static laid new_sheet(uint32_t m, uint32_t s, const uint8_t *raster, size_t room, size_t log_room) {
+    laid a = lay_sheet(m, s, log_room);
+    a.sheet.list.room = room;
+    must(hlq_sheet_build(&a.sheet, raster, (size_t)1 << 2 * m) == HLQ_ACCEPTED, "the sheet is built");
     return a;
-}
-
-static sheet copy_sheet(const sheet *a) {
-    sheet b = *a;
-    b.keys = copy_of(a->keys), b.bits = copy_of(a->bits), b.summary = copy_of(a->summary);
-    b.log_keys = copy_of(a->log_keys), b.log_values = copy_of(a->log_values);
-    return b;
-}
-
-static void free_sheet(sheet *a) {
-    give_back(a->keys), give_back(a->bits), give_back(a->summary), give_back(a->log_keys), give_back(a->log_values);
-}
-
-static uint64_t paint(sheet *a, const painting *x) {
-    hlq_edited e = hlq_paint(a->m, a->s, start(a->keys), a->keys.len, start(a->bits), a->bits.len, a->n,
-                             start(a->summary), a->summary.len, start(a->log_keys), a->log_keys.len,
-                             start(a->log_values), a->log_values.len, a->used, a->in_force, x->key, x->feature);
-    if (e.refusal == 0) a->n = e.n, a->used = e.used, a->in_force = e.in_force;
-    return e.refusal;
 }
 
 static painting random_paint(uint32_t m, uint32_t s) {
@@ -72,10 +44,10 @@ static void shuffle(painting *run, size_t count) {
 }
 
 /* The first refusal of a run, or 0; it goes on after a refusal, and every one is of room. */
-static uint64_t first_refusal(sheet *a, const painting *run, size_t count) {
-    uint64_t first = 0;
+static hlq_refusal first_refusal(hlq_sheet *a, const painting *run, size_t count) {
+    hlq_refusal first = HLQ_ACCEPTED;
     for (size_t i = 0; i < count; i++) {
-        uint64_t refusal = paint(a, &run[i]);
+        hlq_refusal refusal = hlq_sheet_paint(a, run[i].key, run[i].feature);
         must(refusal == 0 || refusal == HLQ_LOG_ROOM || refusal == HLQ_LIST_ROOM, "a refusal that is not one of room");
         if (first == 0) first = refusal;
     }
@@ -83,21 +55,21 @@ static uint64_t first_refusal(sheet *a, const painting *run, size_t count) {
 }
 
 /* The list and the summary are those of the raster, record for record and count for count. */
-static void shows(const sheet *a, const uint8_t *raster) {
-    lent keys = copy_of(a->keys), bits = copy_of(a->bits), summary = copy_of(a->summary);
-    hlq_counted c = ref_list(a->m, a->s, raster, (size_t)1 << 2 * a->m, start(keys), keys.len, start(bits), bits.len);
-    ref_summary(a->m, a->s, raster, start(summary));
-    must(c.refusal == 0 && c.count == a->n, "as many records as the raster with all the paints has");
-    same_buffers("keys of the raster with all the paints", a->keys, keys);
-    same_buffers("bits of the raster with all the paints", a->bits, bits);
-    same_buffers("summary of the raster with all the paints", a->summary, summary);
-    give_back(keys), give_back(bits), give_back(summary);
+static void shows(const laid *a, const uint8_t *raster) {
+    laid b = copy_of_sheet(a);
+    hlq_list *list = &b.sheet.list;
+    hlq_counted c = ref_list(list->m, list->s, raster, (size_t)1 << 2 * list->m, list->keys, list->room, list->bits,
+                             list->room);
+    ref_summary(list->m, list->s, raster, b.sheet.summary);
+    must(c.refusal == 0 && c.count == list->n, "as many records as the raster with all the paints has");
+    same_buffers("list and summary of the raster with all the paints", a->memory, b.memory);
+    give_back(b.memory);
 }
 
-static int same_sheet(const sheet *a, const sheet *b) {
-    return a->n == b->n && memcmp(start(a->keys), start(b->keys), 4 * a->n) == 0 &&
-           memcmp(start(a->bits), start(b->bits), 4 * a->n) == 0 &&
-           memcmp(start(a->summary), start(b->summary), 4 * a->summary.len) == 0;
+static int same_sheet(const hlq_sheet *a, const hlq_sheet *b) {
+    return a->list.n == b->list.n && memcmp(a->list.keys, b->list.keys, 4 * a->list.n) == 0 &&
+           memcmp(a->list.bits, b->list.bits, 4 * a->list.n) == 0 &&
+           memcmp(a->summary, b->summary, 4 * a->summary_room) == 0;
 }
 
 /* A random run of paints, every two apart. */
@@ -113,9 +85,9 @@ static size_t random_run(uint32_t m, uint32_t s, painting *run) {
 }
 
 static size_t records(uint32_t m, uint32_t s, const uint8_t *raster) {
-    sheet a = new_sheet(m, s, raster, HLQ_MOST_RECORDS(m), 1);
-    free_sheet(&a);
-    return a.n;
+    laid a = new_sheet(m, s, raster, HLQ_MOST_RECORDS(m), 1);
+    give_back(a.memory);
+    return a.sheet.list.n;
 }
 
 /* Tight: the list has little more room than it needs at first and at last, and the log sometimes too little. */
@@ -132,30 +104,31 @@ static void orders(uint32_t m, uint32_t kind, int tight) {
             memset(all + ((size_t)r << m) + run[i].column, (int)run[i].feature, run[i].side);
     size_t before = records(m, s, raster), after = records(m, s, all);
     size_t room = tight ? (before < after ? after : before) + below(m) : most;
-    sheet first = new_sheet(m, s, raster, room, tight && below(4) == 0 ? 3 + below(60) : 4 * most + 128);
-    uint64_t refusals[ORDERS];
-    sheet one = { 0 };
+    laid first = new_sheet(m, s, raster, room, tight && below(4) == 0 ? 3 + below(60) : 4 * most + 128);
+    hlq_refusal refusals[ORDERS];
+    laid one = first;
     for (uint32_t i = 0; i < ORDERS; i++) {
-        sheet a = copy_sheet(&first);
-        refusals[i] = first_refusal(&a, run, count);
+        laid a = copy_of_sheet(&first);
+        refusals[i] = first_refusal(&a.sheet, run, count);
         if (refusals[i] == 0) {
             in_full++;
             shows(&a, all);
-            if (seen++ == 0) one = copy_sheet(&a);
-            must(same_sheet(&a, &one), "every order that is accepted in full leaves the same list and summary");
-            must(a.used == one.used && a.in_force == one.in_force, "and as long a log");
+            if (seen++ == 0) one = copy_of_sheet(&a);
+            must(same_sheet(&a.sheet, &one.sheet),
+                 "every order that is accepted in full leaves the same list and summary");
+            must(a.sheet.used == one.sheet.used && a.sheet.in_force == one.sheet.in_force, "and as long a log");
         } else {
             refused++;
         }
-        free_sheet(&a);
+        give_back(a.memory);
         shuffle(run, count);
     }
     for (uint32_t i = 0; i < ORDERS && seen > 0; i++)
         must(refusals[i] == 0 || (refusals[i] == HLQ_LIST_ROOM && tight),
              "where one order is accepted in full, another is refused for the list's room alone");
-    if (seen > 0) free_sheet(&one);
+    if (seen > 0) give_back(one.memory);
     if (seen > 0 && seen < ORDERS) only_some++;
-    free_sheet(&first);
+    give_back(first.memory);
     free(raster), free(all);
 }
 
@@ -164,13 +137,14 @@ static void not_apart(uint32_t m) {
     size_t pixels = (size_t)1 << 2 * m, most = HLQ_MOST_RECORDS(m);
     uint8_t *raster = room_for(pixels);
     fill_raster(raster, m, 3, below(5));
-    sheet a = new_sheet(m, 3, raster, most, 4 * most + 128), b = copy_sheet(&a);
+    laid a = new_sheet(m, 3, raster, most, 4 * most + 128), b = copy_of_sheet(&a);
     painting x = random_paint(m, 3), y = random_paint(m, 3);
     if (!apart(&x, &y)) {
-        must(paint(&a, &x) == 0 && paint(&a, &y) == 0 && paint(&b, &y) == 0 && paint(&b, &x) == 0, "there is room");
-        unlike += !same_sheet(&a, &b);
+        painting both[] = { x, y }, turned[] = { y, x };
+        must(!first_refusal(&a.sheet, both, 2) && !first_refusal(&b.sheet, turned, 2), "there is room");
+        unlike += !same_sheet(&a.sheet, &b.sheet);
     }
-    free_sheet(&a), free_sheet(&b);
+    give_back(a.memory), give_back(b.memory);
     free(raster);
 }
 

@@ -8,16 +8,14 @@
 #include <string.h>
 
 enum { M = 6, S = 5, EDGE = 1 << M, PIXELS = EDGE * EDGE, ROOM = HLQ_MOST_RECORDS(M), LOG = 4 * ROOM, THREADS = 8 };
-enum { PLACES = HLQ_SUMMARY_PLACES(M, S) };
 enum { STEPS = SOME(400) };
 
-static uint32_t shared_keys[ROOM], shared_bits[ROOM];
-static size_t shared_n;
+static hlq_sheet shared;
 
 typedef struct {
     uint64_t state, sum;
     uint8_t raster[PIXELS], file[HLQ_FILE_BYTES(ROOM, S)];
-    uint32_t keys[ROOM], bits[ROOM], log_keys[LOG], log_values[LOG], answer[PIXELS], summary[PLACES];
+    uint32_t memory[HLQ_SHEET_NUMBERS(M, S, LOG)], answer[PIXELS];
 } worker;
 
 /* Its own random numbers: those of support.h are one run for all. */
@@ -36,39 +34,43 @@ static uint32_t draw_key(worker *w) {
     return key;
 }
 
+static hlq_refusal edit(worker *w, hlq_sheet *own) {
+    if (draw(w, 4) == 0) {
+        hlq_window strip = { draw(w, EDGE - 9), draw(w, EDGE - 9), 9, 3 };
+        return hlq_sheet_paint_window(own, strip, draw(w, S));
+    }
+    if (draw(w, 3)) {
+        uint32_t key = draw_key(w);
+        return hlq_sheet_paint(own, key, draw(w, S));
+    }
+    return draw(w, 3) == 0 ? hlq_sheet_redo(own) : hlq_sheet_take_back(own);
+}
+
+static void ask(worker *w, const hlq_sheet *sheet, hlq_window window, uint32_t feature) {
+    size_t count;
+    hlq_refusal refusal = hlq_sheet_select(sheet, window, feature, w->answer, PIXELS, &count);
+    add(w, &refusal, sizeof refusal);
+    add(w, w->answer, count * sizeof *w->answer);
+}
+
 static void *work(void *of) {
     worker *w = of;
+    hlq_sheet own;
     for (size_t i = 0; i < PIXELS; i++) w->raster[i] = (uint8_t)(draw(w, 9) ? 0 : draw(w, S));
-    size_t n = hlq_build(M, S, w->raster, PIXELS, w->keys, ROOM, w->bits, ROOM, w->summary, PLACES).count, used = 0;
-    size_t in_force = 0;
+    must(!hlq_sheet_in(w->memory, sizeof w->memory, M, S, LOG, &own), "a sheet of its own");
+    must(!hlq_sheet_build(&own, w->raster, PIXELS), "and a map in it");
     for (int i = 0; i < STEPS; i++) {
-        hlq_edited e;
-        if (draw(w, 4) == 0) {
-            uint32_t row = draw(w, EDGE - 9), column = draw(w, EDGE - 9), feature = draw(w, S);
-            e = hlq_paint_window(M, S, w->keys, ROOM, w->bits, ROOM, n, w->summary, PLACES, w->log_keys, LOG,
-                                 w->log_values, LOG, used, in_force, row, column, 9, 3, feature);
-        } else if (draw(w, 3)) {
-            uint32_t key = draw_key(w), feature = draw(w, S);
-            e = hlq_paint(M, S, w->keys, ROOM, w->bits, ROOM, n, w->summary, PLACES, w->log_keys, LOG, w->log_values,
-                          LOG, used, in_force, key, feature);
-        } else if (draw(w, 3) == 0)
-            e = hlq_redo(M, S, w->keys, ROOM, w->bits, ROOM, n, w->summary, PLACES, w->log_keys, LOG, w->log_values,
-                         LOG, used, in_force);
-        else
-            e = hlq_take_back(M, S, w->keys, ROOM, w->bits, ROOM, n, w->summary, PLACES, w->log_keys, LOG,
-                              w->log_values, LOG, used, in_force);
-        if (e.refusal == HLQ_ACCEPTED) n = e.n, used = e.used, in_force = e.in_force;
-        uint32_t height = 1 + draw(w, EDGE), width = 1 + draw(w, EDGE), row = draw(w, EDGE - height + 1);
-        uint32_t column = draw(w, EDGE - width + 1), feature = draw(w, S);
-        hlq_counted own =
-            hlq_select(M, S, w->keys, ROOM, w->bits, ROOM, n, row, column, height, width, feature, w->answer, PIXELS);
-        add(w, w->answer, own.count * sizeof *w->answer);
-        hlq_counted shared = hlq_select(M, S, shared_keys, ROOM, shared_bits, ROOM, shared_n, row, column, height,
-                                        width, feature, w->answer, PIXELS);
-        add(w, w->answer, shared.count * sizeof *w->answer);
-        add(w, &e, sizeof e);
+        hlq_refusal refusal = edit(w, &own);
+        uint32_t height = 1 + draw(w, EDGE), width = 1 + draw(w, EDGE), feature = draw(w, S);
+        hlq_window window = { draw(w, EDGE - height + 1), draw(w, EDGE - width + 1), height, width };
+        ask(w, &own, window, feature);
+        ask(w, &shared, window, feature);
+        uint64_t left[] = { refusal, own.list.n, own.used, own.in_force };
+        add(w, left, sizeof left);
     }
-    add(w, w->file, hlq_store(M, S, w->keys, ROOM, w->bits, ROOM, n, w->file, sizeof w->file).count);
+    size_t bytes;
+    must(!hlq_sheet_store(&own, w->file, sizeof w->file, &bytes), "its file");
+    add(w, w->file, bytes);
     return NULL;
 }
 
@@ -80,11 +82,12 @@ static worker *new_worker(uint64_t start) {
 }
 
 int main(void) {
-    uint32_t summary[PLACES];
+    static uint32_t memory[HLQ_SHEET_NUMBERS(M, S, 0)];
     static uint8_t raster[PIXELS];
     seed(12);
     fill_raster(raster, M, S, 1);
-    shared_n = hlq_build(M, S, raster, PIXELS, shared_keys, ROOM, shared_bits, ROOM, summary, PLACES).count;
+    must(!hlq_sheet_in(memory, sizeof memory, M, S, 0, &shared), "a sheet for all");
+    must(!hlq_sheet_build(&shared, raster, PIXELS), "and a map in it");
 
     pthread_t threads[THREADS];
     worker *together[THREADS];

@@ -37,6 +37,7 @@ static uint32_t offices[HLQ_TABLE_PLACES], waiver_ids[HLQ_TABLE_PLACES], waiver_
 static size_t rows;
 static uint64_t refusal;
 
+static void call_interface(void) { refusal = hlq_interface() == HLQ_INTERFACE ? HLQ_ACCEPTED : HLQ_SETTINGS; }
 static void call_key_at(void) { refusal = hlq_key_at(M, row, column, M).refusal; }
 static void call_block_of(void) { refusal = hlq_block_of(M, key).refusal; }
 static void call_build(void) {
@@ -162,10 +163,11 @@ typedef struct {
     size_t deepest;
 } call;
 
-enum { KEY_AT, BLOCK_OF, BUILD, RASTER, STANDING, PART, EXIST, REPORT, SELECT, FILL_SUMMARY, AREA, EXIST_CLIPPED,
-       REPORT_CLIPPED, SELECT_CLIPPED, AREA_CLIPPED, BATCH, PAINT, PAINT_WINDOW, TAKE_BACK, REDO, EMPTY, ADD_WAIVER,
-       FINDINGS, REMOVE_WAIVER, STORE, LOAD, WRITE_LEAVES, READ_LEAVES, WRITE, READ, COMBINE, CALLS };
+enum { INTERFACE, KEY_AT, BLOCK_OF, BUILD, RASTER, STANDING, PART, EXIST, REPORT, SELECT, FILL_SUMMARY, AREA,
+       EXIST_CLIPPED, REPORT_CLIPPED, SELECT_CLIPPED, AREA_CLIPPED, BATCH, PAINT, PAINT_WINDOW, TAKE_BACK, REDO, EMPTY,
+       ADD_WAIVER, FINDINGS, REMOVE_WAIVER, STORE, LOAD, WRITE_LEAVES, READ_LEAVES, WRITE, READ, COMBINE, CALLS };
 static call calls[CALLS] = {
+    { "interface", call_interface, 0 },
     { "key_at", call_key_at, 0 },       { "block_of", call_block_of, 0 }, { "build", call_build, 0 },
     { "raster", call_raster, 0 },       { "standing", call_standing, 0 }, { "part", call_part, 0 },
     { "exist", call_exist, 0 },         { "report", call_report, 0 },     { "select", call_select, 0 },
@@ -260,6 +262,7 @@ static void every_call(uint8_t pattern) {
     measure(READ, pattern);
     for (size_t i = 0; i < sizeof blocks / sizeof *blocks; i++) {
         key = blocks[i], feature = (uint32_t)i;
+        measure(INTERFACE, pattern);
         measure(KEY_AT, pattern);
         measure(BLOCK_OF, pattern);
         measure(STANDING, pattern);

@@ -10,12 +10,12 @@ use Rattle.keys.specs.Block.{rowOf, columnOf, sideOf, keyAround}
 use Rattle.keys.proofs.Cases.{or-left, or-right}
 use Rattle.definitions.specs.Calls.KeyAt.{keyAtRefusal, keyAt}
 use Rattle.definitions.specs.Calls.BlockOf.{blockOfRefusal, blockOf}
-use Rattle.definitions.specs.declared.Counted.{Counted}
+use Rattle.definitions.specs.declared.Keyed.{Keyed}
 use Rattle.definitions.specs.declared.Block.{Block}
 use Rattle.laws.proofs.First.{this, later, holds-first, none-first, first-none, accepted-done, accepted-left}
 
-counted : {a b a′ b′ : ℕ} → a ≡ a′ → b ≡ b′ → _≡_ {A = Counted} (record { refusal = a; count = b }) (record { refusal = a′; count = b′ })
-counted e f i = record { refusal = e i; count = f i }
+keyed : {a b a′ b′ : ℕ} → a ≡ a′ → b ≡ b′ → _≡_ {A = Keyed} (record { refusal = a; key = b }) (record { refusal = a′; key = b′ })
+keyed e f i = record { refusal = e i; key = f i }
 
 block : {a b c d e a′ b′ c′ d′ e′ : ℕ} → a ≡ a′ → b ≡ b′ → c ≡ c′ → d ≡ d′ → e ≡ e′
     → _≡_ {A = Block} (record { refusal = a; row = b; column = c; side = d; level = e }) (record { refusal = a′; row = b′; column = c′; side = d′; level = e′ })
@@ -52,13 +52,13 @@ module _ (m row column level : ℕ) where
   unfolding keyAtRefusal
   passed e = let h = first-none _ refl e in (ltb-false 10 m (h .0), ltb-false m level (h .1 .1 .0))
 
-  pub key-refused : (r : ℕ) → r ≡ keyAtRefusal m row column level → (r ≡ 0 → ⊥) → record { refusal = r; count = 0 } ≡ keyAt m row column level
+  pub key-refused : (r : ℕ) → r ≡ keyAtRefusal m row column level → (r ≡ 0 → ⊥) → record { refusal = r; key = 0 } ≡ keyAt m row column level
   unfolding keyAt
-  key-refused r is h = counted is (sym (accepted-left _ 0 (λ e. h (is ∙ e))))
+  key-refused r is h = keyed is (sym (accepted-left _ 0 (λ e. h (is ∙ e))))
 
-  pub key-given : (κ : ℕ) → keyAtRefusal m row column level ≡ 0 → κ ≡ keyAround m level row column → record { refusal = 0; count = κ } ≡ keyAt m row column level
+  pub key-given : (κ : ℕ) → keyAtRefusal m row column level ≡ 0 → κ ≡ keyAround m level row column → record { refusal = 0; key = κ } ≡ keyAt m row column level
   unfolding keyAt
-  key-given κ none is = counted (sym none) (is ∙ sym (accepted-done _ 0 none))
+  key-given κ none is = keyed (sym none) (is ∙ sym (accepted-done _ 0 none))
 
 module _ (m κ : ℕ) where
   pub block-too-deep : 10 < m → 1 ≡ blockOfRefusal m κ

@@ -4,7 +4,7 @@ ghost use mathlib.Core.Path.{_≡_};
 ghost use Rattle.definitions.specs.Calls.KeyAt.{keyAtRefusal, keyAt};
 ghost use Rattle.definitions.specs.Calls.BlockOf.{blockOfRefusal, blockOf};
 use definitions::Block;
-use definitions::Counted;
+use definitions::Keyed;
 use keys::Key;
 use keys::power;
 
@@ -26,17 +26,17 @@ fn key_at_refusal(m: u32, row: u32, column: u32, level: u32) -> u64
 }
 
 // The key of the block of a level around a pixel: a walker's tap.
-pub fn key_at(m: u32, row: u32, column: u32, level: u32) -> Counted
+pub fn key_at(m: u32, row: u32, column: u32, level: u32) -> Keyed
     ensures { λ r. ⌜ r ≡ keyAt m row column level ⌝ }
 {
     let refusal = key_at_refusal(m, row, column, level);
     if refusal != 0 {
-        return Counted { refusal, count: 0 };
+        return Keyed { refusal, key: 0 };
     }
     let block = Key::around(m, level, row, column);
-    Counted {
+    Keyed {
         refusal: 0,
-        count: block.number as u64,
+        key: block.number as u64,
     }
 }
 

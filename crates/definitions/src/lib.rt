@@ -50,6 +50,12 @@ pub struct Counted {
 }
 
 #[repr(C)]
+pub struct Keyed {
+    pub refusal: u64,
+    pub key: u64,
+}
+
+#[repr(C)]
 pub struct Stands {
     pub refusal: u64,
     pub kind: u64,

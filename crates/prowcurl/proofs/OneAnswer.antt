@@ -7,6 +7,8 @@ use denote.Triple.Entry.{Args, Res}
 use denote.Triple.Clauses.{AtExit}
 use borrow.Fn.Claims.{AllOf}
 use borrow.Fn.Read.{Read, r-last, all-models, no-know}
+use Rattle.prowcurl.proofs.interface.hlq_interface as interface
+use Rattle.prowcurl.proofs.interface.hlq_interface.Reads as interface-reads
 use Rattle.prowcurl.proofs.squares.hlq_key_at as key-at
 use Rattle.prowcurl.proofs.squares.hlq_key_at.Reads as key-at-reads
 use Rattle.prowcurl.proofs.squares.hlq_block_of as block-of
@@ -68,6 +70,10 @@ use Rattle.prowcurl.proofs.waivers.hlq_remove_waiver.Reads as remove-wa
 use Rattle.prowcurl.proofs.findings.hlq_findings as findings
 use Rattle.prowcurl.proofs.questions.hlq_batch as batch
 use Rattle.prowcurl.proofs.Uniqueness.{Promise, OneAnswer, by-equations, one, two, three, four, six}
+
+-- the interface's number
+pub interface-one : OneAnswer interface.ended interface-reads.Learnt
+interface-one = by-equations (λ x. one (x .kept) (x .kept′))
 
 -- blocks
 pub key-at-one : OneAnswer key-at.ended key-at-reads.Learnt

@@ -6,6 +6,7 @@ pub mod dragged;
 pub mod edits;
 pub mod files;
 pub mod findings;
+pub mod interface;
 pub mod lists;
 pub mod questions;
 pub mod squares;

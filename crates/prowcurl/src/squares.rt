@@ -3,10 +3,10 @@ ghost use mathlib.Core.Path.{_≡_};
 ghost use Rattle.definitions.specs.Calls.KeyAt.{keyAt};
 ghost use Rattle.definitions.specs.Calls.BlockOf.{blockOf};
 use definitions::Block;
-use definitions::Counted;
+use definitions::Keyed;
 
 #[no_mangle]
-pub extern "C" fn hlq_key_at(m: u32, row: u32, column: u32, level: u32) -> Counted
+pub extern "C" fn hlq_key_at(m: u32, row: u32, column: u32, level: u32) -> Keyed
     ensures { λ r. ⌜ r ≡ keyAt m row column level ⌝ }
 {
     blocks::key_at(m, row, column, level)

@@ -6,7 +6,7 @@ use lib.Dec.{leb, ltb}
 use Rattle.keys.specs.Key.{deepestLevel}
 use Rattle.keys.specs.Block.{keyAround}
 use Rattle.definitions.specs.Refusal.{_gives_, first, accepted}
-use Rattle.definitions.specs.declared.Counted.{Counted}
+use Rattle.definitions.specs.declared.Keyed.{Keyed}
 
 -- the row or the column is none of the raster's
 abbrev pub noPixel : (m row column : ℕ) → Bool
@@ -17,10 +17,9 @@ module _ (m row column level : ℕ) where
   keyAtRefusal =
       first (ltb deepestLevel m gives 1 ∷ noPixel m row column gives 6 ∷ ltb m level gives 8 ∷ [])
 
-  -- the key stands in the count
-  unfoldable pub keyAt : Counted
+  unfoldable pub keyAt : Keyed
   keyAt =
       record {
         refusal = keyAtRefusal;
-        count = accepted keyAtRefusal (keyAround m level row column) 0;
+        key = accepted keyAtRefusal (keyAround m level row column) 0;
       }
