@@ -28,21 +28,32 @@ static int utf8_bytes(const unsigned char *text) {
     return more + 1;
 }
 
-/* A name out of a file may hold anything, and JSON may not: a byte that is no UTF-8 becomes a question mark. */
-static json_t *json_text(const char *words) {
-    json_t *text = json_string(words);
-    if (text) return text;
+char *clean_text(const char *words) {
     char *clean = text_of("%s", words);
     for (unsigned char *c = (unsigned char *)clean; *c;) {
         int bytes = utf8_bytes(c);
         if (bytes == 0) *c = '?';
         c += bytes ? bytes : 1;
     }
-    text = json_string(clean);
+    json_t *text = json_string(clean);
     for (unsigned char *c = (unsigned char *)clean; !text && *c; c++) if (*c >= 0x80) *c = '?'; /* a surrogate */
-    if (!text) text = json_string(clean);
+    json_decref(text);
+    return clean;
+}
+
+static json_t *json_text(const char *words) {
+    json_t *text = json_string(words);
+    if (text) return text;
+    char *clean = clean_text(words);
+    text = json_string(clean);
     free(clean);
     return text;
+}
+
+void write_json_text(FILE *file, const char *words) {
+    json_t *text = json_text(words);
+    if (!text || json_dumpf(text, file, JSON_ENCODE_ANY) != 0) fail(STATUS_IO, "a text cannot be written");
+    json_decref(text);
 }
 
 static void write_json(json_t *value) {

@@ -7,7 +7,7 @@
 #include <stdlib.h>
 
 /* Only the classes that occur on a sheet's part of the window are measured there. */
-static void measure(line *l, window w, uint64_t pixels[HLQ_MOST_SLOTS]) {
+void measure_areas(line *l, window w, uint64_t pixels[HLQ_MOST_SLOTS]) {
     for (walk r = sheets_of(l, w); next_sheet(&r);) {
         hlq_dragged part = on_sheet(&r.sheet, w);
         uint32_t bits;
@@ -67,7 +67,7 @@ void run_areas(const arguments *a) {
     window w = a->count > 1 || a->given[OPTION_BOX] ? window_of(&l, a, 1) : whole_survey(&l);
     uint64_t pixels[HLQ_MOST_SLOTS] = { 0 }, total = 0;
     double metres = l.cell * l.cell, money = 0;
-    measure(&l, w, pixels);
+    measure_areas(&l, w, pixels);
     answer_begin(a);
     table_begin("areas", columns, classes.any_price ? 6 : 4);
     for (uint32_t f = 0; f < l.slots; f++) {

@@ -37,7 +37,6 @@ static const struct {
     [OPTION_GEOJSON] = { "geojson", 1, "FILE", "write the patches as GeoJSON" },
     [OPTION_PICTURE] = { "picture", 1, "OUT.png", "draw the ground with its findings" },
     [OPTION_SCALE] = { "scale", 1, "N", "the side of a pixel in the picture" },
-    [OPTION_WINDOWS] = { "windows", 0, "", "frame the rules' windows in the picture" },
     [OPTION_EXIT_LIVE] = { "exit-live", 0, "", "end with 32 where a live finding is there" },
     [OPTION_PATCH] = { "patch", 2, "ROW COLUMN", "the patch that has this pixel" },
     [OPTION_NOTE] = { "note", 1, "TEXT", "why" },

@@ -6,21 +6,14 @@
 #include <stdlib.h>
 #include <string.h>
 
-/* Colours for classes without one: well apart for the first classes, and then around the circle. */
-static uint32_t own_colour(uint32_t class) {
-    static const uint32_t first[] = { 0xcfe3b4, 0xb9b0a2, 0x5b4a42, 0x6ea6d9, 0x3f7d3a, 0xe6d28a, 0xd98c5f, 0x9a7fb8 };
-    if (class < sizeof first / sizeof *first) return first[class];
-    uint32_t step = class * 47 % 96, rise = step % 16 * 8;
-    static const uint32_t corners[6][2] = { { 0xe06060, 0xe0e060 }, { 0xe0e060, 0x60e060 }, { 0x60e060, 0x60e0e0 },
-                                            { 0x60e0e0, 0x6060e0 }, { 0x6060e0, 0xe060e0 }, { 0xe060e0, 0xe06060 } };
-    const uint32_t *side = corners[step / 16];
-    uint32_t colour = 0;
-    for (int shift = 0; shift <= 16; shift += 8) {
-        uint32_t from = side[0] >> shift & 255, to = side[1] >> shift & 255;
-        colour |= ((from * (128 - rise) + to * rise) / 128) << shift;
-    }
-    return colour;
-}
+/* Colours for classes without one, told apart also by who sees no red or no green, the earlier the better:
+ * tools/choose-colours chose them and says how. */
+static const uint32_t own_colours[HLQ_MOST_SLOTS] = {
+    0xc9ffaa, 0xbc9c9e, 0x5b5060, 0x8dc6fa, 0x57713a, 0xffee42, 0xcd9332, 0x8059ca,
+    0x0000ff, 0x5c1773, 0x4500a2, 0x8bb973, 0x175cff, 0x5c73a2, 0xe7e773, 0xe7d0b9,
+    0x2e452e, 0x8ba2ff, 0xd0d0e7, 0xd0b900, 0x5c735c, 0x5ca2b9, 0x2e17d0, 0x458bff,
+    0xa28b45, 0x8b738b, 0x730000, 0x5c4573, 0xb9d073, 0x5c2ea2, 0xa273d0, 0x73a273,
+};
 
 static int is_colour(const char *text) {
     return strlen(text) == 7 && *text == '#' && strspn(text + 1, "0123456789abcdefABCDEF") == 6;
@@ -59,7 +52,7 @@ static void take_class(class_names *c, sqlite3_stmt *row, const char *path) {
 class_names read_classes(line *l) {
     class_names c = { .slots = l->slots };
     memset(c.of_grey, NO_CLASS, sizeof c.of_grey);
-    for (uint32_t f = 0; f < HLQ_MOST_SLOTS; f++) c.colours[f] = own_colour(f), c.names[f] = text_of("class %u", f);
+    for (uint32_t f = 0; f < HLQ_MOST_SLOTS; f++) c.colours[f] = own_colours[f], c.names[f] = text_of("class %u", f);
     sqlite3_stmt *row = ask_sql(l, "SELECT class, name, colour, grey, price FROM classes", "");
     while (next_row(l, row)) take_class(&c, row, l->path);
     return c;

@@ -19,6 +19,13 @@ void run_select(const arguments *a);
 void run_areas(const arguments *a);
 void run_batch(const arguments *a);
 
+void run_findings(const arguments *a);
+void run_waive(const arguments *a);
+void run_unwaive(const arguments *a);
+void run_publish(const arguments *a);
+void run_page(const arguments *a);
+void run_adopt(const arguments *a);
+
 void run_paint(const arguments *a);
 void run_undo(const arguments *a);
 void run_redo(const arguments *a);

@@ -19,4 +19,16 @@ hlq_refusal add_waiver(line *l, uint32_t office, uint32_t rule, block b, const c
                        const char *at);
 hlq_refusal remove_waiver(line *l, uint32_t office, uint32_t rule, block b);
 
+/* Waivers that go in together. */
+typedef struct {
+    uint32_t office, rule;
+    block b;
+    const char *note, *by, *at;
+    const char *where; /* for messages; NULL where it is plain */
+} waiver;
+
+/* Adds those that are not there yet, and gives their number; or ends, with nothing added, where an office would have more
+ * than 256 rows on a sheet, or has no such rule. */
+uint64_t add_waivers(line *l, const waiver *rows, size_t count);
+
 #endif

@@ -60,6 +60,9 @@ void add_block(block_list *list, block b);
 /* The largest blocks of a class that lie in a window, sheet by sheet in reading order, by key on each (queries.c). */
 block_list select_blocks(line *l, window w, uint32_t class);
 
+/* The pixels of each class in a window, more than are there already (areas.c). */
+void measure_areas(line *l, window w, uint64_t pixels[HLQ_MOST_SLOTS]);
+
 /* A block as people write it: i.j:KEY, and on a line of one sheet the key alone. */
 enum { KEY_TEXT = 16, BLOCK_TEXT = 40 };
 void block_text(const line *l, block b, char text[BLOCK_TEXT]);
