@@ -10,3 +10,4 @@ pub mod Tables
 pub mod Answers
 pub mod WindowLaws
 pub mod LeafBlocks
+pub mod PassedLeaf

@@ -15,6 +15,7 @@ use Rattle.walk.proofs.Steps.{Parent, few-keys, clear-apart, clear-first, cut-p
 use Rattle.walk.proofs.Asked.{PlaceAsked, asked-place, near-place}
 use Rattle.walk.proofs.Told.{told-place, told-holds, told-whole}
 use Rattle.walk.proofs.Going.{Going, Past, going-root, going-first, past-unasked, past-told, going-on, going-less}
+use Rattle.window.proofs.PassedLeaf.{past-leaf}
 use Rattle.window.proofs.Seen.{Unseen, unseen-none, unseen-clear, unseen-lower, unseen-block, seen-block, seen-whole, unseen-end}
 use Rattle.walk.proofs.Shows.{bits-no, bits-yes, bits-alone}
 use Rattle.window.proofs.exist.exist_in.Statement.{statement}
@@ -94,15 +95,18 @@ mul-found c = omega (arith, in-bits c, entry (head c) .good .1 .1 .0 .1)
 shared-slice-read-found : tie.Need-shared-slice-read-found Inv-loop μ-loop Inv-walk μ-walk
 shared-slice-read-found c = in-bits (c .before)
 
--- a block that lacks the feature is passed by its standing
+has-one-slot-requires : tie.Need-has-one-slot-requires Inv-loop μ-loop Inv-walk μ-walk
+has-one-slot-requires c κs = tt
+
+-- a node that lacks the feature is passed by its standing
 ask-requires : tie.Need-ask-requires Inv-loop μ-loop Inv-walk μ-walk
 ask-requires c κs =
-    let asks = c .before .before in
+    let asks = c .before .before .before .before in
     let at = head asks in
     (entry at .pre .0, stands at, entry at .pre .3, near-place (entry at .pre .3) _ _ (asks .place-from .ensures))
 
 -- from where a block has the feature and others
-abbrev looked : tie.Else3 Inv-loop μ-loop Inv-walk μ-walk → Asks
+abbrev looked : tie.Else4 Inv-loop μ-loop Inv-walk μ-walk → Asks
 looked c = c .before .before .before
 
 within-requires : tie.Need-within-requires Inv-loop μ-loop Inv-walk μ-walk
@@ -112,10 +116,10 @@ first-requires : tie.Need-first-requires Inv-loop μ-loop Inv-walk μ-walk
 first-requires c κs = let at = head (looked (c .before .before)) in few-keys (entry at .pre .0) (stands at)
 
 -- a block that is entered
-entered : (c : tie.Else4 Inv-loop μ-loop Inv-walk μ-walk) → Parent (entry (head (looked (c .before .before))) .args .m) (head (looked (c .before .before)) .loop .spot)
+entered : (c : tie.Else5 Inv-loop μ-loop Inv-walk μ-walk) → Parent (entry (head (looked (c .before .before))) .args .m) (head (looked (c .before .before)) .loop .spot)
 entered c =
     let asks = looked (c .before .before) in
-    cut-parent _ (stands (head asks)) (sym (c .before .within .ensures) ∙ c .if4 .left) (meets asks)
+    cut-parent _ (stands (head asks)) (sym (c .before .within .ensures) ∙ c .if5 .left) (meets asks)
 
 loop-less : tie.Need-loop-less Inv-loop μ-loop Inv-walk μ-walk
 loop-less c = rw (c .first .ensures) (first-less (stands (head (looked (c .before .before .before)))))
@@ -139,7 +143,8 @@ past : (c : Ended)
 past c =
     let at = c .before .before in
     ⊎-elim (λ w. rw (w .1, w .2) (past-unasked (at .loop .inv .0)))
-    (λ w. rw (w .6, w .7) (past-told (entry at .pre .0) (entry at .pre .3) (at .loop .inv .0) (w .4 .ensures)))
+    (⊎-elim (λ w. rw (w .6, w .7) (past-leaf (at .loop .inv .0) _ (near-place (entry at .pre .3) _ _ (w .1 .ensures))))
+    (λ w. rw (w .8, w .9) (past-told (entry at .pre .0) (entry at .pre .3) (at .loop .inv .0) (w .6 .ensures))))
     (c .if1 .came)
 
 -- it holds no pixel of the window with the feature
@@ -152,11 +157,15 @@ passed c =
     let unseen = at .loop .inv .1 in
     let bit = at .before .before .before .power-of-two .ensures in
     ⊎-elim (λ w. rw (w .1) (unseen-clear _ _ _ _ _ _ unseen (clear-apart _ good (stands at) (sym (c .before .apart .ensures) ∙ w .0 .taken))))
+    (⊎-elim
     (λ w.
-    let told = w .4 .ensures in
+    let none = bits-no _ (stands at) _ _ bit _ (asked-place own (stands at .block) _ (w .1 .ensures) .value) (w .3 .taken) in
+    rw (w .6) (unseen-block _ _ _ _ good (stands at) none unseen))
+    (λ w.
+    let told = w .6 .ensures in
     let place = told-place low own (stands at) told ∙ sym (w .1 .ensures) in
     let none = bits-no _ (told .whole) _ _ bit _ (ap (λ i. getD (entry at .args .bits .now) i 0) (sym place) ∙ told-whole low own (stands at) told) (w .3 .taken) in
-    rw (w .6) (unseen-block _ _ _ _ good (told .whole) none (unseen-lower _ _ _ _ _ _ (told-holds low own (stands at) told .0) unseen)))
+    rw (w .8) (unseen-block _ _ _ _ good (told .whole) none (unseen-lower _ _ _ _ _ _ (told-holds low own (stands at) told .0) unseen))))
     (c .if1 .came)
 
 after-requires : tie.Need-after-requires Inv-loop μ-loop Inv-walk μ-walk
@@ -192,7 +201,7 @@ returns c =
     let asks = c .before .before .before in
     let at = head asks in
     let bit = at .before .before .before .power-of-two .ensures in
-    let whole = bits-alone _ (stands at) _ _ bit _ (found asks .value) (c .if3 .taken) in
+    let whole = bits-alone _ (stands at) _ _ bit _ (found asks .value) (c .if4 .taken) in
     sym (seen-whole _ _ _ _ (entry at .pre .1) (stands at) (meets asks) whole)
 
 returns-2 : tie.Need-returns-2 Inv-loop μ-loop Inv-walk μ-walk
@@ -202,7 +211,7 @@ returns-2 c =
     let bit = at .before .before .before .power-of-two .ensures in
     let some = c .before .before .before .if2 .left in
     let shows = bits-yes _ (stands at) _ _ bit _ (found asks .value) some in
-    sym (seen-block _ _ _ _ (stands at) (sym (c .before .within .ensures) ∙ c .if4 .taken) shows)
+    sym (seen-block _ _ _ _ (stands at) (sym (c .before .within .ensures) ∙ c .if5 .taken) shows)
 
 returns-3 : tie.Need-returns-3 Inv-loop μ-loop Inv-walk μ-walk
 returns-3 c = sym (unseen-end _ _ _ _ _ (follows-gone _ _ _ (c .before .before .after .ensures) (c .enum-told .given .1)) (passed (c .before .before .before)))
@@ -223,6 +232,7 @@ exist-in-spec =
     place-from-requires
     mul-found
     shared-slice-read-found
+    has-one-slot-requires
     ask-requires
     within-requires
     first-requires

@@ -15,6 +15,7 @@ use Rattle.walk.proofs.Steps.{Parent, few-keys, clear-apart, clear-first, cut-p
 use Rattle.walk.proofs.Asked.{asked-place, near-place}
 use Rattle.walk.proofs.Told.{told-place, told-holds, told-whole}
 use Rattle.walk.proofs.Going.{Going, Past, going-root, going-first, past-unasked, past-told, going-on, going-less}
+use Rattle.window.proofs.PassedLeaf.{past-leaf}
 use Rattle.window.proofs.Gathered.{Gathered, gathered-none, gathered-clear, gathered-settled, not-settled, gathered-end}
 use Rattle.window.proofs.report.report_in.Statement.{statement}
 use Rattle.window.proofs.report.report_in.Tie as tie
@@ -87,10 +88,13 @@ shared-slice-read-found c = in-bits (c .before)
 is-settled-requires : tie.Need-is-settled-requires Inv-loop2 μ-loop2 Inv-loop μ-loop
 is-settled-requires c κs = let at = head (c .before) in small _ _ _ (entry at .pre .0) (entry at .pre .1) (stands at)
 
--- a block that its bits settle is passed by its standing
+has-one-slot-requires : tie.Need-has-one-slot-requires Inv-loop2 μ-loop2 Inv-loop μ-loop
+has-one-slot-requires c κs = tt
+
+-- a node that its bits settle is passed by its standing
 ask-requires : tie.Need-ask-requires Inv-loop2 μ-loop2 Inv-loop μ-loop
 ask-requires c κs =
-    let asks = c .before .before .before in
+    let asks = c .before .before .before .before .before in
     let at = head asks in
     (entry at .pre .0, stands at, entry at .pre .2, near-place (entry at .pre .2) _ _ (asks .place-from .ensures))
 
@@ -129,7 +133,8 @@ past : (c : Ended)
 past c =
     let at = c .before .before in
     ⊎-elim (λ w. rw (w .2, w .3) (past-unasked (at .loop2 .inv .0)))
-    (λ w. rw (w .8, w .9) (past-told (entry at .pre .0) (entry at .pre .2) (at .loop2 .inv .0) (w .5 .ensures)))
+    (⊎-elim (λ w. rw (w .8, w .9) (past-leaf (at .loop2 .inv .0) _ (near-place (entry at .pre .2) _ _ (w .1 .ensures))))
+    (λ w. rw (w .10, w .11) (past-told (entry at .pre .0) (entry at .pre .2) (at .loop2 .inv .0) (w .7 .ensures))))
     (c .if1 .came)
 
 -- the union has what it adds
@@ -142,13 +147,18 @@ passed c =
     let g = at .loop2 .inv .1 in
     let apart = c .before .apart .ensures in
     ⊎-elim (λ w. rw (w .1, w .2) (gathered-clear _ _ _ _ _ _ g (clear-apart _ good (stands at) (sym apart ∙ w .0 .taken))))
+    (⊎-elim
     (λ w.
-    let told = w .5 .ensures in
+    let value = asked-place own (stands at .block) _ (w .1 .ensures) .value in
+    rw (w .7, w .8)
+    (gathered-settled _ _ _ good (stands at) (stands at) (omega arith) _ _ value value g (sym apart ∙ w .0 .left) (sym (w .3 .ensures) ∙ w .4 .taken)))
+    (λ w.
+    let told = w .7 .ensures in
     let place = told-place low own (stands at) told ∙ sym (w .1 .ensures) in
     let all = ap (λ i. getD (entry at .args .bits .now) i 0) (sym place) ∙ told-whole low own (stands at) told in
-    rw (w .7, w .8)
+    rw (w .9, w .10)
     (gathered-settled _ _ _ good (stands at) (told .whole) (told-holds low own (stands at) told .0) _ _ (asked-place own (stands at .block) _ (w .1 .ensures) .value)
-    all g (sym apart ∙ w .0 .left) (sym (w .3 .ensures) ∙ w .4 .taken)))
+    all g (sym apart ∙ w .0 .left) (sym (w .3 .ensures) ∙ w .4 .taken))))
     (c .if1 .came)
 
 after-requires : tie.Need-after-requires Inv-loop2 μ-loop2 Inv-loop μ-loop
@@ -198,6 +208,7 @@ report-in-spec =
     mul-found
     shared-slice-read-found
     is-settled-requires
+    has-one-slot-requires
     ask-requires
     first-requires
     loop2-less
