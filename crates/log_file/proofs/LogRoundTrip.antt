@@ -25,7 +25,8 @@ use Rattle.laws.proofs.FileBytes.{Bytes}
 use Rattle.laws.proofs.FileBack.{length-read}
 use Rattle.laws.proofs.Records.{paired-back, records-length, records-first, records-over}
 use Rattle.list.proofs.Tests.{good-settings}
-use Rattle.file.proofs.SliceRecords.{past-over, over-room}
+use Rattle.laws.proofs.Buffer.{past-over}
+use Rattle.file.proofs.SliceRecords.{over-room}
 use Rattle.log.proofs.Parts.{WholeLog, whole-log}
 use Rattle.log_file.proofs.LogAccepted.{store-accepted, store-accepts, store-count, store-leaves, load-accepted, load-accepts, load-gives, load-leaves}
 use Rattle.log_file.proofs.LogFileOf.{Words, words-fit, read-m, read-s, read-used, read-in-force, written-mark, written-version, length-file, written-length, written-not-short, read-records, file-back}
