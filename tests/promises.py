@@ -63,7 +63,7 @@ def called(function, words):
     """The functions that a path of words can mean in the text of a function."""
     functions, short = code()
     words = short[function.file].get(words[0], words[:1]) + words[1:]
-    crate = function.crate if words[0] in ("crate", "self", "super") else words[0]
+    crate = words[0] if words[0] in crates() else function.crate  # else a module or a type of its own crate
     place = words[-2] if len(words) > 1 else None
     for other in functions:
         if other.name != words[-1]:
@@ -72,7 +72,7 @@ def called(function, words):
             if other.file == function.file and not other.type:
                 yield other
         elif place in (other.type, other.file.stem) or (place == other.crate and other.file.stem in ("lib", "main")):
-            if crate not in crates() or crate == other.crate:
+            if crate == other.crate:
                 yield other
 
 
