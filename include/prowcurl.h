@@ -192,8 +192,8 @@ typedef struct {
     uint32_t height, width, feature;
 } hlq_question;
 
-/* INTERFACE. The HLQ_INTERFACE of the library that the program runs with: another number than that
- * of the header that it was compiled with tells of another library.
+/* INTERFACE. The HLQ_INTERFACE of the library that the program runs with. Where the header's own is
+ * another number, the program was compiled for another library.
  * Refusals: none. */
 uint32_t hlq_interface(void);
 
@@ -322,12 +322,13 @@ hlq_measured hlq_area_clipped(uint32_t m, uint32_t s,
                               int32_t row, int32_t column, uint32_t height, uint32_t width,
                               uint32_t feature);
 
-/* BATCH. Many questions of one list, which is checked once. A question whose report is 0 asks what
- * hlq_exist_clipped asks, any other number what hlq_report_clipped asks, which looks at no feature.
- * At each question's place refusals has the number that the single call gives (HLQ_ACCEPTED,
- * HLQ_WINDOW or HLQ_FEATURE), and values its yes or its bits, which is 0 where it is refused; a bad
- * question stops no other. Places past the questions stay. count is the number of questions; with
- * HLQ_ANSWER_ROOM, where either slice is shorter than the questions, it is the places needed.
+/* BATCH. Many questions of one list, which is checked once. A question whose field report is 0 asks
+ * as hlq_exist_clipped does. With any other number there it asks as hlq_report_clipped does, and
+ * its feature is not looked at. At each question's place refusals has the number that the single
+ * call gives (HLQ_ACCEPTED, HLQ_WINDOW or HLQ_FEATURE), and values its yes or its bits, or 0 where
+ * it is refused. A bad question stops no other. Places past the questions stay. count is the number
+ * of questions; with HLQ_ANSWER_ROOM, where either slice is shorter than the questions, it is the
+ * number of places needed.
  * Refusals: HLQ_SETTINGS, HLQ_LIST, HLQ_ANSWER_ROOM, in this order. */
 hlq_counted hlq_batch(uint32_t m, uint32_t s,
                       const uint32_t *keys, size_t keys_len, const uint32_t *bits, size_t bits_len,
@@ -349,11 +350,11 @@ hlq_edited hlq_paint(uint32_t m, uint32_t s,
                      uint32_t *log_values, size_t log_values_len, size_t used, size_t in_force,
                      uint32_t key, uint32_t feature);
 
-/* PAINT WINDOW. Every pixel of the window gets the feature, as one step: taking back and redo are
- * of the whole of it. List, summary and log change as in hlq_paint, save that what stands from
+/* PAINT WINDOW. Every pixel of the window gets the feature, as one step, which hlq_take_back and
+ * hlq_redo take whole. List, summary and log change as in hlq_paint, save that what stands from
  * place in_force on is a group: an entry for each of the window's largest blocks, in ascending key
- * order. These are the blocks that lie in it, and are the whole map or have a parent that does not.
- * A window that is one block gives a group of one. HLQ_LOG_ROOM counts the whole group, and
+ * order. A largest block lies in the window, and its parent does not; or it is the whole map. A
+ * window that is one block gives a group of one. HLQ_LOG_ROOM counts the whole group, and
  * HLQ_LIST_ROOM is about the list in the end: no stage on the way needs more room.
  * Refusals: HLQ_SETTINGS, HLQ_LIST, HLQ_SUMMARY, HLQ_LOG, HLQ_WINDOW, HLQ_FEATURE, HLQ_LOG_ROOM,
  * HLQ_LIST_ROOM, in this order, all on the end result, before the first write. */
@@ -465,7 +466,8 @@ hlq_counted hlq_store_log(uint32_t m, uint32_t s,
                           size_t used, size_t in_force, uint8_t *file, size_t file_len);
 
 /* LOAD LOG. The log of a file in places 0 to used - 1 of log_keys and log_values; all other places
- * stay. It is a log at the m and s that are given back; that it is your list's is for you to know.
+ * stay. It is a log at the m and s that are given back. Whether it is your list's log, the call
+ * cannot know.
  * Refusals: HLQ_FILE_LENGTH (under 23 bytes), HLQ_FILE_MARK, HLQ_FILE_VERSION, HLQ_SETTINGS,
  * HLQ_FILE_LENGTH (for the number of records that it names), HLQ_LOG (the file's own records and
  * counts, at its own m and s), HLQ_LOG_ROOM, in this order. */

@@ -4,7 +4,8 @@
   tests/promises.py               every call has one row, and every row's call is one of the header's; every edit is
                                   named, and every edit that is named there or in docs/DEMANDS.md is there; an edit that
                                   a row names changes what that row is about; and an edit can be applied: a comment says
-                                  what is wrong, and each text that it replaces stands once in a file of src/ or specs/
+                                  what is wrong, each text that it replaces stands once in a file of src/ or specs/, and
+                                  each is one line, since rt passes over what follows
   tests/promises.py --self-test   breaks each of these in many ways, one at a time; each must be found
 
 What a row is about: the functions that it names in its first two columns, or for a call of C the exported function,
@@ -62,7 +63,7 @@ def called(function, words):
     """The functions that a path of words can mean in the text of a function."""
     functions, short = code()
     words = short[function.file].get(words[0], words[:1]) + words[1:]
-    crate = function.crate if words[0] in ("crate", "self", "super") else words[0]
+    crate = words[0] if words[0] in crates() else function.crate  # else a module or a type of its own crate
     place = words[-2] if len(words) > 1 else None
     for other in functions:
         if other.name != words[-1]:
@@ -71,7 +72,7 @@ def called(function, words):
             if other.file == function.file and not other.type:
                 yield other
         elif place in (other.type, other.file.stem) or (place == other.crate and other.file.stem in ("lib", "main")):
-            if crate not in crates() or crate == other.crate:
+            if crate == other.crate:
                 yield other
 
 
@@ -196,6 +197,8 @@ def read_edit(text, crate):
                 return Edit(file, first, f"the text stands {text.count(old)} times in {file.name}: {old}")
         elif line.startswith("new:"):
             text = text.replace(old, rest)
+        elif line and not line.startswith("#"):
+            return Edit(file, first or "", f"rt would pass over the line: {line}")
     if not first:
         return Edit(file, "", "it replaces nothing")
     return Edit(file, first, "")
@@ -275,6 +278,7 @@ def self_test():
     changes.append(("the demands name an edit that is gone", text, demanded + ["no_such_edit"], declared, edits))
     for bad in ("file: src/lib.rt\nold: if digit == 0 {\nnew: if digit == 1 {", "# nothing\nfile: src/lib.rt",
                 "# often\nfile: src/lib.rt\nold: step\nnew: stop", "# never\nfile: src/lib.rt\nold: stop\nnew: step",
+                "# two lines\nfile: src/lib.rt\nold: if digit == 0 {\n        return level;\nnew: if digit == 1 {",
                 "# no file\nfile: src/none.rt\nold: a\nnew: b", "# a proof\nfile: proofs/Lib.antt\nold: a\nnew: b"):
         edit = read_edit(bad, CRATES / "keys")
         changes.append((f"an edit that says {bad!r}", text, demanded, declared, {**edits, "five_digits_valid": edit}))

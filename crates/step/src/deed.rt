@@ -1,5 +1,5 @@
-// A step as the passes are told it, and what it makes of a block. The log goes with it, since a deed that takes entries back, or paints them again, names
-// them by their places there; the window's does not look at it.
+// A step as the passes are told it, and what it makes of a block. A deed that takes entries back, or paints them again, names them by their places in the
+// log; so every function here is given the log too. A deed that fills a window does not read it.
 ghost use Prim.Native.Nat.{_+_, _^_, _≤_};
 ghost use Rattle.step.specs.Deed.{Doable, stepOf, Narrowed};
 ghost use Rattle.step.specs.Meeting.{BlockAsked, Met};
