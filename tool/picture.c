@@ -6,7 +6,7 @@
 #include <math.h>
 #include <stdlib.h>
 
-enum { USUAL_SIDE = 1200, MOST_POINTS = 16384, MARGIN = 12, LEAST_WIDTH = 520, SWATCH = 18 };
+enum { USUAL_SIDE = 1600, MOST_POINTS = 16384, MARGIN = 12, LEAST_WIDTH = 520, SWATCH = 18 };
 
 /* Where the survey lies on the picture: a pixel has `zoom` points a side, or a point stands for `step` pixels a side. */
 typedef struct {

@@ -20,7 +20,7 @@ static asked read_asked(line *l, const arguments *a) {
     while (q.rule < q.rules.count && q.rules.at[q.rule].id != q.id) q.rule++;
     if (q.rule == q.rules.count)
         fail(HLQ_WAIVERS, "office %u has no rule %u; 'prowcurl get %s rules' lists them: refused, %d: %s", q.office,
-             q.id, l->path, HLQ_WAIVERS, hlq_refusal_text(HLQ_WAIVERS));
+             q.id, l->path, HLQ_WAIVERS, refusal_words(HLQ_WAIVERS));
     return q;
 }
 

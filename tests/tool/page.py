@@ -11,6 +11,7 @@ from findings import RULES, make_line, ragged, rules_csv
 from support import Tool, fail, must, pgm, work_folder
 
 ROOT = os.path.abspath(os.path.join(os.path.dirname(__file__), "..", ".."))
+LINE = os.path.join(ROOT, "examples", "line")
 
 # What a reader does, as a script at the end of a copy of the page; it leaves what it saw in the document.
 READER = """
@@ -206,6 +207,39 @@ def test_picture(tool):
     tool("findings", "two.gpkg", "--picture", "r.csv", status=73, says="is not a PNG")
 
 
+def test_walk(tool):
+    """The five commands of the README, as they stand there, on a GeoTIFF; and its picture is the sample line's."""
+    with open(os.path.join(ROOT, "README.md")) as file:
+        text = file.read().split("Five commands", 1)[1]
+    commands = re.search(r"\n\n((?:    .*\n)+)", text).group(1)
+    must(len(commands.splitlines()) == 5, "five commands")
+    folder = tool.path("walk")
+    os.mkdir(folder)
+    tool.write("walk/prowcurl", "#!/bin/sh\nexec " + " ".join(tool.program) + ' "$@"\n')
+    os.chmod(tool.path("walk/prowcurl"), 0o755)
+    subprocess.run([os.path.join(LINE, "make-survey"), "own.asc", "5"], cwd=folder, check=True)
+    subprocess.run("gdal_translate -q -a_srs EPSG:25832 -ot Byte own.asc own.tif".split(), cwd=folder, check=True)
+    env = dict(tool.env, PATH=folder + ":" + os.environ["PATH"])
+    done = subprocess.run(["bash", "-eu", "-c", commands], cwd=folder, env=env, capture_output=True)
+    must(done.returncode == 0 and not done.stderr, f"the five commands: {done}")
+    seen = read_page(tool, "walk/own.html")
+    check_reader(seen, tool.json("findings", "walk/own.gpkg", "--all"))
+    must(seen["rules"] == ["no scrub here"] and len(seen["all"]) > 3, "the walk finds something")
+
+
+def test_sample(tool):
+    """The picture in docs/ is what the tool draws of the sample line."""
+    subprocess.run([os.path.join(LINE, "make-survey"), tool.path("survey.asc")], check=True)
+    tool("init", "sample.gpkg", "--classes", os.path.join(LINE, "classes.csv"), "--side", 256)
+    tool("add", "sample.gpkg", "survey.asc")
+    for office in (0, 1):
+        tool("set", "sample.gpkg", "rules", os.path.join(LINE, "rules.csv"), "--office", office)
+    tool("set", "sample.gpkg", "waivers", os.path.join(LINE, "waivers.csv"))
+    tool("findings", "sample.gpkg", "--picture", "sample.png")
+    tool.write("docs.png", open(os.path.join(ROOT, "docs", "line.png"), "rb").read())
+    must(points_of(tool, "docs.png") == points_of(tool, "sample.png"), "docs/line.png is not what the tool draws")
+
+
 def main():
     for program, package in (("chromium", "chromium"), ("pdftotext", "poppler-utils"), ("pngtopnm", "netpbm")):
         subprocess.run([os.path.join(ROOT, "tools", "need"), program, package], check=True)
@@ -216,6 +250,8 @@ def main():
         test_print(tool, name)
         test_sheets(tool)
         test_picture(tool)
+        test_walk(tool)
+        test_sample(tool)
         print("the page in a browser, on paper and on a phone; the picture: as expected")
 
 
