@@ -1,5 +1,6 @@
-/* adopt: waivers that the former checker kept by the place of a record become waivers by block. With the list of that day
- * a place names a block; in today's list another block may stand there, and then the former checker's waiver has slid. */
+/* adopt: waivers that the former checker kept by the place of a record become waivers by block. With the list of that
+ * day a place names a block; in today's list another block may stand there, and then the former checker's waiver has
+ * slid. */
 #include "answer.h"
 #include "classes.h"
 #include "commands.h"
@@ -62,7 +63,8 @@ static two_days read_days(line *l, const arguments *a) {
 /* The square of a record in the survey's rows and columns. */
 static square square_of_record(const two_days *d, uint32_t key) {
     hlq_block at = hlq_block_of(d->m, key);
-    return (square){ (uint32_t)at.row + d->row, (uint32_t)at.column + d->column, (uint32_t)at.side, (uint32_t)at.level };
+    return (square){ (uint32_t)at.row + d->row, (uint32_t)at.column + d->column, (uint32_t)at.side,
+                     (uint32_t)at.level };
 }
 
 /* The blocks of the line that make up a square: one, or every sheet in it where it is larger than these. */
@@ -177,7 +179,8 @@ void run_adopt(const arguments *a) {
     char *who = editor_of(a), *when = now_text();
     waiver_list w = waivers_of(&l, a, &d, &file, who, when);
     uint64_t added = add_waivers(&l, w.at, w.count), slid = 0;
-    for (size_t row = 0; row < file.rows; row++) slid += (uint64_t)has_slid(&d, kept_at(&d, &file, row, a->words[1]).place);
+    for (size_t row = 0; row < file.rows; row++)
+        slid += (uint64_t)has_slid(&d, kept_at(&d, &file, row, a->words[1]).place);
     commit_line(&l);
     answer_begin(a);
     fact_number("read", file.rows);

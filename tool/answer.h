@@ -45,8 +45,8 @@ void cell_nothing(void);
 /* Rows that only people want, as a total is: nothing as JSON. */
 int answer_is_json(void);
 
-/* A name out of a file may hold anything, and JSON may not: a byte that is no UTF-8 becomes a question mark. In memory of
- * its own; and as JSON has a text. */
+/* A name out of a file may hold anything, and JSON may not: a byte that is no UTF-8 becomes a question mark. In
+ * memory of its own; and as JSON has a text. */
 char *clean_text(const char *words);
 void write_json_text(FILE *file, const char *words);
 

@@ -112,7 +112,7 @@ static void write_answers(const arguments *a, const csv *file, const question *q
         else cell_truth(q->value != 0);
         if (q->refusal || !q->report) cell_nothing();
         else cell_classes(q->value);
-        cell_words(q->refusal ? hlq_refusal_text(q->refusal) : "");
+        cell_words(q->refusal ? refusal_words(q->refusal) : "");
     }
     table_end();
     answer_end();

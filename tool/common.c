@@ -19,10 +19,19 @@ _Noreturn void fail(int status, const char *format, ...) {
     exit(status);
 }
 
+const char *refusal_words(uint64_t refusal) {
+    switch (refusal) {
+    case HLQ_PIXEL: return "a pixel of the raster is no class";
+    case HLQ_FEATURE: return "not a class";
+    case HLQ_BIT_STRINGS: return "not two classes, or not a pair of bit strings";
+    default: return hlq_refusal_text(refusal);
+    }
+}
+
 void accept_or_end(uint64_t refusal, const char *what) {
     if (refusal == HLQ_ACCEPTED) return;
     fail((int)refusal, "%s%srefused, %d: %s", what ? what : "", what ? ": " : "", (int)refusal,
-         hlq_refusal_text(refusal));
+         refusal_words(refusal));
 }
 
 void *room_for(size_t count, size_t size) {

@@ -202,7 +202,8 @@ static void write_patch(FILE *file, const line *l, const findings *f, const clas
                         size_t place) {
     const patch *p = &f->patches[place];
     const rule *r = &f->rules.at[p->rule];
-    fprintf(file, "{\"type\": \"Feature\", \"properties\": {\"office\": %u, \"rule\": %u, \"name\": ", f->office, r->id);
+    fprintf(file, "{\"type\": \"Feature\", \"properties\": {\"office\": %u, \"rule\": %u, \"name\": ", f->office,
+            r->id);
     write_json_text(file, r->name);
     fputs(", \"class\": ", file);
     write_json_text(file, c->names[r->class]);

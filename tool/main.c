@@ -62,14 +62,14 @@ const command commands[] = {
           BIT(EXIT_LIVE) | BIT(FORCE), run_findings,
       "findings LINE [--office 0|1] [--all] [--blocks] [--save] [--geojson F] [--picture F] [--exit-live]",
       "run an office's rules: patches, and totals of each rule and of the line",
-      "A patch is what a rule finds in one piece, side by side and across sheets; live and hidden ones are apart. Hidden is\n"
-      "what the office has waived whole. --picture draws it with a legend, --geojson and --save are for GIS programs.\n"
-      "With --csv the patches are the table, with --blocks too the blocks." },
+      "A patch is what a rule finds in one piece, side by side and across sheets; live and hidden ones are apart.\n"
+      "Hidden is what the office has waived whole. --picture draws it with a legend, --geojson and --save are for\n"
+      "GIS programs. With --csv the patches are the table, with --blocks too the blocks." },
     { "waive", 2, 6, ASKS | BIT(OFFICE) | BIT(PATCH) | BIT(BOX) | BIT(STRICT) | BIT(NOTE) | BIT(BY), run_waive,
       "waive LINE RULE (BLOCK | --patch ROW COLUMN | WINDOW) --office N [--note TEXT]",
       "accept what a rule finds in a block, a patch or a window",
-      "A patch is named by any of its pixels, and its blocks are waived; of a window the largest blocks of the rule's class\n"
-      "in it. An office has up to 256 rows on a sheet: where more are needed nothing is added." },
+      "A patch is named by any of its pixels, and its blocks are waived; of a window the largest blocks of the\n"
+      "rule's class in it. An office has up to 256 rows on a sheet: where more are needed nothing is added." },
     { "unwaive", 2, 6, ASKS | BIT(OFFICE) | BIT(PATCH) | BIT(BOX) | BIT(STRICT) | BIT(BY), run_unwaive,
       "unwaive LINE RULE (BLOCK | --patch ROW COLUMN | WINDOW) --office N", "take waivers back",
       "The waiver of a block, those that meet a patch, or those that lie in a window." },
@@ -77,8 +77,8 @@ const command commands[] = {
       "The layers ground (a tile a sheet), windows and findings (of both offices) of the file itself." },
     { "page", 2, 2, ASKS | BIT(OFFICE) | BIT(FORCE), run_page, "page LINE OUT.html [--office 0|1]",
       "write a page for the foreman: pictures, patches, areas, waivers, steps",
-      "One file, which needs no network: a browser shows it, sorts and filters the patches, and prints it. - is standard\n"
-      "output." },
+      "One file, which needs no network: a browser shows it, sorts and filters the patches, and prints it. - is\n"
+      "standard output." },
     { "paint", 2, 6, IN_WINDOW | BIT(BY), run_paint, "paint LINE WINDOW CLASS | paint LINE BLOCK CLASS",
       "give a window or a block a class, as one step",
       "All sheets that it meets change together or not at all. BLOCK is i.j:KEY as 'at' and 'select' give it, and on\n"
@@ -93,10 +93,10 @@ const command commands[] = {
       "The survey stays as it is, and earlier steps can no longer be taken back or redone." },
     { "adopt", 3, 3, ASKS | BIT(SHEET) | BIT(BY), run_adopt, "adopt LINE OLD.hlq PLACES.csv [--sheet I.J]",
       "take over waivers that were kept by place",
-      "The former checker kept a waiver by the place of its record in the list: PLACES.csv has the columns office, rule and\n"
-      "place, counted from 0, and if wanted note. OLD.hlq is the map of that day, which lies at the survey's first corner or\n"
-      "at that of --sheet. Each becomes a waiver of its block, all or none. The answer names for each the block that it was\n"
-      "given for, and what stands at that place in today's list." },
+      "The former checker kept a waiver by the place of its record in the list: PLACES.csv has the columns office,\n"
+      "rule and place, counted from 0, and if wanted note. OLD.hlq is the map of that day, which lies at the\n"
+      "survey's first corner or at that of --sheet. Each becomes a waiver of its block, all or none. The answer\n"
+      "names for each the block that it was given for, and what stands at that place in today's list." },
     { "change", 4, 4, ALWAYS | BIT(AS) | BIT(TAKEN) | BIT(ELSE), run_change,
       "change LINE OLD NEW TABLE.csv [--as NAME]", "combine two surveys into a third",
       "TABLE.csv has the columns old, new and class: the class of a pixel that had the class old and has new. Pairs\n"

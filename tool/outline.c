@@ -1,7 +1,7 @@
-/* Outlines of patches from the corners of their blocks. A point where one block or three have a corner is a corner of the
- * patch. Where two that touch by their corners alone meet, the outline passes the point twice, and turns so that the
- * ground between them, not the patch, is cut there: the patch hangs together elsewhere, so each ring stays simple. The
- * corners on a row belong together by twos, those on a column too. */
+/* Outlines of patches from the corners of their blocks. A point where one block or three have a corner is a corner of
+ * the patch. Where two that touch by their corners alone meet, the outline passes the point twice, and turns so that
+ * the ground between them, not the patch, is cut there: the patch hangs together elsewhere, so each ring stays
+ * simple. The corners on a row belong together by twos, those on a column too. */
 #include "outline.h"
 
 #include <stdlib.h>

@@ -1,5 +1,5 @@
-/* page: what a foreman reads, one file of HTML that needs nothing else: pictures of the ground with the patches on them,
- * a table of the patches, areas, waivers, steps. Every name that comes out of the line is escaped. */
+/* page: what a foreman reads, one file of HTML that needs nothing else: pictures of the ground with the patches on
+ * them, a table of the patches, areas, waivers, steps. Every name that comes out of the line is escaped. */
 #include "page.h"
 
 #include "answer.h"
@@ -112,8 +112,8 @@ static void write_sums(const page *p) {
 }
 
 static void write_rules(const page *p) {
-    fputs("<section><h2>Rules</h2>\n<div class=\"scroll\"><table id=\"rules\"><thead><tr><th class=\"n\">Rule</th><th>Name"
-          "</th><th>Must not be there</th><th class=\"n\">Live patches</th><th class=\"n\">Live m&sup2;</th>"
+    fputs("<section><h2>Rules</h2>\n<div class=\"scroll\"><table id=\"rules\"><thead><tr><th class=\"n\">Rule</th>"
+          "<th>Name</th><th>Must not be there</th><th class=\"n\">Live patches</th><th class=\"n\">Live m&sup2;</th>"
           "<th class=\"n\">Price</th><th class=\"n\">Hidden m&sup2;</th></tr></thead>\n<tbody>\n", p->to);
     for (size_t k = 0; k < p->f->rules.count; k++) {
         const rule *r = &p->f->rules.at[k];
@@ -127,8 +127,8 @@ static void write_rules(const page *p) {
         fprintf(p->to, "<tr><td class=\"n\">%u</td>", r->id);
         write_between(p->to, "<td class=\"name\">", r->name, "</td>");
         write_between(p->to, "<td>", p->c->names[r->class], "</td>");
-        fprintf(p->to, "<td class=\"n\">%llu</td><td class=\"n\">%.2f</td><td class=\"n\">", (unsigned long long)patches,
-                (double)live * p->metres);
+        fprintf(p->to, "<td class=\"n\">%llu</td><td class=\"n\">%.2f</td><td class=\"n\">",
+                (unsigned long long)patches, (double)live * p->metres);
         if (p->c->priced[r->class]) fprintf(p->to, "%.2f", (double)live * p->metres * p->c->prices[r->class]);
         fprintf(p->to, "</td><td class=\"n\">%.2f</td></tr>\n", (double)hidden * p->metres);
     }
@@ -186,7 +186,8 @@ static void write_windows(const page *p, window w, double letter) {
 static void write_shape(const page *p, size_t place) {
     const outlines *o = &p->o;
     const patch *x = &p->f->patches[place];
-    fprintf(p->to, "<path class=\"patch %s\" data-patch=\"%zu\" fill-rule=\"evenodd\" d=\"", state_of(x->live), place + 1);
+    fprintf(p->to, "<path class=\"patch %s\" data-patch=\"%zu\" fill-rule=\"evenodd\" d=\"", state_of(x->live),
+            place + 1);
     for (size_t r = o->first_ring[place]; r < o->first_ring[place + 1]; r++) {
         for (size_t i = o->begins[r]; i < o->begins[r + 1]; i++)
             fprintf(p->to, "%c%u %u", i == o->begins[r] ? 'M' : 'L', o->corners[i].column, o->corners[i].row);
@@ -206,7 +207,8 @@ typedef struct {
 } text_boxes;
 
 static int is_free(const text_boxes *taken, text_box b, window w) {
-    if (b.x < w.column || b.y < w.row || b.x + b.width > w.column + w.width || b.y + b.height > w.row + w.height) return 0;
+    if (b.x < w.column || b.y < w.row || b.x + b.width > w.column + w.width || b.y + b.height > w.row + w.height)
+        return 0;
     for (size_t i = 0; i < taken->count; i++) {
         const text_box *t = &taken->at[i];
         if (b.x < t->x + t->width && t->x < b.x + b.width && b.y < t->y + t->height && t->y < b.y + b.height) return 0;
@@ -312,7 +314,8 @@ static void write_legend(const page *p) {
     fputs("<ul class=\"legend\">\n", p->to);
     write_swatch(p, "<rect class=\"live\" x=\"2\" y=\"2\" width=\"16\" height=\"16\"/>", "live patch, with its number");
     write_swatch(p, "<rect class=\"hidden\" x=\"1\" y=\"1\" width=\"18\" height=\"18\"/>", "hidden patch (waived)");
-    write_swatch(p, "<rect class=\"window\" x=\"1\" y=\"1\" width=\"18\" height=\"18\"/>", "a rule's window, with its id");
+    write_swatch(p, "<rect class=\"window\" x=\"1\" y=\"1\" width=\"18\" height=\"18\"/>",
+                 "a rule's window, with its id");
     for (uint32_t f = 0; f < p->l->slots; f++) {
         if (!(seen >> f & 1)) continue;
         char *square = text_of("<rect x=\".5\" y=\".5\" width=\"19\" height=\"19\" fill=\"#%06x\" stroke=\"#1c1c1a\"/>",
@@ -325,8 +328,9 @@ static void write_legend(const page *p) {
 
 static void write_pictures(const page *p) {
     /* the hatching is that of every picture */
-    fputs("<section id=\"pictures\">\n<svg width=\"0\" height=\"0\" style=\"position:absolute\" aria-hidden=\"true\"><defs>"
-          "<pattern id=\"hatch\" patternUnits=\"userSpaceOnUse\" width=\"3\" height=\"3\" patternTransform=\"rotate(45)\">"
+    fputs("<section id=\"pictures\">\n<svg width=\"0\" height=\"0\" style=\"position:absolute\" aria-hidden=\"true\">"
+          "<defs><pattern id=\"hatch\" patternUnits=\"userSpaceOnUse\" width=\"3\" height=\"3\""
+          " patternTransform=\"rotate(45)\">"
           "<rect width=\"3\" height=\"3\" fill=\"#fff\" fill-opacity=\".75\"/><rect width=\"1.1\" height=\"3\""
           " fill=\"#3a3a3a\"/></pattern></defs></svg>\n", p->to);
     write_legend(p);
@@ -390,22 +394,23 @@ static void write_table(const page *p) {
                                             { "n wide", "Column" }, { "n", "X" }, { "n", "Y" } };
     fputs("<section><h2>Patches</h2>\n", p->to);
     write_filters(p);
-    fputs("<p><b id=\"shown\"></b> <span class=\"soft hint\">A click on a row shows the patch on the picture, a click on the"
-          " picture its row.</span></p>\n<div class=\"scroll\"><table id=\"patches\"><thead><tr>", p->to);
+    fputs("<p><b id=\"shown\"></b> <span class=\"soft hint\">A click on a row shows the patch on the picture, a click"
+          " on the picture its row.</span></p>\n<div class=\"scroll\"><table id=\"patches\"><thead><tr>", p->to);
     for (size_t i = 0; i < sizeof heads / sizeof *heads; i++)
         fprintf(p->to, "<th class=\"%s\"><button type=\"button\">%s</button></th>", heads[i][0], heads[i][1]);
     fputs("</tr></thead>\n<tbody>\n", p->to);
     for (size_t i = 0; i < p->f->patch_count; i++) write_patch_row(p, i);
-    fputs("</tbody></table></div>\n<p class=\"soft\">X and Y are the middle of the patch in the line's coordinates; row and"
-          " column its first pixel.</p></section>\n", p->to);
+    fputs("</tbody></table></div>\n<p class=\"soft\">X and Y are the middle of the patch in the line's coordinates; row"
+          " and column its first pixel.</p></section>\n", p->to);
 }
 
 static void write_areas(const page *p) {
     uint64_t pixels[HLQ_MOST_SLOTS] = { 0 }, total = 0;
     double money = 0;
     measure_areas(p->l, whole_survey(p->l), pixels);
-    fputs("<section><h2>Areas of the whole survey</h2>\n<div class=\"scroll\"><table id=\"areas\"><thead><tr><th>Class</th>"
-          "<th class=\"n\">m&sup2;</th><th class=\"n\">Price of a m&sup2;</th><th class=\"n\">Price</th></tr></thead>\n"
+    fputs("<section><h2>Areas of the whole survey</h2>\n<div class=\"scroll\"><table id=\"areas\"><thead><tr>"
+          "<th>Class</th><th class=\"n\">m&sup2;</th><th class=\"n\">Price of a m&sup2;</th>"
+          "<th class=\"n\">Price</th></tr></thead>\n"
           "<tbody>\n", p->to);
     for (uint32_t f = 0; f < p->l->slots; f++) {
         double metres = (double)pixels[f] * p->metres;

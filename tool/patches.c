@@ -1,6 +1,6 @@
-/* Patches out of blocks. Two blocks of a group, which is a rule and a state, hang together where an edge of the one lies
- * on an edge of the other. Edges are sorted along their lines, so one walk over both kinds of edge finds every such
- * pair; a pair joins two sets, and what is joined in the end is a patch. */
+/* Patches out of blocks. Two blocks of a group, which is a rule and a state, hang together where an edge of the one
+ * lies on an edge of the other. Edges are sorted along their lines, so one walk over both kinds of edge finds every
+ * such pair; a pair joins two sets, and what is joined in the end is a patch. */
 #include "findings.h"
 
 #include <stdlib.h>
@@ -20,8 +20,8 @@ static int by_place(const void *a, const void *b) {
     return order ? order : by_number(x->from, y->from);
 }
 
-/* The set of a block is named by one of its blocks. Paths are halved on the way, and of two names the smaller one stays,
- * which is the patch's first block in the order of the findings. */
+/* The set of a block is named by one of its blocks. Paths are halved on the way, and of two names the smaller one
+ * stays, which is the patch's first block in the order of the findings. */
 static size_t name_of(size_t *sets, size_t block) {
     while (sets[block] != block) block = sets[block] = sets[sets[block]];
     return block;

@@ -6,9 +6,9 @@
 #include <math.h>
 #include <stdlib.h>
 
-enum { USUAL_SIDE = 1200, MOST_POINTS = 16384, MARGIN = 12, LEAST_WIDTH = 520, SWATCH = 18 };
+enum { USUAL_SIDE = 1600, MOST_POINTS = 16384, MARGIN = 12, LEAST_WIDTH = 520, SWATCH = 18 };
 
-/* Where the survey lies on the picture: a pixel has `zoom` points a side, or a point stands for `step` pixels a side. */
+/* Where the survey lies on the picture: a pixel has `zoom` points a side, or a point is `step` pixels a side. */
 typedef struct {
     image i;
     uint32_t zoom, step;
@@ -41,7 +41,8 @@ static uint32_t scale_of(const arguments *a, uint32_t longest) {
     long long scale = 0;
     if (!a->given[OPTION_SCALE]) return 0;
     if (!is_number(value_of(a, OPTION_SCALE), 1, MOST_POINTS, &scale))
-        fail(STATUS_USAGE, "--scale: '%s' is not a number of points from 1 to %d", value_of(a, OPTION_SCALE), MOST_POINTS);
+        fail(STATUS_USAGE, "--scale: '%s' is not a number of points from 1 to %d", value_of(a, OPTION_SCALE),
+             MOST_POINTS);
     if ((uint64_t)scale * longest > MOST_POINTS)
         fail(STATUS_USAGE, "--scale: the picture would have more than %d points a side", MOST_POINTS);
     return (uint32_t)scale;
@@ -121,8 +122,8 @@ static void draw_windows(sketch *s, const rule_list *rules) {
     for (size_t k = 0; k < rules->count; k++) {
         const rule *r = &rules->at[k];
         int64_t x = place(s, (uint32_t)r->column), y = place(s, (uint32_t)r->row);
-        draw_frame(&s->i, x, y, past(s, (uint32_t)(r->column + r->width)) - x, past(s, (uint32_t)(r->row + r->height)) - y,
-                   s->size, INK_BLACK);
+        draw_frame(&s->i, x, y, past(s, (uint32_t)(r->column + r->width)) - x,
+                   past(s, (uint32_t)(r->row + r->height)) - y, s->size, INK_BLACK);
     }
 }
 
@@ -161,7 +162,8 @@ static void write_entry(pen *p, const char *words, int ink, int64_t full) {
     if (p->s->i.points) {
         if (ink == INK_HIDDEN) hatch(&p->s->i, p->x, p->y, side, side, size);
         else if (ink != INK_LIVE) draw_box(&p->s->i, p->x, p->y, side, side, ink);
-        draw_frame(&p->s->i, p->x, p->y, side, side, ink == INK_LIVE ? 3 * size : 1, ink == INK_LIVE ? INK_LIVE : INK_BLACK);
+        draw_frame(&p->s->i, p->x, p->y, side, side, ink == INK_LIVE ? 3 * size : 1,
+                   ink == INK_LIVE ? INK_LIVE : INK_BLACK);
         draw_text(&p->s->i, p->x + side + 6 * size, p->y + 2 * size, words, size, INK_BLACK);
     }
     p->x += width;
@@ -178,7 +180,8 @@ static void draw_scale(pen *p, const line *l) {
         draw_box(&s->i, MARGIN + length - s->size, y - 5 * s->size, s->size, 10 * s->size, INK_BLACK);
         draw_text(&s->i, MARGIN + length + 6 * s->size, y - 6 * s->size, words, s->size, INK_BLACK);
         int64_t x = MARGIN + length + text_width(words, s->size) + 30 * s->size; /* north is up */
-        for (int64_t v = 0; v < 16 * s->size; v++) draw_box(&s->i, x - v / 3, y - 10 * s->size + v, 2 * (v / 3) + 1, 1, INK_BLACK);
+        for (int64_t v = 0; v < 16 * s->size; v++)
+            draw_box(&s->i, x - v / 3, y - 10 * s->size + v, 2 * (v / 3) + 1, 1, INK_BLACK);
         draw_text(&s->i, x + 9 * s->size, y - 6 * s->size, "N", s->size, INK_BLACK);
     }
     free(words);

@@ -36,7 +36,7 @@ void accept_rule(const line *l, const rule *r, const char *where) {
     const char *wrong = wrong_with_rule(l, r);
     if (wrong)
         fail(HLQ_RULES, "%s, rule %u: %s: refused, %d: %s", where, r->id, wrong, HLQ_RULES,
-             hlq_refusal_text(HLQ_RULES));
+             refusal_words(HLQ_RULES));
 }
 
 int office_of(const arguments *a, int must) {

@@ -59,7 +59,7 @@ static void set_rule(line *l, const arguments *a, const csv *file, size_t row, c
     if (number_from_sql(l, 0, "SELECT count(*) FROM rules WHERE office = ? AND id = ?", "ii", (int64_t)r.office,
                         (int64_t)r.id))
         fail(HLQ_RULES, "%s: rule %u of office %u stands twice: refused, %d: %s", where, r.id, r.office, HLQ_RULES,
-             hlq_refusal_text(HLQ_RULES));
+             refusal_words(HLQ_RULES));
     run_sql(l, "INSERT INTO rules (office, id, name, class, \"row\", \"column\", height, width)"
                " VALUES (?, ?, ?, ?, ?, ?, ?, ?)", "iitiiiii", (int64_t)r.office, (int64_t)r.id,
             field_at(file, row, column_if_any(file, "name")), (int64_t)r.class, r.row, r.column, r.height, r.width);
@@ -129,7 +129,7 @@ static void set_waivers(line *l, const arguments *a, const csv *file) {
                        at < file->columns ? field_at(file, row, at) : when);
         if (refusal == HLQ_WAIVERS)
             fail(HLQ_WAIVERS, "%s: office %u has no rule %u: refused, %d: %s", where, office, id, HLQ_WAIVERS,
-                 hlq_refusal_text(HLQ_WAIVERS));
+                 refusal_words(HLQ_WAIVERS));
         accept_or_end(refusal, where);
         free(where);
     }

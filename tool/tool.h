@@ -25,6 +25,9 @@ _Noreturn void fail(int status, const char *format, ...) __attribute__((format(p
  * the line that is meant, and is NULL where that is plain. */
 void accept_or_end(uint64_t refusal, const char *what);
 
+/* The library's words for a refusal, but that people here say class where it says feature. */
+const char *refusal_words(uint64_t refusal);
+
 /* Memory for so many things of this size, all zero, or the end. */
 void *room_for(size_t count, size_t size);
 void *more_room_for(void *old, size_t count, size_t size);

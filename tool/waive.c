@@ -20,7 +20,7 @@ static asked read_asked(line *l, const arguments *a) {
     while (q.rule < q.rules.count && q.rules.at[q.rule].id != q.id) q.rule++;
     if (q.rule == q.rules.count)
         fail(HLQ_WAIVERS, "office %u has no rule %u; 'prowcurl get %s rules' lists them: refused, %d: %s", q.office,
-             q.id, l->path, HLQ_WAIVERS, hlq_refusal_text(HLQ_WAIVERS));
+             q.id, l->path, HLQ_WAIVERS, refusal_words(HLQ_WAIVERS));
     return q;
 }
 
@@ -47,9 +47,12 @@ static const finding *patch_asked(const line *l, const findings *f, const asked 
     return x;
 }
 
-static block_list blocks_of_patch(const findings *f, const finding *x) {
+static block_list patch_blocks(line *l, const asked *q, const arguments *a) {
     block_list blocks = { 0 };
-    for (size_t i = 0; i < f->count; i++) if (f->at[i].patch == x->patch) add_block(&blocks, f->at[i].b);
+    findings f = find_all(l, (int)q->office);
+    const finding *x = patch_asked(l, &f, q, a);
+    for (size_t i = 0; i < f.count; i++) if (f.at[i].patch == x->patch) add_block(&blocks, f.at[i].b);
+    give_back_findings(&f);
     return blocks;
 }
 
@@ -57,7 +60,8 @@ static block_list blocks_of_patch(const findings *f, const finding *x) {
  * them stays live. */
 static block_list blocks_of_window(line *l, const asked *q, window w) {
     const rule *r = &q->rules.at[q->rule];
-    uint64_t top = w.row > r->row ? w.row : (uint64_t)r->row, left = w.column > r->column ? w.column : (uint64_t)r->column;
+    uint64_t top = w.row > r->row ? w.row : (uint64_t)r->row;
+    uint64_t left = w.column > r->column ? w.column : (uint64_t)r->column;
     uint64_t bottom = w.row + w.height < r->row + r->height ? w.row + w.height : (uint64_t)(r->row + r->height);
     uint64_t right = w.column + w.width < r->column + r->width ? w.column + w.width : (uint64_t)(r->column + r->width);
     block_list blocks = { 0 };
@@ -105,15 +109,9 @@ void run_waive(const arguments *a) {
     line l = open_line(a, TO_WRITE);
     asked q = read_asked(&l, a);
     block_list blocks = { 0 };
-    if (is_patch(a)) {
-        findings f = find_all(&l, (int)q.office);
-        blocks = blocks_of_patch(&f, patch_asked(&l, &f, &q, a));
-        give_back_findings(&f);
-    } else if (is_block(a)) {
-        add_block(&blocks, block_of(&l, a->words[2], "BLOCK", STATUS_USAGE));
-    } else {
-        blocks = blocks_of_window(&l, &q, window_of(&l, a, 2));
-    }
+    if (is_patch(a)) blocks = patch_blocks(&l, &q, a);
+    else if (is_block(a)) add_block(&blocks, block_of(&l, a->words[2], "BLOCK", STATUS_USAGE));
+    else blocks = blocks_of_window(&l, &q, window_of(&l, a, 2));
     uint64_t added = add_all(&l, &q, a, &blocks);
     free(blocks.at);
     answer_rows(a, &l, &q, "added", added);
@@ -122,8 +120,8 @@ void run_waive(const arguments *a) {
 /* All waivers of the rule, as blocks. */
 static block_list waived_blocks(line *l, const asked *q) {
     block_list blocks = { 0 };
-    sqlite3_stmt *row = ask_sql(l, "SELECT sheet_row, sheet_column, key FROM waivers WHERE office = ? AND rule = ?", "ii",
-                                (int64_t)q->office, (int64_t)q->id);
+    sqlite3_stmt *row = ask_sql(l, "SELECT sheet_row, sheet_column, key FROM waivers WHERE office = ? AND rule = ?",
+                                "ii", (int64_t)q->office, (int64_t)q->id);
     while (next_row(l, row)) add_block(&blocks, (block){ u32_at(row, 0), u32_at(row, 1), u32_at(row, 2) });
     return blocks;
 }
@@ -134,9 +132,9 @@ static int meet(square a, square b) {
 }
 
 /* A patch is hidden by the waivers that meet it. */
-static int meets_patch(const line *l, const findings *f, const finding *of, block b) {
-    square q = square_of(l, b);
-    for (size_t i = 0; i < f->count; i++) if (f->at[i].patch == of->patch && meet(f->at[i].q, q)) return 1;
+static int meets_patch(const line *l, const block_list *patch, block b) {
+    for (size_t i = 0; i < patch->count; i++)
+        if (meet(square_of(l, patch->at[i]), square_of(l, b))) return 1;
     return 0;
 }
 
@@ -147,16 +145,14 @@ static int lies_in(const line *l, window w, block b) {
 }
 
 static block_list waivers_meant(line *l, const asked *q, const arguments *a) {
-    block_list all = waived_blocks(l, q), meant = { 0 };
-    findings f = { 0 };
-    const finding *of = NULL;
+    block_list all = waived_blocks(l, q), patch = { 0 }, meant = { 0 };
     window w = { 0 };
-    if (is_patch(a)) f = find_all(l, (int)q->office), of = patch_asked(l, &f, q, a);
+    if (is_patch(a)) patch = patch_blocks(l, q, a);
     else w = window_of(l, a, 2);
     for (size_t i = 0; i < all.count; i++)
-        if (is_patch(a) ? meets_patch(l, &f, of, all.at[i]) : lies_in(l, w, all.at[i])) add_block(&meant, all.at[i]);
+        if (is_patch(a) ? meets_patch(l, &patch, all.at[i]) : lies_in(l, w, all.at[i])) add_block(&meant, all.at[i]);
     if (meant.count == 0) accept_or_end(HLQ_ROW, is_patch(a) ? "--patch: it has no waiver" : "no waiver lies in it");
-    give_back_findings(&f);
+    free(patch.at);
     free(all.at);
     return meant;
 }

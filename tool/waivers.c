@@ -14,7 +14,7 @@ waiver_table *read_waivers(line *l, uint32_t i, uint32_t j) {
         hlq_refusal refusal = hlq_sheet_add_waiver(&of_line, office, &w->table, rule, key);
         if (refusal)
             fail((int)refusal, "%s, table waivers, office %u, rule %u, sheet %u.%u, key @%u: refused, %d: %s", l->path,
-                 office, rule, i, j, key, (int)refusal, hlq_refusal_text(refusal));
+                 office, rule, i, j, key, (int)refusal, refusal_words(refusal));
     }
     return w;
 }
@@ -81,7 +81,7 @@ static void must_fit(line *l, const waiver *rows, size_t count) {
             fail(HLQ_ANSWER_ROOM, "sheet %u.%u needs %llu rows of office %u, which has %lld there and may have %d;"
                                   " nothing was added: refused, %d: %s", w.b.i, w.b.j,
                  (unsigned long long)there + (next - i), w.office, (long long)there, HLQ_OFFICE_ROWS, HLQ_ANSWER_ROOM,
-                 hlq_refusal_text(HLQ_ANSWER_ROOM));
+                 refusal_words(HLQ_ANSWER_ROOM));
     }
 }
 
@@ -96,7 +96,7 @@ uint64_t add_waivers(line *l, const waiver *rows, size_t count) {
         hlq_refusal refusal = add_waiver(l, w->office, w->rule, w->b, w->note, w->by, w->at);
         if (refusal == HLQ_WAIVERS)
             fail(HLQ_WAIVERS, "%s%soffice %u has no rule %u: refused, %d: %s", w->where ? w->where : "",
-                 w->where ? ": " : "", w->office, w->rule, HLQ_WAIVERS, hlq_refusal_text(HLQ_WAIVERS));
+                 w->where ? ": " : "", w->office, w->rule, HLQ_WAIVERS, refusal_words(HLQ_WAIVERS));
         accept_or_end(refusal, w->where);
     }
     free(sorted);

@@ -27,8 +27,8 @@ typedef struct {
     const char *where; /* for messages; NULL where it is plain */
 } waiver;
 
-/* Adds those that are not there yet, and gives their number; or ends, with nothing added, where an office would have more
- * than 256 rows on a sheet, or has no such rule. */
+/* Adds those that are not there yet, and gives their number; or ends, with nothing added, where an office would have
+ * more than 256 rows on a sheet, or has no such rule. */
 uint64_t add_waivers(line *l, const waiver *rows, size_t count);
 
 #endif

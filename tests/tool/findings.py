@@ -39,11 +39,13 @@ def rules_csv(rules):
 
 
 def make_line(tool, name, ground, rules=RULES):
-    tool.write("classes.csv", "class,name,price\n" + "".join(f"{i},{n},{PRICE.get(i, '')}\n" for i, n in enumerate(NAMES)))
+    classes = "".join(f"{i},{name},{PRICE.get(i, '')}\n" for i, name in enumerate(NAMES))
+    tool.write("classes.csv", "class,name,price\n" + classes)
     tool.write("rules.csv", rules_csv(rules))
     tool.write("ground.asc", grid(ground, WEST, SOUTH, CELL))
     tool.write("ground.prj", "")
-    subprocess.run("gdal_translate -q -a_srs EPSG:25832 -ot Byte ground.asc ground.tif".split(), cwd=tool.folder, check=True)
+    subprocess.run("gdal_translate -q -a_srs EPSG:25832 -ot Byte ground.asc ground.tif".split(), cwd=tool.folder,
+                   check=True)
     tool("init", name, "--classes", "classes.csv", "--side", SIDE)
     tool("add", name, "ground.tif", "--as", "spring", "--taken", "2026-05-31")
     tool("set", name, "rules", "rules.csv")
@@ -109,7 +111,7 @@ def check_line(tool, line, ground, office=0, rules=RULES):
         must(cells == set().union(*map(block_pixels, blocks)) and len(cells) == sum(b["side"] ** 2 for b in blocks),
              f"rule {id}: its blocks are not its pixels")
         for b in blocks:
-            must(square_pixels(b["sheet"], b["key"]) == block_pixels(b) and b["class"] == NAMES[what], "a block's place")
+            must(square_pixels(b["sheet"], b["key"]) == block_pixels(b) and b["class"] == NAMES[what], "its place")
             must((b["state"] == "hidden") == (block_pixels(b) <= waived.get(id, set())), f"the state of {b}")
         states = {}
         for state in ("live", "hidden"):
@@ -136,7 +138,8 @@ def check_line(tool, line, ground, office=0, rules=RULES):
                                                  for s in ("live", "hidden")), "blocks")
     must(abs(told["total_price"] - price) < 1e-6, "the price of the line")
     live = tool.json("findings", line, "--office", office)
-    must("findings" not in live and live["patches"] == [p for p in told["patches"] if p["state"] == "live"], "live alone")
+    must("findings" not in live and live["patches"] ==
+         [p for p in told["patches"] if p["state"] == "live"], "live alone")
     return told
 
 
@@ -158,7 +161,8 @@ def test_patches(tool):
 
 def test_exit(tool, line):
     for more, status in (((), 0), (("--exit-live",), 32)):
-        done = subprocess.run(tool.program + ["findings", line, *more], cwd=tool.folder, env=tool.env, capture_output=True)
+        done = subprocess.run(tool.program + ["findings", line, *more], cwd=tool.folder, env=tool.env,
+                              capture_output=True)
         must(done.returncode == status and not done.stderr, f"findings {more}: status {done.returncode}")
     tool.write("none.csv", rules_csv([]))
     tool("init", "none.gpkg", "--side", SIDE)
@@ -191,8 +195,8 @@ def test_waivers(tool, line, ground):
     patch, other = largest[-1], [p for p in told["patches"] if p["rule"] == 20][0]
     must(patch["blocks"] > 3, "the ground has no patch of many blocks")
     for p in (patch, other):
-        done = tool.json("waive", line, p["rule"], "--patch", p["bottom"] - 1 if p["pixels"] == 1 else p["row"], p["column"],
-                         "--office", 0, "--note", 'agreed, "May"', "--by", "anna")
+        done = tool.json("waive", line, p["rule"], "--patch", p["row"], p["column"], "--office", 0,
+                         "--note", 'agreed, "May"', "--by", "anna")
         must(done["added"] == p["blocks"], f"waive --patch: {done}")
         now = check_line(tool, line, ground)
         must({**p, "state": "hidden"} in now["patches"], "the patch is hidden, whole")
@@ -220,7 +224,8 @@ def test_waivers(tool, line, ground):
               and b["column"] >= 9 and b["column"] + b["side"] <= 30]
     must(inside and all(b["state"] == "hidden" for b in inside) and
          now["hidden"] == len(inside) <= done["added"], "waive a window")
-    tool("unwaive", line, 10, "--box", WEST + 9 * CELL, NORTH - 28 * CELL, WEST + 30 * CELL, NORTH - 8 * CELL, "--office", 0)
+    box = (WEST + 9 * CELL, NORTH - 28 * CELL, WEST + 30 * CELL, NORTH - 8 * CELL)
+    tool("unwaive", line, 10, "--box", *box, "--office", 0)
     must(check_line(tool, line, ground)["patches"] == told["patches"], "a window taken back")
     # a whole block, whatever lies in it; an office of its own
     tool("waive", line, 10, "0.0:0", "--office", 0)
@@ -265,7 +270,8 @@ def areas_by_gdal(tool, file, layer):
 def same_patches(rows, told):
     must(all(row["valid"] == "1" and float(row["area"]) == float(row["square_metres"]) for row in rows),
          "GDAL has other areas, or shapes that are none")
-    ours = sorted((p["rule"], p["class"], p["state"], p["pixels"], p["square_metres"], p["west"], p["north"]) for p in told)
+    names = ("rule", "class", "state", "pixels", "square_metres", "west", "north")
+    ours = sorted(tuple(p[name] for name in names) for p in told)
     theirs = sorted((int(r["rule"]), r["class"], r["state"], int(r["pixels"]), float(r["area"]), float(r["west"]),
                      float(r["north"])) for r in rows)
     must(ours == theirs, "GDAL has other patches")
@@ -289,7 +295,8 @@ def test_layers(tool, line):
     must(made["findings"] == len(told) + len(other), "the patches of both offices")
     same_patches(areas_by_gdal(tool, line, "findings"), told)
     layers = ogr(tool, "ogrinfo", "-so", "-al", line)
-    for words in ("Layer name: windows", "Layer name: findings", "Layer name: rules", "Geometry: Multi Polygon", "25832"):
+    for words in ("Layer name: windows", "Layer name: findings", "Layer name: rules", "Geometry: Multi Polygon",
+                  "25832"):
         must(words in layers, f"ogrinfo does not say {words}")
     must("<script>" in ogr(tool, "ogrinfo", "-al", line, "windows"), "a rule's name as it is")
     ground = json.loads(ogr(tool, "gdalinfo", "-json", line))

@@ -1,6 +1,6 @@
 #!/usr/bin/env python3
-"""The page in a real browser, headless: it loads without a message, a click selects, filters leave the right rows, names
-are text, and printing gives all patches. The picture is looked at point by point: page.py PROGRAM.."""
+"""The page in a real browser, headless: it loads without a message, a click selects, filters leave the right rows,
+names are text, and printing gives all patches. The picture is looked at point by point: page.py PROGRAM.."""
 import json
 import os
 import re
@@ -11,6 +11,7 @@ from findings import RULES, make_line, ragged, rules_csv
 from support import Tool, fail, must, pgm, work_folder
 
 ROOT = os.path.abspath(os.path.join(os.path.dirname(__file__), "..", ".."))
+LINE = os.path.join(ROOT, "examples", "line")
 
 # What a reader does, as a script at the end of a copy of the page; it leaves what it saw in the document.
 READER = """
@@ -72,7 +73,8 @@ READER = """
 def browser(tool, *words):
     """Runs it; gives what it printed, and fails where the page wrote to the console."""
     done = subprocess.run(["chromium", "--headless", "--no-sandbox", "--disable-gpu", "--enable-logging=stderr",
-                           f"--user-data-dir={tool.path('profile')}", *words], cwd=tool.folder, capture_output=True, timeout=120)
+                           f"--user-data-dir={tool.path('profile')}", *words], cwd=tool.folder, capture_output=True,
+                          timeout=120)
     said = [line for line in done.stderr.decode(errors="replace").splitlines() if "CONSOLE" in line]
     must(done.returncode == 0 and not said, f"the browser: {done.returncode}, {said}")
     return done.stdout.decode()
@@ -84,7 +86,8 @@ def read_page(tool, page, size="1400,1000"):
     must(content.lower().startswith("<!doctype html") and "http" not in content.replace("http-equiv", ""),
          "the page names something elsewhere")
     tool.write("read.html", content.replace("</body>", READER + "</body>"))
-    dom = browser(tool, f"--window-size={size}", "--virtual-time-budget=3000", "--dump-dom", f"file://{tool.path('read.html')}")
+    dom = browser(tool, f"--window-size={size}", "--virtual-time-budget=3000", "--dump-dom",
+                  f"file://{tool.path('read.html')}")
     found = re.search(r'<pre id="seen">(.*?)</pre>', dom, re.S)
     must(found, "the page's script did not end")
     text = found.group(1)
@@ -105,7 +108,8 @@ def check_reader(seen, told):
         column = {"rule": 1, "class": 2, "state": 3}[name]
         must(rows == [p for p in patches if p[column] == value], f"filter {choice}")
     must({c.split("=")[0] for c in seen["filtered"]} == {"rule", "class", "state"}, "three filters")
-    must(seen["filtered_shapes"] == seen["filtered_rows"] and seen["restored"] == len(patches), "shapes follow the filter")
+    must(seen["filtered_shapes"] == seen["filtered_rows"] and seen["restored"] == len(patches),
+         "shapes follow the filter")
     must(seen["up"] == sorted(seen["up"]) and seen["down"] == sorted(seen["up"], reverse=True), "sorting")
     must(seen["elsewhere"] == 0 and not seen["overflow"], "something from elsewhere, or wider than the window")
 
@@ -125,11 +129,13 @@ def test_reader(tool):
     seen = read_page(tool, "page.html")
     check_reader(seen, told)
     check_reader(read_page(tool, "page.html", "390,844"), told)
-    must(seen["rules"] == [r[7] for r in RULES if r[0] == 1] and "<script>" in seen["rules"][0], "a rule's name is text")
+    must(seen["rules"] == [r[7] for r in RULES if r[0] == 1] and "<script>" in seen["rules"][0],
+         "a rule's name is text")
     must(seen["title"] == seen["heading"] == name[:-5], "the line's name is text")
     must(set(seen["notes"]) == {"<img src=x onerror=alert(2)> & 'more'"}, f"notes: {seen['notes']}")
     must(seen["scripts"] == 2 and seen["pictures"] == 1, "one script and the reader's, one picture")
-    must(len(seen["steps"]) == 1 and "crew <4>" in seen["steps"][0] and "paint 0 0 3 3 ballast" in seen["steps"][0], "steps")
+    must(len(seen["steps"]) == 1 and "crew <4>" in seen["steps"][0] and "paint 0 0 3 3 ballast" in seen["steps"][0],
+         "steps")
     tool("page", name, "page.html")  # its own kind is replaced
     tool("page", name, "classes.csv", status=73, says="is not a page")
     tool("page", name, name, status=73)
@@ -139,7 +145,8 @@ def test_reader(tool):
 def test_print(tool, name):
     tool("page", name, "print.html")
     patches = tool.json("findings", name, "--all")["patches"]
-    browser(tool, "--no-pdf-header-footer", f"--print-to-pdf={tool.path('page.pdf')}", f"file://{tool.path('print.html')}")
+    browser(tool, "--no-pdf-header-footer", f"--print-to-pdf={tool.path('page.pdf')}",
+            f"file://{tool.path('print.html')}")
     text = subprocess.run(["pdftotext", "-layout", "page.pdf", "-"], cwd=tool.folder, check=True,
                           capture_output=True).stdout.decode()
     rows = re.findall(r"^[ \f]*(\d+) +(\d+) +(\w+) +(live|hidden) +([\d.]+) ", text, re.M)
@@ -163,7 +170,8 @@ def test_sheets(tool):
     tool("page", "long.gpkg", "long.html")
     page = tool.read("long.html").decode()
     must(page.count("<image ") == 2 and page.count('<path class="patch') == 2, "two sheets with findings")
-    must("Sheet 0.0: rows 0 to 19, columns 0 to 1023" in page and page.count('<tr data-patch="1"') == 1, "their captions")
+    must("Sheet 0.0: rows 0 to 19, columns 0 to 1023" in page and page.count('<tr data-patch="1"') == 1,
+         "their captions")
 
 
 def points_of(tool, name):
@@ -176,8 +184,8 @@ def points_of(tool, name):
 
 
 def test_picture(tool):
-    """Two patches, one waived, at ten points a pixel: the live one is not hatched, the hidden one is, and its ground has
-    at least as many colours as classes."""
+    """Two patches, one waived, at ten points a pixel: the live one is not hatched, the hidden one is, and its ground
+    has at least as many colours as classes."""
     rows = [[0] * 60 for _ in range(40)]
     for row in rows[5:15]:
         row[5:15], row[25:35] = [1] * 10, [1] * 10
@@ -206,6 +214,39 @@ def test_picture(tool):
     tool("findings", "two.gpkg", "--picture", "r.csv", status=73, says="is not a PNG")
 
 
+def test_walk(tool):
+    """The five commands of the README, as they stand there, on a GeoTIFF; and its picture is the sample line's."""
+    with open(os.path.join(ROOT, "README.md")) as file:
+        text = file.read().split("Five commands", 1)[1]
+    commands = re.search(r"\n\n((?:    .*\n)+)", text).group(1)
+    must(len(commands.splitlines()) == 5, "five commands")
+    folder = tool.path("walk")
+    os.mkdir(folder)
+    tool.write("walk/prowcurl", "#!/bin/sh\nexec " + " ".join(tool.program) + ' "$@"\n')
+    os.chmod(tool.path("walk/prowcurl"), 0o755)
+    subprocess.run([os.path.join(LINE, "make-survey"), "own.asc", "5"], cwd=folder, check=True)
+    subprocess.run("gdal_translate -q -a_srs EPSG:25832 -ot Byte own.asc own.tif".split(), cwd=folder, check=True)
+    env = dict(tool.env, PATH=folder + ":" + os.environ["PATH"])
+    done = subprocess.run(["bash", "-eu", "-c", commands], cwd=folder, env=env, capture_output=True)
+    must(done.returncode == 0 and not done.stderr, f"the five commands: {done}")
+    seen = read_page(tool, "walk/own.html")
+    check_reader(seen, tool.json("findings", "walk/own.gpkg", "--all"))
+    must(seen["rules"] == ["no scrub here"] and len(seen["all"]) > 3, "the walk finds something")
+
+
+def test_sample(tool):
+    """The picture in docs/ is what the tool draws of the sample line."""
+    subprocess.run([os.path.join(LINE, "make-survey"), tool.path("survey.asc")], check=True)
+    tool("init", "sample.gpkg", "--classes", os.path.join(LINE, "classes.csv"), "--side", 256)
+    tool("add", "sample.gpkg", "survey.asc")
+    for office in (0, 1):
+        tool("set", "sample.gpkg", "rules", os.path.join(LINE, "rules.csv"), "--office", office)
+    tool("set", "sample.gpkg", "waivers", os.path.join(LINE, "waivers.csv"))
+    tool("findings", "sample.gpkg", "--picture", "sample.png")
+    tool.write("docs.png", open(os.path.join(ROOT, "docs", "line.png"), "rb").read())
+    must(points_of(tool, "docs.png") == points_of(tool, "sample.png"), "docs/line.png is not what the tool draws")
+
+
 def main():
     for program, package in (("chromium", "chromium"), ("pdftotext", "poppler-utils"), ("pngtopnm", "netpbm")):
         subprocess.run([os.path.join(ROOT, "tools", "need"), program, package], check=True)
@@ -216,6 +257,8 @@ def main():
         test_print(tool, name)
         test_sheets(tool)
         test_picture(tool)
+        test_walk(tool)
+        test_sample(tool)
         print("the page in a browser, on paper and on a phone; the picture: as expected")
 
 
