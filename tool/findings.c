@@ -109,11 +109,16 @@ static int by_rule_and_block(const void *a, const void *b) {
 }
 
 findings find_all(line *l, int office) {
-    findings f = { .office = (uint32_t)office, .rules = read_rules(l, office) };
     need_survey(l);
+    rule_list rules = read_rules(l, office);
     char *where = text_of("%s, table rules, office %d", l->path, office);
-    for (size_t k = 0; k < f.rules.count; k++) accept_rule(l, &f.rules.at[k], where);
+    for (size_t k = 0; k < rules.count; k++) accept_rule(l, &rules.at[k], where);
     free(where);
+    return find_with(l, office, rules);
+}
+
+findings find_with(line *l, int office, rule_list rules) {
+    findings f = { .office = (uint32_t)office, .rules = rules };
     rules_here here = { room_for(f.rules.count, sizeof *here.rules), room_for(f.rules.count, sizeof *here.places), 0 };
     for (uint32_t i = 0; f.rules.count && i < sheet_rows(l); i++) {
         for (uint32_t j = 0; j < sheet_columns(l); j++) {

@@ -35,6 +35,8 @@ typedef struct {
 /* What the rules of an office find in the survey, with the office's waivers. Ends with 13 where a rule's window reaches
  * over the survey's edge or its class is none. */
 findings find_all(line *l, int office);
+/* The same for some of its rules, which are right and ascend; they are given back with the findings. */
+findings find_with(line *l, int office, rule_list rules);
 void give_back_findings(findings *f);
 
 /* The patches of findings that are there, in the time of sorting them (patches.c). */

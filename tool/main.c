@@ -45,7 +45,8 @@ const command commands[] = {
       "get LINE classes|rules|prices|waivers [FILE.csv] [--office N]", "write them as a CSV",
       "To standard output, or to a file, which 'set' takes back." },
     { "at", 1, 3, ASKS | BIT(XY), run_at, "at LINE ROW COLUMN | at LINE --xy X Y", "name the class at a pixel",
-      "The largest block of one class around the pixel: its sheet and key, its level, its class, and where it lies." },
+      "The largest block of one class around the pixel: its sheet and key, its level, its class, and where it lies;\n"
+      "and the patches that have the pixel." },
     { "report", 1, 5, IN_WINDOW, run_report, "report LINE WINDOW", "list the classes in a window", window_text },
     { "exist", 2, 6, IN_WINDOW, run_exist, "exist LINE WINDOW CLASS", "say whether a class is in a window",
       window_text },

@@ -2,9 +2,48 @@
 #include "answer.h"
 #include "classes.h"
 #include "commands.h"
+#include "findings.h"
 #include "window.h"
 
 #include <stdlib.h>
+
+/* Of an office, the rules that find something at a pixel of this class. */
+static rule_list rules_at(line *l, int office, uint32_t row, uint32_t column, uint32_t class) {
+    rule_list all = read_rules(l, office), here = { room_for(all.count, sizeof *here.at), 0 };
+    for (size_t k = 0; k < all.count; k++) {
+        const rule *r = &all.at[k];
+        if (r->class == class && !wrong_with_rule(l, r) && row >= r->row && row < r->row + r->height &&
+            column >= r->column && column < r->column + r->width)
+            here.at[here.count++] = *r;
+        else free(r->name);
+    }
+    free(all.at);
+    return here;
+}
+
+/* The patches that have the pixel. */
+static void write_patches_at(line *l, uint32_t row, uint32_t across, uint32_t class) {
+    static const column columns[] = { { "office", 6 }, { "rule", 6 },   { "state", -6 },         { "row", 7 },
+                                      { "column", 7 }, { "pixels", 8 }, { "square_metres", 13 } };
+    table_begin("patches", columns, 7);
+    for (int office = 0; office < 2; office++) {
+        findings f = find_with(l, office, rules_at(l, office, row, across, class));
+        for (uint32_t k = 0; k < f.rules.count; k++) {
+            const finding *x = finding_at(&f, k, row, across);
+            if (!x) continue;
+            const patch *p = &f.patches[x->patch];
+            cell_number((uint64_t)office);
+            cell_number(f.rules.at[k].id);
+            cell_words(state_of(p->live));
+            cell_number(p->row);
+            cell_number(p->column);
+            cell_number(p->pixels);
+            cell_decimal((double)p->pixels * l->cell * l->cell);
+        }
+        give_back_findings(&f);
+    }
+    table_end();
+}
 
 void run_at(const arguments *a) {
     line l = open_line(a, TO_READ);
@@ -35,6 +74,7 @@ void run_at(const arguments *a) {
     fact_number("side", q.side);
     fact_exact("x", x_of(&l, column + 0.5));
     fact_exact("y", y_of(&l, row + 0.5));
+    if (!a->given[OPTION_CSV]) write_patches_at(&l, row, column, class);
     answer_end();
     give_back_sheet(&s);
     give_back_classes(&classes);

@@ -159,6 +159,24 @@ def test_patches(tool):
     return line, ground
 
 
+def test_at(tool, line):
+    """The patches at a pixel are those that have it."""
+    told = {office: tool.json("findings", line, "--office", office, "--all", "--blocks") for office in (0, 1)}
+    numbers = random.Random(6)
+    for _ in range(6):
+        row, column = numbers.randrange(ROWS), numbers.randrange(COLUMNS)
+        wanted = []
+        for office, answer in told.items():
+            for rule in answer["rules"]:
+                blocks = [b for b in answer["findings"] if b["rule"] == rule["rule"]]
+                if not any((row, column) in block_pixels(b) for b in blocks):
+                    continue
+                group = next(g for g in fill(set().union(*map(block_pixels, blocks))) if (row, column) in g)
+                wanted.append((office, rule["rule"], *min(group), len(group)))
+        at = tool.json("at", line, row, column)["patches"]
+        must([(p["office"], p["rule"], p["row"], p["column"], p["pixels"]) for p in at] == wanted, f"at {row} {column}")
+
+
 def test_exit(tool, line):
     for more, status in (((), 0), (("--exit-live",), 32)):
         done = subprocess.run(tool.program + ["findings", line, *more], cwd=tool.folder, env=tool.env,
@@ -322,6 +340,7 @@ def main():
     with work_folder() as folder:
         tool = Tool(sys.argv[1:], folder)
         line, ground = test_patches(tool)
+        test_at(tool, line)
         test_exit(tool, line)
         test_edge(tool)
         test_waivers(tool, line, ground)
