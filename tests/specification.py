@@ -8,9 +8,9 @@
                                        that it names is the header's, and every file that it names is there; the table
                                        of refusals is the header's enum; the table of calls has each call with its
                                        arguments, its result and its order of refusals, which is the definitions'; the
-                                       table of structs has their fields; and the two files that stand there byte for
-                                       byte, read by the page's own tables of offsets, are Map A's list and the log of
-                                       its row A9
+                                       tables of structs and constants have their fields and values; and the two files
+                                       that stand there byte for byte, read by the page's own tables of offsets, are Map
+                                       A's list and the log of its row A9
   tests/specification.py --tables      prints the rows of calls and structs as the header has them, to be pasted
   tests/specification.py --self-test   breaks each of these in many ways, one at a time; each must be found
 """
@@ -36,9 +36,9 @@ SIGNED, SIZE, BYTE = "int32_t", "size_t", "uint8_t"
 # how far apart records stand in a file: "11 + i * (4 + w)" or "23 + i * 8"
 OFFSET = re.compile(r"(\d+)(?: \+ i \* (?:\((\d+) \+ w\)|(\d+)))?")
 
-# header and definitions as boundary.py reads them; enum: the header's refusals as (number, name); words: the calls,
-# structs and constants of the header; decisions: their numbers
-World = namedtuple("World", "header definitions enum words decisions")
+# header and definitions as boundary.py reads them; enum: the header's refusals as (number, name); constants: (name,
+# value) of the header's; words: all calls, structs and constants of the header; decisions: their numbers
+World = namedtuple("World", "header definitions enum constants words decisions")
 
 
 @lru_cache(maxsize=None)
@@ -183,6 +183,11 @@ def table_faults(lines, world):
     structs = one("struct")
     if structs != [struct_row(name, world) for name in world.header.structs]:
         yield "the table of structs is not the header's"
+    constants = one("constant")
+    if [row[0] for row in constants] != [name for name, _ in world.constants]:
+        yield "the table of constants has not those of the header, in its order"
+    yield from (f"{name} is {value}" for row, (name, value) in zip(constants, world.constants)
+                if value.isdigit() and row[1] != value)
 
 
 def list_of(rows, key, step):
@@ -253,7 +258,8 @@ def everything():
     named = [(int(number), name) for name, number in re.findall(r"\b(HLQ_\w+) = (\d+)", enum)]
     decisions = frozenset(re.findall(r"^(\d+)\. \*\*", DECISIONS.read_text(), flags=re.M))
     words = frozenset([*header.calls, *header.structs, *re.findall(r"\bHLQ_\w+", text)])
-    return PAGE.read_text().splitlines(), World(header, definitions, named, words, decisions)
+    constants = re.findall(r"^#define (HLQ_\w+)(?:\([^)]*\))? (\S+)", text, flags=re.M)
+    return PAGE.read_text().splitlines(), World(header, definitions, named, constants, words, decisions)
 
 
 def changed_pages(lines):
@@ -283,12 +289,13 @@ def changed_pages(lines):
 
 def changed_rows(line):
     """A row of a table, or a row of bytes, gone or with one thing changed."""
-    if re.match(r"\| (`hlq_\w+`|\d[\d +*i(w)]*) \|", line):
+    if re.match(r"\| (`hlq_\w+`|`HLQ_\w+`|\d[\d +*i(w)]*) \|", line):
         yield ("gone",)
         row = cells(line)
         for column in range(min(len(row), 4)):
-            # the third column of these tables is in words
-            if column != 2 or not row[0][0].isdigit():
+            # in words: the third column of refusals, offsets and constants, and formulas
+            words = column == 2 or column == 1 and not row[1].isdigit()
+            if row[0].startswith("hlq_") or not (words and (row[0].startswith("HLQ_") or column == 2)):
                 other = "99" if row[column].isdigit() else row[column] + "9"
                 yield f"column {column}", line.replace(row[column], other, 1)
     if re.fullmatch(r"[0-9A-F]{2}(  ?[0-9A-F]{2})+", line):
@@ -298,6 +305,10 @@ def changed_rows(line):
 
 
 def changed_worlds(world):
+    for place, (name, value) in enumerate(world.constants):
+        if value.isdigit():
+            constants = world.constants[:place] + [(name, value + "0")] + world.constants[place + 1:]
+            yield f"another {name} in the header", world._replace(constants=constants)
     for place, (number, name) in enumerate(world.enum):
         enum = world.enum[:place] + [(number, name + "X")] + world.enum[place + 1:]
         yield f"the header calls {name} otherwise", world._replace(enum=enum)
