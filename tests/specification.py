@@ -356,7 +356,7 @@ def main():
     sentences = sum(shape(line)[1] is not None for line in lines)
     plain = sum(shape(line)[1] is not None and not BRACKETS.search(line) for line in lines)
     names = sum(len(names.split(", ")) for line in lines for _, _, names in CITED.findall(line))
-    print(f"{sentences} sentences of docs/SPECIFICATION.md, {plain} of them without a definition or law, {names} names, "
+    print(f"{sentences} sentences of docs/SPECIFICATION.md, {plain} without a definition or law, {names} names, "
           f"{len(world.header.calls)} calls, {len(world.enum)} refusals, two files byte for byte")
     return not found and sentences > 300 and plain < 20
 
