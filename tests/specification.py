@@ -138,6 +138,7 @@ def table_after(lines, title):
 
 
 def argument(kind, name):
+    """A parameter of C as the page writes it; a length goes with its slice."""
     if kind.endswith("*"):
         plain = kind.replace("const ", "").rstrip(" *")
         what = "bytes " if plain == BYTE else "" if plain == "uint32_t" else plain + " "
@@ -151,6 +152,7 @@ def arguments(parameters):
 
 
 def table_file(call):
+    """The file of Calls/ with a call's order of refusals, as boundary.py finds it: C's build is the survey there."""
     words = call.removesuffix("_clipped").split("_")[1:]
     name = "".join(word.capitalize() for word in words)
     return "Survey" if name == "Build" else name
