@@ -21,8 +21,10 @@ use Rattle.laws.proofs.Ascending.{Ascending, none, next, ascending-bounds}
 use Rattle.laws.proofs.ListOf.{list-ascends}
 use Rattle.list.specs.Own.{OwnList, shownBy}
 use Rattle.list.specs.Among.{placeAmong}
+use Rattle.list.specs.Check.{oneSlot}
 use Rattle.list.proofs.Among.{place-among}
 use Rattle.list.proofs.Lookup.{AtPlace, lookup-listed, lookup-inside}
+use Rattle.list.proofs.Shown.{slot-one}
 use Rattle.list.proofs.Fuller.{listed-numbers, inside-numbers, key-there}
 use Rattle.walk.specs.declared.Spot.{Spot}
 use Rattle.walk.specs.Walk.{BlockSpot}
@@ -111,3 +113,13 @@ module _
       -- and one inside another leaf gives nothing
       pub leaf-nothing : (getD bits place 0 ≡ bit → ⊥) → keysWith bit (contentOf m (shownBy m keys bits n) (s .key)) ≡ []
       leaf-nothing other = one-nothing o h bit place (inside .1) one other
+
+-- a block at whose place the bits stand alone is one itself, whether the record is its own or that of the leaf around it
+pub alone-key : {m : ℕ} {keys bits : List ℕ} {n : ℕ} (o : OwnList m keys bits n) {s : Spot} (h : BlockSpot m s) (bit place : ℕ)
+    → place ≡ placeAmong (s .key) (take n keys)
+    → oneSlot bit ≡ true
+    → getD bits place 0 ≡ bit
+    → keysWith bit (contentOf m (shownBy m keys bits n) (s .key)) ≡ s .key ∷ []
+alone-key {m} {keys} {bits} {n} o {s} h bit place is slot same =
+    let e = sym (asked-place o (h .block) place is .value) ∙ same in
+    one-key o h bit place is (slot-one (shownBy m keys bits n) (h .height) (s .row) (s .column) (ap oneSlot e ∙ slot)) same

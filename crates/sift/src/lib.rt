@@ -4,7 +4,7 @@ ghost use mathlib.Core.Path.{_≡_};
 ghost use mathlib.Core.Bool.{true};
 ghost use mathlib.Core.List.{[], _∷_};
 ghost use Prim.Native.Nat.{_+_, _≤_, _<_, _^_};
-ghost use lib.ListN.{drop};
+ghost use lib.ListN.{take, drop};
 ghost use Rattle.keys.specs.Key.{slotLimit, validKey};
 ghost use Rattle.definitions.specs.Edit.{contentOf};
 ghost use Rattle.definitions.specs.Read.{recordsOf};
@@ -12,7 +12,7 @@ ghost use Rattle.definitions.specs.Window.{isWindow, selectIn};
 ghost use Rattle.definitions.specs.Rules.{windowOfRule};
 ghost use Rattle.list.specs.Check.{oneSlot};
 ghost use Rattle.list.specs.Own.{OwnList, shownBy};
-ghost use Rattle.list.specs.Sorted.{Near};
+ghost use Rattle.list.specs.Among.{placeAmong};
 ghost use Rattle.walk.specs.Walk.{BlockSpot};
 ghost use Rattle.walk.specs.Given.{keysWith};
 ghost use Rattle.sift.specs.Sift.{keysUntil};
@@ -123,7 +123,8 @@ fn sift_run(
     st
 }
 
-// The findings in a block that lies in the rule's window: its leaves with the bit, or the block itself where it lies inside such a leaf.
+// The findings in a block that lies in the rule's window, where the last record at or before its key is known: the block itself where that record has
+// the bit alone, whether it is its own or that of the leaf around it; else its leaves with the bit, by its standing.
 fn sift_block(
     job: Job,
     keys: &[u32],
@@ -136,7 +137,7 @@ fn sift_block(
     at: Sifting,
 ) -> Sifting
     requires { ⌜ (job .m ≤ 10) × BlockSpot (job .m) block × OwnList (job .m) (now keys) (now bits) (job .n)
-        × Near (now keys) (job .n) from (block .key) × (oneSlot (job .bit) ≡ true)
+        × (from ≡ placeAmong (block .key) (take (job .n) (now keys))) × (oneSlot (job .bit) ≡ true)
         × SiftReady (job .m) (job .limit) (now waived) at (now «found_ids») (now «found_keys») (2 ^ 60) (block .key) ⌝ }
     ensures { λ r. ⌜ Sifted (job .m) (job .limit) (job .id) (now (waived .entry))
         (keysWith (job .bit) (contentOf (job .m) (shownBy (job .m) (now (keys .entry)) (now (bits .entry)) (job .n)) (block .key))) at r
@@ -146,6 +147,9 @@ fn sift_block(
     let bit = job.bit;
     let key = block.key;
     let step = block.step;
+    if bits[from] == bit {
+        return sift(job, key, waived, found_ids, found_keys, at);
+    }
     let standing = standing::stand_from(job.m, keys, bits, n, from, key, step);
     let Standing::Listed(place, records) = standing else {
         let Standing::Inside(around, leaf, level) = standing else {

@@ -1,4 +1,4 @@
--- `sift_block` meets its contract: a listed block's leaves are sifted by a run along its records, and a block inside a leaf is one itself.
+-- `sift_block` meets its contract: a block whose record has the bit alone is one itself, and a listed block's leaves are sifted by a run along its records.
 use Prim.Native.Nat.{ℕ, _+_, _^_, _≤_, _<_}
 use mathlib.Core.Path.{_≡_, refl, sym, ap, _∙_}
 use mathlib.Core.List.{List}
@@ -15,7 +15,8 @@ use Rattle.definitions.specs.declared.Standing.the-variants.{Inside}
 use Rattle.list.specs.Own.{OwnList}
 use Rattle.list.proofs.Own.{own-ascends}
 use Rattle.walk.proofs.Steps.{some-keys}
-use Rattle.sift.proofs.BlockLeaves.{listed-key, listed-keys, leaf-there, leaf-key, leaf-nothing}
+use Rattle.walk.proofs.Asked.{asked-place, near-place}
+use Rattle.sift.proofs.BlockLeaves.{alone-key, listed-key, listed-keys, leaf-there, leaf-key, leaf-nothing}
 use Rattle.sift.specs.declared.Sifting.{Sifting}
 use Rattle.sift.specs.Sift.{SiftReady, RunReady}
 use Rattle.sift.proofs.Settling.{passed-widen}
@@ -52,7 +53,11 @@ abbrev asks-listed : tie.After-known-told → tie.After-stand-from
 asks-listed c = c .before .before .before
 
 abbrev entry : tie.After-stand-from → tie.Start
-entry c = c .before .before .before .before .before .before
+entry c = c .before .before .before .before .before .before .before .before
+
+-- the record that was looked at is there
+from-there : (s : tie.Start) → s .args .from < length (s .args .bits .now)
+from-there s = let a = asked-place (s .pre .2) (s .pre .1 .block) _ (s .pre .3) in omega (arith, s .pre .2 .fits, a .room)
 
 stands-inside : (c : tie.After-known-told3)
     → (let a = entry (asks-leaf c) .args in let g = c .before .standing3 .given .0 in standingOf (a .job .m) (a .block .key) (recordsOf (a .keys .now) (a .bits .now) (a .job .n)) ≡ Inside (g .0) (g .1 .0) (g .1 .1 .0))
@@ -63,11 +68,36 @@ leaf-place c =
     let pre = entry (asks-leaf c) .pre in
     omega (arith, pre .2 .fits, leaf-there (pre .0) (pre .2) (pre .1) (entry (asks-leaf c) .args .job .bit) _ _ _ (stands-inside c))
 
+mul-if1 : tie.Need-mul-if1
+mul-if1 c = let s = c .before .before .before .before .before in omega (arith, from-there s, s .good .1 .1 .0 .1)
+
+shared-slice-read-if1 : tie.Need-shared-slice-read-if1
+shared-slice-read-if1 c = from-there (c .before .before .before .before .before .before)
+
+sift-requires : tie.Need-sift-requires
+sift-requires c κs =
+    let pre = c .before .before .before .before .before .before .before .before .before .pre in
+    (pre .0, block-valid (pre .1 .block) .valid, search needs)
+
+same-length : tie.Need-same-length
+same-length c = search needs
+
+same-length-2 : tie.Need-same-length-2
+same-length-2 c = search needs
+
+returns : tie.Need-returns
+returns c =
+    let sifted = c .before .before .before .before in
+    let s = sifted .before .before .before .before .before .before .before .before .before .before in
+    sifted-as _ _ _ _ _ _ _ _ _ _ _ _ _ _ (sifted .sift .ensures)
+    (sym (alone-key (s .pre .2) (s .pre .1) _ _ (s .pre .3) (s .pre .4) (sifted .before .before .before .if1 .taken)))
+    (let e = spot-end (s .pre .1) in omega arith)
+
 stand-from-requires : tie.Need-stand-from-requires
 stand-from-requires c κs =
-    let pre = c .before .before .before .before .before .pre in
+    let pre = c .before .before .before .before .before .before .before .pre in
     let is = block-valid (pre .1 .block) in
-    (record { deepest = pre .0; own = pre .2; valid = is .valid }, pre .1 .step ∙ ap (λ k. 5 ^ k) (sym (is .height)), pre .3)
+    (record { deepest = pre .0; own = pre .2; valid = is .valid }, pre .1 .step ∙ ap (λ k. 5 ^ k) (sym (is .height)), near-place (pre .2) _ _ (pre .3))
 
 enum-known-standing : tie.Need-enum-known-standing
 enum-known-standing c = search needs
@@ -81,45 +111,45 @@ enum-known-standing-3 c = search needs
 enum-told : tie.Need-enum-told
 enum-told c = search needs
 
-returns : tie.Need-returns
-returns c =
+returns-2 : tie.Need-returns-2
+returns-2 c =
     let inside = c .before .before .before .standing2 .given .1 in
     let listed = c .enum-told .given .1 in
     absurd (let z : _≡_ {A = ℕ} 0 1 = cc in omega arith)
 
-mul-if1 : tie.Need-mul-if1
-mul-if1 c = omega (arith, leaf-place c, entry (asks-leaf c) .good .1 .1 .0 .1)
+mul-if2 : tie.Need-mul-if2
+mul-if2 c = omega (arith, leaf-place c, entry (asks-leaf c) .good .1 .1 .0 .1)
 
-shared-slice-read-if1 : tie.Need-shared-slice-read-if1
-shared-slice-read-if1 c = leaf-place (c .before)
+shared-slice-read-if2 : tie.Need-shared-slice-read-if2
+shared-slice-read-if2 c = leaf-place (c .before)
 
-sift-requires : tie.Need-sift-requires
-sift-requires c κs =
+sift-requires-2 : tie.Need-sift-requires-2
+sift-requires-2 c κs =
     let leaf = c .before .before .before .before in
     let pre = entry (asks-leaf leaf) .pre in
     (pre .0, block-valid (pre .1 .block) .valid, search needs)
 
-same-length : tie.Need-same-length
-same-length c = search needs
+same-length-3 : tie.Need-same-length-3
+same-length-3 c = search needs
 
-same-length-2 : tie.Need-same-length-2
-same-length-2 c = search needs
-
-returns-2 : tie.Need-returns-2
-returns-2 c =
-    let sifted = c .before .before .before .before in
-    let leaf = sifted .before .before .before .before .before in
-    let pre = entry (asks-leaf leaf) .pre in
-    sifted-as _ _ _ _ _ _ _ _ _ _ _ _ _ _ (sifted .sift .ensures)
-    (sym (leaf-key (pre .0) (pre .2) (pre .1) _ _ _ _ (stands-inside leaf) (sifted .before .before .before .if1 .taken)))
-    (let e = spot-end (pre .1) in omega arith)
+same-length-4 : tie.Need-same-length-4
+same-length-4 c = search needs
 
 returns-3 : tie.Need-returns-3
 returns-3 c =
+    let sifted = c .before .before .before .before in
+    let leaf = sifted .before .before .before .before .before in
+    let pre = entry (asks-leaf leaf) .pre in
+    sifted-as _ _ _ _ _ _ _ _ _ _ _ _ _ _ (sifted .sift2 .ensures)
+    (sym (leaf-key (pre .0) (pre .2) (pre .1) _ _ _ _ (stands-inside leaf) (sifted .before .before .before .if2 .taken)))
+    (let e = spot-end (pre .1) in omega arith)
+
+returns-4 : tie.Need-returns-4
+returns-4 c =
     let leaf = c .before .before in
     let pre = entry (asks-leaf leaf) .pre in
     sifted-none _ _ _ _ _ _ _ _ _
-    (leaf-nothing (pre .0) (pre .2) (pre .1) _ _ _ _ (stands-inside leaf) (c .if1 .left))
+    (leaf-nothing (pre .0) (pre .2) (pre .1) _ _ _ _ (stands-inside leaf) (c .if2 .left))
     (passed-widen _ (pre .5 .passed) (omega arith))
 
 add-sift-run : tie.Need-add-sift-run
@@ -142,14 +172,14 @@ sift-run-requires c κs =
           (ap (λ x. entry (asks-listed listed) .args .block .key + x) (pre .1 .step)),
     )
 
-same-length-3 : tie.Need-same-length-3
-same-length-3 c = search needs
+same-length-5 : tie.Need-same-length-5
+same-length-5 c = search needs
 
-same-length-4 : tie.Need-same-length-4
-same-length-4 c = search needs
+same-length-6 : tie.Need-same-length-6
+same-length-6 c = search needs
 
-returns-4 : tie.Need-returns-4
-returns-4 c =
+returns-5 : tie.Need-returns-5
+returns-5 c =
     let run = c .before .before .before .before in
     let listed = run .before .before .before in
     let pre = entry (asks-listed listed) .pre in
@@ -161,21 +191,27 @@ pub sift-block-spec : {M : Type 1} → statement M
 sift-block-spec =
     tie.close
     (tie.spec
-    stand-from-requires
-    enum-known-standing
-    enum-known-standing-2
-    enum-known-standing-3
-    enum-told
-    returns
     mul-if1
     shared-slice-read-if1
     sift-requires
     same-length
     same-length-2
+    returns
+    stand-from-requires
+    enum-known-standing
+    enum-known-standing-2
+    enum-known-standing-3
+    enum-told
     returns-2
-    returns-3
-    add-sift-run
-    sift-run-requires
+    mul-if2
+    shared-slice-read-if2
+    sift-requires-2
     same-length-3
     same-length-4
-    returns-4)
+    returns-3
+    returns-4
+    add-sift-run
+    sift-run-requires
+    same-length-5
+    same-length-6
+    returns-5)

@@ -200,7 +200,7 @@ sift-block-requires c κs =
     let at = head asks in
     let pre = entry at .pre in
     let slot = ap oneSlot (at .before .before .before .power-of-two .ensures) ∙ power-slot (entry at .args .rule .feature) in
-    (pre .0, stands-at at, pre .3, near-place (pre .3) _ _ (asks .place-from .ensures), slot, ready _ _ _ _ _ _ _ (so-far at) (pre .4) (pre .0))
+    (pre .0, stands-at at, pre .3, asks .place-from .ensures, slot, ready _ _ _ _ _ _ _ (so-far at) (pre .4) (pre .0))
 
 first-requires : tie.Need-first-requires Inv-loop2 μ-loop2 Inv-loop μ-loop
 first-requires c κs =
