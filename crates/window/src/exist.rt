@@ -5,16 +5,16 @@ ghost use Prim.Native.Nat.{_≤_, _<_};
 ghost use Rattle.keys.specs.Key.{slotLimit};
 ghost use Rattle.definitions.specs.Window.{isWindow, existIn};
 ghost use Rattle.list.specs.Own.{OwnList, shownBy};
+use crate::passing;
 use definitions::Window;
 use keys::power;
-use list::check;
 use list::standing;
 use walk::NextBlock;
 use walk::asking;
 
 // Some pixel of the window has the feature: the walk is left at the first block that shows it. A block of one feature, or whose bits lack the one asked
-// for, is settled by its record, however the window cuts it; only a cut node with the feature and others is entered. A leaf that is
-// passed is one record; a node is passed by its standing, whose records tell where the next search begins.
+// for, is settled by its record, however the window cuts it; only a cut node with the feature and others is entered. What is passed
+// is passed by its standing, whose records tell where the next search begins, unless it has few.
 pub fn exist_in(m: u32, keys: &[u32], bits: &[u32], n: usize, window: Window, feature: u32) -> bool
     requires { ⌜ (m ≤ 10) × (isWindow m window ≡ true) × (feature < slotLimit) × OwnList m (now keys) (now bits) n ⌝ }
     ensures { λ r. ⌜ r ≡ existIn (shownBy m (now (keys .entry)) (now (bits .entry)) n) window feature ⌝ }
@@ -32,7 +32,7 @@ pub fn exist_in(m: u32, keys: &[u32], bits: &[u32], n: usize, window: Window, fe
             let found = bits[place];
             if found & bit == 0 {
                 from = place;
-                if check::has_one_slot(found) {
+                if passing::is_short(found, spot.step) {
                     break;
                 }
                 let told = asking::ask(m, keys, bits, n, place, spot);

@@ -6,6 +6,7 @@ ghost use Rattle.definitions.specs.Window.{isWindow, reportIn};
 ghost use Rattle.list.specs.Own.{OwnList, shownBy};
 ghost use Rattle.walk.specs.Walk.{Small};
 ghost use Rattle.window.specs.Settled.{settles};
+use crate::passing;
 use definitions::Window;
 use list::check;
 use list::standing;
@@ -28,8 +29,8 @@ fn is_settled(union: u32, found: u32, spot: Spot, window: Window) -> bool
 }
 
 // The bitstring of all features in the window. A block's bits are those of the last record at or before its key, its own or the leaf's around it. Where
-// they settle it, the block is passed: a leaf is one record, and a node's standing tells where the next search begins. Only a cut node that may add a
-// feature is entered.
+// they settle it, the block is passed, unless it has few records by its standing, which tells where the next search begins. Only a cut node that may
+// add a feature is entered.
 pub fn report_in(m: u32, keys: &[u32], bits: &[u32], n: usize, window: Window) -> u32
     requires { ⌜ (m ≤ 10) × (isWindow m window ≡ true) × OwnList m (now keys) (now bits) n ⌝ }
     ensures { λ r. ⌜ r ≡ reportIn (shownBy m (now (keys .entry)) (now (bits .entry)) n) window ⌝ }
@@ -48,7 +49,7 @@ pub fn report_in(m: u32, keys: &[u32], bits: &[u32], n: usize, window: Window) -
             if is_settled(union, found, spot, window) {
                 union = union | found;
                 from = place;
-                if check::has_one_slot(found) {
+                if passing::is_short(found, spot.step) {
                     break;
                 }
                 let told = asking::ask(m, keys, bits, n, place, spot);

@@ -95,8 +95,8 @@ mul-found c = omega (arith, in-bits c, entry (head c) .good .1 .1 .0 .1)
 shared-slice-read-found : tie.Need-shared-slice-read-found Inv-loop μ-loop Inv-walk μ-walk
 shared-slice-read-found c = in-bits (c .before)
 
-has-one-slot-requires : tie.Need-has-one-slot-requires Inv-loop μ-loop Inv-walk μ-walk
-has-one-slot-requires c κs = tt
+is-short-requires : tie.Need-is-short-requires Inv-loop μ-loop Inv-walk μ-walk
+is-short-requires c κs = tt
 
 -- a node that lacks the feature is passed by its standing
 ask-requires : tie.Need-ask-requires Inv-loop μ-loop Inv-walk μ-walk
@@ -232,7 +232,7 @@ exist-in-spec =
     place-from-requires
     mul-found
     shared-slice-read-found
-    has-one-slot-requires
+    is-short-requires
     ask-requires
     within-requires
     first-requires

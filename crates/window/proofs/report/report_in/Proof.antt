@@ -88,8 +88,8 @@ shared-slice-read-found c = in-bits (c .before)
 is-settled-requires : tie.Need-is-settled-requires Inv-loop2 μ-loop2 Inv-loop μ-loop
 is-settled-requires c κs = let at = head (c .before) in small _ _ _ (entry at .pre .0) (entry at .pre .1) (stands at)
 
-has-one-slot-requires : tie.Need-has-one-slot-requires Inv-loop2 μ-loop2 Inv-loop μ-loop
-has-one-slot-requires c κs = tt
+is-short-requires : tie.Need-is-short-requires Inv-loop2 μ-loop2 Inv-loop μ-loop
+is-short-requires c κs = tt
 
 -- a node that its bits settle is passed by its standing
 ask-requires : tie.Need-ask-requires Inv-loop2 μ-loop2 Inv-loop μ-loop
@@ -208,7 +208,7 @@ report-in-spec =
     mul-found
     shared-slice-read-found
     is-settled-requires
-    has-one-slot-requires
+    is-short-requires
     ask-requires
     first-requires
     loop2-less
