@@ -471,7 +471,7 @@ static void bit_strings(void) {
             a = hlq_read_bit_strings(M, 2, nodes[0], node_bytes, leaves[0], leaf_bytes, answer_keys, MOST, answer_bits,
                                      MOST)
                     .count,
-            b = plain_read_bits(M, nodes[0], node_bytes, leaves[0], leaf_bytes, other_keys, other_bits),
+            b = plain_read_bits(M, nodes[0], node_bytes, leaves[0], leaf_bytes, other_keys, other_bits, MOST),
             a == two && b == two && equal(answer_keys, two_keys, two) && equal(other_keys, two_keys, two) &&
             equal(answer_bits, two_bits, two) && equal(other_bits, two_bits, two));
 }

@@ -5,6 +5,9 @@
 
 static int one_bit(uint32_t b) { return b != 0 && (b & (b - 1)) == 0; }
 
+/* The feature of a leaf's bits. */
+static inline uint32_t slot_of(uint32_t b) { return (uint32_t)__builtin_ctz(b); }
+
 /* The powers of five: five[h] keys lie in a block of height h. */
 static const uint32_t five[] = { 1, 5, 25, 125, 625, 3125, 15625, 78125, 390625, 1953125, 9765625 };
 
@@ -37,8 +40,7 @@ hlq_block plain_block_of(uint32_t m, uint32_t key) {
  * room may be too little */
 
 typedef struct {
-    const uint8_t *raster;
-    uint32_t edge;
+    size_t edge;
     uint32_t *keys, *bits;
 } job;
 typedef struct {
@@ -46,48 +48,69 @@ typedef struct {
     size_t count;
 } tally;
 
-static tally count_block(const job *j, uint32_t row, uint32_t column, uint32_t side) {
-    const uint8_t *at = j->raster + (size_t)row * j->edge + column;
+static tally count_block(const job *j, const uint8_t *at, uint32_t side) {
     if (side == 1) return (tally){ 1u << *at, 1 };
     if (side == 2) {
         uint32_t bits = 1u << at[0] | 1u << at[1] | 1u << at[j->edge] | 1u << at[j->edge + 1];
         return (tally){ bits, one_bit(bits) ? 1 : 5 };
     }
-    uint32_t h = side / 2;
-    tally a = count_block(j, row, column, h), b = count_block(j, row, column + h, h),
-          c = count_block(j, row + h, column, h), d = count_block(j, row + h, column + h, h);
-    uint32_t bits = a.bits | b.bits | c.bits | d.bits;
-    return (tally){ bits, one_bit(bits) ? 1 : 1 + a.count + b.count + c.count + d.count };
+    uint32_t h = side / 2, bits = 0;
+    size_t count = 1;
+    for (size_t d = 0; d < 4; d++) {
+        tally q = count_block(j, at + (d / 2 * j->edge + d % 2) * h, h);
+        bits |= q.bits, count += q.count;
+    }
+    return (tally){ bits, one_bit(bits) ? 1 : count };
 }
 
 /* A block of two by two pixels, without a call: most blocks are of this size. */
-static inline tally write_quad(const job *j, uint32_t row, uint32_t column, uint32_t key, size_t at) {
-    const uint8_t *north = j->raster + (size_t)row * j->edge + column, *south = north + j->edge;
+static inline tally write_quad(const job *j, const uint8_t *north, uint32_t key, size_t at) {
+    const uint8_t *south = north + j->edge;
     uint32_t a = 1u << north[0], b = 1u << north[1], c = 1u << south[0], d = 1u << south[1], bits = a | b | c | d;
-    if (one_bit(bits)) return (tally) { bits, at + 1 };
+    if ((bits & (bits - 1)) == 0) return (tally) { bits, at + 1 };
     uint32_t *keys = j->keys + at, *slots = j->bits + at;
     keys[1] = key + 1, keys[2] = key + 2, keys[3] = key + 3, keys[4] = key + 4;
     slots[1] = a, slots[2] = b, slots[3] = c, slots[4] = d;
     return (tally) { bits, at + 5 };
 }
 
-static tally write_below(const job *j, uint32_t row, uint32_t column, uint32_t side, uint32_t key, uint32_t step,
-                         size_t at) {
-    if (side == 1) return (tally) { 1u << j->raster[(size_t)row * j->edge + column], at + 1 };
-    if (side == 2) return write_quad(j, row, column, key, at);
-    uint32_t h = side / 2;
-    size_t p1 = at + 1;
-    tally a = write_below(j, row, column, h, key + step, step / 5, p1);
-    tally b = write_below(j, row, column + h, h, key + 2 * step, step / 5, a.count);
-    tally c = write_below(j, row + h, column, h, key + 3 * step, step / 5, b.count);
-    tally d = write_below(j, row + h, column + h, h, key + 4 * step, step / 5, c.count);
-    uint32_t bits = a.bits | b.bits | c.bits | d.bits;
-    if (one_bit(bits)) return (tally) { bits, at + 1 };
-    j->keys[p1] = key + step, j->bits[p1] = a.bits;
-    j->keys[a.count] = key + 2 * step, j->bits[a.count] = b.bits;
-    j->keys[b.count] = key + 3 * step, j->bits[b.count] = c.bits;
-    j->keys[c.count] = key + 4 * step, j->bits[c.count] = d.bits;
-    return (tally) { bits, d.count };
+/* Four blocks with their places, below a block at a place; nothing is below it where all are the same leaf. */
+static inline tally write_four(const job *j, uint32_t key, uint32_t step, size_t at, const size_t *places,
+                               const uint32_t *own, size_t end) {
+    uint32_t bits = own[0] | own[1] | own[2] | own[3];
+    if ((bits & (bits - 1)) == 0) return (tally) { bits, at + 1 };
+    for (uint32_t d = 0; d < 4; d++) j->keys[places[d]] = key + (d + 1) * step, j->bits[places[d]] = own[d];
+    return (tally) { bits, end };
+}
+
+static inline tally write_sixteen(const job *j, const uint8_t *north, uint32_t key, size_t at) {
+    const uint8_t *south = north + 2 * j->edge;
+    size_t places[4];
+    uint32_t own[4];
+    places[0] = at + 1;
+    tally q = write_quad(j, north, key + 5, at + 1);
+    own[0] = q.bits, places[1] = q.count;
+    q = write_quad(j, north + 2, key + 10, q.count);
+    own[1] = q.bits, places[2] = q.count;
+    q = write_quad(j, south, key + 15, q.count);
+    own[2] = q.bits, places[3] = q.count;
+    q = write_quad(j, south + 2, key + 20, q.count);
+    own[3] = q.bits;
+    return write_four(j, key, 5, at, places, own, q.count);
+}
+
+static tally write_below(const job *j, const uint8_t *corner, uint32_t side, uint32_t key, uint32_t step, size_t at) {
+    uint32_t h = side / 2, own[4];
+    size_t places[4], next = at + 1;
+    if (side == 1) return (tally) { 1u << *corner, next };
+    if (side == 2) return write_quad(j, corner, key, at);
+    if (side == 4) return write_sixteen(j, corner, key, at);
+    for (uint32_t d = 0; d < 4; d++) {
+        const uint8_t *c = corner + (d / 2 * j->edge + d % 2) * h;
+        tally q = write_below(j, c, h, key + (d + 1) * step, step / 5, next);
+        own[d] = q.bits, places[d] = next, next = q.count;
+    }
+    return write_four(j, key, step, at, places, own, next);
 }
 
 /* Whether all pixels are below s: eight at a time. A byte is s or more where it is 128 or more, or reaches 128 once
@@ -108,9 +131,9 @@ static int are_features(const uint8_t *raster, size_t pixels, uint32_t s) {
 size_t plain_build(uint32_t m, uint32_t s, const uint8_t *raster, uint32_t *keys, uint32_t *bits, size_t room) {
     size_t pixels = (size_t)1 << 2 * m;
     if (!are_features(raster, pixels, s)) return 0;
-    job j = { raster, 1u << m, keys, bits };
-    if (room < (4 * pixels - 1) / 3 && count_block(&j, 0, 0, 1u << m).count > room) return 0;
-    tally t = write_below(&j, 0, 0, 1u << m, 0, m ? five[m - 1] : 0, 0);
+    job j = { (size_t)1 << m, keys, bits };
+    if (room < (4 * pixels - 1) / 3 && count_block(&j, raster, 1u << m).count > room) return 0;
+    tally t = write_below(&j, raster, 1u << m, 0, m ? five[m - 1] : 0, 0);
     keys[0] = 0, bits[0] = t.bits;
     return t.count;
 }
@@ -121,15 +144,14 @@ size_t plain_build(uint32_t m, uint32_t s, const uint8_t *raster, uint32_t *keys
 /* The bitstring with s slots set: 1u << s would be too much at s = 32. */
 static uint32_t all_slots(uint32_t s) { return 0xFFFFFFFFu >> (32 - s); }
 
-/* The records after place `at` are the four pixels of the block there. A number less one has its highest bit where the
- * number was 0; the others that have it are no single slots. */
+/* The records after place `at` are the four pixels of the block there. */
 static inline int are_pixels(const uint32_t *keys, const uint32_t *bits, size_t at, uint32_t key) {
     const uint32_t *k = keys + at;
     uint32_t a = bits[at + 1], b = bits[at + 2], c = bits[at + 3], d = bits[at + 4];
-    if ((k[1] ^ (key + 1)) | (k[2] ^ (key + 2)) | (k[3] ^ (key + 3)) | (k[4] ^ (key + 4))) return 0;
     if ((a | b | c | d) != bits[at]) return 0;
-    uint32_t zeros = ((a - 1) | (b - 1) | (c - 1) | (d - 1)) >> 31;
-    return ((a & (a - 1)) | (b & (b - 1)) | (c & (c - 1)) | (d & (d - 1)) | zeros) == 0;
+    if (k[1] != key + 1 || k[2] != key + 2 || k[3] != key + 3 || k[4] != key + 4) return 0;
+    if (a == 0 || b == 0 || c == 0 || d == 0) return 0;
+    return ((a & (a - 1)) | (b & (b - 1)) | (c & (c - 1)) | (d & (d - 1))) == 0;
 }
 
 /* The place after the records of the block at place `at`, which has four by four pixels and is no leaf; 0 where they
@@ -189,13 +211,21 @@ int plain_is_list(uint32_t m, uint32_t s, const uint32_t *keys, const uint32_t *
 /* ---- raster: each size that is frequent has a function, so that a leaf's lines are stores of a known length */
 
 static inline void fill_square(uint8_t *at, size_t edge, size_t side, uint32_t leaf) {
-    for (size_t r = 0; r < side; r++) memset(at + r * edge, __builtin_ctz(leaf), side);
+    for (size_t r = 0; r < side; r++) memset(at + r * edge, (int)slot_of(leaf), side);
+}
+
+/* Sides from 16 on: in pieces of 16 bytes where a call would take longer. */
+static inline void fill_large_square(uint8_t *at, size_t edge, size_t side, uint32_t leaf) {
+    if (side > 64) fill_square(at, edge, side, leaf);
+    else
+        for (size_t r = 0; r < side; r++)
+            for (size_t c = 0; c < side; c += 16) memset(at + r * edge + c, (int)slot_of(leaf), 16);
 }
 
 /* The quadrants of a block of two by two pixels, from place `next` on. */
 static inline size_t fill_two(const uint32_t *bits, size_t next, uint8_t *at, size_t edge) {
-    at[0] = (uint8_t)__builtin_ctz(bits[next]), at[1] = (uint8_t)__builtin_ctz(bits[next + 1]);
-    at[edge] = (uint8_t)__builtin_ctz(bits[next + 2]), at[edge + 1] = (uint8_t)__builtin_ctz(bits[next + 3]);
+    at[0] = (uint8_t)slot_of(bits[next]), at[1] = (uint8_t)slot_of(bits[next + 1]);
+    at[edge] = (uint8_t)slot_of(bits[next + 2]), at[edge + 1] = (uint8_t)slot_of(bits[next + 3]);
     return next + 4;
 }
 
@@ -227,7 +257,7 @@ static size_t fill_large(const uint32_t *bits, size_t next, uint8_t *at, size_t 
         if (half == 8) {
             if ((b & (b - 1)) == 0) fill_square(corner, edge, 8, b);
             else next = fill_eight(bits, next, corner, edge);
-        } else if ((b & (b - 1)) == 0) fill_square(corner, edge, half, b);
+        } else if ((b & (b - 1)) == 0) fill_large_square(corner, edge, half, b);
         else next = fill_large(bits, next, corner, edge, half / 2);
     }
     return next;
@@ -235,7 +265,7 @@ static size_t fill_large(const uint32_t *bits, size_t next, uint8_t *at, size_t 
 
 void plain_raster(uint32_t m, const uint32_t *bits, uint8_t *raster) {
     size_t edge = (size_t)1 << m;
-    if (one_bit(bits[0])) memset(raster, __builtin_ctz(bits[0]), edge * edge);
+    if (one_bit(bits[0])) memset(raster, (int)slot_of(bits[0]), edge * edge);
     else if (m == 1) fill_two(bits, 1, raster, edge);
     else if (m == 2) fill_four(bits, 1, raster, edge);
     else if (m == 3) fill_eight(bits, 1, raster, edge);
@@ -270,7 +300,7 @@ static joint combine_block(const two_lists *j, uint32_t leaf1, size_t at1, uint3
         if (!one_bit(leaf2)) leaf2 = 0;
     }
     if (leaf1 && leaf2) {
-        uint8_t class = j->table[(uint32_t)__builtin_ctz(leaf1) * j->s2 + (uint32_t)__builtin_ctz(leaf2)];
+        uint8_t class = j->table[slot_of(leaf1) * j->s2 + slot_of(leaf2)];
         return (joint){ 1u << class, place + 1, at1, at2 };
     }
     uint32_t lower = step / 5, union_of_four = 0, own[4];
@@ -279,7 +309,7 @@ static joint combine_block(const two_lists *j, uint32_t leaf1, size_t at1, uint3
         places[d] = next;
         if (lower == 1) {
             uint32_t a = leaf1 ? leaf1 : j->bits1[at1++], b = leaf2 ? leaf2 : j->bits2[at2++];
-            own[d] = 1u << j->table[(uint32_t)__builtin_ctz(a) * j->s2 + (uint32_t)__builtin_ctz(b)];
+            own[d] = 1u << j->table[slot_of(a) * j->s2 + slot_of(b)];
             next++;
         } else {
             joint q = combine_block(j, leaf1, at1, leaf2, at2, key + (d + 1) * lower, lower, next);
@@ -343,25 +373,31 @@ hlq_span plain_part(uint32_t m, const uint32_t *keys, const uint32_t *bits, size
  * bits add nothing is passed over, and only else its four quadrants are asked, which stand after it in the list. */
 
 typedef struct {
-    uint32_t row, column, height, width;
+    uint32_t row, column, bottom, right; /* bottom and right are past the window */
 } frame;
 typedef struct {
     uint32_t key, row, column, side, step;
 } spot;
 
-static int apart(const frame *w, const spot *b) {
-    return b->row + b->side <= w->row || w->row + w->height <= b->row || b->column + b->side <= w->column ||
-           w->column + w->width <= b->column;
+static frame frame_of(uint32_t row, uint32_t column, uint32_t height, uint32_t width) {
+    return (frame){ row, column, row + height, column + width };
 }
 
-static int inside(const frame *w, const spot *b) {
-    return w->row <= b->row && b->row + b->side <= w->row + w->height && w->column <= b->column &&
-           b->column + b->side <= w->column + w->width;
+static inline int inside(const frame *w, const spot *b) {
+    return w->row <= b->row && b->row + b->side <= w->bottom && w->column <= b->column &&
+           b->column + b->side <= w->right;
 }
 
-static spot quadrant(const spot *b, uint32_t digit) {
+/* Which quadrants of a block that meets the window do so: bits 1 to 4. */
+static inline uint32_t quadrants_met(const frame *w, const spot *b) {
+    uint32_t row = b->row + b->side / 2, column = b->column + b->side / 2;
+    uint32_t sides = (w->column < column ? 10u : 0) | (column < w->right ? 20u : 0); /* west, east */
+    return sides & ((w->row < row ? 6u : 0) | (row < w->bottom ? 24u : 0));          /* north, south */
+}
+
+static inline spot quadrant(const spot *b, uint32_t digit) {
     uint32_t h = b->side / 2, step = b->step / 5;
-    return (spot) { b->key + digit * step, b->row + (digit > 2 ? h : 0), b->column + (digit % 2 ? 0 : h), h, step };
+    return (spot) { b->key + digit * step, b->row + (digit - 1) / 2 * h, b->column + (digit - 1) % 2 * h, h, step };
 }
 
 /* The place of a listed key at or after a place: steps that double, then halve. */
@@ -388,28 +424,28 @@ typedef struct {
 } question;
 
 /* The block is listed at the place. */
-static int exist_below(question *q, spot b, size_t at) {
+static int exist_below(question *q, const spot *b, size_t at) {
     uint32_t found = q->bits[at];
     if (!(found & q->bit)) return 0;
-    if (found == q->bit || inside(&q->w, &b)) return 1;
-    for (uint32_t digit = 1; digit <= 4; digit++) {
-        spot c = quadrant(&b, digit);
-        if (apart(&q->w, &c)) continue;
+    if (found == q->bit || inside(&q->w, b)) return 1;
+    for (uint32_t met = quadrants_met(&q->w, b); met; met &= met - 1) {
+        uint32_t digit = slot_of(met);
+        spot c = quadrant(b, digit);
         at = place_from(q->keys, q->n, at, c.key);
-        if (exist_below(q, c, at)) return 1;
+        if (exist_below(q, &c, at)) return 1;
     }
     return 0;
 }
 
-static uint32_t report_below(question *q, spot b, size_t at, uint32_t seen) {
+static uint32_t report_below(question *q, const spot *b, size_t at, uint32_t seen) {
     uint32_t found = q->bits[at];
     if ((seen | found) == seen) return seen;
-    if (one_bit(found) || inside(&q->w, &b)) return seen | found;
-    for (uint32_t digit = 1; digit <= 4; digit++) {
-        spot c = quadrant(&b, digit);
-        if (apart(&q->w, &c)) continue;
+    if (one_bit(found) || inside(&q->w, b)) return seen | found;
+    for (uint32_t met = quadrants_met(&q->w, b); met; met &= met - 1) {
+        uint32_t digit = slot_of(met);
+        spot c = quadrant(b, digit);
         at = place_from(q->keys, q->n, at, c.key);
-        seen = report_below(q, c, at, seen);
+        seen = report_below(q, &c, at, seen);
     }
     return seen;
 }
@@ -420,49 +456,51 @@ static void give(question *q, uint32_t key) {
 }
 
 /* The window's largest blocks in a leaf: the list has no more to say. */
-static void select_in_leaf(question *q, spot b) {
-    if (inside(&q->w, &b)) {
-        give(q, b.key);
+static void select_in_leaf(question *q, const spot *b) {
+    if (inside(&q->w, b)) {
+        give(q, b->key);
         return;
     }
-    for (uint32_t digit = 1; digit <= 4; digit++) {
-        spot c = quadrant(&b, digit);
-        if (!apart(&q->w, &c)) select_in_leaf(q, c);
+    for (uint32_t met = quadrants_met(&q->w, b); met; met &= met - 1) {
+        spot c = quadrant(b, slot_of(met));
+        select_in_leaf(q, &c);
     }
 }
 
-static void select_below(question *q, spot b, size_t at) {
+static void select_below(question *q, const spot *b, size_t at) {
     uint32_t found = q->bits[at];
     if (!(found & q->bit)) return;
     if (found == q->bit) {
         select_in_leaf(q, b);
         return;
     }
-    if (inside(&q->w, &b)) {
-        uint32_t end = b.key + b.step;
-        for (; at < q->n && q->keys[at] < end; at++)
+    if (inside(&q->w, b)) {
+        size_t last = place_from(q->keys, q->n, at, b->key + b->step - 1);
+        for (; at <= last; at++)
             if (q->bits[at] == q->bit) give(q, q->keys[at]);
         return;
     }
-    for (uint32_t digit = 1; digit <= 4; digit++) {
-        spot c = quadrant(&b, digit);
-        if (apart(&q->w, &c)) continue;
+    for (uint32_t met = quadrants_met(&q->w, b); met; met &= met - 1) {
+        uint32_t digit = slot_of(met);
+        spot c = quadrant(b, digit);
         at = place_from(q->keys, q->n, at, c.key);
-        select_below(q, c, at);
+        select_below(q, &c, at);
     }
 }
 
 int plain_exist(uint32_t m, const uint32_t *keys, const uint32_t *bits, size_t n, uint32_t row, uint32_t column,
                 uint32_t height, uint32_t width, uint32_t feature) {
-    question q = { keys, bits, n, { row, column, height, width }, 1u << feature, NULL, 0, 0 };
-    int yes = exist_below(&q, (spot) { 0, 0, 0, 1u << m, five[m] }, 0);
+    question q = { keys, bits, n, frame_of(row, column, height, width), 1u << feature, NULL, 0, 0 };
+    spot root = { 0, 0, 0, 1u << m, five[m] };
+    int yes = exist_below(&q, &root, 0);
     return yes;
 }
 
 uint32_t plain_report(uint32_t m, const uint32_t *keys, const uint32_t *bits, size_t n, uint32_t row, uint32_t column,
                       uint32_t height, uint32_t width) {
-    question q = { keys, bits, n, { row, column, height, width }, 0, NULL, 0, 0 };
-    uint32_t found = report_below(&q, (spot) { 0, 0, 0, 1u << m, five[m] }, 0, 0);
+    question q = { keys, bits, n, frame_of(row, column, height, width), 0, NULL, 0, 0 };
+    spot root = { 0, 0, 0, 1u << m, five[m] };
+    uint32_t found = report_below(&q, &root, 0, 0);
     return found;
 }
 
@@ -470,14 +508,14 @@ uint32_t plain_report(uint32_t m, const uint32_t *keys, const uint32_t *bits, si
  * window. */
 size_t plain_select(uint32_t m, const uint32_t *keys, const uint32_t *bits, size_t n, uint32_t row, uint32_t column,
                     uint32_t height, uint32_t width, uint32_t feature, uint32_t *answer, size_t room) {
-    question q = { keys, bits, n, { row, column, height, width }, 1u << feature, answer, 0, 0 };
+    question q = { keys, bits, n, frame_of(row, column, height, width), 1u << feature, answer, 0, 0 };
     spot root = { 0, 0, 0, 1u << m, five[m] };
     if (room < (size_t)height * width) {
-        select_below(&q, root, 0);
+        select_below(&q, &root, 0);
         if (q.count > room) return q.count;
     }
     q.room = room, q.count = 0;
-    select_below(&q, root, 0);
+    select_below(&q, &root, 0);
     return q.count;
 }
 
@@ -505,19 +543,6 @@ size_t plain_batch(uint32_t m, uint32_t s, const uint32_t *keys, const uint32_t 
     return count;
 }
 
-static size_t blocks_below(const frame *w, spot b) {
-    if (apart(w, &b)) return 0;
-    if (inside(w, &b)) return 1;
-    size_t count = 0;
-    for (uint32_t digit = 1; digit <= 4; digit++) count += blocks_below(w, quadrant(&b, digit));
-    return count;
-}
-
-size_t plain_blocks(uint32_t m, uint32_t row, uint32_t column, uint32_t height, uint32_t width) {
-    frame w = { row, column, height, width };
-    return blocks_below(&w, (spot) { 0, 0, 0, 1u << m, five[m] });
-}
-
 /* ---- summary: where one goes with a list, the check of the list counts as it goes. Four tables of counters, one for
  * each quadrant of a node, so that no addition waits for the one before. */
 
@@ -527,20 +552,26 @@ static uint32_t summary_level(uint32_t m) { return m < 2 ? m : 2; }
 
 static inline void count_pixels(const uint32_t *bits, size_t first, counters counts) {
     uint32_t a = bits[first], b = bits[first + 1], c = bits[first + 2], d = bits[first + 3];
-    counts[0][__builtin_ctz(a)]++, counts[1][__builtin_ctz(b)]++;
-    counts[2][__builtin_ctz(c)]++, counts[3][__builtin_ctz(d)]++;
+    counts[0][slot_of(a)]++, counts[1][slot_of(b)]++;
+    counts[2][slot_of(c)]++, counts[3][slot_of(d)]++;
 }
 
 /* The quadrants, of so many pixels each, of a block whose own record is before place `next`. */
 static size_t count_node(const uint32_t *bits, size_t next, uint32_t pixels, counters counts) {
     for (int d = 0; d < 4; d++) {
         uint32_t b = bits[next++];
-        if ((b & (b - 1)) == 0) counts[d][__builtin_ctz(b)] += pixels;
+        if ((b & (b - 1)) == 0) counts[d][slot_of(b)] += pixels;
         else if (pixels == 4) count_pixels(bits, next, counts), next += 4;
         else next = count_node(bits, next, pixels / 4, counts);
     }
     return next;
 }
+
+typedef struct {
+    const uint32_t *keys, *bits;
+    size_t n;
+    uint32_t s, pixels, *summary;
+} checking;
 
 /* check_sixteen and check_large with counters. */
 static inline size_t count_sixteen(const uint32_t *keys, const uint32_t *bits, size_t n, size_t at, uint32_t key,
@@ -554,7 +585,7 @@ static inline size_t count_sixteen(const uint32_t *keys, const uint32_t *bits, s
         together |= b;
         if ((b & (b - 1)) == 0) {
             if (b == 0) return 0;
-            counts[d][__builtin_ctz(b)] += 4;
+            counts[d][slot_of(b)] += 4;
             next++;
         } else {
             if (n - next <= 4 || !are_pixels(keys, bits, next, key)) return 0;
@@ -565,10 +596,11 @@ static inline size_t count_sixteen(const uint32_t *keys, const uint32_t *bits, s
     return together == bits[at] ? next : 0;
 }
 
-static size_t count_large(const uint32_t *keys, const uint32_t *bits, size_t n, size_t at, uint32_t key, uint32_t step,
-                          uint32_t pixels, counters counts) {
+static size_t count_large(const checking *c, size_t at, uint32_t key, uint32_t step, uint32_t pixels, counters counts) {
+    const uint32_t *keys = c->keys, *bits = c->bits;
     uint32_t together = 0;
-    size_t next = at + 1;
+    size_t next = at + 1, n = c->n;
+#pragma GCC unroll 4
     for (int d = 0; d < 4; d++) {
         key += step;
         if (next >= n || keys[next] != key) return 0;
@@ -576,12 +608,12 @@ static size_t count_large(const uint32_t *keys, const uint32_t *bits, size_t n, 
         together |= b;
         if ((b & (b - 1)) == 0) {
             if (b == 0) return 0;
-            counts[d][__builtin_ctz(b)] += pixels;
+            counts[d][slot_of(b)] += pixels;
             next++;
             continue;
         }
         next = step == 25 ? count_sixteen(keys, bits, n, next, key, counts)
-                          : count_large(keys, bits, n, next, key, step / 5, pixels / 4, counts);
+                          : count_large(c, next, key, step / 5, pixels / 4, counts);
         if (next == 0) return 0;
     }
     return together == bits[at] ? next : 0;
@@ -595,7 +627,7 @@ static void add_up(counters counts, uint32_t s, uint32_t *row) {
 static void count_row(const uint32_t *bits, size_t at, uint32_t pixels, uint32_t s, uint32_t *row) {
     if (one_bit(bits[at])) {
         memset(row, 0, 4 * s);
-        row[__builtin_ctz(bits[at])] = pixels;
+        row[slot_of(bits[at])] = pixels;
         return;
     }
     counters counts = { { 0 } };
@@ -615,7 +647,7 @@ static void count_rows(uint32_t m, uint32_t s, const uint32_t *keys, const uint3
                        uint32_t *summary, uint32_t blocks) {
     uint32_t pixels = 1u << 2 * (m - summary_level(m));
     for (; blocks; blocks &= blocks - 1) {
-        uint32_t block = (uint32_t)__builtin_ctz(blocks);
+        uint32_t block = slot_of(blocks);
         count_row(bits, plain_place(keys, n, summary_key(m, block)), pixels, s, summary + (size_t)block * s);
     }
 }
@@ -629,12 +661,6 @@ static uint32_t blocks_met(uint32_t m, uint32_t key) {
     return second == 0 ? 15u << 4 * first : 1u << (4 * first + second - 1);
 }
 
-typedef struct {
-    const uint32_t *keys, *bits;
-    size_t n;
-    uint32_t s, pixels, *summary;
-} checking;
-
 /* A block at or above the level of the summary, where so many blocks of it are, from number `first` on. */
 static size_t check_top(const checking *c, size_t at, uint32_t key, uint32_t step, uint32_t first, uint32_t blocks) {
     uint32_t own = c->bits[at], together = 0;
@@ -642,12 +668,12 @@ static size_t check_top(const checking *c, size_t at, uint32_t key, uint32_t ste
     if ((own & (own - 1)) == 0) {
         if (own == 0 || own > all_slots(c->s)) return 0;
         for (uint32_t i = first; i < first + blocks; i++)
-            c->summary[(size_t)i * c->s + (uint32_t)__builtin_ctz(own)] = c->pixels;
+            c->summary[(size_t)i * c->s + slot_of(own)] = c->pixels;
         return next;
     }
     if (blocks == 1) {
         counters counts = { { 0 } };
-        next = count_large(c->keys, c->bits, c->n, at, key, step / 5, c->pixels / 4, counts);
+        next = count_large(c, at, key, step / 5, c->pixels / 4, counts);
         add_up(counts, c->s, c->summary + (size_t)first * c->s);
         return next;
     }
@@ -711,35 +737,41 @@ static uint32_t common(uint32_t a, uint32_t b, uint32_t c, uint32_t d) {
     return until - from;
 }
 
-static size_t count_one(const uint32_t *bits, size_t at, uint32_t pixels, uint32_t bit, uint32_t *count) {
-    if (one_bit(bits[at])) {
-        if (bits[at] == bit) *count += pixels;
-        return at + 1;
+/* The quadrants, of so many pixels each, of a block whose own record is before place `next`. */
+static size_t count_one(const uint32_t *bits, size_t next, uint32_t pixels, uint32_t bit, uint32_t *count) {
+    for (int d = 0; d < 4; d++) {
+        uint32_t b = bits[next++];
+        if (b == bit) *count += pixels;
+        else if ((b & (b - 1)) == 0) continue;
+        else if (pixels > 4) next = count_one(bits, next, pixels / 4, bit, count);
+        else {
+            *count += (uint32_t)(bits[next] == bit) + (bits[next + 1] == bit) + (bits[next + 2] == bit) +
+                      (bits[next + 3] == bit);
+            next += 4;
+        }
     }
-    at++;
-    for (int d = 0; d < 4; d++) at = count_one(bits, at, pixels / 4, bit, count);
-    return at;
+    return next;
 }
 
 /* block: the number of the first block of the summary in this one. */
-static uint32_t area_below(const measuring *q, spot b, size_t at, uint32_t block) {
+static uint32_t area_below(const measuring *q, const spot *b, size_t at, uint32_t block) {
     uint32_t found = q->bits[at], count = 0;
     if (!(found & q->bit)) return 0;
     if (found == q->bit)
-        return common(b.row, b.row + b.side, q->w.row, q->w.row + q->w.height) *
-               common(b.column, b.column + b.side, q->w.column, q->w.column + q->w.width);
-    if (inside(&q->w, &b)) {
-        uint32_t blocks = b.side >= q->side ? (b.side / q->side) * (b.side / q->side) : 0;
+        return common(b->row, b->row + b->side, q->w.row, q->w.bottom) *
+               common(b->column, b->column + b->side, q->w.column, q->w.right);
+    if (inside(&q->w, b)) {
+        uint32_t blocks = b->side >= q->side ? (b->side / q->side) * (b->side / q->side) : 0;
         for (uint32_t i = 0; i < blocks; i++) count += q->summary[(size_t)(block + i) * q->s + q->feature];
-        if (blocks == 0) count_one(q->bits, at, b.side * b.side, q->bit, &count);
+        if (blocks == 0) count_one(q->bits, at + 1, b->side * b->side / 4, q->bit, &count);
         return count;
     }
-    uint32_t half = b.side / 2, share = half >= q->side ? (half / q->side) * (half / q->side) : 0;
-    for (uint32_t digit = 1; digit <= 4; digit++) {
-        spot c = quadrant(&b, digit);
-        if (apart(&q->w, &c)) continue;
+    uint32_t half = b->side / 2, share = half >= q->side ? (half / q->side) * (half / q->side) : 0;
+    for (uint32_t met = quadrants_met(&q->w, b); met; met &= met - 1) {
+        uint32_t digit = slot_of(met);
+        spot c = quadrant(b, digit);
         at = place_from(q->keys, q->n, at, c.key);
-        count += area_below(q, c, at, block + (digit - 1) * share);
+        count += area_below(q, &c, at, block + (digit - 1) * share);
     }
     return count;
 }
@@ -748,9 +780,10 @@ uint32_t plain_area(uint32_t m, uint32_t s, const uint32_t *keys, const uint32_t
                     const uint32_t *summary, uint32_t row, uint32_t column, uint32_t height, uint32_t width,
                     uint32_t feature) {
     if (!plain_is_surveyed(m, s, keys, bits, n, summary)) return 0;
-    frame w = { row, column, height, width };
+    frame w = frame_of(row, column, height, width);
     measuring q = { keys, bits, summary, n, w, 1u << feature, feature, s, 1u << (m - summary_level(m)) };
-    return area_below(&q, (spot) { 0, 0, 0, 1u << m, five[m] }, 0, 0);
+    spot root = { 0, 0, 0, 1u << m, five[m] };
+    return area_below(&q, &root, 0, 0);
 }
 
 /* ---- edits */
@@ -907,12 +940,11 @@ static tally weave(weaver *w, uint32_t leaf, uint32_t key, uint32_t step, size_t
 }
 
 /* Where the blocks of the parts stand; gives whether none lies in another and they ascend. */
-static int place_parts(uint32_t m, const uint32_t *keys, size_t n, part *parts, size_t count) {
+static int place_parts(const uint32_t *keys, size_t n, part *parts, size_t count) {
     size_t at = 0;
     int apart = 1;
     for (size_t i = 0; i < count; i++) {
         part *p = parts + i;
-        p->step = step_of(m, p->key);
         if (i > 0 && p->key < parts[i - 1].key + parts[i - 1].step) apart = 0;
         at = apart ? place_from(keys, n, at, p->key) : 0;
         p->from = at;
@@ -950,14 +982,16 @@ static void renew_parts(uint32_t m, uint32_t s, const uint32_t *keys, const uint
     count_rows(m, s, keys, bits, n, summary, blocks);
 }
 
-/* The window's largest blocks, by key. */
-static size_t cover(const frame *w, spot b, part *parts, size_t count) {
-    if (apart(w, &b)) return count;
-    if (inside(w, &b)) {
-        parts[count].key = b.key, parts[count].step = b.step;
+/* The window's largest blocks in a block that meets it, by key; how many there are, where none are lent. */
+static size_t cover(const frame *w, const spot *b, part *parts, size_t count) {
+    if (inside(w, b)) {
+        if (parts) parts[count].key = b->key, parts[count].step = b->step;
         return count + 1;
     }
-    for (uint32_t digit = 1; digit <= 4; digit++) count = cover(w, quadrant(&b, digit), parts, count);
+    for (uint32_t met = quadrants_met(w, b); met; met &= met - 1) {
+        spot c = quadrant(b, slot_of(met));
+        count = cover(w, &c, parts, count);
+    }
     return count;
 }
 
@@ -985,15 +1019,15 @@ size_t plain_paint_window(uint32_t m, uint32_t s, uint32_t *keys, uint32_t *bits
                           uint32_t feature) {
     if (!plain_is_surveyed(m, s, keys, bits, n, summary)) return 0;
     if (!plain_log_is_sound(m, s, log_keys, log_values, c->used, c->in_force)) return 0;
-    frame w = { row, column, height, width };
+    frame w = frame_of(row, column, height, width);
     spot root = { 0, 0, 0, 1u << m, five[m] };
-    size_t count = blocks_below(&w, root), end = c->in_force + 2;
+    size_t count = cover(&w, &root, NULL, 0), end = c->in_force + 2;
     uint32_t leaf = 1u << feature;
     part *parts = malloc(count * sizeof *parts);
     if (!parts) return 0;
-    cover(&w, root, parts, 0);
+    cover(&w, &root, parts, 0);
     for (size_t i = 0; i < count; i++) parts[i].keys = &parts[i].key, parts[i].bits = &leaf, parts[i].n = 1;
-    place_parts(m, keys, n, parts, count);
+    place_parts(keys, n, parts, count);
     for (size_t i = 0; i < count; i++) end += (parts[i].old ? parts[i].old : 1) + 2;
     size_t now = end > log_room ? 0 : make_list(m, keys, bits, n, parts, count, 1, 0);
     if (now > room) now = 0;
@@ -1028,11 +1062,11 @@ static size_t put_group(uint32_t m, uint32_t s, uint32_t *keys, uint32_t *bits, 
     end -= 2;
     for (size_t i = count; i > 0; i--) {
         size_t records = log_values[end - 2], from = end - 2 - records;
-        part p = { log_keys[end - 1], 0, log_keys + from, log_values + from, records, 0, 0 };
+        part p = { log_keys[end - 1], step_of(m, log_keys[end - 1]), log_keys + from, log_values + from, records, 0, 0 };
         if (!backwards) p.keys = log_keys + end - 1, p.bits = leaves + log_values[end - 1], p.n = 1;
         parts[i - 1] = p, end = from;
     }
-    size_t now = make_list(m, keys, bits, n, parts, count, place_parts(m, keys, n, parts, count), backwards);
+    size_t now = make_list(m, keys, bits, n, parts, count, place_parts(keys, n, parts, count), backwards);
     if (now > room) now = 0;
     if (now) {
         take_over(keys, bits, n, now);
@@ -1202,15 +1236,16 @@ size_t plain_findings(uint32_t m, uint32_t s, const uint32_t *keys, const uint32
     if (!plain_is_list(m, s, keys, bits, n) || !are_rules(m, s, rules, rules_len)) return 0;
     if (!are_waivers(m, office, rules, rules_len, offices, ids, waived, rows)) return 0;
     size_t live = 0, end = 0;
+    spot root = { 0, 0, 0, 1u << m, five[m] };
     *hidden = 0;
     while (end < rows && offices[end] != office) end++;
     for (size_t i = 0; i < rules_len; i++) {
         const hlq_rule *r = rules + i;
         waiving w = { waived + end, 0, 0, 0 };
         for (; end < rows && offices[end] == office && ids[end] == r->id; end++) w.count++;
-        question q = { keys, bits, n, { r->row, r->column, r->height, r->width }, 1u << r->feature, found_keys + live,
+        question q = { keys, bits, n, frame_of(r->row, r->column, r->height, r->width), 1u << r->feature, found_keys + live,
                        SIZE_MAX, 0 };
-        select_below(&q, (spot){ 0, 0, 0, 1u << m, five[m] }, 0);
+        select_below(&q, &root, 0);
         size_t kept = w.count == 0 ? q.count : 0;
         if (w.count > 0)
             for (size_t j = 0; j < q.count; j++)
@@ -1338,7 +1373,7 @@ size_t plain_write_leaves(const uint32_t *keys, const uint32_t *bits, size_t n, 
                           uint32_t *leaf_features) {
     size_t at = 0;
     for (size_t i = 0; i < n; i++)
-        if (one_bit(bits[i])) leaf_keys[at] = keys[i], leaf_features[at++] = (uint32_t)__builtin_ctz(bits[i]);
+        if (one_bit(bits[i])) leaf_keys[at] = keys[i], leaf_features[at++] = slot_of(bits[i]);
     return at;
 }
 
@@ -1362,40 +1397,47 @@ size_t plain_write_bits(const uint32_t *bits, size_t n, uint8_t *nodes, uint8_t 
     return count;
 }
 
-/* A pair that is read. */
+/* A pair that is read; how far. */
 typedef struct {
     const uint8_t *nodes, *leaves;
     size_t nodes_len, leaves_len, i, j;
-    uint32_t *keys, *bits;
 } strings;
 
-/* Reads a block; 0 where it is wrong. What it writes as a leaf is told apart by its bits. */
-static int read_block(strings *s, uint32_t key, uint32_t step) {
+static inline uint32_t bit_at(const uint8_t *bytes, size_t i) { return bytes[i / 8] >> (7 - i % 8) & 1; }
+
+/* Passes over a block: 1 or 2 for a leaf of feature 0 or 1, 3 for a node, and 0 where it is wrong. */
+static uint32_t pass_bits(strings *s, uint32_t step) {
     if (s->i / 8 >= s->nodes_len) return 0;
-    size_t at = s->i++;
-    s->keys[at] = key;
-    if (s->nodes[at / 8] >> (7 - at % 8) & 1) {
-        if (s->j / 8 >= s->leaves_len) return 0;
-        s->bits[at] = 1 + (s->leaves[s->j / 8] >> (7 - s->j % 8) & 1);
-        s->j++;
-        return 1;
-    }
+    if (bit_at(s->nodes, s->i++)) return s->j / 8 < s->leaves_len ? 1 + bit_at(s->leaves, s->j++) : 0;
     if (step == 1) return 0;
-    s->bits[at] = 3;
-    for (uint32_t d = 1; d <= 4; d++)
-        if (!read_block(s, key + d * (step / 5), step / 5)) return 0;
-    const uint32_t *b = s->bits + at;
-    return s->i != at + 5 || b[1] != b[2] || b[2] != b[3] || b[3] != b[4];
+    uint32_t a = pass_bits(s, step / 5), b = a ? pass_bits(s, step / 5) : 0, c = b ? pass_bits(s, step / 5) : 0;
+    uint32_t d = c ? pass_bits(s, step / 5) : 0;
+    return d == 0 || (a != 3 && a == b && a == c && a == d) ? 0 : 3;
+}
+
+/* Writes a block that is right. */
+static void lay_bits(strings *s, uint32_t key, uint32_t step, uint32_t *keys, uint32_t *bits) {
+    size_t at = s->i++;
+    keys[at] = key;
+    if (bit_at(s->nodes, at)) {
+        bits[at] = 1 + bit_at(s->leaves, s->j++);
+        return;
+    }
+    bits[at] = 3;
+    for (uint32_t d = 1; d <= 4; d++) lay_bits(s, key + d * (step / 5), step / 5, keys, bits);
 }
 
 static int is_spare(const uint8_t *bytes, size_t len, size_t at) {
     return len == (at + 7) / 8 && (at % 8 == 0 || (uint8_t)(bytes[at / 8] << at % 8) == 0);
 }
 
-/* One pass that writes as it reads: unlike the library it may leave something behind where it refuses. */
+/* A pass that checks, and one that writes: what is refused leaves nothing behind. */
 size_t plain_read_bits(uint32_t m, const uint8_t *nodes, size_t nodes_len, const uint8_t *leaves, size_t leaves_len,
-                       uint32_t *keys, uint32_t *bits) {
-    strings s = { nodes, leaves, nodes_len, leaves_len, 0, 0, keys, bits };
-    if (!read_block(&s, 0, five[m])) return 0;
-    return is_spare(nodes, nodes_len, s.i) && is_spare(leaves, leaves_len, s.j) ? s.i : 0;
+                       uint32_t *keys, uint32_t *bits, size_t room) {
+    strings s = { nodes, leaves, nodes_len, leaves_len, 0, 0 };
+    if (!pass_bits(&s, five[m]) || s.i > room) return 0;
+    if (!is_spare(nodes, nodes_len, s.i) || !is_spare(leaves, leaves_len, s.j)) return 0;
+    s.i = s.j = 0;
+    lay_bits(&s, 0, five[m], keys, bits);
+    return s.i;
 }

@@ -77,6 +77,6 @@ size_t plain_write_leaves(const uint32_t *keys, const uint32_t *bits, size_t n, 
                           uint32_t *leaf_features);
 size_t plain_write_bits(const uint32_t *bits, size_t n, uint8_t *nodes, uint8_t *leaves);
 size_t plain_read_bits(uint32_t m, const uint8_t *nodes, size_t nodes_len, const uint8_t *leaves, size_t leaves_len,
-                       uint32_t *keys, uint32_t *bits);
+                       uint32_t *keys, uint32_t *bits, size_t room);
 
 #endif
