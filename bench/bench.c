@@ -40,8 +40,11 @@ static void begin(void) {
     syscall(COUNT_SO_FAR, &executed);
     counting = executed != 0;
     if (counting) rounds = 1; /* the next would count the same */
-    double start = now();
-    asking = now() - start;
+    asking = 1e18;
+    for (int i = 0; i < 100; i++) {
+        double start = now(), taken = now() - start;
+        if (taken < asking) asking = taken;
+    }
 }
 
 typedef struct {
@@ -131,8 +134,9 @@ static void fill(int kind) {
     memset(raster, 3, PIXELS);
     if (kind == 1)
         for (int i = 0; i < 300; i++) {
-            uint32_t h = 1 + below(120), w = 1 + below(120), r = below(EDGE - h), c = below(EDGE - w), f = below(ABSENT);
-            for (uint32_t y = r; y < r + h; y++) memset(raster + (size_t)y * EDGE + c, (int)f, w);
+            uint32_t h = 1 + below(120), w = 1 + below(120), r = below(EDGE - h), c = below(EDGE - w);
+            int feature = (int)below(ABSENT);
+            for (uint32_t y = r; y < r + h; y++) memset(raster + (size_t)y * EDGE + c, feature, w);
         }
     if (kind == 2)
         for (size_t i = 0; i < PIXELS; i++) raster[i] = (uint8_t)below(ABSENT);

@@ -48,16 +48,19 @@ typedef struct {
     size_t count;
 } tally;
 
+static inline tally count_quad(const job *j, const uint8_t *at) {
+    uint32_t bits = 1u << at[0] | 1u << at[1] | 1u << at[j->edge] | 1u << at[j->edge + 1];
+    return (tally){ bits, one_bit(bits) ? 1 : 5 };
+}
+
 static tally count_block(const job *j, const uint8_t *at, uint32_t side) {
     if (side == 1) return (tally){ 1u << *at, 1 };
-    if (side == 2) {
-        uint32_t bits = 1u << at[0] | 1u << at[1] | 1u << at[j->edge] | 1u << at[j->edge + 1];
-        return (tally){ bits, one_bit(bits) ? 1 : 5 };
-    }
+    if (side == 2) return count_quad(j, at);
     uint32_t h = side / 2, bits = 0;
     size_t count = 1;
     for (size_t d = 0; d < 4; d++) {
-        tally q = count_block(j, at + (d / 2 * j->edge + d % 2) * h, h);
+        const uint8_t *corner = at + (d / 2 * j->edge + d % 2) * h;
+        tally q = h == 2 ? count_quad(j, corner) : count_block(j, corner, h);
         bits |= q.bits, count += q.count;
     }
     return (tally){ bits, one_bit(bits) ? 1 : count };
@@ -1062,7 +1065,8 @@ static size_t put_group(uint32_t m, uint32_t s, uint32_t *keys, uint32_t *bits, 
     end -= 2;
     for (size_t i = count; i > 0; i--) {
         size_t records = log_values[end - 2], from = end - 2 - records;
-        part p = { log_keys[end - 1], step_of(m, log_keys[end - 1]), log_keys + from, log_values + from, records, 0, 0 };
+        uint32_t key = log_keys[end - 1];
+        part p = { key, step_of(m, key), log_keys + from, log_values + from, records, 0, 0 };
         if (!backwards) p.keys = log_keys + end - 1, p.bits = leaves + log_values[end - 1], p.n = 1;
         parts[i - 1] = p, end = from;
     }
@@ -1241,15 +1245,15 @@ size_t plain_findings(uint32_t m, uint32_t s, const uint32_t *keys, const uint32
     while (end < rows && offices[end] != office) end++;
     for (size_t i = 0; i < rules_len; i++) {
         const hlq_rule *r = rules + i;
-        waiving w = { waived + end, 0, 0, 0 };
-        for (; end < rows && offices[end] == office && ids[end] == r->id; end++) w.count++;
-        question q = { keys, bits, n, frame_of(r->row, r->column, r->height, r->width), 1u << r->feature, found_keys + live,
-                       SIZE_MAX, 0 };
+        waiving own = { waived + end, 0, 0, 0 };
+        for (; end < rows && offices[end] == office && ids[end] == r->id; end++) own.count++;
+        frame w = frame_of(r->row, r->column, r->height, r->width);
+        question q = { keys, bits, n, w, 1u << r->feature, found_keys + live, SIZE_MAX, 0 };
         select_below(&q, &root, 0);
-        size_t kept = w.count == 0 ? q.count : 0;
-        if (w.count > 0)
+        size_t kept = own.count == 0 ? q.count : 0;
+        if (own.count > 0)
             for (size_t j = 0; j < q.count; j++)
-                if (!is_covered(m, &w, q.answer[j])) q.answer[kept++] = q.answer[j];
+                if (!is_covered(m, &own, q.answer[j])) q.answer[kept++] = q.answer[j];
         for (size_t j = 0; j < kept; j++) found_ids[live + j] = r->id;
         live += kept, *hidden += q.count - kept;
     }
@@ -1321,19 +1325,27 @@ typedef struct {
     uint32_t *list_keys, *list_bits;
 } reading;
 
+/* The slots of the four leaves from the place reached on. */
+static inline uint32_t next_four(const reading *r) {
+    const uint32_t *f = r->features + r->at;
+    return 1u << f[0] | 1u << f[1] | 1u << f[2] | 1u << f[3];
+}
+
 static tally pass_leaves(reading *r, uint32_t key, uint32_t step) {
-    if (r->at < r->leaves && r->keys[r->at] == key) return (tally) { 1u << r->features[r->at++], 1 };
+    const uint32_t *k = r->keys + r->at;
+    if (r->at >= r->leaves) return r->at = SIZE_MAX, (tally) { 0, 0 };
+    if (*k == key) return (tally) { 1u << r->features[r->at++], 1 };
     tally whole = { 0, 1 };
-    for (uint32_t d = 1; d <= 4; d++) {
-        uint32_t child = key + d * step;
-        if (step > 1) {
-            if (r->at >= r->leaves) return r->at = SIZE_MAX, whole;
-            tally part = pass_leaves(r, child, step / 5);
+    if (step > 1)
+        for (uint32_t d = 1; d <= 4; d++) {
+            tally part = pass_leaves(r, key + d * step, step / 5);
             whole.bits |= part.bits, whole.count += part.count;
-        } else {
-            if (step == 0 || r->at >= r->leaves || r->keys[r->at] != child) return r->at = SIZE_MAX, whole;
-            whole.bits |= 1u << r->features[r->at++], whole.count++;
         }
+    else {
+        if (step == 0 || r->leaves - r->at < 4) return r->at = SIZE_MAX, whole;
+        if (k[0] != key + 1 || k[1] != key + 2 || k[2] != key + 3 || k[3] != key + 4) return r->at = SIZE_MAX, whole;
+        whole = (tally) { next_four(r), 5 };
+        r->at += 4;
     }
     if (one_bit(whole.bits)) whole.count = 1;
     return whole;
@@ -1341,18 +1353,22 @@ static tally pass_leaves(reading *r, uint32_t key, uint32_t step) {
 
 static tally lay_leaves(reading *r, uint32_t key, uint32_t step, size_t place) {
     if (r->keys[r->at] == key) return (tally) { 1u << r->features[r->at++], place + 1 };
-    size_t own[4], next = place + 1;
-    uint32_t bits[4], together = 0;
+    uint32_t own[4], together = 0;
+    size_t places[4], next = place + 1;
+    if (step == 1) {
+        const uint32_t *f = r->features + r->at;
+        together = next_four(r), r->at += 4;
+        if (one_bit(together)) return (tally) { together, next };
+        for (uint32_t d = 0; d < 4; d++) r->list_keys[next + d] = key + 1 + d, r->list_bits[next + d] = 1u << f[d];
+        return (tally) { together, next + 4 };
+    }
     for (uint32_t d = 0; d < 4; d++) {
-        own[d] = next;
-        if (step > 1) {
-            tally part = lay_leaves(r, key + (d + 1) * step, step / 5, next);
-            bits[d] = part.bits, next = part.count;
-        } else bits[d] = 1u << r->features[r->at++], next++;
-        together |= bits[d];
+        tally part = lay_leaves(r, key + (d + 1) * step, step / 5, next);
+        own[d] = part.bits, places[d] = next, next = part.count;
+        together |= part.bits;
     }
     if (one_bit(together)) return (tally) { together, place + 1 };
-    for (uint32_t d = 0; d < 4; d++) r->list_keys[own[d]] = key + (d + 1) * step, r->list_bits[own[d]] = bits[d];
+    for (uint32_t d = 0; d < 4; d++) r->list_keys[places[d]] = key + (d + 1) * step, r->list_bits[places[d]] = own[d];
     return (tally) { together, next };
 }
 
