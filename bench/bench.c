@@ -169,10 +169,10 @@ static void tables(void) {
     for (int round = 0; round < 10 * rounds; round++) {
         MEASURE(best[0][0], 1,
                 rows = hlq_remove_waiver(M, 1, offices[0], TABLE, ids[0], TABLE, waived[0], TABLE, rows, 128, 0).count);
-        MEASURE(best[0][1], 1, other = plain_remove_waiver(1, offices[1], ids[1], waived[1], other, 128, 0));
+        MEASURE(best[0][1], 1, other = plain_remove_waiver(M, 1, offices[1], ids[1], waived[1], other, 128, 0));
         MEASURE(best[1][0], 1,
                 rows = hlq_add_waiver(M, 1, offices[0], TABLE, ids[0], TABLE, waived[0], TABLE, rows, 128, 0).count);
-        MEASURE(best[1][1], 1, other = plain_add_waiver(1, offices[1], ids[1], waived[1], other, 128, 0));
+        MEASURE(best[1][1], 1, other = plain_add_waiver(M, 1, offices[1], ids[1], waived[1], other, 128, 0));
     }
     int agree = rows == TABLE && other == TABLE && equal(offices[0], offices[1], TABLE) &&
                 equal(ids[0], ids[1], TABLE) && equal(waived[0], waived[1], TABLE);

@@ -1137,27 +1137,44 @@ size_t plain_redo(uint32_t m, uint32_t s, uint32_t *keys, uint32_t *bits, size_t
 
 /* ---- the table of two offices */
 
-static int row_before(uint32_t o, uint32_t i, uint32_t k, uint32_t office, uint32_t id, uint32_t key) {
-    if (o != office) return o < office;
-    if (i != id) return i < id;
-    return k < key;
-}
-
+/* Rows ascend by office, then by id and key together. */
 static int is_table(const uint32_t *offices, const uint32_t *ids, const uint32_t *waived, size_t rows) {
-    size_t held[2] = { 0, 0 };
+    size_t ones = 0;
+    uint64_t last = 0;
+    uint32_t last_office = 0;
     for (size_t i = 0; i < rows; i++) {
-        if (offices[i] > 1) return 0;
-        if (i > 0 && !row_before(offices[i - 1], ids[i - 1], waived[i - 1], offices[i], ids[i], waived[i])) return 0;
-        held[offices[i]]++;
+        uint64_t row = (uint64_t)ids[i] << 32 | waived[i];
+        uint32_t office = offices[i];
+        if (office == last_office ? i > 0 && row <= last : office != 1 || last_office == 1) return 0;
+        ones += office, last_office = office, last = row;
     }
-    return held[0] <= 256 && held[1] <= 256;
+    return ones <= HLQ_OFFICE_ROWS && rows - ones <= HLQ_OFFICE_ROWS;
 }
 
-size_t plain_add_waiver(uint32_t office, uint32_t *offices, uint32_t *ids, uint32_t *waived, size_t rows, uint32_t id,
-                        uint32_t key) {
-    size_t at = 0;
-    if (!is_table(offices, ids, waived, rows)) return 0;
-    while (at < rows && row_before(offices[at], ids[at], waived[at], office, id, key)) at++;
+/* The place of the first row that is not before this one. */
+static size_t row_place(const uint32_t *offices, const uint32_t *ids, const uint32_t *waived, size_t rows,
+                        uint32_t office, uint32_t id, uint32_t key) {
+    size_t low = 0, high = rows;
+    uint64_t row = (uint64_t)id << 32 | key;
+    while (low < high) {
+        size_t middle = (low + high) / 2;
+        uint64_t there = (uint64_t)ids[middle] << 32 | waived[middle];
+        if (offices[middle] < office || (offices[middle] == office && there < row)) low = middle + 1;
+        else high = middle;
+    }
+    return low;
+}
+
+static int is_row(const uint32_t *offices, const uint32_t *ids, const uint32_t *waived, size_t rows, size_t at,
+                  uint32_t office, uint32_t id, uint32_t key) {
+    return at < rows && offices[at] == office && ids[at] == id && waived[at] == key;
+}
+
+size_t plain_add_waiver(uint32_t m, uint32_t office, uint32_t *offices, uint32_t *ids, uint32_t *waived, size_t rows,
+                        uint32_t id, uint32_t key) {
+    if (!is_table(offices, ids, waived, rows) || plain_block_of(m, key).refusal) return 0;
+    size_t at = row_place(offices, ids, waived, rows, office, id, key);
+    if (is_row(offices, ids, waived, rows, at, office, id, key)) return 0;
     memmove(offices + at + 1, offices + at, 4 * (rows - at));
     memmove(ids + at + 1, ids + at, 4 * (rows - at));
     memmove(waived + at + 1, waived + at, 4 * (rows - at));
@@ -1165,11 +1182,11 @@ size_t plain_add_waiver(uint32_t office, uint32_t *offices, uint32_t *ids, uint3
     return rows + 1;
 }
 
-size_t plain_remove_waiver(uint32_t office, uint32_t *offices, uint32_t *ids, uint32_t *waived, size_t rows,
-                           uint32_t id, uint32_t key) {
-    size_t at = 0;
-    if (!is_table(offices, ids, waived, rows)) return 0;
-    while (at < rows && row_before(offices[at], ids[at], waived[at], office, id, key)) at++;
+size_t plain_remove_waiver(uint32_t m, uint32_t office, uint32_t *offices, uint32_t *ids, uint32_t *waived,
+                           size_t rows, uint32_t id, uint32_t key) {
+    if (!is_table(offices, ids, waived, rows) || plain_block_of(m, key).refusal) return 0;
+    size_t at = row_place(offices, ids, waived, rows, office, id, key);
+    if (!is_row(offices, ids, waived, rows, at, office, id, key)) return 0;
     memmove(offices + at, offices + at + 1, 4 * (rows - at - 1));
     memmove(ids + at, ids + at + 1, 4 * (rows - at - 1));
     memmove(waived + at, waived + at + 1, 4 * (rows - at - 1));

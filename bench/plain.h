@@ -60,11 +60,11 @@ size_t plain_redo(uint32_t m, uint32_t s, uint32_t *keys, uint32_t *bits, size_t
 size_t plain_findings(uint32_t m, uint32_t s, const uint32_t *keys, const uint32_t *bits, size_t n, uint32_t office,
                       const hlq_rule *rules, size_t rules_len, const uint32_t *offices, const uint32_t *ids,
                       const uint32_t *waived, size_t rows, uint32_t *found_ids, uint32_t *found_keys, size_t *hidden);
-/* A row of a table of 512 places more, or less, with one memmove of each slice; they check the table first. */
-size_t plain_add_waiver(uint32_t office, uint32_t *offices, uint32_t *ids, uint32_t *waived, size_t rows, uint32_t id,
-                        uint32_t key);
-size_t plain_remove_waiver(uint32_t office, uint32_t *offices, uint32_t *ids, uint32_t *waived, size_t rows,
-                           uint32_t id, uint32_t key);
+/* A row of a table of 512 places more, or less, with one memmove of each slice; they check table and key first. */
+size_t plain_add_waiver(uint32_t m, uint32_t office, uint32_t *offices, uint32_t *ids, uint32_t *waived, size_t rows,
+                        uint32_t id, uint32_t key);
+size_t plain_remove_waiver(uint32_t m, uint32_t office, uint32_t *offices, uint32_t *ids, uint32_t *waived,
+                           size_t rows, uint32_t id, uint32_t key);
 size_t plain_store(uint32_t m, uint32_t s, const uint32_t *keys, const uint32_t *bits, size_t n, uint8_t *file);
 size_t plain_load(const uint8_t *file, uint32_t *keys, uint32_t *bits);
 size_t plain_store_log(uint32_t m, uint32_t s, const uint32_t *log_keys, const uint32_t *log_values, size_t used,
