@@ -82,11 +82,15 @@ static inline tally write_four(const job *j, uint32_t key, uint32_t step, size_t
                                const uint32_t *own, size_t end) {
     uint32_t bits = own[0] | own[1] | own[2] | own[3];
     if ((bits & (bits - 1)) == 0) return (tally) { bits, at + 1 };
-    for (uint32_t d = 0; d < 4; d++) j->keys[places[d]] = key + (d + 1) * step, j->bits[places[d]] = own[d];
+    uint32_t *keys = j->keys, *slots = j->bits;
+    keys[places[0]] = key + step, slots[places[0]] = own[0];
+    keys[places[1]] = key + 2 * step, slots[places[1]] = own[1];
+    keys[places[2]] = key + 3 * step, slots[places[2]] = own[2];
+    keys[places[3]] = key + 4 * step, slots[places[3]] = own[3];
     return (tally) { bits, end };
 }
 
-static inline tally write_sixteen(const job *j, const uint8_t *north, uint32_t key, size_t at) {
+static tally write_sixteen(const job *j, const uint8_t *north, uint32_t key, size_t at) {
     const uint8_t *south = north + 2 * j->edge;
     size_t places[4];
     uint32_t own[4];
@@ -110,7 +114,8 @@ static tally write_below(const job *j, const uint8_t *corner, uint32_t side, uin
     if (side == 4) return write_sixteen(j, corner, key, at);
     for (uint32_t d = 0; d < 4; d++) {
         const uint8_t *c = corner + (d / 2 * j->edge + d % 2) * h;
-        tally q = write_below(j, c, h, key + (d + 1) * step, step / 5, next);
+        uint32_t child = key + (d + 1) * step;
+        tally q = h == 4 ? write_sixteen(j, c, child, next) : write_below(j, c, h, child, step / 5, next);
         own[d] = q.bits, places[d] = next, next = q.count;
     }
     return write_four(j, key, step, at, places, own, next);
