@@ -65,21 +65,22 @@ static void note(const char *call, const char *variant, double library, double p
 }
 
 /* What a piece of work takes, if that is less than the best so far. */
-#define MEASURE(best, times, work) \
+#define MEASURE(best, repeats, work) \
     do { \
+        const int turns = (repeats); \
         double start = now(); \
-        for (int again = 0; again < (times); again++) { work; } \
-        double taken = (now() - start - asking) / (times); \
+        for (int again = 0; again < turns; again++) { work; } \
+        double taken = (now() - start - asking) / turns; \
         if (taken < (best)) (best) = taken; \
     } while (0)
 
 /* The best of the rounds of each, in turn, so that both see the same machine; then whether the answers agree. */
-#define COMPARE(call, variant, times, library, plain, agree) \
+#define COMPARE(call, variant, repeats, library, plain, agree) \
     do { \
         double best_library = 1e18, best_plain = 1e18; \
         for (int round = 0; round < rounds; round++) { \
-            MEASURE(best_library, times, library); \
-            MEASURE(best_plain, times, plain); \
+            MEASURE(best_library, repeats, library); \
+            MEASURE(best_plain, repeats, plain); \
         } \
         note(call, variant, best_library, best_plain, agree); \
     } while (0)
@@ -98,7 +99,7 @@ static int rising(const void *a, const void *b) {
 static void print_worst(const char *const *maps) {
     double all[sizeof lines / sizeof *lines];
     size_t count = 0;
-    printf("\n%-22s %-24s %-24s %-24s\n", "worst of", maps[0], maps[1], maps[2]);
+    printf("\n%-22s %-26s %-26s %s\n", "worst of", maps[0], maps[1], maps[2]);
     for (size_t i = 0; i < lines_count; i++) {
         size_t j = 0;
         while (strcmp(lines[j].call, lines[i].call) != 0) j++;
@@ -110,8 +111,8 @@ static void print_worst(const char *const *maps) {
             for (j = i; j < lines_count; j++)
                 if (!strcmp(lines[j].call, lines[i].call) && !strcmp(lines[j].map, maps[k]))
                     if (!worst || lines[j].ratio > worst->ratio) worst = lines + j;
-            if (worst) printf(" %5.2f %-18s", worst->ratio, worst->variant);
-            else printf(" %-24s", "");
+            if (worst) printf(" %5.2f %-20s", worst->ratio, worst->variant);
+            else printf(" %-26s", "");
         }
         printf("\n");
     }
@@ -215,7 +216,6 @@ static void lists(void) {
 
 /* ---- questions */
 
-/* Where the window goes over the edge the strict plain call gets what is left of it. */
 typedef struct {
     const char *variant;
     int32_t row, column;
@@ -239,6 +239,7 @@ static void strict(asked q) {
             b = plain_area(M, S, keys, bits, n, summary, r, c, w, w, q.feature), a == b);
 }
 
+/* Over the north-west corner; plain C gets what is left of the window. */
 static void clipped(asked q) {
     uint32_t r = 0, c = 0, h = q.side - (uint32_t)-q.row, w = q.side - (uint32_t)-q.column;
     uint64_t a = 0, b = 0;
@@ -434,9 +435,9 @@ static void deliver_pixels(uint32_t *leaf_keys, uint32_t *leaf_features) {
     }
 }
 
-static void read_leaves(const char *variant, size_t leaves, int again_times) {
+static void read_leaves(const char *variant, size_t leaves, int repeats) {
     size_t a = 0, b = 0;
-    COMPARE("read leaves", variant, again_times,
+    COMPARE("read leaves", variant, repeats,
             a = hlq_read_leaves(M, S, answer, leaves, answer2, leaves, leaves, answer_keys, MOST, answer_bits, MOST)
                     .count,
             b = plain_read_leaves(M, S, answer, answer2, leaves, other_keys, other_bits, MOST),
