@@ -41,10 +41,10 @@ run: kit
 test: kit
 	@tests/run
 
-# Library against plain C, in one run.
+# Library against plain C, in one run: instructions where the emulator counts them, else nanoseconds.
 bench: lib
 	@tools/compile-c target/c/bench bench/bench.c bench/plain.c
-	@tools/run-c target/c/bench
+	@tools/run-counted target/c/bench
 
 # The archive's code as a shared library.
 shared: lib
