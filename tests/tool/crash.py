@@ -67,7 +67,7 @@ def at_every_call(tool, folder, words):
         seen.add(now == new)
         other("paint", "a.gpkg", 0, 0, 2, 2, 3)  # and the next one goes
     must(old == new or seen >= {False}, f"{words}: no call before the edit counts")
-    for write in range(1, calls + 1, 1 + calls // 12):
+    for write in range(1, calls + 1):
         other = copied(tool, folder + "/other")
         status, said = with_fault(other, f"full:{write}", words)
         now = without_words(state_of(other))
