@@ -3,7 +3,8 @@
 
 A name with a capital behind "Rests on" is a module that the file imports, and one behind a crate's name, as in "laws'
 First and Records", is a module that it imports from that crate; "nothing" is said only where it imports nothing of the
-project. tests/headers.py looks at crates/; tests/headers.py --self-test shows that a false header is found."""
+project. And a definition, as a contract cites it, rests on definitions: a file of specs/ imports no proofs.
+tests/headers.py looks at crates/; tests/headers.py --self-test shows that a false header and such an import are found."""
 import pathlib
 import re
 import sys
@@ -47,6 +48,12 @@ def faults(text, mark):
     return found
 
 
+def proofs_in(text):
+    """The proofs that a text imports."""
+    return [f"it imports proofs: {path}" for path in re.findall(r"^use ([^\s{]+)", text, re.M)
+            if re.match(r"Rattle·\w+(?:·proofs)?\.proofs\.", path)]
+
+
 def self_test():
     assert not faults("-- A law. Rests on Key.\nuse Rattle.keys.specs.Key.{validKey}\n", "--")
     assert faults("-- A law. Rests on Block.\nuse Rattle.keys.specs.Key.{validKey}\n", "--")
@@ -59,7 +66,10 @@ def self_test():
     assert faults("-- A law. Rests on laws' First and on\n-- definitions' Records.\n" + of_laws, "--")
     assert faults("-- A law. Rests on laws' First,\n-- Buffer and Records.\n" + of_laws, "--")
     assert not faults("-- Document 01's Map A. Rests on laws' First.\n" + of_laws, "--")
-    print("a false header is found")
+    assert proofs_in(of_laws) and proofs_in("use Rattle.laws.proofs.First.{first-zero}\n")
+    assert proofs_in("-- A word.\nuse Rattle.log.proofs.Parts as parts\n")
+    assert not proofs_in("use Rattle.keys.specs.Key.{validKey}\nuse Rattle.keys.specs.Key.{rootKey}\n")
+    print("a false header is found, and proofs behind a definition")
 
 
 def main():
@@ -69,7 +79,8 @@ def main():
             if path.name == "Lib.antt":
                 continue
             number += 1
-            for fault in faults(path.read_text(), mark):
+            text = path.read_text()
+            for fault in faults(text, mark) + (proofs_in(text) if "specs" in pattern else []):
                 wrong += 1
                 print(f"{path.relative_to(ROOT)}: {fault}")
     print(f"{number} files, {wrong} false headers")

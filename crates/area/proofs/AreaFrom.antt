@@ -8,8 +8,8 @@ use lib.Dec.{leb, ltb, eqb}
 use borrow.Author.Tests.{le-leb, lt-leb, lt-ltb, le-ltb}
 use Rattle.keys.specs.Block.{pixelKey}
 use Rattle.keys.proofs.Cases.{decide, split}
-use Rattle.keys.specs.Under.{MapBlock}
-use Rattle.keys.proofs.Pixel.{InSquare, inside, back, pixelKey-lt}
+use Rattle.keys.specs.Under.{MapBlock, InSquare}
+use Rattle.keys.proofs.Pixel.{inside, back, pixelKey-lt}
 use Rattle.definitions.specs.Picture.{Picture}
 use Rattle.definitions.specs.Window.{isWindow, inWindow}
 use Rattle.definitions.specs.Area.{areaIn}

@@ -8,7 +8,7 @@ use native.Mathlib.Omega.{arith}
 use lib.Dec.{eqb}
 use borrow.Author.Tests.{eq-eqb, ne-eqb}
 use Rattle.keys.proofs.Cases.{decide}
-use Rattle.keys.proofs.Pixel.{InSquare}
+use Rattle.keys.specs.Under.{InSquare}
 use Rattle.definitions.specs.Picture.{Picture}
 use Rattle.definitions.specs.Bits.{hasSlot}
 use Rattle.definitions.specs.Window.{inWindow}

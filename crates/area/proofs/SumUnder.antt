@@ -4,10 +4,9 @@ use Prim.Native.Nat.{ℕ, zero, suc, _+_, _^_, _≤_}
 use mathlib.Core.Path.{_≡_, refl, _∙_}
 use native.Mathlib.Nat.{pow-suc}
 use native.Mathlib.Omega.{arith}
-use Rattle.keys.specs.Under.{Under, here, nw, ne, sw, se}
+use Rattle.keys.specs.Under.{Under, here, nw, ne, sw, se, InSquare, Every}
 use Rattle.keys.proofs.Interval.{within}
-use Rattle.keys.proofs.Pixel.{InSquare}
-use Rattle.laws.proofs.Within.{Every, every-nw, every-ne, every-sw, every-se}
+use Rattle.laws.proofs.Within.{every-nw, every-ne, every-sw, every-se}
 use Rattle.laws.proofs.PixelSums.{sumPixels, sum-zero, sum-suc, sum-constant}
 
 -- what adds nothing at any pixel adds nothing

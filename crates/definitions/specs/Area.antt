@@ -1,5 +1,5 @@
 -- Areas and the summary (document 02, item 1): how many pixels of a window or of a block have a feature, each counted by a scan of the pixels, and
--- the counts of all blocks of one level in key order. Rests on Window.
+-- the counts of all blocks of one level in key order; and a sum over all features. Rests on Window.
 use Prim.Native.Nat.{ℕ, zero, suc, _+_, _-_, _*_, _/_, _%_, _^_, min}
 use mathlib.Core.Bool.{Bool, true, false, cond, not, _&&_}
 use mathlib.Core.List.{List, [], _∷_, _++_}
@@ -77,3 +77,8 @@ badSummaryLength m s summary = not (eqb (length summary) (summaryLength m s))
 -- 18: the summary has the wrong length, or does not hold this map's counts
 unfoldable pub noSummary : (m s : ℕ) (p : Picture) (summary : List ℕ) → Bool
 noSummary m s p summary = not (sameNumbers summary (summaryOf m s p))
+
+-- the sum of what a function gives for the features below s
+unfoldable pub sumBelow : (ℕ → ℕ) → ℕ → ℕ
+sumBelow g zero = 0
+sumBelow g (suc s) = sumBelow g s + g s

@@ -1,5 +1,5 @@
 -- The list of a raster: the HL-quadtree (document 01, "The list"). Rests on Picture and Bits.
-use Prim.Native.Nat.{ℕ, zero, suc, _+_, _^_}
+use Prim.Native.Nat.{ℕ, zero, suc, _+_, _^_, _≤_}
 use mathlib.Core.Bool.{cond}
 use mathlib.Core.List.{List, [], _∷_, _++_, map}
 use Rattle.keys.specs.Key.{rootKey, childKey}
@@ -19,6 +19,11 @@ keysOf l = map (λ x. x .key) l
 
 abbrev pub valuesOf : List Record → List ℕ
 valuesOf l = map (λ x. x .value) l
+
+-- the keys ascend strictly, the first at least lo and the last below hi
+pub data Ascending : ℕ → ℕ → List Record → Type 0 where
+  none : {lo hi : ℕ} → lo ≤ hi → Ascending lo hi []
+  next : {lo hi : ℕ} {e : Record} {l : List Record} → lo ≤ e .key → Ascending (suc (e .key)) hi l → Ascending lo hi (e ∷ l)
 
 -- the list of the block of height k with key κ: one record where it has one feature, else its record and then those of its four quadrants
 unfoldable pub listOf : (p : Picture) (k row column κ : ℕ) → List Record

@@ -1,6 +1,7 @@
 -- The log: the shape of an entry and of a group, when a log is sound, its steps taken back and painted again, and the steps that can be redone
 -- (document 01, "Paint, take back, empty", refusal 5; document 02, items 7 and 10). Rests on Edit and Read.
-use Prim.Native.Nat.{ℕ, zero, suc, _+_, _-_}
+use Prim.Native.Nat.{ℕ, zero, suc, _+_, _-_, _≤_, _<_}
+use mathlib.Core.Path.{_≡_}
 use mathlib.Core.Bool.{Bool, true, cond, not, _&&_}
 use mathlib.Core.List.{List, [], _∷_, _++_}
 use lib.ListN.{length, getD, take, drop}
@@ -68,6 +69,14 @@ lastIsEntry m s log =
     && closes s log
     && validKey m (lastKey log)
     && isContent m s (lastKey log) (lastContent log)
+
+-- the same, test by test
+pub record EndsInEntry (m s : ℕ) (log : List Record) : Type 0 where
+  pub all-there : lastCount log + closingPlaces ≤ length log
+  pub one-key : countRecord log .key ≡ lastKey log
+  pub below : lastFeature log < s
+  pub valid : validKey m (lastKey log) ≡ true
+  pub correct : isContent m s (lastKey log) (lastContent log) ≡ true
 
 -- a group: entries, and then two closing records with the key 0, one with the number of entries and one with the mark 255, which is no feature
 abbrev pub groupMark : ℕ

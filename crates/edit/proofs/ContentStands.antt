@@ -9,13 +9,12 @@ use lib.ListN.{length, getD, take, drop}
 use lib.Seq.{getD-take}
 use Rattle.keys.proofs.Cases.{decide}
 use Rattle.keys.proofs.Powers.{five-le}
-use Rattle.definitions.specs.List.{Record, recordOf}
+use Rattle.definitions.specs.List.{Record, recordOf, Ascending, none, next}
 use Rattle.definitions.specs.Read.{room, paired, recordsOf}
 use Rattle.definitions.specs.Standing.{placeOf, isListed, standingOf, partLength}
 use Rattle.definitions.specs.declared.Standing.{Standing}
 use Rattle.definitions.specs.Log.{closed, closingPlaces}
 use Rattle.definitions.specs.Calls.Paint.{gained}
-use Rattle.laws.proofs.Ascending.{Ascending, none, next}
 use Rattle.laws.proofs.ListOf.{list-ascends, list-some}
 use Rattle.laws.proofs.Records.{records-run}
 use Rattle.list.specs.Own.{OwnList, shownBy}

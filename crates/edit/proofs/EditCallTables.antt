@@ -15,7 +15,8 @@ use Rattle.laws.proofs.SameNumbers.{summary-is}
 use Rattle.list.specs.Own.{OwnList, shownBy}
 use Rattle.list.proofs.Own.{own-list}
 use Rattle.list.proofs.Tests.{GoodSettings, good-settings}
-use Rattle.log.proofs.Parts.{WholeLog, whole-log}
+use Rattle.log.proofs.Parts.{whole-log}
+use Rattle.log.specs.Entries.{WholeLog}
 use Rattle.edit.specs.EditCallChecks.{editRefusal}
 
 -- what some rows refuse the table that begins with them refuses

@@ -10,11 +10,11 @@ use borrow.Author.Tests.{leb-true, ltb-true, eqb-false, le-leb, lt-ltb, le-ltb, 
 use Rattle.keys.specs.Key.{heightOf, validKey}
 use Rattle.keys.specs.Block.{sideOf, contains, isAncestor, inInterval}
 use Rattle.keys.proofs.Cases.{split, equal, and-left, and-right, and-both, same-test}
-use Rattle.keys.specs.Under.{Under, MapBlock}
+use Rattle.keys.specs.Under.{Under, MapBlock, InSquare}
 use Rattle.keys.proofs.Interval.{within, key-within, nest, apart}
 use Rattle.keys.proofs.Powers.{two-pos}
 use Rattle.keys.proofs.Valid.{Is, valid-block, block-valid}
-use Rattle.keys.proofs.Pixel.{InSquare, inside}
+use Rattle.keys.proofs.Pixel.{inside}
 use Rattle.keys.proofs.InBlock.{inInterval-iff}
 
 -- the second square lies in the first

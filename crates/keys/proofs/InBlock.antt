@@ -10,10 +10,10 @@ use borrow.Author.Tests.{leb-true, ltb-true, le-leb, lt-ltb}
 use Rattle.keys.specs.Key.{validKey}
 use Rattle.keys.specs.Block.{sideOf, inBlock, inInterval, pixelKey}
 use Rattle.keys.proofs.Cases.{and-left, and-right, and-both, same-test}
-use Rattle.keys.specs.Under.{MapBlock}
+use Rattle.keys.specs.Under.{MapBlock, InSquare}
 use Rattle.keys.proofs.Interval.{within}
 use Rattle.keys.proofs.Valid.{Is, valid-block, block-valid}
-use Rattle.keys.proofs.Pixel.{InSquare, InKeys, inside, back}
+use Rattle.keys.proofs.Pixel.{InKeys, inside, back}
 
 abbrev squareTest : ℕ → ℕ → ℕ → ℕ → ℕ → Bool
 squareTest k r c row column = leb r row && ltb row (r + 2 ^ k) && (leb c column && ltb column (c + 2 ^ k))

@@ -8,7 +8,7 @@ use borrow.Author.Tests.{lt-ltb, le-ltb}
 use Rattle.keys.specs.Key.{childKey}
 use Rattle.keys.specs.Block.{pixelKey}
 use Rattle.keys.proofs.Cases.{split}
-use Rattle.keys.specs.Under.{Under, MapBlock, here, nw, ne, sw, se}
+use Rattle.keys.specs.Under.{Under, MapBlock, here, nw, ne, sw, se, InSquare}
 use Rattle.keys.proofs.Under.{under-trans}
 use Rattle.keys.proofs.Interval.{same-block, within, nest, one-block}
 
@@ -125,13 +125,6 @@ pixel-in-block {m} {k} {r} {c} {κ} row column b low narrow =
     let u = pixel-key (under-trans b (pixel-under k row column r c κ low narrow)) in
     let e : pixelKey m (r + row - 0) (c + column - 0) ≡ pixelKey m (r + row) (c + column) = ap₂ (pixelKey m) (omega arith) (omega arith) in
     omega arith
-
--- a pixel lies in the square of height k at a row and a column
-pub record InSquare (k r c row column : ℕ) : Type 0 where
-  pub top : r ≤ row
-  pub bottom : row < r + 2 ^ k
-  pub left : c ≤ column
-  pub right : column < c + 2 ^ k
 
 -- a key lies in the interval of a block of height k
 pub record InKeys (k κ x : ℕ) : Type 0 where

@@ -9,18 +9,18 @@ use lib.Dec.{leb}
 use borrow.Author.Tests.{lt-leb, not-false}
 use Rattle.keys.specs.Key.{rootKey}
 use Rattle.keys.proofs.Cases.{and-right}
+use Rattle.keys.specs.Under.{Every}
 use Rattle.definitions.specs.Picture.{featuresBelow}
 use Rattle.definitions.specs.List.{listOf}
 use Rattle.definitions.specs.Read.{room, recordsOf, pictureOf, sameRecords, isListOfBlock, isList}
 use Rattle.definitions.specs.Window.{isWindow}
-use Rattle.definitions.specs.Area.{areaIn}
+use Rattle.definitions.specs.Area.{areaIn, sumBelow}
 use Rattle.definitions.specs.Calls.Area.{areaRefusal, area}
 use Rattle.definitions.specs.declared.Window.{Window}
-use Rattle.laws.proofs.Within.{Every}
 use Rattle.laws.proofs.Features.{below-to}
 use Rattle.laws.proofs.WindowScan.{inside-window}
 use Rattle.laws.proofs.AreaOf.{window-bounds}
-use Rattle.laws.proofs.AreasAddUp.{sumBelow, areas-add-up, squareOf}
+use Rattle.laws.proofs.AreasAddUp.{areas-add-up, squareOf}
 use Rattle.laws.proofs.SummaryPlaces.{within-same}
 use Rattle.laws.proofs.First.{first-none, none-first, accepted-done}
 

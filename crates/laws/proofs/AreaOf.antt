@@ -7,11 +7,11 @@ use native.Mathlib.Omega.{arith}
 use lib.Dec.{leb, eqb}
 use borrow.Author.Tests.{leb-true}
 use Rattle.keys.proofs.Cases.{decide, and-left, and-right}
+use Rattle.keys.specs.Under.{Every}
 use Rattle.definitions.specs.Picture.{Picture}
 use Rattle.definitions.specs.Window.{isWindow, inWindow, featuresIn}
 use Rattle.definitions.specs.Area.{areaIn, pixelsWith}
 use Rattle.definitions.specs.declared.Window.{Window}
-use Rattle.laws.proofs.Within.{Every}
 use Rattle.laws.proofs.WindowScan.{inside-window, window-inside}
 use Rattle.laws.proofs.PixelSums.{sumRows, sumPixels, sum-block, sum-same, InPart, rows-same, rows-inside}
 use Rattle.laws.proofs.CountOf.{oneAt, count-rows, pixels-sum}

@@ -10,17 +10,12 @@ use lib.ListN.{length, length-append}
 use lib.Dec.{eqb}
 use borrow.Author.Tests.{eq-eqb, ne-eqb}
 use Rattle.keys.proofs.Cases.{equal}
+use Rattle.keys.specs.Under.{Every}
 use Rattle.definitions.specs.Picture.{Picture}
 use Rattle.definitions.specs.Window.{inWindow, featuresOfRow, featuresOfRows, featuresIn}
-use Rattle.definitions.specs.Area.{countOf, areaIn, pixelsWith}
+use Rattle.definitions.specs.Area.{countOf, areaIn, pixelsWith, sumBelow}
 use Rattle.definitions.specs.declared.Window.{Window}
-use Rattle.laws.proofs.Within.{Every}
 use Rattle.laws.proofs.WindowScan.{inside-window, scanned-pixel}
-
--- the sum of what a function gives for the features below s
-unfoldable pub sumBelow : (ℕ → ℕ) → ℕ → ℕ
-sumBelow g zero = 0
-sumBelow g (suc s) = sumBelow g s + g s
 
 nothing-below : (s : ℕ) → sumBelow (λ f. countOf f []) s ≡ 0
 unfolding sumBelow countOf

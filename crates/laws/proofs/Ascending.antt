@@ -1,16 +1,11 @@
--- Records whose keys ascend strictly between two bounds: the type, with laws to widen the bounds, to join two such lists and to find where the
+-- Records whose keys ascend strictly between two bounds: laws to widen the bounds, to join two such lists and to find where the
 -- key of a record lies. Rests on the definitions alone.
 use Prim.Native.Nat.{ℕ, suc, _+_, _*_, _≤_, _<_}
 use mathlib.Core.Path.{_≡_, sym, _∙_, ap}
 use mathlib.Core.List.{List, [], _∷_, _++_, List·Memᴰ, List·Memᴰ·head, List·Memᴰ·tail}
 use native.Mathlib.Nat.{le-refl}
 use native.Mathlib.Omega.{arith}
-use Rattle.definitions.specs.List.{Record, recordOf}
-
--- the keys ascend strictly, the first at least lo and the last below hi
-pub data Ascending : ℕ → ℕ → List Record → Type 0 where
-  none : {lo hi : ℕ} → lo ≤ hi → Ascending lo hi []
-  next : {lo hi : ℕ} {e : Record} {l : List Record} → lo ≤ e .key → Ascending (suc (e .key)) hi l → Ascending lo hi (e ∷ l)
+use Rattle.definitions.specs.List.{Record, recordOf, Ascending, none, next}
 
 -- the lower bound is at most the upper
 pub ascending-bounds : {lo hi : ℕ} {l : List Record} → Ascending lo hi l → lo ≤ hi

@@ -8,11 +8,11 @@ use native.Mathlib.Omega.{arith}
 use lib.Pow.{pow-lt, pow-mono}
 use borrow.Author.Tests.{eqb-true, eq-eqb}
 use Rattle.keys.proofs.Cases.{split, same-test}
-use Rattle.keys.proofs.Pixel.{InSquare}
+use Rattle.keys.specs.Under.{InSquare, Every}
 use Rattle.definitions.specs.Picture.{Picture, oneFeature, featuresBelow}
 use Rattle.definitions.specs.Bits.{hasSlot, unionOfFour, bitsOf}
 use Rattle.laws.proofs.Within.{within-cases, first-within, pixel-row, pixel-column}
-use Rattle.laws.proofs.Within.{Every, every-nw, every-ne, every-sw, every-se, Somewhere, some-nw, some-ne, some-sw, some-se}
+use Rattle.laws.proofs.Within.{every-nw, every-ne, every-sw, every-se, Somewhere, some-nw, some-ne, some-sw, some-se}
 use Rattle.laws.proofs.Pixels.{Agree, agree-nw, agree-ne, agree-sw, agree-se}
 use Rattle.laws.proofs.Features.{one-to, one-from, several-to, below-to, below-from}
 use Rattle.laws.proofs.Slots.{slot-power, slot-cases, slot-nw, slot-ne, slot-sw, slot-se, slot-le, bits-equal, four-lt, same-four}

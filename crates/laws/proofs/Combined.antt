@@ -12,13 +12,12 @@ use lib.ListN.{length}
 use borrow.Author.Tests.{eqb-true, not-false}
 use Rattle.keys.specs.Key.{rootKey, childKey}
 use Rattle.keys.proofs.Cases.{decide, and-left, and-right, neither-left, neither-right}
-use Rattle.keys.specs.Under.{here, nw, ne, sw, se}
+use Rattle.keys.specs.Under.{here, nw, ne, sw, se, Every}
 use Rattle.definitions.specs.Picture.{Picture, oneFeature, featuresBelow}
 use Rattle.definitions.specs.List.{Record, listOf, listOfPicture}
 use Rattle.definitions.specs.Read.{room, recordsOf, pictureOf, sameRecords, isListOfBlock, isList}
 use Rattle.definitions.specs.Refusal.{badPixel}
 use Rattle.definitions.specs.Combine.{classOf, combined, combinedList, badClassTable}
-use Rattle.laws.proofs.Within.{Every}
 use Rattle.laws.proofs.Features.{one-to, one-from, one-pixel, one-under, below-to, below-from}
 use Rattle.laws.proofs.ListOf.{list-agree, list-one, list-some, length-node}
 use Rattle.laws.proofs.ReadBack.{picture-back, root-keys}

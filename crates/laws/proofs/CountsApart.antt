@@ -7,13 +7,12 @@ use mathlib.Core.Logic.{_⊎_, ⊎-elim}
 use native.Mathlib.Omega.{arith}
 use Rattle.keys.specs.Block.{inBlock}
 use Rattle.keys.proofs.Cases.{decide}
-use Rattle.keys.specs.Under.{MapBlock}
+use Rattle.keys.specs.Under.{MapBlock, Every}
 use Rattle.keys.proofs.Pixel.{inside}
 use Rattle.keys.proofs.InBlock.{inBlock-iff}
 use Rattle.definitions.specs.Picture.{Picture}
 use Rattle.definitions.specs.Edit.{put}
 use Rattle.definitions.specs.Area.{pixelsWith}
-use Rattle.laws.proofs.Within.{Every}
 use Rattle.laws.proofs.Pixels.{Agree}
 use Rattle.laws.proofs.Put.{put-out}
 use Rattle.laws.proofs.CountOf.{pixels-agree}

@@ -6,9 +6,9 @@ use mathlib.Core.Logic.{_↔_}
 use lib.Dec.{ltb, eqb}
 use borrow.Author.Tests.{ltb-true, lt-ltb, eqb-true, eq-eqb, eqb-false}
 use Rattle.keys.proofs.Cases.{decide}
-use Rattle.keys.specs.Under.{Under}
+use Rattle.keys.specs.Under.{Under, Every}
 use Rattle.definitions.specs.Picture.{Picture, oneFeature, featuresBelow}
-use Rattle.laws.proofs.Within.{Every, Somewhere, first-within, pixel-row, pixel-column, under-within}
+use Rattle.laws.proofs.Within.{Somewhere, first-within, pixel-row, pixel-column, under-within}
 use Rattle.laws.proofs.Pixels.{Agree, every-to, every-from, every-fails, every-same}
 
 -- a block of one feature has its first pixel's everywhere

@@ -12,14 +12,13 @@ use borrow.Author.Tests.{eqb-true, eq-eqb, leb-true, le-leb, lt-ltb}
 use Rattle.keys.specs.Key.{heightOf, childKey}
 use Rattle.keys.specs.Block.{rowOf, columnOf, sideOf, inBlock, contains}
 use Rattle.keys.proofs.Cases.{decide, and-left, and-right, and-both, or-either, or-left, or-right, same-test}
-use Rattle.keys.specs.Under.{MapBlock, here, nw, ne, sw, se}
+use Rattle.keys.specs.Under.{MapBlock, here, nw, ne, sw, se, InSquare, Every}
 use Rattle.keys.proofs.Under.{under-trans}
 use Rattle.keys.proofs.Valid.{block-valid}
-use Rattle.keys.proofs.Pixel.{InSquare}
 use Rattle.definitions.specs.Picture.{everyPixel, allFour}
 use Rattle.definitions.specs.Rules.{Finding, findingOf, isWaivedAt, isHidden}
 use Rattle.definitions.specs.Covered.{waivedKeys, inSome, isCovered}
-use Rattle.laws.proofs.Within.{Every, Somewhere}
+use Rattle.laws.proofs.Within.{Somewhere}
 use Rattle.laws.proofs.Pixels.{every-to, every-from, every-fails, every-suc, every-same, four-from}
 
 -- ---- one pixel

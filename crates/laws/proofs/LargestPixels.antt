@@ -11,9 +11,9 @@ use borrow.Author.Tests.{leb-true}
 use Rattle.keys.specs.Key.{rootKey, childKey}
 use Rattle.keys.specs.Block.{inBlock, pixelKey}
 use Rattle.keys.proofs.Cases.{decide, and-left, and-right, or-either, or-left, or-right, same-test}
-use Rattle.keys.specs.Under.{here, nw, ne, sw, se, MapBlock}
+use Rattle.keys.specs.Under.{here, nw, ne, sw, se, MapBlock, InSquare}
 use Rattle.keys.proofs.Under.{under-trans}
-use Rattle.keys.proofs.Pixel.{InSquare, inside}
+use Rattle.keys.proofs.Pixel.{inside}
 use Rattle.keys.proofs.InBlock.{inBlock-iff}
 use Rattle.definitions.specs.Window.{isWindow, inWindow, isInside, largestFrom, largestBlocks}
 use Rattle.definitions.specs.declared.Window.{Window}

@@ -11,9 +11,9 @@ use borrow.Author.Tests.{leb-true, le-leb, ltb-true, lt-ltb, eqb-true, eq-eqb, n
 use Rattle.keys.specs.Key.{rootKey, validKey}
 use Rattle.keys.proofs.Cases.{decide, and-left, and-right, and-both}
 use Rattle.definitions.specs.List.{Record, recordOf}
-use Rattle.definitions.specs.Log.{closed, closingPlaces, groupMark, grouped, countRecord, lastRecord, lastKey, lastFeature, lastCount, beforeLast, lastContent, isContent, lastIsEntry, endsInMark, stepCount, stepEntries, beforeEntries, beforeStep, endsInEntries, lastIsGroup, lastIsStep}
+use Rattle.definitions.specs.Log.{closed, closingPlaces, groupMark, grouped, countRecord, lastRecord, lastKey, lastFeature, lastCount, beforeLast, lastContent, isContent, lastIsEntry, endsInMark, stepCount, stepEntries, beforeEntries, beforeStep, endsInEntries, lastIsGroup, lastIsStep, EndsInEntry}
 use Rattle.laws.proofs.LastEntry.{before-less, length-closed, last-feature, before-last, two-count, two-last, two-front, log-with-two, log-with-entry}
-use Rattle.laws.proofs.LogEntries.{Entries, numberIn, EndsInEntry, ends-in-entry, entry-ends, with-entry-ends, entries-end, entries-before, last-entries}
+use Rattle.laws.proofs.LogEntries.{Entries, numberIn, ends-in-entry, entry-ends, with-entry-ends, entries-end, entries-before, last-entries}
 
 -- records that are one step
 pub data IsStep (m s : ℕ) : List Record → Type 0 where

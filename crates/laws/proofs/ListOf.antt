@@ -11,12 +11,12 @@ use Rattle.keys.specs.Key.{childKey}
 use Rattle.keys.proofs.Cases.{decide}
 use Rattle.definitions.specs.Picture.{Picture, oneFeature}
 use Rattle.definitions.specs.Bits.{bitsOf}
-use Rattle.definitions.specs.List.{Record, recordOf, listOf}
+use Rattle.definitions.specs.List.{Record, recordOf, listOf, Ascending, next}
 use Rattle.laws.proofs.Within.{first-within}
 use Rattle.laws.proofs.Pixels.{Agree, agree-nw, agree-ne, agree-sw, agree-se}
 use Rattle.laws.proofs.Features.{one-agree}
 use Rattle.laws.proofs.BitsOf.{bits-zero, bits-agree, bits-one}
-use Rattle.laws.proofs.Ascending.{Ascending, next, ascending-one, ascending-four}
+use Rattle.laws.proofs.Ascending.{ascending-one, ascending-four}
 
 -- a pixel has one record
 pub list-zero : (p : Picture) (r c κ : ℕ) → listOf p zero r c κ ≡ recordOf κ (2 ^ p r c) ∷ []

@@ -14,7 +14,7 @@ use Rattle.keys.proofs.Cases.{and-left, and-right, and-both}
 use Rattle.definitions.specs.Picture.{Picture}
 use Rattle.definitions.specs.List.{Record, listOf}
 use Rattle.definitions.specs.Read.{pictureOf, sameRecords, isListOfBlock}
-use Rattle.definitions.specs.Log.{closed, closingPlaces, countRecord, lastKey, lastFeature, lastCount, beforeLast, lastContent, closes, isContent, lastIsEntry, beforeEntries, endsInEntries}
+use Rattle.definitions.specs.Log.{closed, closingPlaces, countRecord, lastKey, lastFeature, lastCount, beforeLast, lastContent, closes, isContent, lastIsEntry, EndsInEntry, beforeEntries, endsInEntries}
 use Rattle.laws.proofs.LastEntry.{length-with-entry, count-record, last-key, last-feature, last-count, before-last, last-content, log-with-entry}
 
 -- the records are entries, one after the other
@@ -38,14 +38,6 @@ not-same (x ∷ l) other h = refl
 pub content-not-empty : (m s κ : ℕ) → isContent m s κ [] ≡ false
 unfolding isContent isListOfBlock
 content-not-empty m s κ = not-same (listOf (pictureOf m []) (heightOf m κ) (rowOf m κ) (columnOf m κ) κ) _ (list-not-empty _ _ _ _ κ)
-
--- the log ends in an entry
-pub record EndsInEntry (m s : ℕ) (log : List Record) : Type 0 where
-  pub all-there : lastCount log + closingPlaces ≤ length log
-  pub one-key : countRecord log .key ≡ lastKey log
-  pub below : lastFeature log < s
-  pub valid : validKey m (lastKey log) ≡ true
-  pub correct : isContent m s (lastKey log) (lastContent log) ≡ true
 
 -- the closing records, by their test
 closed-so : (s : ℕ) (log : List Record) → closes s log ≡ true → (countRecord log .key ≡ lastKey log) × (lastFeature log < s)

@@ -4,7 +4,8 @@ use Prim.Native.Nat.{ℕ, zero, suc, _+_, _*_, _^_, _≤_, _<_}
 use mathlib.Core.Path.{_≡_, refl, sym, _∙_, ap, ap₂}
 use native.Mathlib.Nat.{add-zero, zero-add, add-suc, suc-add, pow-suc, mul-comm, mul-assoc, mul-mul-mul-comm}
 use native.Mathlib.Omega.{arith}
-use Rattle.laws.proofs.Within.{Every, first-within, every-nw, every-ne, every-sw, every-se}
+use Rattle.keys.specs.Under.{Every}
+use Rattle.laws.proofs.Within.{first-within, every-nw, every-ne, every-sw, every-se}
 
 -- the sum over a run of pixels in a row
 unfoldable pub sumRow : (ℕ → ℕ → ℕ) → ℕ → ℕ → ℕ → ℕ

@@ -4,9 +4,9 @@ use Prim.Native.Nat.{ℕ, zero, suc, _+_, _^_}
 use mathlib.Core.Path.{_≡_, refl, sym, _∙_, ap₂}
 use mathlib.Core.Bool.{Bool, true, false, _&&_}
 use Rattle.keys.proofs.Cases.{decide, and-left, and-right, and-both, same-test}
-use Rattle.keys.specs.Under.{Under}
+use Rattle.keys.specs.Under.{Under, Every}
 use Rattle.definitions.specs.Picture.{Picture, allFour, everyPixel}
-use Rattle.laws.proofs.Within.{Every, first-within, pixel-row, pixel-column, every-nw, every-ne, every-sw, every-se, every-join, under-within}
+use Rattle.laws.proofs.Within.{first-within, pixel-row, pixel-column, every-nw, every-ne, every-sw, every-se, every-join, under-within}
 use Rattle.laws.proofs.Within.{Somewhere, some-nw, some-ne, some-sw, some-se}
 
 -- a scan of one pixel is the test there

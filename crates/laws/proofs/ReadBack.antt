@@ -18,7 +18,8 @@ use Rattle.laws.proofs.Features.{one-to}
 use Rattle.laws.proofs.FeatureOf.{feature-of-power, power-inj}
 use Rattle.laws.proofs.ListOf.{list-zero, list-one, list-node, list-ascends}
 use Rattle.laws.proofs.ValueAt.{Reads, Silent, value-above, silent-append, reads-left, reads-right, reads-tail, reads-one}
-use Rattle.keys.proofs.Pixel.{InSquare, pixel-nw, pixel-ne, pixel-sw, pixel-se, pixelKey-lt}
+use Rattle.keys.proofs.Pixel.{pixel-nw, pixel-ne, pixel-sw, pixel-se, pixelKey-lt}
+use Rattle.keys.specs.Under.{InSquare}
 
 reads-as : (x y : ℕ) {x′ y′ : ℕ} (l : List Record) → x ≡ x′ → y′ ≡ y → Reads x′ l y′ → Reads x l y
 reads-as x y l e f h v = ap (λ z. valueAt z v l) e ∙ h v ∙ f

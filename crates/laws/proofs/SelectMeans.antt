@@ -8,9 +8,8 @@ use mathlib.Core.List.{List, [], _∷_, _++_, List·Memᴰ, List·Memᴰ·head, 
 use borrow.Author.Tests.{eqb-true, eq-eqb}
 use Rattle.keys.specs.Key.{childKey}
 use Rattle.keys.proofs.Cases.{decide, and-left, and-right, and-both}
-use Rattle.keys.specs.Under.{Under, here, nw, ne, sw, se, Quadrant, is-nw, is-ne, is-sw, is-se}
+use Rattle.keys.specs.Under.{Under, here, nw, ne, sw, se, Quadrant, is-nw, is-ne, is-sw, is-se, InSquare}
 use Rattle.keys.proofs.Under.{under-trans, quadrant-under}
-use Rattle.keys.proofs.Pixel.{InSquare}
 use Rattle.definitions.specs.Picture.{Picture}
 use Rattle.definitions.specs.Window.{inWindow, isGiven, selectFrom, selectIn}
 use Rattle.definitions.specs.declared.Window.{Window}

@@ -11,8 +11,8 @@ use lib.ListN.{length, length-append}
 use borrow.Author.Tests.{eqb-true, ne-eqb}
 use Rattle.keys.proofs.Cases.{split, and-left, and-right, and-both}
 use Rattle.definitions.specs.List.{Record}
-use Rattle.definitions.specs.Log.{groupMark, endsInMark, beforeStep, lastIsStep, dividesIn, isSound}
-use Rattle.laws.proofs.LogEntries.{EndsInEntry, ends-in-entry}
+use Rattle.definitions.specs.Log.{groupMark, endsInMark, beforeStep, lastIsStep, dividesIn, isSound, EndsInEntry}
+use Rattle.laws.proofs.LogEntries.{ends-in-entry}
 use Rattle.laws.proofs.LastStep.{IsStep, last-step, step-single, step-some, step-ends, step-before, before-step-less}
 
 -- the records are steps, one after the other

@@ -4,12 +4,12 @@ use mathlib.Core.Path.{_≡_, refl, sym, _∙_, ap}
 use mathlib.Core.List.{List, [], _∷_, _++_}
 use native.Mathlib.Nat.{add-zero, zero-add, add-suc, suc-add}
 use native.Mathlib.Omega.{arith}
+use Rattle.keys.specs.Under.{Every}
 use Rattle.definitions.specs.Picture.{Picture}
-use Rattle.definitions.specs.Area.{pixelsWith, countsFrom, summaryBelow, summaryOf, summaryLevel, summaryHeight}
-use Rattle.laws.proofs.Within.{Every}
+use Rattle.definitions.specs.Area.{pixelsWith, countsFrom, summaryBelow, summaryOf, summaryLevel, summaryHeight, sumBelow}
 use Rattle.laws.proofs.PixelSums.{same-four}
 use Rattle.laws.proofs.CountOf.{pixels-quadrants}
-use Rattle.laws.proofs.AreasAddUp.{sumBelow, same-below, add-below, pixels-add-up}
+use Rattle.laws.proofs.AreasAddUp.{same-below, add-below, pixels-add-up}
 use Rattle.laws.proofs.SummaryOf.{summary-zero, summary-suc}
 
 unfoldable pub total : List ℕ → ℕ

@@ -1,5 +1,5 @@
 -- The summary's places of one feature add up to the feature's pixels: of the whole raster over all blocks, and of a block of the map over the
--- summary's blocks that lie under it. Rests on SummaryOf, CountsApart and AreasAddUp.
+-- summary's blocks that lie under it. Rests on SummaryOf and CountsApart.
 use Prim.Native.Nat.{ℕ, zero, suc, _+_, _*_, _^_, _<_}
 use mathlib.Core.Path.{_≡_, refl, sym, _∙_, ap, ap₂}
 use mathlib.Core.Bool.{true}
@@ -13,10 +13,9 @@ use Rattle.keys.specs.Block.{rowOf, columnOf}
 use Rattle.keys.proofs.Valid.{valid-block}
 use Rattle.definitions.specs.Picture.{Picture}
 use Rattle.definitions.specs.Edit.{put}
-use Rattle.definitions.specs.Area.{pixelsWith, summaryLevel, summaryHeight, blockKey}
+use Rattle.definitions.specs.Area.{pixelsWith, summaryLevel, summaryHeight, blockKey, sumBelow}
 use Rattle.laws.proofs.Features.{one-from}
 use Rattle.laws.proofs.CountOf.{pixels-none}
-use Rattle.laws.proofs.AreasAddUp.{sumBelow}
 use Rattle.laws.proofs.SummaryOf.{summary-block}
 use Rattle.laws.proofs.CountsApart.{Apart, put-apart}
 

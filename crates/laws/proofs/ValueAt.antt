@@ -1,4 +1,4 @@
--- The value of the last record at or before a key: over two lists joined, where every key is above, and at a single record. Rests on Ascending.
+-- The value of the last record at or before a key: over two lists joined, where every key is above, and at a single record. Rests on List of the definitions.
 use Prim.Native.Nat.{ℕ, _≤_, _<_}
 use mathlib.Core.Path.{_≡_, refl, _∙_}
 use mathlib.Core.Bool.{cond}
@@ -6,9 +6,8 @@ use mathlib.Core.List.{List, [], _∷_, _++_}
 use native.Mathlib.Omega.{arith}
 use lib.Dec.{leb}
 use borrow.Author.Tests.{le-leb, lt-leb}
-use Rattle.definitions.specs.List.{Record, recordOf}
+use Rattle.definitions.specs.List.{Record, recordOf, Ascending, none, next}
 use Rattle.definitions.specs.Read.{valueAt}
-use Rattle.laws.proofs.Ascending.{Ascending, none, next}
 
 -- a record at or before the key replaces what was found before it
 pub value-at : (x v : ℕ) (e : Record) (l : List Record) → e .key ≤ x → valueAt x v (e ∷ l) ≡ valueAt x (e .value) l

@@ -1,17 +1,12 @@
 -- The pixels of a block: those whose row and column lie in its square. A pixel of a block lies in one of its quadrants, and what holds at
--- every pixel of the four quadrants holds at every pixel of the block. Rests on keys' Pixel.
+-- every pixel of the four quadrants holds at every pixel of the block. Rests on keys' Under.
 use Prim.Native.Nat.{ℕ, zero, suc, _+_, _^_, _<_}
 use mathlib.Core.Path.{_≡_}
 use native.Mathlib.Nat.{pow-suc}
 use native.Mathlib.Omega.{arith}
 use lib.Pow.{pow-pos}
 use Rattle.keys.proofs.Cases.{split}
-use Rattle.keys.specs.Under.{Under, here, nw, ne, sw, se}
-use Rattle.keys.proofs.Pixel.{InSquare}
-
--- what holds at every pixel of the block
-abbrev pub Every : (ℕ → ℕ → Type 0) → ℕ → ℕ → ℕ → Type 0
-Every P k r c = (r′ c′ : ℕ) → InSquare k r c r′ c′ → P r′ c′
+use Rattle.keys.specs.Under.{Under, here, nw, ne, sw, se, InSquare, Every}
 
 -- the first pixel is in the block
 pub first-within : (k r c : ℕ) → InSquare k r c r c

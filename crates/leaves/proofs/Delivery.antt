@@ -13,13 +13,13 @@ use borrow.Author.Tests.{leb-true, eqb-true, eq-eqb, not-true}
 use Rattle.keys.specs.Key.{validKey}
 use Rattle.keys.specs.Block.{inBlock}
 use Rattle.keys.proofs.Cases.{decide, and-left, and-right, and-both}
-use Rattle.keys.specs.Under.{here}
+use Rattle.keys.specs.Under.{here, Every}
 use Rattle.keys.proofs.Valid.{valid-below}
 use Rattle.keys.proofs.InBlock.{inBlock-iff, in-raster}
 use Rattle.definitions.specs.Read.{paired}
 use Rattle.definitions.specs.Leaves.{validKeys, ascendFrom, coverings, coverOnce, areLeaves, pictureOfLeaves}
 use Rattle.definitions.specs.Refusal.{badPixel}
-use Rattle.laws.proofs.Within.{Every, first-within}
+use Rattle.laws.proofs.Within.{first-within}
 use Rattle.laws.proofs.Pixels.{every-to, every-from}
 use Rattle.laws.proofs.Features.{one-from}
 use Rattle.laws.proofs.AscendingKeys.{AscendingKeys, no-key, key}

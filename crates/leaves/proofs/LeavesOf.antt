@@ -11,9 +11,8 @@ use borrow.Author.Tests.{lt-leb}
 use Rattle.keys.specs.Key.{childKey}
 use Rattle.keys.specs.Block.{inBlock}
 use Rattle.keys.proofs.Cases.{decide}
-use Rattle.keys.specs.Under.{MapBlock, here, nw, ne, sw, se}
+use Rattle.keys.specs.Under.{MapBlock, here, nw, ne, sw, se, InSquare}
 use Rattle.keys.proofs.Under.{under-trans}
-use Rattle.keys.proofs.Pixel.{InSquare}
 use Rattle.keys.proofs.InBlock.{inBlock-iff}
 use Rattle.definitions.specs.Picture.{Picture, oneFeature, featuresBelow}
 use Rattle.definitions.specs.Bits.{featureOf, bitsOf}

@@ -12,10 +12,9 @@ use Rattle.keys.specs.Key.{childKey, validKey}
 use Rattle.keys.specs.Block.{inBlock}
 use Rattle.keys.proofs.Cases.{decide, and-left, and-right, and-both}
 use Rattle.keys.proofs.Powers.{five-pos}
-use Rattle.keys.specs.Under.{MapBlock, here, nw, ne, sw, se}
+use Rattle.keys.specs.Under.{MapBlock, here, nw, ne, sw, se, InSquare}
 use Rattle.keys.proofs.Under.{under-trans}
 use Rattle.keys.proofs.Valid.{block-valid}
-use Rattle.keys.proofs.Pixel.{InSquare}
 use Rattle.keys.proofs.InBlock.{inBlock-iff}
 use Rattle.definitions.specs.Leaves.{validKeys, ascendFrom, coverings}
 use Rattle.laws.proofs.Within.{within-cases}

@@ -7,10 +7,9 @@ use native.Mathlib.Numerals.{add-one}
 use lib.ListN.{length, drop, getD, length-map, List·getD-append}
 use lib.Seq.{drop-cons}
 use Rattle.keys.proofs.Descent.{one-less}
-use Rattle.definitions.specs.List.{Record, recordOf, keysOf}
+use Rattle.definitions.specs.List.{Record, recordOf, keysOf, Ascending}
 use Rattle.definitions.specs.Read.{paired, recordsOf}
 use Rattle.definitions.specs.Buffer.{over}
-use Rattle.laws.proofs.Ascending.{Ascending}
 use Rattle.list.proofs.Accepted.{key-below}
 use Rattle.definitions.specs.Listing.{lineOf, linesOf}
 

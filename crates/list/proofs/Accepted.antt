@@ -13,11 +13,11 @@ use Rattle.keys.specs.Key.{rootKey, heightOf}
 use Rattle.keys.specs.Block.{rowOf, columnOf}
 use Rattle.keys.proofs.Cases.{and-left, and-right, and-both}
 use Rattle.definitions.specs.Picture.{Picture, featuresBelow}
-use Rattle.definitions.specs.List.{Record, keysOf, listOf, listOfPicture}
+use Rattle.definitions.specs.List.{Record, keysOf, listOf, listOfPicture, Ascending, none, next}
 use Rattle.definitions.specs.Read.{room, recordsOf, pictureOf, sameRecords, isListOfBlock, isList}
 use Rattle.definitions.specs.Log.{isContent}
 use Rattle.definitions.specs.Edit.{contentOf}
-use Rattle.laws.proofs.Ascending.{Ascending, none, next, ascending-bounds}
+use Rattle.laws.proofs.Ascending.{ascending-bounds}
 use Rattle.laws.proofs.ListOf.{list-ascends, list-some, list-most}
 use Rattle.laws.proofs.ReadBack.{root-keys}
 use Rattle.laws.proofs.IsList.{same-to, list-passes}

@@ -8,9 +8,9 @@ use native.Mathlib.Omega.{arith}
 use lib.ListN.{length}
 use lib.Dec.{leb, ltb}
 use Rattle.keys.specs.Block.{inInterval}
-use Rattle.definitions.specs.List.{Record, keysOf}
+use Rattle.definitions.specs.List.{Record, keysOf, Ascending, none, next}
 use Rattle.definitions.specs.Standing.{upTo, recordsIn}
-use Rattle.laws.proofs.Ascending.{Ascending, none, next, ascending-bounds}
+use Rattle.laws.proofs.Ascending.{ascending-bounds}
 use Rattle.list.specs.Among.{keysBelow}
 
 unfoldable pub counted : (ℕ → Bool) → List Record → ℕ

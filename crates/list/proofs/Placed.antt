@@ -15,8 +15,8 @@ use Rattle.keys.proofs.Under.{under-trans, quadrant-under}
 use Rattle.keys.proofs.Interval.{Same, key-within}
 use Rattle.definitions.specs.Picture.{Picture, oneFeature}
 use Rattle.definitions.specs.Bits.{bitsOf}
-use Rattle.definitions.specs.List.{Record, recordOf, listOf}
-use Rattle.laws.proofs.Ascending.{Ascending, none, widen, ascending-one, ascending-append}
+use Rattle.definitions.specs.List.{Record, recordOf, listOf, Ascending, none}
+use Rattle.laws.proofs.Ascending.{widen, ascending-one, ascending-append}
 use Rattle.laws.proofs.ListOf.{list-node, list-ascends}
 
 -- the list of the second block is a part of the first's, and the keys around it are outside its interval

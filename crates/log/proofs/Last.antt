@@ -9,9 +9,9 @@ use lib.ListN.{length, getD}
 use Rattle.keys.specs.Key.{validKey}
 use Rattle.definitions.specs.List.{Record, recordOf}
 use Rattle.definitions.specs.Read.{recordsOf}
-use Rattle.definitions.specs.Log.{closingPlaces, countRecord, lastRecord, lastKey, lastFeature, lastCount, beforeLast, lastContent, isContent, endsInMark, isSound}
+use Rattle.definitions.specs.Log.{closingPlaces, countRecord, lastRecord, lastKey, lastFeature, lastCount, beforeLast, lastContent, isContent, endsInMark, isSound, EndsInEntry}
 use Rattle.laws.proofs.LastEntry.{length-before, content-place, length-content}
-use Rattle.laws.proofs.LogEntries.{content-not-empty, EndsInEntry}
+use Rattle.laws.proofs.LogEntries.{content-not-empty}
 use Rattle.laws.proofs.SoundLog.{sound-ends}
 use Rattle.laws.proofs.Records.{records-length, records-at, records-run}
 use Rattle.log.specs.declared.entry.Entry.{Entry}

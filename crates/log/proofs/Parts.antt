@@ -12,6 +12,7 @@ use Rattle.keys.proofs.Cases.{and-left, and-right}
 use Rattle.definitions.specs.Read.{room, paired, recordsOf}
 use Rattle.definitions.specs.Log.{isSound, toRedo, noLog}
 use Rattle.laws.proofs.Records.{records-length, records-run}
+use Rattle.log.specs.Entries.{WholeLog}
 use Rattle.log.proofs.Last.{SoundLog}
 
 module _ (m s : ℕ) (keys values : List ℕ) (used inForce : ℕ) where
@@ -74,14 +75,6 @@ module _ (m s : ℕ) (keys values : List ℕ) (used inForce : ℕ) where
           → not r ≡ noLog m s keys values used inForce
       back-decides q r is good told =
           ap not (told ∙ ap (isSound m s) part-redo) ∙ ap (λ b. not (b && back)) (sym (not-false q good) ∙ is) ∙ passes
-
--- a log that is not refused with 5: the used records are there, those in force are the first of them, and both parts divide into steps
-pub record WholeLog (m s : ℕ) (keys values : List ℕ) (used inForce : ℕ) : Type 0 where
-  pub in-keys : used ≤ length keys
-  pub in-values : used ≤ length values
-  pub within : inForce ≤ used
-  pub in-force : isSound m s (recordsOf keys values inForce) ≡ true
-  pub redoable : isSound m s (toRedo keys values used inForce) ≡ true
 
 -- what the promise of the check says where it answers yes
 pub whole-log : (m s : ℕ) (keys values : List ℕ) (used inForce : ℕ) → noLog m s keys values used inForce ≡ false → WholeLog m s keys values used inForce

@@ -2,14 +2,14 @@
 -- Rests on Log of the definitions.
 use Prim.Native.Nat.{ℕ, _+_, _-_, _^_, _≤_, _<_}
 use mathlib.Core.Path.{_≡_}
-use mathlib.Core.Bool.{Bool, _&&_}
+use mathlib.Core.Bool.{Bool, true, _&&_}
 use mathlib.Core.List.{List}
 use lib.ListN.{length, getD, take, drop, replicate}
 use lib.Dec.{leb}
 use Rattle.definitions.specs.List.{Record, keysOf, valuesOf}
 use Rattle.definitions.specs.Read.{room, paired, recordsOf}
 use Rattle.definitions.specs.Buffer.{overAt}
-use Rattle.definitions.specs.Log.{closingPlaces, lastKey, lastFeature, lastCount, beforeLast, closes}
+use Rattle.definitions.specs.Log.{closingPlaces, lastKey, lastFeature, lastCount, beforeLast, closes, isSound, toRedo}
 use Rattle.log.specs.declared.entry.Entry.{Entry}
 
 -- the key, the feature and the count of the records that close the used ones
@@ -60,3 +60,11 @@ pub record Logged (entry : List Record) (start : ℕ) (keys values keys′ value
 pub record Cleared (start used : ℕ) (keys values keys′ values′ : List ℕ) : Type 0 where
   pub keys-are : keys′ ≡ overAt start (replicate (used - start) 0) keys
   pub values-are : values′ ≡ overAt start (replicate (used - start) 0) values
+
+-- a log that is not refused with 5: the used records are there, those in force are the first of them, and both parts divide into steps
+pub record WholeLog (m s : ℕ) (keys values : List ℕ) (used inForce : ℕ) : Type 0 where
+  pub in-keys : used ≤ length keys
+  pub in-values : used ≤ length values
+  pub within : inForce ≤ used
+  pub in-force : isSound m s (recordsOf keys values inForce) ≡ true
+  pub redoable : isSound m s (toRedo keys values used inForce) ≡ true

@@ -6,8 +6,7 @@ use mathlib.Core.List.{List}
 use lib.ListN.{length}
 use Rattle.definitions.specs.List.{Record}
 use Rattle.definitions.specs.Read.{recordsOf}
-use Rattle.definitions.specs.Log.{endsInMark, stepEntries, beforeStep, endsInEntries, lastIsStep, isSound}
-use Rattle.laws.proofs.LogEntries.{EndsInEntry}
+use Rattle.definitions.specs.Log.{endsInMark, stepEntries, beforeStep, endsInEntries, lastIsStep, isSound, EndsInEntry}
 use Rattle.log.specs.declared.step.LogStep.{LogStep}
 use Rattle.log.specs.Entries.{lastEntry}
 

@@ -27,7 +27,8 @@ use Rattle.laws.proofs.Records.{paired-back, records-length, records-first, rec
 use Rattle.list.proofs.Tests.{good-settings}
 use Rattle.laws.proofs.Buffer.{past-over}
 use Rattle.file.proofs.SliceRecords.{over-room}
-use Rattle.log.proofs.Parts.{WholeLog, whole-log}
+use Rattle.log.proofs.Parts.{whole-log}
+use Rattle.log.specs.Entries.{WholeLog}
 use Rattle.log_file.proofs.LogAccepted.{store-accepted, store-accepts, store-count, store-leaves, load-accepted, load-accepts, load-gives, load-leaves}
 use Rattle.log_file.proofs.LogFileOf.{Words, words-fit, read-m, read-s, read-used, read-in-force, written-mark, written-version, length-file, written-length, written-not-short, read-records, file-back}
 

@@ -22,7 +22,8 @@ use Rattle.laws.proofs.FileOf.{length-records}
 use Rattle.laws.proofs.Records.{records-length}
 use Rattle.laws.proofs.Buffer.{sets-over}
 use Rattle.file.specs.Room.{RoomFor}
-use Rattle.log.proofs.Parts.{WholeLog, whole-log}
+use Rattle.log.proofs.Parts.{whole-log}
+use Rattle.log.specs.Entries.{WholeLog}
 use Rattle.log_file.proofs.Lent.{rest-lent, rest-back}
 use Rattle.log_file.proofs.LogAccepted.{store-accepts}
 use Rattle.log_file.proofs.HeadBytes.{length-head, head-then}

@@ -8,9 +8,9 @@ use native.Mathlib.Omega.{arith}
 use Rattle.keys.specs.Key.{validKey}
 use Rattle.keys.specs.Block.{inBlock}
 use Rattle.keys.proofs.Cases.{and-left, and-right, neither-left, neither-right}
-use Rattle.keys.proofs.Pixel.{InSquare}
 use Rattle.keys.proofs.InBlock.{inBlock-iff, in-raster}
 use Rattle.keys.proofs.Valid.{valid-block}
+use Rattle.keys.specs.Under.{InSquare}
 use Rattle.definitions.specs.Picture.{Picture}
 use Rattle.definitions.specs.Read.{pictureOf}
 use Rattle.definitions.specs.Edit.{paintIn}

@@ -10,10 +10,10 @@ use Rattle.keys.specs.Key.{validKey, heightOf}
 use Rattle.keys.specs.Block.{rowOf, columnOf, inBlock, isAncestor}
 use Rattle.keys.proofs.Cases.{decide, and-left, and-right, and-both}
 use Rattle.keys.proofs.Powers.{two-pos}
-use Rattle.keys.specs.Under.{Under}
+use Rattle.keys.specs.Under.{Under, InSquare}
 use Rattle.keys.proofs.Interval.{within, apart as by-keys}
 use Rattle.keys.proofs.Valid.{valid-block}
-use Rattle.keys.proofs.Pixel.{InSquare, inside}
+use Rattle.keys.proofs.Pixel.{inside}
 use Rattle.keys.proofs.InBlock.{inBlock-iff}
 use Rattle.keys.proofs.Ancestor.{ancestor-iff}
 use Rattle.order.specs.Paint.{BlockPaint}

@@ -12,8 +12,8 @@ use lib.Dec.{ltb}
 use borrow.Author.Tests.{lt-ltb, le-ltb}
 use Rattle.keys.proofs.Powers.{five-pos}
 use Rattle.definitions.specs.Picture.{Picture}
-use Rattle.definitions.specs.List.{Record, keysOf, listOf}
-use Rattle.laws.proofs.Ascending.{Ascending, ascending-append}
+use Rattle.definitions.specs.List.{Record, keysOf, listOf, Ascending}
+use Rattle.laws.proofs.Ascending.{ascending-append}
 use Rattle.laws.proofs.Records.{paired-keys}
 use Rattle.laws.proofs.ListOf.{list-ascends}
 use Rattle.list.specs.Sorted.{Sorted, Near}

@@ -13,10 +13,9 @@ use Rattle.slices.proofs.Sets.{sets-parts, sets-same}
 use Rattle.keys.proofs.Cases.{split}
 use Rattle.keys.specs.Under.{here}
 use Rattle.definitions.specs.Picture.{Picture}
-use Rattle.definitions.specs.List.{Record, keysOf, valuesOf, listOf, listOfPicture}
+use Rattle.definitions.specs.List.{Record, keysOf, valuesOf, listOf, listOfPicture, none}
 use Rattle.definitions.specs.Read.{room, paired, recordsOf}
 use Rattle.definitions.specs.Buffer.{over, replaced}
-use Rattle.laws.proofs.Ascending.{none}
 use Rattle.laws.proofs.Records.{records-keys, records-values, paired-back}
 use Rattle.list.specs.Own.{OwnList, shownBy}
 use Rattle.list.proofs.Own.{own-length}

@@ -12,9 +12,9 @@ use Rattle.keys.specs.Key.{childKey}
 use Rattle.slices.proofs.Parts.{drop-take}
 use Rattle.definitions.specs.Picture.{Picture, oneFeature}
 use Rattle.definitions.specs.Bits.{bitsOf}
-use Rattle.definitions.specs.List.{Record, recordOf, listOf}
+use Rattle.definitions.specs.List.{Record, recordOf, listOf, Ascending}
 use Rattle.definitions.specs.Read.{paired, recordsOf}
-use Rattle.laws.proofs.Ascending.{Ascending, ascending-append, widen}
+use Rattle.laws.proofs.Ascending.{ascending-append, widen}
 use Rattle.laws.proofs.Records.{drop-paired, records-length, records-at}
 use Rattle.laws.proofs.Features.{one-pixel}
 use Rattle.laws.proofs.ListOf.{list-node, list-first, list-ascends}

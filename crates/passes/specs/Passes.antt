@@ -11,9 +11,8 @@ use Rattle.list.specs.Check.{oneSlot}
 use Rattle.build.specs.BuildBlocks.{Tallied, FourAsked, FourWritten, Written}
 use Rattle.build.specs.declared.count.Tally.{Tally}
 use Rattle.definitions.specs.Picture.{Picture, oneFeature}
-use Rattle.definitions.specs.List.{Record, keysOf, valuesOf, listOf}
+use Rattle.definitions.specs.List.{Record, keysOf, valuesOf, listOf, Ascending}
 use Rattle.definitions.specs.Read.{recordsOf}
-use Rattle.laws.proofs.Ascending.{Ascending}
 use Rattle.step.specs.Step.{Step, stepOver, pruned}
 use Rattle.step.specs.Meeting.{isCut}
 use Rattle.step.specs.declared.meeting.Meeting.{Meeting}

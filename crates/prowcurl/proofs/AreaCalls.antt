@@ -9,7 +9,8 @@ use denote.Triple.Entry.{Args}
 use Rattle.definitions.specs.Calls.Area.{areaRefusal, area as areaMeasured}
 use Rattle.definitions.specs.declared.Window.{Window}
 use Rattle.definitions.specs.declared.Measured.{Measured}
-use Rattle.laws.proofs.AreasAddUp.{sumBelow, squareOf}
+use Rattle.definitions.specs.Area.{sumBelow}
+use Rattle.laws.proofs.AreasAddUp.{squareOf}
 use Rattle.laws.proofs.AreaAnswers.{answers-in-window}
 use Rattle.laws.proofs.SummaryPlaces.{within-same}
 use Rattle.prowcurl.proofs.areas.hlq_area as area

@@ -8,9 +8,9 @@ use native.Mathlib.Nat.{le-refl}
 use lib.ListN.{length, getD}
 use Rattle.definitions.specs.Picture.{Picture, oneFeature}
 use Rattle.definitions.specs.Bits.{bitsOf}
-use Rattle.definitions.specs.List.{Record, recordOf, listOf, keysOf}
+use Rattle.definitions.specs.List.{Record, recordOf, listOf, keysOf, Ascending}
 use Rattle.definitions.specs.Standing.{placeOf}
-use Rattle.laws.proofs.Ascending.{Ascending, ascending-append, widen, ascending-rest}
+use Rattle.laws.proofs.Ascending.{ascending-append, widen, ascending-rest}
 use Rattle.laws.proofs.ListOf.{list-first, list-one, list-ascends}
 use Rattle.put.specs.Family.{blockBits}
 use Rattle.put.proofs.Places.{place-cut, bits-cut, key-cut}

@@ -1,10 +1,9 @@
--- Records ascend exactly when their keys do; and the keys and the bits of a list in which records were exchanged. Rests on laws' Ascending and AscendingKeys.
+-- Records ascend exactly when their keys do; and the keys and the bits of a list in which records were exchanged. Rests on laws' AscendingKeys.
 use Prim.Native.Nat.{ℕ, zero, suc, _+_}
 use mathlib.Core.Path.{_≡_, refl, _∙_, ap, ap₂}
 use mathlib.Core.List.{List, [], _∷_, _++_, map, map-append}
 use lib.ListN.{take, drop}
-use Rattle.definitions.specs.List.{Record, keysOf, valuesOf}
-use Rattle.laws.proofs.Ascending.{Ascending, none, next}
+use Rattle.definitions.specs.List.{Record, keysOf, valuesOf, Ascending, none, next}
 use Rattle.laws.proofs.AscendingKeys.{AscendingKeys, no-key, key}
 use Rattle.put.specs.Put.{inserted, exchanged}
 use Rattle.put.specs.declared.plan.Plan.{Plan}

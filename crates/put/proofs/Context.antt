@@ -9,9 +9,9 @@ use Rattle.keys.specs.Under.{Quadrant}
 use Rattle.keys.proofs.Under.{quadrant-under}
 use Rattle.definitions.specs.Picture.{Picture, oneFeature}
 use Rattle.definitions.specs.Bits.{bitsOf}
-use Rattle.definitions.specs.List.{Record, recordOf, listOf}
+use Rattle.definitions.specs.List.{Record, recordOf, listOf, Ascending, none, next}
 use Rattle.laws.proofs.Features.{several-above}
-use Rattle.laws.proofs.Ascending.{Ascending, none, next, ascending-append}
+use Rattle.laws.proofs.Ascending.{ascending-append}
 use Rattle.put.proofs.Way.{Way, there, up}
 use Rattle.put.proofs.Siblings.{preceding, following, four-split, node-four, preceding-ascends, following-ascends}
 

@@ -11,10 +11,10 @@ use Rattle.keys.specs.Key.{validKey}
 use Rattle.keys.proofs.Valid.{valid-block}
 use Rattle.definitions.specs.Picture.{Picture}
 use Rattle.definitions.specs.Bits.{bitsOf}
-use Rattle.definitions.specs.List.{Record, recordOf, listOf, listOfPicture, keysOf, valuesOf}
+use Rattle.definitions.specs.List.{Record, recordOf, listOf, listOfPicture, keysOf, valuesOf, Ascending}
 use Rattle.definitions.specs.Edit.{put, contentOf}
 use Rattle.laws.proofs.ListOf.{list-first, list-ascends}
-use Rattle.laws.proofs.Ascending.{Ascending, widen}
+use Rattle.laws.proofs.Ascending.{widen}
 use Rattle.put.specs.Renew.{renew}
 use Rattle.put.specs.Put.{planOf, lengthAfter, exchanged, parentsRenewed, edited}
 use Rattle.put.specs.declared.plan.Plan.{Plan}

@@ -7,13 +7,13 @@ use mathlib.Core.List.{List, [], _∷_, _++_, append-assoc, append-nil}
 use native.Mathlib.Omega.{arith}
 use lib.Bits.{bitOr, or-self}
 use lib.ListN.{length, length-append}
-use Rattle.keys.specs.Under.{Under, MapBlock, Quadrant, is-nw, is-ne, is-sw, is-se}
+use Rattle.keys.specs.Under.{Under, MapBlock, Quadrant, is-nw, is-ne, is-sw, is-se, Every}
 use Rattle.keys.proofs.Under.{quadrant-under, under-trans}
 use Rattle.keys.proofs.Pixel.{InKeys}
 use Rattle.definitions.specs.Picture.{Picture, oneFeature}
 use Rattle.definitions.specs.Bits.{bitsOf}
 use Rattle.definitions.specs.List.{Record, recordOf, listOf}
-use Rattle.laws.proofs.Within.{Every, first-within, under-within}
+use Rattle.laws.proofs.Within.{first-within, under-within}
 use Rattle.laws.proofs.Features.{one-to, one-from}
 use Rattle.laws.proofs.Slots.{or-assoc}
 use Rattle.laws.proofs.BitsOf.{bits-one}

@@ -7,12 +7,11 @@ use native.Mathlib.Omega.{arith}
 use lib.Pow.{pow-lt}
 use Rattle.keys.proofs.Cases.{split}
 use Rattle.keys.proofs.Powers.{two-pos}
-use Rattle.keys.specs.Under.{Under}
+use Rattle.keys.specs.Under.{Under, InSquare, Every}
 use Rattle.keys.proofs.Interval.{within, one-block}
-use Rattle.keys.proofs.Pixel.{InSquare}
 use Rattle.definitions.specs.Picture.{Picture, oneFeature}
 use Rattle.definitions.specs.List.{listOf}
-use Rattle.laws.proofs.Within.{Every, Somewhere, under-within}
+use Rattle.laws.proofs.Within.{Somewhere, under-within}
 use Rattle.laws.proofs.Features.{one-to, one-from}
 use Rattle.put.proofs.Way.{Way, under-of}
 use Rattle.put.proofs.Outside.{Outside}

@@ -4,10 +4,10 @@ use Prim.Native.Nat.{ℕ, suc, _+_, _^_, _≤_}
 use mathlib.Core.Path.{_≡_}
 use mathlib.Core.Logic.{_⊎_, inl, inr}
 use native.Mathlib.Omega.{arith}
-use Rattle.keys.specs.Under.{Under, MapBlock, Quadrant}
+use Rattle.keys.specs.Under.{Under, MapBlock, Quadrant, InSquare}
 use Rattle.keys.proofs.Under.{quadrant-under}
 use Rattle.keys.proofs.Interval.{within, apart}
-use Rattle.keys.proofs.Pixel.{InSquare, InKeys, inside}
+use Rattle.keys.proofs.Pixel.{InKeys, inside}
 use Rattle.keys.proofs.Parent.{quadrant-of}
 use Rattle.definitions.specs.Picture.{Picture}
 use Rattle.laws.proofs.Within.{under-within}

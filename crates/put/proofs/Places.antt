@@ -13,9 +13,9 @@ use borrow.Author.Tests.{le-leb, lt-leb, lt-ltb, le-ltb}
 use Rattle.keys.specs.Key.{heightOf}
 use Rattle.keys.proofs.Cases.{decide}
 use Rattle.keys.specs.Block.{inInterval}
-use Rattle.definitions.specs.List.{Record, recordOf, keysOf, valuesOf}
+use Rattle.definitions.specs.List.{Record, recordOf, keysOf, valuesOf, Ascending, none, next}
 use Rattle.definitions.specs.Standing.{upTo, placeOf, recordsIn}
-use Rattle.laws.proofs.Ascending.{Ascending, none, next, ascending-bounds}
+use Rattle.laws.proofs.Ascending.{ascending-bounds}
 use Rattle.put.specs.Family.{blockBits}
 use Rattle.put.specs.Renew.{setBits}
 

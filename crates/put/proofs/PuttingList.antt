@@ -10,11 +10,10 @@ use Rattle.keys.specs.Key.{heightOf}
 use Rattle.keys.proofs.Powers.{five-le}
 use Rattle.keys.proofs.Valid.{valid-below}
 use Rattle.keys.specs.Block.{rowOf, columnOf}
-use Rattle.definitions.specs.List.{Record, keysOf, valuesOf}
+use Rattle.definitions.specs.List.{Record, keysOf, valuesOf, Ascending}
 use Rattle.definitions.specs.Read.{room, recordsOf}
 use Rattle.definitions.specs.Edit.{contentOf}
 use Rattle.definitions.specs.Buffer.{over}
-use Rattle.laws.proofs.Ascending.{Ascending}
 use Rattle.laws.proofs.ListOf.{list-some}
 use Rattle.laws.proofs.Records.{records-length, records-over}
 use Rattle.laws.proofs.AscendingKeys.{ascending-places}

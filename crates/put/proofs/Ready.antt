@@ -9,9 +9,8 @@ use lib.ListN.{length, getD}
 use Rattle.keys.specs.Key.{validKey, heightOf}
 use Rattle.keys.proofs.Cases.{decide}
 use Rattle.definitions.specs.Picture.{Picture}
-use Rattle.definitions.specs.List.{Record, listOfPicture, keysOf}
+use Rattle.definitions.specs.List.{Record, listOfPicture, keysOf, Ascending}
 use Rattle.definitions.specs.Edit.{put, contentOf}
-use Rattle.laws.proofs.Ascending.{Ascending}
 use Rattle.laws.proofs.ListOf.{list-some}
 use Rattle.put.specs.Put.{isOneRecord, firstBits, topFor, topOf, planAt, planOf, lengthAfter, exchanged}
 use Rattle.put.specs.declared.plan.Plan.{Plan}

@@ -10,9 +10,9 @@ use Rattle.keys.proofs.Under.{quadrant-under}
 use Rattle.keys.proofs.Pixel.{InKeys}
 use Rattle.definitions.specs.Picture.{Picture, oneFeature}
 use Rattle.definitions.specs.Bits.{bitsOf}
-use Rattle.definitions.specs.List.{Record, recordOf, listOf}
+use Rattle.definitions.specs.List.{Record, recordOf, listOf, Ascending, next}
 use Rattle.definitions.specs.Standing.{placeOf}
-use Rattle.laws.proofs.Ascending.{Ascending, next, ascending-append}
+use Rattle.laws.proofs.Ascending.{ascending-append}
 use Rattle.laws.proofs.ListOf.{list-ascends}
 use Rattle.put.specs.Family.{around, blockBits, parentBits}
 use Rattle.put.specs.Renew.{setBits, renew}

@@ -10,8 +10,8 @@ use Rattle.keys.proofs.Powers.{five-pos}
 use Rattle.keys.specs.Under.{MapBlock, Quadrant, is-nw, is-ne, is-sw, is-se}
 use Rattle.definitions.specs.Picture.{Picture, oneFeature}
 use Rattle.definitions.specs.Bits.{bitsOf}
-use Rattle.definitions.specs.List.{Record, recordOf, listOf}
-use Rattle.laws.proofs.Ascending.{Ascending, none, widen, ascending-append}
+use Rattle.definitions.specs.List.{Record, recordOf, listOf, Ascending, none}
+use Rattle.laws.proofs.Ascending.{widen, ascending-append}
 use Rattle.laws.proofs.ListOf.{list-node, list-ascends, list-agree}
 use Rattle.put.proofs.Outside.{Outside, agree-sibling}
 

@@ -10,7 +10,7 @@ use lib.ListN.{length, length-append}
 use Rattle.keys.specs.Key.{childKey, heightOf}
 use Rattle.keys.specs.Block.{rowOf, columnOf}
 use Rattle.keys.proofs.Cases.{decide}
-use Rattle.keys.specs.Under.{MapBlock, here, nw, ne, sw, se}
+use Rattle.keys.specs.Under.{MapBlock, here, nw, ne, sw, se, Every}
 use Rattle.keys.proofs.Under.{under-trans}
 use Rattle.keys.proofs.Valid.{block-valid}
 use Rattle.definitions.specs.Picture.{Picture}
@@ -18,7 +18,7 @@ use Rattle.definitions.specs.Window.{inWindow, isInside, largestFrom}
 use Rattle.definitions.specs.declared.Window.{Window}
 use Rattle.definitions.specs.Edit.{contentOf}
 use Rattle.definitions.specs.Log.{closingPlaces, entryOf, entriesOf}
-use Rattle.laws.proofs.Within.{Every, first-within, every-nw, every-ne, every-sw, every-se}
+use Rattle.laws.proofs.Within.{first-within, every-nw, every-ne, every-sw, every-se}
 use Rattle.laws.proofs.Pixels.{every-to}
 use Rattle.laws.proofs.LargestBlocks.{covered-one, covered-none, covered-part}
 use Rattle.laws.proofs.LastEntry.{length-closed}

@@ -11,10 +11,10 @@ use Rattle.definitions.specs.List.{Record, listOfPicture}
 use Rattle.definitions.specs.Read.{recordsOf, pictureOf}
 use Rattle.definitions.specs.Area.{summaryOf}
 use Rattle.definitions.specs.Edit.{paintIn}
-use Rattle.definitions.specs.Log.{lastKey, lastFeature, endsInMark, stepEntries, isSound, firstStep, paintAgain, toRedo}
+use Rattle.definitions.specs.Log.{lastKey, lastFeature, endsInMark, stepEntries, isSound, firstStep, paintAgain, toRedo, EndsInEntry}
 use Rattle.definitions.specs.Calls.Redo.{redonePicture, redone}
 use Rattle.definitions.specs.Calls.Paint.{paintedPicture, painted}
-use Rattle.laws.proofs.LogEntries.{EndsInEntry, ends-in-entry}
+use Rattle.laws.proofs.LogEntries.{ends-in-entry}
 use Rattle.laws.proofs.LastStep.{count-single, entries-single, step-single}
 use Rattle.laws.proofs.Records.{records-length, records-first}
 use Rattle.list.specs.Own.{OwnList, shownBy}

@@ -1,5 +1,5 @@
 -- What the functions of redo ask and leave: a call that the rows before the last have passed, the records to redo, the next entry and its plan where it is a
--- single one, and the call's promise. Only contracts need these. Rests on the definitions of a log and on log's Parts.
+-- single one, and the call's promise. Only contracts need these. Rests on the definitions of a log and on log's Entries.
 use Prim.Native.Nat.{ℕ, _≤_, _<_}
 use mathlib.Core.Path.{_≡_}
 use mathlib.Core.List.{List, [], _∷_}
@@ -13,9 +13,8 @@ use Rattle.definitions.specs.Refusal.{_gives_, first}
 use Rattle.definitions.specs.Calls.Paint.{painted}
 use Rattle.log.specs.declared.entry.Entry.{Entry}
 use Rattle.log.specs.declared.step.LogStep.{LogStep}
-use Rattle.log.specs.Entries.{lastEntry}
+use Rattle.log.specs.Entries.{lastEntry, WholeLog}
 use Rattle.log.specs.Steps.{lastStep}
-use Rattle.log.proofs.Parts.{WholeLog}
 use Rattle.edit.specs.EditCallChecks.{editRefusal}
 
 -- what 1, 4, 18, 5 and 20 do not refuse

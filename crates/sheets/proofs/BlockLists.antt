@@ -9,7 +9,7 @@ use native.Mathlib.Nat.{suc-mul, add-zero, add-suc}
 use native.Mathlib.Omega.{arith}
 use lib.ListN.{length, length-append, length-map}
 use Rattle.keys.proofs.Cases.{equal, or-either, or-left, or-right}
-use Rattle.laws.proofs.AreasAddUp.{sumBelow}
+use Rattle.definitions.specs.Area.{sumBelow}
 use Rattle.laws.proofs.AscendingKeys.{AscendingKeys, no-key, key, ascending-append}
 use Rattle.sheets.specs.Ground.{Ground, sheetsFor}
 use Rattle.sheets.specs.Together.{SheetBlock, blocksOn, listBelow, listSheets, sumSheets, blockNumber, inSheetBlock, inSheetBlocks}

@@ -15,7 +15,7 @@ use Rattle.definitions.specs.List.{listOf}
 use Rattle.definitions.specs.Read.{paired, valueAt, pictureOf, sameRecords, isListOfBlock, isList}
 use Rattle.definitions.specs.Refusal.{first, badSettings, badLength, badPixel}
 use Rattle.definitions.specs.Window.{windowAt, isWindow, inWindow, featuresOfRow, featuresOfRows, featuresIn, occurs, unionOf, existIn, reportIn, isGiven, selectFrom, selectIn, isInside, largestFrom, largestBlocks}
-use Rattle.definitions.specs.Area.{countOf, areaIn, pixelsWith, countsFrom, summaryBelow, summaryOf, sameNumbers, noSummary}
+use Rattle.definitions.specs.Area.{countOf, areaIn, pixelsWith, countsFrom, summaryBelow, summaryOf, sameNumbers, noSummary, sumBelow}
 use Rattle.definitions.specs.Clip.{notBefore, overlapEnd, overlapLength, overlapWindow}
 use Rattle.definitions.specs.Edit.{put, paintIn, fillWindow, contentOf}
 use Rattle.definitions.specs.Log.{closed, entryOf, grouped, entriesOf, groupOf, countRecord, lastRecord, lastKey, lastFeature, lastCount, beforeLast, lastContent, isContent, closes, lastIsEntry, endsInMark, stepCount, stepEntries, beforeEntries, beforeStep, endsInEntries, lastIsGroup, lastIsStep, dividesIn, isSound, firstIn, firstStep, putBack, paintAgain, noLog}
@@ -28,7 +28,6 @@ use Rattle.definitions.specs.Calls.PaintWindow.{filled, groupGained, paintWindo
 use Rattle.definitions.specs.Calls.TakeBack.{restored, takeBackRefusal, forceBefore, takeBack, takeBackKeys, takeBackBits, takeBackSummary, takeBackLogKeys, takeBackLogValues}
 use Rattle.definitions.specs.Calls.Redo.{redone, redoRefusal, forceAfter, redo, redoKeys, redoBits, redoSummary, redoLogKeys, redoLogValues}
 use Rattle.definitions.specs.declared.Window.{Window}
-use Rattle.laws.proofs.AreasAddUp.{sumBelow}
 use Rattle.laws.proofs.RasterOf.{rasterOf}
 use Rattle.history.specs.History.{Call, Buffers, built, answer, after, afterCalls, takingBack, redoing}
 use Rattle.sheets.specs.Ground.{Ground, inGround, insideGround, groundWindow, isEmpty, sheetsFor, cutAt, onSheet, sheetPicture, meets, meetsSheet}

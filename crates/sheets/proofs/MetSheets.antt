@@ -8,9 +8,9 @@ use lib.Dec.{leb, ltb}
 use lib.Pow.{pow-pos}
 use borrow.Author.Tests.{leb-true, le-leb, ltb-true, lt-ltb}
 use Rattle.keys.proofs.Cases.{decide, and-left, and-right, and-both, same-test}
+use Rattle.keys.specs.Under.{Every}
 use Rattle.definitions.specs.Window.{isWindow, inWindow}
 use Rattle.definitions.specs.declared.Window.{Window}
-use Rattle.laws.proofs.Within.{Every}
 use Rattle.laws.proofs.WindowScan.{inside-window, window-inside}
 use Rattle.laws.proofs.AreaOf.{window-bounds}
 use Rattle.sheets.specs.Ground.{Ground, firstLine, seenFrom, sheetPicture, sheetWindow, meets, meetsSheet}

@@ -10,6 +10,7 @@ use lib.Seq.{drop-length}
 use lib.Dec.{ltb}
 use borrow.Author.Tests.{leb-false, ltb-false, not-false}
 use Rattle.keys.specs.Key.{rootKey}
+use Rattle.keys.specs.Under.{Every}
 use Rattle.definitions.specs.Picture.{Picture}
 use Rattle.definitions.specs.List.{Record, listOfPicture}
 use Rattle.definitions.specs.Read.{room, recordsOf, pictureOf}
@@ -21,7 +22,6 @@ use Rattle.definitions.specs.Refusal.{Row, _gives_, first, badSettings, noList,
 use Rattle.definitions.specs.Calls.PaintWindow.{filled, groupGained, paintWindowRefusal, paintWindow}
 use Rattle.definitions.specs.declared.Window.{Window}
 use Rattle.laws.proofs.First.{first-none, first-later}
-use Rattle.laws.proofs.Within.{Every}
 use Rattle.laws.proofs.Pixels.{Agree}
 use Rattle.laws.proofs.Features.{below-from}
 use Rattle.laws.proofs.ListOf.{list-agree}

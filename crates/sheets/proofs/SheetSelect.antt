@@ -10,10 +10,9 @@ use lib.ListN.{length}
 use lib.Dec.{leb, eqb}
 use borrow.Author.Tests.{leb-true, le-leb, eqb-true, eq-eqb}
 use Rattle.keys.specs.Block.{inBlock}
-use Rattle.keys.specs.Under.{here, nw, ne, sw, se, MapBlock, is-nw, is-ne, is-sw, is-se}
+use Rattle.keys.specs.Under.{here, nw, ne, sw, se, MapBlock, is-nw, is-ne, is-sw, is-se, InSquare}
 use Rattle.keys.proofs.Cases.{decide, and-left, and-right, and-both, same-test}
 use Rattle.keys.proofs.Under.{under-trans}
-use Rattle.keys.proofs.Pixel.{InSquare}
 use Rattle.keys.proofs.InBlock.{inBlock-iff, in-raster}
 use Rattle.definitions.specs.Picture.{Picture, everyPixel}
 use Rattle.definitions.specs.Window.{inWindow, isGiven, selectFrom, selectIn}

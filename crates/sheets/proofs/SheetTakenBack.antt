@@ -8,6 +8,7 @@ use native.Mathlib.Omega.{arith}
 use lib.ListN.{length, take, drop, length-append, take-append-drop}
 use lib.Seq.{take-append-seam, drop-at}
 use borrow.Author.Tests.{le-ltb, eq-eqb, ne-eqb}
+use Rattle.keys.specs.Under.{Every}
 use Rattle.definitions.specs.Picture.{Picture, featuresBelow}
 use Rattle.definitions.specs.List.{Record, listOfPicture}
 use Rattle.definitions.specs.Read.{room, recordsOf}
@@ -18,7 +19,6 @@ use Rattle.definitions.specs.Refusal.{badSettings}
 use Rattle.definitions.specs.Calls.TakeBack.{restoredPicture, restored, forceBefore, takeBackRefusal, takeBack, takeBackKeys, takeBackBits, takeBackSummary, takeBackLogKeys, takeBackLogValues}
 use Rattle.definitions.specs.declared.Window.{Window}
 use Rattle.laws.proofs.First.{none-first}
-use Rattle.laws.proofs.Within.{Every}
 use Rattle.laws.proofs.Features.{below-to, below-from}
 use Rattle.laws.proofs.Records.{records-length, records-first}
 use Rattle.laws.proofs.LastStep.{IsStep, step-some}

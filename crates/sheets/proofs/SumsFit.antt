@@ -12,9 +12,9 @@ use Rattle.keys.specs.Key.{heightOf}
 use Rattle.keys.proofs.Cases.{decide}
 use Rattle.definitions.specs.Picture.{Picture}
 use Rattle.definitions.specs.Window.{isWindow, featuresIn, selectIn}
-use Rattle.definitions.specs.Area.{countOf, areaIn}
+use Rattle.definitions.specs.Area.{countOf, areaIn, sumBelow}
 use Rattle.definitions.specs.declared.Window.{Window}
-use Rattle.laws.proofs.AreasAddUp.{sumBelow, rows-length}
+use Rattle.laws.proofs.AreasAddUp.{rows-length}
 use Rattle.laws.proofs.SelectArea.{pixelsOf, selected-area}
 use Rattle.sheets.specs.Ground.{Ground, insideGround, sheetsFor, firstLine, sheetPicture, sheetWindow}
 use Rattle.sheets.specs.Together.{sumSheets, areaSheets, selectSheets}

@@ -7,9 +7,8 @@ use lib.Bits.{bitOr}
 use lib.Dec.{leb}
 use Rattle.keys.specs.Block.{inBlock}
 use Rattle.definitions.specs.Window.{existIn, reportIn, selectIn}
-use Rattle.definitions.specs.Area.{areaIn}
+use Rattle.definitions.specs.Area.{areaIn, sumBelow}
 use Rattle.definitions.specs.declared.Window.{Window}
-use Rattle.laws.proofs.AreasAddUp.{sumBelow}
 use Rattle.sheets.specs.Ground.{Ground, sheetsFor, firstLine, sheetPicture, sheetWindow}
 
 -- some number below n passes

@@ -11,13 +11,13 @@ use Rattle.keys.specs.Key.{rootKey}
 use Rattle.keys.proofs.Cases.{equal}
 use Rattle.keys.proofs.Valid.{block-valid}
 use Rattle.definitions.specs.Picture.{oneFeature}
-use Rattle.definitions.specs.List.{Record, listOf}
+use Rattle.definitions.specs.List.{Record, listOf, Ascending, none, next}
 use Rattle.definitions.specs.Read.{recordsOf}
 use Rattle.definitions.specs.Standing.{placeOf, keyFound, isListed, recordsIn, standingOf}
 use Rattle.definitions.specs.declared.Standing.the-variants.{Listed, Inside}
 use Rattle.definitions.specs.Edit.{contentOf}
 use Rattle.laws.proofs.Features.{one-under}
-use Rattle.laws.proofs.Ascending.{Ascending, none, next, ascending-bounds}
+use Rattle.laws.proofs.Ascending.{ascending-bounds}
 use Rattle.laws.proofs.ListOf.{list-ascends}
 use Rattle.list.specs.Own.{OwnList, shownBy}
 use Rattle.list.specs.Among.{placeAmong}

@@ -11,10 +11,10 @@ use Rattle.keys.specs.Key.{validKey}
 use Rattle.keys.specs.Block.{pixelKey, inBlock, inInterval}
 use Rattle.keys.proofs.Cases.{decide, split, or-left, or-right, same-test}
 use Rattle.keys.proofs.Powers.{five-pos}
-use Rattle.keys.specs.Under.{MapBlock}
+use Rattle.keys.specs.Under.{MapBlock, InSquare}
 use Rattle.keys.proofs.Interval.{within, nest}
 use Rattle.keys.proofs.Valid.{valid-block, block-valid}
-use Rattle.keys.proofs.Pixel.{InSquare, inside}
+use Rattle.keys.proofs.Pixel.{inside}
 use Rattle.keys.proofs.InBlock.{inInterval-iff, inBlock-inInterval, in-raster}
 use Rattle.definitions.specs.Picture.{everyPixel}
 use Rattle.laws.proofs.Within.{first-within}

@@ -10,10 +10,10 @@ use Rattle.keys.specs.Block.{pixelKey}
 use Rattle.keys.proofs.Cases.{split}
 use Rattle.keys.proofs.LastZeros.{zeros-height}
 use Rattle.keys.proofs.Powers.{two-pos}
-use Rattle.keys.specs.Under.{Under, MapBlock, here, nw, ne, sw, se}
+use Rattle.keys.specs.Under.{Under, MapBlock, here, nw, ne, sw, se, InSquare}
 use Rattle.keys.proofs.Interval.{Next, at-end, at-block, key-within, nest, next-block, within}
 use Rattle.keys.proofs.Valid.{valid-block, block-valid}
-use Rattle.keys.proofs.Pixel.{InSquare, pixel-zero, pixel-nw, pixelKey-lt, pixel-block, pixel-in-block}
+use Rattle.keys.proofs.Pixel.{pixel-zero, pixel-nw, pixelKey-lt, pixel-block, pixel-in-block}
 use Rattle.sift.specs.Covering.{firstPixel, endOf}
 
 -- the first pixel of a larger block is that of its first quadrant

@@ -13,7 +13,7 @@ use Rattle.keys.proofs.Cases.{decide, and-left, and-right, and-both}
 use Rattle.keys.proofs.Valid.{valid-block, valid-below}
 use Rattle.keys.proofs.Interval.{within}
 use Rattle.definitions.specs.Read.{recordsOf}
-use Rattle.laws.proofs.LogEntries.{EndsInEntry}
+use Rattle.definitions.specs.Log.{EndsInEntry}
 use Rattle.laws.proofs.Records.{records-length}
 use Rattle.log.specs.declared.entry.Entry.{Entry}
 use Rattle.log.specs.Entries.{lastEntry, Ended}

@@ -7,14 +7,14 @@ use native.Mathlib.Omega.{arith}
 use Rattle.keys.specs.Key.{validKey, heightOf}
 use Rattle.keys.specs.Block.{inBlock, inInterval}
 use Rattle.keys.proofs.Cases.{decide, or-left}
-use Rattle.keys.specs.Under.{MapBlock}
+use Rattle.keys.specs.Under.{MapBlock, Every}
 use Rattle.keys.proofs.Valid.{valid-block}
 use Rattle.keys.proofs.Interval.{within, apart}
 use Rattle.keys.proofs.Powers.{five-pos}
 use Rattle.keys.proofs.Pixel.{inside}
 use Rattle.keys.proofs.InBlock.{inBlock-iff, inInterval-iff}
 use Rattle.keys.proofs.Ancestor.{interval-iff}
-use Rattle.laws.proofs.Within.{Every, under-within}
+use Rattle.laws.proofs.Within.{under-within}
 use Rattle.log.specs.declared.entry.Entry.{Entry}
 use Rattle.step.specs.Step.{Step}
 use Rattle.step.specs.Meeting.{Met}

@@ -6,10 +6,10 @@ use mathlib.Core.Path.{_≡_, refl, sym, _∙_, ap, ap₂, subst}
 use mathlib.Core.Bool.{true, false, cond, true≢false}
 use mathlib.Core.List.{List}
 use lib.ListN.{length}
+use Rattle.keys.specs.Under.{Every}
 use Rattle.definitions.specs.Picture.{Picture}
 use Rattle.definitions.specs.Bits.{bitsOf}
 use Rattle.definitions.specs.List.{listOf}
-use Rattle.laws.proofs.Within.{Every}
 use Rattle.laws.proofs.Features.{one-from, one-pixel}
 use Rattle.laws.proofs.Pixels.{Agree}
 use Rattle.laws.proofs.BitsOf.{bits-agree, bits-one}

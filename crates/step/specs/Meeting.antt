@@ -4,10 +4,9 @@ use mathlib.Core.Path.{_≡_}
 use mathlib.Core.Bool.{Bool, true, false}
 use mathlib.Core.List.{List}
 use lib.ListN.{length}
-use Rattle.keys.specs.Under.{MapBlock}
+use Rattle.keys.specs.Under.{MapBlock, Every}
 use Rattle.definitions.specs.Picture.{Picture}
 use Rattle.definitions.specs.List.{listOf}
-use Rattle.laws.proofs.Within.{Every}
 use Rattle.build.specs.BuildBlocks.{Tallied}
 use Rattle.log.specs.Entries.{recordsFromPlace}
 use Rattle.step.specs.Step.{Step, stepOver}

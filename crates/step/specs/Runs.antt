@@ -12,7 +12,7 @@ use Rattle.definitions.specs.Picture.{Picture}
 use Rattle.definitions.specs.List.{Record, valuesOf}
 use Rattle.definitions.specs.Read.{recordsOf, pictureOf}
 use Rattle.definitions.specs.Standing.{placeOf}
-use Rattle.laws.proofs.LogEntries.{EndsInEntry}
+use Rattle.definitions.specs.Log.{EndsInEntry}
 use Rattle.list.specs.Check.{oneSlot}
 use Rattle.list.specs.Sorted.{Sorted}
 use Rattle.log.specs.declared.entry.Entry.{Entry}

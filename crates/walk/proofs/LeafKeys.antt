@@ -6,9 +6,8 @@ use mathlib.Core.Bool.{true, true≢false}
 use mathlib.Core.List.{List, [], _∷_, _++_}
 use Rattle.keys.specs.Key.{childKey}
 use Rattle.keys.proofs.Cases.{decide, equal}
-use Rattle.keys.specs.Under.{Quadrant, is-nw, is-ne, is-sw, is-se}
+use Rattle.keys.specs.Under.{Quadrant, is-nw, is-ne, is-sw, is-se, InSquare}
 use Rattle.keys.proofs.Under.{quadrant-under}
-use Rattle.keys.proofs.Pixel.{InSquare}
 use Rattle.definitions.specs.Picture.{Picture, oneFeature}
 use Rattle.definitions.specs.Bits.{bitsOf}
 use Rattle.definitions.specs.List.{Record, recordOf, listOf}

@@ -9,10 +9,10 @@ use native.Mathlib.Omega.{arith}
 use Rattle.keys.specs.Key.{childKey}
 use Rattle.keys.proofs.Cases.{decide, split}
 use Rattle.keys.proofs.Powers.{five-pos, five-le}
-use Rattle.keys.specs.Under.{Under, here, Quadrant, is-nw, is-ne, is-sw, is-se}
+use Rattle.keys.specs.Under.{Under, here, Quadrant, is-nw, is-ne, is-sw, is-se, InSquare}
 use Rattle.keys.proofs.Under.{under-trans, quadrant-under}
 use Rattle.keys.proofs.Interval.{within, apart, nest, one-block}
-use Rattle.keys.proofs.Pixel.{InSquare, inside}
+use Rattle.keys.proofs.Pixel.{inside}
 use Rattle.definitions.specs.Picture.{Picture}
 use Rattle.definitions.specs.Window.{inWindow, isGiven}
 use Rattle.definitions.specs.declared.Window.{Window}

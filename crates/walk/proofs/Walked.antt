@@ -6,7 +6,7 @@ use mathlib.Core.Bool.{true}
 use mathlib.Core.Logic.{_↔_}
 use mathlib.Core.List.{List·Memᴰ}
 use native.Mathlib.Omega.{arith}
-use Rattle.keys.proofs.Pixel.{InSquare}
+use Rattle.keys.specs.Under.{InSquare}
 use Rattle.definitions.specs.Window.{inWindow}
 use Rattle.definitions.specs.declared.Window.{Window}
 use Rattle.laws.proofs.AscendingKeys.{AscendingKeys}

@@ -7,9 +7,9 @@ use mathlib.Core.List.{List, [], _∷_, _++_, append-assoc, append-nil}
 use native.Mathlib.Omega.{arith}
 use lib.ListN.{length, length-append}
 use borrow.Author.Tests.{eq-eqb}
-use Rattle.keys.specs.Under.{MapBlock}
+use Rattle.keys.specs.Under.{MapBlock, InSquare}
 use Rattle.keys.proofs.Interval.{within, nest}
-use Rattle.keys.proofs.Pixel.{InSquare, inside}
+use Rattle.keys.proofs.Pixel.{inside}
 use Rattle.definitions.specs.Picture.{Picture, oneFeature}
 use Rattle.definitions.specs.List.{recordOf}
 use Rattle.definitions.specs.Window.{isWindow, selectIn}

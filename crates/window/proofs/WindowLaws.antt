@@ -9,7 +9,7 @@ use native.Mathlib.Omega.{arith}
 use lib.ListN.{length}
 use Rattle.keys.specs.Block.{inBlock}
 use Rattle.keys.proofs.InBlock.{inBlock-iff}
-use Rattle.keys.proofs.Pixel.{InSquare}
+use Rattle.keys.specs.Under.{InSquare}
 use Rattle.definitions.specs.Picture.{Picture}
 use Rattle.definitions.specs.Bits.{hasSlot}
 use Rattle.definitions.specs.Window.{isWindow, inWindow, existIn, reportIn, selectIn}
