@@ -4,6 +4,7 @@ ghost use Rattle.definitions.specs.Calls.Area.{areaRefusal, area as areaMeasure
 use crate::measure::area_in;
 use definitions::Measured;
 use definitions::Window;
+use definitions::refusal::Refusal;
 use list::refusal::first_refusal;
 use summary::check::is_summary;
 use walk::bounds::is_window;
@@ -26,12 +27,12 @@ fn area_refusal(
         return refusal;
     }
     if !is_summary(m, s, keys, bits, n, summary) {
-        return 18;
+        return Refusal::SUMMARY;
     }
     if !is_window(m, window) {
-        return 6;
+        return Refusal::WINDOW;
     }
-    if s <= feature { 7 } else { 0 }
+    if s <= feature { Refusal::FEATURE } else { 0 }
 }
 
 // How many pixels of the window have the feature?

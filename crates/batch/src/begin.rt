@@ -2,6 +2,7 @@
 ghost use mathlib.Core.Path.{_≡_};
 ghost use Rattle.batch.specs.Run.{answeringRefusal, answeringBegins, answeringEnds};
 use definitions::Counted;
+use definitions::refusal::Refusal;
 use list::refusal::first_refusal;
 
 // Where a batch stands: the settings and the number of records, the refusal of the batch, or 0, how many questions there are, and the place of the next.
@@ -32,9 +33,13 @@ fn begin_refusal(
         return refusal as u32;
     }
     if room_refusals < questions {
-        return 12;
+        return Refusal::ANSWER_ROOM as u32;
     }
-    if room_values < questions { 12 } else { 0 }
+    if room_values < questions {
+        Refusal::ANSWER_ROOM as u32
+    } else {
+        0
+    }
 }
 
 pub fn begin(
@@ -69,7 +74,7 @@ pub fn answer(state: BatchState) -> Counted
     if refusal == 0 {
         return Counted { refusal, count };
     }
-    if refusal == 12 {
+    if refusal == Refusal::ANSWER_ROOM {
         return Counted { refusal, count };
     }
     Counted { refusal, count: 0 }

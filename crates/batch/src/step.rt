@@ -8,6 +8,7 @@ use crate::begin::BatchState;
 use clipped::clip::clipped_window;
 use definitions::Question;
 use definitions::Window;
+use definitions::refusal::Refusal;
 use walk::bounds::is_window;
 use window::exist::exist_in;
 use window::report::report_in;
@@ -37,7 +38,7 @@ fn reply_to(question: Question, m: u32, s: u32, keys: &[u32], bits: &[u32], n: u
     let window = window_of(m, question);
     if !is_window(m, window) {
         return Reply {
-            refusal: 6,
+            refusal: Refusal::WINDOW as u32,
             value: 0,
         };
     }
@@ -48,7 +49,7 @@ fn reply_to(question: Question, m: u32, s: u32, keys: &[u32], bits: &[u32], n: u
     let feature = question.feature;
     if s <= feature {
         return Reply {
-            refusal: 7,
+            refusal: Refusal::FEATURE as u32,
             value: 0,
         };
     }

@@ -6,6 +6,7 @@ ghost use Rattle.definitions.specs.Calls.ReadBitStrings.{readStrings, readKeys,
 use crate::check;
 use crate::fill;
 use definitions::Counted;
+use definitions::refusal::Refusal;
 use list::settings;
 
 // The shorter of two slices has fewer places than n.
@@ -33,26 +34,26 @@ pub fn read_bit_strings(
 {
     if settings::are_bad(m, s) {
         return Counted {
-            refusal: 1,
+            refusal: Refusal::SETTINGS,
             count: 0,
         };
     }
     if s != 2 {
         return Counted {
-            refusal: 23,
+            refusal: Refusal::BIT_STRINGS,
             count: 0,
         };
     }
     let n = check::count_records(m, nodes, leaves);
     if n == 0 {
         return Counted {
-            refusal: 23,
+            refusal: Refusal::BIT_STRINGS,
             count: 0,
         };
     }
     if lacks_room(keys.len(), bits.len(), n) {
         return Counted {
-            refusal: 9,
+            refusal: Refusal::LIST_ROOM,
             count: 0,
         };
     }

@@ -6,6 +6,7 @@ ghost use Rattle.definitions.specs.Calls.WriteBitStrings.{writeStrings, written
 ghost use Rattle.bit_strings.specs.Strings.{earlyRefusal};
 use crate::pack;
 use definitions::Strings;
+use definitions::refusal::Refusal;
 use list::check;
 use list::settings;
 
@@ -14,13 +15,13 @@ fn early_refusal(m: u32, s: u32, keys: &[u32], bits: &[u32], n: usize) -> u64
     ensures { λ r. ⌜ r ≡ earlyRefusal m s (now (keys .entry)) (now (bits .entry)) n ⌝ }
 {
     if settings::are_bad(m, s) {
-        return 1;
+        return Refusal::SETTINGS;
     }
     if s != 2 {
-        return 23;
+        return Refusal::BIT_STRINGS;
     }
     if !check::is_list(m, s, keys, bits, n) {
-        return 4;
+        return Refusal::LIST;
     }
     0
 }
@@ -61,7 +62,7 @@ pub fn write_bit_strings(
     let leaf_bytes = (n - n / 4 + 7) / 8;
     if is_short(nodes.len(), node_bytes, leaves.len(), leaf_bytes) {
         return Strings {
-            refusal: 12,
+            refusal: Refusal::ANSWER_ROOM,
             node_bytes: node_bytes as u64,
             leaf_bytes: leaf_bytes as u64,
         };

@@ -5,6 +5,7 @@ ghost use Rattle.definitions.specs.Calls.KeyAt.{keyAtRefusal, keyAt};
 ghost use Rattle.definitions.specs.Calls.BlockOf.{blockOfRefusal, blockOf};
 use definitions::Block;
 use definitions::Keyed;
+use definitions::refusal::Refusal;
 use keys::Key;
 use keys::power;
 
@@ -13,16 +14,16 @@ fn key_at_refusal(m: u32, row: u32, column: u32, level: u32) -> u64
     ensures { λ r. ⌜ r ≡ keyAtRefusal m row column level ⌝ }
 {
     if Key::DEEPEST_LEVEL < m {
-        return 1;
+        return Refusal::SETTINGS;
     }
     let side = power::power_of_two(m);
     if side <= row {
-        return 6;
+        return Refusal::WINDOW;
     }
     if side <= column {
-        return 6;
+        return Refusal::WINDOW;
     }
-    if m < level { 8 } else { 0 }
+    if m < level { Refusal::KEY } else { 0 }
 }
 
 // The key of the block of a level around a pixel: a walker's tap.
@@ -45,10 +46,10 @@ fn block_of_refusal(m: u32, key: u32) -> u64
     ensures { λ r. ⌜ r ≡ blockOfRefusal m key ⌝ }
 {
     if Key::DEEPEST_LEVEL < m {
-        return 1;
+        return Refusal::SETTINGS;
     }
     let block = Key { number: key };
-    if block.is_valid(m) { 0 } else { 8 }
+    if block.is_valid(m) { 0 } else { Refusal::KEY }
 }
 
 // The square of a key: its first row and column, its side and its level.

@@ -5,6 +5,7 @@ ghost use mathlib.Core.List.{[], _∷_};
 ghost use Rattle.definitions.specs.Refusal.{_gives_, first, badSettings, badLength, badPixel};
 ghost use Rattle.definitions.specs.Calls.Build.{build as built, buildKeys, buildBits};
 use definitions::Counted;
+use definitions::refusal::Refusal;
 use keys::Key;
 use keys::power;
 use list::settings;
@@ -18,15 +19,15 @@ pub fn refusal_of(m: u32, s: u32, raster: &[u8]) -> u64
     ensures { λ r. ⌜ r ≡ first (badSettings m s gives 1 ∷ badLength m (now (raster .entry)) gives 2 ∷ badPixel s (now (raster .entry)) gives 3 ∷ []) ⌝ }
 {
     if settings::are_bad(m, s) {
-        return 1;
+        return Refusal::SETTINGS;
     }
     let side = power::power_of_two(m) as usize;
     let pixels = side * side;
     if raster.len() != pixels {
-        return 2;
+        return Refusal::RASTER_LENGTH;
     }
     if pixels::has_bad_pixel(s, raster) {
-        return 3;
+        return Refusal::PIXEL;
     }
     0
 }
@@ -42,7 +43,7 @@ pub fn build_checked(m: u32, s: u32, raster: &[u8], keys: &mut [u32], bits: &mut
     let room = slices::smaller(keys.len(), bits.len());
     if !count::has_room(raster, side, m, room) {
         return Counted {
-            refusal: 9,
+            refusal: Refusal::LIST_ROOM,
             count: 0,
         };
     }

@@ -8,6 +8,7 @@ ghost use Rattle.definitions.specs.Refusal.{first, badSettings};
 ghost use Rattle.definitions.specs.Calls.Combine.{combine as combination, combineKeys, combineBits};
 ghost use Rattle.combine.specs.Ready.{earlyRows, CombineReady, resultOf, Answered};
 use definitions::Counted;
+use definitions::refusal::Refusal;
 use keys::Key;
 use keys::power;
 use list::check;
@@ -49,19 +50,19 @@ fn refusal_of(
     ensures { λ r. ⌜ r ≡ first (earlyRows m1 s1 (now (keys1 .entry)) (now (bits1 .entry)) n1 m2 s2 (now (keys2 .entry)) (now (bits2 .entry)) n2 s3 (now (table .entry))) ⌝ }
 {
     if settings_are_bad(m1, s1, m2, s2, s3) {
-        return 1;
+        return Refusal::SETTINGS;
     }
     if m1 != m2 {
-        return 24;
+        return Refusal::RESOLUTION;
     }
     if !check::is_list(m1, s1, keys1, bits1, n1) {
-        return 4;
+        return Refusal::LIST;
     }
     if !check::is_list(m2, s2, keys2, bits2, n2) {
-        return 4;
+        return Refusal::LIST;
     }
     if classes::is_bad(s1, s2, s3, table) {
-        return 25;
+        return Refusal::CLASS_TABLE;
     }
     0
 }
@@ -112,7 +113,7 @@ fn combine_ready(
     let room = slices::smaller(keys.len(), bits.len());
     if !has_room(m, keys1, bits1, n1, keys2, bits2, n2, table, s2, room) {
         return Counted {
-            refusal: 9,
+            refusal: Refusal::LIST_ROOM,
             count: 0,
         };
     }

@@ -1,5 +1,7 @@
 // The types in which the calls of document 01 are asked and answered. What they mean stands in specs/, and what is proved of that in proofs/.
 
+pub mod refusal;
+
 // A window of the raster. Height and width are at least 1.
 pub struct Window {
     pub row: u32,

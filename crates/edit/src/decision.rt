@@ -2,6 +2,7 @@
 ghost use mathlib.Core.Path.{_≡_};
 ghost use Rattle.edit.specs.EditCallChecks.{editRefusal};
 use crate::logging::Former;
+use definitions::refusal::Refusal;
 use list::check;
 use list::settings;
 use log::entry::Entry;
@@ -37,16 +38,16 @@ pub fn edit_refusal(
         (now («log_keys» .entry)) (now («log_values» .entry)) used «in_force» ⌝ }
 {
     if settings::are_bad(m, s) {
-        return 1;
+        return Refusal::SETTINGS;
     }
     if !check::is_list(m, s, keys, bits, n) {
-        return 4;
+        return Refusal::LIST;
     }
     if !counts::is_summary(m, s, keys, bits, n, summary) {
-        return 18;
+        return Refusal::SUMMARY;
     }
     if !log::is_log(m, s, log_keys, log_values, used, in_force) {
-        return 5;
+        return Refusal::LOG;
     }
     0
 }

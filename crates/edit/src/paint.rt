@@ -14,6 +14,7 @@ use crate::decision::PaintDecision;
 use crate::logging;
 use crate::recount;
 use definitions::Edited;
+use definitions::refusal::Refusal;
 use keys::Key;
 use keys::power;
 use list::standing;
@@ -48,19 +49,19 @@ fn decide_room(
     let count = former.count;
     let logged = in_force + entry::places(count);
     if log_keys.len() < logged {
-        return PaintDecision::Refused(10);
+        return PaintDecision::Refused(Refusal::LOG_ROOM);
     }
     if log_values.len() < logged {
-        return PaintDecision::Refused(10);
+        return PaintDecision::Refused(Refusal::LOG_ROOM);
     }
     let bit = power::power_of_two(feature);
     let found = plan::plan_by(m, keys, bits, n, key, true, bit, standing);
     let after = plan::length_after(n, 1, found);
     if keys.len() < after {
-        return PaintDecision::Refused(9);
+        return PaintDecision::Refused(Refusal::LIST_ROOM);
     }
     if bits.len() < after {
-        return PaintDecision::Refused(9);
+        return PaintDecision::Refused(Refusal::LIST_ROOM);
     }
     let new = Entry {
         key,
@@ -109,10 +110,10 @@ fn decide(
     }
     let block = Key { number: key };
     if !block.is_valid(m) {
-        return PaintDecision::Refused(8);
+        return PaintDecision::Refused(Refusal::KEY);
     }
     if s <= feature {
-        return PaintDecision::Refused(7);
+        return PaintDecision::Refused(Refusal::FEATURE);
     }
     decide_room(
         m,

@@ -8,6 +8,7 @@ ghost use Rattle.file.specs.Head.{headRefusal};
 use crate::bytes;
 use crate::layout;
 use crate::mark;
+use definitions::refusal::Refusal;
 use list::settings;
 
 pub fn write_head(m: u32, s: u32, n: u32, file: &mut [u8])
@@ -49,23 +50,23 @@ pub fn refusal(file: &[u8]) -> u64
     ensures { λ r. ⌜ r ≡ headRefusal (now (file .entry)) ⌝ }
 {
     if file.len() < 11 {
-        return 15;
+        return Refusal::FILE_LENGTH;
     }
     if mark::is_wrong(file) {
-        return 16;
+        return Refusal::FILE_MARK;
     }
     let version = bytes::u16_at(file, 3);
     let m = bytes::u8_at(file, 5);
     let s = bytes::u8_at(file, 6);
     if is_other_version(version, s) {
-        return 17;
+        return Refusal::FILE_VERSION;
     }
     if are_bad(version, m, s) {
-        return 1;
+        return Refusal::SETTINGS;
     }
     let n = bytes::u32_at(file, 7) as usize;
     if file.len() != layout::length(layout::width(s), n) {
-        return 15;
+        return Refusal::FILE_LENGTH;
     }
     0
 }

@@ -10,6 +10,7 @@ use crate::head;
 use crate::layout;
 use crate::records;
 use definitions::Loaded;
+use definitions::refusal::Refusal;
 
 // The first refusal that applies, or 0, where two slices of the given lengths are lent.
 fn refusal(file: &[u8], in_keys: usize, in_bits: usize) -> u64
@@ -26,13 +27,13 @@ fn refusal(file: &[u8], in_keys: usize, in_bits: usize) -> u64
     let s = bytes::u8_at(file, 6);
     let n = bytes::u32_at(file, 7) as usize;
     if !check_file::holds_list(file, m, s, n) {
-        return 4;
+        return Refusal::LIST;
     }
     if in_keys < n {
-        return 9;
+        return Refusal::LIST_ROOM;
     }
     if in_bits < n {
-        return 9;
+        return Refusal::LIST_ROOM;
     }
     0
 }

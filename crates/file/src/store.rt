@@ -5,6 +5,7 @@ use crate::head;
 use crate::layout;
 use crate::records;
 use definitions::Counted;
+use definitions::refusal::Refusal;
 use list::refusal::first_refusal;
 
 // The count is in bytes; with 12 it is the number of bytes needed.
@@ -20,7 +21,7 @@ pub fn store(m: u32, s: u32, keys: &[u32], bits: &[u32], n: usize, file: &mut [u
     let needed = layout::length(width, n);
     if file.len() < needed {
         return Counted {
-            refusal: 12,
+            refusal: Refusal::ANSWER_ROOM,
             count: needed as u64,
         };
     }

@@ -10,6 +10,7 @@ use crate::count;
 use crate::lay;
 use crate::pick;
 use definitions::Counted;
+use definitions::refusal::Refusal;
 use list::refusal::first_refusal;
 use list::settings;
 
@@ -42,20 +43,20 @@ pub fn read_leaves(
 {
     if settings::are_bad(m, s) {
         return Counted {
-            refusal: 1,
+            refusal: Refusal::SETTINGS,
             count: 0,
         };
     }
     let n = delivered(m, s, leaf_keys, leaf_features, leaves);
     if n == 0 {
         return Counted {
-            refusal: 19,
+            refusal: Refusal::LEAVES,
             count: 0,
         };
     }
     if slices::smaller(keys.len(), bits.len()) < n {
         return Counted {
-            refusal: 9,
+            refusal: Refusal::LIST_ROOM,
             count: 0,
         };
     }
@@ -94,7 +95,7 @@ pub fn write_leaves(
     let leaves = n - n / 4;
     if slices::smaller(leaf_keys.len(), leaf_features.len()) < leaves {
         return Counted {
-            refusal: 12,
+            refusal: Refusal::ANSWER_ROOM,
             count: leaves as u64,
         };
     }

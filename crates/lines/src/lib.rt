@@ -6,6 +6,8 @@ mod line;
 mod listing;
 mod text;
 
+use definitions::refusal::Refusal;
+
 // Rasters are up to 32 by 32, so that their pixels and records have room in the program's own arrays.
 const LARGEST_RESOLUTION: u32 = 5;
 
@@ -21,12 +23,12 @@ pub fn list_input(input: &[u8], keys: &mut [u32], bits: &mut [u32], out: &mut [u
     ensures { λ r. ⌜ Printed (now (input .entry)) (now (keys .entry)) (now (bits .entry)) (now (out .entry)) (now (keys .exit)) (now (bits .exit)) (now (out .exit)) r ⌝ }
 {
     if input.len() < 2 {
-        return listing::put_refusal(1, out);
+        return listing::put_refusal(Refusal::SETTINGS, out);
     }
     let m = wide(input[0]);
     let s = wide(input[1]);
     if LARGEST_RESOLUTION < m {
-        return listing::put_refusal(1, out);
+        return listing::put_refusal(Refusal::SETTINGS, out);
     }
     let built = build::build(m, s, &input[2..], keys, bits);
     let refusal = built.refusal;

@@ -8,6 +8,7 @@ ghost use Rattle.definitions.specs.LogFile.{logHeadLength, logHeadOf, logFileLe
 ghost use Rattle.definitions.specs.Calls.StoreLog.{largestCount};
 ghost use Rattle.log_file.specs.Head.{logHeadRefusal};
 use crate::mark;
+use definitions::refusal::Refusal;
 use file::bytes;
 use list::settings;
 
@@ -50,22 +51,22 @@ pub fn refusal(file: &[u8]) -> u64
     ensures { λ r. ⌜ r ≡ logHeadRefusal (now (file .entry)) ⌝ }
 {
     if file.len() < 23 {
-        return 15;
+        return Refusal::FILE_LENGTH;
     }
     if mark::is_wrong(file) {
-        return 16;
+        return Refusal::FILE_MARK;
     }
     if bytes::u16_at(file, 3) != 1 {
-        return 17;
+        return Refusal::FILE_VERSION;
     }
     let m = bytes::u8_at(file, 5);
     let s = bytes::u8_at(file, 6);
     if settings::are_bad(m, s) {
-        return 1;
+        return Refusal::SETTINGS;
     }
     let used = bytes::u64_at(file, 7);
     if !is_length_for(file.len(), used) {
-        return 15;
+        return Refusal::FILE_LENGTH;
     }
     0
 }

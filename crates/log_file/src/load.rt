@@ -7,6 +7,7 @@ ghost use Rattle.definitions.specs.Calls.LoadLog.{loadLogRefusal, loadLog, load
 use crate::check;
 use crate::head;
 use definitions::LoadedLog;
+use definitions::refusal::Refusal;
 use file::bytes;
 use file::records;
 
@@ -26,13 +27,13 @@ fn refusal(file: &[u8], in_keys: usize, in_values: usize) -> u64
     let used = bytes::u64_at(file, 7) as usize;
     let in_force = bytes::u64_at(file, 15) as usize;
     if !check::is_log(m, s, &file[12..], used, in_force) {
-        return 5;
+        return Refusal::LOG;
     }
     if in_keys < used {
-        return 10;
+        return Refusal::LOG_ROOM;
     }
     if in_values < used {
-        return 10;
+        return Refusal::LOG_ROOM;
     }
     0
 }

@@ -3,6 +3,7 @@ ghost use mathlib.Core.Path.{_≡_};
 ghost use Rattle.definitions.specs.Calls.StoreLog.{storeLog, storeLogFile};
 use crate::head;
 use definitions::Counted;
+use definitions::refusal::Refusal;
 use file::records;
 use list::settings;
 
@@ -21,20 +22,20 @@ pub fn store(
 {
     if settings::are_bad(m, s) {
         return Counted {
-            refusal: 1,
+            refusal: Refusal::SETTINGS,
             count: 0,
         };
     }
     if !log::is_log(m, s, keys, values, used, in_force) {
         return Counted {
-            refusal: 5,
+            refusal: Refusal::LOG,
             count: 0,
         };
     }
     let needed = head::bytes_for(used);
     if (file.len() as u64) < needed {
         return Counted {
-            refusal: 12,
+            refusal: Refusal::ANSWER_ROOM,
             count: needed,
         };
     }

@@ -8,6 +8,7 @@ ghost use Rattle.offices.specs.Refusal.{tableRefusal, decidedOn, refused
 use crate::check;
 use crate::rows;
 use definitions::Counted;
+use definitions::refusal::Refusal;
 use keys::Key;
 
 // The refusals that both calls begin with: 21, 1, 14 and 8, or 0.
@@ -23,16 +24,16 @@ fn table_refusal(
     ensures { λ r. ⌜ r ≡ tableRefusal m office (now (offices .entry)) (now (ids .entry)) (now (waived .entry)) rows key ⌝ }
 {
     if 1 < office {
-        return 21;
+        return Refusal::OFFICE;
     }
     if Key::DEEPEST_LEVEL < m {
-        return 1;
+        return Refusal::SETTINGS;
     }
     if !check::is_table(offices, ids, waived, rows) {
-        return 14;
+        return Refusal::WAIVERS;
     }
     let block = Key { number: key };
-    if block.is_valid(m) { 0 } else { 8 }
+    if block.is_valid(m) { 0 } else { Refusal::KEY }
 }
 
 // What a call decides: its refusal, or 0 and the place of the row.
@@ -62,13 +63,13 @@ fn to_add(
     let place = rows::place_of(offices, ids, waived, rows, office, id, key);
     if rows::stands_at(offices, ids, waived, rows, place, office, id, key) {
         return RowDecision {
-            refusal: 22,
+            refusal: Refusal::ROW,
             place: 0,
         };
     }
     if check::LIMIT <= rows::count_of(offices, rows, office) {
         return RowDecision {
-            refusal: 12,
+            refusal: Refusal::ANSWER_ROOM,
             place: 0,
         };
     }
@@ -98,7 +99,7 @@ fn to_remove(
         return RowDecision { refusal: 0, place };
     }
     RowDecision {
-        refusal: 22,
+        refusal: Refusal::ROW,
         place: 0,
     }
 }
@@ -107,7 +108,7 @@ fn to_remove(
 fn refused(refusal: u64) -> Counted
     ensures { λ r. ⌜ r ≡ refusedWith refusal ⌝ }
 {
-    if refusal == 12 {
+    if refusal == Refusal::ANSWER_ROOM {
         Counted {
             refusal,
             count: 257,

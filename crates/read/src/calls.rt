@@ -11,6 +11,7 @@ use definitions::Done;
 use definitions::Span;
 use definitions::Standing;
 use definitions::Stands;
+use definitions::refusal::Refusal;
 use keys::Key;
 use keys::power;
 use list::refusal::first_refusal;
@@ -25,7 +26,7 @@ fn standing_refusal(m: u32, s: u32, keys: &[u32], bits: &[u32], n: usize, key: u
         return refusal;
     }
     let block = Key { number: key };
-    if block.is_valid(m) { 0 } else { 8 }
+    if block.is_valid(m) { 0 } else { Refusal::KEY }
 }
 
 // Where a block stands: kind 1 is listed at the place with so many records, kind 2 inside the leaf at the place with that key and level.
@@ -107,7 +108,11 @@ fn raster_refusal(m: u32, s: u32, keys: &[u32], bits: &[u32], n: usize, raster: 
         return refusal;
     }
     let side = power::power_of_two(m) as usize;
-    if raster.len() == side * side { 0 } else { 2 }
+    if raster.len() == side * side {
+        0
+    } else {
+        Refusal::RASTER_LENGTH
+    }
 }
 
 // The raster of a list.

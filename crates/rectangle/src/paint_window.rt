@@ -10,6 +10,7 @@ use crate::window_blocks;
 use crate::window_logging;
 use definitions::Edited;
 use definitions::Window;
+use definitions::refusal::Refusal;
 use edit::decision;
 use edit::recount;
 use keys::Key;
@@ -50,14 +51,14 @@ fn decide_room(
     let needed = window_blocks::need_below(m, keys, bits, n, window, m, 0, 0, Key::ROOT, step, 0);
     let logged = in_force + group::places(needed.places);
     if log_keys.len() < logged {
-        return refused(10);
+        return refused(Refusal::LOG_ROOM);
     }
     if log_values.len() < logged {
-        return refused(10);
+        return refused(Refusal::LOG_ROOM);
     }
     let fits = filling::has_room(m, keys, bits, n, log_keys, log_values, window, feature);
     if !fits {
-        return refused(9);
+        return refused(Refusal::LIST_ROOM);
     }
     WindowPlan {
         refusal: 0,
@@ -100,10 +101,10 @@ fn decide(
         return refused(early);
     }
     if !bounds::is_window(m, window) {
-        return refused(6);
+        return refused(Refusal::WINDOW);
     }
     if s <= feature {
-        return refused(7);
+        return refused(Refusal::FEATURE);
     }
     decide_room(
         m,

@@ -11,6 +11,7 @@ ghost use Rattle.definitions.specs.Calls.Redo.{Redone};
 ghost use Rattle.redo.specs.RedoCall.{Redoable, LogToRedo, nextStep, nextEntry, paintedRefusal};
 use crate::redo_group;
 use definitions::Edited;
+use definitions::refusal::Refusal;
 use edit::decision;
 use edit::decision::Decision;
 use edit::paint;
@@ -69,10 +70,10 @@ fn decide(m: u32, keys: &[u32], bits: &[u32], n: usize, next: Entry) -> Decision
     );
     let after = plan::length_after(n, 1, found);
     if keys.len() < after {
-        return Decision::Refused(9);
+        return Decision::Refused(Refusal::LIST_ROOM);
     }
     if bits.len() < after {
-        return Decision::Refused(9);
+        return Decision::Refused(Refusal::LIST_ROOM);
     }
     Decision::Granted(next, found)
 }
@@ -208,7 +209,7 @@ pub fn redo(
     }
     if in_force == used {
         return Edited {
-            refusal: 20,
+            refusal: Refusal::NO_REDO,
             n: 0,
             used: 0,
             in_force: 0,

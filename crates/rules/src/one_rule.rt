@@ -8,6 +8,7 @@ use crate::state::RunState;
 use crate::waivers;
 use definitions::Rule;
 use definitions::Window;
+use definitions::refusal::Refusal;
 use sift::Sifting;
 use walk::bounds;
 
@@ -111,7 +112,7 @@ fn own_step(
         return state;
     }
     if !may_come(rule, state) {
-        return state::refused(state, 13);
+        return state::refused(state, Refusal::RULES);
     }
     if waivers::waiver_is_wrong(id, waiver_ids, state) {
         let next = id as u64 + 1;

@@ -4,6 +4,7 @@ ghost use Rattle.rules.specs.Run.{bounding, beginRefusal, beginOf, ownAt
 use crate::state;
 use crate::state::RunState;
 use definitions::Found;
+use definitions::refusal::Refusal;
 use list::refusal::first_refusal;
 use offices::own;
 
@@ -12,7 +13,7 @@ fn begin_refusal(office: u32, m: u32, s: u32, keys: &[u32], bits: &[u32], n: usi
     ensures { λ r. ⌜ r ≡ beginRefusal office m s (now (keys .entry)) (now (bits .entry)) n ⌝ }
 {
     if 1 < office {
-        return 21;
+        return Refusal::OFFICE;
     }
     first_refusal(m, s, keys, bits, n)
 }
@@ -67,10 +68,10 @@ pub fn begin_next(state: RunState) -> RunState
         return state;
     }
     if state.faulty {
-        return state::refused(state, 14);
+        return state::refused(state, Refusal::WAIVERS);
     }
     if state.passed < state.waivers {
-        return state::refused(state, 14);
+        return state::refused(state, Refusal::WAIVERS);
     }
     if state.mode == state::BOUNDING {
         if room < state.live {
@@ -79,7 +80,7 @@ pub fn begin_next(state: RunState) -> RunState
         return state::rested(state);
     }
     if room < state.live {
-        return state::refused(state, 12);
+        return state::refused(state, Refusal::ANSWER_ROOM);
     }
     state::restarted(state, room)
 }
@@ -98,7 +99,7 @@ pub fn answer(state: RunState) -> Found
             hidden: hidden as u64,
         };
     }
-    if refusal == 12 {
+    if refusal == Refusal::ANSWER_ROOM {
         return Found {
             refusal,
             live: live as u64,

@@ -4,6 +4,7 @@ ghost use Rattle.definitions.specs.Calls.FillSummary.{fillRefusal, fillSummary,
 use crate::blocks;
 use crate::renew;
 use definitions::Done;
+use definitions::refusal::Refusal;
 use list::refusal::first_refusal;
 
 // Refusals 1, 4 and 18, or 0.
@@ -17,7 +18,7 @@ fn fill_refusal(m: u32, s: u32, keys: &[u32], bits: &[u32], n: usize, summary: &
     if blocks::have_length(m, s, summary) {
         0
     } else {
-        18
+        Refusal::SUMMARY
     }
 }
 

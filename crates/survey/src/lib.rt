@@ -6,6 +6,7 @@ ghost use Rattle.definitions.specs.Refusal.{_gives_, first, badSettings, badLen
 ghost use Rattle.definitions.specs.Calls.Survey.{survey as surveyed, surveyKeys, surveyBits, surveySummary};
 use build;
 use definitions::Counted;
+use definitions::refusal::Refusal;
 use summary::blocks;
 use summary::renew;
 
@@ -21,7 +22,7 @@ fn refusal_of(m: u32, s: u32, raster: &[u8], summary: &[u32]) -> u64
     if blocks::have_length(m, s, summary) {
         0
     } else {
-        18
+        Refusal::SUMMARY
     }
 }
 

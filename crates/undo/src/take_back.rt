@@ -13,6 +13,7 @@ ghost use Rattle.definitions.specs.Calls.TakeBack.{TakenBack};
 ghost use Rattle.undo.specs.TakingBackCall.{Takeable, restoredRefusal, Restorable, restorePlan};
 use crate::take_back_group;
 use definitions::Edited;
+use definitions::refusal::Refusal;
 use edit::decision;
 use edit::decision::Decision;
 use edit::recount;
@@ -46,10 +47,10 @@ fn decide(
     let found = plan::plan_of(m, keys, bits, n, last.key, count == 1, first);
     let after = plan::length_after(n, count, found);
     if keys.len() < after {
-        return Decision::Refused(9);
+        return Decision::Refused(Refusal::LIST_ROOM);
     }
     if bits.len() < after {
-        return Decision::Refused(9);
+        return Decision::Refused(Refusal::LIST_ROOM);
     }
     Decision::Granted(last, found)
 }
@@ -213,7 +214,7 @@ pub fn take_back(
     }
     if in_force == 0 {
         return Edited {
-            refusal: 11,
+            refusal: Refusal::LOG_EMPTY,
             n: 0,
             used: 0,
             in_force: 0,

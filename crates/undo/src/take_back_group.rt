@@ -7,6 +7,7 @@ ghost use Rattle.definitions.specs.Calls.TakeBack.{TakenBack};
 ghost use Rattle.undo.specs.TakingBackCall.{Takeable};
 use crate::group;
 use definitions::Edited;
+use definitions::refusal::Refusal;
 use step::deed::Deed;
 
 // The last group in force is taken back, and the summary follows.
@@ -42,7 +43,7 @@ pub fn take_group_back(
     );
     if after == 0 {
         return Edited {
-            refusal: 9,
+            refusal: Refusal::LIST_ROOM,
             n: 0,
             used: 0,
             in_force: 0,

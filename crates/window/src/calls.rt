@@ -10,6 +10,7 @@ use definitions::Counted;
 use definitions::Exists;
 use definitions::Reported;
 use definitions::Window;
+use definitions::refusal::Refusal;
 use list::refusal::first_refusal;
 use walk::bounds::is_window;
 use walk::bounds::pixels_of;
@@ -22,7 +23,11 @@ fn window_refusal(m: u32, s: u32, keys: &[u32], bits: &[u32], n: usize, window: 
     if refusal != 0 {
         return refusal;
     }
-    if is_window(m, window) { 0 } else { 6 }
+    if is_window(m, window) {
+        0
+    } else {
+        Refusal::WINDOW
+    }
 }
 
 // Refusals 1, 4, 6 and 7, or 0.
@@ -41,7 +46,7 @@ fn feature_refusal(
     if refusal != 0 {
         return refusal;
     }
-    if s <= feature { 7 } else { 0 }
+    if s <= feature { Refusal::FEATURE } else { 0 }
 }
 
 // Does the feature occur in the window? Yes is 1.
@@ -112,7 +117,7 @@ pub fn select(
     let needed = gather(m, keys, bits, n, window, feature, answer, 0);
     if room < needed {
         return Counted {
-            refusal: 12,
+            refusal: Refusal::ANSWER_ROOM,
             count: needed as u64,
         };
     }
