@@ -3,8 +3,9 @@
 alone.
 
   tests/boundary.py               the header against the sources: every call with its result and its parameters (names,
-                                  types, order), every struct with its fields, the limits of m and s, the interface's
-                                  number, and the order of the refusals at each call, which is the table in
+                                  types, order), every struct with its fields, the limits of m, s and the table of
+                                  waivers, the group's mark, the interface's number, the refusals' numbers by name, and
+                                  their order at each call, which is the table in
                                   crates/definitions/specs/Calls. And prowcurl_sheet.h against the header: a call on a
                                   sheet for every call that takes a list, a log or a table, which hands on the right slices in
                                   the right order, has the arguments in the same order, and whose refusal is looked at
@@ -29,13 +30,16 @@ HEADER = ROOT / "include" / "prowcurl.h"
 SHEET = ROOT / "include" / "prowcurl_sheet.h"
 NUMBERS = {"u8": "uint8_t", "u16": "uint16_t", "u32": "uint32_t", "u64": "uint64_t", "usize": "size_t",
            "i8": "int8_t", "i16": "int16_t", "i32": "int32_t", "i64": "int64_t"}
-LIMITS = {"HLQ_DEEPEST_M": "DEEPEST_LEVEL", "HLQ_MOST_SLOTS": "SLOT_LIMIT"}
+# A limit of the header: the crate that has it, and its constant there.
+LIMITS = {"HLQ_DEEPEST_M": ("keys", "DEEPEST_LEVEL"), "HLQ_MOST_SLOTS": ("keys", "SLOT_LIMIT"),
+          "HLQ_GROUP_MARK": ("log", "MARK"), "HLQ_TABLE_PLACES": ("offices", "PLACES"),
+          "HLQ_OFFICE_ROWS": ("offices", "LIMIT")}
 # What the archive promises to give as its interface, in the contract of the crate prowcurl.
 INTERFACE = r"fn hlq_interface\(\) -> u32\s+ensures \{ λ r\. ⌜ r ≡ (\d+) ⌝ \}"
 
 # calls: name to (result, [(type, name)]); structs: name to [(type, field)]; limits: name to number;
-# refusals: call to its refusal numbers in order
-Side = namedtuple("Side", "calls structs limits refusals")
+# numbers: refusal to its number; refusals: call to its refusal numbers in order
+Side = namedtuple("Side", "calls structs limits numbers refusals")
 
 
 class Unreadable(Exception):
@@ -43,7 +47,7 @@ class Unreadable(Exception):
 
 
 def read_header(text):
-    refusals = refusals_of_header(text)
+    numbers, refusals = numbers_of_header(text), refusals_of_header(text)
     limits = {name: int(value) for name, value in re.findall(r"#define (\w+) (\d+)\b", text)
               if name in LIMITS or name == "HLQ_INTERFACE"}
     text = re.sub(r"/\*.*?\*/", " ", text, flags=re.S)
@@ -70,7 +74,7 @@ def read_header(text):
         result, name, parameters = found.groups()
         parameters = [] if parameters.strip() == "void" else parameters.split(",")
         calls[name] = (result, [read_parameter(parameter) for parameter in parameters])
-    return Side(calls, structs, limits, refusals)
+    return Side(calls, structs, limits, numbers, refusals)
 
 
 def read_parameter(text):
@@ -80,9 +84,16 @@ def read_parameter(text):
     return found.group(1).strip(), found.group(2)
 
 
+# The refusals of the header's enum, each with its number; 0 is none.
+def numbers_of_header(text):
+    told = re.search(r"typedef enum \{([^}]*)\} hlq_refusal;", text)
+    numbers = {name: int(value) for name, value in re.findall(r"\bHLQ_(\w+) = (\d+)", told.group(1) if told else "")}
+    return {name: number for name, number in numbers.items() if number}
+
+
 # The names after "Refusals:" in the comment above each call, as numbers.
 def refusals_of_header(text):
-    numbers = {name: int(value) for name, value in re.findall(r"\b(HLQ_\w+) = (\d+)", text)}
+    numbers = {"HLQ_" + name: number for name, number in numbers_of_header(text).items()}
     refusals = {}
     for comment, name in re.findall(r"/\*((?:(?!\*/).)*)\*/\s*\w+ (hlq_\w+)\(", text, flags=re.S):
         if "Refusals:" not in comment:
@@ -96,9 +107,10 @@ def refusals_of_header(text):
     return refusals
 
 
-# The sources: of the crate prowcurl its exported functions, of the crate definitions its structs and its tables of
-# refusals, of the crate keys its limits.
-def read_sources(prowcurl, definitions, keys, tables):
+# The sources: of the crate prowcurl its exported functions, of the crate definitions its structs, its refusals and its
+# tables of them, and of the crates that LIMITS names their limits.
+def read_sources(t):
+    prowcurl, definitions, tables = t["prowcurl"], t["definitions"], t["tables"]
     structs, calls = {}, {}
     laid_out = r"#\[repr\(C\)\]\s*pub struct (\w+) \{(.*?)\}"
     for name, body in re.findall(laid_out, without_comments(definitions), flags=re.S):
@@ -113,8 +125,7 @@ def read_sources(prowcurl, definitions, keys, tables):
     reached = {kind.replace("const ", "").rstrip(" *") for result, taken in calls.values()
                for kind in [result] + [kind for kind, _ in taken]}
     structs = {name: fields for name, fields in structs.items() if name in reached}
-    constants = dict(re.findall(r"pub const (\w+): u32 = (\d+);", keys))
-    limits = {name: int(constants[source]) for name, source in LIMITS.items()}
+    limits = {name: number_of(constant, t[crate]) for name, (crate, constant) in LIMITS.items()}
     promised = re.search(INTERFACE, prowcurl)
     if not promised:
         raise Unreadable("the crate prowcurl promises no number of the interface")
@@ -127,7 +138,16 @@ def read_sources(prowcurl, definitions, keys, tables):
         rows = [int(number) for number in re.findall(r"\bgives (\d+)", re.sub(r"--.*", "", table))]
         if rows:
             refusals[name] = rows
-    return Side(calls, structs, limits, refusals)
+    named = re.search(r"^impl Refusal \{(.*?)^\}", definitions, flags=re.S | re.M)
+    numbers = {name: int(value) for name, value in re.findall(r"pub const (\w+): u64 = (\d+);", named.group(1))}
+    return Side(calls, structs, limits, numbers, refusals)
+
+
+def number_of(constant, text):
+    found = re.findall(rf"pub const {constant}: \w+ = (\d+);", text)
+    if len(found) != 1:
+        raise Unreadable(f"the constant {constant} stands {len(found)} times")
+    return int(found[0])
 
 
 def read_field(struct, text):
@@ -166,6 +186,9 @@ def differences(header, sources):
                   for name in said if name in done and said[name] != done[name]]
     found += [f"limit {name}: header {header.limits.get(name)}, sources {sources.limits[name]}"
               for name in sources.limits if header.limits.get(name) != sources.limits[name]]
+    found += [f"refusal {name}: header {header.numbers.get(name)}, sources {sources.numbers.get(name)}"
+              for name in sorted(set(header.numbers) | set(sources.numbers))
+              if header.numbers.get(name) != sources.numbers.get(name)]
     found += [f"refusals of {name}: header {header.refusals.get(name)}, definitions {rows}"
               for name, rows in sources.refusals.items() if header.refusals.get(name) != rows]
     return found
@@ -290,12 +313,13 @@ def texts():
     tables = {"Build" if path.stem == "Survey" else path.stem: path.read_text()
               for path in sorted((crates / "definitions/specs/Calls").glob("*.antt")) if path.stem != "Build"}
     return {"header": HEADER.read_text(), "sheet": SHEET.read_text(), "prowcurl": joined(crates / "prowcurl/src"),
-            "definitions": joined(crates / "definitions/src"), "keys": joined(crates / "keys/src"), "tables": tables}
+            "definitions": joined(crates / "definitions/src"), "tables": tables,
+            **{crate: joined(crates / crate / "src") for crate, _ in LIMITS.values()}}
 
 
 def compare(t):
     header = read_header(t["header"])
-    sources = read_sources(t["prowcurl"], t["definitions"], t["keys"], t["tables"])
+    sources = read_sources(t)
     return header, sources, differences(header, sources)
 
 
@@ -400,8 +424,9 @@ def changes(t):
         for changed in changed_lists(re.findall(r"HLQ_\w+", found.group(1)), "HLQ_LOG", []):
             said = ", ".join(changed) + ", "
             yield "header", t["header"][:found.start(1)] + said + t["header"][found.end(1):]
-    for refusal in sorted(set().union(*read_header(t["header"]).refusals.values())):
-        yield "header", re.sub(rf"(\bHLQ_\w+) = {refusal}\b", r"\1 = 99", t["header"])
+    for refusal in read_header(t["header"]).numbers:
+        yield "header", re.sub(rf"\bHLQ_{refusal} = \d+", f"HLQ_{refusal} = 99", t["header"])
+        yield "header", re.sub(rf"\bHLQ_{refusal} = ", f"HLQ_{refusal}_RENAMED = ", t["header"])
 
     yield "prowcurl", re.sub(INTERFACE, lambda found: found.group(0).replace("≡ ", "≡ 9"), t["prowcurl"])
     yield from changed_sheets(t["sheet"])
@@ -429,8 +454,12 @@ def changes(t):
         for changed in changed_lists(items, "pub more: u64", [
                 lambda item: item.replace(":", "_renamed:"), lambda item: re.sub(rattle, "i16", item)]):
             yield "definitions", replace(f"#[repr(C)]\npub struct {found.group(1)} {{ {', '.join(changed)} }}")
-    for constant in LIMITS.values():
-        yield "keys", re.sub(rf"(pub const {constant}: u32 = \d+)", r"\g<1>0", t["keys"])
+    for crate, constant in LIMITS.values():
+        yield crate, re.sub(rf"(pub const {constant}: \w+ = \d+)", r"\g<1>0", t[crate])
+    for found in re.finditer(r"pub const (\w+): u64 = (\d+);", t["definitions"]):
+        name, value = found.groups()
+        for by in ("", f"pub const {name}: u64 = 99;", f"pub const {name}_RENAMED: u64 = {value};"):
+            yield "definitions", t["definitions"][:found.start()] + by + t["definitions"][found.end():]
     for name, table in t["tables"].items():
         for row in re.finditer(r"gives (\d+)", table):
             yield "tables", {**t["tables"], name: table[:row.start()] + "gives 99" + table[row.end():]}

@@ -19,7 +19,7 @@ import sys
 from collections import namedtuple
 from functools import lru_cache
 
-from boundary import ROOT, Side, compare, texts
+from boundary import ROOT, compare, texts
 
 PAGE = ROOT / "docs/SPECIFICATION.md"
 DECISIONS = ROOT / "docs/DECISIONS.md"
@@ -315,8 +315,8 @@ def changed_worlds(world):
         enum = world.enum[:place] + [(number, name + "X")] + world.enum[place + 1:]
         yield f"the header calls {name} otherwise", world._replace(enum=enum)
     for call, order in world.definitions.refusals.items():
-        other = Side(world.definitions.calls, world.definitions.structs, world.definitions.limits,
-                     {**world.definitions.refusals, call: order[1:] + order[:1]})
+        refusals = {**world.definitions.refusals, call: order[1:] + order[:1]}
+        other = world.definitions._replace(refusals=refusals)
         yield f"another order at {call}", world._replace(definitions=other)
     for name, fields in world.header.structs.items():
         other = world.header._replace(structs={**world.header.structs, name: fields[1:]})

@@ -14,12 +14,17 @@ pub struct Entry {
     pub feature: u32,
 }
 
+impl Entry {
+    // How many records close an entry, and a group too.
+    pub const CLOSING: usize = 2;
+}
+
 // How many places an entry takes whose content has so many records.
 pub fn places(count: usize) -> usize
     requires { ⌜ count < 2 ^ 63 ⌝ }
     ensures { λ r. ⌜ r ≡ count + closingPlaces ⌝ }
 {
-    count + 2
+    count + Entry::CLOSING
 }
 
 // The number of content records that the last entry claims to have.
@@ -27,7 +32,7 @@ pub fn last_count(values: &[u32], used: usize) -> usize
     requires { ⌜ (closingPlaces ≤ used) × (used ≤ length (now values)) ⌝ }
     ensures { λ r. ⌜ (r ≡ closingCount (now (values .entry)) used) × (r < 2 ^ 32) ⌝ }
 {
-    values[used - 2] as usize
+    values[used - Entry::CLOSING] as usize
 }
 
 // The last entry is all among the used records, and the records that close it have one key and a feature below s.
@@ -35,14 +40,14 @@ pub fn is_closed(s: u32, keys: &[u32], values: &[u32], used: usize) -> bool
     requires { ⌜ (used ≤ length (now keys)) × (used ≤ length (now values)) ⌝ }
     ensures { λ r. ⌜ r ≡ isClosed s (recordsOf (now (keys .entry)) (now (values .entry)) used) ⌝ }
 {
-    if used < 2 {
+    if used < Entry::CLOSING {
         return false;
     }
     if used < places(last_count(values, used)) {
         return false;
     }
     let key = keys[used - 1];
-    if keys[used - 2] != key {
+    if keys[used - Entry::CLOSING] != key {
         return false;
     }
     values[used - 1] < s
@@ -88,7 +93,7 @@ pub fn write_entry(
     log_values[last] = count as u32;
     log_keys[last + 1] = key;
     log_values[last + 1] = feature;
-    last + 2
+    last + Entry::CLOSING
 }
 
 // The places from start on, up to those used, become zero; there may be none.

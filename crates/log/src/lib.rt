@@ -6,6 +6,7 @@ ghost use lib.ListN.{length};
 ghost use Rattle.keys.specs.Key.{slotLimit};
 ghost use Rattle.definitions.specs.Read.{recordsOf};
 ghost use Rattle.definitions.specs.Log.{lastIsEntry, endsInMark, endsInEntries, lastIsGroup, lastIsStep, isSound, noLog};
+use crate::entry::Entry;
 use keys::Key;
 use list::check;
 
@@ -56,11 +57,11 @@ fn ends_in_group(m: u32, s: u32, keys: &[u32], values: &[u32], used: usize) -> b
         × (endsInMark (recordsOf (now keys) (now values) used) ≡ true) ⌝ }
     ensures { λ r. ⌜ r ≡ lastIsGroup m s (recordsOf (now (keys .entry)) (now (values .entry)) used) ⌝ }
 {
-    if used < 2 {
+    if used < Entry::CLOSING {
         return false;
     }
     let count = entry::last_count(values, used);
-    let before = used - 2;
+    let before = used - Entry::CLOSING;
     if keys[before] != 0 {
         return false;
     }

@@ -7,6 +7,8 @@ ghost use Rattle.definitions.specs.Read.{recordsOf};
 ghost use Rattle.definitions.specs.Log.{endsInMark, beforeEntries, firstStep};
 ghost use Rattle.log.specs.Steps.{lastStep, EntriesLast, Stepped, Divided};
 use crate::entry;
+use crate::entry::Entry;
+use crate::group::Group;
 
 // The places in the log where the step's entries start and end, and whether it is a group.
 pub struct LogStep {
@@ -27,7 +29,7 @@ pub fn ends_in_mark(keys: &[u32], values: &[u32], used: usize) -> bool
     if key != 0 {
         return false;
     }
-    values[used - 1] == 255
+    values[used - 1] == Group::MARK
 }
 
 // The place where the last entries start, so many as count says.
@@ -57,7 +59,7 @@ pub fn last_step(keys: &[u32], values: &[u32], used: usize) -> LogStep
             grouped: false,
         };
     }
-    let end = used - 2;
+    let end = used - Entry::CLOSING;
     let count = entry::last_count(values, used);
     let start = entries_start(keys, values, end, count);
     LogStep {

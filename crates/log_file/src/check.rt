@@ -9,6 +9,7 @@ use crate::entry;
 use crate::step;
 use file::check_file;
 use keys::Key;
+use log::entry::Entry;
 
 // The used records end in an entry: all of it is there and closed, its key is valid, and its content is a list of that block.
 fn ends_in_entry(m: u32, s: u32, bytes: &[u8], used: usize) -> bool
@@ -51,11 +52,11 @@ fn ends_in_group(m: u32, s: u32, bytes: &[u8], used: usize) -> bool
     requires { ⌜ (m ≤ 10) × (s ≤ slotLimit) × (used ≤ placesIn (now bytes)) × (endsInMark (logIn (now bytes) used) ≡ true) ⌝ }
     ensures { λ r. ⌜ r ≡ lastIsGroup m s (logIn (now (bytes .entry)) used) ⌝ }
 {
-    if used < 2 {
+    if used < Entry::CLOSING {
         return false;
     }
     let count = entry::last_count(bytes, used);
-    let before = used - 2;
+    let before = used - Entry::CLOSING;
     if entry::key_at(bytes, before) != 0 {
         return false;
     }

@@ -29,7 +29,7 @@ pub fn last_count(bytes: &[u8], used: usize) -> usize
     requires { ⌜ (closingPlaces ≤ used) × (used ≤ placesIn (now bytes)) ⌝ }
     ensures { λ r. ⌜ (r ≡ closingCount (valuesInBytes (now (bytes .entry))) used) × (r < 2 ^ 32) ⌝ }
 {
-    value_at(bytes, used - 2) as usize
+    value_at(bytes, used - Entry::CLOSING) as usize
 }
 
 // The last entry is all among the used records, and the records that close it have one key and a feature below s.
@@ -37,14 +37,14 @@ pub fn is_closed(s: u32, bytes: &[u8], used: usize) -> bool
     requires { ⌜ used ≤ placesIn (now bytes) ⌝ }
     ensures { λ r. ⌜ r ≡ isClosed s (logIn (now (bytes .entry)) used) ⌝ }
 {
-    if used < 2 {
+    if used < Entry::CLOSING {
         return false;
     }
     if used < entry::places(last_count(bytes, used)) {
         return false;
     }
     let key = key_at(bytes, used - 1);
-    if key_at(bytes, used - 2) != key {
+    if key_at(bytes, used - Entry::CLOSING) != key {
         return false;
     }
     value_at(bytes, used - 1) < s

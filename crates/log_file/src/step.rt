@@ -6,6 +6,8 @@ ghost use Rattle.definitions.specs.Log.{endsInMark, beforeEntries};
 ghost use Rattle.log.specs.Steps.{lastStep, EntriesLast, Stepped};
 ghost use Rattle.log_file.specs.Records.{placesIn, keysInBytes, valuesInBytes, logIn};
 use crate::entry;
+use log::entry::Entry;
+use log::group::Group;
 use log::step::LogStep;
 
 // The last record closes a group: its key is 0, and its number is the mark, which is no feature.
@@ -19,7 +21,7 @@ pub fn ends_in_mark(bytes: &[u8], used: usize) -> bool
     if entry::key_at(bytes, used - 1) != 0 {
         return false;
     }
-    entry::value_at(bytes, used - 1) == 255
+    entry::value_at(bytes, used - 1) == Group::MARK
 }
 
 // The place where the last entries start, so many as count says.
@@ -49,7 +51,7 @@ pub fn last_step(bytes: &[u8], used: usize) -> LogStep
             grouped: false,
         };
     }
-    let end = used - 2;
+    let end = used - Entry::CLOSING;
     let count = entry::last_count(bytes, used);
     let start = entries_start(bytes, end, count);
     LogStep {

@@ -9,6 +9,8 @@ ghost use Rattle.undo.specs.GroupCall.{GroupLast, WithSummary, Applied};
 ghost use Rattle.definitions.specs.Calls.Redo.{Redone};
 ghost use Rattle.redo.specs.RedoCall.{Redoable};
 use definitions::Edited;
+use definitions::refusal::Refusal;
+use log::entry::Entry;
 use step::deed::Deed;
 use undo::group;
 
@@ -64,7 +66,7 @@ pub fn redo_group(
     ensures { λ r. ⌜ Redone m s (now (keys .entry)) (now (bits .entry)) n (now (summary .entry)) (now («log_keys» .entry)) (now («log_values» .entry)) used «in_force»
         r (now (keys .exit)) (now (bits .exit)) (now (summary .exit)) (now («log_keys» .entry)) (now («log_values» .entry)) ⌝ }
 {
-    let past = end + 2;
+    let past = end + Entry::CLOSING;
     let after = paint_again(
         m,
         s,
@@ -78,7 +80,7 @@ pub fn redo_group(
     );
     if after == 0 {
         return Edited {
-            refusal: 9,
+            refusal: Refusal::LIST_ROOM,
             n: 0,
             used: 0,
             in_force: 0,
