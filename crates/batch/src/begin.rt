@@ -5,6 +5,9 @@ use definitions::Counted;
 use definitions::refusal::Refusal;
 use list::refusal::first_refusal;
 
+// The refusal as the state keeps it, at the width of the slice that the questions' refusals go into.
+const ANSWER_ROOM: u32 = Refusal::ANSWER_ROOM as u32;
+
 // Where a batch stands: the settings and the number of records, the refusal of the batch, or 0, how many questions there are, and the place of the next.
 pub struct BatchState {
     pub m: u32,
@@ -33,10 +36,10 @@ fn begin_refusal(
         return refusal as u32;
     }
     if room_refusals < questions {
-        return Refusal::ANSWER_ROOM as u32;
+        return ANSWER_ROOM;
     }
     if room_values < questions {
-        Refusal::ANSWER_ROOM as u32
+        ANSWER_ROOM
     } else {
         0
     }

@@ -13,6 +13,11 @@ use walk::bounds::is_window;
 use window::exist::exist_in;
 use window::report::report_in;
 
+// A question's refusals, at the width of the slice that they go into.
+const WINDOW: u32 = Refusal::WINDOW as u32;
+
+const FEATURE: u32 = Refusal::FEATURE as u32;
+
 // What a question is answered: the refusal of the clipped single call, and its value, which is 0 where it is refused.
 pub struct Reply {
     pub refusal: u32,
@@ -38,7 +43,7 @@ fn reply_to(question: Question, m: u32, s: u32, keys: &[u32], bits: &[u32], n: u
     let window = window_of(m, question);
     if !is_window(m, window) {
         return Reply {
-            refusal: Refusal::WINDOW as u32,
+            refusal: WINDOW,
             value: 0,
         };
     }
@@ -49,7 +54,7 @@ fn reply_to(question: Question, m: u32, s: u32, keys: &[u32], bits: &[u32], n: u
     let feature = question.feature;
     if s <= feature {
         return Reply {
-            refusal: Refusal::FEATURE as u32,
+            refusal: FEATURE,
             value: 0,
         };
     }
