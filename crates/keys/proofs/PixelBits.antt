@@ -1,5 +1,5 @@
 -- A level of a pixel's key by the bits of its row and column: the bit of the row says south, that of the column east, and the bits below
--- are the pixel's place inside the quadrant. Rests on Descent and Powers.
+-- are the pixel's place inside the quadrant. Rests on Descent.
 use Prim.Native.Nat.{ℕ, suc, _+_, _-_, _*_, _/_, _%_, _^_, _≤_, _<_}
 use mathlib.Core.Path.{_≡_, sym, ap, ap₂, _∙_}
 use native.Mathlib.Omega.{arith}
