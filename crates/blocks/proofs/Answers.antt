@@ -4,10 +4,10 @@ use native.Mathlib.Omega.{arith}
 use mathlib.Core.Path.{_≡_, refl, sym, ap, _∙_}
 use mathlib.Core.Bool.{true, false, not, _||_}
 use lib.Dec.{leb}
-use borrow.Author.Tests.{lt-ltb, le-ltb, ltb-false, le-leb, lt-leb, not-false}
+use borrow.Author.Tests.{lt-ltb, le-ltb, ltb-false, le-leb, lt-leb, leb-false, not-false}
 use Rattle.keys.specs.Key.{validKey, levelOf}
 use Rattle.keys.specs.Block.{rowOf, columnOf, sideOf, keyAround}
-use Rattle.keys.proofs.Cases.{or-left, or-right}
+use Rattle.keys.proofs.Cases.{or-left, or-right, neither-left, neither-right}
 use Rattle.definitions.specs.Calls.KeyAt.{keyAtRefusal, keyAt}
 use Rattle.definitions.specs.Calls.BlockOf.{blockOfRefusal, blockOf}
 use Rattle.definitions.specs.declared.Keyed.{Keyed}
@@ -48,9 +48,13 @@ module _ (m row column level : ℕ) where
       all-passed h = sym (none-first _ (le-ltb 10 m deep, (pixel, (le-ltb m level h, tt))))
 
   -- what is known where nothing is refused
-  pub passed : keyAtRefusal m row column level ≡ 0 → (m ≤ 10) × (level ≤ m)
+  pub passed : keyAtRefusal m row column level ≡ 0 → (m ≤ 10) × (level ≤ m) × (row < 2 ^ m) × (column < 2 ^ m)
   unfolding keyAtRefusal
-  passed e = let h = first-none _ refl e in (ltb-false 10 m (h .0), ltb-false m level (h .1 .1 .0))
+  passed e =
+      let h = first-none _ refl e in
+      let rows = leb-false (2 ^ m) row (neither-left (leb (2 ^ m) row) (leb (2 ^ m) column) (h .1 .0)) in
+      let columns = leb-false (2 ^ m) column (neither-right (leb (2 ^ m) row) (leb (2 ^ m) column) (h .1 .0)) in
+      (ltb-false 10 m (h .0), ltb-false m level (h .1 .1 .0), rows, columns)
 
   pub key-refused : (r : ℕ) → r ≡ keyAtRefusal m row column level → (r ≡ 0 → ⊥) → record { refusal = r; key = 0 } ≡ keyAt m row column level
   unfolding keyAt

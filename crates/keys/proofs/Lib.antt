@@ -14,3 +14,4 @@ pub mod InBlock
 pub mod Ancestor
 pub mod ParentKey
 pub mod Around
+mod PixelBits

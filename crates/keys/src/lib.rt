@@ -4,7 +4,7 @@ ghost use mathlib.Core.Path.{_≡_};
 ghost use mathlib.Core.Bool.{true};
 ghost use Prim.Native.Nat.{_+_, _*_, _/_, _^_, _≤_, _<_};
 ghost use Rattle.keys.specs.Key.{validKey, levelOf, heightOf};
-ghost use Rattle.keys.specs.Block.{rowOf, columnOf, sideOf, pixelKey, keyAround};
+ghost use Rattle.keys.specs.Block.{rowOf, columnOf, sideOf, keyAround};
 
 pub mod power;
 pub mod quadrant;
@@ -129,38 +129,24 @@ impl Key {
         }
     }
 
-    // The key of a pixel: at each level the digit of its quadrant.
-    pub fn of_pixel(m: u32, row: u32, column: u32) -> Key
-        requires { ⌜ m ≤ 10 ⌝ }
-        ensures { λ r. ⌜ r .number ≡ pixelKey m row column ⌝ }
-    {
-        let mut r = row;
-        let mut c = column;
-        let mut side = power::power_of_two(m);
-        let mut step = power::power_of_five(m);
-        let mut number = 0;
-        let mut i = 0;
-        while i < m {
-            side = side / 2;
-            step = step / 5;
-            number += quadrant::digit(r, c, side) * step;
-            r = quadrant::within(r, side);
-            c = quadrant::within(c, side);
-            i += 1;
-        }
-        Key { number }
-    }
-
-    // The block of a level around a pixel: the digits below that level become zeros.
+    // The block of a level around a pixel: a digit for each bit of its row and column, from the highest on, and zeros below the level. The bits tell the
+    // digit without a question, and no level below is looked at.
     pub fn around(m: u32, level: u32, row: u32, column: u32) -> Key
-        requires { ⌜ (m ≤ 10) × (level ≤ m) ⌝ }
+        requires { ⌜ (m ≤ 10) × (level ≤ m) × (row < 2 ^ m) × (column < 2 ^ m) ⌝ }
         ensures { λ r. ⌜ r .number ≡ keyAround m level row column ⌝ }
     {
-        let pixel = Key::of_pixel(m, row, column);
-        let number = pixel.number;
-        let step = power::power_of_five(m - level);
+        let last = m - level;
+        let mut number = 0;
+        let mut left = m;
+        while last < left {
+            left -= 1;
+            let south = (row >> left) % 2;
+            let east = (column >> left) % 2;
+            number = number * 5 + (1 + east + south * 2);
+        }
+        let step = power::power_of_five(last);
         Key {
-            number: number / step * step,
+            number: number * step,
         }
     }
 }

@@ -5,9 +5,10 @@ ghost use lib.Dec.{ltb};
 ghost use Rattle.list.specs.Check.{oneSlot};
 use list::check;
 
-// A leaf is one record, and a block of up to sixteen pixels has at most 21: the next search passes them sooner than their standing could be told.
+// A leaf is one record, and a block of up to 32 by 32 pixels, which has at most 3125 keys, has at most 1365: a search that begins at its own record passes them
+// in less time than it takes to tell how many they are.
 pub fn is_short(found: u32, step: u32) -> bool
-    ensures { λ r. ⌜ r ≡ oneSlot found || ltb step 26 ⌝ }
+    ensures { λ r. ⌜ r ≡ oneSlot found || ltb step 3126 ⌝ }
 {
-    check::has_one_slot(found) | (step < 26)
+    check::has_one_slot(found) | (step < 3126)
 }
