@@ -58,7 +58,7 @@ def self_test():
     assert faults("-- A law. Rests on definitions' First.\n" + of_laws, "--")
     assert faults("-- A law. Rests on laws' First and on\n-- definitions' Records.\n" + of_laws, "--")
     assert faults("-- A law. Rests on laws' First,\n-- Buffer and Records.\n" + of_laws, "--")
-    assert not faults("-- Document 01's Map A. Rests on laws' First.\n" + of_laws, "--")
+    assert not faults("-- The map's Map A. Rests on laws' First.\n" + of_laws, "--")
     print("a false header is found")
 
 
