@@ -290,7 +290,7 @@ def everything():
     text = texts()["header"]
     enum = re.search(r"typedef enum \{(.*?)\} hlq_refusal;", text, flags=re.S).group(1)
     named = [(int(number), name) for name, number in re.findall(r"\b(HLQ_\w+) = (\d+)", enum)]
-    decisions = frozenset(re.findall(r"^(\d+)\. \*\*", DECISIONS.read_text(), flags=re.M))
+    decisions = frozenset(re.findall(r"^- \*\*(\d+)\. ", DECISIONS.read_text(), flags=re.M))
     words = frozenset([*header.calls, *header.structs, *re.findall(r"\bHLQ_\w+", text)])
     constants = re.findall(r"^#define (HLQ_\w+)(?:\([^)]*\))? (\S+)", text, flags=re.M)
     return PAGE.read_text().splitlines(), World(header, definitions, named, constants, words, decisions)
