@@ -5,8 +5,9 @@
                                    there; every command that they name is one of make's targets, of rt's commands, of
                                    the tool's or a script; every law, definition, function, call and constant that
                                    stands in code words is declared; every decision that a document, the code or a test
-                                   cites is in docs/DECISIONS.md, once; and the floors of docs/ARCHITECTURE.md have each
-                                   crate of crates.txt once, above all that it uses or to the right of it
+                                   cites is in docs/DECISIONS.md, once; the floors of docs/ARCHITECTURE.md have each
+                                   crate of crates.txt once, above all that it uses or to the right of it; and the
+                                   README stays under 120 lines
   tests/documents.py --self-test   breaks each of these in many ways, one at a time; each must be found
 
 Code words are what stands between back quotes. A name with a capital behind a path, as in `read/proofs/RoundTrip`, is a
@@ -23,8 +24,7 @@ from boundary import ROOT
 from specification import CITING, declared_in, misnamed
 
 # files that a command makes or a reader has, and words with a hyphen that are no laws
-MADE = re.compile(r"(target|lines|night|guides|/usr/local|own\.|today\.|autumn\.|rules\.csv|classes\.csv|OUT\.|OLD\.)|"
-                  r".*\b[A-Z]{4,}\b|.*\.(gpkg|tif|csv|html|png|hlq|log|prj|antt\.\.)$|\.\w+$")
+MADE = re.compile(r"(target|lines|night|guides)/|(target|/usr/local|own\.c)$|.*\b(NAME|FILE|OUT)\b|own\.png$|\.\w+$")
 PLAIN = {"kit-id", "night-line"}
 # these tell of names that are gone
 FORMER = ("CHANGELOG.md", "docs/LANDINGS.md")
@@ -146,6 +146,8 @@ def faults(world):
         yield from page_faults(name, text)
     yield from decision_faults(world)
     yield from floor_faults(world)
+    if world.pages["README.md"].count("\n") >= 120:
+        yield "README.md has 120 lines or more"
 
 
 def declared():
@@ -210,6 +212,8 @@ def changed_worlds(world):
         gone = re.sub(rf"^- \*\*{number}\. .*$", "", text, flags=re.M)
         yield f"decision {number} is gone", world._replace(pages={**world.pages, "docs/DECISIONS.md": gone})
     yield "a decision twice", world._replace(pages={**world.pages, "docs/DECISIONS.md": text + "\n- **24. No list.**"})
+    long = world.pages["README.md"] + "\n" * 120
+    yield "a long README", world._replace(pages={**world.pages, "README.md": long})
     yield "code that cites decision 999", world._replace(cites={"crates/x.rt": "// by decision 999"})
     for place, (crate, uses) in enumerate(world.crates):
         yield f"{crate} is gone", world._replace(crates=world.crates[:place] + world.crates[place + 1:])
