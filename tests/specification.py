@@ -10,7 +10,8 @@
                                        arguments, its result and its order of refusals, which is the definitions'; the
                                        tables of structs and constants have their fields and values; and the two files
                                        that stand there byte for byte, read by the page's own tables of offsets, are Map
-                                       A's list and the log of its row A9
+                                       A's list and the log of its row A9; every number of the page that code, tests or
+                                       documents cite is there; and code and tests cite no other specification
   tests/specification.py --tables      prints the rows of calls and structs as the header has them, to be pasted
   tests/specification.py --self-test   breaks each of these in many ways, one at a time; each must be found
 """
@@ -25,6 +26,14 @@ PAGE = ROOT / "docs/SPECIFICATION.md"
 DECISIONS = ROOT / "docs/DECISIONS.md"
 CRATES = ROOT / "crates"
 TOP = ("crates", "docs", "include", "tests")
+# what may cite the page, and what must cite nothing but the page: neither the two documents that the project was given
+# nor their parts
+CITING = ("bench", "crates", "examples", "include", "tests", "tool", "tools")
+NUMBER = re.compile(r"\bS\d+(?:\.\d+)?\b")
+# between two words there may be the end of a line of comment
+GAP = r"(?:\s|--|//|[#*])+"
+GIVEN = re.compile(rf"\b(?:documents?{GAP}0\d|(?:item|request)s?{GAP}\d|the documents?(?:'|{GAP}(?:say|has|have|ask)))",
+                   re.I)
 # `crate/File.name` or `crate/File.name, another`
 CITED = re.compile(r"`([a-z_]+)/([\w/]+)\.([^`]+)`")
 SENTENCE = re.compile(r"- \*\*S(\d+)\.(\d+)\*\* ")
@@ -65,7 +74,7 @@ def shape(line):
     """Of a line: the section that it opens, the number of its sentence, and the numbers that it refers to."""
     heading, sentence = re.match(r"## S(\d+) ", line), SENTENCE.match(line)
     return (int(heading.group(1)) if heading else None, tuple(map(int, sentence.groups())) if sentence else None,
-            re.findall(r"\bS\d+(?:\.\d+)?\b", line))
+            NUMBER.findall(line))
 
 
 def number_faults(lines):
@@ -245,6 +254,29 @@ def file_faults(lines):
         yield "the listing that the page shows is not Map A's"
 
 
+def numbers_of(lines):
+    shapes = [shape(line) for line in lines]
+    sentences = {f"S{said[0]}.{said[1]}" for _, said, _ in shapes if said}
+    return sentences | {f"S{heading}" for heading, _, _ in shapes if heading}
+
+
+def citing_faults(name, text, numbers):
+    """What is wrong in how a file beside the page cites it; a document may name what the project was given."""
+    yield from (f"{name}: there is no {said}" for said in sorted(set(NUMBER.findall(text)) - numbers))
+    if not name.endswith(".md"):
+        yield from (f"{name}: {said.group(0)!r} is no number of docs/SPECIFICATION.md" for said in GIVEN.finditer(text))
+
+
+def citing_files():
+    """The text of every file that may cite the page, by its name, without this one, which shows what is wrong."""
+    paths = [path for top in CITING for path in (ROOT / top).rglob("*")] + [*ROOT.glob("*.md"), *ROOT.glob("docs/*.md")]
+    found = {}
+    for path in sorted(set(paths) - {PAGE, ROOT / "tests/specification.py"}):
+        if path.is_file() and "__pycache__" not in path.parts:
+            found[str(path.relative_to(ROOT))] = path.read_bytes().decode(errors="replace")
+    return found
+
+
 def faults(lines, world):
     for number, line in enumerate(lines, 1):
         yield from (f"line {number}: {why}" for why in line_faults(line, world.words, world.decisions))
@@ -258,7 +290,7 @@ def everything():
     text = texts()["header"]
     enum = re.search(r"typedef enum \{(.*?)\} hlq_refusal;", text, flags=re.S).group(1)
     named = [(int(number), name) for name, number in re.findall(r"\b(HLQ_\w+) = (\d+)", enum)]
-    decisions = frozenset(re.findall(r"^(\d+)\. \*\*", DECISIONS.read_text(), flags=re.M))
+    decisions = frozenset(re.findall(r"^- \*\*(\d+)\. ", DECISIONS.read_text(), flags=re.M))
     words = frozenset([*header.calls, *header.structs, *re.findall(r"\bHLQ_\w+", text)])
     constants = re.findall(r"^#define (HLQ_\w+)(?:\([^)]*\))? (\S+)", text, flags=re.M)
     return PAGE.read_text().splitlines(), World(header, definitions, named, constants, words, decisions)
@@ -306,6 +338,19 @@ def changed_rows(line):
             yield f"the byte at {found.start()}", line[:found.start()] + other + line[found.end():]
 
 
+def changed_citations(files):
+    """A file that cites the page, with one citation false."""
+    for name, text in files.items():
+        said = NUMBER.search(text)
+        if said:
+            for other in ("S99", "S1.99", "S4.0"):
+                yield f"{name} cites {other}", name, text[:said.start()] + other + text[said.end():]
+    code = min(name for name in files if name.endswith(".antt"))
+    for other in ("document 01", "Documents 01 and 02", "document\n-- 02", "(item 7)", "items 7", "request 6",
+                  "Request 14", "the documents' order", "the document says", "the documents have it"):
+        yield f"{code} cites {other!r}", code, files[code] + f"\n-- {other}"
+
+
 def changed_worlds(world):
     for place, (name, value) in enumerate(world.constants):
         if value.isdigit():
@@ -335,11 +380,13 @@ def self_test():
     changes = [(what, page, world) for what, page in changed_pages(lines)]
     changes += [(what, lines, other) for what, other in changed_worlds(world)]
     missed = [what for what, page, other in changes if next(faults(page, other), None) is None]
+    numbers, cited = numbers_of(lines), list(changed_citations(citing_files()))
+    missed += [what for what, name, text in cited if next(citing_faults(name, text, numbers), None) is None]
     for what in missed:
         print(f"not found: {what}")
-    found = len(changes) - len(missed)
-    print(f"{len(changes)} changes of the page, the header or the definitions alone, {found} found")
-    return len(changes) > 500 and not missed
+    number = len(changes) + len(cited)
+    print(f"{number} changes of the page, the header, the definitions or a citation, {number - len(missed)} found")
+    return len(changes) > 500 and len(cited) > 400 and not missed
 
 
 def print_tables():
@@ -352,15 +399,18 @@ def print_tables():
 
 def main():
     lines, world = everything()
+    numbers, files = numbers_of(lines), citing_files()
     found = list(faults(lines, world))
+    found += [fault for name, text in files.items() for fault in citing_faults(name, text, numbers)]
     for line in found:
         print(line)
+    citing = sum(NUMBER.search(text) is not None for text in files.values())
     sentences = sum(shape(line)[1] is not None for line in lines)
     plain = sum(shape(line)[1] is not None and not BRACKETS.search(line) for line in lines)
     names = sum(len(names.split(", ")) for line in lines for _, _, names in CITED.findall(line))
     print(f"{sentences} sentences of docs/SPECIFICATION.md, {plain} without a definition or law, {names} names, "
-          f"{len(world.header.calls)} calls, {len(world.enum)} refusals, two files byte for byte")
-    return not found and sentences > 300 and plain < 20
+          f"{len(world.header.calls)} calls, {len(world.enum)} refusals, two files as bytes; {citing} files cite it")
+    return not found and sentences > 300 and plain < 20 and citing > 100
 
 
 if __name__ == "__main__":

@@ -1,6 +1,6 @@
 /* A line: one SQLite database that is a GeoPackage, LINE.gpkg. Here it is made, opened, asked and written; what stands
- * in its tables is told in docs/TOOL.md. Every failure of the database ends the tool with a message and a status, and
- * what was not committed is rolled back. */
+ * in its tables is told in docs/FILE-FORMATS.md. Every failure of the database ends the tool with a message and a
+ * status, and what was not committed is rolled back. */
 #ifndef LINE_H
 #define LINE_H
 

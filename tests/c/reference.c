@@ -4,7 +4,7 @@
 #include <stdlib.h>
 #include <string.h>
 
-/* The limits of documents 01 and 02, written here a second time: the header's names are what is tested. */
+/* The limits of specification S2, S11 and S15, written here a second time: the header's names are what is tested. */
 enum { DEEPEST = 10, SLOTS = 32, OLD_SLOTS = 16, NO_FEATURE = 255, MARK = 255 };
 
 /* The most pixels and records that a map can have. */

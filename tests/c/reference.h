@@ -1,5 +1,5 @@
 /* A second implementation of every call of prowcurl.h, for the tests: it scans rasters pixel by pixel and shares
- * nothing with the library. Each ref_X takes what hlq_X takes, and answers and writes as document 01 says. */
+ * nothing with the library. Each ref_X takes what hlq_X takes, and answers and writes as docs/SPECIFICATION.md says. */
 #ifndef REFERENCE_H
 #define REFERENCE_H
 

@@ -212,7 +212,7 @@ void expect_pairs(call which, uint32_t mask) {
         }
         if (!(mask >> r & 1) && pairs[which][r] != 0) {
             printf("%s gave %u\n", names[which], r);
-            fail("a refusal that document 01 does not list");
+            fail("a refusal that the specification does not list");
         }
     }
 }

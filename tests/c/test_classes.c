@@ -154,7 +154,7 @@ static void other_shapes(void) {
 /* One digit. */
 static uint8_t digit(char c) { return (uint8_t)(c <= '9' ? c - '0' : c - 'A' + 10); }
 
-/* Map A as the base's program stored it, in hexadecimal: document 01's layout, worked out by hand. */
+/* Map A as a program of one version stored it, in hexadecimal: the layout of specification S15, worked out by hand. */
 static void former_file(void) {
     static const char text[] = "484C51000102030000000900000000000700000005000100"
                                "00000A00060000000B00020000000C00020000000D000200"

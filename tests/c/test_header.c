@@ -1,5 +1,5 @@
-/* What prowcurl.h says beside its declarations: numbers, macros and words, each against a number of document 01 or
- * against what the calls do. It is C and C++ alike, and the tests compile it as both. */
+/* What prowcurl.h says beside its declarations: numbers, macros and words, each against a number of
+ * docs/SPECIFICATION.md or against what the calls do. It is C and C++ alike, and the tests compile it as both. */
 #include "prowcurl.h"
 
 #include <assert.h>
@@ -8,7 +8,7 @@
 #include <string.h>
 
 static_assert(HLQ_INTERFACE == 14, "the interface's number");
-static_assert(HLQ_DEEPEST_M == 10 && HLQ_MOST_SLOTS == 32, "the limits of documents 01 and 02");
+static_assert(HLQ_DEEPEST_M == 10 && HLQ_MOST_SLOTS == 32, "the limits of specification S2");
 static_assert(HLQ_LISTED == 1 && HLQ_INSIDE == 2, "the kinds");
 static_assert(HLQ_TABLE_PLACES == 512 && HLQ_OFFICE_ROWS == 256, "the table of two offices");
 static_assert(HLQ_GROUP_MARK == 255 && HLQ_GROUP_MARK >= HLQ_MOST_SLOTS, "the mark, which is no feature");
@@ -16,10 +16,10 @@ static_assert(HLQ_ACCEPTED == 0 && HLQ_SETTINGS == 1 && HLQ_RASTER_LENGTH == 2 &
                   HLQ_LOG == 5 && HLQ_WINDOW == 6 && HLQ_FEATURE == 7 && HLQ_KEY == 8 && HLQ_LIST_ROOM == 9 &&
                   HLQ_LOG_ROOM == 10 && HLQ_LOG_EMPTY == 11 && HLQ_ANSWER_ROOM == 12 && HLQ_RULES == 13 &&
                   HLQ_WAIVERS == 14 && HLQ_FILE_LENGTH == 15 && HLQ_FILE_MARK == 16 && HLQ_FILE_VERSION == 17,
-              "the refusals of document 01");
+              "the refusals of specification S24, to 17");
 static_assert(HLQ_SUMMARY == 18 && HLQ_LEAVES == 19 && HLQ_NO_REDO == 20 && HLQ_OFFICE == 21 && HLQ_ROW == 22 &&
                   HLQ_BIT_STRINGS == 23 && HLQ_RESOLUTION == 24 && HLQ_CLASS_TABLE == 25,
-              "the refusals of document 02");
+              "the refusals of specification S24, from 18");
 static_assert(HLQ_MOST_RECORDS(0) == 1 && HLQ_MOST_RECORDS(1) == 5 && HLQ_MOST_RECORDS(5) == 1365 &&
                   HLQ_MOST_RECORDS(HLQ_DEEPEST_M) == 1398101,
               "the most records");
@@ -130,6 +130,6 @@ int main(void) {
     limits();
     group();
     words();
-    printf("header: numbers, macros and words are as document 01 and the calls have them\n");
+    printf("header: numbers, macros and words are as the specification and the calls have them\n");
     return 0;
 }

@@ -1,4 +1,4 @@
-// The call that gives an area (document 02, item 1). It refuses by its table, and requires nothing.
+// The call that gives an area (specification S8.10). It refuses by its table, and requires nothing.
 ghost use mathlib.Core.Path.{_≡_};
 ghost use Rattle.definitions.specs.Calls.Area.{areaRefusal, area as areaMeasured};
 use crate::measure::area_in;

@@ -1,4 +1,4 @@
--- What begins, runs over the questions and answers is document 02's batch: the answer and what the two slices hold afterwards. Rests on Fold and on
+-- What begins, runs over the questions and answers is the batch of specification S9: the answer and what the two slices hold afterwards. Rests on Fold and on
 -- laws' First and Buffer.
 use Prim.Native.Nat.{ℕ, zero, _+_, _≤_, min}
 use mathlib.Core.Path.{_≡_, refl, sym, ap, subst, _∙_}

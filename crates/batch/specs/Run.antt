@@ -1,5 +1,5 @@
 -- A batch, as the code goes: how it begins, what a question does to the state and to the two answer slices, and what it answers in the end. Only contracts
--- need these; that they give document 02's batch is proved in proofs/.
+-- need these; that they give the batch of specification S9 is proved in proofs/.
 use Prim.Native.Nat.{ℕ, _+_, _≤_, min}
 use mathlib.Core.Path.{_≡_}
 use mathlib.Core.Bool.{true, false, cond}

@@ -1,5 +1,5 @@
 -- One list has one pair of strings and each accepted pair one list: what is written reads back as the list, what is read is a list and writes back as
--- the bytes (document 02, item 12). Rests on Trees and Unpacking, and on the laws of joined pictures.
+-- the bytes (specification S18.14). Rests on Trees and Unpacking, and on the laws of joined pictures.
 use Prim.Native.Nat.{ℕ, suc, _+_, _*_, _^_, _<_}
 use mathlib.Core.Path.{_≡_, refl, sym, ap, ap₂, _∙_}
 use mathlib.Core.Bool.{Bool, true, false, cond, _&&_}

@@ -1,4 +1,4 @@
-// A list of two features as a pair of bit strings, written and read (document 02, item 12).
+// A list of two features as a pair of bit strings, written and read (specification S18).
 pub mod bits;
 pub mod check;
 pub mod fill;

@@ -1,5 +1,5 @@
 -- What the counting and the writing of one block ask and answer, for the contracts of src/ alone. A raster is read here by the length
--- of its rows, which the code carries; at 2 ^ m that is the picture of document 01's raster.
+-- of its rows, which the code carries; at 2 ^ m that is the picture of the raster (specification S2.5).
 use Prim.Native.Nat.{ℕ, _+_, _*_, _^_, _≤_, _<_}
 use mathlib.Core.Path.{_≡_}
 use mathlib.Core.Bool.{false, cond}

@@ -1,4 +1,4 @@
-// Build: a raster becomes its list (document 01, "The list"). One pass writes the records. Too little room is refused before anything
+// Build: a raster becomes its list (specification S4). One pass writes the records. Too little room is refused before anything
 // is written, so the records are counted first where the room could be too little.
 ghost use mathlib.Core.Path.{_≡_};
 ghost use mathlib.Core.List.{[], _∷_};

@@ -1,4 +1,4 @@
-// Two lists of one resolution are combined into a third, class by class through a table (document 02, item 13). One pass writes the records. Too
+// Two lists of one resolution are combined into a third, class by class through a table (specification S19). One pass writes the records. Too
 // little room is refused before anything is written, so the records are counted first where the room could be too little.
 ghost use mathlib.Core.Path.{_≡_};
 ghost use lib.Dec.{leb};

@@ -1,4 +1,4 @@
--- Areas and summaries of document 02, item 1: the summary of Map A and of small maps, areas in Map A, the keys of the summary's blocks, and the orders
+-- Areas and summaries (specification S8): the summary of Map A and of small maps, areas in Map A, the keys of the summary's blocks, and the orders
 -- of refusals of filling and area. One table under one claim, proved by computation.
 use Prim.Native.Nat.{ℕ, zero, suc}
 use mathlib.Core.Path.{refl}

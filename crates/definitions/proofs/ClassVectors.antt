@@ -1,4 +1,4 @@
--- Thirty-two classes (document 02, item 5): a map of classes 0 and 31 at s = 32 through build, check, raster, the queries, the summary, leaf lists, a paint
+-- Thirty-two classes (specification S2.2): a map of classes 0 and 31 at s = 32 through build, check, raster, the queries, the summary, leaf lists, a paint
 -- with its log, its taking back and its redo, and its file; and the file's versions with the slots around their limits. One table under one claim, proved by
 -- computation.
 use Prim.Native.Nat.{ℕ}

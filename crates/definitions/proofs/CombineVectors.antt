@@ -1,4 +1,4 @@
--- Combining of document 02, item 13, on small maps: what the result is, that it is merged, and each refusal alone and each two neighbours of the order
+-- Combining (specification S19) on small maps: what the result is, that it is merged, and each refusal alone and each two neighbours of the order
 -- at once. One table under one claim, proved by computation.
 use Prim.Native.Nat.{ℕ}
 use mathlib.Core.Path.{refl}

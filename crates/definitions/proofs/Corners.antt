@@ -1,4 +1,4 @@
--- Document 01's limits and corner cases: its own examples of keys, the ends of the ranges of m and s, each fault of a log, of a summary and of a file
+-- Limits and corner cases (specification S1 to S16): examples of keys, the ends of the ranges of m and s, each fault of a log, of a summary and of a file
 -- alone, a paint that changes no pixel, and findings with nothing to find or no room. One table under one claim, proved by computation.
 use Prim.Native.Nat.{ℕ}
 use mathlib.Core.Path.{refl}

@@ -1,5 +1,5 @@
--- Document 02's story of item 2 on Map A: the four blocks under 20 are waived while one of them holds no scrub (feature 1); a paint fills the gap, the four
--- are one block, and no finding comes up. With coverings of other kinds beside it; one table under one claim, proved by computation.
+-- Four waivers that cover one finding (specification S13.6), on Map A: the four blocks under 20 are waived while one of them holds no scrub (feature 1); a paint
+-- fills the gap, the four are one block, and no finding comes up. With coverings of other kinds beside it; one table under one claim, proved by computation.
 use Prim.Native.Nat.{ℕ}
 use mathlib.Core.Path.{refl}
 use mathlib.Core.List.{List, [], _∷_}

@@ -1,4 +1,4 @@
--- Groups on Map A (document 02, item 10, as the C interface's tenth reading has it): a window is painted as one step, taken back and redone whole; the list is
+-- Groups on Map A (specification S10 to S12): a window is painted as one step, taken back and redone whole; the list is
 -- full only if the end result does not fit; and what is no group is refused with 5. Worked out by hand from Map A's rows 0011, 0012, 2200, 2200. One table
 -- under one claim, proved by computation.
 use Prim.Native.Nat.{ℕ}

@@ -1,4 +1,4 @@
--- Leaf lists of document 02, item 3: the leaves of section 2.2 of document 000, whose list has 21 records, Map A delivered merged and in parts, each
+-- Leaf lists (specification S17): the leaves of Nardelli and Proietti (1994), section 2.2, whose list has 21 records, Map A delivered merged and in parts, each
 -- way in which leaves are no delivery, and the orders of refusals. One table under one claim, proved by computation.
 use Prim.Native.Nat.{ℕ}
 use mathlib.Core.Path.{refl}
@@ -69,7 +69,7 @@ asked leafKeys leafFeatures leaves = of-counted (readLeaves 2 3 leafKeys leafFea
 
 table : List VectorRow
 table =
-    -- document 000: read, and written again
+    -- Nardelli and Proietti (1994): read, and written again
     row (of-counted (readLeaves 3 4 figureKeys figureFeatures 16 (unwritten 22) (unwritten 21))) (0 ∷ 21 ∷ [])
     ∷ row (readLeavesKeys 3 4 figureKeys figureFeatures 16 (unwritten 22) (unwritten 21)) (listKeys ++ (77 ∷ []))
     ∷ row (readLeavesBits 3 4 figureKeys figureFeatures 16 (unwritten 22) (unwritten 21)) listBits

@@ -1,4 +1,4 @@
--- What the listing program prints, by the definitions: Map A of document 01, m = 0, and each refusal, as one table under one claim. Proved by
+-- What the listing program prints, by the definitions: Map A (specification S27), m = 0, and each refusal, as one table under one claim. Proved by
 -- computation.
 use Prim.Native.Nat.{ℕ}
 use mathlib.Core.Path.{_≡_, refl}
@@ -12,7 +12,7 @@ use Rattle.definitions.specs.Refusal.{first, badSettings, badLength, bad
 use Rattle.definitions.specs.Calls.Build.{buildRefusal}
 use Rattle.definitions.specs.Listing.{decimalIn, decimal, keyText, slotsFrom, lineOf, linesOf, headLine, listing, refusalLine, buildRefuses, listingRefusal, listed}
 
--- A row: an input, and what document 01 says is printed.
+-- A row: an input, and what is printed by specification S26.
 record Row : Type 0 where
   input : List ℕ
   said : List ℕ
@@ -25,7 +25,7 @@ _prints_ input said = record { input = input; said = said }
 abbrev mapA : List ℕ
 mapA = 2 ∷ 3 ∷ 0 ∷ 0 ∷ 1 ∷ 1 ∷ 0 ∷ 0 ∷ 1 ∷ 2 ∷ 2 ∷ 2 ∷ 0 ∷ 0 ∷ 2 ∷ 2 ∷ 0 ∷ 0 ∷ []
 
--- the ten lines of document 01
+-- the ten lines of specification S27.1
 abbrev tenLines : List ℕ
 tenLines =
     -- 2 3 9

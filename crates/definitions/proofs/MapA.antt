@@ -1,5 +1,5 @@
--- Map A of document 01, rows A1 to A12, with the summaries and the log of document 02, items 1 and 7, and Figure 1 of document 000: what the definitions compute, held against what the documents say, as
--- one table under one claim. Proved by computation.
+-- Map A, rows A1 to A12 (specification S27), with summaries and logs, and Figure 1 of Nardelli and Proietti (1994): what the definitions compute, held
+-- against what both say, as one table under one claim. Proved by computation.
 use Prim.Native.Nat.{ℕ}
 use mathlib.Core.Path.{refl}
 use mathlib.Core.List.{List, [], _∷_, _++_}
@@ -22,7 +22,7 @@ use Rattle.definitions.specs.Calls.TakeBack.{restored, takeBackRefusal, 
 use Rattle.definitions.proofs.Vectors.{VectorRow, row, Holds, key, slots, window, shown, of-exist, of-report, of-counted, of-edited, mapA, keysA, bitsA, unwritten}
 use Rattle.definitions.proofs.AreaVectors.{counted, summaryA}
 
--- m = 3: the leaves of section 2.2 of document 000 as a raster
+-- m = 3: the leaves of Nardelli and Proietti (1994), section 2.2, as a raster
 abbrev figure1 : List ℕ
 figure1 =
     (0 ∷ 2 ∷ 2 ∷ 2 ∷ 0 ∷ 0 ∷ 0 ∷ 0 ∷ [])
@@ -37,7 +37,7 @@ figure1 =
 abbrev node3 : ℕ → ℕ → ℕ → ℕ → ℕ → ℕ → ℕ → List ℕ → List ℕ
 node3 a b c s₀ s₁ s₂ s₃ rest = key (a ∷ b ∷ c ∷ []) ∷ slots (s₀ ∷ s₁ ∷ s₂ ∷ s₃ ∷ []) ∷ rest
 
--- the list of section 2.3 of document 000
+-- the list of Nardelli and Proietti (1994), section 2.3
 abbrev listOfFigure1 : List ℕ
 listOfFigure1 =
     node3 0 0 0 1 1 1 1
@@ -127,7 +127,7 @@ table =
     ∷ row (paintSummary 2 3 (keysA 0) (bitsA 0) 9 summaryA (unwritten 7) (unwritten 7) 0 0 (key (2 ∷ 0 ∷ [])) 2)
     (counted (0 ∷ 0 ∷ 0 ∷ 0 ∷ 2 ∷ 2 ∷ 2 ∷ 2 ∷ 2 ∷ 2 ∷ 2 ∷ 2 ∷ 0 ∷ 0 ∷ 0 ∷ 0 ∷ []))
     ∷ row (paintSummary 2 3 (keysA 0) (bitsA 0) 9 summaryA (unwritten 6) (unwritten 6) 0 0 (key (2 ∷ 0 ∷ [])) 2) summaryA
-    -- Figure 1 of document 000
+    -- Figure 1 of Nardelli and Proietti (1994)
     ∷ row (shown (listOfRaster 3 figure1)) listOfFigure1
     ∷ []
 

@@ -1,4 +1,4 @@
--- The documents' orders of refusals: for each call, every number alone and every two neighbours at once, of which the first is given; and what
+-- The orders of refusals (specification S25): for each call, every number alone and every two neighbours at once, of which the first is given; and what
 -- standing, part, findings and the file answer on Map A. One table under one claim, proved by computation.
 use Prim.Native.Nat.{ℕ}
 use mathlib.Core.Path.{refl}
@@ -90,7 +90,7 @@ fileWith markByte version s rest =
     ++ ((0 ∷ 0 ∷ 0 ∷ 3 ∷ 0 ∷ 1 ∷ [])
     ++ (0 ∷ 0 ∷ 0 ∷ 4 ∷ 0 ∷ rest)))))
 
--- the number that a call gives, and the one that document 01 says
+-- the number that a call gives, and the one that the specification says
 abbrev gives : ℕ → ℕ → VectorRow
 gives computed said = row (computed ∷ []) (said ∷ [])
 

@@ -1,4 +1,4 @@
--- Redo on Map A (document 02, item 7): an entry that was taken back is redone, a paint drops what could be redone and zeroes its places, whether the new entry
+-- Redo on Map A (specification S12.8): an entry that was taken back is redone, a paint drops what could be redone and zeroes its places, whether the new entry
 -- is longer or shorter, and a refused paint drops nothing. One table under one claim, proved by computation.
 use Prim.Native.Nat.{ℕ}
 use mathlib.Core.Path.{refl}

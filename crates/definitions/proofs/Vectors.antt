@@ -1,4 +1,4 @@
--- The vocabulary of the tables of vectors: a row, keys by their digits, bitstrings by their slots, and Map A of document 01 as a raster and as a
+-- The vocabulary of the tables of vectors: a row, keys by their digits, bitstrings by their slots, and Map A (specification S27) as a raster and as a
 -- list in two slices. Rests on the shapes of records and answers, and on no law.
 use Prim.Native.Nat.{ℕ, _+_, _-_, _*_}
 use mathlib.Core.Path.{_≡_}
@@ -11,7 +11,7 @@ use Rattle.definitions.specs.declared.Reported.{Reported}
 use Rattle.definitions.specs.declared.Counted.{Counted}
 use Rattle.definitions.specs.declared.Edited.{Edited}
 
--- A row: what the definitions compute, and what the document says, both as lists of numbers.
+-- A row: what the definitions compute, and what the specification says, both as lists of numbers.
 pub record VectorRow : Type 0 where
   pub computed : List ℕ
   pub said : List ℕ
@@ -59,7 +59,7 @@ tableWith numbers = numbers ++ replicate (512 - length numbers) 0
 abbrev pub mapA : List ℕ
 mapA = 0 ∷ 0 ∷ 1 ∷ 1 ∷ 0 ∷ 0 ∷ 1 ∷ 2 ∷ 2 ∷ 2 ∷ 0 ∷ 0 ∷ 2 ∷ 2 ∷ 0 ∷ 0 ∷ []
 
--- its list as document 01 has it, in two slices with so many places to spare
+-- its list as specification S27.1 has it, in two slices with so many places to spare
 abbrev pub keysA : ℕ → List ℕ
 keysA spare =
     key (0 ∷ 0 ∷ [])

@@ -1,4 +1,4 @@
--- Areas and the summary (document 02, item 1): how many pixels of a window or of a block have a feature, each counted by a scan of the pixels, and
+-- Areas and the summary (specification S8): how many pixels of a window or of a block have a feature, each counted by a scan of the pixels, and
 -- the counts of all blocks of one level in key order; and a sum over all features. Rests on Window.
 use Prim.Native.Nat.{ℕ, zero, suc, _+_, _-_, _*_, _/_, _%_, _^_, min}
 use mathlib.Core.Bool.{Bool, true, false, cond, not, _&&_}

@@ -1,4 +1,4 @@
--- A list of two features as a pair of bit strings (document 02, item 12): in key order one bit a node, 0 inner and 1 leaf, and apart from it one
+-- A list of two features as a pair of bit strings (specification S18): in key order one bit a node, 0 inner and 1 leaf, and apart from it one
 -- bit a leaf, its feature. Both are packed from the high bit, with spare bits zero. Rests on List and Bits.
 use Prim.Native.Nat.{ℕ, zero, suc, _+_, _/_, _^_}
 use mathlib.Core.Bool.{Bool, true, false, cond, not, _&&_, _||_}

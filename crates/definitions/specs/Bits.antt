@@ -1,4 +1,4 @@
--- Bitstrings: slot i is worth 2 ^ i, and is set exactly when feature i occurs in the block (document 01, "The list"). Rests on Picture.
+-- Bitstrings: slot i is worth 2 ^ i, and is set exactly when feature i occurs in the block (specification S4.1, S4.2). Rests on Picture.
 use Prim.Native.Nat.{ℕ, zero, suc, _+_, _/_, _%_, _^_}
 use mathlib.Core.Bool.{Bool, true, false}
 use lib.Dec.{eqb}

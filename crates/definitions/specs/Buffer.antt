@@ -1,4 +1,4 @@
--- What a lent buffer holds after a call (document 01, "The list": which places are written, which become zero and which stay). Assumes nothing.
+-- What a lent buffer holds after a call (specification S1.16, S1.17: which places are written, which become zero and which stay). Assumes nothing.
 use Prim.Native.Nat.{ℕ, _+_, _-_, max}
 use mathlib.Core.List.{List, _++_}
 use lib.ListN.{length, take, drop, replicate}

@@ -1,4 +1,4 @@
--- A file for each call of document 01: its table of refusals in document 01's order, its result, and what each lent buffer holds afterwards.
+-- A file for each call (specification S25): its table of refusals in order, its result, and what each lent buffer holds afterwards.
 pub mod Build
 pub mod Survey
 pub mod Raster

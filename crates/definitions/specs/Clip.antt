@@ -1,4 +1,4 @@
--- A window that was dragged, perhaps over the edge, and its overlap with the raster (document 02, item 8). A line is a row or a column; its number
+-- A window that was dragged, perhaps over the edge, and its overlap with the raster (specification S7). A line is a row or a column; its number
 -- is a whole number, negative before the raster. Rests on Window.
 use Prim.Native.Nat.{ℕ, _+_, _-_, _^_, min}
 use lib.IntN.{ℤ, pos, negsuc, _+ℤ_}

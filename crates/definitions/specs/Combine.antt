@@ -1,4 +1,4 @@
--- Two pictures combined pixel by pixel, through a table that names a class for a first class and a second one (document 02, item 13). Rests on
+-- Two pictures combined pixel by pixel, through a table that names a class for a first class and a second one (specification S19). Rests on
 -- Picture, List and Refusal.
 use Prim.Native.Nat.{ℕ, _+_, _*_}
 use mathlib.Core.Bool.{Bool, not, _||_}

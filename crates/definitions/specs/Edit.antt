@@ -1,4 +1,4 @@
--- What an edit makes of a picture and of its list (document 01, "Paint, take back, empty"; document 02, item 10). Rests on List and Window.
+-- What an edit makes of a picture and of its list (specification S10, S11.3). Rests on List and Window.
 use Prim.Native.Nat.{ℕ}
 use mathlib.Core.Bool.{cond}
 use mathlib.Core.List.{List}

@@ -1,4 +1,4 @@
--- The file's bytes, written and read (document 01, "The file"; document 02, item 5): mark, version, m, s, n, and n records, high byte first.
+-- The file's bytes, written and read (specification S15): mark, version, m, s, n, and n records, high byte first.
 -- Rests on List and Refusal.
 use Prim.Native.Nat.{ℕ, zero, suc, _+_, _*_, _/_, _%_, _^_}
 use mathlib.Core.Bool.{Bool, true, false, cond, not, _&&_, _||_}

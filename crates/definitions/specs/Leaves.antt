@@ -1,4 +1,4 @@
--- Leaf lists (document 02, item 3): the linear quadtree of document 000, section 2.2, has leaves alone, a key and a feature each. Which leaves a list
+-- Leaf lists (specification S17): the linear quadtree of Nardelli and Proietti (1994), section 2.2, has leaves alone, a key and a feature each. Which leaves a list
 -- has, when leaves are a delivery, and the picture that they describe. Rests on Refusal.
 use Prim.Native.Nat.{ℕ, suc, _+_, _^_}
 use mathlib.Core.Bool.{Bool, true, cond, not, _&&_}

@@ -1,4 +1,4 @@
--- The list of a raster: the HL-quadtree (document 01, "The list"). Rests on Picture and Bits.
+-- The list of a raster: the HL-quadtree (specification S4). Rests on Picture and Bits.
 use Prim.Native.Nat.{ℕ, zero, suc, _+_, _^_, _≤_}
 use mathlib.Core.Bool.{cond}
 use mathlib.Core.List.{List, [], _∷_, _++_, map}

@@ -1,4 +1,4 @@
--- What the listing program prints for an input (document 01, "The listing program"), as bytes. A number is in decimal, characters are those of
+-- What the listing program prints for an input (specification S26), as bytes. A number is in decimal, characters are those of
 -- ASCII, and a line ends with a line feed. Rests on the definitions of build.
 use Prim.Native.Nat.{ℕ, zero, suc, _+_, _/_, _%_}
 use mathlib.Core.Bool.{true, false, cond, not}

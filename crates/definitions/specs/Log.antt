@@ -1,5 +1,5 @@
 -- The log: the shape of an entry and of a group, when a log is sound, its steps taken back and painted again, and the steps that can be redone
--- (document 01, "Paint, take back, empty", refusal 5; document 02, items 7 and 10). Rests on Edit and Read.
+-- (specification S11). Rests on Edit and Read.
 use Prim.Native.Nat.{ℕ, zero, suc, _+_, _-_, _≤_, _<_}
 use mathlib.Core.Path.{_≡_}
 use mathlib.Core.Bool.{Bool, true, cond, not, _&&_}

@@ -1,4 +1,4 @@
--- The table of waivers that two offices share (document 02, item 9): its rows, the rows of one office, when a table is sound, and a row more or less.
+-- The table of waivers that two offices share (specification S14): its rows, the rows of one office, when a table is sound, and a row more or less.
 -- Rests on Rules.
 use Prim.Native.Nat.{ℕ, _≤_}
 use mathlib.Core.Bool.{Bool, true, false, cond, not, _&&_, _||_}

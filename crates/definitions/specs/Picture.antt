@@ -1,4 +1,4 @@
--- A picture is a feature for each row and column; a raster is one, row after row (document 01, "Raster and settings"). Assumes nothing.
+-- A picture is a feature for each row and column; a raster is one, row after row (specification S2.5, S2.8). Assumes nothing.
 use Prim.Native.Nat.{ℕ, zero, suc, _+_, _*_, _^_}
 use mathlib.Core.Bool.{Bool, _&&_}
 use mathlib.Core.List.{List}

@@ -1,4 +1,4 @@
--- Reading a list: its records in two slices, the picture that it shows, and when records are a list at all (document 01, refusal 4). Rests on List.
+-- Reading a list: its records in two slices, the picture that it shows, and when records are a list at all (specification S4.11, S4.12). Rests on List.
 use Prim.Native.Nat.{ℕ, min}
 use mathlib.Core.Bool.{Bool, true, false, cond, _&&_}
 use mathlib.Core.List.{List, [], _∷_}

@@ -1,4 +1,4 @@
--- Refusals: a call's table of tests in document 01's order; the first that applies is given, and 0 where none does. The tests that several
+-- Refusals: a call's table of tests in order (specification S1.9); the first that applies is given, and 0 where none does. The tests that several
 -- calls share stand here too, under their numbers. Rests on Read.
 use Prim.Native.Nat.{ℕ, _*_, _^_}
 use mathlib.Core.Bool.{Bool, false, cond, not, _||_}

@@ -1,4 +1,4 @@
--- Rules, findings and waivers (document 01, "Rules and waivers"; document 02, item 2). Rests on Window.
+-- Rules, findings and waivers (specification S13). Rests on Window.
 use Prim.Native.Nat.{ℕ, _+_}
 use mathlib.Core.Bool.{Bool, true, false, cond, not, _&&_, _||_}
 use mathlib.Core.List.{List, [], _∷_, _++_, map}

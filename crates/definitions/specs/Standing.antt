@@ -1,4 +1,4 @@
--- Where a block stands in a list, and the part of the key slice that holds it (document 01, "Where a block stands"; document 02, item 6). Rests on
+-- Where a block stands in a list, and the part of the key slice that holds it (specification S5). Rests on
 -- List.
 use Prim.Native.Nat.{ℕ, _+_, _-_}
 use mathlib.Core.Bool.{Bool, cond}

@@ -1,4 +1,4 @@
--- Windows and the three queries, as scans of the window's pixels (document 01, "Window queries"). Rests on Picture and Bits.
+-- Windows and the three queries, as scans of the window's pixels (specification S6). Rests on Picture and Bits.
 use Prim.Native.Nat.{ℕ, zero, suc, _+_, _^_}
 use mathlib.Core.Bool.{Bool, false, cond, not, _&&_, _||_}
 use mathlib.Core.List.{List, [], _∷_, _++_}

@@ -1,4 +1,4 @@
-// The types in which the calls of document 01 are asked and answered. What they mean stands in specs/, and what is proved of that in proofs/.
+// The types in which the calls (specification S25) are asked and answered. What they mean stands in specs/, and what is proved of that in proofs/.
 
 pub mod refusal;
 
@@ -39,7 +39,7 @@ pub enum Standing {
     Inside(usize, u32, u32),
 }
 
-// The answers, laid out as C has them. `refusal` is 0 or document 01's number; on a refusal every other number is 0, save the places needed with 12.
+// The answers, laid out as C has them. `refusal` is 0 or a number of specification S24; on a refusal every other number is 0, save the places needed with 12.
 #[repr(C)]
 pub struct Done {
     pub refusal: u64,

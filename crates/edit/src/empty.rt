@@ -1,4 +1,4 @@
-// Empty (document 01).
+// Empty (specification S12.14).
 ghost use mathlib.Core.Path.{_≡_};
 ghost use Rattle.definitions.specs.Calls.Empty.{emptied};
 use definitions::Emptied;

@@ -1,4 +1,4 @@
-// Paint (document 01). It is decided before anything is written, 10 and 9 on the end result.
+// Paint (specification S10). It is decided before anything is written, 10 and 9 on the end result.
 ghost use mathlib.Core.Path.{_≡_};
 ghost use Prim.Native.Nat.{_≤_};
 ghost use lib.ListN.{length};

@@ -1,4 +1,4 @@
-// The summary after an edit (document 02, item 1): only the blocks that the edited block touches are counted anew, the one that it lies in, or all that
+// The summary after an edit (specification S8.14): only the blocks that the edited block touches are counted anew, the one that it lies in, or all that
 // lie in it.
 ghost use mathlib.Core.Path.{_≡_};
 ghost use mathlib.Core.Bool.{_&&_};

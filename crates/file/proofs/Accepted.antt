@@ -1,5 +1,5 @@
--- What holds where store and load are not refused, row by row of their tables, and what they give and leave there (document 01, "Refusal
--- numbers"). Rests on the laws of tables.
+-- What holds where store and load are not refused, row by row of their tables, and what they give and leave there (specification S24).
+-- Rests on the laws of tables.
 use Prim.Native.Nat.{ℕ, _≤_}
 use mathlib.Core.Path.{_≡_, refl, ap}
 use mathlib.Core.Bool.{true, false, cond, not}

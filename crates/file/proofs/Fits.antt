@@ -1,4 +1,4 @@
--- A list at good settings fits its file: each key into 4 bytes, each bitstring into 2 or 4, and their number into 4 (document 01, "The file"). Rests on
+-- A list at good settings fits its file: each key into 4 bytes, each bitstring into 2 or 4, and their number into 4 (specification S15). Rests on
 -- the laws of lists.
 use Prim.Native.Nat.{ℕ, suc, _^_, _≤_, _<_}
 use mathlib.Core.Path.{_≡_, ap}

@@ -1,5 +1,5 @@
 -- Store and load undo each other, as their promises state them: a list stored and loaded is the same list, a file loaded and stored is the same
--- bytes, and one list has one file (document 01, "The file"). Rests on Accepted, Fits, SliceRecords and the laws of files.
+-- bytes, and one list has one file (specification S15). Rests on Accepted, Fits, SliceRecords and the laws of files.
 use Prim.Native.Nat.{ℕ, _≤_, _<_}
 use mathlib.Core.Path.{_≡_, refl, sym, ap, ap₂, _∙_}
 use mathlib.Core.Bool.{true, false}

@@ -1,4 +1,4 @@
-// The layout of a file (document 01, "The file"; document 02, item 5): how many bytes a bitstring has, where a record lies, and a record read and
+// The layout of a file (specification S15): how many bytes a bitstring has, where a record lies, and a record read and
 // written. Only this file knows it.
 ghost use mathlib.Core.Path.{_≡_};
 ghost use Prim.Native.Nat.{_+_, _^_, _≤_, _<_};

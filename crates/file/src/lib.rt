@@ -1,4 +1,4 @@
-// The file of a list: stored as bytes and loaded again (document 01, "The file").
+// The file of a list: stored as bytes and loaded again (specification S15).
 pub mod bytes;
 pub mod check_file;
 pub mod head;

@@ -1,4 +1,4 @@
--- A history of Map A, by computation: its answers, the paints kept, the raster left and the buffers. Document 01's A9 and A10 are among its steps.
+-- A history of Map A, by computation: its answers, the paints kept, the raster left and the buffers. A9 and A10 (specification S27) are among its steps.
 use Prim.Native.Nat.{ℕ}
 use mathlib.Core.Path.{_≡_, refl}
 use mathlib.Core.List.{List, [], _∷_, _++_}

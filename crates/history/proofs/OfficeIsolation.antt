@@ -1,4 +1,4 @@
--- Isolation (document 02, item 9): in a table grown from empty by adding and removing at one m, an office's rows, the refusals of its calls and its findings are
+-- Isolation (specification S14.18): in a table grown from empty by adding and removing at one m, an office's rows, the refusals of its calls and its findings are
 -- those of its own calls alone. Rests on OfficeShares.
 use Prim.Native.Nat.{ℕ, _+_, _-_, _≤_, _<_, max}
 use mathlib.Core.Path.{_≡_, refl, sym, ap, ap₂, subst, _∙_}

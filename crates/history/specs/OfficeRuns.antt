@@ -1,4 +1,4 @@
--- Runs of adding and removing calls on one table at one m (document 02, item 9): what a call asks, what the table is after it, and an office's own calls.
+-- Runs of adding and removing calls on one table at one m (specification S14.18): what a call asks, what the table is after it, and an office's own calls.
 use Prim.Native.Nat.{ℕ}
 use mathlib.Core.Bool.{Bool, cond}
 use mathlib.Core.List.{List, [], _∷_}

@@ -1,4 +1,4 @@
--- Ancestors by squares, as document 01 has them, and by intervals of keys. Rests on Interval (nest, apart), Valid and Pixel (inside).
+-- Ancestors by squares, as specification S3.16 and S3.17 have them, and by intervals of keys. Rests on Interval (nest, apart), Valid and Pixel (inside).
 use Prim.Native.Nat.{ℕ, _+_, _^_, _≤_, _<_}
 use native.Mathlib.Omega.{arith}
 use mathlib.Core.Path.{_≡_, sym, ap, _∙_}

@@ -54,7 +54,7 @@ around-is {m} {k} {κ = κ} level row column b e i =
     let f = n .key in
     rw e (cleared (5 ^ k) (n .times) (pixelKey m row column) (omega arith) (omega arith) ∙ omega arith)
 
--- what document 02's walker asks for: a valid key, of that level, whose block has the pixel
+-- what specification S3.15 asks for: a valid key, of that level, whose block has the pixel
 pub record Around (m level row column κ : ℕ) : Type 0 where
   pub valid : validKey m κ ≡ true
   pub level-is : levelOf m κ ≡ level

@@ -1,4 +1,4 @@
--- Valid keys by document 01's digits are exactly the keys of the blocks under the root, with the row, column and height that the digits give.
+-- Valid keys by the digits of specification S3.9 are exactly the keys of the blocks under the root, with the row, column and height that the digits give.
 -- Rests on Digits; an induction on the digits one way and on Under the other.
 use Prim.Native.Nat.{ℕ, zero, suc, _+_, _*_, _^_, _<_}
 use native.Mathlib.Nat.{pow-suc}

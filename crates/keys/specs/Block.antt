@@ -1,4 +1,4 @@
--- The square that a key stands for, the key of a pixel, and when a block is another's ancestor. Document 01, section "Keys": row 0 is at the top,
+-- The square that a key stands for, the key of a pixel, and when a block is another's ancestor. Specification S3.12: row 0 is at the top,
 -- digits 3 and 4 go south, 2 and 4 go east. Rests on Key.
 use Prim.Native.Nat.{ℕ, zero, suc, _+_, _-_, _*_, _/_, _%_, _^_}
 use mathlib.Core.Bool.{Bool, cond, _&&_, _||_}

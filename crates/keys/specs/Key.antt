@@ -1,4 +1,4 @@
--- Keys, by document 01, section "Keys": m digits in base 5, the root 0, a child at level d adds digit * 5 ^ (m - d).
+-- Keys (specification S3): m digits in base 5, the root 0, a child at level d adds digit * 5 ^ (m - d).
 -- A block's height is the number of levels below it, m - d. Assumes nothing.
 use Prim.Native.Nat.{ℕ, zero, suc, _+_, _-_, _*_, _/_, _%_, _^_}
 use mathlib.Core.Bool.{Bool, true, cond, _&&_}

@@ -1,4 +1,4 @@
-// Keys of blocks (document 01, "Keys"): the key type's constants, child and parent, level, validity, the block of a key and the key of a pixel.
+// Keys of blocks (specification S3): the key type's constants, child and parent, level, validity, the block of a key and the key of a pixel.
 // Only crates above this one call these functions; what they require is shown there.
 ghost use mathlib.Core.Path.{_≡_};
 ghost use mathlib.Core.Bool.{true};
@@ -54,8 +54,8 @@ impl Key {
         Key::enclosing(key, step * 5)
     }
 
-    // How many digits stand before the first zero, read from the left as on paper, since document 02, item 4, asks for it. The key 24 of Figure 2 of document
-    // 000 is the number 14, at m = 2:
+    // How many digits stand before the first zero, read from the left as on paper (specification S3.10). The key 24 of Figure 2 of Nardelli and Proietti (1994) is
+    // the number 14, at m = 2:
     //     14 / 5 is 2 and 4 is left:  the first digit is 2, so the level is at least 1;
     //      4 / 1 is 4 and 0 is left:  the second digit is 4, so the level is at least 2;
     //      no digit is left:          the level is 2. (Of 20, the number 10, the second digit is 0, and the level is 1.)

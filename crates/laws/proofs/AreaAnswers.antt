@@ -1,4 +1,4 @@
--- The answers of accepted area calls for all features add up: over the whole raster to T * T, over any window to its pixels (document 02, item 1). One accepted
+-- The answers of accepted area calls for all features add up: over the whole raster to T * T, over any window to its pixels (specification S8.12, S8.13). One accepted
 -- call is enough, since the calls for the other features are then accepted too. Rests on AreasAddUp, AreaOf and the laws of tables.
 use Prim.Native.Nat.{ℕ, _*_, _^_, _<_}
 use mathlib.Core.Path.{_≡_, refl, _∙_}

@@ -1,4 +1,4 @@
--- The bitstring of a block: slot i is set exactly when feature i occurs in the block (document 01, "The list"). So it depends only on the
+-- The bitstring of a block: slot i is set exactly when feature i occurs in the block (specification S4.2). So it depends only on the
 -- block's pixels, and it is a power of two exactly when the block has one feature. Rests on Slots and Features.
 use Prim.Native.Nat.{ℕ, zero, suc, _+_, _^_, _<_}
 use mathlib.Core.Path.{_≡_, refl, sym, _∙_, ap, ap₂}

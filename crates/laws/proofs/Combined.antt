@@ -1,4 +1,4 @@
--- What it means to combine two pictures (document 02, item 13): the result shows at each pixel the class that the table names; equal inputs with a
+-- What it means to combine two pictures (specification S19): the result shows at each pixel the class that the table names; equal inputs with a
 -- diagonal table, a table that looks at one side alone, inputs exchanged with the table transposed; its classes and its length. Rests on ListOf,
 -- ReadBack and IsList.
 use Prim.Native.Nat.{ℕ, zero, suc, _+_, _*_, _^_, _<_}

@@ -1,5 +1,5 @@
 -- What the content of an entry is: records pass as a content of a block exactly when they are that block's content in some picture whose features there
--- are below s (document 01, "Paint, take back, empty", refusal 5). Rests on IsList.
+-- are below s (specification S11.6). Rests on IsList.
 use Prim.Native.Nat.{ℕ}
 use mathlib.Core.Path.{_≡_}
 use mathlib.Core.Bool.{true}

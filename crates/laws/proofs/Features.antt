@@ -1,4 +1,4 @@
--- What "one feature" and "features below s" say of a block's pixels (document 01, "The list" and refusal 3). Rests on Pixels.
+-- What "one feature" and "features below s" say of a block's pixels (specification S4.6, S2.6). Rests on Pixels.
 use Prim.Native.Nat.{ℕ, zero, _<_}
 use mathlib.Core.Path.{_≡_, sym, _∙_, ap, ap₂}
 use mathlib.Core.Bool.{true, false, true≢false}

@@ -1,4 +1,4 @@
--- Writing what was read from a file gives its bytes back: one list has one file (document 01, "The file"). Rests on FileBytes.
+-- Writing what was read from a file gives its bytes back: one list has one file (specification S15.18). Rests on FileBytes.
 use Prim.Native.Nat.{ℕ, zero, suc, _+_, _*_, _^_, _≤_, _<_}
 use mathlib.Core.Path.{_≡_, refl, sym, ap, ap₂, _∙_}
 use mathlib.Core.Bool.{Bool, true, false, not, _&&_, _||_}

@@ -1,4 +1,4 @@
--- Numbers as bytes, high byte first: what is written reads back, and what is read writes back (document 01, "The file"). Rests on the laws of
+-- Numbers as bytes, high byte first: what is written reads back, and what is read writes back (specification S15.5). Rests on the laws of
 -- division.
 use Prim.Native.Nat.{ℕ, zero, suc, _+_, _*_, _/_, _%_, _^_, _<_}
 use mathlib.Core.Path.{_≡_, refl, ap, ap₂, _∙_}

@@ -1,4 +1,4 @@
--- The file of a list: its length, and that reading what was written gives it back (document 01, "The file"). Rests on FileBytes.
+-- The file of a list: its length, and that reading what was written gives it back (specification S15). Rests on FileBytes.
 use Prim.Native.Nat.{ℕ, _+_, _*_, _^_, _≤_, _<_}
 use mathlib.Core.Path.{_≡_, refl, sym, ap, ap₂, _∙_}
 use mathlib.Core.Bool.{Bool, true, false, cond, not, _&&_, _||_}

@@ -1,4 +1,4 @@
--- Findings by id and then key (document 01, "Rules and waivers"): that one comes before another, as facts on their numbers, and that in an
+-- Findings by id and then key (specification S13.11): that one comes before another, as facts on their numbers, and that in an
 -- ascending list each comes before every later one, so that each stands once. Rests on keys' Cases.
 use Prim.Native.Nat.{ℕ, zero, suc, _≤_, _<_}
 use mathlib.Core.Path.{_≡_, refl, sym, ap}

@@ -1,4 +1,4 @@
--- The findings of rules whose ids ascend are in the order of document 01, by id and then key; leaving out the hidden ones keeps the order; and so
+-- The findings of rules whose ids ascend are in the order of specification S13.11, by id and then key; leaving out the hidden ones keeps the order; and so
 -- an accepted call answers its findings in that order, each once. Rests on FindingOrder, SelectAscends, Waivers, First and OldFault.
 use Prim.Native.Nat.{ℕ, _<_}
 use mathlib.Core.Path.{_≡_, refl, sym, ap, _∙_}

@@ -1,5 +1,5 @@
 -- A call's table of refusals: the first row whose test holds gives its number, and 0 is given exactly where no test holds; what an accepted call
--- gives and a refused one leaves (document 01, "Refusal numbers"). Rests on keys' Cases.
+-- gives and a refused one leaves (specification S1.9 to S1.11). Rests on keys' Cases.
 use Prim.Native.Nat.{ℕ}
 use mathlib.Core.Path.{_≡_, refl, sym, ap, _∙_}
 use mathlib.Core.Logic.{_↔_}

@@ -1,5 +1,5 @@
--- The file as it was while it had one version, and load's table of then (document 01, "The file"). Up to 16 slots the file is byte for byte the former
--- one, every file that is not of version 2 is judged as it was, and the former table refuses each file of version 2 by 17 (document 02, item 5).
+-- The file as it was while it had one version, and load's table of then. Up to 16 slots the file is byte for byte the former
+-- one, every file that is not of version 2 is judged as it was, and the former table refuses each file of version 2 by 17 (specification S15.20).
 -- Rests on FileOf and the laws of tables.
 use Prim.Native.Nat.{ℕ, zero, suc, _+_, _*_, _≤_, _<_}
 use mathlib.Core.Path.{_≡_, refl, sym, ap, ap₂, _∙_}

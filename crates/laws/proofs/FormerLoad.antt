@@ -1,4 +1,4 @@
--- A file that is not of version 2 gives the former answer whole: the refusal, m, s, n, and what is left in both slices (document 02, item 5). Rests on
+-- A file that is not of version 2 gives the former answer whole: the refusal, m, s, n, and what is left in both slices (specification S15.20). Rests on
 -- FormerFile.
 use Prim.Native.Nat.{ℕ, _≤_}
 use mathlib.Core.Path.{_≡_, refl, sym, ap, _∙_}

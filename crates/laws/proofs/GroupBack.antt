@@ -1,5 +1,5 @@
--- A group taken back gives the picture before the paint of the window, and painted again the one after it, whatever stands before it in the log (document 02,
--- item 10). So do a single entry's content and feature. Rests on GroupStep and WindowPaint.
+-- A group taken back gives the picture before the paint of the window, and painted again the one after it, whatever stands before it in the log
+-- (specification S12.1, S12.8). So do a single entry's content and feature. Rests on GroupStep and WindowPaint.
 use Prim.Native.Nat.{ℕ, zero, suc, _+_, _<_}
 use mathlib.Core.Path.{_≡_, refl, sym, ap, ap₂, _∙_}
 use mathlib.Core.Bool.{Bool, true, false, cond, _||_}

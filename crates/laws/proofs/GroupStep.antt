@@ -1,4 +1,4 @@
--- The group of a paint of a window is a step of a log (document 02, item 10): its entries are single entries, as many as the window has largest blocks, and at
+-- The group of a paint of a window is a step of a log (specification S11.8): its entries are single entries, as many as the window has largest blocks, and at
 -- least one. Rests on LastStep and LargestPixels.
 use Prim.Native.Nat.{ℕ, suc, _+_, _<_}
 use mathlib.Core.Path.{_≡_, refl, sym, ap, subst, _∙_}

@@ -1,4 +1,4 @@
--- What hides a finding (document 02, item 2): its block's pixels all lie in waivers of its rule, one larger, the same block or several smaller ones.
+-- What hides a finding (specification S13.5): its block's pixels all lie in waivers of its rule, one larger, the same block or several smaller ones.
 -- Other rules' waivers change nothing, and a further waiver never brings a finding back. Rests on the laws of scans.
 use Prim.Native.Nat.{ℕ, suc, _+_, _^_, _≤_}
 use mathlib.Core.Path.{_≡_, refl, sym, ap, _∙_}
@@ -133,7 +133,7 @@ around-hides m {ws} {w} x i rule e =
 pub equal-hides : (m : ℕ) {ws : List Finding} {x : Finding} → List·Memᴰ x ws → isHidden m ws x ≡ true
 equal-hides m {ws} {x} i = around-hides m x i refl (contains-own m (x .key))
 
--- what hid a finding by document 01 alone, a waiver with its rule and its key, hides it still
+-- what hid a finding before waivers covered (S13.6), one with its rule and its key, hides it still
 unfoldable pub formerlyHidden : List Finding → Finding → Bool
 formerlyHidden [] x = false
 formerlyHidden (w ∷ ws) x = eqb (w .id) (x .id) && eqb (w .key) (x .key) || formerlyHidden ws x

@@ -1,4 +1,4 @@
--- The count in force (document 02, items 7 and 10): a log whose records in force and to redo are both sound is sound, and its count in force is 0 or the end
+-- The count in force (specification S11.14, S11.15): a log whose records in force and to redo are both sound is sound, and its count in force is 0 or the end
 -- of a step, never inside a group; for a sound log both are sound exactly then. Rests on SoundLog.
 use Prim.Native.Nat.{ℕ, _+_, _-_, _≤_, _<_}
 use mathlib.Core.Path.{_≡_, sym, ap, _∙_, subst}
@@ -95,7 +95,7 @@ module _ {m s : ℕ} (few : s ≤ groupMark) where
       let back = sym (ap (isSound m s) (ap beforeStep (drop-append-le k log step low) ∙ step-before few is (drop k log))) ∙ sound-before m s rest (both .1) some in
       List·Memᴰ·tail (parts-end e k low (front, back)))
 
-  -- document 02's words: the count in force is 0 or the end of a step within used exactly when both parts of a sound log are sound
+  -- specification S11.15: the count in force is 0 or the end of a step within used exactly when both parts of a sound log are sound
   pub parts-exactly : {log : List Record} (e : Steps m s log) (k : ℕ) → k ≤ length log
       → List·Memᴰ k (endsOf e) ↔ ((isSound m s (take k log) ≡ true) × (isSound m s (drop k log) ≡ true))
   parts-exactly e k inside = (end-parts e k, parts-end e k inside)

@@ -1,4 +1,4 @@
--- When records are a list: exactly when they are the list of some picture, or of some raster, with features below s (document 01, refusal 4).
+-- When records are a list: exactly when they are the list of some picture, or of some raster, with features below s (specification S4.12).
 -- Rests on ReadBack and RasterOf.
 use Prim.Native.Nat.{ℕ, _≤_}
 use mathlib.Core.Path.{_≡_, refl, sym, _∙_, ap}

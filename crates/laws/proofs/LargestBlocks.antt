@@ -1,4 +1,4 @@
--- The largest blocks of a window (document 02, item 10): they are what select gives of a picture of one feature, and they are blocks of the map that stand in
+-- The largest blocks of a window (specification S6.12): they are what select gives of a picture of one feature, and they are blocks of the map that stand in
 -- key order, apart from each other. Rests on Pixels.
 use Prim.Native.Nat.{ℕ, zero, suc, _+_, _^_, _≤_}
 use mathlib.Core.Path.{_≡_, refl, sym, ap, ap₂, _∙_}

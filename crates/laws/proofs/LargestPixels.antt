@@ -1,4 +1,4 @@
--- The largest blocks of a window have together exactly its pixels, so a window of the raster has one at least (document 02, item 10). Rests on LargestBlocks.
+-- The largest blocks of a window have together exactly its pixels, so a window of the raster has one at least (specification S6.12). Rests on LargestBlocks.
 use Prim.Native.Nat.{ℕ, zero, suc, _+_, _^_, _≤_, _<_}
 use mathlib.Core.Path.{_≡_, refl, sym, ap, ap₂, _∙_}
 use mathlib.Core.Logic.{⊎-elim}

@@ -1,4 +1,4 @@
--- The last of 32 slots (document 02, item 5): a block has slot 31 exactly when feature 31 occurs in it, and its file keeps the slot. Rests on BitsOf
+-- The last of 32 slots (specification S15.19): a block has slot 31 exactly when feature 31 occurs in it, and its file keeps the slot. Rests on BitsOf
 -- and FileBytes.
 use Prim.Native.Nat.{ℕ}
 use mathlib.Core.Path.{_≡_}

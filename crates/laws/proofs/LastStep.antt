@@ -1,5 +1,5 @@
 -- The last step of a log, a single entry or a group: a log passes the test of a last step exactly when it is what stands before it and then a step
--- (document 02, item 10). The mark is no feature, so s is at most 255. Rests on LogEntries.
+-- (specification S11.9, S11.10). The mark is no feature, so s is at most 255. Rests on LogEntries.
 use Prim.Native.Nat.{ℕ, zero, suc, _+_, _-_, _≤_, _<_}
 use mathlib.Core.Path.{_≡_, refl, sym, ap, ap₂, _∙_}
 use mathlib.Core.Bool.{Bool, true, false, cond, _&&_}

@@ -1,5 +1,5 @@
 -- The list of a block: its equations, its keys ascend and lie in the block's interval, it depends only on the block's pixels, and its length
--- (document 01, "The list"). Rests on Ascending, Features and BitsOf.
+-- (specification S4). Rests on Ascending, Features and BitsOf.
 use Prim.Native.Nat.{ℕ, zero, suc, _+_, _*_, _^_, _≤_, _<_}
 use mathlib.Core.Path.{_≡_, sym, _∙_, ap}
 use mathlib.Core.Bool.{true, false}

@@ -1,4 +1,4 @@
--- Which blocks a list has: the block itself, and every block under it whose parent has more than one feature (document 01, "The list").
+-- Which blocks a list has: the block itself, and every block under it whose parent has more than one feature (specification S4.5).
 -- Rests on ListOf and Features.
 use Prim.Native.Nat.{ℕ, zero, suc, _+_, _^_}
 use mathlib.Core.Path.{_≡_, refl, sym, _∙_, ap}

@@ -1,5 +1,5 @@
--- Entries of a log, one after the other: what the test of a last entry says, and what the tests of so many entries at a log's end say (document 01, "Paint,
--- take back, empty"; document 02, items 7 and 10). Rests on LastEntry.
+-- Entries of a log, one after the other: what the test of a last entry says, and what the tests of so many entries at a log's end say (specification S11.6).
+-- Rests on LastEntry.
 use Prim.Native.Nat.{ℕ, zero, suc, _+_, _-_, _≤_, _<_}
 use mathlib.Core.Path.{_≡_, refl, sym, ap, ap₂, _∙_}
 use mathlib.Core.Bool.{Bool, true, false, _&&_}

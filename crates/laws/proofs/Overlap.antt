@@ -1,4 +1,4 @@
--- What the clipped window is (document 02, item 8): its pixels are exactly those of the raster that were dragged over; a window of the raster is its
+-- What the clipped window is (specification S7): its pixels are exactly those of the raster that were dragged over; a window of the raster is its
 -- own; and it is no window, which gives 6, exactly where no pixel is common. Rests on WindowScan.
 use Prim.Native.Nat.{ℕ, suc, _+_, _-_, _^_, _<_, _≤_, min}
 use mathlib.Core.Path.{_≡_, refl, sym, ap, _∙_}

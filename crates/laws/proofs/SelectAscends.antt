@@ -1,4 +1,4 @@
--- Select gives ascending keys, each once, all in the block's interval (document 01, "Window queries"); with what it gives, this leaves one answer.
+-- Select gives ascending keys, each once, all in the block's interval (specification S6.8); with what it gives, this leaves one answer.
 -- Rests on SelectMeans and AscendingKeys.
 use Prim.Native.Nat.{ℕ, zero, suc, _+_, _^_, _<_}
 use mathlib.Core.Path.{_≡_}

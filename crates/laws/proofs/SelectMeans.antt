@@ -1,5 +1,5 @@
 -- Select gives a block exactly when all its pixels lie in the window and have feature f, and it is the outer block (the root) or its parent does
--- not satisfy this (document 01, "Window queries"). Rests on Pixels and FourLists.
+-- not satisfy this (specification S6.7). Rests on Pixels and FourLists.
 use Prim.Native.Nat.{ℕ, zero, suc, _+_, _^_}
 use mathlib.Core.Path.{_≡_, refl, sym, subst, _∙_}
 use mathlib.Core.Logic.{_↔_}

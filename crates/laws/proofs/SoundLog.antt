@@ -1,5 +1,5 @@
 -- A log is sound exactly when its records are steps, one after the other: single entries, each with a valid key, a correct list of that block and a feature
--- below s, and groups of such entries (document 01, "Paint, take back, empty"; document 02, items 7 and 10). Rests on LastStep.
+-- below s, and groups of such entries (specification S11.11). Rests on LastStep.
 use Prim.Native.Nat.{ℕ, zero, suc, _+_, _-_, _≤_, _<_}
 use mathlib.Core.Path.{_≡_, refl, sym, ap, subst, _∙_}
 use mathlib.Core.Logic.{_↔_}

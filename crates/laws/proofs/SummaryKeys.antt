@@ -1,4 +1,4 @@
--- The summary's blocks stand in key order (document 02, item 1): the key of a later block is larger. Rests on the definition of their keys.
+-- The summary's blocks stand in key order (specification S8.3): the key of a later block is larger. Rests on the definition of their keys.
 use Prim.Native.Nat.{ℕ, zero, suc, _+_, _*_, _/_, _%_, _^_, _<_}
 use native.Mathlib.Nat.{add-suc, pow-suc, one-le-pow, add-mul, mul-comm, mul-le-mul-right, div-add-mod', div-lt-iff-lt-mul, mod-lt}
 use native.Mathlib.Omega.{arith}

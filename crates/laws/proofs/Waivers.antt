@@ -1,4 +1,4 @@
--- The live findings: those that waivers do not hide, in their order, and the hidden ones counted (document 01, "Rules and waivers"). Rests on Hidden.
+-- The live findings: those that waivers do not hide, in their order, and the hidden ones counted (specification S13.10 to S13.13). Rests on Hidden.
 use Prim.Native.Nat.{ℕ, _+_}
 use mathlib.Core.Path.{_≡_, refl, sym, ap, _∙_}
 use mathlib.Core.Logic.{_↔_, ⊎-elim}

@@ -1,5 +1,5 @@
 -- Painting a window is painting its largest blocks one after the other, in key order: it leaves the same pixels, and its group has the entries that those
--- paints would log, each of the picture that the earlier ones left (document 02, item 10). Rests on LargestPixels.
+-- paints would log, each of the picture that the earlier ones left (specification S10.2, S11.8). Rests on LargestPixels.
 use Prim.Native.Nat.{ℕ, _+_, _^_, _≤_, _<_}
 use mathlib.Core.Path.{_≡_, refl, sym, ap, ap₂, _∙_}
 use mathlib.Core.Bool.{Bool, true, false, cond, _||_}

@@ -1,4 +1,4 @@
--- The scans of a window mean what document 01, "Window queries", says: exist is yes exactly when some pixel of the window has feature f, and report
+-- The scans of a window mean what specification S6 says: exist is yes exactly when some pixel of the window has feature f, and report
 -- has exactly the slots of the features in the window. Rests on Slots.
 use Prim.Native.Nat.{ℕ, zero, suc, _+_, _^_, _≤_, _<_}
 use mathlib.Core.Path.{_≡_, sym, ap, ap₂, subst, _∙_}

@@ -1,5 +1,5 @@
 -- Reading after writing, as the two calls' promises state them: what an accepted writing of leaves leaves in its slices is read as the list that it was given,
--- in any slices with room (document 02, item 3). Rests on RoundTrip and the answers of both calls.
+-- in any slices with room (specification S17.8). Rests on RoundTrip and the answers of both calls.
 use Prim.Native.Nat.{ℕ, _≤_}
 use mathlib.Core.Path.{_≡_, refl, sym, _∙_, ap}
 use mathlib.Core.Bool.{true, false, cond}

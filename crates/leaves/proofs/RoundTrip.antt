@@ -1,4 +1,4 @@
--- Document 02, item 3: the leaves of a list are a delivery that describes the list's raster, so reading what was written gives the list back; and
+-- Specification S17: the leaves of a list are a delivery that describes the list's raster, so reading what was written gives the list back; and
 -- deliveries of one raster give one list. Rests on Delivery and LeavesOf.
 use Prim.Native.Nat.{ℕ, _≤_}
 use mathlib.Core.Path.{_≡_, refl, sym, _∙_, ap, ap₂}

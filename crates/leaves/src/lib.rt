@@ -1,4 +1,4 @@
-// Leaf lists (document 02, item 3): a delivery of leaves becomes a list, and a list gives its leaves.
+// Leaf lists (specification S17): a delivery of leaves becomes a list, and a list gives its leaves.
 pub mod calls;
 mod count;
 mod features;

@@ -1,4 +1,4 @@
-// The lines that the listing program prints (document 01, "The listing program"), written into a lent slice.
+// The lines that the listing program prints (specification S26), written into a lent slice.
 ghost use mathlib.Core.Path.{_≡_};
 ghost use Rattle.lines.specs.Lent.{Lent, Printed};
 

@@ -1,5 +1,5 @@
 -- The place of a key among keys: what the search finds is the place among the first n keys, and on the records of two slices that is the place of
--- document 01. Rests on Count.
+-- specification S5.2. Rests on Count.
 use Prim.Native.Nat.{ℕ, zero, suc, _+_, _-_, _≤_, _<_}
 use mathlib.Core.Path.{_≡_, refl, _∙_, ap}
 use mathlib.Core.Bool.{cond}

@@ -1,4 +1,4 @@
--- The fuller standing (document 02, item 6): its numbers by the list's test, and as the code finds them in an accepted list. A listed block's records
+-- The fuller standing (specification S5): its numbers by the list's test, and as the code finds them in an accepted list. A listed block's records
 -- are one where one slot is set, and else end with the keys of its interval; inside a leaf the key found is the leaf's. Rests on Own and Shown.
 use Prim.Native.Nat.{ℕ, zero, suc, _+_, _-_, _^_, _≤_, _<_}
 use mathlib.Core.Path.{_≡_, refl, sym, _∙_, ap, ap₂}

@@ -1,4 +1,4 @@
--- Exactly one slot: a bitstring has it exactly when it is a power of two, and the code's test of it (document 01, "The list"). Rests on keys' Cases and laws' BitsOf and FeatureOf.
+-- Exactly one slot: a bitstring has it exactly when it is a power of two, and the code's test of it (specification S4.8). Rests on keys' Cases and laws' BitsOf and FeatureOf.
 use Prim.Native.Nat.{ℕ, suc, _-_, _/_, _%_, _^_, _<_}
 use mathlib.Core.Path.{_≡_, refl, sym, _∙_, ap, ap₂}
 use mathlib.Core.Bool.{Bool, true, false, true≢false, _&&_, _||_}

@@ -1,4 +1,4 @@
--- What a standing tells of the list of a picture (document 02, item 6): a listed block's number of records is the length of its list, which is the
+-- What a standing tells of the list of a picture (specification S5): a listed block's number of records is the length of its list, which is the
 -- handed-back part's; the leaf's block contains the asked block, no other listed leaf does, and the level is that of the leaf's key. Rests on Fuller.
 use Prim.Native.Nat.{ℕ, _<_}
 use mathlib.Core.Path.{_≡_, sym, _∙_, ap, subst}

@@ -1,4 +1,4 @@
-// What every call that asks a list does first (document 01, "Refusal numbers"): the settings, then the list.
+// What every call that asks a list does first (specification S25): the settings, then the list.
 ghost use mathlib.Core.Path.{_≡_};
 ghost use Rattle.list.specs.First.{firstRefusal};
 use crate::check;

@@ -1,4 +1,4 @@
-// Where a block stands in a list (document 01, "Where a block stands"; document 02, item 6): binary searches among the first n keys.
+// Where a block stands in a list (specification S5): binary searches among the first n keys.
 ghost use mathlib.Core.Path.{_≡_};
 ghost use mathlib.Core.Bool.{true};
 ghost use Prim.Native.Nat.{_≤_, _^_};

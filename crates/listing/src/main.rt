@@ -1,4 +1,4 @@
-// The listing program (document 01): it reads m, s and a raster from standard input, and writes the listing of its list, or one line for a
+// The listing program (specification S26): it reads m, s and a raster from standard input, and writes the listing of its list, or one line for a
 // refusal, to standard output. What is written is `lines::list_input`'s promise.
 use libc::STDIN_FILENO;
 use libc::STDOUT_FILENO;

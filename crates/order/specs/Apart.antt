@@ -1,4 +1,4 @@
--- Paints that are apart: neither block is the other or contains it (document 02, item 14). Rests on the keys' ancestors.
+-- Paints that are apart: neither block is the other or contains it (specification S20.1). Rests on the keys' ancestors.
 use Prim.Native.Nat.{ℕ}
 use mathlib.Core.Bool.{Bool, true, false, not, _&&_, _||_}
 use mathlib.Core.List.{List, [], _∷_}

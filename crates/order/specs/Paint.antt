@@ -1,4 +1,4 @@
--- A paint of a single block, as the crews send them in (document 02, item 14). Rests on nothing.
+-- A paint of a single block, as the crews send them in (specification S20). Rests on nothing.
 use Prim.Native.Nat.{ℕ}
 
 pub record BlockPaint : Type 0 where

@@ -1,4 +1,4 @@
--- Areas of the C call (document 02, item 1): calls of hlq_area that keep their contract, as it stands in src/, for the whole raster and each feature below s
+-- Areas of the C call (specification S8.12): calls of hlq_area that keep their contract, as it stands in src/, for the whole raster and each feature below s
 -- give answers that add up to T * T, once one of them is accepted. Rests on the contract and on AreaAnswers of laws.
 use Prim.Native.Nat.{ℕ, _*_, _^_, _<_}
 use mathlib.Core.Path.{_≡_, sym, ap, _∙_}

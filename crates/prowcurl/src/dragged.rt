@@ -1,4 +1,4 @@
-// Window queries for C with a window that may reach over the edge (document 02, item 8): exist, report, select, area. Row and column may be negative.
+// Window queries for C with a window that may reach over the edge (specification S7): exist, report, select, area. Row and column may be negative.
 ghost use mathlib.Core.Path.{_≡_};
 ghost use Rattle.definitions.specs.Calls.Clipped.{existClipped, reportClipped, selectClipped, selectAnswerClipped, areaClipped};
 use clipped::calls;

@@ -1,4 +1,4 @@
-// Bit strings for C (document 02, item 12): a list of two features as a pair of bit strings, written and read.
+// Bit strings for C (specification S18): a list of two features as a pair of bit strings, written and read.
 ghost use mathlib.Core.Path.{_≡_};
 ghost use Rattle.definitions.specs.Calls.WriteBitStrings.{writeStrings, writtenNodes, writtenLeaves};
 ghost use Rattle.definitions.specs.Calls.ReadBitStrings.{readStrings, readKeys, readBits};

@@ -1,4 +1,4 @@
--- The model on Map A of document 01: A9 merges, A10 takes it back, A11 splits a leaf. Proved by computation.
+-- The model on Map A (specification S27): A9 merges, A10 takes it back, A11 splits a leaf. Proved by computation.
 use mathlib.Core.Path.{_≡_, refl}
 use mathlib.Core.List.{List, [], _∷_}
 use Rattle.keys.specs.Key.{digitsOf, digitsBeforeZero, levelOf, heightOf}

@@ -1,4 +1,4 @@
-// The calls that ask an accepted list (document 01): where a block stands, the part of the key slice that holds it, and the raster. They refuse
+// The calls that ask an accepted list (specification S4, S5): where a block stands, the part of the key slice that holds it, and the raster. They refuse
 // by their tables, and require nothing.
 ghost use mathlib.Core.Path.{_≡_};
 ghost use Prim.Native.Nat.{_+_, _*_};

@@ -1,4 +1,4 @@
-// A window painted as one step (document 02, item 10): its largest blocks, the group that the log gains, the list filled, and the call.
+// A window painted as one step (specification S10.2): its largest blocks, the group that the log gains, the list filled, and the call.
 pub mod filling;
 pub mod paint_window;
 pub mod window_blocks;

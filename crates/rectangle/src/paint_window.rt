@@ -1,4 +1,4 @@
-// Painting a window as one step (document 02, item 10). It is decided before anything is written, 10 and 9 on the end result.
+// Painting a window as one step (specification S10.2). It is decided before anything is written, 10 and 9 on the end result.
 ghost use mathlib.Core.Path.{_≡_};
 ghost use Prim.Native.Nat.{_≤_};
 ghost use Rattle.definitions.specs.Read.{room, recordsOf};

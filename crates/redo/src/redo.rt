@@ -1,4 +1,4 @@
-// Redo (document 02, items 7 and 10): the next of the steps that were taken back, a single entry here or a group in its own file. It is decided before anything
+// Redo (specification S12.8): the next of the steps that were taken back, a single entry here or a group in its own file. It is decided before anything
 // is written, 9 on the end result.
 ghost use mathlib.Core.Path.{_≡_};
 ghost use mathlib.Core.Bool.{false};

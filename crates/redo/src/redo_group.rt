@@ -1,4 +1,4 @@
-// A group redone as one step (document 02, item 10): the blocks of its entries get their features again, the first first.
+// A group redone as one step (specification S12.8): the blocks of its entries get their features again, the first first.
 ghost use mathlib.Core.Path.{_≡_};
 ghost use mathlib.Core.Bool.{true};
 ghost use lib.ListN.{length};

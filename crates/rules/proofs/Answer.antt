@@ -1,4 +1,4 @@
--- What the calls of `findings` come to, one after the other: each run may begin, and in the end the call gives document 01's findings. Rests on TableRuns,
+-- What the calls of `findings` come to, one after the other: each run may begin, and in the end the call gives the findings of specification S13. Rests on TableRuns,
 -- ThreeRuns and OfficeAnswer.
 use Prim.Native.Nat.{ℕ, _≤_}
 use mathlib.Core.Path.{_≡_, refl, sym, ap, subst, _∙_}
@@ -125,7 +125,7 @@ module _ (m s : ℕ) (keys bits : List ℕ) (n office : ℕ) (rules : List Rule)
   runs-own : (p : Progress) → Same start (p .state) → run p ≡ runOwn p
   runs-own p same = table-run-from keys bits ids waived rules p same
 
-  -- the call gives and leaves what the documents say
+  -- the call gives and leaves what the specification says
   pub findings-law : {r₀ r₁ r₂ r₃ r₄ r₅ : RunState} {l₁ l₁′ l₃ l₃′ l₅ l₅′ : List ℕ} {f : Found} → Course r₀ r₁ r₂ r₃ r₄ r₅ l₁ l₁′ l₃ l₃′ l₅ l₅′ f
       → (f ≡ findings m s keys bits n office rules offices ids waived rows foundIds foundKeys)
       × (l₅ ≡ findingsIds m s keys bits n office rules offices ids waived rows foundIds foundKeys)

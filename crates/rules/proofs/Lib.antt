@@ -23,7 +23,7 @@ pub mod NextCases
 pub mod AllGathered
 pub mod RunEnds
 pub mod Refusals
--- the runs together give document 01's findings
+-- the runs together give the findings of specification S13
 pub mod TwoRuns
 pub mod Bounds
 pub mod ThreeRuns

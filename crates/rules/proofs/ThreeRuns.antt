@@ -137,7 +137,7 @@ module _ (m s : ℕ) (keys bits : List ℕ) (n office : ℕ) (own : Own) (rules 
           ∙ sym (ap (λ p. run (after p)) counted-is) in
           subst Keeps (sym is) (two-runs m s keys bits n office own rules waiverIds waiverKeys ids foundKeys fit)
 
-    -- three runs give what document 01 says
+    -- three runs give what the specification says
     pub three-runs : Keeps third
     three-runs =
         equal (last .refusal) 0

@@ -1,4 +1,4 @@
--- Two runs over the rules, the first to count and the second to write, give document 01's findings: each refusal in its order, and otherwise the live
+-- Two runs over the rules, the first to count and the second to write, give the findings of specification S13: each refusal in its order, and otherwise the live
 -- findings with both counts. Rests on AllGathered, RunEnds, Quiet, NextCases, Beginning and Refusals.
 use Prim.Native.Nat.{ℕ, _≤_, _<_}
 use mathlib.Core.Path.{_≡_, refl, sym, ap, ap₂, _∙_}
@@ -294,7 +294,7 @@ module _ (m s : ℕ) (keys bits : List ℕ) (n office : ℕ) (own : Own) (rules 
           (λ wrong. faulted (wrong-run wrong)
           (refusal-14 m s keys bits n office (not (own .good)) rules ws ids foundKeys known-office settings list good (or-left (not (own .good)) (badWaivers m rules ws) (ap not wrong))))
 
-  -- two runs give what document 01 says
+  -- two runs give what the specification says
   pub two-runs : Fit m own waiverIds waiverKeys → Promised (run second)
   two-runs fit =
       decide (badOffice office)

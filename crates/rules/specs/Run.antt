@@ -1,5 +1,5 @@
 -- A run over the rules, as the code goes: what a rule does to the state and to the two answer slices, how the first run begins, which run comes after a run,
--- and what the last answers. Only contracts need these; that the runs give document 01's findings is proved in proofs/.
+-- and what the last answers. Only contracts need these; that the runs give the findings of specification S13 is proved in proofs/.
 use Prim.Native.Nat.{ℕ, _+_, _*_, _≤_, min}
 use mathlib.Core.Path.{_≡_}
 use mathlib.Core.Bool.{Bool, true, false, cond, not, _&&_, _||_}

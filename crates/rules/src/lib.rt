@@ -1,4 +1,4 @@
-// Rules and waivers (document 01): the runs over the rules that findings is made of, from where a run stands to what the last answers. Each file uses only
+// Rules and waivers (specification S13): the runs over the rules that findings is made of, from where a run stands to what the last answers. Each file uses only
 // those above it.
 pub mod all_rules;
 pub mod one_rule;

@@ -1,4 +1,4 @@
-// The call that fills the summary of a list (document 02, item 1). It refuses by its table, and requires nothing.
+// The call that fills the summary of a list (specification S8.8). It refuses by its table, and requires nothing.
 ghost use mathlib.Core.Path.{_≡_};
 ghost use Rattle.definitions.specs.Calls.FillSummary.{fillRefusal, fillSummary, filledSummary};
 use crate::blocks;

@@ -1,4 +1,4 @@
-// The summary beside a list (document 02, item 1): the pixel counts of the blocks of one level, counted from the list's leaves.
+// The summary beside a list (specification S8.2): the pixel counts of the blocks of one level, counted from the list's leaves.
 pub mod blocks;
 pub mod calls;
 pub mod check;

@@ -1,4 +1,4 @@
-// Survey: a raster becomes its list and its summary (document 02, item 1). The summary is counted from the list that was just written.
+// Survey: a raster becomes its list and its summary (specification S4.15). The summary is counted from the list that was just written.
 ghost use mathlib.Core.Path.{_≡_};
 ghost use mathlib.Core.List.{[], _∷_};
 ghost use Rattle.definitions.specs.Area.{badSummaryLength};

@@ -1,4 +1,4 @@
-// Take back (documents 01 and 02): the last step in force, a single entry here or a group in its own file. It is decided before anything is written, 9 on the
+// Take back (specification S12.1): the last step in force, a single entry here or a group in its own file. It is decided before anything is written, 9 on the
 // end result.
 ghost use mathlib.Core.Path.{_≡_};
 ghost use mathlib.Core.Bool.{false};

@@ -1,4 +1,4 @@
-// A group taken back as one step (document 02, item 10): the contents of its entries go into their blocks, the last first.
+// A group taken back as one step (specification S12.1): the contents of its entries go into their blocks, the last first.
 ghost use mathlib.Core.Path.{_≡_};
 ghost use mathlib.Core.Bool.{true};
 ghost use Rattle.definitions.specs.Read.{recordsOf};

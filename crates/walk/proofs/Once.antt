@@ -1,5 +1,5 @@
--- The blocks that select gives are disjoint, and together they have exactly the window's pixels of feature f, each once (document 01, "Window
--- queries"). Rests on the meaning of select and on the laws of blocks.
+-- The blocks that select gives are disjoint, and together they have exactly the window's pixels of feature f, each once (specification S6).
+-- Rests on the meaning of select and on the laws of blocks.
 use Prim.Native.Nat.{ℕ, zero, suc, _+_, _^_, _≤_}
 use mathlib.Core.Path.{_≡_, sym, _∙_, ap₂}
 use mathlib.Core.Logic.{_↔_}

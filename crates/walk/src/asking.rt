@@ -1,4 +1,4 @@
-// What the walk asks the list: where its block stands (document 02, item 6). The queries take the standing apart here, and use all that it tells.
+// What the walk asks the list: where its block stands (specification S5). The queries take the standing apart here, and use all that it tells.
 ghost use mathlib.Core.Path.{_≡_};
 ghost use mathlib.Core.Bool.{true};
 ghost use Prim.Native.Nat.{_≤_};

@@ -1,4 +1,4 @@
-// The calls that ask a window (document 01, "Window queries"): exist, report and select. They refuse by their tables, and require nothing.
+// The calls that ask a window (specification S6): exist, report and select. They refuse by their tables, and require nothing.
 ghost use mathlib.Core.Path.{_≡_};
 ghost use Rattle.definitions.specs.Calls.Exist.{existRefusal, exist as existAnswer};
 ghost use Rattle.definitions.specs.Calls.Report.{reportRefusal, report as reportAnswer};

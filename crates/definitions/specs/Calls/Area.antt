@@ -1,4 +1,4 @@
--- Area: how many pixels of a window have a feature (document 02, item 1)? Refusals 1, 4, 18, 6, 7.
+-- Area: how many pixels of a window have a feature (specification S8.10)? Refusals 1, 4, 18, 6, 7.
 use Prim.Native.Nat.{ℕ}
 use mathlib.Core.List.{List, [], _∷_}
 use Rattle.definitions.specs.Read.{recordsOf, pictureOf}

@@ -1,4 +1,4 @@
--- Batch (document 02, item 11): a run of questions is asked of one list, which is checked once. Refusals 1, 4, 12. At each question's place the two
+-- Batch (specification S9): a run of questions is asked of one list, which is checked once. Refusals 1, 4, 12. At each question's place the two
 -- answer slices take the refusal and the value of the clipped single call; so a bad question stops no other. Rests on Clipped.
 use Prim.Native.Nat.{ℕ}
 use mathlib.Core.Bool.{cond}

@@ -1,4 +1,4 @@
--- Exist, report, select and area of a window that may reach over the edge (document 02, item 8): each is the strict call on the window clipped to the
+-- Exist, report, select and area of a window that may reach over the edge (specification S7): each is the strict call on the window clipped to the
 -- raster, with its table of refusals. So 6 is given where height or width is zero or nothing overlaps. Rests on Clip and on the strict calls.
 use Prim.Native.Nat.{ℕ}
 use mathlib.Core.List.{List}

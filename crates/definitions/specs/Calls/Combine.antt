@@ -1,4 +1,4 @@
--- Combine two lists into a third (document 02, item 13). Refusals 1, 24, 4 (first list, then second), 25, 9.
+-- Combine two lists into a third (specification S19). Refusals 1, 24, 4 (first list, then second), 25, 9.
 use Prim.Native.Nat.{ℕ}
 use mathlib.Core.Bool.{not, _||_}
 use mathlib.Core.List.{List, [], _∷_}

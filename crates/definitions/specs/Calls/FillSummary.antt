@@ -1,4 +1,4 @@
--- Fill the summary of a list (document 02, item 1). Refusals 1, 4, 18 (for the length alone).
+-- Fill the summary of a list (specification S8.8). Refusals 1, 4, 18 (for the length alone).
 use Prim.Native.Nat.{ℕ}
 use mathlib.Core.List.{List, [], _∷_}
 use Rattle.definitions.specs.Read.{recordsOf, pictureOf}

@@ -49,7 +49,7 @@ module _ (m s : ℕ) (keys bits : List ℕ) (n office : ℕ) (wrong : Bool) (rul
   unfoldable pub foundKeysWith : List ℕ
   foundKeysWith = accepted refusalWith (over (map (λ x. x .key) (liveIn m keys bits n rules waivers)) foundKeys) foundKeys
 
--- the waivers are the asking office's rows, which are checked as document 01 says; the table and the keys are checked for all rows
+-- the waivers are the asking office's rows, which are checked as specification S13.14 says; the table and the keys are checked for all rows
 module _ (m s : ℕ) (keys bits : List ℕ) (n office : ℕ) (rules : List Rule) (offices ids waived : List ℕ) (rows : ℕ) (foundIds foundKeys : List ℕ) where
   abbrev wrong : Bool
   wrong = badTable offices ids waived rows || not (rowKeysValid m (tableOf offices ids waived rows))

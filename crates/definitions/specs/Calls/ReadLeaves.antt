@@ -1,4 +1,4 @@
--- Read leaves: a delivery becomes the list of the raster that it describes (document 02, item 3). Refusals 1, 19, 9. Rests on Leaves.
+-- Read leaves: a delivery becomes the list of the raster that it describes (specification S17). Refusals 1, 19, 9. Rests on Leaves.
 use Prim.Native.Nat.{ℕ}
 use mathlib.Core.Bool.{not}
 use mathlib.Core.List.{List, [], _∷_}

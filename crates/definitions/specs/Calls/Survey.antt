@@ -1,4 +1,4 @@
--- Survey: a raster becomes its list and its summary (document 02, item 1; C's build). Refusals 1, 2, 3, 18 (for the length alone), 9.
+-- Survey: a raster becomes its list and its summary (specification S4.15; C's build). Refusals 1, 2, 3, 18 (for the length alone), 9.
 use Prim.Native.Nat.{ℕ}
 use mathlib.Core.List.{List, [], _∷_}
 use lib.ListN.{length}

@@ -1,4 +1,4 @@
--- Write leaves: the leaves of a list, a key and a feature each (document 02, item 3). Refusals 1, 4, 12. Rests on Leaves.
+-- Write leaves: the leaves of a list, a key and a feature each (specification S17). Refusals 1, 4, 12. Rests on Leaves.
 use Prim.Native.Nat.{ℕ}
 use mathlib.Core.Bool.{cond}
 use mathlib.Core.List.{List, [], _∷_}

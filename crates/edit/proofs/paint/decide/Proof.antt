@@ -1,4 +1,4 @@
--- `paint::decide` meets its contract: the rows in the documents' order, the first four and the last two by their own functions.
+-- `paint::decide` meets its contract: the rows in the call's order (specification S25), the first four and the last two by their own functions.
 use mathlib.Core.Path.{_≡_, refl, sym, _∙_}
 use mathlib.Core.Bool.{true}
 use native.Mathlib.Omega.{arith}
