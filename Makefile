@@ -10,7 +10,7 @@ soname := libprowcurl.so.$(interface)
 
 # target/staticlib/libprowcurl.a, target/include/prowcurl.h, and prowcurl_sheet.h beside it
 lib:
-	rt staticlib prowcurl
+	@tools/prove prowcurl staticlib prowcurl
 	@mkdir -p target/include
 	@cp include/prowcurl.h include/prowcurl_sheet.h target/include/
 	@echo "target/staticlib/libprowcurl.a, target/include/prowcurl.h, target/include/prowcurl_sheet.h"
@@ -29,7 +29,7 @@ line: tool
 run: kit
 	@echo "== the library is proved first, crate by crate; then it is compiled"
 	@$(MAKE) --no-print-directory lib
-	rt check listing
+	@tools/prove listing check listing
 	@echo "== the listing program on Map A"
 	@tools/run-c target/bin/listing <crates/listing/stdin
 	@echo "== the example: a survey, its rules and waivers"

@@ -1,4 +1,4 @@
-// The refusals by name (document 01, "Refusal numbers", and document 02): the numbers that the tables of specs/Calls give, with the C header's names.
+// The refusals by name (specification S24): the numbers that the tables of specs/Calls give, with the C header's names.
 pub struct Refusal {}
 
 impl Refusal {
