@@ -4,7 +4,7 @@ use native.Mathlib.Omega.{arith}
 use mathlib.Core.Path.{_≡_, refl, sym, ap, _∙_}
 use mathlib.Core.Bool.{true, false, not, _||_}
 use lib.Dec.{leb}
-use borrow.Author.Tests.{lt-ltb, le-ltb, ltb-false, le-leb, lt-leb, leb-false, not-false}
+use borrow.Author.Tests.{lt-ltb, le-ltb, ltb-false, le-leb, lt-leb, leb-false}
 use Rattle.keys.specs.Key.{validKey, levelOf}
 use Rattle.keys.specs.Block.{rowOf, columnOf, sideOf, keyAround}
 use Rattle.keys.proofs.Cases.{or-left, or-right, neither-left, neither-right}
@@ -77,14 +77,16 @@ module _ (m κ : ℕ) where
   unfolding blockOfRefusal
   a-key deep h = sym (none-first _ (le-ltb 10 m deep, (ap not h, tt)))
 
-  pub block-passed : blockOfRefusal m κ ≡ 0 → (m ≤ 10) × (validKey m κ ≡ true)
-  unfolding blockOfRefusal
-  block-passed e = let h = first-none _ refl e in (ltb-false 10 m (h .0), not-false (validKey m κ) (h .1 .0))
-
-  pub block-refused : (r : ℕ) → r ≡ blockOfRefusal m κ → (r ≡ 0 → ⊥) → record { refusal = r; row = 0; column = 0; side = 0; level = 0 } ≡ blockOf m κ
+  block-refused : (r : ℕ) → r ≡ blockOfRefusal m κ → (r ≡ 0 → ⊥) → record { refusal = r; row = 0; column = 0; side = 0; level = 0 } ≡ blockOf m κ
   unfolding blockOf
   block-refused r is h =
       block is (sym (accepted-left _ 0 (λ e. h (is ∙ e)))) (sym (accepted-left _ 0 (λ e. h (is ∙ e)))) (sym (accepted-left _ 0 (λ e. h (is ∙ e)))) (sym (accepted-left _ 0 (λ e. h (is ∙ e))))
+
+  -- a block that has a number alone is what a refused call gives
+  pub block-alone : (r : ℕ) (b : Block) → r ≡ blockOfRefusal m κ → (r ≡ 0 → ⊥)
+      → (b .refusal ≡ r) × (b .row ≡ 0) × (b .column ≡ 0) × (b .side ≡ 0) × (b .level ≡ 0)
+      → b ≡ blockOf m κ
+  block-alone r b is h e = block (e .0) (e .1) (e .2) (e .3) (e .4) ∙ block-refused r is h
 
   pub block-given : (row column side level : ℕ) → blockOfRefusal m κ ≡ 0 → row ≡ rowOf m κ → column ≡ columnOf m κ → side ≡ sideOf m κ → level ≡ levelOf m κ
       → record { refusal = 0; row = row; column = column; side = side; level = level } ≡ blockOf m κ

@@ -2,7 +2,7 @@
 // nothing.
 ghost use mathlib.Core.Path.{_≡_};
 ghost use Rattle.definitions.specs.Calls.KeyAt.{keyAtRefusal, keyAt};
-ghost use Rattle.definitions.specs.Calls.BlockOf.{blockOfRefusal, blockOf};
+ghost use Rattle.definitions.specs.Calls.BlockOf.{blockOf};
 use definitions::Block;
 use definitions::Keyed;
 use definitions::refusal::Refusal;
@@ -41,39 +41,37 @@ pub fn key_at(m: u32, row: u32, column: u32, level: u32) -> Keyed
     }
 }
 
-// Refusals 1 and 8, or 0.
-fn block_of_refusal(m: u32, key: u32) -> u64
-    ensures { λ r. ⌜ r ≡ blockOfRefusal m key ⌝ }
+// A refused call gives its number alone.
+fn no_block(refusal: u64) -> Block
+    ensures { λ r. ⌜ (r .refusal ≡ refusal) × (r .row ≡ 0) × (r .column ≡ 0) × (r .side ≡ 0) × (r .level ≡ 0) ⌝ }
 {
-    if Key::DEEPEST_LEVEL < m {
-        return Refusal::SETTINGS;
+    Block {
+        refusal,
+        row: 0,
+        column: 0,
+        side: 0,
+        level: 0,
     }
-    let block = Key { number: key };
-    if block.is_valid(m) { 0 } else { Refusal::KEY }
 }
 
-// The square of a key: its first row and column, its side and its level.
+// The square of a key: its first row and column, its side and its level. Refusals 1 and 8. The digits are read once, but for the level.
 pub fn block_of(m: u32, key: u32) -> Block
     ensures { λ r. ⌜ r ≡ blockOf m key ⌝ }
 {
-    let refusal = block_of_refusal(m, key);
-    if refusal != 0 {
-        return Block {
-            refusal,
-            row: 0,
-            column: 0,
-            side: 0,
-            level: 0,
-        };
+    if Key::DEEPEST_LEVEL < m {
+        return no_block(Refusal::SETTINGS);
     }
     let block = Key { number: key };
-    let square = block.block(m);
-    let level = block.level(m);
-    Block {
-        refusal: 0,
-        row: square.row as u64,
-        column: square.column as u64,
-        side: square.side as u64,
-        level: level as u64,
+    let read = block.read(m);
+    if read.valid {
+        let level = block.level(m);
+        return Block {
+            refusal: 0,
+            row: read.row as u64,
+            column: read.column as u64,
+            side: read.side as u64,
+            level: level as u64,
+        };
     }
+    no_block(Refusal::KEY)
 }

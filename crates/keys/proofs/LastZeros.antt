@@ -1,16 +1,17 @@
 -- The zeros at the end of a key: found digit by digit, and as many as a valid key's block has levels below it. Rests on LastDigit.
 use Prim.Native.Nat.{ℕ, zero, suc, _+_, _-_, _*_, _/_, _%_, _^_, _≤_, _<_}
-use mathlib.Core.Path.{_≡_, refl, sym, ap, _∙_}
+use mathlib.Core.Path.{_≡_, refl, sym, ap, ap₂, _∙_}
 use mathlib.Core.Bool.{true}
-use native.Mathlib.Nat.{pow-suc}
+use native.Mathlib.Nat.{pow-suc, mul-comm, div-div-eq-div-mul, div-lt-iff-lt-mul}
 use native.Mathlib.Omega.{arith}
-use lib.Dec.{lit<}
+use lib.Dec.{lit<, eqb}
 use lib.Arith.{mod-mul}
+use lib.Pow.{pow-add}
 use borrow.Author.Tests.{eq-eqb, ne-eqb, eqb-true}
 use Rattle.keys.specs.Key.{zerosAtEnd, validKey, levelOf, heightOf}
 use Rattle.keys.proofs.Cases.{equal}
 use Rattle.keys.proofs.Digits.{level-most}
-use Rattle.keys.proofs.LastDigit.{valid-last-zero, valid-last-digit, level-last-zero, full-last-digit}
+use Rattle.keys.proofs.LastDigit.{fifth-below, valid-last-zero, valid-last-digit, level-last-zero, full-last-digit, full-over, valid-over}
 use Rattle.keys.proofs.Powers.{five-le, five-pos}
 use Rattle.keys.proofs.Valid.{valid-below}
 
@@ -97,6 +98,33 @@ zeros-height (suc k) κ valid =
     let l = eqb-true (levelOf (suc k) κ) (suc k) (full-last-digit k κ below some ∙ sym (valid-last-digit k κ below some) ∙ valid) in
     let z = zeros-none (suc k) κ some in
     omega arith)
+
+-- past the zeros at its end a number has as many digits less
+pub zeros-rest : (m κ : ℕ) → κ < 5 ^ m → κ / 5 ^ zerosAtEnd m κ < 5 ^ (m - zerosAtEnd m κ)
+zeros-rest m κ below =
+    let most = zeros-most m κ in
+    let all : m ≡ (m - zerosAtEnd m κ) + zerosAtEnd m κ = omega arith in
+    div-lt-iff-lt-mul (five-pos (zerosAtEnd m κ)) .1 (let e = ap (λ k. 5 ^ k) all ∙ pow-add 5 (m - zerosAtEnd m κ) (zerosAtEnd m κ) in omega arith)
+
+-- past the zeros at its end a number is a key's exactly when no digit is 0
+pub zeros-valid : (m κ : ℕ) → κ < 5 ^ m → validKey m κ ≡ eqb (levelOf (m - zerosAtEnd m κ) (κ / 5 ^ zerosAtEnd m κ)) (m - zerosAtEnd m κ)
+zeros-valid zero κ below = valid-over 0 κ (omega arith) below ∙ sym (full-over (0 - zerosAtEnd 0 κ) (κ / 5 ^ zerosAtEnd 0 κ) (omega arith))
+zeros-valid (suc k) κ below =
+    equal (κ % 5) 0
+    (λ none.
+    let z : zerosAtEnd (suc k) κ ≡ suc (zerosAtEnd k (κ / 5)) = zeros-more k κ none in
+    let left : suc k - zerosAtEnd (suc k) κ ≡ k - zerosAtEnd k (κ / 5) = omega arith in
+    let rest : κ / 5 ^ zerosAtEnd (suc k) κ ≡ κ / 5 / 5 ^ zerosAtEnd k (κ / 5) = ap (λ n. κ / 5 ^ n) z ∙ ap (λ x. κ / x) (pow-suc 5 (zerosAtEnd k (κ / 5)) ∙ mul-comm (5 ^ zerosAtEnd k (κ / 5)) 5) ∙ sym (div-div-eq-div-mul κ 5 (5 ^ zerosAtEnd k (κ / 5))) in
+    valid-last-zero k κ below none
+    ∙ zeros-valid k (κ / 5) (fifth-below k κ below)
+    ∙ sym (ap₂ (λ n x. eqb (levelOf n x) n) left rest))
+    (λ some.
+    let z : zerosAtEnd (suc k) κ ≡ 0 = zeros-none (suc k) κ some in
+    let left : suc k - zerosAtEnd (suc k) κ ≡ suc k = omega arith in
+    let rest : κ / 5 ^ zerosAtEnd (suc k) κ ≡ κ = ap (λ n. κ / 5 ^ n) z ∙ omega arith in
+    valid-last-digit k κ below some
+    ∙ sym (full-last-digit k κ below some)
+    ∙ sym (ap₂ (λ n x. eqb (levelOf n x) n) left rest))
 
 -- and so as many keys as the zeros say
 pub keys-height : (m κ : ℕ) → validKey m κ ≡ true → 5 ^ zerosAtEnd m κ ≡ 5 ^ heightOf m κ

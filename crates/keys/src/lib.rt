@@ -1,7 +1,7 @@
 // Keys of blocks (specification S3): the key type's constants, child and parent, level, validity, the block of a key and the key of a pixel.
 // Only crates above this one call these functions; what they require is shown there.
 ghost use mathlib.Core.Path.{_≡_};
-ghost use mathlib.Core.Bool.{true};
+ghost use mathlib.Core.Bool.{true, cond};
 ghost use Prim.Native.Nat.{_+_, _*_, _/_, _^_, _≤_, _<_};
 ghost use Rattle.keys.specs.Key.{validKey, levelOf, heightOf};
 ghost use Rattle.keys.specs.Block.{rowOf, columnOf, sideOf, keyAround};
@@ -17,6 +17,14 @@ pub struct Key {
 
 // The square of a block: its first row and column, and its side.
 pub struct Square {
+    pub row: u32,
+    pub column: u32,
+    pub side: u32,
+}
+
+// What a number's digits say: whether they are a key's, and then the square of its block.
+pub struct ReadKey {
+    pub valid: bool,
     pub row: u32,
     pub column: u32,
     pub side: u32,
@@ -100,13 +108,25 @@ impl Key {
         zeros::only_at_end(m, self.number)
     }
 
-    // The square that the key stands for. Its digits are read from the right: to divide by five is a multiplication, to divide by the step of a level is not.
-    // The zeros at the end move nothing, so the reading begins past them.
-    pub fn block(self, m: u32) -> Square
-        requires { ⌜ (m ≤ 10) × (validKey m (self .number) ≡ true) ⌝ }
-        ensures { λ r. ⌜ (r .row ≡ rowOf m (self .number)) × (r .column ≡ columnOf m (self .number)) × (r .side ≡ sideOf m (self .number)) ⌝ }
+    // Whether the number is a key, and the square that it stands for, in one reading of its digits. They are read from the right: to divide by five is a
+    // multiplication, to divide by the step of a level is not. The zeros at the end move nothing, so the reading begins past them; a zero before them is none
+    // of a key's.
+    pub fn read(self, m: u32) -> ReadKey
+        requires { ⌜ m ≤ 10 ⌝ }
+        ensures { λ r. ⌜ (r .valid ≡ validKey m (self .number))
+            × (r .row ≡ cond (validKey m (self .number)) (rowOf m (self .number)) 0)
+            × (r .column ≡ cond (validKey m (self .number)) (columnOf m (self .number)) 0)
+            × (r .side ≡ cond (validKey m (self .number)) (sideOf m (self .number)) 0) ⌝ }
     {
         let number = self.number;
+        if power::power_of_five(m) <= number {
+            return ReadKey {
+                valid: false,
+                row: 0,
+                column: 0,
+                side: 0,
+            };
+        }
         let end = zeros::at_end(m, number);
         let whole = power::power_of_two(end.count);
         let mut rest = number / end.power;
@@ -116,16 +136,38 @@ impl Key {
         let mut i = end.count;
         while i < m {
             let digit = rest % 5;
+            if digit == 0 {
+                return ReadKey {
+                    valid: false,
+                    row: 0,
+                    column: 0,
+                    side: 0,
+                };
+            }
             row += quadrant::southward(digit, side);
             column += quadrant::eastward(digit, side);
             rest = rest / 5;
             side = side * 2;
             i += 1;
         }
-        Square {
+        ReadKey {
+            valid: true,
             row,
             column,
             side: whole,
+        }
+    }
+
+    // The square that a key stands for.
+    pub fn block(self, m: u32) -> Square
+        requires { ⌜ (m ≤ 10) × (validKey m (self .number) ≡ true) ⌝ }
+        ensures { λ r. ⌜ (r .row ≡ rowOf m (self .number)) × (r .column ≡ columnOf m (self .number)) × (r .side ≡ sideOf m (self .number)) ⌝ }
+    {
+        let read = self.read(m);
+        Square {
+            row: read.row,
+            column: read.column,
+            side: read.side,
         }
     }
 
