@@ -136,7 +136,7 @@ impl Key {
         let mut i = end.count;
         while i < m {
             let digit = rest % 5;
-            if digit == 0 {
+            if rest % 5 == 0 {
                 return ReadKey {
                     valid: false,
                     row: 0,
