@@ -8,7 +8,8 @@
                                    cites is in docs/DECISIONS.md, once, and that page tells the next number; the floors
                                    of docs/ARCHITECTURE.md have each crate of crates.txt once, above all that it uses or
                                    to the right of it; CHANGELOG.md has each interface up to the header's, and
-                                   docs/LANDINGS.md each request; and the README stays under 120 lines
+                                   docs/LANDINGS.md each request; and the README names every page and stays under 120
+                                   lines
   tests/documents.py --self-test   breaks each of these in many ways, one at a time; each must be found
 
 Code words are what stands between back quotes. A name with a capital behind a path, as in `read/proofs/RoundTrip`, is a
@@ -143,6 +144,8 @@ def count_faults(world):
         yield f"CHANGELOG.md has the interfaces {told}, the header's is {there().interface}"
     landed = set(map(int, re.findall(r"^## .*\bRequest (\d+)\b", world.pages["docs/LANDINGS.md"], flags=re.M)))
     yield from (f"docs/LANDINGS.md has no request {number}" for number in sorted(set(range(1, 15)) - landed))
+    readme = words_of(world.pages["README.md"])
+    yield from (f"README.md does not name {name}" for name in world.pages if name not in (*readme, "README.md"))
     if world.pages["README.md"].count("\n") >= 120:
         yield "README.md has 120 lines or more"
 
@@ -230,6 +233,7 @@ def changed_worlds(world):
                            ("docs/DECISIONS.md", "takes number 1", "takes number 9")):
         changed = {**world.pages, name: world.pages[name].replace(old, new)}
         yield f"{name}: {old!r} is {new!r}", world._replace(pages=changed)
+    yield "a page that the README does not name", world._replace(pages={**world.pages, "docs/NEW.md": ""})
     yield "code that cites decision 999", world._replace(cites={"crates/x.rt": "// by decision 999"})
     for place, (crate, uses) in enumerate(world.crates):
         yield f"{crate} is gone", world._replace(crates=world.crates[:place] + world.crates[place + 1:])
