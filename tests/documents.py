@@ -229,7 +229,7 @@ def changed_worlds(world):
         yield f"decision {number} is gone", world._replace(pages={**world.pages, "docs/DECISIONS.md": gone})
     yield "a decision twice", world._replace(pages={**world.pages, "docs/DECISIONS.md": text + "\n- **24. No list.**"})
     for name, old, new in (("README.md", "\n", "\n\n\n"), ("CHANGELOG.md", "## Interface 9 ", "## Interface 99 "),
-                           ("CHANGELOG.md", "## Interface 1 ", "## Old "), ("docs/LANDINGS.md", "Request 4:", "More:"),
+                           ("CHANGELOG.md", "## Interface 1 ", "## Old "), ("docs/LANDINGS.md", "Request ", "More "),
                            ("docs/DECISIONS.md", "takes number 1", "takes number 9")):
         changed = {**world.pages, name: world.pages[name].replace(old, new)}
         yield f"{name}: {old!r} is {new!r}", world._replace(pages=changed)
