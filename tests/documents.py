@@ -23,7 +23,7 @@ from collections import namedtuple
 from functools import lru_cache
 
 from boundary import ROOT
-from specification import CITING, declared_in, misnamed
+from specification import declared_in, misnamed, sources
 
 # files that a command makes or a reader has, and words with a hyphen that are no laws
 MADE = re.compile(r"(target|lines|night|guides)/|(target|/usr/local|own\.c)$|.*\b(NAME|FILE|OUT)\b|own\.png$|\.\w+$")
@@ -197,13 +197,11 @@ def there():
 
 def everything():
     pages = {str(path.relative_to(ROOT)): path.read_text() for path in [*ROOT.glob("*.md"), *ROOT.glob("docs/*.md")]}
-    cites = {}
-    for path in sorted(path for top in CITING for path in (ROOT / top).rglob("*")):
-        if path.is_file() and "__pycache__" not in path.parts and path.name not in ("documents.py", "specification.py"):
-            cites[str(path.relative_to(ROOT))] = path.read_bytes().decode(errors="replace")
+    shown = ("tests/documents.py", "tests/specification.py")  # their self-tests cite decisions that are not there
+    cites = {name: text for name, text in sources().items() if name not in shown and DECISION.search(text)}
     lines = [line.split("#")[0] for line in (ROOT / "crates.txt").read_text().split("\n")]
     crates = [(line.split(":")[0], tuple(line.split(":")[1].split())) for line in lines if ":" in line]
-    return World(pages, {name: text for name, text in cites.items() if DECISION.search(text)}, crates)
+    return World(pages, cites, crates)
 
 
 def changed_pages(name, text):
