@@ -5,9 +5,11 @@
                                    there; every command that they name is one of make's targets, of rt's commands, of
                                    the tool's or a script; every law, definition, function, call and constant that
                                    stands in code words is declared; every decision that a document, the code or a test
-                                   cites is in docs/DECISIONS.md, once; the floors of docs/ARCHITECTURE.md have each
-                                   crate of crates.txt once, above all that it uses or to the right of it; and the
-                                   README stays under 120 lines
+                                   cites is in docs/DECISIONS.md, once, and that page tells the next number; the floors
+                                   of docs/ARCHITECTURE.md have each crate of crates.txt once, above all that it uses or
+                                   to the right of it; CHANGELOG.md has each interface up to the header's, and
+                                   docs/LANDINGS.md each request; and the README names every page and stays under 120
+                                   lines
   tests/documents.py --self-test   breaks each of these in many ways, one at a time; each must be found
 
 Code words are what stands between back quotes. A name with a capital behind a path, as in `read/proofs/RoundTrip`, is a
@@ -21,7 +23,7 @@ from collections import namedtuple
 from functools import lru_cache
 
 from boundary import ROOT
-from specification import CITING, declared_in, misnamed
+from specification import declared_in, misnamed, sources
 
 # files that a command makes or a reader has, and words with a hyphen that are no laws
 MADE = re.compile(r"(target|lines|night|guides)/|(target|/usr/local|own\.c)$|.*\b(NAME|FILE|OUT)\b|own\.png$|\.\w+$")
@@ -34,8 +36,8 @@ DECISION = re.compile(r"[Dd]ecisions? (\d+(?:(?:, | and )\d+)*)")
 # what documents and crates say, which the self-test changes: pages and cites are texts by name, crates (crate, uses)
 World = namedtuple("World", "pages cites crates")
 # what is there: paths, and the ends of paths; the names that crates/ declares; of each function the crates, files and
-# types that it stands in; the words of the headers; the commands of make, rt and the tool
-There = namedtuple("There", "paths names functions header commands")
+# types that it stands in; the words of the headers, and the interface's number; the commands of make, rt and the tool
+There = namedtuple("There", "paths names functions header interface commands")
 
 
 def fenced(text):
@@ -114,6 +116,8 @@ def decisions_of(text):
 def decision_faults(world):
     given = re.findall(r"^- \*\*(\d+)\. ", world.pages["docs/DECISIONS.md"], flags=re.M)
     yield from (f"decision {number} is given twice" for number in sorted(set(given)) if given.count(number) > 1)
+    if f"takes number {max(map(int, given)) + 1} " not in world.pages["docs/DECISIONS.md"]:
+        yield f"docs/DECISIONS.md: the next number is {max(map(int, given)) + 1}"
     for name, text in {**world.cites, **world.pages}.items():
         yield from (f"{name}: there is no decision {number}" for number in decisions_of(text) if number not in given)
 
@@ -134,6 +138,18 @@ def floor_faults(world):
                 yield f"docs/ARCHITECTURE.md: {crate} uses {other}, which stands above it or to its right"
 
 
+def count_faults(world):
+    told = [int(number) for number in re.findall(r"^## Interface (\d+)\b", world.pages["CHANGELOG.md"], flags=re.M)]
+    if told != list(range(there().interface, 0, -1)):
+        yield f"CHANGELOG.md has the interfaces {told}, the header's is {there().interface}"
+    landed = set(map(int, re.findall(r"^## .*\bRequest (\d+)\b", world.pages["docs/LANDINGS.md"], flags=re.M)))
+    yield from (f"docs/LANDINGS.md has no request {number}" for number in sorted(set(range(1, 15)) - landed))
+    readme = words_of(world.pages["README.md"])
+    yield from (f"README.md does not name {name}" for name in world.pages if name not in (*readme, "README.md"))
+    if world.pages["README.md"].count("\n") >= 120:
+        yield "README.md has 120 lines or more"
+
+
 @lru_cache(maxsize=None)
 def page_faults(name, text):
     found = [fault for word in words_of(text) for fault in word_faults(word, name in FORMER)]
@@ -146,8 +162,7 @@ def faults(world):
         yield from page_faults(name, text)
     yield from decision_faults(world)
     yield from floor_faults(world)
-    if world.pages["README.md"].count("\n") >= 120:
-        yield "README.md has 120 lines or more"
+    yield from count_faults(world)
 
 
 def declared():
@@ -171,23 +186,22 @@ def there():
     below = [path for top in tops if top.is_dir() for path in top.rglob("*") if "__pycache__" not in path.parts]
     parts = [path.relative_to(ROOT).parts for path in tops + below]
     paths = {"/".join(part[first:]) for part in parts for first in range(len(part))}
-    header = re.findall(r"\w+", "".join(path.read_text() for path in (ROOT / "include").glob("*.h")))
+    header = "".join(path.read_text() for path in (ROOT / "include").glob("*.h"))
+    interface = int(re.search(r"#define HLQ_INTERFACE (\d+)", header).group(1))
     help_text = subprocess.run(["rt", "help"], capture_output=True, text=True).stdout
     commands = {"make": re.findall(r"^([a-z\-]+):", (ROOT / "Makefile").read_text(), re.M),
                 "rt": ["help"] + re.findall(r"^  rt ([a-z\-]+)", help_text, re.M),
                 "prowcurl": ["help"] + re.findall(r'^    \{ "([a-z]+)",', (ROOT / "tool/main.c").read_text(), re.M)}
-    return There(paths, *declared(), set(header), commands)
+    return There(paths, *declared(), set(re.findall(r"\w+", header)), interface, commands)
 
 
 def everything():
     pages = {str(path.relative_to(ROOT)): path.read_text() for path in [*ROOT.glob("*.md"), *ROOT.glob("docs/*.md")]}
-    cites = {}
-    for path in sorted(path for top in CITING for path in (ROOT / top).rglob("*")):
-        if path.is_file() and "__pycache__" not in path.parts and path.name not in ("documents.py", "specification.py"):
-            cites[str(path.relative_to(ROOT))] = path.read_bytes().decode(errors="replace")
+    shown = ("tests/documents.py", "tests/specification.py")  # their self-tests cite decisions that are not there
+    cites = {name: text for name, text in sources().items() if name not in shown and DECISION.search(text)}
     lines = [line.split("#")[0] for line in (ROOT / "crates.txt").read_text().split("\n")]
     crates = [(line.split(":")[0], tuple(line.split(":")[1].split())) for line in lines if ":" in line]
-    return World(pages, {name: text for name, text in cites.items() if DECISION.search(text)}, crates)
+    return World(pages, cites, crates)
 
 
 def changed_pages(name, text):
@@ -212,8 +226,12 @@ def changed_worlds(world):
         gone = re.sub(rf"^- \*\*{number}\. .*$", "", text, flags=re.M)
         yield f"decision {number} is gone", world._replace(pages={**world.pages, "docs/DECISIONS.md": gone})
     yield "a decision twice", world._replace(pages={**world.pages, "docs/DECISIONS.md": text + "\n- **24. No list.**"})
-    long = world.pages["README.md"] + "\n" * 120
-    yield "a long README", world._replace(pages={**world.pages, "README.md": long})
+    for name, old, new in (("README.md", "\n", "\n\n\n"), ("CHANGELOG.md", "## Interface 9 ", "## Interface 99 "),
+                           ("CHANGELOG.md", "## Interface 1 ", "## Old "), ("docs/LANDINGS.md", "Request ", "More "),
+                           ("docs/DECISIONS.md", "takes number 1", "takes number 9")):
+        changed = {**world.pages, name: world.pages[name].replace(old, new)}
+        yield f"{name}: {old!r} is {new!r}", world._replace(pages=changed)
+    yield "a page that the README does not name", world._replace(pages={**world.pages, "docs/NEW.md": ""})
     yield "code that cites decision 999", world._replace(cites={"crates/x.rt": "// by decision 999"})
     for place, (crate, uses) in enumerate(world.crates):
         yield f"{crate} is gone", world._replace(crates=world.crates[:place] + world.crates[place + 1:])

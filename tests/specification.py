@@ -29,6 +29,7 @@ TOP = ("crates", "docs", "include", "tests")
 # what may cite the page, and what must cite nothing but the page: neither the two documents that the project was given
 # nor their parts
 CITING = ("bench", "crates", "examples", "include", "tests", "tool", "tools")
+WRITTEN = (".rt", ".antt", ".edit", ".c", ".h", ".py", ".sh", ".bash", ".1", ".map")
 NUMBER = re.compile(r"\bS\d+(?:\.\d+)?\b")
 # between two words there may be the end of a line of comment
 GAP = r"(?:\s|--|//|[#*])+"
@@ -267,14 +268,20 @@ def citing_faults(name, text, numbers):
         yield from (f"{name}: {said.group(0)!r} is no number of docs/SPECIFICATION.md" for said in GIVEN.finditer(text))
 
 
+def sources():
+    """The text of every file of code, proofs and tests by its name: what people write, and no data of tests."""
+    found = {}
+    for path in sorted(path for top in CITING for path in (ROOT / top).rglob("*") if path.is_file()):
+        if path.suffix in WRITTEN or not path.suffix and path.read_bytes().startswith(b"#!"):
+            found[str(path.relative_to(ROOT))] = path.read_text()
+    return found
+
+
 def citing_files():
     """The text of every file that may cite the page, by its name, without this one, which shows what is wrong."""
-    paths = [path for top in CITING for path in (ROOT / top).rglob("*")] + [*ROOT.glob("*.md"), *ROOT.glob("docs/*.md")]
-    found = {}
-    for path in sorted(set(paths) - {PAGE, ROOT / "tests/specification.py"}):
-        if path.is_file() and "__pycache__" not in path.parts:
-            found[str(path.relative_to(ROOT))] = path.read_bytes().decode(errors="replace")
-    return found
+    pages = {str(path.relative_to(ROOT)): path.read_text() for path in [*ROOT.glob("*.md"), *ROOT.glob("docs/*.md")]}
+    left_out = (str(PAGE.relative_to(ROOT)), "tests/specification.py")
+    return {name: text for name, text in {**sources(), **pages}.items() if name not in left_out}
 
 
 def faults(lines, world):

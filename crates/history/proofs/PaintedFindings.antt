@@ -80,6 +80,6 @@ module _ (m s office : ℕ) (rules : List Rule) (offices tableIds waived : List 
     given-as-before ids keys done₀ before found =
         rw (given-painted, given-live b ids keys done₀) (live-as-before m rules waivers (shows m b) (applied m y (shows m b)) before found)
 
-    -- Nor the one that specification S13.6 rules out: no finding is given of which every pixel was accepted, though the paint made one block of several
+    -- Nor the one that specification S13.17 rules out: no finding is given of which every pixel was accepted, though the paint made one block of several
     pub accepted-not-given : {x : Finding} → EveryPixelOf m (x .key) (WaivedBy m waivers (x .id)) → List·Memᴰ x (given (after m s b (painting y)) ids′ keys′) → ⊥
     accepted-not-given every i = accepted-not-live m rules waivers (applied m y (shows m b)) every (rw given-painted at i)

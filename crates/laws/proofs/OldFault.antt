@@ -37,7 +37,7 @@ module _ (m : ℕ) (rules : List Rule) (ws : List Finding) where
       let past = live-after p before in
       (λ i. past .1 (now .0 i), λ i. now .1 (past .0 i))
 
-  -- nor the fault that specification S13.6 rules out: where every pixel of a finding was waived, none comes up, whatever blocks the pixels were waived in
+  -- nor the fault that specification S13.17 rules out: where every pixel of a finding was waived, none comes up, whatever blocks the pixels were waived in
   pub accepted-not-live : (q : Picture) {x : Finding} → EveryPixelOf m (x .key) (WaivedBy m ws (x .id)) → List·Memᴰ x (live q) → ⊥
   accepted-not-live q every i = let left = live-exactly m ws (findingsIn q) .0 i .1 in left .holds (every (left .row) (left .column) (left .within))
 
