@@ -18,16 +18,12 @@ use Rattle.keys.proofs.Pixel.{inside}
 use Rattle.keys.proofs.InBlock.{inBlock-iff}
 use Rattle.definitions.specs.Picture.{everyPixel}
 use Rattle.definitions.specs.Window.{isWindow, inWindow, blocksFrom, largestBlocks}
+use Rattle.definitions.specs.Covered.{inSome}
 use Rattle.definitions.specs.declared.Window.{Window}
 use Rattle.laws.proofs.Within.{within-cases, pixel-row, pixel-column}
 use Rattle.laws.proofs.Pixels.{every-to, every-from}
 use Rattle.laws.proofs.WindowScan.{window-inside}
 use Rattle.laws.proofs.BlocksFrom.{BlocksInOrder, no-block, block, blocks-one, blocks-none, blocks-part}
-
--- some block of a list of keys has the pixel
-unfoldable pub inSome : (m : ℕ) (blocks : List ℕ) (row column : ℕ) → Bool
-inSome m [] row column = false
-inSome m (κ ∷ blocks) row column = inBlock m κ row column || inSome m blocks row column
 
 some-none : (m row column : ℕ) → inSome m [] row column ≡ false
 unfolding inSome
