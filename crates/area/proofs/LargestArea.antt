@@ -13,7 +13,7 @@ use Rattle.keys.specs.Under.{here, nw, ne, sw, se, MapBlock}
 use Rattle.keys.proofs.Under.{under-trans}
 use Rattle.keys.proofs.Valid.{block-valid}
 use Rattle.definitions.specs.Picture.{Picture}
-use Rattle.definitions.specs.Window.{isWindow, inWindow, isGiven, selectFrom, selectIn}
+use Rattle.definitions.specs.Window.{isWindow, inWindow, isGiven, blocksFrom, selectFrom, selectIn}
 use Rattle.definitions.specs.Area.{areaIn, pixelsWith}
 use Rattle.definitions.specs.declared.Window.{Window}
 use Rattle.laws.proofs.SelectMeans.{given-inside}
@@ -59,7 +59,7 @@ module _ (m : ℕ) (p : Picture) (f : ℕ) where
         (λ outside. sym (sum-zero (oneInside p w f) r c ∙ ap (λ x. cond (x && eqb (p r c) f) 1 0) outside))
 
     under : (k : ℕ) {r c κ : ℕ} → MapBlock m k r c κ → featurePixels (selectFrom blank w 0 k r c κ) ≡ sumPixels (oneInside p w f) k r c
-    unfolding selectFrom
+    unfolding blocksFrom isGiven
     under zero {r} {c} b =
         decide (isGiven blank w 0 zero r c)
         (λ e. rw e (whole b e))

@@ -19,7 +19,8 @@ use Rattle.list.specs.Check.{oneSlot}
 use Rattle.list.specs.Shown.{ShownAt}
 use Rattle.list.proofs.OneSlot.{slot-power}
 use Rattle.list.proofs.Shown.{shown-room, leaf-one, leaf-feature, leaf-length, node-several}
-use Rattle.list.proofs.ShownQuadrants.{quadrantRow, quadrantColumn, Left, left-all, left-shown, left-then, left-none}
+use Rattle.list.proofs.ShownQuadrants.{Left, left-all, left-shown, left-then, left-none}
+use Rattle.list.specs.Quadrants.{quadrantRow, quadrantColumn}
 use Rattle.summary.specs.Count.{NodeAt}
 use Rattle.summary.proofs.CountTurn.{firstPixels, first-none, first-more, first-all, first-room, quarter-is, shown-node}
 use Rattle.area.specs.Tally.{BlockTallied, NodeTallied}

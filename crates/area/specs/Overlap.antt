@@ -3,6 +3,7 @@
 use Prim.Native.Nat.{ℕ, _+_, _-_, _*_, _≤_, _<_, min}
 use mathlib.Core.Bool.{Bool, _&&_}
 use lib.Dec.{leb}
+use Rattle.keys.specs.Key.{deepestSide}
 use Rattle.definitions.specs.declared.Window.{Window}
 use Rattle.walk.specs.Walk.{isWithin}
 use Rattle.walk.specs.declared.Spot.{Spot}
@@ -13,8 +14,8 @@ common first side start length = min (first + side) (start + length) - (start + 
 
 -- two runs of rows or columns of a raster that have some in common
 pub record Crossing (first side start length : ℕ) : Type 0 where
-  pub end : first + side ≤ 1024
-  pub past : start + length ≤ 1024
+  pub end : first + side ≤ deepestSide
+  pub past : start + length ≤ deepestSide
   pub before-end : start < first + side
   pub before-past : first < start + length
 

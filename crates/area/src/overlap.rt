@@ -2,6 +2,7 @@
 ghost use mathlib.Core.Path.{_≡_};
 ghost use mathlib.Core.Bool.{false};
 ghost use Prim.Native.Nat.{_+_, _-_, _≤_, min};
+ghost use Rattle.keys.specs.Key.{deepestSide};
 ghost use Rattle.walk.specs.Walk.{Small, isApart};
 ghost use Rattle.area.specs.Overlap.{Crossing, common, overlapOf, isSummed};
 use definitions::Window;
@@ -24,7 +25,7 @@ fn earlier(end: u32, past: u32) -> u32
 // How many rows, or columns, two runs of them have in common.
 fn shared(first: u32, side: u32, start: u32, length: u32) -> u32
     requires { ⌜ Crossing first side start length ⌝ }
-    ensures { λ r. ⌜ (r ≡ common first side start length) × (r ≤ 1024) ⌝ }
+    ensures { λ r. ⌜ (r ≡ common first side start length) × (r ≤ deepestSide) ⌝ }
 {
     earlier(first + side, start + length) - later(first, start)
 }

@@ -6,7 +6,7 @@ use mathlib.Core.Bool.{false, cond}
 use mathlib.Core.List.{List}
 use lib.ListN.{length, getD, drop, set}
 use lib.Seq.{sets}
-use Rattle.keys.specs.Key.{slotLimit}
+use Rattle.keys.specs.Key.{slotLimit, allKeys, deepestSide}
 use Rattle.definitions.specs.Picture.{Picture, oneFeature}
 use Rattle.definitions.specs.Bits.{unionOfFour, bitsOf}
 use Rattle.list.specs.Check.{oneSlot}
@@ -24,7 +24,7 @@ wordAt raster i = getD raster i 0 + 256 * getD raster (i + 1) 0 + 65536 * getD r
 pub record Inside (raster : List ℕ) (side height row column : ℕ) : Type 0 where
   pub deep : height ≤ 10
   pub square : length raster ≡ side * side
-  pub narrow : side ≤ 1024
+  pub narrow : side ≤ deepestSide
   pub rows : row + 2 ^ height ≤ side
   pub columns : column + 2 ^ height ≤ side
   pub features : (i : ℕ) → getD raster i 0 < slotLimit
@@ -41,15 +41,15 @@ pub record Tallied (p : Picture) (height row column bits count : ℕ) : Type 0 w
 
 -- a block whose record is to stand at a place has room for what is below it; a block of one feature has nothing below it
 pub record Fitting (p : Picture) (height row column key place : ℕ) (keys bits : List ℕ) : Type 0 where
-  pub key-fits : key + 5 ^ height ≤ 5 ^ 10
+  pub key-fits : key + 5 ^ height ≤ allKeys
   pub place-fits : place ≤ key
   pub keys-room : oneFeature p height row column ≡ false → place + length (listOf p height row column key) ≤ length keys
   pub bits-room : oneFeature p height row column ≡ false → place + length (listOf p height row column key) ≤ length bits
 
 -- four places in their order; there is room for all where something is to be written
 pub record FourAsked (key step place union second third fourth : ℕ) (keys bits : List ℕ) : Type 0 where
-  pub key-fits : key + 4 * step ≤ 5 ^ 10
-  pub place-fits : place ≤ 5 ^ 10
+  pub key-fits : key + 4 * step ≤ allKeys
+  pub place-fits : place ≤ allKeys
   pub first-second : place + 1 < second
   pub second-third : second < third
   pub third-fourth : third < fourth

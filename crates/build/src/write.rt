@@ -1,6 +1,7 @@
 // Writing the records below a block by its four quadrants, the side halved each time.
 ghost use mathlib.Core.Path.{_≡_};
 ghost use Prim.Native.Nat.{_+_, _^_, _≤_, _<_};
+ghost use Rattle.keys.specs.Key.{allKeys};
 ghost use Rattle.definitions.specs.Bits.{unionOfFour};
 ghost use Rattle.build.specs.BuildBlocks.{pictureOfRows, Inside, FourAsked, FourWritten, Fitting, Written};
 use crate::pixels;
@@ -56,7 +57,7 @@ pub fn write_four(
 
 // A pixel has no records below it.
 fn write_pixel(raster: &[u8], side: usize, row: usize, column: usize, place: usize) -> Below
-    requires { ⌜ Inside (now raster) side 0 row column × (place ≤ 5 ^ 10) ⌝ }
+    requires { ⌜ Inside (now raster) side 0 row column × (place ≤ allKeys) ⌝ }
     ensures { λ r. ⌜ (r .bits ≡ 2 ^ pictureOfRows side (now (raster .entry)) row column) × (r .next ≡ place + 1) ⌝ }
 {
     let bits = pixels::pixel(raster, side, row, column);

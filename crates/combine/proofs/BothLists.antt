@@ -9,7 +9,7 @@ use Rattle.keys.specs.Key.{childKey}
 use Rattle.keys.specs.Under.{Under, here, nw, ne, sw, se}
 use Rattle.definitions.specs.Picture.{Picture}
 use Rattle.laws.proofs.Features.{below-under}
-use Rattle.list.proofs.ShownQuadrants.{quadrantRow, quadrantColumn}
+use Rattle.list.specs.Quadrants.{quadrantRow, quadrantColumn}
 use Rattle.combine.specs.Combining.{Entered, Seen, Passes, AllPass, Named}
 use Rattle.combine.proofs.OneList.{WaitingQuarters, quarters-all, quarter-at, quarter-next, quarters-none}
 use Rattle.combine.proofs.TwoLeaves.{notBoth, not-pixel}

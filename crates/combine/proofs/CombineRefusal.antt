@@ -3,7 +3,7 @@
 use Prim.Native.Nat.{ℕ, _*_}
 use mathlib.Core.Path.{_≡_, refl, sym, ap, _∙_}
 use mathlib.Core.Bool.{Bool, true, false, cond, not, _||_}
-use mathlib.Core.List.{List, [], _∷_, _++_}
+use mathlib.Core.List.{List, [], _∷_}
 use native.Mathlib.Omega.{arith}
 use lib.Dec.{ltb, eqb}
 use lib.ListN.{length}
@@ -16,22 +16,12 @@ use Rattle.definitions.specs.Refusal.{Row, _gives_, first, accepted, badSetting
 use Rattle.definitions.specs.Combine.{combinedList, badClassTable}
 use Rattle.definitions.specs.Calls.Combine.{combination, combineRefusal, combine, combineKeys, combineBits}
 use Rattle.definitions.specs.declared.Counted.{Counted}
-use Rattle.laws.proofs.First.{NoneHolds, first-none, first-holds, first-later, holds-first, holds-more, accepted-left}
+use Rattle.laws.proofs.First.{first-none, early-first, rest-first, last-row, accepted-left}
 use Rattle.list.proofs.Accepted.{accepted-as-list}
 use Rattle.list.proofs.Own.{own-list}
 use Rattle.list.proofs.Tests.{GoodSettings, good-settings}
 use Rattle.build.proofs.RasterTests.{pixels-below}
 use Rattle.combine.specs.Ready.{earlyRows, CombineReady, resultOf, Answered}
-
--- rows that do not hold are passed over
-none-then : (rows more : List Row) → NoneHolds rows → first (rows ++ more) ≡ first more
-none-then [] more h = refl
-none-then (r ∷ rows) more h = first-later r (rows ++ more) (h .0) ∙ none-then rows more (h .1)
-
--- the one row that is left
-last-row : (test : Bool) (number : ℕ) → first (test gives number ∷ []) ≡ cond test number 0
-unfolding first
-last-row test number = refl
 
 -- an answer by its two numbers
 same-answer : {r r′ n n′ : ℕ} → r ≡ r′ → n ≡ n′ → _≡_ {A = Counted} (record { refusal = r; count = n }) (record { refusal = r′; count = n′ })
@@ -109,14 +99,14 @@ module _ (m₁ s₁ : ℕ) (keys₁ bits₁ : List ℕ) (n₁ m₂ s₂ : ℕ) (
   module _ (keys bits : List ℕ) where
     refusal-early : (r : ℕ) → r ≡ first early → (r ≡ 0 → ⊥) → combineRefusal m₁ s₁ keys₁ bits₁ n₁ m₂ s₂ keys₂ bits₂ n₂ s₃ table keys bits ≡ r
     unfolding combineRefusal
-    refusal-early r e h = holds-first (holds-more _ (first-holds r early h (sym e)))
+    refusal-early r e h = sym (early-first r early _ e h)
 
     refusal-last : first early ≡ 0
         → combineRefusal m₁ s₁ keys₁ bits₁ n₁ m₂ s₂ keys₂ bits₂ n₂ s₃ table keys bits
         ≡ cond (ltb (room keys bits) (length (resultOf m₁ keys₁ bits₁ n₁ keys₂ bits₂ n₂ table s₂))) 9 0
     unfolding combineRefusal combination combinedList
     refusal-last e =
-        none-then early (ltb (room keys bits) (length (resultOf m₁ keys₁ bits₁ n₁ keys₂ bits₂ n₂ table s₂)) gives 9 ∷ []) (first-none early refl e)
+        sym (rest-first early (ltb (room keys bits) (length (resultOf m₁ keys₁ bits₁ n₁ keys₂ bits₂ n₂ table s₂)) gives 9 ∷ []) (first-none early refl e))
         ∙ last-row _ 9
 
     -- what a call that is refused early answers and leaves

@@ -21,7 +21,8 @@ use Rattle.laws.proofs.ListOf.{list-one}
 use Rattle.list.specs.Check.{oneSlot}
 use Rattle.list.proofs.OneSlot.{none-slot}
 use Rattle.list.proofs.Shown.{slot-one, slot-feature, shown-value, node-several}
-use Rattle.list.proofs.ShownQuadrants.{quadrantRow, quadrantColumn, Left, left-all, left-shown, left-then, left-none}
+use Rattle.list.proofs.ShownQuadrants.{Left, left-all, left-shown, left-then, left-none}
+use Rattle.list.specs.Quadrants.{quadrantRow, quadrantColumn}
 use Rattle.combine.specs.Combining.{At, leafOf, Entered, passing}
 
 leaf-one : (b : ℕ) → oneSlot b ≡ true → leafOf b ≡ b

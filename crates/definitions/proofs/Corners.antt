@@ -12,7 +12,7 @@ use Rattle.definitions.specs.Bits.{bitsOf, unionOfFour, twosIn, featureO
 use Rattle.definitions.specs.List.{listOf}
 use Rattle.definitions.specs.Read.{paired, valueAt, pictureOf, sameRecords, isListOfBlock, isList}
 use Rattle.definitions.specs.Refusal.{first, badSettings, badLength, badPixel}
-use Rattle.definitions.specs.Window.{isWindow, inWindow, featuresOfRow, featuresOfRows, isGiven, selectFrom, selectIn}
+use Rattle.definitions.specs.Window.{isWindow, inWindow, featuresOfRow, featuresOfRows, isGiven, blocksFrom, selectIn}
 use Rattle.definitions.specs.Area.{countOf, pixelsWith, countsFrom, summaryBelow, summaryOf, sameNumbers, noSummary}
 use Rattle.definitions.specs.Edit.{put, paintIn, contentOf}
 use Rattle.definitions.specs.Log.{closed, entryOf, countRecord, lastRecord, lastKey, lastFeature, lastCount, beforeLast, lastContent, isContent, closes, lastIsEntry, endsInMark, stepCount, stepEntries, beforeEntries, beforeStep, endsInEntries, lastIsGroup, lastIsStep, dividesIn, isSound, putBack, paintAgain, noLog}
@@ -149,7 +149,7 @@ unfolding
     everyPixel oneFeature featuresBelow bitsOf unionOfFour twosIn featureOf listOf
     paired valueAt pictureOf sameRecords isListOfBlock isList
     first badSettings badLength badPixel
-    isWindow inWindow featuresOfRow featuresOfRows isGiven selectFrom selectIn
+    isWindow inWindow featuresOfRow featuresOfRows isGiven blocksFrom selectIn
     countOf pixelsWith countsFrom summaryBelow summaryOf sameNumbers noSummary
     put paintIn contentOf
     closed entryOf countRecord lastRecord lastKey lastFeature lastCount beforeLast lastContent isContent closes lastIsEntry endsInMark stepCount stepEntries beforeEntries beforeStep endsInEntries lastIsGroup lastIsStep dividesIn isSound putBack paintAgain noLog

@@ -11,7 +11,7 @@ use Rattle.definitions.specs.Bits.{bitsOf, unionOfFour, twosIn, featureO
 use Rattle.definitions.specs.List.{listOf}
 use Rattle.definitions.specs.Read.{paired, valueAt, pictureOf, sameRecords, isListOfBlock, isList}
 use Rattle.definitions.specs.Refusal.{first, badSettings, badLength, badPixel}
-use Rattle.definitions.specs.Window.{isWindow, inWindow, featuresOfRow, featuresOfRows, isGiven, selectFrom, selectIn}
+use Rattle.definitions.specs.Window.{isWindow, inWindow, featuresOfRow, featuresOfRows, isGiven, blocksFrom, selectIn}
 use Rattle.definitions.specs.Edit.{put, paintIn, contentOf}
 use Rattle.definitions.specs.Log.{closed, entryOf, countRecord, lastRecord, lastKey, lastFeature, lastCount, beforeLast, lastContent, isContent, closes, lastIsEntry, dividesIn, isSound, noLog}
 use Rattle.definitions.specs.Rules.{findingsOf, allFindings, waiversOf, isWaivedAt, isHidden, liveOf, hiddenCount, isRule, allRules, idsAscend, badRules, findingsAscend, isRuleId, allWaivers, badWaivers}
@@ -88,7 +88,7 @@ unfolding
     everyPixel oneFeature featuresBelow bitsOf unionOfFour twosIn featureOf listOf
     paired valueAt pictureOf sameRecords isListOfBlock isList
     first badSettings badLength badPixel
-    isWindow inWindow featuresOfRow featuresOfRows isGiven selectFrom selectIn
+    isWindow inWindow featuresOfRow featuresOfRows isGiven blocksFrom selectIn
     countOf pixelsWith countsFrom summaryBelow summaryOf sameNumbers noSummary
     put paintIn contentOf
     closed entryOf countRecord lastRecord lastKey lastFeature lastCount beforeLast lastContent isContent closes lastIsEntry dividesIn isSound noLog

@@ -11,7 +11,7 @@ use Rattle.definitions.specs.Bits.{bitsOf, unionOfFour, twosIn, featureO
 use Rattle.definitions.specs.List.{listOf}
 use Rattle.definitions.specs.Read.{paired, valueAt, pictureOf, sameRecords, isListOfBlock, isList}
 use Rattle.definitions.specs.Refusal.{first, badSettings}
-use Rattle.definitions.specs.Window.{isWindow, inWindow, featuresOfRow, featuresOfRows, isGiven, selectFrom, selectIn}
+use Rattle.definitions.specs.Window.{isWindow, inWindow, featuresOfRow, featuresOfRows, isGiven, blocksFrom, selectIn}
 use Rattle.definitions.specs.Rules.{findingsOf, allFindings, isWaivedAt, isHidden, liveOf, hiddenCount, isRule, allRules, idsAscend, badRules, findingsAscend, isRuleId, allWaivers, badWaivers}
 use Rattle.definitions.specs.Offices.{rowsIn, tableOf, rowsOf, rowsAscend, officesKnown, isSoundTable, isTable, rowKeysValid, isRow, added, removed}
 use Rattle.definitions.specs.Calls.Findings.{liveIn, hiddenIn, refusalWith, findingsRefusal}
@@ -75,7 +75,7 @@ unfolding
     everyPixel oneFeature featuresBelow bitsOf unionOfFour twosIn featureOf listOf
     paired valueAt pictureOf sameRecords isListOfBlock isList
     first badSettings
-    isWindow inWindow featuresOfRow featuresOfRows isGiven selectFrom selectIn
+    isWindow inWindow featuresOfRow featuresOfRows isGiven blocksFrom selectIn
     findingsOf allFindings isWaivedAt isHidden liveOf hiddenCount isRule allRules idsAscend badRules findingsAscend isRuleId allWaivers badWaivers
     rowsIn tableOf rowsOf rowsAscend officesKnown isSoundTable isTable rowKeysValid isRow added removed
     liveIn hiddenIn refusalWith tableWith

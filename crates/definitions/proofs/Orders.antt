@@ -13,7 +13,7 @@ use Rattle.definitions.specs.List.{listOf}
 use Rattle.definitions.specs.Read.{paired, valueAt, pictureOf, sameRecords, isListOfBlock, isList}
 use Rattle.definitions.specs.Refusal.{first, badSettings, badLength, badPixel}
 use Rattle.definitions.specs.Standing.{upTo, placeOf, isListed, standingOf, recordsIn, partLength, partOf}
-use Rattle.definitions.specs.Window.{isWindow, inWindow, featuresOfRow, featuresOfRows, featuresIn, occurs, unionOf, existIn, reportIn, isGiven, selectFrom, selectIn}
+use Rattle.definitions.specs.Window.{isWindow, inWindow, featuresOfRow, featuresOfRows, featuresIn, occurs, unionOf, existIn, reportIn, isGiven, blocksFrom, selectIn}
 use Rattle.definitions.specs.Clip.{notBefore, overlapEnd, overlapLength, overlapWindow}
 use Rattle.definitions.specs.Area.{countOf, pixelsWith, countsFrom, summaryBelow, summaryOf, sameNumbers, noSummary}
 use Rattle.definitions.specs.Edit.{put, paintIn, contentOf}
@@ -274,7 +274,7 @@ unfolding
     paired valueAt pictureOf sameRecords isListOfBlock isList
     first badSettings badLength badPixel
     upTo placeOf isListed standingOf recordsIn partLength partOf
-    isWindow inWindow featuresOfRow featuresOfRows featuresIn occurs unionOf existIn reportIn isGiven selectFrom selectIn
+    isWindow inWindow featuresOfRow featuresOfRows featuresIn occurs unionOf existIn reportIn isGiven blocksFrom selectIn
     countOf pixelsWith countsFrom summaryBelow summaryOf sameNumbers noSummary
     put paintIn contentOf
     closed entryOf countRecord lastRecord lastKey lastFeature lastCount beforeLast lastContent isContent closes lastIsEntry endsInMark stepCount stepEntries beforeEntries beforeStep endsInEntries lastIsGroup lastIsStep dividesIn isSound putBack paintAgain firstIn firstStep noLog

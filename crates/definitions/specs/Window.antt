@@ -59,19 +59,26 @@ existIn p w f = occurs f (featuresIn p w)
 unfoldable pub reportIn : (p : Picture) (w : Window) → ℕ
 reportIn p w = unionOf (featuresIn p w)
 
--- all pixels of the block lie in the window and have feature f
-unfoldable pub isGiven : (p : Picture) (w : Window) (f k row column : ℕ) → Bool
-isGiven p w f k row column = everyPixel (λ r c. inWindow w r c && eqb (p r c) f) k row column
+-- the largest blocks at or below the block of height k with key κ of which every pixel passes a test, in key order
+unfoldable pub blocksFrom : (test : ℕ → ℕ → Bool) (k row column κ : ℕ) → List ℕ
+blocksFrom test zero row column κ = cond (everyPixel test zero row column) (κ ∷ []) []
+blocksFrom test (suc k) row column κ =
+    cond (everyPixel test (suc k) row column) (κ ∷ [])
+    (blocksFrom test k row column (childKey κ k 1)
+    ++ (blocksFrom test k row (column + 2 ^ k) (childKey κ k 2)
+    ++ (blocksFrom test k (row + 2 ^ k) column (childKey κ k 3) ++ blocksFrom test k (row + 2 ^ k) (column + 2 ^ k) (childKey κ k 4))))
 
--- the largest such blocks at or below the block of height k with key κ, in key order
-unfoldable pub selectFrom : (p : Picture) (w : Window) (f k row column κ : ℕ) → List ℕ
-selectFrom p w f zero row column κ = cond (isGiven p w f zero row column) (κ ∷ []) []
-selectFrom p w f (suc k) row column κ =
-    cond (isGiven p w f (suc k) row column) (κ ∷ [])
-    (selectFrom p w f k row column (childKey κ k 1)
-    ++ (selectFrom p w f k row (column + 2 ^ k) (childKey κ k 2)
-    ++ (selectFrom p w f k (row + 2 ^ k) column (childKey κ k 3)
-    ++ selectFrom p w f k (row + 2 ^ k) (column + 2 ^ k) (childKey κ k 4))))
+-- the pixel lies in the window and has feature f
+abbrev pub hasIn : (p : Picture) (w : Window) (f row column : ℕ) → Bool
+hasIn p w f row column = inWindow w row column && eqb (p row column) f
+
+-- all pixels of the block do
+unfoldable pub isGiven : (p : Picture) (w : Window) (f k row column : ℕ) → Bool
+isGiven p w f k row column = everyPixel (hasIn p w f) k row column
+
+-- the largest such blocks at or below a block, and of the map
+abbrev pub selectFrom : (p : Picture) (w : Window) (f k row column κ : ℕ) → List ℕ
+selectFrom p w f k row column κ = blocksFrom (hasIn p w f) k row column κ
 
 unfoldable pub selectIn : (m : ℕ) (p : Picture) (w : Window) (f : ℕ) → List ℕ
 selectIn m p w f = selectFrom p w f m 0 0 rootKey
@@ -80,15 +87,9 @@ selectIn m p w f = selectFrom p w f m 0 0 rootKey
 unfoldable pub isInside : (w : Window) (k row column : ℕ) → Bool
 isInside w k row column = everyPixel (inWindow w) k row column
 
--- the largest such blocks at or below the block of height k with key κ, in key order
-unfoldable pub largestFrom : (w : Window) (k row column κ : ℕ) → List ℕ
-largestFrom w zero row column κ = cond (isInside w zero row column) (κ ∷ []) []
-largestFrom w (suc k) row column κ =
-    cond (isInside w (suc k) row column) (κ ∷ [])
-    (largestFrom w k row column (childKey κ k 1)
-    ++ (largestFrom w k row (column + 2 ^ k) (childKey κ k 2)
-    ++ (largestFrom w k (row + 2 ^ k) column (childKey κ k 3)
-    ++ largestFrom w k (row + 2 ^ k) (column + 2 ^ k) (childKey κ k 4))))
+-- the largest such blocks at or below a block
+abbrev pub largestFrom : (w : Window) (k row column κ : ℕ) → List ℕ
+largestFrom w k row column κ = blocksFrom (inWindow w) k row column κ
 
 -- the largest blocks of a window
 unfoldable pub largestBlocks : (m : ℕ) (w : Window) → List ℕ

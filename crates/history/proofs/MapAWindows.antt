@@ -9,7 +9,7 @@ use Rattle.definitions.specs.Bits.{bitsOf, unionOfFour, twosIn, featureOf}
 use Rattle.definitions.specs.List.{listOf}
 use Rattle.definitions.specs.Read.{paired, valueAt, pictureOf, sameRecords, isListOfBlock, isList}
 use Rattle.definitions.specs.Refusal.{first, badSettings, badLength, badPixel}
-use Rattle.definitions.specs.Window.{isWindow, inWindow, featuresOfRow, featuresOfRows, isInside, largestFrom, largestBlocks}
+use Rattle.definitions.specs.Window.{isWindow, inWindow, featuresOfRow, featuresOfRows, isInside, blocksFrom, largestBlocks}
 use Rattle.definitions.specs.declared.Window.{Window}
 use Rattle.definitions.specs.Area.{countOf, pixelsWith, countsFrom, summaryBelow, summaryOf, sameNumbers, noSummary}
 use Rattle.definitions.specs.Edit.{put, paintIn, fillWindow, contentOf}
@@ -76,7 +76,7 @@ gives : Gives
 unfolding answers answer after afterCalls kept keep withoutLatest withNext built applied drawn pictureLeft rasterLeft
     validKey digitsOf digitsThenZeros onlyZeros levelOf digitsBeforeZero heightOf rowOf columnOf sideOf inBlock pixelKey
     everyPixel oneFeature featuresBelow bitsOf unionOfFour twosIn featureOf listOf
-    paired valueAt pictureOf sameRecords isListOfBlock isList first badSettings badLength badPixel isWindow inWindow featuresOfRow featuresOfRows isInside largestFrom largestBlocks
+    paired valueAt pictureOf sameRecords isListOfBlock isList first badSettings badLength badPixel isWindow inWindow featuresOfRow featuresOfRows isInside blocksFrom largestBlocks
     countOf pixelsWith countsFrom summaryBelow summaryOf sameNumbers noSummary put paintIn fillWindow contentOf
     closed entryOf grouped entriesOf groupOf countRecord lastRecord lastKey lastFeature lastCount beforeLast lastContent isContent closes lastIsEntry
     endsInMark stepCount stepEntries beforeEntries beforeStep endsInEntries lastIsGroup lastIsStep dividesIn isSound firstIn firstStep putBack paintAgain noLog

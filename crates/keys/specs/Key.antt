@@ -12,6 +12,14 @@ rootKey = 0
 abbrev pub deepestLevel : ℕ
 deepestLevel = 10
 
+-- the side of the largest raster
+abbrev pub deepestSide : ℕ
+deepestSide = 2 ^ deepestLevel
+
+-- the keys of the largest raster are below this number, and no list has more records
+abbrev pub allKeys : ℕ
+allKeys = 5 ^ deepestLevel
+
 -- the largest number of slots
 abbrev pub slotLimit : ℕ
 slotLimit = 32

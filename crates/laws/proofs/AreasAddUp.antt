@@ -1,20 +1,20 @@
 -- The areas of all features below s add up: in a window to height * width, over the whole raster to T * T. They are counted from the pixels and not
--- from stored sums. Rests on WindowScan.
+-- from stored sums. Rests on RasterOf and WindowScan.
 use Prim.Native.Nat.{ℕ, zero, suc, _+_, _*_, _^_, _≤_, _<_}
 use mathlib.Core.Path.{_≡_, refl, sym, _∙_, ap, ap₂}
 use mathlib.Core.Bool.{true, cond}
 use mathlib.Core.List.{List, [], _∷_, List·Memᴰ, List·Memᴰ·head, List·Memᴰ·tail}
-use native.Mathlib.Nat.{suc-mul, zero-mul}
 use native.Mathlib.Omega.{arith}
-use lib.ListN.{length, length-append}
+use lib.ListN.{length}
 use lib.Dec.{eqb}
 use borrow.Author.Tests.{eq-eqb, ne-eqb}
 use Rattle.keys.proofs.Cases.{equal}
 use Rattle.keys.specs.Under.{Every}
 use Rattle.definitions.specs.Picture.{Picture}
-use Rattle.definitions.specs.Window.{inWindow, featuresOfRow, featuresOfRows, featuresIn}
+use Rattle.definitions.specs.Window.{inWindow, featuresOfRows, featuresIn}
 use Rattle.definitions.specs.Area.{countOf, areaIn, pixelsWith, sumBelow}
 use Rattle.definitions.specs.declared.Window.{Window}
+use Rattle.laws.proofs.RasterOf.{rows-length}
 use Rattle.laws.proofs.WindowScan.{inside-window, scanned-pixel}
 
 nothing-below : (s : ℕ) → sumBelow (λ f. countOf f []) s ≡ 0
@@ -58,20 +58,6 @@ counts-add-up s (x ∷ xs) h =
     first-counted s x xs
     ∙ ap₂ (λ a b. a + b) (once-below x s (h x (List·Memᴰ·head refl))) (counts-add-up s xs (λ y i. h y (List·Memᴰ·tail i)))
     ∙ omega arith
-
-row-length : (p : Picture) (r c width : ℕ) → length (featuresOfRow p r c width) ≡ width
-unfolding featuresOfRow
-row-length p r c zero = refl
-row-length p r c (suc width) = ap suc (row-length p r (suc c) width)
-
--- how many pixels a rectangle has
-pub rows-length : (p : Picture) (r c width height : ℕ) → length (featuresOfRows p r c width height) ≡ height * width
-unfolding featuresOfRows
-rows-length p r c width zero = sym (zero-mul width)
-rows-length p r c width (suc height) =
-    length-append (featuresOfRow p r c width) (featuresOfRows p (suc r) c width height)
-    ∙ ap₂ (λ a b. a + b) (row-length p r c width) (rows-length p (suc r) c width height)
-    ∙ (let e = suc-mul height width in omega arith)
 
 -- the areas of all features in a window add up to its pixels
 pub areas-add-up : (p : Picture) (w : Window) (s : ℕ) → ((r c : ℕ) → inWindow w r c ≡ true → p r c < s) → sumBelow (areaIn p w) s ≡ w .height * w .width

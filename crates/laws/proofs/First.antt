@@ -8,7 +8,7 @@ use mathlib.Core.List.{List, [], _∷_, _++_}
 use lib.Dec.{eqb}
 use borrow.Author.Tests.{eqb-false, eq-eqb, ne-eqb, not-true}
 use Rattle.keys.proofs.Cases.{decide, and-left, and-right}
-use Rattle.definitions.specs.Refusal.{Row, first, accepted}
+use Rattle.definitions.specs.Refusal.{Row, _gives_, first, accepted}
 
 -- every row has a number, which is not 0; of a written table this holds by computation
 abbrev pub numbered : List Row → Bool
@@ -74,6 +74,20 @@ first-holds k (r ∷ rs) not-zero e =
     decide (r .test)
     (λ holds. this holds (sym (first-this r rs holds) ∙ e))
     (λ fails. later fails (first-holds k rs not-zero (sym (first-later r rs fails) ∙ e)))
+
+-- rows of which one gives a number decide, whatever follows
+pub early-first : (k : ℕ) (rows more : List Row) → k ≡ first rows → (k ≡ 0 → ⊥) → k ≡ first (rows ++ more)
+early-first k rows more e not-zero = sym (holds-first (holds-more more (first-holds k rows not-zero (sym e))))
+
+-- rows of which none holds are passed over
+pub rest-first : (rows more : List Row) → NoneHolds rows → first more ≡ first (rows ++ more)
+rest-first [] more h = refl
+rest-first (r ∷ rs) more h = rest-first rs more (h .1) ∙ sym (first-later r (rs ++ more) (h .0))
+
+-- the one row that is left
+pub last-row : (test : Bool) (number : ℕ) → first (test gives number ∷ []) ≡ cond test number 0
+unfolding first
+last-row test number = refl
 
 -- a number other than 0 is given exactly when some row with that number holds and no earlier row does
 pub first-exactly : (k : ℕ) (rows : List Row) → (k ≡ 0 → ⊥) → (first rows ≡ k) ↔ FirstHolds k rows

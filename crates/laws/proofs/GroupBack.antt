@@ -19,14 +19,16 @@ use Rattle.definitions.specs.Edit.{put, paintIn, fillWindow, contentOf}
 use Rattle.definitions.specs.Log.{entryOf, entriesOf, lastKey, lastFeature, lastContent, beforeLast, beforeEntries, putBack, paintAgain}
 use Rattle.definitions.specs.Window.{inWindow, largestBlocks}
 use Rattle.definitions.specs.declared.Window.{Window}
+use Rattle.definitions.specs.Covered.{inSome}
 use Rattle.laws.proofs.Pixels.{Agree}
 use Rattle.laws.proofs.ReadBack.{block-back}
 use Rattle.laws.proofs.Put.{put-in, put-out}
 use Rattle.laws.proofs.LastEntry.{last-key, last-feature, last-content}
-use Rattle.laws.proofs.LargestBlocks.{BlocksInOrder, no-block, block, largest-in-order}
-use Rattle.laws.proofs.LargestPixels.{inSome, largest-pixels}
+use Rattle.laws.proofs.LargestBlocks.{largest-in-order}
+use Rattle.laws.proofs.LargestPixels.{largest-pixels}
 use Rattle.laws.proofs.WindowPaint.{paint-pixel, one-of-two, fill-out}
 use Rattle.laws.proofs.GroupStep.{entries-of-before}
+use Rattle.laws.proofs.BlocksFrom.{BlocksInOrder, no-block, block}
 
 -- the content of a block shows the picture there
 pub content-back : (m κ : ℕ) (p : Picture) → validKey m κ ≡ true → Agree (pictureOf m (contentOf m p κ)) p (heightOf m κ) (rowOf m κ) (columnOf m κ)

@@ -18,8 +18,9 @@ use Rattle.laws.proofs.Features.{below-under}
 use Rattle.laws.proofs.ContentOf.{content-from}
 use Rattle.laws.proofs.LogEntries.{Entries, none, more, numberIn, entries-before}
 use Rattle.laws.proofs.LastStep.{IsStep, single, group}
-use Rattle.laws.proofs.LargestBlocks.{BlocksInOrder, no-block, block, largest-in-order}
+use Rattle.laws.proofs.LargestBlocks.{largest-in-order}
 use Rattle.laws.proofs.LargestPixels.{largest-some}
+use Rattle.laws.proofs.BlocksFrom.{BlocksInOrder, no-block, block}
 
 -- the records are so many entries
 pub record SoMany (m s : ℕ) (log : List Record) (number : ℕ) : Type 0 where

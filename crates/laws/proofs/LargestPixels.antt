@@ -1,4 +1,5 @@
--- The largest blocks of a window have together exactly its pixels, so a window of the raster has one at least (specification S6.12). Rests on LargestBlocks.
+-- The largest blocks of which every pixel passes a test have together exactly the pixels that pass. So those of a window have its pixels, and a window of the
+-- raster has one at least (specification S6.12). Rests on BlocksFrom.
 use Prim.Native.Nat.{ℕ, zero, suc, _+_, _^_, _≤_, _<_}
 use mathlib.Core.Path.{_≡_, refl, sym, ap, ap₂, _∙_}
 use mathlib.Core.Logic.{⊎-elim}
@@ -15,17 +16,14 @@ use Rattle.keys.specs.Under.{here, nw, ne, sw, se, MapBlock, InSquare}
 use Rattle.keys.proofs.Under.{under-trans}
 use Rattle.keys.proofs.Pixel.{inside}
 use Rattle.keys.proofs.InBlock.{inBlock-iff}
-use Rattle.definitions.specs.Window.{isWindow, inWindow, isInside, largestFrom, largestBlocks}
+use Rattle.definitions.specs.Picture.{everyPixel}
+use Rattle.definitions.specs.Window.{isWindow, inWindow, blocksFrom, largestBlocks}
+use Rattle.definitions.specs.Covered.{inSome}
 use Rattle.definitions.specs.declared.Window.{Window}
 use Rattle.laws.proofs.Within.{within-cases, pixel-row, pixel-column}
 use Rattle.laws.proofs.Pixels.{every-to, every-from}
 use Rattle.laws.proofs.WindowScan.{window-inside}
-use Rattle.laws.proofs.LargestBlocks.{BlocksInOrder, no-block, block, covered-one, covered-none, covered-part}
-
--- some block of a list of keys has the pixel
-unfoldable pub inSome : (m : ℕ) (blocks : List ℕ) (row column : ℕ) → Bool
-inSome m [] row column = false
-inSome m (κ ∷ blocks) row column = inBlock m κ row column || inSome m blocks row column
+use Rattle.laws.proofs.BlocksFrom.{BlocksInOrder, no-block, block, blocks-one, blocks-none, blocks-part}
 
 some-none : (m row column : ℕ) → inSome m [] row column ≡ false
 unfolding inSome
@@ -56,7 +54,7 @@ some-of-four {ℓ} : {C : Type ℓ} (m : ℕ) (a b c d : List ℕ) (row column :
 some-of-four m a b c d row column in-a in-b in-c in-d =
     some-either m a (b ++ (c ++ d)) row column in-a (some-either m b (c ++ d) row column in-b (some-either m c d row column in-c in-d))
 
--- one block alone: a pixel of it, and that a pixel of a block in the window lies there
+-- one block alone: a pixel of it lies there
 itself : {m k r c κ : ℕ} → MapBlock m k r c κ → (row column : ℕ) → InSquare k r c row column → inSome m (κ ∷ []) row column ≡ true
 unfolding inSome
 itself {m} {κ = κ} b row column i = or-left (inBlock m κ row column) false (inBlock-iff row column b .1 i)
@@ -65,64 +63,67 @@ or-false : (a : Bool) → a || false ≡ a
 or-false true = refl
 or-false false = refl
 
-covered-inside : {m k r c κ : ℕ} (w : Window) → MapBlock m k r c κ → (row column : ℕ) → isInside w k r c ≡ true → inSome m (κ ∷ []) row column ≡ true
-    → inWindow w row column ≡ true
-unfolding isInside inSome
-covered-inside {m} {k} {r} {c} {κ} w b row column e h =
-    every-to (inWindow w) k r c e row column (inBlock-iff row column b .0 (sym (or-false (inBlock m κ row column)) ∙ h))
+module _ (m : ℕ) (test : ℕ → ℕ → Bool) where
+  all-pass : {k r c κ : ℕ} → MapBlock m k r c κ → (row column : ℕ) → everyPixel test k r c ≡ true → inSome m (κ ∷ []) row column ≡ true
+      → test row column ≡ true
+  unfolding inSome
+  all-pass {k} {r} {c} {κ} b row column e h =
+      every-to test k r c e row column (inBlock-iff row column b .0 (sym (or-false (inBlock m κ row column)) ∙ h))
 
-pixel-covered : (w : Window) (r c : ℕ) → inWindow w r c ≡ true → isInside w 0 r c ≡ true
-unfolding isInside
-pixel-covered w r c h = every-from (inWindow w) 0 r c (λ row column i. ap₂ (inWindow w) (pixel-row i) (pixel-column i) ∙ h)
+  pixel-passes : (r c : ℕ) → test r c ≡ true → everyPixel test 0 r c ≡ true
+  pixel-passes r c h = every-from test 0 r c (λ row column i. ap₂ test (pixel-row i) (pixel-column i) ∙ h)
 
--- a pixel of one of the largest blocks lies in the window
-all-inside : {m : ℕ} (w : Window) (k : ℕ) {r c κ : ℕ} → MapBlock m k r c κ → (row column : ℕ) → inSome m (largestFrom w k r c κ) row column ≡ true
-    → inWindow w row column ≡ true
-all-inside {m} w zero {r} {c} {κ} b row column h =
-    decide (isInside w 0 r c)
-    (λ e. covered-inside w b row column e (rw (covered-one w 0 r c κ e) at h))
-    (λ e. absurd (true≢false (sym (rw (covered-none w r c κ e) at h) ∙ some-none m row column)))
-all-inside {m} w (suc k) {r} {c} {κ} b row column h =
-    decide (isInside w (suc k) r c)
-    (λ e. covered-inside w b row column e (rw (covered-one w (suc k) r c κ e) at h))
-    (λ e. some-of-four m (largestFrom w k r c (childKey κ k 1)) (largestFrom w k r (c + 2 ^ k) (childKey κ k 2))
-    (largestFrom w k (r + 2 ^ k) c (childKey κ k 3)) (largestFrom w k (r + 2 ^ k) (c + 2 ^ k) (childKey κ k 4)) row column
-    (all-inside w k (under-trans b (nw here)) row column)
-    (all-inside w k (under-trans b (ne here)) row column)
-    (all-inside w k (under-trans b (sw here)) row column)
-    (all-inside w k (under-trans b (se here)) row column)
-    (rw (covered-part w k r c κ e) at h))
+  -- a pixel of one of the blocks passes
+  all-inside : (k : ℕ) {r c κ : ℕ} → MapBlock m k r c κ → (row column : ℕ) → inSome m (blocksFrom test k r c κ) row column ≡ true → test row column ≡ true
+  all-inside zero {r} {c} {κ} b row column h =
+      decide (everyPixel test 0 r c)
+      (λ e. all-pass b row column e (rw (blocks-one test 0 r c κ e) at h))
+      (λ e. absurd (true≢false (sym (rw (blocks-none test r c κ e) at h) ∙ some-none m row column)))
+  all-inside (suc k) {r} {c} {κ} b row column h =
+      decide (everyPixel test (suc k) r c)
+      (λ e. all-pass b row column e (rw (blocks-one test (suc k) r c κ e) at h))
+      (λ e. some-of-four m (blocksFrom test k r c (childKey κ k 1)) (blocksFrom test k r (c + 2 ^ k) (childKey κ k 2))
+      (blocksFrom test k (r + 2 ^ k) c (childKey κ k 3)) (blocksFrom test k (r + 2 ^ k) (c + 2 ^ k) (childKey κ k 4)) row column
+      (all-inside k (under-trans b (nw here)) row column)
+      (all-inside k (under-trans b (ne here)) row column)
+      (all-inside k (under-trans b (sw here)) row column)
+      (all-inside k (under-trans b (se here)) row column)
+      (rw (blocks-part test k r c κ e) at h))
 
--- a pixel of the window in a block of the map lies in one of the largest blocks under it
-all-covered : {m : ℕ} (w : Window) (k : ℕ) {r c κ : ℕ} → MapBlock m k r c κ → (row column : ℕ) → InSquare k r c row column → inWindow w row column ≡ true
-    → inSome m (largestFrom w k r c κ) row column ≡ true
-all-covered {m} w zero {r} {c} {κ} b row column i h =
-    decide (isInside w 0 r c)
-    (λ e. rw (covered-one w 0 r c κ e) (itself b row column i))
-    (λ e. absurd (true≢false (sym (pixel-covered w r c (ap₂ (inWindow w) (sym (pixel-row i)) (sym (pixel-column i)) ∙ h)) ∙ e)))
-all-covered {m} w (suc k) {r} {c} {κ} b row column i h =
-    let a : List ℕ = largestFrom w k r c (childKey κ k 1) in
-    let d : List ℕ = largestFrom w k r (c + 2 ^ k) (childKey κ k 2) in
-    let g : List ℕ = largestFrom w k (r + 2 ^ k) c (childKey κ k 3) in
-    let j : List ℕ = largestFrom w k (r + 2 ^ k) (c + 2 ^ k) (childKey κ k 4) in
-    decide (isInside w (suc k) r c)
-    (λ e. rw (covered-one w (suc k) r c κ e) (itself b row column i))
-    (λ e. rw (covered-part w k r c κ e)
-    (within-cases i
-    (λ q. some-left m a (d ++ (g ++ j)) row column (all-covered w k (under-trans b (nw here)) row column q h))
-    (λ q. some-right m a (d ++ (g ++ j)) row column (some-left m d (g ++ j) row column (all-covered w k (under-trans b (ne here)) row column q h)))
-    (λ q. some-right m a (d ++ (g ++ j)) row column
-    (some-right m d (g ++ j) row column (some-left m g j row column (all-covered w k (under-trans b (sw here)) row column q h))))
-    (λ q. some-right m a (d ++ (g ++ j)) row column
-    (some-right m d (g ++ j) row column (some-right m g j row column (all-covered w k (under-trans b (se here)) row column q h))))))
+  -- a pixel of a block of the map that passes lies in one of the blocks under it
+  all-covered : (k : ℕ) {r c κ : ℕ} → MapBlock m k r c κ → (row column : ℕ) → InSquare k r c row column → test row column ≡ true
+      → inSome m (blocksFrom test k r c κ) row column ≡ true
+  all-covered zero {r} {c} {κ} b row column i h =
+      decide (everyPixel test 0 r c)
+      (λ e. rw (blocks-one test 0 r c κ e) (itself b row column i))
+      (λ e. absurd (true≢false (sym (pixel-passes r c (ap₂ test (sym (pixel-row i)) (sym (pixel-column i)) ∙ h)) ∙ e)))
+  all-covered (suc k) {r} {c} {κ} b row column i h =
+      let a : List ℕ = blocksFrom test k r c (childKey κ k 1) in
+      let d : List ℕ = blocksFrom test k r (c + 2 ^ k) (childKey κ k 2) in
+      let g : List ℕ = blocksFrom test k (r + 2 ^ k) c (childKey κ k 3) in
+      let j : List ℕ = blocksFrom test k (r + 2 ^ k) (c + 2 ^ k) (childKey κ k 4) in
+      decide (everyPixel test (suc k) r c)
+      (λ e. rw (blocks-one test (suc k) r c κ e) (itself b row column i))
+      (λ e. rw (blocks-part test k r c κ e)
+      (within-cases i
+      (λ q. some-left m a (d ++ (g ++ j)) row column (all-covered k (under-trans b (nw here)) row column q h))
+      (λ q. some-right m a (d ++ (g ++ j)) row column (some-left m d (g ++ j) row column (all-covered k (under-trans b (ne here)) row column q h)))
+      (λ q. some-right m a (d ++ (g ++ j)) row column
+      (some-right m d (g ++ j) row column (some-left m g j row column (all-covered k (under-trans b (sw here)) row column q h))))
+      (λ q. some-right m a (d ++ (g ++ j)) row column
+      (some-right m d (g ++ j) row column (some-right m g j row column (all-covered k (under-trans b (se here)) row column q h))))))
+
+  -- a pixel of the raster lies in one of the blocks exactly when it passes
+  pub blocks-pixels : (row column : ℕ) → row < 2 ^ m → column < 2 ^ m → inSome m (blocksFrom test m 0 0 rootKey) row column ≡ test row column
+  blocks-pixels row column low narrow =
+      same-test (inSome m (blocksFrom test m 0 0 rootKey) row column) (test row column)
+      (all-inside m here row column)
+      (all-covered m here row column (omega arith))
 
 -- a pixel of the raster lies in one of the largest blocks exactly when it lies in the window
 pub largest-pixels : (m : ℕ) (w : Window) (row column : ℕ) → row < 2 ^ m → column < 2 ^ m → inSome m (largestBlocks m w) row column ≡ inWindow w row column
 unfolding largestBlocks
-largest-pixels m w row column low narrow =
-    same-test (inSome m (largestFrom w m 0 0 rootKey) row column) (inWindow w row column)
-    (all-inside w m here row column)
-    (all-covered w m here row column (omega arith))
+largest-pixels m w row column low narrow = blocks-pixels m (inWindow w) row column low narrow
 
 -- a pixel of one of some blocks in order has its key at or past where they begin
 some-from : {m from until : ℕ} {blocks : List ℕ} → BlocksInOrder m from until blocks → (row column : ℕ) → inSome m blocks row column ≡ true

@@ -16,6 +16,7 @@ pub mod AscendingKeys
 pub mod SelectMeans
 pub mod SelectAscends
 pub mod SelectAgree
+pub mod BlocksFrom
 pub mod LargestBlocks
 pub mod LargestPixels
 pub mod WindowScan

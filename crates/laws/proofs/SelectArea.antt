@@ -12,7 +12,7 @@ use Rattle.keys.specs.Under.{here, nw, ne, sw, se, MapBlock}
 use Rattle.keys.proofs.Under.{under-trans}
 use Rattle.keys.proofs.Valid.{block-valid}
 use Rattle.definitions.specs.Picture.{Picture}
-use Rattle.definitions.specs.Window.{isWindow, inWindow, isGiven, selectFrom, selectIn}
+use Rattle.definitions.specs.Window.{isWindow, inWindow, isGiven, blocksFrom, selectFrom, selectIn}
 use Rattle.definitions.specs.Area.{areaIn}
 use Rattle.definitions.specs.declared.Window.{Window}
 use Rattle.laws.proofs.Pixels.{every-to, every-zero}
@@ -53,7 +53,7 @@ module _ (p : Picture) (w : Window) (f : ℕ) where
   pixel-area m r c e = sym (sum-zero (oneInside p w f) r c ∙ ap (λ x. cond x 1 0) (sym (every-zero (λ x y. inWindow w x y && eqb (p x y) f) r c) ∙ e))
 
   select-area : {m : ℕ} (k : ℕ) {r c κ : ℕ} → MapBlock m k r c κ → pixelsOf m (selectFrom p w f k r c κ) ≡ sumPixels (oneInside p w f) k r c
-  unfolding selectFrom
+  unfolding blocksFrom isGiven
   select-area {m} zero {r} {c} b =
       decide (isGiven p w f zero r c)
       (λ e. rw e (given-area b e))

@@ -1,5 +1,5 @@
 -- Select gives a block exactly when all its pixels lie in the window and have feature f, and it is the outer block (the root) or its parent does
--- not satisfy this (specification S6.7). Rests on Pixels and FourLists.
+-- not satisfy this (specification S6.7). Rests on BlocksFrom and FourLists.
 use Prim.Native.Nat.{ℕ, zero, suc, _+_, _^_}
 use mathlib.Core.Path.{_≡_, refl, sym, subst, _∙_}
 use mathlib.Core.Logic.{_↔_}
@@ -11,10 +11,11 @@ use Rattle.keys.proofs.Cases.{decide, and-left, and-right, and-both}
 use Rattle.keys.specs.Under.{Under, here, nw, ne, sw, se, Quadrant, is-nw, is-ne, is-sw, is-se, InSquare}
 use Rattle.keys.proofs.Under.{under-trans, quadrant-under}
 use Rattle.definitions.specs.Picture.{Picture}
-use Rattle.definitions.specs.Window.{inWindow, isGiven, selectFrom, selectIn}
+use Rattle.definitions.specs.Window.{inWindow, hasIn, isGiven, selectFrom, selectIn}
 use Rattle.definitions.specs.declared.Window.{Window}
 use Rattle.laws.proofs.FourLists.{one-of-four, IntoFour, into-four}
 use Rattle.laws.proofs.Pixels.{every-under, every-to, every-from}
+use Rattle.laws.proofs.BlocksFrom.{blocks-one, blocks-none, blocks-part}
 
 module _ (p : Picture) (w : Window) (f : ℕ) where
   -- each pixel of a given block lies in the window
@@ -66,19 +67,18 @@ module _ (p : Picture) (w : Window) (f : ℕ) where
 
   -- a given block gives itself
   pub select-given : (k r c κ : ℕ) → isGiven p w f k r c ≡ true → selectFrom p w f k r c κ ≡ κ ∷ []
-  unfolding selectFrom
-  select-given zero r c κ e = rw e
-  select-given (suc k) r c κ e = rw e
+  unfolding isGiven
+  select-given k r c κ e = blocks-one (hasIn p w f) k r c κ e
 
   -- a pixel that is not given gives nothing
   pub select-pixel : (r c κ : ℕ) → isGiven p w f 0 r c ≡ false → selectFrom p w f 0 r c κ ≡ []
-  unfolding selectFrom
-  select-pixel r c κ e = rw e
+  unfolding isGiven
+  select-pixel r c κ e = blocks-none (hasIn p w f) r c κ e
 
   -- a larger block that is not given gives what its quadrants give
   pub select-quadrants : (k r c κ : ℕ) → isGiven p w f (suc k) r c ≡ false → selectFrom p w f (suc k) r c κ ≡ fromQuadrants k r c κ
-  unfolding selectFrom
-  select-quadrants k r c κ e = rw e
+  unfolding isGiven
+  select-quadrants k r c κ e = blocks-part (hasIn p w f) k r c κ e
 
   largest-over : {k r c κ r′ c′ κ′ k₂ r₂ c₂ κ₂ : ℕ} → isGiven p w f (suc k) r c ≡ false → Quadrant k r c κ r′ c′ κ′
       → Largest k r′ c′ κ′ k₂ r₂ c₂ κ₂ → Largest (suc k) r c κ k₂ r₂ c₂ κ₂

@@ -18,11 +18,13 @@ use Rattle.definitions.specs.Edit.{paintIn, fillWindow, contentOf}
 use Rattle.definitions.specs.Log.{closed, entryOf, entriesOf}
 use Rattle.definitions.specs.Window.{inWindow, largestBlocks}
 use Rattle.definitions.specs.declared.Window.{Window}
+use Rattle.definitions.specs.Covered.{inSome}
 use Rattle.laws.proofs.Pixels.{Agree}
 use Rattle.laws.proofs.ListOf.{list-agree}
 use Rattle.laws.proofs.Put.{put-in, put-out}
-use Rattle.laws.proofs.LargestBlocks.{BlocksInOrder, no-block, block, largest-in-order}
-use Rattle.laws.proofs.LargestPixels.{inSome, largest-pixels}
+use Rattle.laws.proofs.LargestBlocks.{largest-in-order}
+use Rattle.laws.proofs.LargestPixels.{largest-pixels}
+use Rattle.laws.proofs.BlocksFrom.{BlocksInOrder, no-block, block}
 
 -- the blocks painted one after the other, the first first
 unfoldable pub paintedInTurn : (m : ℕ) (blocks : List ℕ) (f : ℕ) (p : Picture) → Picture

@@ -13,20 +13,9 @@ use Rattle.definitions.specs.Picture.{Picture, oneFeature}
 use Rattle.definitions.specs.Bits.{bitsOf}
 use Rattle.definitions.specs.List.{Record, recordOf, valuesOf, listOf}
 use Rattle.laws.proofs.ListOf.{list-node}
+use Rattle.list.specs.Quadrants.{quadrantRow, quadrantColumn}
 use Rattle.list.specs.Shown.{ShownAt}
 use Rattle.list.proofs.Shown.{two-values}
-
--- the quadrants of a block one after the other, numbered from 0: first row and first column
-unfoldable pub quadrantRow : ℕ → ℕ → ℕ → ℕ
-quadrantRow zero row half = row
-quadrantRow (suc zero) row half = row
-quadrantRow (suc (suc d)) row half = row + half
-
-unfoldable pub quadrantColumn : ℕ → ℕ → ℕ → ℕ
-quadrantColumn zero column half = column
-quadrantColumn (suc zero) column half = column + half
-quadrantColumn (suc (suc zero)) column half = column
-quadrantColumn (suc (suc (suc d))) column half = column + half
 
 -- the list of a quadrant, and those of the quadrants from one on, so many as are left
 abbrev pub quadrantList : Picture → ℕ → ℕ → ℕ → ℕ → ℕ → List Record
@@ -40,7 +29,7 @@ last-nil : (e : Record) (a b c d : List Record) → e ∷ (a ++ (b ++ (c ++ d)))
 last-nil e a b c d = sym (simp append-nil)
 
 -- all four are the node's own
-lists-all : (p : Picture) (k r c κ : ℕ) → oneFeature p (suc k) r c ≡ false → listOf p (suc k) r c κ ≡ recordOf κ (bitsOf p (suc k) r c) ∷ listsFrom p k r c κ 0 4
+pub lists-all : (p : Picture) (k r c κ : ℕ) → oneFeature p (suc k) r c ≡ false → listOf p (suc k) r c κ ≡ recordOf κ (bitsOf p (suc k) r c) ∷ listsFrom p k r c κ 0 4
 unfolding listsFrom quadrantRow quadrantColumn
 lists-all p k r c κ several = list-node p k r c κ several ∙ last-nil _
     (listOf p k r c (childKey κ k 1))

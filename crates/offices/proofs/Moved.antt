@@ -6,7 +6,8 @@ use mathlib.Core.Bool.{true}
 use mathlib.Core.List.{List, [], _∷_, _++_, map, append-assoc}
 use native.Mathlib.Omega.{arith}
 use lib.ListN.{length, getD, set, take, drop, replicate, length-drop, length-append}
-use lib.Seq.{sets, take-take, take-add, drop-at, length-take-le}
+use lib.Seq.{sets, take-take, length-take-le}
+use Rattle.slices.proofs.Parts.{drop-take}
 use Rattle.slices.proofs.Sets.{sets-parts, sets-snoc}
 use Rattle.definitions.specs.Buffer.{over, replaced}
 use Rattle.definitions.specs.Offices.{Waiver, sameRow, added, removed}
@@ -27,13 +28,6 @@ map-drop f Prim.Native.Nat.zero xs = refl
 map-drop f (suc n) [] = refl
 map-drop f (suc n) (x ∷ xs) = map-drop f n xs
 
--- what stands from a place to the last of the first ones
-pub drop-take : (l : List ℕ) (rows place : ℕ) → place ≤ rows → rows ≤ length l → drop place (take rows l) ≡ take (rows - place) (drop place l)
-drop-take l rows place low fits =
-    let e : rows ≡ place + (rows - place) = omega arith in
-    let size = length-take-le place l (omega arith) in
-    ap (λ n. drop place (take n l)) e ∙ ap (drop place) (take-add place (rows - place) l) ∙ drop-at (take place l) (take (rows - place) (drop place l)) place size
-
 module _ (l : List ℕ) (rows place number : ℕ) (low : place ≤ rows) (fits : rows < length l) where
   -- a place is made
   pub opened-is : take place (take rows l) ++ (number ∷ drop place (take rows l)) ++ drop (suc rows) l ≡ opened rows place number l
@@ -44,7 +38,7 @@ module _ (l : List ℕ) (rows place number : ℕ) (low : place ≤ rows) (fits :
       sym
       (sets-parts l place (number ∷ take (rows - place) (drop place l)) (omega arith)
       ∙ ap (λ n. take place l ++ ((number ∷ take (rows - place) (drop place l)) ++ drop n l)) end
-      ∙ ap₂ (λ a b. a ++ ((number ∷ b) ++ drop (suc rows) l)) (sym (take-take place rows l low)) (sym (drop-take l rows place low (omega arith)))
+      ∙ ap₂ (λ a b. a ++ ((number ∷ b) ++ drop (suc rows) l)) (sym (take-take place rows l low)) (sym (drop-take place rows l))
       ∙ sym (append-assoc (take place (take rows l)) (number ∷ drop place (take rows l)) (drop (suc rows) l)))
 
 module _ (l : List ℕ) (rows place : ℕ) (low : place < rows) (fits : rows ≤ length l) where
@@ -61,7 +55,7 @@ module _ (l : List ℕ) (rows place : ℕ) (low : place < rows) (fits : rows ≤
       ∙ ap (λ n. take place l ++ ((take (rows - (place + 1)) (drop (place + 1) l) ++ (0 ∷ [])) ++ drop n l)) end
       ∙ ap (λ r. take place l ++ r) (append-assoc (take (rows - (place + 1)) (drop (place + 1) l)) (0 ∷ []) (drop rows l))
       ∙ ap₂ (λ a b. a ++ (b ++ (0 ∷ drop rows l))) (sym (take-take place rows l (omega arith)))
-      (sym (drop-take l rows (place + 1) (omega arith) fits) ∙ ap (λ n. drop n (take rows l)) (sym next))
+      (sym (drop-take (place + 1) rows l) ∙ ap (λ n. drop n (take rows l)) (sym next))
       ∙ sym (append-assoc (take place (take rows l)) (drop (suc place) (take rows l)) (0 ∷ drop rows l)))
 
   -- a store behind the run that was moved

@@ -1,5 +1,5 @@
 -- The rows of one office in a sound table: they stand together, so they are a part of the table's slices; they ascend, and their keys are valid. Rests on
--- Moved and Checked, and on RowOrder and Shares of definitions.
+-- Checked, and on laws' RowOrder and Shares.
 use Prim.Native.Nat.{ℕ, zero, suc, _+_, _-_, _≤_, _<_}
 use mathlib.Core.Path.{_≡_, refl, sym, ap, ap₂, _∙_}
 use mathlib.Core.Bool.{true, false, cond, _&&_}
@@ -11,6 +11,7 @@ use lib.Seq.{take-take, take-all, length-take-le, drop-cons, getD-take}
 use borrow.Author.Tests.{eq-eqb, ne-eqb}
 use Rattle.keys.specs.Key.{validKey}
 use Rattle.keys.proofs.Cases.{equal, and-both}
+use Rattle.slices.proofs.Parts.{drop-take}
 use Rattle.definitions.specs.Rules.{findingOf, waiversOf, comesBefore, findingsAscend}
 use Rattle.definitions.specs.Offices.{Waiver, waivedBy, Holds, rowsIn, tableOf, rowsOf, rowsAscend, officesKnown, rowKeysValid, isTable}
 use Rattle.laws.proofs.FindingOrder.{earlier-test}
@@ -19,7 +20,6 @@ use Rattle.laws.proofs.RowOrder.{RowsAfter, no-row, next-row, ascend-after, asc
 use Rattle.laws.proofs.Shares.{Sound, share-own, share-other, share-none, known-all, known-first, known-rest}
 use Rattle.offices.specs.Own.{keysIn, noRows, offsetOf, ownOf}
 use Rattle.offices.specs.declared.own.Own.{Own}
-use Rattle.offices.proofs.Moved.{drop-take}
 use Rattle.offices.proofs.Checked.{table-holds, table-sound}
 
 -- ---- they stand together
@@ -107,7 +107,7 @@ partOf offset count l = take count (drop offset l)
 
 part-first : (l : List ℕ) (rows offset count : ℕ) → offset + count ≤ rows → rows ≤ length l → partOf offset count (take rows l) ≡ partOf offset count l
 part-first l rows offset count low fits =
-    ap (take count) (drop-take l rows offset (omega arith) fits) ∙ take-take count (rows - offset) (drop offset l) (omega arith)
+    ap (take count) (drop-take offset rows l) ∙ take-take count (rows - offset) (drop offset l) (omega arith)
 
 module _ (offices ids waived : List ℕ) (rows : ℕ) (is : isTable offices ids waived rows ≡ true) where
   abbrev t : List Waiver

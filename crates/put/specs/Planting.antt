@@ -4,6 +4,7 @@ use mathlib.Core.Path.{_≡_}
 use mathlib.Core.List.{List}
 use lib.ListN.{length}
 use lib.Seq.{sets}
+use Rattle.keys.specs.Key.{allKeys}
 use Rattle.definitions.specs.List.{Record, keysOf, valuesOf}
 use Rattle.put.specs.Plant.{digitAt}
 
@@ -19,6 +20,6 @@ pub record Roomy (l : List Record) (at : ℕ) (keys bits : List ℕ) : Type 0 wh
 
 -- from height k on, so many levels up, each block around κ is a quadrant of the next
 pub record Deep (κ k n : ℕ) : Type 0 where
-  pub least : κ < 5 ^ 10
+  pub least : κ < allKeys
   pub most : k + n ≤ 10
   pub digits : (h : ℕ) → k ≤ h → h < k + n → (1 ≤ digitAt h κ) × (digitAt h κ ≤ 4)

@@ -1,5 +1,6 @@
 // The records of a block are exchanged for others: one move of the tail in each slice, and then the new records are written in their places.
 ghost use Prim.Native.Nat.{_+_, _*_, _≤_, _<_, _^_};
+ghost use Rattle.keys.specs.Key.{allKeys};
 ghost use Rattle.definitions.specs.Read.{recordsOf};
 ghost use Rattle.put.specs.Put.{filling, exchanged};
 ghost use Rattle.put.specs.Planting.{WroteFrom};
@@ -20,7 +21,7 @@ fn write_filling(
     content_bits: &[u32],
     count: usize,
 )
-    requires { ⌜ (key < 5 ^ 10) × (top ≤ 10) ⌝ }
+    requires { ⌜ (key < allKeys) × (top ≤ 10) ⌝ }
     requires { ⌜ Copyable at (now keys) (now bits) (now «content_keys») (now «content_bits») count ⌝ }
     ensures { λ _. ⌜ WroteFrom (filling key (recordsOf (now («content_keys» .entry)) (now («content_bits» .entry)) count) top) at
         (now (keys .entry)) (now (bits .entry)) (now (keys .exit)) (now (bits .exit)) (at + count) ⌝ }

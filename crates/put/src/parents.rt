@@ -2,6 +2,7 @@
 ghost use mathlib.Core.Path.{_≡_};
 ghost use Prim.Native.Nat.{_≤_, _<_, _^_};
 ghost use lib.ListN.{length};
+ghost use Rattle.keys.specs.Key.{allKeys};
 ghost use Rattle.definitions.specs.Read.{recordsOf};
 ghost use Rattle.list.specs.Sorted.{Sorted};
 ghost use Rattle.put.specs.Family.{blockBits, childBits, widerBits};
@@ -35,7 +36,7 @@ fn child_bits(keys: &[u32], bits: &[u32], n: usize, own: u32, b: u32, x: u32) ->
 pub fn parent_bits(keys: &[u32], bits: &[u32], n: usize, key: u32, b: u32, step: u32) -> u32
     requires { ⌜ Sorted (now keys) n 0 ⌝ }
     requires { ⌜ n ≤ length (now bits) ⌝ }
-    requires { ⌜ (key < 5 ^ 10) × (1 ≤ step) × (step ≤ 5 ^ 9) ⌝ }
+    requires { ⌜ (key < allKeys) × (1 ≤ step) × (step ≤ 5 ^ 9) ⌝ }
     ensures { λ r. ⌜ r ≡ widerBits (recordsOf (now (keys .entry)) (now (bits .entry)) n) key b step ⌝ }
 {
     let own = Key::enclosing(key, step);

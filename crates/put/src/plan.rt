@@ -3,7 +3,7 @@ ghost use mathlib.Core.Path.{_≡_};
 ghost use mathlib.Core.Bool.{true};
 ghost use Prim.Native.Nat.{_+_, _-_, _*_, _≤_, _<_, _^_};
 ghost use lib.ListN.{length};
-ghost use Rattle.keys.specs.Key.{validKey, heightOf};
+ghost use Rattle.keys.specs.Key.{validKey, heightOf, allKeys};
 ghost use Rattle.definitions.specs.Read.{recordsOf};
 ghost use Rattle.definitions.specs.Standing.{standingOf};
 ghost use Rattle.list.specs.Sorted.{Sorted};
@@ -27,7 +27,7 @@ pub struct Plan {
 // The height of the largest block around key that has the bits b of one feature, where the block of height low has got them: up as long as the
 // parent's bits are the same.
 pub fn climb(m: u32, keys: &[u32], bits: &[u32], n: usize, key: u32, b: u32, low: u32) -> u32
-    requires { ⌜ (m ≤ 10) × (low ≤ m) × (key < 5 ^ 10) ⌝ }
+    requires { ⌜ (m ≤ 10) × (low ≤ m) × (key < allKeys) ⌝ }
     requires { ⌜ Sorted (now keys) n 0 ⌝ }
     requires { ⌜ n ≤ length (now bits) ⌝ }
     ensures { λ r. ⌜ r ≡ climbed (recordsOf (now (keys .entry)) (now (bits .entry)) n) key b (m - low) low ⌝ }

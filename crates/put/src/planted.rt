@@ -2,6 +2,7 @@
 ghost use mathlib.Core.Path.{_≡_};
 ghost use Prim.Native.Nat.{ℕ, _+_, _*_, _≤_, _<_, _^_};
 ghost use lib.ListN.{length};
+ghost use Rattle.keys.specs.Key.{allKeys};
 ghost use Rattle.put.specs.Plant.{digitAt, leaves, front, back};
 ghost use Rattle.put.specs.Planting.{WroteFrom, Roomy, Deep};
 use keys::power;
@@ -17,7 +18,7 @@ fn write_leaves(
     count: u32,
     g: u32,
 ) -> usize
-    requires { ⌜ (at + count ≤ length (now keys)) × (at + count ≤ length (now bits)) × (first + count ≤ 5) × (parent < 5 ^ 10) × (step ≤ 5 ^ 9) ⌝ }
+    requires { ⌜ (at + count ≤ length (now keys)) × (at + count ≤ length (now bits)) × (first + count ≤ 5) × (parent < allKeys) × (step ≤ 5 ^ 9) ⌝ }
     ensures { λ r. ⌜ ((h : ℕ) → step ≡ 5 ^ h
         → WroteFrom (leaves g parent h count first) at (now (keys .entry)) (now (bits .entry)) (now (keys .exit)) (now (bits .exit)) r) ⌝ }
 {
@@ -34,7 +35,7 @@ fn write_leaves(
 
 // Which quadrant the block of height h around key is of its parent, where step is 5 ^ h.
 fn quadrant_at(key: u32, step: u32) -> u32
-    requires { ⌜ (key < 5 ^ 10) × (1 ≤ step) × (step ≤ 5 ^ 9) ⌝ }
+    requires { ⌜ (key < allKeys) × (1 ≤ step) × (step ≤ 5 ^ 9) ⌝ }
     ensures { λ r. ⌜ ((h : ℕ) → step ≡ 5 ^ h → r ≡ digitAt h key) ⌝ }
 {
     let wide = step * 5;

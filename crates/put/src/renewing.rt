@@ -2,6 +2,7 @@
 ghost use mathlib.Core.Path.{_≡_};
 ghost use Prim.Native.Nat.{_-_, _≤_, _<_, _^_};
 ghost use lib.ListN.{length};
+ghost use Rattle.keys.specs.Key.{allKeys};
 ghost use Rattle.definitions.specs.List.{valuesOf};
 ghost use Rattle.definitions.specs.Read.{recordsOf};
 ghost use Rattle.definitions.specs.Buffer.{over};
@@ -14,7 +15,7 @@ use list::standing;
 // The block of the given height around key has got the bits b: each block around it gets the union of its four children's. Only the keys must be
 // in order, since the bits of the blocks above are still old while this runs.
 pub fn renew(m: u32, keys: &[u32], bits: &mut [u32], n: usize, key: u32, height: u32, b: u32)
-    requires { ⌜ (m ≤ 10) × (height ≤ m) × (key < 5 ^ 10) ⌝ }
+    requires { ⌜ (m ≤ 10) × (height ≤ m) × (key < allKeys) ⌝ }
     requires { ⌜ Sorted (now keys) n 0 ⌝ }
     requires { ⌜ n ≤ length (now bits) ⌝ }
     ensures { λ _. ⌜ now (bits .exit)

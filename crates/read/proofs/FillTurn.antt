@@ -16,9 +16,11 @@ use Rattle.definitions.specs.Picture.{Picture, oneFeature}
 use Rattle.definitions.specs.Bits.{featureOf}
 use Rattle.definitions.specs.List.{valuesOf, listOf}
 use Rattle.list.specs.Check.{oneSlot}
-use Rattle.read.specs.Fill.{rectanglePainted, quadrantRow, quadrantColumn, cornerOf, Shows, ShowsNode, BlockFilled, NodeFilled}
+use Rattle.list.specs.Quadrants.{quadrantRow, quadrantColumn}
+use Rattle.list.proofs.ShownQuadrants.{quadrantList, listsFrom, lists-all}
+use Rattle.read.specs.Fill.{rectanglePainted, cornerOf, Shows, ShowsNode, BlockFilled, NodeFilled}
 use Rattle.read.proofs.Rectangle.{rectangle-length}
-use Rattle.read.proofs.Quadrants.{quadrantList, listsFrom, quadrantPainted, paintsFrom, lists-all, paints-all, Passed, Opened, open-next}
+use Rattle.read.proofs.Quadrants.{quadrantPainted, paintsFrom, paints-all, Passed, Opened, open-next}
 use Rattle.read.proofs.Shown.{shows-room, shows-slots, shows-square, leaf-length, leaf-painted, node-asked, node-filled}
 
 -- the corner of a quadrant, by its row and column

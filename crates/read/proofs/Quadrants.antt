@@ -11,16 +11,10 @@ use Rattle.definitions.specs.Picture.{Picture, oneFeature}
 use Rattle.definitions.specs.Bits.{bitsOf}
 use Rattle.definitions.specs.List.{Record, recordOf, valuesOf, listOf}
 use Rattle.laws.proofs.ListOf.{list-node}
-use Rattle.read.specs.Fill.{rectanglePainted, quadrantRow, quadrantColumn}
+use Rattle.list.specs.Quadrants.{quadrantRow, quadrantColumn}
+use Rattle.list.proofs.ShownQuadrants.{quadrantList, listsFrom}
+use Rattle.read.specs.Fill.{rectanglePainted}
 use Rattle.read.proofs.Rectangle.{four-painted}
-
--- the list of a quadrant, and those of the quadrants from one on, so many as are left
-abbrev pub quadrantList : Picture → ℕ → ℕ → ℕ → ℕ → ℕ → List Record
-quadrantList p k r c κ d = listOf p k (quadrantRow d r (2 ^ k)) (quadrantColumn d c (2 ^ k)) (childKey κ k (suc d))
-
-unfoldable pub listsFrom : Picture → ℕ → ℕ → ℕ → ℕ → ℕ → ℕ → List Record
-listsFrom p k r c κ d zero = []
-listsFrom p k r c κ d (suc left) = quadrantList p k r c κ d ++ listsFrom p k r c κ (suc d) left
 
 -- the quadrants painted from one on
 abbrev pub quadrantPainted : ℕ → Picture → ℕ → ℕ → ℕ → ℕ → List ℕ → List ℕ
@@ -29,18 +23,6 @@ quadrantPainted wide p half r c d x = rectanglePainted wide p (quadrantRow d r h
 unfoldable pub paintsFrom : ℕ → Picture → ℕ → ℕ → ℕ → ℕ → ℕ → List ℕ → List ℕ
 paintsFrom wide p half r c d zero x = x
 paintsFrom wide p half r c d (suc left) x = paintsFrom wide p half r c (suc d) left (quadrantPainted wide p half r c d x)
-
-last-nil : (e : Record) (a b c d : List Record) → e ∷ (a ++ (b ++ (c ++ d))) ≡ e ∷ (a ++ (b ++ (c ++ (d ++ []))))
-last-nil e a b c d = sym (simp append-nil)
-
--- all four are the node's own
-pub lists-all : (p : Picture) (k r c κ : ℕ) → oneFeature p (suc k) r c ≡ false → listOf p (suc k) r c κ ≡ recordOf κ (bitsOf p (suc k) r c) ∷ listsFrom p k r c κ 0 4
-unfolding listsFrom quadrantRow quadrantColumn
-lists-all p k r c κ several = list-node p k r c κ several ∙ last-nil _
-    (listOf p k r c (childKey κ k 1))
-    (listOf p k r (c + 2 ^ k) (childKey κ k 2))
-    (listOf p k (r + 2 ^ k) c (childKey κ k 3))
-    (listOf p k (r + 2 ^ k) (c + 2 ^ k) (childKey κ k 4))
 
 pub paints-all : (wide : ℕ) (p : Picture) (half side r c : ℕ) (x : List ℕ) → side ≡ half + half → paintsFrom wide p half r c 0 4 x ≡ rectanglePainted wide p r c side side x
 unfolding paintsFrom quadrantRow quadrantColumn

@@ -1,5 +1,5 @@
 -- What the bitstrings show at a place: the block's bits there, whether it is a leaf or a node, and what filling a square paints where it is a
--- leaf. Rests on OneSlot and Rectangle.
+-- leaf. Rests on list's Shown and on Rectangle.
 use Prim.Native.Nat.{ℕ, zero, suc, _+_, _*_, _/_, _%_, _≤_, _<_}
 use mathlib.Core.Path.{_≡_, sym, _∙_, ap, ap₂}
 use mathlib.Core.Bool.{true, false, true≢false}
@@ -9,7 +9,6 @@ use lib.Arith.{digits-div, digits-mod}
 use lib.ListN.{length, getD, drop, length-drop}
 use lib.Seq.{getD-drop}
 use lib.Pow.{pow-pos}
-use Rattle.keys.proofs.Cases.{decide}
 use Rattle.definitions.specs.Picture.{Picture, oneFeature}
 use Rattle.definitions.specs.Bits.{bitsOf, featureOf}
 use Rattle.definitions.specs.List.{valuesOf, listOf}
@@ -17,22 +16,12 @@ use Rattle.laws.proofs.Within.{first-within}
 use Rattle.laws.proofs.Slots.{slot-le}
 use Rattle.laws.proofs.Features.{one-to, one-pixel}
 use Rattle.laws.proofs.FeatureOf.{feature-of-power}
-use Rattle.laws.proofs.BitsOf.{bits-one, bits-from, power-one}
+use Rattle.laws.proofs.BitsOf.{bits-one, bits-from}
 use Rattle.laws.proofs.ListOf.{list-first, list-one}
 use Rattle.list.specs.Check.{oneSlot}
 use Rattle.read.specs.Fill.{rectanglePainted, Shows, ShowsNode, BlockFilled, NodeFilled}
-use Rattle.list.proofs.OneSlot.{slot-power, power-slot}
+use Rattle.list.proofs.Shown.{slot-one, slot-several}
 use Rattle.read.proofs.Rectangle.{InRectangle, rectangle-same}
-
--- one slot is one feature
-pub slot-one : (p : Picture) (k r c : ℕ) → oneSlot (bitsOf p k r c) ≡ true → oneFeature p k r c ≡ true
-slot-one p k r c e = power-one p _ k r c (slot-power (bitsOf p k r c) e)
-
-pub one-slot : (p : Picture) (k r c : ℕ) → oneFeature p k r c ≡ true → oneSlot (bitsOf p k r c) ≡ true
-one-slot p k r c e = ap oneSlot (bits-one p k r c e) ∙ power-slot (p r c)
-
-pub slot-several : (p : Picture) (k r c : ℕ) → oneSlot (bitsOf p k r c) ≡ false → oneFeature p k r c ≡ false
-slot-several p k r c e = decide (oneFeature p k r c) (λ h. absurd (true≢false (sym (one-slot p k r c h) ∙ e))) (λ h. h)
 
 module _ {p : Picture} {k r c κ : ℕ} {bits : List ℕ} {at wide place side long : ℕ} (s : Shows p k r c κ bits at wide place side long) where
   -- the first bitstring is the block's own

@@ -30,18 +30,7 @@ unfoldable pub rectanglePainted : ℕ → Picture → ℕ → ℕ → ℕ → �
 rectanglePainted wide p row column height width raster =
     filledBy (λ i. inRectangle row column height width (i / wide) (i % wide)) (λ i. p (i / wide) (i % wide)) raster
 
--- the quadrants of a block one after the other, numbered from 0: first row, first column, and first place in the raster
-unfoldable pub quadrantRow : ℕ → ℕ → ℕ → ℕ
-quadrantRow zero row half = row
-quadrantRow (suc zero) row half = row
-quadrantRow (suc (suc d)) row half = row + half
-
-unfoldable pub quadrantColumn : ℕ → ℕ → ℕ → ℕ
-quadrantColumn zero column half = column
-quadrantColumn (suc zero) column half = column + half
-quadrantColumn (suc (suc zero)) column half = column
-quadrantColumn (suc (suc (suc d))) column half = column + half
-
+-- the quadrants of a block one after the other, numbered from 0: the first place in the raster
 unfoldable pub cornerOf : ℕ → ℕ → ℕ → ℕ → ℕ
 cornerOf zero place half south = place
 cornerOf (suc zero) place half south = place + half

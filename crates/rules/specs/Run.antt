@@ -6,7 +6,7 @@ use mathlib.Core.Bool.{Bool, true, false, cond, not, _&&_, _||_}
 use mathlib.Core.List.{List, [], _∷_, map}
 use lib.ListN.{length, take, drop}
 use lib.Dec.{leb, ltb, eqb}
-use Rattle.keys.specs.Key.{slotLimit, validKey}
+use Rattle.keys.specs.Key.{slotLimit, validKey, allKeys}
 use Rattle.definitions.specs.Picture.{Picture}
 use Rattle.definitions.specs.Read.{room, recordsOf, pictureOf, isList}
 use Rattle.definitions.specs.Offices.{badOffice}
@@ -158,7 +158,7 @@ module _ (keys bits waiverIds waiverKeys : List ℕ) where
     pub count : p .state .waivers ≡ room waiverIds waiverKeys
     pub good : p .state .faulty ≡ false → waiversGood (p .state .m) waivers ≡ true
     pub passed : p .state .faulty ≡ false → p .state .passed ≡ waiversBelow (p .state .next) waivers
-    pub small : p .state .live + p .state .hidden ≤ p .state .next * 9765625
+    pub small : p .state .live + p .state .hidden ≤ p .state .next * allKeys
 
   pub record RulesReady (p : Progress) : Type 0 where
     pub fine : p .state .refusal ≡ 0 → RulesFine p

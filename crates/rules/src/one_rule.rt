@@ -1,6 +1,7 @@
 // One rule of a run: whether it may come, whether a waiver is wrong, and else its findings against its waivers, which stand one after the other.
 ghost use mathlib.Core.Path.{_≡_};
 ghost use Prim.Native.Nat.{_^_, _≤_};
+ghost use Rattle.keys.specs.Key.{deepestSide};
 ghost use Rattle.rules.specs.Run.{progressOf, mayCome, served, RulesReady, ruleStep, TableReady, tableStep};
 ghost use Rattle.rules.specs.Step.{Gatherable, widened};
 use crate::state;
@@ -35,7 +36,7 @@ fn may_come(rule: Rule, state: RunState) -> bool
 
 // As many live findings more as the rule's window has pixels: no rule has more.
 fn widen(rule: Rule, at: Sifting) -> Sifting
-    requires { ⌜ (rule .height ≤ 1024) × (rule .width ≤ 1024) × (at .live ≤ 2 ^ 62) ⌝ }
+    requires { ⌜ (rule .height ≤ deepestSide) × (rule .width ≤ deepestSide) × (at .live ≤ 2 ^ 62) ⌝ }
     ensures { λ r. ⌜ r ≡ widened rule at ⌝ }
 {
     let pixels = rule.height * rule.width;

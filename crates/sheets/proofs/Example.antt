@@ -14,7 +14,7 @@ use Rattle.definitions.specs.Bits.{bitsOf, unionOfFour, twosIn, featureOf}
 use Rattle.definitions.specs.List.{listOf}
 use Rattle.definitions.specs.Read.{paired, valueAt, pictureOf, sameRecords, isListOfBlock, isList}
 use Rattle.definitions.specs.Refusal.{first, badSettings, badLength, badPixel}
-use Rattle.definitions.specs.Window.{windowAt, isWindow, inWindow, featuresOfRow, featuresOfRows, featuresIn, occurs, unionOf, existIn, reportIn, isGiven, selectFrom, selectIn, isInside, largestFrom, largestBlocks}
+use Rattle.definitions.specs.Window.{windowAt, isWindow, inWindow, featuresOfRow, featuresOfRows, featuresIn, occurs, unionOf, existIn, reportIn, isGiven, blocksFrom, selectIn, isInside, largestBlocks}
 use Rattle.definitions.specs.Area.{countOf, areaIn, pixelsWith, countsFrom, summaryBelow, summaryOf, sameNumbers, noSummary, sumBelow}
 use Rattle.definitions.specs.Clip.{notBefore, overlapEnd, overlapLength, overlapWindow}
 use Rattle.definitions.specs.Edit.{put, paintIn, fillWindow, contentOf}
@@ -83,7 +83,7 @@ record Answers : Type 0 where
   no-room : selectOn 1 3 (sheets 0 1) asked 0 1 1 [] .refusal ≡ 12
 
 answers : Answers
-unfolding sheetsFor insideGround inGround cutAt onSheet meets meetsSheet someBelow unionBelow listBelow sumBelow blockNumber existTogether reportTogether areaTogether selectTogether selectAsked placesAsked built heightOf levelOf digitsOf onlyZeros digitsThenZeros digitsBeforeZero rowOf columnOf sideOf inBlock pixelKey everyPixel oneFeature featuresBelow bitsOf unionOfFour twosIn featureOf listOf paired valueAt pictureOf sameRecords isListOfBlock isList first badSettings badLength badPixel isWindow inWindow featuresOfRow featuresOfRows featuresIn occurs unionOf existIn reportIn isGiven selectFrom selectIn countOf areaIn pixelsWith countsFrom summaryBelow summaryOf sameNumbers noSummary notBefore overlapEnd overlapLength overlapWindow surveyRefusal survey surveyKeys surveyBits surveySummary existRefusal exist reportRefusal report areaRefusal area selected selectRefusal select selectAnswer
+unfolding sheetsFor insideGround inGround cutAt onSheet meets meetsSheet someBelow unionBelow listBelow sumBelow blockNumber existTogether reportTogether areaTogether selectTogether selectAsked placesAsked built heightOf levelOf digitsOf onlyZeros digitsThenZeros digitsBeforeZero rowOf columnOf sideOf inBlock pixelKey everyPixel oneFeature featuresBelow bitsOf unionOfFour twosIn featureOf listOf paired valueAt pictureOf sameRecords isListOfBlock isList first badSettings badLength badPixel isWindow inWindow featuresOfRow featuresOfRows featuresIn occurs unionOf existIn reportIn isGiven blocksFrom selectIn countOf areaIn pixelsWith countsFrom summaryBelow summaryOf sameNumbers noSummary notBefore overlapEnd overlapLength overlapWindow surveyRefusal survey surveyKeys surveyBits surveySummary existRefusal exist reportRefusal report areaRefusal area selected selectRefusal select selectAnswer
 answers = record {
   down = refl;
   across = refl;
@@ -141,7 +141,7 @@ record Paints : Type 0 where
   twos-back : areaTogether 1 3 ground taken whole 2 ≡ 5
 
 paints : Paints
-unfolding sheetsFor inGround cutAt onSheet sumBelow areaTogether isAmong eachOnce afterSheets built answer after validKey heightOf levelOf digitsOf onlyZeros digitsThenZeros digitsBeforeZero rowOf columnOf sideOf inBlock pixelKey everyPixel oneFeature featuresBelow bitsOf unionOfFour twosIn featureOf listOf paired valueAt pictureOf sameRecords isListOfBlock isList first badSettings badLength badPixel isWindow inWindow featuresOfRow featuresOfRows featuresIn isInside largestFrom largestBlocks countOf areaIn pixelsWith countsFrom summaryBelow summaryOf sameNumbers noSummary notBefore overlapEnd overlapLength overlapWindow put paintIn fillWindow contentOf closed entryOf grouped entriesOf groupOf countRecord lastRecord lastKey lastFeature lastCount beforeLast lastContent isContent closes lastIsEntry endsInMark stepCount stepEntries beforeEntries beforeStep endsInEntries lastIsGroup lastIsStep dividesIn isSound putBack noLog surveyRefusal survey surveyKeys surveyBits surveySummary areaRefusal area filled groupGained paintWindowRefusal paintWindow paintWindowKeys paintWindowBits paintWindowSummary paintWindowLogKeys paintWindowLogValues restored takeBackRefusal forceBefore takeBack takeBackKeys takeBackBits takeBackSummary takeBackLogKeys takeBackLogValues
+unfolding sheetsFor inGround cutAt onSheet sumBelow areaTogether isAmong eachOnce afterSheets built answer after validKey heightOf levelOf digitsOf onlyZeros digitsThenZeros digitsBeforeZero rowOf columnOf sideOf inBlock pixelKey everyPixel oneFeature featuresBelow bitsOf unionOfFour twosIn featureOf listOf paired valueAt pictureOf sameRecords isListOfBlock isList first badSettings badLength badPixel isWindow inWindow featuresOfRow featuresOfRows featuresIn isInside blocksFrom largestBlocks countOf areaIn pixelsWith countsFrom summaryBelow summaryOf sameNumbers noSummary notBefore overlapEnd overlapLength overlapWindow put paintIn fillWindow contentOf closed entryOf grouped entriesOf groupOf countRecord lastRecord lastKey lastFeature lastCount beforeLast lastContent isContent closes lastIsEntry endsInMark stepCount stepEntries beforeEntries beforeStep endsInEntries lastIsGroup lastIsStep dividesIn isSound putBack noLog surveyRefusal survey surveyKeys surveyBits surveySummary areaRefusal area filled groupGained paintWindowRefusal paintWindow paintWindowKeys paintWindowBits paintWindowSummary paintWindowLogKeys paintWindowLogValues restored takeBackRefusal forceBefore takeBack takeBackKeys takeBackBits takeBackSummary takeBackLogKeys takeBackLogValues
 paints = record {
   once = refl;
   answered = refl;
@@ -184,7 +184,7 @@ record Steps : Type 0 where
   twos : areaTogether 1 3 ground left whole 2 ≡ 3
 
 steps-leave : Steps
-unfolding groundWindow meets meetsSheet keptSteps keepStep lastBack nextAgain ofFirst stepCalls runCalls allAccepted afterCalls sheetsFor inGround cutAt onSheet sumBelow areaTogether built answer after validKey heightOf levelOf digitsOf onlyZeros digitsThenZeros digitsBeforeZero rowOf columnOf sideOf inBlock pixelKey everyPixel oneFeature featuresBelow bitsOf unionOfFour twosIn featureOf listOf paired valueAt pictureOf sameRecords isListOfBlock isList first badSettings badLength badPixel isWindow inWindow featuresOfRow featuresOfRows featuresIn isInside largestFrom largestBlocks countOf areaIn pixelsWith countsFrom summaryBelow summaryOf sameNumbers noSummary notBefore overlapEnd overlapLength overlapWindow put paintIn fillWindow contentOf closed entryOf grouped entriesOf groupOf countRecord lastRecord lastKey lastFeature lastCount beforeLast lastContent isContent closes lastIsEntry endsInMark stepCount stepEntries beforeEntries beforeStep endsInEntries lastIsGroup lastIsStep dividesIn isSound firstIn firstStep putBack paintAgain noLog surveyRefusal survey surveyKeys surveyBits surveySummary areaRefusal area filled groupGained paintWindowRefusal paintWindow paintWindowKeys paintWindowBits paintWindowSummary paintWindowLogKeys paintWindowLogValues restored takeBackRefusal forceBefore takeBack takeBackKeys takeBackBits takeBackSummary takeBackLogKeys takeBackLogValues redone redoRefusal forceAfter redo redoKeys redoBits redoSummary redoLogKeys redoLogValues
+unfolding groundWindow meets meetsSheet keptSteps keepStep lastBack nextAgain ofFirst stepCalls runCalls allAccepted afterCalls sheetsFor inGround cutAt onSheet sumBelow areaTogether built answer after validKey heightOf levelOf digitsOf onlyZeros digitsThenZeros digitsBeforeZero rowOf columnOf sideOf inBlock pixelKey everyPixel oneFeature featuresBelow bitsOf unionOfFour twosIn featureOf listOf paired valueAt pictureOf sameRecords isListOfBlock isList first badSettings badLength badPixel isWindow inWindow featuresOfRow featuresOfRows featuresIn isInside blocksFrom largestBlocks countOf areaIn pixelsWith countsFrom summaryBelow summaryOf sameNumbers noSummary notBefore overlapEnd overlapLength overlapWindow put paintIn fillWindow contentOf closed entryOf grouped entriesOf groupOf countRecord lastRecord lastKey lastFeature lastCount beforeLast lastContent isContent closes lastIsEntry endsInMark stepCount stepEntries beforeEntries beforeStep endsInEntries lastIsGroup lastIsStep dividesIn isSound firstIn firstStep putBack paintAgain noLog surveyRefusal survey surveyKeys surveyBits surveySummary areaRefusal area filled groupGained paintWindowRefusal paintWindow paintWindowKeys paintWindowBits paintWindowSummary paintWindowLogKeys paintWindowLogValues restored takeBackRefusal forceBefore takeBack takeBackKeys takeBackBits takeBackSummary takeBackLogKeys takeBackLogValues redone redoRefusal forceAfter redo redoKeys redoBits redoSummary redoLogKeys redoLogValues
 steps-leave = record { paints-kept = refl; calls-both = refl; calls-second = refl; none-refused = refl; zeros = refl; ones = refl; twos = refl }
 
 -- row 2, and one row past the ground's last; columns 0 and 1

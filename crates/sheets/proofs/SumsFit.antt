@@ -14,8 +14,8 @@ use Rattle.definitions.specs.Picture.{Picture}
 use Rattle.definitions.specs.Window.{isWindow, featuresIn, selectIn}
 use Rattle.definitions.specs.Area.{countOf, areaIn, sumBelow}
 use Rattle.definitions.specs.declared.Window.{Window}
-use Rattle.laws.proofs.AreasAddUp.{rows-length}
 use Rattle.laws.proofs.SelectArea.{pixelsOf, selected-area}
+use Rattle.laws.proofs.RasterOf.{rows-length}
 use Rattle.sheets.specs.Ground.{Ground, insideGround, sheetsFor, firstLine, sheetPicture, sheetWindow}
 use Rattle.sheets.specs.Together.{sumSheets, areaSheets, selectSheets}
 use Rattle.sheets.proofs.Below.{sum-below-less, sum-so-far}

@@ -4,7 +4,7 @@ ghost use mathlib.Core.Path.{_≡_};
 ghost use mathlib.Core.Bool.{true};
 ghost use Prim.Native.Nat.{_≤_};
 ghost use lib.ListN.{length};
-ghost use Rattle.keys.specs.Key.{validKey};
+ghost use Rattle.keys.specs.Key.{validKey, allKeys};
 ghost use Rattle.sift.specs.Covering.{endOf, firstPixel, nextOver, further, startOf, Waived, WaiversPassed, Settles};
 use keys::zeros;
 
@@ -31,7 +31,7 @@ fn end_of(m: u32, key: u32) -> u32
 
 // The key of a block's first pixel: every digit that is 0 made 1.
 fn first_pixel(m: u32, key: u32) -> u32
-    requires { ⌜ (m ≤ 10) × (key ≤ 9765625) ⌝ }
+    requires { ⌜ (m ≤ 10) × (key ≤ allKeys) ⌝ }
     ensures { λ r. ⌜ r ≡ firstPixel m key ⌝ }
 {
     key + (zeros::keys_in(m, key) - 1) / 4

@@ -23,7 +23,8 @@ use Rattle.laws.proofs.CountOf.{pixels-quadrants, pixels-most, pixels-one, pixe
 use Rattle.list.specs.Check.{oneSlot}
 use Rattle.list.specs.Shown.{ShownAt}
 use Rattle.list.proofs.Shown.{shown-value, shown-room, leaf-one, leaf-feature, leaf-length, node-several}
-use Rattle.list.proofs.ShownQuadrants.{quadrantRow, quadrantColumn, Left, left-all, left-shown, left-then, left-none}
+use Rattle.list.proofs.ShownQuadrants.{Left, left-all, left-shown, left-then, left-none}
+use Rattle.list.specs.Quadrants.{quadrantRow, quadrantColumn}
 use Rattle.summary.specs.Count.{withPixels, CountersFit, NodeAt, BlockCounted, NodeCounted}
 
 -- the pixels of quadrant number d, and those of the first d quadrants

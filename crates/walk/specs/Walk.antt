@@ -4,6 +4,7 @@ use Prim.Native.Nat.{ℕ, _+_, _/_, _^_, _≤_, _<_}
 use mathlib.Core.Path.{_≡_}
 use mathlib.Core.Bool.{Bool, true, _&&_, _||_}
 use lib.Dec.{leb}
+use Rattle.keys.specs.Key.{deepestSide}
 use Rattle.keys.specs.Block.{pixelKey}
 use Rattle.keys.specs.Under.{MapBlock}
 use Rattle.definitions.specs.Window.{inWindow}
@@ -21,10 +22,10 @@ pub record BlockSpot (m : ℕ) (s : Spot) : Type 0 where
 
 -- the sums that compare a block with a window are small
 pub record Small (s : Spot) (w : Window) : Type 0 where
-  pub rows : s .row + s .side ≤ 1024
-  pub columns : s .column + s .side ≤ 1024
-  pub height : w .row + w .height ≤ 1024
-  pub width : w .column + w .width ≤ 1024
+  pub rows : s .row + s .side ≤ deepestSide
+  pub columns : s .column + s .side ≤ deepestSide
+  pub height : w .row + w .height ≤ deepestSide
+  pub width : w .column + w .width ≤ deepestSide
 
 -- every pixel of the block lies in the window
 unfoldable pub isWithin : Spot → Window → Bool

@@ -1,6 +1,7 @@
 // A window of the raster (refusal 6). Its four numbers are any 32-bit numbers, so a sum of two of them is never formed before it is known to fit.
 ghost use mathlib.Core.Path.{_≡_};
 ghost use Prim.Native.Nat.{_*_, _≤_};
+ghost use Rattle.keys.specs.Key.{deepestSide};
 ghost use Rattle.definitions.specs.Window.{isWindow};
 use definitions::Window;
 use keys::power;
@@ -34,7 +35,7 @@ pub fn is_window(m: u32, window: Window) -> bool
 
 // How many pixels a window of the raster has.
 pub fn pixels_of(window: Window) -> usize
-    requires { ⌜ (window .height ≤ 1024) × (window .width ≤ 1024) ⌝ }
+    requires { ⌜ (window .height ≤ deepestSide) × (window .width ≤ deepestSide) ⌝ }
     ensures { λ r. ⌜ r ≡ window .height * window .width ⌝ }
 {
     let height = window.height;

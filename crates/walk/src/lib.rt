@@ -2,7 +2,7 @@
 // key rises at every step. The next block's place is read off this one's, without division.
 ghost use mathlib.Core.Path.{_≡_};
 ghost use Prim.Native.Nat.{_+_, _≤_};
-ghost use Rattle.keys.specs.Key.{rootKey};
+ghost use Rattle.keys.specs.Key.{rootKey, allKeys};
 ghost use Rattle.walk.specs.Walk.{BlockSpot, Small, isWithin, isApart, firstQuadrant, Follows};
 
 pub mod asking;
@@ -43,7 +43,7 @@ pub fn start(m: u32) -> Spot
 
 // The block's first quadrant, in the north-west.
 pub fn first(spot: Spot) -> Spot
-    requires { ⌜ spot .key + spot .step ≤ 9765625 ⌝ }
+    requires { ⌜ spot .key + spot .step ≤ allKeys ⌝ }
     ensures { λ r. ⌜ r ≡ firstQuadrant spot ⌝ }
 {
     let step = spot.step / 5;

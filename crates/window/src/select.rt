@@ -3,7 +3,7 @@ ghost use mathlib.Core.Path.{_≡_};
 ghost use mathlib.Core.Bool.{true};
 ghost use Prim.Native.Nat.{_≤_, _<_};
 ghost use lib.ListN.{length, drop};
-ghost use Rattle.keys.specs.Key.{slotLimit};
+ghost use Rattle.keys.specs.Key.{slotLimit, allKeys};
 ghost use Rattle.definitions.specs.Read.{recordsOf};
 ghost use Rattle.definitions.specs.Window.{isWindow, selectIn};
 ghost use Rattle.list.specs.Own.{OwnList, shownBy};
@@ -27,7 +27,7 @@ fn gather_run(
     limit: usize,
     count: usize,
 ) -> usize
-    requires { ⌜ (end ≤ length (now keys)) × (end ≤ length (now bits)) × (limit ≤ length (now answer)) × (count ≤ 9765625) ⌝ }
+    requires { ⌜ (end ≤ length (now keys)) × (end ≤ length (now bits)) × (limit ≤ length (now answer)) × (count ≤ allKeys) ⌝ }
     ensures { λ r. ⌜ Gave (keysWith bit (drop first (recordsOf (now (keys .entry)) (now (bits .entry)) end)))
         limit count (now (answer .entry)) (now (answer .exit)) r ⌝ }
 {
@@ -69,7 +69,7 @@ fn gather_leaf(
     limit: usize,
     count: usize,
 ) -> usize
-    requires { ⌜ (m ≤ 10) × (isWindow m window ≡ true) × InLeaf m window leaf first × (limit ≤ length (now answer)) × (count ≤ 9765625) ⌝ }
+    requires { ⌜ (m ≤ 10) × (isWindow m window ≡ true) × InLeaf m window leaf first × (limit ≤ length (now answer)) × (count ≤ allKeys) ⌝ }
     ensures { λ r. ⌜ GaveLeaf m window leaf first limit count (now (answer .entry)) (now (answer .exit)) r ⌝ }
 {
     let leaf_key = leaf.key;
