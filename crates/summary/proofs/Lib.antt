@@ -1,5 +1,7 @@
 pub mod CountTurn
 pub mod FourPixels
+pub mod PassTurn
+pub mod PassPixels
 pub mod CountBlock
 pub mod BlockNumbers
 pub mod SameCounts

@@ -3,4 +3,5 @@ pub mod blocks;
 pub mod calls;
 pub mod check;
 pub mod count;
+pub mod pass;
 pub mod renew;
