@@ -2,6 +2,7 @@ pub mod CountTurn
 pub mod FourPixels
 pub mod PassTurn
 pub mod PassPixels
+pub mod KeptRows
 pub mod CountBlock
 pub mod BlockNumbers
 pub mod SameCounts

@@ -1,3 +1,4 @@
 pub mod Count
 pub mod Pass
+pub mod Kept
 pub mod Renew

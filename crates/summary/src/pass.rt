@@ -111,3 +111,23 @@ fn pass_node(
     }
     if union == own { next } else { 0 }
 }
+
+// The same of sixteen pixels or more.
+pub fn pass_block(
+    keys: &[u32],
+    bits: &[u32],
+    counts: &mut [u32; 32],
+    at: usize,
+    key: u32,
+    own: u32,
+    step: u32,
+    area: u32,
+) -> usize
+    requires { ⌜ PassAsked (now keys) (now bits) (now counts) at key own step area × (5 ≤ step) ⌝ }
+    ensures { λ r. ⌜ PassAnswered (now (keys .entry)) (now (bits .entry)) (now (counts .entry)) (now (counts .exit)) at key own step area r ⌝ }
+{
+    if step == 5 {
+        return pass_sixteen(keys, bits, counts, at, key, own);
+    }
+    pass_node(keys, bits, counts, at, key, own, step, area)
+}
