@@ -5,6 +5,7 @@ pub mod PassPixels
 pub mod KeptRows
 pub mod CountBlock
 pub mod BlockNumbers
+pub mod KeptList
 pub mod SameCounts
 pub mod Renewed
 pub mod IsSummary

@@ -5,6 +5,7 @@ use mathlib.Core.Path.{_≡_}
 use mathlib.Core.Bool.{false}
 use mathlib.Core.List.{List, []}
 use lib.ListN.{length, getD, drop, replicate}
+use Rattle.keys.specs.Key.{rootKey}
 use Rattle.definitions.specs.Read.{paired}
 use Rattle.list.specs.Check.{oneSlot, restPlace, afterNode, stepUnder}
 use Rattle.summary.specs.Count.{NodeCounted}
@@ -42,3 +43,12 @@ pub record KeepAnswered (keys bits : List ℕ) (rows : List (List ℕ)) (places 
   pub within : place ≤ length keys
   pub checked : (k : ℕ) → step ≡ stepUnder k → place ≡ restPlace (length keys) (afterNode k key own (drop (at + 1) (paired keys bits)))
   pub kept : Kept bits area rows places
+
+-- some records, as many as are asked for, the first of which is the root's and a node's, with slots below s
+pub record FirstNode (s : ℕ) (keys bits : List ℕ) (n : ℕ) : Type 0 where
+  pub some : n ≡ 0 → ⊥
+  pub in-keys : n ≤ length keys
+  pub in-bits : n ≤ length bits
+  pub root : getD keys 0 0 ≡ rootKey
+  pub small : getD bits 0 0 < 2 ^ s
+  pub several : oneSlot (getD bits 0 0) ≡ false
