@@ -9,4 +9,5 @@ pub mod KeptList
 pub mod SameCounts
 pub mod Renewed
 pub mod IsSummary
+pub mod SummaryFirst
 pub mod FillAnswers

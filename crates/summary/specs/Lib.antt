@@ -2,3 +2,4 @@ pub mod Count
 pub mod Pass
 pub mod Kept
 pub mod Renew
+pub mod First

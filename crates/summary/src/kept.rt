@@ -7,6 +7,7 @@ ghost use Rattle.keys.specs.Key.{slotLimit};
 ghost use Rattle.keys.specs.Block.{rowOf, columnOf};
 ghost use Rattle.definitions.specs.Read.{isList};
 ghost use Rattle.definitions.specs.Area.{summaryLevel, summaryHeight, blockKey, countsOf};
+ghost use Rattle.list.specs.First.{firstRefusal};
 ghost use Rattle.list.specs.Own.{OwnList, shownBy};
 ghost use Rattle.summary.specs.Kept.{Kept, KeepAsked, KeepAnswered, FirstNode};
 use crate::blocks;
@@ -14,6 +15,7 @@ use crate::pass;
 use keys::Key;
 use keys::power;
 use list::check;
+use list::settings;
 use list::standing as search;
 
 // Block number b is checked, counted and kept. The place after its last record is given back, or 0 where what follows are not its four children.
@@ -169,6 +171,30 @@ pub fn is_list(
         16,
     )
         == n
+}
+
+// Refusals 1 and 4, or 0: what every call that asks a list does first.
+pub fn list_refusal(
+    m: u32,
+    s: u32,
+    keys: &[u32],
+    bits: &[u32],
+    n: usize,
+    rows: &mut [[u32; 32]; 16],
+    places: &mut [usize; 16],
+) -> u64
+    requires { ⌜ Kept (take n (now bits)) (4 ^ summaryHeight m) (now rows) (now places) ⌝ }
+    ensures { λ r. ⌜ r ≡ firstRefusal m s (now (keys .entry)) (now (bits .entry)) n ⌝ }
+    ensures { λ _. ⌜ Kept (take n (now (bits .entry))) (4 ^ summaryHeight m) (now (rows .exit)) (now (places .exit)) ⌝ }
+{
+    if settings::are_bad(m, s) {
+        return 1;
+    }
+    if is_list(m, s, keys, bits, n, rows, places) {
+        0
+    } else {
+        4
+    }
 }
 
 // The counts of block number b: those that are kept, or else its records are counted.
