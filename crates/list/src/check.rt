@@ -58,7 +58,7 @@ fn are_pixels(keys: &[u32], first: usize, key: u32) -> bool
 // After the own record of a node of height 1: whether the next four records are its pixels. Nearly all nodes are at heights 1 and 2, so these
 // have functions of their own, without recursion. The four are tested together, which is less to do than one after the other. The answer is no place: so
 // the machine need not wait for the tests to know where to read on.
-fn four_pixels(keys: &[u32], bits: &[u32], first: usize, key: u32, own: u32) -> bool
+pub fn four_pixels(keys: &[u32], bits: &[u32], first: usize, key: u32, own: u32) -> bool
     requires { ⌜ (length (now keys) ≡ length (now bits)) × (first ≤ length (now keys)) × (key + 5 < 2 ^ 32) ⌝ }
     ensures { λ r. ⌜ (r ≡ true → first + 4 ≤ length (now (keys .entry)))
         × (cond r (first + 4) 0

@@ -1,8 +1,13 @@
 pub mod CountTurn
 pub mod FourPixels
+pub mod PassTurn
+pub mod PassPixels
+pub mod KeptRows
 pub mod CountBlock
 pub mod BlockNumbers
+pub mod KeptList
 pub mod SameCounts
 pub mod Renewed
 pub mod IsSummary
+pub mod SummaryFirst
 pub mod FillAnswers

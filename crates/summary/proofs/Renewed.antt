@@ -12,7 +12,7 @@ use Rattle.keys.specs.Block.{rowOf, columnOf}
 use Rattle.slices.proofs.Sets.{sets-join, sets-parts}
 use Rattle.definitions.specs.Picture.{Picture}
 use Rattle.definitions.specs.Area.{countsOf, summaryLevel, summaryHeight, summaryLength, summaryOf, blockKey}
-use Rattle.laws.proofs.SummaryOf.{counts-first, summary-length, summary-counts}
+use Rattle.laws.proofs.SummaryOf.{counts-first, counts-length, summary-length, summary-counts}
 use Rattle.summary.specs.Renew.{blocksRenewed, Renewable}
 use Rattle.summary.proofs.BlockNumbers.{number-most}
 
@@ -32,6 +32,10 @@ counts-part m s p b counts h few e =
     ap (take s) e
     ∙ counts-first p (summaryHeight m) (rowOf m (blockKey m b)) (columnOf m (blockKey m b)) 0 s 32 few
     ∙ sym (summary-counts m s p b h)
+
+-- a block's counters are at least s
+pub counters-long : (p : Picture) (k r c s : ℕ) (counts : List ℕ) → counts ≡ countsOf 32 p k r c → s ≤ slotLimit → 0 + s ≤ length counts
+counters-long p k r c s counts e h = let f = ap length e in let g = counts-length p k r c 0 32 in omega arith
 
 -- a run that is read from a list, and what follows it there
 run-longer : (new old : List ℕ) (a n s : ℕ) → a + n ≤ length new
@@ -124,3 +128,7 @@ pub filled : (m s : ℕ) (p : Picture) (old now : List ℕ) (blocks : ℕ) → b
     → now ≡ blocksRenewed m s p 0 blocks old
     → now ≡ summaryOf m s p
 filled m s p old now blocks e long is = is ∙ ap (λ n. blocksRenewed m s p 0 n old) e ∙ all-renewed m s p old long
+
+-- all blocks can be counted anew
+pub all-renewable : (m s : ℕ) (old : List ℕ) (blocks : ℕ) → m ≤ 10 → s ≤ slotLimit → length old ≡ summaryLength m s → blocks ≡ 4 ^ summaryLevel m → Renewable m s 0 blocks old
+all-renewable m s old blocks deep few long e = record { deep = deep; few = few; order = omega arith; most = omega arith; long = long }

@@ -1,17 +1,32 @@
 // The call that fills the summary of a list (specification S8.8). It refuses by its table, and requires nothing.
 ghost use mathlib.Core.Path.{_≡_};
+ghost use Prim.Native.Nat.{_^_};
+ghost use lib.ListN.{take};
+ghost use Rattle.definitions.specs.Area.{summaryHeight};
 ghost use Rattle.definitions.specs.Calls.FillSummary.{fillRefusal, fillSummary, filledSummary};
+ghost use Rattle.summary.specs.Kept.{Kept};
 use crate::blocks;
+use crate::kept;
 use crate::renew;
 use definitions::Done;
 use definitions::refusal::Refusal;
-use list::refusal::first_refusal;
 
 // Refusals 1, 4 and 18, or 0.
-fn fill_refusal(m: u32, s: u32, keys: &[u32], bits: &[u32], n: usize, summary: &[u32]) -> u64
+fn fill_refusal(
+    m: u32,
+    s: u32,
+    keys: &[u32],
+    bits: &[u32],
+    n: usize,
+    summary: &[u32],
+    rows: &mut [[u32; 32]; 16],
+    places: &mut [usize; 16],
+) -> u64
+    requires { ⌜ Kept (take n (now bits)) (4 ^ summaryHeight m) (now rows) (now places) ⌝ }
     ensures { λ r. ⌜ r ≡ fillRefusal m s (now (keys .entry)) (now (bits .entry)) n (now (summary .entry)) ⌝ }
+    ensures { λ _. ⌜ Kept (take n (now (bits .entry))) (4 ^ summaryHeight m) (now (rows .exit)) (now (places .exit)) ⌝ }
 {
-    let refusal = first_refusal(m, s, keys, bits, n);
+    let refusal = kept::list_refusal(m, s, keys, bits, n, rows, places);
     if refusal != 0 {
         return refusal;
     }
@@ -33,10 +48,12 @@ pub fn fill_summary(
     ensures { λ r. ⌜ r ≡ fillSummary m s (now (keys .entry)) (now (bits .entry)) n (now (summary .entry)) ⌝ }
     ensures { λ _. ⌜ now (summary .exit) ≡ filledSummary m s (now (keys .entry)) (now (bits .entry)) n (now (summary .entry)) ⌝ }
 {
-    let refusal = fill_refusal(m, s, keys, bits, n, summary);
+    let mut rows = [[0u32; 32]; 16];
+    let mut places = [0usize; 16];
+    let refusal = fill_refusal(m, s, keys, bits, n, summary, &mut rows, &mut places);
     if refusal != 0 {
         return Done { refusal };
     }
-    renew::fill(m, s, keys, bits, n, summary);
+    renew::fill_kept(m, s, keys, bits, n, &rows, &places, summary);
     Done { refusal: 0 }
 }

@@ -15,7 +15,7 @@ use list::feature;
 use list::standing as search;
 
 // A leaf adds its area to the counter of its feature.
-fn count_leaf(counts: &mut [u32; 32], bits: u32, area: u32)
+pub fn count_leaf(counts: &mut [u32; 32], bits: u32, area: u32)
     requires { ⌜ (oneSlot bits ≡ true) × CountersFit (now counts) area ⌝ }
     ensures { λ _. ⌜ now (counts .exit) ≡ withPixels (now (counts .entry)) (featureOf bits) area ⌝ }
 {
@@ -25,7 +25,7 @@ fn count_leaf(counts: &mut [u32; 32], bits: u32, area: u32)
 
 // The node of four pixels whose record is at a place of the bitstrings. Nearly all nodes have four or sixteen pixels, so these have functions of their own,
 // without recursion. All four leaves are read before a counter is written: so the machine need not wait between them.
-fn count_pixels(bits: &[u32], counts: &mut [u32; 32], at: usize)
+pub fn count_pixels(bits: &[u32], counts: &mut [u32; 32], at: usize)
     requires { ⌜ NodeAt (now bits) at 4 × CountersFit (now counts) 4 ⌝ }
     ensures { λ _. ⌜ NodeCounted (now (bits .entry)) at 4 (now (counts .entry)) (now (counts .exit)) (at + 5) ⌝ }
 {

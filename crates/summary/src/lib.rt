@@ -3,4 +3,6 @@ pub mod blocks;
 pub mod calls;
 pub mod check;
 pub mod count;
+pub mod kept;
+pub mod pass;
 pub mod renew;

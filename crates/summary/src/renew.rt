@@ -1,12 +1,14 @@
 // Counting into a summary: all blocks, or those from one number to another.
 ghost use mathlib.Core.Path.{_≡_};
-ghost use Prim.Native.Nat.{_≤_};
-ghost use lib.ListN.{length};
+ghost use Prim.Native.Nat.{_^_, _≤_};
+ghost use lib.ListN.{length, take};
 ghost use Rattle.keys.specs.Key.{slotLimit};
-ghost use Rattle.definitions.specs.Area.{summaryOf, summaryLength};
+ghost use Rattle.definitions.specs.Area.{summaryHeight, summaryOf, summaryLength};
 ghost use Rattle.list.specs.Own.{OwnList, shownBy};
+ghost use Rattle.summary.specs.Kept.{Kept};
 ghost use Rattle.summary.specs.Renew.{blocksRenewed, Renewable};
 use crate::blocks;
+use crate::kept;
 use slices;
 
 // The blocks from one number on, to another that is not among them, are counted anew; the places of all others stay.
@@ -41,4 +43,30 @@ pub fn fill(m: u32, s: u32, keys: &[u32], bits: &[u32], n: usize, summary: &mut 
 {
     let blocks = blocks::number_of(m);
     renew(m, s, keys, bits, n, summary, 0, blocks);
+}
+
+// The same from what the pass over the list has kept.
+pub fn fill_kept(
+    m: u32,
+    s: u32,
+    keys: &[u32],
+    bits: &[u32],
+    n: usize,
+    rows: &[[u32; 32]; 16],
+    places: &[usize; 16],
+    summary: &mut [u32],
+)
+    requires { ⌜ OwnList m (now keys) (now bits) n ⌝ }
+    requires { ⌜ (m ≤ 10) × (s ≤ slotLimit) × (length (now summary) ≡ summaryLength m s) ⌝ }
+    requires { ⌜ Kept (take n (now bits)) (4 ^ summaryHeight m) (now rows) (now places) ⌝ }
+    ensures { λ _. ⌜ now (summary .exit) ≡ summaryOf m s (shownBy m (now (keys .entry)) (now (bits .entry)) n) ⌝ }
+{
+    let slots = s as usize;
+    let blocks = blocks::number_of(m);
+    let mut b = 0;
+    while b < blocks {
+        let counts = kept::counts_of(m, keys, bits, n, b, rows, places);
+        slices::copy(&counts, 0, slots, summary, b * slots);
+        b += 1;
+    }
 }

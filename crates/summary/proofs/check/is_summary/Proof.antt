@@ -9,10 +9,10 @@ use Rattle.summary.proofs.check.is_summary.Statement.{statement}
 use Rattle.summary.proofs.check.is_summary.Tie as tie
 
 abbrev Inv-loop : tie.InvT-loop
-Inv-loop m s keys bits n summary slots blocks b₀ b = (b ≤ blocks) × FirstRight m s (shownBy m keys bits n) summary b
+Inv-loop m s keys bits n summary rows places slots blocks b₀ b = (b ≤ blocks) × FirstRight m s (shownBy m keys bits n) summary b
 
 abbrev μ-loop : tie.MeasureT-loop
-μ-loop m s keys bits n summary slots blocks b₀ b = blocks - b
+μ-loop m s keys bits n summary rows places slots blocks b₀ b = blocks - b
 
 have-length-requires : tie.Need-have-length-requires Inv-loop μ-loop
 have-length-requires c κs = tt
@@ -29,7 +29,7 @@ loop-holds c = (omega arith, none-right _ _ _ _)
 counts-of-requires : tie.Need-counts-of-requires Inv-loop μ-loop
 counts-of-requires c κs =
     let start = c .before .before .before .before .before .before .before .before in
-    (start .pre .0, (start .pre .1 .0, omega (arith, c .before .before .number-of .ensures)))
+    (start .pre .0, (start .pre .1 .0, omega (arith, c .before .before .number-of .ensures), start .pre .1 .2))
 
 mul-same-counts : tie.Need-mul-same-counts Inv-loop μ-loop
 mul-same-counts c =

@@ -1,21 +1,11 @@
 -- `renew::renew` meets its contract: after each turn one block more is counted anew.
-use Prim.Native.Nat.{ℕ, _+_, _-_, _≤_}
-use mathlib.Core.Path.{_≡_, ap}
-use mathlib.Core.List.{List}
+use Prim.Native.Nat.{_-_}
 use native.Mathlib.Omega.{arith}
 use borrow.Author.Needs.{needs}
-use lib.ListN.{length}
-use Rattle.keys.specs.Key.{slotLimit}
-use Rattle.definitions.specs.Picture.{Picture}
-use Rattle.definitions.specs.Area.{countsOf}
-use Rattle.laws.proofs.SummaryOf.{counts-length}
 use Rattle.list.specs.Own.{shownBy}
-use Rattle.summary.proofs.Renewed.{Begun, renew-begins, renew-turns, renew-ends, places-in, places-few}
+use Rattle.summary.proofs.Renewed.{Begun, renew-begins, renew-turns, renew-ends, places-in, places-few, counters-long}
 use Rattle.summary.proofs.renew.renew.Statement.{statement}
 use Rattle.summary.proofs.renew.renew.Tie as tie
-
-counters : (p : Picture) (k r c s : ℕ) (counts : List ℕ) → counts ≡ countsOf 32 p k r c → s ≤ slotLimit → 0 + s ≤ length counts
-counters p k r c s counts e h = let f = ap length e in let g = counts-length p k r c 0 32 in omega arith
 
 abbrev Inv-loop : tie.InvT-loop
 Inv-loop m s keys bits n summary₀ from until slots b₀ summary b = Begun m s (shownBy m keys bits n) from until summary₀ summary b
@@ -47,7 +37,7 @@ copy-requires c κs =
     let l = c .before .before .before .before in
     let start = l .before .before .before .before in
     let h = places-in (start .args .m) (start .args .s) (l .loop .b) (omega (arith, start .pre .1 .most)) in
-    (counters (shownBy (start .args .m) (start .args .keys .now) (start .args .bits .now) (start .args .n)) _ _ _ _ _ (c .before .before .counts-of .ensures) (start .pre .1 .few), omega (arith, l .loop .inv .long, start .pre .1 .long))
+    (counters-long (shownBy (start .args .m) (start .args .keys .now) (start .args .bits .now) (start .args .n)) _ _ _ _ _ (c .before .before .counts-of .ensures) (start .pre .1 .few), omega (arith, l .loop .inv .long, start .pre .1 .long))
 
 add-b : tie.Need-add-b Inv-loop μ-loop
 add-b c = search needs
