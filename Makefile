@@ -41,10 +41,17 @@ run: kit
 test: kit
 	@tests/run
 
+# So many calls in random histories, the library against the second implementation, from this seed on: docs/STRESS.md.
+# The gate tries some thousand.
+CALLS ?= 1000000
+SEED ?= 1
+histories: lib
+	@tools/compile-c target/c/histories tests/c/test_histories.c tests/c/support.c tests/c/survey.c tests/c/reference.c
+	@tools/run-c target/c/histories $(CALLS) $(SEED)
+
 # A disk that fails under every command that writes a line, at each of its calls, and so many states of the disk after a
 # crash at each: docs/STRESS.md. The gate tries a part of it.
 STATES ?= 48
-SEED ?= 1
 faults:
 	@tests/tool/part build-plain
 	@tests/tool/store.py target/tool/plain target/tool/faults.so $(STATES) $(SEED)
