@@ -2,7 +2,7 @@
 # the Rattle kit, Debian's packages and git; what else they need they install. CC, CFLAGS and LDFLAGS are heeded, by
 # `make install` PREFIX and DESTDIR too.
 
-.PHONY: lib tool line run test bench shared install install-tool kit clean
+.PHONY: lib tool line run test histories faults bench shared install install-tool kit clean
 
 # The interface's number is the shared library's version.
 interface := $(shell sed -n 's/^.define HLQ_INTERFACE //p' include/prowcurl.h)
@@ -40,6 +40,21 @@ run: kit
 # The layout, the proofs (rt ci), the must-fail edits, the programs and the C tests. The last line is the gate's own.
 test: kit
 	@tests/run
+
+# So many calls in random histories, the library against the second implementation, from this seed on: docs/STRESS.md.
+# The gate tries some thousand.
+CALLS ?= 1000000
+SEED ?= 1
+histories: lib
+	@tools/compile-c target/c/histories tests/c/test_histories.c tests/c/support.c tests/c/survey.c tests/c/reference.c
+	@tools/run-c target/c/histories $(CALLS) $(SEED)
+
+# A disk that fails under every command that writes a line, at each of its calls, and so many states of the disk after a
+# crash at each: docs/STRESS.md. The gate tries a part of it.
+STATES ?= 48
+faults:
+	@tests/tool/part build-plain
+	@tests/tool/store.py target/tool/plain target/tool/faults.so $(STATES) $(SEED)
 
 # Library against plain C, in one run: instructions where the emulator counts them, else nanoseconds.
 bench: lib

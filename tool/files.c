@@ -1,5 +1,5 @@
 /* Files read whole, and outputs that are written beside their place and renamed. */
-#define _DEFAULT_SOURCE
+#define _GNU_SOURCE
 #include "files.h"
 
 #include "tool.h"
@@ -7,10 +7,12 @@
 #include <dirent.h>
 #include <errno.h>
 #include <fcntl.h>
+#include <signal.h>
 #include <stdlib.h>
 #include <string.h>
 #include <strings.h>
 #include <sys/stat.h>
+#include <sys/wait.h>
 #include <unistd.h>
 
 uint8_t *read_file(const char *path, size_t most, size_t *length) {
@@ -34,37 +36,54 @@ uint8_t *read_file(const char *path, size_t most, size_t *length) {
 
 int file_exists(const char *path) { return access(path, F_OK) == 0; }
 
-/* What the tool removes where it ends: outputs that are not whole, and the folder for other programs' files. */
+/* What the tool removes where it ends: outputs that are not whole, and the folder for other programs' files, once the
+ * one that may be writing there has ended. */
 static struct {
-    char *names[8];
-    char *folder;
+    char *volatile names[8];
+    char *volatile folder;
+    volatile pid_t child;
     int registered;
 } litter;
 
+/* By what a signal's handler may call: no opendir. */
 static void remove_folder(const char *folder) {
-    DIR *files = opendir(folder);
-    for (struct dirent *entry; files && (entry = readdir(files));) {
-        char *name = text_of("%s/%s", folder, entry->d_name);
-        if (strcmp(entry->d_name, ".") != 0 && strcmp(entry->d_name, "..") != 0) unlink(name);
-        free(name);
-    }
-    if (files) closedir(files);
+    union {
+        struct dirent64 entry;
+        char bytes[4096];
+    } some;
+    int files = open(folder, O_RDONLY | O_DIRECTORY | O_CLOEXEC);
+    for (ssize_t got; files >= 0 && (got = getdents64(files, &some, sizeof some)) > 0;)
+        for (ssize_t at = 0; at < got;) {
+            const struct dirent64 *entry = (const struct dirent64 *)(some.bytes + at);
+            unlinkat(files, entry->d_name, 0); /* . and .. stay */
+            at += entry->d_reclen;
+        }
+    if (files >= 0) close(files);
     rmdir(folder);
 }
 
 static void remove_litter(void) {
-    for (int i = 0; i < 8; i++) {
-        if (litter.names[i]) unlink(litter.names[i]);
-        free(litter.names[i]);
-        litter.names[i] = NULL;
-    }
+    for (int i = 0; i < 8; i++) if (litter.names[i]) unlink(litter.names[i]);
     if (litter.folder) remove_folder(litter.folder);
-    free(litter.folder);
-    litter.folder = NULL;
 }
 
+/* Ctrl-C and the like. Whoever waits for the tool sees which signal ended it. */
+static void end_by_signal(int number) {
+    if (litter.child > 0 && kill(litter.child, SIGTERM) == 0) waitpid(litter.child, NULL, 0);
+    remove_litter();
+    raise(number); /* the handler is gone: this ends the tool as soon as it returns */
+}
+
+static const int endings[] = { SIGINT, SIGTERM, SIGHUP, SIGPIPE };
+enum { ENDINGS = sizeof endings / sizeof *endings };
+
 static void clean_at_the_end(void) {
-    if (!litter.registered) litter.registered = atexit(remove_litter) == 0;
+    struct sigaction action = { .sa_handler = end_by_signal, .sa_flags = (int)SA_RESETHAND }, old;
+    if (litter.registered) return;
+    litter.registered = atexit(remove_litter) == 0;
+    for (int i = 0; i < ENDINGS; i++) sigaddset(&action.sa_mask, endings[i]);
+    for (int i = 0; i < ENDINGS; i++)
+        if (sigaction(endings[i], NULL, &old) == 0 && old.sa_handler != SIG_IGN) sigaction(endings[i], &action, NULL);
 }
 
 static void note_litter(const char *name) {
@@ -78,21 +97,31 @@ static void note_litter(const char *name) {
 
 static void no_litter(const char *name) {
     for (int i = 0; i < 8; i++) {
-        if (!litter.names[i] || strcmp(litter.names[i], name) != 0) continue;
-        free(litter.names[i]);
+        char *there = litter.names[i];
+        if (!there || strcmp(there, name) != 0) continue;
         litter.names[i] = NULL;
+        free(there);
         return;
     }
 }
 
+/* A folder that is made, and no signal before it is noted. */
 const char *temporary_folder(void) {
     const char *below = getenv("TMPDIR");
+    sigset_t all, old;
     if (litter.folder) return litter.folder;
     char *name = text_of("%s/prowcurl-XXXXXX", below && *below ? below : "/tmp");
-    if (!mkdtemp(name)) fail(STATUS_CANNOT_CREATE, "%s: %s", name, strerror(errno));
     clean_at_the_end();
-    return litter.folder = name;
+    sigfillset(&all);
+    sigprocmask(SIG_BLOCK, &all, &old);
+    if (mkdtemp(name)) litter.folder = name;
+    int error = errno;
+    sigprocmask(SIG_SETMASK, &old, NULL);
+    if (!litter.folder) fail(STATUS_CANNOT_CREATE, "%s: %s", name, strerror(error));
+    return litter.folder;
 }
+
+void note_child(pid_t child) { litter.child = child; }
 
 /* Whether two names lead to one file. */
 static int same_file(const char *a, const char *b) {

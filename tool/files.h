@@ -8,6 +8,7 @@
 #include <stddef.h>
 #include <stdint.h>
 #include <stdio.h>
+#include <sys/types.h>
 
 /* The bytes of a file (- is standard input), at most `most` and one more, so that a caller sees that it is too long; a
  * zero follows them. Ends where the file cannot be read. */
@@ -36,7 +37,10 @@ void end_output(output *o);
 /* The same, where nothing may stand at that place: ends where something does. */
 void end_output_if_free(output *o);
 
-/* A folder below the temporary one, the same at every call, which is removed with its files when the tool ends. */
+/* A folder below the temporary one, the same at every call, which is removed with its files when the tool ends, by
+ * Ctrl-C too. */
 const char *temporary_folder(void);
+/* A program that writes there is running; 0 where none is. A signal that ends the tool ends it first. */
+void note_child(pid_t child);
 
 #endif

@@ -11,6 +11,7 @@
 #include <fcntl.h>
 #include <jansson.h>
 #include <math.h>
+#include <signal.h>
 #include <spawn.h>
 #include <stdlib.h>
 #include <string.h>
@@ -36,6 +37,8 @@ static void first_words(char words[300]) {
  * missing, but lets it end with 127. Gives its status. */
 static int run_program(const char *const *words) {
     posix_spawn_file_actions_t files;
+    posix_spawnattr_t attributes;
+    sigset_t all, old;
     char *out = text_of("%s/out", temporary_folder()), *err = text_of("%s/err", temporary_folder());
     pid_t child;
     int status = 0;
@@ -43,9 +46,19 @@ static int run_program(const char *const *words) {
     posix_spawn_file_actions_addopen(&files, 0, "/dev/null", O_RDONLY, 0);
     posix_spawn_file_actions_addopen(&files, 1, out, O_WRONLY | O_CREAT | O_TRUNC, 0600);
     posix_spawn_file_actions_addopen(&files, 2, err, O_WRONLY | O_CREAT | O_TRUNC, 0600);
-    int error = posix_spawnp(&child, words[0], &files, NULL, (char *const *)words, environ);
+    /* no signal ends the tool before the program is noted; the program itself takes them */
+    sigfillset(&all);
+    sigprocmask(SIG_BLOCK, &all, &old);
+    posix_spawnattr_init(&attributes);
+    posix_spawnattr_setsigmask(&attributes, &old);
+    posix_spawnattr_setflags(&attributes, POSIX_SPAWN_SETSIGMASK);
+    int error = posix_spawnp(&child, words[0], &files, &attributes, (char *const *)words, environ);
+    if (error == 0) note_child(child);
+    sigprocmask(SIG_SETMASK, &old, NULL);
     posix_spawn_file_actions_destroy(&files);
+    posix_spawnattr_destroy(&attributes);
     if (error == 0) while (waitpid(child, &status, 0) < 0 && errno == EINTR) continue;
+    note_child(0);
     if (error == ENOENT || (error == 0 && WIFEXITED(status) && WEXITSTATUS(status) == 127))
         fail(STATUS_MISSING, "%s is missing: it comes with Debian's package gdal-bin", words[0]);
     if (error) fail(STATUS_MISSING, "%s cannot be started: %s", words[0], strerror(error));

@@ -173,9 +173,11 @@ static void set_up(line *l, const arguments *a) {
     sqlite3_db_config(l->db, SQLITE_DBCONFIG_ENABLE_FKEY, 1, NULL);
 }
 
-/* A new database has the rollback journal, and keeps it: on a network's share nothing else works. */
+/* A new database has the rollback journal, and keeps it: on a network's share nothing else works. EXTRA writes the
+ * folder through to the disk too once the journal is gone: else a crash after the answer could bring the journal back,
+ * and it would take the edit back. */
 static void set_durable(line *l) {
-    run_sql(l, "PRAGMA synchronous = FULL", "");
+    run_sql(l, "PRAGMA synchronous = EXTRA", "");
     run_sql(l, "PRAGMA temp_store = FILE", "");
 }
 

@@ -3,7 +3,9 @@
 happens, a line is in the state before the edit or after it, whole."""
 import os
 import random
+import resource
 import shutil
+import signal
 import sqlite3
 import subprocess
 import sys
@@ -109,6 +111,33 @@ def test_outputs(tool, folder):
             must(other.read("out.pgm") in (old, new), f"an output with {fault}:{call} is neither old nor new")
             must(fault == "kill" or status == 0 or (status == 74 and said.startswith("prowcurl: ")), f"{status} {said}")
             must(status != 74 or other.read("out.pgm") == old, "a failed output replaces")
+
+
+def limited(tool, most, words):
+    """Runs the command where no file may grow beyond so many bytes: what stdio writes is cut there, and then fails."""
+    def limit():
+        signal.signal(signal.SIGXFSZ, signal.SIG_IGN)
+        resource.setrlimit(resource.RLIMIT_FSIZE, (most, most))
+
+    done = subprocess.run(tool.program + words, cwd=tool.folder, env=tool.env, capture_output=True, preexec_fn=limit)
+    return done.returncode, done.stderr.decode()
+
+
+def test_limits(tool):
+    """An output that may not be as long as it is leaves what was there; whole, where it may."""
+    for words, name in ((["export", "a.gpkg", "pgm", "long.pgm", "--survey"], "long.pgm"),
+                        (["page", "a.gpkg", "long.html", "--survey"], "long.html")):
+        tool(*words, "a")
+        whole = len(tool.read(name))
+        tool(*words, "b")
+        old = tool.read(name)
+        for most in (0, 1, 511, whole // 2, whole - 1):
+            status, said = limited(tool, most, words + ["a"])
+            must(status == 74 and said.startswith("prowcurl: "), f"{words}, {most} bytes: {status} {said}")
+            must(tool.read(name) == old, f"{words}: an output cut at {most} bytes replaces")
+        must(limited(tool, whole, words + ["a"])[0] == 0, f"{words}: just long enough")
+        must(len(tool.read(name)) == whole, f"{words}: whole")
+    no_litter(tool)
 
 
 def random_edit(numbers):
@@ -227,6 +256,45 @@ def test_two_users(tool):
     return "two users of one group: one killed four times, the other went on"
 
 
+def stopped(tool, folder, words, sign, whole_group):
+    """The command is stopped while a program of GDAL's is at work; gives that program's number. It is one that says its
+    number and sleeps."""
+    told = folder + "/number"
+    if os.path.exists(told):
+        os.unlink(told)
+    env = dict(tool.env, TMPDIR=folder + "/temporary", PATH=f"{folder}/programs:{os.environ['PATH']}")
+    running = subprocess.Popen(tool.program + words, cwd=tool.folder, env=env, stdout=subprocess.DEVNULL,
+                               start_new_session=True)
+    until = time.monotonic() + 60
+    while not os.path.exists(told) or os.path.getsize(told) == 0:
+        must(running.poll() is None and time.monotonic() < until, f"{words}: no program of GDAL's was started")
+        time.sleep(0.01)
+    (os.killpg if whole_group else os.kill)(running.pid, sign)
+    must(running.wait() == -sign, f"{words}: ended with {running.returncode}, not by signal {sign}")
+    with open(told) as file:
+        return int(file.read())
+
+
+def test_stopped(tool, folder):
+    """Ctrl-C, or an end from elsewhere, while GDAL is at work: no folder, no output and no program is left."""
+    os.mkdir(folder + "/programs")
+    os.mkdir(folder + "/temporary")
+    for name in ("gdalinfo", "gdal_translate"):
+        program = f"{folder}/programs/{name}"
+        with open(program, "w") as file:
+            file.write(f"#!/bin/sh\necho half >{folder}/temporary/*/half\necho $$ >{folder}/number\nexec sleep 60\n")
+        os.chmod(program, 0o755)
+    tool.write("c.tif", b"II*\0")
+    before, old = sorted(os.listdir(tool.folder)), state_of(tool)
+    for words in (["add", "a.gpkg", "c.tif"], ["export", "a.gpkg", "tif", "out.tif"]):
+        for sign, whole_group in ((signal.SIGINT, True), (signal.SIGTERM, False), (signal.SIGHUP, False)):
+            program = stopped(tool, folder, words, sign, whole_group)
+            must(not os.listdir(folder + "/temporary"), f"{words}, signal {sign}: a temporary folder is left")
+            must(sorted(os.listdir(tool.folder)) == before, f"{words}, signal {sign}: a file is left")
+            must(not os.path.exists(f"/proc/{program}"), f"{words}, signal {sign}: GDAL's program goes on")
+    must(state_of(tool) == old, "a stopped command changed something")
+
+
 def no_litter(tool):
     left = [name for name in os.listdir(tool.folder) if name.endswith((".new", "-journal"))]
     must(not left, f"left behind: {left}")
@@ -244,8 +312,11 @@ def main():
         tool.write("b.pgm", pgm(patches(ROWS, COLUMNS, 4)))
         calls = test_calls(tool, folder)
         test_outputs(tool, folder)
+        test_limits(tool)
         print(f"killed at each of {calls} calls, and with a full disk: the old or the new state, whole")
         print(f"kills at random: {test_random_kills(tool, folder)}")
+        test_stopped(tool, folder)
+        print("stopped by three signals while GDAL was at work: nothing is left")
         reads = test_writers(tool)
         test_locks(tool)
         no_litter(tool)

@@ -1,68 +1,154 @@
-/* Faults for the tests of the tool, put before the C library by LD_PRELOAD: PROWCURL_FAULT=kill:N kills the process at
- * its N-th call that changes a file, a write after its first half; full:N has every write from the N-th on find the
- * disk full; count:FILE has the number of such calls written into the file at the end. */
+/* Faults for the tests of the tool, put before the C library by LD_PRELOAD. PROWCURL_FAULT says which one; N counts,
+ * from 1, the calls that change a file, and for full and short the writes among them.
+ *   kill:N    the process is killed at its N-th call, a write after its first half
+ *   full:N    the N-th write finds room for its first half alone, and every later one for nothing
+ *   short:N   the N-th write writes its first half, and says so
+ *   fails:N   the N-th call fails with EIO
+ *   gone:N    so does every call from the N-th on
+ *   count:F   the number of the calls is written into the file F at the end
+ *   record:F  every call is written into the file F, with its bytes; store.py reads it
+ * What stdio writes does not come by here: the C library does not call itself by name. Programs that the tool starts go
+ * without faults. */
 #define _GNU_SOURCE
 #include <dlfcn.h>
 #include <errno.h>
+#include <fcntl.h>
 #include <signal.h>
+#include <stdarg.h>
 #include <stdio.h>
 #include <stdlib.h>
 #include <string.h>
+#include <sys/stat.h>
 #include <unistd.h>
-
-static long calls;
-
-__attribute__((destructor)) static void tell(void) {
-    const char *fault = getenv("PROWCURL_FAULT");
-    if (!fault || strncmp(fault, "count:", 6) != 0) return;
-    FILE *file = fopen(fault + 6, "w");
-    if (file) fprintf(file, "%ld", calls), fclose(file);
-}
-
-/* 1 where this call is to fail for want of room. */
-static int fault(int writes, void (*half)(int, const void *, size_t, off_t), int file, const void *bytes, size_t length,
-                 off_t at) {
-    const char *asked = getenv("PROWCURL_FAULT");
-    if (!asked) return 0;
-    if (strncmp(asked, "full:", 5) == 0) return writes && ++calls >= atol(asked + 5);
-    if (++calls == (strncmp(asked, "kill:", 5) == 0 ? atol(asked + 5) : -1)) {
-        if (half) half(file, bytes, length / 2, at);
-        raise(SIGKILL);
-    }
-    return 0;
-}
 
 #define REAL(name, ...) (((__typeof__(&name))dlsym(RTLD_NEXT, #name))(__VA_ARGS__))
 
-static void half_pwrite(int file, const void *bytes, size_t length, off_t at) {
-    (void)!REAL(pwrite, file, bytes, length, at);
-}
-static void half_write(int file, const void *bytes, size_t length, off_t at) {
-    (void)at;
-    (void)!REAL(write, file, bytes, length);
+typedef enum { NONE, KILL, FULL, SHORT, FAILS, GONE, COUNT, RECORD } mode;
+
+static struct {
+    mode mode;
+    long number, calls, writes;
+    char *file;
+    int record;
+} fault;
+
+__attribute__((constructor)) static void begin(void) {
+    static const char *const names[] = { "", "kill:", "full:", "short:", "fails:", "gone:", "count:", "record:" };
+    const char *asked = getenv("PROWCURL_FAULT");
+    for (int i = 1; asked && i <= RECORD; i++) {
+        size_t length = strlen(names[i]);
+        if (strncmp(asked, names[i], length) != 0) continue;
+        fault.mode = (mode)i;
+        fault.number = atol(asked + length);
+        fault.file = strdup(asked + length);
+    }
+    if (fault.mode == RECORD) fault.record = REAL(open, fault.file, O_WRONLY | O_CREAT | O_APPEND | O_CLOEXEC, 0600);
+    unsetenv("LD_PRELOAD");
+    unsetenv("PROWCURL_FAULT");
 }
 
-static int no_room(void) {
-    errno = ENOSPC;
+__attribute__((destructor)) static void end(void) {
+    FILE *file = fault.mode == COUNT ? fopen(fault.file, "w") : NULL;
+    if (file) fprintf(file, "%ld", fault.calls), fclose(file);
+}
+
+static int fails_with(int error) {
+    errno = error;
     return -1;
 }
 
+/* 1 where this call is to fail. A write that is to be killed or cut has its own turn before. */
+static int comes_to_nothing(void) {
+    long call = ++fault.calls;
+    if (fault.mode == KILL && call == fault.number) raise(SIGKILL);
+    return (fault.mode == FAILS && call == fault.number) || (fault.mode == GONE && call >= fault.number);
+}
+
+/* One line for a call: what it does, to which inode, with which numbers, and the name. */
+static void note(const char *what, int file, long long at, size_t length, const char *name) {
+    struct stat now = { 0 };
+    if (fault.mode != RECORD) return;
+    if (file >= 0) fstat(file, &now);
+    dprintf(fault.record, "%s %lu %lld %zu %s\n", what, (unsigned long)now.st_ino, at, length, name);
+}
+
+typedef ssize_t put(int file, const void *bytes, size_t length, off64_t at);
+
+static ssize_t put_at(int file, const void *bytes, size_t length, off64_t at) {
+    return REAL(pwrite64, file, bytes, length, at);
+}
+static ssize_t put_here(int file, const void *bytes, size_t length, off64_t at) {
+    (void)at;
+    return REAL(write, file, bytes, length);
+}
+
+static ssize_t write_with_fault(put *real, int file, const void *bytes, size_t length, off64_t at) {
+    long count = ++fault.writes;
+    if (fault.mode == KILL && fault.calls + 1 == fault.number) real(file, bytes, length / 2, at);
+    if (comes_to_nothing()) return fails_with(EIO);
+    if ((fault.mode == FULL || fault.mode == SHORT) && count == fault.number && length > 1)
+        return real(file, bytes, length / 2, at);
+    if (fault.mode == FULL && count >= fault.number) return fails_with(ENOSPC);
+    ssize_t done = real(file, bytes, length, at);
+    if (done > 0 && fault.mode == RECORD) {
+        note("write", file, at, (size_t)done, "");
+        (void)!REAL(write, fault.record, bytes, (size_t)done);
+    }
+    return done;
+}
+
 ssize_t pwrite(int file, const void *bytes, size_t length, off_t at) {
-    return fault(1, half_pwrite, file, bytes, length, at) ? no_room() : REAL(pwrite, file, bytes, length, at);
+    return write_with_fault(put_at, file, bytes, length, at);
 }
 ssize_t pwrite64(int file, const void *bytes, size_t length, off64_t at) {
-    return fault(1, half_pwrite, file, bytes, length, at) ? no_room() : REAL(pwrite64, file, bytes, length, at);
+    return write_with_fault(put_at, file, bytes, length, at);
 }
 ssize_t write(int file, const void *bytes, size_t length) {
     if (file <= 2) return REAL(write, file, bytes, length);
-    return fault(1, half_write, file, bytes, length, 0) ? no_room() : REAL(write, file, bytes, length);
+    return write_with_fault(put_here, file, bytes, length, REAL(lseek64, file, 0, SEEK_CUR));
 }
-int fsync(int file) { return fault(0, NULL, file, NULL, 0, 0) ? -1 : REAL(fsync, file); }
-int fdatasync(int file) { return fault(0, NULL, file, NULL, 0, 0) ? -1 : REAL(fdatasync, file); }
-int ftruncate(int file, off_t length) { return fault(0, NULL, file, NULL, 0, 0) ? -1 : REAL(ftruncate, file, length); }
-int ftruncate64(int file, off64_t length) {
-    return fault(0, NULL, file, NULL, 0, 0) ? -1 : REAL(ftruncate64, file, length);
+
+/* The call, and where it went a line for it. */
+#define CALL(real, what, file, at, name) \
+    do { \
+        if (comes_to_nothing()) return fails_with(EIO); \
+        int done = real; \
+        if (done == 0) note(what, file, at, 0, name); \
+        return done; \
+    } while (0)
+
+int fsync(int file) { CALL(REAL(fsync, file), "sync", file, 0, ""); }
+int fdatasync(int file) { CALL(REAL(fdatasync, file), "sync", file, 0, ""); }
+int ftruncate(int file, off_t length) { CALL(REAL(ftruncate, file, length), "truncate", file, length, ""); }
+int ftruncate64(int file, off64_t length) { CALL(REAL(ftruncate64, file, length), "truncate", file, length, ""); }
+int unlink(const char *name) { CALL(REAL(unlink, name), "unlink", -1, 0, name); }
+
+/* Two names: the second on a line of its own. */
+#define CALL_NAMES(real, what, from, to) \
+    do { \
+        if (comes_to_nothing()) return fails_with(EIO); \
+        int done = real; \
+        if (done == 0) note(what, -1, 0, 0, from), note("to", -1, 0, 0, to); \
+        return done; \
+    } while (0)
+
+int rename(const char *from, const char *to) { CALL_NAMES(REAL(rename, from, to), "rename", from, to); }
+int link(const char *from, const char *to) { CALL_NAMES(REAL(link, from, to), "link", from, to); }
+
+/* A file that is made is no fault's place, but it is recorded. */
+static int opened(int (*real)(const char *, int, ...), const char *name, int flags, mode_t mode) {
+    int is_new = (flags & O_CREAT) && access(name, F_OK) != 0, file = real(name, flags, mode);
+    if (file >= 0 && is_new) note("create", file, 0, 0, name);
+    return file;
 }
-int unlink(const char *name) { return fault(0, NULL, -1, NULL, 0, 0) ? -1 : REAL(unlink, name); }
-int rename(const char *from, const char *to) { return fault(0, NULL, -1, NULL, 0, 0) ? -1 : REAL(rename, from, to); }
-int link(const char *from, const char *to) { return fault(0, NULL, -1, NULL, 0, 0) ? -1 : REAL(link, from, to); }
+
+#define OPEN(name) \
+    int name(const char *path, int flags, ...) { \
+        va_list rest; \
+        va_start(rest, flags); \
+        mode_t mode = flags & O_CREAT ? va_arg(rest, mode_t) : 0; \
+        va_end(rest); \
+        return opened((int (*)(const char *, int, ...))dlsym(RTLD_NEXT, #name), path, flags, mode); \
+    }
+OPEN(open)
+OPEN(open64)
