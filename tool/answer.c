@@ -163,11 +163,6 @@ void fact_exact(const char *name, double number) {
 void fact_words(const char *name, const char *words) { fact(name, words, json_text(words)); }
 void fact_truth(const char *name, int truth) { fact(name, truth ? "yes" : "no", json_boolean(truth)); }
 
-void fact_classes(const char *name, uint64_t bits) {
-    char text[128];
-    fact(name, classes_text(bits, text), classes_json(bits));
-}
-
 void fact_nothing(const char *name) { fact(name, "", json_null()); }
 
 static void write_heads(void) {

@@ -9,6 +9,14 @@ static void write_words(const char *name, const char *words) {
     keep_file(name);
 }
 
+/* A survey so wide that its page has a picture for each sheet. */
+static void write_wide(void) {
+    char bytes[13 + 2080] = "P5\n2080 1\n7\n";
+    for (int i = 0; i < 2080; i++) bytes[13 + i] = (char)(i % 1000 < 3);
+    write_bytes("wide.pgm", bytes, sizeof bytes);
+    keep_file("wide.pgm");
+}
+
 /* The ground in patches, so that sheets have leaves of every size. */
 static void write_surveys(void) {
     char first[] = "P5\n7 11\n255\n", pixels[11 * 7];
@@ -28,7 +36,7 @@ static void write_surveys(void) {
 
 static void write_tables(void) {
     write_words("classes.csv", "class,name,colour,grey,price\n0,field,#c9ffaa,,0.25\n1,wood,,,3\n2,\"water, open\",,,\n"
-                               "3,scrub,#5b5060,,\n4,road,,,-1\n");
+                               "3,g\xc3\xa4nge \xe2\x82\xac,#5b5060,,\n4,road,,,-1\n");
     write_words("rules.csv", "office,id,row,column,height,width,class,name\n0,3,0,0,11,7,1,wood <b>\n0,20,2,2,6,4,2,\n"
                              "1,3,0,0,4,4,1,\"a, b\"\n");
     write_words("waivers.csv", "office,rule,sheet,key,note\n0,3,0.0,10,far\n0,3,0.0,21,\n"
@@ -37,17 +45,37 @@ static void write_tables(void) {
                                  "exist,9,9,1,1,3\nexist,3,3,4,4,77\n");
     write_words("pairs.csv", "old,new,class\n0,0,0\nwood,1,1\n2,2,2\n");
     write_words("places.csv", "office,rule,place,note\n0,3,1,old\n1,3,0,\n");
+    write_words("wide.csv", "office,id,row,column,height,width,class\n0,1,0,0,1,2080,1\n");
+}
+
+/* one.gpkg: one sheet, whose survey GDAL's programs brought, so that it has a coordinate system. A patch of it touches
+ * itself by corners, both ways, and has a hole. */
+static void make_placed(void) {
+    static const char info[] = "{\"size\": [4, 8], \"geoTransform\": [562000.5, 2, 0, 5934000, 0, -2],"
+                               " \"coordinateSystem\": {\"wkt\": \"PROJCRS[\\\"here\\\",ID[\\\"EPSG\\\",25832]]\"},"
+                               " \"bands\": [{\"type\": \"Byte\"}]}";
+    static const char raw[] = "\1\1\1\1" "\1\1\0\1" "\1\0\1\1" "\1\1\1\1" "\1\1\1\1" "\1\0\1\1" "\1\1\0\1" "\1\1\1\1";
+    gdal = (gdal_stub){ .info = info, .info_length = sizeof info - 1, .srs = "PROJCS[\"here\"]\n", .srs_length = 15,
+                        .head = "NBITS 8\n", .head_length = 8, .raw = raw, .raw_length = 32 };
+    write_bytes("one.tif", "II*", 4);
+    write_words("one.csv", "office,id,row,column,height,width,class,name\n0,3,0,0,8,4,1,\xc3\xbc\n1,3,4,0,2,2,0,\n");
+    MUST_RUN("init", "one.gpkg", "--side", "8", "--slots", "2", "--filler", "1");
+    MUST_RUN("add", "one.gpkg", "one.tif");
+    MUST_RUN("set", "one.gpkg", "rules", "one.csv");
+    keep_file("one.gpkg");
+    gdal = (gdal_stub){ 0 };
 }
 
 void make_day(void) {
     write_surveys();
+    write_wide();
     write_tables();
     MUST_RUN("init", "day.gpkg", "--side", "4", "--slots", "8");
     MUST_RUN("set", "day.gpkg", "classes", "classes.csv");
     MUST_RUN("add", "day.gpkg", "s.pgm", "--taken", "2026-05-31", "--cell", "0.5");
     MUST_RUN("set", "day.gpkg", "rules", "rules.csv");
     MUST_RUN("set", "day.gpkg", "waivers", "waivers.csv");
-    MUST_RUN("paint", "day.gpkg", "1", "1", "5", "5", "scrub", "--by", "crew 4");
+    MUST_RUN("paint", "day.gpkg", "1", "1", "5", "5", "3", "--by", "crew 4");
     MUST_RUN("paint", "day.gpkg", "0.1:10", "2");
     MUST_RUN("paint", "day.gpkg", "8", "0", "9", "9", "road");
     MUST_RUN("undo", "day.gpkg");
@@ -59,10 +87,7 @@ void make_day(void) {
     keep_file("day.gpkg");
     MUST_RUN("export", "day.gpkg", "hlq", "old.hlq", "--sheet", "0.0");
     keep_file("old.hlq");
-    MUST_RUN("init", "one.gpkg", "--side", "8", "--slots", "2", "--filler", "1");
-    write_words("one.pgm", "P2 4 8 1 0 0 1 1 0 1 1 1 0 0 0 0 0 0 0 0 1 1 0 0 1 1 0 0 1 0 0 1 1 1 1 1");
-    MUST_RUN("add", "one.gpkg", "one.pgm");
-    keep_file("one.gpkg");
+    make_placed();
     MUST_RUN("init", "new.gpkg", "--side", "4", "--slots", "8");
     keep_file("new.gpkg");
     /* what libraries make at first use and keep */

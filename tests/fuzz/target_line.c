@@ -9,7 +9,7 @@
 #include <string.h>
 #include <xxhash.h>
 
-enum { CHANGES = 12, COMMANDS = 4 };
+enum { CHANGES = 12 };
 
 int LLVMFuzzerInitialize(int *count, char ***words) {
     (void)count, (void)words;
@@ -151,6 +151,18 @@ static void change(sqlite3 *db, input *in) {
     }
 }
 
+/* Bytes of the database's own pages. */
+static void change_pages(const char *line, input *in) {
+    size_t length;
+    uint8_t *bytes = read_bytes(line, &length);
+    for (unsigned i = take_byte(in) & 7; i > 0; i--) {
+        size_t at = take_byte(in), page = take_byte(in);
+        bytes[((page & 63) * 4096 + (page & 64 ? 4095 - at : at)) % length] = take_byte(in);
+    }
+    write_bytes(line, bytes, take_byte(in) == 77 ? length / 2 : length);
+    free(bytes);
+}
+
 static void change_line(const char *line, input *in) {
     sqlite3 *db;
     must(sqlite3_open(line, &db) == SQLITE_OK, "the line does not open");
@@ -252,10 +264,11 @@ int LLVMFuzzerTestOneInput(const uint8_t *bytes, size_t size) {
     uint8_t how = take_byte(&in);
     const char *line = how & 1 ? "one.gpkg" : "day.gpkg";
     change_line(line, &in);
+    if (how & 64) change_pages(line, &in);
     if (how & 2) ask_sound(line);
     memory_ends_at = how & 4 ? 1 + take_byte(&in) : 0;
     on_terminal = how & 8;
-    for (unsigned i = 1 + (how >> 4) % COMMANDS; i > 0; i--) run_command(line, &in);
+    for (unsigned i = 1 + (how >> 4 & 3); i > 0; i--) run_command(line, &in);
     memory_ends_at = on_terminal = 0;
     restore_folder();
     return 0;
