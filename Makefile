@@ -2,7 +2,7 @@
 # the Rattle kit, Debian's packages and git; what else they need they install. CC, CFLAGS and LDFLAGS are heeded, by
 # `make install` PREFIX and DESTDIR too.
 
-.PHONY: lib tool line run test histories faults bench shared install install-tool kit clean
+.PHONY: lib tool line run test histories faults bench fuzz shared install install-tool kit clean
 
 # The interface's number is the shared library's version.
 interface := $(shell sed -n 's/^.define HLQ_INTERFACE //p' include/prowcurl.h)
@@ -60,6 +60,11 @@ faults:
 bench: lib
 	@tools/compile-c target/c/bench bench/bench.c bench/plain.c
 	@tools/run-counted target/c/bench
+
+# Each fuzzer for SECONDS, one after the other: docs/FUZZING.md. `make test` runs what they found so far.
+SECONDS ?= 60
+fuzz: lib
+	@tests/fuzz/fuzz $(SECONDS)
 
 # The archive's code as a shared library.
 shared: lib

@@ -283,6 +283,7 @@ static void add_survey(const arguments *a, line *l, const char *name) {
     if (a->given[OPTION_NODATA]) in.nodata_class = (int)class_of(&in.classes, value_of(a, OPTION_NODATA), "--nodata");
     take_filler(a, l, &in.classes);
     place_by_hand(a, &s);
+    accept_place(s.path, s.west, s.north, s.cell);
     if (l->rows) same_grid(l, &s, s.epsg ? s.epsg : l->srs); /* said before the long way; said again at its end */
     begin_new_sheets(l);
     cut(&in);

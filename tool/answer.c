@@ -6,6 +6,7 @@
 #include "tool.h"
 
 #include <jansson.h>
+#include <math.h>
 #include <stdlib.h>
 #include <string.h>
 
@@ -135,6 +136,9 @@ static const char *decimal_text(double number, char text[400]) {
     return text;
 }
 
+/* JSON knows no infinity, which a price can lead to. */
+static json_t *decimal_json(double number) { return isfinite(number) ? json_real(number) : json_null(); }
+
 static const char *number_text(int64_t number, char text[32]) {
     snprintf(text, 32, "%lld", (long long)number);
     return text;
@@ -147,22 +151,17 @@ void fact_number(const char *name, uint64_t number) {
 
 void fact_decimal(const char *name, double number) {
     char text[400];
-    fact(name, decimal_text(number, text), json_real(number));
+    fact(name, decimal_text(number, text), decimal_json(number));
 }
 
 void fact_exact(const char *name, double number) {
     char text[40];
     snprintf(text, sizeof text, "%.15g", number);
-    fact(name, text, json_real(number));
+    fact(name, text, decimal_json(number));
 }
 
 void fact_words(const char *name, const char *words) { fact(name, words, json_text(words)); }
 void fact_truth(const char *name, int truth) { fact(name, truth ? "yes" : "no", json_boolean(truth)); }
-
-void fact_classes(const char *name, uint64_t bits) {
-    char text[128];
-    fact(name, classes_text(bits, text), classes_json(bits));
-}
 
 void fact_nothing(const char *name) { fact(name, "", json_null()); }
 
@@ -241,7 +240,7 @@ void cell_signed(int64_t number) {
 
 void cell_decimal(double number) {
     char text[400];
-    cell(decimal_text(number, text), json_real(number));
+    cell(decimal_text(number, text), decimal_json(number));
 }
 
 void cell_words(const char *words) { cell(words, json_text(words)); }

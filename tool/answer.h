@@ -28,7 +28,6 @@ void fact_decimal(const char *name, double number);
 void fact_exact(const char *name, double number);
 void fact_words(const char *name, const char *words);
 void fact_truth(const char *name, int truth);
-void fact_classes(const char *name, uint64_t bits);
 void fact_nothing(const char *name);
 
 /* A table; after its last column a row ends by itself. */

@@ -6,6 +6,7 @@
 #include "line_tables.h"
 
 #include <errno.h>
+#include <math.h>
 #include <stdarg.h>
 #include <stdlib.h>
 #include <string.h>
@@ -140,11 +141,24 @@ int64_t number_from_sql(line *l, int64_t otherwise, const char *sql, const char 
     return number;
 }
 
-uint32_t u32_at(sqlite3_stmt *row, int column) { return (uint32_t)sqlite3_column_int64(row, column); }
+uint32_t u32_at(sqlite3_stmt *row, int column) {
+    int64_t number = sqlite3_column_int64(row, column);
+    return number < 0 || number > UINT32_MAX ? UINT32_MAX : (uint32_t)number;
+}
 
 const char *text_at(sqlite3_stmt *row, int column) {
     const char *text = (const char *)sqlite3_column_text(row, column);
     return text ? text : "";
+}
+
+int place_is_sound(double west, double north, double cell) {
+    return fabs(west) <= 1e15 && fabs(north) <= 1e15 && cell >= 1e-12 && cell <= 1e12;
+}
+
+void accept_place(const char *path, double west, double north, double cell) {
+    if (!place_is_sound(west, north, cell))
+        fail(STATUS_DATA, "%s: cells of %.15g with the north-west corner %.15g, %.15g: a side goes from 1e-12 to 1e12,"
+                          " and a corner to 1e15", path, cell, west, north);
 }
 
 double seconds_to_wait(const arguments *a) {
@@ -210,7 +224,8 @@ static void read_settings(line *l) {
     leave(s);
     int sound = m >= 0 && m <= HLQ_DEEPEST_M && slots >= 1 && slots <= HLQ_MOST_SLOTS && filler >= 0 &&
                 filler < slots && rows >= 0 && rows <= MOST_SIDE_OF_SURVEY && columns >= 0 &&
-                columns <= MOST_SIDE_OF_SURVEY && (rows == 0) == (columns == 0) && l->cell > 0;
+                columns <= MOST_SIDE_OF_SURVEY && (rows == 0) == (columns == 0) &&
+                place_is_sound(l->west, l->north, l->cell);
     if (!sound) fail(STATUS_DATA, "%s: table prowcurl: its row holds numbers that no line has", l->path);
     l->m = (uint32_t)m, l->slots = (uint32_t)slots, l->filler = (uint32_t)filler;
     l->rows = (uint32_t)rows, l->columns = (uint32_t)columns;

@@ -60,9 +60,15 @@ int64_t number_from_sql(line *l, int64_t otherwise, const char *sql, const char 
 /* Says what the database says, with the line's path, and ends with the status that fits. */
 _Noreturn void fail_as_sqlite(const line *l, int code);
 
-/* The answers of a row, as C has them; text_at gives "" for null. */
+/* The answers of a row, as C has them. u32_at gives UINT32_MAX, which is no class, office, sheet or key, for a number
+ * that 32 bits do not hold; text_at gives "" for null. */
 uint32_t u32_at(sqlite3_stmt *row, int column);
 const char *text_at(sqlite3_stmt *row, int column);
+
+/* Where a line may lie, so that every coordinate and every area of it is a number. accept_place ends where a survey,
+ * the one at `path`, lies elsewhere. */
+int place_is_sound(double west, double north, double cell);
+void accept_place(const char *path, double west, double north, double cell);
 
 double seconds_to_wait(const arguments *a);
 /* Who edits: --by, or the login name. In memory of its own. */

@@ -106,6 +106,7 @@ static void fit(line *l, const sheet *a, const char *path) {
                           "sheets of %u", path, side, side, l->rows, l->columns, side_of(l));
     if (l->rows) return;
     l->m = a->map.list.m, l->rows = l->columns = side, l->west = 0, l->north = side * l->cell;
+    accept_place(path, l->west, l->north, l->cell);
     run_sql(l, "UPDATE prowcurl SET m = ?, rows = ?, columns = ?, west = 0, north = ?", "iiid", (int64_t)l->m,
             (int64_t)side, (int64_t)side, l->north);
     place_layers(l);

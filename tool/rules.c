@@ -9,6 +9,9 @@ rule_list read_rules(line *l, int office) {
     sqlite3_stmt *row = ask_sql(l, "SELECT office, id, class, \"row\", \"column\", height, width, name FROM rules"
                                    " WHERE ? IN (-1, office) ORDER BY office, id", "i", (int64_t)office);
     while (next_row(l, row)) {
+        if (u32_at(row, 0) > 1)
+            fail(STATUS_DATA, "%s, table rules, rule %u: office %s is neither 0 nor 1", l->path, u32_at(row, 1),
+                 text_at(row, 0));
         if (r.count == room) r.at = more_room_for(r.at, room = room * 2 + 16, sizeof *r.at);
         r.at[r.count++] = (rule){ u32_at(row, 0), u32_at(row, 1), u32_at(row, 2), sqlite3_column_int64(row, 3),
                                   sqlite3_column_int64(row, 4), sqlite3_column_int64(row, 5),
@@ -27,8 +30,9 @@ const char *wrong_with_rule(const line *l, const rule *r) {
     if (r->height <= 0 || r->width <= 0) return "its window has no pixel";
     if (r->row < 0 || r->column < 0) return "its window begins outside the survey";
     if (!l->rows) return NULL;
-    if (r->row + r->height > l->rows) return "its window reaches over the survey's southern edge";
-    if (r->column + r->width > l->columns) return "its window reaches over the survey's eastern edge";
+    /* not the sum, which a table that somebody else wrote may make too large */
+    if (r->height > (int64_t)l->rows - r->row) return "its window reaches over the survey's southern edge";
+    if (r->width > (int64_t)l->columns - r->column) return "its window reaches over the survey's eastern edge";
     return NULL;
 }
 

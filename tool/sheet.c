@@ -78,7 +78,7 @@ static void compare_digest(const stored *r, sqlite3_stmt *row, const char *what)
     if (sqlite3_column_bytes(row, 5) != DIGEST || memcmp(sqlite3_column_blob(row, 5), digest, DIGEST) != 0)
         fail(STATUS_DATA, "%s: these are not the bytes that were written (the digest differs); take the line from a "
                           "copy", what);
-    if (r->keys_length != 4 * r->used || r->values_length != 4 * r->used)
+    if (r->keys_length % 4 || r->keys_length / 4 != r->used || r->values_length != r->keys_length)
         fail(STATUS_DATA, "%s: the log has another length than it says", what);
 }
 

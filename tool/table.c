@@ -155,8 +155,11 @@ double decimal_at(const csv *c, size_t row, size_t column) {
 
 char *where_in(const csv *c, size_t row) { return text_of("%s, line %zu", c->path, c->lines[row]); }
 
+/* What libcsv takes away around a field that is not quoted. */
+static int is_blank(char letter) { return letter == ' ' || letter == '\t'; }
+
 void write_csv_field(FILE *file, const char *field) {
-    if (strpbrk(field, ",\"\r\n;") || *field == ' ' || (*field && field[strlen(field) - 1] == ' '))
+    if (strpbrk(field, ",\"\r\n;") || is_blank(*field) || (*field && is_blank(field[strlen(field) - 1])))
         csv_fwrite(file, field, strlen(field));
     else fputs(field, file);
 }

@@ -60,6 +60,9 @@ static block_list patch_blocks(line *l, const asked *q, const arguments *a) {
  * them stays live. */
 static block_list blocks_of_window(line *l, const asked *q, window w) {
     const rule *r = &q->rules.at[q->rule];
+    char *where = text_of("%s, table rules, office %u", l->path, q->office);
+    accept_rule(l, r, where);
+    free(where);
     uint64_t top = w.row > r->row ? w.row : (uint64_t)r->row;
     uint64_t left = w.column > r->column ? w.column : (uint64_t)r->column;
     uint64_t bottom = w.row + w.height < r->row + r->height ? w.row + w.height : (uint64_t)(r->row + r->height);

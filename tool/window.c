@@ -46,7 +46,7 @@ static window box_of(const line *l, char **words) {
              west > east ? "EAST" : "NORTH");
     long long row, column;
     uint64_t height, width;
-    window w;
+    window w = { 0 };
     if (!between((west - l->west) / l->cell, (east - l->west) / l->cell, l->columns, &column, &width) ||
         !between((l->north - north) / l->cell, (l->north - south) / l->cell, l->rows, &row, &height) ||
         !clip_window(l, row, column, height, width, &w))
