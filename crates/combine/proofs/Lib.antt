@@ -5,6 +5,7 @@ pub mod Table
 pub mod TwoLeaves
 pub mod BothLists
 pub mod FourCalls
+pub mod FourWrites
 -- the call
 pub mod CombineRefusal
 pub mod WholeLists

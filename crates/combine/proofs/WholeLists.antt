@@ -8,6 +8,8 @@ use native.Mathlib.Omega.{arith}
 use native.Mathlib.Nat.{zero-add}
 use lib.ListN.{length, set}
 use borrow.Author.Tests.{lt-ltb, le-ltb}
+use Rattle.keys.specs.Span.{rootSpan}
+use Rattle.keys.specs.declared.span.KeySpan.{KeySpan}
 use Rattle.keys.proofs.Powers.{five-le}
 use Rattle.definitions.specs.Read.{room}
 use Rattle.definitions.specs.Combine.{combined}
@@ -20,20 +22,21 @@ use Rattle.build.specs.BuildBlocks.{Written}
 use Rattle.build.proofs.CountBlock.{list-five}
 use Rattle.build.proofs.FittingBlock.{keys-length, bits-length}
 use Rattle.build.proofs.BuildCall.{root-run}
-use Rattle.combine.specs.Combining.{Seen, CombineAsked, CombineWriteAsked, CombinedCounted, Made}
+use Rattle.combine.specs.Combining.{Seen, bothRoots, CombineAsked, CombineWriteAsked, CombinedCounted, Made}
+use Rattle.combine.specs.declared.cursor.Pair.{Pair}
 use Rattle.combine.specs.Ready.{CombineReady, resultOf, Answered}
 
 module _ {m : ℕ} {keys₁ bits₁ : List ℕ} {n₁ : ℕ} {keys₂ bits₂ : List ℕ} {n₂ : ℕ} {table : List ℕ} {s₂ : ℕ} (y : CombineReady m keys₁ bits₁ n₁ keys₂ bits₂ n₂ table s₂) where
   -- the root is listed first in both
-  root-seen : {step : ℕ} → step ≡ 5 ^ m → Seen (shownBy m keys₁ bits₁ n₁) (shownBy m keys₂ bits₂ n₂) m 0 0 0 bits₁ bits₂ step 0 0 0 0
+  root-seen : {step : ℕ} → step ≡ 5 ^ m → Seen (shownBy m keys₁ bits₁ n₁) (shownBy m keys₂ bits₂ n₂) m 0 0 0 bits₁ bits₂ step bothRoots
   root-seen e = record {
     step-is = e;
     first-at = record { inside = λ h. absurd (h refl); listed = λ z. root-shown (y .first-own) };
     second-at = record { inside = λ h. absurd (h refl); listed = λ z. root-shown (y .second-own) };
   }
 
-  pub root-asked : {step : ℕ} → step ≡ 5 ^ m → CombineAsked bits₁ bits₂ table s₂ step 0 0 0 0
-  root-asked e = record {
+  first-asked : {step : ℕ} → step ≡ 5 ^ m → CombineAsked bits₁ bits₂ table s₂ step bothRoots
+  first-asked e = record {
     first = shownBy m keys₁ bits₁ n₁;
     second = shownBy m keys₂ bits₂ n₂;
     height = m;
@@ -45,9 +48,12 @@ module _ {m : ℕ} {keys₁ bits₁ : List ℕ} {n₁ : ℕ} {keys₂ bits₂ : 
     named = y .named;
   }
 
-  pub root-count : {step u n i j : ℕ} → step ≡ 5 ^ m → CombinedCounted bits₁ bits₂ table s₂ step 0 0 0 0 u n i j
+  pub root-asked : {step : ℕ} {x : Pair} → step ≡ 5 ^ m → x ≡ bothRoots → CombineAsked bits₁ bits₂ table s₂ step x
+  root-asked e f = rw f (first-asked e)
+
+  pub root-count : {step u n : ℕ} {x y : Pair} → step ≡ 5 ^ m → x ≡ bothRoots → CombinedCounted bits₁ bits₂ table s₂ step x u n y
       → n ≡ length (resultOf m keys₁ bits₁ n₁ keys₂ bits₂ n₂ table s₂)
-  root-count e h = h .tallied _ _ _ _ _ _ (root-seen e) .count-is
+  root-count e f h = (rw f at h) .tallied _ _ _ _ _ _ (root-seen e) .count-is
 
   -- the numbers of records are small, and not 0
   pub few-records : (n₁ ≤ 5 ^ 10) × (n₂ ≤ 5 ^ 10)
@@ -74,10 +80,10 @@ module _ {m : ℕ} {keys₁ bits₁ : List ℕ} {n₁ : ℕ} {keys₂ bits₂ : 
     }
 
     module _ (fits : length (resultOf m keys₁ bits₁ n₁ keys₂ bits₂ n₂ table s₂) ≤ room keys bits) where
-      pub root-fits : {step : ℕ} → step ≡ 5 ^ m → CombineWriteAsked bits₁ bits₂ table s₂ step 0 0 0 0 0 0 keys bits
-      unfolding root-asked
-      root-fits e = record {
-        asked = root-asked e;
+      first-fits : CombineWriteAsked bits₁ bits₂ table s₂ (rootSpan m) bothRoots 0 keys bits
+      unfolding first-asked
+      first-fits = record {
+        asked = first-asked refl;
         fits = record {
           key-fits = let u = five-le 10 (y .deep) in omega arith;
           place-fits = omega arith;
@@ -86,9 +92,16 @@ module _ {m : ℕ} {keys₁ bits₁ : List ℕ} {n₁ : ℕ} {keys₂ bits₂ : 
         };
       }
 
-      module _ {step : ℕ} (e : step ≡ 5 ^ m) {keys′ bits′ : List ℕ} {b n i j : ℕ} (w : Made bits₁ bits₂ table s₂ step 0 0 0 0 0 0 keys bits keys′ bits′ b n i j) where
+      pub root-fits : {span : KeySpan} {x : Pair} → span ≡ rootSpan m → x ≡ bothRoots → CombineWriteAsked bits₁ bits₂ table s₂ span x 0 keys bits
+      root-fits e f = rw (e, f) first-fits
+
+      module _ {span : KeySpan} {x z : Pair} (e : span ≡ rootSpan m) (f : x ≡ bothRoots) {keys′ bits′ : List ℕ} {b n : ℕ}
+          (w : Made bits₁ bits₂ table s₂ span x 0 keys bits keys′ bits′ b n z) where
+        root-made : Made bits₁ bits₂ table s₂ (rootSpan m) bothRoots 0 keys bits keys′ bits′ b n z
+        root-made = rw (e, f) at w
+
         root-written : Written (combined (shownBy m keys₁ bits₁ n₁) (shownBy m keys₂ bits₂ n₂) table s₂) m 0 0 0 0 keys bits keys′ bits′ b n
-        root-written = w .written _ _ _ _ _ _ (root-seen e)
+        root-written = root-made .written _ _ _ _ _ _ (root-seen refl)
 
         -- the root's own place is there
         pub root-places : (0 < length keys′) × (0 < length bits′)

@@ -15,35 +15,56 @@ use Rattle.definitions.specs.Combine.{combined}
 use Rattle.list.specs.Check.{oneSlot}
 use Rattle.list.specs.Shown.{ShownAt}
 use Rattle.build.specs.BuildBlocks.{Tallied, Fitting, Written}
+use Rattle.keys.specs.declared.span.KeySpan.{KeySpan}
+use Rattle.combine.specs.declared.cursor.Cursor.{Cursor}
+use Rattle.combine.specs.declared.cursor.Pair.{Pair}
 
 -- where a list stands at a block: inside a leaf of the given bits, or, where those are 0, at the block's own record
-pub record At (p : Picture) (k r c κ : ℕ) (bits : List ℕ) (leaf at : ℕ) : Type 0 where
-  pub inside : (leaf ≡ 0 → ⊥) → (leaf ≡ bitsOf p k r c) × (oneSlot leaf ≡ true)
-  pub listed : leaf ≡ 0 → ShownAt p k r c κ bits at
+pub record At (p : Picture) (k r c κ : ℕ) (bits : List ℕ) (x : Cursor) : Type 0 where
+  pub inside : (x .leaf ≡ 0 → ⊥) → (x .leaf ≡ bitsOf p k r c) × (oneSlot (x .leaf) ≡ true)
+  pub listed : x .leaf ≡ 0 → ShownAt p k r c κ bits (x .at)
 
 -- the bits of a leaf, and 0 for a node
 abbrev pub leafOf : ℕ → ℕ
 leafOf own = cond (oneSlot own) own 0
 
 -- once the block's own record is read, where it has one: the bits of the leaf around its quadrants, and the place of what follows
-pub record Entered (bits : List ℕ) (leaf at leaf′ at′ : ℕ) : Type 0 where
-  pub leaf-is : leaf′ ≡ cond (eqb leaf 0) (leafOf (getD bits at 0)) leaf
-  pub at-is : at′ ≡ at + cond (eqb leaf 0) 1 0
+pub record Entered (bits : List ℕ) (x y : Cursor) : Type 0 where
+  pub leaf-is : y .leaf ≡ cond (eqb (x .leaf) 0) (leafOf (getD bits (x .at) 0)) (x .leaf)
+  pub at-is : y .at ≡ x .at + cond (eqb (x .leaf) 0) 1 0
 
 -- how many records are passed with the block
 abbrev pub passing : Picture → ℕ → ℕ → ℕ → ℕ → ℕ → ℕ
 passing p k r c κ leaf = cond (eqb leaf 0) (length (listOf p k r c κ)) 0
 
--- both lists stand at one block; step is what the last digit of its key is worth
-pub record Seen (p q : Picture) (k r c κ : ℕ) (bits₁ bits₂ : List ℕ) (step leaf₁ at₁ leaf₂ at₂ : ℕ) : Type 0 where
-  pub step-is : step ≡ 5 ^ k
-  pub first-at : At p k r c κ bits₁ leaf₁ at₁
-  pub second-at : At q k r c κ bits₂ leaf₂ at₂
+-- once the block is passed: inside the leaf as before, and at the place after the block
+pub record Passed (p : Picture) (k r c κ : ℕ) (x y : Cursor) : Type 0 where
+  pub same-leaf : y .leaf ≡ x .leaf
+  pub at-is : y .at ≡ x .at + passing p k r c κ (x .leaf)
 
--- the places after the block in both lists
-pub record Passes (p q : Picture) (k r c κ leaf₁ at₁ leaf₂ at₂ next₁ next₂ : ℕ) : Type 0 where
-  pub first-next : next₁ ≡ at₁ + passing p k r c κ leaf₁
-  pub second-next : next₂ ≡ at₂ + passing q k r c κ leaf₂
+-- both lists before the root's record
+abbrev pub bothRoots : Pair
+bothRoots = record { first = record { leaf = 0; at = 0 }; second = record { leaf = 0; at = 0 } }
+
+-- the leaves of one pair, and the places of another
+abbrev pub passedTo : (x y : Pair) → Pair
+passedTo x y = record { first = record { leaf = x .first .leaf; at = y .first .at }; second = record { leaf = x .second .leaf; at = y .second .at } }
+
+-- both lists stand at one block; step is what the last digit of its key is worth
+pub record Seen (p q : Picture) (k r c κ : ℕ) (bits₁ bits₂ : List ℕ) (step : ℕ) (x : Pair) : Type 0 where
+  pub step-is : step ≡ 5 ^ k
+  pub first-at : At p k r c κ bits₁ (x .first)
+  pub second-at : At q k r c κ bits₂ (x .second)
+
+-- the block's records are read in both
+pub record BothEntered (bits₁ bits₂ : List ℕ) (x y : Pair) : Type 0 where
+  pub first-in : Entered bits₁ (x .first) (y .first)
+  pub second-in : Entered bits₂ (x .second) (y .second)
+
+-- the block is passed in both
+pub record Passes (p q : Picture) (k r c κ : ℕ) (x y : Pair) : Type 0 where
+  pub first-next : Passed p k r c κ (x .first) (y .first)
+  pub second-next : Passed q k r c κ (x .second) (y .second)
 
 -- the table has an entry for each pair of classes in the block, each a class of some result
 pub record Named (p q : Picture) (k r c : ℕ) (table : List ℕ) (s₂ : ℕ) : Type 0 where
@@ -56,7 +77,7 @@ pub record Named (p q : Picture) (k r c : ℕ) (table : List ℕ) (s₂ : ℕ) :
   pub seconds : featuresBelow s₂ q k r c ≡ true
 
 -- some block that both lists show, with a table for its classes
-pub record CombineAsked (bits₁ bits₂ table : List ℕ) (s₂ step leaf₁ at₁ leaf₂ at₂ : ℕ) : Type 0 where
+pub record CombineAsked (bits₁ bits₂ table : List ℕ) (s₂ step : ℕ) (x : Pair) : Type 0 where
   pub first : Picture
   pub second : Picture
   pub height : ℕ
@@ -64,27 +85,25 @@ pub record CombineAsked (bits₁ bits₂ table : List ℕ) (s₂ step leaf₁ at
   pub column : ℕ
   pub key : ℕ
   pub deep : height ≤ 10
-  pub seen : Seen first second height row column key bits₁ bits₂ step leaf₁ at₁ leaf₂ at₂
+  pub seen : Seen first second height row column key bits₁ bits₂ step x
   pub named : Named first second height row column table s₂
 
 -- and room for the records below it, as build asks for it
-pub record CombineWriteAsked (bits₁ bits₂ table : List ℕ) (s₂ step leaf₁ at₁ leaf₂ at₂ key place : ℕ) (keys bits : List ℕ) : Type 0 where
-  pub asked : CombineAsked bits₁ bits₂ table s₂ step leaf₁ at₁ leaf₂ at₂
-  pub fits : Fitting (combined (asked .first) (asked .second) table s₂) (asked .height) (asked .row) (asked .column) key place keys bits
+pub record CombineWriteAsked (bits₁ bits₂ table : List ℕ) (s₂ : ℕ) (span : KeySpan) (x : Pair) (place : ℕ) (keys bits : List ℕ) : Type 0 where
+  pub asked : CombineAsked bits₁ bits₂ table s₂ (span .step) x
+  pub fits : Fitting (combined (asked .first) (asked .second) table s₂) (asked .height) (asked .row) (asked .column) (span .key) place keys bits
 
--- whichever pictures the two lists show at the block, these are the places after it
-abbrev pub AllPass : (bits₁ bits₂ : List ℕ) (step leaf₁ at₁ leaf₂ at₂ next₁ next₂ : ℕ) → Type 0
-AllPass bits₁ bits₂ step leaf₁ at₁ leaf₂ at₂ next₁ next₂ =
-    (p q : Picture) (k r c κ : ℕ) → Seen p q k r c κ bits₁ bits₂ step leaf₁ at₁ leaf₂ at₂ → Passes p q k r c κ leaf₁ at₁ leaf₂ at₂ next₁ next₂
+-- whichever pictures the two lists show at the block, so they pass it
+abbrev pub AllPass : (bits₁ bits₂ : List ℕ) (step : ℕ) (x y : Pair) → Type 0
+AllPass bits₁ bits₂ step x y = (p q : Picture) (k r c κ : ℕ) → Seen p q k r c κ bits₁ bits₂ step x → Passes p q k r c κ x y
 
 -- and these the bits and the number of records of the combined block
-pub record CombinedCounted (bits₁ bits₂ table : List ℕ) (s₂ step leaf₁ at₁ leaf₂ at₂ union count next₁ next₂ : ℕ) : Type 0 where
-  pub passes : AllPass bits₁ bits₂ step leaf₁ at₁ leaf₂ at₂ next₁ next₂
-  pub tallied : (p q : Picture) (k r c κ : ℕ) → Seen p q k r c κ bits₁ bits₂ step leaf₁ at₁ leaf₂ at₂
-      → Tallied (combined p q table s₂) k r c union count
+pub record CombinedCounted (bits₁ bits₂ table : List ℕ) (s₂ step : ℕ) (x : Pair) (union count : ℕ) (y : Pair) : Type 0 where
+  pub passes : AllPass bits₁ bits₂ step x y
+  pub tallied : (p q : Picture) (k r c κ : ℕ) → Seen p q k r c κ bits₁ bits₂ step x → Tallied (combined p q table s₂) k r c union count
 
 -- or the records below the combined block are written
-pub record Made (bits₁ bits₂ table : List ℕ) (s₂ step leaf₁ at₁ leaf₂ at₂ key place : ℕ) (keys bits keys′ bits′ : List ℕ) (union next next₁ next₂ : ℕ) : Type 0 where
-  pub passes : AllPass bits₁ bits₂ step leaf₁ at₁ leaf₂ at₂ next₁ next₂
-  pub written : (p q : Picture) (k r c κ : ℕ) → Seen p q k r c κ bits₁ bits₂ step leaf₁ at₁ leaf₂ at₂
-      → Written (combined p q table s₂) k r c key place keys bits keys′ bits′ union next
+pub record Made (bits₁ bits₂ table : List ℕ) (s₂ : ℕ) (span : KeySpan) (x : Pair) (place : ℕ) (keys bits keys′ bits′ : List ℕ) (union next : ℕ) (y : Pair) : Type 0 where
+  pub passes : AllPass bits₁ bits₂ (span .step) x y
+  pub written : (p q : Picture) (k r c κ : ℕ) → Seen p q k r c κ bits₁ bits₂ (span .step) x
+      → Written (combined p q table s₂) k r c (span .key) place keys bits keys′ bits′ union next

@@ -2,14 +2,14 @@
 ghost use Rattle.combine.specs.Combining.{CombineAsked, CombinedCounted};
 use crate::classes;
 use crate::cursor;
+use crate::cursor::Pair;
 use build::count;
 use build::count::Tally;
 
-// The tally of a combined block, and the places after the block in both lists.
+// The tally of a combined block, and both lists past it.
 pub struct CombinedTally {
     pub tally: Tally,
-    pub first: usize,
-    pub second: usize,
+    pub next: Pair,
 }
 
 // A block that is a leaf in both lists is one record. Else its quadrants are counted: what is a leaf in one list alone waits there.
@@ -19,66 +19,24 @@ pub fn count_block(
     table: &[u8],
     s2: usize,
     step: u32,
-    leaf1: u32,
-    at1: usize,
-    leaf2: u32,
-    at2: usize,
+    at: Pair,
 ) -> CombinedTally
-    requires { ⌜ CombineAsked (now bits1) (now bits2) (now table) s2 step leaf1 at1 leaf2 at2 ⌝ }
-    ensures { λ r. ⌜ CombinedCounted (now (bits1 .entry)) (now (bits2 .entry)) (now (table .entry)) s2 step leaf1 at1 leaf2 at2 (r .tally .bits) (r .tally .count) (r .first) (r .second) ⌝ }
+    requires { ⌜ CombineAsked (now bits1) (now bits2) (now table) s2 step at ⌝ }
+    ensures { λ r. ⌜ CombinedCounted (now (bits1 .entry)) (now (bits2 .entry)) (now (table .entry)) s2 step at (r .tally .bits) (r .tally .count) (r .next) ⌝ }
 {
-    let a = cursor::enter(bits1, leaf1, at1);
-    let b = cursor::enter(bits2, leaf2, at2);
-    if (a.leaf != 0) & (b.leaf != 0) {
-        let bits = classes::class_bits(table, s2, a.leaf, b.leaf);
+    let here = cursor::enter_both(bits1, bits2, at);
+    if (here.first.leaf != 0) & (here.second.leaf != 0) {
+        let bits = classes::class_bits(table, s2, here.first.leaf, here.second.leaf);
         let tally = Tally { bits, count: 1 };
-        return CombinedTally {
-            tally,
-            first: a.at,
-            second: b.at,
-        };
+        let next = cursor::passed(at, here);
+        return CombinedTally { tally, next };
     }
     let lower = step / 5;
-    let nw = count_block(bits1, bits2, table, s2, lower, a.leaf, a.at, b.leaf, b.at);
-    let ne = count_block(
-        bits1,
-        bits2,
-        table,
-        s2,
-        lower,
-        a.leaf,
-        nw.first,
-        b.leaf,
-        nw.second,
-    );
-    let sw = count_block(
-        bits1,
-        bits2,
-        table,
-        s2,
-        lower,
-        a.leaf,
-        ne.first,
-        b.leaf,
-        ne.second,
-    );
-    let se = count_block(
-        bits1,
-        bits2,
-        table,
-        s2,
-        lower,
-        a.leaf,
-        sw.first,
-        b.leaf,
-        sw.second,
-    );
+    let nw = count_block(bits1, bits2, table, s2, lower, here);
+    let ne = count_block(bits1, bits2, table, s2, lower, nw.next);
+    let sw = count_block(bits1, bits2, table, s2, lower, ne.next);
+    let se = count_block(bits1, bits2, table, s2, lower, sw.next);
     let tally = count::joined(nw.tally, ne.tally, sw.tally, se.tally);
-    let first = se.first;
-    let second = se.second;
-    CombinedTally {
-        tally,
-        first,
-        second,
-    }
+    let next = cursor::passed(at, se.next);
+    CombinedTally { tally, next }
 }

@@ -11,6 +11,7 @@ use definitions::Counted;
 use definitions::refusal::Refusal;
 use keys::Key;
 use keys::power;
+use keys::span;
 use list::check;
 use list::settings;
 
@@ -88,7 +89,7 @@ fn has_room(
         return true;
     }
     let step = power::power_of_five(m);
-    let whole = count::count_block(bits1, bits2, table, s2, step, 0, 0, 0, 0);
+    let whole = count::count_block(bits1, bits2, table, s2, step, cursor::at_roots());
     let tally = whole.tally;
     tally.count <= room
 }
@@ -117,18 +118,13 @@ fn combine_ready(
             count: 0,
         };
     }
-    let step = power::power_of_five(m);
     let root = write::write_block(
         bits1,
         bits2,
         table,
         s2,
-        step,
-        0,
-        0,
-        0,
-        0,
-        Key::ROOT,
+        span::root(m),
+        cursor::at_roots(),
         0,
         keys,
         bits,

@@ -2,14 +2,16 @@
 ghost use Rattle.combine.specs.Combining.{CombineWriteAsked, Made};
 use crate::classes;
 use crate::cursor;
-use build::write;
+use crate::cursor::Pair;
 use build::write::Below;
+use build::write::write_four;
+use keys::span::KeySpan;
+use keys::span::child;
 
-// What is written below a combined block, and the places after the block in both lists.
+// What is written below a combined block, and both lists past it.
 pub struct Writing {
     pub below: Below,
-    pub first: usize,
-    pub second: usize,
+    pub next: Pair,
 }
 
 // Writes the records below a combined block, and not its own: only its parent knows whether it is listed. A block that is a leaf in both lists has
@@ -19,101 +21,77 @@ pub fn write_block(
     bits2: &[u32],
     table: &[u8],
     s2: usize,
-    step: u32,
-    leaf1: u32,
-    at1: usize,
-    leaf2: u32,
-    at2: usize,
-    key: u32,
+    span: KeySpan,
+    at: Pair,
     place: usize,
     keys: &mut [u32],
     bits: &mut [u32],
 ) -> Writing
-    requires { ⌜ CombineWriteAsked (now bits1) (now bits2) (now table) s2 step leaf1 at1 leaf2 at2 key place (now keys) (now bits) ⌝ }
-    ensures { λ r. ⌜ Made (now (bits1 .entry)) (now (bits2 .entry)) (now (table .entry)) s2 step leaf1 at1 leaf2 at2 key place (now (keys .entry)) (now (bits .entry)) (now (keys .exit)) (now (bits .exit)) (r .below .bits) (r .below .next) (r .first) (r .second) ⌝ }
+    requires { ⌜ CombineWriteAsked (now bits1) (now bits2) (now table) s2 span at place (now keys) (now bits) ⌝ }
+    ensures { λ r. ⌜ Made (now (bits1 .entry)) (now (bits2 .entry)) (now (table .entry)) s2 span at place (now (keys .entry)) (now (bits .entry)) (now (keys .exit)) (now (bits .exit)) (r .below .bits) (r .below .next) (r .next) ⌝ }
 {
-    let a = cursor::enter(bits1, leaf1, at1);
-    let b = cursor::enter(bits2, leaf2, at2);
-    if (a.leaf != 0) & (b.leaf != 0) {
-        let own = classes::class_bits(table, s2, a.leaf, b.leaf);
-        let alone = Below {
+    let here = cursor::enter_both(bits1, bits2, at);
+    let first = place + 1;
+    if (here.first.leaf != 0) & (here.second.leaf != 0) {
+        let own = classes::class_bits(table, s2, here.first.leaf, here.second.leaf);
+        let below = Below {
             bits: own,
-            next: place + 1,
+            next: first,
         };
-        return Writing {
-            below: alone,
-            first: a.at,
-            second: b.at,
-        };
+        let next = cursor::passed(at, here);
+        return Writing { below, next };
     }
-    let lower = step / 5;
-    let nw_key = key + lower;
     let nw = write_block(
         bits1,
         bits2,
         table,
         s2,
-        lower,
-        a.leaf,
-        a.at,
-        b.leaf,
-        b.at,
-        nw_key,
-        place + 1,
+        child(span, 1),
+        here,
+        first,
         keys,
         bits,
     );
-    let ne_key = key + 2 * lower;
+    let second = nw.below.next;
     let ne = write_block(
         bits1,
         bits2,
         table,
         s2,
-        lower,
-        a.leaf,
-        nw.first,
-        b.leaf,
-        nw.second,
-        ne_key,
-        nw.below.next,
+        child(span, 2),
+        nw.next,
+        second,
         keys,
         bits,
     );
-    let sw_key = key + 3 * lower;
+    let third = ne.below.next;
     let sw = write_block(
         bits1,
         bits2,
         table,
         s2,
-        lower,
-        a.leaf,
-        ne.first,
-        b.leaf,
-        ne.second,
-        sw_key,
-        ne.below.next,
+        child(span, 3),
+        ne.next,
+        third,
         keys,
         bits,
     );
-    let se_key = key + 4 * lower;
+    let fourth = sw.below.next;
     let se = write_block(
         bits1,
         bits2,
         table,
         s2,
-        lower,
-        a.leaf,
-        sw.first,
-        b.leaf,
-        sw.second,
-        se_key,
-        sw.below.next,
+        child(span, 4),
+        sw.next,
+        fourth,
         keys,
         bits,
     );
-    let below = write::write_four(
-        key,
-        lower,
+    let step = span.step / 5;
+    let below = write_four(
+        span.key,
+        step,
         place,
         nw.below,
         ne.below,
@@ -122,11 +100,6 @@ pub fn write_block(
         keys,
         bits,
     );
-    let first = se.first;
-    let second = se.second;
-    Writing {
-        below,
-        first,
-        second,
-    }
+    let next = cursor::passed(at, se.next);
+    Writing { below, next }
 }

@@ -1,5 +1,6 @@
 pub mod Cases
 pub mod Powers
+pub mod SpanChild
 pub mod Under
 pub mod Interval
 pub mod Parent

@@ -8,6 +8,7 @@ ghost use Rattle.keys.specs.Block.{rowOf, columnOf, sideOf, keyAround};
 
 pub mod power;
 pub mod quadrant;
+pub mod span;
 pub mod zeros;
 
 // A block's number: m digits in base 5.

@@ -1,161 +1,176 @@
 -- What the writing of a block's leaves asks and answers: where the next is the block, and by its quadrants. Rests on Quarters and on build's laws
 -- of writing.
-use Prim.Native.Nat.{ℕ, suc, _+_, _-_, _*_, _^_, _≤_, _<_}
+use Prim.Native.Nat.{ℕ, zero, suc, _+_, _-_, _*_, _/_, _^_, _≤_, _<_}
 use mathlib.Core.Path.{_≡_, refl, sym, _∙_, ap}
 use mathlib.Core.List.{List}
 use native.Mathlib.Omega.{arith}
+use native.Mathlib.Nat.{pow-suc}
 use lib.ListN.{length, getD}
+use Rattle.keys.specs.Span.{childSpan}
+use Rattle.keys.specs.declared.span.KeySpan.{KeySpan}
+use Rattle.keys.proofs.Powers.{five-pos, five-le}
+use Rattle.keys.proofs.SpanChild.{fifth-of, child-first}
 use Rattle.definitions.specs.Picture.{Picture}
 use Rattle.definitions.specs.Bits.{unionOfFour}
-use Rattle.build.specs.BuildBlocks.{FourAsked, FourWritten, Written}
-use Rattle.build.proofs.FittingBlock.{fits-nw, fits-ne, fits-sw, fits-se, fits-four}
+use Rattle.build.specs.BuildBlocks.{Fitting, FourAsked, FourWritten, Written}
+use Rattle.build.specs.declared.write.Below.{Below}
+use Rattle.build.proofs.FittingBlock.{fitting-at, fitting-key, fits-nw, fits-ne, fits-sw, fits-se, fits-four}
 use Rattle.build.proofs.WrittenBlock.{written-one, written-quadrants}
-use Rattle.leaves.specs.Delivered.{leavesEnd, Parted, leaf, four, LayAsked, BlockLaid}
+use Rattle.leaves.specs.Delivered.{leavesEnd, Parted, leaf, four, pixelSpan, leafLain, LayAsked, BlockLaid}
+use Rattle.leaves.specs.declared.lay.Lain.{Lain}
 use Rattle.leaves.proofs.EndOf.{end-leaf}
-use Rattle.leaves.proofs.Quarters.{PartedQuarters, quarters, last-is, parted-there, parted-pixel}
+use Rattle.leaves.proofs.Quarters.{PartedQuarters, quarters, last-is, parted-there, parted-high, parted-at, parted-pixel, one-higher, step-below, child-asked}
 
-module _ (leafKeys leafFeatures : List ℕ) where
-  leaf-written : (k κ at place b : ℕ) (keys bits : List ℕ) → getD leafKeys at 0 ≡ κ → b ≡ 2 ^ getD leafFeatures at 0
-      → (p : Picture) (r c : ℕ) → Parted p leafKeys leafFeatures k r c κ at
-      → Written p k r c κ place keys bits keys bits b (place + 1)
-  leaf-written k κ at place b keys bits e g p r c (leaf h e′ one f) =
-      written-one p k r c κ place b (place + 1) keys bits one (g ∙ ap (λ x. 2 ^ x) (sym f)) refl
-  leaf-written k κ at place b keys bits e g p r c (four h n x y z w) = absurd (n e)
+module _ {leafKeys leafFeatures : List ℕ} {at place : ℕ} {keys bits : List ℕ} where
+  leaf-written : (κ : ℕ) → getD leafKeys at 0 ≡ κ → (p : Picture) (k r c : ℕ) → Parted p leafKeys leafFeatures k r c κ at
+      → Written p k r c κ place keys bits keys bits (2 ^ getD leafFeatures at 0) (place + 1)
+  leaf-written κ e p k r c (leaf h e′ one f) = written-one p k r c κ place (2 ^ getD leafFeatures at 0) (place + 1) keys bits one (ap (λ x. 2 ^ x) (sym f)) refl
+  leaf-written κ e p k r c (four h n x y z w) = absurd (n e)
 
-  pub laid-leaf : (k κ at place b : ℕ) (keys bits : List ℕ) → at < length leafKeys → getD leafKeys at 0 ≡ κ → b ≡ 2 ^ getD leafFeatures at 0
-      → BlockLaid leafKeys leafFeatures k κ at place keys bits keys bits b (place + 1) (at + 1)
-  laid-leaf k κ at place b keys bits h e g = record {
-    end-is = sym (end-leaf leafKeys k κ at h e);
-    written = leaf-written k κ at place b keys bits e g;
-  }
+module _ {leafKeys leafFeatures : List ℕ} {span : KeySpan} {at place : ℕ} {keys bits : List ℕ} where
+  pub laid-leaf : at < length leafKeys → getD leafKeys at 0 ≡ span .key → BlockLaid leafKeys leafFeatures span at place keys bits keys bits (leafLain leafFeatures at place)
+  laid-leaf h e = record { end-is = λ k g. sym (end-leaf leafKeys k (span .key) at h e); written = λ p k r c g. leaf-written (span .key) e p k r c }
 
   -- the quadrants are ready one after the other, and then their own records
-  module _ (k key step at place : ℕ) (g : step ≡ 5 ^ k) (n : getD leafKeys at 0 ≡ key → ⊥) {keys bits : List ℕ}
-      (a : LayAsked leafKeys leafFeatures (suc k) key at place keys bits) where
-    h : at < length leafKeys
-    h = parted-there (a .parted)
+  module _ (a : LayAsked leafKeys leafFeatures span at place keys bits) (n : getD leafKeys at 0 ≡ span .key → ⊥) where
+    abbrev k : ℕ
+    k = a .asked .height - 1
+
+    abbrev step : ℕ
+    step = span .step / 5
+
+    pub high : span .step ≡ 1 → ⊥
+    high e = let h = five-le {k = 1} (a .asked .height) (parted-high (a .parted) n) in omega (arith, a .asked .step-is)
+
+    g : step ≡ 5 ^ k
+    g = step-below (a .asked) high
+
+    fitting : Fitting (a .picture) (suc k) (a .row) (a .column) (span .key) place keys bits
+    fitting = fitting-at (one-higher (a .asked) high) (a .fits)
+
+    own-parts : Parted (a .picture) leafKeys leafFeatures (suc k) (a .row) (a .column) (span .key) at
+    own-parts = parted-at (one-higher (a .asked) high) refl refl (a .parted)
+
+    -- a quadrant is ready where its leaves begin and its records fit
+    ready : (d : ℕ) → d ≤ 4 → {r c at′ place′ : ℕ} {keys′ bits′ : List ℕ} → Parted (a .picture) leafKeys leafFeatures k r c (span .key + d * step) at′
+        → Fitting (a .picture) k r c (span .key + d * step) place′ keys′ bits′
+        → LayAsked leafKeys leafFeatures (childSpan span d) at′ place′ keys′ bits′
+    unfolding child-asked
+    ready d low {r} {c} t f = record { asked = child-asked (a .asked) high d low; picture = a .picture; row = r; column = c; parted = t; fits = f }
 
     -- the block's four parts, of any picture that parts so
-    module _ {second third fourth : ℕ} (e₂ : second ≡ leavesEnd leafKeys k (key + step) at) (e₃ : third ≡ leavesEnd leafKeys k (key + 2 * step) second)
-        (e₄ : fourth ≡ leavesEnd leafKeys k (key + 3 * step) third) where
-      parts : {p : Picture} {r c : ℕ} → Parted p leafKeys leafFeatures (suc k) r c key at
-          → PartedQuarters p leafKeys leafFeatures k r c key step at second third fourth
-      parts t = quarters leafKeys k key step at second third fourth g e₂ e₃ e₄ t n
+    parts : {h second third fourth : ℕ} → step ≡ 5 ^ h → second ≡ leavesEnd leafKeys h (span .key + step) at
+        → third ≡ leavesEnd leafKeys h (span .key + 2 * step) second
+        → fourth ≡ leavesEnd leafKeys h (span .key + 3 * step) third
+        → {p : Picture} {r c : ℕ} → Parted p leafKeys leafFeatures (suc h) r c (span .key) at
+        → PartedQuarters p leafKeys leafFeatures h r c (span .key) step at second third fourth
+    parts {h} {second} {third} {fourth} e e₂ e₃ e₄ t = quarters leafKeys h (span .key) step at second third fourth e e₂ e₃ e₄ t n
 
-    -- of the first part alone, before the others are known
-    first-parts : PartedQuarters (a .picture) leafKeys leafFeatures k (a .row) (a .column) key step at
-        (leavesEnd leafKeys k (key + step) at)
-        (leavesEnd leafKeys k (key + 2 * step) (leavesEnd leafKeys k (key + step) at))
-        (leavesEnd leafKeys k (key + 3 * step) (leavesEnd leafKeys k (key + 2 * step) (leavesEnd leafKeys k (key + step) at)))
-    first-parts = parts refl refl refl (a .parted)
+    first-part : Parted (a .picture) leafKeys leafFeatures k (a .row) (a .column) (span .key + step) at
+    first-part = parts g refl refl refl own-parts .nw
 
-    pub ready-nw : LayAsked leafKeys leafFeatures k (key + step) at (place + 1) keys bits
-    ready-nw = record {
-      picture = a .picture;
-      row = a .row;
-      column = a .column;
-      parted = first-parts .nw;
-      fits = fits-nw (a .picture) k (2 ^ k) step (a .row) (a .column) key place refl g (a .fits);
-    }
+    pub ready-nw : {q : KeySpan} → q ≡ childSpan span 1 → LayAsked leafKeys leafFeatures q at (place + 1) keys bits
+    ready-nw f =
+        let e : span .key + step ≡ span .key + 1 * step = omega arith in
+        rw f (ready 1 (omega arith) (parted-at refl e refl first-part) (fitting-key (sym e) (fits-nw (a .picture) k (2 ^ k) step (a .row) (a .column) (span .key) place refl g fitting)))
 
-    module _ {keys₁ bits₁ : List ℕ} {b₁ i₂ second : ℕ}
-        (l₁ : BlockLaid leafKeys leafFeatures k (key + step) at (place + 1) keys bits keys₁ bits₁ b₁ i₂ second) where
-      w₁ : Written (a .picture) k (a .row) (a .column) (key + step) (place + 1) keys bits keys₁ bits₁ b₁ i₂
-      w₁ = l₁ .written (a .picture) (a .row) (a .column) (first-parts .nw)
+    module _ {q₁ : KeySpan} {keys₁ bits₁ : List ℕ} {x₁ : Lain} (f₁ : q₁ ≡ childSpan span 1) (l₁ : BlockLaid leafKeys leafFeatures q₁ at (place + 1) keys bits keys₁ bits₁ x₁) where
+      m₁ : BlockLaid leafKeys leafFeatures (record { key = span .key + step; step = step }) at (place + 1) keys bits keys₁ bits₁ x₁
+      m₁ = rw (child-first span f₁) at l₁
 
-      second-parts : PartedQuarters (a .picture) leafKeys leafFeatures k (a .row) (a .column) key step at
-          second
-          (leavesEnd leafKeys k (key + 2 * step) second)
-          (leavesEnd leafKeys k (key + 3 * step) (leavesEnd leafKeys k (key + 2 * step) second))
-      second-parts = parts (l₁ .end-is) refl refl (a .parted)
+      w₁ : Written (a .picture) k (a .row) (a .column) (span .key + step) (place + 1) keys bits keys₁ bits₁ (x₁ .below .bits) (x₁ .below .next)
+      w₁ = m₁ .written (a .picture) k (a .row) (a .column) g first-part
 
-      pub ready-ne : LayAsked leafKeys leafFeatures k (key + 2 * step) second i₂ keys₁ bits₁
-      ready-ne = record {
-        picture = a .picture;
-        row = a .row;
-        column = a .column + 2 ^ k;
-        parted = second-parts .ne;
-        fits = fits-ne (a .picture) k (2 ^ k) step (a .row) (a .column) key place refl g (a .fits) w₁;
-      }
+      second-part : Parted (a .picture) leafKeys leafFeatures k (a .row) (a .column + 2 ^ k) (span .key + 2 * step) (x₁ .end)
+      second-part = parts g (m₁ .end-is k g) refl refl own-parts .ne
 
-      module _ {keys₂ bits₂ : List ℕ} {b₂ i₃ third : ℕ}
-          (l₂ : BlockLaid leafKeys leafFeatures k (key + 2 * step) second i₂ keys₁ bits₁ keys₂ bits₂ b₂ i₃ third) where
-        w₂ : Written (a .picture) k (a .row) (a .column + 2 ^ k) (key + 2 * step) i₂ keys₁ bits₁ keys₂ bits₂ b₂ i₃
-        w₂ = l₂ .written (a .picture) (a .row) (a .column + 2 ^ k) (second-parts .ne)
+      pub ready-ne : {q : KeySpan} → q ≡ childSpan span 2 → LayAsked leafKeys leafFeatures q (x₁ .end) (x₁ .below .next) keys₁ bits₁
+      ready-ne f = rw f (ready 2 (omega arith) second-part (fits-ne (a .picture) k (2 ^ k) step (a .row) (a .column) (span .key) place refl g fitting w₁))
 
-        third-parts : PartedQuarters (a .picture) leafKeys leafFeatures k (a .row) (a .column) key step at
-            second
-            third
-            (leavesEnd leafKeys k (key + 3 * step) third)
-        third-parts = parts (l₁ .end-is) (l₂ .end-is) refl (a .parted)
+      module _ {q₂ : KeySpan} {keys₂ bits₂ : List ℕ} {x₂ : Lain} (f₂ : q₂ ≡ childSpan span 2)
+          (l₂ : BlockLaid leafKeys leafFeatures q₂ (x₁ .end) (x₁ .below .next) keys₁ bits₁ keys₂ bits₂ x₂) where
+        m₂ : BlockLaid leafKeys leafFeatures (childSpan span 2) (x₁ .end) (x₁ .below .next) keys₁ bits₁ keys₂ bits₂ x₂
+        m₂ = rw f₂ at l₂
 
-        pub ready-sw : LayAsked leafKeys leafFeatures k (key + 3 * step) third i₃ keys₂ bits₂
-        ready-sw = record {
-          picture = a .picture;
-          row = a .row + 2 ^ k;
-          column = a .column;
-          parted = third-parts .sw;
-          fits = fits-sw (a .picture) k (2 ^ k) step (a .row) (a .column) key place refl g (a .fits) w₁ w₂;
-        }
+        w₂ : Written (a .picture) k (a .row) (a .column + 2 ^ k) (span .key + 2 * step) (x₁ .below .next) keys₁ bits₁ keys₂ bits₂ (x₂ .below .bits) (x₂ .below .next)
+        w₂ = m₂ .written (a .picture) k (a .row) (a .column + 2 ^ k) g second-part
 
-        module _ {keys₃ bits₃ : List ℕ} {b₃ i₄ fourth : ℕ}
-            (l₃ : BlockLaid leafKeys leafFeatures k (key + 3 * step) third i₃ keys₂ bits₂ keys₃ bits₃ b₃ i₄ fourth) where
-          w₃ : Written (a .picture) k (a .row + 2 ^ k) (a .column) (key + 3 * step) i₃ keys₂ bits₂ keys₃ bits₃ b₃ i₄
-          w₃ = l₃ .written (a .picture) (a .row + 2 ^ k) (a .column) (third-parts .sw)
+        third-part : Parted (a .picture) leafKeys leafFeatures k (a .row + 2 ^ k) (a .column) (span .key + 3 * step) (x₂ .end)
+        third-part = parts g (m₁ .end-is k g) (m₂ .end-is k g) refl own-parts .sw
 
-          all-parts : {p : Picture} {r c : ℕ} → Parted p leafKeys leafFeatures (suc k) r c key at
-              → PartedQuarters p leafKeys leafFeatures k r c key step at second third fourth
-          all-parts t = parts (l₁ .end-is) (l₂ .end-is) (l₃ .end-is) t
+        pub ready-sw : {q : KeySpan} → q ≡ childSpan span 3 → LayAsked leafKeys leafFeatures q (x₂ .end) (x₂ .below .next) keys₂ bits₂
+        ready-sw f = rw f (ready 3 (omega arith) third-part (fits-sw (a .picture) k (2 ^ k) step (a .row) (a .column) (span .key) place refl g fitting w₁ w₂))
 
-          pub ready-se : LayAsked leafKeys leafFeatures k (key + 4 * step) fourth i₄ keys₃ bits₃
-          ready-se = record {
-            picture = a .picture;
-            row = a .row + 2 ^ k;
-            column = a .column + 2 ^ k;
-            parted = all-parts (a .parted) .se;
-            fits = fits-se (a .picture) k (2 ^ k) step (a .row) (a .column) key place refl g (a .fits) w₁ w₂ w₃;
-          }
+        module _ {q₃ : KeySpan} {keys₃ bits₃ : List ℕ} {x₃ : Lain} (f₃ : q₃ ≡ childSpan span 3)
+            (l₃ : BlockLaid leafKeys leafFeatures q₃ (x₂ .end) (x₂ .below .next) keys₂ bits₂ keys₃ bits₃ x₃) where
+          m₃ : BlockLaid leafKeys leafFeatures (childSpan span 3) (x₂ .end) (x₂ .below .next) keys₂ bits₂ keys₃ bits₃ x₃
+          m₃ = rw f₃ at l₃
 
-          module _ {keys₄ bits₄ : List ℕ} {b₄ last end : ℕ}
-              (l₄ : BlockLaid leafKeys leafFeatures k (key + 4 * step) fourth i₄ keys₃ bits₃ keys₄ bits₄ b₄ last end) where
-            pub ready-four : FourAsked key step place (unionOfFour b₁ b₂ b₃ b₄) i₂ i₃ i₄ keys₄ bits₄
+          w₃ : Written (a .picture) k (a .row + 2 ^ k) (a .column) (span .key + 3 * step) (x₂ .below .next) keys₂ bits₂ keys₃ bits₃ (x₃ .below .bits) (x₃ .below .next)
+          w₃ = m₃ .written (a .picture) k (a .row + 2 ^ k) (a .column) g third-part
+
+          all-parts : {p : Picture} {h r c : ℕ} → step ≡ 5 ^ h → Parted p leafKeys leafFeatures (suc h) r c (span .key) at
+              → PartedQuarters p leafKeys leafFeatures h r c (span .key) step at (x₁ .end) (x₂ .end) (x₃ .end)
+          all-parts {h = h} e t = parts e (m₁ .end-is h e) (m₂ .end-is h e) (m₃ .end-is h e) t
+
+          pub ready-se : {q : KeySpan} → q ≡ childSpan span 4 → LayAsked leafKeys leafFeatures q (x₃ .end) (x₃ .below .next) keys₃ bits₃
+          ready-se f = rw f (ready 4 (omega arith) (all-parts g own-parts .se) (fits-se (a .picture) k (2 ^ k) step (a .row) (a .column) (span .key) place refl g fitting w₁ w₂ w₃))
+
+          module _ {q₄ : KeySpan} {keys₄ bits₄ : List ℕ} {x₄ : Lain} (f₄ : q₄ ≡ childSpan span 4)
+              (l₄ : BlockLaid leafKeys leafFeatures q₄ (x₃ .end) (x₃ .below .next) keys₃ bits₃ keys₄ bits₄ x₄) where
+            m₄ : BlockLaid leafKeys leafFeatures (childSpan span 4) (x₃ .end) (x₃ .below .next) keys₃ bits₃ keys₄ bits₄ x₄
+            m₄ = rw f₄ at l₄
+
+            pub ready-four : FourAsked (span .key) step place (unionOfFour (x₁ .below .bits) (x₂ .below .bits) (x₃ .below .bits) (x₄ .below .bits)) (x₁ .below .next) (x₂ .below .next) (x₃ .below .next) keys₄ bits₄
             ready-four =
-                fits-four (a .picture) k (2 ^ k) step (a .row) (a .column) key place refl g (a .fits) w₁ w₂ w₃
-                (l₄ .written (a .picture) (a .row + 2 ^ k) (a .column + 2 ^ k) (all-parts (a .parted) .se))
+                fits-four (a .picture) k (2 ^ k) step (a .row) (a .column) (span .key) place refl g fitting w₁ w₂ w₃
+                (m₄ .written (a .picture) k (a .row + 2 ^ k) (a .column + 2 ^ k) g (all-parts g own-parts .se))
 
-            pub laid-four : {keys′ bits′ : List ℕ} {b next : ℕ}
-                → FourWritten key step place b₁ b₂ b₃ b₄ i₂ i₃ i₄ last keys₄ bits₄ keys′ bits′ b next
-                → BlockLaid leafKeys leafFeatures (suc k) key at place keys bits keys′ bits′ b next end
-            laid-four f = record {
-              end-is = last-is leafKeys k key step at second third fourth g (l₁ .end-is) (l₂ .end-is) (l₃ .end-is) end h n (l₄ .end-is);
-              written = λ p r c t.
-                  let q = all-parts t in
-                  written-quadrants p k (2 ^ k) step r c key place refl g
-                  (l₁ .written p r c (q .nw))
-                  (l₂ .written p r (c + 2 ^ k) (q .ne))
-                  (l₃ .written p (r + 2 ^ k) c (q .sw))
-                  (l₄ .written p (r + 2 ^ k) (c + 2 ^ k) (q .se))
-                  f;
-            }
+            four-end : (h : ℕ) → span .step ≡ 5 ^ h → x₄ .end ≡ leavesEnd leafKeys h (span .key) at
+            four-end zero e = absurd (high e)
+            four-end (suc h) e =
+                let f = fifth-of h e in
+                last-is leafKeys h (span .key) step at (x₁ .end) (x₂ .end) (x₃ .end) f (m₁ .end-is h f) (m₂ .end-is h f) (m₃ .end-is h f) (x₄ .end) (parted-there (a .parted)) n (m₄ .end-is h f)
+
+            module _ {keys′ bits′ : List ℕ} {y : Below}
+                (f : FourWritten (span .key) step place (x₁ .below .bits) (x₂ .below .bits) (x₃ .below .bits) (x₄ .below .bits) (x₁ .below .next) (x₂ .below .next) (x₃ .below .next) (x₄ .below .next) keys₄ bits₄ keys′ bits′ (y .bits) (y .next)) where
+              four-written : (p : Picture) (h r c : ℕ) → span .step ≡ 5 ^ h → Parted p leafKeys leafFeatures h r c (span .key) at
+                  → Written p h r c (span .key) place keys bits keys′ bits′ (y .bits) (y .next)
+              four-written p zero r c e t = absurd (high e)
+              four-written p (suc h) r c e t =
+                  let i = fifth-of h e in
+                  let q = all-parts i t in
+                  written-quadrants p h (2 ^ h) step r c (span .key) place refl i
+                  (m₁ .written p h r c i (q .nw))
+                  (m₂ .written p h r (c + 2 ^ h) i (q .ne))
+                  (m₃ .written p h (r + 2 ^ h) c i (q .sw))
+                  (m₄ .written p h (r + 2 ^ h) (c + 2 ^ h) i (q .se))
+                  f
+
+              pub laid-four : BlockLaid leafKeys leafFeatures span at place keys bits keys′ bits′ (record { below = y; end = x₄ .end })
+              laid-four = record { end-is = four-end; written = four-written }
+
+-- a block of one key is a pixel, and has its own leaf
+pub pixel-leaf : {p : Picture} {keys features : List ℕ} (k : ℕ) {r c κ at : ℕ} → 1 ≡ 5 ^ k → Parted p keys features k r c κ at → getD keys at 0 ≡ κ
+pixel-leaf zero e t = parted-pixel t
+pixel-leaf (suc k) e t = absurd (let f = pow-suc 5 k in let p = five-pos k in omega arith)
 
 -- a pixel that is ready is written by its bits
-pub laid-pixel : {leafKeys leafFeatures : List ℕ} {κ at place b next end : ℕ} {keys bits : List ℕ} → LayAsked leafKeys leafFeatures 0 κ at place keys bits
-    → (b ≡ 2 ^ getD leafFeatures at 0) × (next ≡ place + 1) × (end ≡ at + 1)
-    → BlockLaid leafKeys leafFeatures 0 κ at place keys bits keys bits b next end
-laid-pixel {leafKeys} {leafFeatures} {κ} {at} {place} {b} {keys = keys} {bits = bits} a e =
-    rw (e .1, e .2) (laid-leaf leafKeys leafFeatures 0 κ at place b keys bits (parted-there (a .parted)) (parted-pixel (a .parted)) (e .0))
+pub laid-pixel : {leafKeys leafFeatures : List ℕ} {κ at place : ℕ} {keys bits : List ℕ} {x : Lain} → LayAsked leafKeys leafFeatures (pixelSpan κ) at place keys bits
+    → x ≡ leafLain leafFeatures at place
+    → BlockLaid leafKeys leafFeatures (pixelSpan κ) at place keys bits keys bits x
+laid-pixel a e = rw e (laid-leaf (parted-there (a .parted)) (pixel-leaf (a .asked .height) (a .asked .step-is) (a .parted)))
 
 -- the place of a block is small
-pub ready-place : {leafKeys leafFeatures : List ℕ} {k κ at place : ℕ} {keys bits : List ℕ} → LayAsked leafKeys leafFeatures k κ at place keys bits → place ≤ 5 ^ 10
+pub ready-place : {leafKeys leafFeatures : List ℕ} {span : KeySpan} {at place : ℕ} {keys bits : List ℕ} → LayAsked leafKeys leafFeatures span at place keys bits → place ≤ 5 ^ 10
 ready-place a = let f = a .fits in omega (arith, f .key-fits, f .place-fits)
 
--- the same block, its height known
-pub ready-at : {leafKeys leafFeatures : List ℕ} {k k′ κ at place : ℕ} {keys bits : List ℕ} → k ≡ k′
-    → LayAsked leafKeys leafFeatures k κ at place keys bits
-    → LayAsked leafKeys leafFeatures k′ κ at place keys bits
+-- the same keys
+pub ready-at : {leafKeys leafFeatures : List ℕ} {span span′ : KeySpan} {at place : ℕ} {keys bits : List ℕ} → span ≡ span′ → LayAsked leafKeys leafFeatures span at place keys bits
+    → LayAsked leafKeys leafFeatures span′ at place keys bits
 ready-at e a = rw e at a
 
-pub laid-at : {leafKeys leafFeatures : List ℕ} {k k′ κ at place : ℕ} {keys bits keys′ bits′ : List ℕ} {b next end : ℕ} → k ≡ k′
-    → BlockLaid leafKeys leafFeatures k κ at place keys bits keys′ bits′ b next end
-    → BlockLaid leafKeys leafFeatures k′ κ at place keys bits keys′ bits′ b next end
+pub laid-at : {leafKeys leafFeatures : List ℕ} {span span′ : KeySpan} {at place : ℕ} {keys bits keys′ bits′ : List ℕ} {x : Lain} → span ≡ span′
+    → BlockLaid leafKeys leafFeatures span at place keys bits keys′ bits′ x
+    → BlockLaid leafKeys leafFeatures span′ at place keys bits keys′ bits′ x
 laid-at e a = rw e at a

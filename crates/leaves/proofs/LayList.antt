@@ -7,6 +7,8 @@ use mathlib.Core.List.{List, _∷_, map}
 use native.Mathlib.Omega.{arith}
 use lib.ListN.{length, set, length-map}
 use lib.Seq.{sets}
+use Rattle.keys.specs.Span.{rootSpan}
+use Rattle.keys.specs.declared.span.KeySpan.{KeySpan}
 use Rattle.keys.proofs.Powers.{five-le}
 use Rattle.definitions.specs.Picture.{Picture}
 use Rattle.definitions.specs.Bits.{bitsOf}
@@ -22,17 +24,18 @@ use Rattle.build.proofs.RasterTests.{pixels-below}
 use Rattle.build.proofs.WriteBlock.{sets-front}
 use Rattle.build.proofs.WrittenBlock.{own-first}
 use Rattle.leaves.specs.Delivered.{LeavesAsked, LayAsked, BlockLaid}
+use Rattle.leaves.specs.declared.lay.Lain.{Lain}
 use Rattle.leaves.proofs.Delivery.{leaves-to, leaves-parted}
 
 -- the root is asked for by its step
-pub root-asked : (m s step : ℕ) (keys features : List ℕ) → badSettings m s ≡ false → length features ≡ length keys → badPixel s features ≡ false
-    → step ≡ 5 ^ m
-    → LeavesAsked keys features m step 0
-root-asked m s step keys features good same below e =
+unfoldable pub root-asked : (m s : ℕ) (keys features : List ℕ) → badSettings m s ≡ false → length features ≡ length keys → badPixel s features ≡ false
+    → LeavesAsked keys features (rootSpan m)
+root-asked m s keys features good same below =
     let g = good-settings m s good in
     record {
+      height = m;
       deep = g .deep;
-      step-is = e;
+      step-is = refl;
       key-fits = let u = five-le 10 (g .deep) in omega arith;
       same = same;
       few = λ i. let h = pixels-below s features (g .some) below i in let j = g .few in omega arith;
@@ -56,8 +59,10 @@ module _ (m s : ℕ) (leafKeys leafFeatures keys bits : List ℕ) (same : length
   abbrev pub delivered : Picture
   delivered = pictureOfLeaves m (paired leafKeys leafFeatures)
 
-  pub root-ready : badSettings m s ≡ false → length (listOfPicture m delivered) ≤ room keys bits → LayAsked leafKeys leafFeatures m 0 0 0 keys bits
-  root-ready good fits = record {
+  pub root-ready : badSettings m s ≡ false → length (listOfPicture m delivered) ≤ room keys bits → {span : KeySpan} → span ≡ rootSpan m → LayAsked leafKeys leafFeatures span 0 0 keys bits
+  unfolding root-asked
+  root-ready good fits e = rw e (record {
+    asked = root-asked m s leafKeys leafFeatures good same (leaves-to m s leafKeys leafFeatures are .below);
     picture = delivered;
     row = 0;
     column = 0;
@@ -68,15 +73,18 @@ module _ (m s : ℕ) (leafKeys leafFeatures keys bits : List ℕ) (same : length
       keys-room = λ t. omega arith;
       bits-room = λ t. omega arith;
     };
-  }
+  })
 
-  module _ {keys′ bits′ : List ℕ} {b next end : ℕ} (l : BlockLaid leafKeys leafFeatures m 0 0 0 keys bits keys′ bits′ b next end)
+  module _ {span : KeySpan} {keys′ bits′ : List ℕ} {x : Lain} (e : span ≡ rootSpan m) (l : BlockLaid leafKeys leafFeatures span 0 0 keys bits keys′ bits′ x)
       (fits : length (listOfPicture m delivered) ≤ room keys bits) where
-    pub root-written : Written delivered m 0 0 0 0 keys bits keys′ bits′ b next
-    root-written = l .written delivered 0 0 (leaves-parted m s leafKeys leafFeatures same (leaves-to m s leafKeys leafFeatures are))
+    root-laid : BlockLaid leafKeys leafFeatures (rootSpan m) 0 0 keys bits keys′ bits′ x
+    root-laid = rw e at l
+
+    pub root-written : Written delivered m 0 0 0 0 keys bits keys′ bits′ (x .below .bits) (x .below .next)
+    root-written = root-laid .written delivered m 0 0 refl (leaves-parted m s leafKeys leafFeatures same (leaves-to m s leafKeys leafFeatures are))
 
     pub root-keys : set keys′ 0 0 ≡ over (keysOf (listOfPicture m delivered)) keys
     root-keys = root-run (λ x. x .key) delivered m 0 keys keys′ (omega arith) refl (root-written .keys-are)
 
-    pub root-bits : set bits′ 0 b ≡ over (valuesOf (listOfPicture m delivered)) bits
-    root-bits = root-run (λ x. x .value) delivered m b bits bits′ (omega arith) (root-written .union-is) (root-written .bits-are)
+    pub root-bits : set bits′ 0 (x .below .bits) ≡ over (valuesOf (listOfPicture m delivered)) bits
+    root-bits = root-run (λ x. x .value) delivered m (x .below .bits) bits bits′ (omega arith) (root-written .union-is) (root-written .bits-are)

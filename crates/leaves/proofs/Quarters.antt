@@ -4,11 +4,14 @@ use Prim.Native.Nat.{ℕ, zero, suc, _+_, _-_, _*_, _/_, _^_, _≤_, _<_}
 use mathlib.Core.Path.{_≡_, refl, sym, _∙_, ap}
 use mathlib.Core.List.{List}
 use native.Mathlib.Omega.{arith}
+use native.Mathlib.Nat.{mul-le-mul-right}
 use lib.ListN.{length, getD}
 use Rattle.keys.specs.Key.{childKey}
+use Rattle.keys.specs.Span.{childSpan}
+use Rattle.keys.specs.declared.span.KeySpan.{KeySpan}
+use Rattle.keys.proofs.SpanChild.{fifth-of}
 use Rattle.definitions.specs.Picture.{Picture}
-use Rattle.build.proofs.BuildInside.{fifth-step}
-use Rattle.leaves.specs.Delivered.{leavesEnd, Parted, leaf, four, LeavesAsked}
+use Rattle.leaves.specs.Delivered.{leavesEnd, Parted, leaf, four, quadSpan, LeavesAsked}
 use Rattle.leaves.proofs.EndOf.{end-four}
 
 -- a leaf is there
@@ -78,24 +81,35 @@ module _ (keys : List ℕ) (k key step at second third fourth : ℕ) (g : step �
     se = parted-at refl key₄ fourth-is w;
   }
 
--- a fifth of the step is the step of a quadrant
-pub step-below : {height step : ℕ} → 0 < height → step ≡ 5 ^ height → step / 5 ≡ 5 ^ (height - 1)
-step-below {height} h e = let f = fifth-step height h in omega arith
+-- a block of more than one key has quadrants
+pub some-below : (k : ℕ) {step : ℕ} → step ≡ 5 ^ k → (step ≡ 1 → ⊥) → k ≡ suc (k - 1)
+some-below zero e n = absurd (n e)
+some-below (suc k) e n = omega arith
 
--- what is asked of a block is given for its quadrants
-pub asked-quadrant : {keys features : List ℕ} {height step key : ℕ} → LeavesAsked keys features height step key → 0 < height
-    → (κ : ℕ) → κ ≤ key + 4 * (step / 5)
-    → LeavesAsked keys features (height - 1) (step / 5) κ
-asked-quadrant {height = height} {step = step} a h κ low =
-    let f = fifth-step height h in
-    let s = step-below h (a .step-is) in
-    record { deep = omega (arith, a .deep); step-is = s; key-fits = omega (arith, a .key-fits); same = a .same; few = a .few }
+-- the keys of a block of 2 by 2 pixels
+pub quad-keys : (span : KeySpan) → span .step ≡ 5 → span ≡ quadSpan (span .key)
+quad-keys span e = ap (λ x. record { key = span .key; step = x }) e
 
--- what is asked of a block of 2 by 2 pixels
-pub asked-one : {keys features : List ℕ} {height step key : ℕ} → height ≡ 1 → LeavesAsked keys features height step key → LeavesAsked keys features 1 5 key
-asked-one e a =
-    let b = rw e at a in
-    record { deep = b .deep; step-is = refl; key-fits = b .key-fits; same = b .same; few = b .few }
+module _ {keys features : List ℕ} {span : KeySpan} (a : LeavesAsked keys features span) (high : span .step ≡ 1 → ⊥) where
+  pub one-higher : a .height ≡ suc (a .height - 1)
+  one-higher = some-below (a .height) (a .step-is) high
+
+  pub step-below : span .step / 5 ≡ 5 ^ (a .height - 1)
+  step-below = fifth-of (a .height - 1) (a .step-is ∙ ap (λ x. 5 ^ x) one-higher)
+
+  -- what is asked of a block is given for the quadrant of a digit
+  unfoldable pub child-asked : (d : ℕ) → d ≤ 4 → LeavesAsked keys features (childSpan span d)
+  child-asked d low =
+      let f = one-higher in
+      let g = mul-le-mul-right (span .step / 5) low in
+      record { height = a .height - 1; deep = omega (arith, a .deep); step-is = step-below; key-fits = omega (arith, a .key-fits); same = a .same; few = a .few }
+
+  pub asked-child : (d : ℕ) → d ≤ 4 → {child : KeySpan} → child ≡ childSpan span d → LeavesAsked keys features child
+  asked-child d low e = rw e (child-asked d low)
+
+-- the same keys
+pub asked-at : {keys features : List ℕ} {span span′ : KeySpan} → span ≡ span′ → LeavesAsked keys features span → LeavesAsked keys features span′
+asked-at e a = rw e at a
 
 -- a pixel has its own leaf
 pub parted-pixel : {p : Picture} {keys features : List ℕ} {r c κ at : ℕ} → Parted p keys features zero r c κ at → getD keys at 0 ≡ κ

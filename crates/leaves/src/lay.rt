@@ -2,7 +2,7 @@
 // knows that they are not alike, so what was delivered in parts is merged, and nothing is written past the last record.
 ghost use mathlib.Core.Path.{_≡_};
 ghost use mathlib.Core.Bool.{true, false};
-ghost use Prim.Native.Nat.{_+_, _^_, _≤_, _<_};
+ghost use Prim.Native.Nat.{_^_, _≤_, _<_};
 ghost use lib.ListN.{length, getD};
 ghost use Rattle.keys.specs.Key.{slotLimit};
 ghost use Rattle.definitions.specs.List.{listOfPicture, keysOf, valuesOf};
@@ -10,29 +10,31 @@ ghost use Rattle.definitions.specs.Read.{room, paired};
 ghost use Rattle.definitions.specs.Leaves.{areLeaves, pictureOfLeaves};
 ghost use Rattle.definitions.specs.Buffer.{over};
 ghost use Rattle.definitions.specs.Refusal.{badSettings};
-ghost use Rattle.leaves.specs.Delivered.{LeavesAsked, LayAsked, BlockLaid};
-use build::write;
+ghost use Rattle.leaves.specs.Delivered.{quadSpan, leafLain, LayAsked, BlockLaid};
 use build::write::Below;
+use build::write::write_four;
 use keys::Key;
 use keys::power;
+use keys::span;
+use keys::span::KeySpan;
+use keys::span::child;
 
-// The bits of a block, the place after its records, and the place after its leaves.
+// What is written below a block, and the place after its leaves.
 pub struct Lain {
-    pub bits: u32,
-    pub next: usize,
+    pub below: Below,
     pub end: usize,
 }
 
-// A pixel has no records below it.
-fn lay_pixel(leaf_features: &[u32], at: usize, place: usize) -> Lain
+// A block that is the next leaf has no records below it.
+fn lay_leaf(leaf_features: &[u32], at: usize, place: usize) -> Lain
     requires { ⌜ (at < length (now «leaf_features»)) × (getD (now «leaf_features») at 0 < slotLimit) × (place ≤ 5 ^ 10) ⌝ }
-    ensures { λ r. ⌜ (r .bits ≡ 2 ^ getD (now («leaf_features» .entry)) at 0) × (r .next ≡ place + 1) × (r .end ≡ at + 1) ⌝ }
+    ensures { λ r. ⌜ r ≡ leafLain (now («leaf_features» .entry)) at place ⌝ }
 {
-    Lain {
-        bits: power::power_of_two(leaf_features[at]),
-        next: place + 1,
-        end: at + 1,
-    }
+    let bits = power::power_of_two(leaf_features[at]);
+    let next = place + 1;
+    let below = Below { bits, next };
+    let end = at + 1;
+    Lain { below, end }
 }
 
 // A block of 2 by 2 pixels, with no recursive call.
@@ -45,155 +47,104 @@ fn lay_quad(
     keys: &mut [u32],
     bits: &mut [u32],
 ) -> Lain
-    requires { ⌜ LeavesAsked (now «leaf_keys») (now «leaf_features») 1 5 key × LayAsked (now «leaf_keys») (now «leaf_features») 1 key at place (now keys) (now bits) ⌝ }
-    ensures { λ r. ⌜ BlockLaid (now («leaf_keys» .entry)) (now («leaf_features» .entry)) 1 key at place (now (keys .entry)) (now (bits .entry)) (now (keys .exit)) (now (bits .exit)) (r .bits) (r .next) (r .end) ⌝ }
+    requires { ⌜ LayAsked (now «leaf_keys») (now «leaf_features») (quadSpan key) at place (now keys) (now bits) ⌝ }
+    ensures { λ r. ⌜ BlockLaid (now («leaf_keys» .entry)) (now («leaf_features» .entry)) (quadSpan key) at place (now (keys .entry)) (now (bits .entry)) (now (keys .exit)) (now (bits .exit)) r ⌝ }
 {
     if leaf_keys[at] == key {
-        return lay_pixel(leaf_features, at, place);
+        return lay_leaf(leaf_features, at, place);
     }
-    let first = place + 1;
-    let nw = lay_pixel(leaf_features, at, first);
-    let ne_at = nw.end;
-    let second = nw.next;
-    let ne = lay_pixel(leaf_features, ne_at, second);
-    let sw_at = ne.end;
-    let third = ne.next;
-    let sw = lay_pixel(leaf_features, sw_at, third);
-    let se_at = sw.end;
-    let fourth = sw.next;
-    let se = lay_pixel(leaf_features, se_at, fourth);
-    let last = se.next;
-    let a = Below {
-        bits: nw.bits,
-        next: second,
-    };
-    let b = Below {
-        bits: ne.bits,
-        next: third,
-    };
-    let c = Below {
-        bits: sw.bits,
-        next: fourth,
-    };
-    let d = Below {
-        bits: se.bits,
-        next: last,
-    };
-    let below = write::write_four(key, 1, place, a, b, c, d, keys, bits);
+    let nw = lay_leaf(leaf_features, at, place + 1);
+    let ne = lay_leaf(leaf_features, nw.end, nw.below.next);
+    let sw = lay_leaf(leaf_features, ne.end, ne.below.next);
+    let se = lay_leaf(leaf_features, sw.end, sw.below.next);
+    let below = write_four(
+        key,
+        1,
+        place,
+        nw.below,
+        ne.below,
+        sw.below,
+        se.below,
+        keys,
+        bits,
+    );
     let end = se.end;
-    Lain {
-        bits: below.bits,
-        next: below.next,
-        end,
-    }
+    Lain { below, end }
 }
 
 // The records below a block, and not its own: only its parent knows whether it is listed.
 fn lay_below(
     leaf_keys: &[u32],
     leaf_features: &[u32],
-    height: u32,
-    step: u32,
-    key: u32,
+    span: KeySpan,
     at: usize,
     place: usize,
     keys: &mut [u32],
     bits: &mut [u32],
 ) -> Lain
-    requires { ⌜ LeavesAsked (now «leaf_keys») (now «leaf_features») height step key × LayAsked (now «leaf_keys») (now «leaf_features») height key at place (now keys) (now bits) ⌝ }
-    ensures { λ r. ⌜ BlockLaid (now («leaf_keys» .entry)) (now («leaf_features» .entry)) height key at place (now (keys .entry)) (now (bits .entry)) (now (keys .exit)) (now (bits .exit)) (r .bits) (r .next) (r .end) ⌝ }
+    requires { ⌜ LayAsked (now «leaf_keys») (now «leaf_features») span at place (now keys) (now bits) ⌝ }
+    ensures { λ r. ⌜ BlockLaid (now («leaf_keys» .entry)) (now («leaf_features» .entry)) span at place (now (keys .entry)) (now (bits .entry)) (now (keys .exit)) (now (bits .exit)) r ⌝ }
 {
-    if height == 1 {
-        return lay_quad(leaf_keys, leaf_features, key, at, place, keys, bits);
+    if span.step == 5 {
+        return lay_quad(leaf_keys, leaf_features, span.key, at, place, keys, bits);
     }
-    if leaf_keys[at] == key {
-        return Lain {
-            bits: power::power_of_two(leaf_features[at]),
-            next: place + 1,
-            end: at + 1,
-        };
+    if leaf_keys[at] == span.key {
+        return lay_leaf(leaf_features, at, place);
     }
-    let lower = height - 1;
-    let small = step / 5;
     let first = place + 1;
-    let nw_key = key + small;
     let nw = lay_below(
         leaf_keys,
         leaf_features,
-        lower,
-        small,
-        nw_key,
+        child(span, 1),
         at,
         first,
         keys,
         bits,
     );
-    let ne_at = nw.end;
-    let second = nw.next;
-    let ne_key = key + 2 * small;
+    let second = nw.below.next;
     let ne = lay_below(
         leaf_keys,
         leaf_features,
-        lower,
-        small,
-        ne_key,
-        ne_at,
+        child(span, 2),
+        nw.end,
         second,
         keys,
         bits,
     );
-    let sw_at = ne.end;
-    let third = ne.next;
-    let sw_key = key + 3 * small;
+    let third = ne.below.next;
     let sw = lay_below(
         leaf_keys,
         leaf_features,
-        lower,
-        small,
-        sw_key,
-        sw_at,
+        child(span, 3),
+        ne.end,
         third,
         keys,
         bits,
     );
-    let se_at = sw.end;
-    let fourth = sw.next;
-    let se_key = key + 4 * small;
+    let fourth = sw.below.next;
     let se = lay_below(
         leaf_keys,
         leaf_features,
-        lower,
-        small,
-        se_key,
-        se_at,
+        child(span, 4),
+        sw.end,
         fourth,
         keys,
         bits,
     );
-    let last = se.next;
-    let a = Below {
-        bits: nw.bits,
-        next: second,
-    };
-    let b = Below {
-        bits: ne.bits,
-        next: third,
-    };
-    let c = Below {
-        bits: sw.bits,
-        next: fourth,
-    };
-    let d = Below {
-        bits: se.bits,
-        next: last,
-    };
-    let below = write::write_four(key, small, place, a, b, c, d, keys, bits);
+    let step = span.step / 5;
+    let below = write_four(
+        span.key,
+        step,
+        place,
+        nw.below,
+        ne.below,
+        sw.below,
+        se.below,
+        keys,
+        bits,
+    );
     let end = se.end;
-    Lain {
-        bits: below.bits,
-        next: below.next,
-        end,
-    }
+    Lain { below, end }
 }
 
 // The list of a delivery, from place 0 on.
@@ -210,18 +161,8 @@ pub fn lay_list(
     ensures { λ _. ⌜ now (keys .exit) ≡ over (keysOf (listOfPicture m (pictureOfLeaves m (paired (now («leaf_keys» .entry)) (now («leaf_features» .entry)))))) (now (keys .entry)) ⌝ }
     ensures { λ _. ⌜ now (bits .exit) ≡ over (valuesOf (listOfPicture m (pictureOfLeaves m (paired (now («leaf_keys» .entry)) (now («leaf_features» .entry)))))) (now (bits .entry)) ⌝ }
 {
-    let step = power::power_of_five(m);
-    let root = lay_below(
-        leaf_keys,
-        leaf_features,
-        m,
-        step,
-        Key::ROOT,
-        0,
-        0,
-        keys,
-        bits,
-    );
+    let root = lay_below(leaf_keys, leaf_features, span::root(m), 0, 0, keys, bits);
+    let below = root.below;
     keys[0] = Key::ROOT;
-    bits[0] = root.bits;
+    bits[0] = below.bits;
 }

@@ -39,21 +39,31 @@ fits c =
     let h : records (c .before .before) ≤ c .before .before .smaller .result = leb-true _ _ (sym (c .before .has-room .ensures) ∙ not-false _ (c .if1 .left)) in
     omega (arith, h, c .before .before .smaller .ensures)
 
-power-of-five-requires : tie.Need-power-of-five-requires
-power-of-five-requires c κs = search needs
+root-requires : tie.Need-root-requires
+root-requires c κs = start c .pre .deep
+
+at-roots-requires : tie.Need-at-roots-requires
+at-roots-requires c κs = search needs
 
 write-block-requires : tie.Need-write-block-requires
-write-block-requires c κs = let d = c .before .before .before in root-fits (start d .pre) (fits d) (c .before .before .power-of-five .ensures)
+write-block-requires c κs =
+    let b = c .before .before in
+    let d = b .before .before in
+    root-fits (start d .pre) (fits d) (b .before .root .ensures) (b .at-roots .ensures)
 
 slice-write-keys : tie.Need-slice-write-keys
 slice-write-keys c =
-    let d = c .before .before .before .before .before .before .before .before .before in
-    root-places (start d .pre) (fits d) (c .before .before .before .before .before .before .before .before .power-of-five .ensures) (c .before .before .before .before .before .write-block .ensures) .0
+    let w = c .before .before .before .before .before in
+    let b = w .before .before .before in
+    let d = b .before .before in
+    root-places (start d .pre) (fits d) (b .before .root .ensures) (b .at-roots .ensures) (w .write-block .ensures) .0
 
 slice-write-bits : tie.Need-slice-write-bits
 slice-write-bits c =
-    let d = c .before .before .before .before .before .before .before .before .before in
-    root-places (start d .pre) (fits d) (c .before .before .before .before .before .before .before .before .power-of-five .ensures) (c .before .before .before .before .before .write-block .ensures) .1
+    let w = c .before .before .before .before .before in
+    let b = w .before .before .before in
+    let d = b .before .before in
+    root-places (start d .pre) (fits d) (b .before .root .ensures) (b .at-roots .ensures) (w .write-block .ensures) .1
 
 same-length : tie.Need-same-length
 same-length c = search needs
@@ -63,8 +73,10 @@ same-length-2 c = search needs
 
 returns-2 : tie.Need-returns-2
 returns-2 c =
-    let d = c .before .before .before .before .before .before .before .before .before in
-    has-answer (start d .pre) (fits d) (c .before .before .before .before .before .before .before .before .power-of-five .ensures) (c .before .before .before .before .before .write-block .ensures)
+    let w = c .before .before .before .before .before in
+    let b = w .before .before .before in
+    let d = b .before .before in
+    has-answer (start d .pre) (fits d) (b .before .root .ensures) (b .at-roots .ensures) (w .write-block .ensures)
 
 pub combine-ready-spec : {M : Type 1} → statement M
 combine-ready-spec =
@@ -73,7 +85,8 @@ combine-ready-spec =
     smaller-requires
     has-room-requires
     returns
-    power-of-five-requires
+    root-requires
+    at-roots-requires
     write-block-requires
     slice-write-keys
     slice-write-bits

@@ -26,15 +26,19 @@ returns c =
 power-of-five-requires : tie.Need-power-of-five-requires
 power-of-five-requires c κs = search needs
 
+at-roots-requires : tie.Need-at-roots-requires
+at-roots-requires c κs = search needs
+
 count-block-requires : tie.Need-count-block-requires
-count-block-requires c κs = root-asked (c .before .before .before .before .before .before .before .pre) (c .power-of-five .ensures)
+count-block-requires c κs = root-asked (c .before .before .before .before .before .before .before .before .pre) (c .before .power-of-five .ensures) (c .at-roots .ensures)
 
 returns-2 : tie.Need-returns-2
 returns-2 c =
-    let s = c .before .before .before .before .before .before .before .before .before .before in
-    ap (λ n. leb n (s .args .room)) (root-count (s .pre) (c .before .before .before .power-of-five .ensures) (c .before .before .count-block .ensures))
+    let b = c .before .before .before in
+    let s = b .before .before .before .before .before .before .before .before in
+    ap (λ n. leb n (s .args .room)) (root-count (s .pre) (b .before .power-of-five .ensures) (b .at-roots .ensures) (c .before .before .count-block .ensures))
 
 pub has-room-spec : {M : Type 1} → statement M
 has-room-spec =
     tie.close
-    (tie.spec add-if1 sub-if1 returns power-of-five-requires count-block-requires returns-2)
+    (tie.spec add-if1 sub-if1 returns power-of-five-requires at-roots-requires count-block-requires returns-2)

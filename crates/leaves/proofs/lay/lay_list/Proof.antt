@@ -7,27 +7,23 @@ use Rattle.definitions.specs.Read.{paired}
 use Rattle.definitions.specs.Leaves.{pictureOfLeaves}
 use Rattle.laws.proofs.ListOf.{list-some}
 use Rattle.list.proofs.Tests.{good-settings}
-use Rattle.leaves.proofs.Delivery.{leaves-to}
-use Rattle.leaves.proofs.LayList.{root-asked, root-ready, root-keys, root-bits}
+use Rattle.leaves.proofs.LayList.{root-ready, root-keys, root-bits}
 use Rattle.leaves.proofs.lay.lay_list.Statement.{statement}
 use Rattle.leaves.proofs.lay.lay_list.Tie as tie
 
-power-of-five-requires : tie.Need-power-of-five-requires
-power-of-five-requires c κs = let h = good-settings _ _ (c .before .before .before .before .pre .0) .deep in omega arith
+root-requires : tie.Need-root-requires
+root-requires c κs = good-settings _ _ (c .before .before .before .before .pre .0) .deep
 
 lay-below-requires : tie.Need-lay-below-requires
 lay-below-requires c κs =
     let s = c .before .before .before .before .before .before .before in
-    let l = leaves-to (s .args .m) (s .args .s) (s .args .leaf-keys .now) (s .args .leaf-features .now) (s .pre .2) in (
-      root-asked _ _ _ _ _ (s .pre .0) (s .pre .1) (l .below) (c .before .before .power-of-five .ensures),
-      root-ready (s .args .m) (s .args .s) _ _ _ _ (s .pre .1) (s .pre .2) (s .pre .0) (s .pre .3),
-    )
+    root-ready (s .args .m) (s .args .s) _ _ _ _ (s .pre .1) (s .pre .2) (s .pre .0) (s .pre .3) (c .before .before .root .ensures)
 
 -- the first place is there
-abbrev start : tie.After-slice-known4 → tie.Start
-start c = c .before .before .before .before .before .before .before .before .before .before .before .before
+abbrev start : tie.After-below → tie.Start
+start c = c .before .before .before .before .before .before .before .before .before .before .before .before .before
 
-module _ (c : tie.After-slice-known4) where
+module _ (c : tie.After-below) where
   some : 1 ≤ length (start c .args .keys .now)
   some =
       let s = start c in
@@ -41,10 +37,10 @@ module _ (c : tie.After-slice-known4) where
       omega (arith, s .pre .3)
 
 slice-write-keys : tie.Need-slice-write-keys
-slice-write-keys c = let h = some c in omega (arith, c .before .before .before .before .lay-below .kept .1 .1 .1 .1 .1 .1 .1 .0)
+slice-write-keys c = let h = some c in omega (arith, c .before .before .before .before .before .lay-below .kept .1 .1 .1 .1 .1 .0)
 
 slice-write-bits : tie.Need-slice-write-bits
-slice-write-bits c = let h = some-bits c in omega (arith, c .before .before .before .before .lay-below .kept .1 .1 .1 .1 .1 .1 .1 .1 .0)
+slice-write-bits c = let h = some-bits c in omega (arith, c .before .before .before .before .before .lay-below .kept .1 .1 .1 .1 .1 .1 .0)
 
 same-length : tie.Need-same-length
 same-length c = search needs
@@ -55,12 +51,13 @@ same-length-2 c = search needs
 returns : tie.Need-returns
 returns c =
     let s = start c in
-    let l = c .before .before .before .before .lay-below .ensures in (
-      root-keys (s .args .m) (s .args .s) _ _ _ _ (s .pre .1) (s .pre .2) l (s .pre .3),
-      root-bits (s .args .m) (s .args .s) _ _ _ _ (s .pre .1) (s .pre .2) l (s .pre .3),
+    let w = c .before .before .before .before .before in
+    let e = w .before .before .before .root .ensures in (
+      root-keys (s .args .m) (s .args .s) _ _ _ _ (s .pre .1) (s .pre .2) e (w .lay-below .ensures) (s .pre .3),
+      root-bits (s .args .m) (s .args .s) _ _ _ _ (s .pre .1) (s .pre .2) e (w .lay-below .ensures) (s .pre .3),
     )
 
 pub lay-list-spec : {M : Type 1} → statement M
 lay-list-spec =
     tie.close
-    (tie.spec power-of-five-requires lay-below-requires slice-write-keys slice-write-bits same-length same-length-2 returns)
+    (tie.spec root-requires lay-below-requires slice-write-keys slice-write-bits same-length same-length-2 returns)

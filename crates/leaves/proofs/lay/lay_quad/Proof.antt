@@ -1,11 +1,13 @@
 -- `lay::lay_quad` meets its contract: the next leaf is the block, or four pixels and then their own records.
 use Prim.Native.Nat.{ℕ, _+_, _^_, _≤_, _<_}
 use mathlib.Core.List.{List}
-use mathlib.Core.Path.{refl}
+use mathlib.Core.Path.{_≡_, refl}
 use native.Mathlib.Omega.{arith}
 use lib.ListN.{length, getD}
 use Rattle.keys.specs.Key.{slotLimit}
-use Rattle.leaves.specs.Delivered.{LayAsked, BlockLaid}
+use Rattle.keys.specs.declared.span.KeySpan.{KeySpan}
+use Rattle.leaves.specs.Delivered.{pixelSpan, LayAsked, BlockLaid}
+use Rattle.leaves.specs.declared.lay.Lain.{Lain}
 use Rattle.leaves.proofs.Quarters.{parted-there}
 use Rattle.leaves.proofs.LayBlock.{laid-leaf, laid-pixel, ready-place, ready-nw, ready-ne, ready-sw, ready-se, ready-four, laid-four}
 use Rattle.leaves.proofs.lay.lay_quad.Statement.{statement}
@@ -20,80 +22,68 @@ leafKeys c = start c .args .leaf-keys .now
 abbrev leafFeatures : tie.Else1 → List ℕ
 leafFeatures c = start c .args .leaf-features .now
 
--- what a call for a pixel that is ready asks
-pixel : (s : tie.Start) {k κ at place : ℕ} {keys bits : List ℕ}
-    → LayAsked (s .args .leaf-keys .now) (s .args .leaf-features .now) k κ at place keys bits
+-- what a call for a leaf that is ready asks
+leaf-there : (s : tie.Start) {span : KeySpan} {at place : ℕ} {keys bits : List ℕ} → LayAsked (s .args .leaf-keys .now) (s .args .leaf-features .now) span at place keys bits
     → (at < length (s .args .leaf-features .now)) × (getD (s .args .leaf-features .now) at 0 < slotLimit) × (place ≤ 5 ^ 10)
-pixel s {at = at} a =
+leaf-there s {at = at} a =
     let h = parted-there (a .parted) in
-    (omega (arith, s .pre .0 .same), s .pre .0 .few at, ready-place a)
+    (omega (arith, a .asked .same), a .asked .few at, ready-place a)
 
 -- the pixels one after the other: ready, and then laid
-module _ (c : tie.After-lay-pixel2) where
-  abbrev high : tie.Else1
-  high = c .before
+abbrev Laid : (c : tie.Else1) → ℕ → ℕ → ℕ → Lain → Type 0
+Laid c κ at place x = BlockLaid (leafKeys c) (leafFeatures c) (pixelSpan κ) at place (start c .args .keys .now) (start c .args .bits .now) (start c .args .keys .now) (start c .args .bits .now) x
 
-  first : BlockLaid (leafKeys high) (leafFeatures high) 0 (start high .args .key + 1) (start high .args .at) (start high .args .place + 1) (start high .args .keys .now) (start high .args .bits .now) (start high .args .keys .now) (start high .args .bits .now) (c .lay-pixel2 .result .bits) (c .lay-pixel2 .result .next) (c .lay-pixel2 .result .end)
-  first = laid-pixel (ready-nw _ _ 0 _ 1 _ _ refl (high .if1 .left) (start high .pre .1)) (c .lay-pixel2 .ensures)
+first : (c : tie.After-lay-leaf2) → let h = c .before in Laid h (start h .args .key + 1) (start h .args .at) (start h .args .place + 1) (c .lay-leaf2 .result)
+first c = let h = c .before in laid-pixel (ready-nw (start h .pre) (h .if1 .left) refl) (c .lay-leaf2 .ensures)
 
-module _ (c : tie.After-lay-pixel3) where
-  abbrev high₂ : tie.Else1
-  high₂ = c .before .before
+second : (c : tie.After-lay-leaf3) → let b = c .before in let h = b .before in Laid h (start h .args .key + 2) (b .lay-leaf2 .result .end) (b .lay-leaf2 .result .below .next) (c .lay-leaf3 .result)
+second c = let b = c .before in let h = b .before in laid-pixel (ready-ne (start h .pre) (h .if1 .left) refl (first b) refl) (c .lay-leaf3 .ensures)
 
-  second : BlockLaid (leafKeys high₂) (leafFeatures high₂) 0 (start high₂ .args .key + 2) (c .before .lay-pixel2 .result .end) (c .before .lay-pixel2 .result .next) (start high₂ .args .keys .now) (start high₂ .args .bits .now) (start high₂ .args .keys .now) (start high₂ .args .bits .now) (c .lay-pixel3 .result .bits) (c .lay-pixel3 .result .next) (c .lay-pixel3 .result .end)
-  second = laid-pixel (ready-ne _ _ 0 _ 1 _ _ refl (high₂ .if1 .left) (start high₂ .pre .1) (first (c .before))) (c .lay-pixel3 .ensures)
+third : (c : tie.After-lay-leaf4) → let b = c .before in let h = b .before .before in Laid h (start h .args .key + 3) (b .lay-leaf3 .result .end) (b .lay-leaf3 .result .below .next) (c .lay-leaf4 .result)
+third c = let b = c .before in let h = b .before .before in laid-pixel (ready-sw (start h .pre) (h .if1 .left) refl (first (b .before)) refl (second b) refl) (c .lay-leaf4 .ensures)
 
-module _ (c : tie.After-lay-pixel4) where
-  abbrev high₃ : tie.Else1
-  high₃ = c .before .before .before
-
-  third : BlockLaid (leafKeys high₃) (leafFeatures high₃) 0 (start high₃ .args .key + 3) (c .before .lay-pixel3 .result .end) (c .before .lay-pixel3 .result .next) (start high₃ .args .keys .now) (start high₃ .args .bits .now) (start high₃ .args .keys .now) (start high₃ .args .bits .now) (c .lay-pixel4 .result .bits) (c .lay-pixel4 .result .next) (c .lay-pixel4 .result .end)
-  third = laid-pixel (ready-sw _ _ 0 _ 1 _ _ refl (high₃ .if1 .left) (start high₃ .pre .1) (first (c .before .before)) (second (c .before))) (c .lay-pixel4 .ensures)
-
-module _ (c : tie.After-lay-pixel5) where
-  abbrev high₄ : tie.Else1
-  high₄ = c .before .before .before .before
-
-  fourth : BlockLaid (leafKeys high₄) (leafFeatures high₄) 0 (start high₄ .args .key + 4) (c .before .lay-pixel4 .result .end) (c .before .lay-pixel4 .result .next) (start high₄ .args .keys .now) (start high₄ .args .bits .now) (start high₄ .args .keys .now) (start high₄ .args .bits .now) (c .lay-pixel5 .result .bits) (c .lay-pixel5 .result .next) (c .lay-pixel5 .result .end)
-  fourth = laid-pixel (ready-se _ _ 0 _ 1 _ _ refl (high₄ .if1 .left) (start high₄ .pre .1) (first (c .before .before .before)) (second (c .before .before)) (third (c .before))) (c .lay-pixel5 .ensures)
+fourth : (c : tie.After-lay-leaf5) → let b = c .before in let h = b .before .before .before in Laid h (start h .args .key + 4) (b .lay-leaf4 .result .end) (b .lay-leaf4 .result .below .next) (c .lay-leaf5 .result)
+fourth c =
+    let b = c .before in
+    let h = b .before .before .before in
+    laid-pixel (ready-se (start h .pre) (h .if1 .left) refl (first (b .before .before)) refl (second (b .before)) refl (third b) refl) (c .lay-leaf5 .ensures)
 
 read-byte : tie.Need-mul-if1
-read-byte c = let h = parted-there (c .before .before .before .before .pre .1 .parted) in omega arith
+read-byte c = let h = parted-there (c .before .before .before .before .pre .parted) in omega arith
 
 read-key : tie.Need-shared-slice-read-if1
-read-key c = let h = parted-there (c .before .before .before .before .before .pre .1 .parted) in omega arith
+read-key c = let h = parted-there (c .before .before .before .before .before .pre .parted) in omega arith
 
-leaf-requires : tie.Need-lay-pixel-requires
-leaf-requires c κs = let s = c .before .before .before .before .before .before in pixel s (s .pre .1)
+leaf-requires : tie.Need-lay-leaf-requires
+leaf-requires c κs = let s = c .before .before .before .before .before .before in leaf-there s (s .pre)
 
 returns : tie.Need-returns
 returns c =
     let s = c .before .before .before .before .before .before .before in
-    let e = c .lay-pixel .ensures in
-    rw (e .1, e .2) (laid-leaf _ _ 1 _ _ _ _ _ _ (parted-there (s .pre .1 .parted)) (c .before .if1 .taken) (e .0))
+    rw (c .lay-leaf .ensures) (laid-leaf (parted-there (s .pre .parted)) (c .before .if1 .taken))
 
-nw-place : tie.Need-add-first
-nw-place c = let f = start c .pre .1 .fits in omega (arith, f .key-fits, f .place-fits)
+nw-place : tie.Need-add-lay-leaf
+nw-place c = let f = start c .pre .fits in omega (arith, f .key-fits, f .place-fits)
 
-nw-requires : tie.Need-lay-pixel-requires-2
-nw-requires c κs = pixel (start c) (ready-nw _ _ 0 _ 1 _ _ refl (c .if1 .left) (start c .pre .1))
+nw-requires : tie.Need-lay-leaf-requires-2
+nw-requires c κs = leaf-there (start c) (ready-nw (start c .pre) (c .if1 .left) refl)
 
-ne-requires : tie.Need-lay-pixel-requires-3
-ne-requires c κs = let h = high c in pixel (start h) (ready-ne _ _ 0 _ 1 _ _ refl (h .if1 .left) (start h .pre .1) (first c))
+ne-requires : tie.Need-lay-leaf-requires-3
+ne-requires c κs = let h = c .before in leaf-there (start h) (ready-ne (start h .pre) (h .if1 .left) refl (first c) refl)
 
-sw-requires : tie.Need-lay-pixel-requires-4
-sw-requires c κs = let h = high₂ c in pixel (start h) (ready-sw _ _ 0 _ 1 _ _ refl (h .if1 .left) (start h .pre .1) (first (c .before)) (second c))
+sw-requires : tie.Need-lay-leaf-requires-4
+sw-requires c κs = let h = c .before .before in leaf-there (start h) (ready-sw (start h .pre) (h .if1 .left) refl (first (c .before)) refl (second c) refl)
 
-se-requires : tie.Need-lay-pixel-requires-5
+se-requires : tie.Need-lay-leaf-requires-5
 se-requires c κs =
-    let h = high₃ c in
-    pixel (start h) (ready-se _ _ 0 _ 1 _ _ refl (h .if1 .left) (start h .pre .1) (first (c .before .before)) (second (c .before)) (third c))
+    let h = c .before .before .before in
+    leaf-there (start h) (ready-se (start h .pre) (h .if1 .left) refl (first (c .before .before)) refl (second (c .before)) refl (third c) refl)
 
 write-four-requires : tie.Need-write-four-requires
 write-four-requires c κs =
     let d = c .before .before in
-    let h = high₄ d in
-    ready-four _ _ 0 _ 1 _ _ refl (h .if1 .left) (start h .pre .1) (first (d .before .before .before)) (second (d .before .before)) (third (d .before)) (fourth d)
+    let h = d .before .before .before .before in
+    ready-four (start h .pre) (h .if1 .left) refl (first (d .before .before .before)) refl (second (d .before .before)) refl (third (d .before)) refl (fourth d)
 
 same-length : tie.Need-same-length
 same-length c = c .before .before .before .before .write-four .kept .1 .1 .1 .1 .1 .1 .1 .0
@@ -104,8 +94,8 @@ same-length-2 c = c .before .before .before .before .write-four .kept .1 .1 .1 .
 returns-2 : tie.Need-returns-2
 returns-2 c =
     let d = c .before .before .before .before .before .before .before in
-    let h = high₄ d in
-    laid-four _ _ 0 _ 1 _ _ refl (h .if1 .left) (start h .pre .1) (first (d .before .before .before)) (second (d .before .before)) (third (d .before)) (fourth d)
+    let h = d .before .before .before .before in
+    laid-four (start h .pre) (h .if1 .left) refl (first (d .before .before .before)) refl (second (d .before .before)) refl (third (d .before)) refl (fourth d)
     (c .before .before .before .before .write-four .ensures)
 
 pub lay-quad-spec : {M : Type 1} → statement M
