@@ -2,6 +2,7 @@ pub mod Cases
 pub mod Powers
 pub mod Under
 pub mod Interval
+pub mod BlockChild
 pub mod Parent
 pub mod Digits
 pub mod Descent

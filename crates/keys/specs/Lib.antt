@@ -1,3 +1,4 @@
 pub mod Key
 pub mod Block
 pub mod Under
+pub mod Child

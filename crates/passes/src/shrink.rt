@@ -8,6 +8,7 @@ ghost use Rattle.passes.specs.Shrink.{ShrinkAsked, Shrinks, isDecided, K
 use crate::tally;
 use build::count;
 use build::count::Tally;
+use keys::block::TreeBlock;
 use keys::power;
 use list::check;
 use step::deed;
@@ -91,13 +92,21 @@ fn shrink_leaf(
     requires { ⌜ OneAsked (now keys) (now bits) at place ⌝ }
     ensures { λ r. ⌜ LeafShrunk (stepOf m deed (now («log_keys» .entry)) (now («log_values» .entry))) own height row column key (now (keys .entry)) (now (bits .entry)) at place (now (keys .exit)) (now (bits .exit)) (r .tally .bits) (r .tally .count) (r .next) (r .place) ⌝ }
 {
-    let tally = tally::tally_leaf(deed, log_keys, log_values, m, own, height, row, column, key);
+    let block = TreeBlock {
+        height,
+        row,
+        column,
+        key,
+    };
+    let tally = tally::tally_leaf(deed, log_keys, log_values, m, own, block);
     keys[place] = key;
     bits[place] = bits_left(own, tally);
+    let next = at + 1;
+    let after = place + 1;
     Shrunk {
         tally,
-        next: at + 1,
-        place: place + 1,
+        next,
+        place: after,
     }
 }
 

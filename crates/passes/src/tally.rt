@@ -9,6 +9,8 @@ ghost use Rattle.passes.specs.Passes.{Shown, StepCounted, EndAsked, Read
 use crate::block_end;
 use build::count;
 use build::count::Tally;
+use keys::block::TreeBlock;
+use keys::block::child;
 use keys::power;
 use list::check;
 use step::deed;
@@ -43,65 +45,29 @@ pub fn tally_leaf(
     log_values: &[u32],
     m: u32,
     own: u32,
-    height: u32,
-    row: u32,
-    column: u32,
-    key: u32,
+    block: TreeBlock,
 ) -> Tally
-    requires { ⌜ Doable m deed (now «log_keys») (now «log_values») × LeafAsked m own height row column key ⌝ }
-    ensures { λ r. ⌜ Tallied (stepOver (stepOf m deed (now («log_keys» .entry)) (now («log_values» .entry))) (plain (featureOf own))) height row column (r .bits) (r .count) ⌝ }
+    requires { ⌜ Doable m deed (now «log_keys») (now «log_values») × LeafAsked m own (block .height) (block .row) (block .column) (block .key) ⌝ }
+    ensures { λ r. ⌜ Tallied (stepOver (stepOf m deed (now («log_keys» .entry)) (now («log_values» .entry))) (plain (featureOf own))) (block .height) (block .row) (block .column) (r .bits) (r .count) ⌝ }
 {
-    let here = deed::narrow(deed, log_keys, log_values, m, height, key);
-    let met = deed::meeting(here, log_keys, log_values, m, height, row, column, key);
+    let here = deed::narrow(deed, log_keys, log_values, m, block.height, block.key);
+    let met = deed::meeting(
+        here,
+        log_keys,
+        log_values,
+        m,
+        block.height,
+        block.row,
+        block.column,
+        block.key,
+    );
     if !meeting::is_cut(met) {
         return known(met, own, 1, log_values);
     }
-    let four = quarters::of(height, row, column, key);
-    let lower = four.height;
-    let nw = tally_leaf(
-        here,
-        log_keys,
-        log_values,
-        m,
-        own,
-        lower,
-        row,
-        column,
-        four.nw,
-    );
-    let ne = tally_leaf(
-        here,
-        log_keys,
-        log_values,
-        m,
-        own,
-        lower,
-        row,
-        four.right,
-        four.ne,
-    );
-    let sw = tally_leaf(
-        here,
-        log_keys,
-        log_values,
-        m,
-        own,
-        lower,
-        four.down,
-        column,
-        four.sw,
-    );
-    let se = tally_leaf(
-        here,
-        log_keys,
-        log_values,
-        m,
-        own,
-        lower,
-        four.down,
-        four.right,
-        four.se,
-    );
+    let nw = tally_leaf(here, log_keys, log_values, m, own, child(block, 1));
+    let ne = tally_leaf(here, log_keys, log_values, m, own, child(block, 2));
+    let sw = tally_leaf(here, log_keys, log_values, m, own, child(block, 3));
+    let se = tally_leaf(here, log_keys, log_values, m, own, child(block, 4));
     count::joined(nw, ne, sw, se)
 }
 
@@ -151,11 +117,15 @@ pub fn tally_records(
 {
     let own = bits[at];
     if check::has_one_slot(own) {
-        let tally = tally_leaf(deed, log_keys, log_values, m, own, height, row, column, key);
-        return PassedBlock {
-            tally,
-            next: at + 1,
+        let block = TreeBlock {
+            height,
+            row,
+            column,
+            key,
         };
+        let tally = tally_leaf(deed, log_keys, log_values, m, own, block);
+        let next = at + 1;
+        return PassedBlock { tally, next };
     }
     let here = deed::narrow(deed, log_keys, log_values, m, height, key);
     let met = deed::meeting(here, log_keys, log_values, m, height, row, column, key);

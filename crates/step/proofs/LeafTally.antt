@@ -1,7 +1,10 @@
 -- A leaf after the step, by its quadrants. Build's laws of counting a block serve, with the step over the leaf's feature as the picture.
-use Prim.Native.Nat.{ℕ, suc, _+_, _-_, _^_, _<_}
+use Prim.Native.Nat.{ℕ, suc, _+_, _-_, _^_, _≤_, _<_}
 use native.Mathlib.Omega.{arith}
 use mathlib.Core.Path.{_≡_, refl}
+use Rattle.keys.specs.Child.{childOf}
+use Rattle.keys.specs.declared.block.TreeBlock.{TreeBlock}
+use Rattle.keys.proofs.BlockChild.{is-in-child}
 use Rattle.definitions.specs.Picture.{Picture}
 use Rattle.definitions.specs.Bits.{unionOfFour}
 use Rattle.build.specs.BuildBlocks.{Tallied, Joined}
@@ -36,3 +39,8 @@ pub leaf-four : (p : Picture) (κ : ℕ) {k r c b₁ b₂ b₃ b₄ n₁ n₂ n�
 leaf-four p κ {k} {r} {c} e positive =
     let up : k ≡ suc (k - 1) = omega arith in
     rw e (λ t₁ t₂ t₃ t₄ j. rw up (tallied-four p (k - 1) (2 ^ (k - 1)) r c refl t₁ t₂ t₃ t₄ j))
+
+-- a leaf's quadrant, by its digit, is asked as the leaf was
+pub leaf-child : {m own : ℕ} (b : TreeBlock) (d : ℕ) {q : TreeBlock} → q ≡ childOf b d → LeafAsked m own (b .height) (b .row) (b .column) (b .key) → 0 < b .height → 1 ≤ d → d ≤ 4
+    → LeafAsked m own (q .height) (q .row) (q .column) (q .key)
+leaf-child b d e a positive low high = record { deep = a .deep; block = is-in-child b d e (a .block) positive low high; leaf = a .leaf }

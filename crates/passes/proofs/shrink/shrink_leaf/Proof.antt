@@ -22,10 +22,10 @@ mul-bits c = search needs
 slice-write-bits : tie.Need-slice-write-bits
 slice-write-bits c = search needs
 
-add-next : tie.Need-add-t15
+add-next : tie.Need-add-next
 add-next c = search needs
 
-add-place : tie.Need-add-t19
+add-place : tie.Need-add-after
 add-place c = search needs
 
 same-length : tie.Need-same-length

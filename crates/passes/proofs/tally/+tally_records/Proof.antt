@@ -99,7 +99,7 @@ has-one-slot-requires t c κs = search needs
 tally-leaf-requires : (t : ℕ) → lts.Need-tally-leaf-requires (claims t) (given t) own.Post
 tally-leaf-requires t c κs = let q = c .before .before .before .before .before .before .before in (q .pre .1 .0, leaf-shown (shown t q) _ (sym (c .before .has-one-slot .ensures) ∙ c .if1 .taken))
 
-add-next : (t : ℕ) → lts.Need-add-t33 (claims t) (given t) own.Post
+add-next : (t : ℕ) → lts.Need-add-next (claims t) (given t) own.Post
 add-next t c = let s = c .before .before .before .before .before .before .before .before in let h = room t s in omega (arith, h, shown t s .shown .in-bits, s .good)
 
 returns : (t : ℕ) → lts.Need-returns (claims t) (given t) own.Post
