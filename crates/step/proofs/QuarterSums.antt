@@ -7,8 +7,6 @@ use Rattle.keys.specs.Child.{Divisible}
 use Rattle.keys.specs.declared.block.TreeBlock.{TreeBlock}
 use Rattle.keys.specs.Under.{MapBlock, here, nw, ne, sw, se}
 use Rattle.keys.proofs.Under.{under-trans}
-use Rattle.keys.proofs.Interval.{within}
-use Rattle.keys.proofs.Powers.{five-le}
 use Rattle.keys.proofs.BlockChild.{sums, divides}
 use Rattle.step.specs.Quarters.{quartersOf}
 use Rattle.step.specs.declared.quarters.Quarters.{Quarters}
@@ -49,10 +47,6 @@ module _ {m k r c κ : ℕ} {q : Quarters} (e : q ≡ quartersOf k r c κ) (b : 
 
   pub block-se : MapBlock m (q .height) (q .down) (q .right) (q .se)
   block-se = rw e (under-trans block (se here))
-
--- a block's keys end within the map's
-pub narrow-room : {m k r c κ : ℕ} → m ≤ 10 → MapBlock m k r c κ → (k ≤ 10) × (κ + 5 ^ k ≤ 5 ^ 10)
-narrow-room deep b = let w = within b in let five = five-le 10 deep in omega (arith, w .height, w .until)
 
 -- the quadrants are lower
 pub lower-than : {k t : ℕ} (r c κ : ℕ) {q : Quarters} → q ≡ quartersOf k r c κ → 0 < k → k ≡ t → q .height < t

@@ -9,14 +9,13 @@ use borrow.Fn.PlainCycle.{Measures, is, falls, and}
 use Rattle.keys.specs.Child.{childOf, Divisible}
 use Rattle.keys.specs.declared.block.TreeBlock.{TreeBlock}
 use Rattle.keys.proofs.Interval.{within}
-use Rattle.keys.proofs.BlockChild.{child-lower, divides}
+use Rattle.keys.proofs.BlockChild.{child-lower, divides, end-in-map}
 use Rattle.definitions.specs.Bits.{featureOf}
 use Rattle.build.proofs.CountBlock.{tallied-small}
 use Rattle.step.specs.Step.{plain, stepOver}
 use Rattle.step.specs.Deed.{Doable, LeafAsked}
-use Rattle.step.proofs.LeafTally.{leaf-child}
+use Rattle.step.proofs.LeafChild.{leaf-child}
 use Rattle.step.proofs.Meetings.{met-cut}
-use Rattle.step.proofs.QuarterSums.{narrow-room}
 use Rattle.passes.proofs.ByDigits.{few, four}
 use Rattle.passes.proofs.Narrowed.{narrowed-tallied}
 use Rattle.passes.proofs.Known.{met-readable, known-tallied, leaf-bits, leaf-records}
@@ -33,7 +32,7 @@ use Rattle.passes.proofs.tally.+tally_leaf.{statement}
 use Rattle.passes.proofs.tally.+tally_leaf.Tie.{close}
 
 abbrev measure : Measures 2 kinds.ps ℕ
-measure κs a = a .1 .1 .1 .1 .1 .0 .height
+measure κs a = a .1 .1 .1 .1 .0 .height
 
 abbrev given : ℕ → In 2 kinds.ps
 given t = and 2 kinds.ps (is 2 kinds.ps measure t) own.Pre
@@ -45,7 +44,7 @@ abbrev claims : ℕ → lts.Claims
 claims t = (narrow.Asked, narrow.Learnt, meeting.Asked, meeting.Learnt, is-cut.Asked, is-cut.Learnt, known.Asked, known.Learnt, child.Asked, child.Learnt, below t, own.Post, joined.Asked, joined.Learnt)
 
 narrow-requires : (t : ℕ) → lts.Need-narrow-requires (claims t) (given t) own.Post
-narrow-requires t c κs = let a = c .before .before .pre .1 in let n = narrow-room (a .1 .deep) (a .1 .block) in (a .0, n .0, n .1)
+narrow-requires t c κs = let a = c .before .before .pre .1 in (a .0, end-in-map _ (a .1 .deep) (a .1 .block))
 
 meeting-requires : (t : ℕ) → lts.Need-meeting-requires (claims t) (given t) own.Post
 meeting-requires t c κs = let a = c .before .before .before .pre .1 .1 in (c .narrow .ensures .doable, record { deep = a .deep; block = a .block })
@@ -81,10 +80,10 @@ parts : (t : ℕ) (c : Divided t) → Divisible (start t c .args .block)
 parts t c = let a = start t c .pre .1 .1 in divides _ (a .deep) (a .block) (positive t c)
 
 asks : (t : ℕ) (c : Divided t) (d : ℕ) {q : TreeBlock} → q ≡ childOf (start t c .args .block) d → 1 ≤ d → d ≤ 4
-    → (q .height < t) × (Doable (start t c .args .m) (c .before .before .before .narrow .result) (start t c .args .log-keys .now) (start t c .args .log-values .now)
-    × LeafAsked (start t c .args .m) (start t c .args .own) (q .height) (q .row) (q .column) (q .key))
+    → (q .height < t) × (Doable (start t c .args .doing .m) (c .before .before .before .narrow .result) (start t c .args .log-keys .now) (start t c .args .log-values .now)
+    × LeafAsked (start t c .args .doing .m) (start t c .args .own) q)
 asks t c d e low high =
-    (child-lower _ d e (positive t c) (start t c .pre .0), (c .before .before .before .narrow .ensures .doable, leaf-child _ d e (start t c .pre .1 .1) (positive t c) low high))
+    (child-lower _ d e (positive t c) (start t c .pre .0), (c .before .before .before .narrow .ensures .doable, leaf-child d e (start t c .pre .1 .1) (positive t c) low high))
 
 nw-place : (t : ℕ) → lts.Need-child-requires (claims t) (given t) own.Post
 nw-place t c κs = (parts t c, omega arith)
