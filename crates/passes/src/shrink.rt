@@ -145,65 +145,25 @@ pub fn shrink(
         let passed = tally::pass_over(met, own, end(block), read, keys, n, log_values);
         let tally = passed.tally;
         let next = passed.next;
-        let kept = keep(met, block.key, read, next, place, keys, bits);
-        let past = Places {
-            read: next,
-            write: kept,
-        };
+        let write = keep(met, block.key, read, next, place, keys, bits);
+        let past = Places { read: next, write };
         return Shrunk { tally, at: past };
     }
-    let first = read + 1;
-    let second = place + 1;
-    let below = Places {
-        read: first,
-        write: second,
-    };
-    let nw = shrink(
-        here,
-        log_keys,
-        log_values,
-        child(block, 1),
-        below,
-        n,
-        keys,
-        bits,
-    );
-    let ne = shrink(
-        here,
-        log_keys,
-        log_values,
-        child(block, 2),
-        nw.at,
-        n,
-        keys,
-        bits,
-    );
-    let sw = shrink(
-        here,
-        log_keys,
-        log_values,
-        child(block, 3),
-        ne.at,
-        n,
-        keys,
-        bits,
-    );
-    let se = shrink(
-        here,
-        log_keys,
-        log_values,
-        child(block, 4),
-        sw.at,
-        n,
-        keys,
-        bits,
-    );
+    let read = read + 1;
+    let write = place + 1;
+    let below = Places { read, write };
+    let part = child(block, 1);
+    let nw = shrink(here, log_keys, log_values, part, below, n, keys, bits);
+    let part = child(block, 2);
+    let ne = shrink(here, log_keys, log_values, part, nw.at, n, keys, bits);
+    let part = child(block, 3);
+    let sw = shrink(here, log_keys, log_values, part, ne.at, n, keys, bits);
+    let part = child(block, 4);
+    let se = shrink(here, log_keys, log_values, part, sw.at, n, keys, bits);
     let tally = count::joined(nw.tally, ne.tally, sw.tally, se.tally);
     let last = se.at;
-    let left = shrink_own(block.key, tally.bits, place, last.write, keys, bits);
-    let past = Places {
-        read: last.read,
-        write: left,
-    };
+    let write = shrink_own(block.key, tally.bits, place, last.write, keys, bits);
+    let read = last.read;
+    let past = Places { read, write };
     Shrunk { tally, at: past }
 }

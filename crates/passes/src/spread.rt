@@ -149,46 +149,14 @@ fn spread(
     if !meeting::is_cut(met) {
         return lay(met, own, log_keys, log_values, end, keys, bits);
     }
-    let se = spread(
-        here,
-        log_keys,
-        log_values,
-        own,
-        child(block, 4),
-        end,
-        keys,
-        bits,
-    );
-    let sw = spread(
-        here,
-        log_keys,
-        log_values,
-        own,
-        child(block, 3),
-        se.place,
-        keys,
-        bits,
-    );
-    let ne = spread(
-        here,
-        log_keys,
-        log_values,
-        own,
-        child(block, 2),
-        sw.place,
-        keys,
-        bits,
-    );
-    let nw = spread(
-        here,
-        log_keys,
-        log_values,
-        own,
-        child(block, 1),
-        ne.place,
-        keys,
-        bits,
-    );
+    let part = child(block, 4);
+    let se = spread(here, log_keys, log_values, own, part, end, keys, bits);
+    let part = child(block, 3);
+    let sw = spread(here, log_keys, log_values, own, part, se.place, keys, bits);
+    let part = child(block, 2);
+    let ne = spread(here, log_keys, log_values, own, part, sw.place, keys, bits);
+    let part = child(block, 1);
+    let nw = spread(here, log_keys, log_values, own, part, ne.place, keys, bits);
     settle_four(block, end, nw, ne, sw, se, keys, bits)
 }
 

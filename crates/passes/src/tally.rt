@@ -114,46 +114,14 @@ pub fn tally_records(
         return pass_over(met, own, end(block), at, keys, n, log_values);
     }
     let first = at + 1;
-    let nw = tally_records(
-        here,
-        log_keys,
-        log_values,
-        child(block, 1),
-        first,
-        keys,
-        bits,
-        n,
-    );
-    let ne = tally_records(
-        here,
-        log_keys,
-        log_values,
-        child(block, 2),
-        nw.next,
-        keys,
-        bits,
-        n,
-    );
-    let sw = tally_records(
-        here,
-        log_keys,
-        log_values,
-        child(block, 3),
-        ne.next,
-        keys,
-        bits,
-        n,
-    );
-    let se = tally_records(
-        here,
-        log_keys,
-        log_values,
-        child(block, 4),
-        sw.next,
-        keys,
-        bits,
-        n,
-    );
+    let part = child(block, 1);
+    let nw = tally_records(here, log_keys, log_values, part, first, keys, bits, n);
+    let part = child(block, 2);
+    let ne = tally_records(here, log_keys, log_values, part, nw.next, keys, bits, n);
+    let part = child(block, 3);
+    let sw = tally_records(here, log_keys, log_values, part, ne.next, keys, bits, n);
+    let part = child(block, 4);
+    let se = tally_records(here, log_keys, log_values, part, sw.next, keys, bits, n);
     let tally = count::joined(nw.tally, ne.tally, sw.tally, se.tally);
     let next = se.next;
     PassedBlock { tally, next }

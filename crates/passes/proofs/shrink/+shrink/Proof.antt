@@ -224,11 +224,11 @@ returns-2 t c =
     (c .before .before .before .before .before .before .before .before .pass-over .ensures) (c .before .before .before .before .keep .ensures))
 
 -- a node's quadrants, one after the other
-add-first : (t : ℕ) → lts.Need-add-first (claims t) (given t) own.Post
-add-first t c = let h = asked-room (asked t (start t c)) in omega (arith, h, start t c .good)
+add-read : (t : ℕ) → lts.Need-add-read (claims t) (given t) own.Post
+add-read t c = let h = asked-room (asked t (start t c)) in omega (arith, h, start t c .good)
 
-add-second : (t : ℕ) → lts.Need-add-second (claims t) (given t) own.Post
-add-second t c = let a = asked t (start t c) in let h = asked-room a in omega (arith, h, a .order, start t c .good)
+add-write : (t : ℕ) → lts.Need-add-write (claims t) (given t) own.Post
+add-write t c = let a = asked t (start t c) in let h = asked-room a in omega (arith, h, a .order, start t c .good)
 
 nw-place : (t : ℕ) → lts.Need-child-requires (claims t) (given t) own.Post
 nw-place t c κs = (parts t c, omega arith)
@@ -347,8 +347,8 @@ pub +shrink-spec : {M : Type 1} → statement M
     (same-length-3 t)
     (same-length-4 t)
     (returns-2 t)
-    (add-first t)
-    (add-second t)
+    (add-read t)
+    (add-write t)
     (nw-place t)
     (nw-requires t)
     (ne-place t)
