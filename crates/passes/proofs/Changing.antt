@@ -5,7 +5,7 @@ use mathlib.Core.Bool.{true}
 use mathlib.Core.List.{List, [], _∷_, _++_, append-nil}
 use native.Mathlib.Nat.{zero-add, le-refl}
 use native.Mathlib.Omega.{arith}
-use lib.ListN.{length, take, drop, replicate, length-map}
+use lib.ListN.{length, getD, take, drop, replicate, length-map}
 use lib.Seq.{sets}
 use lib.Dec.{leb}
 use borrow.Author.Tests.{le-leb}
@@ -19,12 +19,14 @@ use Rattle.definitions.specs.List.{Record, keysOf, valuesOf, listOf, listOfPict
 use Rattle.definitions.specs.Read.{room, paired, recordsOf}
 use Rattle.definitions.specs.Buffer.{over, replaced}
 use Rattle.laws.proofs.Ascending.{none}
-use Rattle.laws.proofs.Records.{records-keys, records-values, paired-back}
+use Rattle.laws.proofs.Records.{key-at, records-keys, records-values, paired-back}
 use Rattle.list.specs.Own.{OwnList, shownBy}
+use Rattle.list.specs.Sorted.{Ascends}
+use Rattle.list.proofs.Accepted.{keys-ascend}
 use Rattle.list.proofs.Own.{own-length}
 use Rattle.build.proofs.CountBlock.{most-records}
 use Rattle.step.specs.Step.{Step, pruned, stepOver}
-use Rattle.step.proofs.Pruned.{pruned-before, pruned-after, pruned-all}
+use Rattle.step.proofs.Pruned.{pruned-before, pruned-after, pruned-all, pruned-ascends}
 use Rattle.passes.specs.Passes.{listAt, prunedAt, Moved, ShowingBlock, Shown, WroteBefore, Growing, GrowAsked, Grown, StepCounted}
 use Rattle.passes.specs.Shrink.{ShrinkAsked, ShrunkAt, Shrinks}
 use Rattle.passes.specs.Change.{zeroed, AllGrown}
@@ -168,8 +170,20 @@ module _ (t : Step) {m : ℕ} {keys bits : List ℕ} {n : ℕ} (deep : m ≤ 10)
             };
           }
 
+      ascends : Ascends keys₁ left
+      ascends =
+          record {
+            room = inside .0;
+            ascend = λ i j u v.
+                let e = many in
+                let a = ap (λ l. getD (keysOf l) i 0) (sym left-is) ∙ key-at keys₁ bits₁ left (inside .0) (inside .1) i (omega arith) in
+                let b = ap (λ l. getD (keysOf l) j 0) (sym left-is) ∙ key-at keys₁ bits₁ left (inside .0) (inside .1) j v in
+                let h = keys-ascend i j (pruned-ascends p (stepOver t p) m 0 0 0) u (omega arith) in
+                omega arith;
+          }
+
       pub grow-asked : GrowAsked t m (rootOf m) keys₁ bits₁ left after
-      grow-asked = record { picture = p; deep = deep; block = here; growing = growing }
+      grow-asked = record { picture = p; deep = deep; block = here; growing = growing; ascends = ascends }
 
       -- when all has grown, and when the places given up are zero
       module _ {keys₂ bits₂ : List ℕ} (g : AllGrown t m left after keys₁ bits₁ keys₂ bits₂) where

@@ -80,7 +80,7 @@ module _ {m past k r c κ : ℕ} {t t′ : Step} (s : SameBefore m past t t′) 
   }
 
   pub narrowed-asked : {keys bits : List ℕ} {read write : ℕ} → GrowAsked t m (blockAt k r c κ) keys bits read write → GrowAsked t′ m (blockAt k r c κ) keys bits read write
-  narrowed-asked a = record { picture = a .picture; deep = a .deep; block = b; growing = narrowed-growing (a .picture) (a .growing) }
+  narrowed-asked a = record { picture = a .picture; deep = a .deep; block = b; growing = narrowed-growing (a .picture) (a .growing); ascends = a .ascends }
 
   -- what is left is the same
   pub narrowed-shrinks : {keys bits keys′ bits′ : List ℕ} {at n place union count next place′ : ℕ} → Shrinks t′ (blockAt k r c κ) keys bits at n place keys′ bits′ union count next place′

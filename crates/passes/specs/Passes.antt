@@ -8,6 +8,7 @@ use lib.Seq.{sets}
 use Rattle.keys.specs.Child.{InMap}
 use Rattle.keys.specs.declared.block.TreeBlock.{TreeBlock}
 use Rattle.list.specs.Among.{keysBelow}
+use Rattle.list.specs.Sorted.{Ascends}
 use Rattle.list.specs.Check.{oneSlot}
 use Rattle.build.specs.BuildBlocks.{Tallied, FourAsked, FourWritten, Written}
 use Rattle.build.specs.declared.count.Tally.{Tally}
@@ -163,12 +164,13 @@ prunedAt t p b = pruned p (stepOver t p) (b .height) (b .row) (b .column) (b .ke
 pub record Growing (t : Step) (p : Picture) (b : TreeBlock) (keys bits : List ℕ) (read write : ℕ) : Type 0 where
   pub waits : Waiting (b .key) (prunedAt t p b) (length (listAt (stepOver t p) b)) keys bits read write
 
--- so of a block of the map, and of some picture
+-- so of a block of the map, and of some picture; the keys that are not passed yet ascend
 pub record GrowAsked (t : Step) (m : ℕ) (b : TreeBlock) (keys bits : List ℕ) (read write : ℕ) : Type 0 where
   pub picture : Picture
   pub deep : m ≤ 10
   pub block : InMap m b
   pub growing : Growing t picture b keys bits read write
+  pub ascends : Ascends keys read
 
 -- the block's list of the step over the picture stands there, of whichever picture it is
 pub record Grown (t : Step) (b : TreeBlock) (keys bits : List ℕ) (read write : ℕ) (keys′ bits′ : List ℕ) (read′ write′ : ℕ) : Type 0 where
