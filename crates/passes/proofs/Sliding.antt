@@ -12,9 +12,12 @@ use Rattle.definitions.specs.Read.{paired}
 use Rattle.laws.proofs.Pixels.{Agree}
 use Rattle.laws.proofs.ListOf.{list-first, list-some, list-ascends, list-agree}
 use Rattle.laws.proofs.Records.{key-at, records-run, paired-keys, paired-values}
+use Rattle.list.specs.Sorted.{Ascends, Sorted}
+use Rattle.list.specs.Among.{placeAmong}
 use Rattle.list.proofs.Accepted.{keys-ascend}
+use Rattle.list.proofs.Among.{place-at}
 use Rattle.step.specs.Step.{Step, stepOver, pruned}
-use Rattle.step.specs.Meeting.{Met}
+use Rattle.step.specs.Meeting.{blockAt, Met}
 use Rattle.step.specs.declared.meeting.Meeting.{Meeting}
 use Rattle.step.specs.declared.meeting.Meeting.the-variants.{Apart}
 use Rattle.step.proofs.Pruned.{over-out, pruned-apart, pruned-after, pruned-all}
@@ -29,29 +32,22 @@ start-one {a = a} {b} x y =
     (λ less. absurd (x .last b less (y .some) (y .is)))
     (λ more. split b a (λ less. absurd (y .last a less (x .some) (x .is))) (λ other. omega arith))
 
--- the search for it, towards the front: none of the places behind has the key
-pub record Scanning (key read : ℕ) (keys : List ℕ) (at : ℕ) : Type 0 where
-  pub some : at < read
-  pub last : (i : ℕ) → at < i → i < read → getD keys i 0 ≡ key → ⊥
-
+-- the search for it, among keys that ascend
 module _ {key read : ℕ} {keys : List ℕ} (a : StartAsked key read keys) where
-  pub scan-begins : (0 < read) × Scanning key read keys (read - 1)
-  scan-begins = let h = a .at .some in (omega arith, record { some = omega arith; last = λ i u v. absurd (omega (arith, u, v)) })
+  pub start-sorted : Sorted keys read key
+  start-sorted =
+      record {
+        ascends = a .ascends;
+        some = omega (arith, a .at .some);
+        first = split 0 (a .start)
+            (λ behind. let h = a .ascends .ascend 0 (a .start) behind (a .at .some) in omega (arith, a .at .is))
+            (λ front. let e : a .start ≡ 0 = omega arith in let f = ap (λ i. getD keys i 0) e in omega (arith, a .at .is));
+      }
 
-  module _ {at : ℕ} (s : Scanning key read keys at) where
-    pub scan-room : at < length keys
-    scan-room = omega (arith, s .some, a .room)
-
-    pub scan-turns : (getD keys at 0 ≡ key → ⊥) → (0 < at) × Scanning key read keys (at - 1)
-    scan-turns other =
-        let before : a .start < at = split (a .start) at (λ less. less) (λ more. absurd (behind more)) in
-        (omega arith, record { some = omega (arith, s .some); last = λ i u v. split at i (λ less. s .last i less v) (λ more. let e : i ≡ at = omega (arith, u, more) in rw e other) })
-      where
-        behind : at ≤ a .start → ⊥
-        behind h = split at (a .start) (λ less. s .last (a .start) less (a .at .some) (a .at .is)) (λ more. let e : a .start ≡ at = omega arith in other (rw e at (a .at .is)))
-
-    pub scan-ends : getD keys at 0 ≡ key → StartAt key read keys at
-    scan-ends e = record { some = s .some; is = e; last = s .last }
+  pub start-found : {place : ℕ} → place ≡ placeAmong key (take read keys) → StartAt key read keys place
+  start-found {place} is =
+      let e : place ≡ a .start = is ∙ sym (place-at (a .ascends) (a .start) key (a .at .some) (a .at .is)) in
+      rw e (a .at)
 
 -- records that end before a place
 module _ {l : List Record} {ks bs : List ℕ} {read : ℕ} (e : Ending l ks bs read) where
@@ -109,16 +105,16 @@ list-start p k r c κ {ks} {bs} {read} e =
     first = ap (λ l. getD (keysOf l) 0 0) (list-first p k r c κ .1)
 
 -- such a block waits to be moved, and is moved
-module _ (t : Step) (p : Picture) (k r c κ : ℕ) {ks bs : List ℕ} {read write : ℕ} (g : Growing t p k r c κ ks bs read write)
+module _ (t : Step) (p : Picture) (k r c κ : ℕ) {ks bs : List ℕ} {read write : ℕ} (g : Growing t p (blockAt k r c κ) ks bs read write)
     (same : pruned p (stepOver t p) k r c κ ≡ listOf (stepOver t p) k r c κ) where
   ending : Ending (listOf (stepOver t p) k r c κ) ks bs read
   ending = ending-at same (g .waits .ending)
 
-  pub slides : SlideAsked κ read write ks bs
-  slides =
+  pub slides : Ascends ks read → SlideAsked κ read write ks bs
+  slides ascends =
       let n = ap length same in
       record {
-        asked = record { start = length (ending .front); at = list-start (stepOver t p) k r c κ ending; room = ending .in-keys };
+        asked = record { start = length (ending .front); at = list-start (stepOver t p) k r c κ ending; ascends = ascends };
         apart = omega (arith, g .waits .apart);
         in-keys = g .waits .in-keys;
         in-bits = g .waits .in-bits;
@@ -144,17 +140,17 @@ module _ (t : Step) (p : Picture) (k r c κ : ℕ) {ks bs : List ℕ} {read writ
       run x {new} {i} {j} e f h = ap (sets x write′) (ap (λ y. take y (drop read′ x)) f ∙ ap (λ y. take j (drop y x)) h ∙ e)
 
 -- what is left of a block that stays is its list after the step
-stays-same : (t : Step) (p : Picture) (k r c κ : ℕ) {ks bs lks lvs : List ℕ} {read write : ℕ} {meeting : Meeting} → Growing t p k r c κ ks bs read write
-    → Met t lks lvs k r c κ meeting → Stays meeting read write → pruned p (stepOver t p) k r c κ ≡ listOf (stepOver t p) k r c κ
+stays-same : (t : Step) (p : Picture) (k r c κ : ℕ) {ks bs lks lvs : List ℕ} {read write : ℕ} {meeting : Meeting} → Growing t p (blockAt k r c κ) ks bs read write
+    → Met t lks lvs (blockAt k r c κ) meeting → Stays meeting read write → pruned p (stepOver t p) k r c κ ≡ listOf (stepOver t p) k r c κ
 stays-same t p k r c κ g m (level e) = pruned-all p (stepOver t p) k r c κ (let few = pruned-after p (stepOver t p) k r c κ in omega (arith, g .waits .apart))
 stays-same t p k r c κ {lks = lks} {lvs} g m (untouched e) =
-    let told : Met t lks lvs k r c κ Apart = rw e at m in
+    let told : Met t lks lvs (blockAt k r c κ) Apart = rw e at m in
     let agree : Agree p (stepOver t p) k r c = λ a b w. sym (over-out t p a b (told .told a b w)) in
     pruned-apart p (stepOver t p) k r c κ agree ∙ list-agree p (stepOver t p) k r c κ agree
 
-module _ (t : Step) {k r c κ : ℕ} {ks bs lks lvs : List ℕ} {read write : ℕ} {meeting : Meeting} (h : Met t lks lvs k r c κ meeting) (s : Stays meeting read write) where
-  pub asks-slide : {m : ℕ} → GrowAsked t m k r c κ ks bs read write → SlideAsked κ read write ks bs
-  asks-slide a = slides t (a .picture) k r c κ (a .growing) (stays-same t (a .picture) k r c κ (a .growing) h s)
+module _ (t : Step) {k r c κ : ℕ} {ks bs lks lvs : List ℕ} {read write : ℕ} {meeting : Meeting} (h : Met t lks lvs (blockAt k r c κ) meeting) (s : Stays meeting read write) where
+  pub asks-slide : {m : ℕ} → GrowAsked t m (blockAt k r c κ) ks bs read write → SlideAsked κ read write ks bs
+  asks-slide a = slides t (a .picture) k r c κ (a .growing) (stays-same t (a .picture) k r c κ (a .growing) h s) (a .ascends)
 
-  pub gives-slide : {ks′ bs′ : List ℕ} {read′ write′ : ℕ} → Slid κ read write ks bs ks′ bs′ read′ write′ → Grown t k r c κ ks bs read write ks′ bs′ read′ write′
+  pub gives-slide : {ks′ bs′ : List ℕ} {read′ write′ : ℕ} → Slid κ read write ks bs ks′ bs′ read′ write′ → Grown t (blockAt k r c κ) ks bs read write ks′ bs′ read′ write′
   gives-slide x = record { holds = λ p g. slid-moved t p k r c κ g (stays-same t p k r c κ g h s) x }

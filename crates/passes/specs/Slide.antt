@@ -4,6 +4,7 @@ use mathlib.Core.Path.{_≡_}
 use mathlib.Core.List.{List}
 use lib.ListN.{length, getD, take, drop}
 use lib.Seq.{sets}
+use Rattle.list.specs.Sorted.{Ascends}
 use Rattle.step.specs.declared.meeting.Meeting.{Meeting}
 use Rattle.step.specs.declared.meeting.Meeting.the-variants.{Apart}
 
@@ -13,11 +14,11 @@ pub record StartAt (key read : ℕ) (keys : List ℕ) (start : ℕ) : Type 0 whe
   pub is : getD keys start 0 ≡ key
   pub last : (i : ℕ) → start < i → i < read → getD keys i 0 ≡ key → ⊥
 
--- there is one
+-- there is one, and the keys before `read` ascend
 pub record StartAsked (key read : ℕ) (keys : List ℕ) : Type 0 where
   pub start : ℕ
   pub at : StartAt key read keys start
-  pub room : read ≤ length keys
+  pub ascends : Ascends keys read
 
 -- the records from there up to `read` are to be moved before `write`
 pub record SlideAsked (key read write : ℕ) (keys bits : List ℕ) : Type 0 where

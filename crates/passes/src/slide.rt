@@ -2,24 +2,21 @@
 ghost use mathlib.Core.Path.{_≡_};
 ghost use mathlib.Core.Bool.{true};
 ghost use Rattle.passes.specs.Slide.{StartAt, StartAsked, SlideAsked, Slid, Stays};
+use list::standing;
 use step::meeting::Meeting;
 
-// Where the records that are still to grow end, and where those that have grown begin.
+// Where records are read, and where what becomes of them is written. Growing, which goes from the end, reads and writes before these places.
 pub struct Places {
     pub read: usize,
     pub write: usize,
 }
 
-// The last place before `read` that has a key.
+// The last place before `read` that has a key. It is searched for: the keys there ascend, and a block may have many records.
 fn block_start(key: u32, read: usize, keys: &[u32]) -> usize
     requires { ⌜ StartAsked key read (now keys) ⌝ }
     ensures { λ r. ⌜ StartAt key read (now (keys .entry)) r ⌝ }
 {
-    let mut at = read - 1;
-    while keys[at] != key {
-        at -= 1;
-    }
-    at
+    standing::place(keys, read, key)
 }
 
 // The records from there up to `read` go before `write`.

@@ -1,19 +1,21 @@
 -- A step over a leaf needs the leaf's feature alone, and the laws of what shrinking leaves of a list: it is the old list where the step touches nothing, it
--- is no longer than either list, and where it is as long as the new one it is the new one. Rests on ListOf, BitsOf.
+-- is no longer than either list, its keys ascend, and where it is as long as the new one it is the new one. Rests on ListOf, BitsOf and Ascending.
 use Prim.Native.Nat.{ℕ, zero, suc, _+_, _^_, _≤_}
 use mathlib.Core.Path.{_≡_, refl, sym, _∙_, ap}
 use mathlib.Core.Bool.{true, false}
 use mathlib.Core.List.{List, [], _∷_, _++_}
+use native.Mathlib.Nat.{le-refl, pow-suc, one-le-pow}
 use native.Mathlib.Omega.{arith}
 use lib.ListN.{length, length-append}
 use Rattle.keys.specs.Key.{childKey}
 use Rattle.keys.proofs.Cases.{decide}
 use Rattle.definitions.specs.Picture.{Picture, oneFeature}
 use Rattle.definitions.specs.Bits.{bitsOf}
-use Rattle.definitions.specs.List.{Record, recordOf, listOf}
+use Rattle.definitions.specs.List.{Record, recordOf, listOf, Ascending, next}
 use Rattle.laws.proofs.Pixels.{Agree, agree-nw, agree-ne, agree-sw, agree-se}
 use Rattle.laws.proofs.Features.{one-to, one-pixel, one-agree}
 use Rattle.laws.proofs.BitsOf.{bits-one, bits-agree}
+use Rattle.laws.proofs.Ascending.{ascending-one, ascending-four}
 use Rattle.laws.proofs.ListOf.{list-one, list-node, list-agree, list-some, length-node, length-several}
 use Rattle.step.specs.Step.{Step, stepOver, plain, pruned}
 
@@ -90,6 +92,24 @@ module _ (p q : Picture) where
           (go k (r + 2 ^ k) c (childKey κ k 3) (agree-sw h))
           (go k (r + 2 ^ k) (c + 2 ^ k) (childKey κ k 4) (agree-se h))
           ∙ sym (list-node q k r c κ e))
+
+  -- its keys ascend in the block's interval, as those of a list do
+  pub pruned-ascends : (k r c κ : ℕ) → Ascending κ (κ + 5 ^ k) (pruned p q k r c κ)
+  pruned-ascends zero r c κ = rw (pruned-one zero r c κ (one-pixel q r c)) (ascending-one (le-refl κ) (omega arith))
+  pruned-ascends (suc k) r c κ =
+      let some = one-le-pow (suc k) 5 (omega arith) in
+      decide (oneFeature q (suc k) r c)
+      (λ e. rw (pruned-one (suc k) r c κ e) (ascending-one (le-refl κ) (omega arith)))
+      (λ e. decide (oneFeature p (suc k) r c)
+      (λ f. rw (pruned-leaf k r c κ e f) (ascending-one (le-refl κ) (omega arith)))
+      (λ f. rw (pruned-node k r c κ e f, pow-suc 5 k)
+      (next (le-refl κ)
+      (ascending-four κ (5 ^ k)
+      (one-le-pow k 5 (omega arith))
+      (pruned-ascends k r c (childKey κ k 1))
+      (pruned-ascends k r (c + 2 ^ k) (childKey κ k 2))
+      (pruned-ascends k (r + 2 ^ k) c (childKey κ k 3))
+      (pruned-ascends k (r + 2 ^ k) (c + 2 ^ k) (childKey κ k 4))))))
 
   -- it is no longer than the list before, and no longer than the list after
   pub pruned-before : (k r c κ : ℕ) → length (pruned p q k r c κ) ≤ length (listOf p k r c κ)
