@@ -3,6 +3,7 @@ pub mod Powers
 pub mod SpanChild
 pub mod Under
 pub mod Interval
+pub mod BlockChild
 pub mod Parent
 pub mod Digits
 pub mod Descent

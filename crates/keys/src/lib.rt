@@ -6,6 +6,7 @@ ghost use Prim.Native.Nat.{_+_, _*_, _/_, _^_, _≤_, _<_};
 ghost use Rattle.keys.specs.Key.{validKey, levelOf, heightOf};
 ghost use Rattle.keys.specs.Block.{rowOf, columnOf, sideOf, pixelKey, keyAround};
 
+pub mod block;
 pub mod power;
 pub mod quadrant;
 pub mod span;

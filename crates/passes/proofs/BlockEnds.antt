@@ -22,6 +22,7 @@ use Rattle.list.proofs.Accepted.{keys-ascend}
 use Rattle.list.proofs.Count.{below-up-to}
 use Rattle.list.proofs.Among.{up-to-some, place-below}
 use Rattle.list.proofs.Counted.{counted, below-counted, counted-append, counted-all, counted-out}
+use Rattle.step.specs.Meeting.{blockAt}
 use Rattle.passes.specs.Passes.{Showing, ShowingBlock, EndAsked}
 use Rattle.passes.proofs.ShownBlocks.{drop-records, showing-many, shown-some, shown-key}
 
@@ -46,7 +47,7 @@ module _ {past at n : ℕ} {l : List Record} {ks bs : List ℕ} (s : Showing l p
       ∙ getD-drop at ks (i - at) 0
       ∙ ap (λ j. getD ks j 0) e
 
-module _ (p : Picture) (k r c κ : ℕ) {ks bs : List ℕ} {at n : ℕ} (s : ShowingBlock p k r c κ ks bs at n) where
+module _ (p : Picture) (k r c κ : ℕ) {ks bs : List ℕ} {at n : ℕ} (s : ShowingBlock p (blockAt k r c κ) ks bs at n) where
   all-ascend : Ascending κ (s .limit) (listOf p k r c κ ++ s .rest)
   all-ascend = ascending-append (list-ascends p k r c κ) (s .behind)
 

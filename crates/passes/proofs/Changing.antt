@@ -9,6 +9,8 @@ use lib.ListN.{length, take, drop, replicate, length-map}
 use lib.Seq.{sets}
 use lib.Dec.{leb}
 use borrow.Author.Tests.{le-leb}
+use Rattle.keys.specs.Child.{rootOf}
+use Rattle.keys.specs.declared.block.TreeBlock.{TreeBlock}
 use Rattle.slices.proofs.Sets.{sets-parts, sets-same}
 use Rattle.keys.proofs.Cases.{split}
 use Rattle.keys.specs.Under.{here}
@@ -23,14 +25,14 @@ use Rattle.list.proofs.Own.{own-length}
 use Rattle.build.proofs.CountBlock.{most-records}
 use Rattle.step.specs.Step.{Step, pruned, stepOver}
 use Rattle.step.proofs.Pruned.{pruned-before, pruned-after, pruned-all}
-use Rattle.passes.specs.Passes.{ShowingBlock, Shown, WroteBefore, Growing, GrowAsked, Grown, StepCounted}
+use Rattle.passes.specs.Passes.{listAt, prunedAt, Moved, ShowingBlock, Shown, WroteBefore, Growing, GrowAsked, Grown, StepCounted}
 use Rattle.passes.specs.Shrink.{ShrinkAsked, ShrunkAt, Shrinks}
 use Rattle.passes.specs.Change.{zeroed, AllGrown}
 use Rattle.passes.proofs.Waiting.{ending-length}
 use Rattle.passes.proofs.Assembled.{replaced-longer, replaced-shorter}
 
 -- the whole list is shown from the first place on
-pub showing-whole : {m : ℕ} {keys bits : List ℕ} {n : ℕ} → OwnList m keys bits n → ShowingBlock (shownBy m keys bits n) m 0 0 0 keys bits 0 n
+pub showing-whole : {m : ℕ} {keys bits : List ℕ} {n : ℕ} → OwnList m keys bits n → ShowingBlock (shownBy m keys bits n) (rootOf m) keys bits 0 n
 showing-whole {m} {keys} {bits} {n} own = record {
   rest = [];
   limit = 0 + 5 ^ m;
@@ -40,11 +42,11 @@ showing-whole {m} {keys} {bits} {n} own = record {
   behind = none (le-refl (0 + 5 ^ m));
 }
 
-pub shown-whole : {m : ℕ} {keys bits : List ℕ} {n : ℕ} → m ≤ 10 → OwnList m keys bits n → Shown m m 0 0 0 keys bits 0 n
-shown-whole {m} {keys} {bits} {n} deep own = record { picture = shownBy m keys bits n; deep = deep; block = here; shown = showing-whole own }
+pub shown-whole : {m : ℕ} {q : TreeBlock} {keys bits : List ℕ} {n : ℕ} → q ≡ rootOf m → m ≤ 10 → OwnList m keys bits n → Shown m q keys bits 0 n
+shown-whole {m} {q} {keys} {bits} {n} e deep own = rw e (record { picture = shownBy m keys bits n; deep = deep; block = here; shown = showing-whole own })
 
-pub shrink-whole : {m : ℕ} {keys bits : List ℕ} {n : ℕ} → m ≤ 10 → OwnList m keys bits n → ShrinkAsked m m 0 0 0 keys bits 0 n 0
-shrink-whole deep own = record { shown = shown-whole deep own; order = le-refl 0 }
+pub shrink-whole : {m : ℕ} {q : TreeBlock} {keys bits : List ℕ} {n : ℕ} → q ≡ rootOf m → m ≤ 10 → OwnList m keys bits n → ShrinkAsked m q keys bits 0 n 0
+shrink-whole e deep own = record { shown = shown-whole e deep own; order = le-refl 0 }
 
 -- where the longest list of so many pixels fits, any list does
 pub any-fits : (q : Picture) (m : ℕ) {pixels room least : ℕ} → pixels ≡ 4 ^ m → room ≡ least → (4 * pixels - 1) / 3 ≤ room → leb (length (listOfPicture m q)) least ≡ true
@@ -68,10 +70,11 @@ nothing-given n after l h = let z : n - after ≡ 0 = omega arith in sym (ap (λ
 
 -- all leaves have grown: by a descent, or there was none that has to
 module _ (t : Step) {m left after : ℕ} {keys bits : List ℕ} where
-  pub grown-all : {keys′ bits′ : List ℕ} {read write : ℕ} → Grown t m 0 0 0 keys bits left after keys′ bits′ read write → AllGrown t m left after keys bits keys′ bits′
-  grown-all {keys′} {bits′} {read} {write} g = record {
+  pub grown-all : {q : TreeBlock} {keys′ bits′ : List ℕ} {read write : ℕ} → q ≡ rootOf m → Grown t q keys bits left after keys′ bits′ read write → AllGrown t m left after keys bits keys′ bits′
+  grown-all {q} {keys′} {bits′} {read} {write} f g = record {
     holds = λ p w.
-        let d = g .holds p w in
+        let v : Growing t p q keys bits left after = rw f w in
+        let d : Moved (prunedAt t p (rootOf m)) (listAt (stepOver t p) (rootOf m)) keys bits left after keys′ bits′ read write = rw f at (g .holds p v) in
         let e = d .wrote .start-is in
         let h = w .waits .early in
         let z : write ≡ 0 = omega arith in
@@ -105,12 +108,12 @@ module _ (t : Step) {m : ℕ} {keys bits : List ℕ} {n : ℕ} (deep : m ≤ 10)
   p = shownBy m keys bits n
 
   -- how long the list becomes
-  pub length-told : {union count next : ℕ} → StepCounted t m 0 0 0 keys bits 0 n union count next → count ≡ length (listOfPicture m (stepOver t (shownBy m keys bits n)))
-  length-told x = x .tallied p (showing-whole own) .count-is
+  pub length-told : {q : TreeBlock} {union count next : ℕ} → q ≡ rootOf m → StepCounted t q keys bits 0 n union count next → count ≡ length (listOfPicture m (stepOver t (shownBy m keys bits n)))
+  length-told {q} {union} {count} {next} e x = let y : StepCounted t (rootOf m) keys bits 0 n union count next = rw e at x in y .tallied p (showing-whole own) .count-is
 
-  module _ {keys₁ bits₁ : List ℕ} {union after next left : ℕ} (r : Shrinks t m 0 0 0 keys bits 0 n 0 keys₁ bits₁ union after next left) where
-    shrunk : ShrunkAt t p m 0 0 0 keys bits 0 0 keys₁ bits₁ union after next left
-    shrunk = r .holds p (showing-whole own)
+  module _ {q : TreeBlock} (e : q ≡ rootOf m) {keys₁ bits₁ : List ℕ} {union after next left : ℕ} (r : Shrinks t q keys bits 0 n 0 keys₁ bits₁ union after next left) where
+    shrunk : ShrunkAt t p (rootOf m) keys bits 0 0 keys₁ bits₁ union after next left
+    shrunk = let s : Shrinks t (rootOf m) keys bits 0 n 0 keys₁ bits₁ union after next left = rw e at r in s .holds p (showing-whole own)
 
     many : length (pruned p (stepOver t p) m 0 0 0) ≡ left
     many = let s = shrunk in omega (arith, s .place-is)
@@ -149,7 +152,7 @@ module _ (t : Step) {m : ℕ} {keys bits : List ℕ} {n : ℕ} (deep : m ≤ 10)
       inside : (left ≤ length keys₁) × (left ≤ length bits₁)
       inside = let a = same-keys in let b = same-bits in let c = few in omega (arith, own .fits)
 
-      growing : Growing t p m 0 0 0 keys₁ bits₁ left after
+      growing : Growing t p (rootOf m) keys₁ bits₁ left after
       growing =
           let e = many in
           let f = after-is in
@@ -165,7 +168,7 @@ module _ (t : Step) {m : ℕ} {keys bits : List ℕ} {n : ℕ} (deep : m ≤ 10)
             };
           }
 
-      pub grow-asked : GrowAsked t m m 0 0 0 keys₁ bits₁ left after
+      pub grow-asked : GrowAsked t m (rootOf m) keys₁ bits₁ left after
       grow-asked = record { picture = p; deep = deep; block = here; growing = growing }
 
       -- when all has grown, and when the places given up are zero

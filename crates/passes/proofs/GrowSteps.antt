@@ -14,6 +14,7 @@ use Rattle.definitions.specs.Bits.{bitsOf, featureOf}
 use Rattle.definitions.specs.List.{Record, recordOf, keysOf, valuesOf, listOf}
 use Rattle.laws.proofs.ListOf.{list-node, list-agree, length-node}
 use Rattle.build.proofs.CountBlock.{list-five}
+use Rattle.step.specs.Meeting.{blockAt}
 use Rattle.step.specs.Step.{Step, stepOver, plain, pruned}
 use Rattle.step.specs.Deed.{LeafAsked}
 use Rattle.step.proofs.Pruned.{pruned-node, pruned-after}
@@ -23,7 +24,7 @@ use Rattle.passes.proofs.Waiting.{ending-at, waiting-at, ending-some, e
 use Rattle.passes.proofs.PrunedBlock.{LeafLeft, NodeLeft, either-left, pruned-last, node-last}
 
 -- the last key tells a leaf from a node
-module _ {t : Step} {p : Picture} {k r c κ : ℕ} {ks bs : List ℕ} {read write : ℕ} (g : Growing t p k r c κ ks bs read write) where
+module _ {t : Step} {p : Picture} {k r c κ : ℕ} {ks bs : List ℕ} {read write : ℕ} (g : Growing t p (blockAt k r c κ) ks bs read write) where
   pub grow-some : 0 < read
   grow-some = let l = pruned-last p (stepOver t p) k r c κ in ending-some (l .before) (l .last) (ending-at (l .is) (g .waits .ending))
 
@@ -53,7 +54,7 @@ module _ {t : Step} {p : Picture} {k r c κ : ℕ} {ks bs : List ℕ} {read writ
     single : length (pruned p (stepOver t p) k r c κ) ≡ 1
     single = ap length (leaf .is)
 
-    pub leaf-asked : {m : ℕ} → m ≤ 10 → MapBlock m k r c κ → LeafAsked m (getD bs (read - 1) 0) k r c κ
+    pub leaf-asked : {m : ℕ} → m ≤ 10 → MapBlock m k r c κ → LeafAsked m (getD bs (read - 1) 0) (blockAt k r c κ)
     leaf-asked deep b = record { deep = deep; block = b; leaf = rw value-is (leaf .one) }
 
     pub leaf-writes : WriteAsked (listOf (stepOver t (plain (featureOf (getD bs (read - 1) 0)))) k r c κ) κ write ks bs
@@ -70,11 +71,11 @@ module _ {t : Step} {p : Picture} {k r c κ : ℕ} {ks bs : List ℕ} {read writ
 
 pub leaf-grown : {t : Step} {k r c κ : ℕ} {ks bs ks′ bs′ : List ℕ} {read write start : ℕ} → getD ks (read - 1) 0 ≡ κ
     → WroteBefore (listOf (stepOver t (plain (featureOf (getD bs (read - 1) 0)))) k r c κ) write ks bs ks′ bs′ start
-    → Grown t k r c κ ks bs read write ks′ bs′ (read - 1) start
+    → Grown t (blockAt k r c κ) ks bs read write ks′ bs′ (read - 1) start
 leaf-grown e w = record { holds = λ p g. leaf-moved g e w }
 
 -- a node
-module _ (t : Step) (p : Picture) {m : ℕ} (k r c κ : ℕ) (block : MapBlock m (suc k) r c κ) {ks bs : List ℕ} {read write : ℕ} (g : Growing t p (suc k) r c κ ks bs read write)
+module _ (t : Step) (p : Picture) {m : ℕ} (k r c κ : ℕ) (block : MapBlock m (suc k) r c κ) {ks bs : List ℕ} {read write : ℕ} (g : Growing t p (blockAt (suc k) r c κ) ks bs read write)
     (before : oneFeature p (suc k) r c ≡ false) (after : oneFeature (stepOver t p) (suc k) r c ≡ false) where
   abbrev own : Record
   own = recordOf κ (bitsOf (stepOver t p) (suc k) r c)
@@ -142,7 +143,7 @@ module _ (t : Step) (p : Picture) {m : ℕ} (k r c κ : ℕ) (block : MapBlock m
   low₃ : length ((((own ∷ []) ++ P₁) ++ P₂) ++ P₃) ≤ 1 + length L₁ + length L₂ + length L₃
   low₃ = let h = low₂ in let e = length-append (((own ∷ []) ++ P₁) ++ P₂) P₃ in omega (arith, sizes .few₃)
 
-  pub grows-se : Growing t p k (r + 2 ^ k) (c + 2 ^ k) (childKey κ k 4) ks bs read write
+  pub grows-se : Growing t p (blockAt k (r + 2 ^ k) (c + 2 ^ k) (childKey κ k 4)) ks bs read write
   grows-se =
       let z = sizes in
       record {
@@ -150,7 +151,7 @@ module _ (t : Step) (p : Picture) {m : ℕ} (k r c κ : ℕ) (block : MapBlock m
             (omega (arith, z .most₁, z .most₂, z .most₃, z .some));
       }
 
-  module _ {ks₁ bs₁ : List ℕ} {r₁ w₁ : ℕ} (h₁ : Grown t k (r + 2 ^ k) (c + 2 ^ k) (childKey κ k 4) ks bs read write ks₁ bs₁ r₁ w₁) where
+  module _ {ks₁ bs₁ : List ℕ} {r₁ w₁ : ℕ} (h₁ : Grown t (blockAt k (r + 2 ^ k) (c + 2 ^ k) (childKey κ k 4)) ks bs read write ks₁ bs₁ r₁ w₁) where
     one : Moved P₄ L₄ ks bs read write ks₁ bs₁ r₁ w₁
     one = h₁ .holds p grows-se
 
@@ -160,7 +161,7 @@ module _ (t : Step) (p : Picture) {m : ℕ} (k r c κ : ℕ) (block : MapBlock m
         waits-rest ((((own ∷ []) ++ P₁) ++ P₂) ++ P₃) P₄ (1 + length L₁ + length L₂ + length L₃) (length L₄) (keysOf L₄) (valuesOf L₄) waits-all low₃
         (d .passed) (d .wrote .start-is) (d .wrote .keys-are) (d .wrote .bits-are)
 
-    pub grows-sw : Growing t p k (r + 2 ^ k) c (childKey κ k 3) ks₁ bs₁ r₁ w₁
+    pub grows-sw : Growing t p (blockAt k (r + 2 ^ k) c (childKey κ k 3)) ks₁ bs₁ r₁ w₁
     grows-sw =
         let z = sizes in
         record {
@@ -168,7 +169,7 @@ module _ (t : Step) (p : Picture) {m : ℕ} (k r c κ : ℕ) (block : MapBlock m
               (omega (arith, z .most₁, z .most₂, z .some));
         }
 
-    module _ {ks₂ bs₂ : List ℕ} {r₂ w₂ : ℕ} (h₂ : Grown t k (r + 2 ^ k) c (childKey κ k 3) ks₁ bs₁ r₁ w₁ ks₂ bs₂ r₂ w₂) where
+    module _ {ks₂ bs₂ : List ℕ} {r₂ w₂ : ℕ} (h₂ : Grown t (blockAt k (r + 2 ^ k) c (childKey κ k 3)) ks₁ bs₁ r₁ w₁ ks₂ bs₂ r₂ w₂) where
       two : Moved P₃ L₃ ks₁ bs₁ r₁ w₁ ks₂ bs₂ r₂ w₂
       two = h₂ .holds p grows-sw
 
@@ -178,7 +179,7 @@ module _ (t : Step) (p : Picture) {m : ℕ} (k r c κ : ℕ) (block : MapBlock m
           waits-rest (((own ∷ []) ++ P₁) ++ P₂) P₃ (1 + length L₁ + length L₂) (length L₃) (keysOf L₃) (valuesOf L₃) rest₁ low₂
           (d .passed) (d .wrote .start-is) (d .wrote .keys-are) (d .wrote .bits-are)
 
-      pub grows-ne : Growing t p k r (c + 2 ^ k) (childKey κ k 2) ks₂ bs₂ r₂ w₂
+      pub grows-ne : Growing t p (blockAt k r (c + 2 ^ k) (childKey κ k 2)) ks₂ bs₂ r₂ w₂
       grows-ne =
           let z = sizes in
           record {
@@ -186,7 +187,7 @@ module _ (t : Step) (p : Picture) {m : ℕ} (k r c κ : ℕ) (block : MapBlock m
                 (omega (arith, z .most₁, z .some));
           }
 
-      module _ {ks₃ bs₃ : List ℕ} {r₃ w₃ : ℕ} (h₃ : Grown t k r (c + 2 ^ k) (childKey κ k 2) ks₂ bs₂ r₂ w₂ ks₃ bs₃ r₃ w₃) where
+      module _ {ks₃ bs₃ : List ℕ} {r₃ w₃ : ℕ} (h₃ : Grown t (blockAt k r (c + 2 ^ k) (childKey κ k 2)) ks₂ bs₂ r₂ w₂ ks₃ bs₃ r₃ w₃) where
         three : Moved P₂ L₂ ks₂ bs₂ r₂ w₂ ks₃ bs₃ r₃ w₃
         three = h₃ .holds p grows-ne
 
@@ -196,7 +197,7 @@ module _ (t : Step) (p : Picture) {m : ℕ} (k r c κ : ℕ) (block : MapBlock m
             waits-rest ((own ∷ []) ++ P₁) P₂ (1 + length L₁) (length L₂) (keysOf L₂) (valuesOf L₂) rest₂ low₁
             (d .passed) (d .wrote .start-is) (d .wrote .keys-are) (d .wrote .bits-are)
 
-        pub grows-nw : Growing t p k r c (childKey κ k 1) ks₃ bs₃ r₃ w₃
+        pub grows-nw : Growing t p (blockAt k r c (childKey κ k 1)) ks₃ bs₃ r₃ w₃
         grows-nw =
             let z = sizes in
             record {
@@ -204,7 +205,7 @@ module _ (t : Step) (p : Picture) {m : ℕ} (k r c κ : ℕ) (block : MapBlock m
                   (omega (arith, z .some));
             }
 
-        module _ {ks₄ bs₄ : List ℕ} {r₄ w₄ : ℕ} (h₄ : Grown t k r c (childKey κ k 1) ks₃ bs₃ r₃ w₃ ks₄ bs₄ r₄ w₄) where
+        module _ {ks₄ bs₄ : List ℕ} {r₄ w₄ : ℕ} (h₄ : Grown t (blockAt k r c (childKey κ k 1)) ks₃ bs₃ r₃ w₃ ks₄ bs₄ r₄ w₄) where
           four : Moved P₁ L₁ ks₃ bs₃ r₃ w₃ ks₄ bs₄ r₄ w₄
           four = h₄ .holds p grows-nw
 

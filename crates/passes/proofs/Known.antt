@@ -21,7 +21,7 @@ use Rattle.build.specs.BuildBlocks.{Tallied}
 use Rattle.build.specs.declared.count.Tally.{Tally}
 use Rattle.build.proofs.CountBlock.{length-key}
 use Rattle.step.specs.Step.{Step, stepOver, plain}
-use Rattle.step.specs.Meeting.{Untouched, ContentGiven, MetBy, Met, isCut}
+use Rattle.step.specs.Meeting.{blockAt, Untouched, ContentGiven, MetBy, Met, isCut}
 use Rattle.step.specs.declared.meeting.Meeting.{Meeting}
 use Rattle.step.specs.declared.meeting.Meeting.the-variants.{Apart, Leaf, Content, Cut}
 use Rattle.step.proofs.Pruned.{over-out}
@@ -50,7 +50,7 @@ module _ {t : Step} {ks vs : List ℕ} {k r c κ start count : ℕ} (x : Content
 
 -- by cases
 by-cases : (t : Step) (ks vs : List ℕ) (k r c κ : ℕ) (p : Picture) (own records : ℕ) → own ≡ bitsOf p k r c → records ≡ length (listOf p k r c κ)
-    → (meeting : Meeting) → MetBy t ks vs k r c κ meeting → isCut meeting ≡ false
+    → (meeting : Meeting) → MetBy t ks vs (blockAt k r c κ) meeting → isCut meeting ≡ false
     → Tallied (stepOver t p) k r c (knownOf meeting own records vs .bits) (knownOf meeting own records vs .count)
 by-cases t ks vs k r c κ p own records own-is records-are Apart x e =
     tallied-agree p (stepOver t p) (untouched-agree t p k r c x) (record { bits-are = own-is; count-is = records-are ∙ length-key p k r c κ 0 })
@@ -60,11 +60,11 @@ by-cases t ks vs k r c κ p own records own-is records-are Cut x e = absurd (tru
 
 -- THE LAW: what is known is what the block becomes, of a picture that has those bits and so many records there
 pub known-tallied : {t : Step} {ks vs : List ℕ} {k r c κ own records : ℕ} {meeting : Meeting} {tally : Tally} (p : Picture) → own ≡ bitsOf p k r c → records ≡ length (listOf p k r c κ)
-    → Met t ks vs k r c κ meeting → isCut meeting ≡ false → tally ≡ knownOf meeting own records vs → Tallied (stepOver t p) k r c (tally .bits) (tally .count)
+    → Met t ks vs (blockAt k r c κ) meeting → isCut meeting ≡ false → tally ≡ knownOf meeting own records vs → Tallied (stepOver t p) k r c (tally .bits) (tally .count)
 known-tallied {t} {ks} {vs} {k} {r} {c} {κ} {own} {records} {meeting} {tally} p i j x cut e = rw e (by-cases t ks vs k r c κ p own records i j meeting (x .told) cut)
 
 -- the content that a meeting names is there
-pub met-readable : {t : Step} {ks vs : List ℕ} {k r c κ : ℕ} {meeting : Meeting} → Met t ks vs k r c κ meeting → Readable meeting vs
+pub met-readable : {t : Step} {ks vs : List ℕ} {k r c κ : ℕ} {meeting : Meeting} → Met t ks vs (blockAt k r c κ) meeting → Readable meeting vs
 met-readable x = record { starts = λ start count e. let y = met-content x e in omega (arith, y .several, y .in-values) }
 
 -- a leaf by its own bits

@@ -19,7 +19,7 @@ use Rattle.log.specs.Entries.{recordsFromPlace}
 use Rattle.log.proofs.Places.{run-keys, run-values}
 use Rattle.build.specs.BuildBlocks.{below, Tallied}
 use Rattle.step.specs.Step.{Step, stepOver, plain}
-use Rattle.step.specs.Meeting.{ContentGiven, Met, isCut}
+use Rattle.step.specs.Meeting.{blockAt, ContentGiven, Met, isCut}
 use Rattle.step.specs.declared.meeting.Meeting.{Meeting}
 use Rattle.step.specs.declared.meeting.Meeting.the-variants.{Apart, Leaf, Content, Cut}
 use Rattle.step.proofs.Meetings.{met-content}
@@ -67,7 +67,7 @@ module _ {t : Step} {lk lv : List ℕ} {k r c κ start count : ℕ} (x : Content
       (λ one. let e = content-count x p in let l = ap length (list-one (stepOver t p) k r c κ one) in absurd (omega (arith, x .several)))
       (λ several. several)
 
-  pub content-fits : {end : ℕ} {ks bs : List ℕ} → FittingBefore (stepOver t p) k r c κ end ks bs → ContentFits lk lv end ks bs start count
+  pub content-fits : {end : ℕ} {ks bs : List ℕ} → FittingBefore (stepOver t p) (blockAt k r c κ) end ks bs → ContentFits lk lv end ks bs start count
   content-fits f = record {
     some = omega (arith, x .several);
     from-keys = x .in-keys;
@@ -86,7 +86,7 @@ module _ {t : Step} {lk lv : List ℕ} {k r c κ start count : ℕ} (x : Content
   pub content-written : {end place union : ℕ} {ks bs ks′ bs′ : List ℕ}
       → ks′ ≡ sets ks (place + 1) (take (count - 1) (drop (start + 1) lk)) → bs′ ≡ sets bs (place + 1) (take (count - 1) (drop (start + 1) lv))
       → union ≡ getD lv start 0 → place ≡ end - count
-      → WrittenBefore (stepOver t p) k r c κ end ks bs ks′ bs′ union place
+      → WrittenBefore (stepOver t p) (blockAt k r c κ) end ks bs ks′ bs′ union place
   content-written {end} {place} {ks = ks} {bs} i j u n = record {
     place-is = n ∙ ap (λ l. end - l) (content-count x p);
     written = record {
@@ -98,18 +98,18 @@ module _ {t : Step} {lk lv : List ℕ} {k r c κ start count : ℕ} (x : Content
   }
 
 -- a leaf is laid as its meeting tells
-module _ {t : Step} {lk lv : List ℕ} {k r c κ end : ℕ} {ks bs : List ℕ} {meeting : Meeting} (x : Met t lk lv k r c κ meeting) where
-  pub met-layable : (p : Picture) → FittingBefore (stepOver t p) k r c κ end ks bs → Layable meeting lk lv end ks bs
+module _ {t : Step} {lk lv : List ℕ} {k r c κ end : ℕ} {ks bs : List ℕ} {meeting : Meeting} (x : Met t lk lv (blockAt k r c κ) meeting) where
+  pub met-layable : (p : Picture) → FittingBefore (stepOver t p) (blockAt k r c κ) end ks bs → Layable meeting lk lv end ks bs
   met-layable p f = record { fits = λ start count e. content-fits (met-content x e) p f }
 
 -- nothing is laid below one record
 one-written : {q : Picture} {k r c b : ℕ} (κ : ℕ) {ks bs ks′ bs′ : List ℕ} {end union place : ℕ} → Tallied q k r c b 1 → ks′ ≡ ks → bs′ ≡ bs → union ≡ b → place ≡ end - 1
-    → WrittenBefore q k r c κ end ks bs ks′ bs′ union place
+    → WrittenBefore q (blockAt k r c κ) end ks bs ks′ bs′ union place
 one-written κ t e f g h = before-one κ (single t) (g ∙ t .bits-are) h e f
 
 written-cases : (t : Step) (lk lv : List ℕ) (k r c κ end : ℕ) (ks bs ks′ bs′ : List ℕ) (own union place : ℕ) → oneSlot own ≡ true
-    → (meeting : Meeting) → Met t lk lv k r c κ meeting → isCut meeting ≡ false → LeafLaid meeting own lk lv end ks bs ks′ bs′ union place
-    → WrittenBefore (stepOver t (plain (featureOf own))) k r c κ end ks bs ks′ bs′ union place
+    → (meeting : Meeting) → Met t lk lv (blockAt k r c κ) meeting → isCut meeting ≡ false → LeafLaid meeting own lk lv end ks bs ks′ bs′ union place
+    → WrittenBefore (stepOver t (plain (featureOf own))) (blockAt k r c κ) end ks bs ks′ bs′ union place
 written-cases t lk lv k r c κ end ks bs ks′ bs′ own union place one Apart x cut l =
     one-written κ (known-tallied {tally = knownOf Apart own 1 lv} (plain (featureOf own)) (leaf-bits own k r c one) (leaf-records (featureOf own) k r c κ) x cut refl)
     (l .keys-are) (l .bits-are) (l .union-is) (l .place-is cut)
@@ -121,7 +121,7 @@ written-cases t lk lv k r c κ end ks bs ks′ bs′ own union place one Cut x c
 
 -- THE LAW
 pub laid-written : {t : Step} {lk lv : List ℕ} {k r c κ end own union place : ℕ} {ks bs ks′ bs′ : List ℕ} {meeting : Meeting} → oneSlot own ≡ true
-    → Met t lk lv k r c κ meeting → isCut meeting ≡ false → LeafLaid meeting own lk lv end ks bs ks′ bs′ union place
-    → WrittenBefore (stepOver t (plain (featureOf own))) k r c κ end ks bs ks′ bs′ union place
+    → Met t lk lv (blockAt k r c κ) meeting → isCut meeting ≡ false → LeafLaid meeting own lk lv end ks bs ks′ bs′ union place
+    → WrittenBefore (stepOver t (plain (featureOf own))) (blockAt k r c κ) end ks bs ks′ bs′ union place
 laid-written {t} {lk} {lv} {k} {r} {c} {κ} {end} {own} {union} {place} {ks} {bs} {ks′} {bs′} {meeting} one x cut l =
     written-cases t lk lv k r c κ end ks bs ks′ bs′ own union place one meeting x cut l

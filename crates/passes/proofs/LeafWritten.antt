@@ -18,13 +18,15 @@ use Rattle.build.specs.BuildBlocks.{below, Tallied}
 use Rattle.build.proofs.WrittenBlock.{own-first, below-one}
 use Rattle.build.proofs.CountBlock.{list-five}
 use Rattle.build.proofs.FittingBlock.{keys-length, bits-length}
-use Rattle.keys.specs.Under.{MapBlock}
-use Rattle.step.proofs.QuarterSums.{narrow-room}
-use Rattle.passes.specs.Passes.{WroteBefore, WriteAsked, FittingBefore, WrittenBefore}
+use Rattle.keys.specs.Child.{InMap}
+use Rattle.keys.specs.declared.block.TreeBlock.{TreeBlock}
+use Rattle.keys.proofs.BlockChild.{end-in-map}
+use Rattle.step.specs.Meeting.{blockAt}
+use Rattle.passes.specs.Passes.{listAt, WroteBefore, WriteAsked, FittingBefore, WrittenBefore}
 
 -- a block of one feature has nothing written below it
 pub before-one : {p : Picture} {k r c end union place : ℕ} (κ : ℕ) {keys bits keys′ bits′ : List ℕ} → oneFeature p k r c ≡ true → union ≡ bitsOf p k r c → place ≡ end - 1
-    → keys′ ≡ keys → bits′ ≡ bits → WrittenBefore p k r c κ end keys bits keys′ bits′ union place
+    → keys′ ≡ keys → bits′ ≡ bits → WrittenBefore p (blockAt k r c κ) end keys bits keys′ bits′ union place
 before-one {p} {k} {r} {c} {end} {union} {place} κ {keys} {bits} one u i same-keys same-bits = record {
   place-is = i ∙ ap (λ l. end - length l) (sym (list-one p k r c κ one));
   written = record {
@@ -44,34 +46,34 @@ single {p} {k} {r} {c} t = go k (sym (t .count-is))
     go (suc k) h = decide (oneFeature p (suc k) r c) (λ one. one) (λ several. let n = length-several p k r c 0 several in absurd (omega arith))
 
 -- a leaf of the list, as the code comes to it
-module _ {p : Picture} {height row column key end : ℕ} {ks bs : List ℕ} (a : WriteAsked (listOf p height row column key) key end ks bs) where
-  pub leaf-fits : {m : ℕ} → m ≤ 10 → MapBlock m height row column key → FittingBefore p height row column key end ks bs
+module _ {p : Picture} (b : TreeBlock) {end : ℕ} {ks bs : List ℕ} (a : WriteAsked (listAt p b) (b .key) end ks bs) where
+  pub leaf-fits : {m : ℕ} → m ≤ 10 → InMap m b → FittingBefore p b end ks bs
   leaf-fits deep block =
-      let h = narrow-room deep block in
-      let n = list-five p height row column key in
+      let h = end-in-map b deep block in
+      let n = list-five p (b .height) (b .row) (b .column) (b .key) in
       record {
-        small = omega (arith, a .early, h .1);
+        small = omega (arith, a .early, h .keys);
         low = λ several. a .low;
         keys-room = λ several. a .in-keys;
         bits-room = λ several. a .in-bits;
       }
 
-  module _ {ks′ bs′ : List ℕ} {union place : ℕ} (w : WrittenBefore p height row column key end ks bs ks′ bs′ union place) where
+  module _ {ks′ bs′ : List ℕ} {union place : ℕ} (w : WrittenBefore p b end ks bs ks′ bs′ union place) where
     pub leaf-room : (place < length ks′) × (place < length bs′)
     leaf-room =
         let i = keys-length (w .written) in
         let j = bits-length (w .written) in
-        let s = list-some p height row column key in
+        let s = list-some p (b .height) (b .row) (b .column) (b .key) in
         omega (arith, w .place-is, a .low, a .in-keys, a .in-bits)
 
     -- its own record is put in front of those below it
-    pub leaf-wrote : WroteBefore (listOf p height row column key) end ks bs (set ks′ place key) (set bs′ place union) place
+    pub leaf-wrote : WroteBefore (listAt p b) end ks bs (set ks′ place (b .key)) (set bs′ place union) place
     leaf-wrote = record {
       start-is = omega (arith, w .place-is, a .low);
-      keys-are = ap (λ l. set l place key) (w .written .keys-are)
-          ∙ sets-front ks place key (keysOf (below p height row column key))
-          ∙ ap (λ l. sets ks place (keysOf l)) (sym (own-first p height row column key));
+      keys-are = ap (λ l. set l place (b .key)) (w .written .keys-are)
+          ∙ sets-front ks place (b .key) (keysOf (below p (b .height) (b .row) (b .column) (b .key)))
+          ∙ ap (λ l. sets ks place (keysOf l)) (sym (own-first p (b .height) (b .row) (b .column) (b .key)));
       bits-are = ap₂ (λ l x. set l place x) (w .written .bits-are) (w .written .union-is)
-          ∙ sets-front bs place (bitsOf p height row column) (valuesOf (below p height row column key))
-          ∙ ap (λ l. sets bs place (valuesOf l)) (sym (own-first p height row column key));
+          ∙ sets-front bs place (bitsOf p (b .height) (b .row) (b .column)) (valuesOf (below p (b .height) (b .row) (b .column) (b .key)))
+          ∙ ap (λ l. sets bs place (valuesOf l)) (sym (own-first p (b .height) (b .row) (b .column) (b .key)));
     }

@@ -7,6 +7,7 @@ pub mod Forward
 pub mod ShrinkLaws
 pub mod ShrinkSteps
 pub mod Known
+pub mod ByDigits
 pub mod TallySteps
 pub mod LeafWritten
 pub mod WrittenBackward

@@ -17,6 +17,7 @@ use Rattle.laws.proofs.ListOf.{list-agree}
 use Rattle.build.specs.BuildBlocks.{Tallied}
 use Rattle.step.specs.Step.{Step, stepOver}
 use Rattle.step.specs.Deed.{SameBefore}
+use Rattle.step.specs.Meeting.{blockAt}
 use Rattle.passes.specs.Passes.{StepCounted, FittingBefore, WrittenBefore, Growing, GrowAsked, Grown}
 use Rattle.passes.specs.Shrink.{Shrinks}
 use Rattle.step.proofs.Pruned.{pruned-agree}
@@ -35,12 +36,12 @@ module _ {m past k r c κ : ℕ} {t t′ : Step} (s : SameBefore m past t t′) 
     count-is = x .count-is ∙ ap length (list-agree (stepOver t′ p) (stepOver t p) k r c 0 (narrowed-agree p));
   }
 
-  pub narrowed-counted : {keys bits : List ℕ} {at n union count next : ℕ} → StepCounted t′ k r c κ keys bits at n union count next → StepCounted t k r c κ keys bits at n union count next
+  pub narrowed-counted : {keys bits : List ℕ} {at n union count next : ℕ} → StepCounted t′ (blockAt k r c κ) keys bits at n union count next → StepCounted t (blockAt k r c κ) keys bits at n union count next
   narrowed-counted x = record { tallied = λ p s. narrowed-tallied p (x .tallied p s); passed = x .passed }
 
   -- what is to be written is the same, and so is the room that it needs
-  pub narrowed-written : (p : Picture) {end union place : ℕ} {keys bits keys′ bits′ : List ℕ} → WrittenBefore (stepOver t′ p) k r c κ end keys bits keys′ bits′ union place
-      → WrittenBefore (stepOver t p) k r c κ end keys bits keys′ bits′ union place
+  pub narrowed-written : (p : Picture) {end union place : ℕ} {keys bits keys′ bits′ : List ℕ} → WrittenBefore (stepOver t′ p) (blockAt k r c κ) end keys bits keys′ bits′ union place
+      → WrittenBefore (stepOver t p) (blockAt k r c κ) end keys bits keys′ bits′ union place
   narrowed-written p {end} {union} {place} {keys} {bits} {keys′} {bits′} x =
       let same = list-agree (stepOver t′ p) (stepOver t p) k r c κ (narrowed-agree p) in
       record {
@@ -53,7 +54,7 @@ module _ {m past k r c κ : ℕ} {t t′ : Step} (s : SameBefore m past t t′) 
         };
       }
 
-  pub narrowed-fitting : (p : Picture) {end : ℕ} {keys bits : List ℕ} → FittingBefore (stepOver t p) k r c κ end keys bits → FittingBefore (stepOver t′ p) k r c κ end keys bits
+  pub narrowed-fitting : (p : Picture) {end : ℕ} {keys bits : List ℕ} → FittingBefore (stepOver t p) (blockAt k r c κ) end keys bits → FittingBefore (stepOver t′ p) (blockAt k r c κ) end keys bits
   narrowed-fitting p x =
       let same = list-agree (stepOver t′ p) (stepOver t p) k r c κ (narrowed-agree p) in
       let one = one-agree (stepOver t′ p) (stepOver t p) k r c (narrowed-agree p) in
@@ -65,25 +66,25 @@ module _ {m past k r c κ : ℕ} {t t′ : Step} (s : SameBefore m past t t′) 
       }
 
   -- what waits to grow is the same, and so is what it grows to
-  pub narrowed-growing : (p : Picture) {keys bits : List ℕ} {read write : ℕ} → Growing t p k r c κ keys bits read write → Growing t′ p k r c κ keys bits read write
+  pub narrowed-growing : (p : Picture) {keys bits : List ℕ} {read write : ℕ} → Growing t p (blockAt k r c κ) keys bits read write → Growing t′ p (blockAt k r c κ) keys bits read write
   narrowed-growing p g = record {
     waits = rw (pruned-agree p (stepOver t′ p) (stepOver t p) k r c κ (narrowed-agree p), list-agree (stepOver t′ p) (stepOver t p) k r c κ (narrowed-agree p)) (g .waits);
   }
 
-  pub narrowed-grown : {keys bits keys′ bits′ : List ℕ} {read write read′ write′ : ℕ} → Grown t′ k r c κ keys bits read write keys′ bits′ read′ write′
-      → Grown t k r c κ keys bits read write keys′ bits′ read′ write′
+  pub narrowed-grown : {keys bits keys′ bits′ : List ℕ} {read write read′ write′ : ℕ} → Grown t′ (blockAt k r c κ) keys bits read write keys′ bits′ read′ write′
+      → Grown t (blockAt k r c κ) keys bits read write keys′ bits′ read′ write′
   narrowed-grown x = record {
     holds = λ p g.
         let y = x .holds p (narrowed-growing p g) in
         rw (pruned-agree p (stepOver t′ p) (stepOver t p) k r c κ (narrowed-agree p), list-agree (stepOver t′ p) (stepOver t p) k r c κ (narrowed-agree p)) at y;
   }
 
-  pub narrowed-asked : {keys bits : List ℕ} {read write : ℕ} → GrowAsked t m k r c κ keys bits read write → GrowAsked t′ m k r c κ keys bits read write
+  pub narrowed-asked : {keys bits : List ℕ} {read write : ℕ} → GrowAsked t m (blockAt k r c κ) keys bits read write → GrowAsked t′ m (blockAt k r c κ) keys bits read write
   narrowed-asked a = record { picture = a .picture; deep = a .deep; block = b; growing = narrowed-growing (a .picture) (a .growing) }
 
   -- what is left is the same
-  pub narrowed-shrinks : {keys bits keys′ bits′ : List ℕ} {at n place union count next place′ : ℕ} → Shrinks t′ k r c κ keys bits at n place keys′ bits′ union count next place′
-      → Shrinks t k r c κ keys bits at n place keys′ bits′ union count next place′
+  pub narrowed-shrinks : {keys bits keys′ bits′ : List ℕ} {at n place union count next place′ : ℕ} → Shrinks t′ (blockAt k r c κ) keys bits at n place keys′ bits′ union count next place′
+      → Shrinks t (blockAt k r c κ) keys bits at n place keys′ bits′ union count next place′
   narrowed-shrinks {place = place} x = record {
     holds = λ p s.
         let y = x .holds p s in

@@ -20,6 +20,7 @@ use Rattle.laws.proofs.Features.{one-pixel}
 use Rattle.laws.proofs.ListOf.{list-node, list-first, list-ascends}
 use Rattle.list.specs.Check.{oneSlot}
 use Rattle.list.proofs.OneSlot.{slot-feature}
+use Rattle.step.specs.Meeting.{blockAt}
 use Rattle.passes.specs.Passes.{Showing, ShowingBlock, Shown}
 
 pub drop-records : (ks bs : List ℕ) (at n : ℕ) → drop at (recordsOf ks bs n) ≡ paired (take (n - at) (drop at ks)) (take (n - at) (drop at bs))
@@ -101,7 +102,7 @@ module _ {past at n : ℕ} {ks bs : List ℕ} where
   }
 
 -- a block's list: its own record is the first
-module _ (p : Picture) (k r c κ : ℕ) {ks bs : List ℕ} {at n : ℕ} (s : ShowingBlock p k r c κ ks bs at n) where
+module _ (p : Picture) (k r c κ : ℕ) {ks bs : List ℕ} {at n : ℕ} (s : ShowingBlock p (blockAt k r c κ) ks bs at n) where
   first : Showing (recordOf κ (bitsOf p k r c) ∷ list-first p k r c κ .0) (κ + 5 ^ k) ks bs at n
   first = rw (list-first p k r c κ .1) at s
 
@@ -121,10 +122,10 @@ module _ (p : Picture) (k r c κ : ℕ) {ks bs : List ℕ} {at n : ℕ} (s : Sho
   shown-one e = sym (slot-feature p k r c) ∙ ap oneSlot (sym shown-own) ∙ e
 
 -- a block that is no leaf is no pixel
-pub shown-positive : {m k r c κ at n : ℕ} {ks bs : List ℕ} → Shown m k r c κ ks bs at n → oneSlot (getD bs at 0) ≡ false → 0 < k
+pub shown-positive : {m k r c κ at n : ℕ} {ks bs : List ℕ} → Shown m (blockAt k r c κ) ks bs at n → oneSlot (getD bs at 0) ≡ false → 0 < k
 shown-positive {k = k} {r} {c} {κ} a e = go k r c a (shown-several (a .picture) k r c κ (a .shown) e)
   where
-    go : {m κ at n : ℕ} {ks bs : List ℕ} (k r c : ℕ) (a : Shown m k r c κ ks bs at n) → oneFeature (a .picture) k r c ≡ false → 0 < k
+    go : {m κ at n : ℕ} {ks bs : List ℕ} (k r c : ℕ) (a : Shown m (blockAt k r c κ) ks bs at n) → oneFeature (a .picture) k r c ≡ false → 0 < k
     go zero r c a h = absurd (true≢false (sym (one-pixel (a .picture) r c) ∙ h))
     go (suc k) r c a h = omega arith
 
@@ -156,27 +157,27 @@ module _ (p : Picture) (k r c κ : ℕ) where
   from-two = ascending-append (widen (omega arith) (omega arith) (list-ascends p k r (c + 2 ^ k) (childKey κ k 2))) from-three
 
   module _ {ks bs : List ℕ} {at n : ℕ} where
-    pub node-quadrants : oneFeature p (suc k) r c ≡ false → ShowingBlock p (suc k) r c κ ks bs at n → Showing (L₁ ++ (L₂ ++ (L₃ ++ L₄))) End ks bs (at + 1) n
+    pub node-quadrants : oneFeature p (suc k) r c ≡ false → ShowingBlock p (blockAt (suc k) r c κ) ks bs at n → Showing (L₁ ++ (L₂ ++ (L₃ ++ L₄))) End ks bs (at + 1) n
     node-quadrants several s = showing-tail (rw (list-node p k r c κ several) at s)
 
     -- each quadrant, and what comes behind it
-    pub quadrant-nw : Showing (L₁ ++ (L₂ ++ (L₃ ++ L₄))) End ks bs at n → ShowingBlock p k r c (childKey κ k 1) ks bs at n
+    pub quadrant-nw : Showing (L₁ ++ (L₂ ++ (L₃ ++ L₄))) End ks bs at n → ShowingBlock p (blockAt k r c (childKey κ k 1)) ks bs at n
     quadrant-nw = showing-left L₁ (L₂ ++ (L₃ ++ L₄)) from-two
 
     pub behind-nw : {next : ℕ} → next ≡ at + length L₁ → Showing (L₁ ++ (L₂ ++ (L₃ ++ L₄))) End ks bs at n → Showing (L₂ ++ (L₃ ++ L₄)) End ks bs next n
     behind-nw = showing-right L₁ (L₂ ++ (L₃ ++ L₄))
 
-    pub quadrant-ne : Showing (L₂ ++ (L₃ ++ L₄)) End ks bs at n → ShowingBlock p k r (c + 2 ^ k) (childKey κ k 2) ks bs at n
+    pub quadrant-ne : Showing (L₂ ++ (L₃ ++ L₄)) End ks bs at n → ShowingBlock p (blockAt k r (c + 2 ^ k) (childKey κ k 2)) ks bs at n
     quadrant-ne = showing-left L₂ (L₃ ++ L₄) from-three
 
     pub behind-ne : {next : ℕ} → next ≡ at + length L₂ → Showing (L₂ ++ (L₃ ++ L₄)) End ks bs at n → Showing (L₃ ++ L₄) End ks bs next n
     behind-ne = showing-right L₂ (L₃ ++ L₄)
 
-    pub quadrant-sw : Showing (L₃ ++ L₄) End ks bs at n → ShowingBlock p k (r + 2 ^ k) c (childKey κ k 3) ks bs at n
+    pub quadrant-sw : Showing (L₃ ++ L₄) End ks bs at n → ShowingBlock p (blockAt k (r + 2 ^ k) c (childKey κ k 3)) ks bs at n
     quadrant-sw = showing-left L₃ L₄ from-four
 
     pub behind-sw : {next : ℕ} → next ≡ at + length L₃ → Showing (L₃ ++ L₄) End ks bs at n → Showing L₄ End ks bs next n
     behind-sw = showing-right L₃ L₄
 
-    pub quadrant-se : Showing L₄ End ks bs at n → ShowingBlock p k (r + 2 ^ k) (c + 2 ^ k) (childKey κ k 4) ks bs at n
+    pub quadrant-se : Showing L₄ End ks bs at n → ShowingBlock p (blockAt k (r + 2 ^ k) (c + 2 ^ k) (childKey κ k 4)) ks bs at n
     quadrant-se s = let e = pow-suc 5 k in let f : End ≡ childKey κ k 4 + 5 ^ k = omega arith in rw (← f) s

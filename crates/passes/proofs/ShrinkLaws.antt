@@ -26,7 +26,7 @@ use Rattle.list.proofs.OneSlot.{slot-feature, slot-power}
 use Rattle.build.specs.BuildBlocks.{Tallied, Joined}
 use Rattle.build.proofs.CountBlock.{tallied-four}
 use Rattle.step.specs.Step.{Step, stepOver, plain, pruned}
-use Rattle.step.specs.Meeting.{Untouched, OneLeaf, Met, isCut}
+use Rattle.step.specs.Meeting.{blockAt, Untouched, OneLeaf, Met, isCut}
 use Rattle.step.specs.declared.meeting.Meeting.{Meeting}
 use Rattle.step.specs.declared.meeting.Meeting.the-variants.{Apart, Leaf, Content, Cut}
 use Rattle.step.proofs.Pruned.{leaf-before, pruned-one, pruned-leaf, pruned-node, pruned-apart, pruned-same}
@@ -64,9 +64,9 @@ forward-at e f g h = rw (e, f, g) at h
 
 -- one record is left
 module _ (t : Step) (p : Picture) (k r c κ : ℕ) {ks bs ks′ bs′ : List ℕ} {at n place union count next place′ value : ℕ}
-    (s : ShowingBlock p k r c κ ks bs at n) (order : place ≤ at) (left : pruned p (stepOver t p) k r c κ ≡ recordOf κ value ∷ []) where
+    (s : ShowingBlock p (blockAt k r c κ) ks bs at n) (order : place ≤ at) (left : pruned p (stepOver t p) k r c κ ≡ recordOf κ value ∷ []) where
   pub one-left : Tallied (stepOver t p) k r c union count → next ≡ at + length (listOf p k r c κ) → place′ ≡ place + 1 → ks′ ≡ set ks place κ → bs′ ≡ set bs place value
-      → ShrunkAt t p k r c κ ks bs at place ks′ bs′ union count next place′
+      → ShrunkAt t p (blockAt k r c κ) ks bs at place ks′ bs′ union count next place′
   one-left told e f g h =
       let some = list-some p k r c κ in
       let w = shown-within s some in
@@ -80,10 +80,10 @@ module _ (t : Step) (p : Picture) (k r c κ : ℕ) {ks bs ks′ bs′ : List ℕ
 
 -- a block that the step does not touch stays as it is
 module _ (t : Step) (p : Picture) (k r c κ : ℕ) {ks bs ks′ bs′ : List ℕ} {at n place union count next place′ : ℕ}
-    (s : ShowingBlock p k r c κ ks bs at n) (order : place ≤ at) (told : Tallied (stepOver t p) k r c union count) (next-is : next ≡ at + length (listOf p k r c κ)) where
+    (s : ShowingBlock p (blockAt k r c κ) ks bs at n) (order : place ≤ at) (told : Tallied (stepOver t p) k r c union count) (next-is : next ≡ at + length (listOf p k r c κ)) where
   pub apart-left : Untouched t k r c → place′ ≡ place + (next - at)
       → ks′ ≡ sets ks place (take (next - at) (drop at ks)) → bs′ ≡ sets bs place (take (next - at) (drop at bs))
-      → ShrunkAt t p k r c κ ks bs at place ks′ bs′ union count next place′
+      → ShrunkAt t p (blockAt k r c κ) ks bs at place ks′ bs′ union count next place′
   apart-left apart f g h =
       let is = pruned-apart p (stepOver t p) k r c κ (untouched-agree t p k r c apart) in
       let some = list-some p k r c κ in
@@ -101,7 +101,7 @@ module _ (t : Step) (p : Picture) (k r c κ : ℕ) {ks bs ks′ bs′ : List ℕ
 
   -- one that becomes a leaf is one record
   pub leaf-left : (bits : ℕ) → OneLeaf t k r c bits → place′ ≡ place + 1 → ks′ ≡ set ks place κ → bs′ ≡ set bs place bits
-      → ShrunkAt t p k r c κ ks bs at place ks′ bs′ union count next place′
+      → ShrunkAt t p (blockAt k r c κ) ks bs at place ks′ bs′ union count next place′
   leaf-left bits one f g h =
       one-left t p k r c κ s order (pruned-one p (stepOver t p) k r c κ (single k (one p .count-is))) told next-is f g
       (h ∙ ap (set bs place) (one p .bits-are))
@@ -111,17 +111,17 @@ module _ (t : Step) (p : Picture) (k r c κ : ℕ) {ks bs ks′ bs′ : List ℕ
       single (suc k) h = decide (oneFeature (stepOver t p) (suc k) r c) (λ one. one) (λ several. let n = length-several (stepOver t p) k r c 0 several in absurd (omega arith))
 
   -- either, by the meeting
-  pub whole-left : (meeting : Meeting) {lks lvs : List ℕ} → Met t lks lvs k r c κ meeting → isDecided meeting ≡ true
+  pub whole-left : (meeting : Meeting) {lks lvs : List ℕ} → Met t lks lvs (blockAt k r c κ) meeting → isDecided meeting ≡ true
       → KeptForward meeting κ ks bs at next place ks′ bs′ place′
-      → ShrunkAt t p k r c κ ks bs at place ks′ bs′ union count next place′
+      → ShrunkAt t p (blockAt k r c κ) ks bs at place ks′ bs′ union count next place′
   whole-left Apart m w x = apart-left (m .told) (x .place-is) (x .keys-are) (x .bits-are)
   whole-left (Leaf bits) m w x = leaf-left bits (m .told) (x .place-is) (x .keys-are) (x .bits-are)
   whole-left (Content start count) m w x = absurd (true≢false (sym w))
   whole-left Cut m w x = absurd (true≢false (sym w))
 
   -- a leaf
-  pub single-left : (own : ℕ) → own ≡ bitsOf p k r c → oneSlot own ≡ true → LeafShrunk t own k r c κ ks bs at place ks′ bs′ union count next place′
-      → ShrunkAt t p k r c κ ks bs at place ks′ bs′ union count next place′
+  pub single-left : (own : ℕ) → own ≡ bitsOf p k r c → oneSlot own ≡ true → LeafShrunk t own (blockAt k r c κ) ks bs at place ks′ bs′ union count next place′
+      → ShrunkAt t p (blockAt k r c κ) ks bs at place ks′ bs′ union count next place′
   single-left own o one x =
       one-left t p k r c κ s order (pruned-same p (plain (featureOf own)) (stepOver t p) (stepOver t (plain (featureOf own))) k r c κ plain-is over-is ∙ x .left)
       told
@@ -195,7 +195,7 @@ leaf-value t own {k} {r} {c} {κ} {bits} {count} one x = go k x
 
 pub leaf-shrunk : (t : Step) (own : ℕ) {k r c κ bits count value : ℕ} {ks bs : List ℕ} {at place : ℕ} → oneSlot own ≡ true
     → Tallied (stepOver t (plain (featureOf own))) k r c bits count → value ≡ cond (eqb count 1) bits own
-    → LeafShrunk t own k r c κ ks bs at place (set ks place κ) (set bs place value) bits count (at + 1) (place + 1)
+    → LeafShrunk t own (blockAt k r c κ) ks bs at place (set ks place κ) (set bs place value) bits count (at + 1) (place + 1)
 leaf-shrunk t own {κ = κ} {value = value} one x e = record {
   tallied = x;
   next-is = refl;
@@ -208,11 +208,11 @@ leaf-shrunk t own {κ = κ} {value = value} one x e = record {
 
 -- a node: its quadrants have shrunk, and its own record stands before them, or for them
 module _ (t : Step) (p : Picture) (k r c κ : ℕ) {ks bs ks₁ bs₁ ks₂ bs₂ ks₃ bs₃ ks₄ bs₄ ks′ bs′ : List ℕ} {at n place u₁ u₂ u₃ u₄ m₁ m₂ m₃ m₄ n₁ n₂ n₃ n₄ i₁ i₂ i₃ i₄ union count place′ : ℕ}
-    (s : ShowingBlock p (suc k) r c κ ks bs at n) (order : place ≤ at) (several : oneFeature p (suc k) r c ≡ false)
-    (h₁ : ShrunkAt t p k r c (childKey κ k 1) ks bs (at + 1) (place + 1) ks₁ bs₁ u₁ m₁ n₁ i₁)
-    (h₂ : ShrunkAt t p k r (c + 2 ^ k) (childKey κ k 2) ks₁ bs₁ n₁ i₁ ks₂ bs₂ u₂ m₂ n₂ i₂)
-    (h₃ : ShrunkAt t p k (r + 2 ^ k) c (childKey κ k 3) ks₂ bs₂ n₂ i₂ ks₃ bs₃ u₃ m₃ n₃ i₃)
-    (h₄ : ShrunkAt t p k (r + 2 ^ k) (c + 2 ^ k) (childKey κ k 4) ks₃ bs₃ n₃ i₃ ks₄ bs₄ u₄ m₄ n₄ i₄)
+    (s : ShowingBlock p (blockAt (suc k) r c κ) ks bs at n) (order : place ≤ at) (several : oneFeature p (suc k) r c ≡ false)
+    (h₁ : ShrunkAt t p (blockAt k r c (childKey κ k 1)) ks bs (at + 1) (place + 1) ks₁ bs₁ u₁ m₁ n₁ i₁)
+    (h₂ : ShrunkAt t p (blockAt k r (c + 2 ^ k) (childKey κ k 2)) ks₁ bs₁ n₁ i₁ ks₂ bs₂ u₂ m₂ n₂ i₂)
+    (h₃ : ShrunkAt t p (blockAt k (r + 2 ^ k) c (childKey κ k 3)) ks₂ bs₂ n₂ i₂ ks₃ bs₃ u₃ m₃ n₃ i₃)
+    (h₄ : ShrunkAt t p (blockAt k (r + 2 ^ k) (c + 2 ^ k) (childKey κ k 4)) ks₃ bs₃ n₃ i₃ ks₄ bs₄ u₄ m₄ n₄ i₄)
     (j : Joined (unionOfFour u₁ u₂ u₃ u₄) (m₁ + (m₂ + (m₃ + m₄))) union count)
     (o : OwnShrunk κ union ks₄ bs₄ place i₄ ks′ bs′ place′) where
   P₁ : List Record
@@ -264,7 +264,7 @@ module _ (t : Step) (p : Picture) (k r c κ : ℕ) {ks bs ks₁ bs₁ ks₂ bs�
   unfolding P₁ P₂ P₃ P₄
   last size = omega (arith, size, h₁ .place-is, h₂ .place-is, h₃ .place-is, h₄ .place-is)
 
-  pub node-left : ShrunkAt t p (suc k) r c κ ks bs at place ks′ bs′ union count n₄ place′
+  pub node-left : ShrunkAt t p (blockAt (suc k) r c κ) ks bs at place ks′ bs′ union count n₄ place′
   node-left = decide (oneFeature (stepOver t p) (suc k) r c) merged kept
     where
       inside : (place < n₄) × (place < length ks) × (place < length bs)
@@ -274,7 +274,7 @@ module _ (t : Step) (p : Picture) (k r c κ : ℕ) {ks bs ks₁ bs₁ ks₂ bs�
           let z = next-place in
           omega (arith, s .in-keys, s .in-bits)
 
-      merged : oneFeature (stepOver t p) (suc k) r c ≡ true → ShrunkAt t p (suc k) r c κ ks bs at place ks′ bs′ union count n₄ place′
+      merged : oneFeature (stepOver t p) (suc k) r c ≡ true → ShrunkAt t p (blockAt (suc k) r c κ) ks bs at place ks′ bs′ union count n₄ place′
       merged one =
           let left = pruned-one p (stepOver t p) (suc k) r c κ one in
           record {
@@ -285,7 +285,7 @@ module _ (t : Step) (p : Picture) (k r c κ : ℕ) {ks bs ks₁ bs₁ ks₂ bs�
             bits-are = forward-at (sym (ap valuesOf left)) refl (sym (o .bits-are ∙ ap (set bs₄ place) (told .bits-are))) (forward-alone (bitsOf (stepOver t p) (suc k) r c) _ (inside .0) (inside .2) all-values);
           }
 
-      kept : oneFeature (stepOver t p) (suc k) r c ≡ false → ShrunkAt t p (suc k) r c κ ks bs at place ks′ bs′ union count n₄ place′
+      kept : oneFeature (stepOver t p) (suc k) r c ≡ false → ShrunkAt t p (blockAt (suc k) r c κ) ks bs at place ks′ bs′ union count n₄ place′
       kept more =
           let left : pruned p (stepOver t p) (suc k) r c κ ≡ recordOf κ (bitsOf (stepOver t p) (suc k) r c) ∷ (P₁ ++ (P₂ ++ (P₃ ++ P₄))) = quadrants more in
           let size : length (pruned p (stepOver t p) (suc k) r c κ) ≡ suc (length P₁ + (length P₂ + (length P₃ + length P₄))) = ap length left ∙ simp length-append in

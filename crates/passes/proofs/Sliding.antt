@@ -14,7 +14,7 @@ use Rattle.laws.proofs.ListOf.{list-first, list-some, list-ascends, list-agree}
 use Rattle.laws.proofs.Records.{key-at, records-run, paired-keys, paired-values}
 use Rattle.list.proofs.Accepted.{keys-ascend}
 use Rattle.step.specs.Step.{Step, stepOver, pruned}
-use Rattle.step.specs.Meeting.{Met}
+use Rattle.step.specs.Meeting.{blockAt, Met}
 use Rattle.step.specs.declared.meeting.Meeting.{Meeting}
 use Rattle.step.specs.declared.meeting.Meeting.the-variants.{Apart}
 use Rattle.step.proofs.Pruned.{over-out, pruned-apart, pruned-after, pruned-all}
@@ -109,7 +109,7 @@ list-start p k r c κ {ks} {bs} {read} e =
     first = ap (λ l. getD (keysOf l) 0 0) (list-first p k r c κ .1)
 
 -- such a block waits to be moved, and is moved
-module _ (t : Step) (p : Picture) (k r c κ : ℕ) {ks bs : List ℕ} {read write : ℕ} (g : Growing t p k r c κ ks bs read write)
+module _ (t : Step) (p : Picture) (k r c κ : ℕ) {ks bs : List ℕ} {read write : ℕ} (g : Growing t p (blockAt k r c κ) ks bs read write)
     (same : pruned p (stepOver t p) k r c κ ≡ listOf (stepOver t p) k r c κ) where
   ending : Ending (listOf (stepOver t p) k r c κ) ks bs read
   ending = ending-at same (g .waits .ending)
@@ -144,17 +144,17 @@ module _ (t : Step) (p : Picture) (k r c κ : ℕ) {ks bs : List ℕ} {read writ
       run x {new} {i} {j} e f h = ap (sets x write′) (ap (λ y. take y (drop read′ x)) f ∙ ap (λ y. take j (drop y x)) h ∙ e)
 
 -- what is left of a block that stays is its list after the step
-stays-same : (t : Step) (p : Picture) (k r c κ : ℕ) {ks bs lks lvs : List ℕ} {read write : ℕ} {meeting : Meeting} → Growing t p k r c κ ks bs read write
-    → Met t lks lvs k r c κ meeting → Stays meeting read write → pruned p (stepOver t p) k r c κ ≡ listOf (stepOver t p) k r c κ
+stays-same : (t : Step) (p : Picture) (k r c κ : ℕ) {ks bs lks lvs : List ℕ} {read write : ℕ} {meeting : Meeting} → Growing t p (blockAt k r c κ) ks bs read write
+    → Met t lks lvs (blockAt k r c κ) meeting → Stays meeting read write → pruned p (stepOver t p) k r c κ ≡ listOf (stepOver t p) k r c κ
 stays-same t p k r c κ g m (level e) = pruned-all p (stepOver t p) k r c κ (let few = pruned-after p (stepOver t p) k r c κ in omega (arith, g .waits .apart))
 stays-same t p k r c κ {lks = lks} {lvs} g m (untouched e) =
-    let told : Met t lks lvs k r c κ Apart = rw e at m in
+    let told : Met t lks lvs (blockAt k r c κ) Apart = rw e at m in
     let agree : Agree p (stepOver t p) k r c = λ a b w. sym (over-out t p a b (told .told a b w)) in
     pruned-apart p (stepOver t p) k r c κ agree ∙ list-agree p (stepOver t p) k r c κ agree
 
-module _ (t : Step) {k r c κ : ℕ} {ks bs lks lvs : List ℕ} {read write : ℕ} {meeting : Meeting} (h : Met t lks lvs k r c κ meeting) (s : Stays meeting read write) where
-  pub asks-slide : {m : ℕ} → GrowAsked t m k r c κ ks bs read write → SlideAsked κ read write ks bs
+module _ (t : Step) {k r c κ : ℕ} {ks bs lks lvs : List ℕ} {read write : ℕ} {meeting : Meeting} (h : Met t lks lvs (blockAt k r c κ) meeting) (s : Stays meeting read write) where
+  pub asks-slide : {m : ℕ} → GrowAsked t m (blockAt k r c κ) ks bs read write → SlideAsked κ read write ks bs
   asks-slide a = slides t (a .picture) k r c κ (a .growing) (stays-same t (a .picture) k r c κ (a .growing) h s)
 
-  pub gives-slide : {ks′ bs′ : List ℕ} {read′ write′ : ℕ} → Slid κ read write ks bs ks′ bs′ read′ write′ → Grown t k r c κ ks bs read write ks′ bs′ read′ write′
+  pub gives-slide : {ks′ bs′ : List ℕ} {read′ write′ : ℕ} → Slid κ read write ks bs ks′ bs′ read′ write′ → Grown t (blockAt k r c κ) ks bs read write ks′ bs′ read′ write′
   gives-slide x = record { holds = λ p g. slid-moved t p k r c κ g (stays-same t p k r c κ g h s) x }

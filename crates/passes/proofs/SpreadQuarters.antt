@@ -1,57 +1,60 @@
--- The steps of `spread` as the code asks for them, the quadrants told by their numbers. Rests on SpreadSteps.
-use Prim.Native.Nat.{ℕ, suc, _+_, _-_, _*_, _^_, _≤_, _<_}
+-- The steps of `spread` as the code asks for them, the quadrants told by their digits. Rests on SpreadSteps.
+use Prim.Native.Nat.{ℕ, suc, _+_, _-_, _^_, _≤_, _<_}
 use mathlib.Core.Path.{_≡_}
 use mathlib.Core.List.{List}
-use native.Mathlib.Omega.{arith}
-use Rattle.keys.specs.Key.{childKey}
+use Rattle.keys.specs.Child.{childOf, KeysEnd}
+use Rattle.keys.specs.declared.block.TreeBlock.{TreeBlock}
+use Rattle.keys.proofs.BlockChild.{one-higher}
 use Rattle.definitions.specs.Picture.{Picture}
 use Rattle.definitions.specs.Bits.{unionOfFour}
-use Rattle.step.specs.Quarters.{quartersOf}
-use Rattle.step.specs.declared.quarters.Quarters.{Quarters}
+use Rattle.step.specs.Meeting.{blockAt}
 use Rattle.passes.specs.Passes.{FittingBefore, WrittenBefore, SettleAsked, FourSettled}
 use Rattle.passes.proofs.SpreadSteps.{fits-se, fits-sw, fits-ne, fits-nw, fits-four, written-all}
 
-module _ (p : Picture) {k r c κ end : ℕ} {ks bs : List ℕ} {q : Quarters} (e : q ≡ quartersOf k r c κ) (positive : 0 < k) (f : FittingBefore p k r c κ end ks bs) where
-  up : k ≡ suc (k - 1)
-  up = omega arith
+module _ (p : Picture) {b : TreeBlock} {end : ℕ} {ks bs : List ℕ} (positive : 0 < b .height) (f : FittingBefore p b end ks bs) where
+  room : FittingBefore p (blockAt (suc (b .height - 1)) (b .row) (b .column) (b .key)) end ks bs
+  room = let up = one-higher b positive in rw (← up) f
 
-  first : childKey κ (k - 1) 1 ≡ κ + 5 ^ (k - 1)
-  first = omega arith
+  module _ {q₄ : TreeBlock} (e₄ : q₄ ≡ childOf b 4) where
+    pub spreads-se : FittingBefore p q₄ end ks bs
+    spreads-se = rw e₄ (fits-se p _ _ _ _ end room)
 
-  room : FittingBefore p (suc (k - 1)) r c κ end ks bs
-  room = rw (← up) f
+    module _ {ks₄ bs₄ : List ℕ} {b₄ i₄ : ℕ} (w₄ : WrittenBefore p q₄ end ks bs ks₄ bs₄ b₄ i₄) {q₃ : TreeBlock} (e₃ : q₃ ≡ childOf b 3) where
+      v₄ : WrittenBefore p (childOf b 4) end ks bs ks₄ bs₄ b₄ i₄
+      v₄ = rw e₄ at w₄
 
-  pub spreads-se : FittingBefore p (q .height) (q .down) (q .right) (q .se) end ks bs
-  spreads-se = rw e (fits-se p (k - 1) r c κ end room)
+      pub spreads-sw : FittingBefore p q₃ i₄ ks₄ bs₄
+      spreads-sw = rw e₃ (fits-sw p _ _ _ _ end room v₄)
 
-  module _ {ks₄ bs₄ : List ℕ} {b₄ i₄ : ℕ} (w₄ : WrittenBefore p (q .height) (q .down) (q .right) (q .se) end ks bs ks₄ bs₄ b₄ i₄) where
-    v₄ : WrittenBefore p (k - 1) (r + 2 ^ (k - 1)) (c + 2 ^ (k - 1)) (κ + 4 * 5 ^ (k - 1)) end ks bs ks₄ bs₄ b₄ i₄
-    v₄ = rw e at w₄
+      module _ {ks₃ bs₃ : List ℕ} {b₃ i₃ : ℕ} (w₃ : WrittenBefore p q₃ i₄ ks₄ bs₄ ks₃ bs₃ b₃ i₃) {q₂ : TreeBlock} (e₂ : q₂ ≡ childOf b 2) where
+        v₃ : WrittenBefore p (childOf b 3) i₄ ks₄ bs₄ ks₃ bs₃ b₃ i₃
+        v₃ = rw e₃ at w₃
 
-    pub spreads-sw : FittingBefore p (q .height) (q .down) c (q .sw) i₄ ks₄ bs₄
-    spreads-sw = rw e (fits-sw p (k - 1) r c κ end room v₄)
+        pub spreads-ne : FittingBefore p q₂ i₃ ks₃ bs₃
+        spreads-ne = rw e₂ (fits-ne p _ _ _ _ end room v₄ v₃)
 
-    module _ {ks₃ bs₃ : List ℕ} {b₃ i₃ : ℕ} (w₃ : WrittenBefore p (q .height) (q .down) c (q .sw) i₄ ks₄ bs₄ ks₃ bs₃ b₃ i₃) where
-      v₃ : WrittenBefore p (k - 1) (r + 2 ^ (k - 1)) c (κ + 3 * 5 ^ (k - 1)) i₄ ks₄ bs₄ ks₃ bs₃ b₃ i₃
-      v₃ = rw e at w₃
+        module _ {ks₂ bs₂ : List ℕ} {b₂ i₂ : ℕ} (w₂ : WrittenBefore p q₂ i₃ ks₃ bs₃ ks₂ bs₂ b₂ i₂) {q₁ : TreeBlock} (e₁ : q₁ ≡ childOf b 1) where
+          v₂ : WrittenBefore p (childOf b 2) i₃ ks₃ bs₃ ks₂ bs₂ b₂ i₂
+          v₂ = rw e₂ at w₂
 
-      pub spreads-ne : FittingBefore p (q .height) r (q .right) (q .ne) i₃ ks₃ bs₃
-      spreads-ne = rw e (fits-ne p (k - 1) r c κ end room v₄ v₃)
+          pub spreads-nw : FittingBefore p q₁ i₂ ks₂ bs₂
+          spreads-nw = rw e₁ (fits-nw p _ _ _ _ end room v₄ v₃ v₂)
 
-      module _ {ks₂ bs₂ : List ℕ} {b₂ i₂ : ℕ} (w₂ : WrittenBefore p (q .height) r (q .right) (q .ne) i₃ ks₃ bs₃ ks₂ bs₂ b₂ i₂) where
-        v₂ : WrittenBefore p (k - 1) r (c + 2 ^ (k - 1)) (κ + 2 * 5 ^ (k - 1)) i₃ ks₃ bs₃ ks₂ bs₂ b₂ i₂
-        v₂ = rw e at w₂
+          module _ {ks₁ bs₁ : List ℕ} {b₁ i₁ : ℕ} (w₁ : WrittenBefore p q₁ i₂ ks₂ bs₂ ks₁ bs₁ b₁ i₁) where
+            v₁ : WrittenBefore p (childOf b 1) i₂ ks₂ bs₂ ks₁ bs₁ b₁ i₁
+            v₁ = rw e₁ at w₁
 
-        pub spreads-nw : FittingBefore p (q .height) r c (q .nw) i₂ ks₂ bs₂
-        spreads-nw = rw (e, ← first) (fits-nw p (k - 1) r c κ end room v₄ v₃ v₂)
+            pub spreads-four : KeysEnd b → SettleAsked b i₁ i₂ i₃ i₄ (unionOfFour b₁ b₂ b₃ b₄) ks₁ bs₁
+            spreads-four h =
+                let up = one-higher b positive in
+                let last : b .key + 5 ^ suc (b .height - 1) ≤ 5 ^ 10 = rw (← up) (h .keys) in
+                record {
+                  positive = positive;
+                  deep = h .deep;
+                  some = λ e. fits-four p _ _ _ _ end room v₄ v₃ v₂ v₁ last e .0;
+                  asked = λ e. fits-four p _ _ _ _ end room v₄ v₃ v₂ v₁ last e .1;
+                }
 
-        module _ {ks₁ bs₁ : List ℕ} {b₁ i₁ : ℕ} (w₁ : WrittenBefore p (q .height) r c (q .nw) i₂ ks₂ bs₂ ks₁ bs₁ b₁ i₁) where
-          v₁ : WrittenBefore p (k - 1) r c (childKey κ (k - 1) 1) i₂ ks₂ bs₂ ks₁ bs₁ b₁ i₁
-          v₁ = rw first (rw e at w₁)
-
-          pub spreads-four : κ + 5 ^ k ≤ 5 ^ 10 → SettleAsked κ (q .step) i₁ i₂ i₃ i₄ (unionOfFour b₁ b₂ b₃ b₄) ks₁ bs₁
-          spreads-four h = rw e (fits-four p (k - 1) r c κ end room v₄ v₃ v₂ v₁ (rw (← up) h))
-
-          pub spread-all : {ks′ bs′ : List ℕ} {b place : ℕ} → FourSettled κ (q .step) end b₁ b₂ b₃ b₄ i₁ i₂ i₃ i₄ ks₁ bs₁ ks′ bs′ b place
-              → WrittenBefore p k r c κ end ks bs ks′ bs′ b place
-          spread-all = rw e (λ h. rw up (written-all p (k - 1) r c κ end room v₄ v₃ v₂ v₁ h))
+            pub spread-all : {ks′ bs′ : List ℕ} {u place : ℕ} → FourSettled b end b₁ b₂ b₃ b₄ i₁ i₂ i₃ i₄ ks₁ bs₁ ks′ bs′ u place
+                → WrittenBefore p b end ks bs ks′ bs′ u place
+            spread-all g = let up = one-higher b positive in rw up (written-all p _ _ _ _ end room v₄ v₃ v₂ v₁ (g .written) (g .place-is))

@@ -4,6 +4,7 @@ use mathlib.Core.Path.{_≡_}
 use mathlib.Core.List.{List}
 use lib.ListN.{length, replicate}
 use lib.Seq.{sets}
+use Rattle.keys.specs.Child.{rootOf}
 use Rattle.definitions.specs.Picture.{Picture}
 use Rattle.definitions.specs.List.{keysOf, valuesOf, listOf, listOfPicture}
 use Rattle.definitions.specs.Read.{room}
@@ -35,4 +36,4 @@ zeroed n after l = sets l after (replicate (n - after) 0)
 
 -- of whichever picture the records are what is left, its list after the step stands from the first place on
 pub record AllGrown (t : Step) (m left after : ℕ) (keys bits keys′ bits′ : List ℕ) : Type 0 where
-  pub holds : (p : Picture) → Growing t p m 0 0 0 keys bits left after → WroteBefore (listOf (stepOver t p) m 0 0 0) after keys bits keys′ bits′ 0
+  pub holds : (p : Picture) → Growing t p (rootOf m) keys bits left after → WroteBefore (listOf (stepOver t p) m 0 0 0) after keys bits keys′ bits′ 0

@@ -5,7 +5,8 @@ use mathlib.Core.Path.{_≡_}
 use mathlib.Core.List.{List, _++_}
 use lib.ListN.{length, getD, set, take, drop}
 use lib.Seq.{sets}
-use Rattle.keys.specs.Under.{MapBlock}
+use Rattle.keys.specs.Child.{InMap}
+use Rattle.keys.specs.declared.block.TreeBlock.{TreeBlock}
 use Rattle.list.specs.Among.{keysBelow}
 use Rattle.list.specs.Check.{oneSlot}
 use Rattle.build.specs.BuildBlocks.{Tallied, FourAsked, FourWritten, Written}
@@ -28,21 +29,25 @@ pub record Showing (l : List Record) (past : ℕ) (keys bits : List ℕ) (at n :
   pub is : drop at (recordsOf keys bits n) ≡ l ++ rest
   pub behind : Ascending past limit rest
 
--- so of a picture's list of a block: what stands behind it has keys past the block's
-abbrev pub ShowingBlock : (p : Picture) (height row column key : ℕ) (keys bits : List ℕ) (at n : ℕ) → Type 0
-ShowingBlock p height row column key keys bits at n = Showing (listOf p height row column key) (key + 5 ^ height) keys bits at n
+-- a picture's list of a block
+abbrev pub listAt : (p : Picture) (b : TreeBlock) → List Record
+listAt p b = listOf p (b .height) (b .row) (b .column) (b .key)
+
+-- so of such a list: what stands behind it has keys past the block's
+abbrev pub ShowingBlock : (p : Picture) (b : TreeBlock) (keys bits : List ℕ) (at n : ℕ) → Type 0
+ShowingBlock p b keys bits at n = Showing (listAt p b) (b .key + 5 ^ b .height) keys bits at n
 
 -- from place `at` on, up to n, stands the list of a block of the map, of some picture
-pub record Shown (m height row column key : ℕ) (keys bits : List ℕ) (at n : ℕ) : Type 0 where
+pub record Shown (m : ℕ) (b : TreeBlock) (keys bits : List ℕ) (at n : ℕ) : Type 0 where
   pub picture : Picture
   pub deep : m ≤ 10
-  pub block : MapBlock m height row column key
-  pub shown : ShowingBlock picture height row column key keys bits at n
+  pub block : InMap m b
+  pub shown : ShowingBlock picture b keys bits at n
 
 -- the bits and the number of records of a block after the step, and the place after its records before it, of whichever picture is shown
-pub record StepCounted (t : Step) (height row column key : ℕ) (keys bits : List ℕ) (at n union count next : ℕ) : Type 0 where
-  pub tallied : (p : Picture) → ShowingBlock p height row column key keys bits at n → Tallied (stepOver t p) height row column union count
-  pub passed : (p : Picture) → ShowingBlock p height row column key keys bits at n → next ≡ at + length (listOf p height row column key)
+pub record StepCounted (t : Step) (b : TreeBlock) (keys bits : List ℕ) (at n union count next : ℕ) : Type 0 where
+  pub tallied : (p : Picture) → ShowingBlock p b keys bits at n → Tallied (stepOver t p) (b .height) (b .row) (b .column) union count
+  pub passed : (p : Picture) → ShowingBlock p b keys bits at n → next ≡ at + length (listAt p b)
 
 -- the content that a meeting names is there to be read
 pub record Readable (meeting : Meeting) (logValues : List ℕ) : Type 0 where
@@ -68,16 +73,16 @@ pub record PassedOver (meeting : Meeting) (own past at : ℕ) (keys : List ℕ) 
   pub tally-is : tally ≡ knownOf meeting own (next - at) logValues
 
 -- a block whose records are to end before a place has room for them; a block of one feature has nothing written below it, and needs none
-pub record FittingBefore (p : Picture) (height row column key end : ℕ) (keys bits : List ℕ) : Type 0 where
+pub record FittingBefore (p : Picture) (b : TreeBlock) (end : ℕ) (keys bits : List ℕ) : Type 0 where
   pub small : end ≤ 5 ^ 10
-  pub low : oneFeature p height row column ≡ false → length (listOf p height row column key) ≤ end
-  pub keys-room : oneFeature p height row column ≡ false → end ≤ length keys
-  pub bits-room : oneFeature p height row column ≡ false → end ≤ length bits
+  pub low : oneFeature p (b .height) (b .row) (b .column) ≡ false → length (listAt p b) ≤ end
+  pub keys-room : oneFeature p (b .height) (b .row) (b .column) ≡ false → end ≤ length keys
+  pub bits-room : oneFeature p (b .height) (b .row) (b .column) ≡ false → end ≤ length bits
 
 -- the records below a block stand before that place, and the place of its own is known; where there is none, which is 0 here, nothing was written
-pub record WrittenBefore (p : Picture) (height row column key end : ℕ) (keys bits keys′ bits′ : List ℕ) (union place : ℕ) : Type 0 where
-  pub place-is : place ≡ end - length (listOf p height row column key)
-  pub written : Written p height row column key place keys bits keys′ bits′ union (place + length (listOf p height row column key))
+pub record WrittenBefore (p : Picture) (b : TreeBlock) (end : ℕ) (keys bits keys′ bits′ : List ℕ) (union place : ℕ) : Type 0 where
+  pub place-is : place ≡ end - length (listAt p b)
+  pub written : Written p (b .height) (b .row) (b .column) (b .key) place keys bits keys′ bits′ union (place + length (listAt p b))
 
 -- the records below a leaf, by its meeting: there is room for a content
 pub record ContentFits (logKeys logValues : List ℕ) (end : ℕ) (keys bits : List ℕ) (start count : ℕ) : Type 0 where
@@ -104,15 +109,17 @@ pub record LeafLaid (meeting : Meeting) (own : ℕ) (logKeys logValues : List �
   pub union-is : union ≡ knownOf meeting own 1 logValues .bits
   pub place-is : isCut meeting ≡ false → place ≡ end - knownOf meeting own 1 logValues .count
 
--- where four quadrants have several features together, their own places are in order, and one is free before them
-pub record SettleAsked (key step first second third fourth union : ℕ) (keys bits : List ℕ) : Type 0 where
+-- a block that has quadrants; where they have several features together, their own places are in order, and one is free before them
+pub record SettleAsked (b : TreeBlock) (first second third fourth union : ℕ) (keys bits : List ℕ) : Type 0 where
+  pub positive : 0 < b .height
+  pub deep : b .height ≤ 10
   pub some : oneSlot union ≡ false → 0 < first
-  pub asked : oneSlot union ≡ false → FourAsked key step (first - 1) union second third fourth keys bits
+  pub asked : oneSlot union ≡ false → FourAsked (b .key) (5 ^ (b .height - 1)) (first - 1) union second third fourth keys bits
 
 -- their own records stand there, and the block's own place is known: before them, or before the end where it has nothing below it
-pub record FourSettled (key step end nw ne sw se first second third fourth : ℕ) (keys bits keys′ bits′ : List ℕ) (union place : ℕ) : Type 0 where
+pub record FourSettled (b : TreeBlock) (end nw ne sw se first second third fourth : ℕ) (keys bits keys′ bits′ : List ℕ) (union place : ℕ) : Type 0 where
   pub next : ℕ
-  pub written : FourWritten key step (first - 1) nw ne sw se second third fourth end keys bits keys′ bits′ union next
+  pub written : FourWritten (b .key) (5 ^ (b .height - 1)) (first - 1) nw ne sw se second third fourth end keys bits keys′ bits′ union next
   pub place-is : place ≡ cond (oneSlot union) (end - 1) (first - 1)
 
 -- the records of a block are to be written before a place
@@ -148,21 +155,24 @@ pub record Moved (l new : List Record) (keys bits : List ℕ) (read write : ℕ)
   pub passed : read′ + length l ≡ read
   pub wrote : WroteBefore new write keys bits keys′ bits′ write′
 
--- what shrinking left of a block waits to grow
-pub record Growing (t : Step) (p : Picture) (height row column key : ℕ) (keys bits : List ℕ) (read write : ℕ) : Type 0 where
-  pub waits : Waiting key (pruned p (stepOver t p) height row column key) (length (listOf (stepOver t p) height row column key)) keys bits read write
+-- what shrinking leaves of a picture's list of a block
+abbrev pub prunedAt : (t : Step) (p : Picture) (b : TreeBlock) → List Record
+prunedAt t p b = pruned p (stepOver t p) (b .height) (b .row) (b .column) (b .key)
+
+-- it waits to grow
+pub record Growing (t : Step) (p : Picture) (b : TreeBlock) (keys bits : List ℕ) (read write : ℕ) : Type 0 where
+  pub waits : Waiting (b .key) (prunedAt t p b) (length (listAt (stepOver t p) b)) keys bits read write
 
 -- so of a block of the map, and of some picture
-pub record GrowAsked (t : Step) (m height row column key : ℕ) (keys bits : List ℕ) (read write : ℕ) : Type 0 where
+pub record GrowAsked (t : Step) (m : ℕ) (b : TreeBlock) (keys bits : List ℕ) (read write : ℕ) : Type 0 where
   pub picture : Picture
   pub deep : m ≤ 10
-  pub block : MapBlock m height row column key
-  pub growing : Growing t picture height row column key keys bits read write
+  pub block : InMap m b
+  pub growing : Growing t picture b keys bits read write
 
 -- the block's list of the step over the picture stands there, of whichever picture it is
-pub record Grown (t : Step) (height row column key : ℕ) (keys bits : List ℕ) (read write : ℕ) (keys′ bits′ : List ℕ) (read′ write′ : ℕ) : Type 0 where
-  pub holds : (p : Picture) → Growing t p height row column key keys bits read write
-      → Moved (pruned p (stepOver t p) height row column key) (listOf (stepOver t p) height row column key) keys bits read write keys′ bits′ read′ write′
+pub record Grown (t : Step) (b : TreeBlock) (keys bits : List ℕ) (read write : ℕ) (keys′ bits′ : List ℕ) (read′ write′ : ℕ) : Type 0 where
+  pub holds : (p : Picture) → Growing t p b keys bits read write → Moved (prunedAt t p b) (listAt (stepOver t p) b) keys bits read write keys′ bits′ read′ write′
 
 -- the record before one place is to be moved before another, at or past it
 pub record OwnAsked (read write : ℕ) (keys bits : List ℕ) : Type 0 where

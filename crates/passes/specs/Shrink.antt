@@ -5,15 +5,16 @@ use mathlib.Core.Path.{_≡_}
 use mathlib.Core.List.{List, [], _∷_, _++_}
 use lib.ListN.{length, set, take, drop}
 use lib.Seq.{sets}
+use Rattle.keys.specs.declared.block.TreeBlock.{TreeBlock}
 use Rattle.definitions.specs.Picture.{Picture}
 use Rattle.definitions.specs.Bits.{featureOf}
-use Rattle.definitions.specs.List.{recordOf, keysOf, valuesOf, listOf}
+use Rattle.definitions.specs.List.{recordOf, keysOf, valuesOf}
 use Rattle.list.specs.Check.{oneSlot}
 use Rattle.build.specs.BuildBlocks.{Tallied}
-use Rattle.step.specs.Step.{Step, stepOver, plain, pruned}
+use Rattle.step.specs.Step.{Step, stepOver, plain}
 use Rattle.step.specs.declared.meeting.Meeting.{Meeting}
 use Rattle.step.specs.declared.meeting.Meeting.the-variants.{Apart, Leaf, Content, Cut}
-use Rattle.passes.specs.Passes.{Shown, ShowingBlock}
+use Rattle.passes.specs.Passes.{listAt, prunedAt, Shown, ShowingBlock}
 
 -- from a place on a slice has these numbers; what stands in front of them, and from `next` on, is as it was
 pub record Forward (new before : List ℕ) (place next : ℕ) (after : List ℕ) : Type 0 where
@@ -22,21 +23,21 @@ pub record Forward (new before : List ℕ) (place next : ℕ) (after : List ℕ)
   pub behind : drop next after ≡ drop next before
 
 -- the records of a block are to be put forward, at or before the place where they stand
-pub record ShrinkAsked (m height row column key : ℕ) (keys bits : List ℕ) (at n place : ℕ) : Type 0 where
-  pub shown : Shown m height row column key keys bits at n
+pub record ShrinkAsked (m : ℕ) (b : TreeBlock) (keys bits : List ℕ) (at n place : ℕ) : Type 0 where
+  pub shown : Shown m b keys bits at n
   pub order : place ≤ at
 
 -- what is left of them stands there, the block's bits and its number of records after the step are known, and the places after the records read and written
-pub record ShrunkAt (t : Step) (p : Picture) (height row column key : ℕ) (keys bits : List ℕ) (at place : ℕ) (keys′ bits′ : List ℕ) (union count next place′ : ℕ) : Type 0 where
-  pub tallied : Tallied (stepOver t p) height row column union count
-  pub next-is : next ≡ at + length (listOf p height row column key)
-  pub place-is : place′ ≡ place + length (pruned p (stepOver t p) height row column key)
-  pub keys-are : Forward (keysOf (pruned p (stepOver t p) height row column key)) keys place next keys′
-  pub bits-are : Forward (valuesOf (pruned p (stepOver t p) height row column key)) bits place next bits′
+pub record ShrunkAt (t : Step) (p : Picture) (b : TreeBlock) (keys bits : List ℕ) (at place : ℕ) (keys′ bits′ : List ℕ) (union count next place′ : ℕ) : Type 0 where
+  pub tallied : Tallied (stepOver t p) (b .height) (b .row) (b .column) union count
+  pub next-is : next ≡ at + length (listAt p b)
+  pub place-is : place′ ≡ place + length (prunedAt t p b)
+  pub keys-are : Forward (keysOf (prunedAt t p b)) keys place next keys′
+  pub bits-are : Forward (valuesOf (prunedAt t p b)) bits place next bits′
 
 -- that holds of whichever picture is shown
-pub record Shrinks (t : Step) (height row column key : ℕ) (keys bits : List ℕ) (at n place : ℕ) (keys′ bits′ : List ℕ) (union count next place′ : ℕ) : Type 0 where
-  pub holds : (p : Picture) → ShowingBlock p height row column key keys bits at n → ShrunkAt t p height row column key keys bits at place keys′ bits′ union count next place′
+pub record Shrinks (t : Step) (b : TreeBlock) (keys bits : List ℕ) (at n place : ℕ) (keys′ bits′ : List ℕ) (union count next place′ : ℕ) : Type 0 where
+  pub holds : (p : Picture) → ShowingBlock p b keys bits at n → ShrunkAt t p b keys bits at place keys′ bits′ union count next place′
 
 -- one look tells that the block stays as it is or becomes one leaf
 abbrev pub isDecided : Meeting → Bool
@@ -77,13 +78,13 @@ pub record OneAsked (keys bits : List ℕ) (at place : ℕ) : Type 0 where
   pub in-bits : at < length bits
 
 -- what is left of a leaf stands there: the leaf after the step, or the one before it where it has to grow
-pub record LeafShrunk (t : Step) (own height row column key : ℕ) (keys bits : List ℕ) (at place : ℕ) (keys′ bits′ : List ℕ) (union count next place′ : ℕ) : Type 0 where
-  pub tallied : Tallied (stepOver t (plain (featureOf own))) height row column union count
+pub record LeafShrunk (t : Step) (own : ℕ) (b : TreeBlock) (keys bits : List ℕ) (at place : ℕ) (keys′ bits′ : List ℕ) (union count next place′ : ℕ) : Type 0 where
+  pub tallied : Tallied (stepOver t (plain (featureOf own))) (b .height) (b .row) (b .column) union count
   pub next-is : next ≡ at + 1
   pub place-is : place′ ≡ place + 1
   pub value : ℕ
-  pub left : pruned (plain (featureOf own)) (stepOver t (plain (featureOf own))) height row column key ≡ recordOf key value ∷ []
-  pub keys-are : keys′ ≡ set keys place key
+  pub left : prunedAt t (plain (featureOf own)) b ≡ recordOf (b .key) value ∷ []
+  pub keys-are : keys′ ≡ set keys place (b .key)
   pub bits-are : bits′ ≡ set bits place value
 
 -- the own record of a node stands before what is left of its quadrants, or for them where it has one slot

@@ -3,6 +3,7 @@ ghost use mathlib.Core.Path.{_≡_};
 ghost use Rattle.definitions.specs.List.{listOfPicture};
 ghost use lib.ListN.{length};
 ghost use lib.Dec.{leb};
+ghost use Rattle.keys.specs.Child.{rootOf};
 ghost use Rattle.definitions.specs.Read.{room};
 ghost use Rattle.list.specs.Own.{OwnList, shownBy};
 ghost use Prim.Native.Nat.{_≤_};
@@ -12,10 +13,12 @@ ghost use Rattle.passes.specs.Passes.{GrowAsked};
 ghost use Rattle.passes.specs.Change.{Changeable, Changed, AllGrown, GivenUp, zeroed};
 use crate::grow;
 use crate::shrink;
+use crate::slide::Places;
 use crate::tally;
-use keys::Key;
+use keys::block::root;
 use keys::power;
 use step::deed::Deed;
+use step::deed::Doing;
 
 // How many records the list has after the step.
 fn length_after(
@@ -30,20 +33,8 @@ fn length_after(
     requires { ⌜ Doable m deed (now «log_keys») (now «log_values») × (m ≤ 10) × OwnList m (now keys) (now bits) n ⌝ }
     ensures { λ r. ⌜ r ≡ length (listOfPicture m (stepOver (stepOf m deed (now («log_keys» .entry)) (now («log_values» .entry))) (shownBy m (now (keys .entry)) (now (bits .entry)) n))) ⌝ }
 {
-    tally::tally_records(
-            deed,
-            log_keys,
-            log_values,
-            m,
-            m,
-            0,
-            0,
-            Key::ROOT,
-            0,
-            keys,
-            bits,
-            n,
-        )
+    let doing = Doing { m, deed };
+    tally::tally_records(doing, log_keys, log_values, root(m), 0, keys, bits, n)
         .tally
         .count
 }
@@ -86,36 +77,21 @@ fn give_up(keys: &mut [u32], bits: &mut [u32], n: usize, after: usize)
 
 // All leaves grow to what the step makes of them. Where the list is as long as it becomes there is none that has to.
 fn grow_all(
-    deed: Deed,
+    doing: Doing,
     log_keys: &[u32],
     log_values: &[u32],
-    m: u32,
-    left: usize,
-    after: usize,
+    at: Places,
     keys: &mut [u32],
     bits: &mut [u32],
 )
-    requires { ⌜ Doable m deed (now «log_keys») (now «log_values») ⌝ }
-    requires { ⌜ GrowAsked (stepOf m deed (now «log_keys») (now «log_values»)) m m 0 0 0 (now keys) (now bits) left after ⌝ }
-    ensures { λ _. ⌜ AllGrown (stepOf m deed (now («log_keys» .entry)) (now («log_values» .entry))) m left after (now (keys .entry)) (now (bits .entry)) (now (keys .exit)) (now (bits .exit)) ⌝ }
+    requires { ⌜ Doable (doing .m) (doing .deed) (now «log_keys») (now «log_values») ⌝ }
+    requires { ⌜ GrowAsked (stepOf (doing .m) (doing .deed) (now «log_keys») (now «log_values»)) (doing .m) (rootOf (doing .m)) (now keys) (now bits) (at .read) (at .write) ⌝ }
+    ensures { λ _. ⌜ AllGrown (stepOf (doing .m) (doing .deed) (now («log_keys» .entry)) (now («log_values» .entry))) (doing .m) (at .read) (at .write) (now (keys .entry)) (now (bits .entry)) (now (keys .exit)) (now (bits .exit)) ⌝ }
 {
-    if left == after {
+    if at.read == at.write {
         return;
     }
-    grow::grow(
-        deed,
-        log_keys,
-        log_values,
-        m,
-        m,
-        0,
-        0,
-        Key::ROOT,
-        left,
-        after,
-        keys,
-        bits,
-    );
+    grow::grow(doing, log_keys, log_values, root(doing.m), at, keys, bits);
 }
 
 // The list becomes that of the step over its picture. Gives its number of records, which shrinking tells.
@@ -132,24 +108,15 @@ pub fn change(
     requires { ⌜ Changeable (stepOf m deed (now «log_keys») (now «log_values»)) m (now keys) (now bits) n ⌝ }
     ensures { λ r. ⌜ Changed (stepOf m deed (now («log_keys» .entry)) (now («log_values» .entry))) m n (now (keys .entry)) (now (bits .entry)) (now (keys .exit)) (now (bits .exit)) r ⌝ }
 {
-    let shrunk = shrink::shrink(
-        deed,
-        log_keys,
-        log_values,
-        m,
-        m,
-        0,
-        0,
-        Key::ROOT,
-        0,
-        n,
-        0,
-        keys,
-        bits,
-    );
-    let left = shrunk.place;
+    let doing = Doing { m, deed };
+    let start = Places { read: 0, write: 0 };
+    let shrunk = shrink::shrink(doing, log_keys, log_values, root(m), start, n, keys, bits);
     let after = shrunk.tally.count;
-    grow_all(deed, log_keys, log_values, m, left, after, keys, bits);
+    let left = Places {
+        read: shrunk.at.write,
+        write: after,
+    };
+    grow_all(doing, log_keys, log_values, left, keys, bits);
     give_up(keys, bits, n, after);
     after
 }

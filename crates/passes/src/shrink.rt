@@ -5,21 +5,22 @@ ghost use mathlib.Core.Bool.{cond};
 ghost use lib.Dec.{eqb};
 ghost use Rattle.step.specs.Deed.{Doable, stepOf, LeafAsked};
 ghost use Rattle.passes.specs.Shrink.{ShrinkAsked, Shrinks, isDecided, KeepAsked, KeptForward, OneAsked, LeafShrunk, OwnShrunk};
+use crate::slide::Places;
 use crate::tally;
 use build::count;
 use build::count::Tally;
-use keys::power;
+use keys::block::TreeBlock;
+use keys::block::child;
+use keys::block::end;
 use list::check;
 use step::deed;
-use step::deed::Deed;
+use step::deed::Doing;
 use step::meeting::Meeting;
-use step::quarters;
 
 // A block's bits and its number of records after the step, and the places after its records before it and after what is left of them.
 pub struct Shrunk {
     pub tally: Tally,
-    pub next: usize,
-    pub place: usize,
+    pub at: Places,
 }
 
 // The block stays as it is, or becomes one leaf.
@@ -73,32 +74,27 @@ fn bits_left(own: u32, tally: Tally) -> u32
 
 // A leaf after the step where it stays one; where it has to grow, the leaf before it.
 fn shrink_leaf(
-    deed: Deed,
+    doing: Doing,
     log_keys: &[u32],
     log_values: &[u32],
-    m: u32,
     own: u32,
-    height: u32,
-    row: u32,
-    column: u32,
-    key: u32,
-    at: usize,
-    place: usize,
+    block: TreeBlock,
+    at: Places,
     keys: &mut [u32],
     bits: &mut [u32],
 ) -> Shrunk
-    requires { ⌜ Doable m deed (now «log_keys») (now «log_values») × LeafAsked m own height row column key ⌝ }
-    requires { ⌜ OneAsked (now keys) (now bits) at place ⌝ }
-    ensures { λ r. ⌜ LeafShrunk (stepOf m deed (now («log_keys» .entry)) (now («log_values» .entry))) own height row column key (now (keys .entry)) (now (bits .entry)) at place (now (keys .exit)) (now (bits .exit)) (r .tally .bits) (r .tally .count) (r .next) (r .place) ⌝ }
+    requires { ⌜ Doable (doing .m) (doing .deed) (now «log_keys») (now «log_values») × LeafAsked (doing .m) own block ⌝ }
+    requires { ⌜ OneAsked (now keys) (now bits) (at .read) (at .write) ⌝ }
+    ensures { λ r. ⌜ LeafShrunk (stepOf (doing .m) (doing .deed) (now («log_keys» .entry)) (now («log_values» .entry))) own block (now (keys .entry)) (now (bits .entry)) (at .read) (at .write) (now (keys .exit)) (now (bits .exit)) (r .tally .bits) (r .tally .count) (r .at .read) (r .at .write) ⌝ }
 {
-    let tally = tally::tally_leaf(deed, log_keys, log_values, m, own, height, row, column, key);
-    keys[place] = key;
+    let tally = tally::tally_leaf(doing, log_keys, log_values, own, block);
+    let place = at.write;
+    keys[place] = block.key;
     bits[place] = bits_left(own, tally);
-    Shrunk {
-        tally,
-        next: at + 1,
-        place: place + 1,
-    }
+    let read = at.read + 1;
+    let write = place + 1;
+    let past = Places { read, write };
+    Shrunk { tally, at: past }
 }
 
 // The own record of a node, once its quadrants have shrunk: they are dropped where all of them have the same feature. Gives the place after what is left.
@@ -124,123 +120,50 @@ fn shrink_own(
 
 // The records of a block, which stand from one place on, shrink to stand from another on, at or before it.
 pub fn shrink(
-    deed: Deed,
+    doing: Doing,
     log_keys: &[u32],
     log_values: &[u32],
-    m: u32,
-    height: u32,
-    row: u32,
-    column: u32,
-    key: u32,
-    at: usize,
+    block: TreeBlock,
+    at: Places,
     n: usize,
-    place: usize,
     keys: &mut [u32],
     bits: &mut [u32],
 ) -> Shrunk
-    requires { ⌜ Doable m deed (now «log_keys») (now «log_values») × ShrinkAsked m height row column key (now keys) (now bits) at n place ⌝ }
-    ensures { λ r. ⌜ Shrinks (stepOf m deed (now («log_keys» .entry)) (now («log_values» .entry))) height row column key (now (keys .entry)) (now (bits .entry)) at n place (now (keys .exit)) (now (bits .exit)) (r .tally .bits) (r .tally .count) (r .next) (r .place) ⌝ }
+    requires { ⌜ Doable (doing .m) (doing .deed) (now «log_keys») (now «log_values») × ShrinkAsked (doing .m) block (now keys) (now bits) (at .read) n (at .write) ⌝ }
+    ensures { λ r. ⌜ Shrinks (stepOf (doing .m) (doing .deed) (now («log_keys» .entry)) (now («log_values» .entry))) block (now (keys .entry)) (now (bits .entry)) (at .read) n (at .write) (now (keys .exit)) (now (bits .exit)) (r .tally .bits) (r .tally .count) (r .at .read) (r .at .write) ⌝ }
 {
-    let own = bits[at];
+    let read = at.read;
+    let place = at.write;
+    let own = bits[read];
     if check::has_one_slot(own) {
-        return shrink_leaf(
-            deed,
-            log_keys,
-            log_values,
-            m,
-            own,
-            height,
-            row,
-            column,
-            key,
-            at,
-            place,
-            keys,
-            bits,
-        );
+        return shrink_leaf(doing, log_keys, log_values, own, block, at, keys, bits);
     }
-    let here = deed::narrow(deed, log_keys, log_values, m, height, key);
-    let met = deed::meeting(here, log_keys, log_values, m, height, row, column, key);
+    let deed = deed::narrow(doing, log_keys, log_values, block);
+    let here = Doing { m: doing.m, deed };
+    let met = deed::meeting(here, log_keys, log_values, block);
     if is_decided(met) {
-        let past = key + power::power_of_five(height);
-        let passed = tally::pass_over(met, own, past, at, keys, n, log_values);
+        let passed = tally::pass_over(met, own, end(block), read, keys, n, log_values);
         let tally = passed.tally;
         let next = passed.next;
-        let kept = keep(met, key, at, next, place, keys, bits);
-        return Shrunk {
-            tally,
-            next,
-            place: kept,
-        };
+        let write = keep(met, block.key, read, next, place, keys, bits);
+        let past = Places { read: next, write };
+        return Shrunk { tally, at: past };
     }
-    let four = quarters::of(height, row, column, key);
-    let lower = four.height;
-    let nw = shrink(
-        here,
-        log_keys,
-        log_values,
-        m,
-        lower,
-        row,
-        column,
-        four.nw,
-        at + 1,
-        n,
-        place + 1,
-        keys,
-        bits,
-    );
-    let ne = shrink(
-        here,
-        log_keys,
-        log_values,
-        m,
-        lower,
-        row,
-        four.right,
-        four.ne,
-        nw.next,
-        n,
-        nw.place,
-        keys,
-        bits,
-    );
-    let sw = shrink(
-        here,
-        log_keys,
-        log_values,
-        m,
-        lower,
-        four.down,
-        column,
-        four.sw,
-        ne.next,
-        n,
-        ne.place,
-        keys,
-        bits,
-    );
-    let se = shrink(
-        here,
-        log_keys,
-        log_values,
-        m,
-        lower,
-        four.down,
-        four.right,
-        four.se,
-        sw.next,
-        n,
-        sw.place,
-        keys,
-        bits,
-    );
+    let read = read + 1;
+    let write = place + 1;
+    let below = Places { read, write };
+    let part = child(block, 1);
+    let nw = shrink(here, log_keys, log_values, part, below, n, keys, bits);
+    let part = child(block, 2);
+    let ne = shrink(here, log_keys, log_values, part, nw.at, n, keys, bits);
+    let part = child(block, 3);
+    let sw = shrink(here, log_keys, log_values, part, ne.at, n, keys, bits);
+    let part = child(block, 4);
+    let se = shrink(here, log_keys, log_values, part, sw.at, n, keys, bits);
     let tally = count::joined(nw.tally, ne.tally, sw.tally, se.tally);
-    let next = se.next;
-    let left = shrink_own(key, tally.bits, place, se.place, keys, bits);
-    Shrunk {
-        tally,
-        next,
-        place: left,
-    }
+    let last = se.at;
+    let write = shrink_own(block.key, tally.bits, place, last.write, keys, bits);
+    let read = last.read;
+    let past = Places { read, write };
+    Shrunk { tally, at: past }
 }

@@ -4,7 +4,7 @@ ghost use mathlib.Core.Bool.{true};
 ghost use Rattle.passes.specs.Slide.{StartAt, StartAsked, SlideAsked, Slid, Stays};
 use step::meeting::Meeting;
 
-// Where the records that are still to grow end, and where those that have grown begin.
+// Where records are read, and where what becomes of them is written. Growing, which goes from the end, reads and writes before these places.
 pub struct Places {
     pub read: usize,
     pub write: usize,

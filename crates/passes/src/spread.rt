@@ -2,18 +2,19 @@
 ghost use mathlib.Core.Path.{_≡_};
 ghost use Prim.Native.Nat.{_-_};
 ghost use Rattle.definitions.specs.Bits.{featureOf, unionOfFour};
-ghost use Rattle.definitions.specs.List.{listOf};
 ghost use Rattle.step.specs.Step.{plain, stepOver};
 ghost use Rattle.step.specs.Deed.{Doable, stepOf, LeafAsked};
-ghost use Rattle.passes.specs.Passes.{WriteAsked, WroteBefore, FittingBefore, WrittenBefore, Layable, LeafLaid, SettleAsked, FourSettled};
+ghost use Rattle.passes.specs.Passes.{listAt, WriteAsked, WroteBefore, FittingBefore, WrittenBefore, Layable, LeafLaid, SettleAsked, FourSettled};
 use build::write;
 use build::write::Below;
+use keys::block::TreeBlock;
+use keys::block::child;
+use keys::power;
 use list::check;
 use step::deed;
-use step::deed::Deed;
+use step::deed::Doing;
 use step::meeting;
 use step::meeting::Meeting;
-use step::quarters;
 
 // The bits of a block, and the place of its own record.
 pub struct Foremost {
@@ -70,8 +71,7 @@ fn lay(
 
 // The own records of four quadrants, where the four have several features together; else nothing was written, and nothing is.
 fn settle_four(
-    key: u32,
-    step: u32,
+    block: TreeBlock,
     end: usize,
     nw: Foremost,
     ne: Foremost,
@@ -80,8 +80,8 @@ fn settle_four(
     keys: &mut [u32],
     bits: &mut [u32],
 ) -> Foremost
-    requires { ⌜ SettleAsked key step (nw .place) (ne .place) (sw .place) (se .place) (unionOfFour (nw .bits) (ne .bits) (sw .bits) (se .bits)) (now keys) (now bits) ⌝ }
-    ensures { λ r. ⌜ FourSettled key step end (nw .bits) (ne .bits) (sw .bits) (se .bits) (nw .place) (ne .place) (sw .place) (se .place) (now (keys .entry)) (now (bits .entry)) (now (keys .exit)) (now (bits .exit)) (r .bits) (r .place) ⌝ }
+    requires { ⌜ SettleAsked block (nw .place) (ne .place) (sw .place) (se .place) (unionOfFour (nw .bits) (ne .bits) (sw .bits) (se .bits)) (now keys) (now bits) ⌝ }
+    ensures { λ r. ⌜ FourSettled block end (nw .bits) (ne .bits) (sw .bits) (se .bits) (nw .place) (ne .place) (sw .place) (se .place) (now (keys .entry)) (now (bits .entry)) (now (keys .exit)) (now (bits .exit)) (r .bits) (r .place) ⌝ }
 {
     let north = nw.bits | ne.bits;
     let south = sw.bits | se.bits;
@@ -109,7 +109,19 @@ fn settle_four(
         bits: se.bits,
         next: end,
     };
-    let wrote = write::write_four(key, step, place, first, second, third, fourth, keys, bits);
+    let lower = block.height - 1;
+    let step = power::power_of_five(lower);
+    let wrote = write::write_four(
+        block.key,
+        step,
+        place,
+        first,
+        second,
+        third,
+        fourth,
+        keys,
+        bits,
+    );
     Foremost {
         bits: wrote.bits,
         place,
@@ -118,124 +130,54 @@ fn settle_four(
 
 // Writes the records below a leaf after the step, and not its own: only its parent knows whether it is listed.
 fn spread(
-    deed: Deed,
+    doing: Doing,
     log_keys: &[u32],
     log_values: &[u32],
-    m: u32,
     own: u32,
-    height: u32,
-    row: u32,
-    column: u32,
-    key: u32,
+    block: TreeBlock,
     end: usize,
     keys: &mut [u32],
     bits: &mut [u32],
 ) -> Foremost
-    requires { ⌜ Doable m deed (now «log_keys») (now «log_values») × LeafAsked m own height row column key ⌝ }
-    requires { ⌜ FittingBefore (stepOver (stepOf m deed (now «log_keys») (now «log_values»)) (plain (featureOf own))) height row column key end (now keys) (now bits) ⌝ }
-    ensures { λ r. ⌜ WrittenBefore (stepOver (stepOf m deed (now («log_keys» .entry)) (now («log_values» .entry))) (plain (featureOf own))) height row column key end (now (keys .entry)) (now (bits .entry)) (now (keys .exit)) (now (bits .exit)) (r .bits) (r .place) ⌝ }
+    requires { ⌜ Doable (doing .m) (doing .deed) (now «log_keys») (now «log_values») × LeafAsked (doing .m) own block ⌝ }
+    requires { ⌜ FittingBefore (stepOver (stepOf (doing .m) (doing .deed) (now «log_keys») (now «log_values»)) (plain (featureOf own))) block end (now keys) (now bits) ⌝ }
+    ensures { λ r. ⌜ WrittenBefore (stepOver (stepOf (doing .m) (doing .deed) (now («log_keys» .entry)) (now («log_values» .entry))) (plain (featureOf own))) block end (now (keys .entry)) (now (bits .entry)) (now (keys .exit)) (now (bits .exit)) (r .bits) (r .place) ⌝ }
 {
-    let here = deed::narrow(deed, log_keys, log_values, m, height, key);
-    let met = deed::meeting(here, log_keys, log_values, m, height, row, column, key);
+    let deed = deed::narrow(doing, log_keys, log_values, block);
+    let here = Doing { m: doing.m, deed };
+    let met = deed::meeting(here, log_keys, log_values, block);
     if !meeting::is_cut(met) {
         return lay(met, own, log_keys, log_values, end, keys, bits);
     }
-    let four = quarters::of(height, row, column, key);
-    let lower = four.height;
-    let se = spread(
-        here,
-        log_keys,
-        log_values,
-        m,
-        own,
-        lower,
-        four.down,
-        four.right,
-        four.se,
-        end,
-        keys,
-        bits,
-    );
-    let sw = spread(
-        here,
-        log_keys,
-        log_values,
-        m,
-        own,
-        lower,
-        four.down,
-        column,
-        four.sw,
-        se.place,
-        keys,
-        bits,
-    );
-    let ne = spread(
-        here,
-        log_keys,
-        log_values,
-        m,
-        own,
-        lower,
-        row,
-        four.right,
-        four.ne,
-        sw.place,
-        keys,
-        bits,
-    );
-    let nw = spread(
-        here,
-        log_keys,
-        log_values,
-        m,
-        own,
-        lower,
-        row,
-        column,
-        four.nw,
-        ne.place,
-        keys,
-        bits,
-    );
-    settle_four(key, four.step, end, nw, ne, sw, se, keys, bits)
+    let part = child(block, 4);
+    let se = spread(here, log_keys, log_values, own, part, end, keys, bits);
+    let part = child(block, 3);
+    let sw = spread(here, log_keys, log_values, own, part, se.place, keys, bits);
+    let part = child(block, 2);
+    let ne = spread(here, log_keys, log_values, own, part, sw.place, keys, bits);
+    let part = child(block, 1);
+    let nw = spread(here, log_keys, log_values, own, part, ne.place, keys, bits);
+    settle_four(block, end, nw, ne, sw, se, keys, bits)
 }
 
 // What a leaf grows to, written before a place; the first of its places is given back.
 pub fn write_leaf(
-    deed: Deed,
+    doing: Doing,
     log_keys: &[u32],
     log_values: &[u32],
-    m: u32,
     b: u32,
-    height: u32,
-    row: u32,
-    column: u32,
-    key: u32,
+    block: TreeBlock,
     end: usize,
     keys: &mut [u32],
     bits: &mut [u32],
 ) -> usize
-    requires { ⌜ Doable m deed (now «log_keys») (now «log_values») × LeafAsked m b height row column key ⌝ }
-    requires { ⌜ WriteAsked (listOf (stepOver (stepOf m deed (now «log_keys») (now «log_values»)) (plain (featureOf b))) height row column key) key end (now keys) (now bits) ⌝ }
-    ensures { λ r. ⌜ WroteBefore (listOf (stepOver (stepOf m deed (now («log_keys» .entry)) (now («log_values» .entry))) (plain (featureOf b))) height row column key) end (now (keys .entry)) (now (bits .entry)) (now (keys .exit)) (now (bits .exit)) r ⌝ }
+    requires { ⌜ Doable (doing .m) (doing .deed) (now «log_keys») (now «log_values») × LeafAsked (doing .m) b block ⌝ }
+    requires { ⌜ WriteAsked (listAt (stepOver (stepOf (doing .m) (doing .deed) (now «log_keys») (now «log_values»)) (plain (featureOf b))) block) (block .key) end (now keys) (now bits) ⌝ }
+    ensures { λ r. ⌜ WroteBefore (listAt (stepOver (stepOf (doing .m) (doing .deed) (now («log_keys» .entry)) (now («log_values» .entry))) (plain (featureOf b))) block) end (now (keys .entry)) (now (bits .entry)) (now (keys .exit)) (now (bits .exit)) r ⌝ }
 {
-    let grown = spread(
-        deed,
-        log_keys,
-        log_values,
-        m,
-        b,
-        height,
-        row,
-        column,
-        key,
-        end,
-        keys,
-        bits,
-    );
+    let grown = spread(doing, log_keys, log_values, b, block, end, keys, bits);
     let start = grown.place;
-    keys[start] = key;
+    keys[start] = block.key;
     bits[start] = grown.bits;
     start
 }

@@ -9,13 +9,14 @@ ghost use Rattle.passes.specs.Passes.{Shown, StepCounted, EndAsked, Read
 use crate::block_end;
 use build::count;
 use build::count::Tally;
-use keys::power;
+use keys::block::TreeBlock;
+use keys::block::child;
+use keys::block::end;
 use list::check;
 use step::deed;
-use step::deed::Deed;
+use step::deed::Doing;
 use step::meeting;
 use step::meeting::Meeting;
-use step::quarters;
 
 // A block by its meeting with the step, where its quadrants need not be asked: its bits and its records are its own, or the leaf's, or the content's.
 fn known(meeting: Meeting, own: u32, records: usize, log_values: &[u32]) -> Tally
@@ -38,70 +39,25 @@ fn known(meeting: Meeting, own: u32, records: usize, log_values: &[u32]) -> Tall
 
 // A leaf after the step: its bits, and how many records it becomes.
 pub fn tally_leaf(
-    deed: Deed,
+    doing: Doing,
     log_keys: &[u32],
     log_values: &[u32],
-    m: u32,
     own: u32,
-    height: u32,
-    row: u32,
-    column: u32,
-    key: u32,
+    block: TreeBlock,
 ) -> Tally
-    requires { ⌜ Doable m deed (now «log_keys») (now «log_values») × LeafAsked m own height row column key ⌝ }
-    ensures { λ r. ⌜ Tallied (stepOver (stepOf m deed (now («log_keys» .entry)) (now («log_values» .entry))) (plain (featureOf own))) height row column (r .bits) (r .count) ⌝ }
+    requires { ⌜ Doable (doing .m) (doing .deed) (now «log_keys») (now «log_values») × LeafAsked (doing .m) own block ⌝ }
+    ensures { λ r. ⌜ Tallied (stepOver (stepOf (doing .m) (doing .deed) (now («log_keys» .entry)) (now («log_values» .entry))) (plain (featureOf own))) (block .height) (block .row) (block .column) (r .bits) (r .count) ⌝ }
 {
-    let here = deed::narrow(deed, log_keys, log_values, m, height, key);
-    let met = deed::meeting(here, log_keys, log_values, m, height, row, column, key);
+    let deed = deed::narrow(doing, log_keys, log_values, block);
+    let here = Doing { m: doing.m, deed };
+    let met = deed::meeting(here, log_keys, log_values, block);
     if !meeting::is_cut(met) {
         return known(met, own, 1, log_values);
     }
-    let four = quarters::of(height, row, column, key);
-    let lower = four.height;
-    let nw = tally_leaf(
-        here,
-        log_keys,
-        log_values,
-        m,
-        own,
-        lower,
-        row,
-        column,
-        four.nw,
-    );
-    let ne = tally_leaf(
-        here,
-        log_keys,
-        log_values,
-        m,
-        own,
-        lower,
-        row,
-        four.right,
-        four.ne,
-    );
-    let sw = tally_leaf(
-        here,
-        log_keys,
-        log_values,
-        m,
-        own,
-        lower,
-        four.down,
-        column,
-        four.sw,
-    );
-    let se = tally_leaf(
-        here,
-        log_keys,
-        log_values,
-        m,
-        own,
-        lower,
-        four.down,
-        four.right,
-        four.se,
-    );
+    let nw = tally_leaf(here, log_keys, log_values, own, child(block, 1));
+    let ne = tally_leaf(here, log_keys, log_values, own, child(block, 2));
+    let sw = tally_leaf(here, log_keys, log_values, own, child(block, 3));
+    let se = tally_leaf(here, log_keys, log_values, own, child(block, 4));
     count::joined(nw, ne, sw, se)
 }
 
@@ -133,97 +89,39 @@ pub fn pass_over(
 
 // The records of a block, from a place on, after the step. Those of a node are passed over where one look tells what becomes of it.
 pub fn tally_records(
-    deed: Deed,
+    doing: Doing,
     log_keys: &[u32],
     log_values: &[u32],
-    m: u32,
-    height: u32,
-    row: u32,
-    column: u32,
-    key: u32,
+    block: TreeBlock,
     at: usize,
     keys: &[u32],
     bits: &[u32],
     n: usize,
 ) -> PassedBlock
-    requires { ⌜ Doable m deed (now «log_keys») (now «log_values») × Shown m height row column key (now keys) (now bits) at n ⌝ }
-    ensures { λ r. ⌜ StepCounted (stepOf m deed (now («log_keys» .entry)) (now («log_values» .entry))) height row column key (now (keys .entry)) (now (bits .entry)) at n (r .tally .bits) (r .tally .count) (r .next) ⌝ }
+    requires { ⌜ Doable (doing .m) (doing .deed) (now «log_keys») (now «log_values») × Shown (doing .m) block (now keys) (now bits) at n ⌝ }
+    ensures { λ r. ⌜ StepCounted (stepOf (doing .m) (doing .deed) (now («log_keys» .entry)) (now («log_values» .entry))) block (now (keys .entry)) (now (bits .entry)) at n (r .tally .bits) (r .tally .count) (r .next) ⌝ }
 {
     let own = bits[at];
     if check::has_one_slot(own) {
-        let tally = tally_leaf(deed, log_keys, log_values, m, own, height, row, column, key);
-        return PassedBlock {
-            tally,
-            next: at + 1,
-        };
+        let tally = tally_leaf(doing, log_keys, log_values, own, block);
+        let next = at + 1;
+        return PassedBlock { tally, next };
     }
-    let here = deed::narrow(deed, log_keys, log_values, m, height, key);
-    let met = deed::meeting(here, log_keys, log_values, m, height, row, column, key);
+    let deed = deed::narrow(doing, log_keys, log_values, block);
+    let here = Doing { m: doing.m, deed };
+    let met = deed::meeting(here, log_keys, log_values, block);
     if !meeting::is_cut(met) {
-        let past = key + power::power_of_five(height);
-        return pass_over(met, own, past, at, keys, n, log_values);
+        return pass_over(met, own, end(block), at, keys, n, log_values);
     }
-    let four = quarters::of(height, row, column, key);
-    let lower = four.height;
-    let nw = tally_records(
-        here,
-        log_keys,
-        log_values,
-        m,
-        lower,
-        row,
-        column,
-        four.nw,
-        at + 1,
-        keys,
-        bits,
-        n,
-    );
-    let second = nw.next;
-    let ne = tally_records(
-        here,
-        log_keys,
-        log_values,
-        m,
-        lower,
-        row,
-        four.right,
-        four.ne,
-        second,
-        keys,
-        bits,
-        n,
-    );
-    let third = ne.next;
-    let sw = tally_records(
-        here,
-        log_keys,
-        log_values,
-        m,
-        lower,
-        four.down,
-        column,
-        four.sw,
-        third,
-        keys,
-        bits,
-        n,
-    );
-    let fourth = sw.next;
-    let se = tally_records(
-        here,
-        log_keys,
-        log_values,
-        m,
-        lower,
-        four.down,
-        four.right,
-        four.se,
-        fourth,
-        keys,
-        bits,
-        n,
-    );
+    let first = at + 1;
+    let part = child(block, 1);
+    let nw = tally_records(here, log_keys, log_values, part, first, keys, bits, n);
+    let part = child(block, 2);
+    let ne = tally_records(here, log_keys, log_values, part, nw.next, keys, bits, n);
+    let part = child(block, 3);
+    let sw = tally_records(here, log_keys, log_values, part, ne.next, keys, bits, n);
+    let part = child(block, 4);
+    let se = tally_records(here, log_keys, log_values, part, sw.next, keys, bits, n);
     let tally = count::joined(nw.tally, ne.tally, sw.tally, se.tally);
     let next = se.next;
     PassedBlock { tally, next }

@@ -12,7 +12,7 @@ use Rattle.step.specs.declared.run.Run.{Run}
 use Rattle.step.specs.declared.meeting.Meeting.{Meeting}
 use Rattle.step.specs.declared.meeting.Meeting.the-variants.{Apart}
 use Rattle.step.specs.Step.{Step, plain}
-use Rattle.step.specs.Meeting.{BlockAsked, Met}
+use Rattle.step.specs.Meeting.{blockAt, BlockAsked, Met}
 use Rattle.step.specs.Runs.{Gift, giftsStep, backGift, againGift, givenBy, meetingBy, lastFirst, Chain, done, more, EntriesIn, lastOfRun, firstOfRun, backStep, againStep}
 use Rattle.step.proofs.Meetings.{Covers, covers-leaf, plain-bits, met-same}
 use Rattle.step.proofs.Gifts.{Tells, AllTell, entries-meet}
@@ -48,11 +48,11 @@ pub again-key : (e : Entry) → againGift e .key ≡ e .key
 again-key e = refl
 
 -- an entry that is painted again makes one leaf of every block that its own holds
-again-meets : (ks vs : List ℕ) (k r c κ : ℕ) (e : Entry) (t : Step) → Covers t (plain (e .feature)) k r c → Met t ks vs k r c κ (givenBy false ks vs κ e)
+again-meets : (ks vs : List ℕ) (k r c κ : ℕ) (e : Entry) (t : Step) → Covers t (plain (e .feature)) k r c → Met t ks vs (blockAt k r c κ) (givenBy false ks vs κ e)
 unfolding givenBy
 again-meets ks vs k r c κ e t over = record { told = covers-leaf t (plain (e .feature)) over (plain-bits (e .feature) k r c) (power-slot (e .feature)) }
 
-module _ {m : ℕ} {run : Run} {ks vs : List ℕ} {k r c κ : ℕ} (d : EntriesIn m run ks vs) (a : BlockAsked m k r c κ) where
+module _ {m : ℕ} {run : Run} {ks vs : List ℕ} {k r c κ : ℕ} (d : EntriesIn m run ks vs) (a : BlockAsked m (blockAt k r c κ)) where
   back-tells : AllTell m (backGift m ks vs) (back-key m ks vs) (givenBy true ks vs κ) ks vs k r c κ (lastOfRun run ks vs)
   back-tells =
       chain-tells m (backGift m ks vs) (back-key m ks vs) (givenBy true ks vs κ) k r c κ ks vs
@@ -66,24 +66,24 @@ module _ {m : ℕ} {run : Run} {ks vs : List ℕ} {k r c κ : ℕ} (d : EntriesI
       (d .between .chain)
 
   -- the first entry decides where they are taken back
-  pub back-by-first : {meeting : Meeting} → meeting ≡ meetingBy m Apart κ (givenBy true ks vs κ) (firstOfRun run ks vs) → Met (backStep m run ks vs) ks vs k r c κ meeting
+  pub back-by-first : {meeting : Meeting} → meeting ≡ meetingBy m Apart κ (givenBy true ks vs κ) (firstOfRun run ks vs) → Met (backStep m run ks vs) ks vs (blockAt k r c κ) meeting
   back-by-first e =
-      subst (Met (backStep m run ks vs) ks vs k r c κ) (sym e)
+      subst (Met (backStep m run ks vs) ks vs (blockAt k r c κ)) (sym e)
       (entries-meet m (backGift m ks vs) (back-key m ks vs) (givenBy true ks vs κ) ks vs (a .block) (firstOfRun run ks vs)
       (subst (AllTell m (backGift m ks vs) (back-key m ks vs) (givenBy true ks vs κ) ks vs k r c κ) (sym (first-onto (run .end) ks vs (run .start) (run .end) []))
       (tells-onto m (backGift m ks vs) (back-key m ks vs) (givenBy true ks vs κ) k r c κ ks vs (lastOfRun run ks vs) [] back-tells tt)))
 
   -- and the last as well, where they are ordered
   pub back-by-last : {meeting : Meeting} → run .ordered ≡ true → meeting ≡ meetingBy m Apart κ (givenBy true ks vs κ) (lastOfRun run ks vs)
-      → Met (backStep m run ks vs) ks vs k r c κ meeting
+      → Met (backStep m run ks vs) ks vs (blockAt k r c κ) meeting
   back-by-last {meeting} o e =
-      subst (λ l. Met (giftsStep m (map (backGift m ks vs) l)) ks vs k r c κ meeting) (sym (first-onto (run .end) ks vs (run .start) (run .end) []))
+      subst (λ l. Met (giftsStep m (map (backGift m ks vs) l)) ks vs (blockAt k r c κ) meeting) (sym (first-onto (run .end) ks vs (run .start) (run .end) []))
       (met-same (same-turned m (backGift m ks vs) (back-key m ks vs) (5 ^ m) (lastOfRun run ks vs) (chain-valid (d .between .chain)) (d .told o) k r c)
-      (subst (Met (giftsStep m (map (backGift m ks vs) (lastOfRun run ks vs))) ks vs k r c κ) (sym e)
+      (subst (Met (giftsStep m (map (backGift m ks vs) (lastOfRun run ks vs))) ks vs (blockAt k r c κ)) (sym e)
       (entries-meet m (backGift m ks vs) (back-key m ks vs) (givenBy true ks vs κ) ks vs (a .block) (lastOfRun run ks vs) back-tells)))
 
   -- the last decides where they are painted again
-  pub again-by-last : {meeting : Meeting} → meeting ≡ meetingBy m Apart κ (givenBy false ks vs κ) (lastOfRun run ks vs) → Met (againStep m run ks vs) ks vs k r c κ meeting
+  pub again-by-last : {meeting : Meeting} → meeting ≡ meetingBy m Apart κ (givenBy false ks vs κ) (lastOfRun run ks vs) → Met (againStep m run ks vs) ks vs (blockAt k r c κ) meeting
   again-by-last e =
-      subst (Met (againStep m run ks vs) ks vs k r c κ) (sym e)
+      subst (Met (againStep m run ks vs) ks vs (blockAt k r c κ)) (sym e)
       (entries-meet m againGift again-key (givenBy false ks vs κ) ks vs (a .block) (lastOfRun run ks vs) again-tells)

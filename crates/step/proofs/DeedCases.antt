@@ -2,6 +2,7 @@
 use Prim.Native.Nat.{ℕ}
 use mathlib.Core.Path.{_≡_, sym, subst}
 use mathlib.Core.List.{List}
+use Rattle.keys.specs.declared.block.TreeBlock.{TreeBlock}
 use Rattle.definitions.specs.declared.Window.{Window}
 use Rattle.step.specs.declared.run.Run.{Run}
 use Rattle.step.specs.declared.meeting.Meeting.{Meeting}
@@ -24,15 +25,15 @@ module _ (m : ℕ) (ks vs : List ℕ) {deed : Deed} where
   again-known e d = subst (λ x. Doable m x ks vs) e d
 
   -- what it makes of a block
-  module _ {k r c κ : ℕ} {meeting : Meeting} where
-    pub fill-met : {w : Window} {f : ℕ} → deed ≡ Fill w f → WindowMet w f k r c κ meeting → Met (stepOf m deed ks vs) ks vs k r c κ meeting
-    fill-met e s = subst (λ x. Met (stepOf m x ks vs) ks vs k r c κ meeting) (sym e) (s ks vs)
+  module _ {b : TreeBlock} {meeting : Meeting} where
+    pub fill-met : {w : Window} {f : ℕ} → deed ≡ Fill w f → WindowMet w f b meeting → Met (stepOf m deed ks vs) ks vs b meeting
+    fill-met e s = subst (λ x. Met (stepOf m x ks vs) ks vs b meeting) (sym e) (s ks vs)
 
-    pub back-met : {run : Run} → deed ≡ Back run → Met (backStep m run ks vs) ks vs k r c κ meeting → Met (stepOf m deed ks vs) ks vs k r c κ meeting
-    back-met e s = subst (λ x. Met (stepOf m x ks vs) ks vs k r c κ meeting) (sym e) s
+    pub back-met : {run : Run} → deed ≡ Back run → Met (backStep m run ks vs) ks vs b meeting → Met (stepOf m deed ks vs) ks vs b meeting
+    back-met e s = subst (λ x. Met (stepOf m x ks vs) ks vs b meeting) (sym e) s
 
-    pub again-met : {run : Run} → deed ≡ Again run → Met (againStep m run ks vs) ks vs k r c κ meeting → Met (stepOf m deed ks vs) ks vs k r c κ meeting
-    again-met e s = subst (λ x. Met (stepOf m x ks vs) ks vs k r c κ meeting) (sym e) s
+    pub again-met : {run : Run} → deed ≡ Again run → Met (againStep m run ks vs) ks vs b meeting → Met (stepOf m deed ks vs) ks vs b meeting
+    again-met e s = subst (λ x. Met (stepOf m x ks vs) ks vs b meeting) (sym e) s
 
   -- what is left of it before a key: of a window all
   pub fill-narrowed : {w : Window} {f past : ℕ} → deed ≡ Fill w f → Doable m deed ks vs → Narrowed m past deed (Fill w f) ks vs

@@ -17,7 +17,7 @@ use Rattle.keys.proofs.Ancestor.{interval-iff}
 use Rattle.laws.proofs.Within.{Every, under-within}
 use Rattle.log.specs.declared.entry.Entry.{Entry}
 use Rattle.step.specs.Step.{Step}
-use Rattle.step.specs.Meeting.{Met}
+use Rattle.step.specs.Meeting.{blockAt, Met}
 use Rattle.step.specs.Runs.{Gift, touched, given, giftsStep, meetingBy, metBy}
 use Rattle.step.specs.declared.meeting.Meeting.{Meeting}
 use Rattle.step.specs.declared.meeting.Meeting.the-variants.{Apart}
@@ -68,7 +68,7 @@ module _ (m : ℕ) (gift : Entry → Gift) (same-key : (e : Entry) → gift e .k
   -- an entry's key is valid, and where its block holds the one with key κ, it tells what a step makes of that which gives it the content
   pub record Tells (k r c κ : ℕ) (e : Entry) : Type 0 where
     pub valid : validKey m (e .key) ≡ true
-    pub told : inInterval m (e .key) κ ≡ true → (t : Step) → Covers t (gift e .content) k r c → Met t ks vs k r c κ (gives e)
+    pub told : inInterval m (e .key) κ ≡ true → (t : Step) → Covers t (gift e .content) k r c → Met t ks vs (blockAt k r c κ) (gives e)
 
   abbrev pub AllTell : (k r c κ : ℕ) → List Entry → Type 0
   AllTell k r c κ [] = Unit {0}
@@ -80,7 +80,7 @@ module _ (m : ℕ) (gift : Entry → Gift) (same-key : (e : Entry) → gift e .k
   module _ {k r c κ : ℕ} (u : MapBlock m k r c κ) where
     module _ (e : Entry) (es : List Entry) (tells : Tells k r c κ e) where
       -- the entry's block holds this one
-      holds : inInterval m (e .key) κ ≡ true → Met (giftsStep m (gift e ∷ map gift es)) ks vs k r c κ (gives e)
+      holds : inInterval m (e .key) κ ≡ true → Met (giftsStep m (gift e ∷ map gift es)) ks vs (blockAt k r c κ) (gives e)
       holds h =
           let v = valid-block m (gift e .key) (key-valid e tells) in
           let h′ : inInterval m (gift e .key) κ ≡ true = ap (λ x. inInterval m x κ) (same-key e) ∙ h in
@@ -90,8 +90,8 @@ module _ (m : ℕ) (gift : Entry → Gift) (same-key : (e : Entry) → gift e .k
           (touched-cons m (gift e) (map gift es) a b ∙ or-left _ _ t, given-this m (gift e) (map gift es) a b t))
 
       -- the two are apart: the later entries decide
-      later : {meeting : Meeting} → inInterval m (e .key) κ ≡ false → inInterval m κ (e .key) ≡ false → Met (giftsStep m (map gift es)) ks vs k r c κ meeting
-          → Met (giftsStep m (gift e ∷ map gift es)) ks vs k r c κ meeting
+      later : {meeting : Meeting} → inInterval m (e .key) κ ≡ false → inInterval m κ (e .key) ≡ false → Met (giftsStep m (map gift es)) ks vs (blockAt k r c κ) meeting
+          → Met (giftsStep m (gift e ∷ map gift es)) ks vs (blockAt k r c κ) meeting
       later h i =
           let out = apart-none m (e .key) u (tells .valid) h i in
           met-same (λ a b w.
@@ -101,7 +101,7 @@ module _ (m : ℕ) (gift : Entry → Gift) (same-key : (e : Entry) → gift e .k
           ))
 
     -- where this block holds the entry's, its quadrants have to be asked
-    pub entries-meet : (es : List Entry) → AllTell k r c κ es → Met (giftsStep m (map gift es)) ks vs k r c κ (meetingBy m Apart κ gives es)
+    pub entries-meet : (es : List Entry) → AllTell k r c κ es → Met (giftsStep m (map gift es)) ks vs (blockAt k r c κ) (meetingBy m Apart κ gives es)
     unfolding meetingBy metBy
     entries-meet [] all = record { told = λ a b w. touched-none m a b }
     entries-meet (e ∷ es) all =

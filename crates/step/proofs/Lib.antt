@@ -1,7 +1,7 @@
 pub mod Pruned
 pub mod QuarterSums
 pub mod SameBefore
-pub mod LeafTally
+pub mod LeafChild
 pub mod Meetings
 pub mod Gifts
 pub mod Chains

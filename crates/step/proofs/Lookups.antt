@@ -36,7 +36,7 @@ use Rattle.log.specs.declared.entry.Entry.{Entry}
 use Rattle.log.specs.Entries.{lastEntry, contentPart}
 use Rattle.log.proofs.Last.{content-run, content-length, entry-places}
 use Rattle.step.specs.Step.{Step}
-use Rattle.step.specs.Meeting.{Met}
+use Rattle.step.specs.Meeting.{blockAt, Met}
 use Rattle.step.specs.Runs.{contentOfEntry, backBits, wholeOf, givenBy, Held}
 use Rattle.step.specs.declared.meeting.Meeting.the-variants.{Leaf, Cut}
 use Rattle.step.proofs.Meetings.{Covers, covers-leaf, covers-list, not-pixel}
@@ -143,7 +143,7 @@ module _ {m s : ℕ} {ks vs : List ℕ} {start end : ℕ} (x : Ends m s ks vs st
         let v = valid-block m (last .key) (x .ends .valid) in
         ap (λ l. getD (valuesOf l) (placeOf κ l) 0) shown ∙ lookup-value (pictureOf m content) (interval-iff v b .0 h)
 
-    by-bits : Met t ks vs k r c κ (cond (oneSlot (backBits ks vs κ last)) (Leaf (backBits ks vs κ last)) Cut)
+    by-bits : Met t ks vs (blockAt k r c κ) (cond (oneSlot (backBits ks vs κ last)) (Leaf (backBits ks vs κ last)) Cut)
     by-bits =
         decide (oneSlot (backBits ks vs κ last))
         (λ i. rw i (record { told = covers-leaf t (pictureOf m content) over bits-told i }))
@@ -169,7 +169,7 @@ module _ {m s : ℕ} {ks vs : List ℕ} {start end : ℕ} (x : Ends m s ks vs st
           let held = last-held h in
           sym (first-of held) ∙ ap (λ l. getD (valuesOf l) 0 0) (own-list ∙ list-first (pictureOf m content) k r c κ .1)
 
-      by-whole : Met t ks vs k r c κ (wholeOf vs last)
+      by-whole : Met t ks vs (blockAt k r c κ) (wholeOf vs last)
       unfolding wholeOf
       by-whole =
           let held = last-held h in
@@ -177,6 +177,6 @@ module _ {m s : ℕ} {ks vs : List ℕ} {start end : ℕ} (x : Ends m s ks vs st
           (λ i. rw i (record { told = covers-leaf t (pictureOf m content) over first-value (ap oneSlot first-value ∙ one-only (eqb-true (last .count) 1 i)) }))
           (λ i. rw i (record { told = covers-list t (pictureOf m content) over (let n = held .sorted .some in let j = eqb-false (last .count) 1 i in omega arith) (held .in-keys) (held .in-values) own-list }))
 
-    pub back-meets : Met t ks vs k r c κ (givenBy true ks vs κ last)
+    pub back-meets : Met t ks vs (blockAt k r c κ) (givenBy true ks vs κ last)
     unfolding givenBy
     back-meets = decide (eqb (last .key) κ) (λ i. rw i (by-whole (eqb-true (last .key) κ i))) (λ i. rw i by-bits)

@@ -19,7 +19,7 @@ use Rattle.list.proofs.OneSlot.{slot-feature}
 use Rattle.log.specs.Entries.{recordsFromPlace}
 use Rattle.build.specs.BuildBlocks.{Tallied}
 use Rattle.step.specs.Step.{Step, stepOver, plain}
-use Rattle.step.specs.Meeting.{Untouched, OneLeaf, ContentGiven, MetBy, Met, isCut}
+use Rattle.step.specs.Meeting.{blockAt, Untouched, OneLeaf, ContentGiven, MetBy, Met, isCut}
 use Rattle.step.specs.declared.meeting.Meeting.{Meeting}
 use Rattle.step.specs.declared.meeting.Meeting.the-variants.{Apart, Leaf, Content, Cut}
 use Rattle.step.proofs.Pruned.{over-in}
@@ -71,7 +71,7 @@ pub same-over : (t t′ : Step) (p : Picture) (k r c : ℕ) → Same t t′ k r 
 unfolding stepOver
 same-over t t′ p k r c h a b w = ap₂ (λ x y. cond x y (p a b)) (h a b w .0) (h a b w .1)
 
-by-same : (t t′ : Step) (ks vs : List ℕ) (k r c κ : ℕ) (meeting : Meeting) → Same t t′ k r c → MetBy t ks vs k r c κ meeting → MetBy t′ ks vs k r c κ meeting
+by-same : (t t′ : Step) (ks vs : List ℕ) (k r c κ : ℕ) (meeting : Meeting) → Same t t′ k r c → MetBy t ks vs (blockAt k r c κ) meeting → MetBy t′ ks vs (blockAt k r c κ) meeting
 by-same t t′ ks vs k r c κ Apart h x = λ a b w. sym (h a b w .0) ∙ x a b w
 by-same t t′ ks vs k r c κ (Leaf bits) h x = λ p. tallied-agree (stepOver t p) (stepOver t′ p) (same-over t t′ p k r c h) (x p)
 by-same t t′ ks vs k r c κ (Content start count) h x = record {
@@ -82,21 +82,21 @@ by-same t t′ ks vs k r c κ (Content start count) h x = record {
 }
 by-same t t′ ks vs k r c κ Cut h x = x
 
-pub met-same : {t t′ : Step} {ks vs : List ℕ} {k r c κ : ℕ} {meeting : Meeting} → Same t t′ k r c → Met t ks vs k r c κ meeting → Met t′ ks vs k r c κ meeting
+pub met-same : {t t′ : Step} {ks vs : List ℕ} {k r c κ : ℕ} {meeting : Meeting} → Same t t′ k r c → Met t ks vs (blockAt k r c κ) meeting → Met t′ ks vs (blockAt k r c κ) meeting
 met-same {t} {t′} {ks} {vs} {k} {r} {c} {κ} {meeting} h x = record { told = by-same t t′ ks vs k r c κ meeting h (x .told) }
 
 -- a meeting of one kind or another, as code comes to know it
-module _ {t : Step} {ks vs : List ℕ} {k r c κ : ℕ} {meeting : Meeting} (x : Met t ks vs k r c κ meeting) where
+module _ {t : Step} {ks vs : List ℕ} {k r c κ : ℕ} {meeting : Meeting} (x : Met t ks vs (blockAt k r c κ) meeting) where
   pub met-apart : meeting ≡ Apart → Untouched t k r c
-  met-apart e = subst (MetBy t ks vs k r c κ) e (x .told)
+  met-apart e = subst (MetBy t ks vs (blockAt k r c κ)) e (x .told)
 
   pub met-content : {start count : ℕ} → meeting ≡ Content start count → ContentGiven t ks vs k r c κ start count
-  met-content e = subst (MetBy t ks vs k r c κ) e (x .told)
+  met-content e = subst (MetBy t ks vs (blockAt k r c κ)) e (x .told)
 
   pub met-cut : isCut meeting ≡ true → 0 < k
   met-cut e = cut meeting (x .told) e
     where
-      cut : (meeting : Meeting) → MetBy t ks vs k r c κ meeting → isCut meeting ≡ true → 0 < k
+      cut : (meeting : Meeting) → MetBy t ks vs (blockAt k r c κ) meeting → isCut meeting ≡ true → 0 < k
       cut Apart y e = absurd (true≢false (sym e))
       cut (Leaf bits) y e = absurd (true≢false (sym e))
       cut (Content start count) y e = absurd (true≢false (sym e))

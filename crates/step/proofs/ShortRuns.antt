@@ -75,6 +75,6 @@ short-turns {m} {past} {start} {end} {ordered} {run} {ks} {vs} s some e found la
           (subst (λ l. SameBefore m past (giftsStep m (map againGift l)) (giftsStep m (map againGift es))) (sym parts) (less-last m past againGift again-key e v late es));
     }
 
--- a key by another sum
-pub short-by : {m : ℕ} (key : ℕ) {step step′ : ℕ} {run run′ : Run} {ks vs : List ℕ} → step ≡ step′ → ShortRun m (key + step) run run′ ks vs → ShortRun m (key + step′) run run′ ks vs
-short-by {m} key {run = run} {run′} {ks} {vs} e s = subst (λ x. ShortRun m (key + x) run run′ ks vs) e s
+-- a key by another name
+pub short-by : {m past past′ : ℕ} {run run′ : Run} {ks vs : List ℕ} → past ≡ past′ → ShortRun m past run run′ ks vs → ShortRun m past′ run run′ ks vs
+short-by {m} {run = run} {run′} {ks} {vs} e s = subst (λ x. ShortRun m x run run′ ks vs) e s

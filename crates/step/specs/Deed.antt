@@ -4,7 +4,8 @@ use mathlib.Core.Path.{_≡_}
 use mathlib.Core.Bool.{true}
 use mathlib.Core.List.{List}
 use Rattle.keys.specs.Block.{pixelKey}
-use Rattle.keys.specs.Under.{MapBlock}
+use Rattle.keys.specs.Child.{InMap}
+use Rattle.keys.specs.declared.block.TreeBlock.{TreeBlock}
 use Rattle.definitions.specs.Window.{inWindow}
 use Rattle.definitions.specs.declared.Window.{Window}
 use Rattle.list.specs.Check.{oneSlot}
@@ -27,8 +28,8 @@ pub record Painting (w : Window) (feature : ℕ) : Type 0 where
   pub slot : feature ≤ 31
 
 -- what it makes of a block, whatever log there is
-abbrev pub WindowMet : (w : Window) (feature height row column key : ℕ) → Meeting → Type 0
-WindowMet w f height row column key meeting = (ks vs : List ℕ) → Met (windowStep w f) ks vs height row column key meeting
+abbrev pub WindowMet : (w : Window) (feature : ℕ) (b : TreeBlock) → Meeting → Type 0
+WindowMet w f b meeting = (ks vs : List ℕ) → Met (windowStep w f) ks vs b meeting
 
 -- the step that a deed stands for
 abbrev pub stepOf : (m : ℕ) (deed : Deed) (logKeys logValues : List ℕ) → Step
@@ -43,9 +44,9 @@ Doable m (Back run) ks vs = EntriesIn m run ks vs
 Doable m (Again run) ks vs = EntriesIn m run ks vs
 
 -- a leaf's block of the map
-pub record LeafAsked (m own height row column key : ℕ) : Type 0 where
+pub record LeafAsked (m own : ℕ) (b : TreeBlock) : Type 0 where
   pub deep : m ≤ 10
-  pub block : MapBlock m height row column key
+  pub block : InMap m b
   pub leaf : oneSlot own ≡ true
 
 -- two steps do the same to every pixel whose key is below past

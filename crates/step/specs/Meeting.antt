@@ -4,7 +4,8 @@ use mathlib.Core.Path.{_≡_}
 use mathlib.Core.Bool.{Bool, true, false}
 use mathlib.Core.List.{List}
 use lib.ListN.{length}
-use Rattle.keys.specs.Under.{MapBlock}
+use Rattle.keys.specs.Child.{InMap}
+use Rattle.keys.specs.declared.block.TreeBlock.{TreeBlock}
 use Rattle.definitions.specs.Picture.{Picture}
 use Rattle.definitions.specs.List.{listOf}
 use Rattle.laws.proofs.Within.{Every}
@@ -14,10 +15,14 @@ use Rattle.step.specs.Step.{Step, stepOver}
 use Rattle.step.specs.declared.meeting.Meeting.{Meeting}
 use Rattle.step.specs.declared.meeting.Meeting.the-variants.{Apart, Leaf, Content, Cut}
 
+-- a block by its numbers
+abbrev pub blockAt : (height row column key : ℕ) → TreeBlock
+blockAt height row column key = record { height = height; row = row; column = column; key = key }
+
 -- a block of the map
-pub record BlockAsked (m height row column key : ℕ) : Type 0 where
+pub record BlockAsked (m : ℕ) (b : TreeBlock) : Type 0 where
   pub deep : m ≤ 10
-  pub block : MapBlock m height row column key
+  pub block : InMap m b
 
 -- the step touches none of its pixels
 abbrev pub Untouched : (t : Step) (height row column : ℕ) → Type 0
@@ -35,14 +40,14 @@ pub record ContentGiven (t : Step) (logKeys logValues : List ℕ) (height row co
   pub is : (p : Picture) → recordsFromPlace logKeys logValues start count ≡ listOf (stepOver t p) height row column key
 
 -- by cases
-abbrev pub MetBy : (t : Step) (logKeys logValues : List ℕ) (height row column key : ℕ) → Meeting → Type 0
-MetBy t ks vs height row column key Apart = Untouched t height row column
-MetBy t ks vs height row column key (Leaf bits) = OneLeaf t height row column bits
-MetBy t ks vs height row column key (Content start count) = ContentGiven t ks vs height row column key start count
-MetBy t ks vs height row column key Cut = 0 < height
+abbrev pub MetBy : (t : Step) (logKeys logValues : List ℕ) (b : TreeBlock) → Meeting → Type 0
+MetBy t ks vs b Apart = Untouched t (b .height) (b .row) (b .column)
+MetBy t ks vs b (Leaf bits) = OneLeaf t (b .height) (b .row) (b .column) bits
+MetBy t ks vs b (Content start count) = ContentGiven t ks vs (b .height) (b .row) (b .column) (b .key) start count
+MetBy t ks vs b Cut = 0 < b .height
 
-pub record Met (t : Step) (logKeys logValues : List ℕ) (height row column key : ℕ) (meeting : Meeting) : Type 0 where
-  pub told : MetBy t logKeys logValues height row column key meeting
+pub record Met (t : Step) (logKeys logValues : List ℕ) (b : TreeBlock) (meeting : Meeting) : Type 0 where
+  pub told : MetBy t logKeys logValues b meeting
 
 -- one look does not tell what becomes of the block
 abbrev pub isCut : Meeting → Bool

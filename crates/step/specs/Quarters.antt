@@ -1,14 +1,6 @@
 -- The quadrants of a block by its numbers. Only contracts need these. Rests on the keys.
-use Prim.Native.Nat.{ℕ, _+_, _-_, _*_, _^_, _≤_, _<_}
+use Prim.Native.Nat.{ℕ, _+_, _-_, _*_, _^_}
 use Rattle.step.specs.declared.quarters.Quarters.{Quarters}
-
--- a block that has quadrants, and whose numbers are those of a map
-pub record Divisible (height row column key : ℕ) : Type 0 where
-  pub positive : 0 < height
-  pub deep : height ≤ 10
-  pub rows : row + 2 ^ height ≤ 1024
-  pub columns : column + 2 ^ height ≤ 1024
-  pub keys : key + 5 ^ height ≤ 5 ^ 10
 
 abbrev pub quartersOf : (height row column key : ℕ) → Quarters
 quartersOf height row column key =

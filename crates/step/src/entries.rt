@@ -12,6 +12,7 @@ ghost use Rattle.step.specs.declared.meeting.Meeting.the-variants.{Apart
 ghost use Rattle.step.specs.Meeting.{BlockAsked, Met};
 use crate::meeting::Meeting;
 use crate::run::Run;
+use keys::block::TreeBlock;
 use keys::power;
 use keys::zeros;
 use list::check;
@@ -141,19 +142,16 @@ pub fn meeting_back(
     log_keys: &[u32],
     log_values: &[u32],
     m: u32,
-    height: u32,
-    row: u32,
-    column: u32,
-    key: u32,
+    block: TreeBlock,
 ) -> Meeting
-    requires { ⌜ EntriesIn m run (now «log_keys») (now «log_values») × BlockAsked m height row column key ⌝ }
-    ensures { λ r. ⌜ Met (backStep m run (now («log_keys» .entry)) (now («log_values» .entry))) (now («log_keys» .entry)) (now («log_values» .entry)) height row column key r ⌝ }
+    requires { ⌜ EntriesIn m run (now «log_keys») (now «log_values») × BlockAsked m block ⌝ }
+    ensures { λ r. ⌜ Met (backStep m run (now («log_keys» .entry)) (now («log_values» .entry))) (now («log_keys» .entry)) (now («log_values» .entry)) block r ⌝ }
 {
     let ordered = run.ordered;
     if ordered {
-        return by_last(true, run, log_keys, log_values, m, key);
+        return by_last(true, run, log_keys, log_values, m, block.key);
     }
-    by_first(run, log_keys, log_values, m, key)
+    by_first(run, log_keys, log_values, m, block.key)
 }
 
 // The same of one that is painted again.
@@ -162,13 +160,10 @@ pub fn meeting_again(
     log_keys: &[u32],
     log_values: &[u32],
     m: u32,
-    height: u32,
-    row: u32,
-    column: u32,
-    key: u32,
+    block: TreeBlock,
 ) -> Meeting
-    requires { ⌜ EntriesIn m run (now «log_keys») (now «log_values») × BlockAsked m height row column key ⌝ }
-    ensures { λ r. ⌜ Met (againStep m run (now («log_keys» .entry)) (now («log_values» .entry))) (now («log_keys» .entry)) (now («log_values» .entry)) height row column key r ⌝ }
+    requires { ⌜ EntriesIn m run (now «log_keys») (now «log_values») × BlockAsked m block ⌝ }
+    ensures { λ r. ⌜ Met (againStep m run (now («log_keys» .entry)) (now («log_values» .entry))) (now («log_keys» .entry)) (now («log_values» .entry)) block r ⌝ }
 {
-    by_last(false, run, log_keys, log_values, m, key)
+    by_last(false, run, log_keys, log_values, m, block.key)
 }

@@ -3,27 +3,20 @@ ghost use Rattle.step.specs.Deed.{Painting, WindowMet};
 ghost use Rattle.step.specs.Meeting.{BlockAsked};
 use crate::meeting::Meeting;
 use definitions::Window;
+use keys::block::TreeBlock;
 use keys::power;
 use walk::Spot;
 
 // What the window makes of it, whatever log there is: none is looked at.
-pub fn meeting(
-    window: Window,
-    feature: u32,
-    m: u32,
-    height: u32,
-    row: u32,
-    column: u32,
-    key: u32,
-) -> Meeting
-    requires { ⌜ Painting window feature × BlockAsked m height row column key ⌝ }
-    ensures { λ r. ⌜ WindowMet window feature height row column key r ⌝ }
+pub fn meeting(window: Window, feature: u32, m: u32, block: TreeBlock) -> Meeting
+    requires { ⌜ Painting window feature × BlockAsked m block ⌝ }
+    ensures { λ r. ⌜ WindowMet window feature block r ⌝ }
 {
-    let side = power::power_of_two(height);
+    let side = power::power_of_two(block.height);
     let spot = Spot {
-        key,
-        row,
-        column,
+        key: block.key,
+        row: block.row,
+        column: block.column,
         side,
         step: 0,
     };

@@ -1,7 +1,8 @@
 // The four quadrants of a block, told once for every function that goes down by them.
 ghost use mathlib.Core.Path.{_≡_};
 ghost use Prim.Native.Nat.{_+_};
-ghost use Rattle.step.specs.Quarters.{Divisible, quartersOf};
+ghost use Rattle.keys.specs.Child.{Divisible};
+ghost use Rattle.step.specs.Quarters.{quartersOf};
 use keys::power;
 
 // The height of the quadrants, how many keys each has, the row and the column where the southern and the eastern ones begin, and their keys.
@@ -17,7 +18,7 @@ pub struct Quarters {
 }
 
 pub fn of(height: u32, row: u32, column: u32, key: u32) -> Quarters
-    requires { ⌜ Divisible height row column key ⌝ }
+    requires { ⌜ Divisible (record { height = height; row = row; column = column; key = key }) ⌝ }
     ensures { λ r. ⌜ r ≡ quartersOf height row column key ⌝ }
 {
     let lower = height - 1;

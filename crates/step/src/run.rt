@@ -2,8 +2,11 @@
 ghost use mathlib.Core.Path.{_≡_};
 ghost use mathlib.Core.Bool.{true};
 ghost use Prim.Native.Nat.{_+_, _^_, _≤_};
+ghost use Rattle.keys.specs.Child.{KeysEnd};
 ghost use Rattle.step.specs.Runs.{EntriesIn, Between, descends, lastFirst};
 ghost use Rattle.step.specs.Deed.{ShortRun};
+use keys::block;
+use keys::block::TreeBlock;
 use keys::power;
 use keys::zeros;
 use log::entry;
@@ -50,11 +53,11 @@ pub fn run_of(m: u32, log_keys: &[u32], log_values: &[u32], start: usize, end: u
 }
 
 // The run without its last entries, as long as their keys are past a block's: they have no pixel of it, nor of what lies before it.
-pub fn up_to(m: u32, log_keys: &[u32], log_values: &[u32], run: Run, height: u32, key: u32) -> Run
-    requires { ⌜ EntriesIn m run (now «log_keys») (now «log_values») × (height ≤ 10) × (key + 5 ^ height ≤ 5 ^ 10) ⌝ }
-    ensures { λ r. ⌜ ShortRun m (key + 5 ^ height) run r (now («log_keys» .entry)) (now («log_values» .entry)) ⌝ }
+pub fn up_to(m: u32, log_keys: &[u32], log_values: &[u32], run: Run, block: TreeBlock) -> Run
+    requires { ⌜ EntriesIn m run (now «log_keys») (now «log_values») × KeysEnd block ⌝ }
+    ensures { λ r. ⌜ ShortRun m (block .key + 5 ^ block .height) run r (now («log_keys» .entry)) (now («log_values» .entry)) ⌝ }
 {
-    let past = key + power::power_of_five(height);
+    let past = block::end(block);
     let start = run.start;
     let ordered = run.ordered;
     let mut end = run.end;

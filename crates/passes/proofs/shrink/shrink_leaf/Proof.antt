@@ -22,11 +22,11 @@ mul-bits c = search needs
 slice-write-bits : tie.Need-slice-write-bits
 slice-write-bits c = search needs
 
-add-next : tie.Need-add-t15
-add-next c = search needs
+add-read : tie.Need-add-read
+add-read c = search needs
 
-add-place : tie.Need-add-t19
-add-place c = search needs
+add-write : tie.Need-add-write
+add-write c = search needs
 
 same-length : tie.Need-same-length
 same-length c = search needs
@@ -35,7 +35,7 @@ same-length-2 : tie.Need-same-length-2
 same-length-2 c = search needs
 
 returns : tie.Need-returns
-returns c = leaf-shrunk _ _ (c .before .before .before .before .before .before .pre .0 .1 .leaf) (c .before .tally-leaf .ensures) (c .bits-left .ensures)
+returns c = leaf-shrunk _ _ (c .before .before .before .before .before .before .before .pre .0 .1 .leaf) (c .before .before .tally-leaf .ensures) (c .before .bits-left .ensures)
 
 pub shrink-leaf-spec : {M : Type 1} → statement M
 shrink-leaf-spec =
@@ -47,8 +47,8 @@ shrink-leaf-spec =
     bits-left-requires
     mul-bits
     slice-write-bits
-    add-next
-    add-place
+    add-read
+    add-write
     same-length
     same-length-2
     returns)

@@ -1,6 +1,7 @@
 -- `settle_four` meets its contract: build's writing of four own records where the test of their union fails, else nothing.
 use mathlib.Core.Path.{_≡_, refl, sym, _∙_}
 use mathlib.Core.Bool.{false}
+use native.Mathlib.Omega.{arith}
 use borrow.Author.Needs.{needs}
 use Rattle.definitions.specs.Bits.{unionOfFour}
 use Rattle.list.specs.Check.{oneSlot}
@@ -28,8 +29,16 @@ returns c = settled-alike refl (sym (c .before .before .has-one-slot .ensures) �
 sub-place : tie.Need-sub-place
 sub-place c = start (c .before) .pre .some (several (c .before))
 
+sub-lower : tie.Need-sub-lower
+sub-lower c = start (c .before .before) .pre .positive
+
+power-of-five-requires : tie.Need-power-of-five-requires
+power-of-five-requires c κs = let a = start (c .before .before) .pre in omega (arith, a .deep)
+
 write-four-requires : tie.Need-write-four-requires
-write-four-requires c κs = let d = c .before .before .before in start d .pre .asked (several d)
+write-four-requires c κs =
+    let d = c .before .before .before .before .before in
+    rw (c .before .before .power-of-five .ensures) (start d .pre .asked (several d))
 
 same-length : tie.Need-same-length
 same-length c = search needs
@@ -40,7 +49,8 @@ same-length-2 c = search needs
 returns-2 : tie.Need-returns-2
 returns-2 c =
     let w = c .before .before .before .before in
-    settled-apart (w .write-four .ensures) (several (w .before .before .before .before))
+    let p = w .before .before .before in
+    settled-apart (p .power-of-five .ensures) (w .write-four .ensures) (several (p .before .before .before))
 
 pub settle-four-spec : {M : Type 1} → statement M
 settle-four-spec =
@@ -50,6 +60,8 @@ settle-four-spec =
     one-before-requires
     returns
     sub-place
+    sub-lower
+    power-of-five-requires
     write-four-requires
     same-length
     same-length-2

@@ -9,19 +9,19 @@ abbrev start : tie.After-slice-known4 → tie.Start
 start c = c .before .before .before .before .before .before .before .before .before .before .before
 
 spread-requires : tie.Need-spread-requires
-spread-requires c κs = let s = c .before .before .before .before .before .before .pre in (s .0, leaf-fits (s .1) (s .0 .1 .deep) (s .0 .1 .block))
+spread-requires c κs = let s = c .before .before .before .before .before .before .pre in (s .0, leaf-fits _ (s .1) (s .0 .1 .deep) (s .0 .1 .block))
 
 mul-keys : tie.Need-mul-keys
 mul-keys c = search needs
 
 slice-write-keys : tie.Need-slice-write-keys
-slice-write-keys c = leaf-room (start c .pre .1) (c .before .before .before .before .spread .ensures) .0
+slice-write-keys c = leaf-room _ (start c .pre .1) (c .before .before .before .before .spread .ensures) .0
 
 mul-bits : tie.Need-mul-bits
 mul-bits c = search needs
 
 slice-write-bits : tie.Need-slice-write-bits
-slice-write-bits c = leaf-room (start c .pre .1) (c .before .before .before .before .spread .ensures) .1
+slice-write-bits c = leaf-room _ (start c .pre .1) (c .before .before .before .before .spread .ensures) .1
 
 same-length : tie.Need-same-length
 same-length c = search needs
@@ -30,7 +30,7 @@ same-length-2 : tie.Need-same-length-2
 same-length-2 c = search needs
 
 returns : tie.Need-returns
-returns c = leaf-wrote (start c .pre .1) (c .before .before .before .before .spread .ensures)
+returns c = leaf-wrote _ (start c .pre .1) (c .before .before .before .before .spread .ensures)
 
 pub write-leaf-spec : {M : Type 1} → statement M
 write-leaf-spec =

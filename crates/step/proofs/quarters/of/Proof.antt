@@ -1,7 +1,7 @@
 -- `of` meets its contract.
 use native.Mathlib.Omega.{arith}
 use borrow.Author.Needs.{needs}
-use Rattle.step.proofs.QuarterSums.{sums, are-quarters}
+use Rattle.step.proofs.QuarterSums.{small-sums, are-quarters}
 use Rattle.step.proofs.quarters.of.Statement.{statement}
 use Rattle.step.proofs.quarters.of.Tie as tie
 
@@ -15,31 +15,31 @@ power-of-five-requires : tie.Need-power-of-five-requires
 power-of-five-requires c κs = search needs
 
 add-t8 : tie.Need-add-t8
-add-t8 c = let h = sums (c .before .before .pre) (c .before .power-of-two .ensures) (c .power-of-five .ensures) in omega (arith, h)
+add-t8 c = let h = small-sums (c .before .before .pre) (c .before .power-of-two .ensures) (c .power-of-five .ensures) in omega (arith, h)
 
 add-t9 : tie.Need-add-t9
-add-t9 c = let h = sums (c .before .before .pre) (c .before .power-of-two .ensures) (c .power-of-five .ensures) in omega (arith, h)
+add-t9 c = let h = small-sums (c .before .before .pre) (c .before .power-of-two .ensures) (c .power-of-five .ensures) in omega (arith, h)
 
 add-t10 : tie.Need-add-t10
-add-t10 c = let h = sums (c .before .before .pre) (c .before .power-of-two .ensures) (c .power-of-five .ensures) in omega (arith, h)
+add-t10 c = let h = small-sums (c .before .before .pre) (c .before .power-of-two .ensures) (c .power-of-five .ensures) in omega (arith, h)
 
 mul-t11 : tie.Need-mul-t11
-mul-t11 c = let h = sums (c .before .before .pre) (c .before .power-of-two .ensures) (c .power-of-five .ensures) in omega (arith, h)
+mul-t11 c = let h = small-sums (c .before .before .pre) (c .before .power-of-two .ensures) (c .power-of-five .ensures) in omega (arith, h)
 
 add-t12 : tie.Need-add-t12
-add-t12 c = let h = sums (c .before .before .pre) (c .before .power-of-two .ensures) (c .power-of-five .ensures) in omega (arith, h)
+add-t12 c = let h = small-sums (c .before .before .pre) (c .before .power-of-two .ensures) (c .power-of-five .ensures) in omega (arith, h)
 
 mul-t13 : tie.Need-mul-t13
-mul-t13 c = let h = sums (c .before .before .pre) (c .before .power-of-two .ensures) (c .power-of-five .ensures) in omega (arith, h)
+mul-t13 c = let h = small-sums (c .before .before .pre) (c .before .power-of-two .ensures) (c .power-of-five .ensures) in omega (arith, h)
 
 add-t14 : tie.Need-add-t14
-add-t14 c = let h = sums (c .before .before .pre) (c .before .power-of-two .ensures) (c .power-of-five .ensures) in omega (arith, h)
+add-t14 c = let h = small-sums (c .before .before .pre) (c .before .power-of-two .ensures) (c .power-of-five .ensures) in omega (arith, h)
 
 mul-t15 : tie.Need-mul-t15
-mul-t15 c = let h = sums (c .before .before .pre) (c .before .power-of-two .ensures) (c .power-of-five .ensures) in omega (arith, h)
+mul-t15 c = let h = small-sums (c .before .before .pre) (c .before .power-of-two .ensures) (c .power-of-five .ensures) in omega (arith, h)
 
 add-t16 : tie.Need-add-t16
-add-t16 c = let h = sums (c .before .before .pre) (c .before .power-of-two .ensures) (c .power-of-five .ensures) in omega (arith, h)
+add-t16 c = let h = small-sums (c .before .before .pre) (c .before .power-of-two .ensures) (c .power-of-five .ensures) in omega (arith, h)
 
 returns : tie.Need-returns
 returns c = let q = c .before .before in are-quarters (q .pre) (c .before .power-of-two .ensures) (c .power-of-five .ensures)

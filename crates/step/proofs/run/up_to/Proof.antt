@@ -8,17 +8,14 @@ use Rattle.step.proofs.run.up_to.Statement.{statement}
 use Rattle.step.proofs.run.up_to.Tie as tie
 
 abbrev Inv-loop : tie.InvT-loop
-Inv-loop m log-keys log-values height key past start ordered end₀ end =
+Inv-loop m log-keys log-values past start ordered end₀ end =
     ShortRun m past (record { start = start; end = end₀; ordered = ordered }) (record { start = start; end = end; ordered = ordered }) log-keys log-values
 
 abbrev μ-loop : tie.MeasureT-loop
-μ-loop m log-keys log-values height key past start ordered end₀ end = end
+μ-loop m log-keys log-values past start ordered end₀ end = end
 
-power-of-five-requires : tie.Need-power-of-five-requires Inv-loop μ-loop
-power-of-five-requires c κs = search needs
-
-add-past : tie.Need-add-past Inv-loop μ-loop
-add-past c = search needs
+end-requires : tie.Need-end-requires Inv-loop μ-loop
+end-requires c κs = search needs
 
 loop-holds : tie.Need-loop-holds Inv-loop μ-loop
 loop-holds c = short-begins _ (c .before .before .before .pre .0)
@@ -33,10 +30,10 @@ loop-again : tie.Need-loop-again Inv-loop μ-loop
 loop-again c = short-turns (c .before .before .before .before .loop .inv) (c .before .before .before .loop-test .taken) _ (c .before .before .last-entry .ensures) (c .if1 .left)
 
 returns : tie.Need-returns Inv-loop μ-loop
-returns c = short-by _ (c .before .before .power-of-five .ensures) (c .before .loop .inv)
+returns c = short-by (c .before .before .end .ensures) (c .before .loop .inv)
 
 returns-2 : tie.Need-returns-2 Inv-loop μ-loop
-returns-2 c = short-by _ (c .before .before .before .before .before .power-of-five .ensures) (c .before .before .before .before .loop .inv)
+returns-2 c = short-by (c .before .before .before .before .before .end .ensures) (c .before .before .before .before .loop .inv)
 
 pub up-to-spec : {M : Type 1} → statement M
 up-to-spec =
@@ -44,8 +41,7 @@ up-to-spec =
     (tie.spec
     Inv-loop
     μ-loop
-    power-of-five-requires
-    add-past
+    end-requires
     loop-holds
     last-entry-requires
     loop-less
