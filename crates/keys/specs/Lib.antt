@@ -1,5 +1,5 @@
 pub mod Key
 pub mod Block
 pub mod Under
-pub mod Span
 pub mod Child
+pub mod Span
