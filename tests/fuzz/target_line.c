@@ -226,6 +226,8 @@ static const char *const commands[][16] = {
     { "get", "L", "rules", "--json" },
     { "get", "L", "waivers", "x.csv" },
     { "get", "L", "prices", "-", "--json" },
+    { "findings", "L", "--picture", "x.png" },
+    { "change", "L", "s", "s", "pairs.csv", "--else", "1", "--as", "" },
 };
 enum { KNOWN = sizeof commands / sizeof *commands };
 
