@@ -148,10 +148,7 @@ static void cut(intake *in) {
 
 /* The file's name without folder and ending. */
 static char *survey_name(const arguments *a) {
-    if (a->given[OPTION_AS]) {
-        if (!*value_of(a, OPTION_AS)) fail(STATUS_USAGE, "--as: a survey has a name");
-        return text_of("%s", value_of(a, OPTION_AS));
-    }
+    if (a->given[OPTION_AS]) return text_of("%s", value_of(a, OPTION_AS));
     const char *slash = strrchr(a->words[1], '/'), *base = slash ? slash + 1 : a->words[1];
     const char *dot = strrchr(base, '.');
     if (strcmp(base, "-") == 0) return text_of("survey");
@@ -159,6 +156,7 @@ static char *survey_name(const arguments *a) {
 }
 
 void need_free_name(line *l, const char *name) {
+    if (!*name) fail(STATUS_USAGE, "--as: a survey has a name");
     if (number_from_sql(l, 0, "SELECT count(*) FROM surveys WHERE name = ?", "t", name))
         fail(STATUS_USAGE, "%s has a survey '%s'; --as NAME gives another name", l->path, name);
 }

@@ -9,6 +9,10 @@
 #include <stdlib.h>
 #include <string.h>
 
+/* Short stacks of memory, and little of it kept after it was given back: most of the time goes there. */
+const char *__asan_default_options(void);
+const char *__asan_default_options(void) { return "detect_leaks=0:malloc_context_size=2:quarantine_size_mb=1"; }
+
 /* The two copies of a buffer of numbers that a call writes: the library's and the reference's. */
 typedef struct {
     uint32_t *ours, *theirs;

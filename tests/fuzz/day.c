@@ -11,8 +11,8 @@ static void write_words(const char *name, const char *words) {
 
 /* A survey so wide that its page has a picture for each sheet. */
 static void write_wide(void) {
-    char bytes[13 + 2080] = "P5\n2080 1\n7\n";
-    for (int i = 0; i < 2080; i++) bytes[13 + i] = (char)(i % 1000 < 3);
+    char bytes[12 + 2080] = "P5\n2080 1\n7\n";
+    for (int i = 0; i < 2080; i++) bytes[12 + i] = (char)(i % 1000 < 3);
     write_bytes("wide.pgm", bytes, sizeof bytes);
     keep_file("wide.pgm");
 }
@@ -45,6 +45,7 @@ static void write_tables(void) {
                                  "exist,9,9,1,1,3\nexist,3,3,4,4,77\n");
     write_words("pairs.csv", "old,new,class\n0,0,0\nwood,1,1\n2,2,2\n");
     write_words("places.csv", "office,rule,place,note\n0,3,1,old\n1,3,0,\n");
+    write_words("greys.csv", "class,name,grey\n0,a,0 1\n1,b,2\n");
     write_words("wide.csv", "office,id,row,column,height,width,class\n0,1,0,0,1,2080,1\n");
 }
 

@@ -72,8 +72,8 @@ int LLVMFuzzerTestOneInput(const uint8_t *bytes, size_t size) {
     input in = { bytes, size };
     uint8_t how = take_byte(&in), settings = take_byte(&in);
     uint32_t m = settings % 5, s = how & 1 ? 2 : 1 + settings / 5 % 33;
-    if (how & 4) m = settings & 15, s = settings >> 4; /* out of range too, and deep */
-    if (m > 5 && m <= HLQ_DEEPEST_M && how & 8) m = 11;
+    if (how & 4) m = settings & 15, s = settings >> 4; /* out of range too; deep maps are slow in the reference */
+    if (m > 5 && m <= HLQ_DEEPEST_M) m = how & 8 ? HLQ_DEEPEST_M + 1 : 5;
     size_t room = how & 2 ? HLQ_MOST_RECORDS(m < 6 ? m : 0) : how >> 4;
     if (how & 1) read_bit_strings(&in, m, s, room);
     else read_leaves(&in, m, s, room, how & 32);

@@ -50,9 +50,9 @@ static void load_log(const uint8_t *file, size_t size, size_t keys_room, size_t 
 int LLVMFuzzerTestOneInput(const uint8_t *bytes, size_t size) {
     input in = { bytes, size };
     uint8_t how = take_byte(&in);
-    /* ample, or short by some; deep maps are slow, and seldom tried */
+    /* ample, or short by some; deep maps are slow in the reference, which scans their rasters */
     size_t ample = in.left / 6 + 1, room = how & 2 ? ample : how >> 4;
-    if (in.left > 5 && in.at[5] > 4 && in.at[5] < 11 && !(how & 4)) return 0;
+    if (in.left > 5 && in.at[5] > 4 && in.at[5] <= HLQ_DEEPEST_M) return -1;
     uint8_t *file = exactly(in.at, in.left);
     if (how & 1) load_log(file, in.left, room, how & 8 ? room + 1 : room);
     else load_list(file, in.left, room, how & 8 ? room + 1 : room);

@@ -1,6 +1,7 @@
 /* LINE.gpkg: random bytes are no database, so the input is a list of changes to a sound one (numbers, texts and blobs
  * in its tables, rows that go and come, tables that go), and then commands that run on it. A sheet's digest may be
  * made right again, so that its list and its log are looked at behind it. */
+#define _DEFAULT_SOURCE
 #include "in_process.h"
 
 #include <sqlite3.h>
@@ -225,8 +226,24 @@ static const char *const commands[][16] = {
     { "get", "L", "rules", "--json" },
     { "get", "L", "waivers", "x.csv" },
     { "get", "L", "prices", "-", "--json" },
+    { "findings", "L", "--picture", "x.png" },
+    { "change", "L", "s", "s", "pairs.csv", "--else", "1", "--as", "" },
 };
 enum { KNOWN = sizeof commands / sizeof *commands };
+
+/* The file's bytes, where a command that is refused must leave them. What was made in part (73, 74) may have counted
+ * before; where memory ends, so may all. */
+static void run_and_compare(const char *line, int count, const char *const *words, int json) {
+    size_t length, after_length;
+    uint8_t *before = read_bytes(line, &length);
+    told t = run_words(count, words);
+    uint8_t *after = read_bytes(line, &after_length);
+    if (t.status && t.status != 32 && t.status < 71)
+        must(after_length == length && memcmp(before, after, length) == 0, "a refused command changes the line");
+    if (t.status == 0 && json) must_be_json(&t);
+    free(before);
+    free(after);
+}
 
 /* A command with the input's numbers in it. */
 static void run_command(const char *line, input *in) {
@@ -244,19 +261,37 @@ static void run_command(const char *line, input *in) {
         else words[count] = form[count];
         json |= strcmp(form[count], "--json") == 0;
     }
-    told t = run_words(count, words);
-    if (t.status == 0 && json) must_be_json(&t);
+    run_and_compare(line, count, words, json);
 }
 
-/* Where check finds the line sound, what asks the ground alone is answered. */
-static void ask_sound(const char *line) {
+static char *grid_of(const char *line) { return strdup(MUST_RUN("export", line, "grid", "-").answer); }
+
+/* Where check finds the line sound, what asks the ground alone is answered, and a paint can be taken back and redone:
+ * the ground is then what it was before, and what it was after. */
+static void ask_sound(const char *line, input *in) {
+    char words[5][24];
     told t = RUN("check", line);
     if (t.status) return;
     t = RUN("info", line, "--json");
-    if (strstr(t.answer, "\"surveys\": []")) return;
-    MUST_RUN("export", line, "grid", "-");
+    if (t.status || strstr(t.answer, "\"surveys\": []")) return;
     t = MUST_RUN("areas", line, "--json");
     must_be_json(&t);
+    char *before = grid_of(line);
+    for (int i = 0; i < 5; i++) snprintf(words[i], sizeof words[i], "%lld", (long long)take_number(in));
+    t = RUN("paint", line, words[0], words[1], words[2], words[3], words[4]);
+    if (t.status == 0) {
+        char *after = grid_of(line);
+        MUST_RUN("check", line);
+        MUST_RUN("undo", line);
+        char *undone = grid_of(line);
+        MUST_RUN("redo", line);
+        char *redone = grid_of(line);
+        must(strcmp(before, undone) == 0 && strcmp(after, redone) == 0, "a paint is not taken back or not redone");
+        free(after);
+        free(undone);
+        free(redone);
+    }
+    free(before);
 }
 
 int LLVMFuzzerTestOneInput(const uint8_t *bytes, size_t size) {
@@ -265,7 +300,7 @@ int LLVMFuzzerTestOneInput(const uint8_t *bytes, size_t size) {
     const char *line = how & 1 ? "one.gpkg" : "day.gpkg";
     change_line(line, &in);
     if (how & 64) change_pages(line, &in);
-    if (how & 2) ask_sound(line);
+    if (how & 2) ask_sound(line, &in);
     memory_ends_at = how & 4 ? 1 + take_byte(&in) : 0;
     on_terminal = how & 8;
     for (unsigned i = 1 + (how >> 4 & 3); i > 0; i--) run_command(line, &in);
