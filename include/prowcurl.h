@@ -51,8 +51,8 @@
  *
  * Stack: at most HLQ_STACK_BYTES, its arguments included. (Measured by tests/c/test_stack.c with
  * every call at m = HLQ_DEEPEST_M, and rounded up.)
- * Threads: calls may run in parallel, as long as none writes a buffer that another one uses. The
- * archive has no data of its own.
+ * Threads: calls may run in parallel, and in a signal handler that comes upon another call, as long
+ * as none writes a buffer that another one uses. The archive has no data of its own.
  * Symbols: the archive wants memcpy and memset, and nothing else.
  */
 #ifndef PROWCURL_H

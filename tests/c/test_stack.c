@@ -1,12 +1,16 @@
 /* How much stack each call needs, at the deepest m and the most slots: the calls run on a stack of our own that was
- * filled with a pattern, and the lowest place that has lost it tells. Fails where that passes HLQ_STACK_BYTES. */
-#define _XOPEN_SOURCE 700
+ * filled with a pattern, and the lowest place that has lost it tells. Fails where that passes HLQ_STACK_BYTES. Then all
+ * run once more, on a stack of exactly so many bytes below which nothing is mapped. */
+#define _GNU_SOURCE
 #include "prowcurl.h"
 
+#include <signal.h>
 #include <stdio.h>
 #include <stdlib.h>
 #include <string.h>
+#include <sys/mman.h>
 #include <ucontext.h>
+#include <unistd.h>
 
 enum {
     M = HLQ_DEEPEST_M,
@@ -203,24 +207,57 @@ static void on_the_stack(void) {
     running();
 }
 
-/* main runs everything with two patterns, since a call may itself write the one where it goes deepest. */
-static void measure(int which, uint8_t pattern) {
-    memset(stack, pattern, STACK);
+/* Where the pattern is this one, the call runs on the narrow stack. */
+enum { NARROW = 0 };
+static uint8_t *narrow;
+static const char *now = "none";
+
+static void run_on(uint8_t *at, size_t size, int which) {
     if (getcontext(&inside) != 0) abort();
-    inside.uc_stack.ss_sp = stack;
-    inside.uc_stack.ss_size = STACK;
+    inside.uc_stack.ss_sp = at;
+    inside.uc_stack.ss_size = size;
     inside.uc_link = &outside;
-    running = calls[which].run;
+    running = calls[which].run, now = calls[which].name;
     makecontext(&inside, on_the_stack, 0);
     if (swapcontext(&outside, &inside) != 0) abort();
+    if (refusal != HLQ_ACCEPTED) {
+        printf("FAILED: %s was refused: %s\n", now, hlq_refusal_text(refusal));
+        exit(1);
+    }
+}
+
+/* A call may itself write the pattern where it goes deepest: there are two, and the narrow stack has the last word. */
+static void measure(int which, uint8_t pattern) {
+    if (pattern == NARROW) {
+        run_on(narrow, HLQ_STACK_BYTES, which);
+        return;
+    }
+    memset(stack, pattern, STACK);
+    run_on(stack, STACK, which);
     size_t untouched = 0;
     while (untouched < STACK && stack[untouched] == pattern) untouched++;
     size_t depth = (size_t)(caller - (stack + untouched));
     if (depth > calls[which].deepest) calls[which].deepest = depth;
-    if (refusal != HLQ_ACCEPTED) {
-        printf("FAILED: %s was refused: %s\n", calls[which].name, hlq_refusal_text(refusal));
-        exit(1);
-    }
+}
+
+static void below_the_stack(int number) {
+    static const char words[] = "FAILED: below a stack of HLQ_STACK_BYTES: ";
+    (void)!write(1, words, sizeof words - 1);
+    (void)!write(1, now, strlen(now));
+    (void)!write(1, "\n", 1);
+    _exit(number);
+}
+
+/* The narrow stack, with a page before it that is not mapped, and a handler that has a stack of its own. */
+static void make_narrow_stack(void) {
+    static uint8_t for_handler[1 << 16];
+    size_t page = (size_t)sysconf(_SC_PAGESIZE), length = (HLQ_STACK_BYTES / page + 1) * page;
+    uint8_t *at = mmap(NULL, page + length, PROT_NONE, MAP_PRIVATE | MAP_ANONYMOUS, -1, 0);
+    stack_t handler = { .ss_sp = for_handler, .ss_size = sizeof for_handler };
+    struct sigaction action = { .sa_handler = below_the_stack, .sa_flags = SA_ONSTACK };
+    narrow = at + page;
+    if (at == MAP_FAILED || mprotect(narrow, length, PROT_READ | PROT_WRITE) != 0) abort();
+    if (sigaltstack(&handler, NULL) != 0 || sigaction(SIGSEGV, &action, NULL) != 0) abort();
 }
 
 static void ask_window(uint32_t a, uint32_t b, uint32_t c, uint32_t d, uint8_t pattern) {
@@ -311,6 +348,7 @@ static uint32_t below(uint32_t limit) {
 }
 
 int main(void) {
+    make_narrow_stack();
     for (size_t i = 0; i < sizeof table; i++) table[i] = (uint8_t)((i / S + i % S) % S);
     for (int kind = 0; kind < 4; kind++) {
         memset(raster, 3, PIXELS);
@@ -319,14 +357,14 @@ int main(void) {
             if (kind == 2) raster[i] = (uint8_t)((i ^ i >> M) & 1);
             if (kind == 3 && below(5000) == 0) raster[i] = (uint8_t)below(S);
         }
-        every_call(0xA5);
-        every_call(0x5A);
+        every_call(kind % 2 ? 0xA5 : 0x5A);
+        every_call(NARROW);
     }
     size_t deepest = 0;
     for (int i = 0; i < CALLS; i++) {
         printf("  %-14s %5zu bytes of stack\n", calls[i].name, calls[i].deepest);
         if (calls[i].deepest > deepest) deepest = calls[i].deepest;
     }
-    printf("stack: %zu bytes at most; the header says %d\n", deepest, HLQ_STACK_BYTES);
+    printf("stack: %zu bytes at most; the header says %d, and all calls ran in that\n", deepest, HLQ_STACK_BYTES);
     return deepest > HLQ_STACK_BYTES;
 }
