@@ -5,8 +5,7 @@ use crate::measure::area_in;
 use definitions::Measured;
 use definitions::Window;
 use definitions::refusal::Refusal;
-use list::refusal::first_refusal;
-use summary::check::is_summary;
+use summary::check::first_refusal;
 use walk::bounds::is_window;
 
 // Refusals 1, 4, 18, 6 and 7, or 0.
@@ -22,12 +21,9 @@ fn area_refusal(
 ) -> u64
     ensures { λ r. ⌜ r ≡ areaRefusal m s (now (keys .entry)) (now (bits .entry)) n (now (summary .entry)) window feature ⌝ }
 {
-    let refusal = first_refusal(m, s, keys, bits, n);
+    let refusal = first_refusal(m, s, keys, bits, n, summary);
     if refusal != 0 {
         return refusal;
-    }
-    if !is_summary(m, s, keys, bits, n, summary) {
-        return Refusal::SUMMARY;
     }
     if !is_window(m, window) {
         return Refusal::WINDOW;

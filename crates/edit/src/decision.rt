@@ -3,11 +3,9 @@ ghost use mathlib.Core.Path.{_≡_};
 ghost use Rattle.edit.specs.EditCallChecks.{editRefusal};
 use crate::logging::Former;
 use definitions::refusal::Refusal;
-use list::check;
-use list::settings;
 use log::entry::Entry;
 use put::plan::Plan;
-use summary::check as counts;
+use summary::check::first_refusal;
 
 // An edit is refused, or it goes by an entry of the log, which it takes back or redoes, and by a plan for the list.
 pub enum Decision {
@@ -37,14 +35,9 @@ pub fn edit_refusal(
     ensures { λ r. ⌜ r ≡ editRefusal m s (now (keys .entry)) (now (bits .entry)) n (now (summary .entry))
         (now («log_keys» .entry)) (now («log_values» .entry)) used «in_force» ⌝ }
 {
-    if settings::are_bad(m, s) {
-        return Refusal::SETTINGS;
-    }
-    if !check::is_list(m, s, keys, bits, n) {
-        return Refusal::LIST;
-    }
-    if !counts::is_summary(m, s, keys, bits, n, summary) {
-        return Refusal::SUMMARY;
+    let refusal = first_refusal(m, s, keys, bits, n, summary);
+    if refusal != 0 {
+        return refusal;
     }
     if !log::is_log(m, s, log_keys, log_values, used, in_force) {
         return Refusal::LOG;

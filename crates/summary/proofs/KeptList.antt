@@ -20,13 +20,13 @@ use Rattle.list.specs.Check.{stepUnder}
 use Rattle.list.specs.Own.{OwnList, shownBy}
 use Rattle.list.specs.Among.{placeAmong}
 use Rattle.list.proofs.Content.{Stand, keys-length, bits-length, root-valid, root-list, many-records}
-use Rattle.summary.specs.Kept.{KeptAt, Kept, Shared, KeepAsked, KeepAnswered, FirstNode}
+use Rattle.summary.specs.Kept.{RowKept, RowsKept, Shared, KeepingAsked, KeepingAnswered, FirstNode}
 use Rattle.summary.proofs.CountBlock.{node-counts}
 use Rattle.summary.proofs.BlockNumbers.{number-most, key-valid, key-height}
 use Rattle.summary.proofs.PassTurn.{step-of}
 
 -- at first nothing is kept
-pub none-kept : (bits : List ℕ) (area : ℕ) (row : List ℕ) → Kept bits area (replicate 16 row) (replicate 16 0)
+pub none-kept : (bits : List ℕ) (area : ℕ) (row : List ℕ) → RowsKept bits area (replicate 16 row) (replicate 16 0)
 none-kept bits area row = record {
   rows-long = length-replicate {A = List ℕ} 16 row;
   places-long = length-replicate {A = ℕ} 16 0;
@@ -52,8 +52,8 @@ module _ {m s : ℕ} {K B : List ℕ} {n : ℕ} (first : FirstNode s K B n) wher
   first-stand = record { some = first .some; in-keys = first .in-keys; in-bits = first .in-bits; valid = root-valid m }
 
   module _ {step area : ℕ} (low : 4 ≤ m) (deep : m ≤ 10) (e : step ≡ 5 ^ (m - 1)) (f : area ≡ 4 ^ summaryHeight m) where
-    pub root-asked : {rows : List (List ℕ)} {places : List ℕ} → Kept (take n B) (4 ^ summaryHeight m) rows places
-        → KeepAsked (take n K) (take n B) rows places 0 0 (getD B 0 0) step area 0 16
+    pub root-asked : {rows : List (List ℕ)} {places : List ℕ} → RowsKept (take n B) (4 ^ summaryHeight m) rows places
+        → KeepingAsked (take n K) (take n B) rows places 0 0 (getD B 0 0) step area 0 16
     root-asked k =
         let a = keys-length (first-stand) in
         let b = bits-length (first-stand) in
@@ -74,7 +74,7 @@ module _ {m s : ℕ} {K B : List ℕ} {n : ℕ} (first : FirstNode s K B n) wher
           kept = rw f k;
         }
 
-    pub root-checked : {rows : List (List ℕ)} {places : List ℕ} {place : ℕ} → KeepAnswered (take n K) (take n B) rows places 0 0 (getD B 0 0) step area place
+    pub root-checked : {rows : List (List ℕ)} {places : List ℕ} {place : ℕ} → KeepingAnswered (take n K) (take n B) rows places 0 0 (getD B 0 0) step area place
         → eqb place n ≡ isList m s K B n
     root-checked {place = place} x =
         let up : m ≡ suc (m - 1) = omega arith in
@@ -82,8 +82,8 @@ module _ {m s : ℕ} {K B : List ℕ} {n : ℕ} (first : FirstNode s K B n) wher
         (many-records first-stand s (first .root) (first .small) place (first .several)
         (x .checked _ (step-of (m - 1) step e ∙ ap stepUnder (sym up ∙ sym (height-zero m)))))
 
-    pub root-kept : {rows : List (List ℕ)} {places : List ℕ} {place : ℕ} → KeepAnswered (take n K) (take n B) rows places 0 0 (getD B 0 0) step area place
-        → Kept (take n B) (4 ^ summaryHeight m) rows places
+    pub root-kept : {rows : List (List ℕ)} {places : List ℕ} {place : ℕ} → KeepingAnswered (take n K) (take n B) rows places 0 0 (getD B 0 0) step area place
+        → RowsKept (take n B) (4 ^ summaryHeight m) rows places
     root-kept x = rw f at (x .kept)
 
 -- the records of the first n places alone
@@ -100,7 +100,7 @@ module _ {m : ℕ} {K B : List ℕ} {n : ℕ} (o : OwnList m K B n) where
 
   -- what is kept of a block are its counts
   pub kept-counts : {b key at : ℕ} {row : List ℕ} → b < 4 ^ summaryLevel m → key ≡ blockKey m b → at ≡ placeAmong key (take n K)
-      → KeptAt (take n B) (4 ^ summaryHeight m) at row
+      → RowKept (take n B) (4 ^ summaryHeight m) at row
       → row ≡ countsOf 32 (shownBy m K B n) (summaryHeight m) (rowOf m (blockKey m b)) (columnOf m (blockKey m b))
   kept-counts {b} {key} {at} {row} h e is x =
       let valid = key-valid m b h in

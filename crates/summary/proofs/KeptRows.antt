@@ -1,5 +1,4 @@
--- What the pass keeps of the blocks of a summary: how a block is kept, and the turns over the children of a node above the blocks. Rests on PassTurn and
--- list's Turn.
+-- What the pass keeps of the blocks of a summary: how a block is kept, and the turns over the children of a node above the blocks. Rests on list's Turn.
 use Prim.Native.Nat.{ℕ, zero, suc, _+_, _-_, _*_, _/_, _^_, _≤_, _<_}
 use mathlib.Core.Path.{_≡_, refl, sym, _∙_, ap, ap₂}
 use mathlib.Core.Bool.{true, false}
@@ -15,7 +14,7 @@ use Rattle.list.specs.Check.{oneSlot}
 use Rattle.list.proofs.Turn as check
 use Rattle.summary.specs.Count.{CountersFit, NodeCounted}
 use Rattle.summary.specs.Pass.{NodeThere, OneHeight, PassAsked, PassAnswered}
-use Rattle.summary.specs.Kept.{KeptAt, Kept, Shared, KeepAsked, KeepAnswered}
+use Rattle.summary.specs.Kept.{RowKept, RowsKept, Shared, KeepingAsked, KeepingAnswered}
 
 -- counters that are all 0 have room
 pub none-fit : (area : ℕ) → area ≤ 4 ^ 10 → CountersFit (replicate 32 0) area
@@ -48,9 +47,9 @@ child-shared step area share s many = go (s .up) (s .blocks) (s .steps)
         (record { up = u; height = s .height; blocks = omega arith; steps = omega arith; pixels = s .pixels; small = s .small }, omega arith)
 
 -- one block more is kept
-pub kept-more : {B : List ℕ} {area : ℕ} {rows : List (List ℕ)} {places : List ℕ} (b at : ℕ) (counts : List ℕ) → Kept B area rows places → b < 16
-    → KeptAt B area at counts
-    → Kept B area (set rows b counts) (set places b at)
+pub kept-more : {B : List ℕ} {area : ℕ} {rows : List (List ℕ)} {places : List ℕ} (b at : ℕ) (counts : List ℕ) → RowsKept B area rows places → b < 16
+    → RowKept B area at counts
+    → RowsKept B area (set rows b counts) (set places b at)
 kept-more {B} {area} {rows} {places} b at counts k h x = record {
   rows-long = length-set rows b counts ∙ k .rows-long;
   places-long = length-set places b at ∙ k .places-long;
@@ -67,17 +66,17 @@ kept-more {B} {area} {rows} {places} b at counts k h x = record {
       rw (row, place) (k .known i below (λ z. some (place ∙ z))));
 }
 
-module _ {K B : List ℕ} {rows : List (List ℕ)} {places : List ℕ} {at key own step area b : ℕ} (asked : KeepAsked K B rows places at key own step area b 1) where
+module _ {K B : List ℕ} {rows : List (List ℕ)} {places : List ℕ} {at key own step area b : ℕ} (asked : KeepingAsked K B rows places at key own step area b 1) where
   pub block-asked : PassAsked K B (replicate 32 0) at key own step area × (5 ≤ step)
   block-asked =
       let l = block-level step area (asked .shared) in
       (record { node = asked .node; level = l .0; room = none-fit area (asked .shared .small) }, l .1)
 
   module _ {counts : List ℕ} {place : ℕ} (x : PassAnswered K B (replicate 32 0) counts at key own step area place) where
-    pub block-wrong : place ≡ 0 → KeepAnswered K B rows places at key own step area 0
+    pub block-wrong : place ≡ 0 → KeepingAnswered K B rows places at key own step area 0
     block-wrong e = record { within = omega arith; checked = λ k s. sym e ∙ x .checked k s; kept = asked .kept }
 
-    pub block-kept : (place ≡ 0 → ⊥) → KeepAnswered K B (set rows b counts) (set places b at) at key own step area place
+    pub block-kept : (place ≡ 0 → ⊥) → KeepingAnswered K B (set rows b counts) (set places b at) at key own step area place
     block-kept good = record {
       within = x .within;
       checked = x .checked;
@@ -89,10 +88,10 @@ module _ {K B : List ℕ} {rows : List (List ℕ)} {places : List ℕ} {at key o
 pub record Keeping (K B : List ℕ) (at key own step area quarter : ℕ) (rows : List (List ℕ)) (places : List ℕ) (number next union digit : ℕ) : Type 0 where
   pub checked : check.Passed K B (at + 1) key own step next union digit
   pub most : number + (5 - digit) * quarter ≤ 16
-  pub kept : Kept B area rows places
+  pub kept : RowsKept B area rows places
 
 module _ {K B : List ℕ} {rows₀ : List (List ℕ)} {places₀ : List ℕ} {at key own step area b share : ℕ}
-    (asked : KeepAsked K B rows₀ places₀ at key own step area b share) (many : share ≡ 1 → ⊥) where
+    (asked : KeepingAsked K B rows₀ places₀ at key own step area b share) (many : share ≡ 1 → ⊥) where
   positive : step ≡ 0 → ⊥
   positive e = let h = five-pos (asked .shared .up + suc (asked .shared .height)) in let s = asked .shared .steps in omega arith
 
@@ -109,10 +108,10 @@ module _ {K B : List ℕ} {rows₀ : List (List ℕ)} {places₀ : List ℕ} {at
 
   module _ {rows : List (List ℕ)} {places : List ℕ} {number next union digit : ℕ}
       (x : Keeping K B at key own step area (share / 4) rows places number next union digit) where
-    pub keep-refuses : check.Answer K B (at + 1) key own step 0 → KeepAnswered K B rows places at key own step area 0
+    pub keep-refuses : check.Answer K B (at + 1) key own step 0 → KeepingAnswered K B rows places at key own step area 0
     keep-refuses h = record { within = omega arith; checked = h; kept = x .kept }
 
-    pub keep-passes : 5 ≤ digit → union ≡ own → KeepAnswered K B rows places at key own step area next
+    pub keep-passes : 5 ≤ digit → union ≡ own → KeepingAnswered K B rows places at key own step area next
     keep-passes end e = record { within = x .checked .within; checked = check.ends (x .checked) end e; kept = x .kept }
 
     module _ (turn : digit < 5) where
@@ -135,7 +134,7 @@ module _ {K B : List ℕ} {rows₀ : List (List ℕ)} {places₀ : List ℕ} {at
         keep-leaf leaf = record { checked = check.goes-leaf (x .checked) turn there is same leaf; most = number-more; kept = x .kept }
 
         module _ (several : oneSlot (getD B next 0) ≡ false) where
-          pub keep-asked : KeepAsked K B rows places next child (getD B next 0) (step / 5) area number (share / 4)
+          pub keep-asked : KeepingAsked K B rows places next child (getD B next 0) (step / 5) area number (share / 4)
           keep-asked = record {
             node = record {
               size = asked .node .size;
@@ -150,8 +149,8 @@ module _ {K B : List ℕ} {rows₀ : List (List ℕ)} {places₀ : List ℕ} {at
           }
 
           module _ {rows′ : List (List ℕ)} {places′ : List ℕ} {place : ℕ}
-              (y : KeepAnswered K B rows′ places′ next child (getD B next 0) (step / 5) area place) where
-            pub keep-wrong : place ≡ 0 → KeepAnswered K B rows′ places′ at key own step area 0
+              (y : KeepingAnswered K B rows′ places′ next child (getD B next 0) (step / 5) area place) where
+            pub keep-wrong : place ≡ 0 → KeepingAnswered K B rows′ places′ at key own step area 0
             keep-wrong none = record {
               within = omega arith;
               checked = check.wrong-child (x .checked) turn there is same several place none (y .checked);

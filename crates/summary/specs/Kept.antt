@@ -12,16 +12,16 @@ use Rattle.summary.specs.Count.{NodeCounted}
 use Rattle.summary.specs.Pass.{NodeThere}
 
 -- counters that were all 0 have counted the node at a place
-pub record KeptAt (bits : List ℕ) (area at : ℕ) (counts : List ℕ) : Type 0 where
+pub record RowKept (bits : List ℕ) (area at : ℕ) (counts : List ℕ) : Type 0 where
   pub several : oneSlot (getD bits at 0) ≡ false
   pub next : ℕ
   pub counted : NodeCounted bits at area (replicate 32 0) counts next
 
 -- of each of sixteen blocks whose place is not 0 the counts are kept
-pub record Kept (bits : List ℕ) (area : ℕ) (rows : List (List ℕ)) (places : List ℕ) : Type 0 where
+pub record RowsKept (bits : List ℕ) (area : ℕ) (rows : List (List ℕ)) (places : List ℕ) : Type 0 where
   pub rows-long : length rows ≡ 16
   pub places-long : length places ≡ 16
-  pub known : (b : ℕ) → b < 16 → (getD places b 0 ≡ 0 → ⊥) → KeptAt bits area (getD places b 0) (getD rows b [])
+  pub known : (b : ℕ) → b < 16 → (getD places b 0 ≡ 0 → ⊥) → RowKept bits area (getD places b 0) (getD rows b [])
 
 -- a node that has so many blocks of the summary, each of so many pixels: it is as many levels above them
 pub record Shared (step area share : ℕ) : Type 0 where
@@ -33,16 +33,16 @@ pub record Shared (step area share : ℕ) : Type 0 where
   pub small : area ≤ 4 ^ 10
 
 -- the blocks from number b on are kept
-pub record KeepAsked (keys bits : List ℕ) (rows : List (List ℕ)) (places : List ℕ) (at key own step area b share : ℕ) : Type 0 where
+pub record KeepingAsked (keys bits : List ℕ) (rows : List (List ℕ)) (places : List ℕ) (at key own step area b share : ℕ) : Type 0 where
   pub node : NodeThere keys bits at key own step
   pub shared : Shared step area share
   pub most : b + share ≤ 16
-  pub kept : Kept bits area rows places
+  pub kept : RowsKept bits area rows places
 
-pub record KeepAnswered (keys bits : List ℕ) (rows : List (List ℕ)) (places : List ℕ) (at key own step area place : ℕ) : Type 0 where
+pub record KeepingAnswered (keys bits : List ℕ) (rows : List (List ℕ)) (places : List ℕ) (at key own step area place : ℕ) : Type 0 where
   pub within : place ≤ length keys
   pub checked : (k : ℕ) → step ≡ stepUnder k → place ≡ restPlace (length keys) (afterNode k key own (drop (at + 1) (paired keys bits)))
-  pub kept : Kept bits area rows places
+  pub kept : RowsKept bits area rows places
 
 -- some records, as many as are asked for, the first of which is the root's and a node's, with slots below s
 pub record FirstNode (s : ℕ) (keys bits : List ℕ) (n : ℕ) : Type 0 where

@@ -4,7 +4,7 @@ ghost use Prim.Native.Nat.{_^_};
 ghost use lib.ListN.{take};
 ghost use Rattle.definitions.specs.Area.{summaryHeight};
 ghost use Rattle.definitions.specs.Calls.FillSummary.{fillRefusal, fillSummary, filledSummary};
-ghost use Rattle.summary.specs.Kept.{Kept};
+ghost use Rattle.summary.specs.Kept.{RowsKept};
 use crate::blocks;
 use crate::kept;
 use crate::renew;
@@ -22,9 +22,9 @@ fn fill_refusal(
     rows: &mut [[u32; 32]; 16],
     places: &mut [usize; 16],
 ) -> u64
-    requires { ⌜ Kept (take n (now bits)) (4 ^ summaryHeight m) (now rows) (now places) ⌝ }
+    requires { ⌜ RowsKept (take n (now bits)) (4 ^ summaryHeight m) (now rows) (now places) ⌝ }
     ensures { λ r. ⌜ r ≡ fillRefusal m s (now (keys .entry)) (now (bits .entry)) n (now (summary .entry)) ⌝ }
-    ensures { λ _. ⌜ Kept (take n (now (bits .entry))) (4 ^ summaryHeight m) (now (rows .exit)) (now (places .exit)) ⌝ }
+    ensures { λ _. ⌜ RowsKept (take n (now (bits .entry))) (4 ^ summaryHeight m) (now (rows .exit)) (now (places .exit)) ⌝ }
 {
     let refusal = kept::list_refusal(m, s, keys, bits, n, rows, places);
     if refusal != 0 {

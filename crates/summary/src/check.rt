@@ -7,7 +7,7 @@ ghost use Rattle.keys.specs.Key.{slotLimit};
 ghost use Rattle.definitions.specs.Area.{summaryHeight, sameNumbers, noSummary};
 ghost use Rattle.list.specs.Own.{OwnList, shownBy};
 ghost use Rattle.summary.specs.First.{summaryRefusal};
-ghost use Rattle.summary.specs.Kept.{Kept};
+ghost use Rattle.summary.specs.Kept.{RowsKept};
 use crate::blocks;
 use crate::kept;
 
@@ -38,7 +38,7 @@ fn is_summary(
     places: &[usize; 16],
 ) -> bool
     requires { ⌜ OwnList m (now keys) (now bits) n ⌝ }
-    requires { ⌜ (m ≤ 10) × (s ≤ slotLimit) × Kept (take n (now bits)) (4 ^ summaryHeight m) (now rows) (now places) ⌝ }
+    requires { ⌜ (m ≤ 10) × (s ≤ slotLimit) × RowsKept (take n (now bits)) (4 ^ summaryHeight m) (now rows) (now places) ⌝ }
     ensures { λ r. ⌜ r ≡ not (noSummary m s (shownBy m (now (keys .entry)) (now (bits .entry)) n) (now (summary .entry))) ⌝ }
 {
     if !blocks::have_length(m, s, summary) {

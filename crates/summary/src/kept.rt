@@ -9,7 +9,7 @@ ghost use Rattle.definitions.specs.Read.{isList};
 ghost use Rattle.definitions.specs.Area.{summaryLevel, summaryHeight, blockKey, countsOf};
 ghost use Rattle.list.specs.First.{firstRefusal};
 ghost use Rattle.list.specs.Own.{OwnList, shownBy};
-ghost use Rattle.summary.specs.Kept.{Kept, KeepAsked, KeepAnswered, FirstNode};
+ghost use Rattle.summary.specs.Kept.{RowsKept, KeepingAsked, KeepingAnswered, FirstNode};
 use crate::blocks;
 use crate::pass;
 use keys::Key;
@@ -31,8 +31,8 @@ fn keep_block(
     area: u32,
     b: usize,
 ) -> usize
-    requires { ⌜ KeepAsked (now keys) (now bits) (now rows) (now places) at key own step area b 1 ⌝ }
-    ensures { λ r. ⌜ KeepAnswered (now (keys .entry)) (now (bits .entry)) (now (rows .exit)) (now (places .exit)) at key own step area r ⌝ }
+    requires { ⌜ KeepingAsked (now keys) (now bits) (now rows) (now places) at key own step area b 1 ⌝ }
+    ensures { λ r. ⌜ KeepingAnswered (now (keys .entry)) (now (bits .entry)) (now (rows .exit)) (now (places .exit)) at key own step area r ⌝ }
 {
     let mut counts = [0u32; 32];
     let end = pass::pass_block(keys, bits, &mut counts, at, key, own, step, area);
@@ -58,8 +58,8 @@ fn keep_blocks(
     b: usize,
     share: usize,
 ) -> usize
-    requires { ⌜ KeepAsked (now keys) (now bits) (now rows) (now places) at key own step area b share ⌝ }
-    ensures { λ r. ⌜ KeepAnswered (now (keys .entry)) (now (bits .entry)) (now (rows .exit)) (now (places .exit)) at key own step area r ⌝ }
+    requires { ⌜ KeepingAsked (now keys) (now bits) (now rows) (now places) at key own step area b share ⌝ }
+    ensures { λ r. ⌜ KeepingAnswered (now (keys .entry)) (now (bits .entry)) (now (rows .exit)) (now (places .exit)) at key own step area r ⌝ }
 {
     if share == 1 {
         return keep_block(keys, bits, rows, places, at, key, own, step, area, b);
@@ -144,9 +144,9 @@ pub fn is_list(
     places: &mut [usize; 16],
 ) -> bool
     requires { ⌜ (m ≤ 10) × (s ≤ slotLimit) ⌝ }
-    requires { ⌜ Kept (take n (now bits)) (4 ^ summaryHeight m) (now rows) (now places) ⌝ }
+    requires { ⌜ RowsKept (take n (now bits)) (4 ^ summaryHeight m) (now rows) (now places) ⌝ }
     ensures { λ r. ⌜ r ≡ isList m s (now (keys .entry)) (now (bits .entry)) n ⌝ }
-    ensures { λ _. ⌜ Kept (take n (now (bits .entry))) (4 ^ summaryHeight m) (now (rows .exit)) (now (places .exit)) ⌝ }
+    ensures { λ _. ⌜ RowsKept (take n (now (bits .entry))) (4 ^ summaryHeight m) (now (rows .exit)) (now (places .exit)) ⌝ }
 {
     if m < 4 {
         return check::is_list(m, s, keys, bits, n);
@@ -183,18 +183,17 @@ pub fn list_refusal(
     rows: &mut [[u32; 32]; 16],
     places: &mut [usize; 16],
 ) -> u64
-    requires { ⌜ Kept (take n (now bits)) (4 ^ summaryHeight m) (now rows) (now places) ⌝ }
+    requires { ⌜ RowsKept (take n (now bits)) (4 ^ summaryHeight m) (now rows) (now places) ⌝ }
     ensures { λ r. ⌜ r ≡ firstRefusal m s (now (keys .entry)) (now (bits .entry)) n ⌝ }
-    ensures { λ _. ⌜ Kept (take n (now (bits .entry))) (4 ^ summaryHeight m) (now (rows .exit)) (now (places .exit)) ⌝ }
+    ensures { λ _. ⌜ RowsKept (take n (now (bits .entry))) (4 ^ summaryHeight m) (now (rows .exit)) (now (places .exit)) ⌝ }
 {
     if settings::are_bad(m, s) {
         return 1;
     }
-    if is_list(m, s, keys, bits, n, rows, places) {
-        0
-    } else {
-        4
+    if !is_list(m, s, keys, bits, n, rows, places) {
+        return 4;
     }
+    0
 }
 
 // The counts of block number b: those that are kept, or else its records are counted.
@@ -208,7 +207,7 @@ pub fn counts_of(
     places: &[usize; 16],
 ) -> [u32; 32]
     requires { ⌜ OwnList m (now keys) (now bits) n ⌝ }
-    requires { ⌜ (m ≤ 10) × (b < 4 ^ summaryLevel m) × Kept (take n (now bits)) (4 ^ summaryHeight m) (now rows) (now places) ⌝ }
+    requires { ⌜ (m ≤ 10) × (b < 4 ^ summaryLevel m) × RowsKept (take n (now bits)) (4 ^ summaryHeight m) (now rows) (now places) ⌝ }
     ensures { λ r. ⌜ r ≡ countsOf 32 (shownBy m (now (keys .entry)) (now (bits .entry)) n) (summaryHeight m) (rowOf m (blockKey m b)) (columnOf m (blockKey m b)) ⌝ }
 {
     let at = places[b];

@@ -5,7 +5,7 @@ ghost use lib.ListN.{length, take};
 ghost use Rattle.keys.specs.Key.{slotLimit};
 ghost use Rattle.definitions.specs.Area.{summaryHeight, summaryOf, summaryLength};
 ghost use Rattle.list.specs.Own.{OwnList, shownBy};
-ghost use Rattle.summary.specs.Kept.{Kept};
+ghost use Rattle.summary.specs.Kept.{RowsKept};
 ghost use Rattle.summary.specs.Renew.{blocksRenewed, Renewable};
 use crate::blocks;
 use crate::kept;
@@ -58,7 +58,7 @@ pub fn fill_kept(
 )
     requires { ⌜ OwnList m (now keys) (now bits) n ⌝ }
     requires { ⌜ (m ≤ 10) × (s ≤ slotLimit) × (length (now summary) ≡ summaryLength m s) ⌝ }
-    requires { ⌜ Kept (take n (now bits)) (4 ^ summaryHeight m) (now rows) (now places) ⌝ }
+    requires { ⌜ RowsKept (take n (now bits)) (4 ^ summaryHeight m) (now rows) (now places) ⌝ }
     ensures { λ _. ⌜ now (summary .exit) ≡ summaryOf m s (shownBy m (now (keys .entry)) (now (bits .entry)) n) ⌝ }
 {
     let slots = s as usize;

@@ -1,91 +1,37 @@
--- `decision::edit_refusal` meets its contract: each way out answers what the table says there.
-use mathlib.Core.Path.{_≡_, refl, sym, ap, _∙_}
-use mathlib.Core.Bool.{Bool, true, false, not}
-use native.Mathlib.Omega.{arith}
-use borrow.Author.Tests.{not-false}
+-- `decision::edit_refusal` meets its contract: past the first three rows of the table the log decides.
+use mathlib.Core.Path.{sym, _∙_}
 use borrow.Author.Needs.{needs}
-use Rattle.definitions.specs.Area.{noSummary}
-use Rattle.definitions.specs.Refusal.{badSettings, noList}
-use Rattle.list.specs.Own.{shownBy}
-use Rattle.list.proofs.Own.{own-list}
 use Rattle.list.proofs.Tests.{good-settings}
-use Rattle.edit.proofs.EditCallTables.{bad-settings, no-list, no-summary, no-log, all-passed}
+use Rattle.summary.proofs.SummaryFirst.{SummaryPassed, refused-summary, summary-passed}
+use Rattle.edit.specs.EditCallChecks.{editRefusal}
+use Rattle.edit.proofs.EditCallTables.{no-log, all-passed}
 use Rattle.edit.proofs.decision.edit_refusal.Statement.{statement}
 use Rattle.edit.proofs.decision.edit_refusal.Tie as tie
 
--- what the test of the summary tells, which has the answer the other way round
-told-wrong : (r bad : Bool) → r ≡ not bad → not r ≡ true → bad ≡ true
-told-wrong r true is e = refl
-told-wrong r false is e = sym (ap not is) ∙ e
+-- what the list and its summary have passed
+passed : (c : tie.Else1) → let a = c .before .before .before .before .before .before .before .args in
+    SummaryPassed (a .m) (a .s) (a .keys .now) (a .bits .now) (a .n) (a .summary .now)
+passed c = summary-passed _ _ _ _ _ _ _ (c .before .first-refusal .ensures) (c .if1 .left)
 
-told-right : (r bad : Bool) → r ≡ not bad → not r ≡ false → bad ≡ false
-told-right r true is e = sym (ap not is) ∙ e
-told-right r false is e = refl
-
--- the start, from the test of the settings
-abbrev start : tie.After-are-bad → tie.Start
-start c = c .before .before .before .before .before .before
-
--- the settings are good
-good : (c : tie.Else1) → badSettings (start (c .before) .args .m) (start (c .before) .args .s) ≡ false
-good c = sym (c .before .are-bad .ensures) ∙ c .if1 .left
-
--- the records are a list
-listed : (c : tie.Else2) → let a = start (c .before .before .before) .args in noList (a .m) (a .s) (a .keys .now) (a .bits .now) (a .n) ≡ false
-listed c = ap not (sym (c .before .is-list .ensures)) ∙ c .if2 .left
-
--- the summary is theirs
-summed : (c : tie.Else3)
-    → let a = start (c .before .before .before .before .before) .args in noSummary (a .m) (a .s) (shownBy (a .m) (a .keys .now) (a .bits .now) (a .n)) (a .summary .now) ≡ false
-summed c = told-right _ _ (c .before .is-summary .ensures) (c .if3 .left)
-
-are-bad-requires : tie.Need-are-bad-requires
-are-bad-requires c κs = search needs
+first-refusal-requires : tie.Need-first-refusal-requires
+first-refusal-requires c κs = search needs
 
 returns : tie.Need-returns
-returns c = bad-settings _ _ _ _ _ _ _ _ _ _ (sym (c .before .are-bad .ensures) ∙ c .if1 .taken)
+unfolding editRefusal
+returns c = refused-summary _ _ _ _ _ _ _ _ (c .before .first-refusal .ensures) (c .if1 .taken)
 
-is-list-requires : tie.Need-is-list-requires
-is-list-requires c κs = let g = good-settings _ _ (good c) in (g .deep, g .few)
+is-log-requires : tie.Need-is-log-requires
+is-log-requires c κs = let g = good-settings _ _ (passed c .settings) in (g .deep, g .few)
 
 returns-2 : tie.Need-returns-2
-returns-2 c = no-list _ _ _ _ _ _ _ _ _ _ (good (c .before .before)) (ap not (sym (c .before .is-list .ensures)) ∙ c .if2 .taken)
-
-is-summary-requires : tie.Need-is-summary-requires
-is-summary-requires c κs =
-    let g = good-settings _ _ (good (c .before .before)) in
-    (own-list _ _ _ _ _ (not-false _ (listed c)), (g .deep, omega (arith, g .few)))
+returns-2 c =
+    let p = passed (c .before .before) in
+    no-log _ _ _ _ _ _ _ _ _ _ (p .settings) (p .listed) (p .summed) (sym (c .before .is-log .ensures) ∙ c .if2 .taken)
 
 returns-3 : tie.Need-returns-3
 returns-3 c =
-    let d = c .before .before in
-    no-summary _ _ _ _ _ _ _ _ _ _ (good (d .before .before)) (listed d) (told-wrong _ _ (c .before .is-summary .ensures) (c .if3 .taken))
-
-is-log-requires : tie.Need-is-log-requires
-is-log-requires c κs = let g = good-settings _ _ (good (c .before .before .before .before)) in (g .deep, g .few)
-
-returns-4 : tie.Need-returns-4
-returns-4 c =
-    let u = c .before .before in
-    let d = u .before .before in
-    no-log _ _ _ _ _ _ _ _ _ _ (good (d .before .before)) (listed d) (summed u) (sym (c .before .is-log .ensures) ∙ c .if4 .taken)
-
-returns-5 : tie.Need-returns-5
-returns-5 c =
-    let u = c .before .before in
-    let d = u .before .before in
-    all-passed _ _ _ _ _ _ _ _ _ _ (good (d .before .before)) (listed d) (summed u) (sym (c .before .is-log .ensures) ∙ c .if4 .left)
+    let p = passed (c .before .before) in
+    all-passed _ _ _ _ _ _ _ _ _ _ (p .settings) (p .listed) (p .summed) (sym (c .before .is-log .ensures) ∙ c .if2 .left)
 
 pub edit-refusal-spec : {M : Type 1} → statement M
-edit-refusal-spec =
-    tie.close
-    (tie.spec
-    are-bad-requires
-    returns
-    is-list-requires
-    returns-2
-    is-summary-requires
-    returns-3
-    is-log-requires
-    returns-4
-    returns-5)
+edit-refusal-spec = tie.close (tie.spec first-refusal-requires returns is-log-requires returns-2 returns-3)

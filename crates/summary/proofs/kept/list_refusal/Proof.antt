@@ -23,13 +23,13 @@ returns-2 : tie.Need-returns-2
 returns-2 c =
     let e = c .before .before .before .before in
     let told = c .before .is-list .ensures in
-    (sym (first-good _ _ _ _ _ (sym (e .before .are-bad .ensures) ∙ e .if1 .left) (ap not (sym (told .0) ∙ c .if2 .taken))), told .1)
+    (sym (first-no-list _ _ _ _ _ (sym (e .before .are-bad .ensures) ∙ e .if1 .left) (ap not (sym (told .0)) ∙ c .if2 .taken)), told .1)
 
 returns-3 : tie.Need-returns-3
 returns-3 c =
     let e = c .before .before .before .before in
     let told = c .before .is-list .ensures in
-    (sym (first-no-list _ _ _ _ _ (sym (e .before .are-bad .ensures) ∙ e .if1 .left) (ap not (sym (told .0) ∙ c .if2 .left))), told .1)
+    (sym (first-good _ _ _ _ _ (sym (e .before .are-bad .ensures) ∙ e .if1 .left) (ap not (sym (told .0)) ∙ c .if2 .left)), told .1)
 
 pub list-refusal-spec : {M : Type 1} → statement M
 list-refusal-spec = tie.close (tie.spec are-bad-requires returns is-list-requires returns-2 returns-3)
