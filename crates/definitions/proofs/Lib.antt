@@ -13,3 +13,4 @@ mod ListingVectors
 mod CombineVectors
 mod OfficeVectors
 mod FullOffice
+mod EditFrame

@@ -16,7 +16,7 @@ use Rattle.list.specs.Own.{OwnList, shownBy}
 use Rattle.list.proofs.Own.{own-list}
 use Rattle.list.proofs.Tests.{GoodSettings, good-settings}
 use Rattle.log.proofs.Parts.{WholeLog, whole-log}
-use Rattle.edit.specs.EditCallChecks.{editRefusal}
+use Rattle.edit.specs.EditCallChecks.{sheetRefusal}
 
 -- what some rows refuse the table that begins with them refuses
 pub early-first : (k : ℕ) (rows more : List Row) → k ≡ first rows → (k ≡ 0 → ⊥) → k ≡ first (rows ++ more)
@@ -45,39 +45,39 @@ module _ (m s : ℕ) (keys bits : List ℕ) (n : ℕ) (summary logKeys logValues
     pub logged : noLog m s logKeys logValues used inForce ≡ false
 
   -- 1
-  pub bad-settings : badSettings m s ≡ true → 1 ≡ editRefusal m s keys bits n summary logKeys logValues used inForce
-  unfolding editRefusal
+  pub bad-settings : badSettings m s ≡ true → 1 ≡ sheetRefusal m s keys bits n summary logKeys logValues used inForce
+  unfolding sheetRefusal
   bad-settings bad = sym (holds-first (this bad refl))
 
   -- 4
-  pub no-list : badSettings m s ≡ false → noList m s keys bits n ≡ true → 4 ≡ editRefusal m s keys bits n summary logKeys logValues used inForce
-  unfolding editRefusal
+  pub no-list : badSettings m s ≡ false → noList m s keys bits n ≡ true → 4 ≡ sheetRefusal m s keys bits n summary logKeys logValues used inForce
+  unfolding sheetRefusal
   no-list good bad = sym (holds-first (later good (this bad refl)))
 
   -- 18
   pub no-summary : badSettings m s ≡ false → noList m s keys bits n ≡ false → noSummary m s (shownBy m keys bits n) summary ≡ true
-      → 18 ≡ editRefusal m s keys bits n summary logKeys logValues used inForce
-  unfolding editRefusal
+      → 18 ≡ sheetRefusal m s keys bits n summary logKeys logValues used inForce
+  unfolding sheetRefusal
   no-summary good listed bad = sym (holds-first (later good (later listed (this bad refl))))
 
   -- 5
   pub no-log : badSettings m s ≡ false → noList m s keys bits n ≡ false → noSummary m s (shownBy m keys bits n) summary ≡ false
       → noLog m s logKeys logValues used inForce ≡ true
-      → 5 ≡ editRefusal m s keys bits n summary logKeys logValues used inForce
-  unfolding editRefusal
+      → 5 ≡ sheetRefusal m s keys bits n summary logKeys logValues used inForce
+  unfolding sheetRefusal
   no-log good listed summed bad = sym (holds-first (later good (later listed (later summed (this bad refl)))))
 
   -- none of them
   pub all-passed : badSettings m s ≡ false → noList m s keys bits n ≡ false → noSummary m s (shownBy m keys bits n) summary ≡ false
       → noLog m s logKeys logValues used inForce ≡ false
-      → 0 ≡ editRefusal m s keys bits n summary logKeys logValues used inForce
-  unfolding editRefusal
+      → 0 ≡ sheetRefusal m s keys bits n summary logKeys logValues used inForce
+  unfolding sheetRefusal
   all-passed good listed summed logged = sym (none-first firstRows (good, (listed, (summed, (logged, tt)))))
 
 -- what the calls may rely on once the four rows are passed
 module _ {m s : ℕ} {keys bits : List ℕ} {n : ℕ} {summary logKeys logValues : List ℕ} {used inForce : ℕ} where
-  pub first-passed : (k : ℕ) → k ≡ editRefusal m s keys bits n summary logKeys logValues used inForce → k ≡ 0 → FirstPassed m s keys bits n summary logKeys logValues used inForce
-  unfolding editRefusal
+  pub first-passed : (k : ℕ) → k ≡ sheetRefusal m s keys bits n summary logKeys logValues used inForce → k ≡ 0 → FirstPassed m s keys bits n summary logKeys logValues used inForce
+  unfolding sheetRefusal
   first-passed k e zero =
       let none = first-none (firstRows m s keys bits n summary logKeys logValues used inForce) refl (sym e ∙ zero) in
       record { settings = none .0; listed = none .1 .0; summed = none .1 .1 .0; logged = none .1 .1 .1 .0 }

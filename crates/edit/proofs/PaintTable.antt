@@ -15,7 +15,7 @@ use Rattle.definitions.specs.Refusal.{Row, _gives_, first, badKey, badFeature}
 use Rattle.definitions.specs.Calls.Paint.{painted, gained, paintRefusal}
 use Rattle.laws.proofs.First.{this, later, holds-first, none-first, first-none}
 use Rattle.log.specs.declared.entry.Entry.{Entry}
-use Rattle.edit.specs.EditCallChecks.{editRefusal}
+use Rattle.edit.specs.EditCallChecks.{sheetRefusal}
 use Rattle.edit.specs.PaintCall.{roomRefusal, Paintable, newEntry, Fresh}
 use Rattle.edit.proofs.EditCallTables.{firstRows, FirstPassed, early-first, rest-first, passed-none, passed-settings, passed-own}
 
@@ -57,9 +57,9 @@ module _ (m s : ℕ) (keys bits : List ℕ) (n : ℕ) (summary logKeys logValues
   lastRows = badKey m κ gives 8 ∷ badFeature s f gives 7 ∷ roomRows
 
   -- 1, 4, 18, 5
-  pub paint-early : (k : ℕ) → k ≡ editRefusal m s keys bits n summary logKeys logValues used inForce → (k ≡ 0 → ⊥)
+  pub paint-early : (k : ℕ) → k ≡ sheetRefusal m s keys bits n summary logKeys logValues used inForce → (k ≡ 0 → ⊥)
       → k ≡ paintRefusal m s keys bits n summary logKeys logValues used inForce κ f
-  unfolding paintRefusal editRefusal
+  unfolding paintRefusal sheetRefusal
   paint-early k e not-zero = early-first k (firstRows m s keys bits n summary logKeys logValues used inForce) lastRows e not-zero
 
   module _ (p : FirstPassed m s keys bits n summary logKeys logValues used inForce) where

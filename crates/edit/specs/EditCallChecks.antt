@@ -14,8 +14,8 @@ use Rattle.edit.specs.declared.decision.PaintDecision.{PaintDecision}
 use Rattle.edit.specs.declared.decision.PaintDecision.the-variants.{Refused as PaintRefused, Granted as PaintGranted}
 use Rattle.edit.specs.declared.logging.Former.{Former}
 
-unfoldable pub editRefusal : (m s : ℕ) (keys bits : List ℕ) (n : ℕ) (summary logKeys logValues : List ℕ) (used inForce : ℕ) → ℕ
-editRefusal m s keys bits n summary logKeys logValues used inForce =
+unfoldable pub sheetRefusal : (m s : ℕ) (keys bits : List ℕ) (n : ℕ) (summary logKeys logValues : List ℕ) (used inForce : ℕ) → ℕ
+sheetRefusal m s keys bits n summary logKeys logValues used inForce =
     first
     (badSettings m s gives 1
     ∷ noList m s keys bits n gives 4

@@ -1,6 +1,6 @@
 // What paint, take back and redo share: the refusals that they test first, and the decisions that the calls go by.
 ghost use mathlib.Core.Path.{_≡_};
-ghost use Rattle.edit.specs.EditCallChecks.{editRefusal};
+ghost use Rattle.edit.specs.EditCallChecks.{sheetRefusal};
 use crate::logging::Former;
 use list::check;
 use list::settings;
@@ -33,7 +33,7 @@ pub fn edit_refusal(
     used: usize,
     in_force: usize,
 ) -> u64
-    ensures { λ r. ⌜ r ≡ editRefusal m s (now (keys .entry)) (now (bits .entry)) n (now (summary .entry))
+    ensures { λ r. ⌜ r ≡ sheetRefusal m s (now (keys .entry)) (now (bits .entry)) n (now (summary .entry))
         (now («log_keys» .entry)) (now («log_values» .entry)) used «in_force» ⌝ }
 {
     if settings::are_bad(m, s) {

@@ -56,6 +56,7 @@ pub mod FileBytes
 pub mod FileOf
 pub mod FileBack
 pub mod First
+pub mod Edits
 pub mod FormerFile
 pub mod FormerLoad
 pub mod LastSlot

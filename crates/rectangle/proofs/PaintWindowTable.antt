@@ -17,7 +17,7 @@ use Rattle.definitions.specs.Refusal.{Row, _gives_, first, badFeature}
 use Rattle.definitions.specs.Calls.PaintWindow.{filled, groupGained, paintWindowRefusal}
 use Rattle.laws.proofs.First.{this, later, holds-first, none-first, first-none}
 use Rattle.walk.proofs.Lies.{accepted-window}
-use Rattle.edit.specs.EditCallChecks.{editRefusal}
+use Rattle.edit.specs.EditCallChecks.{sheetRefusal}
 use Rattle.rectangle.specs.WindowLogging.{FreshGroup}
 use Rattle.rectangle.specs.PaintWindowCall.{Fillable, windowRoomRefusal, WindowDecided}
 use Rattle.rectangle.specs.declared.paint_window.WindowPlan.{WindowPlan}
@@ -67,9 +67,9 @@ module _ (m s : ℕ) (keys bits : List ℕ) (n : ℕ) (summary logKeys logValues
   lastRows = badWindow m w gives 6 ∷ badFeature s f gives 7 ∷ roomRows
 
   -- 1, 4, 18, 5
-  pub window-early : (k : ℕ) → k ≡ editRefusal m s keys bits n summary logKeys logValues used inForce → (k ≡ 0 → ⊥)
+  pub window-early : (k : ℕ) → k ≡ sheetRefusal m s keys bits n summary logKeys logValues used inForce → (k ≡ 0 → ⊥)
       → k ≡ paintWindowRefusal m s keys bits n summary logKeys logValues used inForce w f
-  unfolding paintWindowRefusal editRefusal
+  unfolding paintWindowRefusal sheetRefusal
   window-early k e not-zero = early-first k (firstRows m s keys bits n summary logKeys logValues used inForce) lastRows e not-zero
 
   module _ (p : FirstPassed m s keys bits n summary logKeys logValues used inForce) where

@@ -13,7 +13,7 @@ use Rattle.definitions.specs.Refusal.{Row, _gives_, first}
 use Rattle.definitions.specs.Calls.Redo.{redone, redoRefusal}
 use Rattle.definitions.specs.Calls.Paint.{painted}
 use Rattle.laws.proofs.First.{this, first-later, holds-first, none-first, first-none}
-use Rattle.edit.specs.EditCallChecks.{editRefusal}
+use Rattle.edit.specs.EditCallChecks.{sheetRefusal}
 use Rattle.redo.specs.RedoCall.{Redoable, LogToRedo, paintedRefusal}
 use Rattle.edit.proofs.EditCallTables.{firstRows, FirstPassed, first-passed, early-first, rest-first, passed-none, passed-settings, passed-log}
 
@@ -27,9 +27,9 @@ module _ (m s : ℕ) (keys bits : List ℕ) (n : ℕ) (summary logKeys logValues
   lastRows = eqb inForce used gives 20 ∷ ltb (room keys bits) (length new) gives 9 ∷ []
 
   -- 1, 4, 18, 5
-  pub redo-early : (k : ℕ) → k ≡ editRefusal m s keys bits n summary logKeys logValues used inForce → (k ≡ 0 → ⊥)
+  pub redo-early : (k : ℕ) → k ≡ sheetRefusal m s keys bits n summary logKeys logValues used inForce → (k ≡ 0 → ⊥)
       → k ≡ redoRefusal m s keys bits n summary logKeys logValues used inForce
-  unfolding redoRefusal editRefusal
+  unfolding redoRefusal sheetRefusal
   redo-early k e not-zero = early-first k (firstRows m s keys bits n summary logKeys logValues used inForce) lastRows e not-zero
 
   module _ (p : FirstPassed m s keys bits n summary logKeys logValues used inForce) where

@@ -16,11 +16,11 @@ use Rattle.log.specs.declared.step.LogStep.{LogStep}
 use Rattle.log.specs.Entries.{lastEntry}
 use Rattle.log.specs.Steps.{lastStep}
 use Rattle.log.proofs.Parts.{WholeLog}
-use Rattle.edit.specs.EditCallChecks.{editRefusal}
+use Rattle.edit.specs.EditCallChecks.{sheetRefusal}
 
 -- what 1, 4, 18, 5 and 20 do not refuse
 pub record Redoable (m s : ℕ) (keys bits : List ℕ) (n : ℕ) (summary logKeys logValues : List ℕ) (used inForce : ℕ) : Type 0 where
-  pub passed : editRefusal m s keys bits n summary logKeys logValues used inForce ≡ 0
+  pub passed : sheetRefusal m s keys bits n summary logKeys logValues used inForce ≡ 0
   pub some : inForce < used
 
 -- a log that is sound, at some m and s, and has records to redo

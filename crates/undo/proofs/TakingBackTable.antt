@@ -17,7 +17,7 @@ use Rattle.laws.proofs.First.{this, first-later, holds-first, none-first, first
 use Rattle.list.proofs.Accepted.{content-is}
 use Rattle.log.proofs.Last.{last-entry}
 use Rattle.log.proofs.Parts.{force-sound}
-use Rattle.edit.specs.EditCallChecks.{editRefusal}
+use Rattle.edit.specs.EditCallChecks.{sheetRefusal}
 use Rattle.undo.specs.TakingBackCall.{Takeable, restoredRefusal, Restorable}
 use Rattle.edit.proofs.EditCallTables.{firstRows, FirstPassed, first-passed, early-first, rest-first, passed-none, passed-settings, passed-own, passed-log}
 
@@ -48,9 +48,9 @@ module _ (m s : ℕ) (keys bits : List ℕ) (n : ℕ) (summary logKeys logValues
       ∷ []
 
   -- 1, 4, 18, 5
-  pub take-early : (k : ℕ) → k ≡ editRefusal m s keys bits n summary logKeys logValues used inForce → (k ≡ 0 → ⊥)
+  pub take-early : (k : ℕ) → k ≡ sheetRefusal m s keys bits n summary logKeys logValues used inForce → (k ≡ 0 → ⊥)
       → k ≡ takeBackRefusal m s keys bits n summary logKeys logValues used inForce
-  unfolding takeBackRefusal editRefusal
+  unfolding takeBackRefusal sheetRefusal
   take-early k e not-zero = early-first k (firstRows m s keys bits n summary logKeys logValues used inForce) lastRows e not-zero
 
   module _ (p : FirstPassed m s keys bits n summary logKeys logValues used inForce) where

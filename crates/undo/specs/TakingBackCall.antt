@@ -17,11 +17,11 @@ use Rattle.list.specs.Own.{OwnList}
 use Rattle.log.specs.Entries.{Ended}
 use Rattle.put.specs.Put.{planOf}
 use Rattle.put.specs.declared.plan.Plan.{Plan}
-use Rattle.edit.specs.EditCallChecks.{editRefusal}
+use Rattle.edit.specs.EditCallChecks.{sheetRefusal}
 
 -- what 1, 4, 18, 5 and 11 do not refuse
 pub record Takeable (m s : ℕ) (keys bits : List ℕ) (n : ℕ) (summary logKeys logValues : List ℕ) (used inForce : ℕ) : Type 0 where
-  pub passed : editRefusal m s keys bits n summary logKeys logValues used inForce ≡ 0
+  pub passed : sheetRefusal m s keys bits n summary logKeys logValues used inForce ≡ 0
   pub some : 0 < inForce
 
 -- 9
