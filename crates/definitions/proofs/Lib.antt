@@ -13,4 +13,3 @@ mod ListingVectors
 mod CombineVectors
 mod OfficeVectors
 mod FullOffice
-mod EditFrame

@@ -1,6 +1,7 @@
--- A group that is redone: what its run and the list ask for, and the call's answers. Rests on Applying, RedoPlan, RedoTable and RedoAnswers.
+-- A group that is redone: what its run and the list ask for, and the call's answers. Rests on undo's Applying and StepAnswers, on
+-- RedoPlan and RedoTable.
 use Prim.Native.Nat.{ℕ, _+_, _-_, _≤_}
-use mathlib.Core.Path.{_≡_, refl, sym, _∙_, ap}
+use mathlib.Core.Path.{_≡_, sym, _∙_, ap}
 use mathlib.Core.Bool.{true}
 use mathlib.Core.List.{List}
 use native.Mathlib.Omega.{arith}
@@ -8,31 +9,31 @@ use lib.ListN.{length, take, drop, length-take}
 use Rattle.definitions.specs.List.{Record}
 use Rattle.definitions.specs.Read.{recordsOf}
 use Rattle.definitions.specs.Log.{closingPlaces, endsInMark, stepCount, stepEntries, lastIsStep, firstStep, paintAgain, toRedo}
-use Rattle.definitions.specs.Calls.Redo.{redonePicture, redone}
+use Rattle.definitions.specs.Calls.Edit.{asLent}
+use Rattle.definitions.specs.Calls.Redo.{redonePicture, Redone}
 use Rattle.laws.proofs.LastStep.{entries-group, ends-in-group}
 use Rattle.list.specs.Own.{shownBy}
 use Rattle.undo.specs.GroupCall.{GroupLast, WithSummary, Applied}
-use Rattle.definitions.specs.Calls.Redo.{Redone}
 use Rattle.redo.specs.RedoCall.{Redoable, LogToRedo}
 use Rattle.edit.proofs.EditCallTables.{passed-settings, passed-own, passed-summary}
 use Rattle.undo.proofs.Applying.{applied-as}
+use Rattle.undo.proofs.StepAnswers.{step-full, step-applied}
 use Rattle.redo.proofs.RedoPlan.{redo-first, part-lent, end-within, first-records}
-use Rattle.redo.proofs.RedoTable.{redo-first-rows, to-redo, list-full, room-enough}
-use Rattle.redo.proofs.RedoAnswers.{redo-refused, redo-done}
+use Rattle.redo.proofs.RedoTable.{redo-sheet, redo-own, to-redo}
 
 module _ {m s : ℕ} {keys bits : List ℕ} {n : ℕ} {summary logKeys logValues : List ℕ} {used inForce : ℕ}
-    (t : Redoable m s keys bits n summary logKeys logValues used inForce) where
+    (t : Redoable (asLent m s keys bits n summary logKeys logValues used inForce)) where
   -- the records to redo, and their first step
   abbrev steps : List Record
   steps = toRedo logKeys logValues used inForce
 
   abbrev log : LogToRedo logKeys logValues used inForce
-  log = to-redo m s keys bits n summary logKeys logValues used inForce t
+  log = to-redo t
 
   -- the list and its summary
   pub redo-kept : WithSummary m s keys bits n summary
   redo-kept =
-      let rows = redo-first-rows m s keys bits n summary logKeys logValues used inForce t in
+      let rows = redo-sheet t in
       let few = passed-settings rows .few in
       record { deep = passed-settings rows .deep; few = omega arith; own = passed-own rows; counts = passed-summary rows }
 
@@ -58,7 +59,7 @@ module _ {m s : ℕ} {keys bits : List ℕ} {n : ℕ} {summary logKeys logValues
     -- the group as it is lent
     pub redo-last : GroupLast m (take (used - inForce) (drop inForce logKeys)) (take (used - inForce) (drop inForce logValues)) (end + 2)
     redo-last =
-        let rows = redo-first-rows m s keys bits n summary logKeys logValues used inForce t in
+        let rows = redo-sheet t in
         let few = passed-settings rows .few in
         let within = past-within in
         let k = part-lent log logKeys (log .whole .in-keys) in
@@ -85,27 +86,9 @@ module _ {m s : ℕ} {keys bits : List ℕ} {n : ℕ} {summary logKeys logValues
       -- 9
       pub redo-full : r ≡ 0
           → Redone m s keys bits n summary logKeys logValues used inForce (record { refusal = 9; n = 0; used = 0; «in_force» = 0 }) keys′ bits′ summary′ logKeys logValues
-      unfolding redone
-      redo-full zero =
-          let left = a .full zero in
-          let row = list-full m s keys bits n summary logKeys logValues used inForce t
-          (length (redone m (recordsOf keys bits n) (toRedo logKeys logValues used inForce))) refl (left .0) in
-          let told = redo-refused m s keys bits n summary logKeys logValues used inForce 9 row (λ e. omega arith) in
-          record {
-            answer = told .answer;
-            keys-are = left .1 ∙ told .keys-are;
-            bits-are = left .2 ∙ told .bits-are;
-            summary-is = left .3 ∙ told .summary-is;
-            log-keys-are = told .log-keys-are;
-            log-values-are = told .log-values-are;
-          }
+      redo-full zero = step-full _ _ _ _ (redo-sheet t) (redo-own t) a zero
 
       -- it is redone
       pub group-redone : (r ≡ 0 → ⊥)
           → Redone m s keys bits n summary logKeys logValues used inForce (record { refusal = 0; n = r; used = used; «in_force» = inForce + (end + 2) }) keys′ bits′ summary′ logKeys logValues
-      unfolding redone
-      group-redone some =
-          let made = a .done some in
-          let none = room-enough m s keys bits n summary logKeys logValues used inForce t
-          (length (redone m (recordsOf keys bits n) (toRedo logKeys logValues used inForce))) refl (made .0) in
-          redo-done m s keys bits n summary logKeys logValues used inForce (sym none) (ap (λ x. inForce + x) past-is) (made .1) (made .2)
+      group-redone some = step-applied _ _ _ _ (redo-sheet t) (redo-own t) a some (ap (λ x. inForce + x) past-is)

@@ -5,10 +5,12 @@ ghost use mathlib.Core.Bool.{false};
 ghost use lib.ListN.{length};
 ghost use Rattle.definitions.specs.Read.{recordsOf};
 ghost use Rattle.definitions.specs.Log.{endsInMark, firstStep, toRedo};
-ghost use Rattle.edit.specs.EditCallChecks.{decided};
+ghost use Rattle.edit.specs.EditCallChecks.{listRoomRefusal, decided};
 ghost use Rattle.edit.specs.PaintCall.{Paintable, paintPlan};
+ghost use Rattle.definitions.specs.Calls.Edit.{asLent};
+ghost use Rattle.definitions.specs.Calls.Paint.{painted};
 ghost use Rattle.definitions.specs.Calls.Redo.{Redone};
-ghost use Rattle.redo.specs.RedoCall.{Redoable, LogToRedo, nextStep, nextEntry, paintedRefusal};
+ghost use Rattle.redo.specs.RedoCall.{Redoable, LogToRedo, nextStep, nextEntry};
 use crate::redo_group;
 use definitions::Edited;
 use edit::decision;
@@ -54,7 +56,7 @@ fn next_entry(
 fn decide(m: u32, keys: &[u32], bits: &[u32], n: usize, next: Entry) -> Decision
     requires { ⌜ Paintable m (now keys) (now bits) n (next .key) (next .feature) ⌝ }
     ensures { λ r. ⌜ r ≡ decided
-        (paintedRefusal m (recordsOf (now (keys .entry)) (now (bits .entry)) n) (now (keys .entry)) (now (bits .entry)) (next .key) (next .feature))
+        (listRoomRefusal (painted m (recordsOf (now (keys .entry)) (now (bits .entry)) n) (next .key) (next .feature)) (now (keys .entry)) (now (bits .entry)))
         next
         (paintPlan m (recordsOf (now (keys .entry)) (now (bits .entry)) n) (next .key) (next .feature)) ⌝ }
 {
@@ -91,7 +93,7 @@ fn redo_entry(
     in_force: usize,
     end: usize,
 ) -> Edited
-    requires { ⌜ Redoable m s (now keys) (now bits) n (now summary) (now «log_keys») (now «log_values») used «in_force»
+    requires { ⌜ Redoable (asLent m s (now keys) (now bits) n (now summary) (now «log_keys») (now «log_values») used «in_force»)
         × (endsInMark (firstStep (toRedo (now «log_keys») (now «log_values») used «in_force»)) ≡ false)
         × (end ≡ length (firstStep (toRedo (now «log_keys») (now «log_values») used «in_force»))) ⌝ }
     ensures { λ r. ⌜ Redone m s (now (keys .entry)) (now (bits .entry)) n (now (summary .entry)) (now («log_keys» .entry)) (now («log_values» .entry)) used «in_force»
@@ -135,7 +137,7 @@ fn redo_step(
     used: usize,
     in_force: usize,
 ) -> Edited
-    requires { ⌜ Redoable m s (now keys) (now bits) n (now summary) (now «log_keys») (now «log_values») used «in_force» ⌝ }
+    requires { ⌜ Redoable (asLent m s (now keys) (now bits) n (now summary) (now «log_keys») (now «log_values») used «in_force») ⌝ }
     ensures { λ r. ⌜ Redone m s (now (keys .entry)) (now (bits .entry)) n (now (summary .entry)) (now («log_keys» .entry)) (now («log_values» .entry)) used «in_force»
         r (now (keys .exit)) (now (bits .exit)) (now (summary .exit)) (now («log_keys» .entry)) (now («log_values» .entry)) ⌝ }
 {

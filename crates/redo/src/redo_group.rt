@@ -6,6 +6,7 @@ ghost use Rattle.definitions.specs.Read.{recordsOf};
 ghost use Rattle.definitions.specs.Log.{endsInMark, stepCount, stepEntries, firstStep, paintAgain, toRedo};
 ghost use Rattle.list.specs.Own.{shownBy};
 ghost use Rattle.undo.specs.GroupCall.{GroupLast, WithSummary, Applied};
+ghost use Rattle.definitions.specs.Calls.Edit.{asLent};
 ghost use Rattle.definitions.specs.Calls.Redo.{Redone};
 ghost use Rattle.redo.specs.RedoCall.{Redoable};
 use definitions::Edited;
@@ -58,7 +59,7 @@ pub fn redo_group(
     in_force: usize,
     end: usize,
 ) -> Edited
-    requires { ⌜ Redoable m s (now keys) (now bits) n (now summary) (now «log_keys») (now «log_values») used «in_force»
+    requires { ⌜ Redoable (asLent m s (now keys) (now bits) n (now summary) (now «log_keys») (now «log_values») used «in_force»)
         × (endsInMark (firstStep (toRedo (now «log_keys») (now «log_values») used «in_force»)) ≡ true)
         × (end ≡ length (stepEntries (firstStep (toRedo (now «log_keys») (now «log_values») used «in_force»)))) ⌝ }
     ensures { λ r. ⌜ Redone m s (now (keys .entry)) (now (bits .entry)) n (now (summary .entry)) (now («log_keys» .entry)) (now («log_values» .entry)) used «in_force»

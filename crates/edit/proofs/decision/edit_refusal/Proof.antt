@@ -6,10 +6,11 @@ use borrow.Author.Tests.{not-false}
 use borrow.Author.Needs.{needs}
 use Rattle.definitions.specs.Area.{noSummary}
 use Rattle.definitions.specs.Refusal.{badSettings, noList}
+use Rattle.laws.proofs.First.{this, later}
 use Rattle.list.specs.Own.{shownBy}
 use Rattle.list.proofs.Own.{own-list}
 use Rattle.list.proofs.Tests.{good-settings}
-use Rattle.edit.proofs.EditCallTables.{bad-settings, no-list, no-summary, no-log, all-passed}
+use Rattle.edit.proofs.EditCallTables.{sheet-told, sheet-clear}
 use Rattle.edit.proofs.decision.edit_refusal.Statement.{statement}
 use Rattle.edit.proofs.decision.edit_refusal.Tie as tie
 
@@ -43,13 +44,13 @@ are-bad-requires : tie.Need-are-bad-requires
 are-bad-requires c κs = search needs
 
 returns : tie.Need-returns
-returns c = bad-settings _ _ _ _ _ _ _ _ _ _ (sym (c .before .are-bad .ensures) ∙ c .if1 .taken)
+returns c = sheet-told _ (this (sym (c .before .are-bad .ensures) ∙ c .if1 .taken) refl)
 
 is-list-requires : tie.Need-is-list-requires
 is-list-requires c κs = let g = good-settings _ _ (good c) in (g .deep, g .few)
 
 returns-2 : tie.Need-returns-2
-returns-2 c = no-list _ _ _ _ _ _ _ _ _ _ (good (c .before .before)) (ap not (sym (c .before .is-list .ensures)) ∙ c .if2 .taken)
+returns-2 c = sheet-told _ (later (good (c .before .before)) (this (ap not (sym (c .before .is-list .ensures)) ∙ c .if2 .taken) refl))
 
 is-summary-requires : tie.Need-is-summary-requires
 is-summary-requires c κs =
@@ -59,7 +60,7 @@ is-summary-requires c κs =
 returns-3 : tie.Need-returns-3
 returns-3 c =
     let d = c .before .before in
-    no-summary _ _ _ _ _ _ _ _ _ _ (good (d .before .before)) (listed d) (told-wrong _ _ (c .before .is-summary .ensures) (c .if3 .taken))
+    sheet-told _ (later (good (d .before .before)) (later (listed d) (this (told-wrong _ _ (c .before .is-summary .ensures) (c .if3 .taken)) refl)))
 
 is-log-requires : tie.Need-is-log-requires
 is-log-requires c κs = let g = good-settings _ _ (good (c .before .before .before .before)) in (g .deep, g .few)
@@ -68,13 +69,13 @@ returns-4 : tie.Need-returns-4
 returns-4 c =
     let u = c .before .before in
     let d = u .before .before in
-    no-log _ _ _ _ _ _ _ _ _ _ (good (d .before .before)) (listed d) (summed u) (sym (c .before .is-log .ensures) ∙ c .if4 .taken)
+    sheet-told _ (later (good (d .before .before)) (later (listed d) (later (summed u) (this (sym (c .before .is-log .ensures) ∙ c .if4 .taken) refl))))
 
 returns-5 : tie.Need-returns-5
 returns-5 c =
     let u = c .before .before in
     let d = u .before .before in
-    all-passed _ _ _ _ _ _ _ _ _ _ (good (d .before .before)) (listed d) (summed u) (sym (c .before .is-log .ensures) ∙ c .if4 .left)
+    sheet-clear _ (record { settings = good (d .before .before); listed = listed d; summed = summed u; logged = sym (c .before .is-log .ensures) ∙ c .if4 .left })
 
 pub edit-refusal-spec : {M : Type 1} → statement M
 edit-refusal-spec =

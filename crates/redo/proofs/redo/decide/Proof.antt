@@ -8,7 +8,7 @@ use Rattle.edit.specs.PaintCall.{paintPlan}
 use Rattle.edit.proofs.Decided.{refuses, grants}
 use Rattle.edit.proofs.Planned.{old-there, few-levels, length-told}
 use Rattle.edit.proofs.PaintPlan.{paint-found, paint-planned}
-use Rattle.redo.proofs.RedoTable.{paint-full, paint-enough}
+use Rattle.edit.proofs.EditCallTables.{room-told, room-clear}
 use borrow.Author.Needs.{needs}
 use Rattle.redo.proofs.redo.decide.Statement.{statement}
 use Rattle.redo.proofs.redo.decide.Tie as tie
@@ -42,13 +42,13 @@ length-after-requires c κs =
     (old-there planned, few-levels planned, omega (arith, first .pre .own .fits, first .good))
 
 returns : tie.Need-returns
-returns c = refuses _ _ 9 _ (paint-full _ _ _ _ _ _ _ (after-is (c .before)) (omega arith)) (λ e. omega arith)
+returns c = refuses _ _ 9 _ (room-told _ _ _ _ (after-is (c .before)) (omega arith)) (λ e. omega arith)
 
 returns-2 : tie.Need-returns-2
-returns-2 c = refuses _ _ 9 _ (paint-full _ _ _ _ _ _ _ (after-is (c .before .before)) (omega arith)) (λ e. omega arith)
+returns-2 c = refuses _ _ 9 _ (room-told _ _ _ _ (after-is (c .before .before)) (omega arith)) (λ e. omega arith)
 
 returns-3 : tie.Need-returns-3
-returns-3 c = grants _ _ _ _ _ (paint-enough _ _ _ _ _ _ _ (after-is (c .before .before)) (omega arith)) refl (plan-is (c .before .before .before))
+returns-3 c = grants _ _ _ _ _ (room-clear _ _ _ _ (after-is (c .before .before)) (omega arith)) refl (plan-is (c .before .before .before))
 
 pub decide-spec : {M : Type 1} → statement M
 decide-spec =

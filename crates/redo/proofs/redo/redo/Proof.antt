@@ -1,10 +1,12 @@
 -- `redo::redo` meets its contract: the refusals up to 20 leave all as it is; past them the next step is redone.
-use mathlib.Core.Path.{sym, _∙_}
+use mathlib.Core.Path.{refl, sym, _∙_}
 use native.Mathlib.Omega.{arith}
+use borrow.Author.Tests.{eq-eqb}
+use Rattle.definitions.specs.Calls.Edit.{asLent}
+use Rattle.laws.proofs.First.{this}
+use Rattle.laws.proofs.Edits.{SheetPassed, own-refuses, edit-refused}
 use Rattle.redo.specs.RedoCall.{Redoable}
-use Rattle.edit.proofs.EditCallTables.{FirstPassed, first-passed, passed-log}
-use Rattle.redo.proofs.RedoTable.{redo-early, none-to-redo}
-use Rattle.redo.proofs.RedoAnswers.{redo-refused}
+use Rattle.edit.proofs.EditCallTables.{edit-early, first-passed, passed-log}
 use borrow.Author.Needs.{needs}
 use Rattle.redo.proofs.redo.redo.Statement.{statement}
 use Rattle.redo.proofs.redo.redo.Tie as tie
@@ -16,13 +18,13 @@ start c = c .before .before .before .before .before .before .before .before .bef
 -- the first rows are passed
 rows : (c : tie.Else1)
     → (let a = start (c .before) .args in
-    FirstPassed (a .m) (a .s) (a .keys .now) (a .bits .now) (a .n) (a .summary .now) (a .log-keys .now) (a .log-values .now) (a .used) (a .in-force))
+    SheetPassed (asLent (a .m) (a .s) (a .keys .now) (a .bits .now) (a .n) (a .summary .now) (a .log-keys .now) (a .log-values .now) (a .used) (a .in-force)))
 rows c = first-passed _ (c .before .edit-refusal .ensures) (c .if1 .left)
 
 -- and 20 too
 redoable : (c : tie.Else2)
     → (let a = start (c .before .before) .args in
-    Redoable (a .m) (a .s) (a .keys .now) (a .bits .now) (a .n) (a .summary .now) (a .log-keys .now) (a .log-values .now) (a .used) (a .in-force))
+    Redoable (asLent (a .m) (a .s) (a .keys .now) (a .bits .now) (a .n) (a .summary .now) (a .log-keys .now) (a .log-values .now) (a .used) (a .in-force)))
 redoable c =
     let within = passed-log (rows (c .before)) .within in
     record { passed = sym (c .before .before .edit-refusal .ensures) ∙ c .before .if1 .left; some = let h = c .if2 .left in omega arith }
@@ -46,7 +48,7 @@ same-length-5 : tie.Need-same-length-5
 same-length-5 c = search needs
 
 returns : tie.Need-returns
-returns c = redo-refused _ _ _ _ _ _ _ _ _ _ _ (redo-early _ _ _ _ _ _ _ _ _ _ _ (c .before .edit-refusal .ensures) (c .if1 .taken)) (c .if1 .taken)
+returns c = edit-refused _ _ (edit-early _ _ (c .before .edit-refusal .ensures) (c .if1 .taken)) (c .if1 .taken)
 
 same-length-6 : tie.Need-same-length-6
 same-length-6 c = search needs
@@ -64,7 +66,7 @@ same-length-10 : tie.Need-same-length-10
 same-length-10 c = search needs
 
 returns-2 : tie.Need-returns-2
-returns-2 c = redo-refused _ _ _ _ _ _ _ _ _ _ 20 (none-to-redo _ _ _ _ _ _ _ _ _ _ (rows (c .before)) (c .if2 .taken)) (λ e. omega arith)
+returns-2 c = edit-refused _ 20 (own-refuses _ (rows (c .before)) (this (eq-eqb _ _ (c .if2 .taken)) refl)) (λ e. omega arith)
 
 redo-step-requires : tie.Need-redo-step-requires
 redo-step-requires c κs = redoable (c .before .before .before .before .before)

@@ -4,15 +4,18 @@ use mathlib.Core.Path.{_≡_, sym, ap, _∙_}
 use native.Mathlib.Omega.{arith}
 use Rattle.definitions.specs.Read.{recordsOf}
 use Rattle.definitions.specs.Log.{toRedo}
-use Rattle.definitions.specs.Calls.Redo.{redoRefusal}
+use Rattle.definitions.specs.Calls.Edit.{editRefusal}
+use Rattle.definitions.specs.Calls.Paint.{painted}
+use Rattle.definitions.specs.Calls.Redo.{redo}
+use Rattle.laws.proofs.Edits.{edit-refused}
+use Rattle.edit.specs.EditCallChecks.{listRoomRefusal}
 use Rattle.edit.specs.PaintCall.{Paintable, paintPlan}
-use Rattle.redo.specs.RedoCall.{nextEntry, paintedRefusal, LogToRedo}
+use Rattle.redo.specs.RedoCall.{nextEntry, LogToRedo}
 use Rattle.edit.proofs.Decided.{refused, granted}
-use Rattle.edit.proofs.EditCallTables.{passed-settings, passed-own, passed-summary}
+use Rattle.edit.proofs.EditCallTables.{room-fits, passed-settings, passed-own, passed-summary}
 use Rattle.edit.proofs.PaintPlan.{paint-outdated}
 use Rattle.redo.proofs.RedoPlan.{redo-paintable, end-within, redone-is, redo-paints, redo-made, redo-counted}
-use Rattle.redo.proofs.RedoTable.{redo-first-rows, to-redo, painted-row, paint-fits}
-use Rattle.redo.proofs.RedoAnswers.{redo-refused, redo-done}
+use Rattle.redo.proofs.RedoTable.{redo-sheet, to-redo, painted-row, redo-done}
 use borrow.Author.Needs.{needs}
 use Rattle.redo.proofs.redo.redo_entry.Statement.{statement}
 use Rattle.redo.proofs.redo.redo_entry.Tie as tie
@@ -26,14 +29,14 @@ found c = c .before .before .before
 
 -- the log has records to redo
 abbrev redoable : (c : tie.Start) → (let a = c .args in LogToRedo (a .log-keys .now) (a .log-values .now) (a .used) (a .in-force))
-redoable c = to-redo _ _ _ _ _ _ _ _ _ _ (c .pre .0)
+redoable c = to-redo (c .pre .0)
 
 -- an entry that is the next one can be painted
 module _ (c : tie.After-next-entry) where
   paintable : (let a = begin c .args in Paintable (a .m) (a .keys .now) (a .bits .now) (a .n) (c .next-entry .result .key) (c .next-entry .result .feature))
   paintable =
       let first = begin c in
-      let rows = redo-first-rows _ _ _ _ _ _ _ _ _ _ (first .pre .0) in
+      let rows = redo-sheet (first .pre .0) in
       redo-paintable (redoable first) _ (first .pre .2) (first .pre .1) _ (c .next-entry .ensures) _ _ _ (passed-settings rows .deep) (passed-own rows)
 
 -- nothing refuses it, and it goes by the next entry and its plan
@@ -41,7 +44,7 @@ goes : (c : tie.After-known-told2)
     → (let entry = found (c .before .before .before) in
     let a = begin entry .args in
     let next = entry .next-entry .result in
-    (paintedRefusal (a .m) (recordsOf (a .keys .now) (a .bits .now) (a .n)) (a .keys .now) (a .bits .now) (next .key) (next .feature) ≡ 0)
+    (listRoomRefusal (painted (a .m) (recordsOf (a .keys .now) (a .bits .now) (a .n)) (next .key) (next .feature)) (a .keys .now) (a .bits .now) ≡ 0)
     × (c .before .decision2 .given .0 .0 ≡ next)
     × (c .before .decision2 .given .0 .1 .0 ≡ paintPlan (a .m) (recordsOf (a .keys .now) (a .bits .now) (a .n)) (next .key) (next .feature)))
 goes c = granted _ _ _ _ (c .before .before .before .decide .ensures) _ _ (c .before .decision2 .given .1)
@@ -59,19 +62,19 @@ paints : (c : tie.After-known-told2)
     Paintable (a .m) (a .keys .now) (a .bits .now) (a .n) (next .key) (next .feature))
 paints c =
     let first = begin (found (c .before .before .before)) in
-    let rows = redo-first-rows _ _ _ _ _ _ _ _ _ _ (first .pre .0) in
+    let rows = redo-sheet (first .pre .0) in
     redo-paintable (redoable first) _ (first .pre .2) (first .pre .1) _ (next-is c) _ _ _ (passed-settings rows .deep) (passed-own rows)
 
 -- the row of the table, by the entry that was found
 row : (c : tie.After-decide)
     → (let a = begin (found c) .args in
     let next = found c .next-entry .result in
-    paintedRefusal (a .m) (recordsOf (a .keys .now) (a .bits .now) (a .n)) (a .keys .now) (a .bits .now) (next .key) (next .feature)
-    ≡ redoRefusal (a .m) (a .s) (a .keys .now) (a .bits .now) (a .n) (a .summary .now) (a .log-keys .now) (a .log-values .now) (a .used) (a .in-force))
+    listRoomRefusal (painted (a .m) (recordsOf (a .keys .now) (a .bits .now) (a .n)) (next .key) (next .feature)) (a .keys .now) (a .bits .now)
+    ≡ editRefusal (redo (a .m) (a .s) (a .keys .now) (a .bits .now) (a .n) (a .summary .now) (a .log-keys .now) (a .log-values .now) (a .used) (a .in-force)))
 row c =
     let entry = found c in
     let first = begin entry in
-    painted-row _ _ _ _ _ _ _ _ _ _ (first .pre .0) _ _ (redone-is _ _ _ (first .pre .1) _ (entry .next-entry .ensures))
+    painted-row (first .pre .0) _ _ (redone-is _ _ _ (first .pre .1) _ (entry .next-entry .ensures))
 
 next-entry-requires : tie.Need-next-entry-requires
 next-entry-requires c κs =
@@ -93,7 +96,7 @@ same-length-2 c = search needs
 returns : tie.Need-returns
 returns c =
     let told = refused _ _ _ _ (c .before .before .before .decide .ensures) _ (c .before .decision .given .1) in
-    redo-refused _ _ _ _ _ _ _ _ _ _ _ (told .0 ∙ row (c .before .before .before)) (told .1)
+    edit-refused _ _ (told .0 ∙ row (c .before .before .before)) (told .1)
 
 enum-known-decision-2 : tie.Need-enum-known-decision-2
 enum-known-decision-2 c = search needs
@@ -101,7 +104,7 @@ enum-known-decision-2 c = search needs
 fill-requires : tie.Need-fill-requires
 fill-requires c κs =
     let d = c .before .before in
-    let room = redo-paints _ _ _ _ (goes d .1) _ _ (goes d .2) (paint-fits _ _ _ _ _ _ (goes d .0)) in
+    let room = redo-paints _ _ _ _ (goes d .1) _ _ (goes d .2) (room-fits _ _ _ (goes d .0)) in
     (paints d, (room .0, room .1))
 
 recount-requires : tie.Need-recount-requires
@@ -109,7 +112,7 @@ recount-requires c κs =
     let filled = c .before .before .before .before .before .before .before in
     let d = filled .before .before .before in
     let first = begin (found (d .before .before .before)) in
-    let rows = redo-first-rows _ _ _ _ _ _ _ _ _ _ (first .pre .0) in
+    let rows = redo-sheet (first .pre .0) in
     paint-outdated _ (paints d) (filled .fill .ensures) _ (let few = passed-settings rows .few in omega arith) (passed-summary rows)
 
 add-now : tie.Need-add-now
@@ -135,7 +138,7 @@ returns-2 c =
     let d = filled .before .before .before in
     let entry = found (d .before .before .before) in
     let first = begin entry in
-    redo-done _ _ _ _ _ _ _ _ _ _ (sym (row (d .before .before .before)) ∙ goes d .0) (ap (λ x. first .args .in-force + x) (first .pre .2))
+    redo-done (sym (row (d .before .before .before)) ∙ goes d .0) (ap (λ x. first .args .in-force + x) (first .pre .2))
     (redo-made _ (first .pre .1) _ (next-is d) (paints d) (filled .fill .ensures))
     (redo-counted _ (first .pre .1) _ (next-is d) (paints d) (filled .fill .ensures) _ _ (counted .recount .ensures))
 

@@ -10,7 +10,7 @@ abbrev start : tie.After-next-step → tie.Start
 start c = c .before .before .before .before .before .before
 
 next-step-requires : tie.Need-next-step-requires
-next-step-requires c κs = to-redo _ _ _ _ _ _ _ _ _ _ (c .before .before .before .before .before .pre)
+next-step-requires c κs = to-redo (c .before .before .before .before .before .pre)
 
 redo-group-requires : tie.Need-redo-group-requires
 redo-group-requires c κs =

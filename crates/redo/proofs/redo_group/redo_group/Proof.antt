@@ -3,7 +3,7 @@ use Prim.Native.Nat.{_+_, _≤_}
 use native.Mathlib.Omega.{arith}
 use lib.ListN.{length}
 use Rattle.edit.proofs.EditCallTables.{passed-log}
-use Rattle.redo.proofs.RedoTable.{redo-first-rows}
+use Rattle.redo.proofs.RedoTable.{redo-sheet}
 use Rattle.redo.proofs.RedoGroup.{redo-kept, past-within, redo-last, redo-full, group-redone}
 use borrow.Author.Needs.{needs}
 use Rattle.redo.proofs.redo_group.redo_group.Statement.{statement}
@@ -18,7 +18,7 @@ within : (c : tie.Start)
     → (let a = c .args in
     (a .in-force + (a .end + 2) ≤ a .used) × (a .used ≤ length (a .log-keys .now)) × (a .used ≤ length (a .log-values .now)))
 within c =
-    let whole = passed-log (redo-first-rows _ _ _ _ _ _ _ _ _ _ (c .pre .0)) in
+    let whole = passed-log (redo-sheet (c .pre .0)) in
     (past-within (c .pre .0) (c .pre .1) _ (c .pre .2), whole .in-keys, whole .in-values)
 
 add-past : tie.Need-add-past
