@@ -4,3 +4,6 @@ pub mod TakingBackPlan
 pub mod GroupRuns
 pub mod Applying
 pub mod TakingBackGroup
+pub mod RedoTable
+pub mod RedoPlan
+pub mod RedoGroup

@@ -1,4 +1,6 @@
-// Take back (document 01; document 02, items 7 and 10): a single entry by a plan, a group as one change of the list.
+// Take back (document 01; document 02, items 7 and 10) and redo (document 02, items 7 and 10): a single entry by a plan, a group as one change of the list.
 pub mod group;
+pub mod redo;
+pub mod redo_group;
 pub mod take_back;
 pub mod take_back_group;

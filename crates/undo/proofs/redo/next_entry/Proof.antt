@@ -1,8 +1,8 @@
 -- `redo::next_entry` meets its contract: the last entry of the part of the log that is lent, up to where the next step ends.
-use Rattle.redo.proofs.RedoPlan.{next-ended, next-found}
+use Rattle.undo.proofs.RedoPlan.{next-ended, next-found}
 use borrow.Author.Needs.{needs}
-use Rattle.redo.proofs.redo.next_entry.Statement.{statement}
-use Rattle.redo.proofs.redo.next_entry.Tie as tie
+use Rattle.undo.proofs.redo.next_entry.Statement.{statement}
+use Rattle.undo.proofs.redo.next_entry.Tie as tie
 
 mul-last-entry : tie.Need-mul-last-entry
 mul-last-entry c = search needs

@@ -10,8 +10,8 @@ use Rattle.edit.proofs.Planned.{old-there, few-levels, length-told}
 use Rattle.edit.proofs.PaintPlan.{paint-found, paint-planned}
 use Rattle.edit.proofs.EditCallTables.{room-told, room-clear}
 use borrow.Author.Needs.{needs}
-use Rattle.redo.proofs.redo.decide.Statement.{statement}
-use Rattle.redo.proofs.redo.decide.Tie as tie
+use Rattle.undo.proofs.redo.decide.Statement.{statement}
+use Rattle.undo.proofs.redo.decide.Tie as tie
 
 -- the start, from the bits of the feature
 abbrev start : tie.After-power-of-two → tie.Start

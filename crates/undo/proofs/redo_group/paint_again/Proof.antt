@@ -1,9 +1,9 @@
 -- `redo_group::paint_again` meets its contract: the deed over the group's run paints its entries again.
 use Rattle.undo.proofs.GroupRuns.{group-again}
 use Rattle.undo.proofs.Applying.{applied-as}
 use borrow.Author.Needs.{needs}
-use Rattle.redo.proofs.redo_group.paint_again.Statement.{statement}
-use Rattle.redo.proofs.redo_group.paint_again.Tie as tie
+use Rattle.undo.proofs.redo_group.paint_again.Statement.{statement}
+use Rattle.undo.proofs.redo_group.paint_again.Tie as tie
 
 last-run-requires : tie.Need-last-run-requires
 last-run-requires c κs = c .before .before .before .before .before .pre .0

@@ -10,7 +10,7 @@ ghost use Rattle.edit.specs.PaintCall.{Paintable, paintPlan};
 ghost use Rattle.definitions.specs.Calls.Edit.{asLent};
 ghost use Rattle.definitions.specs.Calls.Paint.{painted};
 ghost use Rattle.definitions.specs.Calls.Redo.{Redone};
-ghost use Rattle.redo.specs.RedoCall.{Redoable, LogToRedo, nextStep, nextEntry};
+ghost use Rattle.undo.specs.RedoCall.{Redoable, LogToRedo, nextStep, nextEntry};
 use crate::redo_group;
 use definitions::Edited;
 use edit::decision;

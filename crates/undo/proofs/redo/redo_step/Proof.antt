@@ -1,9 +1,9 @@
 -- `redo::redo_step` meets its contract: the next step's kind says which way it is redone.
-use Rattle.redo.proofs.RedoPlan.{next-single, next-group}
-use Rattle.redo.proofs.RedoTable.{to-redo}
+use Rattle.undo.proofs.RedoPlan.{next-single, next-group}
+use Rattle.undo.proofs.RedoTable.{to-redo}
 use borrow.Author.Needs.{needs}
-use Rattle.redo.proofs.redo.redo_step.Statement.{statement}
-use Rattle.redo.proofs.redo.redo_step.Tie as tie
+use Rattle.undo.proofs.redo.redo_step.Statement.{statement}
+use Rattle.undo.proofs.redo.redo_step.Tie as tie
 
 -- the start, from the next step
 abbrev start : tie.After-next-step → tie.Start

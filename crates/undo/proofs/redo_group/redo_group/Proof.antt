@@ -3,11 +3,11 @@ use Prim.Native.Nat.{_+_, _≤_}
 use native.Mathlib.Omega.{arith}
 use lib.ListN.{length}
 use Rattle.edit.proofs.EditCallTables.{passed-log}
-use Rattle.redo.proofs.RedoTable.{redo-sheet}
-use Rattle.redo.proofs.RedoGroup.{redo-kept, past-within, redo-last, redo-full, group-redone}
+use Rattle.undo.proofs.RedoTable.{redo-sheet}
+use Rattle.undo.proofs.RedoGroup.{redo-kept, past-within, redo-last, redo-full, group-redone}
 use borrow.Author.Needs.{needs}
-use Rattle.redo.proofs.redo_group.redo_group.Statement.{statement}
-use Rattle.redo.proofs.redo_group.redo_group.Tie as tie
+use Rattle.undo.proofs.redo_group.redo_group.Statement.{statement}
+use Rattle.undo.proofs.redo_group.redo_group.Tie as tie
 
 -- the start, from the paint
 abbrev start : tie.After-paint-again → tie.Start

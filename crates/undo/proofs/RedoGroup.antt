@@ -1,4 +1,4 @@
--- A group that is redone: what its run and the list ask for, and the call's answers. Rests on undo's Applying and StepAnswers, on
+-- A group that is redone: what its run and the list ask for, and the call's answers. Rests on Applying and StepAnswers, on
 -- RedoPlan and RedoTable.
 use Prim.Native.Nat.{ℕ, _+_, _-_, _≤_}
 use mathlib.Core.Path.{_≡_, sym, _∙_, ap}
@@ -13,13 +13,13 @@ use Rattle.definitions.specs.Calls.Edit.{asLent}
 use Rattle.definitions.specs.Calls.Redo.{redonePicture, Redone}
 use Rattle.laws.proofs.LastStep.{entries-group, ends-in-group}
 use Rattle.list.specs.Own.{shownBy}
 use Rattle.undo.specs.GroupCall.{GroupLast, WithSummary, Applied}
-use Rattle.redo.specs.RedoCall.{Redoable, LogToRedo}
+use Rattle.undo.specs.RedoCall.{Redoable, LogToRedo}
 use Rattle.edit.proofs.EditCallTables.{passed-settings, passed-own, passed-summary}
 use Rattle.undo.proofs.Applying.{applied-as}
 use Rattle.undo.proofs.StepAnswers.{step-full, step-applied}
-use Rattle.redo.proofs.RedoPlan.{redo-first, part-lent, end-within, first-records}
-use Rattle.redo.proofs.RedoTable.{redo-sheet, redo-own, to-redo}
+use Rattle.undo.proofs.RedoPlan.{redo-first, part-lent, end-within, first-records}
+use Rattle.undo.proofs.RedoTable.{redo-sheet, redo-own, to-redo}
 
 module _ {m s : ℕ} {keys bits : List ℕ} {n : ℕ} {summary logKeys logValues : List ℕ} {used inForce : ℕ}
     (t : Redoable (asLent m s keys bits n summary logKeys logValues used inForce)) where

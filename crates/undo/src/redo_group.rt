@@ -5,13 +5,13 @@ ghost use lib.ListN.{length};
 ghost use Rattle.definitions.specs.Read.{recordsOf};
 ghost use Rattle.definitions.specs.Log.{endsInMark, stepCount, stepEntries, firstStep, paintAgain, toRedo};
 ghost use Rattle.list.specs.Own.{shownBy};
 ghost use Rattle.undo.specs.GroupCall.{GroupLast, WithSummary, Applied};
 ghost use Rattle.definitions.specs.Calls.Edit.{asLent};
 ghost use Rattle.definitions.specs.Calls.Redo.{Redone};
-ghost use Rattle.redo.specs.RedoCall.{Redoable};
+ghost use Rattle.undo.specs.RedoCall.{Redoable};
+use crate::group;
 use definitions::Edited;
 use step::deed::Deed;
-use undo::group;
 
 // The group that the used records of a log end in is painted again. Gives the number of records, or 0 where there is no room.
 fn paint_again(

@@ -10,15 +10,15 @@ use Rattle.definitions.specs.Calls.Redo.{redo}
 use Rattle.laws.proofs.Edits.{edit-refused}
 use Rattle.edit.specs.EditCallChecks.{listRoomRefusal}
 use Rattle.edit.specs.PaintCall.{Paintable, paintPlan}
-use Rattle.redo.specs.RedoCall.{nextEntry, LogToRedo}
+use Rattle.undo.specs.RedoCall.{nextEntry, LogToRedo}
 use Rattle.edit.proofs.Decided.{refused, granted}
 use Rattle.edit.proofs.EditCallTables.{room-fits, passed-settings, passed-own, passed-summary}
 use Rattle.edit.proofs.PaintPlan.{paint-outdated}
-use Rattle.redo.proofs.RedoPlan.{redo-paintable, end-within, redone-is, redo-paints, redo-made, redo-counted}
-use Rattle.redo.proofs.RedoTable.{redo-sheet, to-redo, painted-row, redo-done}
+use Rattle.undo.proofs.RedoPlan.{redo-paintable, end-within, redone-is, redo-paints, redo-made, redo-counted}
+use Rattle.undo.proofs.RedoTable.{redo-sheet, to-redo, painted-row, redo-done}
 use borrow.Author.Needs.{needs}
-use Rattle.redo.proofs.redo.redo_entry.Statement.{statement}
-use Rattle.redo.proofs.redo.redo_entry.Tie as tie
+use Rattle.undo.proofs.redo.redo_entry.Statement.{statement}
+use Rattle.undo.proofs.redo.redo_entry.Tie as tie
 
 -- the start, from the next entry and from the decision
 abbrev begin : tie.After-next-entry → tie.Start

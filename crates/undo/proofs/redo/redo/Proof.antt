@@ -5,11 +5,11 @@ use borrow.Author.Tests.{eq-eqb}
 use Rattle.definitions.specs.Calls.Edit.{asLent}
 use Rattle.laws.proofs.First.{this}
 use Rattle.laws.proofs.Edits.{SheetPassed, own-refuses, edit-refused}
-use Rattle.redo.specs.RedoCall.{Redoable}
+use Rattle.undo.specs.RedoCall.{Redoable}
 use Rattle.edit.proofs.EditCallTables.{edit-early, first-passed, passed-log}
 use borrow.Author.Needs.{needs}
-use Rattle.redo.proofs.redo.redo.Statement.{statement}
-use Rattle.redo.proofs.redo.redo.Tie as tie
+use Rattle.undo.proofs.redo.redo.Statement.{statement}
+use Rattle.undo.proofs.redo.redo.Tie as tie
 
 -- the start, from the first refusal
 abbrev start : tie.After-edit-refusal → tie.Start

@@ -1,8 +1,8 @@
 -- `redo::next_step` meets its contract: the first step of the part of the log that is lent.
-use Rattle.redo.proofs.RedoPlan.{redo-divided, step-found}
+use Rattle.undo.proofs.RedoPlan.{redo-divided, step-found}
 use borrow.Author.Needs.{needs}
-use Rattle.redo.proofs.redo.next_step.Statement.{statement}
-use Rattle.redo.proofs.redo.next_step.Tie as tie
+use Rattle.undo.proofs.redo.next_step.Statement.{statement}
+use Rattle.undo.proofs.redo.next_step.Tie as tie
 
 mul-first-step : tie.Need-mul-first-step
 mul-first-step c = search needs

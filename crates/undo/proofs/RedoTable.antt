@@ -1,4 +1,4 @@
--- The table of redo past its first rows, what a redo that is not refused may rely on, and its answer. Rests on undo's StepAnswers.
+-- The table of redo past its first rows, what a redo that is not refused may rely on, and its answer. Rests on StepAnswers.
 use Prim.Native.Nat.{ℕ, _+_}
 use mathlib.Core.Path.{_≡_, refl, sym, ap, _∙_}
 use mathlib.Core.Bool.{false}
@@ -16,9 +16,9 @@ use Rattle.definitions.specs.Calls.Redo.{redonePicture, redone, redo, Redone}
 use Rattle.laws.proofs.Edits.{SheetPassed}
 use Rattle.put.specs.Putting.{Replaced}
 use Rattle.edit.specs.EditCallChecks.{listRoomRefusal}
-use Rattle.redo.specs.RedoCall.{Redoable, LogToRedo}
+use Rattle.undo.specs.RedoCall.{Redoable, LogToRedo}
 use Rattle.edit.proofs.EditCallTables.{first-passed, passed-settings, passed-log}
 use Rattle.undo.proofs.StepAnswers.{step-put, step-row}
 
 module _ {l : LentSheet} (t : Redoable l) where
   pub redo-sheet : SheetPassed l

@@ -28,7 +28,7 @@ use Rattle.log.proofs.Parts.{part-length, part-redo}
 use Rattle.put.specs.Putting.{Replaced}
 use Rattle.put.specs.declared.plan.Plan.{Plan}
 use Rattle.edit.specs.PaintCall.{Paintable, paintPlan}
-use Rattle.redo.specs.RedoCall.{LogToRedo, nextStep, nextEntry}
+use Rattle.undo.specs.RedoCall.{LogToRedo, nextStep, nextEntry}
 use Rattle.edit.proofs.PaintPlan.{paint-counted}
 
 -- the records to redo

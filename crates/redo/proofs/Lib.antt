@@ -1,3 +1,0 @@
-pub mod RedoTable
-pub mod RedoPlan
-pub mod RedoGroup
