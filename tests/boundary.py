@@ -134,8 +134,7 @@ def read_sources(t):
     for name in calls:
         # a clipped call has the table of the strict one
         words = name.removesuffix("_clipped").split("_")[1:]
-        table = tables.get("".join(word.capitalize() for word in words), "")
-        rows = [int(number) for number in re.findall(r"\bgives (\d+)", re.sub(r"--.*", "", table))]
+        rows = rows_of("".join(word.capitalize() for word in words), tables)
         if rows:
             refusals[name] = rows
     named = re.search(r"^impl Refusal \{(.*?)^\}", definitions, flags=re.S | re.M)
@@ -148,6 +147,20 @@ def number_of(constant, text):
     if len(found) != 1:
         raise Unreadable(f"the constant {constant} stands {len(found)} times")
     return int(found[0])
+
+
+# The numbers of a call's table in order. The four edits share a frame, Edit.antt: its rows stand around an edit's own,
+# which it names by FRAMED.
+FRAME, FRAMED = "Calls.Edit.{", "(e .rows ++ "
+
+
+def rows_of(name, tables):
+    told = lambda text: [int(number) for number in re.findall(r"\bgives (\d+)", re.sub(r"--.*", "", text))]
+    own = told(tables.get(name, ""))
+    if FRAME not in tables.get(name, ""):
+        return own
+    before, _, after = re.sub(r"--.*", "", tables["Edit"]).partition(FRAMED)
+    return told(before) + own + told(after)
 
 
 def read_field(struct, text):
@@ -463,6 +476,11 @@ def changes(t):
     for name, table in t["tables"].items():
         for row in re.finditer(r"gives (\d+)", table):
             yield "tables", {**t["tables"], name: table[:row.start()] + "gives 99" + table[row.end():]}
+        if FRAME in table: # an edit that leaves the frame
+            yield "tables", {**t["tables"], name: table.replace(FRAME, "Calls.Other.{")}
+    frame = t["tables"]["Edit"] # an edit's own rows at the end of the table, and at its front
+    yield "tables", {**t["tables"], "Edit": frame.replace(FRAMED, "(")}
+    yield "tables", {**t["tables"], "Edit": FRAMED + frame}
 
 
 # The calls on a sheet: one taken away or renamed, its warning, its parameters, what it hands on, and the macros of it.

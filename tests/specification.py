@@ -324,7 +324,7 @@ def changed_pages(lines):
     whole = "\n".join(lines)
     for old, new in (("(S4.11)", "(S4.99)"), ("(Decision 31)", "(Decision 999)"), ("## S9 ", "## S90 "),
                      ("20 011\n", "20 010\n"), ("[law `", "[law "), ("1, 4, 18, 5, 8, 7", "1, 4, 18, 5, 7, 8"),
-                     ("`definitions/Calls/Redo.redoRefusal` |", "`definitions/Calls/Paint.paintRefusal` |")):
+                     ("`definitions/Calls/Redo.redo` |", "`definitions/Calls/Paint.paint` |")):
         yield f"{new} for {old}", whole.replace(old, new, 1).splitlines()
 
 

@@ -23,9 +23,10 @@ use Rattle.definitions.specs.Calls.Build.{buildRefusal, build, buildKeys
 use Rattle.definitions.specs.Calls.Raster.{rasterRefusal, rasterPixels}
 use Rattle.definitions.specs.Calls.ReadLeaves.{readLeavesRefusal, readLeaves, readLeavesKeys, readLeavesBits}
 use Rattle.definitions.specs.Calls.WriteLeaves.{writeLeavesRefusal, writeLeaves, writtenLeafKeys, writtenLeafFeatures}
-use Rattle.definitions.specs.Calls.Paint.{painted, gained, paintRefusal, paint, paintKeys, paintBits, paintSummary, paintLogKeys, paintLogValues}
-use Rattle.definitions.specs.Calls.TakeBack.{restored, takeBackRefusal, forceBefore, takeBack, takeBackKeys, takeBackBits, takeBackSummary}
-use Rattle.definitions.specs.Calls.Redo.{redone, redoRefusal, forceAfter, redo, redoKeys, redoBits, redoSummary}
+use Rattle.definitions.specs.Calls.Edit.{editRefusal, editAnswer, keysLeft, bitsLeft, summaryLeft, logKeysLeft, logValuesLeft}
+use Rattle.definitions.specs.Calls.Paint.{painted, gained, paint}
+use Rattle.definitions.specs.Calls.TakeBack.{takeBack}
+use Rattle.definitions.specs.Calls.Redo.{redo}
 use Rattle.definitions.specs.Calls.Store.{stored, storeRefusal, store, storeFile}
 use Rattle.definitions.specs.Calls.Load.{loadRefusal, load, loadKeys, loadBits}
 use Rattle.definitions.proofs.Vectors.{VectorRow, row, Holds, shown, window, of-counted, of-edited, unwritten}
@@ -121,24 +122,24 @@ table =
     ∷ row (writtenLeafKeys 1 32 keys bits 5 (unwritten 4) (unwritten 5)) leafKeys
     ∷ row (writtenLeafFeatures 1 32 keys bits 5 (unwritten 4) (unwritten 5)) (pixels ++ unwritten 1)
     -- the log: the former content with class 31 in it, and the painted feature 31
-    ∷ row (of-edited (paint 1 32 keys bits 5 summary (unwritten 8) (unwritten 8) 0 0 0 31)) (0 ∷ 1 ∷ 7 ∷ 7 ∷ [])
-    ∷ row (paintKeys 1 32 keys bits 5 summary (unwritten 8) (unwritten 8) 0 0 0 31) keysP
-    ∷ row (paintBits 1 32 keys bits 5 summary (unwritten 8) (unwritten 8) 0 0 0 31) bitsP
-    ∷ row (paintSummary 1 32 keys bits 5 summary (unwritten 8) (unwritten 8) 0 0 0 31) summaryP
-    ∷ row (paintLogKeys 1 32 keys bits 5 summary (unwritten 8) (unwritten 8) 0 0 0 31) logKeysP
-    ∷ row (paintLogValues 1 32 keys bits 5 summary (unwritten 8) (unwritten 8) 0 0 0 31) logValuesP
+    ∷ row (of-edited (editAnswer (paint 1 32 keys bits 5 summary (unwritten 8) (unwritten 8) 0 0 0 31))) (0 ∷ 1 ∷ 7 ∷ 7 ∷ [])
+    ∷ row (keysLeft (paint 1 32 keys bits 5 summary (unwritten 8) (unwritten 8) 0 0 0 31)) keysP
+    ∷ row (bitsLeft (paint 1 32 keys bits 5 summary (unwritten 8) (unwritten 8) 0 0 0 31)) bitsP
+    ∷ row (summaryLeft (paint 1 32 keys bits 5 summary (unwritten 8) (unwritten 8) 0 0 0 31)) summaryP
+    ∷ row (logKeysLeft (paint 1 32 keys bits 5 summary (unwritten 8) (unwritten 8) 0 0 0 31)) logKeysP
+    ∷ row (logValuesLeft (paint 1 32 keys bits 5 summary (unwritten 8) (unwritten 8) 0 0 0 31)) logValuesP
     -- it is a log of 32 slots, and not of 31; feature 32 is none
     ∷ row (truth (noLog 1 32 logKeysP logValuesP 7 7) ∷ truth (noLog 1 31 logKeysP logValuesP 7 7) ∷ []) (0 ∷ 1 ∷ [])
-    ∷ row (of-edited (paint 1 32 keys bits 5 summary (unwritten 8) (unwritten 8) 0 0 0 32)) (7 ∷ 0 ∷ 0 ∷ 0 ∷ [])
+    ∷ row (of-edited (editAnswer (paint 1 32 keys bits 5 summary (unwritten 8) (unwritten 8) 0 0 0 32))) (7 ∷ 0 ∷ 0 ∷ 0 ∷ [])
     -- taken back, and redone
-    ∷ row (of-edited (takeBack 1 32 keysP bitsP 1 summaryP logKeysP logValuesP 7 7)) (0 ∷ 5 ∷ 7 ∷ 0 ∷ [])
-    ∷ row (takeBackKeys 1 32 keysP bitsP 1 summaryP logKeysP logValuesP 7 7) keys
-    ∷ row (takeBackBits 1 32 keysP bitsP 1 summaryP logKeysP logValuesP 7 7) bits
-    ∷ row (takeBackSummary 1 32 keysP bitsP 1 summaryP logKeysP logValuesP 7 7) summary
-    ∷ row (of-edited (redo 1 32 keys bits 5 summary logKeysP logValuesP 7 0)) (0 ∷ 1 ∷ 7 ∷ 7 ∷ [])
-    ∷ row (redoKeys 1 32 keys bits 5 summary logKeysP logValuesP 7 0) keysP
-    ∷ row (redoBits 1 32 keys bits 5 summary logKeysP logValuesP 7 0) bitsP
-    ∷ row (redoSummary 1 32 keys bits 5 summary logKeysP logValuesP 7 0) summaryP
+    ∷ row (of-edited (editAnswer (takeBack 1 32 keysP bitsP 1 summaryP logKeysP logValuesP 7 7))) (0 ∷ 5 ∷ 7 ∷ 0 ∷ [])
+    ∷ row (keysLeft (takeBack 1 32 keysP bitsP 1 summaryP logKeysP logValuesP 7 7)) keys
+    ∷ row (bitsLeft (takeBack 1 32 keysP bitsP 1 summaryP logKeysP logValuesP 7 7)) bits
+    ∷ row (summaryLeft (takeBack 1 32 keysP bitsP 1 summaryP logKeysP logValuesP 7 7)) summary
+    ∷ row (of-edited (editAnswer (redo 1 32 keys bits 5 summary logKeysP logValuesP 7 0))) (0 ∷ 1 ∷ 7 ∷ 7 ∷ [])
+    ∷ row (keysLeft (redo 1 32 keys bits 5 summary logKeysP logValuesP 7 0)) keysP
+    ∷ row (bitsLeft (redo 1 32 keys bits 5 summary logKeysP logValuesP 7 0)) bitsP
+    ∷ row (summaryLeft (redo 1 32 keys bits 5 summary logKeysP logValuesP 7 0)) summaryP
     -- the file, byte for byte, and the list of the file
     ∷ row (of-counted (store 1 32 keys bits 5 (unwritten 50))) (12 ∷ 51 ∷ [])
     ∷ row (storeFile 1 32 keys bits 5 (unwritten 52)) (fileBytes ++ unwritten 1)
@@ -168,7 +169,7 @@ unfolding
     bytesOf numberAfter numberOf versionFor bitBytes bytesOfRecords headOf fileOf numberAt readRecords recordsInFile sameBytes wrongMark otherVersion badAtVersion
     buildRefusal build buildKeys buildBits rasterRefusal rasterPixels
     readLeavesRefusal readLeaves readLeavesKeys readLeavesBits writeLeavesRefusal writeLeaves writtenLeafKeys writtenLeafFeatures
-    painted gained paintRefusal paint paintKeys paintBits paintSummary paintLogKeys paintLogValues
-    restored takeBackRefusal forceBefore takeBack takeBackKeys takeBackBits takeBackSummary redone redoRefusal forceAfter redo redoKeys redoBits redoSummary
+    painted gained
     stored storeRefusal store storeFile loadRefusal load loadKeys loadBits
+    editRefusal editAnswer keysLeft bitsLeft summaryLeft logKeysLeft logValuesLeft
 claim = refl

@@ -19,7 +19,8 @@ use Rattle.definitions.specs.Log.{closed, entryOf, countRecord, lastReco
 use Rattle.definitions.specs.Rules.{findingsOf, allFindings, waiversOf, isWaivedAt, isHidden, liveOf, hiddenCount, isRule, allRules, idsAscend, badRules, findingsAscend, isRuleId, allWaivers, badWaivers}
 use Rattle.definitions.specs.File.{bytesOf, numberAfter, numberOf, versionFor, bitBytes, bytesOfRecords, headOf, fileOf, numberAt, readRecords, recordsInFile, sameBytes, wrongMark, otherVersion, badAtVersion}
 use Rattle.definitions.specs.Calls.Build.{buildRefusal, build, buildKeys, buildBits}
-use Rattle.definitions.specs.Calls.Paint.{painted, gained, paintRefusal, paint, paintKeys, paintSummary}
+use Rattle.definitions.specs.Calls.Edit.{editRefusal, editAnswer, keysLeft, summaryLeft}
+use Rattle.definitions.specs.Calls.Paint.{gained, paint}
 use Rattle.definitions.specs.Calls.Findings.{liveIn, hiddenIn, refusalWith, foundWith, findings}
 use Rattle.definitions.specs.Offices.{rowsIn, tableOf, rowsOf, rowsAscend, officesKnown, isSoundTable, isTable, rowKeysValid}
 use Rattle.definitions.specs.Calls.Load.{loadRefusal}
@@ -103,10 +104,10 @@ table =
     ∷ says (noLog 1 2 twoKeys (set twoValues 5 2) 6 3) 1
     ∷ says (noLog 1 2 twoKeys (set twoValues 3 0) 6 3) 1
     -- a paint that changes no pixel is logged, and the list stays in exact room, and so does the summary; with no room in the log it is refused like any other
-    ∷ row (of-edited (paint 2 3 (keysA 0) (bitsA 0) 9 summaryA (unwritten 3) (unwritten 3) 0 0 (key (1 ∷ 1 ∷ [])) 0)) (0 ∷ 9 ∷ 3 ∷ 3 ∷ [])
-    ∷ row (paintKeys 2 3 (keysA 0) (bitsA 0) 9 summaryA (unwritten 3) (unwritten 3) 0 0 (key (1 ∷ 1 ∷ [])) 0) (keysA 0)
-    ∷ row (paintSummary 2 3 (keysA 0) (bitsA 0) 9 summaryA (unwritten 3) (unwritten 3) 0 0 (key (1 ∷ 1 ∷ [])) 0) summaryA
-    ∷ row (of-edited (paint 2 3 (keysA 0) (bitsA 0) 9 summaryA (unwritten 2) (unwritten 3) 0 0 (key (1 ∷ 1 ∷ [])) 0)) (10 ∷ 0 ∷ 0 ∷ 0 ∷ [])
+    ∷ row (of-edited (editAnswer (paint 2 3 (keysA 0) (bitsA 0) 9 summaryA (unwritten 3) (unwritten 3) 0 0 (key (1 ∷ 1 ∷ [])) 0))) (0 ∷ 9 ∷ 3 ∷ 3 ∷ [])
+    ∷ row (keysLeft (paint 2 3 (keysA 0) (bitsA 0) 9 summaryA (unwritten 3) (unwritten 3) 0 0 (key (1 ∷ 1 ∷ [])) 0)) (keysA 0)
+    ∷ row (summaryLeft (paint 2 3 (keysA 0) (bitsA 0) 9 summaryA (unwritten 3) (unwritten 3) 0 0 (key (1 ∷ 1 ∷ [])) 0)) summaryA
+    ∷ row (of-edited (editAnswer (paint 2 3 (keysA 0) (bitsA 0) 9 summaryA (unwritten 2) (unwritten 3) 0 0 (key (1 ∷ 1 ∷ [])) 0))) (10 ∷ 0 ∷ 0 ∷ 0 ∷ [])
     -- a summary too short, too long, of other counts, and of the counts in another block's places: a paint is refused and leaves it
     ∷ row
     (refusedBy []
@@ -116,7 +117,7 @@ table =
     ∷ refusedBy summaryA
     ∷ [])
     (18 ∷ 18 ∷ 18 ∷ 18 ∷ 0 ∷ [])
-    ∷ row (paintSummary 2 3 (keysA 0) (bitsA 0) 9 (unwritten 48) (unwritten 3) (unwritten 3) 0 0 (key (1 ∷ 1 ∷ [])) 0) (unwritten 48)
+    ∷ row (summaryLeft (paint 2 3 (keysA 0) (bitsA 0) 9 (unwritten 48) (unwritten 3) (unwritten 3) 0 0 (key (1 ∷ 1 ∷ [])) 0)) (unwritten 48)
     -- findings: no rules and no waivers; rules without waivers; with 12 the places of the live ones and hidden 0
     ∷ row (of-found (findings 2 3 (keysA 0) (bitsA 0) 9 0 [] (tableWith []) (tableWith []) (tableWith []) 0 [] [])) (0 ∷ 0 ∷ 0 ∷ [])
     ∷ row (of-found (findings 2 3 (keysA 0) (bitsA 0) 9 0 (rule 7 ∷ []) (tableWith []) (tableWith []) (tableWith []) 0 (unwritten 2) (unwritten 2))) (0 ∷ 2 ∷ 0 ∷ [])
@@ -137,7 +138,7 @@ table =
 
     -- the refusal of a paint of Map A with this summary
     refusedBy : List ℕ → ℕ
-    refusedBy summary = paintRefusal 2 3 (keysA 0) (bitsA 0) 9 summary (unwritten 3) (unwritten 3) 0 0 (key (1 ∷ 1 ∷ [])) 0
+    refusedBy summary = editRefusal (paint 2 3 (keysA 0) (bitsA 0) 9 summary (unwritten 3) (unwritten 3) 0 0 (key (1 ∷ 1 ∷ [])) 0)
 
     of-found : Found → List ℕ
     of-found r = r .refusal ∷ r .live ∷ r .hidden ∷ []
@@ -156,7 +157,8 @@ unfolding
     findingsOf allFindings waiversOf isWaivedAt isHidden liveOf hiddenCount isRule allRules idsAscend badRules findingsAscend isRuleId allWaivers badWaivers
     bytesOf numberAfter numberOf versionFor bitBytes bytesOfRecords headOf fileOf numberAt readRecords recordsInFile sameBytes wrongMark otherVersion badAtVersion
     buildRefusal build buildKeys buildBits
-    painted gained paintRefusal paint paintKeys paintSummary
+    gained
     rowsIn tableOf rowsOf rowsAscend officesKnown isSoundTable isTable rowKeysValid
     liveIn hiddenIn refusalWith foundWith tableWith loadRefusal
+    editRefusal editAnswer keysLeft summaryLeft
 claim = refl

@@ -15,7 +15,8 @@ use Rattle.definitions.specs.Window.{isWindow, inWindow, featuresOfRow, 
 use Rattle.definitions.specs.Edit.{put, paintIn, contentOf}
 use Rattle.definitions.specs.Log.{closed, entryOf, countRecord, lastRecord, lastKey, lastFeature, lastCount, beforeLast, lastContent, isContent, closes, lastIsEntry, dividesIn, isSound, noLog}
 use Rattle.definitions.specs.Rules.{findingsOf, allFindings, waiversOf, isWaivedAt, isHidden, liveOf, hiddenCount, isRule, allRules, idsAscend, badRules, findingsAscend, isRuleId, allWaivers, badWaivers}
-use Rattle.definitions.specs.Calls.Paint.{painted, gained, paintRefusal, paint, paintKeys, paintBits}
+use Rattle.definitions.specs.Calls.Edit.{editRefusal, editAnswer, keysLeft, bitsLeft}
+use Rattle.definitions.specs.Calls.Paint.{gained, paint}
 use Rattle.definitions.specs.Calls.Findings.{liveIn, hiddenIn, refusalWith, foundWith, foundKeysWith, findings, findingsKeys}
 use Rattle.definitions.specs.Offices.{rowsIn, tableOf, rowsOf, rowsAscend, officesKnown, isSoundTable, isTable, rowKeysValid}
 use Rattle.definitions.specs.declared.Rule.{Rule}
@@ -59,9 +60,9 @@ table =
     -- rule 7's three findings are waived, and the gap with them; rule 8 has no waiver and three findings
     row (of-found (before (7 ∷ 7 ∷ 7 ∷ 7 ∷ []) four)) (0 ∷ 3 ∷ 3 ∷ [])
     -- the paint makes one block of the four
-    ∷ row (of-edited (paint 2 3 (keysA 0) (bitsA 0) 9 summaryA (unwritten 3) (unwritten 3) 0 0 gap 1)) (0 ∷ 5 ∷ 3 ∷ 3 ∷ [])
-    ∷ row (paintKeys 2 3 (keysA 0) (bitsA 0) 9 summaryA (unwritten 3) (unwritten 3) 0 0 gap 1) keysAfter
-    ∷ row (paintBits 2 3 (keysA 0) (bitsA 0) 9 summaryA (unwritten 3) (unwritten 3) 0 0 gap 1) bitsAfter
+    ∷ row (of-edited (editAnswer (paint 2 3 (keysA 0) (bitsA 0) 9 summaryA (unwritten 3) (unwritten 3) 0 0 gap 1))) (0 ∷ 5 ∷ 3 ∷ 3 ∷ [])
+    ∷ row (keysLeft (paint 2 3 (keysA 0) (bitsA 0) 9 summaryA (unwritten 3) (unwritten 3) 0 0 gap 1)) keysAfter
+    ∷ row (bitsLeft (paint 2 3 (keysA 0) (bitsA 0) 9 summaryA (unwritten 3) (unwritten 3) 0 0 gap 1)) bitsAfter
     -- rule 7's finding is hidden, though no waiver has its key; rule 8's is given
     ∷ row (of-found (after (7 ∷ 7 ∷ 7 ∷ 7 ∷ []) four)) (0 ∷ 1 ∷ 1 ∷ [])
     ∷ row (findingsKeys 2 3 keysAfter bitsAfter 5 0 rules (tableWith []) (tableWith (7 ∷ 7 ∷ 7 ∷ 7 ∷ [])) (tableWith four) 4 (unwritten 2) (unwritten 2)) (parent ∷ unwritten 1)
@@ -93,7 +94,8 @@ unfolding
     put paintIn contentOf
     closed entryOf countRecord lastRecord lastKey lastFeature lastCount beforeLast lastContent isContent closes lastIsEntry dividesIn isSound noLog
     findingsOf allFindings waiversOf isWaivedAt isHidden liveOf hiddenCount isRule allRules idsAscend badRules findingsAscend isRuleId allWaivers badWaivers
-    painted gained paintRefusal paint paintKeys paintBits
+    gained
     rowsIn tableOf rowsOf rowsAscend officesKnown isSoundTable isTable rowKeysValid
     liveIn hiddenIn refusalWith foundWith foundKeysWith tableWith
+    editRefusal editAnswer keysLeft bitsLeft
 claim = refl

@@ -16,10 +16,11 @@ use Rattle.definitions.specs.Window.{isWindow, inWindow, featuresOfRow, 
 use Rattle.definitions.specs.Area.{countOf, pixelsWith, countsFrom, summaryBelow, summaryOf, sameNumbers, noSummary}
 use Rattle.definitions.specs.Edit.{put, paintIn, fillWindow, contentOf}
 use Rattle.definitions.specs.Log.{closed, entryOf, countRecord, lastRecord, lastKey, lastFeature, lastCount, beforeLast, lastContent, isContent, closes, lastIsEntry, grouped, entriesOf, groupOf, endsInMark, stepCount, stepEntries, beforeEntries, beforeStep, endsInEntries, lastIsGroup, lastIsStep, dividesIn, isSound, putBack, paintAgain, firstIn, firstStep, noLog}
-use Rattle.definitions.specs.Calls.Paint.{painted, gained, paintRefusal, paint}
-use Rattle.definitions.specs.Calls.PaintWindow.{filled, groupGained, paintWindowRefusal, paintWindow, paintWindowKeys, paintWindowBits, paintWindowSummary, paintWindowLogKeys, paintWindowLogValues}
-use Rattle.definitions.specs.Calls.TakeBack.{restored, takeBackRefusal, forceBefore, takeBack, takeBackKeys, takeBackBits, takeBackSummary, takeBackLogKeys}
-use Rattle.definitions.specs.Calls.Redo.{redone, redoRefusal, forceAfter, redo, redoKeys, redoBits}
+use Rattle.definitions.specs.Calls.Edit.{editRefusal, editAnswer, keysLeft, bitsLeft, summaryLeft, logKeysLeft, logValuesLeft}
+use Rattle.definitions.specs.Calls.Paint.{gained, paint}
+use Rattle.definitions.specs.Calls.PaintWindow.{groupGained, paintWindow}
+use Rattle.definitions.specs.Calls.TakeBack.{takeBack}
+use Rattle.definitions.specs.Calls.Redo.{redo}
 use Rattle.definitions.proofs.Vectors.{VectorRow, row, Holds, key, slots, window, of-edited, keysA, bitsA, unwritten}
 use Rattle.definitions.proofs.AreaVectors.{counted, summaryA}
 
@@ -70,54 +71,54 @@ table : List VectorRow
 table =
     row (largestBlocks 2 (window 0 1 2 3)) (key (1 ∷ 2 ∷ []) ∷ key (1 ∷ 4 ∷ []) ∷ key (2 ∷ 0 ∷ []) ∷ [])
     -- painted, into exactly the nine places that the list has then; its first block alone would need thirteen
-    ∷ row (of-edited (paintWindow 2 3 (keysA 0) (bitsA 0) 9 summaryA (unwritten 16) (unwritten 16) 0 0 (window 0 1 2 3) 2)) (0 ∷ 9 ∷ 15 ∷ 15 ∷ [])
-    ∷ row (of-edited (paint 2 3 (keysA 0) (bitsA 0) 9 summaryA (unwritten 16) (unwritten 16) 0 0 (key (1 ∷ 2 ∷ [])) 2)) (9 ∷ 0 ∷ 0 ∷ 0 ∷ [])
-    ∷ row (paintWindowKeys 2 3 (keysA 0) (bitsA 0) 9 summaryA (unwritten 16) (unwritten 16) 0 0 (window 0 1 2 3) 2) keysW
-    ∷ row (paintWindowBits 2 3 (keysA 0) (bitsA 0) 9 summaryA (unwritten 16) (unwritten 16) 0 0 (window 0 1 2 3) 2) bitsW
-    ∷ row (paintWindowSummary 2 3 (keysA 0) (bitsA 0) 9 summaryA (unwritten 16) (unwritten 16) 0 0 (window 0 1 2 3) 2) summaryW
-    ∷ row (paintWindowLogKeys 2 3 (keysA 0) (bitsA 0) 9 summaryA (unwritten 16) (unwritten 16) 0 0 (window 0 1 2 3) 2) logKeysW
-    ∷ row (paintWindowLogValues 2 3 (keysA 0) (bitsA 0) 9 summaryA (unwritten 16) (unwritten 16) 0 0 (window 0 1 2 3) 2) logValuesW
+    ∷ row (of-edited (editAnswer (paintWindow 2 3 (keysA 0) (bitsA 0) 9 summaryA (unwritten 16) (unwritten 16) 0 0 (window 0 1 2 3) 2))) (0 ∷ 9 ∷ 15 ∷ 15 ∷ [])
+    ∷ row (of-edited (editAnswer (paint 2 3 (keysA 0) (bitsA 0) 9 summaryA (unwritten 16) (unwritten 16) 0 0 (key (1 ∷ 2 ∷ [])) 2))) (9 ∷ 0 ∷ 0 ∷ 0 ∷ [])
+    ∷ row (keysLeft (paintWindow 2 3 (keysA 0) (bitsA 0) 9 summaryA (unwritten 16) (unwritten 16) 0 0 (window 0 1 2 3) 2)) keysW
+    ∷ row (bitsLeft (paintWindow 2 3 (keysA 0) (bitsA 0) 9 summaryA (unwritten 16) (unwritten 16) 0 0 (window 0 1 2 3) 2)) bitsW
+    ∷ row (summaryLeft (paintWindow 2 3 (keysA 0) (bitsA 0) 9 summaryA (unwritten 16) (unwritten 16) 0 0 (window 0 1 2 3) 2)) summaryW
+    ∷ row (logKeysLeft (paintWindow 2 3 (keysA 0) (bitsA 0) 9 summaryA (unwritten 16) (unwritten 16) 0 0 (window 0 1 2 3) 2)) logKeysW
+    ∷ row (logValuesLeft (paintWindow 2 3 (keysA 0) (bitsA 0) 9 summaryA (unwritten 16) (unwritten 16) 0 0 (window 0 1 2 3) 2)) logValuesW
     -- 10 counts the whole group
-    ∷ row (of-edited (paintWindow 2 3 (keysA 0) (bitsA 0) 9 summaryA (unwritten 14) (unwritten 14) 0 0 (window 0 1 2 3) 2)) (10 ∷ 0 ∷ 0 ∷ 0 ∷ [])
+    ∷ row (of-edited (editAnswer (paintWindow 2 3 (keysA 0) (bitsA 0) 9 summaryA (unwritten 14) (unwritten 14) 0 0 (window 0 1 2 3) 2))) (10 ∷ 0 ∷ 0 ∷ 0 ∷ [])
     -- 6 where 8 stood, before 7
-    ∷ row (of-edited (paintWindow 2 3 (keysA 0) (bitsA 0) 9 summaryA (unwritten 16) (unwritten 16) 0 0 (window 0 1 2 4) 3)) (6 ∷ 0 ∷ 0 ∷ 0 ∷ [])
-    ∷ row (of-edited (paintWindow 2 3 (keysA 0) (bitsA 0) 9 summaryA (unwritten 16) (unwritten 16) 0 0 (window 0 1 2 3) 3)) (7 ∷ 0 ∷ 0 ∷ 0 ∷ [])
+    ∷ row (of-edited (editAnswer (paintWindow 2 3 (keysA 0) (bitsA 0) 9 summaryA (unwritten 16) (unwritten 16) 0 0 (window 0 1 2 4) 3))) (6 ∷ 0 ∷ 0 ∷ 0 ∷ [])
+    ∷ row (of-edited (editAnswer (paintWindow 2 3 (keysA 0) (bitsA 0) 9 summaryA (unwritten 16) (unwritten 16) 0 0 (window 0 1 2 3) 3))) (7 ∷ 0 ∷ 0 ∷ 0 ∷ [])
     -- 1 before 4, 4 before 18, 18 before 5, 5 before 6, 7 before 10, 10 before 9, and 9
-    ∷ row (of-edited (paintWindow 2 0 (keysA 0) (bitsA 0) 8 summaryA (unwritten 16) (unwritten 16) 0 0 (window 0 1 2 3) 2)) (1 ∷ 0 ∷ 0 ∷ 0 ∷ [])
-    ∷ row (of-edited (paintWindow 2 3 (keysA 0) (bitsA 0) 8 [] (unwritten 16) (unwritten 16) 0 0 (window 0 1 2 3) 2)) (4 ∷ 0 ∷ 0 ∷ 0 ∷ [])
-    ∷ row (of-edited (paintWindow 2 3 (keysA 0) (bitsA 0) 9 [] (unwritten 16) (unwritten 16) 4 4 (window 0 1 2 3) 2)) (18 ∷ 0 ∷ 0 ∷ 0 ∷ [])
-    ∷ row (of-edited (paintWindow 2 3 (keysA 0) (bitsA 0) 9 summaryA (unwritten 16) (unwritten 16) 4 4 (window 0 1 2 4) 2)) (5 ∷ 0 ∷ 0 ∷ 0 ∷ [])
-    ∷ row (of-edited (paintWindow 2 3 (keysA 0) (bitsA 0) 9 summaryA (unwritten 14) (unwritten 14) 0 0 (window 0 1 2 3) 3)) (7 ∷ 0 ∷ 0 ∷ 0 ∷ [])
-    ∷ row (of-edited (paintWindow 2 3 (keysA 0) (bitsA 0) 9 summaryA (unwritten 4) (unwritten 5) 0 0 (window 0 1 1 1) 2)) (10 ∷ 0 ∷ 0 ∷ 0 ∷ [])
-    ∷ row (of-edited (paintWindow 2 3 (keysA 0) (bitsA 0) 9 summaryA (unwritten 5) (unwritten 5) 0 0 (window 0 1 1 1) 2)) (9 ∷ 0 ∷ 0 ∷ 0 ∷ [])
+    ∷ row (of-edited (editAnswer (paintWindow 2 0 (keysA 0) (bitsA 0) 8 summaryA (unwritten 16) (unwritten 16) 0 0 (window 0 1 2 3) 2))) (1 ∷ 0 ∷ 0 ∷ 0 ∷ [])
+    ∷ row (of-edited (editAnswer (paintWindow 2 3 (keysA 0) (bitsA 0) 8 [] (unwritten 16) (unwritten 16) 0 0 (window 0 1 2 3) 2))) (4 ∷ 0 ∷ 0 ∷ 0 ∷ [])
+    ∷ row (of-edited (editAnswer (paintWindow 2 3 (keysA 0) (bitsA 0) 9 [] (unwritten 16) (unwritten 16) 4 4 (window 0 1 2 3) 2))) (18 ∷ 0 ∷ 0 ∷ 0 ∷ [])
+    ∷ row (of-edited (editAnswer (paintWindow 2 3 (keysA 0) (bitsA 0) 9 summaryA (unwritten 16) (unwritten 16) 4 4 (window 0 1 2 4) 2))) (5 ∷ 0 ∷ 0 ∷ 0 ∷ [])
+    ∷ row (of-edited (editAnswer (paintWindow 2 3 (keysA 0) (bitsA 0) 9 summaryA (unwritten 14) (unwritten 14) 0 0 (window 0 1 2 3) 3))) (7 ∷ 0 ∷ 0 ∷ 0 ∷ [])
+    ∷ row (of-edited (editAnswer (paintWindow 2 3 (keysA 0) (bitsA 0) 9 summaryA (unwritten 4) (unwritten 5) 0 0 (window 0 1 1 1) 2))) (10 ∷ 0 ∷ 0 ∷ 0 ∷ [])
+    ∷ row (of-edited (editAnswer (paintWindow 2 3 (keysA 0) (bitsA 0) 9 summaryA (unwritten 5) (unwritten 5) 0 0 (window 0 1 1 1) 2))) (9 ∷ 0 ∷ 0 ∷ 0 ∷ [])
     -- taken back whole, and redone whole, in the same nine places
-    ∷ row (of-edited (takeBack 2 3 keysW bitsW 9 summaryW logKeysW logValuesW 15 15)) (0 ∷ 9 ∷ 15 ∷ 0 ∷ [])
-    ∷ row (takeBackKeys 2 3 keysW bitsW 9 summaryW logKeysW logValuesW 15 15) (keysA 0)
-    ∷ row (takeBackBits 2 3 keysW bitsW 9 summaryW logKeysW logValuesW 15 15) (bitsA 0)
-    ∷ row (takeBackSummary 2 3 keysW bitsW 9 summaryW logKeysW logValuesW 15 15) summaryA
-    ∷ row (takeBackLogKeys 2 3 keysW bitsW 9 summaryW logKeysW logValuesW 15 15) logKeysW
-    ∷ row (of-edited (redo 2 3 (keysA 0) (bitsA 0) 9 summaryA logKeysW logValuesW 15 0)) (0 ∷ 9 ∷ 15 ∷ 15 ∷ [])
-    ∷ row (redoKeys 2 3 (keysA 0) (bitsA 0) 9 summaryA logKeysW logValuesW 15 0) keysW
-    ∷ row (redoBits 2 3 (keysA 0) (bitsA 0) 9 summaryA logKeysW logValuesW 15 0) bitsW
+    ∷ row (of-edited (editAnswer (takeBack 2 3 keysW bitsW 9 summaryW logKeysW logValuesW 15 15))) (0 ∷ 9 ∷ 15 ∷ 0 ∷ [])
+    ∷ row (keysLeft (takeBack 2 3 keysW bitsW 9 summaryW logKeysW logValuesW 15 15)) (keysA 0)
+    ∷ row (bitsLeft (takeBack 2 3 keysW bitsW 9 summaryW logKeysW logValuesW 15 15)) (bitsA 0)
+    ∷ row (summaryLeft (takeBack 2 3 keysW bitsW 9 summaryW logKeysW logValuesW 15 15)) summaryA
+    ∷ row (logKeysLeft (takeBack 2 3 keysW bitsW 9 summaryW logKeysW logValuesW 15 15)) logKeysW
+    ∷ row (of-edited (editAnswer (redo 2 3 (keysA 0) (bitsA 0) 9 summaryA logKeysW logValuesW 15 0))) (0 ∷ 9 ∷ 15 ∷ 15 ∷ [])
+    ∷ row (keysLeft (redo 2 3 (keysA 0) (bitsA 0) 9 summaryA logKeysW logValuesW 15 0)) keysW
+    ∷ row (bitsLeft (redo 2 3 (keysA 0) (bitsA 0) 9 summaryA logKeysW logValuesW 15 0)) bitsW
     -- a window that is one block, and one that is the whole sheet, give a group of one; one that changes no pixel is logged
-    ∷ row (of-edited (paintWindow 2 3 (keysA 0) (bitsA 0) 9 summaryA (unwritten 16) (unwritten 16) 0 0 (window 0 2 2 2) 2)) (0 ∷ 5 ∷ 9 ∷ 9 ∷ [])
-    ∷ row (of-edited (paintWindow 2 3 (keysA 0) (bitsA 0) 9 summaryA (unwritten 16) (unwritten 16) 0 0 (window 0 0 4 4) 1)) (0 ∷ 1 ∷ 13 ∷ 13 ∷ [])
-    ∷ row (of-edited (paintWindow 2 3 (keysA 0) (bitsA 0) 9 summaryA (unwritten 16) (unwritten 16) 0 0 (window 0 0 2 2) 0)) (0 ∷ 9 ∷ 5 ∷ 5 ∷ [])
+    ∷ row (of-edited (editAnswer (paintWindow 2 3 (keysA 0) (bitsA 0) 9 summaryA (unwritten 16) (unwritten 16) 0 0 (window 0 2 2 2) 2))) (0 ∷ 5 ∷ 9 ∷ 9 ∷ [])
+    ∷ row (of-edited (editAnswer (paintWindow 2 3 (keysA 0) (bitsA 0) 9 summaryA (unwritten 16) (unwritten 16) 0 0 (window 0 0 4 4) 1))) (0 ∷ 1 ∷ 13 ∷ 13 ∷ [])
+    ∷ row (of-edited (editAnswer (paintWindow 2 3 (keysA 0) (bitsA 0) 9 summaryA (unwritten 16) (unwritten 16) 0 0 (window 0 0 2 2) 0))) (0 ∷ 9 ∷ 5 ∷ 5 ∷ [])
     -- 5: a number of 0, one that exceeds the entries before it, a count with another key, the mark behind another key
-    ∷ row (of-edited (takeBack 2 3 keysW bitsW 9 summaryW logKeysW (set logValuesW 13 0) 15 15)) (5 ∷ 0 ∷ 0 ∷ 0 ∷ [])
-    ∷ row (of-edited (takeBack 2 3 keysW bitsW 9 summaryW logKeysW (set logValuesW 13 4) 15 15)) (5 ∷ 0 ∷ 0 ∷ 0 ∷ [])
-    ∷ row (of-edited (takeBack 2 3 keysW bitsW 9 summaryW (set logKeysW 13 7) logValuesW 15 15)) (5 ∷ 0 ∷ 0 ∷ 0 ∷ [])
-    ∷ row (of-edited (takeBack 2 3 keysW bitsW 9 summaryW (set logKeysW 14 7) logValuesW 15 15)) (5 ∷ 0 ∷ 0 ∷ 0 ∷ [])
+    ∷ row (of-edited (editAnswer (takeBack 2 3 keysW bitsW 9 summaryW logKeysW (set logValuesW 13 0) 15 15))) (5 ∷ 0 ∷ 0 ∷ 0 ∷ [])
+    ∷ row (of-edited (editAnswer (takeBack 2 3 keysW bitsW 9 summaryW logKeysW (set logValuesW 13 4) 15 15))) (5 ∷ 0 ∷ 0 ∷ 0 ∷ [])
+    ∷ row (of-edited (editAnswer (takeBack 2 3 keysW bitsW 9 summaryW (set logKeysW 13 7) logValuesW 15 15))) (5 ∷ 0 ∷ 0 ∷ 0 ∷ [])
+    ∷ row (of-edited (editAnswer (takeBack 2 3 keysW bitsW 9 summaryW (set logKeysW 14 7) logValuesW 15 15))) (5 ∷ 0 ∷ 0 ∷ 0 ∷ [])
     -- 5: a second count inside a group, and the count in force inside a group
-    ∷ row (of-edited (takeBack 2 3 keysW bitsW 9 summaryW nestedKeys nestedValues 10 10)) (5 ∷ 0 ∷ 0 ∷ 0 ∷ [])
-    ∷ row (of-edited (takeBack 2 3 keysW bitsW 9 summaryW nestedKeys nestedValues 8 8)) (0 ∷ 9 ∷ 8 ∷ 5 ∷ [])
-    ∷ row (of-edited (redo 2 3 (keysA 0) (bitsA 0) 9 summaryA logKeysW logValuesW 15 3)) (5 ∷ 0 ∷ 0 ∷ 0 ∷ [])
+    ∷ row (of-edited (editAnswer (takeBack 2 3 keysW bitsW 9 summaryW nestedKeys nestedValues 10 10))) (5 ∷ 0 ∷ 0 ∷ 0 ∷ [])
+    ∷ row (of-edited (editAnswer (takeBack 2 3 keysW bitsW 9 summaryW nestedKeys nestedValues 8 8))) (0 ∷ 9 ∷ 8 ∷ 5 ∷ [])
+    ∷ row (of-edited (editAnswer (redo 2 3 (keysA 0) (bitsA 0) 9 summaryA logKeysW logValuesW 15 3))) (5 ∷ 0 ∷ 0 ∷ 0 ∷ [])
     -- a number below the entries before it is sound: the first entry stands alone, and stays in force
-    ∷ row (of-edited (takeBack 2 3 (keysW ++ (0 ∷ 0 ∷ 0 ∷ 0 ∷ [])) (bitsW ++ (0 ∷ 0 ∷ 0 ∷ 0 ∷ [])) 9 summaryW logKeysW (set logValuesW 13 2) 15 15)) (0 ∷ 13 ∷ 15 ∷ 3 ∷ [])
-    ∷ row (of-edited (redo 2 3 keysW bitsW 9 summaryW logKeysW (set logValuesW 13 2) 15 3)) (0 ∷ 9 ∷ 15 ∷ 15 ∷ [])
+    ∷ row (of-edited (editAnswer (takeBack 2 3 (keysW ++ (0 ∷ 0 ∷ 0 ∷ 0 ∷ [])) (bitsW ++ (0 ∷ 0 ∷ 0 ∷ 0 ∷ [])) 9 summaryW logKeysW (set logValuesW 13 2) 15 15))) (0 ∷ 13 ∷ 15 ∷ 3 ∷ [])
+    ∷ row (of-edited (editAnswer (redo 2 3 keysW bitsW 9 summaryW logKeysW (set logValuesW 13 2) 15 3))) (0 ∷ 9 ∷ 15 ∷ 15 ∷ [])
     -- blocks that overlap: taken back last to first the first entry's content stays, redone first to last the last entry's feature
-    ∷ row (of-edited (takeBack 2 3 (keysA 1) (bitsA 1) 9 summaryA overlapKeys overlapValues 8 8)) (0 ∷ 5 ∷ 8 ∷ 0 ∷ [])
-    ∷ row (of-edited (redo 2 3 (keysA 1) (bitsA 1) 9 summaryA overlapKeys overlapValues 8 0)) (0 ∷ 9 ∷ 8 ∷ 8 ∷ [])
+    ∷ row (of-edited (editAnswer (takeBack 2 3 (keysA 1) (bitsA 1) 9 summaryA overlapKeys overlapValues 8 8))) (0 ∷ 5 ∷ 8 ∷ 0 ∷ [])
+    ∷ row (of-edited (editAnswer (redo 2 3 (keysA 1) (bitsA 1) 9 summaryA overlapKeys overlapValues 8 0))) (0 ∷ 9 ∷ 8 ∷ 8 ∷ [])
     ∷ []
 
 claim : Holds table
@@ -132,8 +133,7 @@ unfolding
     closed entryOf countRecord lastRecord lastKey lastFeature lastCount beforeLast lastContent isContent closes lastIsEntry
     grouped entriesOf groupOf endsInMark stepCount stepEntries beforeEntries beforeStep endsInEntries lastIsGroup lastIsStep dividesIn isSound putBack paintAgain
     firstIn firstStep noLog
-    painted gained paintRefusal paint
-    filled groupGained paintWindowRefusal paintWindow paintWindowKeys paintWindowBits paintWindowSummary paintWindowLogKeys paintWindowLogValues
-    restored takeBackRefusal forceBefore takeBack takeBackKeys takeBackBits takeBackSummary takeBackLogKeys
-    redone redoRefusal forceAfter redo redoKeys redoBits
+    gained
+    groupGained
+    editRefusal editAnswer keysLeft bitsLeft summaryLeft logKeysLeft logValuesLeft
 claim = refl

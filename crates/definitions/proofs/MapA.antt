@@ -17,8 +17,9 @@ use Rattle.definitions.specs.Log.{closed, entryOf, countRecord, lastReco
 use Rattle.definitions.specs.Calls.Exist.{existRefusal, exist}
 use Rattle.definitions.specs.Calls.Report.{reportRefusal, report}
 use Rattle.definitions.specs.Calls.Select.{selected, selectRefusal, select, selectAnswer}
-use Rattle.definitions.specs.Calls.Paint.{painted, gained, paintRefusal, paint, paintKeys, paintBits, paintSummary, paintLogKeys, paintLogValues}
-use Rattle.definitions.specs.Calls.TakeBack.{restored, takeBackRefusal, forceBefore, takeBack, takeBackKeys, takeBackBits, takeBackSummary, takeBackLogKeys, takeBackLogValues}
+use Rattle.definitions.specs.Calls.Edit.{editRefusal, editAnswer, keysLeft, bitsLeft, summaryLeft, logKeysLeft, logValuesLeft}
+use Rattle.definitions.specs.Calls.Paint.{gained, paint}
+use Rattle.definitions.specs.Calls.TakeBack.{takeBack}
 use Rattle.definitions.proofs.Vectors.{VectorRow, row, Holds, key, slots, window, shown, of-exist, of-report, of-counted, of-edited, mapA, keysA, bitsA, unwritten}
 use Rattle.definitions.proofs.AreaVectors.{counted, summaryA}
 
@@ -100,33 +101,33 @@ table =
     -- A8: exist 1 in the window of pixel (0,0)
     ∷ row (of-exist (exist 2 3 (keysA 0) (bitsA 0) 9 (window 0 0 1 1) 1)) (0 ∷ 0 ∷ [])
     -- A9: paint 24 with 1. Four places are given up, the spare one stays
-    ∷ row (of-edited (paint 2 3 (keysA 1) (bitsA 1) 9 summaryA (unwritten 4) (unwritten 4) 0 0 (key (2 ∷ 4 ∷ [])) 1)) (0 ∷ 5 ∷ 3 ∷ 3 ∷ [])
-    ∷ row (paintKeys 2 3 (keysA 1) (bitsA 1) 9 summaryA (unwritten 4) (unwritten 4) 0 0 (key (2 ∷ 4 ∷ [])) 1) paintedKeys
-    ∷ row (paintBits 2 3 (keysA 1) (bitsA 1) 9 summaryA (unwritten 4) (unwritten 4) 0 0 (key (2 ∷ 4 ∷ [])) 1) paintedBits
-    ∷ row (paintSummary 2 3 (keysA 1) (bitsA 1) 9 summaryA (unwritten 4) (unwritten 4) 0 0 (key (2 ∷ 4 ∷ [])) 1) paintedSummary
-    ∷ row (paintLogKeys 2 3 (keysA 1) (bitsA 1) 9 summaryA (unwritten 4) (unwritten 4) 0 0 (key (2 ∷ 4 ∷ [])) 1) paintedLogKeys
-    ∷ row (paintLogValues 2 3 (keysA 1) (bitsA 1) 9 summaryA (unwritten 4) (unwritten 4) 0 0 (key (2 ∷ 4 ∷ [])) 1) paintedLogValues
+    ∷ row (of-edited (editAnswer (paint 2 3 (keysA 1) (bitsA 1) 9 summaryA (unwritten 4) (unwritten 4) 0 0 (key (2 ∷ 4 ∷ [])) 1))) (0 ∷ 5 ∷ 3 ∷ 3 ∷ [])
+    ∷ row (keysLeft (paint 2 3 (keysA 1) (bitsA 1) 9 summaryA (unwritten 4) (unwritten 4) 0 0 (key (2 ∷ 4 ∷ [])) 1)) paintedKeys
+    ∷ row (bitsLeft (paint 2 3 (keysA 1) (bitsA 1) 9 summaryA (unwritten 4) (unwritten 4) 0 0 (key (2 ∷ 4 ∷ [])) 1)) paintedBits
+    ∷ row (summaryLeft (paint 2 3 (keysA 1) (bitsA 1) 9 summaryA (unwritten 4) (unwritten 4) 0 0 (key (2 ∷ 4 ∷ [])) 1)) paintedSummary
+    ∷ row (logKeysLeft (paint 2 3 (keysA 1) (bitsA 1) 9 summaryA (unwritten 4) (unwritten 4) 0 0 (key (2 ∷ 4 ∷ [])) 1)) paintedLogKeys
+    ∷ row (logValuesLeft (paint 2 3 (keysA 1) (bitsA 1) 9 summaryA (unwritten 4) (unwritten 4) 0 0 (key (2 ∷ 4 ∷ [])) 1)) paintedLogValues
     -- A10: taking it back gives A1; the entry stays in the log, no longer in force
-    ∷ row (of-edited (takeBack 2 3 paintedKeys paintedBits 5 paintedSummary paintedLogKeys paintedLogValues 3 3)) (0 ∷ 9 ∷ 3 ∷ 0 ∷ [])
-    ∷ row (takeBackKeys 2 3 paintedKeys paintedBits 5 paintedSummary paintedLogKeys paintedLogValues 3 3) (keysA 1)
-    ∷ row (takeBackBits 2 3 paintedKeys paintedBits 5 paintedSummary paintedLogKeys paintedLogValues 3 3) (bitsA 1)
-    ∷ row (takeBackSummary 2 3 paintedKeys paintedBits 5 paintedSummary paintedLogKeys paintedLogValues 3 3) summaryA
-    ∷ row (takeBackLogKeys 2 3 paintedKeys paintedBits 5 paintedSummary paintedLogKeys paintedLogValues 3 3) paintedLogKeys
-    ∷ row (takeBackLogValues 2 3 paintedKeys paintedBits 5 paintedSummary paintedLogKeys paintedLogValues 3 3) paintedLogValues
+    ∷ row (of-edited (editAnswer (takeBack 2 3 paintedKeys paintedBits 5 paintedSummary paintedLogKeys paintedLogValues 3 3))) (0 ∷ 9 ∷ 3 ∷ 0 ∷ [])
+    ∷ row (keysLeft (takeBack 2 3 paintedKeys paintedBits 5 paintedSummary paintedLogKeys paintedLogValues 3 3)) (keysA 1)
+    ∷ row (bitsLeft (takeBack 2 3 paintedKeys paintedBits 5 paintedSummary paintedLogKeys paintedLogValues 3 3)) (bitsA 1)
+    ∷ row (summaryLeft (takeBack 2 3 paintedKeys paintedBits 5 paintedSummary paintedLogKeys paintedLogValues 3 3)) summaryA
+    ∷ row (logKeysLeft (takeBack 2 3 paintedKeys paintedBits 5 paintedSummary paintedLogKeys paintedLogValues 3 3)) paintedLogKeys
+    ∷ row (logValuesLeft (takeBack 2 3 paintedKeys paintedBits 5 paintedSummary paintedLogKeys paintedLogValues 3 3)) paintedLogValues
     -- A11: paint 33 with 0, in room 12, where all stays as it was, and in room 13
-    ∷ row (of-edited (paint 2 3 (keysA 3) (bitsA 3) 9 summaryA (unwritten 3) (unwritten 3) 0 0 (key (3 ∷ 3 ∷ [])) 0)) (9 ∷ 0 ∷ 0 ∷ 0 ∷ [])
-    ∷ row (paintBits 2 3 (keysA 3) (bitsA 3) 9 summaryA (unwritten 3) (unwritten 3) 0 0 (key (3 ∷ 3 ∷ [])) 0) (bitsA 3)
-    ∷ row (paintLogKeys 2 3 (keysA 3) (bitsA 3) 9 summaryA (unwritten 3) (unwritten 3) 0 0 (key (3 ∷ 3 ∷ [])) 0) (unwritten 3)
-    ∷ row (of-edited (paint 2 3 (keysA 4) (bitsA 4) 9 summaryA (unwritten 3) (unwritten 3) 0 0 (key (3 ∷ 3 ∷ [])) 0)) (0 ∷ 13 ∷ 3 ∷ 3 ∷ [])
-    ∷ row (paintSummary 2 3 (keysA 3) (bitsA 3) 9 summaryA (unwritten 3) (unwritten 3) 0 0 (key (3 ∷ 3 ∷ [])) 0) summaryA
-    ∷ row (paintSummary 2 3 (keysA 4) (bitsA 4) 9 summaryA (unwritten 3) (unwritten 3) 0 0 (key (3 ∷ 3 ∷ [])) 0)
+    ∷ row (of-edited (editAnswer (paint 2 3 (keysA 3) (bitsA 3) 9 summaryA (unwritten 3) (unwritten 3) 0 0 (key (3 ∷ 3 ∷ [])) 0))) (9 ∷ 0 ∷ 0 ∷ 0 ∷ [])
+    ∷ row (bitsLeft (paint 2 3 (keysA 3) (bitsA 3) 9 summaryA (unwritten 3) (unwritten 3) 0 0 (key (3 ∷ 3 ∷ [])) 0)) (bitsA 3)
+    ∷ row (logKeysLeft (paint 2 3 (keysA 3) (bitsA 3) 9 summaryA (unwritten 3) (unwritten 3) 0 0 (key (3 ∷ 3 ∷ [])) 0)) (unwritten 3)
+    ∷ row (of-edited (editAnswer (paint 2 3 (keysA 4) (bitsA 4) 9 summaryA (unwritten 3) (unwritten 3) 0 0 (key (3 ∷ 3 ∷ [])) 0))) (0 ∷ 13 ∷ 3 ∷ 3 ∷ [])
+    ∷ row (summaryLeft (paint 2 3 (keysA 3) (bitsA 3) 9 summaryA (unwritten 3) (unwritten 3) 0 0 (key (3 ∷ 3 ∷ [])) 0)) summaryA
+    ∷ row (summaryLeft (paint 2 3 (keysA 4) (bitsA 4) 9 summaryA (unwritten 3) (unwritten 3) 0 0 (key (3 ∷ 3 ∷ [])) 0))
     (counted (0 ∷ 0 ∷ 0 ∷ 0 ∷ 1 ∷ 1 ∷ 1 ∷ 2 ∷ 2 ∷ 2 ∷ 0 ∷ 2 ∷ 0 ∷ 0 ∷ 0 ∷ 0 ∷ []))
     -- A12: paint 20 with 2, with 7 and with 6 free in the log
-    ∷ row (of-edited (paint 2 3 (keysA 0) (bitsA 0) 9 summaryA (unwritten 7) (unwritten 7) 0 0 (key (2 ∷ 0 ∷ [])) 2)) (0 ∷ 5 ∷ 7 ∷ 7 ∷ [])
-    ∷ row (of-edited (paint 2 3 (keysA 0) (bitsA 0) 9 summaryA (unwritten 6) (unwritten 6) 0 0 (key (2 ∷ 0 ∷ [])) 2)) (10 ∷ 0 ∷ 0 ∷ 0 ∷ [])
-    ∷ row (paintSummary 2 3 (keysA 0) (bitsA 0) 9 summaryA (unwritten 7) (unwritten 7) 0 0 (key (2 ∷ 0 ∷ [])) 2)
+    ∷ row (of-edited (editAnswer (paint 2 3 (keysA 0) (bitsA 0) 9 summaryA (unwritten 7) (unwritten 7) 0 0 (key (2 ∷ 0 ∷ [])) 2))) (0 ∷ 5 ∷ 7 ∷ 7 ∷ [])
+    ∷ row (of-edited (editAnswer (paint 2 3 (keysA 0) (bitsA 0) 9 summaryA (unwritten 6) (unwritten 6) 0 0 (key (2 ∷ 0 ∷ [])) 2))) (10 ∷ 0 ∷ 0 ∷ 0 ∷ [])
+    ∷ row (summaryLeft (paint 2 3 (keysA 0) (bitsA 0) 9 summaryA (unwritten 7) (unwritten 7) 0 0 (key (2 ∷ 0 ∷ [])) 2))
     (counted (0 ∷ 0 ∷ 0 ∷ 0 ∷ 2 ∷ 2 ∷ 2 ∷ 2 ∷ 2 ∷ 2 ∷ 2 ∷ 2 ∷ 0 ∷ 0 ∷ 0 ∷ 0 ∷ []))
-    ∷ row (paintSummary 2 3 (keysA 0) (bitsA 0) 9 summaryA (unwritten 6) (unwritten 6) 0 0 (key (2 ∷ 0 ∷ [])) 2) summaryA
+    ∷ row (summaryLeft (paint 2 3 (keysA 0) (bitsA 0) 9 summaryA (unwritten 6) (unwritten 6) 0 0 (key (2 ∷ 0 ∷ [])) 2)) summaryA
     -- Figure 1 of Nardelli and Proietti (1994)
     ∷ row (shown (listOfRaster 3 figure1)) listOfFigure1
     ∷ []
@@ -142,6 +143,6 @@ unfolding
     put paintIn contentOf
     closed entryOf countRecord lastRecord lastKey lastFeature lastCount beforeLast lastContent isContent closes lastIsEntry endsInMark stepCount stepEntries beforeEntries beforeStep endsInEntries lastIsGroup lastIsStep dividesIn isSound putBack paintAgain noLog
     existRefusal exist reportRefusal report selected selectRefusal select selectAnswer
-    painted gained paintRefusal paint paintKeys paintBits paintSummary paintLogKeys paintLogValues
-    restored takeBackRefusal forceBefore takeBack takeBackKeys takeBackBits takeBackSummary takeBackLogKeys takeBackLogValues
+    gained
+    editRefusal editAnswer keysLeft bitsLeft summaryLeft logKeysLeft logValuesLeft
 claim = refl

@@ -31,9 +31,10 @@ use Rattle.definitions.specs.Calls.Exist.{existRefusal, exist}
 use Rattle.definitions.specs.Calls.Report.{reportRefusal, report}
 use Rattle.definitions.specs.Calls.Select.{selected, selectRefusal, select}
 use Rattle.definitions.specs.Calls.Batch.{refusalTo, valueTo, batchRefusal, batch, batchRefusals, batchValues}
-use Rattle.definitions.specs.Calls.Paint.{painted, gained, paintRefusal}
-use Rattle.definitions.specs.Calls.TakeBack.{restored, takeBackRefusal}
-use Rattle.definitions.specs.Calls.Redo.{redone, redoRefusal}
+use Rattle.definitions.specs.Calls.Edit.{editRefusal}
+use Rattle.definitions.specs.Calls.Paint.{gained, paint}
+use Rattle.definitions.specs.Calls.TakeBack.{takeBack}
+use Rattle.definitions.specs.Calls.Redo.{redo}
 use Rattle.definitions.specs.Calls.Findings.{liveIn, hiddenIn, refusalWith, foundWith, idsWith, foundKeysWith, findingsRefusal, findings, findingsIds, findingsKeys}
 use Rattle.definitions.specs.Offices.{rowsIn, tableOf, rowsOf, rowsAscend, officesKnown, isSoundTable, isTable, rowKeysValid}
 use Rattle.definitions.specs.Calls.Store.{stored, storeRefusal, store, storeFile}
@@ -162,40 +163,40 @@ table =
     ∷ row (batchRefusals 1 2 keys bits 5 questions (unwritten 6) (unwritten 7)) (0 ∷ 7 ∷ 0 ∷ 6 ∷ 6 ∷ 0 ∷ [])
     ∷ row (batchValues 1 2 keys bits 5 questions (unwritten 6) (unwritten 7)) (1 ∷ 0 ∷ 3 ∷ 0 ∷ 0 ∷ 0 ∷ 77 ∷ [])
     -- paint: 1, 4, 18, 5, 8, 7, 10, 9
-    ∷ gives (paintRefusal 1 0 keys bits 4 summary logKeys logValues 0 0 1 0) 1
-    ∷ gives (paintRefusal 1 2 keys bits 4 summary logKeys logValues 0 0 1 0) 4
-    ∷ gives (paintRefusal 1 2 keys bits 4 [] logKeys logValues 4 4 1 0) 4
-    ∷ gives (paintRefusal 1 2 keys bits 5 summaryOfOne logKeys logValues 0 0 1 0) 18
-    ∷ gives (paintRefusal 1 2 keys bits 5 [] logKeys logValues 4 4 1 0) 18
-    ∷ gives (paintRefusal 1 2 keys bits 5 summary logKeys logValues 4 4 5 0) 5
-    ∷ gives (paintRefusal 1 2 keys bits 5 summary logKeys logValues 5 5 1 0) 5
-    ∷ gives (paintRefusal 1 2 keys bits 5 summary logKeys logValues 3 1 5 0) 5
-    ∷ gives (paintRefusal 1 2 keys bits 5 summary logKeys logValues 3 3 5 2) 8
-    ∷ gives (paintRefusal 1 2 keys bits 5 summary logKeys logValues 3 3 1 2) 7
-    ∷ gives (paintRefusal 1 2 (0 ∷ []) (1 ∷ []) 1 summaryOfOne logKeys logValues 3 3 1 1) 10
-    ∷ gives (paintRefusal 1 2 (0 ∷ []) (1 ∷ []) 1 summaryOfOne logKeys logValues 3 0 1 1) 9
+    ∷ gives (editRefusal (paint 1 0 keys bits 4 summary logKeys logValues 0 0 1 0)) 1
+    ∷ gives (editRefusal (paint 1 2 keys bits 4 summary logKeys logValues 0 0 1 0)) 4
+    ∷ gives (editRefusal (paint 1 2 keys bits 4 [] logKeys logValues 4 4 1 0)) 4
+    ∷ gives (editRefusal (paint 1 2 keys bits 5 summaryOfOne logKeys logValues 0 0 1 0)) 18
+    ∷ gives (editRefusal (paint 1 2 keys bits 5 [] logKeys logValues 4 4 1 0)) 18
+    ∷ gives (editRefusal (paint 1 2 keys bits 5 summary logKeys logValues 4 4 5 0)) 5
+    ∷ gives (editRefusal (paint 1 2 keys bits 5 summary logKeys logValues 5 5 1 0)) 5
+    ∷ gives (editRefusal (paint 1 2 keys bits 5 summary logKeys logValues 3 1 5 0)) 5
+    ∷ gives (editRefusal (paint 1 2 keys bits 5 summary logKeys logValues 3 3 5 2)) 8
+    ∷ gives (editRefusal (paint 1 2 keys bits 5 summary logKeys logValues 3 3 1 2)) 7
+    ∷ gives (editRefusal (paint 1 2 (0 ∷ []) (1 ∷ []) 1 summaryOfOne logKeys logValues 3 3 1 1)) 10
+    ∷ gives (editRefusal (paint 1 2 (0 ∷ []) (1 ∷ []) 1 summaryOfOne logKeys logValues 3 0 1 1)) 9
     -- take back: 1, 4, 18, 5, 11, 9 (a log from another map)
-    ∷ gives (takeBackRefusal 1 0 keys bits 4 summary logKeys logValues 0 0) 1
-    ∷ gives (takeBackRefusal 1 2 keys bits 4 summary logKeys logValues 3 3) 4
-    ∷ gives (takeBackRefusal 1 2 keys bits 4 [] logKeys logValues 4 4) 4
-    ∷ gives (takeBackRefusal 1 2 keys bits 5 summaryOfOne logKeys logValues 3 3) 18
-    ∷ gives (takeBackRefusal 1 2 keys bits 5 [] logKeys logValues 4 4) 18
-    ∷ gives (takeBackRefusal 1 2 keys bits 5 summary logKeys logValues 4 4) 5
-    ∷ gives (takeBackRefusal 1 2 keys bits 5 summary logKeys logValues 4 0) 5
-    ∷ gives (takeBackRefusal 1 2 keys bits 5 summary logKeys logValues 0 0) 11
-    ∷ gives (takeBackRefusal 1 2 keys bits 5 summary logKeys logValues 3 0) 11
-    ∷ gives (takeBackRefusal 1 2 (0 ∷ []) (1 ∷ []) 1 summaryOfOne (4 ∷ 4 ∷ 4 ∷ []) (2 ∷ 1 ∷ 0 ∷ []) 3 3) 9
+    ∷ gives (editRefusal (takeBack 1 0 keys bits 4 summary logKeys logValues 0 0)) 1
+    ∷ gives (editRefusal (takeBack 1 2 keys bits 4 summary logKeys logValues 3 3)) 4
+    ∷ gives (editRefusal (takeBack 1 2 keys bits 4 [] logKeys logValues 4 4)) 4
+    ∷ gives (editRefusal (takeBack 1 2 keys bits 5 summaryOfOne logKeys logValues 3 3)) 18
+    ∷ gives (editRefusal (takeBack 1 2 keys bits 5 [] logKeys logValues 4 4)) 18
+    ∷ gives (editRefusal (takeBack 1 2 keys bits 5 summary logKeys logValues 4 4)) 5
+    ∷ gives (editRefusal (takeBack 1 2 keys bits 5 summary logKeys logValues 4 0)) 5
+    ∷ gives (editRefusal (takeBack 1 2 keys bits 5 summary logKeys logValues 0 0)) 11
+    ∷ gives (editRefusal (takeBack 1 2 keys bits 5 summary logKeys logValues 3 0)) 11
+    ∷ gives (editRefusal (takeBack 1 2 (0 ∷ []) (1 ∷ []) 1 summaryOfOne (4 ∷ 4 ∷ 4 ∷ []) (2 ∷ 1 ∷ 0 ∷ []) 3 3)) 9
     -- redo: 1, 4, 18, 5, 20, 9 (a log from another map)
-    ∷ gives (redoRefusal 1 0 keys bits 4 summary logKeys logValues 0 0) 1
-    ∷ gives (redoRefusal 1 2 keys bits 4 summary logKeys logValues 3 0) 4
-    ∷ gives (redoRefusal 1 2 keys bits 4 [] logKeys logValues 4 4) 4
-    ∷ gives (redoRefusal 1 2 keys bits 5 summaryOfOne logKeys logValues 3 0) 18
-    ∷ gives (redoRefusal 1 2 keys bits 5 [] logKeys logValues 4 4) 18
-    ∷ gives (redoRefusal 1 2 keys bits 5 summary logKeys logValues 4 4) 5
-    ∷ gives (redoRefusal 1 2 keys bits 5 summary logKeys logValues 3 2) 5
-    ∷ gives (redoRefusal 1 2 keys bits 5 summary logKeys logValues 0 0) 20
-    ∷ gives (redoRefusal 1 2 keys bits 5 summary logKeys logValues 3 3) 20
-    ∷ gives (redoRefusal 1 2 (0 ∷ []) (1 ∷ []) 1 summaryOfOne (4 ∷ 4 ∷ 4 ∷ []) (2 ∷ 1 ∷ 1 ∷ []) 3 0) 9
+    ∷ gives (editRefusal (redo 1 0 keys bits 4 summary logKeys logValues 0 0)) 1
+    ∷ gives (editRefusal (redo 1 2 keys bits 4 summary logKeys logValues 3 0)) 4
+    ∷ gives (editRefusal (redo 1 2 keys bits 4 [] logKeys logValues 4 4)) 4
+    ∷ gives (editRefusal (redo 1 2 keys bits 5 summaryOfOne logKeys logValues 3 0)) 18
+    ∷ gives (editRefusal (redo 1 2 keys bits 5 [] logKeys logValues 4 4)) 18
+    ∷ gives (editRefusal (redo 1 2 keys bits 5 summary logKeys logValues 4 4)) 5
+    ∷ gives (editRefusal (redo 1 2 keys bits 5 summary logKeys logValues 3 2)) 5
+    ∷ gives (editRefusal (redo 1 2 keys bits 5 summary logKeys logValues 0 0)) 20
+    ∷ gives (editRefusal (redo 1 2 keys bits 5 summary logKeys logValues 3 3)) 20
+    ∷ gives (editRefusal (redo 1 2 (0 ∷ []) (1 ∷ []) 1 summaryOfOne (4 ∷ 4 ∷ 4 ∷ []) (2 ∷ 1 ∷ 1 ∷ []) 3 0)) 9
     -- findings: 21, 1, 4, 13, 14, 12
     ∷ gives (findingsRefusal 1 0 keys bits 4 2 [] [] [] [] 0 [] []) 21
     ∷ gives (findingsRefusal 1 0 keys bits 4 0 [] [] [] [] 0 [] []) 1
@@ -282,8 +283,9 @@ unfolding
     bytesOf numberAfter numberOf versionFor bitBytes bytesOfRecords headOf fileOf numberAt readRecords recordsInFile sameBytes wrongMark otherVersion badAtVersion
     buildRefusal surveyRefusal blockOfRefusal keyAtRefusal rasterRefusal rasterPixels standingRefusal standing part partSpan existRefusal reportRefusal selected selectRefusal select
     exist report notBefore overlapEnd overlapLength overlapWindow refusalTo valueTo batchRefusal batch batchRefusals batchValues
-    painted gained paintRefusal restored takeBackRefusal redone redoRefusal
+    gained
     rowsIn tableOf rowsOf rowsAscend officesKnown isSoundTable isTable rowKeysValid
     liveIn hiddenIn refusalWith foundWith idsWith foundKeysWith tableWith
     stored storeRefusal store storeFile loadRefusal load loadKeys loadBits
+    editRefusal
 claim = refl

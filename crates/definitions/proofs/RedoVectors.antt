@@ -15,9 +15,10 @@ use Rattle.definitions.specs.Window.{featuresOfRow, featuresOfRows}
 use Rattle.definitions.specs.Area.{countOf, pixelsWith, countsFrom, summaryBelow, summaryOf, sameNumbers, noSummary}
 use Rattle.definitions.specs.Edit.{put, paintIn, contentOf}
 use Rattle.definitions.specs.Log.{closed, entryOf, countRecord, lastRecord, lastKey, lastFeature, lastCount, beforeLast, lastContent, isContent, closes, lastIsEntry, endsInMark, stepCount, stepEntries, beforeEntries, beforeStep, endsInEntries, lastIsGroup, lastIsStep, dividesIn, isSound, putBack, paintAgain, firstIn, firstStep, noLog}
-use Rattle.definitions.specs.Calls.Paint.{painted, gained, paintRefusal, paint, paintLogKeys, paintLogValues}
-use Rattle.definitions.specs.Calls.TakeBack.{restored, takeBackRefusal, forceBefore, takeBack, takeBackLogKeys}
-use Rattle.definitions.specs.Calls.Redo.{redone, redoRefusal, forceAfter, redo, redoKeys, redoBits, redoSummary, redoLogKeys, redoLogValues}
+use Rattle.definitions.specs.Calls.Edit.{editRefusal, editAnswer, keysLeft, bitsLeft, summaryLeft, logKeysLeft, logValuesLeft}
+use Rattle.definitions.specs.Calls.Paint.{gained, paint}
+use Rattle.definitions.specs.Calls.TakeBack.{takeBack}
+use Rattle.definitions.specs.Calls.Redo.{redo}
 use Rattle.definitions.proofs.Vectors.{VectorRow, row, Holds, key, slots, of-edited, keysA, bitsA, unwritten}
 use Rattle.definitions.proofs.AreaVectors.{counted, summaryA}
 
@@ -55,38 +56,38 @@ shortValues = slots (0 ∷ 0 ∷ 1 ∷ []) ∷ 1 ∷ 1 ∷ 0 ∷ 0 ∷ 0 ∷ 0 �
 table : List VectorRow
 table =
     -- the entries of A9 and A12
-    row (paintLogKeys 2 3 (keysA 1) (bitsA 1) 9 summaryA (unwritten 9) (unwritten 9) 0 0 (key (2 ∷ 4 ∷ [])) 1) logKeysP
-    ∷ row (paintLogValues 2 3 (keysA 1) (bitsA 1) 9 summaryA (unwritten 9) (unwritten 9) 0 0 (key (2 ∷ 4 ∷ [])) 1) logValuesP
-    ∷ row (paintLogKeys 2 3 (keysA 1) (bitsA 1) 9 summaryA (unwritten 9) (unwritten 9) 0 0 (key (2 ∷ 0 ∷ [])) 2) logKeysL
-    ∷ row (paintLogValues 2 3 (keysA 1) (bitsA 1) 9 summaryA (unwritten 9) (unwritten 9) 0 0 (key (2 ∷ 0 ∷ [])) 2) logValuesL
+    row (logKeysLeft (paint 2 3 (keysA 1) (bitsA 1) 9 summaryA (unwritten 9) (unwritten 9) 0 0 (key (2 ∷ 4 ∷ [])) 1)) logKeysP
+    ∷ row (logValuesLeft (paint 2 3 (keysA 1) (bitsA 1) 9 summaryA (unwritten 9) (unwritten 9) 0 0 (key (2 ∷ 4 ∷ [])) 1)) logValuesP
+    ∷ row (logKeysLeft (paint 2 3 (keysA 1) (bitsA 1) 9 summaryA (unwritten 9) (unwritten 9) 0 0 (key (2 ∷ 0 ∷ [])) 2)) logKeysL
+    ∷ row (logValuesLeft (paint 2 3 (keysA 1) (bitsA 1) 9 summaryA (unwritten 9) (unwritten 9) 0 0 (key (2 ∷ 0 ∷ [])) 2)) logValuesL
     -- A10 leaves the entry to be redone
-    ∷ row (of-edited (takeBack 2 3 keysP bitsP 5 summaryP logKeysP logValuesP 3 3)) (0 ∷ 9 ∷ 3 ∷ 0 ∷ [])
-    ∷ row (takeBackLogKeys 2 3 keysP bitsP 5 summaryP logKeysP logValuesP 3 3) logKeysP
+    ∷ row (of-edited (editAnswer (takeBack 2 3 keysP bitsP 5 summaryP logKeysP logValuesP 3 3))) (0 ∷ 9 ∷ 3 ∷ 0 ∷ [])
+    ∷ row (logKeysLeft (takeBack 2 3 keysP bitsP 5 summaryP logKeysP logValuesP 3 3)) logKeysP
     -- redone it is A9 again, and the log stays
-    ∷ row (of-edited (redo 2 3 (keysA 1) (bitsA 1) 9 summaryA logKeysP logValuesP 3 0)) (0 ∷ 5 ∷ 3 ∷ 3 ∷ [])
-    ∷ row (redoKeys 2 3 (keysA 1) (bitsA 1) 9 summaryA logKeysP logValuesP 3 0) keysP
-    ∷ row (redoBits 2 3 (keysA 1) (bitsA 1) 9 summaryA logKeysP logValuesP 3 0) bitsP
-    ∷ row (redoSummary 2 3 (keysA 1) (bitsA 1) 9 summaryA logKeysP logValuesP 3 0) summaryP
-    ∷ row (redoLogKeys 2 3 (keysA 1) (bitsA 1) 9 summaryA logKeysP logValuesP 3 0) logKeysP
-    ∷ row (redoLogValues 2 3 (keysA 1) (bitsA 1) 9 summaryA logKeysP logValuesP 3 0) logValuesP
+    ∷ row (of-edited (editAnswer (redo 2 3 (keysA 1) (bitsA 1) 9 summaryA logKeysP logValuesP 3 0))) (0 ∷ 5 ∷ 3 ∷ 3 ∷ [])
+    ∷ row (keysLeft (redo 2 3 (keysA 1) (bitsA 1) 9 summaryA logKeysP logValuesP 3 0)) keysP
+    ∷ row (bitsLeft (redo 2 3 (keysA 1) (bitsA 1) 9 summaryA logKeysP logValuesP 3 0)) bitsP
+    ∷ row (summaryLeft (redo 2 3 (keysA 1) (bitsA 1) 9 summaryA logKeysP logValuesP 3 0)) summaryP
+    ∷ row (logKeysLeft (redo 2 3 (keysA 1) (bitsA 1) 9 summaryA logKeysP logValuesP 3 0)) logKeysP
+    ∷ row (logValuesLeft (redo 2 3 (keysA 1) (bitsA 1) 9 summaryA logKeysP logValuesP 3 0)) logValuesP
     -- with none in force nothing is taken back, with all in force nothing is redone
-    ∷ row (of-edited (takeBack 2 3 (keysA 1) (bitsA 1) 9 summaryA logKeysP logValuesP 3 0)) (11 ∷ 0 ∷ 0 ∷ 0 ∷ [])
-    ∷ row (of-edited (redo 2 3 keysP bitsP 5 summaryP logKeysP logValuesP 3 3)) (20 ∷ 0 ∷ 0 ∷ 0 ∷ [])
+    ∷ row (of-edited (editAnswer (takeBack 2 3 (keysA 1) (bitsA 1) 9 summaryA logKeysP logValuesP 3 0))) (11 ∷ 0 ∷ 0 ∷ 0 ∷ [])
+    ∷ row (of-edited (editAnswer (redo 2 3 keysP bitsP 5 summaryP logKeysP logValuesP 3 3))) (20 ∷ 0 ∷ 0 ∷ 0 ∷ [])
     -- a refused paint drops nothing: 33 with 0 has no room for 13 records
-    ∷ row (of-edited (paint 2 3 (keysA 1) (bitsA 1) 9 summaryA logKeysP logValuesP 3 0 (key (3 ∷ 3 ∷ [])) 0)) (9 ∷ 0 ∷ 0 ∷ 0 ∷ [])
-    ∷ row (paintLogKeys 2 3 (keysA 1) (bitsA 1) 9 summaryA logKeysP logValuesP 3 0 (key (3 ∷ 3 ∷ [])) 0) logKeysP
-    ∷ row (paintLogValues 2 3 (keysA 1) (bitsA 1) 9 summaryA logKeysP logValuesP 3 0 (key (3 ∷ 3 ∷ [])) 0) logValuesP
+    ∷ row (of-edited (editAnswer (paint 2 3 (keysA 1) (bitsA 1) 9 summaryA logKeysP logValuesP 3 0 (key (3 ∷ 3 ∷ [])) 0))) (9 ∷ 0 ∷ 0 ∷ 0 ∷ [])
+    ∷ row (logKeysLeft (paint 2 3 (keysA 1) (bitsA 1) 9 summaryA logKeysP logValuesP 3 0 (key (3 ∷ 3 ∷ [])) 0)) logKeysP
+    ∷ row (logValuesLeft (paint 2 3 (keysA 1) (bitsA 1) 9 summaryA logKeysP logValuesP 3 0 (key (3 ∷ 3 ∷ [])) 0)) logValuesP
     -- a longer entry goes over one that is dropped
-    ∷ row (of-edited (paint 2 3 (keysA 1) (bitsA 1) 9 summaryA logKeysP logValuesP 3 0 (key (2 ∷ 0 ∷ [])) 2)) (0 ∷ 5 ∷ 7 ∷ 7 ∷ [])
-    ∷ row (paintLogKeys 2 3 (keysA 1) (bitsA 1) 9 summaryA logKeysP logValuesP 3 0 (key (2 ∷ 0 ∷ [])) 2) logKeysL
-    ∷ row (paintLogValues 2 3 (keysA 1) (bitsA 1) 9 summaryA logKeysP logValuesP 3 0 (key (2 ∷ 0 ∷ [])) 2) logValuesL
+    ∷ row (of-edited (editAnswer (paint 2 3 (keysA 1) (bitsA 1) 9 summaryA logKeysP logValuesP 3 0 (key (2 ∷ 0 ∷ [])) 2))) (0 ∷ 5 ∷ 7 ∷ 7 ∷ [])
+    ∷ row (logKeysLeft (paint 2 3 (keysA 1) (bitsA 1) 9 summaryA logKeysP logValuesP 3 0 (key (2 ∷ 0 ∷ [])) 2)) logKeysL
+    ∷ row (logValuesLeft (paint 2 3 (keysA 1) (bitsA 1) 9 summaryA logKeysP logValuesP 3 0 (key (2 ∷ 0 ∷ [])) 2)) logValuesL
     -- a shorter one too, and what it leaves of the dropped places becomes zero; then there is nothing to redo
-    ∷ row (of-edited (paint 2 3 (keysA 1) (bitsA 1) 9 summaryA logKeysL logValuesL 7 0 (key (2 ∷ 4 ∷ [])) 1)) (0 ∷ 5 ∷ 3 ∷ 3 ∷ [])
-    ∷ row (paintLogKeys 2 3 (keysA 1) (bitsA 1) 9 summaryA logKeysL logValuesL 7 0 (key (2 ∷ 4 ∷ [])) 1) shortKeys
-    ∷ row (paintLogValues 2 3 (keysA 1) (bitsA 1) 9 summaryA logKeysL logValuesL 7 0 (key (2 ∷ 4 ∷ [])) 1) shortValues
-    ∷ row (of-edited (redo 2 3 keysP bitsP 5 summaryP shortKeys shortValues 3 3)) (20 ∷ 0 ∷ 0 ∷ 0 ∷ [])
+    ∷ row (of-edited (editAnswer (paint 2 3 (keysA 1) (bitsA 1) 9 summaryA logKeysL logValuesL 7 0 (key (2 ∷ 4 ∷ [])) 1))) (0 ∷ 5 ∷ 3 ∷ 3 ∷ [])
+    ∷ row (logKeysLeft (paint 2 3 (keysA 1) (bitsA 1) 9 summaryA logKeysL logValuesL 7 0 (key (2 ∷ 4 ∷ [])) 1)) shortKeys
+    ∷ row (logValuesLeft (paint 2 3 (keysA 1) (bitsA 1) 9 summaryA logKeysL logValuesL 7 0 (key (2 ∷ 4 ∷ [])) 1)) shortValues
+    ∷ row (of-edited (editAnswer (redo 2 3 keysP bitsP 5 summaryP shortKeys shortValues 3 3))) (20 ∷ 0 ∷ 0 ∷ 0 ∷ [])
     -- 10 counts from the records in force: both entries have seven records in seven places
-    ∷ row (of-edited (paint 2 3 (keysA 1) (bitsA 1) 9 summaryA (take 7 logKeysL) (take 7 logValuesL) 7 0 (key (2 ∷ 0 ∷ [])) 2)) (0 ∷ 5 ∷ 7 ∷ 7 ∷ [])
+    ∷ row (of-edited (editAnswer (paint 2 3 (keysA 1) (bitsA 1) 9 summaryA (take 7 logKeysL) (take 7 logValuesL) 7 0 (key (2 ∷ 0 ∷ [])) 2))) (0 ∷ 5 ∷ 7 ∷ 7 ∷ [])
     ∷ []
 
 claim : Holds table
@@ -98,7 +99,6 @@ unfolding
     featuresOfRow featuresOfRows countOf pixelsWith countsFrom summaryBelow summaryOf sameNumbers noSummary
     put paintIn contentOf
     closed entryOf countRecord lastRecord lastKey lastFeature lastCount beforeLast lastContent isContent closes lastIsEntry endsInMark stepCount stepEntries beforeEntries beforeStep endsInEntries lastIsGroup lastIsStep dividesIn isSound putBack paintAgain firstIn firstStep noLog
-    painted gained paintRefusal paint paintLogKeys paintLogValues
-    restored takeBackRefusal forceBefore takeBack takeBackLogKeys
-    redone redoRefusal forceAfter redo redoKeys redoBits redoSummary redoLogKeys redoLogValues
+    gained
+    editRefusal editAnswer keysLeft bitsLeft summaryLeft logKeysLeft logValuesLeft
 claim = refl

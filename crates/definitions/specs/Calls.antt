@@ -13,6 +13,7 @@ pub mod FillSummary
 pub mod Area
 pub mod Clipped
 pub mod Batch
+pub mod Edit
 pub mod Paint
 pub mod PaintWindow
 pub mod TakeBack

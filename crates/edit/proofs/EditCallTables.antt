@@ -1,108 +1,81 @@
--- The tables of paint, take back and redo begin with the same four rows, which are tested first: what these refuse the whole table refuses, and what
--- passes them is left to the rest of the table. Rests on the laws of tables.
-use Prim.Native.Nat.{ℕ, _≤_}
+-- The tables of the edits begin with the same four rows, about what is lent: what they give, and what a call may rely on once they are passed; and the
+-- row about the list's room, which takings back and redos of a single entry test by themselves. Rests on the laws of edits.
+use Prim.Native.Nat.{ℕ, _≤_, _<_}
 use mathlib.Core.Path.{_≡_, refl, sym, _∙_}
-use mathlib.Core.Bool.{true, false}
-use mathlib.Core.List.{List, [], _∷_, _++_}
+use mathlib.Core.List.{List, [], _∷_}
 use native.Mathlib.Omega.{arith}
-use borrow.Author.Tests.{not-false}
+use lib.ListN.{length}
+use lib.Dec.{ltb}
+use borrow.Author.Tests.{lt-ltb, le-ltb, ltb-false, not-false}
+use Rattle.definitions.specs.List.{Record}
 use Rattle.definitions.specs.Read.{room, isList}
-use Rattle.definitions.specs.Area.{summaryOf, noSummary}
-use Rattle.definitions.specs.Log.{noLog}
-use Rattle.definitions.specs.Refusal.{Row, _gives_, first, badSettings, noList}
-use Rattle.laws.proofs.First.{NoneHolds, this, later, first-later, none-first, first-none, holds-first, first-holds, holds-more}
+use Rattle.definitions.specs.Area.{summaryOf}
+use Rattle.definitions.specs.Refusal.{_gives_}
+use Rattle.definitions.specs.Calls.Edit.{LentSheet, Edit, sheetRows, editRefusal}
+use Rattle.laws.proofs.First.{FirstHolds, this, holds-first, none-first, first-none}
 use Rattle.laws.proofs.SameNumbers.{summary-is}
+use Rattle.laws.proofs.Edits.{SheetPassed, sheet-passed, sheet-refuses}
 use Rattle.list.specs.Own.{OwnList, shownBy}
 use Rattle.list.proofs.Own.{own-list}
 use Rattle.list.proofs.Tests.{GoodSettings, good-settings}
 use Rattle.log.proofs.Parts.{whole-log}
 use Rattle.log.specs.Entries.{WholeLog}
-use Rattle.edit.specs.EditCallChecks.{editRefusal}
+use Rattle.edit.specs.EditCallChecks.{sheetRefusal, listRoomRefusal}
 
--- what some rows refuse the table that begins with them refuses
-pub early-first : (k : ℕ) (rows more : List Row) → k ≡ first rows → (k ≡ 0 → ⊥) → k ≡ first (rows ++ more)
-early-first k rows more e not-zero = sym (holds-first (holds-more more (first-holds k rows not-zero (sym e))))
+-- the first of them that holds
+pub sheet-told : (l : LentSheet) {k : ℕ} → FirstHolds k (sheetRows l) → k ≡ sheetRefusal l
+unfolding sheetRefusal
+sheet-told l h = sym (holds-first h)
 
--- rows that are passed leave the rest of the table
-pub rest-first : (rows more : List Row) → NoneHolds rows → first more ≡ first (rows ++ more)
-rest-first [] more h = refl
-rest-first (r ∷ rs) more h = rest-first rs more (h .1) ∙ sym (first-later r (rs ++ more) (h .0))
+-- none of them
+pub sheet-clear : (l : LentSheet) → SheetPassed l → 0 ≡ sheetRefusal l
+unfolding sheetRefusal
+sheet-clear l p = sym (none-first (sheetRows l) (p .settings, (p .listed, (p .summed, (p .logged, tt)))))
 
-module _ (m s : ℕ) (keys bits : List ℕ) (n : ℕ) (summary logKeys logValues : List ℕ) (used inForce : ℕ) where
-  -- the rows that the tables begin with
-  abbrev pub firstRows : List Row
-  firstRows =
-      badSettings m s gives 1
-      ∷ noList m s keys bits n gives 4
-      ∷ noSummary m s (shownBy m keys bits n) summary gives 18
-      ∷ noLog m s logKeys logValues used inForce gives 5
-      ∷ []
+-- what they refuse every edit refuses
+pub edit-early : (e : Edit) (k : ℕ) → k ≡ sheetRefusal (e .lent) → (k ≡ 0 → ⊥) → k ≡ editRefusal e
+unfolding sheetRefusal
+edit-early e k is not-zero = sheet-refuses e k is not-zero
 
-  -- what has passed them
-  pub record FirstPassed : Type 0 where
-    pub settings : badSettings m s ≡ false
-    pub listed : noList m s keys bits n ≡ false
-    pub summed : noSummary m s (shownBy m keys bits n) summary ≡ false
-    pub logged : noLog m s logKeys logValues used inForce ≡ false
+pub first-passed : {l : LentSheet} (k : ℕ) → k ≡ sheetRefusal l → k ≡ 0 → SheetPassed l
+unfolding sheetRefusal
+first-passed {l} k e zero = sheet-passed l (sym e ∙ zero)
 
-  -- 1
-  pub bad-settings : badSettings m s ≡ true → 1 ≡ editRefusal m s keys bits n summary logKeys logValues used inForce
-  unfolding editRefusal
-  bad-settings bad = sym (holds-first (this bad refl))
+-- the row about the list's room alone
+module _ (l : List Record) (keys bits : List ℕ) where
+  -- 9
+  pub room-told : (after : ℕ) → after ≡ length l → room keys bits < after → 9 ≡ listRoomRefusal l keys bits
+  unfolding listRoomRefusal
+  room-told after after-is h = sym (holds-first (this (lt-ltb (room keys bits) (length l) (omega arith)) refl))
 
-  -- 4
-  pub no-list : badSettings m s ≡ false → noList m s keys bits n ≡ true → 4 ≡ editRefusal m s keys bits n summary logKeys logValues used inForce
-  unfolding editRefusal
-  no-list good bad = sym (holds-first (later good (this bad refl)))
+  -- none
+  pub room-clear : (after : ℕ) → after ≡ length l → after ≤ room keys bits → 0 ≡ listRoomRefusal l keys bits
+  unfolding listRoomRefusal
+  room-clear after after-is h = sym (none-first (ltb (room keys bits) (length l) gives 9 ∷ []) (le-ltb (room keys bits) (length l) (omega arith), tt))
 
-  -- 18
-  pub no-summary : badSettings m s ≡ false → noList m s keys bits n ≡ false → noSummary m s (shownBy m keys bits n) summary ≡ true
-      → 18 ≡ editRefusal m s keys bits n summary logKeys logValues used inForce
-  unfolding editRefusal
-  no-summary good listed bad = sym (holds-first (later good (later listed (this bad refl))))
-
-  -- 5
-  pub no-log : badSettings m s ≡ false → noList m s keys bits n ≡ false → noSummary m s (shownBy m keys bits n) summary ≡ false
-      → noLog m s logKeys logValues used inForce ≡ true
-      → 5 ≡ editRefusal m s keys bits n summary logKeys logValues used inForce
-  unfolding editRefusal
-  no-log good listed summed bad = sym (holds-first (later good (later listed (later summed (this bad refl)))))
-
-  -- none of them
-  pub all-passed : badSettings m s ≡ false → noList m s keys bits n ≡ false → noSummary m s (shownBy m keys bits n) summary ≡ false
-      → noLog m s logKeys logValues used inForce ≡ false
-      → 0 ≡ editRefusal m s keys bits n summary logKeys logValues used inForce
-  unfolding editRefusal
-  all-passed good listed summed logged = sym (none-first firstRows (good, (listed, (summed, (logged, tt)))))
+  pub room-fits : listRoomRefusal l keys bits ≡ 0 → length l ≤ room keys bits
+  unfolding listRoomRefusal
+  room-fits e = ltb-false _ _ (first-none (ltb (room keys bits) (length l) gives 9 ∷ []) refl e .0)
 
 -- what the calls may rely on once the four rows are passed
-module _ {m s : ℕ} {keys bits : List ℕ} {n : ℕ} {summary logKeys logValues : List ℕ} {used inForce : ℕ} where
-  pub first-passed : (k : ℕ) → k ≡ editRefusal m s keys bits n summary logKeys logValues used inForce → k ≡ 0 → FirstPassed m s keys bits n summary logKeys logValues used inForce
-  unfolding editRefusal
-  first-passed k e zero =
-      let none = first-none (firstRows m s keys bits n summary logKeys logValues used inForce) refl (sym e ∙ zero) in
-      record { settings = none .0; listed = none .1 .0; summed = none .1 .1 .0; logged = none .1 .1 .1 .0 }
+module _ {l : LentSheet} (p : SheetPassed l) where
+  pub passed-settings : GoodSettings (l .m) (l .s)
+  passed-settings = good-settings (l .m) (l .s) (p .settings)
 
-  pub passed-none : FirstPassed m s keys bits n summary logKeys logValues used inForce → NoneHolds (firstRows m s keys bits n summary logKeys logValues used inForce)
-  passed-none p = (p .settings, (p .listed, (p .summed, (p .logged, tt))))
-
-  pub passed-settings : FirstPassed m s keys bits n summary logKeys logValues used inForce → GoodSettings m s
-  passed-settings p = good-settings m s (p .settings)
-
-  pub passed-own : FirstPassed m s keys bits n summary logKeys logValues used inForce → OwnList m keys bits n
-  passed-own p = own-list m s keys bits n (not-false (isList m s keys bits n) (p .listed))
+  pub passed-own : OwnList (l .m) (l .keys) (l .bits) (l .n)
+  passed-own = own-list (l .m) (l .s) (l .keys) (l .bits) (l .n) (not-false (isList (l .m) (l .s) (l .keys) (l .bits) (l .n)) (p .listed))
 
   -- the summary is that of the list's picture
-  pub passed-summary : FirstPassed m s keys bits n summary logKeys logValues used inForce → summary ≡ summaryOf m s (shownBy m keys bits n)
-  passed-summary p = summary-is m s (shownBy m keys bits n) summary (p .summed)
+  pub passed-summary : l .summary ≡ summaryOf (l .m) (l .s) (shownBy (l .m) (l .keys) (l .bits) (l .n))
+  passed-summary = summary-is (l .m) (l .s) (shownBy (l .m) (l .keys) (l .bits) (l .n)) (l .summary) (p .summed)
 
-  pub passed-log : FirstPassed m s keys bits n summary logKeys logValues used inForce → WholeLog m s logKeys logValues used inForce
-  passed-log p = whole-log m s logKeys logValues used inForce (p .logged)
+  pub passed-log : WholeLog (l .m) (l .s) (l .logKeys) (l .logValues) (l .used) (l .inForce)
+  passed-log = whole-log (l .m) (l .s) (l .logKeys) (l .logValues) (l .used) (l .inForce) (p .logged)
 
   -- the records used are there
-  pub passed-used : FirstPassed m s keys bits n summary logKeys logValues used inForce → used ≤ room logKeys logValues
-  passed-used p = let log = passed-log p in omega (arith, log .in-keys, log .in-values)
+  pub passed-used : l .used ≤ room (l .logKeys) (l .logValues)
+  passed-used = let log = passed-log in omega (arith, log .in-keys, log .in-values)
 
   -- and so those in force
-  pub passed-force : FirstPassed m s keys bits n summary logKeys logValues used inForce → inForce ≤ room logKeys logValues
-  passed-force p = let log = passed-log p in omega (arith, log .in-keys, log .in-values, log .within)
+  pub passed-force : l .inForce ≤ room (l .logKeys) (l .logValues)
+  passed-force = let log = passed-log in omega (arith, log .in-keys, log .in-values, log .within)

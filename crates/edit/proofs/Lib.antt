@@ -10,6 +10,4 @@ pub mod Changed
 pub mod Planned
 pub mod PaintTable
 pub mod PaintPlan
-pub mod EditAnswers
-pub mod PaintAnswers
 pub mod Relogging

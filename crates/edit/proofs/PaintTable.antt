@@ -1,23 +1,26 @@
--- The table of paint, one law for each way out of the code that looks for the refusal, and what a paint that is not refused may rely on. Rests on
--- EditCallTables.
+-- The table of paint: the rows about room, one law for each way out of the code that tests them, and what a paint that is not refused may rely on and gives.
+-- Rests on EditCallTables and the laws of edits.
 use Prim.Native.Nat.{ℕ, _+_, _≤_, _<_}
-use mathlib.Core.Path.{_≡_, refl, sym, ap, _∙_, subst}
+use mathlib.Core.Path.{_≡_, refl, sym, ap, subst}
 use mathlib.Core.Bool.{true, false, not}
 use mathlib.Core.List.{List, [], _∷_}
 use native.Mathlib.Omega.{arith}
 use lib.ListN.{length}
 use lib.Dec.{ltb}
-use borrow.Author.Tests.{lt-ltb, le-ltb, ltb-false, le-leb, lt-leb, leb-false, not-false}
+use borrow.Author.Tests.{lt-ltb, le-ltb, ltb-false, lt-leb, leb-false, not-false}
 use Rattle.keys.specs.Key.{validKey}
 use Rattle.definitions.specs.List.{Record}
 use Rattle.definitions.specs.Read.{room, recordsOf}
-use Rattle.definitions.specs.Refusal.{Row, _gives_, first, badKey, badFeature}
-use Rattle.definitions.specs.Calls.Paint.{painted, gained, paintRefusal}
-use Rattle.laws.proofs.First.{this, later, holds-first, none-first, first-none}
+use Rattle.definitions.specs.Area.{summaryOf}
+use Rattle.definitions.specs.Refusal.{_gives_, badKey, badFeature}
+use Rattle.definitions.specs.Calls.Edit.{asLent, editRefusal}
+use Rattle.definitions.specs.Calls.Paint.{paintedPicture, painted, gained, paint, Painted}
+use Rattle.laws.proofs.First.{this, later, holds-first, none-first}
+use Rattle.laws.proofs.Edits.{SheetPassed, EditPassed, rest-decides, edit-passed, edit-done}
 use Rattle.log.specs.declared.entry.Entry.{Entry}
-use Rattle.edit.specs.EditCallChecks.{editRefusal}
-use Rattle.edit.specs.PaintCall.{roomRefusal, Paintable, newEntry, Fresh}
-use Rattle.edit.proofs.EditCallTables.{firstRows, FirstPassed, early-first, rest-first, passed-none, passed-settings, passed-own}
+use Rattle.put.specs.Putting.{Replaced}
+use Rattle.edit.specs.PaintCall.{roomRefusal, Paintable, newEntry, Fresh, Relogged}
+use Rattle.edit.proofs.EditCallTables.{passed-settings, passed-own}
 
 -- the rows about room: the first that holds
 module _ (m : ℕ) (l : List Record) (keys bits logKeys logValues : List ℕ) (inForce κ f : ℕ) where
@@ -44,84 +47,59 @@ module _ (m : ℕ) (l : List Record) (keys bits logKeys logValues : List ℕ) (i
       room-enough h =
           sym (none-first _ (log-passes, (le-ltb (room keys bits) (length (painted m l κ f)) (omega arith), tt)))
 
-module _ (m s : ℕ) (keys bits : List ℕ) (n : ℕ) (summary logKeys logValues : List ℕ) (used inForce κ f : ℕ) where
-  -- the rows about room
-  abbrev roomRows : List Row
-  roomRows =
-      ltb (room logKeys logValues) (inForce + length (gained m (recordsOf keys bits n) κ f)) gives 10
-      ∷ ltb (room keys bits) (length (painted m (recordsOf keys bits n) κ f)) gives 9
-      ∷ []
+module _ {m s : ℕ} {keys bits : List ℕ} {n : ℕ} {summary logKeys logValues : List ℕ} {used inForce : ℕ} (κ f : ℕ)
+    (p : SheetPassed (asLent m s keys bits n summary logKeys logValues used inForce)) (valid : validKey m κ ≡ true) (small : f < s) where
+  -- past 7 the rows about room decide
+  pub room-decides : roomRefusal m (recordsOf keys bits n) keys bits logKeys logValues inForce κ f
+      ≡ editRefusal (paint m s keys bits n summary logKeys logValues used inForce κ f)
+  unfolding roomRefusal painted
+  room-decides =
+      rest-decides (paint m s keys bits n summary logKeys logValues used inForce κ f) p (badKey m κ gives 8 ∷ badFeature s f gives 7 ∷ []) _ refl
+      (ap not valid, (lt-leb s f small, tt))
 
-  -- and those before them, from 8 on
-  abbrev lastRows : List Row
-  lastRows = badKey m κ gives 8 ∷ badFeature s f gives 7 ∷ roomRows
+  -- they ask for this
+  pub passed-paintable : Paintable m keys bits n κ f
+  passed-paintable =
+      let good = passed-settings p in
+      record { deepest = good .deep; valid = valid; own = passed-own p; feature = omega (arith, good .few) }
 
-  -- 1, 4, 18, 5
-  pub paint-early : (k : ℕ) → k ≡ editRefusal m s keys bits n summary logKeys logValues used inForce → (k ≡ 0 → ⊥)
-      → k ≡ paintRefusal m s keys bits n summary logKeys logValues used inForce κ f
-  unfolding paintRefusal editRefusal
-  paint-early k e not-zero = early-first k (firstRows m s keys bits n summary logKeys logValues used inForce) lastRows e not-zero
+-- a paint that is not refused
+pub record PaintPassed (m s : ℕ) (keys bits : List ℕ) (n : ℕ) (summary logKeys logValues : List ℕ) (used inForce κ f : ℕ) : Type 0 where
+  pub none : editRefusal (paint m s keys bits n summary logKeys logValues used inForce κ f) ≡ 0
 
-  module _ (p : FirstPassed m s keys bits n summary logKeys logValues used inForce) where
-    paint-rest : first lastRows ≡ paintRefusal m s keys bits n summary logKeys logValues used inForce κ f
-    unfolding paintRefusal
-    paint-rest = rest-first (firstRows m s keys bits n summary logKeys logValues used inForce) lastRows (passed-none p)
+module _ {m s : ℕ} {keys bits : List ℕ} {n : ℕ} {summary logKeys logValues : List ℕ} {used inForce κ f : ℕ}
+    (passed : PaintPassed m s keys bits n summary logKeys logValues used inForce κ f) where
+  paint-all : EditPassed (paint m s keys bits n summary logKeys logValues used inForce κ f)
+  paint-all = edit-passed (paint m s keys bits n summary logKeys logValues used inForce κ f) refl (passed .none)
 
-    -- 8
-    pub bad-key : validKey m κ ≡ false → 8 ≡ paintRefusal m s keys bits n summary logKeys logValues used inForce κ f
-    bad-key bad = sym (holds-first (this (ap not bad) refl)) ∙ paint-rest
+  pub paint-sheet : SheetPassed (asLent m s keys bits n summary logKeys logValues used inForce)
+  paint-sheet = paint-all .sheet
 
-    module _ (valid : validKey m κ ≡ true) where
-      -- 7
-      pub bad-feature : s ≤ f → 7 ≡ paintRefusal m s keys bits n summary logKeys logValues used inForce κ f
-      bad-feature h = sym (holds-first (later (ap not valid) (this (le-leb s f h) refl))) ∙ paint-rest
+  pub paint-fits : length (painted m (recordsOf keys bits n) κ f) ≤ room keys bits
+  unfolding painted
+  paint-fits = paint-all .fits
 
-      module _ (small : f < s) where
-        -- 10, 9
-        pub room-decides : (k : ℕ) → k ≡ roomRefusal m (recordsOf keys bits n) keys bits logKeys logValues inForce κ f
-            → k ≡ paintRefusal m s keys bits n summary logKeys logValues used inForce κ f
-        unfolding roomRefusal
-        room-decides k e = e ∙ rest-first (badKey m κ gives 8 ∷ badFeature s f gives 7 ∷ []) roomRows (ap not valid, (lt-leb s f small, tt)) ∙ paint-rest
+  -- what following a paint asks for
+  pub paint-paintable : Paintable m keys bits n κ f
+  paint-paintable = passed-paintable κ f paint-sheet (not-false (validKey m κ) (paint-all .own .0)) (leb-false s f (paint-all .own .1 .0))
 
-        -- the rows about room ask for this
-        pub passed-paintable : Paintable m keys bits n κ f
-        passed-paintable =
-            let good = passed-settings p in
-            record { deepest = good .deep; valid = valid; own = passed-own p; feature = omega (arith, good .few) }
+  -- and what logging asks for
+  pub paint-fresh : (new : Entry) → new ≡ newEntry m (recordsOf keys bits n) inForce κ f → Fresh m keys bits n new logKeys logValues
+  paint-fresh new e =
+      let a = paint-paintable in
+      subst (λ x. Fresh m keys bits n x logKeys logValues) (sym e)
+      (record { deepest = a .deepest; own = a .own; valid = a .valid; whole = refl; fits = ltb-false _ _ (paint-all .own .1 .1 .0) })
 
-  -- what a paint that is not refused has passed
-  pub record PaintPassed : Type 0 where
-    pub first-rows : FirstPassed m s keys bits n summary logKeys logValues used inForce
-    pub valid : validKey m κ ≡ true
-    pub small : f < s
-    pub log-fits : inForce + length (gained m (recordsOf keys bits n) κ f) ≤ room logKeys logValues
-    pub list-fits : length (painted m (recordsOf keys bits n) κ f) ≤ room keys bits
-
-  pub paint-passed : paintRefusal m s keys bits n summary logKeys logValues used inForce κ f ≡ 0 → PaintPassed
-  unfolding paintRefusal
-  paint-passed e =
-      let none = first-none _ refl e in
-      let last = none .1 .1 .1 .1 in
-      record {
-        first-rows = record { settings = none .0; listed = none .1 .0; summed = none .1 .1 .0; logged = none .1 .1 .1 .0 };
-        valid = not-false (validKey m κ) (last .0);
-        small = leb-false s f (last .1 .0);
-        log-fits = ltb-false _ _ (last .1 .1 .0);
-        list-fits = ltb-false _ _ (last .1 .1 .1 .0);
-      }
-
--- what following a paint asks for
-pub paint-paintable : {m s : ℕ} {keys bits : List ℕ} {n : ℕ} {summary logKeys logValues : List ℕ} {used inForce κ f : ℕ} → PaintPassed m s keys bits n summary logKeys logValues used inForce κ f
-    → Paintable m keys bits n κ f
-paint-paintable {m} {s} {keys} {bits} {n} {summary} {logKeys} {logValues} {used} {inForce} {κ} {f} p =
-    passed-paintable m s keys bits n summary logKeys logValues used inForce κ f (p .first-rows) (p .valid) (p .small)
-
--- and what logging asks for
-pub paint-fresh : {m s : ℕ} {keys bits : List ℕ} {n : ℕ} {summary logKeys logValues : List ℕ} {used inForce κ f : ℕ} (new : Entry)
-    → new ≡ newEntry m (recordsOf keys bits n) inForce κ f
-    → PaintPassed m s keys bits n summary logKeys logValues used inForce κ f
-    → Fresh m keys bits n new logKeys logValues
-paint-fresh {m} {s} {keys} {bits} {n} {summary} {logKeys} {logValues} new e p =
-    let a = paint-paintable p in
-    subst (λ x. Fresh m keys bits n x logKeys logValues) (sym e)
-    (record { deepest = a .deepest; own = a .own; valid = p .valid; whole = refl; fits = p .log-fits })
+  -- an accepted paint gives what was logged, put and counted
+  pub paint-done : {keys′ bits′ summary′ logKeys′ logValues′ : List ℕ} {after next : ℕ} (entered : Entry)
+      → entered ≡ newEntry m (recordsOf keys bits n) inForce κ f
+      → Relogged (gained m (recordsOf keys bits n) (entered .key) (entered .feature)) (entered .start) used logKeys logValues logKeys′ logValues′ next
+      → Replaced n (painted m (recordsOf keys bits n) κ f) keys bits keys′ bits′ after
+      → summary′ ≡ summaryOf m s (paintedPicture m (recordsOf keys bits n) κ f)
+      → Painted m s keys bits n summary logKeys logValues used inForce κ f (record { refusal = 0; n = after; used = next; «in_force» = next }) keys′ bits′ summary′ logKeys′ logValues′
+  unfolding painted
+  paint-done {logKeys′ = logKeys′} {logValues′ = logValues′} {next = next} entered is entry-logged put counted =
+      let log : Relogged (gained m (recordsOf keys bits n) κ f) inForce used logKeys logValues logKeys′ logValues′ next =
+      subst (λ x. Relogged (gained m (recordsOf keys bits n) (x .key) (x .feature)) (x .start) used logKeys logValues logKeys′ logValues′ next) is entry-logged in
+      edit-done (paint m s keys bits n summary logKeys logValues used inForce κ f) (passed .none)
+      (put .length-is) (put .keys-are) (put .values-are) counted (log .used-are) (log .used-are) (log .keys-are) (log .values-are)

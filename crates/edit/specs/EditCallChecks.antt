@@ -1,11 +1,13 @@
--- What paint, take back and redo share: the refusals that they test first, 1, 4, 18, 5, and the decision that a call goes by. Only
--- contracts need these.
+-- What the edits share: the refusals that they test first, about what is lent, and the decision that a call goes by. Only contracts need these. Rests on
+-- Calls/Edit of the definitions.
 use Prim.Native.Nat.{ℕ}
 use mathlib.Core.List.{List, [], _∷_}
-use Rattle.definitions.specs.Area.{noSummary}
-use Rattle.definitions.specs.Log.{noLog}
-use Rattle.definitions.specs.Refusal.{_gives_, first, accepted, badSettings, noList}
-use Rattle.list.specs.Own.{shownBy}
+use lib.ListN.{length}
+use lib.Dec.{ltb}
+use Rattle.definitions.specs.List.{Record}
+use Rattle.definitions.specs.Read.{room}
+use Rattle.definitions.specs.Refusal.{_gives_, first, accepted}
+use Rattle.definitions.specs.Calls.Edit.{LentSheet, sheetRows}
 use Rattle.log.specs.declared.entry.Entry.{Entry}
 use Rattle.put.specs.declared.plan.Plan.{Plan}
 use Rattle.edit.specs.declared.decision.Decision.{Decision}
@@ -14,14 +16,13 @@ use Rattle.edit.specs.declared.decision.PaintDecision.{PaintDecision}
 use Rattle.edit.specs.declared.decision.PaintDecision.the-variants.{Refused as PaintRefused, Granted as PaintGranted}
 use Rattle.edit.specs.declared.logging.Former.{Former}
 
-unfoldable pub editRefusal : (m s : ℕ) (keys bits : List ℕ) (n : ℕ) (summary logKeys logValues : List ℕ) (used inForce : ℕ) → ℕ
-editRefusal m s keys bits n summary logKeys logValues used inForce =
-    first
-    (badSettings m s gives 1
-    ∷ noList m s keys bits n gives 4
-    ∷ noSummary m s (shownBy m keys bits n) summary gives 18
-    ∷ noLog m s logKeys logValues used inForce gives 5
-    ∷ [])
+-- 1, 4, 18, 5
+unfoldable pub sheetRefusal : (l : LentSheet) → ℕ
+sheetRefusal l = first (sheetRows l)
+
+-- 9, for a list that is to stand in these slices
+unfoldable pub listRoomRefusal : (l : List Record) (keys bits : List ℕ) → ℕ
+listRoomRefusal l keys bits = first (ltb (room keys bits) (length l) gives 9 ∷ [])
 
 -- a call with this refusal is refused, or granted where that is 0
 unfoldable pub decided : ℕ → Entry → Plan → Decision

@@ -1,6 +1,7 @@
 // What paint, take back and redo share: the refusals that they test first, and the decisions that the calls go by.
 ghost use mathlib.Core.Path.{_≡_};
-ghost use Rattle.edit.specs.EditCallChecks.{editRefusal};
+ghost use Rattle.definitions.specs.Calls.Edit.{asLent};
+ghost use Rattle.edit.specs.EditCallChecks.{sheetRefusal};
 use crate::logging::Former;
 use definitions::refusal::Refusal;
 use log::entry::Entry;
@@ -32,8 +33,8 @@ pub fn edit_refusal(
     used: usize,
     in_force: usize,
 ) -> u64
-    ensures { λ r. ⌜ r ≡ editRefusal m s (now (keys .entry)) (now (bits .entry)) n (now (summary .entry))
-        (now («log_keys» .entry)) (now («log_values» .entry)) used «in_force» ⌝ }
+    ensures { λ r. ⌜ r ≡ sheetRefusal (asLent m s (now (keys .entry)) (now (bits .entry)) n (now (summary .entry))
+        (now («log_keys» .entry)) (now («log_values» .entry)) used «in_force») ⌝ }
 {
     let refusal = first_refusal(m, s, keys, bits, n, summary);
     if refusal != 0 {

@@ -3,11 +3,11 @@ ghost use mathlib.Core.Path.{_≡_};
 ghost use Prim.Native.Nat.{_≤_};
 ghost use lib.ListN.{length};
 ghost use Rattle.definitions.specs.Read.{room, recordsOf};
-ghost use Rattle.definitions.specs.Calls.Paint.{painted, paintRefusal};
+ghost use Rattle.definitions.specs.Calls.Edit.{editRefusal};
+ghost use Rattle.definitions.specs.Calls.Paint.{painted, paint, Painted};
 ghost use Rattle.put.specs.Putting.{Replaced};
 ghost use Rattle.edit.specs.Content.{formerOf};
 ghost use Rattle.edit.specs.EditCallChecks.{paintDecided};
-ghost use Rattle.definitions.specs.Calls.Paint.{Painted};
 ghost use Rattle.edit.specs.PaintCall.{roomRefusal, Paintable, newEntry, paintPlan};
 use crate::decision;
 use crate::decision::PaintDecision;
@@ -88,7 +88,7 @@ fn decide(
     feature: u32,
 ) -> PaintDecision
     ensures { λ r. ⌜ r ≡ paintDecided
-        (paintRefusal m s (now (keys .entry)) (now (bits .entry)) n (now (summary .entry)) (now («log_keys» .entry)) (now («log_values» .entry)) used «in_force» key feature)
+        (editRefusal (paint m s (now (keys .entry)) (now (bits .entry)) n (now (summary .entry)) (now («log_keys» .entry)) (now («log_values» .entry)) used «in_force» key feature))
         (newEntry m (recordsOf (now (keys .entry)) (now (bits .entry)) n) «in_force» key feature)
         (formerOf m key (recordsOf (now (keys .entry)) (now (bits .entry)) n))
         (paintPlan m (recordsOf (now (keys .entry)) (now (bits .entry)) n) key feature) ⌝ }

@@ -8,6 +8,7 @@ pub mod Past
 pub mod Slices
 pub mod LogSlices
 pub mod Invariant
+pub mod EditStep
 pub mod PaintStep
 pub mod PaintedFindings
 pub mod PaintAnswer

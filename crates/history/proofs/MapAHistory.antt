@@ -15,9 +15,8 @@ use Rattle.definitions.specs.Area.{countOf, pixelsWith, countsFrom, summaryBelo
 use Rattle.definitions.specs.Edit.{put, paintIn, contentOf}
 use Rattle.definitions.specs.Log.{closed, entryOf, countRecord, lastRecord, lastKey, lastFeature, lastCount, beforeLast, lastContent, isContent, closes, lastIsEntry, endsInMark, stepCount, stepEntries, beforeEntries, beforeStep, lastIsStep, dividesIn, isSound, firstIn, firstStep, putBack, paintAgain, noLog}
 use Rattle.definitions.specs.Calls.Survey.{surveyRefusal, survey, surveyKeys, surveyBits, surveySummary}
-use Rattle.definitions.specs.Calls.Paint.{painted, gained, paintRefusal, paint, paintKeys, paintBits, paintSummary, paintLogKeys, paintLogValues}
-use Rattle.definitions.specs.Calls.TakeBack.{restored, takeBackRefusal, forceBefore, takeBack, takeBackKeys, takeBackBits, takeBackSummary, takeBackLogKeys, takeBackLogValues}
-use Rattle.definitions.specs.Calls.Redo.{redone, redoRefusal, forceAfter, redo, redoKeys, redoBits, redoSummary, redoLogKeys, redoLogValues}
+use Rattle.definitions.specs.Calls.Edit.{editRefusal, editAnswer, keysLeft, bitsLeft, summaryLeft, logKeysLeft, logValuesLeft}
+use Rattle.definitions.specs.Calls.Paint.{gained}
 use Rattle.history.specs.History.{Call, ofBlock, painting, takingBack, redoing, emptying, Buffers, nothing, withoutLatest, withNext, built, answer, after, afterCalls, keep, kept, applied, drawn, pictureLeft, rasterLeft}
 
 -- the answers of a run of calls
@@ -80,7 +79,6 @@ unfolding answers answer after afterCalls kept keep withoutLatest withNext built
     countOf pixelsWith countsFrom summaryBelow summaryOf sameNumbers noSummary put paintIn contentOf
     closed entryOf countRecord lastRecord lastKey lastFeature lastCount beforeLast lastContent isContent closes lastIsEntry
     endsInMark stepCount stepEntries beforeEntries beforeStep lastIsStep dividesIn isSound firstIn firstStep putBack paintAgain noLog
-    surveyRefusal survey surveyKeys surveyBits surveySummary painted gained paintRefusal paint paintKeys paintBits paintSummary paintLogKeys paintLogValues
-    restored takeBackRefusal forceBefore takeBack takeBackKeys takeBackBits takeBackSummary takeBackLogKeys takeBackLogValues
-    redone redoRefusal forceAfter redo redoKeys redoBits redoSummary redoLogKeys redoLogValues
+    surveyRefusal survey surveyKeys surveyBits surveySummary gained
+    editRefusal editAnswer keysLeft bitsLeft summaryLeft logKeysLeft logValuesLeft
 gives = record { answered = refl; paints = refl; raster = refl; buffers = refl }

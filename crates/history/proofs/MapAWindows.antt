@@ -15,10 +15,9 @@ use Rattle.definitions.specs.Area.{countOf, pixelsWith, countsFrom, summaryBelo
 use Rattle.definitions.specs.Edit.{put, paintIn, fillWindow, contentOf}
 use Rattle.definitions.specs.Log.{closed, entryOf, grouped, entriesOf, groupOf, endsInEntries, lastIsGroup, countRecord, lastRecord, lastKey, lastFeature, lastCount, beforeLast, lastContent, isContent, closes, lastIsEntry, endsInMark, stepCount, stepEntries, beforeEntries, beforeStep, lastIsStep, dividesIn, isSound, firstIn, firstStep, putBack, paintAgain, noLog}
 use Rattle.definitions.specs.Calls.Survey.{surveyRefusal, survey, surveyKeys, surveyBits, surveySummary}
-use Rattle.definitions.specs.Calls.Paint.{painted, gained, paintRefusal, paint, paintKeys, paintBits, paintSummary, paintLogKeys, paintLogValues}
-use Rattle.definitions.specs.Calls.PaintWindow.{filled, groupGained, paintWindowRefusal, paintWindow, paintWindowKeys, paintWindowBits, paintWindowSummary, paintWindowLogKeys, paintWindowLogValues}
-use Rattle.definitions.specs.Calls.TakeBack.{restored, takeBackRefusal, forceBefore, takeBack, takeBackKeys, takeBackBits, takeBackSummary, takeBackLogKeys, takeBackLogValues}
-use Rattle.definitions.specs.Calls.Redo.{redone, redoRefusal, forceAfter, redo, redoKeys, redoBits, redoSummary, redoLogKeys, redoLogValues}
+use Rattle.definitions.specs.Calls.Edit.{editRefusal, editAnswer, keysLeft, bitsLeft, summaryLeft, logKeysLeft, logValuesLeft}
+use Rattle.definitions.specs.Calls.Paint.{gained}
+use Rattle.definitions.specs.Calls.PaintWindow.{groupGained}
 use Rattle.history.specs.History.{Call, ofBlock, ofWindow, painting, takingBack, redoing, Buffers, nothing, withoutLatest, withNext, built, answer, after, afterCalls, keep, kept, applied, drawn, pictureLeft, rasterLeft}
 use Rattle.history.proofs.MapAHistory.{answers, mapA, four}
 
@@ -80,8 +79,7 @@ unfolding answers answer after afterCalls kept keep withoutLatest withNext built
     countOf pixelsWith countsFrom summaryBelow summaryOf sameNumbers noSummary put paintIn fillWindow contentOf
     closed entryOf grouped entriesOf groupOf countRecord lastRecord lastKey lastFeature lastCount beforeLast lastContent isContent closes lastIsEntry
     endsInMark stepCount stepEntries beforeEntries beforeStep endsInEntries lastIsGroup lastIsStep dividesIn isSound firstIn firstStep putBack paintAgain noLog
-    surveyRefusal survey surveyKeys surveyBits surveySummary painted gained paintRefusal paint paintKeys paintBits paintSummary paintLogKeys paintLogValues
-    filled groupGained paintWindowRefusal paintWindow paintWindowKeys paintWindowBits paintWindowSummary paintWindowLogKeys paintWindowLogValues
-    restored takeBackRefusal forceBefore takeBack takeBackKeys takeBackBits takeBackSummary takeBackLogKeys takeBackLogValues
-    redone redoRefusal forceAfter redo redoKeys redoBits redoSummary redoLogKeys redoLogValues
+    surveyRefusal survey surveyKeys surveyBits surveySummary gained
+    groupGained
+    editRefusal editAnswer keysLeft bitsLeft summaryLeft logKeysLeft logValuesLeft
 gives = record { answered = refl; paints = refl; raster = refl; buffers = refl }

@@ -1,8 +1,8 @@
 -- The answer to a paint in a history, of a block or of a window: refusals 1, 4, 18 and 5 do not come, and the others are told by the picture now. Rests on
 -- Invariant and PaintStep.
 use Prim.Native.Nat.{ℕ, _+_}
-use mathlib.Core.Path.{_≡_, sym, ap, _∙_}
-use mathlib.Core.Bool.{Bool, false, not}
+use mathlib.Core.Path.{_≡_, refl, sym, _∙_}
+use mathlib.Core.Bool.{Bool, false}
 use mathlib.Core.List.{List, [], _∷_}
 use native.Mathlib.Omega.{arith}
 use lib.ListN.{length}
@@ -12,20 +12,20 @@ use Rattle.keys.proofs.Cases.{decide}
 use Rattle.definitions.specs.Picture.{Picture}
 use Rattle.definitions.specs.List.{Record, listOfPicture}
 use Rattle.definitions.specs.Read.{room}
-use Rattle.definitions.specs.Area.{noSummary}
 use Rattle.definitions.specs.Window.{badWindow}
 use Rattle.definitions.specs.declared.Window.{Window}
-use Rattle.definitions.specs.Log.{noLog}
-use Rattle.definitions.specs.Refusal.{Row, _gives_, first, badSettings, noList, badKey, badFeature}
-use Rattle.definitions.specs.Calls.Paint.{painted, gained, paint, paintRefusal}
-use Rattle.definitions.specs.Calls.PaintWindow.{filled, groupGained, paintWindow, paintWindowRefusal}
+use Rattle.definitions.specs.Refusal.{Row, _gives_, first, badKey, badFeature}
+use Rattle.definitions.specs.Calls.Paint.{gained}
+use Rattle.definitions.specs.Calls.PaintWindow.{groupGained}
 use Rattle.laws.proofs.First.{first-this, first-later}
+use Rattle.laws.proofs.Edits.{SheetPassed, rest-decides}
 use Rattle.history.specs.History.{Buffers, Paint, ofBlock, ofWindow, Kept, painting, applied, loggedBy, answer}
 use Rattle.history.specs.Claim.{paintAnswer, paintWindowAnswer}
 use Rattle.history.proofs.Fit.{Fit, block-fit, window-fit}
 use Rattle.history.proofs.Slices.{list-room}
-use Rattle.history.proofs.PaintStep.{shownIn, listAfter, stepIn, list-now, step-now}
-use Rattle.history.proofs.Invariant.{now, Invariant, now-is-list, now-is-summary, now-is-log}
+use Rattle.history.proofs.PaintStep.{listAfter, stepIn, paintOn, list-now, step-now}
+use Rattle.history.proofs.Invariant.{now, Invariant}
+use Rattle.history.proofs.EditStep.{lentBy, now-sheet}
 
 -- the rows of room
 abbrev rooms : ℕ → ℕ → ℕ → List Record → List Record → List Row
@@ -38,20 +38,19 @@ by-row bad number rest rest′ same =
     (λ e. first-this (bad gives number) rest e ∙ sym (first-this (bad gives number) rest′ e))
     (λ e. first-later (bad gives number) rest e ∙ same e ∙ sym (first-later (bad gives number) rest′ e))
 
-module _ (m s : ℕ) (b : Buffers) (settings : badSettings m s ≡ false) (list : noList m s (b .keys) (b .bits) (b .n) ≡ false)
-    (counts : noSummary m s (shownIn m b) (b .summary) ≡ false) (log : noLog m s (b .logKeys) (b .logValues) (b .used) (b .inForce) ≡ false) where
-  -- where the first four tests do not hold, the others decide
-  block-past-four : (κ f : ℕ) → answer m s b (painting (ofBlock κ f))
+module _ (m s : ℕ) (b : Buffers) (p : SheetPassed (lentBy m s b)) where
+  -- where the rows about the buffers do not hold, the others decide
+  block-past-sheet : (κ f : ℕ) → answer m s b (painting (ofBlock κ f))
       ≡ first (badKey m κ gives 8 ∷ badFeature s f gives 7
       ∷ rooms (room (b .keys) (b .bits)) (room (b .logKeys) (b .logValues)) (b .inForce) (stepIn m b (ofBlock κ f)) (listAfter m b (ofBlock κ f)))
-  unfolding answer paint paintRefusal painted gained applied loggedBy
-  block-past-four κ f = first-later _ _ settings ∙ first-later _ _ list ∙ first-later _ _ counts ∙ first-later _ _ log
+  unfolding answer gained applied loggedBy
+  block-past-sheet κ f = sym (rest-decides (paintOn m s b (badKey m κ gives 8) f (ofBlock κ f)) p [] _ refl tt)
 
-  window-past-four : (w : Window) (f : ℕ) → answer m s b (painting (ofWindow w f))
+  window-past-sheet : (w : Window) (f : ℕ) → answer m s b (painting (ofWindow w f))
       ≡ first (badWindow m w gives 6 ∷ badFeature s f gives 7
       ∷ rooms (room (b .keys) (b .bits)) (room (b .logKeys) (b .logValues)) (b .inForce) (stepIn m b (ofWindow w f)) (listAfter m b (ofWindow w f)))
-  unfolding answer paintWindow paintWindowRefusal filled groupGained applied loggedBy
-  window-past-four w f = first-later _ _ settings ∙ first-later _ _ list ∙ first-later _ _ counts ∙ first-later _ _ log
+  unfolding answer groupGained applied loggedBy
+  window-past-sheet w f = sym (rest-decides (paintOn m s b (badWindow m w gives 6) f (ofWindow w f)) p [] _ refl tt)
 
 module _ {m s size : ℕ} {p : Picture} {keys bits logKeys logValues : List ℕ} {b : Buffers} {k : Kept} {inList inLog : ℕ}
     (h : Invariant m s size p keys bits logKeys logValues b k inList inLog) where
@@ -70,7 +69,7 @@ module _ {m s size : ℕ} {p : Picture} {keys bits logKeys logValues : List ℕ}
       → answer m s b (painting (ofBlock κ f)) ≡ paintAnswer m s (now m p k) (room keys bits) (room logKeys logValues) (b .inForce) κ f
   unfolding paintAnswer applied loggedBy
   paint-answer κ f =
-      block-past-four m s b (h .settings) (ap not (now-is-list h)) (now-is-summary h) (now-is-log h) κ f
+      block-past-sheet m s b (now-sheet h) κ f
       ∙ by-row (badKey m κ) 8 _ _
       (λ good. by-row (badFeature s f) 7 _ _ (λ small. rooms-now (ofBlock κ f) (block-fit κ f (not-false _ good) (leb-false s f small))))
 
@@ -79,6 +78,6 @@ module _ {m s size : ℕ} {p : Picture} {keys bits logKeys logValues : List ℕ}
       → answer m s b (painting (ofWindow w f)) ≡ paintWindowAnswer m s (now m p k) (room keys bits) (room logKeys logValues) (b .inForce) w f
   unfolding paintWindowAnswer applied loggedBy
   window-answer w f =
-      window-past-four m s b (h .settings) (ap not (now-is-list h)) (now-is-summary h) (now-is-log h) w f
+      window-past-sheet m s b (now-sheet h) w f
       ∙ by-row (badWindow m w) 6 _ _
       (λ good. by-row (badFeature s f) 7 _ _ (λ small. rooms-now (ofWindow w f) (window-fit w f (not-false _ good) (leb-false s f small))))

@@ -1,5 +1,5 @@
 -- A paint in a history, of a block or of a window: refused it leaves everything, accepted it holds one paint more and drops those undone, and the invariant is
--- kept. Rests on Invariant and Applied.
+-- kept. Rests on EditStep and Applied.
 use Prim.Native.Nat.{ℕ, _+_, _≤_, max}
 use mathlib.Core.Path.{_≡_, refl, sym, ap, ap₂, _∙_}
 use mathlib.Core.List.{List, [], _∷_}
@@ -11,14 +11,13 @@ use Rattle.keys.proofs.Cases.{equal}
 use Rattle.definitions.specs.Picture.{Picture}
 use Rattle.definitions.specs.List.{Record, listOfPicture, keysOf, valuesOf}
 use Rattle.definitions.specs.Read.{room, recordsOf, pictureOf}
-use Rattle.definitions.specs.Buffer.{replaced}
-use Rattle.definitions.specs.Area.{summaryOf, noSummary}
+use Rattle.definitions.specs.Area.{summaryOf}
 use Rattle.definitions.specs.Window.{badWindow}
-use Rattle.definitions.specs.Log.{noLog}
-use Rattle.definitions.specs.Refusal.{Row, _gives_, badSettings, noList, badKey, badFeature}
-use Rattle.definitions.specs.Calls.Paint.{painted, gained, logged, paintRefusal, paint, paintKeys, paintBits, paintSummary, paintLogKeys, paintLogValues}
-use Rattle.definitions.specs.Calls.PaintWindow.{filled, groupGained, paintWindowRefusal, paintWindow, paintWindowKeys, paintWindowBits, paintWindowSummary, paintWindowLogKeys, paintWindowLogValues}
-use Rattle.laws.proofs.First.{first-none}
+use Rattle.definitions.specs.Refusal.{Row, _gives_, badKey, badFeature}
+use Rattle.definitions.specs.Calls.Edit.{Edit}
+use Rattle.definitions.specs.Calls.Paint.{gained, logged}
+use Rattle.definitions.specs.Calls.PaintWindow.{groupGained}
+use Rattle.laws.proofs.Edits.{edit-passed}
 use Rattle.history.specs.History.{Buffers, Paint, ofBlock, ofWindow, Kept, painting, applied, loggedBy, drawn, after, answer, keep}
 use Rattle.history.proofs.Drawn.{drawn-latest}
 use Rattle.history.proofs.Fit.{Fit, block-fit, window-fit, applied-below}
@@ -27,6 +26,7 @@ use Rattle.history.proofs.Past.{Legal, log-latest, after-none, later, p
 use Rattle.history.proofs.Slices.{list-replaced, list-room}
 use Rattle.history.proofs.LogSlices.{log-gains}
 use Rattle.history.proofs.Invariant.{ground, now, Invariant, now-records, Keeps, same-keeps}
+use Rattle.history.proofs.EditStep.{withLog, editOn, edit-puts, edit-leaves}
 
 -- the picture that these buffers show
 abbrev pub shownIn : ℕ → Buffers → Picture
@@ -47,29 +47,19 @@ stepIn m b x = loggedBy m (shownIn m b) x
 -- the buffers with a list and a summary in place of theirs and a step behind the log
 abbrev pub withStep : Buffers → List Record → List ℕ → List Record → Buffers
 withStep b l summary step =
-    record {
-      keys = replaced (b .n) (keysOf l) (b .keys);
-      bits = replaced (b .n) (valuesOf l) (b .bits);
-      n = length l;
-      summary = summary;
-      logKeys = logged (b .used) (b .inForce) (keysOf step) (b .logKeys);
-      logValues = logged (b .used) (b .inForce) (valuesOf step) (b .logValues);
-      used = b .inForce + length step;
-      inForce = b .inForce + length step;
-    }
+    withLog b l summary (logged (b .used) (b .inForce) (keysOf step) (b .logKeys)) (logged (b .used) (b .inForce) (valuesOf step) (b .logValues))
+    (b .inForce + length step) (b .inForce + length step)
 
--- the table of refusals of a paint, by the two rows that tell what it paints
-abbrev rows : ℕ → ℕ → Buffers → Row → ℕ → Paint → List Row
-rows m s b place f x =
-    badSettings m s gives 1
-    ∷ noList m s (b .keys) (b .bits) (b .n) gives 4
-    ∷ noSummary m s (shownIn m b) (b .summary) gives 18
-    ∷ noLog m s (b .logKeys) (b .logValues) (b .used) (b .inForce) gives 5
-    ∷ place
-    ∷ badFeature s f gives 7
-    ∷ ltb (room (b .logKeys) (b .logValues)) (b .inForce + length (stepIn m b x)) gives 10
-    ∷ ltb (room (b .keys) (b .bits)) (length (listAfter m b x)) gives 9
-    ∷ []
+-- the edit of a paint, by the row that tells what it paints
+abbrev pub paintOn : ℕ → ℕ → Buffers → Row → ℕ → Paint → Edit
+paintOn m s b place f x =
+    editOn m s b
+    (place ∷ badFeature s f gives 7 ∷ ltb (room (b .logKeys) (b .logValues)) (b .inForce + length (stepIn m b x)) gives 10 ∷ [])
+    (applied m x (shownIn m b))
+    (logged (b .used) (b .inForce) (keysOf (stepIn m b x)) (b .logKeys))
+    (logged (b .used) (b .inForce) (valuesOf (stepIn m b x)) (b .logValues))
+    (b .inForce + length (stepIn m b x))
+    (b .inForce + length (stepIn m b x))
 
 -- what an accepted paint passed
 record Passed (m s : ℕ) (b : Buffers) (x : Paint) : Type 0 where
@@ -79,34 +69,34 @@ record Passed (m s : ℕ) (b : Buffers) (x : Paint) : Type 0 where
 
 module _ (m s : ℕ) (b : Buffers) where
   passed : (x : Paint) → answer m s b (painting x) ≡ 0 → Passed m s b x
-  unfolding answer paint paintRefusal painted gained paintWindow paintWindowRefusal filled groupGained applied loggedBy
+  unfolding answer gained groupGained applied loggedBy
   passed (ofBlock κ f) e =
-      let none = first-none (rows m s b (badKey m κ gives 8) f (ofBlock κ f)) refl e in
+      let all = edit-passed (paintOn m s b (badKey m κ gives 8) f (ofBlock κ f)) refl e in
       record {
-        fit = block-fit κ f (not-false _ (none .1 .1 .1 .1 .0)) (leb-false s f (none .1 .1 .1 .1 .1 .0));
-        logRoom = ltb-false _ _ (none .1 .1 .1 .1 .1 .1 .0);
-        listRoom = ltb-false _ _ (none .1 .1 .1 .1 .1 .1 .1 .0);
+        fit = block-fit κ f (not-false _ (all .own .0)) (leb-false s f (all .own .1 .0));
+        logRoom = ltb-false _ _ (all .own .1 .1 .0);
+        listRoom = all .fits;
       }
   passed (ofWindow w f) e =
-      let none = first-none (rows m s b (badWindow m w gives 6) f (ofWindow w f)) refl e in
+      let all = edit-passed (paintOn m s b (badWindow m w gives 6) f (ofWindow w f)) refl e in
       record {
-        fit = window-fit w f (not-false _ (none .1 .1 .1 .1 .0)) (leb-false s f (none .1 .1 .1 .1 .1 .0));
-        logRoom = ltb-false _ _ (none .1 .1 .1 .1 .1 .1 .0);
-        listRoom = ltb-false _ _ (none .1 .1 .1 .1 .1 .1 .1 .0);
+        fit = window-fit w f (not-false _ (all .own .0)) (leb-false s f (all .own .1 .0));
+        logRoom = ltb-false _ _ (all .own .1 .1 .0);
+        listRoom = all .fits;
       }
 
   -- an accepted paint writes its list, its summary and its step
   pub paint-done : (x : Paint) → answer m s b (painting x) ≡ 0
       → after m s b (painting x) ≡ withStep b (listAfter m b x) (summaryAfter m s b x) (stepIn m b x)
-  unfolding answer after applied loggedBy painted gained filled groupGained paint paintKeys paintBits paintSummary paintLogKeys paintLogValues paintWindow paintWindowKeys paintWindowBits paintWindowSummary paintWindowLogKeys paintWindowLogValues
-  paint-done (ofBlock κ f) e = rw (eq-eqb _ 0 e)
-  paint-done (ofWindow w f) e = rw (eq-eqb _ 0 e)
+  unfolding answer after gained groupGained applied loggedBy
+  paint-done (ofBlock κ f) e = edit-puts m s b _ _ _ _ _ _ e
+  paint-done (ofWindow w f) e = edit-puts m s b _ _ _ _ _ _ e
 
   -- a refused paint leaves the buffers
   pub paint-left : (x : Paint) → (answer m s b (painting x) ≡ 0 → ⊥) → after m s b (painting x) ≡ b
-  unfolding answer after paint paintKeys paintBits paintSummary paintLogKeys paintLogValues paintWindow paintWindowKeys paintWindowBits paintWindowSummary paintWindowLogKeys paintWindowLogValues
-  paint-left (ofBlock κ f) h = rw (ne-eqb _ 0 h)
-  paint-left (ofWindow w f) h = rw (ne-eqb _ 0 h)
+  unfolding answer after
+  paint-left (ofBlock κ f) h = edit-leaves m s b _ _ _ _ _ _ h
+  paint-left (ofWindow w f) h = edit-leaves m s b _ _ _ _ _ _ h
 
   -- and the paints
   keep-left : (x : Paint) (k : Kept) → (answer m s b (painting x) ≡ 0 → ⊥) → keep (painting x) (answer m s b (painting x)) k ≡ k

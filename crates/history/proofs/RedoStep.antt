@@ -1,115 +1,77 @@
 -- A redo in a history: its answer is 20 where no paint is there to redo, 9 where slices lent later have no room for the list with the next one, and 0
 -- otherwise; it holds the next paint again, and the invariant is kept.
--- Rests on Invariant and Applied.
-use Prim.Native.Nat.{ℕ, _+_, _≤_, _<_, max}
+-- Rests on EditStep and Applied.
+use Prim.Native.Nat.{ℕ, _+_, _≤_, max}
 use mathlib.Core.Path.{_≡_, refl, sym, ap, ap₂, _∙_}
-use mathlib.Core.Bool.{true, false, not}
+use mathlib.Core.Bool.{true, cond}
 use mathlib.Core.List.{List, [], _∷_, _++_}
 use native.Mathlib.Omega.{arith}
 use lib.ListN.{length, length-append}
 use lib.Dec.{ltb, eqb}
-use borrow.Author.Tests.{ne-eqb, eq-eqb, lt-ltb, le-ltb}
-use Rattle.keys.proofs.Cases.{split}
+use borrow.Author.Tests.{ne-eqb, eq-eqb}
 use Rattle.definitions.specs.Picture.{Picture, featuresBelow}
 use Rattle.definitions.specs.List.{Record, listOfPicture}
-use Rattle.definitions.specs.Read.{room, recordsOf, pictureOf}
-use Rattle.definitions.specs.Area.{summaryOf, noSummary}
-use Rattle.definitions.specs.Log.{firstStep, toRedo, noLog}
-use Rattle.definitions.specs.Refusal.{Row, _gives_, badSettings, noList}
-use Rattle.definitions.specs.Calls.Redo.{redonePicture, redone, forceAfter, redoRefusal, redo, redoKeys, redoBits, redoSummary, redoLogKeys, redoLogValues}
-use Rattle.laws.proofs.First.{this, later, holds-first, none-first}
+use Rattle.definitions.specs.Read.{room, recordsOf}
+use Rattle.definitions.specs.Area.{summaryOf}
+use Rattle.definitions.specs.Log.{firstStep, toRedo}
+use Rattle.definitions.specs.Refusal.{_gives_}
+use Rattle.definitions.specs.Calls.Edit.{Edit, editRefusal}
+use Rattle.definitions.specs.Calls.Redo.{redonePicture, redone}
+use Rattle.laws.proofs.First.{NoneHolds, this}
+use Rattle.laws.proofs.Edits.{own-refuses}
 use Rattle.laws.proofs.LastStep.{step-some}
 use Rattle.laws.proofs.SoundLog.{Steps}
-use Rattle.history.specs.History.{Buffers, Paint, Kept, redoing, withNext, applied, loggedBy, drawn, logOf, logAfter, after, answer, keep}
+use Rattle.history.specs.History.{Buffers, Paint, Kept, redoing, withNext, applied, loggedBy, drawn, logOf, logAfter, afterEdit, after, answer, keep}
 use Rattle.history.specs.Claim.{redoAnswer, redoAnswerIn}
 use Rattle.history.proofs.Drawn.{drawn-latest}
 use Rattle.history.proofs.Fit.{Fit, step-is}
 use Rattle.history.proofs.Applied.{first-next, redone-list, redone-summary}
 use Rattle.history.proofs.Past.{past-legal, log-latest, future-fit, future-legal, future-after, future-steps, after-none, after-next}
 use Rattle.history.proofs.Past as past
-use Rattle.history.proofs.Slices.{list-replaced, list-room}
+use Rattle.history.proofs.Slices.{list-replaced}
 use Rattle.history.proofs.LogSlices.{log-counts, log-again}
-use Rattle.history.proofs.TakeBackStep.{withForce}
-use Rattle.history.proofs.Invariant.{Invariant, now-records, now-few, now-redo, now-is-list, now-is-summary, now-is-log, Keeps, same-keeps}
+use Rattle.history.proofs.Invariant.{Invariant, now-records, now-few, now-redo, Keeps, same-keeps}
+use Rattle.history.proofs.EditStep.{withForce, stepEdit, edit-leaves, now-sheet, step-answer, step-accepted, step-keeps}
 
 -- the records to redo in these buffers
 abbrev redoIn : Buffers → List Record
 redoIn b = toRedo (b .logKeys) (b .logValues) (b .used) (b .inForce)
 
--- the list that a redo makes of them
-abbrev listAfter : ℕ → Buffers → List Record
-listAfter m b = redone m (recordsOf (b .keys) (b .bits) (b .n)) (redoIn b)
-
--- the summary that it makes of theirs
-abbrev summaryAfter : ℕ → ℕ → Buffers → List ℕ
-summaryAfter m s b = summaryOf m s (redonePicture m (recordsOf (b .keys) (b .bits) (b .n)) (redoIn b))
+-- the picture that a redo makes of them
+abbrev pictureAgain : ℕ → Buffers → Picture
+pictureAgain m b = redonePicture m (recordsOf (b .keys) (b .bits) (b .n)) (redoIn b)
 
 -- the records in force with the next step
 abbrev reached : Buffers → ℕ
 reached b = b .inForce + length (firstStep (redoIn b))
 
 module _ (m s : ℕ) (b : Buffers) where
-  -- the table of refusals
-  abbrev rows : List Row
-  rows =
-      badSettings m s gives 1
-      ∷ noList m s (b .keys) (b .bits) (b .n) gives 4
-      ∷ noSummary m s (pictureOf m (recordsOf (b .keys) (b .bits) (b .n))) (b .summary) gives 18
-      ∷ noLog m s (b .logKeys) (b .logValues) (b .used) (b .inForce) gives 5
-      ∷ eqb (b .inForce) (b .used) gives 20
-      ∷ ltb (room (b .keys) (b .bits)) (length (listAfter m b)) gives 9
-      ∷ []
+  -- its edit
+  abbrev again : Edit
+  again = stepEdit m s b (eqb (b .inForce) (b .used) gives 20 ∷ []) (pictureAgain m b) (reached b)
 
-  -- with all in force it gives 20
-  none-undone : badSettings m s ≡ false → noList m s (b .keys) (b .bits) (b .n) ≡ false
-      → noSummary m s (pictureOf m (recordsOf (b .keys) (b .bits) (b .n))) (b .summary) ≡ false
-      → noLog m s (b .logKeys) (b .logValues) (b .used) (b .inForce) ≡ false
-      → b .inForce ≡ b .used
-      → answer m s b redoing ≡ 20
-  unfolding answer redo redoRefusal
-  none-undone settings list counts log e = holds-first {rows = rows} (later settings (later list (later counts (later log (this (eq-eqb _ _ e) refl)))))
+  refuses : answer m s b redoing ≡ editRefusal again
+  unfolding answer
+  refuses = refl
 
-  -- with some to redo, and room for the list, it gives 0
-  some-undone : badSettings m s ≡ false → noList m s (b .keys) (b .bits) (b .n) ≡ false
-      → noSummary m s (pictureOf m (recordsOf (b .keys) (b .bits) (b .n))) (b .summary) ≡ false
-      → noLog m s (b .logKeys) (b .logValues) (b .used) (b .inForce) ≡ false
-      → (b .inForce ≡ b .used → ⊥)
-      → length (listAfter m b) ≤ room (b .keys) (b .bits)
-      → answer m s b redoing ≡ 0
-  unfolding answer redo redoRefusal
-  some-undone settings list counts log some fits = none-first rows (settings, (list, (counts, (log, (ne-eqb _ _ some, (le-ltb _ _ fits, tt))))))
-
-  -- with some to redo, and no room for the list, it gives 9
-  no-room : badSettings m s ≡ false → noList m s (b .keys) (b .bits) (b .n) ≡ false
-      → noSummary m s (pictureOf m (recordsOf (b .keys) (b .bits) (b .n))) (b .summary) ≡ false
-      → noLog m s (b .logKeys) (b .logValues) (b .used) (b .inForce) ≡ false
-      → (b .inForce ≡ b .used → ⊥)
-      → room (b .keys) (b .bits) < length (listAfter m b)
-      → answer m s b redoing ≡ 9
-  unfolding answer redo redoRefusal
-  no-room settings list counts log some long =
-      holds-first {rows = rows} (later settings (later list (later counts (later log (later (ne-eqb _ _ some) (this (lt-ltb _ _ long) refl))))))
-
-  -- an accepted redo writes its list and its summary and leaves the log
-  redo-done : answer m s b redoing ≡ 0 → after m s b redoing ≡ withForce b (listAfter m b) (summaryAfter m s b) (reached b)
-  unfolding answer after redo redoKeys redoBits redoSummary redoLogKeys redoLogValues forceAfter
-  redo-done e = rw (eq-eqb _ 0 e)
+  leads : after m s b redoing ≡ afterEdit b again
+  unfolding after
+  leads = refl
 
   -- a refused one leaves the buffers
   pub redo-left : (answer m s b redoing ≡ 0 → ⊥) → after m s b redoing ≡ b
-  unfolding answer after redo redoKeys redoBits redoSummary redoLogKeys redoLogValues
-  redo-left h = rw (ne-eqb _ 0 h)
+  redo-left h = leads ∙ edit-leaves m s b _ _ _ _ _ _ (λ e. h (refuses ∙ e))
 
-  -- and the paints
-  keep-left : (k : Kept) → (answer m s b redoing ≡ 0 → ⊥) → keep redoing (answer m s b redoing) k ≡ k
-  unfolding keep
-  keep-left k h = rw (ne-eqb _ 0 h)
+-- and the paints
+keep-left : (k : Kept) (refusal : ℕ) → (refusal ≡ 0 → ⊥) → keep redoing refusal k ≡ k
+unfolding keep
+keep-left k refusal h = rw (ne-eqb refusal 0 h)
 
-  -- an accepted one holds the next paint again
-  keep-done : (held : List Paint) (x : Paint) (xs fixed : List Paint) → answer m s b redoing ≡ 0
-      → keep redoing (answer m s b redoing) (record { held = held; undone = x ∷ xs; fixed = fixed }) ≡ record { held = x ∷ held; undone = xs; fixed = fixed }
-  unfolding keep withNext
-  keep-done held x xs fixed e = rw (eq-eqb _ 0 e)
+-- an accepted one holds the next paint again
+keep-done : (held : List Paint) (x : Paint) (xs fixed : List Paint)
+    → keep redoing 0 (record { held = held; undone = x ∷ xs; fixed = fixed }) ≡ record { held = x ∷ held; undone = xs; fixed = fixed }
+unfolding keep withNext
+keep-done held x xs fixed = refl
 
 module _ {m s size : ℕ} {p : Picture} {keys bits logKeys logValues : List ℕ} {b : Buffers} {inList inLog : ℕ} (held : List Paint) (x : Paint) (xs fixed : List Paint)
     (h : Invariant m s size p keys bits logKeys logValues b (record { held = held; undone = x ∷ xs; fixed = fixed }) inList inLog) where
@@ -142,11 +104,12 @@ module _ {m s size : ℕ} {p : Picture} {keys bits logKeys logValues : List ℕ}
   redo-is = now-redo h ∙ after-next m before x xs
 
   -- the list afterwards is that of the painted picture
-  list-is : listAfter m b ≡ listOfPicture m painted
+  list-is : listOfPicture m (pictureAgain m b) ≡ listOfPicture m painted
+  unfolding redone
   list-is = ap₂ (redone m) (now-records h) redo-is ∙ redone-list before (now-few h) next-fit before-below rest-steps
 
   -- and so the summary
-  summary-is : summaryAfter m s b ≡ summaryOf m s painted
+  summary-is : summaryOf m s (pictureAgain m b) ≡ summaryOf m s painted
   summary-is =
       ap₂ (λ l log. summaryOf m s (redonePicture m l log)) (now-records h) redo-is ∙ redone-summary before (now-few h) next-fit before-below rest-steps
 
@@ -158,21 +121,20 @@ module _ {m s size : ℕ} {p : Picture} {keys bits logKeys logValues : List ℕ}
   painted-fits : length (listOfPicture m painted) ≤ size
   painted-fits = future-legal (h .future) .fits
 
-  -- where a paint is undone, and the list with it has no room, redo is refused with 9
-  undone-refused : room keys bits < length (listOfPicture m painted) → answer m s b redoing ≡ 9
-  undone-refused long =
+  -- some records are there to redo
+  some-left : NoneHolds (eqb (b .inForce) (b .used) gives 20 ∷ [])
+  some-left =
       let counts = log-counts (h .log) in
       let size = ap length (after-next m before x xs) ∙ length-append step rest in
       let some = step-some (step-is before next-fit before-below) in
-      no-room m s b (h .settings) (ap not (now-is-list h)) (now-is-summary h) (now-is-log h) (λ e. omega arith) (rw (list-is, list-room (h .list)) long)
+      (ne-eqb (b .inForce) (b .used) (λ e. omega arith), tt)
 
-  -- where it has room redo is accepted
+  -- where the list with the paint has no room redo is refused with 9, and else accepted
+  undone-answer : answer m s b redoing ≡ cond (ltb (room keys bits) (length (listOfPicture m painted))) 9 0
+  undone-answer = step-answer h redoing _ _ _ some-left (refuses m s b) (leads m s b) painted (b .inForce + length step) list-is summary-is reached-is
+
   undone-accepted : length (listOfPicture m painted) ≤ room keys bits → answer m s b redoing ≡ 0
-  undone-accepted fits =
-      let counts = log-counts (h .log) in
-      let size = ap length (after-next m before x xs) ∙ length-append step rest in
-      let some = step-some (step-is before next-fit before-below) in
-      some-undone m s b (h .settings) (ap not (now-is-list h)) (now-is-summary h) (now-is-log h) (λ e. omega arith) (rw (list-is, list-room (h .list)) fits)
+  undone-accepted = step-accepted h redoing _ _ _ some-left (refuses m s b) (leads m s b) painted (b .inForce + length step) list-is summary-is reached-is
 
   -- the buffers with that list keep the invariant
   redo-holds : length (listOfPicture m painted) ≤ room keys bits
@@ -194,24 +156,10 @@ module _ {m s size : ℕ} {p : Picture} {keys bits logKeys logValues : List ℕ}
         future = rw same (future-after (h .future));
       }
 
-  accepted-keeps : length (listOfPicture m painted) ≤ room keys bits
-      → Keeps m s size p keys bits logKeys logValues b (record { held = held; undone = x ∷ xs; fixed = fixed }) inList inLog redoing
-  accepted-keeps fits =
-      rw (
-        keep-done m s b held x xs fixed (undone-accepted fits),
-        redo-done m s b (undone-accepted fits)
-            ∙ ap₂ (λ l n. withForce b l (summaryAfter m s b) n) list-is reached-is
-            ∙ ap (λ counts. withForce b (listOfPicture m painted) counts (b .inForce + length step)) summary-is,
-      )
-      (redo-holds fits)
-
   undone-keeps : Keeps m s size p keys bits logKeys logValues b (record { held = held; undone = x ∷ xs; fixed = fixed }) inList inLog redoing
   undone-keeps =
-      split (room keys bits) (length (listOfPicture m painted))
-      (λ long.
-      let refused : answer m s b redoing ≡ 0 → ⊥ = λ e. (let a = undone-refused long in omega arith) in
-      same-keeps redoing (redo-left m s b refused) (keep-left m s b (record { held = held; undone = x ∷ xs; fixed = fixed }) refused) h)
-      (λ fits. accepted-keeps fits)
+      step-keeps h redoing _ _ _ some-left (refuses m s b) (leads m s b) painted (b .inForce + length step) list-is summary-is reached-is
+      (record { held = x ∷ held; undone = xs; fixed = fixed }) (keep-done held x xs fixed) (keep-left (record { held = held; undone = x ∷ xs; fixed = fixed })) redo-holds
 
 -- where no paint is undone the answer is 20
 none-answer : {m s size : ℕ} {p : Picture} {keys bits logKeys logValues : List ℕ} {b : Buffers} {held fixed : List Paint} {inList inLog : ℕ}
@@ -220,7 +168,8 @@ none-answer : {m s size : ℕ} {p : Picture} {keys bits logKeys logValues : List
 none-answer {m} {s} {p} {b = b} {held = held} {fixed = fixed} h =
     let counts = log-counts (h .log) in
     let none = ap length (after-none m (drawn m (drawn m p fixed) held)) in
-    none-undone m s b (h .settings) (ap not (now-is-list h)) (now-is-summary h) (now-is-log h) (omega arith)
+    let all : b .inForce ≡ b .used = omega arith in
+    refuses m s b ∙ sym (own-refuses (again m s b) (now-sheet h) (this (eq-eqb _ _ all) refl))
 
 module _ {m s size : ℕ} {p : Picture} {keys bits logKeys logValues : List ℕ} {b : Buffers} {inList inLog : ℕ} where
   -- redo is refused, with 20, exactly when no paint is there to redo, and else with 9 exactly when the list with the next one has no room
@@ -229,10 +178,7 @@ module _ {m s size : ℕ} {p : Picture} {keys bits logKeys logValues : List ℕ}
       → answer m s b redoing ≡ redoAnswerIn m (drawn m (drawn m p fixed) held) (room keys bits) undone
   unfolding redoAnswerIn
   redo-answer-in held [] fixed h = none-answer h
-  redo-answer-in held (x ∷ xs) fixed h =
-      split (room keys bits) (length (listOfPicture m (applied m x (drawn m (drawn m p fixed) held))))
-      (λ long. rw (lt-ltb _ _ long) (undone-refused held x xs fixed h long))
-      (λ fits. rw (le-ltb _ _ fits) (undone-accepted held x xs fixed h fits))
+  redo-answer-in held (x ∷ xs) fixed h = undone-answer held x xs fixed h
 
   -- where no slices had more room it is refused only with 20, exactly when no paint is there to redo
   pub redo-answer : (held undone fixed : List Paint)
@@ -249,5 +195,5 @@ module _ {m s size : ℕ} {p : Picture} {keys bits logKeys logValues : List ℕ}
       → Keeps m s size p keys bits logKeys logValues b (record { held = held; undone = undone; fixed = fixed }) inList inLog redoing
   redo-keeps held [] fixed h =
       let refused : answer m s b redoing ≡ 0 → ⊥ = λ e. (let a = none-answer h in omega arith) in
-      same-keeps redoing (redo-left m s b refused) (keep-left m s b (record { held = held; undone = []; fixed = fixed }) refused) h
+      same-keeps redoing (redo-left m s b refused) (keep-left (record { held = held; undone = []; fixed = fixed }) (answer m s b redoing) refused) h
   redo-keeps held (x ∷ xs) fixed h = undone-keeps held x xs fixed h

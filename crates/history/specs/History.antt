@@ -10,13 +10,13 @@ use Rattle.definitions.specs.Edit.{paintIn, fillWindow}
 use Rattle.definitions.specs.Log.{entryOf, groupOf}
 use Rattle.definitions.specs.Refusal.{accepted}
 use Rattle.definitions.specs.Calls.Survey.{survey, surveyKeys, surveyBits, surveySummary}
-use Rattle.definitions.specs.Calls.Paint.{paint, paintKeys, paintBits, paintSummary, paintLogKeys, paintLogValues}
-use Rattle.definitions.specs.Calls.PaintWindow.{paintWindow, paintWindowKeys, paintWindowBits, paintWindowSummary, paintWindowLogKeys, paintWindowLogValues}
-use Rattle.definitions.specs.Calls.TakeBack.{takeBack, takeBackKeys, takeBackBits, takeBackSummary, takeBackLogKeys, takeBackLogValues}
-use Rattle.definitions.specs.Calls.Redo.{redo, redoKeys, redoBits, redoSummary, redoLogKeys, redoLogValues}
+use Rattle.definitions.specs.Calls.Edit.{Edit, editRefusal, editAnswer, keysLeft, bitsLeft, summaryLeft, logKeysLeft, logValuesLeft}
+use Rattle.definitions.specs.Calls.Paint.{paint}
+use Rattle.definitions.specs.Calls.PaintWindow.{paintWindow}
+use Rattle.definitions.specs.Calls.TakeBack.{takeBack}
+use Rattle.definitions.specs.Calls.Redo.{redo}
 use Rattle.definitions.specs.Calls.Empty.{emptied}
 use Rattle.definitions.specs.declared.Window.{Window}
-use Rattle.definitions.specs.declared.Edited.{Edited}
 
 -- a paint of a block or of a window with a feature; key, window and feature are any
 pub data Paint : Type 0 where
@@ -55,62 +55,38 @@ built m s raster keys bits summary logKeys logValues =
       inForce = emptied .«in_force»;
     }
 
--- a definition of an edit, of the lent buffers
+-- an edit of the lent buffers
 abbrev pub lentTo : {A : Type 0} (b : Buffers) (definition : List ℕ → List ℕ → ℕ → List ℕ → List ℕ → List ℕ → ℕ → ℕ → A) → A
 lentTo b definition = definition (b .keys) (b .bits) (b .n) (b .summary) (b .logKeys) (b .logValues) (b .used) (b .inForce)
 
 -- the refusal number that a call gives; 0 where it is accepted
 unfoldable pub answer : (m s : ℕ) (b : Buffers) (call : Call) → ℕ
-answer m s b (painting (ofBlock κ f)) = lentTo b (paint m s) κ f .refusal
-answer m s b (painting (ofWindow w f)) = lentTo b (paintWindow m s) w f .refusal
-answer m s b takingBack = lentTo b (takeBack m s) .refusal
-answer m s b redoing = lentTo b (redo m s) .refusal
+answer m s b (painting (ofBlock κ f)) = editRefusal (lentTo b (paint m s) κ f)
+answer m s b (painting (ofWindow w f)) = editRefusal (lentTo b (paintWindow m s) w f)
+answer m s b takingBack = editRefusal (lentTo b (takeBack m s))
+answer m s b redoing = editRefusal (lentTo b (redo m s))
 answer m s b emptying = 0
 
--- the buffers after an edit: the caller takes the counts of an accepted call's result, and keeps his own where it is refused
-abbrev pub afterEdit : (b : Buffers) (result : Edited) (keys bits summary logKeys logValues : List ℕ) → Buffers
-afterEdit b result keys bits summary logKeys logValues =
+-- the buffers after an edit: the caller takes the counts of an accepted call's answer, and keeps his own where it is refused
+abbrev pub afterEdit : (b : Buffers) (e : Edit) → Buffers
+afterEdit b e =
     record {
-      keys = keys;
-      bits = bits;
-      n = accepted (result .refusal) (result .n) (b .n);
-      summary = summary;
-      logKeys = logKeys;
-      logValues = logValues;
-      used = accepted (result .refusal) (result .used) (b .used);
-      inForce = accepted (result .refusal) (result .«in_force») (b .inForce);
+      keys = keysLeft e;
+      bits = bitsLeft e;
+      n = accepted (editRefusal e) (editAnswer e .n) (b .n);
+      summary = summaryLeft e;
+      logKeys = logKeysLeft e;
+      logValues = logValuesLeft e;
+      used = accepted (editRefusal e) (editAnswer e .used) (b .used);
+      inForce = accepted (editRefusal e) (editAnswer e .«in_force») (b .inForce);
     }
 
 -- the buffers after a call
 unfoldable pub after : (m s : ℕ) (b : Buffers) (call : Call) → Buffers
-after m s b (painting (ofBlock κ f)) =
-    afterEdit b (lentTo b (paint m s) κ f)
-    (lentTo b (paintKeys m s) κ f)
-    (lentTo b (paintBits m s) κ f)
-    (lentTo b (paintSummary m s) κ f)
-    (lentTo b (paintLogKeys m s) κ f)
-    (lentTo b (paintLogValues m s) κ f)
-after m s b (painting (ofWindow w f)) =
-    afterEdit b (lentTo b (paintWindow m s) w f)
-    (lentTo b (paintWindowKeys m s) w f)
-    (lentTo b (paintWindowBits m s) w f)
-    (lentTo b (paintWindowSummary m s) w f)
-    (lentTo b (paintWindowLogKeys m s) w f)
-    (lentTo b (paintWindowLogValues m s) w f)
-after m s b takingBack =
-    afterEdit b (lentTo b (takeBack m s))
-    (lentTo b (takeBackKeys m s))
-    (lentTo b (takeBackBits m s))
-    (lentTo b (takeBackSummary m s))
-    (lentTo b (takeBackLogKeys m s))
-    (lentTo b (takeBackLogValues m s))
-after m s b redoing =
-    afterEdit b (lentTo b (redo m s))
-    (lentTo b (redoKeys m s))
-    (lentTo b (redoBits m s))
-    (lentTo b (redoSummary m s))
-    (lentTo b (redoLogKeys m s))
-    (lentTo b (redoLogValues m s))
+after m s b (painting (ofBlock κ f)) = afterEdit b (lentTo b (paint m s) κ f)
+after m s b (painting (ofWindow w f)) = afterEdit b (lentTo b (paintWindow m s) w f)
+after m s b takingBack = afterEdit b (lentTo b (takeBack m s))
+after m s b redoing = afterEdit b (lentTo b (redo m s))
 after m s b emptying =
     record { keys = b .keys; bits = b .bits; n = b .n; summary = b .summary; logKeys = b .logKeys; logValues = b .logValues; used = emptied .used; inForce = emptied .«in_force» }
 

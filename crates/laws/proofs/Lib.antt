@@ -57,6 +57,7 @@ pub mod FileBytes
 pub mod FileOf
 pub mod FileBack
 pub mod First
+pub mod Edits
 pub mod FormerFile
 pub mod FormerLoad
 pub mod LastSlot

@@ -18,7 +18,8 @@ use Rattle.definitions.specs.Area.{countOf, pixelsWith, countsFrom, summaryBelo
 use Rattle.definitions.specs.Edit.{put, paintIn, contentOf}
 use Rattle.definitions.specs.Log.{closed, entryOf, countRecord, lastRecord, lastKey, lastFeature, lastCount, beforeLast, lastContent, isContent, closes, lastIsEntry, endsInMark, stepCount, stepEntries, beforeEntries, beforeStep, lastIsStep, dividesIn, isSound, noLog}
 use Rattle.definitions.specs.Calls.Survey.{surveyRefusal, survey, surveyKeys, surveyBits, surveySummary}
-use Rattle.definitions.specs.Calls.Paint.{painted, gained, paintRefusal, paint, paintKeys, paintBits, paintSummary, paintLogKeys, paintLogValues}
+use Rattle.definitions.specs.Calls.Edit.{editRefusal, editAnswer, keysLeft, bitsLeft, summaryLeft, logKeysLeft, logValuesLeft}
+use Rattle.definitions.specs.Calls.Paint.{gained}
 use Rattle.history.specs.History.{Buffers, built, answer, after, afterCalls}
 use Rattle.order.specs.Paint.{BlockPaint}
 use Rattle.order.specs.Apart.{apart}
@@ -69,7 +70,8 @@ unfolding asCalls afterCalls answer after built apart isAncestor contains
     countOf pixelsWith countsFrom summaryBelow summaryOf sameNumbers noSummary put paintIn contentOf
     closed entryOf countRecord lastRecord lastKey lastFeature lastCount beforeLast lastContent isContent closes lastIsEntry
     endsInMark stepCount stepEntries beforeEntries beforeStep lastIsStep dividesIn isSound noLog
-    surveyRefusal survey surveyKeys surveyBits surveySummary painted gained paintRefusal paint paintKeys paintBits paintSummary paintLogKeys paintLogValues
+    surveyRefusal survey surveyKeys surveyBits surveySummary gained
+    editRefusal editAnswer keysLeft bitsLeft summaryLeft logKeysLeft logValuesLeft
 needed = record {
   one-block = record {
     apartness = refl;

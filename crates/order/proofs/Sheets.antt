@@ -12,14 +12,13 @@ use Rattle.keys.proofs.Cases.{and-left, and-right, and-both}
 use Rattle.definitions.specs.Picture.{Picture, featuresBelow}
 use Rattle.definitions.specs.List.{Record, listOfPicture}
 use Rattle.definitions.specs.Read.{room, recordsOf, pictureOf, sameRecords, isListOfBlock, isList}
-use Rattle.definitions.specs.Area.{summaryOf, noSummary}
+use Rattle.definitions.specs.Area.{summaryOf}
 use Rattle.definitions.specs.Edit.{paintIn}
-use Rattle.definitions.specs.Log.{noLog}
-use Rattle.definitions.specs.Refusal.{Row, _gives_, badSettings, noList, badKey, badFeature}
-use Rattle.definitions.specs.Calls.Paint.{paintedPicture, painted, gained, paintRefusal, paint}
-use Rattle.laws.proofs.First.{first-none}
+use Rattle.definitions.specs.Refusal.{badFeature}
+use Rattle.definitions.specs.Calls.Paint.{paintedPicture, painted, paint}
+use Rattle.laws.proofs.Edits.{edit-passed}
 use Rattle.laws.proofs.IsList.{same-to}
-use Rattle.history.specs.History.{Buffers, ofBlock, painting, applied, answer, after, afterCalls}
+use Rattle.history.specs.History.{Buffers, ofBlock, painting, lentTo, applied, answer, after, afterCalls}
 use Rattle.order.specs.Paint.{BlockPaint}
 use Rattle.history.proofs.Content.{painted-list, painted-summary}
 use Rattle.history.proofs.Shown.{shown-records, shown-replaced}
@@ -34,20 +33,10 @@ record Passed (m s : ℕ) (b : Buffers) (κ f : ℕ) : Type 0 where
   below : badFeature s f ≡ false
 
 passed : (m s : ℕ) (b : Buffers) (κ f : ℕ) → answer m s b (painting (ofBlock κ f)) ≡ 0 → Passed m s b κ f
-unfolding answer paint paintRefusal
+unfolding answer
 passed m s b κ f e =
-    let rows : List Row =
-    badSettings m s gives 1
-    ∷ noList m s (b .keys) (b .bits) (b .n) gives 4
-    ∷ noSummary m s (pictureIn m b) (b .summary) gives 18
-    ∷ noLog m s (b .logKeys) (b .logValues) (b .used) (b .inForce) gives 5
-    ∷ badKey m κ gives 8
-    ∷ badFeature s f gives 7
-    ∷ ltb (room (b .logKeys) (b .logValues)) (b .inForce + length (gained m (recordsOn b) κ f)) gives 10
-    ∷ ltb (room (b .keys) (b .bits)) (length (painted m (recordsOn b) κ f)) gives 9
-    ∷ [] in
-    let none = first-none rows refl e in
-    record { list = not-false _ (none .1 .0); valid = not-false _ (none .1 .1 .1 .1 .0); below = none .1 .1 .1 .1 .1 .0 }
+    let all = edit-passed (lentTo b (paint m s) κ f) refl e in
+    record { list = not-false _ (all .sheet .listed); valid = not-false _ (all .own .0); below = all .own .1 .0 }
 
 -- a list is that of the picture that it shows
 shown-list : (m s : ℕ) (keys bits : List ℕ) (n : ℕ) → isList m s keys bits n ≡ true

@@ -10,6 +10,7 @@ use denote.Triple.Clauses.{atExit}
 use denote.Triple.Entry.{Args}
 use Rattle.definitions.specs.Refusal.{accepted}
 use Rattle.definitions.specs.Calls.Survey.{surveyRefusal, survey}
+use Rattle.definitions.specs.Calls.Edit.{editAnswer}
 use Rattle.definitions.specs.declared.Counted.{Counted}
 use Rattle.definitions.specs.declared.Window.{Window}
 use Rattle.definitions.specs.declared.Edited.{Edited}
@@ -39,7 +40,7 @@ pub record Steps (m s : ℕ) (b : Buffers) (c : Call) (refusal : ℕ) (b′ : Bu
   pub left : b′ ≡ after m s b c
 
 -- one call of an edit: the slices and counts that it was lent, its answer, and the lists that it leaves in the slices
-pub record Edit : Type 0 where
+pub record EditCall : Type 0 where
   pub κs : Lfts 5
   pub keys : Slice
   pub bits : Slice
@@ -57,7 +58,7 @@ pub record Edit : Type 0 where
   pub logValues′ : List ℕ
 
 -- what the caller had
-abbrev pub before : Edit → Buffers
+abbrev pub before : EditCall → Buffers
 before x =
     record {
       keys = now (x .keys);
@@ -71,7 +72,7 @@ before x =
     }
 
 -- what he has with these slices and this answer: its counts if it is accepted, and else his own
-abbrev counted : Edit → Edited → (keys bits summary logKeys logValues : List ℕ) → Buffers
+abbrev counted : EditCall → Edited → (keys bits summary logKeys logValues : List ℕ) → Buffers
 counted x r keys bits summary logKeys logValues =
     record {
       keys = keys;
@@ -85,10 +86,10 @@ counted x r keys bits summary logKeys logValues =
     }
 
 -- what he has after the call
-abbrev pub afterwards : Edit → Buffers
+abbrev pub afterwards : EditCall → Buffers
 afterwards x = counted x (x .result) (x .keys′) (x .bits′) (x .summary′) (x .logKeys′) (x .logValues′)
 
-module _ (m s : ℕ) (x : Edit) where
+module _ (m s : ℕ) (x : EditCall) where
   -- the contract of hlq_paint holds of the call
   abbrev pub KeepsPaint : (κ f : ℕ) → Type 0
   KeepsPaint κ f =
@@ -98,7 +99,7 @@ module _ (m s : ℕ) (x : Edit) where
 
   -- it gives the step of a paint
   pub paint-step : (κ f : ℕ) → KeepsPaint κ f → Steps m s (before x) (painting (ofBlock κ f)) (x .result .refusal) (afterwards x)
-  unfolding answer after
+  unfolding answer after editAnswer
   paint-step κ f kept =
       record {
         refused = ap (λ (r : Edited). r .refusal) (kept .answer);
@@ -116,7 +117,7 @@ module _ (m s : ℕ) (x : Edit) where
 
   -- it gives the step of a paint of a window
   pub paint-window-step : (w : Window) (f : ℕ) → KeepsPaintWindow w f → Steps m s (before x) (painting (ofWindow w f)) (x .result .refusal) (afterwards x)
-  unfolding answer after
+  unfolding answer after editAnswer
   paint-window-step w f kept =
       record {
         refused = ap (λ (r : Edited). r .refusal) (kept .answer);
@@ -132,7 +133,7 @@ module _ (m s : ℕ) (x : Edit) where
 
   -- gives the step of a taking back
   pub take-back-step : KeepsTakeBack → Steps m s (before x) takingBack (x .result .refusal) (afterwards x)
-  unfolding answer after
+  unfolding answer after editAnswer
   take-back-step kept =
       record {
         refused = ap (λ (r : Edited). r .refusal) (kept .answer);
@@ -148,7 +149,7 @@ module _ (m s : ℕ) (x : Edit) where
 
   -- gives the step of a redo
   pub redo-step : KeepsRedo → Steps m s (before x) redoing (x .result .refusal) (afterwards x)
-  unfolding answer after
+  unfolding answer after editAnswer
   redo-step kept =
       record {
         refused = ap (λ (r : Edited). r .refusal) (kept .answer);
@@ -177,11 +178,11 @@ empty-step m s b κs r kept = record { refused = refl; left = ap (withCounts b) 
 -- calls one after the other, each of which keeps its contract and was lent what the one before it left
 pub data Ran (m s : ℕ) : Buffers → List Call → Buffers → Type 0 where
   done : {b : Buffers} → Ran m s b [] b
-  by-paint : {b′ : Buffers} {cs : List Call} (x : Edit) (κ f : ℕ) → KeepsPaint m s x κ f → Ran m s (afterwards x) cs b′ → Ran m s (before x) (painting (ofBlock κ f) ∷ cs) b′
-  by-paint-window : {b′ : Buffers} {cs : List Call} (x : Edit) (w : Window) (f : ℕ) → KeepsPaintWindow m s x w f → Ran m s (afterwards x) cs b′
+  by-paint : {b′ : Buffers} {cs : List Call} (x : EditCall) (κ f : ℕ) → KeepsPaint m s x κ f → Ran m s (afterwards x) cs b′ → Ran m s (before x) (painting (ofBlock κ f) ∷ cs) b′
+  by-paint-window : {b′ : Buffers} {cs : List Call} (x : EditCall) (w : Window) (f : ℕ) → KeepsPaintWindow m s x w f → Ran m s (afterwards x) cs b′
       → Ran m s (before x) (painting (ofWindow w f) ∷ cs) b′
-  by-take-back : {b′ : Buffers} {cs : List Call} (x : Edit) → KeepsTakeBack m s x → Ran m s (afterwards x) cs b′ → Ran m s (before x) (takingBack ∷ cs) b′
-  by-redo : {b′ : Buffers} {cs : List Call} (x : Edit) → KeepsRedo m s x → Ran m s (afterwards x) cs b′ → Ran m s (before x) (redoing ∷ cs) b′
+  by-take-back : {b′ : Buffers} {cs : List Call} (x : EditCall) → KeepsTakeBack m s x → Ran m s (afterwards x) cs b′ → Ran m s (before x) (takingBack ∷ cs) b′
+  by-redo : {b′ : Buffers} {cs : List Call} (x : EditCall) → KeepsRedo m s x → Ran m s (afterwards x) cs b′ → Ran m s (before x) (redoing ∷ cs) b′
   by-empty : {b b′ : Buffers} {cs : List Call} (κs : Lfts 0) (r : Emptied) → empty-reads.Learnt κs tt r tt → Ran m s (withCounts b r) cs b′ → Ran m s b (emptying ∷ cs) b′
 
 -- they lead where the history's run leads

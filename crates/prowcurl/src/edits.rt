@@ -12,7 +12,7 @@ use definitions::Window;
 use edit::empty;
 use edit::paint;
 use rectangle::paint_window;
-use redo::redo as redoing;
+use undo::redo as redoing;
 use undo::take_back;
 
 #[no_mangle]

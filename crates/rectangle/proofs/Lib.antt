@@ -5,5 +5,4 @@ pub mod WindowNeeds
 pub mod WindowSearch
 pub mod WindowFilled
 pub mod PaintWindowTable
-pub mod PaintWindowAnswers
 pub mod GroupLogged

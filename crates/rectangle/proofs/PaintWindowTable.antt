@@ -1,5 +1,5 @@
--- The table of painting a window, one law for each way out of the code that looks for the refusal, and what a call that is not refused may rely on.
--- Rests on EditCallTables.
+-- The table of painting a window: the rows about room, one law for each way out of the code that tests them, and what a call that is not refused may rely on
+-- and gives. Rests on EditCallTables and the laws of edits.
 use Prim.Native.Nat.{ℕ, _+_, _≤_, _<_}
 use mathlib.Core.Path.{_≡_, refl, sym, ap, _∙_}
 use mathlib.Core.Bool.{true, false, not}
@@ -7,21 +7,25 @@ use mathlib.Core.List.{List, [], _∷_}
 use native.Mathlib.Omega.{arith}
 use lib.ListN.{length}
 use lib.Dec.{ltb, leb}
-use borrow.Author.Tests.{lt-ltb, le-ltb, ltb-false, le-leb, lt-leb, leb-true, leb-false, not-false}
+use borrow.Author.Tests.{lt-ltb, le-ltb, ltb-false, lt-leb, leb-true, leb-false, not-false}
 use Rattle.keys.proofs.Powers.{two-le}
 use Rattle.definitions.specs.List.{Record}
 use Rattle.definitions.specs.Read.{room, recordsOf}
+use Rattle.definitions.specs.Area.{summaryOf}
 use Rattle.definitions.specs.Window.{isWindow, badWindow, largestBlocks}
 use Rattle.definitions.specs.declared.Window.{Window}
-use Rattle.definitions.specs.Refusal.{Row, _gives_, first, badFeature}
-use Rattle.definitions.specs.Calls.PaintWindow.{filled, groupGained, paintWindowRefusal}
-use Rattle.laws.proofs.First.{this, later, holds-first, none-first, first-none}
+use Rattle.definitions.specs.Refusal.{_gives_, badFeature}
+use Rattle.definitions.specs.Calls.Edit.{asLent, editRefusal}
+use Rattle.definitions.specs.Calls.PaintWindow.{filledPicture, filled, groupGained, paintWindow, WindowPainted}
+use Rattle.laws.proofs.First.{this, later, holds-first, none-first}
+use Rattle.laws.proofs.Edits.{SheetPassed, EditPassed, rest-decides, edit-passed, edit-done}
 use Rattle.walk.proofs.Lies.{accepted-window}
-use Rattle.edit.specs.EditCallChecks.{editRefusal}
+use Rattle.put.specs.Putting.{Replaced}
+use Rattle.edit.specs.PaintCall.{Relogged}
 use Rattle.rectangle.specs.WindowLogging.{FreshGroup}
 use Rattle.rectangle.specs.PaintWindowCall.{Fillable, windowRoomRefusal, WindowDecided}
 use Rattle.rectangle.specs.declared.paint_window.WindowPlan.{WindowPlan}
-use Rattle.edit.proofs.EditCallTables.{firstRows, FirstPassed, early-first, rest-first, passed-none, passed-settings, passed-own, passed-used}
+use Rattle.edit.proofs.EditCallTables.{passed-settings, passed-own, passed-used}
 
 -- a refusal decides
 pub window-refuses : {k refusal m : ℕ} {w : Window} {r : WindowPlan} → r .refusal ≡ k → k ≡ refusal → (k ≡ 0 → ⊥) → WindowDecided refusal m w r
@@ -54,82 +58,58 @@ module _ (m : ℕ) (l : List Record) (keys bits logKeys logValues : List ℕ) (i
       unfolding windowRoomRefusal
       room-enough h = sym (none-first _ (log-passes, (le-ltb (room keys bits) (length (filled m l w f)) (leb-true _ _ h), tt)))
 
-module _ (m s : ℕ) (keys bits : List ℕ) (n : ℕ) (summary logKeys logValues : List ℕ) (used inForce : ℕ) (w : Window) (f : ℕ) where
-  -- the rows about room
-  abbrev roomRows : List Row
-  roomRows =
-      ltb (room logKeys logValues) (inForce + length (groupGained m (recordsOf keys bits n) w f)) gives 10
-      ∷ ltb (room keys bits) (length (filled m (recordsOf keys bits n) w f)) gives 9
-      ∷ []
+module _ {m s : ℕ} {keys bits : List ℕ} {n : ℕ} {summary logKeys logValues : List ℕ} {used inForce : ℕ} (w : Window) (f : ℕ)
+    (p : SheetPassed (asLent m s keys bits n summary logKeys logValues used inForce)) (good : isWindow m w ≡ true) (small : f < s) where
+  -- past 7 the rows about room decide
+  pub window-room : windowRoomRefusal m (recordsOf keys bits n) keys bits logKeys logValues inForce w f
+      ≡ editRefusal (paintWindow m s keys bits n summary logKeys logValues used inForce w f)
+  unfolding windowRoomRefusal filled
+  window-room =
+      rest-decides (paintWindow m s keys bits n summary logKeys logValues used inForce w f) p (badWindow m w gives 6 ∷ badFeature s f gives 7 ∷ []) _ refl
+      (ap not good, (lt-leb s f small, tt))
 
-  -- and those before them, from 6 on
-  abbrev lastRows : List Row
-  lastRows = badWindow m w gives 6 ∷ badFeature s f gives 7 ∷ roomRows
-
-  -- 1, 4, 18, 5
-  pub window-early : (k : ℕ) → k ≡ editRefusal m s keys bits n summary logKeys logValues used inForce → (k ≡ 0 → ⊥)
-      → k ≡ paintWindowRefusal m s keys bits n summary logKeys logValues used inForce w f
-  unfolding paintWindowRefusal editRefusal
-  window-early k e not-zero = early-first k (firstRows m s keys bits n summary logKeys logValues used inForce) lastRows e not-zero
-
-  module _ (p : FirstPassed m s keys bits n summary logKeys logValues used inForce) where
-    window-rest : first lastRows ≡ paintWindowRefusal m s keys bits n summary logKeys logValues used inForce w f
-    unfolding paintWindowRefusal
-    window-rest = rest-first (firstRows m s keys bits n summary logKeys logValues used inForce) lastRows (passed-none p)
-
-    -- 6
-    pub bad-window : isWindow m w ≡ false → 6 ≡ paintWindowRefusal m s keys bits n summary logKeys logValues used inForce w f
-    bad-window bad = sym (holds-first (this (ap not bad) refl)) ∙ window-rest
-
-    module _ (good : isWindow m w ≡ true) where
-      -- 7
-      pub window-feature : s ≤ f → 7 ≡ paintWindowRefusal m s keys bits n summary logKeys logValues used inForce w f
-      window-feature h = sym (holds-first (later (ap not good) (this (le-leb s f h) refl))) ∙ window-rest
-
-      module _ (small : f < s) where
-        -- 10, 9
-        pub window-room : windowRoomRefusal m (recordsOf keys bits n) keys bits logKeys logValues inForce w f ≡ paintWindowRefusal m s keys bits n summary logKeys logValues used inForce w f
-        unfolding windowRoomRefusal
-        window-room = rest-first (badWindow m w gives 6 ∷ badFeature s f gives 7 ∷ []) roomRows (ap not good, (lt-leb s f small, tt)) ∙ window-rest
-
-        -- the rows about room ask for this
-        pub passed-fillable : Fillable m keys bits n w f
-        passed-fillable =
-            let settings = passed-settings p in
-            let a = accepted-window m w good in
-            let two = two-le 10 (settings .deep) in
-            record {
-              list = record { deep = settings .deep; own = passed-own p; low = omega (arith, a .rows); narrow = omega (arith, a .columns) };
-              slot = omega (arith, settings .few);
-            }
-
-  -- what a call that is not refused has passed
-  pub record WindowPassed : Type 0 where
-    pub first-rows : FirstPassed m s keys bits n summary logKeys logValues used inForce
-    pub good : isWindow m w ≡ true
-    pub small : f < s
-    pub log-fits : inForce + length (groupGained m (recordsOf keys bits n) w f) ≤ room logKeys logValues
-    pub list-fits : length (filled m (recordsOf keys bits n) w f) ≤ room keys bits
-
-  pub window-passed : paintWindowRefusal m s keys bits n summary logKeys logValues used inForce w f ≡ 0 → WindowPassed
-  unfolding paintWindowRefusal
-  window-passed e =
-      let none = first-none _ refl e in
-      let last = none .1 .1 .1 .1 in
+  -- they ask for this
+  pub passed-fillable : Fillable m keys bits n w f
+  passed-fillable =
+      let settings = passed-settings p in
+      let a = accepted-window m w good in
+      let two = two-le 10 (settings .deep) in
       record {
-        first-rows = record { settings = none .0; listed = none .1 .0; summed = none .1 .1 .0; logged = none .1 .1 .1 .0 };
-        good = not-false (isWindow m w) (last .0);
-        small = leb-false s f (last .1 .0);
-        log-fits = ltb-false _ _ (last .1 .1 .0);
-        list-fits = ltb-false _ _ (last .1 .1 .1 .0);
+        list = record { deep = settings .deep; own = passed-own p; low = omega (arith, a .rows); narrow = omega (arith, a .columns) };
+        slot = omega (arith, settings .few);
       }
 
+-- a call that is not refused
+pub record WindowPassed (m s : ℕ) (keys bits : List ℕ) (n : ℕ) (summary logKeys logValues : List ℕ) (used inForce : ℕ) (w : Window) (f : ℕ) : Type 0 where
+  pub none : editRefusal (paintWindow m s keys bits n summary logKeys logValues used inForce w f) ≡ 0
+
 module _ {m s : ℕ} {keys bits : List ℕ} {n : ℕ} {summary logKeys logValues : List ℕ} {used inForce : ℕ} {w : Window} {f : ℕ}
-    (p : WindowPassed m s keys bits n summary logKeys logValues used inForce w f) where
+    (passed : WindowPassed m s keys bits n summary logKeys logValues used inForce w f) where
+  window-all : EditPassed (paintWindow m s keys bits n summary logKeys logValues used inForce w f)
+  window-all = edit-passed (paintWindow m s keys bits n summary logKeys logValues used inForce w f) refl (passed .none)
+
+  pub window-sheet : SheetPassed (asLent m s keys bits n summary logKeys logValues used inForce)
+  window-sheet = window-all .sheet
+
+  pub window-fits : length (filled m (recordsOf keys bits n) w f) ≤ room keys bits
+  unfolding filled
+  window-fits = window-all .fits
+
   -- what filling the window asks for
   pub window-fillable : Fillable m keys bits n w f
-  window-fillable = passed-fillable m s keys bits n summary logKeys logValues used inForce w f (p .first-rows) (p .good) (p .small)
+  window-fillable = passed-fillable w f window-sheet (not-false (isWindow m w) (window-all .own .0)) (leb-false s f (window-all .own .1 .0))
 
   -- and what logging asks for
   pub window-fresh : {number : ℕ} → number ≡ length (largestBlocks m w) → FreshGroup m keys bits n w f number inForce used logKeys logValues
-  window-fresh e = record { list = window-fillable .list; number-is = e; fits = p .log-fits; there = passed-used (p .first-rows) }
+  window-fresh e = record { list = window-fillable .list; number-is = e; fits = ltb-false _ _ (window-all .own .1 .1 .0); there = passed-used window-sheet }
+
+  -- an accepted call gives what was logged, filled and counted
+  pub window-done : {keys′ bits′ summary′ logKeys′ logValues′ : List ℕ} {after next : ℕ}
+      → Relogged (groupGained m (recordsOf keys bits n) w f) inForce used logKeys logValues logKeys′ logValues′ next
+      → Replaced n (filled m (recordsOf keys bits n) w f) keys bits keys′ bits′ after
+      → summary′ ≡ summaryOf m s (filledPicture m (recordsOf keys bits n) w f)
+      → WindowPainted m s keys bits n summary logKeys logValues used inForce w f (record { refusal = 0; n = after; used = next; «in_force» = next }) keys′ bits′ summary′ logKeys′ logValues′
+  unfolding filled
+  window-done log put counted =
+      edit-done (paintWindow m s keys bits n summary logKeys logValues used inForce w f) (passed .none)
+      (put .length-is) (put .keys-are) (put .values-are) counted (log .used-are) (log .used-are) (log .keys-are) (log .values-are)

@@ -2,8 +2,8 @@
 ghost use mathlib.Core.Path.{_≡_};
 ghost use Prim.Native.Nat.{_≤_};
 ghost use Rattle.definitions.specs.Read.{room, recordsOf};
-ghost use Rattle.definitions.specs.Calls.PaintWindow.{paintWindowRefusal};
-ghost use Rattle.definitions.specs.Calls.PaintWindow.{WindowPainted};
+ghost use Rattle.definitions.specs.Calls.Edit.{editRefusal};
+ghost use Rattle.definitions.specs.Calls.PaintWindow.{paintWindow, WindowPainted};
 ghost use Rattle.rectangle.specs.PaintWindowCall.{Fillable, windowRoomRefusal, WindowDecided};
 use crate::filling;
 use crate::window_blocks;
@@ -82,7 +82,7 @@ fn decide(
     feature: u32,
 ) -> WindowPlan
     ensures { λ r. ⌜ WindowDecided
-        (paintWindowRefusal m s (now (keys .entry)) (now (bits .entry)) n (now (summary .entry)) (now («log_keys» .entry)) (now («log_values» .entry)) used «in_force» window feature)
+        (editRefusal (paintWindow m s (now (keys .entry)) (now (bits .entry)) n (now (summary .entry)) (now («log_keys» .entry)) (now («log_values» .entry)) used «in_force» window feature))
         m window r ⌝ }
 {
     let early = decision::edit_refusal(

@@ -18,9 +18,8 @@ use Rattle.definitions.specs.Area.{countOf, pixelsWith, countsFrom, summaryBelo
 use Rattle.definitions.specs.Edit.{put, paintIn, contentOf}
 use Rattle.definitions.specs.Log.{closed, entryOf, countRecord, lastRecord, lastKey, lastFeature, lastCount, beforeLast, lastContent, isContent, closes, lastIsEntry, endsInMark, stepCount, stepEntries, beforeEntries, beforeStep, lastIsStep, dividesIn, isSound, firstIn, firstStep, putBack, paintAgain, noLog}
 use Rattle.definitions.specs.Calls.Survey.{surveyRefusal, survey, surveyKeys, surveyBits, surveySummary}
-use Rattle.definitions.specs.Calls.Paint.{painted, gained, paintRefusal, paint, paintKeys, paintBits, paintSummary, paintLogKeys, paintLogValues}
-use Rattle.definitions.specs.Calls.TakeBack.{restored, takeBackRefusal, forceBefore, takeBack, takeBackKeys, takeBackBits, takeBackSummary, takeBackLogKeys, takeBackLogValues}
-use Rattle.definitions.specs.Calls.Redo.{redone, redoRefusal, forceAfter, redo, redoKeys, redoBits, redoSummary, redoLogKeys, redoLogValues}
+use Rattle.definitions.specs.Calls.Edit.{editRefusal, editAnswer, keysLeft, bitsLeft, summaryLeft, logKeysLeft, logValuesLeft}
+use Rattle.definitions.specs.Calls.Paint.{gained}
 use Rattle.history.specs.History.{ofBlock, painting, takingBack, redoing, Buffers, withoutLatest, withNext, built, answer, after, keep, applied, drawn, pictureLeft, rasterLeft}
 use Rattle.history.proofs.MapAHistory.{mapA, four}
 use Rattle.rests.specs.Events.{Event, calling, resting, restingShort, Reached, builtInto, afterEvent, afterEvents, AllMay}
@@ -98,9 +97,8 @@ unfolding answersTo AllMay afterEvent afterEvents answer after keep withoutLates
     countOf pixelsWith countsFrom summaryBelow summaryOf sameNumbers noSummary put paintIn contentOf
     closed entryOf countRecord lastRecord lastKey lastFeature lastCount beforeLast lastContent isContent closes lastIsEntry
     endsInMark stepCount stepEntries beforeEntries beforeStep lastIsStep dividesIn isSound firstIn firstStep putBack paintAgain noLog
-    surveyRefusal survey surveyKeys surveyBits surveySummary painted gained paintRefusal paint paintKeys paintBits paintSummary paintLogKeys paintLogValues
-    restored takeBackRefusal forceBefore takeBack takeBackKeys takeBackBits takeBackSummary takeBackLogKeys takeBackLogValues
-    redone redoRefusal forceAfter redo redoKeys redoBits redoSummary redoLogKeys redoLogValues
+    surveyRefusal survey surveyKeys surveyBits surveySummary gained
+    editRefusal editAnswer keysLeft bitsLeft summaryLeft logKeysLeft logValuesLeft
 gives =
     record {
       answered = refl;

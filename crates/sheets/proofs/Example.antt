@@ -24,9 +24,8 @@ use Rattle.definitions.specs.Calls.Exist.{existRefusal, exist}
 use Rattle.definitions.specs.Calls.Report.{reportRefusal, report}
 use Rattle.definitions.specs.Calls.Area.{areaRefusal, area}
 use Rattle.definitions.specs.Calls.Select.{selected, selectRefusal, select, selectAnswer}
-use Rattle.definitions.specs.Calls.PaintWindow.{filled, groupGained, paintWindowRefusal, paintWindow, paintWindowKeys, paintWindowBits, paintWindowSummary, paintWindowLogKeys, paintWindowLogValues}
-use Rattle.definitions.specs.Calls.TakeBack.{restored, takeBackRefusal, forceBefore, takeBack, takeBackKeys, takeBackBits, takeBackSummary, takeBackLogKeys, takeBackLogValues}
-use Rattle.definitions.specs.Calls.Redo.{redone, redoRefusal, forceAfter, redo, redoKeys, redoBits, redoSummary, redoLogKeys, redoLogValues}
+use Rattle.definitions.specs.Calls.Edit.{editRefusal, editAnswer, keysLeft, bitsLeft, summaryLeft, logKeysLeft, logValuesLeft}
+use Rattle.definitions.specs.Calls.PaintWindow.{groupGained}
 use Rattle.definitions.specs.declared.Window.{Window}
 use Rattle.laws.proofs.RasterOf.{rasterOf}
 use Rattle.history.specs.History.{Call, Buffers, built, answer, after, afterCalls, takingBack, redoing}
@@ -141,7 +140,7 @@ record Paints : Type 0 where
   twos-back : areaTogether 1 3 ground taken whole 2 ≡ 5
 
 paints : Paints
-unfolding sheetsFor inGround cutAt onSheet sumBelow areaTogether isAmong eachOnce afterSheets built answer after validKey heightOf levelOf digitsOf onlyZeros digitsThenZeros digitsBeforeZero rowOf columnOf sideOf inBlock pixelKey everyPixel oneFeature featuresBelow bitsOf unionOfFour twosIn featureOf listOf paired valueAt pictureOf sameRecords isListOfBlock isList first badSettings badLength badPixel isWindow inWindow featuresOfRow featuresOfRows featuresIn isInside blocksFrom largestBlocks countOf areaIn pixelsWith countsFrom summaryBelow summaryOf sameNumbers noSummary notBefore overlapEnd overlapLength overlapWindow put paintIn fillWindow contentOf closed entryOf grouped entriesOf groupOf countRecord lastRecord lastKey lastFeature lastCount beforeLast lastContent isContent closes lastIsEntry endsInMark stepCount stepEntries beforeEntries beforeStep endsInEntries lastIsGroup lastIsStep dividesIn isSound putBack noLog surveyRefusal survey surveyKeys surveyBits surveySummary areaRefusal area filled groupGained paintWindowRefusal paintWindow paintWindowKeys paintWindowBits paintWindowSummary paintWindowLogKeys paintWindowLogValues restored takeBackRefusal forceBefore takeBack takeBackKeys takeBackBits takeBackSummary takeBackLogKeys takeBackLogValues
+unfolding sheetsFor inGround cutAt onSheet sumBelow areaTogether isAmong eachOnce afterSheets built answer after validKey heightOf levelOf digitsOf onlyZeros digitsThenZeros digitsBeforeZero rowOf columnOf sideOf inBlock pixelKey everyPixel oneFeature featuresBelow bitsOf unionOfFour twosIn featureOf listOf paired valueAt pictureOf sameRecords isListOfBlock isList first badSettings badLength badPixel isWindow inWindow featuresOfRow featuresOfRows featuresIn isInside blocksFrom largestBlocks countOf areaIn pixelsWith countsFrom summaryBelow summaryOf sameNumbers noSummary notBefore overlapEnd overlapLength overlapWindow put paintIn fillWindow contentOf closed entryOf grouped entriesOf groupOf countRecord lastRecord lastKey lastFeature lastCount beforeLast lastContent isContent closes lastIsEntry endsInMark stepCount stepEntries beforeEntries beforeStep endsInEntries lastIsGroup lastIsStep dividesIn isSound putBack noLog surveyRefusal survey surveyKeys surveyBits surveySummary areaRefusal area groupGained editRefusal editAnswer keysLeft bitsLeft summaryLeft logKeysLeft logValuesLeft
 paints = record {
   once = refl;
   answered = refl;
@@ -184,7 +183,7 @@ record Steps : Type 0 where
   twos : areaTogether 1 3 ground left whole 2 ≡ 3
 
 steps-leave : Steps
-unfolding groundWindow meets meetsSheet keptSteps keepStep lastBack nextAgain ofFirst stepCalls runCalls allAccepted afterCalls sheetsFor inGround cutAt onSheet sumBelow areaTogether built answer after validKey heightOf levelOf digitsOf onlyZeros digitsThenZeros digitsBeforeZero rowOf columnOf sideOf inBlock pixelKey everyPixel oneFeature featuresBelow bitsOf unionOfFour twosIn featureOf listOf paired valueAt pictureOf sameRecords isListOfBlock isList first badSettings badLength badPixel isWindow inWindow featuresOfRow featuresOfRows featuresIn isInside blocksFrom largestBlocks countOf areaIn pixelsWith countsFrom summaryBelow summaryOf sameNumbers noSummary notBefore overlapEnd overlapLength overlapWindow put paintIn fillWindow contentOf closed entryOf grouped entriesOf groupOf countRecord lastRecord lastKey lastFeature lastCount beforeLast lastContent isContent closes lastIsEntry endsInMark stepCount stepEntries beforeEntries beforeStep endsInEntries lastIsGroup lastIsStep dividesIn isSound firstIn firstStep putBack paintAgain noLog surveyRefusal survey surveyKeys surveyBits surveySummary areaRefusal area filled groupGained paintWindowRefusal paintWindow paintWindowKeys paintWindowBits paintWindowSummary paintWindowLogKeys paintWindowLogValues restored takeBackRefusal forceBefore takeBack takeBackKeys takeBackBits takeBackSummary takeBackLogKeys takeBackLogValues redone redoRefusal forceAfter redo redoKeys redoBits redoSummary redoLogKeys redoLogValues
+unfolding groundWindow meets meetsSheet keptSteps keepStep lastBack nextAgain ofFirst stepCalls runCalls allAccepted afterCalls sheetsFor inGround cutAt onSheet sumBelow areaTogether built answer after validKey heightOf levelOf digitsOf onlyZeros digitsThenZeros digitsBeforeZero rowOf columnOf sideOf inBlock pixelKey everyPixel oneFeature featuresBelow bitsOf unionOfFour twosIn featureOf listOf paired valueAt pictureOf sameRecords isListOfBlock isList first badSettings badLength badPixel isWindow inWindow featuresOfRow featuresOfRows featuresIn isInside blocksFrom largestBlocks countOf areaIn pixelsWith countsFrom summaryBelow summaryOf sameNumbers noSummary notBefore overlapEnd overlapLength overlapWindow put paintIn fillWindow contentOf closed entryOf grouped entriesOf groupOf countRecord lastRecord lastKey lastFeature lastCount beforeLast lastContent isContent closes lastIsEntry endsInMark stepCount stepEntries beforeEntries beforeStep endsInEntries lastIsGroup lastIsStep dividesIn isSound firstIn firstStep putBack paintAgain noLog surveyRefusal survey surveyKeys surveyBits surveySummary areaRefusal area groupGained editRefusal editAnswer keysLeft bitsLeft summaryLeft logKeysLeft logValuesLeft
 steps-leave = record { paints-kept = refl; calls-both = refl; calls-second = refl; none-refused = refl; zeros = refl; ones = refl; twos = refl }
 
 -- row 2, and one row past the ground's last; columns 0 and 1

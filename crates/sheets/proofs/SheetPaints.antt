@@ -14,14 +14,16 @@ use Rattle.keys.specs.Under.{Every}
 use Rattle.definitions.specs.Picture.{Picture}
 use Rattle.definitions.specs.List.{Record, listOfPicture}
 use Rattle.definitions.specs.Read.{room, recordsOf, pictureOf}
-use Rattle.definitions.specs.Area.{summaryOf, noSummary}
+use Rattle.definitions.specs.Area.{summaryOf}
 use Rattle.definitions.specs.Window.{isWindow, badWindow, largestBlocks}
 use Rattle.definitions.specs.Edit.{fillWindow}
-use Rattle.definitions.specs.Log.{grouped, groupOf, isSound, noLog}
-use Rattle.definitions.specs.Refusal.{Row, _gives_, first, badSettings, noList, badFeature}
-use Rattle.definitions.specs.Calls.PaintWindow.{filled, groupGained, paintWindowRefusal, paintWindow}
+use Rattle.definitions.specs.Log.{grouped, groupOf, isSound}
+use Rattle.definitions.specs.Refusal.{_gives_, first, badSettings, badFeature}
+use Rattle.definitions.specs.Calls.Edit.{editRefusal}
+use Rattle.definitions.specs.Calls.PaintWindow.{filled, groupGained, paintWindow}
 use Rattle.definitions.specs.declared.Window.{Window}
-use Rattle.laws.proofs.First.{first-none, first-later}
+use Rattle.laws.proofs.First.{first-later}
+use Rattle.laws.proofs.Edits.{edit-passed}
 use Rattle.laws.proofs.Pixels.{Agree}
 use Rattle.laws.proofs.Features.{below-from}
 use Rattle.laws.proofs.ListOf.{list-agree}
@@ -31,7 +33,7 @@ use Rattle.laws.proofs.LargestBlocks.{largest-in-order}
 use Rattle.laws.proofs.WindowPaint.{entries-past}
 use Rattle.laws.proofs.LastStep.{IsStep}
 use Rattle.laws.proofs.SoundLog.{sound-with, empty-sound}
-use Rattle.history.specs.History.{Buffers, ofWindow, painting, applied, loggedBy, answer, after}
+use Rattle.history.specs.History.{Buffers, ofWindow, painting, lentTo, applied, loggedBy, answer, after}
 use Rattle.history.specs.Claim.{paintWindowAnswer}
 use Rattle.history.proofs.Shown.{ShownInSlices, shown-records, shown-room, shown-replaced, shown-logged}
 use Rattle.history.proofs.Content.{map-back}
@@ -69,7 +71,7 @@ module _ (m s : ℕ) (p : Picture) (b : Buffers) (settings : badSettings m s ≡
   -- with a sound log a paint is refused only by its window, its feature, the log's room for the group and the list's room for the painted picture's list
   pub paint-answer : HasLog m s b
       → answer m s b (painting (ofWindow w f)) ≡ paintWindowAnswer m s p (room (b .keys) (b .bits)) (room (b .logKeys) (b .logValues)) (b .inForce) w f
-  unfolding answer paintWindow paintWindowRefusal paintWindowAnswer
+  unfolding answer editRefusal filled paintWindowAnswer
   paint-answer log =
       first-later _ _ settings
       ∙ first-later _ _ (has-list m s p b settings below holds)
@@ -93,26 +95,15 @@ module _ (m s : ℕ) (p : Picture) (b : Buffers) (settings : badSettings m s ≡
 
   module _ (done : answer m s b (painting (ofWindow w f)) ≡ 0) where
     passed : Passed
-    unfolding answer paintWindow paintWindowRefusal
+    unfolding answer filled
     passed =
-        let l : List Record = recordsOf (b .keys) (b .bits) (b .n) in
-        let rows : List Row =
-        badSettings m s gives 1
-        ∷ noList m s (b .keys) (b .bits) (b .n) gives 4
-        ∷ noSummary m s (pictureOf m l) (b .summary) gives 18
-        ∷ noLog m s (b .logKeys) (b .logValues) (b .used) (b .inForce) gives 5
-        ∷ badWindow m w gives 6
-        ∷ badFeature s f gives 7
-        ∷ ltb (room (b .logKeys) (b .logValues)) (b .inForce + length (groupGained m l w f)) gives 10
-        ∷ ltb (room (b .keys) (b .bits)) (length (filled m l w f)) gives 9
-        ∷ [] in
-        let none = first-none rows refl done in
+        let all = edit-passed (lentTo b (paintWindow m s) w f) refl done in
         record {
-          log = none .1 .1 .1 .0;
-          window = not-false _ (none .1 .1 .1 .1 .0);
-          feature = leb-false s f (none .1 .1 .1 .1 .1 .0);
-          log-room = ltb-false _ _ (none .1 .1 .1 .1 .1 .1 .0);
-          list-room = ltb-false _ _ (none .1 .1 .1 .1 .1 .1 .1 .0);
+          log = all .sheet .logged;
+          window = not-false _ (all .own .0);
+          feature = leb-false s f (all .own .1 .0);
+          log-room = ltb-false _ _ (all .own .1 .1 .0);
+          list-room = all .fits;
         }
 
     fit : Fit m s (ofWindow w f)

@@ -7,7 +7,7 @@ use mathlib.Core.List.{List, _++_, append-assoc}
 use native.Mathlib.Omega.{arith}
 use lib.ListN.{length, take, drop, length-append, length-drop, take-append-drop}
 use lib.Seq.{take-append-seam, drop-at}
-use borrow.Author.Tests.{le-ltb, eq-eqb, ne-eqb}
+use borrow.Author.Tests.{le-ltb, ne-eqb}
 use Rattle.keys.specs.Under.{Every}
 use Rattle.definitions.specs.Picture.{Picture, featuresBelow}
 use Rattle.definitions.specs.List.{Record, listOfPicture}
@@ -16,7 +16,8 @@ use Rattle.definitions.specs.Area.{summaryOf}
 use Rattle.definitions.specs.Edit.{fillWindow}
 use Rattle.definitions.specs.Log.{groupOf, firstStep, isSound, toRedo}
 use Rattle.definitions.specs.Refusal.{badSettings}
-use Rattle.definitions.specs.Calls.Redo.{redonePicture, redone, forceAfter, redoRefusal, redo, redoKeys, redoBits, redoSummary, redoLogKeys, redoLogValues}
+use Rattle.definitions.specs.Calls.Edit.{editRefusal}
+use Rattle.definitions.specs.Calls.Redo.{redonePicture, redone}
 use Rattle.definitions.specs.declared.Window.{Window}
 use Rattle.laws.proofs.First.{none-first}
 use Rattle.laws.proofs.Features.{below-from}
@@ -27,7 +28,7 @@ use Rattle.history.specs.History.{Buffers, redoing, applied, loggedBy, answer, 
 use Rattle.history.proofs.Shown.{shown-records, shown-room, shown-replaced}
 use Rattle.history.proofs.Fit.{window-fit, step-is}
 use Rattle.history.proofs.Applied.{first-next, redone-list, redone-summary}
-use Rattle.history.proofs.TakeBackStep.{withForce}
+use Rattle.history.proofs.EditStep.{withForce, edit-puts}
 use Rattle.sheets.specs.Calls.{SheetHolds}
 use Rattle.sheets.specs.Paints.{LastStepOn, NextStepOn}
 use Rattle.sheets.proofs.SheetCalls.{has-list, has-summary}
@@ -78,7 +79,7 @@ module _ (m s : ℕ) (p : Picture) (b : Buffers) (settings : badSettings m s ≡
 
   -- redo is accepted
   pub again-accepted : answer m s b redoing ≡ 0
-  unfolding answer redo redoRefusal
+  unfolding answer editRefusal redone
   again-accepted =
       let some = step-some step in
       let count = used-count in
@@ -101,8 +102,8 @@ module _ (m s : ℕ) (p : Picture) (b : Buffers) (settings : badSettings m s ≡
       ≡ withForce b (redone m (recordsOf (b .keys) (b .bits) (b .n)) (toRedo (b .logKeys) (b .logValues) (b .used) (b .inForce)))
       (summaryOf m s (redonePicture m (recordsOf (b .keys) (b .bits) (b .n)) (toRedo (b .logKeys) (b .logValues) (b .used) (b .inForce))))
       (b .inForce + length (firstStep (toRedo (b .logKeys) (b .logValues) (b .used) (b .inForce))))
-  unfolding answer after redo redoKeys redoBits redoSummary redoLogKeys redoLogValues forceAfter
-  again-done = rw (eq-eqb _ 0 again-accepted)
+  unfolding answer after redone
+  again-done = edit-puts m s b _ _ _ _ _ _ again-accepted
 
   again-is : after m s b redoing ≡ again
   again-is =

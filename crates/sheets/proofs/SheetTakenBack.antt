@@ -7,7 +7,7 @@ use mathlib.Core.List.{List, _++_, append-assoc}
 use native.Mathlib.Omega.{arith}
 use lib.ListN.{length, take, drop, length-append, take-append-drop}
 use lib.Seq.{take-append-seam, drop-at}
-use borrow.Author.Tests.{le-ltb, eq-eqb, ne-eqb}
+use borrow.Author.Tests.{le-ltb, ne-eqb}
 use Rattle.keys.specs.Under.{Every}
 use Rattle.definitions.specs.Picture.{Picture, featuresBelow}
 use Rattle.definitions.specs.List.{Record, listOfPicture}
@@ -16,7 +16,8 @@ use Rattle.definitions.specs.Area.{summaryOf}
 use Rattle.definitions.specs.Edit.{fillWindow}
 use Rattle.definitions.specs.Log.{groupOf, beforeStep, isSound, toRedo}
 use Rattle.definitions.specs.Refusal.{badSettings}
-use Rattle.definitions.specs.Calls.TakeBack.{restoredPicture, restored, forceBefore, takeBackRefusal, takeBack, takeBackKeys, takeBackBits, takeBackSummary, takeBackLogKeys, takeBackLogValues}
+use Rattle.definitions.specs.Calls.Edit.{editRefusal}
+use Rattle.definitions.specs.Calls.TakeBack.{restoredPicture, restored}
 use Rattle.definitions.specs.declared.Window.{Window}
 use Rattle.laws.proofs.First.{none-first}
 use Rattle.laws.proofs.Features.{below-to, below-from}
@@ -29,7 +30,7 @@ use Rattle.history.proofs.Shown.{shown-records, shown-room, shown-replaced}
 use Rattle.history.proofs.Drawn.{fill-below}
 use Rattle.history.proofs.Fit.{window-fit, step-is}
 use Rattle.history.proofs.Applied.{restored-list, restored-summary, without-step}
-use Rattle.history.proofs.TakeBackStep.{withForce}
+use Rattle.history.proofs.EditStep.{withForce, edit-puts}
 use Rattle.sheets.specs.Calls.{SheetHolds}
 use Rattle.sheets.specs.Paints.{LastStepOn, NextStepOn}
 use Rattle.sheets.proofs.SheetCalls.{has-list, has-summary}
@@ -80,7 +81,7 @@ module _ (m s : ℕ) (p : Picture) (b : Buffers) (settings : badSettings m s ≡
 
   -- taking back is accepted
   pub back-accepted : answer m s b takingBack ≡ 0
-  unfolding answer takeBack takeBackRefusal
+  unfolding answer editRefusal restored
   back-accepted =
       let some = step-some step in
       let count = force-count in
@@ -106,8 +107,8 @@ module _ (m s : ℕ) (p : Picture) (b : Buffers) (settings : badSettings m s ≡
       ≡ withForce b (restored m (recordsOf (b .keys) (b .bits) (b .n)) (recordsOf (b .logKeys) (b .logValues) (b .inForce)))
       (summaryOf m s (restoredPicture m (recordsOf (b .keys) (b .bits) (b .n)) (recordsOf (b .logKeys) (b .logValues) (b .inForce))))
       (length (beforeStep (recordsOf (b .logKeys) (b .logValues) (b .inForce))))
-  unfolding answer after takeBack takeBackKeys takeBackBits takeBackSummary takeBackLogKeys takeBackLogValues forceBefore
-  back-done = rw (eq-eqb _ 0 back-accepted)
+  unfolding answer after restored
+  back-done = edit-puts m s b _ _ _ _ _ _ back-accepted
 
   taken-is : after m s b takingBack ≡ taken
   taken-is =

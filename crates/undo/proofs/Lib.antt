@@ -1,6 +1,9 @@
+pub mod StepAnswers
 pub mod TakingBackTable
 pub mod TakingBackPlan
-pub mod TakingBackAnswers
 pub mod GroupRuns
 pub mod Applying
 pub mod TakingBackGroup
+pub mod RedoTable
+pub mod RedoPlan
+pub mod RedoGroup

@@ -1,2 +1,3 @@
 pub mod TakingBackCall
 pub mod GroupCall
+pub mod RedoCall

@@ -1,32 +1,25 @@
 -- What the functions of take back ask and leave: a call that the rows before the last have passed, an accepted list and a log that ends in a single entry, and
--- the call's promise. Only contracts need these. Rests on TakeBack of the definitions.
+-- the call's promise. Only contracts need these. Rests on Calls/Edit of the definitions.
 use Prim.Native.Nat.{ℕ, _≤_, _<_}
 use mathlib.Core.Path.{_≡_}
 use mathlib.Core.Bool.{true, false}
-use mathlib.Core.List.{List, [], _∷_}
-use lib.ListN.{length}
-use lib.Dec.{ltb}
+use mathlib.Core.List.{List}
 use Rattle.keys.specs.Key.{validKey}
 use Rattle.definitions.specs.List.{Record}
-use Rattle.definitions.specs.Read.{room, recordsOf, pictureOf}
+use Rattle.definitions.specs.Read.{recordsOf, pictureOf}
 use Rattle.definitions.specs.Edit.{contentOf}
 use Rattle.definitions.specs.Log.{lastKey, lastCount, lastContent, endsInMark}
-use Rattle.definitions.specs.Refusal.{_gives_, first}
-use Rattle.definitions.specs.Calls.TakeBack.{restored}
+use Rattle.definitions.specs.Calls.Edit.{LentSheet}
 use Rattle.list.specs.Own.{OwnList}
 use Rattle.log.specs.Entries.{Ended}
 use Rattle.put.specs.Put.{planOf}
 use Rattle.put.specs.declared.plan.Plan.{Plan}
-use Rattle.edit.specs.EditCallChecks.{editRefusal}
+use Rattle.edit.specs.EditCallChecks.{sheetRefusal}
 
 -- what 1, 4, 18, 5 and 11 do not refuse
-pub record Takeable (m s : ℕ) (keys bits : List ℕ) (n : ℕ) (summary logKeys logValues : List ℕ) (used inForce : ℕ) : Type 0 where
-  pub passed : editRefusal m s keys bits n summary logKeys logValues used inForce ≡ 0
-  pub some : 0 < inForce
-
--- 9
-unfoldable pub restoredRefusal : (m : ℕ) (l log : List Record) (keys bits : List ℕ) → ℕ
-restoredRefusal m l log keys bits = first (ltb (room keys bits) (length (restored m l log)) gives 9 ∷ [])
+pub record Takeable (l : LentSheet) : Type 0 where
+  pub passed : sheetRefusal l ≡ 0
+  pub some : 0 < l .inForce
 
 -- the plan of a taking back: the last entry's content is put in
 abbrev pub restorePlan : ℕ → List Record → List Record → Plan

@@ -8,9 +8,10 @@ ghost use Rattle.definitions.specs.Log.{endsInMark};
 ghost use Rattle.log.specs.Entries.{lastEntry, contentPart};
 ghost use Rattle.put.specs.Put.{edited};
 ghost use Rattle.put.specs.Putting.{Puttable, Replaced};
-ghost use Rattle.edit.specs.EditCallChecks.{decided};
-ghost use Rattle.definitions.specs.Calls.TakeBack.{TakenBack};
-ghost use Rattle.undo.specs.TakingBackCall.{Takeable, restoredRefusal, Restorable, restorePlan};
+ghost use Rattle.edit.specs.EditCallChecks.{listRoomRefusal, decided};
+ghost use Rattle.definitions.specs.Calls.Edit.{asLent};
+ghost use Rattle.definitions.specs.Calls.TakeBack.{restored, TakenBack};
+ghost use Rattle.undo.specs.TakingBackCall.{Takeable, Restorable, restorePlan};
 use crate::take_back_group;
 use definitions::Edited;
 use definitions::refusal::Refusal;
@@ -36,7 +37,7 @@ fn decide(
 ) -> Decision
     requires { ⌜ Restorable m (now keys) (now bits) n (now «log_keys») (now «log_values») «in_force» ⌝ }
     ensures { λ r. ⌜ r ≡ decided
-        (restoredRefusal m (recordsOf (now (keys .entry)) (now (bits .entry)) n) (recordsOf (now («log_keys» .entry)) (now («log_values» .entry)) «in_force») (now (keys .entry)) (now (bits .entry)))
+        (listRoomRefusal (restored m (recordsOf (now (keys .entry)) (now (bits .entry)) n) (recordsOf (now («log_keys» .entry)) (now («log_values» .entry)) «in_force»)) (now (keys .entry)) (now (bits .entry)))
         (lastEntry (recordsOf (now («log_keys» .entry)) (now («log_values» .entry)) «in_force»))
         (restorePlan m (recordsOf (now (keys .entry)) (now (bits .entry)) n) (recordsOf (now («log_keys» .entry)) (now («log_values» .entry)) «in_force»)) ⌝ }
 {
@@ -101,7 +102,7 @@ fn take_entry_back(
     used: usize,
     in_force: usize,
 ) -> Edited
-    requires { ⌜ Takeable m s (now keys) (now bits) n (now summary) (now «log_keys») (now «log_values») used «in_force»
+    requires { ⌜ Takeable (asLent m s (now keys) (now bits) n (now summary) (now «log_keys») (now «log_values») used «in_force»)
         × (endsInMark (recordsOf (now «log_keys») (now «log_values») «in_force») ≡ false) ⌝ }
     ensures { λ r. ⌜ TakenBack m s (now (keys .entry)) (now (bits .entry)) n (now (summary .entry)) (now («log_keys» .entry)) (now («log_values» .entry)) used «in_force»
         r (now (keys .exit)) (now (bits .exit)) (now (summary .exit)) (now («log_keys» .entry)) (now («log_values» .entry)) ⌝ }
@@ -143,7 +144,7 @@ fn take_step_back(
     used: usize,
     in_force: usize,
 ) -> Edited
-    requires { ⌜ Takeable m s (now keys) (now bits) n (now summary) (now «log_keys») (now «log_values») used «in_force» ⌝ }
+    requires { ⌜ Takeable (asLent m s (now keys) (now bits) n (now summary) (now «log_keys») (now «log_values») used «in_force») ⌝ }
     ensures { λ r. ⌜ TakenBack m s (now (keys .entry)) (now (bits .entry)) n (now (summary .entry)) (now («log_keys» .entry)) (now («log_values» .entry)) used «in_force»
         r (now (keys .exit)) (now (bits .exit)) (now (summary .exit)) (now («log_keys» .entry)) (now («log_values» .entry)) ⌝ }
 {

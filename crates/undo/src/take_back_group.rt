@@ -3,6 +3,7 @@ ghost use mathlib.Core.Path.{_≡_};
 ghost use mathlib.Core.Bool.{true};
 ghost use Rattle.definitions.specs.Read.{recordsOf};
 ghost use Rattle.definitions.specs.Log.{endsInMark};
+ghost use Rattle.definitions.specs.Calls.Edit.{asLent};
 ghost use Rattle.definitions.specs.Calls.TakeBack.{TakenBack};
 ghost use Rattle.undo.specs.TakingBackCall.{Takeable};
 use crate::group;
@@ -23,7 +24,7 @@ pub fn take_group_back(
     used: usize,
     in_force: usize,
 ) -> Edited
-    requires { ⌜ Takeable m s (now keys) (now bits) n (now summary) (now «log_keys») (now «log_values») used «in_force»
+    requires { ⌜ Takeable (asLent m s (now keys) (now bits) n (now summary) (now «log_keys») (now «log_values») used «in_force»)
         × (endsInMark (recordsOf (now «log_keys») (now «log_values») «in_force») ≡ true) ⌝ }
     ensures { λ r. ⌜ TakenBack m s (now (keys .entry)) (now (bits .entry)) n (now (summary .entry)) (now («log_keys» .entry)) (now («log_values» .entry)) used «in_force»
         r (now (keys .exit)) (now (bits .exit)) (now (summary .exit)) (now («log_keys» .entry)) (now («log_values» .entry)) ⌝ }

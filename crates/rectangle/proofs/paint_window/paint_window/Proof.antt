@@ -2,11 +2,12 @@
 -- the window is filled and the summary counted.
 use mathlib.Core.Path.{_≡_, sym, _∙_}
 use native.Mathlib.Omega.{arith}
-use Rattle.definitions.specs.Calls.PaintWindow.{paintWindowRefusal}
+use Rattle.definitions.specs.Calls.Edit.{editRefusal}
+use Rattle.definitions.specs.Calls.PaintWindow.{paintWindow}
+use Rattle.laws.proofs.Edits.{edit-refused}
 use Rattle.edit.proofs.EditCallTables.{passed-settings, passed-summary}
 use Rattle.rectangle.proofs.WindowFilled.{window-outdated, window-counted}
-use Rattle.rectangle.proofs.PaintWindowTable.{WindowPassed, window-passed, window-fillable, window-fresh}
-use Rattle.rectangle.proofs.PaintWindowAnswers.{window-refused, window-done}
+use Rattle.rectangle.proofs.PaintWindowTable.{WindowPassed, window-sheet, window-fits, window-fillable, window-fresh, window-done}
 use borrow.Author.Needs.{needs}
 use Rattle.rectangle.proofs.paint_window.paint_window.Statement.{statement}
 use Rattle.rectangle.proofs.paint_window.paint_window.Tie as tie
@@ -18,14 +19,14 @@ start c = c .before .before .before .before .before .before .before .before .bef
 -- nothing refuses it
 goes : (c : tie.Else1)
     → (let a = start (c .before) .args in
-    paintWindowRefusal (a .m) (a .s) (a .keys .now) (a .bits .now) (a .n) (a .summary .now) (a .log-keys .now) (a .log-values .now) (a .used) (a .in-force) (a .window) (a .feature) ≡ 0)
+    editRefusal (paintWindow (a .m) (a .s) (a .keys .now) (a .bits .now) (a .n) (a .summary .now) (a .log-keys .now) (a .log-values .now) (a .used) (a .in-force) (a .window) (a .feature)) ≡ 0)
 goes c = sym (c .before .decide .ensures .refusal-is) ∙ c .if1 .left
 
 -- so it has passed every row
 passed : (c : tie.Else1)
     → (let a = start (c .before) .args in
     WindowPassed (a .m) (a .s) (a .keys .now) (a .bits .now) (a .n) (a .summary .now) (a .log-keys .now) (a .log-values .now) (a .used) (a .in-force) (a .window) (a .feature))
-passed c = window-passed _ _ _ _ _ _ _ _ _ _ _ _ (goes c)
+passed c = record { none = goes c }
 
 decide-requires : tie.Need-decide-requires
 decide-requires c κs = search needs
@@ -46,7 +47,7 @@ same-length-5 : tie.Need-same-length-5
 same-length-5 c = search needs
 
 returns : tie.Need-returns
-returns c = window-refused _ _ _ _ _ _ _ _ _ _ _ _ _ (c .before .decide .ensures .refusal-is) (c .if1 .taken)
+returns c = edit-refused _ _ (c .before .decide .ensures .refusal-is) (c .if1 .taken)
 
 log-window-requires : tie.Need-log-window-requires
 log-window-requires c κs =
@@ -56,14 +57,14 @@ log-window-requires c κs =
 fill-window-requires : tie.Need-fill-window-requires
 fill-window-requires c κs =
     let p = passed (c .before .before .before .before .before .before .before .before .before .before .before .before .before) in
-    (window-fillable p, p .list-fits)
+    (window-fillable p, window-fits p)
 
 recount-requires : tie.Need-recount-requires
 recount-requires c κs =
     let filled = c .before .before .before .before .before .before .before in
     let d = filled .before .before .before .before .before .before .before .before .before .before .before .before .before .before in
     let p = passed d in
-    window-outdated _ (window-fillable p) (filled .fill-window .ensures) _ (let few = passed-settings (p .first-rows) .few in omega arith) (passed-summary (p .first-rows))
+    window-outdated _ (window-fillable p) (filled .fill-window .ensures) _ (let few = passed-settings (window-sheet p) .few in omega arith) (passed-summary (window-sheet p))
 
 same-length-6 : tie.Need-same-length-6
 same-length-6 c = search needs
@@ -85,7 +86,7 @@ returns-2 c =
     let filled = c .before .before .before .before .before .before .before .before .before .before in
     let logged = filled .before .before .before .before .before .before .before .before .before in
     let d = logged .before .before .before .before .before in
-    window-done _ _ _ _ _ _ _ _ _ _ _ _ (goes d) (logged .log-window .ensures) (filled .fill-window .ensures)
+    window-done (passed d) (logged .log-window .ensures) (filled .fill-window .ensures)
     (window-counted _ (window-fillable (passed d)) (filled .fill-window .ensures) _ (c .before .before .recount .ensures))
 
 pub paint-window-spec : {M : Type 1} → statement M

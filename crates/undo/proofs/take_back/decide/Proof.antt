@@ -11,7 +11,7 @@ use Rattle.undo.specs.TakingBackCall.{restorePlan}
 use Rattle.edit.proofs.Decided.{refuses, grants}
 use Rattle.edit.proofs.Planned.{old-there, few-levels, length-told}
 use Rattle.undo.proofs.TakingBackPlan.{key-valid, content-count, restore-found, restore-planned}
-use Rattle.undo.proofs.TakingBackTable.{list-full, room-enough}
+use Rattle.edit.proofs.EditCallTables.{room-told, room-clear}
 use borrow.Author.Needs.{needs}
 use Rattle.undo.proofs.take_back.decide.Statement.{statement}
 use Rattle.undo.proofs.take_back.decide.Tie as tie
@@ -71,15 +71,15 @@ length-after-requires c κs =
     (old-there planned, few-levels planned, omega (arith, there found, a .own .fits, start found .good))
 
 returns : tie.Need-returns
-returns c = refuses _ _ 9 _ (list-full _ _ _ _ _ _ (after-is (c .before)) (omega arith)) (λ e. omega arith)
+returns c = refuses _ _ 9 _ (room-told _ _ _ _ (after-is (c .before)) (omega arith)) (λ e. omega arith)
 
 returns-2 : tie.Need-returns-2
-returns-2 c = refuses _ _ 9 _ (list-full _ _ _ _ _ _ (after-is (c .before .before)) (omega arith)) (λ e. omega arith)
+returns-2 c = refuses _ _ 9 _ (room-told _ _ _ _ (after-is (c .before .before)) (omega arith)) (λ e. omega arith)
 
 returns-3 : tie.Need-returns-3
 returns-3 c =
     let found = c .before .before .before .before .before in
-    grants _ _ _ _ _ (room-enough _ _ _ _ _ _ (after-is (c .before .before)) (omega arith)) (found .last-entry .ensures) (plan-is (c .before .before .before))
+    grants _ _ _ _ _ (room-clear _ _ _ _ (after-is (c .before .before)) (omega arith)) (found .last-entry .ensures) (plan-is (c .before .before .before))
 
 pub decide-spec : {M : Type 1} → statement M
 decide-spec =

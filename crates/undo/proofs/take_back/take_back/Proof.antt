@@ -1,10 +1,12 @@
 -- `take_back::take_back` meets its contract: the refusals up to 11 leave all as it is; past them the last step is taken back.
-use mathlib.Core.Path.{sym, _∙_}
+use mathlib.Core.Path.{refl, sym, _∙_}
 use native.Mathlib.Omega.{arith}
+use borrow.Author.Tests.{eq-eqb}
+use Rattle.definitions.specs.Calls.Edit.{asLent}
+use Rattle.laws.proofs.First.{this}
+use Rattle.laws.proofs.Edits.{own-refuses, edit-refused}
 use Rattle.undo.specs.TakingBackCall.{Takeable}
-use Rattle.edit.proofs.EditCallTables.{first-passed}
-use Rattle.undo.proofs.TakingBackTable.{take-early, no-entry}
-use Rattle.undo.proofs.TakingBackAnswers.{take-refused}
+use Rattle.edit.proofs.EditCallTables.{edit-early, first-passed}
 use borrow.Author.Needs.{needs}
 use Rattle.undo.proofs.take_back.take_back.Statement.{statement}
 use Rattle.undo.proofs.take_back.take_back.Tie as tie
@@ -16,7 +18,7 @@ start c = c .before .before .before .before .before .before .before .before .bef
 -- the rows up to 11 are passed
 takeable : (c : tie.Else2)
     → (let a = start (c .before .before) .args in
-    Takeable (a .m) (a .s) (a .keys .now) (a .bits .now) (a .n) (a .summary .now) (a .log-keys .now) (a .log-values .now) (a .used) (a .in-force))
+    Takeable (asLent (a .m) (a .s) (a .keys .now) (a .bits .now) (a .n) (a .summary .now) (a .log-keys .now) (a .log-values .now) (a .used) (a .in-force)))
 takeable c = record { passed = sym (c .before .before .edit-refusal .ensures) ∙ c .before .if1 .left; some = let h = c .if2 .left in omega arith }
 
 edit-refusal-requires : tie.Need-edit-refusal-requires
@@ -38,7 +40,7 @@ same-length-5 : tie.Need-same-length-5
 same-length-5 c = search needs
 
 returns : tie.Need-returns
-returns c = take-refused _ _ _ _ _ _ _ _ _ _ _ (take-early _ _ _ _ _ _ _ _ _ _ _ (c .before .edit-refusal .ensures) (c .if1 .taken)) (c .if1 .taken)
+returns c = edit-refused _ _ (edit-early _ _ (c .before .edit-refusal .ensures) (c .if1 .taken)) (c .if1 .taken)
 
 same-length-6 : tie.Need-same-length-6
 same-length-6 c = search needs
@@ -58,7 +60,7 @@ same-length-10 c = search needs
 returns-2 : tie.Need-returns-2
 returns-2 c =
     let rows = first-passed _ (c .before .before .edit-refusal .ensures) (c .before .if1 .left) in
-    take-refused _ _ _ _ _ _ _ _ _ _ 11 (no-entry _ _ _ _ _ _ _ _ _ _ rows (c .if2 .taken)) (λ e. omega arith)
+    edit-refused _ 11 (own-refuses _ rows (this (eq-eqb _ 0 (c .if2 .taken)) refl)) (λ e. omega arith)
 
 take-step-back-requires : tie.Need-take-step-back-requires
 take-step-back-requires c κs = takeable (c .before .before .before .before .before)

@@ -3,15 +3,17 @@ use mathlib.Core.Path.{_≡_, sym, ap, _∙_}
 use native.Mathlib.Omega.{arith}
 use lib.ListN.{length}
 use Rattle.definitions.specs.Read.{recordsOf}
+use Rattle.definitions.specs.Calls.TakeBack.{restored}
 use Rattle.laws.proofs.LastStep.{before-single}
+use Rattle.laws.proofs.Edits.{edit-refused}
 use Rattle.log.specs.Entries.{lastEntry}
 use Rattle.log.proofs.Places.{start-is}
-use Rattle.undo.specs.TakingBackCall.{restoredRefusal, Restorable, restorePlan}
+use Rattle.edit.specs.EditCallChecks.{listRoomRefusal}
+use Rattle.undo.specs.TakingBackCall.{Restorable, restorePlan}
 use Rattle.edit.proofs.Decided.{refused, granted}
-use Rattle.edit.proofs.EditCallTables.{passed-settings, passed-summary}
+use Rattle.edit.proofs.EditCallTables.{room-fits, passed-settings, passed-summary}
 use Rattle.undo.proofs.TakingBackPlan.{restore-puttable, restore-made, restore-outdated, restore-counted}
-use Rattle.undo.proofs.TakingBackTable.{take-first, last-row, list-fits, passed-restorable}
-use Rattle.undo.proofs.TakingBackAnswers.{take-refused, take-done}
+use Rattle.undo.proofs.TakingBackTable.{take-sheet, take-row, take-done, passed-restorable}
 use borrow.Author.Needs.{needs}
 use Rattle.undo.proofs.take_back.take_entry_back.Statement.{statement}
 use Rattle.undo.proofs.take_back.take_entry_back.Tie as tie
@@ -23,7 +25,7 @@ start c = c .before .before .before .before .before .before .before .before
 -- nothing refuses it, and it goes by the last entry in force and its plan
 goes : (c : tie.After-known-told2)
     → (let a = start (c .before .before .before) .args in
-    (restoredRefusal (a .m) (recordsOf (a .keys .now) (a .bits .now) (a .n)) (recordsOf (a .log-keys .now) (a .log-values .now) (a .in-force)) (a .keys .now) (a .bits .now) ≡ 0)
+    (listRoomRefusal (restored (a .m) (recordsOf (a .keys .now) (a .bits .now) (a .n)) (recordsOf (a .log-keys .now) (a .log-values .now) (a .in-force))) (a .keys .now) (a .bits .now) ≡ 0)
     × (c .before .decision2 .given .0 .0 ≡ lastEntry (recordsOf (a .log-keys .now) (a .log-values .now) (a .in-force)))
     × (c .before .decision2 .given .0 .1 .0
     ≡ restorePlan (a .m) (recordsOf (a .keys .now) (a .bits .now) (a .n)) (recordsOf (a .log-keys .now) (a .log-values .now) (a .in-force))))
@@ -33,7 +35,7 @@ goes c = granted _ _ _ _ (c .before .before .before .decide .ensures) _ _ (c .be
 restorable : (c : tie.Start)
     → (let a = c .args in
     Restorable (a .m) (a .keys .now) (a .bits .now) (a .n) (a .log-keys .now) (a .log-values .now) (a .in-force))
-restorable c = passed-restorable (take-first _ _ _ _ _ _ _ _ _ _ (c .pre .0)) (c .pre .0 .some) (c .pre .1)
+restorable c = passed-restorable (take-sheet (c .pre .0)) (c .pre .0 .some) (c .pre .1)
 
 decide-requires : tie.Need-decide-requires
 decide-requires c κs = restorable (c .before .before .before .before .before .before .before)
@@ -50,7 +52,7 @@ same-length-2 c = search needs
 returns : tie.Need-returns
 returns c =
     let told = refused _ _ _ _ (c .before .before .before .decide .ensures) _ (c .before .decision .given .1) in
-    take-refused _ _ _ _ _ _ _ _ _ _ _ (told .0 ∙ last-row _ _ _ _ _ _ _ _ _ _ (start (c .before .before .before) .pre .0)) (told .1)
+    edit-refused _ _ (told .0 ∙ take-row (start (c .before .before .before) .pre .0)) (told .1)
 
 enum-known-decision-2 : tie.Need-enum-known-decision-2
 enum-known-decision-2 c = search needs
@@ -59,7 +61,7 @@ put-back-requires : tie.Need-put-back-requires
 put-back-requires c κs =
     let d = c .before .before in
     let a = restorable (start (d .before .before .before)) in
-    restore-puttable a _ (goes d .1) _ (goes d .2) (list-fits _ _ _ _ _ (goes d .0))
+    restore-puttable a _ (goes d .1) _ (goes d .2) (room-fits _ _ _ (goes d .0))
 
 recount-requires : tie.Need-recount-requires
 recount-requires c κs =
@@ -67,7 +69,7 @@ recount-requires c κs =
     let d = put .before .before .before in
     let first = start (d .before .before .before) in
     let a = restorable first in
-    let rows = take-first _ _ _ _ _ _ _ _ _ _ (first .pre .0) in
+    let rows = take-sheet (first .pre .0) in
     restore-outdated _ a _ (goes d .1) (restore-made a _ (goes d .1) _ (goes d .2) (put .put-back .ensures)) _
     (let few = passed-settings rows .few in omega arith)
     (passed-summary rows)
@@ -89,7 +91,7 @@ returns-2 c =
     let first = start (d .before .before .before) in
     let a = restorable first in
     let made = restore-made a _ (goes d .1) _ (goes d .2) (put .put-back .ensures) in
-    take-done _ _ _ _ _ _ _ _ _ _ (sym (last-row _ _ _ _ _ _ _ _ _ _ (first .pre .0)) ∙ goes d .0)
+    take-done (sym (take-row (first .pre .0)) ∙ goes d .0)
     (start-is (a .ended) _ (goes d .1) ∙ ap length (sym (before-single _ (first .pre .1)))) made
     (restore-counted _ a _ (goes d .1) made _ (counted .recount .ensures))
 

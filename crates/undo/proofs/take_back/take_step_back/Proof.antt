@@ -2,7 +2,7 @@
 use mathlib.Core.Path.{sym, _∙_}
 use native.Mathlib.Omega.{arith}
 use Rattle.edit.proofs.EditCallTables.{passed-force}
-use Rattle.undo.proofs.TakingBackTable.{take-first}
+use Rattle.undo.proofs.TakingBackTable.{take-sheet}
 use borrow.Author.Needs.{needs}
 use Rattle.undo.proofs.take_back.take_step_back.Statement.{statement}
 use Rattle.undo.proofs.take_back.take_step_back.Tie as tie
@@ -13,7 +13,7 @@ start c = c .before .before .before .before .before .before
 
 ends-in-mark-requires : tie.Need-ends-in-mark-requires
 ends-in-mark-requires c κs =
-    let room = passed-force (take-first _ _ _ _ _ _ _ _ _ _ (c .before .before .before .before .before .pre)) in
+    let room = passed-force (take-sheet (c .before .before .before .before .before .pre)) in
     (omega arith, omega arith)
 
 take-group-back-requires : tie.Need-take-group-back-requires

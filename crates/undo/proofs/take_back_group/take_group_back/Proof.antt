@@ -1,7 +1,9 @@
 -- `take_back_group::take_group_back` meets its contract: the deed over the last group's run puts its entries' contents back.
 use Rattle.undo.proofs.Applying.{applied-as}
 use Rattle.undo.proofs.GroupRuns.{group-back}
-use Rattle.undo.proofs.TakingBackGroup.{take-kept, take-group, group-full, group-taken}
+use Rattle.undo.proofs.StepAnswers.{step-full, step-applied}
+use Rattle.undo.proofs.TakingBackTable.{take-sheet, take-own}
+use Rattle.undo.proofs.TakingBackGroup.{take-kept, take-group}
 use borrow.Author.Needs.{needs}
 use Rattle.undo.proofs.take_back_group.take_group_back.Statement.{statement}
 use Rattle.undo.proofs.take_back_group.take_group_back.Tie as tie
@@ -35,7 +37,7 @@ returns : tie.Need-returns
 returns c =
     let applied = c .before .before .before .before .before .before .before in
     let found = run applied in
-    group-full (start found .pre .0) (applied-as (group-back (found .last-run .ensures) _) (applied .apply .ensures)) (c .if1 .taken)
+    step-full _ _ _ _ (take-sheet (start found .pre .0)) (take-own (start found .pre .0)) (applied-as (group-back (found .last-run .ensures) _) (applied .apply .ensures)) (c .if1 .taken)
 
 same-length-4 : tie.Need-same-length-4
 same-length-4 c = search needs
@@ -50,7 +52,7 @@ returns-2 : tie.Need-returns-2
 returns-2 c =
     let applied = c .before .before .before .before .before .before .before in
     let found = run applied in
-    group-taken (start found .pre .0) (applied-as (group-back (found .last-run .ensures) _) (applied .apply .ensures)) _ (c .if1 .left) (found .last-run .ensures .start-is)
+    step-applied _ _ _ _ (take-sheet (start found .pre .0)) (take-own (start found .pre .0)) (applied-as (group-back (found .last-run .ensures) _) (applied .apply .ensures)) (c .if1 .left) (found .last-run .ensures .start-is)
 
 pub take-group-back-spec : {M : Type 1} → statement M
 take-group-back-spec =

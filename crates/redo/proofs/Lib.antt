@@ -1,4 +1,0 @@
-pub mod RedoTable
-pub mod RedoPlan
-pub mod RedoAnswers
-pub mod RedoGroup
