@@ -12,6 +12,7 @@ ghost use Rattle.list.specs.Own.{OwnList, shownBy};
 ghost use Rattle.summary.specs.Kept.{RowsKept, KeepingAsked, KeepingAnswered, FirstNode};
 use crate::blocks;
 use crate::pass;
+use definitions::refusal::Refusal;
 use keys::Key;
 use keys::power;
 use list::check;
@@ -188,10 +189,10 @@ pub fn list_refusal(
     ensures { λ _. ⌜ RowsKept (take n (now (bits .entry))) (4 ^ summaryHeight m) (now (rows .exit)) (now (places .exit)) ⌝ }
 {
     if settings::are_bad(m, s) {
-        return 1;
+        return Refusal::SETTINGS;
     }
     if !is_list(m, s, keys, bits, n, rows, places) {
-        return 4;
+        return Refusal::LIST;
     }
     0
 }
