@@ -28,7 +28,7 @@ use Rattle.definitions.specs.Calls.TakeBack.{restored, takeBackRefusal, 
 use Rattle.definitions.specs.Calls.Redo.{redone, redoRefusal, forceAfter, redo, redoKeys, redoBits, redoSummary}
 use Rattle.definitions.specs.Calls.Store.{stored, storeRefusal, store, storeFile}
 use Rattle.definitions.specs.Calls.Load.{loadRefusal, load, loadKeys, loadBits}
-use Rattle.definitions.proofs.Vectors.{VectorRow, row, Holds, shown, window, of-counted, of-edited, unwritten}
+use Rattle.definitions.proofs.Vectors.{VectorRow, row, RowHolds, shown, window, of-counted, of-edited, unwritten}
 
 abbrev truth : Bool → ℕ
 truth b = cond b 1 0
@@ -153,7 +153,7 @@ table =
     picture : ℕ → ℕ → ℕ
     picture = pictureOfRaster 1 pixels
 
-claim : Holds table
+claim : RowHolds table
 unfolding
     table
     validKey digitsOf digitsThenZeros onlyZeros levelOf digitsBeforeZero heightOf rowOf columnOf sideOf inBlock pixelKey
