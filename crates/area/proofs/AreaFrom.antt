@@ -9,7 +9,7 @@ use borrow.Author.Tests.{le-leb, lt-leb, lt-ltb, le-ltb}
 use Rattle.keys.specs.Block.{pixelKey}
 use Rattle.keys.proofs.Cases.{decide, split}
 use Rattle.keys.specs.Under.{MapBlock, InSquare}
-use Rattle.keys.proofs.Pixel.{inside, back, pixelKey-lt}
+use Rattle.keys.proofs.Pixel.{inside, pixel-back, pixelKey-lt}
 use Rattle.definitions.specs.Picture.{Picture}
 use Rattle.definitions.specs.Window.{isWindow, inWindow}
 use Rattle.definitions.specs.Area.{areaIn}
@@ -87,7 +87,7 @@ module _ (m : ℕ) (p : Picture) (w : Window) (f : ℕ) where
     only-block row column i out =
         split (pixelKey m row column) (κ + 5 ^ k)
         (λ until. within-low κ (κ + 5 ^ k) row column until ∙ split (pixelKey m row column) κ (λ before. none-from κ row column before)
-        (λ from. absurd (out (back row column b (omega arith) (omega arith) (record { from = from; until = until })))))
+        (λ from. absurd (out (pixel-back row column b (omega arith) (omega arith) (record { from = from; until = until })))))
         (λ past. within-past κ (κ + 5 ^ k) row column past)
 
     -- and all of the block's pixels belong to it

@@ -106,7 +106,7 @@ four-sides m k e =
     (λ same. omega arith))
 
 -- the digits as the code reads them
-pub record Read (key step : ℕ) : Type 0 where
+pub record NumberRead (key step : ℕ) : Type 0 where
   pub some : 0 < step
   pub first-from : 1 ≤ key / step / 5
   pub first-to : key / step / 5 ≤ 4
@@ -124,7 +124,7 @@ module _ {m : ℕ} {t : Spot} (h : BlockSpot m t) (level : t .side * 4 ≡ 2 ^ m
   unfolding summaryNumber
   number-is = ap (λ x. (t .key / x / 5 - 1) * 4 + (t .key / x % 5 - 1)) (h .step) ∙ number-read digits
 
-  pub digits-in : Read (t .key) (t .step)
+  pub digits-in : NumberRead (t .key) (t .step)
   digits-in =
       let e : t .key / t .step ≡ digits .first * 5 + digits .second = ap (λ x. t .key / x) (h .step) ∙ digits-read digits in
       let d = digits in

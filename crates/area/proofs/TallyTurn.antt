@@ -17,7 +17,7 @@ use Rattle.laws.proofs.Features.{one-pixel}
 use Rattle.laws.proofs.CountOf.{pixels-most, pixels-one, pixels-none}
 use Rattle.list.specs.Check.{oneSlot}
 use Rattle.list.specs.Shown.{ShownAt}
-use Rattle.list.proofs.OneSlot.{slot-power}
+use Rattle.list.proofs.OneSlot.{one-slot-power}
 use Rattle.list.proofs.Shown.{shown-room, leaf-one, leaf-feature, leaf-length, node-several}
 use Rattle.list.proofs.ShownQuadrants.{Left, left-all, left-shown, left-then, left-none}
 use Rattle.list.specs.Quadrants.{quadrantRow, quadrantColumn}
@@ -35,7 +35,7 @@ leaf-tallied {p} {k} {r} {c} {bits = bits} {at} s leaf bit one =
     (λ e. ap (λ b. cond b (4 ^ k) 0) (eq-eqb (getD bits at 0) bit e) ∙ sym (pixels-one p k r c (leaf-one s leaf) (featureOf bit) (ap featureOf (sym e) ∙ leaf-feature s leaf)))
     (λ e. ap (λ b. cond b (4 ^ k) 0) (ne-eqb (getD bits at 0) bit e)
     ∙ sym (pixels-none p k r c (leaf-one s leaf) (featureOf bit)
-    (λ same. e (slot-power (getD bits at 0) leaf ∙ ap (λ x. 2 ^ x) (leaf-feature s leaf ∙ sym same) ∙ sym (slot-power bit one)))))
+    (λ same. e (one-slot-power (getD bits at 0) leaf ∙ ap (λ x. 2 ^ x) (leaf-feature s leaf ∙ sym same) ∙ sym (one-slot-power bit one)))))
 
 node-tallied : {p : Picture} (k : ℕ) {r c κ : ℕ} {bits : List ℕ} {at area f : ℕ} {t : Measure}
     → NodeTallied bits at area f t
@@ -56,26 +56,26 @@ pub shown-tallied : {p : Picture} {k r c κ : ℕ} {bits : List ℕ} {at area f 
 shown-tallied {k = k} x s several e = node-tallied k x s several e
 
 -- after some turns: the quadrants that are left follow, and the pixels of those before are counted
-pub record Passed (p : Picture) (k r c κ : ℕ) (bits : List ℕ) (at f pixels next d : ℕ) : Type 0 where
+pub record TallyPassed (p : Picture) (k r c κ : ℕ) (bits : List ℕ) (at f pixels next d : ℕ) : Type 0 where
   pub left : Left p k r c κ bits at next d
   pub counted : pixels ≡ firstPixels p k r c d f
 
 -- the same of whichever node the bitstrings show
-pub record Reached (bits : List ℕ) (at area f pixels next d : ℕ) : Type 0 where
+pub record TallyReached (bits : List ℕ) (at area f pixels next d : ℕ) : Type 0 where
   pub most : d ≤ 4
   pub passed : (p : Picture) (k r c κ : ℕ)
       → ShownAt p (suc k) r c κ bits at
       → oneFeature p (suc k) r c ≡ false
       → area ≡ 4 ^ suc k
-      → Passed p k r c κ bits at f pixels next d
+      → TallyPassed p k r c κ bits at f pixels next d
 
-pub reached-none : (bits : List ℕ) (at area f : ℕ) → Reached bits at area f 0 (at + 1) 0
-reached-none bits at area f = record {
+pub tally-reached-none : (bits : List ℕ) (at area f : ℕ) → TallyReached bits at area f 0 (at + 1) 0
+tally-reached-none bits at area f = record {
   most = omega arith;
   passed = λ p k r c κ s several e. record { left = left-all s several; counted = sym (first-none p k r c f) };
 }
 
-module _ {bits : List ℕ} {at area f pixels next d : ℕ} (x : Reached bits at area f pixels next d) where
+module _ {bits : List ℕ} {at area f pixels next d : ℕ} (x : TallyReached bits at area f pixels next d) where
   -- one quadrant more
   turned : (t : Measure) (pixels′ next′ : ℕ) → d < 4
       → ((p : Picture) (k r c κ : ℕ)
@@ -84,7 +84,7 @@ module _ {bits : List ℕ} {at area f pixels next d : ℕ} (x : Reached bits at 
       → BlockTallied p k (quadrantRow d r (2 ^ k)) (quadrantColumn d c (2 ^ k)) (childKey κ k (suc d)) next f t)
       → pixels′ ≡ pixels + t .pixels
       → next′ ≡ t .next
-      → Reached bits at area f pixels′ next′ (d + 1)
+      → TallyReached bits at area f pixels′ next′ (d + 1)
   turned t pixels′ next′ h one more past = record {
     most = omega arith;
     passed = λ p k r c κ s several e.
@@ -101,7 +101,7 @@ module _ {bits : List ℕ} {at area f pixels next d : ℕ} (x : Reached bits at 
       → NodeTallied bits next (area / 4) f t
       → pixels′ ≡ pixels + t .pixels
       → next′ ≡ t .next
-      → Reached bits at area f pixels′ next′ (d + 1)
+      → TallyReached bits at area f pixels′ next′ (d + 1)
   node-turn t pixels′ next′ h node y = turned t pixels′ next′ h (λ p k r c κ s q. shown-tallied y s (node-several s node) q)
 
   -- after four turns the node is counted
@@ -115,7 +115,7 @@ module _ {bits : List ℕ} {at area f pixels next d : ℕ} (x : Reached bits at 
 
   -- what the code may do at a turn, since the bitstrings show some node
   module _ (node : NodeAt bits at area) (h : d < 4) where
-    now-passed : Passed (node .picture) (node .height) (node .row) (node .column) (node .key) bits at f pixels next d
+    now-passed : TallyPassed (node .picture) (node .height) (node .row) (node .column) (node .key) bits at f pixels next d
     now-passed = x .passed _ _ _ _ _ (node .shown) (node .several) (node .pixels)
 
     pub next-room : next < length bits
@@ -143,13 +143,13 @@ module _ {bits : List ℕ} {at area f pixels next d : ℕ} (x : Reached bits at 
         omega arith
 
 -- a leaf among the quadrants
-pub leaf-turn : (bit : ℕ) {bits : List ℕ} {at area pixels next d : ℕ} → Reached bits at area (featureOf bit) pixels next d → oneSlot bit ≡ true
+pub leaf-turn : (bit : ℕ) {bits : List ℕ} {at area pixels next d : ℕ} → TallyReached bits at area (featureOf bit) pixels next d → oneSlot bit ≡ true
     → (more pixels′ next′ : ℕ) → d < 4
     → oneSlot (getD bits next 0) ≡ true
     → more ≡ cond (eqb (getD bits next 0) bit) (area / 4) 0
     → pixels′ ≡ pixels + more
     → next′ ≡ next + 1
-    → Reached bits at area (featureOf bit) pixels′ next′ (d + 1)
+    → TallyReached bits at area (featureOf bit) pixels′ next′ (d + 1)
 leaf-turn bit {bits} {next = next} x one more pixels′ next′ h leaf e sum past =
     turned x (record { pixels = more; next = next + 1 }) pixels′ next′ h
     (λ p k r c κ s q. record {

@@ -29,15 +29,15 @@ use Rattle.batch.specs.declared.begin.BatchState.{BatchState}
 use Rattle.batch.proofs.begin.BatchState as BatchState
 use Rattle.batch.proofs.begin.BatchState.Laws as State′
 use Rattle.lending.proofs.Chains.{chain, apart, together, after-nothing}
-use Rattle.lending.proofs.Slices.{Slice, val, token, shared, mutable}
+use Rattle.lending.proofs.Slices.{LentSlice, val, token, shared, mutable}
 use Rattle.lending.proofs.TwoLent.{each-answer}
-use Rattle.batch.proofs.RunSlices.{BatchSlices, stateVals, valOf, reads, tokens, answers, each-read, each-token}
+use Rattle.batch.proofs.RunSlices.{BatchSlices, batchStateVals, questionVal, reads, tokens, answers, each-read, each-token}
 use Rattle.batch.proofs.RunTurns.{Turn, all-ran}
 use Rattle.batch.proofs.run.run as run′
 
 -- what is had of the parameters at exit: the two answer slices
-abbrev pub stayed : Stays (run′.ended .signature .params) (run′.ended .kept)
-stayed = (
+abbrev pub batch-stayed : Stays (run′.ended .signature .params) (run′.ended .kept)
+batch-stayed = (
   stay-dropped (shrSliceOf (0 ∷ []) tt (plain (λ _. Question.the-row))) yes,
   (
     stay-dropped (shrSliceOf (1 ∷ []) tt (plain (λ _. u32))) yes,
@@ -49,18 +49,18 @@ stayed = (
 )
 
 -- the machine values of the parameters
-abbrev pub machine : Slice Question.the-row → BatchSlices → BatchState → List Val
-machine questions S state = val questions ∷ val (S .keys) ∷ val (S .bits) ∷ val (S .refusals) ∷ val (S .values) ∷ valOf state ∷ []
+abbrev pub batch-machine : LentSlice Question.the-row → BatchSlices → BatchState → List Val
+batch-machine questions S state = val questions ∷ val (S .keys) ∷ val (S .bits) ∷ val (S .refusals) ∷ val (S .values) ∷ questionVal state ∷ []
 
 -- of the questions the fractured borrow is enough
-abbrev pub sharedQuestions : Slice Question.the-row → Fml
+abbrev pub sharedQuestions : LentSlice Question.the-row → Fml
 sharedQuestions questions = fshr-bor (questions .κ) (λ s. arr-parts (shares Question.the-row) (length (questions .x .now)) .part s (questions .x .now) (questions .x .ptr .0) (questions .x .ptr .1))
 
 -- what the walk begins with
-abbrev pub held : {M : Type 1} (𝓤 : URA M) → Slice Question.the-row → BatchSlices → Item 𝓤
-held 𝓤 questions S = ‵ (sharedQuestions questions) ⊛ ‵ (token questions) ⊛ ‵ (reads S) ⊛ ‵ (tokens S) ⊛ ‵ (answers S (S .refusals .x .now) (S .values .x .now))
+abbrev pub batch-held : {M : Type 1} (𝓤 : URA M) → LentSlice Question.the-row → BatchSlices → Item 𝓤
+batch-held 𝓤 questions S = ‵ (sharedQuestions questions) ⊛ ‵ (token questions) ⊛ ‵ (reads S) ⊛ ‵ (tokens S) ⊛ ‵ (answers S (S .refusals .x .now) (S .values .x .now))
 
-module _ {M : Type 1} (𝓤 : URA M) (H : Heap 𝓤) (A : Atoms 𝓤) (W : Given 𝓤 H A) (mem : Memory → SProp 𝓤) (run : Routine → Fun 𝓤) (questions : Slice Question.the-row) (S : BatchSlices) (state : BatchState) where
+module _ {M : Type 1} (𝓤 : URA M) (H : Heap 𝓤) (A : Atoms 𝓤) (W : Given 𝓤 H A) (mem : Memory → SProp 𝓤) (run : Routine → Fun 𝓤) (questions : LentSlice Question.the-row) (S : BatchSlices) (state : BatchState) where
   abbrev lifetimes : Lfts 5
   lifetimes = (questions .κ, (S .keys .κ, (S .bits .κ, (S .refusals .κ, (S .values .κ, tt)))))
 
@@ -71,25 +71,25 @@ module _ {M : Type 1} (𝓤 : URA M) (H : Heap 𝓤) (A : Atoms 𝓤) (W : Given
   a = (questions .x, (S .keys .x, (S .bits .x, (S .refusals .x, (S .values .x, (state, tt))))))
 
   abbrev vals : Vals run′.signature lifetimes
-  vals = (val questions ∷ [], (val (S .keys) ∷ [], (val (S .bits) ∷ [], (val (S .refusals) ∷ [], (val (S .values) ∷ [], (stateVals state, tt))))))
+  vals = (val questions ∷ [], (val (S .keys) ∷ [], (val (S .bits) ∷ [], (val (S .refusals) ∷ [], (val (S .values) ∷ [], (batchStateVals state, tt))))))
 
-  abbrev bound : walkOf 𝓤 H A run′.ended stayed (run′.clauses 𝓤 H A mem run) .Ghost
+  abbrev bound : walkOf 𝓤 H A run′.ended batch-stayed (run′.clauses 𝓤 H A mem run) .Ghost
   bound = ((lifetimes, sharesOf, tt, a, vals), tt)
 
   abbrev pub AtEntry : SProp 𝓤
   AtEntry = onEntry 𝓤 H A run′.signature lifetimes sharesOf a vals
 
   abbrev pub AtExit : Val → SProp 𝓤
-  AtExit = walkOf 𝓤 H A run′.ended stayed (run′.clauses 𝓤 H A mem run) .post bound
+  AtExit = walkOf 𝓤 H A run′.ended batch-stayed (run′.clauses 𝓤 H A mem run) .post bound
 
   abbrev each-token-at-entry : List Fml
   each-token-at-entry = token questions ∷ token (S .keys) ∷ token (S .bits) ∷ token (S .refusals) ∷ token (S .values) ∷ []
 
   abbrev each-parameter : List Fml
   each-parameter = shared questions ∷ shared (S .keys) ∷ shared (S .bits)
-      ∷ mutable (S .refusals) (S .refusals .x .now) ∷ mutable (S .values) (S .values .x .now) ∷ BatchState.the-row .own state (stateVals state) ∷ []
+      ∷ mutable (S .refusals) (S .refusals .x .now) ∷ mutable (S .values) (S .values .x .now) ∷ BatchState.the-row .own state (batchStateVals state) ∷ []
 
-  pub enters : ent 𝓤 AtEntry (mean 𝓤 H A (held 𝓤 questions S))
+  pub enters : ent 𝓤 AtEntry (mean 𝓤 H A (batch-held 𝓤 questions S))
   enters =
       qed W (‵ (chain each-token-at-entry) ∷ ‵ (chain each-parameter) ∷ []) ∵ apart ! each-token-at-entry $ move ! (5 ∷ []) $ apart ! each-parameter $
       -- [0 to 5 the parameters; 6 to 10 the tokens]
@@ -105,10 +105,10 @@ module _ {M : Type 1} (𝓤 : URA M) (H : Heap 𝓤) (A : Atoms 𝓤) (W : Given
   abbrev Last : Turn S (questions .x .now) state → List (Item 𝓤)
   Last t = ‵ (token questions) ∷ ‵ (tokens S) ∷ ‵ (answers S (t .found .first) (t .found .second)) ∷ []
 
-  pub exits : (t : Turn S (questions .x .now) state) → length (questions .x .now) ≤ t .i → ent 𝓤 (⋆ 𝓤 H A (Last t)) (AtExit (valOf (t .found .result)))
+  pub exits : (t : Turn S (questions .x .now) state) → length (questions .x .now) ≤ t .i → ent 𝓤 (⋆ 𝓤 H A (Last t)) (AtExit (questionVal (t .found .result)))
   exits t over =
       qed W (Last t) ∵
-      suffices ! _ (ends-at 𝓤 H A run′.ended stayed (run′.clauses 𝓤 H A mem run) W bound (valOf (t .found .result)) (t .found .result) (tt, (tt, (tt, (t .found .first, (t .found .second, (tt, tt))))))
+      suffices ! _ (ends-at 𝓤 H A run′.ended batch-stayed (run′.clauses 𝓤 H A mem run) W bound (questionVal (t .found .result)) (t .found .result) (tt, (tt, (tt, (t .found .first, (t .found .second, (tt, tt))))))
       (tt, (tt, (tt, (t .found .first-length, (t .found .second-length, (tt, tt))))))) $ says ! (all-ran S (questions .x .now) state t over) $
       move ! (1 ∷ []) $ apart ! (each-token S) $ move ! (3 ∷ []) $ apart ! (each-answer (S .refusals) (S .values) (t .found .first) (t .found .second)) $
       -- [0 refusals, 1 its token; 2 values, 3 its token; 4 and 5 the two tokens; 6 the questions' token]

@@ -24,24 +24,24 @@ use Rattle.batch.specs.declared.begin.BatchState.{BatchState}
 use Rattle.batch.proofs.begin.BatchState as BatchState
 use Rattle.batch.proofs.begin.BatchState.Laws as State′
 use Rattle.lending.proofs.Chains.{chain, apart, together}
-use Rattle.lending.proofs.Slices.{Slice, token, shared, lent, copied}
+use Rattle.lending.proofs.Slices.{LentSlice, token, shared, lent, copied}
 use Rattle.lending.proofs.TwoLent.{TwoGiven, answers as answersOf}
 
 pub record BatchSlices : Type 0 where
-  pub keys : Slice u32
-  pub bits : Slice u32
-  pub refusals : Slice u32
-  pub values : Slice u32
+  pub keys : LentSlice u32
+  pub bits : LentSlice u32
+  pub refusals : LentSlice u32
+  pub values : LentSlice u32
 
 -- the machine values of a state
-abbrev pub stateVals : BatchState → List Val
-stateVals = LL.vals BatchState.the-type State′.the-laws
+abbrev pub batchStateVals : BatchState → List Val
+batchStateVals = LL.vals BatchState.the-type State′.the-laws
 
-abbrev pub valOf : BatchState → Val
-valOf = LL.val BatchState.the-type State′.the-laws
+abbrev pub questionVal : BatchState → Val
+questionVal = LL.val BatchState.the-type State′.the-laws
 
-pub typed-state : {M : Type 1} {𝓤 : URA M} {H : Heap 𝓤} {A : Atoms 𝓤} (W : Given 𝓤 H A) (r : BatchState) → Is BatchState.the-row r (stateVals r) → T (hasTy State′.mir (valOf r)) × WT (valOf r)
-typed-state {𝓤 = 𝓤} {H = H} {A = A} W r is = LL.lawful BatchState.the-type State′.the-laws 𝓤 H A W .typed r (stateVals r) is .0
+pub typed-batch-state : {M : Type 1} {𝓤 : URA M} {H : Heap 𝓤} {A : Atoms 𝓤} (W : Given 𝓤 H A) (r : BatchState) → Is BatchState.the-row r (batchStateVals r) → T (hasTy State′.mir (questionVal r)) × WT (questionVal r)
+typed-batch-state {𝓤 = 𝓤} {H = H} {A = A} W r is = LL.lawful BatchState.the-type State′.the-laws 𝓤 H A W .typed r (batchStateVals r) is .0
 
 module _ (S : BatchSlices) where
   abbrev pub each-read : List Fml
@@ -81,14 +81,14 @@ module _ (S : BatchSlices) where
     call-tokens = chain each-call-token
 
     abbrev pub each-passed : GName → GName → List ℕ → List ℕ → BatchState → List Fml
-    each-passed δ δ′ l l′ r = shared (S .keys) ∷ shared (S .bits) ∷ lent (S .refusals) ν δ l ∷ lent (S .values) ν′ δ′ l′ ∷ BatchState.the-row .own r (stateVals r) ∷ []
+    each-passed δ δ′ l l′ r = shared (S .keys) ∷ shared (S .bits) ∷ lent (S .refusals) ν δ l ∷ lent (S .values) ν′ δ′ l′ ∷ BatchState.the-row .own r (batchStateVals r) ∷ []
 
     module _ {M : Type 1} {𝓤 : URA M} {H : Heap 𝓤} {A : Atoms 𝓤} {K : Type 0} (W : Given 𝓤 H A) {Γ : List (Item 𝓤)} {G : Goal 𝓤 H} where
-      pub gathers : K → (δ δ′ : GName) (l l′ : List ℕ) (r : BatchState) → Is BatchState.the-row r (stateVals r)
+      pub gathers : K → (δ δ′ : GName) (l l′ : List ℕ) (r : BatchState) → Is BatchState.the-row r (batchStateVals r)
           → Step K W (‵ call-tokens ∷ ‵ (chain (each-passed δ δ′ l l′ r)) ∷ Γ) G
           (‵ reads ∷ ‵ tokens ∷ ‵ (flft (ν ∷ []) fullShare) ∷ ‵ (flft (ν′ ∷ []) fullShare) ∷ ‵ (lent (S .refusals) ν δ l) ∷ ‵ (lent (S .values) ν′ δ′ l′) ∷ Γ) G
       gathers t δ δ′ l l′ r is = step (λ z.
-          apart t each-read $ owned t BatchState.the-row (Is BatchState.the-row) (LL.makes BatchState.the-type State′.the-plain 𝓤 H A) r (stateVals r) is $
+          apart t each-read $ owned t BatchState.the-row (Is BatchState.the-row) (LL.makes BatchState.the-type State′.the-plain 𝓤 H A) r (batchStateVals r) is $
           -- [the state; keys, bits; the tokens; ν; ν′; refusals, values]
           move t (1 ∷ 2 ∷ 6 ∷ 7 ∷ 0 ∷ []) $ together t (each-passed δ δ′ l l′ r) $
           -- [what is passed; the tokens; ν; ν′]

@@ -12,7 +12,7 @@ use Rattle.batch.specs.Run.{Answering, answeringOf, BatchReady, batchSte
 use Rattle.batch.specs.declared.begin.BatchState.{BatchState}
 use Rattle.batch.proofs.begin.BatchState as BatchState
 use Rattle.batch.proofs.Fold.{run-none, run-next, run-all, ready-fewer, ready-step}
-use Rattle.batch.proofs.RunSlices.{BatchSlices, stateVals, Result}
+use Rattle.batch.proofs.RunSlices.{BatchSlices, batchStateVals, Result}
 
 module _ (S : BatchSlices) (questions : List Question) (start : BatchState) where
   abbrev K : List ℕ
@@ -41,7 +41,7 @@ module _ (S : BatchSlices) (questions : List Question) (start : BatchState) wher
   abbrev pub Stepped : Turn → Type 0
   Stepped t = Result S (batchStep K B (question t) (answeringOf (t .found .result) (t .found .first) (t .found .second)))
 
-  abbrev pub first-turn : Is BatchState.the-row start (stateVals start) → BatchReady K B (length questions) entry → Turn
+  abbrev pub first-turn : Is BatchState.the-row start (batchStateVals start) → BatchReady K B (length questions) entry → Turn
   first-turn fits ready = record {
     i = 0;
     small = omega arith;

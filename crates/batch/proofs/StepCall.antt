@@ -34,7 +34,7 @@ use Rattle.batch.proofs.begin.BatchState.Laws as State′
 use Rattle.lending.proofs.Slices.{val, at-list}
 use Rattle.lending.proofs.Calling.{Gives}
 use Rattle.lending.proofs.TwoLent.{Lending, two-lent}
-use Rattle.batch.proofs.RunSlices.{BatchSlices, stateVals, valOf, reads, tokens, answers, ReadyAt, Result, call-tokens, gathers, scatters}
+use Rattle.batch.proofs.RunSlices.{BatchSlices, batchStateVals, questionVal, reads, tokens, answers, ReadyAt, Result, call-tokens, gathers, scatters}
 use Rattle.batch.proofs.step.step as step
 use Rattle.batch.proofs.step.step.Symbol.{name as #step}
 
@@ -43,25 +43,25 @@ abbrev pub questionVals : Question → List Val
 questionVals = LL.vals Question.the-type Question′.the-laws
 
 -- the contract of `step`
-abbrev pub Step : {M : Type 1} (𝓤 : URA M) (H : Heap 𝓤) (A : Atoms 𝓤) (mem : Memory → SProp 𝓤) (run : Routine → Fun 𝓤) → Contract 𝓤
-Step 𝓤 H A mem run = tripleOf 𝓤 H A step.signature (step.spec 𝓤 H A mem run)
+abbrev pub BatchStep : {M : Type 1} (𝓤 : URA M) (H : Heap 𝓤) (A : Atoms 𝓤) (mem : Memory → SProp 𝓤) (run : Routine → Fun 𝓤) → Contract 𝓤
+BatchStep 𝓤 H A mem run = tripleOf 𝓤 H A step.signature (step.spec 𝓤 H A mem run)
 
 -- what the contract of `step`, or of `run`, binds of its parameters at exit: of the fourth and the fifth the last elements
 abbrev pub Bound : Type 0
 Bound = Unit {0} × (Unit {0} × (Unit {0} × (List ℕ × (List ℕ × (Unit {0} × Unit {0})))))
 
-abbrev pub first-of : Bound → List ℕ
-first-of zs = zs .1 .1 .1 .0
+abbrev pub first-question : Bound → List ℕ
+first-question zs = zs .1 .1 .1 .0
 
 abbrev pub second-of : Bound → List ℕ
 second-of zs = zs .1 .1 .1 .1 .0
 
 -- the machine values that `step` is passed
-abbrev pub passes : BatchSlices → Question → BatchState → List Val
-passes S q r = LL.val Question.the-type Question′.the-laws q ∷ val (S .keys) ∷ val (S .bits) ∷ val (S .refusals) ∷ val (S .values) ∷ valOf r ∷ []
+abbrev passes : BatchSlices → Question → BatchState → List Val
+passes S q r = LL.val Question.the-type Question′.the-laws q ∷ val (S .keys) ∷ val (S .bits) ∷ val (S .refusals) ∷ val (S .values) ∷ questionVal r ∷ []
 
 module _ {M : Type 1} (𝓤 : URA M) (H : Heap 𝓤) (A : Atoms 𝓤) (W : Given 𝓤 H A) (mem : Memory → SProp 𝓤) (run : Routine → Fun 𝓤) (C : Calls 𝓤 H)
-    (fm : FmC 𝓤 H (W .laws) C) (known : Triple 𝓤 (C #step) (Step 𝓤 H A mem run)) (S : BatchSlices) (q : Question) (r : BatchState) (l l′ : List ℕ) where
+    (fm : FmC 𝓤 H (W .laws) C) (known : Triple 𝓤 (C #step) (BatchStep 𝓤 H A mem run)) (S : BatchSlices) (q : Question) (r : BatchState) (l l′ : List ℕ) where
   abbrev stepped : Type 0
   stepped = Result S (batchStep (S .keys .x .now) (S .bits .x .now) q (answeringOf r l l′))
 
@@ -71,25 +71,25 @@ module _ {M : Type 1} (𝓤 : URA M) (H : Heap 𝓤) (A : Atoms 𝓤) (W : Given
   abbrev sharesOf : Unit {0} → Shares 4
   sharesOf _ = (S .keys .q, (S .bits .q, (fullShare, (fullShare, tt))))
 
-  abbrev to-step : ℕ → ℕ → GName → GName → Step 𝓤 H A mem run .Ghost
+  abbrev to-step : ℕ → ℕ → GName → GName → BatchStep 𝓤 H A mem run .Ghost
   to-step ν ν′ δ δ′ = (
     (
       lifetimes ν ν′,
       sharesOf tt,
       tt,
       (q, (S .keys .x, (S .bits .x, (at-list (S .refusals) δ l, (at-list (S .values) δ′ l′, (r, tt)))))),
-      (questionVals q, (val (S .keys) ∷ [], (val (S .bits) ∷ [], (val (S .refusals) ∷ [], (val (S .values) ∷ [], (stateVals r, tt)))))),
+      (questionVals q, (val (S .keys) ∷ [], (val (S .bits) ∷ [], (val (S .refusals) ∷ [], (val (S .values) ∷ [], (batchStateVals r, tt)))))),
     ),
     tt,
   )
 
-  module _ (is-question : Is Question.the-row q (questionVals q)) (is-state : Is BatchState.the-row r (stateVals r))
+  module _ (is-question : Is Question.the-row q (questionVals q)) (is-state : Is BatchState.the-row r (batchStateVals r))
       (ready : ReadyAt S 1 (answeringOf r l l′))
       (len : length l ≡ length (S .refusals .x .now)) (len′ : length l′ ≡ length (S .values .x .now)) where
     abbrev P : Item 𝓤
     P = ‵ (reads S) ⊛ ‵ (tokens S)
 
-    asks : (ν ν′ : ℕ) (δ δ′ : GName) → ent 𝓤 (⋆ 𝓤 H A (Lending (S .refusals) (S .values) 𝓤 P l l′ ν ν′ δ δ′)) (Step 𝓤 H A mem run .pre (to-step ν ν′ δ δ′))
+    asks : (ν ν′ : ℕ) (δ δ′ : GName) → ent 𝓤 (⋆ 𝓤 H A (Lending (S .refusals) (S .values) 𝓤 P l l′ ν ν′ δ δ′)) (BatchStep 𝓤 H A mem run .pre (to-step ν ν′ δ δ′))
     asks ν ν′ δ δ′ =
         qed W (Lending (S .refusals) (S .values) 𝓤 P l l′ ν ν′ δ δ′) ∵ says ! ready $ split ! $ gathers S ν ν′ W ! δ δ′ l l′ r is-state $ frame ! $
         owned ! Question.the-row (Is Question.the-row) (LL.makes Question.the-type Question′.the-plain 𝓤 H A) q _ is-question $ fjoin ! $ done !
@@ -97,8 +97,8 @@ module _ {M : Type 1} (𝓤 : URA M) (H : Heap 𝓤) (A : Atoms 𝓤) (W : Given
     back : (ν ν′ : ℕ) → ent 𝓤 (alive 𝓤 H A step.signature (lifetimes ν ν′) (sharesOf tt)) (mean 𝓤 H A (‵ (tokens S) ⊛ ‵ (flft (ν ∷ []) fullShare) ⊛ ‵ (flft (ν′ ∷ []) fullShare)))
     back ν ν′ = qed W (‵ (call-tokens S ν ν′) ∷ []) ∵ scatters S ν ν′ W ! $ done !
 
-    pub step-gives : Gives W C #step (passes S q r) (P ⊛ ‵ (answers S l l′)) stepped (λ x. valOf (x .result)) (λ x. ‵ (tokens S) ⊛ ‵ (answers S (x .first) (x .second)))
+    pub step-gives : Gives W C #step (passes S q r) (P ⊛ ‵ (answers S l l′)) stepped (λ x. questionVal (x .result)) (λ x. ‵ (tokens S) ⊛ ‵ (answers S (x .first) (x .second)))
     step-gives = two-lent (S .refusals) (S .values) 𝓤 H A W C fm #step (passes S q r) BatchState.the-type State′.the-laws
-        (λ r′ z z′. answeringOf r′ z z′ ≡ batchStep (S .keys .x .now) (S .bits .x .now) q (answeringOf r l l′)) 3 Bound first-of second-of
+        (λ r′ z z′. answeringOf r′ z z′ ≡ batchStep (S .keys .x .now) (S .bits .x .now) q (answeringOf r l l′)) 3 Bound first-question second-of
         P (‵ (tokens S)) (λ ν ν′. alive 𝓤 H A step.signature (lifetimes ν ν′) (sharesOf tt)) l l′ len len′
-        (λ ν ν′ δ δ′. via 𝓤 (Step 𝓤 H A mem run .pre (to-step ν ν′ δ δ′)) (asks ν ν′ δ δ′) (known (to-step ν ν′ δ δ′))) back
+        (λ ν ν′ δ δ′. via 𝓤 (BatchStep 𝓤 H A mem run .pre (to-step ν ν′ δ δ′)) (asks ν ν′ δ δ′) (known (to-step ν ν′ δ δ′))) back

@@ -30,7 +30,7 @@ drop-byte (suc t) k zero byte e = absurd (omega arith)
 drop-byte (suc t) k (suc n) byte e = drop-byte t k n byte (omega arith)
 
 -- the bits from bit t of byte k on
-pub bits-at : (bytes : List ℕ) (k t : ℕ) → k < length bytes → t < 8
+bits-at : (bytes : List ℕ) (k t : ℕ) → k < length bytes → t < 8
     → drop (8 * k + t) (bitsIn bytes) ≡ bitsOfByte (8 - t) (getD bytes k 0) ++ bitsIn (drop (suc k) bytes)
 unfolding bitsIn
 bits-at [] k t h l = absurd (omega arith)

@@ -25,9 +25,9 @@ by-tests false false false true = refl
 by-tests false false false false = refl
 
 -- what is left over may be, exactly where both strings have spare bits alone
-pub left-is : (ns ls : List Bool) → isWhole (leftOver ns ls) ≡ isSpare ns && isSpare ls
+pub left-spare : (ns ls : List Bool) → isWhole (leftOver ns ls) ≡ isSpare ns && isSpare ls
 unfolding leftOver isSpare
-left-is ns ls = by-tests (leb 8 (length ns)) (leb 8 (length ls)) (anySet ns) (anySet ls)
+left-spare ns ls = by-tests (leb 8 (length ns)) (leb 8 (length ls)) (anySet ns) (anySet ls)
 
 -- i blocks are read, j of them leaves, and the next one has the given key
 pub record CountedPair (m : ℕ) (nodes leaves : List ℕ) (key i j : ℕ) : Type 0 where
@@ -91,7 +91,7 @@ module _ (m : ℕ) (nodes leaves : List ℕ) (key i j : ℕ) (c : CountedPair m 
   module _ (past : 5 ^ m ≤ key) where
     left : isSpare (drop i (bitsIn nodes)) && isSpare (drop j (bitsIn leaves)) ≡ isPair m nodes leaves
     left =
-        sym (ap isWhole (reading-past m key (drop i (bitsIn nodes)) (drop j (bitsIn leaves)) past) ∙ left-is (drop i (bitsIn nodes)) (drop j (bitsIn leaves)))
+        sym (ap isWhole (reading-past m key (drop i (bitsIn nodes)) (drop j (bitsIn leaves)) past) ∙ left-spare (drop i (bitsIn nodes)) (drop j (bitsIn leaves)))
         ∙ c .read
 
     pub counting-nodes : isSpare (drop i (bitsIn nodes)) ≡ false → 0 ≡ pairLength m nodes leaves

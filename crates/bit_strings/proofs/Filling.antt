@@ -37,7 +37,7 @@ records-none : (m x : ℕ) (leaves : List Bool) → recordsFrom m x [] leaves �
 unfolding recordsFrom
 records-none m x leaves = refl
 
-pub first : (m x : ℕ) (nodes leaves : List Bool) (e : Record) (l : List Record) → recordsFrom m x nodes leaves ≡ e ∷ l → First m x nodes leaves e l
+first : (m x : ℕ) (nodes leaves : List Bool) (e : Record) (l : List Record) → recordsFrom m x nodes leaves ≡ e ∷ l → First m x nodes leaves e l
 unfolding nextBit
 first m x [] leaves e l h = absurd (no-first (sym (records-none m x leaves) ∙ h))
 first m x (true ∷ nodes) leaves e l h =

@@ -24,7 +24,7 @@ use Rattle.list.specs.Check.{oneSlot}
 use Rattle.list.proofs.OneSlot.{slot-feature}
 use Rattle.list.proofs.Joined.{joined, joined-bits, joined-list}
 use Rattle.bit_strings.specs.Steps.{isSpare}
-use Rattle.bit_strings.proofs.Counting.{left-is}
+use Rattle.bit_strings.proofs.Counting.{left-spare}
 use Rattle.bit_strings.proofs.Passing.{reading-past, records-past}
 use Rattle.bit_strings.proofs.Shape.{Shape, leaf, node, list-shape, nodes-many, leaves-many}
 use Rattle.bit_strings.proofs.Unpacking.{again, packed-back}
@@ -100,7 +100,7 @@ module _ (m : ℕ) (l : List Record) (list : isListOfBlock m 2 m 0 0 rootKey l �
 
   strings-end : isWhole (leftOver (again (nodeBits l) .rest) (again (leafBits l) .rest)) ≡ true
   strings-end =
-      left-is (again (nodeBits l) .rest) (again (leafBits l) .rest)
+      left-spare (again (nodeBits l) .rest) (again (leafBits l) .rest)
       ∙ and-both (isSpare (again (nodeBits l) .rest)) (isSpare (again (leafBits l) .rest)) (again (nodeBits l) .spare) (again (leafBits l) .spare)
 
   past : 0 + 5 ^ m ≡ 5 ^ m
@@ -128,9 +128,9 @@ module _ (m : ℕ) (l : List Record) (list : isListOfBlock m 2 m 0 0 rootKey l �
       ∙ append-nil l
 
 -- so two lists with the same strings are the same
-pub one-list : (m : ℕ) (l l′ : List Record) → isListOfBlock m 2 m 0 0 rootKey l ≡ true → isListOfBlock m 2 m 0 0 rootKey l′ ≡ true
+pub one-list-of-pair : (m : ℕ) (l l′ : List Record) → isListOfBlock m 2 m 0 0 rootKey l ≡ true → isListOfBlock m 2 m 0 0 rootKey l′ ≡ true
     → packed (nodeBits l) ≡ packed (nodeBits l′) → packed (leafBits l) ≡ packed (leafBits l′) → l ≡ l′
-one-list m l l′ e f p q = sym (written-read m l e) ∙ ap₂ (recordsOfPair m) p q ∙ written-read m l′ f
+one-list-of-pair m l l′ e f p q = sym (written-read m l e) ∙ ap₂ (recordsOfPair m) p q ∙ written-read m l′ f
 
 -- ---- reading and then writing
 
@@ -152,7 +152,7 @@ module _ (m : ℕ) (nodes leaves : List ℕ) (pair : isPair m nodes leaves ≡ t
 
   spares : isSpare (block .more-nodes) && isSpare (block .more-leaves) ≡ true
   spares =
-      sym (ap isWhole (reading-past m (0 + 5 ^ m) (block .more-nodes) (block .more-leaves) (omega arith)) ∙ left-is (block .more-nodes) (block .more-leaves))
+      sym (ap isWhole (reading-past m (0 + 5 ^ m) (block .more-nodes) (block .more-leaves) (omega arith)) ∙ left-spare (block .more-nodes) (block .more-leaves))
       ∙ block .whole
 
   -- what is read is a list

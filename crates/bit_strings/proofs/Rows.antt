@@ -30,9 +30,9 @@ sheetLeaves = 0x76 ∷ []
 abbrev readAs : ℕ → List ℕ → List ℕ → Reading
 readAs m nodes leaves = reading m 0 (bitsIn nodes) (bitsIn leaves)
 
-pub written : (packed (nodeBits (listOfRaster 2 sheet)) ≡ sheetNodes) × (packed (leafBits (listOfRaster 2 sheet)) ≡ sheetLeaves)
+pub written-rows : (packed (nodeBits (listOfRaster 2 sheet)) ≡ sheetNodes) × (packed (leafBits (listOfRaster 2 sheet)) ≡ sheetLeaves)
 unfolding listOf bitsOf unionOfFour oneFeature everyPixel isInner nodeBits leafBits highFirst packedIn packed
-written = (refl, refl)
+written-rows = (refl, refl)
 
 pub read-back : (readAs 2 sheetNodes sheetLeaves ≡ whole)
     × (keysOf (recordsOfPair 2 sheetNodes sheetLeaves) ≡ 0 ∷ 5 ∷ 10 ∷ 11 ∷ 12 ∷ 13 ∷ 14 ∷ 15 ∷ 20 ∷ [])
@@ -41,10 +41,10 @@ unfolding bitsOfByte bitsIn zerosAtEnd keyAfter beginsWith fourEqual anySet left
 read-back = (refl, refl, refl)
 
 -- one pixel of feature 1
-pub one-pixel : (packed (nodeBits (listOfRaster 0 (1 ∷ []))) ≡ 0x80 ∷ []) × (packed (leafBits (listOfRaster 0 (1 ∷ []))) ≡ 0x80 ∷ [])
+pub one-pixel-rows : (packed (nodeBits (listOfRaster 0 (1 ∷ []))) ≡ 0x80 ∷ []) × (packed (leafBits (listOfRaster 0 (1 ∷ []))) ≡ 0x80 ∷ [])
     × (readAs 0 (0x80 ∷ []) (0x80 ∷ []) ≡ whole)
 unfolding listOf bitsOf isInner nodeBits leafBits highFirst packedIn packed bitsOfByte bitsIn zerosAtEnd keyAfter anySet leftOver reading
-one-pixel = (refl, refl, refl)
+one-pixel-rows = (refl, refl, refl)
 
 -- each reason alone: the nodes or the leaves end early; a byte too many of either; deeper than m; a spare bit set in either; four equal siblings
 pub reasons : (readAs 2 (0x5F ∷ []) sheetLeaves ≡ endsEarly) × (readAs 2 sheetNodes [] ≡ endsEarly) × (readAs 2 [] [] ≡ endsEarly)

@@ -99,13 +99,13 @@ unfolding nodeBits
 nodes-append [] b = refl
 nodes-append (e ∷ a) b = ap (λ l. not (isInner (e .value)) ∷ l) (nodes-append a b)
 
-pub leaves-append : (a b : List Record) → leafBits (a ++ b) ≡ leafBits a ++ leafBits b
+pub leaf-bits-append : (a b : List Record) → leafBits (a ++ b) ≡ leafBits a ++ leafBits b
 unfolding leafBits
-leaves-append [] b = refl
-leaves-append (e ∷ a) b =
+leaf-bits-append [] b = refl
+leaf-bits-append (e ∷ a) b =
     decide (isInner (e .value))
-    (λ i. rw i (leaves-append a b))
-    (λ i. rw i (ap (λ l. hasSlot (e .value) 1 ∷ l) (leaves-append a b)))
+    (λ i. rw i (leaf-bits-append a b))
+    (λ i. rw i (ap (λ l. hasSlot (e .value) 1 ∷ l) (leaf-bits-append a b)))
 
 pub nodes-leaf : (κ : ℕ) (b : Bool) (l : List Record) → nodeBits (recordOf κ (cond b 2 1) ∷ l) ≡ true ∷ nodeBits l
 unfolding nodeBits
@@ -143,7 +143,7 @@ nodes-many [] = refl
 nodes-many (e ∷ l) = ap suc (nodes-many l)
 
 four-leaves : (a b c d : List Record) → length (leafBits (a ++ (b ++ (c ++ d)))) ≡ length (leafBits a) + (length (leafBits b) + (length (leafBits c) + length (leafBits d)))
-four-leaves a b c d = simp (leaves-append, length-append) refl
+four-leaves a b c d = simp (leaf-bits-append, length-append) refl
 
 four-records : (a b c d : List Record) → length (a ++ (b ++ (c ++ d))) ≡ length a + (length b + (length c + length d))
 four-records a b c d = simp length-append refl

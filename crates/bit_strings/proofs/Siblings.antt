@@ -9,7 +9,7 @@ use Rattle.definitions.specs.Bits.{hasSlot, unionOfFour}
 use Rattle.definitions.specs.List.{Record}
 use Rattle.definitions.specs.BitStrings.{nodeBits, leafBits, beginsWith, fourEqual}
 use Rattle.laws.proofs.Slots.{slot-nw, slot-ne, slot-sw, slot-se, four-lt}
-use Rattle.bit_strings.proofs.Shape.{Shape, leaf, node, three, nodes-append, leaves-append, nodes-leaf, nodes-inner, leaves-leaf, nodes-none, leaves-none}
+use Rattle.bit_strings.proofs.Shape.{Shape, leaf, node, three, nodes-append, leaf-bits-append, nodes-leaf, nodes-inner, leaves-leaf, nodes-none, leaves-none}
 
 -- a leaf's two bits, or an inner node's one
 pub record LeafSeen (v : ℕ) (l : List Record) : Type 0 where
@@ -39,16 +39,16 @@ small (leaf false) = omega arith
 small (node a b c d u) = omega arith
 
 -- the bits of four lists, one after the other
-abbrev pub four : {A : Type 0} → List A → List A → List A → List A → List A → List A
-four a b c d rest = a ++ (b ++ (c ++ (d ++ rest)))
+abbrev pub four-siblings : {A : Type 0} → List A → List A → List A → List A → List A → List A
+four-siblings a b c d rest = a ++ (b ++ (c ++ (d ++ rest)))
 
 pub four-nodes : (a b c d : List Record) (rest : List Bool)
-    → nodeBits (a ++ (b ++ (c ++ d))) ++ rest ≡ four (nodeBits a) (nodeBits b) (nodeBits c) (nodeBits d) rest
+    → nodeBits (a ++ (b ++ (c ++ d))) ++ rest ≡ four-siblings (nodeBits a) (nodeBits b) (nodeBits c) (nodeBits d) rest
 four-nodes a b c d rest = simp (nodes-append, append-assoc) refl
 
 pub four-leaf-bits : (a b c d : List Record) (rest : List Bool)
-    → leafBits (a ++ (b ++ (c ++ d))) ++ rest ≡ four (leafBits a) (leafBits b) (leafBits c) (leafBits d) rest
-four-leaf-bits a b c d rest = simp (leaves-append, append-assoc) refl
+    → leafBits (a ++ (b ++ (c ++ d))) ++ rest ≡ four-siblings (leafBits a) (leafBits b) (leafBits c) (leafBits d) rest
+four-leaf-bits a b c d rest = simp (leaf-bits-append, append-assoc) refl
 
 -- where the four are leaves, they are not equal exactly where both features occur
 leaves-differ : (a b c d : Bool) (nodes leaves : List Bool) → unionOfFour (cond a 2 1) (cond b 2 1) (cond c 2 1) (cond d 2 1) ≡ 3
@@ -103,7 +103,7 @@ inner-fourth nodes leaves = refl
 module _ {k κ₁ κ₂ κ₃ κ₄ v₁ v₂ v₃ v₄ : ℕ} {nw ne sw se : List Record} (a : Shape k κ₁ v₁ nw) (b : Shape k κ₂ v₂ ne) (c : Shape k κ₃ v₃ sw) (d : Shape k κ₄ v₄ se)
     (ns ls : List Bool) where
   abbrev ls₄ : List Bool
-  ls₄ = four (leafBits nw) (leafBits ne) (leafBits sw) (leafBits se) ls
+  ls₄ = four-siblings (leafBits nw) (leafBits ne) (leafBits sw) (leafBits se) ls
 
   -- 3 is the union where one of the four is 3
   union-small : unionOfFour v₁ v₂ v₃ v₄ < 4
@@ -116,7 +116,7 @@ module _ {k κ₁ κ₂ κ₃ κ₄ v₁ v₂ v₃ v₄ : ℕ} {nw ne sw se : Li
 
   -- the four are no four equal leaves exactly where both features occur in them
   pub four-differ : unionOfFour v₁ v₂ v₃ v₄ ≡ 3
-      → fourEqual (four (nodeBits nw) (nodeBits ne) (nodeBits sw) (nodeBits se) ns) (four (leafBits nw) (leafBits ne) (leafBits sw) (leafBits se) ls) ≡ false
+      → fourEqual (four-siblings (nodeBits nw) (nodeBits ne) (nodeBits sw) (nodeBits se) ns) (four-siblings (leafBits nw) (leafBits ne) (leafBits sw) (leafBits se) ls) ≡ false
   four-differ u =
       ⊎-elim
       (λ x. ⊎-elim
@@ -134,7 +134,7 @@ module _ {k κ₁ κ₂ κ₃ κ₄ v₁ v₂ v₃ v₄ : ℕ} {nw ne sw se : Li
       (λ x. rw (x .nodes) (inner-first (x .below ++ (nodeBits ne ++ (nodeBits sw ++ (nodeBits se ++ ns)))) ls₄))
       (seen a)
 
-  pub differ-four : fourEqual (four (nodeBits nw) (nodeBits ne) (nodeBits sw) (nodeBits se) ns) (four (leafBits nw) (leafBits ne) (leafBits sw) (leafBits se) ls) ≡ false
+  pub differ-four : fourEqual (four-siblings (nodeBits nw) (nodeBits ne) (nodeBits sw) (nodeBits se) ns) (four-siblings (leafBits nw) (leafBits ne) (leafBits sw) (leafBits se) ls) ≡ false
       → unionOfFour v₁ v₂ v₃ v₄ ≡ 3
   differ-four e =
       ⊎-elim

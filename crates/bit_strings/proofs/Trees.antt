@@ -14,7 +14,7 @@ use Rattle.definitions.specs.BitStrings.{endsEarly, tooDeep, equalSiblings}
 use Rattle.bit_strings.proofs.Passing.{after-leaf, after-inner, reading-none, reading-no-leaf, reading-leaf, reading-deep, reading-equal, reading-inner, records-leaf, records-inner}
 use Rattle.bit_strings.proofs.Shape.{Shape, leaf, node, nodes-leaf, nodes-inner, leaves-leaf, leaves-inner, nodes-none, leaves-none}
 use Rattle.bit_strings.proofs.Places.{Place, child-place}
-use Rattle.bit_strings.proofs.Siblings.{four, four-nodes, four-leaf-bits, four-differ, differ-four}
+use Rattle.bit_strings.proofs.Siblings.{four-siblings, four-nodes, four-leaf-bits, four-differ, differ-four}
 
 -- ---- reading the bits of a list gives the list
 
@@ -62,9 +62,9 @@ list-read {m} {k} {κ} (leaf b) p ns ls =
     }
 list-read {m} {κ = κ} (node {k = k} {nw = nw} {ne = ne} {sw = sw} {se = se} a b c d u) p ns ls =
     let below = nw ++ (ne ++ (sw ++ se)) in
-    let nodes : nodeBits (recordOf κ 3 ∷ below) ++ ns ≡ false ∷ four (nodeBits nw) (nodeBits ne) (nodeBits sw) (nodeBits se) ns =
+    let nodes : nodeBits (recordOf κ 3 ∷ below) ++ ns ≡ false ∷ four-siblings (nodeBits nw) (nodeBits ne) (nodeBits sw) (nodeBits se) ns =
     ap (λ l. l ++ ns) (nodes-inner κ below) ∙ ap (λ l. false ∷ l) (four-nodes nw ne sw se ns) in
-    let leaves : leafBits (recordOf κ 3 ∷ below) ++ ls ≡ four (leafBits nw) (leafBits ne) (leafBits sw) (leafBits se) ls =
+    let leaves : leafBits (recordOf κ 3 ∷ below) ++ ls ≡ four-siblings (leafBits nw) (leafBits ne) (leafBits sw) (leafBits se) ls =
     ap (λ l. l ++ ls) (leaves-inner κ below) ∙ four-leaf-bits nw ne sw se ls in
     let first = list-read a (child-place p 1 (omega arith) (omega arith)) (nodeBits ne ++ (nodeBits sw ++ (nodeBits se ++ ns))) (leafBits ne ++ (leafBits sw ++ (leafBits se ++ ls))) in
     let second = list-read b (child-place p 2 (omega arith) (omega arith)) (nodeBits sw ++ (nodeBits se ++ ns)) (leafBits sw ++ (leafBits se ++ ls)) in
@@ -77,7 +77,7 @@ list-read {m} {κ = κ} (node {k = k} {nw = nw} {ne = ne} {sw = sw} {se = se} a 
     record {
       read =
           (λ i. reading m κ (nodes i) (leaves i))
-          ∙ reading-inner m κ (inside p) (four (nodeBits nw) (nodeBits ne) (nodeBits sw) (nodeBits se) ns) (four (leafBits nw) (leafBits ne) (leafBits sw) (leafBits se) ls) (not-lowest p) (four-differ a b c d ns ls u)
+          ∙ reading-inner m κ (inside p) (four-siblings (nodeBits nw) (nodeBits ne) (nodeBits sw) (nodeBits se) ns) (four-siblings (leafBits nw) (leafBits ne) (leafBits sw) (leafBits se) ls) (not-lowest p) (four-differ a b c d ns ls u)
           ∙ ap (λ x. reading m x (nodeBits nw ++ ns₁) (leafBits nw ++ ls₁)) (inner-key p)
           ∙ first .read
           ∙ ap (λ x. reading m x ns₁ ls₁) (key-on κ k 1 2 refl)
@@ -89,7 +89,7 @@ list-read {m} {κ = κ} (node {k = k} {nw = nw} {ne = ne} {sw = sw} {se = se} a 
           ∙ ap (λ x. reading m x ns ls) (key-end κ k);
       records =
           (λ i. recordsFrom m κ (nodes i) (leaves i))
-          ∙ records-inner m κ (inside p) (four (nodeBits nw) (nodeBits ne) (nodeBits sw) (nodeBits se) ns) (four (leafBits nw) (leafBits ne) (leafBits sw) (leafBits se) ls)
+          ∙ records-inner m κ (inside p) (four-siblings (nodeBits nw) (nodeBits ne) (nodeBits sw) (nodeBits se) ns) (four-siblings (leafBits nw) (leafBits ne) (leafBits sw) (leafBits se) ls)
           ∙ ap (λ t. recordOf κ 3 ∷ t)
           (ap (λ x. recordsFrom m x (nodeBits nw ++ ns₁) (leafBits nw ++ ls₁)) (inner-key p)
           ∙ first .records
@@ -143,7 +143,7 @@ leaf-read {m} {k} {κ} p ns f ls e = record {
   whole = sym (ap isWhole (reading-leaf m κ (inside p) ns f ls ∙ ap (λ x. reading m x ns ls) (leaf-key p))) ∙ e;
 }
 
-in-turn : {A : Type 0} (a b c d rest : List A) {l₀ l₁ l₂ l₃ : List A} → l₀ ≡ a ++ l₁ → l₁ ≡ b ++ l₂ → l₂ ≡ c ++ l₃ → l₃ ≡ d ++ rest → l₀ ≡ four a b c d rest
+in-turn : {A : Type 0} (a b c d rest : List A) {l₀ l₁ l₂ l₃ : List A} → l₀ ≡ a ++ l₁ → l₁ ≡ b ++ l₂ → l₂ ≡ c ++ l₃ → l₃ ≡ d ++ rest → l₀ ≡ four-siblings a b c d rest
 in-turn a b c d rest e f g h = e ∙ ap (λ l. a ++ l) (f ∙ ap (λ l. b ++ l) (g ∙ ap (λ l. c ++ l) h))
 
 node-read : {m k κ : ℕ} → Place m (suc k) κ → (ns ls : List Bool) → fourEqual ns ls ≡ false

@@ -22,7 +22,7 @@ use Rattle.bit_strings.proofs.Bitwise.{high-suc}
 -- ---- spare bits count for nothing
 
 -- two strings with the same bits, where a bit past the end is zero
-abbrev pub Alike : List Bool → List Bool → Type 0
+abbrev Alike : List Bool → List Bool → Type 0
 Alike l l′ = (i : ℕ) → getD l i false ≡ getD l′ i false
 
 alike-drop : (n : ℕ) (l l′ : List Bool) → Alike l l′ → Alike (drop n l) (drop n l′)
@@ -104,7 +104,7 @@ packed-back {bytes} small l rest is spare =
 -- ---- bits, their bytes, and the bits again
 
 -- the first n bits, with zeros past the end
-unfoldable pub firstBits : ℕ → List Bool → List Bool
+unfoldable firstBits : ℕ → List Bool → List Bool
 firstBits zero l = []
 firstBits (suc n) l = getD l 0 false ∷ firstBits n (drop 1 l)
 

@@ -20,10 +20,10 @@ use Rattle.build.specs.BuildBlocks.{pictureOfRows, below, Inside, Fittin
 use Rattle.build.proofs.RasterTests.{pixels-below}
 use Rattle.build.proofs.WriteBlock.{sets-front}
 use Rattle.build.proofs.WrittenBlock.{own-first}
-use Rattle.build.proofs.BuildRefusal.{Passed}
+use Rattle.build.proofs.BuildRefusal.{EarlyPassed}
 
 -- the whole raster is a block of it
-pub whole-inside : (m s side : ℕ) (raster : List ℕ) → Passed m s raster → side ≡ 2 ^ m → Inside raster side m 0 0
+pub whole-inside : (m s side : ℕ) (raster : List ℕ) → EarlyPassed m s raster → side ≡ 2 ^ m → Inside raster side m 0 0
 unfolding badLength
 whole-inside m s side raster p e =
     let low = good-settings m s (p .settings) .deep in
@@ -55,7 +55,7 @@ module _ (f : Record → ℕ) where
       ∙ sets-over (map f (listOf p m 0 0 0)) l (rw (length-map (listOf p m 0 0 0) f) h)
 
 -- the root's place is 0, and there is room for all
-pub whole-fits : (m s side : ℕ) (raster keys bits : List ℕ) → Passed m s raster → side ≡ 2 ^ m
+pub whole-fits : (m s side : ℕ) (raster keys bits : List ℕ) → EarlyPassed m s raster → side ≡ 2 ^ m
     → length (listOf (pictureOfRows side raster) m 0 0 0) ≤ length keys
     → length (listOf (pictureOfRows side raster) m 0 0 0) ≤ length bits
     → Fitting (pictureOfRows side raster) m 0 0 0 0 keys bits

@@ -15,11 +15,11 @@ use Rattle.definitions.specs.Calls.Build.{buildRefusal, build, buildKeys, build
 use Rattle.definitions.specs.declared.Counted.{Counted}
 
 -- the tests of settings and raster, which come before the test of room
-abbrev pub early : ℕ → ℕ → List ℕ → ℕ
+abbrev early : ℕ → ℕ → List ℕ → ℕ
 early m s raster = first (badSettings m s gives 1 ∷ badLength m raster gives 2 ∷ badPixel s raster gives 3 ∷ [])
 
 -- the first three tests are passed
-pub record Passed (m s : ℕ) (raster : List ℕ) : Type 0 where
+pub record EarlyPassed (m s : ℕ) (raster : List ℕ) : Type 0 where
   pub settings : badSettings m s ≡ false
   pub size : badLength m raster ≡ false
   pub pixels : badPixel s raster ≡ false
@@ -52,7 +52,7 @@ module _ (m s : ℕ) (raster : List ℕ) where
   pub early-three : badSettings m s ≡ false → badLength m raster ≡ false → badPixel s raster ≡ true → 3 ≡ early m s raster
   early-three e f g = first-three (badSettings m s) (badLength m raster) (badPixel s raster) e f g
 
-  pub early-none : Passed m s raster → 0 ≡ early m s raster
+  pub early-none : EarlyPassed m s raster → 0 ≡ early m s raster
   early-none p = first-none (badSettings m s) (badLength m raster) (badPixel s raster) (p .settings) (p .size) (p .pixels)
 
 none-passed : (a b c : Bool) → first (a gives 1 ∷ b gives 2 ∷ c gives 3 ∷ []) ≡ 0 → (a ≡ false) × (b ≡ false) × (c ≡ false)
@@ -63,8 +63,8 @@ none-passed false false true e = absurd (omega arith)
 none-passed false false false e = (refl, refl, refl)
 
 -- where no test of the first three applies they are passed
-pub passed : (m s : ℕ) (raster : List ℕ) → early m s raster ≡ 0 → Passed m s raster
-passed m s raster e =
+pub early-passed : (m s : ℕ) (raster : List ℕ) → early m s raster ≡ 0 → EarlyPassed m s raster
+early-passed m s raster e =
     let h = none-passed (badSettings m s) (badLength m raster) (badPixel s raster) e in
     record { settings = h .0; size = h .1; pixels = h .2 }
 
@@ -97,11 +97,11 @@ module _ (m s : ℕ) (raster keys bits : List ℕ) where
   unfolding buildRefusal
   refusal-early h = first-early (badSettings m s) (badLength m raster) (badPixel s raster) _ h
 
-  pub refusal-nine : Passed m s raster → room keys bits < length (listOfRaster m raster) → 9 ≡ buildRefusal m s raster keys bits
+  pub refusal-nine : EarlyPassed m s raster → room keys bits < length (listOfRaster m raster) → 9 ≡ buildRefusal m s raster keys bits
   unfolding buildRefusal
   refusal-nine p h = sym (ap (λ d. cond d 9 0) (lt-ltb _ _ h)) ∙ first-late _ _ _ _ (p .settings) (p .size) (p .pixels)
 
-  pub refusal-none : Passed m s raster → length (listOfRaster m raster) ≤ room keys bits → 0 ≡ buildRefusal m s raster keys bits
+  pub refusal-none : EarlyPassed m s raster → length (listOfRaster m raster) ≤ room keys bits → 0 ≡ buildRefusal m s raster keys bits
   unfolding buildRefusal
   refusal-none p h = sym (ap (λ d. cond d 9 0) (le-ltb _ _ h)) ∙ first-late _ _ _ _ (p .settings) (p .size) (p .pixels)
 

@@ -20,7 +20,7 @@ use Rattle.laws.proofs.BitsOf.{bits-one}
 use Rattle.laws.proofs.ListOf.{list-one}
 use Rattle.list.specs.Check.{oneSlot}
 use Rattle.list.proofs.OneSlot.{none-slot}
-use Rattle.list.proofs.Shown.{slot-one, slot-feature, shown-value, node-several}
+use Rattle.list.proofs.Shown.{slot-one, shown-feature, shown-value, node-several}
 use Rattle.list.proofs.ShownQuadrants.{Left, left-all, left-shown, left-then, left-none}
 use Rattle.list.specs.Quadrants.{quadrantRow, quadrantColumn}
 use Rattle.combine.specs.Combining.{At, leafOf, Entered, passing, Passed}
@@ -75,7 +75,7 @@ module _ {p : Picture} {k r c κ : ℕ} {bits : List ℕ} {x y : Cursor} (a : At
   leaf-uniform h = let f = entered-leaf h in slot-one p k r c (ap oneSlot (sym (f .0)) ∙ f .1)
 
   pub leaf-feature : (y .leaf ≡ 0 → ⊥) → featureOf (y .leaf) ≡ p r c
-  leaf-feature h = let f = entered-leaf h in ap featureOf (f .0) ∙ slot-feature p k r c (ap oneSlot (sym (f .0)) ∙ f .1)
+  leaf-feature h = let f = entered-leaf h in ap featureOf (f .0) ∙ shown-feature p k r c (ap oneSlot (sym (f .0)) ∙ f .1)
 
   pub leaf-passed : (y .leaf ≡ 0 → ⊥) → y .at ≡ x .at + passing p k r c κ (x .leaf)
   leaf-passed h = e .at-is ∙ ap (λ n. x .at + n) (sym (passing-one p k r c κ (x .leaf) (leaf-uniform h)))

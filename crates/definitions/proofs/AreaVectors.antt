@@ -16,21 +16,21 @@ use Rattle.definitions.specs.Calls.FillSummary.{fillRefusal, filledSumma
 use Rattle.definitions.specs.Calls.Area.{areaRefusal, area}
 use Rattle.definitions.specs.declared.Window.{Window}
 use Rattle.definitions.specs.declared.Measured.{Measured}
-use Rattle.definitions.proofs.Vectors.{VectorRow, row, Holds, key, window, mapA, keysA, bitsA, unwritten}
+use Rattle.definitions.proofs.Vectors.{VectorRow, row, RowHolds, key, window, mapA, keysA, bitsA, unwritten}
 
 abbrev pictureA : Picture
 pictureA = pictureOfRaster 2 mapA
 
 -- the counts of blocks of one pixel each, at s = 3
-abbrev pub counted : List ℕ → List ℕ
-counted [] = []
-counted (zero ∷ pixels) = 1 ∷ 0 ∷ 0 ∷ counted pixels
-counted (suc zero ∷ pixels) = 0 ∷ 1 ∷ 0 ∷ counted pixels
-counted (suc (suc f) ∷ pixels) = 0 ∷ 0 ∷ 1 ∷ counted pixels
+abbrev pub areas-counted : List ℕ → List ℕ
+areas-counted [] = []
+areas-counted (zero ∷ pixels) = 1 ∷ 0 ∷ 0 ∷ areas-counted pixels
+areas-counted (suc zero ∷ pixels) = 0 ∷ 1 ∷ 0 ∷ areas-counted pixels
+areas-counted (suc (suc f) ∷ pixels) = 0 ∷ 0 ∷ 1 ∷ areas-counted pixels
 
 -- Map A's pixels in key order: NW, NE, SW, SE
 abbrev pub summaryA : List ℕ
-summaryA = counted (0 ∷ 0 ∷ 0 ∷ 0 ∷ 1 ∷ 1 ∷ 1 ∷ 2 ∷ 2 ∷ 2 ∷ 2 ∷ 2 ∷ 0 ∷ 0 ∷ 0 ∷ 0 ∷ [])
+summaryA = areas-counted (0 ∷ 0 ∷ 0 ∷ 0 ∷ 1 ∷ 1 ∷ 1 ∷ 2 ∷ 2 ∷ 2 ∷ 2 ∷ 2 ∷ 0 ∷ 0 ∷ 0 ∷ 0 ∷ [])
 
 -- the areas of the three features in a window of Map A
 abbrev areasA : Window → List ℕ
@@ -104,7 +104,7 @@ table =
     (1 ∷ 0 ∷ 4 ∷ 0 ∷ 18 ∷ 0 ∷ 6 ∷ 0 ∷ [])
     ∷ []
 
-claim : Holds table
+claim : RowHolds table
 unfolding
     table pixelKey everyPixel oneFeature featuresBelow bitsOf unionOfFour twosIn featureOf listOf
     paired valueAt pictureOf sameRecords isListOfBlock isList

@@ -29,7 +29,7 @@ use Rattle.definitions.specs.Calls.TakeBack.{takeBack}
 use Rattle.definitions.specs.Calls.Redo.{redo}
 use Rattle.definitions.specs.Calls.Store.{stored, storeRefusal, store, storeFile}
 use Rattle.definitions.specs.Calls.Load.{loadRefusal, load, loadKeys, loadBits}
-use Rattle.definitions.proofs.Vectors.{VectorRow, row, Holds, shown, window, of-counted, of-edited, unwritten}
+use Rattle.definitions.proofs.Vectors.{VectorRow, row, RowHolds, shown, window, of-counted, of-edited, unwritten}
 
 abbrev truth : Bool → ℕ
 truth b = cond b 1 0
@@ -154,7 +154,7 @@ table =
     picture : ℕ → ℕ → ℕ
     picture = pictureOfRaster 1 pixels
 
-claim : Holds table
+claim : RowHolds table
 unfolding
     table
     validKey digitsOf digitsThenZeros onlyZeros levelOf digitsBeforeZero heightOf rowOf columnOf sideOf inBlock pixelKey

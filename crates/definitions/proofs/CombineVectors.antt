@@ -11,7 +11,7 @@ use Rattle.definitions.specs.Read.{paired, valueAt, pictureOf, sameRecor
 use Rattle.definitions.specs.Refusal.{first, badSettings, badPixel}
 use Rattle.definitions.specs.Combine.{combined, combinedList, badClassTable}
 use Rattle.definitions.specs.Calls.Combine.{combination, combineRefusal, combine, combineKeys, combineBits}
-use Rattle.definitions.proofs.Vectors.{VectorRow, row, Holds, of-counted, keysA, bitsA, unwritten}
+use Rattle.definitions.proofs.Vectors.{VectorRow, row, RowHolds, of-counted, keysA, bitsA, unwritten}
 
 -- a map of side 2 with two features, and its list of five records
 abbrev keys : List ℕ
@@ -72,7 +72,7 @@ table =
     (1 ∷ 0 ∷ 24 ∷ 0 ∷ 24 ∷ 0 ∷ 4 ∷ 0 ∷ 4 ∷ 0 ∷ 25 ∷ 0 ∷ [])
     ∷ []
 
-claim : Holds table
+claim : RowHolds table
 unfolding
     table pixelKey everyPixel oneFeature featuresBelow bitsOf unionOfFour twosIn featureOf listOf
     paired valueAt pictureOf sameRecords isListOfBlock isList

@@ -26,8 +26,8 @@ use Rattle.definitions.specs.Offices.{rowsIn, tableOf, rowsOf, rowsAscen
 use Rattle.definitions.specs.Calls.Load.{loadRefusal}
 use Rattle.definitions.specs.declared.Rule.{Rule}
 use Rattle.definitions.specs.declared.Found.{Found}
-use Rattle.definitions.proofs.Vectors.{tableWith, VectorRow, row, Holds, key, of-counted, of-edited, mapA, keysA, bitsA, unwritten}
-use Rattle.definitions.proofs.AreaVectors.{counted, summaryA}
+use Rattle.definitions.proofs.Vectors.{tableWith, VectorRow, row, RowHolds, key, of-counted, of-edited, mapA, keysA, bitsA, unwritten}
+use Rattle.definitions.proofs.AreaVectors.{areas-counted, summaryA}
 
 -- a yes or no, as 1 or 0
 abbrev truth : Bool → ℕ
@@ -113,7 +113,7 @@ table =
     (refusedBy []
     ∷ refusedBy (summaryA ++ (0 ∷ []))
     ∷ refusedBy (set summaryA 47 1)
-    ∷ refusedBy (counted (0 ∷ 0 ∷ 0 ∷ 0 ∷ 2 ∷ 1 ∷ 1 ∷ 1 ∷ 2 ∷ 2 ∷ 2 ∷ 2 ∷ 0 ∷ 0 ∷ 0 ∷ 0 ∷ []))
+    ∷ refusedBy (areas-counted (0 ∷ 0 ∷ 0 ∷ 0 ∷ 2 ∷ 1 ∷ 1 ∷ 1 ∷ 2 ∷ 2 ∷ 2 ∷ 2 ∷ 0 ∷ 0 ∷ 0 ∷ 0 ∷ []))
     ∷ refusedBy summaryA
     ∷ [])
     (18 ∷ 18 ∷ 18 ∷ 18 ∷ 0 ∷ [])
@@ -143,7 +143,7 @@ table =
     of-found : Found → List ℕ
     of-found r = r .refusal ∷ r .live ∷ r .hidden ∷ []
 
-claim : Holds table
+claim : RowHolds table
 unfolding
     table
     validKey digitsOf digitsThenZeros onlyZeros levelOf digitsBeforeZero heightOf parentKey rowOf columnOf sideOf inBlock pixelKey contains isAncestor

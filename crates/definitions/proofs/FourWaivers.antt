@@ -23,7 +23,7 @@ use Rattle.definitions.specs.declared.Rule.{Rule}
 use Rattle.definitions.specs.declared.Found.{Found}
 use Rattle.definitions.specs.Area.{countOf, pixelsWith, countsFrom, summaryBelow, summaryOf, sameNumbers, noSummary}
 use Rattle.definitions.proofs.AreaVectors.{summaryA}
-use Rattle.definitions.proofs.Vectors.{tableWith, VectorRow, row, Holds, key, of-edited, keysA, bitsA, unwritten}
+use Rattle.definitions.proofs.Vectors.{tableWith, VectorRow, row, RowHolds, key, of-edited, keysA, bitsA, unwritten}
 
 -- scrub anywhere, by two rules
 abbrev rule : ℕ → Rule
@@ -82,7 +82,7 @@ table =
     of-found : Found → List ℕ
     of-found r = r .refusal ∷ r .live ∷ r .hidden ∷ []
 
-claim : Holds table
+claim : RowHolds table
 unfolding
     table
     validKey digitsOf digitsThenZeros onlyZeros levelOf digitsBeforeZero heightOf rowOf columnOf sideOf inBlock pixelKey

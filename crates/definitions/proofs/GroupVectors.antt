@@ -21,8 +21,8 @@ use Rattle.definitions.specs.Calls.Paint.{gained, paint}
 use Rattle.definitions.specs.Calls.PaintWindow.{groupGained, paintWindow}
 use Rattle.definitions.specs.Calls.TakeBack.{takeBack}
 use Rattle.definitions.specs.Calls.Redo.{redo}
-use Rattle.definitions.proofs.Vectors.{VectorRow, row, Holds, key, slots, window, of-edited, keysA, bitsA, unwritten}
-use Rattle.definitions.proofs.AreaVectors.{counted, summaryA}
+use Rattle.definitions.proofs.Vectors.{VectorRow, row, RowHolds, key, slots, window, of-edited, keysA, bitsA, unwritten}
+use Rattle.definitions.proofs.AreaVectors.{areas-counted, summaryA}
 
 -- the window of rows 0 and 1, columns 1 to 3, has the largest blocks 12, 14 and 20; painted with 2 it leaves 0222, 0222, 2200, 2200
 abbrev keysW : List ℕ
@@ -36,7 +36,7 @@ bitsW =
     ∷ slots (0 ∷ 0 ∷ 1 ∷ []) ∷ slots (0 ∷ 0 ∷ 1 ∷ []) ∷ slots (1 ∷ 0 ∷ 0 ∷ []) ∷ []
 
 abbrev summaryW : List ℕ
-summaryW = counted (0 ∷ 2 ∷ 0 ∷ 2 ∷ 2 ∷ 2 ∷ 2 ∷ 2 ∷ 2 ∷ 2 ∷ 2 ∷ 2 ∷ 0 ∷ 0 ∷ 0 ∷ 0 ∷ [])
+summaryW = areas-counted (0 ∷ 2 ∷ 0 ∷ 2 ∷ 2 ∷ 2 ∷ 2 ∷ 2 ∷ 2 ∷ 2 ∷ 2 ∷ 2 ∷ 0 ∷ 0 ∷ 0 ∷ 0 ∷ [])
 
 -- its group: two blocks inside the leaf 10, the five records of 20, and the closing records with 3 and the mark
 abbrev logKeysW : List ℕ
@@ -121,7 +121,7 @@ table =
     ∷ row (of-edited (editAnswer (redo 2 3 (keysA 1) (bitsA 1) 9 summaryA overlapKeys overlapValues 8 0))) (0 ∷ 9 ∷ 8 ∷ 8 ∷ [])
     ∷ []
 
-claim : Holds table
+claim : RowHolds table
 unfolding
     table validKey digitsOf digitsThenZeros onlyZeros levelOf digitsBeforeZero heightOf rowOf columnOf sideOf inBlock pixelKey
     everyPixel oneFeature featuresBelow bitsOf unionOfFour twosIn featureOf listOf

@@ -13,7 +13,7 @@ use Rattle.definitions.specs.Refusal.{first, badSettings, badPixel}
 use Rattle.definitions.specs.Leaves.{leavesOf, validKeys, ascendFrom, coverings, coverOnce, areLeaves, isDelivery, pictureOfLeaves}
 use Rattle.definitions.specs.Calls.ReadLeaves.{readLeavesRefusal, readLeaves, readLeavesKeys, readLeavesBits}
 use Rattle.definitions.specs.Calls.WriteLeaves.{writeLeavesRefusal, writeLeaves, writtenLeafKeys, writtenLeafFeatures}
-use Rattle.definitions.proofs.Vectors.{VectorRow, row, Holds, key, of-counted, keysA, bitsA, unwritten}
+use Rattle.definitions.proofs.Vectors.{VectorRow, row, RowHolds, key, of-counted, keysA, bitsA, unwritten}
 
 -- a key of three digits, and one of two
 abbrev at3 : ℕ → ℕ → ℕ → ℕ
@@ -107,7 +107,7 @@ table =
     ∷ row (writtenLeafKeys 2 3 (keysA 0) (bitsA 0) 9 (unwritten 7) (unwritten 6)) (unwritten 7)
     ∷ []
 
-claim : Holds table
+claim : RowHolds table
 unfolding
     table
     validKey digitsOf digitsThenZeros onlyZeros levelOf digitsBeforeZero heightOf rowOf columnOf sideOf inBlock pixelKey

@@ -19,7 +19,7 @@ use Rattle.definitions.specs.Calls.Load.{loadRefusal}
 use Rattle.definitions.specs.Calls.StoreLog.{storedLog, storeLogRefusal, storeLog, storeLogFile}
 use Rattle.definitions.specs.Calls.LoadLog.{loadLogRefusal, loadLog, loadLogKeys, loadLogValues}
 use Rattle.definitions.specs.declared.LoadedLog.{LoadedLog}
-use Rattle.definitions.proofs.Vectors.{VectorRow, row, Holds, key, slots, of-counted, keysA, bitsA, unwritten}
+use Rattle.definitions.proofs.Vectors.{VectorRow, row, RowHolds, key, slots, of-counted, keysA, bitsA, unwritten}
 
 -- the log after A9's paint of 24 with 1: the pixel had feature 2
 abbrev logKeys : List ℕ
@@ -116,7 +116,7 @@ table =
     ∷ gives (loadRefusal fileA (unwritten 9) (unwritten 9)) 16
     ∷ []
 
-claim : Holds table
+claim : RowHolds table
 unfolding
     table validKey digitsOf digitsThenZeros onlyZeros levelOf digitsBeforeZero heightOf rowOf columnOf sideOf inBlock pixelKey
     everyPixel oneFeature featuresBelow bitsOf unionOfFour twosIn featureOf listOf

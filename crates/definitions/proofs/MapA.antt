@@ -20,8 +20,8 @@ use Rattle.definitions.specs.Calls.Select.{selected, selectRefusal, sele
 use Rattle.definitions.specs.Calls.Edit.{editRefusal, editAnswer, keysLeft, bitsLeft, summaryLeft, logKeysLeft, logValuesLeft}
 use Rattle.definitions.specs.Calls.Paint.{gained, paint}
 use Rattle.definitions.specs.Calls.TakeBack.{takeBack}
-use Rattle.definitions.proofs.Vectors.{VectorRow, row, Holds, key, slots, window, shown, of-exist, of-report, of-counted, of-edited, mapA, keysA, bitsA, unwritten}
-use Rattle.definitions.proofs.AreaVectors.{counted, summaryA}
+use Rattle.definitions.proofs.Vectors.{VectorRow, row, RowHolds, key, slots, window, shown, of-exist, of-report, of-counted, of-edited, mapA, keysA, bitsA, unwritten}
+use Rattle.definitions.proofs.AreaVectors.{areas-counted, summaryA}
 
 -- m = 3: the leaves of Nardelli and Proietti (1994), section 2.2, as a raster
 abbrev figure1 : List ℕ
@@ -71,7 +71,7 @@ abbrev paintedBits : List ℕ
 paintedBits = slots (1 ∷ 1 ∷ 1 ∷ []) ∷ slots (1 ∷ 0 ∷ 0 ∷ []) ∷ slots (0 ∷ 1 ∷ 0 ∷ []) ∷ slots (0 ∷ 0 ∷ 1 ∷ []) ∷ slots (1 ∷ 0 ∷ 0 ∷ []) ∷ 0 ∷ 0 ∷ 0 ∷ 0 ∷ 99 ∷ []
 
 abbrev paintedSummary : List ℕ
-paintedSummary = counted (0 ∷ 0 ∷ 0 ∷ 0 ∷ 1 ∷ 1 ∷ 1 ∷ 1 ∷ 2 ∷ 2 ∷ 2 ∷ 2 ∷ 0 ∷ 0 ∷ 0 ∷ 0 ∷ [])
+paintedSummary = areas-counted (0 ∷ 0 ∷ 0 ∷ 0 ∷ 1 ∷ 1 ∷ 1 ∷ 1 ∷ 2 ∷ 2 ∷ 2 ∷ 2 ∷ 0 ∷ 0 ∷ 0 ∷ 0 ∷ [])
 
 abbrev paintedLogKeys : List ℕ
 paintedLogKeys = key (2 ∷ 4 ∷ []) ∷ key (2 ∷ 4 ∷ []) ∷ key (2 ∷ 4 ∷ []) ∷ 77 ∷ []
@@ -121,18 +121,18 @@ table =
     ∷ row (of-edited (editAnswer (paint 2 3 (keysA 4) (bitsA 4) 9 summaryA (unwritten 3) (unwritten 3) 0 0 (key (3 ∷ 3 ∷ [])) 0))) (0 ∷ 13 ∷ 3 ∷ 3 ∷ [])
     ∷ row (summaryLeft (paint 2 3 (keysA 3) (bitsA 3) 9 summaryA (unwritten 3) (unwritten 3) 0 0 (key (3 ∷ 3 ∷ [])) 0)) summaryA
     ∷ row (summaryLeft (paint 2 3 (keysA 4) (bitsA 4) 9 summaryA (unwritten 3) (unwritten 3) 0 0 (key (3 ∷ 3 ∷ [])) 0))
-    (counted (0 ∷ 0 ∷ 0 ∷ 0 ∷ 1 ∷ 1 ∷ 1 ∷ 2 ∷ 2 ∷ 2 ∷ 0 ∷ 2 ∷ 0 ∷ 0 ∷ 0 ∷ 0 ∷ []))
+    (areas-counted (0 ∷ 0 ∷ 0 ∷ 0 ∷ 1 ∷ 1 ∷ 1 ∷ 2 ∷ 2 ∷ 2 ∷ 0 ∷ 2 ∷ 0 ∷ 0 ∷ 0 ∷ 0 ∷ []))
     -- A12: paint 20 with 2, with 7 and with 6 free in the log
     ∷ row (of-edited (editAnswer (paint 2 3 (keysA 0) (bitsA 0) 9 summaryA (unwritten 7) (unwritten 7) 0 0 (key (2 ∷ 0 ∷ [])) 2))) (0 ∷ 5 ∷ 7 ∷ 7 ∷ [])
     ∷ row (of-edited (editAnswer (paint 2 3 (keysA 0) (bitsA 0) 9 summaryA (unwritten 6) (unwritten 6) 0 0 (key (2 ∷ 0 ∷ [])) 2))) (10 ∷ 0 ∷ 0 ∷ 0 ∷ [])
     ∷ row (summaryLeft (paint 2 3 (keysA 0) (bitsA 0) 9 summaryA (unwritten 7) (unwritten 7) 0 0 (key (2 ∷ 0 ∷ [])) 2))
-    (counted (0 ∷ 0 ∷ 0 ∷ 0 ∷ 2 ∷ 2 ∷ 2 ∷ 2 ∷ 2 ∷ 2 ∷ 2 ∷ 2 ∷ 0 ∷ 0 ∷ 0 ∷ 0 ∷ []))
+    (areas-counted (0 ∷ 0 ∷ 0 ∷ 0 ∷ 2 ∷ 2 ∷ 2 ∷ 2 ∷ 2 ∷ 2 ∷ 2 ∷ 2 ∷ 0 ∷ 0 ∷ 0 ∷ 0 ∷ []))
     ∷ row (summaryLeft (paint 2 3 (keysA 0) (bitsA 0) 9 summaryA (unwritten 6) (unwritten 6) 0 0 (key (2 ∷ 0 ∷ [])) 2)) summaryA
     -- Figure 1 of Nardelli and Proietti (1994)
     ∷ row (shown (listOfRaster 3 figure1)) listOfFigure1
     ∷ []
 
-claim : Holds table
+claim : RowHolds table
 unfolding
     table validKey digitsOf digitsThenZeros onlyZeros levelOf digitsBeforeZero heightOf rowOf columnOf sideOf inBlock pixelKey
     everyPixel oneFeature featuresBelow bitsOf unionOfFour twosIn featureOf listOf

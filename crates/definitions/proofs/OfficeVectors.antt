@@ -18,7 +18,7 @@ use Rattle.definitions.specs.Calls.Findings.{liveIn, hiddenIn, refusalWi
 use Rattle.definitions.specs.Calls.AddWaiver.{addRefusal, addOffices, addIds, addKeys}
 use Rattle.definitions.specs.Calls.RemoveWaiver.{removeRefusal, removeOffices, removeIds, removeKeys}
 use Rattle.definitions.specs.declared.Rule.{Rule}
-use Rattle.definitions.proofs.Vectors.{VectorRow, row, Holds, unwritten, tableWith}
+use Rattle.definitions.proofs.Vectors.{VectorRow, row, RowHolds, unwritten, tableWith}
 
 -- a map of side 2 with two features
 abbrev keys : List ℕ
@@ -68,7 +68,7 @@ table =
     ∷ row (take 4 (removeOffices 1 1 (tableWith (0 ∷ 0 ∷ 1 ∷ [])) (tableWith (7 ∷ 9 ∷ 8 ∷ [])) (tableWith (1 ∷ 1 ∷ 3 ∷ [])) 3 8 3)) (0 ∷ 0 ∷ 0 ∷ 0 ∷ [])
     ∷ []
 
-claim : Holds table
+claim : RowHolds table
 unfolding
     table
     validKey digitsOf digitsThenZeros onlyZeros levelOf digitsBeforeZero heightOf rowOf columnOf inBlock inInterval pixelKey

@@ -43,7 +43,7 @@ use Rattle.definitions.specs.declared.Rule.{Rule}
 use Rattle.definitions.specs.declared.Question.{Question}
 use Rattle.definitions.specs.declared.Stands.{Stands}
 use Rattle.definitions.specs.declared.Found.{Found}
-use Rattle.definitions.proofs.Vectors.{tableWith, VectorRow, row, Holds, key, window, of-counted, keysA, bitsA, unwritten}
+use Rattle.definitions.proofs.Vectors.{tableWith, VectorRow, row, RowHolds, key, window, of-counted, keysA, bitsA, unwritten}
 
 -- a map of side 2 with two features, and its list of five records
 abbrev pixels : List ℕ
@@ -267,7 +267,7 @@ table =
     waiverKeys : List ℕ
     waiverKeys = key (2 ∷ 2 ∷ []) ∷ key (2 ∷ 4 ∷ []) ∷ key (2 ∷ 4 ∷ []) ∷ []
 
-claim : Holds table
+claim : RowHolds table
 unfolding
     table
     validKey digitsOf digitsThenZeros onlyZeros levelOf digitsBeforeZero heightOf rowOf columnOf sideOf inBlock inInterval pixelKey

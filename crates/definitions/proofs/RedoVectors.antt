@@ -19,8 +19,8 @@ use Rattle.definitions.specs.Calls.Edit.{editRefusal, editAnswer, keysLe
 use Rattle.definitions.specs.Calls.Paint.{gained, paint}
 use Rattle.definitions.specs.Calls.TakeBack.{takeBack}
 use Rattle.definitions.specs.Calls.Redo.{redo}
-use Rattle.definitions.proofs.Vectors.{VectorRow, row, Holds, key, slots, of-edited, keysA, bitsA, unwritten}
-use Rattle.definitions.proofs.AreaVectors.{counted, summaryA}
+use Rattle.definitions.proofs.Vectors.{VectorRow, row, RowHolds, key, slots, of-edited, keysA, bitsA, unwritten}
+use Rattle.definitions.proofs.AreaVectors.{areas-counted, summaryA}
 
 -- the list after A9's paint of 24 with 1
 abbrev keysP : List ℕ
@@ -30,7 +30,7 @@ abbrev bitsP : List ℕ
 bitsP = slots (1 ∷ 1 ∷ 1 ∷ []) ∷ slots (1 ∷ 0 ∷ 0 ∷ []) ∷ slots (0 ∷ 1 ∷ 0 ∷ []) ∷ slots (0 ∷ 0 ∷ 1 ∷ []) ∷ slots (1 ∷ 0 ∷ 0 ∷ []) ∷ 0 ∷ 0 ∷ 0 ∷ 0 ∷ 99 ∷ []
 
 abbrev summaryP : List ℕ
-summaryP = counted (0 ∷ 0 ∷ 0 ∷ 0 ∷ 1 ∷ 1 ∷ 1 ∷ 1 ∷ 2 ∷ 2 ∷ 2 ∷ 2 ∷ 0 ∷ 0 ∷ 0 ∷ 0 ∷ [])
+summaryP = areas-counted (0 ∷ 0 ∷ 0 ∷ 0 ∷ 1 ∷ 1 ∷ 1 ∷ 1 ∷ 2 ∷ 2 ∷ 2 ∷ 2 ∷ 0 ∷ 0 ∷ 0 ∷ 0 ∷ [])
 
 -- the log after it, of nine places
 abbrev logKeysP : List ℕ
@@ -90,7 +90,7 @@ table =
     ∷ row (of-edited (editAnswer (paint 2 3 (keysA 1) (bitsA 1) 9 summaryA (take 7 logKeysL) (take 7 logValuesL) 7 0 (key (2 ∷ 0 ∷ [])) 2))) (0 ∷ 5 ∷ 7 ∷ 7 ∷ [])
     ∷ []
 
-claim : Holds table
+claim : RowHolds table
 unfolding
     table validKey digitsOf digitsThenZeros onlyZeros levelOf digitsBeforeZero heightOf rowOf columnOf sideOf inBlock pixelKey
     everyPixel oneFeature featuresBelow bitsOf unionOfFour twosIn featureOf listOf

@@ -20,7 +20,7 @@ abbrev pub row : List ℕ → List ℕ → VectorRow
 row computed said = record { computed = computed; said = said }
 
 -- a key by its digits, and a bitstring by its slots with slot 0 leftmost
-abbrev pub keyAfter : ℕ → List ℕ → ℕ
+abbrev keyAfter : ℕ → List ℕ → ℕ
 keyAfter x [] = x
 keyAfter x (d ∷ ds) = keyAfter (x * 5 + d) ds
 
@@ -91,5 +91,5 @@ abbrev pub unwritten : ℕ → List ℕ
 unwritten places = replicate places 77
 
 -- every row's two sides are the same
-abbrev pub Holds : List VectorRow → Type 0
-Holds rows = map (λ r. r .computed) rows ≡ map (λ r. r .said) rows
+abbrev pub RowHolds : List VectorRow → Type 0
+RowHolds rows = map (λ r. r .computed) rows ≡ map (λ r. r .said) rows

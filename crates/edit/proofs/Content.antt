@@ -16,7 +16,7 @@ use Rattle.laws.proofs.Features.{one-under}
 use Rattle.put.specs.Family.{blockBits}
 use Rattle.edit.specs.Content.{contentIn}
 use Rattle.put.proofs.Way.{Way, way-of, under-of}
-use Rattle.put.proofs.Context.{before, after, Open, spliced, context}
+use Rattle.put.proofs.Context.{before-hole, after-hole, Open, spliced, context}
 use Rattle.put.proofs.Standing.{LeafAround, ListedOrInside, listed, inside, stands, place-listed, is-listed, part-listed, not-listed, part-inside, bits-at}
 use Rattle.put.proofs.Choice.{list-bits}
 
@@ -29,7 +29,7 @@ module _ (p : Picture) {m k r c κ : ℕ} (w : Way m 0 0 0 k r c κ) where
   unfolding contentIn spliced
   content-listed o =
       ap (λ t. cond t (take (partLength m κ (listOf p m 0 0 0)) (drop (placeOf κ (listOf p m 0 0 0)) (listOf p m 0 0 0))) (recordOf κ (blockBits κ (listOf p m 0 0 0)) ∷ [])) (is-listed p w o)
-      ∙ middle (before p w) (listOf p k r c κ) (after p w) (listOf p m 0 0 0) (placeOf κ (listOf p m 0 0 0)) (partLength m κ (listOf p m 0 0 0))
+      ∙ middle (before-hole p w) (listOf p k r c κ) (after-hole p w) (listOf p m 0 0 0) (placeOf κ (listOf p m 0 0 0)) (partLength m κ (listOf p m 0 0 0))
       (context p w o) (place-listed p w o) (part-listed p w o m (block-valid (under-of w) .height))
 
   content-inside : LeafAround p w → contentIn m (listOf p m 0 0 0) κ ≡ listOf p k r c κ

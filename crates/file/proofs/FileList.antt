@@ -16,11 +16,11 @@ use Rattle.definitions.specs.Log.{isContent}
 use Rattle.definitions.specs.File.{bitBytes, recordsInFile}
 use Rattle.laws.proofs.FileOf.{width-of}
 use Rattle.list.specs.Check.{oneSlot, restPlace, afterNode, stepUnder}
-use Rattle.list.proofs.Content.{Stand, Answer, no-records, other-key, large-bits, one-record, many-records, keys-length}
+use Rattle.list.proofs.Content.{Stand, ContentAnswer, no-records, other-key, large-bits, one-record, many-records, keys-length}
 use Rattle.file.specs.Layout.{RecordsFit, fileKeyAt, fileBitsAt, recordsAt, keysAt, valuesAt}
 use Rattle.file.specs.Room.{Exact}
 use Rattle.file.proofs.ReadBytes.{key-read, value-read}
-use Rattle.file.proofs.FileTurn.{many, size, in-file, Answered}
+use Rattle.file.proofs.FileTurn.{many, size, in-file, TurnAnswered}
 
 -- the first n records of the file's keys and bitstrings are its records
 records-are : (w n : ℕ) (file : List ℕ) → recordsOf (keysAt w n file) (valuesAt w n file) n ≡ recordsAt w n file
@@ -31,7 +31,7 @@ records-are w n file =
 
 module _ (m s κ w n : ℕ) (file : List ℕ) (valid : validKey m κ ≡ true) where
   -- so whether they are a block's list in two slices is whether they are one in the file
-  content-is : Answer m s κ (keysAt w n file) (valuesAt w n file) n ≡ isContent m s κ (recordsAt w n file)
+  content-is : ContentAnswer m s κ (keysAt w n file) (valuesAt w n file) n ≡ isContent m s κ (recordsAt w n file)
   content-is =
       let e = many w n file in
       let f = size w n file in
@@ -73,7 +73,7 @@ module _ (m s κ w n : ℕ) (file : List ℕ) (valid : validKey m κ ≡ true) w
           leaf-first one = one-record stand s (key-is ∙ same) (rw bits-is small) (ap oneSlot bits-is ∙ one) ∙ content-is
 
           -- a node ends where the records end
-          pub node-first : (step place : ℕ) → oneSlot own ≡ false → step ≡ stepUnder (heightOf m κ) → Answered w n file 1 κ own step place
+          pub node-first : (step place : ℕ) → oneSlot own ≡ false → step ≡ stepUnder (heightOf m κ) → TurnAnswered w n file 1 κ own step place
               → eqb place n ≡ isContent m s κ (recordsAt w n file)
           node-first step place other step-is h =
               many-records stand s (key-is ∙ same) (rw bits-is small) place (ap oneSlot bits-is ∙ other)

@@ -14,7 +14,7 @@ use Rattle.list.specs.Check.{oneSlot, restPlace, afterNode}
 use Rattle.list.proofs.Pixels.{too-few}
 use Rattle.list.proofs.Turn.{step-one}
 use Rattle.file.specs.Layout.{RecordsFit, fileKeyAt, fileBitsAt, recordsAt, keysAt, valuesAt}
-use Rattle.file.proofs.FileTurn.{many, size, in-place, Answered, PassedIn, begins-in, ends-in, differs-in, other-key-in, wrong-child-in, leaf-in, pixel-in}
+use Rattle.file.proofs.FileTurn.{many, size, in-place, TurnAnswered, PassedIn, begins-in, ends-in, differs-in, other-key-in, wrong-child-in, leaf-in, pixel-in}
 
 -- what the function answers, of the file's records
 abbrev pub RightIn : ℕ → ℕ → List ℕ → ℕ → ℕ → ℕ → Bool → Type 0
@@ -45,7 +45,7 @@ pixels-begin w n file first key own pre h = record {
 
 module _ {w n : ℕ} {file : List ℕ} {first key own next union digit : ℕ} (p : PixelsIn w n file first key own next union digit) where
   -- one that is wrong decides
-  wrong-pixel : Answered w n file first key own 1 0 → RightIn w n file first key own false
+  wrong-pixel : TurnAnswered w n file first key own 1 0 → RightIn w n file first key own false
   wrong-pixel h = (λ f. p .four, h .1 1 step-one)
 
   -- after the last their union does

@@ -10,13 +10,13 @@ use lib.Bits.{bitOr}
 use Rattle.definitions.specs.Read.{paired}
 use Rattle.laws.proofs.Records.{paired-back}
 use Rattle.list.specs.Check.{oneSlot, restPlace, afterNode, stepUnder}
-use Rattle.list.proofs.Turn.{Answer, Passed, at-height, pixel, begins, ends, differs, short, other-key, wrong-child, goes-leaf, goes-node}
+use Rattle.list.proofs.Turn.{Answer, Passed, at-height, pixel, turn-begins, ends, differs, short, other-key, wrong-child, goes-leaf, goes-node}
 use Rattle.file.specs.Layout.{RecordsFit, fileKeyAt, fileBitsAt, recordsAt, keysAt, valuesAt}
 use Rattle.file.proofs.ReadBytes.{key-read, value-read, keys-many, bits-many}
 
 -- what the function answers, of the file's records
-abbrev pub Answered : ℕ → ℕ → List ℕ → ℕ → ℕ → ℕ → ℕ → ℕ → Type 0
-Answered w n file first key own step r =
+abbrev pub TurnAnswered : ℕ → ℕ → List ℕ → ℕ → ℕ → ℕ → ℕ → ℕ → Type 0
+TurnAnswered w n file first key own step r =
     (r ≤ n) × ((k : ℕ) → step ≡ stepUnder k → r ≡ restPlace n (afterNode k key own (drop first (recordsAt w n file))))
 
 -- 25 is the step under a block of height 3
@@ -43,20 +43,20 @@ pub in-place : (w n : ℕ) (file : List ℕ) (first key own k : ℕ)
 in-place w n file first key own k i = restPlace (many w n file i) (afterNode k key own (drop first (in-file w n file i)))
 
 module _ (w n : ℕ) (file : List ℕ) (first key own step r : ℕ) where
-  answered : r ≤ n → Answer (keysAt w n file) (valuesAt w n file) first key own step r → Answered w n file first key own step r
+  answered : r ≤ n → Answer (keysAt w n file) (valuesAt w n file) first key own step r → TurnAnswered w n file first key own step r
   answered within h = (within, λ k e. h k e ∙ in-place w n file first key own k)
 
-  answer : Answered w n file first key own step r → Answer (keysAt w n file) (valuesAt w n file) first key own step r
+  answer : TurnAnswered w n file first key own step r → Answer (keysAt w n file) (valuesAt w n file) first key own step r
   answer h k e = h .1 k e ∙ sym (in-place w n file first key own k)
 
   -- an answer at one height is the answer for that height's step
   pub at-height-in : (k : ℕ) → step ≡ stepUnder k → (r ≤ n) × (r ≡ restPlace n (afterNode k key own (drop first (recordsAt w n file))))
-      → Answered w n file first key own step r
+      → TurnAnswered w n file first key own step r
   at-height-in k e h =
       answered (h .0) (at-height (keysAt w n file) (valuesAt w n file) first key own k step r e (h .1 ∙ sym (in-place w n file first key own k)))
 
 -- a pixel has no children
-pub pixel-in : (w n : ℕ) (file : List ℕ) (first key own step : ℕ) → step < 25 → (step ≡ 5 → ⊥) → (step ≡ 1 → ⊥) → Answered w n file first key own step 0
+pub pixel-in : (w n : ℕ) (file : List ℕ) (first key own step : ℕ) → step < 25 → (step ≡ 5 → ⊥) → (step ≡ 1 → ⊥) → TurnAnswered w n file first key own step 0
 pixel-in w n file first key own step low five one =
     answered w n file first key own step 0 (omega arith) (pixel (keysAt w n file) (valuesAt w n file) first key own step low five one)
 
@@ -79,20 +79,20 @@ pub begins-in : (w n : ℕ) (file : List ℕ) (first key own step : ℕ)
 begins-in w n file first key own step pre positive =
     let e = many w n file in
     let within : first ≤ length (keysAt w n file) = omega (arith, pre .1) in
-    record { laid = pre .0; reached = pre .1; passed = begins (keysAt w n file) (valuesAt w n file) first key own step (size w n file, within, pre .2) positive }
+    record { laid = pre .0; reached = pre .1; passed = turn-begins (keysAt w n file) (valuesAt w n file) first key own step (size w n file, within, pre .2) positive }
 
 module _ {w n : ℕ} {file : List ℕ} {first key own step next union digit : ℕ} (p : PassedIn w n file first key own step next union digit) where
   -- at the end: the union must be the block's own bits
-  pub ends-in : 5 ≤ digit → union ≡ own → Answered w n file first key own step next
+  pub ends-in : 5 ≤ digit → union ≡ own → TurnAnswered w n file first key own step next
   ends-in end e = answered w n file first key own step next (p .reached) (ends (p .passed) end e)
 
   -- and else the records are wrong
-  pub differs-in : 5 ≤ digit → (union ≡ own → ⊥) → Answered w n file first key own step 0
+  pub differs-in : 5 ≤ digit → (union ≡ own → ⊥) → TurnAnswered w n file first key own step 0
   differs-in end e = answered w n file first key own step 0 (omega arith) (differs (p .passed) end e)
 
   module _ (turn : digit < 5) where
     -- no record is left
-    pub short-in : n ≤ next → Answered w n file first key own step 0
+    pub short-in : n ≤ next → TurnAnswered w n file first key own step 0
     short-in h =
         let e = many w n file in
         let past : length (keysAt w n file) ≤ next = omega arith in
@@ -107,7 +107,7 @@ module _ {w n : ℕ} {file : List ℕ} {first key own step next union digit : �
       key-is = κ-is ∙ sym (key-read w n next file there)
 
       -- the record has another key than the child
-      pub other-key-in : (κ ≡ x → ⊥) → Answered w n file first key own step 0
+      pub other-key-in : (κ ≡ x → ⊥) → TurnAnswered w n file first key own step 0
       other-key-in h = answered w n file first key own step 0 (omega arith) (other-key (p .passed) turn listed is (λ e. h (key-is ∙ e)))
 
       module _ (child : κ ≡ x) (found : ℕ) (found-is : found ≡ fileBitsAt w next file) where
@@ -121,12 +121,12 @@ module _ {w n : ℕ} {file : List ℕ} {first key own step next union digit : �
         pub child-in : (k : ℕ) → step / 5 ≡ stepUnder k
             → (after : ℕ)
             → (after ≤ n) × (after ≡ restPlace n (afterNode k x found (drop (next + 1) (recordsAt w n file))))
-            → Answered w n file (next + 1) x found (step / 5) after
+            → TurnAnswered w n file (next + 1) x found (step / 5) after
         child-in k e after h = at-height-in w n file (next + 1) x found (step / 5) after k e h
 
         -- the child's block is wrong
-        pub wrong-child-in : oneSlot found ≡ false → (after : ℕ) → after ≡ 0 → Answered w n file (next + 1) x found (step / 5) after
-            → Answered w n file first key own step 0
+        pub wrong-child-in : oneSlot found ≡ false → (after : ℕ) → after ≡ 0 → TurnAnswered w n file (next + 1) x found (step / 5) after
+            → TurnAnswered w n file first key own step 0
         wrong-child-in node after none h =
             answered w n file first key own step 0 (omega arith)
             (wrong-child (p .passed) turn listed is child-is (ap oneSlot bits-is ∙ node) after none
@@ -141,7 +141,7 @@ module _ {w n : ℕ} {file : List ℕ} {first key own step next union digit : �
         }
 
         -- a node ends where its children end
-        pub node-in : oneSlot found ≡ false → (after : ℕ) → (after ≡ 0 → ⊥) → Answered w n file (next + 1) x found (step / 5) after
+        pub node-in : oneSlot found ≡ false → (after : ℕ) → (after ≡ 0 → ⊥) → TurnAnswered w n file (next + 1) x found (step / 5) after
             → PassedIn w n file first key own step after (bitOr union found) (digit + 1)
         node-in node after good h =
             let e = many w n file in

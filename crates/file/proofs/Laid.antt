@@ -9,7 +9,7 @@ use Rattle.definitions.specs.List.{recordOf}
 use Rattle.definitions.specs.File.{Width, two, four, fileLength, bytesOf, bytesOfRecord, numberAt}
 use Rattle.laws.proofs.FileBytes.{length-bytes}
 use Rattle.file.specs.Layout.{RecordsFit}
-use Rattle.file.proofs.Stores.{sets-append}
+use Rattle.file.proofs.Stores.{sets-split}
 
 -- a width that is not 2 is 4
 pub other-width : {w : ℕ} → Width w → (w ≡ 2 → ⊥) → w ≡ 4
@@ -40,8 +40,8 @@ pub fewer-there : {w : ℕ} → Width w → (i n k : ℕ) → i ≤ n → fileLe
 fewer-there two i n k h e = omega arith
 fewer-there four i n k h e = omega arith
 
-pub laid-at : {w n : ℕ} {file : List ℕ} → RecordsFit w n file → (i : ℕ) → i < n → RecordsFit w (i + 1) file
-laid-at {w} {n} {file} l i h = record {
+pub bytes-laid-at : {w n : ℕ} {file : List ℕ} → RecordsFit w n file → (i : ℕ) → i < n → RecordsFit w (i + 1) file
+bytes-laid-at {w} {n} {file} l i h = record {
   width-is = l .width-is;
   there = fewer-there (l .width-is) (i + 1) n (length file) (omega arith) (l .there);
 }
@@ -57,7 +57,7 @@ record-put file p place u w κ v keyed whole at width e f =
     f
     ∙ ap (λ l. sets l (p + 4) (bytesOf u v)) e
     ∙ ap (λ k. sets (sets file p (bytesOf 4 κ)) (p + k) (bytesOf u v)) (sym (length-bytes 4 κ))
-    ∙ sym (sets-append file p (bytesOf 4 κ) (bytesOf u v))
+    ∙ sym (sets-split file p (bytesOf 4 κ) (bytesOf u v))
     ∙ ap₂ (λ p w. sets file p (bytesOfRecord w (recordOf κ v))) at width
 
 -- the place of record n at each width

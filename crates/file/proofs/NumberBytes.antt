@@ -10,7 +10,7 @@ use lib.Seq.{sets, drop-cons}
 use Rattle.definitions.specs.File.{bytesOf, numberAfter, numberOf, numberAt}
 use Rattle.laws.proofs.FileBytes.{bytes-at-places, length-bytes}
 use Rattle.laws.proofs.FileBack.{number-at-below}
-use Rattle.file.proofs.Stores.{sets-append}
+use Rattle.file.proofs.Stores.{sets-split}
 
 -- two stores put a number's last two bytes at a place
 pub put-two : (l : List ℕ) (place x : ℕ) → set (set l place (x / 256 % 256)) (place + 1) (x % 256) ≡ sets l place (bytesOf 2 x)
@@ -54,7 +54,7 @@ put-eight l place x first whole e f =
     f
     ∙ ap (λ u. sets u (place + 4) (bytesOf 4 (x % 4294967296))) e
     ∙ ap (λ k. sets (sets l place (bytesOf 4 (x / 4294967296))) (place + k) (bytesOf 4 (x % 4294967296))) (sym (length-bytes 4 (x / 4294967296)))
-    ∙ sym (sets-append l place (bytesOf 4 (x / 4294967296)) (bytesOf 4 (x % 4294967296)))
+    ∙ sym (sets-split l place (bytesOf 4 (x / 4294967296)) (bytesOf 4 (x % 4294967296)))
     ∙ ap (sets l place) (sym (halves x))
 
 -- a byte is a number in one byte

@@ -12,7 +12,7 @@ use Rattle.definitions.specs.File.{Width, fileLength, bytesOfRecord, bytesOfRec
 use Rattle.laws.proofs.Records.{records-length}
 use Rattle.laws.proofs.FileOf.{length-records}
 use Rattle.file.specs.Room.{RoomFor}
-use Rattle.file.proofs.Stores.{sets-append}
+use Rattle.file.proofs.Stores.{sets-split}
 
 -- one record more
 pub records-more : (keys bits : List ℕ) (i : ℕ) → i < length keys → i < length bits
@@ -61,7 +61,7 @@ stored {w} width keys bits i old file h j e =
     ∙ ap (λ bs. before ++ bs) (record-bytes-one w (recordOf (getD keys i 0) (getD bits i 0))) in
     sym
     (ap (λ bs. sets old 11 bs) all
-    ∙ sets-append old 11 before this
+    ∙ sets-split old 11 before this
     ∙ ap (λ l. sets l (11 + length before) this) (sym e)
     ∙ ap (λ k. sets file k this) place)
 

@@ -10,11 +10,11 @@ use lib.Seq.{sets}
 use Rattle.definitions.specs.File.{versionFor, bytesOf, headOf, mark}
 
 -- what is stored from a place on, and then what is stored after it
-pub sets-append : (l : List ℕ) (i : ℕ) (a b : List ℕ) → sets l i (a ++ b) ≡ sets (sets l i a) (i + length a) b
-sets-append l i [] b = ap (λ k. sets l k b) (sym (add-zero i))
-sets-append l i (x ∷ a) b =
+pub sets-split : (l : List ℕ) (i : ℕ) (a b : List ℕ) → sets l i (a ++ b) ≡ sets (sets l i a) (i + length a) b
+sets-split l i [] b = ap (λ k. sets l k b) (sym (add-zero i))
+sets-split l i (x ∷ a) b =
     let next : suc i + length a ≡ i + suc (length a) = omega arith in
-    sets-append (set l i x) (suc i) a b ∙ ap (λ k. sets (sets (set l i x) (suc i) a) k b) next
+    sets-split (set l i x) (suc i) a b ∙ ap (λ k. sets (sets (set l i x) (suc i) a) k b) next
 
 -- the mark, the version, m, s and n stored one after the other are the head
 pub head-stores : (m s n version : ℕ) (old marked versioned whole : List ℕ) → version ≡ versionFor s → marked ≡ sets old 0 mark
@@ -29,4 +29,4 @@ length-head m s n = refl
 
 -- what is stored after the head is stored from byte 11 on
 pub head-then : (old : List ℕ) (m s n : ℕ) (rest : List ℕ) → sets old 0 (headOf m s n ++ rest) ≡ sets (sets old 0 (headOf m s n)) 11 rest
-head-then old m s n rest = sets-append old 0 (headOf m s n) rest ∙ ap (λ k. sets (sets old 0 (headOf m s n)) k rest) (length-head m s n)
+head-then old m s n rest = sets-split old 0 (headOf m s n) rest ∙ ap (λ k. sets (sets old 0 (headOf m s n)) k rest) (length-head m s n)

@@ -92,5 +92,5 @@ drop-over place j new old h f =
     (drop-drop (j - length front) (place + length new) old ∙ ap (λ x. drop x old) past)
 
 -- a slice keeps its length where the places written lie within it
-pub length-over : (place : ℕ) (new old : List ℕ) → place + length new ≤ length old → length (overAt place new old) ≡ length old
-length-over place new old h = simp (length-append, length-take, length-drop) (omega arith)
+pub length-over-at : (place : ℕ) (new old : List ℕ) → place + length new ≤ length old → length (overAt place new old) ≡ length old
+length-over-at place new old h = simp (length-append, length-take, length-drop) (omega arith)

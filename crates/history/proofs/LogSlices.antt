@@ -12,7 +12,7 @@ use Rattle.definitions.specs.Read.{room, recordsOf}
 use Rattle.definitions.specs.Buffer.{overAt}
 use Rattle.definitions.specs.Log.{toRedo}
 use Rattle.definitions.specs.Calls.Paint.{logged}
-use Rattle.history.proofs.Buffers.{drop-over, length-over}
+use Rattle.history.proofs.Buffers.{drop-over, length-over-at}
 use Rattle.history.proofs.Shown.{ShownInSlices, shown-records, shown-first, shown-logged, shown-none, shown-room}
 
 -- lent logKeys and logValues, the slices hold the records in force and then those to redo, and past the longest log so far what was lent
@@ -99,8 +99,8 @@ module _ {front back : List Record} {longest : ℕ} {logKeys logValues logKeys�
         shown = rw append-nil both;
         force = both .count;
         short = omega arith;
-        keys-length = length-over inForce newKeys logKeys′ (omega arith) ∙ h .keys-length;
-        values-length = length-over inForce newValues logValues′ (omega arith) ∙ h .values-length;
+        keys-length = length-over-at inForce newKeys logKeys′ (omega arith) ∙ h .keys-length;
+        values-length = length-over-at inForce newValues logValues′ (omega arith) ∙ h .values-length;
         past-keys = stays longest inForce end newKeys logKeys logKeys′ (omega arith) (omega arith) (omega arith) (h .past-keys);
         past-values = stays longest inForce end newValues logValues logValues′ (omega arith) (omega arith) (omega arith) (h .past-values);
       }

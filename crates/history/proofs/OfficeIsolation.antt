@@ -22,7 +22,7 @@ use Rattle.laws.proofs.RowPlaces.{table-length, table-made}
 use Rattle.laws.proofs.RowOrder.{added-ascend, removed-ascend}
 use Rattle.laws.proofs.Shares.{Sound, known-all}
 use Rattle.history.specs.OfficeRuns.{Table, Ask, refusalOf, afterAsk}
-use Rattle.history.proofs.OfficeShares.{isFound, addedOwn, removedOwn, share-row, share-added, share-added-other, share-removed, share-removed-other, added-length, added-own-length, removed-length, removed-own-few, added-known, removed-known, added-valid, removed-valid}
+use Rattle.history.proofs.OfficeShares.{isFound, addedOwn, removedOwn, share-row, share-added, share-added-other, share-removed, share-removed-other, added-row-length, added-own-length, removed-length, removed-own-few, added-known, removed-known, added-valid, removed-valid}
 
 abbrev pub rowOfAsk : Ask → Waiver
 rowOfAsk a = waiverOf (a .office) (a .id) (a .key)
@@ -237,7 +237,7 @@ module _ (m : ℕ) (T : Table) (g : GrownTable m T) where
       adds-row =
           let s = sound-more in
           let all = known-all (added w t) (s .known) in
-          let more = added-length w t in
+          let more = added-row-length w t in
           let n = size in
           let p = s .zero in
           let q = s .one in

@@ -180,9 +180,9 @@ share-removed-other office w (x ∷ t) h =
     (λ o. share-other office x (removed w t) o ∙ share-removed-other office w t h ∙ sym (share-other office x t o)))
 
 -- ---- how many
-pub added-length : (w : Waiver) (t : List Waiver) → length (added w t) ≡ suc (length t)
-added-length w [] = ap length (more-none w)
-added-length w (x ∷ t) = decide (rowBefore x w) (λ b. ap length (more-later w x t b) ∙ ap suc (added-length w t)) (λ b. ap length (more-here w x t b))
+pub added-row-length : (w : Waiver) (t : List Waiver) → length (added w t) ≡ suc (length t)
+added-row-length w [] = ap length (more-none w)
+added-row-length w (x ∷ t) = decide (rowBefore x w) (λ b. ap length (more-later w x t b) ∙ ap suc (added-row-length w t)) (λ b. ap length (more-here w x t b))
 
 pub added-own-length : (w : Finding) (xs : List Finding) → length (addedOwn w xs) ≡ suc (length xs)
 added-own-length w [] = ap length (own-none w)

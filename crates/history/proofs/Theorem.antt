@@ -17,7 +17,7 @@ use Rattle.definitions.specs.Area.{summaryOf, badSummaryLength}
 use Rattle.definitions.specs.Calls.Survey.{surveyRefusal}
 use Rattle.laws.proofs.ListOf.{list-agree}
 use Rattle.laws.proofs.SummaryOf.{summary-agree}
-use Rattle.laws.proofs.RasterOf.{rasterOf, raster-length, raster-back, raster-good, length-from}
+use Rattle.laws.proofs.RasterOf.{rasterOfPicture, raster-length, raster-back, raster-good, length-from}
 use Rattle.laws.proofs.Built.{Builds, build-passed, build-accepted, build-count, build-summary, build-records}
 use Rattle.history.specs.History.{Call, painting, takingBack, redoing, emptying, Buffers, Kept, nothing, built, after, answer, afterCalls, keep, kept, longestList, longestLog, pictureLeft, rasterLeft}
 use Rattle.history.specs.Claim.{AsBuilt, History}
@@ -80,14 +80,14 @@ pub left-list : (m : ℕ) (raster : List ℕ) (k : Kept) → listOfRaster m (ras
 unfolding rasterLeft
 left-list m raster k =
     let q : Picture = pictureLeft m raster k in
-    list-agree (pictureOfRaster m (rasterOf m q)) q m 0 0 rootKey (raster-back m q) ∙ ap (λ q′. listOfPicture m q′) (left-is m raster k)
+    list-agree (pictureOfRaster m (rasterOfPicture m q)) q m 0 0 rootKey (raster-back m q) ∙ ap (λ q′. listOfPicture m q′) (left-is m raster k)
 
 -- and so their summaries
 pub left-summary : (m s : ℕ) (raster : List ℕ) (k : Kept) → summaryOf m s (pictureOfRaster m (rasterLeft m raster k)) ≡ summaryOf m s (pictureLeft m raster k)
 unfolding rasterLeft
 left-summary m s raster k =
     let q : Picture = pictureLeft m raster k in
-    summary-agree m s (pictureOfRaster m (rasterOf m q)) q (raster-back m q)
+    summary-agree m s (pictureOfRaster m (rasterOfPicture m q)) q (raster-back m q)
 
 module _ {m s size : ℕ} (raster summary : List ℕ) (counted : badSummaryLength m s summary ≡ false) {keys bits logKeys logValues : List ℕ} {b : Buffers} {k : Kept} {inList inLog : ℕ}
     (h : Invariant m s size (pictureOfRaster m raster) keys bits logKeys logValues b k inList inLog) where
@@ -99,7 +99,7 @@ module _ {m s size : ℕ} (raster summary : List ℕ) (counted : badSummaryLengt
       let legal = past-legal (h .past) in
       record {
         settings = h .settings;
-        sized = length-from m (rasterOf m q) (raster-length m q);
+        sized = length-from m (rasterOfPicture m q) (raster-length m q);
         below = raster-good m s q (rw (left-is m raster k) (legal .below));
         counted = counted;
         fits = rw (left-list m raster k) (let e = h .list .count in let f = h .list .short in let g = h .list .fits in omega arith);

@@ -11,7 +11,7 @@ use Rattle.keys.specs.Key.{heightOf, validKey}
 use Rattle.keys.specs.Block.{sideOf, contains, isAncestor, inInterval}
 use Rattle.keys.proofs.Cases.{split, equal, and-left, and-right, and-both, same-test}
 use Rattle.keys.specs.Under.{Under, MapBlock, InSquare}
-use Rattle.keys.proofs.Interval.{within, key-within, nest, apart}
+use Rattle.keys.proofs.Interval.{within, key-within, nest, intervals-apart}
 use Rattle.keys.proofs.Powers.{two-pos}
 use Rattle.keys.proofs.Valid.{Is, valid-block, block-valid}
 use Rattle.keys.proofs.Pixel.{inside}
@@ -40,7 +40,7 @@ holds-under {k₁} {r₁} {c₁} {k₂} {r₂} {c₂} a b h =
     let t : InSquare k₂ r₂ c₂ r₂ c₂ = omega arith in
     let i = inside a s in
     let j = inside b t in
-    apart a b (λ u. u)
+    intervals-apart a b (λ u. u)
     (λ v.
     let w = within v in
     let e : k₁ ≡ k₂ = omega (arith, height-of-side k₂ k₁ (omega arith)) in

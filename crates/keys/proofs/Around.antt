@@ -35,7 +35,7 @@ between-se : {k r c κ h k′ r′ c′ κ′ : ℕ} → BetweenBlocks k (r + 2 
 between-se (between u v) = between (se u) v
 
 -- at every height from the inner block's to the outer's there is one
-pub at-height : {k r c κ k′ r′ c′ κ′ : ℕ} (h : ℕ) → Under k r c κ k′ r′ c′ κ′ → k′ ≤ h → h ≤ k → BetweenBlocks k r c κ h k′ r′ c′ κ′
+at-height : {k r c κ k′ r′ c′ κ′ : ℕ} (h : ℕ) → Under k r c κ k′ r′ c′ κ′ → k′ ≤ h → h ≤ k → BetweenBlocks k r c κ h k′ r′ c′ κ′
 at-height {k} h here low high = outer h (omega arith) here
 at-height h (nw {k} u) low high = split k h (λ top. outer h (omega arith) (nw u)) (λ down. between-nw (at-height h u low down))
 at-height h (ne {k} u) low high = split k h (λ top. outer h (omega arith) (ne u)) (λ down. between-ne (at-height h u low down))
@@ -43,7 +43,7 @@ at-height h (sw {k} u) low high = split k h (λ top. outer h (omega arith) (sw u
 at-height h (se {k} u) low high = split k h (λ top. outer h (omega arith) (se u)) (λ down. between-se (at-height h u low down))
 
 -- the key of a block around a pixel is the pixel's, its digits below the block's level made zeros
-pub around-is : {m k r c κ : ℕ} (level row column : ℕ)
+around-is : {m k r c κ : ℕ} (level row column : ℕ)
     → MapBlock m k r c κ
     → m - level ≡ k
     → InKeys k κ (pixelKey m row column)
@@ -73,8 +73,8 @@ around-between {m} {level} {row} {column} low (between {r₁} {c₁} {κ₁} b u
     })
 
 -- the key is that of such a block
-pub around : (m level row column : ℕ) → level ≤ m → row < 2 ^ m → column < 2 ^ m → Around m level row column (keyAround m level row column)
-around m level row column low rows columns =
+pub around-contains : (m level row column : ℕ) → level ≤ m → row < 2 ^ m → column < 2 ^ m → Around m level row column (keyAround m level row column)
+around-contains m level row column low rows columns =
     around-between low (at-height (m - level) (pixel-block m row column rows columns) (omega arith) (omega arith))
 
 -- and no other is

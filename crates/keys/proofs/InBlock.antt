@@ -13,7 +13,7 @@ use Rattle.keys.proofs.Cases.{and-left, and-right, and-both, same-test}
 use Rattle.keys.specs.Under.{MapBlock, InSquare}
 use Rattle.keys.proofs.Interval.{within}
 use Rattle.keys.proofs.Valid.{Is, valid-block, block-valid}
-use Rattle.keys.proofs.Pixel.{InKeys, inside, back}
+use Rattle.keys.proofs.Pixel.{InKeys, inside, pixel-back}
 
 abbrev squareTest : ℕ → ℕ → ℕ → ℕ → ℕ → Bool
 squareTest k r c row column = leb r row && ltb row (r + 2 ^ k) && (leb c column && ltb column (c + 2 ^ k))
@@ -63,7 +63,7 @@ pub inBlock-keys-iff : {m k r c κ : ℕ} (row column : ℕ)
     → column < 2 ^ m
     → (inBlock m κ row column ≡ true) ↔ InKeys k κ (pixelKey m row column)
 inBlock-keys-iff row column b low narrow =
-    ((λ t. inside b (inBlock-iff row column b .0 t)), (λ i. inBlock-iff row column b .1 (back row column b low narrow i)))
+    ((λ t. inside b (inBlock-iff row column b .0 t)), (λ i. inBlock-iff row column b .1 (pixel-back row column b low narrow i)))
 
 -- for a valid key the two tests agree at every pixel of the raster
 pub inBlock-inInterval : (m κ row column : ℕ)

@@ -10,14 +10,14 @@ use Rattle.keys.proofs.Powers.{five-pos}
 use Rattle.keys.specs.Under.{Under, here, nw, ne, sw, se, Quadrant, is-nw, is-ne, is-sw, is-se}
 
 -- the numbers of two blocks are the same
-pub record Same (k r c κ k′ r′ c′ κ′ : ℕ) : Type 0 where
+pub record SameBlock (k r c κ k′ r′ c′ κ′ : ℕ) : Type 0 where
   pub heights : k ≡ k′
   pub rows : r ≡ r′
   pub columns : c ≡ c′
   pub keys : κ ≡ κ′
 
 -- a block is under another by any names of its four numbers
-pub same-block : {k r c κ k₁ r₁ c₁ κ₁ k₂ r₂ c₂ κ₂ : ℕ} → Under k r c κ k₁ r₁ c₁ κ₁ → Same k₁ r₁ c₁ κ₁ k₂ r₂ c₂ κ₂ → Under k r c κ k₂ r₂ c₂ κ₂
+pub same-block : {k r c κ k₁ r₁ c₁ κ₁ k₂ r₂ c₂ κ₂ : ℕ} → Under k r c κ k₁ r₁ c₁ κ₁ → SameBlock k₁ r₁ c₁ κ₁ k₂ r₂ c₂ κ₂ → Under k r c κ k₂ r₂ c₂ κ₂
 same-block u e = rw (← e .heights, ← e .rows, ← e .columns, ← e .keys) u
 
 -- and by any name of its key alone
@@ -25,7 +25,7 @@ pub same-key : {k r c κ k₁ r₁ c₁ κ₁ κ₂ : ℕ} → Under k r c κ k�
 same-key u e = rw (← e) u
 
 -- the second block's height, keys and square lie within the first's
-pub record Within (k r c κ k′ r′ c′ κ′ : ℕ) : Type 0 where
+pub record LiesWithin (k r c κ k′ r′ c′ κ′ : ℕ) : Type 0 where
   pub height : k′ ≤ k
   pub from : κ ≤ κ′
   pub until : κ′ + 5 ^ k′ ≤ κ + 5 ^ k
@@ -35,7 +35,7 @@ pub record Within (k r c κ k′ r′ c′ κ′ : ℕ) : Type 0 where
   pub right : c′ + 2 ^ k′ ≤ c + 2 ^ k
 
 -- a block under another lies within it
-pub within : {k r c κ k′ r′ c′ κ′ : ℕ} → Under k r c κ k′ r′ c′ κ′ → Within k r c κ k′ r′ c′ κ′
+pub within : {k r c κ k′ r′ c′ κ′ : ℕ} → Under k r c κ k′ r′ c′ κ′ → LiesWithin k r c κ k′ r′ c′ κ′
 within here = omega arith
 within (nw {k} u) = let w = within u in let e = pow-suc 5 k in let f = pow-suc 2 k in omega arith
 within (ne {k} u) = let w = within u in let e = pow-suc 5 k in let f = pow-suc 2 k in omega arith
@@ -103,7 +103,7 @@ nest (se u) v from until = let w = within u in nest u (nest-quadrant is-se v (om
 pub both-ways : {k₁ r₁ c₁ κ₁ k₂ r₂ c₂ κ₂ : ℕ}
     → Under k₁ r₁ c₁ κ₁ k₂ r₂ c₂ κ₂
     → Under k₂ r₂ c₂ κ₂ k₁ r₁ c₁ κ₁
-    → Same k₁ r₁ c₁ κ₁ k₂ r₂ c₂ κ₂
+    → SameBlock k₁ r₁ c₁ κ₁ k₂ r₂ c₂ κ₂
 both-ways u v = let a = within u in let b = within v in omega arith
 
 -- two blocks under one that have the same key are one
@@ -111,14 +111,14 @@ pub one-block : {k r c κ k₁ r₁ c₁ κ₁ k₂ r₂ c₂ κ₂ : ℕ}
     → Under k r c κ k₁ r₁ c₁ κ₁
     → Under k r c κ k₂ r₂ c₂ κ₂
     → κ₁ ≡ κ₂
-    → Same k₁ r₁ c₁ κ₁ k₂ r₂ c₂ κ₂
+    → SameBlock k₁ r₁ c₁ κ₁ k₂ r₂ c₂ κ₂
 one-block {k₁} {k₂} u v e =
     let p = five-pos k₁ in
     let q = five-pos k₂ in
     both-ways (nest u v (omega arith) (omega arith)) (nest v u (omega arith) (omega arith))
 
 -- two blocks under one are nested, or one's keys come before the other's
-pub apart {ℓ} : {C : Type ℓ} {k r c κ k₁ r₁ c₁ κ₁ k₂ r₂ c₂ κ₂ : ℕ}
+pub intervals-apart {ℓ} : {C : Type ℓ} {k r c κ k₁ r₁ c₁ κ₁ k₂ r₂ c₂ κ₂ : ℕ}
     → Under k r c κ k₁ r₁ c₁ κ₁
     → Under k r c κ k₂ r₂ c₂ κ₂
     → (Under k₁ r₁ c₁ κ₁ k₂ r₂ c₂ κ₂ → C)
@@ -126,7 +126,7 @@ pub apart {ℓ} : {C : Type ℓ} {k r c κ k₁ r₁ c₁ κ₁ k₂ r₂ c₂ �
     → (κ₁ + 5 ^ k₁ ≤ κ₂ → C)
     → (κ₂ + 5 ^ k₂ ≤ κ₁ → C)
     → C
-apart {k₁} {κ₁} {k₂} {κ₂} u v holds lies before after =
+intervals-apart {k₁} {κ₁} {k₂} {κ₂} u v holds lies before after =
     split κ₂ κ₁ (λ lt. split κ₁ (κ₂ + 5 ^ k₂) (λ inside. lies (nest v u (omega arith) inside)) after)
     (λ ge. split κ₂ (κ₁ + 5 ^ k₁) (λ inside. holds (nest u v ge inside)) before)
 

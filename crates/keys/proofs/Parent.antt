@@ -4,7 +4,7 @@ use native.Mathlib.Omega.{arith}
 use Rattle.keys.specs.Key.{childKey}
 use Rattle.keys.specs.Under.{Under, here, nw, ne, sw, se, Quadrant, is-nw, is-ne, is-sw, is-se}
 use Rattle.keys.proofs.Under.{under-trans, quadrant-under}
-use Rattle.keys.proofs.Interval.{Same}
+use Rattle.keys.proofs.Interval.{SameBlock}
 
 -- the second block is the first, or is a quadrant of a block under the first
 pub data RootOrChild : ℕ → ℕ → ℕ → ℕ → ℕ → ℕ → ℕ → ℕ → Type 0 where
@@ -40,7 +40,7 @@ parent-of (se u) = child-se (parent-of u)
 
 by-case {ℓ} : {C : Type ℓ} {k r c κ k′ r′ c′ κ′ : ℕ}
     → RootOrChild k r c κ k′ r′ c′ κ′
-    → (Same k r c κ k′ r′ c′ κ′ → C)
+    → (SameBlock k r c κ k′ r′ c′ κ′ → C)
     → ((r₁ c₁ κ₁ : ℕ) → Under k r c κ (suc k′) r₁ c₁ κ₁ → Quadrant k′ r₁ c₁ κ₁ r′ c′ κ′ → C)
     → C
 by-case root first other = first (omega arith)
@@ -49,7 +49,7 @@ by-case (child {r₁} {c₁} {κ₁} u q) first other = other r₁ c₁ κ₁ u 
 -- the same by cases: the four numbers are equal, or there is a parent
 pub parent-cases {ℓ} : {C : Type ℓ} {k r c κ k′ r′ c′ κ′ : ℕ}
     → Under k r c κ k′ r′ c′ κ′
-    → (Same k r c κ k′ r′ c′ κ′ → C)
+    → (SameBlock k r c κ k′ r′ c′ κ′ → C)
     → ((r₁ c₁ κ₁ : ℕ) → Under k r c κ (suc k′) r₁ c₁ κ₁ → Quadrant k′ r₁ c₁ κ₁ r′ c′ κ′ → C)
     → C
 parent-cases u first other = by-case (parent-of u) first other

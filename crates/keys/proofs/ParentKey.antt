@@ -11,7 +11,7 @@ use Rattle.keys.specs.Key.{levelOf, heightOf, validKey, childKey, parent
 use Rattle.keys.specs.Block.{isAncestor}
 use Rattle.keys.specs.Under.{Under, MapBlock, here, nw, ne, sw, se, Quadrant, is-nw, is-ne, is-sw, is-se}
 use Rattle.keys.proofs.Under.{quadrant-under}
-use Rattle.keys.proofs.Interval.{within, under-height, key-within, apart}
+use Rattle.keys.proofs.Interval.{within, under-height, key-within, intervals-apart}
 use Rattle.keys.proofs.Powers.{five-pos}
 use Rattle.keys.proofs.Parent.{quadrant-of, quadrant-after, parent-cases}
 use Rattle.keys.proofs.Valid.{valid-block, block-valid, block-level}
@@ -89,7 +89,7 @@ one-above e a b u v =
     let i = key-within u in
     let j = key-within v in
     let f = ap (λ k. 5 ^ k) e in
-    apart a b (λ w. let x = within w in omega arith) (λ w. let x = within w in omega arith) (λ before. omega arith) (λ after. omega arith)
+    intervals-apart a b (λ w. let x = within w in omega arith) (λ w. let x = within w in omega arith) (λ before. omega arith) (λ after. omega arith)
 
 -- the parent is the only ancestor one level up
 pub parent-only : (m a κ : ℕ)
@@ -107,11 +107,11 @@ parent-only m a κ valid-a valid-κ ancestor level =
     (λ r₁ c₁ κ₁ b q. one-above (omega arith) u b (ancestor-iff u v .0 ancestor .0) (quadrant-under q) ∙ sym (parent-key b q))
 
 -- d is the digit of a quadrant
-pub data Child (k r c κ d : ℕ) : Type 0 where
-  is-child : {r′ c′ : ℕ} → Quadrant k r c κ r′ c′ (childKey κ k d) → Child k r c κ d
+pub data ChildOf (k r c κ d : ℕ) : Type 0 where
+  is-child : {r′ c′ : ℕ} → Quadrant k r c κ r′ c′ (childKey κ k d) → ChildOf k r c κ d
 
 -- each digit from 1 to 4 is
-pub child-of : (k r c κ d : ℕ) → 1 ≤ d → d ≤ 4 → Child k r c κ d
+pub child-of : (k r c κ d : ℕ) → 1 ≤ d → d ≤ 4 → ChildOf k r c κ d
 child-of k r c κ zero least most = absurd (omega arith)
 child-of k r c κ (suc zero) least most = is-child is-nw
 child-of k r c κ (suc (suc zero)) least most = is-child is-ne
@@ -119,7 +119,7 @@ child-of k r c κ (suc (suc (suc zero))) least most = is-child is-sw
 child-of k r c κ (suc (suc (suc (suc zero)))) least most = is-child is-se
 child-of k r c κ (suc (suc (suc (suc (suc d))))) least most = absurd (omega arith)
 
-from-child : {m k r c κ d : ℕ} → MapBlock m (suc k) r c κ → Child k r c κ d → (validKey m (childKey κ k d) ≡ true) × (parentKey m (childKey κ k d) ≡ κ)
+from-child : {m k r c κ d : ℕ} → MapBlock m (suc k) r c κ → ChildOf k r c κ d → (validKey m (childKey κ k d) ≡ true) × (parentKey m (childKey κ k d) ≡ κ)
 from-child b (is-child q) = (block-valid (quadrant-of b q) .valid, parent-key b q)
 
 -- a child's key by a digit from 1 to 4 is valid, and its parent's key leads back

@@ -140,24 +140,24 @@ inside {m} {k} {r} {c} {κ} {row} {column} b s =
     omega arith
 
 -- and back: a pixel of the raster whose key lies in a block's interval lies in the block's square
-pub back : {m k r c κ : ℕ} (row column : ℕ)
+pub pixel-back : {m k r c κ : ℕ} (row column : ℕ)
     → MapBlock m k r c κ
     → row < 2 ^ m
     → column < 2 ^ m
     → InKeys k κ (pixelKey m row column)
     → InSquare k r c row column
-back {m} row column b low narrow i =
+pixel-back {m} row column b low narrow i =
     let w = within (nest b (pixel-block m row column low narrow) (i .from) (i .until)) in
     omega arith
 
 -- two pixels of the raster with one key are one
-pub one-pixel : (m row column row′ column′ : ℕ)
+pub one-key-one-pixel : (m row column row′ column′ : ℕ)
     → row < 2 ^ m
     → column < 2 ^ m
     → row′ < 2 ^ m
     → column′ < 2 ^ m
     → pixelKey m row column ≡ pixelKey m row′ column′
     → (row ≡ row′) × (column ≡ column′)
-one-pixel m row column row′ column′ low narrow low′ narrow′ e =
+one-key-one-pixel m row column row′ column′ low narrow low′ narrow′ e =
     let s = one-block (pixel-block m row column low narrow) (pixel-block m row′ column′ low′ narrow′) e in
     (s .rows, s .columns)

@@ -55,8 +55,8 @@ key-below (next {e = e} h a) (List·Memᴰ·head i) = let j = ap (λ y. y .key) 
 key-below (next h a) (List·Memᴰ·tail m) = key-below a m
 
 -- no two records have the same key
-pub same-key : {lo hi : ℕ} {l : List Record} {x y : Record} → Ascending lo hi l → List·Memᴰ x l → List·Memᴰ y l → x .key ≡ y .key → x ≡ y
-same-key (next h a) (List·Memᴰ·head i) (List·Memᴰ·head j) e = i ∙ sym j
-same-key (next h a) (List·Memᴰ·head i) (List·Memᴰ·tail n) e = let b = key-from a n in let k = ap (λ z. z .key) i in absurd (omega arith)
-same-key (next h a) (List·Memᴰ·tail m) (List·Memᴰ·head j) e = let b = key-from a m in let k = ap (λ z. z .key) j in absurd (omega arith)
-same-key (next h a) (List·Memᴰ·tail m) (List·Memᴰ·tail n) e = same-key a m n e
+pub same-key-record : {lo hi : ℕ} {l : List Record} {x y : Record} → Ascending lo hi l → List·Memᴰ x l → List·Memᴰ y l → x .key ≡ y .key → x ≡ y
+same-key-record (next h a) (List·Memᴰ·head i) (List·Memᴰ·head j) e = i ∙ sym j
+same-key-record (next h a) (List·Memᴰ·head i) (List·Memᴰ·tail n) e = let b = key-from a n in let k = ap (λ z. z .key) i in absurd (omega arith)
+same-key-record (next h a) (List·Memᴰ·tail m) (List·Memᴰ·head j) e = let b = key-from a m in let k = ap (λ z. z .key) j in absurd (omega arith)
+same-key-record (next h a) (List·Memᴰ·tail m) (List·Memᴰ·tail n) e = same-key-record a m n e

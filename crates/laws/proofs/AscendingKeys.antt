@@ -14,9 +14,9 @@ pub data AscendingKeys : ℕ → ℕ → List ℕ → Type 0 where
   key : {lo hi x : ℕ} {l : List ℕ} → lo ≤ x → AscendingKeys (suc x) hi l → AscendingKeys lo hi (x ∷ l)
 
 -- the bounds are in order
-pub ascending-bounds : {lo hi : ℕ} {l : List ℕ} → AscendingKeys lo hi l → lo ≤ hi
-ascending-bounds (no-key h) = h
-ascending-bounds (key h t) = let e = ascending-bounds t in omega arith
+pub keys-bounds : {lo hi : ℕ} {l : List ℕ} → AscendingKeys lo hi l → lo ≤ hi
+keys-bounds (no-key h) = h
+keys-bounds (key h t) = let e = keys-bounds t in omega arith
 
 -- wider bounds hold too
 pub ascending-widen : {lo hi lo′ hi′ : ℕ} {l : List ℕ} → lo′ ≤ lo → hi ≤ hi′ → AscendingKeys lo hi l → AscendingKeys lo′ hi′ l
@@ -24,15 +24,15 @@ ascending-widen {lo′} {hi′} a b (no-key h) = no-key {lo = lo′} {hi = hi′
 ascending-widen {lo′} a b (key {x} h t) = key {lo = lo′} {x = x} (omega arith) (ascending-widen {lo = suc x} {lo′ = suc x} (omega arith) b t)
 
 -- keys below a bound, and then keys from it on
-pub ascending-append : {lo mid hi : ℕ} {a b : List ℕ} → AscendingKeys lo mid a → AscendingKeys mid hi b → AscendingKeys lo hi (a ++ b)
-ascending-append {hi} (no-key h) t = ascending-widen h (omega arith) t
-ascending-append (key h s) t = key h (ascending-append s t)
+pub keys-append : {lo mid hi : ℕ} {a b : List ℕ} → AscendingKeys lo mid a → AscendingKeys mid hi b → AscendingKeys lo hi (a ++ b)
+keys-append {hi} (no-key h) t = ascending-widen h (omega arith) t
+keys-append (key h s) t = key h (keys-append s t)
 
 -- each key lies between the bounds
 pub ascending-member : {lo hi x : ℕ} {l : List ℕ} → AscendingKeys lo hi l → List·Memᴰ x l → (lo ≤ x) × (x < hi)
 ascending-member (no-key h) m = absurd (List·Memᴰ·not-nil m)
 ascending-member {lo} {hi} {x} (key {x = y} {l} h t) m =
-    let order = ascending-bounds t in
+    let order = keys-bounds t in
     ⊎-elim (λ (e : x ≡ y). omega arith) (λ (m′ : List·Memᴰ x l). let ih = ascending-member t m′ in omega arith) (List·Memᴰ·cases-cons m)
 
 -- the key at a place is at least the lower bound
@@ -56,13 +56,13 @@ each-once t i j hi hj e =
     (λ le. split j i (λ below. absurd (let h = ascending-places t j i below hi in omega arith)) (λ ge. omega arith))
 
 -- without its first key a list ascends above it
-pub ascending-rest : {lo hi x : ℕ} {l : List ℕ} → AscendingKeys lo hi (x ∷ l) → AscendingKeys (suc x) hi l
-ascending-rest (key h t) = t
+pub keys-rest : {lo hi x : ℕ} {l : List ℕ} → AscendingKeys lo hi (x ∷ l) → AscendingKeys (suc x) hi l
+keys-rest (key h t) = t
 
 -- what comes after the first key of one list comes after that of another that begins with the same key
 past-first : {lo hi x y z : ℕ} {a b : List ℕ} → AscendingKeys lo hi (x ∷ a) → x ≡ y → List·Memᴰ z a → List·Memᴰ z (y ∷ b) → List·Memᴰ z b
 past-first {y} {z} {b} s e m other =
-    let above = ascending-member (ascending-rest s) m in
+    let above = ascending-member (keys-rest s) m in
     ⊎-elim (λ (same : z ≡ y). absurd (omega arith)) (λ (m′ : List·Memᴰ z b). m′) (List·Memᴰ·cases-cons other)
 
 same-first : {lo hi lo′ hi′ x y : ℕ} {a b : List ℕ} → AscendingKeys lo hi (x ∷ a) → AscendingKeys lo′ hi′ (y ∷ b)
@@ -70,7 +70,7 @@ same-first : {lo hi lo′ hi′ x y : ℕ} {a b : List ℕ} → AscendingKeys lo
 same-first {x} {y} {a} {b} s t to from =
     ⊎-elim (λ (e : x ≡ y). e)
     (λ (m : List·Memᴰ x b). ⊎-elim (λ (e : y ≡ x). sym e)
-    (λ (n : List·Memᴰ y a). absurd (let g = ascending-member (ascending-rest t) m in let h = ascending-member (ascending-rest s) n in omega arith))
+    (λ (n : List·Memᴰ y a). absurd (let g = ascending-member (keys-rest t) m in let h = ascending-member (keys-rest s) n in omega arith))
     (List·Memᴰ·cases-cons from)) (List·Memᴰ·cases-cons to)
 
 -- ascending lists with the same members are the same
@@ -83,6 +83,6 @@ ascending-same (x ∷ a) [] s t to from = absurd (List·Memᴰ·not-nil (to x (L
 ascending-same (x ∷ a) (y ∷ b) s t to from =
     let first : x ≡ y = same-first s t (to x (List·Memᴰ·head refl)) (from y (List·Memᴰ·head refl)) in
     ap₂ (λ z l. z ∷ l) first
-    (ascending-same a b (ascending-rest s) (ascending-rest t)
+    (ascending-same a b (keys-rest s) (keys-rest t)
     (λ z m. past-first s first m (to z (List·Memᴰ·tail m)))
     (λ z m. past-first t (sym first) m (from z (List·Memᴰ·tail m))))

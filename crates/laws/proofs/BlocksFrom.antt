@@ -16,7 +16,7 @@ use Rattle.definitions.specs.Picture.{everyPixel}
 use Rattle.definitions.specs.Window.{blocksFrom}
 use Rattle.laws.proofs.Within.{every-nw, every-ne, every-sw, every-se}
 use Rattle.laws.proofs.Pixels.{every-same}
-use Rattle.laws.proofs.AscendingKeys.{AscendingKeys, no-key, key, ascending-widen, ascending-append}
+use Rattle.laws.proofs.AscendingKeys.{AscendingKeys, no-key, key, ascending-widen, keys-append}
 
 -- blocks of the map in key order, and apart: each begins where the one before it has ended, or later
 pub data BlocksInOrder (m : ℕ) : (from until : ℕ) → List ℕ → Type 0 where
@@ -57,9 +57,9 @@ four-ascend : (k κ : ℕ) {a b c d : List ℕ}
 four-ascend k κ ha hb hc hd =
     let e = pow-suc 5 k in
     ascending-widen {lo = childKey κ k 1} {lo′ = κ} {hi′ = κ + 5 ^ suc k} (omega arith) (omega arith)
-    (ascending-append {mid = childKey κ k 2} (ascending-widen (omega arith) (omega arith) ha)
-    (ascending-append {mid = childKey κ k 3} (ascending-widen (omega arith) (omega arith) hb)
-    (ascending-append {mid = childKey κ k 4} (ascending-widen (omega arith) (omega arith) hc) hd)))
+    (keys-append {mid = childKey κ k 2} (ascending-widen (omega arith) (omega arith) ha)
+    (keys-append {mid = childKey κ k 3} (ascending-widen (omega arith) (omega arith) hb)
+    (keys-append {mid = childKey κ k 4} (ascending-widen (omega arith) (omega arith) hc) hd)))
 
 module _ (test : ℕ → ℕ → Bool) where
   -- a block of which every pixel passes gives itself

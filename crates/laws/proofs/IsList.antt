@@ -17,7 +17,7 @@ use Rattle.laws.proofs.Pixels.{Agree}
 use Rattle.laws.proofs.Features.{below-agree}
 use Rattle.laws.proofs.ListOf.{list-agree}
 use Rattle.laws.proofs.ReadBack.{KeysFrom, root-keys, block-back}
-use Rattle.laws.proofs.RasterOf.{rasterOf, raster-length, raster-back, raster-below, raster-good, length-from}
+use Rattle.laws.proofs.RasterOf.{rasterOfPicture, raster-length, raster-back, raster-below, raster-good, length-from}
 
 -- records that pass the comparison are equal
 pub same-to : (l l′ : List Record) → sameRecords l l′ ≡ true → l ≡ l′
@@ -89,10 +89,10 @@ pub record ShowsRaster (m s : ℕ) (l : List Record) : Type 0 where
 -- for a picture of the map there is its raster
 pub raster-of-block : (m s : ℕ) (l : List Record) → ShowsBlock s m 0 0 rootKey l → ShowsRaster m s l
 raster-of-block m s l x = record {
-  raster = rasterOf m (x .picture);
-  sized = length-from m (rasterOf m (x .picture)) (raster-length m (x .picture));
+  raster = rasterOfPicture m (x .picture);
+  sized = length-from m (rasterOfPicture m (x .picture)) (raster-length m (x .picture));
   below = raster-good m s (x .picture) (x .below);
-  is = x .is ∙ sym (list-agree (pictureOfRaster m (rasterOf m (x .picture))) (x .picture) m 0 0 rootKey (raster-back m (x .picture)));
+  is = x .is ∙ sym (list-agree (pictureOfRaster m (rasterOfPicture m (x .picture))) (x .picture) m 0 0 rootKey (raster-back m (x .picture)));
 }
 
 -- and a raster is a picture of the map

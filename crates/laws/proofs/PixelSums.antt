@@ -82,15 +82,15 @@ module _ (g : ℕ → ℕ → ℕ) where
       (ap₂ (λ x y. x + y) (sum-block k (r + 2 ^ k) c) (sum-block k (r + 2 ^ k) (c + 2 ^ k)))
       ∙ sym (sum-suc k r c)
 
-pub same-four : {a b c d a′ b′ c′ d′ : ℕ} → a ≡ a′ → b ≡ b′ → c ≡ c′ → d ≡ d′ → a + b + (c + d) ≡ a′ + b′ + (c′ + d′)
-same-four e f h i = omega arith
+pub sum-same-four : {a b c d a′ b′ c′ d′ : ℕ} → a ≡ a′ → b ≡ b′ → c ≡ c′ → d ≡ d′ → a + b + (c + d) ≡ a′ + b′ + (c′ + d′)
+sum-same-four e f h i = omega arith
 
 -- a sum depends only on what is added at the block's pixels
 pub sum-same : (g h : ℕ → ℕ → ℕ) (k r c : ℕ) → Every (λ a b. g a b ≡ h a b) k r c → sumPixels g k r c ≡ sumPixels h k r c
 sum-same g h zero r c e = sum-zero g r c ∙ e r c (first-within zero r c) ∙ sym (sum-zero h r c)
 sum-same g h (suc k) r c e =
     sum-suc g k r c
-    ∙ same-four (sum-same g h k r c (every-nw e))
+    ∙ sum-same-four (sum-same g h k r c (every-nw e))
     (sum-same g h k r (c + 2 ^ k) (every-ne e))
     (sum-same g h k (r + 2 ^ k) c (every-sw e))
     (sum-same g h k (r + 2 ^ k) (c + 2 ^ k) (every-se e))
@@ -101,7 +101,7 @@ pub sum-constant : (g : ℕ → ℕ → ℕ) (v k r c : ℕ) → Every (λ a b. 
 sum-constant g v zero r c e = sum-zero g r c ∙ e r c (first-within zero r c) ∙ omega arith
 sum-constant g v (suc k) r c e =
     sum-suc g k r c
-    ∙ same-four (sum-constant g v k r c (every-nw e))
+    ∙ sum-same-four (sum-constant g v k r c (every-nw e))
     (sum-constant g v k r (c + 2 ^ k) (every-ne e))
     (sum-constant g v k (r + 2 ^ k) c (every-sw e))
     (sum-constant g v k (r + 2 ^ k) (c + 2 ^ k) (every-se e))

@@ -88,15 +88,15 @@ pixels-from s [] h = refl
 pixels-from s (x ∷ xs) h = rw (lt-leb s x (h 0 (omega arith))) (pixels-from s xs (λ i j. h (suc i) (omega arith)))
 
 -- the raster of a picture: the pixels of the map, row after row
-abbrev pub rasterOf : ℕ → Picture → List ℕ
-rasterOf m p = featuresOfRows p 0 0 (2 ^ m) (2 ^ m)
+abbrev pub rasterOfPicture : ℕ → Picture → List ℕ
+rasterOfPicture m p = featuresOfRows p 0 0 (2 ^ m) (2 ^ m)
 
 -- it has the side's square
-pub raster-length : (m : ℕ) (p : Picture) → length (rasterOf m p) ≡ 2 ^ m * 2 ^ m
+pub raster-length : (m : ℕ) (p : Picture) → length (rasterOfPicture m p) ≡ 2 ^ m * 2 ^ m
 raster-length m p = rows-length p 0 0 (2 ^ m) (2 ^ m)
 
 -- it shows the picture again
-pub raster-back : (m : ℕ) (p : Picture) → Agree (pictureOfRaster m (rasterOf m p)) p m 0 0
+pub raster-back : (m : ℕ) (p : Picture) → Agree (pictureOfRaster m (rasterOfPicture m p)) p m 0 0
 raster-back m p r c w = rows-at p 0 0 (2 ^ m) (2 ^ m) r c (omega arith) (omega arith) ∙ ap₂ p (zero-add r) (zero-add c)
 
 -- a raster that passes the two tests shows features below s
@@ -106,14 +106,14 @@ raster-below m s raster e f = below-from s (pictureOfRaster m raster) m 0 0
     (λ r c w. pixels-to s raster (r * 2 ^ m + c) f (rw (length-to m raster e) (digits-lt (omega arith) (omega arith))))
 
 -- the raster of a picture with features below s has no bad pixel
-pub raster-good : (m s : ℕ) (p : Picture) → featuresBelow s p m 0 0 ≡ true → badPixel s (rasterOf m p) ≡ false
-raster-good m s p e = pixels-from s (rasterOf m p)
+pub raster-good : (m s : ℕ) (p : Picture) → featuresBelow s p m 0 0 ≡ true → badPixel s (rasterOfPicture m p) ≡ false
+raster-good m s p e = pixels-from s (rasterOfPicture m p)
     (λ i h.
     let n = raster-length m p in
     let side = pow-pos m in
     let a : i / 2 ^ m < 2 ^ m = div-lt-iff-lt-mul side .1 (omega arith) in
     let b : i % 2 ^ m < 2 ^ m = mod-lt i side in
     let at : i / 2 ^ m * 2 ^ m + i % 2 ^ m ≡ i = div-add-mod' i (2 ^ m) in
-    let v : getD (rasterOf m p) i 0 ≡ p (i / 2 ^ m) (i % 2 ^ m) =
-    ap (λ x. getD (rasterOf m p) x 0) (sym at) ∙ raster-back m p (i / 2 ^ m) (i % 2 ^ m) (omega arith) in
+    let v : getD (rasterOfPicture m p) i 0 ≡ p (i / 2 ^ m) (i % 2 ^ m) =
+    ap (λ x. getD (rasterOfPicture m p) x 0) (sym at) ∙ raster-back m p (i / 2 ^ m) (i % 2 ^ m) (omega arith) in
     rw v (below-to s p m 0 0 e (i / 2 ^ m) (i % 2 ^ m) (omega arith)))

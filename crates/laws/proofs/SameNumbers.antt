@@ -10,13 +10,13 @@ use Rattle.definitions.specs.Picture.{Picture}
 use Rattle.definitions.specs.Area.{summaryOf, sameNumbers, noSummary}
 
 -- what compares as the same is equal
-pub same-to : (xs ys : List ℕ) → sameNumbers xs ys ≡ true → xs ≡ ys
+pub same-numbers-to : (xs ys : List ℕ) → sameNumbers xs ys ≡ true → xs ≡ ys
 unfolding sameNumbers
-same-to [] [] e = refl
-same-to [] (y ∷ ys) e = absurd (true≢false (sym e))
-same-to (x ∷ xs) [] e = absurd (true≢false (sym e))
-same-to (x ∷ xs) (y ∷ ys) e =
-    ap₂ (λ z zs. z ∷ zs) (eqb-true x y (and-left (eqb x y) (sameNumbers xs ys) e)) (same-to xs ys (and-right (eqb x y) (sameNumbers xs ys) e))
+same-numbers-to [] [] e = refl
+same-numbers-to [] (y ∷ ys) e = absurd (true≢false (sym e))
+same-numbers-to (x ∷ xs) [] e = absurd (true≢false (sym e))
+same-numbers-to (x ∷ xs) (y ∷ ys) e =
+    ap₂ (λ z zs. z ∷ zs) (eqb-true x y (and-left (eqb x y) (sameNumbers xs ys) e)) (same-numbers-to xs ys (and-right (eqb x y) (sameNumbers xs ys) e))
 
 same-itself : (xs : List ℕ) → sameNumbers xs xs ≡ true
 unfolding sameNumbers
@@ -28,7 +28,7 @@ pub same-from : (xs ys : List ℕ) → xs ≡ ys → sameNumbers xs ys ≡ true
 same-from xs ys e = ap (sameNumbers xs) (sym e) ∙ same-itself xs
 
 pub same-not : (xs ys : List ℕ) → (xs ≡ ys → ⊥) → sameNumbers xs ys ≡ false
-same-not xs ys h = decide (sameNumbers xs ys) (λ e. absurd (h (same-to xs ys e))) (λ e. e)
+same-not xs ys h = decide (sameNumbers xs ys) (λ e. absurd (h (same-numbers-to xs ys e))) (λ e. e)
 
 -- no refusal 18 where the summary is the picture's
 pub summary-right : (m s : ℕ) (p : Picture) (summary : List ℕ) → summary ≡ summaryOf m s p → noSummary m s p summary ≡ false
@@ -43,4 +43,4 @@ summary-wrong m s p summary h = ap not (same-not summary (summaryOf m s p) h)
 -- so what passes is the picture's summary
 pub summary-is : (m s : ℕ) (p : Picture) (summary : List ℕ) → noSummary m s p summary ≡ false → summary ≡ summaryOf m s p
 unfolding noSummary
-summary-is m s p summary e = same-to summary (summaryOf m s p) (not-false (sameNumbers summary (summaryOf m s p)) e)
+summary-is m s p summary e = same-numbers-to summary (summaryOf m s p) (not-false (sameNumbers summary (summaryOf m s p)) e)

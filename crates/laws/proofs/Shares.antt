@@ -66,7 +66,7 @@ known-all (w ∷ t) e =
     let low = known-first w t e in
     by-office (w .office) (λ f. let z = more-zero w t f in omega arith) (λ f. let z = more-one w t f in omega arith) (λ h. absurd (omega arith))
 
-pub all-known : (t : List Waiver) → length (rowsOf 0 t) + length (rowsOf 1 t) ≡ length t → officesKnown t ≡ true
+all-known : (t : List Waiver) → length (rowsOf 0 t) + length (rowsOf 1 t) ≡ length t → officesKnown t ≡ true
 unfolding officesKnown
 all-known [] e = refl
 all-known (w ∷ t) e =

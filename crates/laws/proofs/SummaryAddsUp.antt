@@ -7,7 +7,7 @@ use native.Mathlib.Omega.{arith}
 use Rattle.keys.specs.Under.{Every}
 use Rattle.definitions.specs.Picture.{Picture}
 use Rattle.definitions.specs.Area.{pixelsWith, countsFrom, summaryBelow, summaryOf, summaryLevel, summaryHeight, sumBelow}
-use Rattle.laws.proofs.PixelSums.{same-four}
+use Rattle.laws.proofs.PixelSums.{sum-same-four}
 use Rattle.laws.proofs.CountOf.{pixels-quadrants}
 use Rattle.laws.proofs.AreasAddUp.{same-below, add-below, pixels-add-up}
 use Rattle.laws.proofs.SummaryOf.{summary-zero, summary-suc}
@@ -63,7 +63,7 @@ below-total s p k (suc d) r c =
     let e = 2 ^ (k + d) in
     ap total (summary-suc s p k d r c)
     ∙ four-totals (summaryBelow s p k d r c) (summaryBelow s p k d r (c + e)) (summaryBelow s p k d (r + e) c) (summaryBelow s p k d (r + e) (c + e))
-    ∙ same-four (below-total s p k d r c) (below-total s p k d r (c + e)) (below-total s p k d (r + e) c) (below-total s p k d (r + e) (c + e))
+    ∙ sum-same-four (below-total s p k d r c) (below-total s p k d r (c + e)) (below-total s p k d (r + e) c) (below-total s p k d (r + e) (c + e))
     ∙ sym (four-below (pixelsWith p (k + d) r c) (pixelsWith p (k + d) r (c + e)) (pixelsWith p (k + d) (r + e) c) (pixelsWith p (k + d) (r + e) (c + e)) s)
     ∙ same-below _ _ s (λ f. sym (pixels-quadrants p f (k + d) r c))
     ∙ ap (λ h. sumBelow (pixelsWith p h r c) s) (sym (add-suc k d))

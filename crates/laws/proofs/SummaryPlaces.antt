@@ -49,7 +49,7 @@ module _ (s f : ℕ) (h : f < s) where
       behind b = let e = add-mul n b s in omega arith
 
 -- the count of feature f in block number b
-abbrev pub numbered : ℕ → Picture → ℕ → ℕ → ℕ
+abbrev numbered : ℕ → Picture → ℕ → ℕ → ℕ
 numbered m p f b = pixelsWith p (summaryHeight m) (rowOf m (blockKey m b)) (columnOf m (blockKey m b)) f
 
 module _ (m : ℕ) (p : Picture) (f κ : ℕ) (valid : validKey m κ ≡ true) where

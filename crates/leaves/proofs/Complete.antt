@@ -16,27 +16,27 @@ use Rattle.keys.proofs.Under.{under-trans}
 use Rattle.definitions.specs.Picture.{Picture, oneFeature}
 use Rattle.leaves.specs.Delivered.{leavesEnd, Parted, leaf, four}
 use Rattle.leaves.proofs.EndOf.{end-leaf, end-four}
-use Rattle.leaves.proofs.Open.{Open, open-at, none-open, open-tail, open-pixel, open-child, open-end}
+use Rattle.leaves.proofs.Open.{OpenBlock, open-at, none-open, open-tail, open-pixel, open-child, open-end}
 
 -- the picture has the feature of each leaf in the whole of its block
-abbrev pub Shows : (m : ℕ) (p : Picture) (keys features : List ℕ) → Type 0
-Shows m p keys features = (i k r c : ℕ) → i < length keys → MapBlock m k r c (getD keys i 0) → (oneFeature p k r c ≡ true) × (p r c ≡ getD features i 0)
+abbrev pub LeafShows : (m : ℕ) (p : Picture) (keys features : List ℕ) → Type 0
+LeafShows m p keys features = (i k r c : ℕ) → i < length keys → MapBlock m k r c (getD keys i 0) → (oneFeature p k r c ≡ true) × (p r c ≡ getD features i 0)
 
-module _ (m : ℕ) (p : Picture) (keys features : List ℕ) (shows : Shows m p keys features) where
+module _ (m : ℕ) (p : Picture) (keys features : List ℕ) (shows : LeafShows m p keys features) where
   -- the leaves of a block begin at a place, and past them the others are read up to the block's end
   pub record Read (k r c κ at : ℕ) : Type 0 where
     pub parted : Parted p keys features k r c κ at
-    pub after : Open m (κ + 5 ^ k) (drop (leavesEnd keys k κ at) keys)
+    pub after : OpenBlock m (κ + 5 ^ k) (drop (leavesEnd keys k κ at) keys)
     pub last : leavesEnd keys k κ at ≤ length keys
 
-  there : {k r c κ at : ℕ} → MapBlock m k r c κ → Open m κ (drop at keys) → at < length keys
+  there : {k r c κ at : ℕ} → MapBlock m k r c κ → OpenBlock m κ (drop at keys) → at < length keys
   there {κ = κ} {at = at} b o =
       split at (length keys) (λ h. h) (λ h. absurd (none-open b (open-at refl (drop-of-length-le keys h) o)))
 
-  next : {κ at : ℕ} → at < length keys → Open m κ (drop at keys) → Open m κ (getD keys at 0 ∷ drop (suc at) keys)
+  next : {κ at : ℕ} → at < length keys → OpenBlock m κ (drop at keys) → OpenBlock m κ (getD keys at 0 ∷ drop (suc at) keys)
   next {at = at} h o = open-at refl (drop-cons keys at 0 h) o
 
-  read-leaf : {k r c κ at : ℕ} → MapBlock m k r c κ → Open m κ (drop at keys) → at < length keys → getD keys at 0 ≡ κ → Read k r c κ at
+  read-leaf : {k r c κ at : ℕ} → MapBlock m k r c κ → OpenBlock m κ (drop at keys) → at < length keys → getD keys at 0 ≡ κ → Read k r c κ at
   read-leaf {k} {r} {c} {κ} {at} b o h e =
       let f = end-leaf keys k κ at h e in
       let s = shows at k r c h (rw e b) in
@@ -46,7 +46,7 @@ module _ (m : ℕ) (p : Picture) (keys features : List ℕ) (shows : Shows m p k
         last = omega arith;
       }
 
-  pub complete : (k r c κ at : ℕ) → MapBlock m k r c κ → Open m κ (drop at keys) → Read k r c κ at
+  pub complete : (k r c κ at : ℕ) → MapBlock m k r c κ → OpenBlock m κ (drop at keys) → Read k r c κ at
   complete zero r c κ at b o = let h = there b o in read-leaf b o h (open-pixel b (next h o))
   complete (suc k) r c κ at b o =
       let h = there b o in
@@ -65,7 +65,7 @@ module _ (m : ℕ) (p : Picture) (keys features : List ℕ) (shows : Shows m p k
       })
 
   -- the whole delivery
-  pub all-read : Open m 0 keys → Parted p keys features m 0 0 0 0 × (leavesEnd keys m 0 0 ≡ length keys)
+  pub all-read : OpenBlock m 0 keys → Parted p keys features m 0 0 0 0 × (leavesEnd keys m 0 0 ≡ length keys)
   all-read o =
       let x = complete m 0 0 0 0 here o in
       let none = open-end (open-at (omega arith) refl (x .after)) in (

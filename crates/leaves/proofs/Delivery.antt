@@ -25,9 +25,9 @@ use Rattle.laws.proofs.Features.{one-from}
 use Rattle.laws.proofs.AscendingKeys.{AscendingKeys, no-key, key}
 use Rattle.leaves.specs.Delivered.{leavesEnd, Parted}
 use Rattle.leaves.proofs.Tiles.{Tiles, tiles-ascend, ascend-test, tiles-valid, tiles-once}
-use Rattle.leaves.proofs.Sound.{sound}
-use Rattle.leaves.proofs.Open.{Open, once, cover-cons, cover-some}
-use Rattle.leaves.proofs.Complete.{Shows, all-read}
+use Rattle.leaves.proofs.Sound.{leaves-sound}
+use Rattle.leaves.proofs.Open.{OpenBlock, once, cover-cons, cover-some}
+use Rattle.leaves.proofs.Complete.{LeafShows, all-read}
 
 pub member-at : (l : List ℕ) (i : ℕ) → i < length l → List·Memᴰ (getD l i 0) l
 member-at [] i h = absurd (omega arith)
@@ -123,14 +123,14 @@ module _ (m s : ℕ) (keys features : List ℕ) where
   }
 
   module _ (same : length features ≡ length keys) where
-    pub leaves-shows : Leaves m s keys features → Shows m (pictureOfLeaves m (paired keys features)) keys features
+    pub leaves-shows : Leaves m s keys features → LeafShows m (pictureOfLeaves m (paired keys features)) keys features
     leaves-shows l i k r c h b =
         let f = getD features i 0 in
         let p = pictureOfLeaves m (paired keys features) in
         let feature : Every (λ a d. p a d ≡ f) k r c = λ a d w. once-feature m keys features a d i same h (inBlock-iff a d b .1 w) (l .once a d (in-raster b w .0) (in-raster b w .1)) in
         (one-from p f k r c feature, feature r c (first-within k r c))
 
-    open-leaves : Leaves m s keys features → Open m 0 keys
+    open-leaves : Leaves m s keys features → OpenBlock m 0 keys
     open-leaves l = record {
       valid = valid-member m keys (l .valid);
       ascends = ascending-from 0 (5 ^ m) keys (l .ascend) (omega arith) (λ x n. valid-below m x (valid-member m keys (l .valid) x n));
@@ -146,7 +146,7 @@ module _ (m s : ℕ) (keys features : List ℕ) where
   -- where the raster's leaves end with the last, they tile the raster
   end-tiles : leavesEnd keys m 0 0 ≡ length keys → Tiles m 0 0 0 keys
   end-tiles e =
-      let b = sound keys m 0 0 0 0 (omega arith) in
+      let b = leaves-sound keys m 0 0 0 0 (omega arith) in
       let f : keys ≡ b .run = b .splits ∙ ap (λ i. b .run ++ drop i keys) e ∙ ap (λ l. b .run ++ l) (drop-length keys) ∙ append-nil (b .run) in
       rw f (b .tiles)
 

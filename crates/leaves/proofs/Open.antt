@@ -17,7 +17,7 @@ use Rattle.keys.proofs.Pixel.{InKeys, inside}
 use Rattle.keys.proofs.InBlock.{inBlock-iff, inBlock-keys-iff, in-raster}
 use Rattle.definitions.specs.Leaves.{coverings}
 use Rattle.laws.proofs.Within.{first-within, under-within}
-use Rattle.laws.proofs.AscendingKeys.{AscendingKeys, no-key, key, ascending-member, ascending-rest}
+use Rattle.laws.proofs.AscendingKeys.{AscendingKeys, no-key, key, ascending-member, keys-rest}
 
 -- a number counted once more where the test holds
 abbrev pub once : Bool → ℕ
@@ -67,21 +67,21 @@ first-raised : {lo hi lo′ x : ℕ} {l : List ℕ} → lo′ ≤ x → Ascendin
 first-raised h (key e t) = key h t
 
 -- leaves read up to a key: the others
-pub record Open (m κ : ℕ) (l : List ℕ) : Type 0 where
+pub record OpenBlock (m κ : ℕ) (l : List ℕ) : Type 0 where
   pub valid : (x : ℕ) → List·Memᴰ x l → validKey m x ≡ true
   pub ascends : AscendingKeys κ (5 ^ m) l
   pub covers : (row column : ℕ) → row < 2 ^ m → column < 2 ^ m → κ ≤ pixelKey m row column → coverings m l row column ≡ 1
 
 -- the same key and the same leaves by other names
-pub open-at : {m κ κ′ : ℕ} {l l′ : List ℕ} → κ ≡ κ′ → l ≡ l′ → Open m κ l → Open m κ′ l′
+pub open-at : {m κ κ′ : ℕ} {l l′ : List ℕ} → κ ≡ κ′ → l ≡ l′ → OpenBlock m κ l → OpenBlock m κ′ l′
 open-at e f o = rw (← e, ← f) o
 
 -- the key of a leaf that is left is that of a block
-leaf-block : {m κ x : ℕ} {l : List ℕ} → Open m κ l → List·Memᴰ x l → MapBlock m (heightOf m x) (rowOf m x) (columnOf m x) x
+leaf-block : {m κ x : ℕ} {l : List ℕ} → OpenBlock m κ l → List·Memᴰ x l → MapBlock m (heightOf m x) (rowOf m x) (columnOf m x) x
 leaf-block {m} {x = x} o n = valid-block m x (o .valid x n)
 
 -- where a block begins at the key, its first pixel lies in a leaf that is left, whose key is at or past the block's and within its interval
-module _ {m k r c κ : ℕ} {l : List ℕ} (b : MapBlock m k r c κ) (o : Open m κ l) where
+module _ {m k r c κ : ℕ} {l : List ℕ} (b : MapBlock m k r c κ) (o : OpenBlock m κ l) where
   first-key : InKeys k κ (pixelKey m r c)
   first-key = inside b (first-within k r c)
 
@@ -94,11 +94,11 @@ module _ {m k r c κ : ℕ} {l : List ℕ} (b : MapBlock m k r c κ) (o : Open m
       let j = inBlock-keys-iff r c (leaf-block o (open-around .among)) (i .0) (i .1) .0 (open-around .has) in
       omega (arith, j .from, first-key .until)
 
-pub none-open : {m k r c κ : ℕ} → MapBlock m k r c κ → Open m κ [] → ⊥
+pub none-open : {m k r c κ : ℕ} → MapBlock m k r c κ → OpenBlock m κ [] → ⊥
 none-open b o = List·Memᴰ·not-nil (open-around b o .among)
 
 -- the first leaf that is left, at a block that begins at the key
-module _ {m k r c κ x : ℕ} {l : List ℕ} (b : MapBlock m k r c κ) (o : Open m κ (x ∷ l)) where
+module _ {m k r c κ x : ℕ} {l : List ℕ} (b : MapBlock m k r c κ) (o : OpenBlock m κ (x ∷ l)) where
   head-from : κ ≤ x
   head-from = ascending-member (o .ascends) (List·Memᴰ·head refl) .0
 
@@ -106,7 +106,7 @@ module _ {m k r c κ x : ℕ} {l : List ℕ} (b : MapBlock m k r c κ) (o : Open
   head-below =
       let h = around-below b o in
       ⊎-elim (λ (e : open-around b o .leaf ≡ x). omega arith)
-      (λ (n : List·Memᴰ (open-around b o .leaf) l). let j = ascending-member (ascending-rest (o .ascends)) n in omega arith)
+      (λ (n : List·Memᴰ (open-around b o .leaf) l). let j = ascending-member (keys-rest (o .ascends)) n in omega arith)
       (List·Memᴰ·cases-cons (open-around b o .among))
 
   pub head-under : Under k r c κ (heightOf m x) (rowOf m x) (columnOf m x) x
@@ -118,7 +118,7 @@ module _ {m k r c κ x : ℕ} {l : List ℕ} (b : MapBlock m k r c κ) (o : Open
       split y (κ + 5 ^ k)
       (λ low. absurd (
       let by = leaf-block o (List·Memᴰ·tail n) in
-      let above = ascending-member (ascending-rest (o .ascends)) n in
+      let above = ascending-member (keys-rest (o .ascends)) n in
       let u = nest b by (omega arith) low in
       let w = first-within (heightOf m y) (rowOf m y) (columnOf m y) in
       let i = in-raster by w in
@@ -131,10 +131,10 @@ module _ {m k r c κ x : ℕ} {l : List ℕ} (b : MapBlock m k r c κ) (o : Open
       (λ high. high)
 
   -- and the others are read up to the block's end
-  pub open-tail : x ≡ κ → Open m (κ + 5 ^ k) l
+  pub open-tail : x ≡ κ → OpenBlock m (κ + 5 ^ k) l
   open-tail e = record {
     valid = λ y n. o .valid y (List·Memᴰ·tail n);
-    ascends = let w = within b in raise (omega arith) (later e) (ascending-rest (o .ascends));
+    ascends = let w = within b in raise (omega arith) (later e) (keys-rest (o .ascends));
     covers = λ row column low narrow from.
         decide (inBlock m κ row column)
         (λ t. absurd (let j = inBlock-keys-iff row column b low narrow .0 t in omega (arith, j .until)))
@@ -145,17 +145,17 @@ module _ {m k r c κ x : ℕ} {l : List ℕ} (b : MapBlock m k r c κ) (o : Open
   }
 
 -- the first leaf at a pixel is the pixel
-pub open-pixel : {m r c κ x : ℕ} {l : List ℕ} → MapBlock m 0 r c κ → Open m κ (x ∷ l) → x ≡ κ
+pub open-pixel : {m r c κ x : ℕ} {l : List ℕ} → MapBlock m 0 r c κ → OpenBlock m κ (x ∷ l) → x ≡ κ
 open-pixel {m} {x = x} b o = let w = within (head-under b o) in let h = five-pos (heightOf m x) in omega arith
 
 -- where it is not the block itself, the leaves are read up to the block's first quadrant
-pub open-child : {m k r c κ x : ℕ} {l : List ℕ} → MapBlock m (suc k) r c κ → Open m κ (x ∷ l) → (x ≡ κ → ⊥) → Open m (childKey κ k 1) (x ∷ l)
+pub open-child : {m k r c κ x : ℕ} {l : List ℕ} → MapBlock m (suc k) r c κ → OpenBlock m κ (x ∷ l) → (x ≡ κ → ⊥) → OpenBlock m (childKey κ k 1) (x ∷ l)
 open-child {m} {k} {κ = κ} {x = x} {l = l} b o n =
     let w = within (head-under b o) in
     let h : childKey κ k 1 ≤ x = past-first-child (head-under b o) (omega arith) in
     record { valid = o .valid; ascends = first-raised h (o .ascends); covers = λ row column low narrow from. o .covers row column low narrow (omega arith) }
 
 -- at the end of the raster no leaf is left
-pub open-end : {m : ℕ} {l : List ℕ} → Open m (5 ^ m) l → l ≡ []
+pub open-end : {m : ℕ} {l : List ℕ} → OpenBlock m (5 ^ m) l → l ≡ []
 open-end {l = []} o = refl
 open-end {l = x ∷ l} o = let h = ascending-member (o .ascends) (List·Memᴰ·head refl) in absurd (omega arith)

@@ -20,8 +20,8 @@ use Rattle.laws.proofs.First.{accepted-done, accepted-left}
 use Rattle.laws.proofs.ListOf.{list-some}
 
 -- an answer by its two numbers
-pub counted : {r r′ n n′ : ℕ} → r ≡ r′ → n ≡ n′ → _≡_ {A = Counted} (record { refusal = r; count = n }) (record { refusal = r′; count = n′ })
-counted e f i = record { refusal = e i; count = f i }
+pub leaves-counted : {r r′ n n′ : ℕ} → r ≡ r′ → n ≡ n′ → _≡_ {A = Counted} (record { refusal = r; count = n }) (record { refusal = r′; count = n′ })
+leaves-counted e f i = record { refusal = e i; count = f i }
 
 -- whether the leaves of slices that have them are a delivery
 module _ (m s : ℕ) (keys features : List ℕ) (leaves : ℕ) where
@@ -87,7 +87,7 @@ module _ (m s : ℕ) (leafKeys leafFeatures : List ℕ) (leaves : ℕ) (keys bit
       × ((keys ≡ readLeavesKeys m s leafKeys leafFeatures leaves keys bits) × (bits ≡ readLeavesBits m s leafKeys leafFeatures leaves keys bits))
   unfolding readLeaves readLeavesKeys readLeavesBits
   read-refused r e h = (
-    counted e (sym (accepted-left _ 0 (λ z. h (e ∙ z)))),
+    leaves-counted e (sym (accepted-left _ 0 (λ z. h (e ∙ z)))),
     (sym (accepted-left _ keys (λ z. h (e ∙ z))), sym (accepted-left _ bits (λ z. h (e ∙ z)))),
   )
 
@@ -100,6 +100,6 @@ module _ (m s : ℕ) (leafKeys leafFeatures : List ℕ) (leaves : ℕ) (keys bit
       × ((keys′ ≡ readLeavesKeys m s leafKeys leafFeatures leaves keys bits) × (bits′ ≡ readLeavesBits m s leafKeys leafFeatures leaves keys bits))
   unfolding readLeaves readLeavesKeys readLeavesBits
   read-done n keys′ bits′ e f g h = (
-    counted e (f ∙ sym (accepted-done _ 0 (sym e))),
+    leaves-counted e (f ∙ sym (accepted-done _ 0 (sym e))),
     (g ∙ sym (accepted-done _ keys (sym e)), h ∙ sym (accepted-done _ bits (sym e))),
   )

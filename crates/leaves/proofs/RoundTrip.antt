@@ -76,10 +76,10 @@ module _ (m : ℕ) (p : Picture) where
   read-written = list-agree _ p m 0 0 0 written-picture
 
 -- deliveries of one raster give one list
-pub one-list : (m : ℕ) (keys features keys′ features′ : List ℕ) (leaves leaves′ : ℕ)
+pub one-list-of-leaves : (m : ℕ) (keys features keys′ features′ : List ℕ) (leaves leaves′ : ℕ)
     → Agree (pictureDelivered m keys features leaves) (pictureDelivered m keys′ features′ leaves′) m 0 0
     → listDelivered m keys features leaves ≡ listDelivered m keys′ features′ leaves′
-one-list m keys features keys′ features′ leaves leaves′ h = list-agree _ _ m 0 0 0 h
+one-list-of-leaves m keys features keys′ features′ leaves leaves′ h = list-agree _ _ m 0 0 0 h
 
 -- the leaves of an accepted list, written over two slices that have the places: they are a delivery there, and reading it gives the list back
 module _ (m s : ℕ) (keys bits : List ℕ) (n : ℕ) (is : isList m s keys bits n ≡ true) (leafKeys leafFeatures : List ℕ)

@@ -43,11 +43,11 @@ begins-four keys k r c κ at h n x y z w = record {
       ∙ ap (λ i. (x .run ++ (y .run ++ (z .run ++ w .run))) ++ drop i keys) (sym (end-four keys k κ at h n));
 }
 
-pub sound : (keys : List ℕ) (k r c κ at : ℕ) → leavesEnd keys k κ at ≤ length keys → Begins keys k r c κ at
-sound keys zero r c κ at fits =
+pub leaves-sound : (keys : List ℕ) (k r c κ at : ℕ) → leavesEnd keys k κ at ≤ length keys → Begins keys k r c κ at
+leaves-sound keys zero r c κ at fits =
     let h = end-there keys zero κ at fits in
     equal (getD keys at 0) κ (begins-leaf keys zero r c κ at h) (λ n. let e = end-other keys κ at h n in absurd (omega arith))
-sound keys (suc k) r c κ at fits =
+leaves-sound keys (suc k) r c κ at fits =
     let h = end-there keys (suc k) κ at fits in
     equal (getD keys at 0) κ (begins-leaf keys (suc k) r c κ at h)
     (λ n.
@@ -60,7 +60,7 @@ sound keys (suc k) r c κ at fits =
     let h₂ : i₂ < length keys = end-there keys k (childKey κ k 3) i₂ (omega arith) in
     let h₁ : i₁ < length keys = end-there keys k (childKey κ k 2) i₁ (omega arith) in
     begins-four keys k r c κ at h n
-    (sound keys k r c (childKey κ k 1) at (omega arith))
-    (sound keys k r (c + 2 ^ k) (childKey κ k 2) i₁ (omega arith))
-    (sound keys k (r + 2 ^ k) c (childKey κ k 3) i₂ (omega arith))
-    (sound keys k (r + 2 ^ k) (c + 2 ^ k) (childKey κ k 4) i₃ h₄))
+    (leaves-sound keys k r c (childKey κ k 1) at (omega arith))
+    (leaves-sound keys k r (c + 2 ^ k) (childKey κ k 2) i₁ (omega arith))
+    (leaves-sound keys k (r + 2 ^ k) c (childKey κ k 3) i₂ (omega arith))
+    (leaves-sound keys k (r + 2 ^ k) (c + 2 ^ k) (childKey κ k 4) i₃ h₄))

@@ -18,7 +18,7 @@ use Rattle.keys.proofs.Valid.{block-valid}
 use Rattle.keys.proofs.InBlock.{inBlock-iff}
 use Rattle.definitions.specs.Leaves.{validKeys, ascendFrom, coverings}
 use Rattle.laws.proofs.Within.{within-cases}
-use Rattle.laws.proofs.AscendingKeys.{AscendingKeys, no-key, key, ascending-widen, ascending-append}
+use Rattle.laws.proofs.AscendingKeys.{AscendingKeys, no-key, key, ascending-widen, keys-append}
 
 pub data Tiles : ℕ → ℕ → ℕ → ℕ → List ℕ → Type 0 where
   alone : {k r c κ : ℕ} → Tiles k r c κ (κ ∷ [])
@@ -35,9 +35,9 @@ tiles-ascend {k} {κ} alone = let h = five-pos k in key {lo = κ} {x = κ} (omeg
 tiles-ascend {κ} (parts {k = k} x y z w) =
     let h = five-pos k in
     let g = pow-suc 5 k in
-    ascending-append (ascending-widen {lo′ = κ} {hi′ = childKey κ k 2} (omega arith) (omega arith) (tiles-ascend x))
-    (ascending-append (ascending-widen {lo′ = childKey κ k 2} {hi′ = childKey κ k 3} (omega arith) (omega arith) (tiles-ascend y))
-    (ascending-append (ascending-widen {lo′ = childKey κ k 3} {hi′ = childKey κ k 4} (omega arith) (omega arith) (tiles-ascend z))
+    keys-append (ascending-widen {lo′ = κ} {hi′ = childKey κ k 2} (omega arith) (omega arith) (tiles-ascend x))
+    (keys-append (ascending-widen {lo′ = childKey κ k 2} {hi′ = childKey κ k 3} (omega arith) (omega arith) (tiles-ascend y))
+    (keys-append (ascending-widen {lo′ = childKey κ k 3} {hi′ = childKey κ k 4} (omega arith) (omega arith) (tiles-ascend z))
     (ascending-widen {lo′ = childKey κ k 4} {hi′ = κ + 5 ^ suc k} (omega arith) (omega arith) (tiles-ascend w))))
 
 -- the definition's test of it

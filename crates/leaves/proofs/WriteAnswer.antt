@@ -20,7 +20,7 @@ use Rattle.list.specs.Own.{shownBy}
 use Rattle.list.proofs.FirstRefusal.{refused-first, first-small}
 use Rattle.list.proofs.Own.{own-list, own-length}
 use Rattle.leaves.proofs.LeavesOf.{leaves-count}
-use Rattle.leaves.proofs.ReadAnswer.{counted}
+use Rattle.leaves.proofs.ReadAnswer.{leaves-counted}
 
 -- how many leaves an accepted list has
 pub leaves-number : (m s : ℕ) (keys bits : List ℕ) (n : ℕ) → isList m s keys bits n ≡ true → n - n / 4 ≡ length (leavesIn keys bits n)
@@ -53,7 +53,7 @@ module _ (m s : ℕ) (keys bits : List ℕ) (n : ℕ) (leafKeys leafFeatures : L
       → Answered (record { refusal = r; count = count }) leafKeys leafFeatures
   unfolding writeLeaves writtenLeafKeys writtenLeafFeatures
   write-refused r count e h f = (
-    counted e (f ∙ ap (λ x. cond (eqb x 12) (length (leavesIn keys bits n)) 0) e ∙ sym (accepted-left _ _ (λ z. h (e ∙ z)))),
+    leaves-counted e (f ∙ ap (λ x. cond (eqb x 12) (length (leavesIn keys bits n)) 0) e ∙ sym (accepted-left _ _ (λ z. h (e ∙ z)))),
     (sym (accepted-left _ leafKeys (λ z. h (e ∙ z))), sym (accepted-left _ leafFeatures (λ z. h (e ∙ z)))),
   )
 
@@ -73,6 +73,6 @@ module _ (m s : ℕ) (keys bits : List ℕ) (n : ℕ) (leafKeys leafFeatures : L
       → Answered (record { refusal = 0; count = count }) leafKeys′ leafFeatures′
   unfolding writeLeaves writtenLeafKeys writtenLeafFeatures
   write-done count leafKeys′ leafFeatures′ e f g h = (
-    counted e (f ∙ sym (accepted-done _ _ (sym e))),
+    leaves-counted e (f ∙ sym (accepted-done _ _ (sym e))),
     (g ∙ sym (accepted-done _ leafKeys (sym e)), h ∙ sym (accepted-done _ leafFeatures (sym e))),
   )

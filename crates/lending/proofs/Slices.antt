@@ -25,13 +25,13 @@ use denote.Slice.{sliceVal, MutSlice, ShrSlice, Room, finally, shr-slice-copy}
 use Rattle.lending.proofs.LentOn.{HeldMeanwhile}
 use Rattle.lending.proofs.Lent.{lend, back}
 
-pub record Slice (R : RattleType) : Type 0 where
+pub record LentSlice (R : RattleType) : Type 0 where
   pub κ : Lft
   pub q : Share
   pub x : RefT (List (R .Denot))
   pub room : Room R (length (x .now))
 
-module _ {R : RattleType} (s : Slice R) where
+module _ {R : RattleType} (s : LentSlice R) where
   abbrev pub val : Val
   val = sliceVal (s .x .ptr) (length (s .x .now))
 

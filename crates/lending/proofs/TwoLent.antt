@@ -25,11 +25,11 @@ use denote.Slice.{finally}
 use denote.Steps.{only, facts, heard}
 use denote.Struct.Declared.{Declared, row}
 use denote.Struct.Laws as LL
-use Rattle.lending.proofs.Chains.{chain, after, apart, together}
-use Rattle.lending.proofs.Slices.{Slice, token, mutable, lent, kept, lends, gets-back}
+use Rattle.lending.proofs.Chains.{chain, chain-after, apart, together}
+use Rattle.lending.proofs.Slices.{LentSlice, token, mutable, lent, kept, lends, gets-back}
 use Rattle.lending.proofs.Calling.{gave, Gives}
 
-pub record TwoGiven (T : Declared) (L : LL.Laws T) (one two : Slice u32) (φ : T .D → List ℕ → List ℕ → Type 0) : Type 0 where
+pub record TwoGiven (T : Declared) (L : LL.Laws T) (one two : LentSlice u32) (φ : T .D → List ℕ → List ℕ → Type 0) : Type 0 where
   pub result : T .D
   pub first : List ℕ
   pub second : List ℕ
@@ -43,11 +43,11 @@ Last δ l z = fsep (finally u32 δ z) (feq ℕ (length z) (length l))
 
 module _ {M : Type 1} {𝓤 : URA M} {H : Heap 𝓤} {A : Atoms 𝓤} {K : Type 0} {W : Given 𝓤 H A} {Γ : List (Item 𝓤)} {G : Goal 𝓤 H} where
   -- the parameters of which there is nothing are passed over
-  passes-over : K → (k : ℕ) {F : Fml} → Step K W (‵ F ∷ Γ) G (‵ (after k F) ∷ Γ) G
+  passes-over : K → (k : ℕ) {F : Fml} → Step K W (‵ F ∷ Γ) G (‵ (chain-after k F) ∷ Γ) G
   passes-over t zero = step (λ s. s)
   passes-over t (suc k) = step (λ s. fsplit t $ drop t $ passes-over t k $ s)
 
-module _ (one two : Slice u32) where
+module _ (one two : LentSlice u32) where
   abbrev pub each-answer : List ℕ → List ℕ → List Fml
   each-answer l l′ = mutable one l ∷ token one ∷ mutable two l′ ∷ token two ∷ []
 
@@ -68,7 +68,7 @@ module _ (one two : Slice u32) where
 
     abbrev pub post : ℕ → ℕ → GName → GName → Val → Item 𝓤
     post ν ν′ δ δ′ w = later (some (λ (r : T .D). (raw (Tk ν ν′) ⊛ ‵ (row T .own r (w ∷ [])))
-        ⊛ some (λ (zs : Bound). ‵ (after k (chain (each-last δ δ′ zs))) ⊛ raw (fact 𝓤 (φ r (first-of zs) (second-of zs))))))
+        ⊛ some (λ (zs : Bound). ‵ (chain-after k (chain (each-last δ δ′ zs))) ⊛ raw (fact 𝓤 (φ r (first-of zs) (second-of zs))))))
 
     abbrev Result : Type 0
     Result = TwoGiven T L one two φ

@@ -10,7 +10,7 @@ use Rattle.definitions.specs.Buffer.{over}
 use Rattle.lines.specs.Put.{Put, BytesFit}
 
 -- two runs of stores, one after the other, are one
-pub sets-append : (l : List ℕ) (i : ℕ) (us vs : List ℕ) → sets (sets l i us) (i + length us) vs ≡ sets l i (us ++ vs)
+sets-append : (l : List ℕ) (i : ℕ) (us vs : List ℕ) → sets (sets l i us) (i + length us) vs ≡ sets l i (us ++ vs)
 sets-append l i [] vs = ap (λ (k : ℕ). sets l k vs) (add-zero i)
 sets-append l i (a ∷ us) vs =
     ap (λ (k : ℕ). sets (sets (set l i a) (suc i) us) k vs) (add-suc i (length us) ∙ sym (suc-add i (length us)))
@@ -23,8 +23,8 @@ pub record Going (whole remaining : List ℕ) (start : ℕ) (old later : List �
   pub put : Put done start old later place
 
 -- nothing is written, all of it remains
-pub begins : (whole : List ℕ) (start : ℕ) (old : List ℕ) → Going whole whole start old old start
-begins whole start old = record { done = []; splits = refl; put = record { content = refl; after = sym (add-zero start) } }
+pub line-begins : (whole : List ℕ) (start : ℕ) (old : List ℕ) → Going whole whole start old old start
+line-begins whole start old = record { done = []; splits = refl; put = record { content = refl; after = sym (add-zero start) } }
 
 module _ {whole : List ℕ} {start : ℕ} {old later : List ℕ} {place : ℕ} where
   -- what remains is said in another way
@@ -88,5 +88,5 @@ pub put-length : (bytes : List ℕ) {old later : List ℕ} {next : ℕ} → Put 
 put-length bytes p = p .after ∙ zero-add (length bytes)
 
 -- a slice that was written to keeps its length
-pub kept : {bytes : List ℕ} {place : ℕ} {old later : List ℕ} {next : ℕ} → Put bytes place old later next → length later ≡ length old
-kept {bytes} {place} {old} p = ap length (p .content) ∙ length-sets old place bytes
+pub bytes-kept : {bytes : List ℕ} {place : ℕ} {old later : List ℕ} {next : ℕ} → Put bytes place old later next → length later ≡ length old
+bytes-kept {bytes} {place} {old} p = ap length (p .content) ∙ length-sets old place bytes

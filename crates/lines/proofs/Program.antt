@@ -22,7 +22,7 @@ use Rattle.definitions.specs.Listing.{largestResolution, recordRoom, mOf, sOf, 
 use Rattle.lines.specs.Put.{Put, BytesFit, Records}
 use Rattle.lines.specs.Lent.{longestListing, Lent, Printed}
 use Rattle.lines.proofs.Going.{put-over, put-length}
-use Rattle.lines.proofs.Records.{written-key}
+use Rattle.lines.proofs.Records.{record-written-key}
 use Rattle.lines.proofs.Lengths.{listing-length, refusal-length}
 use Rattle.lines.proofs.Listed.{refused-build, prints-refusal, keys-stay, bits-stay, prints-listing, build-room, build-digit, build-accepted}
 
@@ -65,7 +65,7 @@ refuses {input} {keys} {bits} {out} lent e put =
     (bits-stay input 1 e not-zero bits)
 
 -- the input as the program reads it
-pub record Reads (input : List ℕ) (m s : ℕ) (raster : List ℕ) : Type 0 where
+pub record ProgramReads (input : List ℕ) (m s : ℕ) (raster : List ℕ) : Type 0 where
   pub two : 2 ≤ length input
   pub m-is : m ≡ mOf input
   pub s-is : s ≡ sOf input
@@ -73,19 +73,19 @@ pub record Reads (input : List ℕ) (m s : ℕ) (raster : List ℕ) : Type 0 whe
   pub small : m ≤ largestResolution
 
 -- what build told
-pub record Told (m s : ℕ) (raster keys bits keys′ bits′ : List ℕ) (refusal count : ℕ) : Type 0 where
+pub record ProgramTold (m s : ℕ) (raster keys bits keys′ bits′ : List ℕ) (refusal count : ℕ) : Type 0 where
   pub refusal-is : refusal ≡ buildRefusal m s raster keys bits
   pub count-is : count ≡ accepted (buildRefusal m s raster keys bits) (length (listOfRaster m raster)) 0
   pub keys-are : keys′ ≡ accepted (buildRefusal m s raster keys bits) (over (keysOf (listOfRaster m raster)) keys) keys
   pub bits-are : bits′ ≡ accepted (buildRefusal m s raster keys bits) (over (valuesOf (listOfRaster m raster)) bits) bits
 
-pub told : {m s : ℕ} {raster keys bits keys′ bits′ : List ℕ} {r : Counted}
+pub program-told : {m s : ℕ} {raster keys bits keys′ bits′ : List ℕ} {r : Counted}
     → r ≡ build m s raster keys bits → keys′ ≡ buildKeys m s raster keys bits → bits′ ≡ buildBits m s raster keys bits
-    → Told m s raster keys bits keys′ bits′ (r .refusal) (r .count)
+    → ProgramTold m s raster keys bits keys′ bits′ (r .refusal) (r .count)
 unfolding build buildKeys buildBits
-told e k b = record { refusal-is = ap (λ x. x .refusal) e; count-is = ap (λ x. x .count) e; keys-are = k; bits-are = b }
+program-told e k b = record { refusal-is = ap (λ x. x .refusal) e; count-is = ap (λ x. x .count) e; keys-are = k; bits-are = b }
 
-module _ {input keys bits out : List ℕ} (lent : Lent keys bits out) {m s : ℕ} {raster : List ℕ} (reads : Reads input m s raster) where
+module _ {input keys bits out : List ℕ} (lent : Lent keys bits out) {m s : ℕ} {raster : List ℕ} (reads : ProgramReads input m s raster) where
   -- what holds of the numbers in the input holds of those that were read
   as-read {ℓ} : {A : Type ℓ} (f : ℕ → ℕ → List ℕ → A) → f (mOf input) (sOf input) (rasterOf input) ≡ f m s raster
   as-read f =
@@ -104,7 +104,7 @@ module _ {input keys bits out : List ℕ} (lent : Lent keys bits out) {m s : ℕ
       ∙ as-read (λ x y z. buildRefusal x y z recordRoom recordRoom)
       ∙ build-room m s raster recordRoom recordRoom keys bits same-room
 
-  module _ {keys′ bits′ : List ℕ} {refusal count : ℕ} (t : Told m s raster keys bits keys′ bits′ refusal count) where
+  module _ {keys′ bits′ : List ℕ} {refusal count : ℕ} (t : ProgramTold m s raster keys bits keys′ bits′ refusal count) where
     same-refusal : listingRefusal input ≡ refusal
     same-refusal = refusal-as-built ∙ sym (t .refusal-is)
 
@@ -165,7 +165,7 @@ module _ {input keys bits out : List ℕ} (lent : Lent keys bits out) {m s : ℕ
             keys-hold = omega arith;
             bits-hold = omega arith;
             digits = λ i h.
-                let d = written-key (list-ascends (pictureOfRaster m raster) m 0 0 rootKey) keys i (omega arith) in
+                let d = record-written-key (list-ascends (pictureOfRaster m raster) m 0 0 rootKey) keys i (omega arith) in
                 let e = ap (λ (l : List ℕ). getD l i 0) keys-list in
                 omega arith;
           }

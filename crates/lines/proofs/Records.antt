@@ -10,7 +10,7 @@ use Rattle.keys.proofs.Descent.{one-less}
 use Rattle.definitions.specs.List.{Record, recordOf, keysOf, Ascending}
 use Rattle.definitions.specs.Read.{paired, recordsOf}
 use Rattle.definitions.specs.Buffer.{over}
-use Rattle.list.proofs.Accepted.{key-below}
+use Rattle.list.proofs.Accepted.{place-key-below}
 use Rattle.definitions.specs.Listing.{lineOf, linesOf}
 
 module _ (keys bits : List ℕ) (n i : ℕ) (h : i < n) (k : n ≤ length keys) (b : n ≤ length bits) where
@@ -37,8 +37,8 @@ unfolding linesOf paired
 lines-none m s keys bits = refl
 
 -- the keys of a list that was written ascend below the bound
-pub written-key : {lo hi : ℕ} {l : List Record} → Ascending lo hi l → (keys : List ℕ) (i : ℕ) → i < length l → getD (over (keysOf l) keys) i 0 < hi
-written-key {l = l} a keys i q =
+pub record-written-key : {lo hi : ℕ} {l : List Record} → Ascending lo hi l → (keys : List ℕ) (i : ℕ) → i < length l → getD (over (keysOf l) keys) i 0 < hi
+record-written-key {l = l} a keys i q =
     let e = List·getD-append (keysOf l) (drop (length (keysOf l)) keys) 0 i (rw (length-map l (λ x. x .key)) q) in
-    let f = key-below i a q in
+    let f = place-key-below i a q in
     omega arith

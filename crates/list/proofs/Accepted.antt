@@ -55,15 +55,15 @@ unfolding contentOf
 content-is m s κ l e = content-list m s κ l e .is
 
 -- keys that ascend lie between the bounds, and are smaller at a smaller place
-pub key-from : {lo hi : ℕ} {l : List Record} (i : ℕ) → Ascending lo hi l → i < length l → lo ≤ getD (keysOf l) i 0
+key-from : {lo hi : ℕ} {l : List Record} (i : ℕ) → Ascending lo hi l → i < length l → lo ≤ getD (keysOf l) i 0
 key-from i (none h) v = absurd (omega arith)
 key-from zero (next h a) v = h
 key-from (suc i) (next {e = e} h a) v = let z = key-from i a (omega arith) in omega arith
 
-pub key-below : {lo hi : ℕ} {l : List Record} (i : ℕ) → Ascending lo hi l → i < length l → getD (keysOf l) i 0 < hi
-key-below i (none h) v = absurd (omega arith)
-key-below zero (next {e = e} h a) v = let z = ascending-bounds a in omega arith
-key-below (suc i) (next h a) v = key-below i a (omega arith)
+pub place-key-below : {lo hi : ℕ} {l : List Record} (i : ℕ) → Ascending lo hi l → i < length l → getD (keysOf l) i 0 < hi
+place-key-below i (none h) v = absurd (omega arith)
+place-key-below zero (next {e = e} h a) v = let z = ascending-bounds a in omega arith
+place-key-below (suc i) (next h a) v = place-key-below i a (omega arith)
 
 pub keys-ascend : {lo hi : ℕ} {l : List Record} (i j : ℕ) → Ascending lo hi l → i < j → j < length l → getD (keysOf l) i 0 < getD (keysOf l) j 0
 keys-ascend i j (none h) u v = absurd (omega arith)

@@ -26,17 +26,17 @@ use Rattle.list.proofs.Sound.{sound}
 use Rattle.list.proofs.Complete.{complete}
 
 -- the block's records are right, and none is left
-unfoldable pub isWhole : Outcome → Bool
-isWhole wrong = false
-isWhole (left l) = eqb (length l) 0
+unfoldable pub acceptsWhole : Outcome → Bool
+acceptsWhole wrong = false
+acceptsWhole (left l) = eqb (length l) 0
 
 -- the first record has the block's key and slots below s, and what follows it is all that must
 unfoldable pub accepts : ℕ → ℕ → ℕ → List Record → Bool
 accepts s k κ [] = false
-accepts s k κ (e ∷ l) = eqb (e .key) κ && (ltb (e .value) (2 ^ s) && isWhole (afterOwn (afterNode k) κ (e .value) l))
+accepts s k κ (e ∷ l) = eqb (e .key) κ && (ltb (e .value) (2 ^ s) && acceptsWhole (afterOwn (afterNode k) κ (e .value) l))
 
-nothing : (o : Outcome) → isWhole o ≡ true → o ≡ left []
-unfolding isWhole
+nothing : (o : Outcome) → acceptsWhole o ≡ true → o ≡ left []
+unfolding acceptsWhole
 nothing wrong e = absurd (false≢true e)
 nothing (left []) e = refl
 nothing (left (x ∷ l)) e = absurd (let h = eqb-true (length (x ∷ l)) 0 e in omega arith)
@@ -47,7 +47,7 @@ unfolding accepts
 accepts-to s k r c κ [] e = absurd (false≢true e)
 accepts-to s k r c κ (x ∷ l) e =
     let below-s = ltb (x .value) (2 ^ s) in
-    let whole = isWhole (afterOwn (afterNode k) κ (x .value) l) in
+    let whole = acceptsWhole (afterOwn (afterNode k) κ (x .value) l) in
     let key = eqb-true _ _ (and-left (eqb (x .key) κ) (below-s && whole) e) in
     let more = and-right (eqb (x .key) κ) (below-s && whole) e in
     let small = ltb-true (x .value) (2 ^ s) (and-left below-s whole more) in
@@ -61,16 +61,16 @@ accepts-to s k r c κ (x ∷ l) e =
 
 -- and every such list is accepted
 pub accepts-from : (s k r c κ : ℕ) (l : List Record) → ShowsBlock s k r c κ l → accepts s k κ l ≡ true
-unfolding accepts isWhole
+unfolding accepts acceptsWhole
 accepts-from s k r c κ l x =
     let first = list-first (x .picture) k r c κ in
     let b = bitsOf (x .picture) k r c in
     let end : afterOwn (afterNode k) κ b (first .0) ≡ left [] =
     ap (afterOwn (afterNode k) κ b) (sym (append-nil (first .0))) ∙ complete (x .picture) k r c κ (first .0) [] (first .1) in
     ap (accepts s k κ) (x .is ∙ first .1)
-    ∙ and-both (eqb κ κ) (ltb b (2 ^ s) && isWhole (afterOwn (afterNode k) κ b (first .0)))
+    ∙ and-both (eqb κ κ) (ltb b (2 ^ s) && acceptsWhole (afterOwn (afterNode k) κ b (first .0)))
     (eq-eqb κ κ refl)
-    (and-both (ltb b (2 ^ s)) (isWhole (afterOwn (afterNode k) κ b (first .0))) (lt-ltb _ _ (bits-below s (x .picture) k r c (x .below))) (ap isWhole end))
+    (and-both (ltb b (2 ^ s)) (acceptsWhole (afterOwn (afterNode k) κ b (first .0))) (lt-ltb _ _ (bits-below s (x .picture) k r c (x .below))) (ap acceptsWhole end))
 
 -- so it is the test of a block's list
 pub accepts-means : (m s k r c κ : ℕ) (l : List Record) → KeysFrom m k r c κ → isListOfBlock m s k r c κ l ≡ accepts s k κ l

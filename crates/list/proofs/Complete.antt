@@ -18,7 +18,7 @@ use Rattle.list.proofs.OneSlot.{slot-feature}
 use Rattle.list.proofs.Children.{own-leaf, own-node, node-suc, children-none, children-from, union-in-turn, four-lists}
 
 -- a list of the block passes, whatever follows it
-abbrev pub Passes : Picture → ℕ → ℕ → ℕ → ℕ → Type 0
+abbrev Passes : Picture → ℕ → ℕ → ℕ → ℕ → Type 0
 Passes p k r c κ = (below rest : List Record) → listOf p k r c κ ≡ recordOf κ (bitsOf p k r c) ∷ below → afterOwn (afterNode k) κ (bitsOf p k r c) (below ++ rest) ≡ left rest
 
 tails : {x y : Record} {l l′ : List Record} → x ∷ l ≡ y ∷ l′ → l ≡ l′

@@ -11,7 +11,7 @@ use lib.Seq.{getD-append-seam}
 use lib.Dec.{leb, eqb}
 use borrow.Author.Tests.{le-leb, lt-leb, eq-eqb, ne-eqb}
 use Rattle.keys.specs.Under.{Under}
-use Rattle.keys.proofs.Interval.{Same, key-within}
+use Rattle.keys.proofs.Interval.{SameBlock, key-within}
 use Rattle.definitions.specs.Picture.{Picture, oneFeature}
 use Rattle.definitions.specs.Bits.{bitsOf}
 use Rattle.definitions.specs.List.{recordOf, keysOf, valuesOf, listOf}
@@ -22,7 +22,7 @@ use Rattle.laws.proofs.BitsOf.{bits-one}
 use Rattle.laws.proofs.Ascending.{ascending-rest}
 use Rattle.laws.proofs.ListOf.{list-first, list-one, list-ascends}
 use Rattle.list.proofs.Counted.{counted, up-to-counted, counted-none, counted-yes, counted-append, counted-all, counted-out}
-use Rattle.list.proofs.Placed.{PartOfList, ListedAround, around}
+use Rattle.list.proofs.Placed.{PartOfList, ListedAround, placed-around}
 
 -- the count over a list in which another is placed
 pub counted-placed : (test : ℕ → Bool) {p : Picture} {k r c κ k′ r′ c′ κ′ : ℕ} (a : PartOfList p k r c κ k′ r′ c′ κ′)
@@ -50,7 +50,7 @@ module _ {p : Picture} {k r c κ k′ r′ c′ κ′ : ℕ} (a : ListedAround p
   one-up-to : upTo κ′ (listOf p (a .height) (a .row) (a .column) (a .at)) ≡ 1
   one-up-to = go (a .which)
     where
-      go : Same (a .height) (a .row) (a .column) (a .at) k′ r′ c′ κ′ ⊎ ((oneFeature p (a .height) (a .row) (a .column) ≡ true) × (a .at < κ′)) → upTo κ′ (listOf p (a .height) (a .row) (a .column) (a .at)) ≡ 1
+      go : SameBlock (a .height) (a .row) (a .column) (a .at) k′ r′ c′ κ′ ⊎ ((oneFeature p (a .height) (a .row) (a .column) ≡ true) × (a .at < κ′)) → upTo κ′ (listOf p (a .height) (a .row) (a .column) (a .at)) ≡ 1
       go (inl s) = ap (λ x. upTo x (listOf p (a .height) (a .row) (a .column) (a .at))) (sym (s .keys)) ∙ first-only p (a .height) (a .row) (a .column) (a .at)
       go (inr s) = leaf-only p (a .height) (a .row) (a .column) (a .at) κ′ (s .0) (omega arith)
 
@@ -82,7 +82,7 @@ module _ {p : Picture} {k r c κ k′ r′ c′ κ′ : ℕ} (a : ListedAround p
   around-bits : bitsOf p (a .height) (a .row) (a .column) ≡ bitsOf p k′ r′ c′
   around-bits = go (a .which)
     where
-      go : Same (a .height) (a .row) (a .column) (a .at) k′ r′ c′ κ′ ⊎ ((oneFeature p (a .height) (a .row) (a .column) ≡ true) × (a .at < κ′)) → bitsOf p (a .height) (a .row) (a .column) ≡ bitsOf p k′ r′ c′
+      go : SameBlock (a .height) (a .row) (a .column) (a .at) k′ r′ c′ κ′ ⊎ ((oneFeature p (a .height) (a .row) (a .column) ≡ true) × (a .at < κ′)) → bitsOf p (a .height) (a .row) (a .column) ≡ bitsOf p k′ r′ c′
       go (inl s) = rw (s .heights, s .rows, s .columns)
       go (inr s) =
           bits-one p (a .height) (a .row) (a .column) (s .0)
@@ -95,18 +95,18 @@ module _ {p : Picture} {k r c κ k′ r′ c′ κ′ : ℕ} (a : ListedAround p
 
 -- the lookup law: the bitstring at a block's place is the block's own, whether it is listed or lies inside a leaf
 pub lookup-value : (p : Picture) {k r c κ k′ r′ c′ κ′ : ℕ} → Under k r c κ k′ r′ c′ κ′ → getD (valuesOf (listOf p k r c κ)) (placeOf κ′ (listOf p k r c κ)) 0 ≡ bitsOf p k′ r′ c′
-lookup-value p u = around-value (around p u)
+lookup-value p u = around-value (placed-around p u)
 
 -- a listed block's list stands in the list from the block's place on
 pub record AtPlace (p : Picture) (k r c κ k′ r′ c′ κ′ x : ℕ) : Type 0 where
   pub placed : PartOfList p k r c κ k′ r′ c′ κ′
   pub place : placeOf x (listOf p k r c κ) ≡ length (placed .before)
 
-same-place : {p : Picture} {k r c κ k₁ r₁ c₁ κ₁ k′ r′ c′ κ′ x : ℕ} → Same k₁ r₁ c₁ κ₁ k′ r′ c′ κ′ → AtPlace p k r c κ k₁ r₁ c₁ κ₁ x → AtPlace p k r c κ k′ r′ c′ κ′ x
+same-place : {p : Picture} {k r c κ k₁ r₁ c₁ κ₁ k′ r′ c′ κ′ x : ℕ} → SameBlock k₁ r₁ c₁ κ₁ k′ r′ c′ κ′ → AtPlace p k r c κ k₁ r₁ c₁ κ₁ x → AtPlace p k r c κ k′ r′ c′ κ′ x
 same-place s a = rw (← s .heights, ← s .rows, ← s .columns, ← s .keys) a
 
 -- a block that is not listed lies inside a leaf, whose record is at the block's place
-pub record InLeaf (p : Picture) (k r c κ k′ r′ c′ κ′ : ℕ) : Type 0 where
+pub record InsideLeaf (p : Picture) (k r c κ k′ r′ c′ κ′ : ℕ) : Type 0 where
   pub height : ℕ
   pub row : ℕ
   pub column : ℕ
@@ -120,7 +120,7 @@ pub record InLeaf (p : Picture) (k r c κ k′ r′ c′ κ′ : ℕ) : Type 0 w
 -- a block is listed, or lies inside a leaf
 pub data Looked (p : Picture) (k r c κ k′ r′ c′ κ′ : ℕ) : Type 0 where
   is-listed : isListed κ′ (listOf p k r c κ) ≡ true → AtPlace p k r c κ k′ r′ c′ κ′ κ′ → Looked p k r c κ k′ r′ c′ κ′
-  is-inside : isListed κ′ (listOf p k r c κ) ≡ false → InLeaf p k r c κ k′ r′ c′ κ′ → Looked p k r c κ k′ r′ c′ κ′
+  is-inside : isListed κ′ (listOf p k r c κ) ≡ false → InsideLeaf p k r c κ k′ r′ c′ κ′ → Looked p k r c κ k′ r′ c′ κ′
 
 module _ {p : Picture} {k r c κ k′ r′ c′ κ′ : ℕ} (a : ListedAround p k r c κ k′ r′ c′ κ′) where
   around-listed : isListed κ′ (listOf p k r c κ) ≡ eqb (a .at) κ′
@@ -130,20 +130,20 @@ module _ {p : Picture} {k r c κ k′ r′ c′ κ′ : ℕ} (a : ListedAround p
   around-at : AtPlace p k r c κ (a .height) (a .row) (a .column) (a .at) κ′
   around-at = record { placed = a .placed; place = around-place a }
 
-  around-looked : Same (a .height) (a .row) (a .column) (a .at) k′ r′ c′ κ′ ⊎ ((oneFeature p (a .height) (a .row) (a .column) ≡ true) × (a .at < κ′)) → Looked p k r c κ k′ r′ c′ κ′
+  around-looked : SameBlock (a .height) (a .row) (a .column) (a .at) k′ r′ c′ κ′ ⊎ ((oneFeature p (a .height) (a .row) (a .column) ≡ true) × (a .at < κ′)) → Looked p k r c κ k′ r′ c′ κ′
   around-looked (inl s) = is-listed (around-listed ∙ eq-eqb _ _ (s .keys)) (same-place s around-at)
   around-looked (inr s) =
       is-inside (around-listed ∙ ne-eqb (a .at) κ′ (λ (e : a .at ≡ κ′). omega (arith, s .1)))
       (record { height = a .height; row = a .row; column = a .column; at = a .at; stands = around-at; under = a .under; holds = a .holds; one = s .0; before = s .1 })
 
 pub lookup : (p : Picture) {k r c κ k′ r′ c′ κ′ : ℕ} → Under k r c κ k′ r′ c′ κ′ → Looked p k r c κ k′ r′ c′ κ′
-lookup p u = let a = around p u in around-looked a (a .which)
+lookup p u = let a = placed-around p u in around-looked a (a .which)
 
 listed-case : {p : Picture} {k r c κ k′ r′ c′ κ′ : ℕ} → isListed κ′ (listOf p k r c κ) ≡ true → Looked p k r c κ k′ r′ c′ κ′ → AtPlace p k r c κ k′ r′ c′ κ′ κ′
 listed-case e (is-listed f a) = a
 listed-case e (is-inside f a) = absurd (true≢false (sym e ∙ f))
 
-inside-case : {p : Picture} {k r c κ k′ r′ c′ κ′ : ℕ} → isListed κ′ (listOf p k r c κ) ≡ false → Looked p k r c κ k′ r′ c′ κ′ → InLeaf p k r c κ k′ r′ c′ κ′
+inside-case : {p : Picture} {k r c κ k′ r′ c′ κ′ : ℕ} → isListed κ′ (listOf p k r c κ) ≡ false → Looked p k r c κ k′ r′ c′ κ′ → InsideLeaf p k r c κ k′ r′ c′ κ′
 inside-case e (is-listed f a) = absurd (true≢false (sym f ∙ e))
 inside-case e (is-inside f a) = a
 
@@ -152,5 +152,5 @@ pub lookup-listed : (p : Picture) {k r c κ k′ r′ c′ κ′ : ℕ} → Unde
 lookup-listed p u e = listed-case e (lookup p u)
 
 -- if it is not, the record at its place is that of a leaf around it
-pub lookup-inside : (p : Picture) {k r c κ k′ r′ c′ κ′ : ℕ} → Under k r c κ k′ r′ c′ κ′ → isListed κ′ (listOf p k r c κ) ≡ false → InLeaf p k r c κ k′ r′ c′ κ′
+pub lookup-inside : (p : Picture) {k r c κ k′ r′ c′ κ′ : ℕ} → Under k r c κ k′ r′ c′ κ′ → isListed κ′ (listOf p k r c κ) ≡ false → InsideLeaf p k r c κ k′ r′ c′ κ′
 lookup-inside p u e = inside-case e (lookup p u)

@@ -22,13 +22,13 @@ unfolding oneSlot
 power-slot f = eq-eqb _ _ (ap (λ x. 2 ^ x) (sym (feature-of-power f)))
 
 -- what has one slot is the power of its feature
-pub slot-power : (bits : ℕ) → oneSlot bits ≡ true → bits ≡ 2 ^ featureOf bits
+pub one-slot-power : (bits : ℕ) → oneSlot bits ≡ true → bits ≡ 2 ^ featureOf bits
 unfolding oneSlot
-slot-power bits e = eqb-true _ _ e
+one-slot-power bits e = eqb-true _ _ e
 
 -- what is no power of two has not exactly one slot
 pub not-slot : (bits : ℕ) → ((f : ℕ) → bits ≡ 2 ^ f → ⊥) → oneSlot bits ≡ false
-not-slot bits h = decide (oneSlot bits) (λ e. absurd (h (featureOf bits) (slot-power bits e))) (λ e. e)
+not-slot bits h = decide (oneSlot bits) (λ e. absurd (h (featureOf bits) (one-slot-power bits e))) (λ e. e)
 
 -- one less than a power of two has all slots below it, and none of its own
 pub power-clear : (f : ℕ) → bitAnd (2 ^ f) (2 ^ f - 1) ≡ 0
@@ -150,5 +150,5 @@ four-some a b c d e =
 pub slot-feature : (p : Picture) (k r c : ℕ) → oneSlot (bitsOf p k r c) ≡ oneFeature p k r c
 slot-feature p k r c =
     same-test (oneSlot (bitsOf p k r c)) (oneFeature p k r c)
-    (λ e. power-one p (featureOf (bitsOf p k r c)) k r c (slot-power (bitsOf p k r c) e))
+    (λ e. power-one p (featureOf (bitsOf p k r c)) k r c (one-slot-power (bitsOf p k r c) e))
     (λ e. ap oneSlot (bits-one p k r c e) ∙ power-slot (p r c))

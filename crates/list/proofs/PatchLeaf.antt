@@ -17,7 +17,7 @@ use Rattle.definitions.specs.Picture.{Picture, oneFeature}
 use Rattle.definitions.specs.List.{listOf, listOfPicture}
 use Rattle.definitions.specs.Standing.{placeOf, keyFound, isListed, standingOf, partLength}
 use Rattle.definitions.specs.declared.Standing.the-variants.{Listed, Inside}
-use Rattle.list.proofs.Lookup.{InLeaf, lookup-listed, lookup-inside, around-key}
+use Rattle.list.proofs.Lookup.{InsideLeaf, lookup-listed, lookup-inside, around-key}
 use Rattle.list.proofs.PartLength.{records-in}
 use Rattle.list.proofs.Fuller.{listed-numbers, inside-numbers, listed-part}
 
@@ -28,7 +28,7 @@ pub record IsLeaf (m : ℕ) (p : Picture) (leaf : ℕ) : Type 0 where
   pub one : oneFeature p (heightOf m leaf) (rowOf m leaf) (columnOf m leaf) ≡ true
 
 -- the key that stands last before a block that lies in a listed leaf is the leaf's
-pub in-leaf : {p : Picture} {m k r c κ : ℕ} → MapBlock m k r c κ → (x : InLeaf p m 0 0 rootKey k r c κ) → keyFound κ (listOfPicture m p) ≡ x .at
+pub in-leaf : {p : Picture} {m k r c κ : ℕ} → MapBlock m k r c κ → (x : InsideLeaf p m 0 0 rootKey k r c κ) → keyFound κ (listOfPicture m p) ≡ x .at
 in-leaf b x =
     around-key (record {
       height = x .height;
@@ -76,7 +76,7 @@ module _ (m : ℕ) (p : Picture) (κ : ℕ) (valid : validKey m κ ≡ true) whe
     numbers : (isListed κ (listOfPicture m p) ≡ false) × (place ≡ placeOf κ (listOfPicture m p)) × (leaf ≡ keyFound κ (listOfPicture m p)) × (level ≡ levelOf m (keyFound κ (listOfPicture m p)))
     numbers = inside-numbers m κ (listOfPicture m p) place leaf level e
 
-    looked : InLeaf p m 0 0 rootKey (heightOf m κ) (rowOf m κ) (columnOf m κ) κ
+    looked : InsideLeaf p m 0 0 rootKey (heightOf m κ) (rowOf m κ) (columnOf m κ) κ
     looked = lookup-inside p block (numbers .0)
 
     leaf-is : leaf ≡ looked .at

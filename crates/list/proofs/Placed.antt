@@ -12,7 +12,7 @@ use Rattle.keys.proofs.Cases.{decide}
 use Rattle.keys.proofs.Powers.{five-pos}
 use Rattle.keys.specs.Under.{Under, here, nw, ne, sw, se, Quadrant, is-nw, is-ne, is-sw, is-se}
 use Rattle.keys.proofs.Under.{under-trans, quadrant-under}
-use Rattle.keys.proofs.Interval.{Same, key-within}
+use Rattle.keys.proofs.Interval.{SameBlock, key-within}
 use Rattle.definitions.specs.Picture.{Picture, oneFeature}
 use Rattle.definitions.specs.Bits.{bitsOf}
 use Rattle.definitions.specs.List.{Record, recordOf, listOf, Ascending, none}
@@ -148,7 +148,7 @@ pub record ListedAround (p : Picture) (k r c κ k′ r′ c′ κ′ : ℕ) : Ty
   pub placed : PartOfList p k r c κ height row column at
   pub under : Under k r c κ height row column at
   pub holds : Under height row column at k′ r′ c′ κ′
-  pub which : Same height row column at k′ r′ c′ κ′ ⊎ ((oneFeature p height row column ≡ true) × (at < κ′))
+  pub which : SameBlock height row column at k′ r′ c′ κ′ ⊎ ((oneFeature p height row column ≡ true) × (at < κ′))
 
 -- what is listed at or around a block in the list of a quadrant is so in the list of the parent
 around-quadrant : {p : Picture} {k r c κ r₁ c₁ κ₁ k′ r′ c′ κ′ : ℕ} → oneFeature p (suc k) r c ≡ false → Quadrant k r c κ r₁ c₁ κ₁ → ListedAround p k r₁ c₁ κ₁ k′ r′ c′ κ′ → ListedAround p (suc k) r c κ k′ r′ c′ κ′
@@ -173,10 +173,10 @@ around-step : {p : Picture} {k r c κ r₁ c₁ κ₁ k′ r′ c′ κ′ : ℕ
 around-step {p} {k} {r} {c} q u h a = decide (oneFeature p (suc k) r c) (λ one. around-leaf one u h) (λ several. around-quadrant several q a)
 
 -- every block under another has a listed block at or around it
-pub around : (p : Picture) {k r c κ k′ r′ c′ κ′ : ℕ} → Under k r c κ k′ r′ c′ κ′ → ListedAround p k r c κ k′ r′ c′ κ′
-around p (here {k} {r} {c} {κ}) =
+pub placed-around : (p : Picture) {k r c κ k′ r′ c′ κ′ : ℕ} → Under k r c κ k′ r′ c′ κ′ → ListedAround p k r c κ k′ r′ c′ κ′
+placed-around p (here {k} {r} {c} {κ}) =
     record { height = k; row = r; column = c; at = κ; placed = placed-here p k r c κ; under = here; holds = here; which = inl (omega arith) }
-around p (nw {k} u) = let w = key-within u in let e = five-pos k in around-step is-nw (nw u) (omega arith) (around p u)
-around p (ne {k} u) = let w = key-within u in let e = five-pos k in around-step is-ne (ne u) (omega arith) (around p u)
-around p (sw {k} u) = let w = key-within u in let e = five-pos k in around-step is-sw (sw u) (omega arith) (around p u)
-around p (se {k} u) = let w = key-within u in let e = five-pos k in around-step is-se (se u) (omega arith) (around p u)
+placed-around p (nw {k} u) = let w = key-within u in let e = five-pos k in around-step is-nw (nw u) (omega arith) (placed-around p u)
+placed-around p (ne {k} u) = let w = key-within u in let e = five-pos k in around-step is-ne (ne u) (omega arith) (placed-around p u)
+placed-around p (sw {k} u) = let w = key-within u in let e = five-pos k in around-step is-sw (sw u) (omega arith) (placed-around p u)
+placed-around p (se {k} u) = let w = key-within u in let e = five-pos k in around-step is-se (se u) (omega arith) (placed-around p u)

@@ -54,17 +54,17 @@ block-leaves k κ bits l rest e =
     tails e = cc
 
 -- what the place of an outcome tells, where the block's records were looked for from the place i on among the records l
-pub record Told (l : List Record) (outcome : Outcome) (place : ℕ) : Type 0 where
+pub record PlaceTold (l : List Record) (outcome : Outcome) (place : ℕ) : Type 0 where
   pub refused : place ≡ 0 → outcome ≡ wrong
   pub passed : (place ≡ 0 → ⊥) → outcome ≡ left (drop place l)
   pub within : place ≤ length l
 
 pub told : (k κ bits : ℕ) (l : List Record) (i n : ℕ) → n ≡ length l → 0 < i → i ≤ n
-    → Told l (afterOwn (afterNode k) κ bits (drop i l)) (restPlace n (afterOwn (afterNode k) κ bits (drop i l)))
+    → PlaceTold l (afterOwn (afterNode k) κ bits (drop i l)) (restPlace n (afterOwn (afterNode k) κ bits (drop i l)))
 unfolding restPlace
 told k κ bits l i n size above within = go (afterOwn (afterNode k) κ bits (drop i l)) refl
   where
-    go : (o : Outcome) → afterOwn (afterNode k) κ bits (drop i l) ≡ o → Told l o (restPlace n o)
+    go : (o : Outcome) → afterOwn (afterNode k) κ bits (drop i l) ≡ o → PlaceTold l o (restPlace n o)
     go wrong e = record { refused = λ z. refl; passed = λ z. absurd (z refl); within = omega arith }
     go (left rest) e =
         let b = block-leaves k κ bits (drop i l) rest e in

@@ -21,14 +21,14 @@ use Rattle.list.specs.Check.{oneSlot}
 use Rattle.list.specs.Own.{OwnList, shownBy}
 use Rattle.list.specs.Among.{placeAmong}
 use Rattle.list.specs.Shown.{ShownAt}
-use Rattle.list.proofs.OneSlot.{slot-power, power-slot}
+use Rattle.list.proofs.OneSlot.{one-slot-power, power-slot}
 use Rattle.list.proofs.Among.{place-among}
 use Rattle.list.proofs.Lookup.{lookup-listed, lookup-inside}
 use Rattle.list.proofs.Own.{own-values}
 
 -- one slot is one feature
 pub slot-one : (p : Picture) (k r c : ℕ) → oneSlot (bitsOf p k r c) ≡ true → oneFeature p k r c ≡ true
-slot-one p k r c e = power-one p _ k r c (slot-power (bitsOf p k r c) e)
+slot-one p k r c e = power-one p _ k r c (one-slot-power (bitsOf p k r c) e)
 
 pub one-slot : (p : Picture) (k r c : ℕ) → oneFeature p k r c ≡ true → oneSlot (bitsOf p k r c) ≡ true
 one-slot p k r c e = ap oneSlot (bits-one p k r c e) ∙ power-slot (p r c)
@@ -37,8 +37,8 @@ pub slot-several : (p : Picture) (k r c : ℕ) → oneSlot (bitsOf p k r c) ≡ 
 slot-several p k r c e = decide (oneFeature p k r c) (λ h. absurd (true≢false (sym (one-slot p k r c h) ∙ e))) (λ h. h)
 
 -- and its feature is that of every pixel
-pub slot-feature : (p : Picture) (k r c : ℕ) → oneSlot (bitsOf p k r c) ≡ true → featureOf (bitsOf p k r c) ≡ p r c
-slot-feature p k r c e = ap featureOf (bits-one p k r c (slot-one p k r c e)) ∙ feature-of-power (p r c)
+pub shown-feature : (p : Picture) (k r c : ℕ) → oneSlot (bitsOf p k r c) ≡ true → featureOf (bitsOf p k r c) ≡ p r c
+shown-feature p k r c e = ap featureOf (bits-one p k r c (slot-one p k r c e)) ∙ feature-of-power (p r c)
 
 module _ {p : Picture} {k r c κ : ℕ} {bits : List ℕ} {at : ℕ} (s : ShownAt p k r c κ bits at) where
   -- the first bitstring is the block's own
@@ -59,7 +59,7 @@ module _ {p : Picture} {k r c κ : ℕ} {bits : List ℕ} {at : ℕ} (s : ShownA
     leaf-one = slot-one p k r c (ap oneSlot (sym shown-value) ∙ leaf)
 
     pub leaf-feature : featureOf (getD bits at 0) ≡ p r c
-    leaf-feature = ap featureOf shown-value ∙ slot-feature p k r c (ap oneSlot (sym shown-value) ∙ leaf)
+    leaf-feature = ap featureOf shown-value ∙ shown-feature p k r c (ap oneSlot (sym shown-value) ∙ leaf)
 
     pub leaf-length : length (listOf p k r c κ) ≡ 1
     leaf-length = ap length (list-one p k r c κ leaf-one)

@@ -14,7 +14,7 @@ use Rattle.laws.proofs.Slots.{same-four}
 use Rattle.laws.proofs.BitsOf.{bits-one}
 use Rattle.laws.proofs.ListOf.{list-one}
 use Rattle.list.specs.Check.{oneSlot, left, afterOwn, afterNode}
-use Rattle.list.proofs.OneSlot.{slot-power, slot-feature}
+use Rattle.list.proofs.OneSlot.{one-slot-power, slot-feature}
 use Rattle.list.proofs.Joined.{joined, joined-bits, joined-list}
 use Rattle.list.proofs.Children.{wrong-not-left, left-inj, own-leaf, own-node, node-zero, node-suc, FourChildren, children-four, four-lists}
 
@@ -30,7 +30,7 @@ leaf-shown k r c κ bits rest one =
     let f = featureOf bits in
     let p : Picture = λ row column. f in
     let e : oneFeature p k r c ≡ true = one-from p f k r c (λ row column w. refl) in
-    let power = slot-power bits one in
+    let power = one-slot-power bits one in
     record {
       picture = p;
       bits-are = bits-one p k r c e ∙ sym power;

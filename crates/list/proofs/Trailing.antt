@@ -9,7 +9,7 @@ use lib.Pow.{pow-mono}
 use Rattle.keys.proofs.Cases.{split}
 use Rattle.definitions.specs.Bits.{featureOf}
 use Rattle.list.specs.Check.{oneSlot}
-use Rattle.list.proofs.OneSlot.{slot-power}
+use Rattle.list.proofs.OneSlot.{one-slot-power}
 
 odd : (k n : ℕ) → n % 2 ≡ 1 → trailingZeros (suc k) n ≡ 0
 unfolding trailingZeros
@@ -31,7 +31,7 @@ module _ (bits : ℕ) (leaf : oneSlot bits ≡ true) (fits : bits < 2 ^ 32) wher
   -- a slot of a number that fits 32 bits
   pub feature-below : featureOf bits < 32
   feature-below =
-      split (featureOf bits) 32 (λ a. a) (λ a. let g = pow-mono a in let e = slot-power bits leaf in absurd (omega arith))
+      split (featureOf bits) 32 (λ a. a) (λ a. let g = pow-mono a in let e = one-slot-power bits leaf in absurd (omega arith))
 
   pub trailing-feature : trailingZeros 32 bits ≡ featureOf bits
-  trailing-feature = ap (trailingZeros 32) (slot-power bits leaf) ∙ power 32 (featureOf bits) feature-below
+  trailing-feature = ap (trailingZeros 32) (one-slot-power bits leaf) ∙ power 32 (featureOf bits) feature-below

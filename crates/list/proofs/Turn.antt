@@ -51,7 +51,7 @@ step-low (suc (suc zero)) step e h five one = absurd (five e)
 step-low (suc (suc (suc k))) step e h five one = absurd (let p = five-le {k = 2} (suc (suc k)) (omega arith) in omega arith)
 
 -- a step that is not 0 is the power of five of the children
-pub step-some {ℓ} : (C : ℕ → Type ℓ) (k step : ℕ) → step ≡ stepUnder k → (step ≡ 0 → ⊥) → ((j : ℕ) → step ≡ 5 ^ j → C (suc j)) → C k
+step-some {ℓ} : (C : ℕ → Type ℓ) (k step : ℕ) → step ≡ stepUnder k → (step ≡ 0 → ⊥) → ((j : ℕ) → step ≡ 5 ^ j → C (suc j)) → C k
 unfolding stepUnder
 step-some C zero step e pos f = absurd (pos e)
 step-some C (suc k) step e pos f = f k e
@@ -93,9 +93,9 @@ pixel K B first key own step low five one k e =
     sym (ap (λ j. restPlace (length K) (afterNode j key own (drop first (paired K B)))) (step-low k step e low five one)
     ∙ ap (restPlace (length K)) (node-zero key own (drop first (paired K B))))
 
-pub begins : (K B : List ℕ) (first key own step : ℕ) → (length K ≡ length B) × (first ≤ length K) × (key + 5 * step < 2 ^ 32) → (step ≡ 0 → ⊥)
+pub turn-begins : (K B : List ℕ) (first key own step : ℕ) → (length K ≡ length B) × (first ≤ length K) × (key + 5 * step < 2 ^ 32) → (step ≡ 0 → ⊥)
     → Passed K B first key own step first 0 1
-begins K B first key own step pre positive = record {
+turn-begins K B first key own step pre positive = record {
   size = pre .0;
   positive = positive;
   fits = pre .2;

@@ -24,17 +24,17 @@ pub single-decides : (m s : ℕ) (log : List Record) (r a : Bool) → r ≡ ends
 single-decides m s log r a told single answer = answer ∙ sym (step-single log (sym told ∙ single) m s)
 
 -- the steps from `end` on have passed
-pub record Passed (m s : ℕ) (keys values : List ℕ) (used end : ℕ) : Type 0 where
+pub record StepsPassed (m s : ℕ) (keys values : List ℕ) (used end : ℕ) : Type 0 where
   pub within : end ≤ used
   pub in-keys : used ≤ length keys
   pub in-values : used ≤ length values
   pub same : isSound m s (recordsOf keys values used) ≡ isSound m s (recordsOf keys values end)
 
 -- at first none has
-pub begins : (m s : ℕ) (keys values : List ℕ) (used : ℕ) → used ≤ length keys → used ≤ length values → Passed m s keys values used used
-begins m s keys values used in-keys in-values = record { within = omega arith; in-keys = in-keys; in-values = in-values; same = refl }
+pub check-begins : (m s : ℕ) (keys values : List ℕ) (used : ℕ) → used ≤ length keys → used ≤ length values → StepsPassed m s keys values used used
+check-begins m s keys values used in-keys in-values = record { within = omega arith; in-keys = in-keys; in-values = in-values; same = refl }
 
-module _ {m s : ℕ} {keys values : List ℕ} {used end : ℕ} (p : Passed m s keys values used end) where
+module _ {m s : ℕ} {keys values : List ℕ} {used end : ℕ} (p : StepsPassed m s keys values used end) where
   answer : {b : Bool} → isSound m s (recordsOf keys values end) ≡ b → b ≡ isSound m s (recordsOf keys values used)
   answer e = sym (p .same ∙ e)
 
@@ -70,7 +70,7 @@ module _ {m s : ℕ} {keys values : List ℕ} {used end : ℕ} (p : Passed m s k
           falls = start-below keys values end (stepped .in-keys) (stepped .in-values) last found some
 
           -- and is passed
-          pub turns : Passed m s keys values used (last .start)
+          pub turns : StepsPassed m s keys values used (last .start)
           turns =
               let less = falls in
               record {

@@ -27,7 +27,7 @@ one-of-them (suc count) m s log some =
     let less : count ≡ suc count - 1 = omega arith in
     ap (λ n. lastIsEntry m s log && endsInEntries n m s (beforeLast log)) less
 
-pub before-one : (count : ℕ) (log : List Record) → 0 < count → beforeEntries count log ≡ beforeEntries (count - 1) (beforeLast log)
+before-one : (count : ℕ) (log : List Record) → 0 < count → beforeEntries count log ≡ beforeEntries (count - 1) (beforeLast log)
 unfolding beforeEntries
 before-one zero log some = absurd (omega arith)
 before-one (suc count) log some = let less : count ≡ suc count - 1 = omega arith in ap (λ n. beforeEntries n (beforeLast log)) less

@@ -15,7 +15,7 @@ use Rattle.list.proofs.Tests.{GoodSettings, good-settings}
 use Rattle.log_file.specs.Head.{logHeadRows, logHeadRefusal}
 
 -- the head's rows
-pub record HeadAccepted (file : List ℕ) : Type 0 where
+pub record LogHeadAccepted (file : List ℕ) : Type 0 where
   pub long : logTooShort file ≡ false
   pub marked : wrongLogMark file ≡ false
   pub versioned : wrongLogVersion file ≡ false
@@ -23,9 +23,9 @@ pub record HeadAccepted (file : List ℕ) : Type 0 where
   pub exact : wrongLogLength file ≡ false
 
 -- where the head gives 0, none of them holds
-pub head-accepted : (file : List ℕ) → logHeadRefusal file ≡ 0 → HeadAccepted file
+pub log-head-accepted : (file : List ℕ) → logHeadRefusal file ≡ 0 → LogHeadAccepted file
 unfolding logHeadRefusal
-head-accepted file e =
+log-head-accepted file e =
     let none = first-none (logHeadRows file) refl e in
     record {
       long = none .0;
@@ -36,9 +36,9 @@ head-accepted file e =
     }
 
 -- a refused head refuses the file
-pub head-refuses : (file keys values : List ℕ) (k : ℕ) → k ≡ logHeadRefusal file → (k ≡ 0 → ⊥) → loadLogRefusal file keys values ≡ k
+pub log-head-refuses : (file keys values : List ℕ) (k : ℕ) → k ≡ logHeadRefusal file → (k ≡ 0 → ⊥) → loadLogRefusal file keys values ≡ k
 unfolding logHeadRefusal loadLogRefusal
-head-refuses file keys values k e not-zero = holds-first (holds-more _ (first-holds k (logHeadRows file) not-zero (sym e)))
+log-head-refuses file keys values k e not-zero = holds-first (holds-more _ (first-holds k (logHeadRows file) not-zero (sym e)))
 
 module _ (file : List ℕ) where
   -- 15: under 23 bytes
@@ -83,8 +83,8 @@ module _ (file : List ℕ) where
 
 -- an accepted head
 module _ (file : List ℕ) (e : 0 ≡ logHeadRefusal file) where
-  a : HeadAccepted file
-  a = head-accepted file (sym e)
+  a : LogHeadAccepted file
+  a = log-head-accepted file (sym e)
 
   -- is long enough
   pub head-long : 23 ≤ length file

@@ -12,26 +12,26 @@ use borrow.Author.Tests.{eq-eqb, ne-eqb, eqb-true, eqb-false}
 use Rattle.keys.proofs.Cases.{decide}
 use Rattle.definitions.specs.File.{bytesOf}
 use Rattle.definitions.specs.LogFile.{logMark, logHeadOf, logFileLength}
-use Rattle.file.proofs.Stores.{sets-append}
+use Rattle.file.proofs.Stores.{sets-split}
 
 -- the mark, the version, m, s and both counts stored one after the other are the head
-pub head-stores : (m s used inForce : ℕ) (old marked versioned counted whole : List ℕ) → marked ≡ sets old 0 logMark
+pub log-head-stores : (m s used inForce : ℕ) (old marked versioned counted whole : List ℕ) → marked ≡ sets old 0 logMark
     → versioned ≡ sets marked 3 (bytesOf 2 1)
     → counted ≡ sets (set (set versioned 5 (m % 256)) 6 (s % 256)) 7 (bytesOf 8 used)
     → whole ≡ sets counted 15 (bytesOf 8 inForce)
     → whole ≡ sets old 0 (logHeadOf m s used inForce)
 unfolding logHeadOf bytesOf
-head-stores m s used inForce old marked versioned counted whole e f g h = h ∙ rw (g, f, e, div-one m, div-one s)
+log-head-stores m s used inForce old marked versioned counted whole e f g h = h ∙ rw (g, f, e, div-one m, div-one s)
 
 pub length-head : (m s used inForce : ℕ) → length (logHeadOf m s used inForce) ≡ 23
 unfolding logHeadOf bytesOf
 length-head m s used inForce = refl
 
 -- what is stored after the head is stored from byte 23 on
-pub head-then : (old : List ℕ) (m s used inForce : ℕ) (rest : List ℕ)
+pub log-head-then : (old : List ℕ) (m s used inForce : ℕ) (rest : List ℕ)
     → sets old 0 (logHeadOf m s used inForce ++ rest) ≡ sets (sets old 0 (logHeadOf m s used inForce)) 23 rest
-head-then old m s used inForce rest =
-    sets-append old 0 (logHeadOf m s used inForce) rest
+log-head-then old m s used inForce rest =
+    sets-split old 0 (logHeadOf m s used inForce) rest
     ∙ ap (λ k. sets (sets old 0 (logHeadOf m s used inForce)) (0 + k) rest) (length-head m s used inForce)
 
 -- a file whose bytes past the head are no whole records has no such length

@@ -23,8 +23,8 @@ use Rattle.file.specs.Room.{RoomFor}
 use Rattle.log_file.specs.Head.{logHeadRefusal}
 use Rattle.log_file.specs.Records.{placesIn, keysInBytes, valuesInBytes}
 use Rattle.log_file.proofs.Lent.{rest-lent}
-use Rattle.log_file.proofs.HeadAnswers.{HeadAccepted, head-accepted}
-use Rattle.log_file.proofs.LogAccepted.{LoadAccepted, load-accepted, load-accepts}
+use Rattle.log_file.proofs.HeadAnswers.{LogHeadAccepted, log-head-accepted}
+use Rattle.log_file.proofs.LogAccepted.{LogLoadAccepted, load-accepted, load-accepts}
 
 -- the bytes from byte 12 on, as code lends them
 module _ (file : List ℕ) (exact : length file ≡ logFileLength (usedIn file)) where
@@ -54,8 +54,8 @@ module _ (file : List ℕ) (exact : length file ≡ logFileLength (usedIn file))
 
 -- the table, once the head is accepted and the counts are read
 module _ (file : List ℕ) (head : 0 ≡ logHeadRefusal file) (keys values : List ℕ) where
-  a : HeadAccepted file
-  a = head-accepted file (sym head)
+  a : LogHeadAccepted file
+  a = log-head-accepted file (sym head)
 
   -- 5
   pub no-log : noLogIn file ≡ true → 5 ≡ loadLogRefusal file keys values
@@ -137,7 +137,7 @@ module _ (file keys values : List ℕ) where
       )
 
   module _ (none : 0 ≡ loadLogRefusal file keys values) where
-    b : LoadAccepted file keys values
+    b : LogLoadAccepted file keys values
     b = load-accepted file keys values (sym none)
 
     -- an accepted file has its head

@@ -18,21 +18,21 @@ use Rattle.definitions.specs.Calls.LoadLog.{loadLogRefusal, loadLog, loadLogKey
 use Rattle.laws.proofs.First.{first-none, none-first, accepted-done}
 
 -- store's rows
-pub record StoreAccepted (m s : ℕ) (keys values : List ℕ) (used inForce : ℕ) (file : List ℕ) : Type 0 where
+pub record LogStoreAccepted (m s : ℕ) (keys values : List ℕ) (used inForce : ℕ) (file : List ℕ) : Type 0 where
   pub settings : badSettings m s ≡ false
   pub whole : noLog m s keys values used inForce ≡ false
   pub roomy : length (storedLog m s keys values used inForce) ≤ length file
 
 module _ (m s : ℕ) (keys values : List ℕ) (used inForce : ℕ) (file : List ℕ) where
   -- where store gives 0, no row of its table holds
-  pub store-accepted : storeLogRefusal m s keys values used inForce file ≡ 0 → StoreAccepted m s keys values used inForce file
+  pub store-accepted : storeLogRefusal m s keys values used inForce file ≡ 0 → LogStoreAccepted m s keys values used inForce file
   unfolding storeLogRefusal
   store-accepted e =
       let none = first-none _ refl e in
       record { settings = none .0; whole = none .1 .0; roomy = ltb-false _ _ (none .1 .1 .0) }
 
   -- where none holds, store gives 0
-  pub store-accepts : StoreAccepted m s keys values used inForce file → storeLogRefusal m s keys values used inForce file ≡ 0
+  pub store-accepts : LogStoreAccepted m s keys values used inForce file → storeLogRefusal m s keys values used inForce file ≡ 0
   unfolding storeLogRefusal
   store-accepts a = none-first _ (a .settings, (a .whole, (le-ltb _ _ (a .roomy), tt)))
 
@@ -54,7 +54,7 @@ module _ (m s : ℕ) (keys values : List ℕ) (used inForce : ℕ) (file : List 
   store-leaves e = accepted-done _ _ e
 
 -- load's rows
-pub record LoadAccepted (file keys values : List ℕ) : Type 0 where
+pub record LogLoadAccepted (file keys values : List ℕ) : Type 0 where
   pub long : logTooShort file ≡ false
   pub marked : wrongLogMark file ≡ false
   pub versioned : wrongLogVersion file ≡ false
@@ -65,7 +65,7 @@ pub record LoadAccepted (file keys values : List ℕ) : Type 0 where
 
 module _ (file keys values : List ℕ) where
   -- where load gives 0, no row of its table holds
-  pub load-accepted : loadLogRefusal file keys values ≡ 0 → LoadAccepted file keys values
+  pub load-accepted : loadLogRefusal file keys values ≡ 0 → LogLoadAccepted file keys values
   unfolding loadLogRefusal
   load-accepted e =
       let none = first-none _ refl e in
@@ -81,7 +81,7 @@ module _ (file keys values : List ℕ) where
       }
 
   -- where none holds, load gives 0
-  pub load-accepts : LoadAccepted file keys values → loadLogRefusal file keys values ≡ 0
+  pub load-accepts : LogLoadAccepted file keys values → loadLogRefusal file keys values ≡ 0
   unfolding loadLogRefusal
   load-accepts a =
       none-first _

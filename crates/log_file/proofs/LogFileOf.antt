@@ -86,10 +86,10 @@ six-parts : {A : Type 0} (a b c d e f g : List A) → (a ++ (b ++ (c ++ (d ++ (e
 six-parts a b c d e f g = simp append-assoc
 
 -- of a file that load accepts as one: what is read from it, written again, is the file
-pub file-back : (file : List ℕ) → Bytes file → logTooShort file ≡ false → wrongLogMark file ≡ false → wrongLogVersion file ≡ false
+pub log-file-back : (file : List ℕ) → Bytes file → logTooShort file ≡ false → wrongLogMark file ≡ false → wrongLogVersion file ≡ false
     → wrongLogLength file ≡ false → logFileOf (mIn file) (sIn file) (logRecordsIn file) (inForceIn file) ≡ file
 unfolding logFileOf logHeadOf wrongLogMark logRecordsIn
-file-back file h long marked versioned exact =
+log-file-back file h long marked versioned exact =
     let room : 23 ≤ length file = ltb-false (length file) 23 long in
     let all : length file ≡ 23 + 8 * usedIn file = eqb-true _ _ (not-false _ exact) in
     let after = length-drop 23 file in

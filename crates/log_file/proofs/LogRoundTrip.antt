@@ -30,7 +30,7 @@ use Rattle.file.proofs.SliceRecords.{over-room}
 use Rattle.log.proofs.Parts.{whole-log}
 use Rattle.log.specs.Entries.{WholeLog}
 use Rattle.log_file.proofs.LogAccepted.{store-accepted, store-accepts, store-count, store-leaves, load-accepted, load-accepts, load-gives, load-leaves}
-use Rattle.log_file.proofs.LogFileOf.{Words, words-fit, read-m, read-s, read-used, read-in-force, written-mark, written-version, length-file, written-length, written-not-short, read-records, file-back}
+use Rattle.log_file.proofs.LogFileOf.{Words, words-fit, read-m, read-s, read-used, read-in-force, written-mark, written-version, length-file, written-length, written-not-short, read-records, log-file-back}
 
 -- a log is whole by its four tests
 log-whole : {m s : ℕ} {keys values : List ℕ} {used inForce : ℕ} → WholeLog m s keys values used inForce → noLog m s keys values used inForce ≡ false
@@ -92,11 +92,11 @@ loads-records file keys values e =
     ap₂ (λ ks vs. recordsOf ks vs (usedIn file)) (left .0) (left .1) ∙ records-over (logRecordsIn file) (usedIn file) keys values (in-file file)
 
 -- what store leaves, as long as it says, is the log's file
-pub stored-bytes : (m s : ℕ) (keys values : List ℕ) (used inForce : ℕ) (buffer : List ℕ) → storeLogRefusal m s keys values used inForce buffer ≡ 0
+pub stored-log-bytes : (m s : ℕ) (keys values : List ℕ) (used inForce : ℕ) (buffer : List ℕ) → storeLogRefusal m s keys values used inForce buffer ≡ 0
     → take (storeLog m s keys values used inForce buffer .count) (storeLogFile m s keys values used inForce buffer)
     ≡ logFileOf m s (recordsOf keys values used) inForce
 unfolding storedLog
-stored-bytes m s keys values used inForce buffer e =
+stored-log-bytes m s keys values used inForce buffer e =
     ap₂ (λ r file. take (r .count) file) (store-count m s keys values used inForce buffer e) (store-leaves m s keys values used inForce buffer e)
     ∙ take-append-seam (logFileOf m s (recordsOf keys values used) inForce) _
 
@@ -141,20 +141,20 @@ file-accepted m s keys values used inForce keys′ values′ settings sound ks v
     }
 
 -- load after store gives the log back, in any slices with room
-pub load-after-store : (m s : ℕ) (keys values : List ℕ) (used inForce : ℕ) (buffer keys′ values′ : List ℕ) → storeLogRefusal m s keys values used inForce buffer ≡ 0
+pub load-log-after-store : (m s : ℕ) (keys values : List ℕ) (used inForce : ℕ) (buffer keys′ values′ : List ℕ) → storeLogRefusal m s keys values used inForce buffer ≡ 0
     → Words keys → Words values → used < 2 ^ 64 → used ≤ room keys′ values′
     → LoadsLog (take (storeLog m s keys values used inForce buffer .count) (storeLogFile m s keys values used inForce buffer)) keys′ values′ m s used inForce
     (recordsOf keys values used)
-load-after-store m s keys values used inForce buffer keys′ values′ e ks vs short roomy =
+load-log-after-store m s keys values used inForce buffer keys′ values′ e ks vs short roomy =
     let a = store-accepted m s keys values used inForce buffer e in
-    rw (stored-bytes m s keys values used inForce buffer e) (file-accepted m s keys values used inForce keys′ values′ (a .settings) (a .whole) ks vs short roomy)
+    rw (stored-log-bytes m s keys values used inForce buffer e) (file-accepted m s keys values used inForce keys′ values′ (a .settings) (a .whole) ks vs short roomy)
 
 -- an accepted file is that of its m, its s, its count in force and the records that load leaves
 file-is : (file keys values : List ℕ) → Bytes file → loadLogRefusal file keys values ≡ 0
     → logFileOf (mIn file) (sIn file) (recordsOf (loadLogKeys file keys values) (loadLogValues file keys values) (usedIn file)) (inForceIn file) ≡ file
 file-is file keys values bytes e =
     let a = load-accepted file keys values e in
-    ap (λ l. logFileOf (mIn file) (sIn file) l (inForceIn file)) (loads-records file keys values e) ∙ file-back file bytes (a .long) (a .marked) (a .versioned) (a .exact)
+    ap (λ l. logFileOf (mIn file) (sIn file) l (inForceIn file)) (loads-records file keys values e) ∙ log-file-back file bytes (a .long) (a .marked) (a .versioned) (a .exact)
 
 -- store gives the file's length and leaves its bytes over what the buffer held
 pub record StoresLog (m s : ℕ) (keys values : List ℕ) (used inForce : ℕ) (buffer file : List ℕ) : Type 0 where
@@ -162,11 +162,11 @@ pub record StoresLog (m s : ℕ) (keys values : List ℕ) (used inForce : ℕ) (
   pub bytes : storeLogFile m s keys values used inForce buffer ≡ over file buffer
 
 -- store after load gives the bytes back, in any buffer with room
-pub store-after-load : (file keys values buffer : List ℕ) → Bytes file → loadLogRefusal file keys values ≡ 0 → length file ≤ length buffer
+pub store-log-after-load : (file keys values buffer : List ℕ) → Bytes file → loadLogRefusal file keys values ≡ 0 → length file ≤ length buffer
     → let r = loadLog file keys values in
     StoresLog (r .m) (r .s) (loadLogKeys file keys values) (loadLogValues file keys values) (r .used) (r .«in_force») buffer file
 unfolding storedLog noLogIn
-store-after-load file keys values buffer bytes e long =
+store-log-after-load file keys values buffer bytes e long =
     let a = load-accepted file keys values e in
     let left = load-leaves file keys values e in
     let ks = loadLogKeys file keys values in
@@ -183,27 +183,27 @@ store-after-load file keys values buffer bytes e long =
     })
 
 -- an accepted file is that of what load gives and leaves
-pub file-of-loaded : (file keys values : List ℕ) → Bytes file → loadLogRefusal file keys values ≡ 0
+pub log-file-of-loaded : (file keys values : List ℕ) → Bytes file → loadLogRefusal file keys values ≡ 0
     → let r = loadLog file keys values in
     logFileOf (r .m) (r .s) (recordsOf (loadLogKeys file keys values) (loadLogValues file keys values) (r .used)) (r .«in_force») ≡ file
-file-of-loaded file keys values bytes e = rw (load-gives file keys values e) (file-is file keys values bytes e)
+log-file-of-loaded file keys values bytes e = rw (load-gives file keys values e) (file-is file keys values bytes e)
 
 refusal-of : (file keys values : List ℕ) → loadLog file keys values .refusal ≡ loadLogRefusal file keys values
 unfolding loadLog
 refusal-of file keys values = refl
 
 -- one log has one file: two files that are loaded as the same log are the same bytes
-pub one-file : (file file′ keys values keys′ values′ : List ℕ) → Bytes file → Bytes file′ → loadLogRefusal file keys values ≡ 0
+pub one-log-file : (file file′ keys values keys′ values′ : List ℕ) → Bytes file → Bytes file′ → loadLogRefusal file keys values ≡ 0
     → loadLog file keys values ≡ loadLog file′ keys′ values′
     → recordsOf (loadLogKeys file keys values) (loadLogValues file keys values) (loadLog file keys values .used)
     ≡ recordsOf (loadLogKeys file′ keys′ values′) (loadLogValues file′ keys′ values′) (loadLog file′ keys′ values′ .used)
     → file ≡ file′
-one-file file file′ keys values keys′ values′ is-bytes is-bytes′ e same records =
+one-log-file file file′ keys values keys′ values′ is-bytes is-bytes′ e same records =
     let e′ : loadLogRefusal file′ keys′ values′ ≡ 0
     = sym (refusal-of file′ keys′ values′) ∙ ap (λ r. r .refusal) (sym same) ∙ refusal-of file keys values ∙ e in
-    sym (file-of-loaded file keys values is-bytes e)
+    sym (log-file-of-loaded file keys values is-bytes e)
     ∙ ap₂ (λ r l. logFileOf (r .m) (r .s) l (r .«in_force»)) same records
-    ∙ file-of-loaded file′ keys′ values′ is-bytes′ e′
+    ∙ log-file-of-loaded file′ keys′ values′ is-bytes′ e′
 
 -- the marks differ
 no-list-mark : (m s : ℕ) (log : List Record) (inForce : ℕ) → wrongMark (logFileOf m s log inForce) ≡ true

@@ -26,7 +26,7 @@ use Rattle.log.proofs.Parts.{whole-log}
 use Rattle.log.specs.Entries.{WholeLog}
 use Rattle.log_file.proofs.Lent.{rest-lent, rest-back}
 use Rattle.log_file.proofs.LogAccepted.{store-accepts}
-use Rattle.log_file.proofs.HeadBytes.{length-head, head-then}
+use Rattle.log_file.proofs.HeadBytes.{length-head, log-head-then}
 
 -- the length of a log's file
 pub length-log-file : (m s : ℕ) (keys values : List ℕ) (used inForce : ℕ) → used ≤ length keys → used ≤ length values
@@ -124,7 +124,7 @@ module _ (m s : ℕ) (keys values : List ℕ) (used inForce : ℕ) (file : List 
               let written : take 12 headed ++ (part ++ drop (length headed - 12) (drop 12 headed)) ≡ over bytes file
               = rest-back headed 12 11 records (omega arith) part f
               ∙ ap (λ x. sets x 23 records) e
-              ∙ sym (head-then file m s used inForce records)
+              ∙ sym (log-head-then file m s used inForce records)
               ∙ ap (λ n. sets file 0 (logHeadOf m s n inForce ++ records)) (sym many)
               ∙ sets-over bytes file (omega arith) in
               ((λ i. record { refusal = 0; count = (exact ∙ sym needed) i }) ∙ answer .0, written ∙ answer .1)

@@ -29,11 +29,11 @@ none-later office x [] low no-row = share-none office
 none-later office x (y ∷ t) low (next-row h r) =
     let up = h .offices in share-other office y t (λ e. omega arith) ∙ none-later office y t (omega arith) r
 
-pub record Apart (t : List Waiver) : Type 0 where
+pub record OfficesApart (t : List Waiver) : Type 0 where
   pub first : rowsOf 0 t ≡ map waivedBy (take (length (rowsOf 0 t)) t)
   pub second : rowsOf 1 t ≡ map waivedBy (drop (length (rowsOf 0 t)) t)
 
-pub stand-apart : (t : List Waiver) → rowsAscend t ≡ true → officesKnown t ≡ true → Apart t
+pub stand-apart : (t : List Waiver) → rowsAscend t ≡ true → officesKnown t ≡ true → OfficesApart t
 stand-apart [] asc known =
     record {
       first = share-none 0 ∙ ap (λ n. map waivedBy (take n [])) (sym (ap length (share-none 0)));
@@ -102,10 +102,10 @@ table-waivers (o ∷ offices) (i ∷ ids) (κ ∷ waived) (suc rows) h =
     ap (λ l. findingOf i κ ∷ l) (table-waivers offices ids waived rows (record { in-offices = omega (arith, h .in-offices); in-ids = omega (arith, h .in-ids); in-waived = omega (arith, h .in-waived) }))
 
 -- a part of a slice
-abbrev pub partOf : ℕ → ℕ → List ℕ → List ℕ
-partOf offset count l = take count (drop offset l)
+abbrev pub officePart : ℕ → ℕ → List ℕ → List ℕ
+officePart offset count l = take count (drop offset l)
 
-part-first : (l : List ℕ) (rows offset count : ℕ) → offset + count ≤ rows → rows ≤ length l → partOf offset count (take rows l) ≡ partOf offset count l
+part-first : (l : List ℕ) (rows offset count : ℕ) → offset + count ≤ rows → rows ≤ length l → officePart offset count (take rows l) ≡ officePart offset count l
 part-first l rows offset count low fits =
     ap (take count) (drop-take offset rows l) ∙ take-take count (rows - offset) (drop offset l) (omega arith)
 
@@ -119,10 +119,10 @@ module _ (offices ids waived : List ℕ) (rows : ℕ) (is : isTable offices ids 
   sound : Sound t
   sound = table-sound offices ids waived rows is
 
-  apart : Apart t
+  apart : OfficesApart t
   apart = stand-apart t (sound .ascend) (sound .known)
 
-  part-is : (offset count : ℕ) → offset + count ≤ rows → take count (drop offset (map waivedBy t)) ≡ waiversOf (partOf offset count ids) (partOf offset count waived)
+  part-is : (offset count : ℕ) → offset + count ≤ rows → take count (drop offset (map waivedBy t)) ≡ waiversOf (officePart offset count ids) (officePart offset count waived)
   part-is offset count low =
       ap (λ l. take count (drop offset l)) (table-waivers offices ids waived rows h)
       ∙ ap (take count) (waivers-drop offset (take rows ids) (take rows waived))
@@ -133,12 +133,12 @@ module _ (offices ids waived : List ℕ) (rows : ℕ) (is : isTable offices ids 
   both : length (rowsOf 0 t) + length (rowsOf 1 t) ≡ rows
   both = known-all t (sound .known) ∙ table-length offices ids waived rows h
 
-  zero-part : rowsOf 0 t ≡ waiversOf (partOf 0 (length (rowsOf 0 t)) ids) (partOf 0 (length (rowsOf 0 t)) waived)
+  zero-part : rowsOf 0 t ≡ waiversOf (officePart 0 (length (rowsOf 0 t)) ids) (officePart 0 (length (rowsOf 0 t)) waived)
   zero-part =
       let all = both in
       apart .first ∙ map-take (length (rowsOf 0 t)) t ∙ part-is 0 (length (rowsOf 0 t)) (omega arith)
 
-  one-part : rowsOf 1 t ≡ waiversOf (partOf (length (rowsOf 0 t)) (length (rowsOf 1 t)) ids) (partOf (length (rowsOf 0 t)) (length (rowsOf 1 t)) waived)
+  one-part : rowsOf 1 t ≡ waiversOf (officePart (length (rowsOf 0 t)) (length (rowsOf 1 t)) ids) (officePart (length (rowsOf 0 t)) (length (rowsOf 1 t)) waived)
   one-part =
       let all = both in
       let rest = apart .second ∙ map-drop (length (rowsOf 0 t)) t in
@@ -163,11 +163,11 @@ module _ (offices ids waived : List ℕ) (rows : ℕ) (is : isTable offices ids 
 
   -- an office's rows are a part of the slices
   pub own-part : (office : ℕ) → office ≤ 1
-      → waiversOf (partOf (offset office) (length (rowsOf office t)) ids) (partOf (offset office) (length (rowsOf office t)) waived) ≡ rowsOf office t
+      → waiversOf (officePart (offset office) (length (rowsOf office t)) ids) (officePart (offset office) (length (rowsOf office t)) waived) ≡ rowsOf office t
   own-part office low =
-      by-office (λ o. waiversOf (partOf (offset o) (length (rowsOf o t)) ids) (partOf (offset o) (length (rowsOf o t)) waived) ≡ rowsOf o t) office low
-      (sym (zero-part ∙ ap (λ k. waiversOf (partOf k (length (rowsOf 0 t)) ids) (partOf k (length (rowsOf 0 t)) waived)) (sym offset-zero)))
-      (sym (one-part ∙ ap (λ k. waiversOf (partOf k (length (rowsOf 1 t)) ids) (partOf k (length (rowsOf 1 t)) waived)) (sym offset-one)))
+      by-office (λ o. waiversOf (officePart (offset o) (length (rowsOf o t)) ids) (officePart (offset o) (length (rowsOf o t)) waived) ≡ rowsOf o t) office low
+      (sym (zero-part ∙ ap (λ k. waiversOf (officePart k (length (rowsOf 0 t)) ids) (officePart k (length (rowsOf 0 t)) waived)) (sym offset-zero)))
+      (sym (one-part ∙ ap (λ k. waiversOf (officePart k (length (rowsOf 1 t)) ids) (officePart k (length (rowsOf 1 t)) waived)) (sym offset-one)))
 
   pub own-within : (office : ℕ) → office ≤ 1 → offset office + length (rowsOf office t) ≤ rows
   own-within office low =

@@ -21,7 +21,7 @@ use Rattle.history.proofs.Drawn.{paint-inside, paint-outside}
 use Rattle.order.specs.Rearranged.{timesIn, Rearranged, Swapped}
 use Rattle.order.specs.Apart.{apart, apartFromAll, allApart, allValid, inSomePaint}
 use Rattle.order.specs.Either.{asCalls, inFull, inTurn, pictureIn, AllPaints, afterPaints}
-use Rattle.order.proofs.Rearrangements.{times-none, found, swapped-times, times-swapped}
+use Rattle.order.proofs.Rearrangements.{times-none, found-among, swapped-times, times-swapped}
 use Rattle.order.proofs.ApartBlocks.{apart-to, apart-disjoint}
 use Rattle.order.proofs.Swaps.{valid-swapped, apart-swapped, picture-either}
 use Rattle.order.proofs.Sheets.{in-full-valid, run-shows}
@@ -59,7 +59,7 @@ first-wins m p x xs row column v h e =
 pub wins : (m : ℕ) (p : Picture) (x : BlockPaint) (xs : List BlockPaint) (row column : ℕ) → allValid m xs ≡ true → allApart m xs ≡ true → 1 ≤ timesIn x xs
     → inBlock m (x .key) row column ≡ true → inTurn m p xs row column ≡ x .feature
 wins m p x xs row column v h comes e =
-    let at = found x xs comes in
+    let at = found-among x xs comes in
     let back : Rearranged xs (x ∷ at .rest) = λ z. sym (swapped-times (at .brought) z) in
     let d : Swapped xs (x ∷ at .rest) = times-swapped xs (x ∷ at .rest) back in
     ap (λ q. q row column) (picture-either m xs (x ∷ at .rest) back v h p)
@@ -69,7 +69,7 @@ wins m p x xs row column v h comes e =
 its-valid : (m : ℕ) (x : BlockPaint) (xs : List BlockPaint) → allValid m xs ≡ true → 1 ≤ timesIn x xs → validKey m (x .key) ≡ true
 unfolding allValid
 its-valid m x xs v comes =
-    let at = found x xs comes in
+    let at = found-among x xs comes in
     let d : Swapped xs (x ∷ at .rest) = times-swapped xs (x ∷ at .rest) (λ z. sym (swapped-times (at .brought) z)) in
     and-left (validKey m (x .key)) (allValid m (at .rest)) (valid-swapped m d v)
 

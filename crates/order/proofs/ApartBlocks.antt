@@ -11,7 +11,7 @@ use Rattle.keys.specs.Block.{rowOf, columnOf, inBlock, isAncestor}
 use Rattle.keys.proofs.Cases.{decide, and-left, and-right, and-both}
 use Rattle.keys.proofs.Powers.{two-pos}
 use Rattle.keys.specs.Under.{Under, InSquare}
-use Rattle.keys.proofs.Interval.{within, apart as by-keys}
+use Rattle.keys.proofs.Interval.{within, intervals-apart as by-keys}
 use Rattle.keys.proofs.Valid.{valid-block}
 use Rattle.keys.proofs.Pixel.{inside}
 use Rattle.keys.proofs.InBlock.{inBlock-iff}

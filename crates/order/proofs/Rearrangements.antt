@@ -59,14 +59,14 @@ pub record Brought (x : BlockPaint) (ys : List BlockPaint) : Type 0 where
   pub brought : Swapped (x ∷ rest) ys
 
 -- a paint that comes in a run can be brought to its front
-pub found : (x : BlockPaint) (ys : List BlockPaint) → 1 ≤ timesIn x ys → Brought x ys
-found x [] h = let e = times-none x in absurd (omega arith)
-found x (y ∷ ys) h =
+pub found-among : (x : BlockPaint) (ys : List BlockPaint) → 1 ≤ timesIn x ys → Brought x ys
+found-among x [] h = let e = times-none x in absurd (omega arith)
+found-among x (y ∷ ys) h =
     decide (samePaint x y)
     (λ e. record { rest = ys; brought = rw (same-one x y e) (swapped-itself (y ∷ ys)) })
     (λ e.
     let more : timesIn x (y ∷ ys) ≡ 0 + timesIn x ys = times-more x y ys ∙ ap (λ t. cond t 1 0 + timesIn x ys) e in
-    let deeper = found x ys (omega arith) in
+    let deeper = found-among x ys (omega arith) in
     record { rest = y ∷ deeper .rest; brought = and-then swap (further (deeper .brought)) })
 
 -- a run with a paint is no rearrangement of one without
@@ -80,7 +80,7 @@ times-swapped [] (y ∷ ys) h = absurd (not-none y ys h)
 times-swapped (x ∷ xs) ys h =
     let first = times-first x xs in
     let same = h x in
-    let at = found x ys (omega arith) in
+    let at = found-among x ys (omega arith) in
     and-then (further (times-swapped xs (at .rest) (λ z.
     let a = times-more z x xs in
     let b = times-more z x (at .rest) in

@@ -15,7 +15,7 @@ use Rattle.laws.proofs.Pixels.{Agree}
 use Rattle.laws.proofs.Features.{one-from}
 use Rattle.laws.proofs.ListOf.{list-first, list-one}
 use Rattle.list.specs.Check.{oneSlot}
-use Rattle.list.proofs.OneSlot.{slot-power}
+use Rattle.list.proofs.OneSlot.{one-slot-power}
 use Rattle.log.proofs.Places.{run-values, run-length}
 use Rattle.build.specs.BuildBlocks.{Tallied}
 use Rattle.build.specs.declared.count.Tally.{Tally}
@@ -69,7 +69,7 @@ met-readable x = record { starts = λ start count e. let y = met-content x e in 
 
 -- a leaf by its own bits
 pub leaf-bits : (own k r c : ℕ) → oneSlot own ≡ true → own ≡ bitsOf (plain (featureOf own)) k r c
-leaf-bits own k r c one = slot-power own one ∙ plain-bits (featureOf own) k r c
+leaf-bits own k r c one = one-slot-power own one ∙ plain-bits (featureOf own) k r c
 
 pub leaf-records : (f k r c κ : ℕ) → 1 ≡ length (listOf (plain f) k r c κ)
 leaf-records f k r c κ = sym (ap length (list-one (plain f) k r c κ (one-from (plain f) f k r c (λ a b w. refl))))

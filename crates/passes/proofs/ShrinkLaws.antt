@@ -22,7 +22,7 @@ use Rattle.laws.proofs.BitsOf.{bits-one}
 use Rattle.laws.proofs.ListOf.{list-one, list-some, length-several, length-node}
 use Rattle.laws.proofs.Records.{records-length, records-run, paired-keys, paired-values}
 use Rattle.list.specs.Check.{oneSlot}
-use Rattle.list.proofs.OneSlot.{slot-feature, slot-power}
+use Rattle.list.proofs.OneSlot.{slot-feature, one-slot-power}
 use Rattle.build.specs.BuildBlocks.{Tallied, Joined}
 use Rattle.build.proofs.CountBlock.{tallied-four}
 use Rattle.step.specs.Step.{Step, stepOver, plain, pruned}
@@ -191,7 +191,7 @@ leaf-value t own {k} {r} {c} {κ} {bits} {count} one x = go k x
         let uniform = one-from (plain (featureOf own)) (featureOf own) (suc k) r c (λ a b w. refl) in
         rw (ne-eqb count 1 (λ z. omega (arith, x .count-is)))
         (pruned-leaf (plain (featureOf own)) (stepOver t (plain (featureOf own))) k r c κ e uniform
-        ∙ ap (λ b. recordOf κ b ∷ []) (bits-one (plain (featureOf own)) (suc k) r c uniform ∙ sym (slot-power own one))))
+        ∙ ap (λ b. recordOf κ b ∷ []) (bits-one (plain (featureOf own)) (suc k) r c uniform ∙ sym (one-slot-power own one))))
 
 pub leaf-shrunk : (t : Step) (own : ℕ) {k r c κ bits count value : ℕ} {ks bs : List ℕ} {at place : ℕ} → oneSlot own ≡ true
     → Tallied (stepOver t (plain (featureOf own))) k r c bits count → value ≡ cond (eqb count 1) bits own

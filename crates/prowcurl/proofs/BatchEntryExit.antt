@@ -30,7 +30,7 @@ use Rattle.definitions.proofs.Question as Question
 use Rattle.definitions.proofs.Counted as Counted
 use Rattle.definitions.proofs.Counted.Laws as Counted′
 use Rattle.lending.proofs.Chains.{chain, apart, together, after-nothing}
-use Rattle.lending.proofs.Slices.{Slice, val, token, shared, mutable}
+use Rattle.lending.proofs.Slices.{LentSlice, val, token, shared, mutable}
 use Rattle.lending.proofs.TwoLent.{each-answer}
 use Rattle.batch.proofs.RunSlices.{BatchSlices, reads, tokens, answers, each-read, each-token}
 use Rattle.prowcurl.proofs.questions.hlq_batch as batch′
@@ -58,24 +58,24 @@ stayed = (
 )
 
 -- the machine values of the parameters, and of the answer
-abbrev pub machine : ℕ → ℕ → ℕ → Slice Question.the-row → BatchSlices → List Val
+abbrev pub machine : ℕ → ℕ → ℕ → LentSlice Question.the-row → BatchSlices → List Val
 machine m s n questions S = vint w32 m ∷ vint w32 s ∷ val (S .keys) ∷ val (S .bits) ∷ vint w64 n ∷ val questions ∷ val (S .refusals) ∷ val (S .values) ∷ []
 
 abbrev pub countedVal : Counted → Val
 countedVal = LL.val Counted.the-type Counted′.the-laws
 
 -- what the walk begins with
-abbrev pub held : {M : Type 1} (𝓤 : URA M) → Slice Question.the-row → BatchSlices → Item 𝓤
+abbrev pub held : {M : Type 1} (𝓤 : URA M) → LentSlice Question.the-row → BatchSlices → Item 𝓤
 held 𝓤 questions S = ‵ (shared questions) ⊛ ‵ (token questions) ⊛ ‵ (reads S) ⊛ ‵ (tokens S) ⊛ ‵ (answers S (S .refusals .x .now) (S .values .x .now))
 
 -- what is promised of the answer f and of the last elements l and l′ of the answer slices
-abbrev pub Promised : ℕ → ℕ → ℕ → Slice Question.the-row → BatchSlices → Counted → List ℕ → List ℕ → Type 0
+abbrev Promised : ℕ → ℕ → ℕ → LentSlice Question.the-row → BatchSlices → Counted → List ℕ → List ℕ → Type 0
 Promised m s n questions S f l l′ =
     (f ≡ batchAnswer m s (S .keys .x .now) (S .bits .x .now) n (questions .x .now) (S .refusals .x .now) (S .values .x .now))
     × (l ≡ batchRefusals m s (S .keys .x .now) (S .bits .x .now) n (questions .x .now) (S .refusals .x .now) (S .values .x .now))
     × (l′ ≡ batchValues m s (S .keys .x .now) (S .bits .x .now) n (questions .x .now) (S .refusals .x .now) (S .values .x .now))
 
-module _ {M : Type 1} (𝓤 : URA M) (H : Heap 𝓤) (A : Atoms 𝓤) (W : Given 𝓤 H A) (mem : Memory → SProp 𝓤) (run : Routine → Fun 𝓤) (m s n : ℕ) (questions : Slice Question.the-row) (S : BatchSlices) where
+module _ {M : Type 1} (𝓤 : URA M) (H : Heap 𝓤) (A : Atoms 𝓤) (W : Given 𝓤 H A) (mem : Memory → SProp 𝓤) (run : Routine → Fun 𝓤) (m s n : ℕ) (questions : LentSlice Question.the-row) (S : BatchSlices) where
   abbrev lifetimes : Lfts 5
   lifetimes = (S .keys .κ, (S .bits .κ, (questions .κ, (S .refusals .κ, (S .values .κ, tt)))))
 

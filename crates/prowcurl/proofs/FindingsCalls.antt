@@ -37,7 +37,7 @@ use Rattle.rules.specs.declared.state.RunState.{RunState}
 use Rattle.rules.proofs.state.RunState as RunState
 use Rattle.rules.proofs.state.RunState.Laws as State′
 use Rattle.lending.proofs.Chains.{chain, apart}
-use Rattle.lending.proofs.Slices.{Slice, val, token, shared, at-list, copied}
+use Rattle.lending.proofs.Slices.{LentSlice, val, token, shared, at-list, copied}
 use Rattle.lending.proofs.Calling.{Gives, Returned, returns-struct}
 use Rattle.rules.proofs.RunSlices.{RunSlices, stateVals, valOf, reads, tokens, answers, each-read, reads-twice, ReadyAt, Result, call-tokens, gathers, scatters}
 use Rattle.rules.proofs.LentAnswers.{Lending, lent-answers}
@@ -65,25 +65,25 @@ module _ {M : Type 1} (𝓤 : URA M) (H : Heap 𝓤) (A : Atoms 𝓤) (mem : Mem
   Answer = tripleOf 𝓤 H A answer.signature (answer.spec 𝓤 H A mem run)
 
 -- the machine values that `begin` and `run` are passed
-abbrev pub begin-passes : RunSlices → Slice u32 → ℕ → ℕ → ℕ → ℕ → ℕ → List Val
+abbrev pub begin-passes : RunSlices → LentSlice u32 → ℕ → ℕ → ℕ → ℕ → ℕ → List Val
 begin-passes S offices m s n office rows = vint w32 m ∷ vint w32 s ∷ val (S .keys) ∷ val (S .bits) ∷ vint w64 n ∷ vint w32 office ∷ val offices ∷ val (S .waiver-ids) ∷ val (S .waiver-keys)
     ∷ vint w64 rows ∷ vint w64 (length (S .found-ids .x .now)) ∷ vint w64 (length (S .found-keys .x .now)) ∷ []
 
-abbrev pub run-passes : Slice Rule.the-row → RunSlices → RunState → List Val
+abbrev pub run-passes : LentSlice Rule.the-row → RunSlices → RunState → List Val
 run-passes rules S r = val rules ∷ val (S .keys) ∷ val (S .bits) ∷ val (S .waiver-ids) ∷ val (S .waiver-keys) ∷ val (S .found-ids) ∷ val (S .found-keys) ∷ valOf r ∷ []
 
 -- r is the state that `begin` makes
-abbrev pub Begun : RunSlices → Slice u32 → ℕ → ℕ → ℕ → ℕ → ℕ → RunState → Type 0
-Begun S offices m s n office rows r = r ≡ bounding 0 (beginOf m s (S .keys .x .now) (S .bits .x .now) n office
+abbrev pub FindingsBegun : RunSlices → LentSlice u32 → ℕ → ℕ → ℕ → ℕ → ℕ → RunState → Type 0
+FindingsBegun S offices m s n office rows r = r ≡ bounding 0 (beginOf m s (S .keys .x .now) (S .bits .x .now) n office
     (ownAt m s (S .keys .x .now) (S .bits .x .now) n office (offices .x .now) (S .waiver-ids .x .now) (S .waiver-keys .x .now) rows) (length (S .found-ids .x .now)) (length (S .found-keys .x .now)))
 
 -- the tokens that `begin` takes and gives back
-abbrev pub each-begin-token : RunSlices → Slice u32 → List Fml
+abbrev pub each-begin-token : RunSlices → LentSlice u32 → List Fml
 each-begin-token S offices = token (S .keys) ∷ token (S .bits) ∷ token offices ∷ token (S .waiver-ids) ∷ token (S .waiver-keys) ∷ []
 
 -- what a run over the rules from the progress of r, l and l′ ends with
-abbrev pub Ran : Slice Rule.the-row → RunSlices → RunState → List ℕ → List ℕ → Type 0
-Ran rules S r l l′ = Result S (tableRun (S .keys .x .now) (S .bits .x .now) (S .waiver-ids .x .now) (S .waiver-keys .x .now) (rules .x .now) (progressOf r l l′))
+abbrev pub FindingsRan : LentSlice Rule.the-row → RunSlices → RunState → List ℕ → List ℕ → Type 0
+FindingsRan rules S r l l′ = Result S (tableRun (S .keys .x .now) (S .bits .x .now) (S .waiver-ids .x .now) (S .waiver-keys .x .now) (rules .x .now) (progressOf r l l′))
 
 module _ {M : Type 1} (𝓤 : URA M) (H : Heap 𝓤) (A : Atoms 𝓤) (W : Given 𝓤 H A) (mem : Memory → SProp 𝓤) (run : Routine → Fun 𝓤) (C : Calls 𝓤 H) (fm : FmC 𝓤 H (W .laws) C) where
   -- ---- begin_next and answer: a state by value
@@ -109,7 +109,7 @@ module _ {M : Type 1} (𝓤 : URA M) (H : Heap 𝓤) (A : Atoms 𝓤) (W : Given
 
   module _ (S : RunSlices) where
     -- ---- begin
-    module _ (known : Triple 𝓤 (C #begin) (Begin 𝓤 H A mem run)) (offices : Slice u32) (m s n office rows : ℕ)
+    module _ (known : Triple 𝓤 (C #begin) (Begin 𝓤 H A mem run)) (offices : LentSlice u32) (m s n office rows : ℕ)
         (m-fits : m < 2 ^ 32) (s-fits : s < 2 ^ 32) (n-fits : n < 2 ^ 64) (office-fits : office < 2 ^ 32) (rows-fits : rows < 2 ^ 64) where
       abbrev begin-lifetimes : Lfts 5
       begin-lifetimes = (S .keys .κ, (S .bits .κ, (offices .κ, (S .waiver-ids .κ, (S .waiver-keys .κ, tt)))))
@@ -173,14 +173,14 @@ module _ {M : Type 1} (𝓤 : URA M) (H : Heap 𝓤) (A : Atoms 𝓤) (W : Given
           -- [0 m; 1 s; 2 n; 3 office; 4 rows; 5 and 6 the two lengths; 7 nothing; 8 keys; 9 bits; 10 waiver_ids; 11 waiver_keys; 12 offices; 13 the tokens]
           move ! (13 ∷ 0 ∷ 1 ∷ 8 ∷ 9 ∷ 2 ∷ 3 ∷ 12 ∷ 10 ∷ 11 ∷ 4 ∷ 5 ∷ 6 ∷ 7 ∷ []) $ group ! 14 $ frame ! $ done !
 
-      pub begin-gives : Gives W C #begin (begin-passes S offices m s n office rows) taken (Returned RunState.the-type State′.the-laws (Begun S offices m s n office rows)) (λ x. valOf (x .result)) (λ _. given-back)
-      begin-gives = returns-struct 𝓤 H A W C fm #begin (begin-passes S offices m s n office rows) RunState.the-type State′.the-laws (Begun S offices m s n office rows)
+      pub begin-gives : Gives W C #begin (begin-passes S offices m s n office rows) taken (Returned RunState.the-type State′.the-laws (FindingsBegun S offices m s n office rows)) (λ x. valOf (x .result)) (λ _. given-back)
+      begin-gives = returns-struct 𝓤 H A W C fm #begin (begin-passes S offices m s n office rows) RunState.the-type State′.the-laws (FindingsBegun S offices m s n office rows)
           (λ r. ensured 𝓤 H A begin.ended (begin.clauses 𝓤 H A mem run) begin-lifetimes begin-args tt r)
           taken given-back (via 𝓤 (Begin 𝓤 H A mem run .pre to-begin) asks-begin (known to-begin))
-          (λ r. exE 𝓤 _ (λ ws. snd∗ 𝓤 (sem 𝓤 H A (lasts begin.ended begin-lifetimes begin-args ws)) (fact 𝓤 (Begun S offices m s n office rows r))))
+          (λ r. exE 𝓤 _ (λ ws. snd∗ 𝓤 (sem 𝓤 H A (lasts begin.ended begin-lifetimes begin-args ws)) (fact 𝓤 (FindingsBegun S offices m s n office rows r))))
 
     -- ---- run
-    module _ (known : Triple 𝓤 (C #run) (Run 𝓤 H A mem run)) (rules : Slice Rule.the-row) (r : RunState) (l l′ : List ℕ) where
+    module _ (known : Triple 𝓤 (C #run) (Run 𝓤 H A mem run)) (rules : LentSlice Rule.the-row) (r : RunState) (l l′ : List ℕ) where
       abbrev run-lifetimes : ℕ → ℕ → Lfts 7
       run-lifetimes ν ν′ = (rules .κ, (S .keys .κ, (S .bits .κ, (S .waiver-ids .κ, (S .waiver-keys .κ, (ν ∷ [], (ν′ ∷ [], tt)))))))
 
@@ -216,12 +216,12 @@ module _ {M : Type 1} (𝓤 : URA M) (H : Heap 𝓤) (A : Atoms 𝓤) (W : Given
             -- [what is read; the tokens; the rules' token; the rules; ν; ν′; the answer slices]
             move ! (0 ∷ 1 ∷ 4 ∷ 5 ∷ 6 ∷ 7 ∷ []) $ gathers S ν ν′ W ! δ δ′ l l′ r is $ move ! (2 ∷ 0 ∷ []) $ fjoin ! $ frame ! $ move ! (1 ∷ 0 ∷ []) $ fjoin ! $ done !
 
-        pub run-gives : Gives W C #run (run-passes rules S r) (P ⊛ ‵ (answers S l l′)) (Ran rules S r l l′) (λ x. valOf (x .state)) (λ x. B ⊛ ‵ (answers S (x .ids) (x .keys)))
+        pub run-gives : Gives W C #run (run-passes rules S r) (P ⊛ ‵ (answers S l l′)) (FindingsRan rules S r l l′) (λ x. valOf (x .state)) (λ x. B ⊛ ‵ (answers S (x .ids) (x .keys)))
         run-gives = lent-answers 𝓤 H A W C fm #run (run-passes rules S r) S _ P B (λ ν ν′. alive 𝓤 H A run′.signature (run-lifetimes ν ν′) (run-shares tt)) l l′ len len′
             (λ ν ν′ δ δ′. via 𝓤 (Run 𝓤 H A mem run .pre (to-run ν ν′ δ δ′)) (asks-run ν ν′ δ δ′) (known (to-run ν ν′ δ δ′))) back
 
 -- what `run` takes is put together; the rules and the slices that are read stay here too
-module _ {M : Type 1} {𝓤 : URA M} {H : Heap 𝓤} {A : Atoms 𝓤} {K : Type 0} (W : Given 𝓤 H A) {Γ : List (Item 𝓤)} {G : Goal 𝓤 H} (rules : Slice Rule.the-row) (S : RunSlices) where
+module _ {M : Type 1} {𝓤 : URA M} {H : Heap 𝓤} {A : Atoms 𝓤} {K : Type 0} (W : Given 𝓤 H A) {Γ : List (Item 𝓤)} {G : Goal 𝓤 H} (rules : LentSlice Rule.the-row) (S : RunSlices) where
   pub takes : K → (l l′ : List ℕ) → Step K W (((‵ (shared rules) ⊛ ‵ (token rules) ⊛ ‵ (reads S) ⊛ ‵ (tokens S)) ⊛ ‵ (answers S l l′)) ∷ ‵ (reads S) ∷ ‵ (shared rules) ∷ Γ) G
       (‵ (token rules) ∷ ‵ (tokens S) ∷ ‵ (answers S l l′) ∷ ‵ (reads S) ∷ ‵ (shared rules) ∷ Γ) G
   takes t l l′ = step (λ z. move t (4 ∷ []) $ copied rules W t $ move t (5 ∷ []) $ reads-twice S W t $ move t (2 ∷ 4 ∷ 0 ∷ 5 ∷ 6 ∷ []) $ group t 4 $ join t $ z)

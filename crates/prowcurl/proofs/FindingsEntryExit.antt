@@ -30,13 +30,13 @@ use Rattle.definitions.proofs.Rule as Rule
 use Rattle.definitions.proofs.Found as Found
 use Rattle.definitions.proofs.Found.Laws as Found′
 use Rattle.lending.proofs.Chains.{chain, apart, together, after-nothing}
-use Rattle.lending.proofs.Slices.{Slice, val, token, shared, mutable}
+use Rattle.lending.proofs.Slices.{LentSlice, val, token, shared, mutable}
 use Rattle.rules.proofs.RunSlices.{RunSlices, reads, tokens, answers, each-read, each-token, each-answer}
 use Rattle.prowcurl.proofs.findings.hlq_findings as findings
 
 -- what is had of the parameters at exit: the two answer slices
-abbrev pub stayed : Stays (findings.ended .signature .params) (findings.ended .kept)
-stayed = (
+abbrev pub findings-stayed : Stays (findings.ended .signature .params) (findings.ended .kept)
+findings-stayed = (
   stay-dropped (plain (λ _. u32)) yes,
   (
     stay-dropped (plain (λ _. u32)) yes,
@@ -69,24 +69,24 @@ stayed = (
 )
 
 -- the machine values of the parameters, and of the answer
-abbrev pub machine : ℕ → ℕ → ℕ → ℕ → ℕ → Slice Rule.the-row → Slice u32 → RunSlices → List Val
-machine m s n office rows rules offices S = vint w32 m ∷ vint w32 s ∷ val (S .keys) ∷ val (S .bits) ∷ vint w64 n ∷ vint w32 office ∷ val rules ∷ val offices ∷ val (S .waiver-ids) ∷ val (S .waiver-keys) ∷ vint w64 rows ∷ val (S .found-ids) ∷ val (S .found-keys) ∷ []
+abbrev pub findings-machine : ℕ → ℕ → ℕ → ℕ → ℕ → LentSlice Rule.the-row → LentSlice u32 → RunSlices → List Val
+findings-machine m s n office rows rules offices S = vint w32 m ∷ vint w32 s ∷ val (S .keys) ∷ val (S .bits) ∷ vint w64 n ∷ vint w32 office ∷ val rules ∷ val offices ∷ val (S .waiver-ids) ∷ val (S .waiver-keys) ∷ vint w64 rows ∷ val (S .found-ids) ∷ val (S .found-keys) ∷ []
 
 abbrev pub foundVal : Found → Val
 foundVal = LL.val Found.the-type Found′.the-laws
 
 -- what the walk begins with
-abbrev pub held : {M : Type 1} (𝓤 : URA M) → Slice Rule.the-row → Slice u32 → RunSlices → Item 𝓤
-held 𝓤 rules offices S = ‵ (shared rules) ⊛ ‵ (token rules) ⊛ ‵ (reads S) ⊛ ‵ (shared offices) ⊛ ‵ (token offices) ⊛ ‵ (tokens S) ⊛ ‵ (answers S (S .found-ids .x .now) (S .found-keys .x .now))
+abbrev pub findings-held : {M : Type 1} (𝓤 : URA M) → LentSlice Rule.the-row → LentSlice u32 → RunSlices → Item 𝓤
+findings-held 𝓤 rules offices S = ‵ (shared rules) ⊛ ‵ (token rules) ⊛ ‵ (reads S) ⊛ ‵ (shared offices) ⊛ ‵ (token offices) ⊛ ‵ (tokens S) ⊛ ‵ (answers S (S .found-ids .x .now) (S .found-keys .x .now))
 
 -- what is promised of the answer f and of the last elements l and l′ of the answer slices
-abbrev pub Promised : ℕ → ℕ → ℕ → ℕ → ℕ → Slice Rule.the-row → Slice u32 → RunSlices → Found → List ℕ → List ℕ → Type 0
+abbrev pub Promised : ℕ → ℕ → ℕ → ℕ → ℕ → LentSlice Rule.the-row → LentSlice u32 → RunSlices → Found → List ℕ → List ℕ → Type 0
 Promised m s n office rows rules offices S f l l′ =
     (f ≡ findingsAnswer m s (S .keys .x .now) (S .bits .x .now) n office (rules .x .now) (offices .x .now) (S .waiver-ids .x .now) (S .waiver-keys .x .now) rows (S .found-ids .x .now) (S .found-keys .x .now))
     × (l ≡ findingsIds m s (S .keys .x .now) (S .bits .x .now) n office (rules .x .now) (offices .x .now) (S .waiver-ids .x .now) (S .waiver-keys .x .now) rows (S .found-ids .x .now) (S .found-keys .x .now))
     × (l′ ≡ findingsKeys m s (S .keys .x .now) (S .bits .x .now) n office (rules .x .now) (offices .x .now) (S .waiver-ids .x .now) (S .waiver-keys .x .now) rows (S .found-ids .x .now) (S .found-keys .x .now))
 
-module _ {M : Type 1} (𝓤 : URA M) (H : Heap 𝓤) (A : Atoms 𝓤) (W : Given 𝓤 H A) (mem : Memory → SProp 𝓤) (run : Routine → Fun 𝓤) (m s n office rows : ℕ) (rules : Slice Rule.the-row) (offices : Slice u32) (S : RunSlices) where
+module _ {M : Type 1} (𝓤 : URA M) (H : Heap 𝓤) (A : Atoms 𝓤) (W : Given 𝓤 H A) (mem : Memory → SProp 𝓤) (run : Routine → Fun 𝓤) (m s n office rows : ℕ) (rules : LentSlice Rule.the-row) (offices : LentSlice u32) (S : RunSlices) where
   abbrev lifetimes : Lfts 8
   lifetimes = (S .keys .κ, (S .bits .κ, (rules .κ, (offices .κ, (S .waiver-ids .κ, (S .waiver-keys .κ, (S .found-ids .κ, (S .found-keys .κ, tt))))))))
 
@@ -99,14 +99,14 @@ module _ {M : Type 1} (𝓤 : URA M) (H : Heap 𝓤) (A : Atoms 𝓤) (W : Given
   abbrev vals : Vals findings.signature lifetimes
   vals = (vint w32 m ∷ [], (vint w32 s ∷ [], (val (S .keys) ∷ [], (val (S .bits) ∷ [], (vint w64 n ∷ [], (vint w32 office ∷ [], (val rules ∷ [], (val offices ∷ [], (val (S .waiver-ids) ∷ [], (val (S .waiver-keys) ∷ [], (vint w64 rows ∷ [], (val (S .found-ids) ∷ [], (val (S .found-keys) ∷ [], tt)))))))))))))
 
-  abbrev bound : walkOf 𝓤 H A findings.ended stayed (findings.clauses 𝓤 H A mem run) .Ghost
+  abbrev bound : walkOf 𝓤 H A findings.ended findings-stayed (findings.clauses 𝓤 H A mem run) .Ghost
   bound = ((lifetimes, sharesOf, tt, a, vals), tt)
 
   abbrev pub AtEntry : SProp 𝓤
   AtEntry = onEntry 𝓤 H A findings.signature lifetimes sharesOf a vals
 
   abbrev pub AtExit : Val → SProp 𝓤
-  AtExit = walkOf 𝓤 H A findings.ended stayed (findings.clauses 𝓤 H A mem run) .post bound
+  AtExit = walkOf 𝓤 H A findings.ended findings-stayed (findings.clauses 𝓤 H A mem run) .post bound
 
   abbrev each-token-at-entry : List Fml
   each-token-at-entry = token (S .keys) ∷ token (S .bits) ∷ token rules ∷ token offices ∷ token (S .waiver-ids) ∷ token (S .waiver-keys) ∷ token (S .found-ids) ∷ token (S .found-keys) ∷ []
@@ -115,7 +115,7 @@ module _ {M : Type 1} (𝓤 : URA M) (H : Heap 𝓤) (A : Atoms 𝓤) (W : Given
   each-parameter = u32 .own m (vint w32 m ∷ []) ∷ u32 .own s (vint w32 s ∷ []) ∷ shared (S .keys) ∷ shared (S .bits) ∷ usize .own n (vint w64 n ∷ []) ∷ u32 .own office (vint w32 office ∷ [])
       ∷ shared rules ∷ shared offices ∷ shared (S .waiver-ids) ∷ shared (S .waiver-keys) ∷ usize .own rows (vint w64 rows ∷ []) ∷ mutable (S .found-ids) (S .found-ids .x .now) ∷ mutable (S .found-keys) (S .found-keys .x .now) ∷ []
 
-  pub enters : ent 𝓤 AtEntry (mean 𝓤 H A (held 𝓤 rules offices S))
+  pub enters : ent 𝓤 AtEntry (mean 𝓤 H A (findings-held 𝓤 rules offices S))
   enters =
       qed W (‵ (chain each-token-at-entry) ∷ ‵ (chain each-parameter) ∷ []) ∵ apart ! each-token-at-entry $ move ! (8 ∷ []) $ apart ! each-parameter $
       -- [0 to 12 the parameters; 13 to 20 the tokens]
@@ -135,7 +135,7 @@ module _ {M : Type 1} (𝓤 : URA M) (H : Heap 𝓤) (A : Atoms 𝓤) (W : Given
       → ent 𝓤 (⋆ 𝓤 H A (Last l l′)) (AtExit (foundVal f))
   exits f l l′ is e len len′ =
       qed W (Last l l′) ∵
-      suffices ! _ (ends-at 𝓤 H A findings.ended stayed (findings.clauses 𝓤 H A mem run) W bound (foundVal f) f (tt, (tt, (tt, (tt, (tt, (tt, (tt, (tt, (tt, (tt, (tt, (l, (l′, tt)))))))))))))
+      suffices ! _ (ends-at 𝓤 H A findings.ended findings-stayed (findings.clauses 𝓤 H A mem run) W bound (foundVal f) f (tt, (tt, (tt, (tt, (tt, (tt, (tt, (tt, (tt, (tt, (tt, (l, (l′, tt)))))))))))))
       (tt, (tt, (tt, (tt, (tt, (tt, (tt, (tt, (tt, (tt, (tt, (len, (len′, tt)))))))))))))) $ says ! e $
       move ! (1 ∷ []) $ apart ! (each-token S) $ move ! (5 ∷ []) $ apart ! (each-answer S l l′) $
       -- [0 found_ids, 1 its token; 2 found_keys, 3 its token; 4 to 7 the four tokens; 8 the rules' token; 9 the offices']

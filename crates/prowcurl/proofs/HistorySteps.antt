@@ -35,7 +35,7 @@ abbrev pub Slice : Type 0
 Slice = RefT (List ℕ)
 
 -- a call at m and s that answers with this refusal takes the history's step c from the buffers b to b′
-pub record Steps (m s : ℕ) (b : Buffers) (c : Call) (refusal : ℕ) (b′ : Buffers) : Type 0 where
+pub record CallSteps (m s : ℕ) (b : Buffers) (c : Call) (refusal : ℕ) (b′ : Buffers) : Type 0 where
   pub refused : refusal ≡ answer m s b c
   pub left : b′ ≡ after m s b c
 
@@ -58,7 +58,7 @@ pub record EditCall : Type 0 where
   pub logValues′ : List ℕ
 
 -- what the caller had
-abbrev pub before : EditCall → Buffers
+abbrev before : EditCall → Buffers
 before x =
     record {
       keys = now (x .keys);
@@ -98,7 +98,7 @@ module _ (m s : ℕ) (x : EditCall) where
       (atExit paint.ended (x .κs) lent (tt, (tt, (x .keys′, (x .bits′, (tt, (x .summary′, (x .logKeys′, (x .logValues′, (tt, (tt, (tt, (tt, tt)))))))))))))
 
   -- it gives the step of a paint
-  pub paint-step : (κ f : ℕ) → KeepsPaint κ f → Steps m s (before x) (painting (ofBlock κ f)) (x .result .refusal) (afterwards x)
+  pub paint-step : (κ f : ℕ) → KeepsPaint κ f → CallSteps m s (before x) (painting (ofBlock κ f)) (x .result .refusal) (afterwards x)
   unfolding answer after editAnswer
   paint-step κ f kept =
       record {
@@ -116,7 +116,7 @@ module _ (m s : ℕ) (x : EditCall) where
       (tt, (tt, (x .keys′, (x .bits′, (tt, (x .summary′, (x .logKeys′, (x .logValues′, (tt, (tt, (tt, (tt, (tt, (tt, (tt, tt))))))))))))))))
 
   -- it gives the step of a paint of a window
-  pub paint-window-step : (w : Window) (f : ℕ) → KeepsPaintWindow w f → Steps m s (before x) (painting (ofWindow w f)) (x .result .refusal) (afterwards x)
+  pub paint-window-step : (w : Window) (f : ℕ) → KeepsPaintWindow w f → CallSteps m s (before x) (painting (ofWindow w f)) (x .result .refusal) (afterwards x)
   unfolding answer after editAnswer
   paint-window-step w f kept =
       record {
@@ -132,7 +132,7 @@ module _ (m s : ℕ) (x : EditCall) where
       (atExit take-back.ended (x .κs) lent (tt, (tt, (x .keys′, (x .bits′, (tt, (x .summary′, (x .logKeys′, (x .logValues′, (tt, (tt, tt)))))))))))
 
   -- gives the step of a taking back
-  pub take-back-step : KeepsTakeBack → Steps m s (before x) takingBack (x .result .refusal) (afterwards x)
+  pub take-back-step : KeepsTakeBack → CallSteps m s (before x) takingBack (x .result .refusal) (afterwards x)
   unfolding answer after editAnswer
   take-back-step kept =
       record {
@@ -148,7 +148,7 @@ module _ (m s : ℕ) (x : EditCall) where
       (atExit redo.ended (x .κs) lent (tt, (tt, (x .keys′, (x .bits′, (tt, (x .summary′, (x .logKeys′, (x .logValues′, (tt, (tt, tt)))))))))))
 
   -- gives the step of a redo
-  pub redo-step : KeepsRedo → Steps m s (before x) redoing (x .result .refusal) (afterwards x)
+  pub redo-step : KeepsRedo → CallSteps m s (before x) redoing (x .result .refusal) (afterwards x)
   unfolding answer after editAnswer
   redo-step kept =
       record {
@@ -171,7 +171,7 @@ withCounts b r =
     }
 
 -- its contract gives the step of an emptying
-pub empty-step : (m s : ℕ) (b : Buffers) (κs : Lfts 0) (r : Emptied) → empty-reads.Learnt κs tt r tt → Steps m s b emptying 0 (withCounts b r)
+pub empty-step : (m s : ℕ) (b : Buffers) (κs : Lfts 0) (r : Emptied) → empty-reads.Learnt κs tt r tt → CallSteps m s b emptying 0 (withCounts b r)
 unfolding answer after
 empty-step m s b κs r kept = record { refused = refl; left = ap (withCounts b) kept }
 
@@ -187,7 +187,7 @@ pub data Ran (m s : ℕ) : Buffers → List Call → Buffers → Type 0 where
 
 -- they lead where the history's run leads
 module _ (m s : ℕ) where
-  further : {b b′ b″ : Buffers} {c : Call} {refusal : ℕ} (cs : List Call) → Steps m s b c refusal b′ → b″ ≡ afterCalls m s b′ cs → b″ ≡ afterCalls m s b (c ∷ cs)
+  further : {b b′ b″ : Buffers} {c : Call} {refusal : ℕ} (cs : List Call) → CallSteps m s b c refusal b′ → b″ ≡ afterCalls m s b′ cs → b″ ≡ afterCalls m s b (c ∷ cs)
   unfolding afterCalls
   further cs step rest = rest ∙ ap (λ (b : Buffers). afterCalls m s b cs) (step .left)
 

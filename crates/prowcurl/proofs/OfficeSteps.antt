@@ -96,45 +96,45 @@ module _ (m : ℕ) (x : Change) (office id key : ℕ) where
       }
 
 -- what was asked, and the refusal that was answered
-pub record Told : Type 0 where
+pub record OfficeTold : Type 0 where
   pub ask : Ask
   pub refusal : ℕ
 
-abbrev told : Ask → ℕ → Told
+abbrev told : Ask → ℕ → OfficeTold
 told a refusal = record { ask = a; refusal = refusal }
 
 -- all that was asked, and what an office was refused with
-unfoldable pub asksIn : List Told → List Ask
+unfoldable pub asksIn : List OfficeTold → List Ask
 asksIn [] = []
 asksIn (t ∷ ts) = t .ask ∷ asksIn ts
 
-unfoldable pub toldTo : (office : ℕ) → List Told → List ℕ
+unfoldable pub toldTo : (office : ℕ) → List OfficeTold → List ℕ
 toldTo office [] = []
 toldTo office (t ∷ ts) = cond (eqb (t .ask .office) office) (t .refusal ∷ toldTo office ts) (toldTo office ts)
 
 -- calls one after the other, each of which keeps its contract and was lent what the one before it left
-pub data AsksRan (m : ℕ) : Table → List Told → Table → Type 0 where
+pub data AsksRan (m : ℕ) : Table → List OfficeTold → Table → Type 0 where
   done : {t : Table} → AsksRan m t [] t
-  by-add : {t′ : Table} {ts : List Told} (x : Change) (office id key : ℕ) → KeepsAdd m x office id key → AsksRan m (tableAfter x) ts t′
+  by-add : {t′ : Table} {ts : List OfficeTold} (x : Change) (office id key : ℕ) → KeepsAdd m x office id key → AsksRan m (tableAfter x) ts t′
       → AsksRan m (tableBefore x) (told (asking true office id key) (x .result .refusal) ∷ ts) t′
-  by-remove : {t′ : Table} {ts : List Told} (x : Change) (office id key : ℕ) → KeepsRemove m x office id key → AsksRan m (tableAfter x) ts t′
+  by-remove : {t′ : Table} {ts : List OfficeTold} (x : Change) (office id key : ℕ) → KeepsRemove m x office id key → AsksRan m (tableAfter x) ts t′
       → AsksRan m (tableBefore x) (told (asking false office id key) (x .result .refusal) ∷ ts) t′
 
 module _ (m : ℕ) where
-  further : {t t′ t″ : Table} {a : Ask} {refusal : ℕ} (ts : List Told) → AskSteps m t a refusal t′ → t″ ≡ afterAll m t′ (asksIn ts)
+  further : {t t′ t″ : Table} {a : Ask} {refusal : ℕ} (ts : List OfficeTold) → AskSteps m t a refusal t′ → t″ ≡ afterAll m t′ (asksIn ts)
       → t″ ≡ afterAll m t (asksIn (told a refusal ∷ ts))
   unfolding afterAll asksIn
   further ts step rest = rest ∙ ap (λ (t : Table). afterAll m t (asksIn ts)) (step .left)
 
   -- they lead where the run of history leads
-  pub asks-lead : {t t′ : Table} {ts : List Told} → AsksRan m t ts t′ → t′ ≡ afterAll m t (asksIn ts)
+  pub asks-lead : {t t′ : Table} {ts : List OfficeTold} → AsksRan m t ts t′ → t′ ≡ afterAll m t (asksIn ts)
   unfolding afterAll asksIn
   asks-lead done = refl
   asks-lead (by-add {ts = ts} x office id key kept rest) = further ts (add-step m x office id key kept) (asks-lead rest)
   asks-lead (by-remove {ts = ts} x office id key kept rest) = further ts (remove-step m x office id key kept) (asks-lead rest)
 
   module _ (office : ℕ) where
-    refused-too : {t t′ : Table} {a : Ask} {refusal : ℕ} (ts : List Told) → AskSteps m t a refusal t′ → toldTo office ts ≡ refusalsOf m office t′ (asksIn ts)
+    refused-too : {t t′ : Table} {a : Ask} {refusal : ℕ} (ts : List OfficeTold) → AskSteps m t a refusal t′ → toldTo office ts ≡ refusalsOf m office t′ (asksIn ts)
         → toldTo office (told a refusal ∷ ts) ≡ refusalsOf m office t (asksIn (told a refusal ∷ ts))
     unfolding toldTo refusalsOf asksIn
     refused-too {a = a} ts step rest =
@@ -142,7 +142,7 @@ module _ (m : ℕ) where
         ap₂ (λ r rs. cond (eqb (a .office) office) (r ∷ rs) rs) (step .refused) later
 
     -- and refuse an office as it does
-    pub asks-refuse : {t t′ : Table} {ts : List Told} → AsksRan m t ts t′ → toldTo office ts ≡ refusalsOf m office t (asksIn ts)
+    pub asks-refuse : {t t′ : Table} {ts : List OfficeTold} → AsksRan m t ts t′ → toldTo office ts ≡ refusalsOf m office t (asksIn ts)
     unfolding toldTo refusalsOf asksIn
     asks-refuse done = refl
     asks-refuse (by-add {ts = ts} x asker id key kept rest) = refused-too ts (add-step m x asker id key kept) (asks-refuse rest)
@@ -170,7 +170,7 @@ abbrev pub tableLent : FindingsCall → Table
 tableLent x = record { offices = now (x .offices); ids = now (x .ids); waived = now (x .waived); rows = x .rows }
 
 -- and what else
-pub record Lent : Type 0 where
+pub record OfficeLent : Type 0 where
   pub keys : List ℕ
   pub bits : List ℕ
   pub n : ℕ
@@ -178,21 +178,21 @@ pub record Lent : Type 0 where
   pub foundIds : List ℕ
   pub foundKeys : List ℕ
 
-abbrev pub alsoLent : FindingsCall → Lent
+abbrev pub alsoLent : FindingsCall → OfficeLent
 alsoLent x = record { keys = now (x .keys); bits = now (x .bits); n = x .n; rules = now (x .rules); foundIds = now (x .foundIds); foundKeys = now (x .foundKeys) }
 
 -- what it answers and leaves
-pub record Outcome : Type 0 where
+pub record OfficeOutcome : Type 0 where
   pub result : Found
   pub ids : List ℕ
   pub keys : List ℕ
 
-abbrev pub outcome : FindingsCall → Outcome
+abbrev pub outcome : FindingsCall → OfficeOutcome
 outcome x = record { result = x .result; ids = x .foundIds′; keys = x .foundKeys′ }
 
 module _ (m s office : ℕ) where
   -- what findings gives an office by its definition
-  abbrev foundBy : Lent → Table → Outcome
+  abbrev foundBy : OfficeLent → Table → OfficeOutcome
   foundBy q t =
       record {
         result = findingsAnswer m s (q .keys) (q .bits) (q .n) office (q .rules) (t .offices) (t .ids) (t .waived) (t .rows) (q .foundIds) (q .foundKeys);
@@ -212,7 +212,7 @@ module _ (m s office : ℕ) where
   findings-kept x kept = λ i. record { result = kept .0 i; ids = kept .1 i; keys = kept .2 i }
 
 -- two runs of calls from tables grown at one m, in which an office has the same rows and asks the same
-module _ (m office : ℕ) (T U T′ U′ : Table) (ts us : List Told) (g : GrownTable m T) (h : GrownTable m U) (begin : rowsOf office (tableIn T) ≡ rowsOf office (tableIn U))
+module _ (m office : ℕ) (T U T′ U′ : Table) (ts us : List OfficeTold) (g : GrownTable m T) (h : GrownTable m U) (begin : rowsOf office (tableIn T) ≡ rowsOf office (tableIn U))
     (agree : ownAsks office (asksIn ts) ≡ ownAsks office (asksIn us)) (ran : AsksRan m T ts T′) (ran′ : AsksRan m U us U′) where
   -- leave it the same rows
   pub calls-rows : rowsOf office (tableIn T′) ≡ rowsOf office (tableIn U′)
@@ -243,14 +243,14 @@ module _ (m office : ℕ) (T U T′ U′ : Table) (ts us : List Told) (g : Grown
       ∙ sym (findings-kept m s office y kept′)
 
 -- an office sees the same after two runs
-pub record SeesTheSame (m office : ℕ) (T′ U′ : Table) (ts us : List Told) : Type 0 where
+pub record SeesTheSame (m office : ℕ) (T′ U′ : Table) (ts us : List OfficeTold) : Type 0 where
   pub rows : rowsOf office (tableIn T′) ≡ rowsOf office (tableIn U′)
   pub refusals : toldTo office ts ≡ toldTo office us
   pub found : (s : ℕ) (x y : FindingsCall) → KeepsFindings m s office x → KeepsFindings m s office y → tableLent x ≡ T′ → tableLent y ≡ U′ → alsoLent x ≡ alsoLent y
       → outcome x ≡ outcome y
 
 -- so it does where both begin with an empty table and it asks the same, whatever the other office asks in between
-pub calls-isolated : (m office : ℕ) (T U T′ U′ : Table) (ts us : List Told) → Empty T → Empty U → ownAsks office (asksIn ts) ≡ ownAsks office (asksIn us)
+pub calls-isolated : (m office : ℕ) (T U T′ U′ : Table) (ts us : List OfficeTold) → Empty T → Empty U → ownAsks office (asksIn ts) ≡ ownAsks office (asksIn us)
     → AsksRan m T ts T′ → AsksRan m U us U′ → SeesTheSame m office T′ U′ ts us
 calls-isolated m office T U T′ U′ ts us e f agree ran ran′ =
     let g = empty-grown m T e in

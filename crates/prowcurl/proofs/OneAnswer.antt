@@ -73,7 +73,7 @@ use Rattle.prowcurl.proofs.waivers.hlq_remove_waiver as remove-waiver
 use Rattle.prowcurl.proofs.waivers.hlq_remove_waiver.Reads as remove-waiver-reads
 use Rattle.prowcurl.proofs.findings.hlq_findings as findings
 use Rattle.prowcurl.proofs.questions.hlq_batch as batch
-use Rattle.prowcurl.proofs.Uniqueness.{Promise, OneAnswer, by-equations, one, two, three, four, six}
+use Rattle.prowcurl.proofs.Uniqueness.{Promise, OneAnswer, by-equations, one, two, three-fields, four-fields, six}
 
 -- the interface's number
 pub interface-one : OneAnswer interface.ended interface-reads.Learnt
@@ -88,7 +88,7 @@ block-of-one = by-equations (λ x. one (x .kept) (x .kept′))
 
 -- lists
 pub build-one : OneAnswer build.ended build-reads.Learnt
-build-one = by-equations (λ x. four (x .kept) (x .kept′))
+build-one = by-equations (λ x. four-fields (x .kept) (x .kept′))
 
 pub raster-one : OneAnswer raster.ended raster-reads.Learnt
 raster-one = by-equations (λ x. two (x .kept) (x .kept′))
@@ -100,7 +100,7 @@ pub part-one : OneAnswer part.ended part-reads.Learnt
 part-one = by-equations (λ x. one (x .kept) (x .kept′))
 
 pub combine-one : OneAnswer combine.ended combine-reads.Learnt
-combine-one = by-equations (λ x. three (x .kept) (x .kept′))
+combine-one = by-equations (λ x. three-fields (x .kept) (x .kept′))
 
 -- areas
 pub fill-summary-one : OneAnswer fill-summary.ended fill-summary-reads.Learnt
@@ -173,27 +173,27 @@ pub store-one : OneAnswer store.ended store-reads.Learnt
 store-one = by-equations (λ x. two (x .kept) (x .kept′))
 
 pub load-one : OneAnswer load.ended load-reads.Learnt
-load-one = by-equations (λ x. three (x .kept) (x .kept′))
+load-one = by-equations (λ x. three-fields (x .kept) (x .kept′))
 
 pub store-log-one : OneAnswer store-log.ended store-log-reads.Learnt
 store-log-one = by-equations (λ x. two (x .kept) (x .kept′))
 
 pub load-log-one : OneAnswer load-log.ended load-log-reads.Learnt
-load-log-one = by-equations (λ x. three (x .kept) (x .kept′))
+load-log-one = by-equations (λ x. three-fields (x .kept) (x .kept′))
 
 -- leaf lists
 pub read-leaves-one : OneAnswer read-leaves.ended read-leaves-reads.Learnt
-read-leaves-one = by-equations (λ x. three (x .kept) (x .kept′))
+read-leaves-one = by-equations (λ x. three-fields (x .kept) (x .kept′))
 
 pub write-leaves-one : OneAnswer write-leaves.ended write-leaves-reads.Learnt
-write-leaves-one = by-equations (λ x. three (x .kept) (x .kept′))
+write-leaves-one = by-equations (λ x. three-fields (x .kept) (x .kept′))
 
 -- bit strings
 pub write-bit-strings-one : OneAnswer write-bit-strings.ended write-bit-strings-reads.Learnt
-write-bit-strings-one = by-equations (λ x. three (x .kept) (x .kept′))
+write-bit-strings-one = by-equations (λ x. three-fields (x .kept) (x .kept′))
 
 pub read-bit-strings-one : OneAnswer read-bit-strings.ended read-bit-strings-reads.Learnt
-read-bit-strings-one = by-equations (λ x. three (x .kept) (x .kept′))
+read-bit-strings-one = by-equations (λ x. three-fields (x .kept) (x .kept′))
 
 -- offices
 pub add-waiver-one : OneAnswer add-waiver.ended add-waiver-reads.Learnt

@@ -22,7 +22,7 @@ use Rattle.rests.proofs.Theorem.{across-rests, across-roomy-rests, from-a-list,
 use Rattle.rests.proofs.Exactly.{with-ample-room}
 use Rattle.rests.proofs.FromCalls.{filled-begins}
 use Rattle.prowcurl.proofs.HistorySteps.{Slice, Ran, ran-is, Built, start, build-refusal, build-start}
-use Rattle.prowcurl.proofs.RestSteps.{Rest, leaves, comes, KeepsRest, rest-step}
+use Rattle.prowcurl.proofs.RestSteps.{Rest, rest-leaves, comes, KeepsRest, rest-step}
 use Rattle.prowcurl.proofs.edits.hlq_empty.Reads as empty-reads
 use Rattle.prowcurl.proofs.areas.hlq_fill_summary as fill
 use Rattle.prowcurl.proofs.areas.hlq_fill_summary.Reads as fill-reads
@@ -32,9 +32,9 @@ pub data Happened (m s : ℕ) : Buffers → List Event → Buffers → Type 0 wh
   over : {b : Buffers} → Happened m s b [] b
   by-calls : {b b′ b″ : Buffers} {es : List Event} (cs : List Call) → Ran m s b cs b′ → Happened m s b′ es b″ → Happened m s b (map calling cs ++ es) b″
   by-rest : {b′ : Buffers} {es : List Event} (x : Rest) → KeepsRest m s x (x .used) → Happened m s (comes x (x .used)) es b′
-      → Happened m s (leaves x) (resting (comes x (x .used)) ∷ es) b′
+      → Happened m s (rest-leaves x) (resting (comes x (x .used)) ∷ es) b′
   by-short-rest : {b′ : Buffers} {es : List Event} (x : Rest) → KeepsRest m s x (x .inForce) → Happened m s (comes x (x .inForce)) es b′
-      → Happened m s (leaves x) (restingShort (comes x (x .inForce)) ∷ es) b′
+      → Happened m s (rest-leaves x) (restingShort (comes x (x .inForce)) ∷ es) b′
 
 -- they may happen, and lead where the events lead
 pub record Leads (m s : ℕ) (t : Reached) (es : List Event) (b : Buffers) : Type 0 where

@@ -59,8 +59,8 @@ pub record Rest : Type 0 where
   pub logValues′ : List ℕ
 
 -- what the caller had
-abbrev pub leaves : Rest → Buffers
-leaves x =
+abbrev pub rest-leaves : Rest → Buffers
+rest-leaves x =
     record {
       keys = now (x .keys);
       bits = now (x .bits);
@@ -114,11 +114,11 @@ module _ (m s : ℕ) (x : Rest) where
     pub log : LogBrought (x .logKeys) (x .logValues) brought (x .logKeys′) (x .logValues′)
 
   -- they lead where a rest may lead
-  pub rest-step : (brought : ℕ) → KeepsRest brought → Rested m s (leaves x) brought (comes x brought)
+  pub rest-step : (brought : ℕ) → KeepsRest brought → Rested m s (rest-leaves x) brought (comes x brought)
   rest-step brought kept =
       let h = kept .calls in
       let lent : LentSlices = record { keys = now (x .keys₂); bits = now (x .bits₂); summary = now (x .summary₃); logKeys = x .logKeys′; logValues = x .logValues′ } in
-      let calls : RestCalls m s (leaves x) (now (x .buffer)) lent =
+      let calls : RestCalls m s (rest-leaves x) (now (x .buffer)) lent =
       record {
         stored = x .stored;
         buffer′ = x .buffer′;

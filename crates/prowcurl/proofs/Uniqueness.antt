@@ -76,14 +76,14 @@ one kept kept′ = kept ∙ sym kept′
 pub two : {A B : Type 0} {a a′ p : A} {b b′ q : B} → (a ≡ p) × (b ≡ q) → (a′ ≡ p) × (b′ ≡ q) → (a ≡ a′) × (b ≡ b′)
 two kept kept′ = (one (kept .0) (kept′ .0), one (kept .1) (kept′ .1))
 
-pub three : {A B C : Type 0} {a a′ p : A} {b b′ q : B} {c c′ r : C} → (a ≡ p) × ((b ≡ q) × (c ≡ r)) → (a′ ≡ p) × ((b′ ≡ q) × (c′ ≡ r))
+pub three-fields : {A B C : Type 0} {a a′ p : A} {b b′ q : B} {c c′ r : C} → (a ≡ p) × ((b ≡ q) × (c ≡ r)) → (a′ ≡ p) × ((b′ ≡ q) × (c′ ≡ r))
     → (a ≡ a′) × ((b ≡ b′) × (c ≡ c′))
-three kept kept′ = (one (kept .0) (kept′ .0), two (kept .1) (kept′ .1))
+three-fields kept kept′ = (one (kept .0) (kept′ .0), two (kept .1) (kept′ .1))
 
-pub four : {A B C D : Type 0} {a a′ p : A} {b b′ q : B} {c c′ r : C} {d d′ t : D} → (a ≡ p) × ((b ≡ q) × ((c ≡ r) × (d ≡ t)))
+pub four-fields : {A B C D : Type 0} {a a′ p : A} {b b′ q : B} {c c′ r : C} {d d′ t : D} → (a ≡ p) × ((b ≡ q) × ((c ≡ r) × (d ≡ t)))
     → (a′ ≡ p) × ((b′ ≡ q) × ((c′ ≡ r) × (d′ ≡ t)))
     → (a ≡ a′) × ((b ≡ b′) × ((c ≡ c′) × (d ≡ d′)))
-four kept kept′ = (one (kept .0) (kept′ .0), three (kept .1) (kept′ .1))
+four-fields kept kept′ = (one (kept .0) (kept′ .0), three-fields (kept .1) (kept′ .1))
 
 -- six, each by itself, as the record of an edit's promise has them
 pub six : {A B C D E F : Type 0} {a a′ p : A} {b b′ q : B} {c c′ r : C} {d d′ t : D} {e e′ u : E} {f f′ v : F}

@@ -65,7 +65,7 @@ pub record Chosen (p′ : Picture) (m κ : ℕ) (l content : List Record) : Type
   pub kind : (key ≡ κ) ⊎ (oneFeature p′ height row column ≡ true)
 
 -- climbing goes from the block's height, with the levels above it
-pub top-leaf : (m κ : ℕ) (l content : List Record) (k n b : ℕ) → isOneRecord content ≡ true → heightOf m κ ≡ k → n + k ≡ m → firstBits content ≡ b
+top-leaf : (m κ : ℕ) (l content : List Record) (k n b : ℕ) → isOneRecord content ≡ true → heightOf m κ ≡ k → n + k ≡ m → firstBits content ≡ b
     → topOf m l κ content ≡ climb l κ b n k
 unfolding topOf topFor
 top-leaf m κ l content k n b leaf height levels first =

@@ -20,7 +20,7 @@ use Rattle.put.specs.Put.{planOf, lengthAfter, exchanged, parentsRenewed
 use Rattle.put.specs.declared.plan.Plan.{Plan}
 use Rattle.put.proofs.Way.{way-of, steps-height}
 use Rattle.put.proofs.Put.{put-outside, put-content}
-use Rattle.put.proofs.Context.{before, after, spliced, context}
+use Rattle.put.proofs.Context.{before-hole, after-hole, spliced, context}
 use Rattle.put.proofs.Places.{value-seam}
 use Rattle.put.proofs.Renew.{renew-all}
 use Rattle.put.proofs.SetBits.{renew-keys, renew-length}
@@ -47,16 +47,16 @@ module _ (p p′ : Picture) {m κ : ℕ} {content : List Record} {plan : Plan} (
   unfolding exchanged spliced
   exchanged-is =
       ap (λ new. take (plan .start) old-list ++ (new ++ drop (plan .start + plan .old) old-list)) (s .new-is)
-      ∙ exchange (before p (s .way)) (listOf p (s .height) (s .row) (s .column) (s .key)) (after p (s .way)) new-own old-list (plan .start) (plan .old)
+      ∙ exchange (before-hole p (s .way)) (listOf p (s .height) (s .row) (s .column) (s .key)) (after-hole p (s .way)) new-own old-list (plan .start) (plan .old)
       (context p (s .way) (s .old-opens)) (s .start-is) (s .old-is)
 
   -- at the place where it starts stand the site's new bits
   first-new : getD (valuesOf (spliced p (s .way) new-own)) (plan .start) 0 ≡ bitsOf p′ (s .height) (s .row) (s .column)
   unfolding spliced
   first-new =
-      ap₂ (λ l i. getD (valuesOf (before p (s .way) ++ (l ++ after p (s .way)))) i 0)
+      ap₂ (λ l i. getD (valuesOf (before-hole p (s .way) ++ (l ++ after-hole p (s .way)))) i 0)
       (list-first p′ (s .height) (s .row) (s .column) (s .key) .1) (s .start-is)
-      ∙ value-seam (before p (s .way)) (recordOf (s .key) (bitsOf p′ (s .height) (s .row) (s .column))) _
+      ∙ value-seam (before-hole p (s .way)) (recordOf (s .key) (bitsOf p′ (s .height) (s .row) (s .column))) _
 
   -- renewing makes the new list of it
   pub renewed-is : parentsRenewed m (exchanged old-list κ content plan) κ plan ≡ listOf p′ m 0 0 0
@@ -88,20 +88,20 @@ module _ (p p′ : Picture) {m κ : ℕ} {content : List Record} {plan : Plan} (
   exchanged-length = sym (renew-length (exchanged old-list κ content plan) κ _ _ _) ∙ ap length renewed-is
 
   -- the old list's length by the site
-  old-length : length old-list ≡ length (before p (s .way)) + (plan .old + length (after p (s .way)))
+  old-length : length old-list ≡ length (before-hole p (s .way)) + (plan .old + length (after-hole p (s .way)))
   unfolding spliced
   old-length =
       let e = ap length (context p (s .way) (s .old-opens)) in
-      let f = length-append (before p (s .way)) (listOf p (s .height) (s .row) (s .column) (s .key) ++ after p (s .way)) in
-      let g = length-append (listOf p (s .height) (s .row) (s .column) (s .key)) (after p (s .way)) in
+      let f = length-append (before-hole p (s .way)) (listOf p (s .height) (s .row) (s .column) (s .key) ++ after-hole p (s .way)) in
+      let g = length-append (listOf p (s .height) (s .row) (s .column) (s .key)) (after-hole p (s .way)) in
       let h = s .old-is in
       omega arith
 
-  spliced-length : length (spliced p (s .way) new-own) ≡ length (before p (s .way)) + (length new-own + length (after p (s .way)))
+  spliced-length : length (spliced p (s .way) new-own) ≡ length (before-hole p (s .way)) + (length new-own + length (after-hole p (s .way)))
   unfolding spliced
   spliced-length =
-      let f = length-append (before p (s .way)) (new-own ++ after p (s .way)) in
-      let g = length-append new-own (after p (s .way)) in
+      let f = length-append (before-hole p (s .way)) (new-own ++ after-hole p (s .way)) in
+      let g = length-append new-own (after-hole p (s .way)) in
       omega arith
 
   -- the plan tells how long it becomes

@@ -6,7 +6,7 @@ use mathlib.Core.Logic.{_⊎_, inl, inr}
 use native.Mathlib.Omega.{arith}
 use Rattle.keys.specs.Under.{Under, MapBlock, Quadrant, InSquare}
 use Rattle.keys.proofs.Under.{quadrant-under}
-use Rattle.keys.proofs.Interval.{within, apart}
+use Rattle.keys.proofs.Interval.{within, intervals-apart}
 use Rattle.keys.proofs.Pixel.{InKeys, inside}
 use Rattle.keys.proofs.Parent.{quadrant-of}
 use Rattle.definitions.specs.Picture.{Picture}
@@ -22,7 +22,7 @@ pub outside-up : {p q : Picture} {k r c κ k′ r′ c′ κ′ : ℕ} → Under
 outside-up u h a b w = h a b (λ v. w (under-within u v))
 
 -- the keys of two blocks do not meet
-abbrev pub Apart : ℕ → ℕ → ℕ → ℕ → Type 0
+abbrev Apart : ℕ → ℕ → ℕ → ℕ → Type 0
 Apart k κ k′ κ′ = (κ + 5 ^ k ≤ κ′) ⊎ (κ′ + 5 ^ k′ ≤ κ)
 
 -- blocks whose keys do not meet have no pixel in common
@@ -55,7 +55,7 @@ pub quadrants-apart : {k r c κ r₁ c₁ κ₁ r₂ c₂ κ₂ : ℕ}
     → (κ₂ ≡ κ₁ → ⊥)
     → Apart k κ₁ k κ₂
 quadrants-apart q q′ other =
-    apart (quadrant-under q) (quadrant-under q′)
+    intervals-apart (quadrant-under q) (quadrant-under q′)
     (λ u. absurd (other (let w = within u in omega arith)))
     (λ u. absurd (other (let w = within u in omega arith)))
     inl

@@ -85,8 +85,8 @@ module _ {m key top step : ℕ} (f : FilledBlock m key top step) where
       omega arith
 
 -- a valid key is below the largest map's end
-pub key-below : {m key : ℕ} → m ≤ 10 → validKey m key ≡ true → key < 5 ^ 10
-key-below {m} {key} deep valid = let h = valid-below m key valid in let i = five-le {k = m} 10 deep in omega arith
+pub valid-key-below : {m key : ℕ} → m ≤ 10 → validKey m key ≡ true → key < 5 ^ 10
+valid-key-below {m} {key} deep valid = let h = valid-below m key valid in let i = five-le {k = m} 10 deep in omega arith
 
 -- the four numbers of a plan
 same-plan : (m : ℕ) (l : List Record) (key top top′ filled start old height : ℕ)

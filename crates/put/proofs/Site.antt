@@ -24,7 +24,7 @@ use Rattle.put.specs.Put.{firstBits, planAt, planOf, filling, inserted}
 use Rattle.put.specs.declared.plan.Plan.{Plan}
 use Rattle.put.proofs.Way.{Way, there, up, under-of, steps, steps-up, steps-height}
 use Rattle.put.proofs.Outside.{Outside, outside-up}
-use Rattle.put.proofs.Context.{before, Open, open-up}
+use Rattle.put.proofs.Context.{before-hole, Open, open-up}
 use Rattle.put.proofs.Standing.{LeafAround, ListedOrInside, listed, inside, stands, place-listed, key-listed, part-listed, place-inside, bits-inside, key-inside, part-inside, leaf-several}
 use Rattle.put.proofs.Family.{around-is, keys-up}
 use Rattle.put.proofs.Field.{Planted, planted-none, planted-all, planted-length}
@@ -52,7 +52,7 @@ pub record Site (p p′ : Picture) (m κ : ℕ) (content : List Record) (plan : 
   pub out : Outside p p′ height row column
   pub old-opens : Open p way
   pub new-opens : Open p′ way
-  pub start-is : plan .start ≡ length (before p way)
+  pub start-is : plan .start ≡ length (before-hole p way)
   pub old-is : plan .old ≡ length (listOf p height row column key)
   pub height-is : plan .top + plan .levels ≡ height
   pub new-is : inserted (listOf p m 0 0 0) κ content plan ≡ listOf p′ height row column key

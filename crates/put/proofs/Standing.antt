@@ -23,7 +23,7 @@ use Rattle.laws.proofs.BitsOf.{bits-one}
 use Rattle.laws.proofs.ListOf.{list-ascends}
 use Rattle.put.specs.Family.{blockBits}
 use Rattle.put.proofs.Way.{Way, there, up, under-of}
-use Rattle.put.proofs.Context.{before, after, Open, spliced, context, before-ascends, after-ascends}
+use Rattle.put.proofs.Context.{before-hole, after-hole, Open, spliced, context, before-ascends, after-ascends}
 use Rattle.put.proofs.Places.{in-cut}
 use Rattle.put.proofs.Between.{place-own, bits-own, key-own, place-leaf, bits-leaf, key-leaf}
 
@@ -77,12 +77,12 @@ stands p (up q w) = stands-up p q w (stands p w)
 
 -- a listed block: its place, its bits, and how many records it has
 module _ (p : Picture) {K R C Κ k r c κ : ℕ} (w : Way K R C Κ k r c κ) (o : Open p w) where
-  shown : listOf p K R C Κ ≡ before p w ++ (listOf p k r c κ ++ after p w)
+  shown : listOf p K R C Κ ≡ before-hole p w ++ (listOf p k r c κ ++ after-hole p w)
   unfolding spliced
   shown = context p w o
 
   -- its place is the number of records before it
-  pub place-listed : placeOf κ (listOf p K R C Κ) ≡ length (before p w)
+  pub place-listed : placeOf κ (listOf p K R C Κ) ≡ length (before-hole p w)
   place-listed = rw shown (place-own p k r c κ (before-ascends p w) (after-ascends p w))
 
   -- the bits there are its own
@@ -108,12 +108,12 @@ module _ (p : Picture) {K R C Κ k r c κ : ℕ} (w : Way K R C Κ k r c κ) (o 
 
 -- a block inside a leaf: the place, the bits and the key of the leaf
 module _ (p : Picture) {K R C Κ k r c κ : ℕ} {w : Way K R C Κ k r c κ} (x : LeafAround p w) where
-  around-leaf : listOf p K R C Κ ≡ before p (x .way) ++ (listOf p (x .height) (x .row) (x .column) (x .key) ++ after p (x .way))
+  around-leaf : listOf p K R C Κ ≡ before-hole p (x .way) ++ (listOf p (x .height) (x .row) (x .column) (x .key) ++ after-hole p (x .way))
   unfolding spliced
   around-leaf = context p (x .way) (x .opens)
 
   -- the place is that of the leaf
-  pub place-inside : placeOf κ (listOf p K R C Κ) ≡ length (before p (x .way))
+  pub place-inside : placeOf κ (listOf p K R C Κ) ≡ length (before-hole p (x .way))
   place-inside =
       let i = key-within (under-of (x .under)) in
       rw around-leaf (place-leaf p (x .height) (x .row) (x .column) (x .key) (before-ascends p (x .way)) (after-ascends p (x .way)) (x .one) κ (i .0) (i .1))

@@ -11,7 +11,7 @@ pub data Way (K R C Κ : ℕ) : ℕ → ℕ → ℕ → ℕ → Type 0 where
   up : {k r c κ r′ c′ κ′ : ℕ} → Quadrant k r c κ r′ c′ κ′ → Way K R C Κ (suc k) r c κ → Way K R C Κ k r′ c′ κ′
 
 -- the way to a quadrant is one to its block
-pub further : {k r c κ r′ c′ κ′ k₂ r₂ c₂ κ₂ : ℕ} → Quadrant k r c κ r′ c′ κ′ → Way k r′ c′ κ′ k₂ r₂ c₂ κ₂ → Way (suc k) r c κ k₂ r₂ c₂ κ₂
+further : {k r c κ r′ c′ κ′ k₂ r₂ c₂ κ₂ : ℕ} → Quadrant k r c κ r′ c′ κ′ → Way k r′ c′ κ′ k₂ r₂ c₂ κ₂ → Way (suc k) r c κ k₂ r₂ c₂ κ₂
 further q there = up q there
 further q (up q′ w) = up q′ (further q w)
 

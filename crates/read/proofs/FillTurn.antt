@@ -20,7 +20,7 @@ use Rattle.list.specs.Quadrants.{quadrantRow, quadrantColumn}
 use Rattle.list.proofs.ShownQuadrants.{quadrantList, listsFrom, lists-all}
 use Rattle.read.specs.Fill.{rectanglePainted, cornerOf, Shows, ShowsNode, BlockFilled, NodeFilled}
 use Rattle.read.proofs.Rectangle.{rectangle-length}
-use Rattle.read.proofs.Quadrants.{quadrantPainted, paintsFrom, paints-all, Passed, Opened, open-next}
+use Rattle.read.proofs.Quadrants.{quadrantPainted, paintsFrom, paints-all, QuadrantsPassed, Opened, open-next}
 use Rattle.read.proofs.Shown.{shows-room, shows-slots, shows-square, leaf-length, leaf-painted, node-asked, node-filled}
 
 -- the corner of a quadrant, by its row and column
@@ -68,7 +68,7 @@ module _ {p : Picture} {k r c κ : ℕ} {bits : List ℕ} {at wide place side lo
       let j = s .corner in
       omega arith
 
-  pub begins : (raster : List ℕ) → oneFeature p (suc k) r c ≡ false → Passed p k r c κ bits at wide side raster raster (at + 1) 0
+  pub begins : (raster : List ℕ) → oneFeature p (suc k) r c ≡ false → QuadrantsPassed p k r c κ bits at wide side raster raster (at + 1) 0
   begins raster several =
       let all = lists-all p k r c κ several in
       let e = ap length all in
@@ -109,7 +109,7 @@ module _ {p : Picture} {k r c κ : ℕ} {bits : List ℕ} {at wide place side lo
     pub turn : (after : List ℕ) (next′ : ℕ)
         → after ≡ quadrantPainted wide p (2 ^ k) r c d raster
         → next′ ≡ next + length (quadrantList p k r c κ d)
-        → Passed p k r c κ bits at wide side raster₀ after next′ (d + 1)
+        → QuadrantsPassed p k r c κ bits at wide side raster₀ after next′ (d + 1)
     turn after next′ e f =
         let n = o .ends in
         let q = o .count in
@@ -140,24 +140,24 @@ all-left d zero count h ends paints = record { pixels = paints; ends = omega ari
 all-left d (suc left) count h ends paints = absurd (omega arith)
 
 all-passed : {p : Picture} {k r c κ : ℕ} {bits : List ℕ} {at wide side : ℕ} {raster₀ raster : List ℕ} {next d : ℕ}
-    → Passed p k r c κ bits at wide side raster₀ raster next d
+    → QuadrantsPassed p k r c κ bits at wide side raster₀ raster next d
     → d ≡ 4
     → BlockFilled p (suc k) r c κ at wide side raster₀ raster next
 all-passed {d = d} x h = all-left d (x .left) (x .count) h (x .ends) (x .paints)
 
 -- after some turns, whichever node the bitstrings show
-pub record Reached (bits raster₀ : List ℕ) (at wide place side : ℕ) (raster : List ℕ) (next d : ℕ) : Type 0 where
+pub record FillReached (bits raster₀ : List ℕ) (at wide place side : ℕ) (raster : List ℕ) (next d : ℕ) : Type 0 where
   pub most : d ≤ 4
   pub passed : (p : Picture) (k r c κ : ℕ)
       → Shows p (suc k) r c κ bits at wide place side (length raster₀)
       → oneFeature p (suc k) r c ≡ false
-      → Passed p k r c κ bits at wide side raster₀ raster next d
+      → QuadrantsPassed p k r c κ bits at wide side raster₀ raster next d
 
-pub reached-none : (bits raster : List ℕ) (at wide place side : ℕ) → Reached bits raster at wide place side raster (at + 1) 0
-reached-none bits raster at wide place side = record { most = omega arith; passed = λ p k r c κ s several. begins s raster several }
+pub fill-reached-none : (bits raster : List ℕ) (at wide place side : ℕ) → FillReached bits raster at wide place side raster (at + 1) 0
+fill-reached-none bits raster at wide place side = record { most = omega arith; passed = λ p k r c κ s several. begins s raster several }
 
 -- a turn that paints the quadrant and passes its list, whichever node the bitstrings show
-module _ {bits raster₀ : List ℕ} {at wide place side : ℕ} {raster : List ℕ} {next d : ℕ} (x : Reached bits raster₀ at wide place side raster next d) where
+module _ {bits raster₀ : List ℕ} {at wide place side : ℕ} {raster : List ℕ} {next d : ℕ} (x : FillReached bits raster₀ at wide place side raster next d) where
   -- the quadrant that follows
   module _ (h : d < 4) {p : Picture} {k r c κ : ℕ} (s : Shows p (suc k) r c κ bits at wide place side (length raster₀)) (several : oneFeature p (suc k) r c ≡ false) where
     opened : Opened p k r c κ bits at wide side raster₀ raster next d
@@ -169,7 +169,7 @@ module _ {bits raster₀ : List ℕ} {at wide place side : ℕ} {raster : List �
     turn-painted : (after : List ℕ) (next′ : ℕ)
         → after ≡ rectanglePainted wide p (quadrantRow d r (2 ^ k)) (quadrantColumn d c (2 ^ k)) (side / 2) (side / 2) raster
         → next′ ≡ next + length (quadrantList p k r c κ d)
-        → Passed p k r c κ bits at wide side raster₀ after next′ (d + 1)
+        → QuadrantsPassed p k r c κ bits at wide side raster₀ after next′ (d + 1)
     turn-painted after next′ e f =
         turn s opened after next′
         (e ∙ ap (λ y. rectanglePainted wide p (quadrantRow d r (2 ^ k)) (quadrantColumn d c (2 ^ k)) y y raster) (half-is s)) f
@@ -181,7 +181,7 @@ module _ {bits raster₀ : List ℕ} {at wide place side : ℕ} {raster : List �
       → f ≡ featureOf (getD bits next 0)
       → after ≡ rectanglePainted wide (λ a b. f) (corner / wide) (corner % wide) (side / 2) (side / 2) raster
       → next′ ≡ next + 1
-      → Reached bits raster₀ at wide place side after next′ (d + 1)
+      → FillReached bits raster₀ at wide place side after next′ (d + 1)
   leaf-turn corner f after next′ h is leaf feature e one =
       record {
         most = omega arith;
@@ -203,7 +203,7 @@ module _ {bits raster₀ : List ℕ} {at wide place side : ℕ} {raster : List �
       → NodeFilled bits next wide corner half raster after next′
       → after′ ≡ after
       → next″ ≡ next′
-      → Reached bits raster₀ at wide place side after′ next″ (d + 1)
+      → FillReached bits raster₀ at wide place side after′ next″ (d + 1)
   node-turn corner half after after′ next′ next″ h is half-known node f same same′ =
       record {
         most = omega arith;

@@ -8,15 +8,15 @@ use lib.ListN.{length, getD}
 use Rattle.definitions.specs.Bits.{featureOf}
 use Rattle.list.specs.Check.{oneSlot}
 use Rattle.read.specs.Fill.{rectanglePainted, cornerOf, ShowsNode, NodeFilled}
-use Rattle.read.proofs.FillTurn.{Reached, reached-none, reached-all, reached-long, corner-fits, next-room, pixel-leaf, leaf-asked, leaf-turn}
+use Rattle.read.proofs.FillTurn.{FillReached, fill-reached-none, reached-all, reached-long, corner-fits, next-room, pixel-leaf, leaf-asked, leaf-turn}
 
 -- a pixel at a place gets a feature
 abbrev pub withPixel : ℕ → ℕ → ℕ → List ℕ → List ℕ
 withPixel wide f place raster = rectanglePainted wide (λ a b. f) (place / wide) (place % wide) 1 1 raster
 
 -- before pixel d is filled: its record is at the place next, its corner in the raster
-pub record Turn (bits raster₀ : List ℕ) (at wide place : ℕ) (raster : List ℕ) (next d corner : ℕ) : Type 0 where
-  pub reached : Reached bits raster₀ at wide place 2 raster next d
+pub record PixelTurn (bits raster₀ : List ℕ) (at wide place : ℕ) (raster : List ℕ) (next d corner : ℕ) : Type 0 where
+  pub reached : FillReached bits raster₀ at wide place 2 raster next d
   pub there : next < length bits
   pub leaf : oneSlot (getD bits next 0) ≡ true
   pub asked : (corner % wide + 1 ≤ wide) × ((corner / wide + 1) * wide ≤ length raster) × (0 < wide)
@@ -41,32 +41,32 @@ module _ (place wide : ℕ) where
   corner-se = omega arith
 
 module _ {bits : List ℕ} (raster₀ : List ℕ) {at wide place : ℕ} (node : ShowsNode bits at wide place 2 (length raster₀)) where
-  turn : {raster : List ℕ} {next d : ℕ} (corner : ℕ) → Reached bits raster₀ at wide place 2 raster next d → d < 4 → corner ≡ cornerOf d place 1 (1 * wide) → Turn bits raster₀ at wide place raster next d corner
+  turn : {raster : List ℕ} {next d : ℕ} (corner : ℕ) → FillReached bits raster₀ at wide place 2 raster next d → d < 4 → corner ≡ cornerOf d place 1 (1 * wide) → PixelTurn bits raster₀ at wide place raster next d corner
   turn corner x h e = record { reached = x; there = next-room x node h; leaf = pixel-leaf x node h refl; asked = leaf-asked x node h corner e; is = e }
 
   filled : {raster after : List ℕ} {next d corner : ℕ} (next′ : ℕ)
-      → Turn bits raster₀ at wide place raster next d corner
+      → PixelTurn bits raster₀ at wide place raster next d corner
       → d < 4
       → {f : ℕ}
       → f ≡ featureOf (getD bits next 0)
       → after ≡ withPixel wide f corner raster
       → next′ ≡ next + 1
-      → Reached bits raster₀ at wide place 2 after next′ (d + 1)
+      → FillReached bits raster₀ at wide place 2 after next′ (d + 1)
   filled {corner = corner} next′ x h {f} feature e one = leaf-turn (x .reached) corner f _ next′ h (x .is) (x .leaf) feature e one
 
-  pub turn-nw : Turn bits raster₀ at wide place raster₀ (at + 1) 0 place
-  turn-nw = turn place (reached-none bits raster₀ at wide place 2) (omega arith) (corner-nw place wide)
+  pub turn-nw : PixelTurn bits raster₀ at wide place raster₀ (at + 1) 0 place
+  turn-nw = turn place (fill-reached-none bits raster₀ at wide place 2) (omega arith) (corner-nw place wide)
 
   module _ {one : List ℕ} {f₁ : ℕ} (is₁ : f₁ ≡ featureOf (getD bits (at + 1) 0)) (nw : one ≡ withPixel wide f₁ place raster₀) where
-    pub turn-ne : Turn bits raster₀ at wide place one (at + 2) 1 (place + 1)
+    pub turn-ne : PixelTurn bits raster₀ at wide place one (at + 2) 1 (place + 1)
     turn-ne = turn (place + 1) (filled (at + 2) turn-nw (omega arith) is₁ nw (omega arith)) (omega arith) (corner-ne place wide)
 
     module _ {two : List ℕ} {f₂ : ℕ} (is₂ : f₂ ≡ featureOf (getD bits (at + 2) 0)) (ne : two ≡ withPixel wide f₂ (place + 1) one) where
-      pub turn-sw : Turn bits raster₀ at wide place two (at + 3) 2 (place + wide)
+      pub turn-sw : PixelTurn bits raster₀ at wide place two (at + 3) 2 (place + wide)
       turn-sw = turn (place + wide) (filled (at + 3) turn-ne (omega arith) is₂ ne (omega arith)) (omega arith) (corner-sw place wide)
 
       module _ {three : List ℕ} {f₃ : ℕ} (is₃ : f₃ ≡ featureOf (getD bits (at + 3) 0)) (sw : three ≡ withPixel wide f₃ (place + wide) two) where
-        pub turn-se : Turn bits raster₀ at wide place three (at + 4) 3 (place + wide + 1)
+        pub turn-se : PixelTurn bits raster₀ at wide place three (at + 4) 3 (place + wide + 1)
         turn-se = turn (place + wide + 1) (filled (at + 4) turn-sw (omega arith) is₃ sw (omega arith)) (omega arith) (corner-se place wide)
 
         pub four-filled : {four : List ℕ} {f₄ : ℕ} → f₄ ≡ featureOf (getD bits (at + 4) 0) → four ≡ withPixel wide f₄ (place + wide + 1) three → NodeFilled bits at wide place 2 raster₀ four (at + 5)

@@ -2,15 +2,11 @@
 -- Rests on Rectangle and the laws of lists.
 use Prim.Native.Nat.{ℕ, zero, suc, _+_, _^_, _<_}
 use mathlib.Core.Path.{_≡_, sym, _∙_, ap}
-use mathlib.Core.Bool.{false}
-use mathlib.Core.List.{List, [], _∷_, _++_, append-assoc, append-nil, map-append}
+use mathlib.Core.List.{List, _++_, append-assoc, map-append}
 use native.Mathlib.Omega.{arith}
 use lib.ListN.{length, drop, length-append}
-use Rattle.keys.specs.Key.{childKey}
-use Rattle.definitions.specs.Picture.{Picture, oneFeature}
-use Rattle.definitions.specs.Bits.{bitsOf}
-use Rattle.definitions.specs.List.{Record, recordOf, valuesOf, listOf}
-use Rattle.laws.proofs.ListOf.{list-node}
+use Rattle.definitions.specs.Picture.{Picture}
+use Rattle.definitions.specs.List.{Record, valuesOf, listOf}
 use Rattle.list.specs.Quadrants.{quadrantRow, quadrantColumn}
 use Rattle.list.proofs.ShownQuadrants.{quadrantList, listsFrom}
 use Rattle.read.specs.Fill.{rectanglePainted}
@@ -29,7 +25,7 @@ unfolding paintsFrom quadrantRow quadrantColumn
 paints-all wide p half side r c x e = four-painted wide p r c half side x e
 
 -- after some turns: the quadrants that are left follow in the bitstrings, and once they are painted the node is
-pub record Passed (p : Picture) (k r c κ : ℕ) (bits : List ℕ) (at wide side : ℕ) (raster₀ raster : List ℕ) (next d : ℕ) : Type 0 where
+pub record QuadrantsPassed (p : Picture) (k r c κ : ℕ) (bits : List ℕ) (at wide side : ℕ) (raster₀ raster : List ℕ) (next d : ℕ) : Type 0 where
   pub left : ℕ
   pub count : d + left ≡ 4
   pub rest : List ℕ
@@ -74,7 +70,7 @@ module _ (p : Picture) (k r c κ : ℕ) (bits : List ℕ) (at wide side : ℕ) (
       }
 
 pub open-next : {p : Picture} {k r c κ : ℕ} {bits : List ℕ} {at wide side : ℕ} {raster₀ raster : List ℕ} {next d : ℕ}
-    → Passed p k r c κ bits at wide side raster₀ raster next d
+    → QuadrantsPassed p k r c κ bits at wide side raster₀ raster next d
     → d < 4
     → Opened p k r c κ bits at wide side raster₀ raster next d
 open-next {p} {k} {r} {c} {κ} {bits} {at} {wide} {side} {raster₀} {raster} {next} {d} x h =

@@ -16,7 +16,7 @@ use Rattle.definitions.specs.Calls.Survey.{surveyRefusal, survey, surveyKeys, s
 use Rattle.definitions.specs.Calls.Raster.{rasterRefusal, rasterPixels}
 use Rattle.laws.proofs.ListOf.{list-agree}
 use Rattle.laws.proofs.ReadBack.{picture-back}
-use Rattle.laws.proofs.RasterOf.{rasterOf, rows-at, raster-length, raster-back, length-to}
+use Rattle.laws.proofs.RasterOf.{rasterOfPicture, rows-at, raster-length, raster-back, length-to}
 use Rattle.list.proofs.Accepted.{accepted-as-list}
 use Rattle.list.proofs.Tests.{raster-passed}
 use Rattle.laws.proofs.Built.{build-passed, build-records}
@@ -41,16 +41,16 @@ place m i h =
 
 -- a raster whose every pixel a picture shows is that picture's raster
 pub shows-raster : (m : ℕ) (p : Picture) (raster : List ℕ) → length raster ≡ 2 ^ m * 2 ^ m
-    → ((row column : ℕ) → row < 2 ^ m → column < 2 ^ m → p row column ≡ pictureOfRaster m raster row column) → rasterOf m p ≡ raster
+    → ((row column : ℕ) → row < 2 ^ m → column < 2 ^ m → p row column ≡ pictureOfRaster m raster row column) → rasterOfPicture m p ≡ raster
 shows-raster m p raster sized shows =
-    ext-getD 0 (rasterOf m p) raster (raster-length m p ∙ sym sized) (λ i h. at i (place m i (rw (sym (raster-length m p)) h)))
+    ext-getD 0 (rasterOfPicture m p) raster (raster-length m p ∙ sym sized) (λ i h. at i (place m i (rw (sym (raster-length m p)) h)))
   where
     zero-plus : (n : ℕ) → 0 + n ≡ n
     zero-plus n = omega arith
 
-    at : (i : ℕ) → Place m i → getD (rasterOf m p) i 0 ≡ getD raster i 0
+    at : (i : ℕ) → Place m i → getD (rasterOfPicture m p) i 0 ≡ getD raster i 0
     at i x =
-        ap (λ (j : ℕ). getD (rasterOf m p) j 0) (x .is)
+        ap (λ (j : ℕ). getD (rasterOfPicture m p) j 0) (x .is)
         ∙ rows-at p 0 0 (2 ^ m) (2 ^ m) (x .row) (x .column) (x .in-rows) (x .in-columns)
         ∙ ap (λ (r : ℕ). p r (0 + x .column)) (zero-plus (x .row))
         ∙ ap (λ (c : ℕ). p (x .row) c) (zero-plus (x .column))
@@ -73,6 +73,6 @@ module _ (m s : ℕ) (keys bits : List ℕ) (n : ℕ) (pixels : List ℕ) (done 
   unfolding rasterPixels
   raster-build =
       rw (eq-eqb _ 0 done)
-      (list-agree (pictureOfRaster m (rasterOf m (pictureOf m (recordsOf keys bits n)))) (pictureOf m (recordsOf keys bits n)) m 0 0 0
+      (list-agree (pictureOfRaster m (rasterOfPicture m (pictureOf m (recordsOf keys bits n)))) (pictureOf m (recordsOf keys bits n)) m 0 0 0
       (raster-back m (pictureOf m (recordsOf keys bits n)))
       ∙ sym (accepted-as-list m s keys bits n (raster-passed m s keys bits n pixels done .list) .is))

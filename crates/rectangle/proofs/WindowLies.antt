@@ -19,7 +19,7 @@ use Rattle.rectangle.specs.WindowLogging.{Placed, Lies, Coverable}
 use Rattle.laws.proofs.LargestBlocks.{covered-one}
 use Rattle.rectangle.proofs.WindowEntries.{largest-none}
 
-abbrev pub spotAt : (row column side : ℕ) → Spot
+abbrev spotAt : (row column side : ℕ) → Spot
 spotAt row column side = record { key = 0; row = row; column = column; side = side; step = 0 }
 
 -- a block and a window of the map have small numbers

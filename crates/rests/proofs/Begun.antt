@@ -27,11 +27,11 @@ use Rattle.history.proofs.BuildStep.{build-holds}
 use Rattle.rests.specs.Events.{LentSlices, builtInto}
 use Rattle.rests.specs.Starts.{HasList, rasterShown, found}
 use Rattle.rests.proofs.Moved.{shown-there, list-there, log-there}
-use Rattle.rests.proofs.Run.{Stands, own-length}
+use Rattle.rests.proofs.Run.{RestStands, own-length}
 
 -- after an accepted build, with an empty log
 pub built-stands : (m s : ℕ) (raster : List ℕ) (lent : LentSlices) → surveyRefusal m s raster (lent .keys) (lent .bits) (lent .summary) ≡ 0
-    → Stands m s (pictureOfRaster m raster) (builtInto m s raster lent)
+    → RestStands m s (pictureOfRaster m raster) (builtInto m s raster lent)
 built-stands m s raster lent e =
     record {
       holds = build-holds m s raster (lent .keys) (lent .bits) (lent .summary) e (lent .logKeys) (lent .logValues);
@@ -82,7 +82,7 @@ module _ (m s : ℕ) (b : Buffers) (h : HasList m s b) where
       }
 
   -- with a list, its summary and an empty log
-  pub list-stands : Stands m s shown (found b)
+  pub list-stands : RestStands m s shown (found b)
   list-stands =
       record {
         holds =

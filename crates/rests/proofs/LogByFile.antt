@@ -14,7 +14,7 @@ use Rattle.log.proofs.Parts.{whole-log}
 use Rattle.file.proofs.SliceRecords.{over-room}
 use Rattle.log_file.proofs.LogAccepted.{store-accepted, load-accepted, load-gives, load-leaves}
 use Rattle.log_file.proofs.LogFileOf.{Words}
-use Rattle.log_file.proofs.LogRoundTrip.{LoadsLog, load-after-store}
+use Rattle.log_file.proofs.LogRoundTrip.{LoadsLog, load-log-after-store}
 use Rattle.rests.specs.Events.{LogBrought}
 
 -- the numbers of a log as a machine has them: keys and values of 32 bits, and a count of 64
@@ -41,7 +41,7 @@ module _ (m s : ℕ) (logKeys logValues : List ℕ) (used inForce : ℕ) (buffer
 
   -- load gives it back in any slices with room
   load-back : (keys values : List ℕ) → used ≤ room keys values → LoadsLog file keys values m s used inForce (recordsOf logKeys logValues used)
-  load-back keys values h = load-after-store m s logKeys logValues used inForce buffer keys values kept (machine .keys) (machine .values) (machine .short) h
+  load-back keys values h = load-log-after-store m s logKeys logValues used inForce buffer keys values kept (machine .keys) (machine .values) (machine .short) h
 
   -- so the file's count is the log's, since loading into the old slices gives that
   used-is : usedIn file ≡ used

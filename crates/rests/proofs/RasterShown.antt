@@ -10,7 +10,7 @@ use Rattle.definitions.specs.Read.{recordsOf, pictureOf}
 use Rattle.definitions.specs.Calls.Survey.{surveyRefusal}
 use Rattle.laws.proofs.Pixels.{Agree}
 use Rattle.laws.proofs.Built.{build-passed, build-records}
-use Rattle.laws.proofs.RasterOf.{rasterOf, raster-length, raster-back, length-to}
+use Rattle.laws.proofs.RasterOf.{rasterOfPicture, raster-length, raster-back, length-to}
 use Rattle.read.proofs.RoundTrip.{shows-raster}
 use Rattle.history.specs.History.{Buffers, built, pictureLeft, rasterLeft}
 use Rattle.history.proofs.Content.{map-back}
@@ -20,14 +20,14 @@ use Rattle.rests.specs.Starts.{HasList, rasterShown, found}
 use Rattle.rests.proofs.Theorem.{across-rests, from-a-list}
 
 -- pictures that agree on the map have one raster
-raster-agree : (m : ℕ) (p q : Picture) → Agree p q m 0 0 → rasterOf m p ≡ rasterOf m q
+raster-agree : (m : ℕ) (p q : Picture) → Agree p q m 0 0 → rasterOfPicture m p ≡ rasterOfPicture m q
 raster-agree m p q h =
-    shows-raster m p (rasterOf m q) (raster-length m q) (λ row column r c. h row column (omega arith) ∙ sym (raster-back m q row column (omega arith)))
+    shows-raster m p (rasterOfPicture m q) (raster-length m q) (λ row column r c. h row column (omega arith) ∙ sym (raster-back m q row column (omega arith)))
 
 -- a picture's list shows the picture's raster
-shown-of : (m : ℕ) (p : Picture) (b : Buffers) → recordsOf (b .keys) (b .bits) (b .n) ≡ listOfPicture m p → rasterShown m b ≡ rasterOf m p
+shown-of : (m : ℕ) (p : Picture) (b : Buffers) → recordsOf (b .keys) (b .bits) (b .n) ≡ listOfPicture m p → rasterShown m b ≡ rasterOfPicture m p
 unfolding rasterShown
-shown-of m p b e = ap (λ l. rasterOf m (pictureOf m l)) e ∙ raster-agree m (pictureOf m (listOfPicture m p)) p (map-back m p)
+shown-of m p b e = ap (λ l. rasterOfPicture m (pictureOf m l)) e ∙ raster-agree m (pictureOf m (listOfPicture m p)) p (map-back m p)
 
 -- after an accepted build the list shows the raster that was built
 pub shown-built : (m s : ℕ) (raster keys bits summary logKeys logValues : List ℕ) → surveyRefusal m s raster keys bits summary ≡ 0

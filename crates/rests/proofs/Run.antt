@@ -18,7 +18,7 @@ use Rattle.rests.specs.Roomy.{KeepsRoom, AllKeepRoom}
 use Rattle.rests.proofs.RestStep.{rest-keeps, short-keeps}
 
 -- the invariant holds in the slices lent last, and their summary has its length
-pub record Stands (m s : ℕ) (p : Picture) (t : Reached) : Type 0 where
+pub record RestStands (m s : ℕ) (p : Picture) (t : Reached) : Type 0 where
   pub holds : Invariant m s (t .largest) p (t .lent .keys) (t .lent .bits) (t .lent .logKeys) (t .lent .logValues) (t .buffers) (t .paints) (t .inList) (t .inLog)
   pub sized : badSummaryLength m s (t .lent .summary) ≡ false
 
@@ -31,14 +31,14 @@ rested-length : {m s : ℕ} {b : Buffers} {brought : ℕ} {to : Buffers} → Res
 rested-length {m} {s} {to = to} r = own-length m s (pictureOf m (recordsOf (to .keys) (to .bits) (to .n))) (to .summary) (r .counted)
 
 -- every event that may happen keeps it
-pub event-keeps : {m s : ℕ} {p : Picture} {t : Reached} (e : Event) → MayHappen m s (t .buffers) e → Stands m s p t → Stands m s p (afterEvent m s t e)
+pub event-keeps : {m s : ℕ} {p : Picture} {t : Reached} (e : Event) → MayHappen m s (t .buffers) e → RestStands m s p t → RestStands m s p (afterEvent m s t e)
 unfolding afterEvent
 event-keeps (calling c) may h = record { holds = call-keeps c (h .holds); sized = h .sized }
 event-keeps (resting to) may h = record { holds = rest-keeps (h .holds) to may; sized = rested-length may }
 event-keeps (restingShort to) may h = record { holds = short-keeps (h .holds) to may; sized = rested-length may }
 
 -- and so does every run of them
-pub events-keep : {m s : ℕ} {p : Picture} {t : Reached} (es : List Event) → AllMay m s t es → Stands m s p t → Stands m s p (afterEvents m s t es)
+pub events-keep : {m s : ℕ} {p : Picture} {t : Reached} (es : List Event) → AllMay m s t es → RestStands m s p t → RestStands m s p (afterEvents m s t es)
 unfolding afterEvents AllMay
 events-keep [] may h = h
 events-keep (e ∷ es) may h = events-keep es (may .1) (event-keeps e (may .0) h)

@@ -24,11 +24,11 @@ use Rattle.rests.specs.Events.{Event, LentSlices, listRoom, Reached, bui
 use Rattle.rests.specs.AsLeft.{AsLeft}
 use Rattle.rests.specs.Starts.{HasList, rasterShown, found, GoodStart}
 use Rattle.rests.specs.Roomy.{AllKeepRoom, AsBuiltLast}
-use Rattle.rests.proofs.Run.{Stands, events-keep, Largest, events-largest}
+use Rattle.rests.proofs.Run.{RestStands, events-keep, Largest, events-largest}
 use Rattle.rests.proofs.Begun.{built-stands, list-stands}
 
 -- where the invariant holds the buffers are as claimed
-pub as-left : {m s : ℕ} (raster : List ℕ) (t : Reached) → Stands m s (pictureOfRaster m raster) t → AsLeft m s raster t
+pub as-left : {m s : ℕ} (raster : List ℕ) (t : Reached) → RestStands m s (pictureOfRaster m raster) t → AsLeft m s raster t
 as-left {m} {s} raster t stands =
     let h = stands .holds in
     let lent : LentSlices = t .lent in
@@ -81,7 +81,7 @@ pub from-a-list : (m s : ℕ) (b : Buffers) → HasList m s b → GoodStart m s 
 from-a-list m s b h es may = as-left (rasterShown m b) (afterEvents m s (found b) es) (events-keep es may (list-stands m s b h))
 
 -- where no slices had more room than those lent last, demand 3's own claim holds
-pub as-built-last : {m s : ℕ} (raster : List ℕ) (t : Reached) → Stands m s (pictureOfRaster m raster) t → Largest t → AsBuiltLast m s raster t
+pub as-built-last : {m s : ℕ} (raster : List ℕ) (t : Reached) → RestStands m s (pictureOfRaster m raster) t → Largest t → AsBuiltLast m s raster t
 as-built-last raster t stands large = as-built raster (t .lent .summary) (stands .sized) (stands .holds) large
 
 -- so after rests none of which led to slices with less room: taking back is then refused with 11 alone, and redo with 20 alone

@@ -18,13 +18,13 @@ use Rattle.history.proofs.RedoStep.{redo-answer-in}
 use Rattle.rests.specs.Events.{Event, calling, resting, restingShort, MayHappen, LentSlices, Reached, builtInto, afterEvent, afterEvents, AllMay}
 use Rattle.rests.specs.Starts.{HasList, found}
 use Rattle.rests.specs.Unseen.{withoutRests, AsRoomy, AllSameRoom, Alike}
-use Rattle.rests.proofs.Run.{Stands, event-keeps}
+use Rattle.rests.proofs.Run.{RestStands, event-keeps}
 use Rattle.rests.proofs.Begun.{built-stands, list-stands}
 
 -- two histories of one first picture stand alike
 record Twins (m s : ℕ) (p : Picture) (t u : Reached) : Type 0 where
-  first : Stands m s p t
-  second : Stands m s p u
+  first : RestStands m s p t
+  second : RestStands m s p u
   paints : t .paints ≡ u .paints
   rooms : AsRoomy t u
 
@@ -122,7 +122,7 @@ twins-run (resting to ∷ es) may same h = twins-run es (may .1) (same .1) (same
 twins-run (restingShort to ∷ es) may same h = absurd (same .0)
 
 -- who stands is his own twin
-own-twin : {m s : ℕ} {p : Picture} {t : Reached} → Stands m s p t → Twins m s p t t
+own-twin : {m s : ℕ} {p : Picture} {t : Reached} → RestStands m s p t → Twins m s p t t
 own-twin h = record { first = h; second = h; paints = refl; rooms = record { for-list = refl; for-log = refl } }
 
 -- after an accepted build nobody sees the rests

@@ -20,7 +20,7 @@ use Rattle.rules.specs.Run.{waiversBelow, Progress, progressOf, counting
 use Rattle.rules.proofs.Fold.{run-nil, run-cons}
 use Rattle.rules.proofs.StepCases.{step-gathers}
 use Rattle.rules.proofs.GoodRules.{goodFrom, good-first, good-rest}
-use Rattle.rules.proofs.KnownIds.{nextAfter, next-nil, next-cons, knownFrom, known-cons}
+use Rattle.rules.proofs.KnownIds.{nextAfter, next-nil, next-id-cons, knownFrom, known-cons}
 
 -- of two runs of findings
 module _ (m : ℕ) (ws : List Finding) where
@@ -121,7 +121,7 @@ module _ (keys bits waiverIds waiverKeys : List ℕ) where
 
     next-gathered : allGathered rules (gathered keys bits waiverIds waiverKeys rule p) ≡ allGathered (rule ∷ rules) p
     next-gathered =
-        same-progress st (sym (next-cons (st .next) rule rules)) (ap (λ x. waiversBelow x ws) (sym (next-cons (st .next) rule rules)))
+        same-progress st (sym (next-id-cons (st .next) rule rules)) (ap (λ x. waiversBelow x ws) (sym (next-id-cons (st .next) rule rules)))
         (let e = ap length live-two in let g = length-append (liveOf (st .m) ws found) (liveAll st rules) in omega arith)
         (let e = hidden-two in omega arith)
         (wrote-two (λ x. x .id) (p .ids))

@@ -16,7 +16,7 @@ use Rattle.rules.specs.declared.state.RunState.{RunState}
 use Rattle.rules.specs.Run.{Progress, progressOf, bounding, restarting, ownPart, RulesFine, RulesReady, TableReady, rulesRun, tableRun, beginOf, ownAt, afterRun, answerOf}
 use Rattle.rules.proofs.NextCases.{next-stopped, next-faulty, next-left, next-counts, next-rests, next-full, next-writes}
 use Rattle.rules.proofs.Beginning.{below-zero, begin-ready}
-use Rattle.rules.proofs.TableRuns.{Same, same-on, next-same, ready-same, table-ready-run, table-run-same, table-run-from}
+use Rattle.rules.proofs.TableRuns.{SameTable, same-on, next-same, ready-same, table-ready-run, table-run-same, table-run-from}
 use Rattle.rules.proofs.OfficeAnswer.{own-at-within, own-at-fits, office-answers}
 use Rattle.rules.proofs.ThreeRuns.{after, three-runs}
 
@@ -122,7 +122,7 @@ module _ (m s : ℕ) (keys bits : List ℕ) (n office : ℕ) (rules : List Rule)
     pub answers : f ≡ answerOf r₅
 
   -- a run over the table from a state with the same rows is one over the office's rows
-  runs-own : (p : Progress) → Same start (p .state) → run p ≡ runOwn p
+  runs-own : (p : Progress) → SameTable start (p .state) → run p ≡ runOwn p
   runs-own p same = table-run-from keys bits ids waived rules p same
 
   -- the call gives and leaves what the specification says
@@ -133,11 +133,11 @@ module _ (m s : ℕ) (keys bits : List ℕ) (n office : ℕ) (rules : List Rule)
   unfolding beginOf
   findings-law {r₀} {r₁} {r₂} {r₃} {r₄} {r₅} {l₁} {l₁′} {l₃} {l₃′} {l₅} {l₅′} c =
       let go = after m s keys bits n office own rules (ownPart start ids) (ownPart start waived) foundIds foundKeys in
-      let s₀ : Same start r₀ = rw (c .begins) (record { offset = refl; count = refl }) in
-      let s₁ : Same start r₁ = same-on s₀ (subst (λ q. Same r₀ (q .state)) (sym (c .checks)) (table-run-same keys bits ids waived rules (progressOf r₀ foundIds foundKeys))) in
-      let s₂ : Same start r₂ = same-on s₁ (subst (λ x. Same r₁ x) (sym (c .next)) (next-same r₁)) in
-      let s₃ : Same start r₃ = same-on s₂ (subst (λ q. Same r₂ (q .state)) (sym (c .counts)) (table-run-same keys bits ids waived rules (progressOf r₂ l₁ l₁′))) in
-      let s₄ : Same start r₄ = same-on s₃ (subst (λ x. Same r₃ x) (sym (c .last)) (next-same r₃)) in
+      let s₀ : SameTable start r₀ = rw (c .begins) (record { offset = refl; count = refl }) in
+      let s₁ : SameTable start r₁ = same-on s₀ (subst (λ q. SameTable r₀ (q .state)) (sym (c .checks)) (table-run-same keys bits ids waived rules (progressOf r₀ foundIds foundKeys))) in
+      let s₂ : SameTable start r₂ = same-on s₁ (subst (λ x. SameTable r₁ x) (sym (c .next)) (next-same r₁)) in
+      let s₃ : SameTable start r₃ = same-on s₂ (subst (λ q. SameTable r₂ (q .state)) (sym (c .counts)) (table-run-same keys bits ids waived rules (progressOf r₂ l₁ l₁′))) in
+      let s₄ : SameTable start r₄ = same-on s₃ (subst (λ x. SameTable r₃ x) (sym (c .last)) (next-same r₃)) in
       let first = c .checks ∙ runs-own (progressOf r₀ foundIds foundKeys) s₀ ∙ ap (λ r. runOwn (progressOf r foundIds foundKeys)) (c .begins) in
       let second = c .counts ∙ runs-own (progressOf r₂ l₁ l₁′) s₂ ∙ ap (λ r. runOwn (progressOf r l₁ l₁′)) (c .next) ∙ ap (λ p. runOwn (go p)) first in
       let third = c .writes ∙ runs-own (progressOf r₄ l₃ l₃′) s₄ ∙ ap (λ r. runOwn (progressOf r l₃ l₃′)) (c .last) ∙ ap (λ p. runOwn (go p)) second in

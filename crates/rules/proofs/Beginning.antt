@@ -26,7 +26,7 @@ below-zero [] = refl
 below-zero (w ∷ ws) = let ih = below-zero ws in rw (le-ltb (w .id) 0 (omega arith)) (omega arith)
 
 -- the rows that were found are these waivers, and good ones where the table is
-pub record Fit (m : ℕ) (own : Own) (waiverIds waiverKeys : List ℕ) : Type 0 where
+pub record RunFits (m : ℕ) (own : Own) (waiverIds waiverKeys : List ℕ) : Type 0 where
   pub size : own .count ≡ room waiverIds waiverKeys
   pub good : own .good ≡ true → waiversGood m (waiversOf waiverIds waiverKeys) ≡ true
 
@@ -92,7 +92,7 @@ module _ (office m s : ℕ) (keys bits : List ℕ) (n : ℕ) where
         λ i. record { m = m; s = s; n = n; mode = 0; refusal = e i; next = 0; faulty = not (f i .good); offset = f i .offset; waivers = f i .count; passed = 0; limit = 0; room = g i; live = 0; hidden = 0 }
 
     -- the first run may begin
-    pub begin-ready : (waiverIds waiverKeys ids foundKeys : List ℕ) → Fit m own waiverIds waiverKeys → roomIds ≡ length ids → roomKeys ≡ length foundKeys
+    pub begin-ready : (waiverIds waiverKeys ids foundKeys : List ℕ) → RunFits m own waiverIds waiverKeys → roomIds ≡ length ids → roomKeys ≡ length foundKeys
         → RulesReady keys bits waiverIds waiverKeys (progressOf (bounding 0 start) ids foundKeys)
     unfolding beginOf
     begin-ready waiverIds waiverKeys ids foundKeys fit e f =

@@ -102,9 +102,9 @@ pub next-nil : (next : ℕ) → nextAfter next [] ≡ next
 unfolding nextAfter
 next-nil next = refl
 
-pub next-cons : (next : ℕ) (rule : Rule) (rules : List Rule) → nextAfter next (rule ∷ rules) ≡ nextAfter (rule .id + 1) rules
+pub next-id-cons : (next : ℕ) (rule : Rule) (rules : List Rule) → nextAfter next (rule ∷ rules) ≡ nextAfter (rule .id + 1) rules
 unfolding nextAfter
-next-cons next rule rules = refl
+next-id-cons next rule rules = refl
 
 -- before each rule no waiver is left behind
 unfoldable pub knownFrom : List Finding → ℕ → List Rule → Bool
@@ -134,14 +134,14 @@ no-gap : (ws : List Finding) (x y : ℕ) → not (ltb (waiversBelow x ws) (waive
 no-gap ws x y e = ltb-false (waiversBelow x ws) (waiversBelow y ws) (not-true (ltb (waiversBelow x ws) (waiversBelow y ws)) e)
 
 -- what a run finds known is known
-pub known-all : (m s : ℕ) (ws : List Finding) (next : ℕ) (rules : List Rule) → goodFrom m s next rules ≡ true → knownFrom ws next rules ≡ true
+pub known-ids : (m s : ℕ) (ws : List Finding) (next : ℕ) (rules : List Rule) → goodFrom m s next rules ≡ true → knownFrom ws next rules ≡ true
     → length ws ≤ waiversBelow (nextAfter next rules) ws
     → AllKnown ws next rules
 unfolding isRuleId
-known-all m s ws next [] good known none w i from =
+known-ids m s ws next [] good known none w i from =
     let low = below-every next w (let e = ap (λ x. waiversBelow x ws) (next-nil next) in omega arith) i in
     absurd (omega arith)
-known-all m s ws next (rule ∷ rules) good known none w i from =
+known-ids m s ws next (rule ∷ rules) good known none w i from =
     let k = sym (known-cons ws next rule rules) ∙ known in
     let gap = below-gap next (rule .id) {ws = ws} (good-low m s next rule rules good) (no-gap ws next (rule .id) (and-left _ (knownFrom ws (rule .id + 1) rules) k)) in
     split (w .id) (rule .id)
@@ -149,9 +149,9 @@ known-all m s ws next (rule ∷ rules) good known none w i from =
     (λ not-before.
     split (rule .id) (w .id)
     (λ after. or-right (eqb (rule .id) (w .id)) (isRuleId rules (w .id))
-    (known-all m s ws (rule .id + 1) rules (good-rest m s next rule rules good)
+    (known-ids m s ws (rule .id + 1) rules (good-rest m s next rule rules good)
     (and-right (not (ltb (waiversBelow next ws) (waiversBelow (rule .id) ws))) _ k)
-    (let e = ap (λ x. waiversBelow x ws) (next-cons next rule rules) in omega arith)
+    (let e = ap (λ x. waiversBelow x ws) (next-id-cons next rule rules) in omega arith)
     w i (omega arith)))
     (λ at. or-left (eqb (rule .id) (w .id)) (isRuleId rules (w .id)) (eq-eqb (rule .id) (w .id) (omega arith))))
 
@@ -160,28 +160,28 @@ pub record FoundKnown (ws : List Finding) (next : ℕ) (rules : List Rule) : Typ
   pub known : knownFrom ws next rules ≡ true
   pub none : length ws ≤ waiversBelow (nextAfter next rules) ws
 
-pub all-known : (m s : ℕ) (ws : List Finding) (next : ℕ) (rules : List Rule) → goodFrom m s next rules ≡ true → AllKnown ws next rules → FoundKnown ws next rules
+pub ids-known : (m s : ℕ) (ws : List Finding) (next : ℕ) (rules : List Rule) → goodFrom m s next rules ≡ true → AllKnown ws next rules → FoundKnown ws next rules
 unfolding knownFrom isRuleId
-all-known m s ws next [] good all =
+ids-known m s ws next [] good all =
     record {
       known = refl;
       none = let e = ap (λ x. waiversBelow x ws) (next-nil next) in
           let h = every-below next ws (λ w i. split (w .id) next (λ low. low) (λ high. absurd (true≢false (sym (all w i high))))) in
           omega arith;
     }
-all-known m s ws next (rule ∷ rules) good all =
+ids-known m s ws next (rule ∷ rules) good all =
     let rest-good = good-rest m s next rule rules good in
     let gap = gap-below next (rule .id) ws
     (λ w i from before.
     ⊎-elim (λ (e : eqb (rule .id) (w .id) ≡ true). let same = eqb-true (rule .id) (w .id) e in omega arith)
     (λ (e : isRuleId rules (w .id) ≡ true). let low = id-low m s (rule .id + 1) rules (w .id) rest-good e in omega arith)
     (or-either (eqb (rule .id) (w .id)) (isRuleId rules (w .id)) (all w i from))) in
-    let rest = all-known m s ws (rule .id + 1) rules rest-good
+    let rest = ids-known m s ws (rule .id + 1) rules rest-good
     (λ w i from.
     ⊎-elim (λ (e : eqb (rule .id) (w .id) ≡ true). let same = eqb-true (rule .id) (w .id) e in absurd (omega arith))
     (λ (e : isRuleId rules (w .id) ≡ true). e)
     (or-either (eqb (rule .id) (w .id)) (isRuleId rules (w .id)) (all w i (let low = good-low m s next rule rules good in omega arith)))) in
     record {
       known = and-both _ _ (ap not (le-ltb (waiversBelow next ws) (waiversBelow (rule .id) ws) gap)) (rest .known);
-      none = let e = ap (λ x. waiversBelow x ws) (next-cons next rule rules) in let h = rest .none in omega arith;
+      none = let e = ap (λ x. waiversBelow x ws) (next-id-cons next rule rules) in let h = rest .none in omega arith;
     }

@@ -19,11 +19,11 @@ use Rattle.definitions.specs.declared.Rule.{Rule}
 use Rattle.laws.proofs.Shares.{share-own, share-other, share-none}
 use Rattle.offices.specs.Own.{noRows, ownOf}
 use Rattle.offices.specs.declared.own.Own.{Own}
-use Rattle.offices.proofs.OwnRows.{partOf, own-part, own-within, own-ascend, own-no-table, own-bad-key, own-found, rows-hold, rows-sound}
+use Rattle.offices.proofs.OwnRows.{officePart, own-part, own-within, own-ascend, own-no-table, own-bad-key, own-found, rows-hold, rows-sound}
 use Rattle.rules.specs.Run.{keysValid, waiversGood, beginRefusal, ownAt}
 use Rattle.rules.proofs.GoodRules.{goodFrom}
 use Rattle.rules.proofs.GoodWaivers.{good-none}
-use Rattle.rules.proofs.Beginning.{Fit, zero-office, zero-settings, zero-list, own-looked, own-passed, begin-good}
+use Rattle.rules.proofs.Beginning.{RunFits, zero-office, zero-settings, zero-list, own-looked, own-passed, begin-good}
 use Rattle.rules.proofs.Refusals.{refusal-21, refusal-1, refusal-4, refusal-13, refusal-14, given-refused, ids-stay, keys-stay}
 
 -- ---- valid keys
@@ -45,7 +45,7 @@ unfolding waiversOf
 no-waivers = refl
 
 -- the part is as long as it was asked for
-part-long : (offset count : ℕ) (l : List ℕ) → offset + count ≤ length l → length (partOf offset count l) ≡ count
+part-long : (offset count : ℕ) (l : List ℕ) → offset + count ≤ length l → length (officePart offset count l) ≡ count
 part-long offset count l h = let rest = length-drop offset l in length-take-le count (drop offset l) (omega arith)
 
 module _ (m office : ℕ) (offices ids waived : List ℕ) (rows : ℕ) where
@@ -56,7 +56,7 @@ module _ (m office : ℕ) (offices ids waived : List ℕ) (rows : ℕ) where
   pub record Rows (own : Own) : Type 0 where
     pub in-ids : own .offset + own .count ≤ length ids
     pub in-waived : own .offset + own .count ≤ length waived
-    pub good : own .good ≡ true → waiversGood m (waiversOf (partOf (own .offset) (own .count) ids) (partOf (own .offset) (own .count) waived)) ≡ true
+    pub good : own .good ≡ true → waiversGood m (waiversOf (officePart (own .offset) (own .count) ids) (officePart (own .offset) (own .count) waived)) ≡ true
 
   no-rows : (good : Bool) → Rows (noRows good)
   no-rows good =
@@ -68,7 +68,7 @@ module _ (m office : ℕ) (offices ids waived : List ℕ) (rows : ℕ) where
 
   module _ (known : office ≤ 1) (is : isTable offices ids waived rows ≡ true) (valid : rowKeysValid m t ≡ true) where
     pub parts-are : (own : Own) → own ≡ ownOf m office offices ids waived rows
-        → waiversOf (partOf (own .offset) (own .count) ids) (partOf (own .offset) (own .count) waived) ≡ rowsOf office t
+        → waiversOf (officePart (own .offset) (own .count) ids) (officePart (own .offset) (own .count) waived) ≡ rowsOf office t
     parts-are own e = rw (e ∙ sym (own-found m office offices ids waived rows is valid)) (own-part offices ids waived rows is office known)
 
     rows-good : waiversGood m (rowsOf office t) ≡ true
@@ -110,7 +110,7 @@ module _ (m s : ℕ) (keys bits : List ℕ) (n office : ℕ) (offices ids waived
   pub own-at-within : (own .offset + own .count ≤ length ids) × (own .offset + own .count ≤ length waived)
   own-at-within = (at-rows .in-ids, at-rows .in-waived)
 
-  pub own-at-fits : Fit m own (partOf (own .offset) (own .count) ids) (partOf (own .offset) (own .count) waived)
+  pub own-at-fits : RunFits m own (officePart (own .offset) (own .count) ids) (officePart (own .offset) (own .count) waived)
   own-at-fits =
       let a = part-long (own .offset) (own .count) ids (at-rows .in-ids) in
       let b = part-long (own .offset) (own .count) waived (at-rows .in-waived) in
@@ -167,7 +167,7 @@ module _ (m s : ℕ) (keys bits : List ℕ) (n office : ℕ) (rules : List Rule)
     rowsFound = ownAt m s keys bits n office offices ids waived rows
 
     abbrev pub parts : Own → List Finding
-    parts o = waiversOf (partOf (o .offset) (o .count) ids) (partOf (o .offset) (o .count) waived)
+    parts o = waiversOf (officePart (o .offset) (o .count) ids) (officePart (o .offset) (o .count) waived)
 
     abbrev table : List Waiver
     table = tableOf offices ids waived rows

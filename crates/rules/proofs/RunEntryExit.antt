@@ -29,14 +29,14 @@ use Rattle.rules.specs.declared.state.RunState.{RunState}
 use Rattle.rules.proofs.state.RunState as RunState
 use Rattle.rules.proofs.state.RunState.Laws as State′
 use Rattle.lending.proofs.Chains.{chain, apart, together, after-nothing}
-use Rattle.lending.proofs.Slices.{Slice, val, token, shared, mutable}
+use Rattle.lending.proofs.Slices.{LentSlice, val, token, shared, mutable}
 use Rattle.rules.proofs.RunSlices.{RunSlices, stateVals, valOf, reads, tokens, answers, each-read, each-token, each-answer}
 use Rattle.rules.proofs.RunTurns.{Turn, all-ran}
 use Rattle.rules.proofs.all_rules.run as run′
 
 -- what is had of the parameters at exit: the two answer slices
-abbrev pub stayed : Stays (run′.ended .signature .params) (run′.ended .kept)
-stayed = (
+abbrev pub rules-stayed : Stays (run′.ended .signature .params) (run′.ended .kept)
+rules-stayed = (
   stay-dropped (shrSliceOf (0 ∷ []) tt (plain (λ _. Rule.the-row))) yes,
   (
     stay-dropped (shrSliceOf (1 ∷ []) tt (plain (λ _. u32))) yes,
@@ -54,18 +54,18 @@ stayed = (
 )
 
 -- the machine values of the parameters
-abbrev pub machine : Slice Rule.the-row → RunSlices → RunState → List Val
-machine rules S state = val rules ∷ val (S .keys) ∷ val (S .bits) ∷ val (S .waiver-ids) ∷ val (S .waiver-keys) ∷ val (S .found-ids) ∷ val (S .found-keys) ∷ valOf state ∷ []
+abbrev pub rules-machine : LentSlice Rule.the-row → RunSlices → RunState → List Val
+rules-machine rules S state = val rules ∷ val (S .keys) ∷ val (S .bits) ∷ val (S .waiver-ids) ∷ val (S .waiver-keys) ∷ val (S .found-ids) ∷ val (S .found-keys) ∷ valOf state ∷ []
 
 -- of the rules the fractured borrow is enough
-abbrev pub sharedRules : Slice Rule.the-row → Fml
+abbrev pub sharedRules : LentSlice Rule.the-row → Fml
 sharedRules rules = fshr-bor (rules .κ) (λ s. arr-parts (shares Rule.the-row) (length (rules .x .now)) .part s (rules .x .now) (rules .x .ptr .0) (rules .x .ptr .1))
 
 -- what the walk begins with
-abbrev pub held : {M : Type 1} (𝓤 : URA M) → Slice Rule.the-row → RunSlices → Item 𝓤
-held 𝓤 rules S = ‵ (sharedRules rules) ⊛ ‵ (token rules) ⊛ ‵ (reads S) ⊛ ‵ (tokens S) ⊛ ‵ (answers S (S .found-ids .x .now) (S .found-keys .x .now))
+abbrev pub rules-held : {M : Type 1} (𝓤 : URA M) → LentSlice Rule.the-row → RunSlices → Item 𝓤
+rules-held 𝓤 rules S = ‵ (sharedRules rules) ⊛ ‵ (token rules) ⊛ ‵ (reads S) ⊛ ‵ (tokens S) ⊛ ‵ (answers S (S .found-ids .x .now) (S .found-keys .x .now))
 
-module _ {M : Type 1} (𝓤 : URA M) (H : Heap 𝓤) (A : Atoms 𝓤) (W : Given 𝓤 H A) (mem : Memory → SProp 𝓤) (run : Routine → Fun 𝓤) (rules : Slice Rule.the-row) (S : RunSlices) (state : RunState) where
+module _ {M : Type 1} (𝓤 : URA M) (H : Heap 𝓤) (A : Atoms 𝓤) (W : Given 𝓤 H A) (mem : Memory → SProp 𝓤) (run : Routine → Fun 𝓤) (rules : LentSlice Rule.the-row) (S : RunSlices) (state : RunState) where
   abbrev lifetimes : Lfts 7
   lifetimes = (rules .κ, (S .keys .κ, (S .bits .κ, (S .waiver-ids .κ, (S .waiver-keys .κ, (S .found-ids .κ, (S .found-keys .κ, tt)))))))
 
@@ -78,14 +78,14 @@ module _ {M : Type 1} (𝓤 : URA M) (H : Heap 𝓤) (A : Atoms 𝓤) (W : Given
   abbrev vals : Vals run′.signature lifetimes
   vals = (val rules ∷ [], (val (S .keys) ∷ [], (val (S .bits) ∷ [], (val (S .waiver-ids) ∷ [], (val (S .waiver-keys) ∷ [], (val (S .found-ids) ∷ [], (val (S .found-keys) ∷ [], (stateVals state, tt))))))))
 
-  abbrev bound : walkOf 𝓤 H A run′.ended stayed (run′.clauses 𝓤 H A mem run) .Ghost
+  abbrev bound : walkOf 𝓤 H A run′.ended rules-stayed (run′.clauses 𝓤 H A mem run) .Ghost
   bound = ((lifetimes, sharesOf, tt, a, vals), tt)
 
   abbrev pub AtEntry : SProp 𝓤
   AtEntry = onEntry 𝓤 H A run′.signature lifetimes sharesOf a vals
 
   abbrev pub AtExit : Val → SProp 𝓤
-  AtExit = walkOf 𝓤 H A run′.ended stayed (run′.clauses 𝓤 H A mem run) .post bound
+  AtExit = walkOf 𝓤 H A run′.ended rules-stayed (run′.clauses 𝓤 H A mem run) .post bound
 
   abbrev each-token-at-entry : List Fml
   each-token-at-entry = token rules ∷ token (S .keys) ∷ token (S .bits) ∷ token (S .waiver-ids) ∷ token (S .waiver-keys) ∷ token (S .found-ids) ∷ token (S .found-keys) ∷ []
@@ -94,7 +94,7 @@ module _ {M : Type 1} (𝓤 : URA M) (H : Heap 𝓤) (A : Atoms 𝓤) (W : Given
   each-parameter = shared rules ∷ shared (S .keys) ∷ shared (S .bits) ∷ shared (S .waiver-ids) ∷ shared (S .waiver-keys)
       ∷ mutable (S .found-ids) (S .found-ids .x .now) ∷ mutable (S .found-keys) (S .found-keys .x .now) ∷ RunState.the-row .own state (stateVals state) ∷ []
 
-  pub enters : ent 𝓤 AtEntry (mean 𝓤 H A (held 𝓤 rules S))
+  pub enters : ent 𝓤 AtEntry (mean 𝓤 H A (rules-held 𝓤 rules S))
   enters =
       qed W (‵ (chain each-token-at-entry) ∷ ‵ (chain each-parameter) ∷ []) ∵ apart ! each-token-at-entry $ move ! (7 ∷ []) $ apart ! each-parameter $
       -- [0 to 7 the parameters; 8 to 14 the tokens]
@@ -113,7 +113,7 @@ module _ {M : Type 1} (𝓤 : URA M) (H : Heap 𝓤) (A : Atoms 𝓤) (W : Given
   pub exits : (t : Turn S (rules .x .now) state) → length (rules .x .now) ≤ t .i → ent 𝓤 (⋆ 𝓤 H A (Last t)) (AtExit (valOf (t .found .state)))
   exits t over =
       qed W (Last t) ∵
-      suffices ! _ (ends-at 𝓤 H A run′.ended stayed (run′.clauses 𝓤 H A mem run) W bound (valOf (t .found .state)) (t .found .state) (tt, (tt, (tt, (tt, (tt, (t .found .ids, (t .found .keys, (tt, tt))))))))
+      suffices ! _ (ends-at 𝓤 H A run′.ended rules-stayed (run′.clauses 𝓤 H A mem run) W bound (valOf (t .found .state)) (t .found .state) (tt, (tt, (tt, (tt, (tt, (t .found .ids, (t .found .keys, (tt, tt))))))))
       (tt, (tt, (tt, (tt, (tt, (t .found .ids-length, (t .found .keys-length, (tt, tt))))))))) $ says ! (all-ran S (rules .x .now) state t over) $
       move ! (1 ∷ []) $ apart ! (each-token S) $ move ! (5 ∷ []) $ apart ! (each-answer S (t .found .ids) (t .found .keys)) $
       -- [0 found_ids, 1 its token; 2 found_keys, 3 its token; 4 to 7 the four tokens; 8 the rules' token]

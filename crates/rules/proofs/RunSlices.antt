@@ -26,15 +26,15 @@ use Rattle.rules.specs.declared.state.RunState.{RunState}
 use Rattle.rules.proofs.state.RunState as RunState
 use Rattle.rules.proofs.state.RunState.Laws as State′
 use Rattle.lending.proofs.Chains.{chain, apart, together}
-use Rattle.lending.proofs.Slices.{Slice, token, shared, mutable, lent, copied}
+use Rattle.lending.proofs.Slices.{LentSlice, token, shared, mutable, lent, copied}
 
 pub record RunSlices : Type 0 where
-  pub keys : Slice u32
-  pub bits : Slice u32
-  pub waiver-ids : Slice u32
-  pub waiver-keys : Slice u32
-  pub found-ids : Slice u32
-  pub found-keys : Slice u32
+  pub keys : LentSlice u32
+  pub bits : LentSlice u32
+  pub waiver-ids : LentSlice u32
+  pub waiver-keys : LentSlice u32
+  pub found-ids : LentSlice u32
+  pub found-keys : LentSlice u32
 
 -- the machine values of a state
 abbrev pub stateVals : RunState → List Val

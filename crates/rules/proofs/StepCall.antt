@@ -42,15 +42,15 @@ abbrev pub ruleVals : Rule → List Val
 ruleVals = LL.vals Rule.the-type Rule′.the-laws
 
 -- the contract of `step`
-abbrev pub Step : {M : Type 1} (𝓤 : URA M) (H : Heap 𝓤) (A : Atoms 𝓤) (mem : Memory → SProp 𝓤) (run : Routine → Fun 𝓤) → Contract 𝓤
-Step 𝓤 H A mem run = tripleOf 𝓤 H A step.signature (step.spec 𝓤 H A mem run)
+abbrev pub RuleStep : {M : Type 1} (𝓤 : URA M) (H : Heap 𝓤) (A : Atoms 𝓤) (mem : Memory → SProp 𝓤) (run : Routine → Fun 𝓤) → Contract 𝓤
+RuleStep 𝓤 H A mem run = tripleOf 𝓤 H A step.signature (step.spec 𝓤 H A mem run)
 
 -- the machine values that `step` is passed
 abbrev pub passes : RunSlices → Rule → RunState → List Val
 passes S rule r = LL.val Rule.the-type Rule′.the-laws rule ∷ val (S .keys) ∷ val (S .bits) ∷ val (S .waiver-ids) ∷ val (S .waiver-keys) ∷ val (S .found-ids) ∷ val (S .found-keys) ∷ valOf r ∷ []
 
 module _ {M : Type 1} (𝓤 : URA M) (H : Heap 𝓤) (A : Atoms 𝓤) (W : Given 𝓤 H A) (mem : Memory → SProp 𝓤) (run : Routine → Fun 𝓤) (C : Calls 𝓤 H)
-    (fm : FmC 𝓤 H (W .laws) C) (known : Triple 𝓤 (C #step) (Step 𝓤 H A mem run)) (S : RunSlices) (rule : Rule) (r : RunState) (l l′ : List ℕ) where
+    (fm : FmC 𝓤 H (W .laws) C) (known : Triple 𝓤 (C #step) (RuleStep 𝓤 H A mem run)) (S : RunSlices) (rule : Rule) (r : RunState) (l l′ : List ℕ) where
   abbrev stepped : Type 0
   stepped = Result S (tableStep (S .keys .x .now) (S .bits .x .now) (S .waiver-ids .x .now) (S .waiver-keys .x .now) rule (progressOf r l l′))
 
@@ -60,7 +60,7 @@ module _ {M : Type 1} (𝓤 : URA M) (H : Heap 𝓤) (A : Atoms 𝓤) (W : Given
   abbrev sharesOf : Unit {0} → Shares 6
   sharesOf _ = (S .keys .q, (S .bits .q, (S .waiver-ids .q, (S .waiver-keys .q, (fullShare, (fullShare, tt))))))
 
-  abbrev to-step : ℕ → ℕ → GName → GName → Step 𝓤 H A mem run .Ghost
+  abbrev to-step : ℕ → ℕ → GName → GName → RuleStep 𝓤 H A mem run .Ghost
   to-step ν ν′ δ δ′ = (
     (
       lifetimes ν ν′,
@@ -78,7 +78,7 @@ module _ {M : Type 1} (𝓤 : URA M) (H : Heap 𝓤) (A : Atoms 𝓤) (W : Given
     abbrev P : Item 𝓤
     P = ‵ (reads S) ⊛ ‵ (tokens S)
 
-    asks : (ν ν′ : ℕ) (δ δ′ : GName) → ent 𝓤 (⋆ 𝓤 H A (Lending 𝓤 P S l l′ ν ν′ δ δ′)) (Step 𝓤 H A mem run .pre (to-step ν ν′ δ δ′))
+    asks : (ν ν′ : ℕ) (δ δ′ : GName) → ent 𝓤 (⋆ 𝓤 H A (Lending 𝓤 P S l l′ ν ν′ δ δ′)) (RuleStep 𝓤 H A mem run .pre (to-step ν ν′ δ δ′))
     asks ν ν′ δ δ′ =
         qed W (Lending 𝓤 P S l l′ ν ν′ δ δ′) ∵ says ! ready $ split ! $ gathers S ν ν′ W ! δ δ′ l l′ r is-state $ frame ! $
         owned ! Rule.the-row (Is Rule.the-row) (LL.makes Rule.the-type Rule′.the-plain 𝓤 H A) rule _ is-rule $ fjoin ! $ done !
@@ -88,4 +88,4 @@ module _ {M : Type 1} (𝓤 : URA M) (H : Heap 𝓤) (A : Atoms 𝓤) (W : Given
 
     pub step-gives : Gives W C #step (passes S rule r) (P ⊛ ‵ (answers S l l′)) stepped (λ x. valOf (x .state)) (λ x. ‵ (tokens S) ⊛ ‵ (answers S (x .ids) (x .keys)))
     step-gives = lent-answers 𝓤 H A W C fm #step (passes S rule r) S _ P (‵ (tokens S)) (λ ν ν′. alive 𝓤 H A step.signature (lifetimes ν ν′) (sharesOf tt)) l l′ len len′
-        (λ ν ν′ δ δ′. via 𝓤 (Step 𝓤 H A mem run .pre (to-step ν ν′ δ δ′)) (asks ν ν′ δ δ′) (known (to-step ν ν′ δ δ′))) back
+        (λ ν ν′ δ δ′. via 𝓤 (RuleStep 𝓤 H A mem run .pre (to-step ν ν′ δ δ′)) (asks ν ν′ δ δ′) (known (to-step ν ν′ δ δ′))) back

@@ -15,19 +15,19 @@ use Rattle.rules.proofs.NextCases.{next-stopped, next-faulty, next-left
 use Rattle.rules.proofs.Ready.{ready-step, ready-run}
 
 -- the rows stand where they stood
-pub record Same (a b : RunState) : Type 0 where
+pub record SameTable (a b : RunState) : Type 0 where
   pub offset : b .offset ≡ a .offset
   pub count : b .waivers ≡ a .waivers
 
 -- so the parts are the same
-same-part : {a b : RunState} → Same a b → (l : List ℕ) → ownPart b l ≡ ownPart a l
+same-part : {a b : RunState} → SameTable a b → (l : List ℕ) → ownPart b l ≡ ownPart a l
 same-part e l = ap₂ (λ n i. take n (drop i l)) (e .count) (e .offset)
 
-pub same-on : {a b c : RunState} → Same a b → Same b c → Same a c
+pub same-on : {a b c : RunState} → SameTable a b → SameTable b c → SameTable a c
 same-on e f = record { offset = f .offset ∙ e .offset; count = f .count ∙ e .count }
 
 module _ (keys bits waiverIds waiverKeys : List ℕ) where
-  step-same : (rule : Rule) (p : Progress) → Same (p .state) (ruleStep keys bits waiverIds waiverKeys rule p .state)
+  step-same : (rule : Rule) (p : Progress) → SameTable (p .state) (ruleStep keys bits waiverIds waiverKeys rule p .state)
   step-same rule p =
       equal (p .state .refusal) 0
       (λ running.
@@ -47,14 +47,14 @@ module _ (keys bits waiverIds waiverKeys : List ℕ) where
       (λ bad. rw (step-bad keys bits waiverIds waiverKeys rule p running on bad) (record { offset = refl; count = refl }))))
       (λ stopped. rw (step-stopped keys bits waiverIds waiverKeys rule p stopped) (record { offset = refl; count = refl }))
 
-  run-same : (rules : List Rule) (p : Progress) → Same (p .state) (rulesRun keys bits waiverIds waiverKeys rules p .state)
+  run-same : (rules : List Rule) (p : Progress) → SameTable (p .state) (rulesRun keys bits waiverIds waiverKeys rules p .state)
   run-same [] p = rw (run-nil keys bits waiverIds waiverKeys p) (record { offset = refl; count = refl })
   run-same (rule ∷ rules) p =
       rw (run-cons keys bits waiverIds waiverKeys rule rules p)
       (same-on (step-same rule p) (run-same rules (ruleStep keys bits waiverIds waiverKeys rule p)))
 
 -- the next run has the same rows
-pub next-same : (st : RunState) → Same st (afterRun st)
+pub next-same : (st : RunState) → SameTable st (afterRun st)
 next-same st =
     equal (st .refusal) 0
     (λ running.
@@ -92,14 +92,14 @@ module _ (keys bits ids waived : List ℕ) where
   table-run-is rules p = run-is rules p (ownPart (p .state) ids) (ownPart (p .state) waived) (refl, refl)
 
   -- from a state with the same rows
-  pub table-run-from : {st : RunState} (rules : List Rule) (p : Progress) → Same st (p .state) → tableRun keys bits ids waived rules p ≡ rulesRun keys bits (ownPart st ids) (ownPart st waived) rules p
+  pub table-run-from : {st : RunState} (rules : List Rule) (p : Progress) → SameTable st (p .state) → tableRun keys bits ids waived rules p ≡ rulesRun keys bits (ownPart st ids) (ownPart st waived) rules p
   table-run-from {st} rules p same = run-is rules p (ownPart st ids) (ownPart st waived) (same-part same ids, same-part same waived)
 
-  pub table-run-same : (rules : List Rule) (p : Progress) → Same (p .state) (tableRun keys bits ids waived rules p .state)
+  pub table-run-same : (rules : List Rule) (p : Progress) → SameTable (p .state) (tableRun keys bits ids waived rules p .state)
   table-run-same rules p = rw (table-run-is rules p) (run-same keys bits (ownPart (p .state) ids) (ownPart (p .state) waived) rules p)
 
   -- what a run stands on, where the rows stay
-  pub ready-same : (p q : Progress) → Same (p .state) (q .state) → TableReady keys bits ids waived p → RulesReady keys bits (ownPart (p .state) ids) (ownPart (p .state) waived) q
+  pub ready-same : (p q : Progress) → SameTable (p .state) (q .state) → TableReady keys bits ids waived p → RulesReady keys bits (ownPart (p .state) ids) (ownPart (p .state) waived) q
       → TableReady keys bits ids waived q
   ready-same p q same h own =
       let a = same .offset in

@@ -13,7 +13,7 @@ use Rattle.offices.specs.declared.own.Own.{Own}
 use Rattle.rules.specs.declared.state.RunState.{RunState}
 use Rattle.rules.specs.Run.{Progress, progressOf, refusing, bounding, resting, restarting, rulesRun, beginOf, afterRun, answerOf}
 use Rattle.rules.proofs.NextCases.{next-stopped, next-faulty, next-left, next-counts, next-rests, next-writes, answer-refused}
-use Rattle.rules.proofs.Beginning.{Fit, begin-not-full}
+use Rattle.rules.proofs.Beginning.{RunFits, begin-not-full}
 use Rattle.rules.proofs.Quiet.{run-stopped, run-rests, quiet-ids, quiet-keys}
 use Rattle.rules.proofs.Bounds.{Bounded, run-bounded}
 use Rattle.rules.proofs.TwoRuns.{counted, second, Promised, ids-quiet, keys-quiet, two-runs}
@@ -64,7 +64,7 @@ module _ (m s : ℕ) (keys bits : List ℕ) (n office : ℕ) (own : Own) (rules 
   abbrev third : Progress
   third = run (after (run (after checked)))
 
-  module _ (fit : Fit m own waiverIds waiverKeys) where
+  module _ (fit : RunFits m own waiverIds waiverKeys) where
     -- the state st, with nothing written, comes after the first run, and another with the same refusal after the counting run: both runs stop
     module _ (c : ℕ) (not-zero : c ≡ 0 → ⊥) (not-full : c ≡ 12 → ⊥) (st st′ : RunState) (e : afterRun told ≡ st) (e′ : afterRun last ≡ st′) (is : st .refusal ≡ c) (is′ : st′ .refusal ≡ c) where
       stay : (x : RunState) → x .refusal ≡ c → run (progressOf x ids foundKeys) ≡ progressOf x ids foundKeys

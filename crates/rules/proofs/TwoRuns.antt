@@ -22,9 +22,9 @@ use Rattle.rules.specs.declared.state.RunState.{RunState}
 use Rattle.rules.specs.Run.{waiversBelow, waiversGood, Progress, progressOf, restarting, rulesRun, beginRefusal, beginOf, afterRun, answerOf}
 use Rattle.rules.proofs.WaiverPlaces.{waivers-length}
 use Rattle.rules.proofs.NextCases.{next-stopped, next-faulty, next-left, next-full, next-writes, answer-done, answer-full, answer-refused}
-use Rattle.rules.proofs.Beginning.{Fit, begin-other, begin-bad, begin-no-list, begin-good, below-zero}
+use Rattle.rules.proofs.Beginning.{RunFits, begin-other, begin-bad, begin-no-list, begin-good, below-zero}
 use Rattle.rules.proofs.GoodRules.{goodFrom}
-use Rattle.rules.proofs.KnownIds.{nextAfter, knownFrom, known-all, all-known}
+use Rattle.rules.proofs.KnownIds.{nextAfter, knownFrom, known-ids, ids-known}
 use Rattle.rules.proofs.AllGathered.{allGathered, run-gathered}
 use Rattle.rules.proofs.RunEnds.{Faulted, run-bad, run-faulty, run-unknown}
 use Rattle.rules.proofs.Quiet.{run-stopped, quiet-ids, quiet-keys}
@@ -263,7 +263,7 @@ module _ (m s : ℕ) (keys bits : List ℕ) (n office : ℕ) (own : Own) (rules 
         fine-table : last .waivers ≤ last .passed → not (own .good) || badWaivers m rules ws ≡ false
         fine-table none =
             ap₂ (λ a b. a || b) (ap not right)
-            (waivers-fine m rules ws sound (known-all m s ws 0 rules good known (let a = passed-last in let b = waivers-last in omega arith)))
+            (waivers-fine m rules ws sound (known-ids m s ws 0 rules good known (let a = passed-last in let b = waivers-last in omega arith)))
 
         -- the rules and the waivers are good
         gathered-runs : Promised (run second)
@@ -271,7 +271,7 @@ module _ (m s : ℕ) (keys bits : List ℕ) (n office : ℕ) (own : Own) (rules 
             split (last .passed) (last .waivers)
             (λ h. left-over h
             (refusal-14 m s keys bits n office (not (own .good)) rules ws ids foundKeys known-office settings list good
-            (or-right (not (own .good)) (badWaivers m rules ws) (waivers-unknown m rules ws (λ all. let found = all-known m s ws 0 rules good all in let a = passed-last in let b = waivers-last in let c = found .none in omega arith)))))
+            (or-right (not (own .good)) (badWaivers m rules ws) (waivers-unknown m rules ws (λ all. let found = ids-known m s ws 0 rules good all in let a = passed-last in let b = waivers-last in let c = found .none in omega arith)))))
             (λ none. split (last .room) (last .live)
             (λ h. too-many none h
             (refusal-12 m s keys bits n office (not (own .good)) rules ws ids foundKeys known-office settings list good
@@ -281,7 +281,7 @@ module _ (m s : ℕ) (keys bits : List ℕ) (n office : ℕ) (own : Own) (rules 
             (refusal-0 m s keys bits n office (not (own .good)) rules ws ids foundKeys known-office settings list good (fine-table none)
             (let a = live-last in let b = room-last in omega arith))))
 
-      good-runs : Fit m own waiverIds waiverKeys → Promised (run second)
+      good-runs : RunFits m own waiverIds waiverKeys → Promised (run second)
       good-runs fit =
           decide (own .good)
           (λ right.
@@ -290,12 +290,12 @@ module _ (m s : ℕ) (keys bits : List ℕ) (n office : ℕ) (own : Own) (rules 
           (λ unknown. faulted (unknown-run unknown)
           (refusal-14 m s keys bits n office (not (own .good)) rules ws ids foundKeys known-office settings list good
           (or-right (not (own .good)) (badWaivers m rules ws)
-          (waivers-unknown m rules ws (λ all. mathlib.Core.Bool.true≢false (sym (all-known m s ws 0 rules good all .known) ∙ unknown)))))))
+          (waivers-unknown m rules ws (λ all. mathlib.Core.Bool.true≢false (sym (ids-known m s ws 0 rules good all .known) ∙ unknown)))))))
           (λ wrong. faulted (wrong-run wrong)
           (refusal-14 m s keys bits n office (not (own .good)) rules ws ids foundKeys known-office settings list good (or-left (not (own .good)) (badWaivers m rules ws) (ap not wrong))))
 
   -- two runs give what the specification says
-  pub two-runs : Fit m own waiverIds waiverKeys → Promised (run second)
+  pub two-runs : RunFits m own waiverIds waiverKeys → Promised (run second)
   two-runs fit =
       decide (badOffice office)
       (λ other. begin-refused 21 (begin-other office m s keys bits n other) (λ e. omega arith) (λ e. omega arith) (refusal-21 m s keys bits n office (not (own .good)) rules ws ids foundKeys other))

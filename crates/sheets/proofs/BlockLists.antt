@@ -10,7 +10,7 @@ use native.Mathlib.Omega.{arith}
 use lib.ListN.{length, length-append, length-map}
 use Rattle.keys.proofs.Cases.{equal, or-either, or-left, or-right}
 use Rattle.definitions.specs.Area.{sumBelow}
-use Rattle.laws.proofs.AscendingKeys.{AscendingKeys, no-key, key, ascending-append}
+use Rattle.laws.proofs.AscendingKeys.{AscendingKeys, no-key, key, keys-append}
 use Rattle.sheets.specs.Ground.{Ground, sheetsFor}
 use Rattle.sheets.specs.Together.{SheetBlock, blocksOn, listBelow, listSheets, sumSheets, blockNumber, inSheetBlock, inSheetBlocks}
 use Rattle.sheets.proofs.Below.{sum-below-same}
@@ -128,7 +128,7 @@ module _ (m : ℕ) (g : Ground) (of : ℕ → ℕ → List ℕ) (ascend : (i j :
       let next : before i n + (0 + 5 ^ m) ≡ before i (suc n) =
       (let e = suc-mul (i * width + n) (5 ^ m) in let f = ap (λ x. x * 5 ^ m) (add-suc (i * width) n) in omega arith) in
       subst (λ l. AscendingKeys (before i 0) (before i (suc n)) l) (sym (map-append number (listBelow (λ j. blocksOn i j (of i j)) n) (blocksOn i n (of i n))))
-      (ascending-append (row-ascends i n)
+      (keys-append (row-ascends i n)
       (subst (λ a. AscendingKeys a (before i (suc n)) (map number (blocksOn i n (of i n)))) (add-zero (before i n))
       (subst (λ b. AscendingKeys (before i n + 0) b (map number (blocksOn i n (of i n)))) next (on-ascends i n (ascend i n)))))
 
@@ -140,7 +140,7 @@ module _ (m : ℕ) (g : Ground) (of : ℕ → ℕ → List ℕ) (ascend : (i j :
       let to : before n width ≡ suc n * width * 5 ^ m = ap (λ x. x * 5 ^ m) (sym (suc-mul n width)) in
       subst (λ l. AscendingKeys 0 (suc n * width * 5 ^ m) l)
       (sym (map-append number (listBelow (λ i. listBelow (λ j. blocksOn i j (of i j)) width) n) (listBelow (λ j. blocksOn n j (of n j)) width)))
-      (ascending-append (rows-ascend n)
+      (keys-append (rows-ascend n)
       (subst (λ a. AscendingKeys a (suc n * width * 5 ^ m) (map number (listBelow (λ j. blocksOn n j (of n j)) width))) from
       (subst (λ b. AscendingKeys (before n 0) b (map number (listBelow (λ j. blocksOn n j (of n j)) width))) to (row-ascends n width))))
 

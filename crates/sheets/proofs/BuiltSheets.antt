@@ -11,7 +11,7 @@ use Rattle.definitions.specs.List.{Record, listOfRaster, keysOf, valuesOf}
 use Rattle.definitions.specs.Buffer.{over}
 use Rattle.definitions.specs.Calls.Survey.{surveyRefusal}
 use Rattle.laws.proofs.ListOf.{list-agree}
-use Rattle.laws.proofs.RasterOf.{rasterOf, raster-back}
+use Rattle.laws.proofs.RasterOf.{rasterOfPicture, raster-back}
 use Rattle.laws.proofs.SummaryOf.{summary-agree}
 use Rattle.laws.proofs.Built.{build-count, build-keys, build-bits, build-summary, build-records}
 use Rattle.history.specs.History.{built}
@@ -23,11 +23,11 @@ over-long : (l : List Record) (new old : List ℕ) → length new ≡ length l �
 over-long l new old e = let a = length-append new (drop (length new) old) in omega arith
 
 -- the buffers after the build of a picture's raster hold its list and its summary
-pub build-holds : (m s : ℕ) (p : Picture) (keys bits summary logKeys logValues : List ℕ) → surveyRefusal m s (rasterOf m p) keys bits summary ≡ 0
-    → SheetHolds m s p (built m s (rasterOf m p) keys bits summary logKeys logValues)
+pub build-holds : (m s : ℕ) (p : Picture) (keys bits summary logKeys logValues : List ℕ) → surveyRefusal m s (rasterOfPicture m p) keys bits summary ≡ 0
+    → SheetHolds m s p (built m s (rasterOfPicture m p) keys bits summary logKeys logValues)
 unfolding built
 build-holds m s p keys bits summary logKeys logValues e =
-    let raster : List ℕ = rasterOf m p in
+    let raster : List ℕ = rasterOfPicture m p in
     let l : List Record = listOfRaster m raster in
     let a = over-long l (keysOf l) keys (length-map l (λ x. x .key)) in
     let b = over-long l (valuesOf l) bits (length-map l (λ x. x .value)) in
@@ -43,7 +43,7 @@ build-holds m s p keys bits summary logKeys logValues e =
 -- so sheets that were all built, each in its own buffers, hold what the laws ask for
 pub built-hold : (m s : ℕ) (g : Ground) (filler : ℕ) (keys bits summary logKeys logValues : ℕ → ℕ → List ℕ)
     → ((i j : ℕ) → i < sheetsFor m (g .rows) → j < sheetsFor m (g .columns)
-    → surveyRefusal m s (rasterOf m (sheetPicture m g filler i j)) (keys i j) (bits i j) (summary i j) ≡ 0)
-    → AllHold m s g filler (λ i j. built m s (rasterOf m (sheetPicture m g filler i j)) (keys i j) (bits i j) (summary i j) (logKeys i j) (logValues i j))
+    → surveyRefusal m s (rasterOfPicture m (sheetPicture m g filler i j)) (keys i j) (bits i j) (summary i j) ≡ 0)
+    → AllHold m s g filler (λ i j. built m s (rasterOfPicture m (sheetPicture m g filler i j)) (keys i j) (bits i j) (summary i j) (logKeys i j) (logValues i j))
 built-hold m s g filler keys bits summary logKeys logValues accepted i j down across =
     build-holds m s (sheetPicture m g filler i j) (keys i j) (bits i j) (summary i j) (logKeys i j) (logValues i j) (accepted i j down across)

@@ -112,11 +112,11 @@ empty-exactly g row column height width =
     )
 
 -- so where the height or the width is 0
-pub no-height : (g : Ground) (row column : ℤ) (width : ℕ) → isEmpty (groundWindow g row column 0 width) ≡ true
-no-height g row column width = empty-exactly g row column 0 width .1 (λ r c x. none-dragged row r (x .rows))
+pub no-ground-height : (g : Ground) (row column : ℤ) (width : ℕ) → isEmpty (groundWindow g row column 0 width) ≡ true
+no-ground-height g row column width = empty-exactly g row column 0 width .1 (λ r c x. none-dragged row r (x .rows))
 
-pub no-width : (g : Ground) (row column : ℤ) (height : ℕ) → isEmpty (groundWindow g row column height 0) ≡ true
-no-width g row column height = empty-exactly g row column height 0 .1 (λ r c x. none-dragged column c (x .columns))
+pub no-ground-width : (g : Ground) (row column : ℤ) (height : ℕ) → isEmpty (groundWindow g row column height 0) ≡ true
+no-ground-width g row column height = empty-exactly g row column height 0 .1 (λ r c x. none-dragged column c (x .columns))
 
 -- a window of the ground is its own clipped window
 pub own-ground : (g : Ground) (w : Window) → insideGround g w ≡ true → groundWindow g (pos (w .row)) (pos (w .column)) (w .height) (w .width) ≡ w

@@ -27,7 +27,7 @@ use Rattle.definitions.specs.Calls.Select.{selected, selectRefusal, select, sel
 use Rattle.definitions.specs.Calls.Edit.{editRefusal, editAnswer, keysLeft, bitsLeft, summaryLeft, logKeysLeft, logValuesLeft}
 use Rattle.definitions.specs.Calls.PaintWindow.{groupGained}
 use Rattle.definitions.specs.declared.Window.{Window}
-use Rattle.laws.proofs.RasterOf.{rasterOf}
+use Rattle.laws.proofs.RasterOf.{rasterOfPicture}
 use Rattle.history.specs.History.{Call, Buffers, built, answer, after, afterCalls, takingBack, redoing}
 use Rattle.sheets.specs.Ground.{Ground, inGround, insideGround, groundWindow, isEmpty, sheetsFor, cutAt, onSheet, sheetPicture, meets, meetsSheet}
 use Rattle.sheets.specs.Together.{SheetBlock, someBelow, unionBelow, listBelow, blockNumber, areaSheets}
@@ -45,7 +45,7 @@ ground = record {
 
 -- its sheets, each built in buffers that are just long enough, with filler 0 and an empty log
 abbrev sheets : ℕ → ℕ → Buffers
-sheets i j = built 1 3 (rasterOf 1 (sheetPicture 1 ground 0 i j)) (replicate 5 99) (replicate 5 98) (replicate 12 97) (replicate 16 96) (replicate 16 95)
+sheets i j = built 1 3 (rasterOfPicture 1 (sheetPicture 1 ground 0 i j)) (replicate 5 99) (replicate 5 98) (replicate 12 97) (replicate 16 96) (replicate 16 95)
 
 -- rows 1 and 2, columns 1 to 3: 112 and 210; it meets four of the six sheets
 abbrev asked : Window

@@ -12,7 +12,7 @@ use Rattle.definitions.specs.Picture.{Picture, pictureOfRaster}
 use Rattle.definitions.specs.Read.{room, recordsOf, isListOfBlock, isList}
 use Rattle.definitions.specs.Calls.Survey.{surveyRefusal}
 use Rattle.laws.proofs.Pixels.{Agree}
-use Rattle.laws.proofs.RasterOf.{rasterOf, raster-back}
+use Rattle.laws.proofs.RasterOf.{rasterOfPicture, raster-back}
 use Rattle.history.specs.History.{Buffers, Call, Kept, nothing, built, applied, drawn, after, afterCalls, kept, pictureLeft}
 use Rattle.history.proofs.Drawn.{drawn-none, drawn-latest}
 use Rattle.history.proofs.Fit.{applied-agree}
@@ -29,7 +29,7 @@ use Rattle.sheets.proofs.StepCalls.{onIt, paints-met, paints-not, paint
 
 module _ (m : ℕ) (g : Ground) (filler i j : ℕ) where
   abbrev built-picture : Picture
-  built-picture = pictureOfRaster m (rasterOf m (sheetPicture m g filler i j))
+  built-picture = pictureOfRaster m (rasterOfPicture m (sheetPicture m g filler i j))
 
   -- a paint of the ground with paints so far lies in it
   lies : (x : GroundPaint) (xs : List GroundPaint) → insideGround (groundAfter g xs) (windowOf g x) ≡ true
@@ -67,10 +67,10 @@ step-run m s g x call places sheets i j once among =
 
 module _ (m s : ℕ) (g : Ground) (filler : ℕ) (keys bits summary logKeys logValues : ℕ → ℕ → List ℕ)
     (accepted : (i j : ℕ) → i < sheetsFor m (g .rows) → j < sheetsFor m (g .columns)
-    → surveyRefusal m s (rasterOf m (sheetPicture m g filler i j)) (keys i j) (bits i j) (summary i j) ≡ 0) (steps : List GroundStep) where
+    → surveyRefusal m s (rasterOfPicture m (sheetPicture m g filler i j)) (keys i j) (bits i j) (summary i j) ≡ 0) (steps : List GroundStep) where
   -- a sheet as it was built, with an empty log
   abbrev pub sheetBuilt : ℕ → ℕ → Buffers
-  sheetBuilt i j = built m s (rasterOf m (sheetPicture m g filler i j)) (keys i j) (bits i j) (summary i j) (logKeys i j) (logValues i j)
+  sheetBuilt i j = built m s (rasterOfPicture m (sheetPicture m g filler i j)) (keys i j) (bits i j) (summary i j) (logKeys i j) (logValues i j)
 
   -- the calls that the steps make on it
   abbrev pub sheetCalls : ℕ → ℕ → List Call
@@ -83,7 +83,7 @@ module _ (m s : ℕ) (g : Ground) (filler : ℕ) (keys bits summary logKeys logV
   module _ (painted : (i j : ℕ) → i < sheetsFor m (g .rows) → j < sheetsFor m (g .columns) → paintsAccepted m s (sheetBuilt i j) (sheetCalls i j) ≡ true) where
     module _ (i j : ℕ) (down : i < sheetsFor m (g .rows)) (across : j < sheetsFor m (g .columns)) where
       abbrev raster : List ℕ
-      raster = rasterOf m (sheetPicture m g filler i j)
+      raster = rasterOfPicture m (sheetPicture m g filler i j)
 
       abbrev own : Kept
       own = kept m s (sheetBuilt i j) nothing (sheetCalls i j)

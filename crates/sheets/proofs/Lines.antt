@@ -53,7 +53,7 @@ on-its-sheet m lines line h =
     }
 
 -- a line of a window that lies on a sheet: counted from the sheet's first it is line number r
-pub record Seen (start first length side r : ℕ) : Type 0 where
+pub record SeenLine (start first length side r : ℕ) : Type 0 where
   pub from : start ≤ first + r
   pub to : first + r < start + length
   pub on : r < side
@@ -66,7 +66,7 @@ on-from : (start first : ℕ) → first ≤ start → onSheet start first ≡ po
 unfolding onSheet
 on-from start first h = ap (λ t. cond t (negsuc (first - suc start)) (pos (start - first))) (le-ltb start first h)
 
-before-seen : (start first length side r : ℕ) → start < first → Common (negsuc (first - suc start)) length side r → Seen start first length side r
+before-seen : (start first length side r : ℕ) → start < first → Common (negsuc (first - suc start)) length side r → SeenLine start first length side r
 before-seen start first length side r h x =
     let z = not-before-zero (first - suc start) in
     let t = x .to in
@@ -74,7 +74,7 @@ before-seen start first length side r h x =
     (λ l. let e = before-some (first - suc start) length side l in record { from = omega arith; to = omega arith; on = omega arith })
     (λ l. let e = before-none (first - suc start) length side l in absurd (omega arith))
 
-from-seen : (start first length side r : ℕ) → first ≤ start → Common (pos (start - first)) length side r → Seen start first length side r
+from-seen : (start first length side r : ℕ) → first ≤ start → Common (pos (start - first)) length side r → SeenLine start first length side r
 from-seen start first length side r h x =
     let z = not-before-line (start - first) in
     let f = x .from in
@@ -84,20 +84,20 @@ from-seen start first length side r h x =
     (λ l. let e = from-none (start - first) length side l in absurd (omega arith))
 
 -- a line of the overlap is a line of the window that lies on the sheet
-pub common-seen : (start first length side r : ℕ) → Common (onSheet start first) length side r → Seen start first length side r
+pub common-seen : (start first length side r : ℕ) → Common (onSheet start first) length side r → SeenLine start first length side r
 common-seen start first length side r x =
     split start first
     (λ h. before-seen start first length side r h (subst (λ z. Common z length side r) (on-before start first h) x))
     (λ h. from-seen start first length side r h (subst (λ z. Common z length side r) (on-from start first h) x))
 
-seen-before : (start first length side r : ℕ) → start < first → Seen start first length side r → Common (negsuc (first - suc start)) length side r
+seen-before : (start first length side r : ℕ) → start < first → SeenLine start first length side r → Common (negsuc (first - suc start)) length side r
 seen-before start first length side r h x =
     let z = not-before-zero (first - suc start) in
     let a = x .from in let b = x .to in let c = x .on in
     let e = before-some (first - suc start) length side (omega arith) in
     record { from = omega arith; to = omega arith }
 
-seen-from : (start first length side r : ℕ) → first ≤ start → Seen start first length side r → Common (pos (start - first)) length side r
+seen-from : (start first length side r : ℕ) → first ≤ start → SeenLine start first length side r → Common (pos (start - first)) length side r
 seen-from start first length side r h x =
     let z = not-before-line (start - first) in
     let a = x .from in let b = x .to in let c = x .on in
@@ -105,7 +105,7 @@ seen-from start first length side r h x =
     record { from = omega arith; to = omega arith }
 
 -- and the other way
-pub seen-common : (start first length side r : ℕ) → Seen start first length side r → Common (onSheet start first) length side r
+pub seen-common : (start first length side r : ℕ) → SeenLine start first length side r → Common (onSheet start first) length side r
 seen-common start first length side r x =
     split start first
     (λ h. subst (λ z. Common z length side r) (sym (on-before start first h)) (seen-before start first length side r h x))

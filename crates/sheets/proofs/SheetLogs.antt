@@ -30,7 +30,7 @@ few m s settings =
     omega arith
 
 -- what a sound log is
-pub record SoundLog (m s : ℕ) (b : Buffers) : Type 0 where
+pub record SheetLogSound (m s : ℕ) (b : Buffers) : Type 0 where
   pub there : b .used ≤ room (b .logKeys) (b .logValues)
   pub within : b .inForce ≤ b .used
   pub force : isSound m s (recordsOf (b .logKeys) (b .logValues) (b .inForce)) ≡ true
@@ -49,7 +49,7 @@ module _ (m s : ℕ) (b : Buffers) where
   abbrev redo-test : Bool
   redo-test = isSound m s (toRedo (b .logKeys) (b .logValues) (b .used) (b .inForce))
 
-  pub log-to : HasLog m s b → SoundLog m s b
+  pub log-to : HasLog m s b → SheetLogSound m s b
   unfolding noLog
   log-to e =
       let all = not-false (there-test && within-test && force-test && redo-test) e in
@@ -62,7 +62,7 @@ module _ (m s : ℕ) (b : Buffers) where
         redo = and-right (there-test && within-test && force-test) redo-test all;
       }
 
-  pub log-from : SoundLog m s b → HasLog m s b
+  pub log-from : SheetLogSound m s b → HasLog m s b
   unfolding noLog
   log-from x =
       ap not

@@ -43,7 +43,7 @@ use Rattle.history.proofs.PaintStep.{withStep, paint-done}
 use Rattle.sheets.specs.Calls.{SheetHolds}
 use Rattle.sheets.specs.Paints.{HasLog, LastStepOn}
 use Rattle.sheets.proofs.SheetCalls.{has-list, has-summary}
-use Rattle.sheets.proofs.SheetLogs.{few, SoundLog, log-to, log-from, in-slices, room-kept, held-fits}
+use Rattle.sheets.proofs.SheetLogs.{few, SheetLogSound, log-to, log-from, in-slices, room-kept, held-fits}
 
 -- pictures that agree on the raster are held alike
 pub holds-agree : {m s : ℕ} {b : Buffers} (p q : Picture) → Agree p q m 0 0 → SheetHolds m s p b → SheetHolds m s q b
@@ -146,7 +146,7 @@ module _ (m s : ℕ) (p : Picture) (b : Buffers) (settings : badSettings m s ≡
     log-after : ShownInSlices (recordsOf (b .logKeys) (b .logValues) (b .inForce) ++ groupOf m p w f) (painted .inForce) (painted .logKeys) (painted .logValues)
     log-after = shown-logged (b .used) (groupOf m p w f) log-shown
 
-    painted-log : SoundLog m s painted
+    painted-log : SheetLogSound m s painted
     painted-log =
         let all = shown-records log-after in
         let within = shown-room log-after in

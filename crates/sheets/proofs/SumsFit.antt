@@ -14,7 +14,7 @@ use Rattle.definitions.specs.Picture.{Picture}
 use Rattle.definitions.specs.Window.{isWindow, featuresIn, selectIn}
 use Rattle.definitions.specs.Area.{countOf, areaIn, sumBelow}
 use Rattle.definitions.specs.declared.Window.{Window}
-use Rattle.laws.proofs.SelectArea.{pixelsOf, selected-area}
+use Rattle.laws.proofs.SelectArea.{pixelsOfBlocks, selected-area}
 use Rattle.laws.proofs.RasterOf.{rows-length}
 use Rattle.sheets.specs.Ground.{Ground, insideGround, sheetsFor, firstLine, sheetPicture, sheetWindow}
 use Rattle.sheets.specs.Together.{sumSheets, areaSheets, selectSheets}
@@ -54,8 +54,8 @@ area-fits g w f lies low narrow =
     omega arith
 
 -- blocks are no more than the pixels that they have
-length-pixels : (m : ℕ) (keys : List ℕ) → length keys ≤ pixelsOf m keys
-unfolding pixelsOf
+length-pixels : (m : ℕ) (keys : List ℕ) → length keys ≤ pixelsOfBlocks m keys
+unfolding pixelsOfBlocks
 length-pixels m [] = omega arith
 length-pixels m (κ ∷ keys) = let a = one-le-pow (heightOf m κ) 4 (lit< tt) in let b = length-pixels m keys in omega arith
 

@@ -30,7 +30,7 @@ use Rattle.walk.specs.declared.Spot.{Spot}
 use Rattle.walk.specs.Walk.{BlockSpot}
 use Rattle.walk.specs.Given.{keysWith}
 use Rattle.walk.proofs.Asked.{asked-place}
-use Rattle.walk.proofs.Content.{with-none, with-give, with-pass, content-list, one-key, one-nothing}
+use Rattle.walk.proofs.Content.{with-none, with-give, with-pass, content-at-spot, one-key, one-nothing}
 use Rattle.sift.specs.Sift.{keysUntil}
 use Rattle.sift.proofs.Until.{until-none, until-stop, until-give, until-pass}
 
@@ -89,7 +89,7 @@ module _
           ap (keysUntil end bit) from-place
           ∙ ap (λ x. keysUntil x bit (listOf p (h .height) (s .row) (s .column) (s .key) ++ at-place .placed .after)) g
           ∙ until-with (s .key + 5 ^ h .height) bit _ _ (list-ascends p (h .height) (s .row) (s .column) (s .key)) (at-place .placed .keys-after)
-          ∙ ap (keysWith bit) (sym (content-list p h))
+          ∙ ap (keysWith bit) (sym (content-at-spot p h))
 
     -- a block inside a leaf
     module _ (leaf level : ℕ) (is : standingOf m (s .key) (recordsOf keys bits n) ≡ Inside place leaf level) where

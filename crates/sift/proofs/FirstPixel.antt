@@ -68,7 +68,7 @@ end-past {m} row column low narrow (at-end e) past = let h = pixelKey-lt m row c
 end-past row column low narrow (at-block b high) past = first-past row column b low narrow past
 
 -- a valid key's block ends where another begins, or with the map
-pub after : (m w : ℕ) → validKey m w ≡ true → Next m 0 0 0 (heightOf m w) (endOf m w)
+after : (m w : ℕ) → validKey m w ≡ true → Next m 0 0 0 (heightOf m w) (endOf m w)
 after m w v = next-block (valid-block m w v)
 
 pub past-end : (m w row column : ℕ) → validKey m w ≡ true → row < 2 ^ m → column < 2 ^ m → endOf m w ≤ pixelKey m row column

@@ -8,7 +8,7 @@ use lib.ListN.{length, length-append, length-map}
 use Rattle.keys.proofs.Cases.{decide}
 use Rattle.definitions.specs.Covered.{isCovered}
 use Rattle.walk.specs.Given.{writtenAt, written}
-use Rattle.walk.proofs.Written.{written-none, written-one, written-append, length-written}
+use Rattle.walk.proofs.Written.{written-none, written-one-key, written-append, length-written}
 use Rattle.sift.specs.declared.Sifting.{Sifting}
 use Rattle.sift.specs.Covering.{WaiversPassed}
 use Rattle.sift.specs.Sift.{notWaived, SiftReady, FindingsCounted, Sifted}
@@ -63,7 +63,7 @@ module _ (m limit id : ℕ) (waived : List ℕ) where
       }
 
   written-single : (answer : List ℕ) (place number : ℕ) → writtenAt limit answer place number ≡ written limit answer place (number ∷ [])
-  written-single answer place number = sym (written-one limit answer place number [] ∙ written-none limit _ _)
+  written-single answer place number = sym (written-one-key limit answer place number [] ∙ written-none limit _ _)
 
   -- one that is not
   pub counted-live : (key : ℕ) (at r : Sifting) (ids ids′ keys keys′ : List ℕ) → isCovered m waived key ≡ false → r .live ≡ at .live + 1 → r .hidden ≡ at .hidden

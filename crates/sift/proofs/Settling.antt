@@ -52,12 +52,12 @@ pub none-passed : (m : ℕ) (waived : List ℕ) (x : ℕ) → WaiversPassed m wa
 none-passed m waived x = record { room = omega arith; before = no-waiver; furthest = sym (furthest-none m 0) }
 
 -- along the slice: the waivers before the place are passed, and what is left over the rest is what it was at the start
-pub record Going (m : ℕ) (waived : List ℕ) (first from end place far next : ℕ) : Type 0 where
+pub record SettlingGoes (m : ℕ) (waived : List ℕ) (first from end place far next : ℕ) : Type 0 where
   pub passed : WaiversPassed m waived place far end
   pub left : nextOf m next (drop place waived) ≡ nextOf m first (drop from waived)
 
 module _ {m : ℕ} (waived : List ℕ) where
-  pub begins : {from far : ℕ} (key first next end : ℕ) → next ≡ first → key ≤ end → WaiversPassed m waived from far key → Going m waived first from end from far next
+  pub begins : {from far : ℕ} (key first next end : ℕ) → next ≡ first → key ≤ end → WaiversPassed m waived from far key → SettlingGoes m waived first from end from far next
   begins {from} key first next end e h p =
       record {
         passed = passed-widen end p h;
@@ -65,9 +65,9 @@ module _ {m : ℕ} (waived : List ℕ) where
       }
 
   -- past one waiver more
-  pub goes : {first from end place far next : ℕ} → Going m waived first from end place far next → place < length waived
+  pub goes : {first from end place far next : ℕ} → SettlingGoes m waived first from end place far next → place < length waived
       → (w far₁ next₁ : ℕ) → w ≡ getD waived place 0 → w < end → far₁ ≡ further far (endOf m w) → next₁ ≡ nextOver m next w
-      → Going m waived first from end (place + 1) far₁ next₁
+      → SettlingGoes m waived first from end (place + 1) far₁ next₁
   goes {end = end} {place} {far} {next} g room w far₁ next₁ is below e f =
       let took : take (place + 1) waived ≡ take place waived ++ (w ∷ []) = ap (λ i. take i waived) (add-one place) ∙ take-suc waived place 0 room ∙ ap (λ x. take place waived ++ (x ∷ [])) (sym is) in
       let rest : drop place waived ≡ w ∷ drop (place + 1) waived = drop-cons waived place 0 room ∙ ap (λ x. x ∷ drop (suc place) waived) (sym is) ∙ ap (λ i. w ∷ drop i waived) (sym (add-one place)) in
@@ -82,7 +82,7 @@ module _ {m : ℕ} (waived : List ℕ) where
 
   -- what is left past the end of the block says whether it is covered
   pub settled : {from far₀ place far next : ℕ} (key : ℕ) → validKey m key ≡ true → Waived m 0 waived → WaiversPassed m waived from far₀ key
-      → Going m waived (startOf m far₀ key) from (endOf m key) place far next
+      → SettlingGoes m waived (startOf m far₀ key) from (endOf m key) place far next
       → Waived m (endOf m key) (drop place waived)
       → leb (endOf m key) next ≡ isCovered m waived key
   settled {from} {far₀} {place} {far} {next} key v t p g rest =

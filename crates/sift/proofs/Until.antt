@@ -7,7 +7,7 @@ use lib.ListN.{length, getD, drop}
 use borrow.Author.Tests.{lt-ltb, le-ltb, eq-eqb, ne-eqb}
 use Rattle.definitions.specs.List.{Record, recordOf}
 use Rattle.definitions.specs.Read.{recordsOf}
-use Rattle.walk.proofs.RecordsFrom.{records-drop, records-end}
+use Rattle.walk.proofs.RecordsFrom.{records-drop, records-past-end}
 use Rattle.sift.specs.Sift.{keysUntil}
 
 pub until-none : (end bits : ℕ) → keysUntil end bits [] ≡ []
@@ -35,7 +35,7 @@ rest keys bits n end bit i = keysUntil end bit (drop i (recordsOf keys bits n))
 
 -- past the last record it gives nothing
 pub past-last : (keys bits : List ℕ) (n end bit i : ℕ) → n ≤ i → rest keys bits n end bit i ≡ []
-past-last keys bits n end bit i h = ap (keysUntil end bit) (records-end keys bits n i h) ∙ until-none end bit
+past-last keys bits n end bit i h = ap (keysUntil end bit) (records-past-end keys bits n i h) ∙ until-none end bit
 
 -- and what it gives goes by the record at the place
 module _ (keys bits : List ℕ) (n end bit i : ℕ) (inside : i < n) (fits : n ≤ length keys) (room : n ≤ length bits) where

@@ -9,7 +9,7 @@ use Rattle.keys.specs.Block.{inBlock, inInterval}
 use Rattle.keys.proofs.Cases.{decide, or-left}
 use Rattle.keys.specs.Under.{MapBlock, Every}
 use Rattle.keys.proofs.Valid.{valid-block}
-use Rattle.keys.proofs.Interval.{within, apart}
+use Rattle.keys.proofs.Interval.{within, intervals-apart}
 use Rattle.keys.proofs.Powers.{five-pos}
 use Rattle.keys.proofs.Pixel.{inside}
 use Rattle.keys.proofs.InBlock.{inBlock-iff, inInterval-iff}
@@ -48,7 +48,7 @@ apart-none m {k} {r} {c} {κ} x u valid e f a b w =
     let v = valid-block m x valid in
     let i = inside v (inBlock-iff a b v .0 t) in
     let j = inside u w in
-    apart u v
+    intervals-apart u v
     (λ h. absurd (true≢false (sym (interval-iff u v .1 h) ∙ f)))
     (λ h. absurd (true≢false (sym (interval-iff v u .1 h) ∙ e)))
     (λ h. absurd (omega arith))

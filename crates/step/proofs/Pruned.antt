@@ -43,7 +43,7 @@ leaf-after t p k r c e a b w =
     (λ h. over-out t (plain (stepOver t p r c)) a b h ∙ sym (one-to (stepOver t p) k r c e a b w))
 
 -- a block of one feature is one record, with its bits
-pub one-record : (q : Picture) (k r c κ : ℕ) → oneFeature q k r c ≡ true → recordOf κ (bitsOf q k r c) ∷ [] ≡ listOf q k r c κ
+one-record : (q : Picture) (k r c κ : ℕ) → oneFeature q k r c ≡ true → recordOf κ (bitsOf q k r c) ∷ [] ≡ listOf q k r c κ
 one-record q k r c κ e = ap (λ b. recordOf κ b ∷ []) (bits-one q k r c e) ∙ sym (list-one q k r c κ e)
 
 same-node : {x x′ : Record} {a b c d a′ b′ c′ d′ : List Record} → x ≡ x′ → a ≡ a′ → b ≡ b′ → c ≡ c′ → d ≡ d′

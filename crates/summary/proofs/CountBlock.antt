@@ -23,7 +23,7 @@ use Rattle.list.specs.Own.{OwnList, shownBy}
 use Rattle.list.specs.Among.{placeAmong}
 use Rattle.list.specs.Shown.{ShownAt}
 use Rattle.list.proofs.Own.{own-place, own-bits}
-use Rattle.list.proofs.Shown.{slot-one, slot-several, slot-feature, block-shown}
+use Rattle.list.proofs.Shown.{slot-one, slot-several, shown-feature, block-shown}
 use Rattle.summary.specs.Count.{withPixels, CountersFit, NodeAt, NodeCounted}
 use Rattle.summary.proofs.CountTurn.{added-length, leaf-added, shown-node, shown-counted}
 
@@ -72,7 +72,7 @@ module _ {m : ℕ} {keys bits : List ℕ} {n : ℕ} (o : OwnList m keys bits n) 
         raised (shownBy m keys bits n) (heightOf m key) (rowOf m key) (columnOf m key) counts
         (ap length e ∙ added-length (replicate 32 0) (featureOf (getD bits found 0)) area)
         (λ f i.
-        ap (λ l. getD l f 0) (e ∙ ap₂ (λ g a. withPixels (replicate 32 0) g a) (ap featureOf own-is ∙ slot-feature _ (heightOf m key) (rowOf m key) (columnOf m key) leaf) pixels)
+        ap (λ l. getD l f 0) (e ∙ ap₂ (λ g a. withPixels (replicate 32 0) g a) (ap featureOf own-is ∙ shown-feature _ (heightOf m key) (rowOf m key) (columnOf m key) leaf) pixels)
         ∙ leaf-added (shownBy m keys bits n) (heightOf m key) (rowOf m key) (columnOf m key) (replicate 32 0) f (slot-one _ (heightOf m key) (rowOf m key) (columnOf m key) leaf) refl i)
 
     -- the block has several, so it is listed

@@ -112,21 +112,21 @@ shown-slots {p} {k} {r} {c} s =
     omega arith
 
 -- after some turns: the quadrants that are left follow, and the counters have the pixels of those before
-pub record Passed (p : Picture) (k r c κ : ℕ) (bits : List ℕ) (at : ℕ) (counts₀ counts : List ℕ) (next d : ℕ) : Type 0 where
+pub record CountPassed (p : Picture) (k r c κ : ℕ) (bits : List ℕ) (at : ℕ) (counts₀ counts : List ℕ) (next d : ℕ) : Type 0 where
   pub left : Left p k r c κ bits at next d
   pub counted : (f : ℕ) → f < 32 → getD counts f 0 ≡ getD counts₀ f 0 + firstPixels p k r c d f
 
 -- the same of whichever node the bitstrings show
-pub record Reached (bits counts₀ : List ℕ) (at area : ℕ) (counts : List ℕ) (next d : ℕ) : Type 0 where
+pub record CountReached (bits counts₀ : List ℕ) (at area : ℕ) (counts : List ℕ) (next d : ℕ) : Type 0 where
   pub most : d ≤ 4
   pub long : length counts ≡ length counts₀
   pub passed : (p : Picture) (k r c κ : ℕ)
       → ShownAt p (suc k) r c κ bits at
       → oneFeature p (suc k) r c ≡ false
       → area ≡ 4 ^ suc k
-      → Passed p k r c κ bits at counts₀ counts next d
+      → CountPassed p k r c κ bits at counts₀ counts next d
 
-pub reached-none : (bits counts : List ℕ) (at area : ℕ) → Reached bits counts at area counts (at + 1) 0
+pub reached-none : (bits counts : List ℕ) (at area : ℕ) → CountReached bits counts at area counts (at + 1) 0
 reached-none bits counts at area = record {
   most = omega arith;
   long = refl;
@@ -139,7 +139,7 @@ reached-none bits counts at area = record {
 pub quarter-is : (area k : ℕ) → area ≡ 4 ^ suc k → area / 4 ≡ 4 ^ k
 quarter-is area k e = let f = pow-suc 4 k in omega arith
 
-module _ {bits counts₀ : List ℕ} {at area : ℕ} {counts : List ℕ} {next d : ℕ} (x : Reached bits counts₀ at area counts next d) where
+module _ {bits counts₀ : List ℕ} {at area : ℕ} {counts : List ℕ} {next d : ℕ} (x : CountReached bits counts₀ at area counts next d) where
   -- one quadrant more
   turned : (counts′ : List ℕ) (next′ : ℕ) → d < 4
       → length counts′ ≡ length counts
@@ -147,7 +147,7 @@ module _ {bits counts₀ : List ℕ} {at area : ℕ} {counts : List ℕ} {next d
       → ShownAt p k (quadrantRow d r (2 ^ k)) (quadrantColumn d c (2 ^ k)) (childKey κ k (suc d)) bits next
       → area / 4 ≡ 4 ^ k
       → BlockCounted p k (quadrantRow d r (2 ^ k)) (quadrantColumn d c (2 ^ k)) (childKey κ k (suc d)) next counts counts′ next′)
-      → Reached bits counts₀ at area counts′ next′ (d + 1)
+      → CountReached bits counts₀ at area counts′ next′ (d + 1)
   turned counts′ next′ h same one = record {
     most = omega arith;
     long = same ∙ x .long;
@@ -169,7 +169,7 @@ module _ {bits counts₀ : List ℕ} {at area : ℕ} {counts : List ℕ} {next d
       → oneSlot (getD bits next 0) ≡ true
       → counts′ ≡ withPixels counts (featureOf (getD bits next 0)) (area / 4)
       → next′ ≡ next + 1
-      → Reached bits counts₀ at area counts′ next′ (d + 1)
+      → CountReached bits counts₀ at area counts′ next′ (d + 1)
   leaf-turn counts′ next′ h long leaf e one =
       turned counts′ next′ h (ap length e ∙ length-set counts _ _)
       (λ p k r c κ s q.
@@ -189,7 +189,7 @@ module _ {bits counts₀ : List ℕ} {at area : ℕ} {counts : List ℕ} {next d
       → NodeCounted bits next quarter counts counts′ next′
       → counts″ ≡ counts′
       → next″ ≡ next′
-      → Reached bits counts₀ at area counts″ next″ (d + 1)
+      → CountReached bits counts₀ at area counts″ next″ (d + 1)
   node-turn counts′ counts″ next′ next″ quarter h is node y same same′ =
       rw (same, same′) (turned counts′ next′ h (y .long) (λ p k r c κ s q. shown-counted y s node (sym is ∙ q)))
 
@@ -208,7 +208,7 @@ module _ {bits counts₀ : List ℕ} {at area : ℕ} {counts : List ℕ} {next d
 
   -- what the code may do at a turn, since the bitstrings show some node
   module _ (node : NodeAt bits at area) (h : d < 4) where
-    now-passed : Passed (node .picture) (node .height) (node .row) (node .column) (node .key) bits at counts₀ counts next d
+    now-passed : CountPassed (node .picture) (node .height) (node .row) (node .column) (node .key) bits at counts₀ counts next d
     now-passed = x .passed _ _ _ _ _ (node .shown) (node .several) (node .pixels)
 
     pub next-room : next < length bits

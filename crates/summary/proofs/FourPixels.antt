@@ -8,7 +8,7 @@ use lib.ListN.{length, getD}
 use Rattle.definitions.specs.Bits.{featureOf}
 use Rattle.list.specs.Check.{oneSlot}
 use Rattle.summary.specs.Count.{withPixels, CountersFit, NodeAt, NodeCounted}
-use Rattle.summary.proofs.CountTurn.{Reached, reached-none, reached-all, leaf-turn, next-room, counts-room, pixel-leaf}
+use Rattle.summary.proofs.CountTurn.{CountReached, reached-none, reached-all, leaf-turn, next-room, counts-room, pixel-leaf}
 
 -- the counters after one leaf more
 abbrev pub withLeaf : List ℕ → List ℕ → ℕ → List ℕ
@@ -16,13 +16,13 @@ withLeaf bits counts place = withPixels counts (featureOf (getD bits place 0)) 1
 
 -- after d leaves, at the place of the next one
 pub record Turn (bits counts₀ : List ℕ) (at : ℕ) (counts : List ℕ) (next d : ℕ) : Type 0 where
-  pub reached : Reached bits counts₀ at 4 counts next d
+  pub reached : CountReached bits counts₀ at 4 counts next d
   pub there : next < length bits
   pub leaf : oneSlot (getD bits next 0) ≡ true
   pub fits : CountersFit counts 1
 
 module _ {bits counts₀ : List ℕ} {at : ℕ} (node : NodeAt bits at 4) (room : CountersFit counts₀ 4) where
-  turn : {counts : List ℕ} {next d : ℕ} → Reached bits counts₀ at 4 counts next d → d < 4 → Turn bits counts₀ at counts next d
+  turn : {counts : List ℕ} {next d : ℕ} → CountReached bits counts₀ at 4 counts next d → d < 4 → Turn bits counts₀ at counts next d
   turn x h = record { reached = x; there = next-room x node h; leaf = pixel-leaf x node h refl; fits = counts-room x node h room }
 
   -- one leaf more was counted
@@ -31,7 +31,7 @@ module _ {bits counts₀ : List ℕ} {at : ℕ} (node : NodeAt bits at 4) (room 
       → d < 4
       → counts′ ≡ withLeaf bits counts next
       → next′ ≡ next + 1
-      → Reached bits counts₀ at 4 counts′ next′ (d + 1)
+      → CountReached bits counts₀ at 4 counts′ next′ (d + 1)
   counted next′ x h e one = leaf-turn (x .reached) _ next′ h (room .long) (x .leaf) e one
 
   pub turn-nw : Turn bits counts₀ at counts₀ (at + 1) 0

@@ -16,7 +16,7 @@ use Rattle.keys.specs.Block.{rowOf, columnOf}
 use Rattle.definitions.specs.Picture.{Picture}
 use Rattle.definitions.specs.Area.{countsOf, summaryLevel, summaryHeight, summaryLength, summaryOf, blockKey, sameNumbers, noSummary}
 use Rattle.laws.proofs.SummaryOf.{summary-length}
-use Rattle.laws.proofs.SameNumbers.{same-to, same-from, summary-right, summary-wrong}
+use Rattle.laws.proofs.SameNumbers.{same-numbers-to, same-from, summary-right, summary-wrong}
 use Rattle.summary.proofs.Renewed.{counts-part}
 
 -- the places of the first b blocks are right
@@ -57,7 +57,7 @@ module _ (m s : ℕ) (p : Picture) (summary : List ℕ) where
         → FirstRight m s p summary (b + 1)
     block-right before r is yes′ =
         let next : (b + 1) * s ≡ b * s + s = ap (λ n. n * s) (add-one b) ∙ suc-mul b s in
-        let part : take s (drop (b * s) summary) ≡ take s (drop (b * s) (summaryOf m s p)) = sym (same-to _ _ (sym is ∙ not-false r yes′)) ∙ counts-part m s p b counts h few e in
+        let part : take s (drop (b * s) summary) ≡ take s (drop (b * s) (summaryOf m s p)) = sym (same-numbers-to _ _ (sym is ∙ not-false r yes′)) ∙ counts-part m s p b counts h few e in
         record {
           places = ap (λ n. take n summary) next
               ∙ take-add (b * s) s summary

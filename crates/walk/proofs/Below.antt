@@ -27,14 +27,14 @@ use Rattle.walk.proofs.Lies.{InSpot, apart-pixel}
 use Rattle.walk.proofs.Steps.{Parent, nothing-between}
 use Rattle.walk.proofs.SpotBits.{bitsAt, no-slot-pixel}
 use Rattle.walk.proofs.Lower.{lower-all, lower-none, lower-gap, lower-length, ascending-length}
-use Rattle.walk.proofs.Largest.{blank, AllInside, within-all, all-within, not-broken}
+use Rattle.walk.proofs.Largest.{blankPicture, AllInside, within-all, all-within, not-broken}
 use Rattle.walk.proofs.Skip.{Alone, select-skip}
 use Rattle.walk.proofs.LeafKeys.{leaves-selected}
-use Rattle.walk.proofs.Content.{content-list}
+use Rattle.walk.proofs.Content.{content-at-spot}
 
 -- a given block lies in the window
 pub given-all : (p : Picture) (w : Window) (f k r c : ℕ) → isGiven p w f k r c ≡ true → AllInside w k r c
-given-all p w f k r c given = given-of blank w 0 k r c (λ row column i. (given-inside p w f k r c given i, refl))
+given-all p w f k r c given = given-of blankPicture w 0 k r c (λ row column i. (given-inside p w f k r c given i, refl))
 
 module _ (m : ℕ) (p : Picture) (w : Window) (f : ℕ) where
   -- at a largest block no block around it is given
@@ -55,7 +55,7 @@ module _ (m : ℕ) (p : Picture) (w : Window) (f : ℕ) where
       ap (λ x. lower (s .key + x) (selectFrom p w f m 0 0 rootKey)) (i .step)
       ∙ select-skip p w f (i .block) (largest-apart h)
       ∙ ap (λ l. lower (s .key) (selectFrom p w f m 0 0 rootKey) ++ l)
-      (sym (leaves-selected p w f (i .height) (s .row) (s .column) (s .key) (within-all w {s = s} i e)) ∙ ap (keysWith (2 ^ f)) (sym (content-list p i)))
+      (sym (leaves-selected p w f (i .height) (s .row) (s .column) (s .key) (within-all w {s = s} i e)) ∙ ap (keysWith (2 ^ f)) (sym (content-at-spot p i)))
 
   -- a selected block has a pixel of the window among its keys
   selected-pixel {ℓ} : {C : Type ℓ} {z : ℕ} (t : Selected p w f m 0 0 0 z)

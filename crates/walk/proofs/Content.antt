@@ -41,9 +41,9 @@ with-append bits (e ∷ a) b =
     (λ other. with-pass bits e (a ++ b) other ∙ with-append bits a b ∙ ap (λ l. l ++ keysWith bits b) (sym (with-pass bits e a other)))
 
 -- the content of the spot's block is its list
-pub content-list : (p : Picture) {m : ℕ} {s : Spot} (h : BlockSpot m s) → contentOf m p (s .key) ≡ listOf p (h .height) (s .row) (s .column) (s .key)
+pub content-at-spot : (p : Picture) {m : ℕ} {s : Spot} (h : BlockSpot m s) → contentOf m p (s .key) ≡ listOf p (h .height) (s .row) (s .column) (s .key)
 unfolding contentOf
-content-list p h = let i = block-valid (h .block) in rw (i .height, i .row, i .column)
+content-at-spot p h = let i = block-valid (h .block) in rw (i .height, i .row, i .column)
 
 -- a block of one feature is one record with the bits at its place, and is given where those are the bits
 module _ {m : ℕ} {keys bits : List ℕ} {n : ℕ} (o : OwnList m keys bits n) {s : Spot} (h : BlockSpot m s) (bit place : ℕ) (is : place ≡ placeAmong (s .key) (take n keys)) where
@@ -51,7 +51,7 @@ module _ {m : ℕ} {keys bits : List ℕ} {n : ℕ} (o : OwnList m keys bits n) 
     one-content : contentOf m (shownBy m keys bits n) (s .key) ≡ recordOf (s .key) (getD bits place 0) ∷ []
     one-content =
         let p = shownBy m keys bits n in
-        content-list p h
+        content-at-spot p h
         ∙ list-one p (h .height) (s .row) (s .column) (s .key) one
         ∙ ap (λ v. recordOf (s .key) v ∷ []) (sym (asked-place o (h .block) place is .value ∙ bits-one p (h .height) (s .row) (s .column) one))
 

@@ -17,12 +17,12 @@ use Rattle.walk.specs.Walk.{BlockSpot, isWithin, Parting}
 use Rattle.walk.proofs.Lies.{inside-within, within-pixel}
 
 -- a picture of one feature
-abbrev pub blank : Picture
-blank row column = 0
+abbrev pub blankPicture : Picture
+blankPicture row column = 0
 
 -- the keys of the largest blocks of a window, in ascending order
-unfoldable pub largestBlocks : ℕ → Window → List ℕ
-largestBlocks m w = selectIn m blank w 0
+unfoldable pub blankBlocks : ℕ → Window → List ℕ
+blankBlocks m w = selectIn m blankPicture w 0
 
 -- the spot of a block
 abbrev pub spotOf : ℕ → ℕ → ℕ → ℕ → Spot
@@ -33,21 +33,21 @@ spot-stands {k = k} b = record { height = k; block = b; side = refl; step = refl
 
 -- all pixels of the block lie in the window
 abbrev pub AllInside : Window → ℕ → ℕ → ℕ → Type 0
-AllInside w k r c = isGiven blank w 0 k r c ≡ true
+AllInside w k r c = isGiven blankPicture w 0 k r c ≡ true
 
 -- a block whose rows and columns are the window's has its pixels there
 pub within-all : {m : ℕ} (w : Window) {s : Spot} (h : BlockSpot m s) → isWithin s w ≡ true → AllInside w (h .height) (s .row) (s .column)
 within-all w {s} h e =
-    given-of blank w 0 (h .height) (s .row) (s .column) (λ row column i. (within-pixel s w row column e (omega (arith, h .side)), refl))
+    given-of blankPicture w 0 (h .height) (s .row) (s .column) (λ row column i. (within-pixel s w row column e (omega (arith, h .side)), refl))
 
 -- a block whose pixels lie in the window has its rows and columns there: those of its first and of its last pixel
 pub all-within : {m : ℕ} (w : Window) {s : Spot} (h : BlockSpot m s) → AllInside w (h .height) (s .row) (s .column) → isWithin s w ≡ true
 all-within w {s} h e =
     let some = two-pos (h .height) in
-    let first = inside-window w _ _ (given-inside blank w 0 (h .height) (s .row) (s .column) {row = s .row} {column = s .column} e (omega arith)) in
+    let first = inside-window w _ _ (given-inside blankPicture w 0 (h .height) (s .row) (s .column) {row = s .row} {column = s .column} e (omega arith)) in
     let row = s .row + s .side - 1 in
     let column = s .column + s .side - 1 in
-    let last = inside-window w row column (given-inside blank w 0 (h .height) (s .row) (s .column) {row = row} {column = column} e (omega (arith, h .side))) in
+    let last = inside-window w row column (given-inside blankPicture w 0 (h .height) (s .row) (s .column) {row = row} {column = column} e (omega (arith, h .side))) in
     inside-within s w (omega (arith, h .side))
 
 -- a block with all its pixels in the window begins or ends at a key where the walk can stand, or lies to one side of it

@@ -22,7 +22,7 @@ use Rattle.laws.proofs.SelectMeans.{given-inside, given-feature, given-of, give
 use Rattle.laws.proofs.FourLists.{same-lists}
 use Rattle.walk.specs.Given.{keysWith}
 use Rattle.walk.proofs.Content.{with-none, with-give, with-pass, with-append}
-use Rattle.walk.proofs.Largest.{blank, AllInside}
+use Rattle.walk.proofs.Largest.{blankPicture, AllInside}
 
 nothing-four : {a b c d : List ℕ} → a ≡ [] → b ≡ [] → c ≡ [] → d ≡ [] → a ++ (b ++ (c ++ d)) ≡ []
 nothing-four e f g h = ap₂ (λ x y. x ++ y) e (ap₂ (λ x y. x ++ y) f (ap₂ (λ x y. x ++ y) g h))
@@ -36,7 +36,7 @@ module _ (p : Picture) (w : Window) (f : ℕ) where
   -- a block of feature f in the window is given
   one-given : (k r c : ℕ) → AllInside w k r c → oneFeature p k r c ≡ true → p r c ≡ f → isGiven p w f k r c ≡ true
   one-given k r c inside one has =
-      given-of p w f k r c (λ row column i. (given-inside blank w 0 k r c inside i, one-to p k r c one row column i ∙ has))
+      given-of p w f k r c (λ row column i. (given-inside blankPicture w 0 k r c inside i, one-to p k r c one row column i ∙ has))
 
   given-one : (k r c : ℕ) → isGiven p w f k r c ≡ true → (oneFeature p k r c ≡ true) × (p r c ≡ f)
   given-one k r c given =
@@ -72,7 +72,7 @@ module _ (p : Picture) (w : Window) (f : ℕ) where
 
   -- all pixels of a quadrant of a block in the window lie in the window
   inside-quadrant : {k r c κ r′ c′ κ′ : ℕ} → AllInside w (suc k) r c → Quadrant k r c κ r′ c′ κ′ → AllInside w k r′ c′
-  inside-quadrant inside q = given-under blank w 0 (quadrant-under q) inside
+  inside-quadrant inside q = given-under blankPicture w 0 (quadrant-under q) inside
 
   -- in a block in the window select gives the records of its list with that slot alone
   pub leaves-selected : (k r c κ : ℕ) → AllInside w k r c → keysWith (2 ^ f) (listOf p k r c κ) ≡ selectFrom p w f k r c κ

@@ -8,7 +8,7 @@ use lib.ListN.{length}
 use borrow.Author.Tests.{lt-ltb, le-ltb}
 use Rattle.keys.proofs.Cases.{split}
 use Rattle.walk.specs.Given.{lower}
-use Rattle.laws.proofs.AscendingKeys.{AscendingKeys, no-key, key, ascending-bounds}
+use Rattle.laws.proofs.AscendingKeys.{AscendingKeys, no-key, key, keys-bounds}
 
 lower-nil : (x : ℕ) → lower x [] ≡ []
 unfolding lower
@@ -32,7 +32,7 @@ lower-append x (y ∷ a) b =
 -- keys that are all below
 pub lower-all : (x : ℕ) {lo hi : ℕ} {l : List ℕ} → AscendingKeys lo hi l → hi ≤ x → lower x l ≡ l
 lower-all x (no-key h) j = lower-nil x
-lower-all x (key {x = y} h t) j = let b = ascending-bounds t in lower-yes x y _ (omega arith) ∙ ap (λ l. y ∷ l) (lower-all x t j)
+lower-all x (key {x = y} h t) j = let b = keys-bounds t in lower-yes x y _ (omega arith) ∙ ap (λ l. y ∷ l) (lower-all x t j)
 
 -- keys that are all at or past the bound
 pub lower-none : (x : ℕ) {lo hi : ℕ} {l : List ℕ} → AscendingKeys lo hi l → x ≤ lo → lower x l ≡ []

@@ -11,7 +11,7 @@ use Rattle.keys.proofs.Cases.{decide, split}
 use Rattle.keys.proofs.Powers.{five-pos, five-le}
 use Rattle.keys.specs.Under.{Under, here, Quadrant, is-nw, is-ne, is-sw, is-se, InSquare}
 use Rattle.keys.proofs.Under.{under-trans, quadrant-under}
-use Rattle.keys.proofs.Interval.{within, apart, nest, one-block}
+use Rattle.keys.proofs.Interval.{within, intervals-apart, nest, one-block}
 use Rattle.keys.proofs.Pixel.{inside}
 use Rattle.definitions.specs.Picture.{Picture}
 use Rattle.definitions.specs.Window.{inWindow, isGiven}
@@ -36,7 +36,7 @@ module _ (p : Picture) (w : Window) (f : ℕ) where
       let lower = within h in
       let own = within (quadrant-under q) in
       let z = five-pos k₁ in
-      apart u v
+      intervals-apart u v
       (λ inner. let i = within inner in
       split k₂ (suc k₁)
       (λ low. same-height h (omega arith))
@@ -66,7 +66,7 @@ module _ (p : Picture) (w : Window) (f : ℕ) where
       → (y + 5 ^ t .height ≤ x → C)
       → C
   selected-apart s t same before after =
-      apart (s .under) (t .under)
+      intervals-apart (s .under) (t .under)
       (λ u. same (largest-alone (t .largest) (s .under) (s .given) u))
       (λ u. same (sym (largest-alone (s .largest) (t .under) (t .given) u)))
       before

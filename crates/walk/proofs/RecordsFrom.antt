@@ -18,14 +18,14 @@ records-drop (κ ∷ keys) (v ∷ bits) (suc n) zero h a b = refl
 records-drop (κ ∷ keys) (v ∷ bits) (suc n) (suc i) h a b = records-drop keys bits n i (omega arith) (omega arith) (omega arith)
 
 -- past the last there is none
-pub records-end : (keys bits : List ℕ) (n i : ℕ) → n ≤ i → drop i (recordsOf keys bits n) ≡ []
+pub records-past-end : (keys bits : List ℕ) (n i : ℕ) → n ≤ i → drop i (recordsOf keys bits n) ≡ []
 unfolding paired
-records-end keys bits zero i h = none i
+records-past-end keys bits zero i h = none i
   where
     none : (i : ℕ) → drop i (paired (take zero keys) (take zero bits)) ≡ []
     none zero = refl
     none (suc i) = refl
-records-end keys bits (suc n) zero h = absurd (omega arith)
-records-end [] bits (suc n) (suc i) h = refl
-records-end (κ ∷ keys) [] (suc n) (suc i) h = refl
-records-end (κ ∷ keys) (v ∷ bits) (suc n) (suc i) h = records-end keys bits n i (omega arith)
+records-past-end keys bits (suc n) zero h = absurd (omega arith)
+records-past-end [] bits (suc n) (suc i) h = refl
+records-past-end (κ ∷ keys) [] (suc n) (suc i) h = refl
+records-past-end (κ ∷ keys) (v ∷ bits) (suc n) (suc i) h = records-past-end keys bits n i (omega arith)

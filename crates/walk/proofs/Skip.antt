@@ -13,7 +13,7 @@ use Rattle.keys.proofs.Interval.{within}
 use Rattle.definitions.specs.Picture.{Picture}
 use Rattle.definitions.specs.Window.{isGiven, selectFrom}
 use Rattle.definitions.specs.declared.Window.{Window}
-use Rattle.laws.proofs.AscendingKeys.{AscendingKeys, ascending-append, ascending-widen}
+use Rattle.laws.proofs.AscendingKeys.{AscendingKeys, keys-append, ascending-widen}
 use Rattle.laws.proofs.SelectMeans.{select-quadrants}
 use Rattle.laws.proofs.SelectAscends.{select-ascends}
 use Rattle.walk.specs.Given.{lower}
@@ -44,12 +44,12 @@ module _ (p : Picture) (w : Window) (f : ℕ) where
 
     from-three : AscendingKeys (childKey κ k 3) (childKey κ k 4 + 5 ^ k)
         (selectFrom p w f k (r + 2 ^ k) c (childKey κ k 3) ++ selectFrom p w f k (r + 2 ^ k) (c + 2 ^ k) (childKey κ k 4))
-    from-three = ascending-append (ascending-widen {hi′ = childKey κ k 4} (omega arith) (omega arith) three) four
+    from-three = keys-append (ascending-widen {hi′ = childKey κ k 4} (omega arith) (omega arith) three) four
 
     from-two : AscendingKeys (childKey κ k 2) (childKey κ k 4 + 5 ^ k)
         (selectFrom p w f k r (c + 2 ^ k) (childKey κ k 2)
         ++ (selectFrom p w f k (r + 2 ^ k) c (childKey κ k 3) ++ selectFrom p w f k (r + 2 ^ k) (c + 2 ^ k) (childKey κ k 4)))
-    from-two = ascending-append (ascending-widen {hi′ = childKey κ k 3} (omega arith) (omega arith) two) from-three
+    from-two = keys-append (ascending-widen {hi′ = childKey κ k 3} (omega arith) (omega arith) two) from-three
 
   -- passing a block adds what select gives in it
   pub select-skip : {k r c κ k′ r′ c′ κ′ : ℕ} → Under k r c κ k′ r′ c′ κ′ → Alone k r c κ k′ r′ c′ κ′

@@ -10,9 +10,9 @@ use Rattle.keys.specs.Block.{pixelKey}
 use Rattle.keys.proofs.Cases.{split}
 use Rattle.keys.proofs.Powers.{five-pos, five-le}
 use Rattle.keys.specs.Under.{MapBlock, is-nw}
-use Rattle.keys.proofs.Interval.{Same, same-block, within, apart, one-block, no-key-between}
+use Rattle.keys.proofs.Interval.{SameBlock, same-block, within, intervals-apart, one-block, no-key-between}
 use Rattle.keys.proofs.Parent.{quadrant-of}
-use Rattle.keys.proofs.Pixel.{back, pixel-block}
+use Rattle.keys.proofs.Pixel.{pixel-back, pixel-block}
 use Rattle.definitions.specs.Window.{isWindow}
 use Rattle.definitions.specs.declared.Window.{Window}
 use Rattle.walk.specs.declared.Spot.{Spot}
@@ -23,7 +23,7 @@ use Rattle.walk.proofs.Lies.{within-inside, not-within, not-apart, InSp
 
 -- two spots with one key have the same numbers
 pub one-spot : {m : ℕ} {s t : Spot} (h : BlockSpot m s) (i : BlockSpot m t) → s .key ≡ t .key
-    → Same (h .height) (s .row) (s .column) (s .key) (i .height) (t .row) (t .column) (t .key)
+    → SameBlock (h .height) (s .row) (s .column) (s .key) (i .height) (t .row) (t .column) (t .key)
 one-spot h i e = one-block (h .block) (i .block) e
 
 -- and the same side and step
@@ -46,7 +46,7 @@ pub in-spot : {m : ℕ} {s : Spot} (row column : ℕ) → BlockSpot m s → row 
     → pixelKey m row column < s .key + s .step
     → InSpot s row column
 in-spot row column h low narrow from until =
-    let i = back row column (h .block) low narrow (record { from = from; until = omega (arith, h .step) }) in
+    let i = pixel-back row column (h .block) low narrow (record { from = from; until = omega (arith, h .step) }) in
     omega (arith, h .side)
 
 -- a block apart from the window holds no pixel of it
@@ -58,7 +58,7 @@ clear-apart {m} w {s} good h e row column i from until =
 -- where the walk can stand at a block, it can stand after it
 pub parting-after : {m : ℕ} {w : Window} {s : Spot} → Walking m w s → Parting m w (s .key + s .step)
 parting-after {s} h t i e lo hi =
-    apart (h .stands .block) (i .block)
+    intervals-apart (h .stands .block) (i .block)
     (λ u. let v = within u in omega (arith, h .stands .step, i .step))
     (λ u. let v = within u in
     split (t .key) (s .key)
@@ -70,7 +70,7 @@ parting-after {s} h t i e lo hi =
 -- or after a block around it
 pub parting-whole : {m : ℕ} {w : Window} {s v : Spot} → Walking m w s → BlockSpot m v → v .key ≤ s .key → s .key + s .step ≤ v .key + v .step → Parting m w (v .key + v .step)
 parting-whole {s = s} {v = v} h j from until t i e lo hi =
-    apart (j .block) (i .block)
+    intervals-apart (j .block) (i .block)
     (λ u. let x = within u in omega (arith, j .step, i .step))
     (λ u. let x = within u in
     split (t .key) (s .key)

@@ -10,7 +10,7 @@ use borrow.Author.Tests.{eqb-true}
 use Rattle.keys.specs.Key.{rootKey, levelOf, heightOf, validKey}
 use Rattle.keys.specs.Block.{rowOf, columnOf, sideOf}
 use Rattle.keys.proofs.Cases.{decide}
-use Rattle.keys.proofs.Interval.{Same, one-block, within}
+use Rattle.keys.proofs.Interval.{SameBlock, one-block, within}
 use Rattle.keys.proofs.Valid.{block-valid, valid-block}
 use Rattle.definitions.specs.Picture.{Picture}
 use Rattle.definitions.specs.Bits.{bitsOf, hasSlot}
@@ -26,7 +26,7 @@ use Rattle.list.specs.Sorted.{Near}
 use Rattle.list.specs.Among.{keysUpTo, placeAmong}
 use Rattle.list.proofs.Count.{counted-before}
 use Rattle.list.proofs.Among.{up-to-most, place-among}
-use Rattle.list.proofs.Lookup.{InLeaf, lookup-inside}
+use Rattle.list.proofs.Lookup.{InsideLeaf, lookup-inside}
 use Rattle.list.proofs.Own.{own-ascends, own-part-some}
 use Rattle.list.proofs.Fuller.{listed-standing, inside-standing, listed-numbers, inside-numbers, listed-part, ends-after, node-records}
 use Rattle.list.proofs.PatchLeaf.{in-leaf, leaf-contains, leaf-level}
@@ -64,7 +64,7 @@ spot-of-key {m} {κ} level valid square is power =
     }
 
 -- one block has one bitstring
-same-bits : (p : Picture) {k r c κ k′ r′ c′ κ′ : ℕ} → Same k r c κ k′ r′ c′ κ′ → bitsOf p k r c ≡ bitsOf p k′ r′ c′
+same-bits : (p : Picture) {k r c κ k′ r′ c′ κ′ : ℕ} → SameBlock k r c κ k′ r′ c′ κ′ → bitsOf p k r c ≡ bitsOf p k′ r′ c′
 same-bits p same = rw (same .heights, same .rows, same .columns)
 
 module _ {m : ℕ} {keys bits : List ℕ} {n : ℕ} (low : m ≤ 10) (o : OwnList m keys bits n) {s : Spot} (h : BlockSpot m s) where
@@ -152,10 +152,10 @@ module _ {m : ℕ} {keys bits : List ℕ} {n : ℕ} (low : m ≤ 10) (o : OwnLis
 
     -- a block inside a leaf
     module _ (e : isListed (s .key) (recordsOf keys bits n) ≡ false) where
-      around : InLeaf (shownBy m keys bits n) m 0 0 rootKey (h .height) (s .row) (s .column) (s .key)
+      around : InsideLeaf (shownBy m keys bits n) m 0 0 rootKey (h .height) (s .row) (s .column) (s .key)
       around = lookup-inside (shownBy m keys bits n) (h .block) (ap (isListed (s .key)) (sym (o .own)) ∙ e)
 
-      leaf-is : Same (t .whole .height) (told .whole .row) (told .whole .column) (told .whole .key) (around .height) (around .row) (around .column) (around .at)
+      leaf-is : SameBlock (t .whole .height) (told .whole .row) (told .whole .column) (told .whole .key) (around .height) (around .row) (around .column) (around .at)
       leaf-is =
           one-block (t .whole .block) (around .under)
           (t .key ∙ ap (wholeIn (s .key)) (sym (inside-standing m (s .key) (recordsOf keys bits n) e)) ∙ ap (keyFound (s .key)) (o .own) ∙ in-leaf (h .block) around)

@@ -13,30 +13,30 @@ use Rattle.laws.proofs.AscendingKeys.{AscendingKeys}
 use Rattle.laws.proofs.SelectMeans.{Selected, select-in-exactly}
 use Rattle.laws.proofs.SelectAscends.{select-in-ascends}
 use Rattle.walk.proofs.Once.{Covered, covered-once, covered-exactly}
-use Rattle.walk.proofs.Largest.{blank, largestBlocks}
+use Rattle.walk.proofs.Largest.{blankPicture, blankBlocks}
 
 -- the largest blocks are exactly the blocks whose pixels all lie in the window and that are the root or have a parent of which this is not so
-pub largest-exactly : (m : ℕ) (w : Window) {x : ℕ} → List·Memᴰ x (largestBlocks m w) ↔ Selected blank w 0 m 0 0 0 x
-unfolding largestBlocks
-largest-exactly m w = select-in-exactly blank w 0 m
+pub largest-exactly : (m : ℕ) (w : Window) {x : ℕ} → List·Memᴰ x (blankBlocks m w) ↔ Selected blankPicture w 0 m 0 0 0 x
+unfolding blankBlocks
+largest-exactly m w = select-in-exactly blankPicture w 0 m
 
 -- they ascend
-pub largest-ascend : (m : ℕ) (w : Window) → AscendingKeys 0 (0 + 5 ^ m) (largestBlocks m w)
-unfolding largestBlocks
-largest-ascend m w = select-in-ascends m blank w 0
+pub largest-ascend : (m : ℕ) (w : Window) → AscendingKeys 0 (0 + 5 ^ m) (blankBlocks m w)
+unfolding blankBlocks
+largest-ascend m w = select-in-ascends m blankPicture w 0
 
 -- a pixel of the map lies in one of them exactly when it lies in the window
-pub largest-cover : (m : ℕ) (w : Window) {row column : ℕ} → row < 2 ^ m → column < 2 ^ m → Covered blank w 0 m 0 0 0 row column ↔ (inWindow w row column ≡ true)
+pub largest-cover : (m : ℕ) (w : Window) {row column : ℕ} → row < 2 ^ m → column < 2 ^ m → Covered blankPicture w 0 m 0 0 0 row column ↔ (inWindow w row column ≡ true)
 largest-cover m w {row} {column} low narrow =
     let i : InSquare m 0 0 row column = omega arith in
-    let both = covered-exactly blank w 0 i in
+    let both = covered-exactly blankPicture w 0 i in
     ((λ x. both .0 x .0), (λ h. both .1 (h, refl)))
 
 -- and in no second one
 pub largest-once : (m : ℕ) (w : Window) {row column x y : ℕ}
-    → (s : Selected blank w 0 m 0 0 0 x)
-    → (t : Selected blank w 0 m 0 0 0 y)
+    → (s : Selected blankPicture w 0 m 0 0 0 x)
+    → (t : Selected blankPicture w 0 m 0 0 0 y)
     → InSquare (s .height) (s .row) (s .column) row column
     → InSquare (t .height) (t .row) (t .column) row column
     → x ≡ y
-largest-once m w s t i j = covered-once blank w 0 s t i j
+largest-once m w s t i j = covered-once blankPicture w 0 s t i j

@@ -17,10 +17,10 @@ pub written-none : (limit : ℕ) (answer : List ℕ) (place : ℕ) → written l
 unfolding written
 written-none limit answer place = refl
 
-pub written-one : (limit : ℕ) (answer : List ℕ) (place key : ℕ) (keys : List ℕ)
+pub written-one-key : (limit : ℕ) (answer : List ℕ) (place key : ℕ) (keys : List ℕ)
     → written limit answer place (key ∷ keys) ≡ written limit (writtenAt limit answer place key) (suc place) keys
 unfolding written
-written-one limit answer place key keys = refl
+written-one-key limit answer place key keys = refl
 
 -- the test of the limit decides
 at-below : (limit : ℕ) (answer : List ℕ) (place key : ℕ) → place < limit → writtenAt limit answer place key ≡ set answer place key
@@ -40,7 +40,7 @@ length-written-at limit answer place key = length-cond (ltb place limit) _ _ (le
 pub length-written : (limit : ℕ) (answer : List ℕ) (place : ℕ) (keys : List ℕ) → length (written limit answer place keys) ≡ length answer
 length-written limit answer place [] = ap length (written-none limit answer place)
 length-written limit answer place (key ∷ keys) =
-    ap length (written-one limit answer place key keys)
+    ap length (written-one-key limit answer place key keys)
     ∙ length-written limit (writtenAt limit answer place key) (suc place) keys
     ∙ length-written-at limit answer place key
 
@@ -49,15 +49,15 @@ pub written-append : (limit : ℕ) (answer : List ℕ) (place : ℕ) (a b : List
     → written limit answer place (a ++ b) ≡ written limit (written limit answer place a) (place + length a) b
 written-append limit answer place [] b = ap₂ (λ x i. written limit x i b) (sym (written-none limit answer place)) (sym (add-zero place))
 written-append limit answer place (key ∷ a) b =
-    written-one limit answer place key (a ++ b)
+    written-one-key limit answer place key (a ++ b)
     ∙ written-append limit (writtenAt limit answer place key) (suc place) a b
-    ∙ ap₂ (λ x i. written limit x i b) (sym (written-one limit answer place key a)) (omega arith)
+    ∙ ap₂ (λ x i. written limit x i b) (sym (written-one-key limit answer place key a)) (omega arith)
 
 -- with the limit 0 nothing is written
 pub written-nothing : (answer : List ℕ) (place : ℕ) (keys : List ℕ) → written 0 answer place keys ≡ answer
 written-nothing answer place [] = written-none 0 answer place
 written-nothing answer place (key ∷ keys) =
-    written-one 0 answer place key keys
+    written-one-key 0 answer place key keys
     ∙ ap (λ x. written 0 x (suc place) keys) (at-past 0 answer place key (omega arith))
     ∙ written-nothing answer (suc place) keys
 
@@ -65,7 +65,7 @@ written-nothing answer place (key ∷ keys) =
 pub written-sets : (limit : ℕ) (answer : List ℕ) (place : ℕ) (keys : List ℕ) → place + length keys ≤ limit → written limit answer place keys ≡ sets answer place keys
 written-sets limit answer place [] h = written-none limit answer place
 written-sets limit answer place (key ∷ keys) h =
-    written-one limit answer place key keys
+    written-one-key limit answer place key keys
     ∙ ap (λ x. written limit x (suc place) keys) (at-below limit answer place key (omega arith))
     ∙ written-sets limit (set answer place key) (suc place) keys (omega arith)
 

@@ -30,7 +30,7 @@ use Rattle.walk.proofs.Steps.{in-spot}
 use Rattle.walk.proofs.SpotBits.{whole-pixel}
 use Rattle.walk.proofs.Told.{told-value, told-alone, told-listed, told-holds, told-last, told-whole}
 use Rattle.walk.proofs.Shows.{bits-yes, bits-alone}
-use Rattle.walk.proofs.Content.{content-list}
+use Rattle.walk.proofs.Content.{content-at-spot}
 use Rattle.window.specs.Gather.{Gave, AllHave}
 
 -- a listed block's records, by the numbers of its standing
@@ -74,7 +74,7 @@ module _ {m : ℕ} {keys bits : List ℕ} {n : ℕ} (o : OwnList m keys bits n) 
       ∙ sym (records-run keys bits n place records run-fits)
       ∙ ap₂ take as-many (ap (drop place) (o .own ∙ at-place .placed .splits) ∙ drop-at (at-place .placed .before) _ place (sym starts))
       ∙ take-append-seam own (at-place .placed .after)
-      ∙ sym (content-list (shownBy m keys bits n) h)
+      ∙ sym (content-at-spot (shownBy m keys bits n) h)
 
 -- as the walk was told
 module _ {m : ℕ} {keys bits : List ℕ} {n : ℕ} (low : m ≤ 10) (o : OwnList m keys bits n) {s : Spot} (h : BlockSpot m s) {told : Told} (t : Tells m keys bits n s told)

@@ -16,11 +16,11 @@ use Rattle.definitions.specs.Picture.{Picture}
 use Rattle.definitions.specs.Bits.{hasSlot, featureOf}
 use Rattle.definitions.specs.Window.{isWindow, inWindow, reportIn}
 use Rattle.definitions.specs.declared.Window.{Window}
-use Rattle.laws.proofs.Slots.{slot-union, slot-of-zero, bits-equal, slot-power as slot-of-power}
+use Rattle.laws.proofs.Slots.{slot-union, slot-of-zero, bits-equal, slot-power}
 use Rattle.laws.proofs.BitsOf.{bits-to, bits-from}
 use Rattle.laws.proofs.WindowScan.{PixelWith, report-exactly}
 use Rattle.list.specs.Check.{oneSlot}
-use Rattle.list.proofs.OneSlot.{slot-power}
+use Rattle.list.proofs.OneSlot.{one-slot-power}
 use Rattle.walk.specs.declared.Spot.{Spot}
 use Rattle.walk.specs.Walk.{BlockSpot, isWithin, isApart, Clear}
 use Rattle.walk.proofs.Lies.{InSpot, within-pixel, window-pixel, meets-pixel}
@@ -109,8 +109,8 @@ module _ (m : ℕ) (p : Picture) (w : Window) where
     whole-only : isApart s w ≡ false → (bits : ℕ) → bits ≡ bitsAt p h → oneSlot bits ≡ true → (i : ℕ) → hasSlot bits i ≡ true → PixelWith p w i
     whole-only e bits is one i has =
         let x = meets-pixel w good h e in
-        let power = slot-power bits one in
-        let same = eqb-true (featureOf bits) i (sym (slot-of-power (featureOf bits) i) ∙ ap (λ y. hasSlot y i) (sym power) ∙ has) in
+        let power = one-slot-power bits one in
+        let same = eqb-true (featureOf bits) i (sym (slot-power (featureOf bits) i) ∙ ap (λ y. hasSlot y i) (sym power) ∙ has) in
         record { row = x .row; column = x .column; inside = x .in-window; feature = whole-pixel p (featureOf bits) h (x .row) (x .column) (sym is ∙ power) (x .in-spot) ∙ same }
 
     -- a block that adds nothing is passed

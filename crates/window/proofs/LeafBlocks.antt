@@ -26,15 +26,15 @@ use Rattle.walk.specs.Given.{keysWith, writtenAt, written, lower}
 use Rattle.walk.proofs.Lies.{within-pixel}
 use Rattle.walk.proofs.Steps.{Parent, some-keys, first-stands, first-less, parting-first, walking-after, in-spot}
 use Rattle.walk.proofs.SpotBits.{bitsAt, whole-pixel}
-use Rattle.walk.proofs.Content.{content-list, with-none, with-give}
-use Rattle.walk.proofs.Written.{written-none, written-one, written-append, length-written}
+use Rattle.walk.proofs.Content.{content-at-spot, with-none, with-give}
+use Rattle.walk.proofs.Written.{written-none, written-one-key, written-append, length-written}
 use Rattle.walk.proofs.Below.{lower-block, lower-apart, lower-enter}
 use Rattle.window.specs.Gather.{Gave, AllHave, GaveFrom, InLeaf, Comes, Onward}
 
 -- one key is given
 pub gives-one : (limit count : ℕ) (before after : List ℕ) (key : ℕ) → after ≡ writtenAt limit before count key → Gave (key ∷ []) limit count before after (count + 1)
 gives-one limit count before after key f =
-    record { counted = refl; wrote = f ∙ sym (written-none limit _ _) ∙ sym (written-one limit before count key []) }
+    record { counted = refl; wrote = f ∙ sym (written-none limit _ _) ∙ sym (written-one-key limit before count key []) }
 
 -- more is given after what was given
 gives-more : {a b : List ℕ} {limit count between r : ℕ} {before middle after : List ℕ} → Gave a limit count before middle between → Gave b limit between middle after r
@@ -61,7 +61,7 @@ module _ (m : ℕ) (p : Picture) (w : Window) (f : ℕ) where
       all row column (omega arith) (omega arith) (x .from) (omega (arith, h .step, x .until)) in
       let one = one-from p f (h .height) (s .row) (s .column) has in
       let same = has (s .row) (s .column) (first-within (h .height) (s .row) (s .column)) in
-      ap (keysWith (2 ^ f)) (content-list p h ∙ list-one p (h .height) (s .row) (s .column) (s .key) one)
+      ap (keysWith (2 ^ f)) (content-at-spot p h ∙ list-one p (h .height) (s .row) (s .column) (s .key) one)
       ∙ with-give (2 ^ f) (recordOf (s .key) (2 ^ p (s .row) (s .column))) [] (ap (λ g. 2 ^ g) same)
       ∙ ap (λ l. s .key ∷ l) (with-none (2 ^ f))
 

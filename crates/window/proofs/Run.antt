@@ -7,7 +7,7 @@ use lib.ListN.{length, getD, drop}
 use Rattle.definitions.specs.List.{recordOf}
 use Rattle.definitions.specs.Read.{recordsOf}
 use Rattle.walk.specs.Given.{keysWith}
-use Rattle.walk.proofs.RecordsFrom.{records-drop, records-end}
+use Rattle.walk.proofs.RecordsFrom.{records-drop, records-past-end}
 use Rattle.walk.proofs.Content.{with-none, with-give, with-pass}
 
 abbrev pub left : List ℕ → List ℕ → ℕ → ℕ → ℕ → List ℕ
@@ -15,7 +15,7 @@ left keys bits end bit i = keysWith bit (drop i (recordsOf keys bits end))
 
 -- at the end it gives nothing
 pub run-over : (keys bits : List ℕ) (end bit i : ℕ) → end ≤ i → left keys bits end bit i ≡ []
-run-over keys bits end bit i h = ap (keysWith bit) (records-end keys bits end i h) ∙ with-none bit
+run-over keys bits end bit i h = ap (keysWith bit) (records-past-end keys bits end i h) ∙ with-none bit
 
 -- before it what it gives goes by the record at the place
 module _ (keys bits : List ℕ) (end bit i : ℕ) (inside : i < end) (fits : end ≤ length keys) (room : end ≤ length bits) where

@@ -13,7 +13,7 @@ use Rattle.laws.proofs.ListOf.{list-some}
 use Rattle.list.proofs.Tests.{good-settings}
 use Rattle.build.specs.BuildBlocks.{pictureOfRows}
 use Rattle.build.proofs.FittingBlock.{keys-length, bits-length}
-use Rattle.build.proofs.BuildRefusal.{Passed, passed, refusal-nine, refusal-none, refused, done}
+use Rattle.build.proofs.BuildRefusal.{EarlyPassed, early-passed, refusal-nine, refusal-none, refused, done}
 use Rattle.build.proofs.BuildCall.{whole-inside, whole-fits, whole-keys, whole-bits, whole-count, rows-list}
 use Rattle.build.proofs.build_checked.Statement.{statement}
 use Rattle.build.proofs.build_checked.Tie as tie
@@ -22,8 +22,8 @@ abbrev start : tie.After-power-of-two → tie.Start
 start c = c .before .before .before .before
 
 -- settings and raster are good
-good : (c : tie.After-power-of-two) → Passed (start c .args .m) (start c .args .s) (start c .args .raster .now)
-good c = passed _ _ _ (start c .pre)
+good : (c : tie.After-power-of-two) → EarlyPassed (start c .args .m) (start c .args .s) (start c .args .raster .now)
+good c = early-passed _ _ _ (start c .pre)
 
 -- the list by the rows that the code reads, and the room
 abbrev rows : tie.After-smaller → ℕ
@@ -42,7 +42,7 @@ fits c =
     omega (arith, c .before .before .smaller .ensures)
 
 power-of-two-requires : tie.Need-power-of-two-requires
-power-of-two-requires c κs = let h = good-settings _ _ (passed _ _ _ (c .before .before .before .pre) .settings) .deep in omega arith
+power-of-two-requires c κs = let h = good-settings _ _ (early-passed _ _ _ (c .before .before .before .pre) .settings) .deep in omega arith
 
 cast-side : tie.Need-cast-side
 cast-side c = let h = two-le 10 (good-settings _ _ (good c .settings) .deep) in omega (arith, c .power-of-two .ensures)

@@ -5,9 +5,9 @@ use native.Mathlib.Omega.{arith}
 use borrow.Author.Needs.{needs}
 use lib.ListN.{length, take, drop}
 use Rattle.definitions.specs.Listing.{listingRefusal}
-use Rattle.lines.proofs.Going.{kept}
+use Rattle.lines.proofs.Going.{bytes-kept}
 use Rattle.lines.proofs.Listed.{refused-short, refused-large}
-use Rattle.lines.proofs.Program.{raster-part, refusal-room, refuses, Reads, Told, told, build-refusal-room, build-refuses, records, listing-room, build-accepts}
+use Rattle.lines.proofs.Program.{raster-part, refusal-room, refuses, ProgramReads, ProgramTold, program-told, build-refusal-room, build-refuses, records, listing-room, build-accepts}
 use Rattle.lines.proofs.list_input.Statement.{statement}
 use Rattle.lines.proofs.list_input.Tie as tie
 
@@ -17,7 +17,7 @@ start c = c .before .before .before .before .before .before .before .before .bef
 
 -- what was read of the input
 reads : (c : tie.After-build)
-    → Reads (start c .args .input .now) (c .before .before .before .before .before .before .before .wide .result) (c .before .before .before .before .before .wide2 .result) (take (length (start c .args .input .now) - 2) (drop 2 (start c .args .input .now)))
+    → ProgramReads (start c .args .input .now) (c .before .before .before .before .before .before .before .wide .result) (c .before .before .before .before .before .wide2 .result) (take (length (start c .args .input .now) - 2) (drop 2 (start c .args .input .now)))
 reads c =
     record {
       two = c .before .before .before .before .before .before .before .before .before .if1 .left;
@@ -29,14 +29,14 @@ reads c =
 
 -- what build told
 answer : (c : tie.After-build)
-    → Told (c .before .before .before .before .before .before .before .wide .result) (c .before .before .before .before .before .wide2 .result) (take (length (start c .args .input .now) - 2) (drop 2 (start c .args .input .now)))
+    → ProgramTold (c .before .before .before .before .before .before .before .wide .result) (c .before .before .before .before .before .wide2 .result) (take (length (start c .args .input .now) - 2) (drop 2 (start c .args .input .now)))
     (start c .args .keys .now)
     (start c .args .bits .now)
     (c .build .last .1 .1 .1 .0)
     (c .build .last .1 .1 .1 .1 .0)
     (c .build .result .refusal)
     (c .build .result .count)
-answer c = told (c .build .ensures .0) (c .build .ensures .1 .0) (c .build .ensures .1 .1)
+answer c = program-told (c .build .ensures .0) (c .build .ensures .1 .0) (c .build .ensures .1 .1)
 
 -- m is above 5
 large : (c : tie.Then2) → listingRefusal (c .before .before .before .before .before .before .before .before .before .before .args .input .now) ≡ 1
@@ -48,7 +48,7 @@ put-refusal-requires : tie.Need-put-refusal-requires
 put-refusal-requires c κs = refusal-room (c .before .before .before .before .before .before .pre) 1 (omega arith)
 
 same-length : tie.Need-same-length
-same-length c = kept (c .before .before .put-refusal .ensures)
+same-length c = bytes-kept (c .before .before .put-refusal .ensures)
 
 returns : tie.Need-returns
 returns c = refuses (c .before .before .before .before .before .before .before .before .before .pre) (refused-short _ (c .before .before .before .before .if1 .taken)) (c .before .before .put-refusal .ensures)
@@ -69,7 +69,7 @@ put-refusal-requires-2 : tie.Need-put-refusal-requires-2
 put-refusal-requires-2 c κs = refusal-room (c .before .before .before .before .before .before .before .before .before .before .before .pre) 1 (omega arith)
 
 same-length-2 : tie.Need-same-length-2
-same-length-2 c = kept (c .before .before .put-refusal2 .ensures)
+same-length-2 c = bytes-kept (c .before .before .put-refusal2 .ensures)
 
 returns-2 : tie.Need-returns-2
 returns-2 c = refuses (c .before .before .before .before .before .before .before .before .before .before .before .before .before .before .pre) (large (c .before .before .before .before)) (c .before .before .put-refusal2 .ensures)
@@ -98,7 +98,7 @@ same-length-4 : tie.Need-same-length-4
 same-length-4 c = search needs
 
 same-length-5 : tie.Need-same-length-5
-same-length-5 c = kept (c .before .before .put-refusal3 .ensures)
+same-length-5 c = bytes-kept (c .before .before .put-refusal3 .ensures)
 
 returns-3 : tie.Need-returns-3
 returns-3 c =
@@ -120,7 +120,7 @@ same-length-7 : tie.Need-same-length-7
 same-length-7 c = search needs
 
 same-length-8 : tie.Need-same-length-8
-same-length-8 c = kept (c .before .before .put-listing .ensures)
+same-length-8 c = bytes-kept (c .before .before .put-listing .ensures)
 
 returns-4 : tie.Need-returns-4
 returns-4 c =

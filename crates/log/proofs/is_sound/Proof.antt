@@ -1,17 +1,17 @@
 -- `is_sound` meets its contract: after each turn the records are sound exactly when those that are left are.
 use native.Mathlib.Omega.{arith}
-use Rattle.log.proofs.Sound.{Passed, begins, ends, stops, stepped, falls, turns}
+use Rattle.log.proofs.Sound.{StepsPassed, check-begins, ends, stops, stepped, falls, turns}
 use Rattle.log.proofs.is_sound.Statement.{statement}
 use Rattle.log.proofs.is_sound.Tie as tie
 
 abbrev Inv-loop : tie.InvT-loop
-Inv-loop m s keys values used end₀ end = Passed m s keys values used end
+Inv-loop m s keys values used end₀ end = StepsPassed m s keys values used end
 
 abbrev μ-loop : tie.MeasureT-loop
 μ-loop m s keys values used end₀ end = end
 
 loop-holds : tie.Need-loop-holds Inv-loop μ-loop
-loop-holds c = let start = c .before .before in begins _ _ _ _ _ (start .pre .2) (start .pre .3)
+loop-holds c = let start = c .before .before in check-begins _ _ _ _ _ (start .pre .2) (start .pre .3)
 
 ends-in-step-requires : tie.Need-ends-in-step-requires Inv-loop μ-loop
 ends-in-step-requires c κs = omega arith

@@ -8,7 +8,7 @@ use borrow.Fn.PlainCycle.{Measures, is, falls, and}
 use Rattle.definitions.specs.Bits.{featureOf}
 use Rattle.list.proofs.Shown.{shown-room}
 use Rattle.summary.proofs.CountTurn.{less}
-use Rattle.area.proofs.TallyTurn.{Reached, reached-none, reached-all, next-room, pixels-room, child-asked, child-most, leaf-turn, node-turn}
+use Rattle.area.proofs.TallyTurn.{TallyReached, tally-reached-none, reached-all, next-room, pixels-room, child-asked, child-most, leaf-turn, node-turn}
 use Rattle.area.proofs.tally.tally_node.Reads as own
 use Rattle.area.proofs.tally.tally_node.Kinds as kinds
 use Rattle.area.proofs.tally.+tally_node.Lts-tally_node as lts
@@ -38,7 +38,7 @@ claims t = (
 )
 
 abbrev Inv-loop : lts.InvT-loop
-Inv-loop bits bit at area quarter pixels₀ next₀ d₀ pixels next d = Reached bits at area (featureOf bit) pixels next d
+Inv-loop bits bit at area quarter pixels₀ next₀ d₀ pixels next d = TallyReached bits at area (featureOf bit) pixels next d
 
 abbrev μ-loop : lts.MeasureT-loop
 μ-loop bits bit at area quarter pixels₀ next₀ d₀ pixels next d = 4 - d
@@ -47,7 +47,7 @@ add-next : (t : ℕ) → lts.Need-add-next (claims t) (given t) own.Post Inv-loo
 add-next t c = let e = shown-room (c .before .pre .1 .0 .shown) in omega (arith, c .before .good)
 
 loop-holds : (t : ℕ) → lts.Need-loop-holds (claims t) (given t) own.Post Inv-loop μ-loop
-loop-holds t c = reached-none _ _ _ _
+loop-holds t c = tally-reached-none _ _ _ _
 
 mul-found : (t : ℕ) → lts.Need-mul-found (claims t) (given t) own.Post Inv-loop μ-loop
 mul-found t c =

@@ -51,13 +51,13 @@ use Rattle.batch.proofs.begin.BatchState as BatchState
 use Rattle.batch.proofs.begin.BatchState.Laws as State′
 use Rattle.laws.proofs.OneByOne.{noQuestion}
 use Rattle.lending.proofs.Locals.{Content, empty, holds, at, Addresses, envOf, Held, in-local, allocates, frees-all}
-use Rattle.lending.proofs.Slices.{Slice, val, typed-slice, token}
+use Rattle.lending.proofs.Slices.{LentSlice, val, typed-slice, token}
 use Rattle.lending.proofs.Reborrow.{reborrows}
 use Rattle.lending.proofs.Calling.{calls-giving}
-use Rattle.batch.proofs.RunSlices.{BatchSlices, stateVals, valOf, typed-state, reads, tokens, answers, ReadyAt, reads-twice}
-use Rattle.batch.proofs.RunEntryExit.{stayed, machine, sharedQuestions, held, AtEntry, AtExit, enters, exits}
+use Rattle.batch.proofs.RunSlices.{BatchSlices, batchStateVals, questionVal, typed-batch-state, reads, tokens, answers, ReadyAt, reads-twice}
+use Rattle.batch.proofs.RunEntryExit.{batch-stayed, batch-machine, sharedQuestions, batch-held, AtEntry, AtExit, enters, exits}
 use Rattle.batch.proofs.RunTurns.{Turn, question, entry, first-turn, one-comes, next-turn, left, nearer}
-use Rattle.batch.proofs.StepCall.{questionVals, Step, step-gives}
+use Rattle.batch.proofs.StepCall.{questionVals, BatchStep, step-gives}
 use Rattle.batch.proofs.step.step.Symbol as step-def
 use Rattle.batch.proofs.step.step.Symbol.{name as #step}
 use Rattle.batch.proofs.step.step.Met as step-thm
@@ -70,9 +70,9 @@ use Rattle.batch.proofs.run.run.Code.Mir as mir
 questionTells : Tells Question.the-row (Is Question.the-row) questionVals
 questionTells = LL.tells Question.the-type Question′.the-laws
 
-module _ {M : Type 1} (𝓤 : URA M) (H : Heap 𝓤) (A : Atoms 𝓤) (W : Given 𝓤 H A) (mem : Memory → SProp 𝓤) (run : Routine → Fun 𝓤) (questions : Slice Question.the-row) (S : BatchSlices) (state : BatchState)
-    (fits : Is BatchState.the-row state (stateVals state)) (ready : ReadyAt S (length (questions .x .now)) (entry S (questions .x .now) state))
-    (𝓣 : Tables 𝓤 H) (known : Triple 𝓤 (𝓣 .C #step) (Step 𝓤 H A mem run)) where
+module _ {M : Type 1} (𝓤 : URA M) (H : Heap 𝓤) (A : Atoms 𝓤) (W : Given 𝓤 H A) (mem : Memory → SProp 𝓤) (run : Routine → Fun 𝓤) (questions : LentSlice Question.the-row) (S : BatchSlices) (state : BatchState)
+    (fits : Is BatchState.the-row state (batchStateVals state)) (ready : ReadyAt S (length (questions .x .now)) (entry S (questions .x .now) state))
+    (𝓣 : Tables 𝓤 H) (known : Triple 𝓤 (𝓣 .C #step) (BatchStep 𝓤 H A mem run)) where
   abbrev Turns : Type 0
   Turns = Turn S (questions .x .now) state
 
@@ -104,7 +104,7 @@ module _ {M : Type 1} (𝓤 : URA M) (H : Heap 𝓤) (A : Atoms 𝓤) (W : Given
     -- what lies in the locals before a turn
     abbrev contents : Turns → List Content
     contents t = empty ∷ holds (val questions) ∷ holds (val (S .keys)) ∷ holds (val (S .bits))
-        ∷ holds (val (S .refusals)) ∷ holds (val (S .values)) ∷ holds (valOf state) ∷ holds (valOf (t .found .result)) ∷ holds (vint w64 (t .i)) ∷ []
+        ∷ holds (val (S .refusals)) ∷ holds (val (S .values)) ∷ holds (questionVal state) ∷ holds (questionVal (t .found .result)) ∷ holds (vint w64 (t .i)) ∷ []
 
     -- what holds before each turn
     abbrev Inv : Turns → List (Item 𝓤)
@@ -152,7 +152,7 @@ module _ {M : Type 1} (𝓤 : URA M) (H : Heap 𝓤) (A : Atoms 𝓤) (W : Given
         (step-gives 𝓤 H A W mem run C fm known S (questionOf t) (t .found .result) (t .found .first) (t .found .second) is (t .found .fits) (one-comes S (questions .x .now) state t more) (t .found .first-length) (t .found .second-length))
         (and-then ! (in-local ! (at 4 12) refl) (and-then ! (in-local ! (at 4 2) refl) (and-then ! (in-local ! (at 4 3) refl)
         (and-then ! (in-local ! (at 4 14) refl) (and-then ! (in-local ! (at 4 16) refl) (and-then ! (in-local ! (at 4 7) refl) (no-more !))))))) (λ x.
-        land ! (from ! (stop !)) (store ! (at 4 7) refl (typed-state W (x .result) (x .fits))) $ parts ! $
+        land ! (from ! (stop !)) (store ! (at 4 7) refl (typed-batch-state W (x .result) (x .fits))) $ parts ! $
         -- i += 1
         assigns-last ! (bin ! (in-local ! (at 5 8) refl) (lit ! tt) (record { fits = next-fits t more })) (from ! (stop !)) (store ! (at 5 8) refl (tt, record { fits = next-fits t more })) $
         forget ! (at 5 9) refl $ forget ! (at 5 10) refl $ forget ! (at 5 11) refl $ forget ! (at 5 12) refl $ forget ! (at 5 13) refl $ forget ! (at 5 14) refl $
@@ -168,7 +168,7 @@ module _ {M : Type 1} (𝓤 : URA M) (H : Heap 𝓤) (A : Atoms 𝓤) (W : Given
         rewrite ! (at 5 10) (λ (z : Bool). ‵ (fat fullShare tyBool (spotOf 𝓤 H En 10 .1) 0 (vbool z))) (le-ltb (t .i) (length (questions .x .now)) over) refl $
         leaves-loop ! (in-local ! (at 5 10) refl) $ exec ! C Λ En mir.t-4 (atRet En Post) $
         -- st
-        assigns ! (of-opd ! (in-local ! (at 5 7) refl)) (from ! (stop !)) (init ! (at 5 0) refl (typed-state W (t .found .result) (t .found .fits))) $
+        assigns ! (of-opd ! (in-local ! (at 5 7) refl)) (from ! (stop !)) (init ! (at 5 0) refl (typed-batch-state W (t .found .result) (t .found .fits))) $
         returns ! (look ! (at 5 0) refl) $ move ! (2 ∷ 4 ∷ []) $ drop ! $ drop ! $ move ! (2 ∷ []) $ group ! 3 $
         frees-all ! En (holds _ ∷ holds _ ∷ holds _ ∷ holds _ ∷ holds _ ∷ holds _ ∷ holds _ ∷ holds _ ∷ holds _ ∷ holds _ ∷ holds _ ∷ []) $
         by ! (exits 𝓤 H A W mem run questions S state t over)
@@ -179,23 +179,23 @@ module _ {M : Type 1} (𝓤 : URA M) (H : Heap 𝓤) (A : Atoms 𝓤) (W : Given
     loops : (t : Turns) → Sq W (Inv t) (runs C Λ En mir.t-3 (atRet En Post))
     loops t = first ! $ blocks ! $ R′.loops ! 𝓣 Nearer (InvImage·wf (left S (questions .x .now) state) (Nat·lt-wfRel .wf)) Inv turned t
 
-  walk : ent 𝓤 (AtEntry 𝓤 H A W mem run questions S state) (WpFn 𝓤 H (𝓣 .C) (𝓣 .Λ) code.function (machine questions S state) Post)
+  walk : ent 𝓤 (AtEntry 𝓤 H A W mem run questions S state) (WpFn 𝓤 H (𝓣 .C) (𝓣 .Λ) code.function (batch-machine questions S state) Post)
   walk = via 𝓤 _ (enters 𝓤 H A W mem run questions S state) (
-      qed W (held 𝓤 questions S ∷ []) ∵ enter ! C Λ code.function (machine questions S state) _ $ allocates ! (code.function .locals) (λ l. params1 ! $
+      qed W (batch-held 𝓤 questions S ∷ []) ∵ enter ! C Λ code.function (batch-machine questions S state) _ $ allocates ! (code.function .locals) (λ l. params1 ! $
       -- the parameters
       pass1 ! (init ! (at 1 1) refl (typed-slice questions)) $ pass1 ! (init ! (at 1 2) refl (typed-slice (S .keys))) $
       pass1 ! (init ! (at 1 3) refl (typed-slice (S .bits))) $ pass1 ! (init ! (at 1 4) refl (typed-slice (S .refusals))) $
-      pass1 ! (init ! (at 1 5) refl (typed-slice (S .values))) $ pass1 ! (init ! (at 1 6) refl (typed-state W state fits)) $ pass0 ! $
+      pass1 ! (init ! (at 1 5) refl (typed-slice (S .values))) $ pass1 ! (init ! (at 1 6) refl (typed-batch-state W state fits)) $ pass0 ! $
       -- let mut st = state; let mut i: usize = 0
-      assigns ! (of-opd ! (in-local ! (at 1 6) refl)) (from ! (stop !)) (init ! (at 1 7) refl (typed-state W state fits)) $
+      assigns ! (of-opd ! (in-local ! (at 1 6) refl)) (from ! (stop !)) (init ! (at 1 7) refl (typed-batch-state W state fits)) $
       assigns ! (of-opd ! (lit ! tt)) (from ! (stop !)) (init ! (at 1 8) refl (tt, record { fits = lit< tt })) $
       -- what is held is taken apart, and the loop begins
       parts ! $ move ! (1 ∷ []) $ parts ! $ move ! (1 ∷ []) $ parts ! $ move ! (1 ∷ []) $ parts ! $ loops l (first-turn S (questions .x .now) state fits ready)))
 
-module _ {M : Type 1} (𝓤 : URA M) (H : Heap 𝓤) (A : Atoms 𝓤) (W : Given 𝓤 H A) (mem : Memory → SProp 𝓤) (run : Routine → Fun 𝓤) (𝓣 : Tables 𝓤 H) (known : Triple 𝓤 (𝓣 .C #step) (Step 𝓤 H A mem run)) where
-  run-walks : Walks 𝓤 H A run′.ended stayed (WpFn 𝓤 H (𝓣 .C) (𝓣 .Λ) code.function) (run′.clauses 𝓤 H A mem run)
-  run-walks = walked 𝓤 H A run′.ended stayed (run′.clauses 𝓤 H A mem run) (WpFn 𝓤 H (𝓣 .C) (𝓣 .Λ) code.function)
-      (λ κs. (slice-vals, (slice-vals, (slice-vals, (slice-vals, (slice-vals, (stateVals, tt)))))))
+module _ {M : Type 1} (𝓤 : URA M) (H : Heap 𝓤) (A : Atoms 𝓤) (W : Given 𝓤 H A) (mem : Memory → SProp 𝓤) (run : Routine → Fun 𝓤) (𝓣 : Tables 𝓤 H) (known : Triple 𝓤 (𝓣 .C #step) (BatchStep 𝓤 H A mem run)) where
+  run-walks : Walks 𝓤 H A run′.ended batch-stayed (WpFn 𝓤 H (𝓣 .C) (𝓣 .Λ) code.function) (run′.clauses 𝓤 H A mem run)
+  run-walks = walked 𝓤 H A run′.ended batch-stayed (run′.clauses 𝓤 H A mem run) (WpFn 𝓤 H (𝓣 .C) (𝓣 .Λ) code.function)
+      (λ κs. (slice-vals, (slice-vals, (slice-vals, (slice-vals, (slice-vals, (batchStateVals, tt)))))))
       (λ κs. (
         shr-slice-tells (named 0) (κs .0) Question.the-row,
         (
@@ -216,7 +216,7 @@ module _ {M : Type 1} (𝓤 : URA M) (H : Heap 𝓤) (A : Atoms 𝓤) (W : Given
       }) (a .1 .1 .1 .1 .1 .0) (are .1 .1 .1 .1 .1 .0) ready 𝓣 known))
 
   run-meets : Meets 𝓤 H A run′.signature (WpFn 𝓤 H (𝓣 .C) (𝓣 .Λ) code.function) (run′.spec 𝓤 H A mem run)
-  run-meets = walk-meets 𝓤 H A run′.ended stayed W
+  run-meets = walk-meets 𝓤 H A run′.ended batch-stayed W
       (questions-go, (shared-goes 1 tt, (shared-goes 2 tt, (goes-slice 𝓤 H A W 5 3 tt (plain (λ _. u32)), (goes-slice 𝓤 H A W 5 4 tt (plain (λ _. u32)), (state-goes, tt))))))
       (run′.clauses 𝓤 H A mem run) (WpFn 𝓤 H (𝓣 .C) (𝓣 .Λ) code.function) (WpFn-mono 𝓤 H (W .laws) 𝓣 code.function) run-walks
     where
@@ -235,4 +235,4 @@ run-spec 𝓤 H 𝓜 𝓖 𝓡 =
     entered 𝓤 H (tripleOf 𝓤 H (𝓖 .A) run′.signature (run′.spec 𝓤 H (𝓖 .A) (𝓜 .mem) (𝓡 .run)))
     (tables 𝓤 H 𝓜 𝓡 code.env .C) (tables 𝓤 H 𝓜 𝓡 code.env .Λ) #run code.function (code.unfolded 𝓤 H 𝓜 𝓡)
     (run-meets 𝓤 H (𝓖 .A) (givenOf 𝓤 H 𝓜 𝓖) (𝓜 .mem) (𝓡 .run) (tablesOf 𝓤 H 𝓜 (tables 𝓤 H 𝓜 𝓡 code.env))
-    (cited 𝓤 H (Step 𝓤 H (𝓖 .A) (𝓜 .mem) (𝓡 .run)) 𝓜 𝓡 code.env #step step-def.routine code.calls-batch·step·step (step-thm.met 𝓤 H 𝓜 𝓖 𝓡)))
+    (cited 𝓤 H (BatchStep 𝓤 H (𝓖 .A) (𝓜 .mem) (𝓡 .run)) 𝓜 𝓡 code.env #step step-def.routine code.calls-batch·step·step (step-thm.met 𝓤 H 𝓜 𝓖 𝓡)))

@@ -9,8 +9,8 @@ use borrow.Fn.Kinds.{In}
 use borrow.Fn.PlainCycle.{Measures, is, falls, and}
 use Rattle.keys.proofs.Key.child.Reads as key-child
 use Rattle.list.proofs.Turn.{child-fits}
-use Rattle.file.proofs.Laid.{laid-at}
-use Rattle.file.proofs.FileTurn.{step-twenty-five, Answered, PassedIn, begins-in, ends-in, differs-in, short-in, other-key-in, child-in, wrong-child-in, leaf-in, node-in}
+use Rattle.file.proofs.Laid.{bytes-laid-at}
+use Rattle.file.proofs.FileTurn.{step-twenty-five, TurnAnswered, PassedIn, begins-in, ends-in, differs-in, short-in, other-key-in, child-in, wrong-child-in, leaf-in, node-in}
 use Rattle.file.proofs.check_file.after_node.Reads as own
 use Rattle.file.proofs.check_file.after_node.Kinds as kinds
 use Rattle.file.proofs.check_file.+after_node.Lts-after_node as lts
@@ -93,7 +93,7 @@ child-requires : (t : ℕ) → lts.Need-child-requires (claims t) (given t) own.
 child-requires t c κs = let i = c .before .before .loop .inv .passed in (omega (arith, i .fits), omega (arith, c .before .loop-test .taken))
 
 key-at-requires : (t : ℕ) → lts.Need-key-at-requires (claims t) (given t) own.Post Inv-loop μ-loop
-key-at-requires t c κs = laid-at (c .before .before .before .loop .inv .laid) _ (c .before .if2 .left)
+key-at-requires t c κs = bytes-laid-at (c .before .before .before .loop .inv .laid) _ (c .before .if2 .left)
 
 returns-3 : (t : ℕ) → lts.Need-returns-3 (claims t) (given t) own.Post Inv-loop μ-loop
 returns-3 t c =
@@ -102,7 +102,7 @@ returns-3 t c =
     other-key-in (e .before .before .loop .inv) (e .before .loop-test .taken) (e .if2 .left) _ (c .before .key-at .ensures) (k .child .ensures) (c .if3 .taken)
 
 bits-at-requires : (t : ℕ) → lts.Need-bits-at-requires (claims t) (given t) own.Post Inv-loop μ-loop
-bits-at-requires t c κs = laid-at (c .before .before .before .before .before .loop .inv .laid) _ (c .before .before .before .if2 .left)
+bits-at-requires t c κs = bytes-laid-at (c .before .before .before .before .before .loop .inv .laid) _ (c .before .before .before .if2 .left)
 
 add-next : (t : ℕ) → lts.Need-add-next (claims t) (given t) own.Post Inv-loop μ-loop
 add-next t c = omega arith
@@ -129,7 +129,7 @@ after-node-requires t c κs =
 
 -- what either function answers of a child that is a node
 after-child : {t : ℕ} (c : Called t) → let f = found (c .before) in let l = there f .before .before in let a = l .before .before .before .args in
-    Answered (a .width) (a .n) (a .file .now) (l .loop .next + 1) (f .before .before .before .child .result) (f .bits-at .result) (a .step / 5) (c .if5 .next)
+    TurnAnswered (a .width) (a .n) (a .file .now) (l .loop .next + 1) (f .before .before .before .child .result) (f .bits-at .result) (a .step / 5) (c .if5 .next)
 after-child c =
     let f = found (c .before) in
     let e = there f in

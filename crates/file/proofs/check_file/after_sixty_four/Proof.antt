@@ -10,8 +10,8 @@ use borrow.Author.Tests.{not-true, not-false}
 use Rattle.list.specs.Check.{restPlace, afterNode}
 use Rattle.list.proofs.Turn.{step-five, child-fits}
 use Rattle.file.specs.Layout.{recordsAt}
-use Rattle.file.proofs.Laid.{laid-at}
-use Rattle.file.proofs.FileTurn.{step-twenty-five, Answered, ChildrenIn, begins-in, ends-in, differs-in, short-in, other-key-in, child-in, wrong-child-in, leaf-in, node-in}
+use Rattle.file.proofs.Laid.{bytes-laid-at}
+use Rattle.file.proofs.FileTurn.{step-twenty-five, TurnAnswered, ChildrenIn, begins-in, ends-in, differs-in, short-in, other-key-in, child-in, wrong-child-in, leaf-in, node-in}
 use Rattle.file.proofs.check_file.after_sixty_four.Statement.{statement}
 use Rattle.file.proofs.check_file.after_sixty_four.Tie as tie
 
@@ -57,7 +57,7 @@ returns c =
     (h .0, h .1 3 step-twenty-five)
 
 key-at-requires : tie.Need-key-at-requires Inv-loop μ-loop
-key-at-requires c κs = laid-at (c .before .before .loop .inv .passed .laid) _ (c .if1 .left)
+key-at-requires c κs = bytes-laid-at (c .before .before .loop .inv .passed .laid) _ (c .if1 .left)
 
 returns-2 : tie.Need-returns-2 Inv-loop μ-loop
 returns-2 c =
@@ -67,7 +67,7 @@ returns-2 c =
     (h .0, h .1 3 step-twenty-five)
 
 bits-at-requires : tie.Need-bits-at-requires Inv-loop μ-loop
-bits-at-requires c κs = laid-at (c .before .before .before .before .loop .inv .passed .laid) _ (c .before .before .if1 .left)
+bits-at-requires c κs = bytes-laid-at (c .before .before .before .before .loop .inv .passed .laid) _ (c .before .before .if1 .left)
 
 add-next : tie.Need-add-next Inv-loop μ-loop
 add-next c = omega arith
@@ -86,7 +86,7 @@ after-sixteen-requires c κs =
 after-child : (c : Found) (r : ℕ) → let e = there c in let l = e .before .before in let a = l .before .before .args in
     (r ≤ a .n)
     × (r ≡ restPlace (a .n) (afterNode 2 (l .loop .child) (c .bits-at .result) (drop (l .loop .next + 1) (recordsAt (a .width) (a .n) (a .file .now)))))
-    → Answered (a .width) (a .n) (a .file .now) (l .loop .next + 1) (a .key + l .loop .inv .digit * 25) (c .bits-at .result) 5 r
+    → TurnAnswered (a .width) (a .n) (a .file .now) (l .loop .next + 1) (a .key + l .loop .inv .digit * 25) (c .bits-at .result) 5 r
 after-child c r h =
     let e = there c in
     let p = e .before .before .loop .inv in

@@ -7,7 +7,7 @@ use borrow.Author.Needs.{needs}
 use borrow.Author.Tests.{not-true, not-false}
 use Rattle.definitions.specs.File.{fileLength}
 use Rattle.file.specs.Layout.{fileKeyAt, fileBitsAt}
-use Rattle.file.proofs.Laid.{laid-at, record-ends, number-here}
+use Rattle.file.proofs.Laid.{bytes-laid-at, record-ends, number-here}
 use Rattle.file.proofs.FilePixels.{PixelsIn, too-few-in, pixels-begin, pixels-end, there, other-pixel, node-pixel, leaf-pixel}
 use Rattle.file.proofs.check_file.four_pixels.Statement.{statement}
 use Rattle.file.proofs.check_file.four_pixels.Tie as tie
@@ -32,7 +32,7 @@ turn c = c .before .before .before .before
 whole : (c : Turn) → let l = c .before in let a = l .before .before .before .args in fileLength (a .width) (l .loop .next) + 4 + a .width ≤ length (a .file .now)
 whole c =
     let p = c .before .loop .inv in
-    let l = laid-at (p .passed .laid) _ (there p (c .loop-test .taken)) in
+    let l = bytes-laid-at (p .passed .laid) _ (there p (c .loop-test .taken)) in
     record-ends (l .width-is) _ _ (l .there)
 
 -- its key and its bits

@@ -5,8 +5,8 @@ use native.Mathlib.Omega.{arith}
 use borrow.Author.Tests.{ltb-true, ltb-false, not-true, not-false}
 use borrow.Author.Needs.{needs}
 use Rattle.keys.proofs.LastZeros.{keys-height}
-use Rattle.list.proofs.Content.{step-is, keys-fit}
-use Rattle.file.proofs.Laid.{laid-at}
+use Rattle.list.proofs.Content.{step-is-under, keys-fit}
+use Rattle.file.proofs.Laid.{bytes-laid-at}
 use Rattle.file.proofs.FileList.{none-in-file, first, other-first, large-first, leaf-first, node-first}
 use Rattle.file.proofs.check_file.holds_block.Statement.{statement}
 use Rattle.file.proofs.check_file.holds_block.Tie as tie
@@ -22,7 +22,7 @@ some : (e : tie.Else1) → 0 < start e .args .n
 some e = let a = start e .args in first (a .m) (a .s) (a .key) (a .width) (a .n) (a .file .now) (start e .pre .3) (e .if1 .left)
 
 key-at-requires : tie.Need-key-at-requires
-key-at-requires c κs = laid-at (start c .pre .0) 0 (some c)
+key-at-requires c κs = bytes-laid-at (start c .pre .0) 0 (some c)
 
 returns-2 : tie.Need-returns-2
 returns-2 c =
@@ -30,7 +30,7 @@ returns-2 c =
     other-first _ _ _ _ _ _ (start e .pre .3) (e .if1 .left) _ (c .before .key-at .ensures) (c .if2 .taken)
 
 bits-at-requires : tie.Need-bits-at-requires
-bits-at-requires c κs = let e = c .before .before in laid-at (start e .pre .0) 0 (some e)
+bits-at-requires c κs = let e = c .before .before in bytes-laid-at (start e .pre .0) 0 (some e)
 
 slots-below-requires : tie.Need-slots-below-requires
 slots-below-requires c κs = search needs
@@ -73,7 +73,7 @@ returns-5 c =
     (ltb-true _ _ (sym (d .before .slots-below .ensures) ∙ not-false _ (d .if3 .left)))
     _ _
     (sym (f .before .has-one-slot .ensures) ∙ f .if4 .left)
-    (step-is _ _ _ (c .before .keys-in .ensures ∙ keys-height _ _ (start e .pre .3)))
+    (step-is-under _ _ _ (c .before .keys-in .ensures ∙ keys-height _ _ (start e .pre .3)))
     (c .after-node .ensures)
 
 pub holds-block-spec : {M : Type 1} → statement M

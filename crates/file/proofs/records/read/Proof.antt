@@ -2,7 +2,7 @@
 use Prim.Native.Nat.{_-_}
 use native.Mathlib.Omega.{arith}
 use Rattle.file.specs.Room.{RoomFor}
-use Rattle.file.proofs.Laid.{laid-at}
+use Rattle.file.proofs.Laid.{bytes-laid-at}
 use Rattle.file.proofs.ReadBytes.{Read, none-read, record-taken, all-read}
 use Rattle.file.proofs.records.read.Statement.{statement}
 use Rattle.file.proofs.records.read.Tie as tie
@@ -21,7 +21,7 @@ loop-holds : tie.Need-loop-holds Inv-loop μ-loop
 loop-holds c = none-read _ _ _ _ _
 
 key-at-requires : tie.Need-key-at-requires Inv-loop μ-loop
-key-at-requires c κs = laid-at (room (c .before) .in-file) _ (c .loop-test .taken)
+key-at-requires c κs = bytes-laid-at (room (c .before) .in-file) _ (c .loop-test .taken)
 
 mul-keys : tie.Need-mul-keys Inv-loop μ-loop
 mul-keys c = let h = room (c .before .before) in omega arith
@@ -30,7 +30,7 @@ slice-write-keys : tie.Need-slice-write-keys Inv-loop μ-loop
 slice-write-keys c = let h = room (c .before .before) in omega arith
 
 bits-at-requires : tie.Need-bits-at-requires Inv-loop μ-loop
-bits-at-requires c κs = laid-at (room (c .before .before) .in-file) _ (c .before .loop-test .taken)
+bits-at-requires c κs = bytes-laid-at (room (c .before .before) .in-file) _ (c .before .loop-test .taken)
 
 mul-bits : tie.Need-mul-bits Inv-loop μ-loop
 mul-bits c = let h = room (c .before .before .before) in omega arith

@@ -2,7 +2,7 @@
 use Prim.Native.Nat.{_-_}
 use native.Mathlib.Omega.{arith}
 use Rattle.file.specs.Room.{RoomFor}
-use Rattle.file.proofs.Laid.{laid-at, laid-same}
+use Rattle.file.proofs.Laid.{bytes-laid-at, laid-same}
 use Rattle.file.proofs.RecordBytes.{WrittenRecords, none-written, record-stored, all-written}
 use Rattle.file.proofs.records.write_records.Statement.{statement}
 use Rattle.file.proofs.records.write_records.Tie as tie
@@ -35,7 +35,7 @@ shared-slice-read-value c = let h = room (c .before .before .before) in omega ar
 put-record-requires : tie.Need-put-record-requires Inv-loop μ-loop
 put-record-requires c κs =
     let l = c .before .before .before .before in
-    laid-at (laid-same (room l .in-file) (l .loop .inv .same)) _ (c .before .before .before .loop-test .taken)
+    bytes-laid-at (laid-same (room l .in-file) (l .loop .inv .same)) _ (c .before .before .before .loop-test .taken)
 
 -- from the record stored back to the loop's test
 abbrev turn : tie.After-put-record Inv-loop μ-loop → tie.In-loop Inv-loop μ-loop

@@ -35,7 +35,7 @@ begins m key start old step e h =
       within = omega arith;
       power = e ∙ ap (λ (k : ℕ). 5 ^ k) all;
       small = omega arith;
-      going = going.renamed (going.begins _ start old) (ap (λ (k : ℕ). digitsText k key) all);
+      going = going.renamed (going.line-begins _ start old) (ap (λ (k : ℕ). digitsText k key) all);
     }
 
 module _ {m key start : ℕ} {old out : List ℕ} {next rest step i : ℕ} (p : Passed m key start old out next rest step i) where

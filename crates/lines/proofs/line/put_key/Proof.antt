@@ -6,7 +6,7 @@ use mathlib.Core.List.{List, [], _∷_}
 use borrow.Author.Tests.{eq-eqb, ne-eqb}
 use Rattle.definitions.specs.Listing.{dash, digitsText, keyText}
 use Rattle.lines.specs.Put.{Put, BytesFit}
-use Rattle.lines.proofs.Going.{kept}
+use Rattle.lines.proofs.Going.{bytes-kept}
 use Rattle.lines.proofs.line.put_key.Statement.{statement}
 use Rattle.lines.proofs.line.put_key.Tie as tie
 
@@ -31,7 +31,7 @@ put-byte-requires : tie.Need-put-byte-requires
 put-byte-requires c κs = same-room _ _ _ _ (none _ _ (c .before .if1 .taken)) (c .before .before .before .pre .2)
 
 same-length : tie.Need-same-length
-same-length c = kept (c .before .before .put-byte .ensures)
+same-length c = bytes-kept (c .before .before .put-byte .ensures)
 
 returns : tie.Need-returns
 returns c = same-put (none _ _ (c .before .before .before .before .if1 .taken)) (c .before .before .put-byte .ensures)
@@ -42,7 +42,7 @@ put-digits-requires c κs =
     (asked .0, asked .1, same-room _ _ _ _ (some _ _ (c .before .if1 .left)) (asked .2))
 
 same-length-2 : tie.Need-same-length-2
-same-length-2 c = kept (c .before .before .put-digits .ensures)
+same-length-2 c = bytes-kept (c .before .before .put-digits .ensures)
 
 returns-2 : tie.Need-returns-2
 returns-2 c = same-put (some _ _ (c .before .before .before .before .if1 .left)) (c .before .before .put-digits .ensures)

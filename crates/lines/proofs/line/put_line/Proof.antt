@@ -5,7 +5,7 @@ use mathlib.Core.List.{List, [], _∷_, _++_}
 use Rattle.definitions.specs.List.{recordOf}
 use Rattle.definitions.specs.Listing.{blank, lineEnd, keyText, slotsText, lineOf}
 use Rattle.lines.specs.Put.{Put, BytesFit}
-use Rattle.lines.proofs.Going.{Going, kept}
+use Rattle.lines.proofs.Going.{Going, bytes-kept}
 use Rattle.lines.proofs.Going as going
 use Rattle.lines.proofs.line.put_line.Statement.{statement}
 use Rattle.lines.proofs.line.put_line.Tie as tie
@@ -22,7 +22,7 @@ module _ (m s key bits start : ℕ) (old : List ℕ) where
 
   at-key : Going whole (keyText m key ++ (blank ∷ slots s bits)) start old old start
   unfolding lineOf
-  at-key = going.begins _ start old
+  at-key = going.line-begins _ start old
 
   key-room : BytesFit whole start old → BytesFit (keyText m key) start old
   key-room r = going.piece-room (keyText m key) _ at-key r
@@ -72,10 +72,10 @@ put-byte-requires-2 c κs =
 
 same-length : tie.Need-same-length
 same-length c =
-    kept (c .before .before .put-byte2 .ensures)
-    ∙ kept (c .before .before .before .before .before .before .put-slots .ensures)
-    ∙ kept (c .before .before .before .before .before .before .before .before .before .before .put-byte .ensures)
-    ∙ kept (c .before .before .before .before .before .before .before .before .before .before .before .before .before .before .put-key .ensures)
+    bytes-kept (c .before .before .put-byte2 .ensures)
+    ∙ bytes-kept (c .before .before .before .before .before .before .put-slots .ensures)
+    ∙ bytes-kept (c .before .before .before .before .before .before .before .before .before .before .put-byte .ensures)
+    ∙ bytes-kept (c .before .before .before .before .before .before .before .before .before .before .before .before .before .before .put-key .ensures)
 
 returns : tie.Need-returns
 returns c =

@@ -29,7 +29,7 @@ begins s bits start old =
     record {
       within = omega arith;
       shifted = sym (div-one bits);
-      going = going.renamed (going.begins _ start old) (ap (λ (k : ℕ). slotsFrom 0 k bits) all);
+      going = going.renamed (going.line-begins _ start old) (ap (λ (k : ℕ). slotsFrom 0 k bits) all);
     }
 
 module _ {s bits start : ℕ} {old out : List ℕ} {next rest i : ℕ} (p : Passed s bits start old out next rest i) where

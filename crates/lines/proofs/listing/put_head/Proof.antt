@@ -4,7 +4,7 @@ use mathlib.Core.Path.{_≡_, sym, ap, _∙_}
 use mathlib.Core.List.{List, [], _∷_, _++_, append-assoc}
 use Rattle.definitions.specs.Listing.{blank, lineEnd, decimal, headLine}
 use Rattle.lines.specs.Put.{Put, BytesFit}
-use Rattle.lines.proofs.Going.{Going, kept}
+use Rattle.lines.proofs.Going.{Going, bytes-kept}
 use Rattle.lines.proofs.Going as going
 use Rattle.lines.proofs.listing.put_head.Statement.{statement}
 use Rattle.lines.proofs.listing.put_head.Tie as tie
@@ -24,7 +24,7 @@ three m s n =
 
 module _ (m s n : ℕ) (old : List ℕ) where
   at-m : Going (headLine m s n) (part m ++ (part s ++ end n)) 0 old old 0
-  at-m = going.renamed (going.begins _ 0 old) (three m s n)
+  at-m = going.renamed (going.line-begins _ 0 old) (three m s n)
 
   m-room : BytesFit (headLine m s n) 0 old → BytesFit (part m) 0 old
   m-room r = going.piece-room (part m) _ at-m r
@@ -58,9 +58,9 @@ put-number-then-requires-3 c κs =
 
 same-length : tie.Need-same-length
 same-length c =
-    kept (c .before .before .put-number-then3 .ensures)
-    ∙ kept (c .before .before .before .before .before .before .put-number-then2 .ensures)
-    ∙ kept (c .before .before .before .before .before .before .before .before .before .before .put-number-then .ensures)
+    bytes-kept (c .before .before .put-number-then3 .ensures)
+    ∙ bytes-kept (c .before .before .before .before .before .before .put-number-then2 .ensures)
+    ∙ bytes-kept (c .before .before .before .before .before .before .before .before .before .before .put-number-then .ensures)
 
 returns : tie.Need-returns
 returns c =

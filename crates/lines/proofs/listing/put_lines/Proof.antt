@@ -32,7 +32,7 @@ begins m s keys bits n start old =
     let all : n ≡ n - 0 = omega arith in
     record {
       within = omega arith;
-      going = going.renamed (going.begins _ start old) (ap (λ (k : ℕ). linesOf m s (recordsOf keys bits k)) all);
+      going = going.renamed (going.line-begins _ start old) (ap (λ (k : ℕ). linesOf m s (recordsOf keys bits k)) all);
     }
 
 module _ {m s : ℕ} {keys bits : List ℕ} {n start : ℕ} {old out : List ℕ} {next i : ℕ} (p : Passed m s keys bits n start old out next i) where

@@ -6,7 +6,7 @@ use Rattle.definitions.specs.Read.{recordsOf}
 use Rattle.laws.proofs.Records.{records-length}
 use Rattle.definitions.specs.Listing.{headLine, linesOf, listing}
 use Rattle.lines.specs.Put.{Put, BytesFit, Records}
-use Rattle.lines.proofs.Going.{Going, kept}
+use Rattle.lines.proofs.Going.{Going, bytes-kept}
 use Rattle.lines.proofs.Going as going
 use Rattle.lines.proofs.listing.put_listing.Statement.{statement}
 use Rattle.lines.proofs.listing.put_listing.Tie as tie
@@ -23,7 +23,7 @@ module _ (m s : ℕ) (keys bits : List ℕ) (n : ℕ) (old : List ℕ) (r : Reco
   parts = ap (λ (k : ℕ). headLine m s k ++ lines) (records-length keys bits n (r .keys-hold) (r .bits-hold))
 
   at-head : Going whole (headLine m s n ++ lines) 0 old old 0
-  at-head = going.renamed (going.begins _ 0 old) parts
+  at-head = going.renamed (going.line-begins _ 0 old) parts
 
   head-room : BytesFit whole 0 old → BytesFit (headLine m s n) 0 old
   head-room room = going.piece-room (headLine m s n) lines at-head room
@@ -46,7 +46,7 @@ put-lines-requires c κs =
     (c .before .before .before .before .before .before .before .before .pre .0, lines-room _ _ _ _ _ _ (c .before .before .before .before .before .before .before .before .pre .0) (c .before .before .before .put-head .ensures) (c .before .before .before .before .before .before .before .before .pre .1))
 
 same-length : tie.Need-same-length
-same-length c = kept (c .before .before .put-lines .ensures) ∙ kept (c .before .before .before .before .before .before .put-head .ensures)
+same-length c = bytes-kept (c .before .before .put-lines .ensures) ∙ bytes-kept (c .before .before .before .before .before .before .put-head .ensures)
 
 returns : tie.Need-returns
 returns c = ends _ _ _ _ _ _ (c .before .before .before .before .before .before .before .before .before .before .before .pre .0) (c .before .before .before .before .before .before .put-head .ensures) (c .before .before .put-lines .ensures)

@@ -5,7 +5,7 @@ use mathlib.Core.List.{List, [], _∷_, _++_}
 use borrow.Author.Needs.{needs}
 use Rattle.definitions.specs.Listing.{blank, lineEnd, refused, decimal, refusalLine}
 use Rattle.lines.specs.Put.{Put, BytesFit}
-use Rattle.lines.proofs.Going.{Going, kept}
+use Rattle.lines.proofs.Going.{Going, bytes-kept}
 use Rattle.lines.proofs.Going as going
 use Rattle.lines.proofs.listing.put_refusal.Statement.{statement}
 use Rattle.lines.proofs.listing.put_refusal.Tie as tie
@@ -19,7 +19,7 @@ end number = decimal number ++ (lineEnd ∷ [])
 module _ (number : ℕ) (old : List ℕ) where
   at-word : Going (refusalLine number) (word ++ end number) 0 old old 0
   unfolding refusalLine
-  at-word = going.begins _ 0 old
+  at-word = going.line-begins _ 0 old
 
   word-room : BytesFit (refusalLine number) 0 old → BytesFit word 0 old
   word-room r = going.piece-room word (end number) at-word r
@@ -44,7 +44,7 @@ put-number-then-requires : tie.Need-put-number-then-requires
 put-number-then-requires c κs = number-room _ _ (c .before .before .before .put-text .ensures) (c .before .before .before .before .before .before .before .pre)
 
 same-length : tie.Need-same-length
-same-length c = kept (c .before .before .put-number-then .ensures) ∙ kept (c .before .before .before .before .before .before .put-text .ensures)
+same-length c = bytes-kept (c .before .before .put-number-then .ensures) ∙ bytes-kept (c .before .before .before .before .before .before .put-text .ensures)
 
 returns : tie.Need-returns
 returns c = ends _ _ (c .before .before .before .before .before .before .put-text .ensures) (c .before .before .put-number-then .ensures)

@@ -40,7 +40,7 @@ module _ (x start : ℕ) (old : List ℕ) where
 
   module _ (h : 10 ≤ x) where
     starts : Going (decimal x) (decimal (x / 10) ++ (characterOf (x % 10) ∷ [])) start old old start
-    starts = going.renamed (going.begins _ start old) (decimal-tenth x h)
+    starts = going.renamed (going.line-begins _ start old) (decimal-tenth x h)
 
     tenth-fits : (t : ℕ) → x ≡ t → BytesFit (decimal x) start old → (x / 10 < t) × BytesFit (decimal (x / 10)) start old
     tenth-fits t e r = (omega arith, going.piece-room (decimal (x / 10)) _ starts r)
@@ -59,7 +59,7 @@ put-digit-requires : (t : ℕ) → lts.Need-put-digit-requires (claims t) (given
 put-digit-requires t c κs = one _ _ _ (c .before .if1 .taken) (c .before .before .before .pre .1)
 
 same-length : (t : ℕ) → lts.Need-same-length (claims t) (given t) put-number.Post
-same-length t c = going.kept (c .before .before .put-digit .ensures)
+same-length t c = going.bytes-kept (c .before .before .put-digit .ensures)
 
 returns : (t : ℕ) → lts.Need-returns (claims t) (given t) put-number.Post
 returns t c = digit _ _ _ (c .before .before .before .before .if1 .taken) (c .before .before .put-digit .ensures)
@@ -72,7 +72,7 @@ put-digit-requires-2 t c κs =
     last-fits _ _ _ (c .before .before .before .before .before .if1 .left) (c .before .before .before .put-number .ensures) (c .before .before .before .before .before .before .before .pre .1)
 
 same-length-2 : (t : ℕ) → lts.Need-same-length-2 (claims t) (given t) put-number.Post
-same-length-2 t c = going.kept (c .before .before .put-digit2 .ensures) ∙ going.kept (c .before .before .before .before .before .before .put-number .ensures)
+same-length-2 t c = going.bytes-kept (c .before .before .put-digit2 .ensures) ∙ going.bytes-kept (c .before .before .before .before .before .before .put-number .ensures)
 
 returns-2 : (t : ℕ) → lts.Need-returns-2 (claims t) (given t) put-number.Post
 returns-2 t c = ends _ _ _ (c .before .before .before .before .before .before .before .before .if1 .left) (c .before .before .before .before .before .before .put-number .ensures) (c .before .before .put-digit2 .ensures)

@@ -23,7 +23,7 @@ abbrev μ-loop : tie.MeasureT-loop
 μ-loop text out₀ place next₀ i₀ out next i = length text - i
 
 begins : (text : List ℕ) (start : ℕ) (old : List ℕ) → Passed text start old old start 0
-begins text start old = record { within = omega arith; going = going.begins text start old }
+begins text start old = record { within = omega arith; going = going.line-begins text start old }
 
 module _ {text : List ℕ} {start : ℕ} {old out : List ℕ} {next i : ℕ} (p : Passed text start old out next i) where
   module _ (h : i < length text) where

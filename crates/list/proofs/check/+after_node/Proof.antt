@@ -9,7 +9,7 @@ use borrow.Author.Tests.{not-true, not-false}
 use borrow.Fn.Kinds.{In}
 use borrow.Fn.PlainCycle.{Measures, is, falls, and}
 use Rattle.keys.proofs.Key.child.Reads as key-child
-use Rattle.list.proofs.Turn.{Answer, Passed, step-five, begins, child-fits, ends, differs, short, other-key, child-at, wrong-child, goes-leaf, goes-node}
+use Rattle.list.proofs.Turn.{Answer, Passed, step-five, turn-begins, child-fits, ends, differs, short, other-key, child-at, wrong-child, goes-leaf, goes-node}
 use Rattle.list.proofs.check.after_node.Reads as own
 use Rattle.list.proofs.check.after_node.Kinds as kinds
 use Rattle.list.proofs.check.+after_node.Lts-after_node as lts
@@ -72,7 +72,7 @@ returns : (t : ℕ) → lts.Need-returns (claims t) (given t) own.Post Inv-loop 
 returns t c = c .after-low .ensures
 
 loop-holds : (t : ℕ) → lts.Need-loop-holds (claims t) (given t) own.Post Inv-loop μ-loop
-loop-holds t c = begins _ _ _ _ _ _ (c .before .before .before .pre .1) (λ z. omega (arith, c .if1 .left))
+loop-holds t c = turn-begins _ _ _ _ _ _ (c .before .before .before .pre .1) (λ z. omega (arith, c .if1 .left))
 
 returns-2 : (t : ℕ) → lts.Need-returns-2 (claims t) (given t) own.Post Inv-loop μ-loop
 returns-2 t c = (omega arith, short (c .before .before .loop .inv) (c .before .loop-test .taken) (omega (arith, c .if2 .taken)))

@@ -5,7 +5,7 @@ use mathlib.Core.Logic.{⊎-elim}
 use native.Mathlib.Omega.{arith}
 use borrow.Author.Tests.{not-true, not-false}
 use Rattle.list.proofs.Pixels.{right-false, right-true}
-use Rattle.list.proofs.Turn.{Passed, step-one, step-five, begins, child-fits, ends, differs, short, other-key, child-at, wrong-child, goes-leaf, goes-node}
+use Rattle.list.proofs.Turn.{Passed, step-one, step-five, turn-begins, child-fits, ends, differs, short, other-key, child-at, wrong-child, goes-leaf, goes-node}
 use Rattle.list.proofs.check.after_sixteen.Statement.{statement}
 use Rattle.list.proofs.check.after_sixteen.Tie as tie
 
@@ -16,7 +16,7 @@ abbrev μ-loop : tie.MeasureT-loop
 μ-loop keys bits first key own next₀ union₀ quadrant₀ next union quadrant = 5 - quadrant
 
 loop-holds : tie.Need-loop-holds Inv-loop μ-loop
-loop-holds c = begins _ _ _ _ _ _ (c .before .before .pre) (λ z. omega arith)
+loop-holds c = turn-begins _ _ _ _ _ _ (c .before .before .pre) (λ z. omega arith)
 
 returns : tie.Need-returns Inv-loop μ-loop
 returns c = (omega arith, short (c .before .before .loop .inv) (c .before .loop-test .taken) (omega (arith, c .if1 .taken)) 2 step-five)

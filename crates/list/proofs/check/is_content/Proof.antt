@@ -4,7 +4,7 @@ use native.Mathlib.Omega.{arith}
 use borrow.Author.Tests.{ltb-true, ltb-false, not-true, not-false}
 use borrow.Author.Needs.{needs}
 use Rattle.keys.proofs.LastZeros.{keys-height}
-use Rattle.list.proofs.Content.{step-is, keys-fit, Stand, keys-length, bits-length, short-keys, short-bits, no-records, other-key, large-bits, one-record, many-records}
+use Rattle.list.proofs.Content.{step-is-under, keys-fit, Stand, keys-length, bits-length, short-keys, short-bits, no-records, other-key, large-bits, one-record, many-records}
 use Rattle.list.proofs.check.is_content.Statement.{statement}
 use Rattle.list.proofs.check.is_content.Tie as tie
 
@@ -89,7 +89,7 @@ returns-7 c =
     many-records st (d .before .before .before .before .before .before .before .args .s) (d .if4 .left) (ltb-true _ _ (sym (b .before .slots-below .ensures) ∙ not-false _ (b .if5 .left)))
     (c .after-node .result)
     (sym (e .before .has-one-slot .ensures) ∙ e .if6 .left)
-    (c .after-node .ensures .1 _ (step-is _ _ _ (c .before .before .before .keys-in .ensures ∙ keys-height _ _ (st .valid))))
+    (c .after-node .ensures .1 _ (step-is-under _ _ _ (c .before .before .before .keys-in .ensures ∙ keys-height _ _ (st .valid))))
 
 pub is-content-spec : {M : Type 1} → statement M
 is-content-spec =

@@ -1,19 +1,19 @@
 -- `check::is_sound` meets its contract: after each turn the records are sound exactly when those that are left are.
 use native.Mathlib.Omega.{arith}
-use Rattle.log.proofs.Sound.{Passed, begins, ends, stops, stepped, falls, turns}
+use Rattle.log.proofs.Sound.{StepsPassed, check-begins, ends, stops, stepped, falls, turns}
 use Rattle.log_file.specs.Records.{keysInBytes, valuesInBytes}
 use Rattle.log_file.proofs.InBytes.{in-keys, in-values}
 use Rattle.log_file.proofs.check.is_sound.Statement.{statement}
 use Rattle.log_file.proofs.check.is_sound.Tie as tie
 
 abbrev Inv-loop : tie.InvT-loop
-Inv-loop m s bytes used end₀ end = Passed m s (keysInBytes bytes) (valuesInBytes bytes) used end
+Inv-loop m s bytes used end₀ end = StepsPassed m s (keysInBytes bytes) (valuesInBytes bytes) used end
 
 abbrev μ-loop : tie.MeasureT-loop
 μ-loop m s bytes used end₀ end = end
 
 loop-holds : tie.Need-loop-holds Inv-loop μ-loop
-loop-holds c = let start = c .before in begins _ _ _ _ _ (in-keys _ (start .pre .2)) (in-values _ (start .pre .2))
+loop-holds c = let start = c .before in check-begins _ _ _ _ _ (in-keys _ (start .pre .2)) (in-values _ (start .pre .2))
 
 ends-in-step-requires : tie.Need-ends-in-step-requires Inv-loop μ-loop
 ends-in-step-requires c κs = omega arith

@@ -5,7 +5,7 @@ use native.Mathlib.Omega.{arith}
 use Rattle.definitions.specs.LogFile.{noLogIn}
 use Rattle.log_file.specs.Head.{logHeadRefusal}
 use borrow.Author.Needs.{needs}
-use Rattle.log_file.proofs.HeadAnswers.{head-long, head-settings, head-exact, head-refuses}
+use Rattle.log_file.proofs.HeadAnswers.{head-long, head-settings, head-exact, log-head-refuses}
 use Rattle.log_file.proofs.LoadAnswers.{used-there, log-is, no-log, no-room, all-good}
 use Rattle.log_file.proofs.load.refusal.Statement.{statement}
 use Rattle.log_file.proofs.load.refusal.Tie as tie
@@ -37,7 +37,7 @@ refusal-requires : tie.Need-refusal-requires
 refusal-requires c κs = search needs
 
 returns : tie.Need-returns
-returns c = λ keys values in-keys in-values. sym (head-refuses (c .before .before .before .args .file .now) keys values _ (c .before .refusal .ensures) (c .if1 .taken))
+returns c = λ keys values in-keys in-values. sym (log-head-refuses (c .before .before .before .args .file .now) keys values _ (c .before .refusal .ensures) (c .if1 .taken))
 
 u8-at-requires : tie.Need-u8-at-requires
 u8-at-requires c κs = omega (arith, head-long _ (head c))

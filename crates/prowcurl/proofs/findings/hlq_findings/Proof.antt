@@ -45,14 +45,14 @@ use Rattle.rules.specs.declared.state.RunState.{RunState}
 use Rattle.rules.proofs.state.RunState as RunState
 use Rattle.rules.proofs.state.RunState.Laws as State′
 use Rattle.lending.proofs.Locals.{Content, empty, holds, at, Addresses, envOf, Held, in-local, allocates, frees-all}
-use Rattle.lending.proofs.Slices.{Slice, val, typed-slice, token, shared}
+use Rattle.lending.proofs.Slices.{LentSlice, val, typed-slice, token, shared}
 use Rattle.lending.proofs.Chains.{apart, together}
 use Rattle.lending.proofs.Reborrow.{reborrows}
 use Rattle.lending.proofs.Calling.{Returned, calls-giving}
 use Rattle.rules.proofs.RunSlices.{RunSlices, stateVals, valOf, typed-state, reads, tokens, answers, each-token, reads-twice, ReadyAt}
 use Rattle.rules.proofs.Answer.{checking-ready, next-ready, findings-law}
-use Rattle.prowcurl.proofs.FindingsEntryExit.{stayed, machine, foundVal, held, AtEntry, AtExit, enters, exits}
-use Rattle.prowcurl.proofs.FindingsCalls.{Begin, Run, Next, Answer, Begun, Ran, each-begin-token, begin-gives, run-gives, next-gives, answer-gives, takes}
+use Rattle.prowcurl.proofs.FindingsEntryExit.{findings-stayed, findings-machine, foundVal, findings-held, AtEntry, AtExit, enters, exits}
+use Rattle.prowcurl.proofs.FindingsCalls.{Begin, Run, Next, Answer, FindingsBegun, FindingsRan, each-begin-token, begin-gives, run-gives, next-gives, answer-gives, takes}
 use Rattle.rules.proofs.runs.begin.Symbol as begin-def
 use Rattle.rules.proofs.runs.begin.Symbol.{name as #begin}
 use Rattle.rules.proofs.runs.begin.Met as begin-thm
@@ -71,7 +71,7 @@ use Rattle.prowcurl.proofs.findings.hlq_findings.Statement as stated
 use Rattle.prowcurl.proofs.findings.hlq_findings.Code as code
 use Rattle.prowcurl.proofs.findings.hlq_findings.Code.Mir as mir
 
-module _ {M : Type 1} (𝓤 : URA M) (H : Heap 𝓤) (A : Atoms 𝓤) (W : Given 𝓤 H A) (mem : Memory → SProp 𝓤) (run : Routine → Fun 𝓤) (m s n office rows : ℕ) (rules : Slice Rule.the-row) (offices : Slice u32) (S : RunSlices)
+module _ {M : Type 1} (𝓤 : URA M) (H : Heap 𝓤) (A : Atoms 𝓤) (W : Given 𝓤 H A) (mem : Memory → SProp 𝓤) (run : Routine → Fun 𝓤) (m s n office rows : ℕ) (rules : LentSlice Rule.the-row) (offices : LentSlice u32) (S : RunSlices)
     (m-fits : m < 2 ^ 32) (s-fits : s < 2 ^ 32) (n-fits : n < 2 ^ 64) (office-fits : office < 2 ^ 32) (rows-fits : rows < 2 ^ 64) where
   abbrev K : List ℕ
   K = S .keys .x .now
@@ -118,17 +118,17 @@ module _ {M : Type 1} (𝓤 : URA M) (H : Heap 𝓤) (A : Atoms 𝓤) (W : Given
       written-again = holds (vptr (S .found-ids .x .ptr .0) (S .found-ids .x .ptr .1)) ∷ holds (val (S .found-ids)) ∷ holds (vptr (S .found-keys .x .ptr .0) (S .found-keys .x .ptr .1)) ∷ holds (val (S .found-keys)) ∷ []
 
       -- the state that `begin` made is r₀
-      module _ (r₀ : RunState) (is₀ : Is RunState.the-row r₀ (stateVals r₀)) (e₀ : Begun S offices m s n office rows r₀) where
+      module _ (r₀ : RunState) (is₀ : Is RunState.the-row r₀ (stateVals r₀)) (e₀ : FindingsBegun S offices m s n office rows r₀) where
         ready₀ : ReadyAt S (progressOf r₀ ids keys)
         ready₀ = checking-ready m s K B n office (rules .x .now) (offices .x .now) WI WK rows ids keys r₀ e₀
 
         -- x₁ is what the first run left
-        module _ (x₁ : Ran rules S r₀ ids keys) where
+        module _ (x₁ : FindingsRan rules S r₀ ids keys) where
           ready₂ : (x₂ : Nexts (x₁ .state)) → ReadyAt S (progressOf (x₂ .result) (x₁ .ids) (x₁ .keys))
           ready₂ x₂ = next-ready K B WI WK (rules .x .now) (progressOf r₀ ids keys) (x₁ .state) (x₂ .result) (x₁ .ids) (x₁ .keys) ready₀ (x₁ .comes-to) (x₂ .told)
 
           -- begin_next, the third run and the answer: x₃ is what the second run left
-          writes : (x₂ : Nexts (x₁ .state)) (x₃ : Ran rules S (x₂ .result) (x₁ .ids) (x₁ .keys))
+          writes : (x₂ : Nexts (x₁ .state)) (x₃ : FindingsRan rules S (x₂ .result) (x₁ .ids) (x₁ .keys))
               → Sq W (Between (x₃ .ids) (x₃ .keys) (holds (valOf r₀) ∷ holds (valOf (x₁ .state)) ∷ holds (valOf (x₂ .result)) ∷ holds (valOf (x₃ .state)) ∷ empty ∷ empty
               ∷ (lengths ++ (written-again ++ written-again))))
               (runs C Λ En mir.t-15 (atRet En Post))
@@ -196,9 +196,9 @@ module _ {M : Type 1} (𝓤 : URA M) (H : Heap 𝓤) (A : Atoms 𝓤) (W : Given
             (and-then ! (in-local ! (at 4 25) refl) (and-then ! (in-local ! (at 4 14) refl) (no-more !))))))))) (λ x₁.
             land ! (from ! (stop !)) (init ! (at 4 15) refl (typed-state W (x₁ .state) (x₁ .fits))) $ parts ! $ parts ! $ counts x₁)
 
-    walk : ent 𝓤 (AtEntry 𝓤 H A W mem run m s n office rows rules offices S) (WpFn 𝓤 H C Λ code.function (machine m s n office rows rules offices S) Post)
+    walk : ent 𝓤 (AtEntry 𝓤 H A W mem run m s n office rows rules offices S) (WpFn 𝓤 H C Λ code.function (findings-machine m s n office rows rules offices S) Post)
     walk = via 𝓤 _ (enters 𝓤 H A W mem run m s n office rows rules offices S) (
-        qed W (held 𝓤 rules offices S ∷ []) ∵ enter ! C Λ code.function (machine m s n office rows rules offices S) _ $ allocates ! (code.function .locals) (λ l. params1 ! $
+        qed W (findings-held 𝓤 rules offices S ∷ []) ∵ enter ! C Λ code.function (findings-machine m s n office rows rules offices S) _ $ allocates ! (code.function .locals) (λ l. params1 ! $
         -- the parameters
         pass1 ! (init ! (at 1 1) refl (tt, record { fits = m-fits })) $ pass1 ! (init ! (at 1 2) refl (tt, record { fits = s-fits })) $
         pass1 ! (init ! (at 1 3) refl (typed-slice (S .keys))) $ pass1 ! (init ! (at 1 4) refl (typed-slice (S .bits))) $
@@ -231,8 +231,8 @@ module _ {M : Type 1} (𝓤 : URA M) (H : Heap 𝓤) (A : Atoms 𝓤) (W : Given
 module _ {M : Type 1} (𝓤 : URA M) (H : Heap 𝓤) (A : Atoms 𝓤) (W : Given 𝓤 H A) (mem : Memory → SProp 𝓤) (run : Routine → Fun 𝓤) (𝓣 : Tables 𝓤 H)
     (known-begin : Triple 𝓤 (𝓣 .C #begin) (Begin 𝓤 H A mem run)) (known-run : Triple 𝓤 (𝓣 .C #run) (Run 𝓤 H A mem run))
     (known-next : Triple 𝓤 (𝓣 .C #next) (Next 𝓤 H A mem run)) (known-answer : Triple 𝓤 (𝓣 .C #answer) (Answer 𝓤 H A mem run)) where
-  findings-walks : Walks 𝓤 H A findings.ended stayed (WpFn 𝓤 H (𝓣 .C) (𝓣 .Λ) code.function) (findings.clauses 𝓤 H A mem run)
-  findings-walks = walked 𝓤 H A findings.ended stayed (findings.clauses 𝓤 H A mem run) (WpFn 𝓤 H (𝓣 .C) (𝓣 .Λ) code.function)
+  findings-walks : Walks 𝓤 H A findings.ended findings-stayed (WpFn 𝓤 H (𝓣 .C) (𝓣 .Λ) code.function) (findings.clauses 𝓤 H A mem run)
+  findings-walks = walked 𝓤 H A findings.ended findings-stayed (findings.clauses 𝓤 H A mem run) (WpFn 𝓤 H (𝓣 .C) (𝓣 .Λ) code.function)
       (λ κs. (uint-vals w32, (uint-vals w32, (slice-vals, (slice-vals, (uint-vals w64, (uint-vals w32, (slice-vals, (slice-vals, (slice-vals, (slice-vals, (uint-vals w64, (slice-vals, (slice-vals, tt))))))))))))))
       (λ κs. (
         uint-tells w32,
@@ -276,7 +276,7 @@ module _ {M : Type 1} (𝓤 : URA M) (H : Heap 𝓤) (A : Atoms 𝓤) (W : Given
       }) (are .0 .1) (are .1 .0 .1) (are .1 .1 .1 .1 .0 .1) (are .1 .1 .1 .1 .1 .0 .1) (are .1 .1 .1 .1 .1 .1 .1 .1 .1 .1 .0 .1) (𝓣 .C) (𝓣 .Λ) (fmOf 𝓤 H (W .laws) 𝓣) known-begin known-run known-next known-answer))
 
   findings-meets : Meets 𝓤 H A findings.signature (WpFn 𝓤 H (𝓣 .C) (𝓣 .Λ) code.function) (findings.spec 𝓤 H A mem run)
-  findings-meets = walk-meets 𝓤 H A findings.ended stayed W (
+  findings-meets = walk-meets 𝓤 H A findings.ended findings-stayed W (
     plain-goes u32 (λ κs x f. refl),
     (
       plain-goes u32 (λ κs x f. refl),

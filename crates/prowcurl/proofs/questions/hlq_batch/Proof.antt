@@ -41,13 +41,13 @@ use Rattle.definitions.proofs.Counted.Laws as Counted′
 use Rattle.batch.specs.declared.begin.BatchState.{BatchState}
 use Rattle.batch.proofs.begin.BatchState as BatchState
 use Rattle.lending.proofs.Locals.{empty, holds, at, Addresses, envOf, Held, in-local, allocates, frees-all}
-use Rattle.lending.proofs.Slices.{Slice, val, typed-slice, token, shared}
+use Rattle.lending.proofs.Slices.{LentSlice, val, typed-slice, token, shared}
 use Rattle.lending.proofs.Reborrow.{reborrows}
 use Rattle.lending.proofs.Calling.{calls-giving}
-use Rattle.batch.proofs.RunSlices.{BatchSlices, stateVals, valOf, typed-state, reads, tokens, answers, reads-twice}
+use Rattle.batch.proofs.RunSlices.{BatchSlices, batchStateVals, questionVal, typed-batch-state, reads, tokens, answers, reads-twice}
 use Rattle.batch.proofs.Answered.{start-ready, batch-law}
 use Rattle.prowcurl.proofs.BatchEntryExit.{stayed, machine, countedVal, held, AtEntry, AtExit, enters, exits}
-use Rattle.prowcurl.proofs.BatchCalls.{Begin, Run, Answer, Begun, begin-gives, run-gives, answer-gives}
+use Rattle.prowcurl.proofs.BatchCalls.{Begin, Run, Answer, BatchBegun, begin-gives, run-gives, answer-gives}
 use Rattle.batch.proofs.begin.begin.Symbol as begin-def
 use Rattle.batch.proofs.begin.begin.Symbol.{name as #begin}
 use Rattle.batch.proofs.begin.begin.Met as begin-thm
@@ -63,7 +63,7 @@ use Rattle.prowcurl.proofs.questions.hlq_batch.Statement as stated
 use Rattle.prowcurl.proofs.questions.hlq_batch.Code as code
 use Rattle.prowcurl.proofs.questions.hlq_batch.Code.Mir as mir
 
-module _ {M : Type 1} (𝓤 : URA M) (H : Heap 𝓤) (A : Atoms 𝓤) (W : Given 𝓤 H A) (mem : Memory → SProp 𝓤) (run : Routine → Fun 𝓤) (m s n : ℕ) (questions : Slice Question.the-row) (S : BatchSlices)
+module _ {M : Type 1} (𝓤 : URA M) (H : Heap 𝓤) (A : Atoms 𝓤) (W : Given 𝓤 H A) (mem : Memory → SProp 𝓤) (run : Routine → Fun 𝓤) (m s n : ℕ) (questions : LentSlice Question.the-row) (S : BatchSlices)
     (m-fits : m < 2 ^ 32) (s-fits : s < 2 ^ 32) (n-fits : n < 2 ^ 64) where
   abbrev Post : Val → SProp 𝓤
   Post = AtExit 𝓤 H A W mem run m s n questions S
@@ -84,11 +84,11 @@ module _ {M : Type 1} (𝓤 : URA M) (H : Heap 𝓤) (A : Atoms 𝓤) (W : Given
       abbrev After : BatchState → List (Item 𝓤)
       After r = ‵ (shared questions) ∷ ‵ (token questions) ∷ ‵ (reads S) ∷ ‵ (tokens S) ∷ ‵ (answers S refusals values)
           ∷ Held 𝓤 H En (empty ∷ holds (vint w32 m) ∷ holds (vint w32 s) ∷ holds (val (S .keys)) ∷ holds (val (S .bits)) ∷ holds (vint w64 n) ∷ holds (val questions)
-          ∷ holds (val (S .refusals)) ∷ holds (val (S .values)) ∷ holds (valOf r) ∷ empty
+          ∷ holds (val (S .refusals)) ∷ holds (val (S .values)) ∷ holds (questionVal r) ∷ empty
           ∷ holds (vint w64 (length (questions .x .now))) ∷ holds (vint w64 (length refusals)) ∷ holds (vint w64 (length values)) ∷ [])
 
       -- the run over the questions, and the answer
-      asks : (r : BatchState) → Is BatchState.the-row r (stateVals r) → Begun questions S m s n r → Sq W (After r) (runs C Λ En mir.t-5 (atRet En Post))
+      asks : (r : BatchState) → Is BatchState.the-row r (batchStateVals r) → BatchBegun questions S m s n r → Sq W (After r) (runs C Λ En mir.t-5 (atRet En Post))
       asks r is begun =
           -- let asked = run::run(questions, keys, bits, refusals, values, begun)
           reborrows ! (at 5 7) (at 5 14) (at 5 15) refl refl refl (tt, tt) refl refl refl (typed-slice (S .refusals)) $
@@ -98,7 +98,7 @@ module _ {M : Type 1} (𝓤 : URA M) (H : Heap 𝓤) (A : Atoms 𝓤) (W : Given
           (run-gives 𝓤 H A W mem run C fm questions S known-run r refusals values is (start-ready m s (S .keys .x .now) (S .bits .x .now) n (questions .x .now) refusals values r begun) refl refl)
           (and-then ! (in-local ! (at 1 6) refl) (and-then ! (in-local ! (at 1 3) refl) (and-then ! (in-local ! (at 1 4) refl)
           (and-then ! (in-local ! (at 1 15) refl) (and-then ! (in-local ! (at 1 17) refl) (and-then ! (in-local ! (at 1 9) refl) (no-more !))))))) (λ x.
-          land ! (from ! (stop !)) (init ! (at 1 10) refl (typed-state W (x .result) (x .fits))) $ parts ! $ parts ! $
+          land ! (from ! (stop !)) (init ! (at 1 10) refl (typed-batch-state W (x .result) (x .fits))) $ parts ! $ parts ! $
           -- begin::answer(asked)
           nothing ! $ calls-giving ! fm (answer-gives 𝓤 H A W mem run C fm known-answer (x .result) (x .fits)) (and-then ! (in-local ! (at 4 10) refl) (no-more !)) (λ y.
           drop ! $ land ! (from ! (stop !)) (init ! (at 3 0) refl (LL.lawful Counted.the-type Counted′.the-laws 𝓤 H A W .typed (y .result) (countedVal (y .result) ∷ []) (y .fits) .0)) $
@@ -127,7 +127,7 @@ module _ {M : Type 1} (𝓤 : URA M) (H : Heap 𝓤) (A : Atoms 𝓤) (W : Given
         (and-then ! (in-local ! (at 5 1) refl) (and-then ! (in-local ! (at 5 2) refl) (and-then ! (in-local ! (at 5 3) refl)
         (and-then ! (in-local ! (at 5 4) refl) (and-then ! (in-local ! (at 5 5) refl) (and-then ! (in-local ! (at 5 11) refl)
         (and-then ! (in-local ! (at 5 12) refl) (and-then ! (in-local ! (at 5 13) refl) (no-more !))))))))) (λ x.
-        land ! (from ! (stop !)) (init ! (at 5 9) refl (typed-state W (x .result) (x .fits))) $
+        land ! (from ! (stop !)) (init ! (at 5 9) refl (typed-batch-state W (x .result) (x .fits))) $
         -- [the tokens; what is read; the answers; the questions' token; the questions]
         move ! (4 ∷ 3 ∷ 1 ∷ 0 ∷ []) $ asks l (x .result) (x .fits) (x .told))))
 

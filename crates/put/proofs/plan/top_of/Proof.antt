@@ -2,7 +2,7 @@
 use mathlib.Core.Path.{_∙_}
 use native.Mathlib.Omega.{arith}
 use Rattle.keys.proofs.Powers.{height-le}
-use Rattle.put.proofs.PlanPlaces.{key-below}
+use Rattle.put.proofs.PlanPlaces.{valid-key-below}
 use Rattle.put.proofs.PlanTop.{top-climbed, top-own}
 use borrow.Author.Needs.{needs}
 use Rattle.put.proofs.plan.top_of.Statement.{statement}
@@ -15,7 +15,7 @@ climb-requires : tie.Need-climb-requires
 climb-requires c κs =
     let start = c .before .before .before .before in
     let h = height-le (start .args .m) (start .args .key) in
-    ((start .pre .0 .0, omega (arith, c .before .height .ensures), key-below (start .pre .0 .0) (start .pre .0 .1)), start .pre .1)
+    ((start .pre .0 .0, omega (arith, c .before .height .ensures), valid-key-below (start .pre .0 .0) (start .pre .0 .1)), start .pre .1)
 
 returns : tie.Need-returns
 returns c = top-climbed _ _ _ _ _ _ _ (c .climb .ensures) (c .before .before .height .ensures) (c .before .if1 .taken)

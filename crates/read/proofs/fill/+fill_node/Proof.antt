@@ -8,7 +8,7 @@ use mathlib.Core.List.{List}
 use Rattle.definitions.specs.Picture.{Picture}
 use Rattle.read.specs.Fill.{Shows}
 use Rattle.read.proofs.Shown.{shows-room}
-use Rattle.read.proofs.FillTurn.{Reached, reached-none, reached-long, reached-all, south-fits, corner-fits, next-room, next-slots, leaf-asked, child-asked, leaf-turn, node-turn}
+use Rattle.read.proofs.FillTurn.{FillReached, fill-reached-none, reached-long, reached-all, south-fits, corner-fits, next-room, next-slots, leaf-asked, child-asked, leaf-turn, node-turn}
 use borrow.Fn.Kinds.{In}
 use borrow.Fn.PlainCycle.{Measures, is, falls, and}
 use Rattle.read.proofs.fill.fill_node.Reads as own
@@ -50,7 +50,7 @@ claims t = (
 )
 
 abbrev Inv-loop : lts.InvT-loop
-Inv-loop bits raster₀ wide at place side half south next₀ d₀ raster next d = Reached bits raster₀ at wide place side raster next d
+Inv-loop bits raster₀ wide at place side half south next₀ d₀ raster next d = FillReached bits raster₀ at wide place side raster next d
 
 abbrev μ-loop : lts.MeasureT-loop
 μ-loop bits raster₀ wide at place side half south next₀ d₀ raster next d = 4 - d
@@ -66,7 +66,7 @@ add-next : (t : ℕ) → lts.Need-add-next (claims t) (given t) own.Post Inv-loo
 add-next t c = let e = shows-room (c .before .before .pre .1 .shows) in omega (arith, c .before .before .good)
 
 loop-holds : (t : ℕ) → lts.Need-loop-holds (claims t) (given t) own.Post Inv-loop μ-loop
-loop-holds t c = reached-none _ _ _ _ _ _
+loop-holds t c = fill-reached-none _ _ _ _ _ _
 
 corner-of-requires : (t : ℕ) → lts.Need-corner-of-requires (claims t) (given t) own.Post Inv-loop μ-loop
 corner-of-requires t c κs = let e = corner-fits (c .before .before .before .before .pre .1 .shows) in omega (arith, c .before .before .before .before .good)

@@ -4,13 +4,13 @@ use mathlib.Core.Path.{refl, sym, _∙_}
 use mathlib.Core.Logic.{⊎-elim}
 use native.Mathlib.Omega.{arith}
 use Rattle.read.proofs.Shown.{shows-room}
-use Rattle.read.proofs.FillTurn.{Reached, reached-none, reached-long, reached-all, south-fits, corner-fits, next-room, next-slots, leaf-asked, child-asked, leaf-turn, node-turn}
+use Rattle.read.proofs.FillTurn.{FillReached, fill-reached-none, reached-long, reached-all, south-fits, corner-fits, next-room, next-slots, leaf-asked, child-asked, leaf-turn, node-turn}
 use Rattle.read.proofs.FourPixels.{four-there}
 use Rattle.read.proofs.fill.fill_sixteen.Statement.{statement}
 use Rattle.read.proofs.fill.fill_sixteen.Tie as tie
 
 abbrev Inv-loop : tie.InvT-loop
-Inv-loop bits raster₀ wide at place south next₀ d₀ raster next d = Reached bits raster₀ at wide place 4 raster next d
+Inv-loop bits raster₀ wide at place south next₀ d₀ raster next d = FillReached bits raster₀ at wide place 4 raster next d
 
 abbrev μ-loop : tie.MeasureT-loop
 μ-loop bits raster₀ wide at place south next₀ d₀ raster next d = 4 - d
@@ -22,7 +22,7 @@ add-next : tie.Need-add-next Inv-loop μ-loop
 add-next c = let e = shows-room (c .before .before .pre .shows) in omega (arith, c .before .before .good)
 
 loop-holds : tie.Need-loop-holds Inv-loop μ-loop
-loop-holds c = reached-none _ _ _ _ _ _
+loop-holds c = fill-reached-none _ _ _ _ _ _
 
 corner-of-requires : tie.Need-corner-of-requires Inv-loop μ-loop
 corner-of-requires c κs = let e = corner-fits (c .before .before .before .before .pre .shows) in omega (arith, c .before .before .before .before .good)

@@ -51,13 +51,13 @@ use Rattle.rules.proofs.state.RunState as RunState
 use Rattle.rules.proofs.state.RunState.Laws as State′
 use Rattle.rules.proofs.Fold.{noRule}
 use Rattle.lending.proofs.Locals.{Content, empty, holds, at, Addresses, envOf, Held, in-local, allocates, frees-all}
-use Rattle.lending.proofs.Slices.{Slice, val, typed-slice, token}
+use Rattle.lending.proofs.Slices.{LentSlice, val, typed-slice, token}
 use Rattle.lending.proofs.Reborrow.{reborrows}
 use Rattle.lending.proofs.Calling.{calls-giving}
 use Rattle.rules.proofs.RunSlices.{RunSlices, stateVals, valOf, typed-state, reads, tokens, answers, ReadyAt, reads-twice}
-use Rattle.rules.proofs.RunEntryExit.{stayed, machine, sharedRules, held, AtEntry, AtExit, enters, exits}
+use Rattle.rules.proofs.RunEntryExit.{rules-stayed, rules-machine, sharedRules, rules-held, AtEntry, AtExit, enters, exits}
 use Rattle.rules.proofs.RunTurns.{Turn, rule, entry, first-turn, next-turn, left, nearer}
-use Rattle.rules.proofs.StepCall.{ruleVals, Step, step-gives}
+use Rattle.rules.proofs.StepCall.{ruleVals, RuleStep, step-gives}
 use Rattle.rules.proofs.one_rule.step.Symbol as step-def
 use Rattle.rules.proofs.one_rule.step.Symbol.{name as #step}
 use Rattle.rules.proofs.one_rule.step.Met as step-thm
@@ -70,9 +70,9 @@ use Rattle.rules.proofs.all_rules.run.Code.Mir as mir
 ruleTells : Tells Rule.the-row (Is Rule.the-row) ruleVals
 ruleTells = LL.tells Rule.the-type Rule′.the-laws
 
-module _ {M : Type 1} (𝓤 : URA M) (H : Heap 𝓤) (A : Atoms 𝓤) (W : Given 𝓤 H A) (mem : Memory → SProp 𝓤) (run : Routine → Fun 𝓤) (rules : Slice Rule.the-row) (S : RunSlices) (state : RunState)
+module _ {M : Type 1} (𝓤 : URA M) (H : Heap 𝓤) (A : Atoms 𝓤) (W : Given 𝓤 H A) (mem : Memory → SProp 𝓤) (run : Routine → Fun 𝓤) (rules : LentSlice Rule.the-row) (S : RunSlices) (state : RunState)
     (fits : Is RunState.the-row state (stateVals state)) (ready : ReadyAt S (entry S (rules .x .now) state))
-    (𝓣 : Tables 𝓤 H) (known : Triple 𝓤 (𝓣 .C #step) (Step 𝓤 H A mem run)) where
+    (𝓣 : Tables 𝓤 H) (known : Triple 𝓤 (𝓣 .C #step) (RuleStep 𝓤 H A mem run)) where
   abbrev Turns : Type 0
   Turns = Turn S (rules .x .now) state
 
@@ -180,9 +180,9 @@ module _ {M : Type 1} (𝓤 : URA M) (H : Heap 𝓤) (A : Atoms 𝓤) (W : Given
     loops : (t : Turns) → Sq W (Inv t) (runs C Λ En mir.t-3 (atRet En Post))
     loops t = first ! $ blocks ! $ R′.loops ! 𝓣 Nearer (InvImage·wf (left S (rules .x .now) state) (Nat·lt-wfRel .wf)) Inv turned t
 
-  walk : ent 𝓤 (AtEntry 𝓤 H A W mem run rules S state) (WpFn 𝓤 H (𝓣 .C) (𝓣 .Λ) code.function (machine rules S state) Post)
+  walk : ent 𝓤 (AtEntry 𝓤 H A W mem run rules S state) (WpFn 𝓤 H (𝓣 .C) (𝓣 .Λ) code.function (rules-machine rules S state) Post)
   walk = via 𝓤 _ (enters 𝓤 H A W mem run rules S state) (
-      qed W (held 𝓤 rules S ∷ []) ∵ enter ! C Λ code.function (machine rules S state) _ $ allocates ! (code.function .locals) (λ l. params1 ! $
+      qed W (rules-held 𝓤 rules S ∷ []) ∵ enter ! C Λ code.function (rules-machine rules S state) _ $ allocates ! (code.function .locals) (λ l. params1 ! $
       -- the parameters
       pass1 ! (init ! (at 1 1) refl (typed-slice rules)) $ pass1 ! (init ! (at 1 2) refl (typed-slice (S .keys))) $
       pass1 ! (init ! (at 1 3) refl (typed-slice (S .bits))) $ pass1 ! (init ! (at 1 4) refl (typed-slice (S .waiver-ids))) $
@@ -194,9 +194,9 @@ module _ {M : Type 1} (𝓤 : URA M) (H : Heap 𝓤) (A : Atoms 𝓤) (W : Given
       -- what is held is taken apart, and the loop begins
       parts ! $ move ! (1 ∷ []) $ parts ! $ move ! (1 ∷ []) $ parts ! $ move ! (1 ∷ []) $ parts ! $ loops l (first-turn S (rules .x .now) state fits ready)))
 
-module _ {M : Type 1} (𝓤 : URA M) (H : Heap 𝓤) (A : Atoms 𝓤) (W : Given 𝓤 H A) (mem : Memory → SProp 𝓤) (run : Routine → Fun 𝓤) (𝓣 : Tables 𝓤 H) (known : Triple 𝓤 (𝓣 .C #step) (Step 𝓤 H A mem run)) where
-  run-walks : Walks 𝓤 H A run′.ended stayed (WpFn 𝓤 H (𝓣 .C) (𝓣 .Λ) code.function) (run′.clauses 𝓤 H A mem run)
-  run-walks = walked 𝓤 H A run′.ended stayed (run′.clauses 𝓤 H A mem run) (WpFn 𝓤 H (𝓣 .C) (𝓣 .Λ) code.function)
+module _ {M : Type 1} (𝓤 : URA M) (H : Heap 𝓤) (A : Atoms 𝓤) (W : Given 𝓤 H A) (mem : Memory → SProp 𝓤) (run : Routine → Fun 𝓤) (𝓣 : Tables 𝓤 H) (known : Triple 𝓤 (𝓣 .C #step) (RuleStep 𝓤 H A mem run)) where
+  run-walks : Walks 𝓤 H A run′.ended rules-stayed (WpFn 𝓤 H (𝓣 .C) (𝓣 .Λ) code.function) (run′.clauses 𝓤 H A mem run)
+  run-walks = walked 𝓤 H A run′.ended rules-stayed (run′.clauses 𝓤 H A mem run) (WpFn 𝓤 H (𝓣 .C) (𝓣 .Λ) code.function)
       (λ κs. (slice-vals, (slice-vals, (slice-vals, (slice-vals, (slice-vals, (slice-vals, (slice-vals, (stateVals, tt)))))))))
       (λ κs. (
         shr-slice-tells (named 0) (κs .0) Rule.the-row,
@@ -226,7 +226,7 @@ module _ {M : Type 1} (𝓤 : URA M) (H : Heap 𝓤) (A : Atoms 𝓤) (W : Given
       }) (a .1 .1 .1 .1 .1 .1 .1 .0) (are .1 .1 .1 .1 .1 .1 .1 .0) ready 𝓣 known))
 
   run-meets : Meets 𝓤 H A run′.signature (WpFn 𝓤 H (𝓣 .C) (𝓣 .Λ) code.function) (run′.spec 𝓤 H A mem run)
-  run-meets = walk-meets 𝓤 H A run′.ended stayed W
+  run-meets = walk-meets 𝓤 H A run′.ended rules-stayed W
       (rules-go, (shared-goes 1 tt, (shared-goes 2 tt, (shared-goes 3 tt, (shared-goes 4 tt, (goes-slice 𝓤 H A W 7 5 tt (plain (λ _. u32)), (goes-slice 𝓤 H A W 7 6 tt (plain (λ _. u32)), (state-goes, tt))))))))
       (run′.clauses 𝓤 H A mem run) (WpFn 𝓤 H (𝓣 .C) (𝓣 .Λ) code.function) (WpFn-mono 𝓤 H (W .laws) 𝓣 code.function) run-walks
     where
@@ -245,4 +245,4 @@ run-spec 𝓤 H 𝓜 𝓖 𝓡 =
     entered 𝓤 H (tripleOf 𝓤 H (𝓖 .A) run′.signature (run′.spec 𝓤 H (𝓖 .A) (𝓜 .mem) (𝓡 .run)))
     (tables 𝓤 H 𝓜 𝓡 code.env .C) (tables 𝓤 H 𝓜 𝓡 code.env .Λ) #run code.function (code.unfolded 𝓤 H 𝓜 𝓡)
     (run-meets 𝓤 H (𝓖 .A) (givenOf 𝓤 H 𝓜 𝓖) (𝓜 .mem) (𝓡 .run) (tablesOf 𝓤 H 𝓜 (tables 𝓤 H 𝓜 𝓡 code.env))
-    (cited 𝓤 H (Step 𝓤 H (𝓖 .A) (𝓜 .mem) (𝓡 .run)) 𝓜 𝓡 code.env #step step-def.routine code.calls-rules·one-rule·step (step-thm.met 𝓤 H 𝓜 𝓖 𝓡)))
+    (cited 𝓤 H (RuleStep 𝓤 H (𝓖 .A) (𝓜 .mem) (𝓡 .run)) 𝓜 𝓡 code.env #step step-def.routine code.calls-rules·one-rule·step (step-thm.met 𝓤 H 𝓜 𝓖 𝓡)))

@@ -6,12 +6,12 @@ use mathlib.Core.Logic.{⊎-elim}
 use lib.ListN.{length}
 use lib.Dec.{leb}
 use Rattle.sift.specs.Covering.{endOf, startOf}
-use Rattle.sift.proofs.Settling.{Going, begins, goes, settled, none-left, late-left, waived-at}
+use Rattle.sift.proofs.Settling.{SettlingGoes, begins, goes, settled, none-left, late-left, waived-at}
 use Rattle.sift.proofs.waivers.merge.Statement.{statement}
 use Rattle.sift.proofs.waivers.merge.Tie as tie
 
 abbrev Inv-loop : tie.InvT-loop
-Inv-loop m waived key from furthest end at₀ place₀ at place = Going m waived (startOf m furthest key) from (endOf m key) place (at .furthest) (at .next)
+Inv-loop m waived key from furthest end at₀ place₀ at place = SettlingGoes m waived (startOf m furthest key) from (endOf m key) place (at .furthest) (at .next)
 
 abbrev μ-loop : tie.MeasureT-loop
 μ-loop m waived key from furthest end at₀ place₀ at place = length waived - place

@@ -6,7 +6,7 @@ use native.Mathlib.Omega.{arith}
 use borrow.Fn.Kinds.{In}
 use borrow.Fn.PlainCycle.{Measures, is, falls, and}
 use Rattle.list.proofs.Shown.{shown-room}
-use Rattle.summary.proofs.CountTurn.{Reached, reached-none, reached-all, next-room, next-slots, counts-room, child-asked, leaf-turn, node-turn, less}
+use Rattle.summary.proofs.CountTurn.{CountReached, reached-none, reached-all, next-room, next-slots, counts-room, child-asked, leaf-turn, node-turn, less}
 use Rattle.summary.proofs.count.count_node.Reads as own
 use Rattle.summary.proofs.count.count_node.Kinds as kinds
 use Rattle.summary.proofs.count.+count_node.Lts-count_node as lts
@@ -39,7 +39,7 @@ claims t = (
 )
 
 abbrev Inv-loop : lts.InvT-loop
-Inv-loop bits counts₀ at area quarter next₀ d₀ counts next d = Reached bits counts₀ at area counts next d
+Inv-loop bits counts₀ at area quarter next₀ d₀ counts next d = CountReached bits counts₀ at area counts next d
 
 abbrev μ-loop : lts.MeasureT-loop
 μ-loop bits counts₀ at area quarter next₀ d₀ counts next d = 4 - d

@@ -4,13 +4,13 @@ use mathlib.Core.Path.{refl, sym, _∙_}
 use mathlib.Core.Logic.{⊎-elim}
 use native.Mathlib.Omega.{arith}
 use Rattle.list.proofs.Shown.{shown-room}
-use Rattle.summary.proofs.CountTurn.{Reached, reached-none, reached-all, next-room, next-slots, counts-room, child-asked, leaf-turn, node-turn}
+use Rattle.summary.proofs.CountTurn.{CountReached, reached-none, reached-all, next-room, next-slots, counts-room, child-asked, leaf-turn, node-turn}
 use Rattle.summary.proofs.FourPixels.{four-there}
 use Rattle.summary.proofs.count.count_sixteen.Statement.{statement}
 use Rattle.summary.proofs.count.count_sixteen.Tie as tie
 
 abbrev Inv-loop : tie.InvT-loop
-Inv-loop bits counts₀ at next₀ d₀ counts next d = Reached bits counts₀ at 16 counts next d
+Inv-loop bits counts₀ at next₀ d₀ counts next d = CountReached bits counts₀ at 16 counts next d
 
 abbrev μ-loop : tie.MeasureT-loop
 μ-loop bits counts₀ at next₀ d₀ counts next d = 4 - d

@@ -14,7 +14,7 @@ use Rattle.walk.proofs.Lies.{small}
 use Rattle.walk.proofs.Steps.{Parent, few-keys, clear-apart, clear-first, cut-parent, first-less, follows-at, follows-gone}
 use Rattle.walk.proofs.Asked.{PlaceAsked, asked-place, near-place}
 use Rattle.walk.proofs.Told.{told-place, told-holds, told-whole}
-use Rattle.walk.proofs.Going.{Going, Past, going-root, going-first, past-unasked, past-told, going-on, going-less}
+use Rattle.walk.proofs.Going.{WalkGoes, WalkPast, going-root, going-first, past-unasked, past-told, going-on, going-less}
 use Rattle.window.proofs.PassedLeaf.{past-leaf}
 use Rattle.window.proofs.Seen.{Unseen, unseen-none, unseen-clear, unseen-lower, unseen-block, seen-block, seen-whole, unseen-end}
 use Rattle.walk.proofs.Shows.{bits-no, bits-yes, bits-alone}
@@ -23,14 +23,14 @@ use Rattle.window.proofs.exist.exist_in.Tie as tie
 
 abbrev Inv-loop : tie.InvT-loop
 Inv-loop m keys bits n window feature bit spot₀ from₀ spot from =
-    Going m keys n from (spot₀ .key) spot × Unseen m (shownBy m keys bits n) window feature (spot .key)
+    WalkGoes m keys n from (spot₀ .key) spot × Unseen m (shownBy m keys bits n) window feature (spot .key)
 
 abbrev μ-loop : tie.MeasureT-loop
 μ-loop m keys bits n window feature bit spot₀ from₀ spot from = spot .step
 
 abbrev Inv-walk : tie.InvT-walk
 Inv-walk m keys bits n window feature bit spot₀ from₀ spot from =
-    Going m keys n from (spot .key) spot × Unseen m (shownBy m keys bits n) window feature (spot .key)
+    WalkGoes m keys n from (spot .key) spot × Unseen m (shownBy m keys bits n) window feature (spot .key)
 
 abbrev μ-walk : tie.MeasureT-walk
 μ-walk m keys bits n window feature bit spot₀ from₀ spot from = 5 ^ m - spot .key
@@ -139,7 +139,7 @@ Ended = tie.Joined1 Inv-loop μ-loop Inv-walk μ-walk
 
 -- a block is passed
 past : (c : Ended)
-    → (let at = c .before .before in Past (entry at .args .m) (entry at .args .keys .now) (entry at .args .n) (c .if1 .from) (at .before .walk .spot .key) (c .if1 .spot))
+    → (let at = c .before .before in WalkPast (entry at .args .m) (entry at .args .keys .now) (entry at .args .n) (c .if1 .from) (at .before .walk .spot .key) (c .if1 .spot))
 past c =
     let at = c .before .before in
     ⊎-elim (λ w. rw (w .1, w .2) (past-unasked (at .loop .inv .0)))

@@ -14,7 +14,7 @@ use Rattle.walk.proofs.Lies.{small}
 use Rattle.walk.proofs.Steps.{Parent, few-keys, clear-apart, clear-first, cut-parent, first-less, follows-at, follows-gone}
 use Rattle.walk.proofs.Asked.{asked-place, near-place}
 use Rattle.walk.proofs.Told.{told-place, told-holds, told-whole}
-use Rattle.walk.proofs.Going.{Going, Past, going-root, going-first, past-unasked, past-told, going-on, going-less}
+use Rattle.walk.proofs.Going.{WalkGoes, WalkPast, going-root, going-first, past-unasked, past-told, going-on, going-less}
 use Rattle.window.proofs.PassedLeaf.{past-leaf}
 use Rattle.window.proofs.Gathered.{Gathered, gathered-none, gathered-clear, gathered-settled, not-settled, gathered-end}
 use Rattle.window.proofs.report.report_in.Statement.{statement}
@@ -22,14 +22,14 @@ use Rattle.window.proofs.report.report_in.Tie as tie
 
 abbrev Inv-loop2 : tie.InvT-loop2
 Inv-loop2 m keys bits n window union₀ spot₀ from₀ union spot from =
-    Going m keys n from (spot₀ .key) spot × Gathered m (shownBy m keys bits n) window union (spot .key)
+    WalkGoes m keys n from (spot₀ .key) spot × Gathered m (shownBy m keys bits n) window union (spot .key)
 
 abbrev μ-loop2 : tie.MeasureT-loop2
 μ-loop2 m keys bits n window union₀ spot₀ from₀ union spot from = spot .step
 
 abbrev Inv-loop : tie.InvT-loop
 Inv-loop m keys bits n window union₀ spot₀ from₀ union spot from =
-    Going m keys n from (spot .key) spot × Gathered m (shownBy m keys bits n) window union (spot .key)
+    WalkGoes m keys n from (spot .key) spot × Gathered m (shownBy m keys bits n) window union (spot .key)
 
 abbrev μ-loop : tie.MeasureT-loop
 μ-loop m keys bits n window union₀ spot₀ from₀ union spot from = 5 ^ m - spot .key
@@ -129,7 +129,7 @@ Ended = tie.Joined1 Inv-loop2 μ-loop2 Inv-loop μ-loop
 
 -- a block is passed
 past : (c : Ended)
-    → (let at = c .before .before in Past (entry at .args .m) (entry at .args .keys .now) (entry at .args .n) (c .if1 .from) (at .before .loop .spot .key) (c .if1 .spot))
+    → (let at = c .before .before in WalkPast (entry at .args .m) (entry at .args .keys .now) (entry at .args .n) (c .if1 .from) (at .before .loop .spot .key) (c .if1 .spot))
 past c =
     let at = c .before .before in
     ⊎-elim (λ w. rw (w .2, w .3) (past-unasked (at .loop2 .inv .0)))

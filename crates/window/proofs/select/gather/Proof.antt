@@ -18,7 +18,7 @@ use Rattle.walk.proofs.Lies.{small}
 use Rattle.walk.proofs.Steps.{Parent, some-keys, few-keys, cut-parent, first-stands, first-less, parting-first}
 use Rattle.walk.proofs.Steps.{follows-at, follows-gone, walking-root, walking-whole}
 use Rattle.walk.proofs.Told.{told-bits, told-near, told-holds, told-whole, told-end}
-use Rattle.walk.proofs.Going.{Going, Past, going-root, going-first, past-unasked, past-told, going-on, going-less}
+use Rattle.walk.proofs.Going.{WalkGoes, WalkPast, going-root, going-first, past-unasked, past-told, going-on, going-less}
 use Rattle.walk.proofs.Shows.{bits-no}
 use Rattle.walk.proofs.Below.{lower-apart, lower-lacking, lower-enter}
 use Rattle.window.proofs.BlockLeaves.{told-all, told-several, told-fits, run-gave}
@@ -35,7 +35,7 @@ record Still (m : ℕ) (p : Picture) (w : Window) (f : ℕ) (answer₀ answer : 
 
 abbrev Inv-loop2 : tie.InvT-loop2
 Inv-loop2 m keys bits n window feature answer₀ limit bit count₀ spot₀ from₀ answer count spot from =
-    Going m keys n from (spot₀ .key) spot
+    WalkGoes m keys n from (spot₀ .key) spot
     × Walking m window spot
     × Still m (shownBy m keys bits n) window feature answer₀ answer count₀ count (spot₀ .key) (spot .key)
 
@@ -44,7 +44,7 @@ abbrev μ-loop2 : tie.MeasureT-loop2
 
 abbrev Inv-loop : tie.InvT-loop
 Inv-loop m keys bits n window feature answer₀ limit bit count₀ spot₀ from₀ answer count spot from =
-    Going m keys n from (spot .key) spot
+    WalkGoes m keys n from (spot .key) spot
     × Walking m window spot
     × Taken m (shownBy m keys bits n) window feature limit answer₀ answer count (spot .key)
 
@@ -187,7 +187,7 @@ Ended = tie.Joined1 Inv-loop2 μ-loop2 Inv-loop μ-loop
 
 -- a block is passed, the turn's or one around it
 past : (c : Ended)
-    → (let at = c .before .before in Past (entry at .args .m) (entry at .args .keys .now) (entry at .args .n) (c .if1 .from) (at .before .loop .spot .key) (c .if1 .spot))
+    → (let at = c .before .before in WalkPast (entry at .args .m) (entry at .args .keys .now) (entry at .args .n) (c .if1 .from) (at .before .loop .spot .key) (c .if1 .spot))
 past c =
     let at = c .before .before in
     let low = entry at .pre .0 in

@@ -8,7 +8,7 @@ use native.Mathlib.Omega.{arith}
 use lib.ListN.{length}
 use Rattle.walk.specs.Given.{writtenAt, written}
 use Rattle.window.specs.Gather.{Gave}
-use Rattle.walk.proofs.Written.{written-none, written-one, length-written-at}
+use Rattle.walk.proofs.Written.{written-none, written-one-key, length-written-at}
 use Rattle.window.proofs.Run.{left, run-over, run-gives, run-passes}
 use Rattle.window.proofs.select.gather_run.Statement.{statement}
 use Rattle.window.proofs.select.gather_run.Tie as tie
@@ -48,7 +48,7 @@ module _ {whole : List ℕ} {limit count : ℕ} {answer₀ answer : List ℕ} {g
       record {
         counts = let n = ap length e in omega (arith, p .counts);
         writes = ap₂ (λ (x : List ℕ) (j : ℕ). written limit x j more) f (g ∙ add-one given)
-            ∙ sym (written-one limit answer given key more)
+            ∙ sym (written-one-key limit answer given key more)
             ∙ ap (written limit answer given) (sym e)
             ∙ p .writes;
         lengths = ap length f ∙ length-written-at limit answer given key ∙ p .lengths;
