@@ -23,7 +23,7 @@ use Rattle.list.proofs.OneSlot.{none-slot}
 use Rattle.list.proofs.Shown.{slot-one, shown-feature, shown-value, node-several}
 use Rattle.list.proofs.ShownQuadrants.{Left, left-all, left-shown, left-then, left-none}
 use Rattle.list.specs.Quadrants.{quadrantRow, quadrantColumn}
-use Rattle.combine.specs.Combining.{At, leafOf, Entered, passing, Passed}
+use Rattle.combine.specs.Combining.{At, leafOf, Entered, passing, CursorPassed}
 use Rattle.combine.specs.declared.cursor.Cursor.{Cursor}
 
 leaf-one : (b : ℕ) → oneSlot b ≡ true → leafOf b ≡ b
@@ -121,7 +121,7 @@ module _ {p : Picture} {k r c κ : ℕ} {bits : List ℕ} {x y : Cursor} {d : �
   }
 
   -- and once it is passed at the one after it
-  pub quarter-next : d < 4 → {z : Cursor} → Passed p k (quadrantRow d r (2 ^ k)) (quadrantColumn d c (2 ^ k)) (childKey κ k (suc d)) y z
+  pub quarter-next : d < 4 → {z : Cursor} → CursorPassed p k (quadrantRow d r (2 ^ k)) (quadrantColumn d c (2 ^ k)) (childKey κ k (suc d)) y z
       → WaitingQuarters p k r c κ bits x z (d + 1)
   quarter-next h {z} e = record {
     waits = λ o.

@@ -38,7 +38,7 @@ abbrev pub passing : Picture → ℕ → ℕ → ℕ → ℕ → ℕ → ℕ
 passing p k r c κ leaf = cond (eqb leaf 0) (length (listOf p k r c κ)) 0
 
 -- once the block is passed: inside the leaf as before, and at the place after the block
-pub record Passed (p : Picture) (k r c κ : ℕ) (x y : Cursor) : Type 0 where
+pub record CursorPassed (p : Picture) (k r c κ : ℕ) (x y : Cursor) : Type 0 where
   pub same-leaf : y .leaf ≡ x .leaf
   pub at-is : y .at ≡ x .at + passing p k r c κ (x .leaf)
 
@@ -63,8 +63,8 @@ pub record BothEntered (bits₁ bits₂ : List ℕ) (x y : Pair) : Type 0 where
 
 -- the block is passed in both
 pub record Passes (p q : Picture) (k r c κ : ℕ) (x y : Pair) : Type 0 where
-  pub first-next : Passed p k r c κ (x .first) (y .first)
-  pub second-next : Passed q k r c κ (x .second) (y .second)
+  pub first-next : CursorPassed p k r c κ (x .first) (y .first)
+  pub second-next : CursorPassed q k r c κ (x .second) (y .second)
 
 -- the table has an entry for each pair of classes in the block, each a class of some result
 pub record Named (p q : Picture) (k r c : ℕ) (table : List ℕ) (s₂ : ℕ) : Type 0 where

@@ -20,7 +20,7 @@ use Rattle.list.specs.Check.{stepUnder}
 use Rattle.list.specs.Own.{OwnList, shownBy}
 use Rattle.list.specs.Among.{placeAmong}
 use Rattle.list.proofs.Content.{Stand, keys-length, bits-length, root-valid, root-list, many-records}
-use Rattle.summary.specs.Kept.{RowKept, RowsKept, Shared, KeepingAsked, KeepingAnswered, FirstNode}
+use Rattle.summary.specs.Kept.{RowKept, RowsKept, SharedArea, KeepingAsked, KeepingAnswered, FirstNode}
 use Rattle.summary.proofs.CountBlock.{node-counts}
 use Rattle.summary.proofs.BlockNumbers.{number-most, key-valid, key-height}
 use Rattle.summary.proofs.PassTurn.{step-of}
@@ -34,7 +34,7 @@ none-kept bits area row = record {
 }
 
 -- the root is a node of sixteen blocks
-root-shared : (m step area : ℕ) → 4 ≤ m → m ≤ 10 → step ≡ 5 ^ (m - 1) → area ≡ 4 ^ summaryHeight m → Shared step area 16
+root-shared : (m step area : ℕ) → 4 ≤ m → m ≤ 10 → step ≡ 5 ^ (m - 1) → area ≡ 4 ^ summaryHeight m → SharedArea step area 16
 root-shared m step area h deep e f =
     let up : m - 1 ≡ 2 + suc (m - 4) = omega arith in
     let low : summaryHeight m ≡ suc (suc (m - 4)) = omega arith in

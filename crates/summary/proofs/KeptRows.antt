@@ -14,7 +14,7 @@ use Rattle.list.specs.Check.{oneSlot}
 use Rattle.list.proofs.Turn as check
 use Rattle.summary.specs.Count.{CountersFit, NodeCounted}
 use Rattle.summary.specs.Pass.{NodeThere, OneHeight, PassAsked, PassAnswered}
-use Rattle.summary.specs.Kept.{RowKept, RowsKept, Shared, KeepingAsked, KeepingAnswered}
+use Rattle.summary.specs.Kept.{RowKept, RowsKept, SharedArea, KeepingAsked, KeepingAnswered}
 
 -- counters that are all 0 have room
 pub none-fit : (area : ℕ) → area ≤ 4 ^ 10 → CountersFit (replicate 32 0) area
@@ -24,8 +24,8 @@ none-fit area h = record {
 }
 
 -- a block by itself, and the blocks of a child
-pub block-level : (step area : ℕ) → Shared step area 1 → OneHeight step area × (5 ≤ step)
-block-level step area s = go (s .up) (s .blocks) (s .steps)
+pub kept-level : (step area : ℕ) → SharedArea step area 1 → OneHeight step area × (5 ≤ step)
+kept-level step area s = go (s .up) (s .blocks) (s .steps)
   where
     go : (u : ℕ) → 1 ≡ 4 ^ u → step ≡ 5 ^ (u + suc (s .height)) → OneHeight step area × (5 ≤ step)
     go zero e f =
@@ -35,10 +35,10 @@ block-level step area s = go (s .up) (s .blocks) (s .steps)
         (record { height = suc (s .height); steps = steps; pixels = s .pixels }, omega arith)
     go (suc u) e f = absurd (let a = pow-suc 4 u in let p = one-le-pow u 4 (omega arith) in omega arith)
 
-pub child-shared : (step area share : ℕ) → Shared step area share → (share ≡ 1 → ⊥) → Shared (step / 5) area (share / 4) × (4 * (share / 4) ≡ share)
+pub child-shared : (step area share : ℕ) → SharedArea step area share → (share ≡ 1 → ⊥) → SharedArea (step / 5) area (share / 4) × (4 * (share / 4) ≡ share)
 child-shared step area share s many = go (s .up) (s .blocks) (s .steps)
   where
-    go : (u : ℕ) → share ≡ 4 ^ u → step ≡ 5 ^ (u + suc (s .height)) → Shared (step / 5) area (share / 4) × (4 * (share / 4) ≡ share)
+    go : (u : ℕ) → share ≡ 4 ^ u → step ≡ 5 ^ (u + suc (s .height)) → SharedArea (step / 5) area (share / 4) × (4 * (share / 4) ≡ share)
     go zero e f = absurd (many e)
     go (suc u) e f =
         let a = pow-suc 4 u in
@@ -69,7 +69,7 @@ kept-more {B} {area} {rows} {places} b at counts k h x = record {
 module _ {K B : List ℕ} {rows : List (List ℕ)} {places : List ℕ} {at key own step area b : ℕ} (asked : KeepingAsked K B rows places at key own step area b 1) where
   pub block-asked : PassAsked K B (replicate 32 0) at key own step area × (5 ≤ step)
   block-asked =
-      let l = block-level step area (asked .shared) in
+      let l = kept-level step area (asked .shared) in
       (record { node = asked .node; level = l .0; room = none-fit area (asked .shared .small) }, l .1)
 
   module _ {counts : List ℕ} {place : ℕ} (x : PassAnswered K B (replicate 32 0) counts at key own step area place) where

@@ -24,7 +24,7 @@ pub record RowsKept (bits : List ℕ) (area : ℕ) (rows : List (List ℕ)) (pla
   pub known : (b : ℕ) → b < 16 → (getD places b 0 ≡ 0 → ⊥) → RowKept bits area (getD places b 0) (getD rows b [])
 
 -- a node that has so many blocks of the summary, each of so many pixels: it is as many levels above them
-pub record Shared (step area share : ℕ) : Type 0 where
+pub record SharedArea (step area share : ℕ) : Type 0 where
   pub up : ℕ
   pub height : ℕ
   pub blocks : share ≡ 4 ^ up
@@ -35,7 +35,7 @@ pub record Shared (step area share : ℕ) : Type 0 where
 -- the blocks from number b on are kept
 pub record KeepingAsked (keys bits : List ℕ) (rows : List (List ℕ)) (places : List ℕ) (at key own step area b share : ℕ) : Type 0 where
   pub node : NodeThere keys bits at key own step
-  pub shared : Shared step area share
+  pub shared : SharedArea step area share
   pub most : b + share ≤ 16
   pub kept : RowsKept bits area rows places
 
