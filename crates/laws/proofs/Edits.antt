@@ -15,7 +15,7 @@ use Rattle.definitions.specs.Area.{summaryOf, noSummary}
 use Rattle.definitions.specs.Log.{noLog}
 use Rattle.definitions.specs.Refusal.{Row, _gives_, first, accepted, badSettings, noList}
 use Rattle.definitions.specs.Calls.Edit.{LentSheet, Edit, sheetRows, listLeft, editRefusal, editAnswer, keysLeft, bitsLeft, summaryLeft, logKeysLeft, logValuesLeft, Edits}
-use Rattle.laws.proofs.First.{numbered, NoneHolds, FirstHolds, this, first-later, none-first, first-none, holds-first, early-first, rest-first, accepted-done, accepted-left}
+use Rattle.laws.proofs.First.{numbered, NoneHolds, FirstHolds, this, none-first, first-none, holds-first, holds-more, early-first, rest-first, accepted-done, accepted-left}
 
 -- where no test of a table holds none of either part does
 none-parts : (rows more : List Row) → NoneHolds (rows ++ more) → NoneHolds rows × NoneHolds more

@@ -8,20 +8,22 @@ use lib.ListN.{length}
 use Rattle.definitions.specs.Picture.{Picture}
 use Rattle.definitions.specs.List.{Record}
 use Rattle.definitions.specs.Read.{recordsOf}
-use Rattle.definitions.specs.Log.{closingPlaces, stepCount, stepEntries, beforeStep, putBack, paintAgain}
+use Rattle.definitions.specs.Log.{closingPlaces, stepCount, stepEntries, beforeStep}
 use Rattle.laws.proofs.Records.{records-length}
 use Rattle.log.specs.declared.step.LogStep.{LogStep}
 use Rattle.log.specs.Steps.{lastStep, Stepped, EntriesBetween, none-between, one-between}
 use Rattle.log.proofs.GroupChecked.{entries-at}
 use Rattle.log.proofs.GroupEntries.{group-between}
 use Rattle.step.specs.declared.run.Run.{Run}
-use Rattle.step.specs.declared.deed.Deed.the-variants.{Back, Again}
+use Rattle.step.specs.declared.deed.Deed.{Deed}
 use Rattle.step.specs.Step.{stepOver}
-use Rattle.step.specs.Deed.{stepOf}
+use Rattle.step.specs.Deed.{Doable, stepOf}
 use Rattle.step.specs.Runs.{lastFirst, Chain, done, more, Between, EntriesIn}
 use Rattle.step.proofs.Chains.{last-none, chain-more}
 use Rattle.step.proofs.PutBack.{back-picture, again-picture}
-use Rattle.undo.specs.GroupCall.{GroupLast, GroupRun}
+use Rattle.undo.specs.GroupCall.{GroupLast, GroupRun, deedOf, groupOver}
+use Rattle.undo.specs.declared.group.Direction.{Direction}
+use Rattle.undo.specs.declared.group.Direction.the-variants.{Back as Backward, Again as Onward}
 
 -- entries between two places are a chain, with as many links
 between-chain : {m s : ℕ} {ks vs : List ℕ} {start count end : ℕ} → EntriesBetween m s ks vs start count end → Chain m s ks vs start end
@@ -78,10 +80,20 @@ module _ {m : ℕ} {ks vs : List ℕ} {used : ℕ} (d : GroupLast m ks vs used) 
           many = ap₂ (λ a b. length (lastFirst b ks vs a b)) (starts ∙ start-is) (ends ∙ end-is) ∙ between-many between;
         }
 
--- the deeds over it
+-- the deed over it, by the way that it goes
 module _ {m : ℕ} {run : Run} {ks vs : List ℕ} {log : List Record} (g : GroupRun m run ks vs log) where
-  pub group-back : (p : Picture) → stepOver (stepOf m (Back run) ks vs) p ≡ putBack (stepCount log) m (stepEntries log) p
-  group-back p = back-picture (g .entries) (g .many) (g .entries-are) p
+  over : (direction : Direction) (p : Picture) → stepOver (stepOf m (deedOf direction run) ks vs) p ≡ groupOver direction m log p
+  over Backward p = back-picture (g .entries) (g .many) (g .entries-are) p
+  over Onward p = again-picture (g .entries) (g .many) (g .entries-are) p
 
-  pub group-again : (p : Picture) → stepOver (stepOf m (Again run) ks vs) p ≡ paintAgain (stepCount log) m (stepEntries log) p
-  group-again p = again-picture (g .entries) (g .many) (g .entries-are) p
+  can-do : (direction : Direction) → Doable m (deedOf direction run) ks vs
+  can-do Backward = g .entries
+  can-do Onward = g .entries
+
+  -- as it was made
+  module _ (direction : Direction) (deed : Deed) (is : deed ≡ deedOf direction run) where
+    pub deed-doable : Doable m deed ks vs
+    deed-doable = subst (λ d. Doable m d ks vs) (sym is) (can-do direction)
+
+    pub deed-over : (p : Picture) → stepOver (stepOf m deed ks vs) p ≡ groupOver direction m log p
+    deed-over p = ap (λ d. stepOver (stepOf m d ks vs) p) is ∙ over direction p

@@ -11,13 +11,14 @@ use Rattle.definitions.specs.Read.{recordsOf}
 use Rattle.definitions.specs.Log.{closingPlaces, endsInMark, stepCount, stepEntries, lastIsStep, firstStep, paintAgain, toRedo}
 use Rattle.definitions.specs.Calls.Edit.{asLent}
 use Rattle.definitions.specs.Calls.Redo.{redonePicture, Redone}
+use Rattle.definitions.specs.declared.Edited.{Edited}
 use Rattle.laws.proofs.LastStep.{entries-group, ends-in-group}
 use Rattle.list.specs.Own.{shownBy}
-use Rattle.undo.specs.GroupCall.{GroupLast, WithSummary, Applied}
+use Rattle.undo.specs.GroupCall.{GroupLast, WithSummary, Applied, groupAnswer}
 use Rattle.undo.specs.RedoCall.{Redoable, LogToRedo}
 use Rattle.edit.proofs.EditCallTables.{passed-settings, passed-own, passed-summary}
 use Rattle.undo.proofs.Applying.{applied-as}
-use Rattle.undo.proofs.StepAnswers.{step-full, step-applied}
+use Rattle.undo.proofs.StepAnswers.{step-answered}
 use Rattle.undo.proofs.RedoPlan.{redo-first, part-lent, end-within, first-records}
 use Rattle.undo.proofs.RedoTable.{redo-sheet, redo-own, to-redo}
 
@@ -83,12 +84,7 @@ module _ {m s : ℕ} {keys bits : List ℕ} {n : ℕ} {summary logKeys logValues
       a : Applied (redonePicture m (recordsOf keys bits n) (toRedo logKeys logValues used inForce)) m s n keys bits summary keys′ bits′ summary′ r
       a = applied-as (ap (λ x. paintAgain (stepCount x) m (stepEntries x) (shownBy m keys bits n)) (sym first-is)) lent
 
-      -- 9
-      pub redo-full : r ≡ 0
-          → Redone m s keys bits n summary logKeys logValues used inForce (record { refusal = 9; n = 0; used = 0; «in_force» = 0 }) keys′ bits′ summary′ logKeys logValues
-      redo-full zero = step-full _ _ _ _ (redo-sheet t) (redo-own t) a zero
-
-      -- it is redone
-      pub group-redone : (r ≡ 0 → ⊥)
-          → Redone m s keys bits n summary logKeys logValues used inForce (record { refusal = 0; n = r; used = used; «in_force» = inForce + (end + 2) }) keys′ bits′ summary′ logKeys logValues
-      group-redone some = step-applied _ _ _ _ (redo-sheet t) (redo-own t) a some (ap (λ x. inForce + x) past-is)
+      -- as it is answered
+      pub group-redone : (answered : Edited) → answered ≡ groupAnswer r used (inForce + (end + 2))
+          → Redone m s keys bits n summary logKeys logValues used inForce answered keys′ bits′ summary′ logKeys logValues
+      group-redone answered e = step-answered _ _ _ _ (redo-sheet t) (redo-own t) a answered e (ap (λ x. inForce + x) past-is)

@@ -1,19 +1,26 @@
 -- What the functions that change a list by a group of entries ask and leave. Only contracts need these. Rests on the runs and steps of crate step.
 use Prim.Native.Nat.{ℕ, _≤_, _<_}
 use mathlib.Core.Path.{_≡_}
-use mathlib.Core.Bool.{true}
+use mathlib.Core.Bool.{true, cond}
 use mathlib.Core.List.{List}
 use lib.ListN.{length}
+use lib.Dec.{eqb}
 use Rattle.keys.specs.Key.{slotLimit}
 use Rattle.definitions.specs.Picture.{Picture}
 use Rattle.definitions.specs.List.{Record, listOfPicture}
 use Rattle.definitions.specs.Read.{room, recordsOf}
 use Rattle.definitions.specs.Area.{summaryOf}
-use Rattle.definitions.specs.Log.{endsInMark, stepCount, stepEntries, beforeStep, lastIsStep}
+use Rattle.definitions.specs.Log.{endsInMark, stepCount, stepEntries, beforeStep, lastIsStep, putBack, paintAgain}
+use Rattle.definitions.specs.declared.Edited.{Edited}
 use Rattle.list.specs.Own.{OwnList, shownBy}
 use Rattle.put.specs.Putting.{Replaced}
 use Rattle.step.specs.declared.run.Run.{Run}
+use Rattle.step.specs.declared.deed.Deed.{Deed}
+use Rattle.step.specs.declared.deed.Deed.the-variants.{Back, Again}
 use Rattle.step.specs.Runs.{EntriesIn, lastOfRun}
+use Rattle.undo.specs.declared.group.Direction.{Direction}
+use Rattle.undo.specs.declared.group.Direction.the-variants.{Back as Backward, Again as Onward}
+use Rattle.undo.specs.declared.group.GroupStep.{GroupStep}
 
 -- the used records of a log end in a group, at some s
 pub record GroupLast (m : ℕ) (logKeys logValues : List ℕ) (used : ℕ) : Type 0 where
@@ -44,3 +51,24 @@ pub record Applied (p : Picture) (m s n : ℕ) (keys bits summary keys′ bits�
   pub full : r ≡ 0 → (room keys bits < length (listOfPicture m p)) × (keys′ ≡ keys) × (bits′ ≡ bits) × (summary′ ≡ summary)
   pub done : (r ≡ 0 → ⊥)
       → (length (listOfPicture m p) ≤ room keys bits) × Replaced n (listOfPicture m p) keys bits keys′ bits′ r × (summary′ ≡ summaryOf m s p)
+
+-- the deed over a group's run, by the way that the group goes
+abbrev pub deedOf : (direction : Direction) (run : Run) → Deed
+deedOf Backward run = Back run
+deedOf Onward run = Again run
+
+-- what it makes of a picture: the contents of its entries go back, the last first, or their blocks are painted again, the first first
+abbrev pub groupOver : (direction : Direction) (m : ℕ) (log : List Record) (p : Picture) → Picture
+groupOver Backward m log p = putBack (stepCount log) m (stepEntries log) p
+groupOver Onward m log p = paintAgain (stepCount log) m (stepEntries log) p
+
+-- the group that a log ends in went its way, and its first place is told
+pub record GroupStepped (direction : Direction) (m s : ℕ) (keys bits : List ℕ) (n : ℕ) (summary : List ℕ) (log : List Record) (keys′ bits′ summary′ : List ℕ) (r : GroupStep)
+    : Type 0 where
+  pub applied : Applied (groupOver direction m log (shownBy m keys bits n)) m s n keys bits summary keys′ bits′ summary′ (r .after)
+  pub start-is : r .start ≡ length (beforeStep log)
+
+-- 9 where no records are told, and else the counts
+abbrev pub groupAnswer : (after used inForce : ℕ) → Edited
+groupAnswer after used inForce =
+    cond (eqb after 0) (record { refusal = 9; n = 0; used = 0; «in_force» = 0 }) (record { refusal = 0; n = after; used = used; «in_force» = inForce })

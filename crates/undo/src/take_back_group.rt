@@ -7,9 +7,8 @@ ghost use Rattle.definitions.specs.Calls.Edit.{asLent};
 ghost use Rattle.definitions.specs.Calls.TakeBack.{TakenBack};
 ghost use Rattle.undo.specs.TakingBackCall.{Takeable};
 use crate::group;
+use crate::group::Direction;
 use definitions::Edited;
-use definitions::refusal::Refusal;
-use step::deed::Deed;
 
 // The last group in force is taken back, and the summary follows.
 pub fn take_group_back(
@@ -29,10 +28,8 @@ pub fn take_group_back(
     ensures { λ r. ⌜ TakenBack m s (now (keys .entry)) (now (bits .entry)) n (now (summary .entry)) (now («log_keys» .entry)) (now («log_values» .entry)) used «in_force»
         r (now (keys .exit)) (now (bits .exit)) (now (summary .exit)) (now («log_keys» .entry)) (now («log_values» .entry)) ⌝ }
 {
-    let taken = group::last_run(m, log_keys, log_values, in_force);
-    let start = taken.start;
-    let after = group::apply(
-        Deed::Back(taken),
+    let stepped = group::step_group(
+        Direction::Back,
         m,
         s,
         keys,
@@ -41,19 +38,7 @@ pub fn take_group_back(
         summary,
         log_keys,
         log_values,
+        in_force,
     );
-    if after == 0 {
-        return Edited {
-            refusal: Refusal::LIST_ROOM,
-            n: 0,
-            used: 0,
-            in_force: 0,
-        };
-    }
-    Edited {
-        refusal: 0,
-        n: after as u64,
-        used: used as u64,
-        in_force: start as u64,
-    }
+    group::answer(stepped.after, used, stepped.start)
 }
