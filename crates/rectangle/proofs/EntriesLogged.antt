@@ -6,24 +6,24 @@ use mathlib.Core.List.{List, [], _∷_, _++_, map-append, append-assoc}
 use native.Mathlib.Omega.{arith}
 use lib.ListN.{length, take, drop, length-append, length-map, take-append-drop}
 use lib.Seq.{length-sets}
+use Rattle.keys.specs.Child.{childOf}
+use Rattle.keys.specs.declared.block.TreeBlock.{TreeBlock}
+use Rattle.keys.proofs.BlockChild.{in-child}
 use Rattle.slices.proofs.Sets.{sets-parts}
 use Rattle.definitions.specs.Picture.{Picture}
 use Rattle.definitions.specs.List.{Record, keysOf, valuesOf}
 use Rattle.definitions.specs.Read.{room, recordsOf}
 use Rattle.definitions.specs.Buffer.{overAt}
-use Rattle.definitions.specs.Window.{isInside, largestFrom}
+use Rattle.definitions.specs.Window.{isInside}
 use Rattle.definitions.specs.declared.Window.{Window}
 use Rattle.definitions.specs.Log.{entriesOf}
 use Rattle.definitions.specs.Calls.Paint.{gained}
 use Rattle.list.specs.Own.{shownBy}
 use Rattle.log.specs.Entries.{Logged}
-use Rattle.step.specs.Quarters.{quartersOf}
-use Rattle.step.specs.declared.quarters.Quarters.{Quarters}
-use Rattle.step.proofs.QuarterSums.{block-nw, block-ne, block-sw, block-se}
-use Rattle.rectangle.specs.WindowLogging.{entriesBelow, Enterable}
+use Rattle.rectangle.specs.WindowLogging.{largestIn, entriesBelow, Enterable}
 use Rattle.edit.proofs.ContentStands.{logged-same}
 use Rattle.edit.proofs.Relogging.{over-join}
-use Rattle.rectangle.proofs.WindowEntries.{largest-quarters, entries-none, entries-one, entries-four}
+use Rattle.rectangle.proofs.WindowEntries.{largest-cut, entries-none, entries-one, entries-four}
 
 none-over : (place : ℕ) (l : List ℕ) → l ≡ overAt place [] l
 none-over place l = let same : place ≡ place + 0 = omega arith in sym (take-append-drop place l) ∙ ap (λ n. take place l ++ drop n l) same
@@ -73,81 +73,75 @@ module _ (a b : List Record) {start next : ℕ} {keys values keys₁ values₁ :
       }
 
 -- where a block is itself the largest its entry is the one
-pub one-entry : (m : ℕ) (keys bits : List ℕ) (n : ℕ) (w : Window) (f k r c κ : ℕ) → largestFrom w k r c κ ≡ κ ∷ []
-    → gained m (recordsOf keys bits n) κ f ≡ entriesBelow m (shownBy m keys bits n) w f k r c κ
+pub one-entry : (m : ℕ) (keys bits : List ℕ) (n : ℕ) (w : Window) (f : ℕ) (b : TreeBlock) → largestIn w b ≡ b .key ∷ []
+    → gained m (recordsOf keys bits n) (b .key) f ≡ entriesBelow m (shownBy m keys bits n) w f b
 unfolding gained
-one-entry m keys bits n w f k r c κ e = sym (ap (λ l. entriesOf m (shownBy m keys bits n) l f) e ∙ entries-one m (shownBy m keys bits n) f κ)
+one-entry m keys bits n w f b e = sym (ap (λ l. entriesOf m (shownBy m keys bits n) l f) e ∙ entries-one m (shownBy m keys bits n) f (b .key))
 
 -- where there is none nothing is written
-pub no-entry : (m : ℕ) (p : Picture) (w : Window) (f k r c κ place : ℕ) (keys values : List ℕ) → largestFrom w k r c κ ≡ []
-    → Logged (entriesBelow m p w f k r c κ) place keys values keys values place
-no-entry m p w f k r c κ place keys values e =
-    logged-same (sym (ap (λ l. entriesOf m p l f) e ∙ entries-none m p f)) (logged-none place keys values)
+pub no-entry : (m : ℕ) (p : Picture) (w : Window) (f : ℕ) (b : TreeBlock) (place : ℕ) (keys values : List ℕ) → largestIn w b ≡ []
+    → Logged (entriesBelow m p w f b) place keys values keys values place
+no-entry m p w f b place keys values e = logged-same (sym (ap (λ l. entriesOf m p l f) e ∙ entries-none m p f)) (logged-none place keys values)
 
 -- the entries of the quadrants, one behind the other
-module _ {m : ℕ} {keys bits : List ℕ} {n : ℕ} {w : Window} {f k r c κ place : ℕ} {logKeys logValues : List ℕ} {q : Quarters}
-    (a : Enterable m keys bits n w f k r c κ place logKeys logValues) (e : q ≡ quartersOf k r c κ) (positive : 0 < k) (cut : isInside w k r c ≡ false) where
-  abbrev in-nw : List Record
-  in-nw = entriesBelow m (shownBy m keys bits n) w f (q .height) r c (q .nw)
+module _ {m : ℕ} {keys bits : List ℕ} {n : ℕ} {w : Window} {f : ℕ} {b : TreeBlock} {place : ℕ} {logKeys logValues : List ℕ}
+    (a : Enterable m keys bits n w f b place logKeys logValues) (positive : 0 < b .height) (cut : isInside w (b .height) (b .row) (b .column) ≡ false) where
+  -- those of the quadrant of a digit
+  abbrev of : ℕ → List Record
+  of d = entriesBelow m (shownBy m keys bits n) w f (childOf b d)
 
-  abbrev in-ne : List Record
-  in-ne = entriesBelow m (shownBy m keys bits n) w f (q .height) r (q .right) (q .ne)
+  abbrev pub Logs : TreeBlock → ℕ → List ℕ → List ℕ → List ℕ → List ℕ → ℕ → Type 0
+  Logs q = Logged (entriesBelow m (shownBy m keys bits n) w f q)
 
-  abbrev in-sw : List Record
-  in-sw = entriesBelow m (shownBy m keys bits n) w f (q .height) (q .down) c (q .sw)
+  by-quadrants : entriesBelow m (shownBy m keys bits n) w f b ≡ of 1 ++ (of 2 ++ (of 3 ++ of 4))
+  by-quadrants =
+      ap (λ l. entriesOf m (shownBy m keys bits n) l f) (largest-cut w b positive cut)
+      ∙ entries-four m (shownBy m keys bits n) f (largestIn w (childOf b 1)) (largestIn w (childOf b 2)) (largestIn w (childOf b 3)) (largestIn w (childOf b 4))
 
-  abbrev in-se : List Record
-  in-se = entriesBelow m (shownBy m keys bits n) w f (q .height) (q .down) (q .right) (q .se)
-
-  by-quarters : entriesBelow m (shownBy m keys bits n) w f k r c κ ≡ in-nw ++ (in-ne ++ (in-sw ++ in-se))
-  by-quarters =
-      ap (λ l. entriesOf m (shownBy m keys bits n) l f) (largest-quarters w r c κ e positive cut)
-      ∙ entries-four m (shownBy m keys bits n) f (largestFrom w (q .height) r c (q .nw)) (largestFrom w (q .height) r (q .right) (q .ne))
-      (largestFrom w (q .height) (q .down) c (q .sw)) (largestFrom w (q .height) (q .down) (q .right) (q .se))
-
-  all-fit : place + (length in-nw + (length in-ne + (length in-sw + length in-se))) ≤ room logKeys logValues
+  all-fit : place + (length (of 1) + (length (of 2) + (length (of 3) + length (of 4)))) ≤ room logKeys logValues
   all-fit =
-      let x = ap length by-quarters in
-      let x₁ = length-append in-nw (in-ne ++ (in-sw ++ in-se)) in
-      let x₂ = length-append in-ne (in-sw ++ in-se) in
-      let x₃ = length-append in-sw in-se in
+      let x = ap length by-quadrants in
+      let x₁ = length-append (of 1) (of 2 ++ (of 3 ++ of 4)) in
+      let x₂ = length-append (of 2) (of 3 ++ of 4) in
+      let x₃ = length-append (of 3) (of 4) in
       omega (arith, a .fits)
 
-  pub enter-nw : Enterable m keys bits n w f (q .height) r c (q .nw) place logKeys logValues
-  enter-nw = record { list = a .list; block = block-nw e (a .block) positive; fits = let h = all-fit in omega arith }
+  -- a quadrant is asked as the block was, where there is room
+  enter : (d : ℕ) → 1 ≤ d → d ≤ 4 → {q : TreeBlock} → q ≡ childOf b d → {at : ℕ} {keys′ values′ : List ℕ} → at + length (of d) ≤ room keys′ values′
+      → Enterable m keys bits n w f q at keys′ values′
+  enter d low high e fits = rw e (record { list = a .list; block = in-child b d (a .block) positive low high; fits = fits })
 
-  module _ {keys₁ values₁ : List ℕ} {second : ℕ} (one : Logged in-nw place logKeys logValues keys₁ values₁ second) where
-    pub enter-ne : Enterable m keys bits n w f (q .height) r (q .right) (q .ne) second keys₁ values₁
-    enter-ne = record {
-      list = a .list;
-      block = block-ne e (a .block) positive;
-      fits = let h = all-fit in logged-rest in-nw in-ne (omega arith) one;
-    }
+  pub enter-nw : {q : TreeBlock} → q ≡ childOf b 1 → Enterable m keys bits n w f q place logKeys logValues
+  enter-nw e = enter 1 (omega arith) (omega arith) e (let h = all-fit in omega arith)
 
-    module _ {keys₂ values₂ : List ℕ} {third : ℕ} (two : Logged in-ne second keys₁ values₁ keys₂ values₂ third) where
-      northern : Logged (in-nw ++ in-ne) place logKeys logValues keys₂ values₂ third
-      northern = let h = all-fit in logged-join in-nw in-ne (omega arith) one two
+  module _ {q₁ : TreeBlock} {keys₁ values₁ : List ℕ} {second : ℕ} (e₁ : q₁ ≡ childOf b 1) (one : Logs q₁ place logKeys logValues keys₁ values₁ second) where
+    first : Logged (of 1) place logKeys logValues keys₁ values₁ second
+    first = rw e₁ at one
 
-      pub enter-sw : Enterable m keys bits n w f (q .height) (q .down) c (q .sw) third keys₂ values₂
-      enter-sw = record {
-        list = a .list;
-        block = block-sw e (a .block) positive;
-        fits = let h = all-fit in let x = length-append in-nw in-ne in logged-rest (in-nw ++ in-ne) in-sw (omega arith) northern;
-      }
+    pub enter-ne : {q : TreeBlock} → q ≡ childOf b 2 → Enterable m keys bits n w f q second keys₁ values₁
+    enter-ne e = enter 2 (omega arith) (omega arith) e (let h = all-fit in logged-rest (of 1) (of 2) (omega arith) first)
 
-      module _ {keys₃ values₃ : List ℕ} {fourth : ℕ} (three : Logged in-sw third keys₂ values₂ keys₃ values₃ fourth) where
-        all-but-one : Logged ((in-nw ++ in-ne) ++ in-sw) place logKeys logValues keys₃ values₃ fourth
-        all-but-one = let h = all-fit in let x = length-append in-nw in-ne in logged-join (in-nw ++ in-ne) in-sw (omega arith) northern three
+    module _ {q₂ : TreeBlock} {keys₂ values₂ : List ℕ} {third : ℕ} (e₂ : q₂ ≡ childOf b 2) (two : Logs q₂ second keys₁ values₁ keys₂ values₂ third) where
+      northern : Logged (of 1 ++ of 2) place logKeys logValues keys₂ values₂ third
+      northern = let h = all-fit in logged-join (of 1) (of 2) (omega arith) first (rw e₂ at two)
 
-        fits-last : place + (length ((in-nw ++ in-ne) ++ in-sw) + length in-se) ≤ room logKeys logValues
-        fits-last = let h = all-fit in let x = length-append in-nw in-ne in let y = length-append (in-nw ++ in-ne) in-sw in omega arith
+      pub enter-sw : {q : TreeBlock} → q ≡ childOf b 3 → Enterable m keys bits n w f q third keys₂ values₂
+      enter-sw e =
+          enter 3 (omega arith) (omega arith) e (let h = all-fit in let x = length-append (of 1) (of 2) in logged-rest (of 1 ++ of 2) (of 3) (omega arith) northern)
 
-        pub enter-se : Enterable m keys bits n w f (q .height) (q .down) (q .right) (q .se) fourth keys₃ values₃
-        enter-se = record { list = a .list; block = block-se e (a .block) positive; fits = logged-rest ((in-nw ++ in-ne) ++ in-sw) in-se fits-last all-but-one }
+      module _ {q₃ : TreeBlock} {keys₃ values₃ : List ℕ} {fourth : ℕ} (e₃ : q₃ ≡ childOf b 3) (three : Logs q₃ third keys₂ values₂ keys₃ values₃ fourth) where
+        all-but-one : Logged ((of 1 ++ of 2) ++ of 3) place logKeys logValues keys₃ values₃ fourth
+        all-but-one = let h = all-fit in let x = length-append (of 1) (of 2) in logged-join (of 1 ++ of 2) (of 3) (omega arith) northern (rw e₃ at three)
 
-        pub entered : {keys₄ values₄ : List ℕ} {end : ℕ} → Logged in-se fourth keys₃ values₃ keys₄ values₄ end
-            → Logged (entriesBelow m (shownBy m keys bits n) w f k r c κ) place logKeys logValues keys₄ values₄ end
-        entered four =
+        fits-last : place + (length ((of 1 ++ of 2) ++ of 3) + length (of 4)) ≤ room logKeys logValues
+        fits-last = let h = all-fit in let x = length-append (of 1) (of 2) in let y = length-append (of 1 ++ of 2) (of 3) in omega arith
+
+        pub enter-se : {q : TreeBlock} → q ≡ childOf b 4 → Enterable m keys bits n w f q fourth keys₃ values₃
+        enter-se e = enter 4 (omega arith) (omega arith) e (logged-rest ((of 1 ++ of 2) ++ of 3) (of 4) fits-last all-but-one)
+
+        pub entered : {q₄ : TreeBlock} {keys₄ values₄ : List ℕ} {end : ℕ} → q₄ ≡ childOf b 4 → Logs q₄ fourth keys₃ values₃ keys₄ values₄ end
+            → Logs b place logKeys logValues keys₄ values₄ end
+        entered e₄ four =
             logged-same
-            (append-assoc (in-nw ++ in-ne) in-sw in-se ∙ append-assoc in-nw in-ne (in-sw ++ in-se) ∙ sym by-quarters)
-            (logged-join ((in-nw ++ in-ne) ++ in-sw) in-se fits-last all-but-one four)
+            (append-assoc (of 1 ++ of 2) (of 3) (of 4) ∙ append-assoc (of 1) (of 2) (of 3 ++ of 4) ∙ sym by-quadrants)
+            (logged-join ((of 1 ++ of 2) ++ of 3) (of 4) fits-last all-but-one (rw e₄ at four))

@@ -6,6 +6,8 @@ use native.Mathlib.Omega.{arith}
 use lib.ListN.{length, length-append}
 use Rattle.keys.specs.Key.{rootKey}
 use Rattle.keys.specs.Under.{here}
+use Rattle.keys.specs.Child.{rootOf}
+use Rattle.keys.specs.declared.block.TreeBlock.{TreeBlock}
 use Rattle.definitions.specs.List.{Record}
 use Rattle.definitions.specs.Read.{room, recordsOf}
 use Rattle.definitions.specs.Window.{largestFrom, largestBlocks}
@@ -21,14 +23,14 @@ use Rattle.rectangle.proofs.EntriesLogged.{logged-rest, logged-join}
 
 -- the group is the entries of the whole map's largest blocks, and what closes them
 pub group-is : (m : ℕ) (keys bits : List ℕ) (n : ℕ) (w : Window) (f number : ℕ) → number ≡ length (largestBlocks m w)
-    → entriesBelow m (shownBy m keys bits n) w f m 0 0 rootKey ++ groupClosing number ≡ groupGained m (recordsOf keys bits n) w f
+    → entriesBelow m (shownBy m keys bits n) w f (rootOf m) ++ groupClosing number ≡ groupGained m (recordsOf keys bits n) w f
 unfolding groupGained groupOf grouped largestBlocks
-group-is m keys bits n w f number e = ap (λ x. entriesBelow m (shownBy m keys bits n) w f m 0 0 rootKey ++ groupClosing x) e
+group-is m keys bits n w f number e = ap (λ x. entriesBelow m (shownBy m keys bits n) w f (rootOf m) ++ groupClosing x) e
 
 module _ {m : ℕ} {keys bits : List ℕ} {n : ℕ} {w : Window} {f number start used : ℕ} {logKeys logValues : List ℕ}
     (a : FreshGroup m keys bits n w f number start used logKeys logValues) where
   abbrev entries : List Record
-  entries = entriesBelow m (shownBy m keys bits n) w f m 0 0 rootKey
+  entries = entriesBelow m (shownBy m keys bits n) w f (rootOf m)
 
   both-fit : start + (length entries + length (groupClosing number)) ≤ room logKeys logValues
   both-fit =
@@ -36,8 +38,8 @@ module _ {m : ℕ} {keys bits : List ℕ} {n : ℕ} {w : Window} {f number start
       let y = length-append entries (groupClosing number) in
       omega (arith, a .fits)
 
-  pub group-enterable : Enterable m keys bits n w f m 0 0 rootKey start logKeys logValues
-  group-enterable = record { list = a .list; block = here; fits = let h = both-fit in omega arith }
+  pub group-enterable : {b : TreeBlock} → b ≡ rootOf m → Enterable m keys bits n w f b start logKeys logValues
+  group-enterable e = rw e (record { list = a .list; block = here; fits = let h = both-fit in omega arith })
 
   module _ {keys₁ values₁ : List ℕ} {behind : ℕ} (first : Logged entries start logKeys logValues keys₁ values₁ behind) where
     pub closing-fits : behind + closingPlaces ≤ room keys₁ values₁
@@ -50,10 +52,10 @@ module _ {m : ℕ} {keys bits : List ℕ} {n : ℕ} {w : Window} {f number start
 
 -- the length of the group
 pub group-length : (m : ℕ) (keys bits : List ℕ) (n : ℕ) (w : Window) (f : ℕ)
-    → length (groupGained m (recordsOf keys bits n) w f) ≡ length (entriesBelow m (shownBy m keys bits n) w f m 0 0 rootKey) + closingPlaces
+    → length (groupGained m (recordsOf keys bits n) w f) ≡ length (entriesBelow m (shownBy m keys bits n) w f (rootOf m)) + closingPlaces
 group-length m keys bits n w f =
     let x = ap length (group-is m keys bits n w f (length (largestBlocks m w)) (λ i. length (largestBlocks m w))) in
-    let y = length-append (entriesBelow m (shownBy m keys bits n) w f m 0 0 rootKey) (groupClosing (length (largestBlocks m w))) in
+    let y = length-append (entriesBelow m (shownBy m keys bits n) w f (rootOf m)) (groupClosing (length (largestBlocks m w))) in
     omega arith
 
 -- and the number of its entries

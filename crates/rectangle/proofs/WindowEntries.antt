@@ -11,6 +11,9 @@ use Rattle.keys.specs.Key.{childKey, heightOf}
 use Rattle.keys.specs.Block.{rowOf, columnOf}
 use Rattle.keys.proofs.Cases.{decide}
 use Rattle.keys.specs.Under.{MapBlock, here, nw, ne, sw, se, Every}
+use Rattle.keys.specs.Child.{childOf}
+use Rattle.keys.specs.declared.block.TreeBlock.{TreeBlock}
+use Rattle.keys.proofs.BlockChild.{one-higher}
 use Rattle.keys.proofs.Under.{under-trans}
 use Rattle.keys.proofs.Valid.{block-valid}
 use Rattle.definitions.specs.Picture.{Picture}
@@ -23,8 +26,7 @@ use Rattle.laws.proofs.Pixels.{every-to}
 use Rattle.laws.proofs.LargestBlocks.{covered-one, covered-none, covered-part}
 use Rattle.laws.proofs.LastEntry.{length-closed}
 use Rattle.build.proofs.CountBlock.{list-five}
-use Rattle.step.specs.Quarters.{quartersOf}
-use Rattle.step.specs.declared.quarters.Quarters.{Quarters}
+use Rattle.rectangle.specs.WindowLogging.{largestIn}
 
 -- a block with a pixel outside the window is not covered
 pub not-covered : (w : Window) (k r c : ℕ) → inWindow w r c ≡ false → isInside w k r c ≡ false
@@ -40,22 +42,13 @@ largest-none w (suc k) r c κ h =
     (ap₂ _++_ (largest-none w k r (c + 2 ^ k) (childKey κ k 2) (every-ne h))
     (ap₂ _++_ (largest-none w k (r + 2 ^ k) c (childKey κ k 3) (every-sw h)) (largest-none w k (r + 2 ^ k) (c + 2 ^ k) (childKey κ k 4) (every-se h))))
 
--- the quadrants as the code names them
-pub largest-quarters : (w : Window) (r c κ : ℕ) {k : ℕ} {q : Quarters} → q ≡ quartersOf k r c κ → 0 < k → isInside w k r c ≡ false
-    → largestFrom w k r c κ
-    ≡ largestFrom w (q .height) r c (q .nw)
-    ++ (largestFrom w (q .height) r (q .right) (q .ne)
-    ++ (largestFrom w (q .height) (q .down) c (q .sw) ++ largestFrom w (q .height) (q .down) (q .right) (q .se)))
-largest-quarters w r c κ {k} e positive cut =
-    let up : k ≡ suc (k - 1) = omega arith in
-    let first : childKey κ (k - 1) 1 ≡ κ + 5 ^ (k - 1) = omega arith in
-    let rest : List ℕ =
-    largestFrom w (k - 1) r (c + 2 ^ (k - 1)) (childKey κ (k - 1) 2)
-    ++ (largestFrom w (k - 1) (r + 2 ^ (k - 1)) c (childKey κ (k - 1) 3) ++ largestFrom w (k - 1) (r + 2 ^ (k - 1)) (c + 2 ^ (k - 1)) (childKey κ (k - 1) 4)) in
-    rw e
-    (ap (λ j. largestFrom w j r c κ) up
-    ∙ covered-part w (k - 1) r c κ (ap (λ j. isInside w j r c) (sym up) ∙ cut)
-    ∙ ap (λ x. largestFrom w (k - 1) r c x ++ rest) first)
+-- a block that is cut has those of its quadrants
+pub largest-cut : (w : Window) (b : TreeBlock) → 0 < b .height → isInside w (b .height) (b .row) (b .column) ≡ false
+    → largestIn w b ≡ largestIn w (childOf b 1) ++ (largestIn w (childOf b 2) ++ (largestIn w (childOf b 3) ++ largestIn w (childOf b 4)))
+largest-cut w b positive cut =
+    let up = one-higher b positive in
+    ap (λ j. largestFrom w j (b .row) (b .column) (b .key)) up
+    ∙ covered-part w (b .height - 1) (b .row) (b .column) (b .key) (ap (λ j. isInside w j (b .row) (b .column)) (sym up) ∙ cut)
 
 module _ (m : ℕ) (p : Picture) (f : ℕ) where
   -- the entries of two runs of blocks

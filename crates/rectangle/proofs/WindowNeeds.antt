@@ -6,21 +6,20 @@ use mathlib.Core.List.{List, [], _∷_, _++_}
 use native.Mathlib.Omega.{arith}
 use lib.ListN.{length, length-append}
 use Rattle.keys.specs.Key.{validKey}
-use Rattle.keys.specs.Under.{MapBlock}
+use Rattle.keys.specs.Child.{childOf, InMap}
+use Rattle.keys.specs.declared.block.TreeBlock.{TreeBlock}
 use Rattle.keys.proofs.Powers.{five-le}
 use Rattle.definitions.specs.Picture.{Picture}
 use Rattle.definitions.specs.Read.{recordsOf}
 use Rattle.definitions.specs.Standing.{partLength}
-use Rattle.definitions.specs.Window.{isInside, largestFrom}
+use Rattle.definitions.specs.Window.{isInside}
 use Rattle.definitions.specs.declared.Window.{Window}
 use Rattle.definitions.specs.Log.{closingPlaces, entriesOf}
 use Rattle.definitions.specs.Calls.Paint.{gained}
 use Rattle.list.specs.Own.{OwnList, shownBy}
-use Rattle.step.specs.Quarters.{quartersOf}
-use Rattle.step.specs.declared.quarters.Quarters.{Quarters}
-use Rattle.rectangle.specs.WindowLogging.{NeededFor}
+use Rattle.rectangle.specs.WindowLogging.{largestIn, NeededFor}
 use Rattle.edit.proofs.ContentLength.{gained-size}
-use Rattle.rectangle.proofs.WindowEntries.{largest-quarters, entries-none, entries-one, entries-four, entries-more, entries-few}
+use Rattle.rectangle.proofs.WindowEntries.{largest-cut, entries-none, entries-one, entries-four, entries-more, entries-few}
 
 pub needs-none : (m : ℕ) (p : Picture) {blocks : List ℕ} → blocks ≡ [] → NeededFor m p blocks 0 0
 needs-none m p {blocks} e = record {
@@ -39,6 +38,10 @@ needs-one {m} {n} {keys} {bits} own κ valid {blocks} e count-is places-are = re
       ∙ sym (gained-size own κ valid f)
       ∙ sym (ap length (ap (λ l. entriesOf m (shownBy m keys bits n) l f) e ∙ entries-one m (shownBy m keys bits n) f κ));
 }
+
+-- the same blocks
+pub needs-same : {m : ℕ} {p : Picture} {l k : List ℕ} {number places : ℕ} → l ≡ k → NeededFor m p k number places → NeededFor m p l number places
+needs-same e a = rw e a
 
 -- four runs of blocks
 needs-runs : (m : ℕ) (p : Picture) (l₁ l₂ l₃ l₄ : List ℕ) {n₁ n₂ n₃ n₄ p₁ p₂ p₃ p₄ : ℕ}
@@ -59,21 +62,24 @@ needs-runs m p l₁ l₂ l₃ l₄ a b c d = record {
 }
 
 -- of the quadrants
-pub needs-four : (m : ℕ) (p : Picture) (w : Window) (r c κ : ℕ) {k : ℕ} {q : Quarters} {n₁ n₂ n₃ n₄ p₁ p₂ p₃ p₄ : ℕ} → q ≡ quartersOf k r c κ → 0 < k → isInside w k r c ≡ false
-    → NeededFor m p (largestFrom w (q .height) r c (q .nw)) n₁ p₁
-    → NeededFor m p (largestFrom w (q .height) r (q .right) (q .ne)) n₂ p₂
-    → NeededFor m p (largestFrom w (q .height) (q .down) c (q .sw)) n₃ p₃
-    → NeededFor m p (largestFrom w (q .height) (q .down) (q .right) (q .se)) n₄ p₄
-    → NeededFor m p (largestFrom w k r c κ) (n₁ + n₂ + n₃ + n₄) (p₁ + p₂ + p₃ + p₄)
-needs-four m p w r c κ e positive cut nw ne sw se = rw (largest-quarters w r c κ e positive cut) (needs-runs m p _ _ _ _ nw ne sw se)
+pub needs-four : (m : ℕ) (p : Picture) (w : Window) (b : TreeBlock) {q₁ q₂ q₃ q₄ : TreeBlock} {n₁ n₂ n₃ n₄ p₁ p₂ p₃ p₄ : ℕ}
+    → 0 < b .height
+    → isInside w (b .height) (b .row) (b .column) ≡ false
+    → q₁ ≡ childOf b 1 → q₂ ≡ childOf b 2 → q₃ ≡ childOf b 3 → q₄ ≡ childOf b 4
+    → NeededFor m p (largestIn w q₁) n₁ p₁
+    → NeededFor m p (largestIn w q₂) n₂ p₂
+    → NeededFor m p (largestIn w q₃) n₃ p₃
+    → NeededFor m p (largestIn w q₄) n₄ p₄
+    → NeededFor m p (largestIn w b) (n₁ + n₂ + n₃ + n₄) (p₁ + p₂ + p₃ + p₄)
+needs-four m p w b positive cut e₁ e₂ e₃ e₄ = rw (e₁, e₂, e₃, e₄) (λ nw ne sw se. rw (largest-cut w b positive cut) (needs-runs m p _ _ _ _ nw ne sw se))
 
 -- what a block needs is little
-pub needs-few : (m : ℕ) (p : Picture) (w : Window) (r c κ : ℕ) {k number places : ℕ} → k ≤ 10 → MapBlock m k r c κ → NeededFor m p (largestFrom w k r c κ) number places
+pub needs-few : (m : ℕ) (p : Picture) (w : Window) (b : TreeBlock) {number places : ℕ} → b .height ≤ 10 → InMap m b → NeededFor m p (largestIn w b) number places
     → (number ≤ 29296875) × (places ≤ 29296875)
-needs-few m p w r c κ {k} deep b a =
+needs-few m p w b deep i a =
     let e = a .number-is in
     let g = a .places-are 0 in
-    let h = entries-few m p 0 w k b in
-    let i = entries-more m p 0 (largestFrom w k r c κ) in
+    let h = entries-few m p 0 w (b .height) i in
+    let j = entries-more m p 0 (largestIn w b) in
     let five = five-le 10 deep in
     omega arith

@@ -4,7 +4,9 @@ use mathlib.Core.Path.{_≡_}
 use mathlib.Core.Bool.{false}
 use mathlib.Core.List.{List, [], _∷_}
 use lib.ListN.{length}
-use Rattle.keys.specs.Under.{MapBlock}
+use Rattle.keys.specs.Key.{heightOf}
+use Rattle.keys.specs.Child.{InMap}
+use Rattle.keys.specs.declared.block.TreeBlock.{TreeBlock}
 use Rattle.definitions.specs.Picture.{Picture}
 use Rattle.definitions.specs.List.{Record}
 use Rattle.definitions.specs.Read.{room, recordsOf}
@@ -12,22 +14,28 @@ use Rattle.definitions.specs.Window.{isInside, largestFrom, largestBlocks}
 use Rattle.definitions.specs.declared.Window.{Window}
 use Rattle.definitions.specs.Log.{entriesOf}
 use Rattle.definitions.specs.Calls.PaintWindow.{groupGained}
-use Rattle.list.specs.Own.{OwnList, shownBy}
+use Rattle.list.specs.Own.{OwnList, BlockIn, shownBy}
 use Rattle.list.specs.Sorted.{Near}
+use Rattle.rectangle.specs.declared.window_blocks.Lie.{Lie}
+use Rattle.rectangle.specs.declared.window_blocks.Lie.the-variants.{Apart, Within, Cut}
+
+-- the largest blocks at or below a block
+abbrev pub largestIn : (w : Window) (b : TreeBlock) → List ℕ
+largestIn w b = largestFrom w (b .height) (b .row) (b .column) (b .key)
 
 -- a block and a window whose numbers are those of a map
-pub record Placed (w : Window) (height row column : ℕ) : Type 0 where
-  pub deep : height ≤ 10
-  pub rows : row + 2 ^ height ≤ 1024
-  pub columns : column + 2 ^ height ≤ 1024
+pub record Placed (w : Window) (b : TreeBlock) : Type 0 where
+  pub deep : b .height ≤ 10
+  pub rows : b .row + 2 ^ b .height ≤ 1024
+  pub columns : b .column + 2 ^ b .height ≤ 1024
   pub low : w .row + w .height ≤ 1024
   pub narrow : w .column + w .width ≤ 1024
 
 -- what is told of a block: none of the largest blocks lies in it, it is one of them, or its quadrants have to be asked
-pub record Lies (w : Window) (height row column told : ℕ) : Type 0 where
-  pub none : told ≡ 0 → (κ : ℕ) → largestFrom w height row column κ ≡ []
-  pub one : told ≡ 1 → (κ : ℕ) → largestFrom w height row column κ ≡ κ ∷ []
-  pub parts : (told ≡ 0 → ⊥) → (told ≡ 1 → ⊥) → (0 < height) × (isInside w height row column ≡ false)
+abbrev pub Lying : (w : Window) (b : TreeBlock) → Lie → Type 0
+Lying w b Apart = largestIn w b ≡ []
+Lying w b Within = largestIn w b ≡ b .key ∷ []
+Lying w b Cut = (0 < b .height) × (isInside w (b .height) (b .row) (b .column) ≡ false)
 
 -- an accepted list, and a window of the map
 pub record Coverable (m : ℕ) (keys bits : List ℕ) (n : ℕ) (w : Window) : Type 0 where
@@ -36,10 +44,12 @@ pub record Coverable (m : ℕ) (keys bits : List ℕ) (n : ℕ) (w : Window) : T
   pub low : w .row + w .height ≤ 1024
   pub narrow : w .column + w .width ≤ 1024
 
--- the number of a block's keys, and a place from which it can be looked for
-pub record Sought (keys : List ℕ) (n height key step from : ℕ) : Type 0 where
-  pub step-is : step ≡ 5 ^ height
-  pub near : Near keys n from key
+-- a block of the map, and a place from which it can be looked for
+pub record BlockFrom (m : ℕ) (keys bits : List ℕ) (n : ℕ) (b : TreeBlock) (from : ℕ) : Type 0 where
+  pub block : BlockIn m keys bits n (b .key)
+  pub low : b .height ≤ 10
+  pub height-is : b .height ≡ heightOf m (b .key)
+  pub near : Near keys n from (b .key)
 
 -- the number of the blocks, and the places that their entries take, whatever they are painted with
 pub record NeededFor (m : ℕ) (p : Picture) (blocks : List ℕ) (number places : ℕ) : Type 0 where
@@ -47,14 +57,14 @@ pub record NeededFor (m : ℕ) (p : Picture) (blocks : List ℕ) (number places 
   pub places-are : (f : ℕ) → places ≡ length (entriesOf m p blocks f)
 
 -- the entries of the largest blocks at or below a block of the map
-abbrev pub entriesBelow : (m : ℕ) (p : Picture) (w : Window) (f height row column key : ℕ) → List Record
-entriesBelow m p w f height row column key = entriesOf m p (largestFrom w height row column key) f
+abbrev pub entriesBelow : (m : ℕ) (p : Picture) (w : Window) (f : ℕ) (b : TreeBlock) → List Record
+entriesBelow m p w f b = entriesOf m p (largestIn w b) f
 
 -- the log has room for them from a place on
-pub record Enterable (m : ℕ) (keys bits : List ℕ) (n : ℕ) (w : Window) (f height row column key place : ℕ) (logKeys logValues : List ℕ) : Type 0 where
+pub record Enterable (m : ℕ) (keys bits : List ℕ) (n : ℕ) (w : Window) (f : ℕ) (b : TreeBlock) (place : ℕ) (logKeys logValues : List ℕ) : Type 0 where
   pub list : Coverable m keys bits n w
-  pub block : MapBlock m height row column key
-  pub fits : place + length (entriesBelow m (shownBy m keys bits n) w f height row column key) ≤ room logKeys logValues
+  pub block : InMap m b
+  pub fits : place + length (entriesBelow m (shownBy m keys bits n) w f b) ≤ room logKeys logValues
 
 -- the number of the largest blocks is known, and the log has room for the window's group
 pub record FreshGroup (m : ℕ) (keys bits : List ℕ) (n : ℕ) (w : Window) (f number start used : ℕ) (logKeys logValues : List ℕ) : Type 0 where

@@ -14,7 +14,7 @@ use definitions::refusal::Refusal;
 use edit::decision;
 use edit::recount;
 use keys::Key;
-use keys::power;
+use keys::block;
 use log::group;
 use walk::bounds;
 
@@ -47,8 +47,7 @@ fn decide_room(
         (windowRoomRefusal m (recordsOf (now (keys .entry)) (now (bits .entry)) n) (now (keys .entry)) (now (bits .entry)) (now («log_keys» .entry)) (now («log_values» .entry)) «in_force» window feature)
         m window r ⌝ }
 {
-    let step = power::power_of_five(m);
-    let needed = window_blocks::need_below(m, keys, bits, n, window, m, 0, 0, Key::ROOT, step, 0);
+    let needed = window_blocks::need_below(m, keys, bits, n, window, block::root(m), 0);
     let logged = in_force + group::places(needed.places);
     if log_keys.len() < logged {
         return refused(Refusal::LOG_ROOM);

@@ -1,37 +1,44 @@
 // The largest blocks of a window, by the quadrants of the map: how a block lies to the window, and what their entries will need.
-ghost use Prim.Native.Nat.{_+_};
-ghost use Rattle.keys.specs.Under.{MapBlock};
-ghost use Rattle.definitions.specs.Window.{largestFrom};
+ghost use Prim.Native.Nat.{_+_, _^_};
+ghost use mathlib.Core.List.{[], _∷_};
+ghost use Rattle.keys.specs.Child.{InMap};
 ghost use Rattle.list.specs.Own.{shownBy};
 ghost use Rattle.list.specs.Sorted.{Near};
-ghost use Rattle.rectangle.specs.WindowLogging.{Placed, Lies, Coverable, Sought, NeededFor};
+ghost use Rattle.rectangle.specs.WindowLogging.{largestIn, Placed, Lying, Coverable, BlockFrom, NeededFor};
 use definitions::Window;
 use edit::logging;
+use keys::block::TreeBlock;
+use keys::block::child;
 use keys::power;
 use log::entry;
-use step::quarters;
 use walk::Spot;
 
-// 0 where none of the largest blocks lies in the block, 1 where it is one itself, 2 where its quadrants have to be asked.
-pub fn lies(window: Window, height: u32, row: u32, column: u32) -> u32
-    requires { ⌜ Placed window height row column ⌝ }
-    ensures { λ r. ⌜ Lies window height row column r ⌝ }
+// A block to a window: none of the largest blocks lies in it, it is one itself, or its quadrants have to be asked.
+pub enum Lie {
+    Apart,
+    Within,
+    Cut,
+}
+
+pub fn lies(window: Window, block: TreeBlock) -> Lie
+    requires { ⌜ Placed window block ⌝ }
+    ensures { λ r. ⌜ Lying window block r ⌝ }
 {
-    let side = power::power_of_two(height);
+    let side = power::power_of_two(block.height);
     let spot = Spot {
-        key: 0,
-        row,
-        column,
+        key: block.key,
+        row: block.row,
+        column: block.column,
         side,
         step: 0,
     };
     if walk::apart(spot, window) {
-        return 0;
+        return Lie::Apart;
     }
     if walk::within(spot, window) {
-        return 1;
+        return Lie::Within;
     }
-    2
+    Lie::Cut
 }
 
 // The number of blocks, how many places of the log their entries take, and the place where the search for the next block begins.
@@ -41,6 +48,22 @@ pub struct Needed {
     pub from: usize,
 }
 
+// What one block needs, which is looked for from a place on.
+fn need_one(m: u32, keys: &[u32], bits: &[u32], n: usize, block: TreeBlock, from: usize) -> Needed
+    requires { ⌜ BlockFrom m (now keys) (now bits) n block from ⌝ }
+    ensures { λ r. ⌜ NeededFor m (shownBy m (now (keys .entry)) (now (bits .entry)) n) (block .key ∷ []) (r .number) (r .places)
+        × Near (now (keys .entry)) n (r .from) (block .key + 5 ^ block .height) ⌝ }
+{
+    let step = power::power_of_five(block.height);
+    let former = logging::content_from(m, keys, bits, n, from, block.key, step);
+    let places = entry::places(former.count);
+    Needed {
+        number: 1,
+        places,
+        from: former.place,
+    }
+}
+
 // What the largest blocks at or below a block need. They come in key order, so each is looked for from where the last one was found.
 pub fn need_below(
     m: u32,
@@ -48,91 +71,32 @@ pub fn need_below(
     bits: &[u32],
     n: usize,
     window: Window,
-    height: u32,
-    row: u32,
-    column: u32,
-    key: u32,
-    step: u32,
+    block: TreeBlock,
     from: usize,
 ) -> Needed
-    requires { ⌜ Coverable m (now keys) (now bits) n window × MapBlock m height row column key × Sought (now keys) n height key step from ⌝ }
-    ensures { λ r. ⌜ NeededFor m (shownBy m (now (keys .entry)) (now (bits .entry)) n) (largestFrom window height row column key) (r .number) (r .places)
-        × Near (now (keys .entry)) n (r .from) (key + step) ⌝ }
+    requires { ⌜ Coverable m (now keys) (now bits) n window × InMap m block × Near (now keys) n from (block .key) ⌝ }
+    ensures { λ r. ⌜ NeededFor m (shownBy m (now (keys .entry)) (now (bits .entry)) n) (largestIn window block) (r .number) (r .places)
+        × Near (now (keys .entry)) n (r .from) (block .key + 5 ^ block .height) ⌝ }
 {
-    let told = lies(window, height, row, column);
-    if told == 0 {
-        return Needed {
+    match lies(window, block) {
+        Lie::Apart => Needed {
             number: 0,
             places: 0,
             from,
-        };
-    }
-    if told == 1 {
-        let former = logging::content_from(m, keys, bits, n, from, key, step);
-        let places = entry::places(former.count);
-        return Needed {
-            number: 1,
-            places,
-            from: former.place,
-        };
-    }
-    let four = quarters::of(height, row, column, key);
-    let lower = four.height;
-    let nw = need_below(
-        m,
-        keys,
-        bits,
-        n,
-        window,
-        lower,
-        row,
-        column,
-        four.nw,
-        four.step,
-        from,
-    );
-    let ne = need_below(
-        m,
-        keys,
-        bits,
-        n,
-        window,
-        lower,
-        row,
-        four.right,
-        four.ne,
-        four.step,
-        nw.from,
-    );
-    let sw = need_below(
-        m,
-        keys,
-        bits,
-        n,
-        window,
-        lower,
-        four.down,
-        column,
-        four.sw,
-        four.step,
-        ne.from,
-    );
-    let se = need_below(
-        m,
-        keys,
-        bits,
-        n,
-        window,
-        lower,
-        four.down,
-        four.right,
-        four.se,
-        four.step,
-        sw.from,
-    );
-    Needed {
-        number: nw.number + ne.number + sw.number + se.number,
-        places: nw.places + ne.places + sw.places + se.places,
-        from: se.from,
+        },
+        Lie::Within => need_one(m, keys, bits, n, block, from),
+        Lie::Cut => {
+            let nw = need_below(m, keys, bits, n, window, child(block, 1), from);
+            let ne = need_below(m, keys, bits, n, window, child(block, 2), nw.from);
+            let sw = need_below(m, keys, bits, n, window, child(block, 3), ne.from);
+            let se = need_below(m, keys, bits, n, window, child(block, 4), sw.from);
+            let number = nw.number + ne.number + sw.number + se.number;
+            let places = nw.places + ne.places + sw.places + se.places;
+            Needed {
+                number,
+                places,
+                from: se.from,
+            }
+        }
     }
 }

@@ -1,25 +1,25 @@
 // What painting a window logs: a group, with an entry for each of the window's largest blocks. All contents are read off the list as it was.
-ghost use mathlib.Core.Path.{_≡_};
 ghost use Prim.Native.Nat.{_+_, _^_, _≤_};
 ghost use lib.ListN.{length};
-ghost use Rattle.keys.specs.Key.{heightOf};
 ghost use Rattle.definitions.specs.Read.{room, recordsOf};
 ghost use Rattle.definitions.specs.Calls.Paint.{gained};
 ghost use Rattle.definitions.specs.Calls.PaintWindow.{groupGained};
-ghost use Rattle.list.specs.Own.{BlockIn, shownBy};
+ghost use Rattle.list.specs.Own.{shownBy};
 ghost use Rattle.list.specs.Sorted.{Near};
 ghost use Rattle.log.specs.Entries.{Logged};
 ghost use Rattle.edit.specs.PaintCall.{Relogged};
-ghost use Rattle.rectangle.specs.WindowLogging.{entriesBelow, Enterable, Sought, FreshGroup};
+ghost use Rattle.rectangle.specs.WindowLogging.{entriesBelow, BlockFrom, Enterable, FreshGroup};
 use crate::window_blocks;
+use crate::window_blocks::Lie;
 use definitions::Window;
 use edit::logging;
-use keys::Key;
+use keys::block;
+use keys::block::TreeBlock;
+use keys::block::child;
 use keys::power;
 use log::entry;
 use log::entry::Entry;
 use log::group;
-use step::quarters;
 
 // The place past the entries that are written, and the place where the search for the next block begins.
 pub struct EntriesEnd {
@@ -27,30 +27,29 @@ pub struct EntriesEnd {
     pub from: usize,
 }
 
-// Writes the entry of one block from a place on. The block is looked for from another on, where step is the number of its keys.
+// Writes the entry of one block from a place on. The block is looked for from another on.
 pub fn log_block(
     m: u32,
     keys: &[u32],
     bits: &[u32],
     n: usize,
-    key: u32,
-    step: u32,
-    from: usize,
+    block: TreeBlock,
     feature: u32,
-    place: usize,
+    at: EntriesEnd,
     log_keys: &mut [u32],
     log_values: &mut [u32],
 ) -> EntriesEnd
-    requires { ⌜ BlockIn m (now keys) (now bits) n key × (step ≡ 5 ^ heightOf m key) × Near (now keys) n from key ⌝ }
-    requires { ⌜ place + length (gained m (recordsOf (now keys) (now bits) n) key feature) ≤ room (now «log_keys») (now «log_values») ⌝ }
-    ensures { λ r. ⌜ Logged (gained m (recordsOf (now (keys .entry)) (now (bits .entry)) n) key feature) place
+    requires { ⌜ BlockFrom m (now keys) (now bits) n block (at .from) ⌝ }
+    requires { ⌜ at .place + length (gained m (recordsOf (now keys) (now bits) n) (block .key) feature) ≤ room (now «log_keys») (now «log_values») ⌝ }
+    ensures { λ r. ⌜ Logged (gained m (recordsOf (now (keys .entry)) (now (bits .entry)) n) (block .key) feature) (at .place)
         (now («log_keys» .entry)) (now («log_values» .entry)) (now («log_keys» .exit)) (now («log_values» .exit)) (r .place)
-        × Near (now (keys .entry)) n (r .from) (key + step) ⌝ }
+        × Near (now (keys .entry)) n (r .from) (block .key + 5 ^ block .height) ⌝ }
 {
-    let former = logging::content_from(m, keys, bits, n, from, key, step);
+    let step = power::power_of_five(block.height);
+    let former = logging::content_from(m, keys, bits, n, at.from, block.key, step);
     let new = Entry {
-        key,
-        start: place,
+        key: block.key,
+        start: at.place,
         count: former.count,
         feature,
     };
@@ -70,111 +69,75 @@ pub fn log_blocks(
     n: usize,
     window: Window,
     feature: u32,
-    height: u32,
-    row: u32,
-    column: u32,
-    key: u32,
-    step: u32,
-    from: usize,
-    place: usize,
+    block: TreeBlock,
+    at: EntriesEnd,
     log_keys: &mut [u32],
     log_values: &mut [u32],
 ) -> EntriesEnd
-    requires { ⌜ Enterable m (now keys) (now bits) n window feature height row column key place (now «log_keys») (now «log_values»)
-        × Sought (now keys) n height key step from ⌝ }
-    ensures { λ r. ⌜ Logged (entriesBelow m (shownBy m (now (keys .entry)) (now (bits .entry)) n) window feature height row column key) place
+    requires { ⌜ Enterable m (now keys) (now bits) n window feature block (at .place) (now «log_keys») (now «log_values»)
+        × Near (now keys) n (at .from) (block .key) ⌝ }
+    ensures { λ r. ⌜ Logged (entriesBelow m (shownBy m (now (keys .entry)) (now (bits .entry)) n) window feature block) (at .place)
         (now («log_keys» .entry)) (now («log_values» .entry)) (now («log_keys» .exit)) (now («log_values» .exit)) (r .place)
-        × Near (now (keys .entry)) n (r .from) (key + step) ⌝ }
+        × Near (now (keys .entry)) n (r .from) (block .key + 5 ^ block .height) ⌝ }
 {
-    let told = window_blocks::lies(window, height, row, column);
-    if told == 0 {
-        return EntriesEnd { place, from };
+    match window_blocks::lies(window, block) {
+        Lie::Apart => at,
+        Lie::Within => log_block(m, keys, bits, n, block, feature, at, log_keys, log_values),
+        Lie::Cut => {
+            let one = child(block, 1);
+            let nw = log_blocks(
+                m,
+                keys,
+                bits,
+                n,
+                window,
+                feature,
+                one,
+                at,
+                log_keys,
+                log_values,
+            );
+            let two = child(block, 2);
+            let ne = log_blocks(
+                m,
+                keys,
+                bits,
+                n,
+                window,
+                feature,
+                two,
+                nw,
+                log_keys,
+                log_values,
+            );
+            let three = child(block, 3);
+            let sw = log_blocks(
+                m,
+                keys,
+                bits,
+                n,
+                window,
+                feature,
+                three,
+                ne,
+                log_keys,
+                log_values,
+            );
+            let four = child(block, 4);
+            log_blocks(
+                m,
+                keys,
+                bits,
+                n,
+                window,
+                feature,
+                four,
+                sw,
+                log_keys,
+                log_values,
+            )
+        }
     }
-    if told == 1 {
-        return log_block(
-            m,
-            keys,
-            bits,
-            n,
-            key,
-            step,
-            from,
-            feature,
-            place,
-            log_keys,
-            log_values,
-        );
-    }
-    let four = quarters::of(height, row, column, key);
-    let lower = four.height;
-    let nw = log_blocks(
-        m,
-        keys,
-        bits,
-        n,
-        window,
-        feature,
-        lower,
-        row,
-        column,
-        four.nw,
-        four.step,
-        from,
-        place,
-        log_keys,
-        log_values,
-    );
-    let ne = log_blocks(
-        m,
-        keys,
-        bits,
-        n,
-        window,
-        feature,
-        lower,
-        row,
-        four.right,
-        four.ne,
-        four.step,
-        nw.from,
-        nw.place,
-        log_keys,
-        log_values,
-    );
-    let sw = log_blocks(
-        m,
-        keys,
-        bits,
-        n,
-        window,
-        feature,
-        lower,
-        four.down,
-        column,
-        four.sw,
-        four.step,
-        ne.from,
-        ne.place,
-        log_keys,
-        log_values,
-    );
-    log_blocks(
-        m,
-        keys,
-        bits,
-        n,
-        window,
-        feature,
-        lower,
-        four.down,
-        four.right,
-        four.se,
-        four.step,
-        sw.from,
-        sw.place,
-        log_keys,
-        log_values,
-    )
 }
 
 // Writes the group over what could be redone: what was used past it becomes zero. Gives the number of records used then.
@@ -195,6 +158,11 @@ pub fn log_window(
     ensures { λ r. ⌜ Relogged (groupGained m (recordsOf (now (keys .entry)) (now (bits .entry)) n) window feature) «in_force» used
         (now («log_keys» .entry)) (now («log_values» .entry)) (now («log_keys» .exit)) (now («log_values» .exit)) r ⌝ }
 {
+    let start = EntriesEnd {
+        place: in_force,
+        from: 0,
+    };
+    let root = block::root(m);
     let written = log_blocks(
         m,
         keys,
@@ -202,13 +170,8 @@ pub fn log_window(
         n,
         window,
         feature,
-        m,
-        0,
-        0,
-        Key::ROOT,
-        power::power_of_five(m),
-        0,
-        in_force,
+        root,
+        start,
         log_keys,
         log_values,
     );

@@ -5,12 +5,15 @@ use native.Mathlib.Omega.{arith}
 use lib.ListN.{length}
 use borrow.Author.Tests.{not-true, not-false}
 use Rattle.keys.specs.Under.{here}
+use Rattle.keys.specs.Child.{rootOf}
 use Rattle.definitions.specs.Read.{room, recordsOf}
 use Rattle.definitions.specs.Log.{closingPlaces}
 use Rattle.definitions.specs.Calls.PaintWindow.{groupGained}
+use Rattle.list.specs.Own.{shownBy}
+use Rattle.list.proofs.Fuller.{near-root}
+use Rattle.rectangle.specs.WindowLogging.{largestIn, NeededFor}
 use Rattle.rectangle.proofs.GroupLogged.{group-length, root-number}
 use Rattle.rectangle.proofs.WindowNeeds.{needs-few}
-use Rattle.rectangle.proofs.WindowSearch.{sought-root}
 use Rattle.rectangle.proofs.PaintWindowTable.{window-refuses, log-full, list-full, room-enough}
 use borrow.Author.Needs.{needs}
 use Rattle.rectangle.proofs.paint_window.decide_room.Statement.{statement}
@@ -20,9 +23,14 @@ use Rattle.rectangle.proofs.paint_window.decide_room.Tie as tie
 abbrev start : tie.After-need-below → tie.Start
 start c = c .before .before .before .before .before .before
 
+-- what the whole map's blocks need
+whole : (c : tie.After-need-below)
+    → (let a = start c .args in NeededFor (a .m) (shownBy (a .m) (a .keys .now) (a .bits .now) (a .n)) (largestIn (a .window) (rootOf (a .m))) (c .need-below .result .number) (c .need-below .result .places))
+whole c = rw (c .before .root .ensures) at (c .need-below .ensures .0)
+
 -- that is little
 few : (c : tie.After-need-below) → c .need-below .result .places ≤ 29296875
-few c = needs-few _ _ _ _ _ _ (start c .pre .0 .list .deep) here (c .need-below .ensures .0) .1
+few c = needs-few _ _ _ _ (start c .pre .0 .list .deep) here (whole c) .1
 
 -- the places used with the group
 logged-is : (c : tie.After-places)
@@ -32,20 +40,20 @@ logged-is c =
     let a = start (c .before) .args in
     ap (λ x. a .in-force + x)
     (c .places .ensures
-    ∙ ap (λ x. x + closingPlaces) (c .before .need-below .ensures .0 .places-are (a .feature))
+    ∙ ap (λ x. x + closingPlaces) (whole (c .before) .places-are (a .feature))
     ∙ sym (group-length (a .m) (a .keys .now) (a .bits .now) (a .n) (a .window) (a .feature)))
 
 -- there is room for them
 log-fits : (c : tie.Else2) → (let d = c .before .before in let a = start (d .before) .args in a .in-force + d .places .result ≤ room (a .log-keys .now) (a .log-values .now))
 log-fits c = omega (arith, c .before .if1 .left, c .if2 .left)
 
-power-of-five-requires : tie.Need-power-of-five-requires
-power-of-five-requires c κs = search needs
+root-requires : tie.Need-root-requires
+root-requires c κs = search needs
 
 need-below-requires : tie.Need-need-below-requires
 need-below-requires c κs =
     let a = c .before .before .before .before .before .pre .0 .list in
-    (a, here, sought-root (a .own) (c .power-of-five .ensures))
+    (a, rw (c .root .ensures) here, near-root (a .own) _)
 
 places-requires : tie.Need-places-requires
 places-requires c κs = omega (arith, few c)
@@ -88,14 +96,14 @@ returns-4 c =
     let needed = d .before .before .before in
     record {
       refusal-is = room-enough _ _ _ _ _ _ _ _ _ _ (logged-is (d .before .before)) (log-fits d) (sym (asked .has-room .ensures) ∙ not-false _ (c .if3 .left));
-      number-is = λ z. root-number _ _ (needed .need-below .ensures .0 .number-is);
+      number-is = λ z. root-number _ _ (whole needed .number-is);
     }
 
 pub decide-room-spec : {M : Type 1} → statement M
 decide-room-spec =
     tie.close
     (tie.spec
-    power-of-five-requires
+    root-requires
     need-below-requires
     places-requires
     add-logged
