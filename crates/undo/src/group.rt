@@ -7,6 +7,7 @@ ghost use Rattle.step.specs.Step.{stepOver};
 ghost use Rattle.step.specs.Deed.{Doable, stepOf};
 ghost use Rattle.undo.specs.GroupCall.{GroupLast, GroupRun, WithSummary, Applied, deedOf, GroupStepped, groupAnswer};
 use definitions::Edited;
+use definitions::refusal::Refusal;
 use edit::recount;
 use log::step as steps;
 use passes::change;
@@ -100,7 +101,7 @@ pub fn answer(after: usize, used: usize, in_force: usize) -> Edited
 {
     if after == 0 {
         return Edited {
-            refusal: 9,
+            refusal: Refusal::LIST_ROOM,
             n: 0,
             used: 0,
             in_force: 0,
