@@ -1,5 +1,5 @@
--- The tally of a block by its four-tallied quadrants. Rests on build's laws of counting a block.
-use Prim.Native.Nat.{ℕ, zero, suc, _+_, _-_, _*_, _^_, _≤_, _<_}
+-- The tally of a block by its four quadrants. Rests on build's laws of counting a block.
+use Prim.Native.Nat.{ℕ, suc, _+_, _-_, _^_, _≤_, _<_}
 use mathlib.Core.Path.{_≡_, refl, ap}
 use native.Mathlib.Omega.{arith}
 use Rattle.keys.specs.Child.{childOf}

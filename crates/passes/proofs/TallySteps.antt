@@ -1,5 +1,5 @@
 -- What the calls of tally_records ask of one another, and what they give together. Rests on ShownBlocks, Known and build's CountBlock.
-use Prim.Native.Nat.{ℕ, suc, _+_, _-_, _^_, _≤_, _<_}
+use Prim.Native.Nat.{ℕ, suc, _+_, _-_, _^_, _≤_}
 use mathlib.Core.Path.{_≡_, refl, sym, _∙_, ap}
 use mathlib.Core.Bool.{true, false}
 use mathlib.Core.List.{List, _++_}

@@ -111,17 +111,8 @@ fn settle_four(
     };
     let lower = block.height - 1;
     let step = power::power_of_five(lower);
-    let wrote = write::write_four(
-        block.key,
-        step,
-        place,
-        first,
-        second,
-        third,
-        fourth,
-        keys,
-        bits,
-    );
+    let key = block.key;
+    let wrote = write::write_four(key, step, place, first, second, third, fourth, keys, bits);
     Foremost {
         bits: wrote.bits,
         place,

@@ -17,7 +17,7 @@ use Rattle.walk.specs.Walk.{Small, isWithin, isApart}
 use Rattle.walk.specs.declared.Spot.{Spot}
 use Rattle.walk.proofs.Lies.{apart-pixel, within-pixel, not-apart, inside-within}
 use Rattle.rectangle.specs.WindowLogging.{Placed, Lying, Coverable}
-use Rattle.rectangle.specs.declared.window_blocks.Lie.the-variants.{Apart, Within, Cut}
+use Rattle.walk.specs.declared.lying.Lie.the-variants.{Apart, Within, Cut}
 use Rattle.laws.proofs.LargestBlocks.{covered-one}
 use Rattle.rectangle.proofs.WindowEntries.{largest-none}
 

@@ -16,8 +16,8 @@ use Rattle.definitions.specs.Log.{entriesOf}
 use Rattle.definitions.specs.Calls.PaintWindow.{groupGained}
 use Rattle.list.specs.Own.{OwnList, BlockIn, shownBy}
 use Rattle.list.specs.Sorted.{Near}
-use Rattle.rectangle.specs.declared.window_blocks.Lie.{Lie}
-use Rattle.rectangle.specs.declared.window_blocks.Lie.the-variants.{Apart, Within, Cut}
+use Rattle.walk.specs.declared.lying.Lie.{Lie}
+use Rattle.walk.specs.declared.lying.Lie.the-variants.{Apart, Within, Cut}
 
 -- the largest blocks at or below a block
 abbrev pub largestIn : (w : Window) (b : TreeBlock) → List ℕ

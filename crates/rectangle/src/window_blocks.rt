@@ -12,14 +12,9 @@ use keys::block::child;
 use keys::power;
 use log::entry;
 use walk::Spot;
+use walk::lying::Lie;
 
 // A block to a window: none of the largest blocks lies in it, it is one itself, or its quadrants have to be asked.
-pub enum Lie {
-    Apart,
-    Within,
-    Cut,
-}
-
 pub fn lies(window: Window, block: TreeBlock) -> Lie
     requires { ⌜ Placed window block ⌝ }
     ensures { λ r. ⌜ Lying window block r ⌝ }

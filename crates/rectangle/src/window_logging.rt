@@ -10,7 +10,6 @@ ghost use Rattle.log.specs.Entries.{Logged};
 ghost use Rattle.edit.specs.PaintCall.{Relogged};
 ghost use Rattle.rectangle.specs.WindowLogging.{entriesBelow, BlockFrom, Enterable, FreshGroup};
 use crate::window_blocks;
-use crate::window_blocks::Lie;
 use definitions::Window;
 use edit::logging;
 use keys::block;
@@ -20,6 +19,7 @@ use keys::power;
 use log::entry;
 use log::entry::Entry;
 use log::group;
+use walk::lying::Lie;
 
 // The place past the entries that are written, and the place where the search for the next block begins.
 pub struct EntriesEnd {

@@ -4,27 +4,20 @@ ghost use Rattle.step.specs.Meeting.{BlockAsked};
 use crate::meeting::Meeting;
 use definitions::Window;
 use keys::block::TreeBlock;
+use keys::block::square;
 use keys::power;
-use walk::Spot;
+use walk::lying;
+use walk::lying::Lie;
 
 // What the window makes of it, whatever log there is: none is looked at.
 pub fn meeting(window: Window, feature: u32, m: u32, block: TreeBlock) -> Meeting
     requires { ⌜ Painting window feature × BlockAsked m block ⌝ }
     ensures { λ r. ⌜ WindowMet window feature block r ⌝ }
 {
-    let side = power::power_of_two(block.height);
-    let spot = Spot {
-        key: block.key,
-        row: block.row,
-        column: block.column,
-        side,
-        step: 0,
-    };
-    if walk::apart(spot, window) {
-        return Meeting::Apart;
+    let lie = lying::lies(square(block), window);
+    match lie {
+        Lie::Apart => Meeting::Apart,
+        Lie::Within => Meeting::Leaf(power::power_of_two(feature)),
+        Lie::Cut => Meeting::Cut,
     }
-    if walk::within(spot, window) {
-        return Meeting::Leaf(power::power_of_two(feature));
-    }
-    Meeting::Cut
 }

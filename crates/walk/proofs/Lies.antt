@@ -1,6 +1,6 @@
 -- How a block lies to a window, in numbers: the tests isWithin and isApart of a spot, and what they say of the window's pixels. Rests on keys' Cases, Powers and Interval and laws' WindowScan.
 use Prim.Native.Nat.{ℕ, _+_, _-_, _^_, _≤_, _<_}
-use mathlib.Core.Path.{_≡_, sym, _∙_}
+use mathlib.Core.Path.{_≡_, refl, sym, _∙_, subst}
 use mathlib.Core.Bool.{true, false, _||_, _&&_, true≢false}
 use native.Mathlib.Omega.{arith}
 use lib.Dec.{leb}
@@ -8,11 +8,14 @@ use borrow.Author.Tests.{leb-true, leb-false, le-leb, lt-leb}
 use Rattle.keys.proofs.Cases.{decide, and-left, and-right, and-both, neither-left, neither-right}
 use Rattle.keys.proofs.Powers.{two-le, two-pos}
 use Rattle.keys.proofs.Interval.{within}
+use Rattle.keys.specs.declared.Square.{Square}
 use Rattle.definitions.specs.Window.{isWindow, inWindow}
 use Rattle.definitions.specs.declared.Window.{Window}
 use Rattle.laws.proofs.WindowScan.{inside-window, window-inside}
 use Rattle.walk.specs.declared.Spot.{Spot}
-use Rattle.walk.specs.Walk.{BlockSpot, Small, isWithin, isApart}
+use Rattle.walk.specs.declared.lying.Lie.{Lie}
+use Rattle.walk.specs.declared.lying.Lie.the-variants.{Apart, Within, Cut}
+use Rattle.walk.specs.Walk.{BlockSpot, Small, isWithin, isApart, squareSpot, lieOf}
 
 -- the block's rows and columns are the window's
 pub record SpotInside (s : Spot) (w : Window) : Type 0 where
@@ -137,3 +140,31 @@ meets-pixel {m} w {s} good h e =
     let row = w .row + (s .row - w .row) in
     let column = w .column + (s .column - w .column) in
     record { row = row; column = column; in-spot = omega (arith, h .side); in-window = window-inside w row column (omega arith) }
+
+-- a square by itself, by the two tests
+module _ (q : Square) (w : Window) where
+  pub lie-apart : isApart (squareSpot q) w ≡ true → Apart ≡ lieOf q w
+  unfolding lieOf
+  lie-apart e = rw e refl
+
+  pub lie-within : isApart (squareSpot q) w ≡ false → isWithin (squareSpot q) w ≡ true → Within ≡ lieOf q w
+  unfolding lieOf
+  lie-within e f = rw (e, f) refl
+
+  pub lie-cut : isApart (squareSpot q) w ≡ false → isWithin (squareSpot q) w ≡ false → Cut ≡ lieOf q w
+  unfolding lieOf
+  lie-cut e f = rw (e, f) refl
+
+  -- what each answer tells
+  abbrev pub LiesAs : Lie → Type 0
+  LiesAs Apart = isApart (squareSpot q) w ≡ true
+  LiesAs Within = isWithin (squareSpot q) w ≡ true
+  LiesAs Cut = (isApart (squareSpot q) w ≡ false) × (isWithin (squareSpot q) w ≡ false)
+
+  lie-told : LiesAs (lieOf q w)
+  lie-told =
+      decide (isApart (squareSpot q) w) (λ e. subst LiesAs (lie-apart e) e)
+      (λ e. decide (isWithin (squareSpot q) w) (λ f. subst LiesAs (lie-within e f) f) (λ f. subst LiesAs (lie-cut e f) (e, f)))
+
+  pub lies-as : {lie lie′ : Lie} → lie ≡ lieOf q w → lie ≡ lie′ → LiesAs lie′
+  lies-as e f = subst LiesAs (sym e ∙ f) lie-told

@@ -2,14 +2,17 @@
 -- that connect them with the window's pixels stand in proofs/.
 use Prim.Native.Nat.{ℕ, _+_, _/_, _^_, _≤_, _<_}
 use mathlib.Core.Path.{_≡_}
-use mathlib.Core.Bool.{Bool, true, _&&_, _||_}
+use mathlib.Core.Bool.{Bool, true, cond, _&&_, _||_}
 use lib.Dec.{leb}
 use Rattle.keys.specs.Key.{deepestSide}
 use Rattle.keys.specs.Block.{pixelKey}
 use Rattle.keys.specs.Under.{MapBlock}
+use Rattle.keys.specs.declared.Square.{Square}
 use Rattle.definitions.specs.Window.{inWindow}
 use Rattle.definitions.specs.declared.Window.{Window}
 use Rattle.walk.specs.declared.Spot.{Spot}
+use Rattle.walk.specs.declared.lying.Lie.{Lie}
+use Rattle.walk.specs.declared.lying.Lie.the-variants.{Apart, Within, Cut}
 use Rattle.walk.specs.declared.NextBlock.{NextBlock}
 use Rattle.walk.specs.declared.NextBlock.the-variants.{At, Gone}
 
@@ -40,6 +43,14 @@ isApart s w =
     leb (s .row + s .side) (w .row)
     || leb (w .row + w .height) (s .row)
     || (leb (s .column + s .side) (w .column) || leb (w .column + w .width) (s .column))
+
+-- a square by itself, as the two tests look at it
+abbrev pub squareSpot : Square → Spot
+squareSpot q = record { key = 0; row = q .row; column = q .column; side = q .side; step = 0 }
+
+-- how it lies to the window
+unfoldable pub lieOf : Square → Window → Lie
+lieOf q w = cond (isApart (squareSpot q) w) Apart (cond (isWithin (squareSpot q) w) Within Cut)
 
 abbrev pub firstQuadrant : Spot → Spot
 firstQuadrant s = record { key = s .key + s .step / 5; row = s .row; column = s .column; side = s .side / 2; step = s .step / 5 }

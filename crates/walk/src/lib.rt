@@ -7,6 +7,7 @@ ghost use Rattle.walk.specs.Walk.{BlockSpot, Small, isWithin, isApart, f
 
 pub mod asking;
 pub mod bounds;
+pub mod lying;
 
 use definitions::Window;
 use keys::Key;

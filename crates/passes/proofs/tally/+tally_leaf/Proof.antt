@@ -10,9 +10,6 @@ use Rattle.keys.specs.Child.{childOf, Divisible}
 use Rattle.keys.specs.declared.block.TreeBlock.{TreeBlock}
 use Rattle.keys.proofs.Interval.{within}
 use Rattle.keys.proofs.BlockChild.{child-lower, divides, end-in-map}
-use Rattle.definitions.specs.Bits.{featureOf}
-use Rattle.build.proofs.CountBlock.{tallied-small}
-use Rattle.step.specs.Step.{plain, stepOver}
 use Rattle.step.specs.Deed.{Doable, LeafAsked}
 use Rattle.step.proofs.LeafChild.{leaf-child}
 use Rattle.step.proofs.Meetings.{met-cut}
