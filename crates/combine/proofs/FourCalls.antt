@@ -11,7 +11,7 @@ use Rattle.definitions.specs.Picture.{Picture}
 use Rattle.definitions.specs.Bits.{unionOfFour}
 use Rattle.definitions.specs.Combine.{combined}
 use Rattle.list.proofs.Shown.{shown-room}
-use Rattle.list.proofs.ShownQuadrants.{quadrantRow, quadrantColumn}
+use Rattle.list.specs.Quadrants.{quadrantRow, quadrantColumn}
 use Rattle.build.specs.BuildBlocks.{Tallied, Joined}
 use Rattle.build.proofs.CountBlock.{tallied-four, tallied-small}
 use Rattle.combine.specs.Combining.{Seen, BothEntered, Passes, passedTo, AllPass, CombineAsked, CombinedCounted}

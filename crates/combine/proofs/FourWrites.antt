@@ -10,7 +10,7 @@ use Rattle.keys.proofs.SpanChild.{child-first}
 use Rattle.definitions.specs.Picture.{Picture}
 use Rattle.definitions.specs.Bits.{unionOfFour}
 use Rattle.definitions.specs.Combine.{combined}
-use Rattle.list.proofs.ShownQuadrants.{quadrantRow, quadrantColumn}
+use Rattle.list.specs.Quadrants.{quadrantRow, quadrantColumn}
 use Rattle.build.specs.BuildBlocks.{Fitting, Written, FourAsked, FourWritten}
 use Rattle.build.proofs.WrittenBlock.{written-quadrants}
 use Rattle.build.proofs.FittingBlock.{fitting-at, fits-nw, fits-ne, fits-sw, fits-se, fits-four}

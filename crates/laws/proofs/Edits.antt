@@ -15,16 +15,7 @@ use Rattle.definitions.specs.Area.{summaryOf, noSummary}
 use Rattle.definitions.specs.Log.{noLog}
 use Rattle.definitions.specs.Refusal.{Row, _gives_, first, accepted, badSettings, noList}
 use Rattle.definitions.specs.Calls.Edit.{LentSheet, Edit, sheetRows, listLeft, editRefusal, editAnswer, keysLeft, bitsLeft, summaryLeft, logKeysLeft, logValuesLeft, Edits}
-use Rattle.laws.proofs.First.{numbered, NoneHolds, FirstHolds, this, first-later, none-first, first-none, holds-first, first-holds, holds-more, accepted-done, accepted-left}
-
--- what some rows refuse the table that begins with them refuses
-pub early-first : (k : ℕ) (rows more : List Row) → k ≡ first rows → (k ≡ 0 → ⊥) → k ≡ first (rows ++ more)
-early-first k rows more e not-zero = sym (holds-first (holds-more more (first-holds k rows not-zero (sym e))))
-
--- rows that are passed leave the rest of the table
-pub rest-first : (rows more : List Row) → NoneHolds rows → first more ≡ first (rows ++ more)
-rest-first [] more h = refl
-rest-first (r ∷ rs) more h = rest-first rs more (h .1) ∙ sym (first-later r (rs ++ more) (h .0))
+use Rattle.laws.proofs.First.{numbered, NoneHolds, FirstHolds, this, none-first, first-none, holds-first, holds-more, early-first, rest-first, accepted-done, accepted-left}
 
 -- where no test of a table holds none of either part does
 none-parts : (rows more : List Row) → NoneHolds (rows ++ more) → NoneHolds rows × NoneHolds more

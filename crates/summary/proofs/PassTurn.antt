@@ -25,7 +25,7 @@ use Rattle.list.proofs.Shown.{slot-several}
 use Rattle.list.proofs.Turn as check
 use Rattle.summary.specs.Count.{withPixels, CountersFit, NodeAt, NodeCounted}
 use Rattle.summary.specs.Pass.{NodeThere, OneHeight, PassAsked, PassAnswered}
-use Rattle.summary.proofs.CountTurn.{Reached, reached-none, reached-all, leaf-turn, node-turn}
+use Rattle.summary.proofs.CountTurn.{CountReached, reached-none, reached-all, leaf-turn, node-turn}
 
 -- the height tells the step
 pub step-of : (k step : ℕ) → step ≡ 5 ^ k → step ≡ stepUnder (suc k)
@@ -118,7 +118,7 @@ leaf-most counts g area f long h =
 -- before the turn of a digit: the children before it have been checked and counted
 pub record Passing (K B counts₀ : List ℕ) (at key own step area : ℕ) (counts : List ℕ) (next union digit : ℕ) : Type 0 where
   pub checked : check.Passed K B (at + 1) key own step next union digit
-  pub reached : Reached B counts₀ at area counts next (digit - 1)
+  pub reached : CountReached B counts₀ at area counts next (digit - 1)
   pub most : (f : ℕ) → f < 32 → getD counts f 0 ≤ getD counts₀ f 0 + (digit - 1) * (area / 4)
 
 module _ {K B counts₀ : List ℕ} {at key own step area : ℕ} (asked : PassAsked K B counts₀ at key own step area) where
@@ -161,7 +161,7 @@ module _ {K B counts₀ : List ℕ} {at key own step area : ℕ} (asked : PassAs
         from : 1 ≤ digit
         from = x .checked .from
 
-        on : {counts′ : List ℕ} (next′ : ℕ) → Reached B counts₀ at area counts′ next′ (digit - 1 + 1) → Reached B counts₀ at area counts′ next′ (digit + 1 - 1)
+        on : {counts′ : List ℕ} (next′ : ℕ) → CountReached B counts₀ at area counts′ next′ (digit - 1 + 1) → CountReached B counts₀ at area counts′ next′ (digit + 1 - 1)
         on next′ r = let f = from in let e : digit - 1 + 1 ≡ digit + 1 - 1 = omega arith in rw e at r
 
         pub leaf-passes : (counts′ : List ℕ) → oneSlot (getD B next 0) ≡ true
