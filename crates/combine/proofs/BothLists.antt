@@ -15,37 +15,37 @@ use Rattle.combine.specs.declared.cursor.Pair.{Pair}
 use Rattle.combine.proofs.OneList.{WaitingQuarters, quarters-all, quarter-at, quarter-next, quarters-none}
 
 -- a quadrant, numbered from 0, lies under its block
-pub quadrant-under : (k r c κ d : ℕ) → d < 4 → Under (suc k) r c κ k (quadrantRow d r (2 ^ k)) (quadrantColumn d c (2 ^ k)) (childKey κ k (suc d))
+pub both-quadrant-under : (k r c κ d : ℕ) → d < 4 → Under (suc k) r c κ k (quadrantRow d r (2 ^ k)) (quadrantColumn d c (2 ^ k)) (childKey κ k (suc d))
 unfolding quadrantRow quadrantColumn
-quadrant-under k r c κ zero h = nw here
-quadrant-under k r c κ (suc zero) h = ne here
-quadrant-under k r c κ (suc (suc zero)) h = sw here
-quadrant-under k r c κ (suc (suc (suc zero))) h = se here
-quadrant-under k r c κ (suc (suc (suc (suc d)))) h = absurd (omega arith)
+both-quadrant-under k r c κ zero h = nw here
+both-quadrant-under k r c κ (suc zero) h = ne here
+both-quadrant-under k r c κ (suc (suc zero)) h = sw here
+both-quadrant-under k r c κ (suc (suc (suc zero))) h = se here
+both-quadrant-under k r c κ (suc (suc (suc (suc d)))) h = absurd (omega arith)
 
 -- both lists stood at x before the block, and stand at y past the first d of its quadrants
-pub record Between (p q : Picture) (k r c κ : ℕ) (bits₁ bits₂ : List ℕ) (step : ℕ) (x y : Pair) (d : ℕ) : Type 0 where
+pub record BetweenLists (p q : Picture) (k r c κ : ℕ) (bits₁ bits₂ : List ℕ) (step : ℕ) (x y : Pair) (d : ℕ) : Type 0 where
   pub lower : step / 5 ≡ 5 ^ k
   pub first-quarters : WaitingQuarters p k r c κ bits₁ (x .first) (y .first) d
   pub second-quarters : WaitingQuarters q k r c κ bits₂ (x .second) (y .second) d
 
 pub between-all : {p q : Picture} {k r c κ : ℕ} {bits₁ bits₂ : List ℕ} {step : ℕ} {x y : Pair} → Seen p q (suc k) r c κ bits₁ bits₂ step x → BothEntered bits₁ bits₂ x y
-    → Between p q k r c κ bits₁ bits₂ step x y 0
+    → BetweenLists p q k r c κ bits₁ bits₂ step x y 0
 between-all {k = k} s e = record {
   lower = fifth-of k (s .step-is);
   first-quarters = quarters-all (s .first-at) (e .first-in);
   second-quarters = quarters-all (s .second-at) (e .second-in);
 }
 
-module _ {p q : Picture} {k r c κ : ℕ} {bits₁ bits₂ : List ℕ} {step : ℕ} {x y : Pair} {d : ℕ} (b : Between p q k r c κ bits₁ bits₂ step x y d) where
+module _ {p q : Picture} {k r c κ : ℕ} {bits₁ bits₂ : List ℕ} {step : ℕ} {x y : Pair} {d : ℕ} (b : BetweenLists p q k r c κ bits₁ bits₂ step x y d) where
   -- both stand at the next quadrant
   pub between-seen : d < 4 → Seen p q k (quadrantRow d r (2 ^ k)) (quadrantColumn d c (2 ^ k)) (childKey κ k (suc d)) bits₁ bits₂ (step / 5) y
   between-seen h =
-      let u = quadrant-under k r c κ d h in
+      let u = both-quadrant-under k r c κ d h in
       record { step-is = b .lower; first-at = quarter-at (b .first-quarters) h u; second-at = quarter-at (b .second-quarters) h u }
 
   -- and once it is passed at the one after it
-  pub between-next : d < 4 → {z : Pair} → AllPass bits₁ bits₂ (step / 5) y z → Between p q k r c κ bits₁ bits₂ step x z (d + 1)
+  pub between-next : d < 4 → {z : Pair} → AllPass bits₁ bits₂ (step / 5) y z → BetweenLists p q k r c κ bits₁ bits₂ step x z (d + 1)
   between-next h a =
       let n = a _ _ _ _ _ _ (between-seen h) in
       record { lower = b .lower; first-quarters = quarter-next (b .first-quarters) h (n .first-next); second-quarters = quarter-next (b .second-quarters) h (n .second-next) }

@@ -16,8 +16,8 @@ use Rattle.build.specs.BuildBlocks.{Tallied, Joined}
 use Rattle.build.proofs.CountBlock.{tallied-four, tallied-small}
 use Rattle.combine.specs.Combining.{Seen, BothEntered, Passes, passedTo, AllPass, CombineAsked, CombinedCounted}
 use Rattle.combine.specs.declared.cursor.Pair.{Pair}
-use Rattle.combine.proofs.TwoLeaves.{notBoth, not-pixel, positive-height}
-use Rattle.combine.proofs.BothLists.{Between, between-all, between-seen, between-next, between-none, quadrant-under, seen-at, named-at, named-under}
+use Rattle.combine.proofs.TwoLeaves.{notBoth, pair-not-pixel, positive-height}
+use Rattle.combine.proofs.BothLists.{BetweenLists, between-all, between-seen, between-next, between-none, both-quadrant-under, seen-at, named-at, named-under}
 
 module _ {bits₁ bits₂ table : List ℕ} {s₂ step : ℕ} {x : Pair} (a : CombineAsked bits₁ bits₂ table s₂ step x) where
   -- a listed block has a record to read
@@ -30,7 +30,7 @@ module _ {bits₁ bits₂ table : List ℕ} {s₂ step : ℕ} {x : Pair} (a : Co
 
   -- both lists past the first d quadrants
   abbrev pub Going : Pair → ℕ → Type 0
-  Going y d = Between (a .first) (a .second) (a .height - 1) (a .row) (a .column) (a .key) bits₁ bits₂ step x y d
+  Going y d = BetweenLists (a .first) (a .second) (a .height - 1) (a .row) (a .column) (a .key) bits₁ bits₂ step x y d
 
   module _ {y : Pair} (e : BothEntered bits₁ bits₂ x y) (n : notBoth y) where
     pub one-higher : a .height ≡ suc (a .height - 1)
@@ -50,7 +50,7 @@ module _ {bits₁ bits₂ table : List ℕ} {s₂ step : ℕ} {x : Pair} (a : Co
       key = childKey (a .key) (a .height - 1) (suc d);
       deep = omega (arith, a .deep);
       seen = between-seen b h;
-      named = named-under (quadrant-under (a .height - 1) (a .row) (a .column) (a .key) d h) (named-at one-higher (a .named));
+      named = named-under (both-quadrant-under (a .height - 1) (a .row) (a .column) (a .key) d h) (named-at one-higher (a .named));
     }
 
 -- how both lists stand at the four, whichever pictures they show
@@ -63,13 +63,13 @@ pub record FourSeen (p q : Picture) (k r c κ : ℕ) (bits₁ bits₂ : List ℕ
 module _ {bits₁ bits₂ : List ℕ} {step : ℕ} {x y₁ y₂ y₃ y₄ : Pair} (e : BothEntered bits₁ bits₂ x y₁)
     (h₁ : AllPass bits₁ bits₂ (step / 5) y₁ y₂) (h₂ : AllPass bits₁ bits₂ (step / 5) y₂ y₃) (h₃ : AllPass bits₁ bits₂ (step / 5) y₃ y₄) where
   module _ {p q : Picture} {k r c κ : ℕ} (s : Seen p q (suc k) r c κ bits₁ bits₂ step x) where
-    past-1 : Between p q k r c κ bits₁ bits₂ step x y₂ 1
+    past-1 : BetweenLists p q k r c κ bits₁ bits₂ step x y₂ 1
     past-1 = between-next (between-all s e) (omega arith) h₁
 
-    past-2 : Between p q k r c κ bits₁ bits₂ step x y₃ 2
+    past-2 : BetweenLists p q k r c κ bits₁ bits₂ step x y₃ 2
     past-2 = between-next past-1 (omega arith) h₂
 
-    past-3 : Between p q k r c κ bits₁ bits₂ step x y₄ 3
+    past-3 : BetweenLists p q k r c κ bits₁ bits₂ step x y₄ 3
     past-3 = between-next past-2 (omega arith) h₃
 
     pub four-seen : FourSeen p q k r c κ bits₁ bits₂ step y₁ y₂ y₃ y₄
@@ -83,7 +83,7 @@ module _ {bits₁ bits₂ : List ℕ} {step : ℕ} {x y₁ y₂ y₃ y₄ : Pair
 
   -- so the block is passed
   pub all-pass : {y₅ z : Pair} → notBoth y₁ → AllPass bits₁ bits₂ (step / 5) y₄ y₅ → z ≡ passedTo x y₅ → AllPass bits₁ bits₂ step x z
-  all-pass n h₄ f p q zero r c κ s = absurd (not-pixel s e n)
+  all-pass n h₄ f p q zero r c κ s = absurd (pair-not-pixel s e n)
   all-pass n h₄ f p q (suc k) r c κ s = between-none (between-next (past-3 s) (omega arith) h₄) refl f
 
 -- the four counted
@@ -102,7 +102,7 @@ module _ {bits₁ bits₂ table : List ℕ} {s₂ step : ℕ} {x y₁ y₂ y₃ 
 
   module _ {u m : ℕ} (j : Joined (unionOfFour u₁ u₂ u₃ u₄) (m₁ + (m₂ + (m₃ + m₄))) u m) where
     all-tallied : (p q : Picture) (k r c κ : ℕ) → Seen p q k r c κ bits₁ bits₂ step x → Tallied (combined p q table s₂) k r c u m
-    all-tallied p q zero r c κ s = absurd (not-pixel s e n)
+    all-tallied p q zero r c κ s = absurd (pair-not-pixel s e n)
     all-tallied p q (suc k) r c κ s =
         let f = four-seen e (h₁ .passes) (h₂ .passes) (h₃ .passes) s in
         tallied-four (combined p q table s₂) k (2 ^ k) r c refl

@@ -23,7 +23,7 @@ use Rattle.history.specs.History.{Buffers, Paint, ofBlock, ofWindow, Kep
 use Rattle.history.specs.Claim.{paintAnswer, paintWindowAnswer}
 use Rattle.history.proofs.Fit.{Fit, block-fit, window-fit}
 use Rattle.history.proofs.Slices.{list-room}
-use Rattle.history.proofs.PaintStep.{listAfter, stepIn, paintOn, list-now, step-now}
+use Rattle.history.proofs.PaintStep.{listAfter, stepIn, paintedOn, list-now, step-now}
 use Rattle.history.proofs.Invariant.{now, Invariant}
 use Rattle.history.proofs.EditStep.{lentBy, now-sheet}
 
@@ -44,13 +44,13 @@ module _ (m s : ℕ) (b : Buffers) (p : SheetPassed (lentBy m s b)) where
       ≡ first (badKey m κ gives 8 ∷ badFeature s f gives 7
       ∷ rooms (room (b .keys) (b .bits)) (room (b .logKeys) (b .logValues)) (b .inForce) (stepIn m b (ofBlock κ f)) (listAfter m b (ofBlock κ f)))
   unfolding answer gained applied loggedBy
-  block-past-sheet κ f = sym (rest-decides (paintOn m s b (badKey m κ gives 8) f (ofBlock κ f)) p [] _ refl tt)
+  block-past-sheet κ f = sym (rest-decides (paintedOn m s b (badKey m κ gives 8) f (ofBlock κ f)) p [] _ refl tt)
 
   window-past-sheet : (w : Window) (f : ℕ) → answer m s b (painting (ofWindow w f))
       ≡ first (badWindow m w gives 6 ∷ badFeature s f gives 7
       ∷ rooms (room (b .keys) (b .bits)) (room (b .logKeys) (b .logValues)) (b .inForce) (stepIn m b (ofWindow w f)) (listAfter m b (ofWindow w f)))
   unfolding answer groupGained applied loggedBy
-  window-past-sheet w f = sym (rest-decides (paintOn m s b (badWindow m w gives 6) f (ofWindow w f)) p [] _ refl tt)
+  window-past-sheet w f = sym (rest-decides (paintedOn m s b (badWindow m w gives 6) f (ofWindow w f)) p [] _ refl tt)
 
 module _ {m s size : ℕ} {p : Picture} {keys bits logKeys logValues : List ℕ} {b : Buffers} {k : Kept} {inList inLog : ℕ}
     (h : Invariant m s size p keys bits logKeys logValues b k inList inLog) where

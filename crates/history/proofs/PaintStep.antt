@@ -51,8 +51,8 @@ withStep b l summary step =
     (b .inForce + length step) (b .inForce + length step)
 
 -- the edit of a paint, by the row that tells what it paints
-abbrev pub paintOn : ℕ → ℕ → Buffers → Row → ℕ → Paint → Edit
-paintOn m s b place f x =
+abbrev pub paintedOn : ℕ → ℕ → Buffers → Row → ℕ → Paint → Edit
+paintedOn m s b place f x =
     editOn m s b
     (place ∷ badFeature s f gives 7 ∷ ltb (room (b .logKeys) (b .logValues)) (b .inForce + length (stepIn m b x)) gives 10 ∷ [])
     (applied m x (shownIn m b))
@@ -71,14 +71,14 @@ module _ (m s : ℕ) (b : Buffers) where
   passed : (x : Paint) → answer m s b (painting x) ≡ 0 → Passed m s b x
   unfolding answer gained groupGained applied loggedBy
   passed (ofBlock κ f) e =
-      let all = edit-passed (paintOn m s b (badKey m κ gives 8) f (ofBlock κ f)) refl e in
+      let all = edit-passed (paintedOn m s b (badKey m κ gives 8) f (ofBlock κ f)) refl e in
       record {
         fit = block-fit κ f (not-false _ (all .own .0)) (leb-false s f (all .own .1 .0));
         logRoom = ltb-false _ _ (all .own .1 .1 .0);
         listRoom = all .fits;
       }
   passed (ofWindow w f) e =
-      let all = edit-passed (paintOn m s b (badWindow m w gives 6) f (ofWindow w f)) refl e in
+      let all = edit-passed (paintedOn m s b (badWindow m w gives 6) f (ofWindow w f)) refl e in
       record {
         fit = window-fit w f (not-false _ (all .own .0)) (leb-false s f (all .own .1 .0));
         logRoom = ltb-false _ _ (all .own .1 .1 .0);

@@ -13,11 +13,11 @@ use Rattle.keys.specs.Block.{pixelKey, quadrantDigit, inQuadrant}
 use Rattle.keys.proofs.Descent.{pixel-goes}
 
 -- a bit of a number at a level
-abbrev pub bitOf : (k x : ℕ) → ℕ
-bitOf k x = x / 2 ^ k % 2
+abbrev pub bitOfNumber : (k x : ℕ) → ℕ
+bitOfNumber k x = x / 2 ^ k % 2
 
 -- the lower bits of a number, with one more: that bit's worth, and the others
-halves : (k x : ℕ) → x % 2 ^ suc k ≡ bitOf k x * 2 ^ k + x % 2 ^ k
+halves : (k x : ℕ) → x % 2 ^ suc k ≡ bitOfNumber k x * 2 ^ k + x % 2 ^ k
 halves k x = ap (λ (y : ℕ). x % y) (omega (arith, pow-suc 2 k)) ∙ mod-mul x (lit< tt) (pow-pos k)
 
 -- a bit is 0 or 1, so its worth in a square is nothing or the side
@@ -59,14 +59,14 @@ digit-by-bits {side} {row = row} {column = column} r c =
     (λ e. let b = c .south e in simp (le-ltb _ _ s, le-ltb _ _ e) (omega arith)))
 
 -- the lower bits of a number in the square of its level
-half : (k x : ℕ) → Halved (2 ^ k) (bitOf k x) (x % 2 ^ k) (x % 2 ^ suc k)
-half k x = halved (2 ^ k) (bitOf k x) (x % 2 ^ k) (x % 2 ^ suc k) (mod-lt _ (lit< tt)) (mod-lt x (pow-pos k)) (halves k x)
+half : (k x : ℕ) → Halved (2 ^ k) (bitOfNumber k x) (x % 2 ^ k) (x % 2 ^ suc k)
+half k x = halved (2 ^ k) (bitOfNumber k x) (x % 2 ^ k) (x % 2 ^ suc k) (mod-lt _ (lit< tt)) (mod-lt x (pow-pos k)) (halves k x)
 
 -- the key of a pixel in a square of one level more
 pub pixel-bits : (k row column : ℕ)
     → pixelKey (suc k) (row % 2 ^ suc k) (column % 2 ^ suc k)
-    ≡ (1 + bitOf k column + bitOf k row * 2) * 5 ^ k + pixelKey k (row % 2 ^ k) (column % 2 ^ k)
+    ≡ (1 + bitOfNumber k column + bitOfNumber k row * 2) * 5 ^ k + pixelKey k (row % 2 ^ k) (column % 2 ^ k)
 pixel-bits k row column =
     pixel-goes k (row % 2 ^ suc k) (column % 2 ^ suc k)
     ∙ ap (λ (d : ℕ). d * 5 ^ k + pixelKey k (inQuadrant (2 ^ k) (row % 2 ^ suc k)) (inQuadrant (2 ^ k) (column % 2 ^ suc k))) (digit-by-bits (half k row) (half k column))
-    ∙ ap₂ (λ (r c : ℕ). (1 + bitOf k column + bitOf k row * 2) * 5 ^ k + pixelKey k r c) (half k row .within) (half k column .within)
+    ∙ ap₂ (λ (r c : ℕ). (1 + bitOfNumber k column + bitOfNumber k row * 2) * 5 ^ k + pixelKey k r c) (half k row .within) (half k column .within)

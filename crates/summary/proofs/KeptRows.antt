@@ -24,8 +24,8 @@ none-fit area h = record {
 }
 
 -- a block by itself, and the blocks of a child
-pub block-level : (step area : ℕ) → Shared step area 1 → OneHeight step area × (5 ≤ step)
-block-level step area s = go (s .up) (s .blocks) (s .steps)
+pub kept-block-level : (step area : ℕ) → Shared step area 1 → OneHeight step area × (5 ≤ step)
+kept-block-level step area s = go (s .up) (s .blocks) (s .steps)
   where
     go : (u : ℕ) → 1 ≡ 4 ^ u → step ≡ 5 ^ (u + suc (s .height)) → OneHeight step area × (5 ≤ step)
     go zero e f =
@@ -69,7 +69,7 @@ kept-more {B} {area} {rows} {places} b at counts k h x = record {
 module _ {K B : List ℕ} {rows : List (List ℕ)} {places : List ℕ} {at key own step area b : ℕ} (asked : KeepingAsked K B rows places at key own step area b 1) where
   pub block-asked : PassAsked K B (replicate 32 0) at key own step area × (5 ≤ step)
   block-asked =
-      let l = block-level step area (asked .shared) in
+      let l = kept-block-level step area (asked .shared) in
       (record { node = asked .node; level = l .0; room = none-fit area (asked .shared .small) }, l .1)
 
   module _ {counts : List ℕ} {place : ℕ} (x : PassAnswered K B (replicate 32 0) counts at key own step area place) where
@@ -86,7 +86,7 @@ module _ {K B : List ℕ} {rows : List (List ℕ)} {places : List ℕ} {at key o
 
 -- before the turn of a digit: the children before it have been checked, and their blocks are kept
 pub record Keeping (K B : List ℕ) (at key own step area quarter : ℕ) (rows : List (List ℕ)) (places : List ℕ) (number next union digit : ℕ) : Type 0 where
-  pub checked : check.Passed K B (at + 1) key own step next union digit
+  pub checked : check.TurnPassed K B (at + 1) key own step next union digit
   pub most : number + (5 - digit) * quarter ≤ 16
   pub kept : RowsKept B area rows places
 

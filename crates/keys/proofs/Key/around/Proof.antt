@@ -8,7 +8,7 @@ use lib.Dec.{lit<}
 use Rattle.keys.specs.Block.{pixelKey, keyAround}
 use Rattle.keys.proofs.Powers.{five-pos, five-le}
 use Rattle.keys.proofs.Pixel.{pixelKey-lt}
-use Rattle.keys.proofs.PixelBits.{bitOf, pixel-bits}
+use Rattle.keys.proofs.PixelBits.{bitOfNumber, pixel-bits}
 use Rattle.keys.proofs.Key.around.Statement.{statement}
 use Rattle.keys.proofs.Key.around.Tie as tie
 
@@ -38,7 +38,7 @@ two = lit< tt
 
 -- the digit that a turn adds, by its two bits
 abbrev digitOf : (k row column : ℕ) → ℕ
-digitOf k row column = 1 + bitOf k column + bitOf k row * 2
+digitOf k row column = 1 + bitOfNumber k column + bitOfNumber k row * 2
 
 module _ {m row column last number left : ℕ} (p : Passed m row column last number left) (h : last < left) where
   levels : left ≡ suc (left - 1)

@@ -16,7 +16,7 @@ use Rattle.step.specs.Step.{plain, stepOver}
 use Rattle.step.specs.Deed.{Doable, LeafAsked}
 use Rattle.step.proofs.LeafChild.{leaf-child}
 use Rattle.step.proofs.Meetings.{met-cut}
-use Rattle.passes.proofs.ByDigits.{few, four}
+use Rattle.passes.proofs.ByDigits.{few, four-digits}
 use Rattle.passes.proofs.Narrowed.{narrowed-tallied}
 use Rattle.passes.proofs.Known.{met-readable, known-tallied, leaf-bits, leaf-records}
 use Rattle.passes.proofs.tally.tally_leaf.Reads as own
@@ -125,7 +125,7 @@ returns-2 t c =
     let q₁ = q₂ .before .before in
     let d = q₁ .before .before in
     narrowed-tallied (d .before .before .before .narrow .ensures .same) (start t d .pre .1 .1 .block) (omega arith) _
-    (four _ (positive t d) (q₁ .before .child .ensures) (q₂ .before .child2 .ensures) (q₃ .before .child3 .ensures) (q₄ .before .child4 .ensures)
+    (four-digits _ (positive t d) (q₁ .before .child .ensures) (q₂ .before .child2 .ensures) (q₃ .before .child3 .ensures) (q₄ .before .child4 .ensures)
     (q₁ .tally-leaf .ensures) (q₂ .tally-leaf2 .ensures) (q₃ .tally-leaf3 .ensures) (q₄ .tally-leaf4 .ensures) (c .joined .ensures))
 
 pub +tally-leaf-spec : {M : Type 1} → statement M
