@@ -4,6 +4,7 @@ use mathlib.Core.Path.{_≡_}
 use mathlib.Core.Bool.{false}
 use mathlib.Core.List.{List, [], _∷_}
 use lib.ListN.{length}
+use Rattle.keys.specs.Key.{deepestSide}
 use Rattle.keys.specs.Under.{MapBlock}
 use Rattle.definitions.specs.Picture.{Picture}
 use Rattle.definitions.specs.List.{Record}
@@ -18,10 +19,10 @@ use Rattle.list.specs.Sorted.{Near}
 -- a block and a window whose numbers are those of a map
 pub record Placed (w : Window) (height row column : ℕ) : Type 0 where
   pub deep : height ≤ 10
-  pub rows : row + 2 ^ height ≤ 1024
-  pub columns : column + 2 ^ height ≤ 1024
-  pub low : w .row + w .height ≤ 1024
-  pub narrow : w .column + w .width ≤ 1024
+  pub rows : row + 2 ^ height ≤ deepestSide
+  pub columns : column + 2 ^ height ≤ deepestSide
+  pub low : w .row + w .height ≤ deepestSide
+  pub narrow : w .column + w .width ≤ deepestSide
 
 -- what is told of a block: none of the largest blocks lies in it, it is one of them, or its quadrants have to be asked
 pub record Lies (w : Window) (height row column told : ℕ) : Type 0 where
@@ -33,8 +34,8 @@ pub record Lies (w : Window) (height row column told : ℕ) : Type 0 where
 pub record Coverable (m : ℕ) (keys bits : List ℕ) (n : ℕ) (w : Window) : Type 0 where
   pub deep : m ≤ 10
   pub own : OwnList m keys bits n
-  pub low : w .row + w .height ≤ 1024
-  pub narrow : w .column + w .width ≤ 1024
+  pub low : w .row + w .height ≤ deepestSide
+  pub narrow : w .column + w .width ≤ deepestSide
 
 -- the number of a block's keys, and a place from which it can be looked for
 pub record Sought (keys : List ℕ) (n height key step from : ℕ) : Type 0 where
