@@ -16,7 +16,7 @@ use Rattle.definitions.specs.declared.Question.{Question}
 use Rattle.definitions.specs.declared.Counted.{Counted}
 use Rattle.laws.proofs.First.{first-none, accepted-done, accepted-left}
 use Rattle.laws.proofs.Buffer.{sets-over}
-use Rattle.batch.specs.Run.{AcceptedMap, Answering, answeringOf, at, answeringRefusal, answeringBegins, answered, batchRun, BatchReady, answeringEnds}
+use Rattle.batch.specs.Run.{AcceptedMap, Answering, answeringOf, atPlace, answeringRefusal, answeringBegins, answered, batchRun, BatchReady, answeringEnds}
 use Rattle.batch.specs.declared.begin.BatchState.{BatchState}
 use Rattle.batch.proofs.Fold.{step-answers, step-stays, run-nil, run-cons}
 
@@ -31,11 +31,11 @@ module _ (keys bits : List ℕ) where
   abbrev ran : List Question → Answering → Answering
   ran questions p =
       answeringOf
-      (at (p .state .place + length questions) (p .state))
+      (atPlace (p .state .place + length questions) (p .state))
       (sets (p .refusals) (p .state .place) (map (refusalTo (p .state .m) (p .state .s) keys bits (p .state .n)) questions))
       (sets (p .values) (p .state .place) (map (valueTo (p .state .m) (p .state .s) keys bits (p .state .n)) questions))
 
-  progress : {a b : ℕ} {l l′ v v′ : List ℕ} (st : BatchState) → a ≡ b → l ≡ l′ → v ≡ v′ → answeringOf (at a st) l v ≡ answeringOf (at b st) l′ v′
+  progress : {a b : ℕ} {l l′ v v′ : List ℕ} (st : BatchState) → a ≡ b → l ≡ l′ → v ≡ v′ → answeringOf (atPlace a st) l v ≡ answeringOf (atPlace b st) l′ v′
   progress st e f g i =
       record {
         state = record { m = st .m; s = st .s; n = st .n; refusal = st .refusal; questions = st .questions; place = e i };
@@ -89,7 +89,7 @@ module _ (m s : ℕ) (keys bits : List ℕ) (n : ℕ) (questions : List Question
     pub ends-with : result ≡ answeringEnds done
 
   -- only the place of the state changes, and the answer does not look at it
-  answer-batch : (place : ℕ) → answeringEnds (at place start) ≡ batch m s keys bits n questions refusals values
+  answer-batch : (place : ℕ) → answeringEnds (atPlace place start) ≡ batch m s keys bits n questions refusals values
   unfolding answeringRefusal batchRefusal batch answeringEnds
   answer-batch place = refl
 
@@ -124,7 +124,7 @@ module _ (m s : ℕ) (keys bits : List ℕ) (n : ℕ) (questions : List Question
       × (after′ ≡ batchValues m s keys bits n questions refusals values)
 
   -- what the progress at the end says
-  ends-at : (place : ℕ) (l l′ : List ℕ) {done : BatchState} {result : Counted} {after after′ : List ℕ} → answeringOf done after after′ ≡ answeringOf (at place start) l l′
+  ends-at : (place : ℕ) (l l′ : List ℕ) {done : BatchState} {result : Counted} {after after′ : List ℕ} → answeringOf done after after′ ≡ answeringOf (atPlace place start) l l′
       → result ≡ answeringEnds done
       → l ≡ batchRefusals m s keys bits n questions refusals values
       → l′ ≡ batchValues m s keys bits n questions refusals values

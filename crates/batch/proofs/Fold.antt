@@ -12,7 +12,7 @@ use Rattle.definitions.specs.Calls.Batch.{refusalTo, valueTo}
 use Rattle.definitions.specs.declared.Question.{Question}
 use Rattle.laws.proofs.OneByOne.{noQuestion}
 use Rattle.batch.specs.declared.step.Reply.{Reply}
-use Rattle.batch.specs.Run.{Answering, answeringOf, at, replyOf, answered, batchStep, batchRun, BatchReady}
+use Rattle.batch.specs.Run.{Answering, answeringOf, atPlace, replyOf, answered, batchStep, batchRun, BatchReady}
 
 module _ (keys bits : List ℕ) where
   abbrev first : ℕ → List Question → Answering → Answering
@@ -32,11 +32,11 @@ module _ (keys bits : List ℕ) where
       → (l v : List ℕ)
       → l ≡ set (p .refusals) (p .state .place) (reply .refusal)
       → v ≡ set (p .values) (p .state .place) (reply .value)
-      → answeringOf (at (p .state .place + 1) (p .state)) l v ≡ batchStep keys bits q p
+      → answeringOf (atPlace (p .state .place + 1) (p .state)) l v ≡ batchStep keys bits q p
   step-put q p e reply is l v f g =
       let refusals = f ∙ ap (λ r. set (p .refusals) (p .state .place) (r .refusal)) is in
       let values = g ∙ ap (λ r. set (p .values) (p .state .place) (r .value)) is in
-      (λ i. answeringOf (at (p .state .place + 1) (p .state)) (refusals i) (values i)) ∙ sym (step-answers q p e)
+      (λ i. answeringOf (atPlace (p .state .place + 1) (p .state)) (refusals i) (values i)) ∙ sym (step-answers q p e)
 
   pub run-nil : (p : Answering) → batchRun keys bits [] p ≡ p
   unfolding batchRun

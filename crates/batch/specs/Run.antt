@@ -48,8 +48,8 @@ answeringBegins m s keys bits n questions roomRefusals roomValues =
     }
 
 -- the same batch, with its next place
-abbrev pub at : ℕ → BatchState → BatchState
-at place st =
+abbrev pub atPlace : ℕ → BatchState → BatchState
+atPlace place st =
     record { m = st .m; s = st .s; n = st .n; refusal = st .refusal; questions = st .questions; place = place }
 
 -- what one question is answered
@@ -61,7 +61,7 @@ module _ (keys bits : List ℕ) where
   abbrev pub answered : Question → Answering → Answering
   answered q p =
       answeringOf
-      (at (p .state .place + 1) (p .state))
+      (atPlace (p .state .place + 1) (p .state))
       (set (p .refusals) (p .state .place) (refusalTo (p .state .m) (p .state .s) keys bits (p .state .n) q))
       (set (p .values) (p .state .place) (valueTo (p .state .m) (p .state .s) keys bits (p .state .n) q))
 

@@ -83,7 +83,7 @@ module _ {bits₁ bits₂ : List ℕ} {step : ℕ} {x y₁ y₂ y₃ y₄ : Pair
 
   -- so the block is passed
   pub all-pass : {y₅ z : Pair} → notBoth y₁ → AllPass bits₁ bits₂ (step / 5) y₄ y₅ → z ≡ passedTo x y₅ → AllPass bits₁ bits₂ step x z
-  all-pass n h₄ f p q zero r c κ s = absurd (not-pixel s e n)
+  all-pass n h₄ f p q zero r c κ s = absurd (pair-not-pixel s e n)
   all-pass n h₄ f p q (suc k) r c κ s = between-none (between-next (past-3 s) (omega arith) h₄) refl f
 
 -- the four counted
@@ -102,7 +102,7 @@ module _ {bits₁ bits₂ table : List ℕ} {s₂ step : ℕ} {x y₁ y₂ y₃ 
 
   module _ {u m : ℕ} (j : Joined (unionOfFour u₁ u₂ u₃ u₄) (m₁ + (m₂ + (m₃ + m₄))) u m) where
     all-tallied : (p q : Picture) (k r c κ : ℕ) → Seen p q k r c κ bits₁ bits₂ step x → Tallied (combined p q table s₂) k r c u m
-    all-tallied p q zero r c κ s = absurd (not-pixel s e n)
+    all-tallied p q zero r c κ s = absurd (pair-not-pixel s e n)
     all-tallied p q (suc k) r c κ s =
         let f = four-seen e (h₁ .passes) (h₂ .passes) (h₃ .passes) s in
         tallied-four (combined p q table s₂) k (2 ^ k) r c refl

@@ -16,7 +16,7 @@ use Rattle.build.proofs.WrittenBlock.{written-quadrants}
 use Rattle.build.proofs.FittingBlock.{fitting-at, fits-nw, fits-ne, fits-sw, fits-se, fits-four}
 use Rattle.combine.specs.Combining.{Seen, BothEntered, passedTo, CombineWriteAsked, Made}
 use Rattle.combine.specs.declared.cursor.Pair.{Pair}
-use Rattle.combine.proofs.TwoLeaves.{notBoth, not-pixel}
+use Rattle.combine.proofs.TwoLeaves.{notBoth, pair-not-pixel}
 use Rattle.combine.proofs.BothLists.{between-seen, between-next}
 use Rattle.combine.proofs.FourCalls.{Going, going, one-higher, asks, four-seen, all-pass}
 
@@ -127,7 +127,7 @@ module _ {bits₁ bits₂ table : List ℕ} {s₂ : ℕ} {span : KeySpan} {x y�
           module _ {keys₅ bits₅ : List ℕ} {u i : ℕ} (v : FourWritten (span .key) (span .step / 5) place u₁ u₂ u₃ u₄ i₂ i₃ i₄ i₅ keys₄ bits₄ keys₅ bits₅ u i) where
             all-written : (p q : Picture) (k r c κ : ℕ) → Seen p q k r c κ bits₁ bits₂ (span .step) x
                 → Written (combined p q table s₂) k r c (span .key) place keys bits keys₅ bits₅ u i
-            all-written p q zero r c κ s = absurd (not-pixel s e n)
+            all-written p q zero r c κ s = absurd (pair-not-pixel s e n)
             all-written p q (suc k) r c κ s =
                 let f = four-seen e (m₁ .passes) (m₂ .passes) (m₃ .passes) s in
                 written-quadrants (combined p q table s₂) k (2 ^ k) (span .step / 5) r c (span .key) place refl (f .nw .step-is)

@@ -89,8 +89,8 @@ module _ {bits₁ bits₂ : List ℕ} {x y z : Pair} {b : ℕ} {table : List ℕ
   }
 
 -- a pixel is a leaf in both
-pub not-pixel : {p q : Picture} {r c κ : ℕ} {bits₁ bits₂ : List ℕ} {step : ℕ} {x y : Pair} → Seen p q zero r c κ bits₁ bits₂ step x → BothEntered bits₁ bits₂ x y → notBoth y → ⊥
-not-pixel {p} {q} {r} {c} {y = y} s e n =
+pub pair-not-pixel : {p q : Picture} {r c κ : ℕ} {bits₁ bits₂ : List ℕ} {step : ℕ} {x y : Pair} → Seen p q zero r c κ bits₁ bits₂ step x → BothEntered bits₁ bits₂ x y → notBoth y → ⊥
+pair-not-pixel {p} {q} {r} {c} {y = y} s e n =
     equal (y .first .leaf) 0
     (λ z. true≢false (sym (one-pixel p r c) ∙ entered-several (s .first-at) (e .first-in) z))
     (λ u. equal (y .second .leaf) 0
@@ -99,5 +99,5 @@ not-pixel {p} {q} {r} {c} {y = y} s e n =
 
 pub positive-height : {p q : Picture} {r c κ : ℕ} {bits₁ bits₂ : List ℕ} {step : ℕ} {x y : Pair} (k : ℕ)
     → Seen p q k r c κ bits₁ bits₂ step x → BothEntered bits₁ bits₂ x y → notBoth y → 0 < k
-positive-height zero s e n = absurd (not-pixel s e n)
+positive-height zero s e n = absurd (pair-not-pixel s e n)
 positive-height (suc k) s e n = omega arith

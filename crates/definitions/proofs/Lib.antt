@@ -1,4 +1,4 @@
-mod Vectors
+pub mod Vectors
 mod MapA
 mod Orders
 mod Corners

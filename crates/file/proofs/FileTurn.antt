@@ -10,7 +10,7 @@ use lib.Bits.{bitOr}
 use Rattle.definitions.specs.Read.{paired}
 use Rattle.laws.proofs.Records.{paired-back}
 use Rattle.list.specs.Check.{oneSlot, restPlace, afterNode, stepUnder}
-use Rattle.list.proofs.Turn.{Answer, Passed, at-height, pixel, turn-begins, ends, differs, short, other-key, wrong-child, goes-leaf, goes-node}
+use Rattle.list.proofs.Turn.{Answer, TurnPassed, at-height, pixel, turn-begins, ends, differs, short, other-key, wrong-child, goes-leaf, goes-node}
 use Rattle.file.specs.Layout.{RecordsFit, fileKeyAt, fileBitsAt, recordsAt, keysAt, valuesAt}
 use Rattle.file.proofs.ReadBytes.{key-read, value-read, keys-many, bits-many}
 
@@ -64,7 +64,7 @@ pixel-in w n file first key own step low five one =
 pub record PassedIn (w n : ℕ) (file : List ℕ) (first key own step next union digit : ℕ) : Type 0 where
   pub laid : RecordsFit w n file
   pub reached : next ≤ n
-  pub passed : Passed (keysAt w n file) (valuesAt w n file) first key own step next union digit
+  pub passed : TurnPassed (keysAt w n file) (valuesAt w n file) first key own step next union digit
 
 -- the same where the code counts by the next child's key
 pub record ChildrenIn (w n : ℕ) (file : List ℕ) (first key own step next union child : ℕ) : Type 0 where

@@ -17,16 +17,13 @@ use Rattle.definitions.specs.Log.{closed, entryOf, countRecord, lastRecord, las
 use Rattle.definitions.specs.Calls.Survey.{surveyRefusal, survey, surveyKeys, surveyBits, surveySummary}
 use Rattle.definitions.specs.Calls.Edit.{editRefusal, editAnswer, keysLeft, bitsLeft, summaryLeft, logKeysLeft, logValuesLeft}
 use Rattle.definitions.specs.Calls.Paint.{gained}
+use Rattle.definitions.proofs.Vectors.{mapA}
 use Rattle.history.specs.History.{Call, ofBlock, painting, takingBack, redoing, emptying, Buffers, nothing, withoutLatest, withNext, built, answer, after, afterCalls, keep, kept, applied, drawn, pictureLeft, rasterLeft}
 
 -- the answers of a run of calls
 unfoldable pub answers : ℕ → ℕ → Buffers → List Call → List ℕ
 answers m s b [] = []
 answers m s b (c ∷ cs) = answer m s b c ∷ answers m s (after m s b c) cs
-
--- m = 2, s = 3, rows 0011, 0012, 2200, 2200
-abbrev pub mapA : List ℕ
-mapA = 0 ∷ 0 ∷ 1 ∷ 1 ∷ 0 ∷ 0 ∷ 1 ∷ 2 ∷ 2 ∷ 2 ∷ 0 ∷ 0 ∷ 2 ∷ 2 ∷ 0 ∷ 0 ∷ []
 
 -- built in 12 places of the list, 48 of the summary, with 8 of the log
 abbrev start : Buffers

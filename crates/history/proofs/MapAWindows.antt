@@ -18,8 +18,9 @@ use Rattle.definitions.specs.Calls.Survey.{surveyRefusal, survey, surveyKeys, s
 use Rattle.definitions.specs.Calls.Edit.{editRefusal, editAnswer, keysLeft, bitsLeft, summaryLeft, logKeysLeft, logValuesLeft}
 use Rattle.definitions.specs.Calls.Paint.{gained}
 use Rattle.definitions.specs.Calls.PaintWindow.{groupGained}
+use Rattle.definitions.proofs.Vectors.{mapA}
 use Rattle.history.specs.History.{Call, ofBlock, ofWindow, painting, takingBack, redoing, Buffers, nothing, withoutLatest, withNext, built, answer, after, afterCalls, keep, kept, applied, drawn, pictureLeft, rasterLeft}
-use Rattle.history.proofs.MapAHistory.{answers, mapA, four}
+use Rattle.history.proofs.MapAHistory.{answers, four}
 
 -- built in 12 places of the list, 48 of the summary, with 20 of the log
 abbrev start : Buffers

@@ -1,7 +1,7 @@
 -- A block as the code carries it, the quadrant of it that a digit tells, and what has to hold for that to be told. Rests on Block and Under.
 use Prim.Native.Nat.{ℕ, _+_, _-_, _*_, _^_, _≤_, _<_}
 use mathlib.Core.Bool.{cond}
-use Rattle.keys.specs.Key.{rootKey, childKey}
+use Rattle.keys.specs.Key.{rootKey, childKey, allKeys, deepestSide}
 use Rattle.keys.specs.Block.{isSouth, isEast}
 use Rattle.keys.specs.Under.{MapBlock}
 use Rattle.keys.specs.declared.Square.{Square}
@@ -32,12 +32,12 @@ InMap m b = MapBlock m (b .height) (b .row) (b .column) (b .key)
 -- its keys end within those of the deepest map
 pub record KeysEnd (b : TreeBlock) : Type 0 where
   pub deep : b .height ≤ 10
-  pub keys : b .key + 5 ^ b .height ≤ 5 ^ 10
+  pub keys : b .key + 5 ^ b .height ≤ allKeys
 
 -- it has quadrants, and its numbers are those of a map
 pub record Divisible (b : TreeBlock) : Type 0 where
   pub positive : 0 < b .height
   pub deep : b .height ≤ 10
-  pub rows : b .row + 2 ^ b .height ≤ 1024
-  pub columns : b .column + 2 ^ b .height ≤ 1024
-  pub keys : b .key + 5 ^ b .height ≤ 5 ^ 10
+  pub rows : b .row + 2 ^ b .height ≤ deepestSide
+  pub columns : b .column + 2 ^ b .height ≤ deepestSide
+  pub keys : b .key + 5 ^ b .height ≤ allKeys

@@ -1,6 +1,7 @@
 // The keys of a block: its own and those below it, one after the other. Who goes from block to quadrant and asks for no row and no column carries this.
 ghost use mathlib.Core.Path.{_≡_};
 ghost use Prim.Native.Nat.{_+_, _≤_, _^_};
+ghost use Rattle.keys.specs.Key.{allKeys};
 ghost use Rattle.keys.specs.Span.{rootSpan, childSpan};
 use crate::Key;
 use crate::power;
@@ -24,7 +25,7 @@ pub fn root(m: u32) -> KeySpan
 
 // The keys of the quadrant of a digit: 1 NW, 2 NE, 3 SW, 4 SE.
 pub fn child(span: KeySpan, digit: u32) -> KeySpan
-    requires { ⌜ (span .key + span .step ≤ 5 ^ 10) × (digit ≤ 4) ⌝ }
+    requires { ⌜ (span .key + span .step ≤ allKeys) × (digit ≤ 4) ⌝ }
     ensures { λ r. ⌜ r ≡ childSpan span digit ⌝ }
 {
     let step = span.step / 5;

@@ -6,7 +6,7 @@ use mathlib.Core.Bool.{true, cond}
 use mathlib.Core.List.{List}
 use lib.ListN.{length, getD}
 use lib.Dec.{ltb, eqb}
-use Rattle.keys.specs.Key.{childKey, slotLimit}
+use Rattle.keys.specs.Key.{childKey, slotLimit, allKeys}
 use Rattle.definitions.specs.Picture.{Picture, oneFeature}
 use Rattle.build.specs.BuildBlocks.{Tallied, Fitting, Written}
 use Rattle.keys.specs.declared.span.KeySpan.{KeySpan}
@@ -48,7 +48,7 @@ pub record LeavesAsked (keys features : List ℕ) (span : KeySpan) : Type 0 wher
   pub height : ℕ
   pub deep : height ≤ 10
   pub step-is : span .step ≡ 5 ^ height
-  pub key-fits : span .key + span .step ≤ 5 ^ 10
+  pub key-fits : span .key + span .step ≤ allKeys
   pub same : length features ≡ length keys
   pub few : (i : ℕ) → getD features i 0 < slotLimit
 

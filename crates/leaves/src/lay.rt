@@ -4,7 +4,7 @@ ghost use mathlib.Core.Path.{_≡_};
 ghost use mathlib.Core.Bool.{true, false};
 ghost use Prim.Native.Nat.{_^_, _≤_, _<_};
 ghost use lib.ListN.{length, getD};
-ghost use Rattle.keys.specs.Key.{slotLimit};
+ghost use Rattle.keys.specs.Key.{slotLimit, allKeys};
 ghost use Rattle.definitions.specs.List.{listOfPicture, keysOf, valuesOf};
 ghost use Rattle.definitions.specs.Read.{room, paired};
 ghost use Rattle.definitions.specs.Leaves.{areLeaves, pictureOfLeaves};
@@ -27,7 +27,7 @@ pub struct Lain {
 
 // A block that is the next leaf has no records below it.
 fn lay_leaf(leaf_features: &[u32], at: usize, place: usize) -> Lain
-    requires { ⌜ (at < length (now «leaf_features»)) × (getD (now «leaf_features») at 0 < slotLimit) × (place ≤ 5 ^ 10) ⌝ }
+    requires { ⌜ (at < length (now «leaf_features»)) × (getD (now «leaf_features») at 0 < slotLimit) × (place ≤ allKeys) ⌝ }
     ensures { λ r. ⌜ r ≡ leafLain (now («leaf_features» .entry)) at place ⌝ }
 {
     let bits = power::power_of_two(leaf_features[at]);

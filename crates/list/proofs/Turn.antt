@@ -76,7 +76,7 @@ pub at-height : (K B : List ℕ) (first key own k step r : ℕ) → step ≡ ste
 at-height K B first key own k step r e h j f = h ∙ ap (λ x. restPlace (length K) (afterNode x key own (drop first (paired K B)))) (step-same k j (sym e ∙ f))
 
 -- before the turn of a digit: the children before it have passed, and the others decide
-pub record Passed (K B : List ℕ) (first key own step next union digit : ℕ) : Type 0 where
+pub record TurnPassed (K B : List ℕ) (first key own step next union digit : ℕ) : Type 0 where
   pub size : length K ≡ length B
   pub positive : step ≡ 0 → ⊥
   pub fits : key + 5 * step < 2 ^ 32
@@ -94,7 +94,7 @@ pixel K B first key own step low five one k e =
     ∙ ap (restPlace (length K)) (node-zero key own (drop first (paired K B))))
 
 pub turn-begins : (K B : List ℕ) (first key own step : ℕ) → (length K ≡ length B) × (first ≤ length K) × (key + 5 * step < 2 ^ 32) → (step ≡ 0 → ⊥)
-    → Passed K B first key own step first 0 1
+    → TurnPassed K B first key own step first 0 1
 turn-begins K B first key own step pre positive = record {
   size = pre .0;
   positive = positive;
@@ -105,7 +105,7 @@ turn-begins K B first key own step pre positive = record {
   same = λ j e. node-suc j key own (drop first (paired K B)) ∙ ap (λ x. afterChildren (afterNode j) key x own 4 0 (drop first (paired K B))) (sym e);
 }
 
-module _ {K B : List ℕ} {first key own step next union digit : ℕ} (p : Passed K B first key own step next union digit) where
+module _ {K B : List ℕ} {first key own step next union digit : ℕ} (p : TurnPassed K B first key own step next union digit) where
   -- the answer is that of the children which are left
   pub answer : (r : ℕ)
       → ((j : ℕ) → step ≡ 5 ^ j → r ≡ restPlace (length K) (afterChildren (afterNode j) key step own (5 - digit) union (drop next (paired K B))))
@@ -198,7 +198,7 @@ module _ {K B : List ℕ} {first key own step next union digit : ℕ} (p : Passe
         -- its block ends before the place `after`, and the next digit's turn comes
         pub goes : (after : ℕ) → after ≤ length K
             → ((j : ℕ) → step ≡ 5 ^ j → afterOwn (afterNode j) x (getD B next 0) (drop (next + 1) (paired K B)) ≡ left (drop after (paired K B)))
-            → Passed K B first key own step after (bitOr union (getD B next 0)) (digit + 1)
+            → TurnPassed K B first key own step after (bitOr union (getD B next 0)) (digit + 1)
         goes after within h = record {
           size = p .size;
           positive = p .positive;
@@ -215,7 +215,7 @@ module _ {K B : List ℕ} {first key own step next union digit : ℕ} (p : Passe
         }
 
         -- a leaf ends at once
-        pub goes-leaf : oneSlot (getD B next 0) ≡ true → Passed K B first key own step (next + 1) (bitOr union (getD B next 0)) (digit + 1)
+        pub goes-leaf : oneSlot (getD B next 0) ≡ true → TurnPassed K B first key own step (next + 1) (bitOr union (getD B next 0)) (digit + 1)
         goes-leaf leaf = goes (next + 1) (omega arith) (λ j f. own-leaf (afterNode j) x (getD B next 0) (drop (next + 1) (paired K B)) leaf)
 
         -- a node ends where its children end
@@ -224,7 +224,7 @@ module _ {K B : List ℕ} {first key own step next union digit : ℕ} (p : Passe
             → (after ≡ 0 → ⊥)
             → after ≤ length K
             → Answer K B (next + 1) x (getD B next 0) (step / 5) after
-            → Passed K B first key own step after (bitOr union (getD B next 0)) (digit + 1)
+            → TurnPassed K B first key own step after (bitOr union (getD B next 0)) (digit + 1)
         goes-node node after good within h =
             goes after within
             (λ j f.

@@ -5,6 +5,7 @@ use mathlib.Core.Path.{_≡_}
 use mathlib.Core.List.{List, _++_}
 use lib.ListN.{length, getD, set, take, drop}
 use lib.Seq.{sets}
+use Rattle.keys.specs.Key.{allKeys}
 use Rattle.keys.specs.Child.{InMap}
 use Rattle.keys.specs.declared.block.TreeBlock.{TreeBlock}
 use Rattle.list.specs.Among.{keysBelow}
@@ -74,7 +75,7 @@ pub record PassedOver (meeting : Meeting) (own past at : ℕ) (keys : List ℕ) 
 
 -- a block whose records are to end before a place has room for them; a block of one feature has nothing written below it, and needs none
 pub record FittingBefore (p : Picture) (b : TreeBlock) (end : ℕ) (keys bits : List ℕ) : Type 0 where
-  pub small : end ≤ 5 ^ 10
+  pub small : end ≤ allKeys
   pub low : oneFeature p (b .height) (b .row) (b .column) ≡ false → length (listAt p b) ≤ end
   pub keys-room : oneFeature p (b .height) (b .row) (b .column) ≡ false → end ≤ length keys
   pub bits-room : oneFeature p (b .height) (b .row) (b .column) ≡ false → end ≤ length bits

@@ -4,6 +4,7 @@ use mathlib.Core.Path.{_≡_}
 use mathlib.Core.Bool.{false}
 use mathlib.Core.List.{List, [], _∷_}
 use lib.ListN.{length}
+use Rattle.keys.specs.Key.{deepestSide}
 use Rattle.keys.specs.Key.{heightOf}
 use Rattle.keys.specs.Child.{InMap}
 use Rattle.keys.specs.declared.block.TreeBlock.{TreeBlock}
@@ -26,10 +27,10 @@ largestIn w b = largestFrom w (b .height) (b .row) (b .column) (b .key)
 -- a block and a window whose numbers are those of a map
 pub record Placed (w : Window) (b : TreeBlock) : Type 0 where
   pub deep : b .height ≤ 10
-  pub rows : b .row + 2 ^ b .height ≤ 1024
-  pub columns : b .column + 2 ^ b .height ≤ 1024
-  pub low : w .row + w .height ≤ 1024
-  pub narrow : w .column + w .width ≤ 1024
+  pub rows : b .row + 2 ^ b .height ≤ deepestSide
+  pub columns : b .column + 2 ^ b .height ≤ deepestSide
+  pub low : w .row + w .height ≤ deepestSide
+  pub narrow : w .column + w .width ≤ deepestSide
 
 -- what is told of a block: none of the largest blocks lies in it, it is one of them, or its quadrants have to be asked
 abbrev pub Lying : (w : Window) (b : TreeBlock) → Lie → Type 0
@@ -41,8 +42,8 @@ Lying w b Cut = (0 < b .height) × (isInside w (b .height) (b .row) (b .column) 
 pub record Coverable (m : ℕ) (keys bits : List ℕ) (n : ℕ) (w : Window) : Type 0 where
   pub deep : m ≤ 10
   pub own : OwnList m keys bits n
-  pub low : w .row + w .height ≤ 1024
-  pub narrow : w .column + w .width ≤ 1024
+  pub low : w .row + w .height ≤ deepestSide
+  pub narrow : w .column + w .width ≤ deepestSide
 
 -- a block of the map, and a place from which it can be looked for
 pub record BlockFrom (m : ℕ) (keys bits : List ℕ) (n : ℕ) (b : TreeBlock) (from : ℕ) : Type 0 where

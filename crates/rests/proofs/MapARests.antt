@@ -20,8 +20,9 @@ use Rattle.definitions.specs.Log.{closed, entryOf, countRecord, lastRecord, las
 use Rattle.definitions.specs.Calls.Survey.{surveyRefusal, survey, surveyKeys, surveyBits, surveySummary}
 use Rattle.definitions.specs.Calls.Edit.{editRefusal, editAnswer, keysLeft, bitsLeft, summaryLeft, logKeysLeft, logValuesLeft}
 use Rattle.definitions.specs.Calls.Paint.{gained}
+use Rattle.definitions.proofs.Vectors.{mapA}
 use Rattle.history.specs.History.{ofBlock, painting, takingBack, redoing, Buffers, withoutLatest, withNext, built, answer, after, keep, applied, drawn, pictureLeft, rasterLeft}
-use Rattle.history.proofs.MapAHistory.{mapA, four}
+use Rattle.history.proofs.MapAHistory.{four}
 use Rattle.rests.specs.Events.{Event, calling, resting, restingShort, Reached, builtInto, afterEvent, afterEvents, AllMay}
 
 -- the answers to the calls among events

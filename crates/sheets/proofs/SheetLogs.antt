@@ -23,9 +23,9 @@ use Rattle.sheets.specs.Calls.{SheetHolds}
 use Rattle.sheets.specs.Paints.{HasLog}
 
 -- the mark of a group is no feature
-pub few : (m s : ℕ) → badSettings m s ≡ false → s ≤ groupMark
+pub few-on-sheet : (m s : ℕ) → badSettings m s ≡ false → s ≤ groupMark
 unfolding badSettings
-few m s settings =
+few-on-sheet m s settings =
     let small = ltb-false slotLimit s (neither-right (eqb s 0) (ltb slotLimit s) (neither-right (ltb deepestLevel m) (eqb s 0 || ltb slotLimit s) settings)) in
     omega arith
 

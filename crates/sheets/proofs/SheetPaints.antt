@@ -43,7 +43,7 @@ use Rattle.history.proofs.PaintStep.{withStep, paint-done}
 use Rattle.sheets.specs.Calls.{SheetHolds}
 use Rattle.sheets.specs.Paints.{HasLog, LastStepOn}
 use Rattle.sheets.proofs.SheetCalls.{has-list, has-summary}
-use Rattle.sheets.proofs.SheetLogs.{few, SheetLogSound, log-to, log-from, in-slices, room-kept, held-fits}
+use Rattle.sheets.proofs.SheetLogs.{few-on-sheet, SheetLogSound, log-to, log-from, in-slices, room-kept, held-fits}
 
 -- pictures that agree on the raster are held alike
 pub holds-agree : {m s : ℕ} {b : Buffers} (p q : Picture) → Agree p q m 0 0 → SheetHolds m s p b → SheetHolds m s q b
@@ -155,7 +155,7 @@ module _ (m s : ℕ) (p : Picture) (b : Buffers) (settings : badSettings m s ≡
         record {
           there = within;
           within = omega arith;
-          force = ap (isSound m s) all ∙ sound-with force (few m s settings) (log-to m s b (passed .log) .force) group-step;
+          force = ap (isSound m s) all ∙ sound-with force (few-on-sheet m s settings) (log-to m s b (passed .log) .force) group-step;
           redo = ap (λ n. isSound m s (drop n (recordsOf (painted .logKeys) (painted .logValues) (painted .inForce)))) (sym size)
               ∙ ap (isSound m s) (drop-length (recordsOf (painted .logKeys) (painted .logValues) (painted .inForce)))
               ∙ empty-sound m s;

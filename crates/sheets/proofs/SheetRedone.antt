@@ -32,7 +32,7 @@ use Rattle.history.proofs.EditStep.{withForce, edit-puts}
 use Rattle.sheets.specs.Calls.{SheetHolds}
 use Rattle.sheets.specs.Paints.{LastStepOn, NextStepOn}
 use Rattle.sheets.proofs.SheetCalls.{has-list, has-summary}
-use Rattle.sheets.proofs.SheetLogs.{few, log-to, log-from, room-kept, held-fits}
+use Rattle.sheets.proofs.SheetLogs.{few-on-sheet, log-to, log-from, room-kept, held-fits}
 
 module _ (m s : ℕ) (p : Picture) (b : Buffers) (settings : badSettings m s ≡ false) (below : Every (λ r c. p r c < s) m 0 0) (w : Window) (f : ℕ)
     (holds : SheetHolds m s p b) (next : NextStepOn m s p w f b) where
@@ -52,19 +52,19 @@ module _ (m s : ℕ) (p : Picture) (b : Buffers) (settings : badSettings m s ≡
   -- the first step to redo is the group
   next-is : firstStep (toRedo (b .logKeys) (b .logValues) (b .used) (b .inForce)) ≡ groupOf m p w f
   unfolding loggedBy
-  next-is = ap firstStep (next .to-redo) ∙ first-next p (few m s settings) (window-fit w f (next .window) (next .feature)) legal steps
+  next-is = ap firstStep (next .to-redo) ∙ first-next p (few-on-sheet m s settings) (window-fit w f (next .window) (next .feature)) legal steps
 
   -- the list and the summary that it leaves are those of the painted picture
   again-list : redone m (recordsOf (b .keys) (b .bits) (b .n)) (toRedo (b .logKeys) (b .logValues) (b .used) (b .inForce)) ≡ listOfPicture m (fillWindow w f p)
   unfolding applied loggedBy
-  again-list = ap₂ (redone m) (holds .list) (next .to-redo) ∙ redone-list p (few m s settings) (window-fit w f (next .window) (next .feature)) legal steps
+  again-list = ap₂ (redone m) (holds .list) (next .to-redo) ∙ redone-list p (few-on-sheet m s settings) (window-fit w f (next .window) (next .feature)) legal steps
 
   again-summary : summaryOf m s (redonePicture m (recordsOf (b .keys) (b .bits) (b .n)) (toRedo (b .logKeys) (b .logValues) (b .used) (b .inForce)))
       ≡ summaryOf m s (fillWindow w f p)
   unfolding applied loggedBy
   again-summary =
       ap₂ (λ l records. summaryOf m s (redonePicture m l records)) (holds .list) (next .to-redo)
-      ∙ redone-summary p (few m s settings) (window-fit w f (next .window) (next .feature)) legal steps
+      ∙ redone-summary p (few-on-sheet m s settings) (window-fit w f (next .window) (next .feature)) legal steps
 
   -- how many records are used
   used-count : b .used ≡ b .inForce + (length (groupOf m p w f) + length later)
@@ -164,7 +164,7 @@ module _ (m s : ℕ) (p : Picture) (b : Buffers) (settings : badSettings m s ≡
         sound = log-from m s again (record {
           there = a;
           within = omega arith;
-          force = ap (isSound m s) force-left ∙ sound-with front (few m s settings) (sound .force) step;
+          force = ap (isSound m s) force-left ∙ sound-with front (few-on-sheet m s settings) (sound .force) step;
           redo = ap (isSound m s) later-left ∙ next .later-sound;
         });
         before = front;

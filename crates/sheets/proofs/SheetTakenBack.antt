@@ -34,7 +34,7 @@ use Rattle.history.proofs.EditStep.{withForce, edit-puts}
 use Rattle.sheets.specs.Calls.{SheetHolds}
 use Rattle.sheets.specs.Paints.{LastStepOn, NextStepOn}
 use Rattle.sheets.proofs.SheetCalls.{has-list, has-summary}
-use Rattle.sheets.proofs.SheetLogs.{few, log-to, log-from, room-kept, held-fits}
+use Rattle.sheets.proofs.SheetLogs.{few-on-sheet, log-to, log-from, room-kept, held-fits}
 
 -- what stands behind a part of a list
 drop-seam : (xs ys : List Record) → drop (length xs) (xs ++ ys) ≡ ys
@@ -58,18 +58,18 @@ module _ (m s : ℕ) (p : Picture) (b : Buffers) (settings : badSettings m s ≡
   -- the list and the summary that it leaves are those of the picture before the paint
   back-list : restored m (recordsOf (b .keys) (b .bits) (b .n)) (recordsOf (b .logKeys) (b .logValues) (b .inForce)) ≡ listOfPicture m p
   unfolding applied loggedBy
-  back-list = ap₂ (restored m) (holds .list) (last .in-force) ∙ restored-list p (few m s settings) (window-fit w f (last .window) (last .feature)) legal front
+  back-list = ap₂ (restored m) (holds .list) (last .in-force) ∙ restored-list p (few-on-sheet m s settings) (window-fit w f (last .window) (last .feature)) legal front
 
   back-summary : summaryOf m s (restoredPicture m (recordsOf (b .keys) (b .bits) (b .n)) (recordsOf (b .logKeys) (b .logValues) (b .inForce))) ≡ summaryOf m s p
   unfolding applied loggedBy
   back-summary =
       ap₂ (λ l records. summaryOf m s (restoredPicture m l records)) (holds .list) (last .in-force)
-      ∙ restored-summary p (few m s settings) (window-fit w f (last .window) (last .feature)) legal front
+      ∙ restored-summary p (few-on-sheet m s settings) (window-fit w f (last .window) (last .feature)) legal front
 
   -- the records in force without the group
   back-force : beforeStep (recordsOf (b .logKeys) (b .logValues) (b .inForce)) ≡ front
   unfolding loggedBy
-  back-force = ap beforeStep (last .in-force) ∙ without-step p (few m s settings) (window-fit w f (last .window) (last .feature)) legal front
+  back-force = ap beforeStep (last .in-force) ∙ without-step p (few-on-sheet m s settings) (window-fit w f (last .window) (last .feature)) legal front
 
   -- how many are in force
   force-count : b .inForce ≡ length front + length (groupOf m p w f)
@@ -164,7 +164,7 @@ module _ (m s : ℕ) (p : Picture) (b : Buffers) (settings : badSettings m s ≡
           within = omega arith;
           force = ap (isSound m s) (front-left ∙ sym back-force) ∙ sound-before m s _ (sound .force) (omega arith);
           redo = ap (isSound m s) redo-left
-              ∙ sound-exactly m s _ (few m s settings) .1 (steps-append (more none step) (sound-steps m s _ (sound .redo)));
+              ∙ sound-exactly m s _ (few-on-sheet m s settings) .1 (steps-append (more none step) (sound-steps m s _ (sound .redo)));
         });
         later = toRedo (b .logKeys) (b .logValues) (b .used) (b .inForce);
         later-sound = sound .redo;

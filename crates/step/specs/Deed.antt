@@ -3,6 +3,7 @@ use Prim.Native.Nat.{ℕ, _+_, _≤_, _<_}
 use mathlib.Core.Path.{_≡_}
 use mathlib.Core.Bool.{true}
 use mathlib.Core.List.{List}
+use Rattle.keys.specs.Key.{deepestSide}
 use Rattle.keys.specs.Block.{pixelKey}
 use Rattle.keys.specs.Child.{InMap}
 use Rattle.keys.specs.declared.block.TreeBlock.{TreeBlock}
@@ -23,8 +24,8 @@ windowStep w f = record { touches = inWindow w; gives = plain f }
 
 -- a window and a feature that a map can have
 pub record Painting (w : Window) (feature : ℕ) : Type 0 where
-  pub low : w .row + w .height ≤ 1024
-  pub narrow : w .column + w .width ≤ 1024
+  pub low : w .row + w .height ≤ deepestSide
+  pub narrow : w .column + w .width ≤ deepestSide
   pub slot : feature ≤ 31
 
 -- what it makes of a block, whatever log there is

@@ -86,7 +86,7 @@ module _ {K B : List ℕ} {rows : List (List ℕ)} {places : List ℕ} {at key o
 
 -- before the turn of a digit: the children before it have been checked, and their blocks are kept
 pub record Keeping (K B : List ℕ) (at key own step area quarter : ℕ) (rows : List (List ℕ)) (places : List ℕ) (number next union digit : ℕ) : Type 0 where
-  pub checked : check.Passed K B (at + 1) key own step next union digit
+  pub checked : check.TurnPassed K B (at + 1) key own step next union digit
   pub most : number + (5 - digit) * quarter ≤ 16
   pub kept : RowsKept B area rows places
 

@@ -117,7 +117,7 @@ leaf-most counts g area f long h =
 
 -- before the turn of a digit: the children before it have been checked and counted
 pub record Passing (K B counts₀ : List ℕ) (at key own step area : ℕ) (counts : List ℕ) (next union digit : ℕ) : Type 0 where
-  pub checked : check.Passed K B (at + 1) key own step next union digit
+  pub checked : check.TurnPassed K B (at + 1) key own step next union digit
   pub reached : CountReached B counts₀ at area counts next (digit - 1)
   pub most : (f : ℕ) → f < 32 → getD counts f 0 ≤ getD counts₀ f 0 + (digit - 1) * (area / 4)
 

@@ -124,10 +124,10 @@ all-renewed m s p old e =
     ∙ whole (summaryOf m s p) old (e ∙ sym size)
 
 -- so filling leaves the summary
-pub filled : (m s : ℕ) (p : Picture) (old now : List ℕ) (blocks : ℕ) → blocks ≡ 4 ^ summaryLevel m → length old ≡ summaryLength m s
+pub summary-filled : (m s : ℕ) (p : Picture) (old now : List ℕ) (blocks : ℕ) → blocks ≡ 4 ^ summaryLevel m → length old ≡ summaryLength m s
     → now ≡ blocksRenewed m s p 0 blocks old
     → now ≡ summaryOf m s p
-filled m s p old now blocks e long is = is ∙ ap (λ n. blocksRenewed m s p 0 n old) e ∙ all-renewed m s p old long
+summary-filled m s p old now blocks e long is = is ∙ ap (λ n. blocksRenewed m s p 0 n old) e ∙ all-renewed m s p old long
 
 -- all blocks can be counted anew
 pub all-renewable : (m s : ℕ) (old : List ℕ) (blocks : ℕ) → m ≤ 10 → s ≤ slotLimit → length old ≡ summaryLength m s → blocks ≡ 4 ^ summaryLevel m → Renewable m s 0 blocks old

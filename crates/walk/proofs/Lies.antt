@@ -125,14 +125,14 @@ small m s w low e h =
     omega (arith, h .side)
 
 -- a pixel of the block and of the window
-pub record Shared (s : Spot) (w : Window) : Type 0 where
+pub record SharedPart (s : Spot) (w : Window) : Type 0 where
   pub row : ℕ
   pub column : ℕ
   pub in-spot : InSpot s row column
   pub in-window : inWindow w row column ≡ true
 
 -- a block that does not lie apart from the window has one
-pub meets-pixel : {m : ℕ} (w : Window) {s : Spot} → isWindow m w ≡ true → BlockSpot m s → isApart s w ≡ false → Shared s w
+pub meets-pixel : {m : ℕ} (w : Window) {s : Spot} → isWindow m w ≡ true → BlockSpot m s → isApart s w ≡ false → SharedPart s w
 meets-pixel {m} w {s} good h e =
     let a = accepted-window m w good in
     let two = two-pos (h .height) in

@@ -9,7 +9,7 @@ use borrow.Author.Tests.{not-true, not-false}
 use borrow.Fn.Kinds.{In}
 use borrow.Fn.PlainCycle.{Measures, is, falls, and}
 use Rattle.keys.proofs.Key.child.Reads as key-child
-use Rattle.list.proofs.Turn.{Answer, Passed, step-five, turn-begins, child-fits, ends, differs, short, other-key, child-at, wrong-child, goes-leaf, goes-node}
+use Rattle.list.proofs.Turn.{Answer, TurnPassed, step-five, turn-begins, child-fits, ends, differs, short, other-key, child-at, wrong-child, goes-leaf, goes-node}
 use Rattle.list.proofs.check.after_node.Reads as own
 use Rattle.list.proofs.check.after_node.Kinds as kinds
 use Rattle.list.proofs.check.+after_node.Lts-after_node as lts
@@ -32,7 +32,7 @@ abbrev claims : ℕ → lts.Claims
 claims t = (after-low.Asked, after-low.Learnt, key-child.Asked, key-child.Learnt, has-one-slot.Asked, has-one-slot.Learnt, after-sixteen.Asked, after-sixteen.Learnt, below t, own.Post)
 
 abbrev Inv-loop : lts.InvT-loop
-Inv-loop keys bits first key own step lower next₀ union₀ digit₀ next union digit = Passed keys bits first key own step next union digit
+Inv-loop keys bits first key own step lower next₀ union₀ digit₀ next union digit = TurnPassed keys bits first key own step next union digit
 
 abbrev μ-loop : lts.MeasureT-loop
 μ-loop keys bits first key own step lower next₀ union₀ digit₀ next union digit = 5 - digit

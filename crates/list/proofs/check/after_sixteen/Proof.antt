@@ -5,12 +5,12 @@ use mathlib.Core.Logic.{⊎-elim}
 use native.Mathlib.Omega.{arith}
 use borrow.Author.Tests.{not-true, not-false}
 use Rattle.list.proofs.Pixels.{right-false, right-true}
-use Rattle.list.proofs.Turn.{Passed, step-one, step-five, turn-begins, child-fits, ends, differs, short, other-key, child-at, wrong-child, goes-leaf, goes-node}
+use Rattle.list.proofs.Turn.{TurnPassed, step-one, step-five, turn-begins, child-fits, ends, differs, short, other-key, child-at, wrong-child, goes-leaf, goes-node}
 use Rattle.list.proofs.check.after_sixteen.Statement.{statement}
 use Rattle.list.proofs.check.after_sixteen.Tie as tie
 
 abbrev Inv-loop : tie.InvT-loop
-Inv-loop keys bits first key own next₀ union₀ quadrant₀ next union quadrant = Passed keys bits first key own 5 next union quadrant
+Inv-loop keys bits first key own next₀ union₀ quadrant₀ next union quadrant = TurnPassed keys bits first key own 5 next union quadrant
 
 abbrev μ-loop : tie.MeasureT-loop
 μ-loop keys bits first key own next₀ union₀ quadrant₀ next union quadrant = 5 - quadrant

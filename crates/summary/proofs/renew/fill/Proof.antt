@@ -1,7 +1,7 @@
 -- `renew::fill` meets its contract: all blocks counted anew are the summary.
 use borrow.Author.Needs.{needs}
 use Rattle.list.specs.Own.{shownBy}
-use Rattle.summary.proofs.Renewed.{filled}
+use Rattle.summary.proofs.Renewed.{summary-filled}
 use Rattle.summary.proofs.renew.fill.Statement.{statement}
 use Rattle.summary.proofs.renew.fill.Tie as tie
 
@@ -17,7 +17,7 @@ same-length c = search needs
 returns : tie.Need-returns
 returns c =
     let start = c .before .before .before .before .before .before .before .before in
-    filled _ _ (shownBy (start .args .m) (start .args .keys .now) (start .args .bits .now) (start .args .n)) (start .args .summary .now) _ _ (c .before .before .before .before .number-of .ensures) (start .pre .1 .2) (c .before .before .renew .ensures)
+    summary-filled _ _ (shownBy (start .args .m) (start .args .keys .now) (start .args .bits .now) (start .args .n)) (start .args .summary .now) _ _ (c .before .before .before .before .number-of .ensures) (start .pre .1 .2) (c .before .before .renew .ensures)
 
 pub fill-spec : {M : Type 1} → statement M
 fill-spec = tie.close (tie.spec number-of-requires renew-requires same-length returns)

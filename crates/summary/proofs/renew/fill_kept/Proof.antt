@@ -3,7 +3,7 @@ use Prim.Native.Nat.{_-_}
 use native.Mathlib.Omega.{arith}
 use borrow.Author.Needs.{needs}
 use Rattle.list.specs.Own.{shownBy}
-use Rattle.summary.proofs.Renewed.{Begun, renew-begins, renew-turns, renew-ends, places-in, places-few, counters-long, all-renewable, filled}
+use Rattle.summary.proofs.Renewed.{Begun, renew-begins, renew-turns, renew-ends, places-in, places-few, counters-long, all-renewable, summary-filled}
 use Rattle.summary.proofs.renew.fill_kept.Statement.{statement}
 use Rattle.summary.proofs.renew.fill_kept.Tie as tie
 
@@ -62,7 +62,7 @@ returns : tie.Need-returns Inv-loop μ-loop
 returns c =
     let l = c .before in
     let start = l .before .before .before .before .before in
-    filled _ _ (shownBy (start .args .m) (start .args .keys .now) (start .args .bits .now) (start .args .n)) (start .args .summary .now) _ _ (l .before .number-of .ensures) (start .pre .1 .0 .2) (renew-ends _ _ _ (l .loop .inv) (omega arith))
+    summary-filled _ _ (shownBy (start .args .m) (start .args .keys .now) (start .args .bits .now) (start .args .n)) (start .args .summary .now) _ _ (l .before .number-of .ensures) (start .pre .1 .0 .2) (renew-ends _ _ _ (l .loop .inv) (omega arith))
 
 pub fill-kept-spec : {M : Type 1} → statement M
 fill-kept-spec =
