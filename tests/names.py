@@ -14,8 +14,6 @@ DEFINED = re.compile(r"^ *pub (?:data |record )([^\s{(]+)"
                      r"|^pub ([^\s{(]+) .*:")
 PROVED = re.compile(r"^(?:(?:abbrev|unfoldable) )?pub (?:data |record )?(?!mod )([^\s{(:]+)")
 DECLARED = re.compile(r"^(?:pub )?(?:struct|enum) (\w+)")
-# Names that stood twice when proofs were first looked at, and still do: none comes to them.
-LEFT = {"at", "filled", "mapA", "not-pixel"}
 
 
 def names(text, pattern):

@@ -16,7 +16,7 @@ use Rattle.build.specs.BuildBlocks.{Tallied, Joined}
 use Rattle.build.proofs.CountBlock.{tallied-four, tallied-small}
 use Rattle.combine.specs.Combining.{Seen, BothEntered, Passes, passedTo, AllPass, CombineAsked, CombinedCounted}
 use Rattle.combine.specs.declared.cursor.Pair.{Pair}
-use Rattle.combine.proofs.TwoLeaves.{notBoth, not-pixel, positive-height}
+use Rattle.combine.proofs.TwoLeaves.{notBoth, pair-not-pixel, positive-height}
 use Rattle.combine.proofs.BothLists.{BetweenQuadrants, between-all, between-seen, between-next, between-none, numbered-under, seen-at, named-at, named-under}
 
 module _ {bits₁ bits₂ table : List ℕ} {s₂ step : ℕ} {x : Pair} (a : CombineAsked bits₁ bits₂ table s₂ step x) where
