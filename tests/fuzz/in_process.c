@@ -282,6 +282,7 @@ void *read_bytes(const char *name, size_t *length) {
     struct stat s;
     if (!file) return NULL;
     must(fstat(fileno(file), &s) == 0, "a file has no length");
+    if (!S_ISREG(s.st_mode)) return fclose(file), NULL;
     char *bytes = malloc((size_t)s.st_size + 1);
     *length = fread(bytes, 1, (size_t)s.st_size, file);
     bytes[*length] = 0;
@@ -417,12 +418,35 @@ told must_run(const char *const *words) {
     return t;
 }
 
-void must_be_json(const told *t) {
+/* What was made in part (73, 74) may have counted before, and where memory ends, so may all. */
+told run_on_line(const char *line, int count, const char *const *words) {
+    size_t length, after_length;
+    uint8_t *before = read_bytes(line, &length);
+    told t = run_words(count, words);
+    uint8_t *after = read_bytes(line, &after_length);
+    if (before && t.status && t.status != 32 && t.status < 71)
+        must(after && after_length == length && memcmp(before, after, length) == 0,
+             "a refused command changes the line");
+    free(before);
+    free(after);
+    return t;
+}
+
+static void bytes_must_be_json(const char *bytes, size_t length, const char *words) {
     json_error_t error;
-    json_t *value = json_loadb(t->answer, t->answer_length, JSON_REJECT_DUPLICATES, &error);
-    if (!value) fprintf(stderr, "%s, line %d\n%.*s\n", error.text, error.line, 2000, t->answer);
-    must(value != NULL, "the answer is no JSON");
+    json_t *value = json_loadb(bytes, length, JSON_REJECT_DUPLICATES, &error);
+    if (!value) fprintf(stderr, "%s, line %d\n%.*s\n", error.text, error.line, 2000, bytes);
+    must(value != NULL, words);
     json_decref(value);
+}
+
+void must_be_json(const told *t) { bytes_must_be_json(t->answer, t->answer_length, "the answer is no JSON"); }
+
+void file_must_be_json(const char *name) {
+    size_t length;
+    char *bytes = read_bytes(name, &length);
+    if (bytes) bytes_must_be_json(bytes, length, "the file is no JSON");
+    free(bytes);
 }
 
 uint8_t take_byte(input *in) {
