@@ -134,6 +134,33 @@ static void give_sqlite_memory(void) {
          sqlite3_config(SQLITE_CONFIG_SINGLETHREAD) == SQLITE_OK && sqlite3_initialize() == SQLITE_OK, "no SQLite");
 }
 
+/* Statements that are there: one that was given back is not stepped and not given back again, and none is left. */
+enum { STATEMENTS = 64 };
+static sqlite3_stmt *statements[STATEMENTS];
+static int statement_count;
+
+static int place_of_statement(const sqlite3_stmt *asked) {
+    int i = 0;
+    while (i < statement_count && statements[i] != asked) i++;
+    must(i < statement_count, "a statement that was given back is used");
+    return i;
+}
+
+int seam_prepare(sqlite3 *db, const char *sql, int length, sqlite3_stmt **made, const char **rest) {
+    int code = sqlite3_prepare_v2(db, sql, length, made, rest);
+    must(statement_count < STATEMENTS, "too many statements");
+    if (*made) statements[statement_count++] = *made;
+    return code;
+}
+
+int seam_step(sqlite3_stmt *asked) { return place_of_statement(asked), sqlite3_step(asked); }
+
+int seam_finalize(sqlite3_stmt *asked) {
+    int place = asked ? place_of_statement(asked) : -1;
+    if (asked) statements[place] = statements[--statement_count];
+    return sqlite3_finalize(asked);
+}
+
 /* In memory that is given back at the end of the run, as the row's own is later. */
 static void *copied(const void *bytes, size_t length, size_t room) {
     char *copy = bytes ? malloc(room) : NULL;
@@ -389,6 +416,7 @@ told run_words(int count, const char *const *words) {
     long memory_ended_at = memory_ends_at;
     memory_ends_at = 0;
     for (int i = ends_count; i > 0; i--) if (setjmp(end) == 0) ends[i - 1](); /* told once, they run at every end */
+    must(statement_count == 0, "a statement is left");
     close_files();
     fclose(seam_in);
     fclose(seam_out);
