@@ -114,7 +114,7 @@ static long epsg_of(const char *wkt) {
     if (!last) return 0;
     char *end;
     long number = strtol(last + 10, &end, 10);
-    return strcmp(end, "]]") == 0 ? number : 0; /* it closes the system, not a part of it */
+    return strcmp(end, "]]") == 0 && number > 0 ? number : 0; /* it closes the system, not a part of it */
 }
 
 /* The name is the first text in quotes. */

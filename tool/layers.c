@@ -176,18 +176,18 @@ void run_publish(const arguments *a) {
  * GDAL and QGIS heed; the later one knows degrees alone. Without one it is said that there is none. */
 static void write_system(FILE *file, line *l) {
     sqlite3_stmt *row = ask_sql(l, "SELECT organization, organization_coordsys_id, srs_name FROM gpkg_spatial_ref_sys"
-                                   " WHERE srs_id = ?", "i", l->srs);
+                                   " WHERE srs_id = ? AND srs_id > 0", "i", l->srs);
     fputs("\"crs\": ", file);
-    if (l->srs <= 0 || !next_row(l, row)) {
+    if (!next_row(l, row)) {
         fputs("null", file);
-    } else {
-        int numbered = sqlite3_stricmp(text_at(row, 0), "EPSG") == 0;
-        char *name = numbered ? text_of("urn:ogc:def:crs:EPSG::%s", text_at(row, 1)) : text_of("%s", text_at(row, 2));
-        fputs("{\"type\": \"name\", \"properties\": {\"name\": ", file);
-        write_json_text(file, name);
-        fputs("}}", file);
-        free(name);
+        return;
     }
+    int numbered = sqlite3_stricmp(text_at(row, 0), "EPSG") == 0;
+    char *name = numbered ? text_of("urn:ogc:def:crs:EPSG::%s", text_at(row, 1)) : text_of("%s", text_at(row, 2));
+    fputs("{\"type\": \"name\", \"properties\": {\"name\": ", file);
+    write_json_text(file, name);
+    fputs("}}", file);
+    free(name);
     leave(row);
 }
 

@@ -244,7 +244,8 @@ static void find_survey(line *l, const char *name) {
     } else if (name) {
         fail(STATUS_USAGE, "%s has no survey '%s'; 'prowcurl info' lists them", l->path, name);
     }
-    if (l->survey && !l->rows) fail(STATUS_DATA, "%s: table prowcurl: a survey is there, but no rows", l->path);
+    if (l->survey && !l->rows)
+        fail(STATUS_DATA, "%s: table prowcurl: a survey is there, but no rows; take the line from a copy", l->path);
 }
 
 void begin_again(line *l, purpose why) {

@@ -79,7 +79,8 @@ static double price_of(const page *p, const patch *x) {
 static void write_head(const page *p) {
     char *name = name_of_line(p->l), *when = now_text();
     sqlite3_stmt *row = ask_sql(p->l, "SELECT taken FROM surveys WHERE id = ?", "i", p->l->survey);
-    const char *taken = next_row(p->l, row) ? text_at(row, 0) : "";
+    int there = next_row(p->l, row);
+    const char *taken = there ? text_at(row, 0) : "";
     fputs("<!doctype html>\n<html lang=\"en\">\n<head>\n<meta charset=\"utf-8\">\n"
           "<meta http-equiv=\"Content-Security-Policy\" content=\"default-src 'none'; img-src data:; style-src"
           " 'unsafe-inline'; script-src 'unsafe-inline'\">\n"
@@ -91,7 +92,7 @@ static void write_head(const page *p) {
     if (*taken) write_between(p->to, ", taken ", taken, "");
     fprintf(p->to, ". %u by %u pixels of %g m. Office %u. ", p->l->rows, p->l->columns, p->l->cell, p->f->office);
     fprintf(p->to, "<span class=\"soft\">Page of %.10s, %.5s UTC.</span></p>\n", when, when + 11);
-    leave(row);
+    if (there) leave(row);
     free(name);
     free(when);
 }

@@ -10,8 +10,8 @@ rule_list read_rules(line *l, int office) {
                                    " WHERE ? IN (-1, office) ORDER BY office, id", "i", (int64_t)office);
     while (next_row(l, row)) {
         if (u32_at(row, 0) > 1)
-            fail(STATUS_DATA, "%s, table rules, rule %u: office %s is neither 0 nor 1", l->path, u32_at(row, 1),
-                 text_at(row, 0));
+            fail(STATUS_DATA, "%s, table rules, rule %u: office %s is neither 0 nor 1; 'prowcurl set' writes the rules"
+                              " anew", l->path, u32_at(row, 1), text_at(row, 0));
         if (r.count == room) r.at = more_room_for(r.at, room = room * 2 + 16, sizeof *r.at);
         r.at[r.count++] = (rule){ u32_at(row, 0), u32_at(row, 1), u32_at(row, 2), sqlite3_column_int64(row, 3),
                                   sqlite3_column_int64(row, 4), sqlite3_column_int64(row, 5),

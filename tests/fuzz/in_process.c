@@ -1,16 +1,16 @@
-/* The tool in this process: its ends caught, its files and memory given back, GDAL's programs stood in for. */
+/* The tool in this process: its ends caught, its files closed, its folder put back, GDAL's programs stood in for.
+ * pieces.c has its memory. */
 #define _DEFAULT_SOURCE
 #include "in_process.h"
 
 #include "../../tool/files.h"
+#include "pieces.h"
 
 #include <dirent.h>
 #include <errno.h>
 #include <fcntl.h>
 #include <jansson.h>
-#include <sanitizer/allocator_interface.h>
 #include <setjmp.h>
-#include <sqlite3.h>
 #include <stdio.h>
 #include <stdlib.h>
 #include <string.h>
@@ -20,138 +20,14 @@
 
 int tool_main(int count, char **words);
 
-const char *__asan_default_options(void) {
-    return "detect_leaks=0:malloc_context_size=6:quarantine_size_mb=8:allocator_may_return_null=1";
-}
-
 FILE *seam_in, *seam_out, *seam_err;
 gdal_stub gdal;
 int on_terminal;
-long memory_ends_at;
 
 void must(int truth, const char *words) {
     if (truth) return;
     fprintf(stderr, "FAILED: %s\n", words);
     abort();
-}
-
-/* Memory of a run: every piece that is not given back when it ends is given back then. The libraries' pieces are among
- * them; what these keep for good they get before the first run that counts. `places` finds a piece in `pieces`. */
-enum { PIECES = 1 << 15, PLACES = 1 << 16 };
-static const volatile void *pieces[PIECES];
-static uint32_t piece_count, places[PLACES]; /* one more than where it stands; 0 is free */
-static __thread int counts;
-int settled;
-
-static uint32_t place_of(const volatile void *piece) {
-    return (uint32_t)((uintptr_t)piece >> 4) * 0x9e3779b1u >> 16;
-}
-
-static void note_piece(const volatile void *piece, size_t size) {
-    (void)size;
-    if (!counts || !piece) return;
-    uint32_t i = place_of(piece);
-    while (places[i]) i = (i + 1) % PLACES;
-    if (piece_count == PIECES) abort();
-    pieces[piece_count++] = piece;
-    places[i] = piece_count;
-}
-
-static uint32_t find_piece(const volatile void *piece) {
-    uint32_t i = place_of(piece);
-    while (places[i] && pieces[places[i] - 1] != piece) i = (i + 1) % PLACES;
-    return i;
-}
-
-/* The last piece takes the place of the one that goes. */
-static void forget_piece(const volatile void *piece) {
-    if (!counts || !piece || piece_count == 0) return;
-    uint32_t i = find_piece(piece), last = find_piece(pieces[piece_count - 1]);
-    if (!places[i]) return;
-    places[last] = places[i];
-    pieces[places[i] - 1] = pieces[--piece_count];
-    places[i] = 0;
-    for (uint32_t next = (i + 1) % PLACES; places[next]; next = (next + 1) % PLACES) {
-        uint32_t wants = place_of(pieces[places[next] - 1]);
-        if ((next - wants) % PLACES < (next - i) % PLACES) continue; /* it would stand before its place */
-        places[i] = places[next];
-        places[next] = 0;
-        i = next;
-    }
-}
-
-/* By a pointer, since a compiler believes that free itself changes none of our numbers. */
-static void (*volatile give_back)(void *piece) = free;
-
-static void give_back_pieces(void) {
-    while (piece_count > 0) give_back((void *)pieces[piece_count - 1]);
-    counts = 0;
-}
-
-static long requests;
-
-static int memory_is_there(void) { return memory_ends_at == 0 || ++requests < memory_ends_at; }
-
-void *seam_malloc(size_t size) { return memory_is_there() ? malloc(size) : NULL; }
-void *seam_calloc(size_t count, size_t size) { return memory_is_there() ? calloc(count, size) : NULL; }
-void *seam_realloc(void *old, size_t size) { return memory_is_there() ? realloc(old, size) : NULL; }
-
-/* SQLite's own memory is the C library's, past the sanitizer, which would make every run five times as long. What it
- * gives the tool is copied into a piece of its own, so that a byte read past its end is seen. */
-void *__libc_malloc(size_t size);
-void *__libc_realloc(void *old, size_t size);
-void __libc_free(void *old);
-enum { BEFORE = 16 }; /* bytes before a piece, where its size stands */
-
-static void *sqlite_piece(uint8_t *whole, int size) {
-    if (!whole) return NULL;
-    memcpy(whole, &size, sizeof size);
-    return whole + BEFORE;
-}
-
-static void *sqlite_malloc(int size) { return sqlite_piece(__libc_malloc((size_t)size + BEFORE), size); }
-static void sqlite_free(void *old) { if (old) __libc_free((uint8_t *)old - BEFORE); }
-static int sqlite_round(int size) { return (size + 7) & ~7; }
-
-static void *sqlite_realloc(void *old, int size) {
-    return sqlite_piece(__libc_realloc(old ? (uint8_t *)old - BEFORE : NULL, (size_t)size + BEFORE), size);
-}
-
-static int sqlite_size(void *piece) {
-    int size = 0;
-    if (piece) memcpy(&size, (uint8_t *)piece - BEFORE, sizeof size);
-    return size;
-}
-
-static int sqlite_begin(void *with) { return (void)with, SQLITE_OK; }
-static void sqlite_end(void *with) { (void)with; }
-
-static void give_sqlite_memory(void) {
-    static const sqlite3_mem_methods methods = { sqlite_malloc, sqlite_free,  sqlite_realloc, sqlite_size,
-                                                 sqlite_round,  sqlite_begin, sqlite_end,     NULL };
-    must(sqlite3_config(SQLITE_CONFIG_MALLOC, &methods) == SQLITE_OK &&
-         sqlite3_config(SQLITE_CONFIG_MEMSTATUS, 0) == SQLITE_OK &&
-         sqlite3_config(SQLITE_CONFIG_SINGLETHREAD) == SQLITE_OK && sqlite3_initialize() == SQLITE_OK, "no SQLite");
-}
-
-/* In memory that is given back at the end of the run, as the row's own is later. */
-static void *copied(const void *bytes, size_t length, size_t room) {
-    char *copy = bytes ? malloc(room) : NULL;
-    if (!copy) return NULL;
-    memcpy(copy, bytes, length);
-    if (room > length) copy[length] = 0;
-    return copy;
-}
-
-const void *seam_column_blob(sqlite3_stmt *row, int column) {
-    const void *bytes = sqlite3_column_blob(row, column);
-    size_t length = (size_t)sqlite3_column_bytes(row, column);
-    return copied(bytes, length, length ? length : 1);
-}
-
-const unsigned char *seam_column_text(sqlite3_stmt *row, int column) {
-    const unsigned char *text = sqlite3_column_text(row, column);
-    return text ? copied(text, strlen((const char *)text), strlen((const char *)text) + 1) : NULL;
 }
 
 /* Files that are open. One in memory has its own place for the bytes, since who asked for them may be gone. */
@@ -282,6 +158,7 @@ void *read_bytes(const char *name, size_t *length) {
     struct stat s;
     if (!file) return NULL;
     must(fstat(fileno(file), &s) == 0, "a file has no length");
+    if (!S_ISREG(s.st_mode)) return fclose(file), NULL;
     char *bytes = malloc((size_t)s.st_size + 1);
     *length = fread(bytes, 1, (size_t)s.st_size, file);
     bytes[*length] = 0;
@@ -299,12 +176,11 @@ void begin_in_folder(void) {
     struct stat s;
     int memory = stat("/dev/shm", &s) == 0 && S_ISDIR(s.st_mode);
     snprintf(folder, sizeof folder, "%s/prowcurl-fuzz-XXXXXX", memory ? "/dev/shm" : "/tmp");
-    give_sqlite_memory();
+    watch_pieces();
     must(mkdtemp(folder) && chdir(folder) == 0, "no folder");
     setenv("TMPDIR", folder, 1);
     setenv("LOGNAME", "fuzz", 1);
     atexit(leave_folder);
-    __sanitizer_install_malloc_and_free_hooks(note_piece, forget_piece);
     give_input("", 0);
 }
 
@@ -381,8 +257,7 @@ told run_words(int count, const char *const *words) {
     seam_err = open_memstream(&t.message, &t.message_length);
     seam_in = fmemopen(input_bytes, input_length ? input_length : 1, "rb");
     if (input_length == 0) getc(seam_in);
-    requests = 0;
-    counts = settled;
+    begin_pieces();
     if (setjmp(end) == 0) end_status = tool_main(count + 1, copies);
     int status = end_status;
     long memory_ended_at = memory_ends_at;
@@ -392,8 +267,8 @@ told run_words(int count, const char *const *words) {
     fclose(seam_in);
     fclose(seam_out);
     fclose(seam_err);
-    forget_piece(t.answer);
-    forget_piece(t.message);
+    keep_piece(t.answer);
+    keep_piece(t.message);
     give_back_pieces();
     memory_ends_at = memory_ended_at;
     for (int i = 0; i <= count; i++) free(as_made[i]);
@@ -417,12 +292,35 @@ told must_run(const char *const *words) {
     return t;
 }
 
-void must_be_json(const told *t) {
+/* What was made in part (73, 74) may have counted before, and where memory ends, so may all. */
+told run_on_line(const char *line, int count, const char *const *words) {
+    size_t length, after_length;
+    uint8_t *before = read_bytes(line, &length);
+    told t = run_words(count, words);
+    uint8_t *after = read_bytes(line, &after_length);
+    if (before && t.status && t.status != 32 && t.status < 71)
+        must(after && after_length == length && memcmp(before, after, length) == 0,
+             "a refused command changes the line");
+    free(before);
+    free(after);
+    return t;
+}
+
+static void bytes_must_be_json(const char *bytes, size_t length, const char *words) {
     json_error_t error;
-    json_t *value = json_loadb(t->answer, t->answer_length, JSON_REJECT_DUPLICATES, &error);
-    if (!value) fprintf(stderr, "%s, line %d\n%.*s\n", error.text, error.line, 2000, t->answer);
-    must(value != NULL, "the answer is no JSON");
+    json_t *value = json_loadb(bytes, length, JSON_REJECT_DUPLICATES, &error);
+    if (!value) fprintf(stderr, "%s, line %d\n%.*s\n", error.text, error.line, 2000, bytes);
+    must(value != NULL, words);
     json_decref(value);
+}
+
+void must_be_json(const told *t) { bytes_must_be_json(t->answer, t->answer_length, "the answer is no JSON"); }
+
+void file_must_be_json(const char *name) {
+    size_t length;
+    char *bytes = read_bytes(name, &length);
+    if (bytes) bytes_must_be_json(bytes, length, "the file is no JSON");
+    free(bytes);
 }
 
 uint8_t take_byte(input *in) {

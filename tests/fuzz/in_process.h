@@ -46,8 +46,11 @@ told must_run(const char *const *words);
 #define MUST_RUN(...) must_run((const char *const[]){ __VA_ARGS__, NULL })
 /* Standard input of the runs to come. */
 void give_input(const void *bytes, size_t length);
-/* Ends the fuzzer where the answer is no JSON. */
+/* The same on a line, whose bytes must stay where the command is refused. */
+told run_on_line(const char *line, int count, const char *const *words);
+/* Ends the fuzzer where the answer, or a file that is there, is no JSON. */
 void must_be_json(const told *t);
+void file_must_be_json(const char *name);
 
 /* Ends the fuzzer where something that must hold does not. */
 void must(int truth, const char *words);

@@ -21,6 +21,9 @@ int seam_fclose(FILE *file);
 void *seam_malloc(size_t size);
 void *seam_calloc(size_t count, size_t size);
 void *seam_realloc(void *old, size_t size);
+int seam_prepare(sqlite3 *db, const char *sql, int length, sqlite3_stmt **made, const char **rest);
+int seam_step(sqlite3_stmt *asked);
+int seam_finalize(sqlite3_stmt *asked);
 const void *seam_column_blob(sqlite3_stmt *row, int column);
 const unsigned char *seam_column_text(sqlite3_stmt *row, int column);
 int seam_isatty(int file);
@@ -43,6 +46,9 @@ pid_t seam_wait(int *status);
 #define malloc(size) seam_malloc(size)
 #define calloc(count, size) seam_calloc(count, size)
 #define realloc(old, size) seam_realloc(old, size)
+#define sqlite3_prepare_v2(db, sql, length, made, rest) seam_prepare(db, sql, length, made, rest)
+#define sqlite3_step(asked) seam_step(asked)
+#define sqlite3_finalize(asked) seam_finalize(asked)
 #define sqlite3_column_blob(row, column) seam_column_blob(row, column)
 #define sqlite3_column_text(row, column) seam_column_text(row, column)
 #define isatty(file) seam_isatty(file)

@@ -51,7 +51,7 @@ int LLVMFuzzerTestOneInput(const uint8_t *bytes, size_t size) {
     give_input("P2 2 2 1 0 1 1 0", 16);
     do {
         at = take_words(at, words, &count);
-        told t = run_words(count, words);
+        told t = count > 1 ? run_on_line(words[1], count, words) : run_words(count, words);
         if (t.status == 0 && wants_json(words, count) && t.answer_length && *t.answer == '{') must_be_json(&t);
     } while (at && ++rounds < COMMANDS);
     restore_folder();
