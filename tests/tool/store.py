@@ -227,7 +227,11 @@ class Store:
                     self.at_crashes(words + ["and then info"], line, then, rollback, old, now, False)
 
     def with_faults(self, words, line, content, calls, old, new):
-        """The command with a fault at each of its calls."""
+        """The command with a fault at each of its calls; and in a folder that cannot be written through to the disk,
+        where it goes all the same."""
+        put(self.other.folder, content)
+        must(self.run(self.other, words, "folder:") == (0, ""), f"{words} in a folder that knows no fsync")
+        must(self.state(line, False) == new, f"{words} in a folder that knows no fsync: not the new state")
         for fault in ("fails", "gone", "short", "full"):
             for call in range(1, calls + 1):
                 if self.numbers.random() >= self.share:
