@@ -86,7 +86,7 @@ static void clean_at_the_end(void) {
         if (sigaction(endings[i], NULL, &old) == 0 && old.sa_handler != SIG_IGN) sigaction(endings[i], &action, NULL);
 }
 
-static void note_litter(const char *name) {
+void note_litter(const char *name) {
     clean_at_the_end();
     for (int i = 0; i < 8; i++) {
         if (litter.names[i]) continue;

@@ -37,6 +37,9 @@ void end_output(output *o);
 /* The same, where nothing may stand at that place: ends where something does. */
 void end_output_if_free(output *o);
 
+/* A file that another library makes on the way, removed where the tool ends. */
+void note_litter(const char *name);
+
 /* Whether the folder of a file can be written through to the disk: some network folders know no fsync. */
 int can_sync_folder(const char *path);
 

@@ -270,7 +270,10 @@ void close_line(line *l) {
 void make_line(const arguments *a, const char *path, uint32_t m, uint32_t slots, uint32_t filler,
                void (*fill)(line *l, const void *with), const void *with) {
     output file = open_output(path); /* says so where there is no such folder; the database is made in it */
+    char *journal = text_of("%s-journal", file.name);
     line l = { .path = file.name, .m = m, .slots = slots, .filler = filler };
+    note_litter(journal);
+    free(journal);
     connect(&l, a, SQLITE_OPEN_READWRITE | SQLITE_OPEN_CREATE);
     l.path = path; /* for messages */
     set_durable(&l, 1);

@@ -1,6 +1,7 @@
 /* Faults for the tests of the tool, put before the C library by LD_PRELOAD. PROWCURL_FAULT says which one; N counts,
  * from 1, the calls that change a file, and for full and short the writes among them.
  *   kill:N    the process is killed at its N-th call, a write after its first half
+ *   stop:N    the process gets a SIGTERM before its N-th call
  *   full:N    the N-th write finds room for its first half alone, and every later one for nothing
  *   short:N   the N-th write writes its first half, and says so
  *   fails:N   the N-th call fails with EIO
@@ -24,7 +25,7 @@
 
 #define REAL(name, ...) (((__typeof__(&name))dlsym(RTLD_NEXT, #name))(__VA_ARGS__))
 
-typedef enum { NONE, KILL, FULL, SHORT, FAILS, GONE, FOLDER, COUNT, RECORD } mode;
+typedef enum { NONE, KILL, STOP, FULL, SHORT, FAILS, GONE, FOLDER, COUNT, RECORD } mode;
 
 static struct {
     mode mode;
@@ -34,8 +35,8 @@ static struct {
 } fault;
 
 __attribute__((constructor)) static void begin(void) {
-    static const char *const names[] = { "", "kill:", "full:", "short:", "fails:", "gone:", "folder:", "count:",
-                                         "record:" };
+    static const char *const names[] = { "", "kill:", "stop:", "full:", "short:", "fails:", "gone:", "folder:",
+                                         "count:", "record:" };
     const char *asked = getenv("PROWCURL_FAULT");
     for (int i = 1; asked && i <= RECORD; i++) {
         size_t length = strlen(names[i]);
@@ -63,6 +64,7 @@ static int fails_with(int error) {
 static int comes_to_nothing(void) {
     long call = ++fault.calls;
     if (fault.mode == KILL && call == fault.number) raise(SIGKILL);
+    if (fault.mode == STOP && call == fault.number) raise(SIGTERM);
     return (fault.mode == FAILS && call == fault.number) || (fault.mode == GONE && call >= fault.number);
 }
 
