@@ -2,7 +2,7 @@
 # the Rattle kit, Debian's packages and git; what else they need they install. CC, CFLAGS and LDFLAGS are heeded, by
 # `make install` PREFIX and DESTDIR too.
 
-.PHONY: lib tool line run test histories faults bench fuzz shared install install-tool kit clean
+.PHONY: lib tool line run test bench fuzz shared install install-tool kit clean
 
 # The interface's number is the shared library's version.
 interface := $(shell sed -n 's/^.define HLQ_INTERFACE //p' include/prowcurl.h)
@@ -45,6 +45,7 @@ test: kit
 # The gate tries some thousand.
 CALLS ?= 1000000
 SEED ?= 1
+.PHONY: histories faults
 histories: lib
 	@tools/compile-c target/c/histories tests/c/test_histories.c tests/c/support.c tests/c/survey.c tests/c/reference.c
 	@tools/run-c target/c/histories $(CALLS) $(SEED)

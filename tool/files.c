@@ -86,7 +86,7 @@ static void clean_at_the_end(void) {
         if (sigaction(endings[i], NULL, &old) == 0 && old.sa_handler != SIG_IGN) sigaction(endings[i], &action, NULL);
 }
 
-static void note_litter(const char *name) {
+void note_litter(const char *name) {
     clean_at_the_end();
     for (int i = 0; i < 8; i++) {
         if (litter.names[i]) continue;
@@ -202,16 +202,23 @@ output open_output(const char *path) {
     return o;
 }
 
-/* The names of the folder written through to the disk; some network folders know no fsync. */
-static void sync_folder(const char *path) {
+/* The names of the folder written through to the disk; gives 0, or the error. */
+static int sync_folder(const char *path) {
     char *folder = text_of("%s", path), *slash = strrchr(folder, '/');
+    int error = 0;
     if (slash) slash[slash == folder] = 0; /* the root keeps its slash */
     int file = open(slash ? folder : ".", O_RDONLY | O_DIRECTORY | O_CLOEXEC);
     if (file >= 0) {
-        fsync(file);
+        if (fsync(file) != 0) error = errno;
         close(file);
     }
     free(folder);
+    return error;
+}
+
+int can_sync_folder(const char *path) {
+    int error = sync_folder(path);
+    return error != EINVAL && error != ENOSYS && error != EOPNOTSUPP;
 }
 
 static void write_through(output *o) {

@@ -37,6 +37,12 @@ void end_output(output *o);
 /* The same, where nothing may stand at that place: ends where something does. */
 void end_output_if_free(output *o);
 
+/* A file that another library makes on the way, removed where the tool ends. */
+void note_litter(const char *name);
+
+/* Whether the folder of a file can be written through to the disk: some network folders know no fsync. */
+int can_sync_folder(const char *path);
+
 /* A folder below the temporary one, the same at every call, which is removed with its files when the tool ends, by
  * Ctrl-C too. */
 const char *temporary_folder(void);

@@ -189,9 +189,9 @@ static void set_up(line *l, const arguments *a) {
 
 /* A new database has the rollback journal, and keeps it: on a network's share nothing else works. EXTRA writes the
  * folder through to the disk too once the journal is gone: else a crash after the answer could bring the journal back,
- * and it would take the edit back. */
-static void set_durable(line *l) {
-    run_sql(l, "PRAGMA synchronous = EXTRA", "");
+ * and it would take the edit back. Where a folder cannot be written through, FULL must do. */
+static void set_durable(line *l, int to_write) {
+    run_sql(l, to_write && can_sync_folder(l->path) ? "PRAGMA synchronous = EXTRA" : "PRAGMA synchronous = FULL", "");
     run_sql(l, "PRAGMA temp_store = FILE", "");
 }
 
@@ -264,7 +264,7 @@ line open_line(const arguments *a, purpose why) {
     /* for reading too: who opens a line after a crash rolls back what was not committed */
     connect(&l, a, SQLITE_OPEN_READWRITE);
     read_format(&l);
-    set_durable(&l);
+    set_durable(&l, why != TO_READ);
     if (why == TO_READ) run_sql(&l, "PRAGMA query_only = ON", "");
     begin_again(&l, why);
     find_survey(&l, value_of(a, OPTION_SURVEY));
@@ -287,10 +287,13 @@ void close_line(line *l) {
 void make_line(const arguments *a, const char *path, uint32_t m, uint32_t slots, uint32_t filler,
                void (*fill)(line *l, const void *with), const void *with) {
     output file = open_output(path); /* says so where there is no such folder; the database is made in it */
+    char *journal = text_of("%s-journal", file.name);
     line l = { .path = file.name, .m = m, .slots = slots, .filler = filler };
+    note_litter(journal);
+    free(journal);
     connect(&l, a, SQLITE_OPEN_READWRITE | SQLITE_OPEN_CREATE);
     l.path = path; /* for messages */
-    set_durable(&l);
+    set_durable(&l, 1);
     make_tables(&l);
     if (fill) fill(&l, with);
     commit_line(&l);

@@ -74,11 +74,18 @@ static double seconds(void) {
     return (double)now.tv_sec + (double)now.tv_nsec / 1e9;
 }
 
+/* A signal in so many microseconds, once: a timer that goes on could leave no time but for the handler. */
+static void set_timer(long microseconds) {
+    struct itimerval once = { { 0, 0 }, { 0, microseconds } };
+    must(setitimer(ITIMER_REAL, &once, NULL) == 0, "no timer");
+}
+
 /* Every call in turn, until all is over; who is alone sees to that itself. */
 static void *work(void *of) {
     worker *w = own = of;
     while (!over) {
         for (int which = 0; which < EVERY_CALL; which++) {
+            if (alone) set_timer(1 + (long)(37 * w->rounds + 13 * (unsigned long)which) % 60);
             must(goes_right(which, &w->calls[which], &w->inside), every_call[which].name);
             must(w->wrong == 0, "a call in a handler");
         }
@@ -90,11 +97,9 @@ static void *work(void *of) {
 
 /* A timer interrupts the one thread. */
 static void by_itself(void) {
-    struct itimerval often = { { 0, 100 }, { 0, 100 } }, never = { { 0, 0 }, { 0, 0 } };
     alone = 1, until = seconds() + MOST_SECONDS;
-    must(setitimer(ITIMER_REAL, &often, NULL) == 0, "no timer");
     work(&workers[0]);
-    must(setitimer(ITIMER_REAL, &never, NULL) == 0, "a timer that goes on");
+    set_timer(0);
     own = NULL;
     alone = over = 0;
 }
@@ -102,7 +107,7 @@ static void by_itself(void) {
 /* Threads, each interrupted in turn. */
 static void together(void) {
     pthread_t threads[THREADS];
-    struct timespec pause = { 0, 20000 };
+    struct timespec pause = { 0, 100000 };
     until = seconds() + MOST_SECONDS;
     for (int i = 0; i < THREADS; i++)
         must(pthread_create(&threads[i], NULL, work, &workers[i]) == 0, "no thread");

@@ -1,10 +1,12 @@
 /* Faults for the tests of the tool, put before the C library by LD_PRELOAD. PROWCURL_FAULT says which one; N counts,
  * from 1, the calls that change a file, and for full and short the writes among them.
  *   kill:N    the process is killed at its N-th call, a write after its first half
+ *   stop:N    the process gets a SIGTERM before its N-th call
  *   full:N    the N-th write finds room for its first half alone, and every later one for nothing
  *   short:N   the N-th write writes its first half, and says so
  *   fails:N   the N-th call fails with EIO
  *   gone:N    so does every call from the N-th on
+ *   folder:   no folder can be written through to the disk: EINVAL, as in some network folders
  *   count:F   the number of the calls is written into the file F at the end
  *   record:F  every call is written into the file F, with its bytes; store.py reads it
  * What stdio writes does not come by here: the C library does not call itself by name. Programs that the tool starts go
@@ -23,7 +25,7 @@
 
 #define REAL(name, ...) (((__typeof__(&name))dlsym(RTLD_NEXT, #name))(__VA_ARGS__))
 
-typedef enum { NONE, KILL, FULL, SHORT, FAILS, GONE, COUNT, RECORD } mode;
+typedef enum { NONE, KILL, STOP, FULL, SHORT, FAILS, GONE, FOLDER, COUNT, RECORD } mode;
 
 static struct {
     mode mode;
@@ -33,7 +35,8 @@ static struct {
 } fault;
 
 __attribute__((constructor)) static void begin(void) {
-    static const char *const names[] = { "", "kill:", "full:", "short:", "fails:", "gone:", "count:", "record:" };
+    static const char *const names[] = { "", "kill:", "stop:", "full:", "short:", "fails:", "gone:", "folder:",
+                                         "count:", "record:" };
     const char *asked = getenv("PROWCURL_FAULT");
     for (int i = 1; asked && i <= RECORD; i++) {
         size_t length = strlen(names[i]);
@@ -61,6 +64,7 @@ static int fails_with(int error) {
 static int comes_to_nothing(void) {
     long call = ++fault.calls;
     if (fault.mode == KILL && call == fault.number) raise(SIGKILL);
+    if (fault.mode == STOP && call == fault.number) raise(SIGTERM);
     return (fault.mode == FAILS && call == fault.number) || (fault.mode == GONE && call >= fault.number);
 }
 
@@ -117,8 +121,19 @@ ssize_t write(int file, const void *bytes, size_t length) {
         return done; \
     } while (0)
 
-int fsync(int file) { CALL(REAL(fsync, file), "sync", file, 0, ""); }
-int fdatasync(int file) { CALL(REAL(fdatasync, file), "sync", file, 0, ""); }
+static int knows_no_sync(int file) {
+    struct stat now;
+    return fault.mode == FOLDER && fstat(file, &now) == 0 && S_ISDIR(now.st_mode);
+}
+
+int fsync(int file) {
+    if (knows_no_sync(file)) return fails_with(EINVAL);
+    CALL(REAL(fsync, file), "sync", file, 0, "");
+}
+int fdatasync(int file) {
+    if (knows_no_sync(file)) return fails_with(EINVAL);
+    CALL(REAL(fdatasync, file), "sync", file, 0, "");
+}
 int ftruncate(int file, off_t length) { CALL(REAL(ftruncate, file, length), "truncate", file, length, ""); }
 int ftruncate64(int file, off64_t length) { CALL(REAL(ftruncate64, file, length), "truncate", file, length, ""); }
 int unlink(const char *name) { CALL(REAL(unlink, name), "unlink", -1, 0, name); }

@@ -227,8 +227,12 @@ class Store:
                     self.at_crashes(words + ["and then info"], line, then, rollback, old, now, False)
 
     def with_faults(self, words, line, content, calls, old, new):
-        """The command with a fault at each of its calls."""
-        for fault in ("fails", "gone", "short", "full"):
+        """The command with a fault at each of its calls; and in a folder that cannot be written through to the disk,
+        where it goes all the same."""
+        put(self.other.folder, content)
+        must(self.run(self.other, words, "folder:") == (0, ""), f"{words} in a folder that knows no fsync")
+        must(self.state(line, False) == new, f"{words} in a folder that knows no fsync: not the new state")
+        for fault in ("fails", "gone", "short", "full", "stop"):
             for call in range(1, calls + 1):
                 if self.numbers.random() >= self.share:
                     continue
@@ -237,6 +241,10 @@ class Store:
                 now = self.state(line, False)
                 self.faulty += 1
                 what = f"{words}, {fault}:{call} of {calls}: status {status}, {said!r}"
+                if fault == "stop":
+                    left = [name for name in os.listdir(self.other.folder) if ".new" in name]
+                    must(status == -15 and now in (old, new) and not left, f"{what}: {left}")
+                    continue
                 if status == 0:
                     must(now == new and not said, f"{what}: it is not told that nothing was changed")
                     continue
