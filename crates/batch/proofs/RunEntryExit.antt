@@ -28,9 +28,9 @@ use Rattle.definitions.proofs.Question as Question
 use Rattle.batch.specs.declared.begin.BatchState.{BatchState}
 use Rattle.batch.proofs.begin.BatchState as BatchState
 use Rattle.batch.proofs.begin.BatchState.Laws as State′
-use Rattle.lending.proofs.Chains.{chain, apart, together, after-nothing}
-use Rattle.lending.proofs.Slices.{LentSlice, val, token, shared, mutable}
-use Rattle.lending.proofs.TwoLent.{each-answer}
+use Rattle.lent_structs.proofs.Chains.{chain, apart, together, after-nothing}
+use Rattle.lent_structs.proofs.Slices.{LentSlice, val, token, shared, mutable}
+use Rattle.lent_structs.proofs.TwoLent.{each-answer}
 use Rattle.batch.proofs.RunSlices.{BatchSlices, batchStateVals, questionVal, reads, tokens, answers, each-read, each-token}
 use Rattle.batch.proofs.RunTurns.{Turn, all-ran}
 use Rattle.batch.proofs.run.run as run′

@@ -1,4 +1,4 @@
--- The slices of a batch, as `run` and `step` take them, and what is owned of them: two that are read, and the two of the answer. Rests on lending's
+-- The slices of a batch, as `run` and `deeds` take them, and what is owned of them: two that are read, and the two of the answer. Rests on lending's
 -- Slices, Chains and TwoLent.
 --     BatchSlices          the list's keys and bits, and the two answer slices
 --     reads, tokens        what is owned of the two that are read, and their tokens.        reads-twice      what is read is had twice
@@ -23,9 +23,9 @@ use Rattle.batch.specs.Run.{Answering, answeringOf, BatchReady}
 use Rattle.batch.specs.declared.begin.BatchState.{BatchState}
 use Rattle.batch.proofs.begin.BatchState as BatchState
 use Rattle.batch.proofs.begin.BatchState.Laws as State′
-use Rattle.lending.proofs.Chains.{chain, apart, together}
-use Rattle.lending.proofs.Slices.{LentSlice, token, shared, lent, copied}
-use Rattle.lending.proofs.TwoLent.{TwoGiven, answers as answersOf}
+use Rattle.lent_structs.proofs.Chains.{chain, apart, together}
+use Rattle.lent_structs.proofs.Slices.{LentSlice, token, shared, lent, copied}
+use Rattle.lent_structs.proofs.TwoLent.{TwoGiven, answers as answersOf}
 
 pub record BatchSlices : Type 0 where
   pub keys : LentSlice u32

@@ -1,5 +1,5 @@
--- The call of `step` in a turn of `run`: what it is passed, that it is there, and what it gives back. All that is known of `step` is its contract; the
--- rest is the law of a call that is lent two slices, lending's TwoLent.
+-- The call of `deeds` in a turn of `run`: what it is passed, that it is there, and what it gives back. All that is known of `deeds` is its contract; the
+-- rest is the law of a call that is lent two slices, lent_structs's TwoLent.
 use mathlib.Core.Path.{_≡_}
 use Prim.Native.Nat.{ℕ}
 use mathlib.Core.List.{List, [], _∷_}
@@ -31,9 +31,9 @@ use Rattle.batch.specs.Run.{answeringOf, batchStep}
 use Rattle.batch.specs.declared.begin.BatchState.{BatchState}
 use Rattle.batch.proofs.begin.BatchState as BatchState
 use Rattle.batch.proofs.begin.BatchState.Laws as State′
-use Rattle.lending.proofs.Slices.{val, at-list}
-use Rattle.lending.proofs.Calling.{Gives}
-use Rattle.lending.proofs.TwoLent.{Lending, two-lent}
+use Rattle.lent_structs.proofs.Slices.{val, at-list}
+use Rattle.lent_structs.proofs.Calling.{Gives}
+use Rattle.lent_structs.proofs.TwoLent.{Lending, two-lent}
 use Rattle.batch.proofs.RunSlices.{BatchSlices, batchStateVals, questionVal, reads, tokens, answers, ReadyAt, Result, call-tokens, gathers, scatters}
 use Rattle.batch.proofs.step.step as step
 use Rattle.batch.proofs.step.step.Symbol.{name as #step}
@@ -42,11 +42,11 @@ use Rattle.batch.proofs.step.step.Symbol.{name as #step}
 abbrev pub questionVals : Question → List Val
 questionVals = LL.vals Question.the-type Question′.the-laws
 
--- the contract of `step`
+-- the contract of `deeds`
 abbrev pub BatchStep : {M : Type 1} (𝓤 : URA M) (H : Heap 𝓤) (A : Atoms 𝓤) (mem : Memory → SProp 𝓤) (run : Routine → Fun 𝓤) → Contract 𝓤
 BatchStep 𝓤 H A mem run = tripleOf 𝓤 H A step.signature (step.spec 𝓤 H A mem run)
 
--- what the contract of `step`, or of `run`, binds of its parameters at exit: of the fourth and the fifth the last elements
+-- what the contract of `deeds`, or of `run`, binds of its parameters at exit: of the fourth and the fifth the last elements
 abbrev pub Bound : Type 0
 Bound = Unit {0} × (Unit {0} × (Unit {0} × (List ℕ × (List ℕ × (Unit {0} × Unit {0})))))
 
@@ -56,7 +56,7 @@ first-question zs = zs .1 .1 .1 .0
 abbrev pub second-of : Bound → List ℕ
 second-of zs = zs .1 .1 .1 .1 .0
 
--- the machine values that `step` is passed
+-- the machine values that `deeds` is passed
 abbrev passes : BatchSlices → Question → BatchState → List Val
 passes S q r = LL.val Question.the-type Question′.the-laws q ∷ val (S .keys) ∷ val (S .bits) ∷ val (S .refusals) ∷ val (S .values) ∷ questionVal r ∷ []
 

@@ -26,7 +26,7 @@ use Rattle.laws.proofs.Records.{paired-back}
 use Rattle.laws.proofs.Put.{put-out}
 use Rattle.laws.proofs.SummaryOf.{summary-agree}
 use Rattle.list.specs.Own.{OwnList, shownBy}
-use Rattle.put.specs.Putting.{Replaced}
+use Rattle.replace.specs.Putting.{Replaced}
 use Rattle.edit.specs.Recount.{Outdated}
 
 -- the new list stands at the front of a slice that it replaced a list in

@@ -13,12 +13,12 @@ use Rattle.definitions.specs.List.{Record, recordOf, listOf, listOfPicture}
 use Rattle.definitions.specs.Standing.{placeOf, partLength}
 use Rattle.definitions.specs.Edit.{contentOf}
 use Rattle.laws.proofs.Features.{one-under}
-use Rattle.put.specs.Family.{blockBits}
+use Rattle.replace.specs.Family.{blockBits}
 use Rattle.edit.specs.Content.{contentIn}
-use Rattle.put.proofs.Way.{Way, way-of, under-of}
-use Rattle.put.proofs.Context.{before-hole, after-hole, Open, spliced, context}
-use Rattle.put.proofs.Standing.{LeafAround, ListedOrInside, listed, inside, stands, place-listed, is-listed, part-listed, not-listed, part-inside, bits-at}
-use Rattle.put.proofs.Choice.{list-bits}
+use Rattle.replace.proofs.Way.{Way, way-of, under-of}
+use Rattle.replace.proofs.Context.{before-hole, after-hole, Open, spliced, context}
+use Rattle.replace.proofs.Standing.{LeafAround, ListedOrInside, listed, inside, stands, place-listed, is-listed, part-listed, not-listed, part-inside, bits-at}
+use Rattle.replace.proofs.Choice.{list-bits}
 
 -- the records between two lists
 middle : (a own b l : List Record) (i n : ℕ) → l ≡ a ++ (own ++ b) → i ≡ length a → n ≡ length own → take n (drop i l) ≡ own

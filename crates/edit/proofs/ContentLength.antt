@@ -15,7 +15,7 @@ use Rattle.definitions.specs.Calls.Paint.{gained}
 use Rattle.list.specs.Own.{OwnList}
 use Rattle.list.specs.Among.{keysBelow}
 use Rattle.edit.proofs.Gained.{gained-length}
-use Rattle.put.proofs.PlanPlaces.{part-until}
+use Rattle.replace.proofs.PlanPlaces.{part-until}
 
 -- at most all keys are below x
 pub below-most : (x : ℕ) (keys : List ℕ) → keysBelow x keys ≤ length keys

@@ -21,15 +21,15 @@ use Rattle.list.specs.Own.{OwnList, shownBy}
 use Rattle.list.proofs.Among.{values-of-records}
 use Rattle.list.proofs.Own.{own-length}
 use Rattle.list.proofs.Fuller.{listed-standing, inside-standing, listed-part, inside-part}
-use Rattle.put.specs.Family.{blockBits}
+use Rattle.replace.specs.Family.{blockBits}
 use Rattle.edit.specs.Content.{contentIn, formerBy, formerOf}
 use Rattle.edit.specs.declared.logging.Former.{Former}
 use Rattle.log.specs.declared.entry.Entry.{Entry}
 use Rattle.log.specs.Entries.{recordsFromPlace, Loggable, Logged}
 use Rattle.edit.specs.PaintCall.{Fresh, newEntry}
-use Rattle.put.proofs.Places.{place-lt}
+use Rattle.replace.proofs.Places.{place-lt}
 use Rattle.edit.proofs.Gained.{gained-in}
-use Rattle.put.proofs.PlanTop.{records-length}
+use Rattle.replace.proofs.PlanTop.{records-length}
 use Rattle.edit.proofs.ContentLength.{part-there, gained-size}
 
 -- ascending records are no more than their interval has keys

@@ -8,7 +8,7 @@ use Rattle.keys.proofs.Cases.{decide}
 use Rattle.definitions.specs.Refusal.{accepted}
 use Rattle.laws.proofs.First.{accepted-done, accepted-left}
 use Rattle.log.specs.declared.entry.Entry.{Entry}
-use Rattle.put.specs.declared.plan.Plan.{Plan}
+use Rattle.replace.specs.declared.plan.Plan.{Plan}
 use Rattle.edit.specs.declared.decision.Decision.{Decision}
 use Rattle.edit.specs.declared.decision.Decision.the-variants.{Refused, Granted}
 use Rattle.edit.specs.EditCallChecks.{decided}

@@ -9,7 +9,7 @@ use Rattle.definitions.specs.Refusal.{accepted}
 use Rattle.laws.proofs.First.{accepted-done, accepted-left}
 use Rattle.edit.specs.declared.logging.Former.{Former}
 use Rattle.log.specs.declared.entry.Entry.{Entry}
-use Rattle.put.specs.declared.plan.Plan.{Plan}
+use Rattle.replace.specs.declared.plan.Plan.{Plan}
 use Rattle.edit.specs.declared.decision.PaintDecision.{PaintDecision}
 use Rattle.edit.specs.declared.decision.PaintDecision.the-variants.{Refused, Granted}
 use Rattle.edit.specs.EditCallChecks.{paintDecided}

@@ -15,10 +15,10 @@ use Rattle.laws.proofs.Features.{one-from}
 use Rattle.laws.proofs.ListOf.{list-one}
 use Rattle.list.specs.Own.{shownBy}
 use Rattle.log.specs.declared.entry.Entry.{Entry}
-use Rattle.put.specs.Putting.{Replaced}
-use Rattle.put.specs.Put.{topFor, planAt, planOf}
-use Rattle.put.specs.declared.plan.Plan.{Plan}
-use Rattle.put.proofs.PlanTop.{plan-for}
+use Rattle.replace.specs.Putting.{Replaced}
+use Rattle.replace.specs.Put.{topFor, planAt, planOf}
+use Rattle.replace.specs.declared.plan.Plan.{Plan}
+use Rattle.replace.proofs.PlanTop.{plan-for}
 use Rattle.edit.specs.PaintCall.{Paintable, newEntry, paintPlan}
 use Rattle.edit.specs.Recount.{Outdated}
 use Rattle.edit.proofs.Planned.{Planned}

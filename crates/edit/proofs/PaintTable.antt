@@ -18,7 +18,7 @@ use Rattle.definitions.specs.Calls.Paint.{paintedPicture, painted, gained, pain
 use Rattle.laws.proofs.First.{this, later, holds-first, none-first}
 use Rattle.laws.proofs.Edits.{SheetPassed, EditPassed, rest-decides, edit-passed, edit-done}
 use Rattle.log.specs.declared.entry.Entry.{Entry}
-use Rattle.put.specs.Putting.{Replaced}
+use Rattle.replace.specs.Putting.{Replaced}
 use Rattle.edit.specs.PaintCall.{roomRefusal, Paintable, newEntry, Fresh, Relogged}
 use Rattle.edit.proofs.EditCallTables.{passed-settings, passed-own}
 

@@ -12,12 +12,12 @@ use Rattle.definitions.specs.List.{Record, listOfPicture}
 use Rattle.definitions.specs.Read.{room, recordsOf}
 use Rattle.definitions.specs.Edit.{put, contentOf}
 use Rattle.list.specs.Own.{OwnList, shownBy}
-use Rattle.put.specs.Put.{planOf, lengthAfter, edited}
-use Rattle.put.specs.Putting.{Puttable, Replaced}
-use Rattle.put.specs.declared.plan.Plan.{Plan}
-use Rattle.put.proofs.Ready.{PlanReady, ready-for}
-use Rattle.put.proofs.Edited.{edited-put, edited-length}
-use Rattle.put.proofs.PlanTop.{records-length, length-for}
+use Rattle.replace.specs.Put.{planOf, lengthAfter, edited}
+use Rattle.replace.specs.Putting.{Puttable, Replaced}
+use Rattle.replace.specs.declared.plan.Plan.{Plan}
+use Rattle.replace.proofs.Ready.{PlanReady, ready-for}
+use Rattle.replace.proofs.Edited.{edited-put, edited-length}
+use Rattle.replace.proofs.PlanTop.{records-length, length-for}
 
 -- the content is that of a picture in the block, and the new list shows it there
 pub record Planned (m : ℕ) (keys bits : List ℕ) (n κ : ℕ) (content new : List Record) (plan : Plan) : Type 0 where

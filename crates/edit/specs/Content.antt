@@ -8,7 +8,7 @@ use Rattle.definitions.specs.List.{Record, recordOf}
 use Rattle.definitions.specs.Standing.{placeOf, isListed, partLength}
 use Rattle.definitions.specs.declared.Standing.{Standing}
 use Rattle.definitions.specs.declared.Standing.the-variants.{Listed, Inside}
-use Rattle.put.specs.Family.{blockBits}
+use Rattle.replace.specs.Family.{blockBits}
 use Rattle.edit.specs.declared.logging.Former.{Former}
 
 unfoldable pub contentIn : ℕ → List Record → ℕ → List Record

@@ -9,7 +9,7 @@ use Rattle.definitions.specs.Read.{room}
 use Rattle.definitions.specs.Refusal.{_gives_, first, accepted}
 use Rattle.definitions.specs.Calls.Edit.{LentSheet, sheetRows}
 use Rattle.log.specs.declared.entry.Entry.{Entry}
-use Rattle.put.specs.declared.plan.Plan.{Plan}
+use Rattle.replace.specs.declared.plan.Plan.{Plan}
 use Rattle.edit.specs.declared.decision.Decision.{Decision}
 use Rattle.edit.specs.declared.decision.Decision.the-variants.{Refused, Granted}
 use Rattle.edit.specs.declared.decision.PaintDecision.{PaintDecision}

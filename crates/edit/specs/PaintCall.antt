@@ -14,8 +14,8 @@ use Rattle.definitions.specs.Refusal.{_gives_, first}
 use Rattle.definitions.specs.Calls.Paint.{painted, gained, logged}
 use Rattle.list.specs.Own.{OwnList}
 use Rattle.log.specs.declared.entry.Entry.{Entry}
-use Rattle.put.specs.Put.{planOf}
-use Rattle.put.specs.declared.plan.Plan.{Plan}
+use Rattle.replace.specs.Put.{planOf}
+use Rattle.replace.specs.declared.plan.Plan.{Plan}
 
 -- 10, 9
 unfoldable pub roomRefusal : (m : ℕ) (l : List Record) (keys bits logKeys logValues : List ℕ) (inForce κ f : ℕ) → ℕ

@@ -5,7 +5,7 @@ ghost use Rattle.edit.specs.EditCallChecks.{sheetRefusal};
 use crate::logging::Former;
 use definitions::refusal::Refusal;
 use log::entry::Entry;
-use put::plan::Plan;
+use replace::plan::Plan;
 use summary::check::first_refusal;
 
 // An edit is refused, or it goes by an entry of the log, which it takes back or redoes, and by a plan for the list.

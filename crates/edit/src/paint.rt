@@ -5,7 +5,7 @@ ghost use lib.ListN.{length};
 ghost use Rattle.definitions.specs.Read.{room, recordsOf};
 ghost use Rattle.definitions.specs.Calls.Edit.{editRefusal};
 ghost use Rattle.definitions.specs.Calls.Paint.{painted, paint, Painted};
-ghost use Rattle.put.specs.Putting.{Replaced};
+ghost use Rattle.replace.specs.Putting.{Replaced};
 ghost use Rattle.edit.specs.Content.{formerOf};
 ghost use Rattle.edit.specs.EditCallChecks.{paintDecided};
 ghost use Rattle.edit.specs.PaintCall.{roomRefusal, Paintable, newEntry, paintPlan};
@@ -20,9 +20,9 @@ use keys::power;
 use list::standing;
 use log::entry;
 use log::entry::Entry;
-use put::plan;
-use put::plan::Plan;
-use put::putting;
+use replace::plan;
+use replace::plan::Plan;
+use replace::putting;
 
 // 10 and 9: the log has room for the entry, and the list for what it becomes. Where the block stands is looked for here alone: the log and the plan go by
 // it.

@@ -1,5 +1,5 @@
 // The listing program (specification S26): it reads m, s and a raster from standard input, and writes the listing of its list, or one line for a
-// refusal, to standard output. What is written is `lines::list_input`'s promise.
+// refusal, to standard output. What is written is `listing_text::list_input`'s promise.
 use libc::STDIN_FILENO;
 use libc::STDOUT_FILENO;
 
@@ -11,6 +11,6 @@ fn main() {
     let mut bits = [0u32; 1365];
     let mut out = [0u8; 53245];
     let read = io::read_full(STDIN_FILENO, &mut pixels);
-    let count = lines::list_input(&pixels[..read], &mut keys, &mut bits, &mut out);
+    let count = listing_text::list_input(&pixels[..read], &mut keys, &mut bits, &mut out);
     io::write_all(STDOUT_FILENO, &out[..count]);
 }

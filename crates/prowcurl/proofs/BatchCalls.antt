@@ -36,10 +36,10 @@ use Rattle.batch.specs.Run.{answeringOf, batchRun, answeringBegins, answeringEn
 use Rattle.batch.specs.declared.begin.BatchState.{BatchState}
 use Rattle.batch.proofs.begin.BatchState as BatchState
 use Rattle.batch.proofs.begin.BatchState.Laws as State′
-use Rattle.lending.proofs.Chains.{apart}
-use Rattle.lending.proofs.Slices.{LentSlice, val, token, shared, at-list}
-use Rattle.lending.proofs.Calling.{Gives, Returned, returns-struct}
-use Rattle.lending.proofs.TwoLent.{Lending, two-lent}
+use Rattle.lent_structs.proofs.Chains.{apart}
+use Rattle.lent_structs.proofs.Slices.{LentSlice, val, token, shared, at-list}
+use Rattle.lent_structs.proofs.Calling.{Gives, Returned, returns-struct}
+use Rattle.lent_structs.proofs.TwoLent.{Lending, two-lent}
 use Rattle.batch.proofs.RunSlices.{BatchSlices, batchStateVals, questionVal, reads, tokens, answers, each-read, ReadyAt, Result, call-tokens, gathers, scatters}
 use Rattle.batch.proofs.StepCall.{Bound, first-question, second-of}
 use Rattle.batch.proofs.begin.begin as begin

@@ -29,9 +29,9 @@ use Rattle.definitions.specs.declared.Counted.{Counted}
 use Rattle.definitions.proofs.Question as Question
 use Rattle.definitions.proofs.Counted as Counted
 use Rattle.definitions.proofs.Counted.Laws as Counted′
-use Rattle.lending.proofs.Chains.{chain, apart, together, after-nothing}
-use Rattle.lending.proofs.Slices.{LentSlice, val, token, shared, mutable}
-use Rattle.lending.proofs.TwoLent.{each-answer}
+use Rattle.lent_structs.proofs.Chains.{chain, apart, together, after-nothing}
+use Rattle.lent_structs.proofs.Slices.{LentSlice, val, token, shared, mutable}
+use Rattle.lent_structs.proofs.TwoLent.{each-answer}
 use Rattle.batch.proofs.RunSlices.{BatchSlices, reads, tokens, answers, each-read, each-token}
 use Rattle.prowcurl.proofs.questions.hlq_batch as batch′
 

@@ -32,23 +32,23 @@ use Rattle.definitions.specs.declared.Found.{Found}
 use Rattle.definitions.proofs.Rule as Rule
 use Rattle.definitions.proofs.Found as Found
 use Rattle.definitions.proofs.Found.Laws as Found′
-use Rattle.rules.specs.Run.{progressOf, bounding, tableRun, beginOf, ownAt, afterRun, answerOf}
-use Rattle.rules.specs.declared.state.RunState.{RunState}
-use Rattle.rules.proofs.state.RunState as RunState
-use Rattle.rules.proofs.state.RunState.Laws as State′
-use Rattle.lending.proofs.Chains.{chain, apart}
-use Rattle.lending.proofs.Slices.{LentSlice, val, token, shared, at-list, copied}
-use Rattle.lending.proofs.Calling.{Gives, Returned, returns-struct}
-use Rattle.rules.proofs.RunSlices.{RunSlices, stateVals, valOf, reads, tokens, answers, each-read, reads-twice, ReadyAt, Result, call-tokens, gathers, scatters}
-use Rattle.rules.proofs.LentAnswers.{Lending, lent-answers}
-use Rattle.rules.proofs.runs.begin as begin
-use Rattle.rules.proofs.runs.begin.Symbol.{name as #begin}
-use Rattle.rules.proofs.runs.begin_next as next
-use Rattle.rules.proofs.runs.begin_next.Symbol.{name as #next}
-use Rattle.rules.proofs.runs.answer as answer
-use Rattle.rules.proofs.runs.answer.Symbol.{name as #answer}
-use Rattle.rules.proofs.all_rules.run as run′
-use Rattle.rules.proofs.all_rules.run.Symbol.{name as #run}
+use Rattle.finding_runs.specs.Run.{progressOf, bounding, tableRun, beginOf, ownAt, afterRun, answerOf}
+use Rattle.finding_runs.specs.declared.state.RunState.{RunState}
+use Rattle.finding_runs.proofs.state.RunState as RunState
+use Rattle.finding_runs.proofs.state.RunState.Laws as State′
+use Rattle.lent_structs.proofs.Chains.{chain, apart}
+use Rattle.lent_structs.proofs.Slices.{LentSlice, val, token, shared, at-list, copied}
+use Rattle.lent_structs.proofs.Calling.{Gives, Returned, returns-struct}
+use Rattle.finding_runs.proofs.RunSlices.{RunSlices, stateVals, valOf, reads, tokens, answers, each-read, reads-twice, ReadyAt, Result, call-tokens, gathers, scatters}
+use Rattle.finding_runs.proofs.LentAnswers.{Lending, lent-answers}
+use Rattle.finding_runs.proofs.runs.begin as begin
+use Rattle.finding_runs.proofs.runs.begin.Symbol.{name as #begin}
+use Rattle.finding_runs.proofs.runs.begin_next as next
+use Rattle.finding_runs.proofs.runs.begin_next.Symbol.{name as #next}
+use Rattle.finding_runs.proofs.runs.answer as answer
+use Rattle.finding_runs.proofs.runs.answer.Symbol.{name as #answer}
+use Rattle.finding_runs.proofs.all_rules.run as run′
+use Rattle.finding_runs.proofs.all_rules.run.Symbol.{name as #run}
 
 -- the contracts
 module _ {M : Type 1} (𝓤 : URA M) (H : Heap 𝓤) (A : Atoms 𝓤) (mem : Memory → SProp 𝓤) (run : Routine → Fun 𝓤) where

@@ -29,9 +29,9 @@ use Rattle.definitions.specs.declared.Found.{Found}
 use Rattle.definitions.proofs.Rule as Rule
 use Rattle.definitions.proofs.Found as Found
 use Rattle.definitions.proofs.Found.Laws as Found′
-use Rattle.lending.proofs.Chains.{chain, apart, together, after-nothing}
-use Rattle.lending.proofs.Slices.{LentSlice, val, token, shared, mutable}
-use Rattle.rules.proofs.RunSlices.{RunSlices, reads, tokens, answers, each-read, each-token, each-answer}
+use Rattle.lent_structs.proofs.Chains.{chain, apart, together, after-nothing}
+use Rattle.lent_structs.proofs.Slices.{LentSlice, val, token, shared, mutable}
+use Rattle.finding_runs.proofs.RunSlices.{RunSlices, reads, tokens, answers, each-read, each-token, each-answer}
 use Rattle.prowcurl.proofs.findings.hlq_findings as findings
 
 -- what is had of the parameters at exit: the two answer slices

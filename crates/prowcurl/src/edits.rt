@@ -11,9 +11,9 @@ use definitions::Emptied;
 use definitions::Window;
 use edit::empty;
 use edit::paint;
-use rectangle::paint_window;
 use undo::redo as redoing;
 use undo::take_back;
+use window_paint::paint_window;
 
 #[no_mangle]
 pub extern "C" fn hlq_paint(

@@ -5,8 +5,8 @@ ghost use mathlib.Core.Path.{_≡_};
 ghost use Rattle.definitions.specs.Calls.Findings.{findings as findingsAnswer, findingsIds, findingsKeys};
 use definitions::Found;
 use definitions::Rule;
-use rules::all_rules;
-use rules::runs;
+use finding_runs::all_rules;
+use finding_runs::runs;
 
 #[no_mangle]
 pub extern "C" fn hlq_findings(

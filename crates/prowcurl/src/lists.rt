@@ -24,7 +24,7 @@ pub extern "C" fn hlq_build(
     ensures { λ _. ⌜ now (bits .exit) ≡ surveyBits m s (now (raster .entry)) (now (keys .entry)) (now (bits .entry)) (now (summary .entry)) ⌝ }
     ensures { λ _. ⌜ now (summary .exit) ≡ surveySummary m s (now (raster .entry)) (now (keys .entry)) (now (bits .entry)) (now (summary .entry)) ⌝ }
 {
-    survey::survey(m, s, raster, keys, bits, summary)
+    build_with_summary::survey(m, s, raster, keys, bits, summary)
 }
 
 #[no_mangle]

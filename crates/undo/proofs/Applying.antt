@@ -14,9 +14,9 @@ use Rattle.definitions.specs.Read.{room}
 use Rattle.definitions.specs.Area.{summaryOf}
 use Rattle.laws.proofs.LogEntries.{list-not-empty}
 use Rattle.list.specs.Own.{shownBy}
-use Rattle.put.specs.Putting.{Replaced}
-use Rattle.step.specs.Step.{Step, stepOver}
-use Rattle.passes.specs.Change.{Changeable, Changed}
+use Rattle.replace.specs.Putting.{Replaced}
+use Rattle.deeds.specs.Step.{Step, stepOver}
+use Rattle.apply_deed.specs.Change.{Changeable, Changed}
 use Rattle.undo.specs.GroupCall.{WithSummary, Applied}
 use Rattle.edit.specs.Recount.{Outdated}
 use Rattle.edit.proofs.Changed.{all-outdated, all-counted}

@@ -1,4 +1,4 @@
--- The entries of a group as a run of crate step, and what the deed over them makes of a picture. Rests on log's GroupEntries and step's PutBack.
+-- The entries of a group as a run of crate step, and what the deed over them makes of a picture. Rests on log's GroupEntries and deeds's PutBack.
 use Prim.Native.Nat.{ℕ, suc, _-_, _≤_}
 use mathlib.Core.Path.{_≡_, sym, _∙_, ap, ap₂, subst}
 use mathlib.Core.List.{List}
@@ -14,13 +14,13 @@ use Rattle.log.specs.declared.step.LogStep.{LogStep}
 use Rattle.log.specs.Steps.{lastStep, Stepped, EntriesBetween, none-between, one-between}
 use Rattle.log.proofs.GroupChecked.{entries-at}
 use Rattle.log.proofs.GroupEntries.{group-between}
-use Rattle.step.specs.declared.run.Run.{Run}
-use Rattle.step.specs.declared.deed.Deed.{Deed}
-use Rattle.step.specs.Step.{stepOver}
-use Rattle.step.specs.Deed.{Doable, stepOf}
-use Rattle.step.specs.Runs.{lastFirst, Chain, done, more, Between, EntriesIn}
-use Rattle.step.proofs.Chains.{last-none, chain-more}
-use Rattle.step.proofs.PutBack.{back-picture, again-picture}
+use Rattle.deeds.specs.declared.run.Run.{Run}
+use Rattle.deeds.specs.declared.deed.Deed.{Deed}
+use Rattle.deeds.specs.Step.{stepOver}
+use Rattle.deeds.specs.Deed.{Doable, stepOf}
+use Rattle.deeds.specs.Runs.{lastFirst, Chain, done, more, Between, EntriesIn}
+use Rattle.deeds.proofs.Chains.{last-none, chain-more}
+use Rattle.deeds.proofs.PutBack.{back-picture, again-picture}
 use Rattle.undo.specs.GroupCall.{GroupLast, GroupRun, deedOf, groupOver}
 use Rattle.undo.specs.declared.group.Direction.{Direction}
 use Rattle.undo.specs.declared.group.Direction.the-variants.{Back as Backward, Again as Onward}

@@ -25,8 +25,8 @@ use Rattle.log.specs.Steps.{Divided}
 use Rattle.log.proofs.First.{FirstOf, first-sound}
 use Rattle.log.proofs.Last.{entry-ended}
 use Rattle.log.proofs.Parts.{part-length, part-redo}
-use Rattle.put.specs.Putting.{Replaced}
-use Rattle.put.specs.declared.plan.Plan.{Plan}
+use Rattle.replace.specs.Putting.{Replaced}
+use Rattle.replace.specs.declared.plan.Plan.{Plan}
 use Rattle.edit.specs.PaintCall.{Paintable, paintPlan}
 use Rattle.undo.specs.RedoCall.{LogToRedo, nextStep, nextEntry}
 use Rattle.edit.proofs.PaintPlan.{paint-counted}

@@ -14,7 +14,7 @@ use Rattle.definitions.specs.Calls.Edit.{LentSheet, asLent, editRefusal}
 use Rattle.definitions.specs.Calls.Paint.{painted}
 use Rattle.definitions.specs.Calls.Redo.{redonePicture, redone, redo, Redone}
 use Rattle.laws.proofs.Edits.{SheetPassed}
-use Rattle.put.specs.Putting.{Replaced}
+use Rattle.replace.specs.Putting.{Replaced}
 use Rattle.edit.specs.EditCallChecks.{listRoomRefusal}
 use Rattle.undo.specs.RedoCall.{Redoable, LogToRedo}
 use Rattle.edit.proofs.EditCallTables.{first-passed, passed-settings, passed-log}

@@ -15,7 +15,7 @@ use Rattle.definitions.specs.Refusal.{Row}
 use Rattle.definitions.specs.Calls.Edit.{LentSheet, Edit, editRefusal, Edits}
 use Rattle.definitions.specs.declared.Edited.{Edited}
 use Rattle.laws.proofs.Edits.{SheetPassed, rest-decides, list-full, room-enough, edit-refused, edit-done}
-use Rattle.put.specs.Putting.{Replaced}
+use Rattle.replace.specs.Putting.{Replaced}
 use Rattle.edit.specs.EditCallChecks.{listRoomRefusal}
 use Rattle.undo.specs.GroupCall.{Applied, groupAnswer}
 

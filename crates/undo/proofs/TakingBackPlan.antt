@@ -20,10 +20,10 @@ use Rattle.log.specs.declared.entry.Entry.{Entry}
 use Rattle.log.specs.Entries.{lastEntry, contentPart}
 use Rattle.log.proofs.Last.{content-length}
 use Rattle.log.proofs.Places.{count-is, places-are, first-bits, lent-length, lent-content}
-use Rattle.put.specs.Put.{topFor, planAt, planOf, edited}
-use Rattle.put.specs.Putting.{Puttable, Replaced}
-use Rattle.put.specs.declared.plan.Plan.{Plan}
-use Rattle.put.proofs.PlanTop.{plan-for}
+use Rattle.replace.specs.Put.{topFor, planAt, planOf, edited}
+use Rattle.replace.specs.Putting.{Puttable, Replaced}
+use Rattle.replace.specs.declared.plan.Plan.{Plan}
+use Rattle.replace.proofs.PlanTop.{plan-for}
 use Rattle.edit.specs.Recount.{Outdated}
 use Rattle.undo.specs.TakingBackCall.{Restorable, restorePlan}
 use Rattle.edit.proofs.Planned.{Planned, can-put, put-makes}

@@ -17,7 +17,7 @@ use Rattle.laws.proofs.Edits.{SheetPassed}
 use Rattle.list.proofs.Accepted.{content-is}
 use Rattle.log.proofs.Last.{last-entry}
 use Rattle.log.proofs.Parts.{force-sound}
-use Rattle.put.specs.Putting.{Replaced}
+use Rattle.replace.specs.Putting.{Replaced}
 use Rattle.edit.specs.EditCallChecks.{listRoomRefusal}
 use Rattle.undo.specs.TakingBackCall.{Takeable, Restorable}
 use Rattle.edit.proofs.EditCallTables.{first-passed, passed-settings, passed-own, passed-log}

@@ -13,11 +13,11 @@ use Rattle.definitions.specs.Area.{summaryOf}
 use Rattle.definitions.specs.Log.{endsInMark, stepCount, stepEntries, beforeStep, lastIsStep, putBack, paintAgain}
 use Rattle.definitions.specs.declared.Edited.{Edited}
 use Rattle.list.specs.Own.{OwnList, shownBy}
-use Rattle.put.specs.Putting.{Replaced}
-use Rattle.step.specs.declared.run.Run.{Run}
-use Rattle.step.specs.declared.deed.Deed.{Deed}
-use Rattle.step.specs.declared.deed.Deed.the-variants.{Back, Again}
-use Rattle.step.specs.Runs.{EntriesIn, lastOfRun}
+use Rattle.replace.specs.Putting.{Replaced}
+use Rattle.deeds.specs.declared.run.Run.{Run}
+use Rattle.deeds.specs.declared.deed.Deed.{Deed}
+use Rattle.deeds.specs.declared.deed.Deed.the-variants.{Back, Again}
+use Rattle.deeds.specs.Runs.{EntriesIn, lastOfRun}
 use Rattle.undo.specs.declared.group.Direction.{Direction}
 use Rattle.undo.specs.declared.group.Direction.the-variants.{Back as Backward, Again as Onward}
 use Rattle.undo.specs.declared.group.GroupStep.{GroupStep}

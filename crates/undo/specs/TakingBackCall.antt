@@ -12,8 +12,8 @@ use Rattle.definitions.specs.Log.{lastKey, lastCount, lastContent, endsInMark}
 use Rattle.definitions.specs.Calls.Edit.{LentSheet}
 use Rattle.list.specs.Own.{OwnList}
 use Rattle.log.specs.Entries.{Ended}
-use Rattle.put.specs.Put.{planOf}
-use Rattle.put.specs.declared.plan.Plan.{Plan}
+use Rattle.replace.specs.Put.{planOf}
+use Rattle.replace.specs.declared.plan.Plan.{Plan}
 use Rattle.edit.specs.EditCallChecks.{sheetRefusal}
 
 -- what 1, 4, 18, 5 and 11 do not refuse

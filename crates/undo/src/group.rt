@@ -3,17 +3,17 @@
 ghost use mathlib.Core.Path.{_≡_};
 ghost use Rattle.definitions.specs.Read.{recordsOf};
 ghost use Rattle.list.specs.Own.{shownBy};
-ghost use Rattle.step.specs.Step.{stepOver};
-ghost use Rattle.step.specs.Deed.{Doable, stepOf};
+ghost use Rattle.deeds.specs.Step.{stepOver};
+ghost use Rattle.deeds.specs.Deed.{Doable, stepOf};
 ghost use Rattle.undo.specs.GroupCall.{GroupLast, GroupRun, WithSummary, Applied, deedOf, GroupStepped, groupAnswer};
+use apply_deed::change;
+use deeds::deed::Deed;
+use deeds::run;
+use deeds::run::Run;
 use definitions::Edited;
 use definitions::refusal::Refusal;
 use edit::recount;
 use log::step as steps;
-use passes::change;
-use step::deed::Deed;
-use step::run;
-use step::run::Run;
 
 // Which way a step of the log goes: it is taken back, or redone.
 pub enum Direction {

@@ -23,7 +23,7 @@ use log::entry;
 use log::entry::Entry;
 use log::step as steps;
 use log::step::LogStep;
-use put::plan;
+use replace::plan;
 
 // The first of the steps to redo, by its places among them.
 fn next_step(log_keys: &[u32], log_values: &[u32], used: usize, in_force: usize) -> LogStep

@@ -6,8 +6,8 @@ ghost use Prim.Native.Nat.{_+_, _≤_};
 ghost use Rattle.definitions.specs.Read.{room, recordsOf};
 ghost use Rattle.definitions.specs.Log.{endsInMark};
 ghost use Rattle.log.specs.Entries.{lastEntry, contentPart};
-ghost use Rattle.put.specs.Put.{edited};
-ghost use Rattle.put.specs.Putting.{Puttable, Replaced};
+ghost use Rattle.replace.specs.Put.{edited};
+ghost use Rattle.replace.specs.Putting.{Puttable, Replaced};
 ghost use Rattle.edit.specs.EditCallChecks.{listRoomRefusal, decided};
 ghost use Rattle.definitions.specs.Calls.Edit.{asLent};
 ghost use Rattle.definitions.specs.Calls.TakeBack.{restored, TakenBack};
@@ -21,9 +21,9 @@ use edit::recount;
 use log::entry;
 use log::entry::Entry;
 use log::step as steps;
-use put::plan;
-use put::plan::Plan;
-use put::putting;
+use replace::plan;
+use replace::plan::Plan;
+use replace::putting;
 
 // The refusal of a taking back of the last entry in force, which is a single one, or that entry and the plan to put its content back.
 fn decide(

@@ -1,6 +1,6 @@
 -- `main` meets its contract: the arrays that it lends have the room that `list_input` asks, and what that printed lies within the last of them.
 use borrow.Author.Needs.{needs}
-use Rattle.lines.proofs.Program.{own-room, within, part-length}
+use Rattle.listing_text.proofs.Program.{own-room, within, part-length}
 use Rattle.listing.proofs.main.Statement.{statement}
 use Rattle.listing.proofs.main.Tie as tie
 

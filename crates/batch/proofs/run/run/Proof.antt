@@ -1,5 +1,5 @@
 -- `run::run` meets its contract: a walk of its MIR, by hand, since it takes a lent slice of structs. In each turn the question at i is copied out of the
--- lent slice and passed to `step`. Rests on RunEntryExit, RunTurns (what holds before a turn), StepCall (the call of `step`), and lending's laws.
+-- lent slice and passed to `deeds`. Rests on RunEntryExit, RunTurns (what holds before a turn), StepCall (the call of `deeds`), and lending's laws.
 -- The numbers in the walk are places in the list of what is held. `at n i` is the place of local i when n things stand before the locals. The locals:
 -- 0 the answer, 1 questions, 2 keys, 3 bits, 4 refusals, 5 values, 6 state, 7 st, 8 i; 9 a number, 10 the test, 11 where the question lies, 12 the
 -- question, 13 and 14 refusals written again, 15 and 16 values written again.
@@ -50,10 +50,10 @@ use Rattle.batch.specs.declared.begin.BatchState.{BatchState}
 use Rattle.batch.proofs.begin.BatchState as BatchState
 use Rattle.batch.proofs.begin.BatchState.Laws as State′
 use Rattle.laws.proofs.OneByOne.{noQuestion}
-use Rattle.lending.proofs.Locals.{Content, empty, holds, at, Addresses, envOf, Held, in-local, allocates, frees-all}
-use Rattle.lending.proofs.Slices.{LentSlice, val, typed-slice, token}
-use Rattle.lending.proofs.Reborrow.{reborrows}
-use Rattle.lending.proofs.Calling.{calls-giving}
+use Rattle.lent_structs.proofs.Locals.{Content, empty, holds, at, Addresses, envOf, Held, in-local, allocates, frees-all}
+use Rattle.lent_structs.proofs.Slices.{LentSlice, val, typed-slice, token}
+use Rattle.lent_structs.proofs.Reborrow.{reborrows}
+use Rattle.lent_structs.proofs.Calling.{calls-giving}
 use Rattle.batch.proofs.RunSlices.{BatchSlices, batchStateVals, questionVal, typed-batch-state, reads, tokens, answers, ReadyAt, reads-twice}
 use Rattle.batch.proofs.RunEntryExit.{batch-stayed, batch-machine, sharedQuestions, batch-held, AtEntry, AtExit, enters, exits}
 use Rattle.batch.proofs.RunTurns.{Turn, question, entry, first-turn, one-comes, next-turn, left, nearer}

@@ -1,4 +1,4 @@
--- `step::reply_to` meets its contract: each way out is a case of what the question asks.
+-- `deeds::reply_to` meets its contract: each way out is a case of what the question asks.
 use mathlib.Core.Path.{_≡_, sym, _∙_}
 use mathlib.Core.Bool.{true}
 use native.Mathlib.Omega.{arith}

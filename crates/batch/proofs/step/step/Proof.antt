@@ -1,4 +1,4 @@
--- `step::step` meets its contract: the batch is refused already, or the question's answer is written at its place.
+-- `deeds::step` meets its contract: the batch is refused already, or the question's answer is written at its place.
 use mathlib.Core.Path.{sym}
 use native.Mathlib.Omega.{arith}
 use borrow.Author.Needs.{needs}

@@ -1,4 +1,4 @@
--- `step::window_of` meets its contract: the fields of the question are the dragged window that is clipped.
+-- `deeds::window_of` meets its contract: the fields of the question are the dragged window that is clipped.
 use borrow.Author.Needs.{needs}
 use Rattle.clipped.proofs.Lines.{same-window}
 use Rattle.batch.proofs.step.window_of.Statement.{statement}

@@ -1,4 +1,4 @@
--- `step::ends_in_mark` meets its contract: each way out answers what the definition says of the last record.
+-- `deeds::ends_in_mark` meets its contract: each way out answers what the definition says of the last record.
 use Prim.Native.Nat.{ℕ, _<_}
 use mathlib.Core.Path.{_≡_}
 use native.Mathlib.Omega.{arith}

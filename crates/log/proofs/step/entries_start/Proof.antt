@@ -1,4 +1,4 @@
--- `step::entries_start` meets its contract: after each turn what stands before the entries is what stands before those that are left.
+-- `deeds::entries_start` meets its contract: after each turn what stands before the entries is what stands before those that are left.
 use native.Mathlib.Omega.{arith}
 use Rattle.log.proofs.Walk.{Walked, walk-all, walked-all, walk-ended, walk-on}
 use Rattle.log.proofs.step.entries_start.Statement.{statement}

@@ -1,4 +1,4 @@
--- `step::first_step` meets its contract: after each turn the first step is the first of what is left.
+-- `deeds::first_step` meets its contract: after each turn the first step is the first of what is left.
 use Rattle.log.proofs.First.{Walk, divided-stepped, walk-begins, start-less, walk-left, walk-turns, walk-ends}
 use Rattle.log.proofs.step.first_step.Statement.{statement}
 use Rattle.log.proofs.step.first_step.Tie as tie

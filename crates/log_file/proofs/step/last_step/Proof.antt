@@ -1,4 +1,4 @@
--- `step::last_step` meets its contract: without the mark the step is the last entry, and with it the entries before the group's closing records.
+-- `deeds::last_step` meets its contract: without the mark the step is the last entry, and with it the entries before the group's closing records.
 use Rattle.log.proofs.StepPlaces.{single-ended, single-found, group-room, group-entries, group-found}
 use Rattle.log_file.proofs.InBytes.{in-places}
 use Rattle.log_file.proofs.step.last_step.Statement.{statement}

@@ -40,31 +40,31 @@ use Rattle.definitions.specs.declared.Found.{Found}
 use Rattle.definitions.proofs.Rule as Rule
 use Rattle.definitions.proofs.Found as Found
 use Rattle.definitions.proofs.Found.Laws as Found′
-use Rattle.rules.specs.Run.{progressOf, afterRun}
-use Rattle.rules.specs.declared.state.RunState.{RunState}
-use Rattle.rules.proofs.state.RunState as RunState
-use Rattle.rules.proofs.state.RunState.Laws as State′
-use Rattle.lending.proofs.Locals.{Content, empty, holds, at, Addresses, envOf, Held, in-local, allocates, frees-all}
-use Rattle.lending.proofs.Slices.{LentSlice, val, typed-slice, token, shared}
-use Rattle.lending.proofs.Chains.{apart, together}
-use Rattle.lending.proofs.Reborrow.{reborrows}
-use Rattle.lending.proofs.Calling.{Returned, calls-giving}
-use Rattle.rules.proofs.RunSlices.{RunSlices, stateVals, valOf, typed-state, reads, tokens, answers, each-token, reads-twice, ReadyAt}
-use Rattle.rules.proofs.Answer.{checking-ready, next-ready, findings-law}
+use Rattle.finding_runs.specs.Run.{progressOf, afterRun}
+use Rattle.finding_runs.specs.declared.state.RunState.{RunState}
+use Rattle.finding_runs.proofs.state.RunState as RunState
+use Rattle.finding_runs.proofs.state.RunState.Laws as State′
+use Rattle.lent_structs.proofs.Locals.{Content, empty, holds, at, Addresses, envOf, Held, in-local, allocates, frees-all}
+use Rattle.lent_structs.proofs.Slices.{LentSlice, val, typed-slice, token, shared}
+use Rattle.lent_structs.proofs.Chains.{apart, together}
+use Rattle.lent_structs.proofs.Reborrow.{reborrows}
+use Rattle.lent_structs.proofs.Calling.{Returned, calls-giving}
+use Rattle.finding_runs.proofs.RunSlices.{RunSlices, stateVals, valOf, typed-state, reads, tokens, answers, each-token, reads-twice, ReadyAt}
+use Rattle.finding_runs.proofs.Answer.{checking-ready, next-ready, findings-law}
 use Rattle.prowcurl.proofs.FindingsEntryExit.{findings-stayed, findings-machine, foundVal, findings-held, AtEntry, AtExit, enters, exits}
 use Rattle.prowcurl.proofs.FindingsCalls.{Begin, Run, Next, Answer, FindingsBegun, FindingsRan, each-begin-token, begin-gives, run-gives, next-gives, answer-gives, takes}
-use Rattle.rules.proofs.runs.begin.Symbol as begin-def
-use Rattle.rules.proofs.runs.begin.Symbol.{name as #begin}
-use Rattle.rules.proofs.runs.begin.Met as begin-thm
-use Rattle.rules.proofs.runs.begin_next.Symbol as next-def
-use Rattle.rules.proofs.runs.begin_next.Symbol.{name as #next}
-use Rattle.rules.proofs.runs.begin_next.Met as next-thm
-use Rattle.rules.proofs.runs.answer.Symbol as answer-def
-use Rattle.rules.proofs.runs.answer.Symbol.{name as #answer}
-use Rattle.rules.proofs.runs.answer.Met as answer-thm
-use Rattle.rules.proofs.all_rules.run.Symbol as run-def
-use Rattle.rules.proofs.all_rules.run.Symbol.{name as #run}
-use Rattle.rules.proofs.all_rules.run.Met as run-thm
+use Rattle.finding_runs.proofs.runs.begin.Symbol as begin-def
+use Rattle.finding_runs.proofs.runs.begin.Symbol.{name as #begin}
+use Rattle.finding_runs.proofs.runs.begin.Met as begin-thm
+use Rattle.finding_runs.proofs.runs.begin_next.Symbol as next-def
+use Rattle.finding_runs.proofs.runs.begin_next.Symbol.{name as #next}
+use Rattle.finding_runs.proofs.runs.begin_next.Met as next-thm
+use Rattle.finding_runs.proofs.runs.answer.Symbol as answer-def
+use Rattle.finding_runs.proofs.runs.answer.Symbol.{name as #answer}
+use Rattle.finding_runs.proofs.runs.answer.Met as answer-thm
+use Rattle.finding_runs.proofs.all_rules.run.Symbol as run-def
+use Rattle.finding_runs.proofs.all_rules.run.Symbol.{name as #run}
+use Rattle.finding_runs.proofs.all_rules.run.Met as run-thm
 use Rattle.prowcurl.proofs.findings.hlq_findings.Key.{name as #findings}
 use Rattle.prowcurl.proofs.findings.hlq_findings as findings
 use Rattle.prowcurl.proofs.findings.hlq_findings.Statement as stated

@@ -40,10 +40,10 @@ use Rattle.definitions.proofs.Counted as Counted
 use Rattle.definitions.proofs.Counted.Laws as Counted′
 use Rattle.batch.specs.declared.begin.BatchState.{BatchState}
 use Rattle.batch.proofs.begin.BatchState as BatchState
-use Rattle.lending.proofs.Locals.{empty, holds, at, Addresses, envOf, Held, in-local, allocates, frees-all}
-use Rattle.lending.proofs.Slices.{LentSlice, val, typed-slice, token, shared}
-use Rattle.lending.proofs.Reborrow.{reborrows}
-use Rattle.lending.proofs.Calling.{calls-giving}
+use Rattle.lent_structs.proofs.Locals.{empty, holds, at, Addresses, envOf, Held, in-local, allocates, frees-all}
+use Rattle.lent_structs.proofs.Slices.{LentSlice, val, typed-slice, token, shared}
+use Rattle.lent_structs.proofs.Reborrow.{reborrows}
+use Rattle.lent_structs.proofs.Calling.{calls-giving}
 use Rattle.batch.proofs.RunSlices.{BatchSlices, batchStateVals, questionVal, typed-batch-state, reads, tokens, answers, reads-twice}
 use Rattle.batch.proofs.Answered.{start-ready, batch-law}
 use Rattle.prowcurl.proofs.BatchEntryExit.{stayed, machine, countedVal, held, AtEntry, AtExit, enters, exits}
