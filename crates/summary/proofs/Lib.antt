@@ -6,3 +6,4 @@ pub mod SameCounts
 pub mod Renewed
 pub mod IsSummary
 pub mod FillAnswers
+pub mod CountedUpTo
