@@ -11,10 +11,12 @@ use crate::window_logging;
 use definitions::Edited;
 use definitions::Window;
 use edit::decision;
-use edit::recount;
 use keys::Key;
 use keys::power;
 use log::group;
+use passes::recount;
+use step::deed::Deed;
+use step::deed::Doing;
 use walk::bounds;
 
 // The refusal; where it is 0, the number of entries that the group will have.
@@ -174,7 +176,9 @@ pub fn paint_window(
         in_force,
     );
     let after = filling::fill_window(m, keys, bits, n, log_keys, log_values, window, feature);
-    recount::recount(m, s, keys, bits, after, summary, Key::ROOT);
+    let deed = Deed::Fill(window, feature);
+    let doing = Doing { m, deed };
+    recount::recount(doing, s, keys, bits, after, log_keys, log_values, summary);
     Edited {
         refusal: 0,
         n: after as u64,

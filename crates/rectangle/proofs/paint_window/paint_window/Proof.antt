@@ -4,7 +4,7 @@ use mathlib.Core.Path.{_≡_, sym, _∙_}
 use native.Mathlib.Omega.{arith}
 use Rattle.definitions.specs.Calls.PaintWindow.{paintWindowRefusal}
 use Rattle.edit.proofs.EditCallTables.{passed-settings, passed-summary}
-use Rattle.rectangle.proofs.WindowFilled.{window-outdated, window-counted}
+use Rattle.rectangle.proofs.WindowFilled.{can-paint, window-outdated, window-counted}
 use Rattle.rectangle.proofs.PaintWindowTable.{WindowPassed, window-passed, window-fillable, window-fresh}
 use Rattle.rectangle.proofs.PaintWindowAnswers.{window-refused, window-done}
 use borrow.Author.Needs.{needs}
@@ -60,10 +60,12 @@ fill-window-requires c κs =
 
 recount-requires : tie.Need-recount-requires
 recount-requires c κs =
-    let filled = c .before .before .before .before .before .before .before in
+    let filled = c .before .before .before .before .before .before .before .before .before in
     let d = filled .before .before .before .before .before .before .before .before .before .before .before .before .before .before in
-    let p = passed d in
-    window-outdated _ (window-fillable p) (filled .fill-window .ensures) _ (let few = passed-settings (p .first-rows) .few in omega arith) (passed-summary (p .first-rows))
+    let p = passed d in (
+      can-paint (window-fillable p),
+      window-outdated _ (window-fillable p) (filled .fill-window .ensures) _ (let few = passed-settings (p .first-rows) .few in omega arith) (passed-summary (p .first-rows)),
+    )
 
 same-length-6 : tie.Need-same-length-6
 same-length-6 c = search needs
@@ -82,7 +84,7 @@ same-length-10 c = search needs
 
 returns-2 : tie.Need-returns-2
 returns-2 c =
-    let filled = c .before .before .before .before .before .before .before .before .before .before in
+    let filled = c .before .before .before .before .before .before .before .before .before .before .before .before in
     let logged = filled .before .before .before .before .before .before .before .before .before in
     let d = logged .before .before .before .before .before in
     window-done _ _ _ _ _ _ _ _ _ _ _ _ (goes d) (logged .log-window .ensures) (filled .fill-window .ensures)
