@@ -21,3 +21,4 @@ pub mod GrowSteps
 pub mod GrowQuarters
 pub mod Assembled
 pub mod Changing
+pub mod Recounted

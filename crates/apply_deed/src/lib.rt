@@ -3,6 +3,7 @@
 mod block_end;
 pub mod change;
 pub mod grow;
+pub mod recount;
 mod shrink;
 mod slide;
 pub mod spread;

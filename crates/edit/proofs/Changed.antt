@@ -1,18 +1,13 @@
--- The list after a content was put into a block: an accepted list of the changed picture, whose summary is to be counted anew in that block alone; and after a
--- change all over, whose summary is to be counted anew in the root's block.
+-- The list after a change: an accepted list of the changed picture. After a content was put into a block the summary is to be counted anew in that block alone.
 -- Rests on laws' ReadBack and SummaryOf.
-use Prim.Native.Nat.{ℕ, _^_, _≤_, _<_}
+use Prim.Native.Nat.{ℕ, _≤_}
 use mathlib.Core.Path.{_≡_, sym, _∙_, ap, ap₂}
-use mathlib.Core.Bool.{true, true≢false}
+use mathlib.Core.Bool.{true}
 use mathlib.Core.List.{List, map}
 use native.Mathlib.Omega.{arith}
 use lib.ListN.{length, take, length-take, length-map}
 use lib.Seq.{take-at}
 use Rattle.keys.specs.Key.{slotLimit, rootKey, validKey}
-use Rattle.keys.specs.Block.{inBlock}
-use Rattle.keys.specs.Under.{here}
-use Rattle.keys.proofs.Valid.{block-valid}
-use Rattle.keys.proofs.InBlock.{inBlock-iff}
 use Rattle.definitions.specs.Picture.{Picture}
 use Rattle.definitions.specs.List.{Record, keysOf, valuesOf, listOfPicture}
 use Rattle.definitions.specs.Read.{paired, recordsOf, pictureOf}
@@ -47,7 +42,7 @@ module _ (m : ℕ) {n : ℕ} {keys bits keys′ bits′ : List ℕ} {r : ℕ} (p
   new-records = ap₂ paired keys-front values-front ∙ paired-back (listOfPicture m p)
 
   -- it shows the picture
-  new-shows : Agree (shownBy m keys′ bits′ r) p m 0 0
+  pub new-shows : Agree (shownBy m keys′ bits′ r) p m 0 0
   new-shows a c w = ap (λ l. pictureOf m l a c) new-records ∙ block-back m p m 0 0 rootKey (root-keys m) a c w
 
   -- and is the list of what it shows
@@ -82,26 +77,3 @@ module _ (m s κ : ℕ) {n : ℕ} {keys bits keys′ bits′ : List ℕ} {r : �
   -- and counted anew it is that of the changed picture
   pub put-counted : (summary′ : List ℕ) → summary′ ≡ summaryOf m s (shownBy m keys′ bits′ r) → summary′ ≡ summaryOf m s (put m κ q (shownBy m keys bits n))
   put-counted summary′ e = new-summary m (put m κ q (shownBy m keys bits n)) made s summary′ e
-
--- a list that is changed all over
-module _ (m : ℕ) {n : ℕ} {keys bits keys′ bits′ : List ℕ} {r : ℕ} (p : Picture) (made : Replaced n (listOfPicture m p) keys bits keys′ bits′ r) where
-  -- every pixel lies in the root's block
-  in-root : (row column : ℕ) → row < 2 ^ m → column < 2 ^ m → inBlock m rootKey row column ≡ true
-  in-root row column h j =
-      inBlock-iff row column here .1 (record { top = omega arith; bottom = omega arith; left = omega arith; right = omega arith })
-
-  -- so the summary from before is right outside it
-  pub all-outdated : (s : ℕ) (before : Picture) (summary : List ℕ) → m ≤ 10 → s ≤ slotLimit → summary ≡ summaryOf m s before → Outdated m s keys′ bits′ r summary rootKey
-  all-outdated s before summary deep few counts = record {
-    deep = deep;
-    few = few;
-    valid = block-valid {k = m} {r = 0} {c = 0} here .valid;
-    own = new-own m p made;
-    before = before;
-    counts = counts;
-    outside = λ row column h j o. absurd (true≢false (sym (in-root row column h j) ∙ o));
-  }
-
-  -- and counted anew it is that of the picture
-  pub all-counted : (s : ℕ) (summary′ : List ℕ) → summary′ ≡ summaryOf m s (shownBy m keys′ bits′ r) → summary′ ≡ summaryOf m s p
-  all-counted s summary′ e = new-summary m p made s summary′ e

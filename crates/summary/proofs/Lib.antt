@@ -11,3 +11,4 @@ pub mod Renewed
 pub mod IsSummary
 pub mod SummaryFirst
 pub mod FillAnswers
+pub mod CountedUpTo

@@ -17,9 +17,10 @@ use Rattle.list.specs.Own.{shownBy}
 use Rattle.replace.specs.Putting.{Replaced}
 use Rattle.deeds.specs.Step.{Step, stepOver}
 use Rattle.apply_deed.specs.Change.{Changeable, Changed}
+use Rattle.apply_deed.specs.Recount.{StepOutdated}
+use Rattle.apply_deed.proofs.Recounted.{step-outdated}
 use Rattle.undo.specs.GroupCall.{WithSummary, Applied}
-use Rattle.edit.specs.Recount.{Outdated}
-use Rattle.edit.proofs.Changed.{all-outdated, all-counted}
+use Rattle.edit.proofs.Changed.{new-own, new-shows, new-summary}
 
 -- no room
 pub applied-full : (p : Picture) (m s n : ℕ) (keys bits summary : List ℕ) → leb (length (listOfPicture m p)) (room keys bits) ≡ false
@@ -37,8 +38,10 @@ module _ {t : Step} {m s n : ℕ} {keys bits summary : List ℕ} (k : WithSummar
     stands = record { length-is = made .length-is; keys-are = made .keys-are; values-are = made .bits-are }
 
     -- what counting anew asks
-    pub change-outdated : Outdated m s keys′ bits′ after summary rootKey
-    change-outdated = all-outdated m (stepOver t (shownBy m keys bits n)) stands s (shownBy m keys bits n) summary (k .deep) (k .few) (k .counts)
+    pub change-outdated : StepOutdated t m s keys′ bits′ after summary
+    change-outdated =
+        step-outdated (shownBy m keys bits n) (k .deep) (k .few) (new-own m (stepOver t (shownBy m keys bits n)) stands)
+        (new-shows m (stepOver t (shownBy m keys bits n)) stands) (k .counts)
 
     -- all is changed
     pub applied-done : (summary′ : List ℕ) → summary′ ≡ summaryOf m s (shownBy m keys′ bits′ after)
@@ -47,7 +50,7 @@ module _ {t : Step} {m s n : ℕ} {keys bits summary : List ℕ} (k : WithSummar
         let some : 0 < length (listOfPicture m (stepOver t (shownBy m keys bits n))) = list-not-empty (stepOver t (shownBy m keys bits n)) m 0 0 rootKey in
         record {
           full = λ z. absurd (omega (arith, made .length-is));
-          done = λ some′. (leb-true _ _ fits, stands, all-counted m (stepOver t (shownBy m keys bits n)) stands s summary′ counted);
+          done = λ some′. (leb-true _ _ fits, stands, new-summary m (stepOver t (shownBy m keys bits n)) stands s summary′ counted);
         }
 
 -- by another name of the picture

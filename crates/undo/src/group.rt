@@ -7,12 +7,13 @@ ghost use Rattle.deeds.specs.Step.{stepOver};
 ghost use Rattle.deeds.specs.Deed.{Doable, stepOf};
 ghost use Rattle.undo.specs.GroupCall.{GroupLast, GroupRun, WithSummary, Applied, deedOf, GroupStepped, groupAnswer};
 use apply_deed::change;
+use apply_deed::recount;
 use deeds::deed::Deed;
+use deeds::deed::Doing;
 use deeds::run;
 use deeds::run::Run;
 use definitions::Edited;
 use definitions::refusal::Refusal;
-use edit::recount;
 use log::step as steps;
 
 // Which way a step of the log goes: it is taken back, or redone.
@@ -36,8 +37,8 @@ pub fn last_run(m: u32, log_keys: &[u32], log_values: &[u32], used: usize) -> Ru
     run::run_of(m, log_keys, log_values, last.start, last.end)
 }
 
-// The list becomes that of the deed over its picture, and every count of the summary is counted anew. Gives the number of records; or 0, which no list has,
-// where there is no room.
+// The list becomes that of the deed over its picture, and the summary's blocks that the deed meets are counted anew. Gives the number of records; or 0, which no
+// list has, where there is no room.
 pub fn apply(
     deed: Deed,
     m: u32,
@@ -58,7 +59,8 @@ pub fn apply(
         return 0;
     }
     let after = change::change(deed, log_keys, log_values, m, keys, bits, n);
-    recount::recount(m, s, keys, bits, after, summary, 0);
+    let doing = Doing { m, deed };
+    recount::recount(doing, s, keys, bits, after, log_keys, log_values, summary);
     after
 }
 

@@ -1,15 +1,10 @@
 -- The list with a window filled: what the step of the window makes of the list, and the summary after it. Rests on Changed.
-use Prim.Native.Nat.{ℕ, _^_, _≤_, _<_}
-use mathlib.Core.Path.{_≡_, refl, sym, _∙_}
-use mathlib.Core.Bool.{true, true≢false}
+use Prim.Native.Nat.{ℕ, _≤_}
+use mathlib.Core.Path.{_≡_, refl}
 use mathlib.Core.List.{List}
 use native.Mathlib.Omega.{arith}
 use lib.ListN.{length}
-use Rattle.keys.specs.Key.{slotLimit, rootKey, validKey}
-use Rattle.keys.specs.Block.{inBlock}
-use Rattle.keys.specs.Under.{MapBlock, here}
-use Rattle.keys.proofs.Valid.{block-valid}
-use Rattle.keys.proofs.InBlock.{inBlock-iff}
+use Rattle.keys.specs.Key.{slotLimit}
 use Rattle.definitions.specs.List.{listOfPicture}
 use Rattle.definitions.specs.Read.{room, recordsOf}
 use Rattle.definitions.specs.Edit.{fillWindow}
@@ -21,9 +16,10 @@ use Rattle.replace.specs.Putting.{Replaced}
 use Rattle.deeds.specs.Step.{stepOver}
 use Rattle.deeds.specs.Deed.{windowStep, Painting}
 use Rattle.apply_deed.specs.Change.{Changeable, Changed}
+use Rattle.apply_deed.specs.Recount.{StepOutdated}
+use Rattle.apply_deed.proofs.Recounted.{step-outdated}
 use Rattle.window_paint.specs.PaintWindowCall.{Fillable}
-use Rattle.edit.specs.Recount.{Outdated}
-use Rattle.edit.proofs.Changed.{new-own, new-summary}
+use Rattle.edit.proofs.Changed.{new-own, new-shows, new-summary}
 
 -- the step of a window fills it
 pub step-fills : (m : ℕ) (keys bits : List ℕ) (n : ℕ) (w : Window) (f : ℕ) → listOfPicture m (stepOver (windowStep w f) (shownBy m keys bits n)) ≡ filled m (recordsOf keys bits n) w f
@@ -42,27 +38,14 @@ module _ (m : ℕ) (keys bits : List ℕ) (n : ℕ) (w : Window) (f : ℕ) where
   unfolding stepOver fillWindow filled
   change-fills c = record { length-is = c .length-is; keys-are = c .keys-are; values-are = c .bits-are }
 
--- every pixel of the map lies in the root
-in-root : (m row column : ℕ) → row < 2 ^ m → column < 2 ^ m → inBlock m rootKey row column ≡ true
-in-root m row column h j = inBlock-iff row column here .1 (omega arith)
-
--- the summary from before may be wrong anywhere
+-- the summary from before is right where the step touches nothing
 module _ (s : ℕ) {m n : ℕ} {w : Window} {f : ℕ} {keys bits keys′ bits′ : List ℕ} {after : ℕ} (a : Fillable m keys bits n w f)
     (made : Replaced n (filled m (recordsOf keys bits n) w f) keys bits keys′ bits′ after) where
-  root-valid : validKey m rootKey ≡ true
-  root-valid = let root : MapBlock m m 0 0 0 = here in block-valid root .valid
-
-  pub window-outdated : (summary : List ℕ) → s ≤ slotLimit → summary ≡ summaryOf m s (shownBy m keys bits n) → Outdated m s keys′ bits′ after summary rootKey
-  unfolding filled
-  window-outdated summary few counts = record {
-    deep = a .list .deep;
-    few = few;
-    valid = root-valid;
-    own = new-own m (filledPicture m (recordsOf keys bits n) w f) made;
-    before = shownBy m keys bits n;
-    counts = counts;
-    outside = λ row column h j o. absurd (true≢false (sym (in-root m row column h j) ∙ o));
-  }
+  pub window-outdated : (summary : List ℕ) → s ≤ slotLimit → summary ≡ summaryOf m s (shownBy m keys bits n) → StepOutdated (windowStep w f) m s keys′ bits′ after summary
+  unfolding stepOver fillWindow filled
+  window-outdated summary few counts =
+      step-outdated {t = windowStep w f} (shownBy m keys bits n) (a .list .deep) few (new-own m (filledPicture m (recordsOf keys bits n) w f) made)
+      (new-shows m (filledPicture m (recordsOf keys bits n) w f) made) counts
 
   -- and counted anew it is that of the filled picture
   pub window-counted : (summary′ : List ℕ) → summary′ ≡ summaryOf m s (shownBy m keys′ bits′ after) → summary′ ≡ summaryOf m s (filledPicture m (recordsOf keys bits n) w f)

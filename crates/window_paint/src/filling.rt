@@ -1,4 +1,4 @@
-// The list with a window painted: the step that fills the window, done to the list as one change. Only here is the step named.
+// The list with a window painted: the step that fills the window, done to the list as one change.
 ghost use mathlib.Core.Path.{_≡_};
 ghost use Prim.Native.Nat.{_≤_};
 ghost use lib.ListN.{length};

@@ -8,11 +8,13 @@ ghost use Rattle.window_paint.specs.PaintWindowCall.{Fillable, windowRoo
 use crate::filling;
 use crate::window_blocks;
 use crate::window_logging;
+use apply_deed::recount;
+use deeds::deed::Deed;
+use deeds::deed::Doing;
 use definitions::Edited;
 use definitions::Window;
 use definitions::refusal::Refusal;
 use edit::decision;
-use edit::recount;
 use keys::Key;
 use keys::block;
 use log::group;
@@ -174,7 +176,9 @@ pub fn paint_window(
         in_force,
     );
     let after = filling::fill_window(m, keys, bits, n, log_keys, log_values, window, feature);
-    recount::recount(m, s, keys, bits, after, summary, Key::ROOT);
+    let deed = Deed::Fill(window, feature);
+    let doing = Doing { m, deed };
+    recount::recount(doing, s, keys, bits, after, log_keys, log_values, summary);
     Edited {
         refusal: 0,
         n: after as u64,

@@ -10,7 +10,8 @@ use Rattle.keys.proofs.LastZeros.{keys-height, keys-most}
 use Rattle.keys.proofs.Powers.{five-le}
 use Rattle.keys.proofs.Valid.{valid-below}
 use Rattle.list.specs.Own.{shownBy}
-use Rattle.edit.proofs.Recounted.{CountedUpTo, counted-none, counted-long, counted-all, counted-renewed, counted-kept, outdated-long, test-apart}
+use Rattle.summary.proofs.CountedUpTo.{CountedUpTo, counted-none, counted-long, counted-all, counted-renewed, counted-kept}
+use Rattle.edit.proofs.Recounted.{outdated-long, test-apart}
 use Rattle.edit.proofs.recount.recount.Statement.{statement}
 use Rattle.edit.proofs.recount.recount.Tie as tie
 

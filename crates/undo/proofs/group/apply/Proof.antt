@@ -33,7 +33,7 @@ recount-requires c κs =
     let changed = c .before .before .before .before .before .before .before in
     let room = changed .before .before .before in
     let told = room .before in
-    change-outdated (start told .pre .1) (sym (told .has-room .ensures) ∙ not-false _ (room .if1 .left)) (changed .change .ensures)
+    (start told .pre .0, change-outdated (start told .pre .1) (sym (told .has-room .ensures) ∙ not-false _ (room .if1 .left)) (changed .change .ensures))
 
 same-length-3 : tie.Need-same-length-3
 same-length-3 c = search needs

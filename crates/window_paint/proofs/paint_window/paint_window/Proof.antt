@@ -6,7 +6,7 @@ use Rattle.definitions.specs.Calls.Edit.{editRefusal}
 use Rattle.definitions.specs.Calls.PaintWindow.{paintWindow}
 use Rattle.laws.proofs.Edits.{edit-refused}
 use Rattle.edit.proofs.EditCallTables.{passed-settings, passed-summary}
-use Rattle.window_paint.proofs.WindowFilled.{window-outdated, window-counted}
+use Rattle.window_paint.proofs.WindowFilled.{can-paint, window-outdated, window-counted}
 use Rattle.window_paint.proofs.PaintWindowTable.{WindowPassed, window-sheet, window-fits, window-fillable, window-fresh, window-done}
 use borrow.Author.Needs.{needs}
 use Rattle.window_paint.proofs.paint_window.paint_window.Statement.{statement}
@@ -61,10 +61,12 @@ fill-window-requires c κs =
 
 recount-requires : tie.Need-recount-requires
 recount-requires c κs =
-    let filled = c .before .before .before .before .before .before .before in
+    let filled = c .before .before .before .before .before .before .before .before .before in
     let d = filled .before .before .before .before .before .before .before .before .before .before .before .before .before .before in
-    let p = passed d in
-    window-outdated _ (window-fillable p) (filled .fill-window .ensures) _ (let few = passed-settings (window-sheet p) .few in omega arith) (passed-summary (window-sheet p))
+    let p = passed d in (
+      can-paint (window-fillable p),
+      window-outdated _ (window-fillable p) (filled .fill-window .ensures) _ (let few = passed-settings (window-sheet p) .few in omega arith) (passed-summary (window-sheet p)),
+    )
 
 same-length-6 : tie.Need-same-length-6
 same-length-6 c = search needs
@@ -83,7 +85,7 @@ same-length-10 c = search needs
 
 returns-2 : tie.Need-returns-2
 returns-2 c =
-    let filled = c .before .before .before .before .before .before .before .before .before .before in
+    let filled = c .before .before .before .before .before .before .before .before .before .before .before .before in
     let logged = filled .before .before .before .before .before .before .before .before .before in
     let d = logged .before .before .before .before .before in
     window-done (passed d) (logged .log-window .ensures) (filled .fill-window .ensures)
