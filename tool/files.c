@@ -67,6 +67,18 @@ static void remove_litter(void) {
     if (litter.folder) remove_folder(litter.folder);
 }
 
+static void give_back(char *volatile *name) {
+    char *there = *name;
+    *name = NULL; /* before it is gone, since a signal may come */
+    free(there);
+}
+
+static void end_with_litter(void) {
+    remove_litter();
+    for (int i = 0; i < 8; i++) give_back(&litter.names[i]);
+    give_back(&litter.folder);
+}
+
 /* Ctrl-C and the like. Whoever waits for the tool sees which signal ended it. */
 static void end_by_signal(int number) {
     if (litter.child > 0 && kill(litter.child, SIGTERM) == 0) waitpid(litter.child, NULL, 0);
@@ -80,7 +92,7 @@ enum { ENDINGS = sizeof endings / sizeof *endings };
 static void clean_at_the_end(void) {
     struct sigaction action = { .sa_handler = end_by_signal, .sa_flags = (int)SA_RESETHAND }, old;
     if (litter.registered) return;
-    litter.registered = atexit(remove_litter) == 0;
+    litter.registered = atexit(end_with_litter) == 0;
     for (int i = 0; i < ENDINGS; i++) sigaddset(&action.sa_mask, endings[i]);
     for (int i = 0; i < ENDINGS; i++)
         if (sigaction(endings[i], NULL, &old) == 0 && old.sa_handler != SIG_IGN) sigaction(endings[i], &action, NULL);
@@ -97,10 +109,8 @@ void note_litter(const char *name) {
 
 static void no_litter(const char *name) {
     for (int i = 0; i < 8; i++) {
-        char *there = litter.names[i];
-        if (!there || strcmp(there, name) != 0) continue;
-        litter.names[i] = NULL;
-        free(there);
+        if (!litter.names[i] || strcmp(litter.names[i], name) != 0) continue;
+        give_back(&litter.names[i]);
         return;
     }
 }
