@@ -1,10 +1,9 @@
 /* Files read whole, and outputs that are written beside their place and renamed. */
-#define _GNU_SOURCE
+#define _DEFAULT_SOURCE
 #include "files.h"
 
 #include "tool.h"
 
-#include <dirent.h>
 #include <errno.h>
 #include <fcntl.h>
 #include <signal.h>
@@ -12,6 +11,7 @@
 #include <string.h>
 #include <strings.h>
 #include <sys/stat.h>
+#include <sys/syscall.h>
 #include <sys/wait.h>
 #include <unistd.h>
 
@@ -45,18 +45,23 @@ static struct {
     int registered;
 } litter;
 
-/* By what a signal's handler may call: no opendir. */
+/* A file's name as the kernel gives it, since a signal's handler may not call readdir. */
+typedef struct {
+    uint64_t inode;
+    int64_t offset;
+    unsigned short length; /* of the whole */
+    unsigned char type;
+    char name[];
+} entry;
+
 static void remove_folder(const char *folder) {
-    union {
-        struct dirent64 entry;
-        char bytes[4096];
-    } some;
+    _Alignas(entry) char some[4096];
     int files = open(folder, O_RDONLY | O_DIRECTORY | O_CLOEXEC);
-    for (ssize_t got; files >= 0 && (got = getdents64(files, &some, sizeof some)) > 0;)
-        for (ssize_t at = 0; at < got;) {
-            const struct dirent64 *entry = (const struct dirent64 *)(some.bytes + at);
-            unlinkat(files, entry->d_name, 0); /* . and .. stay */
-            at += entry->d_reclen;
+    for (long got; files >= 0 && (got = syscall(SYS_getdents64, files, some, sizeof some)) > 0;)
+        for (long at = 0; at < got;) {
+            const entry *e = (const entry *)(some + at);
+            unlinkat(files, e->name, 0); /* . and .. stay */
+            at += e->length;
         }
     if (files >= 0) close(files);
     rmdir(folder);
@@ -65,6 +70,18 @@ static void remove_folder(const char *folder) {
 static void remove_litter(void) {
     for (int i = 0; i < 8; i++) if (litter.names[i]) unlink(litter.names[i]);
     if (litter.folder) remove_folder(litter.folder);
+}
+
+static void give_back(char *volatile *name) {
+    char *there = *name;
+    *name = NULL; /* before it is gone, since a signal may come */
+    free(there);
+}
+
+static void end_with_litter(void) {
+    remove_litter();
+    for (int i = 0; i < 8; i++) give_back(&litter.names[i]);
+    give_back(&litter.folder);
 }
 
 /* Ctrl-C and the like. Whoever waits for the tool sees which signal ended it. */
@@ -80,7 +97,7 @@ enum { ENDINGS = sizeof endings / sizeof *endings };
 static void clean_at_the_end(void) {
     struct sigaction action = { .sa_handler = end_by_signal, .sa_flags = (int)SA_RESETHAND }, old;
     if (litter.registered) return;
-    litter.registered = atexit(remove_litter) == 0;
+    litter.registered = atexit(end_with_litter) == 0;
     for (int i = 0; i < ENDINGS; i++) sigaddset(&action.sa_mask, endings[i]);
     for (int i = 0; i < ENDINGS; i++)
         if (sigaction(endings[i], NULL, &old) == 0 && old.sa_handler != SIG_IGN) sigaction(endings[i], &action, NULL);
@@ -97,10 +114,8 @@ void note_litter(const char *name) {
 
 static void no_litter(const char *name) {
     for (int i = 0; i < 8; i++) {
-        char *there = litter.names[i];
-        if (!there || strcmp(there, name) != 0) continue;
-        litter.names[i] = NULL;
-        free(there);
+        if (!litter.names[i] || strcmp(litter.names[i], name) != 0) continue;
+        give_back(&litter.names[i]);
         return;
     }
 }
