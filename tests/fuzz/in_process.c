@@ -233,6 +233,7 @@ static void look_at_end(const told *t) {
     char refused[32];
     snprintf(refused, sizeof refused, "refused, %d: ", s);
     must(known, "a status that no page names");
+    must(s != 75, "a line is locked, and nobody else is there");
     must(s != 71 || memory_ends_at, "memory is said to be missing, and is there");
     int usage = s == 64 && strncmp(t->answer, "usage: ", 7) == 0; /* without any words it tells what it takes */
     must(s == 0 || s == 32 || on_terminal || usage || strncmp(t->message, "prowcurl: ", 10) == 0,
