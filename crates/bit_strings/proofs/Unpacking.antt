@@ -104,9 +104,9 @@ packed-back {bytes} small l rest is spare =
 -- ---- bits, their bytes, and the bits again
 
 -- the first n bits, with zeros past the end
-unfoldable firstBits : ℕ → List Bool → List Bool
-firstBits zero l = []
-firstBits (suc n) l = getD l 0 false ∷ firstBits n (drop 1 l)
+unfoldable pub leadingBits : ℕ → List Bool → List Bool
+leadingBits zero l = []
+leadingBits (suc n) l = getD l 0 false ∷ leadingBits n (drop 1 l)
 
 high-small : (k : ℕ) (l : List Bool) → highFirst k l < 2 ^ k
 high-small zero l = let e = high-none l in omega arith
@@ -138,8 +138,8 @@ unfolding bitsOfByte
 low-bits zero c r n h = refl
 low-bits (suc k) c r n h = ap₂ (λ d l. eqb d 1 ∷ l) (slot-low c r n k h) (low-bits k c r n (omega arith))
 
-byte-back : (k : ℕ) (l : List Bool) → bitsOfByte k (highFirst k l) ≡ firstBits k l
-unfolding bitsOfByte firstBits
+byte-back : (k : ℕ) (l : List Bool) → bitsOfByte k (highFirst k l) ≡ leadingBits k l
+unfolding bitsOfByte leadingBits
 byte-back zero l = refl
 byte-back (suc k) l =
     let c : ℕ = cond (getD l 0 false) 1 0 in
@@ -147,43 +147,43 @@ byte-back (suc k) l =
     let split = high-suc k l in
     ap (λ v. bitsOfByte (suc k) v) split
     ∙ ap₂ (λ d t. eqb (d % 2) 1 ∷ t) (digits-div c (high-small k (drop 1 l))) (low-bits k c r k (omega arith) ∙ byte-back k (drop 1 l))
-    ∙ ap (λ b. b ∷ firstBits k (drop 1 l)) (told (getD l 0 false))
+    ∙ ap (λ b. b ∷ leadingBits k (drop 1 l)) (told (getD l 0 false))
   where
     told : (b : Bool) → eqb (cond {A = ℕ} b 1 0 % 2) 1 ≡ b
     told true = refl
     told false = refl
 
-first-add : (a b : ℕ) (l : List Bool) → firstBits (a + b) l ≡ firstBits a l ++ firstBits b (drop a l)
-unfolding firstBits
-first-add zero b l = ap (λ n. firstBits n l) (zero-add b)
+first-add : (a b : ℕ) (l : List Bool) → leadingBits (a + b) l ≡ leadingBits a l ++ leadingBits b (drop a l)
+unfolding leadingBits
+first-add zero b l = ap (λ n. leadingBits n l) (zero-add b)
 first-add (suc a) b l =
     let e : suc a + b ≡ suc (a + b) = omega arith in
-    ap (λ n. firstBits n l) e
-    ∙ ap (λ r. getD l 0 false ∷ r) (first-add a b (drop 1 l) ∙ ap (λ r. firstBits a (drop 1 l) ++ firstBits b r) (drop-drop a 1 l ∙ ap (λ n. drop n l) one))
+    ap (λ n. leadingBits n l) e
+    ∙ ap (λ r. getD l 0 false ∷ r) (first-add a b (drop 1 l) ∙ ap (λ r. leadingBits a (drop 1 l) ++ leadingBits b r) (drop-drop a 1 l ∙ ap (λ n. drop n l) one))
   where
     one : 1 + a ≡ suc a
     one = omega arith
 
-bits-packed : (n : ℕ) (l : List Bool) → bitsIn (packedIn n l) ≡ firstBits (8 * n) l
-unfolding bitsIn packedIn firstBits
+bits-packed : (n : ℕ) (l : List Bool) → bitsIn (packedIn n l) ≡ leadingBits (8 * n) l
+unfolding bitsIn packedIn leadingBits
 bits-packed zero l = refl
 bits-packed (suc n) l =
     let e : 8 + 8 * n ≡ 8 * suc n = omega arith in
-    ap₂ _++_ (byte-back 8 l) (bits-packed n (drop 8 l)) ∙ sym (first-add 8 (8 * n) l) ∙ ap (λ k. firstBits k l) e
+    ap₂ _++_ (byte-back 8 l) (bits-packed n (drop 8 l)) ∙ sym (first-add 8 (8 * n) l) ∙ ap (λ k. leadingBits k l) e
 
-first-all : (n : ℕ) (l : List Bool) → length l ≤ n → firstBits n l ≡ l ++ firstBits (n - length l) []
-unfolding firstBits
-first-all n [] h = ap (λ k. firstBits k []) (sub-none n)
+first-all : (n : ℕ) (l : List Bool) → length l ≤ n → leadingBits n l ≡ l ++ leadingBits (n - length l) []
+unfolding leadingBits
+first-all n [] h = ap (λ k. leadingBits k []) (sub-none n)
   where
     sub-none : (n : ℕ) → n ≡ n - 0
     sub-none n = omega arith
 first-all zero (b ∷ l) h = absurd (omega arith)
 first-all (suc n) (b ∷ l) h =
     let e : n - length l ≡ suc n - suc (length l) = omega arith in
-    ap (λ r. b ∷ r) (first-all n l (omega arith) ∙ ap (λ k. l ++ firstBits k []) e)
+    ap (λ r. b ∷ r) (first-all n l (omega arith) ∙ ap (λ k. l ++ leadingBits k []) e)
 
-pub zeros-spare : (r : ℕ) → r < 8 → isSpare (firstBits r []) ≡ true
-unfolding isSpare anySet firstBits
+pub zeros-spare : (r : ℕ) → r < 8 → isSpare (leadingBits r []) ≡ true
+unfolding isSpare anySet leadingBits
 zeros-spare zero h = refl
 zeros-spare (suc zero) h = refl
 zeros-spare (suc (suc zero)) h = refl
@@ -203,7 +203,7 @@ pub record Again (l : List Bool) : Type 0 where
 pub again : (l : List Bool) → Again l
 unfolding packed
 again l = record {
-  rest = firstBits (8 * bytesFor (length l) - length l) [];
+  rest = leadingBits (8 * bytesFor (length l) - length l) [];
   is = bits-packed (bytesFor (length l)) l ∙ first-all (8 * bytesFor (length l)) l (omega arith);
   spare = zeros-spare (8 * bytesFor (length l) - length l) (omega arith);
 }

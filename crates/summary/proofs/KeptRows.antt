@@ -101,7 +101,7 @@ module _ {K B : List ℕ} {rows₀ : List (List ℕ)} {places₀ : List ℕ} {at
 
   pub keeping-begins : Keeping K B at key own step area (share / 4) rows₀ places₀ b (at + 1) 0 1
   keeping-begins = record {
-    checked = check.begins K B (at + 1) key own step (asked .node .size, omega (arith, asked .node .there), asked .node .fits) positive;
+    checked = check.turn-begins K B (at + 1) key own step (asked .node .size, omega (arith, asked .node .there), asked .node .fits) positive;
     most = let e = child-shared step area share (asked .shared) many .1 in let h = asked .most in omega arith;
     kept = asked .kept;
   }

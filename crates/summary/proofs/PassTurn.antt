@@ -127,7 +127,7 @@ module _ {K B counts₀ : List ℕ} {at key own step area : ℕ} (asked : PassAs
 
   pub passing-begins : Passing K B counts₀ at key own step area counts₀ (at + 1) 0 1
   passing-begins = record {
-    checked = check.begins K B (at + 1) key own step (asked .node .size, omega (arith, asked .node .there), asked .node .fits) positive;
+    checked = check.turn-begins K B (at + 1) key own step (asked .node .size, omega (arith, asked .node .there), asked .node .fits) positive;
     reached = reached-none B counts₀ at area;
     most = λ f h. omega arith;
   }
