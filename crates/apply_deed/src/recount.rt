@@ -1,4 +1,4 @@
-// The summary after a step (document 02, items 1 and 10): only the blocks that the step meets are counted anew.
+// The summary after a step (specification S8.14): only the blocks that the step meets are counted anew.
 ghost use mathlib.Core.Path.{_≡_};
 ghost use Prim.Native.Nat.{_^_, _≤_, _<_};
 ghost use Rattle.definitions.specs.Area.{summaryLevel, summaryHeight, summaryOf};
