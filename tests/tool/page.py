@@ -217,7 +217,7 @@ def test_picture(tool):
 def test_walk(tool):
     """The five commands of the README, as they stand there, on a GeoTIFF; and its picture is the sample line's."""
     with open(os.path.join(ROOT, "README.md")) as file:
-        text = file.read().split("Five commands", 1)[1]
+        text = file.read().split("## From a GeoTIFF to a page", 1)[1]
     commands = re.search(r"\n\n((?:    .*\n)+)", text).group(1)
     must(len(commands.splitlines()) == 5, "five commands")
     folder = tool.path("walk")
