@@ -376,9 +376,8 @@ hlq_edited hlq_paint_window(uint32_t m, uint32_t s,
  * HLQ_LIST_ROOM is about the end result alone. With the map's own log it comes only where the list
  * lies in less room than it once had, as it may after hlq_load.
  * The time is linear in list and log. A group whose blocks do not ascend, which no call writes, is
- * asked entry by entry, here and in hlq_redo: some 190 instructions for each two of its entries. One
- * of 3,040 entries takes 1.7 billion, a quarter of a second, where in key order it takes 14
- * million. */
+ * asked entry by entry, here and in hlq_redo: some 190 instructions for each two of its entries.
+ * One of 3,040 entries takes 1.7 billion, a quarter of a second, and 14 million in key order. */
 hlq_edited hlq_take_back(uint32_t m, uint32_t s,
                          uint32_t *keys, size_t keys_len, uint32_t *bits, size_t bits_len, size_t n,
                          uint32_t *summary, size_t summary_len,
