@@ -1,4 +1,4 @@
--- The passes one after the other, on the slices. Rests on Waiting, Assembled and deeds's Pruned.
+-- The passes one after the other, on the slices. Rests on Waiting, Assembled and deeds' Pruned.
 use Prim.Native.Nat.{ℕ, _+_, _-_, _*_, _/_, _^_, _≤_}
 use mathlib.Core.Path.{_≡_, sym, _∙_, ap, ap₂}
 use mathlib.Core.Bool.{true}

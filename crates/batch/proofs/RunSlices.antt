@@ -1,4 +1,4 @@
--- The slices of a batch, as `run` and `deeds` take them, and what is owned of them: two that are read, and the two of the answer. Rests on lending's
+-- The slices of a batch, as `run` and `step` take them, and what is owned of them: two that are read, and the two of the answer. Rests on lent_structs'
 -- Slices, Chains and TwoLent.
 --     BatchSlices          the list's keys and bits, and the two answer slices
 --     reads, tokens        what is owned of the two that are read, and their tokens.        reads-twice      what is read is had twice

@@ -1,4 +1,4 @@
--- The call of `deeds` in a turn of `run`: what it is passed, that it is there, and what it gives back. All that is known of `deeds` is its contract; the
+-- The call of `step` in a turn of `run`: what it is passed, that it is there, and what it gives back. All that is known of `step` is its contract; the
 -- rest is the law of a call that is lent two slices, lent_structs's TwoLent.
 use mathlib.Core.Path.{_≡_}
 use Prim.Native.Nat.{ℕ}
@@ -42,11 +42,11 @@ use Rattle.batch.proofs.step.step.Symbol.{name as #step}
 abbrev pub questionVals : Question → List Val
 questionVals = LL.vals Question.the-type Question′.the-laws
 
--- the contract of `deeds`
+-- the contract of `step`
 abbrev pub BatchStep : {M : Type 1} (𝓤 : URA M) (H : Heap 𝓤) (A : Atoms 𝓤) (mem : Memory → SProp 𝓤) (run : Routine → Fun 𝓤) → Contract 𝓤
 BatchStep 𝓤 H A mem run = tripleOf 𝓤 H A step.signature (step.spec 𝓤 H A mem run)
 
--- what the contract of `deeds`, or of `run`, binds of its parameters at exit: of the fourth and the fifth the last elements
+-- what the contract of `step`, or of `run`, binds of its parameters at exit: of the fourth and the fifth the last elements
 abbrev pub Bound : Type 0
 Bound = Unit {0} × (Unit {0} × (Unit {0} × (List ℕ × (List ℕ × (Unit {0} × Unit {0})))))
 
@@ -56,7 +56,7 @@ first-question zs = zs .1 .1 .1 .0
 abbrev pub second-of : Bound → List ℕ
 second-of zs = zs .1 .1 .1 .1 .0
 
--- the machine values that `deeds` is passed
+-- the machine values that `step` is passed
 abbrev passes : BatchSlices → Question → BatchState → List Val
 passes S q r = LL.val Question.the-type Question′.the-laws q ∷ val (S .keys) ∷ val (S .bits) ∷ val (S .refusals) ∷ val (S .values) ∷ questionVal r ∷ []
 

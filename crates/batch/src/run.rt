@@ -1,4 +1,4 @@
-// The loop over the lent questions. Each question is copied out and given to `deeds`, which has all the logic and is covered; the loop itself is walked by
+// The loop over the lent questions. Each question is copied out and given to `step`, which has all the logic and is covered; the loop itself is walked by
 // hand.
 ghost use mathlib.Core.Path.{_≡_};
 ghost use lib.ListN.{length};

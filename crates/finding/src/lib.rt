@@ -1,5 +1,5 @@
 // Sifting: the findings of one rule, in key order, against the keys of the rule's waivers, which ascend too. So one merge decides which are hidden: `waivers`
-// has it. The walk over the window is that of select; what is given goes into `finding`.
+// has it. The walk over the window is that of select; what is given goes into `sift`.
 ghost use mathlib.Core.Path.{_≡_};
 ghost use mathlib.Core.Bool.{true};
 ghost use mathlib.Core.List.{[], _∷_};

@@ -1,4 +1,4 @@
--- A call that is lent the two answer slices for its time, as of `deeds` in `run` and of `run` in `hlq_findings`: it gives both back, with the elements that
+-- A call that is lent the two answer slices for its time, as of `step` in `run` and of `run` in `hlq_findings`: it gives both back, with the elements that
 -- the callee says. Rests on RunSlices and Calling.
 use mathlib.Core.Path.{_≡_, ap, _∙_}
 use Prim.Native.Nat.{ℕ}
@@ -29,7 +29,7 @@ use Rattle.lent_structs.proofs.Slices.{lent, kept, lends, gets-back}
 use Rattle.lent_structs.proofs.Calling.{gave, Gives}
 use Rattle.finding_runs.proofs.RunSlices.{RunSlices, valOf, answers, each-answer, Result}
 
--- what the contract of `deeds`, or of `run`, binds of its parameters at exit: of the sixth and the seventh the last elements
+-- what the contract of `step`, or of `run`, binds of its parameters at exit: of the sixth and the seventh the last elements
 abbrev Bound : Type 0
 Bound = Unit {0} × (Unit {0} × (Unit {0} × (Unit {0} × (Unit {0} × (List ℕ × (List ℕ × (Unit {0} × Unit {0})))))))
 

@@ -1,4 +1,4 @@
--- The slices of a run over the rules, as `run` and `deeds` take them, and what is owned of them: four that are read, and the two of the answer. Rests on
+-- The slices of a run over the rules, as `run` and `step` take them, and what is owned of them: four that are read, and the two of the answer. Rests on
 -- Slices and Chains.
 --     RunSlices            the list's keys and bits, the waivers' ids and keys, and the two answer slices
 --     reads, tokens        what is owned of the four that are read, and their tokens.        reads-twice      what is read is had twice

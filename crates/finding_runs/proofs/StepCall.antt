@@ -1,4 +1,4 @@
--- The call of `deeds` in a turn of `run`: what it is passed, that it is there, and what it gives back. All that is known of `deeds` is its contract; the
+-- The call of `step` in a turn of `run`: what it is passed, that it is there, and what it gives back. All that is known of `step` is its contract; the
 -- rest is the law of a call that is lent the answer slices, LentAnswers.
 use mathlib.Core.Path.{_≡_}
 use Prim.Native.Nat.{ℕ}
@@ -41,11 +41,11 @@ use Rattle.finding_runs.proofs.one_rule.step.Symbol.{name as #step}
 abbrev pub ruleVals : Rule → List Val
 ruleVals = LL.vals Rule.the-type Rule′.the-laws
 
--- the contract of `deeds`
+-- the contract of `step`
 abbrev pub RuleStep : {M : Type 1} (𝓤 : URA M) (H : Heap 𝓤) (A : Atoms 𝓤) (mem : Memory → SProp 𝓤) (run : Routine → Fun 𝓤) → Contract 𝓤
 RuleStep 𝓤 H A mem run = tripleOf 𝓤 H A step.signature (step.spec 𝓤 H A mem run)
 
--- the machine values that `deeds` is passed
+-- the machine values that `step` is passed
 abbrev pub passes : RunSlices → Rule → RunState → List Val
 passes S rule r = LL.val Rule.the-type Rule′.the-laws rule ∷ val (S .keys) ∷ val (S .bits) ∷ val (S .waiver-ids) ∷ val (S .waiver-keys) ∷ val (S .found-ids) ∷ val (S .found-keys) ∷ valOf r ∷ []
 

@@ -1,5 +1,5 @@
 -- The three calls of `hlq_batch`: what each is passed, that it is there, and what it gives back. All that is known of `begin`, `run` and `answer` is their
--- contracts; the rest are the laws of calls in the crate lending (Calling, TwoLent).
+-- contracts; the rest are the laws of calls in the crate lent_structs (Calling, TwoLent).
 use mathlib.Core.Path.{_≡_, refl}
 use Prim.Native.Nat.{ℕ, _^_, _<_}
 use mathlib.Core.List.{List, [], _∷_}

@@ -1,5 +1,5 @@
 -- The four calls of `hlq_findings`: what each is passed, that it is there, and what it gives back. All that is known of `begin`, `run`, `begin_next` and
--- `answer` is their contracts; the rest are the laws of calls in the crate rules (Calling, LentAnswers).
+-- `answer` is their contracts; the rest are the laws of calls in the crate finding_runs (Calling, LentAnswers).
 use mathlib.Core.Path.{_≡_, refl}
 use Prim.Native.Nat.{ℕ, _^_, _<_}
 use mathlib.Core.List.{List, [], _∷_}

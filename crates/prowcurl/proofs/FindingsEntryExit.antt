@@ -1,5 +1,5 @@
 -- The entry and the exit of `hlq_findings`: what its parameters own at entry is taken apart into what the walk holds, and what the walk holds at the end
--- gives what the contract asks. Rests on RunSlices of the crate rules.
+-- gives what the contract asks. Rests on RunSlices of the crate finding_runs.
 use mathlib.Core.Path.{_≡_}
 use Prim.Native.Nat.{ℕ}
 use mathlib.Core.List.{List, [], _∷_}

@@ -1,4 +1,4 @@
--- The entries of a group as a run of crate step, and what the deed over them makes of a picture. Rests on log's GroupEntries and deeds's PutBack.
+-- The entries of a group as a run of crate deeds, and what the deed over them makes of a picture. Rests on log's GroupEntries and deeds' PutBack.
 use Prim.Native.Nat.{ℕ, suc, _-_, _≤_}
 use mathlib.Core.Path.{_≡_, sym, _∙_, ap, ap₂, subst}
 use mathlib.Core.List.{List}

@@ -1,4 +1,4 @@
--- What the functions that change a list by a group of entries ask and leave. Only contracts need these. Rests on the runs and steps of crate step.
+-- What the functions that change a list by a group of entries ask and leave. Only contracts need these. Rests on the runs and steps of crate deeds.
 use Prim.Native.Nat.{ℕ, _≤_, _<_}
 use mathlib.Core.Path.{_≡_}
 use mathlib.Core.Bool.{true, cond}

@@ -1,4 +1,4 @@
--- `finding` meets its contract: what is settled of the block says whether it is counted as hidden or written.
+-- `sift` meets its contract: what is settled of the block says whether it is counted as hidden or written.
 use mathlib.Core.Path.{refl, sym, _∙_}
 use borrow.Author.Needs.{needs}
 use Rattle.finding.proofs.Merge.{counted-hidden, counted-live}

@@ -1,5 +1,5 @@
 -- `run::run` meets its contract: a walk of its MIR, by hand, since it takes a lent slice of structs. In each turn the question at i is copied out of the
--- lent slice and passed to `deeds`. Rests on RunEntryExit, RunTurns (what holds before a turn), StepCall (the call of `deeds`), and lending's laws.
+-- lent slice and passed to `step`. Rests on RunEntryExit, RunTurns (what holds before a turn), StepCall (the call of `step`), and lent_structs' laws.
 -- The numbers in the walk are places in the list of what is held. `at n i` is the place of local i when n things stand before the locals. The locals:
 -- 0 the answer, 1 questions, 2 keys, 3 bits, 4 refusals, 5 values, 6 state, 7 st, 8 i; 9 a number, 10 the test, 11 where the question lies, 12 the
 -- question, 13 and 14 refusals written again, 15 and 16 values written again.

@@ -1,5 +1,5 @@
 -- `all_rules::run` meets its contract: a walk of its MIR, by hand, since it takes a lent slice of structs. In each turn the rule at i is copied out of the lent
--- slice and passed to `deeds`. Rests on RunEntryExit, RunTurns (what holds before a turn), StepCall (the call of `deeds`), and the laws of locals and slices.
+-- slice and passed to `step`. Rests on RunEntryExit, RunTurns (what holds before a turn), StepCall (the call of `step`), and the laws of locals and slices.
 -- The numbers in the walk are places in the list of what is held. `at n i` is the place of local i when n things stand before the locals. The locals:
 -- 0 the answer, 1 rules, 2 keys, 3 bits, 4 waiver_ids, 5 waiver_keys, 6 found_ids, 7 found_keys, 8 state, 9 st, 10 i; 11 a number, 12 the test, 13 where
 -- the rule lies, 14 the rule, 15 and 16 found_ids written again, 17 and 18 found_keys written again.

@@ -1,5 +1,5 @@
 -- `findings::hlq_findings` meets its contract: a walk of its MIR, by hand, since it takes a lent slice of structs. A state is made, and passed from call to
--- call. Rests on FindingsEntryExit, on FindingsCalls (the four functions that are called), and on the laws of locals and slices in the crate rules; what the
+-- call. Rests on FindingsEntryExit, on FindingsCalls (the four functions that are called), and on the laws of locals and slices in the crate finding_runs; what the
 -- calls come to is the law of Answer.
 -- The numbers in the walk are places in the list of what is held. `at n i` is the place of local i when n things stand before the locals. The locals:
 -- 0 the answer, 1 m, 2 s, 3 keys, 4 bits, 5 n, 6 office, 7 rules, 8 offices, 9 ids, 10 waived, 11 rows, 12 found_ids, 13 found_keys, 14 checking, 15 checked,

@@ -1,5 +1,5 @@
 -- `questions::hlq_batch` meets its contract: a walk of its MIR, by hand, since it takes a lent slice of structs. A state is made, and passed from call to
--- call. Rests on BatchEntryExit, on BatchCalls (the three functions that are called), and on the laws of locals and slices in the crate lending; what the
+-- call. Rests on BatchEntryExit, on BatchCalls (the three functions that are called), and on the laws of locals and slices in the crate lent_structs; what the
 -- calls come to is the law of Answered in the crate batch.
 -- The numbers in the walk are places in the list of what is held. `at n i` is the place of local i when n things stand before the locals. The locals:
 -- 0 the answer, 1 m, 2 s, 3 keys, 4 bits, 5 n, 6 questions, 7 refusals, 8 values, 9 begun, 10 asked; 11 to 13 the three lengths, 14 to 17 refusals and
