@@ -1,5 +1,4 @@
 pub mod Pruned
-pub mod QuarterSums
 pub mod SameBefore
 pub mod LeafChild
 pub mod Meetings

@@ -1,4 +1,3 @@
-pub mod Quarters
 pub mod Step
 pub mod Meeting
 pub mod Runs

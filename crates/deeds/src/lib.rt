@@ -4,5 +4,4 @@ pub mod deed;
 mod entries;
 mod fill;
 pub mod meeting;
-pub mod quarters;
 pub mod run;
