@@ -8,23 +8,8 @@ use Rattle.keys.specs.Key.{digits_of, digits_before_zero, level_of}
 use Rattle.keys.proofs.Cases.{split}
 use Rattle.keys.proofs.Powers.{five_pos}
 use Rattle.keys.proofs.Descent.{one_less, power_down, level_stops, level_goes}
-use Rattle.keys.proofs.Key.level.Statement.{statement}
-use Rattle.keys.proofs.Key.level.Tie as tie
-
--- the digits that a number of so many digits has before its first zero
-abbrev before : ℕ → ℕ → ℕ
-before k x = digits_before_zero (digits_of k x)
-
-record Passed (m whole rest step level : ℕ) : Type 0 where
-  within : level ≤ m
-  power : step ≡ 5 ^ (m - level)
-  found : before m whole ≡ level + before (m - level) rest
-
-abbrev invariant-loop : tie.invariant-loop
-invariant-loop m rest₀ step₀ level₀ rest step level = Passed m rest₀ rest step level
-
-abbrev decreases-loop : tie.decreases-loop
-decreases-loop m rest₀ step₀ level₀ rest step level = m - level
+use Rattle.keys.proofs.Key.level.Invariants.{before, Passed}
+use Rattle.keys.proofs.Key.level.Goals as goal
 
 begins : (m whole step : ℕ) → step ≡ 5 ^ m → Passed m whole whole step 0
 begins m whole step e =
@@ -67,35 +52,31 @@ ends {m} {whole} {rest} {step} {level} p h =
     let e = ap (λ (k : ℕ). before k rest) none in
     omega (arith, p.found)
 
-power-of-five-requires : tie.Need-power-of-five-requires invariant-loop decreases-loop
-power-of-five-requires c κs = omega (arith, c.requires)
+pub power_of_five-step-requires : goal.power_of_five-step-requires
+power_of_five-step-requires c = omega (arith, c.requires)
 
-loop-holds : tie.Need-loop-init invariant-loop decreases-loop
-loop-holds c = begins _ _ _ c.power-of-five.ensures
+pub loop-level-init : goal.loop-level-init
+loop-level-init c = begins _ _ _ c.power_of_five-step.ensures
 
-div-digit : tie.Need-nonzero-div-digit invariant-loop decreases-loop
-div-digit c = nonzero c.before.loop.invariant c.loop-test.true
+pub nonzero_div-digit : goal.nonzero_div-digit
+nonzero_div-digit c = nonzero c.loop-level.invariant c.loop-level-test.true
 
-returns : tie.Need-returns invariant-loop decreases-loop
+pub returns-then-digit-eq0 : goal.returns-then-digit-eq0
 unfolding level_of
-returns c = stops c.before.before.loop.invariant c.before.loop-test.true c.if1.true
+returns-then-digit-eq0 c = stops c.loop-level.invariant c.loop-level-test.true c.if-digit-eq0.true
 
-rem-rest : tie.Need-nonzero-rem-rest invariant-loop decreases-loop
-rem-rest c = nonzero c.before.before.loop.invariant c.before.loop-test.true
+pub nonzero_rem-rest : goal.nonzero_rem-rest
+nonzero_rem-rest c = nonzero c.loop-level.invariant c.loop-level-test.true
 
-add-level : tie.Need-overflow-add-level invariant-loop decreases-loop
-add-level c = omega arith
+pub overflow_add-level : goal.overflow_add-level
+overflow_add-level c = omega arith
 
-loop-less : tie.Need-loop-smaller invariant-loop decreases-loop
-loop-less c = omega arith
+pub loop-level-smaller : goal.loop-level-smaller
+loop-level-smaller c = omega arith
 
-loop-again : tie.Need-loop-preserved invariant-loop decreases-loop
-loop-again c = goes c.before.before.loop.invariant c.before.loop-test.true c.if1.false
+pub loop-level-preserved : goal.loop-level-preserved
+loop-level-preserved c = goes c.loop-level.invariant c.loop-level-test.true c.if-digit-eq0.false
 
-returns-2 : tie.Need-returns-2 invariant-loop decreases-loop
+pub returns : goal.returns
 unfolding level_of
-returns-2 c = ends c.before.loop.invariant c.loop-test.false
-
-pub level-spec : {M : Type 1} → statement M
-level-spec =
-    tie.close (tie.spec invariant-loop decreases-loop power-of-five-requires loop-holds div-digit returns rem-rest add-level loop-less loop-again returns-2)
+returns c = ends c.loop-level.invariant c.loop-level-test.false

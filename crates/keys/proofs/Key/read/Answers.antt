@@ -16,25 +16,9 @@ use Rattle.keys.proofs.LastZeros.{zeros_most, zeros_divide, zeros_height, zeros_
 use Rattle.keys.proofs.LastDigit.{rest_below, full_goes, full_stops, full_over}
 use Rattle.keys.proofs.FromRight.{digits_before, row_right, column_right}
 use Rattle.keys.proofs.Valid.{valid_below}
-use Rattle.keys.proofs.Key.read.Statement.{statement}
-use Rattle.keys.proofs.Key.read.Tie as tie
-
-record Passed (m κ rest side row column i : ℕ) : Type 0 where
-  within : i ≤ m
-  left : rest ≡ κ / 5 ^ i
-  sides : side ≡ 2 ^ i
-  row_small : row < side
-  column_small : column < side
-  row_found : row ≡ row_of i (κ % 5 ^ i)
-  column_found : column ≡ column_of i (κ % 5 ^ i)
-  below : rest < 5 ^ (m - i)
-  validity : valid_key m κ ≡ eqb (level_of (m - i) rest) (m - i)
-
-abbrev invariant-loop : tie.invariant-loop
-invariant-loop m number whole rest₀ side₀ row₀ column₀ i₀ rest side row column i = Passed m number rest side row column i
-
-abbrev decreases-loop : tie.decreases-loop
-decreases-loop m number whole rest₀ side₀ row₀ column₀ i₀ rest side row column i = m - i
+use Rattle.keys.proofs.Key.read.Invariants.{Passed}
+use Rattle.keys.proofs.Key.read.Goals as goal
+use Rattle.keys.proofs.Key.read.Goals.{After-eastward-column}
 
 -- a turn leaves one level less
 one_off : (m i : ℕ) → i < m → m - (i + 1) ≡ m - i - 1
@@ -107,116 +91,93 @@ no_key m κ e = rw e (refl, refl, refl, refl)
 too_large : (m κ : ℕ) → 5 ^ m ≤ κ → valid_key m κ ≡ false
 too_large m κ h = decide (valid_key m κ) (λ t. absurd (let b = valid_below m κ t in omega arith)) (λ f. f)
 
-power-of-five-requires : tie.Need-power-of-five-requires invariant-loop decreases-loop
-power-of-five-requires c κs = omega (arith, c.requires)
+pub power_of_five-requires : goal.power_of_five-requires
+power_of_five-requires c = omega (arith, c.requires)
 
-returns : tie.Need-returns invariant-loop decreases-loop
-returns c = no_key _ _ (too_large _ _ (omega (arith, c.before.power-of-five.ensures, c.if1.true)))
+pub returns-then-power_of_five-number : goal.returns-then-power_of_five-number
+returns-then-power_of_five-number c = no_key _ _ (too_large _ _ (omega (arith, c.power_of_five.ensures, c.if-power_of_five-number.true)))
 
-at-end-requires : tie.Need-at-end-requires invariant-loop decreases-loop
-at-end-requires c κs = c.before.before.requires
+pub at_end-end-requires : goal.at_end-end-requires
+at_end-end-requires c = c.requires
 
-power-of-two-requires : tie.Need-power-of-two-requires invariant-loop decreases-loop
-power-of-two-requires c κs =
+pub power_of_two-whole-requires : goal.power_of_two-whole-requires
+power_of_two-whole-requires c =
     let start = c.before.before.before in
     let h = zeros_most start.args.m start.args.self.number in
-    omega (arith, start.requires, c.at_end.ensures.0)
+    omega (arith, start.requires, c.at_end-end.ensures.0)
 
-div-rest : tie.Need-nonzero-div-rest invariant-loop decreases-loop
-div-rest c =
+pub nonzero_div-rest : goal.nonzero_div-rest
+nonzero_div-rest c =
     let start = c.before.before.before.before.before in
     let some = five_pos (zeros_at_end start.args.m start.args.self.number) in
-    omega (arith, c.before.before.at_end.ensures.1)
+    omega (arith, c.at_end-end.ensures.1)
 
-loop-holds : tie.Need-loop-init invariant-loop decreases-loop
-loop-holds c =
-    let found = c.before.before.at_end.ensures in
+pub loop-i-init : goal.loop-i-init
+loop-i-init c =
+    let found = c.at_end-end.ensures in
     let small = c.before.before.before in
-    begins _ _ _ _ _ (omega (arith, small.before.power-of-five.ensures, small.if1.false)) found.0 found.1 c.before.power-of-two.ensures
+    begins _ _ _ _ _ (omega (arith, small.power_of_five.ensures, small.if-power_of_five-number.false)) found.0 found.1 c.power_of_two-whole.ensures
 
-returns-2 : tie.Need-returns-2 invariant-loop decreases-loop
-returns-2 c =
-    let l = c.before.before.loop in
-    no_key _ _ (l.invariant.validity ∙ full_stops _ _ (omega (arith, c.before.loop-test.true)) l.invariant.below c.if2.true)
+pub returns-then-rest-eq0 : goal.returns-then-rest-eq0
+returns-then-rest-eq0 c =
+    let l = c.loop-i in
+    no_key _ _ (l.invariant.validity ∙ full_stops _ _ (omega (arith, c.loop-i-test.true)) l.invariant.below c.if-rest-eq0.true)
 
-southward-requires : tie.Need-southward-requires invariant-loop decreases-loop
-southward-requires c κs = tt
+pub southward-row-requires : goal.southward-row-requires
+southward-row-requires c = tt
 
-add_row : tie.Need-overflow-add-row invariant-loop decreases-loop
-add_row c =
-    let l = c.before.before.before.loop in
-    let q = at_most c.southward.result (is_south (l.rest % 5)) l.side c.southward.ensures in
-    let t = room l.invariant c.before.before.loop-test.true c.before.before.before.before.before.before.before.before.before.requires in
+pub overflow_add-row : goal.overflow_add-row
+overflow_add-row c =
+    let l = c.loop-i in
+    let q = at_most c.southward-row.result (is_south (l.rest % 5)) l.side c.southward-row.ensures in
+    let t = room l.invariant c.loop-i-test.true c.requires in
     omega (arith, l.invariant.row_small)
 
-eastward-requires : tie.Need-eastward-requires invariant-loop decreases-loop
-eastward-requires c κs = tt
+pub eastward-column-requires : goal.eastward-column-requires
+eastward-column-requires c = tt
 
 -- the turn that a quadrant's two parts end
 abbrev Turn : Type 0
-Turn = tie.After-eastward invariant-loop decreases-loop
+Turn = After-eastward-column
 
-turn_room : (c : Turn) → c.before.before.before.before.loop.side ≤ 512
+turn_room : (c : Turn) → c.loop-i.side ≤ 512
 turn_room c =
     let l = c.before.before.before.before in
-    room l.loop.invariant c.before.before.before.loop-test.true l.before.before.before.before.before.before.requires
+    room l.loop-i.invariant c.loop-i-test.true l.requires
 
-add-column : tie.Need-overflow-add-column invariant-loop decreases-loop
-add-column c =
-    let l = c.before.before.before.before.loop in
-    let q = at_most c.eastward.result (is_east (l.rest % 5)) l.side c.eastward.ensures in
+pub overflow_add-column : goal.overflow_add-column
+overflow_add-column c =
+    let l = c.loop-i in
+    let q = at_most c.eastward-column.result (is_east (l.rest % 5)) l.side c.eastward-column.ensures in
     let t = turn_room c in
     omega (arith, l.invariant.column_small)
 
-mul-side : tie.Need-overflow-mul-side invariant-loop decreases-loop
-mul-side c = let t = turn_room c in omega arith
+pub overflow_mul-side : goal.overflow_mul-side
+overflow_mul-side c = let t = turn_room c in omega arith
 
-add-i : tie.Need-overflow-add-i invariant-loop decreases-loop
-add-i c = omega (arith, c.before.before.before.loop-test.true, c.before.before.before.before.before.before.before.before.before.before.requires)
+pub overflow_add-i : goal.overflow_add-i
+overflow_add-i c = omega (arith, c.loop-i-test.true, c.requires)
 
-loop-less : tie.Need-loop-smaller invariant-loop decreases-loop
-loop-less c = omega (arith, c.before.before.before.loop-test.true)
+pub loop-i-smaller : goal.loop-i-smaller
+loop-i-smaller c = omega (arith, c.loop-i-test.true)
 
-loop-again : tie.Need-loop-preserved invariant-loop decreases-loop
-loop-again c =
-    goes c.before.before.before.before.loop.invariant c.before.before.before.loop-test.true _ _ c.before.before.if2.false
-    c.before.southward.ensures
-    c.eastward.ensures
+pub loop-i-preserved : goal.loop-i-preserved
+loop-i-preserved c =
+    goes c.loop-i.invariant c.loop-i-test.true _ _ c.if-rest-eq0.false
+    c.southward-row.ensures
+    c.eastward-column.ensures
 
 -- all digits are read
 a_key : (m κ row column side : ℕ) → valid_key m κ ≡ true → Found m κ row column → side ≡ side_of m κ
     → (true ≡ valid_key m κ) × (row ≡ cond (valid_key m κ) (row_of m κ) 0) × (column ≡ cond (valid_key m κ) (column_of m κ) 0) × (side ≡ cond (valid_key m κ) (side_of m κ) 0)
 a_key m κ row column side e f s = rw e (refl, f.row_is, f.column_is, s)
 
-returns-3 : tie.Need-returns-3 invariant-loop decreases-loop
+pub returns : goal.returns
 unfolding side_of
-returns-3 c =
-    let l = c.before.loop.invariant in
+returns c =
+    let l = c.loop-i.invariant in
     let told = c.before.before.before in
     let found = told.before in
-    let valid = l.validity ∙ full_over _ _ (omega (arith, c.loop-test.false)) in
-    a_key _ _ _ _ _ valid (ends l c.loop-test.false (valid_below _ _ valid))
-    (told.power-of-two.ensures ∙ ap (λ k. 2 ^ k) (found.at_end.ensures.0 ∙ zeros_height _ _ valid))
-
-pub read_spec : {M : Type 1} → statement M
-read_spec =
-    tie.close
-    (tie.spec
-    invariant-loop
-    decreases-loop
-    power-of-five-requires
-    returns
-    at-end-requires
-    power-of-two-requires
-    div-rest
-    loop-holds
-    returns-2
-    southward-requires
-    add_row
-    eastward-requires
-    add-column
-    mul-side
-    add-i
-    loop-less
-    loop-again
-    returns-3)
+    let valid = l.validity ∙ full_over _ _ (omega (arith, c.loop-i-test.false)) in
+    a_key _ _ _ _ _ valid (ends l c.loop-i-test.false (valid_below _ _ valid))
+    (told.power_of_two-whole.ensures ∙ ap (λ k. 2 ^ k) (found.at_end-end.ensures.0 ∙ zeros_height _ _ valid))

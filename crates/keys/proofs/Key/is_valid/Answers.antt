@@ -8,8 +8,7 @@ use borrow.Author.Tests.{le-ltb}
 use Rattle.keys.specs.Key.{valid_key}
 use Rattle.keys.specs.Under.{here}
 use Rattle.keys.proofs.Valid.{block_valid}
-use Rattle.keys.proofs.Key.is_valid.Statement.{statement}
-use Rattle.keys.proofs.Key.is_valid.Tie as tie
+use Rattle.keys.proofs.Key.is_valid.Goals as goal
 
 too_large : (m κ : ℕ) → 5 ^ m ≤ κ → false ≡ valid_key m κ
 unfolding valid_key
@@ -19,20 +18,17 @@ too_large m κ h = simp (le-ltb κ (5 ^ m) h)
 root : (m κ : ℕ) → κ ≡ 0 → true ≡ valid_key m κ
 root m κ e = sym (ap (valid_key m) e ∙ (block_valid {m = m} {k = m} {r = 0} {c = 0} {κ = 0} here).valid)
 
-returns : tie.Need-returns
-returns c = root _ _ c.if1.true
+pub returns-then-self-eq0 : goal.returns-then-self-eq0
+returns-then-self-eq0 c = root _ _ c.if-self-eq0.true
 
-power-of-five-requires : tie.Need-power-of-five-requires
-power-of-five-requires c κs = search rules
+pub power_of_five-requires : goal.power_of_five-requires
+power_of_five-requires c = search rules
 
-returns-2 : tie.Need-returns-2
-returns-2 c = too_large _ _ (omega arith)
+pub returns-then-power_of_five-self : goal.returns-then-power_of_five-self
+returns-then-power_of_five-self c = too_large _ _ (omega arith)
 
-only-at-end-requires : tie.Need-only-at-end-requires
-only-at-end-requires c κs = search rules
+pub only_at_end-requires : goal.only_at_end-requires
+only_at_end-requires c = search rules
 
-returns-3 : tie.Need-returns-3
-returns-3 c = search rules
-
-pub is-valid-spec : {M : Type 1} → statement M
-is-valid-spec = tie.close (tie.spec returns power-of-five-requires returns-2 only-at-end-requires returns-3)
+pub returns : goal.returns
+returns c = search rules

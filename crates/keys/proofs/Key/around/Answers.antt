@@ -9,20 +9,9 @@ use Rattle.keys.specs.Block.{pixel_key, key_around}
 use Rattle.keys.proofs.Powers.{five_pos, five_le}
 use Rattle.keys.proofs.Pixel.{pixel_key-lt}
 use Rattle.keys.proofs.PixelBits.{binary_digit, pixel_bits}
-use Rattle.keys.proofs.Key.around.Statement.{statement}
-use Rattle.keys.proofs.Key.around.Tie as tie
-
-record Passed (m row column last number left : ℕ) : Type 0 where
-  within : left ≤ m
-  far : last ≤ left
-  small : number < 5 ^ (m - left)
-  found : pixel_key m row column ≡ number * 5 ^ left + pixel_key left (row % 2 ^ left) (column % 2 ^ left)
-
-abbrev invariant-loop : tie.invariant-loop
-invariant-loop m level row column last number₀ left₀ number left = Passed m row column last number left
-
-abbrev decreases-loop : tie.decreases-loop
-decreases-loop m level row column last number₀ left₀ number left = left
+use Rattle.keys.proofs.Key.around.Invariants.{Passed}
+use Rattle.keys.proofs.Key.around.Goals as goal
+use Rattle.keys.proofs.Key.around.Goals.{After-power_of_five-step}
 
 begins : (m row column last : ℕ) → last ≤ m → row < 2 ^ m → column < 2 ^ m → Passed m row column last 0 m
 begins m row column last far low narrow =
@@ -85,49 +74,49 @@ ends {m} {row} {column} {last} {number} {left} p h =
 fits : {m row column last number left : ℕ} → m ≤ 10 → Passed m row column last number left → last < left → number * 5 + digit_of (left - 1) row column < 5 ^ 10
 fits {m} {left = left} ten p h = let s = small_again p h in let g : m - (left - 1) ≤ 10 = omega arith in let f = five_le 10 g in omega arith
 
-sub-last : tie.Need-overflow-sub-last invariant-loop decreases-loop
-sub-last c = c.requires.1
+pub overflow_sub-last : goal.overflow_sub-last
+overflow_sub-last c = c.requires.1
 
-loop-holds : tie.Need-loop-init invariant-loop decreases-loop
-loop-holds c = begins _ _ _ _ (omega arith) c.requires.2 c.requires.3
+pub loop-left-init : goal.loop-left-init
+loop-left-init c = begins _ _ _ _ (omega arith) c.requires.2 c.requires.3
 
-sub-left : tie.Need-overflow-sub-left invariant-loop decreases-loop
-sub-left c = omega (arith, c.loop-test.true)
+pub overflow_sub-left : goal.overflow_sub-left
+overflow_sub-left c = omega (arith, c.loop-left-test.true)
 
-shr-south : tie.Need-overflow-shr-south invariant-loop decreases-loop
-shr-south c = omega (arith, c.before.loop.invariant.within, c.before.before.requires.0)
+pub overflow_shr-south : goal.overflow_shr-south
+overflow_shr-south c = omega (arith, c.loop-left.invariant.within, c.requires.0)
 
-shr-east : tie.Need-overflow-shr-east invariant-loop decreases-loop
-shr-east c = omega (arith, c.before.loop.invariant.within, c.before.before.requires.0)
+pub overflow_shr-east : goal.overflow_shr-east
+overflow_shr-east c = omega (arith, c.loop-left.invariant.within, c.requires.0)
 
-mul-number : tie.Need-overflow-mul-number invariant-loop decreases-loop
-mul-number c = let h = fits c.before.before.requires.0 c.before.loop.invariant c.loop-test.true in omega arith
+pub overflow_mul-number : goal.overflow_mul-number
+overflow_mul-number c = let h = fits c.requires.0 c.loop-left.invariant c.loop-left-test.true in omega arith
 
-add-number : tie.Need-overflow-add-number invariant-loop decreases-loop
-add-number c = let h = four c.before.loop.invariant c.loop-test.true in omega arith
+pub overflow_add-number : goal.overflow_add-number
+overflow_add-number c = let h = four c.loop-left.invariant c.loop-left-test.true in omega arith
 
-mul-number-2 : tie.Need-overflow-mul-number-2 invariant-loop decreases-loop
-mul-number-2 c = let h = four c.before.loop.invariant c.loop-test.true in omega arith
+pub overflow_mul-number-in-loop-left : goal.overflow_mul-number-in-loop-left
+overflow_mul-number-in-loop-left c = let h = four c.loop-left.invariant c.loop-left-test.true in omega arith
 
-add-number-2 : tie.Need-overflow-add-number-2 invariant-loop decreases-loop
-add-number-2 c = let h = four c.before.loop.invariant c.loop-test.true in omega arith
+pub overflow_add-number-in-loop-left : goal.overflow_add-number-in-loop-left
+overflow_add-number-in-loop-left c = let h = four c.loop-left.invariant c.loop-left-test.true in omega arith
 
-add-number-3 : tie.Need-overflow-add-number-3 invariant-loop decreases-loop
-add-number-3 c = let h = fits c.before.before.requires.0 c.before.loop.invariant c.loop-test.true in omega arith
+pub overflow_add-number-in-loop-left-2 : goal.overflow_add-number-in-loop-left-2
+overflow_add-number-in-loop-left-2 c = let h = fits c.requires.0 c.loop-left.invariant c.loop-left-test.true in omega arith
 
-loop-less : tie.Need-loop-smaller invariant-loop decreases-loop
-loop-less c = omega (arith, c.loop-test.true)
+pub loop-left-smaller : goal.loop-left-smaller
+loop-left-smaller c = omega (arith, c.loop-left-test.true)
 
-loop-again : tie.Need-loop-preserved invariant-loop decreases-loop
-loop-again c = goes c.before.loop.invariant c.loop-test.true
+pub loop-left-preserved : goal.loop-left-preserved
+loop-left-preserved c = goes c.loop-left.invariant c.loop-left-test.true
 
-power-of-five-requires : tie.Need-power-of-five-requires invariant-loop decreases-loop
-power-of-five-requires c κs = omega (arith, c.before.before.requires.0)
+pub power_of_five-step-requires : goal.power_of_five-step-requires
+power_of_five-step-requires c = omega (arith, c.requires.0)
 
 -- the key, as the definition has it
-key : (c : tie.After-power-of-five invariant-loop decreases-loop) → c.before.before.loop.number * c.power-of-five.result ≡ key_around c.before.before.before.args.m c.before.before.before.args.level c.before.before.before.args.row c.before.before.before.args.column
+key : (c : After-power_of_five-step) → c.loop-left.number * c.power_of_five-step.result ≡ key_around c.args.m c.args.level c.args.row c.args.column
 unfolding key_around
-key c = ap (λ (x : ℕ). c.before.before.loop.number * x) c.power-of-five.ensures ∙ ends c.before.before.loop.invariant c.before.loop-test.false
+key c = ap (λ (x : ℕ). c.loop-left.number * x) c.power_of_five-step.ensures ∙ ends c.loop-left.invariant c.loop-left-test.false
 
 around_fits : (m level row column : ℕ) → m ≤ 10 → key_around m level row column < 5 ^ 10
 unfolding key_around
@@ -137,14 +126,11 @@ around_fits m level row column ten =
     let f = five_le 10 ten in
     omega arith
 
-mul-t16 : tie.Need-overflow-mul-t16 invariant-loop decreases-loop
-mul-t16 c =
+pub overflow_mul-result : goal.overflow_mul-result
+overflow_mul-result c =
     let a = c.before.before.before in
     let h = around_fits a.args.m a.args.level a.args.row a.args.column a.requires.0 in
     omega (arith, key c)
 
-returns : tie.Need-returns invariant-loop decreases-loop
+pub returns : goal.returns
 returns c = key c
-
-pub around-spec : {M : Type 1} → statement M
-around-spec = tie.close (tie.spec invariant-loop decreases-loop sub-last loop-holds sub-left shr-south shr-east mul-number add-number mul-number-2 add-number-2 add-number-3 loop-less loop-again power-of-five-requires mul-t16 returns)

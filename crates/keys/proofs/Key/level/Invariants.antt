@@ -1,0 +1,28 @@
+-- `Key::level` meets its contract: after each turn the level is the digits passed and those that the rest has before its first zero.
+use Prim.Native.Nat.{ℕ, ◌+◌, ◌-◌, ◌*◌, ◌/◌, ◌%◌, ◌^◌, ◌≤◌, ◌<◌}
+use mathlib.Core.Path.{◌≡◌, sym, ap, ◌∙◌}
+use native.Mathlib.Omega.{arith}
+use native.Mathlib.Nat.{add-zero, zero-add, div-lt_iff_lt-mul, div-eq_of_lt}
+use lib.Dec.{lit<}
+use Rattle.keys.specs.Key.{digits_of, digits_before_zero, level_of}
+use Rattle.keys.proofs.Cases.{split}
+use Rattle.keys.proofs.Powers.{five_pos}
+use Rattle.keys.proofs.Descent.{one_less, power_down, level_stops, level_goes}
+use Rattle.keys.proofs.Key.level.Given as goal
+
+-- the digits that a number of so many digits has before its first zero
+abbrev pub before : ℕ → ℕ → ℕ
+before k x = digits_before_zero (digits_of k x)
+
+pub record Passed (m whole rest step level : ℕ) : Type 0 where
+  pub within : level ≤ m
+  pub power : step ≡ 5 ^ (m - level)
+  pub found : before m whole ≡ level + before (m - level) rest
+
+abbrev pub invariant-loop-level : goal.invariant-loop-level
+invariant-loop-level l =
+    Passed l.m l.initial.rest l.rest l.step l.level
+
+abbrev pub decreases-loop-level : goal.decreases-loop-level
+decreases-loop-level l =
+    l.m - l.level
