@@ -18,7 +18,7 @@ returns-then-step-eq5 c =
 
 pub returns-then-step-ne1 : goal.returns-then-step-ne1
 returns-then-step-ne1 c =
-    let s = c.before.before.before.before in
+    let s = c.before.before.before.before.before in
     let a = s.args in
     (omega arith, pixel a.keys.now a.bits.now a.first a.key a.own a.step s.requires.2 c.if-step-eq5.false c.if-step-ne1.true)
 

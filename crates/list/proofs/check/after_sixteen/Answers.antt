@@ -25,7 +25,7 @@ bounds-keys-next c = omega arith
 
 pub returns-then-keys-next-2 : goal.returns-then-keys-next-2
 returns-then-keys-next-2 c =
-    let k = c.before.before in
+    let k = c.before.before.before in
     let e = k.before in
     (omega arith, other_key e.loop-quadrant.invariant e.loop-quadrant-test.true e.if-keys-next.false k.child-child.ensures c.if-keys-next-2.true 2 step_five)
 
@@ -43,7 +43,7 @@ has_one_slot-requires c = tt
 
 pub four_pixels-requires : goal.four_pixels-requires
 four_pixels-requires c =
-    let k = c.before.before.before.before.before in
+    let k = c.before.before.before.before.before.before in
     let e = k.before in
     let i = e.loop-quadrant.invariant in
     let h = child_fits i e.loop-quadrant-test.true in
@@ -51,23 +51,23 @@ four_pixels-requires c =
 
 pub returns-then-not-four_pixels : goal.returns-then-not-four_pixels
 returns-then-not-four_pixels c =
-    let f = c.before.before.before.before.before in
+    let f = c.before.before.before.before.before.before in
     let k = f.before.before in
     let e = k.before in
     let i = e.loop-quadrant.invariant in (
       omega arith,
       wrong_child i e.loop-quadrant-test.true e.if-keys-next.false k.child-child.ensures f.if-keys-next-2.false
-          (sym c.has_one_slot.ensures ∙ not-true _ c.if-not-has_one_slot.true)
+          (sym c.has_one_slot.ensures ∙ not-true _ c.if-not-has_one_slot.true-raw)
           0
           refl
           (child_at i e.loop-quadrant-test.true e.if-keys-next.false k.child-child.ensures f.if-keys-next-2.false 1 step_one 0
-          (right_false c.four_pixels.result (e.loop-quadrant.next + 1 + 4) _ (not-true _ c.if-not-four_pixels.true) c.four_pixels.ensures.1))
+          (right_false c.four_pixels.result (e.loop-quadrant.next + 1 + 4) _ (not-true _ c.if-not-four_pixels.true-raw) c.four_pixels.ensures.1))
           2
           step_five,
     )
 
 pub overflow_add-next-then-not-has_one_slot : goal.overflow_add-next-then-not-has_one_slot
-overflow_add-next-then-not-has_one_slot c = let h = c.four_pixels.ensures.0 (not-false _ c.if-not-four_pixels.false) in omega arith
+overflow_add-next-then-not-has_one_slot c = let h = c.four_pixels.ensures.0 (not-false _ c.if-not-four_pixels.false-raw) in omega arith
 
 pub overflow_add-quadrant : goal.overflow_add-quadrant
 overflow_add-quadrant c = omega (arith, c.loop-quadrant-test.true)
@@ -77,21 +77,21 @@ loop-quadrant-smaller c = omega (arith, c.loop-quadrant-test.true)
 
 pub loop-quadrant-preserved : goal.loop-quadrant-preserved
 loop-quadrant-preserved c =
-    let f = c.before.before.before in
+    let f = c.before.before.before.before in
     let k = f.before.before in
     let e = k.before in
     let i = e.loop-quadrant.invariant in
     ⊎_elim
-    (λ w. rw w.3
+    (λ w. rw w.next-is
     (goes_node i e.loop-quadrant-test.true e.if-keys-next.false k.child-child.ensures f.if-keys-next-2.false
-    (sym c.has_one_slot.ensures ∙ not-true _ w.0.taken)
+    (sym c.has_one_slot.ensures ∙ not-true _ w.if-not-has_one_slot.true-raw)
     (e.loop-quadrant.next + 1 + 4)
     (λ z. omega arith)
-    (w.1.ensures.0 (not-false _ w.2.left))
-    (child_at i e.loop-quadrant-test.true e.if-keys-next.false k.child-child.ensures f.if-keys-next-2.false 1 step_one _ (right_true w.1.result (e.loop-quadrant.next + 1 + 4) _ (not-false _ w.2.left) w.1.ensures.1))))
-    (λ w. rw w.1
-    (goes_leaf i e.loop-quadrant-test.true e.if-keys-next.false k.child-child.ensures f.if-keys-next-2.false (sym c.has_one_slot.ensures ∙ not-false _ w.0.left)))
-    c.if-not-has_one_slot.branch
+    (w.four_pixels.ensures.0 (not-false _ w.if-not-four_pixels.false-raw))
+    (child_at i e.loop-quadrant-test.true e.if-keys-next.false k.child-child.ensures f.if-keys-next-2.false 1 step_one _ (right_true w.four_pixels.result (e.loop-quadrant.next + 1 + 4) _ (not-false _ w.if-not-four_pixels.false-raw) w.four_pixels.ensures.1))))
+    (λ w. rw w.next-is
+    (goes_leaf i e.loop-quadrant-test.true e.if-keys-next.false k.child-child.ensures f.if-keys-next-2.false (sym c.has_one_slot.ensures ∙ not-false _ w.if-not-has_one_slot.false-raw)))
+    c.if-not-has_one_slot.branch-raw
 
 pub returns-then-union-own : goal.returns-then-union-own
 returns-then-union-own c =

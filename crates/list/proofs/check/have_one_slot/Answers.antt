@@ -2,10 +2,15 @@
 use Prim.Native.Nat.{◌<◌}
 use Rattle.list.proofs.OneSlot.{four_none, four_some, four_clear}
 use Rattle.list.proofs.check.have_one_slot.Goals as goal
-use Rattle.list.proofs.check.have_one_slot.Goals.{Else-a-b}
+use Rattle.list.proofs.check.have_one_slot.Lts as lts
+use Rattle.list.proofs.check.have_one_slot.Tie as tie
+use Rattle.list.proofs.check.have_one_slot.Reads as own
+
+abbrev At-Else1 : Type 0
+At-Else1 = lts.Else1 own.Pre own.Post
 
 -- none of the four is 0
-some : (c : Else-a-b) → let a = c.args in ((0 < a.a) × (0 < a.b)) × ((0 < a.c) × (0 < a.d))
+some : (c : At-Else1) → let a = c.args in ((0 < a.a) × (0 < a.b)) × ((0 < a.c) × (0 < a.d))
 some c = let a = c.args in four_some a.a a.b a.c a.d c.if-a-b.false
 
 pub returns-then-a-b : goal.returns-then-a-b

@@ -17,10 +17,10 @@ is_list-requires c = let g = good_settings _ _ (sym c.are_bad.ensures ∙ c.if-a
 
 pub returns-then-is_list : goal.returns-then-is_list
 returns-then-is_list c =
-    let e = c.before.before in
+    let e = c.before.before.before in
     sym (first_good _ _ _ _ _ (sym e.are_bad.ensures ∙ e.if-are_bad.false) (ap not (sym c.is_list.ensures ∙ c.if-is_list.true)))
 
 pub returns-else-is_list : goal.returns-else-is_list
 returns-else-is_list c =
-    let e = c.before.before in
+    let e = c.before.before.before in
     sym (first_no_list _ _ _ _ _ (sym e.are_bad.ensures ∙ e.if-are_bad.false) (ap not (sym c.is_list.ensures ∙ c.if-is_list.false)))

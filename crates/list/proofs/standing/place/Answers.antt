@@ -6,7 +6,7 @@ pub up_to-requires : goal.up_to-requires
 up_to-requires c = c.requires.ascends
 
 pub overflow_sub-result : goal.overflow_sub-result
-overflow_sub-result c = found_some c.requires _ c.up_to_lem.ensures
+overflow_sub-result c = found_some c.requires _ c.up_to.ensures
 
 pub returns : goal.returns
-returns c = found_place c.requires _ c.up_to_lem.ensures
+returns c = found_place c.requires _ c.up_to.ensures

@@ -12,7 +12,7 @@ pub bounds-keys-from : goal.bounds-keys-from
 bounds-keys-from c = search rules
 
 pub returns-then-own-x : goal.returns-then-own-x
-returns-then-own-x c = let s = c.before.before.before in place_at s.requires.0.ascends _ _ s.requires.1.room c.if-own-x.true
+returns-then-own-x c = let s = c.before.before.before.before in place_at s.requires.0.ascends _ _ s.requires.1.room c.if-own-x.true
 
 pub overflow_add-next : goal.overflow_add-next
 overflow_add-next c = search rules

@@ -10,7 +10,7 @@ keys_in-step-requires c = search rules
 
 pub stand_from-requires : goal.stand_from-requires
 stand_from-requires c =
-    let s = c.before.before.before in
+    let s = c.before.before.before.before in
     (s.requires, c.keys_in-step.ensures ∙ keys_height _ _ s.requires.valid, near_root s.requires.own _)
 
 pub returns : goal.returns

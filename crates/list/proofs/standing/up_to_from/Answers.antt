@@ -31,7 +31,7 @@ loop-low-smaller-then-x-key c = omega arith
 
 pub loop-low-preserved-then-x-key : goal.loop-low-preserved-then-x-key
 loop-low-preserved-then-x-key c =
-    let at = c.before.before.before.before in
+    let at = c.before.before.before.before.before in
     bracket_down at.requires.0 at.loop-low.invariant _ (omega arith) (omega (arith, c.narrowed-step.ensures)) c.if-x-key.true
 
 pub overflow_add-low-else-x-key : goal.overflow_add-low-else-x-key
@@ -48,7 +48,7 @@ loop-low-smaller c = omega arith
 
 pub loop-low-preserved : goal.loop-low-preserved
 loop-low-preserved c =
-    let at = c.before.before.before.before in
+    let at = c.before.before.before.before.before in
     bracket_up at.requires.0 at.loop-low.invariant _ (omega (arith, c.narrowed-step.ensures)) c.if-x-key.false
 
 pub returns : goal.returns
