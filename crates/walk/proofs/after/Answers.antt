@@ -13,23 +13,14 @@ use Rattle.keys.proofs.Interval.{within, same_block}
 use Rattle.walk.specs.declared.Spot.{Spot}
 use Rattle.walk.specs.Walk.{BlockSpot}
 use Rattle.walk.proofs.Place.{goes_east, goes_south_west, goes_up, as_high, SouthWest, SouthEast}
-use Rattle.walk.proofs.after.Statement.{statement}
+use Rattle.walk.proofs.after.Invariants.{Climb}
+use Rattle.walk.proofs.after.Goals as goal
+use Rattle.walk.proofs.after.Lts as lts
 use Rattle.walk.proofs.after.Tie as tie
+use Rattle.walk.proofs.after.Reads as own
 
--- a block of the map that ends before the key
-record Climb (m key row column side step : ℕ) : Type 0 where
-  height : ℕ
-  own : ℕ
-  block : MapBlock m height row column own
-  ends : own + 5 ^ height ≡ key
-  sides : side ≡ 2 ^ height
-  steps : step ≡ 5 ^ height
-
-abbrev invariant-loop : tie.invariant-loop
-invariant-loop m whole row₀ column₀ side₀ step₀ first_key key row column side step = Climb m key row column side step
-
-abbrev decreases-loop : tie.decreases-loop
-decreases-loop m whole row₀ column₀ side₀ step₀ first_key key row column side step = whole - side
+abbrev At-In-loop : Type 0
+At-In-loop = lts.In-loop tie.the-claims own.Pre own.Post goal.the-invariant-loop-side goal.the-decreases-loop-side
 
 begins : (m : ℕ) (s : Spot) → BlockSpot m s → Climb m (s.key + s.step) s.row s.column s.side s.step
 begins m s h =
@@ -111,86 +102,64 @@ at_end {m} {key} p e h =
     let f : 5 ^ p.height ≡ 5 ^ m = ap (λ (k : ℕ). 5 ^ k) r.0 in
     omega (arith, p.ends)
 
-power-of-two-requires : tie.Need-power-of-two-requires invariant-loop decreases-loop
-power-of-two-requires c κs = omega (arith, c.requires.0)
+pub power_of_two-whole-requires : goal.power_of_two-whole-requires
+power_of_two-whole-requires c = omega (arith, c.requires.0)
 
-add-key : tie.Need-overflow-add-key invariant-loop decreases-loop
-add-key c = let b = small_key c.before.requires.0 (begins _ c.before.args.spot c.before.requires.1) in omega arith
+pub overflow_add-key : goal.overflow_add-key
+overflow_add-key c = let b = small_key c.requires.0 (begins _ c.args.spot c.requires.1) in omega arith
 
-loop-holds : tie.Need-loop-init invariant-loop decreases-loop
-loop-holds c = begins _ c.before.args.spot c.before.requires.1
+pub loop-side-init : goal.loop-side-init
+loop-side-init c = begins _ c.args.spot c.requires.1
 
 -- in a turn the block is lower than the map
-low : (c : tie.In-loop invariant-loop decreases-loop) → c.before.loop.invariant.height < c.before.before.before.args.m
-low c = lower c.before.loop.invariant c.before.before.power-of-two.ensures c.loop-test.true
+low : (c : At-In-loop) → c.loop-side.invariant.height < c.args.m
+low c = lower c.loop-side.invariant c.power_of_two-whole.ensures c.loop-side-test.true
 
 -- and lies in it
-room : (c : tie.In-loop invariant-loop decreases-loop) → Bounds c.before.loop.row c.before.loop.column c.before.loop.side c.before.loop.step
-room c = bounds c.before.before.before.requires.0 c.before.loop.invariant
+room : (c : At-In-loop) → Bounds c.loop-side.row c.loop-side.column c.loop-side.side c.loop-side.step
+room c = bounds c.requires.0 c.loop-side.invariant
 
-add-t12 : tie.Need-overflow-add-t12 invariant-loop decreases-loop
-add-t12 c = let b = room c.before in omega arith
+pub overflow_add-result : goal.overflow_add-result
+overflow_add-result c = let b = room c.before in omega arith
 
-returns : tie.Need-returns invariant-loop decreases-loop
-returns c = (east c.before.before.loop.invariant (low c.before) c.if1.true, refl)
+pub returns-then-column-side-eq0 : goal.returns-then-column-side-eq0
+returns-then-column-side-eq0 c = (east c.loop-side.invariant (low c.before) c.if-column-side-eq0.true, refl)
 
-add-t14 : tie.Need-overflow-add-t14 invariant-loop decreases-loop
-add-t14 c = let b = room c.before.before in omega arith
+pub overflow_add-result-then-row-side-eq0 : goal.overflow_add-result-then-row-side-eq0
+overflow_add-result-then-row-side-eq0 c = let b = room c.before.before in omega arith
 
-sub-t15 : tie.Need-overflow-sub-t15 invariant-loop decreases-loop
-sub-t15 c =
-    let p = c.before.before.before.loop.invariant in
-    omega (arith, (south_west p (low c.before.before) c.before.if1.false c.if2.true).room, p.sides)
+pub overflow_sub-result : goal.overflow_sub-result
+overflow_sub-result c =
+    let p = c.loop-side.invariant in
+    omega (arith, (south_west p (low c.before.before) c.if-column-side-eq0.false c.if-row-side-eq0.true).room, p.sides)
 
-returns-2 : tie.Need-returns-2 invariant-loop decreases-loop
-returns-2 c = (west c.before.before.before.loop.invariant (low c.before.before) c.before.if1.false c.if2.true, refl)
+pub returns-then-row-side-eq0 : goal.returns-then-row-side-eq0
+returns-then-row-side-eq0 c = (west c.loop-side.invariant (low c.before.before) c.if-column-side-eq0.false c.if-row-side-eq0.true, refl)
 
-sub_row : tie.Need-overflow-sub-row invariant-loop decreases-loop
-sub_row c =
-    let p = c.before.before.before.loop.invariant in
-    omega (arith, (up p (low c.before.before) c.before.if1.false c.if2.false).rows, p.sides)
+pub overflow_sub-row : goal.overflow_sub-row
+overflow_sub-row c =
+    let p = c.loop-side.invariant in
+    omega (arith, (up p (low c.before.before) c.if-column-side-eq0.false c.if-row-side-eq0.false).rows, p.sides)
 
-sub-column : tie.Need-overflow-sub-column invariant-loop decreases-loop
-sub-column c =
-    let p = c.before.before.before.loop.invariant in
-    omega (arith, (up p (low c.before.before) c.before.if1.false c.if2.false).columns, p.sides)
+pub overflow_sub-column : goal.overflow_sub-column
+overflow_sub-column c =
+    let p = c.loop-side.invariant in
+    omega (arith, (up p (low c.before.before) c.if-column-side-eq0.false c.if-row-side-eq0.false).columns, p.sides)
 
-mul-side : tie.Need-overflow-mul-side invariant-loop decreases-loop
-mul-side c = let b = room c.before.before in omega arith
+pub overflow_mul-side : goal.overflow_mul-side
+overflow_mul-side c = let b = room c.before.before in omega arith
 
-mul-step : tie.Need-overflow-mul-step invariant-loop decreases-loop
-mul-step c = let b = room c.before.before in omega arith
+pub overflow_mul-step : goal.overflow_mul-step
+overflow_mul-step c = let b = room c.before.before in omega arith
 
-loop-less : tie.Need-loop-smaller invariant-loop decreases-loop
-loop-less c =
-    let p = c.before.before.before.loop.invariant in
+pub loop-side-smaller : goal.loop-side-smaller
+loop-side-smaller c =
+    let p = c.loop-side.invariant in
     let q = pow_pos p.height in
-    omega (arith, p.sides, c.before.before.loop-test.true)
+    omega (arith, p.sides, c.loop-side-test.true)
 
-loop-again : tie.Need-loop-preserved invariant-loop decreases-loop
-loop-again c = climbs c.before.before.before.loop.invariant (low c.before.before) c.before.if1.false c.if2.false
+pub loop-side-preserved : goal.loop-side-preserved
+loop-side-preserved c = climbs c.loop-side.invariant (low c.before.before) c.if-column-side-eq0.false c.if-row-side-eq0.false
 
-returns-3 : tie.Need-returns-3 invariant-loop decreases-loop
-returns-3 c = at_end c.before.loop.invariant c.before.before.power-of-two.ensures c.loop-test.false
-
-pub after-spec : {M : Type 1} → statement M
-after-spec =
-    tie.close
-    (tie.spec
-    invariant-loop
-    decreases-loop
-    power-of-two-requires
-    add-key
-    loop-holds
-    add-t12
-    returns
-    add-t14
-    sub-t15
-    returns-2
-    sub_row
-    sub-column
-    mul-side
-    mul-step
-    loop-less
-    loop-again
-    returns-3)
+pub returns : goal.returns
+returns c = at_end c.loop-side.invariant c.power_of_two-whole.ensures c.loop-side-test.false

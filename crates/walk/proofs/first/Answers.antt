@@ -5,18 +5,14 @@ use native.Mathlib.Omega.{arith}
 use borrow.Author.Rules.{rules}
 use Rattle.walk.specs.declared.Spot.{Spot}
 use Rattle.walk.specs.Walk.{first_quadrant}
-use Rattle.walk.proofs.first.Statement.{statement}
-use Rattle.walk.proofs.first.Tie as tie
+use Rattle.walk.proofs.first.Goals as goal
 
 at_child : (s : Spot) (x : ℕ) → x ≡ s.key + 1 * (s.step / 5)
     → record { key = x; row = s.row; column = s.column; side = s.side / 2; step = s.step / 5 } ≡ first_quadrant s
 at_child s x e = let h : x ≡ s.key + s.step / 5 = omega arith in rw h
 
-child-requires : tie.Need-child-requires
-child-requires c κs = search rules
+pub child-requires : goal.child-requires
+child-requires c = search rules
 
-returns : tie.Need-returns
-returns c = at_child c.before.before.before.args.spot _ c.before.child.ensures
-
-pub first_spec : {M : Type 1} → statement M
-first_spec = tie.close (tie.spec child-requires returns)
+pub returns : goal.returns
+returns c = at_child c.args.spot _ c.child.ensures
