@@ -3,8 +3,7 @@ use Prim.Native.Nat.{ℕ, zero, suc, ◌+◌}
 use mathlib.Core.Path.{◌≡◌, refl}
 use borrow.Author.Rules.{rules}
 use Rattle.read.specs.Fill.{corner_of}
-use Rattle.read.proofs.fill.corner_of.Statement.{statement}
-use Rattle.read.proofs.fill.corner_of.Tie as tie
+use Rattle.read.proofs.fill.corner_of.Goals as goal
 
 is_zero : (d place half south : ℕ) → d ≡ 0 → place ≡ corner_of d place half south
 unfolding corner_of
@@ -25,39 +24,26 @@ is_more (suc zero) place half south a b c = absurd (b refl)
 is_more (suc (suc zero)) place half south a b c = absurd (c refl)
 is_more (suc (suc (suc d))) place half south a b c = refl
 
-returns : tie.Need-returns
-returns c = is_zero _ _ _ _ c.if1.true
+pub returns-then-d-eq0 : goal.returns-then-d-eq0
+returns-then-d-eq0 c = is_zero _ _ _ _ c.if-d-eq0.true
 
-add-result : tie.Need-overflow-add-result
-add-result c = search rules
+pub overflow_add-result : goal.overflow_add-result
+overflow_add-result c = search rules
 
-returns-2 : tie.Need-returns-2
-returns-2 c = is_one _ _ _ _ c.if2.true
+pub returns-then-d-eq1 : goal.returns-then-d-eq1
+returns-then-d-eq1 c = is_one _ _ _ _ c.if-d-eq1.true
 
-add-result-2 : tie.Need-overflow-add-result-2
-add-result-2 c = search rules
+pub overflow_add-result-then-d-eq2 : goal.overflow_add-result-then-d-eq2
+overflow_add-result-then-d-eq2 c = search rules
 
-returns-3 : tie.Need-returns-3
-returns-3 c = is_two _ _ _ _ c.if3.true
+pub returns-then-d-eq2 : goal.returns-then-d-eq2
+returns-then-d-eq2 c = is_two _ _ _ _ c.if-d-eq2.true
 
-add-result-3 : tie.Need-overflow-add-result-3
-add-result-3 c = search rules
+pub overflow_add-result-2 : goal.overflow_add-result-2
+overflow_add-result-2 c = search rules
 
-add-result-4 : tie.Need-overflow-add-result-4
-add-result-4 c = search rules
+pub overflow_add-result-3 : goal.overflow_add-result-3
+overflow_add-result-3 c = search rules
 
-returns-4 : tie.Need-returns-4
-returns-4 c = is_more _ _ _ _ c.before.before.if1.false c.before.if2.false c.if3.false
-
-pub corner-of-spec : {M : Type 1} → statement M
-corner-of-spec =
-    tie.close
-    (tie.spec
-    returns
-    add-result
-    returns-2
-    add-result-2
-    returns-3
-    add-result-3
-    add-result-4
-    returns-4)
+pub returns : goal.returns
+returns c = is_more _ _ _ _ c.if-d-eq0.false c.if-d-eq1.false c.if-d-eq2.false

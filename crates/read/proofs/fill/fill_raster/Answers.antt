@@ -15,8 +15,7 @@ use Rattle.read.specs.Fill.{rectangle_painted, Shows, NodeFilled}
 use Rattle.list.proofs.Own.{own_values}
 use Rattle.read.proofs.Shown.{shows_room, shows_square, leaf_painted, node_asked, node_filled}
 use Rattle.read.proofs.Rows.{whole_painted}
-use Rattle.read.proofs.fill.fill_raster.Statement.{statement}
-use Rattle.read.proofs.fill.fill_raster.Tie as tie
+use Rattle.read.proofs.fill.fill_raster.Goals as goal
 
 module _ {m : ℕ} {keys bits : List ℕ} {n : ℕ} (o : OwnList m keys bits n) {side long : ℕ} (sides : side ≡ 2 ^ m) (area : long ≡ 2 ^ m * 2 ^ m) where
   squared : long ≡ side * side
@@ -60,61 +59,40 @@ module _ {m : ℕ} {keys bits : List ℕ} {n : ℕ} (o : OwnList m keys bits n) 
         let s : Shows (shown_by m keys bits n) m 0 0 root_key bits 0 side 0 side (length before) = rw is root_shows in
         whole (node_filled f s node).pixels
 
-power-of-two-requires : tie.Need-power-of-two-requires
-power-of-two-requires c κs = search rules
+pub power_of_two-side-requires : goal.power_of_two-side-requires
+power_of_two-side-requires c = search rules
 
-cast-side : tie.Need-overflow-cast-side
-cast-side c = search rules
+pub overflow_cast-side : goal.overflow_cast-side
+overflow_cast-side c = search rules
 
-shared-slice-read-own : tie.Need-shared-slice-read-own
-shared-slice-read-own c =
-    let start = c.before.before.before.before.before in
-    shows_room (root_shows start.requires.0 c.before.power-of-two.ensures start.requires.1.1)
+pub bounds-bits-0 : goal.bounds-bits-0
+bounds-bits-0 c =
+    shows_room (root_shows c.requires.own_list c.power_of_two-side.ensures c.requires.m_bound.1)
 
-has-one-slot-requires : tie.Need-has-one-slot-requires
-has-one-slot-requires c κs = search rules
+pub has_one_slot-requires : goal.has_one_slot-requires
+has_one_slot-requires c = search rules
 
-feature-of-requires : tie.Need-feature-of-requires
-feature-of-requires c κs = sym c.before.before.has-one-slot.ensures ∙ c.before.if1.true
+pub feature_of-requires : goal.feature_of-requires
+feature_of-requires c = sym c.has_one_slot.ensures ∙ c.if-has_one_slot.true
 
-fill-square-requires : tie.Need-fill-square-requires
-fill-square-requires c κs =
-    let start = c.before.before.before.before.before.before.before.before.before in
-    shows_square (root_shows start.requires.0 c.before.before.before.before.before.power-of-two.ensures start.requires.1.1)
+pub fill_square-requires : goal.fill_square-requires
+fill_square-requires c =
+    shows_square (root_shows c.requires.own_list c.power_of_two-side.ensures c.requires.m_bound.1)
 
-fill-node-requires : tie.Need-fill-node-requires
-fill-node-requires c κs =
-    let start = c.before.before.before.before.before.before.before.before in
-    node_asked (root_shows start.requires.0 c.before.before.before.before.power-of-two.ensures start.requires.1.1) (sym c.before.before.has-one-slot.ensures ∙ c.before.if1.false)
+pub fill_node-end-requires : goal.fill_node-end-requires
+fill_node-end-requires c =
+    node_asked (root_shows c.requires.own_list c.power_of_two-side.ensures c.requires.m_bound.1) (sym c.has_one_slot.ensures ∙ c.if-has_one_slot.false)
 
-same_length : tie.Need-same-length
-same_length c = search rules
+pub shape_of-raster-then-has_one_slot : goal.shape_of-raster-then-has_one_slot
+shape_of-raster-then-has_one_slot c = search rules
 
-returns : tie.Need-returns
-returns c =
-    let start = c.before.before.before.before.before.before.before.before.before.before.before.before in
-    leaf_end start.requires.0 c.before.before.before.before.before.before.before.before.power-of-two.ensures start.requires.1.1 _ _ refl _ (sym c.before.before.before.before.before.before.has-one-slot.ensures ∙ c.before.before.before.before.before.if1.true) c.before.before.before.feature-of.ensures c.before.before.fill-square.ensures
+pub returns-then-has_one_slot : goal.returns-then-has_one_slot
+returns-then-has_one_slot c =
+    leaf_end c.requires.own_list c.power_of_two-side.ensures c.requires.m_bound.1 _ _ refl _ (sym c.has_one_slot.ensures ∙ c.if-has_one_slot.true) c.feature_of.ensures c.fill_square.ensures
 
-same-length-2 : tie.Need-same-length-2
-same-length-2 c = search rules
+pub shape_of-raster-else-has_one_slot : goal.shape_of-raster-else-has_one_slot
+shape_of-raster-else-has_one_slot c = search rules
 
-returns-2 : tie.Need-returns-2
-returns-2 c =
-    let start = c.before.before.before.before.before.before.before.before.before.before.before in
-    node_end start.requires.0 c.before.before.before.before.before.before.before.power-of-two.ensures start.requires.1.1 _ _ refl _ (sym c.before.before.before.before.before.has-one-slot.ensures ∙ c.before.before.before.before.if1.false) c.before.before.fill-node.ensures
-
-pub fill-raster-spec : {M : Type 1} → statement M
-fill-raster-spec =
-    tie.close
-    (tie.spec
-    power-of-two-requires
-    cast-side
-    shared-slice-read-own
-    has-one-slot-requires
-    feature-of-requires
-    fill-square-requires
-    fill-node-requires
-    same_length
-    returns
-    same-length-2
-    returns-2)
+pub returns-else-has_one_slot : goal.returns-else-has_one_slot
+returns-else-has_one_slot c =
+    node_end c.requires.own_list c.power_of_two-side.ensures c.requires.m_bound.1 _ _ refl _ (sym c.has_one_slot.ensures ∙ c.if-has_one_slot.false) c.fill_node-end.ensures
