@@ -67,7 +67,7 @@ def self_test():
     assert faults("-- A law. Rests on laws' First,\n-- Buffer and Records.\n" + of_laws, "--")
     assert not faults("-- The map's Map A. Rests on laws' First.\n" + of_laws, "--")
     assert proofs_in(of_laws) and proofs_in("use Rattle·laws·proofs.proofs.First.{first-zero}\n")
-    assert proofs_in("-- A word.\nuse Rattle·log.proofs.Parts as parts\n")
+    assert proofs_in("-- A word.\nuse Rattle·edit_log.proofs.Parts as parts\n")
     assert not proofs_in("use Rattle·keys.specs.Key.{validKey}\nuse Rattle·keys·specs.specs.Key.{rootKey}\n")
     print("a false header is found, and proofs behind a definition")
 

@@ -16,7 +16,7 @@ use Rattle.laws.proofs.Features.{one_from_leaf}
 use Rattle.laws.proofs.ListOf.{list_first, list_one}
 use Rattle.list.specs.Check.{one_slot}
 use Rattle.list.proofs.OneSlot.{one_slot_power}
-use Rattle.log.proofs.Places.{run_values, run_length}
+use Rattle.edit_log.proofs.Places.{run_values, run_length}
 use Rattle.build.specs.BuildBlocks.{Tallied}
 use Rattle.build.specs.declared.count.Tally.{Tally}
 use Rattle.build.proofs.CountBlock.{length-key}

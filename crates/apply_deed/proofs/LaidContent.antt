@@ -15,8 +15,8 @@ use Rattle.definitions.specs.List.{Record, keys_of, values_of}
 use Rattle.definitions.specs.Read.{room}
 use Rattle.laws.proofs.ListOf.{list_one}
 use Rattle.list.specs.Check.{one_slot}
-use Rattle.log.specs.Entries.{records_from_place}
-use Rattle.log.proofs.Places.{run_keys, run_values}
+use Rattle.edit_log.specs.Entries.{records_from_place}
+use Rattle.edit_log.proofs.Places.{run_keys, run_values}
 use Rattle.build.specs.BuildBlocks.{below, Tallied}
 use Rattle.deeds.specs.Step.{Step, step_over, plain}
 use Rattle.deeds.specs.Meeting.{block_at, ContentGiven, Met, is_cut}

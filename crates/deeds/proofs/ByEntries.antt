@@ -6,8 +6,8 @@ use mathlib.Core.List.{List, [], ◌∷◌, map}
 use native.Mathlib.Nat.{le_refl}
 use Rattle.definitions.specs.Read.{records_of}
 use Rattle.list.proofs.OneSlot.{power_slot}
-use Rattle.log.specs.declared.entry.Entry.{Entry}
-use Rattle.log.specs.Entries.{last_entry}
+use Rattle.edit_log.specs.declared.entry.Entry.{Entry}
+use Rattle.edit_log.specs.Entries.{last_entry}
 use Rattle.deeds.specs.declared.run.Run.{Run}
 use Rattle.deeds.specs.declared.meeting.Meeting.{Meeting}
 use Rattle.deeds.specs.declared.meeting.Meeting.TheVariants.{Apart}

@@ -15,9 +15,9 @@ use Rattle.keys.proofs.Interval.{within}
 use Rattle.definitions.specs.Read.{records_of}
 use Rattle.definitions.specs.Log.{EndsInEntry}
 use Rattle.laws.proofs.Records.{records-length}
-use Rattle.log.specs.declared.entry.Entry.{Entry}
-use Rattle.log.specs.Entries.{last_entry, Ended}
-use Rattle.log.proofs.Last.{entry_places}
+use Rattle.edit_log.specs.declared.entry.Entry.{Entry}
+use Rattle.edit_log.specs.Entries.{last_entry, Ended}
+use Rattle.edit_log.proofs.Last.{entry_places}
 use Rattle.deeds.specs.Runs.{last_first, first_first, Chain, done, more, descends, Between, EntriesIn}
 
 -- the last entry between two places, and those before it

@@ -13,8 +13,8 @@ use Rattle.keys.proofs.Cases.{split}
 use Rattle.keys.proofs.Powers.{five_pos}
 use Rattle.definitions.specs.Read.{records_of}
 use Rattle.list.specs.Check.{one_slot}
-use Rattle.log.specs.declared.entry.Entry.{Entry}
-use Rattle.log.specs.Entries.{last_entry}
+use Rattle.edit_log.specs.declared.entry.Entry.{Entry}
+use Rattle.edit_log.specs.Entries.{last_entry}
 use Rattle.deeds.specs.Runs.{last_first, first_first, descends, Between, EntriesIn, back_bits, whole_of, given_by, met_by, meeting_by, Held, Asking}
 use Rattle.deeds.specs.declared.meeting.Meeting.{Meeting}
 use Rattle.deeds.specs.declared.meeting.Meeting.TheVariants.{Leaf, Content, Cut}

@@ -15,7 +15,7 @@ use Rattle.keys.proofs.Pixel.{inside}
 use Rattle.keys.proofs.InBlock.{in_block_iff, in_interval-iff}
 use Rattle.keys.proofs.Ancestor.{interval_iff}
 use Rattle.laws.proofs.Within.{under_within}
-use Rattle.log.specs.declared.entry.Entry.{Entry}
+use Rattle.edit_log.specs.declared.entry.Entry.{Entry}
 use Rattle.deeds.specs.Step.{Step}
 use Rattle.deeds.specs.Meeting.{block_at, Met}
 use Rattle.deeds.specs.Runs.{Gift, touched, given, gifts_step, meeting_by, met_by}

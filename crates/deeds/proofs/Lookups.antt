@@ -32,9 +32,9 @@ use Rattle.list.proofs.Accepted.{content_list, keys_ascend}
 use Rattle.list.proofs.OneSlot.{slot_feature}
 use Rattle.list.proofs.Among.{place_keys, place-below}
 use Rattle.list.proofs.Lookup.{lookup_value}
-use Rattle.log.specs.declared.entry.Entry.{Entry}
-use Rattle.log.specs.Entries.{last_entry, content_part}
-use Rattle.log.proofs.Last.{content_run, content-length, entry_places}
+use Rattle.edit_log.specs.declared.entry.Entry.{Entry}
+use Rattle.edit_log.specs.Entries.{last_entry, content_part}
+use Rattle.edit_log.proofs.Last.{content_run, content-length, entry_places}
 use Rattle.deeds.specs.Step.{Step}
 use Rattle.deeds.specs.Meeting.{block_at, Met}
 use Rattle.deeds.specs.Runs.{content_of_entry, back_bits, whole_of, given_by, Held}

@@ -16,7 +16,7 @@ use Rattle.laws.proofs.BitsOf.{bits_agree, bits_one}
 use Rattle.laws.proofs.ListOf.{list_agree, list_one}
 use Rattle.list.specs.Check.{one_slot}
 use Rattle.list.proofs.OneSlot.{slot_feature}
-use Rattle.log.specs.Entries.{records_from_place}
+use Rattle.edit_log.specs.Entries.{records_from_place}
 use Rattle.build.specs.BuildBlocks.{Tallied}
 use Rattle.deeds.specs.Step.{Step, step_over, plain}
 use Rattle.deeds.specs.Meeting.{block_at, Untouched, OneLeaf, ContentGiven, MetBy, Met, is_cut}

@@ -16,9 +16,9 @@ use Rattle.definitions.specs.Log.{last_key, last_feature, last_content, before_l
 use Rattle.laws.proofs.Put.{put_in, put_out}
 use Rattle.laws.proofs.LastEntry.{before_place}
 use Rattle.laws.proofs.Records.{records_first}
-use Rattle.log.specs.declared.entry.Entry.{Entry}
-use Rattle.log.specs.Entries.{last_entry}
-use Rattle.log.proofs.Last.{content_run}
+use Rattle.edit_log.specs.declared.entry.Entry.{Entry}
+use Rattle.edit_log.specs.Entries.{last_entry}
+use Rattle.edit_log.proofs.Last.{content_run}
 use Rattle.deeds.specs.declared.run.Run.{Run}
 use Rattle.deeds.specs.declared.deed.Deed.TheVariants.{Back, Again}
 use Rattle.deeds.specs.Step.{step_over, plain}

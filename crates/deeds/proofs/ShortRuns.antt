@@ -7,8 +7,8 @@ use native.Mathlib.Omega.{arith}
 use Rattle.keys.specs.Key.{valid_key}
 use Rattle.keys.specs.Block.{in_block, pixel_key}
 use Rattle.definitions.specs.Read.{records_of}
-use Rattle.log.specs.declared.entry.Entry.{Entry}
-use Rattle.log.specs.Entries.{last_entry}
+use Rattle.edit_log.specs.declared.entry.Entry.{Entry}
+use Rattle.edit_log.specs.Entries.{last_entry}
 use Rattle.deeds.specs.declared.run.Run.{Run}
 use Rattle.deeds.specs.Step.{Step}
 use Rattle.deeds.specs.Deed.{SameBefore, ShortRun}

@@ -10,7 +10,7 @@ use Rattle.keys.proofs.Cases.{decide, neither_left, neither_right}
 use Rattle.keys.proofs.Valid.{valid_block}
 use Rattle.keys.proofs.Pixel.{inside}
 use Rattle.keys.proofs.InBlock.{in_block_iff}
-use Rattle.log.specs.declared.entry.Entry.{Entry}
+use Rattle.edit_log.specs.declared.entry.Entry.{Entry}
 use Rattle.deeds.specs.Runs.{Gift, touched, given, gifts_step, met_by, meeting_by, descends}
 use Rattle.deeds.specs.declared.meeting.Meeting.{Meeting}
 use Rattle.deeds.proofs.Gifts.{touched_cons, touched_none, given_this, given_later}

@@ -6,7 +6,7 @@ use Rattle.keys.specs.declared.block.TreeBlock.{TreeBlock}
 use Rattle.definitions.specs.Picture.{Picture}
 use Rattle.definitions.specs.List.{list_of}
 use Rattle.build.specs.BuildBlocks.{Tallied}
-use Rattle.log.specs.Entries.{records_from_place}
+use Rattle.edit_log.specs.Entries.{records_from_place}
 use Rattle.deeds.specs.Step.{Step, step_over}
 use Rattle.deeds.specs.declared.meeting.Meeting.{Meeting}
 use Rattle.deeds.specs.declared.meeting.Meeting.TheVariants.{Apart, Leaf, Content, Cut}

@@ -10,8 +10,8 @@ use Rattle.definitions.specs.Standing.{place_of}
 use Rattle.definitions.specs.Log.{EndsInEntry}
 use Rattle.list.specs.Check.{one_slot}
 use Rattle.list.specs.Sorted.{Sorted}
-use Rattle.log.specs.declared.entry.Entry.{Entry}
-use Rattle.log.specs.Entries.{last_entry, records_from_place, content_part}
+use Rattle.edit_log.specs.declared.entry.Entry.{Entry}
+use Rattle.edit_log.specs.Entries.{last_entry, records_from_place, content_part}
 use Rattle.deeds.specs.declared.run.Run.{Run}
 use Rattle.deeds.specs.declared.meeting.Meeting.{Meeting}
 use Rattle.deeds.specs.declared.meeting.Meeting.TheVariants.{Leaf, Content, Cut}

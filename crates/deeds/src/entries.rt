@@ -13,8 +13,8 @@ use crate::run::Run;
 use keys::block::TreeBlock;
 use keys::{power, zeros};
 use list::{check, standing};
-use log::entry;
-use log::entry::Entry;
+use edit_log::entry;
+use edit_log::entry::Entry;
 
 // The block with the first key is the one with the second, or holds it.
 fn holds(m: u32, outer: u32, inner: u32) -> bool

@@ -6,7 +6,7 @@ ghost use Rattle.deeds.specs.Deed.{ShortRun};
 
 use keys::block::TreeBlock;
 use keys::{block, power, zeros};
-use log::entry;
+use edit_log::entry;
 
 // Where the entries start and end. Of ordered ones each block ends at or before the next one's key, so none has a pixel of another; a search among them
 // may stop early.

@@ -24,8 +24,8 @@ use Rattle.list.proofs.Fuller.{listed_standing, inside_standing, listed_part, in
 use Rattle.replace.specs.Family.{block_bits}
 use Rattle.edit.specs.Content.{content_in, former_by, former_of}
 use Rattle.edit.specs.declared.logging.Former.{Former}
-use Rattle.log.specs.declared.entry.Entry.{Entry}
-use Rattle.log.specs.Entries.{records_from_place, Loggable, Logged}
+use Rattle.edit_log.specs.declared.entry.Entry.{Entry}
+use Rattle.edit_log.specs.Entries.{records_from_place, Loggable, Logged}
 use Rattle.edit.specs.PaintCall.{Fresh, new_entry}
 use Rattle.replace.proofs.Places.{place_lt}
 use Rattle.edit.proofs.Gained.{gained_in}

@@ -7,7 +7,7 @@ use borrow.Author.Tests.{eqb-true, eqb-false}
 use Rattle.keys.proofs.Cases.{decide}
 use Rattle.definitions.specs.Refusal.{accepted}
 use Rattle.laws.proofs.First.{accepted_done, accepted_left}
-use Rattle.log.specs.declared.entry.Entry.{Entry}
+use Rattle.edit_log.specs.declared.entry.Entry.{Entry}
 use Rattle.replace.specs.declared.plan.Plan.{Plan}
 use Rattle.edit.specs.declared.decision.Decision.{Decision}
 use Rattle.edit.specs.declared.decision.Decision.TheVariants.{Refused, Granted}

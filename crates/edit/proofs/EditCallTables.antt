@@ -18,8 +18,8 @@ use Rattle.laws.proofs.Edits.{SheetPassed, sheet_passed, sheet_refuses}
 use Rattle.list.specs.Own.{OwnList, shown_by}
 use Rattle.list.proofs.Own.{own_list}
 use Rattle.list.proofs.Tests.{GoodSettings, good_settings}
-use Rattle.log.proofs.Parts.{whole_log}
-use Rattle.log.specs.Entries.{WholeLog}
+use Rattle.edit_log.proofs.Parts.{whole_log}
+use Rattle.edit_log.specs.Entries.{WholeLog}
 use Rattle.edit.specs.EditCallChecks.{sheet_refusal, list_room_refusal}
 
 -- the first of them that holds

@@ -8,7 +8,7 @@ use Rattle.keys.proofs.Cases.{decide}
 use Rattle.definitions.specs.Refusal.{accepted}
 use Rattle.laws.proofs.First.{accepted_done, accepted_left}
 use Rattle.edit.specs.declared.logging.Former.{Former}
-use Rattle.log.specs.declared.entry.Entry.{Entry}
+use Rattle.edit_log.specs.declared.entry.Entry.{Entry}
 use Rattle.replace.specs.declared.plan.Plan.{Plan}
 use Rattle.edit.specs.declared.decision.PaintDecision.{PaintDecision}
 use Rattle.edit.specs.declared.decision.PaintDecision.TheVariants.{Refused, Granted}

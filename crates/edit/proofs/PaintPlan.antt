@@ -14,7 +14,7 @@ use Rattle.definitions.specs.Calls.Paint.{painted_picture, painted}
 use Rattle.laws.proofs.Features.{one_from_leaf}
 use Rattle.laws.proofs.ListOf.{list_one}
 use Rattle.list.specs.Own.{shown_by}
-use Rattle.log.specs.declared.entry.Entry.{Entry}
+use Rattle.edit_log.specs.declared.entry.Entry.{Entry}
 use Rattle.replace.specs.Putting.{Replaced}
 use Rattle.replace.specs.Put.{top_for, plan_at, plan_of}
 use Rattle.replace.specs.declared.plan.Plan.{Plan}

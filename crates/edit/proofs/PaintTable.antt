@@ -17,7 +17,7 @@ use Rattle.definitions.specs.Calls.Edit.{as_lent, edit_refusal}
 use Rattle.definitions.specs.Calls.Paint.{painted_picture, painted, gained, paint, Painted}
 use Rattle.laws.proofs.First.{this, later, holds_first, none_first}
 use Rattle.laws.proofs.Edits.{SheetPassed, EditPassed, rest_decides, edit_passed, edit_done}
-use Rattle.log.specs.declared.entry.Entry.{Entry}
+use Rattle.edit_log.specs.declared.entry.Entry.{Entry}
 use Rattle.replace.specs.Putting.{Replaced}
 use Rattle.edit.specs.PaintCall.{room_refusal, Paintable, new_entry, Fresh, Relogged}
 use Rattle.edit.proofs.EditCallTables.{passed_settings, passed_own}

@@ -10,7 +10,7 @@ use Rattle.definitions.specs.List.{Record, keys_of, values_of}
 use Rattle.definitions.specs.Read.{room}
 use Rattle.definitions.specs.Buffer.{over_at}
 use Rattle.definitions.specs.Calls.Paint.{logged}
-use Rattle.log.specs.Entries.{Logged, Cleared}
+use Rattle.edit_log.specs.Entries.{Logged, Cleared}
 use Rattle.edit.specs.PaintCall.{Relogged}
 
 -- what follows a run is written behind it

@@ -5,7 +5,7 @@ use Rattle.definitions.specs.List.{Record}
 use Rattle.definitions.specs.Read.{room}
 use Rattle.definitions.specs.Refusal.{◌gives◌, first, accepted}
 use Rattle.definitions.specs.Calls.Edit.{LentSheet, sheet_rows}
-use Rattle.log.specs.declared.entry.Entry.{Entry}
+use Rattle.edit_log.specs.declared.entry.Entry.{Entry}
 use Rattle.replace.specs.declared.plan.Plan.{Plan}
 use Rattle.edit.specs.declared.decision.Decision.{Decision}
 use Rattle.edit.specs.declared.decision.Decision.TheVariants.{Refused, Granted}

@@ -8,7 +8,7 @@ use Rattle.definitions.specs.Standing.{part_length}
 use Rattle.definitions.specs.Refusal.{◌gives◌, first}
 use Rattle.definitions.specs.Calls.Paint.{painted, gained, logged}
 use Rattle.list.specs.Own.{OwnList}
-use Rattle.log.specs.declared.entry.Entry.{Entry}
+use Rattle.edit_log.specs.declared.entry.Entry.{Entry}
 use Rattle.replace.specs.Put.{plan_of}
 use Rattle.replace.specs.declared.plan.Plan.{Plan}
 

@@ -5,7 +5,7 @@ ghost use Rattle.edit.specs.EditCallChecks.{sheet_refusal};
 
 use crate::logging::Former;
 use definitions::refusal::Refusal;
-use log::entry::Entry;
+use edit_log::entry::Entry;
 use replace::plan::Plan;
 use summary::check::first_refusal;
 
@@ -43,7 +43,7 @@ pub fn edit_refusal(
     if refusal != 0 {
         return refusal;
     }
-    if !log::is_log(m, s, log_keys, log_values, used, in_force) {
+    if !edit_log::is_log(m, s, log_keys, log_values, used, in_force) {
         return Refusal::LOG;
     }
     0

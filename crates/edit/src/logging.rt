@@ -5,14 +5,14 @@ ghost use Rattle.definitions.specs.Read.{room, records_of};
 ghost use Rattle.definitions.specs.Calls.Paint.{gained};
 ghost use Rattle.list.specs.Own.{BlockIn};
 ghost use Rattle.list.specs.Sorted.{Near};
-ghost use Rattle.log.specs.Entries.{Logged};
+ghost use Rattle.edit_log.specs.Entries.{Logged};
 ghost use Rattle.edit.specs.Content.{former_by, former_of};
 ghost use Rattle.edit.specs.PaintCall.{Fresh, Relogged};
 
 use definitions::Standing;
 use list::standing;
-use log::entry;
-use log::entry::Entry;
+use edit_log::entry;
+use edit_log::entry::Entry;
 
 // A block's former content: the list has it from a place on, so many records; or the block lies inside the leaf at the place, and its content is one
 // record, which the list does not have.

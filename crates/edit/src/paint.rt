@@ -14,8 +14,8 @@ use definitions::Edited;
 use definitions::refusal::Refusal;
 use keys::{Key, power};
 use list::standing;
-use log::entry;
-use log::entry::Entry;
+use edit_log::entry;
+use edit_log::entry::Entry;
 use replace::plan::Plan;
 use replace::{plan, putting};
 

@@ -1,7 +1,7 @@
 -- An edit in a history: refused it leaves the buffers, accepted it puts its list, its summary and its log in. And a step of the log that is taken back or
 -- redone, told by the picture that it makes: its answer, and that the invariant is kept. Rests on Invariant and the laws of edits.
 use Prim.Native.Nat.{ℕ, ◌≤◌, ◌<◌, max}
-use mathlib.Core.Path.{◌≡◌, refl, sym, ap, ap₂, ◌∙◌}
+use mathlib.Core.Path.{◌≡◌, sym, ap, ap₂, ◌∙◌}
 use mathlib.Core.Bool.{cond, not}
 use mathlib.Core.List.{List}
 use native.Mathlib.Omega.{arith}
@@ -15,7 +15,7 @@ use Rattle.definitions.specs.Read.{room}
 use Rattle.definitions.specs.Buffer.{replaced}
 use Rattle.definitions.specs.Area.{summary_of}
 use Rattle.definitions.specs.Refusal.{Row}
-use Rattle.definitions.specs.Calls.Edit.{LentSheet, Edit, as_lent, list_left, edit_refusal, edit_answer, keys_left, bits_left, summary_left, log_keys_left, log_values_left}
+use Rattle.definitions.specs.Calls.Edit.{LentSheet, Edit, as_lent, edit_refusal, edit_answer, keys_left, bits_left, summary_left, log_keys_left, log_values_left}
 use Rattle.laws.proofs.First.{NoneHolds}
 use Rattle.laws.proofs.Edits.{SheetPassed, list_full, room_enough}
 use Rattle.history.specs.History.{Buffers, Kept, Call, lent_to, answer, after_edit, after, keep}

@@ -68,7 +68,7 @@ run_holds {m} {s} {size} {p} {keys} {bits} {log_keys} {log_values} {b} {k} {in_l
     subst₂ (λ x y. Invariant m s size p keys bits log_keys log_values (after_calls m s next cs) (kept m s next (keep c (answer m s b c) k) cs) x y)
     (joined in_list b.n next.n (longest_list m s next cs) h.list.short (begins_list m s next cs))
     (joined in_log b.used next.used (longest_log m s next cs) h.log.short (begins_log m s next cs))
-    (run_holds cs (call_keeps c h))
+    (run_holds {b = next} cs (call_keeps c h))
 
 -- the picture left is the picture now
 pub left_is : (m : ℕ) (raster : List ℕ) (k : Kept) → picture_left m raster k ≡ now m (picture_of_raster m raster) k

@@ -14,11 +14,11 @@ use Rattle.definitions.specs.Log.{closing_places, last_content, is_content, last
 use Rattle.definitions.specs.LogFile.{value_bytes}
 use Rattle.file.specs.Layout.{RecordsFit, records_at}
 use Rattle.file.proofs.Laid.{fewer_there}
-use Rattle.log.specs.declared.entry.Entry.{Entry}
-use Rattle.log.specs.Entries.{is_closed, last_entry, Ended, records_from_place, content_part}
-use Rattle.log.proofs.Last.{content_run}
-use Rattle.log.proofs.Places.{start_is, count-is, places_are, lent_length, lent_content}
-use Rattle.log.proofs.Tests.{content_decides}
+use Rattle.edit_log.specs.declared.entry.Entry.{Entry}
+use Rattle.edit_log.specs.Entries.{is_closed, last_entry, Ended, records_from_place, content_part}
+use Rattle.edit_log.proofs.Last.{content_run}
+use Rattle.edit_log.proofs.Places.{start_is, count-is, places_are, lent_length, lent_content}
+use Rattle.edit_log.proofs.Tests.{content_decides}
 use Rattle.log_file.specs.Records.{places_in, keys_in_bytes, values_in_bytes, log_in}
 use Rattle.log_file.proofs.InBytes.{in_places, laid_first, places_after, run_in}
 

@@ -13,7 +13,7 @@ use Rattle.laws.proofs.FileBack.{length-read}
 use Rattle.laws.proofs.Records.{paired_back, take-paired, drop-paired}
 use Rattle.file.specs.Layout.{RecordsFit, file_key_at, file_bits_at, records_at, keys_at, values_at}
 use Rattle.file.proofs.ReadBytes.{number_on, record_read, key_read, value_read, keys_many, bits_many}
-use Rattle.log.specs.Entries.{records_from_place}
+use Rattle.edit_log.specs.Entries.{records_from_place}
 use Rattle.log_file.specs.Records.{places_in, keys_in_bytes, values_in_bytes}
 
 -- as many keys as places, and as many values

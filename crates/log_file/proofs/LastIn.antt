@@ -3,9 +3,9 @@ use Prim.Native.Nat.{ℕ, ◌+◌, ◌-◌}
 use mathlib.Core.Path.{◌≡◌, ◌∙◌}
 use mathlib.Core.List.{List}
 use Rattle.definitions.specs.Log.{closing_places}
-use Rattle.log.specs.declared.entry.Entry.{Entry}
-use Rattle.log.specs.Entries.{closing_key, closing_feature, closing_count, last_entry, Ended}
-use Rattle.log.proofs.Last.{last_found}
+use Rattle.edit_log.specs.declared.entry.Entry.{Entry}
+use Rattle.edit_log.specs.Entries.{closing_key, closing_feature, closing_count, last_entry, Ended}
+use Rattle.edit_log.proofs.Last.{last_found}
 use Rattle.log_file.specs.Records.{keys_in_bytes, values_in_bytes, log_in}
 
 -- the numbers that were read make the last entry

@@ -8,7 +8,7 @@ use lib.ListN.{length, take, drop, length-take}
 use lib.Seq.{take_all}
 use Rattle.definitions.specs.Read.{paired, records_of}
 use Rattle.definitions.specs.Log.{is_sound, no_log}
-use Rattle.log.proofs.Parts.{back_decides}
+use Rattle.edit_log.proofs.Parts.{back_decides}
 use Rattle.log_file.specs.Records.{places_in, keys_in_bytes, values_in_bytes, log_in}
 use Rattle.log_file.proofs.Lent.{rest_lent}
 use Rattle.log_file.proofs.InBytes.{in_keys, in_values, places_after, keys_after, values_after}

@@ -27,8 +27,8 @@ use Rattle.laws.proofs.Records.{paired_back, records-length, records_first, reco
 use Rattle.list.proofs.Tests.{good_settings}
 use Rattle.laws.proofs.Buffer.{past_over}
 use Rattle.file.proofs.SliceRecords.{over_room}
-use Rattle.log.proofs.Parts.{whole_log}
-use Rattle.log.specs.Entries.{WholeLog}
+use Rattle.edit_log.proofs.Parts.{whole_log}
+use Rattle.edit_log.specs.Entries.{WholeLog}
 use Rattle.log_file.proofs.LogAccepted.{store_accepted, store_accepts, store_count, store_leaves, load_accepted, load_accepts, load_gives, load_leaves}
 use Rattle.log_file.proofs.LogFileOf.{Words, words_fit, read_m, read_s, read_used, read_in_force, written_mark, written_version, length-file, written-length, written_not_short, read-records, log_file_back}
 

@@ -22,8 +22,8 @@ use Rattle.laws.proofs.FileOf.{length-records}
 use Rattle.laws.proofs.Records.{records-length}
 use Rattle.laws.proofs.Buffer.{sets_over}
 use Rattle.file.specs.Room.{RoomFor}
-use Rattle.log.proofs.Parts.{whole_log}
-use Rattle.log.specs.Entries.{WholeLog}
+use Rattle.edit_log.proofs.Parts.{whole_log}
+use Rattle.edit_log.specs.Entries.{WholeLog}
 use Rattle.log_file.proofs.Lent.{rest_lent, rest_back}
 use Rattle.log_file.proofs.LogAccepted.{store_accepts}
 use Rattle.log_file.proofs.HeadBytes.{length-head, log_head_then}

@@ -7,7 +7,7 @@ ghost use Rattle.log_file.specs.Records.{places_in, keys_in_bytes, values_in_byt
 use crate::{entry, step};
 use file::check_file;
 use keys::Key;
-use log::entry::Entry;
+use edit_log::entry::Entry;
 
 // The used records end in an entry: all of it is there and closed, its key is valid, and its content is a list of that block.
 fn ends_in_entry(m: u32, s: u32, bytes: &[u8], used: usize) -> bool

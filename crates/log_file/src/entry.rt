@@ -1,12 +1,12 @@
 // An entry of a log in the bytes of its file: what crate log reads from two slices is read from the records as they lie there.
 ghost use Rattle.std.specs.Prelude.{◌≡◌, ◌≤◌, ◌<◌, ◌^◌, get_or};
 ghost use Rattle.definitions.specs.Log.{closing_places};
-ghost use Rattle.log.specs.Entries.{closing_count, is_closed, last_entry, Ended};
+ghost use Rattle.edit_log.specs.Entries.{closing_count, is_closed, last_entry, Ended};
 ghost use Rattle.log_file.specs.Records.{places_in, keys_in_bytes, values_in_bytes, log_in};
 
 use file::layout;
-use log::entry;
-use log::entry::Entry;
+use edit_log::entry;
+use edit_log::entry::Entry;
 
 // The key and the value of record i.
 pub fn key_at(bytes: &[u8], i: usize) -> u32

@@ -1,13 +1,13 @@
 // A step of a log in the bytes of its file: a single entry, or a group of entries with the two records behind it that close it.
 ghost use Rattle.std.specs.Prelude.{◌≡◌, ◌≤◌, length};
 ghost use Rattle.definitions.specs.Log.{ends_in_mark, before_entries};
-ghost use Rattle.log.specs.Steps.{last_step, EntriesLast, Stepped};
+ghost use Rattle.edit_log.specs.Steps.{last_step, EntriesLast, Stepped};
 ghost use Rattle.log_file.specs.Records.{places_in, keys_in_bytes, values_in_bytes, log_in};
 
 use crate::entry;
-use log::entry::Entry;
-use log::group::Group;
-use log::step::LogStep;
+use edit_log::entry::Entry;
+use edit_log::group::Group;
+use edit_log::step::LogStep;
 
 // The last record closes a group: its key is 0, and its number is the mark, which is no feature.
 pub fn ends_in_mark(bytes: &[u8], used: usize) -> bool

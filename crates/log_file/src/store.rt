@@ -27,7 +27,7 @@ pub fn store(
             count: 0,
         };
     }
-    if !log::is_log(m, s, keys, values, used, in_force) {
+    if !edit_log::is_log(m, s, keys, values, used, in_force) {
         return Counted {
             refusal: Refusal::LOG,
             count: 0,

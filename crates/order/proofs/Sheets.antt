@@ -1,11 +1,11 @@
 -- What accepted paints leave on a sheet: the list and the summary of the picture with the paints in turn. Any buffers may be the first, since an
 -- accepted paint has checked them. Rests on the steps of the history and on paint's own definitions.
-use Prim.Native.Nat.{ℕ, ◌+◌}
+use Prim.Native.Nat.{ℕ}
 use mathlib.Core.Path.{◌≡◌, refl, sym, ap, subst, ◌∙◌}
 use mathlib.Core.Bool.{Bool, true, false, ◌&&◌}
 use mathlib.Core.List.{List, [], ◌∷◌}
 use lib.ListN.{length}
-use lib.Dec.{leb, ltb, eqb}
+use lib.Dec.{leb, eqb}
 use borrow.Author.Tests.{eqb-true, not-false}
 use Rattle.keys.specs.Key.{valid_key}
 use Rattle.keys.proofs.Cases.{and_left, and_right, and_both}

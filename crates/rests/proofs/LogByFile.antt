@@ -10,7 +10,7 @@ use Rattle.definitions.specs.LogFile.{used_in, log_records_in}
 use Rattle.definitions.specs.Calls.StoreLog.{store_log_refusal, store_log, store_log_file}
 use Rattle.definitions.specs.Calls.LoadLog.{load_log_refusal, load_log, load_log_keys, load_log_values}
 use Rattle.laws.proofs.FileBack.{length-read}
-use Rattle.log.proofs.Parts.{whole_log}
+use Rattle.edit_log.proofs.Parts.{whole_log}
 use Rattle.file.proofs.SliceRecords.{over_room}
 use Rattle.log_file.proofs.LogAccepted.{store_accepted, load_accepted, load_gives, load_leaves}
 use Rattle.log_file.proofs.LogFileOf.{Words}

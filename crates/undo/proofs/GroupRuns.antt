@@ -1,4 +1,4 @@
--- The entries of a group as a run of crate deeds, and what the deed over them makes of a picture. Rests on log's GroupEntries and deeds' PutBack.
+-- The entries of a group as a run of crate deeds, and what the deed over them makes of a picture. Rests on edit_log's GroupEntries and deeds' PutBack.
 use Prim.Native.Nat.{ℕ, suc, ◌-◌, ◌≤◌}
 use mathlib.Core.Path.{◌≡◌, sym, ◌∙◌, ap, ap₂, subst}
 use mathlib.Core.List.{List}
@@ -10,10 +10,10 @@ use Rattle.definitions.specs.List.{Record}
 use Rattle.definitions.specs.Read.{records_of}
 use Rattle.definitions.specs.Log.{closing_places, step_count, step_entries, before_step}
 use Rattle.laws.proofs.Records.{records-length}
-use Rattle.log.specs.declared.step.LogStep.{LogStep}
-use Rattle.log.specs.Steps.{last_step, Stepped, EntriesBetween, none_between, one_between}
-use Rattle.log.proofs.GroupChecked.{entries_at}
-use Rattle.log.proofs.GroupEntries.{group_between}
+use Rattle.edit_log.specs.declared.step.LogStep.{LogStep}
+use Rattle.edit_log.specs.Steps.{last_step, Stepped, EntriesBetween, none_between, one_between}
+use Rattle.edit_log.proofs.GroupChecked.{entries_at}
+use Rattle.edit_log.proofs.GroupEntries.{group_between}
 use Rattle.deeds.specs.declared.run.Run.{Run}
 use Rattle.deeds.specs.declared.deed.Deed.{Deed}
 use Rattle.deeds.specs.Step.{step_over}

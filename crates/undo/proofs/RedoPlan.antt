@@ -18,13 +18,13 @@ use Rattle.laws.proofs.LogEntries.{ends_in_entry}
 use Rattle.laws.proofs.LastStep.{count_single, entries_single, step_single}
 use Rattle.laws.proofs.Records.{records-length, records_first}
 use Rattle.list.specs.Own.{OwnList, shown_by}
-use Rattle.log.specs.declared.entry.Entry.{Entry}
-use Rattle.log.specs.declared.step.LogStep.{LogStep}
-use Rattle.log.specs.Entries.{last_entry, Ended}
-use Rattle.log.specs.Steps.{Divided}
-use Rattle.log.proofs.First.{FirstOf, first_sound}
-use Rattle.log.proofs.Last.{entry_ended}
-use Rattle.log.proofs.Parts.{part_length, part_redo}
+use Rattle.edit_log.specs.declared.entry.Entry.{Entry}
+use Rattle.edit_log.specs.declared.step.LogStep.{LogStep}
+use Rattle.edit_log.specs.Entries.{last_entry, Ended}
+use Rattle.edit_log.specs.Steps.{Divided}
+use Rattle.edit_log.proofs.First.{FirstOf, first_sound}
+use Rattle.edit_log.proofs.Last.{entry_ended}
+use Rattle.edit_log.proofs.Parts.{part_length, part_redo}
 use Rattle.replace.specs.Putting.{Replaced}
 use Rattle.replace.specs.declared.plan.Plan.{Plan}
 use Rattle.edit.specs.PaintCall.{Paintable, paint_plan}

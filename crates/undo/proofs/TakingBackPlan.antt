@@ -16,10 +16,10 @@ use Rattle.definitions.specs.Area.{summary_of}
 use Rattle.definitions.specs.Calls.TakeBack.{restored_picture, restored}
 use Rattle.laws.proofs.LastStep.{count_single, entries_single}
 use Rattle.list.specs.Own.{shown_by}
-use Rattle.log.specs.declared.entry.Entry.{Entry}
-use Rattle.log.specs.Entries.{last_entry, content_part}
-use Rattle.log.proofs.Last.{content-length}
-use Rattle.log.proofs.Places.{count-is, places_are, first-bits, lent_length, lent_content}
+use Rattle.edit_log.specs.declared.entry.Entry.{Entry}
+use Rattle.edit_log.specs.Entries.{last_entry, content_part}
+use Rattle.edit_log.proofs.Last.{content-length}
+use Rattle.edit_log.proofs.Places.{count-is, places_are, first-bits, lent_length, lent_content}
 use Rattle.replace.specs.Put.{top_for, plan_at, plan_of, edited}
 use Rattle.replace.specs.Putting.{Puttable, Replaced}
 use Rattle.replace.specs.declared.plan.Plan.{Plan}

@@ -15,8 +15,8 @@ use Rattle.definitions.specs.Calls.Edit.{LentSheet, as_lent, edit_refusal}
 use Rattle.definitions.specs.Calls.TakeBack.{restored_picture, restored, take_back, TakenBack}
 use Rattle.laws.proofs.Edits.{SheetPassed}
 use Rattle.list.proofs.Accepted.{content_is}
-use Rattle.log.proofs.Last.{last_entry_there}
-use Rattle.log.proofs.Parts.{force_sound}
+use Rattle.edit_log.proofs.Last.{last_entry_there}
+use Rattle.edit_log.proofs.Parts.{force_sound}
 use Rattle.replace.specs.Putting.{Replaced}
 use Rattle.edit.specs.EditCallChecks.{list_room_refusal}
 use Rattle.undo.specs.TakingBackCall.{Takeable, Restorable}

@@ -1,14 +1,14 @@
 -- What the functions of redo ask and leave: a call that the rows before the last have passed, the records to redo, the next entry and its plan where it is a
--- single one, and the call's promise. Only contracts need these. Rests on the definitions of a log and on log's Entries.
+-- single one, and the call's promise. Only contracts need these. Rests on the definitions of a log and on edit_log's Entries.
 use Rattle.std.specs.Prelude.{ℕ, ◌≤◌, ◌<◌, ◌≡◌, List}
 use Rattle.keys.specs.Key.{slot_limit}
 use Rattle.definitions.specs.List.{Record}
 use Rattle.definitions.specs.Log.{first_step}
 use Rattle.definitions.specs.Calls.Edit.{LentSheet}
-use Rattle.log.specs.declared.entry.Entry.{Entry}
-use Rattle.log.specs.declared.step.LogStep.{LogStep}
-use Rattle.log.specs.Entries.{last_entry, WholeLog}
-use Rattle.log.specs.Steps.{last_step}
+use Rattle.edit_log.specs.declared.entry.Entry.{Entry}
+use Rattle.edit_log.specs.declared.step.LogStep.{LogStep}
+use Rattle.edit_log.specs.Entries.{last_entry, WholeLog}
+use Rattle.edit_log.specs.Steps.{last_step}
 use Rattle.edit.specs.EditCallChecks.{sheet_refusal}
 
 -- what 1, 4, 18, 5 and 20 do not refuse

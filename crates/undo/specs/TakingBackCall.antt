@@ -8,7 +8,7 @@ use Rattle.definitions.specs.Edit.{content_of}
 use Rattle.definitions.specs.Log.{last_key, last_count, last_content, ends_in_mark}
 use Rattle.definitions.specs.Calls.Edit.{LentSheet}
 use Rattle.list.specs.Own.{OwnList}
-use Rattle.log.specs.Entries.{Ended}
+use Rattle.edit_log.specs.Entries.{Ended}
 use Rattle.replace.specs.Put.{plan_of}
 use Rattle.replace.specs.declared.plan.Plan.{Plan}
 use Rattle.edit.specs.EditCallChecks.{sheet_refusal}

@@ -13,7 +13,7 @@ use deeds::run;
 use deeds::run::Run;
 use definitions::Edited;
 use definitions::refusal::Refusal;
-use log::step as steps;
+use edit_log::step as steps;
 
 // Which way a step of the log goes: it is taken back, or redone.
 #[derive(Clone, Copy)]

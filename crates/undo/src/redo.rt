@@ -16,9 +16,9 @@ use definitions::refusal::Refusal;
 use edit::decision::Decision;
 use edit::{decision, paint, recount};
 use keys::power;
-use log::entry::Entry;
-use log::step::LogStep;
-use log::{entry, step as steps};
+use edit_log::entry::Entry;
+use edit_log::step::LogStep;
+use edit_log::{entry, step as steps};
 use replace::plan;
 
 // The first of the steps to redo, by its places among them.

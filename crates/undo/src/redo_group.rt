@@ -8,7 +8,7 @@ ghost use Rattle.undo.specs.RedoCall.{Redoable};
 use crate::group;
 use crate::group::Direction;
 use definitions::Edited;
-use log::entry::Entry;
+use edit_log::entry::Entry;
 
 // The next group that was taken back, whose entries end at a place among the records to redo, is in force again, and the summary follows.
 pub fn redo_group(

@@ -3,7 +3,7 @@
 ghost use Rattle.std.specs.Prelude.{◌≡◌, false, ◌+◌, ◌≤◌};
 ghost use Rattle.definitions.specs.Read.{room, records_of};
 ghost use Rattle.definitions.specs.Log.{ends_in_mark};
-ghost use Rattle.log.specs.Entries.{last_entry, content_part};
+ghost use Rattle.edit_log.specs.Entries.{last_entry, content_part};
 ghost use Rattle.replace.specs.Put.{edited};
 ghost use Rattle.replace.specs.Putting.{Puttable, Replaced};
 ghost use Rattle.edit.specs.EditCallChecks.{list_room_refusal, decided};
@@ -16,8 +16,8 @@ use definitions::Edited;
 use definitions::refusal::Refusal;
 use edit::decision::Decision;
 use edit::{decision, recount};
-use log::entry::Entry;
-use log::{entry, step as steps};
+use edit_log::entry::Entry;
+use edit_log::{entry, step as steps};
 use replace::plan::Plan;
 use replace::{plan, putting};
 

@@ -19,7 +19,7 @@ use Rattle.definitions.specs.declared.Window.{Window}
 use Rattle.definitions.specs.Log.{entries_of}
 use Rattle.definitions.specs.Calls.Paint.{gained}
 use Rattle.list.specs.Own.{shown_by}
-use Rattle.log.specs.Entries.{Logged}
+use Rattle.edit_log.specs.Entries.{Logged}
 use Rattle.window_paint.specs.WindowLogging.{largest_in, entries_below, Enterable}
 use Rattle.edit.proofs.ContentStands.{logged_same}
 use Rattle.edit.proofs.Relogging.{over_join}

@@ -15,8 +15,8 @@ use Rattle.definitions.specs.declared.Window.{Window}
 use Rattle.definitions.specs.Log.{closing_places, grouped, group_of}
 use Rattle.definitions.specs.Calls.PaintWindow.{group_gained}
 use Rattle.list.specs.Own.{shown_by}
-use Rattle.log.specs.Entries.{Logged}
-use Rattle.log.specs.Groups.{group_closing}
+use Rattle.edit_log.specs.Entries.{Logged}
+use Rattle.edit_log.specs.Groups.{group_closing}
 use Rattle.window_paint.specs.WindowLogging.{entries_below, Enterable, FreshGroup}
 use Rattle.edit.proofs.ContentStands.{logged_same}
 use Rattle.window_paint.proofs.EntriesLogged.{logged_rest, logged_join}

@@ -12,7 +12,7 @@ use definitions::refusal::Refusal;
 use definitions::{Edited, Window};
 use edit::decision;
 use keys::{Key, block};
-use log::group;
+use edit_log::group;
 use walk::bounds;
 
 // The refusal; where it is 0, the number of entries that the group will have.

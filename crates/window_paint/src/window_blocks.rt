@@ -9,7 +9,7 @@ use definitions::Window;
 use edit::logging;
 use keys::block::{TreeBlock, child};
 use keys::power;
-use log::entry;
+use edit_log::entry;
 use walk::Spot;
 use walk::lying::Lie;
 

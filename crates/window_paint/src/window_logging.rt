@@ -5,7 +5,7 @@ ghost use Rattle.definitions.specs.Calls.Paint.{gained};
 ghost use Rattle.definitions.specs.Calls.PaintWindow.{group_gained};
 ghost use Rattle.list.specs.Own.{shown_by};
 ghost use Rattle.list.specs.Sorted.{Near};
-ghost use Rattle.log.specs.Entries.{Logged};
+ghost use Rattle.edit_log.specs.Entries.{Logged};
 ghost use Rattle.edit.specs.PaintCall.{Relogged};
 ghost use Rattle.window_paint.specs.WindowLogging.{entries_below, BlockFrom, Enterable, FreshGroup};
 
@@ -14,8 +14,8 @@ use definitions::Window;
 use edit::logging;
 use keys::block::{TreeBlock, child};
 use keys::{block, power};
-use log::entry::Entry;
-use log::{entry, group};
+use edit_log::entry::Entry;
+use edit_log::{entry, group};
 use walk::lying::Lie;
 
 // The place past the entries that are written, and the place where the search for the next block begins.

@@ -1,6 +1,6 @@
 -- `check::ends_in_entries` meets its contract: after each turn the records end in the entries exactly when those that are left end in the others.
 use native.Mathlib.Omega.{arith}
-use Rattle.log.proofs.Walk.{PassedEntries, check_all, all_passed, one_fails, one_ended, one_passed}
+use Rattle.edit_log.proofs.Walk.{PassedEntries, check_all, all_passed, one_fails, one_ended, one_passed}
 use Rattle.log_file.specs.Records.{keys_in_bytes, values_in_bytes}
 use Rattle.log_file.proofs.InBytes.{in_keys, in_values}
 use Rattle.log_file.proofs.check.ends_in_entries.Statement.{statement}

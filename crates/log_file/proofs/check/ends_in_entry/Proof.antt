@@ -9,8 +9,8 @@ use borrow.Author.Tests.{not-true, not-false}
 use Rattle.keys.specs.Key.{valid_key}
 use Rattle.definitions.specs.Log.{is_content}
 use Rattle.file.specs.Layout.{records_at}
-use Rattle.log.specs.Entries.{is_closed, Ended}
-use Rattle.log.proofs.Tests.{closed_ended, not_closed, not_valid}
+use Rattle.edit_log.specs.Entries.{is_closed, Ended}
+use Rattle.edit_log.proofs.Tests.{closed_ended, not_closed, not_valid}
 use Rattle.log_file.specs.Records.{keys_in_bytes, values_in_bytes, log_in}
 use Rattle.log_file.proofs.InBytes.{in_keys, in_values}
 use Rattle.log_file.proofs.Lent.{rest_lent}

@@ -1,6 +1,6 @@
 -- `check::ends_in_group` meets its contract: each way out answers what the definition says of the group's closing records and of the entries before.
 use mathlib.Core.Path.{sym, ◌∙◌}
-use Rattle.log.proofs.GroupChecked.{too_few, other_key, no_number, entries_decide}
+use Rattle.edit_log.proofs.GroupChecked.{too_few, other_key, no_number, entries_decide}
 use Rattle.log_file.proofs.InBytes.{in_keys, in_values}
 use borrow.Author.Rules.{rules}
 use Rattle.log_file.proofs.check.ends_in_group.Statement.{statement}

@@ -1,6 +1,6 @@
 -- `check::ends_in_step` meets its contract: the mark says which of the two checks decides.
 use mathlib.Core.Path.{sym, ◌∙◌}
-use Rattle.log.proofs.Sound.{group_decides, single_decides}
+use Rattle.edit_log.proofs.Sound.{group_decides, single_decides}
 use borrow.Author.Rules.{rules}
 use Rattle.log_file.proofs.check.ends_in_step.Statement.{statement}
 use Rattle.log_file.proofs.check.ends_in_step.Tie as tie

@@ -1,6 +1,6 @@
 -- `check::is_log` meets its contract: the records in force and those to redo are checked one after the other.
 use native.Mathlib.Omega.{arith}
-use Rattle.log.proofs.Parts.{past_used, front_fails}
+use Rattle.edit_log.proofs.Parts.{past_used, front_fails}
 use Rattle.log_file.proofs.InBytes.{in_keys, in_values}
 use Rattle.log_file.proofs.LogParts.{rest_there, rest_begins, rest_decides}
 use borrow.Author.Rules.{rules}

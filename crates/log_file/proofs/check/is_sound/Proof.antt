@@ -1,6 +1,6 @@
 -- `check::is_sound` meets its contract: after each turn the records are sound exactly when those that are left are.
 use native.Mathlib.Omega.{arith}
-use Rattle.log.proofs.Sound.{StepsPassed, check_begins, ends, stops, stepped, falls, turns}
+use Rattle.edit_log.proofs.Sound.{StepsPassed, check_begins, ends, stops, stepped, falls, turns}
 use Rattle.log_file.specs.Records.{keys_in_bytes, values_in_bytes}
 use Rattle.log_file.proofs.InBytes.{in_keys, in_values}
 use Rattle.log_file.proofs.check.is_sound.Statement.{statement}

@@ -4,8 +4,8 @@ use mathlib.Core.Path.{◌≡◌, sym, ap, ◌∙◌}
 use native.Mathlib.Omega.{arith}
 use lib.Dec.{ltb}
 use Rattle.definitions.specs.Log.{last_count, closing_places}
-use Rattle.log.proofs.Last.{last_count_at}
-use Rattle.log.proofs.Tests.{too_long, two_keys, feature_decides}
+use Rattle.edit_log.proofs.Last.{last_count_at}
+use Rattle.edit_log.proofs.Tests.{too_long, two_keys, feature_decides}
 use Rattle.log_file.specs.Records.{log_in}
 use Rattle.log_file.proofs.InBytes.{in_keys, in_values}
 use borrow.Author.Rules.{rules}

@@ -1,6 +1,6 @@
 -- `entry::last_entry_there` meets its contract: the closing records have the key, the count and the feature, and the count says where the content starts.
 use native.Mathlib.Omega.{arith}
-use Rattle.log.proofs.Last.{taken_there}
+use Rattle.edit_log.proofs.Last.{taken_there}
 use Rattle.log_file.proofs.InBytes.{in_places}
 use Rattle.log_file.proofs.LastIn.{entry_read}
 use borrow.Author.Rules.{rules}

@@ -3,7 +3,7 @@ use Prim.Native.Nat.{ℕ, ◌<◌}
 use mathlib.Core.Path.{◌≡◌, sym, ap, ◌∙◌}
 use native.Mathlib.Omega.{arith}
 use lib.Dec.{eqb}
-use Rattle.log.proofs.Mark.{none_marks, other_key, number_decides}
+use Rattle.edit_log.proofs.Mark.{none_marks, other_key, number_decides}
 use Rattle.log_file.proofs.InBytes.{in_keys, in_values}
 use borrow.Author.Rules.{rules}
 use Rattle.log_file.proofs.step.ends_in_mark.Statement.{statement}

@@ -1,6 +1,6 @@
 -- `deeds::entries_start` meets its contract: after each turn what stands before the entries is what stands before those that are left.
 use native.Mathlib.Omega.{arith}
-use Rattle.log.proofs.Walk.{Walked, walk_all, walked_all, walk_ended, walk_on}
+use Rattle.edit_log.proofs.Walk.{Walked, walk_all, walked_all, walk_ended, walk_on}
 use Rattle.log_file.specs.Records.{keys_in_bytes, values_in_bytes}
 use Rattle.log_file.proofs.step.entries_start.Statement.{statement}
 use Rattle.log_file.proofs.step.entries_start.Tie as tie

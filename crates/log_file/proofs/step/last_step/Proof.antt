@@ -1,5 +1,5 @@
 -- `deeds::last_step` meets its contract: without the mark the step is the last entry, and with it the entries before the group's closing records.
-use Rattle.log.proofs.StepPlaces.{single_ended, single_found, group_room, group_entries, group_found}
+use Rattle.edit_log.proofs.StepPlaces.{single_ended, single_found, group_room, group_entries, group_found}
 use Rattle.log_file.proofs.InBytes.{in_places}
 use Rattle.log_file.proofs.step.last_step.Statement.{statement}
 use Rattle.log_file.proofs.step.last_step.Tie as tie

@@ -6,7 +6,7 @@ use lib.ListN.{length}
 use Rattle.definitions.specs.Read.{records_of}
 use Rattle.definitions.specs.Log.{closing_places}
 use Rattle.definitions.specs.Calls.TakeBack.{restored}
-use Rattle.log.proofs.Places.{places_are}
+use Rattle.edit_log.proofs.Places.{places_are}
 use Rattle.undo.specs.TakingBackCall.{restore_plan}
 use Rattle.edit.proofs.Decided.{refuses, grants}
 use Rattle.edit.proofs.Planned.{old_there, few_levels, length-told}

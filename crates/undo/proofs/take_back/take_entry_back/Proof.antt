@@ -6,8 +6,8 @@ use Rattle.definitions.specs.Read.{records_of}
 use Rattle.definitions.specs.Calls.TakeBack.{restored}
 use Rattle.laws.proofs.LastStep.{before_single}
 use Rattle.laws.proofs.Edits.{edit_refused}
-use Rattle.log.specs.Entries.{last_entry}
-use Rattle.log.proofs.Places.{start_is}
+use Rattle.edit_log.specs.Entries.{last_entry}
+use Rattle.edit_log.proofs.Places.{start_is}
 use Rattle.edit.specs.EditCallChecks.{list_room_refusal}
 use Rattle.undo.specs.TakingBackCall.{Restorable, restore_plan}
 use Rattle.edit.proofs.Decided.{refused, granted}

@@ -1,0 +1,11 @@
+-- `is_sound` meets its contract: after each turn the records are sound exactly when those that are left are.
+use Rattle.edit_log.proofs.Sound.{StepsPassed}
+use Rattle.edit_log.proofs.is_sound.Given as goal
+
+abbrev pub invariant-loop-end : goal.invariant-loop-end
+invariant-loop-end l =
+    StepsPassed l.m l.s l.keys l.values l.used l.end
+
+abbrev pub decreases-loop-end : goal.decreases-loop-end
+decreases-loop-end l =
+    l.end
