@@ -11,22 +11,13 @@ use Rattle.definitions.specs.List.{keys_of, values_of}
 use Rattle.replace.specs.Plant.{leaves}
 use Rattle.replace.specs.Planting.{WroteFrom}
 use Rattle.replace.proofs.Field.{leaves-length}
-use Rattle.replace.proofs.planted.write_leaves.Statement.{statement}
-use Rattle.replace.proofs.planted.write_leaves.Tie as tie
+use Rattle.replace.proofs.planted.write_leaves.Invariants.{Left}
+use Rattle.replace.proofs.planted.write_leaves.Goals as goal
+use Rattle.replace.proofs.planted.write_leaves.Lts as lts
+use Rattle.replace.proofs.planted.write_leaves.Reads as own
 
-record Left (keys₀ bits₀ : List ℕ) (at parent step first count g : ℕ) (keys bits : List ℕ) (done place : ℕ) : Type 0 where
-  within : done ≤ count
-  place_is : place ≡ at + done
-  keys_size : length keys ≡ length keys₀
-  bits_size : length bits ≡ length bits₀
-  in_keys : (h : ℕ) → step ≡ 5 ^ h → sets keys place (keys_of (leaves g parent h (count - done) (first + done))) ≡ sets keys₀ at (keys_of (leaves g parent h count first))
-  in-bits : (h : ℕ) → step ≡ 5 ^ h → sets bits place (values_of (leaves g parent h (count - done) (first + done))) ≡ sets bits₀ at (values_of (leaves g parent h count first))
-
-abbrev invariant-loop : tie.invariant-loop
-invariant-loop keys₀ bits₀ at parent step first count g done₀ place₀ keys bits done place = Left keys₀ bits₀ at parent step first count g keys bits done place
-
-abbrev decreases-loop : tie.decreases-loop
-decreases-loop keys₀ bits₀ at parent step first count g done₀ place₀ keys bits done place = count - done
+abbrev At-In-loop : Type 0
+At-In-loop = lts.In-loop own.Pre own.Post goal.the-invariant-loop-done goal.the-decreases-loop-done
 
 begins : (keys bits : List ℕ) (at parent step first count g : ℕ) → Left keys bits at parent step first count g keys bits 0 at
 begins keys bits at parent step first count g =
@@ -80,75 +71,70 @@ module _ {keys₀ bits₀ : List ℕ} {at parent step first count g : ℕ} {keys
         in-bits = ap (λ (n : ℕ). sets bits place (values_of (leaves g parent h n (first + done)))) (sym none) ∙ p.in-bits h e;
       }
 
-loop-holds : tie.Need-loop-init invariant-loop decreases-loop
-loop-holds c = begins _ _ _ _ _ _ _ _
+pub loop-done-init : goal.loop-done-init
+loop-done-init c = begins _ _ _ _ _ _ _ _
 
 -- what a turn's sums and places need
-record Turn (c : tie.In-loop invariant-loop decreases-loop) : Type 0 where
-  digit : c.before.before.args.first + c.before.loop.done ≤ 4
-  product : (c.before.before.args.first + c.before.loop.done) * c.before.before.args.step ≤ 4 * 5 ^ 9
-  in_keys : c.before.loop.place < length c.before.loop.keys
-  in-bits : c.before.loop.place < length c.before.loop.bits
-  scaled : c.before.loop.place * 4 < 2 ^ 64
+record Turn (c : At-In-loop) : Type 0 where
+  digit : c.args.first + c.loop-done.done ≤ 4
+  product : (c.args.first + c.loop-done.done) * c.args.step ≤ 4 * 5 ^ 9
+  in_keys : c.loop-done.place < length c.loop-done.keys
+  in-bits : c.loop-done.place < length c.loop-done.bits
+  scaled : c.loop-done.place * 4 < 2 ^ 64
 
-turn : (c : tie.In-loop invariant-loop decreases-loop) → Turn c
+turn : (c : At-In-loop) → Turn c
 turn c =
-    let pre = c.before.before.requires in
-    let p = c.before.loop.invariant in
-    let t = c.loop-test.true in
-    let digit : c.before.before.args.first + c.before.loop.done ≤ 4 = omega (arith, pre) in
-    let inside : c.before.loop.place < length c.before.loop.keys = omega (arith, pre, p.place_is, p.keys_size) in
+    let pre = c.requires in
+    let p = c.loop-done.invariant in
+    let t = c.loop-done-test.true in
+    let digit : c.args.first + c.loop-done.done ≤ 4 = omega (arith, pre) in
+    let inside : c.loop-done.place < length c.loop-done.keys = omega (arith, pre, p.place_is, p.keys_size) in
     record {
       digit = digit;
       product = mul-le-mul digit pre.4;
       in_keys = inside;
       in-bits = omega (arith, pre, p.place_is, p.bits_size);
-      scaled = omega (arith, inside, p.keys_size, c.before.before.well-formed);
+      scaled = omega (arith, inside, p.keys_size, c.well_formed);
     }
 
-add-keys : tie.Need-overflow-add-keys invariant-loop decreases-loop
-add-keys c = let t = turn c in omega (arith, t.digit)
+pub overflow_add-keys : goal.overflow_add-keys
+overflow_add-keys c = let t = turn c in omega (arith, t.digit)
 
-mul-keys : tie.Need-overflow-mul-keys invariant-loop decreases-loop
-mul-keys c = let t = turn c in omega (arith, t.product)
+pub overflow_mul-keys : goal.overflow_mul-keys
+overflow_mul-keys c = let t = turn c in omega (arith, t.product)
 
-add-keys-2 : tie.Need-overflow-add-keys-2 invariant-loop decreases-loop
-add-keys-2 c = let t = turn c in omega (arith, t.product, c.before.before.requires.3)
+pub overflow_add-keys-in-loop-done : goal.overflow_add-keys-in-loop-done
+overflow_add-keys-in-loop-done c = let t = turn c in omega (arith, t.product, c.requires.3)
 
-mul-keys-2 : tie.Need-overflow-mul-keys-2 invariant-loop decreases-loop
-mul-keys-2 c = let t = turn c in omega (arith, t.scaled)
+pub offset_bounds-keys-place : goal.offset_bounds-keys-place
+offset_bounds-keys-place c = let t = turn c in omega (arith, t.scaled)
 
-slice-write-keys : tie.Need-slice-write-keys invariant-loop decreases-loop
-slice-write-keys c = (turn c).in_keys
+pub bounds-keys-place : goal.bounds-keys-place
+bounds-keys-place c = (turn c).in_keys
 
-mul-bits : tie.Need-overflow-mul-bits invariant-loop decreases-loop
-mul-bits c = let t = turn c in omega (arith, t.scaled)
+pub offset_bounds-bits-place : goal.offset_bounds-bits-place
+offset_bounds-bits-place c = let t = turn c in omega (arith, t.scaled)
 
-slice-write-bits : tie.Need-slice-write-bits invariant-loop decreases-loop
-slice-write-bits c = (turn c).in-bits
+pub bounds-bits-place : goal.bounds-bits-place
+bounds-bits-place c = (turn c).in-bits
 
-add-place : tie.Need-overflow-add-place invariant-loop decreases-loop
-add-place c = let t = turn c in omega (arith, t.scaled)
+pub overflow_add-place : goal.overflow_add-place
+overflow_add-place c = let t = turn c in omega (arith, t.scaled)
 
-add_done : tie.Need-overflow-add-done invariant-loop decreases-loop
-add_done c = let t = turn c in omega (arith, t.digit)
+pub overflow_add-done : goal.overflow_add-done
+overflow_add-done c = let t = turn c in omega (arith, t.digit)
 
-loop-less : tie.Need-loop-smaller invariant-loop decreases-loop
-loop-less c = omega (arith, c.loop-test.true)
+pub loop-done-smaller : goal.loop-done-smaller
+loop-done-smaller c = omega (arith, c.loop-done-test.true)
 
-loop-again : tie.Need-loop-preserved invariant-loop decreases-loop
-loop-again c = turns c.before.loop.invariant c.loop-test.true
+pub loop-done-preserved : goal.loop-done-preserved
+loop-done-preserved c = turns c.loop-done.invariant c.loop-done-test.true
 
-same_length : tie.Need-same-length invariant-loop decreases-loop
-same_length c = c.before.loop.invariant.keys_size
+pub shape_of-keys : goal.shape_of-keys
+shape_of-keys c = c.loop-done.invariant.keys_size
 
-same-length-2 : tie.Need-same-length-2 invariant-loop decreases-loop
-same-length-2 c = c.before.loop.invariant.bits_size
+pub shape_of-bits : goal.shape_of-bits
+shape_of-bits c = c.loop-done.invariant.bits_size
 
-returns : tie.Need-returns invariant-loop decreases-loop
-returns c = ends c.before.loop.invariant c.loop-test.false
-
-pub write-leaves-spec : {M : Type 1} → statement M
-write-leaves-spec =
-    tie.close
-    (tie.spec invariant-loop decreases-loop loop-holds add-keys mul-keys add-keys-2 mul-keys-2 slice-write-keys mul-bits slice-write-bits add-place add_done loop-less loop-again same_length same-length-2 returns)
+pub returns : goal.returns
+returns c = ends c.loop-done.invariant c.loop-done-test.false
