@@ -3,7 +3,7 @@
 use Prim.Native.Nat.{ℕ, ◌+◌, ◌<◌, ◌≤◌}
 use mathlib.Core.Path.{◌≡◌, refl, sym, ap, ap₂, subst, ◌∙◌}
 use mathlib.Core.Bool.{true, false}
-use mathlib.Core.List.{List, [], ◌∷◌, ◌++◌}
+use mathlib.Core.List.{[], ◌∷◌, ◌++◌}
 use native.Mathlib.Omega.{arith}
 use lib.ListN.{length, drop}
 use lib.Seq.{drop-length}
@@ -12,7 +12,7 @@ use borrow.Author.Tests.{leb-false, ltb-false, not-false}
 use Rattle.keys.specs.Key.{root_key}
 use Rattle.keys.specs.Under.{Every}
 use Rattle.definitions.specs.Picture.{Picture}
-use Rattle.definitions.specs.List.{Record, list_of_picture}
+use Rattle.definitions.specs.List.{list_of_picture}
 use Rattle.definitions.specs.Read.{room, records_of, picture_of}
 use Rattle.definitions.specs.Area.{summary_of}
 use Rattle.definitions.specs.Window.{is_window, bad_window, largest_blocks}

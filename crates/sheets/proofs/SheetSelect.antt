@@ -1,7 +1,7 @@
 -- Select on the sheets: which blocks are given, in what order and how many; and a pixel of the ground lies in one of them exactly when it lies in the ground's
 -- window and has the feature. Rests on SheetExist, BlockLists and on what select means.
 use Prim.Native.Nat.{ℕ, zero, suc, ◌+◌, ◌-◌, ◌*◌, ◌^◌, ◌<◌}
-use mathlib.Core.Path.{◌≡◌, refl, sym, ap, ap₂, ◌∙◌}
+use mathlib.Core.Path.{◌≡◌, refl, sym, ap₂, ◌∙◌}
 use mathlib.Core.Logic.{◌↔◌}
 use mathlib.Core.Bool.{Bool, true, ◌&&◌}
 use mathlib.Core.List.{List, map, Memᴰ}

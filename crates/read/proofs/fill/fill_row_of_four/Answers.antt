@@ -1,0 +1,29 @@
+-- `fill::fill_row_of_four` meets its contract: after each turn the places passed have the feature.
+use Prim.Native.Nat.{◌+◌, ◌-◌}
+use native.Mathlib.Omega.{arith}
+use Rattle.read.proofs.Filling.{PlacesPassed, places_begin, place_is, places_long, place_goes, places_end}
+use Rattle.read.proofs.fill.fill_row_of_four.Goals as goal
+
+pub loop-i-init : goal.loop-i-init
+loop-i-init c = place_is (omega arith) (places_begin _ _ _ _ (omega arith))
+
+pub overflow_add-raster : goal.overflow_add-raster
+overflow_add-raster c = omega (arith, c.well_formed)
+
+pub bounds-raster-from : goal.bounds-raster-from
+bounds-raster-from c = let e = places_long c.loop-i.invariant in omega (arith, c.requires)
+
+pub overflow_add-i : goal.overflow_add-i
+overflow_add-i c = omega arith
+
+pub loop-i-smaller : goal.loop-i-smaller
+loop-i-smaller c = omega arith
+
+pub loop-i-preserved : goal.loop-i-preserved
+loop-i-preserved c = place_is (omega arith) (place_goes c.loop-i.invariant (omega (arith, c.loop-i-test.true)))
+
+pub shape_of-raster : goal.shape_of-raster
+shape_of-raster c = places_long c.loop-i.invariant
+
+pub returns : goal.returns
+returns c = places_end c.loop-i.invariant (omega (arith, c.loop-i-test.false))

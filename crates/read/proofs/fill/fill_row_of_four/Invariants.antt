@@ -1,0 +1,13 @@
+-- `fill::fill_row_of_four` meets its contract: after each turn the places passed have the feature.
+use Prim.Native.Nat.{◌+◌, ◌-◌}
+use native.Mathlib.Omega.{arith}
+use Rattle.read.proofs.Filling.{PlacesPassed, places_begin, place_is, places_long, place_goes, places_end}
+use Rattle.read.proofs.fill.fill_row_of_four.Given as goal
+
+abbrev pub invariant-loop-i : goal.invariant-loop-i
+invariant-loop-i l =
+    PlacesPassed l.initial.raster l.from (l.from + 4) l.feature l.raster (l.from + l.i)
+
+abbrev pub decreases-loop-i : goal.decreases-loop-i
+decreases-loop-i l =
+    4 - l.i
