@@ -1,6 +1,6 @@
 -- The place of a row in a table, row by row: the rows before it come before the row; where the row is in the table it stands there, and a row more or less
 -- is one at that place. Rests on RowPlaces and RowOrder of definitions.
-use Prim.Native.Nat.{ℕ, suc, ◌+◌, ◌-◌, ◌≤◌, ◌<◌}
+use Prim.Native.Nat.{ℕ, suc, ◌+◌, ◌≤◌, ◌<◌}
 use mathlib.Core.Path.{◌≡◌, refl, sym, ap, ap₂, ◌∙◌}
 use mathlib.Core.Bool.{true, false, ◌&&◌, ◌||◌}
 use mathlib.Core.List.{List, [], ◌∷◌, ◌++◌}

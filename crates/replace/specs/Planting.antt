@@ -1,5 +1,5 @@
 -- What the contracts of the planting functions say: a run of records was written into two slices from a place on. Only contracts need this.
-use Rattle.std.specs.Prelude.{ℕ, ◌+◌, ◌^◌, ◌≤◌, ◌<◌, ◌≡◌, List, length}
+use Rattle.std.specs.Prelude.{ℕ, ◌+◌, ◌≤◌, ◌<◌, ◌≡◌, List, length}
 use Rattle.std.proofs.lemmas.List.Edits.{sets}
 use Rattle.keys.specs.Key.{all_keys}
 use Rattle.definitions.specs.List.{Record, keys_of, values_of}

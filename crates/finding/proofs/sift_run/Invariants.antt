@@ -1,0 +1,30 @@
+-- `sift_run` meets its contract: what was sifted so far, with what the rest of the run gives, is what the whole run gives. The waivers passed
+-- begin before the keys that are still to come, since past a leaf these begin at its end or later. Rests on Leaves and Merge.
+use Prim.Native.Nat.{ℕ, ◌-◌, ◌≤◌, ◌<◌}
+use mathlib.Core.Path.{◌≡◌}
+use mathlib.Core.List.{List, ◌++◌}
+use lib.ListN.{length, get_or}
+use Rattle.finding.proofs.Until.{rest}
+use Rattle.finding.specs.declared.Sifting.{Sifting}
+use Rattle.finding.specs.Covering.{end_of}
+use Rattle.finding.specs.Sift.{Sifted}
+use Rattle.finding.proofs.sift_run.Given as goal
+
+-- the whole is what is done and what is left; the waivers passed have keys below x, and x is at or before what is still to come
+pub record Running (m limit id : ℕ) (waived record_keys : List ℕ) (n end : ℕ) (whole : List ℕ) (at st : Sifting) (ids₀ ids keys₀ keys : List ℕ) (i : ℕ) (left : List ℕ) : Type 0 where
+  pub done : List ℕ
+  pub joins : whole ≡ done ++ left
+  pub few : length done ≤ i
+  pub x : ℕ
+  pub sifted : Sifted m limit id waived done at st ids₀ ids keys₀ keys x
+  pub before_end : x ≤ end
+  pub before_keys : (j : ℕ) → i ≤ j → j < n → x ≤ get_or record_keys j 0
+  pub ends : (j : ℕ) → i ≤ j → j < n → get_or record_keys j 0 < end → end_of m (get_or record_keys j 0) ≤ end
+
+abbrev pub invariant-loop-i : goal.invariant-loop-i
+invariant-loop-i l =
+    Running l.job.m l.job.limit l.job.id l.waived l.keys l.n l.end (rest l.keys l.bits l.n l.end l.bit l.first) l.initial.st l.st l.initial.found_ids l.found_ids l.initial.found_keys l.found_keys l.i (rest l.keys l.bits l.n l.end l.bit l.i)
+
+abbrev pub decreases-loop-i : goal.decreases-loop-i
+decreases-loop-i l =
+    l.n - l.i
