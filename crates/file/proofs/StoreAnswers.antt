@@ -1,6 +1,6 @@
 -- The answers of store, one for each way out of the code: its result and what it leaves in the file's buffer. Rests on the laws of tables, Accepted,
 -- Stores and FileOf.
-use Prim.Native.Nat.{ℕ, ◌+◌, ◌^◌, ◌≤◌, ◌<◌}
+use Prim.Native.Nat.{ℕ, ◌^◌, ◌≤◌, ◌<◌}
 use mathlib.Core.Path.{◌≡◌, refl, sym, ap, ap₂, ◌∙◌}
 use mathlib.Core.Bool.{true, false, cond, not}
 use mathlib.Core.List.{List, ◌++◌}

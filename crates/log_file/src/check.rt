@@ -5,9 +5,9 @@ ghost use Rattle.definitions.specs.Log.{last_is_entry, ends_in_mark, ends_in_ent
 ghost use Rattle.log_file.specs.Records.{places_in, keys_in_bytes, values_in_bytes, log_in};
 
 use crate::{entry, step};
+use edit_log::entry::Entry;
 use file::check_file;
 use keys::Key;
-use edit_log::entry::Entry;
 
 // The used records end in an entry: all of it is there and closed, its key is valid, and its content is a list of that block.
 fn ends_in_entry(m: u32, s: u32, bytes: &[u8], used: usize) -> bool

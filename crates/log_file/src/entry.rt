@@ -4,9 +4,9 @@ ghost use Rattle.definitions.specs.Log.{closing_places};
 ghost use Rattle.edit_log.specs.Entries.{closing_count, is_closed, last_entry, Ended};
 ghost use Rattle.log_file.specs.Records.{places_in, keys_in_bytes, values_in_bytes, log_in};
 
-use file::layout;
 use edit_log::entry;
 use edit_log::entry::Entry;
+use file::layout;
 
 // The key and the value of record i.
 pub fn key_at(bytes: &[u8], i: usize) -> u32

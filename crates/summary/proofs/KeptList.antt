@@ -1,15 +1,14 @@
 -- The list that is checked by the pass, and the counts of its blocks from what the pass kept: the root is a node of sixteen blocks, and a block whose
 -- place is kept has the counts that stand there. Rests on list's Content, and on CountBlock and BlockNumbers.
-use Prim.Native.Nat.{ℕ, suc, ◌+◌, ◌-◌, ◌*◌, ◌^◌, ◌≤◌, ◌<◌}
+use Prim.Native.Nat.{ℕ, suc, ◌+◌, ◌-◌, ◌^◌, ◌≤◌, ◌<◌}
 use mathlib.Core.Path.{◌≡◌, refl, sym, ◌∙◌, ap, ap₂}
-use mathlib.Core.Bool.{true, false}
-use mathlib.Core.List.{List, []}
+use mathlib.Core.List.{List}
 use native.Mathlib.Nat.{pow-suc, pow-le-pow_right}
 use native.Mathlib.Omega.{arith}
 use lib.Dec.{eqb, lit<}
-use lib.ListN.{length, get_or, take, replicate, length-replicate, get_or-replicate}
+use lib.ListN.{get_or, take, replicate, length-replicate, get_or-replicate}
 use lib.Seq.{length-take-le, get_or-take, take-take}
-use Rattle.keys.specs.Key.{root_key, height_of}
+use Rattle.keys.specs.Key.{root_key}
 use Rattle.keys.specs.Block.{row_of, column_of}
 use Rattle.keys.proofs.Digits.{height_zero}
 use Rattle.keys.proofs.Powers.{five_le}

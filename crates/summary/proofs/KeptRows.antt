@@ -1,6 +1,6 @@
 -- What the pass keeps of the blocks of a summary: how a block is kept, and the turns over the children of a node above the blocks. Rests on list's Turn.
 use Prim.Native.Nat.{ℕ, zero, suc, ◌+◌, ◌-◌, ◌*◌, ◌/◌, ◌^◌, ◌≤◌, ◌<◌}
-use mathlib.Core.Path.{◌≡◌, refl, sym, ◌∙◌, ap, ap₂}
+use mathlib.Core.Path.{◌≡◌, refl, sym, ◌∙◌, ap}
 use mathlib.Core.Bool.{true, false}
 use mathlib.Core.List.{List, []}
 use native.Mathlib.Nat.{pow-suc, suc-mul, one-le-pow}
@@ -12,8 +12,8 @@ use Rattle.keys.proofs.Cases.{equal, split}
 use Rattle.keys.proofs.Powers.{five_pos}
 use Rattle.list.specs.Check.{one_slot}
 use Rattle.list.proofs.Turn as check
-use Rattle.summary.specs.Count.{CountersFit, NodeCounted}
-use Rattle.summary.specs.Pass.{NodeThere, OneHeight, PassAsked, PassAnswered}
+use Rattle.summary.specs.Count.{CountersFit}
+use Rattle.summary.specs.Pass.{OneHeight, PassAsked, PassAnswered}
 use Rattle.summary.specs.Kept.{RowKept, RowsKept, SharedArea, KeepingAsked, KeepingAnswered}
 
 -- counters that are all 0 have room

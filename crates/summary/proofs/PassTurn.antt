@@ -6,18 +6,17 @@ use mathlib.Core.Bool.{true, false}
 use mathlib.Core.List.{List, ◌∷◌, ◌++◌, map-append}
 use native.Mathlib.Nat.{pow-suc, suc-mul, mul-le-mul_right}
 use native.Mathlib.Omega.{arith}
-use lib.Dec.{lit<}
 use lib.Bits.{bit_or}
 use lib.ListN.{length, get_or, drop, length-drop}
 use lib.Seq.{get_or-set_same, get_or-set_other}
 use Rattle.keys.proofs.Cases.{equal}
 use Rattle.keys.proofs.Powers.{five_le, five_pos}
-use Rattle.definitions.specs.Bits.{bits_of, feature_of}
+use Rattle.definitions.specs.Bits.{feature_of}
 use Rattle.definitions.specs.List.{Record, record_of, values_of, list_of}
 use Rattle.definitions.specs.Read.{paired}
 use Rattle.laws.proofs.Records.{paired-length, paired_values, drop-paired}
 use Rattle.laws.proofs.CountOf.{pixels_most}
-use Rattle.list.specs.Check.{one_slot, left, rest_place, after_own, after_node, step_under}
+use Rattle.list.specs.Check.{one_slot, rest_place, after_node, step_under}
 use Rattle.list.proofs.Children.{own_node}
 use Rattle.list.proofs.Sound.{sound}
 use Rattle.list.proofs.Places.{record_at, told}

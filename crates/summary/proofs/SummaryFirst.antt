@@ -6,8 +6,8 @@ use mathlib.Core.Bool.{Bool, true, false, not}
 use mathlib.Core.List.{List, []}
 use Rattle.definitions.specs.Area.{no_summary}
 use Rattle.definitions.specs.Refusal.{Row, first, bad_settings, no_list}
-use Rattle.laws.proofs.First.{NoneHolds, this, later, first_later, first_holds, first_none, none_first, holds_first, holds_more}
-use Rattle.list.specs.First.{list_first, first_refusal}
+use Rattle.laws.proofs.First.{NoneHolds, this, first_later, first_holds, first_none, none_first, holds_first, holds_more}
+use Rattle.list.specs.First.{first_refusal}
 use Rattle.list.specs.Own.{shown_by}
 use Rattle.list.proofs.FirstRefusal.{refused_first, passed_first}
 use Rattle.summary.specs.First.{summary_first, summary_refusal}

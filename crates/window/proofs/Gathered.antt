@@ -111,7 +111,7 @@ module _ (m : ℕ) (p : Picture) (w : Window) where
         let x = meets_pixel w good h e in
         let power = one_slot_power bits one in
         let same = eqb-true (feature_of bits) i (sym (slot_power (feature_of bits) i) ∙ ap (λ y. has_slot y i) (sym power) ∙ has) in
-        record { row = x.row; column = x.column; inside = x.in_window; feature = whole_pixel p (feature_of bits) h x.row x.column (sym is ∙ power) x.in_spot ∙ same }
+        record { row = x.row; column = x.column; inside = x.window_has; feature = whole_pixel p (feature_of bits) h x.row x.column (sym is ∙ power) x.in_spot ∙ same }
 
     -- a block that adds nothing is passed
     gathered_nothing : (union bits : ℕ) → bits ≡ bits_at p h → bit_or union bits ≡ union → Gathered m p w union s.key → Gathered m p w union (s.key + s.step)

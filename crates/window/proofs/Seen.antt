@@ -54,7 +54,7 @@ module _ (m : ℕ) (p : Picture) (w : Window) (f : ℕ) where
   pub seen_whole : {s : Spot} → is_window m w ≡ true → (h : BlockSpot m s) → is_apart s w ≡ false → bits_at p h ≡ 2 ^ f → exist_in p w f ≡ true
   seen_whole {s} good h e is =
       let x = meets_pixel w good h e in
-      (exist_exactly p w f).1 (record { row = x.row; column = x.column; inside = x.in_window; feature = whole_pixel p f h x.row x.column is x.in_spot })
+      (exist_exactly p w f).1 (record { row = x.row; column = x.column; inside = x.window_has; feature = whole_pixel p f h x.row x.column is x.in_spot })
 
   -- at the end there is none
   pub unseen_end : (x : ℕ) → x ≡ 5 ^ m → Unseen x → exist_in p w f ≡ false

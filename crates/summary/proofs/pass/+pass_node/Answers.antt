@@ -1,0 +1,111 @@
+-- `pass::pass_node` meets its contract: before each turn the children passed so far are checked and counted. It ends because a call for a child has a
+-- fifth of the step.
+use Prim.Native.Nat.{◌/◌}
+use mathlib.Core.Path.{sym, ◌∙◌}
+use mathlib.Core.Logic.{⊎_elim}
+use native.Mathlib.Omega.{arith}
+use lib.ListN.{get_or}
+use Rattle.list.proofs.Turn.{short, other_key, differs}
+use Rattle.summary.specs.Pass.{PassAnswered}
+use Rattle.summary.proofs.PassTurn.{passing_begins, passing_room, refuses, passes, leaf_passes, node_asked, node_refuses, node_passes, larger, sixteen_asked, sixteen_answered}
+use Rattle.summary.proofs.pass.+pass_node.Goals as goal
+
+pub overflow_add-next : goal.overflow_add-next
+overflow_add-next t c = omega (arith, c.requires.0.node.there)
+
+pub loop-digit-init : goal.loop-digit-init
+loop-digit-init t c = passing_begins c.requires.0
+
+pub returns-then-keys-next : goal.returns-then-keys-next
+returns-then-keys-next t c =
+    refuses c.requires.0 c.loop-digit.invariant (short c.loop-digit.invariant.checked c.loop-digit-test.true c.if-keys-next.true)
+
+pub child-child-requires : goal.child-child-requires
+child-child-requires t c =
+    let v = c.loop-digit.invariant.checked in
+    (omega (arith, v.fits), omega (arith, c.loop-digit-test.true))
+
+pub offset_bounds-keys-next : goal.offset_bounds-keys-next
+offset_bounds-keys-next t c = omega arith
+
+pub bounds-keys-next : goal.bounds-keys-next
+bounds-keys-next t c = omega arith
+
+pub returns-then-keys-next-2 : goal.returns-then-keys-next-2
+returns-then-keys-next-2 t c =
+    refuses c.requires.0 c.loop-digit.invariant (other_key c.loop-digit.invariant.checked c.loop-digit-test.true c.if-keys-next.false c.child-child.ensures c.if-keys-next-2.true)
+
+pub offset_bounds-bits-next : goal.offset_bounds-bits-next
+offset_bounds-bits-next t c = omega arith
+
+pub bounds-bits-next : goal.bounds-bits-next
+bounds-bits-next t c = omega arith
+
+pub has_one_slot-requires : goal.has_one_slot-requires
+has_one_slot-requires t c = tt
+
+pub count_leaf-requires : goal.count_leaf-requires
+count_leaf-requires t c =
+    (sym c.has_one_slot.ensures ∙ c.if-has_one_slot.true, passing_room c.requires.0 c.loop-digit.invariant c.loop-digit-test.true)
+
+pub overflow_add-next-then-has_one_slot : goal.overflow_add-next-then-has_one_slot
+overflow_add-next-then-has_one_slot t c = omega (arith, c.if-keys-next.false)
+
+pub pass_sixteen-next-requires : goal.pass_sixteen-next-requires
+pass_sixteen-next-requires t c =
+    let pre = c.requires in
+    sixteen_asked
+    (node_asked pre.0 c.loop-digit.invariant c.loop-digit-test.true c.if-keys-next.false c.child-child.ensures c.if-keys-next-2.false (sym c.has_one_slot.ensures ∙ c.if-has_one_slot.false) (omega (arith, pre.1)))
+    c.if-lower-eq5.true
+
+pub pass_node-next-requires : goal.pass_node-next-requires
+pass_node-next-requires t c =
+    let pre = c.requires in
+    let asked = node_asked pre.0 c.loop-digit.invariant c.loop-digit-test.true c.if-keys-next.false c.child-child.ensures c.if-keys-next-2.false (sym c.has_one_slot.ensures ∙ c.if-has_one_slot.false) (omega (arith, pre.1)) in
+    (omega (arith, c.decreases, pre.1), (asked, larger _ _ asked.level (omega (arith, pre.1)) c.if-lower-eq5.false))
+
+pub returns-then-next-eq0 : goal.returns-then-next-eq0
+returns-then-next-eq0 t c =
+    let pre = c.requires in
+    let asked = node_asked pre.0 c.loop-digit.invariant c.loop-digit-test.true c.if-keys-next.false c.child-child.ensures c.if-keys-next-2.false (sym c.has_one_slot.ensures ∙ c.if-has_one_slot.false) (omega (arith, pre.1)) in
+    let answered : PassAnswered c.args.keys.now c.args.bits.now c.loop-digit.counts c.if-lower-eq5.counts c.loop-digit.next c.child-child.result (get_or c.args.bits.now c.loop-digit.next 0) (c.args.step / 5) (c.args.area / 4) c.if-lower-eq5.next =
+    ⊎_elim
+    (λ w. rw (w.counts-is, w.next-is) (sixteen_answered asked w.if-lower-eq5.true w.pass_sixteen-next.ensures))
+    (λ w. rw (w.counts-is, w.next-is) w.pass_node-next.ensures)
+    c.if-lower-eq5.branch-raw in
+    node_refuses pre.0 c.loop-digit.invariant c.loop-digit-test.true c.if-keys-next.false c.child-child.ensures c.if-keys-next-2.false (sym c.has_one_slot.ensures ∙ c.if-has_one_slot.false) answered c.if-next-eq0.true
+
+pub overflow_add-digit : goal.overflow_add-digit
+overflow_add-digit t c = omega (arith, c.loop-digit-test.true)
+
+pub loop-digit-smaller : goal.loop-digit-smaller
+loop-digit-smaller t c = omega (arith, c.loop-digit-test.true)
+
+pub loop-digit-preserved : goal.loop-digit-preserved
+loop-digit-preserved t c =
+    let pre = c.requires in
+    ⊎_elim
+    (λ w. rw w.next-is
+    (leaf_passes pre.0 c.loop-digit.invariant c.loop-digit-test.true c.if-keys-next.false c.child-child.ensures c.if-keys-next-2.false c.if-has_one_slot.counts
+    (sym c.has_one_slot.ensures ∙ w.if-has_one_slot.true)
+    (w.counts-is ∙ w.count_leaf.ensures)))
+    (λ w. rw (w.counts-is, w.next-is)
+    (node_passes pre.0 c.loop-digit.invariant c.loop-digit-test.true c.if-keys-next.false c.child-child.ensures c.if-keys-next-2.false (sym c.has_one_slot.ensures ∙ w.if-has_one_slot.false) _ _
+    (omega (arith, pre.1))
+    (let asked = node_asked pre.0 c.loop-digit.invariant c.loop-digit-test.true c.if-keys-next.false c.child-child.ensures c.if-keys-next-2.false (sym c.has_one_slot.ensures ∙ w.if-has_one_slot.false) (omega (arith, pre.1)) in
+    let answered : PassAnswered c.args.keys.now c.args.bits.now c.loop-digit.counts w.if-lower-eq5.counts c.loop-digit.next c.child-child.result (get_or c.args.bits.now c.loop-digit.next 0) (c.args.step / 5) (c.args.area / 4) w.if-lower-eq5.next =
+    ⊎_elim
+    (λ v. rw (v.counts-is, v.next-is) (sixteen_answered asked v.if-lower-eq5.true v.pass_sixteen-next.ensures))
+    (λ v. rw (v.counts-is, v.next-is) v.pass_node-next.ensures)
+    w.if-lower-eq5.branch-raw in
+    answered)
+    w.if-next-eq0.false))
+    c.if-has_one_slot.branch-raw
+
+pub returns-then-union-own : goal.returns-then-union-own
+returns-then-union-own t c =
+    passes c.requires.0 c.loop-digit.invariant c.loop-digit-test.false c.if-union-own.true
+
+pub returns-else-union-own : goal.returns-else-union-own
+returns-else-union-own t c =
+    refuses c.requires.0 c.loop-digit.invariant (differs c.loop-digit.invariant.checked c.loop-digit-test.false c.if-union-own.false)

@@ -1,0 +1,53 @@
+-- `select::gather` meets its contract: where the walk stands, what is counted and written is what select gives below the key. Within a turn it goes down
+-- to a block that lies apart from the window, lacks the feature or lies within the window, and adds nothing on the way; the key rises from turn to turn.
+use Prim.Native.Nat.{ℕ, ◌+◌, ◌-◌, ◌^◌, ◌≤◌, ◌<◌}
+use mathlib.Core.Path.{◌≡◌, refl, sym, ◌∙◌, ap, subst}
+use mathlib.Core.Bool.{false}
+use mathlib.Core.Logic.{⊎_elim}
+use mathlib.Core.List.{List}
+use native.Mathlib.Omega.{arith}
+use lib.ListN.{length}
+use borrow.Author.Rules.{rules}
+use Rattle.definitions.specs.Picture.{Picture}
+use Rattle.definitions.specs.Window.{select_in}
+use Rattle.definitions.specs.declared.Window.{Window}
+use Rattle.list.specs.Own.{shown_by}
+use Rattle.walk.specs.Walk.{BlockSpot, Walking, is_within, is_apart}
+use Rattle.walk.specs.Given.{lower}
+use Rattle.walk.proofs.Lies.{small}
+use Rattle.walk.proofs.Steps.{Parent, some_keys, few_keys, cut_parent, first_stands, first_less, parting_first}
+use Rattle.walk.proofs.Steps.{follows_at, follows_gone, walking_root, walking_whole}
+use Rattle.walk.proofs.Told.{told_bits, told_near, told_holds, told_whole, told_end}
+use Rattle.walk.proofs.Going.{WalkGoes, WalkPast, going_root, going_first, past_unasked, past_told, going_on, going_less}
+use Rattle.walk.proofs.Shows.{bits_no}
+use Rattle.walk.proofs.Below.{lower_apart, lower_lacking, lower_enter}
+use Rattle.window.proofs.BlockLeaves.{told_all, told_several, told_fits, run_gave}
+use Rattle.window.proofs.Taken.{Taken, taken_none, taken_small, taken-length, taken_named, taken_pass, taken_more, taken_block, taken_end}
+use Rattle.window.proofs.select.gather.Given as goal
+
+-- from the head of the turn, where the key is x, to the key y nothing was added (the inner loop's invariant knows the answer of the turn's start, not of
+-- the call's)
+pub record Still (m : ℕ) (p : Picture) (w : Window) (f : ℕ) (answer₀ answer : List ℕ) (count₀ count x y : ℕ) : Type 0 where
+  pub answers : answer ≡ answer₀
+  pub counts : count ≡ count₀
+  pub gap : lower x (select_in m p w f) ≡ lower y (select_in m p w f)
+
+abbrev pub invariant-loop-told-2 : goal.invariant-loop-told-2
+invariant-loop-told-2 l =
+    WalkGoes l.m l.keys l.n l.from l.initial.spot.key l.spot
+    × Walking l.m l.window l.spot
+    × Still l.m (shown_by l.m l.keys l.bits l.n) l.window l.feature l.initial.answer l.answer l.initial.count l.count l.initial.spot.key l.spot.key
+
+abbrev pub decreases-loop-told-2 : goal.decreases-loop-told-2
+decreases-loop-told-2 l =
+    l.spot.step
+
+abbrev pub invariant-loop-told : goal.invariant-loop-told
+invariant-loop-told l =
+    WalkGoes l.m l.keys l.n l.from l.spot.key l.spot
+    × Walking l.m l.window l.spot
+    × Taken l.m (shown_by l.m l.keys l.bits l.n) l.window l.feature l.limit l.initial.answer l.answer l.count l.spot.key
+
+abbrev pub decreases-loop-told : goal.decreases-loop-told
+decreases-loop-told l =
+    5 ^ l.m - l.spot.key
