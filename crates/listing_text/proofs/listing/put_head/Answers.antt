@@ -6,8 +6,7 @@ use Rattle.definitions.specs.Listing.{blank, line_end, decimal, head_line}
 use Rattle.listing_text.specs.Put.{Put, BytesFit}
 use Rattle.listing_text.proofs.Going.{Going, bytes_kept}
 use Rattle.listing_text.proofs.Going as going
-use Rattle.listing_text.proofs.listing.put_head.Statement.{statement}
-use Rattle.listing_text.proofs.listing.put_head.Tie as tie
+use Rattle.listing_text.proofs.listing.put_head.Goals as goal
 
 -- a number and the blank after it
 abbrev part : ℕ → List ℕ
@@ -46,27 +45,16 @@ module _ (m s n : ℕ) (old : List ℕ) where
       ends : {d : List ℕ} {k : ℕ} → Put (end n) j b d k → Put (head_line m s n) 0 old d k
       ends last = going.finishes (end n) at_n last
 
-put-number-then-requires : tie.Need-put-number-then-requires
-put-number-then-requires c κs = m_room _ _ _ _ c.before.before.requires
+pub put_number_then-second-requires : goal.put_number_then-second-requires
+put_number_then-second-requires c = m_room _ _ _ _ c.requires
 
-put-number-then-requires-2 : tie.Need-put-number-then-requires-2
-put-number-then-requires-2 c κs = s_room _ _ _ _ c.before.before.before.put-number-then.ensures c.before.before.before.before.before.before.requires
+pub put_number_then-third-requires : goal.put_number_then-third-requires
+put_number_then-third-requires c = s_room _ _ _ _ c.put_number_then-second.ensures c.requires
 
-put-number-then-requires-3 : tie.Need-put-number-then-requires-3
-put-number-then-requires-3 c κs =
-    n_room _ _ _ _ c.before.before.before.before.before.before.before.put-number-then.ensures c.before.before.before.put-number-then2.ensures c.before.before.before.before.before.before.before.before.before.before.requires
+pub put_number_then-requires : goal.put_number_then-requires
+put_number_then-requires c =
+    n_room _ _ _ _ c.put_number_then-second.ensures c.put_number_then-third.ensures c.requires
 
-same_length : tie.Need-same-length
-same_length c =
-    bytes_kept c.before.before.put-number-then3.ensures
-    ∙ bytes_kept c.before.before.before.before.before.before.put-number-then2.ensures
-    ∙ bytes_kept c.before.before.before.before.before.before.before.before.before.before.put-number-then.ensures
-
-returns : tie.Need-returns
+pub returns : goal.returns
 returns c =
-    ends _ _ _ _ c.before.before.before.before.before.before.before.before.before.before.put-number-then.ensures c.before.before.before.before.before.before.put-number-then2.ensures c.before.before.put-number-then3.ensures
-
-pub put-head-spec : {M : Type 1} → statement M
-put-head-spec =
-    tie.close
-    (tie.spec put-number-then-requires put-number-then-requires-2 put-number-then-requires-3 same_length returns)
+    ends _ _ _ _ c.put_number_then-second.ensures c.put_number_then-third.ensures c.put_number_then.ensures

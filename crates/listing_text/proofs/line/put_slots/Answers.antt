@@ -1,5 +1,5 @@
 -- `put_slots` meets its contract: after i turns slots 0 to i - 1 stand, and the rest is the bitstring without them.
-use Prim.Native.Nat.{ℕ, ◌+◌, ◌-◌, ◌/◌, ◌%◌, ◌^◌, ◌≤◌, ◌<◌}
+use Prim.Native.Nat.{ℕ, ◌+◌, ◌-◌, ◌/◌, ◌%◌, ◌≤◌, ◌<◌}
 use mathlib.Core.Path.{◌≡◌, sym, ap, ◌∙◌}
 use mathlib.Core.List.{List, [], ◌∷◌, ◌++◌}
 use native.Mathlib.Omega.{arith}
@@ -9,19 +9,8 @@ use Rattle.listing_text.specs.Put.{Put, BytesFit}
 use Rattle.listing_text.proofs.Going.{Going}
 use Rattle.listing_text.proofs.Going as going
 use Rattle.listing_text.proofs.Pieces.{slots_piece, slots_down}
-use Rattle.listing_text.proofs.line.put_slots.Statement.{statement}
-use Rattle.listing_text.proofs.line.put_slots.Tie as tie
-
-record Passed (s bits start : ℕ) (old out : List ℕ) (next rest i : ℕ) : Type 0 where
-  within : i ≤ s
-  shifted : rest ≡ bits / 2 ^ i
-  going : Going (slots_text s bits) (slots_from i (s - i) bits) start old out next
-
-abbrev invariant-loop : tie.invariant-loop
-invariant-loop s bits out₀ place next₀ rest₀ i₀ out next rest i = Passed s bits place out₀ out next rest i
-
-abbrev decreases-loop : tie.decreases-loop
-decreases-loop s bits out₀ place next₀ rest₀ i₀ out next rest i = s - i
+use Rattle.listing_text.proofs.line.put_slots.Invariants.{Passed}
+use Rattle.listing_text.proofs.line.put_slots.Goals as goal
 
 begins : (s bits start : ℕ) (old : List ℕ) → Passed s bits start old old start bits 0
 begins s bits start old =
@@ -55,47 +44,29 @@ module _ {s bits start : ℕ} {old out : List ℕ} {next rest i : ℕ} (p : Pass
       let none : s - i ≡ 0 = omega arith in
       going.ends (going.renamed p.going (ap (λ (k : ℕ). slots_from i k bits) none))
 
-loop-holds : tie.Need-loop-init invariant-loop decreases-loop
-loop-holds c = begins _ _ _ _
+pub loop-i-init : goal.loop-i-init
+loop-i-init c = begins _ _ _ _
 
-wide-requires : tie.Need-wide-requires invariant-loop decreases-loop
-wide-requires c κs = tt
+pub wide-requires : goal.wide-requires
+wide-requires c = tt
 
-put-digit-requires : tie.Need-put-digit-requires invariant-loop decreases-loop
-put-digit-requires c κs =
-    fits c.before.before.before.loop.invariant c.before.before.loop-test.true _ c.before.wide.ensures c.before.before.before.before.before.requires
+pub put_digit-next-requires : goal.put_digit-next-requires
+put_digit-next-requires c =
+    fits c.loop-i.invariant c.loop-i-test.true _ c.wide.ensures c.requires
 
-add-i : tie.Need-overflow-add-i invariant-loop decreases-loop
-add-i c = omega arith
+pub overflow_add-i : goal.overflow_add-i
+overflow_add-i c = omega arith
 
-loop-less : tie.Need-loop-smaller invariant-loop decreases-loop
-loop-less c = omega arith
+pub loop-i-smaller : goal.loop-i-smaller
+loop-i-smaller c = omega arith
 
-loop-again : tie.Need-loop-preserved invariant-loop decreases-loop
-loop-again c =
-    goes c.before.before.before.before.before.before.loop.invariant
-    c.before.before.before.before.before.loop-test.true
+pub loop-i-preserved : goal.loop-i-preserved
+loop-i-preserved c =
+    goes c.loop-i.invariant
+    c.loop-i-test.true
     _
-    c.before.before.before.before.wide.ensures
-    c.before.before.put-digit.ensures
+    c.wide.ensures
+    c.put_digit-next.ensures
 
-same_length : tie.Need-same-length invariant-loop decreases-loop
-same_length c = going.same_length c.before.loop.invariant.going
-
-returns : tie.Need-returns invariant-loop decreases-loop
-returns c = ends c.before.loop.invariant c.loop-test.false
-
-pub put-slots-spec : {M : Type 1} → statement M
-put-slots-spec =
-    tie.close
-    (tie.spec
-    invariant-loop
-    decreases-loop
-    loop-holds
-    wide-requires
-    put-digit-requires
-    add-i
-    loop-less
-    loop-again
-    same_length
-    returns)
+pub returns : goal.returns
+returns c = ends c.loop-i.invariant c.loop-i-test.false

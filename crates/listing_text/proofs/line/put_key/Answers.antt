@@ -6,9 +6,7 @@ use mathlib.Core.List.{List, [], ◌∷◌}
 use borrow.Author.Tests.{eq-eqb, ne_eqb}
 use Rattle.definitions.specs.Listing.{dash, digits_text, key_text}
 use Rattle.listing_text.specs.Put.{Put, BytesFit}
-use Rattle.listing_text.proofs.Going.{bytes_kept}
-use Rattle.listing_text.proofs.line.put_key.Statement.{statement}
-use Rattle.listing_text.proofs.line.put_key.Tie as tie
+use Rattle.listing_text.proofs.line.put_key.Goals as goal
 
 -- no digits
 none : (m key : ℕ) → m ≡ 0 → key_text m key ≡ dash ∷ []
@@ -27,25 +25,16 @@ same_room x y place old e r = subst (λ (l : List ℕ). BytesFit l place old) e 
 same_put : {x y : List ℕ} {place : ℕ} {old later : List ℕ} {next : ℕ} → x ≡ y → Put y place old later next → Put x place old later next
 same_put {place = place} {old} {later} {next} e p = subst (λ (l : List ℕ). Put l place old later next) (sym e) p
 
-put-byte-requires : tie.Need-put-byte-requires
-put-byte-requires c κs = same_room _ _ _ _ (none _ _ c.before.if1.true) c.before.before.before.requires.2
+pub put_byte-requires : goal.put_byte-requires
+put_byte-requires c = same_room _ _ _ _ (none _ _ c.if-m-eq0.true) c.requires.2
 
-same_length : tie.Need-same-length
-same_length c = bytes_kept c.before.before.put_byte.ensures
+pub returns-then-m-eq0 : goal.returns-then-m-eq0
+returns-then-m-eq0 c = same_put (none _ _ c.if-m-eq0.true) c.put_byte.ensures
 
-returns : tie.Need-returns
-returns c = same_put (none _ _ c.before.before.before.before.if1.true) c.before.before.put_byte.ensures
+pub put_digits-requires : goal.put_digits-requires
+put_digits-requires c =
+    let asked = c.requires in
+    (asked.0, asked.1, same_room _ _ _ _ (some _ _ c.if-m-eq0.false) asked.2)
 
-put-digits-requires : tie.Need-put-digits-requires
-put-digits-requires c κs =
-    let asked = c.before.before.before.requires in
-    (asked.0, asked.1, same_room _ _ _ _ (some _ _ c.before.if1.false) asked.2)
-
-same-length-2 : tie.Need-same-length-2
-same-length-2 c = bytes_kept c.before.before.put-digits.ensures
-
-returns-2 : tie.Need-returns-2
-returns-2 c = same_put (some _ _ c.before.before.before.before.if1.false) c.before.before.put-digits.ensures
-
-pub put-key-spec : {M : Type 1} → statement M
-put-key-spec = tie.close (tie.spec put-byte-requires same_length returns put-digits-requires same-length-2 returns-2)
+pub returns : goal.returns
+returns c = same_put (some _ _ c.if-m-eq0.false) c.put_digits.ensures

@@ -1,14 +1,11 @@
 -- `put_refusal` meets its contract: the word with its blank, and then the number and the line's end.
 use Prim.Native.Nat.{ℕ}
-use mathlib.Core.Path.{◌∙◌}
 use mathlib.Core.List.{List, [], ◌∷◌, ◌++◌}
-use borrow.Author.Rules.{rules}
 use Rattle.definitions.specs.Listing.{blank, line_end, refused, decimal, refusal_line}
 use Rattle.listing_text.specs.Put.{Put, BytesFit}
 use Rattle.listing_text.proofs.Going.{Going, bytes_kept}
 use Rattle.listing_text.proofs.Going as going
-use Rattle.listing_text.proofs.listing.put_refusal.Statement.{statement}
-use Rattle.listing_text.proofs.listing.put_refusal.Tie as tie
+use Rattle.listing_text.proofs.listing.put_refusal.Goals as goal
 
 abbrev word : List ℕ
 word = refused ++ (blank ∷ [])
@@ -34,21 +31,11 @@ module _ (number : ℕ) (old : List ℕ) where
     ends : {b : List ℕ} {j : ℕ} → Put (end number) i a b j → Put (refusal_line number) 0 old b j
     ends two = going.finishes (end number) at_number two
 
-slice-aggregate-put-text : tie.Need-slice-aggregate-put-text
-slice-aggregate-put-text c = search rules
+pub put_text-place-requires : goal.put_text-place-requires
+put_text-place-requires c = word_room _ _ c.requires
 
-put-text-requires : tie.Need-put-text-requires
-put-text-requires c κs = word_room _ _ c.before.before.before.requires
+pub put_number_then-requires : goal.put_number_then-requires
+put_number_then-requires c = number_room _ _ c.put_text-place.ensures c.requires
 
-put-number-then-requires : tie.Need-put-number-then-requires
-put-number-then-requires c κs = number_room _ _ c.before.before.before.put-text.ensures c.before.before.before.before.before.before.before.requires
-
-same_length : tie.Need-same-length
-same_length c = bytes_kept c.before.before.put-number-then.ensures ∙ bytes_kept c.before.before.before.before.before.before.put-text.ensures
-
-returns : tie.Need-returns
-returns c = ends _ _ c.before.before.before.before.before.before.put-text.ensures c.before.before.put-number-then.ensures
-
-pub put-refusal-spec : {M : Type 1} → statement M
-put-refusal-spec =
-    tie.close (tie.spec slice-aggregate-put-text put-text-requires put-number-then-requires same_length returns)
+pub returns : goal.returns
+returns c = ends _ _ c.put_text-place.ensures c.put_number_then.ensures

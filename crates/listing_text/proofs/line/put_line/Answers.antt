@@ -1,14 +1,12 @@
 -- `put_line` meets its contract: the key, a blank, the slots and the line's end stand one after the other.
 use Prim.Native.Nat.{ℕ}
-use mathlib.Core.Path.{◌∙◌}
 use mathlib.Core.List.{List, [], ◌∷◌, ◌++◌}
 use Rattle.definitions.specs.List.{record_of}
 use Rattle.definitions.specs.Listing.{blank, line_end, key_text, slots_text, line_of}
 use Rattle.listing_text.specs.Put.{Put, BytesFit}
 use Rattle.listing_text.proofs.Going.{Going, bytes_kept}
 use Rattle.listing_text.proofs.Going as going
-use Rattle.listing_text.proofs.line.put_line.Statement.{statement}
-use Rattle.listing_text.proofs.line.put_line.Tie as tie
+use Rattle.listing_text.proofs.line.put_line.Goals as goal
 
 abbrev end : List ℕ
 end = line_end ∷ []
@@ -51,39 +49,29 @@ module _ (m s key bits start : ℕ) (old : List ℕ) where
         ends : {e : List ℕ} {n : ℕ} → Put end k d e n → Put whole start old e n
         ends four = going.finishes end at_end four
 
-put-key-requires : tie.Need-put-key-requires
-put-key-requires c κs =
-    let asked = c.before.before.requires in
+pub put_key-blank-requires : goal.put_key-blank-requires
+put_key-blank-requires c =
+    let asked = c.requires in
     (asked.0, asked.1, key_room _ _ _ _ _ _ asked.2)
 
-put-byte-requires : tie.Need-put-byte-requires
-put-byte-requires c κs = blank_room _ _ _ _ _ _ c.before.before.before.put_key.ensures c.before.before.before.before.before.before.requires.2
+pub put_byte-slots-requires : goal.put_byte-slots-requires
+put_byte-slots-requires c = blank_room _ _ _ _ _ _ c.put_key-blank.ensures c.requires.2
 
-put-slots-requires : tie.Need-put-slots-requires
-put-slots-requires c κs = slots_room _ _ _ _ _ _ c.before.before.before.before.before.before.before.put_key.ensures c.before.before.before.put_byte.ensures c.before.before.before.before.before.before.before.before.before.before.requires.2
+pub put_slots-end-requires : goal.put_slots-end-requires
+put_slots-end-requires c = slots_room _ _ _ _ _ _ c.put_key-blank.ensures c.put_byte-slots.ensures c.requires.2
 
-put-byte-requires-2 : tie.Need-put-byte-requires-2
-put-byte-requires-2 c κs =
+pub put_byte-requires : goal.put_byte-requires
+put_byte-requires c =
     end_room _ _ _ _ _ _
-    c.before.before.before.before.before.before.before.before.before.before.before.put_key.ensures
-    c.before.before.before.before.before.before.before.put_byte.ensures
-    c.before.before.before.put-slots.ensures
-    c.before.before.before.before.before.before.before.before.before.before.before.before.before.before.requires.2
+    c.put_key-blank.ensures
+    c.put_byte-slots.ensures
+    c.put_slots-end.ensures
+    c.requires.2
 
-same_length : tie.Need-same-length
-same_length c =
-    bytes_kept c.before.before.put-byte2.ensures
-    ∙ bytes_kept c.before.before.before.before.before.before.put-slots.ensures
-    ∙ bytes_kept c.before.before.before.before.before.before.before.before.before.before.put_byte.ensures
-    ∙ bytes_kept c.before.before.before.before.before.before.before.before.before.before.before.before.before.before.put_key.ensures
-
-returns : tie.Need-returns
+pub returns : goal.returns
 returns c =
     ends _ _ _ _ _ _
-    c.before.before.before.before.before.before.before.before.before.before.before.before.before.before.put_key.ensures
-    c.before.before.before.before.before.before.before.before.before.before.put_byte.ensures
-    c.before.before.before.before.before.before.put-slots.ensures
-    c.before.before.put-byte2.ensures
-
-pub put-line-spec : {M : Type 1} → statement M
-put-line-spec = tie.close (tie.spec put-key-requires put-byte-requires put-slots-requires put-byte-requires-2 same_length returns)
+    c.put_key-blank.ensures
+    c.put_byte-slots.ensures
+    c.put_slots-end.ensures
+    c.put_byte.ensures

@@ -1,6 +1,6 @@
 -- `put_listing` meets its contract: the head, whose n is the number of the records, and then their lines.
 use Prim.Native.Nat.{ℕ}
-use mathlib.Core.Path.{◌≡◌, ap, ◌∙◌}
+use mathlib.Core.Path.{◌≡◌, ap}
 use mathlib.Core.List.{List, ◌++◌}
 use Rattle.definitions.specs.Read.{records_of}
 use Rattle.laws.proofs.Records.{records-length}
@@ -8,8 +8,7 @@ use Rattle.definitions.specs.Listing.{head_line, lines_of, listing}
 use Rattle.listing_text.specs.Put.{Put, BytesFit, Records}
 use Rattle.listing_text.proofs.Going.{Going, bytes_kept}
 use Rattle.listing_text.proofs.Going as going
-use Rattle.listing_text.proofs.listing.put_listing.Statement.{statement}
-use Rattle.listing_text.proofs.listing.put_listing.Tie as tie
+use Rattle.listing_text.proofs.listing.put_listing.Goals as goal
 
 module _ (m s : ℕ) (keys bits : List ℕ) (n : ℕ) (old : List ℕ) (r : Records m keys bits n) where
   abbrev lines : List ℕ
@@ -38,18 +37,12 @@ module _ (m s : ℕ) (keys bits : List ℕ) (n : ℕ) (old : List ℕ) (r : Reco
     ends : {b : List ℕ} {j : ℕ} → Put lines i a b j → Put whole 0 old b j
     ends two = going.finishes lines at_lines two
 
-put-head-requires : tie.Need-put-head-requires
-put-head-requires c κs = head_room _ _ _ _ _ _ c.before.before.before.before.requires.0 c.before.before.before.before.requires.1
+pub put_head-place-requires : goal.put_head-place-requires
+put_head-place-requires c = head_room _ _ _ _ _ _ c.requires.0 c.requires.1
 
-put-lines-requires : tie.Need-put-lines-requires
-put-lines-requires c κs =
-    (c.before.before.before.before.before.before.before.before.requires.0, lines_room _ _ _ _ _ _ c.before.before.before.before.before.before.before.before.requires.0 c.before.before.before.put-head.ensures c.before.before.before.before.before.before.before.before.requires.1)
+pub put_lines-requires : goal.put_lines-requires
+put_lines-requires c =
+    (c.requires.0, lines_room _ _ _ _ _ _ c.requires.0 c.put_head-place.ensures c.requires.1)
 
-same_length : tie.Need-same-length
-same_length c = bytes_kept c.before.before.put-lines.ensures ∙ bytes_kept c.before.before.before.before.before.before.put-head.ensures
-
-returns : tie.Need-returns
-returns c = ends _ _ _ _ _ _ c.before.before.before.before.before.before.before.before.before.before.before.requires.0 c.before.before.before.before.before.before.put-head.ensures c.before.before.put-lines.ensures
-
-pub put-listing-spec : {M : Type 1} → statement M
-put-listing-spec = tie.close (tie.spec put-head-requires put-lines-requires same_length returns)
+pub returns : goal.returns
+returns c = ends _ _ _ _ _ _ c.requires.0 c.put_head-place.ensures c.put_lines.ensures

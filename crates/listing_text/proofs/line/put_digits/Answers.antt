@@ -13,20 +13,8 @@ use Rattle.listing_text.specs.Put.{Put, BytesFit}
 use Rattle.listing_text.proofs.Going.{Going}
 use Rattle.listing_text.proofs.Going as going
 use Rattle.listing_text.proofs.Pieces.{digits_piece}
-use Rattle.listing_text.proofs.line.put_digits.Statement.{statement}
-use Rattle.listing_text.proofs.line.put_digits.Tie as tie
-
-record Passed (m key start : ℕ) (old out : List ℕ) (next rest step i : ℕ) : Type 0 where
-  within : i ≤ m
-  power : step ≡ 5 ^ (m - i)
-  small : rest < step
-  going : Going (digits_text m key) (digits_text (m - i) rest) start old out next
-
-abbrev invariant-loop : tie.invariant-loop
-invariant-loop m key out₀ place next₀ rest₀ step₀ i₀ out next rest step i = Passed m key place out₀ out next rest step i
-
-abbrev decreases-loop : tie.decreases-loop
-decreases-loop m key out₀ place next₀ rest₀ step₀ i₀ out next rest step i = m - i
+use Rattle.listing_text.proofs.line.put_digits.Invariants.{Passed}
+use Rattle.listing_text.proofs.line.put_digits.Goals as goal
 
 begins : (m key start : ℕ) (old : List ℕ) (step : ℕ) → step ≡ 5 ^ m → key < 5 ^ m → Passed m key start old old start key step 0
 begins m key start old step e h =
@@ -76,63 +64,42 @@ module _ {m key start : ℕ} {old out : List ℕ} {next rest step i : ℕ} (p : 
       let none : m - i ≡ 0 = omega arith in
       going.ends (going.renamed p.going (ap (λ (k : ℕ). digits_text k rest) none))
 
-power-of-five-requires : tie.Need-power-of-five-requires invariant-loop decreases-loop
-power-of-five-requires c κs = omega (arith, c.before.requires.0)
+pub power_of_five-step-requires : goal.power_of_five-step-requires
+power_of_five-step-requires c = omega (arith, c.requires.0)
 
-loop-holds : tie.Need-loop-init invariant-loop decreases-loop
-loop-holds c = begins _ _ _ _ _ c.power-of-five.ensures c.before.before.requires.1
+pub loop-i-init : goal.loop-i-init
+loop-i-init c = begins _ _ _ _ _ c.power_of_five-step.ensures c.requires.1
 
-div_wide : tie.Need-nonzero-div-wide invariant-loop decreases-loop
-div_wide c = nonzero c.before.loop.invariant c.loop-test.true
+pub nonzero_div-rest : goal.nonzero_div-rest
+nonzero_div-rest c = nonzero c.loop-i.invariant c.loop-i-test.true
 
-wide-requires : tie.Need-wide-requires invariant-loop decreases-loop
-wide-requires c κs = tt
+pub wide-requires : goal.wide-requires
+wide-requires c = tt
 
-put-digit-requires : tie.Need-put-digit-requires invariant-loop decreases-loop
-put-digit-requires c κs =
-    fits c.before.before.before.loop.invariant
-    c.before.before.loop-test.true
+pub put_digit-next-requires : goal.put_digit-next-requires
+put_digit-next-requires c =
+    fits c.loop-i.invariant
+    c.loop-i-test.true
     _
-    c.before.wide.ensures
-    c.before.before.before.before.before.before.requires.2
+    c.wide.ensures
+    c.requires.2
 
-rem-rest : tie.Need-nonzero-rem-rest invariant-loop decreases-loop
-rem-rest c = nonzero c.before.before.before.before.before.before.loop.invariant c.before.before.before.before.before.loop-test.true
+pub nonzero_rem-rest : goal.nonzero_rem-rest
+nonzero_rem-rest c = nonzero c.loop-i.invariant c.loop-i-test.true
 
-add-i : tie.Need-overflow-add-i invariant-loop decreases-loop
-add-i c = omega arith
+pub overflow_add-i : goal.overflow_add-i
+overflow_add-i c = omega arith
 
-loop-less : tie.Need-loop-smaller invariant-loop decreases-loop
-loop-less c = omega arith
+pub loop-i-smaller : goal.loop-i-smaller
+loop-i-smaller c = omega arith
 
-loop-again : tie.Need-loop-preserved invariant-loop decreases-loop
-loop-again c =
-    goes c.before.before.before.before.before.before.loop.invariant
-    c.before.before.before.before.before.loop-test.true
+pub loop-i-preserved : goal.loop-i-preserved
+loop-i-preserved c =
+    goes c.loop-i.invariant
+    c.loop-i-test.true
     _
-    c.before.before.before.before.wide.ensures
-    c.before.before.put-digit.ensures
+    c.wide.ensures
+    c.put_digit-next.ensures
 
-same_length : tie.Need-same-length invariant-loop decreases-loop
-same_length c = going.same_length c.before.loop.invariant.going
-
-returns : tie.Need-returns invariant-loop decreases-loop
-returns c = ends c.before.loop.invariant c.loop-test.false
-
-pub put-digits-spec : {M : Type 1} → statement M
-put-digits-spec =
-    tie.close
-    (tie.spec
-    invariant-loop
-    decreases-loop
-    power-of-five-requires
-    loop-holds
-    div_wide
-    wide-requires
-    put-digit-requires
-    rem-rest
-    add-i
-    loop-less
-    loop-again
-    same_length
-    returns)
+pub returns : goal.returns
+returns c = ends c.loop-i.invariant c.loop-i-test.false
