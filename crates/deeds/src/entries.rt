@@ -10,11 +10,11 @@ ghost use Rattle.deeds.specs.Meeting.{BlockAsked, Met};
 
 use crate::meeting::Meeting;
 use crate::run::Run;
+use edit_log::entry;
+use edit_log::entry::Entry;
 use keys::block::TreeBlock;
 use keys::{power, zeros};
 use list::{check, standing};
-use edit_log::entry;
-use edit_log::entry::Entry;
 
 // The block with the first key is the one with the second, or holds it.
 fn holds(m: u32, outer: u32, inner: u32) -> bool

@@ -4,9 +4,9 @@ ghost use Rattle.keys.specs.Child.{KeysEnd};
 ghost use Rattle.deeds.specs.Runs.{EntriesIn, Between, descends, last_first};
 ghost use Rattle.deeds.specs.Deed.{ShortRun};
 
+use edit_log::entry;
 use keys::block::TreeBlock;
 use keys::{block, power, zeros};
-use edit_log::entry;
 
 // Where the entries start and end. Of ordered ones each block ends at or before the next one's key, so none has a pixel of another; a search among them
 // may stop early.

@@ -1,0 +1,19 @@
+-- `by_first` meets its contract: what the entries from the end on make of the block is what those before leave where they are apart from it.
+use mathlib.Core.Path.{◌≡◌, refl, ◌∙◌}
+use mathlib.Core.Bool.{true}
+use mathlib.Core.List.{[]}
+use Rattle.deeds.specs.Runs.{Between, given_by, meeting_by, first_first}
+use Rattle.deeds.specs.declared.meeting.Meeting.TheVariants.{Apart}
+use Rattle.deeds.proofs.Chains.{run_ended}
+use Rattle.deeds.proofs.EntryTurns.{turn_less, turn_rest, turn_asking, first_turns, first_over}
+use Rattle.deeds.proofs.entries.by_first.Given as goal
+
+abbrev pub invariant-loop-end : goal.invariant-loop-end
+invariant-loop-end l =
+    Between l.m l.start l.end l.log_keys l.log_values
+    × (meeting_by l.m l.answer l.key (given_by true l.log_keys l.log_values l.key) (first_first l.end l.log_keys l.log_values l.start l.end [])
+    ≡ meeting_by l.m Apart l.key (given_by true l.log_keys l.log_values l.key) (first_first l.initial.end l.log_keys l.log_values l.start l.initial.end []))
+
+abbrev pub decreases-loop-end : goal.decreases-loop-end
+decreases-loop-end l =
+    l.end

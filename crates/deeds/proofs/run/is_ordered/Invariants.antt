@@ -1,0 +1,20 @@
+-- `is_ordered` meets its contract: after each turn the entries descend exactly when those that are left do.
+use Prim.Native.Nat.{◌^◌}
+use mathlib.Core.Path.{◌≡◌, ◌∙◌}
+use native.Mathlib.Omega.{arith}
+use Rattle.keys.specs.Key.{height_of}
+use Rattle.keys.proofs.LastZeros.{keys_height}
+use Rattle.keys.proofs.Powers.{five_le}
+use Rattle.deeds.specs.Runs.{Between, descends, last_first}
+use Rattle.deeds.proofs.Chains.{run_ended}
+use Rattle.deeds.proofs.EntryTurns.{limit_is, turn_less, turn_rest, turn_valid, turn_within, descends_on, descends_not, descends_over}
+use Rattle.deeds.proofs.run.is_ordered.Given as goal
+
+abbrev pub invariant-loop-left : goal.invariant-loop-left
+invariant-loop-left l =
+    Between l.m l.start l.left l.log_keys l.log_values
+    × (descends l.m l.limit (last_first l.left l.log_keys l.log_values l.start l.left) ≡ descends l.m (5 ^ l.m) (last_first l.end l.log_keys l.log_values l.start l.end))
+
+abbrev pub decreases-loop-left : goal.decreases-loop-left
+decreases-loop-left l =
+    l.left

@@ -1,0 +1,15 @@
+-- `up_to` meets its contract: an entry past the block is left out, and the first that is not ends the walk.
+use borrow.Author.Rules.{rules}
+use Rattle.deeds.specs.Deed.{ShortRun}
+use Rattle.deeds.proofs.Chains.{run_ended}
+use Rattle.deeds.proofs.EntryTurns.{turn_less}
+use Rattle.deeds.proofs.ShortRuns.{short_begins, short_turns, short_by}
+use Rattle.deeds.proofs.run.up_to.Given as goal
+
+abbrev pub invariant-loop-end : goal.invariant-loop-end
+invariant-loop-end l =
+    ShortRun l.m l.past (record { start = l.start; end = l.initial.end; ordered = l.ordered }) (record { start = l.start; end = l.end; ordered = l.ordered }) l.log_keys l.log_values
+
+abbrev pub decreases-loop-end : goal.decreases-loop-end
+decreases-loop-end l =
+    l.end
