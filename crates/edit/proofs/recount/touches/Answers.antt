@@ -12,8 +12,7 @@ use Rattle.keys.proofs.Powers.{five_le}
 use Rattle.keys.proofs.Valid.{valid_below}
 use Rattle.definitions.specs.Area.{summary_level, summary_height, block_key}
 use Rattle.summary.proofs.BlockNumbers.{key_valid, key_height}
-use Rattle.edit.proofs.recount.touches.Statement.{statement}
-use Rattle.edit.proofs.recount.touches.Tie as tie
+use Rattle.edit.proofs.recount.touches.Goals as goal
 
 -- the key that was found ends its interval a step on
 step_is : (m b other step : ℕ) → b < 4 ^ summary_level m → other ≡ block_key m b → step ≡ 5 ^ zeros_at_end m other → step ≡ 5 ^ summary_height m
@@ -38,30 +37,21 @@ then_touch : (m b key end other step : ℕ) → other ≡ block_key m b → othe
 then_touch m b key end other step e h f =
     ap₂ (λ x y. ltb key (x + y)) e f ∙ sym (ap (λ t. t && ltb key (block_key m b + 5 ^ summary_height m)) (lt-ltb (block_key m b) end (omega arith)))
 
-key-of-requires : tie.Need-key-of-requires
-key-of-requires c κs = search rules
+pub key_of-other-requires : goal.key_of-other-requires
+key_of-other-requires c = search rules
 
-returns : tie.Need-returns
-returns c = none_touch _ _ _ _ _ c.before.key_of.ensures c.if1.true
+pub returns-then-end-other : goal.returns-then-end-other
+returns-then-end-other c = none_touch _ _ _ _ _ c.key_of-other.ensures c.if-end-other.true
 
-keys-in-requires : tie.Need-keys-in-requires
-keys-in-requires c κs = search rules
+pub keys_in-requires : goal.keys_in-requires
+keys_in-requires c = search rules
 
-add-result : tie.Need-overflow-add-result
-add-result c =
-    let found = c.before.before in
-    let start = found.before in
-    let is = step_is start.args.m start.args.b _ _ start.requires.1 found.key_of.ensures c.keys_in.ensures in
-    record { fits = end_small start.args.m start.args.b _ _ start.requires.0 start.requires.1 found.key_of.ensures is }
+pub overflow_add-result : goal.overflow_add-result
+overflow_add-result c =
+    let is = step_is c.args.m c.args.b _ _ c.requires.1 c.key_of-other.ensures c.keys_in.ensures in
+    record { fits = end_small c.args.m c.args.b _ _ c.requires.0 c.requires.1 c.key_of-other.ensures is }
 
-returns-2 : tie.Need-returns-2
-returns-2 c =
-    let found = c.before.before in
-    let start = found.before in
-    then_touch start.args.m start.args.b _ _ _ _ found.key_of.ensures c.before.if1.false
-    (step_is start.args.m start.args.b _ _ start.requires.1 found.key_of.ensures c.keys_in.ensures)
-
-pub touches-spec : {M : Type 1} → statement M
-touches-spec =
-    tie.close
-    (tie.spec key-of-requires returns keys-in-requires add-result returns-2)
+pub returns : goal.returns
+returns c =
+    then_touch c.args.m c.args.b _ _ _ _ c.key_of-other.ensures c.if-end-other.false
+    (step_is c.args.m c.args.b _ _ c.requires.1 c.key_of-other.ensures c.keys_in.ensures)
