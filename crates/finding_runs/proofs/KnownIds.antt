@@ -3,7 +3,7 @@
 use Prim.Native.Nat.{ℕ, suc, ◌+◌, ◌≤◌, ◌<◌}
 use mathlib.Core.Path.{◌≡◌, refl, sym, ap, ◌∙◌}
 use mathlib.Core.Bool.{Bool, true, not, ◌&&◌, true≢false}
-use mathlib.Core.Logic.{◌⊎◌, ⊎_elim}
+use mathlib.Core.Logic.{⊎_elim}
 use mathlib.Core.List.{List, [], ◌∷◌, Memᴰ}
 use native.Mathlib.Omega.{arith}
 use lib.ListN.{length}
@@ -60,28 +60,31 @@ gap_below x y (w ∷ ws) gap =
     (λ high. let a = below_out x w ws high in
     split w.id y (λ low. absurd (gap w (Memᴰ.head refl) high low)) (λ over. let b = below_out y w ws over in omega arith))
 
-pub below_gap : (x y : ℕ) {ws : List Finding} → x ≤ y → waivers_below y ws ≤ waivers_below x ws → Gap x y ws
-below_gap x y h e v (Memᴰ.head {x = w} {xs = ws} is) from before =
+gap_at : (x y : ℕ) (v : Finding) {ws : List Finding} → x ≤ y → waivers_below y ws ≤ waivers_below x ws → Memᴰ v ws → x ≤ v.id → v.id < y → ⊥
+gap_at x y v h e (Memᴰ.head {x = w} {xs = ws} is) from before =
     let i = ap (λ z. z.id) is in
     let a = below_out x w ws (omega arith) in
     let b = below_in y w ws (omega arith) in
     let c = below_mono x y ws h in
     omega arith
-below_gap x y h e v (Memᴰ.tail {x = w} {xs = ws} i) from before =
-    below_gap x y {ws = ws} h
+gap_at x y v h e (Memᴰ.tail {x = w} {xs = ws} i) from before =
+    gap_at x y v {ws = ws} h
     (split w.id x
     (λ low. let a = below_in x w ws low in let b = below_in y w ws (omega arith) in omega arith)
     (λ high. let a = below_out x w ws high in
     split w.id y (λ low. let b = below_in y w ws low in omega arith) (λ over. let b = below_out y w ws over in omega arith)))
-    v i from before
+    i from before
+
+pub below_gap : (x y : ℕ) {ws : List Finding} → x ≤ y → waivers_below y ws ≤ waivers_below x ws → Gap x y ws
+below_gap x y h e v = gap_at x y v h e
 
 -- all are below y exactly where none is from y on
-pub below_every : (y : ℕ) {ws : List Finding} (w : Finding) → length ws ≤ waivers_below y ws → Memᴰ w ws → w.id < y
+pub below_every : (y : ℕ) (w : Finding) {ws : List Finding} → length ws ≤ waivers_below y ws → Memᴰ w ws → w.id < y
 below_every y v e (Memᴰ.head {x = w} {xs = ws} is) =
     let i = ap (λ z. z.id) is in
     split w.id y (λ low. omega arith) (λ high. let a = below_out y w ws high in let b = below_all y ws in absurd (omega arith))
 below_every y v e (Memᴰ.tail {x = w} {xs = ws} i) =
-    below_every y {ws = ws} v
+    below_every y v {ws = ws}
     (split w.id y (λ low. let a = below_in y w ws low in omega arith) (λ high. let a = below_out y w ws high in let b = below_all y ws in absurd (omega arith)))
     i
 

@@ -29,9 +29,5 @@ pub mod Bounds
 pub mod ThreeRuns
 pub mod OfficeAnswer
 pub mod Answer
--- the loop over the lent rules, walked by hand
-pub mod RunSlices
-pub mod LentAnswers
-pub mod StepCall
+-- the loop over the lent rules
 pub mod RunTurns
-pub mod RunEntryExit

@@ -24,7 +24,7 @@ use Rattle.finding_runs.proofs.GoodRules.{good_from, bad-rules}
 use Rattle.finding_runs.proofs.KnownIds.{AllKnown}
 
 -- ---- the waivers: in order, with valid keys, each with a rule's id
-known_member : (m : ℕ) (rules : List Rule) {ws : List Finding} (w : Finding) → all_waivers m rules ws ≡ true → Memᴰ w ws → is_rule_id rules w.id ≡ true
+known_member : (m : ℕ) (rules : List Rule) (w : Finding) {ws : List Finding} → all_waivers m rules ws ≡ true → Memᴰ w ws → is_rule_id rules w.id ≡ true
 unfolding all_waivers
 known_member m rules w e (Memᴰ.head {x = v} {xs = ws} is) =
     ap (λ z. is_rule_id rules z.id) is

@@ -1,5 +1,4 @@
-// All rules of a run, one after the other. Each rule is copied out and given to `one_rule::step`, which has all the logic and is covered; the loop itself
-// is walked by hand.
+// All rules of a run, one after the other. Each rule is copied out and given to `one_rule::step`, which has all the logic.
 ghost use Rattle.std.specs.Prelude.{◌≡◌};
 ghost use Rattle.finding_runs.specs.Run.{progress_of, TableReady, table_run};
 

@@ -9,8 +9,8 @@ use Prim.Native.Nat.{ℕ, zero, suc}
 use mathlib.Core.List.{List, [], ◌∷◌}
 use lib.ListN.{length}
 use seplogic.Ra.Ura.{Ura}
-use seplogic.Ra.TreeShare.{full_share}
-use package.mir.Syntax.{Name}
+use base.Fraction.{full_share}
+use package.mir.Syntax.{Callee}
 use package.mir.Val.{Val}
 use base.Logic.{SProp, ent, sep, guard}
 use base.Fml.{GName, Fml, ftrue, fsep, feq, flft}
@@ -60,14 +60,14 @@ module _ (one two : LentSlice u32) where
 
   -- Tk ν ν' are the tokens that the contract gives back when the slices are lent for ν and ν', and B is what they are but for those of ν and ν'. The
   -- contract binds Bound at exit, of which first_of and second_of are the last elements; k parameters stand before the two slices.
-  module _ {M : Type 1} {𝓤 : Ura M} (𝓛 : Logic 𝓤) (C : Calls 𝓤 𝓛.H) (fm : FmC 𝓤 𝓛.H 𝓛.laws C) (f : Name) (vs : List Val)
+  module _ {M : Type 1} {𝓤 : Ura M} (𝓛 : Logic 𝓤) (C : Calls 𝓤 𝓛.H) (fm : FmC 𝓤 𝓛.H 𝓛.laws C) (f : Callee) (vs : List Val)
       (T : Declared) (L : LL.Laws T) (φ : T.D → List ℕ → List ℕ → Type 0) (k : ℕ) (Bound : Type 0) (first_of second_of : Bound → List ℕ)
       (P B : Item 𝓤) (Tk : ℕ → ℕ → SProp 𝓤) (l l' : List ℕ) (len : length l ≡ length one.x.now) (len' : length l' ≡ length two.x.now) where
     abbrev each_last : GName → GName → Bound → List Fml
     each_last δ δ' zs = Last δ l (first_of zs) ∷ Last δ' l' (second_of zs) ∷ ftrue ∷ []
 
     abbrev pub post : ℕ → ℕ → GName → GName → Val → Item 𝓤
-    post ν ν' δ δ' w = later (some (λ (r : T.D). (raw (Tk ν ν') ⊛ ‵ ((row T).own r (w ∷ [])))
+    post ν ν' δ δ' w = later (some (λ (r : T.D). (raw (Tk ν ν') ⊛ ‵ ((row T).own_val r (w ∷ [])))
         ⊛ some (λ (zs : Bound). ‵ (chain_after k (chain (each_last δ δ' zs))) ⊛ raw (fact 𝓤 (φ r (first_of zs) (second_of zs))))))
 
     abbrev Result : Type 0

@@ -1,0 +1,18 @@
+-- `put_text` meets its contract: after i turns the first i bytes stand, and what remains is the text without them.
+use Prim.Native.Nat.{ℕ, ◌-◌, ◌≤◌}
+use mathlib.Core.List.{List}
+use lib.ListN.{length, drop}
+use Rattle.listing_text.proofs.Going.{Going}
+use Rattle.listing_text.proofs.text.put_text.Given as goal
+
+pub record Passed (text : List ℕ) (start : ℕ) (old out : List ℕ) (next i : ℕ) : Type 0 where
+  pub within : i ≤ length text
+  pub going : Going text (drop i text) start old out next
+
+abbrev pub invariant-loop-i : goal.invariant-loop-i
+invariant-loop-i l =
+    Passed l.text l.place l.initial.out l.out l.next l.i
+
+abbrev pub decreases-loop-i : goal.decreases-loop-i
+decreases-loop-i l =
+    length l.text - l.i
