@@ -15,7 +15,7 @@ use keys::block::{TreeBlock, child, end};
 use list::check;
 
 // A block's bits and its number of records after the step, and the places after its records before it and after what is left of them.
-#[derive(Drop)]
+#[derive(Clone, Copy)]
 pub struct Shrunk {
     pub tally: Tally,
     pub at: Places,

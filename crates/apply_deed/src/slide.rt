@@ -6,7 +6,7 @@ use deeds::meeting::Meeting;
 use list::standing;
 
 // Where records are read, and where what becomes of them is written. Growing, which goes from the end, reads and writes before these places.
-#[derive(Drop)]
+#[derive(Clone, Copy)]
 pub struct Places {
     pub read: usize,
     pub write: usize,

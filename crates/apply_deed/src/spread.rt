@@ -15,7 +15,7 @@ use keys::power;
 use list::check;
 
 // The bits of a block, and the place of its own record.
-#[derive(Drop)]
+#[derive(Clone, Copy)]
 pub struct Foremost {
     pub bits: u32,
     pub place: usize,

@@ -59,7 +59,7 @@ pub fn tally_leaf(
 }
 
 // A block's bits and number of records after the step, and the place after its records before it.
-#[derive(Drop)]
+#[derive(Clone, Copy)]
 pub struct PassedBlock {
     pub tally: Tally,
     pub next: usize,

@@ -8,7 +8,7 @@ ghost use Rattle.area.specs.Tally.{NodeTallied};
 use list::check;
 
 // The pixels counted, and the place after the last record passed.
-#[derive(Drop)]
+#[derive(Clone, Copy)]
 pub struct Measure {
     pub pixels: u32,
     pub next: usize,

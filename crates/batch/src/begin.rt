@@ -10,7 +10,7 @@ use list::refusal::first_refusal;
 const ANSWER_ROOM: u32 = Refusal::ANSWER_ROOM as u32;
 
 // Where a batch stands: the settings and the number of records, the refusal of the batch, or 0, how many questions there are, and the place of the next.
-#[derive(Drop)]
+#[derive(Clone, Copy)]
 pub struct BatchState {
     pub m: u32,
     pub s: u32,

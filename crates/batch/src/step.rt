@@ -17,7 +17,7 @@ const WINDOW: u32 = Refusal::WINDOW as u32;
 const FEATURE: u32 = Refusal::FEATURE as u32;
 
 // What a question is answered: the refusal of the clipped single call, and its value, which is 0 where it is refused.
-#[derive(Drop)]
+#[derive(Clone, Copy)]
 pub struct Reply {
     pub refusal: u32,
     pub value: u32,

@@ -20,7 +20,7 @@ pub fn key_after(m: u32, key: u32, leaf: u32) -> u32
 
 // Where reading goes on after a block: the next key, and 1 where a leaf was passed. The key is 0 where the bits end early, go too deep or
 // show four equal leaf siblings.
-#[derive(Drop)]
+#[derive(Clone, Copy)]
 pub struct AfterBlock {
     pub key: u32,
     pub leaf: u32,

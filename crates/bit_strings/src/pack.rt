@@ -21,7 +21,7 @@ pub fn bit_of(value: u32, leaves: bool) -> u32
     value / 2 % 2
 }
 
-#[derive(Drop)]
+#[derive(Clone, Copy)]
 pub struct Bit {
     pub bit: u32,
     pub after: usize,
@@ -46,7 +46,7 @@ pub fn next_bit(values: &[u32], at: usize, leaves: bool) -> Bit
     }
 }
 
-#[derive(Drop)]
+#[derive(Clone, Copy)]
 pub struct Byte {
     pub byte: u8,
     pub after: usize,

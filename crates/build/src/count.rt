@@ -9,7 +9,7 @@ use keys::power;
 use list::check;
 
 // The bits of a block, and how many records its list has.
-#[derive(Drop)]
+#[derive(Clone, Copy)]
 pub struct Tally {
     pub bits: u32,
     pub count: usize,

@@ -9,7 +9,7 @@ use keys::{Key, power};
 use list::check;
 
 // The bits of a block, and the place after its records.
-#[derive(Drop)]
+#[derive(Clone, Copy)]
 pub struct Below {
     pub bits: u32,
     pub next: usize,

@@ -7,7 +7,7 @@ use build::count;
 use build::count::Tally;
 
 // The tally of a combined block, and both lists past it.
-#[derive(Drop)]
+#[derive(Clone, Copy)]
 pub struct CombinedTally {
     pub tally: Tally,
     pub next: Pair,

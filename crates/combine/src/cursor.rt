@@ -5,14 +5,14 @@ ghost use Rattle.combine.specs.Combining.{Entered, BothEntered, both_roots, pass
 use list::check;
 
 // The bits of the leaf that a block is or lies in, 0 for a node; and the place of what follows.
-#[derive(Drop)]
+#[derive(Clone, Copy)]
 pub struct Cursor {
     pub leaf: u32,
     pub at: usize,
 }
 
 // The cursors of both lists at one block.
-#[derive(Drop)]
+#[derive(Clone, Copy)]
 pub struct Pair {
     pub first: Cursor,
     pub second: Cursor,

@@ -7,7 +7,7 @@ use build::write::{Below, write_four};
 use keys::span::{KeySpan, child};
 
 // What is written below a combined block, and both lists past it.
-#[derive(Drop)]
+#[derive(Clone, Copy)]
 pub struct Writing {
     pub below: Below,
     pub next: Pair,

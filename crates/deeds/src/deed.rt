@@ -12,7 +12,7 @@ use definitions::Window;
 use keys::block::TreeBlock;
 
 // Every pixel of a window gets a feature; the entries of a run are taken back, last to first; or their blocks are painted again, first to last.
-#[derive(Drop)]
+#[derive(Clone, Copy)]
 pub enum Deed {
     Fill(Window, u32),
     Back(Run),
@@ -20,7 +20,7 @@ pub enum Deed {
 }
 
 // A deed on a map of resolution m.
-#[derive(Drop)]
+#[derive(Clone, Copy)]
 pub struct Doing {
     pub m: u32,
     pub deed: Deed,

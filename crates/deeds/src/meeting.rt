@@ -2,7 +2,7 @@
 ghost use Rattle.std.specs.Prelude.{◌≡◌};
 ghost use Rattle.deeds.specs.Meeting.{is_cut};
 
-#[derive(Drop)]
+#[derive(Clone, Copy)]
 pub enum Meeting {
     // The step touches no pixel of it.
     Apart,

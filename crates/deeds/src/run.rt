@@ -10,7 +10,7 @@ use log::entry;
 
 // Where the entries start and end. Of ordered ones each block ends at or before the next one's key, so none has a pixel of another; a search among them
 // may stop early.
-#[derive(Drop)]
+#[derive(Clone, Copy)]
 pub struct Run {
     pub start: usize,
     pub end: usize,

@@ -4,7 +4,7 @@
 pub mod refusal;
 
 // A window of the raster. Height and width are at least 1.
-#[derive(Drop)]
+#[derive(Clone, Copy)]
 pub struct Window {
     pub row: u32,
     pub column: u32,
@@ -14,7 +14,7 @@ pub struct Window {
 
 // A rule: the feature is forbidden in the window.
 #[repr(C)]
-#[derive(Drop)]
+#[derive(Clone, Copy)]
 pub struct Rule {
     pub id: u32,
     pub row: u32,
@@ -26,7 +26,7 @@ pub struct Rule {
 
 // A question of a batch: does the feature occur in the dragged window (report 0), or which features do (any other number)?
 #[repr(C)]
-#[derive(Drop)]
+#[derive(Clone, Copy)]
 pub struct Question {
     pub report: u32,
     pub row: i32,
@@ -38,7 +38,7 @@ pub struct Question {
 
 // Where a block stands: it is listed at a place, with the number of records that it and all below it take; or it lies inside the leaf at a place, with
 // the leaf's key and level.
-#[derive(Drop)]
+#[derive(Clone, Copy)]
 pub enum Standing {
     Listed(usize, usize),
     Inside(usize, u32, u32),
@@ -46,27 +46,27 @@ pub enum Standing {
 
 // The answers, laid out as C has them. `refusal` is 0 or a number of specification S24; on a refusal every other number is 0, save the places needed with 12.
 #[repr(C)]
-#[derive(Drop)]
+#[derive(Clone, Copy)]
 pub struct Done {
     pub refusal: u64,
 }
 
 #[repr(C)]
-#[derive(Drop)]
+#[derive(Clone, Copy)]
 pub struct Counted {
     pub refusal: u64,
     pub count: u64,
 }
 
 #[repr(C)]
-#[derive(Drop)]
+#[derive(Clone, Copy)]
 pub struct Keyed {
     pub refusal: u64,
     pub key: u64,
 }
 
 #[repr(C)]
-#[derive(Drop)]
+#[derive(Clone, Copy)]
 pub struct Stands {
     pub refusal: u64,
     pub kind: u64,
@@ -77,7 +77,7 @@ pub struct Stands {
 }
 
 #[repr(C)]
-#[derive(Drop)]
+#[derive(Clone, Copy)]
 pub struct Block {
     pub refusal: u64,
     pub row: u64,
@@ -87,35 +87,35 @@ pub struct Block {
 }
 
 #[repr(C)]
-#[derive(Drop)]
+#[derive(Clone, Copy)]
 pub struct Span {
     pub start: u64,
     pub length: u64,
 }
 
 #[repr(C)]
-#[derive(Drop)]
+#[derive(Clone, Copy)]
 pub struct Exists {
     pub refusal: u64,
     pub yes: u64,
 }
 
 #[repr(C)]
-#[derive(Drop)]
+#[derive(Clone, Copy)]
 pub struct Reported {
     pub refusal: u64,
     pub bits: u64,
 }
 
 #[repr(C)]
-#[derive(Drop)]
+#[derive(Clone, Copy)]
 pub struct Measured {
     pub refusal: u64,
     pub pixels: u64,
 }
 
 #[repr(C)]
-#[derive(Drop)]
+#[derive(Clone, Copy)]
 pub struct Edited {
     pub refusal: u64,
     pub n: u64,
@@ -124,14 +124,14 @@ pub struct Edited {
 }
 
 #[repr(C)]
-#[derive(Drop)]
+#[derive(Clone, Copy)]
 pub struct Emptied {
     pub used: u64,
     pub in_force: u64,
 }
 
 #[repr(C)]
-#[derive(Drop)]
+#[derive(Clone, Copy)]
 pub struct Found {
     pub refusal: u64,
     pub live: u64,
@@ -139,7 +139,7 @@ pub struct Found {
 }
 
 #[repr(C)]
-#[derive(Drop)]
+#[derive(Clone, Copy)]
 pub struct Loaded {
     pub refusal: u64,
     pub m: u64,
@@ -148,7 +148,7 @@ pub struct Loaded {
 }
 
 #[repr(C)]
-#[derive(Drop)]
+#[derive(Clone, Copy)]
 pub struct LoadedLog {
     pub refusal: u64,
     pub m: u64,
@@ -159,7 +159,7 @@ pub struct LoadedLog {
 
 // The bytes of a pair of bit strings.
 #[repr(C)]
-#[derive(Drop)]
+#[derive(Clone, Copy)]
 pub struct Strings {
     pub refusal: u64,
     pub node_bytes: u64,

@@ -1,5 +1,5 @@
 // The refusals by name (specification S24): the numbers that the tables of specs/Calls give, with the C header's names.
-#[derive(Drop)]
+#[derive(Clone, Copy)]
 pub struct Refusal {}
 
 impl Refusal {

@@ -10,14 +10,14 @@ use replace::plan::Plan;
 use summary::check::first_refusal;
 
 // An edit is refused, or it goes by an entry of the log, which it takes back or redoes, and by a plan for the list.
-#[derive(Drop)]
+#[derive(Clone, Copy)]
 pub enum Decision {
     Refused(u64),
     Granted(Entry, Plan),
 }
 
 // A paint is refused, or it goes by the entry that it logs, by where the block's former content stands, and by a plan for the list.
-#[derive(Drop)]
+#[derive(Clone, Copy)]
 pub enum PaintDecision {
     Refused(u64),
     Granted(Entry, Former, Plan),

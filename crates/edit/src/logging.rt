@@ -16,7 +16,7 @@ use log::entry::Entry;
 
 // A block's former content: the list has it from a place on, so many records; or the block lies inside the leaf at the place, and its content is one
 // record, which the list does not have.
-#[derive(Drop)]
+#[derive(Clone, Copy)]
 pub struct Former {
     pub listed: bool,
     pub place: usize,

@@ -61,7 +61,7 @@ listed_past {p} {k = k} {κ = κ} b one (child {k' = k'} {κ₁ = κ₁} {κ' = 
 
 member-drop : {x : Record} (l : List Record) (i : ℕ) → Memᴰ x (drop i l) → Memᴰ x l
 member-drop l zero h = h
-member-drop [] (suc i) h = absurd (Memᴰ.not_nil h)
+member-drop [] (suc i) h = absurd (Memᴰ.not-nil h)
 member-drop (y ∷ l) (suc i) h = Memᴰ.tail (member-drop l i h)
 
 -- the end of the block where the walk stands

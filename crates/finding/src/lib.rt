@@ -26,7 +26,7 @@ use walk::{NextBlock, Spot};
 
 // What is the same for all findings of a rule: the map's resolution and number of records, the rule's id and its feature's bit, and how many findings
 // may be written.
-#[derive(Drop)]
+#[derive(Clone, Copy)]
 pub struct Job {
     pub m: u32,
     pub n: usize,
@@ -36,7 +36,7 @@ pub struct Job {
 }
 
 // How far the rule's waivers are passed and their furthest end, and how many findings were live and hidden.
-#[derive(Drop)]
+#[derive(Clone, Copy)]
 pub struct Sifting {
     pub passed: usize,
     pub furthest: u32,

@@ -7,14 +7,14 @@ ghost use Rattle.finding.specs.Covering.{end_of, first_pixel, next_over, further
 use keys::zeros;
 
 // The furthest end of the waivers passed, and the first pixel of the block that is left.
-#[derive(Drop)]
+#[derive(Clone, Copy)]
 pub struct Covering {
     pub furthest: u32,
     pub next: u32,
 }
 
 // How far the waivers are passed, their furthest end, and whether they cover the block.
-#[derive(Drop)]
+#[derive(Clone, Copy)]
 pub struct Settled {
     pub passed: usize,
     pub furthest: u32,

@@ -14,7 +14,7 @@ use Rattle.definitions.specs.Read.{room}
 use Rattle.definitions.specs.Rules.{Finding, finding_of, waivers_of, live_of, hidden_count, findings_ascend}
 use Rattle.definitions.specs.Covered.{waived_keys, is_covered}
 use Rattle.laws.proofs.FindingOrder.{InOrder, no_finding, finding, ascend_rest, ascend_order}
-use Rattle.laws.proofs.Hidden.{hidden_covered}
+use Rattle.laws.proofs.HiddenFindings.{hidden_covered}
 use Rattle.laws.proofs.Waivers.{live_hidden, live_kept, live_none, live_and_hidden}
 use Rattle.finding_runs.specs.Run.{waivers_below, keys_valid, waivers_good}
 use Rattle.finding.specs.Covering.{Waived, none, one}

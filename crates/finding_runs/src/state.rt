@@ -16,7 +16,7 @@ pub const RESTING: u32 = 2;
 // Where a run over the rules stands: the settings and the number of records; which of the three runs it is; the refusal, or 0; the least id that the next rule may have;
 // whether a waiver is wrong; where the asking office's rows begin, how many they are and how many are passed; how many findings may be written, and how many have room; and how many
 // were live and hidden. A run that bounds has in `live` a number that the live findings do not exceed.
-#[derive(Drop)]
+#[derive(Clone, Copy)]
 pub struct RunState {
     pub m: u32,
     pub s: u32,

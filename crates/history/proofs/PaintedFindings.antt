@@ -14,7 +14,7 @@ use Rattle.definitions.specs.Calls.Findings.{live_in, findings_refusal}
 use Rattle.definitions.specs.declared.Rule.{Rule}
 use Rattle.laws.proofs.Pixels.{Agree}
 use Rattle.laws.proofs.SelectAgree.{findings_agree}
-use Rattle.laws.proofs.Hidden.{WaivedBy, EveryPixelOf, LeftOver}
+use Rattle.laws.proofs.HiddenFindings.{WaivedBy, EveryPixelOf, LeftOver}
 use Rattle.laws.proofs.OldFault.{answered, answered_live, live_after, live_as_before, accepted_not_live}
 use Rattle.history.specs.History.{Buffers, Paint, painting, applied, after, answer}
 use Rattle.history.proofs.Shown.{shown_replaced, shown_records}

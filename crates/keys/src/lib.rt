@@ -13,13 +13,13 @@ pub mod span;
 pub mod zeros;
 
 // A block's number: m digits in base 5.
-#[derive(Drop)]
+#[derive(Clone, Copy)]
 pub struct Key {
     pub number: u32,
 }
 
 // The square of a block: its first row and column, and its side.
-#[derive(Drop)]
+#[derive(Clone, Copy)]
 pub struct Square {
     pub row: u32,
     pub column: u32,
@@ -27,7 +27,7 @@ pub struct Square {
 }
 
 // What a number's digits say: whether they are a key's, and then the square of its block.
-#[derive(Drop)]
+#[derive(Clone, Copy)]
 pub struct ReadKey {
     pub valid: bool,
     pub row: u32,

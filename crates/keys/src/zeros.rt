@@ -6,7 +6,7 @@ ghost use Rattle.keys.specs.Key.{zeros_at_end, level_of, valid_key};
 use crate::power;
 
 // How many zeros stand at the end of a key, and the power of five that goes with them.
-#[derive(Drop)]
+#[derive(Clone, Copy)]
 pub struct EndZeros {
     pub count: u32,
     pub power: u32,

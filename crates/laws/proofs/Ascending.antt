@@ -46,16 +46,19 @@ ascending_four κ q pos one two three four =
 
 -- the key of each record is at least the lower bound
 pub key_from : {lo hi : ℕ} {l : List Record} {x : Record} → Ascending lo hi l → Memᴰ x l → lo ≤ x.key
+key_from (none h) m = elim m [ ]
 key_from (next {e = e} h a) (Memᴰ.head i) = let j = ap (λ y. y.key) i in omega arith
 key_from (next h a) (Memᴰ.tail m) = let j = key_from a m in omega arith
 
 -- and below the upper
 pub key_below : {lo hi : ℕ} {l : List Record} {x : Record} → Ascending lo hi l → Memᴰ x l → x.key < hi
+key_below (none h) m = elim m [ ]
 key_below (next {e = e} h a) (Memᴰ.head i) = let j = ap (λ y. y.key) i in let b = ascending_bounds a in omega arith
 key_below (next h a) (Memᴰ.tail m) = key_below a m
 
 -- no two records have the same key
 pub same_key_record : {lo hi : ℕ} {l : List Record} {x y : Record} → Ascending lo hi l → Memᴰ x l → Memᴰ y l → x.key ≡ y.key → x ≡ y
+same_key_record (none h) m n e = elim m [ ]
 same_key_record (next h a) (Memᴰ.head i) (Memᴰ.head j) e = i ∙ sym j
 same_key_record (next h a) (Memᴰ.head i) (Memᴰ.tail n) e = let b = key_from a n in let k = ap (λ z. z.key) i in absurd (omega arith)
 same_key_record (next h a) (Memᴰ.tail m) (Memᴰ.head j) e = let b = key_from a m in let k = ap (λ z. z.key) j in absurd (omega arith)

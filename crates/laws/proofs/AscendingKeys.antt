@@ -30,7 +30,7 @@ keys-append (key h s) t = key h (keys-append s t)
 
 -- each key lies between the bounds
 pub ascending_member : {lo hi x : ℕ} {l : List ℕ} → AscendingKeys lo hi l → Memᴰ x l → (lo ≤ x) × (x < hi)
-ascending_member (no_key h) m = absurd (mathlib.Core.List.Memᴰ.not_nil m)
+ascending_member (no_key h) m = absurd (mathlib.Core.List.Memᴰ.not-nil m)
 ascending_member {lo} {hi} {x} (key {x = y} {l} h t) m =
     let order = keys_bounds t in
     ⊎_elim (λ (e : x ≡ y). omega arith) (λ (m' : Memᴰ x l). let ih = ascending_member t m' in omega arith) (mathlib.Core.List.Memᴰ.cases_cons m)
@@ -78,8 +78,8 @@ pub ascending_same : {lo hi lo' hi' : ℕ} (a b : List ℕ) → AscendingKeys lo
     → ((z : ℕ) → Memᴰ z a → Memᴰ z b) → ((z : ℕ) → Memᴰ z b → Memᴰ z a)
     → a ≡ b
 ascending_same [] [] s t to from = refl
-ascending_same [] (y ∷ b) s t to from = absurd (mathlib.Core.List.Memᴰ.not_nil (from y (mathlib.Core.List.Memᴰ.head refl)))
-ascending_same (x ∷ a) [] s t to from = absurd (mathlib.Core.List.Memᴰ.not_nil (to x (mathlib.Core.List.Memᴰ.head refl)))
+ascending_same [] (y ∷ b) s t to from = absurd (mathlib.Core.List.Memᴰ.not-nil (from y (mathlib.Core.List.Memᴰ.head refl)))
+ascending_same (x ∷ a) [] s t to from = absurd (mathlib.Core.List.Memᴰ.not-nil (to x (mathlib.Core.List.Memᴰ.head refl)))
 ascending_same (x ∷ a) (y ∷ b) s t to from =
     let first : x ≡ y = same_first s t (to x (mathlib.Core.List.Memᴰ.head refl)) (from y (mathlib.Core.List.Memᴰ.head refl)) in
     ap₂ (λ z l. z ∷ l) first

@@ -40,7 +40,7 @@ one_in_order {k = k} {κ = κ} b = block {from = κ} {κ = κ} (omega arith) b (
 
 -- the keys of blocks in order are valid
 pub order_valid : {m from until x : ℕ} {blocks : List ℕ} → BlocksInOrder m from until blocks → Memᴰ x blocks → valid_key m x ≡ true
-order_valid (no_block h) i = absurd (Memᴰ.not_nil i)
+order_valid (no_block h) i = absurd (Memᴰ.not-nil i)
 order_valid {m} (block h b rest) (Memᴰ.head e) = ap (valid_key m) e ∙ (block_valid b).valid
 order_valid (block h b rest) (Memᴰ.tail i) = order_valid rest i
 

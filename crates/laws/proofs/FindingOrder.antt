@@ -74,7 +74,7 @@ before_all {x} {y} {xs} first (finding h t) z m =
 -- where each comes before the next, each comes before every later one
 pub ascend_order : (xs : List Finding) → findings_ascend xs ≡ true → InOrder xs
 ascend_order [] e = no_finding
-ascend_order (x ∷ []) e = finding (λ y m. absurd (Memᴰ.not_nil m)) no_finding
+ascend_order (x ∷ []) e = finding (λ y m. absurd (Memᴰ.not-nil m)) no_finding
 ascend_order (x ∷ (y ∷ xs)) e =
     let rest = ascend_order (y ∷ xs) (ascend_rest x (y ∷ xs) e) in finding (before_all (test_earlier x y (ascend_first x y xs e)) rest) rest
 

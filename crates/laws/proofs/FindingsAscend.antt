@@ -60,7 +60,7 @@ module _ (m : ℕ) (p : Picture) where
   -- the findings of later rules have larger ids
   later_ids : (a : Rule) (rules : List Rule) → ids_ascend (a ∷ rules) ≡ true → {x : Finding} → Memᴰ x (all_findings m p rules) → a.id < x.id
   unfolding all_findings
-  later_ids a [] e h = absurd (mathlib.Core.List.Memᴰ.not_nil h)
+  later_ids a [] e h = absurd (mathlib.Core.List.Memᴰ.not-nil h)
   later_ids a (b ∷ rules) e {x} h =
       let low = ids_first a b rules e in
       ⊎_elim

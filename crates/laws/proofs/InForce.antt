@@ -37,7 +37,7 @@ ends_of (more {log} {step} e is) = length (log ++ step) ∷ ends_of e
 -- they lie within the log
 ends_within : {m s : ℕ} {log : List Record} (e : Steps m s log) (k : ℕ) → Memᴰ k (ends_of e) → k ≤ length log
 ends_within none k (Memᴰ.head e) = omega arith
-ends_within none k (Memᴰ.tail there) = absurd (Memᴰ.not_nil there)
+ends_within none k (Memᴰ.tail there) = absurd (Memᴰ.not-nil there)
 ends_within (more e is) k (Memᴰ.head same) = omega arith
 ends_within (more {log} {step} e is) k (Memᴰ.tail there) =
     let inside = ends_within e k there in
@@ -59,7 +59,7 @@ module _ {m s : ℕ} (few : s ≤ group_mark) where
   -- at the end of a step both parts are sound
   end_parts : {log : List Record} (e : Steps m s log) (k : ℕ) → Memᴰ k (ends_of e) → Parts m s log k
   end_parts none k (Memᴰ.head same) = parts_all none k same
-  end_parts none k (Memᴰ.tail there) = absurd (Memᴰ.not_nil there)
+  end_parts none k (Memᴰ.tail there) = absurd (Memᴰ.not-nil there)
   end_parts (more e is) k (Memᴰ.head same) = parts_all (more e is) k same
   end_parts (more {log} {step} e is) k (Memᴰ.tail there) =
       let inside = ends_within e k there in

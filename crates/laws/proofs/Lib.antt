@@ -45,7 +45,7 @@ pub mod InForce
 pub mod WindowPaint
 pub mod GroupStep
 pub mod GroupBack
-pub mod Hidden
+pub mod HiddenFindings
 pub mod Waivers
 pub mod OldFault
 pub mod FindingOrder

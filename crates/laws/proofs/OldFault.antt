@@ -14,7 +14,7 @@ use Rattle.definitions.specs.Rules.{Finding, all_findings, waivers_of, live_of}
 use Rattle.definitions.specs.Calls.Findings.{live_in, hidden_in, refusal_with, found_with, ids_with, found_keys_with}
 use Rattle.definitions.specs.declared.Rule.{Rule}
 use Rattle.laws.proofs.First.{accepted_done}
-use Rattle.laws.proofs.Hidden.{WaivedBy, EveryPixelOf, LeftOver}
+use Rattle.laws.proofs.HiddenFindings.{WaivedBy, EveryPixelOf, LeftOver}
 use Rattle.laws.proofs.Waivers.{live_exactly, live_and_hidden}
 
 module _ (m : ℕ) (rules : List Rule) (ws : List Finding) where

@@ -108,7 +108,7 @@ module _ (p : Picture) (w : Window) (f : ℕ) where
   select_only zero r c κ {x} h =
       decide (is_given p w f 0 r c)
       (λ e. selected_self e (Memᴰ.eq_of_singleton (rw (select_given 0 r c κ e) at h)))
-      (λ e. absurd (Memᴰ.not_nil (rw (select_pixel r c κ e) at h)))
+      (λ e. absurd (Memᴰ.not-nil (rw (select_pixel r c κ e) at h)))
   select_only (suc k) r c κ {x} h =
       decide (is_given p w f (suc k) r c)
       (λ e. selected_self e (Memᴰ.eq_of_singleton (rw (select_given (suc k) r c κ e) at h)))

@@ -9,7 +9,7 @@ use native.Mathlib.Omega.{arith}
 use lib.ListN.{length}
 use Rattle.keys.proofs.Cases.{decide}
 use Rattle.definitions.specs.Rules.{Finding, is_hidden, live_of, hidden_count}
-use Rattle.laws.proofs.Hidden.{LeftOver, shown_exactly, other_rule_at}
+use Rattle.laws.proofs.HiddenFindings.{LeftOver, shown_exactly, other_rule_at}
 
 module _ (m : ℕ) where
   -- a hidden finding is left out
@@ -37,7 +37,7 @@ module _ (m : ℕ) where
 
   -- a live finding is a finding that is not hidden
   pub live_only : (ws xs : List Finding) {x : Finding} → Memᴰ x (live_of m ws xs) → Memᴰ x xs × (is_hidden m ws x ≡ false)
-  live_only ws [] {x} i = absurd (mathlib.Core.List.Memᴰ.not_nil (rw (live_none ws) at i))
+  live_only ws [] {x} i = absurd (mathlib.Core.List.Memᴰ.not-nil (rw (live_none ws) at i))
   live_only ws (y ∷ xs) {x} i =
       decide (is_hidden m ws y)
       (λ e. let ih = live_only ws xs (rw (live_hidden ws y xs e) at i) in (mathlib.Core.List.Memᴰ.tail ih.0, ih.1))
@@ -47,7 +47,7 @@ module _ (m : ℕ) where
       (mathlib.Core.List.Memᴰ.cases_cons (rw (live_kept ws y xs e) at i)))
 
   -- a finding that is not hidden is live
-  pub live_every : (ws : List Finding) {xs : List Finding} {x : Finding} → Memᴰ x xs → is_hidden m ws x ≡ false → Memᴰ x (live_of m ws xs)
+  pub live_every : (ws : List Finding) {x : Finding} {xs : List Finding} → Memᴰ x xs → is_hidden m ws x ≡ false → Memᴰ x (live_of m ws xs)
   live_every ws (mathlib.Core.List.Memᴰ.head {x = y} {xs} e) shown = rw (live_kept ws y xs (ap (λ z. is_hidden m ws z) (sym e) ∙ shown)) (mathlib.Core.List.Memᴰ.head e)
   live_every ws (mathlib.Core.List.Memᴰ.tail {x = y} {xs} i) shown =
       decide (is_hidden m ws y)

@@ -58,7 +58,7 @@ record InRow (p : Picture) (row column width f : ℕ) : Type 0 where
 
 row_has : (p : Picture) (row column width : ℕ) {f : ℕ} → Memᴰ f (features_of_row p row column width) → InRow p row column width f
 unfolding features_of_row
-row_has p row column zero h = absurd (mathlib.Core.List.Memᴰ.not_nil h)
+row_has p row column zero h = absurd (mathlib.Core.List.Memᴰ.not-nil h)
 row_has p row column (suc width) {f} h =
     ⊎_elim
     (λ (e : f ≡ p row column). record { place = column; from = omega arith; to = omega arith; feature = sym e })
@@ -83,7 +83,7 @@ record InRows (p : Picture) (row column width height f : ℕ) : Type 0 where
 
 rows_have : (p : Picture) (row column width height : ℕ) {f : ℕ} → Memᴰ f (features_of_rows p row column width height) → InRows p row column width height f
 unfolding features_of_rows
-rows_have p row column width zero h = absurd (mathlib.Core.List.Memᴰ.not_nil h)
+rows_have p row column width zero h = absurd (mathlib.Core.List.Memᴰ.not-nil h)
 rows_have p row column width (suc height) {f} h =
     ⊎_elim
     (λ (h₁ : Memᴰ f (features_of_row p row column width)).

@@ -95,7 +95,7 @@ module _ {m k r c κ : ℕ} {l : List ℕ} (b : MapBlock m k r c κ) (o : OpenBl
       omega (arith, j.from, first_key.until)
 
 pub none_open : {m k r c κ : ℕ} → MapBlock m k r c κ → OpenBlock m κ [] → ⊥
-none_open b o = mathlib.Core.List.Memᴰ.not_nil (open_around b o).among
+none_open b o = mathlib.Core.List.Memᴰ.not-nil (open_around b o).among
 
 -- the first leaf that is left, at a block that begins at the key
 module _ {m k r c κ x : ℕ} {l : List ℕ} (b : MapBlock m k r c κ) (o : OpenBlock m κ (x ∷ l)) where

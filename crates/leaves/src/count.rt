@@ -15,7 +15,7 @@ use keys::span::{KeySpan, child};
 use keys::{power, span};
 
 // The bits of a block and how many records its list has, and the place after its leaves. Where its leaves are not there, the place is past the last.
-#[derive(Drop)]
+#[derive(Clone, Copy)]
 pub struct Pass {
     pub tally: Tally,
     pub next: usize,

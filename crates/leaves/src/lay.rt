@@ -14,7 +14,7 @@ use keys::span::{KeySpan, child};
 use keys::{Key, power, span};
 
 // What is written below a block, and the place after its leaves.
-#[derive(Drop)]
+#[derive(Clone, Copy)]
 pub struct Lain {
     pub below: Below,
     pub end: usize,

@@ -5,7 +5,7 @@ ghost use Rattle.definitions.specs.Log.{closed, closing_places};
 ghost use Rattle.log.specs.Entries.{closing_count, is_closed, last_entry, Ended, records_from_place, Loggable, Logged, Cleared};
 
 // The block's key, the place in the log where the content starts, how many records that has, and the feature that the block was painted with.
-#[derive(Drop)]
+#[derive(Clone, Copy)]
 pub struct Entry {
     pub key: u32,
     pub start: usize,

@@ -9,7 +9,7 @@ use crate::entry::Entry;
 use keys::Key;
 
 // Groups are told from entries by their mark.
-#[derive(Drop)]
+#[derive(Clone, Copy)]
 pub struct Group {}
 
 impl Group {

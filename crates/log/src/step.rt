@@ -10,7 +10,7 @@ use crate::entry::Entry;
 use crate::group::Group;
 
 // The places in the log where the step's entries start and end, and whether it is a group.
-#[derive(Drop)]
+#[derive(Clone, Copy)]
 pub struct LogStep {
     pub start: usize,
     pub end: usize,

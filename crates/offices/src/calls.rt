@@ -37,7 +37,7 @@ fn table_refusal(
 }
 
 // What a call decides: its refusal, or 0 and the place of the row.
-#[derive(Drop)]
+#[derive(Clone, Copy)]
 pub struct RowDecision {
     pub refusal: u64,
     pub place: usize,

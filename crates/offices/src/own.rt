@@ -6,7 +6,7 @@ use crate::{check, rows};
 use keys::Key;
 
 // Whether the table is good, its keys included; then where the office's rows begin, and how many they are.
-#[derive(Drop)]
+#[derive(Clone, Copy)]
 pub struct Own {
     pub good: bool,
     pub offset: usize,

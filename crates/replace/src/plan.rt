@@ -14,7 +14,7 @@ use keys::{Key, power};
 use list::standing;
 
 // The block of height top is filled; old records from place start on are exchanged; the leaf around it is split so many levels, 0 if it is listed.
-#[derive(Drop)]
+#[derive(Clone, Copy)]
 pub struct Plan {
     pub top: u32,
     pub start: usize,

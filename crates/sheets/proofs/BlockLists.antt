@@ -23,7 +23,7 @@ record InOne (of : ℕ → List SheetBlock) (n : ℕ) (b : SheetBlock) : Type 0 
 
 in_one : (of : ℕ → List SheetBlock) (n : ℕ) (b : SheetBlock) → Memᴰ b (list_below of n) → InOne of n b
 unfolding list_below
-in_one of zero b h = absurd (mathlib.Core.List.Memᴰ.not_nil h)
+in_one of zero b h = absurd (mathlib.Core.List.Memᴰ.not-nil h)
 in_one of (suc n) b h =
     ⊎_elim
     (λ (i : Memᴰ b (list_below of n)). let x = in_one of n b i in record { at = x.at; below = omega arith; member = x.member })
@@ -45,12 +45,12 @@ record OnOne (i j : ℕ) (keys : List ℕ) (b : SheetBlock) : Type 0 where
   member : Memᴰ b.key keys
 
 on_one : (i j : ℕ) (keys : List ℕ) (b : SheetBlock) → Memᴰ b (blocks_on i j keys) → OnOne i j keys b
-on_one i j [] b h = absurd (mathlib.Core.List.Memᴰ.not_nil h)
+on_one i j [] b h = absurd (mathlib.Core.List.Memᴰ.not-nil h)
 on_one i j (κ ∷ keys) b (mathlib.Core.List.Memᴰ.head e) = record { down = ap (λ x. x.down) e; across = ap (λ x. x.across) e; member = mathlib.Core.List.Memᴰ.head (ap (λ x. x.key) e) }
 on_one i j (κ ∷ keys) b (mathlib.Core.List.Memᴰ.tail h) = let x = on_one i j keys b h in record { down = x.down; across = x.across; member = mathlib.Core.List.Memᴰ.tail x.member }
 
 one_on : (keys : List ℕ) (b : SheetBlock) → Memᴰ b.key keys → Memᴰ b (blocks_on b.down b.across keys)
-one_on [] b h = absurd (mathlib.Core.List.Memᴰ.not_nil h)
+one_on [] b h = absurd (mathlib.Core.List.Memᴰ.not-nil h)
 one_on (κ ∷ keys) b (mathlib.Core.List.Memᴰ.head e) = mathlib.Core.List.Memᴰ.head (λ i. record { down = b.down; across = b.across; key = e i })
 one_on (κ ∷ keys) b (mathlib.Core.List.Memᴰ.tail h) = mathlib.Core.List.Memᴰ.tail (one_on keys b h)
 

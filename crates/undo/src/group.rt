@@ -16,14 +16,14 @@ use definitions::refusal::Refusal;
 use log::step as steps;
 
 // Which way a step of the log goes: it is taken back, or redone.
-#[derive(Drop)]
+#[derive(Clone, Copy)]
 pub enum Direction {
     Back,
     Again,
 }
 
 // A group that went its way: the number of records afterwards, or 0, which no list has, where there is no room; and the place where the group begins.
-#[derive(Drop)]
+#[derive(Clone, Copy)]
 pub struct GroupStep {
     pub after: usize,
     pub start: usize,

@@ -13,7 +13,7 @@ use list::standing;
 
 // The record at the place has the bits of the block that was asked for. It is the record of the whole block here: that one itself, where it is listed, or
 // the leaf around it. What the bits settle is settled for the whole of it, and the next search can begin at its last record.
-#[derive(Drop)]
+#[derive(Clone, Copy)]
 pub struct Told {
     pub place: usize,
     pub last: usize,

@@ -14,7 +14,7 @@ use definitions::Window;
 use keys::{Key, power};
 
 // Where the walk stands: a block with its key, its first row and column, its side, and the number of its keys.
-#[derive(Drop)]
+#[derive(Clone, Copy)]
 pub struct Spot {
     pub key: u32,
     pub row: u32,
@@ -24,7 +24,7 @@ pub struct Spot {
 }
 
 // A search gives a block, or comes to the end of the map.
-#[derive(Drop)]
+#[derive(Clone, Copy)]
 pub enum NextBlock {
     At(Spot),
     Gone,

@@ -7,7 +7,7 @@ use definitions::Window;
 use keys::Square;
 
 // No pixel of it is the window's, or every one is, or the window cuts it.
-#[derive(Drop)]
+#[derive(Clone, Copy)]
 pub enum Lie {
     Apart,
     Within,

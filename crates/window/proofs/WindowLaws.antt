@@ -23,7 +23,7 @@ use Rattle.walk.proofs.Once.{covered_once, covers}
 
 -- a member of a list says that it has one, and a list that has one has a member
 some-length : {x : ℕ} {l : List ℕ} → Memᴰ x l → 0 < length l
-some-length {l = []} m = absurd (Memᴰ.not_nil m)
+some-length {l = []} m = absurd (Memᴰ.not-nil m)
 some-length {l = y ∷ l} m = omega arith
 
 first_member : (l : List ℕ) → 0 < length l → (x : ℕ) × Memᴰ x l

@@ -16,7 +16,7 @@ use log::group;
 use walk::bounds;
 
 // The refusal; where it is 0, the number of entries that the group will have.
-#[derive(Drop)]
+#[derive(Clone, Copy)]
 pub struct WindowPlan {
     pub refusal: u64,
     pub number: u32,

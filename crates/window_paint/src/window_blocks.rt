@@ -36,7 +36,7 @@ pub fn lies(window: Window, block: TreeBlock) -> Lie
 }
 
 // The number of blocks, how many places of the log their entries take, and the place where the search for the next block begins.
-#[derive(Drop)]
+#[derive(Clone, Copy)]
 pub struct Needed {
     pub number: u32,
     pub places: usize,

@@ -19,7 +19,7 @@ use log::{entry, group};
 use walk::lying::Lie;
 
 // The place past the entries that are written, and the place where the search for the next block begins.
-#[derive(Drop)]
+#[derive(Clone, Copy)]
 pub struct EntriesEnd {
     pub place: usize,
     pub from: usize,

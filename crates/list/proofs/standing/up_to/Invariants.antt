@@ -1,0 +1,13 @@
+-- `standing::up_to` meets its contract: the count lies from low to high, and each turn halves what lies between.
+use Prim.Native.Nat.{◌-◌}
+use native.Mathlib.Omega.{arith}
+use Rattle.list.proofs.Count.{Bracket, bracket_all, bracket_down, bracket_up, bracket_end}
+use Rattle.list.proofs.standing.up_to.Given as goal
+
+abbrev pub invariant-loop-low : goal.invariant-loop-low
+invariant-loop-low l =
+    Bracket l.keys l.n l.x l.low l.high
+
+abbrev pub decreases-loop-low : goal.decreases-loop-low
+decreases-loop-low l =
+    l.high - l.low
