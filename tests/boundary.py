@@ -44,8 +44,22 @@ LAID_OUT = r"#\[repr\(C\)\]\s*(?:#\[derive\([\w, ]*\)\]\s*)?pub struct (\w+) \{(
 Side = namedtuple("Side", "calls structs limits numbers refusals")
 
 
+# Folders that a command makes beside what people write: rt's, make's, Python's and git's.
+MADE = {"out", "target", "__pycache__", ".git"}
+
+
 class Unreadable(Exception):
     pass
+
+
+def written_below(folder):
+    """Every file and folder below a folder, in order, without those that a command makes."""
+    for path in sorted(folder.iterdir()):
+        if path.name in MADE:
+            continue
+        yield path
+        if path.is_dir():
+            yield from written_below(path)
 
 
 def read_header(text):

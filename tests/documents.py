@@ -22,7 +22,7 @@ import sys
 from collections import namedtuple
 from functools import lru_cache
 
-from boundary import ROOT
+from boundary import ROOT, written_below
 from specification import declared_in, misnamed, sources
 
 # files that a command makes or a reader has, and words with a hyphen that are no laws
@@ -168,11 +168,13 @@ def faults(world):
 def declared():
     """The names that crates/ declares, and of each function the crates, files and types that it stands in."""
     names, functions = set(), {}
-    for path in sorted((ROOT / "crates").glob("*/*/**/*")):
+    for path in written_below(ROOT / "crates"):
+        if path.suffix not in (".antt", ".rt"):
+            continue
         crate, part, *module = path.relative_to(ROOT / "crates").with_suffix("").parts
         if path.suffix == ".antt":
             names.update(declared_in(crate, part, "/".join(module)))
-        elif path.suffix == ".rt":
+        else:
             text = path.read_text()
             places = {crate, path.stem, *re.findall(r"^impl (\w+)", text, re.M)}
             for name in re.findall(r"\b(?:fn|const|struct|enum) (\w+)", text):
@@ -182,9 +184,7 @@ def declared():
 
 @lru_cache(maxsize=None)
 def there():
-    tops = [path for path in ROOT.iterdir() if path.name not in (".git", "target")]
-    below = [path for top in tops if top.is_dir() for path in top.rglob("*") if "__pycache__" not in path.parts]
-    parts = [path.relative_to(ROOT).parts for path in tops + below]
+    parts = [path.relative_to(ROOT).parts for path in written_below(ROOT)]
     paths = {"/".join(part[first:]) for part in parts for first in range(len(part))}
     header = "".join(path.read_text() for path in (ROOT / "include").glob("*.h"))
     interface = int(re.search(r"#define HLQ_INTERFACE (\d+)", header).group(1))
@@ -199,8 +199,8 @@ def everything():
     pages = {str(path.relative_to(ROOT)): path.read_text() for path in [*ROOT.glob("*.md"), *ROOT.glob("docs/*.md")]}
     shown = ("tests/documents.py", "tests/specification.py")  # their self-tests cite decisions that are not there
     cites = {name: text for name, text in sources().items() if name not in shown and DECISION.search(text)}
-    lines = [line.split("#")[0] for line in (ROOT / "crates.txt").read_text().split("\n")]
-    crates = [(line.split(":")[0], tuple(line.split(":")[1].split())) for line in lines if ":" in line]
+    lines = [line.split("#")[0].split(":") for line in (ROOT / "crates.txt").read_text().split("\n") if ":" in line]
+    crates = [(name.split()[0], tuple(uses.split())) for name, uses in lines]  # the kind of a crate may follow its name
     return World(pages, cites, crates)
 
 
