@@ -25,9 +25,9 @@ from functools import lru_cache
 from boundary import ROOT, written_below
 from specification import declared_in, misnamed, sources
 
-# files that a command makes or a reader has, and words with a hyphen that are no laws
+# files that a command makes or a reader has, and words that are no laws, though they look like one
 MADE = re.compile(r"(target|lines|night|guides)/|(target|/usr/local|own\.c)$|.*\b(NAME|FILE|OUT)\b|own\.png$|\.\w+$")
-PLAIN = {"kit-id", "night-line"}
+PLAIN = {"kit-id", "night-line", "trusted_schema"}
 # these tell of names that are gone
 FORMER = ("CHANGELOG.md", "docs/LANDINGS.md")
 PATH = re.compile(r"[\w./\-]+")
@@ -36,8 +36,9 @@ DECISION = re.compile(r"[Dd]ecisions? (\d+(?:(?:, | and )\d+)*)")
 # what documents and crates say, which the self-test changes: pages and cites are texts by name, crates (crate, uses)
 World = namedtuple("World", "pages cites crates")
 # what is there: paths, and the ends of paths; the names that crates/ declares; of each function the crates, files and
-# types that it stands in; the words of the headers, and the interface's number; the commands of make, rt and the tool
-There = namedtuple("There", "paths names functions header interface commands")
+# types that it stands in; the words of the headers, and the interface's number; the commands of make, rt and the tool;
+# the words of all C code, and the crates' names
+There = namedtuple("There", "paths names functions header interface commands words")
 
 
 def fenced(text):
@@ -92,8 +93,9 @@ def name_fault(word):
     word = re.sub(r"\(.*\)$", "", word)
     if re.fullmatch(r"(hlq|HLQ)_\w+", word):
         return None if word in there().header or word.endswith("_") else f"{word} is not in the headers"
-    if re.fullmatch(r"[a-z]\w*(-\w+)+", word):
-        return None if word in there().names or word in PLAIN else f"no law is called {word}"
+    if re.fullmatch(r"[a-z]\w*([_\-][\w']+)+", word):
+        known = word in there().names or word in there().functions or word in there().words or word in PLAIN
+        return None if known else f"no law, definition or function is called {word}"
     if re.fullmatch(r"[a-z]+[A-Z][a-zA-Z]*", word):
         return None if word in there().names else f"no definition is called {word}"
     if re.fullmatch(r"\w+(::\w+)+", word):
@@ -188,19 +190,23 @@ def there():
     paths = {"/".join(part[first:]) for part in parts for first in range(len(part))}
     header = "".join(path.read_text() for path in (ROOT / "include").glob("*.h"))
     interface = int(re.search(r"#define HLQ_INTERFACE (\d+)", header).group(1))
-    help_text = subprocess.run(["rt", "help"], capture_output=True, text=True).stdout
+    said = subprocess.run(["rt", "help"], stdout=subprocess.PIPE, stderr=subprocess.STDOUT, text=True).stdout
     commands = {"make": re.findall(r"^([a-z\-]+):", (ROOT / "Makefile").read_text(), re.M),
-                "rt": ["help"] + re.findall(r"^  rt ([a-z\-]+)", help_text, re.M),
+                "rt": ["help"] + [one for words in re.findall(r"^(?:usage:)? +rt ([a-z|\-]+)", said, re.M)
+                                  for one in words.split("|")],
                 "prowcurl": ["help"] + re.findall(r'^    \{ "([a-z]+)",', (ROOT / "tool/main.c").read_text(), re.M)}
-    return There(paths, *declared(), set(re.findall(r"\w+", header)), interface, commands)
+    c_code = "".join(path.read_text() for top in ("include", "tool", "tests", "bench") for path in written_below(ROOT / top)
+                     if path.suffix in (".c", ".h"))
+    words = set(re.findall(r"\w+", c_code)) | {path.name for path in (ROOT / "crates").iterdir()}
+    return There(paths, *declared(), set(re.findall(r"\w+", header)), interface, commands, words)
 
 
 def everything():
     pages = {str(path.relative_to(ROOT)): path.read_text() for path in [*ROOT.glob("*.md"), *ROOT.glob("docs/*.md")]}
     shown = ("tests/documents.py", "tests/specification.py")  # their self-tests cite decisions that are not there
     cites = {name: text for name, text in sources().items() if name not in shown and DECISION.search(text)}
-    lines = [line.split("#")[0].split(":") for line in (ROOT / "crates.txt").read_text().split("\n") if ":" in line]
-    crates = [(name.split()[0], tuple(uses.split())) for name, uses in lines]  # the kind of a crate may follow its name
+    lines = [line.split("#")[0].split(":") for line in (ROOT / "crates.txt").read_text().split("\n")]
+    crates = [(line[0].split()[0], tuple(line[1].split())) for line in lines if len(line) > 1]  # "prowcurl staticlib: .."
     return World(pages, cites, crates)
 
 
