@@ -26,8 +26,9 @@ from boundary import ROOT, written_below
 from specification import declared_in, misnamed, sources
 
 # files that a command makes or a reader has, and words that are no laws, though they look like one
-MADE = re.compile(r"(target|lines|night|guides)/|(target|/usr/local|own\.c)$|.*\b(NAME|FILE|OUT)\b|own\.png$|\.\w+$")
-PLAIN = {"kit-id", "night-line", "trusted_schema"}
+MADE = re.compile(r"(target|lines|night|rattle|out)/|(target|/usr/local|own\.c)$|.*\b(NAME|FILE|OUT|FUNCTION)\b"
+                  r"|own\.png$|\.\w+$")
+PLAIN = {"kit-id", "night-line", "trusted_schema", "port.py"}
 # these tell of names that are gone
 FORMER = ("CHANGELOG.md", "docs/LANDINGS.md")
 PATH = re.compile(r"[\w./\-]+")
@@ -69,7 +70,7 @@ def is_there(path):
 def path_fault(word):
     first = word.split(" ")[0]
     looks = "/" in first or re.search(r"\.(md|py|c|h|rt|antt|sh|txt|map|edit|png|bash|in)$", first)
-    if not looks or not PATH.fullmatch(first) or MADE.match(first) or is_there(first):
+    if not looks or not PATH.fullmatch(first) or MADE.match(first) or first in PLAIN or is_there(first):
         return None
     cited = re.fullmatch(r"([a-z_]+)/([\w/]+)\.(.+)", word)
     if cited:
@@ -195,8 +196,8 @@ def there():
                 "rt": ["help"] + [one for words in re.findall(r"^(?:usage:)? +rt ([a-z|\-]+)", said, re.M)
                                   for one in words.split("|")],
                 "prowcurl": ["help"] + re.findall(r'^    \{ "([a-z]+)",', (ROOT / "tool/main.c").read_text(), re.M)}
-    c_code = "".join(path.read_text() for top in ("include", "tool", "tests", "bench") for path in written_below(ROOT / top)
-                     if path.suffix in (".c", ".h"))
+    tops = ("include", "tool", "tests", "bench")
+    c_code = "".join(path.read_text() for top in tops for path in written_below(ROOT / top) if path.suffix in (".c", ".h"))
     words = set(re.findall(r"\w+", c_code)) | {path.name for path in (ROOT / "crates").iterdir()}
     return There(paths, *declared(), set(re.findall(r"\w+", header)), interface, commands, words)
 
@@ -205,8 +206,9 @@ def everything():
     pages = {str(path.relative_to(ROOT)): path.read_text() for path in [*ROOT.glob("*.md"), *ROOT.glob("docs/*.md")]}
     shown = ("tests/documents.py", "tests/specification.py")  # their self-tests cite decisions that are not there
     cites = {name: text for name, text in sources().items() if name not in shown and DECISION.search(text)}
+    # a line is "NAME: .." or "NAME staticlib: .."
     lines = [line.split("#")[0].split(":") for line in (ROOT / "crates.txt").read_text().split("\n")]
-    crates = [(line[0].split()[0], tuple(line[1].split())) for line in lines if len(line) > 1]  # "prowcurl staticlib: .."
+    crates = [(line[0].split()[0], tuple(line[1].split())) for line in lines if len(line) > 1]
     return World(pages, cites, crates)
 
 
