@@ -197,7 +197,8 @@ def there():
                                   for one in words.split("|")],
                 "prowcurl": ["help"] + re.findall(r'^    \{ "([a-z]+)",', (ROOT / "tool/main.c").read_text(), re.M)}
     tops = ("include", "tool", "tests", "bench")
-    c_code = "".join(path.read_text() for top in tops for path in written_below(ROOT / top) if path.suffix in (".c", ".h"))
+    c_files = [path for top in tops for path in written_below(ROOT / top) if path.suffix in (".c", ".h")]
+    c_code = "".join(path.read_text() for path in c_files)
     words = set(re.findall(r"\w+", c_code)) | {path.name for path in (ROOT / "crates").iterdir()}
     return There(paths, *declared(), set(re.findall(r"\w+", header)), interface, commands, words)
 
