@@ -7,22 +7,24 @@ use mir.Syntax.{w32}
 use mir.Val.{to_z, of_z}
 use mir.ValLaws.{to_z-of_z}
 use Rattle.clipped.proofs.Lines.{negative_is, less_is, less_fits}
-use Rattle.clipped.proofs.signs.before_first.Statement.{statement}
+use Rattle.clipped.proofs.signs.before_first.Goals as goal
+use Rattle.clipped.proofs.signs.before_first.Lts as lts
 use Rattle.clipped.proofs.signs.before_first.Tie as tie
+use Rattle.clipped.proofs.signs.before_first.Reads as own
 
-sub-result : tie.Need-overflow-sub-result
-sub-result c = rw (to_z-of_z w32 c.args.line c.ranges.line) (less_fits c.args.line c.ranges.line c.requires)
+abbrev At-Start : Type 0
+At-Start = lts.Start own.Pre own.Post
 
-difference : (c : tie.Start) → to_z w32 (of_z w32 (negsuc 0 -ℤ to_z w32 (of_z w32 c.args.line))) ≡ pos (mag c.args.line)
+pub overflow_sub-result : goal.overflow_sub-result
+overflow_sub-result c = rw (to_z-of_z w32 c.args.line c.ranges.line) (less_fits c.args.line c.ranges.line c.requires)
+
+difference : (c : At-Start) → to_z w32 (of_z w32 (negsuc 0 -ℤ to_z w32 (of_z w32 c.args.line))) ≡ pos (mag c.args.line)
 difference c =
     ap (λ z. to_z w32 (of_z w32 (negsuc 0 -ℤ z))) (to_z-of_z w32 c.args.line c.ranges.line)
     ∙ (to_z-of_z w32 (negsuc 0 -ℤ c.args.line) (less_fits c.args.line c.ranges.line c.requires) ∙ less_is c.args.line c.requires)
 
-cast-result : tie.Need-overflow-cast-result
-cast-result c = rw (difference c) (tt, record { fits = let e = c.ranges.line.sfits in omega arith })
+pub overflow_cast-result : goal.overflow_cast-result
+overflow_cast-result c = rw (difference c) (tt, record { fits = let e = c.ranges.line.sfits in omega arith })
 
-returns : tie.Need-returns
+pub returns : goal.returns
 returns c = negative_is c.args.line c.requires ∙ ap negsuc (sym (ap nat_abs (difference c)))
-
-pub before-first-spec : {M : Type 1} → statement M
-before-first-spec = tie.close (tie.spec sub-result cast-result returns)

@@ -5,18 +5,14 @@ use lib.IntN.{pos, nat_abs}
 use mir.Syntax.{w32}
 use mir.ValLaws.{to_z-of_z}
 use Rattle.clipped.proofs.Lines.{other_is}
-use Rattle.clipped.proofs.signs.from_first.Statement.{statement}
-use Rattle.clipped.proofs.signs.from_first.Tie as tie
+use Rattle.clipped.proofs.signs.from_first.Goals as goal
 
-cast-result : tie.Need-overflow-cast-result
-cast-result c =
+pub overflow_cast-result : goal.overflow_cast-result
+overflow_cast-result c =
     rw (to_z-of_z w32 c.args.line c.ranges.line)
     (rw (other_is c.args.line c.requires) (tt, record { fits = let e = c.ranges.line.sfits in omega arith }))
 
-returns : tie.Need-returns
+pub returns : goal.returns
 returns c =
     let is = other_is c.args.line c.requires in
     is ∙ ap pos (sym (ap nat_abs (to_z-of_z w32 c.args.line c.ranges.line ∙ is)))
-
-pub from-first-spec : {M : Type 1} → statement M
-from-first-spec = tie.close (tie.spec cast-result returns)
