@@ -10,8 +10,9 @@ soname := libprowcurl.so.$(interface)
 
 # target/staticlib/libprowcurl.a, target/include/prowcurl.h, and prowcurl_sheet.h beside it
 lib:
-	@tools/prove prowcurl staticlib prowcurl
-	@mkdir -p target/include
+	@tools/prove prowcurl lib
+	@mkdir -p target/staticlib target/include
+	@cp crates/prowcurl/out/libprowcurl.a target/staticlib/
 	@cp include/prowcurl.h include/prowcurl_sheet.h target/include/
 	@echo "target/staticlib/libprowcurl.a, target/include/prowcurl.h, target/include/prowcurl_sheet.h"
 
@@ -29,15 +30,16 @@ line: tool
 run: kit
 	@echo "== the library is proved first, crate by crate; then it is compiled"
 	@$(MAKE) --no-print-directory lib
-	@tools/prove listing check listing
+	@tools/prove listing check
 	@echo "== the listing program on Map A"
-	@tools/run-c target/bin/listing <crates/listing/stdin
+	@cd crates/listing && rt run <stdin 2>../../target/log/listing.txt
 	@echo "== the example: a survey, its rules and waivers"
 	@tools/compile-c target/c/example_survey examples/survey.c
 	@tools/run-c target/c/example_survey <examples/survey.txt
 	@$(MAKE) --no-print-directory --old-file=lib line
 
-# The layout, the proofs (rt ci), the must-fail edits, the programs and the C tests. The last line is the gate's own.
+# The words and the documents, the proofs, the must-fail edits and the programs (rt ci), and the C tests. The last line
+# is the gate's own.
 test: kit
 	@tests/run
 
@@ -102,6 +104,6 @@ kit:
 	if [ "$$found" = "$$pinned" ]; then echo "kit: $$found"; \
 	else echo "kit: found '$$found', but kit-id pins '$$pinned': the proofs were made with the pinned one"; fi
 
-# Everything that the commands above have made, the proofs that rt keeps included.
+# Everything that the commands above have made, what rt keeps in the crates' folders included.
 clean:
-	rm -rf target
+	rm -rf target crates/*/out

@@ -32,18 +32,34 @@ NUMBERS = {"u8": "uint8_t", "u16": "uint16_t", "u32": "uint32_t", "u64": "uint64
            "i8": "int8_t", "i16": "int16_t", "i32": "int32_t", "i64": "int64_t"}
 # A limit of the header: the crate that has it, and its constant there.
 LIMITS = {"HLQ_DEEPEST_M": ("keys", "DEEPEST_LEVEL"), "HLQ_MOST_SLOTS": ("keys", "SLOT_LIMIT"),
-          "HLQ_GROUP_MARK": ("log", "MARK"), "HLQ_TABLE_PLACES": ("offices", "PLACES"),
+          "HLQ_GROUP_MARK": ("edit_log", "MARK"), "HLQ_TABLE_PLACES": ("offices", "PLACES"),
           "HLQ_OFFICE_ROWS": ("offices", "LIMIT")}
 # What the archive promises to give as its interface, in the contract of the crate prowcurl.
-INTERFACE = r"fn hlq_interface\(\) -> u32\s+ensures \{ λ r\. ⌜ r ≡ (\d+) ⌝ \}"
+INTERFACE = r"fn hlq_interface\(\) -> u32\s+ensures \{ result ≡ (\d+) \}"
+# A struct whose layout is C's.
+LAID_OUT = r"#\[repr\(C\)\]\s*(?:#\[derive\([\w, ]*\)\]\s*)?pub struct (\w+) \{(.*?)\}"
 
 # calls: name to (result, [(type, name)]); structs: name to [(type, field)]; limits: name to number;
 # numbers: refusal to its number; refusals: call to its refusal numbers in order
 Side = namedtuple("Side", "calls structs limits numbers refusals")
 
 
+# Folders that a command makes beside what people write: rt's, make's, Python's and git's.
+MADE = {"out", "target", "__pycache__", ".git"}
+
+
 class Unreadable(Exception):
     pass
+
+
+def written_below(folder):
+    """Every file and folder below a folder, in order, without those that a command makes."""
+    for path in sorted(folder.iterdir()):
+        if path.name in MADE:
+            continue
+        yield path
+        if path.is_dir():
+            yield from written_below(path)
 
 
 def read_header(text):
@@ -112,8 +128,7 @@ def refusals_of_header(text):
 def read_sources(t):
     prowcurl, definitions, tables = t["prowcurl"], t["definitions"], t["tables"]
     structs, calls = {}, {}
-    laid_out = r"#\[repr\(C\)\]\s*pub struct (\w+) \{(.*?)\}"
-    for name, body in re.findall(laid_out, without_comments(definitions), flags=re.S):
+    for name, body in re.findall(LAID_OUT, without_comments(definitions), flags=re.S):
         structs[c_name(name)] = [read_field(name, field) for field in body.split(",") if field.strip()]
     exported = re.findall(r'pub extern "C" fn (\w+)\((.*?)\)(?: -> (\w+))?\s', without_comments(prowcurl), flags=re.S)
     for name, parameters, result in exported:
@@ -151,7 +166,7 @@ def number_of(constant, text):
 
 # The numbers of a call's table in order. The four edits share a frame, Edit.antt: its rows stand around an edit's own,
 # which it names by FRAMED.
-FRAME, FRAMED = "Calls.Edit.{", "(e .rows ++ "
+FRAME, FRAMED = "Calls.Edit.{", "(e.rows ++ "
 
 
 def rows_of(name, tables):
@@ -458,7 +473,7 @@ def changes(t):
                 lambda item: item.replace("&mut ", "&") if "&mut " in item else item.replace("&", "&mut ")]):
             yield "prowcurl", replace(f'pub extern "C" fn {name}({", ".join(changed)}) -> {result}')
     reached = read_header(t["header"]).structs
-    for found in re.finditer(r"#\[repr\(C\)\]\npub struct (\w+) \{(.*?)\}", t["definitions"], flags=re.S):
+    for found in re.finditer(LAID_OUT, t["definitions"], flags=re.S):
         if c_name(found.group(1)) not in reached:
             continue
         replace = lambda by: t["definitions"][:found.start()] + by + t["definitions"][found.end():]

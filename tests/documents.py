@@ -22,12 +22,13 @@ import sys
 from collections import namedtuple
 from functools import lru_cache
 
-from boundary import ROOT
+from boundary import ROOT, written_below
 from specification import declared_in, misnamed, sources
 
-# files that a command makes or a reader has, and words with a hyphen that are no laws
-MADE = re.compile(r"(target|lines|night|guides)/|(target|/usr/local|own\.c)$|.*\b(NAME|FILE|OUT)\b|own\.png$|\.\w+$")
-PLAIN = {"kit-id", "night-line"}
+# files that a command makes or a reader has, and words that are no laws, though they look like one
+MADE = re.compile(r"(target|lines|night|rattle|out)/|(target|/usr/local|own\.c)$|.*\b(NAME|FILE|OUT|FUNCTION)\b"
+                  r"|own\.png$|\.\w+$")
+PLAIN = {"kit-id", "night-line", "trusted_schema", "port.py"}
 # these tell of names that are gone
 FORMER = ("CHANGELOG.md", "docs/LANDINGS.md")
 PATH = re.compile(r"[\w./\-]+")
@@ -36,8 +37,9 @@ DECISION = re.compile(r"[Dd]ecisions? (\d+(?:(?:, | and )\d+)*)")
 # what documents and crates say, which the self-test changes: pages and cites are texts by name, crates (crate, uses)
 World = namedtuple("World", "pages cites crates")
 # what is there: paths, and the ends of paths; the names that crates/ declares; of each function the crates, files and
-# types that it stands in; the words of the headers, and the interface's number; the commands of make, rt and the tool
-There = namedtuple("There", "paths names functions header interface commands")
+# types that it stands in; the words of the headers, and the interface's number; the commands of make, rt and the tool;
+# the words of all C code, and the crates' names
+There = namedtuple("There", "paths names functions header interface commands words")
 
 
 def fenced(text):
@@ -68,7 +70,7 @@ def is_there(path):
 def path_fault(word):
     first = word.split(" ")[0]
     looks = "/" in first or re.search(r"\.(md|py|c|h|rt|antt|sh|txt|map|edit|png|bash|in)$", first)
-    if not looks or not PATH.fullmatch(first) or MADE.match(first) or is_there(first):
+    if not looks or not PATH.fullmatch(first) or MADE.match(first) or first in PLAIN or is_there(first):
         return None
     cited = re.fullmatch(r"([a-z_]+)/([\w/]+)\.(.+)", word)
     if cited:
@@ -92,8 +94,9 @@ def name_fault(word):
     word = re.sub(r"\(.*\)$", "", word)
     if re.fullmatch(r"(hlq|HLQ)_\w+", word):
         return None if word in there().header or word.endswith("_") else f"{word} is not in the headers"
-    if re.fullmatch(r"[a-z]\w*(-\w+)+", word):
-        return None if word in there().names or word in PLAIN else f"no law is called {word}"
+    if re.fullmatch(r"[a-z]\w*([_\-][\w']+)+", word):
+        known = word in there().names or word in there().functions or word in there().words or word in PLAIN
+        return None if known else f"no law, definition or function is called {word}"
     if re.fullmatch(r"[a-z]+[A-Z][a-zA-Z]*", word):
         return None if word in there().names else f"no definition is called {word}"
     if re.fullmatch(r"\w+(::\w+)+", word):
@@ -168,11 +171,13 @@ def faults(world):
 def declared():
     """The names that crates/ declares, and of each function the crates, files and types that it stands in."""
     names, functions = set(), {}
-    for path in sorted((ROOT / "crates").glob("*/*/**/*")):
+    for path in written_below(ROOT / "crates"):
+        if path.suffix not in (".antt", ".rt"):
+            continue
         crate, part, *module = path.relative_to(ROOT / "crates").with_suffix("").parts
         if path.suffix == ".antt":
             names.update(declared_in(crate, part, "/".join(module)))
-        elif path.suffix == ".rt":
+        else:
             text = path.read_text()
             places = {crate, path.stem, *re.findall(r"^impl (\w+)", text, re.M)}
             for name in re.findall(r"\b(?:fn|const|struct|enum) (\w+)", text):
@@ -182,25 +187,29 @@ def declared():
 
 @lru_cache(maxsize=None)
 def there():
-    tops = [path for path in ROOT.iterdir() if path.name not in (".git", "target")]
-    below = [path for top in tops if top.is_dir() for path in top.rglob("*") if "__pycache__" not in path.parts]
-    parts = [path.relative_to(ROOT).parts for path in tops + below]
+    parts = [path.relative_to(ROOT).parts for path in written_below(ROOT)]
     paths = {"/".join(part[first:]) for part in parts for first in range(len(part))}
     header = "".join(path.read_text() for path in (ROOT / "include").glob("*.h"))
     interface = int(re.search(r"#define HLQ_INTERFACE (\d+)", header).group(1))
-    help_text = subprocess.run(["rt", "help"], capture_output=True, text=True).stdout
+    said = subprocess.run(["rt", "help"], stdout=subprocess.PIPE, stderr=subprocess.STDOUT, text=True).stdout
     commands = {"make": re.findall(r"^([a-z\-]+):", (ROOT / "Makefile").read_text(), re.M),
-                "rt": ["help"] + re.findall(r"^  rt ([a-z\-]+)", help_text, re.M),
+                "rt": ["help"] + [one for words in re.findall(r"^(?:usage:)? +rt ([a-z|\-]+)", said, re.M)
+                                  for one in words.split("|")],
                 "prowcurl": ["help"] + re.findall(r'^    \{ "([a-z]+)",', (ROOT / "tool/main.c").read_text(), re.M)}
-    return There(paths, *declared(), set(re.findall(r"\w+", header)), interface, commands)
+    tops = ("include", "tool", "tests", "bench")
+    c_files = [path for top in tops for path in written_below(ROOT / top) if path.suffix in (".c", ".h")]
+    c_code = "".join(path.read_text() for path in c_files)
+    words = set(re.findall(r"\w+", c_code)) | {path.name for path in (ROOT / "crates").iterdir()}
+    return There(paths, *declared(), set(re.findall(r"\w+", header)), interface, commands, words)
 
 
 def everything():
     pages = {str(path.relative_to(ROOT)): path.read_text() for path in [*ROOT.glob("*.md"), *ROOT.glob("docs/*.md")]}
     shown = ("tests/documents.py", "tests/specification.py")  # their self-tests cite decisions that are not there
     cites = {name: text for name, text in sources().items() if name not in shown and DECISION.search(text)}
-    lines = [line.split("#")[0] for line in (ROOT / "crates.txt").read_text().split("\n")]
-    crates = [(line.split(":")[0], tuple(line.split(":")[1].split())) for line in lines if ":" in line]
+    # a line is "NAME: .." or "NAME staticlib: .."
+    lines = [line.split("#")[0].split(":") for line in (ROOT / "crates.txt").read_text().split("\n")]
+    crates = [(line[0].split()[0], tuple(line[1].split())) for line in lines if len(line) > 1]
     return World(pages, cites, crates)
 
 

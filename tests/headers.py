@@ -12,6 +12,7 @@ import sys
 ROOT = pathlib.Path(__file__).resolve().parent.parent / "crates"
 CRATES = {path.name for path in ROOT.iterdir()}
 NOT_MODULES = {"Rattle"}
+OWN = re.compile(r"Rattle\.(\w+)\.(specs|proofs)\.")
 # a crate in the genitive, and the modules behind it up to the next word that is none
 OF_CRATE = re.compile(r"\b([a-z_]+)'s? ((?:[A-Z]\w*(?:, and |, | and )?)+)")
 
@@ -26,15 +27,21 @@ def header(text, mark):
     return " ".join(lines)
 
 
+def of_project(path):
+    """Whether a path leads to one of the project's crates and, if so, to which of its parts; std's are the toolchain's."""
+    found = OWN.match(path)
+    return found.group(2) if found and found.group(1) in CRATES else None
+
+
 def faults(text, mark):
     """What is false in the header of a text."""
     told = header(text, mark)
     if not told:
         return ["no comment opens it"]
     imports = re.findall(r"^use ([^\s{]+)", text, re.M)
-    modules = {part for path in imports for part in re.split(r"[.·]", path)}
+    modules = {part for path in imports for part in path.split(".")}
     found = []
-    if re.search(r"(Rests on|Assumes) nothing\.", told) and any("Rattle·" in path for path in imports):
+    if re.search(r"(Rests on|Assumes) nothing\.", told) and any(map(of_project, imports)):
         found.append("it imports something of the project")
     for rests in re.findall(r"Rests on ([^.]*)\.", told):
         for name in re.findall(r"\b[A-Z]\w+", rests):
@@ -42,8 +49,7 @@ def faults(text, mark):
                 found.append(f"it does not import {name}")
     for crate, names in OF_CRATE.findall(told):
         for name in re.findall(r"[A-Z]\w*", names):
-            # from its own crate or another: Rattle·laws·proofs.proofs.First, Rattle·laws.proofs.First
-            if crate in CRATES and not any(re.match(rf"Rattle·{crate}[.·].*\b{name}\b", path) for path in imports):
+            if crate in CRATES and not any(re.match(rf"Rattle\.{crate}\..*\b{name}\b", path) for path in imports):
                 found.append(f"it does not import {name} from {crate}")
     return found
 
@@ -51,24 +57,27 @@ def faults(text, mark):
 def proofs_in(text):
     """The proofs that a text imports."""
     return [f"it imports proofs: {path}" for path in re.findall(r"^use ([^\s{]+)", text, re.M)
-            if re.match(r"Rattle·\w+(?:·proofs)?\.proofs\.", path)]
+            if of_project(path) == "proofs"]
 
 
 def self_test():
-    assert not faults("-- A law. Rests on Key.\nuse Rattle·keys.specs.Key.{validKey}\n", "--")
-    assert faults("-- A law. Rests on Block.\nuse Rattle·keys.specs.Key.{validKey}\n", "--")
-    assert faults("-- A law. Rests on nothing.\nuse Rattle·keys.specs.Key.{validKey}\n", "--")
-    assert not faults("-- A law. Rests on nothing.\nuse Prim.Native.Nat.{ℕ}\n", "--")
-    assert faults("use Prim.Native.Nat.{ℕ}\n", "--") and faults("mod block_end;\n", "//")
-    of_laws = "use Rattle·laws.proofs.First.{first-zero}\nuse Rattle·laws.proofs.Records.{paired}\n"
+    assert not faults("-- A law. Rests on Key.\nuse Rattle.keys.specs.Key.{valid_key}\n", "--")
+    assert faults("-- A law. Rests on Block.\nuse Rattle.keys.specs.Key.{valid_key}\n", "--")
+    assert faults("-- A law. Rests on nothing.\nuse Rattle.keys.specs.Key.{valid_key}\n", "--")
+    assert not faults("-- A law. Rests on nothing.\nuse Rattle.std.specs.Prelude.{ℕ}\n", "--")
+    assert not faults("-- A law. Assumes nothing.\nuse Rattle.std.proofs.Common.{rules}\n", "--")
+    assert faults("-- A law. Assumes nothing.\nuse Rattle.laws.proofs.First.{first_zero}\n", "--")
+    assert faults("use Rattle.std.specs.Prelude.{ℕ}\n", "--") and faults("mod block_end;\n", "//")
+    of_laws = "use Rattle.laws.proofs.First.{first_zero}\nuse Rattle.laws.proofs.Records.{paired}\n"
     assert not faults("-- A law. Rests on laws' First and Records.\n" + of_laws, "--")
     assert faults("-- A law. Rests on definitions' First.\n" + of_laws, "--")
     assert faults("-- A law. Rests on laws' First and on\n-- definitions' Records.\n" + of_laws, "--")
     assert faults("-- A law. Rests on laws' First,\n-- Buffer and Records.\n" + of_laws, "--")
     assert not faults("-- The map's Map A. Rests on laws' First.\n" + of_laws, "--")
-    assert proofs_in(of_laws) and proofs_in("use Rattle·laws·proofs.proofs.First.{first-zero}\n")
-    assert proofs_in("-- A word.\nuse Rattle·edit_log.proofs.Parts as parts\n")
-    assert not proofs_in("use Rattle·keys.specs.Key.{validKey}\nuse Rattle·keys·specs.specs.Key.{rootKey}\n")
+    assert proofs_in(of_laws) and proofs_in("use Rattle.laws.proofs.First.{first_zero}\n")
+    assert proofs_in("-- A word.\nuse Rattle.edit_log.proofs.Parts as parts\n")
+    assert not proofs_in("use Rattle.std.proofs.lemmas.List.Edits.{sets}\n")
+    assert not proofs_in("use Rattle.keys.specs.Key.{valid_key}\nuse Rattle.keys.specs.Key.{root_key}\n")
     print("a false header is found, and proofs behind a definition")
 
 

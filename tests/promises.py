@@ -27,7 +27,7 @@ from boundary import HEADER, read_header
 ROOT = pathlib.Path(__file__).resolve().parent.parent
 CRATES = ROOT / "crates"
 NAME = re.compile(r"(?<![\w`/])[a-z0-9]+(?:_[a-z0-9]+)+(?![\w/(])")
-IMPORT = re.compile(r"use Rattle·(\w+)(?:·specs)?\.specs\.([\w.]+)\.\{([^}]*)\}")
+IMPORT = re.compile(r"use Rattle\.(\w+)\.specs\.([\w.]+)\.\{([^}]*)\}")
 
 # a function: its crate, file, impl type or "", name; where its text stands in the file; its contract and its body
 Function = namedtuple("Function", "crate file type name start end contract body")
@@ -54,9 +54,19 @@ def code():
     for path in sorted(CRATES.glob("*/src/**/*.rt")):
         functions += functions_of(path)
         short[path] = {}
-        for full, other in re.findall(r"^use ([\w:]+)(?: as (\w+))?;", path.read_text(), flags=re.M):
+        for full, other in names_used(path.read_text()):
             short[path][other or full.split("::")[-1]] = full.split("::")
     return functions, short
+
+
+def names_used(text):
+    """What the `use` lines of code bring in: each path, and the other name that it is given, if any."""
+    for path, several in re.findall(r"^use ([\w:]+)(?:\{([^}]*)\}|(?: as \w+)?);", text, flags=re.M):
+        for item in several.split(",") if several else []:
+            full, _, other = item.strip().partition(" as ")
+            if full:
+                yield path + full, other
+    yield from re.findall(r"^use ([\w:]+)(?: as (\w+))?;", text, flags=re.M)
 
 
 def called(function, words):
@@ -119,7 +129,7 @@ def rests_on(path):
 
 def cited(function):
     """The files that define what a contract cites."""
-    words = set(re.findall(r"[^\s(){}⌜⌝,]+", function.contract))
+    words = set(re.findall(r"[^\s(){},.]+", function.contract))
     return {file for file, names in imported(function.file) if words & set(names)}
 
 

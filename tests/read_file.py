@@ -2,9 +2,9 @@
 """Reads files of lists and of logs by docs/FILE-FORMATS.md alone, and holds that page against what it describes.
 
   tests/read_file.py               the four files below are read. They are written by hand, from the vectors in
-                                   crates/definitions/proofs: Map A's list (keysA and bitsA of Vectors.antt), a list of
-                                   version 2 (fileBytes of ClassVectors.antt), the log after A9 and the same paint as a
-                                   group (fileA and groupFile of LogFileVectors.antt). The page shows the same bytes,
+                                   crates/definitions/proofs: Map A's list (keys_a and bits_a of Vectors.antt), a list of
+                                   version 2 (file_bytes of ClassVectors.antt), the log after A9 and the same paint as a
+                                   group (file_a and group_file of LogFileVectors.antt). The page shows the same bytes,
                                    and the tables and columns of a line are those that tool/line_tables.c makes
   tests/read_file.py --self-test   files that are damaged in one place, and pages with another byte or column, are found
 """

@@ -20,7 +20,7 @@ import sys
 from collections import namedtuple
 from functools import lru_cache
 
-from boundary import ROOT, compare, texts
+from boundary import ROOT, compare, texts, written_below
 
 PAGE = ROOT / "docs/SPECIFICATION.md"
 DECISIONS = ROOT / "docs/DECISIONS.md"
@@ -271,7 +271,7 @@ def citing_faults(name, text, numbers):
 def sources():
     """The text of every file of code, proofs and tests by its name: what people write, and no data of tests."""
     found = {}
-    for path in sorted(path for top in CITING for path in (ROOT / top).rglob("*") if path.is_file()):
+    for path in sorted(path for top in CITING for path in written_below(ROOT / top) if path.is_file()):
         if path.suffix in WRITTEN or not path.suffix and path.read_bytes().startswith(b"#!"):
             found[str(path.relative_to(ROOT))] = path.read_text()
     return found

@@ -22,8 +22,7 @@ else
             ;;
     esac
 fi
-# a program that was linked with the C library as a shared one, as rt links the listing, finds it among the cross
-# compiler's files
+# a program that was linked with the C library as a shared one finds it among the cross compiler's files
 if [ -n "$emulator" ] && [ -d /usr/x86_64-linux-gnu ]; then emulator="qemu-x86_64 -L /usr/x86_64-linux-gnu"; fi
 binutils=""
 if command -v x86_64-linux-gnu-nm >/dev/null; then binutils=x86_64-linux-gnu-; fi

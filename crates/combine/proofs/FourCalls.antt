@@ -14,7 +14,7 @@ use Rattle.list.proofs.Shown.{shown_room}
 use Rattle.list.specs.Quadrants.{quadrant_row, quadrant_column}
 use Rattle.build.specs.BuildBlocks.{Tallied, Joined}
 use Rattle.build.proofs.CountBlock.{tallied_four, tallied_small}
-use Rattle.combine.specs.Combining.{Seen, BothEntered, Passes, passed_to, AllPass, CombineAsked, CombinedCounted}
+use Rattle.combine.specs.Combining.{Seen, BothEntered, passed_to, AllPass, CombineAsked, CombinedCounted}
 use Rattle.combine.specs.declared.cursor.Pair.{Pair}
 use Rattle.combine.proofs.TwoLeaves.{not_both, pair_not_pixel, positive_height}
 use Rattle.combine.proofs.BothLists.{BetweenQuadrants, between_all, between_seen, between_next, between_none, numbered_under, seen_at, named_at, named_under}

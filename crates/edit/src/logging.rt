@@ -10,9 +10,9 @@ ghost use Rattle.edit.specs.Content.{former_by, former_of};
 ghost use Rattle.edit.specs.PaintCall.{Fresh, Relogged};
 
 use definitions::Standing;
-use list::standing;
 use edit_log::entry;
 use edit_log::entry::Entry;
+use list::standing;
 
 // A block's former content: the list has it from a place on, so many records; or the block lies inside the leaf at the place, and its content is one
 // record, which the list does not have.

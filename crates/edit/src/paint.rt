@@ -12,10 +12,10 @@ use crate::decision::PaintDecision;
 use crate::{decision, logging, recount};
 use definitions::Edited;
 use definitions::refusal::Refusal;
-use keys::{Key, power};
-use list::standing;
 use edit_log::entry;
 use edit_log::entry::Entry;
+use keys::{Key, power};
+use list::standing;
 use replace::plan::Plan;
 use replace::{plan, putting};
 

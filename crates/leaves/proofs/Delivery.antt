@@ -1,6 +1,6 @@
 -- Leaves are a delivery exactly when their features are below s and the raster's leaves end with them; and the picture of a delivery has in each
 -- leaf's block the leaf's feature. Rests on Sound and Complete.
-use Prim.Native.Nat.{ℕ, zero, suc, ◌+◌, ◌^◌, ◌≤◌, ◌<◌}
+use Prim.Native.Nat.{ℕ, zero, suc, ◌^◌, ◌≤◌, ◌<◌}
 use mathlib.Core.Path.{◌≡◌, refl, sym, ◌∙◌, ap}
 use mathlib.Core.Bool.{true, false, not, ◌&&◌, true≢false}
 use mathlib.Core.List.{List, [], ◌∷◌, ◌++◌, append-nil, Memᴰ}
@@ -26,7 +26,7 @@ use Rattle.laws.proofs.AscendingKeys.{AscendingKeys, no_key, key}
 use Rattle.leaves.specs.Delivered.{leaves_end, Parted}
 use Rattle.leaves.proofs.Tiles.{Tiles, tiles_ascend, ascend_test, tiles_valid, tiles_once}
 use Rattle.leaves.proofs.Sound.{leaves_sound}
-use Rattle.leaves.proofs.Open.{OpenBlock, once, cover_cons, cover_some}
+use Rattle.leaves.proofs.Open.{OpenBlock, cover_cons, cover_some}
 use Rattle.leaves.proofs.Complete.{LeafShows, all_read}
 
 pub member_at : (l : List ℕ) (i : ℕ) → i < length l → Memᴰ (get_or l i 0) l
@@ -65,6 +65,7 @@ once_feature m (κ ∷ keys) (f ∷ features) row column (suc i) same h e one =
 
 valid_member : (m : ℕ) (l : List ℕ) → valid_keys m l ≡ true → (x : ℕ) → Memᴰ x l → valid_key m x ≡ true
 unfolding valid_keys
+valid_member m [] e x n = elim n [ ]
 valid_member m (κ ∷ l) e x (Memᴰ.head f) = ap (valid_key m) f ∙ and_left (valid_key m κ) (valid_keys m l) e
 valid_member m (κ ∷ l) e x (Memᴰ.tail n) = valid_member m l (and_right (valid_key m κ) (valid_keys m l) e) x n
 

@@ -1,6 +1,6 @@
 -- The list of a whole delivery: the root is ready, and the records below it with its own at place 0 are the list. Rests on Delivery and on build's
 -- laws of writing.
-use Prim.Native.Nat.{ℕ, ◌^◌, ◌≤◌}
+use Prim.Native.Nat.{ℕ, ◌≤◌}
 use mathlib.Core.Path.{◌≡◌, refl, sym, ◌∙◌, ap}
 use mathlib.Core.Bool.{true, false}
 use mathlib.Core.List.{List, ◌∷◌, map}

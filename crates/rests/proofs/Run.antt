@@ -41,7 +41,7 @@ event_keeps (resting_short to) may h = record { holds = short_keeps h.holds to m
 pub events_keep : {m s : ℕ} {p : Picture} {t : Reached} (es : List Event) → AllMay m s t es → RestStands m s p t → RestStands m s p (after_events m s t es)
 unfolding after_events AllMay
 events_keep [] may h = h
-events_keep (e ∷ es) may h = events_keep es may.1 (event_keeps e may.0 h)
+events_keep {m} {s} {t = t} (e ∷ es) may h = events_keep {t = after_event m s t e} es may.1 (event_keeps e may.0 h)
 
 -- no slices had more room than those lent last
 abbrev pub Largest : Reached → Type 0

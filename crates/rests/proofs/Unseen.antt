@@ -117,8 +117,9 @@ twins_run : {m s : ℕ} {p : Picture} {t u : Reached} (es : List Event) → AllM
     → Twins m s p (after_events m s t es) (after_events m s u (without_rests es))
 unfolding after_events AllMay AllSameRoom without_rests
 twins_run [] may same h = h
-twins_run (calling c ∷ es) may same h = twins_run es may.1 same.1 (same_call h c)
-twins_run (resting to ∷ es) may same h = twins_run es may.1 same.1 (same_rest h to may.0 same.0)
+twins_run {m} {s} {t = t} {u = u} (calling c ∷ es) may same h =
+    twins_run {t = after_event m s t (calling c)} {u = after_event m s u (calling c)} es may.1 same.1 (same_call h c)
+twins_run {m} {s} {t = t} (resting to ∷ es) may same h = twins_run {t = after_event m s t (resting to)} es may.1 same.1 (same_rest h to may.0 same.0)
 twins_run (resting_short to ∷ es) may same h = absurd same.0
 
 -- who stands is his own twin

@@ -1,0 +1,45 @@
+-- `bits::only_spare` meets its contract: none left, a byte too many, or the rest of the last byte.
+use Rattle.bit_strings.proofs.Bytes.{power_positive, none_there, spare_none, spare_byte, spare_more, spare_last}
+use lib.ListN.{get_or}
+use lib.Dec.{eqb}
+use mathlib.Core.Path.{sym, ◌∙◌, ap}
+use Prim.Native.Nat.{◌/◌, ◌%◌}
+use native.Mathlib.Omega.{arith}
+use borrow.Author.Rules.{rules}
+use Rattle.bit_strings.proofs.bits.only_spare.Goals as goal
+
+pub returns-then-bytes-k : goal.returns-then-bytes-k
+returns-then-bytes-k c = let s = c.args in sym (spare_none _ (none_there s.bytes.now s.at c.if-bytes-k.true))
+
+pub returns-then-at-eq0 : goal.returns-then-at-eq0
+returns-then-at-eq0 c = let s = c.args in sym (spare_byte s.bytes.now s.at (omega arith) c.if-at-eq0.true)
+
+pub overflow_add-k : goal.overflow_add-k
+overflow_add-k c = search rules
+
+pub returns-then-k-bytes : goal.returns-then-k-bytes
+returns-then-k-bytes c = let s = c.args in sym (spare_more s.bytes.now s.at (omega arith) c.if-k-bytes.true)
+
+pub bounds-bytes-k : goal.bounds-bytes-k
+bounds-bytes-k c = search rules
+
+pub overflow_cast-byte : goal.overflow_cast-byte
+overflow_cast-byte c = omega (arith, c.shared_slice_known-2-1.given (c.args.at / 8))
+
+pub overflow_sub-at : goal.overflow_sub-at
+overflow_sub-at c = search rules
+
+pub overflow_cast-at : goal.overflow_cast-at
+overflow_cast-at c = search rules
+
+pub power_of_two-requires : goal.power_of_two-requires
+power_of_two-requires c = search rules
+
+pub nonzero_rem-result : goal.nonzero_rem-result
+nonzero_rem-result c = omega (arith, power_positive _ _ c.power_of_two.ensures)
+
+pub returns : goal.returns
+returns c =
+    let s = c.args in
+    ap (λ p. eqb (◌%◌ (get_or s.bytes.now (s.at / 8) 0) p) 0) c.power_of_two.ensures
+    ∙ spare_last s.bytes.now s.at (omega arith) (omega arith) c.if-at-eq0.false
