@@ -3,7 +3,7 @@
 use Prim.Native.Nat.{ℕ}
 use mathlib.Core.Path.{refl}
 use mathlib.Core.List.{List, [], ◌∷◌, ◌++◌}
-use lib.ListN.{length, take}
+use lib.ListN.{take}
 use Rattle.keys.specs.Key.{valid_key, digits_of, digits_then_zeros, only_zeros, level_of, digits_before_zero, height_of}
 use Rattle.keys.specs.Block.{row_of, column_of, side_of, in_block, pixel_key}
 use Rattle.definitions.specs.Picture.{every_pixel, one_feature, features_below}

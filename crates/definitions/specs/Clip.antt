@@ -1,6 +1,6 @@
 -- A window that was dragged, perhaps over the edge, and its overlap with the raster (specification S7). A line is a row or a column; its number
 -- is a whole number, negative before the raster. Rests on Window.
-use Rattle.std.specs.Prelude.{ℕ, ◌+◌, ◌-◌, ◌^◌, min, ℤ, pos, negsuc, ◌+ℤ◌}
+use Rattle.std.specs.Prelude.{ℕ, ◌-◌, ◌^◌, min, ℤ, pos, negsuc, ◌+ℤ◌}
 use Rattle.definitions.specs.declared.Window.{Window}
 
 -- the line itself, or the raster's first where it stands before that

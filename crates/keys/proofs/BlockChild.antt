@@ -7,7 +7,7 @@ use native.Mathlib.Omega.{arith}
 use native.Mathlib.Nat.{pow-suc}
 use Rattle.keys.specs.Block.{is_south, is_east}
 use Rattle.keys.specs.Under.{MapBlock, here, nw, ne, sw, se}
-use Rattle.keys.specs.Child.{root_of, child_of, InMap, KeysEnd, Divisible}
+use Rattle.keys.specs.Child.{child_of, InMap, KeysEnd, Divisible}
 use Rattle.keys.specs.declared.block.TreeBlock.{TreeBlock}
 use Rattle.keys.proofs.Under.{under_trans}
 use Rattle.keys.proofs.Interval.{within}

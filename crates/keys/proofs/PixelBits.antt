@@ -1,9 +1,9 @@
 -- A level of a pixel's key by the bits of its row and column: the bit of the row says south, that of the column east, and the bits below
 -- are the pixel's place inside the quadrant. Rests on Descent.
-use Prim.Native.Nat.{ℕ, suc, ◌+◌, ◌-◌, ◌*◌, ◌/◌, ◌%◌, ◌^◌, ◌≤◌, ◌<◌}
-use mathlib.Core.Path.{◌≡◌, sym, ap, ap₂, ◌∙◌}
+use Prim.Native.Nat.{ℕ, suc, ◌+◌, ◌*◌, ◌/◌, ◌%◌, ◌^◌, ◌≤◌, ◌<◌}
+use mathlib.Core.Path.{◌≡◌, ap, ap₂, ◌∙◌}
 use native.Mathlib.Omega.{arith}
-use native.Mathlib.Nat.{pow-suc, mod-lt, mod-eq_of_lt, add_assoc}
+use native.Mathlib.Nat.{pow-suc, mod-lt}
 use lib.Arith.{mod-mul}
 use lib.Dec.{lit<}
 use Rattle.keys.proofs.Cases.{split}

@@ -1,5 +1,5 @@
 -- A block as the code carries it, the quadrant of it that a digit tells, and what has to hold for that to be told. Rests on Block and Under.
-use Rattle.std.specs.Prelude.{ℕ, ◌+◌, ◌-◌, ◌*◌, ◌^◌, ◌≤◌, ◌<◌, cond}
+use Rattle.std.specs.Prelude.{ℕ, ◌+◌, ◌-◌, ◌^◌, ◌≤◌, ◌<◌, cond}
 use Rattle.keys.specs.Key.{root_key, child_key, all_keys, deepest_side}
 use Rattle.keys.specs.Block.{is_south, is_east}
 use Rattle.keys.specs.Under.{MapBlock}

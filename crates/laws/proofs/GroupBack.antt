@@ -1,6 +1,6 @@
 -- A group taken back gives the picture before the paint of the window, and painted again the one after it, whatever stands before it in the log
 -- (specification S12.1, S12.8). So do a single entry's content and feature. Rests on GroupStep and WindowPaint.
-use Prim.Native.Nat.{ℕ, zero, suc, ◌+◌, ◌<◌}
+use Prim.Native.Nat.{ℕ, zero, suc, ◌<◌}
 use mathlib.Core.Path.{◌≡◌, refl, sym, ap, ap₂, ◌∙◌}
 use mathlib.Core.Bool.{Bool, true, false, cond, ◌||◌}
 use mathlib.Core.List.{List, [], ◌∷◌, ◌++◌, append_assoc}

@@ -1,6 +1,6 @@
 -- The count in force (specification S11.14, S11.15): a log whose records in force and to redo are both sound is sound, and its count in force is 0 or the end
 -- of a step, never inside a group; for a sound log both are sound exactly then. Rests on SoundLog.
-use Prim.Native.Nat.{ℕ, ◌+◌, ◌-◌, ◌≤◌, ◌<◌}
+use Prim.Native.Nat.{ℕ, ◌≤◌, ◌<◌}
 use mathlib.Core.Path.{◌≡◌, sym, ap, ◌∙◌, subst}
 use mathlib.Core.Logic.{◌↔◌}
 use mathlib.Core.Bool.{true}

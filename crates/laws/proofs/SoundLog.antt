@@ -1,6 +1,6 @@
 -- A log is sound exactly when its records are steps, one after the other: single entries, each with a valid key, a correct list of that block and a feature
 -- below s, and groups of such entries (specification S11.11). Rests on LastStep.
-use Prim.Native.Nat.{ℕ, zero, suc, ◌+◌, ◌-◌, ◌≤◌, ◌<◌}
+use Prim.Native.Nat.{ℕ, zero, suc, ◌≤◌, ◌<◌}
 use mathlib.Core.Path.{◌≡◌, refl, sym, ap, subst, ◌∙◌}
 use mathlib.Core.Logic.{◌↔◌}
 use mathlib.Core.Bool.{true, false, cond, ◌&&◌}

@@ -1,6 +1,6 @@
 -- The summary block by block: at place b * s stand the s counts of block number b, whose key is that of the b-th block of the summary's level. Counts
 -- depend only on the block's pixels. Rests on CountOf and the laws of blocks.
-use Prim.Native.Nat.{ℕ, zero, suc, ◌+◌, ◌-◌, ◌*◌, ◌/◌, ◌%◌, ◌^◌, ◌≤◌, ◌<◌}
+use Prim.Native.Nat.{ℕ, zero, suc, ◌+◌, ◌*◌, ◌/◌, ◌%◌, ◌^◌, ◌≤◌, ◌<◌}
 use mathlib.Core.Path.{◌≡◌, refl, sym, ◌∙◌, ap, ap₂, subst}
 use mathlib.Core.List.{List, [], ◌∷◌, ◌++◌, append_assoc, append-nil}
 use native.Mathlib.Nat.{zero-mul, zero-add, add-zero, add-suc, suc-add, pow-suc, add-mul, mul_comm, mul_assoc, add_assoc, one-le-pow, div-add-mod', div-lt_iff_lt-mul, mod-lt}

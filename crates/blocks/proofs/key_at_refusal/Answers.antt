@@ -1,5 +1,4 @@
 -- `key_at_refusal` meets its contract: its tests are those of the table, in the same order.
-use native.Mathlib.Omega.{arith}
 use borrow.Author.Rules.{rules}
 use Rattle.blocks.proofs.Answers.{too_deep, no_row, no_column, no_level, all_passed}
 use Rattle.blocks.proofs.key_at_refusal.Goals as goal

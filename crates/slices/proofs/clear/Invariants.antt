@@ -1,7 +1,6 @@
 -- `clear` meets its contract: before i all places from `from` on are zero.
 use Prim.Native.Nat.{◌-◌}
-use native.Mathlib.Omega.{arith}
-use Rattle.slices.proofs.Moves.{ZeroBefore, clear_begins, clear_turns, clear_ends}
+use Rattle.slices.proofs.Moves.{ZeroBefore}
 use Rattle.slices.proofs.clear.Given as goal
 
 abbrev pub invariant-loop-i : goal.invariant-loop-i

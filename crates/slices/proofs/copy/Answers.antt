@@ -1,7 +1,6 @@
 -- `copy` meets its contract: after each turn one place more is moved.
-use Prim.Native.Nat.{◌-◌}
 use native.Mathlib.Omega.{arith}
-use Rattle.slices.proofs.Moves.{MovedSoFar, move_begins, move_turns, move_ends}
+use Rattle.slices.proofs.Moves.{move_begins, move_turns, move_ends}
 use Rattle.slices.proofs.copy.Goals as goal
 
 pub loop-done-init : goal.loop-done-init

@@ -1,7 +1,6 @@
 -- `shift_down` meets its contract: after i turns the first i places are moved, and no place was written before it was read.
 use Prim.Native.Nat.{◌-◌}
-use native.Mathlib.Omega.{arith}
-use Rattle.slices.proofs.Moves.{MovedSoFar, move_begins, slide_turns, move_ends}
+use Rattle.slices.proofs.Moves.{MovedSoFar}
 use Rattle.slices.proofs.shift_down.Given as goal
 
 abbrev pub invariant-loop-i : goal.invariant-loop-i

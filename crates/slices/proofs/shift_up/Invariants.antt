@@ -1,6 +1,5 @@
 -- `shift_up` meets its contract: when i places are left, all after them are moved, and no place was written before it was read.
-use native.Mathlib.Omega.{arith}
-use Rattle.slices.proofs.Moves.{Raised, raise_begins, raise_turns, raise_ends}
+use Rattle.slices.proofs.Moves.{Raised}
 use Rattle.slices.proofs.shift_up.Given as goal
 
 abbrev pub invariant-loop-i : goal.invariant-loop-i

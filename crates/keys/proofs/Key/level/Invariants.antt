@@ -1,13 +1,7 @@
 -- `Key::level` meets its contract: after each turn the level is the digits passed and those that the rest has before its first zero.
-use Prim.Native.Nat.{ℕ, ◌+◌, ◌-◌, ◌*◌, ◌/◌, ◌%◌, ◌^◌, ◌≤◌, ◌<◌}
-use mathlib.Core.Path.{◌≡◌, sym, ap, ◌∙◌}
-use native.Mathlib.Omega.{arith}
-use native.Mathlib.Nat.{add-zero, zero-add, div-lt_iff_lt-mul, div-eq_of_lt}
-use lib.Dec.{lit<}
-use Rattle.keys.specs.Key.{digits_of, digits_before_zero, level_of}
-use Rattle.keys.proofs.Cases.{split}
-use Rattle.keys.proofs.Powers.{five_pos}
-use Rattle.keys.proofs.Descent.{one_less, power_down, level_stops, level_goes}
+use Prim.Native.Nat.{ℕ, ◌+◌, ◌-◌, ◌^◌, ◌≤◌}
+use mathlib.Core.Path.{◌≡◌}
+use Rattle.keys.specs.Key.{digits_of, digits_before_zero}
 use Rattle.keys.proofs.Key.level.Given as goal
 
 -- the digits that a number of so many digits has before its first zero

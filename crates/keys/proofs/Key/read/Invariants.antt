@@ -1,21 +1,10 @@
 -- `Key::read` meets its contract: after i turns row and column are those of the last i digits, and the number is a key exactly when no digit that is
 -- left is 0.
-use Prim.Native.Nat.{ℕ, ◌+◌, ◌-◌, ◌*◌, ◌/◌, ◌%◌, ◌^◌, ◌≤◌, ◌<◌}
-use mathlib.Core.Path.{◌≡◌, refl, sym, ap, ap₂, ◌∙◌}
-use mathlib.Core.Bool.{Bool, true, false, cond}
-use native.Mathlib.Omega.{arith}
-use native.Mathlib.Nat.{pow-suc, mod-eq_of_lt}
-use native.Mathlib.Numerals.{add-one}
+use Prim.Native.Nat.{ℕ, ◌-◌, ◌/◌, ◌%◌, ◌^◌, ◌≤◌, ◌<◌}
+use mathlib.Core.Path.{◌≡◌}
 use lib.Dec.{eqb}
-use Rattle.keys.specs.Key.{zeros_at_end, valid_key, level_of}
-use Rattle.keys.specs.Block.{row_of, column_of, side_of, is_south, is_east}
-use Rattle.keys.proofs.Cases.{decide}
-use Rattle.keys.proofs.Powers.{two_le, two_pos, five_pos}
-use Rattle.keys.proofs.Digits.{row_zero, column_zero}
-use Rattle.keys.proofs.LastZeros.{zeros_most, zeros_divide, zeros_height, zeros_rest, zeros_valid}
-use Rattle.keys.proofs.LastDigit.{rest_below, full_goes, full_stops, full_over}
-use Rattle.keys.proofs.FromRight.{digits_before, row_right, column_right}
-use Rattle.keys.proofs.Valid.{valid_below}
+use Rattle.keys.specs.Key.{valid_key, level_of}
+use Rattle.keys.specs.Block.{row_of, column_of}
 use Rattle.keys.proofs.Key.read.Given as goal
 
 pub record Passed (m κ rest side row column i : ℕ) : Type 0 where

@@ -1,5 +1,5 @@
 -- `square` meets its contract: the side is the power that is asked for.
-use mathlib.Core.Path.{◌≡◌, refl}
+use mathlib.Core.Path.{refl}
 use borrow.Author.Rules.{rules}
 use Rattle.keys.proofs.block.square.Goals as goal
 

@@ -1,11 +1,7 @@
 -- `zeros::at_end` meets its contract: the root's digits are all zeros, and of any other key after each turn one zero more is passed.
-use Prim.Native.Nat.{ℕ, ◌≤◌, ◌+◌, ◌-◌, ◌^◌}
-use mathlib.Core.Path.{◌≡◌, ◌∙◌, refl, sym, ap}
-use native.Mathlib.Omega.{arith}
-use borrow.Author.Rules.{rules}
+use Prim.Native.Nat.{◌≤◌, ◌+◌, ◌-◌, ◌^◌}
+use mathlib.Core.Path.{◌≡◌}
 use Rattle.keys.specs.Key.{zeros_at_end}
-use Rattle.keys.proofs.Powers.{five_le, five_next}
-use Rattle.keys.proofs.LastZeros.{zeros_root, zeros_start, zeros_turn, zeros_stop, zeros_end}
 use Rattle.keys.proofs.zeros.at_end.Given as goal
 
 abbrev pub invariant-loop-count : goal.invariant-loop-count

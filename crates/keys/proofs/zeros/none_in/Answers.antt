@@ -1,9 +1,6 @@
 -- `zeros::none_in` meets its contract: after each turn no digit is 0 exactly when none of those that are left is.
-use Prim.Native.Nat.{◌^◌, ◌<◌}
-use mathlib.Core.Path.{◌≡◌, refl, sym, ◌∙◌}
-use lib.Dec.{eqb}
+use mathlib.Core.Path.{refl, sym, ◌∙◌}
 use borrow.Author.Rules.{rules}
-use Rattle.keys.specs.Key.{level_of}
 use Rattle.keys.proofs.LastDigit.{rest_below, full_stops, full_goes, full_over}
 use Rattle.keys.proofs.zeros.none_in.Goals as goal
 

@@ -1,10 +1,8 @@
 -- `zeros::none_in` meets its contract: after each turn no digit is 0 exactly when none of those that are left is.
 use Prim.Native.Nat.{◌^◌, ◌<◌}
-use mathlib.Core.Path.{◌≡◌, refl, sym, ◌∙◌}
+use mathlib.Core.Path.{◌≡◌}
 use lib.Dec.{eqb}
-use borrow.Author.Rules.{rules}
 use Rattle.keys.specs.Key.{level_of}
-use Rattle.keys.proofs.LastDigit.{rest_below, full_stops, full_goes, full_over}
 use Rattle.keys.proofs.zeros.none_in.Given as goal
 
 abbrev pub invariant-loop-left : goal.invariant-loop-left

@@ -1,9 +1,7 @@
 -- `zeros::only_at_end` meets its contract: after each zero that is passed the number is valid exactly when what is left of it is.
 use Prim.Native.Nat.{◌^◌, ◌<◌}
-use mathlib.Core.Path.{◌≡◌, refl, sym, ◌∙◌}
-use borrow.Author.Rules.{rules}
+use mathlib.Core.Path.{◌≡◌}
 use Rattle.keys.specs.Key.{valid_key}
-use Rattle.keys.proofs.LastDigit.{rest_below, valid_goes, valid_stops, valid_over}
 use Rattle.keys.proofs.zeros.only_at_end.Given as goal
 
 abbrev pub invariant-loop-left : goal.invariant-loop-left

@@ -1,12 +1,12 @@
 -- `check::after_node` meets its contract: before each turn the children passed so far are those that the model has passed. It ends because a
 -- call for a child has a fifth of the step.
-use Prim.Native.Nat.{ℕ, ◌+◌, ◌-◌, ◌/◌, ◌≤◌, ◌<◌}
+use Prim.Native.Nat.{◌+◌, ◌/◌, ◌≤◌}
 use mathlib.Core.Path.{sym, ◌∙◌}
 use mathlib.Core.Logic.{⊎_elim}
 use native.Mathlib.Omega.{arith}
 use lib.ListN.{length, get_or}
 use borrow.Author.Tests.{not-true, not-false}
-use Rattle.list.proofs.Turn.{Answer, TurnPassed, step_five, turn_begins, child_fits, ends, differs, short, other_key, child_at, wrong_child, goes_leaf, goes_node}
+use Rattle.list.proofs.Turn.{Answer, step_five, turn_begins, child_fits, ends, differs, short, other_key, child_at, wrong_child, goes_leaf, goes_node}
 use Rattle.list.proofs.check.+after_node.Goals as goal
 
 pub after_low-requires : goal.after_low-requires

@@ -1,11 +1,11 @@
 -- `check::after_sixteen` meets its contract: before each turn the children passed so far are those that the model has passed, at the step 5.
-use Prim.Native.Nat.{◌+◌, ◌-◌}
+use Prim.Native.Nat.{◌+◌}
 use mathlib.Core.Path.{refl, sym, ◌∙◌}
 use mathlib.Core.Logic.{⊎_elim}
 use native.Mathlib.Omega.{arith}
 use borrow.Author.Tests.{not-true, not-false}
 use Rattle.list.proofs.Pixels.{right_false, right_true}
-use Rattle.list.proofs.Turn.{TurnPassed, step_one, step_five, turn_begins, child_fits, ends, differs, short, other_key, child_at, wrong_child, goes_leaf, goes_node}
+use Rattle.list.proofs.Turn.{step_one, step_five, turn_begins, child_fits, ends, differs, short, other_key, child_at, wrong_child, goes_leaf, goes_node}
 use Rattle.list.proofs.check.after_sixteen.Goals as goal
 
 pub loop-quadrant-init : goal.loop-quadrant-init

@@ -3,7 +3,6 @@ use Prim.Native.Nat.{◌<◌}
 use Rattle.list.proofs.OneSlot.{four_none, four_some, four_clear}
 use Rattle.list.proofs.check.have_one_slot.Goals as goal
 use Rattle.list.proofs.check.have_one_slot.Lts as lts
-use Rattle.list.proofs.check.have_one_slot.Tie as tie
 use Rattle.list.proofs.check.have_one_slot.Reads as own
 
 abbrev At-Else1 : Type 0

@@ -1,7 +1,6 @@
 -- `standing::up_to` meets its contract: the count lies from low to high, and each turn halves what lies between.
 use Prim.Native.Nat.{◌-◌}
-use native.Mathlib.Omega.{arith}
-use Rattle.list.proofs.Count.{Bracket, bracket_all, bracket_down, bracket_up, bracket_end}
+use Rattle.list.proofs.Count.{Bracket}
 use Rattle.list.proofs.standing.up_to.Given as goal
 
 abbrev pub invariant-loop-low : goal.invariant-loop-low

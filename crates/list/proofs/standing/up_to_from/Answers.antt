@@ -1,8 +1,7 @@
 -- `standing::up_to_from` meets its contract: the count lies from low, which starts past the known place, to high, and each turn leaves less between.
-use Prim.Native.Nat.{◌-◌}
 use native.Mathlib.Omega.{arith}
 use borrow.Author.Rules.{rules}
-use Rattle.list.proofs.Count.{Bracket, bracket_from, bracket_down, bracket_up, bracket_end}
+use Rattle.list.proofs.Count.{bracket_from, bracket_down, bracket_up, bracket_end}
 use Rattle.list.proofs.standing.up_to_from.Goals as goal
 
 pub overflow_add-low : goal.overflow_add-low

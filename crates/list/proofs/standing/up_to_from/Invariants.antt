@@ -1,8 +1,6 @@
 -- `standing::up_to_from` meets its contract: the count lies from low, which starts past the known place, to high, and each turn leaves less between.
 use Prim.Native.Nat.{◌-◌}
-use native.Mathlib.Omega.{arith}
-use borrow.Author.Rules.{rules}
-use Rattle.list.proofs.Count.{Bracket, bracket_from, bracket_down, bracket_up, bracket_end}
+use Rattle.list.proofs.Count.{Bracket}
 use Rattle.list.proofs.standing.up_to_from.Given as goal
 
 abbrev pub invariant-loop-low : goal.invariant-loop-low
