@@ -11,8 +11,8 @@ use deeds::deed::{Deed, Doing};
 use definitions::refusal::Refusal;
 use definitions::{Edited, Window};
 use edit::decision;
-use keys::{Key, block};
 use edit_log::group;
+use keys::{Key, block};
 use walk::bounds;
 
 // The refusal; where it is 0, the number of entries that the group will have.

@@ -7,9 +7,9 @@ ghost use Rattle.window_paint.specs.WindowLogging.{largest_in, Placed, Lying, Co
 
 use definitions::Window;
 use edit::logging;
+use edit_log::entry;
 use keys::block::{TreeBlock, child};
 use keys::power;
-use edit_log::entry;
 use walk::Spot;
 use walk::lying::Lie;
 

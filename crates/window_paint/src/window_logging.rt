@@ -12,10 +12,10 @@ ghost use Rattle.window_paint.specs.WindowLogging.{entries_below, BlockFrom, Ent
 use crate::window_blocks;
 use definitions::Window;
 use edit::logging;
-use keys::block::{TreeBlock, child};
-use keys::{block, power};
 use edit_log::entry::Entry;
 use edit_log::{entry, group};
+use keys::block::{TreeBlock, child};
+use keys::{block, power};
 use walk::lying::Lie;
 
 // The place past the entries that are written, and the place where the search for the next block begins.
