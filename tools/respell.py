@@ -1,12 +1,13 @@
 #!/usr/bin/env python3
-"""Brings this repository's own names in .antt and .rt files to the spelling of today's Rattle, once, right after port.py.
+"""Brings this repository's own names in .antt and .rt files to the spelling of today's Rattle, once, after port.py.
 
-usage: tools/respell.py            at the top of the repository: rewrites files in place and prints the names that it leaves
+usage: tools/respell.py      at the top of the repository: rewrites files in place and prints the names that it leaves
 
-A definition, a field, a constructor, a lemma: words in snake case, validKey -> valid_key. In a lemma's name a dash stays where
-it joins a definition's name to what is said of it, validKey-lt -> valid_key-lt, and is an underscore elsewhere, five-pos ->
-five_pos. Types and modules keep their names, and so do functions of src/, names that std has too, and goals in a function's own
-folder of proofs/. Each crate's root file gets the line #![tactic(auto)]. A name that would fall together with another one of a file keeps its old spelling, and is printed.
+A definition, a field, a constructor, a lemma: words in snake case, validKey -> valid_key. In a lemma's name a dash
+stays where it joins a definition's name to what is said of it, validKey-lt -> valid_key-lt, and is an underscore
+elsewhere, five-pos -> five_pos. Types and modules keep their names, and so do functions of src/, names that std has
+too, and goals in a function's own folder of proofs/. Each crate's root file gets the line #![tactic(auto)]. A name that
+would fall together with another one of a file keeps its old spelling, and is printed.
 """
 
 import collections
@@ -66,7 +67,8 @@ def others(text):
 
 def gathered(texts, root):
     """Names that are declared, by where; and names that come from elsewhere."""
-    lemmas, specs, labels, goals, foreign, crates = set(), set(), set(), set(), set(), set(os.listdir(os.path.join(root, "crates")))
+    lemmas, specs, labels, goals, foreign = set(), set(), set(), set(), set()
+    crates = set(os.listdir(os.path.join(root, "crates")))
     for path, text in texts.items():
         for m in re.finditer(r"\btie\.(%s)" % NAME, text):
             goals.add(m[1])
@@ -115,10 +117,12 @@ def spelled(name, known, plain):
 
 def table(texts, root):
     lemmas, specs, labels, goals, foreign = gathered(texts, root)
-    compound = {it for it in specs if re.search(r"[a-z][A-Z]|_", it)} | {"length", "take", "drop", "append", "set", "replicate", "get_or", "getD", "cond", "map"}
+    compound = {it for it in specs if re.search(r"[a-z][A-Z]|_", it)}
+    compound |= {"length", "take", "drop", "append", "set", "replicate", "get_or", "getD", "cond", "map"}
     names = {}
     # A variable, and what a file calls an import, has such a name too.
-    local = {m[0] for path, text in texts.items() for m in TOKEN.finditer(text) if re.match(r"[a-z][a-z0-9]*[A-Z][\w'-]*$", m[0])}
+    every = {m[0] for text in texts.values() for m in TOKEN.finditer(text)}
+    local = {it for it in every if re.match(r"[a-z][a-z0-9]*[A-Z][\w'-]*$", it)}
     for it in lemmas | specs | labels | local:
         if it in foreign or it in goals or re.match(r"(invariant|decreases)-", it):
             continue
@@ -140,9 +144,10 @@ def tokens(text, path):
 
 
 def taken(text, path):
-    """The names that stand alone, by how a file spells them: not parts of paths, and of code only what a clause can see."""
+    """The names that stand alone, as a file spells them: not parts of paths, and of code what a clause can see."""
     if path.endswith(".rt"):
-        return set(re.findall(r"(?<![\w.])(?:mut )?([a-z_]\w*)\s*:(?!:)", text)) | set(re.findall(r"\blet (?:mut )?(\w+)", text))
+        typed = re.findall(r"(?<![\w.])(?:mut )?([a-z_]\w*)\s*:(?!:)", text)
+        return set(typed) | set(re.findall(r"\blet (?:mut )?(\w+)", text))
     out = set()
     for line in text.split("\n"):
         line = re.sub(r"(^|\s)--(\s.*)?$", "", line)
@@ -153,7 +158,7 @@ def taken(text, path):
 
 
 def without_clashes(names, texts):
-    """Takes out of the table what would fall together with another name of some file: a definition goes before a lemma with a dash."""
+    """Takes out what would fall together with another name of a file: a definition goes before a dashed lemma."""
     left = set()
     seen = {path: (taken(text, path), {m[0] for m in tokens(text, path)}) for path, text in texts.items()}
     while True:
@@ -188,7 +193,8 @@ def ask_for_tactics(root):
     for folder, _, names in os.walk(os.path.join(root, "crates")):
         for name in names:
             path = os.path.join(folder, name)
-            if os.path.basename(folder) == "src" and name in ("lib.rt", "main.rt") and "#![tactic(auto)]" not in read(path):
+            is_root = os.path.basename(folder) == "src" and name in ("lib.rt", "main.rt")
+            if is_root and "#![tactic(auto)]" not in read(path):
                 lines = read(path).split("\n")
                 at = next(i for i, line in enumerate(lines) if not line.startswith("//"))
                 with open(path, "w", encoding="utf-8", newline="") as it:
@@ -208,7 +214,7 @@ def main():
     ask_for_tactics(root)
     with open("/tmp/respelled.tsv", "w", encoding="utf-8") as it:
         it.writelines(f"{a}\t{b}\n" for a, b in sorted(names.items()))
-    print(f"{len(names)} names respelled; {len(left)} left, since they would fall together with another: {', '.join(sorted(left))}")
+    print(f"{len(names)} names respelled; {len(left)} left, for they would fall together: {', '.join(sorted(left))}")
 
 
 if __name__ == "__main__":

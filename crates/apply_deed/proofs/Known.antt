@@ -13,7 +13,7 @@ use Rattle.definitions.specs.List.{values_of, list_of}
 use Rattle.definitions.specs.Read.{room}
 use Rattle.laws.proofs.Pixels.{Agree}
 use Rattle.laws.proofs.Features.{one_from_leaf}
-use Rattle.laws.proofs.ListOf.{list_first, list_one}
+use Rattle.laws.proofs.ListOf.{list_head_first, list_one}
 use Rattle.list.specs.Check.{one_slot}
 use Rattle.list.proofs.OneSlot.{one_slot_power}
 use Rattle.edit_log.proofs.Places.{run_values, run_length}
@@ -46,7 +46,7 @@ module _ {t : Step} {ks vs : List ℕ} {k r c κ start count : ℕ} (x : Content
       ∙ sym (get_or-drop start vs 0 0)
       ∙ sym (get_or-take count (drop start vs) 0 0 (omega (arith, x.several)))
       ∙ ap (λ l. get_or l 0 0) (sym (run_values ks vs start count there))
-      ∙ ap (λ l. get_or (values_of l) 0 0) (x.is p ∙ (list_first (step_over t p) k r c κ).1)
+      ∙ ap (λ l. get_or (values_of l) 0 0) (x.is p ∙ (list_head_first (step_over t p) k r c κ).1)
 
 -- by cases
 by_cases : (t : Step) (ks vs : List ℕ) (k r c κ : ℕ) (p : Picture) (own records : ℕ) → own ≡ bits_of p k r c → records ≡ length (list_of p k r c κ)
@@ -68,8 +68,8 @@ pub met_readable : {t : Step} {ks vs : List ℕ} {k r c κ : ℕ} {meeting : Mee
 met_readable x = record { starts = λ start count e. let y = met_content x e in omega (arith, y.several, y.in_values) }
 
 -- a leaf by its own bits
-pub leaf_bits : (own k r c : ℕ) → one_slot own ≡ true → own ≡ bits_of (plain (feature_of own)) k r c
-leaf_bits own k r c one = one_slot_power own one ∙ plain_bits (feature_of own) k r c
+pub own_leaf_bits : (own k r c : ℕ) → one_slot own ≡ true → own ≡ bits_of (plain (feature_of own)) k r c
+own_leaf_bits own k r c one = one_slot_power own one ∙ plain_bits (feature_of own) k r c
 
 pub leaf_records : (f k r c κ : ℕ) → 1 ≡ length (list_of (plain f) k r c κ)
 leaf_records f k r c κ = sym (ap length (list_one (plain f) k r c κ (one_from_leaf (plain f) f k r c (λ a b w. refl))))

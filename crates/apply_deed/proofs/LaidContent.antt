@@ -24,7 +24,7 @@ use Rattle.deeds.specs.declared.meeting.Meeting.{Meeting}
 use Rattle.deeds.specs.declared.meeting.Meeting.TheVariants.{Apart, Leaf, Content, Cut}
 use Rattle.deeds.proofs.Meetings.{met_content}
 use Rattle.apply_deed.specs.Passes.{known_of, FittingBefore, WrittenBefore, ContentFits, Layable, LeafLaid}
-use Rattle.apply_deed.proofs.Known.{content_count, content_first, known_tallied, leaf_bits, leaf_records}
+use Rattle.apply_deed.proofs.Known.{content_count, content_first, known_tallied, own_leaf_bits, leaf_records}
 use Rattle.apply_deed.proofs.LeafWritten.{before_one, single}
 
 -- what was laid, kind by kind
@@ -111,7 +111,7 @@ written_cases : (t : Step) (lk lv : List ℕ) (k r c κ end : ℕ) (ks bs ks' bs
     → (meeting : Meeting) → Met t lk lv (block_at k r c κ) meeting → is_cut meeting ≡ false → LeafLaid meeting own lk lv end ks bs ks' bs' union place
     → WrittenBefore (step_over t (plain (feature_of own))) (block_at k r c κ) end ks bs ks' bs' union place
 written_cases t lk lv k r c κ end ks bs ks' bs' own union place one Apart x cut l =
-    one_written κ (known_tallied {tally = known_of Apart own 1 lv} (plain (feature_of own)) (leaf_bits own k r c one) (leaf_records (feature_of own) k r c κ) x cut refl)
+    one_written κ (known_tallied {tally = known_of Apart own 1 lv} (plain (feature_of own)) (own_leaf_bits own k r c one) (leaf_records (feature_of own) k r c κ) x cut refl)
     l.keys_are l.bits_are l.union_is (l.place_is cut)
 written_cases t lk lv k r c κ end ks bs ks' bs' own union place one (Leaf b) x cut l =
     one_written κ (x.told (plain (feature_of own))) l.keys_are l.bits_are l.union_is (l.place_is cut)

@@ -17,7 +17,7 @@ use Rattle.definitions.specs.Read.{paired, records_of}
 use Rattle.laws.proofs.Ascending.{ascending-append, widen}
 use Rattle.laws.proofs.Records.{drop-paired, records-length, records_at}
 use Rattle.laws.proofs.Features.{one_pixel}
-use Rattle.laws.proofs.ListOf.{list_node, list_first, list_ascends}
+use Rattle.laws.proofs.ListOf.{list_node, list_head_first, list_ascends}
 use Rattle.list.specs.Check.{one_slot}
 use Rattle.list.proofs.OneSlot.{slot_feature}
 use Rattle.deeds.specs.Meeting.{block_at}
@@ -103,8 +103,8 @@ module _ {past at n : ℕ} {ks bs : List ℕ} where
 
 -- a block's list: its own record is the first
 module _ (p : Picture) (k r c κ : ℕ) {ks bs : List ℕ} {at n : ℕ} (s : ShowingBlock p (block_at k r c κ) ks bs at n) where
-  first : Showing (record_of κ (bits_of p k r c) ∷ (list_first p k r c κ).0) (κ + 5 ^ k) ks bs at n
-  first = rw (list_first p k r c κ).1 at s
+  first : Showing (record_of κ (bits_of p k r c) ∷ (list_head_first p k r c κ).0) (κ + 5 ^ k) ks bs at n
+  first = rw (list_head_first p k r c κ).1 at s
 
   pub shown_some : at < n
   shown_some = showing_some first

@@ -10,7 +10,7 @@ use Rattle.definitions.specs.Picture.{Picture}
 use Rattle.definitions.specs.List.{Record, keys_of, values_of, list_of}
 use Rattle.definitions.specs.Read.{paired}
 use Rattle.laws.proofs.Pixels.{Agree}
-use Rattle.laws.proofs.ListOf.{list_first, list_some, list_ascends, list_agree}
+use Rattle.laws.proofs.ListOf.{list_head_first, list_some, list_ascends, list_agree}
 use Rattle.laws.proofs.Records.{key_at, records_run, paired_keys, paired_values}
 use Rattle.list.specs.Sorted.{Ascends, Sorted}
 use Rattle.list.specs.Among.{place_among}
@@ -102,7 +102,7 @@ list_start p k r c κ {ks} {bs} {read} e =
     at_first = omega arith
 
     first : get_or (keys_of (list_of p k r c κ)) 0 0 ≡ κ
-    first = ap (λ l. get_or (keys_of l) 0 0) (list_first p k r c κ).1
+    first = ap (λ l. get_or (keys_of l) 0 0) (list_head_first p k r c κ).1
 
 -- such a block waits to be moved, and is moved
 module _ (t : Step) (p : Picture) (k r c κ : ℕ) {ks bs : List ℕ} {read write : ℕ} (g : Growing t p (block_at k r c κ) ks bs read write)

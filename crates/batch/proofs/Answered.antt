@@ -1,6 +1,6 @@
 -- What begins, runs over the questions and answers is the batch of specification S9: the answer and what the two slices hold afterwards. Rests on Fold and on
 -- laws' First and Buffer.
-use Prim.Native.Nat.{ℕ, zero, ◌+◌, ◌≤◌, min}
+use Prim.Native.Nat.{ℕ, ◌+◌, ◌≤◌, min}
 use mathlib.Core.Path.{◌≡◌, refl, sym, ap, subst, ◌∙◌}
 use mathlib.Core.List.{List, [], ◌∷◌, map}
 use native.Mathlib.Numerals.{add-one}

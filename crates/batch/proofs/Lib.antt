@@ -3,7 +3,4 @@ pub mod Beginning
 pub mod Replies
 pub mod Answered
 pub mod AskedAlone
-pub mod RunSlices
-pub mod StepCall
 pub mod RunTurns
-pub mod RunEntryExit

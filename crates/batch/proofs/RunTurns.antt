@@ -1,85 +1,47 @@
--- The turns of the loop in `run`, as numbers and lists: before a turn the state and the two answer lists are those of a batch over the first i questions,
--- and a step over the question at i makes them those of the next turn. Rests on Fold.
-use mathlib.Core.Path.{◌≡◌, refl, ap, ◌∙◌}
+-- The turns of the loop in `run`: before a turn the state and the two answer lists are those of a batch over the first i questions, and a step over the
+-- question at i makes them those of the next turn. Rests on Fold.
+use mathlib.Core.Path.{◌≡◌, ap, ◌∙◌}
 use Prim.Native.Nat.{ℕ, suc, ◌+◌, ◌-◌, ◌≤◌, ◌<◌}
 use native.Mathlib.Omega.{arith}
 use mathlib.Core.List.{List}
 use lib.ListN.{length, get_or, take}
-use denote.Laws.{Is}
 use Rattle.definitions.specs.declared.Question.{Question}
 use Rattle.laws.proofs.OneByOne.{no_question}
-use Rattle.batch.specs.Run.{Answering, answering_of, BatchReady, batch_step, batch_run}
-use Rattle.batch.specs.declared.begin.BatchState.{BatchState}
-use Rattle.batch.specs.contracts.begin.BatchState as BatchState
+use Rattle.batch.specs.Run.{Answering, BatchReady, batch_step, batch_run}
 use Rattle.batch.proofs.Fold.{run_none, run_next, run_all, ready_fewer, ready_step}
-use Rattle.batch.proofs.RunSlices.{BatchSlices, batch_state_vals, Result}
 
-module _ (S : BatchSlices) (questions : List Question) (start : BatchState) where
-  abbrev K : List ℕ
-  K = S.keys.x.now
+-- a turn, from the answers at entry to those before the question at i
+pub record Turn (keys bits : List ℕ) (questions : List Question) (entry p : Answering) (i : ℕ) : Type 0 where
+  pub small : i ≤ length questions
+  pub told : p ≡ batch_run keys bits (take i questions) entry
+  pub ready : BatchReady keys bits (length questions - i) p
 
-  abbrev B : List ℕ
-  B = S.bits.x.now
+module _ (keys bits : List ℕ) (questions : List Question) where
+  pub first_turn : (entry : Answering) → BatchReady keys bits (length questions) entry → Turn keys bits questions entry entry 0
+  first_turn entry ready =
+      record {
+        small = omega arith;
+        told = run_none keys bits questions entry;
+        ready = ready_fewer keys bits (length questions - 0) (length questions) entry (omega arith) ready;
+      }
 
-  -- the progress at entry, and the progress of a batch over some questions
-  abbrev pub entry : Answering
-  entry = answering_of start S.refusals.x.now S.values.x.now
+  module _ {entry p : Answering} {i : ℕ} (t : Turn keys bits questions entry p i) where
+    -- a question may come in a turn that is not the last
+    pub one_comes : i < length questions → BatchReady keys bits 1 p
+    one_comes more = ready_fewer keys bits 1 (length questions - i) p (omega arith) t.ready
 
-  abbrev pub ran : List Question → Answering
-  ran qs = batch_run K B qs entry
+    pub next_turn : (next : Answering) → i < length questions → next ≡ batch_step keys bits (get_or questions i no_question) p
+        → Turn keys bits questions entry next (i + 1)
+    next_turn next more e =
+        record {
+          small = omega arith;
+          told = run_next keys bits i questions entry p next more t.told e;
+          ready = ready_step keys bits (length questions - (i + 1)) (get_or questions i no_question) p next e
+              (ready_fewer keys bits (suc (length questions - (i + 1))) (length questions - i) p (omega arith) t.ready);
+        }
 
-  pub record Turn : Type 0 where
-    pub i : ℕ
-    pub small : i ≤ length questions
-    pub found : Result S (ran (take i questions))
-    pub ready : BatchReady K B (length questions - i) (answering_of found.result found.first found.second)
-
-  -- the question of a turn
-  abbrev pub question : Turn → Question
-  question t = get_or questions t.i no_question
-
-  abbrev pub Stepped : Turn → Type 0
-  Stepped t = Result S (batch_step K B (question t) (answering_of t.found.result t.found.first t.found.second))
-
-  abbrev pub first_turn : Is BatchState.the_row start (batch_state_vals start) → BatchReady K B (length questions) entry → Turn
-  first_turn fits ready = record {
-    i = 0;
-    small = omega arith;
-    found = record { result = start; first = S.refusals.x.now; second = S.values.x.now; told = run_none K B questions entry; first_length = refl; second_length = refl; fits = fits };
-    ready = ready_fewer K B (length questions - 0) (length questions) entry (omega arith) ready;
-  }
-
-  -- a question may come in a turn that is not the last
-  pub one_comes : (t : Turn) → t.i < length questions → BatchReady K B 1 (answering_of t.found.result t.found.first t.found.second)
-  one_comes t more = ready_fewer K B 1 (length questions - t.i) (answering_of t.found.result t.found.first t.found.second) (omega arith) t.ready
-
-  abbrev pub next_turn : (t : Turn) → t.i < length questions → Stepped t → Turn
-  next_turn t more x = record {
-    i = t.i + 1;
-    small = omega arith;
-    found = record {
-      result = x.result;
-      first = x.first;
-      second = x.second;
-      told = run_next K B t.i questions entry (answering_of t.found.result t.found.first t.found.second) (answering_of x.result x.first x.second) more t.found.told x.told;
-      first_length = x.first_length;
-      second_length = x.second_length;
-      fits = x.fits;
-    };
-    ready = ready_step K B (length questions - (t.i + 1)) (question t) (answering_of t.found.result t.found.first t.found.second) (answering_of x.result x.first x.second) x.told
-        (ready_fewer K B (suc (length questions - (t.i + 1))) (length questions - t.i) (answering_of t.found.result t.found.first t.found.second) (omega arith) t.ready);
-  }
-
-  -- the turns, in the order of what is left
-  pub left : Turn → ℕ
-  left t = length questions - t.i
-
-  pub nearer : (t : Turn) (more : t.i < length questions) (x : Stepped t) → left (next_turn t more x) < left t
-  unfolding left
-  nearer t more x = omega arith
-
-  -- after the last turn the batch is over all questions
-  pub all_ran : (t : Turn) → length questions ≤ t.i → answering_of t.found.result t.found.first t.found.second ≡ ran questions
-  all_ran t over =
-      let last : t.i ≡ length questions = omega (arith, t.small) in
-      t.found.told ∙ ap (λ j. ran (take j questions)) last ∙ run_all K B questions entry
+    -- after the last turn the batch is over all questions
+    pub all_ran : length questions ≤ i → p ≡ batch_run keys bits questions entry
+    all_ran over =
+        let last : i ≡ length questions = omega (arith, t.small) in
+        t.told ∙ ap (λ j. batch_run keys bits (take j questions) entry) last ∙ run_all keys bits questions entry

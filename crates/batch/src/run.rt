@@ -1,5 +1,4 @@
-// The loop over the lent questions. Each question is copied out and given to `step`, which has all the logic and is covered; the loop itself is walked by
-// hand.
+// The loop over the lent questions. Each question is copied out and given to `step`, which has all the logic.
 ghost use Rattle.std.specs.Prelude.{◌≡◌, length};
 ghost use Rattle.batch.specs.Run.{answering_of, BatchReady, batch_run};
 

@@ -48,8 +48,8 @@ three_equal a b c d t =
     (eqb-true a b (and_left (eqb a b) (eqb a c) u), eqb-true a c (and_right (eqb a b) (eqb a c) u), eqb-true a d (and_right (eqb a b && eqb a c) (eqb a d) t))
 
 -- four numbers equal another
-pub four_equal : (a b c d f : ℕ) → eqb a f && eqb b f && eqb c f && eqb d f ≡ true → (a ≡ f) × (b ≡ f) × (c ≡ f) × (d ≡ f)
-four_equal a b c d f t =
+pub all_four_equal : (a b c d f : ℕ) → eqb a f && eqb b f && eqb c f && eqb d f ≡ true → (a ≡ f) × (b ≡ f) × (c ≡ f) × (d ≡ f)
+all_four_equal a b c d f t =
     let u = and_left (eqb a f && eqb b f && eqb c f) (eqb d f) t in
     let v = and_left (eqb a f && eqb b f) (eqb c f) u in (
       eqb-true a f (and_left (eqb a f) (eqb b f) v),

@@ -67,5 +67,5 @@ square_pixels (suc k) =
     ap (λ x. x * x) (pow-suc 2 k) ∙ mul-mul-mul_comm (2 ^ k) 2 (2 ^ k) 2 ∙ ap (λ x. x * 4) (square_pixels k) ∙ sym (pow-suc 4 k)
 
 -- so a raster of that side has
-pub raster_pixels : {raster : List ℕ} {side h r c : ℕ} → Inside raster side h r c → side ≡ 2 ^ h → length raster ≡ 4 ^ h
-raster_pixels {h = h} b e = b.square ∙ ap (λ x. x * x) e ∙ square_pixels h
+pub inside_raster_pixels : {raster : List ℕ} {side h r c : ℕ} → Inside raster side h r c → side ≡ 2 ^ h → length raster ≡ 4 ^ h
+inside_raster_pixels {h = h} b e = b.square ∙ ap (λ x. x * x) e ∙ square_pixels h

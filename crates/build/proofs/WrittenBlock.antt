@@ -15,7 +15,7 @@ use Rattle.definitions.specs.Bits.{bits_of}
 use Rattle.definitions.specs.List.{Record, record_of, list_of}
 use Rattle.laws.proofs.Features.{one_under, one_pixel}
 use Rattle.laws.proofs.BitsOf.{bits_one}
-use Rattle.laws.proofs.ListOf.{list_leaf, list_node, list_one, list_first, length-node}
+use Rattle.laws.proofs.ListOf.{list_leaf, list_node, list_one, list_head_first, length-node}
 use Rattle.laws.proofs.FourLists.{same_lists}
 use Rattle.list.specs.Check.{one_slot}
 use Rattle.build.specs.BuildBlocks.{below, four_set, FourWritten, Written}
@@ -25,7 +25,7 @@ use Rattle.build.proofs.WriteBlock.{four_runs}
 
 -- a list is the block's own record and those below it
 pub own_first : (p : Picture) (k r c κ : ℕ) → list_of p k r c κ ≡ record_of κ (bits_of p k r c) ∷ below p k r c κ
-own_first p k r c κ = let e = (list_first p k r c κ).1 in e ∙ ap (λ l. record_of κ (bits_of p k r c) ∷ l) (sym (ap (drop 1) e))
+own_first p k r c κ = let e = (list_head_first p k r c κ).1 in e ∙ ap (λ l. record_of κ (bits_of p k r c) ∷ l) (sym (ap (drop 1) e))
 
 pub length-below : (p : Picture) (k r c κ : ℕ) → length (list_of p k r c κ) ≡ suc (length (below p k r c κ))
 length-below p k r c κ = ap length (own_first p k r c κ)
@@ -119,10 +119,10 @@ same_set : (l : List ℕ) (i₁ i₂ i₃ i₄ : ℕ) {w x y z w' x' y' z' : ℕ
 same_set l i₁ i₂ i₃ i₄ e₁ e₂ e₃ e₄ = cc
 
 -- the same block, its height known
-pub written_at : {p : Picture} {h h' r c κ place : ℕ} {keys bits keys' bits' : List ℕ} {b n : ℕ} → h ≡ h'
+pub block_written_at : {p : Picture} {h h' r c κ place : ℕ} {keys bits keys' bits' : List ℕ} {b n : ℕ} → h ≡ h'
     → Written p h r c κ place keys bits keys' bits' b n
     → Written p h' r c κ place keys bits keys' bits' b n
-written_at e w = rw e at w
+block_written_at e w = rw e at w
 
 -- and its key
 pub written_key : {p : Picture} {h r c κ κ' place : ℕ} {keys bits keys' bits' : List ℕ} {b n : ℕ} → κ ≡ κ'

@@ -54,13 +54,13 @@ pub same_length : {common : ℕ} (start : ℤ) (length side : ℕ) → SFits w32
 same_length start length side f e = e ∙ ap (λ z. overlap_length z length side) (to_z-of_z w32 start f)
 
 -- the four numbers of the overlap with a side that is the raster's where m is at most 10
-pub window_of : {m side first left high wide : ℕ} (row column : ℤ) (height width : ℕ) → (m ≤ 10 → side ≡ 2 ^ m) → first ≡ not_before row → left ≡ not_before column
+pub clipped_window_of : {m side first left high wide : ℕ} (row column : ℤ) (height width : ℕ) → (m ≤ 10 → side ≡ 2 ^ m) → first ≡ not_before row → left ≡ not_before column
     → high ≡ overlap_length row height side
     → wide ≡ overlap_length column width side
     → m ≤ 10
     → ◌≡◌ {A = Window} (record { row = first; column = left; height = high; width = wide }) (clipped_window m row column height width)
 unfolding overlap_window
-window_of row column height width is a b c d h =
+clipped_window_of row column height width is a b c d h =
     let up = c ∙ ap (overlap_length row height) (is h) in
     let across = d ∙ ap (overlap_length column width) (is h) in
     λ i. record { row = a i; column = b i; height = up i; width = across i }

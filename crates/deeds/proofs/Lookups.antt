@@ -25,7 +25,7 @@ use Rattle.definitions.specs.Standing.{place_of}
 use Rattle.definitions.specs.Log.{last_content}
 use Rattle.laws.proofs.Records.{paired_keys, paired_values, paired-length}
 use Rattle.laws.proofs.Features.{one_pixel}
-use Rattle.laws.proofs.ListOf.{list_first, length-several}
+use Rattle.laws.proofs.ListOf.{list_head_first, length-several}
 use Rattle.list.specs.Check.{one_slot}
 use Rattle.list.specs.Among.{place_among}
 use Rattle.list.proofs.Accepted.{content_list, keys_ascend}
@@ -122,7 +122,7 @@ module _ {m s : ℕ} {ks vs : List ℕ} {start end : ℕ} (x : Ends m s ks vs st
       let part : content_part last ks ≡ keys_of (last_content (records_of ks vs end))
       = ap (λ i. take i (drop last.start ks)) n ∙ sym (ap keys_of content_same ∙ paired_keys (take last.count (drop last.start ks)) (take last.count (drop last.start vs)) (km ∙ sym vm)) in
       let room : length (content_part last ks) ≡ last.count = ap (λ i. length (take i (drop last.start ks))) n ∙ km in
-      let first = ap (λ l. get_or (keys_of l) 0 0) (b.is ∙ (list_first (picture_of m (last_content (records_of ks vs end))) (height_of m last.key) (row_of m last.key) (column_of m last.key) last.key).1) in
+      let first = ap (λ l. get_or (keys_of l) 0 0) (b.is ∙ (list_head_first (picture_of m (last_content (records_of ks vs end))) (height_of m last.key) (row_of m last.key) (column_of m last.key) last.key).1) in
       record {
         in_keys = omega (arith, x.in_keys);
         in_values = omega (arith, x.in_values);
@@ -167,7 +167,7 @@ module _ {m s : ℕ} {ks vs : List ℕ} {start end : ℕ} (x : Ends m s ks vs st
       first_value : get_or vs last.start 0 ≡ bits_of (picture_of m content) k r c
       first_value =
           let held = last_held h in
-          sym (first_of held) ∙ ap (λ l. get_or (values_of l) 0 0) (own_list ∙ (list_first (picture_of m content) k r c κ).1)
+          sym (first_of held) ∙ ap (λ l. get_or (values_of l) 0 0) (own_list ∙ (list_head_first (picture_of m content) k r c κ).1)
 
       by_whole : Met t ks vs (block_at k r c κ) (whole_of vs last)
       unfolding whole_of

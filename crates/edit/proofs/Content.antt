@@ -17,7 +17,7 @@ use Rattle.replace.specs.Family.{block_bits}
 use Rattle.edit.specs.Content.{content_in}
 use Rattle.replace.proofs.Way.{Way, way_of, under_of}
 use Rattle.replace.proofs.Context.{before_hole, after_hole, Open, spliced, context}
-use Rattle.replace.proofs.Standing.{LeafAround, ListedOrInside, listed, inside, stands, place_listed, is-listed, part_listed, not_listed, part_inside, bits_at}
+use Rattle.replace.proofs.Standing.{LeafAround, ListedOrInside, listed, inside, stands, place_listed, is-listed, part_listed, not_listed, part_inside, standing_bits}
 use Rattle.replace.proofs.Choice.{list_bits}
 
 -- the records between two lists
@@ -36,7 +36,7 @@ module _ (p : Picture) {m k r c κ : ℕ} (w : Way m 0 0 0 k r c κ) where
   unfolding content_in
   content_inside x =
       ap (λ t. cond t (take (part_length m κ (list_of p m 0 0 0)) (drop (place_of κ (list_of p m 0 0 0)) (list_of p m 0 0 0))) (record_of κ (block_bits κ (list_of p m 0 0 0)) ∷ [])) (not_listed p x)
-      ∙ ap (λ b. record_of κ b ∷ []) (bits_at p w)
+      ∙ ap (λ b. record_of κ b ∷ []) (standing_bits p w)
       ∙ sym (list_bits p k r c κ (one_under p (under_of x.under) x.one))
 
   content_at : ListedOrInside p w → content_in m (list_of p m 0 0 0) κ ≡ list_of p k r c κ

@@ -14,7 +14,7 @@ use Rattle.keys.proofs.Cases.{split, and_left, and_right, and_both}
 use Rattle.definitions.specs.List.{Record, list_of}
 use Rattle.definitions.specs.File.{first_slots, bit_bytes}
 use Rattle.definitions.specs.Read.{room, records_of, is_list_of_block, is_list}
-use Rattle.laws.proofs.Ascending.{key_below}
+use Rattle.laws.proofs.Ascending.{member_below}
 use Rattle.laws.proofs.BitsOf.{bits_below}
 use Rattle.laws.proofs.Features.{below_under}
 use Rattle.laws.proofs.ListOf.{list_ascends, list_most}
@@ -53,7 +53,7 @@ module _ (m s : ℕ) (good : GoodSettings m s) (l : List Record) (is : is_list_o
   -- every key is below 5 ^ 10, and every bitstring below 2 ^ s
   each : (x : Record) → Memᴰ x (list_of shown.picture m 0 0 root_key) → (x.key < 256 ^ 4) × (x.value < 256 ^ bit_bytes s)
   each x h =
-      let key = key_below (list_ascends shown.picture m 0 0 root_key) h in
+      let key = member_below (list_ascends shown.picture m 0 0 root_key) h in
       let most : 5 ^ m ≤ 5 ^ 10 = pow-le-pow_right (lit< tt) good.deep in
       let at = listed_to shown.picture m 0 0 root_key x h in
       let value = bits_below s shown.picture at.height at.row at.column (below_under s shown.picture (listed_under at.listed) shown.below) in

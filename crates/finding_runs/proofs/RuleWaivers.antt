@@ -1,5 +1,5 @@
 -- The waivers of one rule stand together: those below its id are the first ones, and the rule's own follow, with keys that ascend. So a finding of the
--- rule is hidden exactly where that part of the keys covers its block. Rests on FindingOrder, WaiverOrder, KnownIds, Hidden and the merge (`finding`).
+-- rule is hidden exactly where that part of the keys covers its block. Rests on FindingOrder, WaiverOrder, KnownIds, HiddenFindings and the merge (`finding`).
 use Prim.Native.Nat.{ℕ, zero, suc, ◌+◌, ◌-◌, ◌≤◌, ◌<◌}
 use mathlib.Core.Path.{◌≡◌, refl, sym, ap, ap₂, ◌∙◌}
 use mathlib.Core.Bool.{true}

@@ -11,18 +11,18 @@ use Rattle.finding_runs.proofs.Fold.{no_rule, run_none, run_next, run_all}
 use Rattle.finding_runs.proofs.TableRuns.{table_ready_step}
 
 -- a turn, from the progress at entry to the one before the rule at i
-pub record Turn (keys bits waiver_ids waiver_keys : List ℕ) (rules : List Rule) (entry p : Progress) (i : ℕ) : Type 0 where
+pub record RunTurn (keys bits waiver_ids waiver_keys : List ℕ) (rules : List Rule) (entry p : Progress) (i : ℕ) : Type 0 where
   pub small : i ≤ length rules
   pub found : p ≡ table_run keys bits waiver_ids waiver_keys (take i rules) entry
   pub ready : TableReady keys bits waiver_ids waiver_keys p
 
 module _ (keys bits waiver_ids waiver_keys : List ℕ) (rules : List Rule) where
-  pub first_turn : (entry : Progress) → TableReady keys bits waiver_ids waiver_keys entry → Turn keys bits waiver_ids waiver_keys rules entry entry 0
+  pub first_turn : (entry : Progress) → TableReady keys bits waiver_ids waiver_keys entry → RunTurn keys bits waiver_ids waiver_keys rules entry entry 0
   first_turn entry ready = record { small = omega arith; found = run_none keys bits waiver_ids waiver_keys rules entry; ready = ready }
 
-  module _ {entry p : Progress} {i : ℕ} (t : Turn keys bits waiver_ids waiver_keys rules entry p i) where
+  module _ {entry p : Progress} {i : ℕ} (t : RunTurn keys bits waiver_ids waiver_keys rules entry p i) where
     pub next_turn : (next : Progress) → i < length rules → next ≡ table_step keys bits waiver_ids waiver_keys (get_or rules i no_rule) p
-        → Turn keys bits waiver_ids waiver_keys rules entry next (i + 1)
+        → RunTurn keys bits waiver_ids waiver_keys rules entry next (i + 1)
     next_turn next more e =
         record {
           small = omega arith;

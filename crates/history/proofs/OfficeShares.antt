@@ -12,7 +12,7 @@ use Rattle.keys.specs.Key.{valid_key}
 use Rattle.keys.proofs.Cases.{decide, split, equal, and_left, and_right, and_both}
 use Rattle.definitions.specs.Rules.{Finding, comes_before}
 use Rattle.definitions.specs.Offices.{Waiver, waived_by, bad_office, rows_of, row_before, rows_ascend, offices_known, row_keys_valid, same_row, is_row, added, removed}
-use Rattle.laws.proofs.RowOrder.{RowsAfter, no_row, next_row, ascend_after, ascend_rows, same_numbers}
+use Rattle.laws.proofs.RowOrder.{RowsAfter, no_row, next_row, ascend_after, ascend_rows, same_row_numbers}
 use Rattle.laws.proofs.Shares.{share_own, share_other, share_none}
 
 -- ---- a share by itself
@@ -172,7 +172,7 @@ pub share_removed_other : (office : ℕ) (w : Waiver) (t : List Waiver) → (w.o
 share_removed_other office w [] h = ap (rows_of office) (less_none w)
 share_removed_other office w (x ∷ t) h =
     decide (same_row x w)
-    (λ b. ap (rows_of office) (less_here w x t b) ∙ sym (share_other office x t (λ e. h (sym (same_numbers x w b).0 ∙ e))))
+    (λ b. ap (rows_of office) (less_here w x t b) ∙ sym (share_other office x t (λ e. h (sym (same_row_numbers x w b).0 ∙ e))))
     (λ b.
     ap (rows_of office) (less_later w x t b)
     ∙ equal x.office office

@@ -111,13 +111,13 @@ pub data ChildOf (k r c κ d : ℕ) : Type 0 where
   is_child : {r' c' : ℕ} → Quadrant k r c κ r' c' (child_key κ k d) → ChildOf k r c κ d
 
 -- each digit from 1 to 4 is
-pub child_of : (k r c κ d : ℕ) → 1 ≤ d → d ≤ 4 → ChildOf k r c κ d
-child_of k r c κ zero least most = absurd (omega arith)
-child_of k r c κ (suc zero) least most = is_child is_nw
-child_of k r c κ (suc (suc zero)) least most = is_child is_ne
-child_of k r c κ (suc (suc (suc zero))) least most = is_child is_sw
-child_of k r c κ (suc (suc (suc (suc zero)))) least most = is_child is_se
-child_of k r c κ (suc (suc (suc (suc (suc d))))) least most = absurd (omega arith)
+pub some_child_of : (k r c κ d : ℕ) → 1 ≤ d → d ≤ 4 → ChildOf k r c κ d
+some_child_of k r c κ zero least most = absurd (omega arith)
+some_child_of k r c κ (suc zero) least most = is_child is_nw
+some_child_of k r c κ (suc (suc zero)) least most = is_child is_ne
+some_child_of k r c κ (suc (suc (suc zero))) least most = is_child is_sw
+some_child_of k r c κ (suc (suc (suc (suc zero)))) least most = is_child is_se
+some_child_of k r c κ (suc (suc (suc (suc (suc d))))) least most = absurd (omega arith)
 
 from_child : {m k r c κ d : ℕ} → MapBlock m (suc k) r c κ → ChildOf k r c κ d → (valid_key m (child_key κ k d) ≡ true) × (parent_key m (child_key κ k d) ≡ κ)
 from_child b (is_child q) = ((block_valid (quadrant_of b q)).valid, parent-key b q)
@@ -128,7 +128,7 @@ pub child_valid : {m k r c κ : ℕ} (d : ℕ)
     → 1 ≤ d
     → d ≤ 4
     → (valid_key m (child_key κ k d) ≡ true) × (parent_key m (child_key κ k d) ≡ κ)
-child_valid {k} {r} {c} {κ} d b least most = from_child b (child_of k r c κ d least most)
+child_valid {k} {r} {c} {κ} d b least most = from_child b (some_child_of k r c κ d least most)
 
 -- as the code has them, by the step: what the digit of a block is worth in its key
 pub child_by_step : (κ k digit : ℕ) → κ + digit * 5 ^ k ≡ child_key κ k digit

@@ -51,10 +51,10 @@ key_from (next {e = e} h a) (Memᴰ.head i) = let j = ap (λ y. y.key) i in omeg
 key_from (next h a) (Memᴰ.tail m) = let j = key_from a m in omega arith
 
 -- and below the upper
-pub key_below : {lo hi : ℕ} {l : List Record} {x : Record} → Ascending lo hi l → Memᴰ x l → x.key < hi
-key_below (none h) m = elim m [ ]
-key_below (next {e = e} h a) (Memᴰ.head i) = let j = ap (λ y. y.key) i in let b = ascending_bounds a in omega arith
-key_below (next h a) (Memᴰ.tail m) = key_below a m
+pub member_below : {lo hi : ℕ} {l : List Record} {x : Record} → Ascending lo hi l → Memᴰ x l → x.key < hi
+member_below (none h) m = elim m [ ]
+member_below (next {e = e} h a) (Memᴰ.head i) = let j = ap (λ y. y.key) i in let b = ascending_bounds a in omega arith
+member_below (next h a) (Memᴰ.tail m) = member_below a m
 
 -- no two records have the same key
 pub same_key_record : {lo hi : ℕ} {l : List Record} {x y : Record} → Ascending lo hi l → Memᴰ x l → Memᴰ y l → x.key ≡ y.key → x ≡ y

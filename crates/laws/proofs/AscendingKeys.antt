@@ -50,8 +50,8 @@ ascending_places (key e t) (suc i) zero h room = absurd (omega arith)
 ascending_places (key e t) (suc i) (suc j) h room = ascending_places t i j (le_of_suc-le-suc h) (le_of_suc-le-suc room)
 
 -- each key stands once
-pub each_once : {lo hi : ℕ} {l : List ℕ} → AscendingKeys lo hi l → (i j : ℕ) → i < length l → j < length l → get_or l i 0 ≡ get_or l j 0 → i ≡ j
-each_once t i j hi hj e =
+pub ascending_once : {lo hi : ℕ} {l : List ℕ} → AscendingKeys lo hi l → (i j : ℕ) → i < length l → j < length l → get_or l i 0 ≡ get_or l j 0 → i ≡ j
+ascending_once t i j hi hj e =
     split i j (λ below. absurd (let h = ascending_places t i j below hj in omega arith))
     (λ le. split j i (λ below. absurd (let h = ascending_places t j i below hi in omega arith)) (λ ge. omega arith))
 

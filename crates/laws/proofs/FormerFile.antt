@@ -82,10 +82,10 @@ pub second_file_refused : (m s : ℕ) (l : List Record) (keys bits : List ℕ) �
 second_file_refused m s l keys bits many =
     second_refused (file_of m s l) keys bits (written_not_short m s l) (written_mark m s l) (read_version m s l ∙ (second_version s many).0)
 
-pub same_records : (n : ℕ) (bytes : List ℕ) → read_records 2 n bytes ≡ former_records n bytes
+pub former_same_records : (n : ℕ) (bytes : List ℕ) → read_records 2 n bytes ≡ former_records n bytes
 unfolding read_records former_records
-same_records zero bytes = refl
-same_records (suc n) bytes = ap (λ l. record_of (number_at 0 4 bytes) (number_at 4 2 bytes) ∷ l) (same_records n (drop 6 bytes))
+former_same_records zero bytes = refl
+former_same_records (suc n) bytes = ap (λ l. record_of (number_at 0 4 bytes) (number_at 4 2 bytes) ∷ l) (former_same_records n (drop 6 bytes))
 
 -- a smaller limit swallows a larger one
 swallows : (a b c d : Bool) → (c ≡ true → d ≡ true) → (a || (b || c)) || d ≡ a || (b || d)
@@ -132,7 +132,7 @@ module _ (file keys bits : List ℕ) where
       ∷ ltb (room keys bits) (n_in file) gives 9
       ∷ []))
       two
-      (ap (λ w. read_records w (n_in file) (drop 11 file)) two ∙ same_records (n_in file) (drop 11 file))
+      (ap (λ w. read_records w (n_in file) (drop 11 file)) two ∙ former_same_records (n_in file) (drop 11 file))
 
   -- a file that is not of version 2 is judged as it was
   pub former_judged : (version_in file ≡ 2 → ⊥) → load_refusal file keys bits ≡ former_refusal file keys bits

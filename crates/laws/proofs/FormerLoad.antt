@@ -15,7 +15,7 @@ use Rattle.definitions.specs.File.{read_records, records_in_file, m_in, s_in, n_
 use Rattle.definitions.specs.Calls.Load.{load, load_keys, load_bits}
 use Rattle.definitions.specs.declared.Loaded.{Loaded}
 use Rattle.laws.proofs.First.{first_none, accepted_done, accepted_left}
-use Rattle.laws.proofs.FormerFile.{former_records, former_last, former_refusal, former_judged, same_records}
+use Rattle.laws.proofs.FormerFile.{former_records, former_last, former_refusal, former_judged, former_same_records}
 use Rattle.laws.proofs.FileOf.{first_version}
 
 module _ (file keys bits : List ℕ) where
@@ -49,7 +49,7 @@ module _ (file keys bits : List ℕ) where
   -- so its records are read as they were
   records_were : former_refusal file keys bits ≡ 0 → records_in_file file ≡ former_list
   unfolding records_in_file
-  records_were e = ap (λ width. read_records width (n_in file) (drop 11 file)) (first_version (s_in file) (few_slots e)).1 ∙ same_records (n_in file) (drop 11 file)
+  records_were e = ap (λ width. read_records width (n_in file) (drop 11 file)) (first_version (s_in file) (few_slots e)).1 ∙ former_same_records (n_in file) (drop 11 file)
 
   -- a slice into which the records' numbers go is left as it was
   slice_was : (numbers : List Record → List ℕ) (slice : List ℕ)

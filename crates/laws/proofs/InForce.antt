@@ -12,7 +12,7 @@ use lib.Seq.{take-append-le, drop-append-le, take-length, drop-length, length-ta
 use Rattle.keys.proofs.Cases.{equal}
 use Rattle.definitions.specs.List.{Record}
 use Rattle.definitions.specs.Log.{group_mark, before_step, is_sound}
-use Rattle.laws.proofs.LastStep.{IsStep, LastStep, last_step, step_before}
+use Rattle.laws.proofs.LastStep.{IsStep, LastStep, last_step_means, step_before}
 use Rattle.laws.proofs.SoundLog.{Steps, none, more, sound_steps, sound_exactly, sound_with, sound_last, sound_before, empty_sound}
 
 -- steps and then steps are steps
@@ -88,7 +88,7 @@ module _ {m s : ℕ} (few : s ≤ group_mark) where
       let rest : List Record = drop k (log ++ step) in
       let size = length-drop k (log ++ step) in
       let some : 0 < length rest = omega arith in
-      let alike = read_alike log step is k (last_step m s rest (sound_last m s rest both.1 some)) in
+      let alike = read_alike log step is k (last_step_means m s rest (sound_last m s rest both.1 some)) in
       let first = length-take-le k (log ++ step) inside in
       let sum = ap length alike ∙ length-append (take k (log ++ step)) (before_step rest) in
       let low : k ≤ length log = omega arith in

@@ -242,8 +242,8 @@ last_is_single m s log mark h =
     }
 
 -- a log that passes the test ends in a step
-pub last_step : (m s : ℕ) (log : List Record) → last_is_step m s log ≡ true → LastStep m s log
-last_step m s log ok =
+pub last_step_means : (m s : ℕ) (log : List Record) → last_is_step m s log ≡ true → LastStep m s log
+last_step_means m s log ok =
     decide (ends_in_mark log)
     (λ mark. last-is-group m s log mark (ends_in_group m s log mark ok))
     (λ mark. last_is_single m s log mark (ends_in_entry m s log (sym (step_single log mark m s) ∙ ok)))

@@ -44,9 +44,9 @@ list_one p zero r c κ e = list_zero p r c κ
 list_one p (suc k) r c κ e = list_leaf p k r c κ e ∙ ap (λ b. record_of κ b ∷ []) (bits_one p (suc k) r c e)
 
 -- the first record of a list is the block's own
-pub list_first : (p : Picture) (k r c κ : ℕ) → (l : List Record) × (list_of p k r c κ ≡ record_of κ (bits_of p k r c) ∷ l)
-list_first p zero r c κ = ([], list_zero p r c κ ∙ ap (λ b. record_of κ b ∷ []) (sym (bits_zero p r c)))
-list_first p (suc k) r c κ = decide (one_feature p (suc k) r c) (λ e. (_, list_leaf p k r c κ e)) (λ e. (_, list_node p k r c κ e))
+pub list_head_first : (p : Picture) (k r c κ : ℕ) → (l : List Record) × (list_of p k r c κ ≡ record_of κ (bits_of p k r c) ∷ l)
+list_head_first p zero r c κ = ([], list_zero p r c κ ∙ ap (λ b. record_of κ b ∷ []) (sym (bits_zero p r c)))
+list_head_first p (suc k) r c κ = decide (one_feature p (suc k) r c) (λ e. (_, list_leaf p k r c κ e)) (λ e. (_, list_node p k r c κ e))
 
 -- the keys of a block's list ascend strictly in the block's interval
 pub list_ascends : (p : Picture) (k r c κ : ℕ) → Ascending κ (κ + 5 ^ k) (list_of p k r c κ)
@@ -85,7 +85,7 @@ list_agree p q (suc k) r c κ h =
 
 -- a list has at least one record
 pub list_some : (p : Picture) (k r c κ : ℕ) → 1 ≤ length (list_of p k r c κ)
-list_some p k r c κ = let h = ap length (list_first p k r c κ).1 in omega arith
+list_some p k r c κ = let h = ap length (list_head_first p k r c κ).1 in omega arith
 
 -- a node has its own record and those of its quadrants
 pub length-node : (p : Picture) (k r c κ : ℕ) → one_feature p (suc k) r c ≡ false → length (list_of p (suc k) r c κ)

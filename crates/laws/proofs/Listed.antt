@@ -15,7 +15,7 @@ use Rattle.definitions.specs.Bits.{bits_of}
 use Rattle.definitions.specs.List.{Record, record_of, list_of}
 use Rattle.laws.proofs.Features.{several_above}
 use Rattle.laws.proofs.BitsOf.{bits_zero}
-use Rattle.laws.proofs.ListOf.{list_zero, list_leaf, list_node, list_first}
+use Rattle.laws.proofs.ListOf.{list_zero, list_leaf, list_node, list_head_first}
 
 -- of the blocks at or under (k r c κ), those that are it or whose parent has more than one feature
 pub data Listed (p : Picture) : ℕ → ℕ → ℕ → ℕ → ℕ → ℕ → ℕ → ℕ → Type 0 where
@@ -127,7 +127,7 @@ listed_part p (child u q e) m = several_part p u e (quadrant_part p e q m)
 
 -- a block's own record is in its list
 pub own_record : (p : Picture) (k r c κ : ℕ) → Memᴰ (record_of κ (bits_of p k r c)) (list_of p k r c κ)
-own_record p k r c κ = rw (list_first p k r c κ).1 (Memᴰ.head refl)
+own_record p k r c κ = rw (list_head_first p k r c κ).1 (Memᴰ.head refl)
 
 -- the record of every listed block is in the list
 pub listed_from : (p : Picture) (k r c κ : ℕ) (x : Record) → ListedRecord p k r c κ x → Memᴰ x (list_of p k r c κ)

@@ -1,5 +1,5 @@
 -- Waivers and paints: a waiver stays with its rule and its pixels, never with a place in the list, whatever the picture was before; and the call's
--- answer is exactly the live findings, with counts that make up all. Rests on Hidden and Waivers.
+-- answer is exactly the live findings, with counts that make up all. Rests on HiddenFindings and Waivers.
 use Prim.Native.Nat.{ℕ, ◌+◌}
 use mathlib.Core.Path.{◌≡◌, refl, ap, ap₂, ◌∙◌}
 use mathlib.Core.Logic.{◌↔◌}

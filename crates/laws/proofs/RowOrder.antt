@@ -46,8 +46,8 @@ before_on {a} {b} {c} f g =
     record { offices = omega arith; own = λ same. earlier_on (waived_by a) (waived_by b) (waived_by c) (f.own (omega arith)) (g.own (omega arith)) }
 
 -- ---- the same row
-pub same_numbers : (a b : Waiver) → same_row a b ≡ true → (a.office ≡ b.office) × (a.id ≡ b.id) × (a.key ≡ b.key)
-same_numbers a b e =
+pub same_row_numbers : (a b : Waiver) → same_row a b ≡ true → (a.office ≡ b.office) × (a.id ≡ b.id) × (a.key ≡ b.key)
+same_row_numbers a b e =
     let rest = and_right (eqb a.office b.office) (eqb a.id b.id && eqb a.key b.key) e in (
       eqb-true a.office b.office (and_left (eqb a.office b.office) (eqb a.id b.id && eqb a.key b.key) e),
       eqb-true a.id b.id (and_left (eqb a.id b.id) (eqb a.key b.key) rest),
@@ -66,11 +66,11 @@ not_true_false false h = refl
 -- none comes before the same row, whichever is named first
 pub before_other : (a b : Waiver) → RowBefore a b → same_row a b ≡ false
 before_other a b h = not_true_false (same_row a b) (λ e.
-    let same = same_numbers a b e in let low = (h.own same.0).keys same.1 in let keys = same.2 in omega arith)
+    let same = same_row_numbers a b e in let low = (h.own same.0).keys same.1 in let keys = same.2 in omega arith)
 
 pub after_other : (a b : Waiver) → RowBefore a b → same_row b a ≡ false
 after_other a b h = not_true_false (same_row b a) (λ e.
-    let same = same_numbers b a e in let low = (h.own (sym same.0)).keys (sym same.1) in let keys = same.2 in omega arith)
+    let same = same_row_numbers b a e in let low = (h.own (sym same.0)).keys (sym same.1) in let keys = same.2 in omega arith)
 
 -- of two rows that are not the same one comes before the other
 pub before_or_after : (a b : Waiver) → row_before a b ≡ false → same_row a b ≡ false → RowBefore b a

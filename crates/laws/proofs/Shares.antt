@@ -89,9 +89,9 @@ pub record Sound (t : List Waiver) : Type 0 where
   pub zero : length (rows_of 0 t) ≤ 256
   pub one : length (rows_of 1 t) ≤ 256
 
-pub is_sound : (t : List Waiver) → is_sound_table t ≡ true → Sound t
+pub sound_by_test : (t : List Waiver) → is_sound_table t ≡ true → Sound t
 unfolding is_sound_table
-is_sound t e =
+sound_by_test t e =
     let few0 = leb (length (rows_of 0 t)) office_limit in
     let few1 = leb (length (rows_of 1 t)) office_limit in
     let rest = and_right (rows_ascend t) (offices_known t && (few0 && few1)) e in

@@ -13,7 +13,7 @@ use Rattle.keys.proofs.Cases.{split, and_left, and_right, and_both}
 use Rattle.definitions.specs.List.{Record}
 use Rattle.definitions.specs.Log.{group_mark, ends_in_mark, before_step, last_is_step, divides_in, is_sound, EndsInEntry}
 use Rattle.laws.proofs.LogEntries.{ends_in_entry}
-use Rattle.laws.proofs.LastStep.{IsStep, last_step, step_single, step_some, step_ends, step_before, before_step_less}
+use Rattle.laws.proofs.LastStep.{IsStep, last_step_means, step_single, step_some, step_ends, step_before, before_step_less}
 
 -- the records are steps, one after the other
 pub data Steps (m s : ℕ) : List Record → Type 0 where
@@ -59,7 +59,7 @@ divides_steps (suc turns) m s log e =
     split 0 (length log)
     (λ some.
     let both : (last_is_step m s log && divides_in turns m s (before_step log)) ≡ true = sym (divides_step turns m s log some) ∙ e in
-    let last = last_step m s log (and_left (last_is_step m s log) _ both) in
+    let last = last_step_means m s log (and_left (last_is_step m s log) _ both) in
     subst (λ l. Steps m s l) (sym last.log_is)
     (more (divides_steps turns m s (before_step log) (and_right (last_is_step m s log) _ both)) last.is))
     (λ empty. no_records m s log (omega arith))

@@ -15,9 +15,9 @@ unfolding value_at
 value-at x v e l h = rw (le-leb e.key x h)
 
 -- a record after the key does not
-pub value_after : (x v : ℕ) (e : Record) (l : List Record) → x < e.key → value_at x v (e ∷ l) ≡ value_at x v l
+pub value_after_key : (x v : ℕ) (e : Record) (l : List Record) → x < e.key → value_at x v (e ∷ l) ≡ value_at x v l
 unfolding value_at
-value_after x v e l h = rw (lt-leb e.key x h)
+value_after_key x v e l h = rw (lt-leb e.key x h)
 
 -- no record
 pub value_none : (x v : ℕ) → value_at x v [] ≡ v
@@ -33,7 +33,7 @@ value-append x v (e ∷ l) l' = value-append x (cond (leb e.key x) e.value v) l 
 -- where every key is above, nothing is found
 pub value_above : {lo hi : ℕ} {l : List Record} (x v : ℕ) → x < lo → Ascending lo hi l → value_at x v l ≡ v
 value_above x v h (none j) = value_none x v
-value_above x v h (next {e = e} {l = l} j a) = value_after x v e l (omega arith) ∙ value_above x v (omega arith) a
+value_above x v h (next {e = e} {l = l} j a) = value_after_key x v e l (omega arith) ∙ value_above x v (omega arith) a
 
 -- whatever was found before, the list gives y at the key x
 abbrev pub Reads : ℕ → List Record → ℕ → Type 0

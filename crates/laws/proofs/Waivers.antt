@@ -1,4 +1,4 @@
--- The live findings: those that waivers do not hide, in their order, and the hidden ones counted (specification S13.10 to S13.13). Rests on Hidden.
+-- The live findings: those that waivers do not hide, in their order, and the hidden ones counted (specification S13.10 to S13.13). Rests on HiddenFindings.
 use Prim.Native.Nat.{ℕ, ◌+◌}
 use mathlib.Core.Path.{◌≡◌, refl, sym, ap, ◌∙◌}
 use mathlib.Core.Logic.{◌↔◌, ⊎_elim}

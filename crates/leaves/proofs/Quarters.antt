@@ -82,9 +82,9 @@ module _ (keys : List ℕ) (k key step at second third fourth : ℕ) (g : step �
   }
 
 -- a block of more than one key has quadrants
-pub some_below : (k : ℕ) {step : ℕ} → step ≡ 5 ^ k → (step ≡ 1 → ⊥) → k ≡ suc (k - 1)
-some_below zero e n = absurd (n e)
-some_below (suc k) e n = omega arith
+pub height_some_below : (k : ℕ) {step : ℕ} → step ≡ 5 ^ k → (step ≡ 1 → ⊥) → k ≡ suc (k - 1)
+height_some_below zero e n = absurd (n e)
+height_some_below (suc k) e n = omega arith
 
 -- the keys of a block of 2 by 2 pixels
 pub quad_keys : (span : KeySpan) → span.step ≡ 5 → span ≡ quad_span span.key
@@ -92,7 +92,7 @@ quad_keys span e = ap (λ x. record { key = span.key; step = x }) e
 
 module _ {keys features : List ℕ} {span : KeySpan} (a : LeavesAsked keys features span) (high : span.step ≡ 1 → ⊥) where
   pub one_higher : a.height ≡ suc (a.height - 1)
-  one_higher = some_below a.height a.step_is high
+  one_higher = height_some_below a.height a.step_is high
 
   pub step_below : span.step / 5 ≡ 5 ^ (a.height - 1)
   step_below = fifth_of (a.height - 1) (a.step_is ∙ ap (λ x. 5 ^ x) one_higher)

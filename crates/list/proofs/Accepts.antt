@@ -18,7 +18,7 @@ use Rattle.definitions.specs.List.{Record, record_of, list_of}
 use Rattle.definitions.specs.Read.{is_list_of_block}
 use Rattle.definitions.specs.Log.{is_content}
 use Rattle.laws.proofs.BitsOf.{bits_below, below_bits}
-use Rattle.laws.proofs.ListOf.{list_first}
+use Rattle.laws.proofs.ListOf.{list_head_first}
 use Rattle.laws.proofs.ReadBack.{KeysFrom}
 use Rattle.laws.proofs.IsList.{ShowsBlock, block_list_to, block_list_from}
 use Rattle.list.specs.Check.{Outcome, wrong, left, after_own, after_node}
@@ -63,7 +63,7 @@ accepts_to s k r c κ (x ∷ l) e =
 pub accepts_from : (s k r c κ : ℕ) (l : List Record) → ShowsBlock s k r c κ l → accepts s k κ l ≡ true
 unfolding accepts accepts_whole
 accepts_from s k r c κ l x =
-    let first = list_first x.picture k r c κ in
+    let first = list_head_first x.picture k r c κ in
     let b = bits_of x.picture k r c in
     let end : after_own (after_node k) κ b first.0 ≡ left [] =
     ap (after_own (after_node k) κ b) (sym (append-nil first.0)) ∙ complete x.picture k r c κ first.0 [] first.1 in
@@ -80,10 +80,10 @@ accepts_means m s k r c κ l keys =
     (λ e. block_list_from m s k r c κ l keys (accepts_to s k r c κ l e))
 
 -- a valid key's block has its pixels' keys from its own on
-pub valid_keys : (m κ : ℕ) → valid_key m κ ≡ true → KeysFrom m (height_of m κ) (row_of m κ) (column_of m κ) κ
-valid_keys m κ valid r c h j = pixel_in_block r c (valid_block m κ valid) h j
+pub valid_keys_from : (m κ : ℕ) → valid_key m κ ≡ true → KeysFrom m (height_of m κ) (row_of m κ) (column_of m κ) κ
+valid_keys_from m κ valid r c h j = pixel_in_block r c (valid_block m κ valid) h j
 
 -- and of the list of the block with a valid key
 pub accepts_content : (m s κ : ℕ) (l : List Record) → valid_key m κ ≡ true → is_content m s κ l ≡ accepts s (height_of m κ) κ l
 unfolding is_content
-accepts_content m s κ l valid = accepts_means m s (height_of m κ) (row_of m κ) (column_of m κ) κ l (valid_keys m κ valid)
+accepts_content m s κ l valid = accepts_means m s (height_of m κ) (row_of m κ) (column_of m κ) κ l (valid_keys_from m κ valid)

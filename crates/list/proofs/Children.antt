@@ -205,6 +205,6 @@ children_four node κ step own l rest e = from_nw (children_to node κ step own 
         from_ne nw.bits nw.below nw.after nw.is nw.passes (children_to node κ step own 2 (bit_or 0 nw.bits) nw.after rest nw.goes_on)
 
 -- four lists and what follows them
-pub four_lists : (a b c d rest : List Record) → (a ++ (b ++ (c ++ d))) ++ rest ≡ a ++ (b ++ (c ++ (d ++ rest)))
-four_lists a b c d rest =
+pub four_lists_joined : (a b c d rest : List Record) → (a ++ (b ++ (c ++ d))) ++ rest ≡ a ++ (b ++ (c ++ (d ++ rest)))
+four_lists_joined a b c d rest =
     append_assoc a (b ++ (c ++ d)) rest ∙ ap (λ l. a ++ l) (append_assoc b (c ++ d) rest ∙ ap (λ l. b ++ l) (append_assoc c d rest))

@@ -12,10 +12,10 @@ use Rattle.definitions.specs.Bits.{bits_of}
 use Rattle.definitions.specs.List.{Record, record_of, list_of}
 use Rattle.laws.proofs.Features.{one_pixel}
 use Rattle.laws.proofs.BitsOf.{bits_suc}
-use Rattle.laws.proofs.ListOf.{list_one, list_node, list_first}
+use Rattle.laws.proofs.ListOf.{list_one, list_node, list_head_first}
 use Rattle.list.specs.Check.{wrong, left, after_own, after_children, after_node}
 use Rattle.list.proofs.OneSlot.{slot_feature}
-use Rattle.list.proofs.Children.{own_leaf, own_node, node_suc, children_none, children_from, union_in_turn, four_lists}
+use Rattle.list.proofs.Children.{own_leaf, own_node, node_suc, children_none, children_from, union_in_turn, four_lists_joined}
 
 -- a list of the block passes, whatever follows it
 abbrev Passes : Picture → ℕ → ℕ → ℕ → ℕ → Type 0
@@ -33,7 +33,7 @@ leaf_passes p k r c κ one below rest e =
 quadrant_passes : (p : Picture) (k r c κ own j union : ℕ) (κ₁ : ℕ) (rest : List Record) → κ₁ ≡ κ + (5 - suc j) * 5 ^ k → Passes p k r c κ₁
     → after_children (after_node k) κ (5 ^ k) own (suc j) union (list_of p k r c κ₁ ++ rest) ≡ after_children (after_node k) κ (5 ^ k) own j (bit_or union (bits_of p k r c)) rest
 quadrant_passes p k r c κ own j union κ₁ rest key passes =
-    let first = list_first p k r c κ₁ in
+    let first = list_head_first p k r c κ₁ in
     ap (λ l. after_children (after_node k) κ (5 ^ k) own (suc j) union (l ++ rest)) first.1
     ∙ children_from (after_node k) κ (5 ^ k) own j union (bits_of p k r c) (first.0 ++ rest) rest κ₁ key (passes first.0 rest first.1)
 
@@ -51,7 +51,7 @@ node_passes p k r c κ several nw ne sw se below rest e =
     let list-se = list_of p k (r + 2 ^ k) (c + 2 ^ k) (child_key κ k 4) in
     own_node (after_node (suc k)) κ own (below ++ rest) (slot_feature p (suc k) r c ∙ several)
     ∙ node_suc k κ own (below ++ rest)
-    ∙ ap (after_children (after_node k) κ (5 ^ k) own 4 0) (ap (λ l. l ++ rest) (tails (sym e ∙ list_node p k r c κ several)) ∙ four_lists list-nw list-ne list-sw list-se rest)
+    ∙ ap (after_children (after_node k) κ (5 ^ k) own 4 0) (ap (λ l. l ++ rest) (tails (sym e ∙ list_node p k r c κ several)) ∙ four_lists_joined list-nw list-ne list-sw list-se rest)
     ∙ quadrant_passes p k r c κ own 3 0 (child_key κ k 1) _ refl nw
     ∙ quadrant_passes p k r (c + 2 ^ k) κ own 2 _ (child_key κ k 2) _ refl ne
     ∙ quadrant_passes p k (r + 2 ^ k) c κ own 1 _ (child_key κ k 3) _ refl sw

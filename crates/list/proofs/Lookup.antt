@@ -20,7 +20,7 @@ use Rattle.laws.proofs.Within.{first_within, under_within}
 use Rattle.laws.proofs.Features.{one_to, one_under}
 use Rattle.laws.proofs.BitsOf.{bits_one}
 use Rattle.laws.proofs.Ascending.{ascending_rest}
-use Rattle.laws.proofs.ListOf.{list_first, list_one, list_ascends}
+use Rattle.laws.proofs.ListOf.{list_head_first, list_one, list_ascends}
 use Rattle.list.proofs.Counted.{counted, up_to_counted, counted_none, counted_yes, counted-append, counted_all, counted_out}
 use Rattle.list.proofs.Placed.{PartOfList, ListedAround, placed_around}
 
@@ -33,7 +33,7 @@ counted_placed test {k' = k'} a =
 -- of the block's own list only the first record is at or before a number that is not past its first child
 first_only : (p : Picture) (k r c κ : ℕ) → up_to κ (list_of p k r c κ) ≡ 1
 first_only p k r c κ =
-    let f = list_first p k r c κ in
+    let f = list_head_first p k r c κ in
     up_to_counted κ (list_of p k r c κ)
     ∙ ap (counted (λ x. leb x κ)) f.1
     ∙ counted_yes (λ x. leb x κ) (record_of κ (bits_of p k r c)) f.0 (le-leb κ κ (omega arith))
@@ -71,7 +71,7 @@ module _ {p : Picture} {k r c κ k' r' c' κ' : ℕ} (a : ListedAround p k r c �
   -- the record at the place is the listed block's
   pub around_record : get_or (list_of p k r c κ) (place_of κ' (list_of p k r c κ)) (record_of 0 0) ≡ record_of a.at (bits_of p a.height a.row a.column)
   around_record =
-      let f = list_first p a.height a.row a.column a.at in
+      let f = list_head_first p a.height a.row a.column a.at in
       ap₂ (λ l i. get_or l i (record_of 0 0)) (a.placed.splits ∙ ap (λ l. a.placed.before ++ (l ++ a.placed.after)) f.1) around_place
       ∙ get_or-append_seam a.placed.before (record_of a.at (bits_of p a.height a.row a.column)) (f.0 ++ a.placed.after) (record_of 0 0)
 

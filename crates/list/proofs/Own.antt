@@ -11,7 +11,7 @@ use Rattle.definitions.specs.Bits.{bits_of}
 use Rattle.definitions.specs.List.{keys_of, values_of, list_of_picture}
 use Rattle.definitions.specs.Read.{records_of, is_list}
 use Rattle.definitions.specs.Standing.{place_of, part_length}
-use Rattle.laws.proofs.ListOf.{list_ascends, list_first, list_some}
+use Rattle.laws.proofs.ListOf.{list_ascends, list_head_first, list_some}
 use Rattle.laws.proofs.Records.{records-length, key_at, value-at}
 use Rattle.list.specs.Own.{OwnList, shown_by}
 use Rattle.list.specs.Sorted.{Ascends, Sorted, Near}
@@ -63,7 +63,7 @@ module _ {m : ℕ} {keys bits : List ℕ} {n : ℕ} (o : OwnList m keys bits n) 
   own_sorted key =
       let some = list_some (shown_by m keys bits n) m 0 0 0 in
       let e = own-length in
-      let f = ap (λ l. get_or (keys_of l) 0 0) (list_first (shown_by m keys bits n) m 0 0 0).1 in
+      let f = ap (λ l. get_or (keys_of l) 0 0) (list_head_first (shown_by m keys bits n) m 0 0 0).1 in
       let a = own_key 0 (omega arith) in
       record { ascends = own_ascends; some = omega arith; first = omega arith }
 

@@ -14,7 +14,7 @@ use Rattle.definitions.specs.Read.{paired}
 use Rattle.laws.proofs.Records.{paired-length}
 use Rattle.list.specs.Check.{one_slot, wrong, left, rest_place, after_children, after_node}
 use Rattle.list.proofs.Children.{own_leaf, own_node, node_zero, node_suc, children_none, children_from, children_short, children_other, children_wrong}
-use Rattle.list.proofs.Places.{record_at, place_of}
+use Rattle.list.proofs.Places.{record_at, place_of_rest}
 
 -- tests one after the other, or all at once
 in_turn : {A : Type 0} (a b c d e : Bool) (x w : A) → cond a (cond b (cond c (cond d (cond e x w) w) w) w) w ≡ cond ((((a && b) && c) && d) && e) x w
@@ -164,7 +164,7 @@ module _ (K B : List ℕ) (first κ own : ℕ) (size : length K ≡ length B) wh
       ap (λ x. cond x (first + 4) 0) e
           ∙ sym (ap (rest_place (length K)) (ap (after_node 1 κ own) next_four ∙ four_records κ own _ _ _ _ _ _ _ _ (drop (first + 4) (paired K B)))
           ∙ place_if (length K) (first + 4) ((((nw && ne) && sw) && se) && eqb union own) (drop (first + 4) (paired K B))
-          (place_of (paired K B) (first + 4) (length K) (sym (paired-length K B size)) (omega arith))),
+          (place_of_rest (paired K B) (first + 4) (length K) (sym (paired-length K B size)) (omega arith))),
     )
 
     -- the keys of the four, and their slots

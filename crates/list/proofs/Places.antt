@@ -9,7 +9,7 @@ use lib.ListN.{length, get_or, take, drop, length-append, length-drop, take-appe
 use lib.Seq.{drop_at}
 use Rattle.definitions.specs.List.{Record, record_of}
 use Rattle.definitions.specs.Read.{paired}
-use Rattle.laws.proofs.ListOf.{list_first}
+use Rattle.laws.proofs.ListOf.{list_head_first}
 use Rattle.laws.proofs.Records.{paired-length}
 use Rattle.list.specs.Check.{Outcome, wrong, left, rest_place, after_own, after_node}
 use Rattle.list.proofs.Sound.{sound}
@@ -32,9 +32,9 @@ pub records_end : (K B : List ℕ) (i : ℕ) → length K ≡ length B → lengt
 records_end K B i same h = let e = paired-length K B same in drop_of_length-le (paired K B) {i = i} (omega arith)
 
 -- a list from a place on is what is left at that place
-pub place_of : (l : List Record) (i n : ℕ) → n ≡ length l → i ≤ n → rest_place n (left (drop i l)) ≡ i
+pub place_of_rest : (l : List Record) (i n : ℕ) → n ≡ length l → i ≤ n → rest_place n (left (drop i l)) ≡ i
 unfolding rest_place
-place_of l i n e h = let j = length-drop i l in omega arith
+place_of_rest l i n e h = let j = length-drop i l in omega arith
 
 -- what is left at the end of a list begins where the list's other records end
 pub end-of : (l before rest : List Record) → l ≡ before ++ rest → rest ≡ drop (length l - length rest) l
@@ -47,7 +47,7 @@ end-of l before rest e =
 pub block_leaves : (k κ bits : ℕ) (l rest : List Record) → after_own (after_node k) κ bits l ≡ left rest → (before : List Record) × (l ≡ before ++ rest)
 block_leaves k κ bits l rest e =
     let s = sound k 0 0 κ bits l rest e in
-    let first = list_first s.picture k 0 0 κ in
+    let first = list_head_first s.picture k 0 0 κ in
     (first.0, tails (s.is ∙ ap (λ x. x ++ rest) first.1))
   where
     tails : {x y : Record} {l l' : List Record} → x ∷ l ≡ y ∷ l' → l ≡ l'

@@ -16,7 +16,7 @@ use Rattle.definitions.specs.Standing.{place_of, is_listed}
 use Rattle.laws.proofs.Features.{one_under}
 use Rattle.laws.proofs.FeatureOf.{feature_of_power}
 use Rattle.laws.proofs.BitsOf.{bits_one, power_one}
-use Rattle.laws.proofs.ListOf.{list_first, list_one}
+use Rattle.laws.proofs.ListOf.{list_head_first, list_one}
 use Rattle.list.specs.Check.{one_slot}
 use Rattle.list.specs.Own.{OwnList, shown_by}
 use Rattle.list.specs.Among.{place_among}
@@ -42,8 +42,8 @@ shown_feature p k r c e = ap feature_of (bits_one p k r c (slot_one p k r c e)) 
 
 module _ {p : Picture} {k r c κ : ℕ} {bits : List ℕ} {at : ℕ} (s : ShownAt p k r c κ bits at) where
   -- the first bitstring is the block's own
-  first_value : drop at bits ≡ bits_of p k r c ∷ (values_of (list_first p k r c κ).0 ++ s.rest)
-  first_value = s.values ∙ ap (λ l. values_of l ++ s.rest) (list_first p k r c κ).1
+  first_value : drop at bits ≡ bits_of p k r c ∷ (values_of (list_head_first p k r c κ).0 ++ s.rest)
+  first_value = s.values ∙ ap (λ l. values_of l ++ s.rest) (list_head_first p k r c κ).1
 
   pub shown_value : get_or bits at 0 ≡ bits_of p k r c
   shown_value =

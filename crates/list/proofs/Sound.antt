@@ -16,7 +16,7 @@ use Rattle.laws.proofs.ListOf.{list_one}
 use Rattle.list.specs.Check.{one_slot, left, after_own, after_node}
 use Rattle.list.proofs.OneSlot.{one_slot_power, slot_feature}
 use Rattle.list.proofs.Joined.{joined, joined_bits, joined_list}
-use Rattle.list.proofs.Children.{wrong-not-left, left_inj, own_leaf, own_node, node_zero, node_suc, FourChildren, children_four, four_lists}
+use Rattle.list.proofs.Children.{wrong-not-left, left_inj, own_leaf, own_node, node_zero, node_suc, FourChildren, children_four, four_lists_joined}
 
 -- a record with the key κ and the bits, and the records below it, are the list of some picture at the block, and then rest
 pub record ShownRecord (k r c κ bits : ℕ) (below rest : List Record) : Type 0 where
@@ -40,7 +40,7 @@ leaf_shown k r c κ bits rest one =
 -- four lists, each followed by the next
 in_turn : (a b c d l₄ : List Record) {l₀ l₁ l₂ l₃ : List Record} → l₀ ≡ a ++ l₁ → l₁ ≡ b ++ l₂ → l₂ ≡ c ++ l₃ → l₃ ≡ d ++ l₄ → l₀ ≡ (a ++ (b ++ (c ++ d))) ++ l₄
 in_turn a b c d l₄ e f g h =
-    e ∙ ap (λ l. a ++ l) (f ∙ ap (λ l. b ++ l) (g ∙ ap (λ l. c ++ l) h)) ∙ sym (four_lists a b c d l₄)
+    e ∙ ap (λ l. a ++ l) (f ∙ ap (λ l. b ++ l) (g ∙ ap (λ l. c ++ l) h)) ∙ sym (four_lists_joined a b c d l₄)
 
 -- a node of four blocks that are shown
 node_shown : (k r c κ bits : ℕ) (below rest : List Record)

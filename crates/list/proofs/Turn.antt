@@ -17,7 +17,7 @@ use Rattle.definitions.specs.Read.{paired}
 use Rattle.laws.proofs.Records.{paired-length}
 use Rattle.list.specs.Check.{one_slot, Outcome, wrong, left, rest_place, after_own, after_children, after_node, step_under}
 use Rattle.list.proofs.Children.{own_leaf, own_node, node_zero, node_suc, children_none, children_from, children_short, children_other, children_wrong}
-use Rattle.list.proofs.Places.{record_at, records_end, place_of, told}
+use Rattle.list.proofs.Places.{record_at, records_end, place_of_rest, told}
 
 -- the step under a block tells its height
 five_less : (k j : ℕ) → k < j → 5 ^ k ≡ 5 ^ j → ⊥
@@ -124,7 +124,7 @@ module _ {K B : List ℕ} {first key own step next union digit : ℕ} (p : TurnP
     pub ends : union ≡ own → Answer K B first key own step next
     ends e = answer next
         (λ j f. sym (ap (rest_place (length K)) (none_left j ∙ ap (λ b. cond b (left (drop next (paired K B))) wrong) (eq-eqb union own e))
-        ∙ place_of (paired K B) next (length K) (sym (paired-length K B p.size)) p.within))
+        ∙ place_of_rest (paired K B) next (length K) (sym (paired-length K B p.size)) p.within))
 
     pub differs : (union ≡ own → ⊥) → Answer K B first key own step 0
     unfolding rest_place

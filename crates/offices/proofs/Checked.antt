@@ -10,7 +10,7 @@ use borrow.Author.Tests.{eqb-true, leb-true, le-leb, lt-leb}
 use Rattle.keys.proofs.Cases.{and_left, and_right}
 use Rattle.definitions.specs.Offices.{Waiver, Holds, table_of, rows_of, rows_ascend, offices_known, is_sound_table, is_table}
 use Rattle.laws.proofs.RowPlaces.{table-length}
-use Rattle.laws.proofs.Shares.{Sound, is_sound, known_exactly}
+use Rattle.laws.proofs.Shares.{Sound, sound_by_test, known_exactly}
 use Rattle.offices.specs.Place.{office_times}
 use Rattle.offices.proofs.Counted.{times_share}
 
@@ -84,7 +84,7 @@ module _ (offices ids waived : List ℕ) (rows : ℕ) where
   table_holds e = places_hold (and_left has_places (is_sound_table t) (sym table_two ∙ e))
 
   pub table_sound : is_table offices ids waived rows ≡ true → Sound t
-  table_sound e = is_sound t (and_right has_places (is_sound_table t) (sym table_two ∙ e))
+  table_sound e = sound_by_test t (and_right has_places (is_sound_table t) (sym table_two ∙ e))
 
   module _ (places : has_places ≡ true) where
     abbrev few : ℕ → Bool

@@ -17,7 +17,7 @@ use Rattle.laws.proofs.Slots.{slot_le}
 use Rattle.laws.proofs.Features.{one_to, one_pixel}
 use Rattle.laws.proofs.FeatureOf.{feature_of_power}
 use Rattle.laws.proofs.BitsOf.{bits_one, bits_from}
-use Rattle.laws.proofs.ListOf.{list_first, list_one}
+use Rattle.laws.proofs.ListOf.{list_head_first, list_one}
 use Rattle.list.specs.Check.{one_slot}
 use Rattle.read.specs.Fill.{rectangle_painted, Shows, ShowsNode, BlockFilled, NodeFilled}
 use Rattle.list.proofs.Shown.{slot_one, slot_several}
@@ -25,8 +25,8 @@ use Rattle.read.proofs.Rectangle.{InRectangle, rectangle_same}
 
 module _ {p : Picture} {k r c κ : ℕ} {bits : List ℕ} {at wide place side long : ℕ} (s : Shows p k r c κ bits at wide place side long) where
   -- the first bitstring is the block's own
-  first_value : drop at bits ≡ bits_of p k r c ∷ (values_of (list_first p k r c κ).0 ++ s.rest)
-  first_value = s.values ∙ ap (λ l. values_of l ++ s.rest) (list_first p k r c κ).1
+  first_value : drop at bits ≡ bits_of p k r c ∷ (values_of (list_head_first p k r c κ).0 ++ s.rest)
+  first_value = s.values ∙ ap (λ l. values_of l ++ s.rest) (list_head_first p k r c κ).1
 
   pub shows_value : get_or bits at 0 ≡ bits_of p k r c
   shows_value =

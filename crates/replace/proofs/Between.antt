@@ -11,7 +11,7 @@ use Rattle.definitions.specs.Bits.{bits_of}
 use Rattle.definitions.specs.List.{Record, record_of, list_of, keys_of, Ascending}
 use Rattle.definitions.specs.Standing.{place_of}
 use Rattle.laws.proofs.Ascending.{ascending-append, widen, ascending_rest}
-use Rattle.laws.proofs.ListOf.{list_first, list_one, list_ascends}
+use Rattle.laws.proofs.ListOf.{list_head_first, list_one, list_ascends}
 use Rattle.replace.specs.Family.{block_bits}
 use Rattle.replace.proofs.Places.{place_cut, bits_cut, key_cut}
 
@@ -22,7 +22,7 @@ module _ (p : Picture) (k r c κ : ℕ) {lo hi : ℕ} {a b : List Record} (low :
 
   own_first : (rest : List Record) × (a ++ (list_of p k r c κ ++ b) ≡ shown (bits_of p k r c) rest) × Ascending (suc κ) hi (rest ++ b)
   own_first =
-      let f = list_first p k r c κ in
+      let f = list_head_first p k r c κ in
       let t = rw f.1 at (list_ascends p k r c κ) in
       (f.0, ap (λ l. a ++ (l ++ b)) f.1, ascending-append (ascending_rest t) high)
 

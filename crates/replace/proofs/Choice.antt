@@ -18,7 +18,7 @@ use Rattle.definitions.specs.Bits.{bits_of}
 use Rattle.definitions.specs.List.{Record, record_of, list_of}
 use Rattle.laws.proofs.Features.{one_pixel}
 use Rattle.laws.proofs.BitsOf.{bits_one}
-use Rattle.laws.proofs.ListOf.{list_first, list_one, length-several}
+use Rattle.laws.proofs.ListOf.{list_head_first, list_one, length-several}
 use Rattle.replace.specs.Family.{around}
 use Rattle.replace.specs.Climb.{climb}
 use Rattle.replace.specs.Put.{is_one_record, first_bits, top_for, top_of, filling}
@@ -34,7 +34,7 @@ own_key k κ = let h = five_pos k in omega arith
 
 -- the first bits of a block's list are the block's
 pub first-bits : (p : Picture) (k r c κ : ℕ) → first_bits (list_of p k r c κ) ≡ bits_of p k r c
-first-bits p k r c κ = ap first_bits (list_first p k r c κ).1
+first-bits p k r c κ = ap first_bits (list_head_first p k r c κ).1
 
 -- a list is one record exactly when the block has one feature
 pub leaf_one : (p : Picture) (k r c κ : ℕ) → is_one_record (list_of p k r c κ) ≡ one_feature p k r c

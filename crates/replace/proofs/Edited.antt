@@ -13,7 +13,7 @@ use Rattle.definitions.specs.Picture.{Picture}
 use Rattle.definitions.specs.Bits.{bits_of}
 use Rattle.definitions.specs.List.{Record, record_of, list_of, list_of_picture, keys_of, values_of, Ascending}
 use Rattle.definitions.specs.Edit.{put, content_of}
-use Rattle.laws.proofs.ListOf.{list_first, list_ascends}
+use Rattle.laws.proofs.ListOf.{list_head_first, list_ascends}
 use Rattle.laws.proofs.Ascending.{widen}
 use Rattle.replace.specs.Renew.{renew}
 use Rattle.replace.specs.Put.{plan_of, length_after, exchanged, parents_renewed, edited}
@@ -55,7 +55,7 @@ module _ (p p' : Picture) {m κ : ℕ} {content : List Record} {plan : Plan} (s 
   unfolding spliced
   first_new =
       ap₂ (λ l i. get_or (values_of (before_hole p s.way ++ (l ++ after_hole p s.way))) i 0)
-      (list_first p' s.height s.row s.column s.key).1 s.start_is
+      (list_head_first p' s.height s.row s.column s.key).1 s.start_is
       ∙ value_seam (before_hole p s.way) (record_of s.key (bits_of p' s.height s.row s.column)) _
 
   -- renewing makes the new list of it
@@ -80,7 +80,7 @@ module _ (p p' : Picture) {m κ : ℕ} {content : List Record} {plan : Plan} (s 
 
   -- the first key is the root's
   pub exchanged_first : get_or (keys_of (exchanged old_list κ content plan)) 0 0 ≡ 0
-  exchanged_first = ap (λ keys. get_or keys 0 0) (exchanged_keys ∙ ap keys_of (list_first p' m 0 0 0).1)
+  exchanged_first = ap (λ keys. get_or keys 0 0) (exchanged_keys ∙ ap keys_of (list_head_first p' m 0 0 0).1)
 
   -- the length is the new list's
   pub exchanged-length : length (exchanged old_list κ content plan) ≡ length (list_of p' m 0 0 0)

@@ -13,7 +13,7 @@ use Rattle.replace.specs.Plant.{digit_at, leaves, back_at, back}
 use Rattle.replace.specs.Planting.{WroteFrom, Roomy, Deep}
 use Rattle.replace.proofs.Field.{back_suc}
 use Rattle.replace.proofs.ExchangeLevel.{back_at-length, back_at_parent, write_two, wrote-keys, wrote_bits}
-use Rattle.replace.proofs.ExchangeFront.{TurnLevel, level_of}
+use Rattle.replace.proofs.ExchangeFront.{TurnLevel, deep_level_of}
 
 -- so many levels are written
 pub record Backing (keys₀ bits₀ : List ℕ) (at key low levels g : ℕ) (keys bits : List ℕ) (done step place : ℕ) : Type 0 where
@@ -65,7 +65,7 @@ module _ {keys₀ bits₀ : List ℕ} {at key low levels g : ℕ} {keys bits : L
       let b = back_bits_size in
       let rk = r.in_keys in
       let rb = r.in-bits in
-      level_of (step * 5) step place keys bits (4 - digit_at (low + done) key) (low + done) d (omega arith) (omega arith)
+      deep_level_of (step * 5) step place keys bits (4 - digit_at (low + done) key) (low + done) d (omega arith) (omega arith)
       p.power refl (omega arith) (omega arith)
 
   -- a turn: one level more is written

@@ -50,9 +50,9 @@ pub record TurnLevel (key h wide step place : ℕ) (keys bits : List ℕ) (size 
   pub in-bits : place + size ≤ length bits
 
 -- they are there at each height that is deep enough
-pub level_of : {key low levels : ℕ} (wide step place : ℕ) (keys bits : List ℕ) (size h : ℕ) → Deep key low levels → low ≤ h → h < low + levels
+pub deep_level_of : {key low levels : ℕ} (wide step place : ℕ) (keys bits : List ℕ) (size h : ℕ) → Deep key low levels → low ≤ h → h < low + levels
     → step ≡ 5 ^ h → wide ≡ step * 5 → place + size ≤ length keys → place + size ≤ length bits → TurnLevel key h wide step place keys bits size
-level_of {key} wide step place keys bits size h d low high e f in_keys in-bits =
+deep_level_of {key} wide step place keys bits size h d low high e f in_keys in-bits =
     let pos = five_pos h in
     let most = d.most in
     let small = five_le {k = h} 9 (omega arith) in
@@ -98,7 +98,7 @@ module _ {keys₀ bits₀ : List ℕ} {at key low levels g v : ℕ} {keys bits :
       let b = p.bits_size in
       let rk = r.in_keys in
       let rb = r.in-bits in
-      level_of wide (wide / 5) place keys bits (digit_at h key) h d (omega arith) (omega arith)
+      deep_level_of wide (wide / 5) place keys bits (digit_at h key) h d (omega arith) (omega arith)
       (omega arith) (omega arith) (omega arith) (omega arith)
 
   -- a turn: one level less is left

@@ -22,7 +22,7 @@ use Rattle.laws.proofs.BitsOf.{bits_suc, bits_agree}
 use Rattle.replace.specs.Family.{around, block_bits, child_bits, parent_bits}
 use Rattle.replace.proofs.Way.{Way, up, under_of}
 use Rattle.replace.proofs.Outside.{Outside, agree_sibling}
-use Rattle.replace.proofs.Standing.{bits_at}
+use Rattle.replace.proofs.Standing.{standing_bits}
 
 -- the block of its height around a key of its interval is that block
 pub around_is : {m k r c κ x : ℕ} → MapBlock m k r c κ → InKeys k κ x → around k x ≡ κ
@@ -84,4 +84,4 @@ pub others_read : (p p' : Picture) {m k r c κ r' c' κ' : ℕ}
     → Quadrant k r c κ r' c' κ'
     → Outside p p' k r' c'
     → OthersRead p' (list_of p m 0 0 0) κ' k r c κ
-others_read p p' {k = k} w q h r₂ c₂ κ₂ q' other = bits_at p (up q' w) ∙ bits_agree p p' k r₂ c₂ (agree_sibling (under_of w) q q' other h)
+others_read p p' {k = k} w q h r₂ c₂ κ₂ q' other = standing_bits p (up q' w) ∙ bits_agree p p' k r₂ c₂ (agree_sibling (under_of w) q q' other h)

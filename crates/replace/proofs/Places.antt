@@ -35,11 +35,11 @@ up_to_all x h (next {e = e} {l = l} j a) =
     ap (λ t. cond t 1 0 + up_to x l) (le-leb e.key x (omega arith)) ∙ omega arith
 
 -- none is counted where all keys are after x
-pub up_to_none : {lo hi : ℕ} {l : List Record} (x : ℕ) → x < lo → Ascending lo hi l → up_to x l ≡ 0
+pub up_to_below_none : {lo hi : ℕ} {l : List Record} (x : ℕ) → x < lo → Ascending lo hi l → up_to x l ≡ 0
 unfolding up_to
-up_to_none x h (none j) = refl
-up_to_none x h (next {e = e} {l = l} j a) =
-    let i = up_to_none x (omega arith) a in
+up_to_below_none x h (none j) = refl
+up_to_below_none x h (next {e = e} {l = l} j a) =
+    let i = up_to_below_none x (omega arith) a in
     ap (λ t. cond t 1 0 + up_to x l) (lt-leb e.key x (omega arith)) ∙ omega arith
 
 -- a place is one of the list
@@ -84,7 +84,7 @@ module _ {lo hi x : ℕ} {a : List Record} (e : Record) {b : List Record} (low :
   place_cut =
       let i = up_to-append x a (e ∷ b) in
       let j = up_to_all x (omega arith) low in
-      let k = up_to_none x (le_refl (suc x)) high in
+      let k = up_to_below_none x (le_refl (suc x)) high in
       let l = up_to_first x e b here in
       omega arith
 

@@ -52,8 +52,8 @@ pub record FilledBlock (m key top step : ℕ) : Type 0 where
   pub power : step ≡ 5 ^ top
 
 -- where the height is that of the filled block
-pub filled_by : {m key top step : ℕ} (l : List Record) (leaf : Bool) (b : ℕ) → m ≤ 10 → valid_key m key ≡ true → top ≡ top_for m l key leaf b → step ≡ 5 ^ top → FilledBlock m key top step
-filled_by {m} {key} l leaf b deep valid e power =
+pub plan_filled_by : {m key top step : ℕ} (l : List Record) (leaf : Bool) (b : ℕ) → m ≤ 10 → valid_key m key ≡ true → top ≡ top_for m l key leaf b → step ≡ 5 ^ top → FilledBlock m key top step
+plan_filled_by {m} {key} l leaf b deep valid e power =
     let h = top_bounds m l key b leaf in
     record { deep = deep; valid = valid; low = omega arith; high = omega arith; power = power }
 

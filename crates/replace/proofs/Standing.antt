@@ -149,8 +149,8 @@ leaf_several p p' x o = go p' x.under x.first (x.still p' o)
     go p (up q w) h e = several_above p (under_of w) e
 
 -- the last record at or before a block's key has the block's bits
-pub bits_at : (p : Picture) {K R C Κ k r c κ : ℕ} → Way K R C Κ k r c κ → block_bits κ (list_of p K R C Κ) ≡ bits_of p k r c
-bits_at p {k = k} {r} {c} w = go p w (stands p w)
+pub standing_bits : (p : Picture) {K R C Κ k r c κ : ℕ} → Way K R C Κ k r c κ → block_bits κ (list_of p K R C Κ) ≡ bits_of p k r c
+standing_bits p {k = k} {r} {c} w = go p w (stands p w)
   where
     go : (p : Picture) {K R C Κ k r c κ : ℕ} (w : Way K R C Κ k r c κ) → ListedOrInside p w → block_bits κ (list_of p K R C Κ) ≡ bits_of p k r c
     go p w (listed o) = bits_listed p w o

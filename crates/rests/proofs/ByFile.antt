@@ -29,9 +29,9 @@ use Rattle.rests.specs.ByFile.{file_from, loaded_with, leads_to, RoomToRest, Res
 use Rattle.rests.proofs.Given.{fill_accepts, fill_leaves, load_gives_list, load_keeps_room, over-length}
 
 -- the answer's refusal is load's
-pub refusal_of : (file keys bits : List ℕ) → (load file keys bits).refusal ≡ load_refusal file keys bits
+pub file_refusal_of : (file keys bits : List ℕ) → (load file keys bits).refusal ≡ load_refusal file keys bits
 unfolding load
-refusal_of file keys bits = refl
+file_refusal_of file keys bits = refl
 
 module _ (m s : ℕ) (b : Buffers) (buffer : List ℕ) (kept : store_refusal m s b.keys b.bits b.n buffer ≡ 0) where
   abbrev file : List ℕ
@@ -43,7 +43,7 @@ module _ (m s : ℕ) (b : Buffers) (buffer : List ℕ) (kept : store_refusal m s
   load_back keys bits h = load_after_store m s b.keys b.bits b.n buffer keys bits kept h
 
   load_passes : (keys bits : List ℕ) → b.n ≤ room keys bits → load_refusal file keys bits ≡ 0
-  load_passes keys bits h = sym (refusal_of file keys bits) ∙ ap (λ r. r.refusal) (load_back keys bits h).result
+  load_passes keys bits h = sym (file_refusal_of file keys bits) ∙ ap (λ r. r.refusal) (load_back keys bits h).result
 
   -- what store took has room where it stands
   own_room : b.n ≤ room b.keys b.bits

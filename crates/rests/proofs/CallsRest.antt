@@ -9,7 +9,7 @@ use Rattle.definitions.specs.Calls.FillSummary.{fill_refusal, fill_summary, fill
 use Rattle.history.specs.History.{Buffers}
 use Rattle.rests.specs.Events.{LogBrought, Rested, LentSlices}
 use Rattle.rests.specs.ByFile.{file_from, loaded_with, RestCalls, comes_to}
-use Rattle.rests.proofs.ByFile.{refusal_of, accepted_rests}
+use Rattle.rests.proofs.ByFile.{file_refusal_of, accepted_rests}
 
 -- the refusals in the answers
 store_refusal_of : (m s : ℕ) (keys bits : List ℕ) (n : ℕ) (buffer : List ℕ) → (store m s keys bits n buffer).refusal ≡ store_refusal m s keys bits n buffer
@@ -68,6 +68,6 @@ module _ {m s : ℕ} {b : Buffers} {buffer : List ℕ} {lent : LentSlices} (x : 
       (accepted_rests m s b buffer
       (sym (store_refusal_of m s b.keys b.bits b.n buffer) ∙ sym (ap (λ r. r.refusal) x.store_answer) ∙ x.store_passed)
       lent log_keys log_values brought
-      (sym (refusal_of (file_from m s b buffer) lent.keys lent.bits) ∙ sym (ap (λ r. r.refusal) answer_is) ∙ x.load_passed)
+      (sym (file_refusal_of (file_from m s b buffer) lent.keys lent.bits) ∙ sym (ap (λ r. r.refusal) answer_is) ∙ x.load_passed)
       fill_passes
       log)

@@ -15,7 +15,7 @@ use Rattle.definitions.specs.Area.{summary_level, summary_height, summary_length
 use Rattle.laws.proofs.Pixels.{Agree}
 use Rattle.laws.proofs.SummaryOf.{counts_agree, summary-length, summary_counts}
 use Rattle.summary.specs.Renew.{blocks_renewed}
-use Rattle.summary.proofs.Renewed.{places_in}
+use Rattle.summary.proofs.Renewed.{block_places_in}
 
 -- the places of a part written anew, behind those that already are
 part_renewed : (new old : List ℕ) (at s : ℕ) → at + s ≤ length new → at + s ≤ length old
@@ -77,7 +77,7 @@ module _ (m s : ℕ) (p : Picture) (old : List ℕ) (long : length old ≡ summa
     counted_renewed after is =
         let one : b + 1 - b ≡ 1 = omega arith in
         let here : (b + 1 - b) * s ≡ s = ap (λ n. n * s) one ∙ omega arith in
-        let room = places_in m s b h in
+        let room = block_places_in m s b h in
         let size = summary-length m s p in
         record {
           places = is

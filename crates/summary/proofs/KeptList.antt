@@ -22,7 +22,7 @@ use Rattle.list.proofs.Content.{Stand, keys_length, bits_length, root_valid, roo
 use Rattle.summary.specs.Kept.{RowKept, RowsKept, SharedArea, KeepingAsked, KeepingAnswered, FirstNode}
 use Rattle.summary.proofs.CountBlock.{node_counts}
 use Rattle.summary.proofs.BlockNumbers.{number_most, key_valid, key_height}
-use Rattle.summary.proofs.PassTurn.{step_of}
+use Rattle.summary.proofs.PassTurn.{step_of_height}
 
 -- at first nothing is kept
 pub none_kept : (bits : List ℕ) (area : ℕ) (row : List ℕ) → RowsKept bits area (replicate 16 row) (replicate 16 0)
@@ -79,7 +79,7 @@ module _ {m s : ℕ} {K B : List ℕ} {n : ℕ} (first : FirstNode s K B n) wher
         let up : m ≡ suc (m - 1) = omega arith in
         root_list m s K B n (eqb place n)
         (many_records first_stand s first.root first.small place first.several
-        (x.checked _ (step_of (m - 1) step e ∙ ap step_under (sym up ∙ sym (height_zero m)))))
+        (x.checked _ (step_of_height (m - 1) step e ∙ ap step_under (sym up ∙ sym (height_zero m)))))
 
     pub root_kept : {rows : List (List ℕ)} {places : List ℕ} {place : ℕ} → KeepingAnswered (take n K) (take n B) rows places 0 0 (get_or B 0 0) step area place
         → RowsKept (take n B) (4 ^ summary_height m) rows places

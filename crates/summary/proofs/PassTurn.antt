@@ -27,9 +27,9 @@ use Rattle.summary.specs.Pass.{NodeThere, OneHeight, PassAsked, PassAnswered}
 use Rattle.summary.proofs.CountTurn.{CountReached, reached_none, reached_all, leaf_turn, node_turn}
 
 -- the height tells the step
-pub step_of : (k step : ℕ) → step ≡ 5 ^ k → step ≡ step_under (suc k)
+pub step_of_height : (k step : ℕ) → step ≡ 5 ^ k → step ≡ step_under (suc k)
 unfolding step_under
-step_of k step e = e
+step_of_height k step e = e
 
 -- the height below
 pub lower_level : (step area : ℕ) → OneHeight step area → 5 ≤ step → OneHeight (step / 5) (area / 4)
@@ -77,7 +77,7 @@ module _ {K B : List ℕ} {at key own step : ℕ} (node : NodeThere K B at key o
       let there = node.there in
       let own_is = own_node (after_node (suc k)) key own (drop (at + 1) (paired K B)) node.several in
       let t = told (suc k) key own (paired K B) (at + 1) (length K) (sym (paired-length K B node.size)) (omega arith) (omega arith) in
-      let is = answer (suc k) (step_of k step l.steps) ∙ ap (rest_place (length K)) (sym own_is) in
+      let is = answer (suc k) (step_of_height k step l.steps) ∙ ap (rest_place (length K)) (sym own_is) in
       let s = sound (suc k) 0 0 key own (drop (at + 1) (paired K B)) _ (t.passed (λ z. good (is ∙ z))) in
       record {
         picture = s.picture;

@@ -17,8 +17,8 @@ use Rattle.summary.specs.Renew.{blocks_renewed, Renewable}
 use Rattle.summary.proofs.BlockNumbers.{number_most}
 
 -- a block's places are places of the summary
-pub places_in : (m s b : ℕ) → b < 4 ^ summary_level m → b * s + s ≤ summary_length m s
-places_in m s b h = let e = suc-mul b s in let f = mul-le-mul_right {m = suc b} {n = 4 ^ summary_level m} s (omega arith) in omega arith
+pub block_places_in : (m s b : ℕ) → b < 4 ^ summary_level m → b * s + s ≤ summary_length m s
+block_places_in m s b h = let e = suc-mul b s in let f = mul-le-mul_right {m = suc b} {n = 4 ^ summary_level m} s (omega arith) in omega arith
 
 -- and their number is small
 pub places_few : (m s : ℕ) → s ≤ slot_limit → summary_length m s ≤ 512
@@ -74,7 +74,7 @@ module _ (m s : ℕ) (p : Picture) where
       let j = b - from in
       let here : b * s ≡ from * s + j * s = ap (λ n. n * s) (back from b h) ∙ add-mul from (b - from) s in
       let more : (b + 1 - from) * s ≡ j * s + s = ap (λ n. n * s) (next from b h) ∙ suc-mul (b - from) s in
-      let room = places_in m s b most in
+      let room = block_places_in m s b most in
       let size = summary-length m s p in
       ap (λ i. sets (sets old (from * s) (take (j * s) (drop (from * s) (summary_of m s p)))) i (take s (drop i (summary_of m s p)))) here
       ∙ run_longer (summary_of m s p) old (from * s) (j * s) s (omega arith)

@@ -15,10 +15,10 @@ use definitions::Edited;
 use definitions::refusal::Refusal;
 use edit::decision::Decision;
 use edit::{decision, paint, recount};
-use keys::power;
 use edit_log::entry::Entry;
 use edit_log::step::LogStep;
 use edit_log::{entry, step as steps};
+use keys::power;
 use replace::plan;
 
 // The first of the steps to redo, by its places among them.

@@ -1,5 +1,4 @@
--- `sift_run` meets its contract: what was sifted so far, with what the rest of the run gives, is what the whole run gives. The waivers passed
--- begin before the keys that are still to come, since past a leaf these begin at its end or later. Rests on Leaves and Merge.
+-- What a turn of `sift_run` keeps, and how far it has to go.
 use Prim.Native.Nat.{ℕ, ◌-◌, ◌≤◌, ◌<◌}
 use mathlib.Core.Path.{◌≡◌}
 use mathlib.Core.List.{List, ◌++◌}

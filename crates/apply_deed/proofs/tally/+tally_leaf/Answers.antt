@@ -13,7 +13,7 @@ use Rattle.deeds.proofs.LeafChild.{leaf_child}
 use Rattle.deeds.proofs.Meetings.{met_cut}
 use Rattle.apply_deed.proofs.ByDigits.{few_below, four_tallied}
 use Rattle.apply_deed.proofs.Narrowed.{narrowed_tallied}
-use Rattle.apply_deed.proofs.Known.{met_readable, known_tallied, leaf_bits, leaf_records}
+use Rattle.apply_deed.proofs.Known.{met_readable, known_tallied, own_leaf_bits, leaf_records}
 use Rattle.apply_deed.proofs.tally.tally_leaf.Reads as own
 use Rattle.apply_deed.proofs.tally.+tally_leaf.Lts-tally_leaf as lts
 use Rattle.build.proofs.count.joined.Reads as joined
@@ -49,7 +49,7 @@ pub returns-then-not-is_cut : goal.returns-then-not-is_cut
 returns-then-not-is_cut t c =
     let a = c.requires.1 in
     narrowed_tallied c.narrow-deed.ensures.same a.block (omega arith) _
-    (known_tallied _ (leaf_bits _ _ _ _ a.leaf) (leaf_records _ _ _ _ _) c.meeting-met.ensures
+    (known_tallied _ (own_leaf_bits _ _ _ _ a.leaf) (leaf_records _ _ _ _ _) c.meeting-met.ensures
     (sym c.is_cut.ensures ∙ not-true _ c.if-not-is_cut.true-raw) c.known.ensures)
 
 -- once the leaf is known to have quadrants, and where a turn begins

@@ -13,7 +13,7 @@ use Rattle.deeds.proofs.LeafChild.{leaf_child}
 use Rattle.deeds.proofs.Meetings.{met_cut}
 use Rattle.apply_deed.proofs.ByDigits.{few_below, four_tallied}
 use Rattle.apply_deed.proofs.Narrowed.{narrowed_tallied}
-use Rattle.apply_deed.proofs.Known.{met_readable, known_tallied, leaf_bits, leaf_records}
+use Rattle.apply_deed.proofs.Known.{met_readable, known_tallied, own_leaf_bits, leaf_records}
 use Rattle.apply_deed.proofs.tally.+tally_leaf.Given as goal
 
 abbrev pub decreases-tally_leaf : goal.decreases-tally_leaf

@@ -9,7 +9,7 @@ use borrow.Author.Tests.{le-leb}
 use borrow.Author.Rules.{rules}
 use Rattle.definitions.specs.List.{list_of}
 use Rattle.build.specs.BuildBlocks.{picture_of_rows}
-use Rattle.build.proofs.BuildInside.{raster_pixels}
+use Rattle.build.proofs.BuildInside.{inside_raster_pixels}
 use Rattle.build.proofs.CountBlock.{most_records}
 use Rattle.build.proofs.count.has_room.Goals as goal
 use Rattle.build.proofs.count.has_room.Lts as lts
@@ -20,7 +20,7 @@ abbrev At-Start : Type 0
 At-Start = lts.Start tie.the-claims own.Pre own.Post
 
 pixels : (c : At-Start) → length c.args.raster.now ≡ 4 ^ c.args.height
-pixels c = raster_pixels c.requires.0 c.requires.1
+pixels c = inside_raster_pixels c.requires.0 c.requires.1
 
 pub overflow_mul-most : goal.overflow_mul-most
 overflow_mul-most c =

@@ -4,7 +4,7 @@ use mathlib.Core.Path.{sym, ◌∙◌}
 use native.Mathlib.Omega.{arith}
 use lib.ListN.{length}
 use Rattle.keys.specs.Key.{slot_limit}
-use Rattle.build.proofs.Alike.{further_inside, four_equal, sixteen_one}
+use Rattle.build.proofs.Alike.{further_inside, all_four_equal, sixteen_one}
 use Rattle.build.proofs.pixels.sixteen_alike.Goals as goal
 use Rattle.build.proofs.pixels.sixteen_alike.Lts as lts
 use Rattle.build.proofs.pixels.sixteen_alike.Tie as tie
@@ -64,7 +64,7 @@ pub returns : goal.returns
 returns c t =
     let s = c.before.before.before.before.before.before.before.before in
     let f = c.wide-all.result in
-    let h = four_equal c.word-a.result c.word-b.result c.word-c.result c.word-d.result (f * 16843009) t in
+    let h = all_four_equal c.word-a.result c.word-b.result c.word-c.result c.word-d.result (f * 16843009) t in
     sixteen_one s.args.side s.args.raster.now s.args.row s.args.column s.requires.features f (small c.before.before.before.before.before)
     (sym c.word-a.ensures ∙ h.0)
     (sym c.word-b.ensures ∙ h.1)

@@ -8,7 +8,7 @@ use Rattle.keys.proofs.Powers.{two_le}
 use Rattle.build.specs.BuildBlocks.{picture_of_rows, Inside, Fitting}
 use Rattle.build.proofs.BuildInside.{one_above, half_side, fifth_step, inside_quadrant}
 use Rattle.build.proofs.FittingBlock.{fitting_at, fitting_key, fits_nw, fits_ne, fits_sw, fits_se, fits_four}
-use Rattle.build.proofs.WrittenBlock.{written_at, written_key, written_quadrants}
+use Rattle.build.proofs.WrittenBlock.{block_written_at, written_key, written_quadrants}
 use Rattle.build.proofs.write.+write_below.Goals as goal
 
 -- the first quadrant is one step on
@@ -125,5 +125,5 @@ write_four-requires t c =
 
 pub returns : goal.returns
 returns t c =
-    written_at {p = picture_of_rows c.args.side c.args.raster.now} (one_above (positive c.if-height-lt4.false))
+    block_written_at {p = picture_of_rows c.args.side c.args.raster.now} (one_above (positive c.if-height-lt4.false))
     (written_quadrants (picture_of_rows c.args.side c.args.raster.now) _ _ _ _ _ _ _ c.power_of_two-half.ensures c.power_of_five-step.ensures (written_key (once_step _ _ _ c.child-nw_key.ensures) c.write_below-nw.ensures) (written_key c.child-ne_key.ensures c.write_below-ne.ensures) (written_key c.child-sw_key.ensures c.write_below-sw.ensures) (written_key c.child-se_key.ensures c.write_below-se.ensures) c.write_four.ensures)

@@ -2,12 +2,12 @@
 use Prim.Native.Nat.{◌-◌}
 use lib.ListN.{length}
 use Rattle.finding_runs.specs.Run.{progress_of}
-use Rattle.finding_runs.proofs.RunTurns.{Turn}
+use Rattle.finding_runs.proofs.RunTurns.{RunTurn}
 use Rattle.finding_runs.proofs.all_rules.run.Given as goal
 
 abbrev pub invariant-loop-i : goal.invariant-loop-i
 invariant-loop-i l =
-    Turn l.keys l.bits l.waiver_ids l.waiver_keys l.rules (progress_of l.initial.st l.initial.found_ids l.initial.found_keys) (progress_of l.st l.found_ids l.found_keys) l.i
+    RunTurn l.keys l.bits l.waiver_ids l.waiver_keys l.rules (progress_of l.initial.st l.initial.found_ids l.initial.found_keys) (progress_of l.st l.found_ids l.found_keys) l.i
 
 abbrev pub decreases-loop-i : goal.decreases-loop-i
 decreases-loop-i l = length l.rules - l.i

@@ -3,7 +3,7 @@ use mathlib.Core.Path.{sym, ◌∙◌}
 use native.Mathlib.Omega.{arith}
 use Rattle.list.proofs.Own.{own_sorted}
 use Rattle.replace.proofs.PlanTop.{top_fits}
-use Rattle.replace.proofs.PlanPlaces.{FilledBlock, filled_by, filled_until, filled_step, filled_asked, plan_listed, plan_high, plan_inside}
+use Rattle.replace.proofs.PlanPlaces.{FilledBlock, plan_filled_by, filled_until, filled_step, filled_asked, plan_listed, plan_high, plan_inside}
 use borrow.Author.Rules.{rules}
 use Rattle.replace.proofs.plan.plan_by.Goals as goal
 use Rattle.replace.proofs.plan.plan_by.Lts as lts
@@ -21,7 +21,7 @@ At-Start = lts.Start tie.the-claims own.Pre own.Post tie.handed_clauses
 
 -- what holds once the step is known
 at-power : (c : At-After-power_of_five) → FilledBlock c.args.m c.args.key c.top_of-top.result c.power_of_five-step.result
-at-power c = filled_by _ _ _ c.requires.m_bound.0 c.requires.m_bound.1 c.top_of-top.ensures c.power_of_five-step.ensures
+at-power c = plan_filled_by _ _ _ c.requires.m_bound.0 c.requires.m_bound.1 c.top_of-top.ensures c.power_of_five-step.ensures
 
 pub top_of-top-requires : goal.top_of-top-requires
 top_of-top-requires c =

@@ -2,7 +2,7 @@
 use native.Mathlib.Omega.{arith}
 use borrow.Author.Rules.{rules}
 use Rattle.list.specs.Own.{shown_by}
-use Rattle.summary.proofs.Renewed.{places_in, places_few}
+use Rattle.summary.proofs.Renewed.{block_places_in, places_few}
 use Rattle.summary.proofs.IsSummary.{none_right, length-right, length-wrong, all_right, block_wrong, block_right}
 use Rattle.summary.proofs.check.is_summary.Goals as goal
 
@@ -24,13 +24,13 @@ counts_of-counts-requires c =
 
 pub overflow_mul-b : goal.overflow_mul-b
 overflow_mul-b c =
-    let h = places_in c.args.m c.args.s c.loop-b.b (omega (arith, c.number_of-blocks.ensures)) in
+    let h = block_places_in c.args.m c.args.s c.loop-b.b (omega (arith, c.number_of-blocks.ensures)) in
     let f = places_few c.args.m c.args.s c.requires.m_bound.1 in
     omega arith
 
 pub same_counts-requires : goal.same_counts-requires
 same_counts-requires c =
-    let h = places_in c.args.m c.args.s c.loop-b.b (omega (arith, c.number_of-blocks.ensures)) in
+    let h = block_places_in c.args.m c.args.s c.loop-b.b (omega (arith, c.number_of-blocks.ensures)) in
     let long = length-right c.args.m c.args.s c.args.summary.now _ c.have_length.ensures c.if-not-have_length.false-raw in
     (c.requires.m_bound.1, omega arith)
 

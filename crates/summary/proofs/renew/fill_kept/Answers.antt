@@ -2,7 +2,7 @@
 use native.Mathlib.Omega.{arith}
 use borrow.Author.Rules.{rules}
 use Rattle.list.specs.Own.{shown_by}
-use Rattle.summary.proofs.Renewed.{renew_begins, renew_turns, renew_ends, places_in, places_few, counters_long, all_renewable, summary_filled}
+use Rattle.summary.proofs.Renewed.{renew_begins, renew_turns, renew_ends, block_places_in, places_few, counters_long, all_renewable, summary_filled}
 use Rattle.summary.proofs.renew.fill_kept.Goals as goal
 
 pub number_of-blocks-requires : goal.number_of-blocks-requires
@@ -20,13 +20,13 @@ slice_bounds-copy-end c = search rules
 
 pub overflow_mul-b : goal.overflow_mul-b
 overflow_mul-b c =
-    let h = places_in c.args.m c.args.s c.loop-b.b (omega (arith, c.number_of-blocks.ensures)) in
+    let h = block_places_in c.args.m c.args.s c.loop-b.b (omega (arith, c.number_of-blocks.ensures)) in
     let f = places_few c.args.m c.args.s c.requires.m_bound.1 in
     omega arith
 
 pub copy-requires : goal.copy-requires
 copy-requires c =
-    let h = places_in c.args.m c.args.s c.loop-b.b (omega (arith, c.number_of-blocks.ensures)) in
+    let h = block_places_in c.args.m c.args.s c.loop-b.b (omega (arith, c.number_of-blocks.ensures)) in
     (counters_long (shown_by c.args.m c.args.keys.now c.args.bits.now c.args.n) _ _ _ _ _ c.counts_of-counts.ensures c.requires.m_bound.1, omega (arith, c.loop-b.invariant.long, c.requires.m_bound.2))
 
 pub overflow_add-b : goal.overflow_add-b

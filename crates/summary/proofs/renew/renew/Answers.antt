@@ -2,7 +2,7 @@
 use native.Mathlib.Omega.{arith}
 use borrow.Author.Rules.{rules}
 use Rattle.list.specs.Own.{shown_by}
-use Rattle.summary.proofs.Renewed.{renew_begins, renew_turns, renew_ends, places_in, places_few, counters_long}
+use Rattle.summary.proofs.Renewed.{renew_begins, renew_turns, renew_ends, block_places_in, places_few, counters_long}
 use Rattle.summary.proofs.renew.renew.Goals as goal
 
 pub loop-b-init : goal.loop-b-init
@@ -17,13 +17,13 @@ slice_bounds-copy-end c = search rules
 
 pub overflow_mul-b : goal.overflow_mul-b
 overflow_mul-b c =
-    let h = places_in c.args.m c.args.s c.loop-b.b (omega (arith, c.requires.renewable.most)) in
+    let h = block_places_in c.args.m c.args.s c.loop-b.b (omega (arith, c.requires.renewable.most)) in
     let f = places_few c.args.m c.args.s c.requires.renewable.few in
     omega arith
 
 pub copy-requires : goal.copy-requires
 copy-requires c =
-    let h = places_in c.args.m c.args.s c.loop-b.b (omega (arith, c.requires.renewable.most)) in
+    let h = block_places_in c.args.m c.args.s c.loop-b.b (omega (arith, c.requires.renewable.most)) in
     (counters_long (shown_by c.args.m c.args.keys.now c.args.bits.now c.args.n) _ _ _ _ _ c.counts_of-counts.ensures c.requires.renewable.few, omega (arith, c.loop-b.invariant.long, c.requires.renewable.long))
 
 pub overflow_add-b : goal.overflow_add-b
