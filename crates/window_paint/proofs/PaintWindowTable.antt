@@ -83,6 +83,12 @@ module _ {m s : ℕ} {keys bits : List ℕ} {n : ℕ} {summary log_keys log_valu
 pub record WindowPassed (m s : ℕ) (keys bits : List ℕ) (n : ℕ) (summary log_keys log_values : List ℕ) (used in_force : ℕ) (w : Window) (f : ℕ) : Type 0 where
   pub none : edit_refusal (paint_window m s keys bits n summary log_keys log_values used in_force w f) ≡ 0
 
+pub not_refused : {m s : ℕ} {keys bits : List ℕ} {n : ℕ} {summary log_keys log_values : List ℕ} {used in_force : ℕ} {w : Window} {f : ℕ} {r : WindowPlan}
+    → WindowDecided (edit_refusal (paint_window m s keys bits n summary log_keys log_values used in_force w f)) m w r
+    → r.refusal ≡ 0
+    → WindowPassed m s keys bits n summary log_keys log_values used in_force w f
+not_refused decided e = record { none = sym decided.refusal_is ∙ e }
+
 module _ {m s : ℕ} {keys bits : List ℕ} {n : ℕ} {summary log_keys log_values : List ℕ} {used in_force : ℕ} {w : Window} {f : ℕ}
     (passed : WindowPassed m s keys bits n summary log_keys log_values used in_force w f) where
   window_all : EditPassed (paint_window m s keys bits n summary log_keys log_values used in_force w f)

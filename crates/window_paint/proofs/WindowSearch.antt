@@ -1,6 +1,6 @@
 -- Where the blocks of a window are looked for: a block's quadrants come in key order, so the place that served for one serves for the next, and the last
 -- for what comes after the block. Rests on Asked and on the laws of standing.
-use Prim.Native.Nat.{ℕ, suc, ◌+◌, ◌-◌, ◌*◌, ◌^◌, ◌≤◌, ◌<◌}
+use Prim.Native.Nat.{ℕ, suc, ◌+◌, ◌-◌, ◌*◌, ◌^◌, ◌<◌}
 use mathlib.Core.Path.{◌≡◌, sym, ◌∙◌, ap}
 use mathlib.Core.List.{List}
 use native.Mathlib.Nat.{pow-suc, suc-mul}
