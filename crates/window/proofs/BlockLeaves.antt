@@ -1,6 +1,6 @@
 -- The leaves of a block with given bits, as select finds them: by a run along a listed block's records; a leaf of the feature, or one around the block, has
 -- it everywhere. Rests on Told and the laws of the standing.
-use Prim.Native.Nat.{ℕ, ◌+◌, ◌-◌, ◌^◌, ◌≤◌, ◌<◌}
+use Prim.Native.Nat.{ℕ, ◌+◌, ◌-◌, ◌^◌, ◌≤◌}
 use mathlib.Core.Path.{◌≡◌, sym, ◌∙◌, ap, ap₂, subst}
 use mathlib.Core.Bool.{true}
 use mathlib.Core.List.{List, ◌++◌}

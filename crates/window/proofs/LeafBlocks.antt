@@ -6,13 +6,12 @@ use mathlib.Core.Bool.{true, false, true≢false}
 use mathlib.Core.List.{List, [], ◌∷◌, ◌++◌, append_assoc, append-nil}
 use native.Mathlib.Omega.{arith}
 use lib.ListN.{length, length-append}
-use borrow.Author.Tests.{eq-eqb}
-use Rattle.keys.specs.Under.{MapBlock, InSquare}
+use Rattle.keys.specs.Under.{InSquare}
 use Rattle.keys.proofs.Interval.{within, nest}
 use Rattle.keys.proofs.Pixel.{inside}
-use Rattle.definitions.specs.Picture.{Picture, one_feature}
+use Rattle.definitions.specs.Picture.{Picture}
 use Rattle.definitions.specs.List.{record_of}
-use Rattle.definitions.specs.Window.{is_window, select_in}
+use Rattle.definitions.specs.Window.{select_in}
 use Rattle.definitions.specs.declared.Window.{Window}
 use Rattle.definitions.specs.Edit.{content_of}
 use Rattle.laws.proofs.Within.{first_within}
@@ -23,13 +22,11 @@ use Rattle.walk.specs.declared.NextBlock.{NextBlock}
 use Rattle.walk.specs.declared.NextBlock.TheVariants.{At, Gone}
 use Rattle.walk.specs.Walk.{BlockSpot, Walking, Follows, is_within, is_apart, first_quadrant}
 use Rattle.walk.specs.Given.{keys_with, written_at, written, lower}
-use Rattle.walk.proofs.Lies.{within_pixel}
-use Rattle.walk.proofs.Steps.{Parent, some_keys, first_stands, first_less, parting_first, walking_after, in_spot}
-use Rattle.walk.proofs.SpotBits.{bits_at, whole_pixel}
+use Rattle.walk.proofs.Steps.{Parent, some_keys, first_stands, parting_first, walking_after}
 use Rattle.walk.proofs.Content.{content_at_spot, with_none, with_give}
 use Rattle.walk.proofs.Written.{written_none, written_one_key, written-append, length-written}
 use Rattle.walk.proofs.Below.{lower_block, lower_apart, lower_enter}
-use Rattle.window.specs.Gather.{Gave, AllHave, GaveFrom, InLeaf, Comes, Onward}
+use Rattle.window.specs.Gather.{Gave, AllHave, GaveFrom, Comes, Onward}
 
 -- one key is given
 pub gives_one : (limit count : ℕ) (before after : List ℕ) (key : ℕ) → after ≡ written_at limit before count key → Gave (key ∷ []) limit count before after (count + 1)

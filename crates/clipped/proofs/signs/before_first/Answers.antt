@@ -9,7 +9,6 @@ use mir.ValLaws.{to_z-of_z}
 use Rattle.clipped.proofs.Lines.{negative_is, less_is, less_fits}
 use Rattle.clipped.proofs.signs.before_first.Goals as goal
 use Rattle.clipped.proofs.signs.before_first.Lts as lts
-use Rattle.clipped.proofs.signs.before_first.Tie as tie
 use Rattle.clipped.proofs.signs.before_first.Reads as own
 
 abbrev At-Start : Type 0

@@ -1,6 +1,6 @@
 -- `report::report_in` meets its contract: where the walk stands, the union has the slots of the window's pixels before the key, and no others. Within a
 -- turn it goes down to a block that lies apart from the window or that its record settles; the key rises from turn to turn.
-use Prim.Native.Nat.{ℕ, ◌+◌, ◌-◌, ◌^◌, ◌<◌}
+use Prim.Native.Nat.{ℕ, ◌+◌, ◌<◌}
 use mathlib.Core.Path.{◌≡◌, sym, ◌∙◌, ap}
 use mathlib.Core.Bool.{false}
 use mathlib.Core.Logic.{⊎_elim}
@@ -14,7 +14,7 @@ use Rattle.walk.proofs.Lies.{small}
 use Rattle.walk.proofs.Steps.{Parent, few_keys, clear_apart, clear_first, cut_parent, first_less, follows_at, follows_gone}
 use Rattle.walk.proofs.Asked.{asked_place, near_place}
 use Rattle.walk.proofs.Told.{told_place, told_holds, told_whole}
-use Rattle.walk.proofs.Going.{WalkGoes, WalkPast, going_root, going_first, past_unasked, past_told, going_on, going_less}
+use Rattle.walk.proofs.Going.{WalkPast, going_root, going_first, past_unasked, past_told, going_on, going_less}
 use Rattle.window.proofs.PassedLeaf.{past_leaf}
 use Rattle.window.proofs.Gathered.{Gathered, gathered_none, gathered_clear, gathered_settled, not_settled, gathered_end}
 use Rattle.window.proofs.report.report_in.Goals as goal

@@ -1,29 +1,24 @@
 -- `select::gather` meets its contract: where the walk stands, what is counted and written is what select gives below the key. Within a turn it goes down
 -- to a block that lies apart from the window, lacks the feature or lies within the window, and adds nothing on the way; the key rises from turn to turn.
-use Prim.Native.Nat.{ℕ, ◌+◌, ◌-◌, ◌^◌, ◌≤◌, ◌<◌}
-use mathlib.Core.Path.{◌≡◌, refl, sym, ◌∙◌, ap, subst}
+use Prim.Native.Nat.{ℕ, ◌+◌, ◌≤◌, ◌<◌}
+use mathlib.Core.Path.{◌≡◌, refl, sym, ◌∙◌}
 use mathlib.Core.Bool.{false}
 use mathlib.Core.Logic.{⊎_elim}
 use mathlib.Core.List.{List}
 use native.Mathlib.Omega.{arith}
 use lib.ListN.{length}
 use borrow.Author.Rules.{rules}
-use Rattle.definitions.specs.Picture.{Picture}
-use Rattle.definitions.specs.Window.{select_in}
-use Rattle.definitions.specs.declared.Window.{Window}
 use Rattle.list.specs.Own.{shown_by}
-use Rattle.walk.specs.Walk.{BlockSpot, Walking, is_within, is_apart}
-use Rattle.walk.specs.Given.{lower}
+use Rattle.walk.specs.Walk.{BlockSpot, is_within, is_apart}
 use Rattle.walk.proofs.Lies.{small}
 use Rattle.walk.proofs.Steps.{Parent, some_keys, few_keys, cut_parent, first_stands, first_less, parting_first}
 use Rattle.walk.proofs.Steps.{follows_at, follows_gone, walking_root, walking_whole}
 use Rattle.walk.proofs.Told.{told_bits, told_near, told_holds, told_whole, told_end}
-use Rattle.walk.proofs.Going.{WalkGoes, WalkPast, going_root, going_first, past_unasked, past_told, going_on, going_less}
+use Rattle.walk.proofs.Going.{WalkPast, going_root, going_first, past_unasked, past_told, going_on, going_less}
 use Rattle.walk.proofs.Shows.{bits_no}
 use Rattle.walk.proofs.Below.{lower_apart, lower_lacking, lower_enter}
 use Rattle.window.proofs.BlockLeaves.{told_all, told_several, told_fits, run_gave}
 use Rattle.window.proofs.Taken.{Taken, taken_none, taken_small, taken-length, taken_named, taken_pass, taken_more, taken_block, taken_end}
-use Rattle.window.proofs.select.gather.Invariants.{Still}
 use Rattle.window.proofs.select.gather.Goals as goal
 use Rattle.window.proofs.select.gather.Lts as lts
 use Rattle.window.proofs.select.gather.Tie as tie

@@ -1,16 +1,14 @@
 -- `select::gather_leaf` meets its contract: where the walk stands, what was given is what select gives from the first block on and before the key, in every
 -- picture that has the feature in the leaf. The key rises from turn to turn.
-use Prim.Native.Nat.{ℕ, ◌+◌, ◌-◌, ◌^◌, ◌≤◌, ◌<◌}
-use mathlib.Core.Path.{◌≡◌, refl, sym, ◌∙◌, subst}
+use Prim.Native.Nat.{ℕ, ◌+◌, ◌≤◌}
+use mathlib.Core.Path.{refl, sym, ◌∙◌}
 use mathlib.Core.Logic.{⊎_elim}
 use native.Mathlib.Omega.{arith}
 use borrow.Author.Rules.{rules}
-use Rattle.walk.specs.Walk.{BlockSpot, Walking}
-use Rattle.walk.specs.declared.NextBlock.TheVariants.{At, Gone}
 use Rattle.walk.proofs.Lies.{small}
 use Rattle.walk.proofs.Steps.{some_keys, few_keys, rises}
-use Rattle.window.specs.Gather.{Comes, Onward}
-use Rattle.window.proofs.LeafBlocks.{Reached, Running, onward_at, onward_gone, reached_none, reached_named, reached_held, reached_not, running_on, running_end}
+use Rattle.window.specs.Gather.{Comes}
+use Rattle.window.proofs.LeafBlocks.{Reached, onward_at, onward_gone, reached_none, reached_named, reached_held, reached_not, running_on, running_end}
 use Rattle.window.proofs.select.gather_leaf.Goals as goal
 use Rattle.window.proofs.select.gather_leaf.Lts as lts
 use Rattle.window.proofs.select.gather_leaf.Tie as tie

@@ -1,5 +1,5 @@
 -- `select::gather_run` meets its contract: what is counted and written so far, with what the rest of the run gives, is what the whole run gives.
-use Prim.Native.Nat.{ℕ, ◌+◌, ◌-◌, ◌≤◌}
+use Prim.Native.Nat.{ℕ, ◌+◌}
 use mathlib.Core.Path.{◌≡◌, refl, sym, ap, ap₂, ◌∙◌}
 use mathlib.Core.Logic.{⊎_elim}
 use mathlib.Core.List.{List, [], ◌∷◌}
@@ -9,7 +9,7 @@ use lib.ListN.{length}
 use Rattle.walk.specs.Given.{written_at, written}
 use Rattle.window.specs.Gather.{Gave}
 use Rattle.walk.proofs.Written.{written_none, written_one_key, length-written_at}
-use Rattle.window.proofs.Run.{left, run_over, run_gives, run_passes}
+use Rattle.window.proofs.Run.{run_over, run_gives, run_passes}
 use Rattle.window.proofs.select.gather_run.Invariants.{Passed}
 use Rattle.window.proofs.select.gather_run.Goals as goal
 use Rattle.window.proofs.select.gather_run.Lts as lts

@@ -1,15 +1,10 @@
 -- `select::gather_run` meets its contract: what is counted and written so far, with what the rest of the run gives, is what the whole run gives.
 use Prim.Native.Nat.{ℕ, ◌+◌, ◌-◌, ◌≤◌}
-use mathlib.Core.Path.{◌≡◌, refl, sym, ap, ap₂, ◌∙◌}
-use mathlib.Core.Logic.{⊎_elim}
-use mathlib.Core.List.{List, [], ◌∷◌}
-use native.Mathlib.Numerals.{add-one}
-use native.Mathlib.Omega.{arith}
+use mathlib.Core.Path.{◌≡◌}
+use mathlib.Core.List.{List}
 use lib.ListN.{length}
-use Rattle.walk.specs.Given.{written_at, written}
-use Rattle.window.specs.Gather.{Gave}
-use Rattle.walk.proofs.Written.{written_none, written_one_key, length-written_at}
-use Rattle.window.proofs.Run.{left, run_over, run_gives, run_passes}
+use Rattle.walk.specs.Given.{written}
+use Rattle.window.proofs.Run.{left}
 use Rattle.window.proofs.select.gather_run.Given as goal
 
 pub record Passed (whole : List ℕ) (limit count : ℕ) (answer₀ answer : List ℕ) (given i : ℕ) (more : List ℕ) : Type 0 where
