@@ -1,6 +1,6 @@
 -- Four turns of the filling of a node of side 2, each a pixel, and what the code may read and write at each of them. Rests on FillTurn.
 use Prim.Native.Nat.{ℕ, ◌+◌, ◌*◌, ◌/◌, ◌%◌, ◌≤◌, ◌<◌}
-use mathlib.Core.Path.{◌≡◌, refl, sym, ◌∙◌, ap}
+use mathlib.Core.Path.{◌≡◌, refl}
 use mathlib.Core.Bool.{true}
 use mathlib.Core.List.{List}
 use native.Mathlib.Omega.{arith}
@@ -8,7 +8,7 @@ use lib.ListN.{length, get_or}
 use Rattle.definitions.specs.Bits.{feature_of}
 use Rattle.list.specs.Check.{one_slot}
 use Rattle.read.specs.Fill.{rectangle_painted, corner_of, ShowsNode, NodeFilled}
-use Rattle.read.proofs.FillTurn.{FillReached, fill_reached_none, reached_all, reached_long, corner_fits, next_room, pixel_leaf, leaf_asked, leaf_turn}
+use Rattle.read.proofs.FillTurn.{FillReached, fill_reached_none, reached_all, corner_fits, next_room, pixel_leaf, leaf_asked, leaf_turn}
 
 -- a pixel at a place gets a feature
 abbrev pub with_pixel : ℕ → ℕ → ℕ → List ℕ → List ℕ

@@ -28,7 +28,7 @@ use Rattle.list.proofs.Count.{counted_before}
 use Rattle.list.proofs.Among.{up_to_most, place-among}
 use Rattle.list.proofs.Lookup.{InsideLeaf, lookup_inside}
 use Rattle.list.proofs.Own.{own_ascends, own_part_some}
-use Rattle.list.proofs.Fuller.{listed_standing, inside_standing, listed_numbers, inside_numbers, listed_part, ends_after, node_records}
+use Rattle.list.proofs.Fuller.{listed_standing, inside_standing, listed_numbers, listed_part, ends_after, node_records}
 use Rattle.list.proofs.PatchLeaf.{in_leaf, leaf_contains, leaf_level}
 use Rattle.walk.specs.declared.Spot.{Spot}
 use Rattle.walk.specs.declared.asking.Told.{Told}

@@ -8,7 +8,6 @@ use lib.Bits.{bit_and}
 use lib.Pow.{pow_pos, pow_mono, pow-lt}
 use Rattle.keys.proofs.Cases.{split}
 use Rattle.keys.proofs.Powers.{five_le, two_le}
-use Rattle.keys.specs.Under.{MapBlock}
 use Rattle.keys.proofs.Interval.{within, same_block}
 use Rattle.walk.specs.declared.Spot.{Spot}
 use Rattle.walk.specs.Walk.{BlockSpot}

@@ -1,18 +1,8 @@
 -- `after` meets its contract: at each turn the block ends where the given one does, so what follows it is what is sought. It climbs while it
 -- is in the south-east, and a block as high as the map is the root.
-use Prim.Native.Nat.{ℕ, suc, ◌+◌, ◌-◌, ◌*◌, ◌^◌, ◌≤◌, ◌<◌}
-use mathlib.Core.Path.{◌≡◌, refl, sym, ap, ◌∙◌}
-use native.Mathlib.Nat.{pow-suc}
-use native.Mathlib.Omega.{arith}
-use lib.Bits.{bit_and}
-use lib.Pow.{pow_pos, pow_mono, pow-lt}
-use Rattle.keys.proofs.Cases.{split}
-use Rattle.keys.proofs.Powers.{five_le, two_le}
+use Prim.Native.Nat.{ℕ, ◌+◌, ◌-◌, ◌^◌}
+use mathlib.Core.Path.{◌≡◌}
 use Rattle.keys.specs.Under.{MapBlock}
-use Rattle.keys.proofs.Interval.{within, same_block}
-use Rattle.walk.specs.declared.Spot.{Spot}
-use Rattle.walk.specs.Walk.{BlockSpot}
-use Rattle.walk.proofs.Place.{goes_east, goes_south_west, goes_up, as_high, SouthWest, SouthEast}
 use Rattle.walk.proofs.after.Given as goal
 
 -- a block of the map that ends before the key

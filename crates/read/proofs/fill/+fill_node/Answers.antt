@@ -1,5 +1,5 @@
 -- `fill::fill_node` meets its contract: after each turn the quadrants that are left, once painted, make the node's picture. The side falls.
-use Prim.Native.Nat.{ℕ, suc, ◌-◌, ◌/◌, ◌<◌}
+use Prim.Native.Nat.{ℕ, suc, ◌/◌, ◌<◌}
 use mathlib.Core.Path.{◌≡◌, refl, sym, ◌∙◌}
 use mathlib.Core.Logic.{⊎_elim}
 use native.Mathlib.Omega.{arith}
@@ -8,7 +8,7 @@ use mathlib.Core.List.{List}
 use Rattle.definitions.specs.Picture.{Picture}
 use Rattle.read.specs.Fill.{Shows}
 use Rattle.read.proofs.Shown.{shows_room}
-use Rattle.read.proofs.FillTurn.{FillReached, fill_reached_none, reached_long, reached_all, south_fits, corner_fits, next_room, next_slots, leaf_asked, child_asked, leaf_turn, node_turn}
+use Rattle.read.proofs.FillTurn.{fill_reached_none, reached_long, reached_all, south_fits, corner_fits, next_room, next_slots, leaf_asked, child_asked, leaf_turn, node_turn}
 use Rattle.read.proofs.fill.+fill_node.Goals as goal
 
 -- half of the side is less

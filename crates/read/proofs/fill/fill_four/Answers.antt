@@ -1,7 +1,6 @@
 -- `fill::fill_four` meets its contract: after each turn the rows passed are painted, and `from` is where the next begins.
-use Prim.Native.Nat.{◌-◌}
 use native.Mathlib.Omega.{arith}
-use Rattle.read.proofs.Filling.{RowsPassed, rows_begin, rows_long, row_fits, next_fits, row_goes, rows_end}
+use Rattle.read.proofs.Filling.{rows_begin, rows_long, row_fits, next_fits, row_goes, rows_end}
 use Rattle.read.proofs.fill.fill_four.Goals as goal
 
 pub loop-i-init : goal.loop-i-init

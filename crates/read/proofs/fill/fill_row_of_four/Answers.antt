@@ -1,7 +1,6 @@
 -- `fill::fill_row_of_four` meets its contract: after each turn the places passed have the feature.
-use Prim.Native.Nat.{◌+◌, ◌-◌}
 use native.Mathlib.Omega.{arith}
-use Rattle.read.proofs.Filling.{PlacesPassed, places_begin, place_is, places_long, place_goes, places_end}
+use Rattle.read.proofs.Filling.{places_begin, place_is, places_long, place_goes, places_end}
 use Rattle.read.proofs.fill.fill_row_of_four.Goals as goal
 
 pub loop-i-init : goal.loop-i-init

@@ -1,10 +1,9 @@
 -- `fill::fill_sixty_four` meets its contract: after each turn the quadrants that are left, once painted, make the node's picture.
-use Prim.Native.Nat.{◌-◌}
 use mathlib.Core.Path.{refl, sym, ◌∙◌}
 use mathlib.Core.Logic.{⊎_elim}
 use native.Mathlib.Omega.{arith}
 use Rattle.read.proofs.Shown.{shows_room}
-use Rattle.read.proofs.FillTurn.{FillReached, fill_reached_none, reached_long, reached_all, south_fits, corner_fits, next_room, next_slots, leaf_asked, child_asked, leaf_turn, node_turn}
+use Rattle.read.proofs.FillTurn.{fill_reached_none, reached_long, reached_all, south_fits, corner_fits, next_room, next_slots, leaf_asked, child_asked, leaf_turn, node_turn}
 use Rattle.read.proofs.fill.fill_sixty_four.Goals as goal
 
 pub overflow_mul-south : goal.overflow_mul-south

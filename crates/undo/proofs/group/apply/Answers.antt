@@ -4,9 +4,6 @@ use borrow.Author.Tests.{not-true, not-false}
 use Rattle.undo.proofs.Applying.{applied_full, can_change, change_outdated, applied_done}
 use borrow.Author.Rules.{rules}
 use Rattle.undo.proofs.group.apply.Goals as goal
-use Rattle.undo.proofs.group.apply.Lts as lts
-use Rattle.undo.proofs.group.apply.Tie as tie
-use Rattle.undo.proofs.group.apply.Reads as own
 
 pub has_room-fits-requires : goal.has_room-fits-requires
 has_room-fits-requires c = search rules

@@ -1,6 +1,5 @@
 -- `group::last_run` meets its contract: the places of the last step as a run.
 use Rattle.undo.proofs.GroupRuns.{group_stepped, run_asked, run_found}
-use borrow.Author.Rules.{rules}
 use Rattle.undo.proofs.group.last_run.Goals as goal
 
 pub last_step-last-requires : goal.last_step-last-requires

@@ -9,7 +9,6 @@ use Rattle.edit.proofs.Decided.{refuses, grants}
 use Rattle.edit.proofs.Planned.{old_there, few_levels, length-told}
 use Rattle.edit.proofs.PaintPlan.{paint_found, paint_planned}
 use Rattle.edit.proofs.EditCallTables.{room_told, room_clear}
-use borrow.Author.Rules.{rules}
 use Rattle.undo.proofs.redo.decide.Goals as goal
 use Rattle.undo.proofs.redo.decide.Lts as lts
 use Rattle.undo.proofs.redo.decide.Tie as tie

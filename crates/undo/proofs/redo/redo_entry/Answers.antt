@@ -1,16 +1,8 @@
 -- `redo::redo_entry` meets its contract: a refusal leaves all as it is; else the block is filled again, and the summary is counted anew.
 use Prim.Native.Nat.{◌+◌}
-use mathlib.Core.Path.{◌≡◌, sym, ap, ◌∙◌}
+use mathlib.Core.Path.{sym, ap, ◌∙◌}
 use native.Mathlib.Omega.{arith}
-use Rattle.definitions.specs.Read.{records_of}
-use Rattle.definitions.specs.Log.{to_redo}
-use Rattle.definitions.specs.Calls.Edit.{edit_refusal}
-use Rattle.definitions.specs.Calls.Paint.{painted}
-use Rattle.definitions.specs.Calls.Redo.{redo}
 use Rattle.laws.proofs.Edits.{edit_refused}
-use Rattle.edit.specs.EditCallChecks.{list_room_refusal}
-use Rattle.edit.specs.PaintCall.{Paintable, paint_plan}
-use Rattle.undo.specs.RedoCall.{next_entry, LogToRedo}
 use Rattle.edit.proofs.Decided.{refused, granted}
 use Rattle.edit.proofs.EditCallTables.{room_fits, passed_settings, passed_own, passed_summary}
 use Rattle.edit.proofs.PaintPlan.{paint_outdated}
@@ -18,9 +10,6 @@ use Rattle.undo.proofs.RedoPlan.{redo_paintable, end_within, redone_is, redo_pai
 use Rattle.undo.proofs.RedoTable.{redo_sheet, to-redo, painted_row, redo_done}
 use borrow.Author.Rules.{rules}
 use Rattle.undo.proofs.redo.redo_entry.Goals as goal
-use Rattle.undo.proofs.redo.redo_entry.Lts as lts
-use Rattle.undo.proofs.redo.redo_entry.Tie as tie
-use Rattle.undo.proofs.redo.redo_entry.Reads as own
 
 pub next_entry-entry-requires : goal.next_entry-entry-requires
 next_entry-entry-requires c =

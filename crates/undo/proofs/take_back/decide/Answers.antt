@@ -12,7 +12,6 @@ use Rattle.edit.proofs.Decided.{refuses, grants}
 use Rattle.edit.proofs.Planned.{old_there, few_levels, length-told}
 use Rattle.undo.proofs.TakingBackPlan.{key_valid, content_count, restore_found, restore_planned}
 use Rattle.edit.proofs.EditCallTables.{room_told, room_clear}
-use borrow.Author.Rules.{rules}
 use Rattle.undo.proofs.take_back.decide.Goals as goal
 use Rattle.undo.proofs.take_back.decide.Lts as lts
 use Rattle.undo.proofs.take_back.decide.Tie as tie

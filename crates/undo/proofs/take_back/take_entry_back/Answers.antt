@@ -1,24 +1,17 @@
 -- `take_back::take_entry_back` meets its contract: a refusal leaves all as it is; else the content goes back, and the summary is counted anew.
-use mathlib.Core.Path.{◌≡◌, sym, ap, ◌∙◌}
+use mathlib.Core.Path.{sym, ap, ◌∙◌}
 use native.Mathlib.Omega.{arith}
 use lib.ListN.{length}
-use Rattle.definitions.specs.Read.{records_of}
-use Rattle.definitions.specs.Calls.TakeBack.{restored}
 use Rattle.laws.proofs.LastStep.{before_single}
 use Rattle.laws.proofs.Edits.{edit_refused}
-use Rattle.edit_log.specs.Entries.{last_entry}
 use Rattle.edit_log.proofs.Places.{start_is}
-use Rattle.edit.specs.EditCallChecks.{list_room_refusal}
-use Rattle.undo.specs.TakingBackCall.{Restorable, restore_plan}
+use Rattle.undo.specs.TakingBackCall.{Restorable}
 use Rattle.edit.proofs.Decided.{refused, granted}
 use Rattle.edit.proofs.EditCallTables.{room_fits, passed_settings, passed_summary}
 use Rattle.undo.proofs.TakingBackPlan.{restore_puttable, restore_made, restore_outdated, restore_counted}
 use Rattle.undo.proofs.TakingBackTable.{take-sheet, take_row, take_done, passed_restorable}
 use borrow.Author.Rules.{rules}
 use Rattle.undo.proofs.take_back.take_entry_back.Goals as goal
-use Rattle.undo.proofs.take_back.take_entry_back.Lts as lts
-use Rattle.undo.proofs.take_back.take_entry_back.Tie as tie
-use Rattle.undo.proofs.take_back.take_entry_back.Reads as own
 
 pub decide-decision-requires : goal.decide-decision-requires
 decide-decision-requires c = passed_restorable (take-sheet c.requires.0) c.requires.0.some c.requires.1

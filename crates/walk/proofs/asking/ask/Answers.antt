@@ -1,15 +1,9 @@
 -- `asking::ask` meets its contract: the standing is taken apart, and the leaf around a block is found by its key and level.
-use mathlib.Core.Path.{◌≡◌, sym, ◌∙◌}
+use mathlib.Core.Path.{sym, ◌∙◌}
 use native.Mathlib.Omega.{arith}
 use borrow.Author.Rules.{rules}
-use Rattle.definitions.specs.Read.{records_of}
-use Rattle.definitions.specs.Standing.{standing_of}
-use Rattle.definitions.specs.declared.Standing.TheVariants.{Listed, Inside}
 use Rattle.walk.proofs.Told.{tells_listed, tells_inside, asked_in, asked_step, some_records, records_there, leaf_told}
 use Rattle.walk.proofs.asking.ask.Goals as goal
-use Rattle.walk.proofs.asking.ask.Lts as lts
-use Rattle.walk.proofs.asking.ask.Tie as tie
-use Rattle.walk.proofs.asking.ask.Reads as own
 
 pub stand_from-standing-requires : goal.stand_from-standing-requires
 stand_from-standing-requires c = let s = c.before.before.before in (asked_in s.requires.0 s.requires.2 s.requires.1, asked_step s.requires.0 s.requires.2 s.requires.1, s.requires.3)
