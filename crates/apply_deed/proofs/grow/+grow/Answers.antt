@@ -1,5 +1,5 @@
 -- `grow` meets its contract: a leaf as it is met, a block that stays as a whole, and else a node's quadrants from the last to the first, and then its own record. The height falls at each call.
-use Prim.Native.Nat.{ℕ, ◌-◌, ◌+◌, ◌<◌}
+use Prim.Native.Nat.{ℕ, ◌-◌, ◌<◌}
 use mathlib.Core.Path.{◌≡◌, ◌∙◌}
 use mathlib.Core.List.{List}
 use native.Mathlib.Omega.{arith}

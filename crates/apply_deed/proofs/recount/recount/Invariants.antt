@@ -1,12 +1,7 @@
 -- `recount` meets its contract: after each turn the places of one block more are those of the new list.
-use Prim.Native.Nat.{◌+◌, ◌-◌, ◌≤◌}
-use mathlib.Core.Path.{sym, ◌∙◌, subst}
-use mathlib.Core.Logic.{⊎_elim}
-use native.Mathlib.Omega.{arith}
-use borrow.Author.Rules.{rules}
+use Prim.Native.Nat.{◌-◌, ◌≤◌}
 use Rattle.list.specs.Own.{shown_by}
-use Rattle.summary.proofs.CountedUpTo.{CountedUpTo, counted_none, counted_long, counted_all, counted_renewed, counted_kept}
-use Rattle.apply_deed.proofs.Recounted.{outdated_long, passed_kept}
+use Rattle.summary.proofs.CountedUpTo.{CountedUpTo}
 use Rattle.apply_deed.proofs.recount.recount.Given as goal
 
 abbrev pub invariant-loop-b : goal.invariant-loop-b

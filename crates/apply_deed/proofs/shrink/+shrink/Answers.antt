@@ -1,6 +1,6 @@
 -- `shrink` meets its contract: a leaf by itself, a block that one look settles as it is, and else a node's quadrants one after the other and then its own
 -- record. The height falls at each call.
-use Prim.Native.Nat.{ℕ, ◌+◌, ◌<◌}
+use Prim.Native.Nat.{ℕ, ◌<◌}
 use mathlib.Core.Path.{◌≡◌, sym, ◌∙◌}
 use mathlib.Core.Bool.{false}
 use mathlib.Core.List.{List}

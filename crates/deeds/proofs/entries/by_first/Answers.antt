@@ -1,9 +1,5 @@
 -- `by_first` meets its contract: what the entries from the end on make of the block is what those before leave where they are apart from it.
-use mathlib.Core.Path.{◌≡◌, refl, ◌∙◌}
-use mathlib.Core.Bool.{true}
-use mathlib.Core.List.{[]}
-use Rattle.deeds.specs.Runs.{Between, given_by, meeting_by, first_first}
-use Rattle.deeds.specs.declared.meeting.Meeting.TheVariants.{Apart}
+use mathlib.Core.Path.{refl, ◌∙◌}
 use Rattle.deeds.proofs.Chains.{run_ended}
 use Rattle.deeds.proofs.EntryTurns.{turn_less, turn_rest, turn_asking, first_turns, first_over}
 use Rattle.deeds.proofs.entries.by_first.Goals as goal

@@ -1,10 +1,7 @@
 -- `by_last` meets its contract: an entry that is apart from the block leaves it to those before it.
-use mathlib.Core.Path.{◌≡◌, refl, sym, ◌∙◌}
-use borrow.Author.Tests.{ltb-true}
+use mathlib.Core.Path.{◌≡◌}
 use Rattle.deeds.specs.Runs.{EntriesIn, given_by, meeting_by, last_first}
 use Rattle.deeds.specs.declared.meeting.Meeting.TheVariants.{Apart}
-use Rattle.deeds.proofs.Chains.{run_ended}
-use Rattle.deeds.proofs.EntryTurns.{turn_less, turn_valid, turn_slot, turn_held, turn_entries, last_holds, last_parted, last_apart, last_stops, last_over}
 use Rattle.deeds.proofs.entries.by_last.Given as goal
 
 abbrev pub invariant-loop-end : goal.invariant-loop-end

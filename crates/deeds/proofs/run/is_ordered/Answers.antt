@@ -5,7 +5,6 @@ use native.Mathlib.Omega.{arith}
 use Rattle.keys.specs.Key.{height_of}
 use Rattle.keys.proofs.LastZeros.{keys_height}
 use Rattle.keys.proofs.Powers.{five_le}
-use Rattle.deeds.specs.Runs.{Between, descends, last_first}
 use Rattle.deeds.proofs.Chains.{run_ended}
 use Rattle.deeds.proofs.EntryTurns.{limit_is, turn_less, turn_rest, turn_valid, turn_within, descends_on, descends_not, descends_over}
 use Rattle.deeds.proofs.run.is_ordered.Goals as goal

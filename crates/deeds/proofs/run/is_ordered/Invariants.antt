@@ -1,13 +1,7 @@
 -- `is_ordered` meets its contract: after each turn the entries descend exactly when those that are left do.
 use Prim.Native.Nat.{◌^◌}
-use mathlib.Core.Path.{◌≡◌, ◌∙◌}
-use native.Mathlib.Omega.{arith}
-use Rattle.keys.specs.Key.{height_of}
-use Rattle.keys.proofs.LastZeros.{keys_height}
-use Rattle.keys.proofs.Powers.{five_le}
+use mathlib.Core.Path.{◌≡◌}
 use Rattle.deeds.specs.Runs.{Between, descends, last_first}
-use Rattle.deeds.proofs.Chains.{run_ended}
-use Rattle.deeds.proofs.EntryTurns.{limit_is, turn_less, turn_rest, turn_valid, turn_within, descends_on, descends_not, descends_over}
 use Rattle.deeds.proofs.run.is_ordered.Given as goal
 
 abbrev pub invariant-loop-left : goal.invariant-loop-left

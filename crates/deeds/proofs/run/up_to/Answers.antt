@@ -1,6 +1,5 @@
 -- `up_to` meets its contract: an entry past the block is left out, and the first that is not ends the walk.
 use borrow.Author.Rules.{rules}
-use Rattle.deeds.specs.Deed.{ShortRun}
 use Rattle.deeds.proofs.Chains.{run_ended}
 use Rattle.deeds.proofs.EntryTurns.{turn_less}
 use Rattle.deeds.proofs.ShortRuns.{short_begins, short_turns, short_by}
