@@ -5,7 +5,7 @@ use Prim.Native.Nat.{ℕ}
 use mathlib.Core.Path.{◌≡◌, refl, sym, ap, ◌∙◌, subst}
 use mathlib.Core.List.{List, [], ◌∷◌}
 use contract.Lifetimes.{Lfts}
-use denote.Ref.{Bor}
+use denote.Ref.{Bor, MutBor}
 use denote.Triple.Clauses.{at_exit}
 use denote.Triple.Entry.{Args}
 use Rattle.definitions.specs.Refusal.{accepted}
@@ -30,9 +30,12 @@ use Rattle.prowcurl.specs.contracts.edits.hlq_redo as redo
 use Rattle.prowcurl.proofs.edits.hlq_redo.Reads as redo-reads
 use Rattle.prowcurl.proofs.edits.hlq_empty.Reads as empty-reads
 
--- a slice as it is lent: `now` is its content
+-- a slice as it is lent to be read, and one as it is lent to be written: `now` is its content
 abbrev pub Slice : Type 0
 Slice = Bor (List ℕ)
+
+abbrev pub MutSlice : Type 0
+MutSlice = MutBor (List ℕ)
 
 -- a call at m and s that answers with this refusal takes the history's step c from the buffers b to b'
 pub record CallSteps (m s : ℕ) (b : Buffers) (c : Call) (refusal : ℕ) (b' : Buffers) : Type 0 where
@@ -42,12 +45,12 @@ pub record CallSteps (m s : ℕ) (b : Buffers) (c : Call) (refusal : ℕ) (b' : 
 -- one call of an edit: the slices and counts that it was lent, its answer, and the lists that it leaves in the slices
 pub record EditCall : Type 0 where
   pub κs : Lfts 5
-  pub keys : Slice
-  pub bits : Slice
+  pub keys : MutSlice
+  pub bits : MutSlice
   pub n : ℕ
-  pub summary : Slice
-  pub log_keys : Slice
-  pub log_values : Slice
+  pub summary : MutSlice
+  pub log_keys : MutSlice
+  pub log_values : MutSlice
   pub used : ℕ
   pub in_force : ℕ
   pub result : Edited
@@ -201,7 +204,7 @@ module _ (m s : ℕ) where
   ran_is (by_empty {b = b} {cs = cs} κs r kept rest) = further cs (empty_step m s b κs r kept) (ran_is rest)
 
 -- hlq_build was lent these slices, answers r, and leaves the lists keys', bits' and summary'; hlq_empty answers e for any two slices of a log
-module _ (m s : ℕ) (κs : Lfts 4) (raster keys bits summary : Slice) (r : Counted) (keys' bits' summary' : List ℕ) (κs₀ : Lfts 0) (e : Emptied)
+module _ (m s : ℕ) (κs : Lfts 4) (raster : Slice) (keys bits summary : MutSlice) (r : Counted) (keys' bits' summary' : List ℕ) (κs₀ : Lfts 0) (e : Emptied)
     (log_keys log_values : List ℕ) where
   abbrev pub build_lent : Args build.signature κs
   build_lent = (m, (s, (raster, (keys, (bits, (summary, tt))))))

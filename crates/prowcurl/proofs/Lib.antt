@@ -7,9 +7,3 @@ pub mod AreaCalls
 pub mod RestSteps
 pub mod RestHistory
 pub mod RestLog
--- findings, walked by hand
-pub mod FindingsCalls
-pub mod FindingsEntryExit
--- the batch, walked by hand
-pub mod BatchCalls
-pub mod BatchEntryExit

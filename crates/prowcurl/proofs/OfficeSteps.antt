@@ -26,8 +26,8 @@ use Rattle.prowcurl.proofs.waivers.hlq_add_waiver.Reads as add-waiver-reads
 use Rattle.prowcurl.specs.contracts.waivers.hlq_remove_waiver as remove-waiver
 use Rattle.prowcurl.proofs.waivers.hlq_remove_waiver.Reads as remove-waiver-reads
 use Rattle.prowcurl.specs.contracts.findings.hlq_findings as findings
-use Rattle.prowcurl.proofs.OneAnswer.{findings_learnt}
-use Rattle.prowcurl.proofs.HistorySteps.{Slice}
+use Rattle.prowcurl.proofs.findings.hlq_findings.Reads as findings-reads
+use Rattle.prowcurl.proofs.HistorySteps.{Slice, MutSlice}
 
 -- a call at m that answers with this refusal takes the step of the asking a from the table t to t'
 pub record AskSteps (m : ℕ) (t : Table) (a : Ask) (refusal : ℕ) (t' : Table) : Type 0 where
@@ -41,9 +41,9 @@ asking adds office id key = record { adds = adds; office = office; id = id; key 
 -- one such call: the slices and the count that it was lent, its answer, and the lists that it leaves in the slices
 pub record Change : Type 0 where
   pub κs : Lfts 3
-  pub offices : Slice
-  pub ids : Slice
-  pub waived : Slice
+  pub offices : MutSlice
+  pub ids : MutSlice
+  pub waived : MutSlice
   pub rows : ℕ
   pub result : Counted
   pub offices' : List ℕ
@@ -159,8 +159,8 @@ pub record FindingsCall : Type 0 where
   pub ids : Slice
   pub waived : Slice
   pub rows : ℕ
-  pub found_ids : Slice
-  pub found_keys : Slice
+  pub found_ids : MutSlice
+  pub found_keys : MutSlice
   pub result : Found
   pub found_ids' : List ℕ
   pub found_keys' : List ℕ
@@ -205,7 +205,7 @@ module _ (m s office : ℕ) where
   KeepsFindings x =
       let lent : Args findings.signature x.κs =
       (m, (s, (x.keys, (x.bits, (x.n, (office, (x.rules, (x.offices, (x.ids, (x.waived, (x.rows, (x.found_ids, (x.found_keys, tt))))))))))))) in
-      findings_learnt x.κs lent x.result
+      findings-reads.Learnt x.κs lent x.result
       (at_exit findings.ended x.κs lent (tt, (tt, (tt, (tt, (tt, (tt, (tt, (tt, (tt, (tt, (tt, (x.found_ids', (x.found_keys', tt))))))))))))))
 
   findings_kept : (x : FindingsCall) → KeepsFindings x → outcome x ≡ found_by (also_lent x) (table_lent x)

@@ -1,12 +1,5 @@
 -- The promise above each C function leaves one result and one final content of each lent buffer, for refused calls as for accepted ones. Rests on
 -- Uniqueness and on the contracts as they stand in src/, so a contract that leaves more open breaks its law.
-use mathlib.Core.Path.{refl}
-use base.Logic.{emp}
-use contract.Lifetimes.{Lfts}
-use denote.Triple.Entry.{Args, Res}
-use denote.Triple.Clauses.{AtExit}
-use borrow.Fn.Claims.{AllOf}
-use borrow.Fn.Read.{Read, r_last, all_models, no_know}
 use Rattle.prowcurl.specs.contracts.interface.hlq_interface as interface
 use Rattle.prowcurl.proofs.interface.hlq_interface.Reads as interface-reads
 use Rattle.prowcurl.specs.contracts.squares.hlq_key_at as key_at
@@ -72,8 +65,10 @@ use Rattle.prowcurl.proofs.waivers.hlq_add_waiver.Reads as add-waiver-reads
 use Rattle.prowcurl.specs.contracts.waivers.hlq_remove_waiver as remove-waiver
 use Rattle.prowcurl.proofs.waivers.hlq_remove_waiver.Reads as remove-waiver-reads
 use Rattle.prowcurl.specs.contracts.findings.hlq_findings as findings
+use Rattle.prowcurl.proofs.findings.hlq_findings.Reads as findings-reads
 use Rattle.prowcurl.specs.contracts.questions.hlq_batch as batch
-use Rattle.prowcurl.proofs.Uniqueness.{Promise, OneAnswer, by_equations, one, two, three_fields, four_fields, six}
+use Rattle.prowcurl.proofs.questions.hlq_batch.Reads as batch-reads
+use Rattle.prowcurl.proofs.Uniqueness.{OneAnswer, by_equations, one, two, three_fields, four_fields, six}
 
 -- the interface's number
 pub interface_one : OneAnswer interface.ended interface-reads.Learnt
@@ -204,24 +199,10 @@ pub remove_waiver_one : OneAnswer remove-waiver.ended remove-waiver-reads.Learnt
 remove_waiver_one =
     by_equations (λ x. (one x.kept.0 x.kept'.0, (one x.kept.1 x.kept'.1, (one x.kept.2 x.kept'.2, one x.kept.3 x.kept'.3))))
 
--- findings: it is proved by hand, so its contract is read here, in the way that Rattle itself reads the others
-abbrev pub findings_read : (κs : Lfts 8) (lent : Args findings.signature κs) (r : Res findings.signature κs) (s : AtExit findings.ended κs)
-    → Read (λ w. emp w.𝓤) no_know (λ w. (findings.clauses w.𝓛 w.𝓜.mem w.𝓡.run κs lent).ensures tt r s)
-findings_read κs lent r s = all_models _ (λ w. r_last _) (λ w. refl) (λ w. refl) (λ w. refl)
-
-abbrev pub findings_learnt : Promise findings.ended
-findings_learnt κs lent r s = AllOf (findings_read κs lent r s).tells
-
-pub findings_one : OneAnswer findings.ended findings_learnt
+-- findings
+pub findings_one : OneAnswer findings.ended findings-reads.Learnt
 findings_one = by_equations (λ x. (one x.kept.0 x.kept'.0, two (x.kept.1, x.kept.2) (x.kept'.1, x.kept'.2)))
 
--- batch: it is proved by hand too
-abbrev batch_read : (κs : Lfts 5) (lent : Args batch.signature κs) (r : Res batch.signature κs) (s : AtExit batch.ended κs)
-    → Read (λ w. emp w.𝓤) no_know (λ w. (batch.clauses w.𝓛 w.𝓜.mem w.𝓡.run κs lent).ensures tt r s)
-batch_read κs lent r s = all_models _ (λ w. r_last _) (λ w. refl) (λ w. refl) (λ w. refl)
-
-abbrev batch_learnt : Promise batch.ended
-batch_learnt κs lent r s = AllOf (batch_read κs lent r s).tells
-
-pub batch_one : OneAnswer batch.ended batch_learnt
+-- batch
+pub batch_one : OneAnswer batch.ended batch-reads.Learnt
 batch_one = by_equations (λ x. (one x.kept.0 x.kept'.0, two (x.kept.1, x.kept.2) (x.kept'.1, x.kept'.2)))

@@ -20,7 +20,7 @@ use Rattle.rests.proofs.Run.{calls_buffers, calls_may, events-append, may-append
 use Rattle.rests.proofs.Theorem.{across_rests, across_roomy_rests, from_a_list, from_a_list_roomy}
 use Rattle.rests.proofs.Exactly.{with_ample_room}
 use Rattle.rests.proofs.FromCalls.{filled_begins}
-use Rattle.prowcurl.proofs.HistorySteps.{Slice, Ran, ran_is, Built, start, build_refusal, build_start}
+use Rattle.prowcurl.proofs.HistorySteps.{Slice, MutSlice, Ran, ran_is, Built, start, build_refusal, build_start}
 use Rattle.prowcurl.proofs.RestSteps.{Rest, rest_leaves, comes, KeepsRest, rest_step}
 use Rattle.prowcurl.proofs.edits.hlq_empty.Reads as empty-reads
 use Rattle.prowcurl.specs.contracts.areas.hlq_fill_summary as fill
@@ -95,7 +95,7 @@ pub record ClaimedOf (Claim : Reached → Type 0) (t : Reached) (b : Buffers) : 
   pub claimed : Claim t
 
 -- hlq_build was lent these slices, answers r, and leaves the lists keys', bits' and summary'; hlq_empty answers e for any two slices of a log
-module _ (m s : ℕ) (κs : Lfts 4) (raster keys bits summary : Slice) (r : Counted) (keys' bits' summary' : List ℕ) (κs₀ : Lfts 0) (e : Emptied)
+module _ (m s : ℕ) (κs : Lfts 4) (raster : Slice) (keys bits summary : MutSlice) (r : Counted) (keys' bits' summary' : List ℕ) (κs₀ : Lfts 0) (e : Emptied)
     (log_keys log_values : List ℕ) where
   abbrev lent_first : LentSlices
   lent_first = record { keys = keys.now; bits = bits.now; summary = summary.now; log_keys = log_keys; log_values = log_values }
@@ -144,7 +144,7 @@ module _ (m s : ℕ) (κs : Lfts 4) (raster keys bits summary : Slice) (r : Coun
         }
 
 -- hlq_fill_summary was lent a list, whoever left it there, and a summary, answers d, and leaves summary'; hlq_empty answers e
-module _ (m s : ℕ) (κs : Lfts 3) (keys bits : Slice) (n : ℕ) (summary : Slice) (d : Done) (summary' : List ℕ) (κs₀ : Lfts 0) (e : Emptied) (log_keys log_values : List ℕ) where
+module _ (m s : ℕ) (κs : Lfts 3) (keys bits : Slice) (n : ℕ) (summary : MutSlice) (d : Done) (summary' : List ℕ) (κs₀ : Lfts 0) (e : Emptied) (log_keys log_values : List ℕ) where
   abbrev given_fill : Args fill.signature κs
   given_fill = (m, (s, (keys, (bits, (n, (summary, tt))))))
 

@@ -13,7 +13,7 @@ use Rattle.definitions.specs.declared.Counted.{Counted}
 use Rattle.definitions.specs.declared.LoadedLog.{LoadedLog}
 use Rattle.rests.specs.Events.{LogBrought}
 use Rattle.rests.proofs.LogByFile.{MachineLog, log_brought, counts_brought}
-use Rattle.prowcurl.proofs.HistorySteps.{Slice}
+use Rattle.prowcurl.proofs.HistorySteps.{Slice, MutSlice}
 use Rattle.prowcurl.proofs.RestSteps.{Rest, KeepsCalls, KeepsRest}
 use Rattle.prowcurl.specs.contracts.files.hlq_store_log as store
 use Rattle.prowcurl.proofs.files.hlq_store_log.Reads as store-reads
@@ -28,14 +28,14 @@ pub record LogRest : Type 0 where
   pub log_values : Slice
   pub brought : ℕ
   pub in_force : ℕ
-  pub buffer : Slice
+  pub buffer : MutSlice
   pub stored : Counted
   pub buffer' : List ℕ
   -- load
   pub κs₂ : Lfts 3
   pub file : Slice
-  pub log_keys₂ : Slice
-  pub log_values₂ : Slice
+  pub log_keys₂ : MutSlice
+  pub log_values₂ : MutSlice
   pub loaded : LoadedLog
   pub log_keys' : List ℕ
   pub log_values' : List ℕ

@@ -15,7 +15,7 @@ use Rattle.history.specs.History.{Buffers}
 use Rattle.rests.specs.Events.{LogBrought, Rested, LentSlices}
 use Rattle.rests.specs.ByFile.{RestCalls}
 use Rattle.rests.proofs.CallsRest.{calls_rest}
-use Rattle.prowcurl.proofs.HistorySteps.{Slice}
+use Rattle.prowcurl.proofs.HistorySteps.{Slice, MutSlice}
 use Rattle.prowcurl.specs.contracts.files.hlq_store as store
 use Rattle.prowcurl.proofs.files.hlq_store.Reads as store-reads
 use Rattle.prowcurl.specs.contracts.files.hlq_load as load
@@ -30,14 +30,14 @@ pub record Rest : Type 0 where
   pub keys : Slice
   pub bits : Slice
   pub n : ℕ
-  pub buffer : Slice
+  pub buffer : MutSlice
   pub stored : Counted
   pub buffer' : List ℕ
   -- load
   pub κs₂ : Lfts 3
   pub file : Slice
-  pub keys₂ : Slice
-  pub bits₂ : Slice
+  pub keys₂ : MutSlice
+  pub bits₂ : MutSlice
   pub loaded : Loaded
   pub keys' : List ℕ
   pub bits' : List ℕ
@@ -45,7 +45,7 @@ pub record Rest : Type 0 where
   pub κs₃ : Lfts 3
   pub keys₃ : Slice
   pub bits₃ : Slice
-  pub summary₃ : Slice
+  pub summary₃ : MutSlice
   pub filled : Done
   pub summary' : List ℕ
   -- what was not stored

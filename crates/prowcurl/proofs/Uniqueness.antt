@@ -34,11 +34,11 @@ OneAnswer T Kept = (x : TwoAnswers T Kept) → (x.result ≡ x.result') × (x.le
 -- that one parameter is left the same: an equation where the call may write it, nothing to show where it only reads it
 abbrev same : {D : Type 0} (e : Exit D) (x : D) → Last e x → Last e x → List (Type 0)
 same unchanged x left left' = []
-same (leaves L l S s) x left left' = (left ≡ left') ∷ []
+same (leaves L l S s r) x left left' = (left ≡ left') ∷ []
 
 same_is : {D : Type 0} (e : Exit D) (x : D) (left left' : Last e x) → AllOf (same e x left left') → left ≡ left'
 same_is unchanged x left left' shown = refl
-same_is (leaves L l S s) x left left' shown = shown
+same_is (leaves L l S s r) x left left' shown = shown
 
 module _ {n : ℕ} (κs : Lfts n) where
   -- that all parameters are left the same: an equation for each slice that the call may write

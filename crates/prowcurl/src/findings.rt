@@ -1,6 +1,6 @@
 // Findings for C: the findings of the rules that the asking office's waivers do not cover. A first run over the rules checks them and the table and bounds the number of findings;
-// a second counts them, and is passed over where the bound is within the room; the third writes. Like the loop that it calls, the function takes the rules
-// as a lent slice of structs and is walked by hand; so the call itself stands here, and not one more function between it and the runs.
+// a second counts them, and is passed over where the bound is within the room; the third writes. The call itself stands here, and not one
+// more function between it and the runs.
 ghost use Rattle.std.specs.Prelude.{◌≡◌};
 ghost use Rattle.definitions.specs.Calls.Findings.{findings as findings_answer, findings_ids, findings_keys};
 

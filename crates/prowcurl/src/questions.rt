@@ -1,5 +1,5 @@
-// The batch for C: many questions of one list, which is checked once. Like the loop that it calls, the function takes the questions as a lent slice of
-// structs and is walked by hand; so the call itself stands here, and not one more function between it and the loop.
+// The batch for C: many questions of one list, which is checked once. The call itself stands here, and not one more function between it
+// and the loop.
 ghost use Rattle.std.specs.Prelude.{◌≡◌};
 ghost use Rattle.definitions.specs.Calls.Batch.{batch as batch_answer, batch_refusals, batch_values};
 
