@@ -11,13 +11,13 @@ use Rattle.batch.specs.Run.{Answering, BatchReady, batch_step, batch_run}
 use Rattle.batch.proofs.Fold.{run_none, run_next, run_all, ready_fewer, ready_step}
 
 -- a turn, from the answers at entry to those before the question at i
-pub record Turn (keys bits : List ℕ) (questions : List Question) (entry p : Answering) (i : ℕ) : Type 0 where
+pub record BatchTurn (keys bits : List ℕ) (questions : List Question) (entry p : Answering) (i : ℕ) : Type 0 where
   pub small : i ≤ length questions
   pub told : p ≡ batch_run keys bits (take i questions) entry
   pub ready : BatchReady keys bits (length questions - i) p
 
 module _ (keys bits : List ℕ) (questions : List Question) where
-  pub first_turn : (entry : Answering) → BatchReady keys bits (length questions) entry → Turn keys bits questions entry entry 0
+  pub first_turn : (entry : Answering) → BatchReady keys bits (length questions) entry → BatchTurn keys bits questions entry entry 0
   first_turn entry ready =
       record {
         small = omega arith;
@@ -25,13 +25,13 @@ module _ (keys bits : List ℕ) (questions : List Question) where
         ready = ready_fewer keys bits (length questions - 0) (length questions) entry (omega arith) ready;
       }
 
-  module _ {entry p : Answering} {i : ℕ} (t : Turn keys bits questions entry p i) where
+  module _ {entry p : Answering} {i : ℕ} (t : BatchTurn keys bits questions entry p i) where
     -- a question may come in a turn that is not the last
     pub one_comes : i < length questions → BatchReady keys bits 1 p
     one_comes more = ready_fewer keys bits 1 (length questions - i) p (omega arith) t.ready
 
     pub next_turn : (next : Answering) → i < length questions → next ≡ batch_step keys bits (get_or questions i no_question) p
-        → Turn keys bits questions entry next (i + 1)
+        → BatchTurn keys bits questions entry next (i + 1)
     next_turn next more e =
         record {
           small = omega arith;

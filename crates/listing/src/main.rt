@@ -5,16 +5,23 @@
 use std::io;
 use std::io::{Read, Write};
 
-// 1,024 pixels behind m and s, with one byte more by which a raster that is too long is seen.
-const LONGEST_INPUT: u64 = 1027;
-
 fn main(rt: HostRuntime) -> io::Result<()> {
-    let mut input = Vec::new(rt.alloc());
-    rt.reader().take(LONGEST_INPUT).read_to_end(&mut input)?;
-    // The program's own room: 1,365 records, and the longest listing.
+    // The program's own room: 1,024 pixels behind m and s, with one byte more by which a raster that is too long is seen, 1,365 records, and
+    // the longest listing.
+    let mut pixels = [0u8; 1027];
     let mut keys = [0u32; 1365];
     let mut bits = [0u32; 1365];
     let mut out = [0u8; 53245];
-    let count = listing_text::list_input(&input, &mut keys, &mut bits, &mut out);
+    let mut reader = rt.reader();
+    let mut filled: usize = 0;
+    // Each read but the last gives a byte at least.
+    for _ in 0..1027 {
+        let count = reader.read(&mut pixels[filled..])?;
+        if count == 0 {
+            break;
+        }
+        filled += count;
+    }
+    let count = listing_text::list_input(&pixels[..filled], &mut keys, &mut bits, &mut out);
     io::writer(&rt).write_all(&out[..count])
 }

@@ -2,12 +2,12 @@
 use Prim.Native.Nat.{◌-◌}
 use lib.ListN.{length}
 use Rattle.batch.specs.Run.{answering_of}
-use Rattle.batch.proofs.RunTurns.{Turn}
+use Rattle.batch.proofs.RunTurns.{BatchTurn}
 use Rattle.batch.proofs.run.run.Given as goal
 
 abbrev pub invariant-loop-i : goal.invariant-loop-i
 invariant-loop-i l =
-    Turn l.keys l.bits l.questions (answering_of l.initial.st l.initial.refusals l.initial.values) (answering_of l.st l.refusals l.values) l.i
+    BatchTurn l.keys l.bits l.questions (answering_of l.initial.st l.initial.refusals l.initial.values) (answering_of l.st l.refusals l.values) l.i
 
 abbrev pub decreases-loop-i : goal.decreases-loop-i
 decreases-loop-i l = length l.questions - l.i
