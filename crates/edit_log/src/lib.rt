@@ -52,6 +52,7 @@ fn ends_in_entries(m: u32, s: u32, keys: &[u32], values: &[u32], used: usize, co
 }
 
 // The used records, whose last has the mark, end in a group: its other closing record has the key 0 too and a number, and so many entries stand before.
+#[tactic(auto, using(crate::proofs::GroupChecked::no_number))]
 fn ends_in_group(m: u32, s: u32, keys: &[u32], values: &[u32], used: usize) -> bool
     requires { (m ≤ 10) × (s ≤ slot_limit) × (used ≤ length keys.now) × (used ≤ length values.now)
         × (ends_in_mark (records_of keys.now values.now used) ≡ true) }

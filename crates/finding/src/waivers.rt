@@ -56,6 +56,7 @@ fn start(m: u32, key: u32, end: u32, furthest: u32) -> u32
 }
 
 // One waiver more: where it has the pixel that is left, the first one past it is left.
+#[tactic(auto, using(crate::proofs::OneWaiver::over_early))]
 fn cover(m: u32, waiver: u32, at: Covering) -> Covering
     requires { (m ≤ 10) × (valid_key m waiver ≡ true) }
     ensures { (result.furthest ≡ further at.furthest (end_of m waiver)) × (result.next ≡ next_over m at.next waiver) }

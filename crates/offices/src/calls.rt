@@ -12,6 +12,7 @@ use definitions::refusal::Refusal;
 use keys::Key;
 
 // The refusals that both calls begin with: 21, 1, 14 and 8, or 0.
+#[tactic(auto, using(crate::proofs::Decided::gives_21))]
 fn table_refusal(
     m: u32,
     office: u32,

@@ -57,6 +57,7 @@ pub fn place_of(
 }
 
 // At the place stands this row, and no other.
+#[tactic(auto, using(crate::proofs::Tests::row_tests))]
 pub fn stands_at(
     offices: &[u32],
     ids: &[u32],

@@ -1,5 +1,6 @@
 -- `ends_in_group` meets its contract: each way out answers what the definition says of the group's closing records and of the entries before.
-use Rattle.edit_log.proofs.GroupChecked.{too_few, other_key, no_number, entries_decide}
+use Rattle.edit_log.proofs.GroupChecked.{too_few, other_key, entries_decide}
+use native.Mathlib.Omega.{arith}
 use borrow.Author.Rules.{rules}
 use Rattle.edit_log.proofs.ends_in_group.Goals as goal
 
@@ -23,13 +24,6 @@ returns-then-keys-before-ne0 c =
     let start = some.before.before.before in
     other_key _ _ _ start.requires.2 start.requires.3 start.requires.4 _ _ some.if-used-lt-CLOSING.false c.if-keys-before-ne0.true
 
-pub returns-then-count-eq0 : goal.returns-then-count-eq0
-returns-then-count-eq0 c =
-    let count = c.before.before.before.before in
-    let some = count.before in
-    let start = some.before.before.before in
-    no_number _ _ _ start.requires.2 start.requires.3 start.requires.4 _ _ some.if-used-lt-CLOSING.false c.if-keys-before-ne0.false _ count.last_count-count.ensures.0 c.if-count-eq0.true
-
 pub ends_in_entries-requires : goal.ends_in_entries-requires
 ends_in_entries-requires c = search rules
 
@@ -40,4 +34,4 @@ returns c =
     let some = count.before in
     let start = some.before.before.before in
     entries_decide _ _ _ start.requires.2 start.requires.3 start.requires.4 _ _ some.if-used-lt-CLOSING.false root.if-keys-before-ne0.false _ count.last_count-count.ensures.0
-    c.ends_in_entries.result c.if-count-eq0.false c.ends_in_entries.ensures
+    c.ends_in_entries.result (λ z. omega arith) c.ends_in_entries.ensures

@@ -3,7 +3,7 @@ use mathlib.Core.Path.{◌≡◌, ap, ◌∙◌}
 use native.Mathlib.Omega.{arith}
 use borrow.Author.Rules.{rules}
 use Rattle.finding.specs.Covering.{further, end_of, first_pixel}
-use Rattle.finding.proofs.OneWaiver.{end_small, over_early, over_late, over_in}
+use Rattle.finding.proofs.OneWaiver.{end_small, over_late, over_in}
 use Rattle.finding.proofs.waivers.cover.Goals as goal
 use Rattle.finding.proofs.waivers.cover.Lts as lts
 use Rattle.finding.proofs.waivers.cover.Tie as tie
@@ -21,9 +21,6 @@ larger-furthest-requires c = search rules
 -- the furthest end
 far : (c : At-After-larger) → c.larger-furthest.result ≡ further c.args.at.furthest (end_of c.args.m c.args.waiver)
 far c = c.larger-furthest.ensures ∙ ap (further c.args.at.furthest) c.end_of-end.ensures
-
-pub returns-then-next-waiver : goal.returns-then-next-waiver
-returns-then-next-waiver c = let s = c.before.before.before in (far c.before, over_early _ _ _ s.requires.1 c.if-next-waiver.true)
 
 pub returns-then-end-next : goal.returns-then-end-next
 returns-then-end-next c =
@@ -43,4 +40,4 @@ returns c =
     let call = c.before.before.before in
     let s = call.before.before in
     let e = call.end_of-end.ensures in
-    (far call, c.first_pixel.ensures ∙ ap (first_pixel s.args.m) e ∙ over_in _ _ _ s.requires.1 c.if-next-waiver.false (omega (arith, c.if-end-next.false)))
+    (far call, c.first_pixel.ensures ∙ ap (first_pixel s.args.m) e ∙ over_in _ _ _ s.requires.1 (omega arith) (omega (arith, c.if-end-next.false)))
