@@ -90,6 +90,13 @@ module _ (file keys bits : List ℕ) where
         ),
       )
 
+  -- of the slices alone, by the table's number
+  pub refused_keys : (load_refusal file keys bits ≡ 0 → ⊥) → keys ≡ load_keys file keys bits
+  refused_keys not-zero = (refused (load_refusal file keys bits) refl not-zero).1.0
+
+  pub refused_bits : (load_refusal file keys bits ≡ 0 → ⊥) → bits ≡ load_bits file keys bits
+  refused_bits not-zero = (refused (load_refusal file keys bits) refl not-zero).1.1
+
   module _ (none : 0 ≡ load_refusal file keys bits) where
     b : LoadAccepted file keys bits
     b = load_accepted file keys bits (sym none)
@@ -125,3 +132,6 @@ module _ (file keys bits : List ℕ) where
             f ∙ ap₂ (λ w n. over (values_at w n file) bits) same n-is ∙ told.1.1,
           ),
         )
+
+-- a refused call: what it gives, and what it leaves
+pub ruleset refused_call = (refused, refused_keys, refused_bits)

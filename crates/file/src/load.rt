@@ -33,6 +33,7 @@ fn refusal(file: &[u8], in_keys: usize, in_bits: usize) -> u64
 }
 
 // Nothing is written before all is accepted.
+#[tactic(auto, using(crate::proofs::LoadAnswers::refused_call))]
 pub fn load(file: &[u8], keys: &mut [u32], bits: &mut [u32]) -> Loaded
     ensures value { result ≡ load file.now keys.old bits.old }
     ensures keys_after { keys.new ≡ load_keys file.now keys.old bits.old }

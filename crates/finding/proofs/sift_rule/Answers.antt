@@ -194,7 +194,7 @@ passed c =
     (passes _ _ _ _ _ _ _ b _ (lower_apart _ _ _ _ stands (sym c.apart.ensures ∙ w.if-apart.true)) (omega arith)))
     (⊎_elim
     (λ w. named _ _ _ _ _ _ _ _ _ _ w.found_ids-is w.found_keys-is w.st-is
-    (passes _ _ _ _ _ _ _ b _ (lower_lacking _ _ _ _ stands _ (omega arith, omega arith) (place_no c.requires.3 stands _ _ bit _ w.place_from-from.ensures w.if-bits-from-eq0.true)) (omega arith)))
+    (passes _ _ _ _ _ _ _ b _ (lower_lacking _ _ _ _ stands _ (omega arith, omega arith) (place_no c.requires.3 stands _ _ bit _ w.place_from-from.ensures (omega arith))) (omega arith)))
     (λ w. named _ _ _ _ _ _ _ _ _ _ w.found_ids-is w.found_keys-is w.st-is
     (adds _ _ _ _ _ _ _ c.loop-key-2.invariant.descent.walking (sym w.within.ensures ∙ w.if-within.true) b _ bit _ _ _ w.sift_block-st.ensures)))
     c.if-apart.branch-raw

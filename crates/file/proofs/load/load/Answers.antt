@@ -27,7 +27,10 @@ start c = c.before.before.before.before
 
 -- no refusal applies
 none : (c : At-Else1) → let a = (start c.before).args in 0 ≡ load_refusal a.file.now a.keys.now a.bits.now
-none c = let a = (start c.before).args in sym c.if-found-ne0.false ∙ c.refusal-found.ensures a.keys.now a.bits.now refl refl
+none c =
+    let a = (start c.before).args in
+    let passed : c.refusal-found.result ≡ 0 = omega arith in
+    sym passed ∙ c.refusal-found.ensures a.keys.now a.bits.now refl refl
 
 -- where m, s and n were read: the test of the number
 abbrev tested : At-After-u32_at → At-Else1
@@ -35,12 +38,6 @@ tested c = c.before.before.before
 
 pub refusal-found-requires : goal.refusal-found-requires
 refusal-found-requires c = search rules
-
-pub returns-then-found-ne0 : goal.returns-then-found-ne0
-returns-then-found-ne0 c =
-    let a = (start c.before.before).args in
-    let h = refused a.file.now a.keys.now a.bits.now _ (c.refusal-found.ensures a.keys.now a.bits.now refl refl) c.if-found-ne0.true in
-    record { value = h.0; keys_after = h.1.0; bits_after = h.1.1 }
 
 pub u8_at-m-requires : goal.u8_at-m-requires
 u8_at-m-requires c = let a = (start c.before.before).args in omega (arith, long a.file.now a.keys.now a.bits.now (none c.before))

@@ -130,7 +130,7 @@ fits c =
     let pre = (entry at).requires in
     let bit = at.power_of_two-bit.ensures in
     let told = asks.ask-told.ensures in
-    told_fits pre.0 pre.3 (stands at) told _ _ bit (told_several pre.0 pre.3 (stands at) told _ _ bit c.if-found-bit-eq0.false c.if-found-bit.false)
+    told_fits pre.0 pre.3 (stands at) told _ _ bit (told_several pre.0 pre.3 (stands at) told _ _ bit (omega arith) c.if-found-bit.false)
 
 pub overflow_add-last : goal.overflow_add-last
 overflow_add-last c =
@@ -214,7 +214,7 @@ passed c =
     let told = w.ask-told.ensures in
     let around = told_holds low own (stands at) told in
     let k = some_keys (stands at) in
-    let lacks = bits_no _ told.whole _ _ bit _ (told_whole low own (stands at) told) w.if-found-bit-eq0.true in
+    let lacks = bits_no _ told.whole _ _ bit _ (told_whole low own (stands at) told) (omega arith) in
     rw w.spot-is (taken_named _ _ _ _ (taken_pass _ _ _ _ t _ (lower_lacking _ _ _ _ told.whole _ (around.0, omega arith) lacks)) _ _ w.answer-is w.count-is))
     (⊎_elim
     (λ w.
@@ -223,7 +223,7 @@ passed c =
     (λ w.
     let told = w.ask-told.ensures in
     let largest = sym w.within.ensures ∙ w.if-within.true in
-    let listed = told_several low own (stands at) told _ _ bit w.if-found-bit-eq0.false w.if-found-bit.false in
+    let listed = told_several low own (stands at) told _ _ bit (omega arith) w.if-found-bit.false in
     rw (w.spot-is, told_end low own (stands at) told listed)
     (taken_named _ _ _ _ (taken_block _ _ _ _ at.loop-told-2.invariant.1 largest t _ _ (run_gave low own (stands at) told _ _ bit listed w.gather_run-count.ensures)) _ _ w.answer-is w.count-is))))
     c.if-apart.branch-raw
