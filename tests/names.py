@@ -12,7 +12,7 @@ ROOT = pathlib.Path(__file__).resolve().parent.parent / "crates"
 DEFINED = re.compile(r"^ *pub (?:data |record )([^\s{(]+)"
                      r"|^ *(?:abbrev|unfoldable) pub ([^\s{(]+) .*:"
                      r"|^pub ([^\s{(]+) .*:")
-PROVED = re.compile(r"^(?:(?:abbrev|unfoldable) )?pub (?:data |record )?(?!mod )([^\s{(:]+)")
+PROVED = re.compile(r"^(?:(?:abbrev|unfoldable) )?pub (?:data |record |ruleset )?(?!mod )([^\s{(:]+)")
 OF_A_FUNCTION = ("Invariants.antt", "Answers.antt", "Proof.antt")
 DECLARED = re.compile(r"^(?:pub )?(?:struct|enum) (\w+)")
 
