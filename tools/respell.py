@@ -212,8 +212,6 @@ def main():
             with open(path, "w", encoding="utf-8", newline="") as it:
                 it.write(new)
     ask_for_tactics(root)
-    with open("/tmp/respelled.tsv", "w", encoding="utf-8") as it:
-        it.writelines(f"{a}\t{b}\n" for a, b in sorted(names.items()))
     print(f"{len(names)} names respelled; {len(left)} left, for they would fall together: {', '.join(sorted(left))}")
 
 
