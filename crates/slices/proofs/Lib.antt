@@ -1,3 +1,3 @@
 pub mod Sets
-pub mod Moves
+pub mod Writes
 pub mod Parts

@@ -1,4 +1,4 @@
-// Moves inside and between lent slices, which the edits are made of. The loops do nothing but move, since an edit moves most of a list.
+// Moves inside and between lent slices, which the edits are made of. They are the library's own, which move whole runs at a time.
 #![tactic(auto)]
 
 ghost use Rattle.std.specs.Prelude.{◌≡◌, cond, ◌+◌, ◌-◌, ◌≤◌, min, length, take, drop, replicate, set, ltb};
@@ -8,7 +8,7 @@ ghost use Rattle.std.proofs.lemmas.List.Edits.{sets};
 pub fn smaller(a: usize, b: usize) -> usize
     ensures { result ≡ min a b }
 {
-    if a < b { a } else { b }
+    a.min(b)
 }
 
 // Writes a number at its place, if that is within the limit: with the limit 0 answers are only counted.
@@ -26,35 +26,7 @@ pub fn copy(from: &[u32], start: usize, count: usize, to: &mut [u32], at: usize)
     requires { (start + count ≤ length from.now) × (at + count ≤ length to.old) }
     ensures { to.new ≡ sets to.old at (take count (drop start from.now)) }
 {
-    let mut done = 0;
-    while done < count {
-        to[at + done] = from[start + done];
-        done += 1;
-    }
-}
-
-// Towards the front: the first place is moved first, so that no place is overwritten before it is read.
-fn shift_down(slice: &mut [u32], from: usize, count: usize, to: usize)
-    requires { (to ≤ from) × (from + count ≤ length slice.old) }
-    ensures { slice.new ≡ sets slice.old to (take count (drop from slice.old)) }
-{
-    let mut i = 0;
-    while i < count {
-        slice[to + i] = slice[from + i];
-        i += 1;
-    }
-}
-
-// Towards the end: the last place is moved first.
-fn shift_up(slice: &mut [u32], from: usize, count: usize, to: usize)
-    requires { (from ≤ to) × (to + count ≤ length slice.old) }
-    ensures { slice.new ≡ sets slice.old to (take count (drop from slice.old)) }
-{
-    let mut i = count;
-    while 0 < i {
-        i -= 1;
-        slice[to + i] = slice[from + i];
-    }
+    to[at..at + count].copy_from_slice(&from[start..start + count]);
 }
 
 // The places from `to` on become what those from `from` on were, so many as `count` says. The two runs may overlap.
@@ -62,13 +34,7 @@ pub fn shift(slice: &mut [u32], from: usize, count: usize, to: usize)
     requires { (from + count ≤ length slice.old) × (to + count ≤ length slice.old) }
     ensures { slice.new ≡ sets slice.old to (take count (drop from slice.old)) }
 {
-    if to < from {
-        shift_down(slice, from, count, to);
-        return;
-    }
-    if from < to {
-        shift_up(slice, from, count, to);
-    }
+    slice.copy_within(from..from + count, to);
 }
 
 // The places from `from` up to `end` become zero.
@@ -76,9 +42,5 @@ pub fn clear(slice: &mut [u32], from: usize, end: usize)
     requires { (from ≤ end) × (end ≤ length slice.old) }
     ensures { slice.new ≡ sets slice.old from (replicate (end - from) 0) }
 {
-    let mut i = from;
-    while i < end {
-        slice[i] = 0;
-        i += 1;
-    }
+    slice[from..end].fill(0);
 }

@@ -1,0 +1,43 @@
+-- What a slice holds after one of the library's writes to a run of it, as `sets` says it. Rests on Sets.
+use Prim.Native.Nat.{ℕ, ◌+◌, ◌-◌, ◌≤◌}
+use mathlib.Core.Path.{◌≡◌, sym, ap, ◌∙◌}
+use mathlib.Core.List.{List, ◌++◌}
+use native.Mathlib.Omega.{arith}
+use lib.ListN.{length, take, drop, replicate, length-drop, length-replicate}
+use lib.Seq.{sets, sets-eq, paste, length-take-le, drop-drop}
+use borrow.Rule.Slice.PartMut.{put_mid}
+use Rattle.slices.proofs.Sets.{sets_parts}
+
+-- a run written into the part from `at` on that is as long as it
+pub written_run : (l xs : List ℕ) (at k : ℕ) → at + k ≤ length l → length xs ≡ k → put_mid at k l xs ≡ sets l at xs
+written_run l xs at k h size =
+    ap (λ r. take at l ++ (xs ++ r)) (drop-drop k at l ∙ ap (λ n. drop (at + n) l) (sym size)) ∙ sym (sets_parts l at xs (omega arith))
+
+-- a part that was filled with zeros
+pub written_zeros : (l xs : List ℕ) (from end : ℕ) → from ≤ end → end ≤ length l → xs ≡ replicate (length (take (end - from) (drop from l))) 0
+    → put_mid from (end - from) l xs ≡ sets l from (replicate (end - from) 0)
+written_zeros l xs from end low high filled =
+    let rest = length-drop from l in
+    let part = length-take-le (end - from) (drop from l) (omega arith) in
+    let zeros : xs ≡ replicate (end - from) 0 = filled ∙ ap (λ n. replicate n 0) part in
+    let size : length xs ≡ end - from = ap length zeros ∙ length-replicate (end - from) 0 in
+    written_run l xs from (end - from) (omega arith) size ∙ ap (sets l from) zeros
+
+-- a run of another slice, copied over a part
+pub copied_run : (from to xs : List ℕ) (start count at k n : ℕ) → start + count ≤ length from → at + count ≤ length to → k ≡ count → n ≡ count
+    → xs ≡ take n (drop start from) → put_mid at k to xs ≡ sets to at (take count (drop start from))
+copied_run from to xs start count at k n read room k_is n_is copied =
+    let rest = length-drop start from in
+    let run : xs ≡ take count (drop start from) = copied ∙ ap (λ i. take i (drop start from)) n_is in
+    let size : length xs ≡ k = ap length run ∙ length-take-le count (drop start from) (omega arith) ∙ sym k_is in
+    written_run to xs at k (omega arith) size ∙ ap (sets to at) run
+
+-- a run of the same slice, moved within it
+pub moved_run : (l : List ℕ) (from count to n : ℕ) → from + count ≤ length l → to + count ≤ length l → n ≡ count
+    → paste l to (drop from l) n ≡ sets l to (take count (drop from l))
+moved_run l from count to n read room n_is =
+    let rest = length-drop from l in
+    let size : length (take count (drop from l)) ≡ count = length-take-le count (drop from l) (omega arith) in
+    ap (λ i. paste l to (drop from l) i) n_is
+    ∙ ap (λ i. take to l ++ take count (drop from l) ++ drop (to + i) l) (sym size)
+    ∙ sym (sets-eq (take count (drop from l)) l to (omega arith))
