@@ -8,21 +8,6 @@ ghost use Rattle.summary.specs.Kept.{RowsKept};
 
 use crate::{blocks, kept};
 
-// The first s counters are the s places from a place on.
-fn same_counts(counts: [u32; 32], s: usize, summary: &[u32], at: usize) -> bool
-    requires { (s ≤ slot_limit) × (at + s ≤ length summary.now) }
-    ensures { result ≡ same_numbers (take s counts) (take s (drop at summary.now)) }
-{
-    let mut i: usize = 0;
-    while i < s {
-        if counts[i] != summary[at + i] {
-            return false;
-        }
-        i += 1;
-    }
-    true
-}
-
 // The summary is that of the list: refusal 18 does not apply.
 fn is_summary(
     m: u32,
@@ -43,13 +28,12 @@ fn is_summary(
     }
     let slots = s as usize;
     let blocks = blocks::number_of(m);
-    let mut b = 0;
-    while b < blocks {
+    for b in 0..blocks {
         let counts = kept::counts_of(m, keys, bits, n, b, rows, places);
-        if !same_counts(counts, slots, summary, b * slots) {
+        let at = b * slots;
+        if counts[..slots] != summary[at..at + slots] {
             return false;
         }
-        b += 1;
     }
     true
 }

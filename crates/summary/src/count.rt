@@ -42,8 +42,7 @@ fn count_sixteen(bits: &[u32], counts: &mut [u32; 32], at: usize) -> usize
     ensures { NodeCounted bits.now at 16 counts.old counts.new result }
 {
     let mut next = at + 1;
-    let mut d: u32 = 0;
-    while d < 4 {
+    for d in 0u32..4 {
         let found = bits[next];
         if check::is_leaf(found) {
             count_leaf(counts, found, 4);
@@ -52,7 +51,6 @@ fn count_sixteen(bits: &[u32], counts: &mut [u32; 32], at: usize) -> usize
             count_pixels(bits, counts, next);
             next += 5;
         }
-        d += 1;
     }
     next
 }
@@ -64,8 +62,7 @@ fn count_node(bits: &[u32], counts: &mut [u32; 32], at: usize, area: u32) -> usi
 {
     let quarter = area / 4;
     let mut next = at + 1;
-    let mut d: u32 = 0;
-    while d < 4 {
+    for d in 0u32..4 {
         let found = bits[next];
         if check::is_leaf(found) {
             count_leaf(counts, found, quarter);
@@ -75,7 +72,6 @@ fn count_node(bits: &[u32], counts: &mut [u32; 32], at: usize, area: u32) -> usi
         } else {
             next = count_node(bits, counts, next, quarter);
         }
-        d += 1;
     }
     next
 }

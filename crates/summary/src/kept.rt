@@ -64,8 +64,7 @@ fn keep_blocks(
     let mut number = b;
     let mut next = at + 1;
     let mut union = 0;
-    let mut digit = 1;
-    while digit < 5 {
+    for digit in 1..5 {
         if keys.len() <= next {
             return 0;
         }
@@ -86,7 +85,6 @@ fn keep_blocks(
         }
         number += quarter;
         union = union | found;
-        digit += 1;
     }
     if union == own { next } else { 0 }
 }

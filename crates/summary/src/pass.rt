@@ -40,8 +40,7 @@ fn pass_sixteen(
 {
     let mut next = at + 1;
     let mut union = 0;
-    let mut digit = 1;
-    while digit < 5 {
+    for digit in 1..5 {
         if keys.len() <= next {
             return 0;
         }
@@ -60,7 +59,6 @@ fn pass_sixteen(
             next += 5;
         }
         union = union | found;
-        digit += 1;
     }
     if union == own { next } else { 0 }
 }
@@ -83,8 +81,7 @@ fn pass_node(
     let quarter = area / 4;
     let mut next = at + 1;
     let mut union = 0;
-    let mut digit = 1;
-    while digit < 5 {
+    for digit in 1..5 {
         if keys.len() <= next {
             return 0;
         }
@@ -107,7 +104,6 @@ fn pass_node(
             }
         }
         union = union | found;
-        digit += 1;
     }
     if union == own { next } else { 0 }
 }

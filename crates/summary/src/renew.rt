@@ -25,11 +25,9 @@ pub fn renew(
     ensures { summary.new ≡ blocks_renewed m s (shown_by m keys.now bits.now n) from until summary.old }
 {
     let slots = s as usize;
-    let mut b = from;
-    while b < until {
+    for b in from..until {
         let counts = blocks::counts_of(m, keys, bits, n, b);
         slices::copy(&counts, 0, slots, summary, b * slots);
-        b += 1;
     }
 }
 
@@ -61,10 +59,8 @@ pub fn fill_kept(
 {
     let slots = s as usize;
     let blocks = blocks::number_of(m);
-    let mut b = 0;
-    while b < blocks {
+    for b in 0..blocks {
         let counts = kept::counts_of(m, keys, bits, n, b, rows, places);
         slices::copy(&counts, 0, slots, summary, b * slots);
-        b += 1;
     }
 }

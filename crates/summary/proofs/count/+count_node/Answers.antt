@@ -52,12 +52,6 @@ count_node-next-requires t c =
       (child_asked c.loop-d.invariant e.0 (omega (arith, h)) (sym c.is_leaf.ensures ∙ c.if-is_leaf.false), counts_room c.loop-d.invariant e.0 (omega (arith, h)) e.1),
     )
 
-pub overflow_add-d : goal.overflow_add-d
-overflow_add-d t c = omega (arith, c.loop-d-test.true)
-
-pub loop-d-smaller : goal.loop-d-smaller
-loop-d-smaller t c = omega (arith, c.loop-d-test.true)
-
 pub loop-d-preserved : goal.loop-d-preserved
 loop-d-preserved t c =
     let h = c.loop-d-test.true in

@@ -1,5 +1,4 @@
 -- `count::count_node` meets its contract: after each turn the counters have the pixels of the quadrants passed. The area falls.
-use Prim.Native.Nat.{◌-◌}
 use Rattle.summary.proofs.CountTurn.{CountReached}
 use Rattle.summary.proofs.count.+count_node.Given as goal
 
@@ -9,7 +8,3 @@ decreases-count_node l = l.area
 abbrev pub invariant-loop-d : goal.invariant-loop-d
 invariant-loop-d l =
     CountReached l.bits l.initial.counts l.at l.area l.counts l.next l.d
-
-abbrev pub decreases-loop-d : goal.decreases-loop-d
-decreases-loop-d l =
-    4 - l.d

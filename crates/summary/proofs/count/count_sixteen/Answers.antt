@@ -50,12 +50,6 @@ overflow_add-next-else-is_leaf c =
     let there = four_there node (counts_room c.loop-d.invariant e.0 (omega (arith, h)) e.1) in
     omega (arith, c.well_formed)
 
-pub overflow_add-d : goal.overflow_add-d
-overflow_add-d c = omega (arith, c.loop-d-test.true)
-
-pub loop-d-smaller : goal.loop-d-smaller
-loop-d-smaller c = omega (arith, c.loop-d-test.true)
-
 pub loop-d-preserved : goal.loop-d-preserved
 loop-d-preserved c =
     let h = c.loop-d-test.true in

@@ -1,12 +1,7 @@
 -- `count::count_sixteen` meets its contract: after each turn the counters have the pixels of the quadrants passed.
-use Prim.Native.Nat.{◌-◌}
 use Rattle.summary.proofs.CountTurn.{CountReached}
 use Rattle.summary.proofs.count.count_sixteen.Given as goal
 
 abbrev pub invariant-loop-d : goal.invariant-loop-d
 invariant-loop-d l =
     CountReached l.bits l.initial.counts l.at 16 l.counts l.next l.d
-
-abbrev pub decreases-loop-d : goal.decreases-loop-d
-decreases-loop-d l =
-    4 - l.d

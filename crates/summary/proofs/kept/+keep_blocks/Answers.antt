@@ -68,12 +68,6 @@ overflow_add-number t c =
     let h = number_fits c.requires c.if-share-eq1.false c.loop-digit.invariant c.loop-digit-test.true in
     omega arith
 
-pub overflow_add-digit : goal.overflow_add-digit
-overflow_add-digit t c = omega (arith, c.loop-digit-test.true)
-
-pub loop-digit-smaller : goal.loop-digit-smaller
-loop-digit-smaller t c = omega (arith, c.loop-digit-test.true)
-
 pub loop-digit-preserved : goal.loop-digit-preserved
 loop-digit-preserved t c =
     let pre = c.requires in

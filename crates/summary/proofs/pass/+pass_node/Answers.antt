@@ -75,12 +75,6 @@ returns-then-next-eq0 t c =
     c.if-lower-eq5.branch-raw in
     node_refuses pre.0 c.loop-digit.invariant c.loop-digit-test.true c.if-keys-next.false c.child-child.ensures c.if-keys-next-2.false (sym c.has_one_slot.ensures ∙ c.if-has_one_slot.false) answered c.if-next-eq0.true
 
-pub overflow_add-digit : goal.overflow_add-digit
-overflow_add-digit t c = omega (arith, c.loop-digit-test.true)
-
-pub loop-digit-smaller : goal.loop-digit-smaller
-loop-digit-smaller t c = omega (arith, c.loop-digit-test.true)
-
 pub loop-digit-preserved : goal.loop-digit-preserved
 loop-digit-preserved t c =
     let pre = c.requires in

@@ -70,14 +70,6 @@ overflow_add-next-else-has_one_slot c =
     let y = (pixels_true c.pass_pixels.result c.pass_pixels.ensures (not-false _ c.if-not-pass_pixels.false-raw)).within in
     omega arith
 
-pub overflow_add-digit : goal.overflow_add-digit
-overflow_add-digit c =
-    omega (arith, c.loop-digit-test.true)
-
-pub loop-digit-smaller : goal.loop-digit-smaller
-loop-digit-smaller c =
-    omega (arith, c.loop-digit-test.true)
-
 pub loop-digit-preserved : goal.loop-digit-preserved
 loop-digit-preserved c =
     let pre = c.requires in

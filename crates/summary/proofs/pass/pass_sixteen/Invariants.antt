@@ -1,12 +1,7 @@
 -- `pass::pass_sixteen` meets its contract: before each turn the children passed so far are checked and counted, at the step 5.
-use Prim.Native.Nat.{◌-◌}
 use Rattle.summary.proofs.PassTurn.{Passing}
 use Rattle.summary.proofs.pass.pass_sixteen.Given as goal
 
 abbrev pub invariant-loop-digit : goal.invariant-loop-digit
 invariant-loop-digit l =
     Passing l.keys l.bits l.initial.counts l.at l.key l.own 5 16 l.counts l.next l.union l.digit
-
-abbrev pub decreases-loop-digit : goal.decreases-loop-digit
-decreases-loop-digit l =
-    5 - l.digit

@@ -29,12 +29,6 @@ copy-requires c =
     let h = block_places_in c.args.m c.args.s c.loop-b.b (omega (arith, c.number_of-blocks.ensures)) in
     (counters_long (shown_by c.args.m c.args.keys.now c.args.bits.now c.args.n) _ _ _ _ _ c.counts_of-counts.ensures c.requires.m_bound.1, omega (arith, c.loop-b.invariant.long, c.requires.m_bound.2))
 
-pub overflow_add-b : goal.overflow_add-b
-overflow_add-b c = search rules
-
-pub loop-b-smaller : goal.loop-b-smaller
-loop-b-smaller c = search rules
-
 pub loop-b-preserved : goal.loop-b-preserved
 loop-b-preserved c =
     let pre = c.requires.m_bound in

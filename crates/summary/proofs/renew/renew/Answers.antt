@@ -26,12 +26,6 @@ copy-requires c =
     let h = block_places_in c.args.m c.args.s c.loop-b.b (omega (arith, c.requires.renewable.most)) in
     (counters_long (shown_by c.args.m c.args.keys.now c.args.bits.now c.args.n) _ _ _ _ _ c.counts_of-counts.ensures c.requires.renewable.few, omega (arith, c.loop-b.invariant.long, c.requires.renewable.long))
 
-pub overflow_add-b : goal.overflow_add-b
-overflow_add-b c = search rules
-
-pub loop-b-smaller : goal.loop-b-smaller
-loop-b-smaller c = search rules
-
 pub loop-b-preserved : goal.loop-b-preserved
 loop-b-preserved c =
     renew_turns _ _ _ _ _ c.loop-b.invariant c.requires.renewable (omega arith) c.counts_of-counts.ensures c.copy.ensures

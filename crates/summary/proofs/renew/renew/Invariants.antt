@@ -1,5 +1,4 @@
 -- `renew::renew` meets its contract: after each turn one block more is counted anew.
-use Prim.Native.Nat.{◌-◌}
 use Rattle.list.specs.Own.{shown_by}
 use Rattle.summary.proofs.Renewed.{Begun}
 use Rattle.summary.proofs.renew.renew.Given as goal
@@ -7,7 +6,3 @@ use Rattle.summary.proofs.renew.renew.Given as goal
 abbrev pub invariant-loop-b : goal.invariant-loop-b
 invariant-loop-b l =
     Begun l.m l.s (shown_by l.m l.keys l.bits l.n) l.from l.until l.initial.summary l.summary l.b
-
-abbrev pub decreases-loop-b : goal.decreases-loop-b
-decreases-loop-b l =
-    l.until - l.b
