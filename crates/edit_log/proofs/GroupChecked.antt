@@ -9,6 +9,7 @@ use lib.ListN.{length, get_or, take}
 use lib.Dec.{ltb, eqb}
 use borrow.Author.Tests.{le-leb, lt-leb, eq-eqb, ne_eqb, lt-ltb, le-ltb}
 use Rattle.keys.specs.Key.{root_key}
+use Rattle.keys.proofs.Cases.{decide}
 use Rattle.definitions.specs.List.{Record}
 use Rattle.definitions.specs.Read.{records_of}
 use Rattle.definitions.specs.Log.{closing_places, count_record, ends_in_mark, step_count, step_entries, ends_in_entries, last_is_group}
@@ -61,19 +62,20 @@ module _ (keys values : List ℕ) (used : ℕ) (in_keys : used ≤ length keys) 
       pub other_key : (get_or keys (used - 2) 0 ≡ root_key → ⊥) → false ≡ last_is_group m s l
       other_key other = group_by false _ _ (ne_eqb _ _ other) refl refl
 
-      module _ (root : get_or keys (used - 2) 0 ≡ root_key) (count : ℕ) (read : count ≡ closing_count values used) where
-        -- it is 0
-        pub no_number : count ≡ 0 → false ≡ last_is_group m s l
-        no_number none = group_by true false _ (eq-eqb _ _ root) (le-ltb 0 (closing_count values used) (omega arith)) refl
+      -- the number is 0
+      pub no_number : closing_count values used ≡ 0 → false ≡ last_is_group m s l
+      no_number none =
+          let no_entries = le-ltb 0 (closing_count values used) (omega arith) in
+          decide (eqb (get_or keys (used - 2) 0) root_key) (λ root. group_by true false _ root no_entries refl) (λ root. group_by false false _ root no_entries refl)
 
-        -- the entries decide
-        pub entries_decide : (r : Bool) → (count ≡ 0 → ⊥) → r ≡ ends_in_entries count m s (records_of keys values (used - closing_places)) → r ≡ last_is_group m s l
-        entries_decide r some told =
-            told
-            ∙ group_by true true (ends_in_entries count m s (records_of keys values (used - closing_places)))
-            (eq-eqb _ _ root)
-            (lt-ltb 0 (closing_count values used) (positive (closing_count values used) (λ z. some (read ∙ z))))
-            (ap (λ n. ends_in_entries n m s (records_of keys values (used - closing_places))) (sym read))
-          where
-            positive : (n : ℕ) → (n ≡ 0 → ⊥) → 0 < n
-            positive n h = omega (arith, h)
+      -- there is a number, and the entries decide
+      pub entries_decide : (r : Bool) (count : ℕ) → count ≡ closing_count values used → get_or keys (used - 2) 0 ≡ root_key → (count ≡ 0 → ⊥)
+          → r ≡ ends_in_entries count m s (records_of keys values (used - closing_places))
+          → r ≡ last_is_group m s l
+      entries_decide r count read root some told =
+          told
+          ∙ ap (λ n. ends_in_entries n m s (records_of keys values (used - closing_places))) read
+          ∙ group_by true true (ends_in_entries (closing_count values used) m s (records_of keys values (used - closing_places)))
+          (eq-eqb _ _ root)
+          (lt-ltb 0 (closing_count values used) (omega (arith, some)))
+          refl

@@ -7,7 +7,7 @@ use native.Mathlib.Omega.{arith}
 use lib.ListN.{length, take, drop, length-take, length-drop}
 use lib.Seq.{take_all}
 use lib.Dec.{leb}
-use borrow.Author.Tests.{le-leb, lt-leb, leb-true, not-true, not-false}
+use borrow.Author.Tests.{le-leb, lt-leb, leb-true, not-false}
 use Rattle.keys.proofs.Cases.{and_left, and_right}
 use Rattle.definitions.specs.Read.{room, paired, records_of}
 use Rattle.definitions.specs.Log.{is_sound, to_redo, no_log}
@@ -48,8 +48,8 @@ module _ (m s : ℕ) (keys values : List ℕ) (used in_force : ℕ) where
       passes = by_tests true true there (le-leb in_force used within)
 
       -- those in force are not sound
-      pub front_fails : (r : Bool) → r ≡ front → not r ≡ true → true ≡ no_log m s keys values used in_force
-      front_fails r is bad = ap (λ b. not (b && back)) (sym (not-true r bad) ∙ is) ∙ passes
+      pub front_fails : front ≡ false → true ≡ no_log m s keys values used in_force
+      front_fails bad = ap (λ b. not (b && back)) (sym bad) ∙ passes
 
       -- the part of a slice from those in force to those used
       abbrev part : List ℕ → List ℕ
@@ -71,10 +71,9 @@ module _ (m s : ℕ) (keys values : List ℕ) (used in_force : ℕ) where
           ∙ take_all (used - in_force) (to_redo keys values used in_force) (omega arith)
 
       -- they decide
-      pub back_decides : (q r : Bool) → q ≡ front → not q ≡ false → r ≡ is_sound m s (records_of (part keys) (part values) (used - in_force))
+      pub back_decides : (r : Bool) → front ≡ true → r ≡ is_sound m s (records_of (part keys) (part values) (used - in_force))
           → not r ≡ no_log m s keys values used in_force
-      back_decides q r is good told =
-          ap not (told ∙ ap (is_sound m s) part_redo) ∙ ap (λ b. not (b && back)) (sym (not-false q good) ∙ is) ∙ passes
+      back_decides r good told = ap not (told ∙ ap (is_sound m s) part_redo) ∙ ap (λ b. not (b && back)) (sym good) ∙ passes
 
 -- what the promise of the check says where it answers yes
 pub whole_log : (m s : ℕ) (keys values : List ℕ) (used in_force : ℕ) → no_log m s keys values used in_force ≡ false → WholeLog m s keys values used in_force

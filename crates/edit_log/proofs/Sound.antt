@@ -1,11 +1,10 @@
 -- A log from its end: what stands before the last step is sound or not, as the log is, and the answers of the check. Rests on StepPlaces.
 use Prim.Native.Nat.{ℕ, ◌≤◌, ◌<◌}
-use mathlib.Core.Path.{◌≡◌, refl, sym, ap, ◌∙◌}
-use mathlib.Core.Bool.{Bool, true, false, not, ◌&&◌}
+use mathlib.Core.Path.{◌≡◌, sym, ap, ◌∙◌}
+use mathlib.Core.Bool.{Bool, true, false, ◌&&◌}
 use mathlib.Core.List.{List}
 use native.Mathlib.Omega.{arith}
 use lib.ListN.{length}
-use borrow.Author.Tests.{not-true, not-false}
 use Rattle.definitions.specs.List.{Record}
 use Rattle.definitions.specs.Read.{paired, records_of}
 use Rattle.definitions.specs.Log.{ends_in_mark, before_step, last_is_entry, last_is_group, last_is_step, is_sound}
@@ -17,11 +16,11 @@ use Rattle.edit_log.specs.Steps.{last_step, Stepped}
 use Rattle.edit_log.proofs.StepPlaces.{start_below, before_step_is}
 
 -- the mark says which check decides
-pub group_decides : (m s : ℕ) (log : List Record) (r a : Bool) → r ≡ ends_in_mark log → r ≡ true → a ≡ last_is_group m s log → a ≡ last_is_step m s log
-group_decides m s log r a told marked answer = answer ∙ sym (step_group log (sym told ∙ marked) m s)
+pub group_decides : (m s : ℕ) (log : List Record) (a : Bool) → ends_in_mark log ≡ true → a ≡ last_is_group m s log → a ≡ last_is_step m s log
+group_decides m s log a marked answer = answer ∙ sym (step_group log marked m s)
 
-pub single_decides : (m s : ℕ) (log : List Record) (r a : Bool) → r ≡ ends_in_mark log → r ≡ false → a ≡ last_is_entry m s log → a ≡ last_is_step m s log
-single_decides m s log r a told single answer = answer ∙ sym (step_single log (sym told ∙ single) m s)
+pub single_decides : (m s : ℕ) (log : List Record) (a : Bool) → ends_in_mark log ≡ false → a ≡ last_is_entry m s log → a ≡ last_is_step m s log
+single_decides m s log a single answer = answer ∙ sym (step_single log single m s)
 
 -- the steps from `end` on have passed
 pub record StepsPassed (m s : ℕ) (keys values : List ℕ) (used end : ℕ) : Type 0 where
@@ -29,10 +28,6 @@ pub record StepsPassed (m s : ℕ) (keys values : List ℕ) (used end : ℕ) : T
   pub in_keys : used ≤ length keys
   pub in_values : used ≤ length values
   pub same : is_sound m s (records_of keys values used) ≡ is_sound m s (records_of keys values end)
-
--- at first none has
-pub check_begins : (m s : ℕ) (keys values : List ℕ) (used : ℕ) → used ≤ length keys → used ≤ length values → StepsPassed m s keys values used used
-check_begins m s keys values used in_keys in_values = record { within = omega arith; in_keys = in_keys; in_values = in_values; same = refl }
 
 module _ {m s : ℕ} {keys values : List ℕ} {used end : ℕ} (p : StepsPassed m s keys values used end) where
   answer : {b : Bool} → is_sound m s (records_of keys values end) ≡ b → b ≡ is_sound m s (records_of keys values used)
@@ -48,17 +43,17 @@ module _ {m s : ℕ} {keys values : List ℕ} {used end : ℕ} (p : StepsPassed 
     has = let size = records-length keys values end (omega arith) (omega arith) in omega arith
 
     -- what the check of the last step has answered
-    module _ (r : Bool) (told : r ≡ last_is_step m s (records_of keys values end)) where
+    module _ {r : Bool} (told : r ≡ last_is_step m s (records_of keys values end)) where
       -- the last records are no step
-      pub stops : not r ≡ true → false ≡ is_sound m s (records_of keys values used)
+      pub stops : r ≡ false → false ≡ is_sound m s (records_of keys values used)
       stops e =
           answer
           (sound_step m s (records_of keys values end) has
-          ∙ ap (λ b. b && is_sound m s (before_step (records_of keys values end))) (sym told ∙ not-true r e))
+          ∙ ap (λ b. b && is_sound m s (before_step (records_of keys values end))) (sym told ∙ e))
 
-      module _ (passes : not r ≡ false) where
+      module _ (passes : r ≡ true) where
         step : last_is_step m s (records_of keys values end) ≡ true
-        step = sym told ∙ not-false r passes
+        step = sym told ∙ passes
 
         -- they are one
         pub stepped : Stepped keys values end

@@ -2,12 +2,11 @@
 -- Rests on Last and GroupChecked.
 use Prim.Native.Nat.{ℕ, zero, suc, ◌-◌, ◌≤◌, ◌<◌}
 use mathlib.Core.Path.{◌≡◌, sym, ap, ap₂, ◌∙◌}
-use mathlib.Core.Bool.{Bool, true, false, not}
+use mathlib.Core.Bool.{Bool, true, false}
 use mathlib.Core.List.{List}
 use native.Mathlib.Omega.{arith}
 use lib.ListN.{length, take, length-take}
 use lib.Seq.{take-length, take-take}
-use borrow.Author.Tests.{not-true, not-false}
 use Rattle.keys.proofs.Cases.{decide}
 use Rattle.definitions.specs.List.{Record}
 use Rattle.definitions.specs.Read.{records_of}
@@ -86,10 +85,7 @@ module _ {keys values : List ℕ} {used : ℕ} (d : Stepped keys values used) wh
   size = records-length keys values used d.in_keys d.in_values
 
   -- in a single entry
-  module _ (r : Bool) (told : r ≡ ends_in_mark log) (not-marked : not r ≡ true) where
-    single : ends_in_mark log ≡ false
-    single = sym told ∙ not-true r not-marked
-
+  module _ (single : ends_in_mark log ≡ false) where
     -- it is all there
     pub single_ended : Ended keys values used
     single_ended =
@@ -104,10 +100,7 @@ module _ {keys values : List ℕ} {used : ℕ} (d : Stepped keys values used) wh
         λ i. record { start = start i; end = end i; grouped = mark i }
 
   -- in a group
-  module _ (r : Bool) (told : r ≡ ends_in_mark log) (marked : not r ≡ false) where
-    mark : ends_in_mark log ≡ true
-    mark = sym told ∙ not-false r marked
-
+  module _ (mark : ends_in_mark log ≡ true) where
     group : EndsInGroup d.m d.s log
     group = ends_in_group d.m d.s log mark d.step
 

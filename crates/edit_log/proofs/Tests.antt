@@ -14,23 +14,33 @@ use Rattle.definitions.specs.Read.{room, records_of}
 use Rattle.definitions.specs.Log.{closing_places, count_record, last_key, last_count, last_content, closes, is_content, last_is_entry}
 use Rattle.laws.proofs.Records.{records-length}
 use Rattle.edit_log.specs.declared.entry.Entry.{Entry}
-use Rattle.edit_log.specs.Entries.{closing_key, closing_feature, is_closed, last_entry, Ended, content_part}
-use Rattle.edit_log.proofs.Last.{log, count_record_at, last_key_at, last_feature_at}
-use Rattle.edit_log.proofs.Places.{lent_length, lent_content}
+use Rattle.edit_log.specs.Entries.{closing_key, closing_feature, closing_count, is_closed, last_entry, Ended, content_part}
+use Rattle.edit_log.proofs.Last.{log, count_record_at, last_key_at, last_feature_at, last_count_at}
+use Rattle.edit_log.proofs.Places.{places_are, lent_length, lent_content}
 
 module _ (s : ℕ) (keys values : List ℕ) (used : ℕ) (in_keys : used ≤ length keys) (in_values : used ≤ length values) where
   -- the records
   abbrev l : List Record
   l = records_of keys values used
 
-  -- more places are claimed than there are records
-  pub too_long : used < last_count l + closing_places → false ≡ is_closed s l
+  unclosed : used < last_count l + closing_places → false ≡ is_closed s l
   unfolding is_closed
-  too_long h =
+  unclosed h =
       let size = records-length keys values used in_keys in_values in
       sym (ap (λ b. b && closes s l) (lt-leb (last_count l + closing_places) (length l) (omega arith)))
 
-  module _ (there : last_count l + closing_places ≤ used) where
+  -- there are fewer records than close an entry
+  pub too_few : used < closing_places → false ≡ is_closed s l
+  too_few h = unclosed (omega arith)
+
+  -- more places are claimed than there are records
+  pub too_long : closing_places ≤ used → used < closing_count values used + closing_places → false ≡ is_closed s l
+  too_long some h = let count = last_count_at keys values used in_keys in_values some in unclosed (omega arith)
+
+  module _ (some : closing_places ≤ used) (claimed : closing_count values used + closing_places ≤ used) where
+    there : last_count l + closing_places ≤ used
+    there = let count = last_count_at keys values used in_keys in_values some in omega arith
+
     -- the test of the closing records decides
     decided_by : (one below : Bool) → eqb (get_or keys (used - 2) 0) (closing_key keys used) ≡ one → ltb (closing_feature values used) s ≡ below → one && below ≡ is_closed s l
     unfolding is_closed closes
@@ -39,7 +49,7 @@ module _ (s : ℕ) (keys values : List ℕ) (used : ℕ) (in_keys : used ≤ len
         let first : (count_record l).key ≡ get_or keys (used - 2) 0 = ap (λ x. x.key) (count_record_at keys values used in_keys in_values (omega arith)) in
         let key = last_key_at keys values used in_keys in_values (omega arith) in
         let feature = last_feature_at keys values used in_keys in_values (omega arith) in
-        sym (ap₂ (λ b c. b && c) (le-leb (last_count l + closing_places) (length l) (omega arith))
+        sym (ap₂ (λ b c. b && c) (le-leb (last_count l + closing_places) (length l) (omega (arith, there)))
         (ap₂ (λ b c. b && c) (ap₂ eqb first key ∙ e) (ap (λ x. ltb x s) feature ∙ f)))
 
     -- they have two keys
@@ -60,6 +70,10 @@ module _ (s : ℕ) (keys values : List ℕ) (used : ℕ) (in_keys : used ≤ len
         in_values = in_values;
         all_there = omega (arith, leb-true (last_count l + closing_places) (length l) (and_left _ (closes s l) e));
       }
+
+  -- and its places end where the used ones do
+  pub closed_places : is_closed s l ≡ true → (last : Entry) → last ≡ last_entry l → last.start + (last.count + closing_places) ≡ used
+  closed_places e = places_are (closed_ended e)
 
   -- what is not closed is no entry
   pub not_closed : (m : ℕ) → is_closed s l ≡ false → false ≡ last_is_entry m s l

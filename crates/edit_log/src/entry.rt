@@ -39,17 +39,10 @@ pub fn is_closed(s: u32, keys: &[u32], values: &[u32], used: usize) -> bool
     requires { (used ≤ length keys.now) × (used ≤ length values.now) }
     ensures { result ≡ is_closed s (records_of keys.now values.now used) }
 {
-    if used < Entry::CLOSING {
-        return false;
-    }
-    if used < places(last_count(values, used)) {
-        return false;
-    }
-    let key = keys[used - 1];
-    if keys[used - Entry::CLOSING] != key {
-        return false;
-    }
-    values[used - 1] < s
+    Entry::CLOSING <= used
+        && places(last_count(values, used)) <= used
+        && keys[used - Entry::CLOSING] == keys[used - 1]
+        && values[used - 1] < s
 }
 
 // The last entry of the used records.
@@ -58,13 +51,11 @@ pub fn last_entry(keys: &[u32], values: &[u32], used: usize) -> Entry
     ensures { result ≡ last_entry (records_of keys.now values.now used) }
 {
     let count = last_count(values, used);
-    let key = keys[used - 1];
-    let feature = values[used - 1];
     Entry {
-        key,
+        key: keys[used - 1],
         start: used - places(count),
         count,
-        feature,
+        feature: values[used - 1],
     }
 }
 
@@ -81,17 +72,13 @@ pub fn write_entry(
     ensures { Logged (closed new.key (records_from_place keys.now bits.now place new.count) new.feature) new.start
         log_keys.old log_values.old log_keys.new log_values.new result }
 {
-    let key = new.key;
-    let start = new.start;
-    let count = new.count;
-    let feature = new.feature;
-    slices::copy(keys, place, count, log_keys, start);
-    slices::copy(bits, place, count, log_values, start);
-    let last = start + count;
-    log_keys[last] = key;
-    log_values[last] = count as u32;
-    log_keys[last + 1] = key;
-    log_values[last + 1] = feature;
+    slices::copy(keys, place, new.count, log_keys, new.start);
+    slices::copy(bits, place, new.count, log_values, new.start);
+    let last = new.start + new.count;
+    log_keys[last] = new.key;
+    log_values[last] = new.count as u32;
+    log_keys[last + 1] = new.key;
+    log_values[last + 1] = new.feature;
     last + Entry::CLOSING
 }
 

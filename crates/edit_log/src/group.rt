@@ -8,14 +8,8 @@ ghost use Rattle.edit_log.specs.Groups.{group_closing};
 use crate::entry::Entry;
 use keys::Key;
 
-// Groups are told from entries by their mark.
-#[derive(Clone, Copy)]
-pub struct Group {}
-
-impl Group {
-    // The number in the last record of a group, where an entry has its feature. It is no feature.
-    pub const MARK: u32 = 255;
-}
+// The number in the last record of a group, where an entry has its feature. It is no feature, so it tells groups from entries.
+pub const MARK: u32 = 255;
 
 // How many places a group takes whose entries take so many.
 pub fn places(entries: usize) -> usize
@@ -34,6 +28,6 @@ pub fn close_group(number: u32, place: usize, log_keys: &mut [u32], log_values: 
     log_keys[place] = Key::ROOT;
     log_values[place] = number;
     log_keys[place + 1] = Key::ROOT;
-    log_values[place + 1] = Group::MARK;
+    log_values[place + 1] = MARK;
     place + Entry::CLOSING
 }

@@ -1,4 +1,5 @@
 // The log: its entries and its steps, and the check of a log (refusal 5), from the end: the last step says where it begins, so no step is looked for.
+// The two slices and how many places of them are used go side by side here: that is how C lends a log, and a struct of them would hold the same three.
 #![tactic(auto)]
 
 ghost use Rattle.std.specs.Prelude.{◌≡◌, true, not, ◌≤◌, ◌<◌, length};
@@ -15,6 +16,7 @@ pub mod group;
 pub mod step;
 
 // The used records end in an entry: all of it is there and closed, its key is valid, and its content is a list of that block.
+#[tactic(auto, using(crate::proofs::Tests::closed_places))]
 fn ends_in_entry(m: u32, s: u32, keys: &[u32], values: &[u32], used: usize) -> bool
     requires { (m ≤ 10) × (s ≤ slot_limit) × (used ≤ length keys.now) × (used ≤ length values.now) }
     ensures { result ≡ last_is_entry m s (records_of keys.now values.now used) }
@@ -23,15 +25,11 @@ fn ends_in_entry(m: u32, s: u32, keys: &[u32], values: &[u32], used: usize) -> b
         return false;
     }
     let last = entry::last_entry(keys, values, used);
-    let key = last.key;
-    let block = Key { number: key };
-    if !block.is_valid(m) {
-        return false;
-    }
-    let start = last.start;
-    let count = last.count;
-    let end = start + count;
-    check::is_content(m, s, &keys[start..end], &values[start..end], count, key)
+    let block = Key { number: last.key };
+    let end = last.start + last.count;
+    let content_keys = &keys[last.start..end];
+    let content_values = &values[last.start..end];
+    block.is_valid(m) && check::is_content(m, s, content_keys, content_values, last.count, last.key)
 }
 
 // The used records end in so many entries, one after the other.
@@ -40,19 +38,16 @@ fn ends_in_entries(m: u32, s: u32, keys: &[u32], values: &[u32], used: usize, co
     ensures { result ≡ ends_in_entries count m s (records_of keys.now values.now used) }
 {
     let mut end = used;
-    let mut left = count;
-    while 0 < left {
+    for _passed in 0..count {
         if !ends_in_entry(m, s, keys, values, end) {
             return false;
         }
         end = entry::last_entry(keys, values, end).start;
-        left -= 1;
     }
     true
 }
 
 // The used records, whose last has the mark, end in a group: its other closing record has the key 0 too and a number, and so many entries stand before.
-#[tactic(auto, using(crate::proofs::GroupChecked::no_number))]
 fn ends_in_group(m: u32, s: u32, keys: &[u32], values: &[u32], used: usize) -> bool
     requires { (m ≤ 10) × (s ≤ slot_limit) × (used ≤ length keys.now) × (used ≤ length values.now)
         × (ends_in_mark (records_of keys.now values.now used) ≡ true) }
@@ -63,13 +58,7 @@ fn ends_in_group(m: u32, s: u32, keys: &[u32], values: &[u32], used: usize) -> b
     }
     let count = entry::last_count(values, used);
     let before = used - Entry::CLOSING;
-    if keys[before] != 0 {
-        return false;
-    }
-    if count == 0 {
-        return false;
-    }
-    ends_in_entries(m, s, keys, values, before, count)
+    keys[before] == Key::ROOT && count != 0 && ends_in_entries(m, s, keys, values, before, count)
 }
 
 // The used records end in a step, which is a group where the last has the mark.
@@ -78,9 +67,10 @@ fn ends_in_step(m: u32, s: u32, keys: &[u32], values: &[u32], used: usize) -> bo
     ensures { result ≡ last_is_step m s (records_of keys.now values.now used) }
 {
     if step::ends_in_mark(keys, values, used) {
-        return ends_in_group(m, s, keys, values, used);
+        ends_in_group(m, s, keys, values, used)
+    } else {
+        ends_in_entry(m, s, keys, values, used)
     }
-    ends_in_entry(m, s, keys, values, used)
 }
 
 // The used records divide from the end into steps.
@@ -89,6 +79,7 @@ fn is_sound(m: u32, s: u32, keys: &[u32], values: &[u32], used: usize) -> bool
     ensures { result ≡ is_sound m s (records_of keys.now values.now used) }
 {
     let mut end = used;
+    // This loop goes from step to step, and counts nothing.
     while 0 < end {
         if !ends_in_step(m, s, keys, values, end) {
             return false;
@@ -103,23 +94,15 @@ pub fn is_log(m: u32, s: u32, keys: &[u32], values: &[u32], used: usize, in_forc
     requires { (m ≤ 10) × (s ≤ slot_limit) }
     ensures { not result ≡ no_log m s keys.now values.now used in_force }
 {
-    if keys.len() < used {
-        return false;
-    }
-    if values.len() < used {
-        return false;
-    }
-    if used < in_force {
-        return false;
-    }
-    if !is_sound(m, s, keys, values, in_force) {
-        return false;
-    }
-    is_sound(
-        m,
-        s,
-        &keys[in_force..used],
-        &values[in_force..used],
-        used - in_force,
-    )
+    used <= keys.len()
+        && used <= values.len()
+        && in_force <= used
+        && is_sound(m, s, keys, values, in_force)
+        && is_sound(
+            m,
+            s,
+            &keys[in_force..used],
+            &values[in_force..used],
+            used - in_force,
+        )
 }

@@ -5,11 +5,11 @@ ghost use Rattle.definitions.specs.Read.{records_of};
 ghost use Rattle.definitions.specs.Log.{ends_in_mark, before_entries, first_step};
 ghost use Rattle.edit_log.specs.Steps.{last_step, EntriesLast, Stepped, Divided};
 
-use crate::entry;
 use crate::entry::Entry;
-use crate::group::Group;
+use crate::{entry, group};
+use keys::Key;
 
-// The places in the log where the step's entries start and end, and whether it is a group.
+// The places in the log where the step's entries start and end, and whether it is a group. A flag says that and no enum: both kinds have both places.
 #[derive(Clone, Copy)]
 pub struct LogStep {
     pub start: usize,
@@ -22,14 +22,7 @@ pub fn ends_in_mark(keys: &[u32], values: &[u32], used: usize) -> bool
     requires { (used ≤ length keys.now) × (used ≤ length values.now) }
     ensures { result ≡ ends_in_mark (records_of keys.now values.now used) }
 {
-    if used == 0 {
-        return false;
-    }
-    let key = keys[used - 1];
-    if key != 0 {
-        return false;
-    }
-    values[used - 1] == Group::MARK
+    used != 0 && keys[used - 1] == Key::ROOT && values[used - 1] == group::MARK
 }
 
 // The place where the last entries start, so many as count says.
@@ -38,10 +31,8 @@ fn entries_start(keys: &[u32], values: &[u32], used: usize, count: usize) -> usi
     ensures { result ≡ length (before_entries count (records_of keys.now values.now used)) }
 {
     let mut start = used;
-    let mut left = count;
-    while 0 < left {
+    for _passed in 0..count {
         start = entry::last_entry(keys, values, start).start;
-        left -= 1;
     }
     start
 }
@@ -52,18 +43,16 @@ pub fn last_step(keys: &[u32], values: &[u32], used: usize) -> LogStep
     ensures { result ≡ last_step (records_of keys.now values.now used) }
 {
     if !ends_in_mark(keys, values, used) {
-        let start = entry::last_entry(keys, values, used).start;
         return LogStep {
-            start,
+            start: entry::last_entry(keys, values, used).start,
             end: used,
             grouped: false,
         };
     }
     let end = used - Entry::CLOSING;
     let count = entry::last_count(values, used);
-    let start = entries_start(keys, values, end, count);
     LogStep {
-        start,
+        start: entries_start(keys, values, end, count),
         end,
         grouped: true,
     }
@@ -76,6 +65,7 @@ pub fn first_step(keys: &[u32], values: &[u32], used: usize) -> LogStep
 {
     let mut end = used;
     let mut start = last_step(keys, values, used).start;
+    // This loop goes from step to step, and counts nothing.
     while 0 < start {
         end = start;
         start = last_step(keys, values, end).start;

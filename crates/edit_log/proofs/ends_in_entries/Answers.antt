@@ -1,36 +1,18 @@
--- `ends_in_entries` meets its contract: after each turn the records end in the entries exactly when those that are left end in the others.
-use native.Mathlib.Omega.{arith}
-use Rattle.edit_log.proofs.Walk.{check_all, all_passed, one_fails, one_ended, one_passed}
+-- `ends_in_entries`: each turn checks the last entry of those that are left. Rests on Walk.
+use Rattle.std.proofs.Common.{arith, ◌-◌, ◌+◌}
+use Rattle.edit_log.proofs.Walk.{all_passed, one_fails, one_ended, one_passed}
 use Rattle.edit_log.proofs.ends_in_entries.Goals as goal
-
-pub loop-left-init : goal.loop-left-init
-loop-left-init c = let start = c.before.before.before in check_all _ _ _ _ _ _ start.requires.2 start.requires.3
-
-pub ends_in_entry-requires : goal.ends_in_entry-requires
-ends_in_entry-requires c = omega arith
 
 pub returns-then-not-ends_in_entry : goal.returns-then-not-ends_in_entry
 returns-then-not-ends_in_entry c =
-    let turn = c.before.before.before in
-    one_fails turn.loop-left.invariant turn.loop-left-test.true c.ends_in_entry.result c.ends_in_entry.ensures c.if-not-ends_in_entry.true-raw
+    one_fails c.loop-passed.invariant (c.args.count - (c.loop-passed._passed + 1)) (omega arith) c.ends_in_entry.ensures c.if-not-ends_in_entry.true
 
 pub last_entry-end-requires : goal.last_entry-end-requires
 last_entry-end-requires c =
-    let turn = c.before.before.before in
-    let check = c.ends_in_entry in
-    one_ended turn.loop-left.invariant turn.loop-left-test.true check.result check.ensures c.if-not-ends_in_entry.false-raw
+    one_ended c.loop-passed.invariant (c.args.count - (c.loop-passed._passed + 1)) (omega arith) c.ends_in_entry.ensures c.if-not-ends_in_entry.false
 
-pub overflow_sub-left : goal.overflow_sub-left
-overflow_sub-left c = let turn = c.before.before.before.before in let h = turn.loop-left-test.true in omega arith
-
-pub loop-left-smaller : goal.loop-left-smaller
-loop-left-smaller c = let turn = c.before.before.before.before in let h = turn.loop-left-test.true in omega arith
-
-pub loop-left-preserved : goal.loop-left-preserved
-loop-left-preserved c =
-    let turn = c.before.before.before.before in
-    let check = c.ends_in_entry in
-    one_passed turn.loop-left.invariant turn.loop-left-test.true check.result check.ensures c.if-not-ends_in_entry.false-raw _ c.last_entry-end.ensures
+pub loop-passed-preserved : goal.loop-passed-preserved
+loop-passed-preserved c = one_passed c.loop-passed.invariant _ (omega arith) c.ends_in_entry.ensures c.if-not-ends_in_entry.false _ c.last_entry-end.ensures
 
 pub returns : goal.returns
-returns c = all_passed c.loop-left.invariant c.loop-left-test.false
+returns c = all_passed c.loop-passed.invariant (omega arith)

@@ -1,11 +1,8 @@
--- `ends_in_entries` meets its contract: after each turn the records end in the entries exactly when those that are left end in the others.
+-- `ends_in_entries`: the entries that the loop has passed are entries, so the records end in all of them exactly when those before end in the others.
+-- Rests on Walk.
+use Prim.Native.Nat.{◌-◌}
 use Rattle.edit_log.proofs.Walk.{PassedEntries}
 use Rattle.edit_log.proofs.ends_in_entries.Given as goal
 
-abbrev pub invariant-loop-left : goal.invariant-loop-left
-invariant-loop-left l =
-    PassedEntries l.count l.m l.s l.keys l.values l.used l.end l.left
-
-abbrev pub decreases-loop-left : goal.decreases-loop-left
-decreases-loop-left l =
-    l.left
+abbrev pub invariant-loop-passed : goal.invariant-loop-passed
+invariant-loop-passed l = PassedEntries l.count l.m l.s l.keys l.values l.used l.end (l.count - l._passed)

@@ -1,4 +1,4 @@
--- `deeds::first_step` meets its contract: after each turn the first step is the first of what is left.
+-- `step::first_step`: each turn goes on to the step before. Rests on First.
 use Rattle.edit_log.proofs.First.{divided_stepped, walk_begins, start_less, walk_left, walk_turns, walk_ends}
 use Rattle.edit_log.proofs.step.first_step.Goals as goal
 
@@ -12,14 +12,10 @@ pub last_step-start-requires-in-loop-start : goal.last_step-start-requires-in-lo
 last_step-start-requires-in-loop-start c = divided_stepped (walk_left c.loop-start.invariant c.loop-start-test.true)
 
 pub loop-start-smaller : goal.loop-start-smaller
-loop-start-smaller c =
-    let turn = c.before.before in
-    start_less (walk_turns turn.loop-start.invariant _ turn.loop-start-test.true c.last_step-start-in-loop-start.ensures)
+loop-start-smaller c = start_less (walk_turns c.loop-start.invariant _ c.loop-start-test.true c.last_step-start-in-loop-start.ensures)
 
 pub loop-start-preserved : goal.loop-start-preserved
-loop-start-preserved c =
-    let turn = c.before.before in
-    walk_turns turn.loop-start.invariant _ turn.loop-start-test.true c.last_step-start-in-loop-start.ensures
+loop-start-preserved c = walk_turns c.loop-start.invariant _ c.loop-start-test.true c.last_step-start-in-loop-start.ensures
 
 pub last_step-requires : goal.last_step-requires
 last_step-requires c = divided_stepped c.loop-start.invariant.left
