@@ -10,4 +10,3 @@ pub mod GroupEntries
 pub mod Sound
 pub mod First
 pub mod Parts
-pub mod GroupWritten

@@ -4,7 +4,7 @@ use Prim.Native.Nat.{ℕ, ◌+◌, ◌-◌, ◌≤◌}
 use mathlib.Core.Path.{◌≡◌, sym, ◌∙◌, ap}
 use mathlib.Core.List.{List, [], ◌∷◌, ◌++◌, map-append, append_assoc}
 use native.Mathlib.Omega.{arith}
-use lib.ListN.{length, set, take, drop, replicate, length-append, length-map, length-replicate, take-append-drop}
+use lib.ListN.{length, set, take, drop, replicate, length-append, length-map, length-replicate}
 use lib.Seq.{sets}
 use Rattle.slices.proofs.Sets.{sets_snoc, sets_parts}
 use Rattle.definitions.specs.List.{Record, record_of, keys_of, values_of}
@@ -84,13 +84,3 @@ pub both_cleared : {start used : ℕ} {keys values keys' values' : List ℕ} →
     → Cleared start used keys values keys' values'
 both_cleared {start} {used} {keys} {values} order there e f =
     record { keys_are = e ∙ cleared_at keys start used order (omega arith); values_are = f ∙ cleared_at values start used order (omega arith) }
-
--- where there is nothing to clear all stays
-none_at : (l : List ℕ) (start used : ℕ) → used ≤ start → l ≡ over_at start (replicate (used - start) 0) l
-none_at l start used h =
-    let none : 0 ≡ used - start = omega arith in
-    let same : start ≡ start + 0 = omega arith in
-    sym (take-append-drop start l) ∙ ap (λ n. take start l ++ drop n l) same ∙ ap (λ n. over_at start (replicate n 0) l) none
-
-pub none_cleared : (start used : ℕ) (keys values : List ℕ) → used ≤ start → Cleared start used keys values keys values
-none_cleared start used keys values h = record { keys_are = none_at keys start used h; values_are = none_at values start used h }

@@ -1,4 +1,4 @@
--- `is_sound` meets its contract: after each turn the records are sound exactly when those that are left are.
+-- `is_sound`: the steps that the loop has passed are steps, so the records are sound exactly when those that are left are. Rests on Sound.
 use Rattle.edit_log.proofs.Sound.{StepsPassed}
 use Rattle.edit_log.proofs.is_sound.Given as goal
 

@@ -1,4 +1,4 @@
--- `deeds::first_step` meets its contract: after each turn the first step is the first of what is left.
+-- `step::first_step`: the first step of the records is the first of those up to where the walk stands. Rests on First.
 use Rattle.edit_log.proofs.First.{Walk}
 use Rattle.edit_log.proofs.step.first_step.Given as goal
 
