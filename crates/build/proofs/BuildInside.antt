@@ -3,6 +3,7 @@ use Prim.Native.Nat.{ℕ, zero, suc, ◌+◌, ◌-◌, ◌*◌, ◌^◌, ◌≤�
 use mathlib.Core.Path.{◌≡◌, refl, ap, ◌∙◌, sym}
 use mathlib.Core.List.{List}
 use native.Mathlib.Omega.{arith}
+use native.Mathlib.Numerals.{add-one}
 use native.Mathlib.Nat.{pow-suc, mul-mul-mul_comm}
 use lib.Arith.{digits_lt}
 use lib.ListN.{length}
@@ -12,12 +13,9 @@ use Rattle.build.specs.BuildBlocks.{Inside}
 pub one_above : {h : ℕ} → 0 < h → suc (h - 1) ≡ h
 one_above h = omega arith
 
--- a side is two halves, and a step of the keys five of the next
+-- a side is two halves
 pub half_side : (h : ℕ) → 0 < h → 2 ^ h ≡ 2 ^ (h - 1) * 2
 half_side h l = ap (λ k. 2 ^ k) (sym (one_above l)) ∙ pow-suc 2 (h - 1)
-
-pub fifth_step : (h : ℕ) → 0 < h → 5 ^ h ≡ 5 ^ (h - 1) * 5
-fifth_step h l = ap (λ k. 5 ^ k) (sym (one_above l)) ∙ pow-suc 5 (h - 1)
 
 module _ {raster : List ℕ} {side h r c : ℕ} (b : Inside raster side h r c) where
   -- a block of the next height that begins at most half a side further lies in the raster
@@ -32,6 +30,20 @@ module _ {raster : List ℕ} {side h r c : ℕ} (b : Inside raster side h r c) w
         columns = omega (arith, b.columns);
         features = b.features;
       }
+
+-- the same with half a side as the code has it
+pub inside_half : {raster : List ℕ} {side k half r c : ℕ} → Inside raster side (k + 1) r c → half ≡ 2 ^ k → (r' c' : ℕ) → r' ≤ r + half → c' ≤ c + half → Inside raster side k r' c'
+inside_half {k = k} b e r' c' below right =
+    let h = pow-suc 2 k in
+    let h' : 2 ^ (k + 1) ≡ 2 ^ k * 2 = ap (λ x. 2 ^ x) (add-one k) ∙ h in
+    record {
+      deep = omega (arith, b.deep);
+      square = b.square;
+      narrow = b.narrow;
+      rows = omega (arith, b.rows);
+      columns = omega (arith, b.columns);
+      features = b.features;
+    }
 
 -- the place of a pixel
 pub inside_place : {raster : List ℕ} {side r c : ℕ} → Inside raster side 0 r c → r * side + c < length raster
@@ -51,14 +63,6 @@ inside_pixel b r' c' below right = record {
   columns = omega (arith, b.columns);
   features = b.features;
 }
-
--- below 4 and none of 3, 2 and 1
-pub no_other : {h : ℕ} → h < 4 → (h ≡ 3 → ⊥) → (h ≡ 2 → ⊥) → (h ≡ 1 → ⊥) → h ≡ 0
-no_other l three two one = omega arith
-
--- the same block, its height known
-pub inside_at : {raster : List ℕ} {side h h' r c : ℕ} → h ≡ h' → Inside raster side h r c → Inside raster side h' r c
-inside_at e b = rw e at b
 
 -- a square of side 2 ^ k has 4 ^ k pixels
 pub square_pixels : (k : ℕ) → 2 ^ k * 2 ^ k ≡ 4 ^ k

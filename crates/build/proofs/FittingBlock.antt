@@ -13,7 +13,7 @@ use Rattle.keys.specs.Under.{here, nw, ne, sw, se}
 use Rattle.definitions.specs.Picture.{Picture, one_feature}
 use Rattle.definitions.specs.Bits.{union_of_four}
 use Rattle.definitions.specs.List.{list_of, keys_of, values_of}
-use Rattle.laws.proofs.Features.{several_above}
+use Rattle.laws.proofs.Features.{several_above, one_pixel}
 use Rattle.laws.proofs.ListOf.{length-node, list_some}
 use Rattle.list.specs.Check.{one_slot}
 use Rattle.build.specs.BuildBlocks.{below, Fitting, FourAsked, Written}
@@ -31,6 +31,15 @@ module _ {p : Picture} {k r c κ place : ℕ} {keys bits keys' bits' : List ℕ}
 -- the same block, its height known
 pub fitting_at : {p : Picture} {h h' r c key place : ℕ} {keys bits : List ℕ} → h ≡ h' → Fitting p h r c key place keys bits → Fitting p h' r c key place keys bits
 fitting_at e f = rw e at f
+
+-- and the pixel at its corner, which has nothing below it
+pub fitting_pixel : {p : Picture} {h r c key place : ℕ} {keys bits : List ℕ} → Fitting p h r c key place keys bits → Fitting p 0 r c key place keys bits
+fitting_pixel {p} {h} {r} {c} f = record {
+  key_fits = let q = five_pos h in omega (arith, f.key_fits);
+  place_fits = f.place_fits;
+  keys_room = λ several. absurd (let one = one_pixel p r c in cc);
+  bits_room = λ several. absurd (let one = one_pixel p r c in cc);
+}
 
 -- and its key
 pub fitting_key : {p : Picture} {h r c key key' place : ℕ} {keys bits : List ℕ} → key ≡ key' → Fitting p h r c key' place keys bits → Fitting p h r c key place keys bits

@@ -14,7 +14,7 @@ use Rattle.definitions.specs.Picture.{Picture, one_feature}
 use Rattle.definitions.specs.Bits.{bits_of}
 use Rattle.definitions.specs.List.{Record, record_of, list_of}
 use Rattle.laws.proofs.Features.{one_under, one_pixel}
-use Rattle.laws.proofs.BitsOf.{bits_one}
+use Rattle.laws.proofs.BitsOf.{bits_zero, bits_one}
 use Rattle.laws.proofs.ListOf.{list_leaf, list_node, list_one, list_head_first, length-node}
 use Rattle.laws.proofs.FourLists.{same_lists}
 use Rattle.list.specs.Check.{one_slot}
@@ -114,6 +114,15 @@ module _ {p : Picture} {k r c κ place : ℕ} {keys bits keys' bits' : List ℕ}
 
   pub bits_stay : bits' ≡ bits
   bits_stay = w.bits_are ∙ ap (λ l. sets bits (place + 1) (map (λ x. x.value) l)) (below_one p k r c κ one)
+
+-- a block of one feature is written as its first pixel is
+pub written_wider : {p : Picture} {r c κ place : ℕ} {keys bits keys' bits' : List ℕ} {b n : ℕ} (k : ℕ) → one_feature p k r c ≡ true
+    → Written p 0 r c κ place keys bits keys' bits' b n
+    → Written p k r c κ place keys bits keys' bits' b n
+written_wider {p} {r} {c} {κ} {place} {keys} {bits} {keys'} {bits'} {b} {n} k one w =
+    let pixel = one_pixel p r c in
+    let h = written_one p k r c κ place b n keys bits one (w.union_is ∙ bits_zero p r c) (w.next-is ∙ ap (λ l. place + length l) (list_one p 0 r c κ pixel)) in
+    rw (keys_stay w pixel, bits_stay w pixel) h
 
 same_set : (l : List ℕ) (i₁ i₂ i₃ i₄ : ℕ) {w x y z w' x' y' z' : ℕ} → w ≡ w' → x ≡ x' → y ≡ y' → z ≡ z' → four_set l i₁ i₂ i₃ i₄ w x y z ≡ four_set l i₁ i₂ i₃ i₄ w' x' y' z'
 same_set l i₁ i₂ i₃ i₄ e₁ e₂ e₃ e₄ = cc

@@ -4,7 +4,8 @@ ghost use Rattle.definitions.specs.Bits.{union_of_four};
 ghost use Rattle.definitions.specs.List.{list_of};
 ghost use Rattle.build.specs.BuildBlocks.{picture_of_rows, Inside, Joined, Tallied};
 
-use crate::pixels;
+use crate::small;
+use crate::small::{Pixel, Quad, Sixteen, Small};
 use keys::power;
 use list::check;
 
@@ -35,78 +36,24 @@ pub fn joined(nw: Tally, ne: Tally, sw: Tally, se: Tally) -> Tally
     }
 }
 
-// A pixel has one record.
-fn count_pixel(raster: &[u8], side: usize, row: usize, column: usize) -> Tally
-    requires { Inside raster.now side 0 row column }
-    ensures { Tallied (picture_of_rows side raster.now) 0 row column result.bits result.count }
-{
-    let bits = pixels::pixel(raster, side, row, column);
-    Tally { bits, count: 1 }
-}
-
-// A block of 2 by 2 pixels.
-fn count_quad(raster: &[u8], side: usize, row: usize, column: usize) -> Tally
-    requires { Inside raster.now side 1 row column }
-    ensures { Tallied (picture_of_rows side raster.now) 1 row column result.bits result.count }
-{
-    let down = row + 1;
-    let right = column + 1;
-    let nw = count_pixel(raster, side, row, column);
-    let ne = count_pixel(raster, side, row, right);
-    let sw = count_pixel(raster, side, down, column);
-    let se = count_pixel(raster, side, down, right);
-    joined(nw, ne, sw, se)
-}
-
-// A block of 4 by 4 pixels: one record where they are alike.
-fn count_sixteen(raster: &[u8], side: usize, row: usize, column: usize) -> Tally
-    requires { Inside raster.now side 2 row column }
-    ensures { Tallied (picture_of_rows side raster.now) 2 row column result.bits result.count }
-{
-    if pixels::sixteen_alike(raster, side, row, column) {
-        return count_pixel(raster, side, row, column);
-    }
-    let down = row + 2;
-    let right = column + 2;
-    let nw = count_quad(raster, side, row, column);
-    let ne = count_quad(raster, side, row, right);
-    let sw = count_quad(raster, side, down, column);
-    let se = count_quad(raster, side, down, right);
-    joined(nw, ne, sw, se)
-}
-
-// A block of 8 by 8 pixels.
-fn count_eight(raster: &[u8], side: usize, row: usize, column: usize) -> Tally
-    requires { Inside raster.now side 3 row column }
-    ensures { Tallied (picture_of_rows side raster.now) 3 row column result.bits result.count }
-{
-    let down = row + 4;
-    let right = column + 4;
-    let nw = count_sixteen(raster, side, row, column);
-    let ne = count_sixteen(raster, side, row, right);
-    let sw = count_sixteen(raster, side, down, column);
-    let se = count_sixteen(raster, side, down, right);
-    joined(nw, ne, sw, se)
-}
-
-// A block of at most 8 by 8 pixels, with no call of itself: for so few pixels a recursive call costs more than the work.
+// A block of at most 8 by 8 pixels: the size is a type.
 fn count_low(raster: &[u8], side: usize, height: u32, row: usize, column: usize) -> Tally
     requires { Inside raster.now side height row column × (height < 4) }
     ensures { Tallied (picture_of_rows side raster.now) height row column result.bits result.count }
 {
     if height == 3 {
-        return count_eight(raster, side, row, column);
+        return small::count_four::<Sixteen>(raster, side, row, column);
     }
     if height == 2 {
-        return count_sixteen(raster, side, row, column);
+        return Sixteen::count(raster, side, row, column);
     }
     if height == 1 {
-        return count_quad(raster, side, row, column);
+        return Quad::count(raster, side, row, column);
     }
-    count_pixel(raster, side, row, column)
+    Pixel::count(raster, side, row, column)
 }
 
-// A block by its four quadrants, the side halved: the height falls at each call.
+// A block by its four quadrants, the side halved: the height falls at each call. The side is known only when this runs, so it is no type of `small`.
 fn count_block(raster: &[u8], side: usize, height: u32, row: usize, column: usize) -> Tally
     requires { Inside raster.now side height row column }
     ensures { Tallied (picture_of_rows side raster.now) height row column result.bits result.count }

@@ -13,6 +13,7 @@ use list::settings;
 
 pub mod count;
 pub mod pixels;
+mod small;
 pub mod write;
 
 // The refusals that settings and raster decide, in their order: 1, 2 and 3, else 0.

@@ -6,23 +6,15 @@ ghost use Rattle.build.specs.BuildBlocks.{picture_of_rows, word_at, Inside};
 
 use keys::power;
 
-fn wide(x: u8) -> u32
-    ensures { result ≡ x }
-{
-    x as u32
-}
-
 // Refusal 3: some pixel is s or more. It reads on after the first one, so that the loop has no way out and works many pixels at a time.
 pub fn has_bad_pixel(s: u32, raster: &[u8]) -> bool
     ensures { result ≡ bad_pixel s raster.now }
 {
     let mut bad = false;
-    let mut i = 0;
-    while i < raster.len() {
-        if s <= wide(raster[i]) {
+    for &pixel in raster {
+        if s <= u32::from(pixel) {
             bad = true;
         }
-        i += 1;
     }
     bad
 }
@@ -33,7 +25,7 @@ pub fn pixel(raster: &[u8], side: usize, row: usize, column: usize) -> u32
     ensures { result ≡ 2 ^ picture_of_rows side raster.now row column }
 {
     let place = row * side + column;
-    power::power_of_two(wide(raster[place]))
+    power::power_of_two(u32::from(raster[place]))
 }
 
 // The pixels of a block of 2 by 2 are alike. Nothing is promised of a no: such a block is worked in full, which is right for every block.
@@ -55,10 +47,10 @@ fn word(raster: &[u8], at: usize) -> u32
     requires { at + 3 < length raster.now }
     ensures { result ≡ word_at raster.now at }
 {
-    let a = wide(raster[at]);
-    let b = wide(raster[at + 1]);
-    let c = wide(raster[at + 2]);
-    let d = wide(raster[at + 3]);
+    let a = u32::from(raster[at]);
+    let b = u32::from(raster[at + 1]);
+    let c = u32::from(raster[at + 2]);
+    let d = u32::from(raster[at + 3]);
     a + 256 * b + 65536 * c + 16777216 * d
 }
 
@@ -71,7 +63,7 @@ pub fn sixteen_alike(raster: &[u8], side: usize, row: usize, column: usize) -> b
     let second = first + side;
     let third = second + side;
     let fourth = third + side;
-    let all = wide(raster[first]) * 16843009;
+    let all = u32::from(raster[first]) * 16843009;
     let a = word(raster, first);
     let b = word(raster, second);
     let c = word(raster, third);

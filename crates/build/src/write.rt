@@ -1,10 +1,11 @@
 // Writing the records below a block by its four quadrants, the side halved each time.
-ghost use Rattle.std.specs.Prelude.{◌≡◌, ◌+◌, ◌^◌, ◌≤◌, ◌<◌};
+ghost use Rattle.std.specs.Prelude.{◌≡◌, ◌+◌, ◌≤◌, ◌<◌};
 ghost use Rattle.keys.specs.Key.{all_keys};
 ghost use Rattle.definitions.specs.Bits.{union_of_four};
 ghost use Rattle.build.specs.BuildBlocks.{picture_of_rows, Inside, FourAsked, FourWritten, Fitting, Written};
 
-use crate::pixels;
+use crate::small;
+use crate::small::{Pixel, Quad, Sixteen, Small};
 use keys::{Key, power};
 use list::check;
 
@@ -16,6 +17,7 @@ pub struct Below {
 }
 
 // The records of four quadrants, each at the place after the one before it, where the four have several features together; else nothing.
+#[tactic(auto, unfolding(definitions::specs::Bits::union_of_four))]
 pub fn write_four(
     key: u32,
     step: u32,
@@ -55,102 +57,7 @@ pub fn write_four(
     Below { bits: union, next }
 }
 
-// A pixel has no records below it.
-fn write_pixel(raster: &[u8], side: usize, row: usize, column: usize, place: usize) -> Below
-    requires { Inside raster.now side 0 row column × (place ≤ all_keys) }
-    ensures { (result.bits ≡ 2 ^ picture_of_rows side raster.now row column) × (result.next ≡ place + 1) }
-{
-    let bits = pixels::pixel(raster, side, row, column);
-    Below {
-        bits,
-        next: place + 1,
-    }
-}
-
-// A block of 2 by 2 pixels: nothing is below it where they are alike.
-fn write_quad(
-    raster: &[u8],
-    side: usize,
-    row: usize,
-    column: usize,
-    key: u32,
-    place: usize,
-    keys: &mut [u32],
-    bits: &mut [u32],
-) -> Below
-    requires { Inside raster.now side 1 row column × Fitting (picture_of_rows side raster.now) 1 row column key place keys.old bits.old }
-    ensures { Written (picture_of_rows side raster.now) 1 row column key place keys.old bits.old keys.new bits.new result.bits result.next }
-{
-    if pixels::quad_alike(raster, side, row, column) {
-        return write_pixel(raster, side, row, column, place);
-    }
-    let down = row + 1;
-    let right = column + 1;
-    let nw = write_pixel(raster, side, row, column, place + 1);
-    let ne = write_pixel(raster, side, row, right, place + 2);
-    let sw = write_pixel(raster, side, down, column, place + 3);
-    let se = write_pixel(raster, side, down, right, place + 4);
-    write_four(key, 1, place, nw, ne, sw, se, keys, bits)
-}
-
-// A block of 4 by 4 pixels: nothing is below it where they are alike.
-fn write_sixteen(
-    raster: &[u8],
-    side: usize,
-    row: usize,
-    column: usize,
-    key: u32,
-    place: usize,
-    keys: &mut [u32],
-    bits: &mut [u32],
-) -> Below
-    requires { Inside raster.now side 2 row column × Fitting (picture_of_rows side raster.now) 2 row column key place keys.old bits.old }
-    ensures { Written (picture_of_rows side raster.now) 2 row column key place keys.old bits.old keys.new bits.new result.bits result.next }
-{
-    if pixels::sixteen_alike(raster, side, row, column) {
-        return write_pixel(raster, side, row, column, place);
-    }
-    let down = row + 2;
-    let right = column + 2;
-    let first = place + 1;
-    let nw = write_quad(raster, side, row, column, key + 5, first, keys, bits);
-    let second = nw.next;
-    let ne = write_quad(raster, side, row, right, key + 10, second, keys, bits);
-    let third = ne.next;
-    let sw = write_quad(raster, side, down, column, key + 15, third, keys, bits);
-    let fourth = sw.next;
-    let se = write_quad(raster, side, down, right, key + 20, fourth, keys, bits);
-    write_four(key, 5, place, nw, ne, sw, se, keys, bits)
-}
-
-// A block of 8 by 8 pixels.
-fn write_eight(
-    raster: &[u8],
-    side: usize,
-    row: usize,
-    column: usize,
-    key: u32,
-    place: usize,
-    keys: &mut [u32],
-    bits: &mut [u32],
-) -> Below
-    requires { Inside raster.now side 3 row column × Fitting (picture_of_rows side raster.now) 3 row column key place keys.old bits.old }
-    ensures { Written (picture_of_rows side raster.now) 3 row column key place keys.old bits.old keys.new bits.new result.bits result.next }
-{
-    let down = row + 4;
-    let right = column + 4;
-    let first = place + 1;
-    let nw = write_sixteen(raster, side, row, column, key + 25, first, keys, bits);
-    let second = nw.next;
-    let ne = write_sixteen(raster, side, row, right, key + 50, second, keys, bits);
-    let third = ne.next;
-    let sw = write_sixteen(raster, side, down, column, key + 75, third, keys, bits);
-    let fourth = sw.next;
-    let se = write_sixteen(raster, side, down, right, key + 100, fourth, keys, bits);
-    write_four(key, 25, place, nw, ne, sw, se, keys, bits)
-}
-
-// A block of at most 8 by 8 pixels, with no call of itself: for so few pixels a recursive call costs more than the work.
+// A block of at most 8 by 8 pixels: the size is a type.
 fn write_low(
     raster: &[u8],
     side: usize,
@@ -166,18 +73,19 @@ fn write_low(
     ensures { Written (picture_of_rows side raster.now) height row column key place keys.old bits.old keys.new bits.new result.bits result.next }
 {
     if height == 3 {
-        return write_eight(raster, side, row, column, key, place, keys, bits);
+        return small::write_quadrants::<Sixteen>(raster, side, row, column, key, place, keys, bits);
     }
     if height == 2 {
-        return write_sixteen(raster, side, row, column, key, place, keys, bits);
+        return Sixteen::write(raster, side, row, column, key, place, keys, bits);
     }
     if height == 1 {
-        return write_quad(raster, side, row, column, key, place, keys, bits);
+        return Quad::write(raster, side, row, column, key, place, keys, bits);
     }
-    write_pixel(raster, side, row, column, place)
+    Pixel::write(raster, side, row, column, key, place, keys, bits)
 }
 
-// Writes the records below a block, and not its own: only its parent knows whether it is listed. Each is written once, at its last place.
+// Writes the records below a block, and not its own: only its parent knows whether it is listed. Each is written once, at its last
+// place. The side is known only when this runs, so it is no type of `small`.
 pub fn write_below(
     raster: &[u8],
     side: usize,

@@ -9,12 +9,6 @@ use build::pixels;
 use keys::power;
 use list::feature;
 
-fn wide(x: u8) -> u32
-    ensures { result ≡ x }
-{
-    x as u32
-}
-
 // The bits of the class that the table names for two leaves.
 pub fn class_bits(table: &[u8], s2: usize, first: u32, second: u32) -> u32
     requires first_value { (one_slot first ≡ true) × (one_slot second ≡ true) }
@@ -24,7 +18,7 @@ pub fn class_bits(table: &[u8], s2: usize, first: u32, second: u32) -> u32
     let a = feature::feature_of(first);
     let b = feature::feature_of(second);
     let place = a * s2 + b;
-    power::power_of_two(wide(table[place]))
+    power::power_of_two(u32::from(table[place]))
 }
 
 // Refusal 25: the table has not an entry for each pair of classes, or an entry is no class of the result.

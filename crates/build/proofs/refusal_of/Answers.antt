@@ -1,10 +1,7 @@
 -- `build::refusal_of` meets its contract: its tests are those of refusals 1, 2 and 3, in the same order.
-use Prim.Native.Nat.{◌^◌, ◌≤◌}
 use mathlib.Core.Path.{◌≡◌, sym, ◌∙◌}
 use mathlib.Core.Bool.{false}
 use native.Mathlib.Omega.{arith}
-use native.Mathlib.Nat.{mul-le-mul}
-use Rattle.keys.proofs.Powers.{two_le}
 use Rattle.definitions.specs.Refusal.{bad_settings}
 use Rattle.list.proofs.Tests.{good_settings}
 use Rattle.build.proofs.BuildRefusal.{early_one, early_two, early_three, early_none, length-bad, length-good}
@@ -16,9 +13,6 @@ use Rattle.build.proofs.refusal_of.Reads as own
 abbrev At-Else1 : Type 0
 At-Else1 = lts.Else1 tie.the-claims own.Pre own.Post
 
-pub are_bad-requires : goal.are_bad-requires
-are_bad-requires c = tt
-
 -- past the first test the settings are good
 good : (c : At-Else1) → bad_settings c.args.m c.args.s ≡ false
 good c = sym c.are_bad.ensures ∙ c.if-are_bad.false
@@ -29,19 +23,8 @@ returns-then-are_bad c = early_one _ _ _ (sym c.are_bad.ensures ∙ c.if-are_bad
 pub power_of_two-side-requires : goal.power_of_two-side-requires
 power_of_two-side-requires c = let h = (good_settings _ _ (good c.before)).deep in omega arith
 
-pub overflow_cast-side : goal.overflow_cast-side
-overflow_cast-side c = let h = two_le 10 (good_settings _ _ (good c.before.before)).deep in omega (arith, c.power_of_two-side.ensures)
-
-pub overflow_mul-pixels : goal.overflow_mul-pixels
-overflow_mul-pixels c =
-    let h : c.power_of_two-side.result ≤ 2 ^ 10 = let h = two_le 10 (good_settings _ _ (good c.before.before)).deep in omega (arith, c.power_of_two-side.ensures) in
-    omega (arith, mul-le-mul h h)
-
 pub returns-then-raster-pixels : goal.returns-then-raster-pixels
 returns-then-raster-pixels c = early_two _ _ _ (good c.before.before.before) (length-bad _ _ _ c.power_of_two-side.ensures c.if-raster-pixels.true)
-
-pub has_bad_pixel-requires : goal.has_bad_pixel-requires
-has_bad_pixel-requires c = tt
 
 pub returns-then-has_bad_pixel : goal.returns-then-has_bad_pixel
 returns-then-has_bad_pixel c =

@@ -4,9 +4,6 @@ use borrow.Author.Rules.{rules}
 use Rattle.combine.proofs.CombineRefusal.{ready, refused, answers}
 use Rattle.combine.proofs.combine.Goals as goal
 
-pub refusal_of-refusal-requires : goal.refusal_of-refusal-requires
-refusal_of-refusal-requires c = search rules
-
 pub returns-then-refusal-ne0 : goal.returns-then-refusal-ne0
 returns-then-refusal-ne0 c =
     let r = refused _ _ _ _ _ _ _ _ _ _ _ _ _ _ _ c.refusal_of-refusal.ensures c.if-refusal-ne0.true in

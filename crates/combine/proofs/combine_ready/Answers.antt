@@ -23,23 +23,11 @@ At-Else1 = lts.Else1 tie.the-claims own.Pre own.Post
 abbrev At-Start : Type 0
 At-Start = lts.Start tie.the-claims own.Pre own.Post
 
-pub smaller-room-requires : goal.smaller-room-requires
-smaller-room-requires c = search rules
-
-pub has_room-requires : goal.has_room-requires
-has_room-requires c = search rules
-
 -- the number of records of the result
 abbrev records : At-After-smaller → ℕ
 records c =
     let s = c in
     length (result_of s.args.m s.args.keys1.now s.args.bits1.now s.args.n1 s.args.keys2.now s.args.bits2.now s.args.n2 s.args.table.now s.args.s2)
-
-pub returns-then-not-has_room : goal.returns-then-not-has_room
-returns-then-not-has_room c =
-    let d = c.before.before.before in
-    let h : d.smaller-room.result < records d = leb-false _ _ (sym c.has_room.ensures ∙ not-true _ c.if-not-has_room.true-raw) in
-    no_room d.requires (omega (arith, h, d.smaller-room.ensures))
 
 abbrev start : At-Else1 → At-Start
 start c = c.before.before.before.before.before.before.before.before.before.before
@@ -49,12 +37,6 @@ fits : (c : At-Else1) → records c.before.before ≤ room (start c).args.keys.n
 fits c =
     let h : records c.before.before ≤ c.smaller-room.result = leb-true _ _ (sym c.has_room.ensures ∙ not-false _ c.if-not-has_room.false-raw) in
     omega (arith, h, c.smaller-room.ensures)
-
-pub root-requires : goal.root-requires
-root-requires c = (start c.before).requires.deep
-
-pub at_roots-requires : goal.at_roots-requires
-at_roots-requires c = search rules
 
 pub write_block-root-requires : goal.write_block-root-requires
 write_block-root-requires c =

@@ -9,9 +9,6 @@ use Rattle.combine.specs.Ready.{result_of}
 use Rattle.combine.proofs.WholeLists.{root_asked, root_count, few_records, result_most}
 use Rattle.combine.proofs.has_room.Goals as goal
 
-pub overflow_add-n1 : goal.overflow_add-n1
-overflow_add-n1 c = let h = few_records c.requires in omega (arith, h)
-
 pub overflow_sub-n1 : goal.overflow_sub-n1
 overflow_sub-n1 c = let h = result_most c.requires in omega (arith, h)
 
@@ -20,12 +17,6 @@ returns-then-n1-n2 c =
     let h = result_most c.requires in
     sym (le-leb (length (result_of c.args.m c.args.keys1.now c.args.bits1.now c.args.n1 c.args.keys2.now c.args.bits2.now c.args.n2 c.args.table.now c.args.s2))
     c.args.room (omega (arith, c.if-n1-n2.true)))
-
-pub power_of_five-step-requires : goal.power_of_five-step-requires
-power_of_five-step-requires c = search rules
-
-pub at_roots-requires : goal.at_roots-requires
-at_roots-requires c = search rules
 
 pub count_block-whole-requires : goal.count_block-whole-requires
 count_block-whole-requires c = root_asked c.requires c.power_of_five-step.ensures c.at_roots.ensures

@@ -6,21 +6,8 @@ use borrow.Author.Rules.{rules}
 use Rattle.combine.proofs.Table.{table_short, table_long}
 use Rattle.combine.proofs.classes.is_bad.Goals as goal
 
-pub overflow_mul-pairs : goal.overflow_mul-pairs
-overflow_mul-pairs c =
-    let h = mul-le-mul c.requires.0 c.requires.1 in
-    omega arith
-
-pub overflow_cast-pairs : goal.overflow_cast-pairs
-overflow_cast-pairs c =
-    let h = mul-le-mul c.requires.0 c.requires.1 in
-    omega arith
-
 pub returns-then-table-pairs : goal.returns-then-table-pairs
 returns-then-table-pairs c = table_short _ _ _ _ c.if-table-pairs.true
-
-pub has_bad_pixel-requires : goal.has_bad_pixel-requires
-has_bad_pixel-requires c = search rules
 
 pub returns : goal.returns
 returns c = c.has_bad_pixel.ensures ∙ table_long _ _ _ _ c.if-table-pairs.false

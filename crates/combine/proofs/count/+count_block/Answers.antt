@@ -23,9 +23,6 @@ class_bits-bits-requires t c =
       second_in_bounds = leaves_named a.seen e c.if-here.true a.named;
     }
 
-pub passed-next-requires : goal.passed-next-requires
-passed-next-requires t c = search rules
-
 pub returns-then-here : goal.returns-then-here
 returns-then-here t c = leaves_counted c.enter_both-here.ensures c.if-here.true c.class_bits-bits.ensures c.passed-next.ensures
 
@@ -55,9 +52,6 @@ pub joined-tally-requires : goal.joined-tally-requires
 joined-tally-requires t c =
     four_small c.enter_both-here.ensures c.if-here.false c.count_block-nw.ensures c.count_block-ne.ensures c.count_block-sw.ensures
     c.count_block-se.ensures c.requires
-
-pub passed-next-requires-2 : goal.passed-next-requires-2
-passed-next-requires-2 t c = search rules
 
 pub returns : goal.returns
 returns t c =

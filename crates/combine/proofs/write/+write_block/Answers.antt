@@ -18,9 +18,6 @@ use Rattle.combine.proofs.write.+write_block.Goals as goal
 pub enter_both-here-requires : goal.enter_both-here-requires
 enter_both-here-requires t c = records_there c.requires.asked
 
-pub overflow_add-first : goal.overflow_add-first
-overflow_add-first t c = let f = c.requires.fits in omega (arith, f.key_fits, f.place_fits)
-
 pub class_bits-own-requires : goal.class_bits-own-requires
 class_bits-own-requires t c =
     let a = c.requires.asked in
@@ -29,9 +26,6 @@ class_bits-own-requires t c =
       first_value = leaves_slots a.seen e c.if-here.true;
       second_in_bounds = leaves_named a.seen e c.if-here.true a.named;
     }
-
-pub passed-next-requires : goal.passed-next-requires
-passed-next-requires t c = search rules
 
 pub returns-then-here : goal.returns-then-here
 returns-then-here t c = leaves_made c.enter_both-here.ensures c.if-here.true c.class_bits-own.ensures c.passed-next.ensures _ _ _
@@ -44,24 +38,15 @@ module _ {bits₁ bits₂ table : List ℕ} {s₂ : ℕ} {span : KeySpan} {x : P
   lower : (t : ℕ) → span.step ≡ t → (d : ℕ) {q : KeySpan} → q ≡ child_span span d → q.step < t
   lower t m d f = let h = child_fewer span _ d f w.asked.seen.step_is in omega arith
 
-pub child-requires : goal.child-requires
-child-requires t c = divides c.requires 1 (omega arith)
-
 pub write_block-nw-requires : goal.write_block-nw-requires
 write_block-nw-requires t c =
     let f = c.child.ensures in
     (lower c.requires t c.decreases 1 f, writes_nw c.requires c.enter_both-here.ensures c.if-here.false f)
 
-pub child-requires-2 : goal.child-requires-2
-child-requires-2 t c = divides c.requires 2 (omega arith)
-
 pub write_block-ne-requires : goal.write_block-ne-requires
 write_block-ne-requires t c =
     let f = c.child-2.ensures in
     (lower c.requires t c.decreases 2 f, writes_ne c.requires c.enter_both-here.ensures c.if-here.false c.child.ensures c.write_block-nw.ensures f)
-
-pub child-requires-3 : goal.child-requires-3
-child-requires-3 t c = divides c.requires 3 (omega arith)
 
 pub write_block-sw-requires : goal.write_block-sw-requires
 write_block-sw-requires t c =
@@ -71,9 +56,6 @@ write_block-sw-requires t c =
           c.child.ensures c.write_block-nw.ensures
           c.child-2.ensures c.write_block-ne.ensures f,
     )
-
-pub child-requires-4 : goal.child-requires-4
-child-requires-4 t c = divides c.requires 4 (omega arith)
 
 pub write_block-se-requires : goal.write_block-se-requires
 write_block-se-requires t c =
@@ -92,9 +74,6 @@ write_four-below-requires t c =
     c.child-2.ensures c.write_block-ne.ensures
     c.child-3.ensures c.write_block-sw.ensures
     c.child-4.ensures c.write_block-se.ensures
-
-pub passed-next-requires-2 : goal.passed-next-requires-2
-passed-next-requires-2 t c = search rules
 
 pub returns : goal.returns
 returns t c =
