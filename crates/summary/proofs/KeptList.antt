@@ -1,12 +1,12 @@
 -- The list that is checked by the pass, and the counts of its blocks from what the pass kept: the root is a node of sixteen blocks, and a block whose
 -- place is kept has the counts that stand there. Rests on list's Content, and on CountBlock and BlockNumbers.
-use Prim.Native.Nat.{ℕ, suc, ◌+◌, ◌-◌, ◌^◌, ◌≤◌, ◌<◌}
+use Prim.Native.Nat.{ℕ, suc, ◌+◌, ◌-◌, ◌^◌, ◌≤◌, ◌<◌, zero}
 use mathlib.Core.Path.{◌≡◌, refl, sym, ◌∙◌, ap, ap₂}
 use mathlib.Core.List.{List}
 use native.Mathlib.Nat.{pow-suc, pow-le-pow_right}
 use native.Mathlib.Omega.{arith}
 use lib.Dec.{eqb, lit<}
-use lib.ListN.{get_or, take, replicate, length-replicate, get_or-replicate}
+use lib.ListN.{get_or, take, replicate, length-replicate}
 use lib.Seq.{length-take-le, get_or-take, take-take}
 use Rattle.keys.specs.Key.{root_key}
 use Rattle.keys.specs.Block.{row_of, column_of}
@@ -19,18 +19,34 @@ use Rattle.list.specs.Check.{step_under}
 use Rattle.list.specs.Own.{OwnList, shown_by}
 use Rattle.list.specs.Among.{place_among}
 use Rattle.list.proofs.Content.{Stand, keys_length, bits_length, root_valid, root_list, many_records}
+use Rattle.std.specs.Prelude.{Option, Some, None, unwrap_or}
+use Rattle.std.specs.Option.{option_eq}
+use borrow.Author.Tests.{ne_eqb}
+use Rattle.summary.specs.declared.kept.KeptBlock.{KeptBlock}
 use Rattle.summary.specs.Kept.{RowKept, RowsKept, SharedArea, KeepingAsked, KeepingAnswered, FirstNode}
 use Rattle.summary.proofs.CountBlock.{node_counts}
 use Rattle.summary.proofs.BlockNumbers.{number_most, key_valid, key_height}
 use Rattle.summary.proofs.PassTurn.{step_of_height}
 
 -- at first nothing is kept
-pub none_kept : (bits : List ℕ) (area : ℕ) (row : List ℕ) → RowsKept bits area (replicate 16 row) (replicate 16 0)
-none_kept bits area row = record {
-  rows_long = length-replicate {A = List ℕ} 16 row;
-  places_long = length-replicate {A = ℕ} 16 0;
-  known = λ b h some. absurd (some (get_or-replicate {A = ℕ} 16 b 0 0 h));
+abbrev nothing : Option KeptBlock
+nothing = None
+
+none_among : (n b : ℕ) → get_or (replicate n nothing) b None ≡ nothing
+none_among zero b = refl
+none_among (suc n) zero = refl
+none_among (suc n) (suc b) = none_among n b
+
+pub none_kept : (bits : List ℕ) (area : ℕ) → RowsKept bits area (replicate 16 None)
+none_kept bits area = record {
+  long = length-replicate {A = Option KeptBlock} 16 None;
+  known = λ b block e. let none = none_among 16 b in cc;
 }
+
+-- the test of an answer: where there is no place, the check's is 0, and so not that of some records
+pub answer_is : (answer : Option ℕ) (n : ℕ) → (n ≡ 0 → ⊥) → option_eq eqb answer (Some n) ≡ eqb (unwrap_or answer 0) n
+answer_is None n some = sym (ne_eqb 0 n (λ e. some (sym e)))
+answer_is (Some place) n some = refl
 
 -- the root is a node of sixteen blocks
 root_shared : (m step area : ℕ) → 4 ≤ m → m ≤ 10 → step ≡ 5 ^ (m - 1) → area ≡ 4 ^ summary_height m → SharedArea step area 16
@@ -51,8 +67,8 @@ module _ {m s : ℕ} {K B : List ℕ} {n : ℕ} (first : FirstNode s K B n) wher
   first_stand = record { some = first.some; in_keys = first.in_keys; in-bits = first.in-bits; valid = root_valid m }
 
   module _ {step area : ℕ} (low : 4 ≤ m) (deep : m ≤ 10) (e : step ≡ 5 ^ (m - 1)) (f : area ≡ 4 ^ summary_height m) where
-    pub root_asked : {rows : List (List ℕ)} {places : List ℕ} → RowsKept (take n B) (4 ^ summary_height m) rows places
-        → KeepingAsked (take n K) (take n B) rows places 0 0 (get_or B 0 0) step area 0 16
+    pub root_asked : {kept : List (Option KeptBlock)} → RowsKept (take n B) (4 ^ summary_height m) kept
+        → KeepingAsked (take n K) (take n B) kept 0 0 (get_or B 0 0) step area 0 16
     root_asked k =
         let a = keys_length (first_stand) in
         let b = bits_length (first_stand) in
@@ -70,20 +86,20 @@ module _ {m s : ℕ} {K B : List ℕ} {n : ℕ} (first : FirstNode s K B n) wher
           };
           shared = root_shared m step area low deep e f;
           most = omega arith;
-          kept = rw f k;
+          holds = rw f k;
         }
 
-    pub root_checked : {rows : List (List ℕ)} {places : List ℕ} {place : ℕ} → KeepingAnswered (take n K) (take n B) rows places 0 0 (get_or B 0 0) step area place
-        → eqb place n ≡ is_list m s K B n
-    root_checked {place = place} x =
+    pub root_checked : {kept : List (Option KeptBlock)} {answer : Option ℕ} → KeepingAnswered (take n K) (take n B) kept 0 0 (get_or B 0 0) step area answer
+        → eqb (unwrap_or answer 0) n ≡ is_list m s K B n
+    root_checked {answer = answer} x =
         let up : m ≡ suc (m - 1) = omega arith in
-        root_list m s K B n (eqb place n)
-        (many_records first_stand s first.root first.small place first.several
+        root_list m s K B n (eqb (unwrap_or answer 0) n)
+        (many_records first_stand s first.root first.small (unwrap_or answer 0) first.several
         (x.checked _ (step_of_height (m - 1) step e ∙ ap step_under (sym up ∙ sym (height_zero m)))))
 
-    pub root_kept : {rows : List (List ℕ)} {places : List ℕ} {place : ℕ} → KeepingAnswered (take n K) (take n B) rows places 0 0 (get_or B 0 0) step area place
-        → RowsKept (take n B) (4 ^ summary_height m) rows places
-    root_kept x = rw f at x.kept
+    pub root_kept : {kept : List (Option KeptBlock)} {answer : Option ℕ} → KeepingAnswered (take n K) (take n B) kept 0 0 (get_or B 0 0) step area answer
+        → RowsKept (take n B) (4 ^ summary_height m) kept
+    root_kept x = rw f at x.holds
 
 -- the records of the first n places alone
 module _ {m : ℕ} {K B : List ℕ} {n : ℕ} (o : OwnList m K B n) where

@@ -2,7 +2,7 @@
 use Prim.Native.Nat.{ℕ, zero, suc, ◌+◌, ◌-◌, ◌*◌, ◌/◌, ◌^◌, ◌≤◌, ◌<◌}
 use mathlib.Core.Path.{◌≡◌, refl, sym, ◌∙◌, ap}
 use mathlib.Core.Bool.{true, false}
-use mathlib.Core.List.{List, []}
+use mathlib.Core.List.{List}
 use native.Mathlib.Nat.{pow-suc, suc-mul, one-le-pow}
 use native.Mathlib.Omega.{arith}
 use lib.Bits.{bit_or}
@@ -12,6 +12,8 @@ use Rattle.keys.proofs.Cases.{equal, split}
 use Rattle.keys.proofs.Powers.{five_pos}
 use Rattle.list.specs.Check.{one_slot}
 use Rattle.list.proofs.Turn as check
+use Rattle.std.specs.Prelude.{Option, Some, None}
+use Rattle.summary.specs.declared.kept.KeptBlock.{KeptBlock}
 use Rattle.summary.specs.Count.{CountersFit}
 use Rattle.summary.specs.Pass.{OneHeight, PassAsked, PassAnswered}
 use Rattle.summary.specs.Kept.{RowKept, RowsKept, SharedArea, KeepingAsked, KeepingAnswered}
@@ -47,51 +49,50 @@ child_shared step area share s many = go s.up s.blocks s.steps
         (record { up = u; height = s.height; blocks = omega arith; steps = omega arith; pixels = s.pixels; small = s.small }, omega arith)
 
 -- one block more is kept
-pub kept_more : {B : List ℕ} {area : ℕ} {rows : List (List ℕ)} {places : List ℕ} (b at : ℕ) (counts : List ℕ) → RowsKept B area rows places → b < 16
-    → RowKept B area at counts
-    → RowsKept B area (set rows b counts) (set places b at)
-kept_more {B} {area} {rows} {places} b at counts k h x = record {
-  rows_long = length-set rows b counts ∙ k.rows_long;
-  places_long = length-set places b at ∙ k.places_long;
-  known = λ i below some.
+pub kept_more : {B : List ℕ} {area : ℕ} {kept : List (Option KeptBlock)} (b : ℕ) (block : KeptBlock) → RowsKept B area kept → b < 16
+    → RowKept B area block.place block.counts
+    → RowsKept B area (set kept b (Some block))
+kept_more {B} {area} {kept} b block k h x = record {
+  long = length-set kept b (Some block) ∙ k.long;
+  known = λ i other e.
       equal i b
-      (λ e.
-      let row : get_or (set rows b counts) i [] ≡ counts =
-      ap (λ j. get_or (set rows b counts) j []) e ∙ get_or-set_same rows b counts [] (let l = k.rows_long in omega arith) in
-      let place : get_or (set places b at) i 0 ≡ at = ap (λ j. get_or (set places b at) j 0) e ∙ get_or-set_same places b at 0 (let l = k.places_long in omega arith) in
-      rw (row, place) x)
-      (λ e.
-      let row = get_or-set_other rows b i counts [] e in
-      let place = get_or-set_other places b i at 0 e in
-      rw (row, place) (k.known i below (λ z. some (place ∙ z))));
+      (λ here.
+      let own : get_or (set kept b (Some block)) i None ≡ Some block =
+      ap (λ j. get_or (set kept b (Some block)) j None) here ∙ get_or-set_same kept b (Some block) None (let l = k.long in omega arith) in
+      let same : block ≡ other = cc in
+      rw same at x)
+      (λ away. k.known i other (sym (get_or-set_other kept b i (Some block) None away) ∙ e));
 }
 
-module _ {K B : List ℕ} {rows : List (List ℕ)} {places : List ℕ} {at key own step area b : ℕ} (asked : KeepingAsked K B rows places at key own step area b 1) where
+module _ {K B : List ℕ} {kept : List (Option KeptBlock)} {at key own step area b : ℕ} (asked : KeepingAsked K B kept at key own step area b 1) where
   pub block_asked : PassAsked K B (replicate 32 0) at key own step area × (5 ≤ step)
   block_asked =
       let l = kept_level step area asked.shared in
       (record { node = asked.node; level = l.0; room = none_fit area asked.shared.small }, l.1)
 
-  module _ {counts : List ℕ} {place : ℕ} (x : PassAnswered K B (replicate 32 0) counts at key own step area place) where
-    pub block_wrong : place ≡ 0 → KeepingAnswered K B rows places at key own step area 0
-    block_wrong e = record { within = omega arith; checked = λ k s. sym e ∙ x.checked k s; kept = asked.kept }
+  module _ {counts : List ℕ} where
+    pub block_wrong : PassAnswered K B (replicate 32 0) counts at key own step area None → KeepingAnswered K B kept at key own step area None
+    block_wrong x = record { within = omega arith; some = λ place e. cc; checked = x.checked; holds = asked.holds }
 
-    pub block_kept : (place ≡ 0 → ⊥) → KeepingAnswered K B (set rows b counts) (set places b at) at key own step area place
-    block_kept good = record {
+    pub block_kept : {place : ℕ} → PassAnswered K B (replicate 32 0) counts at key own step area (Some place)
+        → KeepingAnswered K B (set kept b (Some (record { place = at; counts = counts }))) at key own step area (Some place)
+    block_kept {place} x = record {
       within = x.within;
+      some = λ found e. (x.counted found e).0;
       checked = x.checked;
-      kept = kept_more b at counts asked.kept (let h = asked.most in omega arith)
-          (record { several = ap one_slot (sym asked.node.own_is) ∙ asked.node.several; next = place; counted = x.counted good });
+      holds = kept_more b (record { place = at; counts = counts }) asked.holds (let h = asked.most in omega arith)
+          (record { several = ap one_slot (sym asked.node.own_is) ∙ asked.node.several; next = place; counted = (x.counted place refl).1 });
     }
 
 -- before the turn of a digit: the children before it have been checked, and their blocks are kept
-pub record Keeping (K B : List ℕ) (at key own step area quarter : ℕ) (rows : List (List ℕ)) (places : List ℕ) (number next union digit : ℕ) : Type 0 where
+pub record Keeping (K B : List ℕ) (at key own step area quarter : ℕ) (kept : List (Option KeptBlock)) (number next union digit : ℕ) : Type 0 where
   pub checked : check.TurnPassed K B (at + 1) key own step next union digit
   pub most : number + (5 - digit) * quarter ≤ 16
-  pub kept : RowsKept B area rows places
+  pub after : 0 < next
+  pub holds : RowsKept B area kept
 
-module _ {K B : List ℕ} {rows₀ : List (List ℕ)} {places₀ : List ℕ} {at key own step area b share : ℕ}
-    (asked : KeepingAsked K B rows₀ places₀ at key own step area b share) (many : share ≡ 1 → ⊥) where
+module _ {K B : List ℕ} {kept₀ : List (Option KeptBlock)} {at key own step area b share : ℕ}
+    (asked : KeepingAsked K B kept₀ at key own step area b share) (many : share ≡ 1 → ⊥) where
   positive : step ≡ 0 → ⊥
   positive e = let h = five_pos (asked.shared.up + suc asked.shared.height) in let s = asked.shared.steps in omega arith
 
@@ -99,20 +100,26 @@ module _ {K B : List ℕ} {rows₀ : List (List ℕ)} {places₀ : List ℕ} {at
   pub step_less : step / 5 < step
   step_less = split 0 step (λ h. omega arith) (λ h. absurd (positive (omega arith)))
 
-  pub keeping_begins : Keeping K B at key own step area (share / 4) rows₀ places₀ b (at + 1) 0 1
+  pub keeping_begins : Keeping K B at key own step area (share / 4) kept₀ b (at + 1) 0 1
   keeping_begins = record {
     checked = check.turn_begins K B (at + 1) key own step (asked.node.size, omega (arith, asked.node.there), asked.node.fits) positive;
     most = let e = (child_shared step area share asked.shared many).1 in let h = asked.most in omega arith;
-    kept = asked.kept;
+    after = omega arith;
+    holds = asked.holds;
   }
 
-  module _ {rows : List (List ℕ)} {places : List ℕ} {number next union digit : ℕ}
-      (x : Keeping K B at key own step area (share / 4) rows places number next union digit) where
-    pub keep_refuses : check.Answer K B (at + 1) key own step 0 → KeepingAnswered K B rows places at key own step area 0
-    keep_refuses h = record { within = omega arith; checked = h; kept = x.kept }
+  module _ {kept : List (Option KeptBlock)} {number next union digit : ℕ}
+      (x : Keeping K B at key own step area (share / 4) kept number next union digit) where
+    pub keep_refuses : check.Answer K B (at + 1) key own step 0 → KeepingAnswered K B kept at key own step area None
+    keep_refuses h = record { within = omega arith; some = λ place e. cc; checked = h; holds = x.holds }
 
-    pub keep_passes : 5 ≤ digit → union ≡ own → KeepingAnswered K B rows places at key own step area next
-    keep_passes end e = record { within = x.checked.within; checked = check.ends x.checked end e; kept = x.kept }
+    pub keep_passes : 5 ≤ digit → union ≡ own → KeepingAnswered K B kept at key own step area (Some next)
+    keep_passes end e = record {
+      within = x.checked.within;
+      some = λ place same. let is : next ≡ place = cc in rw is at x.after;
+      checked = check.ends x.checked end e;
+      holds = x.holds;
+    }
 
     module _ (turn : digit < 5) where
       here : number + (share / 4) + (4 - digit) * (share / 4) ≤ 16
@@ -130,11 +137,11 @@ module _ {K B : List ℕ} {rows₀ : List (List ℕ)} {places₀ : List ℕ} {at
 
       module _ (there : next < length K) {child : ℕ} (is : child ≡ key + digit * step) (same : get_or K next 0 ≡ child) where
         pub keep_leaf : one_slot (get_or B next 0) ≡ true
-            → Keeping K B at key own step area (share / 4) rows places (number + share / 4) (next + 1) (bit_or union (get_or B next 0)) (digit + 1)
-        keep_leaf leaf = record { checked = check.goes_leaf x.checked turn there is same leaf; most = number_more; kept = x.kept }
+            → Keeping K B at key own step area (share / 4) kept (number + share / 4) (next + 1) (bit_or union (get_or B next 0)) (digit + 1)
+        keep_leaf leaf = record { checked = check.goes_leaf x.checked turn there is same leaf; most = number_more; after = omega arith; holds = x.holds }
 
         module _ (several : one_slot (get_or B next 0) ≡ false) where
-          pub keep_asked : KeepingAsked K B rows places next child (get_or B next 0) (step / 5) area number (share / 4)
+          pub keep_asked : KeepingAsked K B kept next child (get_or B next 0) (step / 5) area number (share / 4)
           keep_asked = record {
             node = record {
               size = asked.node.size;
@@ -145,22 +152,26 @@ module _ {K B : List ℕ} {rows₀ : List (List ℕ)} {places₀ : List ℕ} {at
             };
             shared = (child_shared step area share asked.shared many).0;
             most = number_fits;
-            kept = x.kept;
+            holds = x.holds;
           }
 
-          module _ {rows' : List (List ℕ)} {places' : List ℕ} {place : ℕ}
-              (y : KeepingAnswered K B rows' places' next child (get_or B next 0) (step / 5) area place) where
-            pub keep_wrong : place ≡ 0 → KeepingAnswered K B rows' places' at key own step area 0
-            keep_wrong none = record {
+          module _ {kept' : List (Option KeptBlock)} where
+            pub keep_wrong : KeepingAnswered K B kept' next child (get_or B next 0) (step / 5) area None → KeepingAnswered K B kept' at key own step area None
+            keep_wrong y = record {
               within = omega arith;
-              checked = check.wrong_child x.checked turn there is same several place none y.checked;
-              kept = y.kept;
+              some = λ place e. cc;
+              checked = check.wrong_child x.checked turn there is same several 0 refl y.checked;
+              holds = y.holds;
             }
 
-            pub keep_node : (place ≡ 0 → ⊥)
-                → Keeping K B at key own step area (share / 4) rows' places' (number + share / 4) place (bit_or union (get_or B next 0)) (digit + 1)
-            keep_node good = record {
-              checked = check.goes_node x.checked turn there is same several place good y.within y.checked;
-              most = number_more;
-              kept = y.kept;
-            }
+            pub keep_node : {place : ℕ} → KeepingAnswered K B kept' next child (get_or B next 0) (step / 5) area (Some place)
+                → Keeping K B at key own step area (share / 4) kept' (number + share / 4) place (bit_or union (get_or B next 0)) (digit + 1)
+            keep_node {place} y =
+                let after = y.some place refl in
+                let good : place ≡ 0 → ⊥ = λ e. omega arith in
+                record {
+                  checked = check.goes_node x.checked turn there is same several place good y.within y.checked;
+                  most = number_more;
+                  after = after;
+                  holds = y.holds;
+                }

@@ -8,6 +8,7 @@ use native.Mathlib.Nat.{pow-suc, suc-mul, mul-le-mul_right}
 use native.Mathlib.Omega.{arith}
 use lib.Bits.{bit_or}
 use lib.ListN.{length, get_or, drop, length-drop}
+use Rattle.std.specs.Prelude.{Option, Some, None}
 use lib.Seq.{get_or-set_same, get_or-set_other}
 use Rattle.keys.proofs.Cases.{equal}
 use Rattle.keys.proofs.Powers.{five_le, five_pos}
@@ -118,6 +119,7 @@ leaf_most counts g area f long h =
 pub record Passing (K B counts₀ : List ℕ) (at key own step area : ℕ) (counts : List ℕ) (next union digit : ℕ) : Type 0 where
   pub checked : check.TurnPassed K B (at + 1) key own step next union digit
   pub reached : CountReached B counts₀ at area counts next (digit - 1)
+  pub after : 0 < next
   pub most : (f : ℕ) → f < 32 → get_or counts f 0 ≤ get_or counts₀ f 0 + (digit - 1) * (area / 4)
 
 module _ {K B counts₀ : List ℕ} {at key own step area : ℕ} (asked : PassAsked K B counts₀ at key own step area) where
@@ -128,19 +130,21 @@ module _ {K B counts₀ : List ℕ} {at key own step area : ℕ} (asked : PassAs
   passing_begins = record {
     checked = check.turn_begins K B (at + 1) key own step (asked.node.size, omega (arith, asked.node.there), asked.node.fits) positive;
     reached = reached_none B counts₀ at area;
+    after = omega arith;
     most = λ f h. omega arith;
   }
 
   module _ {counts : List ℕ} {next union digit : ℕ} (x : Passing K B counts₀ at key own step area counts next union digit) where
-    -- what is wrong answers 0
-    pub refuses : check.Answer K B (at + 1) key own step 0 → PassAnswered K B counts₀ counts at key own step area 0
-    refuses h = record { within = omega arith; checked = h; counted = λ z. absurd (z refl) }
+    -- what is wrong answers none
+    pub refuses : check.Answer K B (at + 1) key own step 0 → PassAnswered K B counts₀ counts at key own step area None
+    refuses h = record { within = omega arith; checked = h; counted = λ place e. cc }
 
-    pub passes : 5 ≤ digit → union ≡ own → PassAnswered K B counts₀ counts at key own step area next
+    pub passes : 5 ≤ digit → union ≡ own → PassAnswered K B counts₀ counts at key own step area (Some next)
     passes end e = record {
       within = x.checked.within;
       checked = check.ends x.checked end e;
-      counted = λ z. reached_all x.reached (omega arith);
+      counted = λ place same.
+          let is : next ≡ place = cc in (rw is at x.after, rw is at (reached_all x.reached (omega arith)));
     }
 
     module _ (turn : digit < 5) where
@@ -169,6 +173,7 @@ module _ {K B counts₀ : List ℕ} {at key own step area : ℕ} (asked : PassAs
         leaf_passes counts' leaf e = record {
           checked = check.goes_leaf x.checked turn there is same leaf;
           reached = on (next + 1) (leaf_turn x.reached counts' (next + 1) (omega arith) asked.room.long leaf e refl);
+          after = omega arith;
           most = λ f h.
               let a = x.most f h in
               let b = leaf_most counts (feature_of (get_or B next 0)) (area / 4) f (x.reached.long ∙ asked.room.long) h in
@@ -192,25 +197,24 @@ module _ {K B counts₀ : List ℕ} {at key own step area : ℕ} (asked : PassAs
           pub node_asked : 5 ≤ step → PassAsked K B counts next child (get_or B next 0) (step / 5) (area / 4)
           node_asked h = record { node = child_there; level = lower_level step area asked.level h; room = passing_room }
 
-          pub node_refuses : {counts' : List ℕ} {place : ℕ} → PassAnswered K B counts counts' next child (get_or B next 0) (step / 5) (area / 4) place
-              → place ≡ 0
-              → PassAnswered K B counts₀ counts' at key own step area 0
-          node_refuses {place = place} y none = record {
+          pub node_refuses : {counts' : List ℕ} → PassAnswered K B counts counts' next child (get_or B next 0) (step / 5) (area / 4) None
+              → PassAnswered K B counts₀ counts' at key own step area None
+          node_refuses y = record {
             within = omega arith;
-            checked = check.wrong_child x.checked turn there is same several place none y.checked;
-            counted = λ z. absurd (z refl);
+            checked = check.wrong_child x.checked turn there is same several 0 refl y.checked;
+            counted = λ place e. cc;
           }
 
           pub node_passes : (counts' : List ℕ) (place : ℕ) → 5 ≤ step
-              → PassAnswered K B counts counts' next child (get_or B next 0) (step / 5) (area / 4) place
-              → (place ≡ 0 → ⊥)
+              → PassAnswered K B counts counts' next child (get_or B next 0) (step / 5) (area / 4) (Some place)
               → Passing K B counts₀ at key own step area counts' place (bit_or union (get_or B next 0)) (digit + 1)
-          node_passes counts' place low y good = record {
+          node_passes counts' place low y = let z = y.counted place refl in let good : place ≡ 0 → ⊥ = λ e. omega arith in record {
             checked = check.goes_node x.checked turn there is same several place good y.within y.checked;
-            reached = on place (node_turn x.reached counts' counts' place place (area / 4) (omega arith) refl several (y.counted good) refl refl);
+            reached = on place (node_turn x.reached counts' counts' place place (area / 4) (omega arith) refl several z.1 refl refl);
+            after = z.0;
             most = λ f h.
                 let a = x.most f h in
-                let b = counted_most (passed_node child_there (lower_level step area asked.level low) y.checked good) (y.counted good) f h in
+                let b = counted_most (passed_node child_there (lower_level step area asked.level low) y.checked good) z.1 f h in
                 let g = from in
                 let d = suc-mul (digit - 1) (area / 4) in
                 let i : (digit + 1 - 1) * (area / 4) ≡ suc (digit - 1) * (area / 4) = ap (λ z. z * (area / 4)) (omega arith) in
@@ -225,5 +229,6 @@ module _ {K B counts : List ℕ} {at key own step area : ℕ} (asked : PassAsked
   pub sixteen_asked : PassAsked K B counts at key own 5 16
   sixteen_asked = rw (five, sixteen) at asked
 
-  pub sixteen_answered : {counts' : List ℕ} {place : ℕ} → PassAnswered K B counts counts' at key own 5 16 place → PassAnswered K B counts counts' at key own step area place
+  pub sixteen_answered : {counts' : List ℕ} {answer : Option ℕ} → PassAnswered K B counts counts' at key own 5 16 answer
+      → PassAnswered K B counts counts' at key own step area answer
   sixteen_answered x = rw (five, sixteen) x

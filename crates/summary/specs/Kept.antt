@@ -1,9 +1,10 @@
 -- What the pass over a list keeps of the blocks of a summary: for each block that is a node, where it stands and what was counted there. Only
 -- contracts need it; proofs/KeptRows.antt has its laws.
-use Rattle.std.specs.Prelude.{ℕ, suc, ◌+◌, ◌^◌, ◌≤◌, ◌<◌, ◌≡◌, false, List, [], length, get_or, drop, replicate}
+use Rattle.std.specs.Prelude.{ℕ, suc, ◌+◌, ◌^◌, ◌≤◌, ◌<◌, ◌≡◌, false, List, length, get_or, drop, replicate, Option, Some, None, unwrap_or}
 use Rattle.keys.specs.Key.{root_key}
 use Rattle.definitions.specs.Read.{paired}
 use Rattle.list.specs.Check.{one_slot, rest_place, after_node, step_under}
+use Rattle.summary.specs.declared.kept.KeptBlock.{KeptBlock}
 use Rattle.summary.specs.Count.{NodeCounted}
 use Rattle.summary.specs.Pass.{NodeThere}
 
@@ -13,11 +14,10 @@ pub record RowKept (bits : List ℕ) (area at : ℕ) (counts : List ℕ) : Type 
   pub next : ℕ
   pub counted : NodeCounted bits at area (replicate 32 0) counts next
 
--- of each of sixteen blocks whose place is not 0 the counts are kept
-pub record RowsKept (bits : List ℕ) (area : ℕ) (rows : List (List ℕ)) (places : List ℕ) : Type 0 where
-  pub rows_long : length rows ≡ 16
-  pub places_long : length places ≡ 16
-  pub known : (b : ℕ) → b < 16 → (get_or places b 0 ≡ 0 → ⊥) → RowKept bits area (get_or places b 0) (get_or rows b [])
+-- of each of sixteen blocks, if something is kept of it, its place and its counts are
+pub record RowsKept (bits : List ℕ) (area : ℕ) (kept : List (Option KeptBlock)) : Type 0 where
+  pub long : length kept ≡ 16
+  pub known : (b : ℕ) (block : KeptBlock) → get_or kept b None ≡ Some block → RowKept bits area block.place block.counts
 
 -- a node that has so many blocks of the summary, each of so many pixels: it is as many levels above them
 pub record SharedArea (step area share : ℕ) : Type 0 where
@@ -29,16 +29,17 @@ pub record SharedArea (step area share : ℕ) : Type 0 where
   pub small : area ≤ 4 ^ 10
 
 -- the blocks from number b on are kept
-pub record KeepingAsked (keys bits : List ℕ) (rows : List (List ℕ)) (places : List ℕ) (at key own step area b share : ℕ) : Type 0 where
+pub record KeepingAsked (keys bits : List ℕ) (kept : List (Option KeptBlock)) (at key own step area b share : ℕ) : Type 0 where
   pub node : NodeThere keys bits at key own step
   pub shared : SharedArea step area share
   pub most : b + share ≤ 16
-  pub kept : RowsKept bits area rows places
+  pub holds : RowsKept bits area kept
 
-pub record KeepingAnswered (keys bits : List ℕ) (rows : List (List ℕ)) (places : List ℕ) (at key own step area place : ℕ) : Type 0 where
-  pub within : place ≤ length keys
-  pub checked : (k : ℕ) → step ≡ step_under k → place ≡ rest_place (length keys) (after_node k key own (drop (at + 1) (paired keys bits)))
-  pub kept : RowsKept bits area rows places
+pub record KeepingAnswered (keys bits : List ℕ) (kept : List (Option KeptBlock)) (at key own step area : ℕ) (answer : Option ℕ) : Type 0 where
+  pub within : unwrap_or answer 0 ≤ length keys
+  pub some : (place : ℕ) → answer ≡ Some place → 0 < place
+  pub checked : (k : ℕ) → step ≡ step_under k → unwrap_or answer 0 ≡ rest_place (length keys) (after_node k key own (drop (at + 1) (paired keys bits)))
+  pub holds : RowsKept bits area kept
 
 -- some records, as many as are asked for, the first of which is the root's and a node's, with slots below s
 pub record FirstNode (s : ℕ) (keys bits : List ℕ) (n : ℕ) : Type 0 where

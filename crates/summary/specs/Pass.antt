@@ -1,6 +1,6 @@
--- What the pass that checks a list and counts it asks of a node, and what it answers: the place that the check answers, and where that is none of 0
+-- What the pass that checks a list and counts it asks of a node, and what it answers: the place that the check answers, if there is one, and then
 -- the counters that the count leaves. Only contracts need it; proofs/PassTurn.antt has its laws.
-use Rattle.std.specs.Prelude.{ℕ, suc, ◌+◌, ◌*◌, ◌^◌, ◌≤◌, ◌<◌, ◌≡◌, false, List, length, get_or, drop}
+use Rattle.std.specs.Prelude.{ℕ, suc, ◌+◌, ◌*◌, ◌^◌, ◌≤◌, ◌<◌, ◌≡◌, false, List, length, get_or, drop, Option, Some, unwrap_or}
 use Rattle.definitions.specs.Read.{paired}
 use Rattle.list.specs.Check.{one_slot, rest_place, after_node, step_under}
 use Rattle.summary.specs.Count.{CountersFit, NodeCounted}
@@ -24,7 +24,8 @@ pub record PassAsked (keys bits counts : List ℕ) (at key own step area : ℕ) 
   pub level : OneHeight step area
   pub room : CountersFit counts area
 
-pub record PassAnswered (keys bits before after : List ℕ) (at key own step area place : ℕ) : Type 0 where
-  pub within : place ≤ length keys
-  pub checked : (k : ℕ) → step ≡ step_under k → place ≡ rest_place (length keys) (after_node k key own (drop (at + 1) (paired keys bits)))
-  pub counted : (place ≡ 0 → ⊥) → NodeCounted bits at area before after place
+-- where no place is answered, the check's is 0
+pub record PassAnswered (keys bits before after : List ℕ) (at key own step area : ℕ) (answer : Option ℕ) : Type 0 where
+  pub within : unwrap_or answer 0 ≤ length keys
+  pub checked : (k : ℕ) → step ≡ step_under k → unwrap_or answer 0 ≡ rest_place (length keys) (after_node k key own (drop (at + 1) (paired keys bits)))
+  pub counted : (place : ℕ) → answer ≡ Some place → (0 < place) × NodeCounted bits at area before after place

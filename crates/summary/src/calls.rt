@@ -4,6 +4,7 @@ ghost use Rattle.definitions.specs.Area.{summary_height};
 ghost use Rattle.definitions.specs.Calls.FillSummary.{fill_refusal, fill_summary, filled_summary};
 ghost use Rattle.summary.specs.Kept.{RowsKept};
 
+use crate::kept::KeptBlock;
 use crate::{blocks, kept, renew};
 use definitions::Done;
 use definitions::refusal::Refusal;
@@ -16,14 +17,13 @@ fn fill_refusal(
     bits: &[u32],
     n: usize,
     summary: &[u32],
-    rows: &mut [[u32; 32]; 16],
-    places: &mut [usize; 16],
+    kept: &mut [Option<KeptBlock>; 16],
 ) -> u64
-    requires { RowsKept (take n bits.now) (4 ^ summary_height m) rows.old places.old }
+    requires { RowsKept (take n bits.now) (4 ^ summary_height m) kept.old }
     ensures value { result ≡ fill_refusal m s keys.now bits.now n summary.now }
-    ensures rows_kept { RowsKept (take n bits.now) (4 ^ summary_height m) rows.new places.new }
+    ensures rows_kept { RowsKept (take n bits.now) (4 ^ summary_height m) kept.new }
 {
-    let refusal = kept::list_refusal(m, s, keys, bits, n, rows, places);
+    let refusal = kept::list_refusal(m, s, keys, bits, n, kept);
     if refusal != 0 {
         return refusal;
     }
@@ -45,12 +45,11 @@ pub fn fill_summary(
     ensures value { result ≡ fill_summary m s keys.now bits.now n summary.old }
     ensures summary_after { summary.new ≡ filled_summary m s keys.now bits.now n summary.old }
 {
-    let mut rows = [[0u32; 32]; 16];
-    let mut places = [0usize; 16];
-    let refusal = fill_refusal(m, s, keys, bits, n, summary, &mut rows, &mut places);
+    let mut kept: [Option<KeptBlock>; 16] = [None; 16];
+    let refusal = fill_refusal(m, s, keys, bits, n, summary, &mut kept);
     if refusal != 0 {
         return Done { refusal };
     }
-    renew::fill_kept(m, s, keys, bits, n, &rows, &places, summary);
+    renew::fill_kept(m, s, keys, bits, n, &kept, summary);
     Done { refusal: 0 }
 }

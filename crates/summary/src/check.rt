@@ -6,6 +6,7 @@ ghost use Rattle.list.specs.Own.{OwnList, shown_by};
 ghost use Rattle.summary.specs.First.{summary_refusal};
 ghost use Rattle.summary.specs.Kept.{RowsKept};
 
+use crate::kept::KeptBlock;
 use crate::{blocks, kept};
 
 // The summary is that of the list: refusal 18 does not apply.
@@ -16,11 +17,10 @@ fn is_summary(
     bits: &[u32],
     n: usize,
     summary: &[u32],
-    rows: &[[u32; 32]; 16],
-    places: &[usize; 16],
+    kept: &[Option<KeptBlock>; 16],
 ) -> bool
     requires own_list { OwnList m keys.now bits.now n }
-    requires m_bound { (m ≤ 10) × (s ≤ slot_limit) × RowsKept (take n bits.now) (4 ^ summary_height m) rows.now places.now }
+    requires m_bound { (m ≤ 10) × (s ≤ slot_limit) × RowsKept (take n bits.now) (4 ^ summary_height m) kept.now }
     ensures { result ≡ not (no_summary m s (shown_by m keys.now bits.now n) summary.now) }
 {
     if !blocks::have_length(m, s, summary) {
@@ -29,7 +29,7 @@ fn is_summary(
     let slots = s as usize;
     let blocks = blocks::number_of(m);
     for b in 0..blocks {
-        let counts = kept::counts_of(m, keys, bits, n, b, rows, places);
+        let counts = kept::counts_of(m, keys, bits, n, b, kept);
         let at = b * slots;
         if counts[..slots] != summary[at..at + slots] {
             return false;
@@ -42,13 +42,12 @@ fn is_summary(
 pub fn first_refusal(m: u32, s: u32, keys: &[u32], bits: &[u32], n: usize, summary: &[u32]) -> u64
     ensures { result ≡ summary_refusal m s keys.now bits.now n summary.now }
 {
-    let mut rows = [[0u32; 32]; 16];
-    let mut places = [0usize; 16];
-    let refusal = kept::list_refusal(m, s, keys, bits, n, &mut rows, &mut places);
+    let mut kept: [Option<KeptBlock>; 16] = [None; 16];
+    let refusal = kept::list_refusal(m, s, keys, bits, n, &mut kept);
     if refusal != 0 {
         return refusal;
     }
-    if is_summary(m, s, keys, bits, n, summary, &rows, &places) {
+    if is_summary(m, s, keys, bits, n, summary, &kept) {
         0
     } else {
         18

@@ -13,38 +13,39 @@ use definitions::refusal::Refusal;
 use keys::{Key, power};
 use list::{check, settings, standing as search};
 
-// Block number b is checked, counted and kept. The place after its last record is given back, or 0 where what follows are not its four children.
+// What the pass counted of a block of the summary that is a node, and the place of the block's own record.
+#[derive(Clone, Copy)]
+pub struct KeptBlock {
+    pub place: usize,
+    pub counts: [u32; 32],
+}
+
+// Block number b is checked, counted and kept. The place after its last record is given back, or none where what follows are not its four children.
 fn keep_block(
     keys: &[u32],
     bits: &[u32],
-    rows: &mut [[u32; 32]; 16],
-    places: &mut [usize; 16],
+    kept: &mut [Option<KeptBlock>; 16],
     at: usize,
     key: u32,
     own: u32,
     step: u32,
     area: u32,
     b: usize,
-) -> usize
-    requires { KeepingAsked keys.now bits.now rows.old places.old at key own step area b 1 }
-    ensures { KeepingAnswered keys.now bits.now rows.new places.new at key own step area result }
+) -> Option<usize>
+    requires { KeepingAsked keys.now bits.now kept.old at key own step area b 1 }
+    ensures { KeepingAnswered keys.now bits.now kept.new at key own step area result }
 {
     let mut counts = [0u32; 32];
-    let end = pass::pass_block(keys, bits, &mut counts, at, key, own, step, area);
-    if end == 0 {
-        return 0;
-    }
-    rows[b] = counts;
-    places[b] = at;
-    end
+    let end = pass::pass_block(keys, bits, &mut counts, at, key, own, step, area)?;
+    kept[b] = Some(KeptBlock { place: at, counts });
+    Some(end)
 }
 
 // The same of a node above them, which shares so many blocks out among its children, from number b on. A leaf has none that is a node.
 fn keep_blocks(
     keys: &[u32],
     bits: &[u32],
-    rows: &mut [[u32; 32]; 16],
-    places: &mut [usize; 16],
+    kept: &mut [Option<KeptBlock>; 16],
     at: usize,
     key: u32,
     own: u32,
@@ -52,12 +53,12 @@ fn keep_blocks(
     area: u32,
     b: usize,
     share: usize,
-) -> usize
-    requires { KeepingAsked keys.now bits.now rows.old places.old at key own step area b share }
-    ensures { KeepingAnswered keys.now bits.now rows.new places.new at key own step area result }
+) -> Option<usize>
+    requires { KeepingAsked keys.now bits.now kept.old at key own step area b share }
+    ensures { KeepingAnswered keys.now bits.now kept.new at key own step area result }
 {
     if share == 1 {
-        return keep_block(keys, bits, rows, places, at, key, own, step, area, b);
+        return keep_block(keys, bits, kept, at, key, own, step, area, b);
     }
     let lower = step / 5;
     let quarter = share / 4;
@@ -66,53 +67,35 @@ fn keep_blocks(
     let mut union = 0;
     for digit in 1..5 {
         if keys.len() <= next {
-            return 0;
+            return None;
         }
         let child = Key::child(key, step, digit);
         if keys[next] != child {
-            return 0;
+            return None;
         }
         let found = bits[next];
         if check::has_one_slot(found) {
             next += 1;
         } else {
             next = keep_blocks(
-                keys, bits, rows, places, next, child, found, lower, area, number, quarter,
-            );
-            if next == 0 {
-                return 0;
-            }
+                keys, bits, kept, next, child, found, lower, area, number, quarter,
+            )?;
         }
         number += quarter;
-        union = union | found;
+        union |= found;
     }
-    if union == own { next } else { 0 }
+    if union == own { Some(next) } else { None }
 }
 
 // As many records as n are there, and the first is the root's, with slots below s and several of them: other records follow.
 fn begins_node(s: u32, keys: &[u32], bits: &[u32], n: usize) -> bool
     ensures { result ≡ true → FirstNode s keys.now bits.now n }
 {
-    if n == 0 {
-        return false;
-    }
-    if keys.len() < n {
-        return false;
-    }
-    if bits.len() < n {
-        return false;
-    }
-    if keys[0] != Key::ROOT {
+    if n == 0 || keys.len() < n || bits.len() < n {
         return false;
     }
     let own = bits[0];
-    if !power::slots_below(own, s) {
-        return false;
-    }
-    if check::has_one_slot(own) {
-        return false;
-    }
-    true
+    keys[0] == Key::ROOT && power::slots_below(own, s) && !check::has_one_slot(own)
 }
 
 // The first n records are there, and are a raster's list at m and s. What is counted on the way is kept, at m of 4 and more: then a block of the
@@ -123,13 +106,12 @@ pub fn is_list(
     keys: &[u32],
     bits: &[u32],
     n: usize,
-    rows: &mut [[u32; 32]; 16],
-    places: &mut [usize; 16],
+    kept: &mut [Option<KeptBlock>; 16],
 ) -> bool
     requires m_bound { (m ≤ 10) × (s ≤ slot_limit) }
-    requires rows_kept { RowsKept (take n bits.now) (4 ^ summary_height m) rows.old places.old }
+    requires rows_kept { RowsKept (take n bits.now) (4 ^ summary_height m) kept.old }
     ensures value { result ≡ is_list m s keys.now bits.now n }
-    ensures rows_kept_2 { RowsKept (take n bits.now) (4 ^ summary_height m) rows.new places.new }
+    ensures rows_kept_2 { RowsKept (take n bits.now) (4 ^ summary_height m) kept.new }
 {
     if m < 4 {
         return check::is_list(m, s, keys, bits, n);
@@ -143,8 +125,7 @@ pub fn is_list(
     keep_blocks(
         &keys[..n],
         &bits[..n],
-        rows,
-        places,
+        kept,
         0,
         Key::ROOT,
         own,
@@ -152,7 +133,7 @@ pub fn is_list(
         area,
         0,
         16,
-    ) == n
+    ) == Some(n)
 }
 
 // Refusals 1 and 4, or 0: what every call that asks a list does first.
@@ -162,17 +143,16 @@ pub fn list_refusal(
     keys: &[u32],
     bits: &[u32],
     n: usize,
-    rows: &mut [[u32; 32]; 16],
-    places: &mut [usize; 16],
+    kept: &mut [Option<KeptBlock>; 16],
 ) -> u64
-    requires { RowsKept (take n bits.now) (4 ^ summary_height m) rows.old places.old }
+    requires { RowsKept (take n bits.now) (4 ^ summary_height m) kept.old }
     ensures value { result ≡ first_refusal m s keys.now bits.now n }
-    ensures rows_kept { RowsKept (take n bits.now) (4 ^ summary_height m) rows.new places.new }
+    ensures rows_kept { RowsKept (take n bits.now) (4 ^ summary_height m) kept.new }
 {
     if settings::are_bad(m, s) {
         return Refusal::SETTINGS;
     }
-    if !is_list(m, s, keys, bits, n, rows, places) {
+    if !is_list(m, s, keys, bits, n, kept) {
         return Refusal::LIST;
     }
     0
@@ -185,18 +165,16 @@ pub fn counts_of(
     bits: &[u32],
     n: usize,
     b: usize,
-    rows: &[[u32; 32]; 16],
-    places: &[usize; 16],
+    kept: &[Option<KeptBlock>; 16],
 ) -> [u32; 32]
     requires own_list { OwnList m keys.now bits.now n }
-    requires m_bound { (m ≤ 10) × (b < 4 ^ summary_level m) × RowsKept (take n bits.now) (4 ^ summary_height m) rows.now places.now }
+    requires m_bound { (m ≤ 10) × (b < 4 ^ summary_level m) × RowsKept (take n bits.now) (4 ^ summary_height m) kept.now }
     ensures { result ≡ counts_of 32 (shown_by m keys.now bits.now n) (summary_height m) (row_of m (block_key m b)) (column_of m (block_key m b)) }
 {
-    let at = places[b];
-    if at != 0 {
+    if let Some(block) = kept[b] {
         let key = blocks::key_of(m, b);
-        if search::place(keys, n, key) == at {
-            return rows[b];
+        if search::place(keys, n, key) == block.place {
+            return block.counts;
         }
     }
     blocks::counts_of(m, keys, bits, n, b)

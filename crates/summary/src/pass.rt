@@ -1,5 +1,5 @@
 // A list checked and its blocks counted in one pass: each node is counted where it is checked, so that its records are read once.
-ghost use Rattle.std.specs.Prelude.{cond, ◌+◌, ◌≤◌};
+ghost use Rattle.std.specs.Prelude.{cond, ◌+◌, ◌≤◌, Some, None};
 ghost use Rattle.summary.specs.Pass.{PassAsked, PassAnswered};
 
 use crate::count;
@@ -16,7 +16,7 @@ fn pass_pixels(
     own: u32,
 ) -> bool
     requires { PassAsked keys.now bits.now counts.old at key own 1 4 }
-    ensures { PassAnswered keys.now bits.now counts.old counts.new at key own 1 4 (cond result (at + 5) 0) }
+    ensures { PassAnswered keys.now bits.now counts.old counts.new at key own 1 4 (cond result (Some (at + 5)) None) }
 {
     let first = at + 1;
     if !check::four_pixels(keys, bits, first, key, own) {
@@ -26,7 +26,7 @@ fn pass_pixels(
     true
 }
 
-// The same of sixteen pixels: the place after the node's last record, or 0 where what follows are not its four children.
+// The same of sixteen pixels: the place after the node's last record, or none where what follows are not its four children.
 fn pass_sixteen(
     keys: &[u32],
     bits: &[u32],
@@ -34,7 +34,7 @@ fn pass_sixteen(
     at: usize,
     key: u32,
     own: u32,
-) -> usize
+) -> Option<usize>
     requires { PassAsked keys.now bits.now counts.old at key own 5 16 }
     ensures { PassAnswered keys.now bits.now counts.old counts.new at key own 5 16 result }
 {
@@ -42,11 +42,11 @@ fn pass_sixteen(
     let mut union = 0;
     for digit in 1..5 {
         if keys.len() <= next {
-            return 0;
+            return None;
         }
         let child = Key::child(key, 5, digit);
         if keys[next] != child {
-            return 0;
+            return None;
         }
         let found = bits[next];
         if check::has_one_slot(found) {
@@ -54,13 +54,13 @@ fn pass_sixteen(
             next += 1;
         } else {
             if !pass_pixels(keys, bits, counts, next, child, found) {
-                return 0;
+                return None;
             }
             next += 5;
         }
-        union = union | found;
+        union |= found;
     }
-    if union == own { next } else { 0 }
+    if union == own { Some(next) } else { None }
 }
 
 // The same of more pixels. A leaf among the four children is counted here, so that only nodes are called for.
@@ -73,7 +73,7 @@ fn pass_node(
     own: u32,
     step: u32,
     area: u32,
-) -> usize
+) -> Option<usize>
     requires { PassAsked keys.now bits.now counts.old at key own step area × (25 ≤ step) }
     ensures { PassAnswered keys.now bits.now counts.old counts.new at key own step area result }
 {
@@ -83,29 +83,24 @@ fn pass_node(
     let mut union = 0;
     for digit in 1..5 {
         if keys.len() <= next {
-            return 0;
+            return None;
         }
         let child = Key::child(key, step, digit);
         if keys[next] != child {
-            return 0;
+            return None;
         }
         let found = bits[next];
         if check::has_one_slot(found) {
             count::count_leaf(counts, found, quarter);
             next += 1;
+        } else if lower == 5 {
+            next = pass_sixteen(keys, bits, counts, next, child, found)?;
         } else {
-            if lower == 5 {
-                next = pass_sixteen(keys, bits, counts, next, child, found);
-            } else {
-                next = pass_node(keys, bits, counts, next, child, found, lower, quarter);
-            }
-            if next == 0 {
-                return 0;
-            }
+            next = pass_node(keys, bits, counts, next, child, found, lower, quarter)?;
         }
-        union = union | found;
+        union |= found;
     }
-    if union == own { next } else { 0 }
+    if union == own { Some(next) } else { None }
 }
 
 // The same of sixteen pixels or more.
@@ -118,7 +113,7 @@ pub fn pass_block(
     own: u32,
     step: u32,
     area: u32,
-) -> usize
+) -> Option<usize>
     requires { PassAsked keys.now bits.now counts.old at key own step area × (5 ≤ step) }
     ensures { PassAnswered keys.now bits.now counts.old counts.new at key own step area result }
 {

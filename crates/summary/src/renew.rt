@@ -6,6 +6,7 @@ ghost use Rattle.list.specs.Own.{OwnList, shown_by};
 ghost use Rattle.summary.specs.Kept.{RowsKept};
 ghost use Rattle.summary.specs.Renew.{blocks_renewed, Renewable};
 
+use crate::kept::KeptBlock;
 use crate::{blocks, kept};
 use slices;
 
@@ -48,19 +49,18 @@ pub fn fill_kept(
     keys: &[u32],
     bits: &[u32],
     n: usize,
-    rows: &[[u32; 32]; 16],
-    places: &[usize; 16],
+    kept: &[Option<KeptBlock>; 16],
     summary: &mut [u32],
 )
     requires own_list { OwnList m keys.now bits.now n }
     requires m_bound { (m ≤ 10) × (s ≤ slot_limit) × (length summary.old ≡ summary_length m s) }
-    requires rows_kept { RowsKept (take n bits.now) (4 ^ summary_height m) rows.now places.now }
+    requires rows_kept { RowsKept (take n bits.now) (4 ^ summary_height m) kept.now }
     ensures { summary.new ≡ summary_of m s (shown_by m keys.now bits.now n) }
 {
     let slots = s as usize;
     let blocks = blocks::number_of(m);
     for b in 0..blocks {
-        let counts = kept::counts_of(m, keys, bits, n, b, rows, places);
+        let counts = kept::counts_of(m, keys, bits, n, b, kept);
         slices::copy(&counts, 0, slots, summary, b * slots);
     }
 }

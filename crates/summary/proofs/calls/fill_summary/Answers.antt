@@ -7,7 +7,7 @@ use Rattle.summary.proofs.KeptList.{none_kept}
 use Rattle.summary.proofs.calls.fill_summary.Goals as goal
 
 pub fill_refusal-refusal-requires : goal.fill_refusal-refusal-requires
-fill_refusal-refusal-requires c = none_kept _ _ _
+fill_refusal-refusal-requires c = none_kept _ _
 
 pub returns-then-refusal-ne0 : goal.returns-then-refusal-ne0
 returns-then-refusal-ne0 c =

@@ -7,7 +7,7 @@ use Rattle.summary.proofs.SummaryFirst.{summary_refused, summary_good, summary_w
 use Rattle.summary.proofs.check.first_refusal.Goals as goal
 
 pub list_refusal-refusal-requires : goal.list_refusal-refusal-requires
-list_refusal-refusal-requires c = none_kept _ _ _
+list_refusal-refusal-requires c = none_kept _ _
 
 pub returns-then-refusal-ne0 : goal.returns-then-refusal-ne0
 returns-then-refusal-ne0 c = summary_refused _ _ _ _ _ _ _ c.list_refusal-refusal.ensures.value c.if-refusal-ne0.true

@@ -1,11 +1,11 @@
 -- `kept::keep_blocks` meets its contract: before each turn the children passed so far are checked, and their blocks are kept. It ends because a call
 -- for a child has a fifth of the step.
 use mathlib.Core.Path.{sym, ◌∙◌}
-use mathlib.Core.Logic.{⊎_elim}
 use native.Mathlib.Omega.{arith}
 use Rattle.list.proofs.Turn.{short, other_key, differs}
 use Rattle.summary.proofs.KeptRows.{keeping_begins, step_less, keep_refuses, keep_passes, number_fits, keep_leaf, keep_asked, keep_wrong, keep_node}
 use Rattle.summary.proofs.kept.+keep_blocks.Goals as goal
+use Rattle.summary.proofs.kept.+keep_blocks.Goals.{then-has_one_slot, else-has_one_slot+in_ok-next}
 
 pub keep_block-requires : goal.keep_block-requires
 keep_block-requires t c = rw c.if-share-eq1.true at c.requires
@@ -50,36 +50,10 @@ has_one_slot-requires t c = tt
 pub overflow_add-next-then-has_one_slot : goal.overflow_add-next-then-has_one_slot
 overflow_add-next-then-has_one_slot t c = omega (arith, c.if-keys-next.false)
 
-pub keep_blocks-next-requires : goal.keep_blocks-next-requires
-keep_blocks-next-requires t c =
-    let many = c.if-share-eq1.false in (
-      omega (arith, c.decreases, step_less c.requires many),
-      keep_asked c.requires many c.loop-digit.invariant c.loop-digit-test.true c.if-keys-next.false c.child-child.ensures c.if-keys-next-2.false (sym c.has_one_slot.ensures ∙ c.if-has_one_slot.false),
-    )
-
-pub returns-then-next-eq0 : goal.returns-then-next-eq0
-returns-then-next-eq0 t c =
-    keep_wrong c.requires c.if-share-eq1.false c.loop-digit.invariant c.loop-digit-test.true c.if-keys-next.false c.child-child.ensures c.if-keys-next-2.false (sym c.has_one_slot.ensures ∙ c.if-has_one_slot.false)
-    c.keep_blocks-next.ensures
-    c.if-next-eq0.true
-
 pub overflow_add-number : goal.overflow_add-number
 overflow_add-number t c =
     let h = number_fits c.requires c.if-share-eq1.false c.loop-digit.invariant c.loop-digit-test.true in
     omega arith
-
-pub loop-digit-preserved : goal.loop-digit-preserved
-loop-digit-preserved t c =
-    let pre = c.requires in
-    let many = c.if-share-eq1.false in
-    ⊎_elim
-    (λ w. rw (w.rows-is, w.places-is, w.next-is)
-    (keep_leaf pre many c.loop-digit.invariant c.loop-digit-test.true c.if-keys-next.false c.child-child.ensures c.if-keys-next-2.false (sym c.has_one_slot.ensures ∙ w.if-has_one_slot.true)))
-    (λ w. rw (w.rows-is, w.places-is, w.next-is)
-    (keep_node pre many c.loop-digit.invariant c.loop-digit-test.true c.if-keys-next.false c.child-child.ensures c.if-keys-next-2.false (sym c.has_one_slot.ensures ∙ w.if-has_one_slot.false)
-    w.keep_blocks-next.ensures
-    w.if-next-eq0.false))
-    c.if-has_one_slot.branch-raw
 
 pub returns-then-union-own : goal.returns-then-union-own
 returns-then-union-own t c =
@@ -88,3 +62,28 @@ returns-then-union-own t c =
 pub returns-else-union-own : goal.returns-else-union-own
 returns-else-union-own t c =
     keep_refuses c.requires c.if-share-eq1.false c.loop-digit.invariant (differs c.loop-digit.invariant.checked c.loop-digit-test.false c.if-union-own.false)
+
+pub keep_blocks-requires : goal.keep_blocks-requires
+keep_blocks-requires t c =
+    let many = c.if-share-eq1.false in (
+      omega (arith, c.decreases, step_less c.requires many),
+      keep_asked c.requires many c.loop-digit.invariant c.loop-digit-test.true c.if-keys-next.false c.child-child.ensures c.if-keys-next-2.false (sym c.has_one_slot.ensures ∙ c.if-has_one_slot.false),
+    )
+
+pub returns-in_err-next : goal.returns-in_err-next
+returns-in_err-next t c =
+    let many = c.if-share-eq1.false in
+    rw c.from_residual.ensures
+    (keep_wrong c.requires many c.loop-digit.invariant c.loop-digit-test.true c.if-keys-next.false c.child-child.ensures c.if-keys-next-2.false (sym c.has_one_slot.ensures ∙ c.if-has_one_slot.false) c.in_err-next.ensures)
+
+pub loop-digit-preserved : goal.loop-digit-preserved
+loop-digit-preserved t c =
+    let many = c.if-share-eq1.false in
+    elim c.if-has_one_slot.branch [
+      | then-has_one_slot w ↦
+          rw (w.kept-is, w.next-is)
+          (keep_leaf c.requires many c.loop-digit.invariant c.loop-digit-test.true c.if-keys-next.false c.child-child.ensures c.if-keys-next-2.false (sym c.has_one_slot.ensures ∙ w.if-has_one_slot.true))
+      | else-has_one_slot+in_ok-next w ↦
+          rw (w.kept-is, w.next-is)
+          (keep_node c.requires many c.loop-digit.invariant c.loop-digit-test.true c.if-keys-next.false c.child-child.ensures c.if-keys-next-2.false (sym c.has_one_slot.ensures ∙ w.if-has_one_slot.false) w.in_ok-next.ensures)
+    ]

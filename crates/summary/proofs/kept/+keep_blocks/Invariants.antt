@@ -9,4 +9,4 @@ decreases-keep_blocks l = l.step
 
 abbrev pub invariant-loop-digit : goal.invariant-loop-digit
 invariant-loop-digit l =
-    Keeping l.keys l.bits l.at l.key l.own l.step l.area (l.share / 4) l.rows l.places l.number l.next l.union l.digit
+    Keeping l.keys l.bits l.at l.key l.own l.step l.area (l.share / 4) l.kept l.number l.next l.union l.digit

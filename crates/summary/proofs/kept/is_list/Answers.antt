@@ -1,9 +1,9 @@
 -- `kept::is_list` meets its contract: the root is a node of sixteen blocks, and what the pass answers of it is what the check answers of the list.
-use mathlib.Core.Path.{sym}
+use mathlib.Core.Path.{sym, ◌∙◌}
 use native.Mathlib.Omega.{arith}
 use borrow.Author.Rules.{rules}
 use Rattle.list.proofs.Content.{keys_length, bits_length}
-use Rattle.summary.proofs.KeptList.{first_stand, root_asked, root_checked, root_kept}
+use Rattle.summary.proofs.KeptList.{answer_is, first_stand, root_asked, root_checked, root_kept}
 use Rattle.summary.proofs.kept.is_list.Goals as goal
 
 pub is_list-requires : goal.is_list-requires
@@ -45,6 +45,13 @@ pub keep_blocks-requires : goal.keep_blocks-requires
 keep_blocks-requires c =
     root_asked (c.begins_node.ensures c.if-not-begins_node.false) c.if-m-lt4.false c.requires.m_bound.0 c.power_of_five-step.ensures c.area_of-area.ensures c.requires.rows_kept
 
-pub returns : goal.returns
-returns c =
-    let low = c.if-m-lt4.false in record { value = root_checked (c.begins_node.ensures c.if-not-begins_node.false) low c.requires.m_bound.0 c.power_of_five-step.ensures c.area_of-area.ensures c.keep_blocks.ensures; rows_kept_2 = root_kept (c.begins_node.ensures c.if-not-begins_node.false) low c.requires.m_bound.0 c.power_of_five-step.ensures c.area_of-area.ensures c.keep_blocks.ensures }
+pub returns-clause-value : goal.returns-clause-value
+returns-clause-value c =
+    let first = c.begins_node.ensures c.if-not-begins_node.false in
+    c.eq.ensures
+    ∙ answer_is c.keep_blocks.result c.args.n first.some
+    ∙ root_checked first c.if-m-lt4.false c.requires.m_bound.0 c.power_of_five-step.ensures c.area_of-area.ensures c.keep_blocks.ensures
+
+pub returns-clause-rows_kept_2 : goal.returns-clause-rows_kept_2
+returns-clause-rows_kept_2 c =
+    root_kept (c.begins_node.ensures c.if-not-begins_node.false) c.if-m-lt4.false c.requires.m_bound.0 c.power_of_five-step.ensures c.area_of-area.ensures c.keep_blocks.ensures

@@ -1,14 +1,11 @@
 -- `pass::pass_node` meets its contract: before each turn the children passed so far are checked and counted. It ends because a call for a child has a
 -- fifth of the step.
-use Prim.Native.Nat.{◌/◌}
 use mathlib.Core.Path.{sym, ◌∙◌}
-use mathlib.Core.Logic.{⊎_elim}
 use native.Mathlib.Omega.{arith}
-use lib.ListN.{get_or}
 use Rattle.list.proofs.Turn.{short, other_key, differs}
-use Rattle.summary.specs.Pass.{PassAnswered}
 use Rattle.summary.proofs.PassTurn.{passing_begins, passing_room, refuses, passes, leaf_passes, node_asked, node_refuses, node_passes, larger, sixteen_asked, sixteen_answered}
 use Rattle.summary.proofs.pass.+pass_node.Goals as goal
+use Rattle.summary.proofs.pass.+pass_node.Goals.{then-has_one_slot, else-has_one_slot+then-lower-eq5+in_ok-next, else-has_one_slot+else-lower-eq5+in_ok-next-2}
 
 pub overflow_add-next : goal.overflow_add-next
 overflow_add-next t c = omega (arith, c.requires.0.node.there)
@@ -51,50 +48,18 @@ count_leaf-requires t c =
 pub overflow_add-next-then-has_one_slot : goal.overflow_add-next-then-has_one_slot
 overflow_add-next-then-has_one_slot t c = omega (arith, c.if-keys-next.false)
 
-pub pass_sixteen-next-requires : goal.pass_sixteen-next-requires
-pass_sixteen-next-requires t c =
+pub pass_sixteen-requires : goal.pass_sixteen-requires
+pass_sixteen-requires t c =
     let pre = c.requires in
     sixteen_asked
     (node_asked pre.0 c.loop-digit.invariant c.loop-digit-test.true c.if-keys-next.false c.child-child.ensures c.if-keys-next-2.false (sym c.has_one_slot.ensures ∙ c.if-has_one_slot.false) (omega (arith, pre.1)))
     c.if-lower-eq5.true
 
-pub pass_node-next-requires : goal.pass_node-next-requires
-pass_node-next-requires t c =
+pub pass_node-requires : goal.pass_node-requires
+pass_node-requires t c =
     let pre = c.requires in
     let asked = node_asked pre.0 c.loop-digit.invariant c.loop-digit-test.true c.if-keys-next.false c.child-child.ensures c.if-keys-next-2.false (sym c.has_one_slot.ensures ∙ c.if-has_one_slot.false) (omega (arith, pre.1)) in
     (omega (arith, c.decreases, pre.1), (asked, larger _ _ asked.level (omega (arith, pre.1)) c.if-lower-eq5.false))
-
-pub returns-then-next-eq0 : goal.returns-then-next-eq0
-returns-then-next-eq0 t c =
-    let pre = c.requires in
-    let asked = node_asked pre.0 c.loop-digit.invariant c.loop-digit-test.true c.if-keys-next.false c.child-child.ensures c.if-keys-next-2.false (sym c.has_one_slot.ensures ∙ c.if-has_one_slot.false) (omega (arith, pre.1)) in
-    let answered : PassAnswered c.args.keys.now c.args.bits.now c.loop-digit.counts c.if-lower-eq5.counts c.loop-digit.next c.child-child.result (get_or c.args.bits.now c.loop-digit.next 0) (c.args.step / 5) (c.args.area / 4) c.if-lower-eq5.next =
-    ⊎_elim
-    (λ w. rw (w.counts-is, w.next-is) (sixteen_answered asked w.if-lower-eq5.true w.pass_sixteen-next.ensures))
-    (λ w. rw (w.counts-is, w.next-is) w.pass_node-next.ensures)
-    c.if-lower-eq5.branch-raw in
-    node_refuses pre.0 c.loop-digit.invariant c.loop-digit-test.true c.if-keys-next.false c.child-child.ensures c.if-keys-next-2.false (sym c.has_one_slot.ensures ∙ c.if-has_one_slot.false) answered c.if-next-eq0.true
-
-pub loop-digit-preserved : goal.loop-digit-preserved
-loop-digit-preserved t c =
-    let pre = c.requires in
-    ⊎_elim
-    (λ w. rw w.next-is
-    (leaf_passes pre.0 c.loop-digit.invariant c.loop-digit-test.true c.if-keys-next.false c.child-child.ensures c.if-keys-next-2.false c.if-has_one_slot.counts
-    (sym c.has_one_slot.ensures ∙ w.if-has_one_slot.true)
-    (w.counts-is ∙ w.count_leaf.ensures)))
-    (λ w. rw (w.counts-is, w.next-is)
-    (node_passes pre.0 c.loop-digit.invariant c.loop-digit-test.true c.if-keys-next.false c.child-child.ensures c.if-keys-next-2.false (sym c.has_one_slot.ensures ∙ w.if-has_one_slot.false) _ _
-    (omega (arith, pre.1))
-    (let asked = node_asked pre.0 c.loop-digit.invariant c.loop-digit-test.true c.if-keys-next.false c.child-child.ensures c.if-keys-next-2.false (sym c.has_one_slot.ensures ∙ w.if-has_one_slot.false) (omega (arith, pre.1)) in
-    let answered : PassAnswered c.args.keys.now c.args.bits.now c.loop-digit.counts w.if-lower-eq5.counts c.loop-digit.next c.child-child.result (get_or c.args.bits.now c.loop-digit.next 0) (c.args.step / 5) (c.args.area / 4) w.if-lower-eq5.next =
-    ⊎_elim
-    (λ v. rw (v.counts-is, v.next-is) (sixteen_answered asked v.if-lower-eq5.true v.pass_sixteen-next.ensures))
-    (λ v. rw (v.counts-is, v.next-is) v.pass_node-next.ensures)
-    w.if-lower-eq5.branch-raw in
-    answered)
-    w.if-next-eq0.false))
-    c.if-has_one_slot.branch-raw
 
 pub returns-then-union-own : goal.returns-then-union-own
 returns-then-union-own t c =
@@ -103,3 +68,36 @@ returns-then-union-own t c =
 pub returns-else-union-own : goal.returns-else-union-own
 returns-else-union-own t c =
     refuses c.requires.0 c.loop-digit.invariant (differs c.loop-digit.invariant.checked c.loop-digit-test.false c.if-union-own.false)
+
+pub loop-digit-preserved : goal.loop-digit-preserved
+loop-digit-preserved t c =
+    let pre = c.requires in
+    elim c.if-has_one_slot.branch [
+      | then-has_one_slot w ↦
+          rw w.next-is
+          (leaf_passes pre.0 c.loop-digit.invariant c.loop-digit-test.true c.if-keys-next.false c.child-child.ensures c.if-keys-next-2.false c.if-has_one_slot.counts
+          (sym c.has_one_slot.ensures ∙ w.if-has_one_slot.true) (w.counts-is ∙ w.count_leaf.ensures))
+      | else-has_one_slot+then-lower-eq5+in_ok-next w ↦
+          let several = sym c.has_one_slot.ensures ∙ w.if-has_one_slot.false in
+          let asked = node_asked pre.0 c.loop-digit.invariant c.loop-digit-test.true c.if-keys-next.false c.child-child.ensures c.if-keys-next-2.false several (omega (arith, pre.1)) in
+          rw (w.counts-is, w.next-is)
+          (node_passes pre.0 c.loop-digit.invariant c.loop-digit-test.true c.if-keys-next.false c.child-child.ensures c.if-keys-next-2.false several _ _ (omega (arith, pre.1))
+          (sixteen_answered asked w.if-lower-eq5.true w.in_ok-next.ensures))
+      | else-has_one_slot+else-lower-eq5+in_ok-next-2 w ↦
+          rw (w.counts-is, w.next-is)
+          (node_passes pre.0 c.loop-digit.invariant c.loop-digit-test.true c.if-keys-next.false c.child-child.ensures c.if-keys-next-2.false (sym c.has_one_slot.ensures ∙ w.if-has_one_slot.false) _ _ (omega (arith, pre.1))
+          w.in_ok-next-2.ensures)
+    ]
+
+pub returns-in_err-next : goal.returns-in_err-next
+returns-in_err-next t c =
+    let pre = c.requires in
+    let several = sym c.has_one_slot.ensures ∙ c.if-has_one_slot.false in
+    let asked = node_asked pre.0 c.loop-digit.invariant c.loop-digit-test.true c.if-keys-next.false c.child-child.ensures c.if-keys-next-2.false several (omega (arith, pre.1)) in
+    rw c.from_residual.ensures
+    (node_refuses pre.0 c.loop-digit.invariant c.loop-digit-test.true c.if-keys-next.false c.child-child.ensures c.if-keys-next-2.false several (sixteen_answered asked c.if-lower-eq5.true c.in_err-next.ensures))
+
+pub returns-in_err-next-2 : goal.returns-in_err-next-2
+returns-in_err-next-2 t c =
+    rw c.from_residual-in_err-next-2.ensures
+    (node_refuses c.requires.0 c.loop-digit.invariant c.loop-digit-test.true c.if-keys-next.false c.child-child.ensures c.if-keys-next-2.false (sym c.has_one_slot.ensures ∙ c.if-has_one_slot.false) c.in_err-next-2.ensures)

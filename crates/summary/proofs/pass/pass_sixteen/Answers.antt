@@ -1,12 +1,11 @@
 -- `pass::pass_sixteen` meets its contract: before each turn the children passed so far are checked and counted, at the step 5.
-use mathlib.Core.Path.{refl, sym, ◌∙◌}
-use mathlib.Core.Logic.{⊎_elim}
+use mathlib.Core.Path.{sym, ◌∙◌}
 use native.Mathlib.Omega.{arith}
-use borrow.Author.Tests.{not-true, not-false}
 use Rattle.list.proofs.Turn.{short, other_key, differs}
 use Rattle.summary.proofs.PassTurn.{passing_begins, passing_room, refuses, passes, leaf_passes, node_asked, node_refuses, node_passes}
 use Rattle.summary.proofs.PassPixels.{pixels_false, pixels_true}
 use Rattle.summary.proofs.pass.pass_sixteen.Goals as goal
+use Rattle.summary.proofs.pass.pass_sixteen.Goals.{then-has_one_slot, else-has_one_slot+else-not-pass_pixels}
 
 pub overflow_add-next : goal.overflow_add-next
 overflow_add-next c = omega (arith, c.requires.node.there)
@@ -59,29 +58,6 @@ pass_pixels-requires c =
     let pre = c.requires in
     node_asked pre c.loop-digit.invariant c.loop-digit-test.true c.if-keys-next.false c.child-child.ensures c.if-keys-next-2.false (sym c.has_one_slot.ensures ∙ c.if-has_one_slot.false) (omega arith)
 
-pub returns-then-not-pass_pixels : goal.returns-then-not-pass_pixels
-returns-then-not-pass_pixels c =
-    let pre = c.requires in
-    node_refuses pre c.loop-digit.invariant c.loop-digit-test.true c.if-keys-next.false c.child-child.ensures c.if-keys-next-2.false (sym c.has_one_slot.ensures ∙ c.if-has_one_slot.false)
-    (pixels_false c.pass_pixels.result c.pass_pixels.ensures (not-true _ c.if-not-pass_pixels.true-raw)) refl
-
-pub overflow_add-next-else-has_one_slot : goal.overflow_add-next-else-has_one_slot
-overflow_add-next-else-has_one_slot c =
-    let y = (pixels_true c.pass_pixels.result c.pass_pixels.ensures (not-false _ c.if-not-pass_pixels.false-raw)).within in
-    omega arith
-
-pub loop-digit-preserved : goal.loop-digit-preserved
-loop-digit-preserved c =
-    let pre = c.requires in
-    ⊎_elim
-    (λ w. rw w.next-is
-    (leaf_passes pre c.loop-digit.invariant c.loop-digit-test.true c.if-keys-next.false c.child-child.ensures c.if-keys-next-2.false c.if-has_one_slot.counts
-    (sym c.has_one_slot.ensures ∙ w.if-has_one_slot.true) (w.counts-is ∙ w.count_leaf.ensures)))
-    (λ w. rw (w.counts-is, w.next-is)
-    (node_passes pre c.loop-digit.invariant c.loop-digit-test.true c.if-keys-next.false c.child-child.ensures c.if-keys-next-2.false (sym c.has_one_slot.ensures ∙ w.if-has_one_slot.false) _ _ (omega arith)
-    (pixels_true w.pass_pixels.result w.pass_pixels.ensures w.if-not-pass_pixels.false) (λ z. omega arith)))
-    c.if-has_one_slot.branch-raw
-
 pub returns-then-union-own : goal.returns-then-union-own
 returns-then-union-own c =
     passes c.requires c.loop-digit.invariant c.loop-digit-test.false c.if-union-own.true
@@ -89,3 +65,28 @@ returns-then-union-own c =
 pub returns-else-union-own : goal.returns-else-union-own
 returns-else-union-own c =
     refuses c.requires c.loop-digit.invariant (differs c.loop-digit.invariant.checked c.loop-digit-test.false c.if-union-own.false)
+
+pub loop-digit-preserved : goal.loop-digit-preserved
+loop-digit-preserved c =
+    let pre = c.requires in
+    elim c.if-has_one_slot.branch [
+      | then-has_one_slot w ↦
+          rw w.next-is
+          (leaf_passes pre c.loop-digit.invariant c.loop-digit-test.true c.if-keys-next.false c.child-child.ensures c.if-keys-next-2.false c.if-has_one_slot.counts
+          (sym c.has_one_slot.ensures ∙ w.if-has_one_slot.true) (w.counts-is ∙ w.count_leaf.ensures))
+      | else-has_one_slot+else-not-pass_pixels w ↦
+          rw (w.counts-is, w.next-is)
+          (node_passes pre c.loop-digit.invariant c.loop-digit-test.true c.if-keys-next.false c.child-child.ensures c.if-keys-next-2.false (sym c.has_one_slot.ensures ∙ w.if-has_one_slot.false) _ _ (omega arith)
+          (pixels_true w.pass_pixels.result w.pass_pixels.ensures w.if-not-pass_pixels.false))
+    ]
+
+pub returns-then-not-pass_pixels : goal.returns-then-not-pass_pixels
+returns-then-not-pass_pixels c =
+    let pre = c.requires in
+    node_refuses pre c.loop-digit.invariant c.loop-digit-test.true c.if-keys-next.false c.child-child.ensures c.if-keys-next-2.false (sym c.has_one_slot.ensures ∙ c.if-has_one_slot.false)
+    (pixels_false c.pass_pixels.result c.pass_pixels.ensures c.if-not-pass_pixels.true)
+
+pub overflow_add-next-else-has_one_slot : goal.overflow_add-next-else-has_one_slot
+overflow_add-next-else-has_one_slot c =
+    let y = (pixels_true c.pass_pixels.result c.pass_pixels.ensures c.if-not-pass_pixels.false).within in
+    omega arith
