@@ -1,3 +1,4 @@
+pub mod Refused
 pub mod Vectors
 mod MapA
 mod Orders

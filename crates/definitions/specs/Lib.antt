@@ -4,6 +4,8 @@ pub mod List
 pub mod Read
 pub mod Buffer
 pub mod Refusal
+pub mod Refused
+pub mod Answered
 pub mod Standing
 pub mod Window
 pub mod Clip

@@ -1,6 +1,7 @@
 // The types in which the calls (specification S25) are asked and answered. What they mean stands in specs/, and what is proved of that in proofs/.
 #![tactic(auto)]
 
+pub mod answers;
 pub mod refusal;
 
 // A window of the raster. Height and width are at least 1.
