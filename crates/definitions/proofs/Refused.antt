@@ -1,5 +1,4 @@
 -- No refusal has the number 0, which tells that there is none. Rests on Refused.
-use Prim.Native.Nat.{ℕ}
 use mathlib.Core.Path.{◌≡◌}
 use native.Mathlib.Omega.{arith}
 use Rattle.definitions.specs.Refused.{refusal_number}

@@ -16,6 +16,7 @@ pub mod Accepted
 -- where a key and a block stand among the records
 pub mod Count
 pub mod Among
+pub mod Searched
 pub mod Counted
 pub mod Placed
 pub mod Lookup
@@ -27,5 +28,6 @@ pub mod ShownQuadrants
 -- the standing, and the refusals that all calls begin with
 pub mod Fuller
 pub mod PatchLeaf
+pub mod Taken
 pub mod Tests
 pub mod FirstRefusal

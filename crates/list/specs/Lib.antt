@@ -5,3 +5,4 @@ pub mod Among
 pub mod Shown
 pub mod Quadrants
 pub mod First
+pub mod Taken
