@@ -63,16 +63,14 @@ pub fn block_of(m: u32, key: u32) -> Block
         return no_block(Refusal::SETTINGS);
     }
     let block = Key { number: key };
-    let read = block.read(m);
-    if read.valid {
-        let level = block.level(m);
-        return Block {
+    match block.read(m) {
+        Some(square) => Block {
             refusal: 0,
-            row: read.row as u64,
-            column: read.column as u64,
-            side: read.side as u64,
-            level: level as u64,
-        };
+            row: u64::from(square.row),
+            column: u64::from(square.column),
+            side: u64::from(square.side),
+            level: u64::from(block.level(m)),
+        },
+        None => no_block(Refusal::KEY),
     }
-    no_block(Refusal::KEY)
 }

@@ -1,11 +1,7 @@
--- A quadrant of a block of the map, told by its digit, is a lower block of the map, and the sums that tell it are small. Rests on Under, Interval
--- and Powers.
-use Prim.Native.Nat.{ℕ, zero, suc, ◌+◌, ◌-◌, ◌*◌, ◌^◌, ◌≤◌, ◌<◌}
-use mathlib.Core.Path.{◌≡◌, refl, ◌∙◌, ap}
-use mathlib.Core.Bool.{Bool, true, false, cond}
+-- A quadrant of a block of the map, told by its digit, is a lower block of the map. Rests on Under, Interval and Powers.
+use Prim.Native.Nat.{ℕ, zero, suc, ◌-◌, ◌≤◌, ◌<◌}
+use mathlib.Core.Path.{◌≡◌, ap}
 use native.Mathlib.Omega.{arith}
-use native.Mathlib.Nat.{pow-suc}
-use Rattle.keys.specs.Block.{is_south, is_east}
 use Rattle.keys.specs.Under.{MapBlock, here, nw, ne, sw, se}
 use Rattle.keys.specs.Child.{child_of, InMap, KeysEnd, Divisible}
 use Rattle.keys.specs.declared.block.TreeBlock.{TreeBlock}
@@ -61,29 +57,3 @@ divides b deep i positive =
 -- a block's keys end within the map's
 pub end_in-map : {m : ℕ} (b : TreeBlock) → m ≤ 10 → InMap m b → KeysEnd b
 end_in-map b deep i = let w = within i in let five = five_le 10 deep in record { deep = omega (arith, w.height); keys = omega (arith, w.until) }
-
--- the sums that tell a quadrant are small
-pub sums : (b : TreeBlock) {half step : ℕ} → Divisible b → half ≡ 2 ^ (b.height - 1) → step ≡ 5 ^ (b.height - 1)
-    → (b.row + half ≤ 1024) × (b.column + half ≤ 1024) × (b.key + 5 * step ≤ 5 ^ 10)
-sums b d e f =
-    let up = one_higher b d.positive in
-    let two : 2 ^ b.height ≡ 2 ^ (b.height - 1) * 2 = ap (λ k. 2 ^ k) up ∙ pow-suc 2 (b.height - 1) in
-    let five : 5 ^ b.height ≡ 5 ^ (b.height - 1) * 5 = ap (λ k. 5 ^ k) up ∙ pow-suc 5 (b.height - 1) in
-    omega (arith, d.rows, d.columns, d.keys)
-
--- what a digit adds to a row or a column is a quadrant's side at most
-pub at_most : (t : Bool) (half : ℕ) → cond t half 0 ≤ half
-at_most true half = omega arith
-at_most false half = omega arith
-
--- the numbers that the code makes are the quadrant's
-moved : (t : Bool) (x half : ℕ) → x + cond t half 0 ≡ cond t (x + half) x
-moved true x half = refl
-moved false x half = omega arith
-
-pub is_child : (b : TreeBlock) (d : ℕ) {half step row column key : ℕ} → half ≡ 2 ^ (b.height - 1) → step ≡ 5 ^ (b.height - 1)
-    → row ≡ cond (is_south d) half 0
-    → column ≡ cond (is_east d) half 0
-    → key ≡ b.key + d * step
-    → ◌≡◌ {A = TreeBlock} (record { height = b.height - 1; row = b.row + row; column = b.column + column; key = key }) (child_of b d)
-is_child b d {half} e f g h i = rw (i, g, h, moved (is_south d) b.row half, moved (is_east d) b.column half, e, f) refl

@@ -4,6 +4,7 @@ pub mod SpanChild
 pub mod Under
 pub mod Interval
 pub mod BlockChild
+pub mod KeyRead
 pub mod Parent
 pub mod Digits
 pub mod Descent

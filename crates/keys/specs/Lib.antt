@@ -3,3 +3,4 @@ pub mod Block
 pub mod Under
 pub mod Child
 pub mod Span
+pub mod KeySquare

@@ -5,7 +5,7 @@ ghost use Rattle.keys.specs.Child.{Divisible, KeysEnd, root_of, child_of, block_
 use crate::{Key, Square, power, quadrant};
 
 // A block as the tree has it: its height, its first row and column, and its key.
-#[derive(Clone, Copy)]
+#[derive(Clone, Copy, PartialEq, Eq, Debug)]
 pub struct TreeBlock {
     pub height: u32,
     pub row: u32,

@@ -2,9 +2,10 @@
 // Only crates above this one call these functions; what they require is shown there.
 #![tactic(auto)]
 
-ghost use Rattle.std.specs.Prelude.{◌≡◌, true, cond, ◌+◌, ◌*◌, ◌/◌, ◌^◌, ◌≤◌, ◌<◌};
+ghost use Rattle.std.specs.Prelude.{◌≡◌, true, ◌+◌, ◌*◌, ◌/◌, ◌^◌, ◌≤◌, ◌<◌};
 ghost use Rattle.keys.specs.Key.{valid_key, level_of, height_of};
 ghost use Rattle.keys.specs.Block.{row_of, column_of, side_of, key_around};
+ghost use Rattle.keys.specs.KeySquare.{square_read};
 
 pub mod block;
 pub mod power;
@@ -13,23 +14,14 @@ pub mod span;
 pub mod zeros;
 
 // A block's number: m digits in base 5.
-#[derive(Clone, Copy)]
+#[derive(Clone, Copy, PartialEq, Eq, PartialOrd, Ord, Debug)]
 pub struct Key {
     pub number: u32,
 }
 
 // The square of a block: its first row and column, and its side.
-#[derive(Clone, Copy)]
+#[derive(Clone, Copy, PartialEq, Eq, Debug)]
 pub struct Square {
-    pub row: u32,
-    pub column: u32,
-    pub side: u32,
-}
-
-// What a number's digits say: whether they are a key's, and then the square of its block.
-#[derive(Clone, Copy)]
-pub struct ReadKey {
-    pub valid: bool,
     pub row: u32,
     pub column: u32,
     pub side: u32,
@@ -78,17 +70,15 @@ impl Key {
     {
         let mut rest = self.number;
         let mut step = power::power_of_five(m);
-        let mut level = 0;
-        while level < m {
+        for level in 0..m {
             step = step / 5;
             let digit = rest / step;
             if digit == 0 {
                 return level;
             }
             rest = rest % step;
-            level += 1;
         }
-        level
+        m
     }
 
     // The number of levels below the block: as many as zeros stand at the end of its key.
@@ -113,54 +103,33 @@ impl Key {
         zeros::only_at_end(m, self.number)
     }
 
-    // Whether the number is a key, and the square that it stands for, in one reading of its digits. They are read from the right: to divide by five is a
+    // The square that the number stands for, if it is a key, in one reading of its digits. They are read from the right: to divide by five is a
     // multiplication, to divide by the step of a level is not. The zeros at the end move nothing, so the reading begins past them; a zero before them is none
     // of a key's.
-    pub fn read(self, m: u32) -> ReadKey
+    pub fn read(self, m: u32) -> Option<Square>
         requires { m ≤ 10 }
-        ensures { (result.valid ≡ valid_key m self.number)
-            × (result.row ≡ cond (valid_key m self.number) (row_of m self.number) 0)
-            × (result.column ≡ cond (valid_key m self.number) (column_of m self.number) 0)
-            × (result.side ≡ cond (valid_key m self.number) (side_of m self.number) 0) }
+        ensures { result ≡ square_read m self.number }
     {
         let number = self.number;
         if power::power_of_five(m) <= number {
-            return ReadKey {
-                valid: false,
-                row: 0,
-                column: 0,
-                side: 0,
-            };
+            return None;
         }
         let end = zeros::at_end(m, number);
-        let whole = power::power_of_two(end.count);
         let mut rest = number / end.power;
-        let mut side = whole;
         let mut row = 0;
         let mut column = 0;
-        let mut i = end.count;
-        while i < m {
-            let digit = rest % 5;
-            if rest % 5 == 0 {
-                return ReadKey {
-                    valid: false,
-                    row: 0,
-                    column: 0,
-                    side: 0,
-                };
+        for height in end.count..m {
+            let last = rest % 5;
+            if last == 0 {
+                return None;
             }
-            row += quadrant::southward(digit, side);
-            column += quadrant::eastward(digit, side);
+            let side = power::power_of_two(height);
+            row += quadrant::southward(last, side);
+            column += quadrant::eastward(last, side);
             rest = rest / 5;
-            side = side * 2;
-            i += 1;
         }
-        ReadKey {
-            valid: true,
-            row,
-            column,
-            side: whole,
-        }
+        let side = power::power_of_two(end.count);
+        Some(Square { row, column, side })
     }
 
     // The square that a key stands for.
@@ -168,11 +137,9 @@ impl Key {
         requires { (m ≤ 10) × (valid_key m self.number ≡ true) }
         ensures { (result.row ≡ row_of m self.number) × (result.column ≡ column_of m self.number) × (result.side ≡ side_of m self.number) }
     {
-        let read = self.read(m);
-        Square {
-            row: read.row,
-            column: read.column,
-            side: read.side,
+        match self.read(m) {
+            Some(square) => square,
+            None => unreachable!(),
         }
     }
 
@@ -184,11 +151,9 @@ impl Key {
     {
         let last = m - level;
         let mut number = 0;
-        let mut left = m;
-        while last < left {
-            left -= 1;
-            let south = (row >> left) % 2;
-            let east = (column >> left) % 2;
+        for height in (last..m).rev() {
+            let south = (row >> height) % 2;
+            let east = (column >> height) % 2;
             number = number * 5 + (1 + east + south * 2);
         }
         let step = power::power_of_five(last);

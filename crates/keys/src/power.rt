@@ -33,8 +33,5 @@ pub fn power_of_two(height: u32) -> u32
 pub fn slots_below(bits: u32, s: u32) -> bool
     ensures { result ≡ ltb bits (2 ^ s) }
 {
-    if 31 < s {
-        return true;
-    }
-    bits < power_of_two(s)
+    31 < s || bits < power_of_two(s)
 }

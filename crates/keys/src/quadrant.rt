@@ -1,4 +1,4 @@
-// Where a digit goes, in a square whose quadrants have the given side.
+// Where a digit goes, in a square whose quadrants have the given side. A digit stays a number and is no enum: keys are computed with it.
 ghost use Rattle.std.specs.Prelude.{◌≡◌, cond};
 ghost use Rattle.keys.specs.Block.{is_south, is_east};
 
@@ -13,8 +13,5 @@ pub fn southward(digit: u32, side: u32) -> u32
 pub fn eastward(digit: u32, side: u32) -> u32
     ensures { result ≡ cond (is_east digit) side 0 }
 {
-    if digit == 2 {
-        return side;
-    }
-    if digit == 4 { side } else { 0 }
+    if matches!(digit, 2 | 4) { side } else { 0 }
 }

@@ -6,7 +6,7 @@ ghost use Rattle.keys.specs.Span.{root_span, child_span};
 use crate::{Key, power};
 
 // The first of the keys, which is the block's own, and how many they are.
-#[derive(Clone, Copy)]
+#[derive(Clone, Copy, PartialEq, Eq, Debug)]
 pub struct KeySpan {
     pub key: u32,
     pub step: u32,

@@ -6,7 +6,7 @@ ghost use Rattle.keys.specs.Key.{zeros_at_end, level_of, valid_key};
 use crate::power;
 
 // How many zeros stand at the end of a key, and the power of five that goes with them.
-#[derive(Clone, Copy)]
+#[derive(Clone, Copy, PartialEq, Eq, Debug)]
 pub struct EndZeros {
     pub count: u32,
     pub power: u32,
@@ -23,18 +23,16 @@ pub fn at_end(m: u32, key: u32) -> EndZeros
             power: power::power_of_five(m),
         };
     }
-    let mut count = 0;
     let mut power = 1;
     let mut rest = key;
-    while count < m {
+    for count in 0..m {
         if rest % 5 != 0 {
             return EndZeros { count, power };
         }
         rest = rest / 5;
         power = power * 5;
-        count += 1;
     }
-    EndZeros { count, power }
+    EndZeros { count: m, power }
 }
 
 // How many keys a block has, its own and those below it: five times as many for each zero at the end of its key.
@@ -50,14 +48,12 @@ fn none_in(k: u32, number: u32) -> bool
     requires { number < 5 ^ k }
     ensures { result ≡ eqb (level_of k number) k }
 {
-    let mut left = k;
     let mut rest = number;
-    while 0 < left {
+    for _ in 0..k {
         if rest % 5 == 0 {
             return false;
         }
         rest = rest / 5;
-        left -= 1;
     }
     true
 }
@@ -67,12 +63,10 @@ pub fn only_at_end(m: u32, number: u32) -> bool
     requires { number < 5 ^ m }
     ensures { result ≡ valid_key m number }
 {
-    let mut left = m;
     let mut rest = number;
-    while 0 < left {
+    for left in (0..m).rev() {
         let digit = rest % 5;
         rest = rest / 5;
-        left -= 1;
         if digit != 0 {
             return none_in(left, rest);
         }

@@ -16,7 +16,6 @@ use Rattle.keys.proofs.Key.around.Goals.{After-power_of_five-step}
 begins : (m row column last : ℕ) → last ≤ m → row < 2 ^ m → column < 2 ^ m → Passed m row column last 0 m
 begins m row column last far low narrow =
     record {
-      within = omega arith;
       far = far;
       small = five_pos (m - m);
       found = omega (arith, ap₂ (pixel_key m) (mod-eq_of_lt low) (mod-eq_of_lt narrow));
@@ -29,7 +28,7 @@ two = lit< tt
 abbrev digit_of : (k row column : ℕ) → ℕ
 digit_of k row column = 1 + binary_digit k column + binary_digit k row * 2
 
-module _ {m row column last number left : ℕ} (p : Passed m row column last number left) (h : last < left) where
+module _ {m row column last number left : ℕ} (p : Passed m row column last number left) (h : last < left) (within : left ≤ m) where
   levels : left ≡ suc (left - 1)
   levels = omega arith
 
@@ -41,7 +40,7 @@ module _ {m row column last number left : ℕ} (p : Passed m row column last num
 
   small_again : number * 5 + digit_of (left - 1) row column < 5 ^ (m - (left - 1))
   small_again =
-      let q : m - (left - 1) ≡ suc (m - left) = omega (arith, p.within) in
+      let q : m - (left - 1) ≡ suc (m - left) = omega arith in
       let t = ap (λ (k : ℕ). 5 ^ k) q ∙ pow-suc 5 (m - left) in
       let d = four in
       omega (arith, p.small)
@@ -49,7 +48,6 @@ module _ {m row column last number left : ℕ} (p : Passed m row column last num
   goes : Passed m row column last (number * 5 + digit_of (left - 1) row column) (left - 1)
   goes =
       record {
-        within = omega (arith, p.within);
         far = omega arith;
         small = small_again;
         found = p.found ∙ ap (λ (k : ℕ). number * 5 ^ k + pixel_key k (row % 2 ^ k) (column % 2 ^ k)) levels ∙ ap (λ (x : ℕ). number * 5 ^ suc (left - 1) + x) (pixel_bits (left - 1) row column) ∙ joined _;
@@ -71,52 +69,25 @@ ends {m} {row} {column} {last} {number} {left} p h =
     sym (ap (λ (x : ℕ). x / 5 ^ last * 5 ^ last) f ∙ ap (λ (x : ℕ). x * 5 ^ last) (digits_div number (pixel_key-lt last (row % 2 ^ last) (column % 2 ^ last))))
 
 -- the digits so far stay below 5 ^ 10
-fits : {m row column last number left : ℕ} → m ≤ 10 → Passed m row column last number left → last < left → number * 5 + digit_of (left - 1) row column < 5 ^ 10
-fits {m} {left = left} ten p h = let s = small_again p h in let g : m - (left - 1) ≤ 10 = omega arith in let f = five_le 10 g in omega arith
+fits : {m row column last number left : ℕ} → m ≤ 10 → Passed m row column last number left → last < left → left ≤ m → number * 5 + digit_of (left - 1) row column < 5 ^ 10
+fits {m} {left = left} ten p h within = let s = small_again p h within in let g : m - (left - 1) ≤ 10 = omega arith in let f = five_le 10 g in omega arith
 
-pub overflow_sub-last : goal.overflow_sub-last
-overflow_sub-last c = c.requires.1
-
-pub loop-left-init : goal.loop-left-init
-loop-left-init c = begins _ _ _ _ (omega arith) c.requires.2 c.requires.3
-
-pub overflow_sub-left : goal.overflow_sub-left
-overflow_sub-left c = omega (arith, c.loop-left-test.true)
-
-pub overflow_shr-south : goal.overflow_shr-south
-overflow_shr-south c = omega (arith, c.loop-left.invariant.within, c.requires.0)
-
-pub overflow_shr-east : goal.overflow_shr-east
-overflow_shr-east c = omega (arith, c.loop-left.invariant.within, c.requires.0)
+pub loop-height-init : goal.loop-height-init
+loop-height-init c = begins _ _ _ _ (omega arith) c.requires.2 c.requires.3
 
 pub overflow_mul-number : goal.overflow_mul-number
-overflow_mul-number c = let h = fits c.requires.0 c.loop-left.invariant c.loop-left-test.true in omega arith
+overflow_mul-number c = let h = fits c.requires.0 c.loop-height.invariant c.loop-height-test.true c.loop-height.auto.height in omega arith
 
-pub overflow_add-number : goal.overflow_add-number
-overflow_add-number c = let h = four c.loop-left.invariant c.loop-left-test.true in omega arith
+pub overflow_add-number-in-loop-height-2 : goal.overflow_add-number-in-loop-height-2
+overflow_add-number-in-loop-height-2 c = let h = fits c.requires.0 c.loop-height.invariant c.loop-height-test.true c.loop-height.auto.height in omega arith
 
-pub overflow_mul-number-in-loop-left : goal.overflow_mul-number-in-loop-left
-overflow_mul-number-in-loop-left c = let h = four c.loop-left.invariant c.loop-left-test.true in omega arith
-
-pub overflow_add-number-in-loop-left : goal.overflow_add-number-in-loop-left
-overflow_add-number-in-loop-left c = let h = four c.loop-left.invariant c.loop-left-test.true in omega arith
-
-pub overflow_add-number-in-loop-left-2 : goal.overflow_add-number-in-loop-left-2
-overflow_add-number-in-loop-left-2 c = let h = fits c.requires.0 c.loop-left.invariant c.loop-left-test.true in omega arith
-
-pub loop-left-smaller : goal.loop-left-smaller
-loop-left-smaller c = omega (arith, c.loop-left-test.true)
-
-pub loop-left-preserved : goal.loop-left-preserved
-loop-left-preserved c = goes c.loop-left.invariant c.loop-left-test.true
-
-pub power_of_five-step-requires : goal.power_of_five-step-requires
-power_of_five-step-requires c = omega (arith, c.requires.0)
+pub loop-height-preserved : goal.loop-height-preserved
+loop-height-preserved c = goes c.loop-height.invariant c.loop-height-test.true c.loop-height.auto.height
 
 -- the key, as the definition has it
-key : (c : After-power_of_five-step) → c.loop-left.number * c.power_of_five-step.result ≡ key_around c.args.m c.args.level c.args.row c.args.column
+key : (c : After-power_of_five-step) → c.loop-height.number * c.power_of_five-step.result ≡ key_around c.args.m c.args.level c.args.row c.args.column
 unfolding key_around
-key c = ap (λ (x : ℕ). c.loop-left.number * x) c.power_of_five-step.ensures ∙ ends c.loop-left.invariant c.loop-left-test.false
+key c = ap (λ (x : ℕ). c.loop-height.number * x) c.power_of_five-step.ensures ∙ ends c.loop-height.invariant c.loop-height-test.false
 
 around_fits : (m level row column : ℕ) → m ≤ 10 → key_around m level row column < 5 ^ 10
 unfolding key_around

@@ -3,7 +3,6 @@ use Prim.Native.Nat.{ℕ, ◌^◌, ◌≤◌}
 use mathlib.Core.Path.{◌≡◌, sym, ap, ◌∙◌}
 use mathlib.Core.Bool.{true, false}
 use native.Mathlib.Omega.{arith}
-use borrow.Author.Rules.{rules}
 use borrow.Author.Tests.{le-ltb}
 use Rattle.keys.specs.Key.{valid_key}
 use Rattle.keys.specs.Under.{here}
@@ -21,14 +20,5 @@ root m κ e = sym (ap (valid_key m) e ∙ (block_valid {m = m} {k = m} {r = 0} {
 pub returns-then-self-eq0 : goal.returns-then-self-eq0
 returns-then-self-eq0 c = root _ _ c.if-self-eq0.true
 
-pub power_of_five-requires : goal.power_of_five-requires
-power_of_five-requires c = search rules
-
 pub returns-then-power_of_five-self : goal.returns-then-power_of_five-self
 returns-then-power_of_five-self c = too_large _ _ (omega arith)
-
-pub only_at_end-requires : goal.only_at_end-requires
-only_at_end-requires c = search rules
-
-pub returns : goal.returns
-returns c = search rules

@@ -2,7 +2,7 @@
 use Prim.Native.Nat.{ℕ, ◌+◌, ◌-◌, ◌*◌, ◌/◌, ◌%◌, ◌^◌, ◌≤◌, ◌<◌}
 use mathlib.Core.Path.{◌≡◌, sym, ap, ◌∙◌}
 use native.Mathlib.Omega.{arith}
-use native.Mathlib.Nat.{add-zero, zero-add, div-lt_iff_lt-mul, div-eq_of_lt}
+use native.Mathlib.Nat.{add-zero, div-lt_iff_lt-mul, div-eq_of_lt}
 use lib.Dec.{lit<}
 use Rattle.keys.specs.Key.{digits_of, digits_before_zero, level_of}
 use Rattle.keys.proofs.Cases.{split}
@@ -10,15 +10,6 @@ use Rattle.keys.proofs.Powers.{five_pos}
 use Rattle.keys.proofs.Descent.{one_less, power_down, level_stops, level_goes}
 use Rattle.keys.proofs.Key.level.Invariants.{before, Passed}
 use Rattle.keys.proofs.Key.level.Goals as goal
-
-begins : (m whole step : ℕ) → step ≡ 5 ^ m → Passed m whole whole step 0
-begins m whole step e =
-    let same : m - 0 ≡ m = omega arith in
-    record {
-      within = omega arith;
-      power = e ∙ ap (λ (k : ℕ). 5 ^ k) (sym same);
-      found = ap (λ (k : ℕ). before k whole) (sym same) ∙ sym (zero-add _);
-    }
 
 module _ {m whole rest step level : ℕ} (p : Passed m whole rest step level) (h : level < m) where
   down : step / 5 ≡ 5 ^ (m - (level + 1))
@@ -43,20 +34,14 @@ module _ {m whole rest step level : ℕ} (p : Passed m whole rest step level) (h
       let e = ap (λ (k : ℕ). before k rest) (one_less m level h) ∙ level_goes _ rest z in
       let d : before (m - (level + 1)) (rest % 5 ^ (m - (level + 1))) ≡ before (m - (level + 1)) (rest % (step / 5)) =
       ap (λ (x : ℕ). before (m - (level + 1)) (rest % x)) (sym q) in
-      record { within = omega arith; power = q; found = omega (arith, p.found) }
+      record { power = q; found = omega (arith, p.found) }
 
-ends : {m whole rest step level : ℕ} → Passed m whole rest step level → m ≤ level → level ≡ before m whole
+ends : {m whole rest step level : ℕ} → Passed m whole rest step level → level ≤ m → m ≤ level → m ≡ before m whole
 unfolding digits_of digits_before_zero
-ends {m} {whole} {rest} {step} {level} p h =
+ends {m} {whole} {rest} {step} {level} p far h =
     let none : m - level ≡ 0 = omega arith in
     let e = ap (λ (k : ℕ). before k rest) none in
     omega (arith, p.found)
-
-pub power_of_five-step-requires : goal.power_of_five-step-requires
-power_of_five-step-requires c = omega (arith, c.requires)
-
-pub loop-level-init : goal.loop-level-init
-loop-level-init c = begins _ _ _ c.power_of_five-step.ensures
 
 pub nonzero_div-digit : goal.nonzero_div-digit
 nonzero_div-digit c = nonzero c.loop-level.invariant c.loop-level-test.true
@@ -65,18 +50,9 @@ pub returns-then-digit-eq0 : goal.returns-then-digit-eq0
 unfolding level_of
 returns-then-digit-eq0 c = stops c.loop-level.invariant c.loop-level-test.true c.if-digit-eq0.true
 
-pub nonzero_rem-rest : goal.nonzero_rem-rest
-nonzero_rem-rest c = nonzero c.loop-level.invariant c.loop-level-test.true
-
-pub overflow_add-level : goal.overflow_add-level
-overflow_add-level c = omega arith
-
-pub loop-level-smaller : goal.loop-level-smaller
-loop-level-smaller c = omega arith
-
 pub loop-level-preserved : goal.loop-level-preserved
 loop-level-preserved c = goes c.loop-level.invariant c.loop-level-test.true c.if-digit-eq0.false
 
 pub returns : goal.returns
 unfolding level_of
-returns c = ends c.loop-level.invariant c.loop-level-test.false
+returns c = ends c.loop-level.invariant c.loop-level.auto.level-end c.loop-level-test.false

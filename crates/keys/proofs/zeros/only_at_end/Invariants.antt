@@ -1,4 +1,4 @@
--- `zeros::only_at_end` meets its contract: after each zero that is passed the number is valid exactly when what is left of it is.
+-- What the loop of `zeros::only_at_end` keeps: the number is valid exactly when what is left of it is.
 use Prim.Native.Nat.{◌^◌, ◌<◌}
 use mathlib.Core.Path.{◌≡◌}
 use Rattle.keys.specs.Key.{valid_key}
@@ -7,7 +7,3 @@ use Rattle.keys.proofs.zeros.only_at_end.Given as goal
 abbrev pub invariant-loop-left : goal.invariant-loop-left
 invariant-loop-left l =
     (l.rest < 5 ^ l.left) × (valid_key l.m l.number ≡ valid_key l.left l.rest)
-
-abbrev pub decreases-loop-left : goal.decreases-loop-left
-decreases-loop-left l =
-    l.left
