@@ -11,6 +11,7 @@ pub mod Places
 pub mod Accepts
 pub mod Pixels
 pub mod Turn
+pub mod AfterNode
 pub mod Content
 pub mod Accepted
 -- where a key and a block stand among the records

@@ -6,3 +6,4 @@ pub mod Shown
 pub mod Quadrants
 pub mod First
 pub mod Taken
+pub mod After

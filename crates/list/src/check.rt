@@ -4,7 +4,8 @@ ghost use Rattle.std.specs.Prelude.{◌≡◌, true, cond, ◌&&◌, ℕ, ◌+�
 ghost use Rattle.keys.specs.Key.{slot_limit, valid_key};
 ghost use Rattle.definitions.specs.Read.{room, paired, records_of, is_list};
 ghost use Rattle.definitions.specs.Log.{is_content};
-ghost use Rattle.list.specs.Check.{one_slot, rest_place, after_node, step_under};
+ghost use Rattle.list.specs.Check.{one_slot, rest_place, after_node};
+ghost use Rattle.list.specs.After.{AfterNode};
 
 use keys::{Key, power, zeros};
 
@@ -76,65 +77,67 @@ pub fn four_pixels(keys: &[u32], bits: &[u32], first: usize, key: u32, own: u32)
 }
 
 // `after_node` at height 2.
-fn after_sixteen(keys: &[u32], bits: &[u32], first: usize, key: u32, own: u32) -> usize
+fn after_sixteen(keys: &[u32], bits: &[u32], first: usize, key: u32, own: u32) -> Option<usize>
     requires { (length keys.now ≡ length bits.now) × (first ≤ length keys.now) × (key + 25 < 2 ^ 32) }
-    ensures { (result ≤ length keys.now)
-        × (result ≡ rest_place (length keys.now) (after_node 2 key own (drop first (paired keys.now bits.now)))) }
+    ensures { AfterNode keys.now bits.now first key own 5 result }
 {
     let mut next = first;
     let mut union = 0;
-    let mut quadrant = 1;
-    while quadrant < 5 {
+    for digit in 1..5 {
         if keys.len() <= next {
-            return 0;
+            return None;
         }
-        let child = Key::child(key, 5, quadrant);
+        let child = Key::child(key, 5, digit);
         if keys[next] != child {
-            return 0;
+            return None;
         }
         let found = bits[next];
         next += 1;
         if !has_one_slot(found) {
             if !four_pixels(keys, bits, next, child, found) {
-                return 0;
+                return None;
             }
             next += 4;
         }
-        union = union | found;
-        quadrant += 1;
+        union |= found;
     }
-    if union == own { next } else { 0 }
+    if union == own { Some(next) } else { None }
 }
 
 // `after_node` below height 3. A pixel is no node.
-fn after_low(keys: &[u32], bits: &[u32], first: usize, key: u32, own: u32, step: u32) -> usize
+fn after_low(
+    keys: &[u32],
+    bits: &[u32],
+    first: usize,
+    key: u32,
+    own: u32,
+    step: u32,
+) -> Option<usize>
     requires { (length keys.now ≡ length bits.now) × (first ≤ length keys.now) × (step < 25) × (key + 5 * step < 2 ^ 32) }
-    ensures { (result ≤ length keys.now)
-        × ((k : ℕ)
-        → step ≡ step_under k
-        → result ≡ rest_place (length keys.now) (after_node k key own (drop first (paired keys.now bits.now)))) }
+    ensures { AfterNode keys.now bits.now first key own step result }
 {
     if step == 5 {
         return after_sixteen(keys, bits, first, key, own);
     }
-    if step != 1 {
-        return 0;
-    }
-    if four_pixels(keys, bits, first, key, own) {
-        first + 4
+    if step == 1 && four_pixels(keys, bits, first, key, own) {
+        Some(first + 4)
     } else {
-        0
+        None
     }
 }
 
-// After a node's own record: the place after its last record, or 0 where what follows are not its four children. A leaf among them is passed
+// After a node's own record: the place after its last record, or none where what follows are not its four children. A leaf among them is passed
 // here, so that only nodes are called for, and those of height 2 without recursion.
-fn after_node(keys: &[u32], bits: &[u32], first: usize, key: u32, own: u32, step: u32) -> usize
+fn after_node(
+    keys: &[u32],
+    bits: &[u32],
+    first: usize,
+    key: u32,
+    own: u32,
+    step: u32,
+) -> Option<usize>
     requires { (length keys.now ≡ length bits.now) × (first ≤ length keys.now) × (key + 5 * step < 2 ^ 32) }
-    ensures { (result ≤ length keys.now)
-        × ((k : ℕ)
-        → step ≡ step_under k
-        → result ≡ rest_place (length keys.now) (after_node k key own (drop first (paired keys.now bits.now)))) }
+    ensures { AfterNode keys.now bits.now first key own step result }
 {
     if step < 25 {
         return after_low(keys, bits, first, key, own, step);
@@ -142,31 +145,26 @@ fn after_node(keys: &[u32], bits: &[u32], first: usize, key: u32, own: u32, step
     let lower = step / 5;
     let mut next = first;
     let mut union = 0;
-    let mut digit = 1;
-    while digit < 5 {
+    for digit in 1..5 {
         if keys.len() <= next {
-            return 0;
+            return None;
         }
         let child = Key::child(key, step, digit);
         if keys[next] != child {
-            return 0;
+            return None;
         }
         let found = bits[next];
         next += 1;
         if !has_one_slot(found) {
             if lower == 5 {
-                next = after_sixteen(keys, bits, next, child, found);
+                next = after_sixteen(keys, bits, next, child, found)?;
             } else {
-                next = after_node(keys, bits, next, child, found, lower);
-            }
-            if next == 0 {
-                return 0;
+                next = after_node(keys, bits, next, child, found, lower)?;
             }
         }
-        union = union | found;
-        digit += 1;
+        union |= found;
     }
-    if union == own { next } else { 0 }
+    if union == own { Some(next) } else { None }
 }
 
 // The first n records are there, and are the list of the block with the given key at m and s.
@@ -195,7 +193,7 @@ pub fn is_content(m: u32, s: u32, keys: &[u32], bits: &[u32], n: usize, key: u32
         return n == 1;
     }
     let step = zeros::keys_in(m, key) / 5;
-    after_node(&keys[..n], &bits[..n], 1, key, own, step) == n
+    after_node(&keys[..n], &bits[..n], 1, key, own, step) == Some(n)
 }
 
 // The first n records are there, and are a raster's list at m and s.

@@ -1,6 +1,6 @@
--- `check::after_node` meets its contract: before each turn the children passed so far are those that the model has passed. It ends because a
--- call for a child has a fifth of the step.
-use Prim.Native.Nat.{◌-◌}
+-- What the loop keeps: the children before the digit are those that the model has passed, and past the first one the place is no 0. A call for a child has a
+-- fifth of the step. Rests on Turn.
+use Prim.Native.Nat.{◌<◌}
 use Rattle.list.proofs.Turn.{TurnPassed}
 use Rattle.list.proofs.check.+after_node.Given as goal
 
@@ -8,9 +8,4 @@ abbrev pub decreases-after_node : goal.decreases-after_node
 decreases-after_node l = l.step
 
 abbrev pub invariant-loop-digit : goal.invariant-loop-digit
-invariant-loop-digit l =
-    TurnPassed l.keys l.bits l.first l.key l.own l.step l.next l.union l.digit
-
-abbrev pub decreases-loop-digit : goal.decreases-loop-digit
-decreases-loop-digit l =
-    5 - l.digit
+invariant-loop-digit l = record { passed : TurnPassed l.keys l.bits l.first l.key l.own l.step l.next l.union l.digit; past : 1 < l.digit → 0 < l.next }
