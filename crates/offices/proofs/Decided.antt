@@ -1,44 +1,59 @@
--- What adding and removing decide, test by test, and what an accepted call may build on. Rests on Checked and Place.
-use Prim.Native.Nat.{ℕ, ◌+◌, ◌≤◌, ◌<◌}
-use mathlib.Core.Path.{◌≡◌, refl, sym, ap, ap₂, ◌∙◌}
-use mathlib.Core.Bool.{true, false, not, ◌&&◌}
+-- What adding and removing decide, test by test, and what an accepted call may build on. Rests on Checked, Place
+-- and Needed.
+use Prim.Native.Nat.{ℕ, ◌≤◌, ◌<◌}
+use mathlib.Core.Path.{◌≡◌, refl, sym, ap, ◌∙◌}
+use mathlib.Core.Bool.{true, false, not, cond}
 use mathlib.Core.List.{List, ◌∷◌}
 use native.Mathlib.Omega.{arith}
-use lib.ListN.{length, get_or, get_or-eq_default}
-use lib.Dec.{ltb}
-use lib.Seq.{get_or-drop}
-use borrow.Author.Tests.{ltb-false, leb-false, ltb-true, le-leb, lt-leb, lt-ltb, le-ltb, not-false}
+use lib.ListN.{length, drop}
+use lib.Dec.{ltb, eqb}
+use borrow.Author.Tests.{eq-eqb, ne_eqb, ltb-false, leb-false, le-leb, lt-leb, lt-ltb, le-ltb, not-false}
 use Rattle.keys.specs.Key.{deepest_level, valid_key}
-use Rattle.keys.proofs.Cases.{decide, split, equal, and_left, and_right}
+use Rattle.keys.proofs.Cases.{decide, split, equal}
 use Rattle.definitions.specs.Refusal.{Row, ◌gives◌, first, bad_key}
-use Rattle.definitions.specs.Offices.{Waiver, waiver_of, row_at, Holds, table_of, rows_of, same_row, is_row, is_table, bad_office, bad_table}
+use Rattle.definitions.specs.Offices.{Waiver, waiver_of, Holds, table_of, rows_of, is_row, is_table, bad_office, bad_table}
 use Rattle.definitions.specs.Calls.AddWaiver.{add_refusal}
 use Rattle.definitions.specs.Calls.RemoveWaiver.{remove_refusal}
 use Rattle.laws.proofs.First.{first_this, first_later, first_end, first_none, first_holds, holds_first, holds_more, accepted_done, accepted_left}
-use Rattle.laws.proofs.RowPlaces.{table-length, table-drop}
+use Rattle.laws.proofs.RowPlaces.{table-length}
 use Rattle.laws.proofs.Shares.{Sound, room_left}
-use Rattle.offices.specs.Place.{row_place}
+use Rattle.std.specs.Prelude.{Ok, Err}
+use Rattle.definitions.specs.declared.refusal.Refusal.{Refusal}
+use Rattle.definitions.specs.Refused.{refusal_number, places_needed}
+use Rattle.definitions.proofs.Refused.{refusal_some}
+use Rattle.offices.specs.Place.{row_place, leads, row_found}
+use Rattle.offices.proofs.Needed.{none_needed}
 use Rattle.offices.specs.Refusal.{table_refusal, decided_on}
-use Rattle.offices.proofs.Place.{place_within, row_there}
+use Rattle.offices.proofs.Place.{place_within, row_there, leads_within}
 use Rattle.offices.proofs.Checked.{TablePlaces, table_places, table_holds, table_sound}
 
 -- a decision, field by field
-pub decided_refused : (refusal place c : ℕ) → refusal ≡ c → (c ≡ 0 → ⊥) → record { refusal = c; place = 0 } ≡ decided_on refusal place
+pub decided_refused : (refusal place c : ℕ) → refusal ≡ c → (c ≡ 0 → ⊥) → (c ≡ 12 → ⊥) → record { refusal = c; count = 0 } ≡ decided_on refusal place
 unfolding decided_on
-decided_refused refusal place c e not-zero =
-    λ i. record { refusal = sym e i; place = sym (accepted_left {refusal = refusal} place 0 (λ z. not-zero (sym e ∙ z))) i }
+decided_refused refusal place c e not-zero not_full =
+    let other = cond (eqb refusal 12) 257 0 in
+    let none : 0 ≡ other = sym (ap (λ b. cond b 257 0) (ne_eqb refusal 12 (λ z. not_full (sym e ∙ z)))) in
+    λ i. record { refusal = sym e i; count = (none ∙ sym (accepted_left {refusal = refusal} place other (λ z. not-zero (sym e ∙ z)))) i }
 
-pub decided_done : (refusal place : ℕ) → refusal ≡ 0 → record { refusal = 0; place = place } ≡ decided_on refusal place
+pub decided_full : (refusal place : ℕ) → refusal ≡ 12 → record { refusal = 12; count = 257 } ≡ decided_on refusal place
 unfolding decided_on
-decided_done refusal place e = λ i. record { refusal = sym e i; place = sym (accepted_done {refusal = refusal} place 0 e) i }
+decided_full refusal place e =
+    let some : refusal ≡ 0 → ⊥ = λ z. omega arith in
+    let other = cond (eqb refusal 12) 257 0 in
+    let full : 257 ≡ other = sym (ap (λ b. cond b 257 0) (eq-eqb refusal 12 e)) in
+    λ i. record { refusal = sym e i; count = (full ∙ sym (accepted_left {refusal = refusal} place other some)) i }
 
-pub decided_number : (refusal place : ℕ) → (decided_on refusal place).refusal ≡ refusal
+pub decided_done : (refusal place : ℕ) → refusal ≡ 0 → record { refusal = 0; count = place } ≡ decided_on refusal place
+unfolding decided_on
+decided_done refusal place e = λ i. record { refusal = sym e i; count = sym (accepted_done {refusal = refusal} place (cond (eqb refusal 12) 257 0) e) i }
+
+decided_number : (refusal place : ℕ) → (decided_on refusal place).refusal ≡ refusal
 unfolding decided_on
 decided_number refusal place = refl
 
-pub decided_place : (refusal place : ℕ) → refusal ≡ 0 → (decided_on refusal place).place ≡ place
+decided_place : (refusal place : ℕ) → refusal ≡ 0 → (decided_on refusal place).count ≡ place
 unfolding decided_on
-decided_place refusal place e = accepted_done {refusal = refusal} place 0 e
+decided_place refusal place e = accepted_done {refusal = refusal} place (cond (eqb refusal 12) 257 0) e
 
 module _ (m office : ℕ) (offices ids waived : List ℕ) (rows id key : ℕ) where
   abbrev w : Waiver
@@ -82,7 +97,7 @@ module _ (m office : ℕ) (offices ids waived : List ℕ) (rows id key : ℕ) wh
         gives_0 e =
             sym (first_later _ _ (le-ltb 1 office known) ∙ first_later _ _ (le-ltb 10 m level) ∙ first_later _ _ (ap not table) ∙ first_later _ _ (ap not e) ∙ first_end)
 
-  early_not_full : early ≡ 12 → ⊥
+  pub early_not_full : early ≡ 12 → ⊥
   early_not_full e =
       split 1 office (λ h. let f = gives_21 h in omega arith)
       (λ known. split 10 m (λ h. let f = gives_1 known h in omega arith)
@@ -98,6 +113,21 @@ module _ (m office : ℕ) (offices ids waived : List ℕ) (rows id key : ℕ) wh
   pub early_remove : (c : ℕ) → early ≡ c → (c ≡ 0 → ⊥) → removing ≡ c
   unfolding table_refusal remove_refusal
   early_remove c e not-zero = holds_first (holds_more _ (first_holds c _ not-zero e))
+
+  -- a refusal that both begin with is that of either
+  pub early_adding : (refusal : Refusal) (place : ℕ) → refusal_number refusal ≡ early
+      → record { refusal = refusal_number refusal; count = places_needed refusal } ≡ decided_on adding place
+  early_adding refusal place e =
+      let not_full : refusal_number refusal ≡ 12 → ⊥ = λ z. early_not_full (sym e ∙ z) in
+      (λ i. record { refusal = refusal_number refusal; count = none_needed refusal not_full i })
+      ∙ decided_refused adding place (refusal_number refusal) (early_add _ (sym e) (refusal_some refusal)) (refusal_some refusal) not_full
+
+  pub early_removing : (refusal : Refusal) (place : ℕ) → refusal_number refusal ≡ early
+      → record { refusal = refusal_number refusal; count = places_needed refusal } ≡ decided_on removing place
+  early_removing refusal place e =
+      let not_full : refusal_number refusal ≡ 12 → ⊥ = λ z. early_not_full (sym e ∙ z) in
+      (λ i. record { refusal = refusal_number refusal; count = none_needed refusal not_full i })
+      ∙ decided_refused removing place (refusal_number refusal) (early_remove _ (sym e) (refusal_some refusal)) (refusal_some refusal) not_full
 
   pub record Passed : Type 0 where
     pub known : bad_office office ≡ false
@@ -131,23 +161,22 @@ module _ (m office : ℕ) (offices ids waived : List ℕ) (rows id key : ℕ) wh
     pub place_low : row_place w t ≤ rows
     place_low = let low = place_within w t in let e = size in omega arith
 
-    -- the row at the place, whether there is one or not
-    row-at : (i : ℕ) → get_or t i (row_at offices ids waived i) ≡ row_at offices ids waived i
-    row-at i =
-        split i rows
-        (λ low.
-        ap (λ j. get_or t j (row_at offices ids waived i)) (let z : i ≡ i + 0 = omega arith in z)
-        ∙ sym (get_or-drop i t 0 (row_at offices ids waived i))
-        ∙ ap (λ l. get_or l 0 (row_at offices ids waived i)) (table-drop offices ids waived rows i holds low))
-        (λ high. get_or-eq_default t (row_at offices ids waived i) (let e = size in let z : length t ≤ i = omega arith in z))
-
     -- the row is in the table exactly where it stands at its place
-    pub there : ltb (row_place w t) rows && same_row (row_at offices ids waived (row_place w t)) w ≡ is_row w t
-    there =
-        let at = row_place w t in
-        sym
-        (row_there w (row_at offices ids waived at) t sound.ascend
-        ∙ ap₂ (λ n r. ltb at n && same_row r w) size (row-at at))
+    pub there : leads w (drop (row_place w t) t) ≡ is_row w t
+    there = sym (row_there w t sound.ascend)
+
+    -- so it is found there, or it has a place where it is not found
+    pub found_there : (place : ℕ) → Ok place ≡ row_found w t → (is_row w t ≡ true) × (place ≡ row_place w t)
+    found_there place e =
+        decide (leads w (drop (row_place w t) t))
+        (λ l. let f = e ∙ ap (λ b. cond b (Ok (row_place w t)) (Err (row_place w t))) l in (sym there ∙ l, cc))
+        (λ l. let f = e ∙ ap (λ b. cond b (Ok (row_place w t)) (Err (row_place w t))) l in absurd (cc))
+
+    pub found_absent : (place : ℕ) → Err place ≡ row_found w t → (is_row w t ≡ false) × (place ≡ row_place w t)
+    found_absent place e =
+        decide (leads w (drop (row_place w t) t))
+        (λ l. let f = e ∙ ap (λ b. cond b (Ok (row_place w t)) (Err (row_place w t))) l in absurd (cc))
+        (λ l. let f = e ∙ ap (λ b. cond b (Ok (row_place w t)) (Err (row_place w t))) l in (sym there ∙ l, cc))
 
     -- ---- the last two
     later_rows : List Row → Type 0
@@ -183,6 +212,17 @@ module _ (m office : ℕ) (offices ids waived : List ℕ) (rows id key : ℕ) wh
   unfolding add_refusal
   add_passed e = let none = first_none _ refl e in record { known = none.0; level = none.1.0; table = none.1.1.0; valid = none.1.1.1.0 }
 
+  -- a place that is told is the row's
+  pub adding_told : (place : ℕ) → record { refusal = 0; count = place } ≡ decided_on adding (row_place w t) → (adding ≡ 0) × (place ≡ row_place w t)
+  adding_told place e =
+      let done : adding ≡ 0 = sym (ap (λ d. d.refusal) e ∙ decided_number adding (row_place w t)) in
+      (done, ap (λ d. d.count) e ∙ decided_place adding (row_place w t) done)
+
+  pub removing_told : (place : ℕ) → record { refusal = 0; count = place } ≡ decided_on removing (row_place w t) → (removing ≡ 0) × (place ≡ row_place w t)
+  removing_told place e =
+      let done : removing ≡ 0 = sym (ap (λ d. d.refusal) e ∙ decided_number removing (row_place w t)) in
+      (done, ap (λ d. d.count) e ∙ decided_place removing (row_place w t) done)
+
   -- there is a place for the row
   pub add_room : adding ≡ 0 → rows < 512
   unfolding add_refusal
@@ -214,14 +254,11 @@ module _ (m office : ℕ) (offices ids waived : List ℕ) (rows id key : ℕ) wh
   remove_there e = let none = first_none _ refl e in not-false (is_row w t) none.1.1.1.1.0
 
   module _ (e : removing ≡ 0) where
-    stands : ltb (row_place w t) (length t) && same_row (get_or t (row_place w t) w) w ≡ true
-    stands = sym (row_there w w t (sound (remove_passed e)).ascend) ∙ remove_there e
+    pub remove_same : leads w (drop (row_place w t) t) ≡ true
+    remove_same = there (remove_passed e) ∙ remove_there e
 
     pub remove_place : row_place w t < rows
     remove_place =
-        let low = ltb-true (row_place w t) (length t) (and_left (ltb (row_place w t) (length t)) (same_row (get_or t (row_place w t) w) w) stands) in
+        let low = leads_within w t remove_same in
         let size = table-length offices ids waived rows (holds (remove_passed e)) in
         omega arith
-
-    pub remove_same : same_row (get_or t (row_place w t) w) w ≡ true
-    remove_same = and_right (ltb (row_place w t) (length t)) (same_row (get_or t (row_place w t) w) w) stands

@@ -1,8 +1,9 @@
+pub mod Narrow
 pub mod Place
 pub mod Counted
 pub mod Moved
-pub mod Tests
 pub mod Checked
+pub mod Needed
 pub mod Decided
 pub mod Answers
 pub mod OwnRows

@@ -5,13 +5,13 @@ use mathlib.Core.Path.{◌≡◌, refl, sym, ap, ap₂, ◌∙◌}
 use mathlib.Core.Bool.{true}
 use mathlib.Core.List.{List, [], ◌∷◌, ◌++◌, map, append_assoc}
 use native.Mathlib.Omega.{arith}
-use lib.ListN.{length, get_or, set, take, drop, replicate, length-drop, length-append}
+use lib.ListN.{length, set, take, drop, replicate, length-drop, length-append}
 use lib.Seq.{sets, take-take, length-take-le}
 use Rattle.slices.proofs.Parts.{drop-take}
 use Rattle.slices.proofs.Sets.{sets_parts, sets_snoc}
 use Rattle.definitions.specs.Buffer.{over, replaced}
-use Rattle.definitions.specs.Offices.{Waiver, same_row, added, removed}
-use Rattle.offices.specs.Place.{row_place, opened, gap_closed}
+use Rattle.definitions.specs.Offices.{Waiver, added, removed}
+use Rattle.offices.specs.Place.{row_place, leads, opened, gap_closed}
 use Rattle.offices.proofs.Place.{place_within, added_at, removed_at}
 
 map-append : (f : Waiver → ℕ) (xs ys : List Waiver) → map f (xs ++ ys) ≡ map f xs ++ map f ys
@@ -68,7 +68,7 @@ module _ (l : List ℕ) (rows place : ℕ) (low : place < rows) (fits : rows ≤
       ∙ sets_snoc l place (take (rows - (place + 1)) (drop (place + 1) l)) 0
 
 -- ---- a slice of the table
-module _ (f : Waiver → ℕ) (w d : Waiver) (t : List Waiver) (l : List ℕ) (rows : ℕ) (size : length t ≡ rows) (is : map f t ≡ take rows l) where
+module _ (f : Waiver → ℕ) (w : Waiver) (t : List Waiver) (l : List ℕ) (rows : ℕ) (size : length t ≡ rows) (is : map f t ≡ take rows l) where
   abbrev place : ℕ
   place = row_place w t
 
@@ -90,10 +90,10 @@ module _ (f : Waiver → ℕ) (w d : Waiver) (t : List Waiver) (l : List ℕ) (r
       sym (opened_is l rows place (f w) (omega arith) fits)
       ∙ ap₂ (λ a n. a ++ drop n l) (sym map-added) long
 
-  module _ (low : place < rows) (same : same_row (get_or t place d) w ≡ true) where
+  module _ (low : place < rows) (same : leads w (drop place t) ≡ true) where
     map-removed : map f (removed w t) ≡ take place (take rows l) ++ drop (suc place) (take rows l)
     map-removed =
-        ap (map f) (removed_at w d t (omega arith) same)
+        ap (map f) (removed_at w t same)
         ∙ map-append f (take place t) (drop (suc place) t)
         ∙ ap₂ (λ a b. a ++ b) (map-take f place t ∙ ap (take place) is) (map-drop f (suc place) t ∙ ap (drop (suc place)) is)
 

@@ -7,7 +7,7 @@ use mathlib.Core.List.{List, [], ◌∷◌, map}
 use native.Mathlib.Numerals.{add-one}
 use native.Mathlib.Omega.{arith}
 use lib.ListN.{length, get_or, take, drop, drop_of_length-le}
-use lib.Seq.{take-take, take_all, length-take-le, drop-cons, get_or-take}
+use lib.Seq.{take-take, take_all, drop-cons}
 use borrow.Author.Tests.{eq-eqb, ne_eqb}
 use Rattle.keys.specs.Key.{valid_key}
 use Rattle.keys.proofs.Cases.{equal, and_both}
@@ -18,8 +18,9 @@ use Rattle.laws.proofs.FindingOrder.{earlier_test}
 use Rattle.laws.proofs.RowPlaces.{table-length, table_keys}
 use Rattle.laws.proofs.RowOrder.{RowsAfter, no_row, next_row, ascend_after, ascend_rows, after_on}
 use Rattle.laws.proofs.Shares.{Sound, share_own, share_other, share_none, known_all, known_first, known_rest}
-use Rattle.offices.specs.Own.{keys_in, no_rows, offset_of, own_of}
-use Rattle.offices.specs.declared.own.Own.{Own}
+use Rattle.std.specs.Prelude.{Option, Some, None}
+use Rattle.offices.specs.Own.{keys_in, offset_of, office_rows_at, own_of}
+use Rattle.offices.specs.declared.own.OwnRows.{OwnRows}
 use Rattle.offices.proofs.Checked.{table_holds, table_sound}
 
 -- ---- they stand together
@@ -209,58 +210,52 @@ pub keys_table : (m : ℕ) (offices ids waived : List ℕ) (rows : ℕ) → Hold
 keys_table m offices ids waived rows h =
     ap (keys_in m) (sym (table_keys offices ids waived rows h)) ∙ keys_rows m (table_of offices ids waived rows)
 
-module _ (m : ℕ) (waived : List ℕ) (rows : ℕ) (fits : rows ≤ length waived) where
-  abbrev l : List ℕ
-  l = take rows waived
-
+module _ (m : ℕ) (waived : List ℕ) where
+  -- the keys from the place on decide
   abbrev pub Valid : ℕ → Type 0
-  Valid i = keys_in m l ≡ keys_in m (drop i l)
+  Valid i = keys_in m waived ≡ keys_in m (drop i waived)
 
-  at_key : (i : ℕ) → i < rows → keys_in m (drop i l) ≡ valid_key m (get_or waived i 0) && keys_in m (drop (suc i) l)
+  at_key : (i : ℕ) → i < length waived → keys_in m (drop i waived) ≡ valid_key m (get_or waived i 0) && keys_in m (drop (suc i) waived)
   unfolding keys_in
-  at_key i more =
-      let size = length-take-le rows waived fits in
-      ap (keys_in m) (drop-cons l i 0 (omega arith)) ∙ ap (λ κ. valid_key m κ && keys_in m (drop (suc i) l)) (get_or-take rows waived i 0 more)
+  at_key i more = ap (keys_in m) (drop-cons waived i 0 more)
 
-  pub keys_fail : (i : ℕ) → i < rows → Valid i → valid_key m (get_or waived i 0) ≡ false → false ≡ keys_in m l
-  keys_fail i more inv e = sym (inv ∙ at_key i more ∙ ap (λ b. b && keys_in m (drop (suc i) l)) e)
+  pub keys_fail : (i : ℕ) → i < length waived → Valid i → valid_key m (get_or waived i 0) ≡ false → false ≡ keys_in m waived
+  keys_fail i more inv e = sym (inv ∙ at_key i more ∙ ap (λ b. b && keys_in m (drop (suc i) waived)) e)
 
-  pub keys_go_on : (i : ℕ) → i < rows → Valid i → valid_key m (get_or waived i 0) ≡ true → Valid (i + 1)
+  pub keys_go_on : (i : ℕ) → i < length waived → Valid i → valid_key m (get_or waived i 0) ≡ true → Valid (i + 1)
   keys_go_on i more inv e =
-      inv ∙ at_key i more ∙ ap (λ b. b && keys_in m (drop (suc i) l)) e ∙ ap (λ j. keys_in m (drop j l)) (sym (add-one i))
+      inv ∙ at_key i more ∙ ap (λ b. b && keys_in m (drop (suc i) waived)) e ∙ ap (λ j. keys_in m (drop j waived)) (sym (add-one i))
 
-  pub keys_end : (i : ℕ) → rows ≤ i → Valid i → true ≡ keys_in m l
+  pub keys_end : (i : ℕ) → length waived ≤ i → Valid i → true ≡ keys_in m waived
   unfolding keys_in
-  keys_end i over inv =
-      let size = length-take-le rows waived fits in
-      sym (inv ∙ ap (keys_in m) (drop_of_length-le l {i = i} (omega arith)))
+  keys_end i over inv = sym (inv ∙ ap (keys_in m) (drop_of_length-le waived {i = i} over))
 
 -- ---- what is found of the office's rows
 module _ (m office : ℕ) (offices ids waived : List ℕ) (rows : ℕ) where
-  abbrev found : Own
-  found = record { good = true; offset = offset_of office offices ids waived rows; count = length (rows_of office (table_of offices ids waived rows)) }
+  abbrev found : Option OwnRows
+  found = Some (office_rows_at office offices ids waived rows)
 
-  pub own_no_table : is_table offices ids waived rows ≡ false → no_rows false ≡ own_of m office offices ids waived rows
+  pub own_no_table : is_table offices ids waived rows ≡ false → None ≡ own_of m office offices ids waived rows
   unfolding own_of
-  own_no_table e = sym (ap (λ b. cond (b && row_keys_valid m (table_of offices ids waived rows)) found (no_rows false)) e)
+  own_no_table e = sym (ap (λ b. cond (b && row_keys_valid m (table_of offices ids waived rows)) found None) e)
 
   module _ (is : is_table offices ids waived rows ≡ true) where
-    pub own_bad_key : row_keys_valid m (table_of offices ids waived rows) ≡ false → no_rows false ≡ own_of m office offices ids waived rows
+    pub own_bad_key : row_keys_valid m (table_of offices ids waived rows) ≡ false → None ≡ own_of m office offices ids waived rows
     unfolding own_of
-    own_bad_key e = sym (ap₂ (λ a b. cond (a && b) found (no_rows false)) is e)
+    own_bad_key e = sym (ap₂ (λ a b. cond (a && b) found None) is e)
 
     pub own_found : row_keys_valid m (table_of offices ids waived rows) ≡ true → found ≡ own_of m office offices ids waived rows
     unfolding own_of
-    own_found e = sym (ap₂ (λ a b. cond (a && b) found (no_rows false)) is e)
+    own_found e = sym (ap₂ (λ a b. cond (a && b) found None) is e)
 
     module _ (valid : row_keys_valid m (table_of offices ids waived rows) ≡ true) (count : ℕ) (size : count ≡ length (rows_of office (table_of offices ids waived rows))) where
-      pub own_first : office ≡ 0 → record { good = true; offset = 0; count = count } ≡ own_of m office offices ids waived rows
+      pub own_first : office ≡ 0 → Some (record { offset = 0; count = count }) ≡ own_of m office offices ids waived rows
       own_first e =
-          (λ i. record { good = true; offset = sym (ap (λ b. cond b 0 (length (rows_of 0 (table_of offices ids waived rows)))) (eq-eqb office 0 e)) i; count = size i })
+          (λ i. Some (record { offset = sym (ap (λ b. cond b 0 (length (rows_of 0 (table_of offices ids waived rows)))) (eq-eqb office 0 e)) i; count = size i }))
           ∙ own_found valid
 
       pub own_second : (first : ℕ) → first ≡ length (rows_of 0 (table_of offices ids waived rows)) → (office ≡ 0 → ⊥)
-          → record { good = true; offset = first; count = count } ≡ own_of m office offices ids waived rows
+          → Some (record { offset = first; count = count }) ≡ own_of m office offices ids waived rows
       own_second first f other =
-          (λ i. record { good = true; offset = (f ∙ sym (ap (λ b. cond b 0 (length (rows_of 0 (table_of offices ids waived rows)))) (ne_eqb office 0 other))) i; count = size i })
+          (λ i. Some (record { offset = (f ∙ sym (ap (λ b. cond b 0 (length (rows_of 0 (table_of offices ids waived rows)))) (ne_eqb office 0 other))) i; count = size i }))
           ∙ own_found valid

@@ -1,3 +1,4 @@
+pub mod Narrowed
 pub mod Place
 pub mod Refusal
 pub mod Own

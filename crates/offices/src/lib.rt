@@ -4,4 +4,6 @@
 pub mod calls;
 pub mod check;
 pub mod own;
+pub mod row;
 pub mod rows;
+pub mod table;

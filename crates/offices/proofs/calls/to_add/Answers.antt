@@ -1,76 +1,43 @@
--- `calls::to_add` meets its contract, test by test.
-use mathlib.Core.Path.{◌≡◌, sym, ap, ◌∙◌}
-use mathlib.Core.Bool.{Bool, true, false, ◌&&◌}
+-- The row is refused by the first four, as one that is there, or for want of room; or it has its place.
+use mathlib.Core.Path.{sym, ap, ◌∙◌}
 use native.Mathlib.Omega.{arith}
-use lib.Dec.{ltb}
-use Rattle.definitions.specs.Offices.{waiver_of, row_at, table_of, same_row, is_row}
-use borrow.Author.Rules.{rules}
+use Rattle.std.proofs.lemmas.Result.{err_from_is_err_and}
+use Rattle.definitions.specs.Offices.{waiver_of}
+use Rattle.offices.specs.Place.{row_found, office_times}
+use Rattle.offices.proofs.Narrow.{narrowed_rows}
 use Rattle.offices.proofs.Counted.{times_share}
-use Rattle.offices.proofs.Decided.{Passed, decided_refused, decided_done, early_add, early_passed, holds, there, add_there, add_full, add_done}
+use Rattle.offices.proofs.Decided.{decided_refused, decided_full, decided_done, early_adding, early_passed, holds, found_there, found_absent, add_there, add_full, add_done}
 use Rattle.offices.proofs.calls.to_add.Goals as goal
-use Rattle.offices.proofs.calls.to_add.Lts as lts
-use Rattle.offices.proofs.calls.to_add.Tie as tie
-use Rattle.offices.proofs.calls.to_add.Reads as own
 
-abbrev At-After-stands_at : Type 0
-At-After-stands_at = lts.After-stands_at tie.the-claims own.Pre own.Post
+pub returns-in_err-table : goal.returns-in_err-table
+returns-in_err-table c =
+    let p = err_from_is_err_and c.from_residual.result c.from_residual.ensures.1 in
+    rw (p.1, p.2) (early_adding _ _ _ _ _ _ _ _ _ _ c.in_err-table.ensures.told)
 
-abbrev At-Else1 : Type 0
-At-Else1 = lts.Else1 tie.the-claims own.Pre own.Post
-
-abbrev At-Start : Type 0
-At-Start = lts.Start tie.the-claims own.Pre own.Post
-
--- what is known once the first four tests are passed
-abbrev entry : At-Else1 → At-Start
-entry c = c.before.before.before.before.before
-
-passed : (c : At-Else1) → Passed (entry c).args.m (entry c).args.office (entry c).args.offices.now (entry c).args.ids.now (entry c).args.waived.now (entry c).args.rows (entry c).args.id (entry c).args.key
-passed c = early_passed _ _ _ _ _ _ _ _ (sym c.table_refusal-refusal.ensures ∙ c.if-refusal-ne0.false)
-
--- the row stands at the place that was found exactly where it is in the table
-found : (c : At-After-stands_at) (b : Bool) → c.stands_at.result ≡ b
-    → is_row (waiver_of (entry c.before.before).args.office (entry c.before.before).args.id (entry c.before.before).args.key)
-    (table_of (entry c.before.before).args.offices.now (entry c.before.before).args.ids.now (entry c.before.before).args.waived.now (entry c.before.before).args.rows)
-    ≡ b
-found c b e =
-    let a = (entry c.before.before).args in
-    sym (there _ _ _ _ _ _ _ _ (passed c.before.before))
-    ∙ ap (λ i. ltb i a.rows && same_row (row_at a.offices.now a.ids.now a.waived.now i) (waiver_of a.office a.id a.key)) (sym c.place_of-place.ensures)
-    ∙ sym c.stands_at.ensures
-    ∙ e
-
-pub table_refusal-refusal-requires : goal.table_refusal-refusal-requires
-table_refusal-refusal-requires c = search rules
-
-pub returns-then-refusal-ne0 : goal.returns-then-refusal-ne0
-returns-then-refusal-ne0 c = decided_refused _ _ _ (early_add _ _ _ _ _ _ _ _ _ (sym c.table_refusal-refusal.ensures) c.if-refusal-ne0.true) c.if-refusal-ne0.true
-
-pub place_of-place-requires : goal.place_of-place-requires
-place_of-place-requires c = holds _ _ _ _ _ _ _ _ (passed c.before)
-
-pub stands_at-requires : goal.stands_at-requires
-stands_at-requires c = holds _ _ _ _ _ _ _ _ (passed c.before.before)
-
-pub returns-then-stands_at : goal.returns-then-stands_at
-returns-then-stands_at c = decided_refused _ _ _ (add_there _ _ _ _ _ _ _ _ (passed c.before.before.before.before) (found c.before.before true c.if-stands_at.true)) (λ e. omega arith)
-
-pub count_of-requires : goal.count_of-requires
-count_of-requires c = (holds _ _ _ _ _ _ _ _ (passed c.before.before.before.before)).in_offices
+pub returns-in_default : goal.returns-in_default
+returns-in_default c =
+    let a = c.args in
+    let passed = early_passed a.m a.row.office a.offices.now a.ids.now a.waived.now a.rows a.row.id a.row.key (sym c.in_ok-table.ensures.told) in
+    let there = found_there _ _ _ _ _ _ _ _ passed _
+    (c.in_default.ensures ∙ ap (row_found (waiver_of a.row.office a.row.id a.row.key)) (narrowed_rows _ _ _ _ _ _ _ c.in_ok-table.ensures.narrowed)) in
+    decided_refused _ _ 22 (add_there _ _ _ _ _ _ _ _ passed there.0) (λ e. omega arith) (λ e. omega arith)
 
 pub returns-then-count_of-ge-LIMIT : goal.returns-then-count_of-ge-LIMIT
 returns-then-count_of-ge-LIMIT c =
-    let b = c.before.before.before in
-    let p = passed b.before.before.before in
-    let own = c.count_of.ensures ∙ times_share _ _ _ _ _ (holds _ _ _ _ _ _ _ _ p) in
+    let a = c.args in
+    let passed = early_passed a.m a.row.office a.offices.now a.ids.now a.waived.now a.rows a.row.id a.row.key (sym c.in_ok-table.ensures.told) in
+    let absent = found_absent _ _ _ _ _ _ _ _ passed _
+    (c.in-Err.ensures ∙ ap (row_found (waiver_of a.row.office a.row.id a.row.key)) (narrowed_rows _ _ _ _ _ _ _ c.in_ok-table.ensures.narrowed)) in
+    let share = c.count_of.ensures ∙ ap (office_times a.row.office) c.in_ok-table.ensures.narrowed.narrow_offices ∙ times_share _ _ _ _ _ (holds _ _ _ _ _ _ _ _ passed) in
     let full = c.if-count_of-ge-LIMIT.true in
-    decided_refused _ _ _ (add_full _ _ _ _ _ _ _ _ p (found b.before false b.if-stands_at.false) (omega arith)) (λ e. omega arith)
+    decided_full _ _ (add_full _ _ _ _ _ _ _ _ passed absent.0 (omega arith))
 
 pub returns : goal.returns
 returns c =
-    let b = c.before.before.before in
-    let p = passed b.before.before.before in
-    let own = c.count_of.ensures ∙ times_share _ _ _ _ _ (holds _ _ _ _ _ _ _ _ p) in
+    let a = c.args in
+    let passed = early_passed a.m a.row.office a.offices.now a.ids.now a.waived.now a.rows a.row.id a.row.key (sym c.in_ok-table.ensures.told) in
+    let absent = found_absent _ _ _ _ _ _ _ _ passed _
+    (c.in-Err.ensures ∙ ap (row_found (waiver_of a.row.office a.row.id a.row.key)) (narrowed_rows _ _ _ _ _ _ _ c.in_ok-table.ensures.narrowed)) in
+    let share = c.count_of.ensures ∙ ap (office_times a.row.office) c.in_ok-table.ensures.narrowed.narrow_offices ∙ times_share _ _ _ _ _ (holds _ _ _ _ _ _ _ _ passed) in
     let few = c.if-count_of-ge-LIMIT.false in
-    ap (λ i. record { refusal = 0; place = i }) b.place_of-place.ensures
-    ∙ decided_done _ _ (add_done _ _ _ _ _ _ _ _ p (found b.before false b.if-stands_at.false) (omega arith))
+    ap (λ i. record { refusal = 0; count = i }) absent.1 ∙ decided_done _ _ (add_done _ _ _ _ _ _ _ _ passed absent.0 (omega arith))

@@ -1,13 +1,6 @@
--- `own::keys_are_valid` meets its contract: the keys from the place on decide.
-use Prim.Native.Nat.{◌-◌, ◌≤◌}
-use lib.ListN.{length}
+-- The keys from the place on decide.
 use Rattle.offices.proofs.OwnRows.{Valid}
 use Rattle.offices.proofs.own.keys_are_valid.Given as goal
 
-abbrev pub invariant-loop-i : goal.invariant-loop-i
-invariant-loop-i l =
-    (h : l.rows ≤ length l.waived) → Valid l.m l.waived l.rows h l.i
-
-abbrev pub decreases-loop-i : goal.decreases-loop-i
-decreases-loop-i l =
-    l.rows - l.i
+abbrev pub invariant-loop-number : goal.invariant-loop-number
+invariant-loop-number l = Valid l.m l.waived l.number-index
