@@ -2,12 +2,16 @@
 use Prim.Native.Nat.{ℕ, ◌^◌, ◌≤◌, ◌<◌}
 use native.Mathlib.Omega.{arith}
 use mathlib.Core.Path.{◌≡◌, refl, sym, ap, ◌∙◌}
-use mathlib.Core.Bool.{true, false, not, ◌||◌}
+use mathlib.Core.Bool.{true, false, cond, not, ◌||◌}
 use lib.Dec.{leb}
 use borrow.Author.Tests.{lt-ltb, le-ltb, ltb-false, le-leb, lt-leb, leb-false}
 use Rattle.keys.specs.Key.{valid_key, level_of}
+use Rattle.std.specs.Prelude.{Some, None}
+use borrow.Author.Rules.{rules}
 use Rattle.keys.specs.Block.{row_of, column_of, side_of, key_around}
-use Rattle.keys.proofs.Cases.{or_left, or_right, neither_left, neither_right}
+use Rattle.keys.specs.KeySquare.{square_read, square_of_key}
+use Rattle.keys.specs.declared.Square.{Square}
+use Rattle.keys.proofs.Cases.{decide, or_left, or_right, neither_left, neither_right}
 use Rattle.definitions.specs.Calls.KeyAt.{key_at_refusal, key_at}
 use Rattle.definitions.specs.Calls.BlockOf.{block_of_refusal, block_of}
 use Rattle.definitions.specs.declared.Keyed.{Keyed}
@@ -77,19 +81,28 @@ module _ (m κ : ℕ) where
   unfolding block_of_refusal
   a_key deep h = sym (none_first _ (le-ltb 10 m deep, (ap not h, tt)))
 
-  block_refused : (r : ℕ) → r ≡ block_of_refusal m κ → (r ≡ 0 → ⊥) → record { refusal = r; row = 0; column = 0; side = 0; level = 0 } ≡ block_of m κ
+  pub block_refused : (r : ℕ) → r ≡ block_of_refusal m κ → (r ≡ 0 → ⊥) → record { refusal = r; row = 0; column = 0; side = 0; level = 0 } ≡ block_of m κ
   unfolding block_of
   block_refused r is h =
       block is (sym (accepted_left _ 0 (λ e. h (is ∙ e)))) (sym (accepted_left _ 0 (λ e. h (is ∙ e)))) (sym (accepted_left _ 0 (λ e. h (is ∙ e)))) (sym (accepted_left _ 0 (λ e. h (is ∙ e))))
 
-  -- a block that has a number alone is what a refused call gives
-  pub block_alone : (r : ℕ) (b : Block) → r ≡ block_of_refusal m κ → (r ≡ 0 → ⊥)
-      → (b.refusal ≡ r) × (b.row ≡ 0) × (b.column ≡ 0) × (b.side ≡ 0) × (b.level ≡ 0)
-      → b ≡ block_of m κ
-  block_alone r b is h e = block e.0 e.1 e.2 e.3 e.4 ∙ block_refused r is h
+  -- what is read of a number that is no key, and of one that is
+  pub unread : m ≤ 10 → None ≡ square_read m κ → record { refusal = 8; row = 0; column = 0; side = 0; level = 0 } ≡ block_of m κ
+  unread deep e = block_refused 8 (no_key deep (not_read e)) (λ z. absurd (omega arith))
+    where
+      not_read : None ≡ square_read m κ → valid_key m κ ≡ false
+      not_read f = decide (valid_key m κ) (λ t. let g = f ∙ ap (λ b. cond b (Some (square_of_key m κ)) None) t in absurd (search rules)) (λ t. t)
 
   pub block_given : (row column side level : ℕ) → block_of_refusal m κ ≡ 0 → row ≡ row_of m κ → column ≡ column_of m κ → side ≡ side_of m κ → level ≡ level_of m κ
       → record { refusal = 0; row = row; column = column; side = side; level = level } ≡ block_of m κ
   unfolding block_of
   block_given row column side level none r c s l =
       block (sym none) (r ∙ sym (accepted_done _ 0 none)) (c ∙ sym (accepted_done _ 0 none)) (s ∙ sym (accepted_done _ 0 none)) (l ∙ sym (accepted_done _ 0 none))
+
+  pub read : m ≤ 10 → (square : Square) (level : ℕ) → Some square ≡ square_read m κ → level ≡ level_of m κ
+      → record { refusal = 0; row = square.row; column = square.column; side = square.side; level = level } ≡ block_of m κ
+  read deep square level e l =
+      let valid : valid_key m κ ≡ true = decide (valid_key m κ) (λ t. t) (λ t. let g = e ∙ ap (λ b. cond b (Some (square_of_key m κ)) None) t in absurd (search rules)) in
+      let f = e ∙ ap (λ b. cond b (Some (square_of_key m κ)) None) valid in
+      let same : square ≡ square_of_key m κ = cc in
+      block_given square.row square.column square.side level (sym (a_key deep valid)) (ap (λ x. x.row) same) (ap (λ x. x.column) same) (ap (λ x. x.side) same) l

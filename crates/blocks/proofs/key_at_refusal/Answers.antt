@@ -1,13 +1,9 @@
 -- `key_at_refusal` meets its contract: its tests are those of the table, in the same order.
-use borrow.Author.Rules.{rules}
 use Rattle.blocks.proofs.Answers.{too_deep, no_row, no_column, no_level, all_passed}
 use Rattle.blocks.proofs.key_at_refusal.Goals as goal
 
 pub returns-then-m-gt-DEEPEST_LEVEL : goal.returns-then-m-gt-DEEPEST_LEVEL
 returns-then-m-gt-DEEPEST_LEVEL c = too_deep _ _ _ _ c.if-m-gt-DEEPEST_LEVEL.true
-
-pub power_of_two-side-requires : goal.power_of_two-side-requires
-power_of_two-side-requires c = search rules
 
 pub returns-then-side-row : goal.returns-then-side-row
 returns-then-side-row c = no_row _ _ _ _ _ c.power_of_two-side.ensures c.if-m-gt-DEEPEST_LEVEL.false c.if-side-row.true
@@ -16,15 +12,7 @@ pub returns-then-side-column : goal.returns-then-side-column
 returns-then-side-column c = no_column _ _ _ _ _ c.power_of_two-side.ensures c.if-m-gt-DEEPEST_LEVEL.false c.if-side-column.true
 
 pub returns-then-m-level : goal.returns-then-m-level
-returns-then-m-level c =
-    no_level _ _ _ _ _ c.power_of_two-side.ensures c.if-m-gt-DEEPEST_LEVEL.false
-    c.if-side-row.false
-    c.if-side-column.false
-    c.if-m-level.true
+returns-then-m-level c = no_level _ _ _ _ _ c.power_of_two-side.ensures c.if-m-gt-DEEPEST_LEVEL.false c.if-side-row.false c.if-side-column.false c.if-m-level.true
 
-pub returns-else-m-level : goal.returns-else-m-level
-returns-else-m-level c =
-    all_passed _ _ _ _ _ c.power_of_two-side.ensures c.if-m-gt-DEEPEST_LEVEL.false
-    c.if-side-row.false
-    c.if-side-column.false
-    c.if-m-level.false
+pub returns : goal.returns
+returns c = all_passed _ _ _ _ _ c.power_of_two-side.ensures c.if-m-gt-DEEPEST_LEVEL.false c.if-side-row.false c.if-side-column.false c.if-m-level.false
