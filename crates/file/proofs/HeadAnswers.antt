@@ -2,18 +2,19 @@
 -- tables.
 use Prim.Native.Nat.{ℕ, ◌≤◌, ◌<◌}
 use mathlib.Core.Path.{◌≡◌, refl, sym, ap, ap₂, ◌∙◌}
-use mathlib.Core.Bool.{true, false, not}
+use mathlib.Core.Bool.{Bool, true, false, not}
 use mathlib.Core.List.{List}
-use lib.ListN.{length}
-use borrow.Author.Tests.{lt-ltb, le-ltb, ltb-false, eq-eqb, ne_eqb, eqb-true, not-false}
-use Rattle.definitions.specs.File.{bit_bytes, file_length, m_in, s_in, n_in, too_short, wrong_mark, wrong_version, wrong_settings, wrong_length}
+use lib.ListN.{length, take}
+use borrow.Author.Tests.{lt-ltb, le-ltb, eq-eqb, ne_eqb, eqb-true, not-false}
+use Rattle.definitions.specs.File.{bit_bytes, file_length, m_in, s_in, n_in, too_short, mark, same_bytes, wrong_mark, wrong_version, wrong_settings, wrong_length}
 use Rattle.definitions.specs.Calls.Load.{load_refusal}
 use Rattle.laws.proofs.First.{this, later, holds_first, first_holds, first_none, none_first, holds_more}
 use Rattle.definitions.specs.Refusal.{bad_settings}
 use Rattle.laws.proofs.FileBack.{settings_good}
 use Rattle.list.proofs.Tests.{good_settings}
 use Rattle.file.specs.Room.{Exact}
-use Rattle.file.specs.Head.{head_rows, head_refusal}
+use Rattle.definitions.specs.declared.answers.ListHead.{ListHead}
+use Rattle.file.specs.Head.{head_rows, head_refusal, HeadIn}
 
 -- the head's rows
 pub record HeadAccepted (file : List ℕ) : Type 0 where
@@ -40,6 +41,11 @@ head_accepted file e =
 pub head_refuses : (file keys bits : List ℕ) (k : ℕ) → k ≡ head_refusal file → (k ≡ 0 → ⊥) → load_refusal file keys bits ≡ k
 unfolding head_refusal load_refusal
 head_refuses file keys bits k e not-zero = holds_first (holds_more _ (first_holds k (head_rows file) not-zero (sym e)))
+
+-- the test of the three bytes is that of the mark
+pub mark_test : (file : List ℕ) (r : Bool) → r ≡ not (same_bytes (take 3 file) mark) → wrong_mark file ≡ r
+unfolding wrong_mark
+mark_test file r e = sym e
 
 module _ (file : List ℕ) where
   -- 15: under 11 bytes
@@ -81,20 +87,16 @@ module _ (file : List ℕ) where
           good_head e =
               sym (none_first (head_rows file) (not_short, (marked, (versioned, (good, (ap not (eq-eqb (length file) (file_length (bit_bytes (s_in file)) (n_in file)) e), tt))))))
 
--- an accepted head is long enough
-pub head_long : (file : List ℕ) → 0 ≡ head_refusal file → 11 ≤ length file
-head_long file e = ltb-false (length file) 11 (head_accepted file (sym e)).long
-
--- and its file is as long as its n says
-pub head_exact : (file : List ℕ) (m s n : ℕ) → 0 ≡ head_refusal file → m ≡ m_in file → s ≡ s_in file → n ≡ n_in file → Exact m s n file
-head_exact file m s n e m_is s_is n-is =
+-- the file of an accepted head is as long as its n says
+pub head_exact : (file : List ℕ) (head : ListHead) → 0 ≡ head_refusal file → HeadIn file head → Exact head.m head.s head.n file
+head_exact file head e is =
     let a = head_accepted file (sym e) in
-    let good = good_settings m s (ap₂ bad_settings m_is s_is ∙ settings_good _ (m_in file) (s_in file) a.settings) in
+    let good = good_settings head.m head.s (ap₂ bad_settings is.m_is is.s_is ∙ settings_good _ (m_in file) (s_in file) a.settings) in
     let ends : length file ≡ file_length (bit_bytes (s_in file)) (n_in file) = eqb-true _ _ (not-false _ a.exact) in
     record {
       deepest = good.deep;
       slots = good.few;
-      slots_are = s_is;
-      many = n-is;
-      ends = ends ∙ ap₂ (λ k n. file_length (bit_bytes k) n) (sym s_is) (sym n-is);
+      slots_are = is.s_is;
+      many = is.n-is;
+      ends = ends ∙ ap₂ (λ k n. file_length (bit_bytes k) n) (sym is.s_is) (sym is.n-is);
     }

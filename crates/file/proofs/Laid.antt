@@ -46,10 +46,6 @@ bytes_laid_at {w} {n} {file} l i h = record {
   there = fewer_there l.width_is (i + 1) n (length file) (omega arith) l.there;
 }
 
--- a file as long has as much room
-pub laid_same : {w n : ℕ} {old file : List ℕ} → RecordsFit w n old → length file ≡ length old → RecordsFit w n file
-laid_same l e = record { width_is = l.width_is; there = let h = l.there in omega arith }
-
 -- a record stored as key and bitstring is the record's bytes
 pub record_put : (file : List ℕ) (p place u w κ v : ℕ) (keyed whole : List ℕ) → p ≡ place → u ≡ w → keyed ≡ sets file p (bytes_of 4 κ)
     → whole ≡ sets keyed (p + 4) (bytes_of u v) → whole ≡ sets file place (bytes_of_record w (record_of κ v))
@@ -59,10 +55,3 @@ record_put file p place u w κ v keyed whole at width e f =
     ∙ ap (λ k. sets (sets file p (bytes_of 4 κ)) (p + k) (bytes_of u v)) (sym (length-bytes 4 κ))
     ∙ sym (sets_split file p (bytes_of 4 κ) (bytes_of u v))
     ∙ ap₂ (λ p w. sets file p (bytes_of_record w (record_of κ v))) at width
-
--- the place of record n at each width
-pub place_two : (w n : ℕ) → w ≡ 2 → 11 + 6 * n ≡ file_length w n
-place_two w n e = rw e (omega arith)
-
-pub place_four : (w n : ℕ) → w ≡ 4 → 11 + 8 * n ≡ file_length w n
-place_four w n e = rw e (omega arith)

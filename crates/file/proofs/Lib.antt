@@ -4,7 +4,6 @@ pub mod Marked
 pub mod Stores
 -- the layout: where a record lies, and what its bytes are
 pub mod Laid
-pub mod Versions
 pub mod RecordBytes
 pub mod ReadBytes
 pub mod Fits
@@ -16,6 +15,7 @@ pub mod FileList
 pub mod Accepted
 pub mod SliceRecords
 pub mod HeadAnswers
+pub mod Needed
 pub mod StoreAnswers
 pub mod LoadAnswers
 -- the round trip

@@ -6,7 +6,7 @@ use mathlib.Core.Bool.{true, false, not}
 use mathlib.Core.List.{List}
 use native.Mathlib.Omega.{arith}
 use lib.ListN.{length}
-use borrow.Author.Tests.{lt-ltb, ltb-false, eqb-true, not-false}
+use borrow.Author.Tests.{lt-ltb, eqb-true, not-false}
 use Rattle.keys.specs.Key.{root_key}
 use Rattle.definitions.specs.List.{keys_of, values_of}
 use Rattle.definitions.specs.Read.{room, is_list_of_block}
@@ -15,40 +15,47 @@ use Rattle.definitions.specs.File.{bit_bytes, file_length, m_in, s_in, n_in, rec
 use Rattle.definitions.specs.Refusal.{accepted}
 use Rattle.definitions.specs.Calls.Load.{load_refusal, load, load_keys, load_bits}
 use Rattle.definitions.specs.declared.Loaded.{Loaded}
+use Rattle.definitions.specs.declared.answers.ListHead.{ListHead}
+use Rattle.definitions.specs.declared.refusal.Refusal.{Refusal}
+use Rattle.definitions.specs.Refused.{refusal_number}
+use Rattle.definitions.specs.Answered.{as_loaded}
+use Rattle.definitions.proofs.Refused.{refusal_some}
+use Rattle.std.specs.Prelude.{Ok, Err}
 use Rattle.laws.proofs.First.{this, later, holds_first, accepted_left}
 use Rattle.laws.proofs.FileOf.{width_of}
-use Rattle.file.specs.Head.{head_refusal}
+use Rattle.file.specs.Head.{head_refusal, HeadIn}
 use Rattle.file.specs.Layout.{keys_at, values_at}
 use Rattle.file.specs.Room.{RoomFor}
 use Rattle.file.proofs.Accepted.{LoadAccepted, load_accepted, load_accepts}
 use Rattle.file.proofs.HeadAnswers.{HeadAccepted, head_accepted}
 
--- the table, once the head is accepted and m, s and n are read
-module _ (file : List ℕ) (head : 0 ≡ head_refusal file) (m s n : ℕ) (m_is : m ≡ m_in file) (s_is : s ≡ s_in file) (n-is : n ≡ n_in file) (keys bits : List ℕ) where
+-- the table, once the head is accepted
+module _ {file : List ℕ} {head : ListHead} (none : 0 ≡ head_refusal file) (is : HeadIn file head) (keys bits : List ℕ) where
   a : HeadAccepted file
-  a = head_accepted file (sym head)
+  a = head_accepted file (sym none)
 
-  list_is : is_list_of_block (m_in file) (s_in file) (m_in file) 0 0 root_key (records_in_file file) ≡ is_list_of_block m s m 0 0 root_key (records_in_file file)
-  list_is = sym (λ i. is_list_of_block (m_is i) (s_is i) (m_is i) 0 0 root_key (records_in_file file))
+  list_is : is_list_of_block (m_in file) (s_in file) (m_in file) 0 0 root_key (records_in_file file)
+      ≡ is_list_of_block head.m head.s head.m 0 0 root_key (records_in_file file)
+  list_is = sym (λ i. is_list_of_block (is.m_is i) (is.s_is i) (is.m_is i) 0 0 root_key (records_in_file file))
 
   -- 4
-  pub no_list : is_list_of_block m s m 0 0 root_key (records_in_file file) ≡ false → 4 ≡ load_refusal file keys bits
+  pub no_list : is_list_of_block head.m head.s head.m 0 0 root_key (records_in_file file) ≡ false → 4 ≡ load_refusal file keys bits
   unfolding load_refusal
   no_list bad =
       sym (holds_first (later a.long (later a.marked (later a.versioned (later a.settings (later a.exact (this (ap not (list_is ∙ bad)) refl)))))))
 
-  module _ (list : is_list_of_block m s m 0 0 root_key (records_in_file file) ≡ true) where
+  module _ (list : is_list_of_block head.m head.s head.m 0 0 root_key (records_in_file file) ≡ true) where
     -- 9
-    pub no_room : room keys bits < n → 9 ≡ load_refusal file keys bits
+    pub no_room : room keys bits < head.n → 9 ≡ load_refusal file keys bits
     unfolding load_refusal
     no_room h =
-        let full = lt-ltb (room keys bits) (n_in file) (omega arith) in
+        let full = lt-ltb (room keys bits) (n_in file) (omega (arith, is.n-is)) in
         sym (holds_first
         (later a.long
         (later a.marked (later a.versioned (later a.settings (later a.exact (later (ap not (list_is ∙ list)) (this full refl))))))))
 
     -- none
-    pub all_good : n ≤ room keys bits → 0 ≡ load_refusal file keys bits
+    pub all_good : head.n ≤ room keys bits → 0 ≡ load_refusal file keys bits
     all_good h = sym (load_accepts file keys bits (record {
       long = a.long;
       marked = a.marked;
@@ -56,7 +63,7 @@ module _ (file : List ℕ) (head : 0 ≡ head_refusal file) (m s n : ℕ) (m_is 
       settings = a.settings;
       exact = a.exact;
       listed = list_is ∙ list;
-      roomy = omega arith;
+      roomy = omega (arith, is.n-is);
     }))
 
 module _ (file keys bits : List ℕ) where
@@ -79,8 +86,10 @@ module _ (file keys bits : List ℕ) where
   )
 
   -- a refusal gives its number alone and leaves what was lent
-  pub refused : (k : ℕ) → k ≡ load_refusal file keys bits → (k ≡ 0 → ⊥) → LoadedAs (record { refusal = k; m = 0; s = 0; n = 0 }) keys bits
-  refused k e not-zero =
+  pub refused : (refusal : Refusal) → refusal_number refusal ≡ load_refusal file keys bits → LoadedAs (as_loaded (Err refusal)) keys bits
+  refused refusal e =
+      let k : ℕ = refusal_number refusal in
+      let not-zero : k ≡ 0 → ⊥ = refusal_some refusal in
       let told = by_number k (sym e) in
       let nothing : (x : ℕ) → accepted k x 0 ≡ 0 = λ x. accepted_left x 0 not-zero in (
         sym (λ i. record { refusal = k; m = nothing (m_in file) i; s = nothing (s_in file) i; n = nothing (n_in file) i }) ∙ told.0,
@@ -90,48 +99,34 @@ module _ (file keys bits : List ℕ) where
         ),
       )
 
-  -- of the slices alone, by the table's number
-  pub refused_keys : (load_refusal file keys bits ≡ 0 → ⊥) → keys ≡ load_keys file keys bits
-  refused_keys not-zero = (refused (load_refusal file keys bits) refl not-zero).1.0
-
-  pub refused_bits : (load_refusal file keys bits ≡ 0 → ⊥) → bits ≡ load_bits file keys bits
-  refused_bits not-zero = (refused (load_refusal file keys bits) refl not-zero).1.1
-
   module _ (none : 0 ≡ load_refusal file keys bits) where
     b : LoadAccepted file keys bits
     b = load_accepted file keys bits (sym none)
 
-    -- an accepted file has its head
-    pub long : 11 ≤ length file
-    long = ltb-false (length file) 11 b.long
-
-    -- and its records have room
-    pub room_for : (s w n : ℕ) → s ≡ s_in file → w ≡ bit_bytes s → n ≡ n_in file → RoomFor w n keys bits file
-    room_for s w n s_is w-is n-is =
+    -- the records of an accepted file have room
+    pub room_for : (head : ListHead) (w : ℕ) → HeadIn file head → w ≡ bit_bytes head.s → RoomFor w head.n keys bits file
+    room_for head w is w-is =
         let h = b.roomy in
-        let same : w ≡ bit_bytes (s_in file) = w-is ∙ ap bit_bytes s_is in
+        let same : w ≡ bit_bytes (s_in file) = w-is ∙ ap bit_bytes is.s_is in
         let ends : length file ≡ file_length (bit_bytes (s_in file)) (n_in file) = eqb-true _ _ (not-false _ b.exact) in
         record {
-          in_keys = omega arith;
-          in-bits = omega arith;
-          in_file = rw (same, n-is) (record { width_is = width_of (s_in file); there = omega arith });
+          in_keys = omega (arith, is.n-is);
+          in-bits = omega (arith, is.n-is);
+          in_file = rw (same, is.n-is) (record { width_is = width_of (s_in file); there = omega arith });
         }
 
     -- the records read are what load leaves
-    pub all_loaded : (m s w n : ℕ) (keys' bits' : List ℕ) → m ≡ m_in file → s ≡ s_in file → w ≡ bit_bytes s → n ≡ n_in file
-        → keys' ≡ over (keys_at w n file) keys
-        → bits' ≡ over (values_at w n file) bits
-        → LoadedAs (record { refusal = 0; m = m; s = s; n = n }) keys' bits'
+    pub all_loaded : (head : ListHead) (w : ℕ) (keys' bits' : List ℕ) → HeadIn file head → w ≡ bit_bytes head.s
+        → keys' ≡ over (keys_at w head.n file) keys
+        → bits' ≡ over (values_at w head.n file) bits
+        → LoadedAs (as_loaded (Ok head)) keys' bits'
     unfolding records_in_file
-    all_loaded m s w n keys' bits' m_is s_is w-is n-is e f =
+    all_loaded head w keys' bits' is w-is e f =
         let told = by_number 0 (sym none) in
-        let same : w ≡ bit_bytes (s_in file) = w-is ∙ ap bit_bytes s_is in (
-          (λ i. record { refusal = 0; m = m_is i; s = s_is i; n = n-is i }) ∙ told.0,
+        let same : w ≡ bit_bytes (s_in file) = w-is ∙ ap bit_bytes is.s_is in (
+          (λ i. record { refusal = 0; m = is.m_is i; s = is.s_is i; n = is.n-is i }) ∙ told.0,
           (
-            e ∙ ap₂ (λ w n. over (keys_at w n file) keys) same n-is ∙ told.1.0,
-            f ∙ ap₂ (λ w n. over (values_at w n file) bits) same n-is ∙ told.1.1,
+            e ∙ ap₂ (λ w n. over (keys_at w n file) keys) same is.n-is ∙ told.1.0,
+            f ∙ ap₂ (λ w n. over (values_at w n file) bits) same is.n-is ∙ told.1.1,
           ),
         )
-
--- a refused call: what it gives, and what it leaves
-pub ruleset refused_call = (refused, refused_keys, refused_bits)

@@ -15,6 +15,12 @@ use Rattle.definitions.specs.File.{bit_bytes, file_length, head_of, bytes_of_rec
 use Rattle.definitions.specs.Refusal.{accepted, bad_settings}
 use Rattle.definitions.specs.Calls.Store.{stored, store_refusal, store, store_file}
 use Rattle.definitions.specs.declared.Counted.{Counted}
+use Rattle.definitions.specs.declared.refusal.Refusal.{Refusal}
+use Rattle.definitions.specs.Refused.{refusal_number}
+use Rattle.definitions.specs.Answered.{as_counted}
+use Rattle.definitions.proofs.Refused.{refusal_some}
+use Rattle.std.specs.Prelude.{Err}
+use Rattle.file.proofs.Needed.{none_needed}
 use Rattle.laws.proofs.First.{this, later, holds_first, accepted_left}
 use Rattle.laws.proofs.FileOf.{length-file}
 use Rattle.laws.proofs.Records.{records-length}
@@ -43,14 +49,19 @@ module _ (m s : ℕ) (keys bits : List ℕ) (n : ℕ) (file : List ℕ) where
       )
 
   -- 1 and 4
-  pub refused_early : (k : ℕ) → k ≡ first_refusal m s keys bits n → (k ≡ 0 → ⊥) → Stored (record { refusal = k; count = 0 }) file
+  pub refused_early : (refusal : Refusal) → refusal_number refusal ≡ first_refusal m s keys bits n → Stored (as_counted (Err refusal)) file
   unfolding store_refusal
-  refused_early k e h =
+  refused_early refusal e =
+      let k : ℕ = refusal_number refusal in
+      let h : k ≡ 0 → ⊥ = refusal_some refusal in
       let small = first_small m s keys bits n in
+      let other : k ≡ 12 → ⊥ = λ twelve. omega arith in
       let bytes = length (stored m s keys bits n) in
       let told = by_number k (sym (refused_first m s keys bits n k _ e h)) in
-      let none = accepted_left {refusal = k} bytes (cond (eqb k 12) bytes 0) h ∙ ap (λ b. cond b bytes 0) (ne_eqb k 12 (λ twelve. omega arith)) in
-      ((λ i. record { refusal = k; count = sym none i }) ∙ told.0, sym (accepted_left {refusal = k} (over (stored m s keys bits n) file) file h) ∙ told.1)
+      let none = accepted_left {refusal = k} bytes (cond (eqb k 12) bytes 0) h ∙ ap (λ b. cond b bytes 0) (ne_eqb k 12 other) in (
+        (λ i. record { refusal = k; count = (none_needed refusal other ∙ sym none) i }) ∙ told.0,
+        sym (accepted_left {refusal = k} (over (stored m s keys bits n) file) file h) ∙ told.1,
+      )
 
   module _ (good : bad_settings m s ≡ false) where
     module _ (list : is_list m s keys bits n ≡ true) where

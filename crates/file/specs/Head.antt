@@ -1,7 +1,9 @@
--- The refusals of load that the bytes before the records decide, in the order of load's table. Only the contract of `head::refusal` needs it.
-use Rattle.std.specs.Prelude.{ℕ, List, [], ◌∷◌}
-use Rattle.definitions.specs.File.{too_short, wrong_mark, wrong_version, wrong_settings, wrong_length}
+-- The refusals of load that the bytes before the records decide, in the order of load's table, and what those bytes say. Only the contract of `head::read` needs
+-- it.
+use Rattle.std.specs.Prelude.{ℕ, ◌≡◌, List, [], ◌∷◌}
+use Rattle.definitions.specs.File.{m_in, s_in, n_in, too_short, wrong_mark, wrong_version, wrong_settings, wrong_length}
 use Rattle.definitions.specs.Refusal.{Row, ◌gives◌, first}
+use Rattle.definitions.specs.declared.answers.ListHead.{ListHead}
 
 abbrev pub head_rows : List ℕ → List Row
 head_rows file =
@@ -14,3 +16,9 @@ head_rows file =
 
 unfoldable pub head_refusal : List ℕ → ℕ
 head_refusal file = first (head_rows file)
+
+-- a head that was read says what the file does
+pub record HeadIn (file : List ℕ) (head : ListHead) : Type 0 where
+  pub m_is : head.m ≡ m_in file
+  pub s_is : head.s ≡ s_in file
+  pub n-is : head.n ≡ n_in file

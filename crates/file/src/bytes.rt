@@ -8,58 +8,52 @@ pub fn put_u16(x: u32, file: &mut [u8], place: usize)
     requires { place + 2 ≤ length file.old }
     ensures { file.new ≡ sets file.old place (bytes_of 2 x) }
 {
-    file[place] = (x / 256 % 256) as u8;
-    file[place + 1] = (x % 256) as u8;
+    file[place..place + 2].copy_from_slice(&((x % 65536) as u16).to_be_bytes());
 }
 
 pub fn put_u32(x: u32, file: &mut [u8], place: usize)
     requires { place + 4 ≤ length file.old }
     ensures { file.new ≡ sets file.old place (bytes_of 4 x) }
 {
-    file[place] = (x / 16777216 % 256) as u8;
-    file[place + 1] = (x / 65536 % 256) as u8;
-    file[place + 2] = (x / 256 % 256) as u8;
-    file[place + 3] = (x % 256) as u8;
+    file[place..place + 4].copy_from_slice(&x.to_be_bytes());
 }
 
 pub fn put_u64(x: u64, file: &mut [u8], place: usize)
     requires { place + 8 ≤ length file.old }
     ensures { file.new ≡ sets file.old place (bytes_of 8 x) }
 {
-    put_u32((x / 4294967296) as u32, file, place);
-    put_u32((x % 4294967296) as u32, file, place + 4);
+    file[place..place + 8].copy_from_slice(&x.to_be_bytes());
 }
 
 pub fn u8_at(file: &[u8], place: usize) -> u32
     requires { place < length file.now }
     ensures { result ≡ number_at place 1 file.now }
 {
-    file[place] as u32
+    u32::from(file[place])
 }
 
 pub fn u16_at(file: &[u8], place: usize) -> u32
     requires { place + 2 ≤ length file.now }
     ensures { result ≡ number_at place 2 file.now }
 {
-    let high = file[place] as u32;
-    let low = file[place + 1] as u32;
-    high * 256 + low
+    u32::from(u16::from_be_bytes([file[place], file[place + 1]]))
 }
 
 pub fn u32_at(file: &[u8], place: usize) -> u32
     requires { place + 4 ≤ length file.now }
     ensures { result ≡ number_at place 4 file.now }
 {
-    let low = u16_at(file, place + 2);
-    let high = u16_at(file, place);
-    high * 65536 + low
+    u32::from_be_bytes([
+        file[place],
+        file[place + 1],
+        file[place + 2],
+        file[place + 3],
+    ])
 }
 
 pub fn u64_at(file: &[u8], place: usize) -> u64
     requires { place + 8 ≤ length file.now }
     ensures { result ≡ number_at place 8 file.now }
 {
-    let low = u32_at(file, place + 4) as u64;
-    let high = u32_at(file, place) as u64;
-    high * 4294967296 + low
+    u64::from(u32_at(file, place)) * 4294967296 + u64::from(u32_at(file, place + 4))
 }

@@ -10,6 +10,7 @@ ghost use Rattle.file.specs.Layout.{records_at, RecordsFit};
 ghost use Rattle.file.specs.Room.{Exact};
 
 use crate::{bytes, layout};
+use definitions::answers::ListHead;
 use keys::{Key, power, zeros};
 use list::check;
 
@@ -25,8 +26,7 @@ fn four_pixels(file: &[u8], width: usize, n: usize, first: usize, key: u32, own:
     }
     let mut next = first;
     let mut union = 0;
-    let mut digit = 1;
-    while digit < 5 {
+    for digit in 1..5 {
         let place = layout::place(width, next);
         if bytes::u32_at(file, place) != key + digit {
             return false;
@@ -35,9 +35,8 @@ fn four_pixels(file: &[u8], width: usize, n: usize, first: usize, key: u32, own:
         if !check::has_one_slot(found) {
             return false;
         }
-        union = union | found;
+        union |= found;
         next += 1;
-        digit += 1;
     }
     union == own
 }
@@ -67,7 +66,7 @@ fn after_sixteen(file: &[u8], width: usize, n: usize, first: usize, key: u32, ow
             }
             next += 4;
         }
-        union = union | found;
+        union |= found;
         child += 5;
     }
     if union == own { next } else { 0 }
@@ -98,7 +97,7 @@ fn after_sixty_four(file: &[u8], width: usize, n: usize, first: usize, key: u32,
                 return 0;
             }
         }
-        union = union | found;
+        union |= found;
         child += 25;
     }
     if union == own { next } else { 0 }
@@ -120,19 +119,11 @@ fn after_low(
         → step ≡ step_under k
         → result ≡ rest_place n (after_node k key own (drop first (records_at width n file.now)))) }
 {
-    if step == 25 {
-        return after_sixty_four(file, width, n, first, key, own);
-    }
-    if step == 5 {
-        return after_sixteen(file, width, n, first, key, own);
-    }
-    if step != 1 {
-        return 0;
-    }
-    if four_pixels(file, width, n, first, key, own) {
-        first + 4
-    } else {
-        0
+    match step {
+        25 => after_sixty_four(file, width, n, first, key, own),
+        5 => after_sixteen(file, width, n, first, key, own),
+        1 if four_pixels(file, width, n, first, key, own) => first + 4,
+        _ => 0,
     }
 }
 
@@ -159,8 +150,7 @@ fn after_node(
     let lower = step / 5;
     let mut next = first;
     let mut union = 0;
-    let mut digit = 1;
-    while digit < 5 {
+    for digit in 1..5 {
         if n <= next {
             return 0;
         }
@@ -180,8 +170,7 @@ fn after_node(
                 return 0;
             }
         }
-        union = union | found;
-        digit += 1;
+        union |= found;
     }
     if union == own { next } else { 0 }
 }
@@ -208,10 +197,11 @@ pub fn holds_block(file: &[u8], width: usize, n: usize, m: u32, s: u32, key: u32
     after_node(file, width, n, 1, key, own, step) == n
 }
 
-// The n records of a file of their length are a raster's list at m and s.
-pub fn holds_list(file: &[u8], m: u32, s: u32, n: usize) -> bool
-    requires { Exact m s n file.now }
-    ensures { result ≡ is_list_of_block m s m 0 0 root_key (records_in_file file.now) }
+// The records of a file as long as its head says are a raster's list at the head's m and s.
+pub fn holds_list(file: &[u8], head: ListHead) -> bool
+    requires { Exact head.m head.s head.n file.now }
+    ensures { result ≡ is_list_of_block head.m head.s head.m 0 0 root_key (records_in_file file.now) }
 {
-    holds_block(file, layout::width(s), n, m, s, Key::ROOT)
+    let width = layout::width(head.s);
+    holds_block(file, width, head.n, head.m, head.s, Key::ROOT)
 }

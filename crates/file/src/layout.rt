@@ -11,6 +11,7 @@ use crate::bytes;
 // A file of version 1 has up to so many slots.
 pub const FIRST_SLOTS: u32 = 16;
 
+#[tactic(auto, using(std::proofs::lemmas::Bool::Decides::nat_tests), unfolding(definitions::specs::File::version_for))]
 pub fn version(s: u32) -> u32
     ensures { result ≡ version_for s }
 {
@@ -18,6 +19,7 @@ pub fn version(s: u32) -> u32
 }
 
 // The bytes of a bitstring.
+#[tactic(auto, using(std::proofs::lemmas::Bool::Decides::nat_tests), unfolding(definitions::specs::File::bit_bytes))]
 pub fn width(s: u32) -> usize
     ensures { result ≡ bit_bytes s }
 {
@@ -37,10 +39,7 @@ pub fn place(width: usize, n: usize) -> usize
     requires { Width width × (file_length width n < 2 ^ 64) }
     ensures { result ≡ file_length width n }
 {
-    if width == 2 {
-        return 11 + 6 * n;
-    }
-    11 + 8 * n
+    if width == 2 { 11 + 6 * n } else { 11 + 8 * n }
 }
 
 // The bitstring of the record at a place.
@@ -49,9 +48,10 @@ pub fn bits_behind(file: &[u8], width: usize, place: usize) -> u32
     ensures { result ≡ number_at (place + 4) width file.now }
 {
     if width == 2 {
-        return bytes::u16_at(file, place + 4);
+        bytes::u16_at(file, place + 4)
+    } else {
+        bytes::u32_at(file, place + 4)
     }
-    bytes::u32_at(file, place + 4)
 }
 
 pub fn key_at(file: &[u8], width: usize, i: usize) -> u32

@@ -1,61 +1,39 @@
 // Load: the bytes of a file become a list. Refusals 15 (under 11 bytes), 16, 17, 1, 15 (length), 4 (the file's own records), 9.
-ghost use Rattle.std.specs.Prelude.{◌≡◌, List, ℕ, length};
+ghost use Rattle.std.specs.Prelude.{◌≡◌, List, ℕ, length, IfOk};
+ghost use Rattle.definitions.specs.Refused.{refusal_told};
+ghost use Rattle.definitions.specs.Answered.{as_loaded};
 ghost use Rattle.definitions.specs.Calls.Load.{load_refusal, load, load_keys, load_bits};
+ghost use Rattle.file.specs.Head.{HeadIn};
 
-use crate::{bytes, check_file, head, layout, records};
-use definitions::Loaded;
+use crate::{check_file, head, layout, records};
+use definitions::answers::ListHead;
 use definitions::refusal::Refusal;
 
-// The first refusal that applies, or 0, where two slices of the given lengths are lent.
-fn refusal(file: &[u8], in_keys: usize, in_bits: usize) -> u64
-    ensures { (keys bits : List ℕ)
+// What the head says, where two slices of the given lengths are lent and no refusal applies.
+fn accept(file: &[u8], in_keys: usize, in_bits: usize) -> Result<ListHead, Refusal>
+    ensures told { (keys bits : List ℕ)
         → length keys ≡ in_keys
         → length bits ≡ in_bits
-        → result ≡ load_refusal file.now keys bits }
+        → refusal_told result ≡ load_refusal file.now keys bits }
+    ensures head { IfOk result (HeadIn file.now) }
 {
-    let early = head::refusal(file);
-    if early != 0 {
-        return early;
+    let head = head::read(file)?;
+    if !check_file::holds_list(file, head) {
+        return Err(Refusal::List);
     }
-    let m = bytes::u8_at(file, 5);
-    let s = bytes::u8_at(file, 6);
-    let n = bytes::u32_at(file, 7) as usize;
-    if !check_file::holds_list(file, m, s, n) {
-        return Refusal::LIST;
+    if in_keys < head.n || in_bits < head.n {
+        return Err(Refusal::ListRoom);
     }
-    if in_keys < n {
-        return Refusal::LIST_ROOM;
-    }
-    if in_bits < n {
-        return Refusal::LIST_ROOM;
-    }
-    0
+    Ok(head)
 }
 
 // Nothing is written before all is accepted.
-#[tactic(auto, using(crate::proofs::LoadAnswers::refused_call))]
-pub fn load(file: &[u8], keys: &mut [u32], bits: &mut [u32]) -> Loaded
-    ensures value { result ≡ load file.now keys.old bits.old }
+pub fn load(file: &[u8], keys: &mut [u32], bits: &mut [u32]) -> Result<ListHead, Refusal>
+    ensures value { as_loaded result ≡ load file.now keys.old bits.old }
     ensures keys_after { keys.new ≡ load_keys file.now keys.old bits.old }
     ensures bits_after { bits.new ≡ load_bits file.now keys.old bits.old }
 {
-    let found = refusal(file, keys.len(), bits.len());
-    if found != 0 {
-        return Loaded {
-            refusal: found,
-            m: 0,
-            s: 0,
-            n: 0,
-        };
-    }
-    let m = bytes::u8_at(file, 5);
-    let s = bytes::u8_at(file, 6);
-    let n = bytes::u32_at(file, 7);
-    records::read(layout::width(s), file, n as usize, keys, bits);
-    Loaded {
-        refusal: 0,
-        m: m as u64,
-        s: s as u64,
-        n: n as u64,
-    }
+    let head = accept(file, keys.len(), bits.len())?;
+    records::read(layout::width(head.s), file, head.n, keys, bits);
+    Ok(head)
 }

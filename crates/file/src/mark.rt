@@ -1,30 +1,20 @@
-// The mark of a file: the fixed byte string HLQ, written by store and compared by load.
-ghost use Rattle.std.specs.Prelude.{◌≡◌, ◌≤◌, length};
+// The mark of a file: its first three bytes, by which its kind is known. Store writes it and load compares it.
+ghost use Rattle.std.specs.Prelude.{◌≡◌, ◌≤◌, not, length, take};
 ghost use Rattle.std.proofs.lemmas.List.Edits.{sets};
-ghost use Rattle.definitions.specs.File.{mark, wrong_mark};
+ghost use Rattle.definitions.specs.File.{same_bytes};
 
-const MARK: [u8; 3] = *b"HLQ";
+// The mark of a list's file.
+pub const LIST: [u8; 3] = *b"HLQ";
 
-pub fn write_mark(file: &mut [u8])
+pub fn write_mark(mark: [u8; 3], file: &mut [u8])
     requires { 3 ≤ length file.old }
     ensures { file.new ≡ sets file.old 0 mark }
 {
-    let mark = MARK;
-    file[0] = mark[0];
-    file[1] = mark[1];
-    file[2] = mark[2];
+    file[..3].copy_from_slice(&mark);
 }
 
-pub fn is_wrong(file: &[u8]) -> bool
-    requires { 3 ≤ length file.now }
-    ensures { result ≡ wrong_mark file.now }
+pub fn is_wrong(mark: [u8; 3], file: &[u8]) -> bool
+    ensures { result ≡ not (same_bytes (take 3 file.now) mark) }
 {
-    let mark = MARK;
-    if file[0] != mark[0] {
-        return true;
-    }
-    if file[1] != mark[1] {
-        return true;
-    }
-    file[2] != mark[2]
+    !file.starts_with(&mark)
 }

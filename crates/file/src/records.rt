@@ -1,25 +1,22 @@
 // The records of a file, all written and all read.
-ghost use Rattle.std.specs.Prelude.{◌≡◌};
+ghost use Rattle.std.specs.Prelude.{◌≡◌, length};
 ghost use Rattle.std.proofs.lemmas.List.Edits.{sets};
-ghost use Rattle.definitions.specs.Read.{records_of};
 ghost use Rattle.definitions.specs.Buffer.{over};
 ghost use Rattle.definitions.specs.File.{head_length, bytes_of_records};
-ghost use Rattle.file.specs.Layout.{keys_at, values_at};
+ghost use Rattle.list.specs.Taken.{records_listed};
+ghost use Rattle.file.specs.Layout.{keys_at, values_at, RecordsFit};
 ghost use Rattle.file.specs.Room.{RoomFor};
 
 use crate::layout;
+use list::accepted_list::Accepted;
 
-// The first n records of two slices become bytes.
-pub fn write_records(width: usize, keys: &[u32], bits: &[u32], n: usize, file: &mut [u8])
-    requires { RoomFor width n keys.now bits.now file.old }
-    ensures { file.new ≡ sets file.old head_length (bytes_of_records width (records_of keys.now bits.now n)) }
+// The records of a list become bytes.
+pub fn write_records(width: usize, list: &Accepted<'_>, file: &mut [u8])
+    requires { RecordsFit width (length list.now.keys.now) file.old }
+    ensures { file.new ≡ sets file.old head_length (bytes_of_records width (records_listed list.now)) }
 {
-    let mut i = 0;
-    while i < n {
-        let key = keys[i];
-        let value = bits[i];
-        layout::put_record(key, value, file, width, i);
-        i += 1;
+    for i in 0..list.keys.len() {
+        layout::put_record(list.keys[i], list.bits[i], file, width, i);
     }
 }
 
@@ -29,10 +26,8 @@ pub fn read(width: usize, file: &[u8], n: usize, keys: &mut [u32], bits: &mut [u
     ensures keys_after { keys.new ≡ over (keys_at width n file.now) keys.old }
     ensures bits_after { bits.new ≡ over (values_at width n file.now) bits.old }
 {
-    let mut i = 0;
-    while i < n {
+    for i in 0..n {
         keys[i] = layout::key_at(file, width, i);
         bits[i] = layout::bits_at(file, width, i);
-        i += 1;
     }
 }

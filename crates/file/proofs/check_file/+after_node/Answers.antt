@@ -78,12 +78,6 @@ returns-then-next-eq0 t c =
     (sym a.has_one_slot.ensures ∙ not-true _ c.if-not-has_one_slot.true-raw)
     _ c.if-next-eq0.true after
 
-pub overflow_add-digit : goal.overflow_add-digit
-overflow_add-digit t c = omega (arith, c.loop-digit-test.true)
-
-pub loop-digit-smaller : goal.loop-digit-smaller
-loop-digit-smaller t c = omega (arith, c.loop-digit-test.true)
-
 pub loop-digit-preserved : goal.loop-digit-preserved
 loop-digit-preserved t c =
     let a = c in

@@ -95,12 +95,6 @@ overflow_add-next c =
     let h = there t.loop-digit.invariant t.loop-digit-test.true in
     omega arith
 
-pub overflow_add-digit : goal.overflow_add-digit
-overflow_add-digit c = omega (arith, (turn c.before.before.before).loop-digit-test.true)
-
-pub loop-digit-smaller : goal.loop-digit-smaller
-loop-digit-smaller c = omega (arith, (turn c.before.before.before).loop-digit-test.true)
-
 pub loop-digit-preserved : goal.loop-digit-preserved
 loop-digit-preserved c =
     let b = c.before.before.before in
