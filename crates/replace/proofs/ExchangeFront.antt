@@ -32,9 +32,10 @@ pub record Fronting (keys₀ bits₀ : List ℕ) (at key low levels g v : ℕ) (
 
 -- at the start all of them are
 pub front_begins : (keys bits : List ℕ) (at key low levels g v wide : ℕ) → wide ≡ 5 ^ (low + levels)
-    → Fronting keys bits at key low levels g v keys bits levels wide at
+    → Fronting keys bits at key low levels g v keys bits (levels - 0) wide at
 front_begins keys bits at key low levels g v wide e =
-    record { within = omega arith; power = e; keys_size = refl; bits_size = refl; end = refl; in_keys = refl; in-bits = refl }
+    let all : levels - 0 ≡ levels = omega arith in
+    rw all (record { within = omega arith; power = e; keys_size = refl; bits_size = refl; end = refl; in_keys = refl; in-bits = refl })
 
 -- what a turn's numbers are: the parent of the block of height h, its step and its quadrant
 pub record TurnLevel (key h wide step place : ℕ) (keys bits : List ℕ) (size : ℕ) : Type 0 where
@@ -135,6 +136,10 @@ module _ {keys₀ bits₀ : List ℕ} {at key low levels g v : ℕ} {keys bits :
             ∙ ap (λ s. sets bits place (values_of s)) all
             ∙ p.in-bits;
       }
+
+  -- one more is done
+  pub front_done : (done : ℕ) → left ≡ levels - done - 1 → Fronting keys₀ bits₀ at key low levels g v keys bits (levels - (done + 1)) wide place
+  front_done done e = let same : levels - (done + 1) ≡ left = omega arith in rw same p
 
   -- none is left: all are written
   pub front_ends : left ≤ 0 → WroteFrom (front key g v low levels) at keys₀ bits₀ keys bits place

@@ -7,13 +7,13 @@ use mathlib.Core.List.{List}
 use native.Mathlib.Nat.{pow-suc, div-mul-le_self}
 use native.Mathlib.Omega.{arith}
 use lib.ListN.{length, get_or, take}
-use lib.Seq.{get_or-take}
+use lib.Seq.{get_or-take, take-length, length-take-le}
 use lib.Bits.{bit_or}
 use borrow.Author.Tests.{eq-eqb, ne_eqb}
 use Rattle.keys.specs.Key.{child_key}
 use Rattle.definitions.specs.Bits.{union_of_four}
 use Rattle.definitions.specs.List.{Record}
-use Rattle.definitions.specs.Read.{records_of}
+use Rattle.definitions.specs.Read.{paired, records_of}
 use Rattle.definitions.specs.Standing.{place_of}
 use Rattle.laws.proofs.Slots.{same_four}
 use Rattle.list.specs.Sorted.{Sorted}
@@ -41,6 +41,42 @@ module _ (keys bits : List ℕ) (n x : ℕ) (fits : n ≤ length keys) (room : n
 -- it is one of the n
 pub place_there : {keys : List ℕ} {n x : ℕ} → Sorted keys n x → (place : ℕ) → place ≡ place_among x (take n keys) → place < n
 place_there s place is = let h = place-below s in omega arith
+
+-- of all keys of a slice
+pub place_among_first : (keys : List ℕ) (x : ℕ) {place : ℕ} → place ≡ place_among x keys → place ≡ place_among x (take (length keys) keys)
+place_among_first keys x is = is ∙ ap (place_among x) (sym (take-length keys))
+
+-- the same where the keys are all of a slice
+module _ (keys bits : List ℕ) (x : ℕ) (room : length keys ≤ length bits) (s : Sorted keys (length keys) x) {place : ℕ} (is : place ≡ place_among x keys) where
+  pub place_inside : place < length keys
+  place_inside = place_there s place (place_among_first keys x is)
+
+  pub bits_found : get_or bits place 0 ≡ block_bits x (records_of keys bits (length keys))
+  bits_found = bits_read keys bits (length keys) x s.ascends.room room place (place_among_first keys x is) place_inside
+
+-- the first of the keys of a slice as a slice of their own
+module _ {keys : List ℕ} {n : ℕ} (s : Sorted keys n 0) where
+  pub first_length : length (take n keys) ≡ n
+  first_length = length-take-le n keys s.ascends.room
+
+  -- are in order
+  pub first_sorted : Sorted (take n keys) (length (take n keys)) 0
+  first_sorted =
+      let size = first_length in
+      let some = s.some in
+      let at : (i : ℕ) → i < n → get_or (take n keys) i 0 ≡ get_or keys i 0 = λ i h. get_or-take n keys i 0 h in
+      record {
+        ascends = record {
+          room = omega arith;
+          ascend = λ i j h k. let a = at i (omega arith) in let b = at j (omega arith) in let o = s.ascends.ascend i j h (omega arith) in omega arith;
+        };
+        some = omega arith;
+        first = let a = at 0 (omega arith) in let f = s.first in omega arith;
+      }
+
+  -- and the records are the same
+  pub first_records : (bits : List ℕ) → records_of (take n keys) bits (length (take n keys)) ≡ records_of keys bits n
+  first_records bits = ap (records_of (take n keys) bits) first_length ∙ ap (λ k. paired k (take n bits)) (ap (λ i. take i (take n keys)) (sym first_length) ∙ take-length (take n keys))
 
 -- the bits of a child: those in hand for the block itself
 pub child_own : (l : List Record) (own b x : ℕ) → x ≡ own → b ≡ child_bits l own b x

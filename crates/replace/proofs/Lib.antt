@@ -31,6 +31,7 @@ pub mod PlanTop
 pub mod PlanPlaces
 -- the code that exchanges the records
 pub mod ExchangeLevel
+pub mod ExchangeLeaves
 pub mod ExchangeFront
 pub mod ExchangeBack
 pub mod ExchangeFilling

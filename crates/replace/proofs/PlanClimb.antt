@@ -37,10 +37,12 @@ module _ {m : ℕ} {l : List Record} {key b low height step : ℕ} (p : Climbing
   levels h = omega arith
 
   -- at the root it ends
-  pub climb_done : m ≤ height → height ≡ climb l key b (m - low) low
+  pub climb_done : m ≤ height → m ≡ climb l key b (m - low) low
   climb_done h =
+      let w = p.within in
       let e : m - height ≡ 0 = omega arith in
-      sym (p.left ∙ ap (λ n. climb l key b n height) e ∙ climb_zero l key b height)
+      let same : m ≡ height = omega arith in
+      same ∙ sym (p.left ∙ ap (λ n. climb l key b n height) e ∙ climb_zero l key b height)
 
   -- the parent's bits, as they were found
   module _ (h : height < m) (parent : ℕ) (found : parent ≡ wider_bits l key b step) where

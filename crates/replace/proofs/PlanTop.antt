@@ -1,10 +1,11 @@
 -- The plan that the code finds is the model's for every content of which it was told the truth, and so is the length afterwards. Rests on Bounds.
 use Prim.Native.Nat.{ℕ, ◌+◌, ◌-◌, ◌*◌, ◌≤◌}
-use mathlib.Core.Path.{◌≡◌, sym, ◌∙◌, ap, ap₂}
+use mathlib.Core.Path.{◌≡◌, refl, sym, ◌∙◌, ap, ap₂}
 use mathlib.Core.Bool.{Bool, true, false, cond}
 use mathlib.Core.List.{List}
 use native.Mathlib.Omega.{arith}
 use lib.ListN.{length}
+use Rattle.std.specs.Prelude.{Option, None, Some}
 use Rattle.keys.specs.Key.{height_of}
 use Rattle.keys.proofs.Cases.{decide}
 use Rattle.keys.proofs.Powers.{height_le}
@@ -13,7 +14,7 @@ use Rattle.definitions.specs.Read.{records_of}
 use Rattle.list.specs.Own.{OwnList}
 use Rattle.list.proofs.Own.{own-length}
 use Rattle.replace.specs.Climb.{climb}
-use Rattle.replace.specs.Put.{is_one_record, first_bits, top_of, top_for, plan_at, plan_of, length_after}
+use Rattle.replace.specs.Put.{is_one_record, first_bits, top_of, top_for, top_with, one_told, plan_at, plan_of, length_after}
 use Rattle.replace.specs.declared.plan.Plan.{Plan}
 use Rattle.replace.proofs.Bounds.{climb_bounds}
 
@@ -47,6 +48,16 @@ pub plan_for : (m : ℕ) (l : List Record) (κ : ℕ) (content : List Record) (l
     → plan_at m l κ (top_for m l κ leaf b) ≡ plan_of m l κ content
 unfolding plan_of top_of
 plan_for m l κ content leaf b e f = ap₂ (λ t x. plan_at m l κ (top_for m l κ t x)) (sym e) (sym f)
+
+-- by what is told of it
+pub plan_with : (m : ℕ) (l : List Record) (κ : ℕ) (content : List Record) (one : Option ℕ) → one ≡ one_told content
+    → plan_at m l κ (top_with m l κ one) ≡ plan_of m l κ content
+plan_with m l κ content one e =
+    decide (is_one_record content)
+    (λ t. let told : one_told content ≡ Some (first_bits content) = rw t in
+    rw (e, told) (plan_for m l κ content true (first_bits content) t refl))
+    (λ f. let told : one_told content ≡ None = rw f in
+    rw (e, told) (ap (plan_at m l κ) (sym (top_own m l κ 0 false refl) ∙ top_own m l κ (first_bits content) false refl) ∙ plan_for m l κ content false (first_bits content) f refl))
 
 -- an accepted list has as many records as it says
 pub records-length : {m n : ℕ} {keys bits : List ℕ} → OwnList m keys bits n → length (records_of keys bits n) ≡ n

@@ -4,7 +4,7 @@ use Prim.Native.Nat.{ℕ, ◌+◌, ◌-◌, ◌*◌, ◌^◌, ◌≤◌, ◌<◌
 use mathlib.Core.Path.{◌≡◌, sym, ◌∙◌, ap, ap₂, subst}
 use mathlib.Core.List.{List}
 use native.Mathlib.Omega.{arith}
-use lib.ListN.{length, get_or, replicate, length-map, get_or-append}
+use lib.ListN.{length, get_or, take, replicate, length-map, get_or-append}
 use lib.Seq.{sets}
 use Rattle.keys.specs.Key.{height_of}
 use Rattle.keys.proofs.Powers.{five_le}
@@ -26,6 +26,7 @@ use Rattle.replace.specs.Planting.{Deep}
 use Rattle.replace.specs.Exchanging.{Exchangeable, SlicesHold}
 use Rattle.replace.specs.Putting.{Puttable, Replaced}
 use Rattle.replace.proofs.Bounds.{level, level_digit}
+use Rattle.replace.proofs.FamilyRead.{first_records}
 use Rattle.replace.proofs.ByKeys.{ascending_to}
 use Rattle.replace.proofs.SetBits.{renew_keys, renew-length}
 use Rattle.replace.proofs.Ready.{PlanReady, ready_for}
@@ -211,6 +212,12 @@ module _ {m : ℕ} {keys bits : List ℕ} {n κ : ℕ} {plan : Plan} {content_ke
                 ∙ ap₂ (λ l old. over (values_of l) old) edited_by h.values_are
                 ∙ over_again (values_of (edited m listed κ content)) (values_of (exchanged listed κ content plan)) bits (omega arith);
           }
+
+      -- as the renewing has the keys, which are a slice of their own
+      pub put_renewed : {bits₂ : List ℕ}
+          → bits₂ ≡ over (values_of (renew (records_of (take after keys₁) bits₁ (length (take after keys₁))) κ (get_or bits₁ plan.start 0) (m - (plan.top + plan.levels)) (plan.top + plan.levels))) bits₁
+          → SlicesHold (edited m listed κ content) keys bits keys₁ bits₂
+      put_renewed e = put_held (rw (first_records put_sorted bits₁) at e)
 
     module _ {keys₂ bits₂ : List ℕ} (h : SlicesHold (edited m listed κ content) keys bits keys₂ bits₂) where
       -- a list that is not shorter than before is done

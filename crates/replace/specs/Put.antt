@@ -1,6 +1,6 @@
 -- Putting a content into a block of a list: the plan, the records that are exchanged, and the list afterwards. A model in the code's order:
 -- plan, exchange, renew. Rests on Climb, Plant and Renew.
-use Rattle.std.specs.Prelude.{ℕ, ◌+◌, ◌-◌, ◌*◌, Bool, cond, List, [], ◌∷◌, ◌++◌, length, get_or, take, drop, eqb}
+use Rattle.std.specs.Prelude.{ℕ, ◌+◌, ◌-◌, ◌*◌, Bool, true, false, Option, None, Some, cond, List, [], ◌∷◌, ◌++◌, length, get_or, take, drop, eqb}
 use Rattle.std.specs.Int.Bits.{bit_or}
 use Rattle.keys.specs.Key.{height_of}
 use Rattle.definitions.specs.List.{Record, record_of, keys_of, values_of}
@@ -23,6 +23,22 @@ first_bits content = get_or (values_of content) 0 0
 -- κ's own
 unfoldable pub top_for : ℕ → List Record → ℕ → Bool → ℕ → ℕ
 top_for m l κ leaf b = cond leaf (climb l κ b (m - height_of m κ) (height_of m κ)) (height_of m κ)
+
+-- the same, where the bits are told of a content that is one record
+abbrev pub is_told : Option ℕ → Bool
+is_told None = false
+is_told (Some b) = true
+
+abbrev pub bits_told : Option ℕ → ℕ
+bits_told None = 0
+bits_told (Some b) = b
+
+abbrev pub top_with : ℕ → List Record → ℕ → Option ℕ → ℕ
+top_with m l κ one = top_for m l κ (is_told one) (bits_told one)
+
+-- what is to be told of a content
+abbrev pub one_told : List Record → Option ℕ
+one_told content = cond (is_one_record content) (Some (first_bits content)) None
 
 unfoldable pub top_of : ℕ → List Record → ℕ → List Record → ℕ
 top_of m l κ content = top_for m l κ (is_one_record content) (first_bits content)

@@ -21,13 +21,11 @@ fn write_leaves(
     ensures { (h : ℕ) → step ≡ 5 ^ h
         → WroteFrom (leaves g parent h count first) at keys.old bits.old keys.new bits.new result }
 {
-    let mut done: u32 = 0;
     let mut place = at;
-    while done < count {
-        keys[place] = parent + (first + done) * step;
+    for digit in first..first + count {
+        keys[place] = parent + digit * step;
         bits[place] = g;
         place += 1;
-        done += 1;
     }
     place
 }
@@ -57,10 +55,9 @@ pub fn write_front(
     requires roomy { Roomy (front key g v low levels) at keys.old bits.old }
     ensures { WroteFrom (front key g v low levels) at keys.old bits.old keys.new bits.new result }
 {
-    let mut left = levels;
     let mut wide = power::power_of_five(low + levels);
     let mut place = at;
-    while 0 < left {
+    for _done in 0..levels {
         let step = wide / 5;
         let parent = key / wide * wide;
         let before = quadrant_at(key, step) - 1;
@@ -68,7 +65,6 @@ pub fn write_front(
         bits[place] = v;
         place = write_leaves(keys, bits, place + 1, parent, step, 1, before, g);
         wide = step;
-        left -= 1;
     }
     place
 }
@@ -87,16 +83,14 @@ pub fn write_back(
     requires roomy { Roomy (back key g low levels) at keys.old bits.old }
     ensures { WroteFrom (back key g low levels) at keys.old bits.old keys.new bits.new result }
 {
-    let mut done: u32 = 0;
     let mut step = power::power_of_five(low);
     let mut place = at;
-    while done < levels {
+    for _done in 0..levels {
         let wide = step * 5;
         let parent = key / wide * wide;
         let digit = quadrant_at(key, step);
         place = write_leaves(keys, bits, place, parent, step, digit + 1, 4 - digit, g);
         step = wide;
-        done += 1;
     }
     place
 }

@@ -1,8 +1,10 @@
 // Putting a content into a block of a list, once it is known to fit: exchange, renew, and zeroes in the places given up.
+ghost use Rattle.std.specs.Prelude.{length};
 ghost use Rattle.definitions.specs.Read.{records_of};
 ghost use Rattle.replace.specs.Put.{edited};
 ghost use Rattle.replace.specs.Putting.{Puttable, Replaced};
 
+use crate::content::BlockContent;
 use crate::plan::Plan;
 use crate::{exchange, plan, renewing};
 
@@ -14,26 +16,20 @@ pub fn put(
     n: usize,
     key: u32,
     plan: Plan,
-    content_keys: &[u32],
-    content_bits: &[u32],
-    count: usize,
+    content: &BlockContent<'_>,
 ) -> usize
-    requires { Puttable m keys.old bits.old n key plan content_keys.now content_bits.now count }
+    requires { Puttable m keys.old bits.old n key plan content.now.keys.now content.now.bits.now (length content.now.keys.now) }
     ensures { Replaced n (edited m (records_of keys.old bits.old n) key
-        (records_of content_keys.now content_bits.now count))
+        (records_of content.now.keys.now content.now.bits.now (length content.now.keys.now)))
         keys.old bits.old keys.new bits.new result }
 {
-    let top = plan.top;
-    let start = plan.start;
-    let levels = plan.levels;
-    let after = plan::length_after(n, count, plan);
-    exchange::exchange(keys, bits, n, key, plan, content_keys, content_bits, count);
-    let b = bits[start];
-    renewing::renew(m, keys, bits, after, key, top + levels, b);
-    if n <= after {
-        return after;
+    let after = plan::length_after(n, content.keys.len(), plan);
+    exchange::exchange(keys, bits, n, key, plan, content);
+    let b = bits[plan.start];
+    renewing::renew(m, &keys[..after], bits, key, plan.top + plan.levels, b);
+    if after < n {
+        slices::clear(keys, after, n);
+        slices::clear(bits, after, n);
     }
-    slices::clear(keys, after, n);
-    slices::clear(bits, after, n);
     after
 }

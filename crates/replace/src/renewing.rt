@@ -9,25 +9,23 @@ ghost use Rattle.replace.specs.Renew.{renew as renewal};
 
 use crate::parents;
 use keys::power;
-use list::standing;
+use list::search;
 
 // The block of the given height around key has got the bits b: each block around it gets the union of its four children's. Only the keys must be
 // in order, since the bits of the blocks above are still old while this runs.
-pub fn renew(m: u32, keys: &[u32], bits: &mut [u32], n: usize, key: u32, height: u32, b: u32)
+pub fn renew(m: u32, keys: &[u32], bits: &mut [u32], key: u32, height: u32, b: u32)
     requires m_bound { (m ≤ 10) × (height ≤ m) × (key < all_keys) }
-    requires sorted { Sorted keys.now n 0 }
-    requires n_in_bounds { n ≤ length bits.old }
+    requires sorted { Sorted keys.now (length keys.now) 0 }
+    requires paired { length keys.now ≤ length bits.old }
     ensures { bits.new
-        ≡ over (values_of (renewal (records_of keys.now bits.old n) key b (m - height) height)) bits.old }
+        ≡ over (values_of (renewal (records_of keys.now bits.old (length keys.now)) key b (m - height) height)) bits.old }
 {
-    let mut low = height;
     let mut step = power::power_of_five(height);
     let mut own = b;
-    while low < m {
-        own = parents::parent_bits(keys, bits, n, key, own, step);
-        step = step * 5;
-        low += 1;
-        let place = standing::place(keys, n, key / step * step);
+    for _low in height..m {
+        own = parents::parent_bits(keys, bits, key, own, step);
+        step *= 5;
+        let place = search::place(keys, key / step * step);
         bits[place] = own;
     }
 }

@@ -2,11 +2,7 @@
 use mathlib.Core.Path.{refl}
 use native.Mathlib.Omega.{arith}
 use Rattle.replace.proofs.ExchangeInsert.{insert_front, insert_filling, insert_back, insert_done}
-use borrow.Author.Rules.{rules}
 use Rattle.replace.proofs.exchange.insert.Goals as goal
-
-pub bounds-content_bits-0 : goal.bounds-content_bits-0
-bounds-content_bits-0 c = search rules
 
 pub write_front-at-requires : goal.write_front-at-requires
 write_front-at-requires c = record { deep = c.requires.deep; roomy = insert_front c.requires _ _ }
@@ -24,12 +20,6 @@ overflow_add-at c =
 pub write_back-requires : goal.write_back-requires
 write_back-requires c =
     record { deep = c.requires.deep; roomy = insert_back c.requires _ _ c.write_front-at.ensures c.write_filling.ensures }
-
-pub shape_of-keys : goal.shape_of-keys
-shape_of-keys c = search rules
-
-pub shape_of-bits : goal.shape_of-bits
-shape_of-bits c = search rules
 
 pub returns : goal.returns
 returns c =
