@@ -1,8 +1,8 @@
 -- The counts of one block of an accepted list: counters that were all 0 have the block's counts once its leaf or its node was added. Rests on
 -- CountTurn and list's Shown.
-use Prim.Native.Nat.{ℕ, ◌+◌, ◌^◌, ◌≤◌, ◌<◌}
+use Prim.Native.Nat.{ℕ, zero, suc, ◌+◌, ◌^◌, ◌≤◌, ◌<◌}
 use mathlib.Core.Path.{◌≡◌, refl, sym, ◌∙◌, ap, ap₂}
-use mathlib.Core.Bool.{true, false}
+use mathlib.Core.Bool.{true, false, true≢false}
 use mathlib.Core.List.{List}
 use native.Mathlib.Nat.{pow-le-pow_right}
 use native.Mathlib.Omega.{arith}
@@ -14,7 +14,8 @@ use Rattle.keys.specs.Block.{row_of, column_of}
 use Rattle.keys.proofs.Powers.{height_le}
 use Rattle.keys.specs.Under.{MapBlock}
 use Rattle.keys.proofs.Valid.{valid_block}
-use Rattle.definitions.specs.Picture.{Picture}
+use Rattle.definitions.specs.Picture.{Picture, one_feature}
+use Rattle.laws.proofs.Features.{one_pixel}
 use Rattle.definitions.specs.Bits.{bits_of, feature_of}
 use Rattle.definitions.specs.Area.{pixels_with, counts_of}
 use Rattle.laws.proofs.SummaryOf.{counts-length, count_of}
@@ -23,7 +24,7 @@ use Rattle.list.specs.Own.{OwnList, shown_by}
 use Rattle.list.specs.Among.{place_among}
 use Rattle.list.specs.Shown.{ShownAt}
 use Rattle.list.proofs.Own.{own_place, own_bits}
-use Rattle.list.proofs.Shown.{slot_one, slot_several, shown_feature, block_shown}
+use Rattle.list.proofs.Shown.{slot_one, slot_several, shown_feature, block_shown, node_several}
 use Rattle.summary.specs.Count.{with_pixels, CountersFit, NodeAt, NodeCounted}
 use Rattle.summary.proofs.CountTurn.{added-length, leaf_added, shown_node, shown_counted}
 
@@ -89,3 +90,24 @@ module _ {m : ℕ} {keys bits : List ℕ} {n : ℕ} (o : OwnList m keys bits n) 
       node_counts counts next x =
           raised (shown_by m keys bits n) (height_of m key) (row_of m key) (column_of m key) counts (x.long ∙ length-replicate {A = ℕ} 32 0)
           (shown_counted x shown slots pixels).counts
+
+      -- so are counters that are known to have the pixels of whichever node stands there
+      module _ (counts : List ℕ) (long : length counts ≡ 32)
+          (known : (p : Picture) (k r c κ : ℕ)
+          → ShownAt p (suc k) r c κ bits found
+          → one_feature p (suc k) r c ≡ false
+          → area ≡ 4 ^ suc k
+          → (f : ℕ)
+          → f < 32
+          → get_or counts f 0 ≡ pixels_with p (suc k) r c f) where
+        of_node : (p : Picture) (k r c κ : ℕ) → ShownAt p k r c κ bits found → one_feature p k r c ≡ false → area ≡ 4 ^ k → (f : ℕ) → f < 32
+            → get_or counts f 0 ≡ pixels_with p k r c f
+        of_node p zero r c κ s more e f h = absurd (true≢false (sym (one_pixel p r c) ∙ more))
+        of_node p (suc k) r c κ s more e f h = known p k r c κ s more e f h
+
+        pub row_counts : counts ≡ counts_of 32 (shown_by m keys bits n) (height_of m key) (row_of m key) (column_of m key)
+        row_counts =
+            raised (shown_by m keys bits n) (height_of m key) (row_of m key) (column_of m key) counts long
+            (λ f h. let e = of_node _ _ _ _ _ shown (node_several shown slots) pixels f h in
+            let z = get_or-replicate {A = ℕ} 32 f 0 0 h in
+            omega arith)

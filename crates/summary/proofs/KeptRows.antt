@@ -14,7 +14,7 @@ use Rattle.list.specs.Check.{one_slot}
 use Rattle.list.proofs.Turn as check
 use Rattle.std.specs.Prelude.{Option, Some, None}
 use Rattle.summary.specs.declared.kept.KeptBlock.{KeptBlock}
-use Rattle.summary.specs.Count.{CountersFit}
+use Rattle.summary.specs.Count.{CountersFit, NodeCounted}
 use Rattle.summary.specs.Pass.{OneHeight, PassAsked, PassAnswered}
 use Rattle.summary.specs.Kept.{RowKept, RowsKept, SharedArea, KeepingAsked, KeepingAnswered}
 
@@ -47,6 +47,19 @@ child_shared step area share s many = go s.up s.blocks s.steps
         let b = pow-suc 5 (u + suc s.height) in
         let steps : step ≡ 5 ^ suc (u + suc s.height) = f ∙ ap (λ x. 5 ^ x) (omega arith) in
         (record { up = u; height = s.height; blocks = omega arith; steps = omega arith; pixels = s.pixels; small = s.small }, omega arith)
+
+-- counters that were all 0 have counted a node
+pub counted_row : {B : List ℕ} {at area : ℕ} {counts : List ℕ} {next : ℕ} → one_slot (get_or B at 0) ≡ false
+    → NodeCounted B at area (replicate 32 0) counts next
+    → RowKept B area at counts
+counted_row several x = record {
+  several = several;
+  long = x.long ∙ length-replicate {A = ℕ} 32 0;
+  counted = λ p k r c κ shown more pixels f h.
+      let e = (x.holds p k r c κ shown more pixels).counts f h in
+      let z = get_or-replicate {A = ℕ} 32 f 0 0 h in
+      omega arith;
+}
 
 -- one block more is kept
 pub kept_more : {B : List ℕ} {area : ℕ} {kept : List (Option KeptBlock)} (b : ℕ) (block : KeptBlock) → RowsKept B area kept → b < 16
@@ -81,7 +94,7 @@ module _ {K B : List ℕ} {kept : List (Option KeptBlock)} {at key own step area
       some = λ found e. (x.counted found e).0;
       checked = x.checked;
       holds = kept_more b (record { place = at; counts = counts }) asked.holds (let h = asked.most in omega arith)
-          (record { several = ap one_slot (sym asked.node.own_is) ∙ asked.node.several; next = place; counted = (x.counted place refl).1 });
+          (counted_row (ap one_slot (sym asked.node.own_is) ∙ asked.node.several) (x.counted place refl).1);
     }
 
 -- before the turn of a digit: the children before it have been checked, and their blocks are kept

@@ -1,18 +1,26 @@
 -- What the pass over a list keeps of the blocks of a summary: for each block that is a node, where it stands and what was counted there. Only
 -- contracts need it; proofs/KeptRows.antt has its laws.
-use Rattle.std.specs.Prelude.{ℕ, suc, ◌+◌, ◌^◌, ◌≤◌, ◌<◌, ◌≡◌, false, List, length, get_or, drop, replicate, Option, Some, None, unwrap_or}
+use Rattle.std.specs.Prelude.{ℕ, suc, ◌+◌, ◌^◌, ◌≤◌, ◌<◌, ◌≡◌, false, List, length, get_or, drop, Option, Some, None, unwrap_or}
 use Rattle.keys.specs.Key.{root_key}
+use Rattle.definitions.specs.Picture.{Picture, one_feature}
 use Rattle.definitions.specs.Read.{paired}
+use Rattle.definitions.specs.Area.{pixels_with}
 use Rattle.list.specs.Check.{one_slot, rest_place, after_node, step_under}
+use Rattle.list.specs.Shown.{ShownAt}
 use Rattle.summary.specs.declared.kept.KeptBlock.{KeptBlock}
-use Rattle.summary.specs.Count.{NodeCounted}
 use Rattle.summary.specs.Pass.{NodeThere}
 
--- counters that were all 0 have counted the node at a place
+-- 32 counters have the pixels of the node at a place, whichever block the bitstrings show there
 pub record RowKept (bits : List ℕ) (area at : ℕ) (counts : List ℕ) : Type 0 where
   pub several : one_slot (get_or bits at 0) ≡ false
-  pub next : ℕ
-  pub counted : NodeCounted bits at area (replicate 32 0) counts next
+  pub long : length counts ≡ 32
+  pub counted : (p : Picture) (k r c κ : ℕ)
+      → ShownAt p (suc k) r c κ bits at
+      → one_feature p (suc k) r c ≡ false
+      → area ≡ 4 ^ suc k
+      → (f : ℕ)
+      → f < 32
+      → get_or counts f 0 ≡ pixels_with p (suc k) r c f
 
 -- of each of sixteen blocks, if something is kept of it, its place and its counts are
 pub record RowsKept (bits : List ℕ) (area : ℕ) (kept : List (Option KeptBlock)) : Type 0 where

@@ -1,4 +1,5 @@
 pub mod Count
+pub mod Counts
 pub mod Pass
 pub mod Kept
 pub mod Renew

@@ -1,20 +1,21 @@
 // The blocks of a summary: how many there are and how long it is, how many pixels each block has, their keys, and their counts.
 ghost use Rattle.std.specs.Prelude.{◌≡◌, ◌≤◌, ◌<◌, ◌^◌, length, eqb};
-ghost use Rattle.keys.specs.Block.{row_of, column_of};
-ghost use Rattle.definitions.specs.Area.{summary_level, summary_height, summary_length, block_key, counts_of};
-ghost use Rattle.list.specs.Own.{OwnList, shown_by};
+ghost use Rattle.definitions.specs.Area.{summary_level, summary_height, summary_length, block_key};
+ghost use Rattle.summary.specs.Counts.{block_counts};
 
 use crate::count;
 use keys::power;
+use list::accepted_list::Accepted;
 
 // All blocks of level 2, or of level m if m is smaller.
 pub fn number_of(m: u32) -> usize
     ensures { result ≡ 4 ^ summary_level m }
 {
-    if m == 0 {
-        return 1;
+    match m {
+        0 => 1,
+        1 => 4,
+        _ => 16,
     }
-    if m == 1 { 4 } else { 16 }
 }
 
 // The pixels of each block.
@@ -46,14 +47,13 @@ pub fn key_of(m: u32, b: usize) -> u32
 }
 
 // The counts of block number b.
-pub fn counts_of(m: u32, keys: &[u32], bits: &[u32], n: usize, b: usize) -> [u32; 32]
-    requires own_list { OwnList m keys.now bits.now n }
-    requires m_bound { (m ≤ 10) × (b < 4 ^ summary_level m) }
-    ensures { result ≡ counts_of 32 (shown_by m keys.now bits.now n) (summary_height m) (row_of m (block_key m b)) (column_of m (block_key m b)) }
+pub fn counts_of(list: &Accepted<'_>, b: usize) -> [u32; 32]
+    requires { b < 4 ^ summary_level list.now.m }
+    ensures { result ≡ block_counts list.now b }
 {
-    let key = key_of(m, b);
-    let area = area_of(m);
-    count::count_block(m, keys, bits, n, key, area)
+    let key = key_of(list.m, b);
+    let area = area_of(list.m);
+    count::count_block(list, key, area)
 }
 
 // There are as many places as a summary has.

@@ -1,15 +1,16 @@
 // The pixel counts of one block of a list: one pass over the bitstrings of its records. One slot is a leaf, which adds its area to one counter;
 // else four children follow.
-ghost use Rattle.std.specs.Prelude.{◌≡◌, true, ◌+◌, ◌^◌, ◌≤◌, ◌<◌};
+ghost use Rattle.std.specs.Prelude.{◌≡◌, true, ◌+◌, ◌^◌, ◌<◌};
 ghost use Rattle.keys.specs.Key.{valid_key, height_of};
 ghost use Rattle.keys.specs.Block.{row_of, column_of};
 ghost use Rattle.definitions.specs.Bits.{feature_of};
 ghost use Rattle.definitions.specs.Area.{counts_of};
 ghost use Rattle.list.specs.Check.{one_slot};
-ghost use Rattle.list.specs.Own.{OwnList, shown_by};
+ghost use Rattle.list.specs.Taken.{picture_listed};
 ghost use Rattle.summary.specs.Count.{with_pixels, CountersFit, NodeAt, NodeCounted};
 
-use list::{check, feature, standing as search};
+use list::accepted_list::Accepted;
+use list::{check, feature};
 
 // A leaf adds its area to the counter of its feature.
 pub fn count_leaf(counts: &mut [u32; 32], bits: u32, area: u32)
@@ -78,18 +79,17 @@ fn count_node(bits: &[u32], counts: &mut [u32; 32], at: usize, area: u32) -> usi
 
 // The counts of a block of the list, of all 32 features that a bitstring has a slot for. Where the block is a leaf, or lies inside one, its pixels
 // have one feature.
-pub fn count_block(m: u32, keys: &[u32], bits: &[u32], n: usize, key: u32, area: u32) -> [u32; 32]
-    requires own_list { OwnList m keys.now bits.now n }
-    requires m_bound { (m ≤ 10) × (valid_key m key ≡ true) × (area ≡ 4 ^ height_of m key) }
-    ensures { result ≡ counts_of 32 (shown_by m keys.now bits.now n) (height_of m key) (row_of m key) (column_of m key) }
+pub fn count_block(list: &Accepted<'_>, key: u32, area: u32) -> [u32; 32]
+    requires { (valid_key list.now.m key ≡ true) × (area ≡ 4 ^ height_of list.now.m key) }
+    ensures { result ≡ counts_of 32 (picture_listed list.now) (height_of list.now.m key) (row_of list.now.m key) (column_of list.now.m key) }
 {
     let mut counts = [0u32; 32];
-    let place = search::place(keys, n, key);
-    let own = bits[place];
+    let place = list.place(key);
+    let own = list.bits[place];
     if check::has_one_slot(own) {
         count_leaf(&mut counts, own, area);
     } else {
-        let end = count_node(bits, &mut counts, place, area);
+        let _end = count_node(list.bits, &mut counts, place, area);
     }
     counts
 }

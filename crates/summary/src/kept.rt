@@ -1,17 +1,13 @@
 // The counts that the pass over a list keeps on its way: of each block of the summary that is a node, where it stands and what was counted there.
-ghost use Rattle.std.specs.Prelude.{◌≡◌, true, ◌≤◌, ◌<◌, ◌^◌, take};
+ghost use Rattle.std.specs.Prelude.{◌≡◌, true, ◌≤◌, ◌^◌, take, is_some, IfSome};
 ghost use Rattle.keys.specs.Key.{slot_limit};
-ghost use Rattle.keys.specs.Block.{row_of, column_of};
 ghost use Rattle.definitions.specs.Read.{is_list};
-ghost use Rattle.definitions.specs.Area.{summary_level, summary_height, block_key, counts_of};
-ghost use Rattle.list.specs.First.{first_refusal};
-ghost use Rattle.list.specs.Own.{OwnList, shown_by};
+ghost use Rattle.definitions.specs.Area.{summary_height};
 ghost use Rattle.summary.specs.Kept.{RowsKept, KeepingAsked, KeepingAnswered, FirstNode};
 
 use crate::{blocks, pass};
-use definitions::refusal::Refusal;
 use keys::{Key, power};
-use list::{check, settings, standing as search};
+use list::check;
 
 // What the pass counted of a block of the summary that is a node, and the place of the block's own record.
 #[derive(Clone, Copy)]
@@ -98,34 +94,34 @@ fn begins_node(s: u32, keys: &[u32], bits: &[u32], n: usize) -> bool
     keys[0] == Key::ROOT && power::slots_below(own, s) && !check::has_one_slot(own)
 }
 
-// The first n records are there, and are a raster's list at m and s. What is counted on the way is kept, at m of 4 and more: then a block of the
-// summary has sixteen pixels or more, as the pass asks.
-pub fn is_list(
+// Whether the first n records are there, and are a raster's list at m and s: if so, what is counted of it on the way. That is something at m of 4 and more:
+// then a block of the summary has sixteen pixels or more, as the pass asks.
+pub fn check_list(
     m: u32,
     s: u32,
     keys: &[u32],
     bits: &[u32],
     n: usize,
-    kept: &mut [Option<KeptBlock>; 16],
-) -> bool
-    requires m_bound { (m ≤ 10) × (s ≤ slot_limit) }
-    requires rows_kept { RowsKept (take n bits.now) (4 ^ summary_height m) kept.old }
-    ensures value { result ≡ is_list m s keys.now bits.now n }
-    ensures rows_kept_2 { RowsKept (take n bits.now) (4 ^ summary_height m) kept.new }
+) -> Option<[Option<KeptBlock>; 16]>
+    requires { (m ≤ 10) × (s ≤ slot_limit) }
+    ensures checked { is_some result ≡ is_list m s keys.now bits.now n }
+    ensures known { IfSome result (RowsKept (take n bits.now) (4 ^ summary_height m)) }
 {
-    if m < 4 {
-        return check::is_list(m, s, keys, bits, n);
-    }
-    if !begins_node(s, keys, bits, n) {
-        return check::is_list(m, s, keys, bits, n);
+    let mut kept: [Option<KeptBlock>; 16] = [None; 16];
+    if m < 4 || !begins_node(s, keys, bits, n) {
+        return if check::is_list(m, s, keys, bits, n) {
+            Some(kept)
+        } else {
+            None
+        };
     }
     let own = bits[0];
     let step = power::power_of_five(m - 1);
     let area = blocks::area_of(m);
-    keep_blocks(
+    let end = keep_blocks(
         &keys[..n],
         &bits[..n],
-        kept,
+        &mut kept,
         0,
         Key::ROOT,
         own,
@@ -133,49 +129,6 @@ pub fn is_list(
         area,
         0,
         16,
-    ) == Some(n)
-}
-
-// Refusals 1 and 4, or 0: what every call that asks a list does first.
-pub fn list_refusal(
-    m: u32,
-    s: u32,
-    keys: &[u32],
-    bits: &[u32],
-    n: usize,
-    kept: &mut [Option<KeptBlock>; 16],
-) -> u64
-    requires { RowsKept (take n bits.now) (4 ^ summary_height m) kept.old }
-    ensures value { result ≡ first_refusal m s keys.now bits.now n }
-    ensures rows_kept { RowsKept (take n bits.now) (4 ^ summary_height m) kept.new }
-{
-    if settings::are_bad(m, s) {
-        return Refusal::SETTINGS;
-    }
-    if !is_list(m, s, keys, bits, n, kept) {
-        return Refusal::LIST;
-    }
-    0
-}
-
-// The counts of block number b: those that are kept, or else its records are counted.
-pub fn counts_of(
-    m: u32,
-    keys: &[u32],
-    bits: &[u32],
-    n: usize,
-    b: usize,
-    kept: &[Option<KeptBlock>; 16],
-) -> [u32; 32]
-    requires own_list { OwnList m keys.now bits.now n }
-    requires m_bound { (m ≤ 10) × (b < 4 ^ summary_level m) × RowsKept (take n bits.now) (4 ^ summary_height m) kept.now }
-    ensures { result ≡ counts_of 32 (shown_by m keys.now bits.now n) (summary_height m) (row_of m (block_key m b)) (column_of m (block_key m b)) }
-{
-    if let Some(block) = kept[b] {
-        let key = blocks::key_of(m, b);
-        if search::place(keys, n, key) == block.place {
-            return block.counts;
-        }
-    }
-    blocks::counts_of(m, keys, bits, n, b)
+    )?;
+    if end == n { Some(kept) } else { None }
 }

@@ -5,6 +5,10 @@ pub mod blocks;
 pub mod calls;
 pub mod check;
 pub mod count;
+pub mod counted_list;
+pub mod counting;
 pub mod kept;
 pub mod pass;
 pub mod renew;
+
+pub use check::accept;

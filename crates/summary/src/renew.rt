@@ -1,66 +1,65 @@
 // Counting into a summary: all blocks, or those from one number to another.
-ghost use Rattle.std.specs.Prelude.{◌≡◌, ◌^◌, ◌≤◌, length, take};
+ghost use Rattle.std.specs.Prelude.{◌≡◌, ℕ, ◌^◌, ◌≤◌, ◌<◌, length};
 ghost use Rattle.keys.specs.Key.{slot_limit};
-ghost use Rattle.definitions.specs.Area.{summary_height, summary_of, summary_length};
-ghost use Rattle.list.specs.Own.{OwnList, shown_by};
-ghost use Rattle.summary.specs.Kept.{RowsKept};
+ghost use Rattle.definitions.specs.Area.{summary_level, summary_of, summary_length};
+ghost use Rattle.list.specs.Taken.{picture_listed};
+ghost use Rattle.summary.specs.Counts.{block_counts};
 ghost use Rattle.summary.specs.Renew.{blocks_renewed, Renewable};
 
-use crate::kept::KeptBlock;
-use crate::{blocks, kept};
-use slices;
+use crate::blocks;
+use crate::counted_list::CountedList;
+use list::accepted_list::Accepted;
 
-// The blocks from one number on, to another that is not among them, are counted anew; the places of all others stay.
-pub fn renew(
-    m: u32,
+// The blocks from one number on, to another that is not among them, become what `counts` gives of them; the places of all others stay.
+fn write_blocks<F: Fn(usize) -> [u32; 32]>(
+    list: &Accepted<'_>,
     s: u32,
-    keys: &[u32],
-    bits: &[u32],
-    n: usize,
     summary: &mut [u32],
     from: usize,
     until: usize,
+    counts: F,
 )
-    requires own_list { OwnList m keys.now bits.now n }
-    requires renewable { Renewable m s from until summary.old }
-    ensures { summary.new ≡ blocks_renewed m s (shown_by m keys.now bits.now n) from until summary.old }
+    requires renewable { Renewable list.now.m s from until summary.old }
+    requires askable { (b : ℕ) → b < 4 ^ summary_level list.now.m → F.pre counts b }
+    requires right { (b : ℕ) (row : _) → b < 4 ^ summary_level list.now.m → F.post counts b row → row ≡ block_counts list.now b }
+    ensures { summary.new ≡ blocks_renewed list.now.m s (picture_listed list.now) from until summary.old }
 {
     let slots = s as usize;
     for b in from..until {
-        let counts = blocks::counts_of(m, keys, bits, n, b);
-        slices::copy(&counts, 0, slots, summary, b * slots);
+        let row = counts(b);
+        slices::copy(&row, 0, slots, summary, b * slots);
     }
+}
+
+// They are counted anew.
+pub fn renew(list: &Accepted<'_>, s: u32, summary: &mut [u32], from: usize, until: usize)
+    requires { Renewable list.now.m s from until summary.old }
+    ensures { summary.new ≡ blocks_renewed list.now.m s (picture_listed list.now) from until summary.old }
+{
+    let counts = |b: usize|
+        requires { b < 4 ^ summary_level list.now.m }
+        ensures { result ≡ block_counts list.entry.now b }
+    { blocks::counts_of(list, b) };
+    write_blocks(list, s, summary, from, until, counts);
 }
 
 // Every place is written.
-pub fn fill(m: u32, s: u32, keys: &[u32], bits: &[u32], n: usize, summary: &mut [u32])
-    requires own_list { OwnList m keys.now bits.now n }
-    requires m_bound { (m ≤ 10) × (s ≤ slot_limit) × (length summary.old ≡ summary_length m s) }
-    ensures { summary.new ≡ summary_of m s (shown_by m keys.now bits.now n) }
+pub fn fill(list: &Accepted<'_>, s: u32, summary: &mut [u32])
+    requires { (s ≤ slot_limit) × (length summary.old ≡ summary_length list.now.m s) }
+    ensures { summary.new ≡ summary_of list.now.m s (picture_listed list.now) }
 {
-    let blocks = blocks::number_of(m);
-    renew(m, s, keys, bits, n, summary, 0, blocks);
+    renew(list, s, summary, 0, blocks::number_of(list.m));
 }
 
-// The same from what the pass over the list has kept.
-pub fn fill_kept(
-    m: u32,
-    s: u32,
-    keys: &[u32],
-    bits: &[u32],
-    n: usize,
-    kept: &[Option<KeptBlock>; 16],
-    summary: &mut [u32],
-)
-    requires own_list { OwnList m keys.now bits.now n }
-    requires m_bound { (m ≤ 10) × (s ≤ slot_limit) × (length summary.old ≡ summary_length m s) }
-    requires rows_kept { RowsKept (take n bits.now) (4 ^ summary_height m) kept.now }
-    ensures { summary.new ≡ summary_of m s (shown_by m keys.now bits.now n) }
+// The same from what the pass over the list has counted.
+pub fn fill_counted(counted: &CountedList<'_>, s: u32, summary: &mut [u32])
+    requires { (s ≤ slot_limit) × (length summary.old ≡ summary_length counted.now.list.m s) }
+    ensures { summary.new ≡ summary_of counted.now.list.m s (picture_listed counted.now.list) }
 {
-    let slots = s as usize;
-    let blocks = blocks::number_of(m);
-    for b in 0..blocks {
-        let counts = kept::counts_of(m, keys, bits, n, b, kept);
-        slices::copy(&counts, 0, slots, summary, b * slots);
-    }
+    let blocks = blocks::number_of(counted.list.m);
+    let counts = |b: usize|
+        requires { b < 4 ^ summary_level counted.now.list.m }
+        ensures { result ≡ block_counts counted.entry.now.list b }
+    { counted.counts_of(b) };
+    write_blocks(&counted.list, s, summary, 0, blocks, counts);
 }

@@ -1,6 +1,6 @@
 -- Block after block the places are compared with what is counted.
 use native.Mathlib.Omega.{arith}
-use Rattle.list.specs.Own.{shown_by}
+use Rattle.list.specs.Taken.{picture_listed}
 use Rattle.summary.proofs.Renewed.{block_places_in, places_few}
 use Rattle.summary.proofs.IsSummary.{none_right, length-right, length-wrong, all_right, block_wrong, block_right}
 use Rattle.summary.proofs.check.is_summary.Goals as goal
@@ -13,17 +13,17 @@ loop-b-init c = none_right _ _ _ _
 
 pub overflow_mul-at : goal.overflow_mul-at
 overflow_mul-at c =
-    let h = block_places_in c.args.m c.args.s c.loop-b.b (omega (arith, c.number_of-blocks.ensures)) in
-    let f = places_few c.args.m c.args.s c.requires.m_bound.1 in
+    let h = block_places_in c.args.counted.now.list.m c.args.s c.loop-b.b (omega (arith, c.number_of-blocks.ensures)) in
+    let f = places_few c.args.counted.now.list.m c.args.s c.requires in
     omega arith
 
 pub loop-b-preserved : goal.loop-b-preserved
 loop-b-preserved c =
-    block_right _ _ (shown_by c.args.m c.args.keys.now c.args.bits.now c.args.n) _ c.loop-b.b _ (omega (arith, c.number_of-blocks.ensures)) c.requires.m_bound.1 c.counts_of-counts.ensures c.loop-b.invariant _ c.ne.ensures c.if-ne.false
+    block_right _ _ (picture_listed c.args.counted.now.list) _ c.loop-b.b _ (omega (arith, c.number_of-blocks.ensures)) c.requires c.counts_of-counts.ensures c.loop-b.invariant _ c.ne.ensures c.if-ne.false
 
 pub returns-then-ne : goal.returns-then-ne
 returns-then-ne c =
-    block_wrong _ _ (shown_by c.args.m c.args.keys.now c.args.bits.now c.args.n) _ c.loop-b.b _ (omega (arith, c.number_of-blocks.ensures)) c.requires.m_bound.1 c.counts_of-counts.ensures _ c.ne.ensures c.if-ne.true
+    block_wrong _ _ (picture_listed c.args.counted.now.list) _ c.loop-b.b _ (omega (arith, c.number_of-blocks.ensures)) c.requires c.counts_of-counts.ensures _ c.ne.ensures c.if-ne.true
 
 pub returns : goal.returns
 returns c =
