@@ -152,9 +152,13 @@ def read_sources(t):
         rows = rows_of("".join(word.capitalize() for word in words), tables)
         if rows:
             refusals[name] = rows
-    named = re.search(r"^impl Refusal \{(.*?)^\}", definitions, flags=re.S | re.M)
-    numbers = {name: int(value) for name, value in re.findall(r"pub const (\w+): u64 = (\d+);", named.group(1))}
+    # the enum's variants are in camel case, the header's names in capitals
+    told = re.findall(TOLD, definitions)
+    numbers = {re.sub(r"(?<=[a-z])(?=[A-Z])", "_", name).upper(): int(value) for name, value in told}
     return Side(calls, structs, limits, numbers, refusals)
+
+
+TOLD = r"Refusal::(\w+)(?:\(_\))? => (\d+),"  # a refusal's number, as the conversion for C tells it
 
 
 def number_of(constant, text):
@@ -484,9 +488,9 @@ def changes(t):
             yield "definitions", replace(f"#[repr(C)]\npub struct {found.group(1)} {{ {', '.join(changed)} }}")
     for crate, constant in LIMITS.values():
         yield crate, re.sub(rf"(pub const {constant}: \w+ = \d+)", r"\g<1>0", t[crate])
-    for found in re.finditer(r"pub const (\w+): u64 = (\d+);", t["definitions"]):
+    for found in re.finditer(TOLD, t["definitions"]):
         name, value = found.groups()
-        for by in ("", f"pub const {name}: u64 = 99;", f"pub const {name}_RENAMED: u64 = {value};"):
+        for by in ("", f"Refusal::{name} => 99,", f"Refusal::{name}Renamed => {value},"):
             yield "definitions", t["definitions"][:found.start()] + by + t["definitions"][found.end():]
     for name, table in t["tables"].items():
         for row in re.finditer(r"gives (\d+)", table):
