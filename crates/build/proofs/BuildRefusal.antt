@@ -1,5 +1,5 @@
 -- Refusals of build: the table of its tests, what it answers and leaves in each case, and what holds once the first three are passed.
--- Rests on the definitions alone.
+-- Rests on definitions' Refused and Needed.
 use Prim.Native.Nat.{ℕ, ◌*◌, ◌^◌, ◌≤◌, ◌<◌}
 use mathlib.Core.Path.{◌≡◌, refl, sym, ◌∙◌, ap}
 use mathlib.Core.Bool.{Bool, true, false, cond, not}
@@ -12,7 +12,13 @@ use Rattle.definitions.specs.Read.{room}
 use Rattle.definitions.specs.Buffer.{over}
 use Rattle.definitions.specs.Refusal.{◌gives◌, first, accepted, bad_settings, bad_length, bad_pixel}
 use Rattle.definitions.specs.Calls.Build.{build_refusal, build, build_keys, build_bits}
+use Rattle.std.specs.Prelude.{Err}
+use Rattle.definitions.specs.Answered.{as_counted}
+use Rattle.definitions.specs.Refused.{refusal_number}
 use Rattle.definitions.specs.declared.Counted.{Counted}
+use Rattle.definitions.specs.declared.refusal.Refusal.{Refusal}
+use Rattle.definitions.proofs.Refused.{refusal_some}
+use Rattle.definitions.proofs.Needed.{counted_alone}
 
 -- the tests of settings and raster, which come before the test of room
 abbrev early : ℕ → ℕ → List ℕ → ℕ
@@ -134,6 +140,23 @@ module _ (m s : ℕ) (raster keys bits : List ℕ) where
       h ∙ done_where (build_refusal m s raster keys bits) (over (values_of (list_of_raster m raster)) bits) bits e,
     ),
   )
+
+-- none of the first three is refusal 12
+not_twelve : (a b c : Bool) → first (a gives 1 ∷ b gives 2 ∷ c gives 3 ∷ []) ≡ 12 → ⊥
+unfolding first
+not_twelve true b c e = omega arith
+not_twelve false true c e = omega arith
+not_twelve false false true e = omega arith
+not_twelve false false false e = omega arith
+
+-- so what they refuse is told with no count, and leaves both slices
+module _ (m s : ℕ) (raster keys bits : List ℕ) where
+  pub early_refused : (r : Refusal) → refusal_number r ≡ early m s raster → (as_counted (Err r) ≡ build m s raster keys bits)
+      × ((keys ≡ build_keys m s raster keys bits) × (bits ≡ build_bits m s raster keys bits))
+  early_refused r e =
+      let some = refusal_some r in
+      let h = refused m s raster keys bits (refusal_number r) (e ∙ refusal_early m s raster keys bits (λ z. some (e ∙ z))) some in
+      (counted_alone r (λ z. not_twelve _ _ _ (sym e ∙ z)) ∙ h.0, h.1)
 
 -- refusal 2 by the side that the code has
 module _ (m side : ℕ) (raster : List ℕ) (e : side ≡ 2 ^ m) where

@@ -16,7 +16,14 @@ use Rattle.definitions.specs.Area.{summary_of, summary_length, bad_summary_lengt
 use Rattle.definitions.specs.Refusal.{Row, ◌gives◌, first, accepted, bad_settings, bad_length, bad_pixel}
 use Rattle.definitions.specs.Calls.Build.{build, build_refusal, build_keys, build_bits}
 use Rattle.definitions.specs.Calls.Survey.{survey, survey_refusal, survey_keys, survey_bits, survey_summary}
+use mathlib.Core.Bool.{Bool, true, false}
+use Rattle.std.specs.Prelude.{Err}
+use Rattle.definitions.specs.Answered.{as_counted}
+use Rattle.definitions.specs.Refused.{refusal_number}
 use Rattle.definitions.specs.declared.Counted.{Counted}
+use Rattle.definitions.specs.declared.refusal.Refusal.{Refusal}
+use Rattle.definitions.proofs.Refused.{refusal_some}
+use Rattle.definitions.proofs.Needed.{counted_alone}
 use Rattle.laws.proofs.First.{first_later, first_none, none_first, first_holds, holds_more, holds_first, accepted_done, accepted_left}
 use Rattle.laws.proofs.Pixels.{Agree}
 use Rattle.laws.proofs.ListOf.{list_agree}
@@ -47,6 +54,14 @@ length-decides m s raster summary r is e =
     let none = first_none (earliest m s raster) refl (sym is ∙ e) in
     first_later _ _ none.0 ∙ first_later _ _ none.1.0 ∙ first_later _ _ none.1.1.0
 
+not_twelve : (a b c d : Bool) → first (a gives 1 ∷ b gives 2 ∷ c gives 3 ∷ d gives 18 ∷ []) ≡ 12 → ⊥
+unfolding first
+not_twelve true b c d e = omega arith
+not_twelve false true c d e = omega arith
+not_twelve false false true d e = omega arith
+not_twelve false false false true e = omega arith
+not_twelve false false false false e = omega arith
+
 module _ (m s : ℕ) (raster keys bits summary : List ℕ) where
   -- the test of room
   abbrev room_row : List Row
@@ -64,6 +79,15 @@ module _ (m s : ℕ) (raster keys bits summary : List ℕ) where
         (λ i. record { refusal = e i; count = sym (accepted_left (length (list_of_raster m raster)) 0 j) i }),
         (sym (accepted_left _ keys j), (sym (accepted_left _ bits j), sym (accepted_left _ summary j))),
       )
+
+  -- none of the first four is refusal 12, so what they refuse is told with no count
+  pub survey_told : (r : Refusal) → refusal_number r ≡ first (early m s raster summary)
+      → (as_counted (Err r) ≡ survey m s raster keys bits summary)
+      × ((keys ≡ survey_keys m s raster keys bits summary)
+      × ((bits ≡ survey_bits m s raster keys bits summary) × (summary ≡ survey_summary m s raster keys bits summary)))
+  survey_told r is =
+      let h = survey_refused (refusal_number r) is (refusal_some r) in
+      (counted_alone r (λ z. not_twelve _ _ _ _ (sym is ∙ z)) ∙ h.0, h.1)
 
 -- what a call has passed when the list is made
 pub record SurveyPassed (m s : ℕ) (raster summary : List ℕ) : Type 0 where

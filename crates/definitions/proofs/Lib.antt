@@ -1,4 +1,5 @@
 pub mod Refused
+pub mod Needed
 pub mod Vectors
 mod MapA
 mod Orders

@@ -3,6 +3,7 @@
 use Prim.Native.Nat.{ℕ, ◌≤◌, ◌<◌}
 use mathlib.Core.Path.{◌≡◌, sym, ◌∙◌, ap}
 use mathlib.Core.Bool.{true, false, cond}
+use Rattle.std.specs.Prelude.{Option, Some, None}
 use mathlib.Core.List.{List}
 use native.Mathlib.Omega.{arith}
 use lib.ListN.{length, take}
@@ -41,23 +42,25 @@ module _ (m s : ℕ) (keys features : List ℕ) (leaves : ℕ) where
   unfolding is_delivery
   delivery_leaves e = and_right (leb leaves (room keys features)) (are_leaves m s (take leaves keys) (take leaves features)) e
 
-  -- the number of records, or 0, says whether they are
-  abbrev pub Number : ℕ → Type 0
-  Number n = n ≡ cond (is_delivery m s keys features leaves) (length (list_delivered m keys features leaves)) 0
+  -- a number of records says whether they are
+  abbrev pub Number : Option ℕ → Type 0
+  Number n = n ≡ cond (is_delivery m s keys features leaves) (Some (length (list_delivered m keys features leaves))) None
 
-  pub number_none : (n : ℕ) → Number n → n ≡ 0 → is_delivery m s keys features leaves ≡ false
-  number_none n e z =
+  pub number_none : Number None → is_delivery m s keys features leaves ≡ false
+  number_none e =
       decide (is_delivery m s keys features leaves)
-      (λ t. absurd (let f = e ∙ ap (λ b. cond b (length (list_delivered m keys features leaves)) 0) t in let h = list_some (picture_delivered m keys features leaves) m 0 0 0 in omega arith))
+      (λ t. absurd (let f = e ∙ ap (λ b. cond b (Some (length (list_delivered m keys features leaves))) None) t in cc))
       (λ t. t)
 
-  pub number_some : (n : ℕ) → Number n → (n ≡ 0 → ⊥) → is_delivery m s keys features leaves ≡ true
-  number_some n e z =
+  pub number_some : (n : ℕ) → Number (Some n) → is_delivery m s keys features leaves ≡ true
+  number_some n e =
       decide (is_delivery m s keys features leaves) (λ t. t)
-      (λ t. absurd (z (e ∙ ap (λ b. cond b (length (list_delivered m keys features leaves)) 0) t)))
+      (λ t. absurd (let f = e ∙ ap (λ b. cond b (Some (length (list_delivered m keys features leaves))) None) t in cc))
 
-  pub number-length : (n : ℕ) → Number n → is_delivery m s keys features leaves ≡ true → n ≡ length (list_delivered m keys features leaves)
-  number-length n e t = e ∙ ap (λ b. cond b (length (list_delivered m keys features leaves)) 0) t
+  pub number-length : (n : ℕ) → Number (Some n) → n ≡ length (list_delivered m keys features leaves)
+  number-length n e =
+      let f = e ∙ ap (λ b. cond b (Some (length (list_delivered m keys features leaves))) None) (number_some n e) in
+      cc
 
 module _ (m s : ℕ) (leafKeys leafFeatures : List ℕ) (leaves : ℕ) (keys bits : List ℕ) where
   pub read_one : bad_settings m s ≡ true → 1 ≡ read_leaves_refusal m s leafKeys leafFeatures leaves keys bits

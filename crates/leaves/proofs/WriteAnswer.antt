@@ -13,7 +13,13 @@ use Rattle.definitions.specs.Leaves.{leaves_of}
 use Rattle.definitions.specs.Buffer.{over}
 use Rattle.definitions.specs.Refusal.{first, bad_settings}
 use Rattle.definitions.specs.Calls.WriteLeaves.{leaves_in, write_leaves_refusal, write_leaves, written_leaf_keys, written_leaf_features}
+use Rattle.std.specs.Prelude.{Err}
+use Rattle.definitions.specs.Answered.{as_counted}
+use Rattle.definitions.specs.Refused.{refusal_number}
 use Rattle.definitions.specs.declared.Counted.{Counted}
+use Rattle.definitions.specs.declared.refusal.Refusal.{Refusal}
+use Rattle.definitions.proofs.Refused.{refusal_some}
+use Rattle.definitions.proofs.Needed.{counted_alone}
 use Rattle.laws.proofs.First.{accepted_done, accepted_left}
 use Rattle.list.specs.First.{first_refusal}
 use Rattle.list.specs.Own.{shown_by}
@@ -64,6 +70,12 @@ module _ (m s : ℕ) (keys bits : List ℕ) (n : ℕ) (leafKeys leafFeatures : L
       let small = first_small m s keys bits n in
       write_refused r 0 (refused_first m s keys bits n r _ e h) h
       (sym (ap (λ b. cond b (length (leaves_in keys bits n)) 0) (ne_eqb r 12 (λ twelve. omega arith))))
+
+  pub write_told : (r : Refusal) → refusal_number r ≡ first_refusal m s keys bits n → Answered (as_counted (Err r)) leafKeys leafFeatures
+  write_told r e =
+      let small = first_small m s keys bits n in
+      let h = write_early (refusal_number r) e (refusal_some r) in
+      (counted_alone r (λ twelve. omega arith) ∙ h.0, h.1)
 
   -- an accepted one
   pub write_done : (count : ℕ) (leaf_keys' leaf_features' : List ℕ) → 0 ≡ write_leaves_refusal m s keys bits n leafKeys leafFeatures

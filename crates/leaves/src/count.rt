@@ -1,6 +1,6 @@
 // The first pass over a delivery: it holds the leaves against the blocks that they must be, and counts the records of the list that they give.
 // Nothing is written.
-ghost use Rattle.std.specs.Prelude.{◌≡◌, false, cond, ◌<◌, length, get_or};
+ghost use Rattle.std.specs.Prelude.{◌≡◌, false, cond, ◌<◌, length, get_or, Some, None};
 ghost use Rattle.keys.specs.Key.{slot_limit};
 ghost use Rattle.definitions.specs.List.{list_of_picture};
 ghost use Rattle.definitions.specs.Read.{paired};
@@ -102,19 +102,19 @@ fn pass_block(keys: &[u32], features: &[u32], span: KeySpan, at: usize) -> Pass
     Pass { tally, next }
 }
 
-// How many records the list of a delivery has, or 0 where the leaves are none.
-pub fn records_of(m: u32, s: u32, keys: &[u32], features: &[u32]) -> usize
+// How many records the list of a delivery has, where the leaves are one.
+pub fn records_of(m: u32, s: u32, keys: &[u32], features: &[u32]) -> Option<usize>
     requires { (bad_settings m s ≡ false) × (length features.now ≡ length keys.now) }
     ensures { result ≡ cond (are_leaves m s keys.now features.now)
-        (length (list_of_picture m (picture_of_leaves m (paired keys.now features.now))))
-        0 }
+        (Some (length (list_of_picture m (picture_of_leaves m (paired keys.now features.now)))))
+        None }
 {
     if features::has_bad_feature(s, features) {
-        return 0;
+        return None;
     }
     let whole = pass_block(keys, features, span::root(m), 0);
     if whole.next == keys.len() {
-        return whole.tally.count;
+        return Some(whole.tally.count);
     }
-    0
+    None
 }

@@ -11,12 +11,10 @@ pub fn has_bad_feature(s: u32, features: &[u32]) -> bool
     ensures { result ≡ bad_pixel s features.now }
 {
     let mut bad = false;
-    let mut i = 0;
-    while i < features.len() {
-        if s <= features[i] {
+    for &feature in features {
+        if s <= feature {
             bad = true;
         }
-        i += 1;
     }
     bad
 }

@@ -2,11 +2,13 @@
 ghost use Rattle.std.specs.Prelude.{◌≡◌, ◌+◌, ◌≤◌, length, [], ◌∷◌};
 ghost use Rattle.std.proofs.lemmas.List.Edits.{sets};
 ghost use Rattle.definitions.specs.List.{record_of, keys_of, values_of};
-ghost use Rattle.definitions.specs.Read.{room, records_of};
+ghost use Rattle.definitions.specs.Read.{room};
 ghost use Rattle.definitions.specs.Leaves.{leaves_of};
 ghost use Rattle.definitions.specs.Buffer.{over};
+ghost use Rattle.list.specs.Taken.{records_listed};
 
 use crate::features;
+use list::accepted_list::Accepted;
 use list::check;
 
 // A record is written at a place where it is a leaf's; the place after it.
@@ -30,16 +32,14 @@ fn pick_one(
     at + 1
 }
 
-// The leaves of the first n records, from place 0 on.
-pub fn pick(keys: &[u32], bits: &[u32], n: usize, leaf_keys: &mut [u32], leaf_features: &mut [u32])
-    requires { (n ≤ room keys.now bits.now) × (length (leaves_of (records_of keys.now bits.now n)) ≤ room leaf_keys.old leaf_features.old) }
-    ensures leaf_keys_after { leaf_keys.new ≡ over (keys_of (leaves_of (records_of keys.now bits.now n))) leaf_keys.old }
-    ensures leaf_features_after { leaf_features.new ≡ over (values_of (leaves_of (records_of keys.now bits.now n))) leaf_features.old }
+// The leaves of an accepted list, from place 0 on.
+pub fn pick(list: &Accepted<'_>, leaf_keys: &mut [u32], leaf_features: &mut [u32])
+    requires { length (leaves_of (records_listed list.now)) ≤ room leaf_keys.old leaf_features.old }
+    ensures leaf_keys_after { leaf_keys.new ≡ over (keys_of (leaves_of (records_listed list.now))) leaf_keys.old }
+    ensures leaf_features_after { leaf_features.new ≡ over (values_of (leaves_of (records_listed list.now))) leaf_features.old }
 {
     let mut at = 0;
-    let mut i = 0;
-    while i < n {
-        at = pick_one(keys[i], bits[i], at, leaf_keys, leaf_features);
-        i += 1;
+    for i in 0..list.keys.len() {
+        at = pick_one(list.keys[i], list.bits[i], at, leaf_keys, leaf_features);
     }
 }

@@ -1,7 +1,9 @@
 -- The answers of standing, part and raster: a refused call gives its number and nothing else, and an accepted one the numbers of the standing.
 -- Rests on Tests, Own and Fuller.
 use Prim.Native.Nat.{ℕ, suc, ◌+◌, ◌-◌, ◌^◌, ◌≤◌}
-use mathlib.Core.Path.{◌≡◌, sym, ◌∙◌, ap, ap₂}
+use Rattle.std.specs.Prelude.{Ok}
+use Rattle.definitions.specs.Answered.{as_stands}
+use mathlib.Core.Path.{◌≡◌, refl, sym, ◌∙◌, ap, ap₂}
 use mathlib.Core.List.{List, []}
 use mathlib.Core.Logic.{◌↔◌}
 use native.Mathlib.Omega.{arith}
@@ -30,6 +32,11 @@ use Rattle.list.proofs.Tests.{StandingPassed, standing_passed}
 
 span : {a b a' b' : ℕ} → a ≡ a' → b ≡ b' → ◌≡◌ {A = Span} (record { start = a; length = b }) (record { start = a'; length = b' })
 span e f i = record { start = e i; length = f i }
+
+-- a standing is told by its numbers
+pub stands_numbers : (x : Standing) → as_stands (Ok x) ≡ numbers_of x
+stands_numbers (Listed place records) = refl
+stands_numbers (Inside place leaf level) = refl
 
 module _ (m s : ℕ) (keys bits : List ℕ) (n κ : ℕ) where
   -- a refused call of standing

@@ -244,3 +244,38 @@ module _ {bits raster₀ : List ℕ} {at wide place side : ℕ} {raster : List �
 
       pub child_asked : (corner : ℕ) → corner ≡ corner_of d place (side / 2) (side / 2 * wide) → one_slot (get_or bits next 0) ≡ false → ShowsNode bits next wide corner (side / 2) (length raster)
       child_asked corner is node = rw is (node_asked (child h e.shows e.several) node)
+
+-- the same with half the side as the code has it
+module _ {p : Picture} {k r c κ : ℕ} {bits : List ℕ} {at wide place side long half : ℕ} (known : side / 2 ≡ half) (s : Shows p (suc k) r c κ bits at wide place side long) where
+  pub south_half : half * wide ≤ long
+  south_half = rw (← known) (south_fits s)
+
+  pub corner_half : place + half * wide + half ≤ long
+  corner_half = rw (← known) (corner_fits s)
+
+module _ {bits raster₀ : List ℕ} {at wide place side half : ℕ} {raster : List ℕ} {next d : ℕ} (known : side / 2 ≡ half)
+    (x : FillReached bits raster₀ at wide place side raster next d) (h : d < 4) (corner : ℕ) (is : corner ≡ corner_of d place half (half * wide)) where
+  same_corner : corner ≡ corner_of d place (side / 2) (side / 2 * wide)
+  same_corner = rw known is
+
+  pub leaf_half : (f : ℕ) (after : List ℕ) (next' : ℕ)
+      → one_slot (get_or bits next 0) ≡ true
+      → f ≡ feature_of (get_or bits next 0)
+      → after ≡ rectangle_painted wide (λ a b. f) (corner / wide) (corner % wide) half half raster
+      → next' ≡ next + 1
+      → FillReached bits raster₀ at wide place side after next' (d + 1)
+  leaf_half f after next' leaf feature e one = leaf_turn x corner f after next' h same_corner leaf feature (rw known e) one
+
+  pub node_half : (after after' : List ℕ) (next' next'' : ℕ)
+      → one_slot (get_or bits next 0) ≡ false
+      → NodeFilled bits next wide corner half raster after next'
+      → after' ≡ after
+      → next'' ≡ next'
+      → FillReached bits raster₀ at wide place side after' next'' (d + 1)
+  node_half after after' next' next'' = node_turn x corner half after after' next' next'' h same_corner known
+
+  pub leaf_fits : ShowsNode bits at wide place side (length raster₀) → (corner % wide + half ≤ wide) × ((corner / wide + half) * wide ≤ length raster) × (0 < wide)
+  leaf_fits e = rw (← known) (leaf_asked x e h corner same_corner)
+
+  pub child_fits : ShowsNode bits at wide place side (length raster₀) → one_slot (get_or bits next 0) ≡ false → ShowsNode bits next wide corner half (length raster)
+  child_fits e node = rw (← known) (child_asked x e h corner same_corner node)

@@ -1,11 +1,14 @@
 -- A run of places that is filled one after the other, and a square that is filled row by row: what is done after each turn. Rests on Painted and
 -- Rectangle.
-use Prim.Native.Nat.{ℕ, suc, ◌+◌, ◌*◌, ◌/◌, ◌%◌, ◌≤◌, ◌<◌}
+use Prim.Native.Nat.{ℕ, zero, suc, ◌+◌, ◌-◌, ◌*◌, ◌/◌, ◌%◌, ◌≤◌, ◌<◌}
 use mathlib.Core.Path.{◌≡◌, refl, sym, ◌∙◌, ap}
-use mathlib.Core.List.{List}
+use mathlib.Core.List.{List, ◌++◌, append_assoc}
+use native.Mathlib.Numerals.{add-one}
 use native.Mathlib.Nat.{le_antisymm, suc-mul, mul-le-mul_right, div-add-mod'}
 use native.Mathlib.Omega.{arith}
-use lib.ListN.{length, set}
+use lib.ListN.{length, set, take, drop, replicate, length-drop, length-replicate}
+use lib.Seq.{sets, sets-eq, length-take-le, drop-drop}
+use borrow.Rule.Slice.PartMut.{put_mid}
 use lib.Dec.{eqb}
 use Rattle.read.specs.Fill.{filled_by, in_run, rectangle_painted}
 use Rattle.read.proofs.Painted.{painted-length, painted_join, painted_same, painted_none, set-painted}
@@ -40,8 +43,27 @@ module _ {raster₀ : List ℕ} {from until feature : ℕ} {raster : List ℕ} {
   pub places_end : until ≤ i → raster ≡ filled_by (in_run from until) (λ j. feature) raster₀
   places_end h = p.done ∙ ap (λ n. filled_by (in_run from n) (λ j. feature) raster₀) (le_antisymm p.high h)
 
-pub place_is : {raster₀ : List ℕ} {from until feature : ℕ} {raster : List ℕ} {i j : ℕ} → j ≡ i → PlacesPassed raster₀ from until feature raster i → PlacesPassed raster₀ from until feature raster j
-place_is e p = rw e p
+-- a run of one number stored from place i up to the end
+run_goes : {raster₀ : List ℕ} {from until feature : ℕ} {raster : List ℕ} (i n : ℕ) → i + n ≡ until → PlacesPassed raster₀ from until feature raster i
+    → sets raster i (replicate n feature) ≡ filled_by (in_run from until) (λ j. feature) raster₀
+run_goes i zero e p = places_end p (omega arith)
+run_goes {feature = feature} {raster = raster} i (suc n) e p =
+    ap (λ k. sets (set raster i feature) k (replicate n feature)) (sym (add-one i)) ∙ run_goes (i + 1) n (omega arith) (place_goes p (omega arith))
+
+-- a part that the library filled
+pub part_filled : (raster part : List ℕ) (from until feature : ℕ) → from ≤ until → until ≤ length raster
+    → part ≡ replicate (length (take (until - from) (drop from raster))) feature
+    → put_mid from (until - from) raster part ≡ filled_by (in_run from until) (λ j. feature) raster
+part_filled raster part from until feature low high filled =
+    let n = until - from in
+    let rest = length-drop from raster in
+    let run : part ≡ replicate n feature = filled ∙ ap (λ k. replicate k feature) (length-take-le n (drop from raster) (omega arith)) in
+    let size : length part ≡ n = ap length run ∙ length-replicate n feature in
+    let parts = sets-eq part raster from (omega arith) ∙ append_assoc (take from raster) part (drop (from + length part) raster) in
+    ap (λ r. take from raster ++ (part ++ r)) (drop-drop n from raster ∙ ap (λ k. drop (from + k) raster) (sym size))
+    ∙ sym parts
+    ∙ ap (sets raster from) run
+    ∙ run_goes from n (omega arith) (places_begin raster from until feature low)
 
 -- the rows of a square up to row i are painted, and `from` is where the next one begins
 pub record RowsPassed (raster₀ : List ℕ) (wide place side feature : ℕ) (raster : List ℕ) (from i : ℕ) : Type 0 where
@@ -99,32 +121,12 @@ module _ {raster₀ : List ℕ} {wide place side feature : ℕ} {raster : List �
   pub rows_end : side ≤ i → raster ≡ rectangle_painted wide (λ a b. feature) (place / wide) (place % wide) side side raster₀
   rows_end h = p.done ∙ ap (λ n. rectangle_painted wide (λ a b. feature) (place / wide) (place % wide) n side raster₀) (le_antisymm p.high h)
 
--- one store, and two, fill a run of places
+-- one store fills a run of one place
 pub one_place : (x : List ℕ) (from f : ℕ) → set x from f ≡ filled_by (in_run from (from + 1)) (λ j. f) x
 one_place x from f = places_end (place_goes (places_begin x from (from + 1) f (omega arith)) (omega arith)) (omega arith)
 
-pub two_places : (x : List ℕ) (from f : ℕ) → set (set x from f) (from + 1) f ≡ filled_by (in_run from (from + 2)) (λ j. f) x
-two_places x from f =
-    places_end (place_goes (place_goes (places_begin x from (from + 2) f (omega arith)) (omega arith)) (omega arith)) (omega arith)
-
--- one row, and two, fill a square
+-- one row fills a square of side 1
 pub one_row : (wide place f : ℕ) (x y : List ℕ) → (place % wide + 1 ≤ wide) × ((place / wide + 1) * wide ≤ length x) × (0 < wide)
     → y ≡ filled_by (in_run place (place + 1)) (λ j. f) x
     → y ≡ rectangle_painted wide (λ a b. f) (place / wide) (place % wide) 1 1 x
 one_row wide place f x y a e = rows_end (row_goes (rows_begin x wide place 1 f) a (omega arith) y e) (omega arith)
-
-module _ (wide place f : ℕ) (x : List ℕ) (a : (place % wide + 2 ≤ wide) × ((place / wide + 2) * wide ≤ length x) × (0 < wide)) {y : List ℕ} (e : y ≡ filled_by (in_run place (place + 2)) (λ j. f) x) where
-  first_row : RowsPassed x wide place 2 f y (place + wide) 1
-  first_row = row_goes (rows_begin x wide place 2 f) a (omega arith) y e
-
-  pub first_fits : place + 2 ≤ length x
-  first_fits = row_fits (rows_begin x wide place 2 f) a (omega arith)
-
-  pub second_fits : place + wide + 2 ≤ length y
-  second_fits = let h = row_fits first_row a (omega arith) in let g = rows_long first_row in omega arith
-
-  pub rows_two : length y ≡ length x
-  rows_two = rows_long first_row
-
-  pub two_rows : {z : List ℕ} → z ≡ filled_by (in_run (place + wide) (place + wide + 2)) (λ j. f) y → z ≡ rectangle_painted wide (λ a b. f) (place / wide) (place % wide) 2 2 x
-  two_rows g = rows_end (row_goes first_row a (omega arith) _ g) (omega arith)

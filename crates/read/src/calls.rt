@@ -1,80 +1,71 @@
 // The calls that ask an accepted list (specification S4, S5): where a block stands, the part of the key slice that holds it, and the raster. They refuse
 // by their tables, and require nothing.
-ghost use Rattle.std.specs.Prelude.{◌≡◌, ◌+◌, ◌*◌};
+ghost use Rattle.std.specs.Prelude.{◌≡◌, ◌+◌, ◌*◌, IfOk};
+ghost use Rattle.definitions.specs.Answered.{as_done, as_stands};
+ghost use Rattle.definitions.specs.Refused.{refusal_told};
 ghost use Rattle.definitions.specs.Calls.Standing.{standing_refusal, standing as standing_answer};
 ghost use Rattle.definitions.specs.Calls.Part.{part as part_answer, part_span};
 ghost use Rattle.definitions.specs.Calls.Raster.{raster_refusal, raster as raster_answer, raster_pixels};
+ghost use Rattle.list.specs.Taken.{Taken};
 
 use crate::fill;
 use definitions::refusal::Refusal;
-use definitions::{Done, Span, Standing, Stands};
+use definitions::{Span, Standing};
 use keys::{Key, power};
-use list::refusal::first_refusal;
-use list::standing as search;
+use list::accepted_list::Accepted;
 
-// Refusals 1, 4 and 8, or 0.
-fn standing_refusal(m: u32, s: u32, keys: &[u32], bits: &[u32], n: usize, key: u32) -> u64
-    ensures { result ≡ standing_refusal m s keys.now bits.now n key }
+// The list that is asked for a block of its map: refusals 1, 4 and 8.
+fn asked_for_block<'a>(
+    m: u32,
+    s: u32,
+    keys: &'a [u32],
+    bits: &'a [u32],
+    n: usize,
+    key: u32,
+) -> Result<Accepted<'a>, Refusal>
+    ensures told { refusal_told result ≡ standing_refusal m s keys.now bits.now n key }
+    ensures list { IfOk result (Taken m keys.now bits.now n) }
 {
-    let refusal = first_refusal(m, s, keys, bits, n);
-    if refusal != 0 {
-        return refusal;
-    }
+    let list = list::accept(m, s, keys, bits, n)?;
     let block = Key { number: key };
-    if block.is_valid(m) { 0 } else { Refusal::KEY }
+    if block.is_valid(m) {
+        Ok(list)
+    } else {
+        Err(Refusal::Key)
+    }
 }
 
-// Where a block stands: kind 1 is listed at the place with so many records, kind 2 inside the leaf at the place with that key and level.
-pub fn standing(m: u32, s: u32, keys: &[u32], bits: &[u32], n: usize, key: u32) -> Stands
-    ensures { result ≡ standing_answer m s keys.now bits.now n key }
+// Where a block stands.
+pub fn standing(
+    m: u32,
+    s: u32,
+    keys: &[u32],
+    bits: &[u32],
+    n: usize,
+    key: u32,
+) -> Result<Standing, Refusal>
+    ensures { as_stands result ≡ standing_answer m s keys.now bits.now n key }
 {
-    let refusal = standing_refusal(m, s, keys, bits, n, key);
-    if refusal != 0 {
-        return Stands {
-            refusal,
-            kind: 0,
-            place: 0,
-            records: 0,
-            leaf: 0,
-            level: 0,
-        };
-    }
-    match search::stand(m, keys, bits, n, key) {
-        Standing::Listed(place, records) => Stands {
-            refusal: 0,
-            kind: 1,
-            place: place as u64,
-            records: records as u64,
-            leaf: 0,
-            level: 0,
-        },
-        Standing::Inside(place, leaf, level) => Stands {
-            refusal: 0,
-            kind: 2,
-            place: place as u64,
-            records: 0,
-            leaf: leaf as u64,
-            level: level as u64,
-        },
-    }
+    let list = asked_for_block(m, s, keys, bits, n, key)?;
+    Ok(list.stand(key))
 }
 
 // Where the part of the key slice that holds a block starts, and how many places it has: a listed block's records, or the leaf's one.
 pub fn part_span(m: u32, s: u32, keys: &[u32], bits: &[u32], n: usize, key: u32) -> Span
     ensures { result ≡ part_span m s keys.now bits.now n key }
 {
-    if standing_refusal(m, s, keys, bits, n, key) != 0 {
+    let Ok(list) = asked_for_block(m, s, keys, bits, n, key) else {
         return Span {
             start: 0,
             length: 0,
         };
-    }
-    match search::stand(m, keys, bits, n, key) {
+    };
+    match list.stand(key) {
         Standing::Listed(place, records) => Span {
             start: place as u64,
             length: records as u64,
         },
-        Standing::Inside(place, leaf, level) => Span {
+        Standing::Inside(place, ..) => Span {
             start: place as u64,
             length: 1,
         },
@@ -94,31 +85,39 @@ pub fn part<'a>(m: u32, s: u32, keys: &'a [u32], bits: &[u32], n: usize, key: u3
     &keys[start..end]
 }
 
-// Refusals 1, 4 and 2, or 0.
-fn raster_refusal(m: u32, s: u32, keys: &[u32], bits: &[u32], n: usize, raster: &[u8]) -> u64
-    ensures { result ≡ raster_refusal m s keys.now bits.now n raster.now }
+// The list whose raster is asked for: refusals 1, 4 and 2.
+fn asked_for_raster<'a>(
+    m: u32,
+    s: u32,
+    keys: &'a [u32],
+    bits: &'a [u32],
+    n: usize,
+    raster: &[u8],
+) -> Result<Accepted<'a>, Refusal>
+    ensures told { refusal_told result ≡ raster_refusal m s keys.now bits.now n raster.now }
+    ensures list { IfOk result (Taken m keys.now bits.now n) }
 {
-    let refusal = first_refusal(m, s, keys, bits, n);
-    if refusal != 0 {
-        return refusal;
-    }
+    let list = list::accept(m, s, keys, bits, n)?;
     let side = power::power_of_two(m) as usize;
-    if raster.len() == side * side {
-        0
-    } else {
-        Refusal::RASTER_LENGTH
+    if raster.len() != side * side {
+        return Err(Refusal::RasterLength);
     }
+    Ok(list)
 }
 
 // The raster of a list.
-pub fn raster(m: u32, s: u32, keys: &[u32], bits: &[u32], n: usize, raster: &mut [u8]) -> Done
-    ensures value { result ≡ raster_answer m s keys.now bits.now n raster.old }
+pub fn raster(
+    m: u32,
+    s: u32,
+    keys: &[u32],
+    bits: &[u32],
+    n: usize,
+    raster: &mut [u8],
+) -> Result<(), Refusal>
+    ensures value { as_done result ≡ raster_answer m s keys.now bits.now n raster.old }
     ensures raster_after { raster.new ≡ raster_pixels m s keys.now bits.now n raster.old }
 {
-    let refusal = raster_refusal(m, s, keys, bits, n, raster);
-    if refusal != 0 {
-        return Done { refusal };
-    }
-    fill::fill_raster(m, keys, bits, n, raster);
-    Done { refusal: 0 }
+    let list = asked_for_raster(m, s, keys, bits, n, raster)?;
+    fill::fill_raster(&list, raster);
+    Ok(())
 }

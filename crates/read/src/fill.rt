@@ -1,13 +1,14 @@
 // Raster from list: one pass over the bitstrings, whose structure they tell alone: one slot is a leaf, else four children follow. Each leaf fills
 // its square row by row.
-ghost use Rattle.std.specs.Prelude.{◌≡◌, true, ◌+◌, ◌*◌, ◌/◌, ◌%◌, ◌^◌, ◌≤◌, ◌<◌, length};
+ghost use Rattle.std.specs.Prelude.{ℕ, ◌≡◌, true, ◌+◌, ◌*◌, ◌/◌, ◌%◌, ◌^◌, ◌≤◌, ◌<◌, length};
 ghost use Rattle.definitions.specs.Bits.{feature_of};
 ghost use Rattle.definitions.specs.Window.{features_of_rows};
 ghost use Rattle.list.specs.Check.{one_slot};
-ghost use Rattle.list.specs.Own.{OwnList, shown_by};
+ghost use Rattle.list.specs.Taken.{picture_listed};
 ghost use Rattle.read.specs.Fill.{filled_by, in_run, rectangle_painted, corner_of, ShowsNode, NodeFilled};
 
 use keys::power;
+use list::accepted_list::Accepted;
 use list::{check, feature};
 
 // The feature of a leaf as a pixel has it, in one byte.
@@ -18,15 +19,12 @@ fn feature_of(bits: u32) -> u8
     feature::feature_of(bits) as u8
 }
 
+// The places of a row from one up to another.
 fn fill_row(raster: &mut [u8], from: usize, until: usize, feature: u8)
     requires { (from ≤ until) × (until ≤ length raster.old) }
     ensures { raster.new ≡ filled_by (in_run from until) (λ i. feature) raster.old }
 {
-    let mut i = from;
-    while i < until {
-        raster[i] = feature;
-        i += 1;
-    }
+    raster[from..until].fill(feature);
 }
 
 // A square whose first pixel is at a place, in a raster whose rows have the given width.
@@ -35,15 +33,13 @@ fn fill_square(raster: &mut [u8], wide: usize, place: usize, side: usize, featur
     ensures { raster.new ≡ rectangle_painted wide (λ a b. feature) (place / wide) (place % wide) side side raster.old }
 {
     let mut from = place;
-    let mut i = 0;
-    while i < side {
+    for row in 0..side {
         fill_row(raster, from, from + side, feature);
         from += wide;
-        i += 1;
     }
 }
 
-// A pixel, two rows of two pixels, and four rows of four: most leaves are that small, so a store or a constant number of them is all they need.
+// A pixel.
 fn fill_pixel(raster: &mut [u8], wide: usize, place: usize, feature: u8)
     requires { (place % wide + 1 ≤ wide) × ((place / wide + 1) * wide ≤ length raster.old) × (0 < wide) }
     ensures { raster.new ≡ rectangle_painted wide (λ a b. feature) (place / wide) (place % wide) 1 1 raster.old }
@@ -51,43 +47,25 @@ fn fill_pixel(raster: &mut [u8], wide: usize, place: usize, feature: u8)
     raster[place] = feature;
 }
 
-fn fill_pair(raster: &mut [u8], from: usize, feature: u8)
-    requires { from + 2 ≤ length raster.old }
-    ensures { raster.new ≡ filled_by (in_run from (from + 2)) (λ i. feature) raster.old }
+// So many pixels of one row as the type says, and a square of so many rows of them: most leaves are that small, so a constant number of stores is all
+// they need.
+fn fill_run<const SIDE: usize>(raster: &mut [u8], from: usize, feature: u8)
+    requires { from + SIDE ≤ length raster.old }
+    ensures { raster.new ≡ filled_by (in_run from (from + SIDE)) (λ i. feature) raster.old }
 {
-    raster[from] = feature;
-    raster[from + 1] = feature;
-}
-
-fn fill_two(raster: &mut [u8], wide: usize, place: usize, feature: u8)
-    requires { (place % wide + 2 ≤ wide) × ((place / wide + 2) * wide ≤ length raster.old) × (0 < wide) }
-    ensures { raster.new ≡ rectangle_painted wide (λ a b. feature) (place / wide) (place % wide) 2 2 raster.old }
-{
-    fill_pair(raster, place, feature);
-    fill_pair(raster, place + wide, feature);
-}
-
-fn fill_row_of_four(raster: &mut [u8], from: usize, feature: u8)
-    requires { from + 4 ≤ length raster.old }
-    ensures { raster.new ≡ filled_by (in_run from (from + 4)) (λ i. feature) raster.old }
-{
-    let mut i = 0;
-    while i < 4 {
-        raster[from + i] = feature;
-        i += 1;
+    for column in 0..SIDE {
+        raster[from + column] = feature;
     }
 }
 
-fn fill_four(raster: &mut [u8], wide: usize, place: usize, feature: u8)
-    requires { (place % wide + 4 ≤ wide) × ((place / wide + 4) * wide ≤ length raster.old) × (0 < wide) }
-    ensures { raster.new ≡ rectangle_painted wide (λ a b. feature) (place / wide) (place % wide) 4 4 raster.old }
+fn fill_small<const SIDE: usize>(raster: &mut [u8], wide: usize, place: usize, feature: u8)
+    requires { (place % wide + SIDE ≤ wide) × ((place / wide + SIDE) * wide ≤ length raster.old) × (0 < wide) }
+    ensures { raster.new ≡ rectangle_painted wide (λ a b. feature) (place / wide) (place % wide) SIDE SIDE raster.old }
 {
     let mut from = place;
-    let mut i: usize = 0;
-    while i < 4 {
-        fill_row_of_four(raster, from, feature);
+    for row in 0..SIDE {
+        fill_run::<SIDE>(raster, from, feature);
         from += wide;
-        i += 1;
     }
 }
 
@@ -96,20 +74,15 @@ fn corner_of(d: usize, place: usize, half: usize, south: usize) -> usize
     requires { place + south + half < 2 ^ 64 }
     ensures { result ≡ corner_of d place half south }
 {
-    if d == 0 {
-        return place;
+    match d {
+        0 => place,
+        1 => place + half,
+        2 => place + south,
+        _ => place + south + half,
     }
-    if d == 1 {
-        return place + half;
-    }
-    if d == 2 {
-        return place + south;
-    }
-    place + south + half
 }
 
-// The node of side 2 whose record is at a place of the bitstrings: its four pixels follow. Nearly all nodes have side 2, 4 or 8, so these have functions
-// of their own, without recursion.
+// The node of side 2 whose record is at a place of the bitstrings: its four pixels follow.
 fn fill_pixels(bits: &[u32], raster: &mut [u8], wide: usize, at: usize, place: usize)
     requires { ShowsNode bits.now at wide place 2 (length raster.old) }
     ensures { NodeFilled bits.now at wide place 2 raster.old raster.new (at + 5) }
@@ -124,47 +97,79 @@ fn fill_pixels(bits: &[u32], raster: &mut [u8], wide: usize, at: usize, place: u
     fill_pixel(raster, wide, place + wide + 1, se);
 }
 
-// The same of side 4. The place after the node's last record is given back.
-fn fill_sixteen(bits: &[u32], raster: &mut [u8], wide: usize, at: usize, place: usize) -> usize
-    requires { ShowsNode bits.now at wide place 4 (length raster.old) }
-    ensures { NodeFilled bits.now at wide place 4 raster.old raster.new result }
-{
-    let south = 2 * wide;
-    let mut next = at + 1;
-    let mut d = 0;
-    while d < 4 {
-        let corner = corner_of(d, place, 2, south);
-        let found = bits[next];
-        if check::is_leaf(found) {
-            fill_two(raster, wide, corner, feature_of(found));
-            next += 1;
-        } else {
-            fill_pixels(bits, raster, wide, next, corner);
-            next += 5;
-        }
-        d += 1;
-    }
-    next
+// A block whose side is a type: nearly all nodes have side 2, 4 or 8, so these are filled without recursion.
+trait Block {
+    ghost SIDE: { ℕ };
+
+    const SIDE: usize;
+
+    // Fills a leaf with its feature.
+    fn fill_leaf(raster: &mut [u8], wide: usize, place: usize, feature: u8)
+        requires { (place % wide + SIDE ≤ wide) × ((place / wide + SIDE) * wide ≤ length raster.old) × (0 < wide) }
+        ensures { raster.new ≡ rectangle_painted wide (λ a b. feature) (place / wide) (place % wide) SIDE SIDE raster.old };
+
+    // Fills the node whose record is at a place of the bitstrings. The place after the node's last record is given back.
+    fn fill_node(bits: &[u32], raster: &mut [u8], wide: usize, at: usize, place: usize) -> usize
+        requires { ShowsNode bits.now at wide place SIDE (length raster.old) }
+        ensures { NodeFilled bits.now at wide place SIDE raster.old raster.new result };
 }
 
-// The same of side 8.
-fn fill_sixty_four(bits: &[u32], raster: &mut [u8], wide: usize, at: usize, place: usize) -> usize
-    requires { ShowsNode bits.now at wide place 8 (length raster.old) }
-    ensures { NodeFilled bits.now at wide place 8 raster.old raster.new result }
+struct Two;
+
+impl Block for Two {
+    ghost SIDE = { 2 };
+
+    const SIDE: usize = 2;
+
+    fn fill_leaf(raster: &mut [u8], wide: usize, place: usize, feature: u8) {
+        fill_small::<2>(raster, wide, place, feature);
+    }
+
+    fn fill_node(bits: &[u32], raster: &mut [u8], wide: usize, at: usize, place: usize) -> usize {
+        fill_pixels(bits, raster, wide, at, place);
+        at + 5
+    }
+}
+
+struct Four;
+
+impl Block for Four {
+    ghost SIDE = { 4 };
+
+    const SIDE: usize = 4;
+
+    fn fill_leaf(raster: &mut [u8], wide: usize, place: usize, feature: u8) {
+        fill_small::<4>(raster, wide, place, feature);
+    }
+
+    fn fill_node(bits: &[u32], raster: &mut [u8], wide: usize, at: usize, place: usize) -> usize {
+        fill_quadrants::<Two>(bits, raster, wide, at, place)
+    }
+}
+
+// The node of twice a type's side. A leaf among the four children is filled here, so that only nodes are called for.
+fn fill_quadrants<B: Block>(
+    bits: &[u32],
+    raster: &mut [u8],
+    wide: usize,
+    at: usize,
+    place: usize,
+) -> usize
+    requires { ShowsNode bits.now at wide place (2 * B.SIDE) (length raster.old) }
+    ensures { NodeFilled bits.now at wide place (2 * B.SIDE) raster.old raster.new result }
 {
-    let south = 4 * wide;
+    let half = B::SIDE;
+    let south = half * wide;
     let mut next = at + 1;
-    let mut d = 0;
-    while d < 4 {
-        let corner = corner_of(d, place, 4, south);
+    for d in 0..4 {
+        let corner = corner_of(d, place, half, south);
         let found = bits[next];
         if check::is_leaf(found) {
-            fill_four(raster, wide, corner, feature_of(found));
+            B::fill_leaf(raster, wide, corner, feature_of(found));
             next += 1;
         } else {
-            next = fill_sixteen(bits, raster, wide, next, corner);
+            next = B::fill_node(bits, raster, wide, next, corner);
         }
-        d += 1;
     }
     next
 }
@@ -184,34 +189,31 @@ fn fill_node(
     let half = side / 2;
     let south = half * wide;
     let mut next = at + 1;
-    let mut d = 0;
-    while d < 4 {
+    for d in 0..4 {
         let corner = corner_of(d, place, half, south);
         let found = bits[next];
         if check::is_leaf(found) {
             fill_square(raster, wide, corner, half, feature_of(found));
             next += 1;
         } else if half == 8 {
-            next = fill_sixty_four(bits, raster, wide, next, corner);
+            next = fill_quadrants::<Four>(bits, raster, wide, next, corner);
         } else {
             next = fill_node(bits, raster, wide, next, corner, half);
         }
-        d += 1;
     }
     next
 }
 
-// The raster that the first n records show. The keys are lent for the promise alone.
-pub fn fill_raster(m: u32, keys: &[u32], bits: &[u32], n: usize, raster: &mut [u8])
-    requires own_list { OwnList m keys.now bits.now n }
-    requires m_bound { (m ≤ 10) × (length raster.old ≡ 2 ^ m * 2 ^ m) }
-    ensures { raster.new ≡ features_of_rows (shown_by m keys.now bits.now n) 0 0 (2 ^ m) (2 ^ m) }
+// The raster of an accepted list.
+pub fn fill_raster(list: &Accepted<'_>, raster: &mut [u8])
+    requires { length raster.old ≡ 2 ^ list.now.m * 2 ^ list.now.m }
+    ensures { raster.new ≡ features_of_rows (picture_listed list.now) 0 0 (2 ^ list.now.m) (2 ^ list.now.m) }
 {
-    let side = power::power_of_two(m) as usize;
-    let own = bits[0];
+    let side = power::power_of_two(list.m) as usize;
+    let own = list.bits[0];
     if check::has_one_slot(own) {
         fill_square(raster, side, 0, side, feature_of(own));
     } else {
-        let end = fill_node(bits, raster, side, 0, 0, side);
+        let _end = fill_node(list.bits, raster, side, 0, 0, side);
     }
 }

@@ -1,20 +1,15 @@
--- `build::build` meets its contract: a refusal of the first three leaves all as it was, and past them the rest is known.
-use mathlib.Core.Path.{◌∙◌}
-use borrow.Author.Rules.{rules}
-use Rattle.build.proofs.BuildRefusal.{refusal_early, refused}
+-- `build::build`: a refusal of the first three leaves all as it was, and past them the rest is known. Rests on BuildRefusal.
+use Rattle.std.proofs.lemmas.Result.{err_from_is_err_and}
+use Rattle.build.proofs.BuildRefusal.{early_refused}
 use Rattle.build.proofs.build.Goals as goal
 
-pub refusal_of-refusal-requires : goal.refusal_of-refusal-requires
-refusal_of-refusal-requires c = tt
+pub returns-in_err-check_raster-clause-value : goal.returns-in_err-check_raster-clause-value
+returns-in_err-check_raster-clause-value c =
+    let p = err_from_is_err_and c.from_residual.result c.from_residual.ensures.1 in
+    rw (p.1, p.2) (early_refused _ _ _ _ _ _ c.in_err-check_raster.ensures).0
 
-pub returns-then-refusal-ne0 : goal.returns-then-refusal-ne0
-returns-then-refusal-ne0 c =
-    let e = c.refusal_of-refusal.ensures in
-    let r = refused c.args.m c.args.s c.args.raster.now c.args.keys.now c.args.bits.now _ (e ∙ refusal_early _ _ _ _ _ (λ z. c.if-refusal-ne0.true (e ∙ z))) c.if-refusal-ne0.true in
-    record { value = r.0; keys_after = r.1.0; bits_after = r.1.1 }
+pub returns-in_err-check_raster-clause-keys_after : goal.returns-in_err-check_raster-clause-keys_after
+returns-in_err-check_raster-clause-keys_after c = (early_refused _ _ _ _ c.args.bits.now _ c.in_err-check_raster.ensures).1.0
 
-pub build_checked-requires : goal.build_checked-requires
-build_checked-requires c = search rules
-
-pub returns : goal.returns
-returns c = search rules
+pub returns-in_err-check_raster-clause-bits_after : goal.returns-in_err-check_raster-clause-bits_after
+returns-in_err-check_raster-clause-bits_after c = (early_refused _ _ _ c.args.keys.now _ _ c.in_err-check_raster.ensures).1.1

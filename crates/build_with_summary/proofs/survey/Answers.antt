@@ -1,33 +1,36 @@
--- `build_with_summary::survey` meets its contract: each refusal leaves all as it was, and else the list just written is an accepted one whose summary is the raster's.
-use mathlib.Core.Path.{sym, ◌∙◌}
-use native.Mathlib.Omega.{arith}
-use borrow.Author.Rules.{rules}
-use Rattle.build_with_summary.proofs.Surveyed.{survey_refused, survey_passed, survey_nine, survey_own, survey_done}
+-- `build_with_summary::survey`: each refusal leaves all as it was, and else the list just written is an accepted one whose summary is the raster's. Rests on
+-- Surveyed.
+use Rattle.std.proofs.Common.{refl, sym, ◌∙◌, arith}
+use Rattle.std.proofs.lemmas.Result.{err_from_is_err_and}
+use Rattle.definitions.proofs.Refused.{refusal_some}
+use Rattle.build_with_summary.proofs.Surveyed.{survey_told, survey_passed, survey_nine, survey_own, survey_done}
 use Rattle.build_with_summary.proofs.survey.Goals as goal
 
-pub refusal_of-refusal-requires : goal.refusal_of-refusal-requires
-refusal_of-refusal-requires c = search rules
+pub returns-in_err-check_raster : goal.returns-in_err-check_raster
+returns-in_err-check_raster c =
+    let p = err_from_is_err_and c.from_residual.result c.from_residual.ensures.1 in
+    let r = survey_told c.args.m c.args.s c.args.raster.now c.args.keys.now c.args.bits.now c.args.summary.now _ c.in_err-check_raster.ensures in
+    record { value = rw (p.1, p.2) r.0; keys_after = r.1.0; bits_after = r.1.1.0; summary_after = r.1.1.1 }
 
-pub returns-then-refusal-ne0 : goal.returns-then-refusal-ne0
-returns-then-refusal-ne0 c =
-    let r = survey_refused c.args.m c.args.s c.args.raster.now c.args.keys.now c.args.bits.now c.args.summary.now _ c.refusal_of-refusal.ensures c.if-refusal-ne0.true in
-    record { value = r.0; keys_after = r.1.0; bits_after = r.1.1.0; summary_after = r.1.1.1 }
+pub build_checked-n-requires : goal.build_checked-n-requires
+build_checked-n-requires c = (survey_passed _ _ _ c.args.summary.now (sym c.in_ok-check_raster.ensures)).earlier
 
-pub build_checked-built-requires : goal.build_checked-built-requires
-build_checked-built-requires c = (survey_passed _ _ _ c.args.summary.now (sym c.refusal_of-refusal.ensures ∙ c.if-refusal-ne0.false)).earlier
-
-pub returns-then-built-ne0 : goal.returns-then-built-ne0
-returns-then-built-ne0 c =
-    let r = survey_nine c.args.m c.args.s c.args.raster.now c.args.keys.now c.args.bits.now c.args.summary.now _ _ _ (sym c.refusal_of-refusal.ensures ∙ c.if-refusal-ne0.false) c.build_checked-built.ensures.value c.build_checked-built.ensures.keys_after c.build_checked-built.ensures.bits_after c.if-built-ne0.true in
-    record { value = r.0; keys_after = r.1.0; bits_after = r.1.1.0; summary_after = r.1.1.1 }
+pub returns-in_err-n : goal.returns-in_err-n
+returns-in_err-n c =
+    let p = err_from_is_err_and c.from_residual-in_err-n.result c.from_residual-in_err-n.ensures.1 in
+    let built = c.in_err-n.ensures in
+    let r = survey_nine c.args.m c.args.s c.args.raster.now c.args.keys.now c.args.bits.now c.args.summary.now _ _ _ (sym c.in_ok-check_raster.ensures) built.value built.keys_after built.bits_after (refusal_some _) in
+    record { value = rw (p.1, p.2) r.0; keys_after = r.1.0; bits_after = r.1.1.0; summary_after = r.1.1.1 }
 
 pub fill-requires : goal.fill-requires
 fill-requires c =
-    let p = survey_passed c.args.m c.args.s c.args.raster.now c.args.summary.now (sym c.refusal_of-refusal.ensures ∙ c.if-refusal-ne0.false) in
-    let l = survey_own c.args.m c.args.s c.args.raster.now c.args.keys.now c.args.bits.now c.args.summary.now _ _ _ (sym c.refusal_of-refusal.ensures ∙ c.if-refusal-ne0.false) c.build_checked-built.ensures.value c.build_checked-built.ensures.keys_after c.build_checked-built.ensures.bits_after c.if-built-ne0.false in
-    record { own_list = l; m_bound = (p.settings.deep, omega (arith, p.settings.few), p.long) }
+    let passed = survey_passed c.args.m c.args.s c.args.raster.now c.args.summary.now (sym c.in_ok-check_raster.ensures) in
+    let built = c.in_ok-n.ensures in
+    let own = survey_own c.args.m c.args.s c.args.raster.now c.args.keys.now c.args.bits.now c.args.summary.now _ _ _ (sym c.in_ok-check_raster.ensures) built.value built.keys_after built.bits_after refl in
+    record { own_list = own; m_bound = (passed.settings.deep, omega (arith, passed.settings.few), passed.long) }
 
 pub returns : goal.returns
 returns c =
-    let r = survey_done c.args.m c.args.s c.args.raster.now c.args.keys.now c.args.bits.now c.args.summary.now _ _ _ (sym c.refusal_of-refusal.ensures ∙ c.if-refusal-ne0.false) c.build_checked-built.ensures.value c.build_checked-built.ensures.keys_after c.build_checked-built.ensures.bits_after c.if-built-ne0.false _ c.fill.ensures in
+    let built = c.in_ok-n.ensures in
+    let r = survey_done c.args.m c.args.s c.args.raster.now c.args.keys.now c.args.bits.now c.args.summary.now _ _ _ (sym c.in_ok-check_raster.ensures) built.value built.keys_after built.bits_after refl _ c.fill.ensures in
     record { value = r.0; keys_after = r.1.0; bits_after = r.1.1.0; summary_after = r.1.1.1 }

@@ -1,5 +1,6 @@
--- `count::records_of` meets its contract: the pass over the root's leaves, held against their number, is the test of a delivery.
+-- `count::records_of`: the pass over the root's leaves, held against their number, is the test of a delivery.
 use mathlib.Core.Path.{refl, sym, ◌∙◌, ap}
+use Rattle.std.proofs.Common.{Some, None}
 use mathlib.Core.Bool.{cond}
 use lib.ListN.{length}
 use borrow.Author.Rules.{rules}
@@ -13,15 +14,12 @@ use Rattle.leaves.proofs.PassBlock.{passed_at}
 use Rattle.leaves.proofs.LayList.{root_asked}
 use Rattle.leaves.proofs.count.records_of.Goals as goal
 
-pub has_bad_feature-requires : goal.has_bad_feature-requires
-has_bad_feature-requires c = search rules
-
 pub returns-then-has_bad_feature : goal.returns-then-has_bad_feature
 returns-then-has_bad_feature c =
     let m = c.args.m in
     let keys = c.args.keys.now in
     let features = c.args.features.now in
-    sym (ap (λ t. cond t (length (list_of_picture m (picture_of_leaves m (paired keys features)))) 0) (bad_leaves m c.args.s keys features (sym c.has_bad_feature.ensures ∙ c.if-has_bad_feature.true)))
+    sym (ap (λ t. cond t (Some (length (list_of_picture m (picture_of_leaves m (paired keys features))))) None) (bad_leaves m c.args.s keys features (sym c.has_bad_feature.ensures ∙ c.if-has_bad_feature.true)))
 
 pub root-requires : goal.root-requires
 root-requires c = (good_settings _ _ c.requires.0).deep
@@ -37,12 +35,12 @@ returns-then-whole-keys c =
     let features = c.args.features.now in
     let w = passed_at c.root.ensures c.pass_block-whole.ensures in
     let are = end_leaves m c.args.s keys features (sym (w.next-is m refl) ∙ c.if-whole-keys.true) (sym c.has_bad_feature.ensures ∙ c.if-has_bad_feature.false) in
-    (w.tally (picture_of_leaves m (paired keys features)) m 0 0 refl (leaves_parted m c.args.s keys features c.requires.1 (leaves_to m c.args.s keys features are))).count-is
-    ∙ sym (ap (λ t. cond t (length (list_of_picture m (picture_of_leaves m (paired keys features)))) 0) are)
+    ap Some (w.tally (picture_of_leaves m (paired keys features)) m 0 0 refl (leaves_parted m c.args.s keys features c.requires.1 (leaves_to m c.args.s keys features are))).count-is
+    ∙ sym (ap (λ t. cond t (Some (length (list_of_picture m (picture_of_leaves m (paired keys features))))) None) are)
 
 pub returns : goal.returns
 returns c =
     let m = c.args.m in
     let keys = c.args.keys.now in
     let features = c.args.features.now in
-    sym (ap (λ t. cond t (length (list_of_picture m (picture_of_leaves m (paired keys features)))) 0) (other_leaves m c.args.s keys features c.requires.1 (λ e. c.if-whole-keys.false ((passed_at c.root.ensures c.pass_block-whole.ensures).next-is m refl ∙ e))))
+    sym (ap (λ t. cond t (Some (length (list_of_picture m (picture_of_leaves m (paired keys features))))) None) (other_leaves m c.args.s keys features c.requires.1 (λ e. c.if-whole-keys.false ((passed_at c.root.ensures c.pass_block-whole.ensures).next-is m refl ∙ e))))

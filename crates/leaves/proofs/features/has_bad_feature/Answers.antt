@@ -1,32 +1,16 @@
--- `features::has_bad_feature` meets its contract: after each turn a bad feature was found, or it is among those that are left.
-use mathlib.Core.Logic.{⊎_elim}
-use native.Mathlib.Omega.{arith}
-use Rattle.build.proofs.RasterTests.{scan_begins, scan_bad, scan_good, scan_ends}
+-- `features::has_bad_feature`: each turn looks at one feature more. Rests on build's RasterTests.
+use Rattle.std.proofs.Common.{arith}
+use Rattle.build.proofs.RasterTests.{scan_bad, scan_good, scan_ends}
 use Rattle.leaves.proofs.features.has_bad_feature.Goals as goal
+use Rattle.leaves.proofs.features.has_bad_feature.Goals.{then-s-feature, else-s-feature}
 
-pub loop-i-init : goal.loop-i-init
-loop-i-init c = scan_begins _ _
-
-pub offset_bounds-features-i : goal.offset_bounds-features-i
-offset_bounds-features-i c = omega arith
-
-pub bounds-features-i : goal.bounds-features-i
-bounds-features-i c = c.loop-i-test.true
-
-pub overflow_add-i : goal.overflow_add-i
-overflow_add-i c = omega arith
-
-pub loop-i-smaller : goal.loop-i-smaller
-loop-i-smaller c = omega arith
-
-pub loop-i-preserved : goal.loop-i-preserved
-loop-i-preserved c =
-    let l = c.loop-i in
-    let h = c.loop-i-test.true in
-    ⊎_elim
-    (λ w. rw w.bad-is (scan_bad l.invariant h (omega (arith, w.if-s-features.true))))
-    (λ w. rw w.bad-is (scan_good l.invariant h (omega (arith, w.if-s-features.false))))
-    c.if-s-features.branch-raw
+pub loop-feature-preserved : goal.loop-feature-preserved
+loop-feature-preserved c =
+    let seen = c.loop-feature.invariant in
+    elim c.if-s-feature.branch [
+      then-s-feature w ↦ rw w.bad-is (scan_bad seen (omega arith) (omega arith))
+    | else-s-feature w ↦ rw w.bad-is (scan_good seen (omega arith) (omega arith))
+    ]
 
 pub returns : goal.returns
-returns c = scan_ends c.loop-i.invariant c.loop-i-test.false
+returns c = scan_ends c.loop-feature.invariant (omega arith)

@@ -3,21 +3,14 @@ use Prim.Native.Nat.{◌+◌, ◌*◌}
 use mathlib.Core.Path.{refl, ap, ◌∙◌}
 use native.Mathlib.Nat.{add_comm}
 use native.Mathlib.Omega.{arith}
-use borrow.Author.Rules.{rules}
 use Rattle.read.proofs.Answers.{span_within, span_part}
 use Rattle.read.proofs.calls.part.Goals as goal
-
-pub part_span-span-requires : goal.part_span-span-requires
-part_span-span-requires c = search rules
 
 pub overflow_add-end : goal.overflow_add-end
 overflow_add-end c = let h = span_within _ _ _ _ _ _ _ c.part_span-span.ensures in omega (arith, c.well_formed)
 
 pub offset_bounds-keys-start : goal.offset_bounds-keys-start
 offset_bounds-keys-start c = let h = span_within _ _ _ _ _ _ _ c.part_span-span.ensures in omega (arith, c.well_formed)
-
-pub slice_bounds-result-count : goal.slice_bounds-result-count
-slice_bounds-result-count c = search rules
 
 pub returns : goal.returns
 returns c =

@@ -5,7 +5,6 @@ use mathlib.Core.Bool.{true, false}
 use mathlib.Core.List.{List, ◌++◌}
 use native.Mathlib.Omega.{arith}
 use lib.ListN.{length, get_or, drop, take-append-drop}
-use borrow.Author.Rules.{rules}
 use Rattle.keys.specs.Key.{root_key}
 use Rattle.definitions.specs.Bits.{feature_of}
 use Rattle.definitions.specs.Window.{features_of_rows}
@@ -13,7 +12,7 @@ use Rattle.list.specs.Check.{one_slot}
 use Rattle.list.specs.Own.{OwnList, shown_by}
 use Rattle.read.specs.Fill.{rectangle_painted, Shows, NodeFilled}
 use Rattle.list.proofs.Own.{own_values}
-use Rattle.read.proofs.Shown.{shows_room, shows_square, leaf_painted, node_asked, node_filled}
+use Rattle.read.proofs.Shown.{shows_room, leaf_painted, node_asked, node_filled}
 use Rattle.read.proofs.Rows.{whole_painted}
 use Rattle.read.proofs.fill.fill_raster.Goals as goal
 
@@ -59,40 +58,17 @@ module _ {m : ℕ} {keys bits : List ℕ} {n : ℕ} (o : OwnList m keys bits n) 
         let s : Shows (shown_by m keys bits n) m 0 0 root_key bits 0 side 0 side (length before) = rw is root_shows in
         whole (node_filled f s node).pixels
 
-pub power_of_two-side-requires : goal.power_of_two-side-requires
-power_of_two-side-requires c = search rules
-
-pub overflow_cast-side : goal.overflow_cast-side
-overflow_cast-side c = search rules
-
-pub bounds-bits-0 : goal.bounds-bits-0
-bounds-bits-0 c =
-    shows_room (root_shows c.requires.own_list c.power_of_two-side.ensures c.requires.m_bound.1)
-
-pub has_one_slot-requires : goal.has_one_slot-requires
-has_one_slot-requires c = search rules
-
-pub feature_of-requires : goal.feature_of-requires
-feature_of-requires c = sym c.has_one_slot.ensures ∙ c.if-has_one_slot.true
-
-pub fill_square-requires : goal.fill_square-requires
-fill_square-requires c =
-    shows_square (root_shows c.requires.own_list c.power_of_two-side.ensures c.requires.m_bound.1)
+pub bounds-list-0 : goal.bounds-list-0
+bounds-list-0 c = shows_room (root_shows c.args.list.now.own c.power_of_two-side.ensures c.requires)
 
 pub fill_node-end-requires : goal.fill_node-end-requires
 fill_node-end-requires c =
-    node_asked (root_shows c.requires.own_list c.power_of_two-side.ensures c.requires.m_bound.1) (sym c.has_one_slot.ensures ∙ c.if-has_one_slot.false)
-
-pub shape_of-raster-then-has_one_slot : goal.shape_of-raster-then-has_one_slot
-shape_of-raster-then-has_one_slot c = search rules
+    node_asked (root_shows c.args.list.now.own c.power_of_two-side.ensures c.requires) (sym c.has_one_slot.ensures ∙ c.if-has_one_slot.false)
 
 pub returns-then-has_one_slot : goal.returns-then-has_one_slot
 returns-then-has_one_slot c =
-    leaf_end c.requires.own_list c.power_of_two-side.ensures c.requires.m_bound.1 _ _ refl _ (sym c.has_one_slot.ensures ∙ c.if-has_one_slot.true) c.feature_of.ensures c.fill_square.ensures
-
-pub shape_of-raster-else-has_one_slot : goal.shape_of-raster-else-has_one_slot
-shape_of-raster-else-has_one_slot c = search rules
+    leaf_end c.args.list.now.own c.power_of_two-side.ensures c.requires _ _ refl _ (sym c.has_one_slot.ensures ∙ c.if-has_one_slot.true) c.feature_of.ensures c.fill_square.ensures
 
 pub returns-else-has_one_slot : goal.returns-else-has_one_slot
 returns-else-has_one_slot c =
-    node_end c.requires.own_list c.power_of_two-side.ensures c.requires.m_bound.1 _ _ refl _ (sym c.has_one_slot.ensures ∙ c.if-has_one_slot.false) c.fill_node-end.ensures
+    node_end c.args.list.now.own c.power_of_two-side.ensures c.requires _ _ refl _ (sym c.has_one_slot.ensures ∙ c.if-has_one_slot.false) c.fill_node-end.ensures

@@ -1,43 +1,10 @@
--- `fill::fill_square` meets its contract: after each turn the rows passed are painted, and `from` is where the next begins.
-use native.Mathlib.Omega.{arith}
-use Rattle.read.proofs.Filling.{rows_begin, rows_long, row_fits, next_fits, row_goes, rows_end}
+-- `fill::fill_square`: one row more is painted. Rests on Filling.
+use Rattle.std.proofs.Common.{arith}
+use Rattle.read.proofs.Filling.{rows_begin, row_goes}
 use Rattle.read.proofs.fill.fill_square.Goals as goal
 
-pub loop-i-init : goal.loop-i-init
-loop-i-init c = rows_begin _ _ _ _ _
+pub loop-row-init : goal.loop-row-init
+loop-row-init c = rows_begin _ _ _ _ _
 
-pub overflow_add-from : goal.overflow_add-from
-overflow_add-from c =
-    let e = row_fits c.loop-i.invariant c.requires c.loop-i-test.true in
-    omega (arith, c.well_formed)
-
-pub fill_row-requires : goal.fill_row-requires
-fill_row-requires c =
-    let e = row_fits c.loop-i.invariant c.requires c.loop-i-test.true in
-    let f = rows_long c.loop-i.invariant in
-    omega arith
-
-pub overflow_add-from-in-loop-i : goal.overflow_add-from-in-loop-i
-overflow_add-from-in-loop-i c =
-    let l = c.before.before.before.before.before.before in
-    let e = next_fits l.loop-i.invariant l.requires c.loop-i-test.true in
-    omega (arith, l.well_formed)
-
-pub overflow_add-i : goal.overflow_add-i
-overflow_add-i c =
-    let l = c.before.before.before.before.before.before in
-    omega (arith, l.ranges.side, c.loop-i-test.true)
-
-pub loop-i-smaller : goal.loop-i-smaller
-loop-i-smaller c = omega (arith, c.loop-i-test.true)
-
-pub loop-i-preserved : goal.loop-i-preserved
-loop-i-preserved c =
-    let l = c.before.before.before.before.before.before in
-    row_goes l.loop-i.invariant l.requires c.loop-i-test.true _ c.fill_row.ensures
-
-pub shape_of-raster : goal.shape_of-raster
-shape_of-raster c = rows_long c.loop-i.invariant
-
-pub returns : goal.returns
-returns c = rows_end c.loop-i.invariant c.loop-i-test.false
+pub loop-row-preserved : goal.loop-row-preserved
+loop-row-preserved c = row_goes c.loop-row.invariant c.requires (omega arith) _ c.fill_row.ensures

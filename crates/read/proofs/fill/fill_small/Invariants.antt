@@ -1,0 +1,6 @@
+-- `fill::fill_small`: after each turn the rows passed are painted, and `from` is where the next begins.
+use Rattle.read.proofs.Filling.{RowsPassed}
+use Rattle.read.proofs.fill.fill_small.Given as goal
+
+abbrev pub invariant-loop-row : goal.invariant-loop-row
+invariant-loop-row g l = RowsPassed l.initial.raster l.wide l.place g.row.SIDE l.feature l.raster l.from l.row
