@@ -10,6 +10,7 @@ ghost use Rattle.definitions.specs.Calls.Survey.{survey as surveyed, survey_keys
 
 use build;
 use definitions::refusal::Refusal;
+use list::acceptance;
 use summary::{blocks, renew};
 
 // What raster and summary decide before the list is made: refusals 1, 2, 3 and 18.
@@ -41,6 +42,7 @@ pub fn survey(
 {
     check_raster(m, s, raster, summary)?;
     let n = build::build_checked(m, s, raster, keys, bits)?;
-    renew::fill(m, s, keys, bits, n, summary);
+    let list = acceptance::taken(m, keys, bits, n);
+    renew::fill(&list, s, summary);
     Ok(n)
 }

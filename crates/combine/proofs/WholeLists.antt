@@ -71,7 +71,7 @@ module _ {m : ℕ} {keys₁ bits₁ : List ℕ} {n₁ : ℕ} {keys₂ bits₂ : 
 
   module _ {keys bits : List ℕ} where
     pub no_room : room keys bits < length (result_of m keys₁ bits₁ n₁ keys₂ bits₂ n₂ table s₂)
-        → Answered (result_of m keys₁ bits₁ n₁ keys₂ bits₂ n₂ table s₂) keys bits keys bits 9 0
+        → Answered (result_of m keys₁ bits₁ n₁ keys₂ bits₂ n₂ table s₂) keys bits keys bits (record { refusal = 9; count = 0 })
     no_room h = record {
       refusal_is = sym (ap (λ t. cond t 9 0) (lt-ltb (room keys bits) (length (result_of m keys₁ bits₁ n₁ keys₂ bits₂ n₂ table s₂)) h));
       count-is = refl;
@@ -109,7 +109,7 @@ module _ {m : ℕ} {keys₁ bits₁ : List ℕ} {n₁ : ℕ} {keys₂ bits₂ : 
             let h = list_some (combined (shown_by m keys₁ bits₁ n₁) (shown_by m keys₂ bits₂ n₂) table s₂) m 0 0 0 in
             (omega (arith, keys_length root_written), omega (arith, bits_length root_written))
 
-        pub has_answer : Answered (result_of m keys₁ bits₁ n₁ keys₂ bits₂ n₂ table s₂) keys bits (set keys' 0 0) (set bits' 0 b) 0 n
+        pub has_answer : Answered (result_of m keys₁ bits₁ n₁ keys₂ bits₂ n₂ table s₂) keys bits (set keys' 0 0) (set bits' 0 b) (record { refusal = 0; count = n })
         has_answer =
             let v = root_written in
             record {

@@ -5,7 +5,10 @@ use Rattle.definitions.specs.Read.{room}
 use Rattle.definitions.specs.Buffer.{over}
 use Rattle.definitions.specs.Refusal.{Row, ◌gives◌, accepted, bad_settings, no_list}
 use Rattle.definitions.specs.Combine.{combined, bad_class_table}
+use Rattle.definitions.specs.declared.Counted.{Counted}
 use Rattle.list.specs.Own.{OwnList, shown_by}
+use Rattle.list.specs.Taken.{Taken}
+use Rattle.list.specs.declared.accepted_list.Accepted.{Accepted}
 use Rattle.combine.specs.Combining.{Named}
 
 -- the rows of the table of refusals before 9
@@ -30,9 +33,23 @@ abbrev pub result_of : (m : ℕ) (keys₁ bits₁ : List ℕ) (n₁ : ℕ) (keys
 result_of m keys₁ bits₁ n₁ keys₂ bits₂ n₂ table s₂ =
     list_of_picture m (combined (shown_by m keys₁ bits₁ n₁) (shown_by m keys₂ bits₂ n₂) table s₂)
 
+-- the same of two accepted lists
+abbrev pub ListsReady : (first second : Accepted) (table : List ℕ) (s₂ : ℕ) → Type 0
+ListsReady first second table s₂ =
+    CombineReady first.m first.keys.now first.bits.now (length first.keys.now) second.keys.now second.bits.now (length second.keys.now) table s₂
+
+abbrev pub list_combined : (first second : Accepted) (table : List ℕ) (s₂ : ℕ) → List Record
+list_combined first second table s₂ =
+    result_of first.m first.keys.now first.bits.now (length first.keys.now) second.keys.now second.bits.now (length second.keys.now) table s₂
+
+-- each is taken from its own slices
+pub record BothTaken (m₁ : ℕ) (keys₁ bits₁ : List ℕ) (n₁ m₂ : ℕ) (keys₂ bits₂ : List ℕ) (n₂ : ℕ) (first second : Accepted) : Type 0 where
+  pub first_taken : Taken m₁ keys₁ bits₁ n₁ first
+  pub second_taken : Taken m₂ keys₂ bits₂ n₂ second
+
 -- 9 where a list has no room, and else the list is in the slices
-pub record Answered (l : List Record) (keys bits keys' bits' : List ℕ) (refusal count : ℕ) : Type 0 where
-  pub refusal_is : refusal ≡ cond (ltb (room keys bits) (length l)) 9 0
-  pub count-is : count ≡ accepted refusal (length l) 0
-  pub keys_are : keys' ≡ accepted refusal (over (keys_of l) keys) keys
-  pub bits_are : bits' ≡ accepted refusal (over (values_of l) bits) bits
+pub record Answered (l : List Record) (keys bits keys' bits' : List ℕ) (answer : Counted) : Type 0 where
+  pub refusal_is : answer.refusal ≡ cond (ltb (room keys bits) (length l)) 9 0
+  pub count-is : answer.count ≡ accepted answer.refusal (length l) 0
+  pub keys_are : keys' ≡ accepted answer.refusal (over (keys_of l) keys) keys
+  pub bits_are : bits' ≡ accepted answer.refusal (over (values_of l) bits) bits

@@ -1,26 +1,20 @@
--- `combine::has_room` meets its contract: the result has fewer records than the two lists together, and else they are counted.
-use mathlib.Core.Path.{sym, ap}
-use native.Mathlib.Omega.{arith}
-use lib.Dec.{leb}
-use lib.ListN.{length}
-use borrow.Author.Rules.{rules}
+-- `combine::has_room`: the result has fewer records than the two lists together, and else they are counted. Rests on WholeLists.
+use Rattle.std.proofs.Common.{length, leb, sym, ap, arith}
 use borrow.Author.Tests.{le-leb}
-use Rattle.combine.specs.Ready.{result_of}
 use Rattle.combine.proofs.WholeLists.{root_asked, root_count, few_records, result_most}
 use Rattle.combine.proofs.has_room.Goals as goal
 
-pub overflow_sub-n1 : goal.overflow_sub-n1
-overflow_sub-n1 c = let h = result_most c.requires in omega (arith, h)
+pub overflow_add-first : goal.overflow_add-first
+overflow_add-first c = let h = few_records c.requires in omega arith
 
-pub returns-then-n1-n2 : goal.returns-then-n1-n2
-returns-then-n1-n2 c =
-    let h = result_most c.requires in
-    sym (le-leb (length (result_of c.args.m c.args.keys1.now c.args.bits1.now c.args.n1 c.args.keys2.now c.args.bits2.now c.args.n2 c.args.table.now c.args.s2))
-    c.args.room (omega (arith, c.if-n1-n2.true)))
+pub overflow_sub-first : goal.overflow_sub-first
+overflow_sub-first c = let h = result_most c.requires in omega arith
+
+pub returns-then-first-second : goal.returns-then-first-second
+returns-then-first-second c = let h = result_most c.requires in sym (le-leb _ _ (omega arith))
 
 pub count_block-whole-requires : goal.count_block-whole-requires
-count_block-whole-requires c = root_asked c.requires c.power_of_five-step.ensures c.at_roots.ensures
+count_block-whole-requires c = root_asked c.requires c.power_of_five-step.ensures c.at_roots-roots.ensures
 
 pub returns : goal.returns
-returns c =
-    ap (λ n. leb n c.args.room) (root_count c.requires c.power_of_five-step.ensures c.at_roots.ensures c.count_block-whole.ensures)
+returns c = ap (λ n. leb n c.args.room) (root_count c.requires c.power_of_five-step.ensures c.at_roots-roots.ensures c.count_block-whole.ensures)
