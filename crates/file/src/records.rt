@@ -3,20 +3,19 @@ ghost use Rattle.std.specs.Prelude.{◌≡◌, length};
 ghost use Rattle.std.proofs.lemmas.List.Edits.{sets};
 ghost use Rattle.definitions.specs.Buffer.{over};
 ghost use Rattle.definitions.specs.File.{head_length, bytes_of_records};
-ghost use Rattle.list.specs.Taken.{records_listed};
-ghost use Rattle.file.specs.Layout.{keys_at, values_at, RecordsFit};
+ghost use Rattle.definitions.specs.Read.{records_of};
+ghost use Rattle.file.specs.Layout.{keys_at, values_at};
 ghost use Rattle.file.specs.Room.{RoomFor};
 
 use crate::layout;
-use list::accepted_list::Accepted;
 
-// The records of a list become bytes.
-pub fn write_records(width: usize, list: &Accepted<'_>, file: &mut [u8])
-    requires { RecordsFit width (length list.now.keys.now) file.old }
-    ensures { file.new ≡ sets file.old head_length (bytes_of_records width (records_listed list.now)) }
+// The records of two slices become bytes.
+pub fn write_records(width: usize, keys: &[u32], bits: &[u32], file: &mut [u8])
+    requires { RoomFor width (length keys.now) keys.now bits.now file.old }
+    ensures { file.new ≡ sets file.old head_length (bytes_of_records width (records_of keys.now bits.now (length keys.now))) }
 {
-    for i in 0..list.keys.len() {
-        layout::put_record(list.keys[i], list.bits[i], file, width, i);
+    for i in 0..keys.len() {
+        layout::put_record(keys[i], bits[i], file, width, i);
     }
 }
 

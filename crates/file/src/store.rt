@@ -25,6 +25,6 @@ pub fn store(
         return Err(Refusal::AnswerRoom(needed as u64));
     }
     head::write_head(m, s, n as u32, file);
-    records::write_records(width, &list, file);
+    records::write_records(width, list.keys, list.bits, file);
     Ok(needed)
 }

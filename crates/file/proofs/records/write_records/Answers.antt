@@ -1,5 +1,4 @@
 -- `records::write_records`: each turn writes one record more. Rests on RecordBytes.
-use Rattle.std.proofs.Common.{arith}
 use Rattle.file.proofs.RecordBytes.{none_written, record_stored}
 use Rattle.file.proofs.records.write_records.Goals as goal
 
@@ -7,6 +6,4 @@ pub loop-i-init : goal.loop-i-init
 loop-i-init c = none_written _ _ _ _ _
 
 pub loop-i-preserved : goal.loop-i-preserved
-loop-i-preserved c =
-    record_stored (record { in_keys = omega arith; in-bits = let e = c.args.list.now.paired in omega arith; in_file = c.requires })
-    c.loop-i.invariant c.loop-i-test.true c.put_record.ensures
+loop-i-preserved c = record_stored c.requires c.loop-i.invariant c.loop-i-test.true c.put_record.ensures

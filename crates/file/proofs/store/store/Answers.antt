@@ -49,9 +49,14 @@ overflow_cast-n c =
 pub write_records-requires : goal.write_records-requires
 write_records-requires c =
     let many = taken_length c.in_ok-list.ensures.list in
+    let pair = c.in_ok-list.list.paired in
     record {
-      width_is = rw c.width-width.ensures (width_of c.args.s);
-      there = rw many (omega (arith, c.if-file-needed.false, c.length-needed.ensures, c.write_head.auto));
+      in_keys = omega arith;
+      in-bits = omega arith;
+      in_file = record {
+        width_is = rw c.width-width.ensures (width_of c.args.s);
+        there = rw many (omega (arith, c.if-file-needed.false, c.length-needed.ensures, c.write_head.auto));
+      };
     }
 
 pub returns-clause-value : goal.returns-clause-value
