@@ -1,18 +1,19 @@
 -- The answers of the test of a log file's head, one for each way out of the code, and how they stand to load's own table. Rests on the laws of tables.
 use Prim.Native.Nat.{ℕ, ◌≤◌, ◌<◌}
 use mathlib.Core.Path.{◌≡◌, refl, sym, ap, ap₂, ◌∙◌}
-use mathlib.Core.Bool.{true, false, not}
+use mathlib.Core.Bool.{Bool, true, false, not}
 use mathlib.Core.List.{List}
-use lib.ListN.{length}
+use lib.ListN.{length, take}
 use lib.Dec.{eqb}
 use borrow.Author.Tests.{lt-ltb, le-ltb, ltb-false, eq-eqb, ne_eqb, eqb-true, not-false}
 use Rattle.definitions.specs.Refusal.{bad_settings}
-use Rattle.definitions.specs.File.{version_in, m_in, s_in}
-use Rattle.definitions.specs.LogFile.{log_file_length, used_in, log_too_short, wrong_log_mark, wrong_log_version, wrong_log_settings, wrong_log_length}
+use Rattle.definitions.specs.File.{version_in, same_bytes}
+use Rattle.definitions.specs.LogFile.{log_mark, log_file_length, used_in, log_too_short, wrong_log_mark, wrong_log_version, wrong_log_settings, wrong_log_length}
 use Rattle.definitions.specs.Calls.LoadLog.{load_log_refusal}
 use Rattle.laws.proofs.First.{this, later, holds_first, first_holds, first_none, none_first, holds_more}
 use Rattle.list.proofs.Tests.{GoodSettings, good_settings}
-use Rattle.log_file.specs.Head.{log_head_rows, log_head_refusal}
+use Rattle.log_file.specs.Head.{log_head_rows, log_head_refusal, LogHeadIn}
+use Rattle.definitions.specs.declared.answers.LogHead.{LogHead}
 
 -- the head's rows
 pub record LogHeadAccepted (file : List ℕ) : Type 0 where
@@ -82,7 +83,7 @@ module _ (file : List ℕ) where
           good_head e = sym (none_first (log_head_rows file) (not_short, (marked, (versioned, (good, (ap not e, tt))))))
 
 -- an accepted head
-module _ (file : List ℕ) (e : 0 ≡ log_head_refusal file) where
+module _ {file : List ℕ} {head : LogHead} (e : 0 ≡ log_head_refusal file) (is : LogHeadIn file head) where
   a : LogHeadAccepted file
   a = log_head_accepted file (sym e)
 
@@ -91,9 +92,14 @@ module _ (file : List ℕ) (e : 0 ≡ log_head_refusal file) where
   head_long = ltb-false (length file) 23 a.long
 
   -- has good settings
-  pub head_settings : (m s : ℕ) → m ≡ m_in file → s ≡ s_in file → GoodSettings m s
-  head_settings m s m_is s_is = good_settings m s (ap₂ bad_settings m_is s_is ∙ a.settings)
+  pub head_settings : GoodSettings head.m head.s
+  head_settings = good_settings head.m head.s (ap₂ bad_settings is.m_is is.s_is ∙ a.settings)
 
   -- and its file is as long as its count says
-  pub head_exact : (used : ℕ) → used ≡ used_in file → length file ≡ log_file_length used
-  head_exact used used_is = eqb-true _ _ (not-false _ a.exact) ∙ ap log_file_length (sym used_is)
+  pub head_exact : length file ≡ log_file_length (used_in file)
+  head_exact = eqb-true _ _ (not-false _ a.exact)
+
+-- the test of the three bytes is that of the mark
+pub log_mark_test : (file : List ℕ) (r : Bool) → r ≡ not (same_bytes (take 3 file) log_mark) → wrong_log_mark file ≡ r
+unfolding wrong_log_mark
+log_mark_test file r e = sym e

@@ -1,17 +1,12 @@
--- The head of a log's file: what its stores leave, what is stored after it, and how long the file is. Rests on runs of stores.
-use Prim.Native.Nat.{ℕ, ◌+◌, ◌-◌, ◌/◌, ◌%◌, ◌≤◌}
-use mathlib.Core.Path.{◌≡◌, refl, sym, ap, ◌∙◌}
-use mathlib.Core.Bool.{false}
+-- The head of a log's file: what its stores leave, what is stored after it. Rests on runs of stores.
+use Prim.Native.Nat.{ℕ, ◌+◌, ◌%◌}
+use mathlib.Core.Path.{◌≡◌, refl, ap, ◌∙◌}
 use mathlib.Core.List.{List, ◌++◌}
 use native.Mathlib.Nat.{div-one}
-use native.Mathlib.Omega.{arith}
 use lib.ListN.{length, set}
 use lib.Seq.{sets}
-use lib.Dec.{eqb}
-use borrow.Author.Tests.{eq-eqb, ne_eqb, eqb-true, eqb-false}
-use Rattle.keys.proofs.Cases.{decide}
 use Rattle.definitions.specs.File.{bytes_of}
-use Rattle.definitions.specs.LogFile.{log_mark, log_head_of, log_file_length}
+use Rattle.definitions.specs.LogFile.{log_mark, log_head_of}
 use Rattle.file.proofs.Stores.{sets_split}
 
 -- the mark, the version, m, s and both counts stored one after the other are the head
@@ -33,14 +28,3 @@ pub log_head_then : (old : List ℕ) (m s used in_force : ℕ) (rest : List ℕ)
 log_head_then old m s used in_force rest =
     sets_split old 0 (log_head_of m s used in_force) rest
     ∙ ap (λ k. sets (sets old 0 (log_head_of m s used in_force)) (0 + k) rest) (length-head m s used in_force)
-
--- a file whose bytes past the head are no whole records has no such length
-pub no_whole_records : (size used : ℕ) → ((size - 23) % 8 ≡ 0 → ⊥) → false ≡ eqb size (log_file_length used)
-no_whole_records size used h = sym (ne_eqb size (log_file_length used) (λ e. h (omega arith)))
-
--- and else their number tells
-pub records_tell : (size used : ℕ) → 23 ≤ size → (size - 23) % 8 ≡ 0 → eqb ((size - 23) / 8) used ≡ eqb size (log_file_length used)
-records_tell size used long whole =
-    decide (eqb ((size - 23) / 8) used)
-    (λ e. let same = eqb-true ((size - 23) / 8) used e in e ∙ sym (eq-eqb size (log_file_length used) (omega arith)))
-    (λ e. e ∙ sym (ne_eqb size (log_file_length used) (λ same. eqb-false ((size - 23) / 8) used e (omega arith))))

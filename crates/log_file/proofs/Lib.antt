@@ -5,7 +5,6 @@ pub mod LastIn
 pub mod EntryContent
 pub mod LogParts
 -- the head
-pub mod MarkBytes
 pub mod HeadBytes
 pub mod HeadAnswers
 -- the calls: what is accepted, and each way out

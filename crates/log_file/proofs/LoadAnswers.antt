@@ -17,10 +17,16 @@ use Rattle.definitions.specs.LogFile.{log_file_length, used_in, in_force_in, log
 use Rattle.definitions.specs.Refusal.{accepted}
 use Rattle.definitions.specs.Calls.LoadLog.{load_log_refusal, load_log, load_log_keys, load_log_values}
 use Rattle.definitions.specs.declared.LoadedLog.{LoadedLog}
+use Rattle.definitions.specs.declared.answers.LogHead.{LogHead}
+use Rattle.definitions.specs.declared.refusal.Refusal.{Refusal}
+use Rattle.definitions.specs.Refused.{refusal_number}
+use Rattle.definitions.specs.Answered.{as_loaded_log}
+use Rattle.definitions.proofs.Refused.{refusal_some}
+use Rattle.std.specs.Prelude.{Ok, Err}
 use Rattle.laws.proofs.First.{this, later, holds_first, accepted_left}
 use Rattle.file.specs.Layout.{records_at, keys_at, values_at}
 use Rattle.file.specs.Room.{RoomFor}
-use Rattle.log_file.specs.Head.{log_head_refusal}
+use Rattle.log_file.specs.Head.{log_head_refusal, LogHeadIn}
 use Rattle.log_file.specs.Records.{places_in, keys_in_bytes, values_in_bytes}
 use Rattle.log_file.proofs.Lent.{rest_lent}
 use Rattle.log_file.proofs.HeadAnswers.{LogHeadAccepted, log_head_accepted}
@@ -41,21 +47,22 @@ module _ (file : List ℕ) (exact : length file ≡ log_file_length (used_in fil
   values_are = ap₂ (λ n bs. values_of (read_records 4 n bs)) places_are (drop-drop 11 12 file)
 
   -- the used records lie there
-  pub used_there : (used : ℕ) → used ≡ used_in file → used ≤ places_in (take (length file - 12) (drop 12 file))
-  used_there used used_is = let e = places_are in rw (rest_lent file 12) (omega arith)
+  pub used_there : (head : LogHead) → LogHeadIn file head → head.used ≤ places_in (take (length file - 12) (drop 12 file))
+  used_there head is = let e = places_are in rw (rest_lent file 12) (omega (arith, is.used_is))
 
   -- whether they are a log is whether the file's are
-  pub log_is : (m s used in_force : ℕ) → m ≡ m_in file → s ≡ s_in file → used ≡ used_in file → in_force ≡ in_force_in file
-      → no_log m s (keys_in_bytes (take (length file - 12) (drop 12 file))) (values_in_bytes (take (length file - 12) (drop 12 file))) used in_force ≡ no_log_in file
+  pub log_is : (head : LogHead) → LogHeadIn file head
+      → no_log head.m head.s (keys_in_bytes (take (length file - 12) (drop 12 file))) (values_in_bytes (take (length file - 12) (drop 12 file))) head.used head.in_force
+      ≡ no_log_in file
   unfolding no_log_in
-  log_is m s used in_force m_is s_is used_is force-is =
-      ap (λ l. no_log m s (keys_in_bytes l) (values_in_bytes l) used in_force) (rest_lent file 12)
-      ∙ (λ i. no_log (m_is i) (s_is i) (keys_are i) (values_are i) (used_is i) (force-is i))
+  log_is head is =
+      ap (λ l. no_log head.m head.s (keys_in_bytes l) (values_in_bytes l) head.used head.in_force) (rest_lent file 12)
+      ∙ (λ i. no_log (is.m_is i) (is.s_is i) (keys_are i) (values_are i) (is.used_is i) (is.force_is i))
 
--- the table, once the head is accepted and the counts are read
-module _ (file : List ℕ) (head : 0 ≡ log_head_refusal file) (keys values : List ℕ) where
+-- the table, once the head is accepted
+module _ {file : List ℕ} {head : LogHead} (none : 0 ≡ log_head_refusal file) (is : LogHeadIn file head) (keys values : List ℕ) where
   a : LogHeadAccepted file
-  a = log_head_accepted file (sym head)
+  a = log_head_accepted file (sym none)
 
   -- 5
   pub no-log : no_log_in file ≡ true → 5 ≡ load_log_refusal file keys values
@@ -63,18 +70,18 @@ module _ (file : List ℕ) (head : 0 ≡ log_head_refusal file) (keys values : L
   no-log bad =
       sym (holds_first (later a.long (later a.marked (later a.versioned (later a.settings (later a.exact (this bad refl)))))))
 
-  module _ (whole : no_log_in file ≡ false) (used : ℕ) (used_is : used ≡ used_in file) where
+  module _ (whole : no_log_in file ≡ false) where
     -- 10
-    pub no_room : room keys values < used → 10 ≡ load_log_refusal file keys values
+    pub no_room : room keys values < head.used → 10 ≡ load_log_refusal file keys values
     unfolding load_log_refusal
     no_room h =
-        let full = lt-ltb (room keys values) (used_in file) (omega arith) in
+        let full = lt-ltb (room keys values) (used_in file) (omega (arith, is.used_is)) in
         sym (holds_first
         (later a.long
         (later a.marked (later a.versioned (later a.settings (later a.exact (later whole (this full refl))))))))
 
     -- none
-    pub all_good : used ≤ room keys values → 0 ≡ load_log_refusal file keys values
+    pub all_good : head.used ≤ room keys values → 0 ≡ load_log_refusal file keys values
     all_good h = sym (load_accepts file keys values (record {
       long = a.long;
       marked = a.marked;
@@ -82,7 +89,7 @@ module _ (file : List ℕ) (head : 0 ≡ log_head_refusal file) (keys values : L
       settings = a.settings;
       exact = a.exact;
       whole = whole;
-      roomy = omega arith;
+      roomy = omega (arith, is.used_is);
     }))
 
 module _ (file keys values : List ℕ) where
@@ -118,9 +125,10 @@ module _ (file keys values : List ℕ) where
   )
 
   -- a refusal gives its number alone and leaves what was lent
-  pub refused : (k : ℕ) → k ≡ load_log_refusal file keys values → (k ≡ 0 → ⊥)
-      → LoadedAs (record { refusal = k; m = 0; s = 0; used = 0; in_force = 0 }) keys values
-  refused k e not-zero =
+  pub refused : (refusal : Refusal) → refusal_number refusal ≡ load_log_refusal file keys values → LoadedAs (as_loaded_log (Err refusal)) keys values
+  refused refusal e =
+      let k : ℕ = refusal_number refusal in
+      let not-zero : k ≡ 0 → ⊥ = refusal_some refusal in
       let told = by_number k (sym e) in
       let nothing : (x : ℕ) → accepted k x 0 ≡ 0 = λ x. accepted_left x 0 not-zero in (
         sym (λ i. record {
@@ -145,11 +153,12 @@ module _ (file keys values : List ℕ) where
     long = ltb-false (length file) 23 b.long
 
     -- and its records have room
-    pub room_for : (used : ℕ) → used ≡ used_in file → RoomFor 4 used keys values (take (length file - 12) (drop 12 file))
-    room_for used used_is =
+    pub room_for : (head : LogHead) → LogHeadIn file head → RoomFor 4 head.used keys values (take (length file - 12) (drop 12 file))
+    room_for head is =
         let h = b.roomy in
         let e = length-drop 12 file in
         let ends : length file ≡ log_file_length (used_in file) = eqb-true _ _ (not-false _ b.exact) in
+        let many = is.used_is in
         rw (rest_lent file 12) (record { in_keys = omega arith; in-bits = omega arith; in_file = record { width_is = four; there = omega arith } })
 
     read_as : (used : ℕ) → used ≡ used_in file → records_at 4 used (take (length file - 12) (drop 12 file)) ≡ log_records_in file
@@ -157,15 +166,15 @@ module _ (file keys values : List ℕ) where
     read_as used used_is = ap (records_at 4 used) (rest_lent file 12) ∙ ap₂ (read_records 4) used_is (drop-drop 11 12 file)
 
     -- the records read are what load leaves
-    pub all_loaded : (m s used in_force : ℕ) (keys' values' : List ℕ) → m ≡ m_in file → s ≡ s_in file → used ≡ used_in file → in_force ≡ in_force_in file
-        → keys' ≡ over (keys_at 4 used (take (length file - 12) (drop 12 file))) keys
-        → values' ≡ over (values_at 4 used (take (length file - 12) (drop 12 file))) values
-        → LoadedAs (record { refusal = 0; m = m; s = s; used = used; in_force = in_force }) keys' values'
-    all_loaded m s used in_force keys' values' m_is s_is used_is force-is e f =
+    pub all_loaded : (head : LogHead) (keys' values' : List ℕ) → LogHeadIn file head
+        → keys' ≡ over (keys_at 4 head.used (take (length file - 12) (drop 12 file))) keys
+        → values' ≡ over (values_at 4 head.used (take (length file - 12) (drop 12 file))) values
+        → LoadedAs (as_loaded_log (Ok head)) keys' values'
+    all_loaded head keys' values' is e f =
         let told = by_number 0 (sym none) in (
-          (λ i. record { refusal = 0; m = m_is i; s = s_is i; used = used_is i; in_force = force-is i }) ∙ told.0,
+          (λ i. record { refusal = 0; m = is.m_is i; s = is.s_is i; used = is.used_is i; in_force = is.force_is i }) ∙ told.0,
           (
-            e ∙ ap (λ l. over (keys_of l) keys) (read_as used used_is) ∙ told.1.0,
-            f ∙ ap (λ l. over (values_of l) values) (read_as used used_is) ∙ told.1.1,
+            e ∙ ap (λ l. over (keys_of l) keys) (read_as head.used is.used_is) ∙ told.1.0,
+            f ∙ ap (λ l. over (values_of l) values) (read_as head.used is.used_is) ∙ told.1.1,
           ),
         )

@@ -1,7 +1,7 @@
 -- The records to redo in a log's bytes: those from the place of the count in force on. Rests on InBytes and on the laws of a log in two slices.
 use Prim.Native.Nat.{ℕ, ◌-◌, ◌*◌, ◌≤◌}
 use mathlib.Core.Path.{◌≡◌, sym, ap, ap₂, ◌∙◌}
-use mathlib.Core.Bool.{Bool, false, not}
+use mathlib.Core.Bool.{Bool, true, not}
 use mathlib.Core.List.{List}
 use native.Mathlib.Omega.{arith}
 use lib.ListN.{length, take, drop, length-take}
@@ -34,9 +34,9 @@ module _ (m s : ℕ) (bytes : List ℕ) (used in_force : ℕ) (there : used ≤ 
       (ap (take (used - in_force)) (values_after bytes in_force (omega arith)) ∙ part_again (values_in_bytes bytes))
 
   -- they decide
-  pub rest_decides : (q r : Bool) → q ≡ is_sound m s (log_in bytes in_force) → not q ≡ false
+  pub rest_decides : (r : Bool) → is_sound m s (log_in bytes in_force) ≡ true
       → r ≡ is_sound m s (log_in (take (length bytes - 8 * in_force) (drop (8 * in_force) bytes)) (used - in_force))
       → not r ≡ no_log m s (keys_in_bytes bytes) (values_in_bytes bytes) used in_force
-  rest_decides q r is good told =
-      back_decides m s (keys_in_bytes bytes) (values_in_bytes bytes) used in_force (in_keys bytes there) (in_values bytes there) within q r is good
+  rest_decides r good told =
+      back_decides m s (keys_in_bytes bytes) (values_in_bytes bytes) used in_force (in_keys bytes there) (in_values bytes there) within r good
       (told ∙ ap (λ l. is_sound m s (log_in l (used - in_force))) (rest_lent bytes (8 * in_force)) ∙ ap (is_sound m s) rest_is)

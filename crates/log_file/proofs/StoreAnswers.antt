@@ -1,15 +1,15 @@
 -- The answers of store, one for each way out of the code: its result and what it leaves in the file's buffer. Rests on the laws of tables, LogAccepted and
 -- HeadBytes.
 use Prim.Native.Nat.{ℕ, ◌-◌, ◌≤◌, ◌<◌, min}
-use mathlib.Core.Path.{◌≡◌, refl, sym, ap, ◌∙◌}
+use mathlib.Core.Path.{◌≡◌, refl, sym, ap, ap₂, ◌∙◌}
 use mathlib.Core.Bool.{true, false, cond}
 use mathlib.Core.List.{List, ◌++◌}
 use native.Mathlib.Omega.{arith}
 use lib.ListN.{length, take, drop, length-drop, length-append}
-use lib.Seq.{sets, length-sets}
+use lib.Seq.{sets, length-sets, take-length, length-take-le}
 use lib.Dec.{eqb}
 use borrow.Author.Tests.{lt-ltb}
-use Rattle.definitions.specs.Read.{room, records_of}
+use Rattle.definitions.specs.Read.{room, paired, records_of}
 use Rattle.definitions.specs.Buffer.{over}
 use Rattle.definitions.specs.File.{four, bytes_of_records}
 use Rattle.definitions.specs.Log.{no_log}
@@ -100,17 +100,27 @@ module _ (m s : ℕ) (keys values : List ℕ) (used in_force : ℕ) (file : List
           exact = omega arith
 
           -- the part of it from byte 12 on has room for the records
-          pub room_in : (headed : List ℕ) → length headed ≡ length file → RoomFor 4 used keys values (take (length headed - 12) (drop 12 headed))
+          pub room_in : (headed : List ℕ) → length headed ≡ length file
+              → RoomFor 4 (length (take used keys)) (take used keys) (take used values) (take (length headed - 12) (drop 12 headed))
           room_in headed same =
               let e = exact in
               let d = length-drop 12 headed in
-              let a = w.in_keys in
-              let b = w.in_values in
-              rw (rest_lent headed 12) (record { in_keys = a; in-bits = b; in_file = record { width_is = four; there = omega arith } })
+              let a = length-take-le used keys w.in_keys in
+              let b = length-take-le used values w.in_values in
+              rw (rest_lent headed 12) (record { in_keys = omega arith; in-bits = omega arith; in_file = record { width_is = four; there = omega arith } })
+
+          -- the parts of the two slices that are lent have the used records
+          narrowed : records_of (take used keys) (take used values) (length (take used keys)) ≡ records_of keys values used
+          narrowed =
+              let a = length-take-le used keys w.in_keys in
+              let b = length-take-le used values w.in_values in
+              let pair : length (take used keys) ≡ length (take used values) = omega arith in
+              ap₂ paired (take-length (take used keys)) (ap (λ k. take k (take used values)) pair ∙ take-length (take used values))
 
           -- the head, and then the records in that part, are the file
           pub all_stored : (headed part : List ℕ) → headed ≡ sets file 0 (log_head_of m s used in_force)
-              → part ≡ sets (take (length headed - 12) (drop 12 headed)) 11 (bytes_of_records 4 (records_of keys values used))
+              → part ≡ sets (take (length headed - 12) (drop 12 headed)) 11
+              (bytes_of_records 4 (records_of (take used keys) (take used values) (length (take used keys))))
               → StoredAs (record { refusal = 0; count = k }) (take 12 headed ++ (part ++ drop (length headed - 12) (drop 12 headed)))
           unfolding stored_log log_file_of
           all_stored headed part e f =
@@ -122,7 +132,7 @@ module _ (m s : ℕ) (keys values : List ℕ) (used in_force : ℕ) (file : List
               let long = length-records four (records_of keys values used) in
               let kept : length headed ≡ length file = ap length e ∙ length-sets file 0 (log_head_of m s used in_force) in
               let written : take 12 headed ++ (part ++ drop (length headed - 12) (drop 12 headed)) ≡ over bytes file
-              = rest_back headed 12 11 records (omega arith) part f
+              = rest_back headed 12 11 records (omega arith) part (f ∙ ap (λ l. sets (take (length headed - 12) (drop 12 headed)) 11 (bytes_of_records 4 l)) narrowed)
               ∙ ap (λ x. sets x 23 records) e
               ∙ sym (log_head_then file m s used in_force records)
               ∙ ap (λ n. sets file 0 (log_head_of m s n in_force ++ records)) (sym many)

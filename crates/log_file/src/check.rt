@@ -18,14 +18,9 @@ fn ends_in_entry(m: u32, s: u32, bytes: &[u8], used: usize) -> bool
         return false;
     }
     let last = entry::last_entry(bytes, used);
-    let key = last.key;
-    let block = Key { number: key };
-    if !block.is_valid(m) {
-        return false;
-    }
-    let start = 8 * last.start;
-    let count = last.count;
-    check_file::holds_block(&bytes[start..], 4, count, m, s, key)
+    let block = Key { number: last.key };
+    let content = &bytes[8 * last.start..];
+    block.is_valid(m) && check_file::holds_block(content, 4, last.count, m, s, last.key)
 }
 
 // The used records end in so many entries, one after the other.
@@ -34,13 +29,11 @@ fn ends_in_entries(m: u32, s: u32, bytes: &[u8], used: usize, count: usize) -> b
     ensures { result ≡ ends_in_entries count m s (log_in bytes.now used) }
 {
     let mut end = used;
-    let mut left = count;
-    while 0 < left {
+    for _passed in 0..count {
         if !ends_in_entry(m, s, bytes, end) {
             return false;
         }
         end = entry::last_entry(bytes, end).start;
-        left -= 1;
     }
     true
 }
@@ -55,13 +48,9 @@ fn ends_in_group(m: u32, s: u32, bytes: &[u8], used: usize) -> bool
     }
     let count = entry::last_count(bytes, used);
     let before = used - Entry::CLOSING;
-    if entry::key_at(bytes, before) != 0 {
-        return false;
-    }
-    if count == 0 {
-        return false;
-    }
-    ends_in_entries(m, s, bytes, before, count)
+    entry::key_at(bytes, before) == Key::ROOT
+        && count != 0
+        && ends_in_entries(m, s, bytes, before, count)
 }
 
 // The used records end in a step, which is a group where the last has the mark.
@@ -70,9 +59,10 @@ fn ends_in_step(m: u32, s: u32, bytes: &[u8], used: usize) -> bool
     ensures { result ≡ last_is_step m s (log_in bytes.now used) }
 {
     if step::ends_in_mark(bytes, used) {
-        return ends_in_group(m, s, bytes, used);
+        ends_in_group(m, s, bytes, used)
+    } else {
+        ends_in_entry(m, s, bytes, used)
     }
-    ends_in_entry(m, s, bytes, used)
 }
 
 // The used records divide from the end into steps.
@@ -81,6 +71,7 @@ fn is_sound(m: u32, s: u32, bytes: &[u8], used: usize) -> bool
     ensures { result ≡ is_sound m s (log_in bytes.now used) }
 {
     let mut end = used;
+    // This loop goes from step to step, and counts nothing.
     while 0 < end {
         if !ends_in_step(m, s, bytes, end) {
             return false;
@@ -95,12 +86,7 @@ pub fn is_log(m: u32, s: u32, bytes: &[u8], used: usize, in_force: usize) -> boo
     requires { (m ≤ 10) × (s ≤ slot_limit) × (used ≤ places_in bytes.now) }
     ensures { not result ≡ no_log m s (keys_in_bytes bytes.now) (values_in_bytes bytes.now) used in_force }
 {
-    if used < in_force {
-        return false;
-    }
-    if !is_sound(m, s, bytes, in_force) {
-        return false;
-    }
-    let start = 8 * in_force;
-    is_sound(m, s, &bytes[start..], used - in_force)
+    in_force <= used
+        && is_sound(m, s, bytes, in_force)
+        && is_sound(m, s, &bytes[8 * in_force..], used - in_force)
 }

@@ -36,17 +36,10 @@ pub fn is_closed(s: u32, bytes: &[u8], used: usize) -> bool
     requires { used ≤ places_in bytes.now }
     ensures { result ≡ is_closed s (log_in bytes.now used) }
 {
-    if used < Entry::CLOSING {
-        return false;
-    }
-    if used < entry::places(last_count(bytes, used)) {
-        return false;
-    }
-    let key = key_at(bytes, used - 1);
-    if key_at(bytes, used - Entry::CLOSING) != key {
-        return false;
-    }
-    value_at(bytes, used - 1) < s
+    Entry::CLOSING <= used
+        && entry::places(last_count(bytes, used)) <= used
+        && key_at(bytes, used - Entry::CLOSING) == key_at(bytes, used - 1)
+        && value_at(bytes, used - 1) < s
 }
 
 // The last entry of the used records.

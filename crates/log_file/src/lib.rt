@@ -5,6 +5,5 @@ pub mod check;
 pub mod entry;
 pub mod head;
 pub mod load;
-pub mod mark;
 pub mod step;
 pub mod store;

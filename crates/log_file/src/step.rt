@@ -6,21 +6,18 @@ ghost use Rattle.log_file.specs.Records.{places_in, keys_in_bytes, values_in_byt
 
 use crate::entry;
 use edit_log::entry::Entry;
-use edit_log::group::Group;
+use edit_log::group;
 use edit_log::step::LogStep;
+use keys::Key;
 
 // The last record closes a group: its key is 0, and its number is the mark, which is no feature.
 pub fn ends_in_mark(bytes: &[u8], used: usize) -> bool
     requires { used ≤ places_in bytes.now }
     ensures { result ≡ ends_in_mark (log_in bytes.now used) }
 {
-    if used == 0 {
-        return false;
-    }
-    if entry::key_at(bytes, used - 1) != 0 {
-        return false;
-    }
-    entry::value_at(bytes, used - 1) == Group::MARK
+    used != 0
+        && entry::key_at(bytes, used - 1) == Key::ROOT
+        && entry::value_at(bytes, used - 1) == group::MARK
 }
 
 // The place where the last entries start, so many as count says.
@@ -29,10 +26,8 @@ fn entries_start(bytes: &[u8], used: usize, count: usize) -> usize
     ensures { result ≡ length (before_entries count (log_in bytes.now used)) }
 {
     let mut start = used;
-    let mut left = count;
-    while 0 < left {
+    for _passed in 0..count {
         start = entry::last_entry(bytes, start).start;
-        left -= 1;
     }
     start
 }
@@ -43,18 +38,16 @@ pub fn last_step(bytes: &[u8], used: usize) -> LogStep
     ensures { result ≡ last_step (log_in bytes.now used) }
 {
     if !ends_in_mark(bytes, used) {
-        let start = entry::last_entry(bytes, used).start;
         return LogStep {
-            start,
+            start: entry::last_entry(bytes, used).start,
             end: used,
             grouped: false,
         };
     }
     let end = used - Entry::CLOSING;
     let count = entry::last_count(bytes, used);
-    let start = entries_start(bytes, end, count);
     LogStep {
-        start,
+        start: entries_start(bytes, end, count),
         end,
         grouped: true,
     }

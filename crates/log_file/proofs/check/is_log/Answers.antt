@@ -1,42 +1,44 @@
--- `check::is_log` meets its contract: the records in force and those to redo are checked one after the other.
-use native.Mathlib.Omega.{arith}
+-- `check::is_log`: the tests in a row are those of the definition, first of the records in force and then of those to redo. Rests on Parts of crate edit_log,
+-- InBytes and LogParts.
+use Rattle.std.proofs.Common.{arith, ◌≡◌, ◌≤◌, true}
+use Rattle.definitions.specs.Log.{is_sound}
+use Rattle.log_file.specs.Records.{log_in}
 use Rattle.edit_log.proofs.Parts.{past_used, front_fails}
 use Rattle.log_file.proofs.InBytes.{in_keys, in_values}
 use Rattle.log_file.proofs.LogParts.{rest_there, rest_begins, rest_decides}
-use borrow.Author.Rules.{rules}
 use Rattle.log_file.proofs.check.is_log.Goals as goal
 
-pub returns-then-used-in_force : goal.returns-then-used-in_force
-returns-then-used-in_force c =
-    past_used _ _ _ _ _ _ (in_keys _ c.requires.2) (in_values _ c.requires.2) c.if-used-in_force.true
-
-pub is_sound-requires : goal.is_sound-requires
-is_sound-requires c = search rules
-
-pub returns-then-not-is_sound : goal.returns-then-not-is_sound
-returns-then-not-is_sound c =
-    front_fails _ _ _ _ _ _ (in_keys _ c.requires.2) (in_values _ c.requires.2) c.if-used-in_force.false c.is_sound.result c.is_sound.ensures c.if-not-is_sound.true-raw
-
-pub overflow_mul-start : goal.overflow_mul-start
-overflow_mul-start c =
-    let h = rest_begins c.args.m c.args.s c.args.bytes.now _ _ c.requires.2 c.if-used-in_force.false in
+pub overflow_mul-in_force : goal.overflow_mul-in_force
+overflow_mul-in_force c =
+    let within : c.args.in_force ≤ c.args.used = grind arith in
+    let h = rest_begins c.args.m c.args.s c.args.bytes.now _ _ c.requires.2 within in
     omega arith
 
 pub slice_bounds-is_sound-count : goal.slice_bounds-is_sound-count
 slice_bounds-is_sound-count c =
-    let h = rest_begins c.args.m c.args.s c.args.bytes.now _ _ c.requires.2 c.if-used-in_force.false in
+    let within : c.args.in_force ≤ c.args.used = grind arith in
+    let h = rest_begins c.args.m c.args.s c.args.bytes.now _ _ c.requires.2 within in
     omega arith
-
-pub is_sound-requires-2 : goal.is_sound-requires-2
-is_sound-requires-2 c =
-    (c.requires.0, c.requires.1, rest_there c.args.m c.args.s c.args.bytes.now _ _ c.requires.2 c.if-used-in_force.false)
-
-pub returns : goal.returns
-returns c =
-    rest_decides _ _ c.args.bytes.now _ _ c.requires.2 c.if-used-in_force.false c.is_sound.result c.is_sound-2.result
-    c.is_sound.ensures c.if-not-is_sound.false-raw c.is_sound-2.ensures
 
 pub slice_bounds-is_sound-start : goal.slice_bounds-is_sound-start
 slice_bounds-is_sound-start c =
-    let h = rest_begins c.args.m c.args.s c.args.bytes.now _ _ c.requires.2 c.if-used-in_force.false in
+    let within : c.args.in_force ≤ c.args.used = grind arith in
+    let h = rest_begins c.args.m c.args.s c.args.bytes.now _ _ c.requires.2 within in
     omega arith
+
+pub is_sound-requires-then-is_sound : goal.is_sound-requires-then-is_sound
+is_sound-requires-then-is_sound c =
+    let within : c.args.in_force ≤ c.args.used = grind arith in
+    (c.requires.0, c.requires.1, rest_there c.args.m c.args.s c.args.bytes.now _ _ c.requires.2 within)
+
+pub returns-then-is_sound : goal.returns-then-is_sound
+returns-then-is_sound c =
+    let within : c.args.in_force ≤ c.args.used = grind arith in
+    let front : is_sound c.args.m c.args.s (log_in c.args.bytes.now c.args.in_force) ≡ true = grind arith in
+    rest_decides _ _ c.args.bytes.now _ _ c.requires.2 within _ front c.is_sound-then-is_sound.ensures
+
+pub returns-else-is_sound : goal.returns-else-is_sound
+returns-else-is_sound c =
+    let a = in_keys _ c.requires.2 in
+    let b = in_values _ c.requires.2 in
+    grind (arith, past_used, front_fails)

@@ -1,4 +1,5 @@
--- `check::is_sound` meets its contract: after each turn the records are sound exactly when those that are left are.
+-- `check::is_sound`: the steps that the loop has passed are steps, so the records are sound exactly when those that are left are. Rests on Sound of crate
+-- edit_log.
 use Rattle.edit_log.proofs.Sound.{StepsPassed}
 use Rattle.log_file.specs.Records.{keys_in_bytes, values_in_bytes}
 use Rattle.log_file.proofs.check.is_sound.Given as goal

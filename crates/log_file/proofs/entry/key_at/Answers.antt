@@ -1,7 +1,5 @@
--- `entry::key_at` meets its contract: the key lies where the layout says.
-use Prim.Native.Nat.{◌+◌}
-use mathlib.Core.Path.{◌∙◌}
-use native.Mathlib.Omega.{arith}
+-- `entry::key_at`: the key lies where the layout says. Rests on InBytes.
+use Rattle.std.proofs.Common.{arith, ◌+◌, ◌∙◌}
 use Rattle.log_file.proofs.InBytes.{laid_first, key_in}
 use Rattle.log_file.proofs.entry.key_at.Goals as goal
 

@@ -1,7 +1,5 @@
--- `entry::value_at` meets its contract: the value lies where the layout says.
-use Prim.Native.Nat.{◌+◌}
-use mathlib.Core.Path.{◌∙◌}
-use native.Mathlib.Omega.{arith}
+-- `entry::value_at`: the value lies where the layout says. Rests on InBytes.
+use Rattle.std.proofs.Common.{arith, ◌+◌, ◌∙◌}
 use Rattle.log_file.proofs.InBytes.{laid_first, value_in}
 use Rattle.log_file.proofs.entry.value_at.Goals as goal
 

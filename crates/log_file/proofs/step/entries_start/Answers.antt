@@ -1,22 +1,13 @@
--- `deeds::entries_start` meets its contract: after each turn what stands before the entries is what stands before those that are left.
-use native.Mathlib.Omega.{arith}
-use Rattle.edit_log.proofs.Walk.{walk_all, walked_all, walk_ended, walk_on}
+-- `step::entries_start`: each turn passes the last entry of those that are left. Rests on Walk of crate edit_log.
+use Rattle.std.proofs.Common.{arith, ◌-◌, ◌+◌}
+use Rattle.edit_log.proofs.Walk.{walked_all, walk_ended, walk_on}
 use Rattle.log_file.proofs.step.entries_start.Goals as goal
 
-pub loop-left-init : goal.loop-left-init
-loop-left-init c = walk_all c.requires
-
 pub last_entry-start-requires : goal.last_entry-start-requires
-last_entry-start-requires c = walk_ended c.loop-left.invariant c.loop-left-test.true
+last_entry-start-requires c = walk_ended c.loop-passed.invariant (c.args.count - (c.loop-passed._passed + 1)) (omega arith)
 
-pub overflow_sub-left : goal.overflow_sub-left
-overflow_sub-left c = let h = c.loop-left-test.true in omega arith
-
-pub loop-left-smaller : goal.loop-left-smaller
-loop-left-smaller c = let h = c.loop-left-test.true in omega arith
-
-pub loop-left-preserved : goal.loop-left-preserved
-loop-left-preserved c = walk_on c.loop-left.invariant c.loop-left-test.true _ c.last_entry-start.ensures
+pub loop-passed-preserved : goal.loop-passed-preserved
+loop-passed-preserved c = walk_on c.loop-passed.invariant _ (omega arith) _ c.last_entry-start.ensures
 
 pub returns : goal.returns
-returns c = walked_all c.loop-left.invariant c.loop-left-test.false
+returns c = walked_all c.loop-passed.invariant (omega arith)
