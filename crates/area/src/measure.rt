@@ -3,7 +3,7 @@ ghost use Rattle.std.specs.Prelude.{◌≡◌, true, ◌*◌, ◌≤◌, ◌<◌
 ghost use Rattle.keys.specs.Key.{slot_limit};
 ghost use Rattle.definitions.specs.Window.{is_window};
 ghost use Rattle.definitions.specs.Area.{area_in, summary_of};
-ghost use Rattle.list.specs.Own.{OwnList, shown_by};
+ghost use Rattle.list.specs.Taken.{picture_listed};
 ghost use Rattle.walk.specs.Walk.{BlockSpot};
 ghost use Rattle.area.specs.Number.{summary_number};
 ghost use Rattle.area.specs.Tally.{WholeAsked, WholeCounted};
@@ -11,72 +11,58 @@ ghost use Rattle.area.specs.Tally.{WholeAsked, WholeCounted};
 use crate::{overlap, tally};
 use definitions::Window;
 use keys::power;
-use list::standing;
-use walk::{NextBlock, Spot};
+use list::accepted_list::Accepted;
+use walk::Spot;
 
 // The number of a block of level 2 in key order, by the first two digits of its key.
 fn number_of(m: u32, block: Spot) -> u32
     requires { (m ≤ 10) × BlockSpot m block × (block.side * 4 ≡ 2 ^ m) }
     ensures { (result ≡ summary_number block) × (result < 16) }
 {
-    let key = block.key;
-    let step = block.step;
-    let digits = key / step;
+    let digits = block.key / block.step;
     (digits / 5 - 1) * 4 + (digits % 5 - 1)
 }
 
 // The pixels of a block of several features that have one of them: of a block of the summary a number there, of a smaller one counted from its records,
 // which begin at a place.
 fn block_pixels(
-    m: u32,
+    list: &Accepted<'_>,
     s: u32,
-    bits: &[u32],
     summary: &[u32],
     from: usize,
     block: Spot,
     feature: u32,
 ) -> u32
-    requires { (m ≤ 10) × (s ≤ slot_limit) × (feature < s) × BlockSpot m block × WholeAsked m s bits.now summary.now block from }
-    ensures { WholeCounted m s bits.now summary.now block from feature result }
+    requires { (s ≤ slot_limit) × (feature < s) × BlockSpot list.now.m block × WholeAsked list.now.m s list.now.bits.now summary.now block from }
+    ensures { WholeCounted list.now.m s list.now.bits.now summary.now block from feature result }
 {
     let side = block.side;
-    if side * 4 == power::power_of_two(m) {
-        let place = number_of(m, block) * s + feature;
+    if side * 4 == power::power_of_two(list.m) {
+        let place = number_of(list.m, block) * s + feature;
         return summary[place as usize];
     }
-    let counted = tally::tally_node(bits, power::power_of_two(feature), from, side * side);
-    counted.pixels
+    tally::tally_node(list.bits, power::power_of_two(feature), from, side * side).pixels
 }
 
 // How many pixels of the window have the feature. A block of the feature alone adds its overlap with the window and is not entered. One with the feature
 // and others adds its own count, where the window holds it and it is no larger than the summary's blocks; else it is entered.
-pub fn area_in(
-    m: u32,
-    s: u32,
-    keys: &[u32],
-    bits: &[u32],
-    n: usize,
-    summary: &[u32],
-    window: Window,
-    feature: u32,
-) -> u32
-    requires m_bound { (m ≤ 10) × (s ≤ slot_limit) × (feature < s) × (is_window m window ≡ true) × OwnList m keys.now bits.now n }
-    requires summary_value { summary.now ≡ summary_of m s (shown_by m keys.now bits.now n) }
-    ensures { result ≡ area_in (shown_by m keys.now bits.now n) window feature }
+pub fn area_in(list: &Accepted<'_>, s: u32, summary: &[u32], window: Window, feature: u32) -> u32
+    requires asked { (s ≤ slot_limit) × (feature < s) × (is_window list.now.m window ≡ true) }
+    requires summary_value { summary.now ≡ summary_of list.now.m s (picture_listed list.now) }
+    ensures { result ≡ area_in (picture_listed list.now) window feature }
 {
     let bit = power::power_of_two(feature);
-    let side = power::power_of_two(m);
+    let side = power::power_of_two(list.m);
     let mut pixels = 0;
-    let mut spot = walk::start(m);
+    let mut spot = walk::start(list.m);
     let mut from = 0;
     loop {
         loop {
             if walk::apart(spot, window) {
                 break;
             }
-            let key = spot.key;
-            from = standing::place_from(keys, n, from, key);
-            let found = bits[from];
+            from = list.place_from(from, spot.key);
+            let found = list.bits[from];
             if found & bit == 0 {
                 break;
             }
@@ -85,12 +71,12 @@ pub fn area_in(
                 break;
             }
             if overlap::is_whole(side, spot, window) {
-                pixels = pixels + block_pixels(m, s, bits, summary, from, spot, feature);
+                pixels = pixels + block_pixels(list, s, summary, from, spot, feature);
                 break;
             }
             spot = walk::first(spot);
         }
-        let NextBlock::At(next) = walk::after(m, spot) else {
+        let Some(next) = walk::after(list.m, spot) else {
             return pixels;
         };
         spot = next;

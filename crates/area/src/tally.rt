@@ -8,7 +8,7 @@ ghost use Rattle.area.specs.Tally.{NodeTallied};
 use list::check;
 
 // The pixels counted, and the place after the last record passed.
-#[derive(Clone, Copy)]
+#[derive(Clone, Copy, PartialEq, Eq, Debug)]
 pub struct Measure {
     pub pixels: u32,
     pub next: usize,
@@ -28,21 +28,18 @@ pub fn tally_node(bits: &[u32], bit: u32, at: usize, area: u32) -> Measure
     ensures { NodeTallied bits.now at area (feature_of bit) result }
 {
     let quarter = area / 4;
-    let mut pixels: u32 = 0;
+    let mut pixels = 0;
     let mut next = at + 1;
-    let mut d: u32 = 0;
-    while d < 4 {
+    for _ in 0..4u32 {
         let found = bits[next];
         if check::has_one_slot(found) {
             pixels = pixels + leaf_pixels(found, bit, quarter);
             next += 1;
         } else {
             let inner = tally_node(bits, bit, next, quarter);
-            let more = inner.pixels;
-            pixels = pixels + more;
+            pixels = pixels + inner.pixels;
             next = inner.next;
         }
-        d += 1;
     }
     Measure { pixels, next }
 }

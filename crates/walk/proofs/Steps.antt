@@ -16,8 +16,7 @@ use Rattle.keys.proofs.Pixel.{pixel_back, pixel_block}
 use Rattle.definitions.specs.Window.{is_window}
 use Rattle.definitions.specs.declared.Window.{Window}
 use Rattle.walk.specs.declared.Spot.{Spot}
-use Rattle.walk.specs.declared.NextBlock.{NextBlock}
-use Rattle.walk.specs.declared.NextBlock.TheVariants.{At, Gone}
+use Rattle.std.specs.Prelude.{Option, Some, None}
 use Rattle.walk.specs.Walk.{BlockSpot, Follows, is_within, is_apart, first_quadrant, Clear, Parting, Walking}
 use Rattle.walk.proofs.Lies.{within_inside, not_within, not_apart, InSpot, apart_pixel, window_pixel}
 
@@ -140,10 +139,10 @@ parting_first {m} {w} {s} h p e t i f lo hi =
     not_within s w e (omega arith)))
 
 -- what follows is the block with that key, or the end
-pub follows_at : (m x : ℕ) (r : NextBlock) (t : Spot) → Follows m x r → r ≡ At t → BlockSpot m t × (t.key ≡ x)
+pub follows_at : (m x : ℕ) (r : Option Spot) (t : Spot) → Follows m x r → r ≡ Some t → BlockSpot m t × (t.key ≡ x)
 follows_at m x r t h e = subst (λ y. Follows m x y) e h
 
-pub follows_gone : (m x : ℕ) (r : NextBlock) → Follows m x r → r ≡ Gone → x ≡ 5 ^ m
+pub follows_gone : (m x : ℕ) (r : Option Spot) → Follows m x r → r ≡ None → x ≡ 5 ^ m
 follows_gone m x r h e = subst (λ y. Follows m x y) e h
 
 -- after a block fewer keys are left

@@ -1,6 +1,6 @@
 -- What the contracts of the walk say: where it stands, how a block lies to a window, which block comes next. Only contracts need these; the laws
 -- that connect them with the window's pixels stand in proofs/.
-use Rattle.std.specs.Prelude.{ℕ, ◌+◌, ◌/◌, ◌^◌, ◌≤◌, ◌<◌, ◌≡◌, Bool, true, cond, ◌&&◌, ◌||◌, leb}
+use Rattle.std.specs.Prelude.{ℕ, ◌+◌, ◌/◌, ◌^◌, ◌≤◌, ◌<◌, ◌≡◌, Bool, true, cond, ◌&&◌, ◌||◌, Option, Some, None, leb}
 use Rattle.keys.specs.Key.{deepest_side}
 use Rattle.keys.specs.Block.{pixel_key}
 use Rattle.keys.specs.Under.{MapBlock}
@@ -10,8 +10,6 @@ use Rattle.definitions.specs.declared.Window.{Window}
 use Rattle.walk.specs.declared.Spot.{Spot}
 use Rattle.walk.specs.declared.lying.Lie.{Lie}
 use Rattle.walk.specs.declared.lying.Lie.TheVariants.{Apart, Within, Cut}
-use Rattle.walk.specs.declared.NextBlock.{NextBlock}
-use Rattle.walk.specs.declared.NextBlock.TheVariants.{At, Gone}
 
 -- the spot has the numbers of a block of the map
 pub record BlockSpot (m : ℕ) (s : Spot) : Type 0 where
@@ -53,9 +51,9 @@ abbrev pub first_quadrant : Spot → Spot
 first_quadrant s = record { key = s.key + s.step / 5; row = s.row; column = s.column; side = s.side / 2; step = s.step / 5 }
 
 -- the block with key x, or the end of the map where x is the key after the last
-abbrev pub Follows : ℕ → ℕ → NextBlock → Type 0
-Follows m x (At s) = BlockSpot m s × (s.key ≡ x)
-Follows m x Gone = x ≡ 5 ^ m
+abbrev pub Follows : ℕ → ℕ → Option Spot → Type 0
+Follows m x (Some s) = BlockSpot m s × (s.key ≡ x)
+Follows m x None = x ≡ 5 ^ m
 
 -- no pixel of the window has its key from x on and below y
 abbrev pub Clear : ℕ → Window → ℕ → ℕ → Type 0

@@ -6,31 +6,18 @@ ghost use Rattle.definitions.specs.Window.{is_window};
 use definitions::Window;
 use keys::power;
 
+#[tactic(auto, unfolding(definitions::specs::Window::is_window))]
 pub fn is_window(m: u32, window: Window) -> bool
     requires { m ≤ 10 }
     ensures { result ≡ is_window m window }
 {
     let side = power::power_of_two(m);
-    let row = window.row;
-    let column = window.column;
-    let height = window.height;
-    let width = window.width;
-    if height == 0 {
-        return false;
-    }
-    if width == 0 {
-        return false;
-    }
-    if side < height {
-        return false;
-    }
-    if side - height < row {
-        return false;
-    }
-    if side < width {
-        return false;
-    }
-    column <= side - width
+    window.height != 0
+        && window.width != 0
+        && window.height <= side
+        && window.row <= side - window.height
+        && window.width <= side
+        && window.column <= side - window.width
 }
 
 // How many pixels a window of the raster has.
@@ -38,7 +25,5 @@ pub fn pixels_of(window: Window) -> usize
     requires { (window.height ≤ deepest_side) × (window.width ≤ deepest_side) }
     ensures { result ≡ window.height * window.width }
 {
-    let height = window.height;
-    let width = window.width;
-    (height * width) as usize
+    (window.height * window.width) as usize
 }

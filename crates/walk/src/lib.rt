@@ -14,20 +14,13 @@ use definitions::Window;
 use keys::{Key, power};
 
 // Where the walk stands: a block with its key, its first row and column, its side, and the number of its keys.
-#[derive(Clone, Copy)]
+#[derive(Clone, Copy, PartialEq, Eq, Debug)]
 pub struct Spot {
     pub key: u32,
     pub row: u32,
     pub column: u32,
     pub side: u32,
     pub step: u32,
-}
-
-// A search gives a block, or comes to the end of the map.
-#[derive(Clone, Copy)]
-pub enum NextBlock {
-    At(Spot),
-    Gone,
 }
 
 // The walk begins at the root.
@@ -60,68 +53,43 @@ pub fn first(spot: Spot) -> Spot
 }
 
 // Every pixel of the block lies in the window.
+#[tactic(auto, unfolding(crate::specs::Walk::is_within))]
 pub fn within(spot: Spot, window: Window) -> bool
     requires { Small spot window }
     ensures { result ≡ is_within spot window }
 {
-    let side = spot.side;
-    let row = spot.row;
-    let column = spot.column;
-    let top = window.row;
-    let left = window.column;
-    let height = window.height;
-    let width = window.width;
-    if row < top {
-        return false;
-    }
-    if top + height < row + side {
-        return false;
-    }
-    if column < left {
-        return false;
-    }
-    column + side <= left + width
+    window.row <= spot.row
+        && spot.row + spot.side <= window.row + window.height
+        && window.column <= spot.column
+        && spot.column + spot.side <= window.column + window.width
 }
 
 // No pixel of the block lies in the window.
+#[tactic(auto, unfolding(crate::specs::Walk::is_apart))]
 pub fn apart(spot: Spot, window: Window) -> bool
     requires { Small spot window }
     ensures { result ≡ is_apart spot window }
 {
-    let side = spot.side;
-    let row = spot.row;
-    let column = spot.column;
-    let top = window.row;
-    let left = window.column;
-    let height = window.height;
-    let width = window.width;
-    if row + side <= top {
-        return true;
-    }
-    if top + height <= row {
-        return true;
-    }
-    if column + side <= left {
-        return true;
-    }
-    left + width <= column
+    spot.row + spot.side <= window.row
+        || window.row + window.height <= spot.row
+        || spot.column + spot.side <= window.column
+        || window.column + window.width <= spot.column
 }
 
-// The block that comes after a block and all below it: the next quadrant of the parent, or what comes after the parent.
-pub fn after(m: u32, spot: Spot) -> NextBlock
+// The block that comes after a block and all below it: the next quadrant of the parent, or what comes after the parent; none at the end of the map.
+pub fn after(m: u32, spot: Spot) -> Option<Spot>
     requires { (m ≤ 10) × BlockSpot m spot }
     ensures { Follows m (spot.key + spot.step) result }
 {
     let whole = power::power_of_two(m);
+    let key = spot.key + spot.step;
     let mut row = spot.row;
     let mut column = spot.column;
     let mut side = spot.side;
     let mut step = spot.step;
-    let first_key = spot.key;
-    let key = first_key + step;
     while side < whole {
         if column & side == 0 {
-            return NextBlock::At(Spot {
+            return Some(Spot {
                 key,
                 row,
                 column: column + side,
@@ -130,7 +98,7 @@ pub fn after(m: u32, spot: Spot) -> NextBlock
             });
         }
         if row & side == 0 {
-            return NextBlock::At(Spot {
+            return Some(Spot {
                 key,
                 row: row + side,
                 column: column - side,
@@ -143,5 +111,5 @@ pub fn after(m: u32, spot: Spot) -> NextBlock
         side = side * 2;
         step = step * 5;
     }
-    NextBlock::Gone
+    None
 }

@@ -2,12 +2,12 @@
 ghost use Rattle.std.specs.Prelude.{◌≡◌};
 ghost use Rattle.walk.specs.Walk.{Small, square_spot, lie_of};
 
-use crate::Spot;
+use crate::{Spot, apart, within};
 use definitions::Window;
 use keys::Square;
 
 // No pixel of it is the window's, or every one is, or the window cuts it.
-#[derive(Clone, Copy)]
+#[derive(Clone, Copy, PartialEq, Eq, Debug)]
 pub enum Lie {
     Apart,
     Within,
@@ -26,11 +26,11 @@ pub fn lies(square: Square, window: Window) -> Lie
         side: square.side,
         step: 0,
     };
-    if crate::apart(spot, window) {
-        return Lie::Apart;
+    if apart(spot, window) {
+        Lie::Apart
+    } else if within(spot, window) {
+        Lie::Within
+    } else {
+        Lie::Cut
     }
-    if crate::within(spot, window) {
-        return Lie::Within;
-    }
-    Lie::Cut
 }

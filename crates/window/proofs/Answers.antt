@@ -2,7 +2,7 @@
 -- found. Rests on Tables and Few.
 use Prim.Native.Nat.{ℕ, ◌*◌, ◌≤◌, ◌<◌}
 use mathlib.Core.Path.{◌≡◌, refl, sym, ◌∙◌, ap}
-use mathlib.Core.Bool.{true, false, cond}
+use mathlib.Core.Bool.{Bool, true, false, cond}
 use mathlib.Core.List.{List}
 use native.Mathlib.Omega.{arith}
 use lib.ListN.{length}
@@ -54,6 +54,11 @@ module _ (m s : ℕ) (keys bits : List ℕ) (n : ℕ) (w : Window) where
     pub exist_no : exist_refusal m s keys bits n w f ≡ 0 → exist_in (shown_by m keys bits n) w f ≡ false → record { refusal = 0; yes = 0 } ≡ exist m s keys bits n w f
     unfolding exist
     exist_no none e = exists (sym none) (sym (accepted_done _ 0 none ∙ ap (λ t. cond t 1 0) e))
+
+    pub exist_found : (found : Bool) → exist_refusal m s keys bits n w f ≡ 0 → found ≡ exist_in (shown_by m keys bits n) w f
+        → record { refusal = 0; yes = cond found 1 0 } ≡ exist m s keys bits n w f
+    unfolding exist
+    exist_found found none e = exists (sym none) (ap (λ t. cond t 1 0) e ∙ sym (accepted_done _ 0 none))
 
     module _ (answer : List ℕ) where
       -- what a call of select gives and leaves

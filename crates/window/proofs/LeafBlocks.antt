@@ -18,8 +18,7 @@ use Rattle.laws.proofs.Within.{first_within}
 use Rattle.laws.proofs.Features.{one_from_leaf}
 use Rattle.laws.proofs.ListOf.{list_one}
 use Rattle.walk.specs.declared.Spot.{Spot}
-use Rattle.walk.specs.declared.NextBlock.{NextBlock}
-use Rattle.walk.specs.declared.NextBlock.TheVariants.{At, Gone}
+use Rattle.std.specs.Prelude.{Option, Some, None}
 use Rattle.walk.specs.Walk.{BlockSpot, Walking, Follows, is_within, is_apart, first_quadrant}
 use Rattle.walk.specs.Given.{keys_with, written_at, written, lower}
 use Rattle.walk.proofs.Steps.{Parent, some_keys, first_stands, parting_first, walking_after}
@@ -112,19 +111,19 @@ module _ {m : ℕ} {w : Window} {s : Spot} (h : Walking m w s) where
       }
 
   -- what comes after the block
-  pub onward_after : (r : NextBlock) → Follows m (s.key + s.step) r → ((y : ℕ) → y ≡ s.key + s.step → Comes m w s y) → Onward m w s r
-  onward_after (At t) f comes = (walking_after h t f.0 f.1, comes t.key f.1)
-  onward_after Gone f comes = comes (5 ^ m) (sym f)
+  pub onward_after : (r : Option Spot) → Follows m (s.key + s.step) r → ((y : ℕ) → y ≡ s.key + s.step → Comes m w s y) → Onward m w s r
+  onward_after (Some t) f comes = (walking_after h t f.0 f.1, comes t.key f.1)
+  onward_after None f comes = comes (5 ^ m) (sym f)
 
   -- and its first quadrant
-  pub onward_first : is_within s w ≡ false → Parent m s → Onward m w s (At (first_quadrant s))
+  pub onward_first : is_within s w ≡ false → Parent m s → Onward m w s (Some (first_quadrant s))
   onward_first cut q = (record { stands = first_stands q; parting = parting_first h q cut }, comes_first cut q _ refl)
 
 -- it comes to a block, or to the end of the map
-pub onward_at : (m : ℕ) (w : Window) (s : Spot) (r : NextBlock) (t : Spot) → Onward m w s r → r ≡ At t → Walking m w t × Comes m w s t.key
+pub onward_at : (m : ℕ) (w : Window) (s : Spot) (r : Option Spot) (t : Spot) → Onward m w s r → r ≡ Some t → Walking m w t × Comes m w s t.key
 onward_at m w s r t o e = subst (λ y. Onward m w s y) e o
 
-pub onward_gone : (m : ℕ) (w : Window) (s : Spot) (r : NextBlock) → Onward m w s r → r ≡ Gone → Comes m w s (5 ^ m)
+pub onward_gone : (m : ℕ) (w : Window) (s : Spot) (r : Option Spot) → Onward m w s r → r ≡ None → Comes m w s (5 ^ m)
 onward_gone m w s r o e = subst (λ y. Onward m w s y) e o
 
 -- the run through a leaf, from the key x on: what was given below the key y, whatever the picture, as long as it has the feature from x to the leaf's end

@@ -11,3 +11,4 @@ pub mod Answers
 pub mod WindowLaws
 pub mod LeafBlocks
 pub mod PassedLeaf
+pub mod ListTaken

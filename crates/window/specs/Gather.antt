@@ -1,12 +1,10 @@
 -- What the contracts of select's inner functions say of the keys that they were given, and of the walk in a leaf. Only contracts need these.
-use Rattle.std.specs.Prelude.{ℕ, ◌+◌, ◌^◌, ◌≤◌, ◌<◌, ◌≡◌, true, false, List, ◌++◌, length}
+use Rattle.std.specs.Prelude.{ℕ, ◌+◌, ◌^◌, ◌≤◌, ◌<◌, ◌≡◌, true, false, Option, Some, None, List, ◌++◌, length}
 use Rattle.keys.specs.Block.{pixel_key}
 use Rattle.definitions.specs.Picture.{Picture}
 use Rattle.definitions.specs.Window.{select_in}
 use Rattle.definitions.specs.declared.Window.{Window}
 use Rattle.walk.specs.declared.Spot.{Spot}
-use Rattle.walk.specs.declared.NextBlock.{NextBlock}
-use Rattle.walk.specs.declared.NextBlock.TheVariants.{At, Gone}
 use Rattle.walk.specs.Walk.{BlockSpot, Walking, is_within}
 use Rattle.walk.specs.Given.{written, lower}
 
@@ -44,6 +42,6 @@ pub record Comes (m : ℕ) (w : Window) (s : Spot) (y : ℕ) : Type 0 where
   pub held : is_within s w ≡ true → y ≡ s.key + s.step
   pub nothing : is_within s w ≡ false → (p : Picture) (f : ℕ) → lower s.key (select_in m p w f) ≡ lower y (select_in m p w f)
 
-abbrev pub Onward : ℕ → Window → Spot → NextBlock → Type 0
-Onward m w s (At t) = Walking m w t × Comes m w s t.key
-Onward m w s Gone = Comes m w s (5 ^ m)
+abbrev pub Onward : ℕ → Window → Spot → Option Spot → Type 0
+Onward m w s (Some t) = Walking m w t × Comes m w s t.key
+Onward m w s None = Comes m w s (5 ^ m)

@@ -1,52 +1,61 @@
 // The calls that ask a window (specification S6): exist, report and select. They refuse by their tables, and require nothing.
-ghost use Rattle.std.specs.Prelude.{◌≡◌};
+ghost use Rattle.std.specs.Prelude.{◌≡◌, IfOk};
+ghost use Rattle.definitions.specs.Refused.{refusal_told};
+ghost use Rattle.definitions.specs.Answered.{as_exists, as_reported, as_counted};
 ghost use Rattle.definitions.specs.Calls.Exist.{exist_refusal, exist as exist_answer};
 ghost use Rattle.definitions.specs.Calls.Report.{report_refusal, report as report_answer};
 ghost use Rattle.definitions.specs.Calls.Select.{select as select_counted, select_answer};
+ghost use Rattle.list.specs.Taken.{Taken};
 
 use crate::exist::exist_in;
 use crate::report::report_in;
 use crate::select::gather;
+use definitions::Window;
 use definitions::refusal::Refusal;
-use definitions::{Counted, Exists, Reported, Window};
-use list::refusal::first_refusal;
+use list::accept;
+use list::accepted_list::Accepted;
 use walk::bounds::{is_window, pixels_of};
 
-// Refusals 1, 4 and 6, or 0.
-fn window_refusal(m: u32, s: u32, keys: &[u32], bits: &[u32], n: usize, window: Window) -> u64
-    ensures { result ≡ report_refusal m s keys.now bits.now n window }
-{
-    let refusal = first_refusal(m, s, keys, bits, n);
-    if refusal != 0 {
-        return refusal;
-    }
-    if is_window(m, window) {
-        0
-    } else {
-        Refusal::WINDOW
-    }
-}
-
-// Refusals 1, 4, 6 and 7, or 0.
-fn feature_refusal(
+// The list that is asked, where the window lies in the raster. Refusals 1, 4 and 6.
+fn accept_window<'a>(
     m: u32,
     s: u32,
-    keys: &[u32],
-    bits: &[u32],
+    keys: &'a [u32],
+    bits: &'a [u32],
+    n: usize,
+    window: Window,
+) -> Result<Accepted<'a>, Refusal>
+    ensures told { refusal_told result ≡ report_refusal m s keys.now bits.now n window }
+    ensures list { IfOk result (Taken m keys.now bits.now n) }
+{
+    let list = accept(m, s, keys, bits, n)?;
+    if !is_window(m, window) {
+        return Err(Refusal::Window);
+    }
+    Ok(list)
+}
+
+// The list that is asked for a feature. Refusals 1, 4, 6 and 7.
+fn accept_feature<'a>(
+    m: u32,
+    s: u32,
+    keys: &'a [u32],
+    bits: &'a [u32],
     n: usize,
     window: Window,
     feature: u32,
-) -> u64
-    ensures { result ≡ exist_refusal m s keys.now bits.now n window feature }
+) -> Result<Accepted<'a>, Refusal>
+    ensures told { refusal_told result ≡ exist_refusal m s keys.now bits.now n window feature }
+    ensures list { IfOk result (Taken m keys.now bits.now n) }
 {
-    let refusal = window_refusal(m, s, keys, bits, n, window);
-    if refusal != 0 {
-        return refusal;
+    let list = accept_window(m, s, keys, bits, n, window)?;
+    if s <= feature {
+        return Err(Refusal::Feature);
     }
-    if s <= feature { Refusal::FEATURE } else { 0 }
+    Ok(list)
 }
 
-// Does the feature occur in the window? Yes is 1.
+// Does the feature occur in the window?
 pub fn exist(
     m: u32,
     s: u32,
@@ -55,33 +64,26 @@ pub fn exist(
     n: usize,
     window: Window,
     feature: u32,
-) -> Exists
-    ensures { result ≡ exist_answer m s keys.now bits.now n window feature }
+) -> Result<bool, Refusal>
+    ensures { as_exists result ≡ exist_answer m s keys.now bits.now n window feature }
 {
-    let refusal = feature_refusal(m, s, keys, bits, n, window, feature);
-    if refusal != 0 {
-        return Exists { refusal, yes: 0 };
-    }
-    if exist_in(m, keys, bits, n, window, feature) {
-        Exists { refusal: 0, yes: 1 }
-    } else {
-        Exists { refusal: 0, yes: 0 }
-    }
+    let list = accept_feature(m, s, keys, bits, n, window, feature)?;
+    Ok(exist_in(&list, window, feature))
 }
 
 // Which features occur in the window?
-pub fn report(m: u32, s: u32, keys: &[u32], bits: &[u32], n: usize, window: Window) -> Reported
-    ensures { result ≡ report_answer m s keys.now bits.now n window }
+pub fn report(
+    m: u32,
+    s: u32,
+    keys: &[u32],
+    bits: &[u32],
+    n: usize,
+    window: Window,
+) -> Result<u32, Refusal>
+    ensures { as_reported result ≡ report_answer m s keys.now bits.now n window }
 {
-    let refusal = window_refusal(m, s, keys, bits, n, window);
-    if refusal != 0 {
-        return Reported { refusal, bits: 0 };
-    }
-    let union = report_in(m, keys, bits, n, window);
-    Reported {
-        refusal: 0,
-        bits: union as u64,
-    }
+    let list = accept_window(m, s, keys, bits, n, window)?;
+    Ok(report_in(&list, window))
 }
 
 // Where does the feature occur in the window? No answer has more keys than the window has pixels: where these fit, one walk counts and writes. Elsewhere
@@ -95,32 +97,18 @@ pub fn select(
     window: Window,
     feature: u32,
     answer: &mut [u32],
-) -> Counted
-    ensures value { result ≡ select_counted m s keys.now bits.now n window feature answer.old }
+) -> Result<usize, Refusal>
+    ensures value { as_counted result ≡ select_counted m s keys.now bits.now n window feature answer.old }
     ensures answer_after { answer.new ≡ select_answer m s keys.now bits.now n window feature answer.old }
 {
-    let refusal = feature_refusal(m, s, keys, bits, n, window, feature);
-    if refusal != 0 {
-        return Counted { refusal, count: 0 };
-    }
+    let list = accept_feature(m, s, keys, bits, n, window, feature)?;
     let room = answer.len();
     if pixels_of(window) <= room {
-        let count = gather(m, keys, bits, n, window, feature, answer, room);
-        return Counted {
-            refusal: 0,
-            count: count as u64,
-        };
+        return Ok(gather(&list, window, feature, answer, room));
     }
-    let needed = gather(m, keys, bits, n, window, feature, answer, 0);
+    let needed = gather(&list, window, feature, answer, 0);
     if room < needed {
-        return Counted {
-            refusal: Refusal::ANSWER_ROOM,
-            count: needed as u64,
-        };
+        return Err(Refusal::AnswerRoom(needed as u64));
     }
-    let count = gather(m, keys, bits, n, window, feature, answer, needed);
-    Counted {
-        refusal: 0,
-        count: count as u64,
-    }
+    Ok(gather(&list, window, feature, answer, needed))
 }

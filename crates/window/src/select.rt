@@ -3,14 +3,15 @@ ghost use Rattle.std.specs.Prelude.{◌≡◌, true, ◌≤◌, ◌<◌, length,
 ghost use Rattle.keys.specs.Key.{slot_limit, all_keys};
 ghost use Rattle.definitions.specs.Read.{records_of};
 ghost use Rattle.definitions.specs.Window.{is_window, select_in};
-ghost use Rattle.list.specs.Own.{OwnList, shown_by};
+ghost use Rattle.list.specs.Taken.{picture_listed};
 ghost use Rattle.walk.specs.Walk.{Walking, is_within};
 ghost use Rattle.walk.specs.Given.{keys_with};
 ghost use Rattle.window.specs.Gather.{Gave, InLeaf, GaveLeaf, Onward};
 
 use definitions::Window;
 use keys::power;
-use walk::{NextBlock, Spot, asking};
+use list::accepted_list::Accepted;
+use walk::{Spot, asking};
 
 // Gives the keys of the records from one place up to another that have exactly the bit.
 fn gather_run(
@@ -28,31 +29,25 @@ fn gather_run(
         limit count answer.old answer.new result }
 {
     let mut given = count;
-    let mut i = first;
-    while i < end {
+    for i in first..end {
         if bits[i] == bit {
             slices::write_within(answer, limit, given, keys[i]);
             given += 1;
         }
-        i += 1;
     }
     given
 }
 
 // The block that follows on a walk that asks no list: the first quadrant of one that the window cuts, or what comes after one that it holds or that lies
 // apart from it.
-fn onward(m: u32, window: Window, spot: Spot, held: bool) -> NextBlock
+fn onward(m: u32, window: Window, spot: Spot, held: bool) -> Option<Spot>
     requires { (m ≤ 10) × (is_window m window ≡ true) × Walking m window spot × (held ≡ is_within spot window) }
     ensures { Onward m window spot result }
 {
-    if held {
+    if held || walk::apart(spot, window) {
         return walk::after(m, spot);
     }
-    if walk::apart(spot, window) {
-        return walk::after(m, spot);
-    }
-    let quadrant = walk::first(spot);
-    NextBlock::At(quadrant)
+    Some(walk::first(spot))
 }
 
 // Gives the largest blocks of the window in a leaf of the feature, from a block of it on: the standing told the leaf, so the list is not asked again.
@@ -74,12 +69,11 @@ fn gather_leaf(
     let mut spot = first;
     loop {
         let held = walk::within(spot, window);
-        let key = spot.key;
         if held {
-            slices::write_within(answer, limit, given, key);
+            slices::write_within(answer, limit, given, spot.key);
             given += 1;
         }
-        let NextBlock::At(next) = onward(m, window, spot, held) else {
+        let Some(next) = onward(m, window, spot, held) else {
             return given;
         };
         if end <= next.key {
@@ -94,46 +88,51 @@ fn gather_leaf(
 // leaves among its records; only a cut node is entered. Each search begins at the record of the block that was entered, or at the last one of what was
 // passed.
 pub fn gather(
-    m: u32,
-    keys: &[u32],
-    bits: &[u32],
-    n: usize,
+    list: &Accepted<'_>,
     window: Window,
     feature: u32,
     answer: &mut [u32],
     limit: usize,
 ) -> usize
-    requires { (m ≤ 10) × (is_window m window ≡ true) × (feature < slot_limit) × OwnList m keys.now bits.now n × (limit ≤ length answer.old) }
-    ensures { Gave (select_in m (shown_by m keys.now bits.now n) window feature)
-        limit 0 answer.old answer.new result }
+    requires { (is_window list.now.m window ≡ true) × (feature < slot_limit) × (limit ≤ length answer.old) }
+    ensures { Gave (select_in list.now.m (picture_listed list.now) window feature) limit 0 answer.old answer.new result }
 {
     let bit = power::power_of_two(feature);
     let mut count = 0;
-    let mut spot = walk::start(m);
+    let mut spot = walk::start(list.m);
     let mut from = 0;
     loop {
         loop {
             if walk::apart(spot, window) {
                 break;
             }
-            let told = asking::ask(m, keys, bits, n, from, spot);
+            let told = asking::ask(list, from, spot);
             let place = told.place;
             let last = told.last;
             let whole = told.whole;
-            let found = bits[place];
+            let found = list.bits[place];
             if found & bit == 0 {
                 spot = whole;
                 from = last;
                 break;
             }
             if found == bit {
-                count = gather_leaf(m, window, whole, spot, answer, limit, count);
+                count = gather_leaf(list.m, window, whole, spot, answer, limit, count);
                 spot = whole;
                 from = last;
                 break;
             }
             if walk::within(spot, window) {
-                count = gather_run(keys, bits, place, last + 1, bit, answer, limit, count);
+                count = gather_run(
+                    list.keys,
+                    list.bits,
+                    place,
+                    last + 1,
+                    bit,
+                    answer,
+                    limit,
+                    count,
+                );
                 spot = whole;
                 from = last;
                 break;
@@ -141,7 +140,7 @@ pub fn gather(
             from = place;
             spot = walk::first(spot);
         }
-        let NextBlock::At(next) = walk::after(m, spot) else {
+        let Some(next) = walk::after(list.m, spot) else {
             return count;
         };
         spot = next;

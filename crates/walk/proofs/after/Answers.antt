@@ -5,7 +5,7 @@ use mathlib.Core.Path.{◌≡◌, refl, sym, ap, ◌∙◌}
 use native.Mathlib.Nat.{pow-suc}
 use native.Mathlib.Omega.{arith}
 use lib.Bits.{bit_and}
-use lib.Pow.{pow_pos, pow_mono, pow-lt}
+use lib.Pow.{pow_mono, pow-lt}
 use Rattle.keys.proofs.Cases.{split}
 use Rattle.keys.proofs.Powers.{five_le, two_le}
 use Rattle.keys.proofs.Interval.{within, same_block}
@@ -14,12 +14,7 @@ use Rattle.walk.specs.Walk.{BlockSpot}
 use Rattle.walk.proofs.Place.{goes_east, goes_south_west, goes_up, as_high, SouthWest, SouthEast}
 use Rattle.walk.proofs.after.Invariants.{Climb}
 use Rattle.walk.proofs.after.Goals as goal
-use Rattle.walk.proofs.after.Lts as lts
-use Rattle.walk.proofs.after.Tie as tie
-use Rattle.walk.proofs.after.Reads as own
-
-abbrev At-In-loop : Type 0
-At-In-loop = lts.In-loop tie.the-claims own.Pre own.Post goal.the-invariant-loop-side goal.the-decreases-loop-side
+use Rattle.walk.proofs.after.Goals.{In-loop-side}
 
 begins : (m : ℕ) (s : Spot) → BlockSpot m s → Climb m (s.key + s.step) s.row s.column s.side s.step
 begins m s h =
@@ -101,21 +96,15 @@ at_end {m} {key} p e h =
     let f : 5 ^ p.height ≡ 5 ^ m = ap (λ (k : ℕ). 5 ^ k) r.0 in
     omega (arith, p.ends)
 
-pub power_of_two-whole-requires : goal.power_of_two-whole-requires
-power_of_two-whole-requires c = omega (arith, c.requires.0)
-
 pub overflow_add-key : goal.overflow_add-key
 overflow_add-key c = let b = small_key c.requires.0 (begins _ c.args.spot c.requires.1) in omega arith
 
-pub loop-side-init : goal.loop-side-init
-loop-side-init c = begins _ c.args.spot c.requires.1
-
 -- in a turn the block is lower than the map
-low : (c : At-In-loop) → c.loop-side.invariant.height < c.args.m
+low : (c : In-loop-side) → c.loop-side.invariant.height < c.args.m
 low c = lower c.loop-side.invariant c.power_of_two-whole.ensures c.loop-side-test.true
 
 -- and lies in it
-room : (c : At-In-loop) → Bounds c.loop-side.row c.loop-side.column c.loop-side.side c.loop-side.step
+room : (c : In-loop-side) → Bounds c.loop-side.row c.loop-side.column c.loop-side.side c.loop-side.step
 room c = bounds c.requires.0 c.loop-side.invariant
 
 pub overflow_add-result : goal.overflow_add-result
@@ -145,17 +134,8 @@ overflow_sub-column c =
     let p = c.loop-side.invariant in
     omega (arith, (up p (low c.before.before) c.if-column-side-eq0.false c.if-row-side-eq0.false).columns, p.sides)
 
-pub overflow_mul-side : goal.overflow_mul-side
-overflow_mul-side c = let b = room c.before.before in omega arith
-
 pub overflow_mul-step : goal.overflow_mul-step
 overflow_mul-step c = let b = room c.before.before in omega arith
-
-pub loop-side-smaller : goal.loop-side-smaller
-loop-side-smaller c =
-    let p = c.loop-side.invariant in
-    let q = pow_pos p.height in
-    omega (arith, p.sides, c.loop-side-test.true)
 
 pub loop-side-preserved : goal.loop-side-preserved
 loop-side-preserved c = climbs c.loop-side.invariant (low c.before.before) c.if-column-side-eq0.false c.if-row-side-eq0.false

@@ -1,5 +1,4 @@
--- `after` meets its contract: at each turn the block ends where the given one does, so what follows it is what is sought. It climbs while it
--- is in the south-east, and a block as high as the map is the root.
+-- What the loop of `after` keeps: the block ends where the given one does, so what follows it is what is sought.
 use Prim.Native.Nat.{ℕ, ◌+◌, ◌-◌, ◌^◌}
 use mathlib.Core.Path.{◌≡◌}
 use Rattle.keys.specs.Under.{MapBlock}

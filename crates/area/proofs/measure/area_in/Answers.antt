@@ -1,26 +1,23 @@
--- `measure::area_in` meets its contract: what was counted and what is left from the key where the walk stands are the area. Within a turn it goes down to
--- a block that it can count at once; the key rises from turn to turn.
+-- `measure::area_in` meets its contract: a block that can be counted at once adds its pixels, and another is entered by its first quadrant. Rests on Measured.
 use Prim.Native.Nat.{ℕ, ◌+◌, ◌≤◌, ◌<◌}
 use mathlib.Core.Path.{◌≡◌, sym, ◌∙◌, subst}
 use mathlib.Core.Bool.{true}
-use mathlib.Core.Logic.{⊎_elim}
 use mathlib.Core.List.{List}
 use native.Mathlib.Omega.{arith}
 use lib.ListN.{length, take}
 use mir.Val.{Fits}
 use mir.Syntax.{w32}
-use Rattle.keys.proofs.Powers.{five_le}
 use Rattle.definitions.specs.Picture.{Picture}
 use Rattle.definitions.specs.Window.{is_window}
 use Rattle.definitions.specs.declared.Window.{Window}
 use Rattle.list.specs.Among.{place_among}
-use Rattle.list.specs.Own.{OwnList, shown_by}
+use Rattle.list.specs.Own.{OwnList}
+use Rattle.list.specs.Taken.{picture_listed}
 use Rattle.list.specs.Sorted.{Near}
-use Rattle.list.proofs.Own.{own_sorted}
 use Rattle.walk.specs.declared.Spot.{Spot}
 use Rattle.walk.specs.Walk.{BlockSpot, first_quadrant}
 use Rattle.walk.proofs.Lies.{small}
-use Rattle.walk.proofs.Steps.{Parent, some_keys, first_stands, follows_gone, rises}
+use Rattle.walk.proofs.Steps.{Parent, some_keys, few_keys, first_stands, first_less, rises}
 use Rattle.list.proofs.Fuller.{near_root}
 use Rattle.walk.proofs.Asked.{asked_place, near_later, near_place}
 use Rattle.walk.proofs.Shows.{place_no}
@@ -29,12 +26,7 @@ use Rattle.area.proofs.Looked.{place_alone}
 use Rattle.area.proofs.Measured.{MeasuredSoFar, measured_none, measured_end, measured_most, measured_enter, measured_apart, measured_lacking, measured_overlap, measured_whole, mixed_parent}
 use Rattle.area.proofs.measure.area_in.Invariants.{Going}
 use Rattle.area.proofs.measure.area_in.Goals as goal
-use Rattle.area.proofs.measure.area_in.Lts as lts
-use Rattle.area.proofs.measure.area_in.Tie as tie
-use Rattle.area.proofs.measure.area_in.Reads as own
-
-abbrev At-Joined1 : Type 0
-At-Joined1 = lts.Joined1 tie.the-claims own.Pre own.Post goal.the-invariant-loop-key-2 goal.the-decreases-loop-key-2 goal.the-invariant-loop-key goal.the-decreases-loop-key tie.handed_clauses
+use Rattle.area.proofs.measure.area_in.Goals.{After-after, then-apart, else-apart+then-found-bit-eq0, else-apart+else-found-bit-eq0+then-found-bit, else-apart+else-found-bit-eq0+else-found-bit+then-is_whole}
 
 module _ {m : ℕ} (p : Picture) (w : Window) (f pixels : ℕ) (keys : List ℕ) (n : ℕ) where
   -- into a block, from its own place on
@@ -66,119 +58,113 @@ in_bits : {m : ℕ} {keys bits : List ℕ} {n : ℕ} (o : OwnList m keys bits n)
     → place < length bits
 in_bits o h place e = omega (arith, (asked_place o h.block place e).room, o.fits)
 
-pub power_of_two-bit-requires : goal.power_of_two-bit-requires
-power_of_two-bit-requires c = omega (arith, c.requires.m_bound)
-
-pub power_of_two-side-requires : goal.power_of_two-side-requires
-power_of_two-side-requires c = omega (arith, c.requires.m_bound)
-
-pub start-spot-requires : goal.start-spot-requires
-start-spot-requires c = c.requires.m_bound.0
-
-pub loop-key-init : goal.loop-key-init
-loop-key-init c =
+pub loop-from-init : goal.loop-from-init
+loop-from-init c =
     record {
       stands = c.start-spot.ensures.0;
       rise = omega arith;
-      near = near_root c.requires.m_bound.4 _;
-      measured = measured_none _ _ _ _ _ c.start-spot.ensures.1 c.requires.m_bound.3;
+      near = near_root c.args.list.now.own _;
+      measured = measured_none _ _ _ _ _ c.start-spot.ensures.1 c.requires.asked.2;
     }
 
-pub loop-key-2-init : goal.loop-key-2-init
-loop-key-2-init c = c.loop-key.invariant
+pub loop-from-2-init : goal.loop-from-2-init
+loop-from-2-init c = c.loop-from.invariant
 
 pub apart-requires : goal.apart-requires
-apart-requires c = small _ _ _ c.requires.m_bound.0 c.requires.m_bound.3 c.loop-key-2.invariant.stands
+apart-requires c = small _ _ _ c.args.list.now.deepest c.requires.asked.2 c.loop-from-2.invariant.stands
 
 pub place_from-from-requires : goal.place_from-from-requires
-place_from-from-requires c = (own_sorted c.requires.m_bound.4 _, c.loop-key-2.invariant.near)
+place_from-from-requires c = c.loop-from-2.invariant.near
 
-pub offset_bounds-bits-from : goal.offset_bounds-bits-from
-offset_bounds-bits-from c = omega (arith, in_bits c.requires.m_bound.4 c.loop-key-2.invariant.stands _ c.place_from-from.ensures, c.well_formed)
+pub offset_bounds-list-from : goal.offset_bounds-list-from
+offset_bounds-list-from c = omega (arith, in_bits c.args.list.now.own c.loop-from-2.invariant.stands _ c.place_from-from.ensures, c.well_formed)
 
-pub bounds-bits-from : goal.bounds-bits-from
-bounds-bits-from c = in_bits c.requires.m_bound.4 c.loop-key-2.invariant.stands _ c.place_from-from.ensures
+pub bounds-list-from : goal.bounds-list-from
+bounds-list-from c = in_bits c.args.list.now.own c.loop-from-2.invariant.stands _ c.place_from-from.ensures
 
 pub overlap-pixels-requires : goal.overlap-pixels-requires
-overlap-pixels-requires c = (small _ _ _ c.requires.m_bound.0 c.requires.m_bound.3 c.loop-key-2.invariant.stands, sym c.apart.ensures ∙ c.if-apart.false)
+overlap-pixels-requires c = (small _ _ _ c.args.list.now.deepest c.requires.asked.2 c.loop-from-2.invariant.stands, sym c.apart.ensures ∙ c.if-apart.false)
 
 pub overflow_add-pixels : goal.overflow_add-pixels
 overflow_add-pixels c =
-    let g = c.loop-key-2.invariant in
-    let pre = c.requires.m_bound in
-    let alone = place_alone pre.4 g.stands _ _ c.power_of_two-bit.ensures _ c.place_from-from.ensures c.if-found-bit.true in
-    fits pre.0 pre.3 (measured_overlap _ _ _ _ g.stands _ g.measured (sym c.apart.ensures ∙ c.if-apart.false) alone _ c.overlap-pixels.ensures)
+    let g = c.loop-from-2.invariant in
+    let alone = place_alone c.args.list.now.own g.stands _ _ c.power_of_two-bit.ensures _ c.place_from-from.ensures c.if-found-bit.true in
+    fits c.args.list.now.deepest c.requires.asked.2
+    (measured_overlap _ _ _ _ g.stands _ g.measured (sym c.apart.ensures ∙ c.if-apart.false) alone _ c.overlap-pixels.ensures)
 
 pub is_whole-requires : goal.is_whole-requires
-is_whole-requires c = small _ _ _ c.requires.m_bound.0 c.requires.m_bound.3 c.loop-key-2.invariant.stands
+is_whole-requires c = small _ _ _ c.args.list.now.deepest c.requires.asked.2 c.loop-from-2.invariant.stands
 
 pub block_pixels-pixels-requires : goal.block_pixels-pixels-requires
 block_pixels-pixels-requires c =
-    let pre = c.requires.m_bound in
-    (pre.0, pre.1, pre.2, c.loop-key-2.invariant.stands, record { picture = _; mixed = mixed_at c.requires.m_bound.4 c.loop-key-2.invariant.stands _ _ c.power_of_two-bit.ensures _ c.place_from-from.ensures c.if-found-bit-eq0.false c.if-found-bit.false; summary_is = c.requires.summary_value })
+    let g = c.loop-from-2.invariant in
+    let mixed = mixed_at c.args.list.now.own g.stands _ _ c.power_of_two-bit.ensures _ c.place_from-from.ensures c.if-found-bit-eq0.false c.if-found-bit.false in
+    (c.requires.asked.0, c.requires.asked.1, g.stands, record { picture = _; mixed = mixed; summary_is = c.requires.summary_value })
 
 pub overflow_add-pixels-then-is_whole : goal.overflow_add-pixels-then-is_whole
 overflow_add-pixels-then-is_whole c =
-    let g = c.loop-key-2.invariant in
-    let pre = c.requires.m_bound in
-    let mixed = mixed_at c.requires.m_bound.4 c.loop-key-2.invariant.stands _ _ c.power_of_two-bit.ensures _ c.place_from-from.ensures c.if-found-bit-eq0.false c.if-found-bit.false in
-    fits pre.0 pre.3 (measured_whole _ _ _ _ g.stands _ g.measured _ (sym c.is_whole.ensures ∙ c.if-is_whole.true) _ (c.block_pixels-pixels.ensures.holds _ mixed c.requires.summary_value))
+    let g = c.loop-from-2.invariant in
+    let mixed = mixed_at c.args.list.now.own g.stands _ _ c.power_of_two-bit.ensures _ c.place_from-from.ensures c.if-found-bit-eq0.false c.if-found-bit.false in
+    fits c.args.list.now.deepest c.requires.asked.2
+    (measured_whole _ _ _ _ g.stands _ g.measured _ (sym c.is_whole.ensures ∙ c.if-is_whole.true) _ (c.block_pixels-pixels.ensures.holds _ mixed c.requires.summary_value))
 
 pub first-spot-requires : goal.first-spot-requires
-first-spot-requires c =
-    let k = some_keys c.loop-key-2.invariant.stands in
-    let five = five_le 10 c.requires.m_bound.0 in
-    omega arith
+first-spot-requires c = few_keys c.args.list.now.deepest c.loop-from-2.invariant.stands
 
-pub loop-key-2-smaller : goal.loop-key-2-smaller
-loop-key-2-smaller c =
-    let k = some_keys c.loop-key-2.invariant.stands in
-    rw c.first-spot.ensures (omega (arith, k.0))
+pub loop-from-2-smaller : goal.loop-from-2-smaller
+loop-from-2-smaller c = rw c.first-spot.ensures (first_less c.loop-from-2.invariant.stands)
 
-pub loop-key-2-preserved : goal.loop-key-2-preserved
-loop-key-2-preserved c =
-    let entered = mixed_parent c.loop-key-2.invariant.stands (mixed_at c.requires.m_bound.4 c.loop-key-2.invariant.stands _ _ c.power_of_two-bit.ensures _ c.place_from-from.ensures c.if-found-bit-eq0.false c.if-found-bit.false) in
-    rw c.first-spot.ensures (enters _ _ _ _ _ _ c.requires.m_bound.3 c.loop-key-2.invariant _ (near_place c.requires.m_bound.4 _ _ c.place_from-from.ensures) entered)
+pub loop-from-2-preserved : goal.loop-from-2-preserved
+loop-from-2-preserved c =
+    let own = c.args.list.now.own in
+    let g = c.loop-from-2.invariant in
+    let mixed = mixed_at own g.stands _ _ c.power_of_two-bit.ensures _ c.place_from-from.ensures c.if-found-bit-eq0.false c.if-found-bit.false in
+    rw c.first-spot.ensures (enters _ _ _ _ _ _ c.requires.asked.2 g _ (near_place own _ _ c.place_from-from.ensures) (mixed_parent g.stands mixed))
 
 pub after-requires : goal.after-requires
-after-requires c = (c.requires.m_bound.0, c.loop-key-2.invariant.stands)
+after-requires c = (c.args.list.now.deepest, c.loop-from-2.invariant.stands)
 
 -- whichever way a turn ended, what the block adds is counted
-passed : (c : At-Joined1)
-    → MeasuredSoFar c.args.m (shown_by c.args.m c.args.keys.now c.args.bits.now c.args.n) c.args.window c.args.feature c.if-apart.pixels
-    (c.loop-key-2.spot.key + c.loop-key-2.spot.step)
+passed : (c : After-after)
+    → MeasuredSoFar c.args.list.now.m (picture_listed c.args.list.now) c.args.window c.args.feature c.if-apart.pixels (c.loop-from-2.spot.key + c.loop-from-2.spot.step)
 passed c =
-    let g = c.loop-key-2.invariant in
-    let o = c.requires.m_bound.4 in
+    let g = c.loop-from-2.invariant in
+    let own = c.args.list.now.own in
     let bit = c.power_of_two-bit.ensures in
     let apart = c.apart.ensures in
-    ⊎_elim (λ w. named _ w.pixels-is (measured_apart _ _ _ _ g.stands _ g.measured (sym apart ∙ w.if-apart.true)))
-    (⊎_elim (λ w. named _ w.pixels-is (measured_lacking _ _ _ _ g.stands _ g.measured (place_no o g.stands _ _ bit _ w.place_from-from.ensures w.if-found-bit-eq0.true)))
-    (⊎_elim (λ w. named _ w.pixels-is (measured_overlap _ _ _ _ g.stands _ g.measured (sym apart ∙ w.if-apart.false) (place_alone o g.stands _ _ bit _ w.place_from-from.ensures w.if-found-bit.true) _ w.overlap-pixels.ensures))
-    (λ w. named _ w.pixels-is (measured_whole _ _ _ _ g.stands _ g.measured _ (sym w.is_whole.ensures ∙ w.if-is_whole.true) _ (w.block_pixels-pixels.ensures.holds _ (mixed_at o g.stands _ _ bit _ w.place_from-from.ensures w.if-found-bit-eq0.false w.if-found-bit.false) c.requires.summary_value)))))
-    c.if-apart.branch-raw
+    elim c.if-apart.branch [
+      | then-apart w ↦ named _ w.pixels-is (measured_apart _ _ _ _ g.stands _ g.measured (sym apart ∙ w.if-apart.true))
+      | else-apart+then-found-bit-eq0 w ↦ named _ w.pixels-is (measured_lacking _ _ _ _ g.stands _ g.measured (place_no own g.stands _ _ bit _ w.place_from-from.ensures w.if-found-bit-eq0.true))
+      | else-apart+else-found-bit-eq0+then-found-bit w ↦
+          let alone = place_alone own g.stands _ _ bit _ w.place_from-from.ensures w.if-found-bit.true in
+          named _ w.pixels-is (measured_overlap _ _ _ _ g.stands _ g.measured (sym apart ∙ w.if-apart.false) alone _ w.overlap-pixels.ensures)
+      | else-apart+else-found-bit-eq0+else-found-bit+then-is_whole w ↦
+          let mixed = mixed_at own g.stands _ _ bit _ w.place_from-from.ensures w.if-found-bit-eq0.false w.if-found-bit.false in
+          let counted = w.block_pixels-pixels.ensures.holds _ mixed c.requires.summary_value in
+          named _ w.pixels-is (measured_whole _ _ _ _ g.stands _ g.measured _ (sym w.is_whole.ensures ∙ w.if-is_whole.true) _ counted)
+    ]
 
 -- and the next search can begin where the last one ended
-kept : (c : At-Joined1) → Near c.args.keys.now c.args.n c.if-apart.from c.loop-key-2.spot.key
+kept : (c : After-after) → Near c.args.list.now.keys.now (length c.args.list.now.keys.now) c.if-apart.from c.loop-from-2.spot.key
 kept c =
-    let o = c.requires.m_bound.4 in
-    ⊎_elim (λ w. rw w.from-is c.loop-key-2.invariant.near)
-    (⊎_elim (λ w. rw w.from-is (near_place o _ _ w.place_from-from.ensures))
-    (⊎_elim (λ w. rw w.from-is (near_place o _ _ w.place_from-from.ensures))
-    (λ w. rw w.from-is (near_place o _ _ w.place_from-from.ensures))))
-    c.if-apart.branch-raw
+    let own = c.args.list.now.own in
+    elim c.if-apart.branch [
+      | then-apart w ↦ rw w.from-is c.loop-from-2.invariant.near
+      | else-apart+then-found-bit-eq0 w ↦ rw w.from-is (near_place own _ _ w.place_from-from.ensures)
+      | else-apart+else-found-bit-eq0+then-found-bit w ↦ rw w.from-is (near_place own _ _ w.place_from-from.ensures)
+      | else-apart+else-found-bit-eq0+else-found-bit+then-is_whole w ↦ rw w.from-is (near_place own _ _ w.place_from-from.ensures)
+    ]
 
 pub returns-in_default : goal.returns-in_default
-returns-in_default c = measured_end _ _ _ _ _ _ (follows_gone _ _ _ c.after.ensures c.in_default.is) (passed c.before.before.before)
+returns-in_default c = measured_end _ _ _ _ _ _ c.in_default.ensures (passed (goal.at.returns-in_default c).After-after)
 
-pub loop-key-smaller : goal.loop-key-smaller
-loop-key-smaller c =
-    let f = c.in-At.ensures in
-    let k = some_keys c.loop-key-2.invariant.stands in
-    rises c.loop-key.invariant.stands _ (omega (arith, f.1, c.loop-key-2.invariant.rise))
+pub loop-from-smaller : goal.loop-from-smaller
+loop-from-smaller c =
+    let k = some_keys c.loop-from-2.invariant.stands in
+    rises c.loop-from.invariant.stands _ (omega (arith, c.in-Some.ensures.1, c.loop-from-2.invariant.rise))
 
-pub loop-key-preserved : goal.loop-key-preserved
-loop-key-preserved c =
-    let f = c.in-At.ensures in
-    let turn = c.before.before.before in
-    goes_on _ _ _ _ _ _ _ _ _ _ (kept turn) (omega arith) f.0 f.1 (passed turn)
+pub loop-from-preserved : goal.loop-from-preserved
+loop-from-preserved c =
+    let next = c.in-Some.ensures in
+    let turn = (goal.at.loop-from-preserved c).After-after in
+    goes_on _ _ _ _ _ _ _ _ _ _ (kept turn) (omega arith) next.0 next.1 (passed turn)

@@ -1,10 +1,11 @@
--- `measure::area_in` meets its contract: what was counted and what is left from the key where the walk stands are the area. Within a turn it goes down to
--- a block that it can count at once; the key rises from turn to turn.
+-- What the loops of `area_in` keep: what was counted and what is left from the key of the block at which the walk stands are the area; within a turn that
+-- key does not fall.
 use Prim.Native.Nat.{ℕ, ◌-◌, ◌^◌, ◌≤◌}
 use mathlib.Core.List.{List}
+use lib.ListN.{length}
 use Rattle.definitions.specs.Picture.{Picture}
 use Rattle.definitions.specs.declared.Window.{Window}
-use Rattle.list.specs.Own.{shown_by}
+use Rattle.list.specs.Taken.{picture_listed}
 use Rattle.list.specs.Sorted.{Near}
 use Rattle.walk.specs.declared.Spot.{Spot}
 use Rattle.walk.specs.Walk.{BlockSpot}
@@ -17,18 +18,18 @@ pub record Going (m : ℕ) (p : Picture) (w : Window) (f pixels : ℕ) (keys : L
   pub near : Near keys n from s.key
   pub measured : MeasuredSoFar m p w f pixels s.key
 
-abbrev pub invariant-loop-key-2 : goal.invariant-loop-key-2
-invariant-loop-key-2 l =
-    Going l.m (shown_by l.m l.keys l.bits l.n) l.window l.feature l.pixels l.keys l.n l.from l.initial.spot.key l.spot
+abbrev pub invariant-loop-from-2 : goal.invariant-loop-from-2
+invariant-loop-from-2 l =
+    Going l.list.m (picture_listed l.list) l.window l.feature l.pixels l.list.keys.now (length l.list.keys.now) l.from l.initial.spot.key l.spot
 
-abbrev pub decreases-loop-key-2 : goal.decreases-loop-key-2
-decreases-loop-key-2 l =
+abbrev pub decreases-loop-from-2 : goal.decreases-loop-from-2
+decreases-loop-from-2 l =
     l.spot.step
 
-abbrev pub invariant-loop-key : goal.invariant-loop-key
-invariant-loop-key l =
-    Going l.m (shown_by l.m l.keys l.bits l.n) l.window l.feature l.pixels l.keys l.n l.from l.spot.key l.spot
+abbrev pub invariant-loop-from : goal.invariant-loop-from
+invariant-loop-from l =
+    Going l.list.m (picture_listed l.list) l.window l.feature l.pixels l.list.keys.now (length l.list.keys.now) l.from l.spot.key l.spot
 
-abbrev pub decreases-loop-key : goal.decreases-loop-key
-decreases-loop-key l =
-    5 ^ l.m - l.spot.key
+abbrev pub decreases-loop-from : goal.decreases-loop-from
+decreases-loop-from l =
+    5 ^ l.list.m - l.spot.key

@@ -7,15 +7,15 @@ use Rattle.walk.proofs.Lies.{not_apart}
 use Rattle.area.specs.Overlap.{overlap_of}
 use Rattle.area.proofs.overlap.overlap.Goals as goal
 
-pub shared-requires : goal.shared-requires
-shared-requires c = let j = not_apart _ _ c.requires.1 in omega (arith, c.requires.0)
+pub shared-rows-requires : goal.shared-rows-requires
+shared-rows-requires c = let j = not_apart _ _ c.requires.1 in omega (arith, c.requires.0)
 
-pub shared-requires-2 : goal.shared-requires-2
-shared-requires-2 c = let j = not_apart _ _ c.requires.1 in omega (arith, c.requires.0)
+pub shared-columns-requires : goal.shared-columns-requires
+shared-columns-requires c = let j = not_apart _ _ c.requires.1 in omega (arith, c.requires.0)
 
 pub overflow_mul-result : goal.overflow_mul-result
-overflow_mul-result c = let h = mul-le-mul c.shared.ensures.1 c.shared-2.ensures.1 in omega arith
+overflow_mul-result c = let h = mul-le-mul c.shared-rows.ensures.1 c.shared-columns.ensures.1 in omega arith
 
 pub returns : goal.returns
 unfolding overlap_of
-returns c = ap₂ (λ x y. x * y) c.shared.ensures.0 c.shared-2.ensures.0
+returns c = ap₂ (λ x y. x * y) c.shared-rows.ensures.0 c.shared-columns.ensures.0

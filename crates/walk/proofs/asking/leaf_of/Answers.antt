@@ -1,19 +1,12 @@
 -- `asking::leaf_of` meets its contract: a valid key has one block, whose height is what its level leaves.
 use mathlib.Core.Path.{refl}
 use native.Mathlib.Omega.{arith}
-use borrow.Author.Rules.{rules}
 use Rattle.keys.proofs.Digits.{level_height}
 use Rattle.walk.proofs.Told.{spot_of_key}
 use Rattle.walk.proofs.asking.leaf_of.Goals as goal
 
-pub block-square-requires : goal.block-square-requires
-block-square-requires c = search rules
-
 pub overflow_sub-m : goal.overflow_sub-m
 overflow_sub-m c = let s = c.before in let e = level_height s.args.m s.args.leaf in omega (arith, s.requires.2)
-
-pub power_of_five-step-requires : goal.power_of_five-step-requires
-power_of_five-step-requires c = search rules
 
 pub returns : goal.returns
 returns c =

@@ -1,23 +1,24 @@
--- `exist::exist_in` meets its contract: where the walk stands, no pixel of the window with the feature lies before the key. Within a turn it goes
--- down to a block that lies apart from the window or that its record settles; the key rises from turn to turn.
+-- What the loops of `exist_in` keep: no pixel of the window with the feature lies before the key of the block at which the walk stands; within a turn that
+-- key does not fall.
 use Prim.Native.Nat.{◌-◌, ◌^◌}
-use Rattle.list.specs.Own.{shown_by}
+use lib.ListN.{length}
+use Rattle.list.specs.Taken.{picture_listed}
 use Rattle.walk.proofs.Going.{WalkGoes}
 use Rattle.window.proofs.Seen.{Unseen}
 use Rattle.window.proofs.exist.exist_in.Given as goal
 
-abbrev pub invariant-loop-key : goal.invariant-loop-key
-invariant-loop-key l =
-    WalkGoes l.m l.keys l.n l.from l.initial.spot.key l.spot × Unseen l.m (shown_by l.m l.keys l.bits l.n) l.window l.feature l.spot.key
+abbrev pub invariant-loop-place : goal.invariant-loop-place
+invariant-loop-place l =
+    WalkGoes l.list.m l.list.keys.now (length l.list.keys.now) l.from l.initial.spot.key l.spot × Unseen l.list.m (picture_listed l.list) l.window l.feature l.spot.key
 
-abbrev pub decreases-loop-key : goal.decreases-loop-key
-decreases-loop-key l =
+abbrev pub decreases-loop-place : goal.decreases-loop-place
+decreases-loop-place l =
     l.spot.step
 
 abbrev pub invariant-walk : goal.invariant-walk
 invariant-walk l =
-    WalkGoes l.m l.keys l.n l.from l.spot.key l.spot × Unseen l.m (shown_by l.m l.keys l.bits l.n) l.window l.feature l.spot.key
+    WalkGoes l.list.m l.list.keys.now (length l.list.keys.now) l.from l.spot.key l.spot × Unseen l.list.m (picture_listed l.list) l.window l.feature l.spot.key
 
 abbrev pub decreases-walk : goal.decreases-walk
 decreases-walk l =
-    5 ^ l.m - l.spot.key
+    5 ^ l.list.m - l.spot.key

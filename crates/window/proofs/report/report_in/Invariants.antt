@@ -1,23 +1,24 @@
--- `report::report_in` meets its contract: where the walk stands, the union has the slots of the window's pixels before the key, and no others. Within a
--- turn it goes down to a block that lies apart from the window or that its record settles; the key rises from turn to turn.
+-- What the loops of `report_in` keep: the union has the slots of the window's pixels before the key of the block at which the walk stands, and no others;
+-- within a turn that key does not fall.
 use Prim.Native.Nat.{◌-◌, ◌^◌}
-use Rattle.list.specs.Own.{shown_by}
+use lib.ListN.{length}
+use Rattle.list.specs.Taken.{picture_listed}
 use Rattle.walk.proofs.Going.{WalkGoes}
 use Rattle.window.proofs.Gathered.{Gathered}
 use Rattle.window.proofs.report.report_in.Given as goal
 
-abbrev pub invariant-loop-key-2 : goal.invariant-loop-key-2
-invariant-loop-key-2 l =
-    WalkGoes l.m l.keys l.n l.from l.initial.spot.key l.spot × Gathered l.m (shown_by l.m l.keys l.bits l.n) l.window l.union l.spot.key
+abbrev pub invariant-loop-place-2 : goal.invariant-loop-place-2
+invariant-loop-place-2 l =
+    WalkGoes l.list.m l.list.keys.now (length l.list.keys.now) l.from l.initial.spot.key l.spot × Gathered l.list.m (picture_listed l.list) l.window l.union l.spot.key
 
-abbrev pub decreases-loop-key-2 : goal.decreases-loop-key-2
-decreases-loop-key-2 l =
+abbrev pub decreases-loop-place-2 : goal.decreases-loop-place-2
+decreases-loop-place-2 l =
     l.spot.step
 
-abbrev pub invariant-loop-key : goal.invariant-loop-key
-invariant-loop-key l =
-    WalkGoes l.m l.keys l.n l.from l.spot.key l.spot × Gathered l.m (shown_by l.m l.keys l.bits l.n) l.window l.union l.spot.key
+abbrev pub invariant-loop-place : goal.invariant-loop-place
+invariant-loop-place l =
+    WalkGoes l.list.m l.list.keys.now (length l.list.keys.now) l.from l.spot.key l.spot × Gathered l.list.m (picture_listed l.list) l.window l.union l.spot.key
 
-abbrev pub decreases-loop-key : goal.decreases-loop-key
-decreases-loop-key l =
-    5 ^ l.m - l.spot.key
+abbrev pub decreases-loop-place : goal.decreases-loop-place
+decreases-loop-place l =
+    5 ^ l.list.m - l.spot.key

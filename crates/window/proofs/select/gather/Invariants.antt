@@ -1,12 +1,13 @@
--- `select::gather` meets its contract: where the walk stands, what is counted and written is what select gives below the key. Within a turn it goes down
--- to a block that lies apart from the window, lacks the feature or lies within the window, and adds nothing on the way; the key rises from turn to turn.
+-- What the loops of `gather` keep: what is counted and written is what select gives below the key of the block at which the walk stands; within a turn
+-- nothing is added, and that key does not fall.
 use Prim.Native.Nat.{ℕ, ◌-◌, ◌^◌}
+use lib.ListN.{length}
 use mathlib.Core.Path.{◌≡◌}
 use mathlib.Core.List.{List}
 use Rattle.definitions.specs.Picture.{Picture}
 use Rattle.definitions.specs.Window.{select_in}
 use Rattle.definitions.specs.declared.Window.{Window}
-use Rattle.list.specs.Own.{shown_by}
+use Rattle.list.specs.Taken.{picture_listed}
 use Rattle.walk.specs.Walk.{Walking}
 use Rattle.walk.specs.Given.{lower}
 use Rattle.walk.proofs.Going.{WalkGoes}
@@ -22,9 +23,9 @@ pub record Still (m : ℕ) (p : Picture) (w : Window) (f : ℕ) (answer₀ answe
 
 abbrev pub invariant-loop-told-2 : goal.invariant-loop-told-2
 invariant-loop-told-2 l =
-    WalkGoes l.m l.keys l.n l.from l.initial.spot.key l.spot
-    × Walking l.m l.window l.spot
-    × Still l.m (shown_by l.m l.keys l.bits l.n) l.window l.feature l.initial.answer l.answer l.initial.count l.count l.initial.spot.key l.spot.key
+    WalkGoes l.list.m l.list.keys.now (length l.list.keys.now) l.from l.initial.spot.key l.spot
+    × Walking l.list.m l.window l.spot
+    × Still l.list.m (picture_listed l.list) l.window l.feature l.initial.answer l.answer l.initial.count l.count l.initial.spot.key l.spot.key
 
 abbrev pub decreases-loop-told-2 : goal.decreases-loop-told-2
 decreases-loop-told-2 l =
@@ -32,10 +33,10 @@ decreases-loop-told-2 l =
 
 abbrev pub invariant-loop-told : goal.invariant-loop-told
 invariant-loop-told l =
-    WalkGoes l.m l.keys l.n l.from l.spot.key l.spot
-    × Walking l.m l.window l.spot
-    × Taken l.m (shown_by l.m l.keys l.bits l.n) l.window l.feature l.limit l.initial.answer l.answer l.count l.spot.key
+    WalkGoes l.list.m l.list.keys.now (length l.list.keys.now) l.from l.spot.key l.spot
+    × Walking l.list.m l.window l.spot
+    × Taken l.list.m (picture_listed l.list) l.window l.feature l.limit l.initial.answer l.answer l.count l.spot.key
 
 abbrev pub decreases-loop-told : goal.decreases-loop-told
 decreases-loop-told l =
-    5 ^ l.m - l.spot.key
+    5 ^ l.list.m - l.spot.key

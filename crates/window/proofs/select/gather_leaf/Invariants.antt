@@ -1,5 +1,5 @@
--- `select::gather_leaf` meets its contract: where the walk stands, what was given is what select gives from the first block on and before the key, in every
--- picture that has the feature in the leaf. The key rises from turn to turn.
+-- What the loop of `gather_leaf` keeps: what was given is what select gives from the first block on and before the key, in every picture that has the
+-- feature in the leaf.
 use Prim.Native.Nat.{◌-◌, ◌^◌}
 use Rattle.window.proofs.LeafBlocks.{Running}
 use Rattle.window.proofs.select.gather_leaf.Given as goal

@@ -1,7 +1,6 @@
--- `select::gather_run` meets its contract: what is counted and written so far, with what the rest of the run gives, is what the whole run gives.
+-- `select::gather_run` meets its contract: a record with exactly the bit gives its key, and another is passed. Rests on Run.
 use Prim.Native.Nat.{ℕ, ◌+◌}
-use mathlib.Core.Path.{◌≡◌, refl, sym, ap, ap₂, ◌∙◌}
-use mathlib.Core.Logic.{⊎_elim}
+use mathlib.Core.Path.{◌≡◌, sym, ap, ap₂, ◌∙◌}
 use mathlib.Core.List.{List, [], ◌∷◌}
 use native.Mathlib.Numerals.{add-one}
 use native.Mathlib.Omega.{arith}
@@ -12,18 +11,7 @@ use Rattle.walk.proofs.Written.{written_none, written_one_key, length-written_at
 use Rattle.window.proofs.Run.{run_over, run_gives, run_passes}
 use Rattle.window.proofs.select.gather_run.Invariants.{Passed}
 use Rattle.window.proofs.select.gather_run.Goals as goal
-use Rattle.window.proofs.select.gather_run.Lts as lts
-use Rattle.window.proofs.select.gather_run.Tie as tie
-use Rattle.window.proofs.select.gather_run.Reads as own
-
-abbrev At-At-loop : Type 0
-At-At-loop = lts.At-loop tie.the-claims own.Pre own.Post goal.the-invariant-loop-i goal.the-decreases-loop-i
-
-abbrev At-Start : Type 0
-At-Start = lts.Start tie.the-claims own.Pre own.Post goal.the-invariant-loop-i goal.the-decreases-loop-i
-
-begins : (whole : List ℕ) (limit count : ℕ) (answer : List ℕ) (first : ℕ) → Passed whole limit count answer answer count first whole
-begins whole limit count answer first = record { counts = refl; writes = refl; lengths = refl; bound = omega arith }
+use Rattle.window.proofs.select.gather_run.Goals.{then-bits-i, else-bits-i}
 
 module _ {whole : List ℕ} {limit count : ℕ} {answer₀ answer : List ℕ} {given i : ℕ} {rest : List ℕ} (p : Passed whole limit count answer₀ answer given i rest) where
   -- nothing is left
@@ -61,59 +49,14 @@ module _ {whole : List ℕ} {limit count : ℕ} {answer₀ answer : List ℕ} {g
         bound = omega (arith, p.bound);
       }
 
--- the entry of the function, from the head of the loop
-abbrev entry : At-At-loop → At-Start
-entry c = c.before.before.before.before
-
-pub loop-i-init : goal.loop-i-init
-loop-i-init c = begins _ _ _ _ _
-
-pub offset_bounds-bits-i : goal.offset_bounds-bits-i
-offset_bounds-bits-i c = omega (arith, c.loop-i-test.true, (entry c.before.before).requires.1, (entry c.before.before).well_formed.1.0.1)
-
-pub bounds-bits-i : goal.bounds-bits-i
-bounds-bits-i c = omega (arith, c.loop-i-test.true, (entry c.before.before.before).requires.1)
-
-pub offset_bounds-keys-i : goal.offset_bounds-keys-i
-offset_bounds-keys-i c =
-    let goes = c.before.before.before.before in
-    omega (arith, goes.loop-i-test.true, (entry goes.before).requires.0, (entry goes.before).well_formed.0.1)
-
-pub bounds-keys-i : goal.bounds-keys-i
-bounds-keys-i c =
-    let goes = c.before.before.before.before.before in
-    omega (arith, goes.loop-i-test.true, (entry goes.before).requires.0)
-
-pub write_within-requires : goal.write_within-requires
-write_within-requires c =
-    let at = c.before.before.before.before.before.before in
-    omega (arith, (entry at).requires.2, at.loop-i.invariant.lengths)
-
-pub overflow_add-given : goal.overflow_add-given
-overflow_add-given c =
-    let goes = c.before.before.before.before.before.before.before.before in
-    let at = goes.before in
-    omega (arith, at.loop-i.invariant.bound, (entry at).requires.3, (entry at).requires.0, (entry at).well_formed.0.1, goes.loop-i-test.true)
-
-pub overflow_add-i : goal.overflow_add-i
-overflow_add-i c =
-    let at = c.before.before.before.before in
-    omega (arith, c.loop-i-test.true, (entry at).requires.0, (entry at).well_formed.0.0)
-
-pub loop-i-smaller : goal.loop-i-smaller
-loop-i-smaller c = omega (arith, c.loop-i-test.true)
-
 pub loop-i-preserved : goal.loop-i-preserved
 loop-i-preserved c =
-    let at = c.before.before.before.before in
-    let pre = (entry at).requires in
+    let l = c.loop-i.invariant in
     let inside = c.loop-i-test.true in
-    ⊎_elim (λ w. gives at.loop-i.invariant _ _ _ _ (run_gives _ _ _ _ _ inside pre.0 pre.1 w.if-bits-i.true) (w.answer-is ∙ w.write_within.ensures) w.given-is)
-    (λ w. skips at.loop-i.invariant _ _ _ (run_passes _ _ _ _ _ inside pre.0 pre.1 w.if-bits-i.false) w.answer-is w.given-is)
-    c.if-bits-i.branch-raw
-
-pub shape_of-answer : goal.shape_of-answer
-shape_of-answer c = c.loop-i.invariant.lengths
+    elim c.if-bits-i.branch [
+      | then-bits-i w ↦ gives l _ _ _ _ (run_gives _ _ _ _ _ inside c.requires.0 c.requires.1 w.if-bits-i.true) (w.answer-is ∙ w.write_within.ensures) w.given-is
+      | else-bits-i w ↦ skips l _ _ _ (run_passes _ _ _ _ _ inside c.requires.0 c.requires.1 w.if-bits-i.false) w.answer-is w.given-is
+    ]
 
 pub returns : goal.returns
 returns c = stops c.loop-i.invariant (run_over _ _ _ _ _ c.loop-i-test.false)

@@ -1,5 +1,5 @@
--- `select::gather_run` meets its contract: what is counted and written so far, with what the rest of the run gives, is what the whole run gives.
-use Prim.Native.Nat.{ℕ, ◌+◌, ◌-◌, ◌≤◌}
+-- What the loop of `gather_run` keeps: what is counted and written so far, with what the rest of the run gives, is what the whole run gives.
+use Prim.Native.Nat.{ℕ, ◌+◌, ◌≤◌}
 use mathlib.Core.Path.{◌≡◌}
 use mathlib.Core.List.{List}
 use lib.ListN.{length}
@@ -16,7 +16,3 @@ pub record Passed (whole : List ℕ) (limit count : ℕ) (answer₀ answer : Lis
 abbrev pub invariant-loop-i : goal.invariant-loop-i
 invariant-loop-i l =
     Passed (left l.keys l.bits l.end l.bit l.first) l.limit l.count l.initial.answer l.answer l.given l.i (left l.keys l.bits l.end l.bit l.i)
-
-abbrev pub decreases-loop-i : goal.decreases-loop-i
-decreases-loop-i l =
-    l.end - l.i
