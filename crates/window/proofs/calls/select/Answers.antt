@@ -12,13 +12,14 @@ use Rattle.keys.proofs.Powers.{two_le}
 use Rattle.definitions.specs.Calls.Exist.{exist_refusal}
 use Rattle.definitions.specs.Window.{is_window}
 use Rattle.definitions.specs.declared.Window.{Window}
+use Rattle.definitions.proofs.Needed.{none_needed}
 use Rattle.definitions.proofs.Refused.{refusal_some}
 use Rattle.list.specs.Taken.{Taken}
 use Rattle.list.specs.declared.accepted_list.Accepted.{Accepted}
 use Rattle.walk.proofs.Lies.{accepted_window}
 use Rattle.window.proofs.Tables.{exist_passed, exist_below, select_other}
 use Rattle.window.proofs.Answers.{select_refused, select_at_once, select_twelve, select_written, counting_leaves}
-use Rattle.window.proofs.ListTaken.{taken_gave, no_places}
+use Rattle.window.proofs.ListTaken.{taken_gave}
 use Rattle.window.proofs.calls.select.Goals as goal
 
 -- what the walk asks for
@@ -34,7 +35,7 @@ pub returns-in_err-list-clause-value : goal.returns-in_err-list-clause-value
 returns-in_err-list-clause-value c =
     let p = err_from_is_err_and c.from_residual.result c.from_residual.ensures.1 in
     let told = c.in_err-list.ensures.told in
-    let none = no_places c.in_err-list.field-0.0 (select_other _ _ _ _ _ _ _ c.args.answer.now _ told (refusal_some _)) in
+    let none = none_needed c.in_err-list.field-0.0 (select_other _ _ _ _ _ _ _ c.args.answer.now _ told (refusal_some _)) in
     rw (p.1, p.2, none) (select_refused _ _ _ _ _ _ _ _ _ told (refusal_some _)).result
 
 pub returns-in_err-list-clause-answer_after : goal.returns-in_err-list-clause-answer_after
