@@ -88,7 +88,7 @@ module _ {ks : List ℕ} {at n past : ℕ} (a : EndAsked ks at n past) where
   part_at : (i : ℕ) → i < n - at → get_or part i 0 ≡ get_or ks (at + i) 0
   part_at i h = get_or-take (n - at) (drop at ks) i 0 h ∙ get_or-drop at ks i 0
 
-  pub part_sorted : Sorted part (n - at) (past - 1)
+  part_sorted : Sorted part (n - at) (past - 1)
   part_sorted =
       let some = a.some in
       let first = a.first in
@@ -101,12 +101,17 @@ module _ {ks : List ℕ} {at n past : ℕ} (a : EndAsked ks at n past) where
         first = rw (part_at 0 (omega arith), add-zero at) (omega arith);
       }
 
-  pub part_near : Near part (n - at) 0 (past - 1)
-  part_near = let some = a.some in record { room = omega arith; before = part_sorted.first }
+  -- it can be asked for
+  pub part_asked : Sorted part (length part) (past - 1) × Near part (length part) 0 (past - 1)
+  part_asked = let some = a.some in rw part_many (part_sorted, record { room = omega arith; before = part_sorted.first })
 
-  module _ (place : ℕ) (is : place ≡ place_among (past - 1) (take (n - at) part)) where
+  module _ (place : ℕ) (is : place ≡ place_among (past - 1) part) where
     pub found_in : place < n - at
-    found_in = let h = place-below part_sorted in omega arith
+    found_in =
+        let h = place-below part_sorted in
+        let whole : part ≡ take (n - at) part = sym (take_all (n - at) part (let m = part_many in omega arith)) in
+        let f = is ∙ ap (place_among (past - 1)) whole in
+        omega arith
 
     pub found_end : (at + place) + 1 ≡ at + keys_below past part
     unfolding place_among
@@ -114,8 +119,7 @@ module _ {ks : List ℕ} {at n past : ℕ} (a : EndAsked ks at n past) where
         let first = a.first in
         let some = a.some in
         let up : suc (past - 1) ≡ past = omega arith in
-        let whole : take (n - at) part ≡ part = take_all (n - at) part (let m = part_many in omega arith) in
         let below : keys_below past part ≡ keys_up_to (past - 1) part = ap (λ x. keys_below x part) (sym up) ∙ below_up_to (past - 1) part in
-        let same : keys_up_to (past - 1) (take (n - at) part) ≡ keys_up_to (past - 1) part = ap (keys_up_to (past - 1)) whole in
+        let same : keys_up_to (past - 1) (take (n - at) part) ≡ keys_up_to (past - 1) part = ap (keys_up_to (past - 1)) (take_all (n - at) part (let m = part_many in omega arith)) in
         let least = up_to_some (past - 1) (n - at) part (omega arith) (let m = part_many in omega arith) part_sorted.first in
         omega arith

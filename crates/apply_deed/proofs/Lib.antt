@@ -1,6 +1,7 @@
 pub mod Runs
 pub mod FourParts
 pub mod Narrowed
+pub mod Asked
 pub mod ShownBlocks
 pub mod BlockEnds
 pub mod Forward

@@ -70,6 +70,10 @@ apart_passed {m} {b} {block} {met} {t} {t'} {log_keys} {log_values} h is same fo
 pub met_counted : {t : Step} {m b : ℕ} → PassedBy t m b true
 met_counted = record { apart = λ e. absurd (true≢false e) }
 
+-- by another name of the map
+pub passed_map : {t : Step} {m m' b : ℕ} {meets : Bool} → m ≡ m' → PassedBy t m b meets → PassedBy t m' b meets
+passed_map same p = rw same at p
+
 module _ {t : Step} {m s : ℕ} {keys bits : List ℕ} {n : ℕ} {summary : List ℕ} (o : StepOutdated t m s keys bits n summary) where
   pub outdated_long : length summary ≡ summary_length m s
   outdated_long = ap length o.counts ∙ summary-length m s o.before

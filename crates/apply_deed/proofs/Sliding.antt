@@ -4,7 +4,7 @@ use mathlib.Core.Path.{◌≡◌, sym, ◌∙◌, ap}
 use mathlib.Core.List.{List, ◌++◌, map-append}
 use native.Mathlib.Omega.{arith}
 use lib.ListN.{length, get_or, take, drop, length-drop, length-map}
-use lib.Seq.{sets, length-take-le, take-length, drop-append_seam, get_or-append-add}
+use lib.Seq.{sets, get_or-take, length-take-le, take-length, drop-append_seam, get_or-append-add}
 use Rattle.keys.proofs.Cases.{split}
 use Rattle.definitions.specs.Picture.{Picture}
 use Rattle.definitions.specs.List.{Record, keys_of, values_of, list_of}
@@ -34,7 +34,7 @@ start_one {a = a} {b} x y =
 
 -- the search for it, among keys that ascend
 module _ {key read : ℕ} {keys : List ℕ} (a : StartAsked key read keys) where
-  pub start_sorted : Sorted keys read key
+  start_sorted : Sorted keys read key
   start_sorted =
       record {
         ascends = a.ascends;
@@ -42,6 +42,21 @@ module _ {key read : ℕ} {keys : List ℕ} (a : StartAsked key read keys) where
         first = split 0 a.start
             (λ behind. let h = a.ascends.ascend 0 a.start behind a.at.some in omega (arith, a.at.is))
             (λ front. let e : a.start ≡ 0 = omega arith in let f = ap (λ i. get_or keys i 0) e in omega (arith, a.at.is));
+      }
+
+  -- as a slice of their own
+  pub first_sorted : Sorted (take read keys) (length (take read keys)) key
+  first_sorted =
+      let s = start_sorted in
+      let size = length-take-le read keys s.ascends.room in
+      let at : (i : ℕ) → i < read → get_or (take read keys) i 0 ≡ get_or keys i 0 = λ i h. get_or-take read keys i 0 h in
+      record {
+        ascends = record {
+          room = omega arith;
+          ascend = λ i j h k. let a = at i (omega arith) in let b = at j (omega arith) in let o = s.ascends.ascend i j h (omega arith) in omega arith;
+        };
+        some = omega (arith, s.some);
+        first = let a = at 0 (omega (arith, s.some)) in let f = s.first in omega arith;
       }
 
   pub start_found : {place : ℕ} → place ≡ place_among key (take read keys) → StartAt key read keys place

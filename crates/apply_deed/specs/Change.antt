@@ -3,12 +3,18 @@ use Rattle.std.specs.Prelude.{ℕ, ◌-◌, ◌≤◌, ◌≡◌, List, length, 
 use Rattle.std.proofs.lemmas.List.Edits.{sets}
 use Rattle.keys.specs.Child.{root_of}
 use Rattle.definitions.specs.Picture.{Picture}
-use Rattle.definitions.specs.List.{keys_of, values_of, list_of, list_of_picture}
+use Rattle.definitions.specs.List.{Record, keys_of, values_of, list_of, list_of_picture}
 use Rattle.definitions.specs.Read.{room}
 use Rattle.definitions.specs.Buffer.{replaced}
 use Rattle.list.specs.Own.{OwnList, shown_by}
+use Rattle.list.specs.Taken.{picture_listed}
+use Rattle.list.specs.declared.accepted_list.Accepted.{Accepted}
 use Rattle.deeds.specs.Step.{Step, step_over}
 use Rattle.apply_deed.specs.Passes.{Growing, WroteBefore}
+
+-- an accepted list after a step
+abbrev pub list_stepped : Step → Accepted → List Record
+list_stepped t list = list_of_picture list.m (step_over t (picture_listed list))
 
 -- the first n records are a list, and there is room for what it becomes
 pub record Changeable (t : Step) (m : ℕ) (keys bits : List ℕ) (n : ℕ) : Type 0 where

@@ -3,13 +3,12 @@ ghost use Rattle.std.specs.Prelude.{◌≡◌, ◌+◌, ◌-◌, take, drop};
 ghost use Rattle.list.specs.Among.{keys_below};
 ghost use Rattle.apply_deed.specs.Passes.{EndAsked};
 
-use list::standing;
+use list::search;
 
 // The place after the records, from a place on, whose keys are below a number. The search begins at the first, so it costs the logarithm of their number.
 pub fn block_end(keys: &[u32], at: usize, n: usize, past: u32) -> usize
     requires { EndAsked keys.now at n past }
     ensures { result ≡ at + keys_below past (take (n - at) (drop at keys.now)) }
 {
-    let last = standing::place_from(&keys[at..n], n - at, 0, past - 1);
-    at + last + 1
+    at + search::place_from(&keys[at..n], 0, past - 1) + 1
 }

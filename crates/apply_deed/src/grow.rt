@@ -1,11 +1,10 @@
 // Every leaf becomes what the step makes of its feature, from the last quadrant to the first, so that a block is known where its leaf is met.
-ghost use Rattle.deeds.specs.Deed.{Doable, step_of};
+ghost use Rattle.deeds.specs.Doing.{step_by};
 ghost use Rattle.apply_deed.specs.Passes.{OwnAsked, OwnWritten, GrowAsked, Grown};
 
 use crate::slide::Places;
 use crate::{slide, spread};
-use deeds::deed;
-use deeds::deed::Doing;
+use deeds::doing::Doing;
 use keys::block::{TreeBlock, child};
 
 // The own record of a node, which stays itself, goes before what its quadrants have grown to.
@@ -25,16 +24,13 @@ fn write_own(key: u32, at: Places, keys: &mut [u32], bits: &mut [u32]) -> Places
 // only one, a leaf; of a node it lies under the last quadrant. A node that stays as it is moves as a whole.
 pub fn grow(
     doing: Doing,
-    log_keys: &[u32],
-    log_values: &[u32],
     block: TreeBlock,
     at: Places,
     keys: &mut [u32],
     bits: &mut [u32],
 ) -> Places
-    requires doable { Doable doing.m doing.deed log_keys.now log_values.now }
-    requires grow_asked { GrowAsked (step_of doing.m doing.deed log_keys.now log_values.now) doing.m block keys.old bits.old at.read at.write }
-    ensures { Grown (step_of doing.m doing.deed log_keys.now log_values.now) block keys.old bits.old at.read at.write keys.new bits.new result.read result.write }
+    requires { GrowAsked (step_by doing) doing.m block keys.old bits.old at.read at.write }
+    ensures { Grown (step_by doing.entry) block keys.old bits.old at.read at.write keys.new bits.new result.read result.write }
 {
     let read = at.read;
     let write = at.write;
@@ -42,21 +38,20 @@ pub fn grow(
     let found = keys[last];
     if found == block.key {
         let b = bits[last];
-        let start = spread::write_leaf(doing, log_keys, log_values, b, block, write, keys, bits);
+        let start = spread::write_leaf(doing, b, block, write, keys, bits);
         return Places {
             read: last,
             write: start,
         };
     }
-    let deed = deed::narrow(doing, log_keys, log_values, block);
-    let here = Doing { m: doing.m, deed };
-    let met = deed::meeting(here, log_keys, log_values, block);
+    let here = doing.narrowed(block);
+    let met = here.meeting(block);
     if slide::stays(met, read, write) {
         return slide::slide(block.key, read, write, keys, bits);
     }
-    let se = grow(here, log_keys, log_values, child(block, 4), at, keys, bits);
-    let sw = grow(here, log_keys, log_values, child(block, 3), se, keys, bits);
-    let ne = grow(here, log_keys, log_values, child(block, 2), sw, keys, bits);
-    let nw = grow(here, log_keys, log_values, child(block, 1), ne, keys, bits);
+    let se = grow(here, child(block, 4), at, keys, bits);
+    let sw = grow(here, child(block, 3), se, keys, bits);
+    let ne = grow(here, child(block, 2), sw, keys, bits);
+    let nw = grow(here, child(block, 1), ne, keys, bits);
     write_own(block.key, nw, keys, bits)
 }

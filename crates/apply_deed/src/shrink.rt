@@ -1,15 +1,15 @@
 // The list becomes what is left of it on the way to the list after the step, in one descent towards the front: a block of one feature after the step is one
 // record, a leaf that has to grow stays as it is, and the nodes have their new bits. The descent counts the list after the step, which grows out of what is left.
 ghost use Rattle.std.specs.Prelude.{◌≡◌, cond, eqb};
-ghost use Rattle.deeds.specs.Deed.{Doable, step_of, LeafAsked};
+ghost use Rattle.deeds.specs.Deed.{LeafAsked};
+ghost use Rattle.deeds.specs.Doing.{step_by};
 ghost use Rattle.apply_deed.specs.Shrink.{ShrinkAsked, Shrinks, is_decided, KeepAsked, KeptForward, OneAsked, LeafShrunk, OwnShrunk};
 
 use crate::slide::Places;
 use crate::tally;
 use build::count;
 use build::count::Tally;
-use deeds::deed;
-use deeds::deed::Doing;
+use deeds::doing::Doing;
 use deeds::meeting::Meeting;
 use keys::block::{TreeBlock, child, end};
 use list::check;
@@ -25,12 +25,7 @@ pub struct Shrunk {
 fn is_decided(meeting: Meeting) -> bool
     ensures { result ≡ is_decided meeting }
 {
-    match meeting {
-        Meeting::Apart => true,
-        Meeting::Leaf(_) => true,
-        Meeting::Content(_, _) => false,
-        Meeting::Cut => false,
-    }
+    matches!(meeting, Meeting::Apart | Meeting::Leaf(_))
 }
 
 // The records of a block that stays as it is, or a leaf for them. Gives the place after them.
@@ -58,8 +53,7 @@ fn keep(
             bits[place] = after;
             place + 1
         }
-        Meeting::Content(_, _) => place,
-        Meeting::Cut => place,
+        Meeting::Content(_, _) | Meeting::Cut => place,
     }
 }
 
@@ -73,19 +67,17 @@ fn bits_left(own: u32, tally: Tally) -> u32
 // A leaf after the step where it stays one; where it has to grow, the leaf before it.
 fn shrink_leaf(
     doing: Doing,
-    log_keys: &[u32],
-    log_values: &[u32],
     own: u32,
     block: TreeBlock,
     at: Places,
     keys: &mut [u32],
     bits: &mut [u32],
 ) -> Shrunk
-    requires doable { Doable doing.m doing.deed log_keys.now log_values.now × LeafAsked doing.m own block }
+    requires leaf_asked { LeafAsked doing.m own block }
     requires one_asked { OneAsked keys.old bits.old at.read at.write }
-    ensures { LeafShrunk (step_of doing.m doing.deed log_keys.now log_values.now) own block keys.old bits.old at.read at.write keys.new bits.new result.tally.bits result.tally.count result.at.read result.at.write }
+    ensures { LeafShrunk (step_by doing.entry) own block keys.old bits.old at.read at.write keys.new bits.new result.tally.bits result.tally.count result.at.read result.at.write }
 {
-    let tally = tally::tally_leaf(doing, log_keys, log_values, own, block);
+    let tally = tally::tally_leaf(doing, own, block);
     let place = at.write;
     keys[place] = block.key;
     bits[place] = bits_left(own, tally);
@@ -119,28 +111,25 @@ fn shrink_own(
 // The records of a block, which stand from one place on, shrink to stand from another on, at or before it.
 pub fn shrink(
     doing: Doing,
-    log_keys: &[u32],
-    log_values: &[u32],
     block: TreeBlock,
     at: Places,
     n: usize,
     keys: &mut [u32],
     bits: &mut [u32],
 ) -> Shrunk
-    requires { Doable doing.m doing.deed log_keys.now log_values.now × ShrinkAsked doing.m block keys.old bits.old at.read n at.write }
-    ensures { Shrinks (step_of doing.m doing.deed log_keys.now log_values.now) block keys.old bits.old at.read n at.write keys.new bits.new result.tally.bits result.tally.count result.at.read result.at.write }
+    requires { ShrinkAsked doing.m block keys.old bits.old at.read n at.write }
+    ensures { Shrinks (step_by doing.entry) block keys.old bits.old at.read n at.write keys.new bits.new result.tally.bits result.tally.count result.at.read result.at.write }
 {
     let read = at.read;
     let place = at.write;
     let own = bits[read];
     if check::has_one_slot(own) {
-        return shrink_leaf(doing, log_keys, log_values, own, block, at, keys, bits);
+        return shrink_leaf(doing, own, block, at, keys, bits);
     }
-    let deed = deed::narrow(doing, log_keys, log_values, block);
-    let here = Doing { m: doing.m, deed };
-    let met = deed::meeting(here, log_keys, log_values, block);
+    let here = doing.narrowed(block);
+    let met = here.meeting(block);
     if is_decided(met) {
-        let passed = tally::pass_over(met, own, end(block), read, keys, n, log_values);
+        let passed = tally::pass_over(met, own, end(block), read, keys, n, here.log_values);
         let tally = passed.tally;
         let next = passed.next;
         let write = keep(met, block.key, read, next, place, keys, bits);
@@ -151,13 +140,13 @@ pub fn shrink(
     let write = place + 1;
     let below = Places { read, write };
     let part = child(block, 1);
-    let nw = shrink(here, log_keys, log_values, part, below, n, keys, bits);
+    let nw = shrink(here, part, below, n, keys, bits);
     let part = child(block, 2);
-    let ne = shrink(here, log_keys, log_values, part, nw.at, n, keys, bits);
+    let ne = shrink(here, part, nw.at, n, keys, bits);
     let part = child(block, 3);
-    let sw = shrink(here, log_keys, log_values, part, ne.at, n, keys, bits);
+    let sw = shrink(here, part, ne.at, n, keys, bits);
     let part = child(block, 4);
-    let se = shrink(here, log_keys, log_values, part, sw.at, n, keys, bits);
+    let se = shrink(here, part, sw.at, n, keys, bits);
     let tally = count::joined(nw.tally, ne.tally, sw.tally, se.tally);
     let last = se.at;
     let write = shrink_own(block.key, tally.bits, place, last.write, keys, bits);

@@ -3,7 +3,7 @@ ghost use Rattle.std.specs.Prelude.{◌≡◌, true};
 ghost use Rattle.apply_deed.specs.Slide.{StartAt, StartAsked, SlideAsked, Slid, Stays};
 
 use deeds::meeting::Meeting;
-use list::standing;
+use list::search;
 
 // Where records are read, and where what becomes of them is written. Growing, which goes from the end, reads and writes before these places.
 #[derive(Clone, Copy)]
@@ -17,7 +17,7 @@ fn block_start(key: u32, read: usize, keys: &[u32]) -> usize
     requires { StartAsked key read keys.now }
     ensures { StartAt key read keys.now result }
 {
-    standing::place(keys, read, key)
+    search::place(&keys[..read], key)
 }
 
 // The records from there up to `read` go before `write`.
@@ -40,13 +40,5 @@ pub fn slide(key: u32, read: usize, write: usize, keys: &mut [u32], bits: &mut [
 pub fn stays(meeting: Meeting, read: usize, write: usize) -> bool
     ensures { result ≡ true → Stays meeting read write }
 {
-    if read == write {
-        return true;
-    }
-    match meeting {
-        Meeting::Apart => true,
-        Meeting::Leaf(_) => false,
-        Meeting::Content(_, _) => false,
-        Meeting::Cut => false,
-    }
+    read == write || matches!(meeting, Meeting::Apart)
 }

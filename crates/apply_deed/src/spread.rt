@@ -1,31 +1,24 @@
 // What a leaf grows to after the step, written before a place in one descent from the last quadrant to the first: the records below it, and then its own.
-ghost use Rattle.std.specs.Prelude.{◌≡◌, ◌-◌};
 ghost use Rattle.definitions.specs.Bits.{feature_of, union_of_four};
 ghost use Rattle.deeds.specs.Step.{plain, step_over};
-ghost use Rattle.deeds.specs.Deed.{Doable, step_of, LeafAsked};
+ghost use Rattle.deeds.specs.Deed.{LeafAsked};
+ghost use Rattle.deeds.specs.Doing.{step_by};
 ghost use Rattle.apply_deed.specs.Passes.{list_at, WriteAsked, WroteBefore, FittingBefore, WrittenBefore, Layable, LeafLaid, SettleAsked, FourSettled};
 
 use build::write;
 use build::write::Below;
-use deeds::deed::Doing;
+use deeds::doing::Doing;
 use deeds::meeting::Meeting;
-use deeds::{deed, meeting};
 use keys::block::{TreeBlock, child};
 use keys::power;
 use list::check;
 
-// The bits of a block, and the place of its own record.
+// The bits of a block, and the place of its own record, which lies before the records below it. Before the first place there is none, and a block that is told
+// so, by the place 0, has nothing to write.
 #[derive(Clone, Copy)]
 pub struct Foremost {
     pub bits: u32,
     pub place: usize,
-}
-
-// The place before another. Before the first there is none, and a block that is told so has nothing to write.
-fn one_before(end: usize) -> usize
-    ensures { result ≡ end - 1 }
-{
-    if end == 0 { 0 } else { end - 1 }
 }
 
 // The records below a leaf whose quadrants need not be asked: a content's are copied, and otherwise there are none.
@@ -41,7 +34,7 @@ fn lay(
     requires { Layable meeting log_keys.now log_values.now end keys.old bits.old }
     ensures { LeafLaid meeting own log_keys.now log_values.now end keys.old bits.old keys.new bits.new result.bits result.place }
 {
-    let alone = one_before(end);
+    let alone = end.saturating_sub(1);
     match meeting {
         Meeting::Apart => Foremost {
             bits: own,
@@ -88,7 +81,7 @@ fn settle_four(
     if check::has_one_slot(union) {
         return Foremost {
             bits: union,
-            place: one_before(end),
+            place: end.saturating_sub(1),
         };
     }
     let place = nw.place - 1;
@@ -121,51 +114,46 @@ fn settle_four(
 // Writes the records below a leaf after the step, and not its own: only its parent knows whether it is listed.
 fn spread(
     doing: Doing,
-    log_keys: &[u32],
-    log_values: &[u32],
     own: u32,
     block: TreeBlock,
     end: usize,
     keys: &mut [u32],
     bits: &mut [u32],
 ) -> Foremost
-    requires doable { Doable doing.m doing.deed log_keys.now log_values.now × LeafAsked doing.m own block }
-    requires fitting_before { FittingBefore (step_over (step_of doing.m doing.deed log_keys.now log_values.now) (plain (feature_of own))) block end keys.old bits.old }
-    ensures { WrittenBefore (step_over (step_of doing.m doing.deed log_keys.now log_values.now) (plain (feature_of own))) block end keys.old bits.old keys.new bits.new result.bits result.place }
+    requires leaf_asked { LeafAsked doing.m own block }
+    requires fitting_before { FittingBefore (step_over (step_by doing) (plain (feature_of own))) block end keys.old bits.old }
+    ensures { WrittenBefore (step_over (step_by doing.entry) (plain (feature_of own))) block end keys.old bits.old keys.new bits.new result.bits result.place }
 {
-    let deed = deed::narrow(doing, log_keys, log_values, block);
-    let here = Doing { m: doing.m, deed };
-    let met = deed::meeting(here, log_keys, log_values, block);
-    if !meeting::is_cut(met) {
-        return lay(met, own, log_keys, log_values, end, keys, bits);
+    let here = doing.narrowed(block);
+    let met = here.meeting(block);
+    if !met.is_cut() {
+        return lay(met, own, here.log_keys, here.log_values, end, keys, bits);
     }
     let part = child(block, 4);
-    let se = spread(here, log_keys, log_values, own, part, end, keys, bits);
+    let se = spread(here, own, part, end, keys, bits);
     let part = child(block, 3);
-    let sw = spread(here, log_keys, log_values, own, part, se.place, keys, bits);
+    let sw = spread(here, own, part, se.place, keys, bits);
     let part = child(block, 2);
-    let ne = spread(here, log_keys, log_values, own, part, sw.place, keys, bits);
+    let ne = spread(here, own, part, sw.place, keys, bits);
     let part = child(block, 1);
-    let nw = spread(here, log_keys, log_values, own, part, ne.place, keys, bits);
+    let nw = spread(here, own, part, ne.place, keys, bits);
     settle_four(block, end, nw, ne, sw, se, keys, bits)
 }
 
 // What a leaf grows to, written before a place; the first of its places is given back.
 pub fn write_leaf(
     doing: Doing,
-    log_keys: &[u32],
-    log_values: &[u32],
     b: u32,
     block: TreeBlock,
     end: usize,
     keys: &mut [u32],
     bits: &mut [u32],
 ) -> usize
-    requires doable { Doable doing.m doing.deed log_keys.now log_values.now × LeafAsked doing.m b block }
-    requires write_asked { WriteAsked (list_at (step_over (step_of doing.m doing.deed log_keys.now log_values.now) (plain (feature_of b))) block) block.key end keys.old bits.old }
-    ensures { WroteBefore (list_at (step_over (step_of doing.m doing.deed log_keys.now log_values.now) (plain (feature_of b))) block) end keys.old bits.old keys.new bits.new result }
+    requires leaf_asked { LeafAsked doing.m b block }
+    requires write_asked { WriteAsked (list_at (step_over (step_by doing) (plain (feature_of b))) block) block.key end keys.old bits.old }
+    ensures { WroteBefore (list_at (step_over (step_by doing.entry) (plain (feature_of b))) block) end keys.old bits.old keys.new bits.new result }
 {
-    let grown = spread(doing, log_keys, log_values, b, block, end, keys, bits);
+    let grown = spread(doing, b, block, end, keys, bits);
     let start = grown.place;
     keys[start] = block.key;
     bits[start] = grown.bits;

@@ -1,17 +1,17 @@
 // Counting what a list becomes by a step, with nothing written: build's count, with the step over the list's own features as the picture.
-ghost use Rattle.std.specs.Prelude.{◌≡◌, ◌+◌, ◌-◌};
+ghost use Rattle.std.specs.Prelude.{◌≡◌, length};
 ghost use Rattle.definitions.specs.Bits.{feature_of};
 ghost use Rattle.build.specs.BuildBlocks.{Tallied};
 ghost use Rattle.deeds.specs.Step.{plain, step_over};
-ghost use Rattle.deeds.specs.Deed.{Doable, step_of, LeafAsked};
+ghost use Rattle.deeds.specs.Deed.{LeafAsked};
+ghost use Rattle.deeds.specs.Doing.{step_by};
 ghost use Rattle.apply_deed.specs.Passes.{Shown, StepCounted, EndAsked, Readable, known_of, PassedOver};
 
 use crate::block_end;
 use build::count;
 use build::count::Tally;
-use deeds::deed::Doing;
+use deeds::doing::Doing;
 use deeds::meeting::Meeting;
-use deeds::{deed, meeting};
 use keys::block::{TreeBlock, child, end};
 use list::check;
 
@@ -35,26 +35,19 @@ fn known(meeting: Meeting, own: u32, records: usize, log_values: &[u32]) -> Tall
 }
 
 // A leaf after the step: its bits, and how many records it becomes.
-pub fn tally_leaf(
-    doing: Doing,
-    log_keys: &[u32],
-    log_values: &[u32],
-    own: u32,
-    block: TreeBlock,
-) -> Tally
-    requires { Doable doing.m doing.deed log_keys.now log_values.now × LeafAsked doing.m own block }
-    ensures { Tallied (step_over (step_of doing.m doing.deed log_keys.now log_values.now) (plain (feature_of own))) block.height block.row block.column result.bits result.count }
+pub fn tally_leaf(doing: Doing, own: u32, block: TreeBlock) -> Tally
+    requires { LeafAsked doing.m own block }
+    ensures { Tallied (step_over (step_by doing.entry) (plain (feature_of own))) block.height block.row block.column result.bits result.count }
 {
-    let deed = deed::narrow(doing, log_keys, log_values, block);
-    let here = Doing { m: doing.m, deed };
-    let met = deed::meeting(here, log_keys, log_values, block);
-    if !meeting::is_cut(met) {
-        return known(met, own, 1, log_values);
+    let here = doing.narrowed(block);
+    let met = here.meeting(block);
+    if !met.is_cut() {
+        return known(met, own, 1, here.log_values);
     }
-    let nw = tally_leaf(here, log_keys, log_values, own, child(block, 1));
-    let ne = tally_leaf(here, log_keys, log_values, own, child(block, 2));
-    let sw = tally_leaf(here, log_keys, log_values, own, child(block, 3));
-    let se = tally_leaf(here, log_keys, log_values, own, child(block, 4));
+    let nw = tally_leaf(here, own, child(block, 1));
+    let ne = tally_leaf(here, own, child(block, 2));
+    let sw = tally_leaf(here, own, child(block, 3));
+    let se = tally_leaf(here, own, child(block, 4));
     count::joined(nw, ne, sw, se)
 }
 
@@ -65,7 +58,8 @@ pub struct PassedBlock {
     pub next: usize,
 }
 
-// A node whose quadrants need not be asked: the place after its records is looked for, not walked to.
+// A node whose quadrants need not be asked: the place after its records is looked for, not walked to. The records end at n; where a list shrinks, the slice
+// goes on behind them.
 pub fn pass_over(
     meeting: Meeting,
     own: u32,
@@ -88,38 +82,34 @@ pub fn pass_over(
 // The records of a block, from a place on, after the step. Those of a node are passed over where one look tells what becomes of it.
 pub fn tally_records(
     doing: Doing,
-    log_keys: &[u32],
-    log_values: &[u32],
     block: TreeBlock,
     at: usize,
     keys: &[u32],
     bits: &[u32],
-    n: usize,
 ) -> PassedBlock
-    requires { Doable doing.m doing.deed log_keys.now log_values.now × Shown doing.m block keys.now bits.now at n }
-    ensures { StepCounted (step_of doing.m doing.deed log_keys.now log_values.now) block keys.now bits.now at n result.tally.bits result.tally.count result.next }
+    requires { Shown doing.m block keys.now bits.now at (length keys.now) }
+    ensures { StepCounted (step_by doing.entry) block keys.now bits.now at (length keys.now) result.tally.bits result.tally.count result.next }
 {
     let own = bits[at];
     if check::has_one_slot(own) {
-        let tally = tally_leaf(doing, log_keys, log_values, own, block);
+        let tally = tally_leaf(doing, own, block);
         let next = at + 1;
         return PassedBlock { tally, next };
     }
-    let deed = deed::narrow(doing, log_keys, log_values, block);
-    let here = Doing { m: doing.m, deed };
-    let met = deed::meeting(here, log_keys, log_values, block);
-    if !meeting::is_cut(met) {
-        return pass_over(met, own, end(block), at, keys, n, log_values);
+    let here = doing.narrowed(block);
+    let met = here.meeting(block);
+    if !met.is_cut() {
+        return pass_over(met, own, end(block), at, keys, keys.len(), here.log_values);
     }
     let first = at + 1;
     let part = child(block, 1);
-    let nw = tally_records(here, log_keys, log_values, part, first, keys, bits, n);
+    let nw = tally_records(here, part, first, keys, bits);
     let part = child(block, 2);
-    let ne = tally_records(here, log_keys, log_values, part, nw.next, keys, bits, n);
+    let ne = tally_records(here, part, nw.next, keys, bits);
     let part = child(block, 3);
-    let sw = tally_records(here, log_keys, log_values, part, ne.next, keys, bits, n);
+    let sw = tally_records(here, part, ne.next, keys, bits);
     let part = child(block, 4);
-    let se = tally_records(here, log_keys, log_values, part, sw.next, keys, bits, n);
+    let se = tally_records(here, part, sw.next, keys, bits);
     let tally = count::joined(nw.tally, ne.tally, sw.tally, se.tally);
     let next = se.next;
     PassedBlock { tally, next }

@@ -1,12 +1,12 @@
 -- One entry of a run after the other, from the last: what it makes of a block, and when those before it need not be asked. Rests on Chains and Turned.
 use Prim.Native.Nat.{ℕ, ◌+◌, ◌-◌, ◌^◌, ◌≤◌, ◌<◌}
 use mathlib.Core.Path.{◌≡◌, sym, ◌∙◌, ap, ap₂, subst}
-use mathlib.Core.Bool.{Bool, true, false, not, ◌&&◌}
+use mathlib.Core.Bool.{Bool, true, false, ◌&&◌}
 use mathlib.Core.List.{List, [], ◌∷◌}
 use native.Mathlib.Omega.{arith}
 use lib.ListN.{get_or}
 use lib.Dec.{leb, ltb}
-use borrow.Author.Tests.{le-leb, lt-leb, lt-ltb, le-ltb, eq-eqb, ne_eqb, not-true, not-false}
+use borrow.Author.Tests.{le-leb, lt-leb, lt-ltb, le-ltb, eq-eqb, ne_eqb}
 use Rattle.keys.specs.Key.{valid_key, height_of}
 use Rattle.keys.specs.Block.{in_interval}
 use Rattle.keys.proofs.Cases.{split}
@@ -51,24 +51,23 @@ module _ (vs : List ℕ) (e : Entry) where
   whole_content h = rw (ne_eqb e.count 1 h)
 
 -- what it makes of a block that its own holds
-module _ (back : Bool) (ks vs : List ℕ) (κ : ℕ) (e : Entry) where
-  pub given_again : not back ≡ true → (bits : ℕ) → bits ≡ 2 ^ e.feature → Leaf bits ≡ given_by back ks vs κ e
+module _ (ks vs : List ℕ) (κ : ℕ) (e : Entry) where
+  pub given_again : {bits : ℕ} → bits ≡ 2 ^ e.feature → Leaf bits ≡ given_by false ks vs κ e
   unfolding given_by
-  given_again h bits is = rw (not-true back h) (ap Leaf is)
+  given_again is = ap Leaf is
 
-  module _ (h : not back ≡ false) where
-    pub given_whole : e.key ≡ κ → whole_of vs e ≡ given_by back ks vs κ e
+  pub given_whole : e.key ≡ κ → whole_of vs e ≡ given_by true ks vs κ e
+  unfolding given_by
+  given_whole i = rw (eq-eqb e.key κ i)
+
+  module _ (i : e.key ≡ κ → ⊥) (bits : ℕ) (is : bits ≡ back_bits ks vs κ e) where
+    pub given_one : one_slot bits ≡ true → Leaf bits ≡ given_by true ks vs κ e
     unfolding given_by
-    given_whole i = rw (not-false back h, eq-eqb e.key κ i)
+    given_one one = rw (ne_eqb e.key κ i, ← is, one)
 
-    module _ (i : e.key ≡ κ → ⊥) (bits : ℕ) (is : bits ≡ back_bits ks vs κ e) where
-      pub given_one : one_slot bits ≡ true → Leaf bits ≡ given_by back ks vs κ e
-      unfolding given_by
-      given_one one = rw (not-false back h, ne_eqb e.key κ i, ← is, one)
-
-      pub given_cut : one_slot bits ≡ false → Cut ≡ given_by back ks vs κ e
-      unfolding given_by
-      given_cut several = rw (not-false back h, ne_eqb e.key κ i, ← is, several)
+    pub given_cut : one_slot bits ≡ false → Cut ≡ given_by true ks vs κ e
+    unfolding given_by
+    given_cut several = rw (ne_eqb e.key κ i, ← is, several)
 
 -- what one entry makes of a block
 module _ (m κ : ℕ) (gives : Entry → Meeting) (e : Entry) (others : Meeting) where

@@ -9,6 +9,7 @@ pub mod Lookups
 pub mod EntryTurns
 pub mod ByEntries
 pub mod ShortRuns
+pub mod Opened
 pub mod DeedCases
 pub mod PutBack
 pub mod LastEntries

@@ -28,6 +28,7 @@ use Rattle.laws.proofs.Features.{one_pixel}
 use Rattle.laws.proofs.ListOf.{list_head_first, length-several}
 use Rattle.list.specs.Check.{one_slot}
 use Rattle.list.specs.Among.{place_among}
+use Rattle.list.specs.Sorted.{Sorted}
 use Rattle.list.proofs.Accepted.{content_list, keys_ascend}
 use Rattle.list.proofs.OneSlot.{slot_feature}
 use Rattle.list.proofs.Among.{place_keys, place-below}
@@ -68,20 +69,25 @@ module _ {e : Entry} {ks vs : List ℕ} {κ : ℕ} (h : Held e ks vs κ) where
       ∙ get_or-drop e.start vs 0 0
       ∙ ap (λ i. get_or vs i 0) (add-zero e.start)
 
-  lent_keys : take e.count (content_part e ks) ≡ keys
-  lent_keys =
-      let n : e.start + e.count - e.start ≡ e.count = omega arith in
-      ap (λ i. take e.count (take i (drop e.start ks))) n ∙ take_all e.count keys (let l = keys_many in omega arith)
+  lent_is : content_part e ks ≡ keys
+  lent_is = let n : e.start + e.count - e.start ≡ e.count = omega arith in ap (λ i. take i (drop e.start ks)) n
 
-  pub found_inside : (place : ℕ) → place ≡ place_among κ (take e.count (content_part e ks)) → place < e.count
-  found_inside place is = let p = place-below h.sorted in omega arith
+  lent_keys : take e.count (content_part e ks) ≡ keys
+  lent_keys = ap (take e.count) lent_is ∙ take_all e.count keys (let l = keys_many in omega arith)
+
+  -- they can be searched
+  pub lent_sorted : Sorted (content_part e ks) (length (content_part e ks)) κ
+  lent_sorted = let size : length (content_part e ks) ≡ e.count = ap length lent_is ∙ keys_many in rw size h.sorted
+
+  pub found_inside : (place : ℕ) → place ≡ place_among κ (content_part e ks) → place < e.count
+  found_inside place is = let p = place-below h.sorted in let f = is ∙ ap (place_among κ) (lent_is ∙ sym lent_keys) in omega arith
 
   -- the value at the place that was found is the content's at the key
-  pub found_bits : (place : ℕ) → place ≡ place_among κ (take e.count (content_part e ks)) → get_or vs (e.start + place) 0 ≡ back_bits ks vs κ e
+  pub found_bits : (place : ℕ) → place ≡ place_among κ (content_part e ks) → get_or vs (e.start + place) 0 ≡ back_bits ks vs κ e
   found_bits place is =
       let p = found_inside place is in
       let same : place ≡ place_of κ (content_of_entry ks vs e)
-      = is ∙ ap (place_among κ) (lent_keys ∙ sym (paired_keys keys values (keys_many ∙ sym values_many))) ∙ sym (place_keys κ (content_of_entry ks vs e)) in
+      = is ∙ ap (place_among κ) (lent_is ∙ sym (paired_keys keys values (keys_many ∙ sym values_many))) ∙ sym (place_keys κ (content_of_entry ks vs e)) in
       sym (get_or-drop e.start vs place 0)
       ∙ sym (get_or-take e.count (drop e.start vs) place 0 p)
       ∙ ap₂ (λ l i. get_or l i 0) (sym (paired_values keys values (keys_many ∙ sym values_many))) same

@@ -1,4 +1,6 @@
 pub mod Step
 pub mod Meeting
+pub mod Direction
 pub mod Runs
 pub mod Deed
+pub mod Doing

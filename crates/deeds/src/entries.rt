@@ -6,15 +6,17 @@ ghost use Rattle.keys.specs.Block.{in_interval};
 ghost use Rattle.deeds.specs.Runs.{EntriesIn, Held, Asking, back_bits, whole_of, given_by, met_by, meeting_by, last_of_run, first_of_run};
 ghost use Rattle.deeds.specs.Runs.{back_step, again_step};
 ghost use Rattle.deeds.specs.declared.meeting.Meeting.TheVariants.{Apart};
+ghost use Rattle.deeds.specs.Direction.{is_back};
 ghost use Rattle.deeds.specs.Meeting.{BlockAsked, Met};
 
+use crate::direction::Direction;
 use crate::meeting::Meeting;
 use crate::run::Run;
 use edit_log::entry;
 use edit_log::entry::Entry;
 use keys::block::TreeBlock;
 use keys::{power, zeros};
-use list::{check, standing};
+use list::{check, search};
 
 // The block with the first key is the one with the second, or holds it.
 fn holds(m: u32, outer: u32, inner: u32) -> bool
@@ -33,9 +35,7 @@ fn content_bits(log_keys: &[u32], log_values: &[u32], asked: Entry, key: u32) ->
     ensures { result ≡ back_bits log_keys.now log_values.now key asked }
 {
     let start = asked.start;
-    let count = asked.count;
-    let end = start + count;
-    let place = standing::place(&log_keys[start..end], count, key);
+    let place = search::place(&log_keys[start..start + asked.count], key);
     log_values[start + place]
 }
 
@@ -52,14 +52,11 @@ fn whole(log_values: &[u32], asked: Entry) -> Meeting
     Meeting::Content(start, count)
 }
 
-// What an entry makes of a block that its own holds: by the content where it is taken back, of the feature where it is painted again.
-fn given(back: bool, log_keys: &[u32], log_values: &[u32], asked: Entry, key: u32) -> Meeting
-    requires { (asked.feature ≤ 31) × Held asked log_keys.now log_values.now key }
-    ensures { result ≡ given_by back log_keys.now log_values.now key asked }
+// What an entry that is taken back makes of a block that its own holds: by the content.
+fn taken_back(log_keys: &[u32], log_values: &[u32], asked: Entry, key: u32) -> Meeting
+    requires { Held asked log_keys.now log_values.now key }
+    ensures { result ≡ given_by true log_keys.now log_values.now key asked }
 {
-    if !back {
-        return Meeting::Leaf(power::power_of_two(asked.feature));
-    }
     if asked.key == key {
         return whole(log_values, asked);
     }
@@ -68,6 +65,23 @@ fn given(back: bool, log_keys: &[u32], log_values: &[u32], asked: Entry, key: u3
         Meeting::Leaf(bits)
     } else {
         Meeting::Cut
+    }
+}
+
+// The same of an entry that goes either way: one that is painted again makes it a leaf of the feature.
+fn given(
+    direction: Direction,
+    log_keys: &[u32],
+    log_values: &[u32],
+    asked: Entry,
+    key: u32,
+) -> Meeting
+    requires { (asked.feature ≤ 31) × Held asked log_keys.now log_values.now key }
+    ensures { result ≡ given_by (is_back direction) log_keys.now log_values.now key asked }
+{
+    match direction {
+        Direction::Back => taken_back(log_keys, log_values, asked, key),
+        Direction::Again => Meeting::Leaf(power::power_of_two(asked.feature)),
     }
 }
 
@@ -84,7 +98,7 @@ fn met(
     ensures { result ≡ met_by m key (given_by true log_keys.now log_values.now key) asked others }
 {
     if holds(m, asked.key, key) {
-        return given(true, log_keys, log_values, asked, key);
+        return taken_back(log_keys, log_values, asked, key);
     }
     if holds(m, key, asked.key) {
         return Meeting::Cut;
@@ -94,16 +108,23 @@ fn met(
 
 // What a run makes of a block where the last entry decides that is not apart from it. Where the entries are ordered, none before one that ends before
 // the block has to be asked.
-fn by_last(back: bool, run: Run, log_keys: &[u32], log_values: &[u32], m: u32, key: u32) -> Meeting
+fn by_last(
+    direction: Direction,
+    run: Run,
+    log_keys: &[u32],
+    log_values: &[u32],
+    m: u32,
+    key: u32,
+) -> Meeting
     requires { (m ≤ 10) × (valid_key m key ≡ true) × EntriesIn m run log_keys.now log_values.now }
-    ensures { result ≡ meeting_by m Apart key (given_by back log_keys.now log_values.now key) (last_of_run run log_keys.now log_values.now) }
+    ensures { result ≡ meeting_by m Apart key (given_by (is_back direction) log_keys.now log_values.now key) (last_of_run run log_keys.now log_values.now) }
 {
     let start = run.start;
     let mut end = run.end;
     while start < end {
         let last = entry::last_entry(log_keys, log_values, end);
         if holds(m, last.key, key) {
-            return given(back, log_keys, log_values, last, key);
+            return given(direction, log_keys, log_values, last, key);
         }
         if holds(m, key, last.key) {
             return Meeting::Cut;
@@ -143,9 +164,8 @@ pub fn meeting_back(
     requires { EntriesIn m run log_keys.now log_values.now × BlockAsked m block }
     ensures { Met (back_step m run log_keys.now log_values.now) log_keys.now log_values.now block result }
 {
-    let ordered = run.ordered;
-    if ordered {
-        return by_last(true, run, log_keys, log_values, m, block.key);
+    if run.ordered {
+        return by_last(Direction::Back, run, log_keys, log_values, m, block.key);
     }
     by_first(run, log_keys, log_values, m, block.key)
 }
@@ -161,5 +181,5 @@ pub fn meeting_again(
     requires { EntriesIn m run log_keys.now log_values.now × BlockAsked m block }
     ensures { Met (again_step m run log_keys.now log_values.now) log_keys.now log_values.now block result }
 {
-    by_last(false, run, log_keys, log_values, m, block.key)
+    by_last(Direction::Again, run, log_keys, log_values, m, block.key)
 }

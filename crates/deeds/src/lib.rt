@@ -3,6 +3,8 @@
 #![tactic(auto)]
 
 pub mod deed;
+pub mod direction;
+pub mod doing;
 mod entries;
 mod fill;
 pub mod meeting;

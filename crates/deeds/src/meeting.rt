@@ -1,7 +1,4 @@
 // What a step makes of a block, as far as one look tells.
-ghost use Rattle.std.specs.Prelude.{◌≡◌};
-ghost use Rattle.deeds.specs.Meeting.{is_cut};
-
 #[derive(Clone, Copy)]
 pub enum Meeting {
     // The step touches no pixel of it.
@@ -14,13 +11,13 @@ pub enum Meeting {
     Cut,
 }
 
-pub fn is_cut(meeting: Meeting) -> bool
-    ensures { result ≡ is_cut meeting }
-{
-    match meeting {
-        Meeting::Apart => false,
-        Meeting::Leaf(_) => false,
-        Meeting::Content(_, _) => false,
-        Meeting::Cut => true,
+impl Meeting {
+    ghost use Rattle.std.specs.Prelude.{◌≡◌};
+    ghost use Rattle.deeds.specs.Meeting.{is_cut};
+
+    pub fn is_cut(self) -> bool
+        ensures { result ≡ is_cut self }
+    {
+        matches!(self, Meeting::Cut)
     }
 }

@@ -22,8 +22,8 @@ use Rattle.deeds.specs.Runs.{last_first, Chain, done, more, Between, EntriesIn}
 use Rattle.deeds.proofs.Chains.{last_none, chain_more}
 use Rattle.deeds.proofs.PutBack.{back_picture, again_picture}
 use Rattle.undo.specs.GroupCall.{GroupLast, GroupRun, deed_of, group_over}
-use Rattle.undo.specs.declared.group.Direction.{Direction}
-use Rattle.undo.specs.declared.group.Direction.TheVariants.{Back as Backward, Again as Onward}
+use Rattle.deeds.specs.declared.direction.Direction.{Direction}
+use Rattle.deeds.specs.declared.direction.Direction.TheVariants.{Back as Backward, Again as Onward}
 
 -- entries between two places are a chain, with as many links
 between_chain : {m s : ℕ} {ks vs : List ℕ} {start count end : ℕ} → EntriesBetween m s ks vs start count end → Chain m s ks vs start end

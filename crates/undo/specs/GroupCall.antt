@@ -13,8 +13,8 @@ use Rattle.deeds.specs.declared.run.Run.{Run}
 use Rattle.deeds.specs.declared.deed.Deed.{Deed}
 use Rattle.deeds.specs.declared.deed.Deed.TheVariants.{Back, Again}
 use Rattle.deeds.specs.Runs.{EntriesIn, last_of_run}
-use Rattle.undo.specs.declared.group.Direction.{Direction}
-use Rattle.undo.specs.declared.group.Direction.TheVariants.{Back as Backward, Again as Onward}
+use Rattle.deeds.specs.declared.direction.Direction.{Direction}
+use Rattle.deeds.specs.declared.direction.Direction.TheVariants.{Back as Backward, Again as Onward}
 use Rattle.undo.specs.declared.group.GroupStep.{GroupStep}
 
 -- the used records of a log end in a group, at some s

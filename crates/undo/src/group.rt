@@ -8,19 +8,14 @@ ghost use Rattle.deeds.specs.Deed.{Doable, step_of};
 ghost use Rattle.undo.specs.GroupCall.{GroupLast, GroupRun, WithSummary, Applied, deed_of, GroupStepped, group_answer};
 
 use apply_deed::{change, recount};
-use deeds::deed::{Deed, Doing};
+use deeds::deed::Deed;
+use deeds::direction::Direction;
+use deeds::doing::Doing;
 use deeds::run;
 use deeds::run::Run;
 use definitions::Edited;
 use definitions::refusal::Refusal;
 use edit_log::step as steps;
-
-// Which way a step of the log goes: it is taken back, or redone.
-#[derive(Clone, Copy)]
-pub enum Direction {
-    Back,
-    Again,
-}
 
 // A group that went its way: the number of records afterwards, or 0, which no list has, where there is no room; and the place where the group begins.
 #[derive(Clone, Copy)]

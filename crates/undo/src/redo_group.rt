@@ -6,7 +6,7 @@ ghost use Rattle.definitions.specs.Calls.Redo.{Redone};
 ghost use Rattle.undo.specs.RedoCall.{Redoable};
 
 use crate::group;
-use crate::group::Direction;
+use deeds::direction::Direction;
 use definitions::Edited;
 use edit_log::entry::Entry;
 

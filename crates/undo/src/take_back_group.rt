@@ -7,7 +7,7 @@ ghost use Rattle.definitions.specs.Calls.TakeBack.{TakenBack};
 ghost use Rattle.undo.specs.TakingBackCall.{Takeable};
 
 use crate::group;
-use crate::group::Direction;
+use deeds::direction::Direction;
 use definitions::Edited;
 
 // The last group in force is taken back, and the summary follows.

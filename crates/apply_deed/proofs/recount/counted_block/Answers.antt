@@ -1,21 +1,14 @@
 -- `counted_block` meets its contract: the key is valid, and has the summary's height.
 use mathlib.Core.Path.{◌∙◌, ap}
-use borrow.Author.Rules.{rules}
 use Rattle.keys.specs.Key.{valid_key}
 use Rattle.summary.proofs.BlockNumbers.{key_valid}
 use Rattle.apply_deed.proofs.Recounted.{counted_told}
 use Rattle.apply_deed.proofs.recount.counted_block.Goals as goal
 
-pub key_of-key-requires : goal.key_of-key-requires
-key_of-key-requires c = search rules
-
 pub block-square-requires : goal.block-square-requires
 block-square-requires c =
     let s = c in
     (s.requires.0, ap (λ x. valid_key s.args.m x) c.key_of-key.ensures ∙ key_valid s.args.m s.args.b s.requires.1)
-
-pub height_of-height-requires : goal.height_of-height-requires
-height_of-height-requires c = search rules
 
 pub returns : goal.returns
 returns c =

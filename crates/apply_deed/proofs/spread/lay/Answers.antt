@@ -1,65 +1,43 @@
 -- `lay` meets its contract, kind by kind.
 use native.Mathlib.Omega.{arith}
-use borrow.Author.Rules.{rules}
 use Rattle.apply_deed.proofs.LaidContent.{laid_apart, laid_leaf, laid_content, laid_cut}
 use Rattle.apply_deed.proofs.spread.lay.Goals as goal
 
-pub one_before-alone-requires : goal.one_before-alone-requires
-one_before-alone-requires c = search rules
-
-pub enum_told-1 : goal.enum_told-1
-enum_told-1 c = search rules
-
-pub enum_known-meeting : goal.enum_known-meeting
-enum_known-meeting c = search rules
-
-pub enum_known-meeting-in-Content-1 : goal.enum_known-meeting-in-Content-1
-enum_known-meeting-in-Content-1 c = search rules
-
 pub overflow_sub-place : goal.overflow_sub-place
-overflow_sub-place c = let s = c.before in let f = s.requires.fits _ _ c.in-Content.is in f.low
+overflow_sub-place c = let f = c.requires.fits _ _ c.in-Content.is in f.low
 
 pub overflow_add-first : goal.overflow_add-first
-overflow_add-first c = let s = c.before in let f = s.requires.fits _ _ c.in-Content.is in record { fits = omega (arith, f.some, f.low, f.in_keys, s.well_formed) }
+overflow_add-first c = let f = c.requires.fits _ _ c.in-Content.is in record { fits = omega (arith, f.some, f.low, f.in_keys, c.well_formed) }
 
 pub overflow_add-start : goal.overflow_add-start
-overflow_add-start c = let s = c.before in let f = s.requires.fits _ _ c.in-Content.is in record { fits = omega (arith, f.some, f.from_keys, s.well_formed) }
+overflow_add-start c = let f = c.requires.fits _ _ c.in-Content.is in record { fits = omega (arith, f.some, f.from_keys, c.well_formed) }
 
 pub overflow_sub-count : goal.overflow_sub-count
-overflow_sub-count c = let s = c.before in let f = s.requires.fits _ _ c.in-Content.is in f.some
+overflow_sub-count c = let f = c.requires.fits _ _ c.in-Content.is in f.some
 
 pub copy-requires : goal.copy-requires
-copy-requires c = let s = c.before in let f = s.requires.fits _ _ c.in-Content.is in (omega (arith, f.some, f.from_keys), omega (arith, f.some, f.low, f.in_keys))
+copy-requires c = let f = c.requires.fits _ _ c.in-Content.is in (omega (arith, f.some, f.from_keys), omega (arith, f.some, f.low, f.in_keys))
 
 pub overflow_add-start-in-Content : goal.overflow_add-start-in-Content
-overflow_add-start-in-Content c = let s = c.before in let f = s.requires.fits _ _ c.in-Content.is in record { fits = omega (arith, f.some, f.from_keys, s.well_formed) }
+overflow_add-start-in-Content c = let f = c.requires.fits _ _ c.in-Content.is in record { fits = omega (arith, f.some, f.from_keys, c.well_formed) }
 
 pub overflow_sub-count-in-Content : goal.overflow_sub-count-in-Content
-overflow_sub-count-in-Content c = let s = c.before in let f = s.requires.fits _ _ c.in-Content.is in f.some
+overflow_sub-count-in-Content c = let f = c.requires.fits _ _ c.in-Content.is in f.some
 
 pub copy-requires-in-Content : goal.copy-requires-in-Content
-copy-requires-in-Content c = let s = c.before in let f = s.requires.fits _ _ c.in-Content.is in (omega (arith, f.some, f.from_values), omega (arith, f.some, f.low, f.in-bits))
+copy-requires-in-Content c = let f = c.requires.fits _ _ c.in-Content.is in (omega (arith, f.some, f.from_values), omega (arith, f.some, f.low, f.in-bits))
 
 pub offset_bounds-log_values-start : goal.offset_bounds-log_values-start
-offset_bounds-log_values-start c = let s = c.before in let f = s.requires.fits _ _ c.in-Content.is in record { fits = omega (arith, f.some, f.from_values, s.well_formed) }
+offset_bounds-log_values-start c = let f = c.requires.fits _ _ c.in-Content.is in record { fits = omega (arith, f.some, f.from_values, c.well_formed) }
 
 pub bounds-log_values-start : goal.bounds-log_values-start
-bounds-log_values-start c = let s = c.before in let f = s.requires.fits _ _ c.in-Content.is in omega (arith, f.some, f.from_values)
-
-pub enum_told-in-Cut : goal.enum_told-in-Cut
-enum_told-in-Cut c = search rules
+bounds-log_values-start c = let f = c.requires.fits _ _ c.in-Content.is in omega (arith, f.some, f.from_values)
 
 pub returns-in-Apart : goal.returns-in-Apart
-returns-in-Apart c = laid_apart _ _ _ _ _ _ c.in-Apart.is c.one_before-alone.ensures
+returns-in-Apart c = laid_apart _ _ _ _ _ _ c.in-Apart.is c.saturating_sub-alone.ensures
 
 pub returns-in-Leaf : goal.returns-in-Leaf
-returns-in-Leaf c = laid_leaf _ _ _ _ _ _ c.in-Leaf.is c.one_before-alone.ensures
-
-pub shape_of-keys : goal.shape_of-keys
-shape_of-keys c = search rules
-
-pub shape_of-bits : goal.shape_of-bits
-shape_of-bits c = search rules
+returns-in-Leaf c = laid_leaf _ _ _ _ _ _ c.in-Leaf.is c.saturating_sub-alone.ensures
 
 pub returns-in-Content : goal.returns-in-Content
 returns-in-Content c = laid_content _ _ _ _ _ _ c.in-Content.is c.copy.ensures c.copy-in-Content.ensures

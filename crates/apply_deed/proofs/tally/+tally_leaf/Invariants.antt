@@ -1,4 +1,4 @@
--- `tally_leaf` meets its contract: the leaf stays one, or its quadrants are asked. The height falls at each call.
+-- The height of the block falls at each call.
 use Rattle.apply_deed.proofs.tally.+tally_leaf.Given as goal
 
 abbrev pub decreases-tally_leaf : goal.decreases-tally_leaf

@@ -1,4 +1,4 @@
--- `tally_records` meets its contract: a leaf by itself, a node by its quadrants one after the other. The height falls at each call.
+-- The height of the block falls at each call.
 use Rattle.apply_deed.proofs.tally.+tally_records.Given as goal
 
 abbrev pub decreases-tally_records : goal.decreases-tally_records

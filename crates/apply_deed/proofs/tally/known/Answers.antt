@@ -1,27 +1,14 @@
 -- `known` meets its contract, kind by kind.
 use mathlib.Core.Path.{sym, ap}
 use native.Mathlib.Omega.{arith}
-use borrow.Author.Rules.{rules}
 use Rattle.apply_deed.specs.Passes.{known_of}
 use Rattle.apply_deed.proofs.tally.known.Goals as goal
-
-pub enum_told-1 : goal.enum_told-1
-enum_told-1 c = search rules
-
-pub enum_known-meeting : goal.enum_known-meeting
-enum_known-meeting c = search rules
-
-pub enum_known-meeting-in-Content-1 : goal.enum_known-meeting-in-Content-1
-enum_known-meeting-in-Content-1 c = search rules
 
 pub offset_bounds-log_values-start : goal.offset_bounds-log_values-start
 offset_bounds-log_values-start c = let s = c in let h = s.requires.starts _ _ c.in-Content.is in record { fits = omega (arith, h, s.well_formed) }
 
 pub bounds-log_values-start : goal.bounds-log_values-start
 bounds-log_values-start c = let s = c.before in let h = s.requires.starts _ _ c.in-Content.is in omega (arith, h)
-
-pub enum_told-in-Cut : goal.enum_told-in-Cut
-enum_told-in-Cut c = search rules
 
 pub returns-in-Apart : goal.returns-in-Apart
 returns-in-Apart c = let a = c.args in sym (ap (λ x. known_of x a.own a.records a.log_values.now) c.in-Apart.is)

@@ -11,7 +11,7 @@ pub last_entry-last-requires : goal.last_entry-last-requires
 last_entry-last-requires c = run_ended c.loop-end.invariant.0 c.loop-end-test.true
 
 pub met-answer-requires : goal.met-answer-requires
-met-answer-requires c = let s = c.before in (s.requires.0, s.requires.1, turn_asking c.loop-end.invariant.0 c.loop-end-test.true _ c.last_entry-last.ensures _)
+met-answer-requires c = (c.requires.0, c.requires.1, turn_asking c.loop-end.invariant.0 c.loop-end-test.true _ c.last_entry-last.ensures _)
 
 pub loop-end-smaller : goal.loop-end-smaller
 loop-end-smaller c = turn_less c.loop-end.invariant.0 c.loop-end-test.true _ c.last_entry-last.ensures

@@ -1,4 +1,4 @@
--- `by_first` meets its contract: what the entries from the end on make of the block is what those before leave where they are apart from it.
+-- Before `end` lie entries, and what they make of the block, where those behind make `answer` of it, is what the run makes of it.
 use mathlib.Core.Path.{◌≡◌}
 use mathlib.Core.Bool.{true}
 use mathlib.Core.List.{[]}

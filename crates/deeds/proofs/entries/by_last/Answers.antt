@@ -1,6 +1,5 @@
 -- `by_last` meets its contract: an entry that is apart from the block leaves it to those before it.
 use mathlib.Core.Path.{refl, sym, ◌∙◌}
-use borrow.Author.Tests.{ltb-true}
 use Rattle.deeds.proofs.Chains.{run_ended}
 use Rattle.deeds.proofs.EntryTurns.{turn_less, turn_valid, turn_slot, turn_held, turn_entries, last_holds, last_parted, last_apart, last_stops, last_over}
 use Rattle.deeds.proofs.entries.by_last.Goals as goal
@@ -29,7 +28,7 @@ returns-then-holds c =
     c.given.ensures ∙ (last_holds i.0.between t _ f _ _ _ (sym c.holds.ensures ∙ c.if-holds.true) ∙ i.1)
 
 pub holds-requires-in-loop-end : goal.holds-requires-in-loop-end
-holds-requires-in-loop-end c = let s = c.before in (s.requires.0, s.requires.1)
+holds-requires-in-loop-end c = (c.requires.0, c.requires.1)
 
 pub returns-then-holds-2 : goal.returns-then-holds-2
 returns-then-holds-2 c =
@@ -43,7 +42,7 @@ returns-then-last-key c =
     let i = c.loop-end.invariant in
     let t = c.loop-end-test.true in
     let f = c.last_entry-last.ensures in
-    last_stops i.0.between t _ f _ _ _ (i.0.told c.if-run.true) (sym c.holds.ensures ∙ c.if-holds.false) (sym c.holds-in-loop-end.ensures ∙ c.if-holds-2.false) (ltb-true _ _ c.if-last-key.true-raw) ∙ i.1
+    last_stops i.0.between t _ f _ _ _ (i.0.told c.if-run.true) (sym c.holds.ensures ∙ c.if-holds.false) (sym c.holds-in-loop-end.ensures ∙ c.if-holds-2.false) c.if-last-key.true ∙ i.1
 
 pub loop-end-smaller : goal.loop-end-smaller
 loop-end-smaller c =

@@ -4,7 +4,7 @@ use Rattle.deeds.proofs.ByEntries.{again_by_last}
 use Rattle.deeds.proofs.entries.meeting_again.Goals as goal
 
 pub by_last-requires : goal.by_last-requires
-by_last-requires c = let s = c.before in (s.requires.1.deep, (block_valid s.requires.1.block).valid, s.requires.0)
+by_last-requires c = (c.requires.1.deep, (block_valid c.requires.1.block).valid, c.requires.0)
 
 pub returns : goal.returns
-returns c = let s = c.before in again_by_last s.requires.0 s.requires.1 c.by_last.ensures
+returns c = again_by_last c.requires.0 c.requires.1 c.by_last.ensures

@@ -1,13 +1,6 @@
 -- `whole` meets its contract.
-use borrow.Author.Rules.{rules}
 use Rattle.deeds.proofs.EntryTurns.{whole_leaf, whole_content}
 use Rattle.deeds.proofs.entries.whole.Goals as goal
-
-pub offset_bounds-log_values-start : goal.offset_bounds-log_values-start
-offset_bounds-log_values-start c = search rules
-
-pub bounds-log_values-start : goal.bounds-log_values-start
-bounds-log_values-start c = search rules
 
 pub returns-then-count-eq1 : goal.returns-then-count-eq1
 returns-then-count-eq1 c = whole_leaf _ _ c.if-count-eq1.true

@@ -1,6 +1,5 @@
 -- `fill::meeting` meets its contract, by how the block lies.
 use native.Mathlib.Omega.{arith}
-use borrow.Author.Rules.{rules}
 use Rattle.keys.proofs.Interval.{within}
 use Rattle.deeds.proofs.ByWindow.{small, out, in_all, in_part}
 use Rattle.deeds.proofs.fill.meeting.Goals as goal
@@ -10,18 +9,6 @@ square-requires c = let a = c.requires.1 in let w = within a.block in omega (ari
 
 pub lies-lie-requires : goal.lies-lie-requires
 lies-lie-requires c = let s = c.requires in small s.0 s.1 c.square.ensures
-
-pub enum_told-1 : goal.enum_told-1
-enum_told-1 c = search rules
-
-pub enum_told-in-Within : goal.enum_told-in-Within
-enum_told-in-Within c = search rules
-
-pub power_of_two-requires : goal.power_of_two-requires
-power_of_two-requires c = search rules
-
-pub enum_told-in-Cut : goal.enum_told-in-Cut
-enum_told-in-Cut c = search rules
 
 pub returns-in-Apart : goal.returns-in-Apart
 returns-in-Apart c =

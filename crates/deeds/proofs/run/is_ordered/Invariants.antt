@@ -1,4 +1,4 @@
--- `is_ordered` meets its contract: after each turn the entries descend exactly when those that are left do.
+-- Before `left` lie entries, which descend from `limit` exactly when all entries descend.
 use Prim.Native.Nat.{◌^◌}
 use mathlib.Core.Path.{◌≡◌}
 use Rattle.deeds.specs.Runs.{Between, descends, last_first}

@@ -1,12 +1,8 @@
 -- `up_to` meets its contract: an entry past the block is left out, and the first that is not ends the walk.
-use borrow.Author.Rules.{rules}
 use Rattle.deeds.proofs.Chains.{run_ended}
 use Rattle.deeds.proofs.EntryTurns.{turn_less}
 use Rattle.deeds.proofs.ShortRuns.{short_begins, short_turns, short_by}
 use Rattle.deeds.proofs.run.up_to.Goals as goal
-
-pub end-past-requires : goal.end-past-requires
-end-past-requires c = search rules
 
 pub loop-end-init : goal.loop-end-init
 loop-end-init c = short_begins _ c.requires.0

@@ -1,4 +1,4 @@
--- `up_to` meets its contract: an entry past the block is left out, and the first that is not ends the walk.
+-- The run up to `end` does the same to every pixel before the block's end as the whole run.
 use Rattle.deeds.specs.Deed.{ShortRun}
 use Rattle.deeds.proofs.run.up_to.Given as goal
 
