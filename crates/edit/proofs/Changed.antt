@@ -1,13 +1,14 @@
 -- The list after a change: an accepted list of the changed picture. After a content was put into a block the summary is to be counted anew in that block alone.
 -- Rests on laws' ReadBack and SummaryOf.
-use Prim.Native.Nat.{ℕ, ◌≤◌}
+use Prim.Native.Nat.{ℕ, ◌^◌, ◌≤◌, ◌<◌}
 use mathlib.Core.Path.{◌≡◌, sym, ◌∙◌, ap, ap₂}
-use mathlib.Core.Bool.{true}
+use mathlib.Core.Bool.{true, false}
 use mathlib.Core.List.{List, map}
 use native.Mathlib.Omega.{arith}
 use lib.ListN.{length, take, length-take, length-map}
 use lib.Seq.{take_at}
 use Rattle.keys.specs.Key.{slot_limit, root_key, valid_key}
+use Rattle.keys.specs.Block.{in_block}
 use Rattle.definitions.specs.Picture.{Picture}
 use Rattle.definitions.specs.List.{Record, keys_of, values_of, list_of_picture}
 use Rattle.definitions.specs.Read.{paired, records_of, picture_of}
@@ -21,6 +22,9 @@ use Rattle.laws.proofs.Records.{paired_back}
 use Rattle.laws.proofs.Put.{put_out}
 use Rattle.laws.proofs.SummaryOf.{summary_agree}
 use Rattle.list.specs.Own.{OwnList, shown_by}
+use Rattle.list.specs.declared.accepted_list.Accepted.{Accepted}
+use Rattle.list.specs.Taken.{Taken, picture_listed}
+use Rattle.list.proofs.Taken.{taken_picture}
 use Rattle.replace.specs.Putting.{Replaced}
 use Rattle.edit.specs.Recount.{Outdated}
 
@@ -59,21 +63,25 @@ module _ (m : ℕ) {n : ℕ} {keys bits keys' bits' : List ℕ} {r : ℕ} (p : P
 module _ (m s κ : ℕ) {n : ℕ} {keys bits keys' bits' : List ℕ} {r : ℕ} (q : Picture)
     (made : Replaced n (list_of_picture m (put m κ q (shown_by m keys bits n))) keys bits keys' bits' r) where
   -- the summary from before is right outside the block
-  pub put_outdated : (summary : List ℕ) → m ≤ 10 → s ≤ slot_limit → valid_key m κ ≡ true → summary ≡ summary_of m s (shown_by m keys bits n)
-      → Outdated m s keys' bits' r summary κ
-  put_outdated summary deep few valid counts = record {
-    deep = deep;
-    few = few;
-    valid = valid;
-    own = new_own m (put m κ q (shown_by m keys bits n)) made;
-    before = shown_by m keys bits n;
-    counts = counts;
-    outside = λ a c h j o.
-        ap (λ l. picture_of m l a c) (new_records m (put m κ q (shown_by m keys bits n)) made)
-        ∙ picture_back m (put m κ q (shown_by m keys bits n)) a c h j
-        ∙ put_out m κ q (shown_by m keys bits n) a c o;
-  }
+  module _ {list : Accepted} (t : Taken m keys' bits' r list) where
+    pub put_outdated : (summary : List ℕ) → s ≤ slot_limit → valid_key m κ ≡ true → summary ≡ summary_of m s (shown_by m keys bits n) → Outdated list s summary κ
+    put_outdated summary few valid counts = record {
+      few = few;
+      valid = ap (λ k. valid_key k κ) t.map ∙ valid;
+      before = shown_by m keys bits n;
+      counts = counts ∙ ap (λ k. summary_of k s (shown_by m keys bits n)) (sym t.map);
+      outside = λ a c h j o.
+          let row : a < 2 ^ m = rw t.map at h in
+          let column : c < 2 ^ m = rw t.map at j in
+          let out : in_block m κ a c ≡ false = rw t.map at o in
+          ap (λ p. p a c) (taken_picture t)
+          ∙ ap (λ l. picture_of m l a c) (new_records m (put m κ q (shown_by m keys bits n)) made)
+          ∙ picture_back m (put m κ q (shown_by m keys bits n)) a c row column
+          ∙ put_out m κ q (shown_by m keys bits n) a c out;
+    }
 
-  -- and counted anew it is that of the changed picture
-  pub put_counted : (summary' : List ℕ) → summary' ≡ summary_of m s (shown_by m keys' bits' r) → summary' ≡ summary_of m s (put m κ q (shown_by m keys bits n))
-  put_counted summary' e = new_summary m (put m κ q (shown_by m keys bits n)) made s summary' e
+    -- and counted anew it is that of the changed picture
+    pub put_counted : (summary' : List ℕ) → summary' ≡ summary_of list.m s (picture_listed list)
+        → summary' ≡ summary_of m s (put m κ q (shown_by m keys bits n))
+    put_counted summary' e =
+        new_summary m (put m κ q (shown_by m keys bits n)) made s summary' (e ∙ ap₂ (λ k p. summary_of k s p) t.map (taken_picture t))

@@ -13,20 +13,24 @@ use Rattle.definitions.specs.List.{Record, record_of, Ascending, none, next}
 use Rattle.definitions.specs.Read.{room, paired, records_of}
 use Rattle.definitions.specs.Standing.{place_of, is_listed, standing_of, part_length}
 use Rattle.definitions.specs.declared.Standing.{Standing}
+use Rattle.definitions.specs.declared.Standing.TheVariants.{Listed, Inside}
 use Rattle.definitions.specs.Log.{closed, closing_places}
 use Rattle.definitions.specs.Calls.Paint.{gained}
 use Rattle.laws.proofs.ListOf.{list_ascends, list_some}
 use Rattle.laws.proofs.Records.{records_run}
+use Rattle.keys.specs.Key.{valid_key}
 use Rattle.list.specs.Own.{OwnList, shown_by}
+use Rattle.list.specs.declared.accepted_list.Accepted.{Accepted}
+use Rattle.list.specs.Taken.{Taken}
+use Rattle.list.proofs.Taken.{taken_records}
 use Rattle.list.proofs.Among.{values_of_records}
 use Rattle.list.proofs.Own.{own-length}
 use Rattle.list.proofs.Fuller.{listed_standing, inside_standing, listed_part, inside_part}
 use Rattle.replace.specs.Family.{block_bits}
-use Rattle.edit.specs.Content.{content_in, former_by, former_of}
-use Rattle.edit.specs.declared.logging.Former.{Former}
+use Rattle.edit.specs.Content.{content_in, content_count}
 use Rattle.edit_log.specs.declared.entry.Entry.{Entry}
 use Rattle.edit_log.specs.Entries.{records_from_place, Loggable, Logged}
-use Rattle.edit.specs.PaintCall.{Fresh, new_entry}
+use Rattle.edit.specs.PaintCall.{Fresh}
 use Rattle.replace.proofs.Places.{place_lt}
 use Rattle.edit.proofs.Gained.{gained_in}
 use Rattle.replace.proofs.PlanTop.{records-length}
@@ -55,14 +59,35 @@ module _ {m n : ℕ} {keys bits : List ℕ} (own : OwnList m keys bits n) where
       let h = place_lt x (records_of keys bits n) (omega arith) in
       omega arith
 
--- what a standing tells of the content
-pub former_stands : (m κ : ℕ) (l : List Record) {standing : Standing} {former : Former} → standing ≡ standing_of m κ l → former ≡ former_by standing → former ≡ former_of m κ l
-former_stands m κ l e f =
-    f
-    ∙ ap former_by e
-    ∙ decide (is_listed κ l)
-    (λ t. ap former_by (sym (listed_standing m κ l t)) ∙ (λ i. record { listed = sym t i; place = place_of κ l; count = sym (listed_part m κ l t) i }))
-    (λ t. ap former_by (sym (inside_standing m κ l t)) ∙ (λ i. record { listed = sym t i; place = place_of κ l; count = sym (inside_part m κ l t) i }))
+-- what a standing tells of the content: how many records it has, and whether the block is listed, and where
+module _ (m κ : ℕ) (l : List Record) {standing : Standing} (is : standing ≡ standing_of m κ l) where
+  pub standing_count : content_count standing ≡ part_length m κ l
+  standing_count =
+      ap content_count is
+      ∙ decide (is_listed κ l)
+      (λ t. ap content_count (sym (listed_standing m κ l t)) ∙ sym (listed_part m κ l t))
+      (λ t. ap content_count (sym (inside_standing m κ l t)) ∙ sym (inside_part m κ l t))
+
+  pub standing_listed : {place records : ℕ} → standing ≡ Listed place records → (is_listed κ l ≡ true) × (place ≡ place_of κ l)
+  standing_listed e = decide (is_listed κ l) (λ t. let h = listed_standing m κ l t in (t, cc)) (λ t. let h = inside_standing m κ l t in cc)
+
+  pub standing_inside : {place leaf level : ℕ} → standing ≡ Inside place leaf level → (is_listed κ l ≡ false) × (place ≡ place_of κ l)
+  standing_inside e = decide (is_listed κ l) (λ t. let h = listed_standing m κ l t in cc) (λ t. let h = inside_standing m κ l t in (t, cc))
+
+-- the new entry of a list's block is one of an accepted list that was taken
+pub fresh_taken : {m n : ℕ} {keys bits log_keys log_values : List ℕ} {new : Entry} {list : Accepted} → Taken m keys bits n list
+    → Fresh m keys bits n new log_keys log_values
+    → Fresh list.m list.keys.now list.bits.now (length list.keys.now) new log_keys log_values
+fresh_taken {m} {n} {keys} {bits} {log_keys} {log_values} {new} {list} t a = record {
+  deepest = list.deepest;
+  own = list.own;
+  valid = ap (λ k. valid_key k new.key) t.map ∙ a.valid;
+  whole = a.whole ∙ sym (ap₂ (λ k l. part_length k new.key l) t.map (taken_records t));
+  fits =
+      subst (λ x. new.start + length x ≤ room log_keys log_values)
+      (sym (ap₂ (λ k l. gained k l new.key new.feature) t.map (taken_records t)))
+      a.fits;
+}
 
 -- a new entry
 module _ {m n : ℕ} {keys bits log_keys log_values : List ℕ} {new : Entry} (a : Fresh m keys bits n new log_keys log_values) where
@@ -131,7 +156,3 @@ pub logged_same : {entry entry' : List Record} {start : ℕ} {keys values keys' 
     → Logged entry start keys values keys' values' next
     → Logged entry' start keys values keys' values' next
 logged_same {start = start} {keys} {values} {keys'} {values'} {next} e w = subst (λ x. Logged x start keys values keys' values' next) e w
-
--- the former content of the block of a new entry
-pub former_named : (m start κ f : ℕ) (l : List Record) {new : Entry} {former : Former} → new ≡ new_entry m l start κ f → former ≡ former_of m κ l → former ≡ former_of m new.key l
-former_named m start κ f l e h = h ∙ ap (λ x. former_of m x.key l) (sym e)

@@ -3,11 +3,10 @@ pub mod Gained
 pub mod ContentLength
 pub mod ContentStands
 pub mod EditCallTables
-pub mod Decided
-pub mod PaintDecided
 pub mod Recounted
 pub mod Changed
 pub mod Planned
 pub mod PaintTable
 pub mod PaintPlan
 pub mod Relogging
+pub mod PaintRoom

@@ -3,26 +3,27 @@ use Prim.Native.Nat.{ℕ, ◌^◌, ◌≤◌}
 use mathlib.Core.Path.{◌≡◌, refl, sym, ◌∙◌, ap}
 use mathlib.Core.Bool.{true}
 use mathlib.Core.List.{List, [], ◌∷◌}
+use Rattle.std.specs.Prelude.{Some}
 use Rattle.keys.specs.Key.{slot_limit, height_of}
 use Rattle.keys.specs.Block.{row_of, column_of}
 use Rattle.definitions.specs.List.{Record, record_of}
 use Rattle.definitions.specs.Read.{paired, records_of}
-use Rattle.definitions.specs.Standing.{part_length}
 use Rattle.definitions.specs.Edit.{paint_in, content_of}
 use Rattle.definitions.specs.Area.{summary_of}
 use Rattle.definitions.specs.Calls.Paint.{painted_picture, painted}
 use Rattle.laws.proofs.Features.{one_from_leaf}
 use Rattle.laws.proofs.ListOf.{list_one}
-use Rattle.list.specs.Own.{shown_by}
-use Rattle.edit_log.specs.declared.entry.Entry.{Entry}
+use Rattle.list.specs.Own.{OwnList, shown_by}
+use Rattle.list.specs.declared.accepted_list.Accepted.{Accepted}
+use Rattle.list.specs.Taken.{Taken, picture_listed}
 use Rattle.replace.specs.Putting.{Replaced}
-use Rattle.replace.specs.Put.{top_for, plan_at, plan_of}
+use Rattle.replace.specs.Put.{top_with, plan_at, plan_of}
 use Rattle.replace.specs.declared.plan.Plan.{Plan}
 use Rattle.replace.proofs.PlanTop.{plan_for}
-use Rattle.edit.specs.PaintCall.{Paintable, new_entry, paint_plan}
+use Rattle.edit.specs.PaintCall.{Paintable, paint_plan}
 use Rattle.edit.specs.Recount.{Outdated}
 use Rattle.edit.proofs.Planned.{Planned}
-use Rattle.edit.proofs.Changed.{put_outdated, put_counted}
+use Rattle.edit.proofs.Changed.{new_own, put_outdated, put_counted}
 
 -- the content that a paint puts in is one record
 paint_content : (m κ f : ℕ) → content_of m (λ row column. f) κ ≡ record_of κ (2 ^ f) ∷ []
@@ -37,7 +38,7 @@ unfolding paired
 one_record κ f b e = ap (λ x. record_of κ x ∷ []) e
 
 -- the plan that was found for the bits b of the feature
-pub paint_found : (m : ℕ) (l : List Record) (κ f b : ℕ) (plan : Plan) → b ≡ 2 ^ f → plan ≡ plan_at m l κ (top_for m l κ true b) → plan ≡ paint_plan m l κ f
+pub paint_found : (m : ℕ) (l : List Record) (κ f b : ℕ) (plan : Plan) → b ≡ 2 ^ f → plan ≡ plan_at m l κ (top_with m l κ (Some b)) → plan ≡ paint_plan m l κ f
 paint_found m l κ f b plan e found =
     found ∙ plan_for m l κ (record_of κ b ∷ []) true b refl refl ∙ ap (λ x. plan_of m l κ (record_of κ x ∷ [])) e
 
@@ -55,19 +56,21 @@ paint_planned {m} {n} {κ} {f} a is = record {
   plan-is = is;
 }
 
--- the entry that was found is the new one
-pub entry_found : (m : ℕ) (l : List Record) (start κ f count : ℕ) → count ≡ part_length m κ l
-    → ◌≡◌ {A = Entry} (record { key = κ; start = start; count = count; feature = f }) (new_entry m l start κ f)
-entry_found m l start κ f count e = λ i. record { key = κ; start = start; count = e i; feature = f }
-
 -- the painted list, once it stands, leaves the summary right outside the block
 module _ (s : ℕ) {m n κ f : ℕ} {keys bits keys' bits' : List ℕ} {r : ℕ} (a : Paintable m keys bits n κ f)
     (made : Replaced n (painted m (records_of keys bits n) κ f) keys bits keys' bits' r) where
-  pub paint_outdated : (summary : List ℕ) → s ≤ slot_limit → summary ≡ summary_of m s (shown_by m keys bits n) → Outdated m s keys' bits' r summary κ
-  unfolding painted paint_in
-  paint_outdated summary few counts = put_outdated m s κ (λ row column. f) made summary a.deepest few a.valid counts
+  -- it is an accepted list
+  pub paint_own : OwnList m keys' bits' r
+  unfolding painted
+  paint_own = new_own m _ made
 
-  -- and counted anew it is that of the painted picture
-  pub paint_counted : (summary' : List ℕ) → summary' ≡ summary_of m s (shown_by m keys' bits' r) → summary' ≡ summary_of m s (painted_picture m (records_of keys bits n) κ f)
-  unfolding painted paint_in
-  paint_counted summary' e = put_counted m s κ (λ row column. f) made summary' e
+  module _ {list : Accepted} (t : Taken m keys' bits' r list) where
+    pub paint_outdated : (summary : List ℕ) → s ≤ slot_limit → summary ≡ summary_of m s (shown_by m keys bits n) → Outdated list s summary κ
+    unfolding painted paint_in
+    paint_outdated summary few counts = put_outdated m s κ (λ row column. f) made t summary few a.valid counts
+
+    -- and counted anew it is that of the painted picture
+    pub paint_counted : (summary' : List ℕ) → summary' ≡ summary_of list.m s (picture_listed list)
+        → summary' ≡ summary_of m s (painted_picture m (records_of keys bits n) κ f)
+    unfolding painted paint_in
+    paint_counted summary' e = put_counted m s κ (λ row column. f) made t summary' e

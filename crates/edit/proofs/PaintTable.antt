@@ -8,7 +8,8 @@ use native.Mathlib.Omega.{arith}
 use lib.ListN.{length}
 use lib.Dec.{ltb}
 use borrow.Author.Tests.{lt-ltb, le-ltb, ltb-false, lt-leb, leb-false, not-false}
-use Rattle.keys.specs.Key.{valid_key}
+use Rattle.keys.specs.Key.{slot_limit, valid_key}
+use Rattle.list.specs.declared.accepted_list.Accepted.{Accepted}
 use Rattle.definitions.specs.List.{Record}
 use Rattle.definitions.specs.Read.{room, records_of}
 use Rattle.definitions.specs.Area.{summary_of}
@@ -23,34 +24,32 @@ use Rattle.edit.specs.PaintCall.{room_refusal, Paintable, new_entry, Fresh, Relo
 use Rattle.edit.proofs.EditCallTables.{passed_settings, passed_own}
 
 -- the rows about room: the first that holds
-module _ (m : ℕ) (l : List Record) (keys bits log_keys log_values : List ℕ) (in_force κ f : ℕ) where
+module _ (m : ℕ) (l : List Record) (list_room log_room in_force κ f : ℕ) where
   -- the number of places used with the entry
   module _ (logged : ℕ) (logged-is : logged ≡ in_force + length (gained m l κ f)) where
     -- 10
-    pub log_full : room log_keys log_values < logged → 10 ≡ room_refusal m l keys bits log_keys log_values in_force κ f
+    pub log_full : log_room < logged → 10 ≡ room_refusal m l list_room log_room in_force κ f
     unfolding room_refusal
-    log_full h = sym (holds_first (this (lt-ltb (room log_keys log_values) (in_force + length (gained m l κ f)) (omega arith)) refl))
+    log_full h = sym (holds_first (this (lt-ltb log_room (in_force + length (gained m l κ f)) (omega arith)) refl))
 
-    module _ (after : ℕ) (after_is : after ≡ length (painted m l κ f)) (log-fits : logged ≤ room log_keys log_values) where
-      log_passes : ltb (room log_keys log_values) (in_force + length (gained m l κ f)) ≡ false
-      log_passes = le-ltb (room log_keys log_values) (in_force + length (gained m l κ f)) (omega arith)
+    module _ (after : ℕ) (after_is : after ≡ length (painted m l κ f)) (log-fits : logged ≤ log_room) where
+      log_passes : ltb log_room (in_force + length (gained m l κ f)) ≡ false
+      log_passes = le-ltb log_room (in_force + length (gained m l κ f)) (omega arith)
 
       -- 9
-      pub list_full : room keys bits < after → 9 ≡ room_refusal m l keys bits log_keys log_values in_force κ f
+      pub list_full : list_room < after → 9 ≡ room_refusal m l list_room log_room in_force κ f
       unfolding room_refusal
-      list_full h =
-          sym (holds_first (later log_passes (this (lt-ltb (room keys bits) (length (painted m l κ f)) (omega arith)) refl)))
+      list_full h = sym (holds_first (later log_passes (this (lt-ltb list_room (length (painted m l κ f)) (omega arith)) refl)))
 
       -- neither
-      pub room_enough : after ≤ room keys bits → 0 ≡ room_refusal m l keys bits log_keys log_values in_force κ f
+      pub room_enough : after ≤ list_room → 0 ≡ room_refusal m l list_room log_room in_force κ f
       unfolding room_refusal
-      room_enough h =
-          sym (none_first _ (log_passes, (le-ltb (room keys bits) (length (painted m l κ f)) (omega arith), tt)))
+      room_enough h = sym (none_first _ (log_passes, (le-ltb list_room (length (painted m l κ f)) (omega arith), tt)))
 
 module _ {m s : ℕ} {keys bits : List ℕ} {n : ℕ} {summary log_keys log_values : List ℕ} {used in_force : ℕ} (κ f : ℕ)
     (p : SheetPassed (as_lent m s keys bits n summary log_keys log_values used in_force)) (valid : valid_key m κ ≡ true) (small : f < s) where
   -- past 7 the rows about room decide
-  pub room_decides : room_refusal m (records_of keys bits n) keys bits log_keys log_values in_force κ f
+  pub room_decides : room_refusal m (records_of keys bits n) (room keys bits) (room log_keys log_values) in_force κ f
       ≡ edit_refusal (paint m s keys bits n summary log_keys log_values used in_force κ f)
   unfolding room_refusal painted
   room_decides =
@@ -63,9 +62,18 @@ module _ {m s : ℕ} {keys bits : List ℕ} {n : ℕ} {summary log_keys log_valu
       let good = passed_settings p in
       record { deepest = good.deep; valid = valid; own = passed_own p; feature = omega (arith, good.few) }
 
+-- what they ask for, of an accepted list
+pub list_paintable : (list : Accepted) (κ f : ℕ) → valid_key list.m κ ≡ true → f < slot_limit → Paintable list.m list.keys.now list.bits.now (length list.keys.now) κ f
+list_paintable list κ f valid small = record { deepest = list.deepest; valid = valid; own = list.own; feature = small }
+
 -- a paint that is not refused
 pub record PaintPassed (m s : ℕ) (keys bits : List ℕ) (n : ℕ) (summary log_keys log_values : List ℕ) (used in_force κ f : ℕ) : Type 0 where
   pub none : edit_refusal (paint m s keys bits n summary log_keys log_values used in_force κ f) ≡ 0
+
+pub paint_passed : (m s : ℕ) (keys bits : List ℕ) (n : ℕ) (summary log_keys log_values : List ℕ) (used in_force κ f : ℕ)
+    → 0 ≡ edit_refusal (paint m s keys bits n summary log_keys log_values used in_force κ f)
+    → PaintPassed m s keys bits n summary log_keys log_values used in_force κ f
+paint_passed m s keys bits n summary log_keys log_values used in_force κ f told = record { none = sym told }
 
 module _ {m s : ℕ} {keys bits : List ℕ} {n : ℕ} {summary log_keys log_values : List ℕ} {used in_force κ f : ℕ}
     (passed : PaintPassed m s keys bits n summary log_keys log_values used in_force κ f) where

@@ -18,7 +18,8 @@ use Rattle.keys.proofs.InBlock.{in_raster, in_block_keys_iff}
 use Rattle.definitions.specs.Area.{summary_level, summary_height, summary_length, summary_of, block_key}
 use Rattle.laws.proofs.Pixels.{Agree}
 use Rattle.laws.proofs.SummaryOf.{summary-length, summary_block}
-use Rattle.list.specs.Own.{shown_by}
+use Rattle.list.specs.declared.accepted_list.Accepted.{Accepted}
+use Rattle.list.specs.Taken.{picture_listed}
 use Rattle.summary.proofs.CountedUpTo.{same_counts}
 use Rattle.edit.specs.Recount.{Outdated}
 
@@ -27,33 +28,33 @@ one_fails : (a b : Bool) → (a && b) ≡ false → (a ≡ false) ⊎ (b ≡ fal
 one_fails false b e = inl refl
 one_fails true b e = inr e
 
-module _ {m s : ℕ} {keys bits : List ℕ} {n : ℕ} {summary : List ℕ} {κ : ℕ} (o : Outdated m s keys bits n summary κ) where
-  pub outdated_long : length summary ≡ summary_length m s
-  outdated_long = ap length o.counts ∙ summary-length m s o.before
+module _ {list : Accepted} {s : ℕ} {summary : List ℕ} {κ : ℕ} (o : Outdated list s summary κ) where
+  pub outdated_long : length summary ≡ summary_length list.m s
+  outdated_long = ap length o.counts ∙ summary-length list.m s o.before
 
-  module _ (b : ℕ) (h : b < 4 ^ summary_level m) where
+  module _ (b : ℕ) (h : b < 4 ^ summary_level list.m) where
     -- a pixel of a block whose keys are apart from those of the edited block is none of the edited block
-    apart_agree : (κ + 5 ^ height_of m κ ≤ block_key m b) ⊎ (block_key m b + 5 ^ summary_height m ≤ κ)
-        → Agree (shown_by m keys bits n) o.before (summary_height m) (row_of m (block_key m b)) (column_of m (block_key m b))
+    apart_agree : (κ + 5 ^ height_of list.m κ ≤ block_key list.m b) ⊎ (block_key list.m b + 5 ^ summary_height list.m ≤ κ)
+        → Agree (picture_listed list) o.before (summary_height list.m) (row_of list.m (block_key list.m b)) (column_of list.m (block_key list.m b))
     apart_agree apart a c w =
-        let block = summary_block m s o.before b h in
+        let block = summary_block list.m s o.before b h in
         let raster = in_raster block w in
         let key = inside block w in
         o.outside a c raster.0 raster.1
-        (decide (in_block m κ a c)
-        (λ t. let own = (in_block_keys_iff a c (valid_block m κ o.valid) raster.0 raster.1).0 t in absurd (⊎_elim (λ i. omega arith) (λ i. omega arith) apart))
+        (decide (in_block list.m κ a c)
+        (λ t. let own = (in_block_keys_iff a c (valid_block list.m κ o.valid) raster.0 raster.1).0 t in absurd (⊎_elim (λ i. omega arith) (λ i. omega arith) apart))
         (λ f. f))
 
     -- so it keeps its counts
-    pub apart_kept : (κ + 5 ^ height_of m κ ≤ block_key m b) ⊎ (block_key m b + 5 ^ summary_height m ≤ κ)
-        → take s (drop (b * s) (summary_of m s (shown_by m keys bits n))) ≡ take s (drop (b * s) summary)
+    pub apart_kept : (κ + 5 ^ height_of list.m κ ≤ block_key list.m b) ⊎ (block_key list.m b + 5 ^ summary_height list.m ≤ κ)
+        → take s (drop (b * s) (summary_of list.m s (picture_listed list))) ≡ take s (drop (b * s) summary)
     apart_kept apart =
-        same_counts m s (shown_by m keys bits n) o.before b h (apart_agree apart) ∙ ap (λ l. take s (drop (b * s) l)) (sym o.counts)
+        same_counts list.m s (picture_listed list) o.before b h (apart_agree apart) ∙ ap (λ l. take s (drop (b * s) l)) (sym o.counts)
 
     -- that is what the test tells
-    pub test_apart : (r : Bool) (end : ℕ) → end ≡ κ + 5 ^ height_of m κ → r ≡ (ltb (block_key m b) end && ltb κ (block_key m b + 5 ^ summary_height m)) → r ≡ false
-        → take s (drop (b * s) (summary_of m s (shown_by m keys bits n))) ≡ take s (drop (b * s) summary)
+    pub test_apart : (r : Bool) (end : ℕ) → end ≡ κ + 5 ^ height_of list.m κ → r ≡ (ltb (block_key list.m b) end && ltb κ (block_key list.m b + 5 ^ summary_height list.m)) → r ≡ false
+        → take s (drop (b * s) (summary_of list.m s (picture_listed list))) ≡ take s (drop (b * s) summary)
     test_apart r end e is no' =
         apart_kept
-        (⊎_elim (λ i. inl (let before : end ≤ block_key m b = ltb-false _ _ i in omega arith)) (λ i. inr (ltb-false _ _ i))
-        (one_fails (ltb (block_key m b) end) (ltb κ (block_key m b + 5 ^ summary_height m)) (sym is ∙ no')))
+        (⊎_elim (λ i. inl (let before : end ≤ block_key list.m b = ltb-false _ _ i in omega arith)) (λ i. inr (ltb-false _ _ i))
+        (one_fails (ltb (block_key list.m b) end) (ltb κ (block_key list.m b + 5 ^ summary_height list.m)) (sym is ∙ no')))

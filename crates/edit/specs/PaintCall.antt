@@ -4,20 +4,21 @@ use Rattle.std.specs.Prelude.{ℕ, ◌+◌, ◌^◌, ◌≤◌, ◌<◌, ◌≡�
 use Rattle.keys.specs.Key.{slot_limit, valid_key}
 use Rattle.definitions.specs.List.{Record, record_of, keys_of, values_of}
 use Rattle.definitions.specs.Read.{room, records_of}
-use Rattle.definitions.specs.Standing.{part_length}
+use Rattle.definitions.specs.Standing.{standing_of, part_length}
 use Rattle.definitions.specs.Refusal.{◌gives◌, first}
 use Rattle.definitions.specs.Calls.Paint.{painted, gained, logged}
 use Rattle.list.specs.Own.{OwnList}
 use Rattle.edit_log.specs.declared.entry.Entry.{Entry}
+use Rattle.edit.specs.declared.decision.GrantedPaint.{GrantedPaint}
 use Rattle.replace.specs.Put.{plan_of}
 use Rattle.replace.specs.declared.plan.Plan.{Plan}
 
 -- 10, 9
-unfoldable pub room_refusal : (m : ℕ) (l : List Record) (keys bits log_keys log_values : List ℕ) (in_force κ f : ℕ) → ℕ
-room_refusal m l keys bits log_keys log_values in_force κ f =
+unfoldable pub room_refusal : (m : ℕ) (l : List Record) (list_room log_room in_force κ f : ℕ) → ℕ
+room_refusal m l list_room log_room in_force κ f =
     first
-    (ltb (room log_keys log_values) (in_force + length (gained m l κ f)) gives 10
-    ∷ ltb (room keys bits) (length (painted m l κ f)) gives 9
+    (ltb log_room (in_force + length (gained m l κ f)) gives 10
+    ∷ ltb list_room (length (painted m l κ f)) gives 9
     ∷ [])
 
 -- a block of an accepted list, and a feature that it may get
@@ -33,6 +34,10 @@ new_entry m l start κ f = record { key = κ; start = start; count = part_length
 
 abbrev pub paint_plan : ℕ → List Record → ℕ → ℕ → Plan
 paint_plan m l κ f = plan_of m l κ (record_of κ (2 ^ f) ∷ [])
+
+-- what a paint goes by that is not refused
+abbrev pub granted_paint : ℕ → List Record → ℕ → ℕ → ℕ → GrantedPaint
+granted_paint m l start κ f = record { new = new_entry m l start κ f; standing = standing_of m κ l; plan = paint_plan m l κ f }
 
 -- the new entry of a block of an accepted list, for which the log has room
 pub record Fresh (m : ℕ) (keys bits : List ℕ) (n : ℕ) (new : Entry) (log_keys log_values : List ℕ) : Type 0 where

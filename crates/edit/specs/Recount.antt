@@ -5,13 +5,12 @@ use Rattle.keys.specs.Key.{slot_limit, valid_key}
 use Rattle.keys.specs.Block.{in_block}
 use Rattle.definitions.specs.Picture.{Picture}
 use Rattle.definitions.specs.Area.{summary_of}
-use Rattle.list.specs.Own.{OwnList, shown_by}
+use Rattle.list.specs.declared.accepted_list.Accepted.{Accepted}
+use Rattle.list.specs.Taken.{picture_listed}
 
-pub record Outdated (m s : ℕ) (keys bits : List ℕ) (n : ℕ) (summary : List ℕ) (κ : ℕ) : Type 0 where
-  pub deep : m ≤ 10
+pub record Outdated (list : Accepted) (s : ℕ) (summary : List ℕ) (κ : ℕ) : Type 0 where
   pub few : s ≤ slot_limit
-  pub valid : valid_key m κ ≡ true
-  pub own : OwnList m keys bits n
+  pub valid : valid_key list.m κ ≡ true
   pub before : Picture
-  pub counts : summary ≡ summary_of m s before
-  pub outside : (row column : ℕ) → row < 2 ^ m → column < 2 ^ m → in_block m κ row column ≡ false → shown_by m keys bits n row column ≡ before row column
+  pub counts : summary ≡ summary_of list.m s before
+  pub outside : (row column : ℕ) → row < 2 ^ list.m → column < 2 ^ list.m → in_block list.m κ row column ≡ false → picture_listed list row column ≡ before row column

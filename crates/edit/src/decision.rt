@@ -1,50 +1,51 @@
-// What paint, take back and redo share: the refusals that they test first, and the decisions that the calls go by.
-ghost use Rattle.std.specs.Prelude.{◌≡◌};
+// What paint, take back and redo share: the refusals that they test first, and what a call goes by that is not refused.
+ghost use Rattle.std.specs.Prelude.{◌≡◌, IfOk};
 ghost use Rattle.definitions.specs.Calls.Edit.{as_lent};
+ghost use Rattle.definitions.specs.Refused.{refusal_told};
+ghost use Rattle.list.specs.Taken.{Taken};
 ghost use Rattle.edit.specs.EditCallChecks.{sheet_refusal};
 
-use crate::logging::Former;
+use definitions::Standing;
 use definitions::refusal::Refusal;
 use edit_log::entry::Entry;
+use list::accepted_list::Accepted;
 use replace::plan::Plan;
-use summary::check::first_refusal;
 
-// An edit is refused, or it goes by an entry of the log, which it takes back or redoes, and by a plan for the list.
+// An entry of the log, which is taken back or redone, and a plan for the list.
 #[derive(Clone, Copy)]
-pub enum Decision {
-    Refused(u64),
-    Granted(Entry, Plan),
+pub struct Granted {
+    pub entry: Entry,
+    pub plan: Plan,
 }
 
-// A paint is refused, or it goes by the entry that it logs, by where the block's former content stands, and by a plan for the list.
+// The entry that a paint logs, where the block's former content stands, and a plan for the list.
 #[derive(Clone, Copy)]
-pub enum PaintDecision {
-    Refused(u64),
-    Granted(Entry, Former, Plan),
+pub struct GrantedPaint {
+    pub new: Entry,
+    pub standing: Standing,
+    pub plan: Plan,
 }
 
-// The refusals that the calls test first: 1, 4, 18, 5.
-pub fn edit_refusal(
+// The refusals that the calls test first: 1, 4, 18, 5, or the list.
+pub fn accept_sheet<'a>(
     m: u32,
     s: u32,
-    keys: &[u32],
-    bits: &[u32],
+    keys: &'a [u32],
+    bits: &'a [u32],
     n: usize,
     summary: &[u32],
     log_keys: &[u32],
     log_values: &[u32],
     used: usize,
     in_force: usize,
-) -> u64
-    ensures { result ≡ sheet_refusal (as_lent m s keys.now bits.now n summary.now
+) -> Result<Accepted<'a>, Refusal>
+    ensures told { refusal_told result ≡ sheet_refusal (as_lent m s keys.now bits.now n summary.now
         log_keys.now log_values.now used in_force) }
+    ensures list { IfOk result (Taken m keys.now bits.now n) }
 {
-    let refusal = first_refusal(m, s, keys, bits, n, summary);
-    if refusal != 0 {
-        return refusal;
-    }
+    let list = summary::accept(m, s, keys, bits, n, summary)?;
     if !edit_log::is_log(m, s, log_keys, log_values, used, in_force) {
-        return Refusal::LOG;
+        return Err(Refusal::Log);
     }
-    0
+    Ok(list)
 }

@@ -1,62 +1,52 @@
 // Paint (specification S10). It is decided before anything is written, 10 and 9 on the end result.
-ghost use Rattle.std.specs.Prelude.{◌≡◌, ◌≤◌, length};
+ghost use Rattle.std.specs.Prelude.{◌≡◌, ◌≤◌, ◌<◌, ◌^◌, true, length, IfOk};
+ghost use Rattle.keys.specs.Key.{slot_limit, valid_key};
 ghost use Rattle.definitions.specs.Read.{room, records_of};
+ghost use Rattle.definitions.specs.Refused.{refusal_told};
+ghost use Rattle.definitions.specs.Answered.{as_edited};
 ghost use Rattle.definitions.specs.Calls.Edit.{edit_refusal};
 ghost use Rattle.definitions.specs.Calls.Paint.{painted, paint, Painted};
+ghost use Rattle.list.specs.Taken.{records_listed};
 ghost use Rattle.replace.specs.Putting.{Replaced};
-ghost use Rattle.edit.specs.Content.{former_of};
-ghost use Rattle.edit.specs.EditCallChecks.{paint_decided};
-ghost use Rattle.edit.specs.PaintCall.{room_refusal, Paintable, new_entry, paint_plan};
+ghost use Rattle.edit.specs.PaintCall.{room_refusal, Paintable, granted_paint, paint_plan};
 
-use crate::decision::PaintDecision;
+use crate::decision::GrantedPaint;
 use crate::{decision, logging, recount};
-use definitions::Edited;
+use definitions::answers::SheetCounts;
 use definitions::refusal::Refusal;
 use edit_log::entry;
 use edit_log::entry::Entry;
 use keys::{Key, power};
-use list::standing;
+use list::acceptance::taken;
+use list::accepted_list::Accepted;
+use replace::content::BlockContent;
 use replace::plan::Plan;
 use replace::{plan, putting};
 
 // 10 and 9: the log has room for the entry, and the list for what it becomes. Where the block stands is looked for here alone: the log and the plan go by
 // it.
 fn decide_room(
-    m: u32,
-    keys: &[u32],
-    bits: &[u32],
-    n: usize,
-    log_keys: &[u32],
-    log_values: &[u32],
+    list: &Accepted<'_>,
+    list_room: usize,
+    log_room: usize,
     in_force: usize,
     key: u32,
     feature: u32,
-) -> PaintDecision
-    requires { (Paintable m keys.now bits.now n key feature) × (in_force ≤ room log_keys.now log_values.now) }
-    ensures { result ≡ paint_decided (room_refusal m (records_of keys.now bits.now n) keys.now bits.now
-        log_keys.now log_values.now in_force key feature)
-        (new_entry m (records_of keys.now bits.now n) in_force key feature)
-        (former_of m key (records_of keys.now bits.now n))
-        (paint_plan m (records_of keys.now bits.now n) key feature) }
+) -> Result<GrantedPaint, Refusal>
+    requires block { (valid_key list.now.m key ≡ true) × (feature < slot_limit) }
+    requires log { (in_force ≤ log_room) × (log_room < 2 ^ 62) }
+    ensures told { refusal_told result ≡ room_refusal list.now.m (records_listed list.now) list_room log_room in_force key feature }
+    ensures granted { IfOk result (λ grant. grant ≡ granted_paint list.now.m (records_listed list.now) in_force key feature) }
 {
-    let standing = standing::stand(m, keys, bits, n, key);
-    let former = logging::by_standing(standing);
-    let count = former.count;
-    let logged = in_force + entry::places(count);
-    if log_keys.len() < logged {
-        return PaintDecision::Refused(Refusal::LOG_ROOM);
+    let standing = list.stand(key);
+    let count = logging::content_count(standing);
+    if log_room < in_force + entry::places(count) {
+        return Err(Refusal::LogRoom);
     }
-    if log_values.len() < logged {
-        return PaintDecision::Refused(Refusal::LOG_ROOM);
-    }
-    let bit = power::power_of_two(feature);
-    let found = plan::plan_by(m, keys, bits, n, key, true, bit, standing);
-    let after = plan::length_after(n, 1, found);
-    if keys.len() < after {
-        return PaintDecision::Refused(Refusal::LIST_ROOM);
-    }
-    if bits.len() < after {
-        return PaintDecision::Refused(Refusal::LIST_ROOM);
+    let bits = power::power_of_two(feature);
+    let plan = plan::plan_by(list, key, Some(bits), standing);
+    if list_room < plan::length_after(list.keys.len(), 1, plan) {
+        return Err(Refusal::ListRoom);
     }
     let new = Entry {
         key,
@@ -64,7 +54,11 @@ fn decide_room(
         count,
         feature,
     };
-    PaintDecision::Granted(new, former, found)
+    Ok(GrantedPaint {
+        new,
+        standing,
+        plan,
+    })
 }
 
 // The first refusal of a paint that applies, or what it goes by.
@@ -81,29 +75,24 @@ fn decide(
     in_force: usize,
     key: u32,
     feature: u32,
-) -> PaintDecision
-    ensures { result ≡ paint_decided
-        (edit_refusal (paint m s keys.now bits.now n summary.now log_keys.now log_values.now used in_force key feature))
-        (new_entry m (records_of keys.now bits.now n) in_force key feature)
-        (former_of m key (records_of keys.now bits.now n))
-        (paint_plan m (records_of keys.now bits.now n) key feature) }
+) -> Result<GrantedPaint, Refusal>
+    ensures told { refusal_told result
+        ≡ edit_refusal (paint m s keys.now bits.now n summary.now log_keys.now log_values.now used in_force key feature) }
+    ensures granted { IfOk result (λ grant. grant ≡ granted_paint m (records_of keys.now bits.now n) in_force key feature) }
 {
-    let early = decision::edit_refusal(
+    let list = decision::accept_sheet(
         m, s, keys, bits, n, summary, log_keys, log_values, used, in_force,
-    );
-    if early != 0 {
-        return PaintDecision::Refused(early);
-    }
+    )?;
     let block = Key { number: key };
     if !block.is_valid(m) {
-        return PaintDecision::Refused(Refusal::KEY);
+        return Err(Refusal::Key);
     }
     if s <= feature {
-        return PaintDecision::Refused(Refusal::FEATURE);
+        return Err(Refusal::Feature);
     }
-    decide_room(
-        m, keys, bits, n, log_keys, log_values, in_force, key, feature,
-    )
+    let list_room = slices::smaller(keys.len(), bits.len());
+    let log_room = slices::smaller(log_keys.len(), log_values.len());
+    decide_room(&list, list_room, log_room, in_force, key, feature)
 }
 
 // The block gets the feature: a content of one record is put into it. Gives the number of records afterwards.
@@ -124,17 +113,11 @@ pub fn fill(
 {
     let content_keys = [key];
     let content_bits = [power::power_of_two(feature)];
-    putting::put(
-        m,
-        keys,
-        bits,
-        n,
-        key,
-        found,
-        &content_keys,
-        &content_bits,
-        1,
-    )
+    let content = BlockContent {
+        keys: &content_keys,
+        bits: &content_bits,
+    };
+    putting::put(m, keys, bits, n, key, found, &content)
 }
 
 // Every pixel of one block gets the feature, the summary follows, and the log gains an entry with the block's former content, over those
@@ -152,34 +135,28 @@ pub fn paint(
     in_force: usize,
     key: u32,
     feature: u32,
-) -> Edited
+) -> Result<SheetCounts, Refusal>
     ensures { Painted m s keys.old bits.old n summary.old log_keys.old log_values.old used in_force key feature
-        result keys.new bits.new summary.new log_keys.new log_values.new }
+        (as_edited result) keys.new bits.new summary.new log_keys.new log_values.new }
 {
-    let decision = decide(
+    let grant = decide(
         m, s, keys, bits, n, summary, log_keys, log_values, used, in_force, key, feature,
+    )?;
+    let former = taken(m, keys, bits, n);
+    let logged = logging::log_paint(
+        &former,
+        grant.standing,
+        grant.new,
+        log_keys,
+        log_values,
+        used,
     );
-    match decision {
-        PaintDecision::Refused(refusal) => {
-            return Edited {
-                refusal,
-                n: 0,
-                used: 0,
-                in_force: 0,
-            };
-        }
-        PaintDecision::Granted(new, former, found) => {
-            let logged = logging::log_paint(
-                m, keys, bits, n, former, new, log_keys, log_values, used,
-            );
-            let after = fill(m, keys, bits, n, key, feature, found);
-            recount::recount(m, s, keys, bits, after, summary, key);
-            return Edited {
-                refusal: 0,
-                n: after as u64,
-                used: logged as u64,
-                in_force: logged as u64,
-            };
-        }
-    }
+    let after = fill(m, keys, bits, n, key, feature, grant.plan);
+    let painted = taken(m, keys, bits, after);
+    recount::recount(&painted, s, summary, key);
+    Ok(SheetCounts {
+        n: after,
+        used: logged,
+        in_force: logged,
+    })
 }

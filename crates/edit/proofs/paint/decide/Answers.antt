@@ -1,70 +1,60 @@
--- `paint::decide` meets its contract: the rows in the call's order (specification S25), the first four and the last two by their own functions.
-use mathlib.Core.Path.{◌≡◌, refl, sym, ap, ◌∙◌}
-use mathlib.Core.Bool.{true, not}
+-- The rows in the call's order (specification S25), the first four and the last two by their own functions.
+use mathlib.Core.Path.{◌≡◌, refl, sym, ap, ap₂, subst, ◌∙◌}
+use mathlib.Core.Bool.{not}
 use native.Mathlib.Omega.{arith}
-use borrow.Author.Tests.{not-true, not-false, le-leb}
+use borrow.Author.Tests.{le-leb}
+use Rattle.std.specs.Prelude.{IfOk}
+use Rattle.std.proofs.lemmas.Result.{err_from_is_err_and}
 use Rattle.keys.specs.Key.{valid_key}
-use Rattle.definitions.specs.Calls.Edit.{as_lent}
+use Rattle.definitions.specs.Read.{records_of}
+use Rattle.definitions.proofs.Refused.{refusal_some}
 use Rattle.laws.proofs.First.{this, later}
-use Rattle.laws.proofs.Edits.{SheetPassed, own_refuses}
-use Rattle.edit.proofs.PaintDecided.{refuses, decided_as}
+use Rattle.laws.proofs.Edits.{own_refuses}
+use Rattle.list.proofs.Taken.{taken_records}
+use Rattle.edit.specs.PaintCall.{room_refusal, granted_paint}
 use Rattle.edit.proofs.EditCallTables.{edit_early, first_passed, passed_settings, passed_force}
-use Rattle.edit.proofs.PaintTable.{room_decides, passed_paintable}
-use borrow.Author.Rules.{rules}
+use Rattle.edit.proofs.PaintTable.{room_decides}
 use Rattle.edit.proofs.paint.decide.Goals as goal
-use Rattle.edit.proofs.paint.decide.Lts as lts
-use Rattle.edit.proofs.paint.decide.Tie as tie
-use Rattle.edit.proofs.paint.decide.Reads as own
 
-abbrev At-After-edit_refusal : Type 0
-At-After-edit_refusal = lts.After-edit_refusal tie.the-claims own.Pre own.Post
-
-abbrev At-Else1 : Type 0
-At-Else1 = lts.Else1 tie.the-claims own.Pre own.Post
-
-abbrev At-Else2 : Type 0
-At-Else2 = lts.Else2 tie.the-claims own.Pre own.Post
-
-abbrev At-Start : Type 0
-At-Start = lts.Start tie.the-claims own.Pre own.Post
-
--- the start, from the first refusal
-abbrev start : At-After-edit_refusal → At-Start
-start c = c.before.before.before.before.before.before
-
--- 1, 4, 18 and 5 are passed
-passed : (c : At-Else1)
-    → (let a = (start c.before).args in
-    SheetPassed (as_lent a.m a.s a.keys.now a.bits.now a.n a.summary.now a.log_keys.now a.log_values.now a.used a.in_force))
-passed c = first_passed _ c.edit_refusal-early.ensures c.if-early-ne0.false
-
--- the key is valid
-valid : (c : At-Else2) → (let a = (start c.before.before.before).args in valid_key a.m a.key ≡ true)
-valid c = sym c.is_valid.ensures ∙ not-false _ c.if-not-is_valid.false-raw
-
-pub edit_refusal-early-requires : goal.edit_refusal-early-requires
-edit_refusal-early-requires c = search rules
-
-pub returns-then-early-ne0 : goal.returns-then-early-ne0
-returns-then-early-ne0 c = refuses _ _ _ _ _ (edit_early _ _ c.edit_refusal-early.ensures c.if-early-ne0.true) c.if-early-ne0.true
+pub returns-in_err-list-clause-told : goal.returns-in_err-list-clause-told
+returns-in_err-list-clause-told c =
+    let p = err_from_is_err_and c.from_residual.result c.from_residual.ensures.1 in
+    rw (p.1, p.2) (edit_early _ _ c.in_err-list.ensures.told (refusal_some c.in_err-list.field-0.0))
 
 pub is_valid-requires : goal.is_valid-requires
-is_valid-requires c = (passed_settings (passed c.before)).deep
+is_valid-requires c = (passed_settings (first_passed 0 c.in_ok-list.ensures.told refl)).deep
 
-pub returns-then-not-is_valid : goal.returns-then-not-is_valid
-returns-then-not-is_valid c = refuses _ _ _ 8 _ (own_refuses _ (passed c.before.before.before) (this (ap not (sym c.is_valid.ensures ∙ not-true _ c.if-not-is_valid.true-raw)) refl)) (λ e. omega arith)
+pub returns-then-not-is_valid-clause-told : goal.returns-then-not-is_valid-clause-told
+returns-then-not-is_valid-clause-told c =
+    own_refuses _ (first_passed 0 c.in_ok-list.ensures.told refl) (this (ap not (sym c.is_valid.ensures ∙ c.if-not-is_valid.true)) refl)
 
-pub returns-then-s-feature : goal.returns-then-s-feature
-returns-then-s-feature c = let d = c.before.before in refuses _ _ _ 7 _ (own_refuses _ (passed d.before.before) (later (ap not (valid d)) (this (le-leb _ _ c.if-s-feature.true) refl))) (λ e. omega arith)
+pub returns-then-s-feature-clause-told : goal.returns-then-s-feature-clause-told
+returns-then-s-feature-clause-told c =
+    own_refuses _ (first_passed 0 c.in_ok-list.ensures.told refl)
+    (later (ap not (sym c.is_valid.ensures ∙ c.if-not-is_valid.false)) (this (le-leb _ _ c.if-s-feature.true) refl))
 
-pub decide_room-requires : goal.decide_room-requires
-decide_room-requires c =
-    let d = c.before.before in
-    let p = passed d.before.before in
-    (passed_paintable _ _ p (valid d) c.if-s-feature.false, passed_force p)
+pub decide_room-requires-clause-block : goal.decide_room-requires-clause-block
+decide_room-requires-clause-block c =
+    let good = passed_settings (first_passed 0 c.in_ok-list.ensures.told refl) in
+    (ap (λ m. valid_key m c.args.key) c.in_ok-list.ensures.list.map ∙ sym c.is_valid.ensures ∙ c.if-not-is_valid.false, omega (arith, good.few, c.if-s-feature.false))
 
-pub returns : goal.returns
-returns c =
-    let e = c.before.before in
-    let d = e.before in
-    decided_as _ _ _ _ _ c.decide_room.ensures _ (room_decides _ _ (passed d.before.before) (valid d) e.if-s-feature.false)
+pub decide_room-requires-clause-log : goal.decide_room-requires-clause-log
+decide_room-requires-clause-log c =
+    let force = passed_force (first_passed 0 c.in_ok-list.ensures.told refl) in
+    (omega (arith, force, c.smaller-log_room.ensures), omega (arith, c.smaller-log_room.ensures, c.well_formed))
+
+pub returns-clause-told : goal.returns-clause-told
+returns-clause-told c =
+    let p = first_passed 0 c.in_ok-list.ensures.told refl in
+    let t = c.in_ok-list.ensures.list in
+    c.decide_room.ensures.told
+    ∙ ap₂ (λ m l. room_refusal m l c.smaller-list_room.result c.smaller-log_room.result c.args.in_force c.args.key c.args.feature) t.map (taken_records t)
+    ∙ ap₂ (λ list_room log_room. room_refusal c.args.m (records_of c.args.keys.now c.args.bits.now c.args.n) list_room log_room c.args.in_force c.args.key c.args.feature) c.smaller-list_room.ensures c.smaller-log_room.ensures
+    ∙ room_decides _ _ p (sym c.is_valid.ensures ∙ c.if-not-is_valid.false) c.if-s-feature.false
+
+pub returns-clause-granted : goal.returns-clause-granted
+returns-clause-granted c =
+    let t = c.in_ok-list.ensures.list in
+    subst (λ grant. IfOk c.decide_room.result (λ g. g ≡ grant))
+    (ap₂ (λ m l. granted_paint m l c.args.in_force c.args.key c.args.feature) t.map (taken_records t))
+    c.decide_room.ensures.granted

@@ -1,105 +1,64 @@
--- `paint::paint` meets its contract: a refusal leaves all as it is; else the entry is logged while the list still has the former content, and then the block is filled.
-use mathlib.Core.Path.{◌≡◌}
+-- A refusal leaves all as it is; else the entry is logged while the list still has the former content, and then the block is filled.
+use mathlib.Core.Path.{ap, ap₂, subst}
 use native.Mathlib.Omega.{arith}
-use Rattle.definitions.specs.Read.{records_of}
-use Rattle.definitions.specs.Calls.Edit.{edit_refusal}
-use Rattle.definitions.specs.Calls.Paint.{paint}
+use Rattle.std.proofs.lemmas.Result.{err_from_is_err_and}
+use Rattle.definitions.specs.Calls.Paint.{gained}
+use Rattle.definitions.proofs.Refused.{refusal_some}
 use Rattle.laws.proofs.Edits.{edit_refused}
-use Rattle.edit.specs.Content.{former_of}
-use Rattle.edit.specs.PaintCall.{new_entry, paint_plan}
-use Rattle.edit.proofs.ContentStands.{former_named}
-use Rattle.edit.proofs.PaintDecided.{refused, granted}
+use Rattle.list.proofs.Taken.{taken_records}
+use Rattle.edit.specs.PaintCall.{Relogged}
+use Rattle.edit.proofs.ContentStands.{fresh_taken}
 use Rattle.edit.proofs.EditCallTables.{passed_settings, passed_summary, passed_used}
-use Rattle.edit.proofs.PaintPlan.{paint_outdated, paint_counted}
-use Rattle.edit.proofs.PaintTable.{PaintPassed, paint_sheet, paint_fits, paint_paintable, paint_fresh, paint_done}
-use borrow.Author.Rules.{rules}
+use Rattle.edit.proofs.PaintPlan.{paint_own, paint_outdated, paint_counted}
+use Rattle.edit.proofs.PaintTable.{paint_passed, paint_sheet, paint_fits, paint_paintable, paint_fresh, paint_done}
 use Rattle.edit.proofs.paint.paint.Goals as goal
-use Rattle.edit.proofs.paint.paint.Lts as lts
-use Rattle.edit.proofs.paint.paint.Tie as tie
-use Rattle.edit.proofs.paint.paint.Reads as own
 
-abbrev At-In-Granted : Type 0
-At-In-Granted = lts.Past-After-known_told2 tie.the-claims own.Pre own.Post tie.handed_clauses
+pub returns-in_err-grant : goal.returns-in_err-grant
+returns-in_err-grant c =
+    let p = err_from_is_err_and c.from_residual.result c.from_residual.ensures.1 in
+    rw (p.1, p.2) (edit_refused _ _ c.in_err-grant.ensures.told (refusal_some c.in_err-grant.field-0.0))
 
--- nothing refuses it, and it goes by its entry, the former content and its plan
-goes : (c : At-In-Granted)
-    → (let a = c.args in
-    (edit_refusal (paint a.m a.s a.keys.now a.bits.now a.n a.summary.now a.log_keys.now a.log_values.now a.used a.in_force a.key a.feature) ≡ 0)
-    × (c.in-Granted.new ≡ new_entry a.m (records_of a.keys.now a.bits.now a.n) a.in_force a.key a.feature)
-    × (c.in-Granted.former ≡ former_of a.m a.key (records_of a.keys.now a.bits.now a.n))
-    × (c.in-Granted.found ≡ paint_plan a.m (records_of a.keys.now a.bits.now a.n) a.key a.feature))
-goes c = granted _ _ _ _ _ c.decide-decision.ensures _ _ _ c.in-Granted.is
+pub taken-former-requires : goal.taken-former-requires
+taken-former-requires c =
+    let a = paint_paintable (paint_passed c.args.m c.args.s c.args.keys.now c.args.bits.now c.args.n c.args.summary.now c.args.log_keys.now c.args.log_values.now c.args.used c.args.in_force c.args.key c.args.feature c.in_ok-grant.ensures.told) in
+    (a.deepest, a.own)
 
--- so it has passed every row
-passed : (c : At-In-Granted)
-    → (let a = c.args in
-    PaintPassed a.m a.s a.keys.now a.bits.now a.n a.summary.now a.log_keys.now a.log_values.now a.used a.in_force a.key a.feature)
-passed c = record { none = (goes c).0 }
+pub log_paint-logged-requires-clause-fresh : goal.log_paint-logged-requires-clause-fresh
+log_paint-logged-requires-clause-fresh c =
+    fresh_taken c.taken-former.ensures
+    (paint_fresh (paint_passed c.args.m c.args.s c.args.keys.now c.args.bits.now c.args.n c.args.summary.now c.args.log_keys.now c.args.log_values.now c.args.used c.args.in_force c.args.key c.args.feature c.in_ok-grant.ensures.told) _ (ap (λ g. g.new) c.in_ok-grant.ensures.granted))
 
-pub decide-decision-requires : goal.decide-decision-requires
-decide-decision-requires c = search rules
+pub log_paint-logged-requires-clause-used_there : goal.log_paint-logged-requires-clause-used_there
+log_paint-logged-requires-clause-used_there c =
+    passed_used (paint_sheet (paint_passed c.args.m c.args.s c.args.keys.now c.args.bits.now c.args.n c.args.summary.now c.args.log_keys.now c.args.log_values.now c.args.used c.args.in_force c.args.key c.args.feature c.in_ok-grant.ensures.told))
 
-pub enum_known-decision : goal.enum_known-decision
-enum_known-decision c = search rules
+pub fill-after-requires-clause-paintable : goal.fill-after-requires-clause-paintable
+fill-after-requires-clause-paintable c =
+    paint_paintable (paint_passed c.args.m c.args.s c.args.keys.now c.args.bits.now c.args.n c.args.summary.now c.args.log_keys.now c.args.log_values.now c.args.used c.args.in_force c.args.key c.args.feature c.in_ok-grant.ensures.told)
 
-pub shape_of-keys-in-Refused : goal.shape_of-keys-in-Refused
-shape_of-keys-in-Refused c = search rules
+pub fill-after-requires-clause-feature_len_bound : goal.fill-after-requires-clause-feature_len_bound
+fill-after-requires-clause-feature_len_bound c =
+    paint_fits (paint_passed c.args.m c.args.s c.args.keys.now c.args.bits.now c.args.n c.args.summary.now c.args.log_keys.now c.args.log_values.now c.args.used c.args.in_force c.args.key c.args.feature c.in_ok-grant.ensures.told)
 
-pub shape_of-bits-in-Refused : goal.shape_of-bits-in-Refused
-shape_of-bits-in-Refused c = search rules
-
-pub shape_of-summary-in-Refused : goal.shape_of-summary-in-Refused
-shape_of-summary-in-Refused c = search rules
-
-pub shape_of-log_keys-in-Refused : goal.shape_of-log_keys-in-Refused
-shape_of-log_keys-in-Refused c = search rules
-
-pub shape_of-log_values-in-Refused : goal.shape_of-log_values-in-Refused
-shape_of-log_values-in-Refused c = search rules
-
-pub returns-in-Refused : goal.returns-in-Refused
-returns-in-Refused c =
-    let told = refused _ _ _ _ _ c.decide-decision.ensures _ c.in-Refused.is in
-    edit_refused _ _ told.0 told.1
-
-pub enum_known-decision-in-Granted-1 : goal.enum_known-decision-in-Granted-1
-enum_known-decision-in-Granted-1 c = search rules
-
-pub log_paint-logged-requires : goal.log_paint-logged-requires
-log_paint-logged-requires c =
-    let d = c.before.before in
-    (paint_fresh (passed d) _ (goes d).1, passed_used (paint_sheet (passed d)), former_named _ _ _ _ _ (goes d).1 (goes d).2)
-
-pub fill-after-requires : goal.fill-after-requires
-fill-after-requires c =
-    let d = c.before.before.before.before.before.before.before.before.before.before in
-    let p = passed d in
-    record { paintable = paint_paintable p; found_value = (goes d).3; feature_len_bound = paint_fits p }
+pub taken-painted-requires : goal.taken-painted-requires
+taken-painted-requires c =
+    let a = paint_paintable (paint_passed c.args.m c.args.s c.args.keys.now c.args.bits.now c.args.n c.args.summary.now c.args.log_keys.now c.args.log_values.now c.args.used c.args.in_force c.args.key c.args.feature c.in_ok-grant.ensures.told) in
+    (a.deepest, paint_own c.args.s a c.fill-after.ensures)
 
 pub recount-requires : goal.recount-requires
 recount-requires c =
-    let d = c.before.before.before.before.before.before.before.before.before.before.before.before.before.before.before.before in
-    let p = passed d in
-    paint_outdated _ (paint_paintable p) c.fill-after.ensures _ (let few = (passed_settings (paint_sheet p)).few in omega arith) (passed_summary (paint_sheet p))
+    let p = paint_passed c.args.m c.args.s c.args.keys.now c.args.bits.now c.args.n c.args.summary.now c.args.log_keys.now c.args.log_values.now c.args.used c.args.in_force c.args.key c.args.feature c.in_ok-grant.ensures.told in
+    let few = (passed_settings (paint_sheet p)).few in
+    paint_outdated c.args.s (paint_paintable p) c.fill-after.ensures c.taken-painted.ensures _ (omega arith) (passed_summary (paint_sheet p))
 
-pub shape_of-keys-in-Granted : goal.shape_of-keys-in-Granted
-shape_of-keys-in-Granted c = search rules
-
-pub shape_of-bits-in-Granted : goal.shape_of-bits-in-Granted
-shape_of-bits-in-Granted c = search rules
-
-pub shape_of-summary-in-Granted : goal.shape_of-summary-in-Granted
-shape_of-summary-in-Granted c = search rules
-
-pub shape_of-log_keys-in-Granted : goal.shape_of-log_keys-in-Granted
-shape_of-log_keys-in-Granted c = search rules
-
-pub shape_of-log_values-in-Granted : goal.shape_of-log_values-in-Granted
-shape_of-log_values-in-Granted c = search rules
-
-pub returns-in-Granted : goal.returns-in-Granted
-returns-in-Granted c =
-    let d = c.before.before.before.before.before.before.before.before.before.before.before.before.before.before.before.before.before.before.before in
-    let p = passed d in
-    paint_done p _ (goes d).1 c.log_paint-logged.ensures c.fill-after.ensures
-    (paint_counted _ (paint_paintable p) c.fill-after.ensures _ c.recount.ensures)
+pub returns : goal.returns
+returns c =
+    let p = paint_passed c.args.m c.args.s c.args.keys.now c.args.bits.now c.args.n c.args.summary.now c.args.log_keys.now c.args.log_values.now c.args.used c.args.in_force c.args.key c.args.feature c.in_ok-grant.ensures.told in
+    let t = c.taken-former.ensures in
+    let new = c.in_ok-grant.grant.new in
+    let entry-logged =
+    subst (λ entry. Relogged entry new.start c.args.used c.args.log_keys.now c.args.log_values.now c.log_paint-logged.new.log_keys c.log_paint-logged.new.log_values c.log_paint-logged.result)
+    (ap₂ (λ m l. gained m l new.key new.feature) t.map (taken_records t))
+    c.log_paint-logged.ensures in
+    paint_done p _ (ap (λ g. g.new) c.in_ok-grant.ensures.granted) entry-logged c.fill-after.ensures
+    (paint_counted c.args.s (paint_paintable p) c.fill-after.ensures c.taken-painted.ensures _ c.recount.ensures)

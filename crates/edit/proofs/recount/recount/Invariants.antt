@@ -1,13 +1,7 @@
--- `recount::recount` meets its contract: after each turn the places of one block more are those of the new list.
-use Prim.Native.Nat.{◌-◌, ◌≤◌}
-use Rattle.list.specs.Own.{shown_by}
+-- The places of the blocks before number b are those of the new list, and the others those from before.
+use Rattle.list.specs.Taken.{picture_listed}
 use Rattle.summary.proofs.CountedUpTo.{CountedUpTo}
 use Rattle.edit.proofs.recount.recount.Given as goal
 
 abbrev pub invariant-loop-b : goal.invariant-loop-b
-invariant-loop-b l =
-    (l.b ≤ l.blocks) × CountedUpTo l.m l.s (shown_by l.m l.keys l.bits l.n) l.initial.summary l.summary l.b
-
-abbrev pub decreases-loop-b : goal.decreases-loop-b
-decreases-loop-b l =
-    l.blocks - l.b
+invariant-loop-b l = CountedUpTo l.list.m l.s (picture_listed l.list) l.initial.summary l.summary l.b

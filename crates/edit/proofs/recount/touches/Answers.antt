@@ -1,11 +1,10 @@
--- `recount::touches` meets its contract: the block's key and its height are those of the summary's block.
+-- The block's key and its height are those of the summary's block.
 use Prim.Native.Nat.{ℕ, ◌+◌, ◌^◌, ◌≤◌, ◌<◌}
 use mathlib.Core.Path.{◌≡◌, sym, ◌∙◌, ap, ap₂}
 use mathlib.Core.Bool.{false, ◌&&◌}
 use native.Mathlib.Omega.{arith}
 use lib.Dec.{ltb}
 use borrow.Author.Tests.{le-ltb, lt-ltb}
-use borrow.Author.Rules.{rules}
 use Rattle.keys.specs.Key.{zeros_at_end}
 use Rattle.keys.proofs.LastZeros.{keys_height}
 use Rattle.keys.proofs.Powers.{five_le}
@@ -37,21 +36,15 @@ then_touch : (m b key end other step : ℕ) → other ≡ block_key m b → othe
 then_touch m b key end other step e h f =
     ap₂ (λ x y. ltb key (x + y)) e f ∙ sym (ap (λ t. t && ltb key (block_key m b + 5 ^ summary_height m)) (lt-ltb (block_key m b) end (omega arith)))
 
-pub key_of-other-requires : goal.key_of-other-requires
-key_of-other-requires c = search rules
-
-pub returns-then-end-other : goal.returns-then-end-other
-returns-then-end-other c = none_touch _ _ _ _ _ c.key_of-other.ensures c.if-end-other.true
-
-pub keys_in-requires : goal.keys_in-requires
-keys_in-requires c = search rules
-
 pub overflow_add-result : goal.overflow_add-result
 overflow_add-result c =
     let is = step_is c.args.m c.args.b _ _ c.requires.1 c.key_of-other.ensures c.keys_in.ensures in
     record { fits = end_small c.args.m c.args.b _ _ c.requires.0 c.requires.1 c.key_of-other.ensures is }
 
-pub returns : goal.returns
-returns c =
-    then_touch c.args.m c.args.b _ _ _ _ c.key_of-other.ensures c.if-end-other.false
+pub returns-else-other-end : goal.returns-else-other-end
+returns-else-other-end c = le-ltb _ _ c.if-other-end.false ∙ none_touch _ _ _ _ _ c.key_of-other.ensures c.if-other-end.false
+
+pub returns-then-other-end : goal.returns-then-other-end
+returns-then-other-end c =
+    then_touch c.args.m c.args.b _ _ _ _ c.key_of-other.ensures c.if-other-end.true
     (step_is c.args.m c.args.b _ _ c.requires.1 c.key_of-other.ensures c.keys_in.ensures)
