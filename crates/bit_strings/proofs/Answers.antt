@@ -1,49 +1,36 @@
 -- The answers of the small tests and of the two calls' tables, one for each way out of the code. Rests on the laws of tables.
-use Prim.Native.Nat.{ℕ, ◌≤◌, ◌<◌, min}
+use Prim.Native.Nat.{ℕ, ◌+◌, ◌≤◌, ◌<◌, min}
+use mir.Val.{bool_byte}
 use mathlib.Core.Path.{◌≡◌, refl, sym, ap, ◌∙◌}
 use mathlib.Core.Bool.{Bool, true, false, cond, not, ◌||◌}
 use mathlib.Core.List.{List}
 use native.Mathlib.Omega.{arith}
 use lib.ListN.{get_or}
-use lib.Dec.{ltb, eqb}
-use borrow.Author.Tests.{eq-eqb, ne_eqb, lt-ltb, le-ltb}
-use Rattle.keys.proofs.Cases.{split}
-use Rattle.definitions.specs.Read.{is_list}
-use Rattle.definitions.specs.Refusal.{bad_settings}
+use lib.Dec.{eqb}
+use borrow.Author.Tests.{eq-eqb, ne_eqb}
+use Rattle.keys.proofs.Cases.{decide}
+use Rattle.list.specs.First.{first_refusal}
+use Rattle.list.proofs.FirstRefusal.{first_no_list, first_good}
+use Rattle.definitions.specs.Refusal.{bad_settings, no_list}
 use Rattle.definitions.specs.BitStrings.{leaf_value, inner_value}
 use Rattle.laws.proofs.First.{this, later, holds_first, none_first}
 use Rattle.bit_strings.specs.Steps.{next_bit}
 use Rattle.bit_strings.specs.Strings.{early_refusal}
 use Rattle.bit_strings.proofs.NextBit.{next_first}
 
-module _ (leaf : ℕ) (l : List Bool) where
-  pub value_inner : (leaf ≡ 1 → ⊥) → 3 ≡ cond (eqb leaf 1) (leaf_value l) inner_value
-  value_inner e = sym (ap (λ b. cond b (leaf_value l) inner_value) (ne_eqb leaf 1 e))
+-- the bitstring of a leaf, by the bit that was looked for
+pub value_two : (l : List Bool) → 1 ≡ next_bit l → 2 ≡ leaf_value l
+value_two l one = sym (ap (λ t. cond t 2 1) (sym (next_first l) ∙ eq-eqb (next_bit l) 1 (sym one)))
 
-  module _ (is_IsLeaf : leaf ≡ 1) where
-    by_first : (b : Bool) → get_or l 0 false ≡ b → cond b 2 1 ≡ cond (eqb leaf 1) (leaf_value l) inner_value
-    by_first b e = sym (ap (λ t. cond t (leaf_value l) inner_value) (eq-eqb leaf 1 is_IsLeaf) ∙ ap (λ t. cond t 2 1) e)
+pub value_one : (l : List Bool) → (1 ≡ next_bit l → ⊥) → 1 ≡ leaf_value l
+value_one l other = sym (ap (λ t. cond t 2 1) (sym (next_first l) ∙ ne_eqb (next_bit l) 1 (λ t. other (sym t))))
 
-    pub value_two : (bit : ℕ) → bit ≡ next_bit l → bit ≡ 1 → 2 ≡ cond (eqb leaf 1) (leaf_value l) inner_value
-    value_two bit e one = by_first true (sym (next_first l) ∙ eq-eqb (next_bit l) 1 (sym e ∙ one))
+pub value_none : (l : List Bool) → 2 ≡ next_bit l → 1 ≡ leaf_value l
+value_none l two = value_one l (λ (z : 1 ≡ next_bit l). omega arith)
 
-    pub value_one : (bit : ℕ) → bit ≡ next_bit l → (bit ≡ 1 → ⊥) → 1 ≡ cond (eqb leaf 1) (leaf_value l) inner_value
-    value_one bit e other = by_first false (sym (next_first l) ∙ ne_eqb (next_bit l) 1 (λ t. other (e ∙ t)))
-
-pub lacks_first : (a b n : ℕ) → a < n → true ≡ ltb (min a b) n
-lacks_first a b n h = sym (lt-ltb (min a b) n (omega arith))
-
-pub lacks_second : (a b n : ℕ) → n ≤ a → ltb b n ≡ ltb (min a b) n
-lacks_second a b n h =
-    split b n
-    (λ k. lt-ltb b n k ∙ sym (lt-ltb (min a b) n (omega arith)))
-    (λ k. le-ltb b n k ∙ sym (le-ltb (min a b) n (omega arith)))
-
-pub short_first : (a least : ℕ) (second : Bool) → a < least → true ≡ (ltb a least || second)
-short_first a least second h = sym (ap (λ t. t || second) (lt-ltb a least h))
-
-pub short_second : (a least : ℕ) (second : Bool) → least ≤ a → second ≡ (ltb a least || second)
-short_second a least second h = sym (ap (λ t. t || second) (le-ltb a least h))
+pub value_found : (l : List Bool) (b : Bool) → cond b 1 0 ≡ next_bit l → 1 + bool_byte b ≡ leaf_value l
+value_found l true e = value_two l e
+value_found l false e = value_one l (λ (z : 1 ≡ next_bit l). omega arith)
 
 -- ---- refusals 1, 23 and 4
 
@@ -57,11 +44,10 @@ module _ (m s : ℕ) (keys bits : List ℕ) (n : ℕ) where
     unfolding early_refusal
     early_slots e = sym (holds_first (later good (this (ap not (ne_eqb s 2 e)) refl)))
 
-    module _ (two : s ≡ 2) where
-      pub early_list : is_list m s keys bits n ≡ false → 4 ≡ early_refusal m s keys bits n
-      unfolding early_refusal
-      early_list e = sym (holds_first (later good (later (ap not (eq-eqb s 2 two)) (this (ap not e) refl))))
-
-      pub early_none : is_list m s keys bits n ≡ true → 0 ≡ early_refusal m s keys bits n
-      unfolding early_refusal
-      early_none e = sym (none_first _ (good, (ap not (eq-eqb s 2 two), (ap not e, tt))))
+    -- past these the list's own tests decide
+    pub early_accepts : s ≡ 2 → first_refusal m s keys bits n ≡ early_refusal m s keys bits n
+    unfolding early_refusal
+    early_accepts two =
+        decide (no_list m s keys bits n)
+        (λ wrong. first_no_list m s keys bits n good wrong ∙ sym (holds_first (later good (later (ap not (eq-eqb s 2 two)) (this wrong refl)))))
+        (λ right. first_good m s keys bits n good right ∙ sym (none_first _ (good, (ap not (eq-eqb s 2 two), (right, tt)))))

@@ -48,10 +48,10 @@ bit_one false = omega arith
 
 module _ (leaves : Bool) (values : List ℕ) (at byte place count : ℕ) (m : Making leaves values at byte place count) where
   module _ (more : count < 8) (b : Bit) (p : Picked leaves values place b) where
-    pub digit : b.bit ≤ 1
-    digit = let h = bit_one (get_or (string_from leaves values place) 0 false) in let e = p.bit_is in omega arith
+    pub digit : cond b.bit 1 0 ≤ 1
+    digit = bit_one b.bit
 
-    pub fits : byte * 2 + b.bit < 2 ^ (count + 1)
+    pub fits : byte * 2 + cond b.bit 1 0 < 2 ^ (count + 1)
     fits =
         let e = pow-suc 2 count in
         let f = ap (λ k. 2 ^ k) (add-one count) in
@@ -59,18 +59,18 @@ module _ (leaves : Bool) (values : List ℕ) (at byte place count : ℕ) (m : Ma
         let d = digit in
         omega arith
 
-    pub fits_byte : byte * 2 + b.bit < 256
+    pub fits_byte : byte * 2 + cond b.bit 1 0 < 256
     fits_byte = let e = fits in let h = pow_mono {i = count + 1} {j = 8} (omega arith) in omega arith
 
-    pub making_turn : Making leaves values at (byte * 2 + b.bit) b.after (count + 1)
+    pub making_turn : Making leaves values at (byte * 2 + cond b.bit 1 0) b.after (count + 1)
     making_turn =
         let k = 8 - (count + 1) in
         let one : suc k ≡ 8 - count = omega arith in
         let s = string_from leaves values place in
         let double : byte * 2 ^ suc k ≡ byte * 2 * 2 ^ k = ap (λ x. byte * x) (pow-suc 2 k ∙ mul_comm (2 ^ k) 2) ∙ sym (mul_assoc byte 2 (2 ^ k)) in
-        let sum : (byte * 2 + b.bit) * 2 ^ k ≡ byte * 2 * 2 ^ k + b.bit * 2 ^ k = add-mul (byte * 2) b.bit (2 ^ k) in
-        let split : high_first (suc k) s ≡ b.bit * 2 ^ k + high_first k (string_from leaves values b.after) =
-        high_suc k s ∙ ap₂ (λ d r. d * 2 ^ k + high_first k r) (sym p.bit_is) (sym p.rest) in
+        let sum : (byte * 2 + cond b.bit 1 0) * 2 ^ k ≡ byte * 2 * 2 ^ k + cond b.bit 1 0 * 2 ^ k = add-mul (byte * 2) (cond b.bit 1 0) (2 ^ k) in
+        let split : high_first (suc k) s ≡ cond b.bit 1 0 * 2 ^ k + high_first k (string_from leaves values b.after) =
+        high_suc k s ∙ ap₂ (λ d r. cond d 1 0 * 2 ^ k + high_first k r) (sym p.bit_is) (sym p.rest) in
         let before : byte * 2 ^ suc k + high_first (suc k) s ≡ high_first 8 (string_from leaves values at) =
         ap (λ j. byte * 2 ^ j + high_first j s) one ∙ m.makes in
         record {

@@ -82,6 +82,10 @@ bit_there bytes i h =
     sym (ap next_bit (by_byte bytes i ∙ bits_at bytes (i / 8) (i % 8) h (omega arith))
     ∙ next_in (get_or bytes (i / 8) 0) (7 - i % 8) (8 - i % 8) (bits_in (drop (suc (i / 8)) bytes)) (omega arith))
 
+-- as it is told
+pub bit_found : (bytes : List ℕ) (i : ℕ) → i / 8 < length bytes → cond (eqb (get_or bytes (i / 8) 0 / 2 ^ (7 - i % 8) % 2) 1) 1 0 ≡ next_bit (bits_after bytes i)
+bit_found bytes i h = worth (get_or bytes (i / 8) 0 / 2 ^ (7 - i % 8) % 2) (mod-lt (get_or bytes (i / 8) 0 / 2 ^ (7 - i % 8)) (omega arith)) ∙ bit_there bytes i h
+
 pub none_there : (bytes : List ℕ) (i : ℕ) → length bytes ≤ i / 8 → bits_after bytes i ≡ []
 none_there bytes i h = by_byte bytes i ∙ bits_past bytes (i / 8) (i % 8) h
 

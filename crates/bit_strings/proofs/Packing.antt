@@ -15,6 +15,7 @@ use Rattle.keys.proofs.Cases.{decide, same_test, and_left, and_right, and_both}
 use Rattle.definitions.specs.Bits.{has_slot}
 use Rattle.definitions.specs.BitStrings.{is_inner}
 use Rattle.bit_strings.specs.Strings.{bit_of, string_of, Picked}
+use Rattle.bit_strings.proofs.NextBit.{no_digit, told_one}
 
 -- both slots are set exactly where the last two bits are
 pub inner_is : (v : ℕ) → is_inner v ≡ eqb (v % 4) 3
@@ -33,32 +34,21 @@ inner_is v =
     and_both (has_slot v 0) (has_slot v 1) (eq-eqb (v / 2 ^ 0 % 2) 1 (omega arith)) (eq-eqb (v / 2 ^ 1 % 2) 1 b))
 
 module _ (leaves : Bool) (v : ℕ) where
-  pub node_inner : not leaves ≡ true → eqb (v % 4) 3 ≡ true → 0 ≡ bit_of leaves v
+  pub node_inner : leaves ≡ false → eqb (v % 4) 3 ≡ true → 0 ≡ bit_of leaves v
   unfolding bit_of
-  node_inner n e = sym (rw (not-true leaves n, inner_is v, e) refl)
+  node_inner n e = sym (rw (n, inner_is v, e) refl)
 
-  pub node_leaf : not leaves ≡ true → eqb (v % 4) 3 ≡ false → 1 ≡ bit_of leaves v
+  pub node_leaf : leaves ≡ false → eqb (v % 4) 3 ≡ false → 1 ≡ bit_of leaves v
   unfolding bit_of
-  node_leaf n e = sym (rw (not-true leaves n, inner_is v, e) refl)
+  node_leaf n e = sym (rw (n, inner_is v, e) refl)
 
-  pub leaf_none : not leaves ≡ false → eqb (v % 4) 3 ≡ true → 2 ≡ bit_of leaves v
+  pub leaf_none : leaves ≡ true → eqb (v % 4) 3 ≡ true → 2 ≡ bit_of leaves v
   unfolding bit_of
-  leaf_none n e = sym (rw (not-false leaves n, inner_is v, e) refl)
+  leaf_none n e = sym (rw (n, inner_is v, e) refl)
 
-  pub leaf_some : not leaves ≡ false → eqb (v % 4) 3 ≡ false → v / 2 % 2 ≡ bit_of leaves v
+  pub leaf_some : leaves ≡ true → eqb (v % 4) 3 ≡ false → cond (eqb (v / 2 % 2) 1) 1 0 ≡ bit_of leaves v
   unfolding bit_of
-  leaf_some n e = sym (rw (not-false leaves n, inner_is v, e) (worth (v / 2 % 2) (mod-lt (v / 2) (omega arith))))
-    where
-      worth : (d : ℕ) → d < 2 → cond (eqb d 1) 1 0 ≡ d
-      worth zero h = refl
-      worth (suc zero) h = refl
-      worth (suc (suc d)) h = absurd (omega arith)
-
--- a bit is 0 or 1, or there is none
-pub bit_most : (leaves : Bool) (v : ℕ) → bit_of leaves v ≤ 2
-unfolding bit_of
-bit_most true v = decide (is_inner v) (λ e. rw e (omega arith)) (λ e. decide (has_slot v 1) (λ f. rw (e, f) (omega arith)) (λ f. rw (e, f) (omega arith)))
-bit_most false v = decide (is_inner v) (λ e. rw e (omega arith)) (λ e. rw e (omega arith))
+  leaf_some n e = sym (rw (n, inner_is v, e) refl)
 
 -- a record without a bit is passed
 pub string_skip : (leaves : Bool) (v : ℕ) (l : List ℕ) → bit_of leaves v ≡ 2 → string_of leaves (v ∷ l) ≡ string_of leaves l
@@ -73,12 +63,6 @@ string_none : (leaves : Bool) → string_of leaves [] ≡ []
 unfolding string_of
 string_none leaves = refl
 
-worth : (d : ℕ) → d ≤ 2 → (d ≡ 2 → ⊥) → d ≡ cond (eqb d 1) 1 0
-worth zero h e = refl
-worth (suc zero) h e = refl
-worth (suc (suc zero)) h e = absurd (e refl)
-worth (suc (suc (suc d))) h e = absurd (omega arith)
-
 -- from a place on
 abbrev pub string_from : Bool → List ℕ → ℕ → List Bool
 string_from leaves values at = string_of leaves (drop at values)
@@ -87,34 +71,32 @@ module _ (leaves : Bool) (values : List ℕ) (at place : ℕ) (so_far : string_f
   here : place < length values → drop place values ≡ get_or values place 0 ∷ drop (place + 1) values
   here h = drop-cons values place 0 h ∙ ap (λ k. get_or values place 0 ∷ drop k values) (sym (add-one place))
 
-  pub pick_skip : (bit : ℕ) → place < length values → bit ≡ bit_of leaves (get_or values place 0) → bit ≡ 2
+  pub pick_skip : place < length values → 2 ≡ bit_of leaves (get_or values place 0)
       → string_from leaves values (place + 1) ≡ string_from leaves values at
-  pick_skip bit h e two =
-      sym (ap (string_of leaves) (here h) ∙ string_skip leaves (get_or values place 0) (drop (place + 1) values) (sym e ∙ two)) ∙ so_far
+  pick_skip h two =
+      sym (ap (string_of leaves) (here h) ∙ string_skip leaves (get_or values place 0) (drop (place + 1) values) (sym two)) ∙ so_far
 
-  pub pick_bit : (bit : ℕ) → place < length values → bit ≡ bit_of leaves (get_or values place 0) → (bit ≡ 2 → ⊥)
+  pub pick_bit : (bit : Bool) → place < length values → cond bit 1 0 ≡ bit_of leaves (get_or values place 0)
       → Picked leaves values at (record { bit = bit; after = place + 1 })
-  pick_bit bit h e some =
+  pick_bit bit h e =
       let v = get_or values place 0 in
-      let most = bit_most leaves v in
-      let string : string_from leaves values at ≡ eqb bit 1 ∷ string_from leaves values (place + 1) =
+      let string : string_from leaves values at ≡ bit ∷ string_from leaves values (place + 1) =
       sym so_far
       ∙ ap (string_of leaves) (here h)
-      ∙ string_bit leaves v (drop (place + 1) values) (λ t. some (e ∙ t))
-      ∙ ap (λ b. eqb b 1 ∷ string_from leaves values (place + 1)) (sym e) in
+      ∙ string_bit leaves v (drop (place + 1) values) (λ two. no_digit bit (sym (e ∙ two)))
+      ∙ ap (λ b. b ∷ string_from leaves values (place + 1)) (told_one bit (bit_of leaves v) e) in
       record {
         inside = omega arith;
-        bit_is = worth bit (omega arith) some ∙ ap (λ l. cond (get_or l 0 false) 1 0) (sym string);
+        bit_is = ap (λ l. get_or l 0 false) (sym string);
         rest = ap (drop 1) (sym string);
       }
 
-  pub pick_end : length values ≤ place → place ≤ length values → Picked leaves values at (record { bit = 0; after = place })
-  pick_end h k =
-      let same : place ≡ length values = omega arith in
-      let end : string_from leaves values place ≡ [] = ap (string_from leaves values) same ∙ ap (string_of leaves) (drop-length values) ∙ string_none leaves in
-      let string : [] ≡ string_from leaves values at = sym end ∙ so_far in
+  pub pick_end : place ≡ length values → Picked leaves values at (record { bit = false; after = length values })
+  pick_end same =
+      let end : string_from leaves values (length values) ≡ [] = ap (string_of leaves) (drop-length values) ∙ string_none leaves in
+      let string : [] ≡ string_from leaves values at = sym end ∙ ap (string_from leaves values) (sym same) ∙ so_far in
       record {
         inside = omega arith;
-        bit_is = ap (λ l. cond (get_or l 0 false) 1 0) string;
+        bit_is = ap (λ l. get_or l 0 false) string;
         rest = end ∙ ap (drop 1) string;
       }

@@ -2,7 +2,8 @@
 -- over does. Rests on the keys' laws of zeros.
 use Prim.Native.Nat.{ℕ, zero, suc, ◌+◌, ◌/◌, ◌^◌, ◌≤◌, ◌<◌}
 use mathlib.Core.Path.{◌≡◌, refl, sym, ap, ◌∙◌}
-use mathlib.Core.Bool.{Bool, true, false}
+use Rattle.std.specs.Prelude.{Option, Some, None}
+use mathlib.Core.Bool.{Bool, true, false, cond}
 use mathlib.Core.Logic.{◌⊎◌, inl, inr}
 use mathlib.Core.List.{List, [], ◌∷◌}
 use native.Mathlib.Nat.{pow-suc, one-le-pow}
@@ -107,54 +108,65 @@ module _ (m x : ℕ) (inside : x < 5 ^ m) where
 pub record GoesOn (m x : ℕ) (nodes leaves : List Bool) (p : AfterBlock) : Type 0 where
   pub beyond : x < p.key
   pub near : p.key ≤ x + 5 ^ m
-  pub one : p.leaf ≤ 1
-  pub read : is_whole (reading m x nodes leaves) ≡ is_whole (reading m p.key (drop 1 nodes) (drop p.leaf leaves))
-  pub records : length (records_from m x nodes leaves) ≡ 1 + length (records_from m p.key (drop 1 nodes) (drop p.leaf leaves))
+  pub read : is_whole (reading m x nodes leaves) ≡ is_whole (reading m p.key (drop 1 nodes) (drop (cond p.leaf 1 0) leaves))
+  pub records : length (records_from m x nodes leaves) ≡ 1 + length (records_from m p.key (drop 1 nodes) (drop (cond p.leaf 1 0) leaves))
 
 -- the block was not passed, and the pair is refused
-pub record Stuck (m x : ℕ) (nodes leaves : List Bool) (p : AfterBlock) : Type 0 where
-  pub zero_key : p.key ≡ 0
+pub record Stuck (m x : ℕ) (nodes leaves : List Bool) (p : Option AfterBlock) : Type 0 where
+  pub nowhere : p ≡ None
   pub refused : is_whole (reading m x nodes leaves) ≡ false
+
+-- or it was, and the rest decides
+pub record Passed (m x : ℕ) (nodes leaves : List Bool) (p : Option AfterBlock) : Type 0 where
+  pub block : AfterBlock
+  pub somewhere : p ≡ Some block
+  pub on : GoesOn m x nodes leaves block
 
 more : {a b : List Record} {e : Record} → a ≡ e ∷ b → length a ≡ 1 + length b
 more e = let h = ap length e in omega arith
 
 pub step : (m x : ℕ) (nodes leaves : List Bool) → x < 5 ^ m
-    → Stuck m x nodes leaves (passed m x nodes leaves) ⊎ GoesOn m x nodes leaves (passed m x nodes leaves)
+    → Stuck m x nodes leaves (passed m x nodes leaves) ⊎ Passed m x nodes leaves (passed m x nodes leaves)
 unfolding passed is_whole
-step m x [] leaves h = inl (record { zero_key = refl; refused = ap is_whole (reading_none m x h leaves) })
-step m x (true ∷ nodes) [] h = inl (record { zero_key = refl; refused = ap is_whole (reading_no_leaf m x h nodes) })
+step m x [] leaves h = inl (record { nowhere = refl; refused = ap is_whole (reading_none m x h leaves) })
+step m x (true ∷ nodes) [] h = inl (record { nowhere = refl; refused = ap is_whole (reading_no_leaf m x h nodes) })
 step m x (true ∷ nodes) (f ∷ leaves) h = inr (record {
-  beyond = leaf_beyond m x;
-  near = after_near m x true;
-  one = omega arith;
-  read = ap is_whole (reading_leaf m x h nodes f leaves);
-  records = more (records_leaf m x h nodes (f ∷ leaves));
+  block = record { key = key_after m x true; leaf = true };
+  somewhere = refl;
+  on = record {
+    beyond = leaf_beyond m x;
+    near = after_near m x true;
+    read = ap is_whole (reading_leaf m x h nodes f leaves);
+    records = more (records_leaf m x h nodes (f ∷ leaves));
+  };
 })
 step m x (false ∷ nodes) leaves h =
     equal (zeros_at_end m x) 0
     (λ e. inl (record {
-      zero_key = rw (eq-eqb (zeros_at_end m x) 0 e) refl;
+      nowhere = rw (eq-eqb (zeros_at_end m x) 0 e) refl;
       refused = ap is_whole (reading_deep m x h nodes leaves e);
     }))
     (λ e. decide (four_equal nodes leaves)
     (λ f. inl (record {
-      zero_key = rw (ne_eqb (zeros_at_end m x) 0 e, f) refl;
+      nowhere = rw (ne_eqb (zeros_at_end m x) 0 e, f) refl;
       refused = ap is_whole (reading_equal m x h nodes leaves e f);
     }))
-    (λ f. inr (rw (ne_eqb (zeros_at_end m x) 0 e, f) (record {
-      beyond = inner_beyond m x e;
-      near = after_near m x false;
-      one = omega arith;
-      read = ap is_whole (reading_inner m x h nodes leaves e f);
-      records = more (records_inner m x h nodes leaves);
-    }))))
+    (λ f. inr (record {
+      block = record { key = key_after m x false; leaf = false };
+      somewhere = rw (ne_eqb (zeros_at_end m x) 0 e, f) refl;
+      on = record {
+        beyond = inner_beyond m x e;
+        near = after_near m x false;
+        read = ap is_whole (reading_inner m x h nodes leaves e f);
+        records = more (records_inner m x h nodes leaves);
+      };
+    })))
 
 -- ---- the next key, as the code adds it
 
-module _ (m x step leaf : ℕ) (is : step ≡ 5 ^ zeros_at_end m x) where
-  pub key_leaf : leaf ≡ 1 → x + step ≡ key_after m x (eqb leaf 1)
-  key_leaf e = ap (λ k. x + k) is ∙ sym (ap (key_after m x) (eq-eqb leaf 1 e) ∙ after_leaf m x)
+module _ (m x step : ℕ) (leaf : Bool) (is : step ≡ 5 ^ zeros_at_end m x) where
+  pub key_leaf : leaf ≡ true → x + step ≡ key_after m x leaf
+  key_leaf e = ap (λ k. x + k) is ∙ sym (ap (key_after m x) e ∙ after_leaf m x)
 
-  pub key_inner : (leaf ≡ 1 → ⊥) → x + step / 5 ≡ key_after m x (eqb leaf 1)
-  key_inner e = ap (λ k. x + k / 5) is ∙ sym (ap (key_after m x) (ne_eqb leaf 1 e) ∙ after_inner m x)
+  pub key_inner : leaf ≡ false → x + step / 5 ≡ key_after m x leaf
+  key_inner e = ap (λ k. x + k / 5) is ∙ sym (ap (key_after m x) e ∙ after_inner m x)

@@ -2,6 +2,7 @@
 -- and Passing.
 use Prim.Native.Nat.{ℕ, ◌≤◌}
 use mathlib.Core.Path.{◌≡◌, refl, sym, ap, ◌∙◌}
+use Rattle.std.specs.Prelude.{Option, Some, None}
 use mathlib.Core.Bool.{true, false, cond, not, ◌||◌, true≢false}
 use mathlib.Core.Logic.{⊎_elim}
 use mathlib.Core.List.{List}
@@ -29,29 +30,28 @@ unfolding is_pair records_of_pair
 pair_some m nodes leaves e =
     ⊎_elim
     (λ s. absurd (true≢false (sym e ∙ s.refused)))
-    (λ g. let r = g.records in omega arith)
+    (λ g. let r = g.on.records in omega arith)
     (step m 0 (bits_in nodes) (bits_in leaves) (one-le-pow m 5 (omega arith)))
 
-module _ (m : ℕ) (nodes leaves : List ℕ) (n : ℕ) (is : n ≡ pair_length m nodes leaves) where
+module _ (m : ℕ) (nodes leaves : List ℕ) where
   -- none is counted where there is no pair
-  pub no_pair : n ≡ 0 → is_pair m nodes leaves ≡ false
+  pub no_pair : None ≡ pair_length m nodes leaves → is_pair m nodes leaves ≡ false
   unfolding pair_length
-  no_pair z =
+  no_pair is =
       decide (is_pair m nodes leaves)
-      (λ e. let h = pair_some m nodes leaves e in
-      let k = ap (λ b. cond b (length (records_of_pair m nodes leaves)) 0) e in
-      absurd (omega arith))
+      (λ e. absurd (let h = is ∙ ap (λ b. cond b (Some (length (records_of_pair m nodes leaves))) None) e in cc))
       (λ e. e)
 
-  module _ (some : n ≡ 0 → ⊥) where
+  module _ (n : ℕ) (is : Some n ≡ pair_length m nodes leaves) where
     pub a_pair : is_pair m nodes leaves ≡ true
     unfolding pair_length
     a_pair =
-        decide (is_pair m nodes leaves) (λ e. e) (λ e. absurd (some (is ∙ ap (λ b. cond b (length (records_of_pair m nodes leaves)) 0) e)))
+        decide (is_pair m nodes leaves) (λ e. e)
+        (λ e. absurd (let h = is ∙ ap (λ b. cond b (Some (length (records_of_pair m nodes leaves))) None) e in cc))
 
     pub many : n ≡ length (records_of_pair m nodes leaves)
     unfolding pair_length
-    many = is ∙ ap (λ b. cond b (length (records_of_pair m nodes leaves)) 0) a_pair
+    many = let h = is ∙ ap (λ b. cond b (Some (length (records_of_pair m nodes leaves))) None) a_pair in cc
 
 module _ (m s : ℕ) (nodes leaves keys bits : List ℕ) where
   -- what reading promises of its result and of the two slices
@@ -85,21 +85,21 @@ module _ (m s : ℕ) (nodes leaves keys bits : List ℕ) where
     unfolding read_strings_refusal
     not_two e = by_number 23 (holds_first (later good (this (ap (λ b. not b || not (is_pair m nodes leaves)) (ne_eqb s 2 e)) refl)))
 
-    module _ (two : s ≡ 2) (n : ℕ) (is : n ≡ pair_length m nodes leaves) where
+    module _ (two : s ≡ 2) where
       by_pair : not (eqb s 2) || not (is_pair m nodes leaves) ≡ not (is_pair m nodes leaves)
       by_pair = ap (λ b. not b || not (is_pair m nodes leaves)) (eq-eqb s 2 two)
 
       -- 23, the pair
-      pub refused_pair : n ≡ 0 → ReadAs (record { refusal = 23; count = 0 }) keys bits
+      pub refused_pair : None ≡ pair_length m nodes leaves → ReadAs (record { refusal = 23; count = 0 }) keys bits
       unfolding read_strings_refusal
-      refused_pair z = by_number 23 (holds_first (later good (this (by_pair ∙ ap not (no_pair m nodes leaves n is z)) refl)))
+      refused_pair is = by_number 23 (holds_first (later good (this (by_pair ∙ ap not (no_pair m nodes leaves is)) refl)))
 
-      module _ (some : n ≡ 0 → ⊥) where
+      module _ (n : ℕ) (is : Some n ≡ pair_length m nodes leaves) where
         accepted_pair : not (eqb s 2) || not (is_pair m nodes leaves) ≡ false
-        accepted_pair = by_pair ∙ ap not (a_pair m nodes leaves n is some)
+        accepted_pair = by_pair ∙ ap not (a_pair m nodes leaves n is)
 
         by_count : ltb (room keys bits) (length (records_of_pair m nodes leaves)) ≡ ltb (room keys bits) n
-        by_count = ap (ltb (room keys bits)) (sym (many m nodes leaves n is some))
+        by_count = ap (ltb (room keys bits)) (sym (many m nodes leaves n is))
 
         -- 9
         pub no_room : ltb (room keys bits) n ≡ true → ReadAs (record { refusal = 9; count = 0 }) keys bits
@@ -110,7 +110,7 @@ module _ (m s : ℕ) (nodes leaves keys bits : List ℕ) where
           pub fitting : Fits m nodes leaves n keys bits
           fitting = record {
             deep = (good_settings m s good).deep;
-            many = many m nodes leaves n is some;
+            many = many m nodes leaves n is;
             roomy = ltb-false (room keys bits) n room-is;
           }
 
@@ -120,4 +120,4 @@ module _ (m s : ℕ) (nodes leaves keys bits : List ℕ) where
           unfolding read_strings_refusal
           all_read keys' bits' e f =
               let told = by_number 0 (none_first _ (good, (accepted_pair, (by_count ∙ room-is, tt)))) in
-              ((λ i. record { refusal = 0; count = many m nodes leaves n is some i }) ∙ told.0, (e ∙ told.1.0, f ∙ told.1.1))
+              ((λ i. record { refusal = 0; count = many m nodes leaves n is i }) ∙ told.0, (e ∙ told.1.0, f ∙ told.1.1))

@@ -18,7 +18,7 @@ string_of leaves (v ∷ values) = cond (eqb (bit_of leaves v) 2) (string_of leav
 -- the first bit of the string from a place on, and the place where the string without it goes on
 pub record Picked (leaves : Bool) (values : List ℕ) (at : ℕ) (r : Bit) : Type 0 where
   pub inside : r.after ≤ length values
-  pub bit_is : r.bit ≡ cond (get_or (string_of leaves (drop at values)) 0 false) 1 0
+  pub bit_is : r.bit ≡ get_or (string_of leaves (drop at values)) 0 false
   pub rest : string_of leaves (drop r.after values) ≡ drop 1 (string_of leaves (drop at values))
 
 -- the first eight bits, and the place where the string without them goes on

@@ -5,8 +5,8 @@ ghost use Rattle.bit_strings.specs.Steps.{pair_length};
 use crate::{bits, next};
 use keys::power;
 
-// The number of records that a pair has, and 0 where it is no pair.
-pub fn count_records(m: u32, nodes: &[u8], leaves: &[u8]) -> usize
+// The number of records that a pair has, where it is one.
+pub fn count_records(m: u32, nodes: &[u8], leaves: &[u8]) -> Option<usize>
     requires { m ≤ 10 }
     ensures { result ≡ pair_length m nodes.now leaves.now }
 {
@@ -15,19 +15,16 @@ pub fn count_records(m: u32, nodes: &[u8], leaves: &[u8]) -> usize
     let mut i: usize = 0;
     let mut j: usize = 0;
     while key < end {
-        let passed = next::pass(m, key, nodes, leaves, i, j);
-        if passed.key == 0 {
-            return 0;
-        }
+        let passed = next::pass(m, key, nodes, leaves, i, j)?;
         key = passed.key;
-        j += passed.leaf as usize;
+        j += usize::from(passed.leaf);
         i += 1;
     }
     if !bits::only_spare(nodes, i) {
-        return 0;
+        return None;
     }
     if !bits::only_spare(leaves, j) {
-        return 0;
+        return None;
     }
-    i
+    Some(i)
 }

@@ -2,28 +2,29 @@
 ghost use Rattle.std.specs.Prelude.{◌≡◌, ◌≤◌, length};
 ghost use Rattle.definitions.specs.Buffer.{over};
 ghost use Rattle.definitions.specs.BitStrings.{packed_in};
+ghost use Rattle.bit_strings.specs.Steps.{bit_told};
 ghost use Rattle.bit_strings.specs.Strings.{bit_of, string_of, Picked, ByteFilled};
 
-// The bit that a record has in the string of leaves or in that of nodes, and 2 where it has none.
-pub fn bit_of(value: u32, leaves: bool) -> u32
-    ensures { result ≡ bit_of leaves value }
+// The bit that a record has in the string of leaves or in that of nodes, where it has one.
+pub fn bit_of(value: u32, leaves: bool) -> Option<bool>
+    ensures { bit_told result ≡ bit_of leaves value }
 {
     let inner = value % 4 == 3;
     if !leaves {
         if inner {
-            return 0;
+            return Some(false);
         }
-        return 1;
+        return Some(true);
     }
     if inner {
-        return 2;
+        return None;
     }
-    value / 2 % 2
+    Some(value / 2 % 2 == 1)
 }
 
 #[derive(Clone, Copy)]
 pub struct Bit {
-    pub bit: u32,
+    pub bit: bool,
     pub after: usize,
 }
 
@@ -32,17 +33,15 @@ pub fn next_bit(values: &[u32], at: usize, leaves: bool) -> Bit
     requires { at ≤ length values.now }
     ensures { Picked leaves values.now at result }
 {
-    let mut place = at;
-    while place < values.len() {
-        let bit = bit_of(values[place], leaves);
-        place += 1;
-        if bit != 2 {
-            return Bit { bit, after: place };
+    for place in at..values.len() {
+        if let Some(bit) = bit_of(values[place], leaves) {
+            let after = place + 1;
+            return Bit { bit, after };
         }
     }
     Bit {
-        bit: 0,
-        after: place,
+        bit: false,
+        after: values.len(),
     }
 }
 
@@ -59,12 +58,10 @@ pub fn next_byte(values: &[u32], at: usize, leaves: bool) -> Byte
 {
     let mut byte: u32 = 0;
     let mut place = at;
-    let mut count: u32 = 0;
-    while count < 8 {
+    for count in 0..8u32 {
         let next = next_bit(values, place, leaves);
-        byte = byte * 2 + next.bit;
+        byte = byte * 2 + u32::from(next.bit);
         place = next.after;
-        count += 1;
     }
     Byte {
         byte: byte as u8,
@@ -78,11 +75,9 @@ pub fn pack(values: &[u32], leaves: bool, count: usize, out: &mut [u8])
     ensures { out.new ≡ over (packed_in count (string_of leaves values.now)) out.old }
 {
     let mut place: usize = 0;
-    let mut k: usize = 0;
-    while k < count {
+    for k in 0..count {
         let next = next_byte(values, place, leaves);
         out[k] = next.byte;
         place = next.after;
-        k += 1;
     }
 }

@@ -1,40 +1,38 @@
 // Write bit strings: a list of two features becomes its pair of bit strings. Refusals 1, 23, 4, 12.
-ghost use Rattle.std.specs.Prelude.{◌≡◌, ◌||◌, ltb};
+ghost use Rattle.std.specs.Prelude.{◌≡◌, IfOk};
 ghost use Rattle.definitions.specs.Calls.WriteBitStrings.{write_strings, written_nodes, written_leaves};
+ghost use Rattle.definitions.specs.Refused.{refusal_told};
 ghost use Rattle.bit_strings.specs.Strings.{early_refusal};
+ghost use Rattle.list.specs.Taken.{Taken};
 
 use crate::pack;
 use definitions::Strings;
 use definitions::refusal::Refusal;
-use list::{check, settings};
+use list::accepted_list::Accepted;
+use list::settings;
 
-// The first of the refusals 1, 23 and 4 that applies, or 0.
-fn early_refusal(m: u32, s: u32, keys: &[u32], bits: &[u32], n: usize) -> u64
-    ensures { result ≡ early_refusal m s keys.now bits.now n }
+// The list of two features that is asked for: refusals 1, 23 and 4.
+fn asked<'a>(
+    m: u32,
+    s: u32,
+    keys: &'a [u32],
+    bits: &'a [u32],
+    n: usize,
+) -> Result<Accepted<'a>, Refusal>
+    ensures told { refusal_told result ≡ early_refusal m s keys.now bits.now n }
+    ensures list { IfOk result (Taken m keys.now bits.now n) }
 {
     if settings::are_bad(m, s) {
-        return Refusal::SETTINGS;
+        return Err(Refusal::Settings);
     }
     if s != 2 {
-        return Refusal::BIT_STRINGS;
+        return Err(Refusal::BitStrings);
     }
-    if !check::is_list(m, s, keys, bits, n) {
-        return Refusal::LIST;
-    }
-    0
+    list::accept(m, s, keys, bits, n)
 }
 
-// One of two slices is too short.
-fn is_short(first: usize, least: usize, second: usize, fewest: usize) -> bool
-    ensures { result ≡ (ltb first least || ltb second fewest) }
-{
-    if first < least {
-        return true;
-    }
-    second < fewest
-}
-
-// Of n nodes a quarter, rounded down, are inner: the others are leaves. Nothing is written before all is accepted.
+// Of n nodes a quarter, rounded down, are inner: the others are leaves. Nothing is written before all is accepted. C is told two numbers, whether they were
+// written or are needed.
 pub fn write_bit_strings(
     m: u32,
     s: u32,
@@ -48,25 +46,27 @@ pub fn write_bit_strings(
     ensures nodes_after { nodes.new ≡ written_nodes m s keys.now bits.now n nodes.old leaves.old }
     ensures leaves_after { leaves.new ≡ written_leaves m s keys.now bits.now n nodes.old leaves.old }
 {
-    let found = early_refusal(m, s, keys, bits, n);
-    if found != 0 {
-        return Strings {
-            refusal: found,
-            node_bytes: 0,
-            leaf_bytes: 0,
-        };
-    }
+    let list = match asked(m, s, keys, bits, n) {
+        Ok(list) => list,
+        Err(refusal) => {
+            return Strings {
+                refusal: refusal.into(),
+                node_bytes: 0,
+                leaf_bytes: 0,
+            };
+        }
+    };
     let node_bytes = (n + 7) / 8;
     let leaf_bytes = (n - n / 4 + 7) / 8;
-    if is_short(nodes.len(), node_bytes, leaves.len(), leaf_bytes) {
+    if (nodes.len() < node_bytes) | (leaves.len() < leaf_bytes) {
         return Strings {
-            refusal: Refusal::ANSWER_ROOM,
+            refusal: Refusal::AnswerRoom(node_bytes as u64).into(),
             node_bytes: node_bytes as u64,
             leaf_bytes: leaf_bytes as u64,
         };
     }
-    pack::pack(&bits[..n], false, node_bytes, nodes);
-    pack::pack(&bits[..n], true, leaf_bytes, leaves);
+    pack::pack(list.bits, false, node_bytes, nodes);
+    pack::pack(list.bits, true, leaf_bytes, leaves);
     Strings {
         refusal: 0,
         node_bytes: node_bytes as u64,

@@ -5,20 +5,18 @@ use mathlib.Core.Path.{◌≡◌, sym, ◌∙◌, ap}
 use mathlib.Core.Bool.{true, false, cond}
 use Rattle.std.specs.Prelude.{Option, Some, None}
 use mathlib.Core.List.{List}
-use native.Mathlib.Omega.{arith}
 use lib.ListN.{length, take}
 use lib.Dec.{leb}
 use borrow.Author.Tests.{le-leb, lt-leb, leb-true, lt-ltb, le-ltb}
 use Rattle.keys.proofs.Cases.{decide, and_left, and_right}
 use Rattle.definitions.specs.List.{keys_of, values_of}
 use Rattle.definitions.specs.Read.{room}
-use Rattle.definitions.specs.Leaves.{are_leaves, is_delivery, picture_delivered}
+use Rattle.definitions.specs.Leaves.{are_leaves, is_delivery}
 use Rattle.definitions.specs.Buffer.{over}
 use Rattle.definitions.specs.Refusal.{first, bad_settings}
 use Rattle.definitions.specs.Calls.ReadLeaves.{list_delivered, read_leaves_refusal, read_leaves, read_leaves_keys, read_leaves_bits}
 use Rattle.definitions.specs.declared.Counted.{Counted}
 use Rattle.laws.proofs.First.{accepted_done, accepted_left}
-use Rattle.laws.proofs.ListOf.{list_some}
 
 -- an answer by its two numbers
 pub leaves_counted : {r r' n n' : ℕ} → r ≡ r' → n ≡ n' → ◌≡◌ {A = Counted} (record { refusal = r; count = n }) (record { refusal = r'; count = n' })

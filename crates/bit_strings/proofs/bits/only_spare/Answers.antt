@@ -1,4 +1,4 @@
--- `bits::only_spare` meets its contract: none left, a byte too many, or the rest of the last byte.
+-- `bits::only_spare`: none left, a byte too many, or the rest of the last byte.
 use Rattle.bit_strings.proofs.Bytes.{power_positive, none_there, spare_none, spare_byte, spare_more, spare_last}
 use lib.ListN.{get_or}
 use lib.Dec.{eqb}
@@ -23,9 +23,6 @@ returns-then-k-bytes c = let s = c.args in sym (spare_more s.bytes.now s.at (ome
 pub bounds-bytes-k : goal.bounds-bytes-k
 bounds-bytes-k c = search rules
 
-pub overflow_cast-byte : goal.overflow_cast-byte
-overflow_cast-byte c = omega (arith, c.shared_slice_known-2-1.given (c.args.at / 8))
-
 pub overflow_sub-at : goal.overflow_sub-at
 overflow_sub-at c = search rules
 
@@ -41,5 +38,5 @@ nonzero_rem-result c = omega (arith, power_positive _ _ c.power_of_two.ensures)
 pub returns : goal.returns
 returns c =
     let s = c.args in
-    ap (λ p. eqb (◌%◌ (get_or s.bytes.now (s.at / 8) 0) p) 0) c.power_of_two.ensures
-    ∙ spare_last s.bytes.now s.at (omega arith) (omega arith) c.if-at-eq0.false
+    rw c.from-byte.ensures (ap (λ p. eqb (◌%◌ (get_or s.bytes.now (s.at / 8) 0) p) 0) c.power_of_two.ensures
+    ∙ spare_last s.bytes.now s.at (omega arith) (omega arith) c.if-at-eq0.false)

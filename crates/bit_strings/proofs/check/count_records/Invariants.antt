@@ -1,4 +1,4 @@
--- `check::count_records` meets its contract: what is left decides as the whole does, and past the last block what is left over.
+-- `check::count_records`: what is left decides as the whole does, and past the last block what is left over.
 use Rattle.bit_strings.proofs.Counting.{CountedPair}
 use Prim.Native.Nat.{◌-◌}
 use Rattle.bit_strings.proofs.check.count_records.Given as goal

@@ -1,12 +1,6 @@
--- `pack::next_byte` meets its contract: the bits so far and those to come make the byte.
+-- `pack::next_byte`: the bits so far and those to come make the byte.
 use Rattle.bit_strings.proofs.Bitwise.{Making}
-use Prim.Native.Nat.{◌-◌}
 use Rattle.bit_strings.proofs.pack.next_byte.Given as goal
 
 abbrev pub invariant-loop-count : goal.invariant-loop-count
-invariant-loop-count l =
-    Making l.leaves l.values l.at l.byte l.place l.count
-
-abbrev pub decreases-loop-count : goal.decreases-loop-count
-decreases-loop-count l =
-    8 - l.count
+invariant-loop-count l = Making l.leaves l.values l.at l.byte l.place l.count

@@ -18,9 +18,6 @@ returns-then-are_bad c =
     let r = read_refused c.args.m c.args.s c.args.leaf_keys.now c.args.leaf_features.now c.args.leaves c.args.keys.now c.args.bits.now 1 (read_one _ _ _ _ _ _ _ (sym c.are_bad.ensures ∙ c.if-are_bad.true)) (λ z. omega arith) in
     record { value = r.0; keys_after = r.1.0; bits_after = r.1.1 }
 
-pub delivered-requires : goal.delivered-requires
-delivered-requires c = sym c.are_bad.ensures ∙ c.if-are_bad.false
-
 pub returns-in_default : goal.returns-in_default
 returns-in_default c =
     let r = read_refused c.args.m c.args.s c.args.leaf_keys.now c.args.leaf_features.now c.args.leaves c.args.keys.now c.args.bits.now 19

@@ -1,5 +1,5 @@
 -- `calls::write_leaves`: the refusals in their order, and then the leaves of the list. Rests on WriteAnswer and list's Taken and FirstRefusal.
-use Rattle.std.proofs.Common.{◌≡◌, length, refl, sym, ◌∙◌, ap, arith}
+use Rattle.std.proofs.Common.{length, refl, ◌∙◌, ap, arith}
 use Rattle.std.proofs.lemmas.Result.{err_from_is_err_and}
 use Rattle.definitions.specs.List.{keys_of, values_of}
 use Rattle.definitions.specs.Leaves.{leaves_of}

@@ -2,15 +2,14 @@
 -- falls at each call.
 use Prim.Native.Nat.{ℕ, ◌+◌, ◌^◌, ◌≤◌, ◌<◌}
 use mathlib.Core.List.{List}
-use mathlib.Core.Path.{◌≡◌, sym}
+use mathlib.Core.Path.{◌≡◌}
 use native.Mathlib.Omega.{arith}
-use borrow.Author.Rules.{rules}
 use Rattle.keys.specs.Span.{child_span}
 use Rattle.keys.specs.declared.span.KeySpan.{KeySpan}
 use Rattle.keys.proofs.SpanChild.{child_fewer}
 use Rattle.leaves.specs.Delivered.{LeavesAsked}
-use Rattle.leaves.proofs.Quarters.{quad_keys, asked_at, asked_child}
-use Rattle.leaves.proofs.PassBlock.{passed_none, passed_leaf, passed_other, passed_four, passed_at, passed_small}
+use Rattle.leaves.proofs.Quarters.{asked_child}
+use Rattle.leaves.proofs.PassBlock.{passed_none, passed_leaf, passed_other, passed_four, passed_small}
 use Rattle.leaves.proofs.count.+pass_block.Goals as goal
 
 -- past the tests the block has quadrants: what the call for the quadrant of a digit asks
@@ -24,58 +23,24 @@ module _ {keys features : List ℕ} {span : KeySpan} (a : LeavesAsked keys featu
       let f = child_fewer span a.height d e a.step_is in
       (omega arith, asked_child a high d low e)
 
-pub pass_quad-requires : goal.pass_quad-requires
-pass_quad-requires t c = asked_at (quad_keys _ c.if-span-eq5.true) c.requires
-
-pub returns-then-span-eq5 : goal.returns-then-span-eq5
-returns-then-span-eq5 t c = passed_at (sym (quad_keys _ c.if-span-eq5.true)) c.pass_quad.ensures
-
-pub wrong-requires : goal.wrong-requires
-wrong-requires t c = search rules
-
 pub returns-then-keys-at : goal.returns-then-keys-at
 returns-then-keys-at t c = rw c.wrong.ensures (passed_none _ _ _ _ c.if-keys-at.true)
 
-pub offset_bounds-keys-at : goal.offset_bounds-keys-at
-offset_bounds-keys-at t c = search rules
-
-pub bounds-keys-at : goal.bounds-keys-at
-bounds-keys-at t c = search rules
-
-pub pass_leaf-requires : goal.pass_leaf-requires
-pass_leaf-requires t c =
-    (omega (arith, c.requires.same, c.if-keys-at.false), c.requires.few c.args.at)
-
 pub returns-then-keys-at-2 : goal.returns-then-keys-at-2
 returns-then-keys-at-2 t c = rw c.pass_leaf.ensures (passed_leaf _ _ _ _ c.if-keys-at.false c.if-keys-at-2.true)
-
-pub wrong-requires-then-span-eq1 : goal.wrong-requires-then-span-eq1
-wrong-requires-then-span-eq1 t c = search rules
 
 pub returns-then-span-eq1 : goal.returns-then-span-eq1
 returns-then-span-eq1 t c =
     rw c.wrong-then-span-eq1.ensures (passed_other _ _ _ _ c.if-keys-at.false c.if-keys-at-2.false c.if-span-eq1.true)
 
-pub child-requires : goal.child-requires
-child-requires t c = divides c.requires 1 (omega arith)
-
 pub pass_block-nw-requires : goal.pass_block-nw-requires
 pass_block-nw-requires t c = quadrant c.requires c.if-span-eq1.false t c.decreases 1 (omega arith) c.child.ensures
-
-pub child-requires-2 : goal.child-requires-2
-child-requires-2 t c = divides c.requires 2 (omega arith)
 
 pub pass_block-ne-requires : goal.pass_block-ne-requires
 pass_block-ne-requires t c = quadrant c.requires c.if-span-eq1.false t c.decreases 2 (omega arith) c.child-2.ensures
 
-pub child-requires-3 : goal.child-requires-3
-child-requires-3 t c = divides c.requires 3 (omega arith)
-
 pub pass_block-sw-requires : goal.pass_block-sw-requires
 pass_block-sw-requires t c = quadrant c.requires c.if-span-eq1.false t c.decreases 3 (omega arith) c.child-3.ensures
-
-pub child-requires-4 : goal.child-requires-4
-child-requires-4 t c = divides c.requires 4 (omega arith)
 
 pub pass_block-se-requires : goal.pass_block-se-requires
 pass_block-se-requires t c = quadrant c.requires c.if-span-eq1.false t c.decreases 4 (omega arith) c.child-4.ensures

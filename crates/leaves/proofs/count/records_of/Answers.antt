@@ -3,7 +3,6 @@ use mathlib.Core.Path.{refl, sym, ◌∙◌, ap}
 use Rattle.std.proofs.Common.{Some, None}
 use mathlib.Core.Bool.{cond}
 use lib.ListN.{length}
-use borrow.Author.Rules.{rules}
 use Rattle.definitions.specs.List.{list_of_picture}
 use Rattle.definitions.specs.Read.{paired}
 use Rattle.definitions.specs.Leaves.{picture_of_leaves}

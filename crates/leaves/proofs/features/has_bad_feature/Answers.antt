@@ -8,8 +8,8 @@ pub loop-feature-preserved : goal.loop-feature-preserved
 loop-feature-preserved c =
     let seen = c.loop-feature.invariant in
     elim c.if-s-feature.branch [
-      then-s-feature w ↦ rw w.bad-is (scan_bad seen (omega arith) (omega arith))
-    | else-s-feature w ↦ rw w.bad-is (scan_good seen (omega arith) (omega arith))
+      | then-s-feature w ↦ rw w.bad-is (scan_bad seen (omega arith) (omega arith))
+      | else-s-feature w ↦ rw w.bad-is (scan_good seen (omega arith) (omega arith))
     ]
 
 pub returns : goal.returns

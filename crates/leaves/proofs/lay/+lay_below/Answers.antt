@@ -2,14 +2,14 @@
 -- falls at each call.
 use Prim.Native.Nat.{ℕ, ◌+◌, ◌^◌, ◌≤◌, ◌<◌}
 use mathlib.Core.List.{List}
-use mathlib.Core.Path.{◌≡◌, sym}
+use mathlib.Core.Path.{◌≡◌}
 use native.Mathlib.Omega.{arith}
 use Rattle.keys.specs.Span.{child_span}
 use Rattle.keys.specs.declared.span.KeySpan.{KeySpan}
 use Rattle.keys.proofs.SpanChild.{child_fewer}
 use Rattle.leaves.specs.Delivered.{LayAsked}
-use Rattle.leaves.proofs.Quarters.{quad_keys, parted_there}
-use Rattle.leaves.proofs.LayBlock.{laid_leaf, ready_place, ready_nw, ready_ne, ready_sw, ready_se, ready_four, laid_four, ready_at, laid_at}
+use Rattle.leaves.proofs.Quarters.{parted_there}
+use Rattle.leaves.proofs.LayBlock.{laid_leaf, ready_nw, ready_ne, ready_sw, ready_se, ready_four, laid_four}
 use Rattle.leaves.proofs.lay.+lay_below.Goals as goal
 
 -- past the test the block has quadrants: what a call for one of them asks
@@ -20,48 +20,19 @@ module _ {leafKeys leafFeatures : List ℕ} {span : KeySpan} {at place : ℕ} {k
   lower : (t : ℕ) → span.step ≡ t → (d : ℕ) {q : KeySpan} → q ≡ child_span span d → q.step < t
   lower t m d e = let f = child_fewer span a.asked.height d e a.asked.step_is in omega arith
 
-pub lay_quad-requires : goal.lay_quad-requires
-lay_quad-requires t c = ready_at (quad_keys _ c.if-span-eq5.true) c.requires
-
-pub returns-then-span-eq5 : goal.returns-then-span-eq5
-returns-then-span-eq5 t c = laid_at (sym (quad_keys _ c.if-span-eq5.true)) c.lay_quad.ensures
-
-pub offset_bounds-leaf_keys-at : goal.offset_bounds-leaf_keys-at
-offset_bounds-leaf_keys-at t c = let h = parted_there c.requires.parted in omega arith
-
-pub bounds-leaf_keys-at : goal.bounds-leaf_keys-at
-bounds-leaf_keys-at t c = let h = parted_there c.requires.parted in omega arith
-
-pub lay_leaf-requires : goal.lay_leaf-requires
-lay_leaf-requires t c =
-    let h = parted_there c.requires.parted in
-    (omega (arith, c.requires.asked.same), c.requires.asked.few c.args.at, ready_place c.requires)
-
 pub returns-then-leaf_keys-at : goal.returns-then-leaf_keys-at
 returns-then-leaf_keys-at t c =
     rw c.lay_leaf.ensures (laid_leaf (parted_there c.requires.parted) c.if-leaf_keys-at.true)
-
-pub overflow_add-first : goal.overflow_add-first
-overflow_add-first t c = let h = ready_place c.requires in omega arith
-
-pub child-requires : goal.child-requires
-child-requires t c = divides c.requires 1 (omega arith)
 
 pub lay_below-nw-requires : goal.lay_below-nw-requires
 lay_below-nw-requires t c =
     let f = c.child.ensures in
     (lower c.requires t c.decreases 1 f, ready_nw c.requires c.if-leaf_keys-at.false f)
 
-pub child-requires-2 : goal.child-requires-2
-child-requires-2 t c = divides c.requires 2 (omega arith)
-
 pub lay_below-ne-requires : goal.lay_below-ne-requires
 lay_below-ne-requires t c =
     let f = c.child-2.ensures in
     (lower c.requires t c.decreases 2 f, ready_ne c.requires c.if-leaf_keys-at.false c.child.ensures c.lay_below-nw.ensures f)
-
-pub child-requires-3 : goal.child-requires-3
-child-requires-3 t c = divides c.requires 3 (omega arith)
 
 pub lay_below-sw-requires : goal.lay_below-sw-requires
 lay_below-sw-requires t c =
@@ -71,9 +42,6 @@ lay_below-sw-requires t c =
           c.child.ensures c.lay_below-nw.ensures
           c.child-2.ensures c.lay_below-ne.ensures f,
     )
-
-pub child-requires-4 : goal.child-requires-4
-child-requires-4 t c = divides c.requires 4 (omega arith)
 
 pub lay_below-se-requires : goal.lay_below-se-requires
 lay_below-se-requires t c =

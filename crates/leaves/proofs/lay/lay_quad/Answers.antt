@@ -40,23 +40,8 @@ module _ {leafKeys leafFeatures : List ℕ} {key at place : ℕ} {keys bits : Li
         fourth : {x₄ : Lain} → x₄ ≡ leaf_lain leafFeatures x₃.end x₃.below.next → Laid (key + 4) x₃.end x₃.below.next x₄
         fourth e₄ = laid_pixel (ready_se a n refl first refl second refl third refl) e₄
 
-pub offset_bounds-leaf_keys-at : goal.offset_bounds-leaf_keys-at
-offset_bounds-leaf_keys-at c = let h = parted_there c.requires.parted in omega arith
-
-pub bounds-leaf_keys-at : goal.bounds-leaf_keys-at
-bounds-leaf_keys-at c = let h = parted_there c.requires.parted in omega arith
-
-pub lay_leaf-requires : goal.lay_leaf-requires
-lay_leaf-requires c = leaf_there c.requires
-
 pub returns-then-leaf_keys-at : goal.returns-then-leaf_keys-at
 returns-then-leaf_keys-at c = rw c.lay_leaf.ensures (laid_leaf (parted_there c.requires.parted) c.if-leaf_keys-at.true)
-
-pub overflow_add-place : goal.overflow_add-place
-overflow_add-place c = let f = c.requires.fits in omega (arith, f.key_fits, f.place_fits)
-
-pub lay_leaf-nw-requires : goal.lay_leaf-nw-requires
-lay_leaf-nw-requires c = leaf_there (ready_nw c.requires c.if-leaf_keys-at.false refl)
 
 pub lay_leaf-ne-requires : goal.lay_leaf-ne-requires
 lay_leaf-ne-requires c = leaf_there (ready_ne c.requires c.if-leaf_keys-at.false refl (first c.requires c.if-leaf_keys-at.false c.lay_leaf-nw.ensures) refl)
