@@ -1,12 +1,13 @@
 -- One step of the merge in the code's own tests. Rests on Covered and FirstPixel.
-use Prim.Native.Nat.{ℕ, ◌+◌, ◌-◌, ◌/◌, ◌^◌, ◌≤◌, ◌<◌}
+use Prim.Native.Nat.{max, ℕ, ◌+◌, ◌-◌, ◌/◌, ◌^◌, ◌≤◌, ◌<◌}
 use native.Mathlib.Omega.{arith}
-use mathlib.Core.Path.{◌≡◌, sym}
+use mathlib.Core.Path.{◌≡◌, sym, ◌∙◌}
 use mathlib.Core.Bool.{true}
 use borrow.Author.Tests.{le-leb, lt-leb}
 use Rattle.keys.specs.Key.{zeros_at_end, valid_key}
 use Rattle.keys.proofs.Powers.{five_le}
 use Rattle.keys.proofs.Interval.{within}
+use Rattle.keys.proofs.Cases.{split}
 use Rattle.keys.proofs.Valid.{valid_block}
 use Rattle.finding.specs.Covering.{end_of, first_pixel, next_over, further, start_of}
 use Rattle.finding.proofs.FirstPixel.{first_four}
@@ -44,3 +45,10 @@ start_reached m far κ h = rw (le-leb (end_of m κ) far h)
 pub start_short : (m far κ : ℕ) → far < end_of m κ → first_pixel m κ ≡ start_of m far κ
 unfolding start_of
 start_short m far κ h = rw (lt-leb (end_of m κ) far h)
+
+-- the larger end is the furthest
+pub further_max : (a b : ℕ) → max a b ≡ further a b
+further_max a b =
+    split b a
+    (λ less. let e : max a b ≡ a = omega arith in e ∙ further_no a b less)
+    (λ more. let e : max a b ≡ b = omega arith in e ∙ further_yes a b more)

@@ -1,12 +1,12 @@
 -- Settling one block along a slice of waivers: at each place what is left over the rest is what it was at the start. Rests on Covered.
-use Prim.Native.Nat.{ℕ, zero, suc, ◌+◌, ◌≤◌, ◌<◌}
+use Prim.Native.Nat.{ℕ, zero, suc, ◌+◌, ◌-◌, ◌≤◌, ◌<◌}
 use native.Mathlib.Omega.{arith}
 use native.Mathlib.Numerals.{add-one}
 use mathlib.Core.Path.{◌≡◌, sym, ap, ◌∙◌, subst}
 use mathlib.Core.Bool.{true, false}
 use mathlib.Core.List.{List, [], ◌∷◌, ◌++◌}
-use lib.ListN.{length, get_or, take, drop, take-append-drop, drop_of_length-le}
-use lib.Seq.{take-suc, drop-cons}
+use lib.ListN.{length, get_or, take, drop, take-append-drop, drop_of_length-le, length-drop}
+use lib.Seq.{take-suc, drop-cons, take_all, get_or-drop}
 use lib.Dec.{leb}
 use borrow.Author.Tests.{lt-leb}
 use Rattle.keys.specs.Key.{valid_key, height_of}
@@ -50,6 +50,16 @@ passed_widen y p h = record { room = p.room; before = before_later h p.before; f
 -- none is passed at the start
 pub none_passed : (m : ℕ) (waived : List ℕ) (x : ℕ) → WaiversPassed m waived 0 0 x
 none_passed m waived x = record { room = omega arith; before = no_waiver; furthest = sym (furthest_none m 0) }
+
+-- the slice from a place on, by places of the whole
+later_whole : (l : List ℕ) (from : ℕ) → take (length l - from) (drop from l) ≡ drop from l
+later_whole l from = take_all (length l - from) (drop from l) (let size = length-drop from l in omega arith)
+
+pub later_at : (l : List ℕ) (from i : ℕ) → get_or (take (length l - from) (drop from l)) i 0 ≡ get_or l (from + i) 0
+later_at l from i = ap (λ x. get_or x i 0) (later_whole l from) ∙ get_or-drop from l i 0
+
+pub later_length : (l : List ℕ) (from : ℕ) → from ≤ length l → length (take (length l - from) (drop from l)) + from ≡ length l
+later_length l from h = let whole = ap length (later_whole l from) in let size = length-drop from l in omega arith
 
 -- along the slice: the waivers before the place are passed, and what is left over the rest is what it was at the start
 pub record SettlingGoes (m : ℕ) (waived : List ℕ) (first from end place far next : ℕ) : Type 0 where

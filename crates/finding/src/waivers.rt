@@ -37,12 +37,6 @@ fn first_pixel(m: u32, key: u32) -> u32
     key + (zeros::keys_in(m, key) - 1) / 4
 }
 
-fn larger(a: u32, b: u32) -> u32
-    ensures { result ≡ further a b }
-{
-    if a <= b { b } else { a }
-}
-
 // Where a block begins: past its end if an earlier waiver reaches that, and else at its first pixel. The map's resolution is for the contract alone, so that
 // the block's height is not worked out again.
 fn start(m: u32, key: u32, end: u32, furthest: u32) -> u32
@@ -64,7 +58,7 @@ fn cover(m: u32, waiver: u32, at: Covering) -> Covering
     let before = at.furthest;
     let next = at.next;
     let end = end_of(m, waiver);
-    let furthest = larger(before, end);
+    let furthest = before.max(end);
     if next < waiver {
         return Covering { furthest, next };
     }
@@ -88,12 +82,11 @@ fn merge(m: u32, waived: &[u32], key: u32, from: usize, furthest: u32) -> Settle
         next: start(m, key, end, furthest),
     };
     let mut place = from;
-    while place < waived.len() {
-        let waiver = waived[place];
-        if end <= waiver {
+    for waiver in &waived[from..] {
+        if end <= *waiver {
             break;
         }
-        at = cover(m, waiver, at);
+        at = cover(m, *waiver, at);
         place += 1;
     }
     let next = at.next;
@@ -109,10 +102,7 @@ fn merge(m: u32, waived: &[u32], key: u32, from: usize, furthest: u32) -> Settle
 fn are_past(waived: &[u32], key: u32, from: usize, furthest: u32) -> bool
     ensures { result ≡ true → (length waived.now ≤ from) × (furthest ≤ key) }
 {
-    if from < waived.len() {
-        return false;
-    }
-    furthest <= key
+    waived.len() <= from && furthest <= key
 }
 
 // One block: where the waivers are past it nothing is worked out.

@@ -1,13 +1,11 @@
--- `sift_rule` meets its contract: where the walk stands, what was sifted is what select gives below the key. Within a turn it goes down to a block that
--- lies within the window, or apart from it, or lacks the feature; the key rises from turn to turn. Rests on the laws of the way down and of the merge.
-use Prim.Native.Nat.{ℕ, ◌+◌, ◌^◌, ◌≤◌, ◌<◌}
-use mathlib.Core.Path.{◌≡◌, refl, sym, ap, ◌∙◌, subst}
+-- Where the walk stands, what was sifted is what select gives below the key. Within a turn it goes down to a block that lies within the window, or apart
+-- from it, or lacks the feature; the key rises from turn to turn. Rests on the laws of the way down and of the merge.
+use Prim.Native.Nat.{ℕ, ◌+◌, ◌^◌, ◌≤◌}
+use mathlib.Core.Path.{◌≡◌, sym, ap, ◌∙◌, subst}
 use mathlib.Core.Bool.{true, false}
-use mathlib.Core.Logic.{⊎_elim}
 use mathlib.Core.List.{List, ◌++◌}
 use native.Mathlib.Omega.{arith}
 use lib.ListN.{length}
-use borrow.Author.Rules.{rules}
 use Rattle.keys.proofs.Powers.{five_le}
 use Rattle.definitions.specs.Picture.{Picture}
 use Rattle.definitions.specs.Window.{select_in}
@@ -15,27 +13,26 @@ use Rattle.definitions.specs.declared.Window.{Window}
 use Rattle.definitions.specs.Rules.{window_of_rule}
 use Rattle.definitions.specs.Edit.{content_of}
 use Rattle.list.specs.Check.{one_slot}
-use Rattle.list.specs.Own.{shown_by}
 use Rattle.list.specs.Sorted.{Near}
+use Rattle.list.specs.Taken.{picture_listed}
 use Rattle.list.proofs.OneSlot.{power_slot}
-use Rattle.list.proofs.Own.{own_sorted}
 use Rattle.walk.specs.declared.Spot.{Spot}
 use Rattle.walk.specs.Walk.{BlockSpot, Walking, is_within}
 use Rattle.walk.specs.Given.{keys_with, lower}
 use Rattle.walk.proofs.Lies.{small}
-use Rattle.walk.proofs.Steps.{some_keys, cut_parent, follows_at, follows_gone, walking_root, walking_after, rises}
+use Rattle.walk.proofs.Steps.{some_keys, cut_parent, walking_root, walking_after, rises}
 use Rattle.list.proofs.Fuller.{near_root}
 use Rattle.walk.proofs.Asked.{asked_place, near_later, near_place}
 use Rattle.walk.proofs.Shows.{place_no}
 use Rattle.walk.proofs.Below.{lower_apart, lower_lacking, lower_block, below_none, below_all, below_few}
-use Rattle.finding.proofs.Descent.{descent_begins, descent_enters}
+use Rattle.finding.proofs.Descent.{descent_enters}
 use Rattle.finding.specs.declared.Sifting.{Sifting}
 use Rattle.finding.specs.Sift.{SiftReady, Sifted}
 use Rattle.finding.proofs.Settling.{passed_widen}
-use Rattle.finding.proofs.Merge.{counted_ids, counted_keys, still_ready, sifted_none, sifted-append, sifted_as}
+use Rattle.finding.proofs.Merge.{still_ready, sifted_none, sifted-append, sifted_as}
 use Rattle.finding.proofs.sift_rule.Invariants.{Below, Going}
 use Rattle.finding.proofs.sift_rule.Goals as goal
-use Rattle.finding.proofs.sift_rule.Goals.{At-loop-key-2, After-place_from-from, Else-within, Joined-apart, In-At}
+use Rattle.finding.proofs.sift_rule.Goals.{At-loop-from-2, Joined-apart, then-apart, else-apart+then-lacking, else-apart+else-lacking+then-within}
 
 module _ (m : ℕ) (p : Picture) (w : Window) (f limit id : ℕ) (waived : List ℕ) where
   -- nothing is sifted at the root
@@ -91,144 +88,117 @@ module _ (m : ℕ) (p : Picture) (w : Window) (f limit id : ℕ) (waived : List 
         }
 
 -- what was sifted at the head of the inner loop
-so_far : (c : At-loop-key-2)
-    → Below c.args.m (shown_by c.args.m c.args.keys.now c.args.bits.now c.args.n) (window_of_rule c.args.rule) c.args.rule.feature c.args.limit c.args.rule.id c.args.waived.now
-    c.args.at c.loop-key-2.st c.args.found_ids.now c.loop-key-2.found_ids c.args.found_keys.now c.loop-key-2.found_keys c.loop-key-2.spot.key
+so_far : (c : At-loop-from-2)
+    → Below c.args.list.now.m (picture_listed c.args.list.now) (window_of_rule c.args.rule) c.args.rule.feature c.args.limit c.args.rule.id c.args.waived.now
+    c.args.at c.loop-from-2.st c.args.found_ids.now c.loop-from-2.found_ids c.args.found_keys.now c.loop-from-2.found_keys c.loop-from-2.spot.key
 so_far c =
-    let d = c.loop-key-2.invariant in
-    passes _ _ _ _ _ _ _ (named _ _ _ _ _ _ _ _ _ _ d.same_ids d.same_keys d.states c.loop-key.invariant.sifted) _ d.descent.gap d.descent.rise
+    let d = c.loop-from-2.invariant in
+    passes _ _ _ _ _ _ _ (named _ _ _ _ _ _ _ _ _ _ d.same_ids d.same_keys d.states c.loop-from.invariant.sifted) _ d.descent.gap d.descent.rise
 
-in-bits : (c : After-place_from-from) → c.place_from-from.result < length c.args.bits.now
-in-bits c =
-    let o = c.requires.3 in
-    let asked = asked_place o c.loop-key-2.invariant.descent.walking.stands.block _ c.place_from-from.ensures in
-    omega (arith, asked.room, o.fits)
-
-pub power_of_two-bit-requires : goal.power_of_two-bit-requires
-power_of_two-bit-requires c = omega (arith, c.requires.2)
-
-pub start-spot-requires : goal.start-spot-requires
-start-spot-requires c = c.requires.0
-
-pub loop-key-init : goal.loop-key-init
-loop-key-init c =
+pub loop-from-init : goal.loop-from-init
+loop-from-init c =
     record {
       walking = walking_root _ _ _ c.start-spot.ensures.0 c.start-spot.ensures.1;
-      near = near_root c.requires.3 _;
-      sifted = begins _ _ _ _ _ _ _ _ _ _ _ c.start-spot.ensures.1 c.requires.4;
+      near = near_root c.args.list.now.own _;
+      sifted = begins _ _ _ _ _ _ _ _ _ _ _ c.start-spot.ensures.1 c.requires.2;
     }
 
-pub loop-key-2-init : goal.loop-key-2-init
-loop-key-2-init c =
-    let g = c.loop-key.invariant in
-    record { descent = descent_begins _ _ _ g.walking g.near; states = refl; same_ids = refl; same_keys = refl }
-
 pub apart-requires : goal.apart-requires
-apart-requires c = small _ _ _ c.requires.0 c.requires.1 c.loop-key-2.invariant.descent.walking.stands
+apart-requires c = small _ _ _ c.args.list.now.deepest c.requires.0 c.loop-from-2.invariant.descent.walking.stands
 
-pub place_from-from-requires : goal.place_from-from-requires
-place_from-from-requires c = (own_sorted c.requires.3 _, c.loop-key-2.invariant.descent.near)
+pub bounds-list-from : goal.bounds-list-from
+bounds-list-from c =
+    let own = c.args.list.now.own in
+    let asked = asked_place own c.loop-from-2.invariant.descent.walking.stands.block _ c.place_from-from.ensures in
+    omega (arith, asked.room, own.fits)
 
-pub offset_bounds-bits-from : goal.offset_bounds-bits-from
-offset_bounds-bits-from c = omega (arith, in-bits c, c.well_formed.1.1.1.1.1.0.1)
-
-pub bounds-bits-from : goal.bounds-bits-from
-bounds-bits-from c = in-bits (goal.at.bounds-bits-from c).After-place_from-from
+pub offset_bounds-list-from : goal.offset_bounds-list-from
+offset_bounds-list-from c =
+    let own = c.args.list.now.own in
+    let asked = asked_place own c.loop-from-2.invariant.descent.walking.stands.block _ c.place_from-from.ensures in
+    record { fits = omega (arith, asked.room, own.fits) }
 
 pub within-requires : goal.within-requires
-within-requires c = small _ _ _ c.requires.0 c.requires.1 c.loop-key-2.invariant.descent.walking.stands
+within-requires c = small _ _ _ c.args.list.now.deepest c.requires.0 c.loop-from-2.invariant.descent.walking.stands
+
+pub invariant_of-job : goal.invariant_of-job
+invariant_of-job c = record { one_feature = ap one_slot c.power_of_two-bit.ensures ∙ power_slot c.args.rule.feature }
 
 pub sift_block-st-requires : goal.sift_block-st-requires
-sift_block-st-requires c =
-    let pre = c.requires in
-    let slot = ap one_slot c.power_of_two-bit.ensures ∙ power_slot c.args.rule.feature in
-    (pre.0, c.loop-key-2.invariant.descent.walking.stands, pre.3, c.place_from-from.ensures, slot, ready _ _ _ _ _ _ _ (so_far (goal.at.sift_block-st-requires c).At-loop-key-2) pre.4 pre.0)
+sift_block-st-requires c = (
+  c.loop-from-2.invariant.descent.walking.stands,
+  c.place_from-from.ensures,
+  ready _ _ _ _ _ _ _ (so_far (goal.at.sift_block-st-requires c).At-loop-from-2) c.requires.2 c.args.list.now.deepest,
+)
 
 pub first-spot-requires : goal.first-spot-requires
 first-spot-requires c =
-    let k = some_keys c.loop-key-2.invariant.descent.walking.stands in
-    let five = five_le 10 c.requires.0 in
+    let k = some_keys c.loop-from-2.invariant.descent.walking.stands in
+    let five = five_le 10 c.args.list.now.deepest in
     omega arith
 
--- the block that is entered
-cut : (c : Else-within) → is_within c.loop-key-2.spot (window_of_rule c.args.rule) ≡ false
-cut c = sym c.within.ensures ∙ c.if-within.false
-
-pub loop-key-2-smaller : goal.loop-key-2-smaller
-loop-key-2-smaller c =
-    let k = some_keys c.loop-key-2.invariant.descent.walking.stands in
+pub loop-from-2-smaller : goal.loop-from-2-smaller
+loop-from-2-smaller c =
+    let k = some_keys c.loop-from-2.invariant.descent.walking.stands in
     rw c.first-spot.ensures (omega (arith, k.0))
 
-pub loop-key-2-preserved : goal.loop-key-2-preserved
-loop-key-2-preserved c =
-    let d = c.loop-key-2.invariant in
-    let e = cut (goal.at.loop-key-2-preserved c).Else-within in
+pub loop-from-2-preserved : goal.loop-from-2-preserved
+loop-from-2-preserved c =
+    let d = c.loop-from-2.invariant in
+    let e : is_within c.loop-from-2.spot (window_of_rule c.args.rule) ≡ false = sym c.within.ensures ∙ c.if-within.false in
     rw c.first-spot.ensures
     record {
-      descent = descent_enters _ _ _ d.descent _ (near_place c.requires.3 _ _ c.place_from-from.ensures)
-          (cut_parent _ c.loop-key-2.invariant.descent.walking.stands e (sym c.apart.ensures ∙ c.if-apart.false)) e;
+      descent = descent_enters _ _ _ d.descent _ (near_place c.args.list.now.own _ _ c.place_from-from.ensures)
+          (cut_parent _ d.descent.walking.stands e (sym c.apart.ensures ∙ c.if-apart.false)) e;
       states = d.states;
       same_ids = d.same_ids;
       same_keys = d.same_keys;
     }
 
-pub after-requires : goal.after-requires
-after-requires c = (c.requires.0, c.loop-key-2.invariant.descent.walking.stands)
-
-pub enum_known-next : goal.enum_known-next
-enum_known-next c = search rules
-
-pub enum_told-1 : goal.enum_told-1
-enum_told-1 c = search rules
-
 -- whichever way a turn ended, what the block gives is sifted
 passed : (c : Joined-apart)
-    → Below c.args.m (shown_by c.args.m c.args.keys.now c.args.bits.now c.args.n) (window_of_rule c.args.rule) c.args.rule.feature c.args.limit c.args.rule.id c.args.waived.now
-    c.args.at c.if-apart.st c.args.found_ids.now c.if-apart.found_ids c.args.found_keys.now c.if-apart.found_keys (c.loop-key-2.spot.key + c.loop-key-2.spot.step)
-passed c =
-    let b = so_far (goal.at.after-requires c).At-loop-key-2 in
-    let stands = c.loop-key-2.invariant.descent.walking.stands in
+    → Below c.args.list.now.m (picture_listed c.args.list.now) (window_of_rule c.args.rule) c.args.rule.feature c.args.limit c.args.rule.id c.args.waived.now
+    c.args.at c.loop-from-2.st c.args.found_ids.now c.loop-from-2.found_ids c.args.found_keys.now c.loop-from-2.found_keys c.loop-from-2.spot.key
+    → Below c.args.list.now.m (picture_listed c.args.list.now) (window_of_rule c.args.rule) c.args.rule.feature c.args.limit c.args.rule.id c.args.waived.now
+    c.args.at c.if-apart.st c.args.found_ids.now c.if-apart.found_ids c.args.found_keys.now c.if-apart.found_keys (c.loop-from-2.spot.key + c.loop-from-2.spot.step)
+passed c b =
+    let stands = c.loop-from-2.invariant.descent.walking.stands in
     let bit = c.power_of_two-bit.ensures in
-    ⊎_elim
-    (λ w. named _ _ _ _ _ _ _ _ _ _ w.found_ids-is w.found_keys-is w.st-is
-    (passes _ _ _ _ _ _ _ b _ (lower_apart _ _ _ _ stands (sym c.apart.ensures ∙ w.if-apart.true)) (omega arith)))
-    (⊎_elim
-    (λ w. named _ _ _ _ _ _ _ _ _ _ w.found_ids-is w.found_keys-is w.st-is
-    (passes _ _ _ _ _ _ _ b _ (lower_lacking _ _ _ _ stands _ (omega arith, omega arith) (place_no c.requires.3 stands _ _ bit _ w.place_from-from.ensures (omega arith))) (omega arith)))
-    (λ w. named _ _ _ _ _ _ _ _ _ _ w.found_ids-is w.found_keys-is w.st-is
-    (adds _ _ _ _ _ _ _ c.loop-key-2.invariant.descent.walking (sym w.within.ensures ∙ w.if-within.true) b _ bit _ _ _ w.sift_block-st.ensures)))
-    c.if-apart.branch-raw
+    elim c.if-apart.branch [
+      | then-apart w ↦
+          named _ _ _ _ _ _ _ _ _ _ w.found_ids-is w.found_keys-is w.st-is
+          (passes _ _ _ _ _ _ _ b _ (lower_apart _ _ _ _ stands (sym c.apart.ensures ∙ w.if-apart.true)) (omega arith))
+      | else-apart+then-lacking w ↦
+          named _ _ _ _ _ _ _ _ _ _ w.found_ids-is w.found_keys-is w.st-is
+          (passes _ _ _ _ _ _ _ b _
+          (lower_lacking _ _ _ _ stands _ (omega arith, omega arith) (place_no c.args.list.now.own stands _ _ bit _ w.place_from-from.ensures w.if-lacking.true)) (omega arith))
+      | else-apart+else-lacking+then-within w ↦
+          named _ _ _ _ _ _ _ _ _ _ w.found_ids-is w.found_keys-is w.st-is
+          (adds _ _ _ _ _ _ _ c.loop-from-2.invariant.descent.walking (sym w.within.ensures ∙ w.if-within.true) b _ bit _ _ _ w.sift_block-st.ensures)
+    ]
 
 -- and the next search can begin where the last one ended
-kept : (c : Joined-apart) → Near c.args.keys.now c.args.n c.if-apart.from c.loop-key-2.spot.key
+kept : (c : Joined-apart) → Near c.args.list.now.keys.now (length c.args.list.now.keys.now) c.if-apart.from c.loop-from-2.spot.key
 kept c =
-    let o = c.requires.3 in
-    ⊎_elim (λ w. rw w.from-is c.loop-key-2.invariant.descent.near)
-    (⊎_elim (λ w. rw w.from-is (near_place o _ _ w.place_from-from.ensures)) (λ w. rw w.from-is (near_place o _ _ w.place_from-from.ensures)))
-    c.if-apart.branch-raw
-
-pub shape_of-found_ids-in_default : goal.shape_of-found_ids-in_default
-shape_of-found_ids-in_default c = counted_ids _ _ _ _ (passed (goal.at.shape_of-found_ids-in_default c).Joined-apart).counted
-
-pub shape_of-found_keys-in_default : goal.shape_of-found_keys-in_default
-shape_of-found_keys-in_default c = counted_keys _ _ _ _ (passed (goal.at.shape_of-found_keys-in_default c).Joined-apart).counted
+    let own = c.args.list.now.own in
+    elim c.if-apart.branch [
+      | then-apart w ↦ rw w.from-is c.loop-from-2.invariant.descent.near
+      | else-apart+then-lacking w ↦ rw w.from-is (near_place own _ _ w.place_from-from.ensures)
+      | else-apart+else-lacking+then-within w ↦ rw w.from-is (near_place own _ _ w.place_from-from.ensures)
+    ]
 
 pub returns-in_default : goal.returns-in_default
-returns-in_default c = ends _ _ _ _ _ _ _ (passed (goal.at.returns-in_default c).Joined-apart) (follows_gone _ _ _ c.after.ensures c.in_default.is)
+returns-in_default c = ends _ _ _ _ _ _ _ (passed (goal.at.returns-in_default c).Joined-apart (so_far (goal.at.returns-in_default c).At-loop-from-2)) c.in_default.ensures
 
--- the block that follows
-follows : (c : In-At) → BlockSpot c.args.m c.in-At.next × (c.in-At.next.key ≡ c.loop-key-2.spot.key + c.loop-key-2.spot.step)
-follows c = follows_at _ _ _ _ c.after.ensures c.in-At.is
-
-pub loop-key-smaller : goal.loop-key-smaller
-loop-key-smaller c =
-    let f = follows c in
-    let d = c.loop-key-2.invariant.descent in
+pub loop-from-smaller : goal.loop-from-smaller
+loop-from-smaller c =
+    let f = c.in-Some.ensures in
+    let d = c.loop-from-2.invariant.descent in
     let k = some_keys d.walking.stands in
-    rises c.loop-key.invariant.walking.stands _ (omega (arith, f.1, d.rise))
+    rises c.loop-from.invariant.walking.stands _ (omega (arith, f.1, d.rise))
 
-pub loop-key-preserved : goal.loop-key-preserved
-loop-key-preserved c =
-    let f = follows c in
-    let done = (goal.at.loop-key-preserved c).Joined-apart in
-    goes_on _ _ _ _ _ _ _ _ _ c.loop-key-2.invariant.descent.walking (kept done) f.0 f.1 (passed done)
+pub loop-from-preserved : goal.loop-from-preserved
+loop-from-preserved c =
+    let f = c.in-Some.ensures in
+    let done = (goal.at.loop-from-preserved c).Joined-apart in
+    goes_on _ _ _ _ _ _ _ _ _ c.loop-from-2.invariant.descent.walking (kept done) f.0 f.1 (passed done (so_far (goal.at.loop-from-preserved c).At-loop-from-2))

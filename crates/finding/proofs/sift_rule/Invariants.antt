@@ -1,4 +1,4 @@
--- `sift_rule` meets its contract: where the walk stands, what was sifted is what select gives below the key. Within a turn it goes down to a block that
+-- Where the walk stands, what was sifted is what select gives below the key. Within a turn it goes down to a block that
 -- lies within the window, or apart from it, or lacks the feature; the key rises from turn to turn. Rests on the laws of the way down and of the merge.
 use Prim.Native.Nat.{ℕ, ◌-◌, ◌^◌}
 use mathlib.Core.Path.{◌≡◌}
@@ -6,7 +6,8 @@ use mathlib.Core.List.{List}
 use Rattle.definitions.specs.Picture.{Picture}
 use Rattle.definitions.specs.Window.{select_in}
 use Rattle.definitions.specs.declared.Window.{Window}
-use Rattle.list.specs.Own.{shown_by}
+use lib.ListN.{length}
+use Rattle.list.specs.Taken.{picture_listed}
 use Rattle.list.specs.Sorted.{Near}
 use Rattle.walk.specs.declared.Spot.{Spot}
 use Rattle.walk.specs.Walk.{Walking}
@@ -32,18 +33,20 @@ pub record Down (m : ℕ) (p : Picture) (w : Window) (f : ℕ) (st₀ st : Sifti
   pub same_ids : ids ≡ ids₀
   pub same_keys : keys ≡ keys₀
 
-abbrev pub invariant-loop-key-2 : goal.invariant-loop-key-2
-invariant-loop-key-2 l =
-    Down l.m (shown_by l.m l.keys l.bits l.n) l.window l.feature l.initial.st l.st l.initial.found_ids l.found_ids l.initial.found_keys l.found_keys l.keys l.n l.from l.initial.spot l.spot
+abbrev pub invariant-loop-from-2 : goal.invariant-loop-from-2
+invariant-loop-from-2 l =
+    let list = l.list in
+    let n = length list.keys.now in
+    Down list.m (picture_listed list) l.window l.fn.rule.feature l.initial.st l.st l.initial.found_ids l.found_ids l.initial.found_keys l.found_keys list.keys.now n l.from l.initial.spot l.spot
 
-abbrev pub decreases-loop-key-2 : goal.decreases-loop-key-2
-decreases-loop-key-2 l =
-    l.spot.step
+abbrev pub decreases-loop-from-2 : goal.decreases-loop-from-2
+decreases-loop-from-2 l = l.spot.step
 
-abbrev pub invariant-loop-key : goal.invariant-loop-key
-invariant-loop-key l =
-    Going l.m (shown_by l.m l.keys l.bits l.n) l.window l.feature l.job.limit l.job.id l.waived l.initial.st l.st l.initial.found_ids l.found_ids l.initial.found_keys l.found_keys l.keys l.n l.from l.spot
+abbrev pub invariant-loop-from : goal.invariant-loop-from
+invariant-loop-from l =
+    let list = l.list in
+    let n = length list.keys.now in
+    Going list.m (picture_listed list) l.window l.fn.rule.feature l.limit l.fn.rule.id l.waived l.initial.st l.st l.initial.found_ids l.found_ids l.initial.found_keys l.found_keys list.keys.now n l.from l.spot
 
-abbrev pub decreases-loop-key : goal.decreases-loop-key
-decreases-loop-key l =
-    5 ^ l.m - l.spot.key
+abbrev pub decreases-loop-from : goal.decreases-loop-from
+decreases-loop-from l = 5 ^ l.list.m - l.spot.key

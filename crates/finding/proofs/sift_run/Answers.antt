@@ -1,8 +1,7 @@
--- `sift_run` meets its contract: what was sifted so far, with what the rest of the run gives, is what the whole run gives. The waivers passed
--- begin before the keys that are still to come, since past a leaf these begin at its end or later. Rests on Leaves and Merge.
+-- What was sifted so far, with what the rest of the run gives, is what the whole run gives. The waivers passed begin before the keys that are still to
+-- come, since past a leaf these begin at its end or later. Rests on Leaves and Merge.
 use Prim.Native.Nat.{ℕ, ◌+◌, ◌^◌, ◌≤◌, ◌<◌}
 use mathlib.Core.Path.{◌≡◌, refl, sym, ap, ◌∙◌}
-use mathlib.Core.Logic.{⊎_elim}
 use mathlib.Core.List.{List, [], ◌∷◌, ◌++◌, append_assoc, append-nil}
 use native.Mathlib.Omega.{arith}
 use lib.ListN.{get_or, length-append}
@@ -12,18 +11,10 @@ use Rattle.finding.specs.declared.Sifting.{Sifting}
 use Rattle.finding.specs.Sift.{SiftReady, RunReady, Sifted}
 use Rattle.finding.proofs.Settling.{passed_widen}
 use Rattle.finding.proofs.Leaves.{in_slices, record_valid, leaf_past}
-use Rattle.finding.proofs.Merge.{counted_ids, counted_keys, still_ready, sifted_none, sifted-append, sifted_as}
+use Rattle.finding.proofs.Merge.{still_ready, sifted_none, sifted-append, sifted_as}
 use Rattle.finding.proofs.sift_run.Invariants.{Running}
 use Rattle.finding.proofs.sift_run.Goals as goal
-use Rattle.finding.proofs.sift_run.Lts as lts
-use Rattle.finding.proofs.sift_run.Tie as tie
-use Rattle.finding.proofs.sift_run.Reads as own
-
-abbrev At-At-loop : Type 0
-At-At-loop = lts.At-loop tie.the-claims own.Pre own.Post goal.the-invariant-loop-i goal.the-decreases-loop-i
-
-abbrev At-Start : Type 0
-At-Start = lts.Start tie.the-claims own.Pre own.Post goal.the-invariant-loop-i goal.the-decreases-loop-i
+use Rattle.finding.proofs.sift_run.Goals.{then-bits-place, else-bits-place}
 
 module _ (m limit id : ℕ) (waived record_keys : List ℕ) (n end : ℕ) where
   begins : (whole : List ℕ) (at : Sifting) (ids keys : List ℕ) (most first : ℕ) → RunReady m limit waived at ids keys most record_keys n first end
@@ -97,79 +88,39 @@ module _ (m limit id : ℕ) (waived record_keys : List ℕ) (n end : ℕ) where
       → Running m limit id waived record_keys n end whole at st₁ ids₀ ids₁ keys₀ keys₁ i left
   renamed p e f g = rw (e, f, g) p
 
--- the entry of the function, from the head of the loop
-abbrev entry : At-At-loop → At-Start
-entry c = c.before.before.before.before.before.before
-
-pub loop-i-init : goal.loop-i-init
-loop-i-init c = begins _ _ _ _ _ _ _ _ _ _ _ _ _ c.requires.3
-
-pub offset_bounds-keys-i : goal.offset_bounds-keys-i
-offset_bounds-keys-i c = omega (arith, c.loop-i-test.true, (in_slices (entry c.before.before).requires.1).0, (entry c.before.before).well_formed.1.0.1)
-
-pub bounds-keys-i : goal.bounds-keys-i
-bounds-keys-i c = omega (arith, c.loop-i-test.true, (in_slices (entry c.before.before.before).requires.1).0)
-
-pub shape_of-found_ids-then-end-key : goal.shape_of-found_ids-then-end-key
-shape_of-found_ids-then-end-key c = counted_ids _ _ _ _ c.loop-i.invariant.sifted.counted
-
-pub shape_of-found_keys-then-end-key : goal.shape_of-found_keys-then-end-key
-shape_of-found_keys-then-end-key c = counted_keys _ _ _ _ c.loop-i.invariant.sifted.counted
+pub loop-place-init : goal.loop-place-init
+loop-place-init c = begins _ _ _ _ _ _ _ _ _ _ _ _ _ c.requires
 
 pub returns-then-end-key : goal.returns-then-end-key
 returns-then-end-key c =
-    let at = c.before.before.before.before in
-    let pre = (entry at).requires in
-    stops _ _ _ _ _ _ _ at.loop-i.invariant (past_end _ _ _ _ _ _ c.loop-i-test.true (in_slices pre.1).0 (in_slices pre.1).1 c.if-end-key.true)
-
-pub offset_bounds-bits-i : goal.offset_bounds-bits-i
-offset_bounds-bits-i c =
-    let at = c.before.before.before.before in
-    omega (arith, c.loop-i-test.true, (in_slices (entry at).requires.1).1, (entry at).well_formed.1.1.0.1)
-
-pub bounds-bits-i : goal.bounds-bits-i
-bounds-bits-i c = omega (arith, c.loop-i-test.true, (in_slices (entry c.before.before.before.before.before).requires.1).1)
+    let list = c.args.job.now.list in
+    stops _ _ _ _ _ _ _ c.loop-place.invariant (past_end _ _ _ _ _ _ c.loop-place-test.true (in_slices list.own).0 (in_slices list.own).1 c.if-end-key.true)
 
 pub sift-st-requires : goal.sift-st-requires
 sift-st-requires c =
-    let at = c.before.before.before.before.before.before.before.before in
-    let pre = (entry at).requires in
-    let inside = c.loop-i-test.true in (
-      pre.0,
-      record_valid pre.1 _ inside,
-      ready _ _ _ _ _ _ _ at.loop-i.invariant (2 ^ 60) (2 ^ 62) _ pre.3.ready (omega (arith, inside, (in_slices pre.1).0, (entry at).well_formed.1.0.1))
-          (at.loop-i.invariant.before_keys _ (omega arith) inside),
+    let list = c.args.job.now.list in
+    let inside = c.loop-place-test.true in (
+      record_valid list.own _ inside,
+      ready _ _ _ _ _ _ _ c.loop-place.invariant (2 ^ 60) (2 ^ 62) _ c.requires.ready (omega arith) (c.loop-place.invariant.before_keys _ (omega arith) inside),
     )
 
-pub overflow_add-i : goal.overflow_add-i
-overflow_add-i c =
-    let at = c.before.before.before.before.before.before in
-    omega (arith, c.loop-i-test.true, (in_slices (entry at).requires.1).0, (entry at).well_formed.1.0.1)
-
-pub loop-i-smaller : goal.loop-i-smaller
-loop-i-smaller c = omega (arith, c.loop-i-test.true)
-
-pub loop-i-preserved : goal.loop-i-preserved
-loop-i-preserved c =
-    let at = c.before.before.before.before.before.before in
-    let pre = (entry at).requires in
-    let inside = c.loop-i-test.true in
+pub loop-place-preserved : goal.loop-place-preserved
+loop-place-preserved c =
+    let list = c.args.job.now.list in
+    let inside = c.loop-place-test.true in
     let below = c.if-end-key.false in
-    ⊎_elim
-    (λ w. renamed _ _ _ _ _ _ _
-    (gives _ _ _ _ _ _ _ at.loop-i.invariant _ _ _ _ _ (λ j after before. leaf_past pre.1 _ j after before (ap one_slot w.if-bits-i.true ∙ pre.2))
-    (at.loop-i.invariant.ends _ (omega arith) inside below) (with_bit _ _ _ _ _ _ inside (in_slices pre.1).0 (in_slices pre.1).1 below w.if-bits-i.true) w.sift-st.ensures)
-    w.found_ids-is w.found_keys-is w.st-is)
-    (λ w. renamed _ _ _ _ _ _ _
-    (skips _ _ _ _ _ _ _ at.loop-i.invariant _ (without_bit _ _ _ _ _ _ inside (in_slices pre.1).0 (in_slices pre.1).1 below w.if-bits-i.false))
-    w.found_ids-is w.found_keys-is w.st-is)
-    c.if-bits-i.branch-raw
-
-pub shape_of-found_ids : goal.shape_of-found_ids
-shape_of-found_ids c = counted_ids _ _ _ _ c.loop-i.invariant.sifted.counted
-
-pub shape_of-found_keys : goal.shape_of-found_keys
-shape_of-found_keys c = counted_keys _ _ _ _ c.loop-i.invariant.sifted.counted
+    elim c.if-bits-place.branch [
+      | then-bits-place w ↦
+          renamed _ _ _ _ _ _ _
+          (gives _ _ _ _ _ _ _ c.loop-place.invariant _ _ _ _ _ (λ j after before. leaf_past list.own _ j after before (ap one_slot w.if-bits-place.true ∙ c.args.job.now.one_feature))
+          (c.loop-place.invariant.ends _ (omega arith) inside below)
+          (with_bit _ _ _ _ _ _ inside (in_slices list.own).0 (in_slices list.own).1 below w.if-bits-place.true) w.sift-st.ensures)
+          w.found_ids-is w.found_keys-is w.st-is
+      | else-bits-place w ↦
+          renamed _ _ _ _ _ _ _
+          (skips _ _ _ _ _ _ _ c.loop-place.invariant _ (without_bit _ _ _ _ _ _ inside (in_slices list.own).0 (in_slices list.own).1 below w.if-bits-place.false))
+          w.found_ids-is w.found_keys-is w.st-is
+    ]
 
 pub returns : goal.returns
-returns c = stops _ _ _ _ _ _ _ c.loop-i.invariant (past_last _ _ _ _ _ _ c.loop-i-test.false)
+returns c = stops _ _ _ _ _ _ _ c.loop-place.invariant (past_last _ _ _ _ _ _ c.loop-place-test.false)

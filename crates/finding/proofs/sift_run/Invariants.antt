@@ -1,5 +1,5 @@
--- What a turn of `sift_run` keeps, and how far it has to go.
-use Prim.Native.Nat.{ℕ, ◌-◌, ◌≤◌, ◌<◌}
+-- What the records passed give is sifted, and what the rest gives is still to come.
+use Prim.Native.Nat.{ℕ, ◌≤◌, ◌<◌}
 use mathlib.Core.Path.{◌≡◌}
 use mathlib.Core.List.{List, ◌++◌}
 use lib.ListN.{length, get_or}
@@ -20,10 +20,8 @@ pub record Running (m limit id : ℕ) (waived record_keys : List ℕ) (n end : �
   pub before_keys : (j : ℕ) → i ≤ j → j < n → x ≤ get_or record_keys j 0
   pub ends : (j : ℕ) → i ≤ j → j < n → get_or record_keys j 0 < end → end_of m (get_or record_keys j 0) ≤ end
 
-abbrev pub invariant-loop-i : goal.invariant-loop-i
-invariant-loop-i l =
-    Running l.job.m l.job.limit l.job.id l.waived l.keys l.n l.end (rest l.keys l.bits l.n l.end l.bit l.first) l.initial.st l.st l.initial.found_ids l.found_ids l.initial.found_keys l.found_keys l.i (rest l.keys l.bits l.n l.end l.bit l.i)
-
-abbrev pub decreases-loop-i : goal.decreases-loop-i
-decreases-loop-i l =
-    l.n - l.i
+abbrev pub invariant-loop-place : goal.invariant-loop-place
+invariant-loop-place l =
+    let list = l.job.list in
+    let n = length list.keys.now in
+    Running list.m l.job.limit l.job.id l.job.waived.now list.keys.now n l.end (rest list.keys.now list.bits.now n l.end l.job.bit l.first) l.initial.st l.st l.initial.found_ids l.found_ids l.initial.found_keys l.found_keys l.place (rest list.keys.now list.bits.now n l.end l.job.bit l.place)

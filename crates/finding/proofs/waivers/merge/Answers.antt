@@ -1,69 +1,47 @@
--- `waivers::merge` meets its contract: at each place what is left over the rest is what it was at the start. Rests on Settling.
+-- The waiver at the place is passed where it begins before the block's end.
+use Prim.Native.Nat.{◌+◌}
+use mathlib.Core.Path.{sym, ap, ◌∙◌}
 use native.Mathlib.Omega.{arith}
-use mathlib.Core.Path.{◌≡◌, ap, ◌∙◌, refl}
-use mathlib.Core.Logic.{⊎_elim}
 use lib.Dec.{leb}
-use Rattle.finding.specs.Covering.{end_of}
-use Rattle.finding.proofs.Settling.{begins, goes, settled, none_left, late_left, waived_at}
+use lib.ListN.{get_or, drop}
+use Rattle.keys.specs.Key.{valid_key}
+use Rattle.finding.specs.Covering.{end_of, Waived}
+use Rattle.finding.proofs.Settling.{begins, goes, settled, none_left, late_left, waived_at, later_at, later_length}
 use Rattle.finding.proofs.waivers.merge.Goals as goal
-use Rattle.finding.proofs.waivers.merge.Lts as lts
-use Rattle.finding.proofs.waivers.merge.Tie as tie
-use Rattle.finding.proofs.waivers.merge.Reads as own
+use Rattle.finding.proofs.waivers.merge.Goals.{else-loop-waiver-test, then-loop-waiver-test+then-end-waiver}
 
-abbrev At-At-loop : Type 0
-At-At-loop = lts.At-loop tie.the-claims own.Pre own.Post goal.the-invariant-loop-place goal.the-decreases-loop-place
-
-abbrev At-Start : Type 0
-At-Start = lts.Start tie.the-claims own.Pre own.Post goal.the-invariant-loop-place goal.the-decreases-loop-place
-
--- the entry of the function, from the head of the loop
-abbrev entry : At-At-loop → At-Start
-entry c = c.before.before.before.before
-
-ends : (c : At-At-loop) → c.end_of-end.result ≡ end_of (entry c).args.m (entry c).args.key
-ends c = c.end_of-end.ensures
-
-pub end_of-end-requires : goal.end_of-end-requires
-end_of-end-requires c = (c.requires.0, c.requires.1)
-
-pub start-requires : goal.start-requires
-start-requires c = (c.requires.1, c.end_of-end.ensures)
-
-pub loop-place-init : goal.loop-place-init
-loop-place-init c =
-    let start = c.before.before.before.before in
-    begins _ start.args.key _ _ _ c.start.ensures (omega arith) start.requires.3
-
-pub offset_bounds-waived-place : goal.offset_bounds-waived-place
-offset_bounds-waived-place c = omega arith
-
-pub bounds-waived-place : goal.bounds-waived-place
-bounds-waived-place c = omega arith
+pub loop-waiver-init : goal.loop-waiver-init
+loop-waiver-init c = (omega arith, begins _ c.args.key _ _ _ c.start.ensures (omega arith) c.requires.3)
 
 pub cover-at-requires : goal.cover-at-requires
-cover-at-requires c = let at = c.before.before.before.before in ((entry at).requires.0, waived_at (entry at).requires.2 at.loop-place.place c.loop-place-test.true)
+cover-at-requires c =
+    let size = later_length c.args.waived.now c.args.from c.requires.3.room in
+    let inside = c.loop-waiver-test.true in
+    (c.requires.0, ap (valid_key c.args.m) (later_at c.args.waived.now c.args.from c.loop-waiver.waiver-index) ∙ waived_at c.requires.2 (c.args.from + c.loop-waiver.waiver-index) (omega arith))
 
-pub overflow_add-place : goal.overflow_add-place
-overflow_add-place c = omega arith
-
-pub loop-place-smaller : goal.loop-place-smaller
-loop-place-smaller c = omega arith
-
-pub loop-place-preserved : goal.loop-place-preserved
-loop-place-preserved c =
-    let at = c.before.before.before.before.before in
-    goes _ at.loop-place.invariant c.loop-place-test.true _ _ _ refl (omega (arith, c.if-end-waiver.false, ends at)) c.cover-at.ensures.0 c.cover-at.ensures.1
+pub loop-waiver-preserved : goal.loop-waiver-preserved
+loop-waiver-preserved c =
+    let size = later_length c.args.waived.now c.args.from c.requires.3.room in
+    let at = c.loop-waiver.invariant.0 in
+    let inside = c.loop-waiver-test.true in (
+      omega arith,
+      goes _ c.loop-waiver.invariant.1 (omega arith) _ c.cover-at.result.furthest c.cover-at.result.next
+          (later_at c.args.waived.now c.args.from c.loop-waiver.waiver-index ∙ ap (λ i. get_or c.args.waived.now i 0) (sym at))
+          (omega (arith, c.if-end-waiver.false, c.end_of-end.ensures)) c.cover-at.ensures.0 c.cover-at.ensures.1,
+    )
 
 pub returns : goal.returns
 returns c =
-    let at = c.before.before in
-    let start = entry at in
-    let t = start.requires.2 in
-    let end = ends at in
-    let rest = ⊎_elim (λ w. none_left _ at.loop-place.place (end_of start.args.m start.args.key) w.loop-place-test.false)
-    (λ w. late_left _ at.loop-place.place (end_of start.args.m start.args.key) _ t w.loop-place-test.true refl (omega (arith, w.if-end-waiver.true)))
-    c.loop-place-test.branch-raw in
+    let size = later_length c.args.waived.now c.args.from c.requires.3.room in
+    let at = c.loop-waiver.invariant.0 in
+    let end = c.end_of-end.ensures in
+    let rest : Waived c.args.m (end_of c.args.m c.args.key) (drop c.loop-waiver.place c.args.waived.now) = elim c.loop-waiver-test.branch [
+      | else-loop-waiver-test w ↦ none_left _ c.loop-waiver.place (end_of c.args.m c.args.key) (omega (arith, w.loop-waiver-test.false))
+      | then-loop-waiver-test+then-end-waiver w ↦
+          late_left _ c.loop-waiver.place (end_of c.args.m c.args.key) _ c.requires.2 (omega (arith, w.loop-waiver-test.true))
+          (later_at c.args.waived.now c.args.from c.loop-waiver.waiver-index ∙ ap (λ i. get_or c.args.waived.now i 0) (sym at)) (omega (arith, w.if-end-waiver.true))
+    ] in
     record {
-      hidden = ap (λ x. leb x at.loop-place.at.next) end ∙ settled _ start.args.key start.requires.1 t start.requires.3 at.loop-place.invariant rest;
-      passed = at.loop-place.invariant.passed;
+      hidden = ap (λ x. leb x c.loop-waiver.at.next) end ∙ settled _ c.args.key c.requires.1 c.requires.2 c.requires.3 c.loop-waiver.invariant.1 rest;
+      passed = c.loop-waiver.invariant.1.passed;
     }
