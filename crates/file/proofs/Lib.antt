@@ -15,7 +15,6 @@ pub mod FileList
 pub mod Accepted
 pub mod SliceRecords
 pub mod HeadAnswers
-pub mod Untold
 pub mod StoreAnswers
 pub mod LoadAnswers
 -- the round trip

@@ -20,7 +20,7 @@ use Rattle.definitions.specs.Refused.{refusal_number}
 use Rattle.definitions.specs.Answered.{as_counted}
 use Rattle.definitions.proofs.Refused.{refusal_some}
 use Rattle.std.specs.Prelude.{Err}
-use Rattle.file.proofs.Untold.{places_untold}
+use Rattle.definitions.proofs.Needed.{none_needed}
 use Rattle.laws.proofs.First.{this, later, holds_first, accepted_left}
 use Rattle.laws.proofs.FileOf.{length-file}
 use Rattle.laws.proofs.Records.{records-length}
@@ -59,7 +59,7 @@ module _ (m s : ℕ) (keys bits : List ℕ) (n : ℕ) (file : List ℕ) where
       let bytes = length (stored m s keys bits n) in
       let told = by_number k (sym (refused_first m s keys bits n k _ e h)) in
       let none = accepted_left {refusal = k} bytes (cond (eqb k 12) bytes 0) h ∙ ap (λ b. cond b bytes 0) (ne_eqb k 12 other) in (
-        (λ i. record { refusal = k; count = (places_untold refusal other ∙ sym none) i }) ∙ told.0,
+        (λ i. record { refusal = k; count = (none_needed refusal other ∙ sym none) i }) ∙ told.0,
         sym (accepted_left {refusal = k} (over (stored m s keys bits n) file) file h) ∙ told.1,
       )
 

@@ -48,31 +48,24 @@ fn check(row: usize, column: usize) -> u8 {
     if row % 2 == column % 2 { 0 } else { 31 }
 }
 
-// m = 5, s = 32 and a raster of 32 by 32.
-fn largest(is_patched: bool) -> [u8; 1026]
+// m = 5, s = 32 and a raster of 32 by 32, whose pixels a function of row and column gives.
+fn largest<F: Fn(usize, usize) -> u8>(pixel: F) -> [u8; 1026]
+    requires { F.IsAlwaysCallable pixel }
     ensures { 1026 ≡ length result }
 {
     let mut input = [0u8; 1026];
-    let mut i = 0;
-    while i < 1024 {
-        let row = i / 32;
-        let column = i % 32;
-        input[i + 2] = if is_patched {
-            patch(row, column)
-        } else {
-            check(row, column)
-        };
-        i += 1;
-    }
     input[0] = 5;
     input[1] = 32;
+    for (i, place) in input[2..].iter_mut().enumerate() {
+        *place = pixel(i / 32, i % 32);
+    }
     input
 }
 
 fn run_largest(out: &mut impl Write) -> io::Result<()> {
-    let patched = largest(true);
+    let patched = largest(patch);
     run(out, b"# m = 5, s = 32, three patches\n", &patched)?;
-    let checked = largest(false);
+    let checked = largest(check);
     run_longest(
         out,
         b"# m = 5, s = 32, every block listed: first line, last line, bytes\n",

@@ -1,17 +1,11 @@
 // A record's line: the digits of its key, or "-" where there are none, a blank, and its slots with slot 0 leftmost.
-ghost use Rattle.std.specs.Prelude.{◌≡◌, ◌≤◌, ◌<◌, ◌^◌};
+ghost use Rattle.std.specs.Prelude.{◌≤◌, ◌<◌, ◌^◌};
 ghost use Rattle.definitions.specs.List.{record_of};
 ghost use Rattle.definitions.specs.Listing.{digits_text, key_text, slots_text, line_of};
 ghost use Rattle.listing_text.specs.Put.{Put, BytesFit};
 
 use crate::text;
 use keys::power;
-
-fn wide(x: u32) -> u64
-    ensures { result ≡ x }
-{
-    x as u64
-}
 
 // The digits of a key, the highest first.
 fn put_digits(m: u32, key: u32, out: &mut [u8], place: usize) -> usize
@@ -21,12 +15,10 @@ fn put_digits(m: u32, key: u32, out: &mut [u8], place: usize) -> usize
     let mut next = place;
     let mut rest = key;
     let mut step = power::power_of_five(m);
-    let mut i = 0;
-    while i < m {
-        step = step / 5;
-        next = text::put_digit(wide(rest / step), out, next);
-        rest = rest % step;
-        i += 1;
+    for _digit in 0..m {
+        step /= 5;
+        next = text::put_digit(u64::from(rest / step), out, next);
+        rest %= step;
     }
     next
 }
@@ -36,9 +28,10 @@ fn put_key(m: u32, key: u32, out: &mut [u8], place: usize) -> usize
     ensures { Put (key_text m key) place out.old out.new result }
 {
     if m == 0 {
-        return text::put_byte(b'-', out, place);
+        text::put_byte(b'-', out, place)
+    } else {
+        put_digits(m, key, out, place)
     }
-    put_digits(m, key, out, place)
 }
 
 // A character 0 or 1 for each slot, from slot 0 on.
@@ -48,11 +41,9 @@ fn put_slots(s: u32, bits: u32, out: &mut [u8], place: usize) -> usize
 {
     let mut next = place;
     let mut rest = bits;
-    let mut i = 0;
-    while i < s {
-        next = text::put_digit(wide(rest % 2), out, next);
-        rest = rest / 2;
-        i += 1;
+    for _slot in 0..s {
+        next = text::put_digit(u64::from(rest % 2), out, next);
+        rest /= 2;
     }
     next
 }

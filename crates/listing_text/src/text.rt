@@ -45,10 +45,8 @@ pub fn put_text(text: &[u8], out: &mut [u8], place: usize) -> usize
     ensures { Put text.now place out.old out.new result }
 {
     let mut next = place;
-    let mut i = 0;
-    while i < text.len() {
-        next = put_byte(text[i], out, next);
-        i += 1;
+    for &byte in text {
+        next = put_byte(byte, out, next);
     }
     next
 }

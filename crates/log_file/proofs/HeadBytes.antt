@@ -1,4 +1,4 @@
--- The head of a log's file: what its stores leave, what is stored after it. Rests on runs of stores.
+-- The head of a log's file: what its stores leave, and what is stored after it. Rests on runs of stores.
 use Prim.Native.Nat.{ℕ, ◌+◌, ◌%◌}
 use mathlib.Core.Path.{◌≡◌, refl, ap, ◌∙◌}
 use mathlib.Core.List.{List, ◌++◌}

@@ -1,12 +1,13 @@
--- `list_input` meets its contract: it refuses by itself, or prints what build refuses, or prints the listing of what build made.
+-- `list_input`: it refuses by itself, or prints what build refuses, or prints the listing of what build made. Rests on Program, Listed and Records.
 use Prim.Native.Nat.{ℕ, ◌-◌, ◌≤◌, ◌<◌}
 use mathlib.Core.List.{List}
-use mathlib.Core.Path.{◌≡◌}
+use mathlib.Core.Path.{◌≡◌, refl, sym}
 use native.Mathlib.Omega.{arith}
-use borrow.Author.Rules.{rules}
 use lib.ListN.{length, take, drop}
 use Rattle.definitions.specs.Listing.{listing_refusal, m_of, s_of, largest_resolution}
 use Rattle.listing_text.proofs.Listed.{refused_short, refused_large}
+use Rattle.definitions.proofs.Refused.{refusal_some}
+use Rattle.listing_text.proofs.Records.{keys_part, bits_part, parts_hold, parts_are}
 use Rattle.listing_text.proofs.Program.{raster_part, refusal_room, refuses, ProgramReads, program_told, build_refusal_room, build-refuses, records, listing_room, build_accepts}
 use Rattle.listing_text.proofs.list_input.Goals as goal
 
@@ -25,45 +26,44 @@ put_refusal-requires c = refusal_room c.requires 1 (omega arith)
 pub returns-then-input-lt2 : goal.returns-then-input-lt2
 returns-then-input-lt2 c = refuses c.requires (refused_short _ c.if-input-lt2.true) c.put_refusal.ensures
 
-pub bounds-input-0 : goal.bounds-input-0
-bounds-input-0 c = search rules
-
-pub wide-m-requires : goal.wide-m-requires
-wide-m-requires c = search rules
-
-pub bounds-input-1 : goal.bounds-input-1
-bounds-input-1 c = search rules
-
-pub wide-s-requires : goal.wide-s-requires
-wide-s-requires c = search rules
-
 pub put_refusal-requires-then-m-gt-LARGEST_RESOLUTION : goal.put_refusal-requires-then-m-gt-LARGEST_RESOLUTION
 put_refusal-requires-then-m-gt-LARGEST_RESOLUTION c = refusal_room c.requires 1 (omega arith)
 
 pub returns-then-m-gt-LARGEST_RESOLUTION : goal.returns-then-m-gt-LARGEST_RESOLUTION
-returns-then-m-gt-LARGEST_RESOLUTION c = refuses c.requires (large c.args.input.now c.if-input-lt2.false c.wide-m.ensures c.if-m-gt-LARGEST_RESOLUTION.true) c.put_refusal-then-m-gt-LARGEST_RESOLUTION.ensures
+returns-then-m-gt-LARGEST_RESOLUTION c = refuses c.requires (large c.args.input.now c.if-input-lt2.false c.from-m.ensures c.if-m-gt-LARGEST_RESOLUTION.true) c.put_refusal-then-m-gt-LARGEST_RESOLUTION.ensures
 
-pub slice_bounds-build-count : goal.slice_bounds-build-count
-slice_bounds-build-count c = search rules
+pub slice_bounds-put_listing-end : goal.slice_bounds-put_listing-end
+slice_bounds-put_listing-end c =
+    let made = records c.requires (reads c.args.input.now c.if-input-lt2.false c.from-m.ensures c.from-s.ensures c.if-m-gt-LARGEST_RESOLUTION.false) (program_told c.in-Ok.ensures.value c.in-Ok.ensures.keys_after c.in-Ok.ensures.bits_after) refl in
+    made.keys_hold
 
-pub build-built-requires : goal.build-built-requires
-build-built-requires c = tt
+pub slice_bounds-put_listing-end-in-Ok : goal.slice_bounds-put_listing-end-in-Ok
+slice_bounds-put_listing-end-in-Ok c =
+    let made = records c.requires (reads c.args.input.now c.if-input-lt2.false c.from-m.ensures c.from-s.ensures c.if-m-gt-LARGEST_RESOLUTION.false) (program_told c.in-Ok.ensures.value c.in-Ok.ensures.keys_after c.in-Ok.ensures.bits_after) refl in
+    sym (keys_part made)
 
-pub put_refusal-requires-then-refusal-ne0 : goal.put_refusal-requires-then-refusal-ne0
-put_refusal-requires-then-refusal-ne0 c =
-    build_refusal_room c.requires (reads c.args.input.now c.if-input-lt2.false c.wide-m.ensures c.wide-s.ensures c.if-m-gt-LARGEST_RESOLUTION.false) (program_told c.build-built.ensures.value c.build-built.ensures.keys_after c.build-built.ensures.bits_after)
+pub slice_bounds-put_listing-end-in-Ok-2 : goal.slice_bounds-put_listing-end-in-Ok-2
+slice_bounds-put_listing-end-in-Ok-2 c =
+    let made = records c.requires (reads c.args.input.now c.if-input-lt2.false c.from-m.ensures c.from-s.ensures c.if-m-gt-LARGEST_RESOLUTION.false) (program_told c.in-Ok.ensures.value c.in-Ok.ensures.keys_after c.in-Ok.ensures.bits_after) refl in
+    made.bits_hold
 
-pub returns-then-refusal-ne0 : goal.returns-then-refusal-ne0
-returns-then-refusal-ne0 c =
-    build-refuses c.requires (reads c.args.input.now c.if-input-lt2.false c.wide-m.ensures c.wide-s.ensures c.if-m-gt-LARGEST_RESOLUTION.false) (program_told c.build-built.ensures.value c.build-built.ensures.keys_after c.build-built.ensures.bits_after) c.if-refusal-ne0.true c.put_refusal-then-refusal-ne0.ensures
+pub slice_bounds-put_listing-end-in-Ok-3 : goal.slice_bounds-put_listing-end-in-Ok-3
+slice_bounds-put_listing-end-in-Ok-3 c =
+    let made = records c.requires (reads c.args.input.now c.if-input-lt2.false c.from-m.ensures c.from-s.ensures c.if-m-gt-LARGEST_RESOLUTION.false) (program_told c.in-Ok.ensures.value c.in-Ok.ensures.keys_after c.in-Ok.ensures.bits_after) refl in
+    sym (bits_part made)
 
 pub put_listing-requires : goal.put_listing-requires
 put_listing-requires c =
-    let none = c.if-refusal-ne0.false in (
-      records c.requires (reads c.args.input.now c.if-input-lt2.false c.wide-m.ensures c.wide-s.ensures c.if-m-gt-LARGEST_RESOLUTION.false) (program_told c.build-built.ensures.value c.build-built.ensures.keys_after c.build-built.ensures.bits_after) none,
-      listing_room c.requires (reads c.args.input.now c.if-input-lt2.false c.wide-m.ensures c.wide-s.ensures c.if-m-gt-LARGEST_RESOLUTION.false) (program_told c.build-built.ensures.value c.build-built.ensures.keys_after c.build-built.ensures.bits_after) none,
-    )
+    let made = records c.requires (reads c.args.input.now c.if-input-lt2.false c.from-m.ensures c.from-s.ensures c.if-m-gt-LARGEST_RESOLUTION.false) (program_told c.in-Ok.ensures.value c.in-Ok.ensures.keys_after c.in-Ok.ensures.bits_after) refl in
+    (parts_hold made, rw (parts_are made) (listing_room c.requires (reads c.args.input.now c.if-input-lt2.false c.from-m.ensures c.from-s.ensures c.if-m-gt-LARGEST_RESOLUTION.false) (program_told c.in-Ok.ensures.value c.in-Ok.ensures.keys_after c.in-Ok.ensures.bits_after) refl))
 
-pub returns : goal.returns
-returns c =
-    build_accepts c.requires (reads c.args.input.now c.if-input-lt2.false c.wide-m.ensures c.wide-s.ensures c.if-m-gt-LARGEST_RESOLUTION.false) (program_told c.build-built.ensures.value c.build-built.ensures.keys_after c.build-built.ensures.bits_after) c.if-refusal-ne0.false c.put_listing.ensures
+pub returns-in-Ok : goal.returns-in-Ok
+returns-in-Ok c =
+    let made = records c.requires (reads c.args.input.now c.if-input-lt2.false c.from-m.ensures c.from-s.ensures c.if-m-gt-LARGEST_RESOLUTION.false) (program_told c.in-Ok.ensures.value c.in-Ok.ensures.keys_after c.in-Ok.ensures.bits_after) refl in
+    build_accepts c.requires (reads c.args.input.now c.if-input-lt2.false c.from-m.ensures c.from-s.ensures c.if-m-gt-LARGEST_RESOLUTION.false) (program_told c.in-Ok.ensures.value c.in-Ok.ensures.keys_after c.in-Ok.ensures.bits_after) refl (rw (parts_are made) at c.put_listing.ensures)
+
+pub put_refusal-requires-in-Err : goal.put_refusal-requires-in-Err
+put_refusal-requires-in-Err c = build_refusal_room c.requires (reads c.args.input.now c.if-input-lt2.false c.from-m.ensures c.from-s.ensures c.if-m-gt-LARGEST_RESOLUTION.false) (program_told c.in-Err.ensures.value c.in-Err.ensures.keys_after c.in-Err.ensures.bits_after)
+
+pub returns-in-Err : goal.returns-in-Err
+returns-in-Err c = build-refuses c.requires (reads c.args.input.now c.if-input-lt2.false c.from-m.ensures c.from-s.ensures c.if-m-gt-LARGEST_RESOLUTION.false) (program_told c.in-Err.ensures.value c.in-Err.ensures.keys_after c.in-Err.ensures.bits_after) (refusal_some _) c.put_refusal-in-Err.ensures

@@ -67,39 +67,30 @@ module _ {m key start : ℕ} {old out : List ℕ} {next rest step i : ℕ} (p : 
 pub power_of_five-step-requires : goal.power_of_five-step-requires
 power_of_five-step-requires c = omega (arith, c.requires.0)
 
-pub loop-i-init : goal.loop-i-init
-loop-i-init c = begins _ _ _ _ _ c.power_of_five-step.ensures c.requires.1
+pub loop-digit-init : goal.loop-digit-init
+loop-digit-init c = begins _ _ _ _ _ c.power_of_five-step.ensures c.requires.1
 
 pub nonzero_div-rest : goal.nonzero_div-rest
-nonzero_div-rest c = nonzero c.loop-i.invariant c.loop-i-test.true
-
-pub wide-requires : goal.wide-requires
-wide-requires c = tt
+nonzero_div-rest c = nonzero c.loop-digit.invariant c.loop-digit-test.true
 
 pub put_digit-next-requires : goal.put_digit-next-requires
 put_digit-next-requires c =
-    fits c.loop-i.invariant
-    c.loop-i-test.true
+    fits c.loop-digit.invariant
+    c.loop-digit-test.true
     _
-    c.wide.ensures
+    c.from.ensures
     c.requires.2
 
 pub nonzero_rem-rest : goal.nonzero_rem-rest
-nonzero_rem-rest c = nonzero c.loop-i.invariant c.loop-i-test.true
+nonzero_rem-rest c = nonzero c.loop-digit.invariant c.loop-digit-test.true
 
-pub overflow_add-i : goal.overflow_add-i
-overflow_add-i c = omega arith
-
-pub loop-i-smaller : goal.loop-i-smaller
-loop-i-smaller c = omega arith
-
-pub loop-i-preserved : goal.loop-i-preserved
-loop-i-preserved c =
-    goes c.loop-i.invariant
-    c.loop-i-test.true
+pub loop-digit-preserved : goal.loop-digit-preserved
+loop-digit-preserved c =
+    goes c.loop-digit.invariant
+    c.loop-digit-test.true
     _
-    c.wide.ensures
+    c.from.ensures
     c.put_digit-next.ensures
 
 pub returns : goal.returns
-returns c = ends c.loop-i.invariant c.loop-i-test.false
+returns c = ends c.loop-digit.invariant c.loop-digit-test.false

@@ -1,4 +1,4 @@
--- `put_digits` meets its contract: after i turns the first i digits stand, and what remains is the digits of the rest.
+-- `put_digits`: the digits that the loop has passed stand, and what remains is the digits of the rest. Rests on Going.
 use Prim.Native.Nat.{ℕ, ◌-◌, ◌^◌, ◌≤◌, ◌<◌}
 use mathlib.Core.Path.{◌≡◌}
 use mathlib.Core.List.{List}
@@ -12,10 +12,6 @@ pub record Passed (m key start : ℕ) (old out : List ℕ) (next rest step i : �
   pub small : rest < step
   pub going : Going (digits_text m key) (digits_text (m - i) rest) start old out next
 
-abbrev pub invariant-loop-i : goal.invariant-loop-i
-invariant-loop-i l =
-    Passed l.m l.key l.place l.initial.out l.out l.next l.rest l.step l.i
-
-abbrev pub decreases-loop-i : goal.decreases-loop-i
-decreases-loop-i l =
-    l.m - l.i
+abbrev pub invariant-loop-digit : goal.invariant-loop-digit
+invariant-loop-digit l =
+    Passed l.m l.key l.place l.initial.out l.out l.next l.rest l.step l._digit

@@ -36,5 +36,5 @@ put_digits-requires c =
     let asked = c.requires in
     (asked.0, asked.1, same_room _ _ _ _ (some _ _ c.if-m-eq0.false) asked.2)
 
-pub returns : goal.returns
-returns c = same_put (some _ _ c.if-m-eq0.false) c.put_digits.ensures
+pub returns-else-m-eq0 : goal.returns-else-m-eq0
+returns-else-m-eq0 c = same_put (some _ _ c.if-m-eq0.false) c.put_digits.ensures

@@ -44,29 +44,20 @@ module _ {s bits start : ℕ} {old out : List ℕ} {next rest i : ℕ} (p : Pass
       let none : s - i ≡ 0 = omega arith in
       going.ends (going.renamed p.going (ap (λ (k : ℕ). slots_from i k bits) none))
 
-pub loop-i-init : goal.loop-i-init
-loop-i-init c = begins _ _ _ _
-
-pub wide-requires : goal.wide-requires
-wide-requires c = tt
+pub loop-slot-init : goal.loop-slot-init
+loop-slot-init c = begins _ _ _ _
 
 pub put_digit-next-requires : goal.put_digit-next-requires
 put_digit-next-requires c =
-    fits c.loop-i.invariant c.loop-i-test.true _ c.wide.ensures c.requires
+    fits c.loop-slot.invariant c.loop-slot-test.true _ c.from.ensures c.requires
 
-pub overflow_add-i : goal.overflow_add-i
-overflow_add-i c = omega arith
-
-pub loop-i-smaller : goal.loop-i-smaller
-loop-i-smaller c = omega arith
-
-pub loop-i-preserved : goal.loop-i-preserved
-loop-i-preserved c =
-    goes c.loop-i.invariant
-    c.loop-i-test.true
+pub loop-slot-preserved : goal.loop-slot-preserved
+loop-slot-preserved c =
+    goes c.loop-slot.invariant
+    c.loop-slot-test.true
     _
-    c.wide.ensures
+    c.from.ensures
     c.put_digit-next.ensures
 
 pub returns : goal.returns
-returns c = ends c.loop-i.invariant c.loop-i-test.false
+returns c = ends c.loop-slot.invariant c.loop-slot-test.false

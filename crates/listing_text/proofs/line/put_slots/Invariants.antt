@@ -1,4 +1,4 @@
--- `put_slots` meets its contract: after i turns slots 0 to i - 1 stand, and the rest is the bitstring without them.
+-- `put_slots`: the slots that the loop has passed stand, and the rest is the bitstring without them. Rests on Going.
 use Prim.Native.Nat.{ℕ, ◌-◌, ◌/◌, ◌^◌, ◌≤◌}
 use mathlib.Core.Path.{◌≡◌}
 use mathlib.Core.List.{List}
@@ -11,10 +11,6 @@ pub record Passed (s bits start : ℕ) (old out : List ℕ) (next rest i : ℕ) 
   pub shifted : rest ≡ bits / 2 ^ i
   pub going : Going (slots_text s bits) (slots_from i (s - i) bits) start old out next
 
-abbrev pub invariant-loop-i : goal.invariant-loop-i
-invariant-loop-i l =
-    Passed l.s l.bits l.place l.initial.out l.out l.next l.rest l.i
-
-abbrev pub decreases-loop-i : goal.decreases-loop-i
-decreases-loop-i l =
-    l.s - l.i
+abbrev pub invariant-loop-slot : goal.invariant-loop-slot
+invariant-loop-slot l =
+    Passed l.s l.bits l.place l.initial.out l.out l.next l.rest l._slot

@@ -46,15 +46,15 @@ module _ (m s n : ℕ) (old : List ℕ) where
       ends last = going.finishes (end n) at_n last
 
 pub put_number_then-second-requires : goal.put_number_then-second-requires
-put_number_then-second-requires c = m_room _ _ _ _ c.requires
+put_number_then-second-requires c = rw c.from.ensures (m_room _ _ _ _ c.requires)
 
 pub put_number_then-third-requires : goal.put_number_then-third-requires
-put_number_then-third-requires c = s_room _ _ _ _ c.put_number_then-second.ensures c.requires
+put_number_then-third-requires c = rw c.from-2.ensures (s_room _ _ _ _ (rw c.from.ensures at c.put_number_then-second.ensures) c.requires)
 
 pub put_number_then-requires : goal.put_number_then-requires
 put_number_then-requires c =
-    n_room _ _ _ _ c.put_number_then-second.ensures c.put_number_then-third.ensures c.requires
+    n_room _ _ _ _ (rw c.from.ensures at c.put_number_then-second.ensures) (rw c.from-2.ensures at c.put_number_then-third.ensures) c.requires
 
 pub returns : goal.returns
 returns c =
-    ends _ _ _ _ c.put_number_then-second.ensures c.put_number_then-third.ensures c.put_number_then.ensures
+    ends _ _ _ _ (rw c.from.ensures at c.put_number_then-second.ensures) (rw c.from-2.ensures at c.put_number_then-third.ensures) c.put_number_then.ensures

@@ -46,12 +46,6 @@ module _ {m s : ℕ} {keys bits : List ℕ} {n start : ℕ} {old out : List ℕ}
 pub loop-i-init : goal.loop-i-init
 loop-i-init c = begins _ _ _ _ _ _ _
 
-pub offset_bounds-keys-i : goal.offset_bounds-keys-i
-offset_bounds-keys-i c = omega arith
-
-pub bounds-keys-i : goal.bounds-keys-i
-bounds-keys-i c = omega arith
-
 pub offset_bounds-bits-i : goal.offset_bounds-bits-i
 offset_bounds-bits-i c = omega arith
 
@@ -61,12 +55,6 @@ bounds-bits-i c = omega arith
 pub put_line-next-requires : goal.put_line-next-requires
 put_line-next-requires c =
     asked c.loop-i.invariant c.loop-i-test.true c.requires.0 c.requires.1
-
-pub overflow_add-i : goal.overflow_add-i
-overflow_add-i c = omega arith
-
-pub loop-i-smaller : goal.loop-i-smaller
-loop-i-smaller c = omega arith
 
 pub loop-i-preserved : goal.loop-i-preserved
 loop-i-preserved c =

@@ -1,7 +1,7 @@
--- `put_lines` meets its contract: after i turns the lines of the first i records stand, and what remains is those of the others.
+-- `put_lines`: the lines of the records that the loop has passed stand, and what remains is those of the others. Rests on Going.
 use Prim.Native.Nat.{ℕ, ◌-◌, ◌≤◌}
 use mathlib.Core.List.{List}
-use lib.ListN.{drop}
+use lib.ListN.{length, drop}
 use Rattle.definitions.specs.Read.{records_of}
 use Rattle.definitions.specs.Listing.{lines_of}
 use Rattle.listing_text.proofs.Going.{Going}
@@ -16,8 +16,4 @@ pub record Passed (m s : ℕ) (keys bits : List ℕ) (n start : ℕ) (old out : 
 
 abbrev pub invariant-loop-i : goal.invariant-loop-i
 invariant-loop-i l =
-    Passed l.m l.s l.keys l.bits l.n l.place l.initial.out l.out l.next l.i
-
-abbrev pub decreases-loop-i : goal.decreases-loop-i
-decreases-loop-i l =
-    l.n - l.i
+    Passed l.m l.s l.keys l.bits (length l.keys) l.place l.initial.out l.out l.next l.i

@@ -35,7 +35,7 @@ pub put_text-place-requires : goal.put_text-place-requires
 put_text-place-requires c = word_room _ _ c.requires
 
 pub put_number_then-requires : goal.put_number_then-requires
-put_number_then-requires c = number_room _ _ c.put_text-place.ensures c.requires
+put_number_then-requires c = rw c.from.ensures (number_room _ _ c.put_text-place.ensures c.requires)
 
 pub returns : goal.returns
-returns c = ends _ _ c.put_text-place.ensures c.put_number_then.ensures
+returns c = ends _ _ c.put_text-place.ensures (rw c.from.ensures at c.put_number_then.ensures)

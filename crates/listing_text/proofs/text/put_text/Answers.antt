@@ -29,27 +29,18 @@ module _ {text : List ℕ} {start : ℕ} {old out : List ℕ} {next i : ℕ} (p 
   ends : length text ≤ i → Put text start old out next
   ends h = going.ends (going.renamed p.going (drop_of_length-le text h))
 
-pub loop-i-init : goal.loop-i-init
-loop-i-init c = begins _ _ _
-
-pub bounds-text-i : goal.bounds-text-i
-bounds-text-i c = omega arith
+pub loop-byte-init : goal.loop-byte-init
+loop-byte-init c = begins _ _ _
 
 pub put_byte-next-requires : goal.put_byte-next-requires
 put_byte-next-requires c =
-    fits c.loop-i.invariant c.loop-i-test.true c.requires
+    fits c.loop-byte.invariant c.loop-byte-test.true c.requires
 
-pub overflow_add-i : goal.overflow_add-i
-overflow_add-i c = omega arith
-
-pub loop-i-smaller : goal.loop-i-smaller
-loop-i-smaller c = omega arith
-
-pub loop-i-preserved : goal.loop-i-preserved
-loop-i-preserved c =
-    goes c.loop-i.invariant
-    c.loop-i-test.true
+pub loop-byte-preserved : goal.loop-byte-preserved
+loop-byte-preserved c =
+    goes c.loop-byte.invariant
+    c.loop-byte-test.true
     c.put_byte-next.ensures
 
 pub returns : goal.returns
-returns c = ends c.loop-i.invariant c.loop-i-test.false
+returns c = ends c.loop-byte.invariant c.loop-byte-test.false

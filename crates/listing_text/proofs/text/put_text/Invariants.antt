@@ -1,5 +1,5 @@
--- `put_text` meets its contract: after i turns the first i bytes stand, and what remains is the text without them.
-use Prim.Native.Nat.{ℕ, ◌-◌, ◌≤◌}
+-- `put_text`: the bytes that the loop has passed stand, and what remains is the text without them. Rests on Going.
+use Prim.Native.Nat.{ℕ, ◌≤◌}
 use mathlib.Core.List.{List}
 use lib.ListN.{length, drop}
 use Rattle.listing_text.proofs.Going.{Going}
@@ -9,10 +9,6 @@ pub record Passed (text : List ℕ) (start : ℕ) (old out : List ℕ) (next i :
   pub within : i ≤ length text
   pub going : Going text (drop i text) start old out next
 
-abbrev pub invariant-loop-i : goal.invariant-loop-i
-invariant-loop-i l =
-    Passed l.text l.place l.initial.out l.out l.next l.i
-
-abbrev pub decreases-loop-i : goal.decreases-loop-i
-decreases-loop-i l =
-    length l.text - l.i
+abbrev pub invariant-loop-byte : goal.invariant-loop-byte
+invariant-loop-byte l =
+    Passed l.text l.place l.initial.out l.out l.next l.byte-index
